@@ -1,0 +1,17 @@
+pub mod Truth
+pub mod Integers
+pub mod Scale
+pub mod Words
+pub mod Powers
+pub mod Weight
+pub mod Values
+pub mod Compare
+pub mod Fractions
+pub mod Results
+pub mod Simpler
+pub mod SumGap
+pub mod Middle
+pub mod Descend
+pub mod Simplest
+pub mod Gap
+pub mod Strict

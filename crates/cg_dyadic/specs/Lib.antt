@@ -1,0 +1,6 @@
+pub mod Number
+pub mod Exact
+pub mod Units
+pub mod Simplest
+pub mod Cut
+pub mod Search

@@ -1,0 +1,102 @@
+//! Sums, halves and negatives: each is exact, or refused with the exact result.
+ghost use Rattle.std.specs.Prelude.{◌≡◌, ◌+◌, ◌*◌, ◌^◌, ◌<◌, ◌≤◌, ◌+ℤ◌, ◌*ℤ◌, pos, neg_ℤ, cond, unsigned_abs, IfSome, IsNone};
+ghost use Rattle.cg_dyadic.specs.Number.{num_of, exp_of, InRange};
+ghost use Rattle.cg_dyadic.specs.Exact.{IsExact, IsLowest, signed_of, sum_num};
+
+use crate::order::scaled;
+use crate::{Dyadic, RangeFault};
+
+impl Dyadic {
+    /// `num/2^exp`. The fault comes exactly where that number is out of range, and holds it in lowest terms.
+    pub fn make(num: i128, exp: u8) -> Result<Dyadic, RangeFault>
+        ensures { IsExact num exp result }
+    {
+        let is_negative = num < 0;
+        let (size, exp) = lowest(num.unsigned_abs(), exp);
+        match in_range(is_negative, size, exp) {
+            Some(number) => Ok(number),
+            None => Err(RangeFault {
+                num: signed(is_negative, size),
+                exp,
+            }),
+        }
+    }
+
+    /// The sum. The fault comes exactly where it is out of range, and holds it in lowest terms.
+    pub fn add(self, other: Dyadic) -> Result<Dyadic, RangeFault>
+        ensures { IsExact (sum_num self other) (exp_of self + exp_of other) result }
+    {
+        Dyadic::make(sum_numerator(self, other), self.exp() + other.exp())
+    }
+
+    /// Half the sum. The fault comes exactly where it is out of range, and holds it in lowest terms.
+    pub fn half_sum(self, other: Dyadic) -> Result<Dyadic, RangeFault>
+        ensures { IsExact (sum_num self other) (exp_of self + exp_of other + 1) result }
+    {
+        Dyadic::make(sum_numerator(self, other), self.exp() + other.exp() + 1)
+    }
+
+    /// The number of the other sign.
+    pub fn negate(self) -> Dyadic
+        ensures num { num_of result ≡ neg_ℤ (num_of self) }
+        ensures exp { exp_of result ≡ exp_of self }
+    {
+        Dyadic {
+            num: -self.num,
+            exp: self.exp,
+        }
+    }
+}
+
+/// The numerator of the sum over the product of the denominators.
+fn sum_numerator(a: Dyadic, b: Dyadic) -> i128
+    ensures { result ≡ sum_num a b }
+{
+    scaled(a, b.exp()) + scaled(b, a.exp())
+}
+
+/// The number of this sign, size and exponent, if it is in range.
+pub(crate) fn in_range(is_negative: bool, size: u128, exp: u8) -> Option<Dyadic>
+    requires { IsLowest size exp }
+    ensures num { IfSome result (λ x. num_of x ≡ signed_of is_negative size) }
+    ensures exp { IfSome result (λ x. exp_of x ≡ exp) }
+    ensures found { IfSome result (λ x. InRange x) }
+    ensures none { IsNone result → ¬ ((size < 2 ^ 52) × (exp ≤ 31)) }
+{
+    if exp <= 31 && size < 1 << 52 {
+        Some(Dyadic {
+            num: signed(is_negative, size) as i64,
+            exp,
+        })
+    } else {
+        None
+    }
+}
+
+/// The number of this sign and size.
+fn signed(is_negative: bool, size: u128) -> i128
+    requires { size + cond is_negative 0 1 ≤ 2 ^ 127 }
+    ensures { result ≡ signed_of is_negative size }
+{
+    if is_negative && size > 0 {
+        -1 - ((size - 1) as i128)
+    } else {
+        size as i128
+    }
+}
+
+/// Both terms of `size/2^exp` halved for as long as they are even.
+#[tactic(auto, using(crate::proofs::Powers::halve))]
+pub(crate) fn lowest(size: u128, exp: u8) -> (u128, u8)
+    ensures same { result.0 * 2 ^ exp ≡ size * 2 ^ result.1 }
+    ensures lowest { IsLowest result.0 result.1 }
+    ensures smaller { result.0 ≤ size }
+{
+    let mut size = size;
+    let mut exp = exp;
+    while exp > 0 && size % 2 == 0 {
+        size /= 2;
+        exp -= 1;
+    }
+    (size, exp)
+}

@@ -1,0 +1,34 @@
+//! Laws of numbers: each function does nothing, and its contract is the law.
+ghost use Rattle.std.specs.Prelude.{◌≡◌, ◌⊎◌, ◌<◌, ℤ, ℕ};
+ghost use Rattle.cg_dyadic.specs.Number.{Number, num_of, exp_of, IsFraction, ratio, NumberLe, number_lefts, number_rights, AmongNumbers, weight, InRange};
+ghost use Rattle.cg_dyadic.specs.Exact.{sum_num};
+ghost use Rattle.cg_dyadic.specs.Units.{units};
+
+/// Each fraction `n / 2^k` is exactly one number, [`ratio`], and a number is the fraction of its own terms.
+pub fn fractions()
+    ensures exists { (n : ℤ) (k : ℕ) → IsFraction n k (ratio n k) }
+    ensures unique { (n : ℤ) (k : ℕ) (x y : Number) → IsFraction n k x → IsFraction n k y → x ≡ y }
+    ensures own_terms { (x : Number) → IsFraction (num_of x) (exp_of x) x }
+{}
+
+/// The order of numbers is total, and numbers that are each at most the other are the same number.
+pub fn order()
+    ensures reflexive { (x : Number) → NumberLe x x }
+    ensures transitive { (x y z : Number) → NumberLe x y → NumberLe y z → NumberLe x z }
+    ensures total { (x y : Number) → NumberLe x y ⊎ NumberLe y x }
+    ensures antisymmetric { (x y : Number) → NumberLe x y → NumberLe y x → x ≡ y }
+    ensures dense { (x y : Number) → ¬ NumberLe y x → (z : Number) × (¬ NumberLe z x) × (¬ NumberLe y z) }
+{}
+
+/// A Left option of a number is less than it, and a Right option greater; each is in range where the number is, and
+/// weighs less. Of two numbers, where the first isn't at most the second, a Left option of the first is still at least
+/// the second, or a Right option of the second at most the first.
+pub fn options()
+    ensures left_is_less { (x y : Number) → AmongNumbers y (number_lefts x) → NumberLe y x × (¬ NumberLe x y) }
+    ensures right_is_greater { (x y : Number) → AmongNumbers y (number_rights x) → NumberLe x y × (¬ NumberLe y x) }
+    ensures left_in_range { (x y : Number) → InRange x → AmongNumbers y (number_lefts x) → InRange y }
+    ensures right_in_range { (x y : Number) → InRange x → AmongNumbers y (number_rights x) → InRange y }
+    ensures left_weighs_less { (x y : Number) → AmongNumbers y (number_lefts x) → weight y < weight x }
+    ensures right_weighs_less { (x y : Number) → AmongNumbers y (number_rights x) → weight y < weight x }
+    ensures gap { (x y : Number) → ¬ NumberLe x y → ((a : Number) × AmongNumbers a (number_lefts x) × NumberLe y a) ⊎ ((b : Number) × AmongNumbers b (number_rights y) × NumberLe b x) }
+{}

@@ -1,0 +1,61 @@
+//! Dyadic numbers: exact arithmetic with a refusal that holds the exact result, the order, and the simplest number
+//! between two.
+//!
+//! A number is `num / 2^exp` in lowest terms: `num` is odd, or `exp` is 0. Contracts see a `Dyadic` as such a number,
+//! of which there is exactly one for each value, so equal numbers are the same number. The range is that of
+//! `|num| < 2^52` and `exp <= 31`. Where an exact result is out of range, the call answers a [`RangeFault`] that holds
+//! that result in lowest terms. No call rounds, and every call but `text` takes no memory.
+#![tactic(auto)]
+
+ghost use Rattle.std.specs.Prelude.{◌≡◌};
+ghost use Rattle.cg_dyadic.specs.Number.{num_of, exp_of, InRange};
+
+mod arithmetic;
+pub mod cut;
+mod fault;
+pub mod laws;
+mod order;
+pub mod search;
+mod text;
+
+pub use fault::RangeFault;
+use std::marker::Model;
+
+/// A number `num / 2^exp` in lowest terms, with `|num| < 2^52` and `exp <= 31`.
+#[derive(Clone, Copy, Debug, PartialEq, Eq)]
+pub struct Dyadic {
+    num: i64,
+    exp: u8,
+}
+
+impl Model for Dyadic {
+    ghost use Rattle.cg_dyadic.specs.Number.{InLowest, Number, num_of, exp_of, ratio};
+
+    ghost Value = { Number };
+
+    ghost view = { λ a. ratio a.num a.exp };
+
+    ghost inverse = { λ x. record { num = num_of x; exp = exp_of x } };
+
+    ghost invariant = { λ a. InLowest a.num a.exp };
+
+    ghost inverse_ok = { λ a h i. record { num = h.num_is i; exp = h.exp_is i } };
+}
+
+impl Dyadic {
+    /// The numerator, below 2^52 in size. It is odd, or the denominator is 1.
+    pub fn num(&self) -> i64
+        ensures value { result ≡ num_of self.now }
+        ensures in_range { InRange self.now }
+    {
+        self.num
+    }
+
+    /// The exponent of the denominator, from 0 to 31.
+    pub fn exp(&self) -> u8
+        ensures value { result ≡ exp_of self.now }
+        ensures in_range { InRange self.now }
+    {
+        self.exp
+    }
+}

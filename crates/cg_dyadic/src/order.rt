@@ -1,0 +1,64 @@
+//! Comparison by cross multiplication.
+ghost use Rattle.std.specs.Prelude.{◌≡◌, ◌↔◌, ◌≤◌, ◌^◌, ◌*ℤ◌, ◌<◌, pos, negsuc, unsigned_abs};
+ghost use Rattle.cg_dyadic.specs.Number.{number_le, number_cmp, num_of, exp_of, InRange, whole};
+
+use crate::Dyadic;
+use std::cmp::Ordering;
+
+/// `2^exp`.
+fn power(exp: u8) -> i128
+    requires { exp ≤ 32 }
+    ensures { result ≡ pos (2 ^ exp) }
+{
+    1i128 << exp
+}
+
+/// The numerator over a denominator that is `2^exp` times as large.
+pub(crate) fn scaled(number: Dyadic, exp: u8) -> i128
+    requires { exp ≤ 32 }
+    ensures value { result ≡ num_of number *ℤ pos (2 ^ exp) }
+    ensures size { unsigned_abs result < 2 ^ 84 }
+    ensures in_range { InRange number }
+{
+    i128::from(number.num) * power(exp)
+}
+
+impl Dyadic {
+    /// Whether the number is at most the other.
+    pub fn le(self, other: Dyadic) -> bool
+        ensures value { result ≡ number_le self other }
+        ensures in_range { InRange self × InRange other }
+    {
+        scaled(self, other.exp) <= scaled(other, self.exp)
+    }
+
+    /// How the two numbers are ordered; `Equal` comes exactly for the same number.
+    pub fn compare(self, other: Dyadic) -> Ordering
+        ensures order { result ≡ number_cmp self other }
+        ensures same { (result ≡ Ordering.Equal) ↔ (self ≡ other) }
+    {
+        let left = scaled(self, other.exp);
+        let right = scaled(other, self.exp);
+        left.cmp(&right)
+    }
+
+    /// The least number in range, -(2^52 - 1).
+    pub fn least() -> Dyadic
+        ensures value { result ≡ whole (negsuc 4503599627370494) }
+    {
+        Dyadic {
+            num: -4_503_599_627_370_495,
+            exp: 0,
+        }
+    }
+
+    /// The greatest number in range, 2^52 - 1.
+    pub fn greatest() -> Dyadic
+        ensures value { result ≡ whole (pos 4503599627370495) }
+    {
+        Dyadic {
+            num: 4_503_599_627_370_495,
+            exp: 0,
+        }
+    }
+}

@@ -1,0 +1,201 @@
+//! The simplest number between two cuts.
+//!
+//! The ends of the gap are taken in units of 1/2^32, which is finer than any number in range. Both ends are halved for
+//! as long as some unit stays between them: at the scale of whole numbers the integer nearest 0 is the simplest, and at
+//! any other scale the ends meet at one odd number of units.
+ghost use Rattle.std.specs.Prelude.{◌≡◌, ◌≤◌, ◌^◌, ◌<◌, ◌+ℤ◌, ◌≤ℤ◌, ℤ, Bool, pos, negsuc, unsigned_abs, false, ◌-ℤ◌, IsTrue, ◌↔◌, IfOk, IfErr, IfSome, IsNone};
+ghost use Rattle.cg_dyadic.specs.Number.{Number, half, exp_of};
+ghost use Rattle.cg_dyadic.specs.Units.{units};
+ghost use Rattle.cg_dyadic.specs.Simplest.{Apart, SimplestFor, strictly_between, SimplestIsOutside};
+ghost use Rattle.cg_dyadic.specs.Cut.{in_gap, FoundIs, SimplestBetween, NoneBetween};
+ghost use Rattle.cg_dyadic.specs.Search.{AtLeast, AtMost, AtScale, FoundAt, first_unit, last_unit, ShortCut, SmallAround, Small, SmallEnd, half_of_low, half_of_high, crossed, nearest, closed_cut};
+
+use crate::cut::{Cut, Found};
+use crate::order::scaled;
+use crate::{Dyadic, RangeFault};
+
+/// The finest scale of a search: one binary place more than a number in range has.
+const FINEST: u8 = 32;
+
+/// The least end at half the scale that is at or above this low end.
+fn half_low(end: Option<i128>) -> Option<i128>
+    requires { SmallEnd end }
+    ensures { result ≡ half_of_low end }
+{
+    match end {
+        None => None,
+        Some(n) => Some((n + 1) >> 1),
+    }
+}
+
+/// The greatest end at half the scale that is at or below this high end.
+fn half_high(end: Option<i128>) -> Option<i128>
+    requires { SmallEnd end }
+    ensures { result ≡ half_of_high end }
+{
+    match end {
+        None => None,
+        Some(n) => Some(n >> 1),
+    }
+}
+
+/// Whether no unit lies between the ends.
+fn crossed(low: Option<i128>, high: Option<i128>) -> bool
+    ensures { result ≡ crossed low high }
+{
+    match low {
+        None => false,
+        Some(a) => match high {
+            None => false,
+            Some(b) => b < a,
+        },
+    }
+}
+
+/// The integer of least size between the ends.
+fn nearest(low: Option<i128>, high: Option<i128>) -> i128
+    ensures { result ≡ nearest low high }
+{
+    if let Some(a) = low {
+        if 0 < a {
+            return a;
+        }
+    }
+    if let Some(b) = high {
+        if b < 0 {
+            return b;
+        }
+    }
+    0
+}
+
+/// The simplest number from low to high, which are in units of `1 / 2^scale`.
+fn descend(low: Option<i128>, high: Option<i128>, scale: u8) -> RangeFault
+    requires small_low { SmallEnd low }
+    requires small_high { SmallEnd high }
+    requires some { crossed low high ≡ false }
+    ensures { (test : Number → Bool) → AtScale scale low high test → FoundAt test result.num result.exp }
+{
+    if scale == 0 {
+        return RangeFault {
+            num: nearest(low, high),
+            exp: 0,
+        };
+    }
+    let coarse_low = half_low(low);
+    let coarse_high = half_high(high);
+    if crossed(coarse_low, coarse_high) {
+        return RangeFault {
+            num: nearest(low, high),
+            exp: scale,
+        };
+    }
+    descend(coarse_low, coarse_high, scale - 1)
+}
+
+/// The number in units of the finest scale.
+fn units(x: Dyadic) -> i128
+    ensures is { result ≡ units 32 x }
+    ensures small { SmallAround result }
+    ensures short { exp_of x ≤ 31 }
+{
+    scaled(x, FINEST - x.exp)
+}
+
+/// The least unit above a low cut.
+fn first_unit(cut: Option<Cut>) -> Option<i128>
+    ensures is { result ≡ first_unit cut }
+    ensures small { SmallEnd result }
+    ensures short { ShortCut cut }
+{
+    match cut {
+        None => None,
+        Some(c) => {
+            let at = units(c.at);
+            if c.closed { Some(at + 1) } else { Some(at) }
+        }
+    }
+}
+
+/// The greatest unit below a high cut.
+fn last_unit(cut: Option<Cut>) -> Option<i128>
+    ensures is { result ≡ last_unit cut }
+    ensures small { SmallEnd result }
+    ensures short { ShortCut cut }
+{
+    match cut {
+        None => None,
+        Some(c) => {
+            let at = units(c.at);
+            if c.closed { Some(at - 1) } else { Some(at) }
+        }
+    }
+}
+
+/// Whether the numerator and the exponent are those of a number in range.
+pub(crate) fn is_in_range(f: RangeFault) -> bool
+    ensures { IsTrue result ↔ (unsigned_abs f.num < 2 ^ 52) × (f.exp ≤ 31) }
+{
+    -4_503_599_627_370_496 < f.num && f.num < 4_503_599_627_370_496 && f.exp <= 31
+}
+
+/// What lies above the low cut and below the high cut, where there are cuts: the number none of whose options lies
+/// there, which is the simplest.
+pub fn simplest_in(low: Option<Cut>, high: Option<Cut>) -> Found
+    ensures { FoundIs (in_gap low high) result }
+{
+    let first = first_unit(low);
+    let last = last_unit(high);
+    if crossed(first, last) {
+        return Found::Nothing;
+    }
+    let best = descend(first, last, FINEST);
+    if is_in_range(best) {
+        return Found::Number(Dyadic {
+            num: best.num as i64,
+            exp: best.exp,
+        });
+    }
+    Found::Outside(best)
+}
+
+/// The simplest number in range between the two cuts, or None where no number in range lies between them.
+pub fn simplest(low: &Cut, high: &Cut) -> Option<Dyadic>
+    ensures found { IfSome result (λ x. SimplestBetween low.now.at low.now.closed high.now.at high.now.closed x) }
+    ensures none { IsNone result → NoneBetween low.now.at low.now.closed high.now.at high.now.closed }
+{
+    match simplest_in(Some(*low), Some(*high)) {
+        Found::Number(x) => Some(x),
+        Found::Outside(_) => None,
+        Found::Nothing => None,
+    }
+}
+
+/// The closed cut at the number, where there is one.
+fn closed_cut(x: Option<Dyadic>) -> Option<Cut>
+    ensures { result ≡ closed_cut x }
+{
+    match x {
+        None => None,
+        Some(at) => Some(Cut { at, closed: true }),
+    }
+}
+
+impl Dyadic {
+    /// The simplest number strictly between the two, where they are given: the integer of least size if there is an
+    /// integer between them, and else the number with the least exponent. The fault comes exactly where that number is
+    /// out of range, and holds it. (The Simplicity Theorem: Siegel, Combinatorial Game Theory (2013), II.3.)
+    pub fn simplest_between(low: Option<Dyadic>, high: Option<Dyadic>) -> Result<Dyadic, RangeFault>
+        requires { Apart low high }
+        ensures found { IfOk result (λ x. SimplestFor (strictly_between low high) x) }
+        ensures range { IfErr result (λ f. SimplestIsOutside (strictly_between low high) f) }
+    {
+        let below = closed_cut(low);
+        let above = closed_cut(high);
+        match simplest_in(below, above) {
+            Found::Number(x) => Ok(x),
+            Found::Outside(f) => Err(f),
+            Found::Nothing => unreachable!(),
+        }
+    }
+}

@@ -1,0 +1,10 @@
+pub mod Bytes
+pub mod Tree
+pub mod TreeCode
+pub mod TreeSize
+pub mod TreeFalls
+pub mod Trees
+pub mod Grammar
+pub mod Reading
+pub mod Gives
+pub mod Lines
