@@ -6,7 +6,7 @@ use Rattle.cg_dyadic.specs.declared.cut.Cut.{Cut}
 use Rattle.cg_dyadic.specs.declared.fault.RangeFault.{RangeFault}
 use Rattle.cg_dyadic.specs.Cut.{NoneBetween, above_some, below_some, in_gap, is_above, is_below}
 use Rattle.cg_dyadic.specs.Exact.{Holds}
-use Rattle.cg_dyadic.specs.Number.{InLowest, InRange, Number, NumberLe, exp_of, num_of, number_le, ratio}
+use Rattle.cg_dyadic.specs.Number.{InLowest, InRange, Number, NumberLe, between, exp_of, num_of, number_le, ratio}
 use Rattle.cg_dyadic.specs.Search.{AtLeast, AtMost, AtScale, FoundAt, ShortCut, Small, SmallAround, crossed, first_unit, last_unit}
 use Rattle.cg_dyadic.specs.Simplest.{NoOptionPasses, NonePasses}
 use Rattle.cg_dyadic.specs.Units.{doubled, units}

@@ -7,6 +7,7 @@ pub mod Weight
 pub mod Values
 pub mod Compare
 pub mod Fractions
+pub mod Sums
 pub mod Results
 pub mod Simpler
 pub mod SumGap

@@ -1,5 +1,5 @@
 -- Exact results of arithmetic, and texts.
-use Rattle.std.specs.Prelude.{ℕ, ℤ, pos, neg_ℤ, Bool, true, false, ◌^◌, ◌%◌, ◌⊎◌, ◌==◌, ◌≡◌, ◌+ℤ◌, ◌*ℤ◌, List, [], ◌∷◌, ◌++◌, if◌then◌else◌, decimal, Option, Some, None, Result, Ok, Err}
+use Rattle.std.specs.Prelude.{◌+◌, ℕ, ℤ, pos, neg_ℤ, Bool, true, false, ◌^◌, ◌%◌, ◌⊎◌, ◌==◌, ◌≡◌, ◌+ℤ◌, ◌*ℤ◌, List, [], ◌∷◌, ◌++◌, if◌then◌else◌, decimal, Option, Some, None, Result, Ok, Err}
 use Rattle.std.specs.Fmt.{signed_decimal}
 use Rattle.cg_dyadic.specs.declared.fault.RangeFault.{RangeFault}
 use Rattle.cg_dyadic.specs.Number.{InRange, IsFraction, Number, exp_of, num_of}
@@ -17,6 +17,15 @@ IsExact n k (Err f) = (x : Number) × IsFraction n k x × Holds f x × (¬ InRan
 -- the numerator of the sum of x and y over the product of their denominators
 abbrev pub sum_num : Number → Number → ℤ
 sum_num x y = (num_of x *ℤ pos (2 ^ exp_of y)) +ℤ (num_of y *ℤ pos (2 ^ exp_of x))
+
+-- z is the sum of x and y
+abbrev pub IsSum : Number → Number → Number → Type 0
+IsSum x y z = IsFraction (sum_num x y) (exp_of x + exp_of y) z
+
+-- y is the negative of x
+pub record IsNegative (x y : Number) : Type 0 where
+  pub num : num_of y ≡ neg_ℤ (num_of x)
+  pub exp : exp_of y ≡ exp_of x
 
 -- the number of this sign and size
 abbrev pub signed_of : Bool → ℕ → ℤ

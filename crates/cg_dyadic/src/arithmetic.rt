@@ -1,7 +1,7 @@
 //! Sums, halves and negatives: each is exact, or refused with the exact result.
 ghost use Rattle.std.specs.Prelude.{◌≡◌, ◌+◌, ◌*◌, ◌^◌, ◌<◌, ◌≤◌, ◌+ℤ◌, ◌*ℤ◌, pos, neg_ℤ, cond, unsigned_abs, IfSome, IsNone};
 ghost use Rattle.cg_dyadic.specs.Number.{num_of, exp_of, InRange};
-ghost use Rattle.cg_dyadic.specs.Exact.{IsExact, IsLowest, signed_of, sum_num};
+ghost use Rattle.cg_dyadic.specs.Exact.{IsExact, IsLowest, IsNegative, signed_of, sum_num};
 
 use crate::order::scaled;
 use crate::{Dyadic, RangeFault};
@@ -38,8 +38,7 @@ impl Dyadic {
 
     /// The number of the other sign.
     pub fn negate(self) -> Dyadic
-        ensures num { num_of result ≡ neg_ℤ (num_of self) }
-        ensures exp { exp_of result ≡ exp_of self }
+        ensures { IsNegative self result }
     {
         Dyadic {
             num: -self.num,

@@ -1,8 +1,7 @@
 //! Laws of numbers: each function does nothing, and its contract is the law.
-ghost use Rattle.std.specs.Prelude.{◌≡◌, ◌⊎◌, ◌<◌, ℤ, ℕ};
-ghost use Rattle.cg_dyadic.specs.Number.{Number, num_of, exp_of, IsFraction, ratio, NumberLe, number_lefts, number_rights, AmongNumbers, weight, InRange};
-ghost use Rattle.cg_dyadic.specs.Exact.{sum_num};
-ghost use Rattle.cg_dyadic.specs.Units.{units};
+ghost use Rattle.std.specs.Prelude.{◌≡◌, ◌⊎◌, ◌↔◌, ◌<◌, ℤ, pos, ℕ};
+ghost use Rattle.cg_dyadic.specs.Number.{Number, whole, num_of, exp_of, IsFraction, ratio, NumberLe, number_lefts, number_rights, AmongNumbers, weight, InRange};
+ghost use Rattle.cg_dyadic.specs.Exact.{IsSum, IsNegative};
 
 /// Each fraction `n / 2^k` is exactly one number, [`ratio`], and a number is the fraction of its own terms.
 pub fn fractions()
@@ -18,6 +17,17 @@ pub fn order()
     ensures total { (x y : Number) → NumberLe x y ⊎ NumberLe y x }
     ensures antisymmetric { (x y : Number) → NumberLe x y → NumberLe y x → x ≡ y }
     ensures dense { (x y : Number) → ¬ NumberLe y x → (z : Number) × (¬ NumberLe z x) × (¬ NumberLe y z) }
+{}
+
+/// Any two numbers have a sum, and any number a negative. Sums don't depend on the order of the terms, keep the order of
+/// numbers, and give 0 for a number and its negative; negatives turn the order.
+pub fn arithmetic()
+    ensures sum_exists { (x y : Number) → (z : Number) × IsSum x y z }
+    ensures sum_commutes { (x y z : Number) → IsSum x y z → IsSum y x z }
+    ensures sum_keeps_order { (x y z a b : Number) → IsSum x z a → IsSum y z b → NumberLe x y ↔ NumberLe a b }
+    ensures negative_exists { (x : Number) → (y : Number) × IsNegative x y }
+    ensures negative_turns_order { (x y a b : Number) → IsNegative x a → IsNegative y b → NumberLe x y ↔ NumberLe b a }
+    ensures negative_cancels { (x y : Number) → IsNegative x y → IsSum x y (whole (pos 0)) }
 {}
 
 /// A Left option of a number is less than it, and a Right option greater; each is in range where the number is, and

@@ -3,4 +3,16 @@
 #![tactic(auto)]
 
 #[cfg(test)]
+mod adapters;
+#[cfg(test)]
+mod failing_source;
+#[cfg(test)]
 mod numbers;
+#[cfg(test)]
+mod sessions;
+#[cfg(test)]
+mod sinks;
+#[cfg(test)]
+mod trees;
+#[cfg(test)]
+mod values;

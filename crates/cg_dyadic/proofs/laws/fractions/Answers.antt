@@ -1,4 +1,4 @@
-use Rattle.cg_dyadic.proofs.Fractions.{fraction-ratio, fraction-unique, fraction-own}
+use Rattle.cg_dyadic.proofs.Fractions.{fraction-own, fraction-ratio, fraction-unique}
 use Rattle.cg_dyadic.proofs.laws.fractions.Goals as goal
 
 pub returns : goal.returns

@@ -1,4 +1,4 @@
-use Rattle.cg_dyadic.proofs.Values.{left-le_number, right-le_number, not_le-left_number, not_le-right_number, number_gap}
+use Rattle.cg_dyadic.proofs.Values.{left-le_number, not_le-left_number, not_le-right_number, number_gap, right-le_number}
 use Rattle.cg_dyadic.proofs.Weight.{in_range-lefts, in_range-rights, weight-lefts, weight-rights}
 use Rattle.cg_dyadic.proofs.laws.options.Goals as goal
 

@@ -1,5 +1,5 @@
-use Rattle.cg_dyadic.proofs.Values.{number_le-refl, number_le-trans, number_le-total, number_le-same}
 use Rattle.cg_dyadic.proofs.Middle.{middle, middle_between}
+use Rattle.cg_dyadic.proofs.Values.{number_le-refl, number_le-same, number_le-total, number_le-trans}
 use Rattle.cg_dyadic.proofs.laws.order.Goals as goal
 
 pub returns : goal.returns

@@ -1,0 +1,186 @@
+//! Canonical forms of whole trees.
+//!
+//! The options are made canonical first, and their cuts of all numbers, in range or not, tell
+//! whether some number fits between them. If so, the game equals the simplest such number.
+//! Otherwise its reversible options are bypassed, and the best of what is then there are kept, in
+//! the structural order.
+ghost use Rattle.std.specs.Prelude.{◌≡◌, IfOk, OnOk, Err, true, false};
+ghost use Rattle.cg_form.specs.Forms.{game_of, games_of};
+ghost use Rattle.cg_form.specs.Game.{node, of_list};
+ghost use Rattle.cg_form.specs.Simple.{NoNumber};
+ghost use Rattle.cg_form.specs.Canonical.{IsCanonicalForm};
+ghost use Rattle.cg_form.specs.Range.{HasOutside, AnyOutside};
+ghost use Rattle.cg_form.specs.Cut.{CutOf, AnyNumber};
+ghost use Rattle.cg_form.specs.Bypass.{Replaces};
+ghost use Rattle.cg_form.specs.Known.{KnownOf, CopiesOf, EachCanonical, EachLess};
+
+use crate::cuts::{joined, turned};
+use crate::fault::SlowFault;
+use crate::form::{Form, Options};
+use cg_dyadic::cut::{Cut, Found};
+use cg_dyadic::search::simplest_in;
+use std::alloc::{AllocError, Global};
+
+mod best;
+mod reversing;
+
+use best::best_of;
+use reversing::bypass_all;
+
+/// A canonical form, with the numbers that are no better for the player than the game.
+#[derive(Drop)]
+struct Known {
+    form: Form,
+    cut: Cut,
+}
+
+/// The canonical forms of some options, with the numbers that are no better for the player than
+/// some of them.
+#[derive(Drop)]
+struct KnownAll {
+    forms: Vec<Form>,
+    cut: Option<Cut>,
+}
+
+/// What stands in the place of the player's options in the canonical form.
+fn replaced(
+    alloc: Global,
+    left: bool,
+    whole: &Form,
+    options: &Options,
+) -> Result<Options, AllocError>
+    requires none { NoNumber (game_of whole.now) }
+    requires canonical { EachCanonical options.now }
+    requires less { EachLess left (game_of whole.now) options.now }
+    ensures { IfOk result (λ r. Replaces left (game_of whole.now) options.now r) }
+{
+    let candidates = Options::of(bypass_all(alloc, left, whole, options, Vec::new(alloc))?);
+    let best = best_of(alloc, left, &candidates)?;
+    Ok(Options::of(best))
+}
+
+/// The canonical form of a game that equals no number, whose options are canonical.
+fn reduced(alloc: Global, lefts: Vec<Form>, rights: Vec<Form>) -> Result<Form, AllocError>
+    requires none { NoNumber (node (games_of lefts.items) (games_of rights.items)) }
+    requires lefts { EachCanonical (games_of lefts.items) }
+    requires rights { EachCanonical (games_of rights.items) }
+    ensures { IfOk result (λ k.
+        IsCanonicalForm (node (games_of lefts.items) (games_of rights.items)) (game_of k)) }
+{
+    let whole = Form::Node(Options::of(lefts), Options::of(rights));
+    match &whole {
+        Form::Num(_) => unreachable!(),
+        Form::Node(own_lefts, own_rights) => {
+            let best_lefts = replaced(alloc, true, &whole, own_lefts)?;
+            let best_rights = replaced(alloc, false, &whole, own_rights)?;
+            Ok(Form::Node(best_lefts, best_rights))
+        }
+    }
+}
+
+fn same_cut(cut: &Option<Cut>) -> Option<Cut>
+    ensures { result ≡ cut.now }
+{
+    match cut {
+        None => None,
+        Some(c) => Some(*c),
+    }
+}
+
+/// What is known of the game of these options, from what is known of them.
+fn decide(
+    alloc: Global,
+    left: bool,
+    lefts: &Options,
+    rights: &Options,
+    low: KnownAll,
+    high: KnownAll,
+) -> Result<Known, SlowFault>
+    requires left_copies { CopiesOf lefts.now (games_of low.forms.items) }
+    requires right_copies { CopiesOf rights.now (games_of high.forms.items) }
+    requires left_cut { CutOf AnyNumber true low.cut lefts.now }
+    requires right_cut { CutOf AnyNumber false high.cut rights.now }
+    requires left_inside { ¬ AnyOutside (of_list lefts.now) }
+    requires right_inside { ¬ AnyOutside (of_list rights.now) }
+    ensures known { IfOk result (λ r. KnownOf left (node lefts.now rights.now) (game_of r.form) r.cut) }
+    ensures range { result ≡ Err SlowFault.Range → HasOutside (node lefts.now rights.now) }
+{
+    let KnownAll {
+        forms: left_forms,
+        cut: low_cut,
+    } = low;
+    let KnownAll {
+        forms: right_forms,
+        cut: high_cut,
+    } = high;
+    match simplest_in(same_cut(&low_cut), same_cut(&high_cut)) {
+        Found::Number(x) => Ok(Known {
+            form: Form::Num(x),
+            cut: Cut::closed(x),
+        }),
+        Found::Outside(_) => Err(SlowFault::Range),
+        Found::Nothing => match &low_cut {
+            None => unreachable!(),
+            Some(below) => match &high_cut {
+                None => unreachable!(),
+                Some(above) => {
+                    let form = reduced(alloc, left_forms, right_forms)?;
+                    let cut = turned(left, below, above);
+                    Ok(Known { form, cut })
+                }
+            },
+        },
+    }
+}
+
+#[cycle(learn)]
+fn learn_all(alloc: Global, left: bool, options: &Options) -> Result<KnownAll, SlowFault>
+    ensures copies { IfOk result (λ r. CopiesOf options.now (games_of r.forms.items)) }
+    ensures cut { IfOk result (λ r. CutOf AnyNumber left r.cut options.now) }
+    ensures inside { OnOk result (¬ AnyOutside (of_list options.now)) }
+    ensures range { result ≡ Err SlowFault.Range → AnyOutside (of_list options.now) }
+{
+    let mut forms = Vec::new(alloc);
+    let mut cut: Option<Cut> = None;
+    for option in options.as_slice() {
+        let Known { form, cut: next } = learn(alloc, left, option)?;
+        let both = joined(left, &cut, &next);
+        cut = Some(both);
+        forms.push(form)?;
+    }
+    Ok(KnownAll { forms, cut })
+}
+
+#[cycle(learn)]
+fn learn(alloc: Global, left: bool, form: &Form) -> Result<Known, SlowFault>
+    ensures known { IfOk result (λ r. KnownOf left (game_of form.now) (game_of r.form) r.cut) }
+    ensures range { result ≡ Err SlowFault.Range → HasOutside (game_of form.now) }
+{
+    match form {
+        Form::Num(x) => Ok(Known {
+            form: Form::Num(*x),
+            cut: Cut::closed(*x),
+        }),
+        Form::Node(lefts, rights) => {
+            let low = learn_all(alloc, true, lefts)?;
+            let high = learn_all(alloc, false, rights)?;
+            decide(alloc, left, lefts, rights, low, high)
+        }
+    }
+}
+
+/// The canonical form: the one form, whose every position is a number or has no dominated and no
+/// reversible option and options that rise strictly in the structural order, that equals the given
+/// one.
+///
+/// `SlowFault::Range` comes exactly where some position of the given form equals a number out of
+/// range. `SlowFault::Memory` comes only where there is no memory. (Siegel, Combinatorial Game
+/// Theory (2013), II.2 and II.3.)
+pub fn canonical_slow(alloc: Global, form: &Form) -> Result<Form, SlowFault>
+    ensures canonical { IfOk result (λ k. IsCanonicalForm (game_of form.now) (game_of k)) }
+    ensures in_range { OnOk result (¬ HasOutside (game_of form.now)) }
+    ensures range { result ≡ Err SlowFault.Range → HasOutside (game_of form.now) }
+{
+    let found = learn(alloc, true, form)?;
+    Ok(found.form)
+}

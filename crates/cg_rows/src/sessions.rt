@@ -1,0 +1,190 @@
+//! Whole sessions over memory.
+ghost use Rattle.std.specs.Prelude.{◌<◌};
+
+use crate::failing_source::FailingSource;
+use cg_session::outside::{MemorySink, SteadySource};
+use cg_session::{Status, run};
+use std::alloc::{AllocError, Global};
+
+/// More room than any output of these tests takes.
+const ROOM: usize = 40_000;
+
+/// The limit of an input in bytes.
+const LIMIT: usize = 1_048_576;
+
+/// A session over this input, with a sink that takes at most `most` bytes a call and fails at these calls.
+fn session(
+    alloc: Global,
+    input: &[u8],
+    most: usize,
+    fails: Vec<u64>,
+) -> Result<(Status, MemorySink), AllocError>
+    requires { 0 < most }
+{
+    let words = Vec::new(alloc);
+    let mut source = SteadySource::new(Vec::from_slice(alloc, input)?);
+    let mut sink = MemorySink::new(alloc, ROOM, most, fails)?;
+    let status = run(alloc, &words, &mut source, &mut sink);
+    Ok((status, sink))
+}
+
+#[test]
+fn answers_lines(rt: HostRuntime) -> Result<(), AllocError> {
+    let alloc = rt.alloc();
+    let rows: [(&str, Status, &str); 13] = [
+        ("", Status::Done, ""),
+        ("value {2,1|0}\n", Status::Done, "1: {2|0}\n"),
+        ("value {0|1}\n", Status::Done, "1: 1/2\n"),
+        ("value 4503599627370496\n", Status::Refused, "1: ! range\n"),
+        (
+            "value {4503599627370495|}\n",
+            Status::Refused,
+            "1: ! range\n",
+        ),
+        ("value *\n", Status::Refused, "1: ! later\n"),
+        // A last piece without LF is a line if it isn't empty.
+        ("value {0|1}", Status::Done, "1: 1/2\n"),
+        // Blank lines have no answer, and count.
+        ("\n", Status::Done, ""),
+        (" \t\r", Status::Done, ""),
+        (
+            "\n \t\r\n\r\nvalue {0|1}\r\n\nvalue {2,1|0}",
+            Status::Done,
+            "4: 1/2\n6: {2|0}\n",
+        ),
+        // One refused line makes the session refused, wherever it stands.
+        (
+            "value *\nvalue {0|1}\n",
+            Status::Refused,
+            "1: ! later\n2: 1/2\n",
+        ),
+        (
+            "value {0|1}\nvalue *",
+            Status::Refused,
+            "1: 1/2\n2: ! later\n",
+        ),
+        // A line may hold any bytes but LF.
+        (
+            "value {0|1}\u{0}\nvalue {0|1}\n",
+            Status::Refused,
+            "1: ! later\n2: 1/2\n",
+        ),
+    ];
+    for (input, status, output) in rows {
+        let (ended, sink) = session(alloc, input.as_bytes(), 7, Vec::new(alloc))?;
+        assert!(rt; ended == status, "the status of {input}");
+        assert!(rt; sink.bytes() == output.as_bytes(), "the output of {input}");
+    }
+    Ok(())
+}
+
+#[test]
+fn ends_with_each_number(rt: HostRuntime) {
+    let rows = [
+        (Status::Done, 0),
+        (Status::Refused, 1),
+        (Status::Read, 3),
+        (Status::Write, 4),
+        (Status::Memory, 5),
+        (Status::TooLong, 6),
+    ];
+    for (status, number) in rows {
+        assert_eq!(rt; status.code(), number);
+    }
+}
+
+/// A failing source ends the session before anything is written, also at the call that would have told the end.
+#[test]
+fn reports_a_failing_source(rt: HostRuntime) -> Result<(), AllocError> {
+    let alloc = rt.alloc();
+    let words = Vec::new(alloc);
+    let rows: [(u64, Status, &str); 4] = [
+        (1, Status::Read, ""),
+        (2, Status::Read, ""),
+        (3, Status::Done, "1: 1\n"),
+        (0, Status::Done, "1: 1\n"),
+    ];
+    for (fails_at, status, output) in rows {
+        let mut source = FailingSource::new(b"value 1", fails_at);
+        let mut sink = MemorySink::new(alloc, ROOM, 7, Vec::new(alloc))?;
+        let ended = run(alloc, &words, &mut source, &mut sink);
+        assert!(rt; ended == status, "the status where call {fails_at} fails");
+        assert!(rt;
+            sink.bytes() == output.as_bytes(),
+            "the output where call {fails_at} fails"
+        );
+    }
+    Ok(())
+}
+
+/// A failing sink keeps the front of the output that it took.
+#[test]
+fn reports_a_failing_sink(rt: HostRuntime) -> Result<(), AllocError> {
+    let alloc = rt.alloc();
+    let rows: [(u64, Status, &str); 4] = [
+        (1, Status::Write, ""),
+        (2, Status::Write, "1: {"),
+        (3, Status::Write, "1: {2|0}"),
+        (4, Status::Done, "1: {2|0}\n"),
+    ];
+    for (fails_at, status, output) in rows {
+        let (ended, sink) = session(alloc, b"value {2,1|0}", 4, vec![in alloc; fails_at]?)?;
+        assert!(rt; ended == status, "the status where call {fails_at} fails");
+        assert!(rt;
+            sink.bytes() == output.as_bytes(),
+            "the output where call {fails_at} fails"
+        );
+    }
+    Ok(())
+}
+
+/// A sink without room for the whole output fails, and keeps what it had room for.
+#[test]
+fn reports_a_full_sink(rt: HostRuntime) -> Result<(), AllocError> {
+    let alloc = rt.alloc();
+    let words = Vec::new(alloc);
+    let mut source = SteadySource::new(Vec::from_slice(alloc, b"value {0|1}\n")?);
+    let mut sink = MemorySink::new(alloc, 5, 100, Vec::new(alloc))?;
+    assert!(rt; run(alloc, &words, &mut source, &mut sink) == Status::Write);
+    assert!(rt; sink.bytes() == b"1: 1/".as_slice());
+    Ok(())
+}
+
+/// The limit is 1,048,576 bytes: an input of so many is read whole, and one byte more is too long.
+#[test]
+fn keeps_the_limit(rt: HostRuntime) -> Result<(), AllocError> {
+    let alloc = rt.alloc();
+    let mut lines = vec![in alloc; b'\n'; LIMIT]?;
+    let (ended, sink) = session(alloc, &lines, 7, Vec::new(alloc))?;
+    assert!(rt; ended == Status::Done);
+    assert!(rt; sink.bytes().is_empty());
+    lines.push(b'\n')?;
+    let (ended, sink) = session(alloc, &lines, 7, Vec::new(alloc))?;
+    assert!(rt; ended == Status::TooLong);
+    assert!(rt; sink.bytes().is_empty());
+    Ok(())
+}
+
+/// Many short lines and one long line are answered in linear time.
+#[test]
+fn answers_large_inputs(rt: HostRuntime) -> Result<(), AllocError> {
+    let alloc = rt.alloc();
+    let mut many = Vec::new(alloc);
+    for _ in 0..4096 {
+        many.extend_from_slice(b"value 0\n")?;
+    }
+    let (ended, sink) = session(alloc, &many, 1000, Vec::new(alloc))?;
+    assert!(rt; ended == Status::Done);
+    // Four bytes a line beside its number, which has one digit 9 times, two 90 times, three 900 times, else four.
+    assert_eq!(rt;
+        sink.bytes().len(),
+        4 * 4096 + 9 + 2 * 90 + 3 * 900 + 4 * 3097
+    );
+    assert!(rt; sink.bytes().ends_with(b"\n4095: 0\n4096: 0\n"));
+
+    let long = vec![in alloc; b'1'; LIMIT]?;
+    let (ended, sink) = session(alloc, &long, 1000, Vec::new(alloc))?;
+    assert!(rt; ended == Status::Refused);
+    assert!(rt; sink.bytes() == b"1: ! later\n".as_slice());
+    Ok(())
+}

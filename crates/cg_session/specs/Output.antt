@@ -1,0 +1,35 @@
+-- The output of an input.
+use Rattle.std.specs.Prelude.{ℕ, ◌+◌, Bool, true, false, ◌||◌, ◌≡◌, List, [], ◌∷◌, ◌++◌, decimal, codes}
+use Rattle.cg_session.specs.Lines.{lines_of, is_blank_line}
+use Rattle.cg_session.specs.Reply.{Piece, IsReply}
+
+-- One after the other. A line is refused in both where one is refused in either.
+abbrev pub joined : Piece → Piece → Piece
+joined a b = record { text = a.text ++ b.text; refused = a.refused || b.refused }
+
+abbrev pub no_text : Piece
+no_text = record { text = []; refused = false }
+
+-- the line of a reply: its number in decimal, a colon, a space, the reply, LF
+abbrev pub numbered : ℕ → Piece → Piece
+numbered n reply = record { text = decimal n ++ codes ": " ++ reply.text ++ (10 ∷ []); refused = reply.refused }
+
+-- nothing for a blank line, else the line of a reply to it
+abbrev pub IsOutputOf : Bool → ℕ → List ℕ → Piece → Type 0
+IsOutputOf true n line out = out ≡ no_text
+IsOutputOf false n line out = (reply : Piece) × IsReply line reply × (out ≡ numbered n reply)
+
+-- the output of the line with the number n
+abbrev pub IsLineOutput : ℕ → List ℕ → Piece → Type 0
+IsLineOutput n line out = IsOutputOf (is_blank_line line) n line out
+
+-- The output of these lines, the first of which has the number n. Blank lines count.
+unfoldable pub IsOutputFrom : ℕ → List (List ℕ) → Piece → Type 0
+IsOutputFrom n [] out = out ≡ no_text
+IsOutputFrom n (line ∷ lines) out =
+    (first : Piece) × (rest : Piece) × IsLineOutput n line first × IsOutputFrom (n + 1) lines rest
+    × (out ≡ joined first rest)
+
+-- the output of the input's lines, counted from 1
+abbrev pub IsOutput : List ℕ → Piece → Type 0
+IsOutput input out = IsOutputFrom 1 (lines_of input) out

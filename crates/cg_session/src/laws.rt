@@ -1,0 +1,23 @@
+//! Laws of the definitions that the contract of `run` cites: each function does nothing, and its contract is the law.
+ghost use Rattle.std.specs.Prelude.{◌≡◌, ℕ, List};
+ghost use Rattle.cg_session.specs.Reply.{Piece, IsReply};
+ghost use Rattle.cg_session.specs.Output.{IsOutput};
+
+use cg_form::laws::l5;
+use cg_syntax::laws::one_query;
+
+/// A line has one reply: the grammar relates at most one question to it, an expression has one meaning, and a game one
+/// canonical form.
+pub fn one_reply()
+    ensures { (line : List ℕ) (r s : Piece) → IsReply line r → IsReply line s → r ≡ s }
+{
+    one_query();
+    l5();
+}
+
+/// An input has one output.
+pub fn one_output()
+    ensures { (input : List ℕ) (p q : Piece) → IsOutput input p → IsOutput input q → p ≡ q }
+{
+    one_reply();
+}

@@ -1,0 +1,36 @@
+//! How a session ends.
+ghost use Rattle.std.specs.Prelude.{◌≡◌};
+ghost use Rattle.cg_session.specs.StatusCode.{code_of};
+
+/// How a session ended, and what it wrote.
+#[derive(Clone, Copy, Debug, PartialEq, Eq)]
+pub enum Status {
+    /// The whole output was written, and no line of it is refused.
+    Done,
+    /// The whole output was written, and at least one line of it is refused.
+    Refused,
+    /// The source failed. Nothing was written.
+    Read,
+    /// The sink failed. A front of the output was written.
+    Write,
+    /// Memory was wanting. Nothing was written.
+    Memory,
+    /// The input has more than 1,048,576 bytes. Nothing was written.
+    TooLong,
+}
+
+impl Status {
+    /// The number that the program ends with.
+    pub fn code(self) -> u8
+        ensures { result ≡ code_of self }
+    {
+        match self {
+            Status::Done => 0,
+            Status::Refused => 1,
+            Status::Read => 3,
+            Status::Write => 4,
+            Status::Memory => 5,
+            Status::TooLong => 6,
+        }
+    }
+}
