@@ -1,7 +1,7 @@
 //! A calculator for short partizan games: lines of questions in, lines of answers out.
 #![tactic(auto)]
 
-use cg_session::outside::{StdinSource, StdoutSink};
+use cg_io::{StdinSource, StdoutSink};
 use std::alloc::Global;
 use std::process::ExitCode;
 use std::{env, io};

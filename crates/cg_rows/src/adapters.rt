@@ -1,5 +1,5 @@
 //! The adapters of std's readers and writers.
-use cg_session::outside::{Failed, Sink, Source, StdinSource, StdoutSink};
+use cg_io::{Failed, Sink, Source, StdinSource, StdoutSink};
 use cg_session::{Status, run};
 use std::alloc::AllocError;
 use std::io;

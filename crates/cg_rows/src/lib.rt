@@ -5,13 +5,13 @@
 #[cfg(test)]
 mod adapters;
 #[cfg(test)]
-mod failing_source;
+mod faults;
+#[cfg(test)]
+mod memory;
 #[cfg(test)]
 mod numbers;
 #[cfg(test)]
 mod sessions;
-#[cfg(test)]
-mod sinks;
 #[cfg(test)]
 mod trees;
 #[cfg(test)]

@@ -1,8 +1,7 @@
 //! Whole sessions over memory.
 ghost use Rattle.std.specs.Prelude.{◌<◌};
 
-use crate::failing_source::FailingSource;
-use cg_session::outside::{MemorySink, SteadySource};
+use cg_io::{MemorySink, SteadySource};
 use cg_session::{Status, run};
 use std::alloc::{AllocError, Global};
 
@@ -12,18 +11,13 @@ const ROOM: usize = 40_000;
 /// The limit of an input in bytes.
 const LIMIT: usize = 1_048_576;
 
-/// A session over this input, with a sink that takes at most `most` bytes a call and fails at these calls.
-fn session(
-    alloc: Global,
-    input: &[u8],
-    most: usize,
-    fails: Vec<u64>,
-) -> Result<(Status, MemorySink), AllocError>
+/// A session over this input, with a sink that takes at most `most` bytes a call.
+fn session(alloc: Global, input: &[u8], most: usize) -> Result<(Status, MemorySink), AllocError>
     requires { 0 < most }
 {
     let words = Vec::new(alloc);
     let mut source = SteadySource::new(Vec::from_slice(alloc, input)?);
-    let mut sink = MemorySink::new(alloc, ROOM, most, fails)?;
+    let mut sink = MemorySink::new(alloc, ROOM, most, Vec::new(alloc))?;
     let status = run(alloc, &words, &mut source, &mut sink);
     Ok((status, sink))
 }
@@ -71,7 +65,7 @@ fn answers_lines(rt: HostRuntime) -> Result<(), AllocError> {
         ),
     ];
     for (input, status, output) in rows {
-        let (ended, sink) = session(alloc, input.as_bytes(), 7, Vec::new(alloc))?;
+        let (ended, sink) = session(alloc, input.as_bytes(), 7)?;
         assert!(rt; ended == status, "the status of {input}");
         assert!(rt; sink.bytes() == output.as_bytes(), "the output of {input}");
     }
@@ -83,6 +77,7 @@ fn ends_with_each_number(rt: HostRuntime) {
     let rows = [
         (Status::Done, 0),
         (Status::Refused, 1),
+        (Status::Usage, 2),
         (Status::Read, 3),
         (Status::Write, 4),
         (Status::Memory, 5),
@@ -93,87 +88,26 @@ fn ends_with_each_number(rt: HostRuntime) {
     }
 }
 
-/// A failing source ends the session before anything is written, also at the call that would have told the end.
+/// The limits are 1,048,576 bytes and 4,096 answered lines: so many are read and answered, and one more is too long.
+/// Blank lines do not count. Many short lines and one long line are answered in linear time.
 #[test]
-fn reports_a_failing_source(rt: HostRuntime) -> Result<(), AllocError> {
+fn keeps_the_limits(rt: HostRuntime) -> Result<(), AllocError> {
     let alloc = rt.alloc();
-    let words = Vec::new(alloc);
-    let rows: [(u64, Status, &str); 4] = [
-        (1, Status::Read, ""),
-        (2, Status::Read, ""),
-        (3, Status::Done, "1: 1\n"),
-        (0, Status::Done, "1: 1\n"),
-    ];
-    for (fails_at, status, output) in rows {
-        let mut source = FailingSource::new(b"value 1", fails_at);
-        let mut sink = MemorySink::new(alloc, ROOM, 7, Vec::new(alloc))?;
-        let ended = run(alloc, &words, &mut source, &mut sink);
-        assert!(rt; ended == status, "the status where call {fails_at} fails");
-        assert!(rt;
-            sink.bytes() == output.as_bytes(),
-            "the output where call {fails_at} fails"
-        );
-    }
-    Ok(())
-}
-
-/// A failing sink keeps the front of the output that it took.
-#[test]
-fn reports_a_failing_sink(rt: HostRuntime) -> Result<(), AllocError> {
-    let alloc = rt.alloc();
-    let rows: [(u64, Status, &str); 4] = [
-        (1, Status::Write, ""),
-        (2, Status::Write, "1: {"),
-        (3, Status::Write, "1: {2|0}"),
-        (4, Status::Done, "1: {2|0}\n"),
-    ];
-    for (fails_at, status, output) in rows {
-        let (ended, sink) = session(alloc, b"value {2,1|0}", 4, vec![in alloc; fails_at]?)?;
-        assert!(rt; ended == status, "the status where call {fails_at} fails");
-        assert!(rt;
-            sink.bytes() == output.as_bytes(),
-            "the output where call {fails_at} fails"
-        );
-    }
-    Ok(())
-}
-
-/// A sink without room for the whole output fails, and keeps what it had room for.
-#[test]
-fn reports_a_full_sink(rt: HostRuntime) -> Result<(), AllocError> {
-    let alloc = rt.alloc();
-    let words = Vec::new(alloc);
-    let mut source = SteadySource::new(Vec::from_slice(alloc, b"value {0|1}\n")?);
-    let mut sink = MemorySink::new(alloc, 5, 100, Vec::new(alloc))?;
-    assert!(rt; run(alloc, &words, &mut source, &mut sink) == Status::Write);
-    assert!(rt; sink.bytes() == b"1: 1/".as_slice());
-    Ok(())
-}
-
-/// The limit is 1,048,576 bytes: an input of so many is read whole, and one byte more is too long.
-#[test]
-fn keeps_the_limit(rt: HostRuntime) -> Result<(), AllocError> {
-    let alloc = rt.alloc();
-    let mut lines = vec![in alloc; b'\n'; LIMIT]?;
-    let (ended, sink) = session(alloc, &lines, 7, Vec::new(alloc))?;
+    let mut blank = vec![in alloc; b'\n'; LIMIT]?;
+    let (ended, sink) = session(alloc, &blank, 7)?;
     assert!(rt; ended == Status::Done);
     assert!(rt; sink.bytes().is_empty());
-    lines.push(b'\n')?;
-    let (ended, sink) = session(alloc, &lines, 7, Vec::new(alloc))?;
+    blank.push(b'\n')?;
+    let (ended, sink) = session(alloc, &blank, 7)?;
     assert!(rt; ended == Status::TooLong);
     assert!(rt; sink.bytes().is_empty());
-    Ok(())
-}
 
-/// Many short lines and one long line are answered in linear time.
-#[test]
-fn answers_large_inputs(rt: HostRuntime) -> Result<(), AllocError> {
-    let alloc = rt.alloc();
     let mut many = Vec::new(alloc);
     for _ in 0..4096 {
         many.extend_from_slice(b"value 0\n")?;
     }
-    let (ended, sink) = session(alloc, &many, 1000, Vec::new(alloc))?;
+    many.extend_from_slice(b" \t\r\n\n")?;
+    let (ended, sink) = session(alloc, &many, 1000)?;
     assert!(rt; ended == Status::Done);
     // Four bytes a line beside its number, which has one digit 9 times, two 90 times, three 900 times, else four.
     assert_eq!(rt;
@@ -181,9 +115,13 @@ fn answers_large_inputs(rt: HostRuntime) -> Result<(), AllocError> {
         4 * 4096 + 9 + 2 * 90 + 3 * 900 + 4 * 3097
     );
     assert!(rt; sink.bytes().ends_with(b"\n4095: 0\n4096: 0\n"));
+    many.extend_from_slice(b"value 0")?;
+    let (ended, sink) = session(alloc, &many, 1000)?;
+    assert!(rt; ended == Status::TooLong);
+    assert!(rt; sink.bytes().is_empty());
 
     let long = vec![in alloc; b'1'; LIMIT]?;
-    let (ended, sink) = session(alloc, &long, 1000, Vec::new(alloc))?;
+    let (ended, sink) = session(alloc, &long, 1000)?;
     assert!(rt; ended == Status::Refused);
     assert!(rt; sink.bytes() == b"1: ! later\n".as_slice());
     Ok(())

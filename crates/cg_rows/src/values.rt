@@ -1,5 +1,5 @@
 //! Values of expressions: each line with the answer that the textbook, or a computation by hand, gives.
-use cg_session::outside::{MemorySink, SteadySource};
+use cg_io::{MemorySink, SteadySource};
 use cg_session::{Status, run};
 use std::alloc::AllocError;
 

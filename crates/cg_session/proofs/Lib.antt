@@ -1,5 +1,5 @@
 pub mod Cuts
-pub mod Named
+pub mod Fronts
 pub mod Outputs
 pub mod Replies
 pub mod Meanings

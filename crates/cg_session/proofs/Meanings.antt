@@ -1,13 +1,11 @@
 -- Meanings of lists of expressions, one expression after another.
-use Rattle.std.proofs.Common.{◌≡◌, refl, ℕ, zero, suc, ◌<◌, ◌≤◌, ◌⊎◌, inl, inr, ap, sym, subst, ◌∙◌, List, [], ◌∷◌, ◌++◌, ◌+◌, length, get_or, take, Bool, arith}
-use Rattle.cg_dyadic.specs.Number.{Number, InRange}
-use Rattle.cg_dyadic.specs.Exact.{IsQuotient}
-use Rattle.cg_form.specs.Game.{Game, Games, number, of_list}
+use Rattle.std.proofs.Common.{◌≡◌, refl, ℕ, zero, suc, ◌<◌, ◌≤◌, inl, inr, ap, sym, subst, ◌∙◌, List, [], ◌∷◌, ◌++◌, ◌+◌, length, get_or, take, arith}
+use Rattle.cg_form.specs.Game.{Game, of_list}
 use Rattle.cg_form.specs.declared.form.Form.{Form}
 use Rattle.cg_form.specs.Forms.{game_of, games_of}
 use Rattle.cg_form.proofs.FormLists.{games_of-append}
 use Rattle.cg_syntax.specs.declared.expr.Expr.{Expr}
-use Rattle.cg_syntax.specs.Tree.{Tree, Trees, number as literal, sides, trees_from}
+use Rattle.cg_syntax.specs.Tree.{Tree, trees_from}
 use Rattle.cg_syntax.specs.Trees.{tree_of, trees_of}
 use Rattle.cg_syntax.proofs.Walk.{trees_of-take_suc, trees_of-all}
 use Rattle.cg_session.specs.Meaning.{IsMeaning, AreMeanings, HasBadLiteral, AnyBadLiteral}

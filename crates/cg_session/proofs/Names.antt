@@ -1,11 +1,11 @@
 -- Names of lists of games, one game after another.
-use Rattle.std.proofs.Common.{◌≡◌, refl, ℕ, ap, sym, ◌∙◌, List, [], ◌∷◌, ◌++◌, append_assoc, append-nil, zero, suc, ◌+◌, ◌<◌, length, get_or, take, arith}
+use Rattle.std.proofs.Common.{◌≡◌, ℕ, ap, sym, ◌∙◌, List, [], ◌∷◌, ◌++◌, append_assoc, append-nil, suc, ◌+◌, ◌<◌, length, get_or, take, arith}
 use Rattle.cg_form.specs.declared.form.Form.{Form}
 use Rattle.cg_form.specs.Forms.{game_of, games_of}
 use Rattle.cg_form.proofs.FormLists.{games_of-take_suc}
-use Rattle.cg_form.specs.Game.{Game, Games, of_list}
+use Rattle.cg_form.specs.Game.{Game, of_list}
 use Rattle.cg_syntax.specs.Bytes.{comma}
-use Rattle.cg_session.specs.Name.{name_of, names_of, further_names}
+use Rattle.cg_session.specs.Name.{name_of, further_names}
 
 pub further_names-one_more : (gs : List Game) (g : Game) → further_names (of_list (gs ++ (g ∷ []))) ≡ further_names (of_list gs) ++ (comma ∷ name_of g)
 further_names-one_more [] g = ap (λ z. comma ∷ z) (append-nil (name_of g))

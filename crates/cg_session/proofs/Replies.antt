@@ -1,14 +1,12 @@
 -- Replies: what an expression means, what its value is, and that each line has one reply.
-use Rattle.std.proofs.Common.{◌≡◌, refl, ℕ, ◌⊎◌, inl, inr, ap, sym, subst, ◌∙◌, List, Bool, Result, Ok, Err}
+use Rattle.std.proofs.Common.{◌≡◌, ℕ, ◌⊎◌, inl, inr, ap, sym, subst, ◌∙◌, List, Result, Ok, Err}
 use Rattle.std.specs.Prelude.{IfOk, OnOk}
-use Rattle.cg_dyadic.specs.Number.{Number}
-use Rattle.cg_dyadic.specs.Exact.{IsQuotient}
 use Rattle.cg_dyadic.proofs.Results.{quotient-unique}
 use Rattle.cg_form.specs.declared.form.Form.{Form}
 use Rattle.cg_form.specs.declared.fault.SlowFault.{SlowFault}
 use Rattle.cg_form.specs.Canonical.{IsCanonicalForm}
 use Rattle.cg_form.specs.Forms.{game_of}
-use Rattle.cg_form.specs.Game.{Game, Games, number, options, none, more}
+use Rattle.cg_form.specs.Game.{Game, Games, number, options, more}
 use Rattle.cg_form.specs.Range.{HasOutside}
 use Rattle.cg_syntax.specs.declared.line.Query.{Query}
 use Rattle.cg_syntax.specs.declared.line.Query.TheVariants.{Value}
@@ -17,7 +15,7 @@ use Rattle.cg_syntax.specs.Lines.{Asks}
 use Rattle.cg_syntax.specs.Tree.{Tree, Trees, number as literal, sides, no_trees, with_tree}
 use Rattle.cg_syntax.specs.Trees.{tree_of}
 use Rattle.cg_session.specs.Meaning.{IsMeaning, AreMeanings, HasBadLiteral, IsOutOfRange}
-use Rattle.cg_session.specs.Reply.{Piece, IsReply, IsReplyOf, IsReplyTo, IsValue, later, named}
+use Rattle.cg_session.specs.Reply.{Piece, IsReply, IsReplyTo, IsValue, later, named}
 use Rattle.cg_session.specs.Shown.{IsAnswerTo}
 
 -- ---- meanings

@@ -1,12 +1,10 @@
-pub mod Faults
-pub mod Memory
-pub mod Adapter
 pub mod Lines
 pub mod Meaning
 pub mod Name
 pub mod Reply
 pub mod Output
 pub mod Input
+pub mod Words
 pub mod Written
 pub mod Ends
 pub mod StatusCode

@@ -1,6 +1,6 @@
 -- What an expression means: a number is its number, and braces are the game of what their parts mean.
 -- Siegel, Combinatorial Game Theory (2013), I.1: games as {G^L | G^R}.
-use Rattle.std.specs.Prelude.{ℕ, ◌≡◌, ◌⊎◌, Bool}
+use Rattle.std.specs.Prelude.{◌≡◌, ◌⊎◌}
 use Rattle.cg_dyadic.specs.Number.{Number, InRange}
 use Rattle.cg_dyadic.specs.Exact.{IsQuotient}
 use Rattle.cg_form.specs.Game.{Game, Games, number, options, none, more}

@@ -1,10 +1,10 @@
 //! Reading a whole input.
 ghost use Rattle.std.specs.Prelude.{◌≡◌, ◌+◌, ◌^◌, ◌≤◌, length, IfOk, OnOk, IsErrOf};
 ghost use Rattle.std.specs.Io.KnownBytes.{Consumes, IsAtEnd};
-ghost use Rattle.cg_session.specs.Faults.{Rose};
-ghost use Rattle.cg_session.specs.Input.{IsWithinLimit, Takes, TakesAtMost};
+ghost use Rattle.cg_io.specs.Faults.{Rose};
+ghost use Rattle.cg_session.specs.Input.{IsWithinBytes, Takes, TakesAtMost};
 
-use crate::outside::{Failed, Source};
+use cg_io::{Failed, Source};
 use std::alloc::Global;
 
 /// The most bytes that an input may have.
@@ -28,7 +28,7 @@ pub enum InputFault {
 pub fn read_input<S: Source>(alloc: Global, source: &mut S) -> Result<Vec<u8>, InputFault>
     ensures whole { IfOk result (λ input. Consumes (S.left source.old) (S.left source.new) input.items) }
     ensures end { OnOk result (IsAtEnd (S.left source.new)) }
-    ensures within { IfOk result (λ input. IsWithinLimit input.items) }
+    ensures within { IfOk result (λ input. IsWithinBytes input.items) }
 
     ensures failed { IsErrOf result InputFault.Read → Rose (S.faults source.old) (S.faults source.new) }
     ensures too_long { IsErrOf result InputFault.TooLong → Takes (2 ^ 20 + 1) (S.left source.old) (S.left source.new) }

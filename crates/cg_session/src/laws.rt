@@ -1,7 +1,9 @@
 //! Laws of the definitions that the contract of `run` cites: each function does nothing, and its contract is the law.
-ghost use Rattle.std.specs.Prelude.{◌≡◌, ℕ, List};
+ghost use Rattle.std.specs.Prelude.{◌≡◌, ℕ, List, Some};
+ghost use Rattle.std.specs.Io.KnownBytes.{Appends};
 ghost use Rattle.cg_session.specs.Reply.{Piece, IsReply};
 ghost use Rattle.cg_session.specs.Output.{IsOutput};
+ghost use Rattle.cg_session.specs.Written.{AppendsFront};
 
 use cg_form::laws::l5;
 use cg_syntax::laws::one_query;
@@ -21,3 +23,10 @@ pub fn one_output()
 {
     one_reply();
 }
+
+/// A text of which a sink that tells its bytes took a front was not taken whole. So `run` ends with Write only where
+/// the whole text was not written.
+pub fn front_is_not_whole()
+    ensures { (text : List ℕ) (before : List ℕ) (now : List ℕ)
+        → AppendsFront text (Some before) (Some now) → ¬ Appends (Some before) (Some now) text }
+{}

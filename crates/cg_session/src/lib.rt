@@ -2,15 +2,14 @@
 //!
 //! The input is cut at each LF; a last piece without LF is a line if it isn't empty. All lines are numbered from 1.
 //! A line of spaces, tabs and CRs alone is blank and gets no answer. Every other line gets one line of output: its
-//! number in decimal, a colon, a space, the reply, LF. [`run`] reads a whole input from a [`outside::Source`] and
-//! writes its whole output to a [`outside::Sink`]; [`Status`] says how that ended.
+//! number in decimal, a colon, a space, the reply, LF. [`run`] reads a whole input from a [`cg_io::Source`] and
+//! writes its whole output to a [`cg_io::Sink`]; [`Status`] says how that ended.
 #![tactic(auto)]
 
 mod input;
 pub mod laws;
 mod lines;
 mod output;
-pub mod outside;
 pub mod plain;
 mod session;
 mod status;

@@ -1,6 +1,6 @@
 //! Lines of bytes.
 ghost use Rattle.std.specs.Prelude.{◌≡◌, ◌≢◌, ◌∷◌, ◌<◌, ◌≤◌, ℕ, length, slice_index};
-ghost use Rattle.cg_session.specs.Lines.{lines_of, is_blank_line};
+ghost use Rattle.cg_session.specs.Lines.{lines_of, is_blank_line, answered_count};
 
 /// The first line of a text that isn't empty, and what follows its LF.
 pub fn first_line(text: &[u8]) -> (&[u8], &[u8])
@@ -36,4 +36,20 @@ pub fn is_blank(line: &[u8]) -> bool
 {
     line.iter()
         .all(|byte| *byte == b' ' || *byte == b'\t' || *byte == b'\r')
+}
+
+/// How many lines of the input get an answer.
+pub fn count_answered(input: &[u8]) -> usize
+    ensures { result ≡ answered_count input.now }
+{
+    let mut count = 0;
+    let mut rest = input;
+    while !rest.is_empty() {
+        let (line, after) = first_line(rest);
+        if !is_blank(line) {
+            count += 1;
+        }
+        rest = after;
+    }
+    count
 }

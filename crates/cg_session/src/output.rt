@@ -1,6 +1,6 @@
 //! The output of a whole input.
 ghost use Rattle.std.specs.Prelude.{◌≡◌, ◌++◌, ◌∷◌, [], IfOk, OnOk, decimal, codes};
-ghost use Rattle.cg_session.specs.Input.{IsWithinLimit};
+ghost use Rattle.cg_session.specs.Input.{IsWithinBytes};
 ghost use Rattle.cg_session.specs.Output.{IsOutput};
 ghost use Rattle.cg_session.specs.Outputs.{piece_of, AppendsLine};
 
@@ -17,7 +17,7 @@ pub struct Output {
 
 /// The output of all lines of the input.
 pub fn answer_lines(alloc: Global, input: &[u8]) -> Result<Output, AllocError>
-    requires { IsWithinLimit input.now }
+    requires { IsWithinBytes input.now }
     ensures { IfOk result (λ out. IsOutput input.now (piece_of out)) }
 {
     let mut out = Output {

@@ -9,13 +9,15 @@ pub enum Status {
     Done,
     /// The whole output was written, and at least one line of it is refused.
     Refused,
+    /// The words are not accepted. The usage line was written, and nothing was read.
+    Usage,
     /// The source failed. Nothing was written.
     Read,
-    /// The sink failed. A front of the output was written.
+    /// The sink failed. A front of the output was written, or of the usage line where the words are not accepted.
     Write,
     /// Memory was wanting. Nothing was written.
     Memory,
-    /// The input has more than 1,048,576 bytes. Nothing was written.
+    /// The input has more than 1,048,576 bytes, or more than 4,096 answered lines. Nothing was written.
     TooLong,
 }
 
@@ -27,6 +29,7 @@ impl Status {
         match self {
             Status::Done => 0,
             Status::Refused => 1,
+            Status::Usage => 2,
             Status::Read => 3,
             Status::Write => 4,
             Status::Memory => 5,

@@ -1,10 +1,10 @@
 //! Writing a whole text.
 ghost use Rattle.std.specs.Prelude.{OnOk, OnErr};
 ghost use Rattle.std.specs.Io.KnownBytes.{Appends};
-ghost use Rattle.cg_session.specs.Faults.{HasCause};
+ghost use Rattle.cg_io.specs.Faults.{HasCause};
 ghost use Rattle.cg_session.specs.Written.{AppendsFront};
 
-use crate::outside::{Failed, Sink};
+use cg_io::{Failed, Sink};
 
 /// Hands the sink the whole rest of the text until all of it is taken. It takes no memory.
 pub fn write_all<K: Sink>(sink: &mut K, text: &[u8]) -> Result<(), Failed>

@@ -1,12 +1,9 @@
-use Rattle.std.proofs.Common.{rules, ◌≡◌, ap, sym, ◌∙◌, ℕ, ◌+◌, suc, arith, subst, List}
+use Rattle.std.proofs.Common.{rules, ◌≡◌, ap}
 use Rattle.cg_syntax.specs.declared.expr.Expr.{Expr}
-use Rattle.cg_syntax.specs.Tree.{Tree, braces, trees_from}
-use Rattle.cg_syntax.specs.TreeSize.{size, list_size}
-use Rattle.cg_syntax.specs.Trees.{tree_of, trees_of}
-use Rattle.cg_syntax.proofs.Walk.{size_of_braces, size_of_item, trees_of-take_suc, trees_of-all}
-use Rattle.cg_form.specs.Game.{Game, of_list}
-use Rattle.cg_form.specs.Forms.{game_of, games_of}
-use Rattle.cg_form.proofs.FormLists.{games_of-append}
+use Rattle.cg_syntax.specs.Tree.{braces}
+use Rattle.cg_syntax.specs.TreeSize.{size}
+use Rattle.cg_syntax.specs.Trees.{tree_of}
+use Rattle.cg_syntax.proofs.Walk.{size_of_braces, size_of_item}
 use Rattle.cg_form.specs.declared.fault.SlowFault.{SlowFault}
 use Rattle.cg_form.specs.declared.fault.SlowFault.TheVariants.{Range}
 use Rattle.std.specs.Prelude.{Result, Err}

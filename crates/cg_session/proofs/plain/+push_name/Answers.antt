@@ -1,5 +1,5 @@
-use Rattle.std.proofs.Common.{rules, ◌≡◌, refl, ap, sym, ◌∙◌, ℕ, ◌+◌, suc, arith, List, ◌∷◌, ◌++◌, string_bytes}
-use Rattle.cg_form.specs.Forms.{game_of, games_of}
+use Rattle.std.proofs.Common.{rules, refl, string_bytes}
+use Rattle.cg_form.specs.Forms.{games_of}
 use Rattle.cg_form.proofs.FormLists.{size_of_item}
 use Rattle.cg_session.proofs.Names.{names-step}
 use Rattle.cg_session.proofs.plain.+push_name.Goals as goal

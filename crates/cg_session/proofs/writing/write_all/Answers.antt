@@ -1,4 +1,4 @@
-use Rattle.std.proofs.Common.{◌≡◌, ℕ, ◌-◌, List, ◌++◌, length, take, drop, sym, ap, ◌∙◌, append_assoc, take-append-drop, arith, Result, Ok, Err, OnErr}
+use Rattle.std.proofs.Common.{◌≡◌, ℕ, ◌-◌, List, ◌++◌, length, take, drop, sym, ap, ◌∙◌, append_assoc, take-append-drop, arith, rules, Result, Ok, Err, OnErr}
 use Rattle.std.proofs.lemmas.List.{take_rest}
 use Rattle.std.proofs.KnownBytes.{Appends-trans, Appends-kept}
 use Rattle.cg_session.proofs.writing.write_all.Goals as goal
@@ -24,4 +24,4 @@ loop-rest-preserved g c =
 pub returns-in_err-count-clause-front : goal.returns-in_err-count-clause-front
 returns-in_err-count-clause-front g c =
     let (done, split, appended) = c.loop-rest.invariant.written in
-    on_err c.from_residual.result _ (record { front = done; rest = c.loop-rest.rest.now; split = split; appended = Appends-kept _ _ _ _ appended c.in_err-count.ensures.bytes })
+    on_err c.from_residual.result _ (record { front = done; rest = c.loop-rest.rest.now; split = split; some_left = search rules; appended = Appends-kept _ _ _ _ appended c.in_err-count.ensures.bytes })

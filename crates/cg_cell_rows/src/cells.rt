@@ -1,0 +1,252 @@
+//! Five keys and the claims of three of them, stores of words, and notes, over facts of the test's own.
+ghost use Rattle.cg_cell_rows.specs.Toys.{toy_meaning, toy_lawful, spread, spread_below};
+ghost use Rattle.std.specs.Prelude.{◌≡◌, ◌≤◌, pos, Some, IsSome, IsTrue};
+ghost use Rattle.cg_cells.specs.declared.key.KeyParts.TheVariants.{Number};
+ghost use Rattle.cg_cells.specs.Layout.{FieldsFit, word_of};
+ghost use Rattle.cg_cells.specs.Parts.{parts_of};
+ghost use Rattle.cg_cells.specs.Store.{thing_at};
+
+use cg_cells::{CellStore, Facts, Id, Key, KeyParts, PlainStore, StoreFault};
+use std::test::Fail;
+
+/// Facts whose homes are all the first cell, so that every search goes on.
+struct Colliding;
+
+impl Facts for Colliding {
+    type Thing = u64;
+
+    ghost meaning = { toy_meaning (λ key size. 0) };
+
+    fn home(_key: u64, _size: u64) -> u64 {
+        0
+    }
+
+    ghost lawful = { toy_lawful (λ key size. 0) (λ key size some. some) };
+}
+
+/// Facts whose homes are spread over the table.
+struct Spread;
+
+impl Facts for Spread {
+    type Thing = u64;
+
+    ghost meaning = { toy_meaning spread };
+
+    fn home(key: u64, size: u64) -> u64 {
+        key.wrapping_mul(0x9E37_79B9_7F4A_7C15) % size
+    }
+
+    ghost lawful = { toy_lawful spread spread_below };
+}
+
+/// The word of the key of the parts.
+fn word(parts: KeyParts) -> u64
+    requires { FieldsFit parts }
+{
+    Key::pack(parts).word()
+}
+
+/// Whether the word has these parts.
+fn has_parts(word: u64, parts: KeyParts) -> bool {
+    Key::from_word(word).and_then(|key| key.unpack()) == Some(parts)
+}
+
+#[test]
+fn packs_five_keys(rt: HostRuntime) {
+    let ids = (Id::new(0), Id::new(1));
+    assert_eq!(rt;
+        word(KeyParts::Number { num: 0, exp: 0 }),
+        0x2000_0000_0000_0000
+    );
+    assert_eq!(rt;
+        word(KeyParts::Number { num: 1, exp: 1 }),
+        0x2020_0000_0000_0001
+    );
+    assert_eq!(rt;
+        word(KeyParts::Number { num: -1, exp: 0 }),
+        0x201f_ffff_ffff_ffff
+    );
+    assert_eq!(rt;
+        word(KeyParts::Cons {
+            first: ids.0,
+            rest: None
+        }),
+        0x6000_0000_0000_0001
+    );
+    assert_eq!(rt;
+        word(KeyParts::Game {
+            lefts: Some(ids.1),
+            rights: Some(ids.1)
+        }),
+        0x8000_0000_1000_0002
+    );
+}
+
+#[test]
+fn unpacks_five_words(rt: HostRuntime) {
+    let ids = (Id::new(0), Id::new(1));
+    assert!(rt; has_parts(0x2000_0000_0000_0000, KeyParts::Number { num: 0, exp: 0 }));
+    assert!(rt; has_parts(0x2020_0000_0000_0001, KeyParts::Number { num: 1, exp: 1 }));
+    assert!(rt; has_parts(0x201f_ffff_ffff_ffff, KeyParts::Number { num: -1, exp: 0 }));
+    assert!(rt;
+        has_parts(
+            0x6000_0000_0000_0001,
+            KeyParts::Cons {
+                first: ids.0,
+                rest: None
+            }
+        )
+    );
+    assert!(rt;
+        has_parts(
+            0x8000_0000_1000_0002,
+            KeyParts::Game {
+                lefts: Some(ids.1),
+                rights: Some(ids.1)
+            }
+        )
+    );
+}
+
+#[test]
+fn other_words_have_no_parts(rt: HostRuntime) -> Result<(), Fail> {
+    assert!(rt; Key::from_word(0).is_none());
+    for word in [
+        // No kind, and a kind that isn't used.
+        1,
+        0xe000_0000_0000_0001,
+        // 2/2, and a number with the exponent 32.
+        0x2020_0000_0000_0002,
+        0x2400_0000_0000_0001,
+        // A game without a list, and a pair in the wrong order.
+        0x8000_0000_0000_0000,
+        0xa000_0000_0800_0002,
+        // A board of no rows, and an id of 2^26.
+        0xc040_0100_0000_0001,
+        0x6000_0000_0400_0001,
+    ] {
+        let key = Key::from_word(word).ok_or("0")?;
+        assert!(rt; key.unpack().is_none(), "{word:x}");
+    }
+    Ok(())
+}
+
+#[test]
+fn sizes(rt: HostRuntime) -> Result<(), Fail> {
+    let store = PlainStore::<Colliding>::new(rt.alloc(), 4096)?;
+    assert_eq!(rt; store.spare(), 4096);
+    for size in [0, (1 << 26) + 1, u64::MAX] {
+        let fault = PlainStore::<Colliding>::new(rt.alloc(), size).err();
+        assert_eq!(rt; fault, Some(StoreFault::Size));
+    }
+    Ok(())
+}
+
+/// The key of a number.
+fn number(num: u32) -> Key
+    ensures value { result ≡ word_of (Number (pos num) 0) }
+    ensures parts { parts_of result ≡ Some (Number (pos num) 0) }
+{
+    Key::pack(KeyParts::Number {
+        num: i64::from(num),
+        exp: 0,
+    })
+}
+
+/// Whether two claims of one key give one cell, in any store.
+fn claims_agree<F: Facts, S: CellStore<F>>(store: &mut S, key: Key) -> bool
+    requires spare { 2 ≤ (S.state store.old).spare }
+    requires spells { IsSome (F.meaning.spells key (thing_at (S.state store.old))) }
+    ensures { IsTrue result }
+{
+    let first = store.claim(key);
+    let again = store.claim(key);
+    store.same(first, again)
+}
+
+#[test]
+#[tactic(auto, using(crate::proofs::Spelled::is_spelled_number))]
+fn two_claims_of_any_store_agree(rt: HostRuntime) -> Result<(), Fail> {
+    let mut store = PlainStore::<Colliding>::new(rt.alloc(), 4)?;
+    assert!(rt; claims_agree::<Colliding, PlainStore<Colliding>>(&mut store, number(5)));
+    Ok(())
+}
+
+#[test]
+#[tactic(auto, using(crate::proofs::Spelled::is_spelled_number))]
+fn one_key_has_one_cell(rt: HostRuntime) -> Result<(), Fail> {
+    let mut store = PlainStore::<Colliding>::new(rt.alloc(), 4)?;
+    let first = store.claim(number(0));
+    let again = store.claim(number(0));
+    assert_eq!(rt; first.number(), 0);
+    assert_eq!(rt; again.number(), 0);
+    assert_eq!(rt; store.spare(), 2);
+    Ok(())
+}
+
+#[test]
+fn first_claims_get_the_ids_from_0(rt: HostRuntime) -> Result<(), Fail> {
+    let mut store = PlainStore::<Spread>::new(rt.alloc(), 4096)?;
+    let zero = store.claim(number(0));
+    assert_eq!(rt; zero.number(), 0);
+    let list = store.claim(Key::pack(KeyParts::Cons {
+        first: zero,
+        rest: None,
+    }));
+    assert_eq!(rt; list.number(), 1);
+    let star = store.claim(Key::pack(KeyParts::Game {
+        lefts: Some(list),
+        rights: Some(list),
+    }));
+    assert_eq!(rt; star.number(), 2);
+    assert_eq!(rt; store.look(star).word(), 0x8000_0000_1000_0002);
+    Ok(())
+}
+
+#[test]
+#[tactic(auto, using(crate::proofs::Spelled::is_spelled_number))]
+fn each_key_keeps_its_cell(rt: HostRuntime) -> Result<(), Fail> {
+    let mut near = PlainStore::<Colliding>::new(rt.alloc(), 40)?;
+    let mut far = PlainStore::<Spread>::new(rt.alloc(), 40)?;
+    for num in [
+        0, 1, 2, 3, 4, 5, 6, 7, 8, 9, 10, 11, 12, 13, 14, 15, 16, 17, 18, 19, 19, 4, 7, 0, 1, 18,
+    ] {
+        if near.spare() == 0 || far.spare() == 0 {
+            return Err("no spare")?;
+        }
+        let key = number(num);
+        assert_eq!(rt; near.claim(key).number(), num);
+        assert_eq!(rt; far.claim(key).number(), num);
+    }
+    assert_eq!(rt; near.spare(), 14);
+    Ok(())
+}
+
+#[test]
+fn reads_a_store_of_words(rt: HostRuntime) -> Result<(), Fail> {
+    let keys = vec![in rt.alloc(); 0x2000_0000_0000_0000, 0, 0, 0]?;
+    let values = vec![in rt.alloc(); 0, 0, 0, 0]?;
+    let mut store = PlainStore::<Spread>::of_words(rt.alloc(), keys, values, 3)?;
+    assert_eq!(rt; store.spare(), 3);
+    assert_eq!(rt; store.look(Id::new(0)).word(), 0x2000_0000_0000_0000);
+    let one = store.claim(number(1));
+    assert_eq!(rt; one.number(), 1);
+    let zero = store.claim(number(0));
+    assert_eq!(rt; zero.number(), 0);
+    Ok(())
+}
+
+#[test]
+fn notes_once(rt: HostRuntime) -> Result<(), Fail> {
+    let mut store = PlainStore::<Colliding>::new(rt.alloc(), 4)?;
+    let zero = store.claim(number(0));
+    let one = store.claim(number(1));
+    assert!(rt; store.same(one, one));
+    assert!(rt; !store.same(one, zero));
+    assert!(rt; store.noted(one).is_none());
+    store.note(one, zero);
+    assert_eq!(rt; store.noted(one), Some(zero));
+    assert!(rt; store.noted(zero).is_none());
+    assert_eq!(rt; store.spare(), 2);
+    Ok(())
+}

@@ -1,0 +1,12 @@
+pub mod Layouts
+pub mod Levels
+pub mod Maps
+pub mod Finite
+pub mod Claims
+pub mod Indexes
+pub mod Saturates
+pub mod Plains
+pub mod Notes
+pub mod Calls
+pub mod Claiming
+pub mod Orders

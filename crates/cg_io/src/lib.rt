@@ -1,0 +1,71 @@
+//! Where bytes come from and where they go.
+//!
+//! A [`Source`] and a [`Sink`] count their faults, so that a caller can be held to its word that they failed. Where
+//! they tell their bytes, a caller can say what it read and wrote. The count is a counter of 64 bits that stays at its
+//! end; a count that stands there counts as risen in every call.
+#![tactic(auto)]
+
+ghost use Rattle.std.specs.Prelude.{◌≡◌, ℕ, ◌^◌, ◌<◌, ◌≤◌, List, length, Option, IfOk};
+ghost use Rattle.std.specs.Io.{ReadsAtMost};
+ghost use Rattle.std.specs.Io.KnownBytes.{ReadConsumes, WriteAppends};
+ghost use Rattle.cg_io.specs.Faults.{HasCause};
+
+mod memory_sink;
+mod memory_source;
+mod stdin_source;
+mod stdout_sink;
+mod steady_source;
+
+pub use memory_sink::MemorySink;
+pub use memory_source::MemorySource;
+pub use stdin_source::StdinSource;
+pub use stdout_sink::StdoutSink;
+pub use steady_source::SteadySource;
+use thiserror::Error;
+
+/// The one fault of a source or a sink.
+#[derive(Clone, Copy, Debug, PartialEq, Eq, Error)]
+#[error("the bytes could not be moved")]
+pub struct Failed;
+
+/// Where bytes come from.
+pub trait Source {
+    /// The bytes that are left, where the source tells them.
+    ghost left: { Self → Option (List ℕ) };
+
+    /// How many times it failed, which never falls.
+    ghost faults: { Self → ℕ };
+
+    /// Takes bytes into the front of the buffer, at least one where any is left. `Ok(0)` is the end.
+    ///
+    /// `Failed` comes only where the count of faults rose, and then nothing was taken.
+    fn read(&mut self, buffer: &mut [u8]) -> Result<usize, Failed>
+        requires { 0 < length buffer.old }
+        ensures bound { ReadsAtMost result buffer.new }
+        ensures bytes { ReadConsumes (left self.old) (left self.new) result buffer.new }
+        ensures cause { HasCause (faults self.old) (faults self.new) result };
+
+    /// The count of faults is below 2^64.
+    ghost faults_fit: { (s : Self) → faults s < 2 ^ 64 };
+}
+
+/// Where bytes go.
+pub trait Sink {
+    /// The bytes that it took, where the sink tells them.
+    ghost taken: { Self → Option (List ℕ) };
+
+    /// How many times it failed, which never falls.
+    ghost faults: { Self → ℕ };
+
+    /// Takes at least one byte of the front of the piece.
+    ///
+    /// `Failed` comes only where the count of faults rose, and then nothing was taken.
+    fn write(&mut self, piece: &[u8]) -> Result<usize, Failed>
+        requires { 0 < length piece.now }
+        ensures bound { IfOk result (λ n. (0 < n) × (n ≤ length piece.now)) }
+        ensures bytes { WriteAppends (taken self.old) (taken self.new) result piece.now }
+        ensures cause { HasCause (faults self.old) (faults self.new) result };
+
+    /// The count of faults is below 2^64.
+    ghost faults_fit: { (s : Self) → faults s < 2 ^ 64 };
+}
