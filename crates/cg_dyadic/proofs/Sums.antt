@@ -52,7 +52,7 @@ sum-order x y z a b h k =
 
 -- ---- negatives
 
-doubled-zero : (d : ℕ) → doubled d (pos 0) ≡ pos 0
+pub doubled-zero : (d : ℕ) → doubled d (pos 0) ≡ pos 0
 doubled-zero zero = refl
 doubled-zero (suc d) = let ih = doubled-zero d in omega (arith, ints)
 

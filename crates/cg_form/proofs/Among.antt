@@ -1,5 +1,5 @@
 -- Members of lists of games.
-use Rattle.std.proofs.Common.{◌≡◌, refl, ◌⊎◌, inl, inr, ap, subst, List, [], ◌∷◌, ◌++◌, map}
+use Rattle.std.proofs.Common.{◌≡◌, refl, ◌⊎◌, inl, inr, ap, ◌∙◌, subst, List, [], ◌∷◌, ◌++◌, map}
 use Rattle.cg_dyadic.specs.Number.{AmongNumbers, Number}
 use Rattle.cg_form.specs.Game.{Among, Game, Games, lefts, more, node, none, of_list, rights, to_list}
 
@@ -17,12 +17,11 @@ lefts-node ls rs = to_list-of_list ls
 pub rights-node : (ls rs : List Game) → rights (node ls rs) ≡ rs
 rights-node ls rs = to_list-of_list rs
 
-pub map-agree : (f k : Game → Game) (gs : List Game) → ((a : Game) → Among a gs → f a ≡ k a) → map f gs ≡ map k gs
+pub map-agree : {B : Type 0} (f k : Game → B) (gs : List Game) → ((a : Game) → Among a gs → f a ≡ k a)
+    → map f gs ≡ map k gs
 map-agree f k [] h = refl
 map-agree f k (g ∷ gs) h =
-    let e : f g ≡ k g = h g (inl refl) in
-    let r : map f gs ≡ map k gs = map-agree f k gs (λ a m. h a (inr m)) in
-    cc
+    ap (λ z. z ∷ map f gs) (h g (inl refl)) ∙ ap (λ z. k g ∷ z) (map-agree f k gs (λ a m. h a (inr m)))
 
 -- along an equation of lists
 pub carry : (x : Game) (gs hs : List Game) → gs ≡ hs → Among x gs → Among x hs

@@ -7,12 +7,12 @@ use Rattle.cg_dyadic.specs.Simplest.{Simpler}
 use Rattle.cg_dyadic.proofs.Scale.{le-units}
 use Rattle.cg_form.specs.Game.{Among, Game, lefts, number, rights}
 use Rattle.cg_form.specs.Order.{Equal, Le}
-use Rattle.cg_form.specs.Simple.{FitsIn}
+use Rattle.cg_form.specs.Simple.{FitsIn, NoNumber}
 use Rattle.cg_form.specs.Size.{size}
 use Rattle.cg_form.proofs.Numbers.{le-numbers}
 use Rattle.cg_form.proofs.Order.{le-fold}
 use Rattle.cg_form.proofs.Preorder.{le_trans}
-use Rattle.cg_form.proofs.Simplicity.{simplicity}
+use Rattle.cg_form.proofs.Simplicity.{none_fits, simplicity}
 use Rattle.cg_form.proofs.Size.{size-lefts, size-rights}
 
 -- every game lies between two integers
@@ -30,11 +30,11 @@ le-size (suc n) g h = le-fold g (number (whole (pos (size g)))) (record {
 })
 
 -- every game is at least some integer
-abbrev minus : ℕ → ℤ
+abbrev pub minus : ℕ → ℤ
 minus zero = pos zero
 minus (suc n) = negsuc n
 
-minus_is : (n : ℕ) → minus n +ℤ pos n ≡ pos 0
+pub minus_is : (n : ℕ) → minus n +ℤ pos n ≡ pos 0
 minus_is zero = refl
 minus_is (suc n) = omega (arith, ints)
 
@@ -108,3 +108,10 @@ no_lefts-integer g e = let w = no_lefts-whole g e in fits_integer (whole w.0) g 
 
 pub no_rights-integer : (g : Game) → rights g ≡ [] → (n : ℤ) × Equal (number (whole n)) g
 no_rights-integer g e = let w = no_rights-whole g e in fits_integer (whole w.0) g refl w.1
+
+-- a game that equals no number has options on both sides
+pub some_lefts : (g : Game) → NoNumber g → ¬ (lefts g ≡ [])
+some_lefts g n e = let w = no_lefts-whole g e in none_fits g n (whole w.0) w.1
+
+pub some_rights : (g : Game) → NoNumber g → ¬ (rights g ≡ [])
+some_rights g n e = let w = no_rights-whole g e in none_fits g n (whole w.0) w.1

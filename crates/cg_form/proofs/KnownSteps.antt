@@ -9,7 +9,6 @@ use Rattle.cg_dyadic.specs.Cut.{in_gap}
 use Rattle.cg_dyadic.specs.Number.{InRange, Number}
 use Rattle.cg_dyadic.specs.Simplest.{NoOptionPasses, NonePasses}
 use Rattle.cg_dyadic.proofs.Strict.{gap_ends}
-use Rattle.cg_dyadic.proofs.Values.{number_le-same}
 use Rattle.cg_form.specs.Bypass.{Replaces}
 use Rattle.cg_form.specs.Canonical.{IsCanonicalForm}
 use Rattle.cg_form.specs.Cut.{AnyNumber, CutOf, Turned, other_cut}
@@ -23,17 +22,14 @@ use Rattle.cg_form.proofs.Cut.{any-closed, cut-number}
 use Rattle.cg_form.proofs.CutSteps.{cut_of_none, gap_misses, gap_value}
 use Rattle.cg_form.proofs.Exists.{copies_equal, copies_more, copies_no_number, lefts_less, node_settled, rights_less}
 use Rattle.cg_form.proofs.FormLists.{games_of-append, games_of-take_suc}
-use Rattle.cg_form.proofs.Numbers.{le-numbers}
-use Rattle.cg_form.proofs.Preorder.{equal_refl, equal_trans, le_trans}
-use Rattle.cg_form.proofs.Simplicity.{equal-fits}
+use Rattle.cg_form.proofs.Preorder.{equal_refl, equal_trans}
+use Rattle.cg_form.proofs.Simplicity.{equal-fits, one_number}
 
 -- ---- positions out of range
 
 pub in_range_not : (g : Game) (x : Number) → InRange x → Equal (number x) g → ¬ EqualsOutside g
 in_range_not g x r e o =
-    let same : o.value ≡ x = number_le-same o.value x
-    (le-numbers o.value x (le_trans (number o.value) g (number x) o.equal.0 e.1))
-    (le-numbers x o.value (le_trans (number x) g (number o.value) e.0 o.equal.1)) in
+    let same : o.value ≡ x = one_number o.value x g o.equal e in
     let P : Number → Type 0 = λ z. InRange z in
     o.outside (subst P (sym same) r)
 

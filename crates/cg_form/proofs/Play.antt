@@ -78,7 +78,8 @@ pub equal-second_wins : (g h : Game) → Equal g h
     → IsTrue (left_survives (sum g (negative h))) × IsTrue (right_survives (sum g (negative h)))
 equal-second_wins g h e = (le-survives h g e.1, le-survives_right g h e.0)
 
-pub second_wins-equal : (g h : Game) → IsTrue (left_survives (sum g (negative h))) × IsTrue (right_survives (sum g (negative h))) → Equal g h
+pub second_wins-equal : (g h : Game)
+    → IsTrue (left_survives (sum g (negative h))) × IsTrue (right_survives (sum g (negative h))) → Equal g h
 second_wins-equal g h w = (survives_right-le g h w.1, survives-le h g w.0)
 
 -- ---- by the options
@@ -110,7 +111,9 @@ pub left_survives-unfold : (g : Game) → IsTrue (left_survives g) → (y : Game
 left_survives-unfold g h y m = some_passes left_survives (lefts y)
     (no_one-each (λ y. no_one left_survives (lefts y)) (rights g) (sym (left_survives-options g) ∙ h) y m)
 
-pub left_survives-fold : (g : Game) → ((y : Game) → Among y (rights g) → (z : Game) × Among z (lefts y) × IsTrue (left_survives z)) → IsTrue (left_survives g)
+pub left_survives-fold : (g : Game)
+    → ((y : Game) → Among y (rights g) → (z : Game) × Among z (lefts y) × IsTrue (left_survives z))
+    → IsTrue (left_survives g)
 left_survives-fold g f = left_survives-options g ∙ no_one-all (λ y. no_one left_survives (lefts y)) (rights g)
     (λ y m. let (z, w, k) = f y m in one_passes left_survives (lefts y) z w k)
 
@@ -119,6 +122,8 @@ pub right_survives-unfold : (g : Game) → IsTrue (right_survives g) → (y : Ga
 right_survives-unfold g h y m = some_passes right_survives (rights y)
     (no_one-each (λ y. no_one right_survives (rights y)) (lefts g) (sym (right_survives-options g) ∙ h) y m)
 
-pub right_survives-fold : (g : Game) → ((y : Game) → Among y (lefts g) → (z : Game) × Among z (rights y) × IsTrue (right_survives z)) → IsTrue (right_survives g)
+pub right_survives-fold : (g : Game)
+    → ((y : Game) → Among y (lefts g) → (z : Game) × Among z (rights y) × IsTrue (right_survives z))
+    → IsTrue (right_survives g)
 right_survives-fold g f = right_survives-options g ∙ no_one-all (λ y. no_one right_survives (rights y)) (lefts g)
     (λ y m. let (z, w, k) = f y m in one_passes right_survives (rights y) z w k)

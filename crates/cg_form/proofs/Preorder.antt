@@ -1,5 +1,5 @@
 -- The order of games is reflexive and transitive, and options are on its right side.
-use Rattle.std.proofs.Common.{ℕ, ◌+◌, ◌<◌, arith, zero, suc}
+use Rattle.std.proofs.Common.{◌≡◌, sym, subst, ℕ, ◌+◌, ◌<◌, arith, zero, suc}
 use Rattle.cg_form.specs.Game.{Among, Game, lefts, rights}
 use Rattle.cg_form.specs.Order.{Equal, Le}
 use Rattle.cg_form.specs.Size.{size}
@@ -34,6 +34,13 @@ le_trans_within (suc n) g h k s p q = le-fold g k (record {
 
 pub le_trans : (g h k : Game) → Le g h → Le h k → Le g k
 le_trans g h k p q = le_trans_within (suc (size g + size h + size k)) g h k (omega arith) p q
+
+-- along equations of games
+pub at_left : (x y z : Game) → x ≡ y → Le y z → Le x z
+at_left x y z e l = let P : Game → Type 0 = λ w. Le w z in subst P (sym e) l
+
+pub at_right : (x y z : Game) → x ≡ y → Le z y → Le z x
+at_right x y z e l = let P : Game → Type 0 = λ w. Le z w in subst P (sym e) l
 
 -- ---- equality of games
 

@@ -1,4 +1,5 @@
--- Removing a dominated option, bypassing a reversible one and replacing an option by an equal one keep the value, on either side.
+-- Removing a dominated option, bypassing a reversible one and replacing an option by an equal one keep the value, on
+-- either side.
 use Rattle.std.proofs.Common.{◌≡◌, refl, inl, inr, sym, ◌∙◌, subst, List, ◌∷◌, ◌++◌, Bool, true, false}
 use Rattle.cg_dyadic.specs.Number.{Number}
 use Rattle.cg_form.specs.Bypass.{Covered, bypassed, kept, under}

@@ -1,4 +1,5 @@
--- Where some number fits, the game equals the simplest one; where none fits, a number is compared with the options alone.
+-- Where some number fits, the game equals the simplest one; where none fits, a number is compared with the options
+-- alone.
 use Rattle.std.proofs.Common.{◌≡◌, refl, ℕ, ◌<◌, arith, zero, suc, ◌⊎◌, inl, inr, subst, List, [], ◌∷◌}
 use Rattle.cg_dyadic.specs.Number.{AmongNumbers, Number, NumberLe, number_le, number_lefts, number_rights, weight}
 use Rattle.cg_dyadic.specs.Simplest.{Simpler}
@@ -10,7 +11,7 @@ use Rattle.cg_form.specs.Game.{Among, Game, lefts, number, rights}
 use Rattle.cg_form.specs.Order.{Equal, Le, le}
 use Rattle.cg_form.specs.Simple.{FitsIn, NoNumber, SimplestValue}
 use Rattle.cg_form.proofs.Among.{among-map}
-use Rattle.cg_form.proofs.Numbers.{numbers-le}
+use Rattle.cg_form.proofs.Numbers.{le-numbers, numbers-le}
 use Rattle.cg_form.proofs.Order.{all-or-some, le-fold, le-unfold}
 use Rattle.cg_form.proofs.Preorder.{le_trans}
 
@@ -128,3 +129,8 @@ equal-fits x g e = record {
 
 pub none_fits : (g : Game) → NoNumber g → (x : Number) → ¬ FitsIn x g
 none_fits g n x f = let s = simplicity x g f in n s.value s.equal
+
+-- a game equals one number at most
+pub one_number : (x y : Number) (g : Game) → Equal (number x) g → Equal (number y) g → x ≡ y
+one_number x y g e f = number_le-same x y (le-numbers x y (le_trans (number x) g (number y) e.0 f.1))
+    (le-numbers y x (le_trans (number y) g (number x) f.0 e.1))

@@ -199,7 +199,11 @@ mutual
 
 -- equal by structure are the same games, and no others
 pub game_cmp-both : (g h : Game) → (game_cmp g h ≡ Equal → g ≡ h) × (g ≡ h → game_cmp g h ≡ Equal)
-game_cmp-both g h = (game_cmp-same g h, λ e. let P : Game → Type 0 = λ z. game_cmp g z ≡ Equal in subst P e (game_cmp-refl g))
+game_cmp-both g h = (
+  game_cmp-same g h,
+  λ e. let P : Game → Type 0 = λ z. game_cmp g z ≡ Equal in
+      subst P e (game_cmp-refl g),
+)
 
 -- for the code
 pub compared_same : (o : Ordering) (g h : Game) → o ≡ game_cmp g h → (o ≡ Equal → g ≡ h) × (g ≡ h → o ≡ Equal)

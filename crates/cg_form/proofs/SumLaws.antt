@@ -1,19 +1,13 @@
 -- Sums commute and associate, and nothing is neutral, up to equality of games.
-use Rattle.std.proofs.Common.{◌≡◌, ℕ, ◌+◌, ◌<◌, arith, zero, suc, inl, inr, ap, sym, ◌∙◌, subst}
+use Rattle.std.proofs.Common.{ℕ, ◌+◌, ◌<◌, arith, zero, suc, inl, inr, ap, ◌∙◌}
 use Rattle.cg_form.specs.Game.{Game}
 use Rattle.cg_form.specs.Order.{Equal, Le}
 use Rattle.cg_form.specs.Size.{size}
 use Rattle.cg_form.specs.Sum.{nothing, sum}
-use Rattle.cg_form.proofs.Preorder.{le-cofinal, le_trans}
+use Rattle.cg_form.proofs.Preorder.{at_left, at_right, le-cofinal, le_trans}
 use Rattle.cg_form.proofs.Size.{size-lefts, size-rights}
 use Rattle.cg_form.proofs.Sum.{sum-left_cases, sum-left_first, sum-left_second, sum-right_cases, sum-right_first, sum-right_second}
-use Rattle.cg_form.proofs.SumOrder.{sum-le}
-
-at_left : (x y z : Game) → x ≡ y → Le y z → Le x z
-at_left x y z e l = let P : Game → Type 0 = λ w. Le w z in subst P (sym e) l
-
-at_right : (x y z : Game) → x ≡ y → Le z y → Le z x
-at_right x y z e l = let P : Game → Type 0 = λ w. Le z w in subst P (sym e) l
+use Rattle.cg_form.proofs.SumOrder.{le-sum, sum-le}
 
 pub sum_comm_within : (n : ℕ) (g h : Game) → size g + size h < n → Le (sum g h) (sum h g)
 sum_comm_within zero g h s = absurd (omega arith)
@@ -38,6 +32,10 @@ pub sum-le_second : (a b c : Game) → Le a b → Le (sum c a) (sum c b)
 sum-le_second a b c p =
     le_trans (sum c a) (sum a c) (sum c b) (sum_comm c a)
     (le_trans (sum a c) (sum b c) (sum c b) (sum-le a b c p) (sum_comm b c))
+
+pub le-sum_second : (a b c : Game) → Le (sum c a) (sum c b) → Le a b
+le-sum_second a b c h = le-sum a b c (le_trans (sum a c) (sum c a) (sum b c) (sum_comm a c)
+    (le_trans (sum c a) (sum c b) (sum b c) h (sum_comm c b)))
 
 pub sum_assoc_within : (n : ℕ) (g h k : Game) → size g + size h + size k < n → Le (sum (sum g h) k) (sum g (sum h k))
 sum_assoc_within zero g h k s = absurd (omega arith)

@@ -1,16 +1,15 @@
 -- Equal canonical games are the same.
 use Rattle.std.proofs.Common.{◌≡◌, ℕ, ◌+◌, ◌<◌, arith, zero, suc, inl, inr, ap, sym, ◌∙◌, subst, Bool, true, false}
-use Rattle.cg_dyadic.proofs.Values.{number_le-same}
 use Rattle.cg_form.specs.Canonical.{Canonical, IsCanonicalForm, Reduced}
 use Rattle.cg_form.specs.Game.{Among, Game, number, of_list, options, to_list}
 use Rattle.cg_form.specs.Order.{Equal}
 use Rattle.cg_form.specs.Side.{AtMost, near}
 use Rattle.cg_form.specs.Size.{size}
 use Rattle.cg_form.proofs.Among.{of_list-to_list}
-use Rattle.cg_form.proofs.Numbers.{le-numbers}
-use Rattle.cg_form.proofs.Preorder.{equal_trans}
+use Rattle.cg_form.proofs.Preorder.{equal_refl, equal_trans}
 use Rattle.cg_form.proofs.Reduced.{canonical-near, reduced-apart, reduced-rises, reduced-stays}
 use Rattle.cg_form.proofs.Sides.{equal_side, not_near, side_breaks, side_equal, side_trans, size-near}
+use Rattle.cg_form.proofs.Simplicity.{one_number}
 use Rattle.cg_form.proofs.Structure.{rises-same}
 
 -- of two equal games, the first reduced, each option of the first is no better than one of the second
@@ -47,7 +46,7 @@ same_side s g h r q c d e same = rises-same (near s g) (near s h) (reduced-rises
 pub canonical_same_within : (n : ℕ) (g h : Game) → size g + size h < n → Canonical g → Canonical h → Equal g h → g ≡ h
 canonical_same_within zero g h s c d e = absurd (omega arith)
 canonical_same_within (suc n) (number x) (number y) s c d e =
-    ap number (number_le-same x y (le-numbers x y e.0) (le-numbers y x e.1))
+    ap number (one_number x y (number y) e (equal_refl (number y)))
 canonical_same_within (suc n) (number x) (options cs ds) s c d e = absurd (d.0.no_number x e)
 canonical_same_within (suc n) (options ls rs) (number y) s c d e = absurd (c.0.no_number y (e.1, e.0))
 canonical_same_within (suc n) (options ls rs) (options cs ds) s c d e =

@@ -11,9 +11,15 @@ pub mod Simple
 pub mod Structure
 pub mod Canonical
 pub mod Range
+pub mod Translate
+pub mod Shifted
+pub mod Stops
+pub mod Heights
+pub mod Walls
 pub mod Depth
 pub mod Side
 pub mod Cut
 pub mod Best
 pub mod Bypass
+pub mod Sorted
 pub mod Known

@@ -21,3 +21,12 @@ pub record SimplestValue (g : Game) : Type 0 where
 -- g equals no number
 abbrev pub NoNumber : Game → Type 0
 NoNumber g = (x : Number) → ¬ Equal (number x) g
+
+-- the game equals a number, or none
+abbrev pub Decided : Game → Type 0
+Decided g = ((x : Number) × Equal (number x) g) ⊎ NoNumber g
+
+-- what tells of each game whether it equals a number, and which. By the laws `l6` and `l7` there is one, and stops and
+-- walls are the same by each.
+abbrev pub Decides : Type 0
+Decides = (g : Game) → Decided g

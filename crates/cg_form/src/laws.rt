@@ -3,16 +3,25 @@
 //! `order`, `sums` and `play` state the definitions of specs/ by their options, in the textbook's
 //! words and both ways, so that nobody has to believe the bounds by which those definitions
 //! recurse.
-ghost use Rattle.std.specs.Prelude.{◌↔◌, ◌≡◌, ◌⊎◌, ◌++◌, ◌∷◌, [], IsTrue, List, map, ℤ};
-ghost use Rattle.cg_dyadic.specs.Number.{Number, NumberLe, whole};
+ghost use Rattle.std.specs.Prelude.{◌↔◌, ◌≡◌, ◌⊎◌, ◌++◌, ◌∷◌, [], IsTrue, List, map};
+ghost use Rattle.std.specs.Prelude.{ℕ, ◌+◌, ◌*◌, ◌≤◌, ℤ, pos, ◌≤ℤ◌, ◌+ℤ◌, ◌-ℤ◌};
+ghost use Rattle.cg_dyadic.specs.Number.{Number, NumberLe, exp_of, whole};
+ghost use Rattle.cg_dyadic.specs.Exact.{IsSum};
+ghost use Rattle.cg_dyadic.specs.Units.{units};
 ghost use Rattle.cg_form.specs.Game.{Game, number, node, Among, lefts, rights};
 ghost use Rattle.cg_form.specs.Order.{Le, Equal};
 ghost use Rattle.cg_form.specs.Structure.{Before, game_cmp};
 ghost use Rattle.cg_form.specs.Sum.{sum, negative, nothing};
 ghost use Rattle.cg_form.specs.Play.{left_survives, right_survives};
 ghost use Rattle.cg_form.specs.Outcome.{left_wins, right_wins, previous_wins, next_wins, outcome};
-ghost use Rattle.cg_form.specs.Simple.{FitsIn, NoNumber, SimplestValue};
-ghost use Rattle.cg_form.specs.Canonical.{IsCanonicalForm, LeftAbove, RightBelow};
+ghost use Rattle.cg_form.specs.Simple.{FitsIn, NoNumber, SimplestValue, Decided, Decides};
+ghost use Rattle.cg_form.specs.Translate.{translated};
+ghost use Rattle.cg_form.specs.Canonical.{Canonical, IsCanonicalForm, LeftAbove, RightBelow};
+ghost use Rattle.cg_form.specs.Shifted.{number_sum, shifted, CanonicalUpToOrder};
+ghost use Rattle.cg_form.specs.Sorted.{sorted};
+ghost use Rattle.cg_form.specs.Stops.{stops, stops_by, greatest_number, least_number};
+ghost use Rattle.cg_form.specs.Heights.{height};
+ghost use Rattle.cg_form.specs.Walls.{walls, walls_by, scaffold_of, TemperatureIs, MeanIs, AtNext};
 
 use std::cmp::Ordering;
 
@@ -93,6 +102,25 @@ pub fn l3()
     ensures no_rights { (g : Game) → rights g ≡ [] → (n : ℤ) × Equal (number (whole n)) g }
 {}
 
+/// Number translation: x + G = {x + A | x + B} where G equals no number.
+///
+/// Adding x to each number of a canonical game G, positions included, gives x + G in canonical
+/// form, but for the order of the options. Sorting the options of every position of a game keeps
+/// its value, and makes it canonical if it was but for the order; so the sorted tree is the
+/// canonical form of x + G.
+pub fn l4()
+    ensures translation { (x : Number) (g : Game) → NoNumber g → Equal (sum (number x) g) (translated x g) }
+    ensures number_sum { (x y : Number) → IsSum x y (number_sum x y) }
+    ensures shifted { (x : Number) (g : Game) → Canonical g → CanonicalUpToOrder (shifted x g) }
+    ensures shifted_equal { (x : Number) (g : Game) → Canonical g → Equal (shifted x g) (sum (number x) g) }
+    ensures sorted_lefts { (g b : Game) → Among b (lefts (sorted g))
+        ↔ ((a : Game) × Among a (lefts g) × (b ≡ sorted a)) }
+    ensures sorted_rights { (g b : Game) → Among b (rights (sorted g))
+        ↔ ((a : Game) × Among a (rights g) × (b ≡ sorted a)) }
+    ensures sorted { (g : Game) → CanonicalUpToOrder g → IsCanonicalForm g (sorted g) }
+    ensures form { (x : Number) (g : Game) → Canonical g → IsCanonicalForm (sum (number x) g) (sorted (shifted x g)) }
+{}
+
 /// Canonical forms: every game equals exactly one. Removing a dominated option and bypassing a
 /// reversible one keep the value. Where a game equals no number and an option is reversible through
 /// a number, another option is as good as that number, and so dominates what the bypass brings in.
@@ -111,4 +139,79 @@ pub fn l5()
         → Among (number x) (rights a) → Le (number x) g → LeftAbove g a x }
     ensures right_through_number { (g a : Game) (x : Number) → NoNumber g → Among a (rights g)
         → Among (number x) (lefts a) → Le g (number x) → RightBelow g a x }
+{}
+
+/// Stops by the options: both stops of a game are the number that it equals; where it equals none,
+/// the Left stop is the greatest Right stop of a Left option, and the Right stop the least Left
+/// stop of a Right option.
+///
+/// Whether a game equals a number is decided, and the stops are the same by whatever decides it.
+/// The Left stop is never less than the Right stop; a number less than the Right stop is less than
+/// the game, and one greater than the Left stop is greater than the game. Equal games have equal
+/// stops.
+pub fn l6()
+    ensures decided { (g : Game) → Decided g }
+    ensures unique { (d e : Decides) (g : Game) → stops d g ≡ stops e g }
+    ensures options { (d : Decides) (g : Game) → stops d g ≡ stops_by g (d g) (record {
+      left = greatest_number (map (λ a. (stops d a).right) (lefts g));
+      right = least_number (map (λ b. (stops d b).left) (rights g));
+    }) }
+    ensures ordered { (d : Decides) (g : Game) → NumberLe (stops d g).right (stops d g).left }
+    ensures below { (d : Decides) (g : Game) (x : Number) → ¬ NumberLe (stops d g).right x
+        → Le (number x) g × (¬ Le g (number x)) }
+    ensures above { (d : Decides) (g : Game) (x : Number) → ¬ NumberLe x (stops d g).left
+        → Le g (number x) × (¬ Le (number x) g) }
+    ensures equal { (d : Decides) (g h : Game) → Equal g h → stops d g ≡ stops d h }
+{}
+
+/// Walls by the options, in whole units of a scale s of at least the height of the game.
+///
+/// A number that equals the game, and each of its stops, needs no more binary places than the
+/// height, so it is a whole number of units; at t = 0 the walls are the stops.
+///
+/// From t to t + 1 the left wall falls by 0 or 1, and the right wall rises by 0 or 1; the left wall
+/// is never less than the right wall. Where the game equals no number, the left scaffold starts at
+/// least as great as the right one, and the scaffolds agree at some t, so that it has a temperature
+/// and a mean: up to the temperature the walls are the scaffolds, and from there on both stay at
+/// the mean. At the scale s + 1 a wall at 2 t is twice that at t, and at 2 t + 1 the sum of those
+/// at t and t + 1, so no wall bends between whole units.
+///
+/// If G >= H, each wall of G is at least that of H; if not G <= H, the left wall of G is at least
+/// the right wall of H less t. Equal games have equal walls, temperatures and means.
+pub fn l7()
+    ensures options { (d : Decides) (s t : ℕ) (g : Game) → walls d s t g ≡ walls_by g (d g) s (scaffold_of d s g) t }
+    ensures unique { (d e : Decides) (s t : ℕ) (g : Game) → walls d s t g ≡ walls e s t g }
+    ensures left_falls { (d : Decides) (s t : ℕ) (g : Game) → ((walls d s (t + 1) g).left ≤ℤ (walls d s t g).left)
+        × ((walls d s t g).left ≤ℤ ((walls d s (t + 1) g).left +ℤ pos 1)) }
+    ensures right_rises { (d : Decides) (s t : ℕ) (g : Game) → ((walls d s t g).right ≤ℤ (walls d s (t + 1) g).right)
+        × ((walls d s (t + 1) g).right ≤ℤ ((walls d s t g).right +ℤ pos 1)) }
+    ensures number_places { (g : Game) (x : Number) → Equal (number x) g → exp_of x ≤ height g }
+    ensures stop_places { (d : Decides) (g : Game) → (exp_of (stops d g).left ≤ height g)
+        × (exp_of (stops d g).right ≤ height g) }
+    ensures at_zero { (d : Decides) (s : ℕ) (g : Game) → height g ≤ s
+        → ((walls d s 0 g).left ≡ units s (stops d g).left) × ((walls d s 0 g).right ≡ units s (stops d g).right) }
+    ensures ordered { (d : Decides) (s t : ℕ) (g : Game) → height g ≤ s
+        → (walls d s t g).right ≤ℤ (walls d s t g).left }
+    ensures start { (d : Decides) (s : ℕ) (g : Game) → height g ≤ s → NoNumber g
+        → (scaffold_of d s g 0).right ≤ℤ (scaffold_of d s g 0).left }
+    ensures temperature { (d : Decides) (s : ℕ) (g : Game) → height g ≤ s → NoNumber g
+        → (t : ℕ) × TemperatureIs d s g t }
+    ensures below { (d : Decides) (s : ℕ) (g : Game) (t : ℕ) → height g ≤ s → NoNumber g → TemperatureIs d s g t
+        → (u : ℕ) → u ≤ t → walls d s u g ≡ scaffold_of d s g u }
+    ensures mast { (d : Decides) (s : ℕ) (g : Game) (t : ℕ) → height g ≤ s → NoNumber g → TemperatureIs d s g t
+        → (u : ℕ) → t ≤ u → walls d s u g ≡ scaffold_of d s g t }
+    ensures finer { (d : Decides) (s : ℕ) (g : Game) → height g ≤ s → (t : ℕ) → AtNext (walls d (s + 1) (2 * t) g)
+        (walls d (s + 1) (2 * t + 1) g) (walls d s t g) (walls d s (t + 1) g) }
+    ensures greater_left { (d : Decides) (s : ℕ) (g h : Game) → height g ≤ s → height h ≤ s → Le h g
+        → (t : ℕ) → (walls d s t h).left ≤ℤ (walls d s t g).left }
+    ensures greater_right { (d : Decides) (s : ℕ) (g h : Game) → height g ≤ s → height h ≤ s → Le h g
+        → (t : ℕ) → (walls d s t h).right ≤ℤ (walls d s t g).right }
+    ensures not_less { (d : Decides) (s : ℕ) (g h : Game) → height g ≤ s → height h ≤ s → ¬ Le g h
+        → (t : ℕ) → ((walls d s t h).right -ℤ pos t) ≤ℤ (walls d s t g).left }
+    ensures equal { (d : Decides) (s : ℕ) (g h : Game) → height g ≤ s → height h ≤ s → Equal g h
+        → (t : ℕ) → walls d s t g ≡ walls d s t h }
+    ensures equal_temperature { (d : Decides) (s : ℕ) (g h : Game) → height g ≤ s → height h ≤ s
+        → NoNumber g → NoNumber h → Equal g h → (t : ℕ) → TemperatureIs d s g t → TemperatureIs d s h t }
+    ensures equal_mean { (d : Decides) (s : ℕ) (g h : Game) (m : ℤ) → height g ≤ s → height h ≤ s
+        → NoNumber g → NoNumber h → Equal g h → MeanIs d s g m → MeanIs d s h m }
 {}

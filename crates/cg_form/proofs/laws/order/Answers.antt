@@ -5,7 +5,10 @@ use Rattle.cg_form.proofs.Removed.{left_swapped, right_swapped}
 use Rattle.cg_form.proofs.laws.order.Goals as goal
 
 pub returns-clause-textbook : goal.returns-clause-textbook
-returns-clause-textbook c = λ g h. (λ p. let f = le-unfold g h p in (f.on_left, f.on_right), λ q. le-fold g h (record { on_left = q.0; on_right = q.1 }))
+returns-clause-textbook c = λ g h. (
+  λ p. let f = le-unfold g h p in (f.on_left, f.on_right),
+  λ q. le-fold g h (record { on_left = q.0; on_right = q.1 }),
+)
 
 pub returns-clause-left_option : goal.returns-clause-left_option
 returns-clause-left_option c = not_le-left

@@ -1,0 +1,230 @@
+-- A canonical game that is shifted by a number is canonical, but for the order of its options.
+use Rattle.std.proofs.Common.{Bool, true, false, ◌≡◌, refl, ℕ, ◌+◌, ◌<◌, arith, zero, suc, inl, inr, ap, sym, ◌∙◌, subst, List, ◌∷◌, map, ℤ, ◌-ℤ◌}
+use Rattle.std.proofs.lemmas.Int.{ints}
+use Rattle.cg_dyadic.specs.Exact.{IsSum, sum_num}
+use Rattle.cg_dyadic.specs.Number.{Number, exp_of, ratio}
+use Rattle.cg_dyadic.specs.Units.{units}
+use Rattle.cg_dyadic.proofs.Fractions.{fraction-ratio}
+use Rattle.cg_dyadic.proofs.Scale.{exp-ratio, units-ratio}
+use Rattle.cg_dyadic.proofs.Sums.{sum-units}
+use Rattle.cg_form.specs.Canonical.{AllCanonical, Canonical}
+use Rattle.cg_form.specs.Game.{Among, Game, Games, more, none, number, options, to_list}
+use Rattle.cg_form.specs.Order.{Equal, Le}
+use Rattle.cg_form.specs.Shifted.{AllUpToOrder, CanonicalUpToOrder, Distinct, ReducedUpToOrder, number_sum, shifted, shifted_all}
+use Rattle.cg_form.specs.Side.{AtMost, far, near}
+use Rattle.cg_form.specs.Simple.{NoNumber}
+use Rattle.cg_form.specs.Size.{size}
+use Rattle.cg_form.specs.Structure.{Rises}
+use Rattle.cg_form.specs.Sum.{sum}
+use Rattle.cg_form.specs.Translate.{translated}
+use Rattle.cg_form.proofs.Among.{among_map, among_mapped, carry}
+use Rattle.cg_form.proofs.Bypass.{number_stays}
+use Rattle.cg_form.proofs.Preorder.{at_left, at_right, equal_trans, le-cofinal, le_trans}
+use Rattle.cg_form.proofs.Reduced.{canonical-far, canonical-left, canonical-near, canonical-right, reduced-apart, reduced-stays}
+use Rattle.cg_form.proofs.Sides.{side_refl}
+use Rattle.cg_form.proofs.Size.{size-lefts, size-rights}
+use Rattle.cg_form.proofs.Structure.{before_not_same}
+use Rattle.cg_form.proofs.SumLaws.{le-sum_second}
+use Rattle.cg_form.proofs.SumNumbers.{sums}
+use Rattle.cg_form.proofs.Translation.{left_cases, left_of, right_cases, right_of, translation}
+
+-- ---- numbers
+
+pub number_sum-is : (x y : Number) → IsSum x y (number_sum x y)
+number_sum-is x y = fraction-ratio (sum_num x y) (exp_of x + exp_of y)
+
+number_sum-equal : (x y : Number) → Equal (number (number_sum x y)) (sum (number x) (number y))
+number_sum-equal x y =
+    let s : ℕ = exp_of x + exp_of y in
+    let z : Number = number_sum x y in
+    let a = exp-ratio (sum_num x y) s in
+    let u = sum-units s x y z (omega arith) (omega arith) a (number_sum-is x y) in
+    let r = sums s x y z (omega arith) (omega arith) a in
+    (r.ge_to (omega (arith, ints)), r.le_to (omega (arith, ints)))
+
+-- the number that is x less
+difference : (x z : Number) → (w : Number) × Equal (sum (number x) (number w)) (number z)
+difference x z =
+    let s : ℕ = exp_of x + exp_of z in
+    let n : ℤ = units s z -ℤ units s x in
+    let a = exp-ratio n s in let b = units-ratio n s in
+    let r = sums s x (ratio n s) z (omega arith) a (omega arith) in
+    (ratio n s, (r.le_to (omega (arith, ints)), r.ge_to (omega (arith, ints))))
+
+pub sum-no_number : (x : Number) (g : Game) → NoNumber g → NoNumber (sum (number x) g)
+sum-no_number x g n z e =
+    let (w, f) = difference x z in
+    n w (
+      le-sum_second (number w) g (number x)
+          (le_trans (sum (number x) (number w)) (number z) (sum (number x) g) f.0 e.0),
+      le-sum_second g (number w) (number x)
+          (le_trans (sum (number x) g) (number z) (sum (number x) (number w)) e.1 f.1),
+    )
+
+-- ---- shifted lists
+
+shifted-list : (x : Number) (gs : Games) → to_list (shifted_all x gs) ≡ map (λ a. shifted x a) (to_list gs)
+shifted-list x none = refl
+shifted-list x (more g gs) = ap (λ z. shifted x g ∷ z) (shifted-list x gs)
+
+-- a Left option of a shifted node is a shifted Left option
+list-case : (x : Number) (gs : Games) (b : Game) → Among b (to_list (shifted_all x gs))
+    → (a : Game) × Among a (to_list gs) × (b ≡ shifted x a)
+list-case x gs b m = among_map (λ a. shifted x a) b (to_list gs)
+    (carry b (to_list (shifted_all x gs)) (map (λ a. shifted x a) (to_list gs)) (shifted-list x gs) m)
+
+list-in : (x : Number) (gs : Games) (a : Game) → Among a (to_list gs) → Among (shifted x a) (to_list (shifted_all x gs))
+list-in x gs a m = carry (shifted x a) (map (λ a. shifted x a) (to_list gs)) (to_list (shifted_all x gs))
+    (sym (shifted-list x gs)) (among_mapped (λ a. shifted x a) a (to_list gs) m)
+
+-- ---- the value of a shifted game
+
+shifted_node : (x : Number) (ls rs : Games) → NoNumber (options ls rs)
+    → ((a : Game) → Among a (to_list ls) → Equal (shifted x a) (sum (number x) a))
+    → ((b : Game) → Among b (to_list rs) → Equal (shifted x b) (sum (number x) b))
+    → Equal (shifted x (options ls rs)) (sum (number x) (options ls rs))
+shifted_node x ls rs n l r =
+    let g : Game = options ls rs in
+    let f : Game → Game = λ a. sum (number x) a in
+    let k : Game = shifted x g in
+    let h : Game = translated x g in
+    let e : Equal k h = (
+      le-cofinal k h
+          (λ t m. let (a, i, q) = list-case x ls t m in
+          (f a, left_of x g a i, at_left t (shifted x a) (f a) q (l a i).0))
+          (λ t m. let (a, i, q) = right_cases x g t m in
+          (shifted x a, list-in x rs a i, at_right t (f a) (shifted x a) q (r a i).0)),
+      le-cofinal h k
+          (λ t m. let (a, i, q) = left_cases x g t m in
+          (shifted x a, list-in x ls a i, at_left t (f a) (shifted x a) q (l a i).1))
+          (λ t m. let (a, i, q) = list-case x rs t m in
+          (f a, right_of x g a i, at_right t (shifted x a) (f a) q (r a i).1)),
+    ) in
+    let t = translation x g n in
+    equal_trans k h (sum (number x) g) e (t.1, t.0)
+
+shifted-equal_within : (n : ℕ) (x : Number) (g : Game) → size g < n → Canonical g
+    → Equal (shifted x g) (sum (number x) g)
+shifted-equal_within zero x g s c = absurd (omega arith)
+shifted-equal_within (suc n) x (number y) s c = number_sum-equal x y
+shifted-equal_within (suc n) x (options ls rs) s c =
+    let g : Game = options ls rs in
+    shifted_node x ls rs c.0.no_number
+    (λ a m. let u = size-lefts g a m in shifted-equal_within n x a (omega arith) (canonical-left g a c m))
+    (λ b m. let u = size-rights g b m in shifted-equal_within n x b (omega arith) (canonical-right g b c m))
+
+pub shifted-equal : (x : Number) (g : Game) → Canonical g → Equal (shifted x g) (sum (number x) g)
+shifted-equal x g c = shifted-equal_within (suc (size g)) x g (omega arith) c
+
+-- shifting keeps the order, both ways
+shifted-back : (x : Number) (a b : Game) → Canonical a → Canonical b → Le (shifted x a) (shifted x b) → Le a b
+shifted-back x a b c d h =
+    le-sum_second a b (number x) (le_trans (sum (number x) a) (shifted x a) (sum (number x) b) (shifted-equal x a c).1
+    (le_trans (shifted x a) (shifted x b) (sum (number x) b) h (shifted-equal x b d).0))
+
+shifted-no_number : (x : Number) (g : Game) → Canonical g → NoNumber g → NoNumber (shifted x g)
+shifted-no_number x g c n z e = sum-no_number x g n z
+    (equal_trans (number z) (shifted x g) (sum (number x) g) e (shifted-equal x g c))
+
+-- ---- no game twice
+
+not_after : (g : Game) (gs : List Game) → Rises (g ∷ gs) → ¬ Among g gs
+not_after g gs r m = before_not_same g g (r.0 g m) refl
+
+distinct_shifted : (x : Number) (gs : Games) → Rises (to_list gs)
+    → ((a b : Game) → Among a (to_list gs) → Among b (to_list gs) → shifted x a ≡ shifted x b → a ≡ b)
+    → Distinct (to_list (shifted_all x gs))
+distinct_shifted x none r f = tt
+distinct_shifted x (more g gs) r f = (
+  (λ m. let (a, i, e) = list-case x gs (shifted x g) m in
+      let P : Game → Type 0 = λ z. Among z (to_list gs) in
+      not_after g (to_list gs) r (subst P (sym (f g a (inl refl) (inr i) e)) i)),
+  distinct_shifted x gs r.1 (λ a b m w e. f a b (inr m) (inr w) e),
+)
+
+-- ---- reduced, but for the order
+
+near_case : (s : Bool) (x : Number) (ls rs : Games) (b : Game) → Among b (near s (shifted x (options ls rs)))
+    → (a : Game) × Among a (near s (options ls rs)) × (b ≡ shifted x a)
+near_case true x ls rs b m = list-case x ls b m
+near_case false x ls rs b m = list-case x rs b m
+
+far_case : (s : Bool) (x : Number) (ls rs : Games) (b : Game) → Among b (far s (shifted x (options ls rs)))
+    → (a : Game) × Among a (far s (options ls rs)) × (b ≡ shifted x a)
+far_case true x ls rs b m = list-case x rs b m
+far_case false x ls rs b m = list-case x ls b m
+
+-- shifting keeps the order, as either side sees it
+side_back : (s : Bool) (x : Number) (a b : Game) → Canonical a → Canonical b → AtMost s (shifted x a) (shifted x b)
+    → AtMost s a b
+side_back true x a b c d h = shifted-back x a b c d h
+side_back false x a b c d h = shifted-back x b a d c h
+
+same_shifted : (s : Bool) (x : Number) (ls rs : Games) → Canonical (options ls rs)
+    → (a b : Game) → Among a (near s (options ls rs)) → Among b (near s (options ls rs))
+    → AtMost s (shifted x a) (shifted x b) → a ≡ b
+same_shifted s x ls rs c a b m w h =
+    let g : Game = options ls rs in
+    reduced-apart s g c.0 a b m w (side_back s x a b (canonical-near s g a c m) (canonical-near s g b c w) h)
+
+shifted_apart : (s : Bool) (x : Number) (ls rs : Games) → Canonical (options ls rs)
+    → (a b : Game) → Among a (near s (shifted x (options ls rs))) → Among b (near s (shifted x (options ls rs)))
+    → AtMost s a b → a ≡ b
+shifted_apart s x ls rs c a b m w h =
+    let (d, i, e) = near_case s x ls rs a m in
+    let (q, j, f) = near_case s x ls rs b w in
+    let P : Game → Type 0 = λ z. AtMost s z b in
+    let Q : Game → Type 0 = λ z. AtMost s (shifted x d) z in
+    e ∙ ap (λ z. shifted x z) (same_shifted s x ls rs c d q i j (subst Q f (subst P e h))) ∙ sym f
+
+-- an option a that is the shifted d is irreversible: d is a number, or its options are shifted options
+stays_at : (s : Bool) (x : Number) (ls rs : Games) → Canonical (options ls rs)
+    → (d : Game) → Among d (near s (options ls rs)) → (a : Game) → a ≡ shifted x d
+    → Among a (near s (shifted x (options ls rs))) → (b : Game) → Among b (far s a)
+    → ¬ AtMost s b (shifted x (options ls rs))
+stays_at s x ls rs c (number y) i a e m b w l =
+    let g : Game = options ls rs in
+    number_stays s (shifted x g) (shifted-no_number x g c c.0.no_number) (shifted_apart s x ls rs c) a
+    (number_sum x y) e m b w l
+stays_at s x ls rs c (options us vs) i a e m b w l =
+    let g : Game = options ls rs in
+    let d : Game = options us vs in
+    let P : Game → Type 0 = λ z. Among b (far s z) in
+    let (q, j, f) = far_case s x us vs b (subst P e w) in
+    let Q : Game → Type 0 = λ z. AtMost s z (shifted x g) in
+    reduced-stays s g c.0 d q i j (side_back s x q g (canonical-far s d q (canonical-near s g d c i) j) c (subst Q f l))
+
+shifted_stays : (s : Bool) (x : Number) (ls rs : Games) → Canonical (options ls rs)
+    → (a b : Game) → Among a (near s (shifted x (options ls rs))) → Among b (far s a)
+    → ¬ AtMost s b (shifted x (options ls rs))
+shifted_stays s x ls rs c a b m w l =
+    let (d, i, e) = near_case s x ls rs a m in stays_at s x ls rs c d i a e m b w l
+
+shifted_distinct : (s : Bool) (x : Number) (ls rs : Games) → Canonical (options ls rs)
+    → (a b : Game) → Among a (near s (options ls rs)) → Among b (near s (options ls rs)) → shifted x a ≡ shifted x b
+    → a ≡ b
+shifted_distinct s x ls rs c a b m w e =
+    let P : Game → Type 0 = λ z. AtMost s (shifted x a) z in
+    same_shifted s x ls rs c a b m w (subst P e (side_refl s (shifted x a)))
+
+shifted-reduced : (x : Number) (ls rs : Games) → Canonical (options ls rs)
+    → ReducedUpToOrder (shifted x (options ls rs))
+shifted-reduced x ls rs c = record {
+  left_undominated = λ a m v. v.other (shifted_apart true x ls rs c a v.by m v.option v.worse);
+  right_undominated = λ a m v. v.other (shifted_apart false x ls rs c a v.by m v.option v.worse);
+  left_irreversible = λ a m v. shifted_stays true x ls rs c a v.through m v.answer v.back;
+  right_irreversible = λ a m v. shifted_stays false x ls rs c a v.through m v.answer v.back;
+  lefts_distinct = distinct_shifted x ls c.0.lefts_rise (shifted_distinct true x ls rs c);
+  rights_distinct = distinct_shifted x rs c.0.rights_rise (shifted_distinct false x ls rs c);
+  no_number = shifted-no_number x (options ls rs) c c.0.no_number;
+}
+
+mutual
+  pub shifted-up_to_order : (x : Number) (g : Game) → Canonical g → CanonicalUpToOrder (shifted x g)
+  shifted-up_to_order x (number y) c = tt
+  shifted-up_to_order x (options ls rs) c =
+      (shifted-reduced x ls rs c, all-up_to_order x ls c.1, all-up_to_order x rs c.2)
+
+  all-up_to_order : (x : Number) (gs : Games) → AllCanonical gs → AllUpToOrder (shifted_all x gs)
+  all-up_to_order x none c = tt
+  all-up_to_order x (more g gs) c = (shifted-up_to_order x g c.0, all-up_to_order x gs c.1)

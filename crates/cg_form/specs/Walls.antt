@@ -1,0 +1,87 @@
+-- Thermographs: the walls of a game at a temperature t, and its temperature and mean. Values and temperatures are whole
+-- numbers of units of 1 / 2 ^ s, for a scale s of at least the height of the game.
+-- Siegel, Combinatorial Game Theory (2013), II.5: scaffolds, walls, temperature and mean. The law function `l7` states
+-- the rule of the walls as it stands here, and that they are the scaffolds up to the temperature and the mast above it;
+-- the bound below only makes the recursion end.
+use Rattle.std.specs.Prelude.{ℕ, zero, suc, ◌≡◌, ◌<◌, List, [], ◌∷◌, map, cond, ℤ, pos, ◌+ℤ◌, ◌-ℤ◌}
+use lib.Signed.{le_z}
+use mathlib.Core.Logic.{inl, inr}
+use Rattle.cg_dyadic.specs.Units.{units}
+use Rattle.cg_form.specs.Game.{Game, lefts, rights}
+use Rattle.cg_form.specs.Simple.{Decided, Decides}
+use Rattle.cg_form.specs.Size.{size}
+
+-- ---- walls
+
+pub record Walls : Type 0 where
+  pub left : ℤ
+  pub right : ℤ
+
+-- the greatest and the least of a list, which are asked only of lists that are not empty
+abbrev pub greater : ℤ → ℤ → ℤ
+greater a b = cond (le_z a b) b a
+
+abbrev pub greatest : List ℤ → ℤ
+greatest [] = pos 0
+greatest (x ∷ []) = x
+greatest (x ∷ (y ∷ ys)) = greater x (greatest (y ∷ ys))
+
+abbrev pub less : ℤ → ℤ → ℤ
+less a b = cond (le_z a b) a b
+
+abbrev pub least : List ℤ → ℤ
+least [] = pos 0
+least (x ∷ []) = x
+least (x ∷ (y ∷ ys)) = less x (least (y ∷ ys))
+
+-- the scaffolds at t, where w has the walls of the options: the greatest right wall of a Left option minus t, and the
+-- least left wall of a Right option plus t
+abbrev pub scaffold : (ℕ → Game → Walls) → Game → ℕ → Walls
+scaffold w g t = record {
+  left = greatest (map (λ a. (w t a).right) (lefts g)) -ℤ pos t;
+  right = least (map (λ b. (w t b).left) (rights g)) +ℤ pos t;
+}
+
+-- the scaffolds f at t while the left one is at least the right one, and from there on what they were last
+abbrev pub cooled : (ℕ → Walls) → ℕ → Walls
+cooled f zero = f zero
+cooled f (suc t) = cond (le_z (f (suc t)).right (f (suc t)).left) (f (suc t)) (cooled f t)
+
+-- both walls are the number that the game equals, or else the cooled scaffolds
+abbrev pub walls_by : (g : Game) → Decided g → ℕ → (ℕ → Walls) → ℕ → Walls
+walls_by g (inl w) s f t = record { left = units s w.0; right = units s w.0 }
+walls_by g (inr n) s f t = cooled f t
+
+unfoldable pub walls_within : Decides → ℕ → ℕ → ℕ → Game → Walls
+walls_within d zero s t g = record { left = pos 0; right = pos 0 }
+walls_within d (suc n) s t g = walls_by g (d g) s (scaffold (walls_within d n s) g) t
+
+-- the walls of g at t, at the scale s
+unfoldable pub walls : Decides → ℕ → ℕ → Game → Walls
+walls d s t g = walls_within d (suc (size g)) s t g
+
+-- the scaffolds of g at t, at the scale s
+abbrev pub scaffold_of : Decides → ℕ → Game → ℕ → Walls
+scaffold_of d s g t = scaffold (walls d s) g t
+
+-- ---- temperature and mean of a game that equals no number
+
+-- the temperature is t, the least at which the scaffolds agree
+pub record TemperatureIs (d : Decides) (s : ℕ) (g : Game) (t : ℕ) : Type 0 where
+  pub agree : (scaffold_of d s g t).left ≡ (scaffold_of d s g t).right
+  pub before : (u : ℕ) → u < t → ¬ ((scaffold_of d s g u).left ≡ (scaffold_of d s g u).right)
+
+-- the mean is m, the value of the scaffolds at the temperature
+pub record MeanIs (d : Decides) (s : ℕ) (g : Game) (m : ℤ) : Type 0 where
+  pub at : ℕ
+  pub temperature : TemperatureIs d s g at
+  pub value : (scaffold_of d s g at).left ≡ m
+
+-- ---- a finer scale
+
+-- v is twice x, and w is x and y together
+pub record AtNext (v w x y : Walls) : Type 0 where
+  pub even_left : v.left ≡ x.left +ℤ x.left
+  pub even_right : v.right ≡ x.right +ℤ x.right
+  pub odd_left : w.left ≡ x.left +ℤ y.left
+  pub odd_right : w.right ≡ x.right +ℤ y.right
