@@ -1,6 +1,6 @@
 //! The contract of a store of cells.
 ghost use Rattle.std.specs.Prelude.{◌≡◌, ℕ, ◌≤◌, ◌↔◌, ◌^◌, IfSome, IfNone, IsSome, IsTrue};
-ghost use Rattle.cg_cells.specs.Meaning.{Has, IsReal, note_for};
+ghost use Rattle.cg_cells.specs.Meaning.{Has, IsInjective, IsReal, note_for};
 ghost use Rattle.cg_cells.specs.Parts.{names_of};
 ghost use Rattle.cg_cells.specs.Store.{State, Spends, Known, thing_at};
 
@@ -68,4 +68,9 @@ pub trait CellStore<F: Facts> {
         ensures ids { IsTrue result ↔ (a ≡ b) }
         ensures things { IsTrue result ↔ (thing_at (state self.now) a ≡ thing_at (state self.now) b) }
         ensures real { IsReal F.meaning (thing_at (state self.now) a) × IsReal F.meaning (thing_at (state self.now) b) };
+
+    /// Different known ids are known to be different things. It does nothing, and its contract is the fact: where `same`
+    /// tells it of two ids, this tells it of all at once.
+    fn apart(&self)
+        ensures { IsInjective (thing_at (state self.now)) };
 }

@@ -5,6 +5,7 @@ pub mod Forms
 pub mod Falls
 pub mod Order
 pub mod Sum
+pub mod Multiple
 pub mod Play
 pub mod Outcome
 pub mod Simple

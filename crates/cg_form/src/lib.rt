@@ -9,7 +9,7 @@
 
 mod canon;
 mod compare;
-mod cuts;
+pub mod cuts;
 mod fault;
 mod form;
 pub mod laws;

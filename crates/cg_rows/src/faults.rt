@@ -51,41 +51,62 @@ fn session(
 #[test]
 fn end_at_the_call_that_fails(rt: HostRuntime) -> Result<(), AllocError> {
     let alloc = rt.alloc();
-    // 34 bytes in seven calls, and one that tells the end.
-    let input = "value {2,1|0}\n\nvalue *\nvalue {0|1}";
-    // 27 bytes in six calls.
-    let output = b"1: {2|0}\n3: ! later\n4: 1/2\n".as_slice();
-    for call in 1..=9u64 {
-        let trouble = Trouble {
-            source_fails_at: call,
-            ..NONE
-        };
-        let (status, _, sink) = session(alloc, input, 5, trouble)?;
-        let (ended, written) = if call <= 8 {
-            (Status::Read, b"".as_slice())
-        } else {
-            (Status::Refused, output)
-        };
-        assert!(rt; status == ended, "where the source fails at {call}");
-        assert!(rt; sink.bytes() == written, "where the source fails at {call}");
-    }
-    let rows: [(u64, usize); 7] = [(1, 0), (2, 5), (3, 10), (4, 15), (5, 20), (6, 25), (7, 27)];
-    for (call, length) in rows {
-        let trouble = Trouble {
-            sink_fails_at: call,
-            ..NONE
-        };
-        let (status, _, sink) = session(alloc, input, 5, trouble)?;
-        let ended = if call <= 6 {
-            Status::Write
-        } else {
-            Status::Refused
-        };
-        assert!(rt; status == ended, "where the sink fails at {call}");
-        assert!(rt;
-            sink.bytes() == &output[..length.min(output.len())],
-            "where the sink fails at {call}"
-        );
+    // Four lines each: the first session has 36 bytes in eight calls, and the second 32 in seven.
+    let rows: [(&str, u64, &str, Status); 2] = [
+        (
+            "value {2,1|0}\n# a\n\ncompare {0|1};1/2",
+            8,
+            "1: {2|0}\n4: =\n",
+            Status::Done,
+        ),
+        (
+            "value {2,1|0}\n# a\nvalue *\nvalu 1",
+            7,
+            "1: {2|0}\n3: ! later\n4: ! syntax 5\n",
+            Status::Refused,
+        ),
+    ];
+    for (input, reads, output, whole) in rows {
+        for call in 1..=10u64 {
+            let trouble = Trouble {
+                source_fails_at: call,
+                ..NONE
+            };
+            let (status, _, sink) = session(alloc, input, 5, trouble)?;
+            // One call more than those that give bytes tells the end.
+            let (ended, written) = if call <= reads + 1 {
+                (Status::Read, "")
+            } else {
+                (whole, output)
+            };
+            assert!(rt; status == ended, "{input}: the source fails at {call}");
+            assert!(rt;
+                sink.bytes() == written.as_bytes(),
+                "{input}: the source fails at {call}"
+            );
+        }
+        for calls in 0..9u8 {
+            let trouble = Trouble {
+                sink_fails_at: u64::from(calls) + 1,
+                ..NONE
+            };
+            let (status, _, sink) = session(alloc, input, 5, trouble)?;
+            // Each of the calls before it took five bytes, as long as there were as many.
+            let front = (usize::from(calls) * 5).min(output.len());
+            let ended = if front < output.len() {
+                Status::Write
+            } else {
+                whole
+            };
+            assert!(rt;
+                status == ended,
+                "{input}: the sink fails after {calls} calls"
+            );
+            assert!(rt;
+                sink.bytes() == &output.as_bytes()[..front],
+                "{input}: the sink fails after {calls} calls"
+            );
+        }
     }
     Ok(())
 }

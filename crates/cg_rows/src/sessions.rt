@@ -23,28 +23,43 @@ fn session(alloc: Global, input: &[u8], most: usize) -> Result<(Status, MemorySi
 }
 
 #[test]
-fn answers_lines(rt: HostRuntime) -> Result<(), AllocError> {
+fn answers_sessions(rt: HostRuntime) -> Result<(), AllocError> {
     let alloc = rt.alloc();
-    let rows: [(&str, Status, &str); 13] = [
+    let rows: [(&str, Status, &str); 16] = [
         ("", Status::Done, ""),
         ("value {2,1|0}\n", Status::Done, "1: {2|0}\n"),
-        ("value {0|1}\n", Status::Done, "1: 1/2\n"),
-        ("value 4503599627370496\n", Status::Refused, "1: ! range\n"),
         (
-            "value {4503599627370495|}\n",
-            Status::Refused,
-            "1: ! range\n",
+            "value {-1|1}\nvalue {0|1}\n",
+            Status::Done,
+            "1: 0\n2: 1/2\n",
         ),
-        ("value *\n", Status::Refused, "1: ! later\n"),
+        (
+            "value {2,1|0}\nvalue {{3|0},1|-1}\n",
+            Status::Done,
+            "1: {2|0}\n2: {1,{3|0}|-1}\n",
+        ),
+        (
+            "value {1|2|3}\nvalue {1,2}\nvalue {1|\nvalu 1\nvalue 3.2\n",
+            Status::Refused,
+            "1: ! syntax 11\n2: ! syntax 11\n3: ! syntax 10\n4: ! syntax 5\n5: ! syntax 9\n",
+        ),
+        (
+            "value 1/2147483648\nvalue {0|1/2147483648}\nvalue 1/3\n",
+            Status::Refused,
+            "1: 1/2147483648\n2: ! range\n3: ! range\n",
+        ),
         // A last piece without LF is a line if it isn't empty.
-        ("value {0|1}", Status::Done, "1: 1/2\n"),
-        // Blank lines have no answer, and count.
+        ("compare {0|1} ; 1/2", Status::Done, "1: =\n"),
+        // Blank lines and comments have no answer, and count. A comment may hold any bytes.
         ("\n", Status::Done, ""),
         (" \t\r", Status::Done, ""),
+        ("# a\n\t#\u{0}\u{7f}\n#", Status::Done, ""),
+        ("# a\n\nvalue 1/2\r", Status::Done, "3: 1/2\n"),
+        ("# a\n\nvalue 1/2*\r", Status::Refused, "3: ! later\n"),
         (
-            "\n \t\r\n\r\nvalue {0|1}\r\n\nvalue {2,1|0}",
+            "\n \t\r\n\r\nvalue {0|1}\r\n\noutcome {2,1|0}",
             Status::Done,
-            "4: 1/2\n6: {2|0}\n",
+            "4: 1/2\n6: N\n",
         ),
         // One refused line makes the session refused, wherever it stands.
         (
@@ -57,11 +72,11 @@ fn answers_lines(rt: HostRuntime) -> Result<(), AllocError> {
             Status::Refused,
             "1: 1/2\n2: ! later\n",
         ),
-        // A line may hold any bytes but LF.
+        // A # behind the first word begins no comment.
         (
-            "value {0|1}\u{0}\nvalue {0|1}\n",
+            "value {0|1} # a\nvalue {0|1}\n",
             Status::Refused,
-            "1: ! later\n2: 1/2\n",
+            "1: ! syntax 13\n2: 1/2\n",
         ),
     ];
     for (input, status, output) in rows {
@@ -89,7 +104,7 @@ fn ends_with_each_number(rt: HostRuntime) {
 }
 
 /// The limits are 1,048,576 bytes and 4,096 answered lines: so many are read and answered, and one more is too long.
-/// Blank lines do not count. Many short lines and one long line are answered in linear time.
+/// Blank lines and comments do not count. Many short lines and one long line are answered in linear time.
 #[test]
 fn keeps_the_limits(rt: HostRuntime) -> Result<(), AllocError> {
     let alloc = rt.alloc();
@@ -106,7 +121,7 @@ fn keeps_the_limits(rt: HostRuntime) -> Result<(), AllocError> {
     for _ in 0..4096 {
         many.extend_from_slice(b"value 0\n")?;
     }
-    many.extend_from_slice(b" \t\r\n\n")?;
+    many.extend_from_slice(b" \t\r\n# a\n")?;
     let (ended, sink) = session(alloc, &many, 1000)?;
     assert!(rt; ended == Status::Done);
     // Four bytes a line beside its number, which has one digit 9 times, two 90 times, three 900 times, else four.
@@ -123,6 +138,6 @@ fn keeps_the_limits(rt: HostRuntime) -> Result<(), AllocError> {
     let long = vec![in alloc; b'1'; LIMIT]?;
     let (ended, sink) = session(alloc, &long, 1000)?;
     assert!(rt; ended == Status::Refused);
-    assert!(rt; sink.bytes() == b"1: ! later\n".as_slice());
+    assert!(rt; sink.bytes() == b"1: ! syntax 1\n".as_slice());
     Ok(())
 }

@@ -1,17 +1,37 @@
-//! Values of expressions: each line with the answer that the textbook, or a computation by hand, gives.
+//! Replies to single lines: each line with the reply that the textbook, the manual's rules or a computation by hand
+//! gives.
 use cg_io::{MemorySink, SteadySource};
 use cg_session::{Status, run};
-use std::alloc::AllocError;
+use std::alloc::{AllocError, Global};
 
 /// Lines that are answered, and their answers.
-const ANSWERED: [(&str, &str); 27] = [
-    // Numbers.
+const ANSWERED: [(&str, &str); 66] = [
+    // Whole numbers.
     ("value 7", "7"),
     ("value -3", "-3"),
     ("value -0", "0"),
     ("\tvalue\r 007 ", "7"),
     ("value 000000000000000000000000000001", "1"),
     ("value 4503599627370495", "4503599627370495"),
+    ("value ( -3 )", "-3"),
+    // Numbers with a denominator, in lowest terms.
+    ("value 1/2", "1/2"),
+    ("value 6/4", "3/2"),
+    ("value -6/4", "-3/2"),
+    ("value 4/2", "2"),
+    ("value -0/8", "0"),
+    ("value 3/1", "3"),
+    ("value 1/2147483648", "1/2147483648"),
+    ("value 2/4294967296", "1/2147483648"),
+    (
+        "value -4503599627370495/2147483648",
+        "-4503599627370495/2147483648",
+    ),
+    ("value 9007199254740990/2", "4503599627370495"),
+    (
+        "value 604462909807314587353088/604462909807314587353088",
+        "1",
+    ),
     // Braces that equal numbers: the simplest number between the options.
     ("value {|}", "0"),
     ("value {0|1}", "1/2"),
@@ -21,6 +41,15 @@ const ANSWERED: [(&str, &str); 27] = [
     ("value {{1|}|}", "3"),
     ("value {0|{0|1}}", "1/4"),
     ("value {-5|-2}", "-3"),
+    ("value {1/4,1/2|3/4}", "5/8"),
+    ("value {-3/4|-1/2}", "-5/8"),
+    ("value {1/2147483648|}", "1"),
+    // The longest run of bars splits first.
+    ("value {|||}", "0"),
+    ("value {1|2||3|4}", "2"),
+    ("value {1,2|3||4}", "3"),
+    ("value {4||2|0}", "{4|{2|0}}"),
+    ("value {0||||0|||0||0|0}", "{0|{0|{0|{0|0}}}}"),
     // Switches, and options that are dominated.
     ("value {1|-1}", "{1|-1}"),
     ("value {2,1|0}", "{2|0}"),
@@ -28,6 +57,7 @@ const ANSWERED: [(&str, &str); 27] = [
     ("value {{3|0},1|-1}", "{1,{3|0}|-1}"),
     ("value {{2|1}|{-1|-2}}", "{{2|1}|{-1|-2}}"),
     ("value {0,1,2|{0|-1},{-1|-2}}", "{2|{-1|-2}}"),
+    ("value {3/2|-1/2}", "{3/2|-1/2}"),
     // Star, up, and star with up.
     ("value {0,0|0}", "{0|0}"),
     ("value {0|{0|0}}", "{0|{0|0}}"),
@@ -37,49 +67,118 @@ const ANSWERED: [(&str, &str); 27] = [
     ("value {{{0|0}|{0|0}}|1}", "1/2"),
     ("value {{0|{0|0}}|{0|{0|0}}}", "{0|{0|{0|0}}}"),
     ("value {{5|{0,{0|0}|0}}|0}", "{0,{0|0}|0}"),
+    // Comparisons: numbers, star with 0, up with 0 and star, tiny with up, two ups with star, two switches.
+    ("compare {0|1} ; 1/2", "="),
+    ("compare 1;2", "<"),
+    ("compare -1/2 ; -3/4", ">"),
+    ("compare {0|0} ; 0", "||"),
+    ("compare {0|{0|0}} ; 0", ">"),
+    ("compare {{0|0}|0} ; 0", "<"),
+    ("compare {0|{0|0}} ; {0|0}", "||"),
+    ("compare {0|{0|-1}} ; {0|{0|0}}", "<"),
+    ("compare {0|{0,{0|0}|0}} ; {0|0}", ">"),
+    ("compare {1|-1}\t;\r{2|1}", "<"),
+    // Outcomes.
+    ("outcome {0|{0|0}}", "L"),
+    ("outcome {2|1}", "L"),
+    ("outcome -1/2", "R"),
+    ("outcome {{0|0}|0}", "R"),
+    ("outcome 0", "P"),
+    ("outcome {{0|0}|{0|0}}", "P"),
+    ("outcome {0|0}", "N"),
+    ("outcome {1|-1}", "N"),
 ];
 
 /// Lines that are refused.
-const REFUSED: [(&str, &str); 13] = [
-    // Numbers out of range, also as an inner position, or as what braces equal.
+const REFUSED: [(&str, &str); 58] = [
+    // Literals out of range, or with a denominator that isn't a power of two.
     ("value 4503599627370496", "! range"),
     ("value -4503599627370496", "! range"),
+    ("value 999999999999999999999999999999", "! range"),
+    ("value 1/4294967296", "! range"),
+    ("value 1/3", "! range"),
+    ("value 6/3", "! range"),
+    ("value 0/3", "! range"),
+    ("value 1/0", "! range"),
+    ("value {0,1/3|}", "! range"),
+    // Numbers out of range as an inner position, or as what braces equal.
     ("value {4503599627370495|}", "! range"),
+    ("value {0|1/2147483648}", "! range"),
     ("value {0,{|-4503599627370495}|}", "! range"),
     ("value {{4503599627370495|}|0}", "! range"),
-    // Lines that are no question: the notation that comes later, and what isn't in the grammar.
+    ("compare 0 ; {4503599627370495|}", "! range"),
+    ("compare {0|1/2147483648} ; 1/3", "! range"),
+    ("outcome {0|{4503599627370495|}}", "! range"),
+    ("outcome 1/3", "! range"),
+    // What reads, and isn't answered yet: other operands, sums, and the other questions.
     ("value *", "! later"),
-    ("value 1/2", "! later"),
-    ("value", "! later"),
-    ("value {1}", "! later"),
-    ("value {1||2}", "! later"),
-    ("value {1,|2}", "! later"),
+    ("value ^^", "! later"),
+    ("value v3", "! later"),
+    ("value +-1", "! later"),
+    ("value Tiny(2)", "! later"),
+    ("value Miny( 1/2 )", "! later"),
     ("value - 1", "! later"),
-    ("value 0000000000000000000000000000001", "! later"),
+    ("value -{0|1}", "! later"),
+    ("value 2.{0|1}", "! later"),
+    ("value 1/2*", "! later"),
+    ("value 1 + 1", "! later"),
+    ("value {0,{1|^}|}", "! later"),
+    ("value Clobber(\"xo\")", "! later"),
+    ("value Strip(\"\",\"\")", "! later"),
+    ("compare 1 ; ^", "! later"),
+    ("compare * ; 1", "! later"),
+    ("outcome Toads(\"T.F\")", "! later"),
+    ("stops {0|1}", "! later"),
+    ("mean 1", "! later"),
+    ("temp 1", "! later"),
+    ("thermo 1", "! later"),
+    // That comes before what is out of range.
+    ("value {1/3|*}", "! later"),
+    ("compare 1/3 ; *", "! later"),
+    ("mean 1/3", "! later"),
+    // What isn't in the grammar, with the column at which it leaves it.
+    ("valu 1", "! syntax 5"),
+    ("value", "! syntax 6"),
+    ("value {1}", "! syntax 9"),
+    ("value {1,2}", "! syntax 11"),
+    ("value {1,|2}", "! syntax 10"),
+    ("value {1|", "! syntax 10"),
+    ("value {|||||||||}", "! syntax 16"),
+    ("value 3.2", "! syntax 9"),
+    ("value 1/2.^", "! syntax 10"),
+    ("value 1 * 2", "! syntax 9"),
+    ("value --1", "! syntax 8"),
+    ("value 0000000000000000000000000000001", "! syntax 37"),
+    ("compare 1", "! syntax 10"),
+    ("compare 1 ; 2 ; 3", "! syntax 15"),
+    ("value 1\u{0}", "! syntax 8"),
+    // A second run of bars of one length with no longer one between them.
+    ("value {1|2|3}", "! syntax 11"),
+    ("value {0|{1/3|*|0}}", "! syntax 16"),
 ];
 
-#[test]
-fn answers_values(rt: HostRuntime) -> Result<(), AllocError> {
-    let alloc = rt.alloc();
+/// What a session of this one line writes and how it ends.
+fn session(alloc: Global, line: &str) -> Result<(Status, MemorySink), AllocError> {
     let words = Vec::new(alloc);
+    let mut source = SteadySource::new(Vec::from_slice(alloc, line.as_bytes())?);
+    let mut sink = MemorySink::new(alloc, 100, 100, Vec::new(alloc))?;
+    let status = run(alloc, &words, &mut source, &mut sink);
+    Ok((status, sink))
+}
+
+#[test]
+fn answers_lines(rt: HostRuntime) -> Result<(), AllocError> {
+    let alloc = rt.alloc();
     for (line, answer) in ANSWERED {
-        let mut source = SteadySource::new(Vec::from_slice(alloc, line.as_bytes())?);
-        let mut sink = MemorySink::new(alloc, 100, 100, Vec::new(alloc))?;
-        assert!(rt;
-            run(alloc, &words, &mut source, &mut sink) == Status::Done,
-            "{line}"
-        );
+        let (status, sink) = session(alloc, line)?;
         let wanted = format!(in alloc; "1: {answer}\n")?;
+        assert!(rt; status == Status::Done, "{line}");
         assert!(rt; sink.bytes() == wanted.as_bytes(), "{line}");
     }
     for (line, refusal) in REFUSED {
-        let mut source = SteadySource::new(Vec::from_slice(alloc, line.as_bytes())?);
-        let mut sink = MemorySink::new(alloc, 100, 100, Vec::new(alloc))?;
-        assert!(rt;
-            run(alloc, &words, &mut source, &mut sink) == Status::Refused,
-            "{line}"
-        );
+        let (status, sink) = session(alloc, line)?;
         let wanted = format!(in alloc; "1: {refusal}\n")?;
+        assert!(rt; status == Status::Refused, "{line}");
         assert!(rt; sink.bytes() == wanted.as_bytes(), "{line}");
     }
     Ok(())

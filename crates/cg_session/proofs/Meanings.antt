@@ -1,13 +1,16 @@
 -- Meanings of lists of expressions, one expression after another.
-use Rattle.std.proofs.Common.{◌≡◌, refl, ℕ, zero, suc, ◌<◌, ◌≤◌, inl, inr, ap, sym, subst, ◌∙◌, List, [], ◌∷◌, ◌++◌, ◌+◌, length, get_or, take, arith}
-use Rattle.cg_form.specs.Game.{Game, of_list}
+use Rattle.std.proofs.Common.{◌≡◌, refl, ℕ, zero, suc, ◌<◌, ◌≤◌, ◌⊎◌, inl, inr, ap, sym, subst, ◌∙◌, List, [], ◌∷◌, ◌++◌, ◌+◌, length, get_or, take, arith}
+use Rattle.cg_form.specs.Game.{Game, Games, options, of_list}
 use Rattle.cg_form.specs.declared.form.Form.{Form}
 use Rattle.cg_form.specs.Forms.{game_of, games_of}
 use Rattle.cg_form.proofs.FormLists.{games_of-append}
 use Rattle.cg_syntax.specs.declared.expr.Expr.{Expr}
 use Rattle.cg_syntax.specs.Tree.{Tree, trees_from}
-use Rattle.cg_syntax.specs.Trees.{tree_of, trees_of}
-use Rattle.cg_syntax.proofs.Walk.{trees_of-take_suc, trees_of-all}
+use Rattle.cg_syntax.specs.declared.expr.Exprs.{Exprs}
+use Rattle.cg_syntax.specs.declared.expr.Expr.TheVariants as expr
+use Rattle.cg_syntax.specs.Trees.{tree_of, trees_in, trees_of}
+use Rattle.cg_syntax.proofs.TreeOf.{braces_tree}
+use Rattle.cg_session.proofs.Walk.{trees_of-take_suc, trees_of-all}
 use Rattle.cg_session.specs.Meaning.{IsMeaning, AreMeanings, HasBadLiteral, AnyBadLiteral}
 
 -- the expressions mean the games one by one, and have no literal out of range
@@ -58,3 +61,23 @@ any_bad-at es ts i e is below at bad = let P : List Tree → Type 0 = λ us. Any
     there [] i e below at bad = absurd (omega arith)
     there (f ∷ es) zero e below at bad = let P : Expr → Type 0 = λ x. HasBadLiteral (tree_of x) in inl (subst P at bad)
     there (f ∷ es) (suc i) e below at bad = inr (there es i e (omega arith) at bad)
+
+-- ---- braces
+
+pub braces_mean : (e : Expr) (lefts rights : Exprs) (ls rs : Games) → e ≡ expr.Braces lefts rights
+    → AreMeanings (trees_from (trees_in lefts)) ls → AreMeanings (trees_from (trees_in rights)) rs → IsMeaning (tree_of e) (options ls rs)
+braces_mean e lefts rights ls rs is l r =
+    let P : Tree → Type 0 = λ t. IsMeaning t (options ls rs) in
+    subst P (sym (ap tree_of is ∙ braces_tree lefts rights)) (ls, rs, l, r, refl)
+
+pub braces_good : (e : Expr) (lefts rights : Exprs) → e ≡ expr.Braces lefts rights
+    → ¬ AnyBadLiteral (trees_from (trees_in lefts)) → ¬ AnyBadLiteral (trees_from (trees_in rights)) → ¬ HasBadLiteral (tree_of e)
+braces_good e lefts rights is l r bad = let P : Tree → Type 0 = λ t. HasBadLiteral t in by (subst P (ap tree_of is ∙ braces_tree lefts rights) bad)
+  where
+    by : AnyBadLiteral (trees_from (trees_in lefts)) ⊎ AnyBadLiteral (trees_from (trees_in rights)) → ⊥
+    by (inl b) = l b
+    by (inr b) = r b
+
+pub braces_bad : (e : Expr) (lefts rights : Exprs) → e ≡ expr.Braces lefts rights
+    → AnyBadLiteral (trees_from (trees_in lefts)) ⊎ AnyBadLiteral (trees_from (trees_in rights)) → HasBadLiteral (tree_of e)
+braces_bad e lefts rights is bad = let P : Tree → Type 0 = λ t. HasBadLiteral t in subst P (sym (ap tree_of is ∙ braces_tree lefts rights)) bad

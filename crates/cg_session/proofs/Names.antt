@@ -4,7 +4,7 @@ use Rattle.cg_form.specs.declared.form.Form.{Form}
 use Rattle.cg_form.specs.Forms.{game_of, games_of}
 use Rattle.cg_form.proofs.FormLists.{games_of-take_suc}
 use Rattle.cg_form.specs.Game.{Game, of_list}
-use Rattle.cg_syntax.specs.Bytes.{comma}
+use Rattle.cg_session.specs.Signs.{comma}
 use Rattle.cg_session.specs.Name.{name_of, further_names}
 
 pub further_names-one_more : (gs : List Game) (g : Game) → further_names (of_list (gs ++ (g ∷ []))) ≡ further_names (of_list gs) ++ (comma ∷ name_of g)

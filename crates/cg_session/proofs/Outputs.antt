@@ -1,7 +1,7 @@
 -- The output of the lines so far, with that of the lines that are left, is the output of all; and an input has one output.
 use Rattle.std.proofs.Common.{◌≡◌, ℕ, ◌+◌, Bool, true, false, List, [], ◌∷◌, refl, ap, sym, subst, ◌∙◌, append_assoc, append-nil}
 use Rattle.std.proofs.Math.Bool.{or_assoc, or-false}
-use Rattle.cg_session.specs.Lines.{is_blank_line}
+use Rattle.cg_session.specs.Lines.{is_answered}
 use Rattle.cg_session.specs.Reply.{Piece, IsReply}
 use Rattle.cg_session.specs.declared.output.Output.{Output}
 use Rattle.cg_session.specs.Output.{joined, no_text, numbered, IsOutputOf, IsLineOutput, IsOutputFrom}
@@ -20,10 +20,10 @@ joined-no_text p = rw (append-nil p.text, or-false p.refused) refl
 abbrev pub piece : List ℕ → Bool → Piece
 piece text refused = record { text = text; refused = refused }
 
-pub AppendsLine-blank : (n : ℕ) (line : List ℕ) (out : Output) → is_blank_line line ≡ true → AppendsLine n line out out
-AppendsLine-blank n line out blank = (no_text, rw blank refl, sym (joined-no_text (piece_of out)))
+pub AppendsLine-none : (n : ℕ) (line : List ℕ) (out : Output) → is_answered line ≡ false → AppendsLine n line out out
+AppendsLine-none n line out silent = (no_text, rw silent refl, sym (joined-no_text (piece_of out)))
 
-pub IsLineOutput-numbered : (n : ℕ) (line : List ℕ) (reply : Piece) → is_blank_line line ≡ false → IsReply line reply
+pub IsLineOutput-numbered : (n : ℕ) (line : List ℕ) (reply : Piece) → is_answered line ≡ true → IsReply line reply
     → IsLineOutput n line (numbered n reply)
 IsLineOutput-numbered n line reply answered is = rw answered (reply, is, refl)
 
@@ -53,20 +53,20 @@ Completes-all n done all completes =
 
 -- ---- one output
 
--- no line has two replies
+-- no line that gets an answer has two replies
 abbrev pub HasOneReply : Type 0
-HasOneReply = (line : List ℕ) (r s : Piece) → IsReply line r → IsReply line s → r ≡ s
+HasOneReply = (line : List ℕ) (r s : Piece) → is_answered line ≡ true → IsReply line r → IsReply line s → r ≡ s
 
-IsOutputOf-unique : HasOneReply → (blank : Bool) (n : ℕ) (line : List ℕ) (p q : Piece)
-    → IsOutputOf blank n line p → IsOutputOf blank n line q → p ≡ q
-IsOutputOf-unique one true n line p q a b = a ∙ sym b
-IsOutputOf-unique one false n line p q (r, is_r, a) (s, is_s, b) = a ∙ ap (numbered n) (one line r s is_r is_s) ∙ sym b
+IsOutputOf-unique : HasOneReply → (answered : Bool) (n : ℕ) (line : List ℕ) (p q : Piece) → is_answered line ≡ answered
+    → IsOutputOf answered n line p → IsOutputOf answered n line q → p ≡ q
+IsOutputOf-unique one false n line p q h a b = a ∙ sym b
+IsOutputOf-unique one true n line p q h (r, is_r, a) (s, is_s, b) = a ∙ ap (numbered n) (one line r s h is_r is_s) ∙ sym b
 
 pub IsOutputFrom-unique : HasOneReply → (n : ℕ) (lines : List (List ℕ)) (p q : Piece)
     → IsOutputFrom n lines p → IsOutputFrom n lines q → p ≡ q
 unfolding IsOutputFrom
 IsOutputFrom-unique one n [] p q a b = a ∙ sym b
 IsOutputFrom-unique one n (line ∷ lines) p q (first, rest, is_first, is_rest, a) (first', rest', is_first', is_rest', b) =
-    let same_first : first ≡ first' = IsOutputOf-unique one (is_blank_line line) n line first first' is_first is_first' in
+    let same_first : first ≡ first' = IsOutputOf-unique one (is_answered line) n line first first' refl is_first is_first' in
     let same_rest : rest ≡ rest' = IsOutputFrom-unique one (n + 1) lines rest rest' is_rest is_rest' in
     a ∙ ap (λ (x : Piece). joined x rest) same_first ∙ ap (joined first') same_rest ∙ sym b

@@ -1,4 +1,5 @@
 pub mod Lines
+pub mod Signs
 pub mod Meaning
 pub mod Name
 pub mod Reply

@@ -1,6 +1,7 @@
 -- The lines of a text.
-use Rattle.std.specs.Prelude.{ℕ, Bool, cond, not, ◌||◌, ◌==◌, List, [], ◌∷◌, count_by}
-use Rattle.std.specs.List.{list_all}
+use Rattle.std.specs.Prelude.{ℕ, Bool, false, cond, not, ◌==◌, List, [], ◌∷◌, count_by}
+use Rattle.cg_reading.specs.Readers.{skipped}
+use Rattle.cg_reading.specs.Tokens.{blank}
 
 -- one more byte before the first line
 abbrev pub onto_first : ℕ → List (List ℕ) → List (List ℕ)
@@ -12,17 +13,15 @@ abbrev pub lines_of : List ℕ → List (List ℕ)
 lines_of [] = []
 lines_of (b ∷ bytes) = cond (b == 10) ([] ∷ lines_of bytes) (onto_first b (lines_of bytes))
 
--- space, tab and CR
-abbrev pub is_blank_byte : ℕ → Bool
-is_blank_byte b = (b == 32) || (b == 9) || (b == 13)
+-- whether a line gets an answer that has these bytes behind its first blanks: no blank line does, and no comment, which
+-- begins with #
+abbrev pub answered_behind : List ℕ → Bool
+answered_behind [] = false
+answered_behind (b ∷ bytes) = not (b == 35)
 
--- a line of blanks alone
-abbrev pub is_blank_line : List ℕ → Bool
-is_blank_line line = list_all is_blank_byte line
-
--- a line that gets an answer: every line that isn't blank
+-- a line that gets an answer: one that is neither blank nor a comment
 abbrev pub is_answered : List ℕ → Bool
-is_answered line = not (is_blank_line line)
+is_answered line = answered_behind (skipped blank line)
 
 -- how many lines of the input get an answer
 abbrev pub answered_count : List ℕ → ℕ

@@ -2,7 +2,7 @@
 use Rattle.std.specs.Prelude.{ℕ, List, [], ◌∷◌, ◌++◌}
 use Rattle.cg_dyadic.specs.Exact.{number_text}
 use Rattle.cg_form.specs.Game.{Game, Games, number, options, none, more}
-use Rattle.cg_syntax.specs.Bytes.{opening, bar, closing, comma}
+use Rattle.cg_session.specs.Signs.{opening, bar, closing, comma}
 
 abbrev mutual
   pub name_of : Game → List ℕ

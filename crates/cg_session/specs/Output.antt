@@ -1,6 +1,6 @@
 -- The output of an input.
 use Rattle.std.specs.Prelude.{ℕ, ◌+◌, Bool, true, false, ◌||◌, ◌≡◌, List, [], ◌∷◌, ◌++◌, decimal, codes}
-use Rattle.cg_session.specs.Lines.{lines_of, is_blank_line}
+use Rattle.cg_session.specs.Lines.{lines_of, is_answered}
 use Rattle.cg_session.specs.Reply.{Piece, IsReply}
 
 -- One after the other. A line is refused in both where one is refused in either.
@@ -14,16 +14,16 @@ no_text = record { text = []; refused = false }
 abbrev pub numbered : ℕ → Piece → Piece
 numbered n reply = record { text = decimal n ++ codes ": " ++ reply.text ++ (10 ∷ []); refused = reply.refused }
 
--- nothing for a blank line, else the line of a reply to it
+-- the line of a reply to a line that gets an answer, and else nothing
 abbrev pub IsOutputOf : Bool → ℕ → List ℕ → Piece → Type 0
-IsOutputOf true n line out = out ≡ no_text
-IsOutputOf false n line out = (reply : Piece) × IsReply line reply × (out ≡ numbered n reply)
+IsOutputOf true n line out = (reply : Piece) × IsReply line reply × (out ≡ numbered n reply)
+IsOutputOf false n line out = out ≡ no_text
 
 -- the output of the line with the number n
 abbrev pub IsLineOutput : ℕ → List ℕ → Piece → Type 0
-IsLineOutput n line out = IsOutputOf (is_blank_line line) n line out
+IsLineOutput n line out = IsOutputOf (is_answered line) n line out
 
--- The output of these lines, the first of which has the number n. Blank lines count.
+-- The output of these lines, the first of which has the number n. Blank lines and comments count.
 unfoldable pub IsOutputFrom : ℕ → List (List ℕ) → Piece → Type 0
 IsOutputFrom n [] out = out ≡ no_text
 IsOutputFrom n (line ∷ lines) out =

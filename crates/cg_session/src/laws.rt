@@ -1,6 +1,7 @@
 //! Laws of the definitions that the contract of `run` cites: each function does nothing, and its contract is the law.
-ghost use Rattle.std.specs.Prelude.{◌≡◌, ℕ, List, Some};
+ghost use Rattle.std.specs.Prelude.{◌≡◌, ℕ, true, List, Some};
 ghost use Rattle.std.specs.Io.KnownBytes.{Appends};
+ghost use Rattle.cg_session.specs.Lines.{is_answered};
 ghost use Rattle.cg_session.specs.Reply.{Piece, IsReply};
 ghost use Rattle.cg_session.specs.Output.{IsOutput};
 ghost use Rattle.cg_session.specs.Written.{AppendsFront};
@@ -8,10 +9,10 @@ ghost use Rattle.cg_session.specs.Written.{AppendsFront};
 use cg_form::laws::l5;
 use cg_syntax::laws::one_query;
 
-/// A line has one reply: the grammar relates at most one question to it, an expression has one meaning, and a game one
-/// canonical form.
+/// A line that gets an answer has one reply: the grammar relates one question to it, or none and then a column; an
+/// expression has one meaning, and a game one canonical form.
 pub fn one_reply()
-    ensures { (line : List ℕ) (r s : Piece) → IsReply line r → IsReply line s → r ≡ s }
+    ensures { (line : List ℕ) (r s : Piece) → is_answered line ≡ true → IsReply line r → IsReply line s → r ≡ s }
 {
     one_query();
     l5();

@@ -9,6 +9,8 @@
 mod input;
 pub mod laws;
 mod lines;
+mod meaning;
+mod naming;
 mod output;
 pub mod plain;
 mod session;

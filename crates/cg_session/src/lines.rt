@@ -1,6 +1,8 @@
 //! Lines of bytes.
 ghost use Rattle.std.specs.Prelude.{◌≡◌, ◌≢◌, ◌∷◌, ◌<◌, ◌≤◌, ℕ, length, slice_index};
-ghost use Rattle.cg_session.specs.Lines.{lines_of, is_blank_line, answered_count};
+ghost use Rattle.cg_session.specs.Lines.{lines_of, is_answered, answered_count};
+
+use cg_reading::after_blanks;
 
 /// The first line of a text that isn't empty, and what follows its LF.
 pub fn first_line(text: &[u8]) -> (&[u8], &[u8])
@@ -30,12 +32,14 @@ fn line_length(text: &[u8]) -> usize
     text.len()
 }
 
-/// Whether the line has spaces, tabs and CRs alone.
-pub fn is_blank(line: &[u8]) -> bool
-    ensures { result ≡ is_blank_line line.now }
+/// Whether the line gets an answer: it is neither blank nor a comment.
+pub fn is_answered(line: &[u8]) -> bool
+    ensures { result ≡ is_answered line.now }
 {
-    line.iter()
-        .all(|byte| *byte == b' ' || *byte == b'\t' || *byte == b'\r')
+    match after_blanks(line).split_first() {
+        None => false,
+        Some((first, _)) => *first != b'#',
+    }
 }
 
 /// How many lines of the input get an answer.
@@ -46,7 +50,7 @@ pub fn count_answered(input: &[u8]) -> usize
     let mut rest = input;
     while !rest.is_empty() {
         let (line, after) = first_line(rest);
-        if !is_blank(line) {
+        if is_answered(line) {
             count += 1;
         }
         rest = after;

@@ -4,7 +4,7 @@ ghost use Rattle.cg_session.specs.Input.{IsWithinBytes};
 ghost use Rattle.cg_session.specs.Output.{IsOutput};
 ghost use Rattle.cg_session.specs.Outputs.{piece_of, AppendsLine};
 
-use crate::lines::{first_line, is_blank};
+use crate::lines::{first_line, is_answered};
 use crate::plain::answer_plain;
 use std::alloc::{AllocError, Global};
 
@@ -39,7 +39,7 @@ pub fn answer_lines(alloc: Global, input: &[u8]) -> Result<Output, AllocError>
 fn push_answer(alloc: Global, out: &mut Output, number: u64, line: &[u8]) -> Result<(), AllocError>
     ensures { OnOk result (AppendsLine number line.now out.old out.new) }
 {
-    if is_blank(line) {
+    if !is_answered(line) {
         return Ok(());
     }
     let answer = answer_plain(alloc, line)?;

@@ -1,74 +1,243 @@
--- The grammar of a line that asks a question: each definition is one production, and says which bytes spell what.
+-- The grammar of a line, a definition for each production, from the last one up.
 --
---   line   = B "value" B1 item B
---   item   = digits | "-" digits | braces
---   braces = "{" list "|" list "}"
---   list   = B [ item { B "," B item } B ]
---   digits = one to thirty bytes "0" to "9"
+--   line     = B query B
+--   query    = ( "value" | "outcome" | "stops" | "mean" | "temp" | "thermo" ) B1 expr
+--            | "compare" B1 expr B ";" B expr
+--   expr     = term { B ( "+" | "-" ) B term }
+--   term     = [ "-" ] counted tail | special tail | ups [ nim ] | nim | "-" body
+--   body     = B1 counted tail | B ( special tail | ups [ nim ] | nim )
+--   tail     = [ ups ] [ nim ]
+--   counted  = number | multiple
+--   number   = digits [ "/" digits ]
+--   multiple = digits "." primary
+--   primary  = ups | nim | special
+--   special  = switch | tiny | braces | paren | board
+--   switch   = "+-" number
+--   tiny     = ( "Tiny" | "Miny" ) "(" B number B ")"
+--   ups      = "^" { "^" } | "^" digits | "v" { "v" } | "v" digits
+--   nim      = "*" [ digits ]
+--   braces   = "{" side bars side { bars side } "}"
+--   side     = B [ expr { B "," B expr } B ]
+--   bars     = one to eight bytes "|", with no further "|" directly after them
+--   paren    = "(" B expr B ")"
+--   board    = ( "Domineering" | "Clobber" | "Amazons" | "Toads" ) "(" B string B ")"
+--            | "Strip" "(" B string B "," B string B ")"
+--   string   = one quotation mark, any bytes 0x20 to 0x7E but a quotation mark, one quotation mark
+--   digits   = one to thirty bytes "0" to "9"
 --
--- B is any number of blanks and B1 at least one. At most 64 braces are open at once.
-use Rattle.std.specs.Prelude.{ℕ, ◌≡◌, ◌<◌, ◌≤◌, Bool, true, false, List, [], ◌∷◌, ◌++◌, length}
-use Rattle.std.specs.List.{list_all}
-use Rattle.std.specs.Str.Parse.{digits_value}
-use Rattle.cg_syntax.specs.Bytes.{minus, comma, opening, bar, closing, value_word, is_blank, is_digit}
-use Rattle.cg_syntax.specs.Tree.{Tree, Trees, number, sides, no_trees, with_tree, opens}
+-- B is any number of blanks, and B1 is at least one; blanks are space, tab and CR. Tokens are as long as possible: this
+-- shows in runs of bars, in runs of arrows behind the point of a multiple, and in runs of digits. At most 64 braces and
+-- parens are open at once.
+use Rattle.std.specs.Prelude.{ℕ, zero, suc, ◌+◌, ◌≡◌, Bool, true, false, List, [], ◌∷◌, ◌++◌, length, map, Option, Some, None, codes}
+use Rattle.cg_reading.specs.Bytes.{Class, Ends}
+use Rattle.cg_reading.specs.Pieces.{Piece, Then, Or, Many, Made, Nothing, One, Bytes, Run, Word, Placed, Longest}
+use Rattle.cg_reading.specs.Tokens.{only, blanks, gap, behind_blanks, with_blanks, digits}
+use Rattle.cg_syntax.specs.Tree.{Tree, Question, nimber, switch, tiny, game, value, outcome, stops, mean, temp, thermo}
+use Rattle.cg_syntax.specs.Found.{Found, Asked}
+use Rattle.cg_syntax.specs.Values.{Arrows, ups_tree, Counted, whole, times, counted_goes_on, counted_of, with_tail, clean, negated, sum_of, run_side, braces_of, asked_of, compared}
+use Rattle.cg_syntax.specs.declared.kind.GameKind.{GameKind}
+use Rattle.cg_syntax.specs.declared.kind.GameKind.TheVariants.{Domineering, Clobber, Amazons, Toads, Strip}
 
--- B: any number of blanks
-pub record AreBlanks (bytes : List ℕ) : Type 0 where
-  pub all : list_all is_blank bytes ≡ true
+-- ---- bytes by name
 
--- digits: one to thirty digits, which spell n in base ten
-pub record AreDigits (bytes : List ℕ) (n : ℕ) : Type 0 where
-  pub all : list_all is_digit bytes ≡ true
-  pub some : 0 < length bytes
-  pub few : length bytes ≤ 30
-  pub value : n ≡ digits_value 10 bytes
+abbrev pub quote : Class
+quote = only 34
 
--- a minus in front of a negative number, and nothing in front of others
-abbrev pub sign : Bool → List ℕ
-sign true = minus ∷ []
-sign false = []
+abbrev pub opening_paren : Class
+opening_paren = only 40
 
--- digits | "-" digits, which spell a number without a slash: its denominator is 1
-pub record IsNumber (negative : Bool) (num den : ℕ) (bytes : List ℕ) : Type 0 where
-  pub digits : List ℕ
-  pub are : AreDigits digits num
-  pub whole : den ≡ 1
-  pub spelled : bytes ≡ sign negative ++ digits
+abbrev pub closing_paren : Class
+closing_paren = only 41
 
-abbrev mutual
-  -- item: a number, or "{" list "|" list "}"
-  pub IsItem : Tree → List ℕ → Type 0
-  IsItem (number negative num den) bytes = IsNumber negative num den bytes
-  IsItem (sides lefts rights) bytes =
-      (left : List ℕ) × (right : List ℕ) × IsList lefts left × IsList rights right
-      × (bytes ≡ opening ∷ (left ++ bar ∷ (right ++ closing ∷ [])))
+abbrev pub asterisk : Class
+asterisk = only 42
 
-  -- list: B alone, or B item and what follows a first item
-  pub IsList : Trees → List ℕ → Type 0
-  IsList no_trees bytes = AreBlanks bytes
-  IsList (with_tree t ts) bytes =
-      (blanks : List ℕ) × (item : List ℕ) × (others : List ℕ) × AreBlanks blanks × IsItem t item × AreMore ts others
-      × (bytes ≡ blanks ++ (item ++ others))
+abbrev pub plus : Class
+plus = only 43
 
-  -- what follows an item of a list: B at the end of the list, or B "," B item and what follows that item
-  pub AreMore : Trees → List ℕ → Type 0
-  AreMore no_trees bytes = AreBlanks bytes
-  AreMore (with_tree t ts) bytes =
-      (before : List ℕ) × (after : List ℕ) × (item : List ℕ) × (others : List ℕ)
-      × AreBlanks before × AreBlanks after × IsItem t item × AreMore ts others
-      × (bytes ≡ before ++ comma ∷ (after ++ (item ++ others)))
+abbrev pub comma : Class
+comma = only 44
 
--- line: B "value" B1 item B, where the item is this tree and has at most 64 braces open at once
-pub record AsksValue (line : List ℕ) (t : Tree) : Type 0 where
-  pub before : List ℕ
-  pub between : List ℕ
-  pub item : List ℕ
-  pub after : List ℕ
-  pub before_blank : AreBlanks before
-  pub between_blank : AreBlanks between
-  pub some : 0 < length between
-  pub is : IsItem t item
-  pub after_blank : AreBlanks after
-  pub few : opens t ≤ 64
-  pub spelled : line ≡ before ++ (value_word ++ (between ++ (item ++ after)))
+abbrev pub minus : Class
+minus = only 45
+
+abbrev pub point : Class
+point = only 46
+
+abbrev pub slash : Class
+slash = only 47
+
+abbrev pub semicolon : Class
+semicolon = only 59
+
+abbrev pub opening_brace : Class
+opening_brace = only 123
+
+abbrev pub bar : Class
+bar = only 124
+
+abbrev pub closing_brace : Class
+closing_brace = only 125
+
+abbrev pub caret : ℕ
+caret = 94
+
+abbrev pub letter_v : ℕ
+letter_v = 118
+
+-- ---- tokens
+
+-- what may stand between quotation marks
+abbrev pub printable : Class
+printable = (32, 33) ∷ (35, 126) ∷ []
+
+abbrev pub string : Piece (List ℕ)
+string = Made (λ v. v.1.0) (Then (One quote) (Then (Bytes printable) (One quote)))
+
+-- a run of bars, with its column
+abbrev pub bars : Piece (ℕ × ℕ)
+bars = Placed (Made (λ bs. length bs) (Run bar 8))
+
+abbrev pub nim : Piece Tree
+nim = Made (λ v. nimber v.1) (Then (One asterisk) (Or digits (Nothing 1)))
+
+-- a run of arrows, or one arrow and a count
+abbrev pub arrows : Bool → ℕ → Piece Arrows
+arrows down b =
+    Or (Made (λ v. record { down = down; count = suc (length v.1); is_run = true }) (Then (One (only b)) (Bytes (only b))))
+    (Made (λ v. record { down = down; count = v.1; is_run = false }) (Then (One (only b)) digits))
+
+abbrev pub ups : Piece Arrows
+ups = Or (arrows false caret) (arrows true letter_v)
+
+-- ---- operands without expressions in them
+
+-- a number without a slash has the denominator 1
+abbrev pub number : Piece (ℕ × ℕ)
+number = Then digits (Or (Made (λ v. v.1) (Then (One slash) digits)) (Nothing 1))
+
+-- what stands between parentheses
+abbrev pub enclosed : {A : Type 0} → Piece A → Piece A
+enclosed R = Made (λ v. v.1.1.0) (Then (One opening_paren) (Then blanks (Then R (Then blanks (One closing_paren)))))
+
+abbrev pub switch_piece : Piece Found
+switch_piece = Made (λ v. clean (switch v.1.1.0 v.1.1.1)) (Then (One plus) (Then (One minus) number))
+
+abbrev pub tiny_piece : Piece Found
+tiny_piece = Made (λ v. clean (tiny v.0 v.1.0 v.1.1)) (Then (Or (Word (codes "Tiny") false) (Word (codes "Miny") true)) (enclosed number))
+
+abbrev pub grid_name : Piece GameKind
+grid_name = Or (Word (codes "Domineering") Domineering) (Or (Word (codes "Clobber") Clobber) (Or (Word (codes "Amazons") Amazons) (Word (codes "Toads") Toads)))
+
+-- rules and a row
+abbrev pub two_strings : Piece (List ℕ × List ℕ)
+two_strings = Made (λ v. (v.0, v.1.1.1.1)) (Then string (Then blanks (Then (One comma) (Then blanks string))))
+
+abbrev pub board : Piece Found
+board =
+    Or (Made (λ v. clean (game v.0 [] v.1)) (Then grid_name (enclosed string)))
+    (Made (λ v. clean (game Strip v.1.0 v.1.1)) (Then (Word (codes "Strip") (tt {0})) (enclosed two_strings)))
+
+-- ---- terms and expressions, over what a special may be
+
+abbrev pub optional : {A : Type 0} → Piece A → Piece (Option A)
+optional R = Or (Made (λ v. Some v) R) (Nothing None)
+
+abbrev pub tail : Piece (Option Tree × Option Tree)
+tail = Then (optional (Made ups_tree ups)) (optional nim)
+
+abbrev pub ups_and_nim : Piece Found
+ups_and_nim = Made (λ v. with_tail (clean v.0) (None, v.1)) (Then (Made ups_tree ups) (optional nim))
+
+abbrev pub sign : Piece Bool
+sign = Or (Made (λ _. false) (One plus)) (Made (λ _. true) (One minus))
+
+module _ (special : Piece Found) where
+  -- an operand of a multiple, with its arrows if it is some
+  abbrev pub primary : Piece (Found × Option Arrows)
+  primary = Or (Made (λ a. (clean (ups_tree a), Some a)) ups) (Or (Made (λ t. (clean t, None)) nim) (Made (λ e. (e, None)) special))
+
+  abbrev pub multiple : Piece (ℕ × (Found × Option Arrows))
+  multiple = Made (λ v. (v.0, v.1.1)) (Then digits (Then (One point) primary))
+
+  abbrev pub counted : Piece Counted
+  counted = Or (Made (λ v. whole v.0 v.1) number) (Made (λ v. times v.0 v.1.0 v.1.1) multiple)
+
+  -- with a minus in front if it is negative
+  abbrev pub counted_tail : Bool → Piece Found
+  counted_tail negative = Made (λ v. with_tail (counted_of negative v.0) v.1) (Longest counted_goes_on counted tail)
+
+  abbrev pub special_tail : Piece Found
+  special_tail = Made (λ v. with_tail v.0 v.1) (Then special tail)
+
+  abbrev pub body : Piece Found
+  body =
+      Or (Made (λ v. v.1) (Then gap (counted_tail false)))
+      (behind_blanks (Or special_tail (Or ups_and_nim (Made clean nim))))
+
+  -- A minus directly before a digit is the sign of that number or multiple. Any other negates the whole term.
+  abbrev pub term : Piece Found
+  term =
+      Or (Or (Made (λ v. v.1) (Then (One minus) (counted_tail true))) (counted_tail false))
+      (Or special_tail (Or ups_and_nim (Or (Made clean nim) (Made (λ v. negated v.1) (Then (One minus) body)))))
+
+  abbrev pub expr : Piece Found
+  expr = Made (λ v. sum_of v.0 v.1) (Then term (Many (behind_blanks (Then sign (behind_blanks term)))))
+
+-- ---- brackets around expressions
+
+module _ (expr : Piece Found) where
+  abbrev pub exprs : Piece (List Found)
+  exprs = Made (λ v. v.0 ∷ v.1) (Then expr (Many (behind_blanks (Made (λ v. v.1) (Then (One comma) (behind_blanks expr))))))
+
+  abbrev pub side : Piece (List Found)
+  side = behind_blanks (Or (with_blanks exprs) (Nothing []))
+
+module _ (side : Piece (List Found)) where
+  -- a run of bars with no further bar directly behind it, a side, and what follows
+  pub record Bars_side (rest : ℕ → List ℕ → Type 0) (i : ℕ) (r : (ℕ × ℕ) × List Found) (text : List ℕ) : Type 0 where
+    pub run : List ℕ
+    pub middle : List ℕ
+    pub more : List ℕ
+    pub is_run : bars i r.0 run
+    pub is_side : side (i + length run) r.1 middle
+    pub is_more : rest (i + length run + length middle) more
+    pub no_bar : Ends bar (middle ++ more)
+    pub spelled : text ≡ run ++ (middle ++ more)
+
+  -- { bars side }
+  abbrev pub Rows : Piece (List ((ℕ × ℕ) × List Found))
+  Rows i [] text = text ≡ []
+  Rows i (r ∷ rows) text = Bars_side (λ j y. Rows j rows y) i r text
+
+  -- bars side { bars side }
+  abbrev pub Some_rows : Piece (((ℕ × ℕ) × List Found) × List ((ℕ × ℕ) × List Found))
+  Some_rows i v text = Bars_side (λ j y. Rows j v.1 y) i v.0 text
+
+  abbrev pub braces : Piece Found
+  braces = Made (λ v. braces_of v.1.0 (map run_side v.1.1.0)) (Then (One opening_brace) (Then side (Then (Made (λ v. v.0 ∷ v.1) Some_rows) (One closing_brace))))
+
+-- what may be an operand besides numbers, ups and nimbers, with so many braces and parens at most open at once
+unfoldable pub special : ℕ → Piece Found
+special zero = Or switch_piece (Or tiny_piece board)
+special (suc k) =
+    Or switch_piece (Or tiny_piece (Or (braces (side (expr (special k)))) (Or (enclosed (expr (special k))) board)))
+
+-- ---- lines
+
+-- a question about one expression
+abbrev pub asking : Piece (Tree → Question)
+asking =
+    Or (Word (codes "value") value) (Or (Word (codes "outcome") outcome) (Or (Word (codes "stops") stops)
+    (Or (Word (codes "mean") mean) (Or (Word (codes "temp") temp) (Word (codes "thermo") thermo)))))
+
+module _ (expr : Piece Found) where
+  abbrev pub query : Piece Asked
+  query =
+      Or (Made (λ v. asked_of v.0 v.1.1) (Then asking (Then gap expr)))
+      (Made (λ v. compared v.1.1.0 v.1.1.1.1) (Then (Word (codes "compare") (tt {0})) (Then gap
+      (Then (with_blanks expr) (Then (One semicolon) (behind_blanks expr))))))
+
+-- a line, with 64 brackets at most open at once
+abbrev pub line : Piece Asked
+line = behind_blanks (with_blanks (query (expr (special 64))))

@@ -1,97 +1,281 @@
--- Reading from the front of a row of bytes: what stands there, and what is left behind it.
-use Rattle.std.specs.Prelude.{ℕ, zero, suc, ◌+◌, ◌-◌, ◌*◌, Bool, true, false, cond, ◌==◌, List, [], ◌∷◌, length, Option, Some, None}
-use Rattle.cg_syntax.specs.Bytes.{minus, comma, opening, bar, closing, digit_0, value_word, is_blank, is_digit}
-use Rattle.cg_syntax.specs.Tree.{Tree, Trees, number, sides, no_trees, with_tree}
+-- Reading a line from its front, piece by piece. The functions of the code are told by these what they return.
+use Rattle.std.specs.Prelude.{ℕ, zero, suc, Bool, true, false, List, [], ◌∷◌, ◌++◌, length, map, Option, Some, None, Result, Ok, codes}
+use Rattle.cg_reading.specs.Bytes.{Class}
+use Rattle.cg_reading.specs.Readers.{Read, Reader, ◌>>=◌, then_at, or_at, many_at, behind_these, made_at, nothing_at, one_at, bytes_at, run_at, placed_at, whole_at}
+use Rattle.cg_reading.specs.Tokens.{only, blank, digit}
+use Rattle.cg_reading.specs.TokenReaders.{blanks_at, byte_at, gap_at, this_word_at, digits_at}
+use Rattle.cg_syntax.specs.Tree.{Tree, Question, number, ups, nimber, switch, tiny, sum, game, terms_from, value, outcome, stops, mean, temp, thermo}
+use Rattle.cg_syntax.specs.Found.{Found, Asked, first}
+use Rattle.cg_syntax.specs.Values.{Arrows, ups_tree, Counted, whole, times, goes_on, counted_of, times_of, with_tail, clean, negated, sum_of, minus_of, first_fault, run_side, braces_of, asked_of, compared}
+use Rattle.cg_syntax.specs.Grammar.{printable, bar}
+use Rattle.cg_syntax.specs.declared.kind.GameKind.{GameKind}
+use Rattle.cg_syntax.specs.declared.kind.GameKind.TheVariants.{Domineering, Clobber, Amazons, Toads, Strip}
 
--- a value and the bytes behind it, or nothing where no such value stands in front
-abbrev pub Read : Type 0 → Type 0
-Read A = Option (A × List ℕ)
+-- ---- what the pieces begin with
 
-infixl 10 ◌>>=◌
--- what is made of a value, where there is one
-abbrev pub ◌>>=◌ : {A B : Type 0} → Option A → (A → Option B) → Option B
-(Some x) >>= f = f x
-None >>= f = None
+abbrev pub arrow : Class
+arrow = (94, 94) ∷ (118, 118) ∷ []
 
--- what is left behind all blanks in front
-abbrev pub skip_blanks : List ℕ → List ℕ
-skip_blanks [] = []
-skip_blanks (b ∷ bytes) = cond (is_blank b) (skip_blanks bytes) (b ∷ bytes)
+abbrev pub star : Class
+star = only 42
 
--- the number of all digits in front, so many at most, behind digits of this value
-unfoldable pub digits_from : ℕ → ℕ → List ℕ → Read ℕ
-digits_from room value [] = Some (value, [])
-digits_from zero value (b ∷ bytes) = cond (is_digit b) None (Some (value, b ∷ bytes))
-digits_from (suc room) value (b ∷ bytes) =
-    cond (is_digit b) (digits_from room (value * 10 + (b - digit_0)) bytes) (Some (value, b ∷ bytes))
+-- a switch, tiny or a board
+abbrev pub plain_begin : Class
+plain_begin = (43, 43) ∷ (65, 65) ∷ (67, 68) ∷ (77, 77) ∷ (83, 84) ∷ []
 
--- the number of all digits in front, from one to thirty
-unfoldable pub digits_at : List ℕ → Read ℕ
-digits_at [] = None
-digits_at (b ∷ bytes) = cond (is_digit b) (digits_from 29 (b - digit_0) bytes) None
+abbrev pub special_begin : Class
+special_begin = (43, 43) ∷ (65, 65) ∷ (67, 68) ∷ (77, 77) ∷ (83, 84) ∷ (123, 123) ∷ (40, 40) ∷ []
 
--- a number of this sign, by its digits
-unfoldable pub number_at : Bool → List ℕ → Read Tree
-number_at negative bytes = digits_at bytes >>= λ x. Some (number negative x.0 1, x.1)
+abbrev pub uncounted_begin : Class
+uncounted_begin = (94, 94) ∷ (118, 118) ∷ (42, 43) ∷ (65, 65) ∷ (67, 68) ∷ (77, 77) ∷ (83, 84) ∷ (123, 123) ∷ (40, 40) ∷ []
 
--- what follows the item t of a list: the byte that stops the list, or a comma and more items
-abbrev pub next_at : ℕ → Tree → (List ℕ → Read Trees) → List ℕ → Read Trees
-next_at stop t more [] = None
-next_at stop t more (b ∷ rest) =
-    cond (b == stop) (Some (with_tree t no_trees, rest))
-    (cond (b == comma) (more (skip_blanks rest) >>= λ ts. Some (with_tree t ts.0, ts.1)) None)
+abbrev pub unsigned_begin : Class
+unsigned_begin = (48, 57) ∷ uncounted_begin
 
--- items by this reader with commas between them, so many at most, and the byte that stops the list
-unfoldable pub items_at : (List ℕ → Read Tree) → ℕ → ℕ → List ℕ → Read Trees
-items_at item stop zero bytes = None
-items_at item stop (suc turns) bytes =
-    item bytes >>= λ x. next_at stop x.0 (λ rest. items_at item stop turns rest) (skip_blanks x.1)
+abbrev pub term_begin : Class
+term_begin = (45, 45) ∷ unsigned_begin
 
--- what stands behind the blanks of a list: the byte that stops it, or items, each of one byte at least
-abbrev pub first_at : (List ℕ → Read Tree) → ℕ → List ℕ → Read Trees
-first_at item stop [] = None
-first_at item stop (b ∷ rest) =
-    cond (b == stop) (Some (no_trees, rest)) (items_at item stop (suc (length rest)) (b ∷ rest))
+abbrev pub plus_minus : Class
+plus_minus = (45, 45) ∷ (43, 43) ∷ []
 
--- a list by this reader of items, and the byte that stops it
-unfoldable pub list_at : (List ℕ → Read Tree) → ℕ → List ℕ → Read Trees
-list_at item stop bytes = first_at item stop (skip_blanks bytes)
+-- ---- tokens
 
--- what follows an opening brace, by this reader of items
-unfoldable pub braces_at : (List ℕ → Read Tree) → List ℕ → Read Tree
-braces_at item bytes = list_at item bar bytes >>= λ l. list_at item closing l.1 >>= λ r. Some (sides l.0 r.0, r.1)
+unfoldable pub over_at : Reader ℕ
+over_at = or_at (only 47) (made_at (λ v. v.1) (then_at (one_at (only 47)) digits_at)) (nothing_at 1)
 
--- an item in which so many braces at most are open at once
-unfoldable pub item_at : ℕ → List ℕ → Read Tree
-item_at zero [] = None
-item_at zero (b ∷ bytes) = cond (b == minus) (number_at true bytes) (number_at false (b ∷ bytes))
-item_at (suc braces) [] = None
-item_at (suc braces) (b ∷ bytes) =
-    cond (b == minus) (number_at true bytes)
-    (cond (b == opening) (braces_at (λ rest. item_at braces rest) bytes) (number_at false (b ∷ bytes)))
+unfoldable pub number_at : Reader (ℕ × ℕ)
+number_at = then_at digits_at over_at
 
--- what is left behind this word
-unfoldable pub word_at : List ℕ → List ℕ → Option (List ℕ)
-word_at [] bytes = Some bytes
-word_at (w ∷ word) [] = None
-word_at (w ∷ word) (b ∷ bytes) = cond (b == w) (word_at word bytes) None
+unfoldable pub count_at : ℕ → Reader (ℕ × Bool)
+count_at b = or_at digit (made_at (λ n. (n, false)) digits_at) (made_at (λ bs. (suc (length bs), true)) (bytes_at (only b)))
 
--- what is left behind all blanks, of which there is at least one
-unfoldable pub blanks_at : List ℕ → Option (List ℕ)
-blanks_at [] = None
-blanks_at (b ∷ bytes) = cond (is_blank b) (Some (skip_blanks bytes)) None
+unfoldable pub arrows_at : Bool → ℕ → Reader Arrows
+arrows_at down b = made_at (λ v. record { down = down; count = v.1.0; is_run = v.1.1 }) (then_at (one_at (only b)) (count_at b))
 
--- the end of the line
-abbrev pub end_of : List ℕ → Option (Unit {0})
-end_of [] = Some tt
-end_of (b ∷ bytes) = None
+unfoldable pub ups_at : Reader Arrows
+ups_at = or_at (only 94) (arrows_at false 94) (arrows_at true 118)
 
--- the tree whose value is asked for, where no blank stands in front
-unfoldable pub question_at : List ℕ → Option Tree
-question_at bytes =
-    word_at value_word bytes >>= λ behind. blanks_at behind >>= λ item. item_at 64 item
-    >>= λ x. end_of (skip_blanks x.1) >>= λ _. Some x.0
+-- the same, without whether it is a run
+unfoldable pub plain_count_at : ℕ → Reader ℕ
+plain_count_at b = or_at digit digits_at (made_at (λ bs. suc (length bs)) (bytes_at (only b)))
 
--- the tree whose value a line asks for
-abbrev pub line_at : List ℕ → Option Tree
-line_at line = question_at (skip_blanks line)
+unfoldable pub ups_tree_at : Reader Tree
+ups_tree_at = or_at (only 94) (made_at (λ v. ups false v.1) (then_at (one_at (only 94)) (plain_count_at 94))) (made_at (λ v. ups true v.1) (then_at (one_at (only 118)) (plain_count_at 118)))
+
+unfoldable pub nim_count_at : Reader ℕ
+nim_count_at = or_at digit digits_at (nothing_at 1)
+
+unfoldable pub nim_at : Reader Tree
+nim_at = made_at (λ v. nimber v.1) (then_at (one_at (only 42)) nim_count_at)
+
+unfoldable pub printable_at : Reader (List ℕ)
+printable_at = bytes_at printable
+
+unfoldable pub string_at : Reader (List ℕ)
+string_at = made_at (λ v. v.1.0) (then_at (byte_at 34) (then_at printable_at (byte_at 34)))
+
+unfoldable pub bars_at : Reader (ℕ × ℕ)
+bars_at = placed_at (made_at (λ bs. length bs) (run_at bar 8))
+
+abbrev pub optional_at : {A : Type 0} → Class → Reader A → Reader (Option A)
+optional_at c f = or_at c (made_at (λ v. Some v) f) (nothing_at None)
+
+unfoldable pub ups_option_at : Reader (Option Tree)
+ups_option_at = optional_at arrow ups_tree_at
+
+unfoldable pub nim_option_at : Reader (Option Tree)
+nim_option_at = optional_at star nim_at
+
+unfoldable pub tail_at : Reader (Option Tree × Option Tree)
+tail_at = then_at ups_option_at nim_option_at
+
+unfoldable pub ups_term_at : Reader Found
+ups_term_at = made_at (λ v. with_tail (clean v.0) (None, v.1)) (then_at ups_tree_at nim_option_at)
+
+unfoldable pub sign_at : Reader Bool
+sign_at = or_at (only 45) (made_at (λ _. true) (one_at (only 45))) (made_at (λ _. false) (one_at (only 43)))
+
+-- ---- switches, tiny and boards
+
+unfoldable pub switch_at : Reader Found
+switch_at = made_at (λ v. clean (switch v.1.1.0 v.1.1.1)) (then_at (byte_at 43) (then_at (byte_at 45) number_at))
+
+-- a number between parentheses
+unfoldable pub enclosed_number_at : Reader (ℕ × ℕ)
+enclosed_number_at = made_at (λ v. v.1.1.0) (then_at (byte_at 40) (then_at blanks_at (then_at number_at (then_at blanks_at (byte_at 41)))))
+
+-- tiny or miny, by the word in front
+unfoldable pub tiny_at : List ℕ → Bool → Reader Found
+tiny_at word miny = made_at (λ v. clean (tiny miny v.1.0 v.1.1)) (then_at (this_word_at word) enclosed_number_at)
+
+unfoldable pub enclosed_string_at : Reader (List ℕ)
+enclosed_string_at = made_at (λ v. v.1.1.0) (then_at (byte_at 40) (then_at blanks_at (then_at string_at (then_at blanks_at (byte_at 41)))))
+
+-- a board of one text, by the word in front
+unfoldable pub grid_at : List ℕ → GameKind → Reader Found
+grid_at word kind = made_at (λ v. clean (game kind [] v.1)) (then_at (this_word_at word) enclosed_string_at)
+
+unfoldable pub two_strings_at : Reader (List ℕ × List ℕ)
+two_strings_at = made_at (λ v. (v.0, v.1.1.1.1)) (then_at string_at (then_at blanks_at (then_at (byte_at 44) (then_at blanks_at string_at))))
+
+unfoldable pub enclosed_strings_at : Reader (List ℕ × List ℕ)
+enclosed_strings_at = made_at (λ v. v.1.1.0) (then_at (byte_at 40) (then_at blanks_at (then_at two_strings_at (then_at blanks_at (byte_at 41)))))
+
+unfoldable pub strip_at : Reader Found
+strip_at = made_at (λ v. clean (game Strip v.1.0 v.1.1)) (then_at (this_word_at (codes "Strip")) enclosed_strings_at)
+
+-- Tiny and Toads are told apart by their second byte
+unfoldable pub tiny_or_toads_at : Reader Found
+tiny_or_toads_at = made_at (λ v. v.1) (then_at (byte_at 84) (or_at (only 105) (tiny_at (codes "iny") false) (grid_at (codes "oads") Toads)))
+
+unfoldable pub named_board_at : Reader Found
+named_board_at = or_at (only 68) (grid_at (codes "Domineering") Domineering) (or_at (only 67) (grid_at (codes "Clobber") Clobber) (or_at (only 65) (grid_at (codes "Amazons") Amazons) strip_at))
+
+-- a special without brackets around an expression
+unfoldable pub plain_special_at : Reader Found
+plain_special_at = or_at (only 43) switch_at (or_at (only 77) (tiny_at (codes "Miny") true) (or_at (only 84) tiny_or_toads_at named_board_at))
+
+-- ---- terms
+
+-- what stands behind the digits of a number or a multiple
+pub data Behind : Type 0 where
+  Over : ℕ → Behind
+  Times : Found → Option Arrows → Behind
+
+-- the number or the multiple that it makes with the digits
+abbrev pub counted_from : ℕ × Behind → Counted
+counted_from (n, Over d) = whole n d
+counted_from (n, Times e last) = times n e last
+
+-- the bytes that would still belong to it
+abbrev pub behind_goes_on : Behind → Class
+behind_goes_on (Over d) = []
+behind_goes_on (Times e last) = goes_on last
+
+module _ (special : Reader Found) where
+  unfoldable pub primary_at : Reader (Found × Option Arrows)
+  primary_at = or_at arrow (made_at (λ a. (clean (ups_tree a), Some a)) ups_at) (or_at star (made_at (λ t. (clean t, None)) nim_at) (made_at (λ e. (e, None)) special))
+
+  unfoldable pub behind_at : Reader Behind
+  behind_at = or_at (only 47) (made_at (λ v. Over v.1) (then_at (one_at (only 47)) digits_at)) (or_at (only 46) (made_at (λ v. Times v.1.0 v.1.1) (then_at (one_at (only 46)) primary_at)) (nothing_at (Over 1)))
+
+  unfoldable pub counted_at : Reader (ℕ × Behind)
+  counted_at = then_at digits_at behind_at
+
+  unfoldable pub counted_term_at : Bool → Reader Found
+  counted_term_at negative = made_at (λ v. with_tail (counted_of negative (counted_from v.0)) v.1) (then_at counted_at tail_at)
+
+  -- the same, without what goes on with the last token
+  unfoldable pub plain_primary_at : Reader Found
+  plain_primary_at = or_at arrow (made_at clean ups_tree_at) (or_at star (made_at clean nim_at) special)
+
+  unfoldable pub behind_number_at : Bool → ℕ → Reader Found
+  behind_number_at negative n = or_at (only 47) (made_at (λ v. clean (number negative n v.1)) (then_at (one_at (only 47)) digits_at)) (or_at (only 46) (made_at (λ v. times_of negative n v.1) (then_at (one_at (only 46)) plain_primary_at)) (nothing_at (clean (number negative n 1))))
+
+  unfoldable pub number_or_multiple_at : Bool → Reader Found
+  number_or_multiple_at negative end bytes = digits_at end bytes >>= λ x. behind_number_at negative x.0 end x.1
+
+  unfoldable pub plain_counted_term_at : Bool → Reader Found
+  plain_counted_term_at negative = made_at (λ v. with_tail v.0 v.1) (then_at (number_or_multiple_at negative) tail_at)
+
+  unfoldable pub special_term_at : Reader Found
+  special_term_at = made_at (λ v. with_tail v.0 v.1) (then_at special tail_at)
+
+  unfoldable pub uncounted_term_at : Reader Found
+  uncounted_term_at = or_at arrow ups_term_at (or_at star (made_at clean nim_at) special_term_at)
+
+  unfoldable pub unsigned_term_at : Reader Found
+  unsigned_term_at = or_at digit (plain_counted_term_at false) uncounted_term_at
+
+  unfoldable pub minus_body_at : Reader Found
+  minus_body_at = or_at digit (plain_counted_term_at true) (or_at blank (made_at (λ v. negated v.1) (then_at gap_at unsigned_term_at)) (made_at negated uncounted_term_at))
+
+  unfoldable pub minus_term_at : Reader Found
+  minus_term_at = made_at (λ v. v.1) (then_at (one_at (only 45)) minus_body_at)
+
+  unfoldable pub term_at : Reader Found
+  term_at = or_at (only 45) minus_term_at unsigned_term_at
+
+  unfoldable pub next_term_at : Reader (Bool × Found)
+  next_term_at = made_at (λ v. (v.0, v.1.1.0)) (then_at sign_at (then_at blanks_at (then_at term_at blanks_at)))
+
+  -- an expression and the blanks behind it
+  unfoldable pub sum_at : Reader Found
+  sum_at = made_at (λ v. sum_of v.0 v.1.1) (then_at term_at (then_at blanks_at (many_at plus_minus next_term_at)))
+
+-- ---- brackets around these expressions
+
+module _ (expr : Reader Found) where
+  unfoldable pub next_item_at : Reader Found
+  next_item_at = made_at (λ v. v.1.1) (then_at (one_at (only 44)) (then_at blanks_at expr))
+
+  unfoldable pub items_at : Reader (List Found)
+  items_at = made_at (λ v. v.0 ∷ v.1) (then_at expr (many_at (only 44) next_item_at))
+
+  -- the first item and those behind it
+  unfoldable pub item_list_at : Reader (List Found)
+  item_list_at end bytes = expr end bytes >>= λ x. behind_these (only 44) next_item_at (x.0 ∷ []) end x.1
+
+  unfoldable pub side_at : Reader (List Found)
+  side_at = made_at (λ v. v.1) (then_at blanks_at (or_at term_begin item_list_at (nothing_at [])))
+
+  abbrev pub row_at : Reader ((ℕ × ℕ) × List Found)
+  row_at = then_at bars_at side_at
+
+  abbrev pub some_rows_at : Reader (((ℕ × ℕ) × List Found) × List ((ℕ × ℕ) × List Found))
+  some_rows_at = then_at row_at (many_at bar row_at)
+
+  -- the first row and those behind it
+  unfoldable pub row_list_at : Reader (List ((ℕ × ℕ) × List Found))
+  row_list_at end bytes = row_at end bytes >>= λ x. behind_these bar row_at (x.0 ∷ []) end x.1
+
+  unfoldable pub braces_at : Reader Found
+  braces_at = made_at (λ v. braces_of v.1.0 (map run_side v.1.1.0)) (then_at (byte_at 123) (then_at side_at (then_at row_list_at (byte_at 125))))
+
+  unfoldable pub paren_at : Reader Found
+  paren_at = made_at (λ v. v.1.1.0) (then_at (byte_at 40) (then_at blanks_at (then_at expr (byte_at 41))))
+
+-- an expression in brackets
+unfoldable pub bracket_at : Reader Found → Reader Found
+bracket_at expr = or_at (only 123) (braces_at expr) (paren_at expr)
+
+-- a special with so many brackets at most open at once
+unfoldable pub special_at : ℕ → Reader Found
+special_at zero end bytes = plain_special_at end bytes
+special_at (suc k) end bytes = or_at plain_begin plain_special_at (bracket_at (sum_at (λ e b. special_at k e b))) end bytes
+
+-- more terms behind these, where these faults come before
+abbrev pub with_terms : List (Bool × Tree) → Option ℕ → Read (List (Bool × Found)) → Read Found
+with_terms front fault read = read >>= λ x. Ok (record { tree = sum (terms_from (front ++ minus_of x.0)); fault = first fault (first_fault x.0) }, x.1)
+
+unfoldable pub more_terms_at : ℕ → List (Bool × Tree) → Option ℕ → Reader Found
+more_terms_at k front fault end bytes = with_terms front fault (many_at plus_minus (next_term_at (special_at k)) end bytes)
+
+-- ---- questions
+
+-- temp and thermo are told apart by their second byte
+unfoldable pub temp_or_thermo_at : Reader (Tree → Question)
+temp_or_thermo_at = made_at (λ v. v.1) (then_at (byte_at 116) (or_at (only 101) (made_at (λ _. temp) (this_word_at (codes "emp"))) (made_at (λ _. thermo) (this_word_at (codes "hermo")))))
+
+unfoldable pub asking_at : Reader (Tree → Question)
+asking_at = or_at (only 118) (made_at (λ _. value) (this_word_at (codes "value"))) (or_at (only 111) (made_at (λ _. outcome) (this_word_at (codes "outcome"))) (or_at (only 115) (made_at (λ _. stops) (this_word_at (codes "stops"))) (or_at (only 109) (made_at (λ _. mean) (this_word_at (codes "mean"))) temp_or_thermo_at)))
+
+-- a question about one expression begins with one of these
+abbrev pub asking_begin : Class
+asking_begin = (118, 118) ∷ (111, 111) ∷ (115, 116) ∷ (109, 109) ∷ []
+
+unfoldable pub measure_at : Reader Asked
+measure_at = made_at (λ v. asked_of v.0 v.1.1) (then_at asking_at (then_at gap_at (sum_at (special_at 64))))
+
+unfoldable pub compare_at : Reader Asked
+compare_at = made_at (λ v. compared v.1.1.0 v.1.1.1.1.1) (then_at (this_word_at (codes "compare")) (then_at gap_at (then_at (sum_at (special_at 64)) (then_at (byte_at 59) (then_at blanks_at (sum_at (special_at 64)))))))
+
+unfoldable pub question_at : Reader Asked
+question_at = or_at asking_begin measure_at compare_at
+
+unfoldable pub line_at : Reader Asked
+line_at = made_at (λ v. v.1) (then_at blanks_at question_at)
+
+-- the whole line
+unfoldable pub read_at : List ℕ → Result Asked ℕ
+read_at text = whole_at line_at text

@@ -1,32 +1,58 @@
--- Expressions as plain trees: a number, or braces round two lists.
-use Rattle.std.specs.Prelude.{ℕ, suc, max, Bool, List, [], ◌∷◌}
+-- Expressions and questions, without where they lie in memory.
+use Rattle.std.specs.Prelude.{ℕ, Bool, List, [], ◌∷◌}
+use Rattle.cg_syntax.specs.declared.kind.GameKind.{GameKind}
 
 mutual
-  -- a number by its sign, numerator and denominator, or braces with a list on each side of the bar
+  -- an expression
   pub data Tree : Type 0 where
+    -- a number: whether a minus stands in front, and its numerator and denominator
     number : Bool → ℕ → ℕ → Tree
+    -- so many ups, or downs
+    ups : Bool → ℕ → Tree
+    nimber : ℕ → Tree
+    -- the switch of a numerator and denominator
+    switch : ℕ → ℕ → Tree
+    -- tiny of a numerator and denominator, or miny
+    tiny : Bool → ℕ → ℕ → Tree
+    -- Left options and Right options
     sides : Trees → Trees → Tree
+    negative : Tree → Tree
+    -- so many times a tree
+    multiple : ℕ → Tree → Tree
+    sum : Terms → Tree
+    -- a position of a game: the text of its rules and that of its board
+    game : GameKind → List ℕ → List ℕ → Tree
 
   -- a list of trees
   pub data Trees : Type 0 where
     no_trees : Trees
     with_tree : Tree → Trees → Trees
 
+  -- the terms of a sum, each with whether it is subtracted
+  pub data Terms : Type 0 where
+    no_terms : Terms
+    with_term : Bool → Tree → Terms → Terms
+
 -- these trees in order
 abbrev pub trees_from : List Tree → Trees
 trees_from [] = no_trees
 trees_from (t ∷ ts) = with_tree t (trees_from ts)
 
+-- these terms in order
+abbrev pub terms_from : List (Bool × Tree) → Terms
+terms_from [] = no_terms
+terms_from (t ∷ ts) = with_term t.0 t.1 (terms_from ts)
+
 -- the braces {lefts | rights}
 abbrev pub braces : List Tree → List Tree → Tree
 braces lefts rights = sides (trees_from lefts) (trees_from rights)
 
--- how many braces are open at once where most are
-abbrev mutual
-  pub opens : Tree → ℕ
-  opens (number negative num den) = 0
-  opens (sides lefts rights) = suc (max (most_opens lefts) (most_opens rights))
-
-  pub most_opens : Trees → ℕ
-  most_opens no_trees = 0
-  most_opens (with_tree t ts) = max (opens t) (most_opens ts)
+-- a question about one tree, or about two
+pub data Question : Type 0 where
+  value : Tree → Question
+  compare : Tree → Tree → Question
+  outcome : Tree → Question
+  stops : Tree → Question
+  mean : Tree → Question
+  temp : Tree → Question
+  thermo : Tree → Question

@@ -1,12 +1,25 @@
-//! Laws of the grammar, for all lines and all plain trees. A call puts its law into the caller's facts.
+//! Laws of the grammar, for all lines and all questions. A call puts its law into the caller's facts.
 ghost use Rattle.std.specs.Prelude.{◌≡◌, ◌⊎◌, ℕ, List, false};
-ghost use Rattle.cg_syntax.specs.Tree.{Tree};
-ghost use Rattle.cg_syntax.specs.Grammar.{AsksValue};
-ghost use Rattle.cg_syntax.specs.Lines.{is_blank_line};
+ghost use Rattle.cg_syntax.specs.Tree.{Question};
+ghost use Rattle.cg_syntax.specs.Found.{Found};
+ghost use Rattle.cg_syntax.specs.Braces.{Run_side, part_of};
+ghost use Rattle.cg_syntax.specs.Splitting.{AllWithin, IsSplit, IsWithoutRepeats};
+ghost use Rattle.cg_syntax.specs.Lines.{is_blank_line, IsColumn, IsComment, Reads};
 
-/// No line asks two queries, no blank line asks one, and each line asks one or none.
+/// No line reads as two questions, no blank line and no comment as one, and each line as one, or as none. A line that
+/// reads as none has exactly one column.
 pub fn one_query()
-    ensures unique { (line : List ℕ) (s t : Tree) → AsksValue line s → AsksValue line t → s ≡ t }
-    ensures not_blank { (line : List ℕ) (t : Tree) → AsksValue line t → is_blank_line line ≡ false }
-    ensures decided { (line : List ℕ) → ((t : Tree) × AsksValue line t) ⊎ ((t : Tree) → ¬ AsksValue line t) }
+    ensures unique { (line : List ℕ) (p q : Question) → Reads line p → Reads line q → p ≡ q }
+    ensures not_blank { (line : List ℕ) (q : Question) → Reads line q → is_blank_line line ≡ false }
+    ensures not_comment { (line : List ℕ) (q : Question) → Reads line q → ¬ IsComment line }
+    ensures decided { (line : List ℕ) → ((q : Question) × Reads line q) ⊎ (((q : Question) → ¬ Reads line q)
+        × ((c : ℕ) × IsColumn line c)) }
+    ensures one_column { (line : List ℕ) (c d : ℕ) → IsColumn line c → IsColumn line d → c ≡ d }
+{}
+
+/// A brace is split at its longest run of bars, and so is each of its sides: where runs have one bar to eight, and none
+/// repeats an earlier one, the options that the grammar gives a row are those of splitting at the longest run.
+pub fn longest_run()
+    ensures { (side : List Found) (rows : List Run_side) → AllWithin 8 rows → IsWithoutRepeats rows
+        → IsSplit side rows (part_of 8 side rows) }
 {}

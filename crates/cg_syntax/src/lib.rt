@@ -1,24 +1,56 @@
 //! Lines of questions: `read_line` tells what one line of a session asks, by this grammar.
 //!
 //! ```text
-//! line   = B "value" B1 item B
-//! item   = digits | "-" digits | braces
-//! braces = "{" list "|" list "}"
-//! list   = B [ item { B "," B item } B ]
-//! digits = one to thirty bytes "0" to "9"
+//! line     = B query B
+//! query    = ( "value" | "outcome" | "stops" | "mean" | "temp" | "thermo" ) B1 expr
+//!          | "compare" B1 expr B ";" B expr
+//! expr     = term { B ( "+" | "-" ) B term }
+//! term     = [ "-" ] counted tail | special tail | ups [ nim ] | nim | "-" body
+//! body     = B1 counted tail | B ( special tail | ups [ nim ] | nim )
+//! tail     = [ ups ] [ nim ]
+//! counted  = number | multiple
+//! number   = digits [ "/" digits ]
+//! multiple = digits "." primary
+//! primary  = ups | nim | special
+//! special  = switch | tiny | braces | paren | board
+//! switch   = "+-" number
+//! tiny     = ( "Tiny" | "Miny" ) "(" B number B ")"
+//! ups      = "^" { "^" } | "^" digits | "v" { "v" } | "v" digits
+//! nim      = "*" [ digits ]
+//! braces   = "{" side bars side { bars side } "}"
+//! side     = B [ expr { B "," B expr } B ]
+//! bars     = one to eight bytes "|", with no further "|" directly after them
+//! paren    = "(" B expr B ")"
+//! board    = ( "Domineering" | "Clobber" | "Amazons" | "Toads" ) "(" B string B ")"
+//!          | "Strip" "(" B string B "," B string B ")"
+//! string   = one quotation mark, any bytes 0x20 to 0x7E but a quotation mark, one quotation mark
+//! digits   = one to thirty bytes "0" to "9"
 //! ```
 //!
-//! `B` is any number of blanks and `B1` at least one. A blank is a space, a tab or a CR.
-//! At most 64 braces are open at once.
+//! `B` is any number of blanks, and `B1` at least one. A blank is a space, a tab or a CR. Tokens are as long as
+//! possible. At most 64 braces and parens are open at once. In a brace, two runs of bars of the same length have a
+//! longer run between them. The longest run splits a brace into its Left and its Right side; a side that holds a run is
+//! one option, the brace of that side.
 #![tactic(auto)]
 
+mod arrows;
+mod bars;
+mod build;
 mod expr;
-mod fault;
-mod items;
+mod faults;
+mod found;
+mod kind;
 pub mod laws;
 mod line;
-mod tokens;
+mod named;
+mod query;
+mod questions;
+mod split;
+mod terms;
+mod text;
 
-pub use expr::{Expr, Exprs};
-pub use fault::SyntaxFault;
-pub use line::{Line, Query, read_line};
+pub use expr::{Expr, Exprs, Term, Terms};
+pub use kind::GameKind;
+pub use line::read_line;
+pub use query::{Line, Query, SyntaxFault};
+pub use text::Text;

@@ -1,64 +1,50 @@
 //! What a line of a session is.
-ghost use Rattle.std.specs.Prelude.{◌≡◌, ◌↔◌, IfOk, Ok, Err, true};
-ghost use Rattle.cg_syntax.specs.Reading.{question_at};
-ghost use Rattle.cg_syntax.specs.Gives.{Gives};
-ghost use Rattle.cg_syntax.specs.Trees.{tree_of};
-ghost use Rattle.cg_syntax.specs.Lines.{IsReadAs, IsUnread, is_blank_line};
+ghost use Rattle.std.specs.Prelude.{◌≡◌, ◌↔◌, IfOk, IfErr, Ok, true};
+ghost use Rattle.cg_syntax.specs.Answered.{IsAnswer};
+ghost use Rattle.cg_syntax.specs.Lines.{is_blank_line, IsComment, IsReadAs, IsRefused};
+ghost use Rattle.cg_syntax.specs.Trees.{question_of};
 
-use crate::expr::Expr;
-use crate::fault::SyntaxFault;
-use crate::items::item;
-use crate::tokens::{after_blanks, after_some_blanks, after_word};
+use crate::found::Asked;
+use crate::query::{Line, SyntaxFault};
+use crate::questions::whole_line;
+use cg_reading::{ReadFault, after_blanks};
 use std::alloc::Global;
-
-/// A question.
-#[derive(Debug, Drop)]
-pub enum Query {
-    /// What is the value of this expression?
-    Value(Expr),
-}
-
-/// What a line is.
-#[derive(Debug, Drop)]
-pub enum Line {
-    /// Blanks alone.
-    Blank,
-    /// A question.
-    Ask(Query),
-}
-
-/// How many braces may be open at once.
-const MOST_OPEN: u8 = 64;
 
 /// What the line is, which is given without its LF.
 ///
-/// `Blank` comes exactly where the line is blanks alone, and `Ask` with the one query that the
-/// grammar relates to the line. `Later` comes exactly where it is neither: `laws::one_query`
-/// says that no line is two of these. Only `Memory` may come in place of `Ask` or `Later`.
+/// `Blank` comes exactly for blanks alone, and `Comment` exactly where the first byte that isn't a blank is `#`.
+/// `Ask` comes with the one query that the grammar relates to the line. `Syntax` comes exactly where the line is none
+/// of these, with its column: 1 plus the length of the longest prefix that some line of the grammar has, too. Where
+/// only the rule on runs of bars is broken, it is the column of the first run that has the length of an earlier run of
+/// its brace with no longer run between them. Only `Memory` may come in place of `Ask` or `Syntax`.
 pub fn read_line(alloc: Global, line: &[u8]) -> Result<Line, SyntaxFault>
     ensures blank { (result ≡ Ok Line.Blank) ↔ (is_blank_line line.now ≡ true) }
+    ensures comment { (result ≡ Ok Line.Comment) ↔ IsComment line.now }
     ensures read { IfOk result (IsReadAs line.now) }
-    ensures later { result ≡ Err SyntaxFault.Later → IsUnread line.now }
+    ensures refused { IfErr result (IsRefused line.now) }
 {
-    let question = after_blanks(line);
-    if question.is_empty() {
+    let Some((first, _)) = after_blanks(line).split_first() else {
         return Ok(Line::Blank);
+    };
+    if *first == b'#' {
+        return Ok(Line::Comment);
     }
-    let expr = value(alloc, question)?;
-    Ok(Line::Ask(Query::Value(expr)))
+    match whole_line(alloc, line) {
+        Ok(asked) => answered(asked),
+        Err(ReadFault::Memory) => Err(SyntaxFault::Memory),
+        Err(ReadFault::Stuck(left)) => {
+            Err(SyntaxFault::Syntax(line.len() as u64 + 1 - left as u64))
+        }
+    }
 }
 
-/// The expression whose value is asked for, where no blank stands in front of the question.
-#[tactic(auto, unfolding(crate::specs::Reading::question_at))]
-fn value(alloc: Global, question: &[u8]) -> Result<Expr, SyntaxFault>
-    ensures { Gives tree_of result (question_at question.now) }
+/// The query, or the fault that was found in it.
+fn answered(asked: Asked) -> Result<Line, SyntaxFault>
+    ensures { IsAnswer (question_of asked.query) asked.fault result }
 {
-    let behind = after_word(b"value", question)?;
-    let behind = after_some_blanks(behind)?;
-    let (expr, rest) = item(alloc, MOST_OPEN, behind)?;
-    if after_blanks(rest).is_empty() {
-        Ok(expr)
-    } else {
-        Err(SyntaxFault::Later)
+    let Asked { query, fault } = asked;
+    match fault {
+        None => Ok(Line::Ask(query)),
+        Some(column) => Err(SyntaxFault::Syntax(column)),
     }
 }

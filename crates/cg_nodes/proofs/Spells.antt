@@ -1,0 +1,109 @@
+-- What the keys of numbers, lists and games spell.
+use Rattle.std.proofs.Common.{◌≡◌, ℕ, ℤ, pos, ◌+◌, ◌≤◌, ◌<◌, ◌^◌, Option, Some, None, IsSome, List, [], ◌∷◌, unsigned_abs, arith, ap, sym, refl, ◌∙◌, subst}
+use Rattle.cg_dyadic.specs.Number.{Number, ratio, whole, InRange, IsFraction}
+use Rattle.cg_dyadic.proofs.Fractions.{fraction-ratio, fraction-unique, ratio-lowest}
+use Rattle.cg_form.specs.Game.{Game, number, node}
+use Rattle.cg_form.specs.Canonical.{Canonical}
+use Rattle.cg_form.specs.Order.{Equal}
+use Rattle.cg_form.proofs.Order.{le-fold}
+use Rattle.std.specs.FinMap as map
+use Rattle.cg_cells.specs.Meaning.{IsReal}
+use Rattle.cg_cells.specs.Store.{State, thing_at}
+use Rattle.cg_cells.specs.declared.key.KeyParts.{KeyParts}
+use Rattle.cg_cells.specs.declared.key.KeyParts.TheVariants as key
+use Rattle.cg_cells.specs.Layout.{FieldsFit, id_field}
+use Rattle.cg_cells.specs.Parts.{parts_of}
+use Rattle.cg_nodes.specs.Meant.{Meant, form}
+use Rattle.cg_nodes.specs.Spelled.{game_meaning, Map, spelled, list_at}
+use Rattle.cg_nodes.specs.CanForms.{is_canonical-true}
+use Rattle.cg_nodes.specs.Inverse.{inverse}
+use Rattle.cg_nodes.specs.Games.{IsGame, game_at, ListsAs, listed, IsList, StandsFor}
+
+lists_at : {R : Type 0} (s : State Meant R) (o : Option ℕ) (gs : List Game) → ListsAs s o gs
+    → list_at (thing_at s) o ≡ Some gs
+lists_at s None gs h = ap Some (sym h)
+lists_at s (Some id) [] h = absurd h
+lists_at s (Some id) (g ∷ gs) h = rw h refl
+
+nothing_is_zero : Equal (number (whole (pos 0))) (node [] [])
+nothing_is_zero = (
+  le-fold (number (whole (pos 0))) (node [] []) (record { on_left = λ a m. absurd m; on_right = λ b m. absurd m }),
+  le-fold (node [] []) (number (whole (pos 0))) (record { on_left = λ a m. absurd m; on_right = λ b m. absurd m }),
+)
+
+-- a canonical form has an option
+pub has_option : {R : Type 0} (s : State Meant R) (l r : Option ℕ) → Canonical (node (listed s l) (listed s r))
+    → 1 ≤ id_field l + id_field r
+has_option s None None c = absurd (c.0.no_number (whole (pos 0)) nothing_is_zero)
+has_option s (Some i) r c = omega arith
+has_option s None (Some j) c = omega arith
+
+pub spells-game : {R : Type 0} (k : ℕ) (l r : Option ℕ) (s : State Meant R) → parts_of k ≡ Some (key.Game l r)
+    → IsList s l → IsList s r → Canonical (node (listed s l) (listed s r))
+    → spelled (parts_of k) (thing_at s) ≡ Some (form (node (listed s l) (listed s r)))
+spells-game k l r s e a b c = rw (
+  e,
+  lists_at s l (listed s l) a,
+  lists_at s r (listed s r) b,
+  is_canonical-true
+      (node (listed s l) (listed s r)) c,
+) refl
+
+pub stands-game : {R Q : Type 0} (k i : ℕ) (l r : Option ℕ) (s : State Meant R) (t : State Meant Q)
+    → parts_of k ≡ Some (key.Game l r) → IsList s l → IsList s r → Canonical (node (listed s l) (listed s r))
+    → thing_at t i ≡ spelled (parts_of k) (thing_at s) → StandsFor t i (node (listed s l) (listed s r))
+stands-game k i l r s t e a b c h = h ∙ spells-game k l r s e a b c
+
+pub some_from : (o : Option Meant) (t : Meant) → o ≡ Some t → IsSome o
+some_from o t e = rw e refl
+
+canonical_spelled_at : (o : Option KeyParts) (f : Map) (g : Game) → spelled o f ≡ Some (form g) → Canonical g
+canonical_spelled_at None f g e = cc
+canonical_spelled_at (Some (key.Number n x)) f g e =
+    let h = inverse (key.Number n x) f (form g) e in
+    let s : g ≡ number (ratio n x) = cc in
+    let P : Game → Type 0 = λ k. Canonical k in
+    subst P (sym s) tt
+canonical_spelled_at (Some (key.Chunk c o)) f g e = let h = inverse (key.Chunk c o) f (form g) e in cc
+canonical_spelled_at (Some (key.Cons i o)) f g e = let h = inverse (key.Cons i o) f (form g) e in cc
+canonical_spelled_at (Some (key.Game l r)) f g e =
+    let h = inverse (key.Game l r) f (form g) e in
+    let s : g ≡ node h.0 h.1 = cc in
+    let P : Game → Type 0 = λ k. Canonical k in
+    subst P (sym s) h.5
+canonical_spelled_at (Some (key.Pair i j)) f g e = let h = inverse (key.Pair i j) f (form g) e in cc
+canonical_spelled_at (Some (key.Board n r c i)) f g e = let h = inverse (key.Board n r c i) f (form g) e in cc
+
+pub canonical_spelled : {R : Type 0} (k i : ℕ) (f : Map) (s : State Meant R) → IsGame s i
+    → spelled (parts_of k) f ≡ thing_at s i → Canonical (game_at s i)
+canonical_spelled k i f s g e = canonical_spelled_at (parts_of k) f (game_at s i) (e ∙ g)
+
+-- ---- the number of a key
+
+-- a fraction is the number of its fields
+pub ratio_is : (n m : ℤ) (k : ℕ) (x : Number) → n ≡ m → IsFraction m k x → x ≡ ratio n k
+ratio_is n m k x e f = let P : ℤ
+    → Type 0 = λ z. IsFraction z k x in fraction-unique n k x (ratio n k) (subst P (sym e) f) (fraction-ratio n k)
+
+pub ratio_in_range : (n : ℤ) (k : ℕ) → FieldsFit (key.Number n k) → InRange (ratio n k)
+ratio_in_range n k f =
+    let e = ratio-lowest n k f.2 in
+    record {
+      small = (let P : ℤ → Type 0 = λ z. unsigned_abs z < 2 ^ 52 in subst P (sym e.0) f.0);
+      short = (let P : ℕ → Type 0 = λ z. z ≤ 31 in subst P (sym e.1) f.1);
+    }
+
+-- and no fault holds it
+pub no_fault : (n m : ℤ) (k : ℕ) (x : Number) → n ≡ m → FieldsFit (key.Number n k) → IsFraction m k x → ¬ InRange x → ⊥
+no_fault n m k x e f is outside =
+    let P : Number → Type 0 = λ z. InRange z in
+    outside (subst P (sym (ratio_is n m k x e is)) (ratio_in_range n k f))
+
+-- ---- what is known is canonical
+
+-- a game that some key spells is canonical
+pub real-canonical : {R : Type 0} (raw : ℕ → ℕ → ℕ → List ℕ → Game) (s : State Meant R) (h : ℕ)
+    → IsReal (game_meaning raw) (thing_at s h) → IsGame s h → Canonical (game_at s h)
+real-canonical raw s h real g =
+    let r = real (form (game_at s h)) g in
+    canonical_spelled_at (parts_of r.0) (map.get r.1) (game_at s h) r.2

@@ -1,0 +1,11 @@
+pub mod Meant
+pub mod MeantCode
+pub mod Boards
+pub mod Spelled
+pub mod CanForms
+pub mod Inverse
+pub mod Lawful
+pub mod Games
+pub mod Positions
+pub mod Partings
+pub mod Walks

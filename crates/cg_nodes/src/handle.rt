@@ -1,0 +1,119 @@
+//! Handles of numbers and games, and of lists of them.
+ghost use Rattle.std.specs.Prelude.{◌≡◌, ◌↔◌, IsTrue, [], length};
+
+use cg_cells::Id;
+use cg_dyadic::Dyadic;
+use std::marker::Model;
+
+/// The id of a number or a game. Contracts see it as the id's number.
+#[derive(Clone, Copy, Debug, PartialEq, Eq)]
+pub struct Handle {
+    id: Id,
+}
+
+impl Model for Handle {
+    ghost use Rattle.std.specs.Prelude.{ℕ};
+
+    ghost Value = { ℕ };
+
+    ghost view = { λ s. s.id };
+
+    ghost inverse = { λ n. record { id = n } };
+}
+
+impl Handle {
+    /// The handle of this id.
+    pub fn of(id: Id) -> Handle
+        ensures { result ≡ id }
+    {
+        Handle { id }
+    }
+
+    /// The id of the handle.
+    pub fn id(&self) -> Id
+        ensures { result ≡ self.now }
+    {
+        self.id
+    }
+}
+
+impl Default for Handle {
+    ghost is_default = { λ h. h ≡ 0 };
+
+    /// The handle of the first cell: a blank for lists that keep unused places.
+    fn default() -> Self {
+        Handle { id: Id::new(0) }
+    }
+}
+
+/// Whether a handle stands for a number.
+#[derive(Clone, Copy, Debug, PartialEq, Eq)]
+pub enum Kind {
+    /// It stands for this number.
+    Number(Dyadic),
+    /// It stands for a game that equals no number.
+    Game,
+}
+
+/// The id of a list cell, or none for the empty list. Contracts see it as that option.
+#[derive(Clone, Copy, Debug, PartialEq, Eq)]
+pub struct ListId {
+    pub(crate) id: Option<Id>,
+}
+
+impl Model for ListId {
+    ghost use Rattle.std.specs.Prelude.{ℕ, Option};
+
+    ghost Value = { Option ℕ };
+
+    ghost view = { λ s. s.id };
+
+    ghost inverse = { λ n. record { id = n } };
+}
+
+/// Handles in their order. Contracts see a list of handles.
+#[derive(Debug, Drop)]
+pub struct Handles {
+    items: Vec<Handle>,
+}
+
+impl Model for Handles {
+    ghost use Rattle.std.specs.Prelude.{ℕ, List};
+    ghost use Rattle.std.specs.Coded.{coded_list, coded_ℕ};
+
+    ghost Value = { List ℕ };
+
+    ghost coded = { coded_list coded_ℕ };
+
+    ghost view = { λ s. s.items.items };
+}
+
+impl Handles {
+    /// These handles.
+    pub fn of(items: Vec<Handle>) -> Handles
+        ensures { result ≡ items.items }
+    {
+        Handles { items }
+    }
+
+    /// How many there are.
+    pub fn len(&self) -> usize
+        ensures { result ≡ length self.now }
+    {
+        self.items.len()
+    }
+
+    /// Whether there is none.
+    pub fn is_empty(&self) -> bool
+        ensures { IsTrue result ↔ (self.now ≡ []) }
+    {
+        self.items.is_empty()
+    }
+
+    /// The handles, in their order.
+    pub fn as_slice(&self) -> &[Handle]
+        ensures { result.now ≡ self.now }
+    {
+        &self.items
+    }
+}

@@ -1,0 +1,27 @@
+//! Numbers, lists and games in the cells of a store.
+//!
+//! A [`Handle`] is the id of a number or a game, and stands for one form: a number where the game equals one, and else a
+//! canonical game. Different handles of a store stand for different games. A [`ListId`] is the id of a list of handles. The
+//! calls are generic over the store, and each leaves what is known, noted and spared as it was, but for what it claims.
+//!
+//! [`number`], [`list`] and [`game`] claim cells; [`kind`], [`options`], [`positions`] and [`compare_structure`] read them,
+//! over [`read`], [`head`] and [`handles`]. Only what answers a list of handles takes memory.
+#![tactic(auto)]
+
+mod facts;
+mod fault;
+mod found;
+mod handle;
+pub mod laws;
+mod making;
+mod reading;
+mod structure;
+mod walk;
+
+pub use facts::{BoardForms, GameFacts, NoBoards, Thing};
+pub use fault::PositionsFault;
+pub use handle::{Handle, Handles, Kind, ListId};
+pub use making::{game, list, number};
+pub use reading::{Reading, Sides, Split, handles, head, kind, options, read};
+pub use structure::compare_structure;
+pub use walk::positions;

@@ -1,0 +1,81 @@
+//! Numbers, lists and games put into cells.
+ghost use Rattle.std.specs.Prelude.{◌≡◌, ◌≤◌, ◌∷◌, length};
+ghost use Rattle.cg_form.specs.Game.{number, node};
+ghost use Rattle.cg_form.specs.Canonical.{Canonical};
+ghost use Rattle.cg_cells.specs.Store.{Spends};
+ghost use Rattle.cg_nodes.specs.Games.{StandsFor, IsGame, game_at, AreGames, games_at, ListsAs, listed, IsList};
+
+use crate::{BoardForms, GameFacts, Handle, ListId};
+use cg_cells::{CellStore, Key, KeyParts};
+use cg_dyadic::Dyadic;
+
+/// The handle of the number. It spends one claim.
+pub fn number<B: BoardForms, S: CellStore<GameFacts<B>>>(store: &mut S, x: Dyadic) -> Handle
+    requires { 1 ≤ (S.state store.old).spare }
+    ensures game { StandsFor (S.state store.new) result (number x) }
+    ensures spends { Spends 1 (S.state store.old) (S.state store.new) }
+{
+    let key = Key::pack(KeyParts::Number {
+        num: x.num(),
+        exp: x.exp(),
+    });
+    Handle::of(store.claim(key))
+}
+
+// The list with one more game before it.
+fn prepend<B: BoardForms, S: CellStore<GameFacts<B>>>(
+    store: &mut S,
+    first: Handle,
+    rest: ListId,
+) -> ListId
+    requires spare { 1 ≤ (S.state store.old).spare }
+    requires first { IsGame (S.state store.old) first }
+    requires rest { IsList (S.state store.old) rest }
+    ensures list { ListsAs (S.state store.new) result
+        (game_at (S.state store.old) first ∷ listed (S.state store.old) rest) }
+    ensures spends { Spends 1 (S.state store.old) (S.state store.new) }
+{
+    let key = Key::pack(KeyParts::Cons {
+        first: first.id(),
+        rest: rest.id,
+    });
+    ListId {
+        id: Some(store.claim(key)),
+    }
+}
+
+/// The list of the games of the handles, in their order. It spends a claim for each.
+pub fn list<B: BoardForms, S: CellStore<GameFacts<B>>>(store: &mut S, options: &[Handle]) -> ListId
+    requires spare { length options.now ≤ (S.state store.old).spare }
+    requires games { AreGames (S.state store.old) options.now }
+    ensures list { ListsAs (S.state store.new) result (games_at (S.state store.old) options.now) }
+    ensures spends { Spends (length options.now) (S.state store.old) (S.state store.new) }
+{
+    let mut list = ListId { id: None };
+    for option in options.iter().rev() {
+        list = prepend(store, *option, list);
+    }
+    list
+}
+
+/// The handle of the game with these lists of Left and Right options, which must be canonical and so equals no number. It
+/// spends one claim.
+pub fn game<B: BoardForms, S: CellStore<GameFacts<B>>>(
+    store: &mut S,
+    lefts: ListId,
+    rights: ListId,
+) -> Handle
+    requires spare { 1 ≤ (S.state store.old).spare }
+    requires lefts { IsList (S.state store.old) lefts }
+    requires rights { IsList (S.state store.old) rights }
+    requires canonical { Canonical (node (listed (S.state store.old) lefts) (listed (S.state store.old) rights)) }
+    ensures game { StandsFor (S.state store.new) result
+        (node (listed (S.state store.old) lefts) (listed (S.state store.old) rights)) }
+    ensures spends { Spends 1 (S.state store.old) (S.state store.new) }
+{
+    let key = Key::pack(KeyParts::Game {
+        lefts: lefts.id,
+        rights: rights.id,
+    });
+    Handle::of(store.claim(key))
+}

@@ -1,0 +1,118 @@
+//! The positions of the game of a handle.
+ghost use Rattle.std.specs.Prelude.{◌≡◌, ◌<◌, ◌≤◌, ◌∷◌, ◌++◌, [], IfOk, OnOk, IsTrue, ◌↔◌, length, Err};
+ghost use Rattle.cg_form.specs.Game.{of_list};
+ghost use Rattle.cg_cells.specs.Meaning.{Has};
+ghost use Rattle.cg_cells.specs.Store.{Spends};
+ghost use Rattle.cg_nodes.specs.Games.{IsGame, game_at, games_at, IsList, listed, StandFor, AreDistinct};
+ghost use Rattle.cg_nodes.specs.Positions.{all_positions, positions_in, positions_of};
+ghost use Rattle.cg_nodes.specs.Walks.{AreFound, AreFoundAfter, extended, positions_before};
+
+use crate::found::Found;
+use crate::{BoardForms, GameFacts, Handle, Handles, ListId, PositionsFault, Reading, head, read};
+use cg_cells::CellStore;
+use std::alloc::Global;
+
+// Puts the positions of the game behind those that were found. A game that was found before has all of its positions there.
+#[cycle(walk)]
+fn walk_game<B: BoardForms, S: CellStore<GameFacts<B>>>(
+    store: &mut S,
+    found: Found,
+    handle: Handle,
+    limit: u64,
+) -> Result<Found, PositionsFault>
+    requires game { IsGame (S.state store.old) handle }
+    requires found { AreFound (S.state store.old) found }
+    requires within { length found ≤ limit }
+    ensures found { IfOk result (λ more.
+        AreFoundAfter (S.state store.old) (S.state store.new) found more (all_positions (game_at (S.state store.old) handle))) }
+    ensures within { IfOk result (λ more. length more ≤ limit) }
+    ensures refused { result ≡ Err PositionsFault.Positions
+        → limit < length (extended (games_at (S.state store.old) found)
+        (all_positions (game_at (S.state store.old) handle))) }
+    ensures spends { Spends 0 (S.state store.old) (S.state store.new) }
+{
+    store.apart();
+    if found.has(handle) {
+        return Ok(found);
+    }
+    let found = walk_options(store, found, handle, limit)?;
+    found.add(handle, limit)
+}
+
+// Puts the positions of the options behind those that were found. A number has no positions but itself.
+#[cycle(walk)]
+fn walk_options<B: BoardForms, S: CellStore<GameFacts<B>>>(
+    store: &mut S,
+    found: Found,
+    handle: Handle,
+    limit: u64,
+) -> Result<Found, PositionsFault>
+    requires game { IsGame (S.state store.old) handle }
+    requires found { AreFound (S.state store.old) found }
+    requires within { length found ≤ limit }
+    ensures found { IfOk result (λ more.
+        AreFoundAfter (S.state store.old) (S.state store.new) found more (positions_before (game_at (S.state store.old) handle))) }
+    ensures within { IfOk result (λ more. length more ≤ limit) }
+    ensures refused { result ≡ Err PositionsFault.Positions
+        → limit < length (extended (games_at (S.state store.old) found)
+        (positions_before (game_at (S.state store.old) handle))) }
+    ensures spends { Spends 0 (S.state store.old) (S.state store.new) }
+{
+    match read(store, handle) {
+        Reading::Number(_) => Ok(found),
+        Reading::Game(lefts, rights) => {
+            let found = walk_list(store, found, lefts, limit)?;
+            walk_list(store, found, rights, limit)
+        }
+    }
+}
+
+// Puts the positions of each game of the list behind those that were found.
+#[cycle(walk)]
+fn walk_list<B: BoardForms, S: CellStore<GameFacts<B>>>(
+    store: &mut S,
+    found: Found,
+    list: ListId,
+    limit: u64,
+) -> Result<Found, PositionsFault>
+    requires list { IsList (S.state store.old) list }
+    requires found { AreFound (S.state store.old) found }
+    requires within { length found ≤ limit }
+    ensures found { IfOk result (λ more.
+        AreFoundAfter (S.state store.old) (S.state store.new) found more (positions_in (of_list (listed (S.state store.old) list)))) }
+    ensures within { IfOk result (λ more. length more ≤ limit) }
+    ensures refused { result ≡ Err PositionsFault.Positions
+        → limit < length (extended (games_at (S.state store.old) found)
+        (positions_in (of_list (listed (S.state store.old) list)))) }
+    ensures spends { Spends 0 (S.state store.old) (S.state store.new) }
+{
+    let mut found = found;
+    let mut left = list;
+    while let Some(top) = head(store, left) {
+        found = walk_game(store, found, top.first, limit)?;
+        left = top.rest;
+    }
+    Ok(found)
+}
+
+/// The handles of the positions of the game: of a number itself alone, and of another game those of each Left option in
+/// order, those of each Right option in order, then the game itself, each only where it comes first. `Positions` comes
+/// exactly where there are more than `limit`. `Memory` is the other error.
+pub fn positions<B: BoardForms, S: CellStore<GameFacts<B>>>(
+    alloc: Global,
+    store: &mut S,
+    handle: Handle,
+    limit: u64,
+) -> Result<Handles, PositionsFault>
+    requires { IsGame (S.state store.old) handle }
+    ensures positions { IfOk result (λ hs.
+        StandFor (S.state store.new) hs (positions_of (game_at (S.state store.old) handle))) }
+    ensures distinct { IfOk result AreDistinct }
+    ensures within { OnOk result (length (positions_of (game_at (S.state store.old) handle)) ≤ limit) }
+    ensures refused { result ≡ Err PositionsFault.Positions
+        → limit < length (positions_of (game_at (S.state store.old) handle)) }
+    ensures spends { Spends 0 (S.state store.old) (S.state store.new) }
+{
+    let found = walk_game(store, Found::new(alloc), handle, limit)?;
+    Ok(found.into_handles())
+}

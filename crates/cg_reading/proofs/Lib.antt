@@ -1,0 +1,15 @@
+pub mod Sets
+pub mod Laws
+pub mod Steps
+pub mod ByteRuns
+pub mod Many
+pub mod Longest
+pub mod Same
+pub mod WholeLines
+pub mod Rules
+pub mod Gathered
+pub mod GivesLemmas
+pub mod Skip
+pub mod DigitLemmas
+pub mod TokenLaws
+pub mod Words

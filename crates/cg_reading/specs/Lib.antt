@@ -1,0 +1,7 @@
+pub mod Bytes
+pub mod Pieces
+pub mod Tokens
+pub mod Readers
+pub mod TokenReaders
+pub mod Column
+pub mod Gives

@@ -1,0 +1,20 @@
+-- The questions that the code hands on while it reads.
+use Rattle.cg_syntax.specs.Tree.{Tree, Question, value, outcome, stops, mean, temp, thermo}
+use Rattle.cg_syntax.specs.Found.{Asked}
+use Rattle.cg_syntax.specs.Trees.{question_of}
+use Rattle.cg_syntax.specs.declared.found.Asked as code
+use Rattle.cg_syntax.specs.declared.questions.Asking.{Asking}
+use Rattle.cg_syntax.specs.declared.questions.Asking.TheVariants as askings
+
+-- what is asked of one tree
+abbrev pub asking_of : Asking → (Tree → Question)
+asking_of askings.Value = value
+asking_of askings.Outcome = outcome
+asking_of askings.Stops = stops
+asking_of askings.Mean = mean
+asking_of askings.Temp = temp
+asking_of askings.Thermo = thermo
+
+-- a question that was found, with the first fault in it
+abbrev pub asked_in : code.Asked → Asked
+asked_in a = record { question = question_of a.query; fault = a.fault }

@@ -1,0 +1,32 @@
+-- What the values stand for that the code hands on while it reads.
+use Rattle.std.specs.Prelude.{ℕ, List, map, Option, Some, None}
+use Rattle.cg_syntax.specs.Tree.{Tree}
+use Rattle.cg_syntax.specs.Found.{Found}
+use Rattle.cg_syntax.specs.Braces.{Run_side, Cut, Whole, Parts}
+use Rattle.cg_syntax.specs.Values.{run_side}
+use Rattle.cg_syntax.specs.Trees.{tree_of}
+use Rattle.cg_syntax.specs.declared.expr.Expr.{Expr}
+use Rattle.cg_syntax.specs.declared.found.Found as code
+use Rattle.cg_syntax.specs.declared.found.Row as code_row
+use Rattle.cg_syntax.specs.declared.split.Cut as code_cut
+use Rattle.cg_syntax.specs.declared.split.Cut.TheVariants as cuts
+
+-- a tree that was found, with the first fault in it
+abbrev pub found_of : code.Found → Found
+found_of f = record { tree = tree_of f.expr; fault = f.fault }
+
+-- the tree of an expression, if there is one
+abbrev pub tree_option : Option Expr → Option Tree
+tree_option None = None
+tree_option (Some e) = Some (tree_of e)
+
+-- a run of bars, and the side behind it
+abbrev pub row_of : code_row.Row → (ℕ × ℕ) × List Found
+row_of r = ((r.column, r.bars), map found_of r.side.items)
+
+abbrev pub rows_of : List code_row.Row → List Run_side
+rows_of rows = map run_side (map row_of rows)
+
+abbrev pub cut_of : code_cut.Cut → Cut
+cut_of (cuts.Whole rows) = Whole (rows_of rows.items)
+cut_of (cuts.Parts before middle behind) = Parts (rows_of before.items) (map found_of middle.items) (rows_of behind.items)

@@ -1,0 +1,141 @@
+//! Expressions from their parts.
+ghost use Rattle.std.specs.Prelude.{map, ◌≡◌, Ok, ◌∷◌, [], false};
+ghost use Rattle.cg_reading.specs.Gives.{Gives};
+ghost use Rattle.cg_syntax.specs.Braces.{only_tree};
+ghost use Rattle.cg_syntax.specs.Tree.{sum, terms_from};
+ghost use Rattle.cg_syntax.specs.Trees.{tree_of, terms_of};
+ghost use Rattle.cg_syntax.specs.Values.{with_tail, negated, times_of, together, braces_of as braces_value};
+ghost use Rattle.cg_syntax.specs.Views.{found_of, tree_option, rows_of};
+
+use crate::expr::{Expr, Exprs, Term, Terms};
+use crate::faults::{earlier, rows_fault, side_fault};
+use crate::found::{Found, Row};
+use crate::split::part;
+use cg_reading::ReadFault;
+use std::alloc::Global;
+
+/// An operand with what stands together behind it.
+pub fn joined(
+    alloc: Global,
+    found: Found,
+    ups: Option<Expr>,
+    nim: Option<Expr>,
+) -> Result<Found, ReadFault>
+    ensures { Gives found_of result
+        (Ok (with_tail (found_of found) (tree_option ups, tree_option nim))) }
+{
+    let fault = found.fault;
+    let expr = found.expr;
+    let expr = match ups {
+        None => match nim {
+            None => expr,
+            Some(nim) => of_two(alloc, expr, nim)?,
+        },
+        Some(ups) => match nim {
+            None => of_two(alloc, expr, ups)?,
+            Some(nim) => of_three(alloc, expr, ups, nim)?,
+        },
+    };
+    Ok(Found { expr, fault })
+}
+
+/// The sum of these terms.
+#[tactic(auto, using(crate::proofs::TreeOf::sum_tree))]
+pub fn sum_of_terms(terms: Vec<Term>) -> Expr
+    ensures { tree_of result ≡ sum (terms_from (terms_of terms.items)) }
+{
+    Expr::Sum(Terms::of(terms))
+}
+
+/// The sum of two.
+#[tactic(auto, using(crate::proofs::TreeOf::two_terms))]
+fn of_two(alloc: Global, first: Expr, second: Expr) -> Result<Expr, ReadFault>
+    ensures { Gives tree_of result (Ok (together (tree_of first) ((false, tree_of second) ∷ []))) }
+{
+    let mut terms = Vec::new(alloc);
+    terms.push(Term {
+        minus: false,
+        expr: first,
+    })?;
+    terms.push(Term {
+        minus: false,
+        expr: second,
+    })?;
+    Ok(sum_of_terms(terms))
+}
+
+/// The sum of three.
+#[tactic(auto, using(crate::proofs::TreeOf::three_terms))]
+fn of_three(alloc: Global, first: Expr, second: Expr, third: Expr) -> Result<Expr, ReadFault>
+    ensures { Gives tree_of result
+        (Ok (together (tree_of first) ((false, tree_of second) ∷ (false, tree_of third) ∷ []))) }
+{
+    let mut terms = Vec::new(alloc);
+    terms.push(Term {
+        minus: false,
+        expr: first,
+    })?;
+    terms.push(Term {
+        minus: false,
+        expr: second,
+    })?;
+    terms.push(Term {
+        minus: false,
+        expr: third,
+    })?;
+    Ok(sum_of_terms(terms))
+}
+
+/// The negative.
+#[tactic(auto, using(crate::proofs::TreeOf::negative_tree))]
+pub fn negative(alloc: Global, found: Found) -> Result<Found, ReadFault>
+    ensures { Gives found_of result (Ok (negated (found_of found))) }
+{
+    let fault = found.fault;
+    let expr = Expr::Negative(Box::new(alloc, found.expr)?);
+    Ok(Found { expr, fault })
+}
+
+/// A multiple, or its negative.
+#[tactic(auto, using(crate::proofs::TreeOf::multiple_tree))]
+pub fn multiple(
+    alloc: Global,
+    is_negative: bool,
+    count: u128,
+    found: Found,
+) -> Result<Found, ReadFault>
+    ensures { Gives found_of result (Ok (times_of is_negative count (found_of found))) }
+{
+    let fault = found.fault;
+    let expr = Expr::Multiple(count, Box::new(alloc, found.expr)?);
+    let found = Found { expr, fault };
+    if is_negative {
+        negative(alloc, found)
+    } else {
+        Ok(found)
+    }
+}
+
+/// The braces of a row.
+pub fn braces_of(alloc: Global, side: Vec<Found>, rows: Vec<Row>) -> Result<Found, ReadFault>
+    ensures { Gives found_of result
+        (Ok (braces_value (map found_of side.items) (rows_of rows.items))) }
+{
+    let fault = earlier(side_fault(&side), rows_fault(alloc, &rows)?);
+    let parts = part(alloc, 8, side, rows)?;
+    let expr = only(alloc, parts);
+    Ok(Found { expr, fault })
+}
+
+/// The only one of these, or braces of nothing.
+#[tactic(auto, using(crate::proofs::TreeOf::empty_braces))]
+fn only(alloc: Global, parts: Vec<Expr>) -> Expr
+    ensures { tree_of result ≡ only_tree (map tree_of parts.items) }
+{
+    if parts.is_empty() {
+        let none = Exprs::of(Vec::new(alloc));
+        return Expr::Braces(none, Exprs::of(Vec::new(alloc)));
+    }
+    let mut parts = parts;
+    parts.remove(0)
+}

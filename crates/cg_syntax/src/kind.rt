@@ -1,0 +1,16 @@
+//! The games that a board may be of.
+
+/// A game whose positions are written as boards.
+#[derive(Clone, Copy, Debug, PartialEq, Eq)]
+pub enum GameKind {
+    /// Left places upright dominoes, and Right level ones.
+    Domineering,
+    /// A stone takes the place of a neighbour of the other colour.
+    Clobber,
+    /// An amazon moves like a queen, and shoots an arrow like one.
+    Amazons,
+    /// Toads and frogs step and jump along a row.
+    Toads,
+    /// A row of cells that is rewritten by rules of its own.
+    Strip,
+}

@@ -1,0 +1,44 @@
+//! What a line of a session is, and why one isn't read.
+use crate::expr::Expr;
+use thiserror::Error;
+
+/// A question about one expression or about two.
+#[derive(Debug, Drop)]
+pub enum Query {
+    /// What is the value of this expression?
+    Value(Expr),
+    /// How does the first compare with the second?
+    Compare(Expr, Expr),
+    /// Who wins?
+    Outcome(Expr),
+    /// What are the stops?
+    Stops(Expr),
+    /// What is the mean value?
+    Mean(Expr),
+    /// What is the temperature?
+    Temp(Expr),
+    /// What is the thermograph?
+    Thermo(Expr),
+}
+
+/// What a line is.
+#[derive(Debug, Drop)]
+pub enum Line {
+    /// Blanks alone.
+    Blank,
+    /// A line whose first byte that isn't a blank is `#`.
+    Comment,
+    /// A question.
+    Ask(Query),
+}
+
+/// Why `read_line` read nothing.
+#[derive(Clone, Copy, Debug, PartialEq, Eq, Error)]
+pub enum SyntaxFault {
+    /// The line is neither blank nor a comment, and isn't in the grammar. The column counts bytes from 1.
+    #[error("the line isn't in the grammar at column {0}")]
+    Syntax(u64),
+    /// There was no memory for the expressions.
+    #[error("out of memory")]
+    Memory,
+}

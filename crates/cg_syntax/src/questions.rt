@@ -1,0 +1,153 @@
+//! Questions about one expression or about two.
+ghost use Rattle.std.specs.Prelude.{◌≡◌, ◌<◌, ◌≤◌, length, IfOk, ℕ};
+ghost use Rattle.cg_reading.specs.Bytes.{has};
+ghost use Rattle.cg_reading.specs.Gives.{Gives};
+ghost use Rattle.cg_reading.specs.Readers.{made_at};
+ghost use Rattle.cg_reading.specs.TokenReaders.{this_word_at};
+ghost use Rattle.cg_syntax.specs.Reading.{asking_at, temp_or_thermo_at, asking_begin, measure_at, compare_at};
+ghost use Rattle.cg_syntax.specs.Reading.{question_at, read_at};
+ghost use Rattle.cg_syntax.specs.Trees.{tree_of, question_of};
+ghost use Rattle.cg_syntax.specs.Questions.{asking_of, asked_in};
+
+use crate::expr::Expr;
+use crate::faults::earlier;
+use crate::found::Asked;
+use crate::query::Query;
+use crate::terms::sum;
+use cg_reading::{ReadFault, after_blanks, after_byte, after_gap, after_word, is_byte};
+use std::alloc::Global;
+
+/// How many braces and parentheses may be open at once.
+const MOST_OPEN: u8 = 64;
+
+/// What is asked of one expression.
+#[derive(Clone, Copy, Debug, PartialEq, Eq)]
+pub enum Asking {
+    Value,
+    Outcome,
+    Stops,
+    Mean,
+    Temp,
+    Thermo,
+}
+
+/// This question by this word.
+fn one_word<'a>(
+    asking: Asking,
+    word: &[u8],
+    bytes: &'a [u8],
+) -> Result<(Asking, &'a [u8]), ReadFault>
+    ensures read { (end : ℕ) → Gives (λ x. (asking_of x.0, x.1.now)) result
+        (made_at (λ _. asking_of asking) (this_word_at word.now) end bytes.now) }
+    ensures shorter { IfOk result (λ x. length x.1.now ≤ length bytes.now) }
+{
+    let rest = after_word(word, bytes)?;
+    Ok((asking, rest))
+}
+
+/// The words `temp` and `thermo`, which are told apart by their second byte.
+#[tactic(auto, unfolding(crate::specs::Reading::temp_or_thermo_at))]
+fn temp_or_thermo(bytes: &[u8]) -> Result<(Asking, &[u8]), ReadFault>
+    ensures read { (end : ℕ) → Gives (λ x. (asking_of x.0, x.1.now)) result
+        (temp_or_thermo_at end bytes.now) }
+    ensures shorter { IfOk result (λ x. length x.1.now ≤ length bytes.now) }
+{
+    let rest = after_byte(b't', bytes)?;
+    match rest.split_first() {
+        Some((second, _)) if is_byte(b'e', *second) => one_word(Asking::Temp, b"emp", rest),
+        _ => one_word(Asking::Thermo, b"hermo", rest),
+    }
+}
+
+/// The word of a question about one expression.
+#[tactic(auto, unfolding(crate::specs::Reading::asking_at))]
+fn asking_word(bytes: &[u8]) -> Result<(Asking, &[u8]), ReadFault>
+    ensures read { (end : ℕ) → Gives (λ x. (asking_of x.0, x.1.now)) result
+        (asking_at end bytes.now) }
+    ensures shorter { IfOk result (λ x. length x.1.now ≤ length bytes.now) }
+{
+    match bytes.split_first() {
+        Some((first, _)) if is_byte(b'v', *first) => one_word(Asking::Value, b"value", bytes),
+        Some((first, _)) if is_byte(b'o', *first) => one_word(Asking::Outcome, b"outcome", bytes),
+        Some((first, _)) if is_byte(b's', *first) => one_word(Asking::Stops, b"stops", bytes),
+        Some((first, _)) if is_byte(b'm', *first) => one_word(Asking::Mean, b"mean", bytes),
+        _ => temp_or_thermo(bytes),
+    }
+}
+
+/// The query that asks this of an expression.
+fn query(asking: Asking, expr: Expr) -> Query
+    ensures { question_of result ≡ asking_of asking (tree_of expr) }
+{
+    match asking {
+        Asking::Value => Query::Value(expr),
+        Asking::Outcome => Query::Outcome(expr),
+        Asking::Stops => Query::Stops(expr),
+        Asking::Mean => Query::Mean(expr),
+        Asking::Temp => Query::Temp(expr),
+        Asking::Thermo => Query::Thermo(expr),
+    }
+}
+
+/// A question about one expression.
+#[tactic(auto, unfolding(crate::specs::Reading::measure_at))]
+fn measure(alloc: Global, line_end: u64, bytes: &[u8]) -> Result<(Asked, &[u8]), ReadFault>
+    requires { length bytes.now ≤ line_end }
+    ensures { Gives (λ x. (asked_in x.0, x.1.now)) result (measure_at line_end bytes.now) }
+{
+    let (asking, rest) = asking_word(bytes)?;
+    let rest = after_gap(rest)?;
+    let (found, rest) = sum(alloc, MOST_OPEN, line_end, rest)?;
+    let fault = found.fault;
+    let query = query(asking, found.expr);
+    Ok((Asked { query, fault }, rest))
+}
+
+/// A question about two expressions.
+#[tactic(auto, unfolding(crate::specs::Reading::compare_at))]
+fn compare(alloc: Global, line_end: u64, bytes: &[u8]) -> Result<(Asked, &[u8]), ReadFault>
+    requires { length bytes.now ≤ line_end }
+    ensures { Gives (λ x. (asked_in x.0, x.1.now)) result (compare_at line_end bytes.now) }
+{
+    let rest = after_word(b"compare", bytes)?;
+    let rest = after_gap(rest)?;
+    let (first, rest) = sum(alloc, MOST_OPEN, line_end, rest)?;
+    let rest = after_byte(b';', rest)?;
+    let (second, rest) = sum(alloc, MOST_OPEN, line_end, after_blanks(rest))?;
+    let fault = earlier(first.fault, second.fault);
+    let query = Query::Compare(first.expr, second.expr);
+    Ok((Asked { query, fault }, rest))
+}
+
+/// Whether the byte begins the word of a question about one expression.
+fn begins_asking(byte: u8) -> bool
+    ensures { result ≡ has asking_begin byte }
+{
+    byte == b'v' || byte == b'o' || (b's' <= byte && byte <= b't') || byte == b'm'
+}
+
+/// A question.
+#[tactic(auto, unfolding(crate::specs::Reading::question_at))]
+fn question(alloc: Global, line_end: u64, bytes: &[u8]) -> Result<(Asked, &[u8]), ReadFault>
+    requires { length bytes.now ≤ line_end }
+    ensures { Gives (λ x. (asked_in x.0, x.1.now)) result (question_at line_end bytes.now) }
+{
+    match bytes.split_first() {
+        Some((first, _)) if begins_asking(*first) => measure(alloc, line_end, bytes),
+        _ => compare(alloc, line_end, bytes),
+    }
+}
+
+/// The question that the whole line asks.
+#[tactic(auto, unfolding(crate::specs::Reading::read_at, crate::specs::Reading::line_at))]
+pub fn whole_line(alloc: Global, line: &[u8]) -> Result<Asked, ReadFault>
+    ensures { Gives asked_in result (read_at line.now) }
+{
+    let line_end = line.len() as u64 + 1;
+    let (asked, rest) = question(alloc, line_end, after_blanks(line))?;
+    if rest.is_empty() {
+        Ok(asked)
+    } else {
+        Err(ReadFault::Stuck(rest.len()))
+    }
+}

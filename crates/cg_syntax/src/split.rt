@@ -1,0 +1,86 @@
+//! Rows of sides with runs of bars between them, split into Left and Right sides at their longest runs.
+ghost use Rattle.std.specs.Prelude.{◌≡◌, ◌≤◌, map, Ok, [], IfNone, IfSome};
+ghost use Rattle.cg_reading.specs.Gives.{Gives};
+ghost use Rattle.cg_syntax.specs.Braces.{cut_from, part_of, side_trees, Whole};
+ghost use Rattle.cg_syntax.specs.Trees.{tree_of};
+ghost use Rattle.cg_syntax.specs.Views.{found_of, rows_of, cut_of};
+ghost use Rattle.cg_syntax.specs.Cuts.{IsFirstRun};
+
+use crate::expr::{Expr, Exprs};
+use crate::found::{Found, Row};
+use cg_reading::ReadFault;
+use std::alloc::Global;
+
+/// A row with no run of a length, or the rows before its first such run, the side behind that, and the rows behind it.
+#[derive(Debug, Drop)]
+pub enum Cut {
+    Whole(Vec<Row>),
+    Parts(Vec<Row>, Vec<Found>, Vec<Row>),
+}
+
+/// The place of the first run of this length.
+fn first_run(bars: u64, rows: &[Row]) -> Option<usize>
+    ensures none { IfNone result (cut_from [] bars (rows_of rows.now) ≡ Whole (rows_of rows.now)) }
+    ensures some { IfSome result (IsFirstRun bars rows.now) }
+{
+    let mut index = 0;
+    let mut rest = rows;
+    while let Some((row, others)) = rest.split_first() {
+        if row.bars == bars {
+            return Some(index);
+        }
+        index += 1;
+        rest = others;
+    }
+    None
+}
+
+/// Cuts at the first run of this length.
+fn cut_at(bars: u64, rows: Vec<Row>) -> Result<Cut, ReadFault>
+    ensures { Gives cut_of result (Ok (cut_from [] bars (rows_of rows.items))) }
+{
+    let Some(index) = first_run(bars, &rows) else {
+        return Ok(Cut::Whole(rows));
+    };
+    let mut before = rows;
+    let behind = before.split_off(index + 1)?;
+    let row = before.remove(index);
+    Ok(Cut::Parts(before, row.side, behind))
+}
+
+/// The expressions of a side.
+fn exprs(alloc: Global, side: Vec<Found>) -> Result<Vec<Expr>, ReadFault>
+    ensures { Gives (λ v. map tree_of v.items) result (Ok (side_trees (map found_of side.items))) }
+{
+    let mut exprs = Vec::new(alloc);
+    for found in side {
+        exprs.push(found.expr)?;
+    }
+    Ok(exprs)
+}
+
+/// The options of a part whose runs have so many bars at most.
+#[tactic(auto, using(crate::proofs::Parts::part_step, crate::proofs::Parts::part_none, crate::proofs::TreeOf::braces_tree))]
+pub fn part(
+    alloc: Global,
+    most: u64,
+    side: Vec<Found>,
+    rows: Vec<Row>,
+) -> Result<Vec<Expr>, ReadFault>
+    ensures { Gives (λ v. map tree_of v.items) result
+        (Ok (part_of most (map found_of side.items) (rows_of rows.items))) }
+{
+    if most == 0 {
+        return exprs(alloc, side);
+    }
+    match cut_at(most, rows)? {
+        Cut::Whole(rows) => part(alloc, most - 1, side, rows),
+        Cut::Parts(before, middle, behind) => {
+            let lefts = part(alloc, most - 1, side, before)?;
+            let rights = part(alloc, most - 1, middle, behind)?;
+            let mut one = Vec::new(alloc);
+            one.push(Expr::Braces(Exprs::of(lefts), Exprs::of(rights)))?;
+            Ok(one)
+        }
+    }
+}
