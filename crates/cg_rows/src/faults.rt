@@ -62,7 +62,7 @@ fn end_at_the_call_that_fails(rt: HostRuntime) -> Result<(), AllocError> {
         (
             "value {2,1|0}\n# a\nvalue *\nvalu 1",
             7,
-            "1: {2|0}\n3: ! later\n4: ! syntax 5\n",
+            "1: {2|0}\n3: {0|0}\n4: ! syntax 5\n",
             Status::Refused,
         ),
     ];

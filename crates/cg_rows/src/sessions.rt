@@ -55,7 +55,7 @@ fn answers_sessions(rt: HostRuntime) -> Result<(), AllocError> {
         (" \t\r", Status::Done, ""),
         ("# a\n\t#\u{0}\u{7f}\n#", Status::Done, ""),
         ("# a\n\nvalue 1/2\r", Status::Done, "3: 1/2\n"),
-        ("# a\n\nvalue 1/2*\r", Status::Refused, "3: ! later\n"),
+        ("# a\n\nvalue 1/2*\r", Status::Done, "3: {1/2|1/2}\n"),
         (
             "\n \t\r\n\r\nvalue {0|1}\r\n\noutcome {2,1|0}",
             Status::Done,
@@ -63,12 +63,12 @@ fn answers_sessions(rt: HostRuntime) -> Result<(), AllocError> {
         ),
         // One refused line makes the session refused, wherever it stands.
         (
-            "value *\nvalue {0|1}\n",
+            "value Clobber(\"xo\")\nvalue {0|1}\n",
             Status::Refused,
             "1: ! later\n2: 1/2\n",
         ),
         (
-            "value {0|1}\nvalue *",
+            "value {0|1}\nmean *",
             Status::Refused,
             "1: 1/2\n2: ! later\n",
         ),

@@ -89,8 +89,49 @@ const ANSWERED: [(&str, &str); 66] = [
     ("outcome {1|-1}", "N"),
 ];
 
+/// Lines with named games, negatives, multiples and sums, and their answers.
+const SUMS: [(&str, &str); 35] = [
+    // Ups, downs, nimbers, switches, tiny and miny, by their options.
+    ("value *", "{0|0}"),
+    ("value ^^", "{0|{0,{0|0}|0}}"),
+    ("value v3", "{{{{0|0}|0}|0}|0}"),
+    ("value ^0", "0"),
+    ("value *2", "{0,{0|0}|0,{0|0}}"),
+    ("value +-1", "{1|-1}"),
+    ("value +-0", "{0|0}"),
+    ("value Tiny(2)", "{0|{0|-2}}"),
+    ("value Miny( 1/2 )", "{{1/2|0}|0}"),
+    // Negatives, multiples and sums.
+    ("value - 1", "-1"),
+    ("value -{0|1}", "-1/2"),
+    ("value -{2,1|0}", "{0|-2}"),
+    ("value 2.{0|1}", "1"),
+    ("value 0.*", "0"),
+    ("value 3.*", "{0|0}"),
+    ("value 2.+-1", "0"),
+    ("value 1/2*", "{1/2|1/2}"),
+    ("value 1 + 1", "2"),
+    ("value * + *", "0"),
+    ("value ^ + v", "0"),
+    ("value 1 + +-1", "{2|0}"),
+    ("value 1+-1", "0"),
+    ("value 1 - 1/4 - 1/4", "1/2"),
+    ("value {0,{1|^}|}", "1"),
+    ("compare 1 ; ^", ">"),
+    ("compare * ; 1", "<"),
+    ("compare ^ ; *", "||"),
+    ("compare ^^ ; *", ">"),
+    ("compare Tiny(1) ; ^", "<"),
+    ("compare ^* + ^* ; ^^", "="),
+    ("compare ^ + v ; 0", "="),
+    ("compare -Tiny(2) ; Miny(2)", "="),
+    ("compare 1-1^ ; v", "="),
+    ("outcome *3 - *", "N"),
+    ("outcome 2.v", "R"),
+];
+
 /// Lines that are refused.
-const REFUSED: [(&str, &str); 58] = [
+const REFUSED: [(&str, &str); 51] = [
     // Literals out of range, or with a denominator that isn't a power of two.
     ("value 4503599627370496", "! range"),
     ("value -4503599627370496", "! range"),
@@ -110,32 +151,26 @@ const REFUSED: [(&str, &str); 58] = [
     ("compare {0|1/2147483648} ; 1/3", "! range"),
     ("outcome {0|{4503599627370495|}}", "! range"),
     ("outcome 1/3", "! range"),
-    // What reads, and isn't answered yet: other operands, sums, and the other questions.
-    ("value *", "! later"),
-    ("value ^^", "! later"),
-    ("value v3", "! later"),
-    ("value +-1", "! later"),
-    ("value Tiny(2)", "! later"),
-    ("value Miny( 1/2 )", "! later"),
-    ("value - 1", "! later"),
-    ("value -{0|1}", "! later"),
-    ("value 2.{0|1}", "! later"),
-    ("value 1/2*", "! later"),
-    ("value 1 + 1", "! later"),
-    ("value {0,{1|^}|}", "! later"),
+    // What reads, and isn't answered yet: boards and the other questions, also where something is out of range.
     ("value Clobber(\"xo\")", "! later"),
-    ("value Strip(\"\",\"\")", "! later"),
-    ("compare 1 ; ^", "! later"),
-    ("compare * ; 1", "! later"),
+    ("value 1 + 2.Strip(\"\",\"\")", "! later"),
+    ("value {1/3|-Amazons(\"x\")}", "! later"),
+    ("compare 1/3 ; Clobber(\"\")", "! later"),
     ("outcome Toads(\"T.F\")", "! later"),
     ("stops {0|1}", "! later"),
-    ("mean 1", "! later"),
-    ("temp 1", "! later"),
-    ("thermo 1", "! later"),
-    // That comes before what is out of range.
-    ("value {1/3|*}", "! later"),
-    ("compare 1/3 ; *", "! later"),
     ("mean 1/3", "! later"),
+    ("temp *", "! later"),
+    ("thermo 1", "! later"),
+    // Numbers out of range in other operands, and sums that are out of range.
+    ("value {1/3|*}", "! range"),
+    ("compare 1/3 ; *", "! range"),
+    ("value +-1/3", "! range"),
+    ("value Tiny(1/0)", "! range"),
+    ("value 4503599627370495 + 1", "! range"),
+    // Lists of items that are too long, and forms that are too deep.
+    ("value *65536", "! positions"),
+    ("value *513", "! depth"),
+    ("value 999999999999999999999999999999.*", "! full"),
     // What isn't in the grammar, with the column at which it leaves it.
     ("valu 1", "! syntax 5"),
     ("value", "! syntax 6"),
@@ -167,7 +202,7 @@ fn session(alloc: Global, line: &str) -> Result<(Status, MemorySink), AllocError
 }
 
 #[test]
-fn answers_lines(rt: HostRuntime) -> Result<(), AllocError> {
+fn answers_numbers_and_braces(rt: HostRuntime) -> Result<(), AllocError> {
     let alloc = rt.alloc();
     for (line, answer) in ANSWERED {
         let (status, sink) = session(alloc, line)?;
@@ -175,6 +210,24 @@ fn answers_lines(rt: HostRuntime) -> Result<(), AllocError> {
         assert!(rt; status == Status::Done, "{line}");
         assert!(rt; sink.bytes() == wanted.as_bytes(), "{line}");
     }
+    Ok(())
+}
+
+#[test]
+fn answers_named_games_and_sums(rt: HostRuntime) -> Result<(), AllocError> {
+    let alloc = rt.alloc();
+    for (line, answer) in SUMS {
+        let (status, sink) = session(alloc, line)?;
+        let wanted = format!(in alloc; "1: {answer}\n")?;
+        assert!(rt; status == Status::Done, "{line}");
+        assert!(rt; sink.bytes() == wanted.as_bytes(), "{line}");
+    }
+    Ok(())
+}
+
+#[test]
+fn refuses_lines(rt: HostRuntime) -> Result<(), AllocError> {
+    let alloc = rt.alloc();
     for (line, refusal) in REFUSED {
         let (status, sink) = session(alloc, line)?;
         let wanted = format!(in alloc; "1: {refusal}\n")?;

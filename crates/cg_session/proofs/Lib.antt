@@ -1,9 +1,5 @@
-pub mod Walk
-pub mod PlainTrees
 pub mod Cuts
 pub mod Fronts
+pub mod Shares
 pub mod Outputs
-pub mod Replies
 pub mod Reading
-pub mod Meanings
-pub mod Names

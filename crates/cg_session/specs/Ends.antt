@@ -3,7 +3,7 @@ use Rattle.std.specs.Prelude.{ℕ, Bool, true, false, ◌≡◌, ◌⊎◌, List
 use Rattle.std.specs.Io.KnownBytes.{Keeps, Appends}
 use Rattle.cg_session.specs.declared.status.Status.{Status}
 use Rattle.cg_session.specs.declared.status.Status.TheVariants as status
-use Rattle.cg_session.specs.Reply.{Piece}
+use Rattle.cg_eval.specs.Reply.{Piece}
 use Rattle.cg_session.specs.Output.{IsOutput}
 use Rattle.cg_session.specs.Input.{IsWithinLimits, ReadsOut}
 use Rattle.cg_session.specs.Words.{AreAccepted, usage_line}

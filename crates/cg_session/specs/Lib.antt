@@ -1,8 +1,5 @@
 pub mod Lines
-pub mod Signs
-pub mod Meaning
-pub mod Name
-pub mod Reply
+pub mod Settings
 pub mod Output
 pub mod Input
 pub mod Words
@@ -10,4 +7,3 @@ pub mod Written
 pub mod Ends
 pub mod StatusCode
 pub mod Outputs
-pub mod Shown

@@ -1,22 +1,11 @@
 //! Laws of the definitions that the contract of `run` cites: each function does nothing, and its contract is the law.
 ghost use Rattle.std.specs.Prelude.{◌≡◌, ℕ, true, List, Some};
 ghost use Rattle.std.specs.Io.KnownBytes.{Appends};
-ghost use Rattle.cg_session.specs.Lines.{is_answered};
-ghost use Rattle.cg_session.specs.Reply.{Piece, IsReply};
+ghost use Rattle.cg_eval.specs.Reply.{Piece};
 ghost use Rattle.cg_session.specs.Output.{IsOutput};
 ghost use Rattle.cg_session.specs.Written.{AppendsFront};
 
-use cg_form::laws::l5;
-use cg_syntax::laws::one_query;
-
-/// A line that gets an answer has one reply: the grammar relates one question to it, or none and then a column; an
-/// expression has one meaning, and a game one canonical form.
-pub fn one_reply()
-    ensures { (line : List ℕ) (r s : Piece) → is_answered line ≡ true → IsReply line r → IsReply line s → r ≡ s }
-{
-    one_query();
-    l5();
-}
+use cg_eval::laws::one_reply;
 
 /// An input has one output.
 pub fn one_output()

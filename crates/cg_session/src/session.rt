@@ -7,7 +7,7 @@ ghost use Rattle.cg_session.specs.Ends.{Writes, AnswersOrLacksMemory, EndsBefore
 
 use crate::input::{InputFault, read_input};
 use crate::lines::count_answered;
-use crate::output::answer_lines;
+use crate::output::answer_input;
 use crate::status::Status;
 use crate::writing::write_all;
 use cg_io::{Failed, Sink, Source};
@@ -68,10 +68,11 @@ pub fn run<S: Source, K: Sink>(
         Err(InputFault::Memory) => return Status::Memory,
         Err(InputFault::TooLong) => return Status::TooLong,
     };
-    if count_answered(&input) > MOST_ANSWERED {
+    let answered = count_answered(&input);
+    if answered > MOST_ANSWERED {
         return Status::TooLong;
     }
-    let Ok(out) = answer_lines(alloc, &input) else {
+    let Ok(out) = answer_input(alloc, &input, answered) else {
         return Status::Memory;
     };
     if write_all(sink, &out.text).is_err() {

@@ -1,0 +1,14 @@
+pub mod ItemLaws
+pub mod Profiling
+pub mod Holding
+pub mod Same
+pub mod Searching
+pub mod Comparing
+pub mod Outlining
+pub mod Results
+pub mod Charging
+pub mod Keeping
+pub mod Against
+pub mod Bypassing
+pub mod Besting
+pub mod Forming

@@ -1,0 +1,16 @@
+-- What a memo has.
+use Rattle.std.specs.Prelude.{ℕ, Bool, Option, ◌==◌, ◌&&◌, nat_eq}
+use Rattle.std.specs.HashMap.{get}
+use Rattle.cg_canon.specs.declared.memo.Memo.{Memo}
+use Rattle.cg_canon.specs.declared.profile.Profile.{Profile}
+
+abbrev pub pair_eq : ℕ × ℕ → ℕ × ℕ → Bool
+pair_eq p q = (p.0 == q.0) && (p.1 == q.1)
+
+-- the answer for a pair of ids
+abbrev pub recalled : Memo → ℕ → ℕ → Option Bool
+recalled m a b = get pair_eq m.answers (a, b)
+
+-- the profile for an id
+abbrev pub profiled : Memo → ℕ → Option Profile
+profiled m a = get nat_eq m.profiles a

@@ -1,0 +1,157 @@
+//! Bypassing the reversible options of a game that equals no number.
+//!
+//! An option that is reversible through a number is replaced by that number itself: the number is at least as good as what
+//! the bypass would bring in, and adds nothing, since another option is at least as good as the number. So no number is
+//! counted down.
+ghost use Rattle.std.specs.Prelude.{◌≡◌, ◌++◌, ◌∷◌, [], IfOk, cond};
+ghost use Rattle.cg_form.specs.Bypass.{AllCovered, Covered, Grown};
+ghost use Rattle.cg_form.specs.Game.{Among, Game};
+ghost use Rattle.cg_form.specs.Known.{EachLess};
+ghost use Rattle.cg_form.specs.Side.{AtMost, far};
+ghost use Rattle.cg_cells.specs.Store.{Spends};
+ghost use Rattle.cg_nodes.specs.Games.{AreGames, IsGame, IsList, game_at, games_at, listed};
+ghost use Rattle.cg_canon.specs.Wholes.{WholeHolds, whole_game};
+ghost use Rattle.cg_canon.specs.Works.{work_state};
+
+use crate::whole::{Verdicts, Whole, chosen, first_at_most};
+use crate::work::Work;
+use cg_cells::CellStore;
+use cg_nodes::{BoardForms, GameFacts, Handle, ListId, Reading, head, read};
+use smallvec::SmallVec;
+use std::alloc::{AllocError, Global};
+
+/// A list of options while a form is computed: up to 8 of them take no memory.
+pub(crate) type Options = SmallVec<Handle, 8>;
+
+/// The list with one handle more.
+fn pushed(items: Options, handle: Handle) -> Result<Options, AllocError>
+    ensures { IfOk result (λ r. r.items ≡ items.items ++ (handle ∷ [])) }
+{
+    let mut all = items;
+    all.push(handle)?;
+    Ok(all)
+}
+
+/// The list with what stands in the place of an option that is reversible through this answer.
+#[cycle(bypass)]
+fn bypass_through<B: BoardForms, S: CellStore<GameFacts<B>>>(
+    alloc: Global,
+    work: &mut Work<B, S>,
+    whole: &Whole,
+    verdicts: &mut Verdicts,
+    left: bool,
+    answer: Handle,
+    out: Options,
+) -> Result<Options, AllocError>
+    requires holds { WholeHolds (work_state S.state work.old) whole.now verdicts.old }
+    requires answer { IsGame (work_state S.state work.old) answer }
+    requires back { AtMost left (game_at (work_state S.state work.old) answer) (whole_game (work_state S.state work.old) whole.now) }
+    requires out { AreGames (work_state S.state work.old) out.items }
+    ensures games { IfOk result (λ r. AreGames (work_state S.state work.new) r.items) }
+    ensures grown { IfOk result (λ r. Grown left (whole_game (work_state S.state work.old) whole.now)
+        (games_at (work_state S.state work.old) out.items) (games_at (work_state S.state work.new) r.items)) }
+    ensures covered { IfOk result (λ r. (a : Game) → Among (game_at (work_state S.state work.old) answer) (far left a)
+        → Covered left (whole_game (work_state S.state work.old) whole.now) (games_at (work_state S.state work.new) r.items) a) }
+    ensures holds { WholeHolds (work_state S.state work.new) whole.now verdicts.new }
+    ensures spends { Spends 0 (work_state S.state work.old) (work_state S.state work.new) }
+{
+    match read(work, answer) {
+        Reading::Number(_) => pushed(out, answer),
+        Reading::Game(lefts, rights) => {
+            let near = chosen(left, lefts, rights);
+            bypass_list(alloc, work, whole, verdicts, left, near, out)
+        }
+    }
+}
+
+/// The list with what stands in the place of the option.
+#[cycle(bypass)]
+fn bypass<B: BoardForms, S: CellStore<GameFacts<B>>>(
+    alloc: Global,
+    work: &mut Work<B, S>,
+    whole: &Whole,
+    verdicts: &mut Verdicts,
+    left: bool,
+    option: Handle,
+    out: Options,
+) -> Result<Options, AllocError>
+    requires holds { WholeHolds (work_state S.state work.old) whole.now verdicts.old }
+    requires option { IsGame (work_state S.state work.old) option }
+    requires less { ¬ AtMost left (whole_game (work_state S.state work.old) whole.now) (game_at (work_state S.state work.old) option) }
+    requires out { AreGames (work_state S.state work.old) out.items }
+    ensures games { IfOk result (λ r. AreGames (work_state S.state work.new) r.items) }
+    ensures grown { IfOk result (λ r. Grown left (whole_game (work_state S.state work.old) whole.now)
+        (games_at (work_state S.state work.old) out.items) (games_at (work_state S.state work.new) r.items)) }
+    ensures covered { IfOk result (λ r. Covered left (whole_game (work_state S.state work.old) whole.now)
+        (games_at (work_state S.state work.new) r.items) (game_at (work_state S.state work.old) option)) }
+    ensures holds { WholeHolds (work_state S.state work.new) whole.now verdicts.new }
+    ensures spends { Spends 0 (work_state S.state work.old) (work_state S.state work.new) }
+{
+    match read(work, option) {
+        Reading::Number(_) => pushed(out, option),
+        Reading::Game(lefts, rights) => {
+            let far = chosen(left, rights, lefts);
+            match first_at_most(alloc, work, whole, verdicts, left, far)? {
+                None => pushed(out, option),
+                Some(answer) => bypass_through(alloc, work, whole, verdicts, left, answer, out),
+            }
+        }
+    }
+}
+
+/// The list with what stands in the places of the options in the list.
+#[cycle(bypass)]
+fn bypass_list<B: BoardForms, S: CellStore<GameFacts<B>>>(
+    alloc: Global,
+    work: &mut Work<B, S>,
+    whole: &Whole,
+    verdicts: &mut Verdicts,
+    left: bool,
+    list: ListId,
+    out: Options,
+) -> Result<Options, AllocError>
+    requires holds { WholeHolds (work_state S.state work.old) whole.now verdicts.old }
+    requires list { IsList (work_state S.state work.old) list }
+    requires less { EachLess left (whole_game (work_state S.state work.old) whole.now) (listed (work_state S.state work.old) list) }
+    requires out { AreGames (work_state S.state work.old) out.items }
+    ensures games { IfOk result (λ r. AreGames (work_state S.state work.new) r.items) }
+    ensures grown { IfOk result (λ r. Grown left (whole_game (work_state S.state work.old) whole.now)
+        (games_at (work_state S.state work.old) out.items) (games_at (work_state S.state work.new) r.items)) }
+    ensures covered { IfOk result (λ r. AllCovered left (whole_game (work_state S.state work.old) whole.now)
+        (games_at (work_state S.state work.new) r.items) (listed (work_state S.state work.old) list)) }
+    ensures holds { WholeHolds (work_state S.state work.new) whole.now verdicts.new }
+    ensures spends { Spends 0 (work_state S.state work.old) (work_state S.state work.new) }
+{
+    let mut all = out;
+    let mut rest = list;
+    while let Some(top) = head(work, rest) {
+        all = bypass(alloc, work, whole, verdicts, left, top.first, all)?;
+        rest = top.rest;
+    }
+    Ok(all)
+}
+
+/// What stands in the places of the player's own options of the whole.
+pub(crate) fn candidates<B: BoardForms, S: CellStore<GameFacts<B>>>(
+    alloc: Global,
+    work: &mut Work<B, S>,
+    whole: &Whole,
+    verdicts: &mut Verdicts,
+    left: bool,
+) -> Result<Options, AllocError>
+    requires holds { WholeHolds (work_state S.state work.old) whole.now verdicts.old }
+    ensures games { IfOk result (λ r. AreGames (work_state S.state work.new) r.items) }
+    ensures grown { IfOk result (λ r. Grown left (whole_game (work_state S.state work.old) whole.now)
+        [] (games_at (work_state S.state work.new) r.items)) }
+    ensures covered { IfOk result (λ r. AllCovered left (whole_game (work_state S.state work.old) whole.now)
+        (games_at (work_state S.state work.new) r.items)
+        (games_at (work_state S.state work.old) (cond left whole.now.lefts.now whole.now.rights.now))) }
+    ensures holds { WholeHolds (work_state S.state work.new) whole.now verdicts.new }
+    ensures spends { Spends 0 (work_state S.state work.old) (work_state S.state work.new) }
+{
+    let mut all = SmallVec::new(alloc);
+    for option in whole.own(left) {
+        all = bypass(alloc, work, whole, verdicts, left, *option, all)?;
+    }
+    Ok(all)
+}

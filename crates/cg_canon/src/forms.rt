@@ -1,0 +1,130 @@
+//! The canonical form of the game of two lists of handles.
+ghost use Rattle.std.specs.Prelude.{◌≡◌, ◌+◌, ◌≤◌, IfOk, IfErr, OnOk, OnErr, [], ◌∷◌};
+ghost use Rattle.cg_form.specs.Game.{node};
+ghost use Rattle.cg_form.specs.Simple.{NoNumber};
+ghost use Rattle.cg_cells.specs.Store.{Spends};
+ghost use Rattle.cg_nodes.specs.Games.{AreGames, StandsFor, games_at};
+ghost use Rattle.cg_nodes.specs.Spelled.{can};
+ghost use Rattle.cg_canon.specs.Items.{AllPass, WasRefused, made};
+ghost use Rattle.cg_canon.specs.Profiles.{IsProfile};
+ghost use Rattle.cg_canon.specs.Wholes.{whole_game};
+ghost use Rattle.cg_canon.specs.Works.{IsUnspent, Keeps, work_state};
+
+use crate::fault::ValueFault;
+use crate::item::{item_of_number, listed_item};
+use crate::profile::Profile;
+use crate::profiles::outline_of;
+use crate::reduce::reduced;
+use crate::whole::Whole;
+use crate::work::Work;
+use cg_cells::CellStore;
+use cg_dyadic::cut::Found;
+use cg_dyadic::search::simplest_in;
+use cg_nodes::{BoardForms, GameFacts, Handle};
+use std::alloc::Global;
+
+/// Makes the item of the canonical form of the whole, with a cost of `extra` more.
+fn whole_item<B: BoardForms, S: CellStore<GameFacts<B>>>(
+    alloc: Global,
+    work: &mut Work<B, S>,
+    whole: &Whole,
+    extra: u64,
+) -> Result<Handle, ValueFault>
+    requires extra { extra ≤ 8 }
+    requires lefts { AreGames (work_state S.state work.old) whole.now.lefts.now }
+    requires rights { AreGames (work_state S.state work.old) whole.now.rights.now }
+    requires no_number { NoNumber (whole_game (work_state S.state work.old) whole.now) }
+    requires profile { IsProfile (whole_game (work_state S.state work.old) whole.now) whole.now.profile }
+    ensures game { IfOk result (λ h. StandsFor (work_state S.state work.new) h
+        (can (whole_game (work_state S.state work.old) whole.now))) }
+    ensures charged { OnOk result (AllPass work.old.share work.old.spent
+        (made (can (whole_game (work_state S.state work.old) whole.now)) extra ∷ []) work.new.spent) }
+    ensures refused { IfErr result (λ fault. WasRefused fault work.old.share work.old.spent
+        (made (can (whole_game (work_state S.state work.old) whole.now)) extra ∷ []) work.new.spent) }
+    ensures same { OnErr result (Spends 0 (work_state S.state work.old) (work_state S.state work.new)) }
+    ensures spare { OnOk result ((work_state S.state work.old).spare + extra ≤ (work_state S.state work.new).spare) }
+    ensures keeps { Keeps (work_state S.state work.old) (work_state S.state work.new) }
+{
+    let form = reduced(alloc, work, whole)?;
+    listed_item(
+        alloc,
+        work,
+        form.lefts.as_slice(),
+        form.rights.as_slice(),
+        extra,
+    )
+}
+
+/// Makes the item of the canonical form of the game with these options, with a cost of `extra` more.
+fn form_item<B: BoardForms, S: CellStore<GameFacts<B>>>(
+    alloc: Global,
+    work: &mut Work<B, S>,
+    lefts: &[Handle],
+    rights: &[Handle],
+    extra: u64,
+) -> Result<Handle, ValueFault>
+    requires extra { extra ≤ 8 }
+    requires lefts { AreGames (work_state S.state work.old) lefts.now }
+    requires rights { AreGames (work_state S.state work.old) rights.now }
+    ensures game { let W = work_state S.state work.old in IfOk result (λ h. StandsFor (work_state S.state work.new) h
+        (can (node (games_at W lefts.now) (games_at W rights.now)))) }
+    ensures charged { let W = work_state S.state work.old in OnOk result (AllPass work.old.share work.old.spent
+        (made (can (node (games_at W lefts.now) (games_at W rights.now))) extra ∷ []) work.new.spent) }
+    ensures refused { let W = work_state S.state work.old in IfErr result (λ fault.
+        WasRefused fault work.old.share work.old.spent
+        (made (can (node (games_at W lefts.now) (games_at W rights.now))) extra ∷ []) work.new.spent) }
+    ensures same { OnErr result (Spends 0 (work_state S.state work.old) (work_state S.state work.new)) }
+    ensures spare { OnOk result ((work_state S.state work.old).spare + extra ≤ (work_state S.state work.new).spare) }
+    ensures keeps { Keeps (work_state S.state work.old) (work_state S.state work.new) }
+{
+    let low = outline_of(alloc, work, true, lefts)?;
+    let high = outline_of(alloc, work, false, rights)?;
+    match simplest_in(low.numbers(), high.numbers()) {
+        Found::Number(x) => item_of_number(work, x, extra),
+        Found::Outside(_) => Err(ValueFault::Range),
+        Found::Nothing => {
+            let profile = Profile::between(&low, &high)?;
+            let whole = Whole {
+                lefts,
+                rights,
+                profile,
+            };
+            whole_item(alloc, work, &whole, extra)
+        }
+    }
+}
+
+/// Makes the item of the canonical form of the game with these Left and Right options, with a cost of `extra` more, where
+/// `extra` is at most 8. The lists may have any order and repetitions.
+///
+/// `Range` comes exactly where the game equals a number out of range; else `Depth` exactly where the depth of the canonical
+/// form is above 512; else `Full` exactly where its cost and `extra` together bring the total cost above the share. After a
+/// refusal nothing was spent. (Siegel, Combinatorial Game Theory (2013), II.2 and II.3.)
+pub fn canonical<B: BoardForms, S: CellStore<GameFacts<B>>>(
+    alloc: Global,
+    work: &mut Work<B, S>,
+    lefts: &[Handle],
+    rights: &[Handle],
+    extra: u64,
+) -> Result<Handle, ValueFault>
+    requires extra { extra ≤ 8 }
+    requires lefts { AreGames (work_state S.state work.old) lefts.now }
+    requires rights { AreGames (work_state S.state work.old) rights.now }
+    ensures game { let W = work_state S.state work.old in IfOk result (λ h. StandsFor (work_state S.state work.new) h
+        (can (node (games_at W lefts.now) (games_at W rights.now)))) }
+    ensures charged { let W = work_state S.state work.old in OnOk result (AllPass work.old.share work.old.spent
+        (made (can (node (games_at W lefts.now) (games_at W rights.now))) extra ∷ []) work.new.spent) }
+    ensures refused { let W = work_state S.state work.old in IfErr result (λ fault.
+        WasRefused fault work.old.share work.old.spent
+        (made (can (node (games_at W lefts.now) (games_at W rights.now))) extra ∷ []) work.new.spent) }
+    ensures same { OnErr result (IsUnspent S.state work.old work.new) }
+    ensures spare { OnOk result ((work_state S.state work.old).spare + extra ≤ (work_state S.state work.new).spare) }
+    ensures more { (work_state S.state work.old).spare ≤ (work_state S.state work.new).spare }
+    ensures keeps { Keeps (work_state S.state work.old) (work_state S.state work.new) }
+{
+    // Read for the proof alone: the meter tells what the store has to spare.
+    let _before = work.spent();
+    let outcome = form_item(alloc, work, lefts, rights, extra);
+    let _after = work.spent();
+    outcome
+}

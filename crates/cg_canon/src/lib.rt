@@ -1,0 +1,30 @@
+//! The order of games and their canonical forms, on handles of a store, with exact costs.
+#![tactic(auto)]
+
+mod best;
+mod bypass;
+mod equality;
+mod fault;
+mod forms;
+mod item;
+mod memo;
+mod numbers;
+mod order;
+mod profile;
+mod profiles;
+mod reduce;
+mod rest;
+mod whole;
+mod work;
+
+pub use equality::equal;
+pub use fault::ValueFault;
+pub use forms::canonical;
+pub use item::{canonical_item, item_of, number_item};
+pub use memo::Memo;
+pub use numbers::{le_number, number_le};
+pub use order::le;
+pub use profile::{Outline, Profile};
+pub use rest::WorkRest;
+pub use whole::{Answers, Verdicts, Whole};
+pub use work::Work;

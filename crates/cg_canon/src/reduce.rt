@@ -1,0 +1,68 @@
+//! The canonical form of a whole, found but not yet made.
+ghost use Rattle.std.specs.Prelude.{◌≡◌, IfOk, cond};
+ghost use Rattle.cg_form.specs.Bypass.{Replaces};
+ghost use Rattle.cg_form.specs.Game.{node};
+ghost use Rattle.cg_form.specs.Simple.{NoNumber};
+ghost use Rattle.cg_cells.specs.Store.{Spends};
+ghost use Rattle.cg_nodes.specs.Games.{AreGames, games_at};
+ghost use Rattle.cg_nodes.specs.Spelled.{can};
+ghost use Rattle.cg_canon.specs.Profiles.{IsProfile};
+ghost use Rattle.cg_canon.specs.Wholes.{WholeHolds, whole_game};
+ghost use Rattle.cg_canon.specs.Works.{work_state};
+
+use crate::best::best_of;
+use crate::bypass::{Options, candidates};
+use crate::whole::{Verdicts, Whole};
+use crate::work::Work;
+use cg_cells::CellStore;
+use cg_nodes::{BoardForms, GameFacts};
+use std::alloc::{AllocError, Global};
+
+/// The options of a canonical form.
+#[derive(Drop)]
+pub(crate) struct Form {
+    pub lefts: Options,
+    pub rights: Options,
+}
+
+/// What stands in the place of the player's own options of the whole in its canonical form.
+fn replaced<B: BoardForms, S: CellStore<GameFacts<B>>>(
+    alloc: Global,
+    work: &mut Work<B, S>,
+    whole: &Whole,
+    verdicts: &mut Verdicts,
+    left: bool,
+) -> Result<Options, AllocError>
+    requires { WholeHolds (work_state S.state work.old) whole.now verdicts.old }
+    ensures games { IfOk result (λ r. AreGames (work_state S.state work.new) r.items) }
+    ensures replaces { IfOk result (λ r. Replaces left (whole_game (work_state S.state work.old) whole.now)
+        (games_at (work_state S.state work.old) (cond left whole.now.lefts.now whole.now.rights.now))
+        (games_at (work_state S.state work.new) r.items)) }
+    ensures holds { WholeHolds (work_state S.state work.new) whole.now verdicts.new }
+    ensures spends { Spends 0 (work_state S.state work.old) (work_state S.state work.new) }
+{
+    let all = candidates(alloc, work, whole, verdicts, left)?;
+    best_of(alloc, work, left, all.as_slice())
+}
+
+/// The options of the canonical form of the whole.
+pub(crate) fn reduced<B: BoardForms, S: CellStore<GameFacts<B>>>(
+    alloc: Global,
+    work: &mut Work<B, S>,
+    whole: &Whole,
+) -> Result<Form, AllocError>
+    requires lefts { AreGames (work_state S.state work.old) whole.now.lefts.now }
+    requires rights { AreGames (work_state S.state work.old) whole.now.rights.now }
+    requires no_number { NoNumber (whole_game (work_state S.state work.old) whole.now) }
+    requires profile { IsProfile (whole_game (work_state S.state work.old) whole.now) whole.now.profile }
+    ensures lefts { IfOk result (λ r. AreGames (work_state S.state work.new) r.lefts.items) }
+    ensures rights { IfOk result (λ r. AreGames (work_state S.state work.new) r.rights.items) }
+    ensures form { let W = work_state S.state work.new in IfOk result (λ r.
+        can (whole_game (work_state S.state work.old) whole.now) ≡ node (games_at W r.lefts.items) (games_at W r.rights.items)) }
+    ensures spends { Spends 0 (work_state S.state work.old) (work_state S.state work.new) }
+{
+    let mut verdicts = Verdicts::new(alloc);
+    let lefts = replaced(alloc, work, whole, &mut verdicts, true)?;
+    let rights = replaced(alloc, work, whole, &mut verdicts, false)?;
+    Ok(Form { lefts, rights })
+}

@@ -1,0 +1,190 @@
+//! A store with a meter and a memo.
+ghost use Rattle.std.specs.Prelude.{◌≡◌, ℕ, ◌+◌, ◌-◌, ◌≤◌, ◌<◌, ◌^◌, Some, Option, Bool, IfSome, IfOk, IfErr, OnErr};
+ghost use Rattle.cg_form.specs.Order.{le};
+ghost use Rattle.cg_nodes.specs.Games.{IsGame, game_at};
+ghost use Rattle.cg_canon.specs.Profiles.{IsProfile};
+ghost use Rattle.cg_canon.specs.Works.{IsUnspent, WorkHolds, WorkOf, work_code, work_state};
+
+use crate::fault::ValueFault;
+use crate::memo::Memo;
+use crate::profile::Profile;
+use crate::rest::WorkRest;
+use cg_cells::{CellStore, Id, Key};
+use cg_nodes::{BoardForms, GameFacts, Handle};
+use std::alloc::{AllocError, Global};
+use std::marker::{Model, PhantomData};
+
+/// A store, with a meter of what was spent on it, a memo of what was found out, and a limit on positions.
+///
+/// What is spent is never above the share. The store has at least as much to spare as when the work began, less what is
+/// spent. A work is itself a [`CellStore`]: it knows and has noted what its store has, and its own spare is what was charged
+/// and not claimed, 0 at first.
+#[derive(Drop)]
+pub struct Work<'a, B: BoardForms, S: CellStore<GameFacts<B>>> {
+    store: &'a mut S,
+    spent: u64,
+    share: u64,
+    start: u64,
+    limit: u64,
+    memo: Memo,
+    of: PhantomData<B>,
+}
+
+impl<'a, B: BoardForms, S: CellStore<GameFacts<B>>> Model for Work<'a, B, S> {
+    ghost Value = { WorkOf S };
+
+    ghost coded = { work_code S.code };
+
+    ghost view = { λ w. record { store = w.store; spent = w.spent; share = w.share; start = w.start; limit = w.limit } };
+
+    ghost invariant = { λ w. WorkHolds (S.state w.store.now) w.spent w.share w.start w.memo };
+}
+
+impl<'a, B: BoardForms, S: CellStore<GameFacts<B>>> Work<'a, B, S> {
+    /// A work on the store, which must have at least the share to spare, with this limit on positions. Nothing is spent, and
+    /// its own spare is 0.
+    pub fn new(alloc: Global, store: &'a mut S, share: u64, positions: u64) -> Work<'a, B, S>
+        requires { share ≤ (S.state store.old).spare }
+        ensures same_reference { result.store.ghost_name ≡ store.entry.ghost_name }
+        ensures store { result.store.now ≡ store.old }
+        ensures spent { result.spent ≡ 0 }
+        ensures share { result.share ≡ share }
+        ensures start { result.start ≡ (S.state store.old).spare }
+        ensures limit { result.limit ≡ positions }
+    {
+        let start = store.spare();
+        Work {
+            store,
+            spent: 0,
+            share,
+            start,
+            limit: positions,
+            memo: Memo::new(alloc),
+            of: PhantomData,
+        }
+    }
+
+    /// The cost so far, which is at most the share.
+    pub fn spent(&self) -> u64
+        ensures value { result ≡ self.now.spent }
+        ensures within { self.now.spent ≤ self.now.share }
+        ensures enough { self.now.start ≤ (S.state self.now.store.now).spare + self.now.spent }
+    {
+        self.spent
+    }
+
+    /// The limit on positions.
+    pub fn limit(&self) -> u64
+        ensures { result ≡ self.now.limit }
+    {
+        self.limit
+    }
+
+    /// The store, as it is now. It has at least as much to spare as when the work began, less what was spent.
+    pub fn into_store(self) -> &'a mut S
+        ensures same_reference { result.ghost_name ≡ self.entry.store.ghost_name }
+        ensures value { result.now ≡ self.entry.store.now }
+        ensures within { self.entry.spent ≤ self.entry.share }
+        ensures enough { self.entry.start ≤ (S.state self.entry.store.now).spare + self.entry.spent }
+    {
+        let Work {
+            store,
+            spent: _,
+            share: _,
+            start: _,
+            limit: _,
+            memo: _,
+            of: _,
+        } = self;
+        store
+    }
+
+    /// Charges the cost, unless that would bring the total above the share: then the fault is `Full` of that total.
+    pub(crate) fn charge(&mut self, cost: u64) -> Result<(), ValueFault>
+        requires { cost ≤ 2 ^ 35 }
+        ensures ok { IfOk result (λ _. self.new ≡ record self.old { spent = self.old.spent + cost }) }
+        ensures fits { IfOk result (λ _. self.old.spent + cost ≤ self.old.share) }
+        ensures room { IfOk result (λ _. (work_state S.state self.new).spare ≡ (work_state S.state self.old).spare + cost) }
+        ensures full { IfErr result (λ fault. fault ≡ ValueFault.Full (self.old.spent + cost)) }
+        ensures above { OnErr result (self.old.share < self.old.spent + cost) }
+        ensures same { OnErr result (self.new ≡ self.old) }
+    {
+        let total = self.spent + cost;
+        if total > self.share {
+            return Err(ValueFault::Full(total));
+        }
+        self.spent = total;
+        Ok(())
+    }
+
+    /// The answer that was found for the two, if one was.
+    pub(crate) fn recall(&self, a: Handle, b: Handle) -> Option<bool>
+        ensures { IfSome result (λ answer. answer
+            ≡ le (game_at (S.state self.now.store.now) a) (game_at (S.state self.now.store.now) b)) }
+    {
+        self.memo.recall(a.id().number(), b.id().number())
+    }
+
+    /// Keeps the answer for the two.
+    pub(crate) fn remember(&mut self, a: Handle, b: Handle, answer: bool) -> Result<(), AllocError>
+        requires a { IsGame (S.state self.old.store.now) a }
+        requires b { IsGame (S.state self.old.store.now) b }
+        requires order { answer ≡ le (game_at (S.state self.old.store.now) a) (game_at (S.state self.old.store.now) b) }
+        ensures { self.new ≡ self.old }
+    {
+        self.memo
+            .remember(a.id().number(), b.id().number(), answer)?;
+        Ok(())
+    }
+
+    /// The profile that was found for the game, if one was.
+    pub(crate) fn profile(&self, a: Handle) -> Option<Profile>
+        ensures { IfSome result (λ p. IsProfile (game_at (S.state self.now.store.now) a) p) }
+    {
+        self.memo.profile(a.id().number())
+    }
+
+    /// Keeps the profile for the game.
+    pub(crate) fn keep(&mut self, a: Handle, profile: &Profile) -> Result<(), AllocError>
+        requires game { IsGame (S.state self.old.store.now) a }
+        requires profile { IsProfile (game_at (S.state self.old.store.now) a) profile.now }
+        ensures { self.new ≡ self.old }
+    {
+        self.memo.keep(a.id().number(), profile)?;
+        Ok(())
+    }
+}
+
+impl<'a, B: BoardForms, S: CellStore<GameFacts<B>>> CellStore<GameFacts<B>> for Work<'a, B, S> {
+    type Rest = WorkRest<S::Rest>;
+
+    ghost state = { work_state S.state };
+
+    fn look(&mut self, id: Id) -> Key {
+        self.store.look(id)
+    }
+
+    fn claim(&mut self, key: Key) -> Id {
+        self.store.claim(key)
+    }
+
+    fn note(&mut self, id: Id, value: Id) {
+        self.store.note(id, value)
+    }
+
+    fn noted(&mut self, id: Id) -> Option<Id> {
+        self.store.noted(id)
+    }
+
+    fn spare(&self) -> u64 {
+        self.store.spare() + self.spent - self.start
+    }
+
+    fn same(&self, a: Id, b: Id) -> bool {
+        self.store.same(a, b)
+    }
+
+    fn apart(&self) {
+        self.store.apart();
+    }
+}

@@ -1,0 +1,192 @@
+//! Canonical forms on handles against those of whole trees, by structure.
+ghost use Rattle.std.specs.Prelude.{◌≤◌};
+ghost use Rattle.cg_cells.specs.Store.{Spends};
+ghost use Rattle.cg_nodes.specs.Games.{AreGames, IsGame, IsList};
+ghost use Rattle.cg_canon.specs.Works.{work_state};
+
+use crate::pool::{add_game, add_numbers, item};
+use cg_canon::{ValueFault, Work};
+use cg_cells::{CellStore, PlainStore};
+use cg_form::{Form, Options, SlowFault, canonical_slow, compare_structure};
+use cg_nodes::{BoardForms, GameFacts, Handle, ListId, NoBoards, Reading, head, read};
+use std::alloc::Global;
+use std::cmp::Ordering;
+use std::test::Fail;
+
+type Store = PlainStore<GameFacts<NoBoards>>;
+
+/// The trees of the handles of a list, of games no deeper than `depth`.
+#[cycle(tree)]
+fn trees_of<B: BoardForms, S: CellStore<GameFacts<B>>>(
+    alloc: Global,
+    store: &mut S,
+    list: ListId,
+    depth: u8,
+) -> Result<Vec<Form>, Fail>
+    requires { IsList (S.state store.old) list }
+    ensures { Spends 0 (S.state store.old) (S.state store.new) }
+{
+    let mut all = Vec::new(alloc);
+    let mut rest = list;
+    while let Some(top) = head(store, rest) {
+        let tree = tree_of(alloc, store, top.first, depth)?;
+        all.push(tree)?;
+        rest = top.rest;
+    }
+    Ok(all)
+}
+
+/// The tree of a handle's game, which is no deeper than `depth`.
+#[cycle(tree)]
+fn tree_of<B: BoardForms, S: CellStore<GameFacts<B>>>(
+    alloc: Global,
+    store: &mut S,
+    handle: Handle,
+    depth: u8,
+) -> Result<Form, Fail>
+    requires { IsGame (S.state store.old) handle }
+    ensures { Spends 0 (S.state store.old) (S.state store.new) }
+{
+    match read(store, handle) {
+        Reading::Number(x) => Ok(Form::Num(x)),
+        Reading::Game(lefts, rights) => {
+            if depth == 0 {
+                return Err(Fail::from("too deep"));
+            }
+            let left_trees = trees_of(alloc, store, lefts, depth - 1)?;
+            let right_trees = trees_of(alloc, store, rights, depth - 1)?;
+            Ok(Form::Node(Options::of(left_trees), Options::of(right_trees)))
+        }
+    }
+}
+
+/// The tree of the handle with this index.
+fn tree_at<B: BoardForms, S: CellStore<GameFacts<B>>>(
+    alloc: Global,
+    work: &mut Work<B, S>,
+    pool: &[Handle],
+    index: usize,
+) -> Result<Form, Fail>
+    requires { AreGames (work_state S.state work.old) pool.now }
+    ensures { AreGames (work_state S.state work.new) pool.now }
+{
+    let handle = item(pool, index)?;
+    tree_of(alloc, work, handle, 32)
+}
+
+/// The trees of the handles with these indices.
+fn trees_at<B: BoardForms, S: CellStore<GameFacts<B>>>(
+    alloc: Global,
+    work: &mut Work<B, S>,
+    pool: &[Handle],
+    indices: &[usize],
+) -> Result<Vec<Form>, Fail>
+    requires { AreGames (work_state S.state work.old) pool.now }
+    ensures { AreGames (work_state S.state work.new) pool.now }
+{
+    let mut all = Vec::new(alloc);
+    for index in indices {
+        let tree = tree_at(alloc, work, pool, *index)?;
+        all.push(tree)?;
+    }
+    Ok(all)
+}
+
+/// Numbers that look as if drawn, one after the other.
+#[derive(Drop)]
+struct Draws {
+    state: u64,
+}
+
+impl Draws {
+    /// The next number below the bound.
+    fn below(&mut self, bound: u64) -> u64 {
+        self.state = self
+            .state
+            .wrapping_mul(6_364_136_223_846_793_005)
+            .wrapping_add(1_442_695_040_888_963_407);
+        if bound == 0 {
+            return 0;
+        }
+        (self.state >> 33) % bound
+    }
+
+    /// Up to three indices below the bound.
+    fn indices(&mut self, alloc: Global, bound: usize) -> Result<Vec<usize>, Fail> {
+        let mut all = Vec::new(alloc);
+        for _ in 0..self.below(4) {
+            all.push(self.below(bound as u64) as usize)?;
+        }
+        Ok(all)
+    }
+}
+
+/// Whether both ways find the same canonical form of the game with these options, or both refuse it as out of range.
+fn agrees<B: BoardForms, S: CellStore<GameFacts<B>>>(
+    alloc: Global,
+    work: &mut Work<B, S>,
+    pool: &mut Vec<Handle>,
+    lefts: &[usize],
+    rights: &[usize],
+) -> Result<bool, Fail>
+    requires { AreGames (work_state S.state work.old) pool.old.items }
+    ensures { AreGames (work_state S.state work.new) pool.new.items }
+{
+    let left_trees = trees_at(alloc, work, pool, lefts)?;
+    let right_trees = trees_at(alloc, work, pool, rights)?;
+    let whole = Form::Node(Options::of(left_trees), Options::of(right_trees));
+    let slow = canonical_slow(alloc, &whole);
+    match add_game(alloc, work, pool, lefts, rights, 0) {
+        Ok(_) => {
+            let last = pool.len().saturating_sub(1);
+            let fast = tree_at(alloc, work, pool, last)?;
+            let wanted = slow?;
+            Ok(compare_structure(&fast, &wanted) == Ordering::Equal)
+        }
+        Err(fault) => Ok(fault == ValueFault::Range && slow.err() == Some(SlowFault::Range)),
+    }
+}
+
+/// In how many of the rounds both ways agree; the games of the first rounds are the options of later ones.
+fn agreements<B: BoardForms, S: CellStore<GameFacts<B>>>(
+    alloc: Global,
+    work: &mut Work<B, S>,
+    pool: &mut Vec<Handle>,
+    rounds: u32,
+) -> Result<u32, Fail>
+    requires { AreGames (work_state S.state work.old) pool.old.items }
+    ensures { AreGames (work_state S.state work.new) pool.new.items }
+{
+    let mut draws = Draws { state: 2013 };
+    let mut agreed = 0u32;
+    for _ in 0..rounds {
+        let bound = pool.len().min(40);
+        let lefts = draws.indices(alloc, bound)?;
+        let rights = draws.indices(alloc, bound)?;
+        if agrees(alloc, work, pool, &lefts, &rights)? {
+            agreed = agreed.saturating_add(1);
+        }
+    }
+    Ok(agreed)
+}
+
+#[test]
+fn both_ways_agree(rt: HostRuntime) -> Result<(), Fail> {
+    let mut store: Store = PlainStore::new(rt.alloc(), 65536)?;
+    let mut work = Work::new(rt.alloc(), &mut store, 65536, 65536);
+    let mut pool = Vec::new(rt.alloc());
+    let most = 4_503_599_627_370_495;
+    let numbers = [
+        (0, 0),
+        (1, 0),
+        (-1, 0),
+        (1, 1),
+        (-3, 2),
+        (2, 0),
+        (1, 31),
+        (most, 0),
+    ];
+    add_numbers(&mut work, &mut pool, &numbers)?;
+    assert_eq!(rt; agreements(rt.alloc(), &mut work, &mut pool, 400)?, 400);
+    Ok(())
+}

@@ -1,0 +1,175 @@
+-- The last of the items of an expression.
+use Rattle.std.proofs.Common.{◌≡◌, refl, ℕ, zero, suc, pos, ap, sym, ◌∙◌, subst, List, [], ◌∷◌, ◌++◌, append_assoc, length, Bool, true, false, nat_lt, inl, inr, Option, Some, None}
+use Rattle.cg_dyadic.specs.Number.{Number, whole}
+use Rattle.cg_dyadic.proofs.Truth.{true_or_false}
+use Rattle.cg_form.specs.Canonical.{Canonical}
+use Rattle.cg_form.specs.Game.{Game, number as plain_number}
+use Rattle.cg_form.specs.Multiple.{multiple as many}
+use Rattle.cg_form.specs.Order.{Equal}
+use Rattle.cg_form.specs.Sum.{sum as plus, negative as minus}
+use Rattle.cg_form.proofs.Negative.{negative-le}
+use Rattle.cg_form.proofs.Preorder.{equal_refl, equal_trans}
+use Rattle.cg_form.proofs.SumLaws.{sum-le_second}
+use Rattle.cg_form.proofs.SumOrder.{sum-le}
+use Rattle.cg_nodes.specs.Positions.{positions_of}
+use Rattle.cg_nodes.specs.Spelled.{can}
+use Rattle.cg_canon.specs.Items.{Item, made}
+use Rattle.cg_sum.specs.Lists.{sum_items, negative_items, multiple_items}
+use Rattle.cg_nodes.specs.CanForms.{can-canonical, can-equal, can-fixed}
+use Rattle.cg_nodes.proofs.Forms.{can-same}
+use Rattle.cg_sum.proofs.Sums.{can-sum_form}
+use Rattle.cg_names.specs.Lists.{form_items, number_items, plain_item}
+use Rattle.cg_canon.specs.NumberItems.{number_made}
+use Rattle.cg_names.specs.Meaning.{fraction, literal, meaning, total, total_with, signed, or_zero, has_board, any_term_board}
+use Rattle.cg_names.specs.Named.{nimber_form, ups_form, switch_form, tiny_form}
+use Rattle.cg_syntax.specs.Tree.{Tree, Terms, number, ups, nimber, switch, tiny, sides, negative, multiple, sum, game, no_terms, with_term}
+use Rattle.cg_eval.specs.Items.{items, all_items, term_items, further_items, signed_items, term_part}
+use Rattle.cg_eval.proofs.BoardParts.{or_false}
+use Rattle.cg_names.proofs.Literals.{literal_not_negative, literal-fraction}
+use Rattle.cg_names.proofs.NimberForms.{nimber-canonical}
+use Rattle.cg_names.proofs.SwitchForms.{switch-canonical, tiny-canonical}
+use Rattle.cg_names.proofs.UpForms.{ups-canonical}
+use Rattle.cg_eval.proofs.Lasts.{AreMade, EndsIn, append_none, are_made-back, are_made-front, ends-as, ends-back, ends-map, ends-multiple, ends-negative, ends-sum, last_position, not_outside, not_too_many}
+
+-- ---- the forms of the parts may stand for the parts
+
+pub can-negative_form : (g : Game) → can (minus (can g)) ≡ can (minus g)
+can-negative_form g =
+    let e = can-equal g in
+    can-same (minus (can g)) (minus g) (negative-le g (can g) e.1, negative-le (can g) g e.0)
+
+pub can-sum_forms : (g h : Game) → can (plus (can g) (can h)) ≡ can (plus g h)
+can-sum_forms g h =
+    let e = can-equal h in
+    can-sum_form g (can h) ∙ can-same (plus g (can h)) (plus g h) (
+      sum-le_second (can h) h g e.0,
+      sum-le_second h
+          (can h) g e.1,
+    )
+
+pub can-signed_form : (subtracted : Bool) (g : Game) → can (signed subtracted (can g)) ≡ can (signed subtracted g)
+can-signed_form true g = can-negative_form g
+can-signed_form false g = can-fixed (can g) (can-canonical g)
+
+-- one game for the other in each of n copies
+pub sum_equal : (a b g h : Game) → Equal a b → Equal g h → Equal (plus a g) (plus b h)
+sum_equal a b g h e f = equal_trans (plus a g) (plus b g) (plus b h)
+    (sum-le a b g e.0, sum-le b a g e.1) (sum-le_second g h b f.0, sum-le_second h g b f.1)
+
+copies_le : (n : ℕ) (g h : Game) → Equal g h → Equal (many n g) (many n h)
+unfolding many
+copies_le zero g h e = equal_refl (plain_number (whole (pos 0)))
+copies_le (suc n) g h e = sum_equal (many n g) (many n h) g h (copies_le n g h e) e
+
+pub can-multiple_form : (n : ℕ) (g : Game) → can (many n (can g)) ≡ can (many n g)
+can-multiple_form n g = can-same (many n (can g)) (many n g) (copies_le n (can g) g (can-equal g))
+
+-- ---- named games
+
+pub ends-form : (limit : ℕ) (f : Game) → Canonical f → AreMade (form_items limit f)
+    → EndsIn (can f) (form_items limit f)
+unfolding form_items
+ends-form limit f c m = elim (true_or_false (nat_lt limit (length (positions_of f)))) [
+  | inl t ↦ absurd (not_too_many (rw t at m))
+  | inr e ↦ rw e (ends-map plain_item f (can f) 0 (positions_of f) (ap (λ k. made k 0) (sym (can-fixed f c)))
+      (last_position f))
+]
+
+one_number : (x : Number) → EndsIn (can (plain_number x)) (made (plain_number x) 0 ∷ [])
+one_number x = record { front = []; extra = 0; split = ap (λ k. made k 0 ∷ []) (sym (can-fixed (plain_number x) tt)) }
+
+-- the list of a game that is made from a literal
+ends-literal : (limit : ℕ) (form : Number → Game) (o all : Option Number)
+    → ((x : Number) → o ≡ Some x → (all ≡ Some x) × Canonical (form x))
+    → AreMade (number_items limit form o) → EndsIn (can (form (or_zero all))) (number_items limit form o)
+ends-literal limit form None all h m = absurd (not_outside m)
+ends-literal limit form (Some x) all h m =
+    let (e, c) = h x refl in
+    let P : Option Number → Type 0 = λ z. EndsIn (can (form (or_zero z))) (form_items limit (form x)) in
+    subst P (sym e) (ends-form limit (form x) c m)
+
+ends-number : (o all : Option Number) → ((x : Number) → o ≡ Some x → all ≡ Some x)
+    → AreMade (number_made o 0 ∷ []) → EndsIn (can (plain_number (or_zero all))) (number_made o 0 ∷ [])
+ends-number None all h m = absurd (not_outside m)
+ends-number (Some x) all h m =
+    let P : Option Number → Type 0 = λ z. EndsIn (can (plain_number (or_zero z))) (made (plain_number x) 0 ∷ []) in
+    subst P (sym (h x refl)) (one_number x)
+
+-- ---- sums
+
+-- a game, or its negative, behind its items
+ends-signed : (limit : ℕ) (subtracted : Bool) (g : Game) (is : List Item) → EndsIn (can g) is
+    → AreMade (is ++ signed_items limit subtracted (can g))
+    → EndsIn (can (signed subtracted g)) (is ++ signed_items limit subtracted (can g))
+ends-signed limit true g is e m =
+    ends-back (can (minus g)) is (negative_items limit (can g))
+    (ends-as (can (minus (can g))) (can (minus g)) (negative_items limit (can g)) (can-negative_form g)
+    (ends-negative limit (can g) (are_made-back is (negative_items limit (can g)) m)))
+ends-signed limit false g is e m =
+    let P : List Item → Type 0 = λ z. EndsIn (can g) z in subst P (sym (append_none is)) e
+
+mutual
+  unfolding items meaning
+
+  pub last_item : (limit : ℕ) (t : Tree) → has_board t ≡ false → AreMade (items limit t)
+      → EndsIn (can (meaning t)) (items limit t)
+  last_item limit (number below num den) b m =
+      ends-number (literal below num den) (fraction below num den) (literal-fraction below num den) m
+  last_item limit (ups down n) b m = ends-form limit (ups_form down n) (ups-canonical down false n) m
+  last_item limit (nimber n) b m = ends-form limit (nimber_form n) (nimber-canonical n) m
+  last_item limit (switch num den) b m =
+      ends-literal limit switch_form (literal false num den) (fraction false num den)
+      (λ x e. (literal-fraction false num den x e, switch-canonical x (literal_not_negative num den x e))) m
+  last_item limit (tiny miny num den) b m =
+      ends-literal limit (tiny_form miny) (literal false num den) (fraction false num den)
+      (λ x e. (literal-fraction false num den x e, tiny-canonical miny x (literal_not_negative num den x e))) m
+  last_item limit (sides lefts rights) b m = record {
+    front = all_items limit lefts ++ all_items limit rights;
+    extra = 0;
+    split = refl;
+  }
+  last_item limit (negative t) b m = ends-signed limit true (meaning t) (items limit t)
+      (last_item limit t b (are_made-front (items limit t) (negative_items limit (can (meaning t))) m)) m
+  last_item limit (multiple n t) b m =
+      ends-as (can (many n (can (meaning t)))) (can (many n (meaning t))) (items limit t ++ multiple_items limit n
+      (can (meaning t)))
+      (can-multiple_form n (meaning t))
+      (ends-multiple limit n (can (meaning t)) (items limit t) (can-canonical (meaning t))
+      (last_item limit t b (are_made-front (items limit t) (multiple_items limit n (can (meaning t))) m)) m)
+  last_item limit (sum terms) b m = last_of_terms limit terms b m
+  last_item limit (game kind rules board) b m = absurd (cc)
+
+  last_of_terms : (limit : ℕ) (ts : Terms) → any_term_board ts ≡ false → AreMade (term_items limit ts)
+      → EndsIn (can (total ts)) (term_items limit ts)
+  last_of_terms limit no_terms b m = one_number (whole (pos 0))
+  last_of_terms limit (with_term subtracted t ts) b m =
+      let c = or_false (has_board t) (any_term_board ts) b in
+      let own = signed_items limit subtracted (can (meaning t)) in
+      let further = further_items limit (signed subtracted (meaning t)) ts in
+      let k : AreMade (items limit t ++ own) = are_made-front (items limit t ++ own) further m in
+      last_of_further limit (signed subtracted (meaning t)) ts c.1 (items limit t ++ own)
+      (ends-signed limit subtracted (meaning t) (items limit t)
+      (last_item limit t c.0 (are_made-front (items limit t) own k)) k) m
+
+  last_of_further : (limit : ℕ) (g : Game) (ts : Terms) → any_term_board ts ≡ false → (before : List Item)
+      → EndsIn (can g) before → AreMade (before ++ further_items limit g ts)
+      → EndsIn (can (total_with g ts)) (before ++ further_items limit g ts)
+  last_of_further limit g no_terms b before e m =
+      let P : List Item → Type 0 = λ z. EndsIn (can g) z in subst P (sym (append_none before)) e
+  last_of_further limit g (with_term subtracted t ts) b before e m =
+      let c = or_false (has_board t) (any_term_board ts) b in
+      let other = signed subtracted (meaning t) in
+      let part = term_part limit subtracted t in
+      let sums = sum_items limit (can g) (can other) in
+      let further = further_items limit (plus g other) ts in
+      let same : (before ++ (part ++ sums)) ++ further ≡ before ++ ((part ++ sums) ++ further) =
+      append_assoc before (part ++ sums) further in
+      let k : AreMade (part ++ sums) = are_made-front (part ++ sums) further (are_made-back before ((part ++ sums)
+      ++ further) m) in
+      let done : EndsIn (can (plus g other)) (before ++ (part ++ sums)) =
+      ends-back (can (plus g other)) before (part ++ sums) (ends-back (can (plus g other)) part sums
+      (ends-as (can (plus (can g) (can other))) (can (plus g other)) sums (can-sum_forms g other)
+      (ends-sum limit (can g) (can other) (are_made-back part sums k)))) in
+      let P : List Item → Type 0 = λ z. EndsIn (can (total_with (plus g other) ts)) z in
+      let Q : List Item → Type 0 = λ z. AreMade z in
+      subst P same (last_of_further limit (plus g other) ts c.1 (before ++ (part ++ sums)) done (subst Q (sym same) m))

@@ -1,0 +1,9 @@
+pub mod Lasts
+pub mod LastItems
+pub mod Walk
+pub mod BoardParts
+pub mod Steps
+pub mod Expressions
+pub mod ListSteps
+pub mod Verdicts
+pub mod Replies

@@ -1,0 +1,418 @@
+-- The steps of lists of expressions and of terms, one after another.
+use Rattle.std.proofs.Common.{◌≡◌, refl, ap, sym, ◌∙◌, subst, ℕ, zero, suc, ◌+◌, ◌<◌, ◌≤◌, arith, Bool, false, List, [], ◌∷◌, ◌++◌, append_assoc, length, get_or, take, drop, map, Result, Ok, Err}
+use Rattle.std.specs.Prelude.{Vec, OnOk, IfErr, IfOk}
+use Rattle.cg_dyadic.specs.Number.{Number}
+use Rattle.cg_form.specs.Game.{Game, number as plain_number, to_list}
+use Rattle.cg_form.specs.Sum.{sum as plus}
+use Rattle.cg_cells.specs.Store.{State}
+use Rattle.cg_nodes.specs.Games.{AreGames, IsGame, StandFor, StandsFor, game_at, games_at}
+use Rattle.cg_nodes.specs.Meant.{Meant}
+use Rattle.cg_nodes.specs.Spelled.{can}
+use Rattle.cg_nodes.proofs.Later.{stands_game, stands_is_game, stand_later}
+use Rattle.cg_canon.specs.declared.fault.ValueFault.{ValueFault}
+use Rattle.cg_canon.specs.declared.rest.WorkRest.{WorkRest}
+use Rattle.cg_canon.specs.Items.{AllPass, Item, WasRefused, made}
+use Rattle.cg_canon.specs.Works.{Keeps}
+use Rattle.cg_nodes.specs.CanForms.{can-fixed}
+use Rattle.cg_sum.proofs.Sums.{can-sum_form}
+use Rattle.cg_names.specs.Named.{zero_number}
+use Rattle.cg_sum.specs.Lists.{sum_items}
+use Rattle.cg_names.specs.Meaning.{any_term_board, has_board, meaning, meanings, signed, total, total_with}
+use Rattle.cg_syntax.specs.declared.expr.Expr.{Expr}
+use Rattle.cg_syntax.specs.declared.expr.Term.{Term}
+use Rattle.cg_syntax.specs.Tree.{Tree, Trees, sum, trees_from, terms_from}
+use Rattle.cg_syntax.specs.Trees.{tree_of, trees_of, term_of, terms_of}
+use Rattle.cg_syntax.proofs.TreeOf.{term_tree}
+use Rattle.cg_eval.specs.Items.{items, all_items, further_items, term_items, term_part}
+use Rattle.cg_eval.specs.Progress.{Evaluates, Gives, GivesAll, Makes, Stops}
+use Rattle.cg_eval.proofs.Expressions.{stopped_part}
+use Rattle.cg_eval.proofs.Lasts.{append_none}
+use Rattle.cg_eval.proofs.Steps.{gives_from, gives_game, gives_then, makes_items, makes_none, makes_then, stops_front, stops_items, stops_then}
+use Rattle.cg_eval.proofs.BoardParts.{or_false}
+use Rattle.cg_eval.proofs.Walk.{size, term_sizes, trees_of-take_suc, trees_of-all, terms_of-take_suc, terms_of-all}
+
+-- ---- the items of lists that are put together
+
+all_items-append : (limit : ℕ) (xs ys : List Tree)
+    → all_items limit (trees_from (xs ++ ys)) ≡ all_items limit (trees_from xs) ++ all_items limit (trees_from ys)
+unfolding all_items
+all_items-append limit [] ys = refl
+all_items-append limit (x ∷ xs) ys =
+    ap (λ z. items limit x ++ z) (all_items-append limit xs ys)
+    ∙ sym (append_assoc (items limit x) (all_items limit (trees_from xs)) (all_items limit (trees_from ys)))
+
+all_items-one : (limit : ℕ) (x : Tree) → all_items limit (trees_from (x ∷ [])) ≡ items limit x
+unfolding all_items
+all_items-one limit x = append_none (items limit x)
+
+all_items-next : (limit : ℕ) (x : Tree) (xs : List Tree)
+    → all_items limit (trees_from (x ∷ xs)) ≡ items limit x ++ all_items limit (trees_from xs)
+unfolding all_items
+all_items-next limit x xs = refl
+
+all_items-none : (limit : ℕ) → all_items limit (trees_from []) ≡ []
+unfolding all_items
+all_items-none limit = refl
+
+forms-append : (xs ys : List Tree) → map can (to_list (meanings (trees_from (xs ++ ys))))
+    ≡ map can (to_list (meanings (trees_from xs))) ++ map can (to_list (meanings (trees_from ys)))
+unfolding meanings
+forms-append [] ys = refl
+forms-append (x ∷ xs) ys = ap (λ z. can (meaning x) ∷ z) (forms-append xs ys)
+
+forms-one : (x : Tree) → map can (to_list (meanings (trees_from (x ∷ [])))) ≡ can (meaning x) ∷ []
+unfolding meanings
+forms-one x = refl
+
+forms-none : map can (to_list (meanings (trees_from []))) ≡ []
+unfolding meanings
+forms-none = refl
+
+further-append : (limit : ℕ) (g : Game) (xs ys : List (Bool × Tree))
+    → further_items limit g (terms_from (xs ++ ys))
+    ≡ further_items limit g (terms_from xs) ++ further_items limit (total_with g (terms_from xs)) (terms_from ys)
+unfolding further_items total_with
+further-append limit g [] ys = refl
+further-append limit g (x ∷ xs) ys =
+    let part = term_part limit x.0 x.1 ++ sum_items limit (can g) (can (signed x.0 (meaning x.1))) in
+    let next = plus g (signed x.0 (meaning x.1)) in
+    ap (λ z. part ++ z) (further-append limit next xs ys)
+    ∙ sym (append_assoc part (further_items limit next (terms_from xs)) (further_items limit (total_with next
+    (terms_from xs)) (terms_from ys)))
+
+total-append : (g : Game) (xs ys : List (Bool × Tree))
+    → total_with g (terms_from (xs ++ ys)) ≡ total_with (total_with g (terms_from xs)) (terms_from ys)
+unfolding total_with
+total-append g [] ys = refl
+total-append g (x ∷ xs) ys = total-append (plus g (signed x.0 (meaning x.1))) xs ys
+
+-- those of adding one term
+abbrev added_items : ℕ → Game → Bool → Tree → List Item
+added_items limit g subtracted t = term_part limit subtracted t ++ sum_items limit (can g) (can (signed subtracted
+    (meaning t)))
+
+further-next : (limit : ℕ) (g : Game) (x : Bool × Tree) (xs : List (Bool × Tree))
+    → further_items limit g (terms_from (x ∷ xs))
+    ≡ added_items limit g x.0 x.1 ++ further_items limit (plus g (signed x.0 (meaning x.1))) (terms_from xs)
+unfolding further_items
+further-next limit g x xs = refl
+
+further-one : (limit : ℕ) (g : Game) (x : Bool × Tree)
+    → further_items limit g (terms_from (x ∷ [])) ≡ added_items limit g x.0 x.1
+unfolding further_items
+further-one limit g x = append_none (added_items limit g x.0 x.1)
+
+further-none : (limit : ℕ) (g : Game) → further_items limit g (terms_from []) ≡ []
+unfolding further_items
+further-none limit g = refl
+
+total-one : (g : Game) (x : Bool × Tree) → total_with g (terms_from (x ∷ [])) ≡ plus g (signed x.0 (meaning x.1))
+unfolding total_with
+total-one g x = refl
+
+total-none : (g : Game) → total_with g (terms_from []) ≡ g
+unfolding total_with
+total-none g = refl
+
+-- ---- where a list is split
+
+trees_of-split : (es : List Expr) (i : ℕ) (e : Expr) → i < length es → e ≡ get_or es i e
+    → trees_of es ≡ trees_of (take i es) ++ (tree_of e ∷ trees_of (drop (suc i) es))
+trees_of-split [] i e below is = absurd (omega arith)
+trees_of-split (f ∷ es) zero e below is = ap (λ (x : Expr). tree_of x ∷ trees_of es) (sym is)
+trees_of-split (f ∷ es) (suc i) e below is = ap (λ ts. tree_of f ∷ ts) (trees_of-split es i e (omega arith) is)
+
+terms_of-split : (es : List Term) (i : ℕ) (e : Term) → i < length es → e ≡ get_or es i e
+    → terms_of es ≡ terms_of (take i es) ++ (term_of e ∷ terms_of (drop (suc i) es))
+terms_of-split [] i e below is = absurd (omega arith)
+terms_of-split (f ∷ es) zero e below is = ap (λ (x : Term). term_of x ∷ terms_of es) (sym is)
+terms_of-split (f ∷ es) (suc i) e below is = ap (λ ts. term_of f ∷ ts) (terms_of-split es i e (omega arith) is)
+
+-- ---- handles, put together
+
+are_games-append : {R : Type 0} (s : State Meant R) (hs ks : List ℕ) → AreGames s hs → AreGames s ks
+    → AreGames s (hs ++ ks)
+are_games-append s [] ks a b = b
+are_games-append s (h ∷ hs) ks a b = (a.0, are_games-append s hs ks a.1 b)
+
+games_at-append : {R : Type 0} (s : State Meant R) (hs ks : List ℕ)
+    → games_at s (hs ++ ks) ≡ games_at s hs ++ games_at s ks
+games_at-append s [] ks = refl
+games_at-append s (h ∷ hs) ks = ap (λ z. game_at s h ∷ z) (games_at-append s hs ks)
+
+stand-more : {R : Type 0} (s : State Meant R) (hs : List ℕ) (gs : List Game) (h : ℕ) (g : Game) → StandFor s hs gs
+    → StandsFor s h g
+    → StandFor s (hs ++ (h ∷ [])) (gs ++ (g ∷ []))
+stand-more s hs gs h g a b = (
+  are_games-append s hs (h ∷ []) a.0 (stands_is_game s h g b, tt),
+  games_at-append s hs (h ∷ []) ∙ ap (λ z. z ++ games_at s (h ∷ [])) a.1 ∙ ap (λ z. gs ++ (z ∷ []))
+      (stands_game s h g b),
+)
+
+-- ---- lists of expressions
+
+-- the expressions so far have these handles, with their items made
+pub record AllMade {R : Type 0} (s t : State Meant (WorkRest R)) (ts : List Tree) (hs : List ℕ) : Type 0 where
+  pub games : StandFor t hs (map can (to_list (meanings (trees_from ts))))
+  pub made : Makes s t (all_items s.rest.limit (trees_from ts))
+
+pub all_made-none : {R : Type 0} (s : State Meant (WorkRest R)) (hs : List ℕ) → hs ≡ [] → AllMade s s [] hs
+all_made-none s hs e =
+    let P : List ℕ → Type 0 = λ z. StandFor s z (map can (to_list (meanings (trees_from [])))) in
+    let Q : List Game → Type 0 = λ z. StandFor s [] z in
+    record {
+      games = subst P (sym e) (subst Q (sym forms-none) (tt, refl));
+      made = makes_items s s [] (all_items s.rest.limit (trees_from [])) (sym (all_items-none s.rest.limit))
+          (makes_none s);
+    }
+
+module _ {R : Type 0} (s t u : State Meant (WorkRest R)) where
+  all_made-more : (ts : List Tree) (hs ks : List ℕ) (x : Tree) (h : ℕ) → AllMade s t ts hs → Evaluates t u x (Ok h)
+      → ks ≡ hs ++ (h ∷ [])
+      → AllMade s u (ts ++ (x ∷ [])) ks
+  all_made-more ts hs ks x h a (game, done) e =
+      let P : List Game → Type 0 = λ z. StandFor u (hs ++ (h ∷ [])) z in
+      let Q : List ℕ → Type 0 = λ z. StandFor u z (map can (to_list (meanings (trees_from (ts ++ (x ∷ [])))))) in
+      let N : ℕ → Type 0 = λ n. Makes t u (items n x) in
+      let forms : map can (to_list (meanings (trees_from (ts ++ (x ∷ []))))) ≡ map can (to_list (meanings
+      (trees_from ts))) ++ (can (meaning x) ∷ []) =
+      forms-append ts (x ∷ []) ∙ ap (λ z. map can (to_list (meanings (trees_from ts))) ++ z) (forms-one x) in
+      let all : all_items s.rest.limit (trees_from (ts ++ (x ∷ []))) ≡ all_items s.rest.limit (trees_from ts)
+      ++ items s.rest.limit x =
+      all_items-append s.rest.limit ts (x ∷ []) ∙ ap (λ z. all_items s.rest.limit (trees_from ts) ++ z)
+      (all_items-one s.rest.limit x) in
+      record {
+        games = subst Q (sym e) (subst P (sym forms) (stand-more u hs (map can (to_list (meanings
+            (trees_from ts)))) h (can (meaning x))
+            (stand_later t u done.keeps.known hs (map can (to_list (meanings (trees_from ts)))) a.games) game));
+        made = makes_items s u (all_items s.rest.limit (trees_from ts) ++ items s.rest.limit x)
+            (all_items s.rest.limit (trees_from (ts ++ (x ∷ [])))) (sym all)
+            (makes_then s t u (all_items s.rest.limit (trees_from ts)) (items s.rest.limit x) a.made
+            (subst N a.made.keeps.limit done));
+      }
+
+  pub all_made-step : (es : List Expr) (i : ℕ) (e : Expr) (hs ks : List ℕ) (h : ℕ) → i < length es → e ≡ get_or es i e
+      → AllMade s t (trees_of (take i es)) hs → Evaluates t u (tree_of e) (Ok h) → ks ≡ hs ++ (h ∷ [])
+      → AllMade s u (trees_of (take (i + 1) es)) ks
+  all_made-step es i e hs ks h below at a b more =
+      let trees : trees_of (take (i + 1) es) ≡ trees_of (take i es) ++ (tree_of e ∷ []) =
+      ap (λ (n : ℕ). trees_of (take n es)) (let n : i + 1 ≡ suc i = omega arith in n)
+      ∙ trees_of-take_suc es i e below at in
+      let P : List Tree → Type 0 = λ z. AllMade s u z ks in
+      subst P (sym trees) (all_made-more (trees_of (take i es)) hs ks (tree_of e) h a b more)
+
+  -- an expression after those so far is refused
+  pub all_stopped : (es : List Expr) (ts : List Tree) (i : ℕ) (e : Expr) (hs : List ℕ) (fault : ValueFault)
+      → trees_of es ≡ ts
+      → i < length es → e ≡ get_or es i e → AllMade s t (trees_of (take i es)) hs
+      → Evaluates t u (tree_of e) (Err fault)
+      → Stops s u fault (all_items s.rest.limit (trees_from ts))
+  all_stopped es ts i e hs fault is below at a r =
+      let front = trees_of (take i es) in
+      let back = trees_of (drop (suc i) es) in
+      let N : ℕ → Type 0 = λ n. Stops t u fault (items n (tree_of e)) in
+      let all : all_items s.rest.limit (trees_from ts) ≡ all_items s.rest.limit (trees_from front) ++
+      (items s.rest.limit (tree_of e) ++ all_items s.rest.limit (trees_from back)) =
+      ap (λ z. all_items s.rest.limit (trees_from z)) (sym is ∙ trees_of-split es i e below at)
+      ∙ all_items-append s.rest.limit front (tree_of e ∷ back)
+      ∙ ap (λ z. all_items s.rest.limit (trees_from front) ++ z) (all_items-next s.rest.limit (tree_of e) back) in
+      stops_items s u fault (all_items s.rest.limit (trees_from front) ++ (items s.rest.limit (tree_of e)
+      ++ all_items s.rest.limit (trees_from back)))
+      (all_items s.rest.limit (trees_from ts)) (sym all)
+      (stops_then s t u fault (all_items s.rest.limit (trees_from front)) (items s.rest.limit (tree_of e)
+      ++ all_items s.rest.limit (trees_from back)) a.made
+      (stops_front t u fault (items s.rest.limit (tree_of e)) (all_items s.rest.limit (trees_from back))
+      (subst N a.made.keeps.limit r)))
+
+pub all_made-all : {R : Type 0} (s t : State Meant (WorkRest R)) (es : List Expr) (ts : List Tree) (i : ℕ)
+    (hs : List ℕ) → trees_of es ≡ ts → length es ≤ i
+    → AllMade s t (trees_of (take i es)) hs
+    → StandFor t hs (map can (to_list (meanings (trees_from ts)))) × Makes s t (all_items s.rest.limit (trees_from ts))
+all_made-all s t es ts i hs is end a =
+    let P : List Tree → Type 0 = λ z. StandFor t hs (map can (to_list (meanings (trees_from z)))) × Makes s t
+    (all_items s.rest.limit (trees_from z)) in
+    subst P (trees_of-all es i end ∙ is) (a.games, a.made)
+
+pub gives_all-err : {R A : Type 0} (s t : State Meant (WorkRest R)) (es : Trees) (result : Result
+    (Vec ℕ A) ValueFault) (x fault : ValueFault)
+    → result ≡ Err x → x ≡ fault → Stops s t fault (all_items s.rest.limit es) → GivesAll s t es result
+gives_all-err {R} {A} s t es result x fault e f r =
+    let P : Result (Vec ℕ A) ValueFault → Type 0 = λ z. GivesAll s t es z in
+    let Q : ValueFault → Type 0 = λ z. Stops s t z (all_items s.rest.limit es) in
+    subst P (sym e) (subst Q (sym f) r)
+
+-- ---- lists of terms
+
+-- the terms so far were added to the game of the first handle
+pub record AreAdded {R : Type 0} (s t : State Meant (WorkRest R)) (start so_far : ℕ) (ts : List (Bool
+    × Tree)) : Type 0 where
+  pub known : IsGame t so_far
+  pub sums : (g : Game) → StandsFor s start (can g)
+      → StandsFor t so_far (can (total_with g (terms_from ts))) × Makes s t (further_items s.rest.limit g
+      (terms_from ts))
+
+pub added-none : {R : Type 0} (s : State Meant (WorkRest R)) (start : ℕ) → IsGame s start → AreAdded s s start start []
+added-none s start k = record {
+  known = k;
+  sums = λ g h.
+      let P : Game → Type 0 = λ z. StandsFor s start (can z) in (
+        subst P (sym (total-none g)) h,
+        makes_items s s [] (further_items s.rest.limit g (terms_from [])) (sym
+            (further-none s.rest.limit g)) (makes_none s),
+      );
+}
+
+-- adding the term to the game of a handle, whatever game that is
+abbrev pub Adds : {R : Type 0} → State Meant (WorkRest R) → State Meant (WorkRest R) → ℕ → Bool → Tree
+    → Result ℕ ValueFault → Type 0
+Adds {R} t u so_far subtracted x result = (g : Game) → StandsFor t so_far (can g)
+    → Gives t u (added_items t.rest.limit g subtracted x) (plus g (signed subtracted (meaning x))) result
+
+-- from the call that adds it
+pub adds : {R : Type 0} (t u : State Meant (WorkRest R)) (so_far : ℕ) (subtracted : Bool) (x : Tree)
+    (result : Result ℕ ValueFault)
+    → Gives t u (term_part t.rest.limit subtracted x ++ sum_items t.rest.limit (game_at t so_far) (can
+    (signed subtracted (meaning x))))
+    (plus (game_at t so_far) (signed subtracted (meaning x))) result
+    → Adds t u so_far subtracted x result
+adds t u so_far subtracted x result r g h =
+    let m = signed subtracted (meaning x) in
+    let P : Game → Type 0 = λ z. Gives t u (term_part t.rest.limit subtracted x ++ sum_items t.rest.limit z (can m))
+    (plus z m) result in
+    gives_game t u (added_items t.rest.limit g subtracted x) (plus (can g) m) (plus g m) result (can-sum_form g m)
+    (subst P (stands_game t so_far (can g) h) r)
+
+module _ {R : Type 0} (s t u : State Meant (WorkRest R)) where
+  added-more : (start so_far next : ℕ) (ts : List (Bool × Tree)) (subtracted : Bool) (x : Tree) → IsGame u next
+      → AreAdded s t start so_far ts → Adds t u so_far subtracted x (Ok next)
+      → AreAdded s u start next (ts ++ ((subtracted, x) ∷ []))
+  added-more start so_far next ts subtracted x k a r = record {
+    known = k;
+    sums = λ g h.
+        let (game, done) = a.sums g h in
+        let sum_so_far = total_with g (terms_from ts) in
+        let (sum_game, sum_made) = r sum_so_far game in
+        let P : Game → Type 0 = λ z. StandsFor u next (can z) in
+        let N : ℕ → Type 0 = λ n. Makes t u (added_items n sum_so_far subtracted x) in
+        let all : further_items s.rest.limit g (terms_from (ts ++ ((subtracted, x) ∷ [])))
+        ≡ further_items s.rest.limit g (terms_from ts) ++ added_items s.rest.limit sum_so_far subtracted x =
+        further-append s.rest.limit g ts ((subtracted, x) ∷ [])
+        ∙ ap (λ z. further_items s.rest.limit g (terms_from ts) ++ z) (further-one s.rest.limit sum_so_far
+        (subtracted, x)) in (
+          subst P (sym (total-append g ts ((subtracted, x) ∷ []) ∙ total-one sum_so_far (subtracted, x))) sum_game,
+          makes_items s u (further_items s.rest.limit g (terms_from ts)
+              ++ added_items s.rest.limit sum_so_far subtracted x)
+              (further_items s.rest.limit g (terms_from (ts ++ ((subtracted, x) ∷ [])))) (sym all)
+              (makes_then s t u (further_items s.rest.limit g (terms_from ts))
+              (added_items s.rest.limit sum_so_far subtracted x) done (subst N done.keeps.limit sum_made)),
+        );
+  }
+
+  pub added-step : (es : List Term) (i : ℕ) (e : Term) (start so_far next : ℕ) → i < length es → e ≡ get_or es i e
+      → IsGame u next
+      → AreAdded s t start so_far (terms_of (take i es)) → Adds t u so_far e.minus (tree_of e.expr) (Ok next)
+      → AreAdded s u start next (terms_of (take (i + 1) es))
+  added-step es i e start so_far next below at k a r =
+      let trees : terms_of (take (i + 1) es) ≡ terms_of (take i es) ++ ((e.minus, tree_of e.expr) ∷ []) =
+      ap (λ (n : ℕ). terms_of (take n es)) (let n : i + 1 ≡ suc i = omega arith in n)
+      ∙ terms_of-take_suc es i e below at
+      ∙ ap (λ (x : Bool × Tree). terms_of (take i es) ++ (x ∷ [])) (term_tree e.minus e.expr) in
+      let P : List (Bool × Tree) → Type 0 = λ z. AreAdded s u start next z in
+      subst P (sym trees) (added-more start so_far next (terms_of (take i es)) e.minus (tree_of e.expr) k a r)
+
+  pub added-stopped : (es : List Term) (i : ℕ) (e : Term) (start so_far : ℕ) (fault : ValueFault) → i < length es
+      → e ≡ get_or es i e
+      → AreAdded s t start so_far (terms_of (take i es)) → Adds t u so_far e.minus (tree_of e.expr) (Err fault)
+      → (g : Game) → StandsFor s start (can g)
+      → Stops s u fault (further_items s.rest.limit g (terms_from (terms_of es)))
+  added-stopped es i e start so_far fault below at a r g h =
+      let (game, done) = a.sums g h in
+      let front = terms_of (take i es) in
+      let back = terms_of (drop (suc i) es) in
+      let x : Bool × Tree = (e.minus, tree_of e.expr) in
+      let sum_so_far = total_with g (terms_from front) in
+      let next = plus sum_so_far (signed x.0 (meaning x.1)) in
+      let N : ℕ → Type 0 = λ n. Stops t u fault (added_items n sum_so_far x.0 x.1) in
+      let all : further_items s.rest.limit g (terms_from (terms_of es))
+      ≡ further_items s.rest.limit g (terms_from front) ++ (added_items s.rest.limit sum_so_far x.0 x.1
+      ++ further_items s.rest.limit next (terms_from back)) =
+      ap (λ z. further_items s.rest.limit g (terms_from z)) (terms_of-split es i e below at ∙ ap (λ (y : Bool
+      × Tree). front ++ (y ∷ back)) (term_tree e.minus e.expr))
+      ∙ further-append s.rest.limit g front (x ∷ back)
+      ∙ ap (λ z. further_items s.rest.limit g (terms_from front) ++ z) (further-next s.rest.limit sum_so_far x back) in
+      stops_items s u fault (further_items s.rest.limit g (terms_from front) ++
+      (added_items s.rest.limit sum_so_far x.0 x.1 ++ further_items s.rest.limit next (terms_from back)))
+      (further_items s.rest.limit g (terms_from (terms_of es))) (sym all)
+      (stops_then s t u fault (further_items s.rest.limit g (terms_from front))
+      (added_items s.rest.limit sum_so_far x.0 x.1 ++ further_items s.rest.limit next (terms_from back)) done
+      (stops_front t u fault (added_items s.rest.limit sum_so_far x.0 x.1) (further_items s.rest.limit next
+      (terms_from back)) (subst N done.keeps.limit (r sum_so_far game))))
+
+pub added-all : {R : Type 0} (s t : State Meant (WorkRest R)) (es : List Term) (i start so_far : ℕ) → length es ≤ i
+    → AreAdded s t start so_far (terms_of (take i es))
+    → (g : Game) → StandsFor s start (can g)
+    → Gives s t (further_items s.rest.limit g (terms_from (terms_of es))) (total_with g (terms_from
+    (terms_of es))) (Ok so_far)
+added-all s t es i start so_far end a g h =
+    let P : List (Bool × Tree) → Type 0 = λ z. StandsFor t so_far (can (total_with g (terms_from z))) × Makes s t
+    (further_items s.rest.limit g (terms_from z)) in
+    subst P (terms_of-all es i end) (a.sums g h)
+
+-- ---- the sum of all terms
+
+pub sum_of_terms : {R : Type 0} (s t u : State Meant (WorkRest R)) (ts : List (Bool × Tree)) (subtracted : Bool)
+    (x : Tree) (start : ℕ) (result : Result ℕ ValueFault)
+    → Gives s t (term_part s.rest.limit subtracted x) (signed subtracted (meaning x)) (Ok start)
+    → ((g : Game) → StandsFor t start (can g)
+    → Gives t u (further_items t.rest.limit g (terms_from ts)) (total_with g (terms_from ts)) result)
+    → Evaluates s u (sum (terms_from ((subtracted, x) ∷ ts))) result
+unfolding items meaning
+sum_of_terms s t u ts subtracted x start result (game, done) r =
+    let g = signed subtracted (meaning x) in
+    let N : ℕ → Type 0 = λ n. Gives t u (further_items n g (terms_from ts)) (total_with g (terms_from ts)) result in
+    gives_then s t u (term_part s.rest.limit subtracted x) (further_items s.rest.limit g (terms_from ts))
+    (total_with g (terms_from ts)) result done
+    (subst N done.keeps.limit (r g game))
+
+pub first_term_stopped : {R : Type 0} (s t : State Meant (WorkRest R)) (ts : List (Bool × Tree)) (subtracted : Bool)
+    (x : Tree) (result : Result ℕ ValueFault) (f fault : ValueFault)
+    → result ≡ Err f → f ≡ fault → Stops s t fault (term_part s.rest.limit subtracted x)
+    → Evaluates s t (sum (terms_from ((subtracted, x) ∷ ts))) result
+unfolding items meaning
+first_term_stopped s t ts subtracted x result f fault e same r =
+    let g = signed subtracted (meaning x) in
+    stopped_part s t (total_with g (terms_from ts)) result f fault (term_part s.rest.limit subtracted x)
+    (further_items s.rest.limit g (terms_from ts)) e same r
+
+pub no_terms_give : {R : Type 0} (s t : State Meant (WorkRest R)) (ts : List (Bool × Tree)) (x : Number)
+    (result : Result ℕ ValueFault) → ts ≡ [] → x ≡ zero_number
+    → IfOk result (λ h. StandsFor t h (plain_number x))
+    → OnOk result (AllPass s.rest.share s.rest.spent (made (plain_number x) 0 ∷ []) t.rest.spent)
+    → IfErr result (λ fault. WasRefused fault s.rest.share s.rest.spent (made (plain_number x) 0 ∷ []) t.rest.spent)
+    → s.spare ≤ t.spare → Keeps s t → Evaluates s t (sum (terms_from ts)) result
+unfolding items meaning
+no_terms_give s t ts x result none is game passed refused m keeps =
+    let P : List (Bool × Tree) → Type 0 = λ z. Gives s t (term_items s.rest.limit (terms_from z)) (total
+    (terms_from z)) result in
+    let Q : Number → Type 0 = λ z. Gives s t (made (plain_number z) 0 ∷ []) (plain_number z) result in
+    subst P (sym none) (subst Q is (gives_from s t (made (plain_number x) 0 ∷ []) (plain_number x)
+    (plain_number x) result (sym (can-fixed (plain_number x) tt)) game passed refused m keeps))
+
+-- ---- the first of the terms
+
+pub first_and_rest : (es : List Term) (ts : List (Bool × Tree)) (x : Term) (rest : List Term) → terms_of es ≡ ts
+    → es ≡ x ∷ rest
+    → ts ≡ (x.minus, tree_of x.expr) ∷ terms_of rest
+first_and_rest es ts x rest is split =
+    sym is ∙ ap (λ (z : List Term). terms_of z) split ∙ ap (λ (y : Bool × Tree). y ∷ terms_of rest)
+    (term_tree x.minus x.expr)
+
+pub first_size : (ts : List (Bool × Tree)) (m : Bool) (x : Tree) (rest : List (Bool × Tree)) → ts ≡ (m, x) ∷ rest
+    → term_sizes (terms_from ts) ≡ size x + term_sizes (terms_from rest)
+first_size ts m x rest e = ap (λ (z : List (Bool × Tree)). term_sizes (terms_from z)) e
+
+pub first_board : (ts : List (Bool × Tree)) (m : Bool) (x : Tree) (rest : List (Bool × Tree)) → ts ≡ (m, x) ∷ rest
+    → any_term_board (terms_from ts) ≡ false → (has_board x ≡ false) × (any_term_board (terms_from rest) ≡ false)
+first_board ts m x rest e b =
+    let P : List (Bool × Tree) → Type 0 = λ z. any_term_board (terms_from z) ≡ false in
+    or_false (has_board x) (any_term_board (terms_from rest)) (subst P e b)

@@ -1,0 +1,296 @@
+-- Replies, from answers and refusals.
+use Rattle.std.proofs.Common.{◌≡◌, arith, refl, ap, sym, ◌∙◌, subst, ℕ, ◌⊎◌, inl, inr, Bool, true, false, List, Option, Some, None, Result, Ok, Err, IfOk}
+use Rattle.cg_cells.specs.Store.{Spends, State}
+use Rattle.cg_form.specs.Game.{Game, number}
+use Rattle.cg_form.specs.Order.{Equal, le}
+use Rattle.cg_form.specs.Sum.{nothing}
+use Rattle.cg_form.proofs.Cut.{same_when}
+use Rattle.cg_form.proofs.Order.{le-fold}
+use Rattle.cg_form.proofs.Preorder.{le_trans}
+use Rattle.cg_nodes.specs.Games.{StandsFor, game_at}
+use Rattle.cg_nodes.specs.Meant.{Meant}
+use Rattle.cg_nodes.specs.Spelled.{can}
+use Rattle.cg_nodes.proofs.Later.{stands_game, stands_later}
+use Rattle.cg_canon.specs.declared.fault.ValueFault.{ValueFault}
+use Rattle.cg_canon.specs.declared.fault.ValueFault.TheVariants.{Depth, Full, Memory, Positions, Range}
+use Rattle.cg_canon.specs.declared.rest.WorkRest.{WorkRest}
+use Rattle.cg_canon.specs.Items.{AllPass, IsStopped, Item}
+use Rattle.cg_canon.specs.Works.{Keeps, WorkOf, work_state}
+use Rattle.cg_nodes.specs.CanForms.{can-equal}
+use Rattle.cg_names.specs.Meaning.{meaning}
+use Rattle.cg_names.specs.Named.{zero_number}
+use Rattle.cg_names.proofs.Steps.{keeps_then}
+use Rattle.cg_syntax.specs.Lines.{IsColumn, IsComment, IsUnread, Reads, is_blank_line}
+use Rattle.cg_syntax.specs.Tree.{Question, Tree, value, compare, outcome, stops, mean, temp, thermo}
+use Rattle.cg_eval.specs.declared.answered.Answered.{Answered}
+use Rattle.cg_eval.specs.Items.{items, question_items}
+use Rattle.cg_eval.specs.Progress.{Evaluates, Makes, Stops}
+use Rattle.cg_eval.specs.Refused.{IsRefusedBy, IsRefusedFor}
+use Rattle.cg_eval.specs.Reply.{IsReply, IsReplyBy, IsReplyTo, Piece, answer_to, is_answerable, later, refusal_of, syntax_at}
+use Rattle.cg_eval.specs.Shown.{Answers, HandleIs, HandleOf, IsAnswered, first_of, shown}
+use Rattle.cg_eval.specs.Stores.{KeepsStore}
+use Rattle.cg_eval.proofs.Steps.{makes_then, stops_then}
+use Rattle.cg_eval.proofs.Verdicts.{verdict-apart, verdict-decided, verdict-stopped}
+
+-- ---- what compares games spends nothing and says how the games compare
+
+pub keeps_spends : {R : Type 0} (n : ℕ) (s t : State Meant (WorkRest R)) → Spends n s t → Keeps s t
+keeps_spends {R} n s t k = record {
+  known = k.known;
+  noted = k.noted;
+  of_store = ap (λ (r : WorkRest R). r.of_store) k.rest;
+  name = ap (λ (r : WorkRest R). r.name) k.rest;
+  share = ap (λ (r : WorkRest R). r.share) k.rest;
+  start = ap (λ (r : WorkRest R). r.start) k.rest;
+  limit = ap (λ (r : WorkRest R). r.limit) k.rest;
+}
+
+pub makes_spends : {R : Type 0} (s t u : State Meant (WorkRest R)) (is : List Item) → Makes s t is → Spends 0 t u
+    → Makes s u is
+makes_spends {R} s t u is m k =
+    let P : ℕ → Type 0 = λ n. AllPass s.rest.share s.rest.spent is n in
+    record {
+      passed = subst P (sym (ap (λ (r : WorkRest R). r.spent) k.rest)) m.passed;
+      more = let a = m.more in let b = k.spare in omega arith;
+      keeps = keeps_then s t u m.keeps (keeps_spends 0 t u k);
+    }
+
+-- the order of games is that of the games that they equal
+pub le-equal : (a b g h : Game) → Equal a g → Equal b h → le a b ≡ le g h
+le-equal a b g h e f = same_when (le a b) (le g h)
+    (λ l. le_trans g a h e.1 (le_trans a b h l f.0))
+    (λ l. le_trans a g b e.0 (le_trans g h b l f.1))
+
+zero_is : Equal (number zero_number) nothing
+zero_is = (
+  le-fold (number zero_number) nothing (record { on_left = λ a m. absurd m; on_right = λ b m. absurd m }),
+  le-fold nothing (number zero_number) (record { on_left = λ a m. absurd m; on_right = λ b m. absurd m }),
+)
+
+pub le-zero : (m : Game) → le (can m) (number zero_number) ≡ le m nothing
+le-zero m = le-equal (can m) (number zero_number) m nothing (can-equal m) zero_is
+
+pub zero-le : (m : Game) → le (number zero_number) (can m) ≡ le nothing m
+zero-le m = le-equal (number zero_number) (can m) nothing m zero_is (can-equal m)
+
+pub le-forms : (m n : Game) → le (can m) (can n) ≡ le m n
+le-forms m n = le-equal (can m) (can n) m n (can-equal m) (can-equal n)
+
+-- ---- replies to questions
+
+answer-stands : (q : Question) → is_answerable q ≡ true → (answer_to q).refused ≡ false
+answer-stands (value t) e = refl
+answer-stands (compare s t) e = refl
+answer-stands (outcome t) e = refl
+answer-stands (stops t) e = absurd (cc)
+answer-stands (mean t) e = absurd (cc)
+answer-stands (temp t) e = absurd (cc)
+answer-stands (thermo t) e = absurd (cc)
+
+handle-none : {R : Type 0} (s : State Meant R) (q : Question) (refused : Bool) (handle : Option ℕ) → refused ≡ true
+    → handle ≡ None
+    → HandleIs s q refused handle
+handle-none s q refused handle e h = let P : Bool → Type 0 = λ b. HandleIs s q b handle in subst P (sym e) h
+
+pub answered-later : {R : Type 0} (share limit : ℕ) (s : State Meant R) (q : Question) (a : Answered)
+    → is_answerable q ≡ false
+    → IsRefusedBy later a → IsAnswered share limit s q a
+answered-later share limit s q a e r =
+    let P : Bool → Type 0 = λ b. IsReplyBy b share limit q (shown a) in
+    record {
+      reply = subst P (sym e) r.text;
+      handle = handle-none s q a.refused a.handle (ap (λ (p : Piece). p.refused) r.text) r.handle;
+    }
+
+pub answered-made : {R : Type 0} (s t : State Meant (WorkRest R)) (q : Question) (a : Answered) → s.rest.spent ≡ 0
+    → is_answerable q ≡ true
+    → Answers s t q (Ok a) → IsAnswered s.rest.share s.rest.limit t q a
+answered-made s t q a none e (is, made_items) =
+    let P : Bool → Type 0 = λ b. IsReplyBy b s.rest.share s.rest.limit q (shown a) in
+    let N : ℕ → Type 0 = λ n. AllPass s.rest.share n (question_items s.rest.limit q) t.rest.spent in
+    let H : Bool → Type 0 = λ b. HandleIs t q b a.handle in
+    let stands : a.refused ≡ false = ap (λ (p : Piece). p.refused) is.text ∙ answer-stands q e in
+    record {
+      reply = subst P (sym e) (inl (t.rest.spent, subst N none made_items.passed, is.text));
+      handle = subst H (sym stands) is.value;
+    }
+
+stopped-reply : {R : Type 0} (s t : State Meant (WorkRest R)) (q : Question) (a : Answered) (fault : ValueFault)
+    → s.rest.spent ≡ 0
+    → is_answerable q ≡ true → IsStopped fault s.rest.share s.rest.spent (question_items s.rest.limit q) t.rest.spent
+    → IsRefusedBy (refusal_of fault) a → (refusal_of fault).refused ≡ true → IsAnswered s.rest.share s.rest.limit t q a
+stopped-reply s t q a fault none e stopped r is_refusal =
+    let P : Bool → Type 0 = λ b. IsReplyBy b s.rest.share s.rest.limit q (shown a) in
+    let N : ℕ → Type 0 = λ n. IsStopped fault s.rest.share n (question_items s.rest.limit q) t.rest.spent in
+    record {
+      reply = subst P (sym e) (inr (fault, t.rest.spent, subst N none stopped, r.text));
+      handle = handle-none t q a.refused a.handle (ap (λ (p : Piece). p.refused) r.text ∙ is_refusal) r.handle;
+    }
+
+pub answered-refused : {R : Type 0} (s t : State Meant (WorkRest R)) (q : Question) (a : Answered)
+    (fault : ValueFault) → s.rest.spent ≡ 0
+    → is_answerable q ≡ true → Answers s t q (Err fault) → IsRefusedFor fault a
+    → IsAnswered s.rest.share s.rest.limit t q a
+answered-refused s t q a Memory none e r f = absurd f
+answered-refused s t q a Range none e r f = stopped-reply s t q a Range none e r.refused f refl
+answered-refused s t q a (Full n) none e r f = stopped-reply s t q a (Full n) none e r.refused f refl
+answered-refused s t q a (Depth d) none e r f = stopped-reply s t q a (Depth d) none e r.refused f refl
+answered-refused s t q a Positions none e r f = stopped-reply s t q a Positions none e r.refused f refl
+
+pub answers-stop : {R : Type 0} (s t : State Meant (WorkRest R)) (q : Question)
+    (result : Result Answered ValueFault) (x fault : ValueFault)
+    → result ≡ Err x → x ≡ fault → Stops s t fault (question_items s.rest.limit q) → Answers s t q result
+answers-stop s t q result x fault e f r =
+    let P : Result Answered ValueFault → Type 0 = λ z. Answers s t q z in
+    let Q : ValueFault → Type 0 = λ z. Stops s t z (question_items s.rest.limit q) in
+    subst P (sym e) (subst Q (sym f) r)
+
+-- ---- answers to questions
+
+-- the handle of the first expression
+pub handle-some : {R : Type 0} (s : State Meant R) (q : Question) (handle : Option ℕ) (h : ℕ) → handle ≡ Some h
+    → StandsFor s h (can (meaning (first_of q))) → HandleIs s q false handle
+handle-some s q handle h e stands = let P : Option ℕ → Type 0 = λ z. HandleIs s q false z in subst P (sym e) stands
+
+-- ---- replies to lines
+
+-- the reply to the one question that the line reads as
+pub reply-read : (share limit : ℕ) (line : List ℕ) (q : Question) (reply : Piece) → ((p r : Question)
+    → Reads line p → Reads line r → p ≡ r)
+    → Reads line q → IsReplyTo share limit q reply → IsReply share limit line reply
+unfolding IsReply
+reply-read share limit line q reply one reads is = record {
+  read = λ p h. let P : Question → Type 0 = λ r. IsReplyTo share limit r reply in subst P (one q p reads h) is;
+  unread = λ c u. absurd (u.no_question q reads);
+}
+
+-- the reply with the one column of a line that reads as no question
+pub reply-unread : (share limit : ℕ) (line : List ℕ) (c : ℕ) (reply : Piece) → ((d e : ℕ) → IsColumn line d
+    → IsColumn line e → d ≡ e)
+    → IsUnread line c → reply ≡ syntax_at c → IsReply share limit line reply
+unfolding IsReply
+reply-unread share limit line c reply one unread same = record {
+  read = λ q h. absurd (unread.no_question q h);
+  unread = λ d u. same ∙ ap syntax_at (one c d unread.at u.at);
+}
+
+pub handle-read : {R : Type 0} (share limit : ℕ) (s : State Meant R) (line : List ℕ) (q : Question) (a : Answered)
+    → ((p r : Question) → Reads line p → Reads line r → p ≡ r) → Reads line q → IsAnswered share limit s q a
+    → HandleOf s line a.refused a.handle
+handle-read share limit s line q a one reads is = record {
+  read = λ p h. let P : Question → Type 0 = λ r. HandleIs s r a.refused a.handle in subst P (one q p reads h) is.handle;
+  refusal = λ e. let P : Bool → Type 0 = λ b. HandleIs s q b a.handle in subst P e is.handle;
+}
+
+pub handle-unread : {R : Type 0} (s : State Meant R) (line : List ℕ) (c : ℕ) (a : Answered) → IsUnread line c
+    → a.handle ≡ None
+    → HandleOf s line a.refused a.handle
+handle-unread s line c a unread none = record {
+  read = λ q h. absurd (unread.no_question q h);
+  refusal = λ e. none;
+}
+
+-- ---- one reply
+
+one-reply_by : (b : Bool) (share limit : ℕ) (q : Question) (p r : Piece) → IsReplyBy b share limit q p
+    → IsReplyBy b share limit q r → p ≡ r
+one-reply_by false share limit q p r a b = a ∙ sym b
+one-reply_by true share limit q p r (inl a) (inl b) = a.2 ∙ sym b.2
+one-reply_by true share limit q p r (inl a) (inr b) = absurd (verdict-apart b.0 share 0
+    (question_items limit q) a.0 b.1 a.1 b.2)
+one-reply_by true share limit q p r (inr a) (inl b) = absurd (verdict-apart a.0 share 0
+    (question_items limit q) b.0 a.1 b.1 a.2)
+one-reply_by true share limit q p r (inr a) (inr b) =
+    a.3 ∙ ap refusal_of (verdict-stopped a.0 b.0 share 0 (question_items limit q) a.1 b.1 a.2 b.2).0 ∙ sym b.3
+
+some-reply_by : (b : Bool) (share limit : ℕ) (q : Question) → (p : Piece) × IsReplyBy b share limit q p
+some-reply_by false share limit q = (later, refl)
+some-reply_by true share limit q = elim (verdict-decided share 0 (question_items limit q)) [
+  | inl a ↦ (answer_to q, inl (a.0, a.1, refl))
+  | inr r ↦ (refusal_of r.0, inr (r.0, r.1, r.2, refl))
+]
+
+pub one-reply : (share limit : ℕ) (line : List ℕ) (p r : Piece) → is_blank_line line ≡ false → ¬ IsComment line
+    → ((q : Question) × Reads line q) ⊎ (((q : Question) → ¬ Reads line q) × ((c : ℕ) × IsColumn line c))
+    → IsReply share limit line p → IsReply share limit line r → p ≡ r
+unfolding IsReply
+one-reply share limit line p r blank comment (inl (q, reads)) a b =
+    one-reply_by (is_answerable q) share limit q p r (a.read q reads) (b.read q reads)
+one-reply share limit line p r blank comment (inr (none, (c, at))) a b =
+    let u : IsUnread line c = record { not_blank = blank; not_comment = comment; no_question = none; at = at } in
+    a.unread c u ∙ sym (b.unread c u)
+
+pub some-reply : (share limit : ℕ) (line : List ℕ)
+    → ((p r : Question) → Reads line p → Reads line r → p ≡ r) → ((d e : ℕ) → IsColumn line d → IsColumn line e → d ≡ e)
+    → is_blank_line line ≡ false → ¬ IsComment line
+    → ((q : Question) × Reads line q) ⊎ (((q : Question) → ¬ Reads line q) × ((c : ℕ) × IsColumn line c))
+    → (p : Piece) × IsReply share limit line p
+some-reply share limit line one one_column blank comment (inl (q, reads)) =
+    let (p, is) = some-reply_by (is_answerable q) share limit q in (p, reply-read share limit line q p one reads is)
+some-reply share limit line one one_column blank comment (inr (none, (c, at))) =
+    let u : IsUnread line c = record { not_blank = blank; not_comment = comment; no_question = none; at = at } in
+    (syntax_at c, reply-unread share limit line c (syntax_at c) one_column u refl)
+
+-- ---- two expressions
+
+-- the first expression's items, then the second's
+pub both_made : {R : Type 0} (s t u : State Meant (WorkRest R)) (a b : Tree) (v w : ℕ) → Evaluates s t a (Ok v)
+    → Evaluates t u b (Ok w)
+    → StandsFor u v (can (meaning a)) × StandsFor u w (can (meaning b)) × Makes s u (question_items s.rest.limit
+    (compare a b))
+both_made s t u a b v w (first, first_made) (second, second_made) =
+    let P : ℕ → Type 0 = λ n. Makes t u (items n b) in (
+      stands_later t u second_made.keeps.known v (can (meaning a)) first,
+      second,
+      makes_then s t u (items s.rest.limit a) (items s.rest.limit b) first_made
+          (subst P first_made.keeps.limit second_made),
+    )
+
+pub second_stopped : {R : Type 0} (s t u : State Meant (WorkRest R)) (a b : Tree) (v : ℕ) (fault : ValueFault)
+    → Evaluates s t a (Ok v)
+    → Evaluates t u b (Err fault) → Stops s u fault (question_items s.rest.limit (compare a b))
+second_stopped s t u a b v fault (first, first_made) r =
+    let P : ℕ → Type 0 = λ n. Stops t u fault (items n b) in
+    stops_then s t u fault (items s.rest.limit a) (items s.rest.limit b) first_made (subst P first_made.keeps.limit r)
+
+pub le_at : {R : Type 0} (s : State Meant R) (a b : ℕ) (m n : Game) (r : Bool) → StandsFor s a (can m)
+    → StandsFor s b (can n)
+    → r ≡ le (game_at s a) (game_at s b) → r ≡ le m n
+le_at s a b m n r first second e =
+    e ∙ ap (λ (g : Game). le g (game_at s b)) (stands_game s a (can m) first) ∙ ap (λ (g : Game). le (can m) g)
+    (stands_game s b (can n) second) ∙ le-forms m n
+
+-- ---- the handle of a work is one of its store
+
+pub handle-store : {S R : Type 0} (state : S
+    → State Meant R) (w : WorkOf S) (q : Question) (refused : Bool) (handle : Option ℕ)
+    → HandleIs (work_state state w) q refused handle → HandleIs (state w.store.now) q refused handle
+handle-store state w q true handle h = h
+handle-store state w q false None h = absurd h
+handle-store state w q false (Some i) h = h
+
+pub if_ok_map : {T E : Type 0} (P Q : T → Type 0) (r : Result T E) → ((x : T) → P x → Q x) → IfOk r P → IfOk r Q
+if_ok_map P Q (Ok x) f h = f x h
+if_ok_map P Q (Err e) f h = tt
+
+-- the reply on a work is one on its store
+pub answered-store : {S R : Type 0} (state : S
+    → State Meant R) (w : WorkOf S) (x : S) (q : Question) (a : Answered) (share limit m n : ℕ)
+    → x ≡ w.store.now → m ≡ share → n ≡ limit → IsAnswered m n (work_state state w) q a
+    → IsAnswered share limit (state x) q a
+answered-store state w x q a share limit m n e f g is =
+    let P : ℕ → Type 0 = λ i. IsReplyTo i n q (shown a) in
+    let Q : ℕ → Type 0 = λ i. IsReplyTo share i q (shown a) in
+    record {
+      reply = subst Q g (subst P f is.reply);
+      handle = rw e (handle-store state w q a.refused a.handle is.handle);
+    }
+
+pub keeps-store : {S R : Type 0} (state : S → State Meant R) (w v : WorkOf S) (x y : S) → w.store.now ≡ x
+    → y ≡ v.store.now
+    → Keeps (work_state state w) (work_state state v) → KeepsStore (state x) (state y)
+keeps-store state w v x y e f k =
+    rw (sym e, f) (record { known = k.known; noted = k.noted; rest = k.of_store })
+
+pub keeps_store-same : {X R : Type 0} (s : State X R) → KeepsStore s s
+keeps_store-same s = record { known = λ i x e. e; noted = λ x h. h; rest = refl }

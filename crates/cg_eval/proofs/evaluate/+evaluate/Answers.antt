@@ -1,0 +1,501 @@
+use Rattle.std.proofs.Common.{◌≡◌, rules, ap, sym, ◌∙◌, subst, refl, ◌+◌, arith, take, true, false, List, [], ◌∷◌, ◌++◌, ℕ, Bool, Ok, Err}
+use Rattle.std.proofs.lemmas.Result.{err_from_is_err_and}
+use Rattle.cg_canon.specs.Works.{work_state}
+use Rattle.cg_canon.specs.declared.fault.ValueFault.TheVariants.{Memory}
+use Rattle.cg_syntax.specs.Tree.{Tree, trees_from, terms_from}
+use Rattle.cg_syntax.specs.Tree as trees
+use Rattle.cg_syntax.specs.Trees.{tree_of, trees_in, trees_of, term_of, terms_in, terms_of}
+use Rattle.cg_syntax.specs.declared.expr.Expr.{Expr}
+use Rattle.cg_syntax.specs.declared.expr.Expr.TheVariants as expr
+use Rattle.cg_syntax.proofs.TreeOf.{number_tree, ups_tree_of, nimber_tree, switch_tree, tiny_tree, braces_tree, negative_tree, multiple_tree, sum_tree, game_tree, term_tree}
+use Rattle.cg_names.specs.Meaning.{any_board, has_board, meaning, signed, total_with}
+use Rattle.cg_eval.specs.Progress.{Evaluates, Gives}
+use Rattle.cg_eval.specs.Items.{all_items, further_items, items, signed_items, term_part}
+use Rattle.cg_sum.specs.Lists.{sum_items, negative_items, multiple_items}
+use Rattle.cg_form.specs.Game.{node}
+use Rattle.cg_form.specs.Multiple.{multiple as many}
+use Rattle.cg_form.specs.Sum.{sum as plus, negative as minus}
+use Rattle.cg_nodes.specs.Games.{AreGames, game_at, games_at}
+use Rattle.cg_nodes.specs.Spelled.{can}
+use Rattle.cg_nodes.proofs.Later.{are_games_later, is_game_later, stands_is_game}
+use Rattle.cg_canon.specs.Items.{made}
+use Rattle.std.proofs.lemmas.List.{nil_from_length}
+use Rattle.cg_syntax.specs.declared.expr.Term.{Term}
+use Rattle.cg_eval.proofs.BoardParts.{any_board-at, any_term_board-at, board_of, board_of_braces, board_of_term, or_false}
+use Rattle.cg_eval.proofs.Walk.{size, size_of_braces, size_of_negative, size_of_multiple, size_of_sum, size_of_item, size_of_term}
+use Rattle.cg_eval.proofs.ListSteps.{adds, all_made-all, all_made-none, all_made-step, all_stopped, added-all, added-none, added-step, added-stopped, first_and_rest, first_board, first_size, first_term_stopped, gives_all-err, no_terms_give, sum_of_terms}
+use Rattle.cg_eval.proofs.Expressions.{added_gives, braces_gives, left_stopped, multiple_gives, multiple_stopped, negative_gives, negative_stopped, right_stopped, stopped_part, subtracted_gives, sum_gives}
+use Rattle.cg_eval.proofs.Steps.{gives_from, gives_stop, stops_memory}
+use Rattle.cg_eval.proofs.evaluate.+evaluate.Goals as goal
+
+-- ---- evaluate
+
+pub evaluate-braces-requires : goal.evaluate-braces-requires
+evaluate-braces-requires g t c =
+    let b = size_of_braces c.args.expr.now c.in-Braces.lefts c.in-Braces.rights c.in-Braces.is in
+    let d = or_false (any_board (trees_from (trees_in c.in-Braces.lefts))) (any_board (trees_from
+    (trees_in c.in-Braces.rights)))
+    (sym (board_of_braces c.args.expr.now c.in-Braces.lefts c.in-Braces.rights c.in-Braces.is) ∙ c.requires) in
+    search rules
+
+pub evaluate-minus-requires : goal.evaluate-minus-requires
+evaluate-minus-requires g t c =
+    let b = size_of_negative c.args.expr.now c.in-Negative.inner c.in-Negative.is in
+    let s : size (tree_of c.deref.result.now) ≡ size (tree_of c.in-Negative.inner.value) = ap (λ (x : Expr). size
+    (tree_of x)) c.deref.ensures in
+    let d : has_board (tree_of c.deref.result.now) ≡ false = ap (λ (x : Expr). has_board (tree_of x)) c.deref.ensures
+    ∙ sym (board_of c.args.expr.now (expr.Negative c.in-Negative.inner) c.in-Negative.is
+    (negative_tree c.in-Negative.inner)) ∙ c.requires in
+    search rules
+
+pub evaluate-times-requires : goal.evaluate-times-requires
+evaluate-times-requires g t c =
+    let b = size_of_multiple c.args.expr.now c.in-Multiple.count c.in-Multiple.inner c.in-Multiple.is in
+    let s : size (tree_of c.deref-in-Multiple.result.now) ≡ size (tree_of c.in-Multiple.inner.value) = ap (λ
+    (x : Expr). size (tree_of x)) c.deref-in-Multiple.ensures in
+    let d : has_board (tree_of c.deref-in-Multiple.result.now) ≡ false = ap (λ (x : Expr). has_board
+    (tree_of x)) c.deref-in-Multiple.ensures
+    ∙ sym (board_of c.args.expr.now (expr.Multiple c.in-Multiple.count c.in-Multiple.inner) c.in-Multiple.is
+    (multiple_tree c.in-Multiple.count c.in-Multiple.inner)) ∙ c.requires in
+    search rules
+
+pub evaluate-total-requires : goal.evaluate-total-requires
+evaluate-total-requires g t c =
+    let b = size_of_sum c.args.expr.now c.in-Sum.terms c.in-Sum.is in
+    let d = sym (board_of c.args.expr.now (expr.Sum c.in-Sum.terms) c.in-Sum.is (sum_tree c.in-Sum.terms))
+    ∙ c.requires in
+    search rules
+
+pub evaluate-unreachable-requires : goal.evaluate-unreachable-requires
+evaluate-unreachable-requires g t c =
+    let b : has_board (tree_of c.args.expr.now) ≡ true = board_of c.args.expr.now
+    (expr.Game c.in-Game.kind c.in-Game.rules c.in-Game.board) c.in-Game.is
+    (game_tree c.in-Game.kind c.in-Game.rules c.in-Game.board) in
+    absurd (cc)
+
+pub evaluate-returns-in-Number : goal.evaluate-returns-in-Number
+evaluate-returns-in-Number g t c =
+    let tree = ap tree_of c.in-Number.is ∙ number_tree c.in-Number.negative c.in-Number.num c.in-Number.den in
+    let P : Tree → Type 0 = λ u. Evaluates (work_state g.S.CellStore.state c.args.work.now)
+    (work_state g.S.CellStore.state c.literal.new.work) u c.literal.result in
+    subst P (sym tree) c.literal.ensures
+
+pub evaluate-returns-in-Ups : goal.evaluate-returns-in-Ups
+evaluate-returns-in-Ups g t c =
+    let tree = ap tree_of c.in-Ups.is ∙ ups_tree_of c.in-Ups.down c.in-Ups.count in
+    let P : Tree → Type 0 = λ u. Evaluates (work_state g.S.CellStore.state c.args.work.now)
+    (work_state g.S.CellStore.state c.named_ups.new.work) u c.named_ups.result in
+    subst P (sym tree) c.named_ups.ensures
+
+pub evaluate-returns-in-Nimber : goal.evaluate-returns-in-Nimber
+evaluate-returns-in-Nimber g t c =
+    let tree = ap tree_of c.in-Nimber.is ∙ nimber_tree c.in-Nimber.count in
+    let P : Tree → Type 0 = λ u. Evaluates (work_state g.S.CellStore.state c.args.work.now)
+    (work_state g.S.CellStore.state c.named_nimber.new.work) u c.named_nimber.result in
+    subst P (sym tree) c.named_nimber.ensures
+
+pub evaluate-returns-in-Switch : goal.evaluate-returns-in-Switch
+evaluate-returns-in-Switch g t c =
+    let tree = ap tree_of c.in-Switch.is ∙ switch_tree c.in-Switch.num c.in-Switch.den in
+    let P : Tree → Type 0 = λ u. Evaluates (work_state g.S.CellStore.state c.args.work.now)
+    (work_state g.S.CellStore.state c.named_switch.new.work) u c.named_switch.result in
+    subst P (sym tree) c.named_switch.ensures
+
+pub evaluate-returns-in-Tiny : goal.evaluate-returns-in-Tiny
+evaluate-returns-in-Tiny g t c =
+    let tree = ap tree_of c.in-Tiny.is ∙ tiny_tree c.in-Tiny.miny c.in-Tiny.num c.in-Tiny.den in
+    let P : Tree → Type 0 = λ u. Evaluates (work_state g.S.CellStore.state c.args.work.now)
+    (work_state g.S.CellStore.state c.named_tiny.new.work) u c.named_tiny.result in
+    subst P (sym tree) c.named_tiny.ensures
+
+pub evaluate-returns-in-Braces : goal.evaluate-returns-in-Braces
+evaluate-returns-in-Braces g t c =
+    let tree = ap tree_of c.in-Braces.is ∙ braces_tree c.in-Braces.lefts c.in-Braces.rights in
+    let P : Tree → Type 0 = λ u. Evaluates (work_state g.S.CellStore.state c.args.work.now)
+    (work_state g.S.CellStore.state c.braces.new.work) u c.braces.result in
+    subst P (sym tree) c.braces.ensures
+
+pub evaluate-returns-in-Negative : goal.evaluate-returns-in-Negative
+evaluate-returns-in-Negative g t c =
+    let tree = ap tree_of c.in-Negative.is ∙ negative_tree c.in-Negative.inner ∙ ap (λ (x : Expr). trees.negative
+    (tree_of x)) (sym c.deref.ensures) in
+    let P : Tree → Type 0 = λ u. Evaluates (work_state g.S.CellStore.state c.args.work.now)
+    (work_state g.S.CellStore.state c.minus.new.work) u c.minus.result in
+    subst P (sym tree) c.minus.ensures
+
+pub evaluate-returns-in-Multiple : goal.evaluate-returns-in-Multiple
+evaluate-returns-in-Multiple g t c =
+    let tree = ap tree_of c.in-Multiple.is ∙ multiple_tree c.in-Multiple.count c.in-Multiple.inner ∙ ap (λ
+    (x : Expr). trees.multiple c.in-Multiple.count (tree_of x)) (sym c.deref-in-Multiple.ensures) in
+    let P : Tree → Type 0 = λ u. Evaluates (work_state g.S.CellStore.state c.args.work.now)
+    (work_state g.S.CellStore.state c.times.new.work) u c.times.result in
+    subst P (sym tree) c.times.ensures
+
+pub evaluate-returns-in-Sum : goal.evaluate-returns-in-Sum
+evaluate-returns-in-Sum g t c =
+    let tree = ap tree_of c.in-Sum.is ∙ sum_tree c.in-Sum.terms in
+    let P : Tree → Type 0 = λ u. Evaluates (work_state g.S.CellStore.state c.args.work.now)
+    (work_state g.S.CellStore.state c.total.new.work) u c.total.result in
+    subst P (sym tree) c.total.ensures
+
+-- ---- evaluate_all
+
+pub evaluate_all-evaluate-requires : goal.evaluate_all-evaluate-requires
+evaluate_all-evaluate-requires g t c =
+    let s = size_of_item c.as_slice-expr-items.result.now
+    (trees_in c.args.exprs.now) c.loop-expr.expr-index c.expr-item.result c.as_slice-expr-items.ensures
+    c.expr-item.is c.loop-expr-test.true in
+    let b = any_board-at c.as_slice-expr-items.result.now
+    (trees_in c.args.exprs.now) c.loop-expr.expr-index c.expr-item.result c.as_slice-expr-items.ensures
+    c.loop-expr-test.true c.expr-item.is c.requires in
+    search rules
+
+pub evaluate_all-loop-expr-init : goal.evaluate_all-loop-expr-init
+evaluate_all-loop-expr-init g t c =
+    all_made-none (work_state g.S.CellStore.state c.args.work.now) c.new-handles.result.items
+    c.new-handles.ensures.items
+
+pub evaluate_all-loop-expr-preserved : goal.evaluate_all-loop-expr-preserved
+evaluate_all-loop-expr-preserved g t c =
+    all_made-step (work_state g.S.CellStore.state c.args.work.now) (work_state g.S.CellStore.state c.loop-expr.work)
+    (work_state g.S.CellStore.state c.evaluate.new.work) c.as_slice-expr-items.result.now c.loop-expr.expr-index
+    c.expr-item.result c.loop-expr.handles.items c.push.new.self.items c.in_ok-handle.handle
+    c.loop-expr-test.true c.expr-item.is c.loop-expr.invariant c.in_ok-handle.ensures c.in_ok-push.ensures.items
+
+pub evaluate_all-returns-in_err-handle : goal.evaluate_all-returns-in_err-handle
+evaluate_all-returns-in_err-handle g t c =
+    let p = err_from_is_err_and c.from_residual.result c.from_residual.ensures.1 in
+    gives_all-err (work_state g.S.CellStore.state c.args.work.now)
+    (work_state g.S.CellStore.state c.evaluate.new.work) (trees_from
+    (trees_in c.args.exprs.now)) c.from_residual.result p.0 c.in_err-handle.field-0.0 p.1 p.2
+    (all_stopped (work_state g.S.CellStore.state c.args.work.now) (work_state g.S.CellStore.state c.loop-expr.work)
+    (work_state g.S.CellStore.state c.evaluate.new.work) c.as_slice-expr-items.result.now
+    (trees_in c.args.exprs.now) c.loop-expr.expr-index c.expr-item.result c.loop-expr.handles.items
+    c.in_err-handle.field-0.0 c.as_slice-expr-items.ensures
+    c.loop-expr-test.true c.expr-item.is c.loop-expr.invariant c.in_err-handle.ensures)
+
+pub evaluate_all-returns-in_err-push : goal.evaluate_all-returns-in_err-push
+evaluate_all-returns-in_err-push g t c =
+    let p = err_from_is_err_and c.from_residual-in_err-push.result c.from_residual-in_err-push.ensures.1 in
+    let hs : List ℕ = c.loop-expr.handles.items ++ (c.in_ok-handle.handle ∷ []) in
+    let more = all_made-step (work_state g.S.CellStore.state c.args.work.now)
+    (work_state g.S.CellStore.state c.loop-expr.work)
+    (work_state g.S.CellStore.state c.evaluate.new.work) c.as_slice-expr-items.result.now c.loop-expr.expr-index
+    c.expr-item.result c.loop-expr.handles.items hs c.in_ok-handle.handle
+    c.loop-expr-test.true c.expr-item.is c.loop-expr.invariant c.in_ok-handle.ensures refl in
+    gives_all-err (work_state g.S.CellStore.state c.args.work.now)
+    (work_state g.S.CellStore.state c.evaluate.new.work) (trees_from
+    (trees_in c.args.exprs.now)) c.from_residual-in_err-push.result p.0 Memory p.1 p.2 (stops_memory
+    (work_state g.S.CellStore.state c.args.work.now) (work_state g.S.CellStore.state c.evaluate.new.work)
+    (all_items (work_state g.S.CellStore.state c.args.work.now).rest.limit (trees_from (trees_of (take
+    (c.loop-expr.expr-index + 1) c.as_slice-expr-items.result.now)))) (all_items
+    (work_state g.S.CellStore.state c.args.work.now).rest.limit (trees_from (trees_in c.args.exprs.now))) more.made)
+
+pub evaluate_all-returns : goal.evaluate_all-returns
+evaluate_all-returns g t c =
+    all_made-all (work_state g.S.CellStore.state c.args.work.now)
+    (work_state g.S.CellStore.state c.loop-expr.work) c.as_slice-expr-items.result.now
+    (trees_in c.args.exprs.now) c.loop-expr.expr-index c.loop-expr.handles.items c.as_slice-expr-items.ensures
+    c.loop-expr-test.false c.loop-expr.invariant
+
+-- ---- braces
+
+pub braces-canonical-requires : goal.braces-canonical-requires
+braces-canonical-requires g t c =
+    let l = c.in_ok-left_handles.ensures in
+    let r = c.in_ok-right_handles.ensures in
+    let A : List ℕ → Type 0 = λ hs. AreGames (work_state g.S.CellStore.state c.evaluate_all-2.new.work) hs in
+    record {
+      extra = omega arith;
+      lefts = subst A (sym c.deref.ensures.value) (are_games_later
+          (work_state g.S.CellStore.state c.evaluate_all.new.work)
+          (work_state g.S.CellStore.state c.evaluate_all-2.new.work) r.1.keeps.known
+          c.in_ok-left_handles.left_handles.items l.0.0);
+      rights = subst A (sym c.deref-2.ensures.value) r.0.0;
+    }
+
+pub braces-returns-in_err-left_handles : goal.braces-returns-in_err-left_handles
+braces-returns-in_err-left_handles g t c =
+    let p = err_from_is_err_and c.from_residual.result c.from_residual.ensures.1 in
+    left_stopped (work_state g.S.CellStore.state c.args.work.now)
+    (work_state g.S.CellStore.state c.evaluate_all.new.work) (trees_from (trees_in c.args.lefts.now))
+    (trees_from (trees_in c.args.rights.now)) c.from_residual.result p.0 c.in_err-left_handles.field-0.0 p.1 p.2
+    c.in_err-left_handles.ensures
+
+pub braces-returns-in_err-right_handles : goal.braces-returns-in_err-right_handles
+braces-returns-in_err-right_handles g t c =
+    let p = err_from_is_err_and c.from_residual-in_err-right_handles.result
+    c.from_residual-in_err-right_handles.ensures.1 in
+    let l = c.in_ok-left_handles.ensures in
+    right_stopped (work_state g.S.CellStore.state c.args.work.now)
+    (work_state g.S.CellStore.state c.evaluate_all.new.work)
+    (work_state g.S.CellStore.state c.evaluate_all-2.new.work) (trees_from (trees_in c.args.lefts.now))
+    (trees_from (trees_in c.args.rights.now)) c.from_residual-in_err-right_handles.result p.0
+    c.in_err-right_handles.field-0.0 p.1 p.2 l.1 c.in_err-right_handles.ensures
+
+pub braces-returns : goal.braces-returns
+braces-returns g t c =
+    let hs = c.deref.result.now in
+    let ks = c.deref-2.result.now in
+    let game = node (games_at (work_state g.S.CellStore.state c.evaluate_all-2.new.work) hs) (games_at
+    (work_state g.S.CellStore.state c.evaluate_all-2.new.work) ks) in
+    let step = gives_from (work_state g.S.CellStore.state c.evaluate_all-2.new.work)
+    (work_state g.S.CellStore.state c.canonical.new.work) (made (can game) 0 ∷ [])
+    (can game) game c.canonical.result refl
+    c.canonical.ensures.game c.canonical.ensures.charged c.canonical.ensures.refused c.canonical.ensures.more
+    c.canonical.ensures.keeps in
+    braces_gives (work_state g.S.CellStore.state c.args.work.now)
+    (work_state g.S.CellStore.state c.evaluate_all.new.work)
+    (work_state g.S.CellStore.state c.evaluate_all-2.new.work)
+    (work_state g.S.CellStore.state c.canonical.new.work) (trees_from (trees_in c.args.lefts.now)) (trees_from
+    (trees_in c.args.rights.now)) c.in_ok-left_handles.left_handles.items hs
+    c.in_ok-right_handles.right_handles.items ks c.canonical.result
+    c.in_ok-left_handles.ensures c.in_ok-right_handles.ensures c.deref.ensures.value c.deref-2.ensures.value step
+
+-- ---- minus and times
+
+pub minus-negative-requires : goal.minus-negative-requires
+minus-negative-requires g t c =
+    stands_is_game (work_state g.S.CellStore.state c.evaluate.new.work) c.in_ok-value.value (can (meaning
+    (tree_of c.args.expr.now))) c.in_ok-value.ensures.0
+
+pub minus-returns-in_err-value : goal.minus-returns-in_err-value
+minus-returns-in_err-value g t c =
+    let p = err_from_is_err_and c.from_residual.result c.from_residual.ensures.1 in
+    negative_stopped (work_state g.S.CellStore.state c.args.work.now)
+    (work_state g.S.CellStore.state c.evaluate.new.work)
+    (tree_of c.args.expr.now) c.from_residual.result p.0 c.in_err-value.field-0.0 p.1 p.2 c.in_err-value.ensures
+
+pub minus-returns : goal.minus-returns
+minus-returns g t c =
+    let g0 = game_at (work_state g.S.CellStore.state c.evaluate.new.work) c.in_ok-value.value in
+    let step = gives_from (work_state g.S.CellStore.state c.evaluate.new.work)
+    (work_state g.S.CellStore.state c.negative.new.work) (negative_items
+    (work_state g.S.CellStore.state c.evaluate.new.work).rest.limit g0) (can (minus g0))
+    (minus g0) c.negative.result refl
+    c.negative.ensures.game c.negative.ensures.charged c.negative.ensures.refused c.negative.ensures.spare
+    c.negative.ensures.keeps in
+    negative_gives (work_state g.S.CellStore.state c.args.work.now)
+    (work_state g.S.CellStore.state c.evaluate.new.work) (work_state g.S.CellStore.state c.negative.new.work)
+    (tree_of c.args.expr.now) c.in_ok-value.value c.negative.result c.in_ok-value.ensures step
+
+pub times-multiple-requires : goal.times-multiple-requires
+times-multiple-requires g t c =
+    stands_is_game (work_state g.S.CellStore.state c.evaluate.new.work) c.in_ok-value.value (can (meaning
+    (tree_of c.args.expr.now))) c.in_ok-value.ensures.0
+
+pub times-returns-in_err-value : goal.times-returns-in_err-value
+times-returns-in_err-value g t c =
+    let p = err_from_is_err_and c.from_residual.result c.from_residual.ensures.1 in
+    multiple_stopped (work_state g.S.CellStore.state c.args.work.now)
+    (work_state g.S.CellStore.state c.evaluate.new.work) c.args.count
+    (tree_of c.args.expr.now) c.from_residual.result p.0 c.in_err-value.field-0.0 p.1 p.2 c.in_err-value.ensures
+
+pub times-returns : goal.times-returns
+times-returns g t c =
+    let g0 = game_at (work_state g.S.CellStore.state c.evaluate.new.work) c.in_ok-value.value in
+    let step = gives_from (work_state g.S.CellStore.state c.evaluate.new.work)
+    (work_state g.S.CellStore.state c.multiple.new.work) (multiple_items
+    (work_state g.S.CellStore.state c.evaluate.new.work).rest.limit c.args.count g0) (can
+    (many c.args.count g0)) (many c.args.count g0) c.multiple.result refl
+    c.multiple.ensures.game c.multiple.ensures.charged c.multiple.ensures.refused c.multiple.ensures.spare
+    c.multiple.ensures.keeps in
+    multiple_gives (work_state g.S.CellStore.state c.args.work.now)
+    (work_state g.S.CellStore.state c.evaluate.new.work)
+    (work_state g.S.CellStore.state c.multiple.new.work) c.args.count
+    (tree_of c.args.expr.now) c.in_ok-value.value c.multiple.result c.in_ok-value.ensures step
+
+-- ---- total
+
+pub total-signed-requires : goal.total-signed-requires
+total-signed-requires g t c =
+    let split = first_and_rest c.as_slice.result.now
+    (terms_in c.args.terms.now) c.in-Some.first.now c.in-Some.others.now c.as_slice.ensures
+    c.in-Some.ensures.cases.0 in
+    let s = first_size (terms_in c.args.terms.now) c.in-Some.first.now.minus (tree_of c.in-Some.first.now.expr)
+    (terms_of c.in-Some.others.now) split in
+    let b = first_board (terms_in c.args.terms.now) c.in-Some.first.now.minus (tree_of c.in-Some.first.now.expr)
+    (terms_of c.in-Some.others.now) split c.requires in
+    search rules
+
+pub total-further-requires : goal.total-further-requires
+total-further-requires g t c =
+    let split = first_and_rest c.as_slice.result.now
+    (terms_in c.args.terms.now) c.in-Some.first.now c.in-Some.others.now c.as_slice.ensures
+    c.in-Some.ensures.cases.0 in
+    let s = first_size (terms_in c.args.terms.now) c.in-Some.first.now.minus (tree_of c.in-Some.first.now.expr)
+    (terms_of c.in-Some.others.now) split in
+    let b = first_board (terms_in c.args.terms.now) c.in-Some.first.now.minus (tree_of c.in-Some.first.now.expr)
+    (terms_of c.in-Some.others.now) split c.requires in
+    let k = stands_is_game (work_state g.S.CellStore.state c.signed.new.work) c.in_ok-start-in-Some.start (can
+    (signed c.in-Some.first.now.minus (meaning
+    (tree_of c.in-Some.first.now.expr)))) c.in_ok-start-in-Some.ensures.0 in
+    search rules
+
+pub total-returns-in_err-start-in-Some : goal.total-returns-in_err-start-in-Some
+total-returns-in_err-start-in-Some g t c =
+    let split = first_and_rest c.as_slice.result.now
+    (terms_in c.args.terms.now) c.in-Some.first.now c.in-Some.others.now c.as_slice.ensures
+    c.in-Some.ensures.cases.0 in
+    let p = err_from_is_err_and c.from_residual.result c.from_residual.ensures.1 in
+    let P : List (Bool × Tree) → Type 0 = λ z. Evaluates (work_state g.S.CellStore.state c.args.work.now)
+    (work_state g.S.CellStore.state c.signed.new.work) (trees.sum (terms_from z)) c.from_residual.result in
+    subst P (sym split) (first_term_stopped (work_state g.S.CellStore.state c.args.work.now)
+    (work_state g.S.CellStore.state c.signed.new.work) (terms_of c.in-Some.others.now) c.in-Some.first.now.minus
+    (tree_of c.in-Some.first.now.expr) c.from_residual.result p.0 c.in_err-start-in-Some.field-0.0 p.1 p.2
+    c.in_err-start-in-Some.ensures)
+
+pub total-returns-in-None : goal.total-returns-in-None
+total-returns-in-None g t c =
+    no_terms_give (work_state g.S.CellStore.state c.args.work.now)
+    (work_state g.S.CellStore.state c.number_item.new.work)
+    (terms_in c.args.terms.now) c.zero.result c.number_item.result (sym c.as_slice.ensures ∙ ap (λ
+    (z : List Term). terms_of z) (nil_from_length c.as_slice.result.now c.in-None.ensures.cases)) c.zero.ensures
+    c.number_item.ensures.game c.number_item.ensures.charged c.number_item.ensures.refused c.number_item.ensures.more
+    c.number_item.ensures.keeps
+
+pub total-returns-in_ok-start-in-Some : goal.total-returns-in_ok-start-in-Some
+total-returns-in_ok-start-in-Some g t c =
+    let split = first_and_rest c.as_slice.result.now
+    (terms_in c.args.terms.now) c.in-Some.first.now c.in-Some.others.now c.as_slice.ensures
+    c.in-Some.ensures.cases.0 in
+    let P : List (Bool × Tree) → Type 0 = λ z. Evaluates (work_state g.S.CellStore.state c.args.work.now)
+    (work_state g.S.CellStore.state c.further.new.work) (trees.sum (terms_from z)) c.further.result in
+    subst P (sym split) (sum_of_terms (work_state g.S.CellStore.state c.args.work.now)
+    (work_state g.S.CellStore.state c.signed.new.work) (work_state g.S.CellStore.state c.further.new.work)
+    (terms_of c.in-Some.others.now) c.in-Some.first.now.minus
+    (tree_of c.in-Some.first.now.expr) c.in_ok-start-in-Some.start c.further.result c.in_ok-start-in-Some.ensures
+    c.further.ensures)
+
+-- ---- further
+
+pub further-added-requires : goal.further-added-requires
+further-added-requires g t c =
+    let s = size_of_term c.args.terms.now (terms_of c.args.terms.now) c.loop-term.term-index c.term-item.result refl
+    c.term-item.is c.loop-term-test.true in
+    let e : size (tree_of c.term-item.result.expr) ≡ size (term_of c.term-item.result).1 = ap (λ (p : Bool
+    × Tree). size p.1) (sym (term_tree c.term-item.result.minus c.term-item.result.expr)) in
+    let b = sym (board_of_term c.term-item.result) ∙ any_term_board-at c.args.terms.now
+    (terms_of c.args.terms.now) c.loop-term.term-index c.term-item.result refl c.loop-term-test.true
+    c.term-item.is c.requires.board in
+    let k = c.loop-term.invariant.known in
+    search rules
+
+pub further-loop-term-init : goal.further-loop-term-init
+further-loop-term-init g t c =
+    added-none (work_state g.S.CellStore.state c.args.work.now) c.args.start c.requires.game
+
+pub further-loop-term-preserved : goal.further-loop-term-preserved
+further-loop-term-preserved g t c =
+    let e = c.in_ok-so_far.ensures in
+    added-step (work_state g.S.CellStore.state c.args.work.now) (work_state g.S.CellStore.state c.loop-term.work)
+    (work_state g.S.CellStore.state c.added.new.work) c.args.terms.now c.loop-term.term-index c.term-item.result
+    c.args.start c.loop-term.so_far c.in_ok-so_far.so_far c.loop-term-test.true c.term-item.is
+    (stands_is_game (work_state g.S.CellStore.state c.added.new.work) c.in_ok-so_far.so_far (can (plus (game_at
+    (work_state g.S.CellStore.state c.loop-term.work) c.loop-term.so_far) (signed c.term-item.result.minus
+    (meaning (tree_of c.term-item.result.expr))))) e.0) c.loop-term.invariant
+    (adds (work_state g.S.CellStore.state c.loop-term.work)
+    (work_state g.S.CellStore.state c.added.new.work) c.loop-term.so_far c.term-item.result.minus
+    (tree_of c.term-item.result.expr) (Ok c.in_ok-so_far.so_far) e)
+
+pub further-returns-in_err-so_far : goal.further-returns-in_err-so_far
+further-returns-in_err-so_far g t c =
+    let p = err_from_is_err_and c.from_residual.result c.from_residual.ensures.1 in
+    λ game stands. gives_stop (work_state g.S.CellStore.state c.args.work.now)
+    (work_state g.S.CellStore.state c.added.new.work) (further_items
+    (work_state g.S.CellStore.state c.args.work.now).rest.limit game (terms_from (terms_of c.args.terms.now)))
+    (total_with game (terms_from (terms_of c.args.terms.now))) c.from_residual.result p.0
+    c.in_err-so_far.field-0.0 p.1 p.2
+    (added-stopped (work_state g.S.CellStore.state c.args.work.now)
+    (work_state g.S.CellStore.state c.loop-term.work)
+    (work_state g.S.CellStore.state c.added.new.work) c.args.terms.now c.loop-term.term-index c.term-item.result
+    c.args.start c.loop-term.so_far c.in_err-so_far.field-0.0 c.loop-term-test.true c.term-item.is
+    c.loop-term.invariant (adds (work_state g.S.CellStore.state c.loop-term.work)
+    (work_state g.S.CellStore.state c.added.new.work) c.loop-term.so_far c.term-item.result.minus
+    (tree_of c.term-item.result.expr) (Err c.in_err-so_far.field-0.0) c.in_err-so_far.ensures) game stands)
+
+pub further-returns : goal.further-returns
+further-returns g t c =
+    λ game stands. added-all (work_state g.S.CellStore.state c.args.work.now)
+    (work_state g.S.CellStore.state c.loop-term.work) c.args.terms.now c.loop-term.term-index c.args.start
+    c.loop-term.so_far c.loop-term-test.false c.loop-term.invariant game stands
+
+-- ---- signed and added
+
+pub signed-negative-requires : goal.signed-negative-requires
+signed-negative-requires g t c =
+    stands_is_game (work_state g.S.CellStore.state c.evaluate.new.work) c.in_ok-value.value (can (meaning
+    (tree_of c.args.expr.now))) c.in_ok-value.ensures.0
+
+pub signed-returns-in_err-value : goal.signed-returns-in_err-value
+signed-returns-in_err-value g t c =
+    let p = err_from_is_err_and c.from_residual.result c.from_residual.ensures.1 in
+    stopped_part (work_state g.S.CellStore.state c.args.work.now)
+    (work_state g.S.CellStore.state c.evaluate.new.work) (signed c.args.subtracted (meaning
+    (tree_of c.args.expr.now))) c.from_residual.result p.0 c.in_err-value.field-0.0
+    (items (work_state g.S.CellStore.state c.args.work.now).rest.limit (tree_of c.args.expr.now)) (signed_items
+    (work_state g.S.CellStore.state c.args.work.now).rest.limit c.args.subtracted (can (meaning
+    (tree_of c.args.expr.now)))) p.1 p.2 c.in_err-value.ensures
+
+pub signed-returns-then-subtracted : goal.signed-returns-then-subtracted
+signed-returns-then-subtracted g t c =
+    let g0 = game_at (work_state g.S.CellStore.state c.evaluate.new.work) c.in_ok-value.value in
+    let step = gives_from (work_state g.S.CellStore.state c.evaluate.new.work)
+    (work_state g.S.CellStore.state c.negative.new.work) (negative_items
+    (work_state g.S.CellStore.state c.evaluate.new.work).rest.limit g0) (can (minus g0))
+    (minus g0) c.negative.result refl
+    c.negative.ensures.game c.negative.ensures.charged c.negative.ensures.refused c.negative.ensures.spare
+    c.negative.ensures.keeps in
+    let P : Bool → Type 0 = λ b. Gives (work_state g.S.CellStore.state c.args.work.now)
+    (work_state g.S.CellStore.state c.negative.new.work) (term_part
+    (work_state g.S.CellStore.state c.args.work.now).rest.limit b (tree_of c.args.expr.now)) (signed b (meaning
+    (tree_of c.args.expr.now))) c.negative.result in
+    subst P (sym c.if-subtracted.true) (subtracted_gives (work_state g.S.CellStore.state c.args.work.now)
+    (work_state g.S.CellStore.state c.evaluate.new.work) (work_state g.S.CellStore.state c.negative.new.work)
+    (tree_of c.args.expr.now) c.in_ok-value.value c.negative.result c.in_ok-value.ensures step)
+
+pub signed-returns-else-subtracted : goal.signed-returns-else-subtracted
+signed-returns-else-subtracted g t c =
+    let P : Bool → Type 0 = λ b. Gives (work_state g.S.CellStore.state c.args.work.now)
+    (work_state g.S.CellStore.state c.evaluate.new.work) (term_part
+    (work_state g.S.CellStore.state c.args.work.now).rest.limit b (tree_of c.args.expr.now)) (signed b (meaning
+    (tree_of c.args.expr.now))) (Ok c.in_ok-value.value) in
+    subst P (sym c.if-subtracted.false) (added_gives (work_state g.S.CellStore.state c.args.work.now)
+    (work_state g.S.CellStore.state c.evaluate.new.work)
+    (tree_of c.args.expr.now) c.in_ok-value.value c.in_ok-value.ensures)
+
+pub added-sum-requires : goal.added-sum-requires
+added-sum-requires g t c =
+    let e = c.in_ok-value.ensures in
+    record {
+      a = is_game_later (work_state g.S.CellStore.state c.args.work.now)
+          (work_state g.S.CellStore.state c.signed.new.work) e.1.keeps.known c.args.so_far c.requires.game;
+      b = stands_is_game (work_state g.S.CellStore.state c.signed.new.work) c.in_ok-value.value (can
+          (signed c.args.subtracted (meaning (tree_of c.args.expr.now)))) e.0;
+    }
+
+pub added-returns-in_err-value : goal.added-returns-in_err-value
+added-returns-in_err-value g t c =
+    let p = err_from_is_err_and c.from_residual.result c.from_residual.ensures.1 in
+    stopped_part (work_state g.S.CellStore.state c.args.work.now) (work_state g.S.CellStore.state c.signed.new.work)
+    (plus (game_at (work_state g.S.CellStore.state c.args.work.now) c.args.so_far) (signed c.args.subtracted
+    (meaning (tree_of c.args.expr.now)))) c.from_residual.result p.0 c.in_err-value.field-0.0
+    (term_part (work_state g.S.CellStore.state c.args.work.now).rest.limit c.args.subtracted
+    (tree_of c.args.expr.now)) (sum_items (work_state g.S.CellStore.state c.args.work.now).rest.limit (game_at
+    (work_state g.S.CellStore.state c.args.work.now) c.args.so_far) (can (signed c.args.subtracted (meaning
+    (tree_of c.args.expr.now))))) p.1 p.2 c.in_err-value.ensures
+
+pub added-returns : goal.added-returns
+added-returns g t c =
+    let g0 = game_at (work_state g.S.CellStore.state c.signed.new.work) c.args.so_far in
+    let h0 = game_at (work_state g.S.CellStore.state c.signed.new.work) c.in_ok-value.value in
+    let step = gives_from (work_state g.S.CellStore.state c.signed.new.work)
+    (work_state g.S.CellStore.state c.sum.new.work) (sum_items
+    (work_state g.S.CellStore.state c.signed.new.work).rest.limit g0 h0) (can (plus g0 h0))
+    (plus g0 h0) c.sum.result refl
+    c.sum.ensures.game c.sum.ensures.charged c.sum.ensures.refused c.sum.ensures.spare c.sum.ensures.keeps in
+    sum_gives (work_state g.S.CellStore.state c.args.work.now) (work_state g.S.CellStore.state c.signed.new.work)
+    (work_state g.S.CellStore.state c.sum.new.work) (signed c.args.subtracted (meaning
+    (tree_of c.args.expr.now))) (term_part (work_state g.S.CellStore.state c.args.work.now).rest.limit
+    c.args.subtracted (tree_of c.args.expr.now)) c.args.so_far c.in_ok-value.value c.sum.result c.requires.game
+    c.in_ok-value.ensures step

@@ -1,0 +1,62 @@
+-- The forms that an expression makes, in order. `limit` is the most that one list of items may have.
+use Rattle.std.specs.Prelude.{ℕ, pos, Bool, false, cond, List, [], ◌∷◌, ◌++◌}
+use Rattle.cg_dyadic.specs.Number.{whole}
+use Rattle.cg_form.specs.Game.{Game, number as plain_number}
+use Rattle.cg_form.specs.Sum.{sum as plus}
+use Rattle.cg_nodes.specs.Spelled.{can}
+use Rattle.cg_canon.specs.Items.{Item, made}
+use Rattle.cg_canon.specs.NumberItems.{number_made}
+use Rattle.cg_sum.specs.Lists.{sum_items, negative_items, multiple_items}
+use Rattle.cg_names.specs.Named.{nimber_form, ups_form, switch_form, tiny_form}
+use Rattle.cg_names.specs.Lists.{form_items, number_items}
+use Rattle.cg_names.specs.Meaning.{literal, meaning, signed}
+use Rattle.cg_syntax.specs.Tree.{Tree, Trees, Terms, Question, number, ups, nimber, switch, tiny, sides, negative, multiple, sum, game, no_trees, with_tree, no_terms, with_term, value, compare, outcome}
+
+-- the items that subtracting a game adds before the sum
+abbrev pub signed_items : ℕ → Bool → Game → List Item
+signed_items limit subtracted g = cond subtracted (negative_items limit g) []
+
+unfoldable mutual
+  pub items : ℕ → Tree → List Item
+  items limit (number below num den) = number_made (literal below num den) 0 ∷ []
+  items limit (ups down n) = form_items limit (ups_form down n)
+  items limit (nimber n) = form_items limit (nimber_form n)
+  items limit (switch num den) = number_items limit switch_form (literal false num den)
+  items limit (tiny miny num den) = number_items limit (tiny_form miny) (literal false num den)
+  items limit (sides lefts rights) =
+      all_items limit lefts ++ all_items limit rights ++ (made (can (meaning (sides lefts rights))) 0 ∷ [])
+  items limit (negative t) = items limit t ++ negative_items limit (can (meaning t))
+  items limit (multiple n t) = items limit t ++ multiple_items limit n (can (meaning t))
+  items limit (sum terms) = term_items limit terms
+  items limit (game kind rules board) = []
+
+  -- those of the expressions in order
+  pub all_items : ℕ → Trees → List Item
+  all_items limit no_trees = []
+  all_items limit (with_tree t ts) = items limit t ++ all_items limit ts
+
+  -- those of a sum: of the first term, and then of each further one. A sum of no terms, as which no line reads, is 0
+  pub term_items : ℕ → Terms → List Item
+  term_items limit no_terms = made (plain_number (whole (pos 0))) 0 ∷ []
+  term_items limit (with_term subtracted t ts) =
+      items limit t ++ signed_items limit subtracted (can (meaning t))
+      ++ further_items limit (signed subtracted (meaning t)) ts
+
+  -- those of adding the terms to a game: of each term, of its negative where it is subtracted, and of the sum
+  pub further_items : ℕ → Game → Terms → List Item
+  further_items limit g no_terms = []
+  further_items limit g (with_term subtracted t ts) =
+      items limit t ++ signed_items limit subtracted (can (meaning t))
+      ++ sum_items limit (can g) (can (signed subtracted (meaning t)))
+      ++ further_items limit (plus g (signed subtracted (meaning t))) ts
+
+-- those of a term: of its expression, and of the negative where it is subtracted
+abbrev pub term_part : ℕ → Bool → Tree → List Item
+term_part limit subtracted t = items limit t ++ signed_items limit subtracted (can (meaning t))
+
+-- those of a question that is answered: the second expression's follow the first's
+abbrev pub question_items : ℕ → Question → List Item
+question_items limit (value t) = items limit t
+question_items limit (compare s t) = items limit s ++ items limit t
+question_items limit (outcome t) = items limit t
+question_items limit _ = []

@@ -1,0 +1,55 @@
+-- An answer, without where it lies in memory.
+use Rattle.std.specs.Prelude.{◌≡◌, ℕ, Bool, true, false, List, Option, Some, None, Result, Ok, Err}
+use Rattle.cg_cells.specs.Store.{State}
+use Rattle.cg_nodes.specs.Meant.{Meant}
+use Rattle.cg_nodes.specs.Games.{StandsFor}
+use Rattle.cg_nodes.specs.Spelled.{can}
+use Rattle.cg_canon.specs.declared.fault.ValueFault.{ValueFault}
+use Rattle.cg_canon.specs.declared.rest.WorkRest.{WorkRest}
+use Rattle.cg_names.specs.Meaning.{meaning}
+use Rattle.cg_syntax.specs.Tree.{Tree, Question, value, compare, outcome, stops, mean, temp, thermo}
+use Rattle.cg_syntax.specs.Lines.{Reads}
+use Rattle.cg_eval.specs.declared.answered.Answered.{Answered}
+use Rattle.cg_eval.specs.Items.{question_items}
+use Rattle.cg_eval.specs.Progress.{Makes, Stops}
+use Rattle.cg_eval.specs.Reply.{IsReplyTo, Piece, answer_to}
+
+abbrev pub shown : Answered → Piece
+shown a = record { text = a.text; refused = a.refused }
+
+-- the expression of the question, the first one of two
+abbrev pub first_of : Question → Tree
+first_of (value t) = t
+first_of (compare s t) = s
+first_of (outcome t) = t
+first_of (stops t) = t
+first_of (mean t) = t
+first_of (temp t) = t
+first_of (thermo t) = t
+
+-- a refused line has no handle, and any other has that of the value of its first expression
+abbrev pub HandleIs : {R : Type 0} → State Meant R → Question → Bool → Option ℕ → Type 0
+HandleIs {R} s q true handle = handle ≡ None
+HandleIs {R} s q false None = ⊥
+HandleIs {R} s q false (Some h) = StandsFor s h (can (meaning (first_of q)))
+
+-- where the line reads as no question it has no handle
+pub record HandleOf {R : Type 0} (s : State Meant R) (line : List ℕ) (refused : Bool) (handle : Option ℕ) : Type 0 where
+  pub read : (q : Question) → Reads line q → HandleIs s q refused handle
+  pub refusal : refused ≡ true → handle ≡ None
+
+-- the answer to the question, with the value of its first expression
+pub record IsAnswer {R : Type 0} (s : State Meant R) (q : Question) (a : Answered) : Type 0 where
+  pub text : shown a ≡ answer_to q
+  pub value : HandleIs s q false a.handle
+
+-- the answer to the question, with all of its items made; or why the first that is refused is
+abbrev pub Answers : {R : Type 0} → State Meant (WorkRest R) → State Meant (WorkRest R) → Question
+    → Result Answered ValueFault → Type 0
+Answers {R} s t q (Ok a) = IsAnswer t q a × Makes s t (question_items s.rest.limit q)
+Answers {R} s t q (Err fault) = Stops s t fault (question_items s.rest.limit q)
+
+-- the reply to the question, with the value of its first expression exactly where it isn't refused
+pub record IsAnswered {R : Type 0} (share limit : ℕ) (s : State Meant R) (q : Question) (a : Answered) : Type 0 where
+  pub reply : IsReplyTo share limit q (shown a)
+  pub handle : HandleIs s q a.refused a.handle

@@ -1,0 +1,200 @@
+//! Expressions, on handles.
+ghost use Rattle.std.specs.Prelude.{◌≡◌, ◌++◌, false};
+ghost use Rattle.cg_form.specs.Game.{Game};
+ghost use Rattle.cg_form.specs.Sum as sums;
+ghost use Rattle.cg_nodes.specs.Games.{IsGame, StandsFor, game_at};
+ghost use Rattle.cg_nodes.specs.Spelled.{can};
+ghost use Rattle.cg_canon.specs.Works.{work_state};
+ghost use Rattle.cg_sum.specs.Lists.{sum_items};
+ghost use Rattle.cg_names.specs.Meaning.{any_board, any_term_board, has_board, meaning, signed, total_with};
+ghost use Rattle.cg_eval.specs.Items.{further_items, term_part};
+ghost use Rattle.cg_eval.specs.Progress.{Evaluates, Gives, GivesAll};
+ghost use Rattle.cg_syntax.specs.Tree.{terms_from, trees_from};
+ghost use Rattle.cg_syntax.specs.Tree as trees;
+ghost use Rattle.cg_syntax.specs.Trees.{terms_in, terms_of, tree_of, trees_in};
+
+use crate::named::{literal, named_nimber, named_switch, named_tiny, named_ups, zero};
+use cg_canon::{ValueFault, Work, canonical, number_item};
+use cg_cells::CellStore;
+use cg_nodes::{BoardForms, GameFacts, Handle};
+use cg_sum::{multiple, negative, sum};
+use cg_syntax::{Expr, Exprs, Term, Terms};
+use std::alloc::Global;
+
+/// The canonical form of what the expression means. It makes the expression's items in order; the fault is that of the
+/// first that is refused, or want of memory.
+#[cycle(evaluate)]
+pub fn evaluate<B: BoardForms, S: CellStore<GameFacts<B>>>(
+    alloc: Global,
+    work: &mut Work<B, S>,
+    expr: &Expr,
+) -> Result<Handle, ValueFault>
+    requires { has_board (tree_of expr.now) ≡ false }
+    ensures { Evaluates (work_state S.state work.old) (work_state S.state work.new) (tree_of expr.now) result }
+{
+    match expr {
+        Expr::Number { negative, num, den } => literal(work, *negative, *num, *den),
+        Expr::Ups { down, count } => named_ups(alloc, work, *down, *count),
+        Expr::Nimber(count) => named_nimber(alloc, work, *count),
+        Expr::Switch { num, den } => named_switch(alloc, work, *num, *den),
+        Expr::Tiny { miny, num, den } => named_tiny(alloc, work, *miny, *num, *den),
+        Expr::Braces(lefts, rights) => braces(alloc, work, lefts, rights),
+        Expr::Negative(inner) => minus(alloc, work, inner),
+        Expr::Multiple(count, inner) => times(alloc, work, *count, inner),
+        Expr::Sum(terms) => total(alloc, work, terms),
+        Expr::Game { .. } => unreachable!(),
+    }
+}
+
+/// The canonical forms of what the expressions mean, in order.
+#[cycle(evaluate)]
+fn evaluate_all<B: BoardForms, S: CellStore<GameFacts<B>>>(
+    alloc: Global,
+    work: &mut Work<B, S>,
+    exprs: &Exprs,
+) -> Result<Vec<Handle>, ValueFault>
+    requires { any_board (trees_from (trees_in exprs.now)) ≡ false }
+    ensures { GivesAll (work_state S.state work.old) (work_state S.state work.new)
+        (trees_from (trees_in exprs.now)) result }
+{
+    let mut handles = Vec::new(alloc);
+    for expr in exprs.as_slice() {
+        let handle = evaluate(alloc, work, expr)?;
+        handles.push(handle)?;
+    }
+    Ok(handles)
+}
+
+/// The braces of the expressions.
+#[cycle(evaluate)]
+fn braces<B: BoardForms, S: CellStore<GameFacts<B>>>(
+    alloc: Global,
+    work: &mut Work<B, S>,
+    lefts: &Exprs,
+    rights: &Exprs,
+) -> Result<Handle, ValueFault>
+    requires lefts { any_board (trees_from (trees_in lefts.now)) ≡ false }
+    requires rights { any_board (trees_from (trees_in rights.now)) ≡ false }
+    ensures { Evaluates (work_state S.state work.old) (work_state S.state work.new)
+        (trees.braces (trees_in lefts.now) (trees_in rights.now)) result }
+{
+    let left_handles = evaluate_all(alloc, work, lefts)?;
+    let right_handles = evaluate_all(alloc, work, rights)?;
+    canonical(alloc, work, &left_handles, &right_handles, 0)
+}
+
+/// The negative of the expression.
+#[cycle(evaluate)]
+fn minus<B: BoardForms, S: CellStore<GameFacts<B>>>(
+    alloc: Global,
+    work: &mut Work<B, S>,
+    expr: &Expr,
+) -> Result<Handle, ValueFault>
+    requires { has_board (tree_of expr.now) ≡ false }
+    ensures { Evaluates (work_state S.state work.old) (work_state S.state work.new)
+        (trees.negative (tree_of expr.now)) result }
+{
+    let value = evaluate(alloc, work, expr)?;
+    negative(alloc, work, value)
+}
+
+/// So many times the expression.
+#[cycle(evaluate)]
+fn times<B: BoardForms, S: CellStore<GameFacts<B>>>(
+    alloc: Global,
+    work: &mut Work<B, S>,
+    count: u128,
+    expr: &Expr,
+) -> Result<Handle, ValueFault>
+    requires { has_board (tree_of expr.now) ≡ false }
+    ensures { Evaluates (work_state S.state work.old) (work_state S.state work.new)
+        (trees.multiple count (tree_of expr.now)) result }
+{
+    let value = evaluate(alloc, work, expr)?;
+    multiple(alloc, work, count, value)
+}
+
+/// The sum of the terms, and 0 where there is none.
+#[cycle(evaluate)]
+fn total<B: BoardForms, S: CellStore<GameFacts<B>>>(
+    alloc: Global,
+    work: &mut Work<B, S>,
+    terms: &Terms,
+) -> Result<Handle, ValueFault>
+    requires { any_term_board (terms_from (terms_in terms.now)) ≡ false }
+    ensures { Evaluates (work_state S.state work.old) (work_state S.state work.new)
+        (trees.sum (terms_from (terms_in terms.now))) result }
+{
+    match terms.as_slice().split_first() {
+        None => number_item(work, Some(zero()), 0),
+        Some((first, others)) => {
+            let start = signed(alloc, work, first.minus, &first.expr)?;
+            further(alloc, work, start, others)
+        }
+    }
+}
+
+/// The sum of the game and the terms.
+#[cycle(evaluate)]
+fn further<B: BoardForms, S: CellStore<GameFacts<B>>>(
+    alloc: Global,
+    work: &mut Work<B, S>,
+    start: Handle,
+    terms: &[Term],
+) -> Result<Handle, ValueFault>
+    requires game { IsGame (work_state S.state work.old) start }
+    requires board { any_term_board (terms_from (terms_of terms.now)) ≡ false }
+    ensures { (g : Game) → StandsFor (work_state S.state work.old) start (can g)
+        → Gives (work_state S.state work.old) (work_state S.state work.new)
+        (further_items work.old.limit g (terms_from (terms_of terms.now)))
+        (total_with g (terms_from (terms_of terms.now))) result }
+{
+    let mut so_far = start;
+    for term in terms {
+        so_far = added(alloc, work, so_far, term.minus, &term.expr)?;
+    }
+    Ok(so_far)
+}
+
+/// What a term means: the expression, or its negative where the term is subtracted.
+#[cycle(evaluate)]
+fn signed<B: BoardForms, S: CellStore<GameFacts<B>>>(
+    alloc: Global,
+    work: &mut Work<B, S>,
+    subtracted: bool,
+    expr: &Expr,
+) -> Result<Handle, ValueFault>
+    requires { has_board (tree_of expr.now) ≡ false }
+    ensures { Gives (work_state S.state work.old) (work_state S.state work.new)
+        (term_part work.old.limit subtracted (tree_of expr.now))
+        (signed subtracted (meaning (tree_of expr.now))) result }
+{
+    let value = evaluate(alloc, work, expr)?;
+    if subtracted {
+        negative(alloc, work, value)
+    } else {
+        Ok(value)
+    }
+}
+
+/// The sum of the game and a term.
+#[cycle(evaluate)]
+fn added<B: BoardForms, S: CellStore<GameFacts<B>>>(
+    alloc: Global,
+    work: &mut Work<B, S>,
+    so_far: Handle,
+    subtracted: bool,
+    expr: &Expr,
+) -> Result<Handle, ValueFault>
+    requires game { IsGame (work_state S.state work.old) so_far }
+    requires board { has_board (tree_of expr.now) ≡ false }
+    ensures { Gives (work_state S.state work.old) (work_state S.state work.new)
+        (term_part work.old.limit subtracted (tree_of expr.now)
+        ++ sum_items work.old.limit (game_at (work_state S.state work.old) so_far)
+        (can (signed subtracted (meaning (tree_of expr.now)))))
+        (sums.sum (game_at (work_state S.state work.old) so_far)
+        (signed subtracted (meaning (tree_of expr.now)))) result }
+{
+    let value = signed(alloc, work, subtracted, expr)?;
+    sum(alloc, work, so_far, value)
+}

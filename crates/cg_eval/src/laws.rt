@@ -1,0 +1,42 @@
+//! Laws of expressions and replies: a call puts its law into the caller's facts.
+ghost use Rattle.std.specs.Prelude.{◌≡◌, ◌⊎◌, ◌++◌, ◌∷◌, [], ℕ, List, false};
+ghost use Rattle.cg_nodes.specs.Spelled.{can};
+ghost use Rattle.cg_canon.specs.declared.fault.ValueFault.{ValueFault};
+ghost use Rattle.cg_canon.specs.Items.{Item, made, AllPass, IsStopped};
+ghost use Rattle.cg_names.specs.Meaning.{meaning, has_board};
+ghost use Rattle.cg_eval.specs.Items.{items};
+ghost use Rattle.cg_eval.specs.Reply.{IsReply, Piece};
+ghost use Rattle.cg_syntax.specs.Lines.{is_blank_line, IsComment};
+ghost use Rattle.cg_syntax.specs.Tree.{Tree};
+
+use cg_syntax::laws::one_query;
+
+/// Where all items of an expression without boards pass, the last of them is the canonical form of what the expression
+/// means, for every share and positions limit.
+pub fn l8()
+    ensures { (share limit spent : ℕ) (t : Tree) → has_board t ≡ false → AllPass share 0 (items limit t) spent
+        → (front : List Item) × (extra : ℕ) × (items limit t ≡ front ++ (made (can (meaning t)) extra ∷ [])) }
+{}
+
+/// A list of items has one verdict, given the share and what was spent before: either all of them pass, or the first that
+/// doesn't is refused for one cause. What was spent then is determined, too.
+pub fn one_verdict()
+    ensures decided { (share before : ℕ) (items : List Item) → ((after : ℕ) × AllPass share before items after)
+        ⊎ ((fault : ValueFault) × (after : ℕ) × IsStopped fault share before items after) }
+    ensures apart { (fault : ValueFault) (share before : ℕ) (items : List Item) (a b : ℕ) → AllPass share before items a
+        → ¬ IsStopped fault share before items b }
+    ensures passed { (share before : ℕ) (items : List Item) (a b : ℕ) → AllPass share before items a
+        → AllPass share before items b → a ≡ b }
+    ensures stopped { (f e : ValueFault) (share before : ℕ) (items : List Item) (a b : ℕ)
+        → IsStopped f share before items a → IsStopped e share before items b → (f ≡ e) × (a ≡ b) }
+{}
+
+/// A line that is neither blank nor a comment has exactly one reply, given the share and the positions limit.
+pub fn one_reply()
+    ensures some { (share limit : ℕ) (line : List ℕ) → is_blank_line line ≡ false → ¬ IsComment line
+        → (p : Piece) × IsReply share limit line p }
+    ensures unique { (share limit : ℕ) (line : List ℕ) (p r : Piece) → is_blank_line line ≡ false → ¬ IsComment line
+        → IsReply share limit line p → IsReply share limit line r → p ≡ r }
+{
+    one_query();
+}

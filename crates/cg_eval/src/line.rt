@@ -1,0 +1,46 @@
+//! Lines, answered on a store.
+ghost use Rattle.std.specs.Prelude.{◌≡◌, ◌+◌, ◌≤◌, false, IfOk};
+ghost use Rattle.cg_eval.specs.Reply.{IsReply};
+ghost use Rattle.cg_eval.specs.Shown.{shown, HandleOf};
+ghost use Rattle.cg_eval.specs.Stores.{KeepsStore};
+ghost use Rattle.cg_syntax.specs.Lines.{is_blank_line, IsComment};
+
+use crate::Answered;
+use crate::reply::{refuse_syntax, reply};
+use cg_cells::CellStore;
+use cg_nodes::{GameFacts, NoBoards};
+use cg_syntax::laws::one_query;
+use cg_syntax::{Line, SyntaxFault, read_line};
+use std::alloc::{AllocError, Global};
+
+/// The reply to a line that gets one, that is, to one that is neither blank nor a comment. It is made on a share of so
+/// much of the store's spare, with so many positions at most in one list of items.
+///
+/// It is `! syntax c` with the column at which the line leaves the grammar; `! later` for a question that isn't
+/// answered yet; `! positions`, `! range`, `! depth` or `! full` where an item of the question is refused; and else its
+/// answer. The one fault is want of memory. Whatever it answers, what the store knew it knows, and its spare falls by
+/// the share at most.
+pub fn answer<S: CellStore<GameFacts<NoBoards>>>(
+    alloc: Global,
+    store: &mut S,
+    line: &[u8],
+    share: u64,
+    positions: u64,
+) -> Result<Answered, AllocError>
+    requires not_blank { is_blank_line line.now ≡ false }
+    requires not_comment { ¬ IsComment line.now }
+    requires spare { share ≤ (S.state store.old).spare }
+    ensures reply { IfOk result (λ a. IsReply share positions line.now (shown a)) }
+    ensures handle { IfOk result (λ a. HandleOf (S.state store.new) line.now a.refused a.handle) }
+    ensures keeps { KeepsStore (S.state store.old) (S.state store.new) }
+    ensures spare { (S.state store.old).spare ≤ (S.state store.new).spare + share }
+{
+    one_query();
+    match read_line(alloc, line) {
+        Ok(Line::Ask(query)) => reply(alloc, store, &query, share, positions),
+        Ok(Line::Blank) => unreachable!(),
+        Ok(Line::Comment) => unreachable!(),
+        Err(SyntaxFault::Syntax(column)) => refuse_syntax(alloc, column),
+        Err(SyntaxFault::Memory) => Err(AllocError),
+    }
+}

@@ -1,0 +1,83 @@
+//! Numbers and named games, on handles.
+ghost use Rattle.std.specs.Prelude.{◌≡◌};
+ghost use Rattle.cg_canon.specs.Works.{work_state};
+ghost use Rattle.cg_names.specs.Named.{zero_number};
+ghost use Rattle.cg_eval.specs.Progress.{Evaluates};
+ghost use Rattle.cg_syntax.specs.Tree as trees;
+
+use cg_canon::{ValueFault, Work, number_item};
+use cg_cells::CellStore;
+use cg_dyadic::Dyadic;
+use cg_names::{nimber, switch, tiny, ups};
+use cg_nodes::{BoardForms, GameFacts, Handle};
+use std::alloc::Global;
+
+/// 0.
+pub fn zero() -> Dyadic
+    ensures { result ≡ zero_number }
+{
+    match Dyadic::make(0, 0) {
+        Ok(number) => number,
+        Err(_) => unreachable!(),
+    }
+}
+
+/// The number of a literal.
+pub fn literal<B: BoardForms, S: CellStore<GameFacts<B>>>(
+    work: &mut Work<B, S>,
+    below: bool,
+    num: u128,
+    den: u128,
+) -> Result<Handle, ValueFault>
+    ensures { Evaluates (work_state S.state work.old) (work_state S.state work.new) (trees.number below num den) result }
+{
+    number_item(work, Dyadic::from_digits(below, num, den), 0)
+}
+
+/// So many ups, or downs.
+pub fn named_ups<B: BoardForms, S: CellStore<GameFacts<B>>>(
+    alloc: Global,
+    work: &mut Work<B, S>,
+    down: bool,
+    count: u128,
+) -> Result<Handle, ValueFault>
+    ensures { Evaluates (work_state S.state work.old) (work_state S.state work.new) (trees.ups down count) result }
+{
+    ups(alloc, work, down, count)
+}
+
+/// A nimber.
+pub fn named_nimber<B: BoardForms, S: CellStore<GameFacts<B>>>(
+    alloc: Global,
+    work: &mut Work<B, S>,
+    count: u128,
+) -> Result<Handle, ValueFault>
+    ensures { Evaluates (work_state S.state work.old) (work_state S.state work.new) (trees.nimber count) result }
+{
+    nimber(alloc, work, count)
+}
+
+/// The switch of a literal.
+pub fn named_switch<B: BoardForms, S: CellStore<GameFacts<B>>>(
+    alloc: Global,
+    work: &mut Work<B, S>,
+    num: u128,
+    den: u128,
+) -> Result<Handle, ValueFault>
+    ensures { Evaluates (work_state S.state work.old) (work_state S.state work.new) (trees.switch num den) result }
+{
+    switch(alloc, work, Dyadic::from_digits(false, num, den))
+}
+
+/// Tiny or miny of a literal.
+pub fn named_tiny<B: BoardForms, S: CellStore<GameFacts<B>>>(
+    alloc: Global,
+    work: &mut Work<B, S>,
+    miny: bool,
+    num: u128,
+    den: u128,
+) -> Result<Handle, ValueFault>
+    ensures { Evaluates (work_state S.state work.old) (work_state S.state work.new) (trees.tiny miny num den) result }
+{
+    tiny(alloc, work, miny, Dyadic::from_digits(false, num, den))
+}

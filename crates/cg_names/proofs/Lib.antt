@@ -1,0 +1,16 @@
+pub mod Reducing
+pub mod Infinitesimals
+pub mod NimberForms
+pub mod UpForms
+pub mod SwitchForms
+pub mod NimberPositions
+pub mod UpPositions
+pub mod SwitchPositions
+pub mod Names
+pub mod Steps
+pub mod NimberSteps
+pub mod UpSteps
+pub mod PairSteps
+pub mod SameNumbers
+pub mod Literals
+pub mod Mirrored

@@ -1,0 +1,67 @@
+-- The names of a list in a store, one game after another.
+use Rattle.std.proofs.Common.{◌≡◌, refl, ap, sym, ◌∙◌, ℕ, ◌+◌, ◌≤◌, arith, Option, List, ◌∷◌, ◌++◌, append_assoc, Result, Ok, Err, OnOk}
+use Rattle.std.specs.Prelude.{codes, is_ok, if◌then◌else◌}
+use Rattle.cg_form.specs.Game.{Game, node, of_list}
+use Rattle.cg_form.specs.Size.{list_size, size}
+use Rattle.cg_cells.specs.Store.{Spends, State}
+use Rattle.cg_nodes.specs.Games.{IsList, game_at, listed}
+use Rattle.cg_nodes.specs.Meant.{Meant}
+use Rattle.cg_nodes.proofs.Later.{is_list_later, listed_later, nothing_spent, spends_then}
+use Rattle.cg_names.specs.Name.{further_names, name_of, names_of}
+
+-- the further names of the list are those that were written since, and those of what is left
+pub record Written {R : Type 0} (s t : State Meant R) (before now : List ℕ) (all left : Option ℕ) : Type 0 where
+  pub is_list : IsList t left
+  pub spends : Spends 0 s t
+  pub names : now ++ further_names (of_list (listed t left)) ≡ before ++ further_names (of_list (listed s all))
+  pub smaller : list_size (listed t left) ≤ list_size (listed s all)
+
+-- nothing is written yet
+pub written_none : {R : Type 0} (s : State Meant R) (text : List ℕ) (list : Option ℕ) → IsList s list → Written s s
+    text text list list
+written_none s text list l = record { is_list = l; spends = nothing_spent s; names = refl; smaller = omega arith }
+
+-- a comma and the name of the next game
+pub written_more : {R : Type 0} (s t u v : State Meant R) (before now comma more : List ℕ) (all left rest : Option ℕ)
+    (first : ℕ)
+    → Written s t before now all left → Spends 0 t u → IsList u rest → listed t left ≡ game_at u first ∷ listed u rest
+    → comma ≡ now ++ codes "," → Spends 0 u v → more ≡ comma ++ name_of (game_at u first)
+    → Written s v before more all rest
+written_more s t u v before now comma more all left rest first w a l e c b m =
+    let later : listed v rest ≡ listed u rest = listed_later u v b.known rest l in
+    let g : Game = game_at u first in
+    let further : List ℕ = further_names (of_list (listed u rest)) in
+    let sizes : list_size (listed t left) ≡ size g + list_size (listed u rest) = ap list_size e in
+    let same : list_size (listed v rest) ≡ list_size (listed u rest) = ap list_size later in
+    let small = w.smaller in
+    record {
+      is_list = is_list_later u v b.known rest l;
+      spends = spends_then 0 0 s u v (spends_then 0 0 s t u w.spends a) b;
+      names = ap (λ z. more ++ further_names (of_list z)) later
+          ∙ ap (λ z. z ++ further) (m ∙ ap (λ z. z ++ name_of g) c)
+          ∙ append_assoc (now ++ codes ",") (name_of g) further ∙ append_assoc now (codes ",") (name_of g ++ further)
+          ∙ ap (λ z. now ++ further_names (of_list z)) (sym e) ∙ w.names;
+      smaller = omega arith;
+    }
+
+-- the name of a game of two lists, part by part
+pub braces-name : (g : Game) (ls rs same_rs : List Game) (t0 t1 t2 t3 t4 : List ℕ) → g ≡ node ls rs → same_rs ≡ rs
+    → t1 ≡ t0 ++ codes "{" → t2 ≡ t1 ++ names_of (of_list ls) → t3 ≡ t2 ++ codes "|"
+    → t4 ≡ t3 ++ names_of (of_list same_rs) → t4 ++ codes "}" ≡ t0 ++ name_of g
+braces-name g ls rs same_rs t0 t1 t2 t3 t4 e f a b c d =
+    let left : List ℕ = names_of (of_list ls) in
+    let right : List ℕ = names_of (of_list rs) in
+    ap (λ z. z ++ codes "}") (d ∙ ap (λ z. t3 ++ names_of (of_list z)) f ∙ ap (λ z. z ++ right)
+    (c ∙ ap (λ z. z ++ codes "|") (b ∙ ap (λ z. z ++ left) a)))
+    ∙ append_assoc (((t0 ++ codes "{") ++ left) ++ codes "|") right (codes "}")
+    ∙ append_assoc ((t0 ++ codes "{") ++ left) (codes "|") (right ++ codes "}")
+    ∙ append_assoc (t0 ++ codes "{") left (codes "|" ++ (right ++ codes "}"))
+    ∙ append_assoc t0 (codes "{") (left ++ (codes "|" ++ (right ++ codes "}")))
+    ∙ ap (λ z. t0 ++ name_of z) (sym e)
+
+-- what was written where the call succeeds
+pub on_ok_written : {A E : Type 0} (r : Result A E) (now old grown whole : List ℕ) → now ≡
+    (if is_ok r then grown else old)
+    → grown ≡ whole → OnOk r (now ≡ whole)
+on_ok_written (Ok x) now old grown whole e f = e ∙ f
+on_ok_written (Err e) now old grown whole f w = tt

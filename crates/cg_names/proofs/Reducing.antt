@@ -1,0 +1,83 @@
+-- Canonical games from what either side sees of them.
+use Rattle.std.proofs.Common.{◌≡◌, inl, inr, sym, ◌∙◌, subst, List, [], ◌∷◌, Bool, true, false, not}
+use Rattle.cg_form.specs.Canonical.{Canonical, Reduced}
+use Rattle.cg_form.specs.Game.{Among, Game, node}
+use Rattle.cg_form.specs.Side.{AtMost, far, near}
+use Rattle.cg_form.specs.Simple.{NoNumber}
+use Rattle.cg_form.specs.Structure.{Rises}
+use Rattle.cg_form.proofs.Among.{carry, lefts-node, rights-node}
+use Rattle.cg_form.proofs.Reduced.{all_canonical}
+use Rattle.cg_names.specs.Named.{mirrored_if, zero_form}
+
+-- of the options of a side none is no better than another or reversible, and they rise
+pub record SideReduced (s : Bool) (g : Game) : Type 0 where
+  pub apart : (a b : Game) → Among a (near s g) → Among b (near s g) → AtMost s a b → a ≡ b
+  pub stays : (a b : Game) → Among a (near s g) → Among b (far s a) → ¬ AtMost s b g
+  pub rises : Rises (near s g)
+
+-- a game that is so on both sides and equals no number is reduced
+reduced_both : (g : Game) → SideReduced true g → SideReduced false g → NoNumber g → Reduced g
+reduced_both g l r n = record {
+  left_undominated = λ a m d. d.other (l.apart a d.by m d.option d.worse);
+  right_undominated = λ a m d. d.other (r.apart a d.by m d.option d.worse);
+  left_irreversible = λ a m d. l.stays a d.through m d.answer d.back;
+  right_irreversible = λ a m d. r.stays a d.through m d.answer d.back;
+  lefts_rise = l.rises;
+  rights_rise = r.rises;
+  no_number = n;
+}
+
+pub canonical_node : (ls rs : List Game) → SideReduced true (node ls rs) → SideReduced false (node ls rs)
+    → NoNumber (node ls rs) → ((a : Game) → Among a ls → Canonical a) → ((b : Game) → Among b rs → Canonical b)
+    → Canonical (node ls rs)
+canonical_node ls rs l r n f h = (reduced_both (node ls rs) l r n, all_canonical ls f, all_canonical rs h)
+
+-- ---- sides exchanged
+
+pub near-mirrored : (down : Bool) (ls rs : List Game) → near (not down) (mirrored_if down ls rs) ≡ ls
+near-mirrored false ls rs = lefts-node ls rs
+near-mirrored true ls rs = rights-node rs ls
+
+pub far-mirrored : (down : Bool) (ls rs : List Game) → far (not down) (mirrored_if down ls rs) ≡ rs
+far-mirrored false ls rs = rights-node ls rs
+far-mirrored true ls rs = lefts-node rs ls
+
+-- the options of the other side, as that side sees them
+pub other-mirrored : (down : Bool) (ls rs : List Game) → near down (mirrored_if down ls rs) ≡ rs
+other-mirrored false ls rs = rights-node ls rs
+other-mirrored true ls rs = lefts-node rs ls
+
+pub canonical_mirrored : (down : Bool) (ls rs : List Game) → SideReduced (not down) (mirrored_if down ls rs)
+    → SideReduced down (mirrored_if down ls rs) → NoNumber (mirrored_if down ls rs)
+    → ((a : Game) → Among a ls → Canonical a) → ((b : Game) → Among b rs → Canonical b)
+    → Canonical (mirrored_if down ls rs)
+canonical_mirrored false ls rs p q n f h = canonical_node ls rs p q n f h
+canonical_mirrored true ls rs p q n f h = canonical_node rs ls q p n h f
+
+-- ---- one option
+
+pub one_reduced : (s : Bool) (g a : Game) → near s g ≡ a ∷ [] → ((b : Game) → Among b (far s a) → ¬ AtMost s b g)
+    → SideReduced s g
+one_reduced s g a e stays = record {
+  apart = λ b c m k l. elim (carry b (near s g) (a ∷ []) e m) [
+    | inr w ↦ absurd w
+    | inl p ↦ elim (carry c (near s g) (a ∷ []) e k) [ inr w ↦ absurd w | inl q ↦ p ∙ sym q ]
+  ];
+  stays = λ b c m k l. elim (carry b (near s g) (a ∷ []) e m) [
+    | inr w ↦ w
+    | inl p ↦ let P : Game → Type 0 = λ z. Among c (far s z) in stays c (subst P p k) l
+  ];
+  rises = let P : List Game → Type 0 = λ z. Rises z in subst P (sym e) ((λ h w. absurd w), tt);
+}
+
+-- 0 has no options
+pub far-zero : (s : Bool) (b : Game) → ¬ Among b (far s zero_form)
+far-zero true b m = m
+far-zero false b m = m
+
+pub near-zero : (s : Bool) (b : Game) → ¬ Among b (near s zero_form)
+near-zero true b m = m
+near-zero false b m = m
+
+pub zero_reduced : (s : Bool) (g : Game) → near s g ≡ zero_form ∷ [] → SideReduced s g
+zero_reduced s g e = one_reduced s g zero_form e (λ b m. absurd (far-zero s b m))

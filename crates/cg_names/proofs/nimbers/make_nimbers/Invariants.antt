@@ -1,0 +1,5 @@
+use Rattle.cg_names.proofs.NimberSteps.{NimbersMade}
+use Rattle.cg_names.proofs.nimbers.make_nimbers.Given as goal
+
+abbrev pub invariant-loop-level : goal.invariant-loop-level
+invariant-loop-level g l = NimbersMade g.S.CellStore.state l.fn.work l.work l.lesser.items l.last l.level

@@ -1,0 +1,5 @@
+pub mod Named
+pub mod Name
+pub mod Lists
+pub mod Making
+pub mod Meaning

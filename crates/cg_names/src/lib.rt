@@ -1,0 +1,19 @@
+//! Named games, and the names of games.
+//!
+//! [`nimber`], [`ups`], [`switch`] and [`tiny`] make the games that have signs of their own, on handles of a work,
+//! with exact costs: the items of each are the positions of its form, as the textbook writes it, in order. [`name`]
+//! writes the name of a game. The functions of [`laws`] do nothing; their contracts say that those forms are
+//! canonical, and what their positions are.
+#![tactic(auto)]
+
+mod arrows;
+mod hot;
+pub mod laws;
+mod making;
+mod naming;
+mod nimbers;
+
+pub use arrows::ups;
+pub use hot::{switch, tiny};
+pub use naming::name;
+pub use nimbers::nimber;

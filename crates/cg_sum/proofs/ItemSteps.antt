@@ -1,0 +1,193 @@
+-- The item of a sum, as it is made, found or counted.
+use Rattle.std.proofs.Common.{◌≡◌, ◌⊎◌, inl, inr, ℕ, ◌+◌, ◌≤◌, arith, refl, ap, sym, ◌∙◌, subst, List, [], ◌∷◌, Option, Some, None, IsSome, Result, Ok, Err}
+use Rattle.std.specs.Prelude.{IfErr, IfOk, OnOk}
+use Rattle.std.specs.Result.{result_ok}
+use Rattle.cg_canon.specs.Items.{AllPass, Item, WasRefused, made}
+use Rattle.cg_canon.specs.NumberItems.{IsForm, number_made}
+use Rattle.cg_canon.specs.Works.{WorkOf, work_state}
+use Rattle.cg_canon.specs.declared.fault.ValueFault.{ValueFault}
+use Rattle.cg_cells.specs.Meaning.{Grows, Meaning, note_for}
+use Rattle.cg_cells.specs.Store.{Known, Spends, State, thing_at}
+use Rattle.cg_dyadic.specs.Exact.{IsExact, sum_num}
+use Rattle.cg_dyadic.specs.Number.{Number, exp_of}
+use Rattle.cg_dyadic.specs.declared.fault.RangeFault.{RangeFault}
+use Rattle.cg_form.specs.Game.{Among, Game, node, number}
+use Rattle.cg_form.specs.Sum.{sum}
+use Rattle.cg_nodes.proofs.Later.{game_later, spends_then, stands_game, stands_later}
+use Rattle.cg_nodes.specs.Games.{IsGame, IsInRange, IsNode, StandsFor, game_at, games_at}
+use Rattle.cg_nodes.specs.Meant.{Meant}
+use Rattle.cg_nodes.specs.Spelled.{can}
+use Rattle.cg_sum.specs.Lists.{sum_item}
+use Rattle.cg_sum.specs.Made.{ItemsMade}
+use Rattle.cg_sum.specs.Progress.{OptionsFound}
+use Rattle.cg_sum.specs.Written.{written}
+use Rattle.cg_sum.specs.declared.found.Sums.{Sums}
+use Rattle.cg_sum.proofs.MadeSteps.{made_as, number_charged, read_then, refused_number}
+use Rattle.cg_sum.proofs.Sums.{can-sum_numbers}
+
+-- ---- sides that are read as slices
+
+pub sides_as : {R : Type 0} (s : State Meant R) (ls rs hl hr : List ℕ) (g : Game) → hl ≡ ls → hr ≡ rs
+    → can (node (games_at s ls) (games_at s rs)) ≡ g → can (node (games_at s hl) (games_at s hr)) ≡ g
+sides_as s ls rs hl hr g e d is =
+    ap (λ z. can (node (games_at s z) (games_at s hr))) e ∙ (ap (λ z. can (node (games_at s ls) (games_at s z))) d ∙ is)
+
+-- ---- the own spare
+
+pub spare_read : {T : Type 0} (r : Result T ValueFault) (a b c : ℕ) → a + 0 ≡ b → OnOk r (a + 1 ≤ c) → OnOk r (b + 1 ≤ c)
+spare_read (Ok h) a b c e p = omega arith
+spare_read (Err x) a b c e p = tt
+
+-- ---- a later state
+
+pub options_later : {R Q : Type 0} (s : State Meant R) (t : State Meant Q) → Grows (thing_at s) (thing_at t) → (m : Sums) (f k : ℕ)
+    → IsGame s f → IsGame s k → OptionsFound s m f k → OptionsFound t m f k
+options_later s t grows m f k gf gk found =
+    record {
+      first = λ a i.
+          let W : Game → Type 0 = λ z. Among a (written z) in
+          let (p, e, some) = found.first a (subst W (game_later s t grows f gf) i) in
+          (p, stands_later s t grows p a e, some);
+      second = λ c i.
+          let W : Game → Type 0 = λ z. Among c (written z) in
+          let (q, e, some) = found.second c (subst W (game_later s t grows k gk) i) in
+          (q, stands_later s t grows q c e, some);
+    }
+
+some_thing : (o : Option Meant) → IsSome o → (x : Meant) × (o ≡ Some x)
+some_thing None k = absurd cc
+some_thing (Some x) k = (x, refl)
+
+-- what a note on a cell must spell stays so
+pub note_later : {R Q : Type 0} (m : Meaning Meant) (s : State Meant R) (t : State Meant Q) → Grows (thing_at s) (thing_at t)
+    → (id : ℕ) (x : Option Meant) → Known s id → note_for m (thing_at s id) ≡ x → note_for m (thing_at t id) ≡ x
+note_later m s t grows id x known e =
+    let (y, is) = some_thing (thing_at s id) known in
+    ap (note_for m) (grows id y is ∙ sym is) ∙ e
+
+pub known_later : {R Q : Type 0} (s : State Meant R) (t : State Meant Q) → Grows (thing_at s) (thing_at t)
+    → (id : ℕ) → Known s id → Known t id
+known_later s t grows id known =
+    let (y, is) = some_thing (thing_at s id) known in
+    let P : Option Meant → Type 0 = λ z. IsSome z in
+    subst P (sym (grows id y is)) refl
+
+pub stands_known : {R : Type 0} (s : State Meant R) (h : ℕ) (g : Game) → StandsFor s h g → Known s h
+stands_known s h g e = let P : Option Meant → Type 0 = λ z. IsSome z in subst P (sym e) refl
+
+-- ---- the sum of two numbers
+
+module _ (a b : Number) where
+  exact_game : {R : Type 0} (s : State Meant R) (q : Result Number RangeFault) (r : Result ℕ ValueFault)
+      → IsExact (sum_num a b) (exp_of a + exp_of b) q → IfOk r (λ h. IsForm (result_ok q) (StandsFor s h))
+      → IfOk r (λ h. StandsFor s h (can (sum (number a) (number b))))
+  exact_game s (Ok z) r e p =
+      let P : Game → Type 0 = λ g. IfOk r (λ h. StandsFor s h g) in subst P (sym (can-sum_numbers a b z e.0)) p
+  exact_game s (Err t) (Ok h) e p = absurd p
+  exact_game s (Err t) (Err y) e p = tt
+
+  module _ (share before after : ℕ) where
+    exact_charged : (q : Result Number RangeFault) (r : Result ℕ ValueFault)
+        → IsExact (sum_num a b) (exp_of a + exp_of b) q
+        → OnOk r (AllPass share before (number_made (result_ok q) 1 ∷ []) after)
+        → OnOk r (AllPass share before (sum_item (number a) (number b) ∷ []) after)
+    exact_charged (Ok z) r e p =
+        let P : Game → Type 0 = λ g. OnOk r (AllPass share before (made g 1 ∷ []) after) in
+        subst P (sym (can-sum_numbers a b z e.0)) p
+    exact_charged (Err t) r e p = number_charged r share before after (sum_item (number a) (number b) ∷ []) p
+
+    exact_refused : (q : Result Number RangeFault) (r : Result ℕ ValueFault)
+        → IsExact (sum_num a b) (exp_of a + exp_of b) q
+        → IfErr r (λ fault. WasRefused fault share before (number_made (result_ok q) 1 ∷ []) after)
+        → IfErr r (λ fault. WasRefused fault share before (sum_item (number a) (number b) ∷ []) after)
+    exact_refused (Ok z) r e p =
+        let P : Game → Type 0 = λ g. IfErr r (λ fault. WasRefused fault share before (made g 1 ∷ []) after) in
+        subst P (sym (can-sum_numbers a b z e.0)) p
+    exact_refused (Err t) r e p =
+        let (z, is, holds, outside) = e in
+        let P : Game → Type 0 = λ g. ¬ IsInRange g in
+        refused_number r share before after (can (sum (number a) (number b))) 1
+        (subst P (sym (can-sum_numbers a b z is)) outside) p
+
+module _ {S R : Type 0} (state : S → State Meant R) (w u v x : WorkOf S) (f k : ℕ) (a b : Number) (o : Option Number)
+    (q : Result Number RangeFault) (r : Result ℕ ValueFault) (isf : game_at (work_state state w) f ≡ number a)
+    (isk : game_at (work_state state u) k ≡ number b) (gk : IsGame (work_state state w) k)
+    (wu : Spends 0 (work_state state w) (work_state state u)) (uv : Spends 0 (work_state state u) (work_state state v))
+    (is : o ≡ result_ok q) (exact : IsExact (sum_num a b) (exp_of a + exp_of b) q) where
+  both_numbers : sum (number a) (number b) ≡ sum (game_at (work_state state w) f) (game_at (work_state state w) k)
+  both_numbers =
+      ap (λ z. sum z (number b)) (sym isf)
+      ∙ ap (λ z. sum (game_at (work_state state w) f) z)
+      (sym isk ∙ game_later (work_state state w) (work_state state u) wu.known k gk)
+
+  pub number_game : IfOk r (λ h. IsForm o (StandsFor (work_state state x) h))
+      → IfOk r (λ h. StandsFor (work_state state x) h (can (sum (game_at (work_state state w) f) (game_at (work_state state w) k))))
+  number_game p =
+      let P : Option Number → Type 0 = λ z. IfOk r (λ h. IsForm z (StandsFor (work_state state x) h)) in
+      let Q : Game → Type 0 = λ z. IfOk r (λ h. StandsFor (work_state state x) h (can z)) in
+      subst Q both_numbers (exact_game a b (work_state state x) q r exact (subst P is p))
+
+  pub number_items : ItemsMade state v x (number_made o 1 ∷ []) r
+      → ItemsMade state w x (sum_item (game_at (work_state state w) f) (game_at (work_state state w) k) ∷ []) r
+  number_items m =
+      let P : Option Number → Type 0 = λ z. OnOk r (AllPass v.share v.spent (number_made z 1 ∷ []) x.spent) in
+      let Q : Option Number → Type 0 = λ z. IfErr r (λ fault. WasRefused fault v.share v.spent (number_made z 1 ∷ []) x.spent) in
+      let item : Game → Item = λ z. made (can z) 1 in
+      made_as state w x (sum_item (number a) (number b) ∷ []) (sum_item (game_at (work_state state w) f) (game_at (work_state state w) k) ∷ []) r
+      (ap (λ z. item z ∷ []) both_numbers)
+      (read_then state 0 w v x (sum_item (number a) (number b) ∷ []) r
+      (spends_then 0 0 (work_state state w) (work_state state u) (work_state state v) wu uv) (record {
+        charged = exact_charged a b v.share v.spent x.spent q r exact (subst P is m.charged);
+        refused = exact_refused a b v.share v.spent x.spent q r exact (subst Q is m.refused);
+        keeps = m.keeps;
+      }))
+
+-- ---- the sum that was noted, or is noted
+
+module _ {S R : Type 0} (state : S → State Meant R) (w u : WorkOf S) (n : ℕ) (wu : Spends n (work_state state w) (work_state state u))
+    (f k : ℕ) (gf : IsGame (work_state state w) f) (gk : IsGame (work_state state w) k) where
+  pub sums_same : sum (game_at (work_state state u) f) (game_at (work_state state u) k)
+      ≡ sum (game_at (work_state state w) f) (game_at (work_state state w) k)
+  sums_same =
+      ap (λ z. sum z (game_at (work_state state u) k)) (game_later (work_state state w) (work_state state u) wu.known f gf)
+      ∙ ap (λ z. sum (game_at (work_state state w) f) z) (game_later (work_state state w) (work_state state u) wu.known k gk)
+
+  pub nodes_later : IsNode (game_at (work_state state w) f) ⊎ IsNode (game_at (work_state state w) k)
+      → IsNode (game_at (work_state state u) f) ⊎ IsNode (game_at (work_state state u) k)
+  nodes_later (inl c) =
+      let P : Game → Type 0 = λ z. IsNode z in
+      inl (subst P (sym (game_later (work_state state w) (work_state state u) wu.known f gf)) c)
+  nodes_later (inr c) =
+      let P : Game → Type 0 = λ z. IsNode z in
+      inr (subst P (sym (game_later (work_state state w) (work_state state u) wu.known k gk)) c)
+
+  -- a handle that stands for the sum was charged
+  pub known_items : {T : Type 0} (x : WorkOf S) (h : ℕ) (r : Result T ValueFault)
+      → StandsFor (work_state state u) h (can (sum (game_at (work_state state w) f) (game_at (work_state state w) k)))
+      → ItemsMade state u x (made (game_at (work_state state u) h) 1 ∷ []) r
+      → ItemsMade state w x (sum_item (game_at (work_state state w) f) (game_at (work_state state w) k) ∷ []) r
+  known_items x h r e m =
+      let item : Game → Item = λ z. made z 1 in
+      let g : Game = can (sum (game_at (work_state state w) f) (game_at (work_state state w) k)) in
+      read_then state n w u x (item g ∷ []) r wu
+      (made_as state u x (item (game_at (work_state state u) h) ∷ []) (item g ∷ []) r
+      (ap (λ z. item z ∷ []) (stands_game (work_state state u) h g e)) m)
+
+  -- the sum was made
+  pub later_items : {T : Type 0} (x : WorkOf S) (r : Result T ValueFault)
+      → ItemsMade state u x (sum_item (game_at (work_state state u) f) (game_at (work_state state u) k) ∷ []) r
+      → ItemsMade state w x (sum_item (game_at (work_state state w) f) (game_at (work_state state w) k) ∷ []) r
+  later_items x r m =
+      let item : Game → Item = λ z. made (can z) 1 in
+      read_then state n w u x (sum_item (game_at (work_state state w) f) (game_at (work_state state w) k) ∷ []) r wu
+      (made_as state u x (sum_item (game_at (work_state state u) f) (game_at (work_state state u) k) ∷ [])
+      (sum_item (game_at (work_state state w) f) (game_at (work_state state w) k) ∷ []) r (ap (λ z. item z ∷ []) sums_same) m)
+
+  pub later_stands : {Q : Type 0} (t : State Meant Q) (h : ℕ)
+      → StandsFor t h (can (sum (game_at (work_state state u) f) (game_at (work_state state u) k)))
+      → StandsFor t h (can (sum (game_at (work_state state w) f) (game_at (work_state state w) k)))
+  later_stands t h e = let P : Game → Type 0 = λ z. StandsFor t h (can z) in subst P sums_same e
+
+-- a handle that equals another stands for the same
+pub stands_as : {R : Type 0} (s : State Meant R) (a b : ℕ) (g : Game) → a ≡ b → StandsFor s b g → StandsFor s a g
+stands_as s a b g e h = let P : ℕ → Type 0 = λ z. StandsFor s z g in subst P (sym e) h

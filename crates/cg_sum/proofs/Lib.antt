@@ -1,0 +1,11 @@
+pub mod Sums
+pub mod Positions
+pub mod OptionSteps
+pub mod Members
+pub mod SumSteps
+pub mod MadeSteps
+pub mod ItemSteps
+pub mod RowSteps
+pub mod SumEnds
+pub mod NegativeSteps
+pub mod MultipleSteps

@@ -1,0 +1,207 @@
+-- The own list of a sum, whole or too long, and the sum at its end.
+use Rattle.std.proofs.Common.{◌≡◌, ◌⊎◌, inl, inr, ℕ, suc, ◌*◌, ◌≤◌, ◌<◌, arith, refl, ap, sym, ◌∙◌, subst, List, [], ◌∷◌, length, Some, None, Bool, true, false, Result, Err}
+use Rattle.std.specs.Prelude.{IfErr, nat_lt, if◌then◌else◌}
+use Rattle.std.proofs.lemmas.Bool.Decides.{nat_tests}
+use Rattle.std.proofs.Math.Nat.{mul-le-mul_left}
+use Rattle.cg_canon.proofs.ItemLaws.{refused-one}
+use Rattle.cg_canon.specs.Items.{Item, WasRefused, too_many}
+use Rattle.cg_canon.specs.Works.{WorkOf, work_state}
+use Rattle.cg_canon.specs.declared.fault.ValueFault.{ValueFault}
+use Rattle.cg_canon.specs.declared.fault.ValueFault.TheVariants.{Memory, Positions}
+use Rattle.cg_cells.specs.Meaning.{Grows, Has, IsInjective}
+use Rattle.cg_cells.specs.Store.{Spends, State, thing_at}
+use Rattle.cg_form.specs.Game.{Among, Game}
+use Rattle.cg_form.specs.Sum.{sum}
+use Rattle.cg_nodes.proofs.Later.{game_later, stands_later}
+use Rattle.cg_nodes.specs.Games.{IsGame, StandFor, StandsFor, game_at, games_at}
+use Rattle.cg_nodes.specs.Meant.{Meant, form}
+use Rattle.cg_nodes.specs.Positions.{positions_of}
+use Rattle.cg_nodes.specs.Spelled.{can}
+use Rattle.cg_sum.specs.Finds.{sum_found}
+use Rattle.cg_sum.specs.Lists.{pair_items, sum_items, within_limit}
+use Rattle.cg_sum.specs.Made.{ItemsMade}
+use Rattle.cg_sum.specs.Progress.{HoldsSums}
+use Rattle.cg_sum.specs.Written.{IsClosed}
+use Rattle.cg_sum.specs.declared.found.Sums.{Sums}
+use Rattle.cg_sum.proofs.MadeSteps.{made_as, read_then}
+use Rattle.cg_sum.proofs.Members.{among_has}
+use Rattle.cg_sum.proofs.Positions.{positions-closed, positions-own}
+
+-- ---- within the limit or not
+
+pub is_above : (a b : ℕ) → a < b → nat_lt a b ≡ true
+is_above a b h = grind (arith, nat_tests)
+
+pub not_above : (a b : ℕ) → b ≤ a → nat_lt a b ≡ false
+not_above a b h = grind (arith, nat_tests)
+
+pub all_within : (limit count : ℕ) (items : List Item) → count ≤ limit → within_limit limit count items ≡ items
+all_within limit count items h = ap (λ b. if b then too_many ∷ [] else items) (not_above limit count h)
+
+pub too_long : (limit count : ℕ) (items : List Item) → limit < count → within_limit limit count items ≡ too_many ∷ []
+too_long limit count items h = ap (λ b. if b then too_many ∷ [] else items) (is_above limit count h)
+
+-- the refusal of a list that is too long, or want of memory
+pub limit_refused : (fault : ValueFault) (share spent after limit count : ℕ) (items : List Item) → after ≡ spent
+    → (fault ≡ Memory) ⊎ ((fault ≡ Positions) × (limit < count))
+    → WasRefused fault share spent (within_limit limit count items) after
+limit_refused fault share spent after limit count items e (inl memory) =
+    let P : ValueFault → Type 0 = λ z. WasRefused z share spent (within_limit limit count items) after in
+    subst P (sym memory) tt
+limit_refused fault share spent after limit count items e (inr (positions, above)) =
+    let P : ValueFault → Type 0 = λ z. WasRefused z share spent (within_limit limit count items) after in
+    let Q : List Item → Type 0 = λ z. WasRefused Positions share spent z after in
+    let V : ℕ → Type 0 = λ n. WasRefused Positions share spent (too_many ∷ []) n in
+    subst P (sym positions) (subst Q (sym (too_long limit count items above))
+    (subst V (sym e) (refused-one Positions share spent too_many [] tt)))
+
+pub err_refused : {T : Type 0} (q : Result T ValueFault) (fault : ValueFault) (share spent after : ℕ) (items : List Item)
+    → q ≡ Err fault → WasRefused fault share spent items after → IfErr q (λ f. WasRefused f share spent items after)
+err_refused q fault share spent after items e r =
+    let P : Result _ ValueFault → Type 0 = λ z. IfErr z (λ f. WasRefused f share spent items after) in subst P (sym e) r
+
+-- ---- positions
+
+among_some : (g : Game) (gs : List Game) → Among g gs → 1 ≤ length gs
+among_some g [] m = absurd m
+among_some g (h ∷ hs) m = omega arith
+
+pub some_position : (g : Game) → 1 ≤ length (positions_of g)
+some_position g = among_some g (positions_of g) (positions-own g)
+
+more_firsts : (limit m n : ℕ) → 1 ≤ n → limit < m → limit < m * n
+more_firsts limit m n one above =
+    let p : m * 1 ≤ m * n = mul-le-mul_left m one in omega (arith, p)
+
+more_seconds : (limit m n : ℕ) → 1 ≤ m → limit < n → limit < m * n
+more_seconds limit m n one above =
+    let p : n * 1 ≤ n * m = mul-le-mul_left n one in omega (arith, p)
+
+pub firsts_above : (limit : ℕ) (g h : Game) (fault : ValueFault)
+    → (fault ≡ Memory) ⊎ ((fault ≡ Positions) × (limit < length (positions_of g)))
+    → (fault ≡ Memory) ⊎ ((fault ≡ Positions) × (limit < length (positions_of g) * length (positions_of h)))
+firsts_above limit g h fault (inl e) = inl e
+firsts_above limit g h fault (inr (e, above)) =
+    inr (e, more_firsts limit (length (positions_of g)) (length (positions_of h)) (some_position h) above)
+
+pub seconds_above : (limit : ℕ) (g h : Game) (fault : ValueFault)
+    → (fault ≡ Memory) ⊎ ((fault ≡ Positions) × (limit < length (positions_of h)))
+    → (fault ≡ Memory) ⊎ ((fault ≡ Positions) × (limit < length (positions_of g) * length (positions_of h)))
+seconds_above limit g h fault (inl e) = inl e
+seconds_above limit g h fault (inr (e, above)) =
+    inr (e, more_seconds limit (length (positions_of g)) (length (positions_of h)) (some_position g) above)
+
+-- so many handles stand for the positions
+pub count_of : {R : Type 0} (s : State Meant R) (hs : List ℕ) (g : Game) → StandFor s hs (positions_of g)
+    → length hs ≡ length (positions_of g)
+count_of s hs g a = sym (length_games s hs) ∙ ap length a.1
+  where
+    length_games : {R : Type 0} (t : State Meant R) (ks : List ℕ) → length (games_at t ks) ≡ length ks
+    length_games t [] = refl
+    length_games t (k ∷ ks) = ap suc (length_games t ks)
+
+-- ---- the table at first
+
+pub holds_none : {R : Type 0} (s : State Meant R) (m : Sums) → ((a b : ℕ) → sum_found m a b ≡ None) → HoldsSums s m
+holds_none s m none_found = record {
+  first = λ a b h e. absurd (clash a b h e);
+  second = λ a b h e. absurd (clash a b h e);
+  sums = λ a b h e. absurd (clash a b h e);
+}
+  where
+    clash : (a b h : ℕ) → sum_found m a b ≡ Some h → ⊥
+    clash a b h e = differ h (sym (none_found a b) ∙ e)
+      where
+        differ : (x : ℕ) → None ≡ Some x → ⊥
+        differ x p = cc
+
+-- ---- both lists of positions, as slices
+
+module _ {R : Type 0} (s : State Meant R) (hs ps : List ℕ) (g : Game) (is : hs ≡ ps) (stand : StandFor s ps (positions_of g)) where
+  pub slice_stands : StandFor s hs (positions_of g)
+  slice_stands = let P : List ℕ → Type 0 = λ z. StandFor s z (positions_of g) in subst P (sym is) stand
+
+  pub slice_closed : IsClosed (games_at s hs)
+  slice_closed = let P : List Game → Type 0 = λ z. IsClosed z in subst P (sym slice_stands.1) (positions-closed g)
+
+  -- a handle of the game is among them, as it is known later
+  pub slice_has : {Q : Type 0} (t : State Meant Q) → Grows (thing_at s) (thing_at t) → IsInjective (thing_at t) → (a : ℕ)
+      → StandsFor t a g → Has hs a
+  slice_has t grows apart a e =
+      let P : List Game → Type 0 = λ z. Among g z in
+      let (p, here, st) = among_has s hs g slice_stands.0 (subst P (sym slice_stands.1) (positions-own g)) in
+      let Q : ℕ → Type 0 = λ z. Has hs z in
+      subst Q (apart p a (form g) (stands_later s t grows p g st) e) here
+
+-- ---- the end
+
+module _ {S R : Type 0} (state : S → State Meant R) (w v x : WorkOf S) (a b : ℕ) (fs ks : List ℕ)
+    (wv : Spends 0 (work_state state w) (work_state state v))
+    (firsts : games_at (work_state state v) fs ≡ positions_of (game_at (work_state state w) a))
+    (seconds : games_at (work_state state v) ks ≡ positions_of (game_at (work_state state w) b))
+    (within : length (positions_of (game_at (work_state state w) a)) * length (positions_of (game_at (work_state state w) b)) ≤ w.limit) where
+  pair_list : pair_items (games_at (work_state state v) fs) (games_at (work_state state v) ks)
+      ≡ sum_items w.limit (game_at (work_state state w) a) (game_at (work_state state w) b)
+  pair_list =
+      let g : Game = game_at (work_state state w) a in
+      let h : Game = game_at (work_state state w) b in
+      ap (λ z. pair_items z (games_at (work_state state v) ks)) firsts
+      ∙ (ap (λ z. pair_items (positions_of g) z) seconds
+      ∙ sym (all_within w.limit (length (positions_of g) * length (positions_of h)) (pair_items (positions_of g) (positions_of h)) within))
+
+  pub sum_made : {T : Type 0} (r : Result T ValueFault)
+      → ItemsMade state v x (pair_items (games_at (work_state state v) fs) (games_at (work_state state v) ks)) r
+      → ItemsMade state w x (sum_items w.limit (game_at (work_state state w) a) (game_at (work_state state w) b)) r
+  sum_made r m =
+      read_then state 0 w v x (sum_items w.limit (game_at (work_state state w) a) (game_at (work_state state w) b)) r wv
+      (made_as state v x (pair_items (games_at (work_state state v) fs) (games_at (work_state state v) ks))
+      (sum_items w.limit (game_at (work_state state w) a) (game_at (work_state state w) b)) r pair_list m)
+
+pub sum_stands : {R Q : Type 0} (s : State Meant R) (t : State Meant Q) → Grows (thing_at s) (thing_at t) → (m : Sums) → HoldsSums t m
+    → (a b h : ℕ) → IsGame s a → IsGame s b → sum_found m a b ≡ Some h → StandsFor t h (can (sum (game_at s a) (game_at s b)))
+sum_stands s t grows m holds a b h ga gb e =
+    let P : Game → Type 0 = λ z. StandsFor t h (can (sum z (game_at t b))) in
+    let Q : Game → Type 0 = λ z. StandsFor t h (can (sum (game_at s a) z)) in
+    subst Q (game_later s t grows b gb) (subst P (game_later s t grows a ga) (holds.sums a b h e))
+
+-- ---- the product of the two lengths
+
+pub product_above : (a b c d l k : ℕ) → a ≡ c → b ≡ d → l ≡ k → l < a * b → k < c * d
+product_above a b c d l k e f h above =
+    let P : ℕ → Type 0 = λ z. l < z * b in
+    let Q : ℕ → Type 0 = λ z. l < c * z in
+    let V : ℕ → Type 0 = λ z. z < c * d in
+    subst V h (subst Q f (subst P e above))
+
+pub product_within : (a b c d l k : ℕ) → a ≡ c → b ≡ d → l ≡ k → ¬ (l < a * b) → c * d ≤ k
+product_within a b c d l k e f h within =
+    let no_more : ¬ (k < c * d) = λ above. within (product_above c d a b k l (sym e) (sym f) (sym h) above) in
+    omega (arith, no_more)
+
+module _ {S R : Type 0} (state : S → State Meant R) (w v : WorkOf S) (n : ℕ) (wv : Spends n (work_state state w) (work_state state v)) where
+  pub same_spent : v.spent ≡ w.spent
+  same_spent = ap (λ r. r.spent) wv.rest
+
+  pub same_limit : v.limit ≡ w.limit
+  same_limit = ap (λ r. r.limit) wv.rest
+
+  -- the positions of a game, as the work was before
+  pub positions_before : (b : ℕ) → IsGame (work_state state w) b
+      → positions_of (game_at (work_state state v) b) ≡ positions_of (game_at (work_state state w) b)
+  positions_before b g = ap positions_of (game_later (work_state state w) (work_state state v) wv.known b g)
+
+  pub stands_before : {Q : Type 0} (t : State Meant Q) (b : ℕ) (hs : List ℕ) → IsGame (work_state state w) b
+      → StandFor t hs (positions_of (game_at (work_state state v) b)) → StandFor t hs (positions_of (game_at (work_state state w) b))
+  stands_before t b hs g a = let P : List Game → Type 0 = λ z. StandFor t hs z in subst P (positions_before b g) a
+
+  pub refusal_before : (b : ℕ) (fault : ValueFault) → IsGame (work_state state w) b
+      → (fault ≡ Memory) ⊎ ((fault ≡ Positions) × (v.limit < length (positions_of (game_at (work_state state v) b))))
+      → (fault ≡ Memory) ⊎ ((fault ≡ Positions) × (w.limit < length (positions_of (game_at (work_state state w) b))))
+  refusal_before b fault g (inl e) = inl e
+  refusal_before b fault g (inr (e, above)) =
+      let P : ℕ → Type 0 = λ z. z < length (positions_of (game_at (work_state state v) b)) in
+      let Q : List Game → Type 0 = λ z. w.limit < length z in
+      inr (e, subst Q (positions_before b g) (subst P same_limit above))
+
+pub false_true : (b : Bool) → b ≡ false → b ≡ true → ⊥
+false_true b e f = cc

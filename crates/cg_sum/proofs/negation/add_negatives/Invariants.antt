@@ -1,0 +1,7 @@
+use Rattle.std.proofs.Common.{take}
+use Rattle.cg_sum.proofs.NegativeSteps.{NegativesMade}
+use Rattle.cg_sum.proofs.negation.add_negatives.Given as goal
+
+abbrev pub invariant-loop-f : goal.invariant-loop-f
+invariant-loop-f g l =
+    NegativesMade g.S.CellStore.state l.initial.work l.work l.negatives (take l.f-index l.positions)

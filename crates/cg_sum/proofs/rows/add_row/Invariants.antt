@@ -1,0 +1,7 @@
+use Rattle.std.proofs.Common.{take}
+use Rattle.cg_sum.proofs.RowSteps.{RowMade}
+use Rattle.cg_sum.proofs.rows.add_row.Given as goal
+
+abbrev pub invariant-loop-k : goal.invariant-loop-k
+invariant-loop-k g l =
+    RowMade g.S.CellStore.state l.initial.work l.work l.initial.sums l.sums l.f (take l.k-index l.seconds) l.start

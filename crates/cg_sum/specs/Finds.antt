@@ -1,0 +1,23 @@
+-- What was found so far, by ids.
+use Rattle.std.specs.Prelude.{ℕ, Bool, Option, ◌==◌, ◌&&◌, nat_eq, unwrap_or}
+use Rattle.std.specs.HashMap.{get}
+use Rattle.cg_sum.specs.declared.found.Negatives.{Negatives}
+use Rattle.cg_sum.specs.declared.found.Sums.{Sums}
+
+abbrev pub pair_eq : ℕ × ℕ → ℕ × ℕ → Bool
+pair_eq p q = (p.0 == q.0) && (p.1 == q.1)
+
+-- the handle of the sum of the two
+abbrev pub sum_found : Sums → ℕ → ℕ → Option ℕ
+sum_found m a b = get pair_eq m.sums (a, b)
+
+-- the handle of the negative
+abbrev pub negative_found : Negatives → ℕ → Option ℕ
+negative_found m a = get nat_eq m.negatives a
+
+-- the handle of the sum that was found
+abbrev pub sum_handle : Sums → ℕ → ℕ → ℕ
+sum_handle m a b = unwrap_or (sum_found m a b) 0
+
+abbrev pub negative_handle : Negatives → ℕ → ℕ
+negative_handle m a = unwrap_or (negative_found m a) 0

@@ -1,0 +1,5 @@
+pub mod Written
+pub mod Lists
+pub mod Finds
+pub mod Progress
+pub mod Made

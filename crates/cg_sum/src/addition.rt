@@ -1,0 +1,103 @@
+//! The sum of the games of two handles.
+ghost use Rattle.std.specs.Prelude.{◌≡◌, ◌*◌, ◌≤◌, ◌<◌, ◌↔◌, IfErr, IfOk, IsTrue, OnOk, length};
+ghost use Rattle.cg_canon.specs.Items.{AllPass, WasRefused};
+ghost use Rattle.cg_canon.specs.Works.{Keeps, work_state};
+ghost use Rattle.cg_cells.specs.Store.{Spends};
+ghost use Rattle.cg_form.specs.Sum.{sum as sum_of};
+ghost use Rattle.cg_nodes.specs.Games.{IsGame, StandFor, StandsFor, game_at};
+ghost use Rattle.cg_nodes.specs.Positions.{positions_of};
+ghost use Rattle.cg_nodes.specs.Spelled.{can};
+ghost use Rattle.cg_sum.specs.Lists.{sum_items};
+
+use crate::found::Sums;
+use crate::limits::positions_within;
+use crate::rows::add_rows;
+use cg_canon::{ValueFault, Work};
+use cg_cells::CellStore;
+use cg_nodes::{BoardForms, GameFacts, Handle, Handles};
+use std::alloc::Global;
+
+/// The handle of the canonical form of a + b, where G + H = {A + H, G + C | B + H, G + D} over the Left
+/// options A and C and the Right options B and D of G and H (Siegel, Combinatorial Game Theory (2013),
+/// I.1).
+///
+/// It makes the items of f + k for each position f of a, in the outer loop, and each position k of b, in
+/// the inner loop. Such an item costs 1 more than the form. `Positions` comes exactly where there are more
+/// such pairs than the limit, and nothing is made then. `Range`, `Depth` and `Full` come exactly where the
+/// first item that isn't made is refused so; what the items before it cost is spent. No difference is made
+/// in order to compare.
+pub fn sum<B: BoardForms, S: CellStore<GameFacts<B>>>(
+    alloc: Global,
+    work: &mut Work<B, S>,
+    a: Handle,
+    b: Handle,
+) -> Result<Handle, ValueFault>
+    requires a { IsGame (work_state S.state work.old) a }
+    requires b { IsGame (work_state S.state work.old) b }
+    ensures game { let W = work_state S.state work.old in IfOk result (λ h. StandsFor (work_state S.state work.new) h
+        (can (sum_of (game_at W a) (game_at W b)))) }
+    ensures charged { let W = work_state S.state work.old in OnOk result (AllPass work.old.share work.old.spent
+        (sum_items work.old.limit (game_at W a) (game_at W b)) work.new.spent) }
+    ensures refused { let W = work_state S.state work.old in IfErr result (λ fault. WasRefused fault work.old.share
+        work.old.spent (sum_items work.old.limit (game_at W a) (game_at W b)) work.new.spent) }
+    ensures spare { (work_state S.state work.old).spare ≤ (work_state S.state work.new).spare }
+    ensures keeps { Keeps (work_state S.state work.old) (work_state S.state work.new) }
+{
+    let both = both_positions(alloc, work, a, b)?;
+    let start = work.spare();
+    let mut sums = Sums::new(alloc);
+    add_rows(
+        alloc,
+        work,
+        both.firsts.as_slice(),
+        both.seconds.as_slice(),
+        &mut sums,
+        start,
+    )?;
+    work.apart();
+    let Some(sum) = sums.get(a, b) else {
+        unreachable!()
+    };
+    Ok(sum)
+}
+
+// The positions of two games.
+#[derive(Drop)]
+struct Both {
+    firsts: Handles,
+    seconds: Handles,
+}
+
+// The positions of both games, unless there are more pairs of them than the limit.
+fn both_positions<B: BoardForms, S: CellStore<GameFacts<B>>>(
+    alloc: Global,
+    work: &mut Work<B, S>,
+    a: Handle,
+    b: Handle,
+) -> Result<Both, ValueFault>
+    requires a { IsGame (work_state S.state work.old) a }
+    requires b { IsGame (work_state S.state work.old) b }
+    ensures firsts { IfOk result (λ both. StandFor (work_state S.state work.new) both.firsts
+        (positions_of (game_at (work_state S.state work.old) a))) }
+    ensures seconds { IfOk result (λ both. StandFor (work_state S.state work.new) both.seconds
+        (positions_of (game_at (work_state S.state work.old) b))) }
+    ensures within { OnOk result (length (positions_of (game_at (work_state S.state work.old) a))
+        * length (positions_of (game_at (work_state S.state work.old) b)) ≤ work.old.limit) }
+    ensures refused { let W = work_state S.state work.old in IfErr result (λ fault. WasRefused fault work.old.share
+        work.old.spent (sum_items work.old.limit (game_at W a) (game_at W b)) work.new.spent) }
+    ensures spends { Spends 0 (work_state S.state work.old) (work_state S.state work.new) }
+{
+    let firsts = positions_within(alloc, work, a)?;
+    let seconds = positions_within(alloc, work, b)?;
+    if is_product_above(firsts.len(), seconds.len(), work.limit()) {
+        return Err(ValueFault::Positions);
+    }
+    Ok(Both { firsts, seconds })
+}
+
+// Whether m * n is above the limit.
+fn is_product_above(m: usize, n: usize, limit: u64) -> bool
+    ensures { IsTrue result ↔ (limit < m * n) }
+{
+    (m as u128) * (n as u128) > limit as u128
+}

@@ -1,0 +1,123 @@
+//! The options of a sum, which are sums that were made before.
+ghost use Rattle.std.specs.Prelude.{◌≡◌, ◌⊎◌, ℕ, ◌++◌, IfOk, IsSome, map};
+ghost use Rattle.cg_cells.specs.Meaning.{Has};
+ghost use Rattle.cg_cells.specs.Store.{Spends};
+ghost use Rattle.cg_form.specs.Game.{node};
+ghost use Rattle.cg_form.specs.Sum.{sum};
+ghost use Rattle.cg_nodes.specs.Games.{AreGames, IsGame, IsNode, game_at, games_at};
+ghost use Rattle.cg_nodes.specs.Spelled.{can};
+ghost use Rattle.cg_sum.specs.Finds.{sum_found, sum_handle};
+ghost use Rattle.cg_sum.specs.Progress.{HoldsSums, OptionsFound};
+
+use crate::found::Sums;
+use crate::written::written_options;
+use cg_cells::CellStore;
+use cg_nodes::{BoardForms, GameFacts, Handle, Handles, Sides};
+use std::alloc::{AllocError, Global};
+
+/// Games whose canonical form is that of f + k, as Left and Right options: the sums of the written options
+/// of the two, which were made before. One of the two must be no number, so x + G is made of the sums of x
+/// and the options of G alone (Siegel, Combinatorial Game Theory (2013), II.3: the Number Translation
+/// Theorem). The only error is want of memory.
+pub(crate) fn sides_of_sum<B: BoardForms, S: CellStore<GameFacts<B>>>(
+    alloc: Global,
+    store: &mut S,
+    f: Handle,
+    k: Handle,
+    sums: &Sums,
+) -> Result<Sides, AllocError>
+    requires f { IsGame (S.state store.old) f }
+    requires k { IsGame (S.state store.old) k }
+    requires node { IsNode (game_at (S.state store.old) f) ⊎ IsNode (game_at (S.state store.old) k) }
+    requires holds { HoldsSums (S.state store.old) sums.now }
+    requires found { OptionsFound (S.state store.old) sums.now f k }
+    ensures lefts { IfOk result (λ sides. AreGames (S.state store.new) sides.lefts) }
+    ensures rights { IfOk result (λ sides. AreGames (S.state store.new) sides.rights) }
+    ensures sum { IfOk result (λ sides.
+        can (node (games_at (S.state store.new) sides.lefts) (games_at (S.state store.new) sides.rights))
+        ≡ can (sum (game_at (S.state store.old) f) (game_at (S.state store.old) k))) }
+    ensures spends { Spends 0 (S.state store.old) (S.state store.new) }
+{
+    let first = written_options(alloc, store, f)?;
+    let second = written_options(alloc, store, k)?;
+    store.apart();
+    let lefts = option_sums(
+        alloc,
+        sums,
+        first.lefts.as_slice(),
+        k,
+        f,
+        second.lefts.as_slice(),
+    )?;
+    let rights = option_sums(
+        alloc,
+        sums,
+        first.rights.as_slice(),
+        k,
+        f,
+        second.rights.as_slice(),
+    )?;
+    Ok(Sides {
+        lefts: Handles::of(lefts),
+        rights: Handles::of(rights),
+    })
+}
+
+// The handles of the sums of each of `firsts` and k, then those of f and each of `seconds`, all of which
+// must have been found.
+fn option_sums(
+    alloc: Global,
+    sums: &Sums,
+    firsts: &[Handle],
+    k: Handle,
+    f: Handle,
+    seconds: &[Handle],
+) -> Result<Vec<Handle>, AllocError>
+    requires firsts { (p : ℕ) → Has firsts.now p → IsSome (sum_found sums.now p k) }
+    requires seconds { (q : ℕ) → Has seconds.now q → IsSome (sum_found sums.now f q) }
+    ensures { IfOk result (λ all. all.items ≡ map (λ p. sum_handle sums.now p k) firsts.now
+        ++ map (λ q. sum_handle sums.now f q) seconds.now) }
+{
+    let mut all = Vec::new(alloc);
+    add_firsts(sums, firsts, k, &mut all)?;
+    add_seconds(sums, f, seconds, &mut all)?;
+    Ok(all)
+}
+
+// Adds the handles of the sums of each of `firsts` and k.
+fn add_firsts(
+    sums: &Sums,
+    firsts: &[Handle],
+    k: Handle,
+    all: &mut Vec<Handle>,
+) -> Result<(), AllocError>
+    requires { (p : ℕ) → Has firsts.now p → IsSome (sum_found sums.now p k) }
+    ensures { IfOk result (λ _. all.new.items ≡ all.old.items ++ map (λ p. sum_handle sums.now p k) firsts.now) }
+{
+    for first in firsts {
+        let Some(sum) = sums.get(*first, k) else {
+            unreachable!()
+        };
+        all.push(sum)?;
+    }
+    Ok(())
+}
+
+// Adds the handles of the sums of f and each of `seconds`.
+fn add_seconds(
+    sums: &Sums,
+    f: Handle,
+    seconds: &[Handle],
+    all: &mut Vec<Handle>,
+) -> Result<(), AllocError>
+    requires { (q : ℕ) → Has seconds.now q → IsSome (sum_found sums.now f q) }
+    ensures { IfOk result (λ _. all.new.items ≡ all.old.items ++ map (λ q. sum_handle sums.now f q) seconds.now) }
+{
+    for second in seconds {
+        let Some(sum) = sums.get(f, *second) else {
+            unreachable!()
+        };
+        all.push(sum)?;
+    }
+    Ok(())
+}

@@ -1,0 +1,22 @@
+//! Sums, negatives and multiples on handles of a store, with exact costs.
+//!
+//! Each call makes a list of items, forms with their costs, in order, and stops at the first that is
+//! refused: [`sum`] the sums of all pairs of positions, [`negative`] the negatives of all positions,
+//! [`multiple`] the sums of its steps. A sum is noted on the cell of its pair, so that a second sum of the
+//! same two positions takes the note; the charge is the same.
+#![tactic(auto)]
+
+mod addition;
+mod found;
+mod gather;
+mod item;
+mod limits;
+mod multiples;
+mod negation;
+mod pairs;
+mod rows;
+mod written;
+
+pub use addition::sum;
+pub use multiples::multiple;
+pub use negation::negative;
