@@ -2,6 +2,7 @@
 #![tactic(auto)]
 
 use cg_io::{StdinSource, StdoutSink};
+use cg_pool::NoGate;
 use std::alloc::Global;
 use std::process::ExitCode;
 use std::{env, io};
@@ -34,6 +35,15 @@ fn main(rt: HostRuntime) -> ExitCode {
     };
     let mut source = StdinSource::new(rt.reader());
     let mut sink = StdoutSink::new(io::writer(&rt));
-    let status = cg_session::run(alloc, &words, &mut source, &mut sink);
+    let mut kept = None;
+    let status = cg_session::run(
+        &rt,
+        alloc,
+        &words,
+        &mut source,
+        &mut sink,
+        &NoGate,
+        &mut kept,
+    );
     ExitCode::from(status.code())
 }

@@ -1,12 +1,12 @@
 -- The whole compared with the games of handles.
-use Rattle.std.proofs.Common.{◌≡◌, refl, ℕ, zero, suc, ◌+◌, ◌*◌, ◌<◌, ◌≤◌, ◌⊎◌, inl, inr, arith, ap, sym, ◌∙◌, subst, Option, Some, None, List, [], ◌∷◌, ◌++◌, take, get_or, length, Bool, true, false, not, ◌&&◌, cond, IsTrue}
-use Rattle.cg_form.specs.Canonical.{Canonical}
-use Rattle.cg_form.specs.Game.{Among, Game, lefts, node, rights}
+use Rattle.std.proofs.Common.{◌≡◌, refl, ℕ, zero, suc, ◌+◌, ◌*◌, ◌<◌, ◌⊎◌, inl, inr, arith, ap, sym, ◌∙◌, subst, Option, Some, List, [], ◌∷◌, ◌++◌, take, get_or, length, Bool, true, false, not, ◌&&◌, cond}
+use Rattle.cg_form.specs.Game.{Game, lefts, node, rights}
 use Rattle.cg_form.specs.Order.{no_one}
 use Rattle.cg_form.specs.Side.{at_most, chosen, far, near}
 use Rattle.cg_form.specs.Simple.{NoNumber}
 use Rattle.cg_form.specs.Size.{list_size, size}
 use Rattle.cg_form.proofs.Among.{lefts-node, rights-node}
+use Rattle.cg_dyadic.proofs.Truth.{and_swap}
 use Rattle.cg_form.proofs.Order.{le-options}
 use Rattle.cg_form.proofs.Sides.{far-node, near-node}
 use Rattle.cg_cells.specs.Store.{Spends, State}
@@ -18,7 +18,7 @@ use Rattle.cg_canon.specs.declared.whole.Whole.{Whole}
 use Rattle.cg_canon.specs.Profiles.{IsProfile}
 use Rattle.cg_canon.specs.Verdict.{verdict}
 use Rattle.cg_canon.specs.Wholes.{WholeHolds, whole_game}
-use Rattle.cg_canon.proofs.Outlining.{games_take_all, games_take_suc}
+use Rattle.cg_canon.proofs.Outlining.{games_take_suc}
 use Rattle.cg_canon.proofs.Profiling.{no_one-last}
 
 -- ---- a search through a slice
@@ -177,12 +177,6 @@ module _ {R : Type 0} where
       (one_side s t h ls rs (not left) l r e k))
 
 -- ---- the order by sides
-
-and_swap : (b c : Bool) → (b && c) ≡ (c && b)
-and_swap true true = refl
-and_swap true false = refl
-and_swap false true = refl
-and_swap false false = refl
 
 pub side_options : (left : Bool) (h g : Game)
     → at_most left h g ≡ (no_one (λ b. at_most left b h) (far left g) && no_one (λ a. at_most (not left) a g) (near left h))

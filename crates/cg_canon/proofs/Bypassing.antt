@@ -1,5 +1,7 @@
 -- Bypassing reversible options, one after the other.
-use Rattle.std.proofs.Common.{◌≡◌, refl, ℕ, zero, suc, ◌+◌, ◌*◌, ◌<◌, arith, inl, inr, ap, sym, ◌∙◌, subst, Option, Some, List, [], ◌∷◌, ◌++◌, take, get_or, length, Bool, true, false, cond, IsTrue}
+use Rattle.std.proofs.Common.{◌≡◌, refl, ℕ, zero, suc, ◌+◌, ◌<◌, arith, inl, inr, ap, sym, ◌∙◌, subst, Option, Some, List, [], ◌∷◌, ◌++◌, take, get_or, length, Bool, true, false, true≢false, ◌==◌, cond, IsTrue}
+use Rattle.std.specs.Prelude.{if◌then◌else◌}
+use Rattle.std.proofs.lemmas.Bool.Decides.{eqb_tells}
 use Rattle.cg_dyadic.specs.Number.{Number}
 use Rattle.cg_dyadic.proofs.Truth.{differ}
 use Rattle.cg_form.specs.Bypass.{AllCovered, Covered, Fine, Grown, bypassed, kept, under}
@@ -13,7 +15,7 @@ use Rattle.cg_form.proofs.Among.{among-append, among-append_left, among-append_r
 use Rattle.cg_form.proofs.Bypass.{covered_more}
 use Rattle.cg_form.proofs.BypassSteps.{grown_trans}
 use Rattle.cg_form.proofs.Order.{no_one-each}
-use Rattle.cg_form.proofs.Sides.{near_number, not_near, side_trans}
+use Rattle.cg_form.proofs.Sides.{near_number, not_both, not_near, side_trans}
 use Rattle.cg_cells.specs.Store.{Spends, State}
 use Rattle.cg_nodes.specs.declared.reading.Split.{Split}
 use Rattle.cg_nodes.specs.Games.{AreGames, IsGame, IsHead, IsList, game_at, games_at, listed}
@@ -22,6 +24,8 @@ use Rattle.cg_nodes.proofs.Later.{are_games_later, game_later, games_later, is_g
 use Rattle.cg_nodes.proofs.Lists.{are_games-append, games_at-append}
 use Rattle.cg_canon.specs.declared.whole.Verdicts.{Verdicts}
 use Rattle.cg_canon.specs.declared.whole.Whole.{Whole}
+use Rattle.cg_canon.specs.declared.substitutes.Substitutes.{Substitutes}
+use Rattle.cg_canon.specs.Passed.{AreSubstitutes, was_passed}
 use Rattle.cg_canon.specs.Wholes.{WholeHolds, whole_game}
 use Rattle.cg_canon.proofs.Against.{whole_same}
 use Rattle.cg_canon.proofs.Outlining.{Done, done_all, done_more, done_none, game_of_item, games_take_suc}
@@ -42,10 +46,6 @@ stays_fine s g h c n never = record {
 }
 
 -- a number through which an option is reversible
-not_both : (s : Bool) (g : Game) (x : Number) → NoNumber g → AtMost s (number x) g → ¬ AtMost s g (number x)
-not_both true g x n p q = n x (p, q)
-not_both false g x n p q = n x (q, p)
-
 pub through_fine : (s : Bool) (g h : Game) (x : Number) → h ≡ number x → NoNumber g → AtMost s h g → Fine s g h
 through_fine s g h x e never l =
     let P : Game → Type 0 = λ z. AtMost s z g in
@@ -82,7 +82,7 @@ grown_last s g x gs f = record {
   ];
 }
 
-grown_same : (s : Bool) (g : Game) (gs : List Game) → Grown s g gs gs
+pub grown_same : (s : Bool) (g : Game) (gs : List Game) → Grown s g gs gs
 grown_same s g gs = record { keeps = λ x m. m; fine = λ x m. inl m }
 
 -- the handle is put at the end of the list; s before and t after
@@ -111,6 +111,36 @@ pushed_one s t left g os rs h k a b e f =
 
 pub last_covered : (s : Bool) (g x : Game) (us : List Game) → Among x us → Covered s g us x
 last_covered s g x us m = kept m
+
+-- ---- options in whose places others stand
+
+pub no_substitutes : {R : Type 0} (s : State Meant R) (left : Bool) (g : Game) (o : Substitutes) → o.items.items ≡ []
+    → ((id : ℕ) → was_passed o id ≡ false) → AreSubstitutes s left g o
+no_substitutes s left g o e none =
+    let P : List ℕ → Type 0 = λ z. AreGames s z in
+    record { games = subst P (sym e) tt; passed = λ id p. absurd (true≢false (sym p ∙ none id)) }
+
+passed_one : {R : Type 0} (s : State Meant R) (left : Bool) (g : Game) (o r : Substitutes) (x : ℕ) → AreSubstitutes s left g o
+    → IsGame s x → Covered left g (games_at s o.items.items) (game_at s x) → r.items.items ≡ o.items.items
+    → ((id : ℕ) → was_passed r id ≡ (if x == id then true else was_passed o id)) → AreSubstitutes s left g r
+passed_one s left g o r x h known c e updates =
+    let P : List ℕ → Type 0 = λ z. AreGames s z in
+    record { games = subst P (sym e) h.games; passed = one }
+  where
+    one : (id : ℕ) → was_passed r id ≡ true → IsGame s id × Covered left g (games_at s r.items.items) (game_at s id)
+    one id p =
+        let Q : List ℕ → Type 0 = λ z. Covered left g (games_at s z) (game_at s id) in
+        elim (eqb_tells x id) [
+          | inl there ↦ (
+              let V : ℕ → Type 0 = λ z. IsGame s z in
+              let U : ℕ → Type 0 = λ z. Covered left g (games_at s o.items.items) (game_at s z) in
+              (subst V there.1 known, subst Q (sym e) (subst U there.1 c)))
+          | inr other ↦ (
+              let off : (if x == id then true else was_passed o id) ≡ was_passed o id =
+              ap (λ (b : Bool). if b then true else was_passed o id) other.0 in
+              let (before, covers) = h.passed id (sym off ∙ sym (updates id) ∙ p) in
+              (before, subst Q (sym e) covers))
+        ]
 
 -- ---- what is said of a later state
 
@@ -149,6 +179,52 @@ module _ {R : Type 0} (s t : State Meant R) (w : Whole) (v : Verdicts) (holds : 
       → EachLess left (whole_game t w) gs
   each_less_later left gs h =
       let P : Game → Type 0 = λ z. EachLess left z gs in subst P (sym (whole_same 0 s t w v holds k)) h
+
+  covered_later : (left : Bool) (us : List Game) (a : Game) → Covered left (whole_game s w) us a
+      → Covered left (whole_game t w) us a
+  covered_later left us a h =
+      let P : Game → Type 0 = λ z. Covered left z us a in subst P (sym (whole_same 0 s t w v holds k)) h
+
+  -- more items cover what the items covered
+  substitutes_later : (left : Bool) (o r : Substitutes) → AreSubstitutes s left (whole_game s w) o
+      → AreGames t r.items.items
+      → ((x : Game) → Among x (games_at s o.items.items) → Among x (games_at t r.items.items))
+      → ((id : ℕ) → was_passed r id ≡ true → was_passed o id ≡ true) → AreSubstitutes t left (whole_game t w) r
+  substitutes_later left o r h games keeps back = record {
+    games = games;
+    passed = λ id p.
+        let (known, c) = h.passed id (back id p) in
+        let more = covered_more left (whole_game s w) (games_at s o.items.items) (games_at t r.items.items) (game_at s id) keeps c in
+        let P : Game → Type 0 = λ z. Covered left (whole_game t w) (games_at t r.items.items) z in (
+          is_game_later s t k.known id known,
+          subst P (sym (game_later s t k.known id known)) (covered_later left (games_at t r.items.items) (game_at s id) more),
+        );
+  }
+
+  pub still_substitutes : (left : Bool) (o : Substitutes) → AreSubstitutes s left (whole_game s w) o
+      → AreSubstitutes t left (whole_game t w) o
+  still_substitutes left o h =
+      substitutes_later left o o h (are_games_later s t k.known o.items.items h.games)
+      (λ x m. carry x (games_at s o.items.items) (games_at t o.items.items) (sym (games_later s t k.known o.items.items h.games)) m)
+      (λ id p. p)
+
+  -- with one handle more
+  pub more_substitutes : (left : Bool) (o r : Substitutes) (x : ℕ) → AreSubstitutes s left (whole_game s w) o
+      → IsGame s x → r.items.items ≡ o.items.items ++ x ∷ [] → ((id : ℕ) → was_passed r id ≡ was_passed o id)
+      → Fine left (whole_game s w) (game_at s x) → AreSubstitutes t left (whole_game t w) r
+  more_substitutes left o r x h known e same fine =
+      let p = pushed_one s t left (whole_game s w) o.items.items r.items.items x k h.games known e fine in
+      substitutes_later left o r h p.games p.grown.keeps (λ id q. sym (same id) ∙ q)
+
+  -- which cover an option that is passed now
+  pub passing_substitutes : (left : Bool) (o r : Substitutes) (x : ℕ) → AreSubstitutes t left (whole_game t w) o → IsGame s x
+      → Covered left (whole_game s w) (games_at t o.items.items) (game_at s x) → r.items.items ≡ o.items.items
+      → ((id : ℕ) → was_passed r id ≡ (if x == id then true else was_passed o id))
+      → AreSubstitutes t left (whole_game t w) r
+  passing_substitutes left o r x h known c e updates =
+      let P : Game → Type 0 = λ z. Covered left (whole_game t w) (games_at t o.items.items) z in
+      passed_one t left (whole_game t w) o r x h (is_game_later s t k.known x known)
+      (subst P (sym (game_later s t k.known x known)) (covered_later left (games_at t o.items.items) (game_at s x) c)) e updates
 
 -- ---- over a list in cells
 

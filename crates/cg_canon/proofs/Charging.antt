@@ -1,20 +1,20 @@
 -- Items that are charged or refused, and the cells that a charge pays for.
-use Rattle.std.proofs.Common.{◌≡◌, refl, ℕ, ◌+◌, ◌<◌, ◌≤◌, arith, ap, sym, ◌∙◌, subst, Option, Some, None, List, [], ◌∷◌, length, map}
-use Rattle.std.specs.Prelude.{Result, Ok, Err, IfOk, IfErr, OnOk, OnErr}
+use Rattle.std.proofs.Common.{◌≡◌, ℕ, ◌+◌, ◌<◌, ◌≤◌, arith, ap, sym, ◌∙◌, subst, Option, Some, None, List, [], ◌∷◌, length}
+use Rattle.std.specs.Prelude.{Result, Ok, Err, IfErr, OnOk, OnErr}
 use Rattle.cg_dyadic.specs.Number.{InRange, Number}
 use Rattle.cg_form.specs.Canonical.{Canonical}
-use Rattle.cg_form.specs.Depth.{depth_of}
-use Rattle.cg_form.specs.Game.{Game, lefts, node, number, rights}
+use Rattle.cg_form.specs.Game.{Game, node, number}
 use Rattle.cg_form.proofs.Among.{lefts-node, rights-node}
 use Rattle.cg_cells.specs.Meaning.{Grows}
 use Rattle.cg_cells.specs.Store.{Spends, State, thing_at}
-use Rattle.cg_nodes.specs.Games.{AreGames, IsList, ListsAs, StandsFor, games_at, listed}
+use Rattle.cg_nodes.specs.Games.{AreGames, ListsAs, games_at, listed}
 use Rattle.cg_nodes.specs.Meant.{Meant}
+use Rattle.cg_nodes.proofs.Members.{length_games}
 use Rattle.cg_nodes.proofs.Later.{are_games_later, games_later, listed_as, lists_later}
 use Rattle.cg_canon.specs.declared.fault.ValueFault.{ValueFault}
 use Rattle.cg_canon.specs.declared.fault.ValueFault.TheVariants.{Depth, Full, Range}
 use Rattle.cg_canon.specs.declared.profile.Profile.{Profile}
-use Rattle.cg_canon.specs.Items.{AllPass, IsStopped, WasRefused, cost_of, item_cost, made}
+use Rattle.cg_canon.specs.Items.{AllPass, IsStopped, WasRefused, item_cost, made}
 use Rattle.cg_canon.specs.NumberItems.{number_made}
 use Rattle.cg_canon.specs.Profiles.{IsProfile}
 use Rattle.cg_canon.proofs.ItemLaws.{all_pass-after, refused-one, stopped-one}
@@ -60,17 +60,13 @@ none_given (Some y) extra share spent e = cc
 pub known_grows : {R Q : Type 0} (s : State Meant R) (t : State Meant Q) → t.known ≡ s.known → Grows (thing_at s) (thing_at t)
 known_grows s t e i x h = rw e h
 
-length-map_games : {A : Type 0} (f : A → Game) (xs : List A) → length (map f xs) ≡ length xs
-length-map_games f [] = refl
-length-map_games f (x ∷ xs) = omega (arith, length-map_games f xs)
-
 pub cost_of_lists : {R : Type 0} (s : State Meant R) (ls rs : List ℕ) (p : Profile)
     → IsProfile (node (games_at s ls) (games_at s rs)) p → p.cost ≡ 1 + length ls + length rs
 cost_of_lists s ls rs p h =
     let a = ap length (lefts-node (games_at s ls) (games_at s rs)) in
     let b = ap length (rights-node (games_at s ls) (games_at s rs)) in
-    let c : length (games_at s ls) ≡ length ls = length-map_games _ ls in
-    let d : length (games_at s rs) ≡ length rs = length-map_games _ rs in
+    let c : length (games_at s ls) ≡ length ls = length_games s ls in
+    let d : length (games_at s rs) ≡ length rs = length_games s rs in
     let e = h.cost in
     omega arith
 

@@ -1,10 +1,10 @@
 -- The steps of a comparison.
-use Rattle.std.proofs.Common.{◌≡◌, refl, ℕ, ap, sym, ◌∙◌, subst, List, Bool, true, false, ◌&&◌, IsTrue, IfOk}
+use Rattle.std.proofs.Common.{◌≡◌, ℕ, ap, sym, ◌∙◌, subst, List, Bool, true, false, ◌&&◌, IfOk}
 use Rattle.std.specs.Prelude.{Result, Ok, Err}
 use Rattle.cg_dyadic.specs.Number.{Number, number_le}
 use Rattle.cg_dyadic.proofs.Truth.{differ, false-from}
 use Rattle.cg_form.specs.Canonical.{Canonical}
-use Rattle.cg_form.specs.Game.{Among, Game, lefts, node, number, rights}
+use Rattle.cg_form.specs.Game.{Among, Game, lefts, node, number}
 use Rattle.cg_form.specs.Order.{Le, le, no_one}
 use Rattle.cg_form.specs.Side.{at_most}
 use Rattle.cg_form.proofs.Among.{lefts-node, rights-node}

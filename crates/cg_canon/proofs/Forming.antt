@@ -1,15 +1,14 @@
 -- The canonical form of a whole.
-use Rattle.std.proofs.Common.{◌≡◌, refl, ℕ, inl, inr, ap, sym, ◌∙◌, subst, Option, None, Some, List, [], Bool, true, false, cond}
+use Rattle.std.proofs.Common.{◌≡◌, ℕ, inl, inr, ap, sym, ◌∙◌, subst, Option, None, Some, List, [], Bool, true, false, cond}
 use Rattle.cg_dyadic.specs.Cut.{in_gap}
-use Rattle.cg_dyadic.specs.Number.{InRange, Number}
+use Rattle.cg_dyadic.specs.Number.{Number}
 use Rattle.cg_dyadic.specs.Simplest.{NoOptionPasses, NonePasses}
 use Rattle.cg_dyadic.specs.declared.cut.Cut.{Cut}
 use Rattle.cg_form.specs.Best.{Best}
 use Rattle.cg_form.specs.Bypass.{AllCovered, Grown, Replaces}
-use Rattle.cg_form.specs.Canonical.{Canonical, IsCanonicalForm}
+use Rattle.cg_form.specs.Canonical.{Canonical}
 use Rattle.cg_form.specs.Cut.{AnyNumber, CutOf}
 use Rattle.cg_form.specs.Game.{Game, node, number}
-use Rattle.cg_form.specs.Order.{Equal}
 use Rattle.cg_form.specs.Simple.{NoNumber}
 use Rattle.cg_form.proofs.Cut.{any-closed}
 use Rattle.cg_form.proofs.CutSteps.{gap_misses, gap_value}
@@ -24,7 +23,6 @@ use Rattle.cg_nodes.specs.Meant.{Meant}
 use Rattle.cg_nodes.specs.Spelled.{can}
 use Rattle.cg_nodes.proofs.Later.{are_games_later, games_later}
 use Rattle.cg_canon.specs.declared.profile.Outline.{Outline}
-use Rattle.cg_canon.specs.declared.profile.Profile.{Profile}
 use Rattle.cg_canon.specs.declared.whole.Verdicts.{Verdicts}
 use Rattle.cg_canon.specs.declared.whole.Whole.{Whole}
 use Rattle.cg_canon.specs.Profiles.{IsOutline, IsProfile}

@@ -1,10 +1,10 @@
 -- What a work keeps, as its store and its memo change.
-use Rattle.std.proofs.Common.{◌≡◌, refl, ℕ, ◌+◌, ◌-◌, ◌≤◌, arith, inl, inr, ap, sym, ◌∙◌, subst, Bool, true, false, Option, Some, None}
+use Rattle.std.proofs.Common.{◌≡◌, refl, ℕ, ◌+◌, ◌≤◌, arith, inl, inr, sym, ◌∙◌, subst, Bool, Some}
 use Rattle.std.specs.Prelude.{◌==◌, ◌&&◌, if◌then◌else◌}
 use Rattle.std.proofs.lemmas.Bool.Decides.{eqb_tells}
 use Rattle.cg_form.specs.Game.{Game}
 use Rattle.cg_form.specs.Order.{le}
-use Rattle.cg_cells.specs.Store.{Spends, State, thing_at}
+use Rattle.cg_cells.specs.Store.{Spends, State}
 use Rattle.cg_nodes.specs.Games.{IsGame, game_at}
 use Rattle.cg_nodes.specs.Meant.{Meant}
 use Rattle.cg_nodes.proofs.Later.{game_later, is_game_later}
@@ -12,7 +12,7 @@ use Rattle.cg_canon.specs.declared.memo.Memo.{Memo}
 use Rattle.cg_canon.specs.declared.profile.Profile.{Profile}
 use Rattle.cg_canon.specs.Memos.{profiled, recalled}
 use Rattle.cg_canon.specs.Profiles.{IsProfile}
-use Rattle.cg_canon.specs.Works.{AnswersHold, ProfilesHold, WorkHolds}
+use Rattle.cg_canon.specs.Works.{WorkHolds}
 
 -- when the store has grown
 pub holds_later : {R : Type 0} (n : ℕ) (s t : State Meant R) (spent share start : ℕ) (m : Memo)

@@ -1,5 +1,5 @@
 -- What a work keeps from one call to the next.
-use Rattle.std.proofs.Common.{◌≡◌, refl, ℕ, ◌+◌, ◌-◌, ◌≤◌, arith, ap, sym, ◌∙◌}
+use Rattle.std.proofs.Common.{◌≡◌, refl, ℕ, ◌+◌, ◌≤◌, arith, ap, ◌∙◌}
 use Rattle.cg_cells.specs.Store.{Spends, State}
 use Rattle.cg_nodes.specs.Meant.{Meant}
 use Rattle.cg_canon.specs.declared.rest.WorkRest.{WorkRest}

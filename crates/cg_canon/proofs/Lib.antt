@@ -8,6 +8,7 @@ pub mod Outlining
 pub mod Results
 pub mod Charging
 pub mod Keeping
+pub mod MadeSteps
 pub mod Against
 pub mod Bypassing
 pub mod Besting

@@ -4,7 +4,7 @@ use Rattle.cg_form.specs.Canonical.{Canonical}
 use Rattle.cg_form.specs.Game.{Game, node}
 use Rattle.cg_form.specs.Side.{at_most}
 use Rattle.cg_form.specs.Simple.{NoNumber}
-use Rattle.cg_form.specs.Size.{list_size, size}
+use Rattle.cg_form.specs.Size.{list_size}
 use Rattle.cg_form.proofs.Best.{append_nil, append_one}
 use Rattle.cg_cells.specs.Store.{Spends, State}
 use Rattle.cg_nodes.specs.declared.reading.Split.{Split}

@@ -1,12 +1,12 @@
 -- Profiles from those of the options.
-use Rattle.std.proofs.Common.{◌≡◌, refl, ℕ, ◌+◌, ◌-◌, ◌≤◌, ◌^◌, arith, suc, ap, sym, ◌∙◌, subst, List, [], ◌∷◌, ◌++◌, length, length-append, Bool, true, false, not, ◌&&◌, cond, max, IsTrue, rules}
+use Rattle.std.proofs.Common.{◌≡◌, refl, ℕ, ◌+◌, ◌-◌, ◌≤◌, ◌^◌, arith, ap, sym, ◌∙◌, subst, List, [], ◌∷◌, ◌++◌, length, length-append, Bool, true, false, not, ◌&&◌, max, rules}
 use Rattle.std.specs.Prelude.{Option, Some, None, IsSome}
 use Rattle.cg_dyadic.specs.declared.cut.Cut.{Cut}
 use Rattle.cg_dyadic.specs.Cut.{in_gap}
 use Rattle.cg_dyadic.specs.Number.{InRange, Number}
 use Rattle.cg_dyadic.proofs.Strict.{gap_ends}
 use Rattle.cg_dyadic.proofs.Truth.{false-from}
-use Rattle.cg_form.specs.Cut.{AnyNumber, CutIs, CutOf, Joined, Turned, in_cut, in_some, other_cut}
+use Rattle.cg_form.specs.Cut.{AnyNumber, CutIs, CutOf, Joined, Turned, other_cut}
 use Rattle.cg_form.specs.Depth.{deepest, depth_of}
 use Rattle.cg_form.specs.Game.{Game, lefts, node, number, rights}
 use Rattle.cg_form.specs.Order.{no_one}
@@ -17,21 +17,22 @@ use Rattle.cg_form.proofs.Cut.{any-closed, cut-number, gap-fits, joined_more}
 use Rattle.cg_form.proofs.CutSteps.{cut_of_none}
 use Rattle.cg_form.proofs.Preorder.{equal_refl}
 use Rattle.cg_form.proofs.Simplicity.{none_fits}
+use Rattle.cg_nodes.specs.Longs.{cells_of}
+use Rattle.cg_nodes.proofs.LongSteps.{few_cells}
 use Rattle.cg_canon.specs.declared.profile.Outline.{Outline}
 use Rattle.cg_canon.specs.declared.profile.Profile.{Profile}
-use Rattle.cg_canon.specs.Items.{cost_of}
 use Rattle.cg_canon.specs.Profiles.{IsOutline, IsProfile, chosen_cut}
 
 -- ---- a number
 
-pub number_profile : (x : Number) (c d : Cut) → c.at ≡ x → c.closed ≡ true → d.at ≡ x → d.closed ≡ true
-    → InRange x → IsProfile (number x) (record { low = c; high = d; depth = 0; cost = 1 })
-number_profile x c d at shut at' shut' range = record {
+pub number_profile : (x : Number) (c d : Cut) (n : ℕ) → c.at ≡ x → c.closed ≡ true → d.at ≡ x → d.closed ≡ true
+    → n ≡ cells_of x → InRange x → IsProfile (number x) (record { low = c; high = d; depth = 0; cost = n })
+number_profile x c d n at shut at' shut' cells range = record {
   low = cut-number AnyNumber true c x (number x) at shut (equal_refl (number x));
   high = cut-number AnyNumber false d x (number x) at' shut' (equal_refl (number x));
   depth = refl;
-  cost = refl;
-  small = omega arith;
+  cost = cells;
+  small = omega (arith, few_cells x);
   in_range = range;
 }
 

@@ -1,7 +1,6 @@
 -- Handles of equal games are one.
 use Rattle.std.proofs.Common.{◌≡◌, ℕ, ap, sym, ◌∙◌, subst, List, Some, Bool, IsTrue}
 use Rattle.std.specs.Prelude.{◌↔◌}
-use Rattle.cg_form.specs.Canonical.{Canonical}
 use Rattle.cg_form.specs.Game.{Game}
 use Rattle.cg_form.specs.Order.{Equal}
 use Rattle.cg_form.proofs.Preorder.{equal_refl}
@@ -11,15 +10,7 @@ use Rattle.cg_cells.specs.Store.{State, thing_at}
 use Rattle.cg_nodes.specs.Games.{IsGame, game_at, game_in}
 use Rattle.cg_nodes.specs.Meant.{Meant, form}
 use Rattle.cg_nodes.specs.Spelled.{game_meaning}
-use Rattle.cg_nodes.proofs.Spells.{canonical_spelled}
-use Rattle.std.specs.FinMap as map
-
--- what a handle stands for is canonical, where it is spelled
-pub real_canonical : {R : Type 0} (raw : ℕ → ℕ → ℕ → List ℕ → Game) (s : State Meant R) (a : ℕ)
-    → IsReal (game_meaning raw) (thing_at s a) → IsGame s a → Canonical (game_at s a)
-real_canonical raw s a real game =
-    let (key, known, e) = real (form (game_at s a)) game in
-    canonical_spelled key a (map.get known) s game (e ∙ sym game)
+use Rattle.cg_nodes.proofs.Levels.{real-canonical}
 
 same_or_equal : {R : Type 0} (raw : ℕ → ℕ → ℕ → List ℕ → Game) (s : State Meant R) (a b : ℕ) (t : Bool)
     → IsGame s a → IsGame s b → IsTrue t ↔ (thing_at s a ≡ thing_at s b)
@@ -28,8 +19,8 @@ same_or_equal : {R : Type 0} (raw : ℕ → ℕ → ℕ → List ℕ → Game) (
 same_or_equal raw s a b t ga gb e ra rb = (
   λ k. let P : Game → Type 0 = λ z. Equal (game_at s a) z in
       subst P (ap game_in (e.0 k)) (equal_refl (game_at s a)),
-  λ k. e.1 (ga ∙ ap (λ z. Some (form z)) (canonical_same (game_at s a) (game_at s b) (real_canonical raw s a ra ga)
-      (real_canonical raw s b rb gb) k) ∙ sym gb),
+  λ k. e.1 (ga ∙ ap (λ z. Some (form z)) (canonical_same (game_at s a) (game_at s b) (real-canonical raw s a ra ga)
+      (real-canonical raw s b rb gb) k) ∙ sym gb),
 )
 
 pub one_handle : {R : Type 0} (raw : ℕ → ℕ → ℕ → List ℕ → Game) (s : State Meant R) (a b i j : ℕ) (t : Bool) → i ≡ a → j ≡ b

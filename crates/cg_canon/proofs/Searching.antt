@@ -1,12 +1,12 @@
 -- A search through a list of options for one that passes a test.
-use Rattle.std.proofs.Common.{◌≡◌, refl, ℕ, ◌+◌, ◌≤◌, arith, inl, inr, ap, sym, ◌∙◌, subst, Option, Some, None, List, [], ◌∷◌, Bool, true, false, not, ◌&&◌}
+use Rattle.std.proofs.Common.{◌≡◌, refl, ℕ, ◌≤◌, arith, inl, inr, ap, sym, ◌∙◌, subst, Option, Some, None, List, ◌∷◌, Bool, true, false, not, ◌&&◌}
 use Rattle.cg_form.specs.Game.{Among, Game}
 use Rattle.cg_form.specs.Order.{no_one}
-use Rattle.cg_form.specs.Size.{list_size, size}
+use Rattle.cg_form.specs.Size.{list_size}
 use Rattle.cg_form.proofs.Among.{carry}
 use Rattle.cg_cells.specs.Store.{Spends, State}
 use Rattle.cg_nodes.specs.declared.reading.Split.{Split}
-use Rattle.cg_nodes.specs.Games.{IsGame, IsHead, IsList, game_at, listed}
+use Rattle.cg_nodes.specs.Games.{IsHead, IsList, game_at, listed}
 use Rattle.cg_nodes.specs.Meant.{Meant}
 use Rattle.cg_nodes.proofs.Later.{game_later, is_list_later, listed_later, nothing_spent, spends_then}
 

@@ -3,6 +3,7 @@ use Rattle.std.specs.Prelude.{◌≡◌, ℕ, ◌+◌, ◌<◌, ◌≤◌, List,
 use Rattle.cg_form.specs.Depth.{depth_of}
 use Rattle.cg_form.specs.Game.{Game, lefts, number, options, rights}
 use Rattle.cg_nodes.specs.Games.{IsInRange}
+use Rattle.cg_nodes.specs.Longs.{cells_of}
 use Rattle.cg_canon.specs.declared.fault.ValueFault.{ValueFault}
 use Rattle.cg_canon.specs.declared.fault.ValueFault.TheVariants.{Depth, Full, Memory, Positions, Range}
 
@@ -12,9 +13,9 @@ pub data Item : Type 0 where
   outside : Item
   too_many : Item
 
--- 1 for a number, and 1 more than the lengths of both lists for another form
+-- the cells that a number takes, 1 for a narrow and 3 for a long one, and 1 more than the lengths of both lists for another form
 abbrev pub cost_of : Game → ℕ
-cost_of (number x) = 1
+cost_of (number x) = cells_of x
 cost_of (options ls rs) = 1 + length (lefts (options ls rs)) + length (rights (options ls rs))
 
 abbrev pub item_cost : Item → ℕ

@@ -2,6 +2,8 @@ pub mod Items
 pub mod Profiles
 pub mod Memos
 pub mod Works
+pub mod Made
 pub mod NumberItems
 pub mod Verdict
 pub mod Wholes
+pub mod Passed

@@ -2,35 +2,24 @@
 //!
 //! An option that is reversible through a number is replaced by that number itself: the number is at least as good as what
 //! the bypass would bring in, and adds nothing, since another option is at least as good as the number. So no number is
-//! counted down.
-ghost use Rattle.std.specs.Prelude.{◌≡◌, ◌++◌, ◌∷◌, [], IfOk, cond};
+//! counted down. Each option is bypassed once, however many ways lead to it.
+ghost use Rattle.std.specs.Prelude.{[], IfOk, cond};
 ghost use Rattle.cg_form.specs.Bypass.{AllCovered, Covered, Grown};
 ghost use Rattle.cg_form.specs.Game.{Among, Game};
 ghost use Rattle.cg_form.specs.Known.{EachLess};
 ghost use Rattle.cg_form.specs.Side.{AtMost, far};
 ghost use Rattle.cg_cells.specs.Store.{Spends};
 ghost use Rattle.cg_nodes.specs.Games.{AreGames, IsGame, IsList, game_at, games_at, listed};
+ghost use Rattle.cg_canon.specs.Passed.{AreSubstitutes};
 ghost use Rattle.cg_canon.specs.Wholes.{WholeHolds, whole_game};
 ghost use Rattle.cg_canon.specs.Works.{work_state};
 
+use crate::substitutes::{Options, Substitutes};
 use crate::whole::{Verdicts, Whole, chosen, first_at_most};
 use crate::work::Work;
 use cg_cells::CellStore;
 use cg_nodes::{BoardForms, GameFacts, Handle, ListId, Reading, head, read};
-use smallvec::SmallVec;
 use std::alloc::{AllocError, Global};
-
-/// A list of options while a form is computed: up to 8 of them take no memory.
-pub(crate) type Options = SmallVec<Handle, 8>;
-
-/// The list with one handle more.
-fn pushed(items: Options, handle: Handle) -> Result<Options, AllocError>
-    ensures { IfOk result (λ r. r.items ≡ items.items ++ (handle ∷ [])) }
-{
-    let mut all = items;
-    all.push(handle)?;
-    Ok(all)
-}
 
 /// The list with what stands in the place of an option that is reversible through this answer.
 #[cycle(bypass)]
@@ -41,22 +30,22 @@ fn bypass_through<B: BoardForms, S: CellStore<GameFacts<B>>>(
     verdicts: &mut Verdicts,
     left: bool,
     answer: Handle,
-    out: Options,
-) -> Result<Options, AllocError>
+    out: Substitutes,
+) -> Result<Substitutes, AllocError>
     requires holds { WholeHolds (work_state S.state work.old) whole.now verdicts.old }
     requires answer { IsGame (work_state S.state work.old) answer }
     requires back { AtMost left (game_at (work_state S.state work.old) answer) (whole_game (work_state S.state work.old) whole.now) }
-    requires out { AreGames (work_state S.state work.old) out.items }
-    ensures games { IfOk result (λ r. AreGames (work_state S.state work.new) r.items) }
+    requires out { let W = work_state S.state work.old in AreSubstitutes W left (whole_game W whole.now) out }
+    ensures out { let W = work_state S.state work.new in IfOk result (λ r. AreSubstitutes W left (whole_game W whole.now) r) }
     ensures grown { IfOk result (λ r. Grown left (whole_game (work_state S.state work.old) whole.now)
-        (games_at (work_state S.state work.old) out.items) (games_at (work_state S.state work.new) r.items)) }
+        (games_at (work_state S.state work.old) out.items.items) (games_at (work_state S.state work.new) r.items.items)) }
     ensures covered { IfOk result (λ r. (a : Game) → Among (game_at (work_state S.state work.old) answer) (far left a)
-        → Covered left (whole_game (work_state S.state work.old) whole.now) (games_at (work_state S.state work.new) r.items) a) }
+        → Covered left (whole_game (work_state S.state work.old) whole.now) (games_at (work_state S.state work.new) r.items.items) a) }
     ensures holds { WholeHolds (work_state S.state work.new) whole.now verdicts.new }
     ensures spends { Spends 0 (work_state S.state work.old) (work_state S.state work.new) }
 {
     match read(work, answer) {
-        Reading::Number(_) => pushed(out, answer),
+        Reading::Number(_) => out.with(answer),
         Reading::Game(lefts, rights) => {
             let near = chosen(left, lefts, rights);
             bypass_list(alloc, work, whole, verdicts, left, near, out)
@@ -73,30 +62,60 @@ fn bypass<B: BoardForms, S: CellStore<GameFacts<B>>>(
     verdicts: &mut Verdicts,
     left: bool,
     option: Handle,
-    out: Options,
-) -> Result<Options, AllocError>
+    out: Substitutes,
+) -> Result<Substitutes, AllocError>
     requires holds { WholeHolds (work_state S.state work.old) whole.now verdicts.old }
     requires option { IsGame (work_state S.state work.old) option }
     requires less { ¬ AtMost left (whole_game (work_state S.state work.old) whole.now) (game_at (work_state S.state work.old) option) }
-    requires out { AreGames (work_state S.state work.old) out.items }
-    ensures games { IfOk result (λ r. AreGames (work_state S.state work.new) r.items) }
+    requires out { let W = work_state S.state work.old in AreSubstitutes W left (whole_game W whole.now) out }
+    ensures out { let W = work_state S.state work.new in IfOk result (λ r. AreSubstitutes W left (whole_game W whole.now) r) }
     ensures grown { IfOk result (λ r. Grown left (whole_game (work_state S.state work.old) whole.now)
-        (games_at (work_state S.state work.old) out.items) (games_at (work_state S.state work.new) r.items)) }
+        (games_at (work_state S.state work.old) out.items.items) (games_at (work_state S.state work.new) r.items.items)) }
     ensures covered { IfOk result (λ r. Covered left (whole_game (work_state S.state work.old) whole.now)
-        (games_at (work_state S.state work.new) r.items) (game_at (work_state S.state work.old) option)) }
+        (games_at (work_state S.state work.new) r.items.items) (game_at (work_state S.state work.old) option)) }
     ensures holds { WholeHolds (work_state S.state work.new) whole.now verdicts.new }
     ensures spends { Spends 0 (work_state S.state work.old) (work_state S.state work.new) }
 {
     match read(work, option) {
-        Reading::Number(_) => pushed(out, option),
+        Reading::Number(_) => out.with(option),
         Reading::Game(lefts, rights) => {
             let far = chosen(left, rights, lefts);
             match first_at_most(alloc, work, whole, verdicts, left, far)? {
-                None => pushed(out, option),
+                None => out.with(option),
                 Some(answer) => bypass_through(alloc, work, whole, verdicts, left, answer, out),
             }
         }
     }
+}
+
+/// The list with what stands in the place of the option, which is looked for where the option wasn't passed before.
+#[cycle(bypass)]
+fn bypass_once<B: BoardForms, S: CellStore<GameFacts<B>>>(
+    alloc: Global,
+    work: &mut Work<B, S>,
+    whole: &Whole,
+    verdicts: &mut Verdicts,
+    left: bool,
+    option: Handle,
+    out: Substitutes,
+) -> Result<Substitutes, AllocError>
+    requires holds { WholeHolds (work_state S.state work.old) whole.now verdicts.old }
+    requires option { IsGame (work_state S.state work.old) option }
+    requires less { ¬ AtMost left (whole_game (work_state S.state work.old) whole.now) (game_at (work_state S.state work.old) option) }
+    requires out { let W = work_state S.state work.old in AreSubstitutes W left (whole_game W whole.now) out }
+    ensures out { let W = work_state S.state work.new in IfOk result (λ r. AreSubstitutes W left (whole_game W whole.now) r) }
+    ensures grown { IfOk result (λ r. Grown left (whole_game (work_state S.state work.old) whole.now)
+        (games_at (work_state S.state work.old) out.items.items) (games_at (work_state S.state work.new) r.items.items)) }
+    ensures covered { IfOk result (λ r. Covered left (whole_game (work_state S.state work.old) whole.now)
+        (games_at (work_state S.state work.new) r.items.items) (game_at (work_state S.state work.old) option)) }
+    ensures holds { WholeHolds (work_state S.state work.new) whole.now verdicts.new }
+    ensures spends { Spends 0 (work_state S.state work.old) (work_state S.state work.new) }
+{
+    if out.has_passed(option) {
+        return Ok(out);
+    }
+    let all = bypass(alloc, work, whole, verdicts, left, option, out)?;
+    all.passing(option)
 }
 
 /// The list with what stands in the places of the options in the list.
@@ -108,24 +127,24 @@ fn bypass_list<B: BoardForms, S: CellStore<GameFacts<B>>>(
     verdicts: &mut Verdicts,
     left: bool,
     list: ListId,
-    out: Options,
-) -> Result<Options, AllocError>
+    out: Substitutes,
+) -> Result<Substitutes, AllocError>
     requires holds { WholeHolds (work_state S.state work.old) whole.now verdicts.old }
     requires list { IsList (work_state S.state work.old) list }
     requires less { EachLess left (whole_game (work_state S.state work.old) whole.now) (listed (work_state S.state work.old) list) }
-    requires out { AreGames (work_state S.state work.old) out.items }
-    ensures games { IfOk result (λ r. AreGames (work_state S.state work.new) r.items) }
+    requires out { let W = work_state S.state work.old in AreSubstitutes W left (whole_game W whole.now) out }
+    ensures out { let W = work_state S.state work.new in IfOk result (λ r. AreSubstitutes W left (whole_game W whole.now) r) }
     ensures grown { IfOk result (λ r. Grown left (whole_game (work_state S.state work.old) whole.now)
-        (games_at (work_state S.state work.old) out.items) (games_at (work_state S.state work.new) r.items)) }
+        (games_at (work_state S.state work.old) out.items.items) (games_at (work_state S.state work.new) r.items.items)) }
     ensures covered { IfOk result (λ r. AllCovered left (whole_game (work_state S.state work.old) whole.now)
-        (games_at (work_state S.state work.new) r.items) (listed (work_state S.state work.old) list)) }
+        (games_at (work_state S.state work.new) r.items.items) (listed (work_state S.state work.old) list)) }
     ensures holds { WholeHolds (work_state S.state work.new) whole.now verdicts.new }
     ensures spends { Spends 0 (work_state S.state work.old) (work_state S.state work.new) }
 {
     let mut all = out;
     let mut rest = list;
     while let Some(top) = head(work, rest) {
-        all = bypass(alloc, work, whole, verdicts, left, top.first, all)?;
+        all = bypass_once(alloc, work, whole, verdicts, left, top.first, all)?;
         rest = top.rest;
     }
     Ok(all)
@@ -149,9 +168,9 @@ pub(crate) fn candidates<B: BoardForms, S: CellStore<GameFacts<B>>>(
     ensures holds { WholeHolds (work_state S.state work.new) whole.now verdicts.new }
     ensures spends { Spends 0 (work_state S.state work.old) (work_state S.state work.new) }
 {
-    let mut all = SmallVec::new(alloc);
+    let mut all = Substitutes::new(alloc);
     for option in whole.own(left) {
-        all = bypass(alloc, work, whole, verdicts, left, *option, all)?;
+        all = bypass_once(alloc, work, whole, verdicts, left, *option, all)?;
     }
-    Ok(all)
+    Ok(all.into_items())
 }

@@ -35,6 +35,7 @@ fn charge_form<B: BoardForms, S: CellStore<GameFacts<B>>>(
         → OnOk result (AllPass work.old.share work.old.spent (made g extra ∷ []) work.new.spent) }
     ensures refused { (g : Game) → IsProfile g profile.now
         → IfErr result (λ fault. WasRefused fault work.old.share work.old.spent (made g extra ∷ []) work.new.spent) }
+    ensures memory { IfErr result (λ fault. ¬ (fault ≡ ValueFault.Memory)) }
     ensures same { OnErr result (work.new ≡ work.old) }
 {
     if profile.depth > DEEPEST {
@@ -147,6 +148,7 @@ pub(crate) fn item_of_number<B: BoardForms, S: CellStore<GameFacts<B>>>(
     ensures game { IfOk result (λ h. StandsFor (work_state S.state work.new) h (number x)) }
     ensures charged { OnOk result (AllPass work.old.share work.old.spent (made (number x) extra ∷ []) work.new.spent) }
     ensures refused { IfErr result (λ fault. WasRefused fault work.old.share work.old.spent (made (number x) extra ∷ []) work.new.spent) }
+    ensures memory { IfErr result (λ fault. ¬ (fault ≡ ValueFault.Memory)) }
     ensures same { OnErr result (work.new ≡ work.old) }
     ensures spare { OnOk result ((work_state S.state work.new).spare ≡ (work_state S.state work.old).spare + extra) }
     ensures keeps { Keeps (work_state S.state work.old) (work_state S.state work.new) }
@@ -157,8 +159,9 @@ pub(crate) fn item_of_number<B: BoardForms, S: CellStore<GameFacts<B>>>(
 
 /// Makes the item of a number, with a cost of `extra` more, where `extra` is at most 8. None stands for a number out of range.
 ///
-/// `Range` comes exactly for None, and `Full` exactly where 1 and `extra` together bring the total cost above the share; the
-/// total is in the fault. After a refusal nothing was spent. It takes no memory.
+/// `Range` comes exactly for None, and `Full` exactly where its cost, 1 for a narrow and 3 for a long number, and `extra`
+/// together bring the total cost above the share; the total is in the fault. After a refusal nothing was spent. It takes no
+/// memory.
 pub fn number_item<B: BoardForms, S: CellStore<GameFacts<B>>>(
     work: &mut Work<B, S>,
     x: Option<Dyadic>,
@@ -168,6 +171,7 @@ pub fn number_item<B: BoardForms, S: CellStore<GameFacts<B>>>(
     ensures game { IfOk result (λ h. IsForm x (StandsFor (work_state S.state work.new) h)) }
     ensures charged { OnOk result (AllPass work.old.share work.old.spent (number_made x extra ∷ []) work.new.spent) }
     ensures refused { IfErr result (λ fault. WasRefused fault work.old.share work.old.spent (number_made x extra ∷ []) work.new.spent) }
+    ensures memory { IfErr result (λ fault. ¬ (fault ≡ ValueFault.Memory)) }
     ensures same { OnErr result (IsUnspent S.state work.old work.new) }
     ensures spare { OnOk result ((work_state S.state work.old).spare + extra ≤ (work_state S.state work.new).spare) }
     ensures more { (work_state S.state work.old).spare ≤ (work_state S.state work.new).spare }

@@ -14,6 +14,7 @@ mod profile;
 mod profiles;
 mod reduce;
 mod rest;
+mod substitutes;
 mod whole;
 mod work;
 
@@ -21,10 +22,7 @@ pub use equality::equal;
 pub use fault::ValueFault;
 pub use forms::canonical;
 pub use item::{canonical_item, item_of, number_item};
-pub use memo::Memo;
 pub use numbers::{le_number, number_le};
 pub use order::le;
-pub use profile::{Outline, Profile};
 pub use rest::WorkRest;
-pub use whole::{Answers, Verdicts, Whole};
 pub use work::Work;

@@ -8,7 +8,7 @@ use std::collections::HashMap;
 
 /// Answers to comparisons, by pairs of ids, and profiles, by ids.
 #[derive(Drop)]
-pub struct Memo {
+pub(crate) struct Memo {
     answers: HashMap<(u32, u32), bool>,
     profiles: HashMap<u32, Profile>,
 }

@@ -1,8 +1,9 @@
 //! What is known of a game besides its order with other games.
-ghost use Rattle.std.specs.Prelude.{◌≡◌, ◌≤◌, ◌+◌, ◌^◌, [], ◌∷◌, ◌++◌, List, Bool, true, false, IfOk, IsSome};
+ghost use Rattle.std.specs.Prelude.{◌≡◌, ◌≤◌, ◌+◌, ◌^◌, ◌⊎◌, [], ◌∷◌, ◌++◌, List, Bool, true, false, max, IfOk, IsSome, OnErr};
 ghost use Rattle.cg_dyadic.specs.Number.{InRange};
 ghost use Rattle.cg_form.specs.Game.{Game, node, number};
 ghost use Rattle.cg_form.specs.Simple.{NoNumber};
+ghost use Rattle.cg_nodes.specs.Longs.{cells_of};
 ghost use Rattle.cg_canon.specs.Profiles.{IsOutline, IsProfile, chosen_cut};
 
 use cg_dyadic::Dyadic;
@@ -12,21 +13,21 @@ use std::alloc::AllocError;
 
 /// What is known of a game: its cuts of the numbers, its depth and the cost of its item.
 #[derive(Clone, Copy)]
-pub struct Profile {
+pub(crate) struct Profile {
     /// The numbers that are at most the game.
     pub low: Cut,
     /// The numbers that are at least the game.
     pub high: Cut,
     /// The depth: 0 for a number, and else 1 more than the greatest depth of an option.
     pub depth: u64,
-    /// The cost of the game's item: 1, and 1 more for each option, where it isn't a number.
+    /// The cost of the game's item: 1 for a narrow and 3 for a long number, and else 1, and 1 more for each option.
     pub cost: u64,
 }
 
 /// What is known of a list of options of one side: the numbers that are no better for that side than some option, where
 /// there is an option, the greatest depth, and how many they are.
 #[derive(Clone, Copy)]
-pub struct Outline {
+pub(crate) struct Outline {
     pub cut: Option<Cut>,
     pub deepest: u64,
     pub count: u64,
@@ -38,12 +39,20 @@ const MOST: u64 = 4_294_967_296;
 /// One more, up to 2^32. A list has fewer options than its table has cells, and no game is deeper than that; where one were
 /// not so, there would be no memory for it.
 fn one_more(count: u64) -> Result<u64, AllocError>
-    ensures { IfOk result (λ n. (n ≡ count + 1) × (n ≤ 2 ^ 32)) }
+    ensures ok { IfOk result (λ n. (n ≡ count + 1) × (n ≤ 2 ^ 32)) }
+    ensures err { OnErr result (2 ^ 32 ≤ count) }
 {
     if count < MOST {
         return Ok(count + 1);
     }
     Err(AllocError)
+}
+
+/// The cost of a number's item.
+fn cost_of_number(x: Dyadic) -> u64
+    ensures { result ≡ cells_of x }
+{
+    if x.is_long() { 3 } else { 1 }
 }
 
 impl Outline {
@@ -70,8 +79,9 @@ impl Outline {
 
     /// Of one option more.
     pub fn with(&self, left: bool, option: &Profile) -> Result<Outline, AllocError>
-        ensures { IfOk result (λ r. (gs : List Game) (g : Game) → IsOutline left gs self.now → IsProfile g option.now
+        ensures ok { IfOk result (λ r. (gs : List Game) (g : Game) → IsOutline left gs self.now → IsProfile g option.now
             → IsOutline left (gs ++ (g ∷ [])) r) }
+        ensures err { OnErr result (2 ^ 32 ≤ self.now.count) }
     {
         let next = option.cut(left);
         let cut = joined(left, &self.cut, &next);
@@ -95,7 +105,7 @@ impl Profile {
             low: Cut::closed(x),
             high: Cut::closed(x),
             depth: 0,
-            cost: 1,
+            cost: cost_of_number(x),
         }
     }
 
@@ -103,8 +113,10 @@ impl Profile {
     pub fn between(lefts: &Outline, rights: &Outline) -> Result<Profile, AllocError>
         requires lefts { IsSome lefts.now.cut }
         requires rights { IsSome rights.now.cut }
-        ensures { IfOk result (λ r. (ls rs : List Game) → NoNumber (node ls rs)
+        ensures ok { IfOk result (λ r. (ls rs : List Game) → NoNumber (node ls rs)
             → IsOutline true ls lefts.now → IsOutline false rs rights.now → IsProfile (node ls rs) r) }
+        ensures err { OnErr result ((2 ^ 32 ≤ max lefts.now.deepest rights.now.deepest) ⊎ (2 ^ 32 ≤ lefts.now.count)
+            ⊎ (2 ^ 32 ≤ rights.now.count)) }
     {
         let Some(lower) = lefts.cut else {
             unreachable!()

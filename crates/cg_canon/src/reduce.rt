@@ -11,7 +11,8 @@ ghost use Rattle.cg_canon.specs.Wholes.{WholeHolds, whole_game};
 ghost use Rattle.cg_canon.specs.Works.{work_state};
 
 use crate::best::best_of;
-use crate::bypass::{Options, candidates};
+use crate::bypass::candidates;
+use crate::substitutes::Options;
 use crate::whole::{Verdicts, Whole};
 use crate::work::Work;
 use cg_cells::CellStore;

@@ -20,7 +20,7 @@ use std::collections::HashMap;
 
 /// A game by its lists of options, which is to be made canonical. It equals no number, and has no handle.
 #[derive(Drop)]
-pub struct Whole<'a> {
+pub(crate) struct Whole<'a> {
     /// The Left options.
     pub lefts: &'a [Handle],
     /// The Right options.
@@ -40,7 +40,7 @@ impl<'a> Whole<'a> {
 
 /// Answers by ids.
 #[derive(Drop)]
-pub struct Answers {
+pub(crate) struct Answers {
     by_id: HashMap<u32, bool>,
 }
 
@@ -70,7 +70,7 @@ impl Answers {
 
 /// For each player and each id, the answer to whether the game of the id is no better for the player than a whole.
 #[derive(Drop)]
-pub struct Verdicts {
+pub(crate) struct Verdicts {
     for_left: Answers,
     for_right: Answers,
 }

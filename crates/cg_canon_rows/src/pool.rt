@@ -1,9 +1,10 @@
-//! Handles that a test has made so far, named by their indices.
+//! Handles that a row has made so far, named by their indices.
 ghost use Rattle.std.specs.Prelude.{◌≤◌, IfOk};
 ghost use Rattle.cg_nodes.specs.Games.{AreGames, IsGame};
 ghost use Rattle.cg_canon.specs.Works.{work_state};
 ghost use Rattle.cg_canon_rows.specs.Draws.{AreDrawn, IsDrawn};
 
+use crate::stop::Stop;
 use cg_canon::{
     ValueFault, Work, canonical, equal, item_of, le, le_number, number_item, number_le,
 };
@@ -11,16 +12,15 @@ use cg_cells::CellStore;
 use cg_dyadic::Dyadic;
 use cg_nodes::{BoardForms, GameFacts, Handle, Reading, Sides, handles, read};
 use std::alloc::{AllocError, Global};
-use std::test::Fail;
 
 /// The handle with this index.
-pub fn item(pool: &[Handle], index: usize) -> Result<Handle, Fail>
+pub(crate) fn item(pool: &[Handle], index: usize) -> Result<Handle, Stop>
     ensures { IfOk result (λ h. IsDrawn pool.now h) }
 {
     if index < pool.len() {
         return Ok(pool[index]);
     }
-    Err(Fail::from("no such handle"))
+    Err(Stop::Unread)
 }
 
 /// The handles with these indices.
@@ -37,7 +37,7 @@ fn items(alloc: Global, pool: &[Handle], indices: &[usize]) -> Result<Vec<Handle
 }
 
 /// Makes the item of a number, and adds its handle.
-pub fn add_number<B: BoardForms, S: CellStore<GameFacts<B>>>(
+pub(crate) fn add_number<B: BoardForms, S: CellStore<GameFacts<B>>>(
     work: &mut Work<B, S>,
     pool: &mut Vec<Handle>,
     x: Option<Dyadic>,
@@ -52,24 +52,8 @@ pub fn add_number<B: BoardForms, S: CellStore<GameFacts<B>>>(
     Ok(handle)
 }
 
-/// Makes the items of these numbers, each of a numerator and the exponent of its denominator, and adds their handles.
-pub fn add_numbers<B: BoardForms, S: CellStore<GameFacts<B>>>(
-    work: &mut Work<B, S>,
-    pool: &mut Vec<Handle>,
-    numbers: &[(i64, u8)],
-) -> Result<(), Fail>
-    requires { AreGames (work_state S.state work.old) pool.old.items }
-    ensures { AreGames (work_state S.state work.new) pool.new.items }
-{
-    for (num, exp) in numbers {
-        let number = Dyadic::make(i128::from(*num), *exp)?;
-        add_number(work, pool, Some(number), 0)?;
-    }
-    Ok(())
-}
-
 /// Makes the item of the canonical form of the game with these options, and adds its handle.
-pub fn add_game<B: BoardForms, S: CellStore<GameFacts<B>>>(
+pub(crate) fn add_game<B: BoardForms, S: CellStore<GameFacts<B>>>(
     alloc: Global,
     work: &mut Work<B, S>,
     pool: &mut Vec<Handle>,
@@ -89,13 +73,13 @@ pub fn add_game<B: BoardForms, S: CellStore<GameFacts<B>>>(
 }
 
 /// Whether the first of the two is at most the second.
-pub fn at_most<B: BoardForms, S: CellStore<GameFacts<B>>>(
+pub(crate) fn at_most<B: BoardForms, S: CellStore<GameFacts<B>>>(
     alloc: Global,
     work: &mut Work<B, S>,
     pool: &[Handle],
     a: usize,
     b: usize,
-) -> Result<bool, Fail>
+) -> Result<bool, Stop>
     requires { AreGames (work_state S.state work.old) pool.now }
     ensures { AreGames (work_state S.state work.new) pool.now }
 {
@@ -105,13 +89,13 @@ pub fn at_most<B: BoardForms, S: CellStore<GameFacts<B>>>(
 }
 
 /// Which of the first so many games the handle's game is at most.
-pub fn at_most_each<B: BoardForms, S: CellStore<GameFacts<B>>>(
+pub(crate) fn at_most_each<B: BoardForms, S: CellStore<GameFacts<B>>>(
     alloc: Global,
     work: &mut Work<B, S>,
     pool: &[Handle],
     a: usize,
     count: usize,
-) -> Result<Vec<bool>, Fail>
+) -> Result<Vec<bool>, Stop>
     requires { AreGames (work_state S.state work.old) pool.now }
     ensures { AreGames (work_state S.state work.new) pool.now }
 {
@@ -124,13 +108,13 @@ pub fn at_most_each<B: BoardForms, S: CellStore<GameFacts<B>>>(
 }
 
 /// Whether the number is at most the handle's game, and whether the game is at most the number.
-pub fn compare_number<B: BoardForms, S: CellStore<GameFacts<B>>>(
+pub(crate) fn compare_number<B: BoardForms, S: CellStore<GameFacts<B>>>(
     alloc: Global,
     work: &mut Work<B, S>,
     pool: &[Handle],
     x: Dyadic,
     a: usize,
-) -> Result<(bool, bool), Fail>
+) -> Result<(bool, bool), Stop>
     requires { AreGames (work_state S.state work.old) pool.now }
     ensures { AreGames (work_state S.state work.new) pool.now }
 {
@@ -140,31 +124,13 @@ pub fn compare_number<B: BoardForms, S: CellStore<GameFacts<B>>>(
     Ok((below, above))
 }
 
-/// Makes 0, star, up, up and star, and double up, in this order.
-pub fn add_ups<B: BoardForms, S: CellStore<GameFacts<B>>>(
-    alloc: Global,
-    work: &mut Work<B, S>,
-    pool: &mut Vec<Handle>,
-) -> Result<(), Fail>
-    requires { AreGames (work_state S.state work.old) pool.old.items }
-    ensures { AreGames (work_state S.state work.new) pool.new.items }
-{
-    let zero = Dyadic::make(0, 0)?;
-    add_number(work, pool, Some(zero), 0)?;
-    add_game(alloc, work, pool, &[0], &[0], 0)?;
-    add_game(alloc, work, pool, &[0], &[1], 0)?;
-    add_game(alloc, work, pool, &[0, 1], &[0], 0)?;
-    add_game(alloc, work, pool, &[0], &[3], 0)?;
-    Ok(())
-}
-
 /// Makes so many games, each of 0 and the last one before it: {0 | the last}.
-pub fn add_tower<B: BoardForms, S: CellStore<GameFacts<B>>>(
+pub(crate) fn add_tower<B: BoardForms, S: CellStore<GameFacts<B>>>(
     alloc: Global,
     work: &mut Work<B, S>,
     pool: &mut Vec<Handle>,
     count: u16,
-) -> Result<(), Fail>
+) -> Result<(), Stop>
     requires { AreGames (work_state S.state work.old) pool.old.items }
     ensures { AreGames (work_state S.state work.new) pool.new.items }
 {
@@ -176,13 +142,13 @@ pub fn add_tower<B: BoardForms, S: CellStore<GameFacts<B>>>(
 }
 
 /// Charges the item of the handle's form again, with a cost of `extra` more.
-pub fn charge_again<B: BoardForms, S: CellStore<GameFacts<B>>>(
+pub(crate) fn charge_again<B: BoardForms, S: CellStore<GameFacts<B>>>(
     alloc: Global,
     work: &mut Work<B, S>,
     pool: &[Handle],
     a: usize,
     extra: u64,
-) -> Result<(), Fail>
+) -> Result<(), Stop>
     requires extra { extra ≤ 8 }
     requires pool { AreGames (work_state S.state work.old) pool.now }
     ensures { AreGames (work_state S.state work.new) pool.now }
@@ -192,12 +158,12 @@ pub fn charge_again<B: BoardForms, S: CellStore<GameFacts<B>>>(
 }
 
 /// Whether the two are equal games.
-pub fn same<B: BoardForms, S: CellStore<GameFacts<B>>>(
+pub(crate) fn same<B: BoardForms, S: CellStore<GameFacts<B>>>(
     work: &Work<B, S>,
     pool: &[Handle],
     a: usize,
     b: usize,
-) -> Result<bool, Fail>
+) -> Result<bool, Stop>
     requires { AreGames (work_state S.state work.now) pool.now }
 {
     let first = item(pool, a)?;
@@ -206,18 +172,18 @@ pub fn same<B: BoardForms, S: CellStore<GameFacts<B>>>(
 }
 
 /// The options of the handle's game, unless it is a number.
-pub fn sides_of<B: BoardForms, S: CellStore<GameFacts<B>>>(
+pub(crate) fn sides_of<B: BoardForms, S: CellStore<GameFacts<B>>>(
     alloc: Global,
     work: &mut Work<B, S>,
     pool: &[Handle],
     a: usize,
-) -> Result<Sides, Fail>
+) -> Result<Sides, Stop>
     requires { AreGames (work_state S.state work.old) pool.now }
     ensures { AreGames (work_state S.state work.new) pool.now }
 {
     let handle = item(pool, a)?;
     match read(work, handle) {
-        Reading::Number(_) => Err(Fail::from("a number")),
+        Reading::Number(_) => Err(Stop::Unread),
         Reading::Game(lefts, rights) => {
             let left_handles = handles(alloc, work, lefts)?;
             let right_handles = handles(alloc, work, rights)?;

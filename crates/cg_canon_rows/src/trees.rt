@@ -4,16 +4,14 @@ ghost use Rattle.cg_cells.specs.Store.{Spends};
 ghost use Rattle.cg_nodes.specs.Games.{AreGames, IsGame, IsList};
 ghost use Rattle.cg_canon.specs.Works.{work_state};
 
-use crate::pool::{add_game, add_numbers, item};
+use crate::pool::{add_game, item};
+use crate::stop::Stop;
 use cg_canon::{ValueFault, Work};
-use cg_cells::{CellStore, PlainStore};
+use cg_cells::CellStore;
 use cg_form::{Form, Options, SlowFault, canonical_slow, compare_structure};
-use cg_nodes::{BoardForms, GameFacts, Handle, ListId, NoBoards, Reading, head, read};
+use cg_nodes::{BoardForms, GameFacts, Handle, ListId, Reading, head, read};
 use std::alloc::Global;
 use std::cmp::Ordering;
-use std::test::Fail;
-
-type Store = PlainStore<GameFacts<NoBoards>>;
 
 /// The trees of the handles of a list, of games no deeper than `depth`.
 #[cycle(tree)]
@@ -22,7 +20,7 @@ fn trees_of<B: BoardForms, S: CellStore<GameFacts<B>>>(
     store: &mut S,
     list: ListId,
     depth: u8,
-) -> Result<Vec<Form>, Fail>
+) -> Result<Vec<Form>, Stop>
     requires { IsList (S.state store.old) list }
     ensures { Spends 0 (S.state store.old) (S.state store.new) }
 {
@@ -43,7 +41,7 @@ fn tree_of<B: BoardForms, S: CellStore<GameFacts<B>>>(
     store: &mut S,
     handle: Handle,
     depth: u8,
-) -> Result<Form, Fail>
+) -> Result<Form, Stop>
     requires { IsGame (S.state store.old) handle }
     ensures { Spends 0 (S.state store.old) (S.state store.new) }
 {
@@ -51,7 +49,7 @@ fn tree_of<B: BoardForms, S: CellStore<GameFacts<B>>>(
         Reading::Number(x) => Ok(Form::Num(x)),
         Reading::Game(lefts, rights) => {
             if depth == 0 {
-                return Err(Fail::from("too deep"));
+                return Err(Stop::Unread);
             }
             let left_trees = trees_of(alloc, store, lefts, depth - 1)?;
             let right_trees = trees_of(alloc, store, rights, depth - 1)?;
@@ -66,7 +64,7 @@ fn tree_at<B: BoardForms, S: CellStore<GameFacts<B>>>(
     work: &mut Work<B, S>,
     pool: &[Handle],
     index: usize,
-) -> Result<Form, Fail>
+) -> Result<Form, Stop>
     requires { AreGames (work_state S.state work.old) pool.now }
     ensures { AreGames (work_state S.state work.new) pool.now }
 {
@@ -80,7 +78,7 @@ fn trees_at<B: BoardForms, S: CellStore<GameFacts<B>>>(
     work: &mut Work<B, S>,
     pool: &[Handle],
     indices: &[usize],
-) -> Result<Vec<Form>, Fail>
+) -> Result<Vec<Form>, Stop>
     requires { AreGames (work_state S.state work.old) pool.now }
     ensures { AreGames (work_state S.state work.new) pool.now }
 {
@@ -112,7 +110,7 @@ impl Draws {
     }
 
     /// Up to three indices below the bound.
-    fn indices(&mut self, alloc: Global, bound: usize) -> Result<Vec<usize>, Fail> {
+    fn indices(&mut self, alloc: Global, bound: usize) -> Result<Vec<usize>, Stop> {
         let mut all = Vec::new(alloc);
         for _ in 0..self.below(4) {
             all.push(self.below(bound as u64) as usize)?;
@@ -128,7 +126,7 @@ fn agrees<B: BoardForms, S: CellStore<GameFacts<B>>>(
     pool: &mut Vec<Handle>,
     lefts: &[usize],
     rights: &[usize],
-) -> Result<bool, Fail>
+) -> Result<bool, Stop>
     requires { AreGames (work_state S.state work.old) pool.old.items }
     ensures { AreGames (work_state S.state work.new) pool.new.items }
 {
@@ -140,7 +138,9 @@ fn agrees<B: BoardForms, S: CellStore<GameFacts<B>>>(
         Ok(_) => {
             let last = pool.len().saturating_sub(1);
             let fast = tree_at(alloc, work, pool, last)?;
-            let wanted = slow?;
+            let Ok(wanted) = slow else {
+                return Ok(false);
+            };
             Ok(compare_structure(&fast, &wanted) == Ordering::Equal)
         }
         Err(fault) => Ok(fault == ValueFault::Range && slow.err() == Some(SlowFault::Range)),
@@ -148,12 +148,12 @@ fn agrees<B: BoardForms, S: CellStore<GameFacts<B>>>(
 }
 
 /// In how many of the rounds both ways agree; the games of the first rounds are the options of later ones.
-fn agreements<B: BoardForms, S: CellStore<GameFacts<B>>>(
+pub(crate) fn agreements<B: BoardForms, S: CellStore<GameFacts<B>>>(
     alloc: Global,
     work: &mut Work<B, S>,
     pool: &mut Vec<Handle>,
     rounds: u32,
-) -> Result<u32, Fail>
+) -> Result<u32, Stop>
     requires { AreGames (work_state S.state work.old) pool.old.items }
     ensures { AreGames (work_state S.state work.new) pool.new.items }
 {
@@ -168,25 +168,4 @@ fn agreements<B: BoardForms, S: CellStore<GameFacts<B>>>(
         }
     }
     Ok(agreed)
-}
-
-#[test]
-fn both_ways_agree(rt: HostRuntime) -> Result<(), Fail> {
-    let mut store: Store = PlainStore::new(rt.alloc(), 65536)?;
-    let mut work = Work::new(rt.alloc(), &mut store, 65536, 65536);
-    let mut pool = Vec::new(rt.alloc());
-    let most = 4_503_599_627_370_495;
-    let numbers = [
-        (0, 0),
-        (1, 0),
-        (-1, 0),
-        (1, 1),
-        (-3, 2),
-        (2, 0),
-        (1, 31),
-        (most, 0),
-    ];
-    add_numbers(&mut work, &mut pool, &numbers)?;
-    assert_eq!(rt; agreements(rt.alloc(), &mut work, &mut pool, 400)?, 400);
-    Ok(())
 }

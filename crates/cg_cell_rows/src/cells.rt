@@ -1,43 +1,11 @@
-//! Five keys and the claims of three of them, stores of words, and notes, over facts of the test's own.
-ghost use Rattle.cg_cell_rows.specs.Toys.{toy_meaning, toy_lawful, spread, spread_below};
-ghost use Rattle.std.specs.Prelude.{◌≡◌, ◌≤◌, pos, Some, IsSome, IsTrue};
-ghost use Rattle.cg_cells.specs.declared.key.KeyParts.TheVariants.{Number};
-ghost use Rattle.cg_cells.specs.Layout.{FieldsFit, word_of};
-ghost use Rattle.cg_cells.specs.Parts.{parts_of};
+//! Five keys and the claims of three of them, stores of words, and notes, over the toy facts.
+ghost use Rattle.std.specs.Prelude.{◌≤◌, IsSome, IsTrue};
+ghost use Rattle.cg_cells.specs.Layout.{FieldsFit};
 ghost use Rattle.cg_cells.specs.Store.{thing_at};
 
+use crate::toys::{Colliding, Spread, whole_key};
 use cg_cells::{CellStore, Facts, Id, Key, KeyParts, PlainStore, StoreFault};
 use std::test::Fail;
-
-/// Facts whose homes are all the first cell, so that every search goes on.
-struct Colliding;
-
-impl Facts for Colliding {
-    type Thing = u64;
-
-    ghost meaning = { toy_meaning (λ key size. 0) };
-
-    fn home(_key: u64, _size: u64) -> u64 {
-        0
-    }
-
-    ghost lawful = { toy_lawful (λ key size. 0) (λ key size some. some) };
-}
-
-/// Facts whose homes are spread over the table.
-struct Spread;
-
-impl Facts for Spread {
-    type Thing = u64;
-
-    ghost meaning = { toy_meaning spread };
-
-    fn home(key: u64, size: u64) -> u64 {
-        key.wrapping_mul(0x9E37_79B9_7F4A_7C15) % size
-    }
-
-    ghost lawful = { toy_lawful spread spread_below };
-}
 
 /// The word of the key of the parts.
 fn word(parts: KeyParts) -> u64
@@ -52,7 +20,7 @@ fn has_parts(word: u64, parts: KeyParts) -> bool {
 }
 
 #[test]
-fn packs_five_keys(rt: HostRuntime) {
+fn packs_six_keys(rt: HostRuntime) {
     let ids = (Id::new(0), Id::new(1));
     assert_eq!(rt;
         word(KeyParts::Number { num: 0, exp: 0 }),
@@ -80,10 +48,18 @@ fn packs_five_keys(rt: HostRuntime) {
         }),
         0x8000_0000_1000_0002
     );
+    assert_eq!(rt;
+        word(KeyParts::Long {
+            first: ids.1,
+            exp: 3,
+            negative: true
+        }),
+        0xe000_0002_1800_0002
+    );
 }
 
 #[test]
-fn unpacks_five_words(rt: HostRuntime) {
+fn unpacks_six_words(rt: HostRuntime) {
     let ids = (Id::new(0), Id::new(1));
     assert!(rt; has_parts(0x2000_0000_0000_0000, KeyParts::Number { num: 0, exp: 0 }));
     assert!(rt; has_parts(0x2020_0000_0000_0001, KeyParts::Number { num: 1, exp: 1 }));
@@ -106,15 +82,28 @@ fn unpacks_five_words(rt: HostRuntime) {
             }
         )
     );
+    assert!(rt;
+        has_parts(
+            0xe000_0002_1800_0002,
+            KeyParts::Long {
+                first: ids.1,
+                exp: 3,
+                negative: true
+            }
+        )
+    );
 }
 
 #[test]
 fn other_words_have_no_parts(rt: HostRuntime) -> Result<(), Fail> {
     assert!(rt; Key::from_word(0).is_none());
     for word in [
-        // No kind, and a kind that isn't used.
+        // No kind.
         1,
-        0xe000_0000_0000_0001,
+        // A long number with the exponent 41, one without chunks, and one with a bit above its sign.
+        0xe000_0001_4800_0001,
+        0xe000_0000_0000_0000,
+        0xe000_0004_0000_0001,
         // 2/2, and a number with the exponent 32.
         0x2020_0000_0000_0002,
         0x2400_0000_0000_0001,
@@ -142,17 +131,6 @@ fn sizes(rt: HostRuntime) -> Result<(), Fail> {
     Ok(())
 }
 
-/// The key of a number.
-fn number(num: u32) -> Key
-    ensures value { result ≡ word_of (Number (pos num) 0) }
-    ensures parts { parts_of result ≡ Some (Number (pos num) 0) }
-{
-    Key::pack(KeyParts::Number {
-        num: i64::from(num),
-        exp: 0,
-    })
-}
-
 /// Whether two claims of one key give one cell, in any store.
 fn claims_agree<F: Facts, S: CellStore<F>>(store: &mut S, key: Key) -> bool
     requires spare { 2 ≤ (S.state store.old).spare }
@@ -168,7 +146,7 @@ fn claims_agree<F: Facts, S: CellStore<F>>(store: &mut S, key: Key) -> bool
 #[tactic(auto, using(crate::proofs::Spelled::is_spelled_number))]
 fn two_claims_of_any_store_agree(rt: HostRuntime) -> Result<(), Fail> {
     let mut store = PlainStore::<Colliding>::new(rt.alloc(), 4)?;
-    assert!(rt; claims_agree::<Colliding, PlainStore<Colliding>>(&mut store, number(5)));
+    assert!(rt; claims_agree::<Colliding, PlainStore<Colliding>>(&mut store, whole_key(5)));
     Ok(())
 }
 
@@ -176,8 +154,8 @@ fn two_claims_of_any_store_agree(rt: HostRuntime) -> Result<(), Fail> {
 #[tactic(auto, using(crate::proofs::Spelled::is_spelled_number))]
 fn one_key_has_one_cell(rt: HostRuntime) -> Result<(), Fail> {
     let mut store = PlainStore::<Colliding>::new(rt.alloc(), 4)?;
-    let first = store.claim(number(0));
-    let again = store.claim(number(0));
+    let first = store.claim(whole_key(0));
+    let again = store.claim(whole_key(0));
     assert_eq!(rt; first.number(), 0);
     assert_eq!(rt; again.number(), 0);
     assert_eq!(rt; store.spare(), 2);
@@ -187,7 +165,7 @@ fn one_key_has_one_cell(rt: HostRuntime) -> Result<(), Fail> {
 #[test]
 fn first_claims_get_the_ids_from_0(rt: HostRuntime) -> Result<(), Fail> {
     let mut store = PlainStore::<Spread>::new(rt.alloc(), 4096)?;
-    let zero = store.claim(number(0));
+    let zero = store.claim(whole_key(0));
     assert_eq!(rt; zero.number(), 0);
     let list = store.claim(Key::pack(KeyParts::Cons {
         first: zero,
@@ -214,7 +192,7 @@ fn each_key_keeps_its_cell(rt: HostRuntime) -> Result<(), Fail> {
         if near.spare() == 0 || far.spare() == 0 {
             return Err("no spare")?;
         }
-        let key = number(num);
+        let key = whole_key(num);
         assert_eq!(rt; near.claim(key).number(), num);
         assert_eq!(rt; far.claim(key).number(), num);
     }
@@ -229,9 +207,9 @@ fn reads_a_store_of_words(rt: HostRuntime) -> Result<(), Fail> {
     let mut store = PlainStore::<Spread>::of_words(rt.alloc(), keys, values, 3)?;
     assert_eq!(rt; store.spare(), 3);
     assert_eq!(rt; store.look(Id::new(0)).word(), 0x2000_0000_0000_0000);
-    let one = store.claim(number(1));
+    let one = store.claim(whole_key(1));
     assert_eq!(rt; one.number(), 1);
-    let zero = store.claim(number(0));
+    let zero = store.claim(whole_key(0));
     assert_eq!(rt; zero.number(), 0);
     Ok(())
 }
@@ -239,8 +217,8 @@ fn reads_a_store_of_words(rt: HostRuntime) -> Result<(), Fail> {
 #[test]
 fn notes_once(rt: HostRuntime) -> Result<(), Fail> {
     let mut store = PlainStore::<Colliding>::new(rt.alloc(), 4)?;
-    let zero = store.claim(number(0));
-    let one = store.claim(number(1));
+    let zero = store.claim(whole_key(0));
+    let one = store.claim(whole_key(1));
     assert!(rt; store.same(one, one));
     assert!(rt; !store.same(one, zero));
     assert!(rt; store.noted(one).is_none());

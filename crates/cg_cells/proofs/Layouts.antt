@@ -1,9 +1,10 @@
 -- Parts and words: the parts of a word have that word, and parts that fit are those of their word.
-use Rattle.std.proofs.Common.{◌≡◌, ℕ, ℤ, pos, negsuc, ◌+◌, ◌-◌, ◌/◌, ◌%◌, ◌<◌, ◌≤◌, ◌⊎◌, Option, Some, None, IfSome, IfNone, ◌≢◌, unsigned_abs, Bool, true, false, IsTrue, nat_lt, arith, rules, ap, sym, ◌==◌, ◌&&◌, ◌||◌, ◌^◌, refl, subst, if◌then◌else◌, add-one}
+use Rattle.std.proofs.Common.{◌≡◌, ℕ, ℤ, pos, negsuc, ◌+◌, ◌-◌, ◌/◌, ◌%◌, ◌<◌, ◌≤◌, ◌⊎◌, Option, Some, None, IfSome, IfNone, IsSome, ◌≢◌, unsigned_abs, Bool, true, false, IsTrue, nat_lt, arith, rules, ap, sym, ◌∙◌, ◌==◌, ◌&&◌, ◌||◌, ◌^◌, refl, subst, if◌then◌else◌, add-one}
 use Rattle.std.proofs.lemmas.Bool.Decides.{nat_tests}
 use Rattle.cg_cells.specs.declared.key.KeyParts.{KeyParts}
-use Rattle.cg_cells.specs.declared.key.KeyParts.TheVariants.{Number, Chunk, Cons, Game, Pair, Board}
-use Rattle.cg_cells.specs.Layout.{FieldsFit, TypesFit, IsLink, word_of, id_field, num_field, NumFits}
+use Rattle.cg_cells.specs.declared.key.KeyParts.TheVariants.{Number, Chunk, Cons, Game, Pair, Board, Long}
+use Rattle.cg_cells.specs.Layout.{FieldsFit, TypesFit, IsLink, word_of, id_field, num_field, sign_field, NumFits}
+use Rattle.cg_cells.proofs.Notes.{some_is}
 use Rattle.cg_cells.specs.Parts.{num_at, link_at, fields_at, num_fits, is_link, fits, kept_at, parts_of}
 
 pub link_small : (o : Option ℕ) → IsLink o → id_field o ≤ (2 ^ 26)
@@ -22,6 +23,11 @@ kind_of (Cons first rest) = 3
 kind_of (Game lefts rights) = 4
 kind_of (Pair low high) = 5
 kind_of (Board number rows columns first) = 6
+kind_of (Long first exp negative) = 7
+
+pub sign_small : (b : Bool) → sign_field b ≤ 1
+sign_small true = omega arith
+sign_small false = omega arith
 
 pub kind_word : (p : KeyParts) → FieldsFit p → TypesFit p → word_of p / 2 ^ 61 ≡ kind_of p
 kind_word (Number num exp) f t = omega (arith, num_small num f.0)
@@ -30,6 +36,11 @@ kind_word (Cons first rest) f t = omega (arith, link_small rest t.1)
 kind_word (Game lefts rights) f t = omega (arith, link_small lefts t.0, link_small rights t.1)
 kind_word (Pair low high) f t = omega arith
 kind_word (Board number rows columns first) f t = omega arith
+kind_word (Long first exp negative) f t = omega (arith, sign_small negative)
+
+pub sign_back : (b : Bool) (n : ℕ) → sign_field b ≡ n → (n == 1) ≡ b
+sign_back true n e = rw (← e) refl
+sign_back false n e = rw (← e) refl
 
 num_back : (n : ℤ) (b : ℕ) → NumFits n → num_field n ≡ b → num_at b ≡ n
 num_back (pos n) b f e = rw (← e) (grind (arith, nat_tests))
@@ -39,17 +50,17 @@ link_back : (o : Option ℕ) (b : ℕ) → id_field o ≡ b → link_at b ≡ o
 link_back None b e = ap link_at (sym e)
 link_back (Some i) b e = rw (← e, add-one) refl
 
-lt_true : (a b : ℕ) → a < b → IsTrue (nat_lt a b)
+pub lt_true : (a b : ℕ) → a < b → IsTrue (nat_lt a b)
 lt_true a b h = grind (arith, nat_tests)
 
-lt_back : (a b : ℕ) → IsTrue (nat_lt a b) → a < b
+pub lt_back : (a b : ℕ) → IsTrue (nat_lt a b) → a < b
 lt_back a b h = grind (arith, nat_tests)
 
-both : (a b : Bool) → IsTrue a → IsTrue b → IsTrue (a && b)
+pub both : (a b : Bool) → IsTrue a → IsTrue b → IsTrue (a && b)
 both true b h k = k
 both false b h k = absurd (search (rules, h))
 
-both_back : (a b : Bool) → IsTrue (a && b) → IsTrue a × IsTrue b
+pub both_back : (a b : Bool) → IsTrue (a && b) → IsTrue a × IsTrue b
 both_back true b h = (search rules, h)
 both_back false b h = absurd (search (rules, h))
 
@@ -67,10 +78,10 @@ num_true n f = lt_true (unsigned_abs n) (2 ^ 52) f
 num_test : (n : ℤ) → IsTrue (num_fits n) → NumFits n
 num_test n f = lt_back (unsigned_abs n) (2 ^ 52) f
 
-lowest_true : (e m : ℕ) → (e ≡ 0) ⊎ (m ≡ 1) → IsTrue ((e == 0) || (m == 1))
+pub lowest_true : (e m : ℕ) → (e ≡ 0) ⊎ (m ≡ 1) → IsTrue ((e == 0) || (m == 1))
 lowest_true e m h = grind (arith, nat_tests)
 
-lowest_test : (e m : ℕ) → IsTrue ((e == 0) || (m == 1)) → (e ≡ 0) ⊎ (m ≡ 1)
+pub lowest_test : (e m : ℕ) → IsTrue ((e == 0) || (m == 1)) → (e ≡ 0) ⊎ (m ≡ 1)
 lowest_test e m h = grind (arith, nat_tests)
 
 fits_true : (p : KeyParts) → FieldsFit p → TypesFit p → IsTrue (fits p)
@@ -80,6 +91,7 @@ fits_true (Cons first rest) f t = both _ _ (lt_true first (2 ^ 26) t.0) (link_tr
 fits_true (Game lefts rights) f t = both _ _ (both _ _ (link_true lefts t.0) (link_true rights t.1)) (lt_true 0 _ (omega arith))
 fits_true (Pair low high) f t = both _ _ (lt_true low (high + 1) (omega arith)) (lt_true high (2 ^ 26) t.1)
 fits_true (Board number rows columns first) f t = both _ _ (both _ _ (both _ _ (both _ _ (both _ _ (both _ _ (lt_true 0 number (omega arith)) (lt_true number 16 (omega arith))) (lt_true 0 rows (omega arith))) (lt_true rows 65 (omega arith))) (lt_true 0 columns (omega arith))) (lt_true columns 65 (omega arith))) (lt_true first (2 ^ 26) t)
+fits_true (Long first exp negative) f t = both _ _ (lt_true exp 41 (omega arith)) (lt_true first (2 ^ 26) t)
 
 fits_back : (p : KeyParts) → IsTrue (fits p) → FieldsFit p × TypesFit p
 fits_back (Number num exp) h =
@@ -118,6 +130,10 @@ fits_back (Board number rows columns first) h =
     let s5 : number < 16 = lt_back number 16 f.1 in
     let s6 : 0 < number = lt_back 0 number f.0 in
     ((omega arith, omega arith, omega arith, omega arith, omega arith, omega arith), s)
+fits_back (Long first exp negative) h =
+    let a = both_back _ _ h in
+    let s : exp < 41 = lt_back exp 41 a.0 in
+    (omega arith, lt_back first (2 ^ 26) a.1)
 
 fields_at_kind : (p : KeyParts) (k w : ℕ) → FieldsFit p → TypesFit p → word_of p ≡ w → kind_of p ≡ k → fields_at k (w % 2 ^ 61) ≡ Some p
 fields_at_kind (Number num exp) k w f t e h =
@@ -140,6 +156,10 @@ fields_at_kind (Board number rows columns first) k w f t e h =
     let b : w % 2 ^ 61 / 2 ^ 47 % 2 ^ 7 ≡ rows = omega arith in
     let c : w % 2 ^ 61 / 2 ^ 40 % 2 ^ 7 ≡ columns = omega arith in
     let d : w % 2 ^ 61 % 2 ^ 40 - 1 ≡ first = omega arith in cc)
+fields_at_kind (Long first exp negative) k w f t e h =
+    rw (← h) (let a = sign_back negative (w % 2 ^ 61 / 2 ^ 33) (omega (arith, sign_small negative)) in
+    let b : w % 2 ^ 61 / 2 ^ 27 % 2 ^ 6 ≡ exp = omega (arith, sign_small negative) in
+    let c : w % 2 ^ 61 % 2 ^ 27 - 1 ≡ first = omega (arith, sign_small negative) in cc)
 
 same_number : (a b : ℕ) → a ≡ b → (a == b) ≡ true
 same_number a b e = grind (arith, nat_tests)
@@ -192,3 +212,10 @@ parts_none w none = none_or w (parts_of w) refl none
 pub parts_from : (w : ℕ) (o : Option KeyParts) → IfSome o (λ p. FieldsFit p × TypesFit p × (word_of p ≡ w)) → IfNone o ((p : KeyParts) → FieldsFit p → TypesFit p → word_of p ≢ w) → o ≡ parts_of w
 parts_from w (Some p) some none = sym (parts_of_word p w some.0 some.1 some.2)
 parts_from w None some none = sym (parts_none w none)
+
+-- what is read of a word w that has parts, where it would be any parts of that word
+pub parts_read : (w v : ℕ) (o q : Option KeyParts) → w ≡ v → IsSome (parts_of v) → ((p : KeyParts) → FieldsFit p → TypesFit p → word_of p ≡ w → o ≡ Some p) → o ≡ q → parts_of v ≡ q
+parts_read w v o q same has reads is =
+    let s = some_is (parts_of v) has in
+    let p = parts_word v s.0 s.1 in
+    s.1 ∙ sym (reads s.0 p.fields p.types (p.word ∙ sym same)) ∙ is

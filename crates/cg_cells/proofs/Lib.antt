@@ -10,3 +10,13 @@ pub mod Notes
 pub mod Calls
 pub mod Claiming
 pub mod Orders
+pub mod Entries
+pub mod Totals
+pub mod Rows
+pub mod Homes
+pub mod Fitting
+pub mod Keeping
+pub mod Moving
+pub mod Runs
+pub mod Finishing
+pub mod Tickets

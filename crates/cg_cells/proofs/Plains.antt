@@ -72,7 +72,7 @@ module _ {X : Type 0} (m : Meaning X) (L : IsLawful m) (w : Words) (P : IsStore 
   plain_apart a b t e h = P.sound.apart a b t (known_stands m L w a t e) (known_stands m L w b t h)
 
   pub plain_real : (i : ℕ) → IsReal m (map.get (things_of m w.keys) i)
-  plain_real i t e = (keys i, things_of m w.keys, plain_look i t e)
+  plain_real i t e = (keys, i, known_stands m L w i t e)
 
   pub plain_spent : IsStore m (record w { spare = w.spare - 1 })
   plain_spent = record { same_length = P.same_length; size = P.size; sound = P.sound; enough = let e = P.enough in omega arith }

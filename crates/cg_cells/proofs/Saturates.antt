@@ -1,14 +1,15 @@
 -- A cell that stands for a thing does so at the level of the number of cells.
-use Rattle.std.proofs.Common.{◌≡◌, ◌≢◌, ◌⊎◌, ℕ, zero, suc, ◌+◌, ◌<◌, ◌≤◌, List, [], ◌∷◌, length, Option, Some, None, refl, sym, ap, ◌∙◌, subst, inl, inr, ⊎_elim, arith, nat_cmp}
+use Rattle.std.proofs.Common.{◌≡◌, ◌⊎◌, ℕ, zero, suc, ◌+◌, ◌<◌, ◌≤◌, length, Option, Some, None, refl, sym, ap, ◌∙◌, subst, inl, inr, ⊎_elim, arith, nat_cmp}
 use Rattle.std.specs.Prelude.{slice_index}
 use Rattle.std.specs.FinMap as map
 use Rattle.std.specs.Cmp.{nat_cmp_total}
+use Rattle.std.proofs.lemmas.List.{get_or_past}
 use mathlib.Core.Logic.{dite}
 use native.Mathlib.Decide.{ℕ_discrete, dec_le, dec_lt}
 use Rattle.cg_cells.specs.Meaning.{Meaning, Grows, IsLawful, level, Stands}
-use Rattle.cg_cells.specs.Words.{Words, entries_of, entry, things_of}
+use Rattle.cg_cells.specs.Words.{Words, entries_of, things_of}
 use Rattle.cg_cells.proofs.Levels.{None_not, spelled_grows, level_suc, stands_one, stands_key}
-use Rattle.cg_cells.proofs.Maps.{first_here, first_else}
+use Rattle.cg_cells.proofs.Maps.{entry_here, entry_else}
 
 module _ {X : Type 0} where
   abbrev pub one_some : Option X → ℕ
@@ -27,6 +28,10 @@ module _ {X : Type 0} where
   one_back None p h le t e = let q : one_some p ≡ 1 = ap one_some e in absurd (omega arith)
   one_back (Some u) p h le t e = sym (h u refl) ∙ e
 
+  one_most : (o : Option X) → one_some o ≤ 1
+  one_most None = omega arith
+  one_most (Some t) = omega arith
+
   pub count_grows : (f g : ℕ → Option X) → Grows f g → (n : ℕ) → count f n ≤ count g n
   count_grows f g h zero = omega arith
   count_grows f g h (suc n) = let a = count_grows f g h n in let b = one_grows (f n) (g n) (h n) in omega arith
@@ -34,10 +39,6 @@ module _ {X : Type 0} where
   pub count_most : (f : ℕ → Option X) (n : ℕ) → count f n ≤ n
   count_most f zero = omega arith
   count_most f (suc n) = let a = count_most f n in let b = one_most (f n) in omega arith
-    where
-      one_most : (o : Option X) → one_some o ≤ 1
-      one_most None = omega arith
-      one_most (Some t) = omega arith
 
   -- a map that grew and counts no more is the same
   pub count_back : (f g : ℕ → Option X) → Grows f g → (n : ℕ) → count g n ≤ count f n → (i : ℕ) (t : X) → i < n → g i ≡ Some t → f i ≡ Some t
@@ -57,10 +58,6 @@ module _ {X : Type 0} where
       (λ is. subst (λ y. (t : X) × (f y ≡ Some t)) (sym is) (has (f n) (let b = one_most (f n) in omega arith)))
       (λ far. count_full f n (let b = one_most (f n) in omega arith) i (omega arith))
     where
-      one_most : (o : Option X) → one_some o ≤ 1
-      one_most None = omega arith
-      one_most (Some t) = omega arith
-
       has : (o : Option X) → 1 ≤ one_some o → (t : X) × (o ≡ Some t)
       has None h = absurd (omega arith)
       has (Some t) h = (t, refl)
@@ -95,47 +92,34 @@ module _ {X : Type 0} (m : Meaning X) (L : IsLawful m) (keys : ℕ → ℕ) (siz
       (λ all. let r = count_full (level m keys size) size all i (inside k i t e) in r.1 ∙ ap Some (stands_one m L keys i r.0 t (size, r.1) (k, e)))
       (climbs size)
 
-module _ {X : Type 0} (m : Meaning X) where
-  at_entry : (i n : ℕ) (o : Option X) (es : List (ℕ × X)) → i ≢ n → map.find nat_cmp i (entry m n o es) ≡ map.find nat_cmp i es
-  at_entry i n None es far = refl
-  at_entry i n (Some t) es far = first_else es n i t far
-
-  entry_here : (n : ℕ) (o : Option X) (es : List (ℕ × X)) → map.find nat_cmp n es ≡ None → map.find nat_cmp n (entry m n o es) ≡ o
-  entry_here n None es none = none
-  entry_here n (Some t) es none = first_here es n t
-
-  none_past : (f : ℕ → Option X) (n i : ℕ) → n ≤ i → map.find nat_cmp i (entries_of m f n) ≡ None
+module _ {X : Type 0} where
+  none_past : (f : ℕ → Option X) (n i : ℕ) → n ≤ i → map.find nat_cmp i (entries_of f n) ≡ None
   none_past f zero i h = refl
-  none_past f (suc n) i h = at_entry i n (f n) (entries_of m f n) (λ e. absurd (omega arith)) ∙ none_past f n i (omega arith)
+  none_past f (suc n) i h = entry_else i n (f n) (entries_of f n) (λ e. absurd (omega arith)) ∙ none_past f n i (omega arith)
 
-  find_entries : (f : ℕ → Option X) (n i : ℕ) → i < n → map.find nat_cmp i (entries_of m f n) ≡ f i
+  find_entries : (f : ℕ → Option X) (n i : ℕ) → i < n → map.find nat_cmp i (entries_of f n) ≡ f i
   find_entries f zero i lt = absurd (omega arith)
   find_entries f (suc n) i lt = dite (ℕ_discrete i n)
-      (λ is. subst (λ y. map.find nat_cmp y (entries_of m f (suc n)) ≡ f y) (sym is) (entry_here n (f n) (entries_of m f n) (none_past f n n (omega arith))))
-      (λ far. at_entry i n (f n) (entries_of m f n) far ∙ find_entries f n i (omega arith))
+      (λ is. subst (λ y. map.find nat_cmp y (entries_of f (suc n)) ≡ f y) (sym is) (entry_here n (f n) (entries_of f n) (none_past f n n (omega arith))))
+      (λ far. entry_else i n (f n) (entries_of f n) far ∙ find_entries f n i (omega arith))
 
-  module _ (L : IsLawful m) (w : Words) where
-    past_end : (i : ℕ) → length w.keys ≤ i → slice_index w.keys i ≡ 0
-    past_end i h = go w.keys i h
-      where
-        go : (l : List ℕ) (i : ℕ) → length l ≤ i → slice_index l i ≡ 0
-        go [] i h = refl
-        go (x ∷ l) zero h = absurd (omega arith)
-        go (x ∷ l) (suc i) h = go l i (omega arith)
+module _ {X : Type 0} (m : Meaning X) (L : IsLawful m) (w : Words) where
+  ends : (i : ℕ) → length w.keys ≤ i → slice_index w.keys i ≡ 0
+  ends i h = get_or_past w.keys i 0 h
 
-    -- known is what stands
-    pub known_stands : (i : ℕ) (t : X) → map.get (things_of m w.keys) i ≡ Some t → Stands m (slice_index w.keys) i t
-    unfolding things_of
-    known_stands i t e =
-        let f = level m (slice_index w.keys) (length w.keys) in
-        let g = sym (map.get-from_entries nat_cmp_total (entries_of m f (length w.keys)) i) ∙ e in
-        dite (dec_lt i (length w.keys))
-        (λ lt. (length w.keys, sym (find_entries f (length w.keys) i lt) ∙ g))
-        (λ ge. absurd (None_not (sym (none_past f (length w.keys) i (omega arith)) ∙ g)))
+  -- known is what stands
+  pub known_stands : (i : ℕ) (t : X) → map.get (things_of m w.keys) i ≡ Some t → Stands m (slice_index w.keys) i t
+  unfolding things_of
+  known_stands i t e =
+      let f = level m (slice_index w.keys) (length w.keys) in
+      let g = sym (map.get-from_entries nat_cmp_total (entries_of f (length w.keys)) i) ∙ e in
+      dite (dec_lt i (length w.keys))
+      (λ lt. (length w.keys, sym (find_entries f (length w.keys) i lt) ∙ g))
+      (λ ge. absurd (None_not (sym (none_past f (length w.keys) i (omega arith)) ∙ g)))
 
-    pub stands_known : (i : ℕ) (t : X) → Stands m (slice_index w.keys) i t → map.get (things_of m w.keys) i ≡ Some t
-    unfolding things_of
-    stands_known i t s =
-        let f = level m (slice_index w.keys) (length w.keys) in
-        let lt = inside m L (slice_index w.keys) (length w.keys) past_end s.0 i t s.1 in
-        map.get-from_entries nat_cmp_total (entries_of m f (length w.keys)) i ∙ find_entries f (length w.keys) i lt ∙ full_level m L (slice_index w.keys) (length w.keys) past_end s.0 i t s.1
+  pub stands_known : (i : ℕ) (t : X) → Stands m (slice_index w.keys) i t → map.get (things_of m w.keys) i ≡ Some t
+  unfolding things_of
+  stands_known i t s =
+      let f = level m (slice_index w.keys) (length w.keys) in
+      let lt = inside m L (slice_index w.keys) (length w.keys) ends s.0 i t s.1 in
+      map.get-from_entries nat_cmp_total (entries_of f (length w.keys)) i ∙ find_entries f (length w.keys) i lt ∙ full_level m L (slice_index w.keys) (length w.keys) ends s.0 i t s.1

@@ -5,3 +5,6 @@ pub mod Store
 pub mod Words
 pub mod Codes
 pub mod Index
+pub mod Views
+pub mod Table
+pub mod Steps

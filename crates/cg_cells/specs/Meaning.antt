@@ -42,10 +42,6 @@ pub record IsLawful {X : Type 0} (m : Meaning X) : Type 0 where
   pub home_below : (key size : ℕ) → 1 ≤ size → m.home key size < size
 
 module _ {X : Type 0} (m : Meaning X) where
-  -- where there is a thing, some key spells it under some finite map
-  abbrev pub IsReal : Option X → Type 0
-  IsReal o = (t : X) → o ≡ Some t → (key : ℕ) × (known : map.FinMap nat_cmp X) × (m.spells key (map.get known) ≡ Some t)
-
   -- the key spells the thing under some finite map that the map extends
   pub record SpellsUnderFinite (key : ℕ) (f : ℕ → Option X) (t : X) : Type 0 where
     pub known : map.FinMap nat_cmp X
@@ -71,6 +67,10 @@ module _ {X : Type 0} (m : Meaning X) where
   -- the cell stands for the thing
   abbrev pub Stands : (ℕ → ℕ) → ℕ → X → Type 0
   Stands keys id t = (n : ℕ) × (level keys n id ≡ Some t)
+
+  -- where there is a thing, some cells with these keys stand for it: no thing is known but what is made of keys
+  abbrev pub IsReal : Option X → Type 0
+  IsReal o = (t : X) → o ≡ Some t → (keys : ℕ → ℕ) × (id : ℕ) × Stands keys id t
 
   -- What holds of the cells of any table. keys and values give each cell's words, and 0 past the last cell
   pub record Sound (keys values : ℕ → ℕ) : Type 0 where

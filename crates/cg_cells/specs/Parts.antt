@@ -1,7 +1,7 @@
 -- The parts of a word, and the ids that a key names.
 use Rattle.std.specs.Prelude.{ℕ, zero, suc, ℤ, pos, negsuc, ◌+◌, ◌-◌, ◌/◌, ◌%◌, ◌^◌, ◌==◌, ◌&&◌, ◌||◌, Bool, true, if◌then◌else◌, Option, Some, None, List, [], ◌∷◌, unsigned_abs, nat_lt}
 use Rattle.cg_cells.specs.declared.key.KeyParts.{KeyParts}
-use Rattle.cg_cells.specs.declared.key.KeyParts.TheVariants.{Number, Chunk, Cons, Game, Pair, Board}
+use Rattle.cg_cells.specs.declared.key.KeyParts.TheVariants.{Number, Chunk, Cons, Game, Pair, Board, Long}
 use Rattle.cg_cells.specs.Layout.{word_of, id_field}
 
 -- the numerator in a field of 53 bits
@@ -22,6 +22,7 @@ fields_at kind low =
     else if kind == 4 then Some (Game (link_at (low % 2 ^ 27)) (link_at (low / 2 ^ 27)))
     else if kind == 5 then Some (Pair (low % 2 ^ 27 - 1) (low / 2 ^ 27 - 1))
     else if kind == 6 then Some (Board (low / 2 ^ 54) (low / 2 ^ 47 % 2 ^ 7) (low / 2 ^ 40 % 2 ^ 7) (low % 2 ^ 40 - 1))
+    else if kind == 7 then Some (Long (low % 2 ^ 27 - 1) (low / 2 ^ 27 % 2 ^ 6) (low / 2 ^ 33 == 1))
     else None
 
 abbrev pub num_fits : ℤ → Bool
@@ -41,6 +42,7 @@ fits (Pair low high) = nat_lt low (high + 1) && nat_lt high (2 ^ 26)
 fits (Board number rows columns first) =
     nat_lt 0 number && nat_lt number 16 && nat_lt 0 rows && nat_lt rows 65 && nat_lt 0 columns && nat_lt columns 65
     && nat_lt first (2 ^ 26)
+fits (Long first exp negative) = nat_lt exp 41 && nat_lt first (2 ^ 26)
 
 abbrev pub kept_at : ℕ → Option KeyParts → Option KeyParts
 kept_at word None = None
@@ -64,6 +66,7 @@ named_in (Some (Game None rights)) = link_names rights
 named_in (Some (Game (Some left) rights)) = left ∷ link_names rights
 named_in (Some (Pair low high)) = low ∷ high ∷ []
 named_in (Some (Board number rows columns first)) = first ∷ []
+named_in (Some (Long first exp negative)) = first ∷ []
 
 -- the ids that a key names: those in its fields
 abbrev pub names_of : ℕ → List ℕ

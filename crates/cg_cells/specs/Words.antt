@@ -45,14 +45,8 @@ pub record AreFirst (keys : List ℕ) (n : ℕ) : Type 0 where
   pub full : (i : ℕ) → i < n → slice_index keys i ≢ 0
   pub empty : (i : ℕ) → n ≤ i → slice_index keys i ≡ 0
 
-module _ {X : Type 0} (m : Meaning X) where
-  -- the words of a store: 1 to 2 ^ 26 cells, sound, with an empty cell for each claim that is left
-  pub record IsStore (w : Words) : Type 0 where
-    pub same_length : length w.values ≡ length w.keys
-    pub size : (1 ≤ length w.keys) × (length w.keys ≤ 2 ^ 26)
-    pub sound : Sound m (slice_index w.keys) (slice_index w.values)
-    pub enough : filled (slice_index w.keys) (length w.keys) + w.spare ≤ length w.keys
-
+module _ {X : Type 0} where
+  -- a pair more, where there is a thing
   abbrev pub entry : ℕ → Option X → List (ℕ × X) → List (ℕ × X)
   entry i None es = es
   entry i (Some t) es = (i, t) ∷ es
@@ -61,6 +55,14 @@ module _ {X : Type 0} (m : Meaning X) where
   abbrev pub entries_of : (ℕ → Option X) → ℕ → List (ℕ × X)
   entries_of f zero = []
   entries_of f (suc n) = entry n (f n) (entries_of f n)
+
+module _ {X : Type 0} (m : Meaning X) where
+  -- the words of a store: 1 to 2 ^ 26 cells, sound, with an empty cell for each claim that is left
+  pub record IsStore (w : Words) : Type 0 where
+    pub same_length : length w.values ≡ length w.keys
+    pub size : (1 ≤ length w.keys) × (length w.keys ≤ 2 ^ 26)
+    pub sound : Sound m (slice_index w.keys) (slice_index w.values)
+    pub enough : filled (slice_index w.keys) (length w.keys) + w.spare ≤ length w.keys
 
   -- What all the cells stand for, by their key words. A cell that stands for a thing does so at the level of the number of cells
   unfoldable pub things_of : List ℕ → map.FinMap nat_cmp X

@@ -18,6 +18,8 @@ pub(crate) const GAME: u64 = 1 << 54;
 pub(crate) const ROWS: u64 = 1 << 47;
 /// The columns of a board.
 pub(crate) const COLUMNS: u64 = 1 << 40;
+/// The sign of a long number, above its first chunk and the 6 bits of its exponent.
+pub(crate) const SIGN: u64 = 1 << 33;
 
 /// The field of an id: the id plus 1, and 0 for none.
 pub(crate) fn field_of(id: Option<Id>) -> u64

@@ -1,11 +1,12 @@
 //! Keys, and their parts.
-ghost use Rattle.std.specs.Prelude.{◌≡◌, ◌≢◌, ℕ, ◌↔◌, IsTrue, IfSome, IfNone, Some, None};
+ghost use Rattle.std.specs.Prelude.{◌≡◌, ◌≢◌, ℕ, ◌↔◌, IsTrue, IfSome, IfNone, IsSome, Some, None};
 ghost use Rattle.cg_cells.specs.Layout.{FieldsFit, TypesFit, word_of};
 ghost use Rattle.cg_cells.specs.Parts.{parts_of};
 
 use crate::Id;
 use crate::bits::{
-    COLUMNS, EXPONENT, GAME, KIND, NEXT, ROWS, SECOND, bits_of, field_of, id_in, link_in, num_in,
+    COLUMNS, EXPONENT, GAME, KIND, NEXT, ROWS, SECOND, SIGN, bits_of, field_of, id_in, link_in,
+    num_in,
 };
 use std::marker::Model;
 
@@ -27,7 +28,7 @@ impl Model for Key {
     ghost invariant = { λ s. s.word ≢ 0 };
 }
 
-/// The parts of a key. The word has the kind, from 1 to 6 in the order of the variants, in bits 61 to 63. The field of an
+/// The parts of a key. The word has the kind, from 1 to 7 in the order of the variants, in bits 61 to 63. The field of an
 /// id holds the id plus 1, in 27 bits, and 0 for no id, which is the empty list. Bits that no field has are 0.
 #[derive(Clone, Copy, Debug, PartialEq, Eq)]
 pub enum KeyParts {
@@ -66,6 +67,13 @@ pub enum KeyParts {
         columns: u8,
         first: Id,
     },
+    /// A number of more bits than fit in a key of the first kind, over `2^exp` with `exp` at most 40, by the first of two
+    /// chunks of 32 bits of its numerator. Bits 0 to 26 hold `first`, bits 27 to 32 `exp`, bit 33 `negative`.
+    Long {
+        first: Id,
+        exp: u8,
+        negative: bool,
+    },
 }
 
 impl KeyParts {
@@ -94,6 +102,11 @@ impl KeyParts {
             } => {
                 (1..=15).contains(number) && (1..=64).contains(rows) && (1..=64).contains(columns)
             }
+            KeyParts::Long {
+                first: _,
+                exp,
+                negative: _,
+            } => *exp <= 40,
         }
     }
 
@@ -127,6 +140,16 @@ impl KeyParts {
                     + GAME * (*number as u64)
                     + ROWS * (*rows as u64)
                     + COLUMNS * (*columns as u64)
+                    + field_of(Some(*first))
+            }
+            KeyParts::Long {
+                first,
+                exp,
+                negative,
+            } => {
+                7 * KIND
+                    + SIGN * u64::from(*negative)
+                    + SECOND * (*exp as u64)
                     + field_of(Some(*first))
             }
         }
@@ -164,6 +187,11 @@ fn candidate(word: u64) -> Option<KeyParts>
             rows: ((low / ROWS) % 128) as u8,
             columns: ((low / COLUMNS) % 128) as u8,
             first: id_in(low % COLUMNS),
+        }),
+        7 => Some(KeyParts::Long {
+            first: id_in(low % SECOND),
+            exp: ((low / SECOND) % 64) as u8,
+            negative: low / SIGN == 1,
         }),
         _ => None,
     }
@@ -216,5 +244,18 @@ impl Key {
         ensures none { IfNone result ((p : KeyParts) → FieldsFit p → TypesFit p → word_of p ≢ self.now) }
     {
         unpacked(self.word)
+    }
+
+    /// The parts of a key that is the key of some, as each key that spells a thing is. They are read where they stand and
+    /// not spelled again, as `unpack` does to see whether there are any.
+    pub fn parts(&self) -> KeyParts
+        requires { IsSome (parts_of self.now) }
+        ensures parts { parts_of self.now ≡ Some result }
+        ensures fit { FieldsFit result × TypesFit result × (word_of result ≡ self.now) }
+    {
+        let Some(parts) = candidate(self.word) else {
+            unreachable!()
+        };
+        parts
     }
 }

@@ -1,10 +1,11 @@
 //! Laws of keys and of claims: each function does nothing, and its contract is the law.
-ghost use Rattle.std.specs.Prelude.{◌≡◌, ◌≢◌, ℕ, ◌+◌, ◌<◌, ◌↔◌, pos, negsuc, Option, Some, None, List, slice_index, slice_set};
+ghost use Rattle.std.specs.Prelude.{◌≡◌, ◌≢◌, ℕ, ◌+◌, ◌<◌, ◌↔◌, pos, negsuc, true, Option, Some, None, List, slice_index, slice_set};
 ghost use Rattle.std.specs.FinMap as map;
+ghost use Rattle.std.specs.Ordering.{nat_cmp};
 ghost use Rattle.cg_cells.specs.declared.key.KeyParts.{KeyParts};
-ghost use Rattle.cg_cells.specs.declared.key.KeyParts.TheVariants.{Number, Cons, Game};
+ghost use Rattle.cg_cells.specs.declared.key.KeyParts.TheVariants.{Number, Cons, Game, Long};
 ghost use Rattle.cg_cells.specs.Layout.{FieldsFit, TypesFit, word_of};
-ghost use Rattle.cg_cells.specs.Meaning.{Has, SpellsUnderFinite, Stands};
+ghost use Rattle.cg_cells.specs.Meaning.{Has, IsReal, SpellsUnderFinite, Stands};
 ghost use Rattle.cg_cells.specs.Parts.{parts_of};
 ghost use Rattle.cg_cells.specs.Words.{AreFirst, IsCellFor, empty_words, marked, things_of};
 
@@ -17,13 +18,15 @@ pub fn layout()
     ensures others { (w : ℕ) → ((p : KeyParts) → FieldsFit p → TypesFit p → word_of p ≢ w) → parts_of w ≡ None }
 {}
 
-/// Five words: of the numbers 0, 1/2 and -1, of the list of the cell 0 alone, and of the game with the cell 1 as both lists.
-pub fn five_words()
+/// Six words: of the numbers 0, 1/2 and -1, of the list of the cell 0 alone, of the game with the cell 1 as both lists, and of
+/// a negative long number over 2^3 whose first chunk is the cell 1.
+pub fn six_words()
     ensures zero { word_of (Number (pos 0) 0) ≡ 0x2000_0000_0000_0000 }
     ensures half { word_of (Number (pos 1) 1) ≡ 0x2020_0000_0000_0001 }
     ensures minus_one { word_of (Number (negsuc 0) 0) ≡ 0x201f_ffff_ffff_ffff }
     ensures cons { word_of (Cons 0 None) ≡ 0x6000_0000_0000_0001 }
     ensures game { word_of (Game (Some 1) (Some 1)) ≡ 0x8000_0000_1000_0002 }
+    ensures long { word_of (Long 1 3 true) ≡ 0xe000_0002_1800_0002 }
 {}
 
 /// The ids of a store that was made empty come in the order of first claims, from 0: where the cells with a key are the
@@ -40,6 +43,12 @@ pub fn order_of_claims()
 /// What a key spells under any map from ids to things it spells under a finite one, which has nothing that the map hasn't.
 pub fn finite_maps<F: Facts>()
     ensures { (key : ℕ) (f : ℕ → Option F.Thing) (t : F.Thing) → F.meaning.spells key f ≡ Some t → SpellsUnderFinite F.meaning key f t }
+{}
+
+/// A thing that some cells stand for is one that some key spells under some finite map.
+pub fn real_things<F: Facts>()
+    ensures { (o : Option F.Thing) (t : F.Thing) → IsReal F.meaning o → o ≡ Some t
+        → (key : ℕ) × (known : map.FinMap nat_cmp F.Thing) × (F.meaning.spells key (map.get known) ≡ Some t) }
 {}
 
 /// A store in plain memory knows exactly what its cells stand for, and exactly its cells with a value are noted.

@@ -61,7 +61,7 @@ pub trait CellStore<F: Facts> {
         ensures few { result ≤ 2 ^ 26 };
 
     /// Whether two known ids are known to be one thing, which is so exactly where they are one id. Each of the two things is
-    /// one that some key spells under some finite map.
+    /// one that some cells stand for.
     fn same(&self, a: Id, b: Id) -> bool
         requires a { Known (state self.now) a }
         requires b { Known (state self.now) b }

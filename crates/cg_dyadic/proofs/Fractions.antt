@@ -4,7 +4,6 @@ use Rattle.std.proofs.lemmas.Int.{ints}
 use Rattle.std.specs.Prelude.{if◌then◌else◌}
 use Rattle.cg_dyadic.specs.Exact.{IsLowest, signed_of}
 use Rattle.cg_dyadic.specs.Number.{IsFraction, Number, between, exp_of, half, is_even, num_of, ratio}
-use Rattle.cg_dyadic.specs.Search.{crossed}
 use Rattle.cg_dyadic.specs.Units.{doubled, units}
 use Rattle.cg_dyadic.proofs.Integers.{even_half}
 use Rattle.cg_dyadic.proofs.Scale.{doubled-at, doubled-back, doubled-mul, doubled_twice, exp-ratio, units-le, units-ratio}

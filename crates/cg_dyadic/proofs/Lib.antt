@@ -16,3 +16,7 @@ pub mod Descend
 pub mod Simplest
 pub mod Gap
 pub mod Strict
+pub mod Wides
+pub mod Negatives
+pub mod Ranges
+pub mod Neighbours

@@ -4,7 +4,6 @@ use Rattle.std.proofs.Math.Nat.{pow-suc}
 use Rattle.std.proofs.Math.Pow.{pow_mono}
 use Rattle.std.proofs.lemmas.Nat.{pow_below}
 use Rattle.std.proofs.lemmas.Bool.{cases_order}
-use Rattle.cg_dyadic.specs.Number.{half}
 
 pub pow_down : (e : ℕ) → 0 < e → 2 ^ e ≡ 2 * 2 ^ (e - 1)
 pow_down e h =

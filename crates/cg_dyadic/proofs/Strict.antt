@@ -11,7 +11,6 @@ use Rattle.cg_dyadic.specs.Search.{closed_cut}
 use Rattle.cg_dyadic.specs.Simplest.{Apart, NoOptionPasses, NonePasses, SimplestFor, SimplestIsOutside, strictly_between}
 use Rattle.cg_dyadic.proofs.Gap.{gap_convex}
 use Rattle.cg_dyadic.proofs.Middle.{middle, middle_between}
-use Rattle.cg_dyadic.proofs.Results.{outside}
 use Rattle.cg_dyadic.proofs.Scale.{exp-ratio, le-units, units-own, units-ratio}
 use Rattle.cg_dyadic.proofs.Simplest.{simplest_for}
 use Rattle.cg_dyadic.proofs.Truth.{and-both, and-split, differ, false-from, not_true, true_not}

@@ -1,9 +1,8 @@
 -- Sums and negatives of numbers, at a common scale.
-use Rattle.std.proofs.Common.{◌≡◌, refl, ℕ, zero, suc, ◌+◌, ◌-◌, ◌*◌, ◌^◌, ◌≤◌, ◌<◌, ◌⊎◌, ◌↔◌, inl, inr, Bool, true, false, ℤ, pos, negsuc, neg_ℤ, ◌+ℤ◌, ◌*ℤ◌, ◌≤ℤ◌, ◌<ℤ◌, unsigned_abs, ap, sym, subst, ◌∙◌, arith}
+use Rattle.std.proofs.Common.{◌≡◌, refl, ℕ, zero, suc, ◌+◌, ◌-◌, ◌^◌, ◌≤◌, ◌↔◌, ℤ, pos, neg_ℤ, ◌+ℤ◌, ◌*ℤ◌, ◌≤ℤ◌, ap, sym, subst, ◌∙◌, arith}
 use Rattle.std.proofs.lemmas.Int.{ints}
 use Rattle.cg_dyadic.specs.Exact.{IsNegative, IsSum, sum_num}
 use Rattle.cg_dyadic.specs.Number.{IsFraction, Number, NumberLe, between, exp_of, num_of, ratio, whole}
-use Rattle.cg_dyadic.specs.Search.{crossed}
 use Rattle.cg_dyadic.specs.Units.{doubled, units}
 use Rattle.cg_dyadic.proofs.Fractions.{fraction-ratio, fraction-units}
 use Rattle.cg_dyadic.proofs.Scale.{doubled-add, doubled-back, doubled-mul, le-units, units-le, units_up, units_up'}

@@ -1,5 +1,7 @@
 -- Tests and what they tell.
-use Rattle.std.proofs.Common.{◌≡◌, refl, Bool, true, false, not, IsTrue, ◌&&◌, sym, ◌⊎◌, inl, inr}
+use Rattle.std.proofs.Common.{◌≡◌, refl, Bool, true, false, not, IsTrue, ◌&&◌, sym, ◌⊎◌, inl, inr, ℕ, ◌<◌, arith}
+use Rattle.std.specs.Prelude.{◌||◌, nat_lt}
+use Rattle.std.proofs.lemmas.Bool.Decides.{nat_tests}
 
 pub and-split : (b c : Bool) → IsTrue (b && c) → IsTrue b × IsTrue c
 and-split true c h = (refl, h)
@@ -38,3 +40,25 @@ is_not_not false h = h
 pub true_or_false : (b : Bool) → (b ≡ true) ⊎ (b ≡ false)
 true_or_false true = inl refl
 true_or_false false = inr refl
+
+pub not_not : (b : Bool) → not (not b) ≡ b
+not_not true = refl
+not_not false = refl
+
+pub and_swap : (b c : Bool) → (b && c) ≡ (c && b)
+and_swap true true = refl
+and_swap true false = refl
+and_swap false true = refl
+and_swap false false = refl
+
+pub or_false : (a b : Bool) → (a || b) ≡ false → (a ≡ false) × (b ≡ false)
+or_false true b h = absurd (cc)
+or_false false b h = (refl, h)
+
+-- ---- numbers in order
+
+pub nat_lt-less : (m n : ℕ) → nat_lt m n ≡ true → m < n
+nat_lt-less m n t = grind (arith, nat_tests)
+
+pub less-nat_lt : (m n : ℕ) → m < n → nat_lt m n ≡ true
+less-nat_lt m n l = grind (arith, nat_tests)

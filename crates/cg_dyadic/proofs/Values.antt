@@ -169,12 +169,12 @@ right-le_number x y m = elim (number_le-total x y) [ inl h ↦ h | inr h ↦ abs
 
 -- ---- the ends of the range
 
-small_doubled : (d : ℕ) (n : ℤ) → negsuc 4503599627370494 ≤ℤ n → n ≤ℤ pos 4503599627370495 →
-    (doubled d (negsuc 4503599627370494) ≤ℤ n) × (n ≤ℤ doubled d (pos 4503599627370495))
+small_doubled : (d : ℕ) (n : ℤ) → negsuc 18446744073709551614 ≤ℤ n → n ≤ℤ pos 18446744073709551615 →
+    (doubled d (negsuc 18446744073709551614) ≤ℤ n) × (n ≤ℤ doubled d (pos 18446744073709551615))
 small_doubled zero n h k = (h, k)
 small_doubled (suc d) n h k = let (a, b) = small_doubled d n h k in
-    let c = doubled-le d (negsuc 4503599627370494) (negsuc 0) (omega (arith, ints)) in
-    let e = doubled-le d (pos 1) (pos 4503599627370495) (omega (arith, ints)) in
+    let c = doubled-le d (negsuc 18446744073709551614) (negsuc 0) (omega (arith, ints)) in
+    let e = doubled-le d (pos 1) (pos 18446744073709551615) (omega (arith, ints)) in
     let f = doubled_sign d in
     (omega (arith, ints), omega (arith, ints))
   where
@@ -182,15 +182,15 @@ small_doubled (suc d) n h k = let (a, b) = small_doubled d n h k in
     doubled_sign zero = (omega (arith, ints), omega (arith, ints))
     doubled_sign (suc d) = let (a, b) = doubled_sign d in (omega (arith, ints), omega (arith, ints))
 
-small_num : (n : ℤ) → unsigned_abs n < 2 ^ 52 → (negsuc 4503599627370494 ≤ℤ n) × (n ≤ℤ pos 4503599627370495)
+small_num : (n : ℤ) → unsigned_abs n < 2 ^ 64 → (negsuc 18446744073709551614 ≤ℤ n) × (n ≤ℤ pos 18446744073709551615)
 small_num n h = let a = abs_tells n in (omega (arith, ints), omega (arith, ints))
 
-pub least_le : (x : Number) → InRange x → NumberLe (whole (negsuc 4503599627370494)) x
+pub least_le : (x : Number) → InRange x → NumberLe (whole (negsuc 18446744073709551614)) x
 least_le x r = let (a, b) = small_num (num_of x) r.small in
     let (c, d) = small_doubled (exp_of x) (num_of x) a b in
-    cross (whole (negsuc 4503599627370494)) x ∙ to_le_z (doubled (exp_of x) (negsuc 4503599627370494)) (num_of x) c
+    cross (whole (negsuc 18446744073709551614)) x ∙ to_le_z (doubled (exp_of x) (negsuc 18446744073709551614)) (num_of x) c
 
-pub le_greatest : (x : Number) → InRange x → NumberLe x (whole (pos 4503599627370495))
+pub le_greatest : (x : Number) → InRange x → NumberLe x (whole (pos 18446744073709551615))
 le_greatest x r = let (a, b) = small_num (num_of x) r.small in
     let (c, d) = small_doubled (exp_of x) (num_of x) a b in
-    cross x (whole (pos 4503599627370495)) ∙ to_le_z (num_of x) (doubled (exp_of x) (pos 4503599627370495)) d
+    cross x (whole (pos 18446744073709551615)) ∙ to_le_z (num_of x) (doubled (exp_of x) (pos 18446744073709551615)) d

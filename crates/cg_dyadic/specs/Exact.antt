@@ -2,7 +2,7 @@
 use Rattle.std.specs.Prelude.{◌+◌, ℕ, ℤ, pos, neg_ℤ, Bool, true, false, ◌^◌, ◌%◌, ◌⊎◌, ◌==◌, ◌≡◌, ◌+ℤ◌, ◌*ℤ◌, List, [], ◌∷◌, ◌++◌, if◌then◌else◌, decimal, Option, Some, None, Result, Ok, Err}
 use Rattle.std.specs.Fmt.{signed_decimal}
 use Rattle.cg_dyadic.specs.declared.fault.RangeFault.{RangeFault}
-use Rattle.cg_dyadic.specs.Number.{InRange, IsFraction, Number, exp_of, num_of}
+use Rattle.cg_dyadic.specs.Number.{InRange, IsFraction, Number, exp_of, num_of, ratio}
 
 -- the fault holds the number in lowest terms
 pub record Holds (f : RangeFault) (x : Number) : Type 0 where
@@ -26,6 +26,10 @@ IsSum x y z = IsFraction (sum_num x y) (exp_of x + exp_of y) z
 pub record IsNegative (x y : Number) : Type 0 where
   pub num : num_of y ≡ neg_ℤ (num_of x)
   pub exp : exp_of y ≡ exp_of x
+
+-- the negative of x
+abbrev pub number_negative : Number → Number
+number_negative x = ratio (neg_ℤ (num_of x)) (exp_of x)
 
 -- the number of this sign and size
 abbrev pub signed_of : Bool → ℕ → ℤ

@@ -4,3 +4,4 @@ pub mod Units
 pub mod Simplest
 pub mod Cut
 pub mod Search
+pub mod Wide

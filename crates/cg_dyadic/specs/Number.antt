@@ -1,6 +1,6 @@
 -- Dyadic numbers in lowest terms, with no bound.
 -- Siegel, Combinatorial Game Theory (2013), II.3: the dyadic rationals and their canonical forms.
-use Rattle.std.specs.Prelude.{ℕ, ℤ, pos, negsuc, Bool, ◌+◌, ◌/◌, ◌%◌, ◌^◌, ◌==◌, ◌+ℤ◌, List, [], ◌∷◌, if◌then◌else◌, zero, suc, ◌<◌, ◌≤◌, IsTrue, unsigned_abs, ◌⊎◌, ◌≡◌}
+use Rattle.std.specs.Prelude.{ℕ, ℤ, pos, negsuc, Bool, ◌+◌, ◌/◌, ◌%◌, ◌^◌, ◌==◌, ◌+ℤ◌, List, [], ◌∷◌, if◌then◌else◌, zero, suc, ◌<◌, ◌≤◌, IsTrue, unsigned_abs, nat_lt, not, ◌&&◌, ◌⊎◌, ◌≡◌}
 use Rattle.std.specs.declared.cmp.Ordering.{Ordering}
 use Rattle.std.specs.declared.cmp.Ordering.TheVariants.{Less, Equal, Greater}
 use lib.IntN.{◌*ℤ◌}
@@ -71,14 +71,25 @@ AmongNumbers x (y ∷ ys) = (x ≡ y) ⊎ AmongNumbers x ys
 abbrev pub weight : Number → ℕ
 weight x = unsigned_abs (num_of x) + exp_of x
 
--- what a Dyadic holds: a numerator below 2 ^ 52 in size, over at most 2 ^ 31
+-- what a Dyadic holds: a numerator below 2 ^ 64 in size, over at most 2 ^ 40
 pub record InRange (x : Number) : Type 0 where
-  pub small : unsigned_abs (num_of x) < 2 ^ 52
-  pub short : exp_of x ≤ 31
+  pub small : unsigned_abs (num_of x) < 2 ^ 64
+  pub short : exp_of x ≤ 40
+
+-- whether x is in range
+abbrev pub is_in_range : Number → Bool
+is_in_range x = nat_lt (unsigned_abs (num_of x)) (2 ^ 64) && nat_lt (exp_of x) 41
+
+-- a number in range is narrow where its numerator is below 2 ^ 52 in size over at most 2 ^ 31, and long otherwise
+abbrev pub is_narrow : Number → Bool
+is_narrow x = nat_lt (unsigned_abs (num_of x)) (2 ^ 52) && nat_lt (exp_of x) 32
+
+abbrev pub is_long : Number → Bool
+is_long x = not (is_narrow x)
 
 -- m and e are the numerator and the exponent of a number in range
 pub record InLowest (m : ℤ) (e : ℕ) : Type 0 where
   pub num_is : num_of (ratio m e) ≡ m
   pub exp_is : exp_of (ratio m e) ≡ e
-  pub small : unsigned_abs m < 2 ^ 52
-  pub short : e ≤ 31
+  pub small : unsigned_abs m < 2 ^ 64
+  pub short : e ≤ 40

@@ -27,10 +27,10 @@ pub record FoundAt (test : Number → Bool) (n : ℤ) (e : ℕ) : Type 0 where
   pub exp_is : exp_of (ratio n e) ≡ e
   pub simplest : NoOptionPasses test (ratio n e)
 
--- from -2 ^ 100 to 2 ^ 100
+-- from -2 ^ 110 to 2 ^ 110
 pub record Small (n : ℤ) : Type 0 where
-  pub from_low : negsuc 1267650600228229401496703205375 ≤ℤ n
-  pub to_high : n ≤ℤ pos 1267650600228229401496703205376
+  pub from_low : negsuc 1298074214633706907132624082305023 ≤ℤ n
+  pub to_high : n ≤ℤ pos 1298074214633706907132624082305024
 
 abbrev pub SmallEnd : Option ℤ → Type 0
 SmallEnd None = Unit {0}
@@ -63,19 +63,19 @@ nearest (Some a) (Some b) = if lt_z (pos 0) a then a else (if lt_z b (pos 0) the
 nearest None (Some b) = if lt_z b (pos 0) then b else pos 0
 nearest None None = pos 0
 
--- the ends of a gap, in units of 1 / 2 ^ 32
+-- the ends of a gap, in units of 1 / 2 ^ 41
 abbrev pub first_unit : Option Cut → Option ℤ
 first_unit None = None
-first_unit (Some c) = Some (if c.closed then units 32 c.at +ℤ pos 1 else units 32 c.at)
+first_unit (Some c) = Some (if c.closed then units 41 c.at +ℤ pos 1 else units 41 c.at)
 
 abbrev pub last_unit : Option Cut → Option ℤ
 last_unit None = None
-last_unit (Some c) = Some (if c.closed then units 32 c.at -ℤ pos 1 else units 32 c.at)
+last_unit (Some c) = Some (if c.closed then units 41 c.at -ℤ pos 1 else units 41 c.at)
 
--- a cut at a number of at most 31 binary places
+-- a cut at a number of at most 40 binary places
 abbrev pub ShortCut : Option Cut → Type 0
 ShortCut None = Unit {0}
-ShortCut (Some c) = exp_of c.at ≤ 31
+ShortCut (Some c) = exp_of c.at ≤ 40
 
 -- the cut up to the number, where there is one
 abbrev pub closed_cut : Option Number → Option Cut

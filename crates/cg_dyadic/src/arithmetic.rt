@@ -60,11 +60,11 @@ pub(crate) fn in_range(is_negative: bool, size: u128, exp: u8) -> Option<Dyadic>
     ensures num { IfSome result (λ x. num_of x ≡ signed_of is_negative size) }
     ensures exp { IfSome result (λ x. exp_of x ≡ exp) }
     ensures found { IfSome result (λ x. InRange x) }
-    ensures none { IsNone result → ¬ ((size < 2 ^ 52) × (exp ≤ 31)) }
+    ensures none { IsNone result → ¬ ((size < 2 ^ 64) × (exp ≤ 40)) }
 {
-    if exp <= 31 && size < 1 << 52 {
+    if exp <= 40 && size < 1 << 64 {
         Some(Dyadic {
-            num: signed(is_negative, size) as i64,
+            num: signed(is_negative, size),
             exp,
         })
     } else {
@@ -73,7 +73,7 @@ pub(crate) fn in_range(is_negative: bool, size: u128, exp: u8) -> Option<Dyadic>
 }
 
 /// The number of this sign and size.
-fn signed(is_negative: bool, size: u128) -> i128
+pub(crate) fn signed(is_negative: bool, size: u128) -> i128
     requires { size + cond is_negative 0 1 ≤ 2 ^ 127 }
     ensures { result ≡ signed_of is_negative size }
 {

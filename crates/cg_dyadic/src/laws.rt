@@ -1,7 +1,10 @@
 //! Laws of numbers: each function does nothing, and its contract is the law.
-ghost use Rattle.std.specs.Prelude.{◌≡◌, ◌⊎◌, ◌↔◌, ◌<◌, ℤ, pos, ℕ};
+ghost use Rattle.std.specs.Prelude.{◌≡◌, ◌⊎◌, ◌↔◌, ◌<◌, ℤ, pos, ℕ, Bool, Option};
 ghost use Rattle.cg_dyadic.specs.Number.{Number, whole, num_of, exp_of, IsFraction, ratio, NumberLe, number_lefts, number_rights, AmongNumbers, weight, InRange};
 ghost use Rattle.cg_dyadic.specs.Exact.{IsSum, IsNegative};
+ghost use Rattle.cg_dyadic.specs.Cut.{in_gap, is_between};
+ghost use Rattle.cg_dyadic.specs.Simplest.{NoOptionPasses, SimplestFor};
+ghost use Rattle.cg_dyadic.specs.declared.cut.Cut.{Cut};
 
 /// Each fraction `n / 2^k` is exactly one number, [`ratio`], and a number is the fraction of its own terms.
 pub fn fractions()
@@ -41,4 +44,11 @@ pub fn options()
     ensures left_weighs_less { (x y : Number) → AmongNumbers y (number_lefts x) → weight y < weight x }
     ensures right_weighs_less { (x y : Number) → AmongNumbers y (number_rights x) → weight y < weight x }
     ensures gap { (x y : Number) → ¬ NumberLe x y → ((a : Number) × AmongNumbers a (number_lefts x) × NumberLe y a) ⊎ ((b : Number) × AmongNumbers b (number_rights y) × NumberLe b x) }
+{}
+
+/// The number between two cuts none of whose options lies between them is the simplest number there: it is simpler than
+/// every other.
+pub fn simplest()
+    ensures in_gap { (low high : Option Cut) (x : Number) → NoOptionPasses (in_gap low high) x → SimplestFor (in_gap low high) x }
+    ensures between { (p q x : Number) (c d : Bool) → NoOptionPasses (is_between p c q d) x → SimplestFor (is_between p c q d) x }
 {}

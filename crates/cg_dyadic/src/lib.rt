@@ -3,28 +3,31 @@
 //!
 //! A number is `num / 2^exp` in lowest terms: `num` is odd, or `exp` is 0. Contracts see a `Dyadic` as such a number,
 //! of which there is exactly one for each value, so equal numbers are the same number. The range is that of
-//! `|num| < 2^52` and `exp <= 31`. Where an exact result is out of range, the call answers a [`RangeFault`] that holds
+//! `|num| < 2^64` and `exp <= 40`. Where an exact result is out of range, the call answers a [`RangeFault`] that holds
 //! that result in lowest terms. No call rounds, and every call but `text` takes no memory.
 #![tactic(auto)]
 
 ghost use Rattle.std.specs.Prelude.{◌≡◌};
-ghost use Rattle.cg_dyadic.specs.Number.{num_of, exp_of, InRange};
+ghost use Rattle.cg_dyadic.specs.Number.{num_of, exp_of, is_long, InRange};
 
 mod arithmetic;
 pub mod cut;
 mod fault;
 pub mod laws;
+mod options;
 mod order;
 pub mod search;
 mod text;
+mod wide;
 
 pub use fault::RangeFault;
 use std::marker::Model;
+pub use wide::Wide;
 
-/// A number `num / 2^exp` in lowest terms, with `|num| < 2^52` and `exp <= 31`.
+/// A number `num / 2^exp` in lowest terms, with `|num| < 2^64` and `exp <= 40`.
 #[derive(Clone, Copy, Debug, PartialEq, Eq)]
 pub struct Dyadic {
-    num: i64,
+    num: i128,
     exp: u8,
 }
 
@@ -43,19 +46,27 @@ impl Model for Dyadic {
 }
 
 impl Dyadic {
-    /// The numerator, below 2^52 in size. It is odd, or the denominator is 1.
-    pub fn num(&self) -> i64
+    /// The numerator, below 2^64 in size. It is odd, or the denominator is 1.
+    pub fn num(&self) -> i128
         ensures value { result ≡ num_of self.now }
         ensures in_range { InRange self.now }
     {
         self.num
     }
 
-    /// The exponent of the denominator, from 0 to 31.
+    /// The exponent of the denominator, from 0 to 40.
     pub fn exp(&self) -> u8
         ensures value { result ≡ exp_of self.now }
         ensures in_range { InRange self.now }
     {
         self.exp
+    }
+
+    /// Whether the number is long: its numerator is 2^52 or more in size, or its exponent is 32 or more.
+    pub fn is_long(&self) -> bool
+        ensures value { result ≡ is_long self.now }
+        ensures in_range { InRange self.now }
+    {
+        !(self.num.unsigned_abs() < 1 << 52 && self.exp < 32)
     }
 }

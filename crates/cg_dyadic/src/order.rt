@@ -7,7 +7,7 @@ use std::cmp::Ordering;
 
 /// `2^exp`.
 fn power(exp: u8) -> i128
-    requires { exp ≤ 32 }
+    requires { exp ≤ 41 }
     ensures { result ≡ pos (2 ^ exp) }
 {
     1i128 << exp
@@ -15,12 +15,12 @@ fn power(exp: u8) -> i128
 
 /// The numerator over a denominator that is `2^exp` times as large.
 pub(crate) fn scaled(number: Dyadic, exp: u8) -> i128
-    requires { exp ≤ 32 }
+    requires { exp ≤ 41 }
     ensures value { result ≡ num_of number *ℤ pos (2 ^ exp) }
-    ensures size { unsigned_abs result < 2 ^ 84 }
+    ensures size { unsigned_abs result < 2 ^ 105 }
     ensures in_range { InRange number }
 {
-    i128::from(number.num) * power(exp)
+    number.num * power(exp)
 }
 
 impl Dyadic {
@@ -42,22 +42,22 @@ impl Dyadic {
         left.cmp(&right)
     }
 
-    /// The least number in range, -(2^52 - 1).
+    /// The least number in range, -(2^64 - 1).
     pub fn least() -> Dyadic
-        ensures value { result ≡ whole (negsuc 4503599627370494) }
+        ensures value { result ≡ whole (negsuc 18446744073709551614) }
     {
         Dyadic {
-            num: -4_503_599_627_370_495,
+            num: -18_446_744_073_709_551_615,
             exp: 0,
         }
     }
 
-    /// The greatest number in range, 2^52 - 1.
+    /// The greatest number in range, 2^64 - 1.
     pub fn greatest() -> Dyadic
-        ensures value { result ≡ whole (pos 4503599627370495) }
+        ensures value { result ≡ whole (pos 18446744073709551615) }
     {
         Dyadic {
-            num: 4_503_599_627_370_495,
+            num: 18_446_744_073_709_551_615,
             exp: 0,
         }
     }

@@ -1,6 +1,6 @@
 //! The simplest number between two cuts.
 //!
-//! The ends of the gap are taken in units of 1/2^32, which is finer than any number in range. Both ends are halved for
+//! The ends of the gap are taken in units of 1/2^41, which is finer than any number in range. Both ends are halved for
 //! as long as some unit stays between them: at the scale of whole numbers the integer nearest 0 is the simplest, and at
 //! any other scale the ends meet at one odd number of units.
 ghost use Rattle.std.specs.Prelude.{◌≡◌, ◌≤◌, ◌^◌, ◌<◌, ◌+ℤ◌, ◌≤ℤ◌, ℤ, Bool, pos, negsuc, unsigned_abs, false, ◌-ℤ◌, IsTrue, ◌↔◌, IfOk, IfErr, IfSome, IsNone};
@@ -15,7 +15,7 @@ use crate::order::scaled;
 use crate::{Dyadic, RangeFault};
 
 /// The finest scale of a search: one binary place more than a number in range has.
-const FINEST: u8 = 32;
+const FINEST: u8 = 41;
 
 /// The least end at half the scale that is at or above this low end.
 fn half_low(end: Option<i128>) -> Option<i128>
@@ -95,9 +95,9 @@ fn descend(low: Option<i128>, high: Option<i128>, scale: u8) -> RangeFault
 
 /// The number in units of the finest scale.
 fn units(x: Dyadic) -> i128
-    ensures is { result ≡ units 32 x }
+    ensures is { result ≡ units 41 x }
     ensures small { SmallAround result }
-    ensures short { exp_of x ≤ 31 }
+    ensures short { exp_of x ≤ 40 }
 {
     scaled(x, FINEST - x.exp)
 }
@@ -134,13 +134,13 @@ fn last_unit(cut: Option<Cut>) -> Option<i128>
 
 /// Whether the numerator and the exponent are those of a number in range.
 pub(crate) fn is_in_range(f: RangeFault) -> bool
-    ensures { IsTrue result ↔ (unsigned_abs f.num < 2 ^ 52) × (f.exp ≤ 31) }
+    ensures { IsTrue result ↔ (unsigned_abs f.num < 2 ^ 64) × (f.exp ≤ 40) }
 {
-    -4_503_599_627_370_496 < f.num && f.num < 4_503_599_627_370_496 && f.exp <= 31
+    -18_446_744_073_709_551_616 < f.num && f.num < 18_446_744_073_709_551_616 && f.exp <= 40
 }
 
 /// What lies above the low cut and below the high cut, where there are cuts: the number none of whose options lies
-/// there, which is the simplest.
+/// there, which is the simplest (`laws::simplest`), in range or not, or no number.
 pub fn simplest_in(low: Option<Cut>, high: Option<Cut>) -> Found
     ensures { FoundIs (in_gap low high) result }
 {
@@ -152,14 +152,15 @@ pub fn simplest_in(low: Option<Cut>, high: Option<Cut>) -> Found
     let best = descend(first, last, FINEST);
     if is_in_range(best) {
         return Found::Number(Dyadic {
-            num: best.num as i64,
+            num: best.num,
             exp: best.exp,
         });
     }
     Found::Outside(best)
 }
 
-/// The simplest number in range between the two cuts, or None where no number in range lies between them.
+/// The number in range between the two cuts none of whose options lies there, which is the simplest
+/// (`laws::simplest`), or None where no number in range lies between them.
 pub fn simplest(low: &Cut, high: &Cut) -> Option<Dyadic>
     ensures found { IfSome result (λ x. SimplestBetween low.now.at low.now.closed high.now.at high.now.closed x) }
     ensures none { IsNone result → NoneBetween low.now.at low.now.closed high.now.at high.now.closed }

@@ -24,7 +24,8 @@ use Rattle.cg_nodes.specs.CanForms.{can-fixed}
 use Rattle.cg_nodes.proofs.Forms.{can-node}
 use Rattle.cg_sum.proofs.Sums.{can-sum_form, can-sum_comm}
 use Rattle.cg_names.specs.Lists.{form_items, number_items}
-use Rattle.cg_names.specs.Meaning.{fraction, literal, meaning, meanings, or_zero, signed}
+use Rattle.cg_names.specs.Meaning.{fraction, literal, or_zero, signed}
+use Rattle.cg_eval.specs.Meaning.{meaning, meanings}
 use Rattle.cg_names.specs.Named.{nimber_form, ups_form, switch_form, tiny_form, zero_number}
 use Rattle.cg_syntax.specs.Tree.{Tree, Trees, number, ups, nimber, switch, tiny, sides, negative, multiple}
 use Rattle.cg_eval.specs.Items.{items, all_items, term_part}

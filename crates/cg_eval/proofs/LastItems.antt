@@ -7,10 +7,10 @@ use Rattle.cg_form.specs.Game.{Game, number as plain_number}
 use Rattle.cg_form.specs.Multiple.{multiple as many}
 use Rattle.cg_form.specs.Order.{Equal}
 use Rattle.cg_form.specs.Sum.{sum as plus, negative as minus}
+use Rattle.cg_form.proofs.EqualGames.{sum_equal}
 use Rattle.cg_form.proofs.Negative.{negative-le}
-use Rattle.cg_form.proofs.Preorder.{equal_refl, equal_trans}
+use Rattle.cg_form.proofs.Preorder.{equal_refl}
 use Rattle.cg_form.proofs.SumLaws.{sum-le_second}
-use Rattle.cg_form.proofs.SumOrder.{sum-le}
 use Rattle.cg_nodes.specs.Positions.{positions_of}
 use Rattle.cg_nodes.specs.Spelled.{can}
 use Rattle.cg_canon.specs.Items.{Item, made}
@@ -20,11 +20,14 @@ use Rattle.cg_nodes.proofs.Forms.{can-same}
 use Rattle.cg_sum.proofs.Sums.{can-sum_form}
 use Rattle.cg_names.specs.Lists.{form_items, number_items, plain_item}
 use Rattle.cg_canon.specs.NumberItems.{number_made}
-use Rattle.cg_names.specs.Meaning.{fraction, literal, meaning, total, total_with, signed, or_zero, has_board, any_term_board}
+use Rattle.cg_names.specs.Meaning.{fraction, literal, signed, or_zero}
+use Rattle.cg_eval.specs.Faults.{fault_in, fault_in_terms}
+use Rattle.cg_eval.specs.Meaning.{meaning, total, total_with}
 use Rattle.cg_names.specs.Named.{nimber_form, ups_form, switch_form, tiny_form}
 use Rattle.cg_syntax.specs.Tree.{Tree, Terms, number, ups, nimber, switch, tiny, sides, negative, multiple, sum, game, no_terms, with_term}
 use Rattle.cg_eval.specs.Items.{items, all_items, term_items, further_items, signed_items, term_part}
-use Rattle.cg_eval.proofs.BoardParts.{or_false}
+use Rattle.cg_eval.proofs.BoardEnds.{ends-board}
+use Rattle.cg_eval.proofs.FaultParts.{neither}
 use Rattle.cg_names.proofs.Literals.{literal_not_negative, literal-fraction}
 use Rattle.cg_names.proofs.NimberForms.{nimber-canonical}
 use Rattle.cg_names.proofs.SwitchForms.{switch-canonical, tiny-canonical}
@@ -52,14 +55,10 @@ can-signed_form true g = can-negative_form g
 can-signed_form false g = can-fixed (can g) (can-canonical g)
 
 -- one game for the other in each of n copies
-pub sum_equal : (a b g h : Game) → Equal a b → Equal g h → Equal (plus a g) (plus b h)
-sum_equal a b g h e f = equal_trans (plus a g) (plus b g) (plus b h)
-    (sum-le a b g e.0, sum-le b a g e.1) (sum-le_second g h b f.0, sum-le_second h g b f.1)
-
 copies_le : (n : ℕ) (g h : Game) → Equal g h → Equal (many n g) (many n h)
 unfolding many
 copies_le zero g h e = equal_refl (plain_number (whole (pos 0)))
-copies_le (suc n) g h e = sum_equal (many n g) (many n h) g h (copies_le n g h e) e
+copies_le (suc n) g h e = sum_equal (many n g) g (many n h) h (copies_le n g h e) e
 
 pub can-multiple_form : (n : ℕ) (g : Game) → can (many n (can g)) ≡ can (many n g)
 can-multiple_form n g = can-same (many n (can g)) (many n g) (copies_le n (can g) g (can-equal g))
@@ -111,7 +110,7 @@ ends-signed limit false g is e m =
 mutual
   unfolding items meaning
 
-  pub last_item : (limit : ℕ) (t : Tree) → has_board t ≡ false → AreMade (items limit t)
+  pub last_item : (limit : ℕ) (t : Tree) → fault_in t ≡ None → AreMade (items limit t)
       → EndsIn (can (meaning t)) (items limit t)
   last_item limit (number below num den) b m =
       ends-number (literal below num den) (fraction below num den) (literal-fraction below num den) m
@@ -137,13 +136,13 @@ mutual
       (ends-multiple limit n (can (meaning t)) (items limit t) (can-canonical (meaning t))
       (last_item limit t b (are_made-front (items limit t) (multiple_items limit n (can (meaning t))) m)) m)
   last_item limit (sum terms) b m = last_of_terms limit terms b m
-  last_item limit (game kind rules board) b m = absurd (cc)
+  last_item limit (game kind rules board) b m = ends-board limit kind rules board b m
 
-  last_of_terms : (limit : ℕ) (ts : Terms) → any_term_board ts ≡ false → AreMade (term_items limit ts)
+  last_of_terms : (limit : ℕ) (ts : Terms) → fault_in_terms ts ≡ None → AreMade (term_items limit ts)
       → EndsIn (can (total ts)) (term_items limit ts)
   last_of_terms limit no_terms b m = one_number (whole (pos 0))
   last_of_terms limit (with_term subtracted t ts) b m =
-      let c = or_false (has_board t) (any_term_board ts) b in
+      let c = neither (fault_in t) (fault_in_terms ts) b in
       let own = signed_items limit subtracted (can (meaning t)) in
       let further = further_items limit (signed subtracted (meaning t)) ts in
       let k : AreMade (items limit t ++ own) = are_made-front (items limit t ++ own) further m in
@@ -151,13 +150,13 @@ mutual
       (ends-signed limit subtracted (meaning t) (items limit t)
       (last_item limit t c.0 (are_made-front (items limit t) own k)) k) m
 
-  last_of_further : (limit : ℕ) (g : Game) (ts : Terms) → any_term_board ts ≡ false → (before : List Item)
+  last_of_further : (limit : ℕ) (g : Game) (ts : Terms) → fault_in_terms ts ≡ None → (before : List Item)
       → EndsIn (can g) before → AreMade (before ++ further_items limit g ts)
       → EndsIn (can (total_with g ts)) (before ++ further_items limit g ts)
   last_of_further limit g no_terms b before e m =
       let P : List Item → Type 0 = λ z. EndsIn (can g) z in subst P (sym (append_none before)) e
   last_of_further limit g (with_term subtracted t ts) b before e m =
-      let c = or_false (has_board t) (any_term_board ts) b in
+      let c = neither (fault_in t) (fault_in_terms ts) b in
       let other = signed subtracted (meaning t) in
       let part = term_part limit subtracted t in
       let sums = sum_items limit (can g) (can other) in

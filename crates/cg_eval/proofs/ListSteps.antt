@@ -1,5 +1,5 @@
 -- The steps of lists of expressions and of terms, one after another.
-use Rattle.std.proofs.Common.{◌≡◌, refl, ap, sym, ◌∙◌, subst, ℕ, zero, suc, ◌+◌, ◌<◌, ◌≤◌, arith, Bool, false, List, [], ◌∷◌, ◌++◌, append_assoc, length, get_or, take, drop, map, Result, Ok, Err}
+use Rattle.std.proofs.Common.{◌≡◌, refl, ap, sym, ◌∙◌, subst, ℕ, zero, suc, ◌+◌, ◌<◌, ◌≤◌, arith, Bool, None, List, [], ◌∷◌, ◌++◌, append_assoc, length, get_or, take, drop, map, Result, Ok, Err}
 use Rattle.std.specs.Prelude.{Vec, OnOk, IfErr, IfOk}
 use Rattle.cg_dyadic.specs.Number.{Number}
 use Rattle.cg_form.specs.Game.{Game, number as plain_number, to_list}
@@ -17,7 +17,9 @@ use Rattle.cg_nodes.specs.CanForms.{can-fixed}
 use Rattle.cg_sum.proofs.Sums.{can-sum_form}
 use Rattle.cg_names.specs.Named.{zero_number}
 use Rattle.cg_sum.specs.Lists.{sum_items}
-use Rattle.cg_names.specs.Meaning.{any_term_board, has_board, meaning, meanings, signed, total, total_with}
+use Rattle.cg_names.specs.Meaning.{signed}
+use Rattle.cg_eval.specs.Faults.{fault_in, fault_in_terms}
+use Rattle.cg_eval.specs.Meaning.{meaning, meanings, total, total_with}
 use Rattle.cg_syntax.specs.declared.expr.Expr.{Expr}
 use Rattle.cg_syntax.specs.declared.expr.Term.{Term}
 use Rattle.cg_syntax.specs.Tree.{Tree, Trees, sum, trees_from, terms_from}
@@ -28,7 +30,7 @@ use Rattle.cg_eval.specs.Progress.{Evaluates, Gives, GivesAll, Makes, Stops}
 use Rattle.cg_eval.proofs.Expressions.{stopped_part}
 use Rattle.cg_eval.proofs.Lasts.{append_none}
 use Rattle.cg_eval.proofs.Steps.{gives_from, gives_game, gives_then, makes_items, makes_none, makes_then, stops_front, stops_items, stops_then}
-use Rattle.cg_eval.proofs.BoardParts.{or_false}
+use Rattle.cg_eval.proofs.FaultParts.{neither}
 use Rattle.cg_eval.proofs.Walk.{size, term_sizes, trees_of-take_suc, trees_of-all, terms_of-take_suc, terms_of-all}
 
 -- ---- the items of lists that are put together
@@ -412,7 +414,7 @@ pub first_size : (ts : List (Bool × Tree)) (m : Bool) (x : Tree) (rest : List (
 first_size ts m x rest e = ap (λ (z : List (Bool × Tree)). term_sizes (terms_from z)) e
 
 pub first_board : (ts : List (Bool × Tree)) (m : Bool) (x : Tree) (rest : List (Bool × Tree)) → ts ≡ (m, x) ∷ rest
-    → any_term_board (terms_from ts) ≡ false → (has_board x ≡ false) × (any_term_board (terms_from rest) ≡ false)
+    → fault_in_terms (terms_from ts) ≡ None → (fault_in x ≡ None) × (fault_in_terms (terms_from rest) ≡ None)
 first_board ts m x rest e b =
-    let P : List (Bool × Tree) → Type 0 = λ z. any_term_board (terms_from z) ≡ false in
-    or_false (has_board x) (any_term_board (terms_from rest)) (subst P e b)
+    let P : List (Bool × Tree) → Type 0 = λ z. fault_in_terms (terms_from z) ≡ None in
+    neither (fault_in x) (fault_in_terms (terms_from rest)) (subst P e b)

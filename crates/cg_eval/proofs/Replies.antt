@@ -1,12 +1,10 @@
 -- Replies, from answers and refusals.
-use Rattle.std.proofs.Common.{◌≡◌, arith, refl, ap, sym, ◌∙◌, subst, ℕ, ◌⊎◌, inl, inr, Bool, true, false, List, Option, Some, None, Result, Ok, Err, IfOk}
+use Rattle.std.proofs.Common.{◌≡◌, arith, refl, ap, sym, ◌∙◌, subst, ℕ, ◌⊎◌, inl, inr, Bool, true, false, List, Option, Some, None, Result, Ok, Err, pos, IfOk}
 use Rattle.cg_cells.specs.Store.{Spends, State}
 use Rattle.cg_form.specs.Game.{Game, number}
-use Rattle.cg_form.specs.Order.{Equal, le}
+use Rattle.cg_form.specs.Order.{le}
 use Rattle.cg_form.specs.Sum.{nothing}
-use Rattle.cg_form.proofs.Cut.{same_when}
-use Rattle.cg_form.proofs.Order.{le-fold}
-use Rattle.cg_form.proofs.Preorder.{le_trans}
+use Rattle.cg_form.proofs.EqualGames.{le-equal, zero_is}
 use Rattle.cg_nodes.specs.Games.{StandsFor, game_at}
 use Rattle.cg_nodes.specs.Meant.{Meant}
 use Rattle.cg_nodes.specs.Spelled.{can}
@@ -17,33 +15,25 @@ use Rattle.cg_canon.specs.declared.rest.WorkRest.{WorkRest}
 use Rattle.cg_canon.specs.Items.{AllPass, IsStopped, Item}
 use Rattle.cg_canon.specs.Works.{Keeps, WorkOf, work_state}
 use Rattle.cg_nodes.specs.CanForms.{can-equal}
-use Rattle.cg_names.specs.Meaning.{meaning}
-use Rattle.cg_names.specs.Named.{zero_number}
-use Rattle.cg_names.proofs.Steps.{keeps_then}
+use Rattle.cg_eval.specs.Meaning.{meaning}
+use Rattle.cg_dyadic.specs.Number.{whole}
+use Rattle.cg_canon.proofs.Keeping.{keeps_then, spends_keeps}
 use Rattle.cg_syntax.specs.Lines.{IsColumn, IsComment, IsUnread, Reads, is_blank_line}
-use Rattle.cg_syntax.specs.Tree.{Question, Tree, value, compare, outcome, stops, mean, temp, thermo}
+use Rattle.cg_syntax.specs.Tree.{Question, Tree, compare}
 use Rattle.cg_eval.specs.declared.answered.Answered.{Answered}
+use Rattle.cg_moves.specs.declared.fault.BoardFault.{BoardFault}
+use Rattle.cg_eval.specs.Faults.{question_fault}
 use Rattle.cg_eval.specs.Items.{items, question_items}
 use Rattle.cg_eval.specs.Progress.{Evaluates, Makes, Stops}
 use Rattle.cg_eval.specs.Refused.{IsRefusedBy, IsRefusedFor}
-use Rattle.cg_eval.specs.Reply.{IsReply, IsReplyBy, IsReplyTo, Piece, answer_to, is_answerable, later, refusal_of, syntax_at}
+use Rattle.cg_eval.specs.Reply.{IsReply, IsReplyBy, IsReplyTo, Piece, ill_formed, refusal_of, syntax_at}
 use Rattle.cg_eval.specs.Shown.{Answers, HandleIs, HandleOf, IsAnswered, first_of, shown}
 use Rattle.cg_eval.specs.Stores.{KeepsStore}
 use Rattle.cg_eval.proofs.Steps.{makes_then, stops_then}
+use Rattle.cg_eval.proofs.OneAnswer.{one-answer, some-answer}
 use Rattle.cg_eval.proofs.Verdicts.{verdict-apart, verdict-decided, verdict-stopped}
 
 -- ---- what compares games spends nothing and says how the games compare
-
-pub keeps_spends : {R : Type 0} (n : ℕ) (s t : State Meant (WorkRest R)) → Spends n s t → Keeps s t
-keeps_spends {R} n s t k = record {
-  known = k.known;
-  noted = k.noted;
-  of_store = ap (λ (r : WorkRest R). r.of_store) k.rest;
-  name = ap (λ (r : WorkRest R). r.name) k.rest;
-  share = ap (λ (r : WorkRest R). r.share) k.rest;
-  start = ap (λ (r : WorkRest R). r.start) k.rest;
-  limit = ap (λ (r : WorkRest R). r.limit) k.rest;
-}
 
 pub makes_spends : {R : Type 0} (s t u : State Meant (WorkRest R)) (is : List Item) → Makes s t is → Spends 0 t u
     → Makes s u is
@@ -52,75 +42,53 @@ makes_spends {R} s t u is m k =
     record {
       passed = subst P (sym (ap (λ (r : WorkRest R). r.spent) k.rest)) m.passed;
       more = let a = m.more in let b = k.spare in omega arith;
-      keeps = keeps_then s t u m.keeps (keeps_spends 0 t u k);
+      keeps = keeps_then s t u m.keeps (spends_keeps 0 t u k);
     }
 
--- the order of games is that of the games that they equal
-pub le-equal : (a b g h : Game) → Equal a g → Equal b h → le a b ≡ le g h
-le-equal a b g h e f = same_when (le a b) (le g h)
-    (λ l. le_trans g a h e.1 (le_trans a b h l f.0))
-    (λ l. le_trans a g b e.0 (le_trans g h b l f.1))
+pub le-value_zero : (m : Game) → le (can m) (number (whole (pos 0))) ≡ le m nothing
+le-value_zero m = le-equal (can m) (number (whole (pos 0))) m nothing (can-equal m) zero_is
 
-zero_is : Equal (number zero_number) nothing
-zero_is = (
-  le-fold (number zero_number) nothing (record { on_left = λ a m. absurd m; on_right = λ b m. absurd m }),
-  le-fold nothing (number zero_number) (record { on_left = λ a m. absurd m; on_right = λ b m. absurd m }),
-)
-
-pub le-zero : (m : Game) → le (can m) (number zero_number) ≡ le m nothing
-le-zero m = le-equal (can m) (number zero_number) m nothing (can-equal m) zero_is
-
-pub zero-le : (m : Game) → le (number zero_number) (can m) ≡ le nothing m
-zero-le m = le-equal (number zero_number) (can m) nothing m zero_is (can-equal m)
+pub zero-le_value : (m : Game) → le (number (whole (pos 0))) (can m) ≡ le nothing m
+zero-le_value m = le-equal (number (whole (pos 0))) (can m) nothing m zero_is (can-equal m)
 
 pub le-forms : (m n : Game) → le (can m) (can n) ≡ le m n
 le-forms m n = le-equal (can m) (can n) m n (can-equal m) (can-equal n)
 
 -- ---- replies to questions
 
-answer-stands : (q : Question) → is_answerable q ≡ true → (answer_to q).refused ≡ false
-answer-stands (value t) e = refl
-answer-stands (compare s t) e = refl
-answer-stands (outcome t) e = refl
-answer-stands (stops t) e = absurd (cc)
-answer-stands (mean t) e = absurd (cc)
-answer-stands (temp t) e = absurd (cc)
-answer-stands (thermo t) e = absurd (cc)
-
 handle-none : {R : Type 0} (s : State Meant R) (q : Question) (refused : Bool) (handle : Option ℕ) → refused ≡ true
     → handle ≡ None
     → HandleIs s q refused handle
 handle-none s q refused handle e h = let P : Bool → Type 0 = λ b. HandleIs s q b handle in subst P (sym e) h
 
-pub answered-later : {R : Type 0} (share limit : ℕ) (s : State Meant R) (q : Question) (a : Answered)
-    → is_answerable q ≡ false
-    → IsRefusedBy later a → IsAnswered share limit s q a
-answered-later share limit s q a e r =
-    let P : Bool → Type 0 = λ b. IsReplyBy b share limit q (shown a) in
+-- of a question with an ill-formed board
+pub answered-ill_formed : {R : Type 0} (share limit : ℕ) (s : State Meant R) (q : Question) (a : Answered)
+    (fault : BoardFault) → question_fault q ≡ Some fault
+    → IsRefusedBy (ill_formed fault) a → IsAnswered share limit s q a
+answered-ill_formed share limit s q a fault e r =
+    let P : Option BoardFault → Type 0 = λ o. IsReplyBy o share limit q (shown a) in
     record {
       reply = subst P (sym e) r.text;
       handle = handle-none s q a.refused a.handle (ap (λ (p : Piece). p.refused) r.text) r.handle;
     }
 
 pub answered-made : {R : Type 0} (s t : State Meant (WorkRest R)) (q : Question) (a : Answered) → s.rest.spent ≡ 0
-    → is_answerable q ≡ true
+    → question_fault q ≡ None
     → Answers s t q (Ok a) → IsAnswered s.rest.share s.rest.limit t q a
 answered-made s t q a none e (is, made_items) =
-    let P : Bool → Type 0 = λ b. IsReplyBy b s.rest.share s.rest.limit q (shown a) in
+    let P : Option BoardFault → Type 0 = λ o. IsReplyBy o s.rest.share s.rest.limit q (shown a) in
     let N : ℕ → Type 0 = λ n. AllPass s.rest.share n (question_items s.rest.limit q) t.rest.spent in
-    let H : Bool → Type 0 = λ b. HandleIs t q b a.handle in
-    let stands : a.refused ≡ false = ap (λ (p : Piece). p.refused) is.text ∙ answer-stands q e in
     record {
       reply = subst P (sym e) (inl (t.rest.spent, subst N none made_items.passed, is.text));
-      handle = subst H (sym stands) is.value;
+      handle = is.value;
     }
 
 stopped-reply : {R : Type 0} (s t : State Meant (WorkRest R)) (q : Question) (a : Answered) (fault : ValueFault)
     → s.rest.spent ≡ 0
-    → is_answerable q ≡ true → IsStopped fault s.rest.share s.rest.spent (question_items s.rest.limit q) t.rest.spent
+    → question_fault q ≡ None → IsStopped fault s.rest.share s.rest.spent (question_items s.rest.limit q) t.rest.spent
     → IsRefusedBy (refusal_of fault) a → (refusal_of fault).refused ≡ true → IsAnswered s.rest.share s.rest.limit t q a
 stopped-reply s t q a fault none e stopped r is_refusal =
-    let P : Bool → Type 0 = λ b. IsReplyBy b s.rest.share s.rest.limit q (shown a) in
+    let P : Option BoardFault → Type 0 = λ o. IsReplyBy o s.rest.share s.rest.limit q (shown a) in
     let N : ℕ → Type 0 = λ n. IsStopped fault s.rest.share n (question_items s.rest.limit q) t.rest.spent in
     record {
       reply = subst P (sym e) (inr (fault, t.rest.spent, subst N none stopped, r.text));
@@ -129,7 +97,7 @@ stopped-reply s t q a fault none e stopped r is_refusal =
 
 pub answered-refused : {R : Type 0} (s t : State Meant (WorkRest R)) (q : Question) (a : Answered)
     (fault : ValueFault) → s.rest.spent ≡ 0
-    → is_answerable q ≡ true → Answers s t q (Err fault) → IsRefusedFor fault a
+    → question_fault q ≡ None → Answers s t q (Err fault) → IsRefusedFor fault a
     → IsAnswered s.rest.share s.rest.limit t q a
 answered-refused s t q a Memory none e r f = absurd f
 answered-refused s t q a Range none e r f = stopped-reply s t q a Range none e r.refused f refl
@@ -192,21 +160,21 @@ handle-unread s line c a unread none = record {
 
 -- ---- one reply
 
-one-reply_by : (b : Bool) (share limit : ℕ) (q : Question) (p r : Piece) → IsReplyBy b share limit q p
-    → IsReplyBy b share limit q r → p ≡ r
-one-reply_by false share limit q p r a b = a ∙ sym b
-one-reply_by true share limit q p r (inl a) (inl b) = a.2 ∙ sym b.2
-one-reply_by true share limit q p r (inl a) (inr b) = absurd (verdict-apart b.0 share 0
+one-reply_by : (o : Option BoardFault) (share limit : ℕ) (q : Question) (p r : Piece) → IsReplyBy o share limit q p
+    → IsReplyBy o share limit q r → p ≡ r
+one-reply_by (Some fault) share limit q p r a b = a ∙ sym b
+one-reply_by None share limit q p r (inl a) (inl b) = one-answer q p r a.2 b.2
+one-reply_by None share limit q p r (inl a) (inr b) = absurd (verdict-apart b.0 share 0
     (question_items limit q) a.0 b.1 a.1 b.2)
-one-reply_by true share limit q p r (inr a) (inl b) = absurd (verdict-apart a.0 share 0
+one-reply_by None share limit q p r (inr a) (inl b) = absurd (verdict-apart a.0 share 0
     (question_items limit q) b.0 a.1 b.1 a.2)
-one-reply_by true share limit q p r (inr a) (inr b) =
+one-reply_by None share limit q p r (inr a) (inr b) =
     a.3 ∙ ap refusal_of (verdict-stopped a.0 b.0 share 0 (question_items limit q) a.1 b.1 a.2 b.2).0 ∙ sym b.3
 
-some-reply_by : (b : Bool) (share limit : ℕ) (q : Question) → (p : Piece) × IsReplyBy b share limit q p
-some-reply_by false share limit q = (later, refl)
-some-reply_by true share limit q = elim (verdict-decided share 0 (question_items limit q)) [
-  | inl a ↦ (answer_to q, inl (a.0, a.1, refl))
+some-reply_by : (o : Option BoardFault) (share limit : ℕ) (q : Question) → (p : Piece) × IsReplyBy o share limit q p
+some-reply_by (Some fault) share limit q = (ill_formed fault, refl)
+some-reply_by None share limit q = elim (verdict-decided share 0 (question_items limit q)) [
+  | inl a ↦ (let (p, is) = some-answer q in (p, inl (a.0, a.1, is)))
   | inr r ↦ (refusal_of r.0, inr (r.0, r.1, r.2, refl))
 ]
 
@@ -215,7 +183,7 @@ pub one-reply : (share limit : ℕ) (line : List ℕ) (p r : Piece) → is_blank
     → IsReply share limit line p → IsReply share limit line r → p ≡ r
 unfolding IsReply
 one-reply share limit line p r blank comment (inl (q, reads)) a b =
-    one-reply_by (is_answerable q) share limit q p r (a.read q reads) (b.read q reads)
+    one-reply_by (question_fault q) share limit q p r (a.read q reads) (b.read q reads)
 one-reply share limit line p r blank comment (inr (none, (c, at))) a b =
     let u : IsUnread line c = record { not_blank = blank; not_comment = comment; no_question = none; at = at } in
     a.unread c u ∙ sym (b.unread c u)
@@ -226,7 +194,7 @@ pub some-reply : (share limit : ℕ) (line : List ℕ)
     → ((q : Question) × Reads line q) ⊎ (((q : Question) → ¬ Reads line q) × ((c : ℕ) × IsColumn line c))
     → (p : Piece) × IsReply share limit line p
 some-reply share limit line one one_column blank comment (inl (q, reads)) =
-    let (p, is) = some-reply_by (is_answerable q) share limit q in (p, reply-read share limit line q p one reads is)
+    let (p, is) = some-reply_by (question_fault q) share limit q in (p, reply-read share limit line q p one reads is)
 some-reply share limit line one one_column blank comment (inr (none, (c, at))) =
     let u : IsUnread line c = record { not_blank = blank; not_comment = comment; no_question = none; at = at } in
     (syntax_at c, reply-unread share limit line c (syntax_at c) one_column u refl)

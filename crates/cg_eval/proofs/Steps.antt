@@ -12,7 +12,7 @@ use Rattle.cg_canon.specs.declared.rest.WorkRest.{WorkRest}
 use Rattle.cg_canon.specs.Items.{AllPass, Item, WasRefused}
 use Rattle.cg_canon.specs.Works.{Keeps}
 use Rattle.cg_canon.proofs.ItemLaws.{all_pass-append, all_pass-none, refused-back, refused-front}
-use Rattle.cg_names.proofs.Steps.{keeps_same, keeps_then}
+use Rattle.cg_canon.proofs.Keeping.{keeps_all, keeps_then}
 use Rattle.cg_eval.specs.Progress.{Gives, Makes, Stops}
 
 -- ---- one call
@@ -63,7 +63,7 @@ module _ {R : Type 0} (s t : State Meant (WorkRest R)) where
   stops_memory is js m = record { refused = tt; more = m.more; keeps = m.keeps }
 
 pub makes_none : {R : Type 0} (s : State Meant (WorkRest R)) → Makes s s []
-makes_none s = record { passed = all_pass-none s.rest.share s.rest.spent; more = omega arith; keeps = keeps_same s }
+makes_none s = record { passed = all_pass-none s.rest.share s.rest.spent; more = omega arith; keeps = keeps_all s }
 
 -- ---- one call after another
 

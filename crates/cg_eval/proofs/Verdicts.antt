@@ -1,8 +1,7 @@
 -- The verdict on a list of items: all of them pass, or the first that doesn't is refused for one cause.
-use Rattle.std.proofs.Common.{◌≡◌, refl, ap, sym, ◌∙◌, subst, ℕ, ◌+◌, ◌<◌, ◌≤◌, ◌^◌, arith, ◌⊎◌, inl, inr, true, false, nat_lt, List, [], ◌∷◌, ◌++◌}
-use Rattle.std.specs.Prelude.{unsigned_abs}
-use Rattle.std.proofs.lemmas.Bool.Decides.{nat_tests}
-use Rattle.cg_dyadic.specs.Number.{exp_of, num_of}
+use Rattle.std.proofs.Common.{◌≡◌, refl, ap, sym, ◌∙◌, subst, ℕ, ◌+◌, arith, ◌⊎◌, inl, inr, List, [], ◌∷◌, ◌++◌}
+use Rattle.cg_dyadic.specs.Number.{is_in_range}
+use Rattle.cg_dyadic.proofs.Ranges.{in_range-from, in_range-to}
 use Rattle.cg_dyadic.proofs.Truth.{true_or_false}
 use Rattle.cg_form.specs.Depth.{depth_of}
 use Rattle.cg_form.specs.Game.{Game, number, options}
@@ -11,28 +10,14 @@ use Rattle.cg_canon.specs.declared.fault.ValueFault.{ValueFault}
 use Rattle.cg_canon.specs.declared.fault.ValueFault.TheVariants.{Depth, Full, Memory, Positions, Range}
 use Rattle.cg_canon.specs.Items.{AllPass, IsRefusal, IsStopped, Item, Passes, item_cost, made, outside, too_many, total}
 use Rattle.cg_canon.proofs.ItemLaws.{all_pass-back, all_pass-more, all_pass-none, all_pass-one, passes-first, stopped-back, stopped-one}
+use Rattle.cg_eval.proofs.Below.{below_or_not}
 
 -- ---- one item
 
-below_or_not : (m n : ℕ) → (m < n) ⊎ (n ≤ m)
-below_or_not m n = elim (true_or_false (nat_lt m n)) [
-  | inl t ↦ inl (is_below m n t)
-  | inr f ↦ inr (not_below m n f)
-]
-  where
-    is_below : (m n : ℕ) → nat_lt m n ≡ true → m < n
-    is_below m n t = grind (arith, nat_tests)
-
-    not_below : (m n : ℕ) → nat_lt m n ≡ false → n ≤ m
-    not_below m n f = grind (arith, nat_tests)
-
 in_range_or_not : (g : Game) → IsInRange g ⊎ (¬ IsInRange g)
-in_range_or_not (number x) = elim (below_or_not (unsigned_abs (num_of x)) (2 ^ 52)) [
-  | inr l ↦ inr (λ h. absurd (let s = h.small in omega arith))
-  | inl s ↦ elim (below_or_not 31 (exp_of x)) [
-    | inl l ↦ inr (λ h. absurd (let e = h.short in omega arith))
-    | inr e ↦ inl (record { small = s; short = e })
-  ]
+in_range_or_not (number x) = elim (true_or_false (is_in_range x)) [
+  | inl t ↦ inl (in_range-from x t)
+  | inr f ↦ inr (λ h. let t = in_range-to x h in absurd (cc))
 ]
 in_range_or_not (options ls rs) = inl tt
 

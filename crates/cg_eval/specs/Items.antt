@@ -9,8 +9,10 @@ use Rattle.cg_canon.specs.NumberItems.{number_made}
 use Rattle.cg_sum.specs.Lists.{sum_items, negative_items, multiple_items}
 use Rattle.cg_names.specs.Named.{nimber_form, ups_form, switch_form, tiny_form}
 use Rattle.cg_names.specs.Lists.{form_items, number_items}
-use Rattle.cg_names.specs.Meaning.{literal, meaning, signed}
-use Rattle.cg_syntax.specs.Tree.{Tree, Trees, Terms, Question, number, ups, nimber, switch, tiny, sides, negative, multiple, sum, game, no_trees, with_tree, no_terms, with_term, value, compare, outcome}
+use Rattle.cg_names.specs.Meaning.{literal, signed}
+use Rattle.cg_eval.specs.Meaning.{meaning}
+use Rattle.cg_eval.specs.Boards.{position_items, position_of}
+use Rattle.cg_syntax.specs.Tree.{Tree, Trees, Terms, Question, number, ups, nimber, switch, tiny, sides, negative, multiple, sum, game, no_trees, with_tree, no_terms, with_term, value, compare, outcome, stops, mean, temp, thermo}
 
 -- the items that subtracting a game adds before the sum
 abbrev pub signed_items : ℕ → Bool → Game → List Item
@@ -28,7 +30,7 @@ unfoldable mutual
   items limit (negative t) = items limit t ++ negative_items limit (can (meaning t))
   items limit (multiple n t) = items limit t ++ multiple_items limit n (can (meaning t))
   items limit (sum terms) = term_items limit terms
-  items limit (game kind rules board) = []
+  items limit (game kind rules board) = position_items limit (position_of kind rules board)
 
   -- those of the expressions in order
   pub all_items : ℕ → Trees → List Item
@@ -54,9 +56,12 @@ unfoldable mutual
 abbrev pub term_part : ℕ → Bool → Tree → List Item
 term_part limit subtracted t = items limit t ++ signed_items limit subtracted (can (meaning t))
 
--- those of a question that is answered: the second expression's follow the first's
+-- those of a question: the second expression's follow the first's
 abbrev pub question_items : ℕ → Question → List Item
 question_items limit (value t) = items limit t
 question_items limit (compare s t) = items limit s ++ items limit t
 question_items limit (outcome t) = items limit t
-question_items limit _ = []
+question_items limit (stops t) = items limit t
+question_items limit (mean t) = items limit t
+question_items limit (temp t) = items limit t
+question_items limit (thermo t) = items limit t

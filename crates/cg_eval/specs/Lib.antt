@@ -1,6 +1,13 @@
+-- what a reader has to believe
+pub mod Boards
+pub mod Meaning
+pub mod Faults
 pub mod Items
+pub mod Pictures
 pub mod Reply
-pub mod Progress
 pub mod Shown
+-- what calls leave as it is, and what private contracts say
 pub mod Stores
+pub mod Progress
 pub mod Refused
+pub mod Parts

@@ -1,16 +1,25 @@
 -- What is replied to a line.
-use Rattle.std.specs.Prelude.{ℕ, Bool, true, false, not, ◌&&◌, ◌≡◌, ◌⊎◌, ◌++◌, List, codes, decimal}
+use Rattle.std.specs.Prelude.{ℕ, Bool, true, false, ◌≡◌, ◌⊎◌, ◌++◌, List, Option, Some, None, codes, decimal}
+use Rattle.cg_form.specs.Game.{Game}
 use Rattle.cg_form.specs.Order.{le}
+use Rattle.cg_form.specs.Stops as form
 use Rattle.cg_form.specs.Sum.{nothing}
+use Rattle.cg_form.proofs.Decide.{number-decide}
 use Rattle.cg_nodes.specs.Spelled.{can}
 use Rattle.cg_canon.specs.declared.fault.ValueFault.{ValueFault}
 use Rattle.cg_canon.specs.declared.fault.ValueFault.TheVariants.{Range, Full, Depth, Positions, Memory}
 use Rattle.cg_canon.specs.Items.{AllPass, IsStopped}
 use Rattle.cg_names.specs.Name.{name_of}
-use Rattle.cg_names.specs.Meaning.{meaning, has_board}
-use Rattle.cg_syntax.specs.Tree.{Question, value, compare, outcome}
+use Rattle.cg_dyadic.specs.Wide.{places}
+use Rattle.cg_thermo.specs.Thermal.{NeedsMore}
+use Rattle.cg_eval.specs.Meaning.{meaning}
+use Rattle.cg_syntax.specs.Tree.{Question, value, compare, outcome, stops, mean, temp, thermo}
 use Rattle.cg_syntax.specs.Lines.{Reads, IsUnread}
+use Rattle.cg_moves.specs.declared.fault.BoardFault.{BoardFault}
+use Rattle.cg_eval.specs.Boards.{fault_text}
+use Rattle.cg_eval.specs.Faults.{question_fault}
 use Rattle.cg_eval.specs.Items.{question_items}
+use Rattle.cg_eval.specs.Pictures.{IsPicture, Picture, mean_text, stops_text, temp_text, thermograph_text}
 
 -- a text, and whether it is a refusal or holds one
 pub record Piece : Type 0 where
@@ -23,21 +32,29 @@ answer text = record { text = text; refused = false }
 abbrev pub refusal : List ℕ → Piece
 refusal text = record { text = text; refused = true }
 
--- the refusal of a question that isn't answered yet
-abbrev pub later : Piece
-later = refusal (codes "! later")
+-- ---- refusals
 
--- the refusal of a line that leaves the grammar at the column
+-- of a line that leaves the grammar at the column
 abbrev pub syntax_at : ℕ → Piece
 syntax_at column = refusal (codes "! syntax " ++ decimal column)
 
--- the refusal of a question of which some item is refused
+-- of a question that has an ill-formed board
+abbrev pub ill_formed : BoardFault → Piece
+ill_formed fault = refusal (fault_text fault)
+
+-- of a question of which some item is refused
 abbrev pub refusal_of : ValueFault → Piece
 refusal_of Positions = refusal (codes "! positions")
 refusal_of Range = refusal (codes "! range")
 refusal_of (Depth depth) = refusal (codes "! depth")
 refusal_of (Full total) = refusal (codes "! full")
 refusal_of Memory = refusal (codes "! memory")
+
+-- of a question for a mean or a temperature, some of which needs too many binary places
+abbrev pub too_fine : Piece
+too_fine = refusal (codes "! range")
+
+-- ---- answers
 
 -- how two games compare, by whether the first is at most the second, and the second at most the first
 abbrev pub comparison : Bool → Bool → List ℕ
@@ -53,31 +70,38 @@ winner true false = codes "L"
 winner false true = codes "R"
 winner false false = codes "N"
 
--- whether the question is answered today: for the value, the comparison or the outcome of expressions without boards
-abbrev pub is_answerable : Question → Bool
-is_answerable (value t) = not (has_board t)
-is_answerable (compare s t) = not (has_board s) && not (has_board t)
-is_answerable (outcome t) = not (has_board t)
-is_answerable _ = false
+-- what the picture of a value shows; or a refusal, where the mean or the temperature of some position of the value needs more
+-- than 60 binary places
+abbrev pub IsShown : Game → (Picture → List ℕ) → Piece → Type 0
+IsShown g show reply =
+    (NeedsMore places g × (reply ≡ too_fine))
+    ⊎ ((¬ NeedsMore places g) × ((p : Picture) × IsPicture g p × (reply ≡ answer (show p))))
 
--- the answer to the question: the name of the canonical form, how the two compare, who wins
-abbrev pub answer_to : Question → Piece
-answer_to (value t) = answer (name_of (can (meaning t)))
-answer_to (compare s t) = answer (comparison (le (meaning s) (meaning t)) (le (meaning t) (meaning s)))
-answer_to (outcome t) = answer (winner (le nothing (meaning t)) (le (meaning t) nothing))
-answer_to _ = later
+-- the answer to the question: the name of the value, how the two compare, who wins, the stops, the mean, the temperature,
+-- the whole thermograph. The value of an expression is the canonical form of what it means
+abbrev pub IsAnswerTo : Question → Piece → Type 0
+IsAnswerTo (value t) reply = reply ≡ answer (name_of (can (meaning t)))
+IsAnswerTo (compare s t) reply = reply ≡ answer (comparison (le (meaning s) (meaning t)) (le (meaning t) (meaning s)))
+IsAnswerTo (outcome t) reply = reply ≡ answer (winner (le nothing (meaning t)) (le (meaning t) nothing))
+IsAnswerTo (stops t) reply =
+    reply ≡ answer (stops_text (form.stops number-decide (meaning t)).left (form.stops number-decide (meaning t)).right)
+IsAnswerTo (mean t) reply = IsShown (can (meaning t)) mean_text reply
+IsAnswerTo (temp t) reply = IsShown (can (meaning t)) temp_text reply
+IsAnswerTo (thermo t) reply = IsShown (can (meaning t)) thermograph_text reply
 
--- The reply to a question: later where it isn't answered today. Else its answer where all of its items pass, and the
--- refusal of the first that doesn't.
-abbrev pub IsReplyBy : Bool → ℕ → ℕ → Question → Piece → Type 0
-IsReplyBy false share limit q reply = reply ≡ later
-IsReplyBy true share limit q reply =
-    ((total : ℕ) × AllPass share 0 (question_items limit q) total × (reply ≡ answer_to q))
+-- ---- replies
+
+-- The reply to a question, by why its first ill-formed board is so. Such a board's refusal comes first; else the refusal of
+-- the first item that isn't made; else the answer.
+abbrev pub IsReplyBy : Option BoardFault → ℕ → ℕ → Question → Piece → Type 0
+IsReplyBy (Some fault) share limit q reply = reply ≡ ill_formed fault
+IsReplyBy None share limit q reply =
+    ((total : ℕ) × AllPass share 0 (question_items limit q) total × IsAnswerTo q reply)
     ⊎ ((fault : ValueFault) × (total : ℕ) × IsStopped fault share 0 (question_items limit q) total
     × (reply ≡ refusal_of fault))
 
 abbrev pub IsReplyTo : ℕ → ℕ → Question → Piece → Type 0
-IsReplyTo share limit q reply = IsReplyBy (is_answerable q) share limit q reply
+IsReplyTo share limit q reply = IsReplyBy (question_fault q) share limit q reply
 
 -- the reply to a line that gets an answer: to the question that it reads as, or the refusal with its column
 pub record IsReplyOf (share limit : ℕ) (line : List ℕ) (reply : Piece) : Type 0 where

@@ -6,13 +6,13 @@ use Rattle.cg_nodes.specs.Games.{StandsFor}
 use Rattle.cg_nodes.specs.Spelled.{can}
 use Rattle.cg_canon.specs.declared.fault.ValueFault.{ValueFault}
 use Rattle.cg_canon.specs.declared.rest.WorkRest.{WorkRest}
-use Rattle.cg_names.specs.Meaning.{meaning}
+use Rattle.cg_eval.specs.Meaning.{meaning}
 use Rattle.cg_syntax.specs.Tree.{Tree, Question, value, compare, outcome, stops, mean, temp, thermo}
 use Rattle.cg_syntax.specs.Lines.{Reads}
 use Rattle.cg_eval.specs.declared.answered.Answered.{Answered}
 use Rattle.cg_eval.specs.Items.{question_items}
 use Rattle.cg_eval.specs.Progress.{Makes, Stops}
-use Rattle.cg_eval.specs.Reply.{IsReplyTo, Piece, answer_to}
+use Rattle.cg_eval.specs.Reply.{IsAnswerTo, IsReplyTo, Piece}
 
 abbrev pub shown : Answered → Piece
 shown a = record { text = a.text; refused = a.refused }
@@ -38,10 +38,10 @@ pub record HandleOf {R : Type 0} (s : State Meant R) (line : List ℕ) (refused 
   pub read : (q : Question) → Reads line q → HandleIs s q refused handle
   pub refusal : refused ≡ true → handle ≡ None
 
--- the answer to the question, with the value of its first expression
+-- the answer to the question, with the value of its first expression exactly where it is no refusal
 pub record IsAnswer {R : Type 0} (s : State Meant R) (q : Question) (a : Answered) : Type 0 where
-  pub text : shown a ≡ answer_to q
-  pub value : HandleIs s q false a.handle
+  pub text : IsAnswerTo q (shown a)
+  pub value : HandleIs s q a.refused a.handle
 
 -- the answer to the question, with all of its items made; or why the first that is refused is
 abbrev pub Answers : {R : Type 0} → State Meant (WorkRest R) → State Meant (WorkRest R) → Question

@@ -1,12 +1,14 @@
 //! Expressions, on handles.
-ghost use Rattle.std.specs.Prelude.{◌≡◌, ◌++◌, false};
+ghost use Rattle.std.specs.Prelude.{◌≡◌, ◌++◌, None};
 ghost use Rattle.cg_form.specs.Game.{Game};
 ghost use Rattle.cg_form.specs.Sum as sums;
 ghost use Rattle.cg_nodes.specs.Games.{IsGame, StandsFor, game_at};
 ghost use Rattle.cg_nodes.specs.Spelled.{can};
 ghost use Rattle.cg_canon.specs.Works.{work_state};
 ghost use Rattle.cg_sum.specs.Lists.{sum_items};
-ghost use Rattle.cg_names.specs.Meaning.{any_board, any_term_board, has_board, meaning, signed, total_with};
+ghost use Rattle.cg_names.specs.Meaning.{signed};
+ghost use Rattle.cg_eval.specs.Faults.{fault_in, fault_in_all, fault_in_terms};
+ghost use Rattle.cg_eval.specs.Meaning.{meaning, total_with};
 ghost use Rattle.cg_eval.specs.Items.{further_items, term_part};
 ghost use Rattle.cg_eval.specs.Progress.{Evaluates, Gives, GivesAll};
 ghost use Rattle.cg_syntax.specs.Tree.{terms_from, trees_from};
@@ -14,22 +16,24 @@ ghost use Rattle.cg_syntax.specs.Tree as trees;
 ghost use Rattle.cg_syntax.specs.Trees.{terms_in, terms_of, tree_of, trees_in};
 
 use crate::named::{literal, named_nimber, named_switch, named_tiny, named_ups, zero};
+use crate::positions::board_value;
 use cg_canon::{ValueFault, Work, canonical, number_item};
 use cg_cells::CellStore;
-use cg_nodes::{BoardForms, GameFacts, Handle};
+use cg_nodes::{GameFacts, Handle};
 use cg_sum::{multiple, negative, sum};
 use cg_syntax::{Expr, Exprs, Term, Terms};
+use cg_values::CgBoards;
 use std::alloc::Global;
 
 /// The canonical form of what the expression means. It makes the expression's items in order; the fault is that of the
 /// first that is refused, or want of memory.
 #[cycle(evaluate)]
-pub fn evaluate<B: BoardForms, S: CellStore<GameFacts<B>>>(
+pub fn evaluate<S: CellStore<GameFacts<CgBoards>>>(
     alloc: Global,
-    work: &mut Work<B, S>,
+    work: &mut Work<CgBoards, S>,
     expr: &Expr,
 ) -> Result<Handle, ValueFault>
-    requires { has_board (tree_of expr.now) ≡ false }
+    requires { fault_in (tree_of expr.now) ≡ None }
     ensures { Evaluates (work_state S.state work.old) (work_state S.state work.new) (tree_of expr.now) result }
 {
     match expr {
@@ -42,18 +46,18 @@ pub fn evaluate<B: BoardForms, S: CellStore<GameFacts<B>>>(
         Expr::Negative(inner) => minus(alloc, work, inner),
         Expr::Multiple(count, inner) => times(alloc, work, *count, inner),
         Expr::Sum(terms) => total(alloc, work, terms),
-        Expr::Game { .. } => unreachable!(),
+        Expr::Game { kind, rules, board } => board_value(alloc, work, *kind, rules, board),
     }
 }
 
 /// The canonical forms of what the expressions mean, in order.
 #[cycle(evaluate)]
-fn evaluate_all<B: BoardForms, S: CellStore<GameFacts<B>>>(
+fn evaluate_all<S: CellStore<GameFacts<CgBoards>>>(
     alloc: Global,
-    work: &mut Work<B, S>,
+    work: &mut Work<CgBoards, S>,
     exprs: &Exprs,
 ) -> Result<Vec<Handle>, ValueFault>
-    requires { any_board (trees_from (trees_in exprs.now)) ≡ false }
+    requires { fault_in_all (trees_from (trees_in exprs.now)) ≡ None }
     ensures { GivesAll (work_state S.state work.old) (work_state S.state work.new)
         (trees_from (trees_in exprs.now)) result }
 {
@@ -67,14 +71,14 @@ fn evaluate_all<B: BoardForms, S: CellStore<GameFacts<B>>>(
 
 /// The braces of the expressions.
 #[cycle(evaluate)]
-fn braces<B: BoardForms, S: CellStore<GameFacts<B>>>(
+fn braces<S: CellStore<GameFacts<CgBoards>>>(
     alloc: Global,
-    work: &mut Work<B, S>,
+    work: &mut Work<CgBoards, S>,
     lefts: &Exprs,
     rights: &Exprs,
 ) -> Result<Handle, ValueFault>
-    requires lefts { any_board (trees_from (trees_in lefts.now)) ≡ false }
-    requires rights { any_board (trees_from (trees_in rights.now)) ≡ false }
+    requires lefts { fault_in_all (trees_from (trees_in lefts.now)) ≡ None }
+    requires rights { fault_in_all (trees_from (trees_in rights.now)) ≡ None }
     ensures { Evaluates (work_state S.state work.old) (work_state S.state work.new)
         (trees.braces (trees_in lefts.now) (trees_in rights.now)) result }
 {
@@ -85,12 +89,12 @@ fn braces<B: BoardForms, S: CellStore<GameFacts<B>>>(
 
 /// The negative of the expression.
 #[cycle(evaluate)]
-fn minus<B: BoardForms, S: CellStore<GameFacts<B>>>(
+fn minus<S: CellStore<GameFacts<CgBoards>>>(
     alloc: Global,
-    work: &mut Work<B, S>,
+    work: &mut Work<CgBoards, S>,
     expr: &Expr,
 ) -> Result<Handle, ValueFault>
-    requires { has_board (tree_of expr.now) ≡ false }
+    requires { fault_in (tree_of expr.now) ≡ None }
     ensures { Evaluates (work_state S.state work.old) (work_state S.state work.new)
         (trees.negative (tree_of expr.now)) result }
 {
@@ -100,13 +104,13 @@ fn minus<B: BoardForms, S: CellStore<GameFacts<B>>>(
 
 /// So many times the expression.
 #[cycle(evaluate)]
-fn times<B: BoardForms, S: CellStore<GameFacts<B>>>(
+fn times<S: CellStore<GameFacts<CgBoards>>>(
     alloc: Global,
-    work: &mut Work<B, S>,
+    work: &mut Work<CgBoards, S>,
     count: u128,
     expr: &Expr,
 ) -> Result<Handle, ValueFault>
-    requires { has_board (tree_of expr.now) ≡ false }
+    requires { fault_in (tree_of expr.now) ≡ None }
     ensures { Evaluates (work_state S.state work.old) (work_state S.state work.new)
         (trees.multiple count (tree_of expr.now)) result }
 {
@@ -116,12 +120,12 @@ fn times<B: BoardForms, S: CellStore<GameFacts<B>>>(
 
 /// The sum of the terms, and 0 where there is none.
 #[cycle(evaluate)]
-fn total<B: BoardForms, S: CellStore<GameFacts<B>>>(
+fn total<S: CellStore<GameFacts<CgBoards>>>(
     alloc: Global,
-    work: &mut Work<B, S>,
+    work: &mut Work<CgBoards, S>,
     terms: &Terms,
 ) -> Result<Handle, ValueFault>
-    requires { any_term_board (terms_from (terms_in terms.now)) ≡ false }
+    requires { fault_in_terms (terms_from (terms_in terms.now)) ≡ None }
     ensures { Evaluates (work_state S.state work.old) (work_state S.state work.new)
         (trees.sum (terms_from (terms_in terms.now))) result }
 {
@@ -136,14 +140,14 @@ fn total<B: BoardForms, S: CellStore<GameFacts<B>>>(
 
 /// The sum of the game and the terms.
 #[cycle(evaluate)]
-fn further<B: BoardForms, S: CellStore<GameFacts<B>>>(
+fn further<S: CellStore<GameFacts<CgBoards>>>(
     alloc: Global,
-    work: &mut Work<B, S>,
+    work: &mut Work<CgBoards, S>,
     start: Handle,
     terms: &[Term],
 ) -> Result<Handle, ValueFault>
     requires game { IsGame (work_state S.state work.old) start }
-    requires board { any_term_board (terms_from (terms_of terms.now)) ≡ false }
+    requires board { fault_in_terms (terms_from (terms_of terms.now)) ≡ None }
     ensures { (g : Game) → StandsFor (work_state S.state work.old) start (can g)
         → Gives (work_state S.state work.old) (work_state S.state work.new)
         (further_items work.old.limit g (terms_from (terms_of terms.now)))
@@ -158,13 +162,13 @@ fn further<B: BoardForms, S: CellStore<GameFacts<B>>>(
 
 /// What a term means: the expression, or its negative where the term is subtracted.
 #[cycle(evaluate)]
-fn signed<B: BoardForms, S: CellStore<GameFacts<B>>>(
+fn signed<S: CellStore<GameFacts<CgBoards>>>(
     alloc: Global,
-    work: &mut Work<B, S>,
+    work: &mut Work<CgBoards, S>,
     subtracted: bool,
     expr: &Expr,
 ) -> Result<Handle, ValueFault>
-    requires { has_board (tree_of expr.now) ≡ false }
+    requires { fault_in (tree_of expr.now) ≡ None }
     ensures { Gives (work_state S.state work.old) (work_state S.state work.new)
         (term_part work.old.limit subtracted (tree_of expr.now))
         (signed subtracted (meaning (tree_of expr.now))) result }
@@ -179,15 +183,15 @@ fn signed<B: BoardForms, S: CellStore<GameFacts<B>>>(
 
 /// The sum of the game and a term.
 #[cycle(evaluate)]
-fn added<B: BoardForms, S: CellStore<GameFacts<B>>>(
+fn added<S: CellStore<GameFacts<CgBoards>>>(
     alloc: Global,
-    work: &mut Work<B, S>,
+    work: &mut Work<CgBoards, S>,
     so_far: Handle,
     subtracted: bool,
     expr: &Expr,
 ) -> Result<Handle, ValueFault>
     requires game { IsGame (work_state S.state work.old) so_far }
-    requires board { has_board (tree_of expr.now) ≡ false }
+    requires board { fault_in (tree_of expr.now) ≡ None }
     ensures { Gives (work_state S.state work.old) (work_state S.state work.new)
         (term_part work.old.limit subtracted (tree_of expr.now)
         ++ sum_items work.old.limit (game_at (work_state S.state work.old) so_far)

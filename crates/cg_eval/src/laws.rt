@@ -1,9 +1,11 @@
 //! Laws of expressions and replies: a call puts its law into the caller's facts.
-ghost use Rattle.std.specs.Prelude.{◌≡◌, ◌⊎◌, ◌++◌, ◌∷◌, [], ℕ, List, false};
+ghost use Rattle.std.specs.Prelude.{◌≡◌, ◌⊎◌, ◌++◌, ◌∷◌, [], ℕ, List, None, false};
 ghost use Rattle.cg_nodes.specs.Spelled.{can};
 ghost use Rattle.cg_canon.specs.declared.fault.ValueFault.{ValueFault};
 ghost use Rattle.cg_canon.specs.Items.{Item, made, AllPass, IsStopped};
-ghost use Rattle.cg_names.specs.Meaning.{meaning, has_board};
+ghost use Rattle.cg_eval.specs.Boards.{IsStrip, Position, strip_position};
+ghost use Rattle.cg_eval.specs.Faults.{fault_in};
+ghost use Rattle.cg_eval.specs.Meaning.{meaning};
 ghost use Rattle.cg_eval.specs.Items.{items};
 ghost use Rattle.cg_eval.specs.Reply.{IsReply, Piece};
 ghost use Rattle.cg_syntax.specs.Lines.{is_blank_line, IsComment};
@@ -11,10 +13,10 @@ ghost use Rattle.cg_syntax.specs.Tree.{Tree};
 
 use cg_syntax::laws::one_query;
 
-/// Where all items of an expression without boards pass, the last of them is the canonical form of what the expression
-/// means, for every share and positions limit.
+/// Where all items of an expression pass whose boards are all well-formed, the last of them is the canonical form of what the
+/// expression means, for every share and positions limit.
 pub fn l8()
-    ensures { (share limit spent : ℕ) (t : Tree) → has_board t ≡ false → AllPass share 0 (items limit t) spent
+    ensures { (share limit spent : ℕ) (t : Tree) → fault_in t ≡ None → AllPass share 0 (items limit t) spent
         → (front : List Item) × (extra : ℕ) × (items limit t ≡ front ++ (made (can (meaning t)) extra ∷ [])) }
 {}
 
@@ -40,3 +42,9 @@ pub fn one_reply()
 {
     one_query();
 }
+
+/// The rules text and the row of a strip game are one position: a board of the game of these rules, or ill-formed for one cause.
+pub fn strip_boards()
+    ensures some { (rules row : List ℕ) → IsStrip rules row (strip_position rules row) }
+    ensures only { (rules row : List ℕ) (p : Position) → IsStrip rules row p → p ≡ strip_position rules row }
+{}

@@ -9,11 +9,16 @@
 mod answered;
 mod boards;
 mod evaluate;
+mod faults;
 pub mod laws;
 mod line;
 mod named;
+mod pictures;
+mod positions;
 mod question;
+mod refusals;
 mod reply;
+mod telling;
 
 pub use answered::Answered;
 pub use line::answer;

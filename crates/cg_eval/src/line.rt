@@ -6,21 +6,24 @@ ghost use Rattle.cg_eval.specs.Stores.{KeepsStore};
 ghost use Rattle.cg_syntax.specs.Lines.{is_blank_line, IsComment};
 
 use crate::Answered;
-use crate::reply::{refuse_syntax, reply};
+use crate::refusals::refuse_syntax;
+use crate::reply::reply;
 use cg_cells::CellStore;
-use cg_nodes::{GameFacts, NoBoards};
+use cg_nodes::GameFacts;
 use cg_syntax::laws::one_query;
 use cg_syntax::{Line, SyntaxFault, read_line};
+use cg_values::CgBoards;
 use std::alloc::{AllocError, Global};
 
 /// The reply to a line that gets one, that is, to one that is neither blank nor a comment. It is made on a share of so
 /// much of the store's spare, with so many positions at most in one list of items.
 ///
-/// It is `! syntax c` with the column at which the line leaves the grammar; `! later` for a question that isn't
-/// answered yet; `! positions`, `! range`, `! depth` or `! full` where an item of the question is refused; and else its
-/// answer. The one fault is want of memory. Whatever it answers, what the store knew it knows, and its spare falls by
-/// the share at most.
-pub fn answer<S: CellStore<GameFacts<NoBoards>>>(
+/// It is the first of these that applies: `! syntax c` with the column at which the line leaves the grammar; `! board cause p`
+/// for the first ill-formed board from the left; `! positions`, `! range`, `! depth` or `! full` where an item of the
+/// question is refused; `! range` where the mean or the temperature of some position of the value needs more than 60 binary
+/// places and the question is for a mean, a temperature or a thermograph; and else its answer. The one fault is want of
+/// memory. Whatever it answers, what the store knew it knows, and its spare falls by the share at most.
+pub fn answer<S: CellStore<GameFacts<CgBoards>>>(
     alloc: Global,
     store: &mut S,
     line: &[u8],

@@ -20,7 +20,7 @@ use Rattle.cg_form.proofs.Bypass.{covered_more}
 use Rattle.cg_form.proofs.FormLists.{games_of-all, games_of-take_suc, size_of_lists}
 use Rattle.cg_form.proofs.Order.{no_one-each}
 use Rattle.cg_form.proofs.Reduced.{canonical-far, canonical-near}
-use Rattle.cg_form.proofs.Sides.{far-node, near-node, near_number, not_near, side_trans, size-far}
+use Rattle.cg_form.proofs.Sides.{not_both, far-node, near-node, near_number, not_near, side_trans, size-far}
 
 -- ---- the options of a node
 
@@ -92,10 +92,6 @@ number_covered s g f x gs rs e p =
     subst P (sym e) (kept (last_among (number x) gs rs p))
 
 -- a number through which the option is reversible
-not_both : (s : Bool) (g : Game) (x : Number) → NoNumber g → AtMost s (number x) g → ¬ AtMost s g (number x)
-not_both true g x n p q = n x (p, q)
-not_both false g x n p q = n x (q, p)
-
 pub through_number_grown : (s : Bool) (g : Game) (f : Form) (x : Number) (gs rs : List Game) (t : Bool) → f ≡ Num x
     → NoNumber g → t ≡ at_most s (game_of f) g → t ≡ true → rs ≡ gs ++ (number x ∷ []) → Grown s g gs rs
 through_number_grown s g f x gs rs t e n l k p =

@@ -5,7 +5,7 @@ use Rattle.cg_dyadic.specs.declared.cut.Cut.{Cut}
 use Rattle.cg_dyadic.specs.Cut.{above_some, below_some, in_gap, is_above, is_below}
 use Rattle.cg_dyadic.specs.Number.{AmongNumbers, InRange, Number, number_le, number_lefts, number_rights}
 use Rattle.cg_dyadic.specs.Simplest.{NoOptionPasses}
-use Rattle.cg_dyadic.proofs.Truth.{and-both, and-split, differ, false-from, not_true, true_not}
+use Rattle.cg_dyadic.proofs.Truth.{and-both, and-split, differ, false-from, not_not, not_true, true_not}
 use Rattle.cg_dyadic.proofs.Weight.{in_range-lefts, in_range-rights}
 use Rattle.cg_form.specs.Cut.{AnyNumber, CutIs, CutOf, Joined, Turned, covers, covers_at, in_cut, in_some, within_cut}
 use Rattle.cg_form.specs.Game.{Among, Game, lefts, number, rights}
@@ -102,10 +102,6 @@ cut-number P s c x g at shut e = record {
       (λ k. side_trans s (number y) (number x) g (side-numbers s y x k) (side_equal s (number x) g e))
       ∙ ap (λ z. within_cut s z true y) (sym at) ∙ ap (λ b. within_cut s c.at b y) (sym shut);
 }
-
-not_not : (b : Bool) → not (not b) ≡ b
-not_not true = refl
-not_not false = refl
 
 within-turned : (s : Bool) (p : Number) (c : Bool) (x : Number)
     → within_cut s p (not c) x ≡ not (within_cut (not s) p c x)

@@ -38,7 +38,7 @@ cut_step P s fs i f o c r h e all one join = record {
     next = omega arith
 
 -- no number in range is below the least, or above the greatest
-pub smallest_low : (s : Bool) (c : Cut) → s ≡ true → c.at ≡ whole (negsuc 4503599627370494) → c.closed ≡ false
+pub smallest_low : (s : Bool) (c : Cut) → s ≡ true → c.at ≡ whole (negsuc 18446744073709551614) → c.closed ≡ false
     → CutOf InRange s (Some c) []
 smallest_low s c side e f = let Q : Bool → Type 0 = λ z. CutOf InRange z (Some c) [] in subst Q (sym side) (record {
   tells = λ x p.
@@ -46,7 +46,7 @@ smallest_low s c side e f = let Q : Bool → Type 0 = λ z. CutOf InRange z (Som
       ∙ ap (λ b. not (within_cut true c.at b x)) (sym f);
 })
 
-pub smallest_high : (s : Bool) (c : Cut) → s ≡ false → c.at ≡ whole (pos 4503599627370495) → c.closed ≡ false
+pub smallest_high : (s : Bool) (c : Cut) → s ≡ false → c.at ≡ whole (pos 18446744073709551615) → c.closed ≡ false
     → CutOf InRange s (Some c) []
 smallest_high s c side e f = let Q : Bool → Type 0 = λ z. CutOf InRange z (Some c) [] in subst Q (sym side) (record {
   tells = λ x p.

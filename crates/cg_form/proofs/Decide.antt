@@ -5,7 +5,7 @@ use Rattle.cg_dyadic.specs.declared.cut.Cut.{Cut}
 use Rattle.cg_dyadic.specs.Cut.{is_above, is_below, is_between}
 use Rattle.cg_dyadic.specs.Number.{Number, NumberLe, number_le, whole}
 use Rattle.cg_dyadic.proofs.Middle.{middle, middle_between}
-use Rattle.cg_dyadic.proofs.Truth.{and-both, and-split, false-from, not_not_is, not_true, true-or-not}
+use Rattle.cg_dyadic.proofs.Truth.{and_swap, and-both, and-split, false-from, not_not_is, not_true, true-or-not}
 use Rattle.cg_dyadic.proofs.Values.{less-le, number_le-same, number_le-trans}
 use Rattle.cg_form.specs.Cut.{AnyNumber, CutIs, CutOf, Joined, covers}
 use Rattle.cg_form.specs.Game.{Among, Game, lefts, number, rights}
@@ -75,12 +75,6 @@ pub record HasCutOf (s : Bool) (gs : List Game) : Type 0 where
 one : (b : Bool) → (not b && true) ≡ not b
 one true = refl
 one false = refl
-
-and_swap : (b c : Bool) → (b && c) ≡ (c && b)
-and_swap true true = refl
-and_swap true false = refl
-and_swap false true = refl
-and_swap false false = refl
 
 list_cut : (s : Bool) (g : Game) (gs : List Game) → ((a : Game) → Among a (g ∷ gs) → HasCut s a) → HasCutOf s (g ∷ gs)
 list_cut s g [] h = let k = h g (inl refl) in

@@ -75,7 +75,7 @@ cooled-even f h c n (suc t) =
           (stays h (suc (twice t)) (omega (arith, ints))) (stays f t p) refl (record { left = o.left; right = o.right })
     ]
 
-cooled-finer : (f h : ℕ → Walls) → Cool f → Finer f h → Finer (cooled f) (cooled h)
+pub cooled-finer : (f h : ℕ → Walls) → Cool f → Finer f h → Finer (cooled f) (cooled h)
 cooled-finer f h c n = record {
   even_left = λ t. (cooled-even f h c n t).left;
   even_right = λ t. (cooled-even f h c n t).right;
@@ -88,11 +88,11 @@ cooled-finer f h c n = record {
 same_bounds : (a : ℤ) → (a ≤ℤ a) × (a ≤ℤ (a +ℤ pos 1))
 same_bounds a = (omega (arith, ints), omega (arith, ints))
 
-twice_pos : (t : ℕ) → pos (twice t) ≡ pos t +ℤ pos t
+pub twice_pos : (t : ℕ) → pos (twice t) ≡ pos t +ℤ pos t
 twice_pos zero = refl
 twice_pos (suc t) = let i = twice_pos t in omega (arith, ints)
 
-scaffold-finer : (w x : ℕ → Game → Walls) (g : Game) → ((t : ℕ) (a : Game) → Steps (w t a) (w (suc t) a))
+pub scaffold-finer : (w x : ℕ → Game → Walls) (g : Game) → ((t : ℕ) (a : Game) → Steps (w t a) (w (suc t) a))
     → ((a : Game) → Among a (lefts g) → Finer (λ t. w t a) (λ t. x t a))
     → ((b : Game) → Among b (rights g) → Finer (λ t. w t b) (λ t. x t b))
     → Finer (scaffold w g) (scaffold x g)
@@ -126,7 +126,7 @@ no_one_apart : (a b c d : ℤ) → a ≡ c +ℤ c → b ≡ d +ℤ d → a ≡ b
 no_one_apart a b c d e f g = omega (arith, ints)
 
 -- what is finer has even differences at even t, so none passes from 1 to -1
-finer-no_jump : (f h : ℕ → Walls) → Finer f h → (t : ℕ) → (h t).left ≡ (h t).right +ℤ pos 1
+pub finer-no_jump : (f h : ℕ → Walls) → Finer f h → (t : ℕ) → (h t).left ≡ (h t).right +ℤ pos 1
     → (h (suc t)).right ≡ (h (suc t)).left +ℤ pos 1 → ⊥
 finer-no_jump f h n t p q = elim (even_or_odd t) [
   | inl w ↦ (let P : ℕ → Type 0 = λ z. (h z).left ≡ (h z).right +ℤ pos 1 in

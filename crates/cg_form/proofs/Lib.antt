@@ -24,7 +24,6 @@ pub mod Removed
 pub mod SumNumbers
 pub mod Translation
 pub mod Shifted
-pub mod Sorted
 pub mod Stops
 pub mod StopValues
 pub mod Heights
@@ -44,3 +43,6 @@ pub mod CompareSteps
 pub mod BypassSteps
 pub mod BestSteps
 pub mod KnownSteps
+pub mod EqualGames
+pub mod NumberOptions
+pub mod Totals

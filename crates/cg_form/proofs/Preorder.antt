@@ -50,6 +50,12 @@ equal_refl g = (le_refl g, le_refl g)
 pub equal_trans : (g h k : Game) → Equal g h → Equal h k → Equal g k
 equal_trans g h k e f = (le_trans g h k e.0 f.0, le_trans k h g f.1 e.1)
 
+pub equal_back : (g h : Game) → Equal g h → Equal h g
+equal_back g h e = (e.1, e.0)
+
+pub equal_of : (g h : Game) → g ≡ h → Equal g h
+equal_of g h e = let P : Game → Type 0 = λ z. Equal g z in subst P e (equal_refl g)
+
 -- ---- by the options alone
 
 -- each Left option of g is at most one of h, and each Right option of h at least one of g

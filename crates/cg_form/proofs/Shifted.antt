@@ -1,37 +1,51 @@
--- A canonical game that is shifted by a number is canonical, but for the order of its options.
-use Rattle.std.proofs.Common.{Bool, true, false, ◌≡◌, refl, ℕ, ◌+◌, ◌<◌, arith, zero, suc, inl, inr, ap, sym, ◌∙◌, subst, List, ◌∷◌, map, ℤ, ◌-ℤ◌}
+-- A number that is added to each number of a game keeps the structural order, and makes a canonical game the canonical
+-- form of the sum.
+use Rattle.std.proofs.Common.{Bool, true, false, ◌≡◌, refl, ℕ, ◌+◌, ◌-◌, ◌<◌, arith, zero, suc, inl, inr, ap, sym, ◌∙◌, subst, ◌∷◌, map, ℤ, pos, ◌+ℤ◌, ◌-ℤ◌}
 use Rattle.std.proofs.lemmas.Int.{ints}
 use Rattle.cg_dyadic.specs.Exact.{IsSum, sum_num}
-use Rattle.cg_dyadic.specs.Number.{Number, exp_of, ratio}
+use Rattle.cg_dyadic.specs.Number.{Number, exp_of, number_cmp, number_le, ratio, whole}
 use Rattle.cg_dyadic.specs.Units.{units}
-use Rattle.cg_dyadic.proofs.Fractions.{fraction-ratio}
+use Rattle.cg_dyadic.proofs.Fractions.{fraction-at, fraction-ratio, fraction-unique}
 use Rattle.cg_dyadic.proofs.Scale.{exp-ratio, units-ratio}
-use Rattle.cg_dyadic.proofs.Sums.{sum-units}
-use Rattle.cg_form.specs.Canonical.{AllCanonical, Canonical}
+use Rattle.cg_dyadic.proofs.Sums.{doubled-zero, sum-commutes, sum-order, sum-units}
+use Rattle.cg_dyadic.proofs.Truth.{false-from, true-or-not}
+use Rattle.cg_form.specs.Canonical.{AllCanonical, Canonical, IsCanonicalForm, Reduced}
 use Rattle.cg_form.specs.Game.{Among, Game, Games, more, none, number, options, to_list}
 use Rattle.cg_form.specs.Order.{Equal, Le}
-use Rattle.cg_form.specs.Shifted.{AllUpToOrder, CanonicalUpToOrder, Distinct, ReducedUpToOrder, number_sum, shifted, shifted_all}
+use Rattle.cg_form.specs.Shifted.{number_sum, shifted, shifted_all}
 use Rattle.cg_form.specs.Side.{AtMost, far, near}
 use Rattle.cg_form.specs.Simple.{NoNumber}
 use Rattle.cg_form.specs.Size.{size}
-use Rattle.cg_form.specs.Structure.{Rises}
+use Rattle.cg_form.specs.Structure.{Before, Rises, game_cmp, list_cmp}
 use Rattle.cg_form.specs.Sum.{sum}
 use Rattle.cg_form.specs.Translate.{translated}
 use Rattle.cg_form.proofs.Among.{among_map, among_mapped, carry}
 use Rattle.cg_form.proofs.Bypass.{number_stays}
 use Rattle.cg_form.proofs.Preorder.{at_left, at_right, equal_trans, le-cofinal, le_trans}
 use Rattle.cg_form.proofs.Reduced.{canonical-far, canonical-left, canonical-near, canonical-right, reduced-apart, reduced-stays}
-use Rattle.cg_form.proofs.Sides.{side_refl}
 use Rattle.cg_form.proofs.Size.{size-lefts, size-rights}
-use Rattle.cg_form.proofs.Structure.{before_not_same}
 use Rattle.cg_form.proofs.SumLaws.{le-sum_second}
 use Rattle.cg_form.proofs.SumNumbers.{sums}
+use Rattle.cg_form.proofs.Unique.{canonical_form-same}
 use Rattle.cg_form.proofs.Translation.{left_cases, left_of, right_cases, right_of, translation}
 
 -- ---- numbers
 
 pub number_sum-is : (x y : Number) → IsSum x y (number_sum x y)
 number_sum-is x y = fraction-ratio (sum_num x y) (exp_of x + exp_of y)
+
+-- x + 0 is x
+pub number_sum-zero : (x : Number) → number_sum x (whole (pos 0)) ≡ x
+number_sum-zero x =
+    let o : Number = whole (pos 0) in
+    let z : Number = number_sum x o in
+    let s : ℕ = exp_of x + exp_of z in
+    let total : units s z ≡ units s x +ℤ units s o =
+    sum-units s x o z (omega arith) (omega arith) (omega arith) (number_sum-is x o) in
+    let nothing : units s o ≡ pos 0 = doubled-zero (s - 0) in
+    let same : units s z ≡ units s x = omega (arith, ints) in
+    fraction-unique (units s x) s z x (fraction-at (units s x) s z (omega arith) same)
+    (fraction-at (units s x) s x (omega arith) refl)
 
 number_sum-equal : (x y : Number) → Equal (number (number_sum x y)) (sum (number x) (number y))
 number_sum-equal x y =
@@ -126,23 +140,46 @@ shifted-no_number : (x : Number) (g : Game) → Canonical g → NoNumber g → N
 shifted-no_number x g c n z e = sum-no_number x g n z
     (equal_trans (number z) (shifted x g) (sum (number x) g) e (shifted-equal x g c))
 
--- ---- no game twice
+-- ---- the structural order
 
-not_after : (g : Game) (gs : List Game) → Rises (g ∷ gs) → ¬ Among g gs
-not_after g gs r m = before_not_same g g (r.0 g m) refl
+number_le-translated : (x y z : Number) → number_le (number_sum x y) (number_sum x z) ≡ number_le y z
+number_le-translated x y z =
+    let order = sum-order y z x (number_sum x y) (number_sum x z) (sum-commutes x y (number_sum x y) (number_sum-is x y))
+    (sum-commutes x z (number_sum x z) (number_sum-is x z)) in
+    elim (true-or-not (number_le y z)) [
+      | inl t ↦ order.0 t ∙ sym t
+      | inr n ↦ false-from (number_le (number_sum x y) (number_sum x z)) (λ k. n (order.1 k))
+          ∙ sym (false-from (number_le y z) n)
+    ]
 
-distinct_shifted : (x : Number) (gs : Games) → Rises (to_list gs)
-    → ((a b : Game) → Among a (to_list gs) → Among b (to_list gs) → shifted x a ≡ shifted x b → a ≡ b)
-    → Distinct (to_list (shifted_all x gs))
-distinct_shifted x none r f = tt
-distinct_shifted x (more g gs) r f = (
-  (λ m. let (a, i, e) = list-case x gs (shifted x g) m in
-      let P : Game → Type 0 = λ z. Among z (to_list gs) in
-      not_after g (to_list gs) r (subst P (sym (f g a (inl refl) (inr i) e)) i)),
-  distinct_shifted x gs r.1 (λ a b m w e. f a b (inr m) (inr w) e),
-)
+number_cmp-translated : (x y z : Number) → number_cmp (number_sum x y) (number_sum x z) ≡ number_cmp y z
+number_cmp-translated x y z = rw (number_le-translated x y z, number_le-translated x z y) refl
 
--- ---- reduced, but for the order
+mutual
+  pub cmp-shifted : (x : Number) (g h : Game) → game_cmp (shifted x g) (shifted x h) ≡ game_cmp g h
+  cmp-shifted x (number y) (number z) = number_cmp-translated x y z
+  cmp-shifted x (number y) (options cs ds) = refl
+  cmp-shifted x (options ls rs) (number z) = refl
+  cmp-shifted x (options ls rs) (options cs ds) = rw (cmps-shifted x ls cs, cmps-shifted x rs ds) refl
+
+  cmps-shifted : (x : Number) (gs hs : Games) → list_cmp (shifted_all x gs) (shifted_all x hs) ≡ list_cmp gs hs
+  cmps-shifted x none none = refl
+  cmps-shifted x none (more h hs) = refl
+  cmps-shifted x (more g gs) none = refl
+  cmps-shifted x (more g gs) (more h hs) = rw (cmp-shifted x g h, cmps-shifted x gs hs) refl
+
+before_shifted : (x : Number) (g : Game) (gs : Games) → ((h : Game) → Among h (to_list gs) → Before g h)
+    → (h : Game) → Among h (to_list (shifted_all x gs)) → Before (shifted x g) h
+before_shifted x g gs f h m =
+    let (a, i, e) = list-case x gs h m in
+    let P : Game → Type 0 = λ z. Before (shifted x g) z in
+    subst P (sym e) (cmp-shifted x g a ∙ f a i)
+
+rises-shifted : (x : Number) (gs : Games) → Rises (to_list gs) → Rises (to_list (shifted_all x gs))
+rises-shifted x none r = tt
+rises-shifted x (more g gs) r = (before_shifted x g gs r.0, rises-shifted x gs r.1)
+
+-- ---- reduced
 
 near_case : (s : Bool) (x : Number) (ls rs : Games) (b : Game) → Among b (near s (shifted x (options ls rs)))
     → (a : Game) × Among a (near s (options ls rs)) × (b ≡ shifted x a)
@@ -200,31 +237,31 @@ shifted_stays : (s : Bool) (x : Number) (ls rs : Games) → Canonical (options l
 shifted_stays s x ls rs c a b m w l =
     let (d, i, e) = near_case s x ls rs a m in stays_at s x ls rs c d i a e m b w l
 
-shifted_distinct : (s : Bool) (x : Number) (ls rs : Games) → Canonical (options ls rs)
-    → (a b : Game) → Among a (near s (options ls rs)) → Among b (near s (options ls rs)) → shifted x a ≡ shifted x b
-    → a ≡ b
-shifted_distinct s x ls rs c a b m w e =
-    let P : Game → Type 0 = λ z. AtMost s (shifted x a) z in
-    same_shifted s x ls rs c a b m w (subst P e (side_refl s (shifted x a)))
-
-shifted-reduced : (x : Number) (ls rs : Games) → Canonical (options ls rs)
-    → ReducedUpToOrder (shifted x (options ls rs))
+shifted-reduced : (x : Number) (ls rs : Games) → Canonical (options ls rs) → Reduced (shifted x (options ls rs))
 shifted-reduced x ls rs c = record {
   left_undominated = λ a m v. v.other (shifted_apart true x ls rs c a v.by m v.option v.worse);
   right_undominated = λ a m v. v.other (shifted_apart false x ls rs c a v.by m v.option v.worse);
   left_irreversible = λ a m v. shifted_stays true x ls rs c a v.through m v.answer v.back;
   right_irreversible = λ a m v. shifted_stays false x ls rs c a v.through m v.answer v.back;
-  lefts_distinct = distinct_shifted x ls c.0.lefts_rise (shifted_distinct true x ls rs c);
-  rights_distinct = distinct_shifted x rs c.0.rights_rise (shifted_distinct false x ls rs c);
+  lefts_rise = rises-shifted x ls c.0.lefts_rise;
+  rights_rise = rises-shifted x rs c.0.rights_rise;
   no_number = shifted-no_number x (options ls rs) c c.0.no_number;
 }
 
 mutual
-  pub shifted-up_to_order : (x : Number) (g : Game) → Canonical g → CanonicalUpToOrder (shifted x g)
-  shifted-up_to_order x (number y) c = tt
-  shifted-up_to_order x (options ls rs) c =
-      (shifted-reduced x ls rs c, all-up_to_order x ls c.1, all-up_to_order x rs c.2)
+  pub canonical-shifted : (x : Number) (g : Game) → Canonical g → Canonical (shifted x g)
+  canonical-shifted x (number y) c = tt
+  canonical-shifted x (options ls rs) c =
+      (shifted-reduced x ls rs c, all_canonical-shifted x ls c.1, all_canonical-shifted x rs c.2)
 
-  all-up_to_order : (x : Number) (gs : Games) → AllCanonical gs → AllUpToOrder (shifted_all x gs)
-  all-up_to_order x none c = tt
-  all-up_to_order x (more g gs) c = (shifted-up_to_order x g c.0, all-up_to_order x gs c.1)
+  all_canonical-shifted : (x : Number) (gs : Games) → AllCanonical gs → AllCanonical (shifted_all x gs)
+  all_canonical-shifted x none c = tt
+  all_canonical-shifted x (more g gs) c = (canonical-shifted x g c.0, all_canonical-shifted x gs c.1)
+
+-- a canonical game with a number added throughout is the canonical form of the sum
+pub shifted-is_form : (x : Number) (g : Game) → Canonical g → IsCanonicalForm (sum (number x) g) (shifted x g)
+shifted-is_form x g c = record { canonical = canonical-shifted x g c; equal = shifted-equal x g c }
+
+-- and so it is what has to be that form
+pub form_shifted : (x : Number) (g k : Game) → Canonical g → IsCanonicalForm (sum (number x) g) k → k ≡ shifted x g
+form_shifted x g k c f = canonical_form-same (sum (number x) g) k (shifted x g) f (shifted-is_form x g c)

@@ -5,7 +5,7 @@ use Rattle.cg_dyadic.proofs.Values.{left-le_number, less-le, number_le-trans, ri
 use Rattle.cg_form.specs.Game.{Among, Game, node, number}
 use Rattle.cg_form.specs.Order.{Equal, Le}
 use Rattle.cg_form.specs.Side.{AtMost, at_most, chosen, far, near, number_at_most}
-use Rattle.cg_form.specs.Simple.{FitsIn}
+use Rattle.cg_form.specs.Simple.{FitsIn, NoNumber}
 use Rattle.cg_form.specs.Size.{size}
 use Rattle.cg_form.proofs.Among.{among-map, lefts-node, rights-node}
 use Rattle.cg_form.proofs.Numbers.{le-numbers, numbers-le}
@@ -40,6 +40,11 @@ side_equal false g h e = e.1
 pub equal_side : (s : Bool) (g h : Game) → AtMost s g h → AtMost s h g → Equal g h
 equal_side true g h p q = (p, q)
 equal_side false g h p q = (q, p)
+
+-- a game that equals no number is not on both sides of one
+pub not_both : (s : Bool) (g : Game) (x : Number) → NoNumber g → AtMost s (number x) g → ¬ AtMost s g (number x)
+not_both true g x n p q = n x (p, q)
+not_both false g x n p q = n x (q, p)
 
 pub side_turned : (s : Bool) (g h : Game) → at_most (not s) g h ≡ at_most s h g
 side_turned true g h = refl

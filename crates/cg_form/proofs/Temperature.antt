@@ -17,7 +17,7 @@ use Rattle.cg_form.proofs.Walls.{walls-none, walls-steps}
 
 -- ---- the scaffolds agree at some t
 
-find : (f : ℕ → Walls) → Cool f → (m t e : ℕ) → e ≡ t + m → (f t).right ≤ℤ (f t).left → (f e).left <ℤ (f e).right
+pub find : (f : ℕ → Walls) → Cool f → (m t e : ℕ) → e ≡ t + m → (f t).right ≤ℤ (f t).left → (f e).left <ℤ (f e).right
     → (u : ℕ) × ((f u).left ≡ (f u).right)
 find f c zero t e q p h =
     let i : e ≡ t = omega arith in
@@ -86,11 +86,11 @@ temperature-there d s g w = search_from w.0 0 (omega arith) (λ u h. absurd (ome
 -- ---- the walls below the temperature, and the mast above it
 
 -- w comes later than v: the left has fallen, the right has risen
-record Later (v w : Walls) : Type 0 where
-  left : w.left ≤ℤ v.left
-  right : v.right ≤ℤ w.right
+pub record Later (v w : Walls) : Type 0 where
+  pub left : w.left ≤ℤ v.left
+  pub right : v.right ≤ℤ w.right
 
-later : (f : ℕ → Walls) → Cool f → (m t : ℕ) → Later (f t) (f (t + m))
+pub later : (f : ℕ → Walls) → Cool f → (m t : ℕ) → Later (f t) (f (t + m))
 later f c zero t =
     let e : t ≡ t + 0 = omega arith in
     let P : ℕ → Type 0 = λ z. Later (f t) (f z) in
@@ -103,7 +103,7 @@ later f c (suc m) t =
     subst P e (record { left = omega (arith, ints); right = omega (arith, ints) })
 
 -- before scaffolds that are in order, they are in order
-earlier : (f : ℕ → Walls) → Cool f → (m u : ℕ) → (f (u + m)).right ≤ℤ (f (u + m)).left → (f u).right ≤ℤ (f u).left
+pub earlier : (f : ℕ → Walls) → Cool f → (m u : ℕ) → (f (u + m)).right ≤ℤ (f (u + m)).left → (f u).right ≤ℤ (f u).left
 earlier f c m u h = let i = later f c m u in let a = i.left in let b = i.right in omega (arith, ints)
 
 kept_step : (f : ℕ → Walls) (u : ℕ) (v : Walls) → v.left ≡ v.right → cooled f u ≡ v → Later v (f (suc u))
@@ -118,7 +118,7 @@ kept_step f u v h k b =
     ]
 
 -- from where the scaffolds agree on, the walls keep their value
-kept : (f : ℕ → Walls) → Cool f → (m t : ℕ) → (f t).left ≡ (f t).right → cooled f (t + m) ≡ f t
+pub kept : (f : ℕ → Walls) → Cool f → (m t : ℕ) → (f t).left ≡ (f t).right → cooled f (t + m) ≡ f t
 kept f c zero t h =
     let e : t ≡ t + 0 = omega arith in
     let P : ℕ → Type 0 = λ z. cooled f z ≡ f t in

@@ -22,5 +22,5 @@ pub mod Side
 pub mod Cut
 pub mod Best
 pub mod Bypass
-pub mod Sorted
 pub mod Known
+pub mod Total

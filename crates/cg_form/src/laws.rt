@@ -17,8 +17,7 @@ ghost use Rattle.cg_form.specs.Outcome.{left_wins, right_wins, previous_wins, ne
 ghost use Rattle.cg_form.specs.Simple.{FitsIn, NoNumber, SimplestValue, Decided, Decides};
 ghost use Rattle.cg_form.specs.Translate.{translated};
 ghost use Rattle.cg_form.specs.Canonical.{Canonical, IsCanonicalForm, LeftAbove, RightBelow};
-ghost use Rattle.cg_form.specs.Shifted.{number_sum, shifted, CanonicalUpToOrder};
-ghost use Rattle.cg_form.specs.Sorted.{sorted};
+ghost use Rattle.cg_form.specs.Shifted.{number_sum, shifted};
 ghost use Rattle.cg_form.specs.Stops.{stops, stops_by, greatest_number, least_number};
 ghost use Rattle.cg_form.specs.Heights.{height};
 ghost use Rattle.cg_form.specs.Walls.{walls, walls_by, scaffold_of, TemperatureIs, MeanIs, AtNext};
@@ -104,21 +103,13 @@ pub fn l3()
 
 /// Number translation: x + G = {x + A | x + B} where G equals no number.
 ///
-/// Adding x to each number of a canonical game G, positions included, gives x + G in canonical
-/// form, but for the order of the options. Sorting the options of every position of a game keeps
-/// its value, and makes it canonical if it was but for the order; so the sorted tree is the
-/// canonical form of x + G.
+/// Adding x to each number of a game, positions included, keeps the structural order; so where G is
+/// canonical it gives the canonical form of x + G.
 pub fn l4()
     ensures translation { (x : Number) (g : Game) → NoNumber g → Equal (sum (number x) g) (translated x g) }
     ensures number_sum { (x y : Number) → IsSum x y (number_sum x y) }
-    ensures shifted { (x : Number) (g : Game) → Canonical g → CanonicalUpToOrder (shifted x g) }
-    ensures shifted_equal { (x : Number) (g : Game) → Canonical g → Equal (shifted x g) (sum (number x) g) }
-    ensures sorted_lefts { (g b : Game) → Among b (lefts (sorted g))
-        ↔ ((a : Game) × Among a (lefts g) × (b ≡ sorted a)) }
-    ensures sorted_rights { (g b : Game) → Among b (rights (sorted g))
-        ↔ ((a : Game) × Among a (rights g) × (b ≡ sorted a)) }
-    ensures sorted { (g : Game) → CanonicalUpToOrder g → IsCanonicalForm g (sorted g) }
-    ensures form { (x : Number) (g : Game) → Canonical g → IsCanonicalForm (sum (number x) g) (sorted (shifted x g)) }
+    ensures shifted_order { (x : Number) (g h : Game) → game_cmp (shifted x g) (shifted x h) ≡ game_cmp g h }
+    ensures shifted_form { (x : Number) (g : Game) → Canonical g → IsCanonicalForm (sum (number x) g) (shifted x g) }
 {}
 
 /// Canonical forms: every game equals exactly one. Removing a dominated option and bypassing a

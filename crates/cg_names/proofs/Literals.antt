@@ -1,29 +1,23 @@
 -- Number literals: which numbers they are.
 use Rattle.std.proofs.Common.{◌≡◌, refl, ap, sym, ◌∙◌, subst, ℕ, zero, suc, ◌-◌, ◌^◌, ◌<◌, ◌≤◌, inl, inr, arith, Bool, true, false, nat_eq, eqb-true, eq-eqb, Option, Some, None}
-use Rattle.std.proofs.Common.{ℤ, pos, ◌≤ℤ◌, unsigned_abs}
-use Rattle.std.specs.Prelude.{nat_lt, if◌then◌else◌}
+use Rattle.std.proofs.Common.{ℤ, pos, ◌≤ℤ◌}
+use Rattle.std.specs.Prelude.{if◌then◌else◌}
 use Rattle.std.proofs.Math.Pow.{pow-lt}
-use Rattle.std.proofs.lemmas.Bool.Decides.{nat_tests}
 use Rattle.std.proofs.lemmas.Int.{ints}
 use Rattle.cg_dyadic.specs.Exact.{IsFromDigits, IsQuotient, signed_of}
-use Rattle.cg_dyadic.specs.Number.{InRange, IsFraction, Number, NumberLe, exp_of, num_of, ratio}
+use Rattle.cg_dyadic.specs.Number.{InRange, IsFraction, Number, NumberLe, exp_of, is_in_range, num_of, ratio}
 use Rattle.cg_dyadic.specs.Units.{doubled, units}
 use Rattle.cg_dyadic.proofs.Fractions.{fraction-ratio, fraction-unique}
 use Rattle.cg_dyadic.proofs.Powers.{same_power}
+use Rattle.cg_dyadic.proofs.Ranges.{in_range-from, in_range-to}
 use Rattle.cg_dyadic.proofs.Scale.{doubled-back, doubled-le, doubled-mul, units-le, units-own}
 use Rattle.cg_dyadic.proofs.Sums.{doubled-zero}
-use Rattle.cg_dyadic.proofs.Truth.{and-both, and-split, differ, false-from, true_or_false}
-use Rattle.cg_names.specs.Meaning.{exponent_within, fraction, in_range, kept_in_range, literal, over}
+use Rattle.cg_dyadic.proofs.Truth.{differ, false-from, true_or_false}
+use Rattle.cg_names.specs.Meaning.{exponent_within, fraction, kept_in_range, literal, over}
 use Rattle.cg_names.specs.Named.{zero_number}
 
 smaller : (k n : ℕ) → k ≤ suc n → ¬ (k ≡ suc n) → k ≤ n
 smaller k n l ne = omega arith
-
-less_than : (m n : ℕ) → nat_lt m n ≡ true → m < n
-less_than m n t = grind (arith, nat_tests)
-
-than_less : (m n : ℕ) → m < n → nat_lt m n ≡ true
-than_less m n l = grind (arith, nat_tests)
 
 -- ---- exponents
 
@@ -95,39 +89,25 @@ fraction-quotient below num den x e =
 
 -- ---- literals in range
 
-in_range-is : (x : Number) → in_range x ≡ true → InRange x
-in_range-is x t =
-    let (a, b) = and-split (nat_lt (unsigned_abs (num_of x)) (2 ^ 52)) (nat_lt (exp_of x) 32) t in
-    record {
-      small = less_than (unsigned_abs (num_of x)) (2 ^ 52) a;
-      short = let s = less_than (exp_of x) 32 b in
-          omega arith;
-    }
-
-is-in_range : (x : Number) → InRange x → in_range x ≡ true
-is-in_range x r = and-both (nat_lt (unsigned_abs (num_of x)) (2 ^ 52)) (nat_lt (exp_of x) 32)
-    (than_less (unsigned_abs (num_of x)) (2 ^ 52) r.small)
-    (than_less (exp_of x) 32 (let s = r.short in omega arith))
-
 kept_some : (o : Option Number) (x : Number) → kept_in_range o ≡ Some x → (o ≡ Some x) × InRange x
 kept_some None x e = absurd (cc)
-kept_some (Some y) x e = elim (true_or_false (in_range y)) [
+kept_some (Some y) x e = elim (true_or_false (is_in_range y)) [
   | inl t ↦
       let s : Some x ≡ Some y = sym e ∙ ap (λ b. if b then Some y else None) t in
       let same : y ≡ x = cc in
       let P : Number → Type 0 = λ z. InRange z in
-      (sym s, subst P same (in_range-is y t))
+      (sym s, subst P same (in_range-from y t))
   | inr f ↦
       let s : Some x ≡ None = sym e ∙ ap (λ b. if b then Some y else None) f in
       absurd (cc)
 ]
 
 some_kept : (o : Option Number) (x : Number) → o ≡ Some x → InRange x → kept_in_range o ≡ Some x
-some_kept o x e r = ap kept_in_range e ∙ ap (λ b. if b then Some x else None) (is-in_range x r)
+some_kept o x e r = ap kept_in_range e ∙ ap (λ b. if b then Some x else None) (in_range-to x r)
 
 none_kept : (o : Option Number) → ((x : Number) → o ≡ Some x → ¬ InRange x) → kept_in_range o ≡ None
 none_kept None f = refl
-none_kept (Some x) f = ap (λ b. if b then Some x else None) (false-from (in_range x) (λ t. f x refl (in_range-is x t)))
+none_kept (Some x) f = ap (λ b. if b then Some x else None) (false-from (is_in_range x) (λ t. f x refl (in_range-from x t)))
 
 pub literal-fraction : (below : Bool) (num den : ℕ) (x : Number) → literal below num den ≡ Some x → fraction below num
     den ≡ Some x

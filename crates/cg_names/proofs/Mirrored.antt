@@ -60,7 +60,7 @@ zero-negative = (
       (lefts-negative zero_form) m)) (λ b m. absurd m),
 )
 
-star-negative : Equal star_form (negative star_form)
+pub star-negative : Equal star_form (negative star_form)
 unfolding AllEqual
 star-negative = mirrored (zero_form ∷ []) (zero_form ∷ []) (zero_form ∷ []) (zero_form ∷ []) (zero-negative, tt)
     (zero-negative, tt)

@@ -1,5 +1,5 @@
 -- The names of a list in a store, one game after another.
-use Rattle.std.proofs.Common.{◌≡◌, refl, ap, sym, ◌∙◌, ℕ, ◌+◌, ◌≤◌, arith, Option, List, ◌∷◌, ◌++◌, append_assoc, Result, Ok, Err, OnOk}
+use Rattle.std.proofs.Common.{◌≡◌, refl, ap, sym, ◌∙◌, ℕ, ◌+◌, ◌≤◌, arith, Option, Some, None, List, ◌∷◌, ◌++◌, append_assoc, Result, Ok, Err, OnOk}
 use Rattle.std.specs.Prelude.{codes, is_ok, if◌then◌else◌}
 use Rattle.cg_form.specs.Game.{Game, node, of_list}
 use Rattle.cg_form.specs.Size.{list_size, size}
@@ -7,7 +7,10 @@ use Rattle.cg_cells.specs.Store.{Spends, State}
 use Rattle.cg_nodes.specs.Games.{IsList, game_at, listed}
 use Rattle.cg_nodes.specs.Meant.{Meant}
 use Rattle.cg_nodes.proofs.Later.{is_list_later, listed_later, nothing_spent, spends_then}
-use Rattle.cg_names.specs.Name.{further_names, name_of, names_of}
+use Rattle.cg_names.specs.Name.{braces_name, further_names, name_of, names_of, sign_or}
+use Rattle.cg_names.specs.Shapes.{sign_of}
+use Rattle.cg_names.specs.Signs.{sign_text}
+use Rattle.cg_names.specs.declared.sign.Sign.{Sign}
 
 -- the further names of the list are those that were written since, and those of what is left
 pub record Written {R : Type 0} (s t : State Meant R) (before now : List ℕ) (all left : Option ℕ) : Type 0 where
@@ -44,20 +47,37 @@ written_more s t u v before now comma more all left rest first w a l e c b m =
       smaller = omega arith;
     }
 
--- the name of a game of two lists, part by part
-pub braces-name : (g : Game) (ls rs same_rs : List Game) (t0 t1 t2 t3 t4 : List ℕ) → g ≡ node ls rs → same_rs ≡ rs
-    → t1 ≡ t0 ++ codes "{" → t2 ≡ t1 ++ names_of (of_list ls) → t3 ≡ t2 ++ codes "|"
-    → t4 ≡ t3 ++ names_of (of_list same_rs) → t4 ++ codes "}" ≡ t0 ++ name_of g
-braces-name g ls rs same_rs t0 t1 t2 t3 t4 e f a b c d =
-    let left : List ℕ = names_of (of_list ls) in
-    let right : List ℕ = names_of (of_list rs) in
-    ap (λ z. z ++ codes "}") (d ∙ ap (λ z. t3 ++ names_of (of_list z)) f ∙ ap (λ z. z ++ right)
+-- braces round the names of two lists, part by part
+pub braces-spelled : (left right : List ℕ) (t0 t1 t2 t3 t4 : List ℕ) → t1 ≡ t0 ++ codes "{" → t2 ≡ t1 ++ left
+    → t3 ≡ t2 ++ codes "|" → t4 ≡ t3 ++ right → t4 ++ codes "}" ≡ t0 ++ braces_name left right
+braces-spelled left right t0 t1 t2 t3 t4 a b c d =
+    ap (λ z. z ++ codes "}") (d ∙ ap (λ z. z ++ right)
     (c ∙ ap (λ z. z ++ codes "|") (b ∙ ap (λ z. z ++ left) a)))
     ∙ append_assoc (((t0 ++ codes "{") ++ left) ++ codes "|") right (codes "}")
     ∙ append_assoc ((t0 ++ codes "{") ++ left) (codes "|") (right ++ codes "}")
     ∙ append_assoc (t0 ++ codes "{") left (codes "|" ++ (right ++ codes "}"))
     ∙ append_assoc t0 (codes "{") (left ++ (codes "|" ++ (right ++ codes "}")))
-    ∙ ap (λ z. t0 ++ name_of z) (sym e)
+
+-- the name of a game that has no sign
+pub braced-name : {A E : Type 0} (r : Result A E) (g : Game) (ls rs cs ds : List Game) (o : Option Sign)
+    (before now : List ℕ) → g ≡ node ls rs → o ≡ sign_of (node ls rs) → o ≡ None → cs ≡ ls → ds ≡ rs
+    → OnOk r (now ≡ before ++ braces_name (names_of (of_list cs)) (names_of (of_list ds)))
+    → OnOk r (now ≡ before ++ name_of g)
+braced-name (Err e) g ls rs cs ds o before now p q n a b w = tt
+braced-name (Ok x) g ls rs cs ds o before now p q n a b w =
+    w ∙ ap (λ z. before ++ braces_name (names_of (of_list z)) (names_of (of_list ds))) a
+    ∙ ap (λ z. before ++ braces_name (names_of (of_list ls)) (names_of (of_list z))) b
+    ∙ ap (λ z. before ++ sign_or z (braces_name (names_of (of_list ls)) (names_of (of_list rs)))) (sym n ∙ q)
+    ∙ ap (λ z. before ++ name_of z) (sym p)
+
+-- and of one that has a sign
+pub signed-name : {A E : Type 0} (r : Result A E) (g : Game) (ls rs : List Game) (o : Option Sign) (s : Sign)
+    (before now : List ℕ) → g ≡ node ls rs → o ≡ sign_of (node ls rs) → o ≡ Some s
+    → OnOk r (now ≡ before ++ sign_text s) → OnOk r (now ≡ before ++ name_of g)
+signed-name (Err e) g ls rs o s before now p q n w = tt
+signed-name (Ok x) g ls rs o s before now p q n w =
+    w ∙ ap (λ z. before ++ sign_or z (braces_name (names_of (of_list ls)) (names_of (of_list rs)))) (sym n ∙ q)
+    ∙ ap (λ z. before ++ name_of z) (sym p)
 
 -- what was written where the call succeeds
 pub on_ok_written : {A E : Type 0} (r : Result A E) (now old grown whole : List ℕ) → now ≡

@@ -12,7 +12,8 @@ use Rattle.cg_nodes.proofs.Later.{stands_game}
 use Rattle.cg_canon.specs.declared.fault.ValueFault.{ValueFault}
 use Rattle.cg_canon.specs.Works.{WorkOf, work_state}
 use Rattle.cg_names.specs.Making.{Makes, Refuses}
-use Rattle.cg_names.specs.Named.{first_number, mirrored_if, number_negative, other_numbers, pair_form, pair_positions, second_number, switch_form, tiny_form, tiny_part, zero_form, zero_number}
+use Rattle.cg_dyadic.specs.Exact.{number_negative}
+use Rattle.cg_names.specs.Named.{first_number, mirrored_if, other_numbers, pair_form, pair_positions, second_number, switch_form, tiny_form, tiny_part, zero_form, zero_number}
 use Rattle.cg_names.proofs.Steps.{makes_at, makes_none, makes_then, refuses_then}
 use Rattle.cg_names.proofs.SwitchForms.{switch-canonical, tiny_part-canonical}
 use Rattle.cg_names.proofs.SwitchPositions.{other_none, other_one, switch-positions, tiny-positions}

@@ -1,9 +1,8 @@
 -- Switches, tinies and minies are canonical.
 use Rattle.std.proofs.Common.{◌≡◌, refl, inl, inr, sym, ◌∙◌, subst, [], ◌∷◌, Bool, true, false, not, IsTrue, ℕ, ℤ, neg_ℤ}
-use Rattle.cg_dyadic.specs.Exact.{IsNegative}
+use Rattle.cg_dyadic.specs.Exact.{IsNegative, number_negative}
 use Rattle.cg_dyadic.specs.Number.{IsFraction, Number, NumberLe, exp_of, num_of, number_le}
-use Rattle.cg_dyadic.proofs.Fractions.{fraction-own, fraction-ratio, fraction-unique}
-use Rattle.cg_dyadic.proofs.Sums.{negative-exists, negative-order}
+use Rattle.cg_dyadic.proofs.Negatives.{negative_low}
 use Rattle.cg_dyadic.proofs.Truth.{true-or-not}
 use Rattle.cg_dyadic.proofs.Values.{less-le, number_le-trans}
 use Rattle.cg_form.specs.Canonical.{Canonical}
@@ -14,28 +13,10 @@ use Rattle.cg_form.proofs.Among.{carry}
 use Rattle.cg_form.proofs.Numbers.{numbers-le}
 use Rattle.cg_form.proofs.Preorder.{le_trans, not_le-left, not_le-right}
 use Rattle.cg_form.proofs.Sides.{far_number, not_far, side-numbers, side_trans, side_turned}
-use Rattle.cg_names.specs.Named.{mirrored_if, number_negative, switch_form, tiny_form, tiny_part, zero_form, zero_number}
+use Rattle.cg_names.specs.Named.{mirrored_if, switch_form, tiny_form, tiny_part, zero_form, zero_number}
 use Rattle.cg_names.proofs.Infinitesimals.{Slight, beyond_zero, slight-from, slight-no_number, slight-number}
 use Rattle.cg_names.proofs.Reducing.{SideReduced, canonical_mirrored, canonical_node, far-mirrored, near-mirrored, one_reduced, other-mirrored, zero_reduced}
 use Rattle.cg_names.proofs.UpForms.{far_is_near, zero_canonical}
-
--- ---- negatives of numbers
-
--- the negative is the one number of the other sign
-pub negative-is : (x y : Number) → IsNegative x y → y ≡ number_negative x
-negative-is x y h =
-    let P : ℤ → Type 0 = λ n. IsFraction n (exp_of y) y in
-    let Q : ℕ → Type 0 = λ k. IsFraction (neg_ℤ (num_of x)) k y in
-    fraction-unique (neg_ℤ (num_of x)) (exp_of x) y (number_negative x) (subst Q h.exp (subst P h.num (fraction-own y)))
-    (fraction-ratio (neg_ℤ (num_of x)) (exp_of x))
-
-pub negative-of : (x : Number) → IsNegative x (number_negative x)
-negative-of x = let (y, h) = negative-exists x in let P : Number → Type 0 = λ z. IsNegative x z in subst P
-    (negative-is x y h) h
-
-negative_low : (x : Number) → NumberLe zero_number x → NumberLe (number_negative x) zero_number
-negative_low x l = (negative-order zero_number x zero_number (number_negative x) (record { num = refl; exp = refl })
-    (negative-of x)).0 l
 
 -- ---- options that are numbers
 

@@ -1,6 +1,7 @@
 -- Ups and downs, made one after another.
 use Rattle.std.proofs.Common.{◌≡◌, refl, ap, sym, ◌∙◌, subst, ℕ, zero, suc, ◌+◌, ◌-◌, ◌%◌, ◌<◌, ◌≤◌, arith, List, [], ◌∷◌, ◌++◌, append_assoc, append-nil, Bool, true, false, not, ◌&&◌, nat_eq, inl, inr}
 use Rattle.std.proofs.lemmas.Bool.Decides.{nat_tests}
+use Rattle.cg_dyadic.proofs.Truth.{not_not}
 use Rattle.cg_dyadic.proofs.Truth.{true_or_false}
 use Rattle.cg_form.specs.Game.{Game}
 use Rattle.cg_cells.specs.Store.{State}
@@ -24,10 +25,6 @@ odd-next n = elim (true_or_false (odd n)) [
   | inl e ↦ let f : odd (suc n) ≡ false = grind (arith, nat_tests) in f ∙ ap not (sym e)
   | inr e ↦ let f : odd (suc n) ≡ true = grind (arith, nat_tests) in f ∙ ap not (sym e)
 ]
-
-not_not : (b : Bool) → not (not b) ≡ b
-not_not true = refl
-not_not false = refl
 
 pub ups_chain-next : (down starred : Bool) (n : ℕ)
     → ups_chain down starred (suc n) ≡ ups_chain down (not starred) n ++ (ups_of down starred (suc n) ∷ [])

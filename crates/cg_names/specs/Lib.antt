@@ -1,5 +1,9 @@
 pub mod Named
+pub mod Signs
+pub mod Shapes
 pub mod Name
 pub mod Lists
 pub mod Making
 pub mod Meaning
+pub mod Readings
+pub mod Reading

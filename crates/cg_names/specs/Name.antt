@@ -1,12 +1,25 @@
--- The name of a game: a number by its text, any other game as braces round the names of its options.
-use Rattle.std.specs.Prelude.{ℕ, List, [], ◌++◌, codes}
+-- The name of a game: a number by its text; any other game by the sign that fits it, and where none fits as braces round the
+-- names of its options.
+use Rattle.std.specs.Prelude.{ℕ, ◌≡◌, ◌⊎◌, List, [], ◌++◌, Option, Some, None, codes}
 use Rattle.cg_dyadic.specs.Exact.{number_text}
 use Rattle.cg_form.specs.Game.{Game, Games, number, options, none, more}
+use Rattle.cg_names.specs.Shapes.{sign_of}
+use Rattle.cg_names.specs.Signs.{Fits, sign_text}
+use Rattle.cg_names.specs.declared.sign.Sign.{Sign}
+
+-- the text of a sign, or where there is none the other text
+abbrev pub sign_or : Option Sign → List ℕ → List ℕ
+sign_or None text = text
+sign_or (Some s) text = sign_text s
+
+-- braces round two texts
+abbrev pub braces_name : List ℕ → List ℕ → List ℕ
+braces_name left right = codes "{" ++ (left ++ (codes "|" ++ (right ++ codes "}")))
 
 abbrev mutual
   pub name_of : Game → List ℕ
   name_of (number x) = number_text x
-  name_of (options ls rs) = codes "{" ++ (names_of ls ++ (codes "|" ++ (names_of rs ++ codes "}")))
+  name_of (options ls rs) = sign_or (sign_of (options ls rs)) (braces_name (names_of ls) (names_of rs))
 
   -- the names of a list, with commas between them
   pub names_of : Games → List ℕ
@@ -17,3 +30,43 @@ abbrev mutual
   pub further_names : Games → List ℕ
   further_names none = []
   further_names (more g gs) = codes "," ++ (name_of g ++ further_names gs)
+
+-- ---- the rule of names, which says the same without looking for a sign
+
+-- no sign fits, and the text is braces round these two texts
+pub record Braced (g : Game) (Lefts Rights : List ℕ → Type 0) (text : List ℕ) : Type 0 where
+  pub unsigned : (s : Sign) → ¬ Fits s g
+  pub left : List ℕ
+  pub right : List ℕ
+  pub lefts : Lefts left
+  pub rights : Rights right
+  pub spelled : text ≡ braces_name left right
+
+-- the text of a sign that fits
+pub record Signed (g : Game) (text : List ℕ) : Type 0 where
+  pub sign : Sign
+  pub fits : Fits sign g
+  pub spelled : text ≡ sign_text sign
+
+-- one text and then another
+pub record Joined (First Second : List ℕ → Type 0) (text : List ℕ) : Type 0 where
+  pub before : List ℕ
+  pub behind : List ℕ
+  pub first : First before
+  pub second : Second behind
+  pub spelled : text ≡ before ++ behind
+
+abbrev mutual
+  pub IsName : Game → List ℕ → Type 0
+  IsName (number x) text = text ≡ number_text x
+  IsName (options ls rs) text = Signed (options ls rs) text ⊎ Braced (options ls rs) (AreNames ls) (AreNames rs) text
+
+  -- names with commas between them
+  pub AreNames : Games → List ℕ → Type 0
+  AreNames none text = text ≡ []
+  AreNames (more g gs) text = Joined (IsName g) (AreFurther gs) text
+
+  -- names, each behind a comma
+  pub AreFurther : Games → List ℕ → Type 0
+  AreFurther none text = text ≡ []
+  AreFurther (more g gs) text = Joined (λ t. t ≡ codes ",") (Joined (IsName g) (AreFurther gs)) text

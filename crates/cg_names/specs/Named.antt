@@ -1,16 +1,13 @@
 -- The named games: nimbers, ups and downs, switches, tiny and miny.
 -- Siegel, Combinatorial Game Theory (2013), II.1 and II.4.
-use Rattle.std.specs.Prelude.{ℕ, zero, suc, pos, neg_ℤ, Bool, true, false, not, cond, List, [], ◌∷◌, ◌++◌}
-use Rattle.cg_dyadic.specs.Number.{Number, exp_of, num_of, ratio, whole}
+use Rattle.std.specs.Prelude.{ℕ, zero, suc, pos, Bool, true, false, not, cond, List, [], ◌∷◌, ◌++◌}
+use Rattle.cg_dyadic.specs.Exact.{number_negative}
+use Rattle.cg_dyadic.specs.Number.{Number, whole}
 use Rattle.cg_form.specs.Game.{Game, node, number}
 use Rattle.cg_nodes.specs.Spelled.{is_same}
 
 abbrev pub zero_number : Number
 zero_number = whole (pos 0)
-
--- -x
-abbrev pub number_negative : Number → Number
-number_negative x = ratio (neg_ℤ (num_of x)) (exp_of x)
 
 -- 0
 abbrev pub zero_form : Game

@@ -9,7 +9,8 @@ ghost use Rattle.cg_canon.specs.Items.{AllPass, WasRefused};
 ghost use Rattle.cg_canon.specs.Works.{Keeps, work_state};
 ghost use Rattle.cg_names.specs.Lists.{form_items, number_items};
 ghost use Rattle.cg_names.specs.Making.{Makes, Refuses};
-ghost use Rattle.cg_names.specs.Named.{number_negative, other_numbers, pair_form, pair_positions, first_number, second_number, switch_form, tiny_form, tiny_part, zero_form, zero_number};
+ghost use Rattle.cg_dyadic.specs.Exact.{number_negative};
+ghost use Rattle.cg_names.specs.Named.{other_numbers, pair_form, pair_positions, first_number, second_number, switch_form, tiny_form, tiny_part, zero_form, zero_number};
 
 use crate::making::{make, make_number, zero};
 use cg_canon::{ValueFault, Work, number_item};
@@ -119,7 +120,7 @@ fn tiny_of<B: BoardForms, S: CellStore<GameFacts<B>>>(
 }
 
 /// The number of the other sign.
-fn opposite(x: Dyadic) -> Dyadic
+pub(crate) fn opposite(x: Dyadic) -> Dyadic
     ensures { result ≡ number_negative x }
 {
     x.negate()
@@ -140,7 +141,7 @@ fn second_of(miny: bool, x: Dyadic) -> Dyadic
 }
 
 /// Whether the two are one number.
-fn is_same(x: Dyadic, y: Dyadic) -> bool
+pub(crate) fn is_same(x: Dyadic, y: Dyadic) -> bool
     ensures same { result ≡ true → x ≡ y }
     ensures other { result ≡ false → ¬ (x ≡ y) }
 {

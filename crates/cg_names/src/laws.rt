@@ -1,13 +1,22 @@
 //! Laws of the named games. Each function does nothing: its contract is the law.
-ghost use Rattle.std.specs.Prelude.{ℕ, Bool, true, false, ◌≡◌, ◌+◌, ◌↔◌, suc, length, [], ◌∷◌, ◌++◌, Option};
+ghost use Rattle.std.specs.Prelude.{ℕ, ◌≤◌, ◌<◌, ◌^◌, List, Bool, true, false, ◌≡◌, ◌+◌, ◌↔◌, suc, length, [], ◌∷◌, ◌++◌, Option};
 ghost use Rattle.cg_dyadic.specs.Number.{Number, NumberLe};
-ghost use Rattle.cg_dyadic.specs.Exact.{IsFromDigits, IsQuotient};
+ghost use Rattle.cg_dyadic.specs.Exact.{IsFromDigits, IsQuotient, number_negative};
 ghost use Rattle.cg_form.specs.Canonical.{Canonical};
+ghost use Rattle.cg_form.specs.Depth.{depth_of};
+ghost use Rattle.cg_form.specs.Game.{Game, number};
 ghost use Rattle.cg_form.specs.Order.{Equal};
-ghost use Rattle.cg_form.specs.Sum.{negative};
+ghost use Rattle.cg_form.specs.Shifted.{shifted};
+ghost use Rattle.cg_form.specs.Sum.{negative, sum};
+ghost use Rattle.cg_nodes.specs.Spelled.{can};
 ghost use Rattle.cg_nodes.specs.Positions.{positions_of};
+ghost use Rattle.cg_nodes.specs.Ranges.{AllInRange};
 ghost use Rattle.cg_names.specs.Meaning.{fraction, literal};
-ghost use Rattle.cg_names.specs.Named.{zero_number, number_negative, nimber_form, nimbers_below, ups_of, ups_chain, pair_positions, switch_form, tiny_form, first_number, second_number};
+ghost use Rattle.cg_names.specs.Name.{IsName, name_of};
+ghost use Rattle.cg_names.specs.Reading.{ReadsAs, most_open};
+ghost use Rattle.cg_names.specs.Signs.{Fits};
+ghost use Rattle.cg_names.specs.declared.sign.Sign.{Sign};
+ghost use Rattle.cg_names.specs.Named.{zero_number, star_form, nimber_form, nimbers_below, ups_of, ups_chain, pair_positions, switch_form, tiny_form, first_number, second_number};
 
 /// The named games are canonical: no position of one has a dominated or a reversible option, or equals a number and
 /// isn't written as one, and each list of options rises in the structural order. Switches, tinies and minies are so
@@ -45,4 +54,22 @@ pub fn literals()
         below num den x }
     ensures literals { (below : Bool) (num den : ℕ) (o : Option Number) → IsFromDigits below num den o → o ≡ literal
         below num den }
+{}
+
+/// Names: every game has exactly one by the rules, `name_of` gives it, and at most one rule with a sign fits, with one
+/// number and one count. A canonical game with a number added throughout is the canonical form of the sum, so `x + *n`
+/// has the canonical form of `*n` with x in the place of 0; and `n.^*` is `n.^ + *`.
+pub fn names()
+    ensures named { (g : Game) → IsName g (name_of g) }
+    ensures one_name { (g : Game) (text : List ℕ) → IsName g text → text ≡ name_of g }
+    ensures one_sign { (g : Game) (s t : Sign) → Fits s g → Fits t g → s ≡ t }
+    ensures moved { (x : Number) (g : Game) → Canonical g → can (sum (number x) g) ≡ shifted x g }
+    ensures starred { (down : Bool) (n : ℕ) → Equal (sum (ups_of down false n) star_form) (ups_of down true n) }
+{}
+
+/// A name in whose text at most 64 braces are open at once is an expression of the grammar, and the game is the canonical
+/// form of what it means; the numbers of the game have to be in range, and its depth below 10^30.
+pub fn names_read_back()
+    ensures { (g : Game) → Canonical g → AllInRange g → depth_of g < 10 ^ 30 → most_open 0
+        (name_of g) ≤ 64 → ReadsAs g (name_of g) }
 {}

@@ -9,11 +9,18 @@
 mod arrows;
 mod hot;
 pub mod laws;
+mod look;
+mod look_arrows;
+mod look_hot;
+mod look_star;
 mod making;
 mod naming;
 mod nimbers;
+mod shape;
+mod sign;
 
 pub use arrows::ups;
 pub use hot::{switch, tiny};
 pub use naming::name;
 pub use nimbers::nimber;
+pub use sign::Sign;

@@ -1,26 +1,50 @@
 //! Names of games.
-ghost use Rattle.std.specs.Prelude.{◌≡◌, ◌++◌, IfOk, OnOk, string_bytes};
+ghost use Rattle.std.specs.Prelude.{◌≡◌, ◌≤◌, ◌<◌, ◌^◌, ◌++◌, IfOk, OnOk, string_bytes, cond, length, slice_index, [], ◌∷◌};
+ghost use Rattle.cg_dyadic.specs.Exact.{number_text};
+ghost use Rattle.cg_form.specs.Depth.{depth_of};
 ghost use Rattle.cg_form.specs.Game.{of_list};
 ghost use Rattle.cg_cells.specs.Store.{Spends};
 ghost use Rattle.cg_nodes.specs.Games.{IsGame, IsList, game_at, listed};
-ghost use Rattle.cg_names.specs.Name.{name_of, names_of, further_names};
+ghost use Rattle.cg_names.specs.Name.{IsName, braces_name, name_of, names_of, further_names};
+ghost use Rattle.cg_names.specs.Reading.{ReadsAs, most_open};
+ghost use Rattle.cg_names.specs.Signs.{arrows_text, base_text, sign_text, star_text};
 
+use crate::hot::is_same;
+use crate::look::sign;
+use crate::making::zero;
+use crate::sign::Sign;
 use cg_cells::CellStore;
-use cg_nodes::{BoardForms, GameFacts, Handle, ListId, Reading, head, read};
+use cg_dyadic::Dyadic;
+use cg_nodes::{BoardForms, GameFacts, Handle, ListId, Reading, head, known_game, read};
 use std::alloc::{AllocError, Global};
 
-/// The name of the game: a number is `n` or `n/d` in lowest terms, with `d` a power of two and a leading `-` where it
-/// is negative; any other game is `{`, the names of its Left options joined by commas, `|`, the names of its Right
-/// options joined by commas, `}`. The only error is want of memory. It claims nothing.
+/// The name of the game, by the first of these rules that fits:
+///
+/// - A number is `n` or `n/d` in lowest terms, with `d` a power of two and a leading `-` where it is negative.
+/// - `x + *k`, with `k` from 1 on, is the number's text, left out where `x` is 0, and then `*` for `k = 1` or `*k`.
+/// - `x + n.^`, with `n` from 1 on, is the number's text, left out where `x` is 0, and then `^`, `^^` or `^n`;
+///   `x + n.^*` has `*` behind that. The negatives have `v` in place of `^`.
+/// - `{x|-x}` with a number `x` above 0 is `+-x`; `{0|{0|-x}}` is `Tiny(x)`, and `{{x|0}|0}` is `Miny(x)`.
+/// - Any other game is `{`, the names of its Left options joined by commas, `|`, the names of its Right options joined
+///   by commas, `}`.
+///
+/// A name in whose text at most 64 braces are open at once reads as an expression of which the game is the canonical
+/// form; one that opens more is written all the same.
+///
+/// The only error is want of memory. It claims nothing. (Siegel, Combinatorial Game Theory (2013), II.1 and II.4.)
 pub fn name<B: BoardForms, S: CellStore<GameFacts<B>>>(
     alloc: Global,
     store: &mut S,
     handle: Handle,
 ) -> Result<String, AllocError>
     requires { IsGame (S.state store.old) handle }
+    ensures name { IfOk result (λ text. IsName (game_at (S.state store.old) handle) (string_bytes text)) }
     ensures text { IfOk result (λ text. string_bytes text ≡ name_of (game_at (S.state store.old) handle)) }
+    ensures reads { let k = game_at (S.state store.old) handle in IfOk result (λ text. depth_of k < 10 ^ 30 → most_open 0
+        (string_bytes text) ≤ 64 → ReadsAs k (string_bytes text)) }
     ensures spends { Spends 0 (S.state store.old) (S.state store.new) }
 {
+    known_game(store, handle);
     let mut text = String::new(alloc);
     push_name(alloc, store, &mut text, handle)?;
     Ok(text)
@@ -34,22 +58,122 @@ fn push_name<B: BoardForms, S: CellStore<GameFacts<B>>>(
     text: &mut String,
     handle: Handle,
 ) -> Result<(), AllocError>
-    requires { IsGame (S.state store.old) handle }
+    requires game { IsGame (S.state store.old) handle }
     ensures text { OnOk result (string_bytes text.new ≡ string_bytes text.old ++ name_of
         (game_at (S.state store.old) handle)) }
     ensures spends { Spends 0 (S.state store.old) (S.state store.new) }
 {
     match read(store, handle) {
-        Reading::Number(number) => {
-            let digits = number.text(alloc)?;
-            text.push_str(digits.as_str())
+        Reading::Number(number) => push_number(alloc, text, number),
+        Reading::Game(lefts, rights) => match sign(alloc, store, lefts, rights)? {
+            Some(sign) => push_sign(alloc, text, &sign),
+            None => push_braces(alloc, store, text, lefts, rights),
+        },
+    }
+}
+
+/// Puts braces round the names of the games of the two lists at the end.
+#[cycle(push_name)]
+fn push_braces<B: BoardForms, S: CellStore<GameFacts<B>>>(
+    alloc: Global,
+    store: &mut S,
+    text: &mut String,
+    lefts: ListId,
+    rights: ListId,
+) -> Result<(), AllocError>
+    requires lefts { IsList (S.state store.old) lefts }
+    requires rights { IsList (S.state store.old) rights }
+    ensures text { let W = S.state store.old in OnOk result (string_bytes text.new ≡ string_bytes text.old
+        ++ braces_name (names_of (of_list (listed W lefts))) (names_of (of_list (listed W rights)))) }
+    ensures spends { Spends 0 (S.state store.old) (S.state store.new) }
+{
+    text.push_str("{")?;
+    push_names(alloc, store, text, lefts)?;
+    text.push_str("|")?;
+    push_names(alloc, store, text, rights)?;
+    text.push_str("}")
+}
+
+/// Puts the number's text at the end.
+fn push_number(alloc: Global, text: &mut String, number: Dyadic) -> Result<(), AllocError>
+    ensures { OnOk result (string_bytes text.new ≡ string_bytes text.old ++ number_text number) }
+{
+    let digits = number.text(alloc)?;
+    text.push_str(digits.as_str())
+}
+
+/// Puts the number's text at the end, unless it is 0.
+fn push_base(alloc: Global, text: &mut String, number: Dyadic) -> Result<(), AllocError>
+    ensures { OnOk result (string_bytes text.new ≡ string_bytes text.old ++ base_text number) }
+{
+    if is_same(number, zero()) {
+        return Ok(());
+    }
+    push_number(alloc, text, number)
+}
+
+/// Puts the text of the sign at the end.
+fn push_sign(alloc: Global, text: &mut String, sign: &Sign) -> Result<(), AllocError>
+    ensures { OnOk result (string_bytes text.new ≡ string_bytes text.old ++ sign_text sign.now) }
+{
+    match sign {
+        Sign::Star(base, count) => {
+            push_base(alloc, text, *base)?;
+            push_star(alloc, text, *count)
         }
-        Reading::Game(lefts, rights) => {
-            text.push_str("{")?;
-            push_names(alloc, store, text, lefts)?;
-            text.push_str("|")?;
-            push_names(alloc, store, text, rights)?;
-            text.push_str("}")
+        Sign::Arrows {
+            down,
+            starred,
+            base,
+            count,
+        } => {
+            push_base(alloc, text, *base)?;
+            push_arrows(alloc, text, arrow(*down), *count)?;
+            text.push_str(if *starred { "*" } else { "" })
+        }
+        Sign::Switch(number) => {
+            text.push_str("+-")?;
+            push_number(alloc, text, *number)
+        }
+        Sign::Tiny(miny, number) => {
+            text.push_str(if *miny { "Miny(" } else { "Tiny(" })?;
+            push_number(alloc, text, *number)?;
+            text.push_str(")")
+        }
+    }
+}
+
+/// The sign of an up, or of a down.
+fn arrow(down: bool) -> &'static str
+    ensures { result.now ≡ cond down 118 94 ∷ [] }
+{
+    if down { "v" } else { "^" }
+}
+
+/// Puts a star at the end, with its count unless that is 1.
+fn push_star(alloc: Global, text: &mut String, count: u64) -> Result<(), AllocError>
+    ensures { OnOk result (string_bytes text.new ≡ string_bytes text.old ++ star_text count) }
+{
+    text.push_str("*")?;
+    if count == 1 {
+        return Ok(());
+    }
+    let digits = format!(in alloc; "{count}")?;
+    text.push_str(digits.as_str())
+}
+
+/// Puts the arrow at the end, twice for two of them, and with its count for another number but 1.
+fn push_arrows(alloc: Global, text: &mut String, arrow: &str, count: u64) -> Result<(), AllocError>
+    requires { length arrow.now ≡ 1 }
+    ensures { OnOk result (string_bytes text.new ≡ string_bytes text.old ++ arrows_text (slice_index arrow.now 0) count) }
+{
+    text.push_str(arrow)?;
+    match count {
+        1 => Ok(()),
+        2 => text.push_str(arrow),
+        _ => {
+            let digits = format!(in alloc; "{count}")?;
+            text.push_str(digits.as_str())
         }
     }
 }
@@ -62,7 +186,7 @@ fn push_names<B: BoardForms, S: CellStore<GameFacts<B>>>(
     text: &mut String,
     list: ListId,
 ) -> Result<(), AllocError>
-    requires { IsList (S.state store.old) list }
+    requires list { IsList (S.state store.old) list }
     ensures text { OnOk result (string_bytes text.new ≡ string_bytes text.old ++ names_of
         (of_list (listed (S.state store.old) list))) }
     ensures spends { Spends 0 (S.state store.old) (S.state store.new) }
@@ -84,7 +208,7 @@ fn push_further<B: BoardForms, S: CellStore<GameFacts<B>>>(
     text: &mut String,
     list: ListId,
 ) -> Result<(), AllocError>
-    requires { IsList (S.state store.old) list }
+    requires list { IsList (S.state store.old) list }
     ensures text { OnOk result (string_bytes text.new ≡ string_bytes text.old ++ further_names
         (of_list (listed (S.state store.old) list))) }
     ensures spends { Spends 0 (S.state store.old) (S.state store.new) }

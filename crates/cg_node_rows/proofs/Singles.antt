@@ -1,5 +1,5 @@
--- Lists of one game.
-use Rattle.std.proofs.Common.{◌≡◌, ℕ, Option, [], ◌∷◌, ap, ◌∙◌}
+-- Lists of one game, and claims that suffice.
+use Rattle.std.proofs.Common.{◌≡◌, ◌≤◌, ℕ, Option, [], ◌∷◌, ap, arith, ◌∙◌}
 use Rattle.cg_form.specs.Game.{Game}
 use Rattle.cg_cells.specs.Store.{State}
 use Rattle.cg_nodes.specs.Meant.{Meant}
@@ -10,3 +10,6 @@ pub single_listed : {R : Type 0} (s t : State Meant R) (o : Option ℕ) (h : ℕ
     → ListsAs t o (games_at s (h ∷ [])) → StandsFor s h g → g ≡ k → listed t o ≡ k ∷ []
 single_listed s t o h g k l e same =
     listed_as t o (games_at s (h ∷ [])) l ∙ ap (λ z. z ∷ []) (stands_game s h g e ∙ same)
+
+pub enough : (n m k : ℕ) → n ≤ m → m ≤ k → n ≤ k
+enough n m k a b = omega arith

@@ -2,7 +2,7 @@
 ghost use Rattle.std.specs.Prelude.{◌≡◌, ◌≤◌, pos};
 ghost use Rattle.cg_dyadic.specs.Number.{whole};
 ghost use Rattle.cg_cells.specs.Store.{Spends};
-ghost use Rattle.cg_nodes.specs.Games.{StandsFor};
+ghost use Rattle.cg_nodes.specs.Games.{IsGame, StandsFor};
 ghost use Rattle.cg_node_rows.specs.Stars.{star, up, zero_game};
 
 use cg_cells::{CellStore, Facts, Id, PlainStore};
@@ -34,6 +34,23 @@ struct Made {
     up: Handle,
 }
 
+/// Makes 0, with one claim.
+fn make_zero<B: BoardForms, S: CellStore<GameFacts<B>>>(store: &mut S) -> Handle
+    requires { 1 ≤ (S.state store.old).spare }
+    ensures zero { StandsFor (S.state store.new) result zero_game }
+    ensures spends { Spends 1 (S.state store.old) (S.state store.new) }
+{
+    number(store, zero())
+}
+
+/// Makes a number, with three claims at most.
+fn make_number<B: BoardForms, S: CellStore<GameFacts<B>>>(store: &mut S, x: Dyadic) -> Handle
+    requires { 3 ≤ (S.state store.old).spare }
+    ensures { IsGame (S.state store.new) result }
+{
+    number(store, x)
+}
+
 /// Makes 0 and star, with the claims of the number 0, of the list of it, and of the game of that list twice.
 fn make_star<B: BoardForms, S: CellStore<GameFacts<B>>>(store: &mut S) -> (Handle, Handle)
     requires { 3 ≤ (S.state store.old).spare }
@@ -41,7 +58,7 @@ fn make_star<B: BoardForms, S: CellStore<GameFacts<B>>>(store: &mut S) -> (Handl
     ensures star { StandsFor (S.state store.new) result.1 star }
     ensures spends { Spends 3 (S.state store.old) (S.state store.new) }
 {
-    let zero = number(store, zero());
+    let zero = make_zero(store);
     let zeros = list(store, &[zero]);
     let star = game(store, zeros, zeros);
     (zero, star)
@@ -69,6 +86,26 @@ fn three_claims_make_star(rt: HostRuntime) -> Result<(), Fail> {
     assert_eq!(rt; zero, Handle::of(Id::new(0)));
     assert_eq!(rt; star, Handle::of(Id::new(2)));
     assert_eq!(rt; store.spare(), 4093);
+    Ok(())
+}
+
+/// Two chunks and a key, which another claim of the number finds.
+#[test]
+fn long_numbers_take_three_cells(rt: HostRuntime) -> Result<(), Fail> {
+    for (num, exp) in [
+        (4_503_599_627_370_496, 0),
+        (-4_503_599_627_370_497, 3),
+        (1, 40),
+        (-1, 32),
+        (-18_446_744_073_709_551_615, 40),
+    ] {
+        let mut store: Store = PlainStore::new(rt.alloc(), 3)?;
+        let x = Dyadic::make(num, exp).ok().ok_or("in range")?;
+        let handle = make_number(&mut store, x);
+        assert_eq!(rt; handle, Handle::of(Id::new(2)));
+        assert_eq!(rt; store.spare(), 0);
+        assert_eq!(rt; read(&mut store, handle), Reading::Number(x));
+    }
     Ok(())
 }
 

@@ -1,8 +1,10 @@
 -- The test of a board's contents holds exactly of what is written.
-use Rattle.std.proofs.Common.{◌≡◌, refl, ℕ, zero, suc, ◌+◌, ◌-◌, ◌*◌, ◌/◌, ◌%◌, ◌<◌, ◌≤◌, ◌==◌, ◌&&◌, ◌↔◌, ◌⊎◌, inl, inr, Bool, true, false, if◌then◌else◌, nat_lt, List, [], ◌∷◌, ◌++◌, length, length-append, arith, ap, sym, ◌∙◌, subst}
+use Rattle.std.proofs.Common.{◌≡◌, refl, ℕ, zero, suc, ◌+◌, ◌-◌, ◌*◌, ◌/◌, ◌%◌, ◌<◌, ◌≤◌, ◌==◌, ◌&&◌, ◌↔◌, ◌⊎◌, inl, inr, Bool, true, false, if◌then◌else◌, nat_lt, List, [], ◌∷◌, ◌++◌, length, length-append, Some, arith, ap, sym, ◌∙◌, subst}
 use Rattle.std.proofs.lemmas.Bool.Decides.{eqb_tells, nat_tests}
 use Rattle.std.proofs.lemmas.List.{append-nil}
-use Rattle.cg_nodes.specs.Boards.{AreBelow, AreWritten, IsBoard, are_contents, are_symbols, content_of}
+use Rattle.cg_nodes.specs.Boards.{AreBelow, AreWritten, IsBoard, are_contents, are_of_board, are_symbols, content_of, symbols}
+use Rattle.cg_nodes.specs.Meant.{Meant, board}
+use Rattle.cg_nodes.specs.Spelled.{board_if, board_of}
 
 lt_true : (a b : ℕ) → a < b → nat_lt a b ≡ true
 lt_true a b h = grind (arith, nat_tests)
@@ -199,10 +201,96 @@ written_contents count size cells (content ∷ rest) few n below (front, others,
     front others all) later in
     written_first count front others size content rest way (omega arith) here last
 
--- the law
+-- the law on the contents alone
 pub contents-written : (count size : ℕ) (contents : List ℕ) → count ≤ 4
     → (are_contents count size contents ≡ true) ↔ IsBoard count size contents
 contents-written count size contents few = (
   contents_board count size contents,
   λ b. written_contents count size b.cells contents few b.as_many b.symbols_only b.written,
 )
+
+-- ---- the key of a board
+
+symbols-few : (number : ℕ) → symbols number ≤ 4
+symbols-few number = few (number == 1) (number == 2) (number == 3) (number == 4)
+  where
+    few : (a b c d : Bool) → (if a then 2 else if b then 3 else if c then 4 else if d then 3 else 0) ≤ 4
+    few true b c d = omega arith
+    few false true c d = omega arith
+    few false false true d = omega arith
+    few false false false true = omega arith
+    few false false false false = omega arith
+
+-- a game has symbols exactly where its number is one of the four
+symbols-some : (number : ℕ) → 1 ≤ symbols number → (1 ≤ number) × (number ≤ 4)
+symbols-some number some = grind (arith, nat_tests)
+
+pub of_board-is : (number rows columns : ℕ) (contents : List ℕ) → are_of_board number rows columns contents ≡ true
+    → (1 ≤ rows * columns) × (rows * columns ≤ 64) × (are_contents (symbols number) (rows * columns) contents ≡ true)
+of_board-is number rows columns contents e =
+    let (size, written) = both (nat_lt 0 (rows * columns) && nat_lt (rows * columns) 65)
+    (are_contents (symbols number) (rows * columns) contents) e in
+    let (some, few) = both (nat_lt 0 (rows * columns)) (nat_lt (rows * columns) 65) size in
+    let a = lt_back 0 (rows * columns) some in
+    let b = lt_back (rows * columns) 65 few in
+    (omega arith, omega arith, written)
+
+-- what the claim of a board's key needs
+pub is-of_board : (number rows columns : ℕ) (contents : List ℕ) → 1 ≤ rows * columns → rows * columns ≤ 64
+    → are_contents (symbols number) (rows * columns) contents ≡ true → are_of_board number rows columns contents ≡ true
+is-of_board number rows columns contents some few written =
+    both_true (nat_lt 0 (rows * columns) && nat_lt (rows * columns) 65)
+    (are_contents (symbols number) (rows * columns) contents)
+    (both_true (nat_lt 0 (rows * columns)) (nat_lt (rows * columns) 65) (lt_true 0 (rows * columns) (omega arith))
+    (lt_true (rows * columns) 65 (omega arith))) written
+
+board_if-back : (n r c : ℕ) (cs : List ℕ) (b : Bool) (t : Meant) → board_if n r c cs b ≡ Some t
+    → (t ≡ board n r c cs) × (b ≡ true)
+board_if-back n r c cs true t e = (cc, refl)
+board_if-back n r c cs false t e = cc
+
+cells-some : (count size : ℕ) (cells : List ℕ) → 1 ≤ size → length cells ≡ size → AreBelow count cells → 1 ≤ count
+cells-some count size [] some e below = absurd (omega arith)
+cells-some count size (cell ∷ cells) some e below = let b = below.0 in omega arith
+
+-- but for the last, each content has 16 cells
+contents-few : (count size : ℕ) (contents : List ℕ) → are_contents count size contents ≡ true → 16 * length contents < size + 16
+contents-few count size [] e = omega arith
+contents-few count size (content ∷ rest) e = (elim (nat_lt size 17) as (λ b. nat_lt size 17 ≡ b
+    → first_test count size content rest b ≡ true → 16 * length (content ∷ rest) < size + 16) [
+      | true ↦ λ less t.
+          let (x, last) = both (nat_lt 0 size && are_symbols size count content) (are_contents count 0 rest) t in
+          let (some, here) = both (nat_lt 0 size) (are_symbols size count content) x in
+          let m = lt_back 0 size some in
+          let n = ap length (none_left count rest last) in
+          omega arith
+      | false ↦ λ more t.
+          let (here, last) = both (are_symbols 16 count content) (are_contents count (size - 16) rest) t in
+          let l = not_lt size 17 more in
+          let r = contents-few count (size - 16) rest last in
+          omega arith
+    ]) refl e
+
+pub spelled-board : (number rows columns : ℕ) (contents : List ℕ)
+    → (board_of number rows columns (Some contents) ≡ Some (board number rows columns contents))
+    ↔ ((1 ≤ rows * columns) × (rows * columns ≤ 64) × IsBoard (symbols number) (rows * columns) contents)
+spelled-board number rows columns contents = (
+  λ e.
+      let (same, is) = board_if-back number rows columns contents (are_of_board number rows columns contents) _ e in
+      let (some, few, written) = of_board-is number rows columns contents is in
+      (some, few, (contents-written (symbols number) (rows * columns) contents (symbols-few number)).0 written),
+  λ h. ap (board_if number rows columns contents) (is-of_board number rows columns contents h.0 h.1
+      ((contents-written (symbols number) (rows * columns) contents (symbols-few number)).1 h.2)),
+)
+
+pub board-only : (number rows columns : ℕ) (contents : List ℕ) (t : Meant)
+    → board_of number rows columns (Some contents) ≡ Some t
+    → (t ≡ board number rows columns contents) × (1 ≤ number) × (number ≤ 4) × (length contents ≤ 4)
+board-only number rows columns contents t e =
+    let (same, is) = board_if-back number rows columns contents (are_of_board number rows columns contents) t e in
+    let (some, few, written) = of_board-is number rows columns contents is in
+    let b = (contents-written (symbols number) (rows * columns) contents (symbols-few number)).0 written in
+    let c = cells-some (symbols number) (rows * columns) b.cells some b.as_many b.symbols_only in
+    let (first, last) = symbols-some number c in
+    let n = contents-few (symbols number) (rows * columns) contents written in
+    (same, first, last, omega arith)

@@ -1,4 +1,6 @@
 pub mod Spells
+pub mod Levels
+pub mod Members
 pub mod Later
 pub mod Lists
 pub mod Compared
@@ -11,3 +13,4 @@ pub mod Once
 pub mod Forms
 pub mod PositionSizes
 pub mod BoardContents
+pub mod LongSteps

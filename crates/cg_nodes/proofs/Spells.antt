@@ -1,21 +1,20 @@
 -- What the keys of numbers, lists and games spell.
-use Rattle.std.proofs.Common.{◌≡◌, ℕ, ℤ, pos, ◌+◌, ◌≤◌, ◌<◌, ◌^◌, Option, Some, None, IsSome, List, [], ◌∷◌, unsigned_abs, arith, ap, sym, refl, ◌∙◌, subst}
+use Rattle.std.proofs.Common.{◌≡◌, ℕ, ℤ, pos, ◌+◌, ◌*◌, ◌≤◌, ◌<◌, ◌^◌, Option, Some, None, IsSome, List, [], ◌∷◌, unsigned_abs, arith, ap, sym, refl, ◌∙◌, subst}
 use Rattle.cg_dyadic.specs.Number.{Number, ratio, whole, InRange, IsFraction}
 use Rattle.cg_dyadic.proofs.Fractions.{fraction-ratio, fraction-unique, ratio-lowest}
 use Rattle.cg_form.specs.Game.{Game, number, node}
 use Rattle.cg_form.specs.Canonical.{Canonical}
 use Rattle.cg_form.specs.Order.{Equal}
 use Rattle.cg_form.proofs.Order.{le-fold}
-use Rattle.std.specs.FinMap as map
-use Rattle.cg_cells.specs.Meaning.{IsReal}
 use Rattle.cg_cells.specs.Store.{State, thing_at}
 use Rattle.cg_cells.specs.declared.key.KeyParts.{KeyParts}
 use Rattle.cg_cells.specs.declared.key.KeyParts.TheVariants as key
 use Rattle.cg_cells.specs.Layout.{FieldsFit, id_field}
 use Rattle.cg_cells.specs.Parts.{parts_of}
 use Rattle.cg_nodes.specs.Meant.{Meant, form}
-use Rattle.cg_nodes.specs.Spelled.{game_meaning, Map, spelled, list_at}
+use Rattle.cg_nodes.specs.Spelled.{Map, spelled, list_at}
 use Rattle.cg_nodes.specs.CanForms.{is_canonical-true}
+use Rattle.cg_nodes.specs.Longs.{num_in}
 use Rattle.cg_nodes.specs.Inverse.{inverse}
 use Rattle.cg_nodes.specs.Games.{IsGame, game_at, ListsAs, listed, IsList, StandsFor}
 
@@ -57,7 +56,8 @@ stands-game k i l r s t e a b c h = h ∙ spells-game k l r s e a b c
 pub some_from : (o : Option Meant) (t : Meant) → o ≡ Some t → IsSome o
 some_from o t e = rw e refl
 
-canonical_spelled_at : (o : Option KeyParts) (f : Map) (g : Game) → spelled o f ≡ Some (form g) → Canonical g
+-- what some parts spell is canonical
+pub canonical_spelled_at : (o : Option KeyParts) (f : Map) (g : Game) → spelled o f ≡ Some (form g) → Canonical g
 canonical_spelled_at None f g e = cc
 canonical_spelled_at (Some (key.Number n x)) f g e =
     let h = inverse (key.Number n x) f (form g) e in
@@ -73,6 +73,11 @@ canonical_spelled_at (Some (key.Game l r)) f g e =
     subst P (sym s) h.5
 canonical_spelled_at (Some (key.Pair i j)) f g e = let h = inverse (key.Pair i j) f (form g) e in cc
 canonical_spelled_at (Some (key.Board n r c i)) f g e = let h = inverse (key.Board n r c i) f (form g) e in cc
+canonical_spelled_at (Some (key.Long i x b)) f g e =
+    let h = inverse (key.Long i x b) f (form g) e in
+    let s : g ≡ number (ratio (num_in b (h.0 + 2 ^ 32 * h.1)) x) = cc in
+    let P : Game → Type 0 = λ k. Canonical k in
+    subst P (sym s) tt
 
 pub canonical_spelled : {R : Type 0} (k i : ℕ) (f : Map) (s : State Meant R) → IsGame s i
     → spelled (parts_of k) f ≡ thing_at s i → Canonical (game_at s i)
@@ -89,8 +94,8 @@ pub ratio_in_range : (n : ℤ) (k : ℕ) → FieldsFit (key.Number n k) → InRa
 ratio_in_range n k f =
     let e = ratio-lowest n k f.2 in
     record {
-      small = (let P : ℤ → Type 0 = λ z. unsigned_abs z < 2 ^ 52 in subst P (sym e.0) f.0);
-      short = (let P : ℕ → Type 0 = λ z. z ≤ 31 in subst P (sym e.1) f.1);
+      small = (let s = f.0 in let h : unsigned_abs n < 2 ^ 64 = omega arith in let P : ℤ → Type 0 = λ z. unsigned_abs z < 2 ^ 64 in subst P (sym e.0) h);
+      short = (let s = f.1 in let h : k ≤ 40 = omega arith in let P : ℕ → Type 0 = λ z. z ≤ 40 in subst P (sym e.1) h);
     }
 
 -- and no fault holds it
@@ -98,12 +103,3 @@ pub no_fault : (n m : ℤ) (k : ℕ) (x : Number) → n ≡ m → FieldsFit (key
 no_fault n m k x e f is outside =
     let P : Number → Type 0 = λ z. InRange z in
     outside (subst P (sym (ratio_is n m k x e is)) (ratio_in_range n k f))
-
--- ---- what is known is canonical
-
--- a game that some key spells is canonical
-pub real-canonical : {R : Type 0} (raw : ℕ → ℕ → ℕ → List ℕ → Game) (s : State Meant R) (h : ℕ)
-    → IsReal (game_meaning raw) (thing_at s h) → IsGame s h → Canonical (game_at s h)
-real-canonical raw s h real g =
-    let r = real (form (game_at s h)) g in
-    canonical_spelled_at (parts_of r.0) (map.get r.1) (game_at s h) r.2

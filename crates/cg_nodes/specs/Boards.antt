@@ -22,6 +22,11 @@ are_contents count cells (content ∷ rest) =
     if nat_lt cells 17 then nat_lt 0 cells && are_symbols cells count content && are_contents count 0 rest
     else are_symbols 16 count content && are_contents count (cells - 16) rest
 
+-- the contents are those of a board of this game: it has 1 to 64 cells
+abbrev pub are_of_board : ℕ → ℕ → ℕ → List ℕ → Bool
+are_of_board number rows columns contents =
+    nat_lt 0 (rows * columns) && nat_lt (rows * columns) 65 && are_contents (symbols number) (rows * columns) contents
+
 -- ---- as it is written; the law function `boards` says that the test holds exactly of what is written
 
 -- the content of the cells

@@ -5,12 +5,14 @@ use Rattle.cg_form.specs.Game as tree
 use Rattle.cg_form.specs.Game.{number, options, none, node}
 use Rattle.cg_cells.specs.Meaning.{Has}
 use Rattle.cg_cells.specs.Store.{State, thing_at}
+use Rattle.cg_nodes.specs.declared.long.Chunk.{Chunk}
 use Rattle.cg_nodes.specs.declared.reading.Split.{Split}
 use Rattle.cg_nodes.specs.declared.reading.Reading.{Reading}
 use Rattle.cg_nodes.specs.declared.reading.Reading.TheVariants.{Number, Game}
 use Rattle.cg_nodes.specs.declared.handle.Kind.{Kind}
 use Rattle.cg_nodes.specs.declared.handle.Kind.TheVariants as kind
 use Rattle.cg_nodes.specs.Meant.{Meant, form, list}
+use Rattle.cg_nodes.specs.Spelled.{contents_at}
 
 -- the handle stands for the game
 abbrev pub StandsFor : {R : Type 0} → State Meant R → ℕ → tree.Game → Type 0
@@ -86,3 +88,11 @@ IsKind kind.Game g = IsNode g
 abbrev pub IsHead : {R : Type 0} → State Meant R → Option Split → List tree.Game → Type 0
 IsHead {R} s None gs = gs ≡ []
 IsHead {R} s (Some p) gs = IsGame s p.first × IsList s p.rest × (gs ≡ game_at s p.first ∷ listed s p.rest)
+
+abbrev pub contents_from : ℕ → Option (List ℕ) → Option (List ℕ)
+contents_from content (Some contents) = Some (content ∷ contents)
+contents_from content None = None
+
+-- the content of a chunk, and the chunk of the other contents
+abbrev pub IsChunk : {R : Type 0} → State Meant R → Chunk → Option (List ℕ) → Type 0
+IsChunk {R} s chunk contents = contents ≡ contents_from chunk.content (contents_at (thing_at s) chunk.next)

@@ -1,5 +1,5 @@
 -- What follows from what a key spells. These lemmas stand here since the laws of the facts rest on them.
-use Rattle.std.proofs.Common.{◌≡◌, ℕ, ◌*◌, Option, Some, None, List, [], ◌∷◌, Bool, true, false, refl}
+use Rattle.std.proofs.Common.{◌≡◌, ℕ, ◌+◌, ◌*◌, ◌^◌, Option, Some, None, List, [], ◌∷◌, Bool, true, false, refl}
 use Rattle.cg_dyadic.specs.Number.{ratio}
 use Rattle.cg_form.specs.Game.{Game, number, node}
 use Rattle.cg_form.specs.Canonical.{Canonical}
@@ -7,8 +7,10 @@ use Rattle.cg_cells.specs.declared.key.KeyParts.{KeyParts}
 use Rattle.cg_cells.specs.declared.key.KeyParts.TheVariants as key
 use Rattle.cg_nodes.specs.Meant.{Meant, form, list, contents, pair, board}
 use Rattle.cg_nodes.specs.CanForms.{is_canonical-back}
-use Rattle.cg_nodes.specs.Boards.{are_contents, symbols}
-use Rattle.cg_nodes.specs.Spelled.{is_canonical, Map, form_in, list_in, contents_in, list_at, contents_at, longer, longer_by, form_if, game_of_lists, pair_of, board_if, board_of, spelled}
+use Rattle.cg_nodes.specs.Boards.{are_of_board}
+use Rattle.cg_nodes.specs.LongKeys.{IsLongWritten, long_written}
+use Rattle.cg_nodes.specs.Longs.{is_long_written, num_in}
+use Rattle.cg_nodes.specs.Spelled.{is_canonical, Map, form_in, list_in, contents_in, list_at, contents_at, longer, longer_by, form_if, game_of_lists, pair_of, board_if, board_of, long_of, spelled}
 
 pub form_in-back : (o : Option Meant) (g : Game) → form_in o ≡ Some g → o ≡ Some (form g)
 form_in-back None g e = cc
@@ -65,6 +67,9 @@ Inverse (key.Game l r) f t = (ls : List Game) × (rs : List Game) × (t ≡ form
 Inverse (key.Pair low high) f t = (g : Game) × (h : Game) × (t ≡ pair g h) × (f low ≡ Some (form g)) × (f high ≡ Some
     (form h))
 Inverse (key.Board n r c first) f t = (cs : List ℕ) × (t ≡ board n r c cs) × (f first ≡ Some (contents cs))
+Inverse (key.Long first exp negative) f t = (low : ℕ) × (high : ℕ)
+    × (t ≡ form (number (ratio (num_in negative (low + 2 ^ 32 * high)) exp)))
+    × (f first ≡ Some (contents (low ∷ high ∷ []))) × IsLongWritten negative exp low high
 
 chunk_back : (c : ℕ) (o : Option (List ℕ)) (t : Meant) → longer_by c o ≡ Some t
     → (cs : List ℕ) × (t ≡ contents (c ∷ cs)) × (o ≡ Some cs)
@@ -103,7 +108,18 @@ board_if_back n r c cs false t e = cc
 board_back : (n r c : ℕ) (o : Option (List ℕ)) (t : Meant) → board_of n r c o ≡ Some t
     → (cs : List ℕ) × (t ≡ board n r c cs) × (o ≡ Some cs)
 board_back n r c None t e = cc
-board_back n r c (Some cs) t e = (cs, board_if_back n r c cs (are_contents (symbols n) (r * c) cs) t e, refl)
+board_back n r c (Some cs) t e = (cs, board_if_back n r c cs (are_of_board n r c cs) t e, refl)
+
+pub long_back : (negative : Bool) (exp : ℕ) (o : Option (List ℕ)) (t : Meant) → long_of negative exp o ≡ Some t
+    → (low : ℕ) × (high : ℕ) × (t ≡ form (number (ratio (num_in negative (low + 2 ^ 32 * high)) exp)))
+    × (o ≡ Some (low ∷ high ∷ [])) × IsLongWritten negative exp low high
+long_back negative exp None t e = cc
+long_back negative exp (Some []) t e = cc
+long_back negative exp (Some (low ∷ [])) t e = cc
+long_back negative exp (Some (low ∷ high ∷ [])) t e =
+    let (a, b) = form_if_back (number (ratio (num_in negative (low + 2 ^ 32 * high)) exp)) (is_long_written negative exp low high) t e in
+    (low, high, a, refl, long_written negative exp low high b)
+long_back negative exp (Some (low ∷ high ∷ c ∷ cs)) t e = cc
 
 pub inverse : (p : KeyParts) (f : Map) (t : Meant) → spelled (Some p) f ≡ Some t → Inverse p f t
 inverse (key.Number num exp) f t e = cc
@@ -118,3 +134,6 @@ inverse (key.Pair low high) f t e =
 inverse (key.Board n r c first) f t e =
     let h = board_back n r c (contents_in (f first)) t e in
     (h.0, h.1, contents_in-back (f first) h.0 h.2)
+inverse (key.Long first exp negative) f t e =
+    let h = long_back negative exp (contents_in (f first)) t e in
+    (h.0, h.1, h.2, contents_in-back (f first) (h.0 ∷ h.1 ∷ []) h.3, h.4)

@@ -1,7 +1,7 @@
 -- The laws of what keys mean. The facts state them, so they stand here.
-use Rattle.std.proofs.Common.{◌≡◌, ℕ, ◌==◌, inl, inr, Option, Some, None, List, true, arith, ap, sym, refl, ◌∙◌}
+use Rattle.std.proofs.Common.{◌≡◌, ℕ, ◌+◌, ◌*◌, ◌^◌, ◌==◌, Bool, if◌then◌else◌, inl, inr, Option, Some, None, List, [], ◌∷◌, true, arith, ap, sym, refl, ◌∙◌}
 use Rattle.std.proofs.lemmas.Bool.Decides.{nat_tests, eqb_tells}
-use Rattle.cg_dyadic.specs.Number.{ratio, num_of, exp_of}
+use Rattle.cg_dyadic.specs.Number.{ratio, num_of, exp_of, is_long}
 use Rattle.cg_dyadic.proofs.Fractions.{ratio-lowest}
 use Rattle.cg_form.specs.Game.{Game, number, options, node, lefts, rights}
 use Rattle.cg_form.proofs.Among.{lefts-node, rights-node}
@@ -13,23 +13,27 @@ use Rattle.cg_cells.specs.Meaning.{Has, IsInjective, IsLawful}
 use Rattle.cg_cells.proofs.Layouts.{kind_of, parts_word}
 use Rattle.cg_nodes.specs.Meant.{Meant, form, list, contents, pair, board}
 use Rattle.cg_nodes.specs.Spelled.{Map, list_at, contents_at, spelled, part_of, game_meaning}
+use Rattle.cg_nodes.specs.LongKeys.{IsLongWritten, chunks_back, narrow_key, sign_back}
+use Rattle.cg_nodes.specs.Longs.{chunks_of, is_negative, num_in}
 use Rattle.cg_nodes.specs.Inverse.{Inverse, inverse, list_in-back, list_in-none, contents_in-back, contents_in-none}
 
 abbrev kind_meant : Meant → ℕ
-kind_meant (form (number x)) = 1
+kind_meant (form (number x)) = if is_long x then 7 else 1
 kind_meant (form (options ls rs)) = 4
 kind_meant (contents cs) = 2
 kind_meant (list gs) = 3
 kind_meant (pair g h) = 5
 kind_meant (board n r c cs) = 6
 
-inverse-kind : (p : KeyParts) (f : Map) (t : Meant) → Inverse p f t → kind_of p ≡ kind_meant t
-inverse-kind (key.Number num exp) f t h = sym (ap kind_meant h)
-inverse-kind (key.Chunk c next) f t h = sym (ap kind_meant h.1)
-inverse-kind (key.Cons first rest) f t h = sym (ap kind_meant h.2)
-inverse-kind (key.Game l r) f t h = sym (ap kind_meant h.2)
-inverse-kind (key.Pair low high) f t h = sym (ap kind_meant h.2)
-inverse-kind (key.Board n r c first) f t h = sym (ap kind_meant h.1)
+inverse-kind : (p : KeyParts) (f : Map) (t : Meant) → FieldsFit p → Inverse p f t → kind_of p ≡ kind_meant t
+inverse-kind (key.Number num exp) f t u h = sym (ap kind_meant h ∙ ap (λ (b : Bool). if b then 7 else 1) (narrow_key num exp u))
+inverse-kind (key.Long first exp negative) f t u h =
+    sym (ap kind_meant h.2 ∙ ap (λ (b : Bool). if b then 7 else 1) (h.4).fraction.long)
+inverse-kind (key.Chunk c next) f t u h = sym (ap kind_meant h.1)
+inverse-kind (key.Cons first rest) f t u h = sym (ap kind_meant h.2)
+inverse-kind (key.Game l r) f t u h = sym (ap kind_meant h.2)
+inverse-kind (key.Pair low high) f t u h = sym (ap kind_meant h.2)
+inverse-kind (key.Board n r c first) f t u h = sym (ap kind_meant h.1)
 
 list_at-same : (f : Map) → IsInjective f → (o p : Option ℕ) (gs : List Game) → list_at f o ≡ Some gs
     → list_at f p ≡ Some gs → o ≡ p
@@ -46,6 +50,14 @@ contents_at-same f one None (Some j) gs a b = absurd (contents_in-none (f j) (b 
 contents_at-same f one (Some i) None gs a b = absurd (contents_in-none (f i) (a ∙ sym b))
 contents_at-same f one (Some i) (Some j) gs a b = ap Some (one i j (contents gs) (contents_in-back (f i) gs a)
     (contents_in-back (f j) gs b))
+
+module _ (s r : Bool) (e d low high less more : ℕ) (a : IsLongWritten s e low high) (b : IsLongWritten r d less more)
+    (same : ratio (num_in s (low + 2 ^ 32 * high)) e ≡ ratio (num_in r (less + 2 ^ 32 * more)) d) where
+  same_nums : num_in s (low + 2 ^ 32 * high) ≡ num_in r (less + 2 ^ 32 * more)
+  same_nums = sym a.fraction.num ∙ (ap num_of same ∙ b.fraction.num)
+
+  same_exps : e ≡ d
+  same_exps = sym a.fraction.exp ∙ (ap exp_of same ∙ b.fraction.exp)
 
 one_parts : (p q : KeyParts) (f : Map) (t : Meant) → FieldsFit p → FieldsFit q → IsInjective f → Inverse p f t
     → Inverse q f t → kind_of p ≡ kind_of q → p ≡ q
@@ -82,6 +94,14 @@ one_parts (key.Board n r c i) (key.Board m s d j) f t u v one a b k =
     let w : a.0 ≡ b.0 = cc in
     let x : i ≡ j = one i j (contents b.0) (a.2 ∙ ap (λ g. Some (contents g)) w) b.2 in
     cc
+one_parts (key.Long i e s) (key.Long j d r) f t u v one a b k =
+    let p : num_in s (a.0 + 2 ^ 32 * a.1) ≡ num_in r (b.0 + 2 ^ 32 * b.1) = same_nums s r e d a.0 a.1 b.0 b.1 a.4 b.4 (cc) in
+    let y : e ≡ d = same_exps s r e d a.0 a.1 b.0 b.1 a.4 b.4 (cc) in
+    let z : s ≡ r = sym (sign_back s (a.0 + 2 ^ 32 * a.1)) ∙ (ap is_negative p ∙ sign_back r (b.0 + 2 ^ 32 * b.1)) in
+    let c : a.0 ∷ a.1 ∷ [] ≡ b.0 ∷ b.1 ∷ [] = sym (chunks_back s a.0 a.1 (a.4).low_fits (a.4).high_fits)
+    ∙ (ap chunks_of p ∙ chunks_back r b.0 b.1 (b.4).low_fits (b.4).high_fits) in
+    let x : i ≡ j = one i j (contents (b.0 ∷ b.1 ∷ [])) (a.3 ∙ ap (λ g. Some (contents g)) c) b.3 in
+    cc
 one_parts _ _ f t u v one a b k = absurd (omega arith)
 
 one_word : (o q : Option KeyParts) (k l : ℕ) (f : Map) (t : Meant) → parts_of k ≡ o → parts_of l ≡ q
@@ -93,7 +113,7 @@ one_word (Some p) (Some q) k l f t a b one e d =
     let y = parts_word l q b in
     let i = inverse p f t e in
     let j = inverse q f t d in
-    let s : p ≡ q = one_parts p q f t x.fields y.fields one i j (inverse-kind p f t i ∙ sym (inverse-kind q f t j)) in
+    let s : p ≡ q = one_parts p q f t x.fields y.fields one i j (inverse-kind p f t x.fields i ∙ sym (inverse-kind q f t y.fields j)) in
     sym x.word ∙ (ap word_of s ∙ y.word)
 
 same_true : (a : ℕ) → (a == a) ≡ true
@@ -147,6 +167,12 @@ names_parts (Some (key.Board n r c i)) f t e id (inl m) =
     let h = inverse (key.Board n r c i) f t e in
     rw (h.1, ← m) h.2
 names_parts (Some (key.Board n r c i)) f t e id (inr m) = absurd m
+names_parts (Some (key.Long i x s)) f t e id (inl m) =
+    let h = inverse (key.Long i x s) f t e in
+    let n : num_of (ratio (num_in s (h.0 + 2 ^ 32 * h.1)) x) ≡ num_in s (h.0 + 2 ^ 32 * h.1) = (h.4).fraction.num in
+    let c = chunks_back s h.0 h.1 (h.4).low_fits (h.4).high_fits in
+    rw (h.2, ← m) (h.3 ∙ ap (λ g. Some (contents g)) (sym (ap chunks_of n ∙ c)))
+names_parts (Some (key.Long i x s)) f t e id (inr m) = absurd m
 
 reads_parts : (o : Option KeyParts) (f g : Map) (t : Meant) → spelled o f ≡ Some t → ((id : ℕ)
     → Has (named_in o) id → g id ≡ f id) → spelled o g ≡ Some t
@@ -162,6 +188,7 @@ reads_parts (Some (key.Game (Some l) None)) f g t e a = rw (a l (inl refl)) e
 reads_parts (Some (key.Game (Some l) (Some r))) f g t e a = rw (a l (inl refl), a r (inr (inl refl))) e
 reads_parts (Some (key.Pair i j)) f g t e a = rw (a i (inl refl), a j (inr (inl refl))) e
 reads_parts (Some (key.Board n r c i)) f g t e a = rw (a i (inl refl)) e
+reads_parts (Some (key.Long i x s)) f g t e a = rw (a i (inl refl)) e
 
 pub lawful : (raw : ℕ → ℕ → ℕ → List ℕ → Game) → IsLawful (game_meaning raw)
 lawful raw = record {

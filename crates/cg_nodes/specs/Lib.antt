@@ -1,11 +1,14 @@
 pub mod Meant
 pub mod MeantCode
 pub mod Boards
+pub mod Longs
+pub mod LongKeys
 pub mod Spelled
 pub mod CanForms
 pub mod Inverse
 pub mod Lawful
 pub mod Games
+pub mod Ranges
 pub mod Positions
 pub mod Partings
 pub mod Walks

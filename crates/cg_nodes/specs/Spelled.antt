@@ -1,9 +1,9 @@
 -- What a key spells under a map from ids to what they stand for: the thing of its kind that is made of its fields and of
 -- what the ids in them stand for, or nothing.
-use Rattle.std.specs.Prelude.{ℕ, ◌*◌, ◌%◌, ◌^◌, ◌==◌, Bool, true, false, if◌then◌else◌, Option, Some, None, List, [], ◌∷◌}
+use Rattle.std.specs.Prelude.{ℕ, ◌+◌, ◌*◌, ◌%◌, ◌^◌, ◌==◌, Bool, true, false, if◌then◌else◌, Option, Some, None, List, [], ◌∷◌}
 use Rattle.std.specs.declared.cmp.Ordering.{Ordering}
 use Rattle.std.specs.declared.cmp.Ordering.TheVariants.{Less, Equal, Greater}
-use Rattle.cg_dyadic.specs.Number.{ratio}
+use Rattle.cg_dyadic.specs.Number.{num_of, ratio}
 use Rattle.cg_form.specs.Game.{Game, number, node, lefts, rights}
 use Rattle.cg_form.specs.Sum.{sum}
 use Rattle.cg_form.specs.Structure.{game_cmp}
@@ -12,8 +12,9 @@ use Rattle.cg_cells.specs.declared.key.KeyParts.TheVariants as key
 use Rattle.cg_cells.specs.Parts.{parts_of}
 use Rattle.cg_cells.specs.Meaning.{Meaning}
 use Rattle.cg_nodes.specs.Meant.{Meant, form, list, contents, pair, board}
-use Rattle.cg_nodes.specs.Boards.{symbols, are_contents}
--- the canonical form of the game, of which there is exactly one
+use Rattle.cg_nodes.specs.Boards.{are_of_board}
+use Rattle.cg_nodes.specs.Longs.{chunks_of, is_long_written, num_in}
+-- the canonical form of the game, of which there is exactly one: the law function `canonical_forms` says so
 pub use Rattle.cg_form.proofs.Exists.{can}
 
 abbrev pub is_equal : Ordering → Bool
@@ -21,11 +22,11 @@ is_equal Less = false
 is_equal Equal = true
 is_equal Greater = false
 
--- whether the games are one tree
+-- whether the games are one tree; the law function `position_lists` says that it is just that
 abbrev pub is_same : Game → Game → Bool
 is_same g h = is_equal (game_cmp g h)
 
--- whether the game is canonical: its own canonical form
+-- whether the game is canonical: its own canonical form. The law function `canonical_forms` says that it is just that
 unfoldable pub is_canonical : Game → Bool
 is_canonical g = is_same (can g) g
 
@@ -88,7 +89,13 @@ board_if n r c cs false = None
 -- the board of the contents, where they are those of a board of this game and size
 abbrev pub board_of : ℕ → ℕ → ℕ → Option (List ℕ) → Option Meant
 board_of n r c None = None
-board_of n r c (Some cs) = board_if n r c cs (are_contents (symbols n) (r * c) cs)
+board_of n r c (Some cs) = board_if n r c cs (are_of_board n r c cs)
+
+-- the long number of two chunks, where they are those of one
+abbrev pub long_of : Bool → ℕ → Option (List ℕ) → Option Meant
+long_of negative exp (Some (low ∷ high ∷ [])) =
+    form_if (number (ratio (num_in negative (low + 2 ^ 32 * high)) exp)) (is_long_written negative exp low high)
+long_of negative exp _ = None
 
 abbrev pub spelled : Option KeyParts → Map → Option Meant
 spelled None f = None
@@ -98,6 +105,7 @@ spelled (Some (key.Cons first rest)) f = longer (form_in (f first)) (list_at f r
 spelled (Some (key.Game ls rs)) f = game_of_lists (list_at f ls) (list_at f rs)
 spelled (Some (key.Pair low high)) f = pair_of (form_in (f low)) (form_in (f high))
 spelled (Some (key.Board n r c first)) f = board_of n r c (contents_in (f first))
+spelled (Some (key.Long first exp negative)) f = long_of negative exp (contents_in (f first))
 
 abbrev pub is_link_to : Option ℕ → ℕ → Bool
 is_link_to None id = false
@@ -110,6 +118,7 @@ part_of (Some (key.Cons first rest)) (list (g ∷ gs)) id = if first == id then 
 part_of (Some (key.Game ls rs)) (form g) id = if is_link_to ls id then list (lefts g) else list (rights g)
 part_of (Some (key.Pair low high)) (pair g h) id = if low == id then form g else form h
 part_of (Some (key.Board n r c first)) (board m s d cs) id = contents cs
+part_of (Some (key.Long first exp negative)) (form (number x)) id = contents (chunks_of (num_of x))
 part_of _ t id = t
 
 -- what a note must spell, where raw gives the form of a board: for a pair the canonical form of the sum, and for a board that

@@ -51,8 +51,9 @@ impl BoardForms for NoBoards {
 
 /// The facts of the cells of games. A key spells the thing of its kind that is made of its fields and of the things of the
 /// ids that it names. The key of a game spells one only where that game is canonical and so equals no number. The key of a
-/// board spells one only where its game's number is 1 to 4 and its contents are exactly those of a board of that game's
-/// symbols. A note on a pair must spell the canonical form of the sum, and a note on a board that of the board's form.
+/// long number spells it only where its chunks are those of a number that is long and in lowest terms. The key of a
+/// board spells one only where its game's number is 1 to 4, it has 1 to 64 cells, and its contents are exactly those of a
+/// board of that game's symbols. A note on a pair must spell the canonical form of the sum, and a note on a board that of the board's form.
 pub struct GameFacts<B: BoardForms> {
     of: PhantomData<B>,
 }

@@ -1,17 +1,29 @@
-//! Laws of positions and of boards' contents: each function does nothing, and its contract is the law.
-ghost use Rattle.std.specs.Prelude.{◌≡◌, ◌↔◌, ◌⊎◌, ◌≤◌, ◌∷◌, ◌++◌, [], ℕ, List, true};
-ghost use Rattle.cg_dyadic.specs.Number.{Number};
-ghost use Rattle.cg_form.specs.Canonical.{Canonical};
+//! Laws of positions, of boards' contents and of long numbers: each function does nothing, and its contract is the law.
+ghost use Rattle.std.specs.Prelude.{◌≡◌, ◌↔◌, ◌⊎◌, ◌≤◌, ◌*◌, ◌∷◌, ◌++◌, [], ℕ, Bool, List, Some, length, true};
+ghost use Rattle.cg_dyadic.specs.Number.{InRange, Number, exp_of, is_long, num_of};
+ghost use Rattle.cg_form.specs.Canonical.{Canonical, IsCanonicalForm};
 ghost use Rattle.cg_form.specs.Game.{Among, Game, lefts, number, rights};
-ghost use Rattle.cg_nodes.specs.Boards.{IsBoard, are_contents};
+ghost use Rattle.cg_nodes.specs.Boards.{IsBoard, are_contents, symbols};
 ghost use Rattle.cg_nodes.specs.Games.{IsNode};
+ghost use Rattle.cg_nodes.specs.Longs.{cells_of, chunks_of, is_negative};
+ghost use Rattle.cg_nodes.specs.Meant.{Meant, board, form};
 ghost use Rattle.cg_nodes.specs.Positions.{EachOnce, all_positions, positions_of};
+ghost use Rattle.cg_nodes.specs.Spelled.{board_of, can, is_canonical, is_same, long_of};
 
-/// A number has no positions but itself. Of any game, the positions are those that play can come to, each once; the game
-/// itself is the last; the options of a position that isn't a number stand before it; and those of a canonical game are
-/// canonical.
+/// Each game has exactly one canonical form, which is `can` of it, and `is_canonical` tests whether a game is canonical.
+/// (Siegel, Combinatorial Game Theory (2013), II.2.)
+pub fn canonical_forms()
+    ensures form { (g : Game) → IsCanonicalForm g (can g) }
+    ensures only { (g k : Game) → IsCanonicalForm g k → k ≡ can g }
+    ensures test { (g : Game) → (is_canonical g ≡ true) ↔ Canonical g }
+{}
+
+/// A number has no positions but itself. `is_same` tests whether two games are one tree. Of any game, the positions are those
+/// that play can come to, each once; the game itself is the last; the options of a position that isn't a number stand before
+/// it; and those of a canonical game are canonical.
 pub fn position_lists()
     ensures number { (x : Number) → positions_of (number x) ≡ number x ∷ [] }
+    ensures same { (g h : Game) → (is_same g h ≡ true) ↔ (g ≡ h) }
     ensures members { (g k : Game) → Among k (positions_of g) ↔ Among k (all_positions g) }
     ensures once { (g : Game) → EachOnce (positions_of g) }
     ensures last { (g : Game) → (front : List Game) × (positions_of g ≡ front ++ (g ∷ [])) }
@@ -21,8 +33,25 @@ pub fn position_lists()
 {}
 
 /// The test of a board's contents passes exactly where they are written for some board of so many cells, each with one of so
-/// many symbols.
+/// many symbols. A key with these contents spells a board exactly where they are those of a board of this game with 1 to 64
+/// cells; then the game has a number from 1 to 4, and there are at most four contents.
 pub fn boards()
-    ensures { (count size : ℕ) (contents : List ℕ) → count ≤ 4
+    ensures contents { (count size : ℕ) (contents : List ℕ) → count ≤ 4
         → (are_contents count size contents ≡ true) ↔ IsBoard count size contents }
+    ensures spelled { (number rows columns : ℕ) (contents : List ℕ)
+        → (board_of number rows columns (Some contents) ≡ Some (board number rows columns contents))
+        ↔ ((1 ≤ rows * columns) × (rows * columns ≤ 64) × IsBoard (symbols number) (rows * columns) contents) }
+    ensures only { (number rows columns : ℕ) (contents : List ℕ) (t : Meant) → board_of number rows columns (Some contents) ≡ Some t
+        → (t ≡ board number rows columns contents) × (1 ≤ number) × (number ≤ 4) × (length contents ≤ 4) }
+{}
+
+/// The sign, the exponent and the chunks of a long number in range spell it, and what others spell is such a number. A number
+/// takes at most three cells.
+pub fn long_numbers()
+    ensures written { (x : Number) → InRange x → is_long x ≡ true
+        → long_of (is_negative (num_of x)) (exp_of x) (Some (chunks_of (num_of x))) ≡ Some (form (number x)) }
+    ensures only { (negative : Bool) (exp : ℕ) (contents : List ℕ) (t : Meant) → long_of negative exp (Some contents) ≡ Some t
+        → (x : Number) × (t ≡ form (number x)) × InRange x × (is_long x ≡ true) × (negative ≡ is_negative (num_of x))
+        × (exp ≡ exp_of x) × (contents ≡ chunks_of (num_of x)) }
+    ensures few { (x : Number) → cells_of x ≤ 3 }
 {}

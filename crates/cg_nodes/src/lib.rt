@@ -5,14 +5,17 @@
 //! calls are generic over the store, and each leaves what is known, noted and spared as it was, but for what it claims.
 //!
 //! [`number`], [`list`] and [`game`] claim cells; [`kind`], [`options`], [`positions`] and [`compare_structure`] read them,
-//! over [`read`], [`head`] and [`handles`]. Only what answers a list of handles takes memory.
+//! over [`read`], [`head`] and [`handles`]. Only what answers a list of handles takes memory. [`known_game`] does nothing, and tells
+//! what holds of each game of a store.
 #![tactic(auto)]
 
 mod facts;
 mod fault;
 mod found;
 mod handle;
+mod known;
 pub mod laws;
+mod long;
 mod making;
 mod reading;
 mod structure;
@@ -21,6 +24,7 @@ mod walk;
 pub use facts::{BoardForms, GameFacts, NoBoards, Thing};
 pub use fault::PositionsFault;
 pub use handle::{Handle, Handles, Kind, ListId};
+pub use known::known_game;
 pub use making::{game, list, number};
 pub use reading::{Reading, Sides, Split, handles, head, kind, options, read};
 pub use structure::compare_structure;

@@ -1,25 +1,43 @@
 //! Numbers, lists and games put into cells.
-ghost use Rattle.std.specs.Prelude.{◌≡◌, ◌≤◌, ◌∷◌, length};
+ghost use Rattle.std.specs.Prelude.{◌≡◌, ◌≤◌, ◌∷◌, false, length};
+ghost use Rattle.cg_dyadic.specs.Number.{is_long};
 ghost use Rattle.cg_form.specs.Game.{number, node};
 ghost use Rattle.cg_form.specs.Canonical.{Canonical};
 ghost use Rattle.cg_cells.specs.Store.{Spends};
 ghost use Rattle.cg_nodes.specs.Games.{StandsFor, IsGame, game_at, AreGames, games_at, ListsAs, listed, IsList};
+ghost use Rattle.cg_nodes.specs.Longs.{cells_of};
 
+use crate::long::claim_long;
 use crate::{BoardForms, GameFacts, Handle, ListId};
 use cg_cells::{CellStore, Key, KeyParts};
 use cg_dyadic::Dyadic;
 
-/// The handle of the number. It spends one claim.
-pub fn number<B: BoardForms, S: CellStore<GameFacts<B>>>(store: &mut S, x: Dyadic) -> Handle
-    requires { 1 ≤ (S.state store.old).spare }
+// The handle of a narrow number. It spends one claim.
+#[tactic(auto, using(crate::proofs::LongSteps::narrow_fits))]
+fn claim_narrow<B: BoardForms, S: CellStore<GameFacts<B>>>(store: &mut S, x: Dyadic) -> Handle
+    requires spare { 1 ≤ (S.state store.old).spare }
+    requires narrow { is_long x ≡ false }
     ensures game { StandsFor (S.state store.new) result (number x) }
     ensures spends { Spends 1 (S.state store.old) (S.state store.new) }
 {
     let key = Key::pack(KeyParts::Number {
-        num: x.num(),
+        num: x.num() as i64,
         exp: x.exp(),
     });
     Handle::of(store.claim(key))
+}
+
+/// The handle of the number. It spends one claim for a narrow number, and three for a long one.
+pub fn number<B: BoardForms, S: CellStore<GameFacts<B>>>(store: &mut S, x: Dyadic) -> Handle
+    requires { cells_of x ≤ (S.state store.old).spare }
+    ensures game { StandsFor (S.state store.new) result (number x) }
+    ensures spends { Spends (cells_of x) (S.state store.old) (S.state store.new) }
+{
+    if x.is_long() {
+        claim_long(store, x)
+    } else {
+        claim_narrow(store, x)
+    }
 }
 
 // The list with one more game before it.

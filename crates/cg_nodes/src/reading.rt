@@ -8,6 +8,7 @@ ghost use Rattle.cg_cells.specs.declared.key.KeyParts.TheVariants as parts;
 ghost use Rattle.cg_cells.specs.Store.{Spends};
 ghost use Rattle.cg_nodes.specs.Games.{IsGame, game_at, IsList, listed, IsRead, IsHead, IsKind, IsNode, IsInRange, StandFor};
 
+use crate::long::read_long;
 use crate::{BoardForms, GameFacts, Handle, Handles, Kind, ListId};
 use cg_cells::{CellStore, Id, KeyParts};
 use cg_dyadic::Dyadic;
@@ -60,9 +61,14 @@ pub fn read<B: BoardForms, S: CellStore<GameFacts<B>>>(store: &mut S, handle: Ha
     ensures spends { Spends 0 (S.state store.old) (S.state store.new) }
 {
     let key = store.look(handle.id());
-    match key.unpack() {
-        Some(KeyParts::Number { num, exp }) => Reading::Number(number_of(num, exp)),
-        Some(KeyParts::Game { lefts, rights }) => {
+    match key.parts() {
+        KeyParts::Number { num, exp } => Reading::Number(number_of(num, exp)),
+        KeyParts::Long {
+            first,
+            exp,
+            negative,
+        } => Reading::Number(read_long(store, first, exp, negative)),
+        KeyParts::Game { lefts, rights } => {
             Reading::Game(ListId { id: lefts }, ListId { id: rights })
         }
         _ => unreachable!(),
@@ -105,10 +111,7 @@ fn split_of<B: BoardForms, S: CellStore<GameFacts<B>>>(store: &mut S, id: Id) ->
     ensures spends { Spends 0 (S.state store.old) (S.state store.new) }
 {
     let key = store.look(id);
-    let Some(parts) = key.unpack() else {
-        unreachable!()
-    };
-    match parts {
+    match key.parts() {
         KeyParts::Cons { first, rest } => Split {
             first: Handle::of(first),
             rest: ListId { id: rest },

@@ -13,3 +13,6 @@ pub mod Skip
 pub mod DigitLemmas
 pub mod TokenLaws
 pub mod Words
+pub mod TurnLaws
+pub mod TurnsGathered
+pub mod Texts

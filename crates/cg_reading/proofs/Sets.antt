@@ -1,7 +1,7 @@
 -- Sets of bytes.
 use Rattle.std.proofs.Common.{◌≡◌, ℕ, ◌≤◌, inl, inr, Bool, true, false, ◌&&◌, ◌||◌, cond, leb, List, [], ◌∷◌, ◌++◌, refl, ap, sym, subst, ◌∙◌, arith}
 use Rattle.std.specs.Prelude.{ltb}
-use Rattle.std.proofs.lemmas.Bool.{false_from_ne_true, and_parts, and_from, leb-true, ltb-true, le-leb, lt-leb, or_cases}
+use Rattle.std.proofs.lemmas.Bool.{false_from_ne_true, and_parts, and_from, leb-true, ltb-true, le-leb, lt-leb, or_cases, or_parts}
 use Rattle.cg_reading.specs.Bytes.{Class, has, Ends, Begins}
 
 or_assoc : (a b c : Bool) → ((a || b) || c) ≡ (a || (b || c))
@@ -16,10 +16,6 @@ and_false : (a : Bool) → (a && false) ≡ false
 and_false true = refl
 and_false false = refl
 
-or_false : (a b : Bool) → (a || b) ≡ false → (a ≡ false) × (b ≡ false)
-or_false true b h = absurd cc
-or_false false b h = (refl, h)
-
 -- ---- sets of bytes
 
 pub has_append : (c d : Class) (b : ℕ) → has (c ++ d) b ≡ (has c b || has d b)
@@ -33,10 +29,10 @@ pub has_right : (c d : Class) (b : ℕ) → has d b ≡ true → has (c ++ d) b 
 has_right c d b h = has_append c d b ∙ ap (λ (x : Bool). has c b || x) h ∙ or_true (has c b)
 
 no_left : (c d : Class) (b : ℕ) → has (c ++ d) b ≡ false → has c b ≡ false
-no_left c d b h = (or_false (has c b) (has d b) (sym (has_append c d b) ∙ h)).0
+no_left c d b h = (or_parts (has c b) (has d b) (sym (has_append c d b) ∙ h)).0
 
 pub no_right : (c d : Class) (b : ℕ) → has (c ++ d) b ≡ false → has d b ≡ false
-no_right c d b h = (or_false (has c b) (has d b) (sym (has_append c d b) ∙ h)).1
+no_right c d b h = (or_parts (has c b) (has d b) (sym (has_append c d b) ∙ h)).1
 
 -- no byte is in the range and in the set
 abbrev pub away : ℕ → ℕ → Class → Bool
@@ -110,7 +106,7 @@ covered_has low high b (s ∷ ss) h l u =
       | inr q ↦ ap (λ (x : Bool). (leb s.0 b && leb b s.1) || x) (covered_has low high b ss q l u) ∙ or_true (leb s.0 b && leb b s.1)
     ]
 
-inside_has : (c d : Class) (b : ℕ) → inside c d ≡ true → has c b ≡ true → has d b ≡ true
+pub inside_has : (c d : Class) (b : ℕ) → inside c d ≡ true → has c b ≡ true → has d b ≡ true
 inside_has [] d b h k = absurd cc
 inside_has (r ∷ rs) d b h k =
     let p = and_parts (covered r.0 r.1 d) (inside rs d) h in

@@ -5,3 +5,4 @@ pub mod Readers
 pub mod TokenReaders
 pub mod Column
 pub mod Gives
+pub mod Turns

@@ -31,7 +31,11 @@ digits_from room value [] = Ok (value, [])
 digits_from zero value (b ∷ bytes) = cond (is_digit b) (Err (length (b ∷ bytes))) (Ok (value, b ∷ bytes))
 digits_from (suc room) value (b ∷ bytes) = cond (is_digit b) (digits_from room (value * 10 + (b - 48)) bytes) (Ok (value, b ∷ bytes))
 
+-- the number of all digits in front, one to so many of them
+unfoldable pub few_digits_at : ℕ → Reader ℕ
+few_digits_at most end [] = Err 0
+few_digits_at most end (b ∷ bytes) = cond (is_digit b) (digits_from (most - 1) (b - 48) bytes) (Err (length (b ∷ bytes)))
+
 -- the number of all digits in front, one to thirty of them
-unfoldable pub digits_at : Reader ℕ
-digits_at end [] = Err 0
-digits_at end (b ∷ bytes) = cond (is_digit b) (digits_from 29 (b - 48) bytes) (Err (length (b ∷ bytes)))
+abbrev pub digits_at : Reader ℕ
+digits_at = few_digits_at 30

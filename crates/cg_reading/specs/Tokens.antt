@@ -36,6 +36,10 @@ behind_blanks R = Made (λ v. v.1) (Then blanks R)
 abbrev pub with_blanks : {A : Type 0} → Piece A → Piece A
 with_blanks R = Made (λ v. v.0) (Then R blanks)
 
--- digits: one to thirty of them, and the number that they spell in base ten
+-- one digit or more, so many at most, and the number that they spell in base ten
+abbrev pub few_digits : ℕ → Piece ℕ
+few_digits most = Made (digits_value 10) (Run digit most)
+
+-- digits: one to thirty of them
 abbrev pub digits : Piece ℕ
-digits = Made (digits_value 10) (Run digit 30)
+digits = few_digits 30

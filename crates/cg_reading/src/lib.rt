@@ -13,5 +13,6 @@ mod tokens;
 
 pub use fault::ReadFault;
 pub use tokens::{
-    after_all, after_blanks, after_byte, after_gap, after_word, digits, is_blank, is_byte, is_digit,
+    after_all, after_blanks, after_byte, after_gap, after_word, digits, few_digits, is_blank,
+    is_byte, is_digit,
 };

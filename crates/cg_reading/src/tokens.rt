@@ -1,10 +1,10 @@
 //! Blanks, single bytes, words and digits: each function reads one of them from the front of the
 //! bytes, and gives what is left behind it.
-ghost use Rattle.std.specs.Prelude.{◌≡◌, ◌<◌, ◌≤◌, length, IfOk, IsTrue, ℕ};
+ghost use Rattle.std.specs.Prelude.{◌≡◌, ◌<◌, ◌≤◌, ◌^◌, length, IfOk, IsTrue, ℕ};
 ghost use Rattle.cg_reading.specs.Bytes.{has};
 ghost use Rattle.cg_reading.specs.Tokens.{blank, digit, only};
 ghost use Rattle.cg_reading.specs.Readers.{skipped};
-ghost use Rattle.cg_reading.specs.TokenReaders.{digits_at, byte_at, gap_at, this_word_at};
+ghost use Rattle.cg_reading.specs.TokenReaders.{byte_at, digits_at, few_digits_at, gap_at, this_word_at};
 ghost use Rattle.cg_reading.specs.Gives.{Gives};
 
 use crate::fault::ReadFault;
@@ -112,9 +112,21 @@ pub fn after_gap(bytes: &[u8]) -> Result<&[u8], ReadFault>
 }
 
 /// The number that all digits in front spell, one to thirty of them.
-#[tactic(auto, unfolding(crate::specs::TokenReaders::digits_at))]
 pub fn digits(bytes: &[u8]) -> Result<(u128, &[u8]), ReadFault>
     ensures read { (end : ℕ) → Gives (λ x. (x.0, x.1.now)) result (digits_at end bytes.now) }
+    ensures below { IfOk result (λ x. x.0 < 10 ^ 30) }
+    ensures shorter { IfOk result (λ x. length x.1.now < length bytes.now) }
+{
+    few_digits(30, bytes)
+}
+
+/// The number that all digits in front spell, of which there are one to so many.
+#[tactic(auto, unfolding(crate::specs::TokenReaders::few_digits_at))]
+pub fn few_digits(most: u8, bytes: &[u8]) -> Result<(u128, &[u8]), ReadFault>
+    requires some { 1 ≤ most }
+    requires fits { most ≤ 30 }
+    ensures read { (end : ℕ) → Gives (λ x. (x.0, x.1.now)) result (few_digits_at most end bytes.now) }
+    ensures below { IfOk result (λ x. x.0 < 10 ^ most) }
     ensures shorter { IfOk result (λ x. length x.1.now < length bytes.now) }
 {
     let Some((first, after)) = bytes.split_first() else {
@@ -124,7 +136,7 @@ pub fn digits(bytes: &[u8]) -> Result<(u128, &[u8]), ReadFault>
         return Err(ReadFault::Stuck(bytes.len()));
     }
     let mut value = u128::from(*first - b'0');
-    let mut room = 29u8;
+    let mut room = most - 1;
     let mut rest = after;
     while let Some((digit, after)) = rest.split_first() {
         if !is_digit(*digit) {

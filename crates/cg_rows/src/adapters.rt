@@ -1,5 +1,7 @@
 //! The adapters of std's readers and writers.
+use crate::sheet::words_of;
 use cg_io::{Failed, Sink, Source, StdinSource, StdoutSink};
+use cg_pool::NoGate;
 use cg_session::{Status, run};
 use std::alloc::AllocError;
 use std::io;
@@ -57,11 +59,21 @@ impl Write for RiggedWriter<'_> {
 #[test]
 fn carry_a_session(rt: HostRuntime) -> Result<(), AllocError> {
     let alloc = rt.alloc();
-    let words = Vec::new(alloc);
+    let words = words_of(alloc, "--workers 1 --cells 1000")?;
     let mut out = Vec::new(alloc);
     let mut source = StdinSource::new(b"value {0|1}\n\nvalue {2,1|0}".as_slice());
     let mut sink = StdoutSink::new(&mut out);
-    assert!(rt; run(alloc, &words, &mut source, &mut sink) == Status::Done);
+    let mut kept = None;
+    let status = run(
+        &rt,
+        alloc,
+        &words,
+        &mut source,
+        &mut sink,
+        &NoGate,
+        &mut kept,
+    );
+    assert!(rt; status == Status::Done);
     assert!(rt; out.as_slice() == b"1: 1/2\n3: {2|0}\n".as_slice());
     Ok(())
 }

@@ -1,5 +1,5 @@
-//! Rows of worked examples, by which the other crates are tested: their expected values come from outside, from the
-//! textbook and from hand.
+//! Rows of worked sessions, by which the crates below are tested: their expected values come from outside, from the textbook
+//! and from hand.
 #![tactic(auto)]
 
 #[cfg(test)]
@@ -9,10 +9,12 @@ mod faults;
 #[cfg(test)]
 mod memory;
 #[cfg(test)]
-mod numbers;
-#[cfg(test)]
 mod sessions;
 #[cfg(test)]
-mod trees;
+mod sheet;
 #[cfg(test)]
 mod values;
+#[cfg(test)]
+mod words;
+#[cfg(test)]
+mod workers;

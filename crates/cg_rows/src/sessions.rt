@@ -1,94 +1,322 @@
-//! Whole sessions over memory.
-ghost use Rattle.std.specs.Prelude.{◌<◌};
+//! Whole sessions: their words, their lines, what they write, and the number that they end with.
+use crate::sheet::session;
+use cg_session::Status;
+use std::alloc::AllocError;
+use std::test::Fail;
 
-use cg_io::{MemorySink, SteadySource};
-use cg_session::{Status, run};
-use std::alloc::{AllocError, Global};
-
-/// More room than any output of these tests takes.
-const ROOM: usize = 40_000;
-
-/// The limit of an input in bytes.
+/// The limit of a session in bytes.
 const LIMIT: usize = 1_048_576;
 
-/// A session over this input, with a sink that takes at most `most` bytes a call.
-fn session(alloc: Global, input: &[u8], most: usize) -> Result<(Status, MemorySink), AllocError>
-    requires { 0 < most }
-{
-    let words = Vec::new(alloc);
-    let mut source = SteadySource::new(Vec::from_slice(alloc, input)?);
-    let mut sink = MemorySink::new(alloc, ROOM, most, Vec::new(alloc))?;
-    let status = run(alloc, &words, &mut source, &mut sink);
-    Ok((status, sink))
-}
+/// Each session begins with `$`, its words, `=>` and its number. Its lines follow, to `--`, and then what it writes.
+const SESSIONS: &str = r#"
+$ => 0
+--
+$ --cells 1000 => 0
+value {-1|1}
+value {0|1}
+--
+1: 0
+2: 1/2
+$ --cells 1000 => 0
+value {*|*}
+--
+1: 0
+$ --cells 1000 => 0
+value {1|-1}
+mean {1|-1}
+temp {1|-1}
+--
+1: +-1
+2: 0
+3: 1
+$ --cells 1000 => 0
+value {2,1|0}
+value {{3|0},1|-1}
+--
+1: {2|0}
+2: {1,{3|0}|-1}
+$ --cells 1000 => 0
+thermo {4||2|0}
+--
+1: mean 5/2 temp 3/2 left 4@0 5/2@3/2 right 2@0 2@1 5/2@3/2
+$ --cells 1000 => 0
+thermo 3/4
+thermo ^
+stops {0|1/2}
+--
+1: mean 3/4 temp -1/4 left 3/4@0 right 3/4@0
+2: mean 0 temp 0 left 0@0 right 0@0
+3: left 1/4 right 1/4
+$ --positions 18 --cells 4000 => 0
+value Domineering("...|...")
+--
+1: {2|-1/2}
+$ --positions 17 --cells 4000 => 1
+value Domineering("...|...")
+--
+1: ! positions
+$ --cells 4000 => 0
+value Clobber("xxo")
+value Clobber("xox")
+--
+1: ^
+2: *
+$ --cells 4000 => 0
+value Toads("T.F")
+--
+1: *
+$ --cells 4000 => 0
+compare Toads("T.F") ; Strip(".=0,0,0;T=0,0,1;F=0,1,0;L:T.>.T;L:TF.>.FT;R:.F>F.;R:.TF>FT.","T.F")
+--
+1: =
+$ --cells 4000 => 0
+value Amazons("x..")
+--
+1: 2
+$ --cells 4000 => 0
+compare ^ ; *
+compare ^^ ; *
+compare Tiny(1) ; ^
+--
+1: ||
+2: >
+3: <
+$ --cells 4000 => 0
+value ^* + ^*
+value ^ + v
+value 3.^*
+value -1^
+value 1-1^
+--
+1: ^^
+2: 0
+3: ^3*
+4: -1^
+5: v
+$ --cells 4000 => 0
+value 1 + +-1
+value 1+-1
+value 2.+-1
+value {0||0|-2}
+value -Tiny(2)
+--
+1: {2|0}
+2: 0
+3: 0
+4: Tiny(2)
+5: Miny(2)
+$ --cells 1000 => 1
+value {1|2|3}
+value {1,2}
+value {1|
+valu 1
+value 3.2
+--
+1: ! syntax 11
+2: ! syntax 11
+3: ! syntax 10
+4: ! syntax 5
+5: ! syntax 9
+$ --cells 1000 => 1
+value Clobber("xa")
+value Domineering("..|.")
+value Clobber("")
+value Strip(".=0,0,0;T=0,0,1;L:T.>T.","T.")
+--
+1: ! board symbol 2
+2: ! board ragged 4
+3: ! board empty 1
+4: ! board lowering 1
+$ --cells 1000 => 1
+value 1/2147483648
+value {0|1/2147483648}
+value 1/3
+value 4503599627370495 + 1
+--
+1: 1/2147483648
+2: 1/4294967296
+3: ! range
+4: 4503599627370496
+$ => 1
+value *512
+value *513
+--
+1: *512
+2: ! depth
+$ --cells 5 => 0
+value {0|0}
+--
+1: *
+$ --cells 4 => 1
+value {0|0}
+--
+1: ! full
+$ --cells 10 => 0
+value {0|0}
+value {0|0}
+--
+1: *
+2: *
+$ --cells 14 => 1
+value {0|0}
+value {0|0}
+value {0|0}
+--
+1: ! full
+2: ! full
+3: ! full
+$ --cells 2 => 6
+value {0|0}
+value {0|0}
+value {0|0}
+--
+$ --cells 3 => 1
+value 0
+value {0|0}
+# value 0
+value 1
+--
+1: 0
+2: ! full
+4: 1
+$ --cells 20 => 0
+value * + *
+--
+1: 0
+$ --cells 19 => 1
+value * + *
+--
+1: ! full
+$ --positions 3 --cells 1000 => 1
+value * + *
+--
+1: ! positions
+$ --cells 29 => 0
+value Clobber("xo")
+--
+1: *
+$ --cells 28 => 1
+value Clobber("xo")
+--
+1: ! full
+$ => 0
+# sheet 1
+value Clobber("xxo") + Clobber("xox")
+compare Clobber("xxo") ; *
+thermo Domineering("...|...")
+outcome {1|-1} + Toads("T.F")
+--
+2: ^*
+3: ||
+4: mean 3/4 temp 5/4 left 2@0 3/4@5/4 right -1/2@0 3/4@5/4
+5: N
+$ --workers 0 => 2
+value 1
+--
+usage: cg [--workers W] [--cells N] [--positions P] [--sample n]
+$ --colour => 2
+value 1
+--
+usage: cg [--workers W] [--cells N] [--positions P] [--sample n]
+$ --workers 64 => 0
+value 1
+--
+1: 1
+$ --cells 1000 => 0
+# a
+
+value 1/2*--
+3: 1/2*
+$ --cells 1000 => 1
+value (((((((((((((((((((((((((((((((((((((((((((((((((((((((((((((((((
+value {|||||||||}
+value 1111111111111111111111111111111
+--
+1: ! syntax 71
+2: ! syntax 16
+3: ! syntax 37
+$ --sample 6 => 0
+valu 1
+--
+lines 6 refused 0 bytes 36
+$ --sample 6 --cells 5 => 6
+--
+$ --sample 6 --cells 6 => 1
+--
+lines 6 refused 6 bytes 60
+$ --cells 1000 => 0
+compare {0|1} ; 1/2--
+1: =
+$ --cells 1000 => 0
+
+--
+$ --cells 1000 => 1
+value Toads("")
+value {0|1}
+--
+1: ! board empty 1
+2: 1/2
+$ --cells 1000 => 1
+value {0|1}
+mean 1/3
+--
+1: 1/2
+2: ! range
+$ --cells 1000 => 1
+value {0|1} # a
+value {0|1}
+--
+1: ! syntax 13
+2: 1/2
+"#;
+
+/// Sessions with blanks that a reader can't see: blank lines and comments have no answer, and count. A comment may hold
+/// any bytes.
+const BLANKS: &str = "\
+$ --cells 1000 => 0
+ \t\r--
+$ --cells 1000 => 0
+# a\n\t#\u{0}\u{7f}\n#--
+$ --cells 1000 => 0
+# a\n\nvalue 1/2\r--
+3: 1/2
+$ --cells 1000 => 0
+# a\n\nvalue 1/2*\r--
+3: 1/2*
+$ --cells 1000 => 0
+\n \t\r\n\r\nvalue {0|1}\r\n\noutcome {2,1|0}--
+4: 1/2
+6: N
+";
 
 #[test]
-fn answers_sessions(rt: HostRuntime) -> Result<(), AllocError> {
+fn write_what_they_should(rt: HostRuntime) -> Result<(), Fail> {
     let alloc = rt.alloc();
-    let rows: [(&str, Status, &str); 16] = [
-        ("", Status::Done, ""),
-        ("value {2,1|0}\n", Status::Done, "1: {2|0}\n"),
-        (
-            "value {-1|1}\nvalue {0|1}\n",
-            Status::Done,
-            "1: 0\n2: 1/2\n",
-        ),
-        (
-            "value {2,1|0}\nvalue {{3|0},1|-1}\n",
-            Status::Done,
-            "1: {2|0}\n2: {1,{3|0}|-1}\n",
-        ),
-        (
-            "value {1|2|3}\nvalue {1,2}\nvalue {1|\nvalu 1\nvalue 3.2\n",
-            Status::Refused,
-            "1: ! syntax 11\n2: ! syntax 11\n3: ! syntax 10\n4: ! syntax 5\n5: ! syntax 9\n",
-        ),
-        (
-            "value 1/2147483648\nvalue {0|1/2147483648}\nvalue 1/3\n",
-            Status::Refused,
-            "1: 1/2147483648\n2: ! range\n3: ! range\n",
-        ),
-        // A last piece without LF is a line if it isn't empty.
-        ("compare {0|1} ; 1/2", Status::Done, "1: =\n"),
-        // Blank lines and comments have no answer, and count. A comment may hold any bytes.
-        ("\n", Status::Done, ""),
-        (" \t\r", Status::Done, ""),
-        ("# a\n\t#\u{0}\u{7f}\n#", Status::Done, ""),
-        ("# a\n\nvalue 1/2\r", Status::Done, "3: 1/2\n"),
-        ("# a\n\nvalue 1/2*\r", Status::Done, "3: {1/2|1/2}\n"),
-        (
-            "\n \t\r\n\r\nvalue {0|1}\r\n\noutcome {2,1|0}",
-            Status::Done,
-            "4: 1/2\n6: N\n",
-        ),
-        // One refused line makes the session refused, wherever it stands.
-        (
-            "value Clobber(\"xo\")\nvalue {0|1}\n",
-            Status::Refused,
-            "1: ! later\n2: 1/2\n",
-        ),
-        (
-            "value {0|1}\nmean *",
-            Status::Refused,
-            "1: 1/2\n2: ! later\n",
-        ),
-        // A # behind the first word begins no comment.
-        (
-            "value {0|1} # a\nvalue {0|1}\n",
-            Status::Refused,
-            "1: ! syntax 13\n2: 1/2\n",
-        ),
-    ];
-    for (input, status, output) in rows {
-        let (ended, sink) = session(alloc, input.as_bytes(), 7)?;
-        assert!(rt; ended == status, "the status of {input}");
-        assert!(rt; sink.bytes() == output.as_bytes(), "the output of {input}");
+    for sheet in [SESSIONS, BLANKS] {
+        for row in sheet.split("$ ").skip(1) {
+            let Some((words, row)) = row.split_once("=> ") else {
+                return Err("a session without a number")?;
+            };
+            let Some((number, row)) = row.split_once("\n") else {
+                return Err("a session without lines")?;
+            };
+            let Some((input, output)) = row.split_once("--\n") else {
+                return Err("a session without an output")?;
+            };
+            let (status, sink) = session(&rt, alloc, words, input.as_bytes())?;
+            let ended = status.code().to_string(alloc)?;
+            assert!(rt; ended.as_str() == number, "the number of {words}: {input}");
+            assert!(rt;
+                sink.bytes() == output.as_bytes(),
+                "the output of {words}: {input}"
+            );
+        }
     }
     Ok(())
 }
 
 #[test]
-fn ends_with_each_number(rt: HostRuntime) {
+fn end_with_each_number(rt: HostRuntime) {
     let rows = [
         (Status::Done, 0),
         (Status::Refused, 1),
@@ -106,14 +334,14 @@ fn ends_with_each_number(rt: HostRuntime) {
 /// The limits are 1,048,576 bytes and 4,096 answered lines: so many are read and answered, and one more is too long.
 /// Blank lines and comments do not count. Many short lines and one long line are answered in linear time.
 #[test]
-fn keeps_the_limits(rt: HostRuntime) -> Result<(), AllocError> {
+fn keep_the_limits(rt: HostRuntime) -> Result<(), AllocError> {
     let alloc = rt.alloc();
     let mut blank = vec![in alloc; b'\n'; LIMIT]?;
-    let (ended, sink) = session(alloc, &blank, 7)?;
+    let (ended, sink) = session(&rt, alloc, "", &blank)?;
     assert!(rt; ended == Status::Done);
     assert!(rt; sink.bytes().is_empty());
     blank.push(b'\n')?;
-    let (ended, sink) = session(alloc, &blank, 7)?;
+    let (ended, sink) = session(&rt, alloc, "", &blank)?;
     assert!(rt; ended == Status::TooLong);
     assert!(rt; sink.bytes().is_empty());
 
@@ -122,7 +350,7 @@ fn keeps_the_limits(rt: HostRuntime) -> Result<(), AllocError> {
         many.extend_from_slice(b"value 0\n")?;
     }
     many.extend_from_slice(b" \t\r\n# a\n")?;
-    let (ended, sink) = session(alloc, &many, 1000)?;
+    let (ended, sink) = session(&rt, alloc, "--cells 4096", &many)?;
     assert!(rt; ended == Status::Done);
     // Four bytes a line beside its number, which has one digit 9 times, two 90 times, three 900 times, else four.
     assert_eq!(rt;
@@ -131,13 +359,23 @@ fn keeps_the_limits(rt: HostRuntime) -> Result<(), AllocError> {
     );
     assert!(rt; sink.bytes().ends_with(b"\n4095: 0\n4096: 0\n"));
     many.extend_from_slice(b"value 0")?;
-    let (ended, sink) = session(alloc, &many, 1000)?;
+    let (ended, sink) = session(&rt, alloc, "", &many)?;
     assert!(rt; ended == Status::TooLong);
     assert!(rt; sink.bytes().is_empty());
 
     let long = vec![in alloc; b'1'; LIMIT]?;
-    let (ended, sink) = session(alloc, &long, 1000)?;
+    let (ended, sink) = session(&rt, alloc, "--cells 1", &long)?;
     assert!(rt; ended == Status::Refused);
     assert!(rt; sink.bytes() == b"1: ! syntax 1\n".as_slice());
+    Ok(())
+}
+
+/// With the default settings no line of the largest sample is refused.
+#[test]
+fn answer_the_largest_sample(rt: HostRuntime) -> Result<(), AllocError> {
+    let alloc = rt.alloc();
+    let (ended, sink) = session(&rt, alloc, "--sample 4096", b"")?;
+    assert!(rt; ended == Status::Done);
+    assert!(rt; sink.bytes().starts_with(b"lines 4096 refused 0 bytes "));
     Ok(())
 }

@@ -1,5 +1,8 @@
 pub mod Cuts
+pub mod Endings
 pub mod Fronts
-pub mod Shares
+pub mod Knowing
 pub mod Outputs
 pub mod Reading
+pub mod Shares
+pub mod Writings

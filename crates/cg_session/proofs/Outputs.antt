@@ -1,89 +1,97 @@
--- The output of the lines so far, with that of the lines that are left, is the output of all; and an input has one output.
-use Rattle.std.specs.Prelude.{count_by}
-use Rattle.std.proofs.Common.{◌≡◌, ℕ, ◌+◌, arith, Bool, cond, true, false, List, [], ◌∷◌, refl, ap, sym, subst, ◌∙◌, append_assoc, append-nil}
-use Rattle.std.proofs.Math.Bool.{or_assoc, or-false}
-use Rattle.cg_session.specs.Lines.{is_answered}
+-- The output of the lines so far, with that of the lines that are left, is the output of all; and lines have one output.
+use Rattle.std.proofs.Common.{◌≡◌, ℕ, zero, suc, ◌+◌, arith, Bool, cond, true, false, List, [], ◌∷◌, ◌++◌, drop, Some, refl, ap, sym, subst, ◌∙◌, append_assoc, append-nil}
+use Rattle.std.specs.Prelude.{◌≤◌, slice_get}
+use Rattle.cg_cells.proofs.Levels.{same_Some}
 use Rattle.cg_eval.specs.Reply.{Piece, IsReply}
-use Rattle.cg_session.specs.Settings.{positions}
-use Rattle.cg_session.specs.declared.output.Output.{Output}
-use Rattle.cg_session.specs.Output.{joined, no_text, numbered, IsOutputOf, IsLineOutput, IsOutputFrom}
-use Rattle.cg_session.specs.Outputs.{piece_of, AppendsLine}
-use Rattle.cg_session.proofs.Shares.{count_first}
+use Rattle.cg_eval.specs.Shown.{shown}
+use Rattle.cg_eval.specs.declared.answered.Answered.{Answered}
+use Rattle.cg_session.specs.Lines.{is_answered, answered_from}
+use Rattle.cg_session.specs.Good.{AreAnswered}
+use Rattle.cg_session.specs.Output.{Output, joined, nothing, numbered, IsOutputOf}
+use Rattle.cg_session.specs.Outputs.{AreReplies}
 
 -- ---- joined
 
-joined_assoc : (a b c : Piece) → joined (joined a b) c ≡ joined a (joined b c)
-joined_assoc a b c = rw (append_assoc a.text b.text c.text, or_assoc a.refused b.refused c.refused) refl
+joined_assoc : (a b c : Output) → joined (joined a b) c ≡ joined a (joined b c)
+joined_assoc a b c =
+    let sums : a.refused + b.refused + c.refused ≡ a.refused + (b.refused + c.refused) = omega arith in
+    rw (append_assoc a.text b.text c.text, sums) refl
 
-joined-no_text : (p : Piece) → joined p no_text ≡ p
-joined-no_text p = rw (append-nil p.text, or-false p.refused) refl
+joined-nothing : (p : Output) → joined p nothing ≡ p
+joined-nothing p = let sum : p.refused + 0 ≡ p.refused = omega arith in rw (append-nil p.text, sum) refl
 
--- ---- the output of one line
-
-abbrev pub piece : List ℕ → Bool → Piece
-piece text refused = record { text = text; refused = refused }
-
-pub AppendsLine-none : (share n : ℕ) (line : List ℕ) (out : Output) → is_answered line ≡ false → AppendsLine share n line out out
-AppendsLine-none share n line out silent = (no_text, rw silent refl, sym (joined-no_text (piece_of out)))
-
-pub IsLineOutput-numbered : (share n : ℕ) (line : List ℕ) (reply : Piece) → is_answered line ≡ true
-    → IsReply share positions line reply → IsLineOutput share n line (numbered n reply)
-IsLineOutput-numbered share n line reply answered is = rw answered (reply, is, refl)
+-- one more line was refused, or none
+pub counted : (old new : Output) (n i : ℕ) (reply : Piece) → new ≡ joined old (numbered n reply) → old.refused ≤ i
+    → new.refused ≤ i + 1
+counted old new n i reply same few = rw (ap (λ (o : Output). o.refused) same) (by_refused reply.refused)
+  where
+    by_refused : (b : Bool) → old.refused + cond b 1 0 ≤ i + 1
+    by_refused true = omega (arith, few)
+    by_refused false = omega (arith, few)
 
 -- ---- the output of all lines
 
--- what was written, with any output of what is left, is the output of all
-abbrev pub Completes : ℕ → ℕ → List (List ℕ) → Piece → List (List ℕ) → Type 0
-Completes share n left done all = (tail : Piece) → IsOutputFrom share n left tail → IsOutputFrom share 1 all (joined done tail)
+-- what was written, with any output of the lines that are left, is the output of all
+abbrev pub Completes : ℕ → ℕ → List (ℕ × List ℕ) → Output → List (ℕ × List ℕ) → Type 0
+Completes share positions left done all =
+    (tail : Output) → IsOutputOf share positions left tail → IsOutputOf share positions all (joined done tail)
 
-pub Completes-none : (share : ℕ) (done : Piece) (all : List (List ℕ)) → done ≡ no_text → Completes share 1 all done all
-Completes-none share done all none tail is_tail = subst (λ (p : Piece). IsOutputFrom share 1 all (joined p tail)) (sym none) is_tail
+drop_at : {A : Type 0} (xs : List A) (i : ℕ) (x : A) → slice_get xs i ≡ Some x → drop i xs ≡ x ∷ drop (i + 1) xs
+drop_at {A} [] i x at = absurd cc
+drop_at {A} (y ∷ ys) zero x at = ap (λ z. z ∷ ys) (same_Some at)
+drop_at {A} (y ∷ ys) (suc i) x at =
+    let next : suc i + 1 ≡ suc (i + 1) = omega arith in
+    let cut : drop (suc i + 1) (y ∷ ys) ≡ drop (i + 1) ys = ap (λ (k : ℕ). drop k (y ∷ ys)) next in
+    drop_at ys i x at ∙ ap (λ (l : List A). x ∷ l) (sym cut)
 
-pub Completes-line : (share n : ℕ) (line : List ℕ) (lines : List (List ℕ)) (old new : Output) (all : List (List ℕ))
-    → AppendsLine share n line old new → Completes share n (line ∷ lines) (piece_of old) all
-    → Completes share (n + 1) lines (piece_of new) all
-unfolding IsOutputFrom
-Completes-line share n line lines old new all (piece, is, same) completes tail is_tail =
-    let moved : joined (piece_of new) tail ≡ joined (piece_of old) (joined piece tail) =
-    ap (λ (p : Piece). joined p tail) same ∙ joined_assoc (piece_of old) piece tail in
-    subst (λ (p : Piece). IsOutputFrom share 1 all p) (sym moved)
-    (completes (joined piece tail) (piece, tail, is, is_tail, refl))
+pub Completes-line : (share positions : ℕ) (lines : List (ℕ × List ℕ)) (answers : List Answered) (i : ℕ) (line : ℕ × List ℕ)
+    (answer : Answered) (old new : Output) → slice_get lines i ≡ Some line → slice_get answers i ≡ Some answer
+    → new ≡ joined old (numbered line.0 (shown answer)) → AreReplies share positions lines answers
+    → Completes share positions (drop i lines) old lines → Completes share positions (drop (i + 1) lines) new lines
+unfolding IsOutputOf
+Completes-line share positions lines answers i line answer old new at has same replies completes tail is_tail =
+    let own = numbered line.0 (shown answer) in
+    let moved : joined new tail ≡ joined old (joined own tail) =
+    ap (λ (p : Output). joined p tail) same ∙ joined_assoc old own tail in
+    let first : IsOutputOf share positions (line ∷ drop (i + 1) lines) (joined own tail) =
+    (shown answer, tail, replies i line answer at has, is_tail, refl) in
+    subst (λ (p : Output). IsOutputOf share positions lines p) (sym moved)
+    (completes (joined own tail)
+    (subst (λ ls. IsOutputOf share positions ls (joined own tail)) (sym (drop_at lines i line at)) first))
 
-pub Completes-all : (share n : ℕ) (done : Piece) (all : List (List ℕ)) → Completes share n [] done all → IsOutputFrom share 1 all done
-unfolding IsOutputFrom
-Completes-all share n done all completes =
-    subst (λ (p : Piece). IsOutputFrom share 1 all p) (joined-no_text done) (completes no_text refl)
+pub Completes-all : (share positions : ℕ) (done : Output) (all : List (ℕ × List ℕ)) → Completes share positions [] done all
+    → IsOutputOf share positions all done
+unfolding IsOutputOf
+Completes-all share positions done all completes =
+    subst (λ (p : Output). IsOutputOf share positions all p) (joined-nothing done) (completes nothing refl)
+
+-- ---- answered lines
+
+answered_first : (n : ℕ) (line : List ℕ) (rest : List (ℕ × List ℕ)) (b : Bool) → is_answered line ≡ b → AreAnswered rest
+    → AreAnswered (cond b ((n, line) ∷ []) [] ++ rest)
+answered_first n line rest true e answered zero l at =
+    subst (λ (m : ℕ × List ℕ). is_answered m.1 ≡ true) (same_Some at) e
+answered_first n line rest true e answered (suc k) l at = answered k l at
+answered_first n line rest false e answered k l at = answered k l at
+
+pub are_answered : (n : ℕ) (lines : List (List ℕ)) → AreAnswered (answered_from n lines)
+are_answered n [] = λ k l at. absurd cc
+are_answered n (line ∷ lines) =
+    answered_first n line (answered_from (n + 1) lines) (is_answered line) refl (are_answered (n + 1) lines)
 
 -- ---- one output
 
 -- no line that gets an answer has two replies on one share
-abbrev pub HasOneReply : ℕ → Type 0
-HasOneReply share = (line : List ℕ) (r s : Piece) → is_answered line ≡ true → IsReply share positions line r
+abbrev pub HasOneReply : ℕ → ℕ → Type 0
+HasOneReply share positions = (line : List ℕ) (r s : Piece) → is_answered line ≡ true → IsReply share positions line r
     → IsReply share positions line s → r ≡ s
 
-IsOutputOf-unique : (share : ℕ) → HasOneReply share → (answered : Bool) (n : ℕ) (line : List ℕ) (p q : Piece)
-    → is_answered line ≡ answered → IsOutputOf share answered n line p → IsOutputOf share answered n line q → p ≡ q
-IsOutputOf-unique share one false n line p q h a b = a ∙ sym b
-IsOutputOf-unique share one true n line p q h (r, is_r, a) (s, is_s, b) =
-    a ∙ ap (numbered n) (one line r s h is_r is_s) ∙ sym b
-
-pub IsOutputFrom-unique : (share : ℕ) → HasOneReply share → (n : ℕ) (lines : List (List ℕ)) (p q : Piece)
-    → IsOutputFrom share n lines p → IsOutputFrom share n lines q → p ≡ q
-unfolding IsOutputFrom
-IsOutputFrom-unique share one n [] p q a b = a ∙ sym b
-IsOutputFrom-unique share one n (line ∷ lines) p q (first, rest, is_first, is_rest, a) (first', rest', is_first', is_rest', b) =
-    let same_first : first ≡ first' = IsOutputOf-unique share one (is_answered line) n line first first' refl is_first is_first' in
-    let same_rest : rest ≡ rest' = IsOutputFrom-unique share one (n + 1) lines rest rest' is_rest is_rest' in
-    a ∙ ap (λ (x : Piece). joined x rest) same_first ∙ ap (joined first') same_rest ∙ sym b
-
--- lines of which none gets an answer have no output
-pub silent : (share n : ℕ) (lines : List (List ℕ)) → count_by is_answered lines ≡ 0 → IsOutputFrom share n lines no_text
-unfolding IsOutputFrom
-silent share n [] none = refl
-silent share n (line ∷ lines) none =
-    by_first (is_answered line) refl (sym (count_first line lines) ∙ none) (silent share (n + 1) lines)
-  where
-    by_first : (b : Bool) → is_answered line ≡ b → cond b 1 0 + count_by is_answered lines ≡ 0
-        → (count_by is_answered lines ≡ 0 → IsOutputFrom share (n + 1) lines no_text) → IsOutputFrom share n (line ∷ lines) no_text
-    by_first true e h rest = absurd (omega arith)
-    by_first false e h rest = (no_text, no_text, rw e refl, rest (omega arith), refl)
+pub IsOutputOf-unique : (share positions : ℕ) → HasOneReply share positions → (lines : List (ℕ × List ℕ)) → AreAnswered lines
+    → (p q : Output) → IsOutputOf share positions lines p → IsOutputOf share positions lines q → p ≡ q
+unfolding IsOutputOf
+IsOutputOf-unique share positions one [] answered p q a b = a ∙ sym b
+IsOutputOf-unique share positions one (line ∷ lines) answered p q (r, rest, is_r, is_rest, a) (s, rest', is_s, is_rest', b) =
+    let same_reply : r ≡ s = one line.1 r s (answered zero line refl) is_r is_s in
+    let same_rest : rest ≡ rest' =
+    IsOutputOf-unique share positions one lines (λ k l at. answered (suc k) l at) rest rest' is_rest is_rest' in
+    a ∙ ap (λ (x : Piece). joined (numbered line.0 x) rest) same_reply ∙ ap (joined (numbered line.0 s)) same_rest ∙ sym b

@@ -1,69 +1,83 @@
 -- How a session ends.
-use Rattle.std.specs.Prelude.{ℕ, Bool, true, false, ◌≡◌, ◌⊎◌, List, [], Option, Some, IfSome, String}
+use Rattle.std.specs.Prelude.{ℕ, ◌≡◌, ◌<◌, ◌⊎◌, List, [], Option, Some, IfSome}
 use Rattle.std.specs.Io.KnownBytes.{Keeps, Appends}
+use Rattle.cg_words.specs.declared.settings.Settings.{Settings}
+use Rattle.cg_words.specs.Accepted.{IsAccepted, settings_of}
 use Rattle.cg_session.specs.declared.status.Status.{Status}
 use Rattle.cg_session.specs.declared.status.Status.TheVariants as status
-use Rattle.cg_eval.specs.Reply.{Piece}
-use Rattle.cg_session.specs.Output.{IsOutput}
-use Rattle.cg_session.specs.Input.{IsWithinLimits, ReadsOut}
-use Rattle.cg_session.specs.Words.{AreAccepted, usage_line}
+use Rattle.cg_session.specs.Lines.{answered_lines}
+use Rattle.cg_session.specs.Output.{Output, IsWritten}
+use Rattle.cg_session.specs.Input.{ReadsOut}
+use Rattle.cg_session.specs.Settings.{session_text, IsWithinLimits}
+use Rattle.cg_session.specs.Words.{usage_line}
 use Rattle.cg_session.specs.Written.{AppendsFront}
 
--- The input is within the limits and was read to its end, and its whole output was appended, which has a refused line
--- or has none.
-pub record WritesWhole (refused : Bool) (input : List ℕ) (left before now : Option (List ℕ)) : Type 0 where
-  pub within : IsWithinLimits input
-  pub read : left ≡ Some []
-  pub out : List ℕ
-  pub output : IsOutput input (record { text = out; refused = refused })
-  pub appended : Appends before now out
+-- The session is within the limits, its input was read to its end where there is no sample, and the whole of what it writes
+-- was appended. So many of its lines are refused.
+pub record WritesWhole (refused : ℕ) (s : Settings) (text : List ℕ) (left before now : Option (List ℕ)) : Type 0 where
+  pub within : IsWithinLimits s text
+  pub read : s.sample ≡ 0 → left ≡ Some []
+  pub written : List ℕ
+  pub is_written : IsWritten s (answered_lines text) (record { text = written; refused = refused })
+  pub appended : Appends before now written
 
--- The input is within the limits and was read to its end, and a front of its output was appended.
-pub record WritesFront (input : List ℕ) (left before now : Option (List ℕ)) : Type 0 where
-  pub within : IsWithinLimits input
-  pub read : left ≡ Some []
-  pub whole : Piece
-  pub output : IsOutput input whole
+-- The session is within the limits, its input was read to its end where there is no sample, and a front of what it writes
+-- was appended.
+pub record WritesFront (s : Settings) (text : List ℕ) (left before now : Option (List ℕ)) : Type 0 where
+  pub within : IsWithinLimits s text
+  pub read : s.sample ≡ 0 → left ≡ Some []
+  pub whole : Output
+  pub is_written : IsWritten s (answered_lines text) whole
   pub appended : AppendsFront whole.text before now
 
--- The input is past a limit and was read as far as it may be, and nothing was appended.
-pub record StopsPastLimits (input left before now : Option (List ℕ)) : Type 0 where
-  pub past : IfSome input (λ bytes. ¬ IsWithinLimits bytes)
-  pub read : ReadsOut input left
+-- The session is past a limit, its input was read as far as it may be where there is no sample, and nothing was appended.
+pub record StopsPastLimits (s : Settings) (input left before now : Option (List ℕ)) : Type 0 where
+  pub past : IfSome (session_text s input) (λ text. ¬ IsWithinLimits s text)
+  pub read : s.sample ≡ 0 → ReadsOut input left
   pub kept : Keeps before now
 
--- What was read and written at each status. The source had `input` and has `left`; the sink had taken `before` and has
--- taken `now`.
-abbrev pub Writes : {A : Type 0} → Status → List (String A) → Option (List ℕ) → Option (List ℕ) → Option (List ℕ)
-    → Option (List ℕ) → Type 0
-Writes status.Done words input left before now =
-    AreAccepted words × IfSome input (λ bytes. WritesWhole false bytes left before now)
-Writes status.Refused words input left before now =
-    AreAccepted words × IfSome input (λ bytes. WritesWhole true bytes left before now)
-Writes status.Usage words input left before now = (¬ AreAccepted words) × Appends before now usage_line
-Writes status.Read words input left before now = AreAccepted words × Keeps before now
-Writes status.Write words input left before now =
-    (AreAccepted words × IfSome input (λ bytes. WritesFront bytes left before now))
-    ⊎ ((¬ AreAccepted words) × AppendsFront usage_line before now)
-Writes status.Memory words input left before now = AreAccepted words × Keeps before now
-Writes status.TooLong words input left before now = AreAccepted words × StopsPastLimits input left before now
+-- What was read and written at each end of a session with these settings. The source had `input` and has `left`; the sink
+-- had taken `before` and has taken `now`.
+abbrev pub WritesSession : Status → Settings → Option (List ℕ) → Option (List ℕ) → Option (List ℕ) → Option (List ℕ) → Type 0
+WritesSession status.Done s input left before now =
+    IfSome (session_text s input) (λ text. WritesWhole 0 s text left before now)
+WritesSession status.Refused s input left before now =
+    IfSome (session_text s input) (λ text. (n : ℕ) × (0 < n) × WritesWhole n s text left before now)
+WritesSession status.Usage s input left before now = ⊥
+WritesSession status.Read s input left before now = (s.sample ≡ 0) × Keeps before now
+WritesSession status.Write s input left before now =
+    IfSome (session_text s input) (λ text. WritesFront s text left before now)
+WritesSession status.Memory s input left before now = Keeps before now
+WritesSession status.TooLong s input left before now = StopsPastLimits s input left before now
 
--- how a session may end where neither count of faults rose and the input is within the limits
+-- what was written at each end where the words aren't accepted
+abbrev pub WritesUsage : Status → Option (List ℕ) → Option (List ℕ) → Type 0
+WritesUsage status.Done before now = ⊥
+WritesUsage status.Refused before now = ⊥
+WritesUsage status.Usage before now = Appends before now usage_line
+WritesUsage status.Read before now = ⊥
+WritesUsage status.Write before now = AppendsFront usage_line before now
+WritesUsage status.Memory before now = Keeps before now
+WritesUsage status.TooLong before now = ⊥
+
+-- What was read and written at each end, by the bytes of the words.
+abbrev pub Writes : Status → List (List ℕ) → Option (List ℕ) → Option (List ℕ) → Option (List ℕ) → Option (List ℕ) → Type 0
+Writes end words input left before now =
+    (IsAccepted words × WritesSession end (settings_of words) input left before now)
+    ⊎ ((¬ IsAccepted words) × WritesUsage end before now)
+
+-- the ends at which the whole of what a session writes was written
+abbrev pub IsWhole : Status → Type 0
+IsWhole end = (end ≡ status.Done) ⊎ (end ≡ status.Refused)
+
+-- how a session may end where neither count of faults rose and the session is within the limits
 abbrev pub AnswersOrLacksMemory : Status → Type 0
-AnswersOrLacksMemory status.Done = Unit {0}
-AnswersOrLacksMemory status.Refused = Unit {0}
-AnswersOrLacksMemory status.Memory = Unit {0}
-AnswersOrLacksMemory status.Usage = ⊥
-AnswersOrLacksMemory status.Read = ⊥
-AnswersOrLacksMemory status.Write = ⊥
-AnswersOrLacksMemory status.TooLong = ⊥
+AnswersOrLacksMemory end = IsWhole end ⊎ (end ≡ status.Memory)
 
--- how a session may end where the input is past a limit
+-- how a session may end where it is past a limit
 abbrev pub EndsBeforeAnswers : Status → Type 0
-EndsBeforeAnswers status.TooLong = Unit {0}
-EndsBeforeAnswers status.Read = Unit {0}
-EndsBeforeAnswers status.Memory = Unit {0}
-EndsBeforeAnswers status.Usage = ⊥
-EndsBeforeAnswers status.Done = ⊥
-EndsBeforeAnswers status.Refused = ⊥
-EndsBeforeAnswers status.Write = ⊥
+EndsBeforeAnswers end = (end ≡ status.TooLong) ⊎ ((end ≡ status.Read) ⊎ (end ≡ status.Memory))
+
+-- how it may end where the words aren't accepted and the sink's count of faults didn't rise
+abbrev pub UsageOrLacksMemory : Status → Type 0
+UsageOrLacksMemory end = (end ≡ status.Usage) ⊎ (end ≡ status.Memory)

@@ -1,5 +1,5 @@
 -- The lines of a text.
-use Rattle.std.specs.Prelude.{ℕ, Bool, false, cond, not, ◌==◌, List, [], ◌∷◌, count_by}
+use Rattle.std.specs.Prelude.{ℕ, ◌+◌, Bool, false, cond, not, ◌==◌, List, [], ◌∷◌, ◌++◌}
 use Rattle.cg_reading.specs.Readers.{skipped}
 use Rattle.cg_reading.specs.Tokens.{blank}
 
@@ -23,6 +23,15 @@ answered_behind (b ∷ bytes) = not (b == 35)
 abbrev pub is_answered : List ℕ → Bool
 is_answered line = answered_behind (skipped blank line)
 
--- how many lines of the input get an answer
-abbrev pub answered_count : List ℕ → ℕ
-answered_count input = count_by is_answered (lines_of input)
+-- the line with the number n, if it gets an answer
+abbrev pub answered_at : ℕ → List ℕ → List (ℕ × List ℕ)
+answered_at n line = cond (is_answered line) ((n, line) ∷ []) []
+
+-- those of these lines that get an answer, each with its number; the first line has the number n
+abbrev pub answered_from : ℕ → List (List ℕ) → List (ℕ × List ℕ)
+answered_from n [] = []
+answered_from n (line ∷ lines) = answered_at n line ++ answered_from (n + 1) lines
+
+-- the answered lines of a text, each with its number; all lines are counted, from 1
+abbrev pub answered_lines : List ℕ → List (ℕ × List ℕ)
+answered_lines text = answered_from 1 (lines_of text)

@@ -1,38 +1,54 @@
--- The output of an input.
-use Rattle.std.specs.Prelude.{ℕ, ◌+◌, Bool, true, false, ◌||◌, ◌≡◌, List, [], ◌∷◌, ◌++◌, decimal, codes}
+-- What a session writes.
+use Rattle.std.specs.Prelude.{ℕ, zero, suc, ◌+◌, cond, ◌≡◌, List, [], ◌∷◌, ◌++◌, length, decimal, codes}
+use Rattle.cg_words.specs.declared.settings.Settings.{Settings}
 use Rattle.cg_eval.specs.Reply.{Piece, IsReply}
-use Rattle.cg_session.specs.Lines.{answered_count, lines_of, is_answered}
-use Rattle.cg_session.specs.Settings.{positions, share_of}
+use Rattle.cg_session.specs.Settings.{share_of}
 
--- One after the other. A line is refused in both where one is refused in either.
-abbrev pub joined : Piece → Piece → Piece
-joined a b = record { text = a.text ++ b.text; refused = a.refused || b.refused }
+-- a text to be written, and how many lines were refused
+pub record Output : Type 0 where
+  pub text : List ℕ
+  pub refused : ℕ
 
-abbrev pub no_text : Piece
-no_text = record { text = []; refused = false }
+abbrev pub nothing : Output
+nothing = record { text = []; refused = 0 }
+
+-- one after the other
+abbrev pub joined : Output → Output → Output
+joined a b = record { text = a.text ++ b.text; refused = a.refused + b.refused }
 
 -- the line of a reply: its number in decimal, a colon, a space, the reply, LF
-abbrev pub numbered : ℕ → Piece → Piece
-numbered n reply = record { text = decimal n ++ codes ": " ++ reply.text ++ (10 ∷ []); refused = reply.refused }
+abbrev pub numbered : ℕ → Piece → Output
+numbered n reply = record { text = decimal n ++ codes ": " ++ reply.text ++ (10 ∷ []); refused = cond reply.refused 1 0 }
 
--- where each answered line has this share of the cells
-module _ (share : ℕ) where
-  -- the line of a reply to a line that gets an answer, and else nothing
-  abbrev pub IsOutputOf : Bool → ℕ → List ℕ → Piece → Type 0
-  IsOutputOf true n line out = (reply : Piece) × IsReply share positions line reply × (out ≡ numbered n reply)
-  IsOutputOf false n line out = out ≡ no_text
+-- where each answered line has this share of the cells, and one list of items at most so many positions
+module _ (share positions : ℕ) where
+  -- the output of these answered lines, each with its number: the lines of their replies
+  unfoldable pub IsOutputOf : List (ℕ × List ℕ) → Output → Type 0
+  IsOutputOf [] out = out ≡ nothing
+  IsOutputOf (line ∷ lines) out =
+      (reply : Piece) × (rest : Output) × IsReply share positions line.1 reply × IsOutputOf lines rest
+      × (out ≡ joined (numbered line.0 reply) rest)
 
-  -- the output of the line with the number n
-  abbrev pub IsLineOutput : ℕ → List ℕ → Piece → Type 0
-  IsLineOutput n line out = IsOutputOf (is_answered line) n line out
+-- the output of a session with these answered lines, each on its share of the cells
+abbrev pub IsOutput : Settings → List (ℕ × List ℕ) → Output → Type 0
+IsOutput s lines out = IsOutputOf (share_of s.cells (length lines)) s.positions lines out
 
-  -- The output of these lines, the first of which has the number n. Blank lines and comments count.
-  unfoldable pub IsOutputFrom : ℕ → List (List ℕ) → Piece → Type 0
-  IsOutputFrom n [] out = out ≡ no_text
-  IsOutputFrom n (line ∷ lines) out =
-      (first : Piece) × (rest : Piece) × IsLineOutput n line first × IsOutputFrom (n + 1) lines rest
-      × (out ≡ joined first rest)
+-- the line that tells of an output of a sample how many lines the sample has, how many of them are refused, and how many
+-- bytes the output has
+abbrev pub summary : ℕ → Output → Output
+summary lines out = record {
+  text = codes "lines " ++ decimal lines ++ codes " refused " ++ decimal out.refused ++ codes " bytes "
+      ++ decimal (length out.text) ++ (10 ∷ []);
+  refused = out.refused;
+}
 
--- the output of the input's lines, counted from 1, each on its share of the cells
-abbrev pub IsOutput : List ℕ → Piece → Type 0
-IsOutput input out = IsOutputFrom (share_of (answered_count input)) 1 (lines_of input) out
+-- what is written of an output: the output, and where there is a sample of so many lines its summary alone
+abbrev pub written_of : ℕ → Output → Output
+written_of zero out = out
+written_of (suc n) out = summary (suc n) out
+
+-- what a session with these answered lines writes
+pub record IsWritten (s : Settings) (lines : List (ℕ × List ℕ)) (written : Output) : Type 0 where
+  pub output : Output
+  pub is_output : IsOutput s lines output
+  pub same : written ≡ written_of s.sample output

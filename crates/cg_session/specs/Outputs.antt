@@ -1,12 +1,21 @@
--- The output that the code builds, without where it lies in memory.
-use Rattle.std.specs.Prelude.{ℕ, ◌≡◌, List}
-use Rattle.cg_session.specs.declared.output.Output.{Output}
-use Rattle.cg_eval.specs.Reply.{Piece}
-use Rattle.cg_session.specs.Output.{joined, IsLineOutput}
+-- What the code builds, without where it lies in memory.
+use Rattle.std.specs.Prelude.{ℕ, ◌≡◌, List, Some, slice_get}
+use Rattle.cg_eval.specs.Reply.{IsReply}
+use Rattle.cg_eval.specs.Shown.{shown}
+use Rattle.cg_eval.specs.declared.answered.Answered.{Answered}
+use Rattle.cg_session.specs.declared.lines.Line.{Line}
+use Rattle.cg_session.specs.declared.output.Output as code
+use Rattle.cg_session.specs.Output.{Output}
 
-abbrev pub piece_of : Output → Piece
-piece_of out = record { text = out.text.items; refused = out.refused }
+-- the line's number and its bytes
+abbrev pub seen : Line → ℕ × List ℕ
+seen line = (line.number, line.bytes.now)
 
--- the output of the line was put at the end
-abbrev pub AppendsLine : ℕ → ℕ → List ℕ → Output → Output → Type 0
-AppendsLine share n line old new = (piece : Piece) × IsLineOutput share n line piece × (piece_of new ≡ joined (piece_of old) piece)
+abbrev pub output_of : code.Output → Output
+output_of out = record { text = out.text.items; refused = out.refused }
+
+-- each of these answers is the reply to the line in its place
+abbrev pub AreReplies : ℕ → ℕ → List (ℕ × List ℕ) → List Answered → Type 0
+AreReplies share positions lines answers =
+    (n : ℕ) (line : ℕ × List ℕ) (answer : Answered) → slice_get lines n ≡ Some line → slice_get answers n ≡ Some answer
+    → IsReply share positions line.1 (shown answer)

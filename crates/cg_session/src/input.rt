@@ -1,21 +1,25 @@
-//! Reading a whole input.
-ghost use Rattle.std.specs.Prelude.{◌≡◌, ◌+◌, ◌^◌, ◌≤◌, length, IfOk, OnOk, IsErrOf};
+//! The text of a session: the sample, or the whole input.
+ghost use Rattle.std.specs.Prelude.{◌≡◌, ◌+◌, ◌<◌, ◌^◌, ◌≤◌, length, IfOk, IfSome, OnOk, IsErrOf};
 ghost use Rattle.std.specs.Io.KnownBytes.{Consumes, IsAtEnd};
 ghost use Rattle.cg_io.specs.Faults.{Rose};
-ghost use Rattle.cg_session.specs.Input.{IsWithinBytes, Takes, TakesAtMost};
+ghost use Rattle.cg_session.specs.Input.{ReadsAll, Takes, TakesAtMost};
+ghost use Rattle.cg_session.specs.Settings.{IsWithinBytes, session_text};
+ghost use Rattle.cg_words.specs.Accepted.{InRange};
 
 use cg_io::{Failed, Source};
-use std::alloc::Global;
+use cg_sample::sample;
+use cg_words::Settings;
+use std::alloc::{AllocError, Global};
 
-/// The most bytes that an input may have.
-const MOST_BYTES: usize = 1_048_576;
+/// The most bytes that a session may have.
+pub const MOST_BYTES: usize = 1_048_576;
 
 /// How many bytes are asked for at once.
 const BUFFER_BYTES: usize = 4096;
 
-/// Why an input was not read.
+/// Why there is no text of a session.
 #[derive(Clone, Copy, Debug, PartialEq, Eq)]
-pub enum InputFault {
+pub enum TextFault {
     /// The source failed.
     Read,
     /// Memory was wanting.
@@ -24,14 +28,44 @@ pub enum InputFault {
     TooLong,
 }
 
+/// The text of a session: the sample where one is asked for, and else the bytes of the source to its end. With a sample the
+/// source is left as it was.
+pub fn session_text<S: Source>(
+    alloc: Global,
+    settings: Settings,
+    source: &mut S,
+) -> Result<Vec<u8>, TextFault>
+    requires { InRange settings }
+    ensures text { IfOk result (λ text. IfSome (session_text settings (S.left source.old)) (λ all. text.items ≡ all)) }
+    ensures end { settings.sample ≡ 0 → OnOk result (IsAtEnd (S.left source.new)) }
+    ensures all { settings.sample ≡ 0 → OnOk result (ReadsAll (S.left source.old) (S.left source.new)) }
+    ensures sample { 0 < settings.sample → source.new ≡ source.old }
+
+    ensures failed { IsErrOf result TextFault.Read
+        → (settings.sample ≡ 0) × Rose (S.faults source.old) (S.faults source.new) }
+    ensures too_long { IsErrOf result TextFault.TooLong
+        → (settings.sample ≡ 0) × Takes (2 ^ 20 + 1) (S.left source.old) (S.left source.new) }
+
+    ensures taken { TakesAtMost (2 ^ 20 + 1) (S.left source.old) (S.left source.new) }
+    ensures never_falls { S.faults source.old ≤ S.faults source.new }
+{
+    if settings.sample == 0 {
+        return read_input(alloc, source);
+    }
+    match sample(alloc, settings.sample) {
+        Ok(text) => Ok(text.into_bytes()),
+        Err(AllocError) => Err(TextFault::Memory),
+    }
+}
+
 /// The bytes of the source to its end. Of an input that is too long, one byte more than the limit is taken.
-pub fn read_input<S: Source>(alloc: Global, source: &mut S) -> Result<Vec<u8>, InputFault>
+pub fn read_input<S: Source>(alloc: Global, source: &mut S) -> Result<Vec<u8>, TextFault>
     ensures whole { IfOk result (λ input. Consumes (S.left source.old) (S.left source.new) input.items) }
     ensures end { OnOk result (IsAtEnd (S.left source.new)) }
     ensures within { IfOk result (λ input. IsWithinBytes input.items) }
 
-    ensures failed { IsErrOf result InputFault.Read → Rose (S.faults source.old) (S.faults source.new) }
-    ensures too_long { IsErrOf result InputFault.TooLong → Takes (2 ^ 20 + 1) (S.left source.old) (S.left source.new) }
+    ensures failed { IsErrOf result TextFault.Read → Rose (S.faults source.old) (S.faults source.new) }
+    ensures too_long { IsErrOf result TextFault.TooLong → Takes (2 ^ 20 + 1) (S.left source.old) (S.left source.new) }
 
     ensures taken { TakesAtMost (2 ^ 20 + 1) (S.left source.old) (S.left source.new) }
     ensures never_falls { S.faults source.old ≤ S.faults source.new }
@@ -43,11 +77,11 @@ pub fn read_input<S: Source>(alloc: Global, source: &mut S) -> Result<Vec<u8>, I
         let count = match source.read(&mut buffer[..room]) {
             Ok(0) => return Ok(input),
             Ok(count) => count,
-            Err(Failed) => return Err(InputFault::Read),
+            Err(Failed) => return Err(TextFault::Read),
         };
         if input.extend_from_slice(&buffer[..count]).is_err() {
-            return Err(InputFault::Memory);
+            return Err(TextFault::Memory);
         }
     }
-    Err(InputFault::TooLong)
+    Err(TextFault::TooLong)
 }

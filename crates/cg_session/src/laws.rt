@@ -1,15 +1,19 @@
 //! Laws of the definitions that the contract of `run` cites: each function does nothing, and its contract is the law.
-ghost use Rattle.std.specs.Prelude.{◌≡◌, ℕ, true, List, Some};
+ghost use Rattle.std.specs.Prelude.{◌≡◌, ℕ, List, Some};
 ghost use Rattle.std.specs.Io.KnownBytes.{Appends};
-ghost use Rattle.cg_eval.specs.Reply.{Piece};
-ghost use Rattle.cg_session.specs.Output.{IsOutput};
+ghost use Rattle.cg_words.specs.declared.settings.Settings.{Settings};
+ghost use Rattle.cg_session.specs.Lines.{answered_lines};
+ghost use Rattle.cg_session.specs.Output.{Output, IsWritten};
 ghost use Rattle.cg_session.specs.Written.{AppendsFront};
 
 use cg_eval::laws::one_reply;
 
-/// An input has one output.
+/// A session writes one text, and has one number of refused lines. Neither depends on the number of workers.
 pub fn one_output()
-    ensures { (input : List ℕ) (p q : Piece) → IsOutput input p → IsOutput input q → p ≡ q }
+    ensures unique { (s : Settings) (text : List ℕ) (p q : Output) → IsWritten s (answered_lines text) p
+        → IsWritten s (answered_lines text) q → p ≡ q }
+    ensures workers { (s : Settings) (workers : ℕ) (text : List ℕ) (p : Output) → IsWritten s (answered_lines text) p
+        → IsWritten (record s { workers = workers }) (answered_lines text) p }
 {
     one_reply();
 }

@@ -1,93 +1,52 @@
-//! The output of a whole input.
-ghost use Rattle.std.specs.Prelude.{◌≡◌, ◌+◌, ◌*◌, ◌≤◌, ◌++◌, ◌∷◌, [], IfOk, OnOk, cond, decimal, codes};
-ghost use Rattle.cg_session.specs.Input.{IsWithinBytes};
-ghost use Rattle.cg_session.specs.Lines.{answered_count, is_answered};
-ghost use Rattle.cg_session.specs.Output.{IsOutput, IsOutputFrom};
-ghost use Rattle.cg_session.specs.Outputs.{piece_of, AppendsLine};
-ghost use Rattle.cg_session.specs.Lines.{lines_of};
-ghost use Rattle.cg_session.specs.Settings.{share_of};
+//! The output of answered lines.
+ghost use Rattle.std.specs.Prelude.{◌≡◌, ◌+◌, ◌≤◌, ◌<◌, ◌^◌, ◌++◌, ◌∷◌, [], ℕ, IfOk, OnOk, cond, decimal, codes, length, map};
+ghost use Rattle.cg_eval.specs.Shown.{shown};
+ghost use Rattle.cg_session.specs.Output.{IsOutputOf, joined, numbered, summary};
+ghost use Rattle.cg_session.specs.Outputs.{AreReplies, output_of, seen};
 
-use crate::lines::{first_line, is_answered};
-use crate::settings::{CELLS, POSITIONS};
-use cg_cells::{CellStore, PlainStore};
-use cg_eval::answer;
-use cg_nodes::{GameFacts, NoBoards};
+use crate::lines::Line;
+use cg_eval::Answered;
 use std::alloc::{AllocError, Global};
 
-/// A text to be written, and whether a line of it is refused.
+/// A text to be written, and how many lines were refused.
 #[derive(Debug, Drop)]
 pub struct Output {
     pub text: Vec<u8>,
-    pub refused: bool,
+    pub refused: u64,
 }
 
-/// The output of the input, of which so many lines get an answer. They are answered on one table of cells, of which each
-/// has an equal share.
-pub fn answer_input(alloc: Global, input: &[u8], answered: usize) -> Result<Output, AllocError>
-    requires within { IsWithinBytes input.now }
-    requires count { answered ≡ answered_count input.now }
-    requires few { answered ≤ 4096 }
-    ensures { IfOk result (λ out. IsOutput input.now (piece_of out)) }
-{
-    if answered == 0 {
-        return Ok(Output {
-            text: Vec::new(alloc),
-            refused: false,
-        });
-    }
-    let lines = answered as u64;
-    let share = CELLS / lines;
-    let Ok(mut store) = PlainStore::new(alloc, lines * share) else {
-        return Err(AllocError);
-    };
-    answer_lines(alloc, &mut store, input, share)
-}
-
-/// The output of all lines of the input, where each line that gets an answer has this share of the store's spare.
-fn answer_lines<S: CellStore<GameFacts<NoBoards>>>(
+/// The output of the lines that have these answers, one each, in order. It fails only for want of memory.
+pub fn make_output(
     alloc: Global,
-    store: &mut S,
-    input: &[u8],
-    share: u64,
+    lines: &[Line<'_>],
+    answers: &[Answered],
 ) -> Result<Output, AllocError>
-    requires within { IsWithinBytes input.now }
-    requires spare { share * answered_count input.now ≤ (S.state store.old).spare }
-    ensures { IfOk result (λ out. IsOutputFrom share 1 (lines_of input.now) (piece_of out)) }
+    requires { length answers.now ≡ length lines.now }
+    ensures { IfOk result (λ out. (share positions : ℕ) → AreReplies share positions (map seen lines.now) answers.now
+        → IsOutputOf share positions (map seen lines.now) (output_of out)) }
 {
     let mut out = Output {
         text: Vec::new(alloc),
-        refused: false,
+        refused: 0,
     };
-    let mut number = 1u64;
-    let mut rest = input;
-    while !rest.is_empty() {
-        let (line, after) = first_line(rest);
-        push_answer(alloc, store, &mut out, number, line, share)?;
-        number += 1;
-        rest = after;
+    for (i, line) in lines.iter().enumerate() {
+        push_reply(alloc, &mut out, line.number, &answers[i])?;
     }
     Ok(out)
 }
 
-/// Puts the output of the line with this number at the end.
-fn push_answer<S: CellStore<GameFacts<NoBoards>>>(
+/// Puts the line of a reply at the end.
+fn push_reply(
     alloc: Global,
-    store: &mut S,
     out: &mut Output,
     number: u64,
-    line: &[u8],
-    share: u64,
+    answer: &Answered,
 ) -> Result<(), AllocError>
-    requires { cond (is_answered line.now) share 0 ≤ (S.state store.old).spare }
-    ensures appends { OnOk result (AppendsLine share number line.now out.old out.new) }
-    ensures spare { (S.state store.old).spare ≤ (S.state store.new).spare + cond (is_answered line.now) share 0 }
+    requires { out.old.refused + 1 < 2 ^ 64 }
+    ensures { OnOk result (output_of out.new ≡ joined (output_of out.old) (numbered number (shown answer.now))) }
 {
-    if !is_answered(line) {
-        return Ok(());
-    }
-    let answer = answer(alloc, store, line, share, POSITIONS)?;
     push_line(alloc, &mut out.text, number, answer.text.as_slice())?;
-    out.refused |= answer.refused;
+    out.refused += u64::from(answer.refused);
     Ok(())
 }
 
@@ -102,4 +61,18 @@ fn push_line(alloc: Global, text: &mut Vec<u8>, number: u64, reply: &[u8]) -> Re
     text.extend_from_slice(reply)?;
     text.push(b'\n')?;
     Ok(())
+}
+
+/// The line that tells of the output of a sample how many lines the sample has, how many of them are refused, and how many
+/// bytes the output has.
+pub fn summary(alloc: Global, lines: u64, out: &Output) -> Result<Output, AllocError>
+    ensures { IfOk result (λ written. output_of written ≡ summary lines (output_of out.now)) }
+{
+    let refused = out.refused;
+    let bytes = out.text.len();
+    let text = format!(in alloc; "lines {lines} refused {refused} bytes {bytes}\n")?;
+    Ok(Output {
+        text: text.into_bytes(),
+        refused,
+    })
 }

@@ -1,51 +1,69 @@
 //! The top call.
-ghost use Rattle.std.specs.Prelude.{◌≡◌, ◌+◌, ◌≤◌, ◌^◌, IfSome};
+ghost use Rattle.std.specs.Prelude.{◌≡◌, ◌+◌, ◌<◌, ◌≤◌, ◌^◌, [], IfSome, MatchOption, None};
 ghost use Rattle.cg_io.specs.Faults.{Rose};
-ghost use Rattle.cg_session.specs.Input.{IsWithinLimits, TakesAtMost};
-ghost use Rattle.cg_session.specs.Words.{AreAccepted};
-ghost use Rattle.cg_session.specs.Ends.{Writes, AnswersOrLacksMemory, EndsBeforeAnswers};
+ghost use Rattle.cg_words.specs.Accepted.{InRange, IsAccepted, settings_of};
+ghost use Rattle.cg_session.specs.Ends.{AnswersOrLacksMemory, EndsBeforeAnswers, IsWhole, UsageOrLacksMemory, Writes, WritesSession};
+ghost use Rattle.cg_session.specs.Input.{TakesAtMost};
+ghost use Rattle.cg_session.specs.Kept.{KeepsAnswers};
+ghost use Rattle.cg_session.specs.Lines.{answered_lines};
+ghost use Rattle.cg_session.specs.Settings.{IsWithinLimits, session_text};
+ghost use Rattle.cg_session.specs.Words.{texts};
 
-use crate::input::{InputFault, read_input};
-use crate::lines::count_answered;
-use crate::output::answer_input;
+use crate::answering::{AnsweringFault, Kept, answer_session};
+use crate::input::{TextFault, session_text};
 use crate::status::Status;
 use crate::writing::write_all;
 use cg_io::{Failed, Sink, Source};
+use cg_pool::Gate;
+use cg_words::{Settings, SettingsFault};
 use std::alloc::Global;
+use std::thread::Threads;
 
 /// What is written where the words are not accepted.
-const USAGE_LINE: &[u8] = b"usage: cg\n";
+const USAGE_LINE: &[u8] = b"usage: cg [--workers W] [--cells N] [--positions P] [--sample n]\n";
 
-/// The most lines of an input that may get an answer.
-const MOST_ANSWERED: usize = 4096;
-
-/// Reads the whole input, answers its lines, and writes the whole output.
+/// Reads a whole session, answers its lines by workers over one shared table, and writes the whole output.
 ///
-/// The words are those after the program's name. They are accepted exactly where there are none; otherwise the usage
-/// line is written and nothing is read. The input may have 1,048,576 bytes and 4,096 answered lines; reading stops at
-/// its end, at a fault, or once one byte more was taken. The first byte is written when the whole output stands.
-pub fn run<S: Source, K: Sink>(
+/// The words are those after the program's name; [`Settings::read`] says which are accepted, and for others the usage line
+/// is written and nothing is read. The text of the session is its input, or the sample where one is asked for; then the
+/// source is left as it was, and what is written is the one line `lines n refused r bytes b`. A session may have
+/// 1,048,576 bytes and 4,096 answered lines, and at most as many of them as the table has cells. Reading stops at the
+/// end, at a fault, or once one byte more was taken. The first byte is written when all answers and the whole output
+/// stand. After the last byte was written, the answers, their table, and a pass of it are put into `kept`, where the session
+/// has an answered line.
+pub fn run<R: Threads + Sync, S: Source, K: Sink, G: Gate>(
+    rt: &R,
     alloc: Global,
     words: &[String],
     source: &mut S,
     sink: &mut K,
+    gate: &G,
+    kept: &mut Option<Kept>,
 ) -> Status
+    requires { kept.old ≡ None }
+
     // What was read and written, by the status, where the source and the sink tell their bytes.
-    ensures written { Writes result words.now
+    ensures written { Writes result (texts words.now)
         (S.left source.old) (S.left source.new) (K.taken sink.old) (K.taken sink.new) }
     ensures taken { TakesAtMost (2 ^ 20 + 1) (S.left source.old) (S.left source.new) }
 
-    // Words that are not accepted leave the source as it was, and give Usage where the sink's count did not rise.
-    ensures unread { ¬ AreAccepted words.now → source.new ≡ source.old }
-    ensures usage { ¬ AreAccepted words.now → ¬ Rose (K.faults sink.old) (K.faults sink.new) → result ≡ Status.Usage }
+    // Where the words are not accepted, and where there is a sample, the source is left as it was.
+    ensures unread { ¬ IsAccepted (texts words.now) → source.new ≡ source.old }
+    ensures unread_for_sample { 0 < (settings_of (texts words.now)).sample → source.new ≡ source.old }
 
-    // An input past a limit is TooLong, unless reading failed or memory was wanting.
-    ensures past_limits { AreAccepted words.now
-        → IfSome (S.left source.old) (λ input. ¬ IsWithinLimits input → EndsBeforeAnswers result) }
+    // Words that are not accepted give Usage where the sink's count did not rise, unless memory was wanting.
+    ensures usage { ¬ IsAccepted (texts words.now) → ¬ Rose (K.faults sink.old) (K.faults sink.new)
+        → UsageOrLacksMemory result }
 
-    // An input within the limits is answered whole where neither count rose, unless memory was wanting.
-    ensures complete { AreAccepted words.now
-        → IfSome (S.left source.old) (λ input. IsWithinLimits input
+    // A session past a limit is TooLong, unless reading failed or memory was wanting.
+    ensures past_limits { IsAccepted (texts words.now)
+        → IfSome (session_text (settings_of (texts words.now)) (S.left source.old)) (λ text.
+        ¬ IsWithinLimits (settings_of (texts words.now)) text → EndsBeforeAnswers result) }
+
+    // A session within the limits is answered whole where neither count rose, unless memory was wanting.
+    ensures complete { IsAccepted (texts words.now)
+        → IfSome (session_text (settings_of (texts words.now)) (S.left source.old)) (λ text.
+        IsWithinLimits (settings_of (texts words.now)) text
         → ¬ Rose (S.faults source.old) (S.faults source.new)
         → ¬ Rose (K.faults sink.old) (K.faults sink.new)
         → AnswersOrLacksMemory result) }
@@ -55,32 +73,67 @@ pub fn run<S: Source, K: Sink>(
     ensures write { result ≡ Status.Write → Rose (K.faults sink.old) (K.faults sink.new) }
     ensures source_never_falls { S.faults source.old ≤ S.faults source.new }
     ensures sink_never_falls { K.faults sink.old ≤ K.faults sink.new }
+
+    // The answers and their table are kept exactly where the whole was written and some line is answered.
+    ensures kept { IsWhole result
+        → IfSome (session_text (settings_of (texts words.now)) (S.left source.old)) (λ text.
+        MatchOption kept.new (answered_lines text ≡ []) (λ k.
+        KeepsAnswers (settings_of (texts words.now)) (answered_lines text) k.answers.items k.cells k.pass)) }
+    ensures not_kept { ¬ IsWhole result → kept.new ≡ None }
 {
-    if !words.is_empty() {
-        return match write_all(sink, USAGE_LINE) {
+    match Settings::read(alloc, words) {
+        Ok(settings) => serve::<R, S, K, G>(rt, alloc, settings, source, sink, gate, kept),
+        Err(SettingsFault::Memory) => Status::Memory,
+        Err(SettingsFault::Usage) => match write_all(sink, USAGE_LINE) {
             Ok(()) => Status::Usage,
             Err(Failed) => Status::Write,
-        };
+        },
     }
-    let input = match read_input(alloc, source) {
-        Ok(input) => input,
-        Err(InputFault::Read) => return Status::Read,
-        Err(InputFault::Memory) => return Status::Memory,
-        Err(InputFault::TooLong) => return Status::TooLong,
+}
+
+/// Reads a whole session with these settings, answers its lines, and writes the whole output.
+fn serve<R: Threads + Sync, S: Source, K: Sink, G: Gate>(
+    rt: &R,
+    alloc: Global,
+    settings: Settings,
+    source: &mut S,
+    sink: &mut K,
+    gate: &G,
+    kept: &mut Option<Kept>,
+) -> Status
+    requires range { InRange settings }
+    requires empty { kept.old ≡ None }
+    ensures written { WritesSession result settings
+        (S.left source.old) (S.left source.new) (K.taken sink.old) (K.taken sink.new) }
+    ensures taken { TakesAtMost (2 ^ 20 + 1) (S.left source.old) (S.left source.new) }
+    ensures unread { 0 < settings.sample → source.new ≡ source.old }
+    ensures read { result ≡ Status.Read → Rose (S.faults source.old) (S.faults source.new) }
+    ensures write { result ≡ Status.Write → Rose (K.faults sink.old) (K.faults sink.new) }
+    ensures source_never_falls { S.faults source.old ≤ S.faults source.new }
+    ensures sink_never_falls { K.faults sink.old ≤ K.faults sink.new }
+    ensures kept { IsWhole result → IfSome (session_text settings (S.left source.old)) (λ text.
+        MatchOption kept.new (answered_lines text ≡ []) (λ k.
+        KeepsAnswers settings (answered_lines text) k.answers.items k.cells k.pass)) }
+    ensures not_kept { ¬ IsWhole result → kept.new ≡ None }
+{
+    let text = match session_text(alloc, settings, source) {
+        Ok(text) => text,
+        Err(TextFault::Read) => return Status::Read,
+        Err(TextFault::Memory) => return Status::Memory,
+        Err(TextFault::TooLong) => return Status::TooLong,
     };
-    let answered = count_answered(&input);
-    if answered > MOST_ANSWERED {
-        return Status::TooLong;
-    }
-    let Ok(out) = answer_input(alloc, &input, answered) else {
-        return Status::Memory;
+    let answers = match answer_session::<R, G>(rt, alloc, settings, &text, gate) {
+        Ok(answers) => answers,
+        Err(AnsweringFault::Memory) => return Status::Memory,
+        Err(AnsweringFault::TooLong) => return Status::TooLong,
     };
-    if write_all(sink, &out.text).is_err() {
+    if write_all(sink, &answers.output.text).is_err() {
         return Status::Write;
     }
-    if out.refused {
-        Status::Refused
-    } else {
+    *kept = answers.kept;
+    if answers.output.refused == 0 {
         Status::Done
+    } else {
+        Status::Refused
     }
 }

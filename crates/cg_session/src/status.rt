@@ -5,19 +5,20 @@ ghost use Rattle.cg_session.specs.StatusCode.{code_of};
 /// How a session ended, and what it wrote.
 #[derive(Clone, Copy, Debug, PartialEq, Eq)]
 pub enum Status {
-    /// The whole output was written, and no line of it is refused.
+    /// The whole output was written, or the summary of a sample, and no line is refused.
     Done,
-    /// The whole output was written, and at least one line of it is refused.
+    /// The whole output was written, or the summary of a sample, and at least one line is refused.
     Refused,
     /// The words are not accepted. The usage line was written, and nothing was read.
     Usage,
-    /// The source failed. Nothing was written.
+    /// The source failed, and there is no sample. Nothing was written.
     Read,
-    /// The sink failed. A front of the output was written, or of the usage line where the words are not accepted.
+    /// The sink failed. A front of what was to be written was, which is the usage line where the words are not accepted.
     Write,
     /// Memory was wanting. Nothing was written.
     Memory,
-    /// The input has more than 1,048,576 bytes, or more than 4,096 answered lines. Nothing was written.
+    /// The session has more than 1,048,576 bytes, or more than 4,096 answered lines, or more of them than the table has
+    /// cells. Nothing was written.
     TooLong,
 }
 

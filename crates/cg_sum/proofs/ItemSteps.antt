@@ -4,8 +4,8 @@ use Rattle.std.specs.Prelude.{IfErr, IfOk, OnOk}
 use Rattle.std.specs.Result.{result_ok}
 use Rattle.cg_canon.specs.Items.{AllPass, Item, WasRefused, made}
 use Rattle.cg_canon.specs.NumberItems.{IsForm, number_made}
-use Rattle.cg_canon.specs.Works.{WorkOf, work_state}
 use Rattle.cg_canon.specs.declared.fault.ValueFault.{ValueFault}
+use Rattle.cg_canon.specs.declared.rest.WorkRest.{WorkRest}
 use Rattle.cg_cells.specs.Meaning.{Grows, Meaning, note_for}
 use Rattle.cg_cells.specs.Store.{Known, Spends, State, thing_at}
 use Rattle.cg_dyadic.specs.Exact.{IsExact, sum_num}
@@ -18,11 +18,12 @@ use Rattle.cg_nodes.specs.Games.{IsGame, IsInRange, IsNode, StandsFor, game_at, 
 use Rattle.cg_nodes.specs.Meant.{Meant}
 use Rattle.cg_nodes.specs.Spelled.{can}
 use Rattle.cg_sum.specs.Lists.{sum_item}
-use Rattle.cg_sum.specs.Made.{ItemsMade}
+use Rattle.cg_canon.specs.Made.{ItemsMade}
 use Rattle.cg_sum.specs.Progress.{OptionsFound}
 use Rattle.cg_sum.specs.Written.{written}
 use Rattle.cg_sum.specs.declared.found.Sums.{Sums}
-use Rattle.cg_sum.proofs.MadeSteps.{made_as, number_charged, read_then, refused_number}
+use Rattle.cg_canon.proofs.MadeSteps.{made_as, read_then}
+use Rattle.cg_sum.proofs.OutsideItems.{number_charged, refused_number}
 use Rattle.cg_sum.proofs.Sums.{can-sum_numbers}
 
 -- ---- sides that are read as slices
@@ -109,83 +110,83 @@ module _ (a b : Number) where
         refused_number r share before after (can (sum (number a) (number b))) 1
         (subst P (sym (can-sum_numbers a b z is)) outside) p
 
-module _ {S R : Type 0} (state : S → State Meant R) (w u v x : WorkOf S) (f k : ℕ) (a b : Number) (o : Option Number)
-    (q : Result Number RangeFault) (r : Result ℕ ValueFault) (isf : game_at (work_state state w) f ≡ number a)
-    (isk : game_at (work_state state u) k ≡ number b) (gk : IsGame (work_state state w) k)
-    (wu : Spends 0 (work_state state w) (work_state state u)) (uv : Spends 0 (work_state state u) (work_state state v))
+module _ {R : Type 0} (w u v x : State Meant (WorkRest R)) (f k : ℕ) (a b : Number) (o : Option Number)
+    (q : Result Number RangeFault) (r : Result ℕ ValueFault) (isf : game_at w f ≡ number a)
+    (isk : game_at u k ≡ number b) (gk : IsGame w k)
+    (wu : Spends 0 w u) (uv : Spends 0 u v)
     (is : o ≡ result_ok q) (exact : IsExact (sum_num a b) (exp_of a + exp_of b) q) where
-  both_numbers : sum (number a) (number b) ≡ sum (game_at (work_state state w) f) (game_at (work_state state w) k)
+  both_numbers : sum (number a) (number b) ≡ sum (game_at w f) (game_at w k)
   both_numbers =
       ap (λ z. sum z (number b)) (sym isf)
-      ∙ ap (λ z. sum (game_at (work_state state w) f) z)
-      (sym isk ∙ game_later (work_state state w) (work_state state u) wu.known k gk)
+      ∙ ap (λ z. sum (game_at w f) z)
+      (sym isk ∙ game_later w u wu.known k gk)
 
-  pub number_game : IfOk r (λ h. IsForm o (StandsFor (work_state state x) h))
-      → IfOk r (λ h. StandsFor (work_state state x) h (can (sum (game_at (work_state state w) f) (game_at (work_state state w) k))))
+  pub number_game : IfOk r (λ h. IsForm o (StandsFor x h))
+      → IfOk r (λ h. StandsFor x h (can (sum (game_at w f) (game_at w k))))
   number_game p =
-      let P : Option Number → Type 0 = λ z. IfOk r (λ h. IsForm z (StandsFor (work_state state x) h)) in
-      let Q : Game → Type 0 = λ z. IfOk r (λ h. StandsFor (work_state state x) h (can z)) in
-      subst Q both_numbers (exact_game a b (work_state state x) q r exact (subst P is p))
+      let P : Option Number → Type 0 = λ z. IfOk r (λ h. IsForm z (StandsFor x h)) in
+      let Q : Game → Type 0 = λ z. IfOk r (λ h. StandsFor x h (can z)) in
+      subst Q both_numbers (exact_game a b x q r exact (subst P is p))
 
-  pub number_items : ItemsMade state v x (number_made o 1 ∷ []) r
-      → ItemsMade state w x (sum_item (game_at (work_state state w) f) (game_at (work_state state w) k) ∷ []) r
+  pub number_items : ItemsMade v x (number_made o 1 ∷ []) r
+      → ItemsMade w x (sum_item (game_at w f) (game_at w k) ∷ []) r
   number_items m =
-      let P : Option Number → Type 0 = λ z. OnOk r (AllPass v.share v.spent (number_made z 1 ∷ []) x.spent) in
-      let Q : Option Number → Type 0 = λ z. IfErr r (λ fault. WasRefused fault v.share v.spent (number_made z 1 ∷ []) x.spent) in
+      let P : Option Number → Type 0 = λ z. OnOk r (AllPass v.rest.share v.rest.spent (number_made z 1 ∷ []) x.rest.spent) in
+      let Q : Option Number → Type 0 = λ z. IfErr r (λ fault. WasRefused fault v.rest.share v.rest.spent (number_made z 1 ∷ []) x.rest.spent) in
       let item : Game → Item = λ z. made (can z) 1 in
-      made_as state w x (sum_item (number a) (number b) ∷ []) (sum_item (game_at (work_state state w) f) (game_at (work_state state w) k) ∷ []) r
+      made_as w x (sum_item (number a) (number b) ∷ []) (sum_item (game_at w f) (game_at w k) ∷ []) r
       (ap (λ z. item z ∷ []) both_numbers)
-      (read_then state 0 w v x (sum_item (number a) (number b) ∷ []) r
-      (spends_then 0 0 (work_state state w) (work_state state u) (work_state state v) wu uv) (record {
-        charged = exact_charged a b v.share v.spent x.spent q r exact (subst P is m.charged);
-        refused = exact_refused a b v.share v.spent x.spent q r exact (subst Q is m.refused);
+      (read_then 0 w v x (sum_item (number a) (number b) ∷ []) r
+      (spends_then 0 0 w u v wu uv) (record {
+        charged = exact_charged a b v.rest.share v.rest.spent x.rest.spent q r exact (subst P is m.charged);
+        refused = exact_refused a b v.rest.share v.rest.spent x.rest.spent q r exact (subst Q is m.refused);
         keeps = m.keeps;
       }))
 
 -- ---- the sum that was noted, or is noted
 
-module _ {S R : Type 0} (state : S → State Meant R) (w u : WorkOf S) (n : ℕ) (wu : Spends n (work_state state w) (work_state state u))
-    (f k : ℕ) (gf : IsGame (work_state state w) f) (gk : IsGame (work_state state w) k) where
-  pub sums_same : sum (game_at (work_state state u) f) (game_at (work_state state u) k)
-      ≡ sum (game_at (work_state state w) f) (game_at (work_state state w) k)
+module _ {R : Type 0} (w u : State Meant (WorkRest R)) (n : ℕ) (wu : Spends n w u)
+    (f k : ℕ) (gf : IsGame w f) (gk : IsGame w k) where
+  pub sums_same : sum (game_at u f) (game_at u k)
+      ≡ sum (game_at w f) (game_at w k)
   sums_same =
-      ap (λ z. sum z (game_at (work_state state u) k)) (game_later (work_state state w) (work_state state u) wu.known f gf)
-      ∙ ap (λ z. sum (game_at (work_state state w) f) z) (game_later (work_state state w) (work_state state u) wu.known k gk)
+      ap (λ z. sum z (game_at u k)) (game_later w u wu.known f gf)
+      ∙ ap (λ z. sum (game_at w f) z) (game_later w u wu.known k gk)
 
-  pub nodes_later : IsNode (game_at (work_state state w) f) ⊎ IsNode (game_at (work_state state w) k)
-      → IsNode (game_at (work_state state u) f) ⊎ IsNode (game_at (work_state state u) k)
+  pub nodes_later : IsNode (game_at w f) ⊎ IsNode (game_at w k)
+      → IsNode (game_at u f) ⊎ IsNode (game_at u k)
   nodes_later (inl c) =
       let P : Game → Type 0 = λ z. IsNode z in
-      inl (subst P (sym (game_later (work_state state w) (work_state state u) wu.known f gf)) c)
+      inl (subst P (sym (game_later w u wu.known f gf)) c)
   nodes_later (inr c) =
       let P : Game → Type 0 = λ z. IsNode z in
-      inr (subst P (sym (game_later (work_state state w) (work_state state u) wu.known k gk)) c)
+      inr (subst P (sym (game_later w u wu.known k gk)) c)
 
   -- a handle that stands for the sum was charged
-  pub known_items : {T : Type 0} (x : WorkOf S) (h : ℕ) (r : Result T ValueFault)
-      → StandsFor (work_state state u) h (can (sum (game_at (work_state state w) f) (game_at (work_state state w) k)))
-      → ItemsMade state u x (made (game_at (work_state state u) h) 1 ∷ []) r
-      → ItemsMade state w x (sum_item (game_at (work_state state w) f) (game_at (work_state state w) k) ∷ []) r
+  pub known_items : {T : Type 0} (x : State Meant (WorkRest R)) (h : ℕ) (r : Result T ValueFault)
+      → StandsFor u h (can (sum (game_at w f) (game_at w k)))
+      → ItemsMade u x (made (game_at u h) 1 ∷ []) r
+      → ItemsMade w x (sum_item (game_at w f) (game_at w k) ∷ []) r
   known_items x h r e m =
       let item : Game → Item = λ z. made z 1 in
-      let g : Game = can (sum (game_at (work_state state w) f) (game_at (work_state state w) k)) in
-      read_then state n w u x (item g ∷ []) r wu
-      (made_as state u x (item (game_at (work_state state u) h) ∷ []) (item g ∷ []) r
-      (ap (λ z. item z ∷ []) (stands_game (work_state state u) h g e)) m)
+      let g : Game = can (sum (game_at w f) (game_at w k)) in
+      read_then n w u x (item g ∷ []) r wu
+      (made_as u x (item (game_at u h) ∷ []) (item g ∷ []) r
+      (ap (λ z. item z ∷ []) (stands_game u h g e)) m)
 
   -- the sum was made
-  pub later_items : {T : Type 0} (x : WorkOf S) (r : Result T ValueFault)
-      → ItemsMade state u x (sum_item (game_at (work_state state u) f) (game_at (work_state state u) k) ∷ []) r
-      → ItemsMade state w x (sum_item (game_at (work_state state w) f) (game_at (work_state state w) k) ∷ []) r
+  pub later_items : {T : Type 0} (x : State Meant (WorkRest R)) (r : Result T ValueFault)
+      → ItemsMade u x (sum_item (game_at u f) (game_at u k) ∷ []) r
+      → ItemsMade w x (sum_item (game_at w f) (game_at w k) ∷ []) r
   later_items x r m =
       let item : Game → Item = λ z. made (can z) 1 in
-      read_then state n w u x (sum_item (game_at (work_state state w) f) (game_at (work_state state w) k) ∷ []) r wu
-      (made_as state u x (sum_item (game_at (work_state state u) f) (game_at (work_state state u) k) ∷ [])
-      (sum_item (game_at (work_state state w) f) (game_at (work_state state w) k) ∷ []) r (ap (λ z. item z ∷ []) sums_same) m)
+      read_then n w u x (sum_item (game_at w f) (game_at w k) ∷ []) r wu
+      (made_as u x (sum_item (game_at u f) (game_at u k) ∷ [])
+      (sum_item (game_at w f) (game_at w k) ∷ []) r (ap (λ z. item z ∷ []) sums_same) m)
 
   pub later_stands : {Q : Type 0} (t : State Meant Q) (h : ℕ)
-      → StandsFor t h (can (sum (game_at (work_state state u) f) (game_at (work_state state u) k)))
-      → StandsFor t h (can (sum (game_at (work_state state w) f) (game_at (work_state state w) k)))
+      → StandsFor t h (can (sum (game_at u f) (game_at u k)))
+      → StandsFor t h (can (sum (game_at w f) (game_at w k)))
   later_stands t h e = let P : Game → Type 0 = λ z. StandsFor t h (can z) in subst P sums_same e
 
 -- a handle that equals another stands for the same

@@ -3,7 +3,8 @@ pub mod Positions
 pub mod OptionSteps
 pub mod Members
 pub mod SumSteps
-pub mod MadeSteps
+pub mod OutsideItems
+pub mod ItemLoops
 pub mod ItemSteps
 pub mod RowSteps
 pub mod SumEnds

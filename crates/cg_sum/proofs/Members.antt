@@ -1,8 +1,9 @@
 -- Members of lists of handles, and of the games that they stand for.
-use Rattle.std.proofs.Common.{◌≡◌, ◌<◌, ℕ, zero, suc, arith, refl, inl, inr, ◌⊎◌, sym, ap, subst, List, [], ◌∷◌, ◌++◌, length, get_or, Option, Some, None, IsSome}
+use Rattle.std.proofs.Common.{◌≡◌, ◌<◌, ℕ, zero, suc, ◌+◌, arith, refl, inl, inr, ◌⊎◌, sym, ◌∙◌, ap, subst, List, [], ◌∷◌, ◌++◌, length, take, drop, get_or, Option, Some, None, IsSome}
 use Rattle.cg_cells.specs.Meaning.{Has}
 use Rattle.cg_cells.specs.Store.{State}
 use Rattle.cg_form.specs.Game.{Among, Game}
+use Rattle.cg_nodes.proofs.Lists.{are_games-left}
 use Rattle.cg_nodes.specs.Games.{AreGames, IsGame, StandsFor, games_at, game_at}
 use Rattle.cg_nodes.specs.Meant.{Meant}
 
@@ -45,3 +46,25 @@ module _ {R : Type 0} (s : State Meant R) where
   among_has (h ∷ hs) a g (inl e) =
       let P : Game → Type 0 = λ z. StandsFor s h z in (h, inl refl, subst P (sym e) g.0)
   among_has (h ∷ hs) a g (inr m) = let (p, k, e) = among_has hs a g.1 m in (p, inr k, e)
+
+-- ---- lists that are read up to some place
+
+-- the list is what stands before the element that was read, the element, and the rest
+pub split_read : (xs : List ℕ) (i x : ℕ) → i < length xs → x ≡ get_or xs i x → xs ≡ take i xs ++ (x ∷ drop (suc i) xs)
+split_read [] i x l e = absurd (omega arith)
+split_read (y ∷ ys) zero x l e = ap (λ z. z ∷ ys) (sym e)
+split_read (y ∷ ys) (suc i) x l e = ap (λ z. y ∷ z) (split_read ys i x (omega arith) e)
+
+pub take_read : (xs : List ℕ) (i x : ℕ) → i < length xs → x ≡ get_or xs i x → take (suc i) xs ≡ take i xs ++ (x ∷ [])
+take_read [] i x l e = absurd (omega arith)
+take_read (y ∷ ys) zero x l e = ap (λ z. z ∷ []) (sym e)
+take_read (y ∷ ys) (suc i) x l e = ap (λ z. y ∷ z) (take_read ys i x (omega arith) e)
+
+pub take_next : (xs : List ℕ) (i x : ℕ) → i < length xs → x ≡ get_or xs i x → take (i + 1) xs ≡ take i xs ++ (x ∷ [])
+take_next xs i x l e = ap (λ n. take n xs) (let n : i + 1 ≡ suc i = omega arith in n) ∙ take_read xs i x l e
+
+pub are_games-take : {R : Type 0} (s : State Meant R) (hs : List ℕ) (i h : ℕ) → i < length hs → h ≡ get_or hs i h → AreGames s hs
+    → AreGames s (take i hs)
+are_games-take s hs i h within read a =
+    let P : List ℕ → Type 0 = λ z. AreGames s z in
+    are_games-left s (take i hs) (h ∷ drop (suc i) hs) (subst P (split_read hs i h within read) a)

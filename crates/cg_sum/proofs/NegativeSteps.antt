@@ -1,13 +1,15 @@
 -- The negatives of positions, made one after another.
-use Rattle.std.proofs.Common.{◌≡◌, ◌⊎◌, inl, inr, ℕ, suc, ◌+◌, ◌≤◌, ◌<◌, arith, refl, ap, sym, ◌∙◌, subst, List, [], ◌∷◌, ◌++◌, append_assoc, Option, Some, None, IsSome, Bool, true, false, Result, Ok, Err, map, take, drop, get_or, length}
+use Rattle.std.proofs.Common.{◌≡◌, ◌⊎◌, inl, inr, ℕ, suc, ◌+◌, ◌≤◌, ◌<◌, arith, refl, ap, sym, ◌∙◌, subst, List, [], ◌∷◌, Option, Some, None, IsSome, Bool, true, false, Result, Ok, Err, map, take, drop, get_or, length}
 use Rattle.std.specs.Prelude.{◌==◌, IfOk, if◌then◌else◌}
+use Rattle.std.specs.List.{flat_map}
 use Rattle.std.proofs.lemmas.Bool.Decides.{eqb_tells}
-use Rattle.std.proofs.lemmas.List.{map-append, take_all}
+use Rattle.std.proofs.lemmas.List.{take_all}
 use Rattle.cg_canon.proofs.Keeping.{keeps_all, keeps_then}
 use Rattle.cg_canon.proofs.ItemLaws.{all_pass-none}
 use Rattle.cg_canon.specs.Items.{AllPass, Item, made as item_of}
-use Rattle.cg_canon.specs.Works.{Keeps, WorkOf, work_state}
+use Rattle.cg_canon.specs.Works.{Keeps}
 use Rattle.cg_canon.specs.declared.fault.ValueFault.{ValueFault}
+use Rattle.cg_canon.specs.declared.rest.WorkRest.{WorkRest}
 use Rattle.cg_cells.specs.Meaning.{Grows, Has, IsInjective}
 use Rattle.cg_cells.specs.Store.{Spends, State, thing_at}
 use Rattle.cg_dyadic.specs.Exact.{IsNegative}
@@ -16,20 +18,19 @@ use Rattle.cg_form.specs.Game.{Among, Game, node, number, options}
 use Rattle.cg_form.specs.Sum.{negative}
 use Rattle.cg_form.proofs.Among.{carry}
 use Rattle.cg_nodes.proofs.Later.{game_later, is_game_later, stands_game, stands_is_game, stands_later}
-use Rattle.cg_nodes.proofs.Lists.{games_at-append}
 use Rattle.cg_nodes.specs.Games.{AreGames, IsGame, IsNode, StandFor, StandsFor, game_at, games_at}
 use Rattle.cg_nodes.specs.Meant.{Meant, form}
 use Rattle.cg_nodes.specs.Positions.{positions_of}
 use Rattle.cg_nodes.specs.Spelled.{can}
 use Rattle.cg_sum.specs.Finds.{negative_found, negative_handle}
 use Rattle.cg_sum.specs.Lists.{minus_item, minus_items, negative_items}
-use Rattle.cg_sum.specs.Made.{ItemsMade}
+use Rattle.cg_canon.specs.Made.{ItemsMade}
 use Rattle.cg_sum.specs.Progress.{HoldsNegatives, OptionsNegated}
 use Rattle.cg_sum.specs.Written.{IsClosed, written, written_lefts, written_rights}
 use Rattle.cg_sum.specs.declared.found.Negatives.{Negatives}
-use Rattle.cg_sum.proofs.MadeSteps.{made_as, made_then, passed, read_then, stopped}
-use Rattle.cg_sum.proofs.Members.{among_has, has-append, has_among, has_game, has_read, some_of}
-use Rattle.cg_sum.proofs.RowSteps.{are_games-take, split_read, take_next}
+use Rattle.cg_canon.proofs.MadeSteps.{made_as, passed, read_then}
+use Rattle.cg_sum.proofs.ItemLoops.{flat-map, games_split, loop_passed, loop_stopped}
+use Rattle.cg_sum.proofs.Members.{among_has, are_games-take, has-append, has_among, has_game, has_read, some_of, take_next}
 use Rattle.cg_sum.proofs.SumEnds.{all_within}
 use Rattle.cg_sum.proofs.Sums.{can-negative, can-negative_number}
 
@@ -168,155 +169,129 @@ no_negatives s m none_found =
 
 -- ---- all of a list
 
--- the negatives of ps were made
-pub record NegativesMade {S R : Type 0} (state : S → State Meant R) (w v : WorkOf S) (n : Negatives) (ps : List ℕ) : Type 0 where
-  pub keeps : Keeps (work_state state w) (work_state state v)
-  pub passed : AllPass w.share w.spent (minus_items (games_at (work_state state w) ps)) v.spent
-  pub holds : HoldsNegatives (work_state state v) n
-  pub found : (p : ℕ) → Has ps p → IsSome (negative_found n p)
-  pub spare : (work_state state w).spare ≤ (work_state state v).spare
+-- the item of the negative of a game
+abbrev pub negated_item : Game → List Item
+negated_item g = minus_item g ∷ []
 
-module _ {S R : Type 0} (state : S → State Meant R) (w : WorkOf S) (ps : List ℕ) where
-  pub negatives_none : (m : Negatives) → HoldsNegatives (work_state state w) m → NegativesMade state w w m []
+-- the negatives of ps were made
+pub record NegativesMade {R : Type 0} (w v : State Meant (WorkRest R)) (n : Negatives) (ps : List ℕ) : Type 0 where
+  pub keeps : Keeps w v
+  pub passed : AllPass w.rest.share w.rest.spent (flat_map negated_item (games_at w ps)) v.rest.spent
+  pub holds : HoldsNegatives v n
+  pub found : (p : ℕ) → Has ps p → IsSome (negative_found n p)
+  pub spare : w.spare ≤ v.spare
+
+module _ {R : Type 0} (w : State Meant (WorkRest R)) (ps : List ℕ) where
+  pub negatives_none : (m : Negatives) → HoldsNegatives w m → NegativesMade w w m []
   negatives_none m holds = record {
-    keeps = keeps_all (work_state state w);
-    passed = all_pass-none w.share w.spent;
+    keeps = keeps_all w;
+    passed = all_pass-none w.rest.share w.rest.spent;
     holds = holds;
     found = λ p i. absurd i;
     spare = omega arith;
   }
 
-  pub negatives_done : (v : WorkOf S) (n : Negatives) (i : ℕ) → length ps ≤ i → NegativesMade state w v n (take i ps)
-      → NegativesMade state w v n ps
-  negatives_done v n i l made = let P : List ℕ → Type 0 = λ z. NegativesMade state w v n z in subst P (take_all i ps l) made
+  pub negatives_done : (v : State Meant (WorkRest R)) (n : Negatives) (i : ℕ) → length ps ≤ i → NegativesMade w v n (take i ps)
+      → NegativesMade w v n ps
+  negatives_done v n i l made = let P : List ℕ → Type 0 = λ z. NegativesMade w v n z in subst P (take_all i ps l) made
 
-  pub negatives_made : {T : Type 0} (v : WorkOf S) (n : Negatives) (t : T) → NegativesMade state w v n ps
-      → ItemsMade state w v (minus_items (games_at (work_state state w) ps)) (Ok t)
-  negatives_made v n t made = record { charged = made.passed; refused = tt; keeps = made.keeps }
+  pub negatives_made : {T : Type 0} (v : State Meant (WorkRest R)) (n : Negatives) (t : T) → NegativesMade w v n ps
+      → ItemsMade w v (minus_items (games_at w ps)) (Ok t)
+  negatives_made v n t made =
+      let P : List Item → Type 0 = λ z. AllPass w.rest.share w.rest.spent z v.rest.spent in
+      record { charged = subst P (flat-map minus_item (games_at w ps)) made.passed; refused = tt; keeps = made.keeps }
 
-  module _ (i f : ℕ) (within : i < length ps) (read : f ≡ get_or ps i f) (gps : AreGames (work_state state w) ps)
-      (v : WorkOf S) (n : Negatives) (made : NegativesMade state w v n (take i ps)) where
-    games_split : games_at (work_state state w) ps
-        ≡ games_at (work_state state w) (take i ps) ++ (game_at (work_state state w) f ∷ games_at (work_state state w) (drop (suc i) ps))
-    games_split =
-        ap (games_at (work_state state w)) (split_read ps i f within read)
-        ∙ games_at-append (work_state state w) (take i ps) (f ∷ drop (suc i) ps)
+  module _ (i f : ℕ) (within : i < length ps) (read : f ≡ get_or ps i f) (gps : AreGames w ps)
+      (v : State Meant (WorkRest R)) (n : Negatives) (made : NegativesMade w v n (take i ps)) where
+    game_f : IsGame w f
+    game_f = has_game w ps f gps (has_read ps i f within read)
 
-    game_f : IsGame (work_state state w) f
-    game_f = has_game (work_state state w) ps f gps (has_read ps i f within read)
+    same_f : game_at v f ≡ game_at w f
+    same_f = game_later w v made.keeps.known f game_f
 
-    same_f : game_at (work_state state v) f ≡ game_at (work_state state w) f
-    same_f = game_later (work_state state w) (work_state state v) made.keeps.known f game_f
+    pub next_game : IsGame v f
+    next_game = is_game_later w v made.keeps.known f game_f
 
-    pub next_game : IsGame (work_state state v) f
-    next_game = is_game_later (work_state state w) (work_state state v) made.keeps.known f game_f
-
-    pub next_options : IsClosed (games_at (work_state state w) ps) → OptionsNegated (work_state state v) n f
+    pub next_options : IsClosed (games_at w ps) → OptionsNegated v n f
     next_options closed = record {
       each = λ a j.
           let P : Game → Type 0 = λ z. Among a (written z) in
-          let before = closed.each (games_at (work_state state w) (take i ps)) (game_at (work_state state w) f)
-          (games_at (work_state state w) (drop (suc i) ps)) games_split a (subst P same_f j) in
-          let (p, here, e) = among_has (work_state state w) (take i ps) a
-          (are_games-take (work_state state w) ps i f within read gps) before in
-          (p, stands_later (work_state state w) (work_state state v) made.keeps.known p a e, made.found p here);
+          let before = closed.each (games_at w (take i ps)) (game_at w f)
+          (games_at w (drop (suc i) ps)) (games_split w ps i f within read) a (subst P same_f j) in
+          let (p, here, e) = among_has w (take i ps) a
+          (are_games-take w ps i f within read gps) before in
+          (p, stands_later w v made.keeps.known p a e, made.found p here);
     }
 
-    next_items : minus_items (games_at (work_state state w) (take i ps)) ++ (minus_item (game_at (work_state state w) f) ∷ [])
-        ≡ minus_items (games_at (work_state state w) (take (i + 1) ps))
-    next_items =
-        sym (ap (λ z. minus_items (games_at (work_state state w) z)) (take_next ps i f within read)
-        ∙ (ap minus_items (games_at-append (work_state state w) (take i ps) (f ∷ []))
-        ∙ map-append minus_item (games_at (work_state state w) (take i ps)) (game_at (work_state state w) f ∷ [])))
+    -- the item of the negative of f, as the work was at first
+    module _ {T : Type 0} (x : State Meant (WorkRest R)) (r : Result T ValueFault)
+        (item : ItemsMade v x (minus_item (game_at v f) ∷ []) r) where
+      item_made : ItemsMade v x (negated_item (game_at w f)) r
+      item_made = let P : Game → Type 0 = λ z. ItemsMade v x (minus_item z ∷ []) r in subst P same_f item
 
-    all_items : minus_items (games_at (work_state state w) (take i ps)) ++ (minus_item (game_at (work_state state w) f) ∷ [])
-        ++ minus_items (games_at (work_state state w) (drop (suc i) ps)) ≡ minus_items (games_at (work_state state w) ps)
-    all_items =
-        let front : List Game = games_at (work_state state w) (take i ps) in
-        let back : List Game = games_at (work_state state w) (drop (suc i) ps) in
-        let g : Game = game_at (work_state state w) f in
-        append_assoc (minus_items front) (minus_item g ∷ []) (minus_items back)
-        ∙ (sym (map-append minus_item front (g ∷ back)) ∙ ap minus_items (sym games_split))
+      pub negatives_stopped : {U : Type 0} (q : Result U ValueFault) (e : ValueFault) → r ≡ Err e → q ≡ Err e
+          → ItemsMade w x (minus_items (games_at w ps)) q
+      negatives_stopped q e a b =
+          let P : List Item → Type 0 = λ z. ItemsMade w x z q in
+          subst P (flat-map minus_item (games_at w ps))
+          (loop_stopped w v x negated_item ps i f within read made.keeps made.passed r item_made q e a b)
 
-    items_made : {T : Type 0} (x : WorkOf S) (r : Result T ValueFault)
-        → ItemsMade state v x (minus_item (game_at (work_state state v) f) ∷ []) r
-        → ItemsMade state w x (minus_items (games_at (work_state state w) (take i ps)) ++ (minus_item (game_at (work_state state w) f) ∷ [])) r
-    items_made x r item =
-        made_then state w v x (minus_items (games_at (work_state state w) (take i ps))) (minus_item (game_at (work_state state w) f) ∷ []) r
-        made.passed made.keeps
-        (made_as state v x (minus_item (game_at (work_state state v) f) ∷ []) (minus_item (game_at (work_state state w) f) ∷ []) r
-        (ap (λ z. minus_item z ∷ []) same_f) item)
-
-    pub negatives_stopped : {T U : Type 0} (x : WorkOf S) (r : Result T ValueFault) (q : Result U ValueFault) (e : ValueFault)
-        → r ≡ Err e → q ≡ Err e → ItemsMade state v x (minus_item (game_at (work_state state v) f) ∷ []) r
-        → ItemsMade state w x (minus_items (games_at (work_state state w) ps)) q
-    negatives_stopped x r q e a b item =
-        let front : List Item = minus_items (games_at (work_state state w) (take i ps)) ++ (minus_item (game_at (work_state state w) f) ∷ []) in
-        let back : List Item = minus_items (games_at (work_state state w) (drop (suc i) ps)) in
-        made_as state w x (front ++ back) (minus_items (games_at (work_state state w) ps)) q all_items
-        (stopped state w x front back r q e a b (items_made x r item))
-
-    pub negatives_more : {T : Type 0} (x : WorkOf S) (o : Negatives) (h : ℕ) (r : Result T ValueFault) (t : T) → r ≡ Ok t
-        → ItemsMade state v x (minus_item (game_at (work_state state v) f) ∷ []) r
-        → StandsFor (work_state state x) h (can (negative (game_at (work_state state v) f)))
-        → (work_state state v).spare ≤ (work_state state x).spare
-        → ((c : ℕ) → negative_found o c ≡ (if f == c then Some h else negative_found n c))
-        → NegativesMade state w x o (take (i + 1) ps)
-    negatives_more x o h r t ok item st spare kept =
-        let sv = work_state state v in
-        let sx = work_state state x in
-        let P : Game → Type 0 = λ z. StandsFor sx h (can (negative z)) in
-        let L : List Item → Type 0 = λ z. AllPass w.share w.spent z x.spent in
-        let V : List ℕ → Type 0 = λ z. (p : ℕ) → Has z p → IsSome (negative_found o p) in
-        let before = made.spare in
-        record {
-          keeps = keeps_then (work_state state w) sv sx made.keeps item.keeps;
-          passed = subst L next_items (passed state w x (minus_items (games_at (work_state state w) (take i ps))
-              ++ (minus_item (game_at (work_state state w) f) ∷ [])) r t ok (items_made x r item));
-          holds = holds_more n o f h kept sx (negatives_later sv sx item.keeps.known n made.holds)
-              (is_game_later sv sx item.keeps.known f next_game) (subst P (sym (game_later sv sx item.keeps.known f next_game)) st);
-          found = subst V (sym (take_next ps i f within read)) (λ c j. elim (has-append (take i ps) (f ∷ []) c j) [
-            | inl here ↦ finds_more n o f h kept c (made.found c here)
-            | inr (inl e) ↦ (let U : ℕ → Type 0 = λ z. IsSome (negative_found o z) in subst U e (finds_it n o f h kept))
-            | inr (inr none_left) ↦ absurd none_left
-          ]);
-          spare = omega arith;
-        }
+      pub negatives_more : (o : Negatives) (h : ℕ) (t : T) → r ≡ Ok t
+          → StandsFor x h (can (negative (game_at v f))) → v.spare ≤ x.spare
+          → ((c : ℕ) → negative_found o c ≡ (if f == c then Some h else negative_found n c))
+          → NegativesMade w x o (take (i + 1) ps)
+      negatives_more o h t ok st spare kept =
+          let P : Game → Type 0 = λ z. StandsFor x h (can (negative z)) in
+          let V : List ℕ → Type 0 = λ z. (p : ℕ) → Has z p → IsSome (negative_found o p) in
+          let before = made.spare in
+          record {
+            keeps = keeps_then w v x made.keeps item.keeps;
+            passed = loop_passed w v x negated_item ps i f within read made.keeps made.passed r item_made t ok;
+            holds = holds_more n o f h kept x (negatives_later v x item.keeps.known n made.holds)
+                (is_game_later v x item.keeps.known f next_game)
+                (subst P (sym (game_later v x item.keeps.known f next_game)) st);
+            found = subst V (sym (take_next ps i f within read)) (λ c j. elim (has-append (take i ps) (f ∷ []) c j) [
+              | inl here ↦ finds_more n o f h kept c (made.found c here)
+              | inr (inl e) ↦ (let U : ℕ → Type 0 = λ z. IsSome (negative_found o z) in subst U e (finds_it n o f h kept))
+              | inr (inr none_left) ↦ absurd none_left
+            ]);
+            spare = omega arith;
+          }
 
 -- ---- the item of a number
 
-module _ {S R : Type 0} (state : S → State Meant R) (w v x : WorkOf S) (f : ℕ) (a b : Number) (r : Result ℕ ValueFault)
-    (is : game_at (work_state state w) f ≡ number a) (turned : IsNegative a b)
-    (wv : Spends 0 (work_state state w) (work_state state v)) where
-  same_number : number b ≡ can (negative (game_at (work_state state w) f))
+module _ {R : Type 0} (w v x : State Meant (WorkRest R)) (f : ℕ) (a b : Number) (r : Result ℕ ValueFault)
+    (is : game_at w f ≡ number a) (turned : IsNegative a b)
+    (wv : Spends 0 w v) where
+  same_number : number b ≡ can (negative (game_at w f))
   same_number = sym (ap (λ z. can (negative z)) is ∙ can-negative_number a b turned)
 
-  pub number_game : IfOk r (λ h. StandsFor (work_state state x) h (number b))
-      → IfOk r (λ h. StandsFor (work_state state x) h (can (negative (game_at (work_state state w) f))))
+  pub number_game : IfOk r (λ h. StandsFor x h (number b))
+      → IfOk r (λ h. StandsFor x h (can (negative (game_at w f))))
   number_game p =
-      let P : Game → Type 0 = λ z. IfOk r (λ h. StandsFor (work_state state x) h z) in subst P same_number p
+      let P : Game → Type 0 = λ z. IfOk r (λ h. StandsFor x h z) in subst P same_number p
 
-  pub number_items : ItemsMade state v x (item_of (number b) 0 ∷ []) r
-      → ItemsMade state w x (minus_item (game_at (work_state state w) f) ∷ []) r
+  pub number_items : ItemsMade v x (item_of (number b) 0 ∷ []) r
+      → ItemsMade w x (minus_item (game_at w f) ∷ []) r
   number_items m =
       let item : Game → Item = λ z. item_of z 0 in
-      read_then state 0 w v x (minus_item (game_at (work_state state w) f) ∷ []) r wv
-      (made_as state v x (item_of (number b) 0 ∷ []) (minus_item (game_at (work_state state w) f) ∷ []) r
+      read_then 0 w v x (minus_item (game_at w f) ∷ []) r wv
+      (made_as v x (item_of (number b) 0 ∷ []) (minus_item (game_at w f) ∷ []) r
       (ap (λ z. item z ∷ []) same_number) m)
 
 -- ---- the end
 
-pub negative_made : {S R T : Type 0} (state : S → State Meant R) (w v x : WorkOf S) (a : ℕ) (ps : List ℕ)
-    → Spends 0 (work_state state w) (work_state state v)
-    → games_at (work_state state v) ps ≡ positions_of (game_at (work_state state w) a)
-    → length (positions_of (game_at (work_state state w) a)) ≤ w.limit → (r : Result T ValueFault)
-    → ItemsMade state v x (minus_items (games_at (work_state state v) ps)) r
-    → ItemsMade state w x (negative_items w.limit (game_at (work_state state w) a)) r
-negative_made state w v x a ps wv is within r m =
-    let g : Game = game_at (work_state state w) a in
-    read_then state 0 w v x (negative_items w.limit g) r wv
-    (made_as state v x (minus_items (games_at (work_state state v) ps)) (negative_items w.limit g) r
-    (ap minus_items is ∙ sym (all_within w.limit (length (positions_of g)) (minus_items (positions_of g)) within)) m)
+pub negative_made : {R T : Type 0} (w v x : State Meant (WorkRest R)) (a : ℕ) (ps : List ℕ)
+    → Spends 0 w v
+    → games_at v ps ≡ positions_of (game_at w a)
+    → length (positions_of (game_at w a)) ≤ w.rest.limit → (r : Result T ValueFault)
+    → ItemsMade v x (minus_items (games_at v ps)) r
+    → ItemsMade w x (negative_items w.rest.limit (game_at w a)) r
+negative_made w v x a ps wv is within r m =
+    let g : Game = game_at w a in
+    read_then 0 w v x (negative_items w.rest.limit g) r wv
+    (made_as v x (minus_items (games_at v ps)) (negative_items w.rest.limit g) r
+    (ap minus_items is ∙ sym (all_within w.rest.limit (length (positions_of g)) (minus_items (positions_of g)) within)) m)
 
 pub negative_stands : {R Q : Type 0} (s : State Meant R) (t : State Meant Q) → Grows (thing_at s) (thing_at t) → (m : Negatives)
     → HoldsNegatives t m → (a h : ℕ) → IsGame s a → negative_found m a ≡ Some h → StandsFor t h (can (negative (game_at s a)))

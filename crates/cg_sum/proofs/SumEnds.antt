@@ -5,8 +5,8 @@ use Rattle.std.proofs.lemmas.Bool.Decides.{nat_tests}
 use Rattle.std.proofs.Math.Nat.{mul-le-mul_left}
 use Rattle.cg_canon.proofs.ItemLaws.{refused-one}
 use Rattle.cg_canon.specs.Items.{Item, WasRefused, too_many}
-use Rattle.cg_canon.specs.Works.{WorkOf, work_state}
 use Rattle.cg_canon.specs.declared.fault.ValueFault.{ValueFault}
+use Rattle.cg_canon.specs.declared.rest.WorkRest.{WorkRest}
 use Rattle.cg_canon.specs.declared.fault.ValueFault.TheVariants.{Memory, Positions}
 use Rattle.cg_cells.specs.Meaning.{Grows, Has, IsInjective}
 use Rattle.cg_cells.specs.Store.{Spends, State, thing_at}
@@ -19,11 +19,11 @@ use Rattle.cg_nodes.specs.Positions.{positions_of}
 use Rattle.cg_nodes.specs.Spelled.{can}
 use Rattle.cg_sum.specs.Finds.{sum_found}
 use Rattle.cg_sum.specs.Lists.{pair_items, sum_items, within_limit}
-use Rattle.cg_sum.specs.Made.{ItemsMade}
+use Rattle.cg_canon.specs.Made.{ItemsMade}
 use Rattle.cg_sum.specs.Progress.{HoldsSums}
 use Rattle.cg_sum.specs.Written.{IsClosed}
 use Rattle.cg_sum.specs.declared.found.Sums.{Sums}
-use Rattle.cg_sum.proofs.MadeSteps.{made_as, read_then}
+use Rattle.cg_canon.proofs.MadeSteps.{made_as, read_then}
 use Rattle.cg_sum.proofs.Members.{among_has}
 use Rattle.cg_sum.proofs.Positions.{positions-closed, positions-own}
 
@@ -135,27 +135,27 @@ module _ {R : Type 0} (s : State Meant R) (hs ps : List ℕ) (g : Game) (is : hs
 
 -- ---- the end
 
-module _ {S R : Type 0} (state : S → State Meant R) (w v x : WorkOf S) (a b : ℕ) (fs ks : List ℕ)
-    (wv : Spends 0 (work_state state w) (work_state state v))
-    (firsts : games_at (work_state state v) fs ≡ positions_of (game_at (work_state state w) a))
-    (seconds : games_at (work_state state v) ks ≡ positions_of (game_at (work_state state w) b))
-    (within : length (positions_of (game_at (work_state state w) a)) * length (positions_of (game_at (work_state state w) b)) ≤ w.limit) where
-  pair_list : pair_items (games_at (work_state state v) fs) (games_at (work_state state v) ks)
-      ≡ sum_items w.limit (game_at (work_state state w) a) (game_at (work_state state w) b)
+module _ {R : Type 0} (w v x : State Meant (WorkRest R)) (a b : ℕ) (fs ks : List ℕ)
+    (wv : Spends 0 w v)
+    (firsts : games_at v fs ≡ positions_of (game_at w a))
+    (seconds : games_at v ks ≡ positions_of (game_at w b))
+    (within : length (positions_of (game_at w a)) * length (positions_of (game_at w b)) ≤ w.rest.limit) where
+  pair_list : pair_items (games_at v fs) (games_at v ks)
+      ≡ sum_items w.rest.limit (game_at w a) (game_at w b)
   pair_list =
-      let g : Game = game_at (work_state state w) a in
-      let h : Game = game_at (work_state state w) b in
-      ap (λ z. pair_items z (games_at (work_state state v) ks)) firsts
+      let g : Game = game_at w a in
+      let h : Game = game_at w b in
+      ap (λ z. pair_items z (games_at v ks)) firsts
       ∙ (ap (λ z. pair_items (positions_of g) z) seconds
-      ∙ sym (all_within w.limit (length (positions_of g) * length (positions_of h)) (pair_items (positions_of g) (positions_of h)) within))
+      ∙ sym (all_within w.rest.limit (length (positions_of g) * length (positions_of h)) (pair_items (positions_of g) (positions_of h)) within))
 
   pub sum_made : {T : Type 0} (r : Result T ValueFault)
-      → ItemsMade state v x (pair_items (games_at (work_state state v) fs) (games_at (work_state state v) ks)) r
-      → ItemsMade state w x (sum_items w.limit (game_at (work_state state w) a) (game_at (work_state state w) b)) r
+      → ItemsMade v x (pair_items (games_at v fs) (games_at v ks)) r
+      → ItemsMade w x (sum_items w.rest.limit (game_at w a) (game_at w b)) r
   sum_made r m =
-      read_then state 0 w v x (sum_items w.limit (game_at (work_state state w) a) (game_at (work_state state w) b)) r wv
-      (made_as state v x (pair_items (games_at (work_state state v) fs) (games_at (work_state state v) ks))
-      (sum_items w.limit (game_at (work_state state w) a) (game_at (work_state state w) b)) r pair_list m)
+      read_then 0 w v x (sum_items w.rest.limit (game_at w a) (game_at w b)) r wv
+      (made_as v x (pair_items (games_at v fs) (games_at v ks))
+      (sum_items w.rest.limit (game_at w a) (game_at w b)) r pair_list m)
 
 pub sum_stands : {R Q : Type 0} (s : State Meant R) (t : State Meant Q) → Grows (thing_at s) (thing_at t) → (m : Sums) → HoldsSums t m
     → (a b h : ℕ) → IsGame s a → IsGame s b → sum_found m a b ≡ Some h → StandsFor t h (can (sum (game_at s a) (game_at s b)))
@@ -178,29 +178,29 @@ product_within a b c d l k e f h within =
     let no_more : ¬ (k < c * d) = λ above. within (product_above c d a b k l (sym e) (sym f) (sym h) above) in
     omega (arith, no_more)
 
-module _ {S R : Type 0} (state : S → State Meant R) (w v : WorkOf S) (n : ℕ) (wv : Spends n (work_state state w) (work_state state v)) where
-  pub same_spent : v.spent ≡ w.spent
+module _ {R : Type 0} (w v : State Meant (WorkRest R)) (n : ℕ) (wv : Spends n w v) where
+  pub same_spent : v.rest.spent ≡ w.rest.spent
   same_spent = ap (λ r. r.spent) wv.rest
 
-  pub same_limit : v.limit ≡ w.limit
+  pub same_limit : v.rest.limit ≡ w.rest.limit
   same_limit = ap (λ r. r.limit) wv.rest
 
   -- the positions of a game, as the work was before
-  pub positions_before : (b : ℕ) → IsGame (work_state state w) b
-      → positions_of (game_at (work_state state v) b) ≡ positions_of (game_at (work_state state w) b)
-  positions_before b g = ap positions_of (game_later (work_state state w) (work_state state v) wv.known b g)
+  pub positions_before : (b : ℕ) → IsGame w b
+      → positions_of (game_at v b) ≡ positions_of (game_at w b)
+  positions_before b g = ap positions_of (game_later w v wv.known b g)
 
-  pub stands_before : {Q : Type 0} (t : State Meant Q) (b : ℕ) (hs : List ℕ) → IsGame (work_state state w) b
-      → StandFor t hs (positions_of (game_at (work_state state v) b)) → StandFor t hs (positions_of (game_at (work_state state w) b))
+  pub stands_before : {Q : Type 0} (t : State Meant Q) (b : ℕ) (hs : List ℕ) → IsGame w b
+      → StandFor t hs (positions_of (game_at v b)) → StandFor t hs (positions_of (game_at w b))
   stands_before t b hs g a = let P : List Game → Type 0 = λ z. StandFor t hs z in subst P (positions_before b g) a
 
-  pub refusal_before : (b : ℕ) (fault : ValueFault) → IsGame (work_state state w) b
-      → (fault ≡ Memory) ⊎ ((fault ≡ Positions) × (v.limit < length (positions_of (game_at (work_state state v) b))))
-      → (fault ≡ Memory) ⊎ ((fault ≡ Positions) × (w.limit < length (positions_of (game_at (work_state state w) b))))
+  pub refusal_before : (b : ℕ) (fault : ValueFault) → IsGame w b
+      → (fault ≡ Memory) ⊎ ((fault ≡ Positions) × (v.rest.limit < length (positions_of (game_at v b))))
+      → (fault ≡ Memory) ⊎ ((fault ≡ Positions) × (w.rest.limit < length (positions_of (game_at w b))))
   refusal_before b fault g (inl e) = inl e
   refusal_before b fault g (inr (e, above)) =
-      let P : ℕ → Type 0 = λ z. z < length (positions_of (game_at (work_state state v) b)) in
-      let Q : List Game → Type 0 = λ z. w.limit < length z in
+      let P : ℕ → Type 0 = λ z. z < length (positions_of (game_at v b)) in
+      let Q : List Game → Type 0 = λ z. w.rest.limit < length z in
       inr (e, subst Q (positions_before b g) (subst P same_limit above))
 
 pub false_true : (b : Bool) → b ≡ false → b ≡ true → ⊥

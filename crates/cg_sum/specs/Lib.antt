@@ -2,4 +2,3 @@ pub mod Written
 pub mod Lists
 pub mod Finds
 pub mod Progress
-pub mod Made

@@ -5,7 +5,7 @@ ghost use Rattle.cg_form.specs.Sum.{sum};
 ghost use Rattle.cg_nodes.specs.Games.{IsGame, IsNode, StandsFor, game_at};
 ghost use Rattle.cg_nodes.specs.Spelled.{can};
 ghost use Rattle.cg_sum.specs.Lists.{sum_item as item_of_sum};
-ghost use Rattle.cg_sum.specs.Made.{ItemsMade};
+ghost use Rattle.cg_canon.specs.Made.{ItemsMade};
 ghost use Rattle.cg_sum.specs.Progress.{HoldsSums, OptionsFound};
 
 use crate::found::Sums;
@@ -36,7 +36,7 @@ pub(crate) fn sum_item<B: BoardForms, S: CellStore<GameFacts<B>>>(
     requires spare { start ≤ (work_state S.state work.old).spare }
     ensures game { let W = work_state S.state work.old in IfOk result (λ h. StandsFor (work_state S.state work.new) h
         (can (sum (game_at W f) (game_at W k)))) }
-    ensures made { let W = work_state S.state work.old in ItemsMade S.state work.old work.new
+    ensures made { let W = work_state S.state work.old in ItemsMade W (work_state S.state work.new)
         (item_of_sum (game_at W f) (game_at W k) ∷ []) result }
     ensures spare { start ≤ (work_state S.state work.new).spare }
 {
@@ -66,7 +66,7 @@ fn game_item<B: BoardForms, S: CellStore<GameFacts<B>>>(
     requires spare { start ≤ (work_state S.state work.old).spare }
     ensures game { let W = work_state S.state work.old in IfOk result (λ h. StandsFor (work_state S.state work.new) h
         (can (sum (game_at W f) (game_at W k)))) }
-    ensures made { let W = work_state S.state work.old in ItemsMade S.state work.old work.new
+    ensures made { let W = work_state S.state work.old in ItemsMade W (work_state S.state work.new)
         (item_of_sum (game_at W f) (game_at W k) ∷ []) result }
     ensures spare { start ≤ (work_state S.state work.new).spare }
 {
@@ -103,7 +103,7 @@ fn made_item<B: BoardForms, S: CellStore<GameFacts<B>>>(
     requires found { OptionsFound (work_state S.state work.old) sums.now f k }
     ensures game { let W = work_state S.state work.old in IfOk result (λ h. StandsFor (work_state S.state work.new) h
         (can (sum (game_at W f) (game_at W k)))) }
-    ensures made { let W = work_state S.state work.old in ItemsMade S.state work.old work.new
+    ensures made { let W = work_state S.state work.old in ItemsMade W (work_state S.state work.new)
         (item_of_sum (game_at W f) (game_at W k) ∷ []) result }
     ensures spare { OnOk result ((work_state S.state work.old).spare + 1 ≤ (work_state S.state work.new).spare) }
     ensures more { (work_state S.state work.old).spare ≤ (work_state S.state work.new).spare }

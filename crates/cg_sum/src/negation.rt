@@ -10,7 +10,7 @@ ghost use Rattle.cg_nodes.specs.Games.{AreGames, IsGame, IsNode, StandsFor, game
 ghost use Rattle.cg_nodes.specs.Spelled.{can};
 ghost use Rattle.cg_sum.specs.Finds.{negative_found, negative_handle};
 ghost use Rattle.cg_sum.specs.Lists.{minus_item, minus_items, negative_items};
-ghost use Rattle.cg_sum.specs.Made.{ItemsMade};
+ghost use Rattle.cg_canon.specs.Made.{ItemsMade};
 ghost use Rattle.cg_sum.specs.Progress.{HoldsNegatives, OptionsNegated};
 ghost use Rattle.cg_sum.specs.Written.{IsClosed};
 
@@ -66,7 +66,7 @@ fn add_negatives<B: BoardForms, S: CellStore<GameFacts<B>>>(
     requires holds { HoldsNegatives (work_state S.state work.old) negatives.old }
     ensures found { OnOk result ((p : ℕ) → Has positions.now p → IsSome (negative_found negatives.new p)) }
     ensures holds { OnOk result (HoldsNegatives (work_state S.state work.new) negatives.new) }
-    ensures made { let W = work_state S.state work.old in ItemsMade S.state work.old work.new
+    ensures made { let W = work_state S.state work.old in ItemsMade W (work_state S.state work.new)
         (minus_items (games_at W positions.now)) result }
     ensures spare { (work_state S.state work.old).spare ≤ (work_state S.state work.new).spare }
 {
@@ -89,7 +89,7 @@ fn negative_item<B: BoardForms, S: CellStore<GameFacts<B>>>(
     requires found { OptionsNegated (work_state S.state work.old) negatives.now f }
     ensures game { let W = work_state S.state work.old in IfOk result (λ h. StandsFor (work_state S.state work.new) h
         (can (minus (game_at W f)))) }
-    ensures made { let W = work_state S.state work.old in ItemsMade S.state work.old work.new
+    ensures made { let W = work_state S.state work.old in ItemsMade W (work_state S.state work.new)
         (minus_item (game_at W f) ∷ []) result }
     ensures spare { (work_state S.state work.old).spare ≤ (work_state S.state work.new).spare }
 {

@@ -3,7 +3,7 @@ ghost use Rattle.std.specs.Prelude.{◌≤◌, OnOk};
 ghost use Rattle.cg_canon.specs.Works.{work_state};
 ghost use Rattle.cg_nodes.specs.Games.{AreGames, IsGame, game_at, games_at};
 ghost use Rattle.cg_sum.specs.Lists.{pair_items, row_items};
-ghost use Rattle.cg_sum.specs.Made.{ItemsMade};
+ghost use Rattle.cg_canon.specs.Made.{ItemsMade};
 ghost use Rattle.cg_sum.specs.Progress.{FindsMore, HoldsSums, RowFound, RowReady, RowsFound};
 ghost use Rattle.cg_sum.specs.Written.{IsClosed};
 
@@ -32,7 +32,7 @@ pub(crate) fn add_rows<B: BoardForms, S: CellStore<GameFacts<B>>>(
     requires spare { start ≤ (work_state S.state work.old).spare }
     ensures found { OnOk result (RowsFound sums.new firsts.now seconds.now) }
     ensures holds { OnOk result (HoldsSums (work_state S.state work.new) sums.new) }
-    ensures made { let W = work_state S.state work.old in ItemsMade S.state work.old work.new
+    ensures made { let W = work_state S.state work.old in ItemsMade W (work_state S.state work.new)
         (pair_items (games_at W firsts.now) (games_at W seconds.now)) result }
     ensures spare { start ≤ (work_state S.state work.new).spare }
 {
@@ -60,7 +60,7 @@ fn add_row<B: BoardForms, S: CellStore<GameFacts<B>>>(
     ensures found { OnOk result (RowFound sums.new f seconds.now) }
     ensures more { OnOk result (FindsMore sums.old sums.new) }
     ensures holds { OnOk result (HoldsSums (work_state S.state work.new) sums.new) }
-    ensures made { let W = work_state S.state work.old in ItemsMade S.state work.old work.new
+    ensures made { let W = work_state S.state work.old in ItemsMade W (work_state S.state work.new)
         (row_items (games_at W seconds.now) (game_at W f)) result }
     ensures spare { start ≤ (work_state S.state work.new).spare }
 {

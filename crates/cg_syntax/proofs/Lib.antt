@@ -1,5 +1,4 @@
 pub mod TreeOf
-pub mod Texts
 pub mod Cutting
 pub mod Factored
 pub mod SameArrows
@@ -16,3 +15,16 @@ pub mod More
 pub mod Special
 pub mod Whole
 pub mod LongestRun
+pub mod WrittenTokens
+pub mod WrittenTerms
+pub mod WrittenSpecials
+pub mod WrittenBoards
+pub mod WrittenLists
+pub mod WrittenParts
+pub mod WrittenTrees
+pub mod WrittenReads
+pub mod Writable
+pub mod Walk
+pub mod WrittenSteps
+pub mod WrittenBytes
+pub mod Heights

@@ -11,3 +11,4 @@ pub mod Questions
 pub mod Lines
 pub mod Answered
 pub mod Splitting
+pub mod Written

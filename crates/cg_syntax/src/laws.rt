@@ -1,10 +1,11 @@
 //! Laws of the grammar, for all lines and all questions. A call puts its law into the caller's facts.
-ghost use Rattle.std.specs.Prelude.{◌≡◌, ◌⊎◌, ℕ, List, false};
+ghost use Rattle.std.specs.Prelude.{◌≡◌, ◌≤◌, ◌⊎◌, ℕ, List, false};
 ghost use Rattle.cg_syntax.specs.Tree.{Question};
 ghost use Rattle.cg_syntax.specs.Found.{Found};
 ghost use Rattle.cg_syntax.specs.Braces.{Run_side, part_of};
 ghost use Rattle.cg_syntax.specs.Splitting.{AllWithin, IsSplit, IsWithoutRepeats};
 ghost use Rattle.cg_syntax.specs.Lines.{is_blank_line, IsColumn, IsComment, Reads};
+ghost use Rattle.cg_syntax.specs.Written.{QuestionIs, asked_text, height};
 
 /// No line reads as two questions, no blank line and no comment as one, and each line as one, or as none. A line that
 /// reads as none has exactly one column.
@@ -22,4 +23,10 @@ pub fn one_query()
 pub fn longest_run()
     ensures { (side : List Found) (rows : List Run_side) → AllWithin 8 rows → IsWithoutRepeats rows
         → IsSplit side rows (part_of 8 side rows) }
+{}
+
+/// What is written of a question that some line reads as, with at most 64 nodes on each path of its trees, is a line that
+/// reads as it.
+pub fn written_reads()
+    ensures { (line : List ℕ) (q : Question) → Reads line q → QuestionIs (λ t. height t ≤ 64) q → Reads (asked_text q) q }
 {}

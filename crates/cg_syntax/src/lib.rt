@@ -1,4 +1,5 @@
-//! Lines of questions: `read_line` tells what one line of a session asks, by this grammar.
+//! Lines of questions: `read_line` tells what one line of a session asks, by this grammar, and `write_query` writes a
+//! question as a line.
 //!
 //! ```text
 //! line     = B query B
@@ -41,6 +42,7 @@ mod faults;
 mod found;
 mod kind;
 pub mod laws;
+mod levels;
 mod line;
 mod named;
 mod query;
@@ -48,9 +50,14 @@ mod questions;
 mod split;
 mod terms;
 mod text;
+mod write;
+mod write_expr;
+mod write_tokens;
 
 pub use expr::{Expr, Exprs, Term, Terms};
 pub use kind::GameKind;
+pub use levels::is_low;
 pub use line::read_line;
 pub use query::{Line, Query, SyntaxFault};
 pub use text::Text;
+pub use write::write_query;

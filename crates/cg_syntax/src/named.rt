@@ -77,7 +77,7 @@ fn after_printable(bytes: &[u8]) -> &[u8]
 }
 
 /// All bytes in front that may stand between quotation marks.
-#[tactic(auto, using(cg_reading::proofs::Skip::taken_length, crate::proofs::Texts::taken_take), unfolding(crate::specs::Reading::printable_at))]
+#[tactic(auto, using(cg_reading::proofs::Skip::taken_length, cg_reading::proofs::Skip::taken_take), unfolding(crate::specs::Reading::printable_at))]
 fn text(alloc: Global, bytes: &[u8]) -> Result<(Text, &[u8]), ReadFault>
     ensures read { (end : ℕ) → Gives (λ x. (x.0, x.1.now)) result (printable_at end bytes.now) }
     ensures shorter { IfOk result (λ x. length x.1.now ≤ length bytes.now) }

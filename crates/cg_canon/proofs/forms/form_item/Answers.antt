@@ -1,4 +1,4 @@
-use Rattle.std.proofs.Common.{◌≡◌, ap, sym, ◌∙◌, subst}
+use Rattle.std.proofs.Common.{ap, sym, subst}
 use Rattle.cg_form.specs.Game.{Game, node, number}
 use Rattle.cg_form.specs.Simple.{NoNumber}
 use Rattle.cg_cells.specs.Store.{Spends}
@@ -116,7 +116,7 @@ whole_item-requires-clause-profile g c =
     let all = spends_then 0 0 (W c.args.work.now) (W c.outline_of.new.work) (W c.outline_of-2.new.work) c.outline_of.ensures.spends c.outline_of-2.ensures.spends in
     let P : Game → Type 0 = λ z. IsProfile z c.in_ok-profile-in-Nothing.profile in
     subst P (sym (node_later (W c.args.work.now) (W c.outline_of-2.new.work) c.args.lefts.now c.args.rights.now c.requires.lefts c.requires.rights all))
-    (c.in_ok-profile-in-Nothing.ensures (games_at (W c.args.work.now) c.args.lefts.now) (games_at (W c.args.work.now) c.args.rights.now) never cuts.low_is cuts.high_is)
+    (c.in_ok-profile-in-Nothing.ensures.ok (games_at (W c.args.work.now) c.args.lefts.now) (games_at (W c.args.work.now) c.args.rights.now) never cuts.low_is cuts.high_is)
 
 pub returns-in_ok-profile-in-Nothing-clause-game : goal.returns-in_ok-profile-in-Nothing-clause-game
 returns-in_ok-profile-in-Nothing-clause-game g c =

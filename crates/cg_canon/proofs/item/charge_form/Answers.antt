@@ -1,4 +1,4 @@
-use Rattle.std.proofs.Common.{◌≡◌, refl, ap}
+use Rattle.std.proofs.Common.{refl, ap}
 use Rattle.cg_canon.specs.Works.{WorkOf}
 use Rattle.cg_canon.proofs.Charging.{pass_if, refuse_if, too_deep}
 use Rattle.cg_canon.proofs.Results.{on_ok, on_err}

@@ -1,6 +1,6 @@
-use Rattle.std.proofs.Common.{◌≡◌, ap, sym, ◌∙◌, arith, subst, length}
+use Rattle.std.proofs.Common.{ap, arith, subst}
 use Rattle.cg_form.specs.Game.{Game}
-use Rattle.cg_nodes.specs.Games.{StandsFor, listed}
+use Rattle.cg_nodes.specs.Games.{StandsFor}
 use Rattle.cg_nodes.proofs.Later.{are_games_later}
 use Rattle.cg_canon.specs.Works.{WorkOf, work_state}
 use Rattle.cg_canon.proofs.Charging.{canonical_node, cost_of_lists, known_grows, same_node, two_lists}

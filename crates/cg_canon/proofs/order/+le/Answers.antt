@@ -1,6 +1,5 @@
-use Rattle.std.proofs.Common.{◌≡◌, refl, ap, sym, ◌∙◌, true, false, rules}
+use Rattle.std.proofs.Common.{◌≡◌, refl, ap, sym, ◌∙◌, true, rules}
 use Rattle.cg_form.specs.Size.{list_size, size}
-use Rattle.cg_form.specs.Order.{no_one}
 use Rattle.cg_form.specs.Side.{at_most}
 use Rattle.cg_nodes.specs.Games.{game_at, listed}
 use Rattle.cg_nodes.proofs.Later.{is_list_later, listed_later, game_later, is_game_later, spends_then}

@@ -26,7 +26,7 @@ pub outline_of_list-loop-top-preserved : goal.outline_of_list-loop-top-preserved
 outline_of_list-loop-top-preserved g t c =
     let W = work_state g.S.CellStore.state in
     outlined_more (W c.args.work.now) (W c.loop-top.work) (W c.head.new.store) (W c.profile_of.new.work) c.args.left c.args.list c.loop-top.rest c.in-Some.top c.loop-top.outline c.in_ok-outline.outline c.in_ok-option.option
-    c.loop-top.invariant c.head.ensures.spends c.in-Some.ensures.head c.profile_of.ensures.spends c.in_ok-option.ensures.profile c.in_ok-outline.ensures
+    c.loop-top.invariant c.head.ensures.spends c.in-Some.ensures.head c.profile_of.ensures.spends c.in_ok-option.ensures.profile c.in_ok-outline.ensures.ok
 
 pub profile_of-keep-requires-clause-profile : goal.profile_of-keep-requires-clause-profile
 profile_of-keep-requires-clause-profile g t c =

@@ -21,5 +21,5 @@ loop-option-preserved g c =
     record {
       spends = spends_then 0 0 (W c.args.work.now) (W c.loop-option.work) (W c.profile_of.new.work) c.loop-option.invariant.spends c.profile_of.ensures.spends;
       outline = outline_next (W c.args.work.now) (W c.loop-option.work) c.args.left c.args.options.now c.loop-option.option-index c.option-item.result c.loop-option.outline c.in_ok-outline.outline c.in_ok-next.next
-          c.requires c.loop-option-test.true c.option-item.is c.loop-option.invariant.spends c.loop-option.invariant.outline c.in_ok-next.ensures.profile c.in_ok-outline.ensures;
+          c.requires c.loop-option-test.true c.option-item.is c.loop-option.invariant.spends c.loop-option.invariant.outline c.in_ok-next.ensures.profile c.in_ok-outline.ensures.ok;
     }

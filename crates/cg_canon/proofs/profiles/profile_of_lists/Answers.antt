@@ -19,7 +19,7 @@ pub returns-clause-profile : goal.returns-clause-profile
 returns-clause-profile g c =
     let W = work_state g.S.CellStore.state in
     let cuts = list_cuts (W c.args.work.now) (W c.outline_of.new.work) c.args.lefts.now c.args.rights.now c.in_ok-low.low c.in_ok-high.high c.requires.rights c.outline_of.ensures.spends c.requires.no_number c.in_ok-low.ensures.outline c.in_ok-high.ensures.outline in
-    if_ok c.between.result _ _ c.between.ensures
+    if_ok c.between.result _ _ c.between.ensures.ok
     (λ r f. f (games_at (W c.args.work.now) c.args.lefts.now) (games_at (W c.args.work.now) c.args.rights.now) c.requires.no_number cuts.low_is cuts.high_is)
 
 pub outline_of-requires-2 : goal.outline_of-requires-2

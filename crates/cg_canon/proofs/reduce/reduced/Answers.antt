@@ -1,7 +1,3 @@
-use Rattle.std.proofs.Common.{◌≡◌, ℕ, List, ap, sym, ◌∙◌, subst}
-use Rattle.cg_form.specs.Game.{Game, node}
-use Rattle.cg_form.specs.Simple.{NoNumber}
-use Rattle.cg_nodes.specs.Games.{AreGames, games_at}
 use Rattle.cg_nodes.proofs.Later.{spends_then}
 use Rattle.cg_canon.specs.Works.{work_state}
 use Rattle.cg_canon.proofs.Forming.{formed, whole_begins}

@@ -1,6 +1,6 @@
-use Rattle.std.proofs.Common.{◌≡◌, ap, sym, ◌∙◌, refl, rules, true, false, not, arith}
+use Rattle.std.proofs.Common.{◌≡◌, ap, sym, rules, true, false, not}
 use Rattle.cg_form.specs.Side.{at_most}
-use Rattle.cg_form.specs.Size.{list_size, size}
+use Rattle.cg_form.specs.Size.{list_size}
 use Rattle.cg_nodes.specs.Games.{game_at, games_at, listed}
 use Rattle.cg_nodes.proofs.Later.{game_later, spends_then}
 use Rattle.cg_canon.specs.Wholes.{whole_game}

@@ -1,6 +1,5 @@
-use Rattle.std.proofs.Common.{◌≡◌, ap, sym, ◌∙◌, true, false}
+use Rattle.std.proofs.Common.{ap, ◌∙◌, true, false}
 use Rattle.cg_form.specs.Side.{at_most}
-use Rattle.cg_nodes.specs.Games.{game_at}
 use Rattle.cg_nodes.proofs.Later.{game_later, is_game_later, spends_then}
 use Rattle.cg_canon.specs.Wholes.{whole_game}
 use Rattle.cg_canon.specs.Works.{work_state}

@@ -1,4 +1,4 @@
-use Rattle.std.proofs.Common.{◌≡◌, ℕ, ap, subst, sym, ◌∙◌}
+use Rattle.std.proofs.Common.{ℕ, ap, subst, sym, ◌∙◌}
 use Rattle.cg_form.specs.Side.{at_most}
 use Rattle.cg_nodes.specs.Games.{IsGame, game_at}
 use Rattle.cg_nodes.proofs.Later.{game_later, is_game_later, spends_then}

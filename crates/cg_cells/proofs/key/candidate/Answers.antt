@@ -1,8 +1,8 @@
-use Rattle.std.proofs.Common.{◌≡◌, ℕ, ◌+◌, ◌<◌, Some, Option, ◌/◌, ◌%◌, ◌^◌, arith, ap}
+use Rattle.std.proofs.Common.{◌≡◌, ℕ, ◌+◌, ◌<◌, Some, Option, ◌/◌, ◌%◌, ◌^◌, ◌==◌, arith, ap}
 use Rattle.cg_cells.specs.declared.key.KeyParts.{KeyParts}
-use Rattle.cg_cells.specs.declared.key.KeyParts.TheVariants.{Number, Chunk, Cons, Game, Pair, Board}
+use Rattle.cg_cells.specs.declared.key.KeyParts.TheVariants.{Number, Chunk, Cons, Game, Pair, Board, Long}
 use Rattle.cg_cells.specs.Layout.{FieldsFit, TypesFit, IsLink, word_of, id_field}
-use Rattle.cg_cells.proofs.Layouts.{link_small, kind_word, kind_of}
+use Rattle.cg_cells.proofs.Layouts.{link_small, kind_word, kind_of, sign_small, sign_back}
 use Rattle.cg_cells.proofs.key.candidate.Goals as goal
 
 same_kind : (p : KeyParts) (w k : ℕ) → FieldsFit p → TypesFit p → word_of p ≡ w → w / 2 ^ 61 ≡ k → kind_of p ≡ k
@@ -22,6 +22,7 @@ cons (Cons first rest) w x o f t e k hx ho =
 cons (Game lefts rights) w x o f t e k hx ho = absurd (omega arith)
 cons (Pair low high) w x o f t e k hx ho = absurd (omega arith)
 cons (Board number rows columns first) w x o f t e k hx ho = absurd (omega arith)
+cons (Long first exp negative) w x o f t e k hx ho = absurd (omega arith)
 
 pair : (p : KeyParts) (w x y : ℕ) → FieldsFit p → TypesFit p → word_of p ≡ w → kind_of p ≡ 5
     → ((i : ℕ) → i < 2 ^ 26 → i + 1 ≡ w % 2 ^ 61 % 134217728 → x ≡ i)
@@ -44,6 +45,17 @@ board (Board number rows columns first) w x f t e k hx =
     cc
 board _ w x f t e k hx = absurd (omega arith)
 
+long : (p : KeyParts) (w x : ℕ) → FieldsFit p → TypesFit p → word_of p ≡ w → kind_of p ≡ 7
+    → ((i : ℕ) → i < 2 ^ 26 → i + 1 ≡ w % 2 ^ 61 % 134217728 → x ≡ i)
+    → Long x (w % 2 ^ 61 / 134217728 % 64) (w % 2 ^ 61 / 8589934592 == 1) ≡ p
+long (Long first exp negative) w x f t e k hx =
+    let small = sign_small negative in
+    let a : x ≡ first = hx first t (omega arith) in
+    let b : w % 2 ^ 61 / 134217728 % 64 ≡ exp = omega arith in
+    let d = sign_back negative (w % 2 ^ 61 / 8589934592) (omega arith) in
+    cc
+long _ w x f t e k hx = absurd (omega arith)
+
 pub returns-in-3 : goal.returns-in-3
 returns-in-3 c = λ p f t e. ap Some (cons p c.args.word _ _ f t e (same_kind p c.args.word 3 f t e c.in-3.is) c.id_in.ensures c.link_in-in-3.ensures)
 
@@ -52,3 +64,6 @@ returns-in-5 c = λ p f t e. ap Some (pair p c.args.word _ _ f t e (same_kind p 
 
 pub returns-in-6 : goal.returns-in-6
 returns-in-6 c = λ p f t e. ap Some (board p c.args.word _ f t e (same_kind p c.args.word 6 f t e c.in-6.is) c.id_in-in-6.ensures)
+
+pub returns-in-7 : goal.returns-in-7
+returns-in-7 c = λ p f t e. ap Some (long p c.args.word _ f t e (same_kind p c.args.word 7 f t e c.in-7.is) c.id_in-in-7.ensures)

@@ -1,4 +1,4 @@
-use Rattle.std.proofs.Common.{◌≡◌, w64, to_z, of_z, ℤ, ◌<◌, ◌^◌, arith}
+use Rattle.std.proofs.Common.{◌≡◌, to_z, of_z, ℤ, ◌<◌, ◌^◌, arith}
 use Rattle.std.proofs.lemmas.Int.{to_z-of_z, fits_signed_from_abs}
 use Rattle.std.specs.Prelude.{unsigned_abs}
 use mir.Syntax.{w128}
@@ -7,9 +7,8 @@ use Rattle.cg_dyadic.proofs.Gap.{found_held, found_inside, gap_found, gap_nothin
 use Rattle.cg_dyadic.proofs.Truth.{differ}
 use Rattle.cg_dyadic.proofs.search.simplest_in.Goals as goal
 
-word : (n : ℤ) → unsigned_abs n < 2 ^ 52 → to_z w64 (of_z w64 (to_z w128 (of_z w128 n))) ≡ n
-word n h = let e = to_z-of_z w128 n (fits_signed_from_abs w128 n (omega arith)) in
-    rw e (to_z-of_z w64 n (fits_signed_from_abs w64 n (omega arith)))
+word : (n : ℤ) → unsigned_abs n < 2 ^ 64 → to_z w128 (of_z w128 n) ≡ n
+word n h = to_z-of_z w128 n (fits_signed_from_abs w128 n (omega arith))
 
 pub returns-then-crossed : goal.returns-then-crossed
 returns-then-crossed c = gap_nothing c.args.low c.args.high _ _ _ c.first_unit-first.ensures.is c.last_unit-last.ensures.is c.first_unit-first.ensures.short c.last_unit-last.ensures.short c.crossed.ensures c.if-crossed.true

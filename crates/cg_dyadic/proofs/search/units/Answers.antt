@@ -6,7 +6,7 @@ use Rattle.cg_dyadic.specs.Units.{units}
 use Rattle.cg_dyadic.proofs.Gap.{small_around, units_is}
 use Rattle.cg_dyadic.proofs.search.units.Goals as goal
 
-value : (c : goal.After-scaled) → to_z w128 (of_z w128 c.scaled.result) ≡ units 32 c.args.x
+value : (c : goal.After-scaled) → to_z w128 (of_z w128 c.scaled.result) ≡ units 41 c.args.x
 value c = to_z-of_z w128 c.scaled.result (record { sfits = c.scaled.type_inv })
     ∙ units_is c.args.x (num_of c.args.x) c.scaled.result c.x.inside.exp refl (ap exp_of (sym c.x.view_is) ∙ c.x.invariant.exp_is) c.scaled.ensures.value
 

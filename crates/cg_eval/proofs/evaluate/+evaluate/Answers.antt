@@ -1,4 +1,4 @@
-use Rattle.std.proofs.Common.{◌≡◌, rules, ap, sym, ◌∙◌, subst, refl, ◌+◌, arith, take, true, false, List, [], ◌∷◌, ◌++◌, ℕ, Bool, Ok, Err}
+use Rattle.std.proofs.Common.{◌≡◌, rules, ap, sym, ◌∙◌, subst, refl, ◌+◌, arith, take, None, List, [], ◌∷◌, ◌++◌, ℕ, Bool, Ok, Err}
 use Rattle.std.proofs.lemmas.Result.{err_from_is_err_and}
 use Rattle.cg_canon.specs.Works.{work_state}
 use Rattle.cg_canon.specs.declared.fault.ValueFault.TheVariants.{Memory}
@@ -8,7 +8,9 @@ use Rattle.cg_syntax.specs.Trees.{tree_of, trees_in, trees_of, term_of, terms_in
 use Rattle.cg_syntax.specs.declared.expr.Expr.{Expr}
 use Rattle.cg_syntax.specs.declared.expr.Expr.TheVariants as expr
 use Rattle.cg_syntax.proofs.TreeOf.{number_tree, ups_tree_of, nimber_tree, switch_tree, tiny_tree, braces_tree, negative_tree, multiple_tree, sum_tree, game_tree, term_tree}
-use Rattle.cg_names.specs.Meaning.{any_board, has_board, meaning, signed, total_with}
+use Rattle.cg_names.specs.Meaning.{signed}
+use Rattle.cg_eval.specs.Faults.{fault_in, fault_in_all}
+use Rattle.cg_eval.specs.Meaning.{meaning, total_with}
 use Rattle.cg_eval.specs.Progress.{Evaluates, Gives}
 use Rattle.cg_eval.specs.Items.{all_items, further_items, items, signed_items, term_part}
 use Rattle.cg_sum.specs.Lists.{sum_items, negative_items, multiple_items}
@@ -21,7 +23,8 @@ use Rattle.cg_nodes.proofs.Later.{are_games_later, is_game_later, stands_is_game
 use Rattle.cg_canon.specs.Items.{made}
 use Rattle.std.proofs.lemmas.List.{nil_from_length}
 use Rattle.cg_syntax.specs.declared.expr.Term.{Term}
-use Rattle.cg_eval.proofs.BoardParts.{any_board-at, any_term_board-at, board_of, board_of_braces, board_of_term, or_false}
+use Rattle.cg_eval.proofs.BoardParts.{board_gives}
+use Rattle.cg_eval.proofs.FaultParts.{fault_of_braces, fault_of_term, fault_of_tree, neither, none_in-all, none_in-terms}
 use Rattle.cg_eval.proofs.Walk.{size, size_of_braces, size_of_negative, size_of_multiple, size_of_sum, size_of_item, size_of_term}
 use Rattle.cg_eval.proofs.ListSteps.{adds, all_made-all, all_made-none, all_made-step, all_stopped, added-all, added-none, added-step, added-stopped, first_and_rest, first_board, first_size, first_term_stopped, gives_all-err, no_terms_give, sum_of_terms}
 use Rattle.cg_eval.proofs.Expressions.{added_gives, braces_gives, left_stopped, multiple_gives, multiple_stopped, negative_gives, negative_stopped, right_stopped, stopped_part, subtracted_gives, sum_gives}
@@ -33,9 +36,9 @@ use Rattle.cg_eval.proofs.evaluate.+evaluate.Goals as goal
 pub evaluate-braces-requires : goal.evaluate-braces-requires
 evaluate-braces-requires g t c =
     let b = size_of_braces c.args.expr.now c.in-Braces.lefts c.in-Braces.rights c.in-Braces.is in
-    let d = or_false (any_board (trees_from (trees_in c.in-Braces.lefts))) (any_board (trees_from
+    let d = neither (fault_in_all (trees_from (trees_in c.in-Braces.lefts))) (fault_in_all (trees_from
     (trees_in c.in-Braces.rights)))
-    (sym (board_of_braces c.args.expr.now c.in-Braces.lefts c.in-Braces.rights c.in-Braces.is) ∙ c.requires) in
+    (sym (fault_of_braces c.args.expr.now c.in-Braces.lefts c.in-Braces.rights c.in-Braces.is) ∙ c.requires) in
     search rules
 
 pub evaluate-minus-requires : goal.evaluate-minus-requires
@@ -43,8 +46,8 @@ evaluate-minus-requires g t c =
     let b = size_of_negative c.args.expr.now c.in-Negative.inner c.in-Negative.is in
     let s : size (tree_of c.deref.result.now) ≡ size (tree_of c.in-Negative.inner.value) = ap (λ (x : Expr). size
     (tree_of x)) c.deref.ensures in
-    let d : has_board (tree_of c.deref.result.now) ≡ false = ap (λ (x : Expr). has_board (tree_of x)) c.deref.ensures
-    ∙ sym (board_of c.args.expr.now (expr.Negative c.in-Negative.inner) c.in-Negative.is
+    let d : fault_in (tree_of c.deref.result.now) ≡ None = ap (λ (x : Expr). fault_in (tree_of x)) c.deref.ensures
+    ∙ sym (fault_of_tree c.args.expr.now (expr.Negative c.in-Negative.inner) c.in-Negative.is
     (negative_tree c.in-Negative.inner)) ∙ c.requires in
     search rules
 
@@ -53,25 +56,33 @@ evaluate-times-requires g t c =
     let b = size_of_multiple c.args.expr.now c.in-Multiple.count c.in-Multiple.inner c.in-Multiple.is in
     let s : size (tree_of c.deref-in-Multiple.result.now) ≡ size (tree_of c.in-Multiple.inner.value) = ap (λ
     (x : Expr). size (tree_of x)) c.deref-in-Multiple.ensures in
-    let d : has_board (tree_of c.deref-in-Multiple.result.now) ≡ false = ap (λ (x : Expr). has_board
+    let d : fault_in (tree_of c.deref-in-Multiple.result.now) ≡ None = ap (λ (x : Expr). fault_in
     (tree_of x)) c.deref-in-Multiple.ensures
-    ∙ sym (board_of c.args.expr.now (expr.Multiple c.in-Multiple.count c.in-Multiple.inner) c.in-Multiple.is
+    ∙ sym (fault_of_tree c.args.expr.now (expr.Multiple c.in-Multiple.count c.in-Multiple.inner) c.in-Multiple.is
     (multiple_tree c.in-Multiple.count c.in-Multiple.inner)) ∙ c.requires in
     search rules
 
 pub evaluate-total-requires : goal.evaluate-total-requires
 evaluate-total-requires g t c =
     let b = size_of_sum c.args.expr.now c.in-Sum.terms c.in-Sum.is in
-    let d = sym (board_of c.args.expr.now (expr.Sum c.in-Sum.terms) c.in-Sum.is (sum_tree c.in-Sum.terms))
+    let d = sym (fault_of_tree c.args.expr.now (expr.Sum c.in-Sum.terms) c.in-Sum.is (sum_tree c.in-Sum.terms))
     ∙ c.requires in
     search rules
 
-pub evaluate-unreachable-requires : goal.evaluate-unreachable-requires
-evaluate-unreachable-requires g t c =
-    let b : has_board (tree_of c.args.expr.now) ≡ true = board_of c.args.expr.now
-    (expr.Game c.in-Game.kind c.in-Game.rules c.in-Game.board) c.in-Game.is
+pub evaluate-board_value-requires : goal.evaluate-board_value-requires
+evaluate-board_value-requires g t c =
+    let b = fault_of_tree c.args.expr.now (expr.Game c.in-Game.kind c.in-Game.rules c.in-Game.board) c.in-Game.is
     (game_tree c.in-Game.kind c.in-Game.rules c.in-Game.board) in
-    absurd (cc)
+    sym b ∙ c.requires
+
+pub evaluate-returns-in-Game : goal.evaluate-returns-in-Game
+evaluate-returns-in-Game g t c =
+    let tree = ap tree_of c.in-Game.is ∙ game_tree c.in-Game.kind c.in-Game.rules c.in-Game.board in
+    let P : Tree → Type 0 = λ u. Evaluates (work_state g.S.CellStore.state c.args.work.now)
+    (work_state g.S.CellStore.state c.board_value.new.work) u c.board_value.result in
+    subst P (sym tree) (board_gives (work_state g.S.CellStore.state c.args.work.now)
+    (work_state g.S.CellStore.state c.board_value.new.work) c.in-Game.kind c.in-Game.rules c.in-Game.board
+    c.board_value.result c.board_value.ensures)
 
 pub evaluate-returns-in-Number : goal.evaluate-returns-in-Number
 evaluate-returns-in-Number g t c =
@@ -145,7 +156,7 @@ evaluate_all-evaluate-requires g t c =
     let s = size_of_item c.as_slice-expr-items.result.now
     (trees_in c.args.exprs.now) c.loop-expr.expr-index c.expr-item.result c.as_slice-expr-items.ensures
     c.expr-item.is c.loop-expr-test.true in
-    let b = any_board-at c.as_slice-expr-items.result.now
+    let b = none_in-all c.as_slice-expr-items.result.now
     (trees_in c.args.exprs.now) c.loop-expr.expr-index c.expr-item.result c.as_slice-expr-items.ensures
     c.loop-expr-test.true c.expr-item.is c.requires in
     search rules
@@ -375,7 +386,7 @@ further-added-requires g t c =
     c.term-item.is c.loop-term-test.true in
     let e : size (tree_of c.term-item.result.expr) ≡ size (term_of c.term-item.result).1 = ap (λ (p : Bool
     × Tree). size p.1) (sym (term_tree c.term-item.result.minus c.term-item.result.expr)) in
-    let b = sym (board_of_term c.term-item.result) ∙ any_term_board-at c.args.terms.now
+    let b = sym (fault_of_term c.term-item.result) ∙ none_in-terms c.args.terms.now
     (terms_of c.args.terms.now) c.loop-term.term-index c.term-item.result refl c.loop-term-test.true
     c.term-item.is c.requires.board in
     let k = c.loop-term.invariant.known in

@@ -1,5 +1,5 @@
-use Rattle.cg_nodes.proofs.BoardContents.{contents-written}
+use Rattle.cg_nodes.proofs.BoardContents.{board-only, contents-written, spelled-board}
 use Rattle.cg_nodes.proofs.laws.boards.Goals as goal
 
 pub returns : goal.returns
-returns c = contents-written
+returns c = record { contents = contents-written; spelled = spelled-board; only = board-only }

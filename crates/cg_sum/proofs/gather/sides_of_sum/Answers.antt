@@ -19,7 +19,7 @@ option_sums-requires-clause-firsts g c =
       read_k = c.written_options-2.ensures.spends;
       apart = c.apart.ensures;
     } in
-    left_firsts s t u c.args.sums.now c.args.f c.args.k r c.in_ok-first.first.lefts c.as_slice.result.now c.as_slice.ensures
+    left_firsts _ _ _ _ _ _ r c.in_ok-first.first.lefts _ c.as_slice.ensures
     c.in_ok-first.ensures.lefts
 
 pub option_sums-requires-clause-seconds : goal.option_sums-requires-clause-seconds
@@ -37,7 +37,7 @@ option_sums-requires-clause-seconds g c =
       read_k = c.written_options-2.ensures.spends;
       apart = c.apart.ensures;
     } in
-    left_seconds s t u c.args.sums.now c.args.f c.args.k r c.in_ok-second.second.lefts c.as_slice-2.result.now c.as_slice-2.ensures
+    left_seconds _ _ _ _ _ _ r c.in_ok-second.second.lefts _ c.as_slice-2.ensures
     c.in_ok-second.ensures.lefts
 
 pub option_sums-requires-2-clause-firsts : goal.option_sums-requires-2-clause-firsts
@@ -55,7 +55,7 @@ option_sums-requires-2-clause-firsts g c =
       read_k = c.written_options-2.ensures.spends;
       apart = c.apart.ensures;
     } in
-    right_firsts s t u c.args.sums.now c.args.f c.args.k r c.in_ok-first.first.rights c.as_slice-3.result.now c.as_slice-3.ensures
+    right_firsts _ _ _ _ _ _ r c.in_ok-first.first.rights _ c.as_slice-3.ensures
     c.in_ok-first.ensures.rights
 
 pub option_sums-requires-2-clause-seconds : goal.option_sums-requires-2-clause-seconds
@@ -73,7 +73,7 @@ option_sums-requires-2-clause-seconds g c =
       read_k = c.written_options-2.ensures.spends;
       apart = c.apart.ensures;
     } in
-    right_seconds s t u c.args.sums.now c.args.f c.args.k r c.in_ok-second.second.rights c.as_slice-4.result.now c.as_slice-4.ensures
+    right_seconds _ _ _ _ _ _ r c.in_ok-second.second.rights _ c.as_slice-4.ensures
     c.in_ok-second.ensures.rights
 
 pub returns-clause-lefts : goal.returns-clause-lefts
@@ -146,5 +146,5 @@ returns-clause-sum g c =
 pub returns-clause-spends : goal.returns-clause-spends
 returns-clause-spends g c =
     let state = g.S.CellStore.state in
-    spends_then 0 0 (state c.args.store.now) (state c.written_options.new.store) (state c.written_options-2.new.store)
+    spends_then 0 0 (state _) (state _) (state _)
     c.written_options.ensures.spends c.written_options-2.ensures.spends

@@ -10,7 +10,7 @@ use Rattle.cg_nodes.specs.Games.{StandsFor, game_at, games_at}
 use Rattle.cg_nodes.specs.Spelled.{can}
 use Rattle.cg_sum.specs.Lists.{sum_item}
 use Rattle.cg_sum.proofs.ItemSteps.{sides_as, spare_read}
-use Rattle.cg_sum.proofs.MadeSteps.{made_as, made_memory, read_then}
+use Rattle.cg_canon.proofs.MadeSteps.{made_as, made_memory, read_then}
 use Rattle.cg_sum.proofs.item.made_item.Goals as goal
 
 pub returns-in_err-sides-clause-made : goal.returns-in_err-sides-clause-made
@@ -19,7 +19,7 @@ returns-in_err-sides-clause-made g c =
     let s = work_state state c.args.work.now in
     let t = work_state state c.sides_of_sum.new.store in
     let p = err_from_is_err_and c.from_residual.result c.from_residual.ensures.1 in
-    made_memory state c.args.work.now c.sides_of_sum.new.store
+    made_memory (work_state state c.args.work.now) (work_state state c.sides_of_sum.new.store)
     (sum_item (game_at s c.args.f) (game_at s c.args.k) ∷ []) c.from_residual.result (p.1 ∙ ap Err p.2)
     (spends_keeps 0 s t c.sides_of_sum.ensures.spends)
 
@@ -43,9 +43,9 @@ returns-clause-made g c =
     (can (sum (game_at s c.args.f) (game_at s c.args.k))) c.as_slice.ensures c.as_slice-2.ensures
     c.in_ok-sides.ensures.sum in
     let f : Game → Item = λ z. made z 1 in
-    read_then state 0 c.args.work.now c.sides_of_sum.new.store c.canonical.new.work
+    read_then 0 (work_state state c.args.work.now) (work_state state c.sides_of_sum.new.store) (work_state state c.canonical.new.work)
     (sum_item (game_at s c.args.f) (game_at s c.args.k) ∷ []) c.canonical.result c.sides_of_sum.ensures.spends
-    (made_as state c.sides_of_sum.new.store c.canonical.new.work
+    (made_as (work_state state c.sides_of_sum.new.store) (work_state state c.canonical.new.work)
     (made (can (node (games_at t c.as_slice.result.now) (games_at t c.as_slice-2.result.now))) 1 ∷ [])
     (sum_item (game_at s c.args.f) (game_at s c.args.k) ∷ []) c.canonical.result (ap (λ z. f z ∷ []) same)
     (record {
@@ -60,4 +60,4 @@ returns-clause-spare g c =
     let s = work_state state c.args.work.now in
     let t = work_state state c.sides_of_sum.new.store in
     let u = work_state state c.canonical.new.work in
-    spare_read c.canonical.result t.spare s.spare u.spare c.sides_of_sum.ensures.spends.spare c.canonical.ensures.spare
+    spare_read _ t.spare s.spare u.spare c.sides_of_sum.ensures.spends.spare c.canonical.ensures.spare

@@ -6,16 +6,16 @@ pub returns-in_ok-rights-in-Game-clause-lefts : goal.returns-in_ok-rights-in-Gam
 returns-in_ok-rights-in-Game-clause-lefts g c =
     let state = g.S.CellStore.state in
     let read = c.in-Game.ensures.game in
-    written_left (state c.read.new.store) (state c.handles.new.store) (state c.handles-in-Game.new.store)
-    (game_at (state c.args.store.now) c.args.handle) c.in-Game.left_list c.in-Game.right_list read.0 read.1 read.2
-    c.handles.ensures.spends c.handles-in-Game.ensures.spends c.in_ok-lefts-in-Game.lefts
+    written_left (state _) (state _) (state _)
+    (game_at (state _) _) _ _ read.0 read.1 read.2
+    c.handles.ensures.spends c.handles-in-Game.ensures.spends _
     c.in_ok-lefts-in-Game.ensures.handles
 
 pub returns-in_ok-rights-in-Game-clause-rights : goal.returns-in_ok-rights-in-Game-clause-rights
 returns-in_ok-rights-in-Game-clause-rights g c =
     let state = g.S.CellStore.state in
     let read = c.in-Game.ensures.game in
-    written_right (state c.read.new.store) (state c.handles.new.store) (state c.handles-in-Game.new.store)
-    (game_at (state c.args.store.now) c.args.handle) c.in-Game.left_list c.in-Game.right_list read.0 read.1 read.2
-    c.handles.ensures.spends c.handles-in-Game.ensures.spends c.in_ok-rights-in-Game.rights
+    written_right (state _) (state _) (state _)
+    (game_at (state _) _) _ _ read.0 read.1 read.2
+    c.handles.ensures.spends c.handles-in-Game.ensures.spends _
     c.in_ok-rights-in-Game.ensures.handles

@@ -1,4 +1,4 @@
-use Rattle.std.proofs.Common.{◌≤◌, ◌+◌, ◌-◌, arith, subst, sym}
+use Rattle.std.proofs.Common.{◌≤◌, arith, subst, sym}
 use Rattle.cg_canon.specs.Works.{WorkOf, work_state}
 use Rattle.cg_canon.proofs.Holding.{holds_later}
 use Rattle.cg_canon.proofs.work.WorkCellStoreGameFacts.claim.Goals as goal

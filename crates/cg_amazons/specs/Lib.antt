@@ -1,0 +1,4 @@
+pub mod Amazons
+pub mod AmazonsLaws
+pub mod AmazonsMoves
+pub mod Boards

@@ -1,0 +1,66 @@
+//! What stands in the places of options, while a form is computed.
+ghost use Rattle.std.specs.Prelude.{◌≡◌, ◌++◌, ◌∷◌, ◌==◌, [], ℕ, false, true, IfOk, if◌then◌else◌};
+ghost use Rattle.cg_canon.specs.Passed.{was_passed};
+
+use cg_nodes::Handle;
+use smallvec::SmallVec;
+use std::alloc::{AllocError, Global};
+use std::collections::HashSet;
+
+/// A list of options while a form is computed: up to 8 of them take no memory.
+pub(crate) type Options = SmallVec<Handle, 8>;
+
+/// What stands in the places of some options, and the ids of these options. An option that is met again, as one of many that
+/// share their own options, is not bypassed again.
+#[derive(Drop)]
+pub(crate) struct Substitutes {
+    pub(crate) items: Options,
+    passed: HashSet<u32>,
+}
+
+impl Substitutes {
+    /// Of no options.
+    pub(crate) fn new(alloc: Global) -> Substitutes
+        ensures items { result.items.items ≡ [] }
+        ensures passed { (h : ℕ) → was_passed result h ≡ false }
+    {
+        Substitutes {
+            items: SmallVec::new(alloc),
+            passed: HashSet::new(alloc),
+        }
+    }
+
+    /// Whether they stand in the place of the option.
+    pub(crate) fn has_passed(&self, option: Handle) -> bool
+        ensures { result ≡ was_passed self.now option }
+    {
+        self.passed.contains(&option.id().number())
+    }
+
+    /// With one handle more.
+    pub(crate) fn with(self, handle: Handle) -> Result<Substitutes, AllocError>
+        ensures { IfOk result (λ r. (r.items.items ≡ self.items.items ++ (handle ∷ []))
+            × ((h : ℕ) → was_passed r h ≡ was_passed self h)) }
+    {
+        let Substitutes { mut items, passed } = self;
+        items.push(handle)?;
+        Ok(Substitutes { items, passed })
+    }
+
+    /// The same, which stand in the place of the option, too.
+    pub(crate) fn passing(self, option: Handle) -> Result<Substitutes, AllocError>
+        ensures { IfOk result (λ r. (r.items.items ≡ self.items.items)
+            × ((h : ℕ) → was_passed r h ≡ (if option == h then true else was_passed self h))) }
+    {
+        let Substitutes { items, mut passed } = self;
+        passed.insert(option.id().number())?;
+        Ok(Substitutes { items, passed })
+    }
+    /// The items.
+    pub(crate) fn into_items(self) -> Options
+        ensures { result.items ≡ self.items.items }
+    {
+        let Substitutes { items, passed: _ } = self;
+        items
+    }
+}

@@ -1,0 +1,81 @@
+-- Every list of steps keeps the rule.
+use Rattle.std.proofs.Common.{◌≡◌, ◌≢◌, ℕ, ◌+◌, List, [], ◌∷◌, set, false, refl, sym, ap, ◌∙◌, subst, ⊎_elim, arith, true≢false}
+use Rattle.std.specs.Prelude.{if◌then◌else◌, ◌==◌}
+use mathlib.Core.Logic.{dite}
+use native.Mathlib.Decide.{ℕ_discrete}
+use Rattle.std.proofs.lemmas.Bool.Decides.{nat_tests}
+use Rattle.cg_cells.specs.Meaning.{Meaning, IsLawful, Sound}
+use Rattle.cg_cells.specs.Views.{Sizes, ViewOf, cells_of, ended, after_note}
+use Rattle.cg_cells.specs.Table.{IsAllowed, Whole, IsLive, key_at, value_at}
+use Rattle.cg_cells.specs.Steps.{Table, Step, split, join, draw, check, look, read, claim, note, close, Leads, Run, opening, is_close, IsOpen}
+use Rattle.cg_cells.proofs.Keeping.{looks, reads, found, passes, won, notes, renotes}
+use Rattle.cg_cells.proofs.Moving.{draws, splits, joins, opens}
+use Rattle.cg_cells.proofs.Rows.{word_again, value_in}
+use Rattle.cg_cells.proofs.Fitting.{known_inside}
+use Rattle.cg_cells.proofs.Totals.{none_live}
+
+module _ {X : Type 0} (m : Meaning X) (L : IsLawful m) (z : Sizes) where
+  abbrev Holds : Table X → Type 0
+  Holds s = Whole m z s.words s.views
+
+  from : (s t : Table X) → t ≡ s → Holds s → Holds t
+  from s t e h = subst Holds (sym e) h
+
+  noted_by : (s t : Table X) (word old value : ℕ) (views : List (ViewOf X)) → (old ≡ 0 → Whole m z (set s.words word (value + 1)) views) → (old ≢ 0 → Whole m z (set s.words word old) views)
+      → Whole m z (set s.words word (if old == 0 then value + 1 else old)) views
+  noted_by s t word old value views a b = dite (ℕ_discrete old 0)
+      (λ is. subst (λ x. Whole m z (set s.words word x) views) (let e : value + 1 ≡ (if old == 0 then value + 1 else old) = grind (arith, nat_tests) in e) (a is))
+      (λ far. subst (λ x. Whole m z (set s.words word x) views) (let e : old ≡ (if old == 0 then value + 1 else old) = grind (arith, nat_tests) in e) (b far))
+
+  -- each step but a close keeps the rule
+  pub step_keeps : (s t : Table X) (x : Step) → is_close x ≡ false → Holds s → Leads m z s x t → Holds t
+  step_keeps s t (split j heirs) opened W (v, at, (few, e)) = from _ t e (splits m z s.words s.views W j v at heirs few)
+  step_keeps s t (join j other) opened W (v, at, (w, there, (far, p, q, e))) = from _ t e (joins m z s.words s.views W j v at other w far there)
+  step_keeps s t (draw j) opened W (v, at, (more, e)) = from _ t e (draws m z s.words s.views W j v at more)
+  step_keeps s t (check j) opened W (v, at, e) = from _ t e W
+  step_keeps s t (look j id) opened W (v, at, (thing, known, e)) = from _ t e (looks m L z s.words s.views W j v at id thing known)
+  step_keeps s t (read j id) opened W (v, at, (thing, known, e)) = from _ t e (reads m L z s.words s.views W j v at id thing known)
+  step_keeps s t (claim j key) opened W (v, at, (thing, steps, is_key, spare, spells, goes, how)) = ⊎_elim
+      (λ new. from _ t new.1 (won m L z s.words s.views W j v at key steps thing is_key spare spells goes new.0))
+      (λ full. ⊎_elim
+      (λ same. from _ t same.1 (found m L z s.words s.views W j v at key steps thing is_key spare spells goes same.0))
+      (λ other. from _ t other.2 (passes m L z s.words s.views W j v at key steps thing is_key spare spells goes other.0 other.1))
+      full)
+      how
+  step_keeps s t (note j id value) opened W (v, at, (thing, due, known, known_value, must, e)) = from _ t e
+      (noted_by s t (1 + cells_of z + id) (value_at (cells_of z) s.words id) value (set s.views j (after_note v id))
+      (λ empty. notes m L z s.words s.views W j v at id thing known value due known_value must empty)
+      (λ has.
+      let inside = known_inside m L z s.words s.views W j v at id thing known in
+      subst (λ ws. Whole m z ws (set s.views j (after_note v id))) (sym (ap (set s.words (1 + cells_of z + id)) (value_in (cells_of z) s.words id inside) ∙ word_again s.words (1 + cells_of z + id)))
+      (renotes m L z s.words s.views W j v at id thing known value due known_value must has)))
+  step_keeps s t (close j) opened W h = absurd (true≢false opened)
+
+  pub run_keeps : (xs : List Step) (s t : Table X) → IsOpen xs → Holds s → Run m z s xs t → Holds t
+  run_keeps [] s t opened W e = subst Holds e W
+  run_keeps (x ∷ xs) s t opened W (u, first, rest) = run_keeps xs u t opened.1 (step_keeps s u x opened.0 W first) rest
+
+  -- any list of steps from the start that closes nothing
+  pub keeps_rule : IsAllowed z → (xs : List Step) (t : Table X) → IsOpen xs → Run m z (opening z) xs t → Holds t
+  keeps_rule allowed xs t opened run = run_keeps xs (opening z) t opened (opens m L z allowed) run
+
+  -- a close leaves sound words and no live pass
+  pub closes : IsAllowed z → (xs : List Step) (j : ℕ) (s t : Table X) → IsOpen xs → Run m z (opening z) xs s → Leads m z s (close j) t
+      → (Sound m (key_at (cells_of z) t.words) (value_at (cells_of z) t.words)) × ((i : ℕ) (v : ViewOf X) → ¬ IsLive t.views i v)
+  closes allowed xs j s t opened run (v, at, e) =
+      let W = keeps_rule allowed xs s opened run in (
+        subst (λ (t : Table X). Sound m (key_at (cells_of z) t.words) (value_at (cells_of z) t.words)) (sym e) W.sound,
+        λ i w h. none_live s.views ended refl i w (subst (λ (t : Table X). IsLive t.views i w) e h),
+      )
+
+  -- no step can be made where no pass is live
+  pub needs_live : (s t : Table X) (x : Step) → ((i : ℕ) (v : ViewOf X) → ¬ IsLive s.views i v) → ¬ Leads m z s x t
+  needs_live s t (split j heirs) none (v, at, rest) = none j v at
+  needs_live s t (join j other) none (v, at, rest) = none j v at
+  needs_live s t (draw j) none (v, at, rest) = none j v at
+  needs_live s t (check j) none (v, at, rest) = none j v at
+  needs_live s t (look j id) none (v, at, rest) = none j v at
+  needs_live s t (read j id) none (v, at, rest) = none j v at
+  needs_live s t (claim j key) none (v, at, rest) = none j v at
+  needs_live s t (note j id value) none (v, at, rest) = none j v at
+  needs_live s t (close j) none (v, at, rest) = none j v at

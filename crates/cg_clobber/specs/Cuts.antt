@@ -1,0 +1,174 @@
+-- Clobber cuts boards into joined sets of stones. It stands here since the rules rest on it.
+use Rattle.std.proofs.Common.{◌≡◌, refl, ℕ, ◌+◌, ◌-◌, ◌*◌, ◌%◌, ◌<◌, ◌≤◌, ◌==◌, ◌&&◌, ◌||◌, inl, inr, Bool, true, false, IsTrue, nat_lt, if◌then◌else◌, Option, Some, None, List, [], ◌∷◌, length, slice_index, ap, sym, ◌∙◌, subst, arith}
+use Rattle.std.specs.Prelude.{codes}
+use Rattle.std.specs.Str.{bytes_eq}
+use Rattle.std.proofs.lemmas.Bool.{eqb-true, eq-eqb, lt-ltb, ltb-true}
+use Rattle.cg_dyadic.proofs.Truth.{and-both, and-split, differ, false-from}
+use Rattle.cg_moves.specs.declared.player.Player.{Player}
+use Rattle.cg_moves.specs.declared.player.Player.TheVariants.{Left, Right}
+use Rattle.cg_moves.specs.Grid.{Grid, is_in_rows}
+use Rattle.cg_moves.specs.Rising.{counted}
+use Rattle.cg_moves.specs.Rules.{In}
+use Rattle.cg_moves.proofs.ConnectedLemmas.{or-cases, or-first, or-second}
+use Rattle.cg_moves.proofs.Members.{in_flat_mapped}
+use Rattle.cg_moves.proofs.RisingLemmas.{in-rising}
+use Rattle.cg_pieces.specs.Neighbours.{CutsNeighbours, IsNeighbours, is_below, is_beside, is_next}
+use Rattle.cg_pieces.proofs.Lines.{below-is, beside-inside, beside-is, before-beside, is-below, is-beside, second-column}
+use Rattle.cg_pieces.proofs.NeighbourSets.{at-cell, choice-in, piece-cell-below}
+use Rattle.cg_clobber.specs.declared.way.Way.{Way}
+use Rattle.cg_clobber.specs.declared.way.Way.TheVariants.{Up, Down, Back, Forth}
+use Rattle.cg_clobber.specs.Capture.{is_capture}
+use Rattle.cg_clobber.specs.Moves.{captures, clobber, has_stone, is_stone, moves_at, moves_onto, moves_that_way, next_cell, other, own, stones, with_capture}
+
+pub stones-are : IsNeighbours stones
+stones-are = record { blank = refl; past = refl }
+
+has-wide : (p : Grid) → clobber.has p ≡ true → 0 < p.columns
+has-wide p has =
+    let a = and-split (is_in_rows p) (bytes_eq p.symbols (codes ".xo")) has in
+    let b = and-split (nat_lt 0 p.columns) (length p.cells == p.rows * p.columns) a.0 in
+    ltb-true 0 p.columns b.0
+
+own-is : (player : Player) (c : ℕ) → c ≡ own player → is_stone c ≡ true
+own-is Left c e = ap is_stone e
+own-is Right c e = ap is_stone e
+
+other-is : (player : Player) (c : ℕ) → c ≡ other player → is_stone c ≡ true
+other-is Left c e = ap is_stone e
+other-is Right c e = ap is_stone e
+
+-- ---- the next cell is adjacent, and each adjacent cell is the next one some way
+
+unless-none : (b : Bool) (x j : ℕ) → (if b then None else Some x) ≡ Some j → (b ≡ false) × (x ≡ j)
+unless-none true x j e = absurd (cc)
+unless-none false x j e = (refl, cc)
+
+if-some : (b : Bool) (x j : ℕ) → (if b then Some x else None) ≡ Some j → (b ≡ true) × (x ≡ j)
+if-some true x j e = (refl, cc)
+if-some false x j e = absurd (cc)
+
+not_less : (a b : ℕ) → nat_lt a b ≡ false → b ≤ a
+not_less a b e = let n : ¬ (a < b) = λ h. differ (nat_lt a b) (lt-ltb a b h) e in omega (arith, n)
+
+module _ (p : Grid) (k l : ℕ) where
+  abbrev w : ℕ
+  w = p.columns
+
+  by-below : IsTrue (is_below w k l) → is_next w k l ≡ true
+  by-below h = or-first (is_below w k l || is_below w l k) (is_beside w k l || is_beside w l k)
+      (or-first (is_below w k l) (is_below w l k) h)
+
+  by-above : IsTrue (is_below w l k) → is_next w k l ≡ true
+  by-above h = or-first (is_below w k l || is_below w l k) (is_beside w k l || is_beside w l k)
+      (or-second (is_below w k l) (is_below w l k) h)
+
+  by-forth : IsTrue (is_beside w k l) → is_next w k l ≡ true
+  by-forth h = or-second (is_below w k l || is_below w l k) (is_beside w k l || is_beside w l k)
+      (or-first (is_beside w k l) (is_beside w l k) h)
+
+  by-back : IsTrue (is_beside w l k) → is_next w k l ≡ true
+  by-back h = or-second (is_below w k l || is_below w l k) (is_beside w k l || is_beside w l k)
+      (or-second (is_beside w k l) (is_beside w l k) h)
+
+  way-next : (way : Way) → 0 < w → next_cell way p k ≡ Some l → is_next w k l ≡ true
+  way-next Up wide e =
+      let h = unless-none (nat_lt k w) (k - w) l e in
+      let low = not_less k w h.0 in
+      let f : l + w ≡ k = (let g = h.1 in omega (arith, g, low)) in
+      let P : ℕ → Type 0 = λ z. IsTrue (is_below w l z) in
+      by-above (subst P f (is-below w l wide))
+  way-next Down wide e =
+      let h = if-some (nat_lt (k + w) (length p.cells)) (k + w) l e in
+      let P : ℕ → Type 0 = λ z. IsTrue (is_below w k z) in
+      by-below (subst P h.1 (is-below w k wide))
+  way-next Back wide e =
+      let h = unless-none (k % w == 0) (k - 1) l e in
+      let P : ℕ → Type 0 = λ z. IsTrue (is_beside w z k) in
+      by-back (subst P h.1 (before-beside w k wide (λ z. differ (k % w == 0) (eq-eqb (k % w) 0 z) h.0)))
+  way-next Forth wide e =
+      let h = if-some (nat_lt (k % w + 1) w) (k + 1) l e in
+      let P : ℕ → Type 0 = λ z. IsTrue (is_beside w k z) in
+      by-forth (subst P h.1 (is-beside w k (ltb-true (k % w + 1) w h.0)))
+
+  -- the way to an adjacent cell
+  record Toward : Type 0 where
+    way : Way
+    listed : In way (Up ∷ Down ∷ Back ∷ Forth ∷ [])
+    is : next_cell way p k ≡ Some l
+
+  next-way : 0 < w → l < length p.cells → is_next w k l ≡ true → Toward
+  next-way wide below h =
+      elim (or-cases (is_below w k l || is_below w l k) (is_beside w k l || is_beside w l k) h) [
+        | inl x ↦ elim (or-cases (is_below w k l) (is_below w l k) x) [
+          | inl a ↦
+              let e = below-is w k l a in
+              let t = lt-ltb (k + w) (length p.cells) (omega (arith, e, below)) in record {
+                way = Down;
+                listed = inr (inl refl);
+                is = ap (λ b. if b then Some (k + w) else None) t ∙ ap Some (sym e);
+              }
+          | inr a ↦
+              let e = below-is w l k a in
+              let f = false-from (nat_lt k w) (λ t. let g = ltb-true k w t in omega (arith, e, g)) in
+              let d : k - w ≡ l = omega (arith, e) in record {
+                way = Up;
+                listed = inl refl;
+                is = ap (λ b. if b then None else Some (k - w)) f ∙ ap Some d;
+              }
+        ]
+        | inr y ↦ elim (or-cases (is_beside w k l) (is_beside w l k) y) [
+          | inl a ↦
+              let e = beside-is w k l a in
+              let t = lt-ltb (k % w + 1) w (beside-inside w k l wide a) in record {
+                way = Forth;
+                listed = inr (inr (inr (inl refl)));
+                is = ap (λ b. if b then Some (k + 1) else None) t ∙ ap Some (sym e);
+              }
+          | inr a ↦
+              let e = beside-is w l k a in
+              let c = second-column w l k a in
+              let f = false-from (k % w == 0) (λ t. let g = eqb-true (k % w) 0 t in omega (arith, c, g)) in
+              let d : k - 1 ≡ l = omega (arith, e) in record {
+                way = Back;
+                listed = inr (inr (inl refl));
+                is = ap (λ b. if b then None else Some (k - 1)) f ∙ ap Some d;
+              }
+        ]
+      ]
+
+pub clobber_cuts : CutsNeighbours stones clobber
+clobber_cuts = record {
+  pieces = λ p. refl;
+  measure = λ p. refl;
+  wide = has-wide;
+  has = λ p q has symbols wide size.
+      let a = and-split (is_in_rows p) (bytes_eq p.symbols (codes ".xo")) has in
+      let P : List ℕ → Type 0 = λ z. IsTrue (bytes_eq z (codes ".xo")) in
+      and-both (is_in_rows q) (bytes_eq q.symbols (codes ".xo"))
+      (and-both (nat_lt 0 q.columns) (length q.cells == q.rows * q.columns) (lt-ltb 0 q.columns wide)
+      (eq-eqb (length q.cells) (q.rows * q.columns) size))
+      (subst P (sym symbols) a.1);
+  legal_move = λ player p cells has m.
+      let (i, way, j, n, f, e) = is_capture player p cells m in
+      let both = and-split (has_stone p.cells i (own player)) (has_stone p.cells j (other player)) f in
+      let x = own-is player (slice_index p.cells i) (eqb-true (slice_index p.cells i) (own player) both.0) in
+      let y = other-is player (slice_index p.cells j) (eqb-true (slice_index p.cells j) (other player) both.1) in record {
+        one = i;
+        other = j;
+        legal = and-both (is_stone (slice_index p.cells i) && is_stone (slice_index p.cells j)) (is_next p.columns i j && captures player p i j)
+            (and-both (is_stone (slice_index p.cells i)) (is_stone (slice_index p.cells j)) x y)
+            (and-both (is_next p.columns i j) (captures player p i j) (way-next p i j way (has-wide p has) n) f);
+        is = e;
+      };
+  move = λ player p k l has t.
+      let both = and-split (is_stone (slice_index p.cells k) && is_stone (slice_index p.cells l)) (is_next p.columns k l && captures player p k l) t in
+      let cells = and-split (is_stone (slice_index p.cells k)) (is_stone (slice_index p.cells l)) both.0 in
+      let rest = and-split (is_next p.columns k l) (captures player p k l) both.1 in
+      let w = next-way p k l (has-wide p has) (piece-cell-below stones stones-are p l cells.1) rest.0 in
+      let P : Option ℕ → Type 0 = λ o. In (with_capture player p k l) (moves_onto player p k o) in
+      in-rising _ (with_capture player p k l)
+      (in_flat_mapped (moves_at player p) (with_capture player p k l) k (counted 0 (length p.cells))
+      (at-cell stones stones-are p k cells.0)
+      (in_flat_mapped (moves_that_way player p k) (with_capture player p k l) w.way (Up ∷ Down ∷ Back ∷ Forth ∷ []) w.listed
+      (subst P (sym w.is) (choice-in (captures player p k l) (with_capture player p k l) rest.1))));
+}

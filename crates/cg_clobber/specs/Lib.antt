@@ -1,0 +1,5 @@
+pub mod Moves
+pub mod Capture
+pub mod Cuts
+pub mod Lawful
+pub mod Worked

@@ -1,0 +1,149 @@
+//! The moves of Clobber.
+ghost use Rattle.std.specs.Prelude.{◌≡◌, ◌<◌, All, IfOk, IfSome, length, true};
+ghost use Rattle.cg_moves.specs.Grid.{AreCells};
+ghost use Rattle.cg_moves.specs.Rising.{with_all};
+ghost use Rattle.cg_clobber.specs.Lawful.{clobber_lawful};
+ghost use Rattle.cg_clobber.specs.Moves.{clobber, moves_at, moves_of, moves_that_way, next_cell, other, own};
+
+use crate::Way;
+use cg_moves::{Board, Boards, Outcomes, Player, Rules};
+use std::alloc::{AllocError, Global};
+
+const EMPTY: u8 = b'.';
+
+/// All ways.
+const WAYS: [Way; 4] = [Way::Up, Way::Down, Way::Back, Way::Forth];
+
+/// The rules of Clobber. The symbols are `.` for an empty cell, `x` for a stone of Left and `o` for one of Right. A player
+/// moves a stone onto a neighbouring one of the other player, which is removed.
+pub struct Clobber;
+
+/// The player's stone.
+fn own(player: Player) -> u8
+    ensures { result ≡ own player }
+{
+    match player {
+        Player::Left => b'x',
+        Player::Right => b'o',
+    }
+}
+
+/// The other player's stone.
+fn other(player: Player) -> u8
+    ensures { result ≡ other player }
+{
+    match player {
+        Player::Left => b'o',
+        Player::Right => b'x',
+    }
+}
+
+/// The next cell that way, if there is one.
+fn next_cell(board: &Board, from: u8, way: Way) -> Option<u8>
+    requires { from < length board.now.cells }
+    ensures value { result ≡ next_cell way board.now from }
+    ensures inside { IfSome result (λ cell. cell < length board.now.cells) }
+{
+    // Read for the proof alone: the board has its cells in rows and columns.
+    let _size = board.size();
+    match way {
+        Way::Up => {
+            if from < board.columns() {
+                None
+            } else {
+                Some(from - board.columns())
+            }
+        }
+        Way::Down => {
+            let below = from as u16 + board.columns() as u16;
+            if below < board.size() as u16 {
+                Some(below as u8)
+            } else {
+                None
+            }
+        }
+        Way::Back => {
+            if from % board.columns() == 0 {
+                None
+            } else {
+                Some(from - 1)
+            }
+        }
+        Way::Forth => {
+            if from % board.columns() + 1 < board.columns() {
+                Some(from + 1)
+            } else {
+                None
+            }
+        }
+    }
+}
+
+/// Takes in what the player's stone on this cell makes of the cells when it moves that way, if it does.
+fn put_move(
+    alloc: Global,
+    board: &Board,
+    player: Player,
+    from: u8,
+    way: Way,
+    outcomes: &mut Outcomes,
+) -> Result<(), AllocError>
+    requires { from < length board.now.cells }
+    ensures { IfOk result (λ _. outcomes.new ≡ with_all outcomes.old (moves_that_way player board.now from way)) }
+{
+    let Some(onto) = next_cell(board, from, way) else {
+        return Ok(());
+    };
+    if board.cell(from) != own(player) || board.cell(onto) != other(player) {
+        return Ok(());
+    }
+    let mut cells = board.cells(alloc)?.into_vec();
+    cells[from as usize] = EMPTY;
+    cells[onto as usize] = own(player);
+    outcomes.add(cells)
+}
+
+/// Takes in what the player's stone on this cell makes of the cells.
+fn put_moves(
+    alloc: Global,
+    board: &Board,
+    player: Player,
+    from: u8,
+    outcomes: &mut Outcomes,
+) -> Result<(), AllocError>
+    requires { from < length board.now.cells }
+    ensures { IfOk result (λ _. outcomes.new ≡ with_all outcomes.old (moves_at player board.now from)) }
+{
+    for way in WAYS {
+        put_move(alloc, board, player, from, way, outcomes)?;
+    }
+    Ok(())
+}
+
+/// What the player's stones make of the cells.
+fn outcomes_of(alloc: Global, board: &Board, player: Player) -> Result<Outcomes, AllocError>
+    requires { clobber.has board.now ≡ true }
+    ensures value { IfOk result (λ outcomes. outcomes ≡ moves_of player board.now) }
+    ensures cells { IfOk result (λ outcomes. All (AreCells board.now.symbols) outcomes) }
+    ensures size { IfOk result (λ outcomes. All (λ cells. length cells ≡ length board.now.cells) outcomes) }
+{
+    let mut outcomes = Outcomes::new(alloc);
+    for from in 0..board.size() {
+        put_moves(alloc, board, player, from, &mut outcomes)?;
+    }
+    Ok(outcomes)
+}
+
+impl Rules for Clobber {
+    ghost game = { λ rules. clobber };
+
+    fn moves(&self, alloc: Global, board: &Board, player: Player) -> Result<Boards, AllocError> {
+        outcomes_of(alloc, board, player)?.boards(alloc, board)
+    }
+
+    fn number(&self) -> u8 {
+        2
+    }
+
+    ghost lawful = { λ rules. clobber_lawful };
+}

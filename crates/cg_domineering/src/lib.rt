@@ -1,0 +1,9 @@
+//! Domineering.
+#![tactic(auto)]
+
+mod dominoes;
+pub mod laws;
+mod reading;
+
+pub use dominoes::Domineering;
+pub use reading::read;

@@ -1,0 +1,43 @@
+-- Each question has one answer.
+use Rattle.std.proofs.Common.{◌≡◌, refl, ap, sym, ◌∙◌, ℕ, List, ◌⊎◌, inl, inr}
+use Rattle.cg_dyadic.specs.Wide.{places}
+use Rattle.cg_form.specs.Game.{Game}
+use Rattle.cg_nodes.specs.Spelled.{can}
+use Rattle.cg_thermo.specs.Thermal.{NeedsMore}
+use Rattle.cg_syntax.specs.Tree.{Question, value, compare, outcome, stops, mean, temp, thermo}
+use Rattle.cg_eval.specs.Meaning.{meaning}
+use Rattle.cg_eval.specs.Pictures.{IsPicture, Picture, mean_text, temp_text, thermograph_text}
+use Rattle.cg_eval.specs.Reply.{IsAnswerTo, IsShown, Piece, answer, too_fine}
+use Rattle.cg_eval.proofs.OnePicture.{needs-or-not, one-picture, some-picture}
+
+one-shown : (g : Game) (show : Picture → List ℕ) (p r : Piece) → IsShown g show p → IsShown g show r → p ≡ r
+one-shown g show p r (inl a) (inl b) = a.1 ∙ sym b.1
+one-shown g show p r (inl a) (inr b) = absurd (b.0 a.0)
+one-shown g show p r (inr a) (inl b) = absurd (a.0 b.0)
+one-shown g show p r (inr (n, (x, is, e))) (inr (m, (y, same, f))) =
+    e ∙ ap (λ z. answer (show z)) (one-picture g x y is same) ∙ sym f
+
+some-shown : (g : Game) (show : Picture → List ℕ) → (p : Piece) × IsShown g show p
+some-shown g show = by (needs-or-not g) (some-picture g)
+  where
+    by : NeedsMore places g ⊎ (¬ NeedsMore places g) → ((p : Picture) × IsPicture g p) → (p : Piece) × IsShown g show p
+    by (inl n) x = (too_fine, inl (n, refl))
+    by (inr n) x = (answer (show x.0), inr (n, (x.0, x.1, refl)))
+
+pub one-answer : (q : Question) (p r : Piece) → IsAnswerTo q p → IsAnswerTo q r → p ≡ r
+one-answer (value t) p r a b = a ∙ sym b
+one-answer (compare s t) p r a b = a ∙ sym b
+one-answer (outcome t) p r a b = a ∙ sym b
+one-answer (stops t) p r a b = a ∙ sym b
+one-answer (mean t) p r a b = one-shown (can (meaning t)) mean_text p r a b
+one-answer (temp t) p r a b = one-shown (can (meaning t)) temp_text p r a b
+one-answer (thermo t) p r a b = one-shown (can (meaning t)) thermograph_text p r a b
+
+pub some-answer : (q : Question) → (p : Piece) × IsAnswerTo q p
+some-answer (value t) = (_, refl)
+some-answer (compare s t) = (_, refl)
+some-answer (outcome t) = (_, refl)
+some-answer (stops t) = (_, refl)
+some-answer (mean t) = some-shown (can (meaning t)) mean_text
+some-answer (temp t) = some-shown (can (meaning t)) temp_text
+some-answer (thermo t) = some-shown (can (meaning t)) thermograph_text

@@ -1,0 +1,166 @@
+-- Each game has one picture, and whether some position needs too many binary places is decided.
+use Rattle.std.proofs.Common.{◌≡◌, refl, ap, sym, ◌∙◌, subst, ℕ, ◌<◌, ◌≤◌, ◌⊎◌, inl, inr, arith, List, [], ◌∷◌, pos, negsuc}
+use Rattle.cg_dyadic.specs.Number.{Number, exp_of, ratio}
+use Rattle.cg_dyadic.specs.Wide.{places}
+use Rattle.cg_form.specs.Game.{Among, Game}
+use Rattle.cg_form.specs.Heights.{height}
+use Rattle.cg_form.specs.Simple.{Decided, NoNumber}
+use Rattle.cg_form.specs.Walls.{TemperatureIs, scaffold_of}
+use Rattle.cg_form.proofs.Decide.{number-decide}
+use Rattle.cg_form.proofs.Simplicity.{one_number}
+use Rattle.cg_form.proofs.Temperature.{scaffolds_agree, temperature-there}
+use Rattle.cg_nodes.specs.Positions.{positions_of}
+use Rattle.cg_thermo.specs.Pictures.{left_corners, right_corners}
+use Rattle.cg_thermo.specs.Thermal.{IsThermal, MastFrom, NeedsMore}
+use Rattle.cg_thermo.proofs.Smooth.{smooth-high}
+use Rattle.cg_thermo.proofs.Upward.{corners-same, seen-own, thermal-none, thermal-number}
+use Rattle.cg_eval.specs.Pictures.{IsPicture, Picture}
+use Rattle.cg_eval.proofs.Below.{below_or_not}
+
+-- a game that equals no number has a temperature at the scale of its height
+record Cools (g : Game) : Type 0 where
+  pub at : ℕ
+  pub is : TemperatureIs number-decide (height g) g at
+
+cools : (g : Game) → NoNumber g → Cools g
+cools g never =
+    let (t, h) = temperature-there number-decide (height g) g (scaffolds_agree number-decide (height g) g never (omega arith))
+    in record { at = t; is = h }
+
+-- where the mast begins at the scale of the height
+record Mast (g : Game) : Type 0 where
+  pub end : ℕ
+  pub from : MastFrom (height g) g end
+
+mast : (g : Game) → Mast g
+mast g = by (number-decide g)
+  where
+    by : Decided g → Mast g
+    by (inl w) = record {
+      end = 0;
+      from = record { number = λ y f. refl; other = λ never. absurd (never w.0 w.1) };
+    }
+    by (inr never) =
+        let c = cools g never in record {
+          end = c.at;
+          from = record { number = λ y f. absurd (never y f); other = λ k. c.is };
+        }
+
+-- ---- the mean and the temperature
+
+record Thermal (g : Game) : Type 0 where
+  pub mean : Number
+  pub temp : Number
+  pub is : IsThermal g mean temp
+
+thermal : (g : Game) → Thermal g
+thermal g = by (number-decide g)
+  where
+    by : Decided g → Thermal g
+    by (inl w) = record {
+      mean = w.0;
+      temp = ratio (negsuc 0) (exp_of w.0);
+      is = thermal-number g w.0 w.0 (ratio (negsuc 0) (exp_of w.0)) w.1 (λ y f. one_number w.0 y g w.1 f) refl refl;
+    }
+    by (inr never) =
+        let m = mast g in
+        record {
+          mean = ratio (scaffold_of number-decide (height g) g m.end).left (height g);
+          temp = ratio (pos m.end) (height g);
+          is = thermal-none (height g) g m.end _ _ _ _ never
+              (seen-own (height g) g m.end (smooth-high (height g) g (omega arith)) m.from);
+        }
+
+record SameThermal (m t n u : Number) : Type 0 where
+  pub means : m ≡ n
+  pub temps : t ≡ u
+
+one-thermal : (g : Game) (m t n u : Number) → IsThermal g m t → IsThermal g n u → SameThermal m t n u
+one-thermal g m t n u a b = by (number-decide g)
+  where
+    by : Decided g → SameThermal m t n u
+    by (inl w) =
+        let x = a.number w.0 w.1 in let y = b.number w.0 w.1 in
+        record { means = x.0 ∙ sym y.0; temps = x.1 ∙ sym y.1 }
+    by (inr never) =
+        let c = cools g never in
+        let x = a.other never (height g) c.at (omega arith) c.is in
+        let y = b.other never (height g) c.at (omega arith) c.is in
+        record { means = x.0 ∙ sym y.0; temps = x.1 ∙ sym y.1 }
+
+-- ---- pictures
+
+pub some-picture : (g : Game) → (p : Picture) × IsPicture g p
+some-picture g =
+    let h = thermal g in
+    let m = mast g in
+    let s = height g in
+    let seen = seen-own s g m.end (smooth-high s g (omega arith)) m.from in (
+      record { mean = h.mean; temp = h.temp; left = left_corners s g m.end; right = right_corners s g m.end },
+      record {
+        thermal = h.is;
+        left = λ r end l f. (corners-same s r g m.end end _ _ _ _ seen l f).0;
+        right = λ r end l f. (corners-same s r g m.end end _ _ _ _ seen l f).1;
+      },
+    )
+
+pub one-picture : (g : Game) (p q : Picture) → IsPicture g p → IsPicture g q → p ≡ q
+one-picture g p q a b =
+    let m = mast g in
+    let t = one-thermal g p.mean p.temp q.mean q.temp a.thermal b.thermal in
+    let l = a.left (height g) m.end (omega arith) m.from ∙ sym (b.left (height g) m.end (omega arith) m.from) in
+    let r = a.right (height g) m.end (omega arith) m.from ∙ sym (b.right (height g) m.end (omega arith) m.from) in
+    λ i. record { mean = t.means i; temp = t.temps i; left = l i; right = r i }
+
+-- ---- too many places
+
+-- no position of the list needs more
+abbrev Enough : List Game → Type 0
+Enough ps = (p : Game) (m t : Number) → Among p ps → IsThermal p m t → (places < exp_of m) ⊎ (places < exp_of t) → ⊥
+
+enough-more : (p : Game) (ps : List Game) (h : Thermal p) → exp_of h.mean ≤ places → exp_of h.temp ≤ places → Enough ps
+    → Enough (p ∷ ps)
+enough-more p ps h a b all q m t (inr k) is more = all q m t k is more
+enough-more p ps h a b all q m t (inl e) is more =
+    let P : Game → Type 0 = λ z. IsThermal z m t in
+    let s = one-thermal p m t h.mean h.temp (subst P e is) h.is in
+    let c = ap exp_of s.means in let d = ap exp_of s.temps in
+    elim more [ inl j ↦ omega (arith, j, c, a) | inr j ↦ omega (arith, j, d, b) ]
+
+needs-among : (g : Game) (ps : List Game) → ((p : Game) → Among p ps → Among p (positions_of g))
+    → NeedsMore places g ⊎ Enough ps
+needs-among g [] within = inr (λ p m t k. absurd k)
+needs-among g (p ∷ ps) within =
+    by_mean (needs-among g ps (λ q k. within q (inr k))) (thermal p) (below_or_not places (exp_of (thermal p).mean))
+  where
+    needs : (h : Thermal p) → (places < exp_of h.mean) ⊎ (places < exp_of h.temp) → NeedsMore places g
+    needs h k = record {
+      position = p;
+      among = within p (inl refl);
+      mean = h.mean;
+      temp = h.temp;
+      thermal = h.is;
+      more = k;
+    }
+
+    by_rest : (h : Thermal p) → exp_of h.mean ≤ places → exp_of h.temp ≤ places → NeedsMore places g ⊎ Enough ps
+        → NeedsMore places g ⊎ Enough (p ∷ ps)
+    by_rest h a b (inl n) = inl n
+    by_rest h a b (inr all) = inr (enough-more p ps h a b all)
+
+    by_temp : NeedsMore places g ⊎ Enough ps → (h : Thermal p) → exp_of h.mean ≤ places
+        → (places < exp_of h.temp) ⊎ (exp_of h.temp ≤ places) → NeedsMore places g ⊎ Enough (p ∷ ps)
+    by_temp rest h a (inl k) = inl (needs h (inr k))
+    by_temp rest h a (inr b) = by_rest h a b rest
+
+    by_mean : NeedsMore places g ⊎ Enough ps → (h : Thermal p)
+        → (places < exp_of h.mean) ⊎ (exp_of h.mean ≤ places) → NeedsMore places g ⊎ Enough (p ∷ ps)
+    by_mean rest h (inl k) = inl (needs h (inl k))
+    by_mean rest h (inr a) = by_temp rest h a (below_or_not places (exp_of h.temp))
+
+pub needs-or-not : (g : Game) → NeedsMore places g ⊎ (¬ NeedsMore places g)
+needs-or-not g = by (needs-among g (positions_of g) (λ p k. k))
+  where
+    by : NeedsMore places g ⊎ Enough (positions_of g) → NeedsMore places g ⊎ (¬ NeedsMore places g)
+    by (inl n) = inl n
+    by (inr all) = inr (λ n. all n.position n.mean n.temp n.among n.thermal n.more)

@@ -1,0 +1,209 @@
+-- Answers from what is told of the games of handles.
+use Rattle.std.proofs.Common.{◌≡◌, refl, ap, sym, ◌∙◌, subst, ℕ, Bool, true, false, List, Option, Some, None, Ok, Err, if◌then◌else◌, pos, inl, inr}
+use Rattle.std.specs.Prelude.{String, string_bytes}
+use Rattle.cg_cells.specs.Store.{Spends, State}
+use Rattle.cg_dyadic.specs.Number.{whole}
+use Rattle.cg_dyadic.specs.Wide.{places}
+use Rattle.cg_form.specs.Game.{Game, number}
+use Rattle.cg_form.specs.Order.{le}
+use Rattle.cg_form.specs.Outcome as form
+use Rattle.cg_form.specs.Stops as form_stops
+use Rattle.cg_form.specs.Sum.{nothing}
+use Rattle.cg_form.proofs.Decide.{number-decide}
+use Rattle.cg_form.proofs.StopValues.{equal_stops}
+use Rattle.cg_nodes.specs.CanForms.{can-equal}
+use Rattle.cg_nodes.specs.Games.{StandsFor, game_at}
+use Rattle.cg_nodes.specs.Meant.{Meant}
+use Rattle.cg_nodes.specs.Spelled.{can}
+use Rattle.cg_nodes.proofs.Later.{stands_game, stands_later}
+use Rattle.cg_canon.specs.declared.fault.ValueFault.{ValueFault}
+use Rattle.cg_canon.specs.declared.fault.ValueFault.TheVariants.{Memory}
+use Rattle.cg_canon.specs.declared.rest.WorkRest.{WorkRest}
+use Rattle.cg_canon.specs.Items.{Item}
+use Rattle.cg_names.specs.Name.{name_of}
+use Rattle.cg_thermo.specs.Ended.{StopsAre}
+use Rattle.cg_thermo.specs.Thermal.{NeedsMore}
+use Rattle.cg_thermo.specs.Thermographs.{IsThermograph}
+use Rattle.cg_thermo.specs.Winners.{told, winner_by}
+use Rattle.cg_thermo.specs.declared.ending.Stops.{Stops}
+use Rattle.cg_thermo.specs.declared.thermo.Walls.{Walls}
+use Rattle.cg_thermo.specs.declared.winner.Outcome.{Outcome}
+use Rattle.cg_thermo.proofs.Wins.{wins}
+use Rattle.cg_syntax.specs.Tree.{Question, Tree, compare}
+use Rattle.cg_eval.specs.Items.{items, question_items}
+use Rattle.cg_eval.specs.Meaning.{meaning}
+use Rattle.cg_eval.specs.Parts.{IsDrawn, Tells, asked_of, part_asked, part_text, picture_of, winner_of}
+use Rattle.cg_eval.specs.Pictures.{IsPicture, Picture, stops_text}
+use Rattle.cg_eval.specs.Progress.{Evaluates, Makes, Stops as Halts}
+use Rattle.cg_eval.specs.Refused.{IsRefusedBy}
+use Rattle.cg_eval.specs.Reply.{IsAnswerTo, Piece, answer, comparison, too_fine, winner}
+use Rattle.cg_eval.specs.Shown.{Answers, HandleIs, first_of, shown}
+use Rattle.cg_eval.specs.declared.answered.Answered.{Answered}
+use Rattle.cg_eval.specs.declared.pictures.Part.{Part}
+use Rattle.cg_eval.specs.declared.pictures.Part.TheVariants as parts
+use Rattle.cg_eval.specs.declared.telling.Asked.{Asked}
+use Rattle.cg_eval.specs.declared.telling.Asked.TheVariants as asking
+use Rattle.cg_eval.proofs.Replies.{both_made, le-forms, le-value_zero, makes_spends, zero-le_value}
+use Rattle.cg_eval.proofs.Steps.{stops_memory}
+
+-- ---- what is told
+
+tells-answer : (g : Game) (h : ℕ) (asked : Asked) (text : List ℕ) (a : Answered) → shown a ≡ answer text
+    → a.handle ≡ Some h → ((t : Tree) → g ≡ can (meaning t) → IsAnswerTo (asked_of asked t) (answer text))
+    → Tells g h asked a
+tells-answer g h asked text a e f all = record {
+  text = λ t is. let P : Piece → Type 0 = λ z. IsAnswerTo (asked_of asked t) z in subst P (sym e) (all t is);
+  handle = f ∙ ap (λ (b : Bool). if b then None else Some h) (sym (ap (λ (z : Piece). z.refused) e));
+}
+
+pub told-value : (g : Game) (h : ℕ) (text : List ℕ) (a : Answered) → text ≡ name_of g → shown a ≡ answer text
+    → a.handle ≡ Some h → Tells g h asking.Value a
+told-value g h text a n e f = tells-answer g h asking.Value text a e f (λ t is. ap answer (n ∙ ap name_of is))
+
+by_order : (b c : Bool) → winner_of (winner_by b c) ≡ winner b c
+by_order true true = refl
+by_order true false = refl
+by_order false true = refl
+by_order false false = refl
+
+wins-order : (m : Game) → winner_of (told (form.outcome (can m))) ≡ winner (le nothing m) (le m nothing)
+wins-order m =
+    let e = can-equal m in
+    ap winner_of (sym (wins (can m))) ∙ by_order _ _
+    ∙ ap (λ b. winner b (le (can m) (number (whole (pos 0))))) (zero-le_value m) ∙ ap (winner (le nothing m)) (le-value_zero m)
+
+pub told-outcome : (g : Game) (h : ℕ) (o : Outcome) (text : List ℕ) (a : Answered) → o ≡ told (form.outcome g)
+    → text ≡ winner_of o → shown a ≡ answer text → a.handle ≡ Some h → Tells g h asking.Outcome a
+told-outcome g h o text a w n e f = tells-answer g h asking.Outcome text a e f (λ t is.
+    ap answer (n ∙ ap winner_of (w ∙ ap (λ z. told (form.outcome z)) is) ∙ wins-order (meaning t)))
+
+pub told-stops : (g : Game) (h : ℕ) (s : Stops) (text : List ℕ) (a : Answered) → StopsAre g s
+    → text ≡ stops_text s.left s.right → shown a ≡ answer text → a.handle ≡ Some h → Tells g h asking.Stops a
+told-stops g h s text a w n e f = tells-answer g h asking.Stops text a e f (λ t is.
+    let k = ap (form_stops.stops number-decide) is ∙ equal_stops number-decide number-decide (can (meaning t)) (meaning t) (can-equal (meaning t)) in
+    ap answer (n ∙ ap (λ z. stops_text z s.right) (w.left ∙ ap (λ (z : form_stops.Stops). z.left) k)
+    ∙ ap (stops_text (form_stops.stops number-decide (meaning t)).left) (w.right ∙ ap (λ (z : form_stops.Stops). z.right) k)))
+
+pub is-picture : (g : Game) (w : Walls) → IsThermograph g w → IsPicture g (picture_of w)
+is-picture g w h = record { thermal = h.thermal; left = h.left; right = h.right }
+
+pub drawn-some : {A : Type 0} (part : Part) (g : Game) (o : Option (String A)) (text : String A) → o ≡ Some text → IsDrawn part g o
+    → (¬ NeedsMore places g) × ((p : Picture) × IsPicture g p × (string_bytes text ≡ part_text part p))
+drawn-some {A} part g o text e d = let P : Option (String A) → Type 0 = λ z. IsDrawn part g z in subst P e d
+
+pub drawn-none : {A : Type 0} (part : Part) (g : Game) (o : Option (String A)) → o ≡ None → IsDrawn part g o → NeedsMore places g
+drawn-none {A} part g o e d = let P : Option (String A) → Type 0 = λ z. IsDrawn part g z in subst P e d
+
+part-answer : (part : Part) (t : Tree) (text : List ℕ) → ¬ NeedsMore places (can (meaning t))
+    → (p : Picture) → IsPicture (can (meaning t)) p → text ≡ part_text part p → IsAnswerTo (part_asked part t) (answer text)
+part-answer parts.Mean t text n p is e = inr (n, (p, is, ap answer e))
+part-answer parts.Temp t text n p is e = inr (n, (p, is, ap answer e))
+part-answer parts.Whole t text n p is e = inr (n, (p, is, ap answer e))
+
+part-refusal : (part : Part) (t : Tree) → NeedsMore places (can (meaning t)) → IsAnswerTo (part_asked part t) too_fine
+part-refusal parts.Mean t n = inl (n, refl)
+part-refusal parts.Temp t n = inl (n, refl)
+part-refusal parts.Whole t n = inl (n, refl)
+
+pub told-part : (g : Game) (h : ℕ) (part : Part) (text : List ℕ) (a : Answered)
+    → (¬ NeedsMore places g) × ((p : Picture) × IsPicture g p × (text ≡ part_text part p)) → shown a ≡ answer text
+    → a.handle ≡ Some h → Tells g h (asking.Picture part) a
+told-part g h part text a (n, (p, is, e)) s f = tells-answer g h (asking.Picture part) text a s f (λ t k.
+    let N : Game → Type 0 = λ z. ¬ NeedsMore places z in
+    let P : Game → Type 0 = λ z. IsPicture z p in
+    part-answer part t text (subst N k n) p (subst P k is) e)
+
+pub told-too_fine : (g : Game) (h : ℕ) (part : Part) (a : Answered) → NeedsMore places g → IsRefusedBy too_fine a
+    → Tells g h (asking.Picture part) a
+told-too_fine g h part a n r = record {
+  text = λ t k.
+      let N : Game → Type 0 = λ z. NeedsMore places z in
+      let P : Piece → Type 0 = λ z. IsAnswerTo (part_asked part t) z in
+      subst P (sym r.text) (part-refusal part t (subst N k n));
+  handle = r.handle ∙ ap (λ (b : Bool). if b then None else Some h) (sym (ap (λ (z : Piece). z.refused) r.text));
+}
+
+-- ---- questions about one expression
+
+same-items : (limit : ℕ) (asked : Asked) (t : Tree) → items limit t ≡ question_items limit (asked_of asked t)
+same-items limit asking.Value t = refl
+same-items limit asking.Outcome t = refl
+same-items limit asking.Stops t = refl
+same-items limit (asking.Picture parts.Mean) t = refl
+same-items limit (asking.Picture parts.Temp) t = refl
+same-items limit (asking.Picture parts.Whole) t = refl
+
+same-first : (asked : Asked) (t : Tree) → t ≡ first_of (asked_of asked t)
+same-first asking.Value t = refl
+same-first asking.Outcome t = refl
+same-first asking.Stops t = refl
+same-first (asking.Picture parts.Mean) t = refl
+same-first (asking.Picture parts.Temp) t = refl
+same-first (asking.Picture parts.Whole) t = refl
+
+handle-told : {R : Type 0} (s : State Meant R) (q : Question) (h : ℕ) (refused : Bool) (handle : Option ℕ)
+    → handle ≡ (if refused then None else Some h) → StandsFor s h (can (meaning (first_of q))) → HandleIs s q refused handle
+handle-told s q h true handle e stands = e
+handle-told s q h false handle e stands =
+    let P : Option ℕ → Type 0 = λ z. HandleIs s q false z in subst P (sym e) stands
+
+module _ {R : Type 0} (s t u : State Meant (WorkRest R)) (asked : Asked) (e : Tree) (h : ℕ)
+    (evaluated : Evaluates s t e (Ok h)) (spends : Spends 0 t u) where
+  made_for : Makes s u (question_items s.rest.limit (asked_of asked e))
+  made_for =
+      let P : List Item → Type 0 = λ z. Makes s u z in
+      subst P (same-items s.rest.limit asked e) (makes_spends s t u (items s.rest.limit e) evaluated.1 spends)
+
+  pub answers-told : (a : Answered) → Tells (game_at t h) h asked a → Answers s u (asked_of asked e) (Ok a)
+  answers-told a is =
+      let P : Tree → Type 0 = λ z. StandsFor u h (can (meaning z)) in (
+        record {
+          text = is.text e (stands_game t h (can (meaning e)) evaluated.0);
+          value = handle-told u (asked_of asked e) h a.refused a.handle is.handle
+              (subst P (same-first asked e) (stands_later t u spends.known h (can (meaning e)) evaluated.0));
+        },
+        made_for,
+      )
+
+  pub answers-memory : Halts s u Memory (question_items s.rest.limit (asked_of asked e))
+  answers-memory = stops_memory s u (question_items s.rest.limit (asked_of asked e))
+      (question_items s.rest.limit (asked_of asked e)) made_for
+
+pub answers-halted : {R : Type 0} (s t : State Meant (WorkRest R)) (asked : Asked) (e : Tree) (fault : ValueFault)
+    → Evaluates s t e (Err fault) → Halts s t fault (question_items s.rest.limit (asked_of asked e))
+answers-halted s t asked e fault h =
+    let P : List Item → Type 0 = λ z. Halts s t fault z in subst P (same-items s.rest.limit asked e) h
+
+-- ---- comparisons
+
+orders-of : {R : Type 0} (s : State Meant (WorkRest R)) (v w : ℕ) (a b : Game) → StandsFor s v (can a) → StandsFor s w (can b)
+    → le (game_at s v) (game_at s w) ≡ le a b
+orders-of s v w a b x y =
+    ap (λ (z : Game). le z (game_at s w)) (stands_game s v (can a) x)
+    ∙ ap (le (can a)) (stands_game s w (can b) y) ∙ le-forms a b
+
+module _ {R : Type 0} (s t u x : State Meant (WorkRest R)) (a b : Tree) (v w : ℕ)
+    (first : Evaluates s t a (Ok v)) (second : Evaluates t u b (Ok w)) (spends : Spends 0 u x) where
+  pub compared-answer : (text : List ℕ) (z : Answered)
+      → text ≡ comparison (le (game_at u v) (game_at u w)) (le (game_at u w) (game_at u v)) → shown z ≡ answer text
+      → z.handle ≡ Some v → Answers s x (compare a b) (Ok z)
+  compared-answer text z e sh hd =
+      let both = both_made s t u a b v w first second in
+      let low = orders-of u v w (meaning a) (meaning b) both.0 both.1 in
+      let high = orders-of u w v (meaning b) (meaning a) both.1 both.0 in
+      let stands = stands_later u x spends.known v (can (meaning a)) both.0 in
+      let same : text ≡ comparison (le (meaning a) (meaning b)) (le (meaning b) (meaning a)) =
+      e ∙ ap (λ k. comparison k (le (game_at u w) (game_at u v))) low ∙ ap (comparison (le (meaning a) (meaning b))) high in (
+        record {
+          text = sh ∙ ap answer same;
+          value = handle-told x (compare a b) v z.refused z.handle (hd ∙ ap (λ (k : Bool). if k then None else Some v)
+              (sym (ap (λ (p : Piece). p.refused) sh))) stands;
+        },
+        makes_spends s u x (question_items s.rest.limit (compare a b)) both.2 spends,
+      )
+
+  pub compared-memory : Halts s x Memory (question_items s.rest.limit (compare a b))
+  compared-memory =
+      let both = both_made s t u a b v w first second in
+      stops_memory s x (question_items s.rest.limit (compare a b)) (question_items s.rest.limit (compare a b))
+      (makes_spends s u x (question_items s.rest.limit (compare a b)) both.2 spends)

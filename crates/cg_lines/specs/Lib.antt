@@ -1,0 +1,4 @@
+pub mod Rises
+pub mod Places
+pub mod Corners
+pub mod Fits

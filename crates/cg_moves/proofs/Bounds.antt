@@ -1,0 +1,92 @@
+-- The tree of moves and the boards that are reached don't depend on the bound that they are defined by.
+use Rattle.std.proofs.Common.{◌≡◌, ℕ, zero, suc, ◌<◌, true, [], ◌∷◌, ◌++◌, map, ap, sym, ◌∙◌, subst, arith, inl, inr}
+use Rattle.cg_form.specs.Game.{node}
+use Rattle.cg_moves.specs.declared.player.Player.{Player}
+use Rattle.cg_moves.specs.declared.player.Player.TheVariants.{Left, Right}
+use Rattle.cg_moves.specs.Grid.{Grid, with_cells}
+use Rattle.cg_moves.specs.Rules.{GameRules, In, IsLawful, boards_after, followers}
+use Rattle.cg_moves.specs.Raw.{IsTreeOfMoves, raw, raw_within}
+use Rattle.cg_moves.specs.Reach.{IsListOfReached, all_reached, reached_within}
+use Rattle.cg_moves.proofs.Members.{flat_map-agree, in-append, in-map, map-agree}
+
+module _ (r : GameRules) (lawful : IsLawful r) where
+  -- a board that a move leads to is one of the game, with a lower measure
+  pub after-has : (player : Player) (p q : Grid) → r.has p ≡ true → In q (boards_after r player p) → r.has q ≡ true
+  after-has player p q has m =
+      let (cells, k, e) = in-map (with_cells p) q (r.moves player p) m in
+      let P : Grid → Type 0 = λ z. r.has z ≡ true in
+      subst P (sym e) (lawful.stays player p cells has k)
+
+  pub after-lowers : (player : Player) (p q : Grid) → r.has p ≡ true → In q (boards_after r player p)
+      → r.measure q < r.measure p
+  after-lowers player p q has m =
+      let (cells, k, e) = in-map (with_cells p) q (r.moves player p) m in
+      let P : Grid → Type 0 = λ z. r.measure z < r.measure p in
+      subst P (sym e) (lawful.lowers player p cells has k)
+
+  pub follower-has : (p q : Grid) → r.has p ≡ true → In q (followers r p) → r.has q ≡ true
+  follower-has p q has m = elim (in-append q (boards_after r Left p) (boards_after r Right p) m) [
+    | inl k ↦ after-has Left p q has k
+    | inr k ↦ after-has Right p q has k
+  ]
+
+  pub follower-lowers : (p q : Grid) → r.has p ≡ true → In q (followers r p) → r.measure q < r.measure p
+  follower-lowers p q has m = elim (in-append q (boards_after r Left p) (boards_after r Right p) m) [
+    | inl k ↦ after-lowers Left p q has k
+    | inr k ↦ after-lowers Right p q has k
+  ]
+
+  -- ---- the tree
+
+  raw_within-bound : (n m : ℕ) (p : Grid) → r.has p ≡ true → r.measure p < n → r.measure p < m
+      → raw_within r n p ≡ raw_within r m p
+  unfolding raw_within
+  raw_within-bound zero m p has n_is m_is = absurd (omega arith)
+  raw_within-bound (suc n) zero p has n_is m_is = absurd (omega arith)
+  raw_within-bound (suc n) (suc m) p has n_is m_is =
+      ap (λ z. node z (map (λ q. raw_within r n q) (boards_after r Right p)))
+      (map-agree (λ q. raw_within r n q) (λ q. raw_within r m q) (boards_after r Left p)
+      (λ q k. let l = after-lowers Left p q has k in
+      raw_within-bound n m q (after-has Left p q has k) (omega arith) (omega arith)))
+      ∙ ap (λ z. node (map (λ q. raw_within r m q) (boards_after r Left p)) z)
+      (map-agree (λ q. raw_within r n q) (λ q. raw_within r m q) (boards_after r Right p)
+      (λ q k. let l = after-lowers Right p q has k in
+      raw_within-bound n m q (after-has Right p q has k) (omega arith) (omega arith)))
+
+  raw-within : (n : ℕ) (p : Grid) → r.has p ≡ true → r.measure p < n → raw_within r n p ≡ raw r p
+  unfolding raw
+  raw-within n p has below = raw_within-bound n (suc (r.measure p)) p has below (omega arith)
+
+  pub raw-moves : (p : Grid) → r.has p ≡ true → IsTreeOfMoves r p
+  unfolding raw raw_within
+  raw-moves p has =
+      ap (λ z. node z (map (λ q. raw_within r (r.measure p) q) (boards_after r Right p)))
+      (map-agree (λ q. raw_within r (r.measure p) q) (raw r) (boards_after r Left p)
+      (λ q k. raw-within (r.measure p) q (after-has Left p q has k) (after-lowers Left p q has k)))
+      ∙ ap (λ z. node (map (raw r) (boards_after r Left p)) z)
+      (map-agree (λ q. raw_within r (r.measure p) q) (raw r) (boards_after r Right p)
+      (λ q k. raw-within (r.measure p) q (after-has Right p q has k) (after-lowers Right p q has k)))
+
+  -- ---- the boards that are reached
+
+  reached_within-bound : (n m : ℕ) (p : Grid) → r.has p ≡ true → r.measure p < n → r.measure p < m
+      → reached_within r n p ≡ reached_within r m p
+  unfolding reached_within
+  reached_within-bound zero m p has n_is m_is = absurd (omega arith)
+  reached_within-bound (suc n) zero p has n_is m_is = absurd (omega arith)
+  reached_within-bound (suc n) (suc m) p has n_is m_is =
+      ap (λ z. z ++ (p ∷ []))
+      (flat_map-agree (λ q. reached_within r n q) (λ q. reached_within r m q) (followers r p)
+      (λ q k. let l = follower-lowers p q has k in
+      reached_within-bound n m q (follower-has p q has k) (omega arith) (omega arith)))
+
+  reached-within : (n : ℕ) (p : Grid) → r.has p ≡ true → r.measure p < n → reached_within r n p ≡ all_reached r p
+  unfolding all_reached
+  reached-within n p has below = reached_within-bound n (suc (r.measure p)) p has below (omega arith)
+
+  pub reached-moves : (p : Grid) → r.has p ≡ true → IsListOfReached r p
+  unfolding all_reached reached_within
+  reached-moves p has =
+      ap (λ z. z ++ (p ∷ []))
+      (flat_map-agree (λ q. reached_within r (r.measure p) q) (all_reached r) (followers r p)
+      (λ q k. reached-within (r.measure p) q (follower-has p q has k) (follower-lowers p q has k)))

@@ -1,0 +1,327 @@
+-- Texts, cut at bars.
+use Rattle.std.proofs.Common.{◌≡◌, refl, ℕ, zero, suc, ◌+◌, ◌-◌, ◌*◌, ◌<◌, ◌≤◌, ◌==◌, ◌||◌, ◌&&◌, not, Bool, true, false, if◌then◌else◌, ◌⊎◌, inl, inr, Option, Some, None, List, [], ◌∷◌, ◌++◌, append_assoc, cond, length, length-append, drop, get_or, ap, sym, ◌∙◌, arith}
+use Rattle.std.specs.List.{flat_map, list_any, position_or_len, prefix_len}
+use Rattle.std.specs.Prelude.{Contains, nat_lt, position, slice_index}
+use Rattle.std.proofs.Math.Nat.{mul-le-mul_left}
+use Rattle.std.proofs.lemmas.Bool.Decides.{eqb_tells, nat_tests}
+use Rattle.std.proofs.lemmas.List.{append-nil}
+use Rattle.cg_moves.specs.Texts.{bar, cut, first_row, in_front, is_foreign, ragged, rows_of}
+use Rattle.cg_moves.specs.Grid.{AreCells}
+use Rattle.cg_moves.specs.Rules.{In}
+use Rattle.cg_moves.proofs.Members.{carry}
+
+abbrev pub cells_of : List (List ℕ) → List ℕ
+cells_of rows = flat_map (λ row. row) rows
+
+-- a text is cut at a bar
+pub cut-bar : (c : ℕ) (cs : List ℕ) → c ≡ bar → cut (c ∷ cs) ≡ [] ∷ cut cs
+cut-bar c cs e = elim (eqb_tells c bar) [
+  | inl p ↦ ap (λ b. if b then [] ∷ cut cs else in_front c (cut cs)) p.0
+  | inr p ↦ absurd (p.1 e)
+]
+
+pub cut-front : (c : ℕ) (cs : List ℕ) → (c ≡ bar → ⊥) → cut (c ∷ cs) ≡ in_front c (cut cs)
+cut-front c cs n = elim (eqb_tells c bar) [
+  | inl p ↦ absurd (n p.1)
+  | inr p ↦ ap (λ b. if b then [] ∷ cut cs else in_front c (cut cs)) p.0
+]
+
+abbrev pub rows_behind : List (List ℕ) → List (List ℕ)
+rows_behind [] = []
+rows_behind (row ∷ rows) = rows
+
+front-length : (c : ℕ) (rows : List (List ℕ)) → length (first_row (in_front c rows)) ≡ length (first_row rows) + 1
+front-length c [] = omega arith
+front-length c (row ∷ rows) = omega arith
+
+front-behind : (c : ℕ) (rows : List (List ℕ)) → rows_behind (in_front c rows) ≡ rows_behind rows
+front-behind c [] = refl
+front-behind c (row ∷ rows) = refl
+
+front-cells : (c : ℕ) (rows : List (List ℕ)) → cells_of (in_front c rows) ≡ c ∷ cells_of rows
+front-cells c [] = refl
+front-cells c (row ∷ rows) = refl
+
+front-rows : (c : ℕ) (rows : List (List ℕ)) → 1 ≤ length rows → length (in_front c rows) ≡ length rows
+front-rows c [] h = absurd (omega arith)
+front-rows c (row ∷ rows) h = refl
+
+pub some-row : (text : List ℕ) → 1 ≤ length (cut text)
+some-row [] = omega arith
+some-row (c ∷ cs) = elim (eqb_tells c bar) [
+  | inl p ↦ (let e = ap length (cut-bar c cs p.1) in omega arith)
+  | inr p ↦ (let e = ap length (cut-front c cs p.1) in let h = some-row cs in let f = front-rows c (cut cs) h in omega arith)
+]
+
+pub drop-read : (xs : List ℕ) (i : ℕ) → i < length xs → drop i xs ≡ get_or xs i 0 ∷ drop (suc i) xs
+drop-read [] i l = absurd (omega arith)
+drop-read (x ∷ xs) zero l = refl
+drop-read (x ∷ xs) (suc i) l = drop-read xs i (omega arith)
+
+drop-next : (xs : List ℕ) (i c : ℕ) → i < length xs → c ≡ get_or xs i 0 → drop i xs ≡ c ∷ drop (i + 1) xs
+drop-next xs i c l e = let s : i + 1 ≡ suc i = omega arith in
+    drop-read xs i l ∙ ap (λ z. z ∷ drop (suc i) xs) (sym e) ∙ ap (λ n. c ∷ drop n xs) (sym s)
+
+drop-end : (xs : List ℕ) (i : ℕ) → length xs ≤ i → drop i xs ≡ []
+drop-end [] zero h = refl
+drop-end [] (suc i) h = refl
+drop-end (x ∷ xs) zero h = absurd (omega arith)
+drop-end (x ∷ xs) (suc i) h = drop-end xs i (omega arith)
+
+-- ---- the length of the first row
+
+module _ (text : List ℕ) (i c : ℕ) (within : i < length text) (read : c ≡ get_or text i 0) where
+  pub first-bar : c ≡ bar → length (first_row (cut (drop i text))) ≡ 0
+  first-bar e = ap (λ z. length (first_row (cut z))) (drop-next text i c within read)
+      ∙ ap (λ z. length (first_row z)) (cut-bar c (drop (i + 1) text) e)
+
+  pub first-more : (c ≡ bar → ⊥) → length (first_row (cut (drop i text))) ≡ length (first_row (cut (drop (i + 1) text))) + 1
+  first-more n = ap (λ z. length (first_row (cut z))) (drop-next text i c within read)
+      ∙ ap (λ z. length (first_row z)) (cut-front c (drop (i + 1) text) n) ∙ front-length c (cut (drop (i + 1) text))
+
+  pub rows-bar : c ≡ bar → length (cut (drop i text)) ≡ length (cut (drop (i + 1) text)) + 1
+  rows-bar e =
+      let a = ap (λ z. length (cut z)) (drop-next text i c within read) in
+      let b = ap length (cut-bar c (drop (i + 1) text) e) in
+      omega arith
+
+  pub rows-more : (c ≡ bar → ⊥) → length (cut (drop i text)) ≡ length (cut (drop (i + 1) text))
+  rows-more n = ap (λ z. length (cut z)) (drop-next text i c within read) ∙ ap length (cut-front c (drop (i + 1) text) n)
+      ∙ front-rows c (cut (drop (i + 1) text)) (some-row (drop (i + 1) text))
+
+  cells-bar : c ≡ bar → cells_of (cut (drop i text)) ≡ cells_of (cut (drop (i + 1) text))
+  cells-bar e = ap (λ z. cells_of (cut z)) (drop-next text i c within read) ∙ ap cells_of (cut-bar c (drop (i + 1) text) e)
+
+  cells-more : (c ≡ bar → ⊥) → cells_of (cut (drop i text)) ≡ c ∷ cells_of (cut (drop (i + 1) text))
+  cells-more n = ap (λ z. cells_of (cut z)) (drop-next text i c within read) ∙ ap cells_of (cut-front c (drop (i + 1) text)
+      n) ∙ front-cells c (cut (drop (i + 1) text))
+
+  -- one cell more
+  pub cell-put : (one_row : Bool) (all cells more : List ℕ) → all ≡ cells ++ cells_of (rows_of one_row (drop i text))
+      → more ≡ cells ++ (c ∷ []) → (one_row ≡ true) ⊎ (c ≡ bar → ⊥)
+      → all ≡ more ++ cells_of (rows_of one_row (drop (i + 1) text))
+  cell-put true all cells more e f which = e ∙ ap (λ z. cells ++ (z ++ [])) (drop-next text i c within read)
+      ∙ sym (append_assoc cells (c ∷ []) (drop (i + 1) text ++ [])) ∙ ap (λ z. z ++ (drop (i + 1) text ++ [])) (sym f)
+  cell-put false all cells more e f (inl no_row) = absurd (no_bool no_row)
+    where
+      no_bool : false ≡ true → ⊥
+      no_bool h = cc
+  cell-put false all cells more e f (inr n) = e ∙ ap (λ z. cells ++ z) (cells-more n)
+      ∙ sym (append_assoc cells (c ∷ []) (cells_of (cut (drop (i + 1) text))))
+      ∙ ap (λ z. z ++ cells_of (cut (drop (i + 1) text))) (sym f)
+
+  pub bar-left : (one_row : Bool) (all cells : List ℕ) → all ≡ cells ++ cells_of (rows_of one_row (drop i text))
+      → one_row ≡ false → c ≡ bar → all ≡ cells ++ cells_of (rows_of one_row (drop (i + 1) text))
+  bar-left true all cells e f b = cc
+  bar-left false all cells e f b = e ∙ ap (λ z. cells ++ z) (cells-bar b)
+
+pub first-end : (text : List ℕ) (i : ℕ) → length text ≤ i → length (first_row (cut (drop i text))) ≡ 0
+first-end text i h = ap (λ z. length (first_row (cut z))) (drop-end text i h)
+
+pub rows-end : (text : List ℕ) (i : ℕ) → length text ≤ i → length (cut (drop i text)) ≡ 1
+rows-end text i h = ap (λ z. length (cut z)) (drop-end text i h)
+
+pub cells-end : (one_row : Bool) (text all cells : List ℕ) (i : ℕ) → length text ≤ i
+    → all ≡ cells ++ cells_of (rows_of one_row (drop i text)) → cells ≡ all
+cells-end true text all cells i h e = sym (e ∙ ap (λ z. cells ++ (z ++ [])) (drop-end text i h) ∙ append-nil cells)
+cells-end false text all cells i h e = sym (e ∙ ap (λ z. cells ++ cells_of (cut z)) (drop-end text i h) ∙ append-nil
+    cells)
+
+-- ---- the first ragged row
+
+ragged-first : (columns start : ℕ) (rows : List (List ℕ)) → 1 ≤ length rows → ragged columns start rows
+    ≡ (if length (first_row rows) == columns then ragged columns (start + length (first_row rows) + 1) (rows_behind rows)
+    else Some start)
+ragged-first columns start [] h = absurd (omega arith)
+ragged-first columns start (row ∷ rows) h = refl
+
+-- what is known of the rows from a place on: how long the first is, and which of those behind it is ragged
+pub record RaggedFrom (columns : ℕ) (text : List ℕ) (start row : ℕ) (later : Option ℕ) : Type 0 where
+  pub inside : start + row ≤ length text
+  pub long : row ≡ length (first_row (cut (drop start text)))
+  pub behind : later ≡ ragged columns (start + row + 2) (rows_behind (cut (drop start text)))
+
+pub ragged_none : (columns : ℕ) (text : List ℕ) (start : ℕ) → start ≡ length text → RaggedFrom columns text start 0 None
+ragged_none columns text start e = record {
+  inside = omega arith;
+  long = sym (first-end text start (omega arith));
+  behind = sym (ap (λ z. ragged columns (start + 0 + 2) (rows_behind (cut z))) (drop-end text start (omega arith)));
+}
+
+module _ (columns : ℕ) (text : List ℕ) (start row : ℕ) (later : Option ℕ) (some : 0 < start)
+    (so_far : RaggedFrom columns text start row later) where
+  at : drop (start - 1) text ≡ get_or text (start - 1) 0 ∷ drop start text
+  at = let s : suc (start - 1) ≡ start = omega arith in let l = so_far.inside in
+      drop-read text (start - 1) (omega arith) ∙ ap (λ n. get_or text (start - 1) 0 ∷ drop n text) s
+
+  pub ragged_more : (get_or text (start - 1) 0 ≡ bar → ⊥) → RaggedFrom columns text (start - 1) (row + 1) later
+  ragged_more n =
+      let l = so_far.inside in
+      let s : start - 1 + (row + 1) + 2 ≡ start + row + 2 = omega arith in
+      let e : cut (drop (start - 1) text) ≡ in_front (get_or text (start - 1) 0) (cut (drop start text)) = ap cut at
+      ∙ cut-front (get_or text (start - 1) 0) (drop start text) n in
+      record {
+        inside = omega arith;
+        long = ap (λ z. z + 1) so_far.long ∙ sym (ap (λ z. length (first_row z)) e ∙ front-length (get_or text (start - 1)
+            0) (cut (drop start text)));
+        behind = so_far.behind ∙ ap (λ k. ragged columns k (rows_behind (cut (drop start text)))) (sym s)
+            ∙ ap (λ z. ragged columns (start - 1 + (row + 1) + 2) z) (sym (ap rows_behind e ∙ front-behind (get_or text
+            (start - 1) 0) (cut (drop start text))));
+      }
+
+  module _ (b : get_or text (start - 1) 0 ≡ bar) where
+    here : cut (drop (start - 1) text) ≡ [] ∷ cut (drop start text)
+    here = ap cut at ∙ cut-bar (get_or text (start - 1) 0) (drop start text) b
+
+    there : (o : Option ℕ) → o ≡ (if row == columns then later else Some (start + 1))
+        → RaggedFrom columns text (start - 1) 0 o
+    there o e =
+        let l = so_far.inside in
+        let s : start - 1 + 0 + 2 ≡ start + 1 = omega arith in
+        let t : start + 1 + row + 1 ≡ start + row + 2 = omega arith in
+        let rows = cut (drop start text) in
+        record {
+          inside = omega arith;
+          long = sym (ap (λ z. length (first_row z)) here);
+          behind = e ∙ ap (λ z. if row == columns then z else Some (start + 1)) (so_far.behind ∙ ap (λ k. ragged columns k
+              (rows_behind rows)) (sym t))
+              ∙ ap (λ z. if z == columns then ragged columns (start + 1 + z + 1) (rows_behind rows) else Some (start + 1))
+              so_far.long
+              ∙ sym (ragged-first columns (start + 1) rows (some-row (drop start text)))
+              ∙ ap (λ k. ragged columns k rows) (sym s)
+              ∙ ap (λ z. ragged columns (start - 1 + 0 + 2) z) (sym (ap rows_behind here));
+        }
+
+    pub ragged_here : (row ≡ columns → ⊥) → RaggedFrom columns text (start - 1) 0 (Some (start - 1 + 2))
+    ragged_here n =
+        let s : start - 1 + 2 ≡ start + 1 = omega arith in
+        elim (eqb_tells row columns) [
+          | inl p ↦ absurd (n p.1)
+          | inr p ↦ there (Some (start - 1 + 2)) (ap (λ z. Some z) s ∙ ap (λ t. if t then later else Some (start + 1)) (sym
+              p.0))
+        ]
+
+    pub not_ragged : row ≡ columns → RaggedFrom columns text (start - 1) 0 later
+    not_ragged e = elim (eqb_tells row columns) [
+      | inl p ↦ there later (ap (λ t. if t then later else Some (start + 1)) (sym p.0))
+      | inr p ↦ absurd (p.1 e)
+    ]
+
+pub ragged_all : (columns : ℕ) (text : List ℕ) (start row : ℕ) (later : Option ℕ) → start ≤ 0
+    → RaggedFrom columns text start row later → columns ≡ length (first_row (cut text)) → later ≡ ragged columns 1 (cut text)
+ragged_all columns text start row later end r e =
+    let z : start ≡ 0 = omega arith in
+    let long : row ≡ length (first_row (cut text)) = r.long ∙ ap (λ k. length (first_row (cut (drop k text)))) z in
+    let s : start + row + 2 ≡ 1 + length (first_row (cut text)) + 1 = omega arith in
+    r.behind ∙ ap (λ k. ragged columns (start + row + 2) (rows_behind (cut (drop k text)))) z
+    ∙ ap (λ k. ragged columns k (rows_behind (cut text))) s
+    ∙ sym (ragged-first columns 1 (cut text) (some-row text)
+    ∙ ap (λ t. if t then ragged columns (1 + length (first_row (cut text)) + 1) (rows_behind (cut text)) else Some 1)
+    (same (length (first_row (cut text))) columns (sym e)))
+  where
+    same : (a b : ℕ) → a ≡ b → (a == b) ≡ true
+    same a b h = elim (eqb_tells a b) [ inl p ↦ p.0 | inr p ↦ absurd (p.1 h) ]
+
+-- ---- the size of a board
+
+-- where no row is ragged, there are so many cells in each
+pub not-ragged : (columns start : ℕ) (rows : List (List ℕ)) → ragged columns start rows ≡ None
+    → length (cells_of rows) ≡ length rows * columns
+not-ragged columns start [] e = omega arith
+not-ragged columns start (row ∷ rows) e = elim (eqb_tells (length row) columns) [
+  | inl p ↦ (let rest = not-ragged columns (start + length row + 1) rows (sym (ap (λ t. if t then ragged columns (start +
+      length row + 1) rows else Some start) p.0) ∙ e) in
+      let a = length-append row (cells_of rows) in
+      let q = p.1 in
+      let m : suc (length rows) * columns ≡ columns + length rows * columns = omega arith in
+      omega (arith, m))
+  | inr p ↦ absurd (some_none start (sym (ap (λ t. if t then ragged columns (start + length row + 1) rows else Some
+      start) p.0) ∙ e))
+]
+  where
+    some_none : (x : ℕ) → Some x ≡ None → ⊥
+    some_none x h = cc
+
+pub few-rows : (rows columns n : ℕ) → n ≡ rows * columns → n ≤ 64 → (columns ≡ 0 → ⊥) → rows ≤ 64
+few-rows rows columns n e few some =
+    let m : rows * 1 ≤ rows * columns = mul-le-mul_left rows (omega arith) in
+    omega (arith, m)
+
+-- ---- the cells of a board
+
+pub in-cut : (text : List ℕ) (c : ℕ) → In c (cells_of (cut text)) → In c text × (c ≡ bar → ⊥)
+in-cut [] c m = absurd m
+in-cut (d ∷ ds) c m = elim (eqb_tells d bar) [
+  | inl p ↦ (let h = in-cut ds c (carry c (cells_of (cut (d ∷ ds))) (cells_of (cut ds)) (ap cells_of (cut-bar d ds p.1))
+      m) in (inr h.0, h.1))
+  | inr p ↦ elim (carry c (cells_of (cut (d ∷ ds))) (d ∷ cells_of (cut ds)) (ap cells_of (cut-front d ds p.1)
+      ∙ front-cells d (cut ds)) m) [
+        | inl e ↦ (inl e, λ b. p.1 (sym e ∙ b))
+        | inr k ↦ (let h = in-cut ds c k in (inr h.0, h.1))
+      ]
+]
+
+in-rows : (one_row : Bool) (text : List ℕ) (c : ℕ) → In c (cells_of (rows_of one_row text))
+    → In c text × ((one_row ≡ true) ⊎ (c ≡ bar → ⊥))
+in-rows true text c m = (carry c (text ++ []) text (append-nil text) m, inl refl)
+in-rows false text c m = let h = in-cut text c m in (h.0, inr h.1)
+
+any-contains : (symbols : List ℕ) (c : ℕ) → list_any (λ s. s == c) symbols ≡ true → Contains symbols c
+any-contains [] c e = cc
+any-contains (s ∷ ss) c e = elim (eqb_tells s c) [
+  | inl p ↦ (0, omega arith, p.1)
+  | inr p ↦ (let (k, l, f) = any-contains ss c (sym (ap (λ b. b || list_any (λ s. s == c) ss) p.0) ∙ e) in
+      (suc k, omega arith, f))
+]
+
+symbol-of : (one_row a b : Bool) → not (a || (not one_row && b)) ≡ false → (one_row ≡ true) ⊎ (b ≡ false) → a ≡ true
+symbol-of one_row true b e which = refl
+symbol-of true false b e which = cc
+symbol-of false false b e (inl h) = cc
+symbol-of false false true e (inr h) = cc
+symbol-of false false false e (inr h) = cc
+
+bar-false : (c : ℕ) → (c ≡ bar → ⊥) → (c == bar) ≡ false
+bar-false c n = elim (eqb_tells c bar) [ inl p ↦ absurd (n p.1) | inr p ↦ p.0 ]
+
+all-pass : (q : ℕ → Bool) (xs : List ℕ) → length xs ≤ prefix_len q xs → (c : ℕ) → In c xs → q c ≡ true
+all-pass q [] h c m = absurd m
+all-pass q (x ∷ xs) h c m = (elim (q x) as (λ b. q x ≡ b → length (x ∷ xs) ≤ cond b (1 + prefix_len q xs) 0 → q c
+    ≡ true) [
+      | true ↦ λ e l. elim m [
+        | inl s ↦ ap q s ∙ e
+        | inr k ↦ all-pass q xs (omega arith) c k
+      ]
+      | false ↦ λ e l. absurd (omega arith)
+    ]) refl h
+
+none-foreign : (p : ℕ → Bool) (xs : List ℕ) → position p xs ≡ None → (c : ℕ) → In c xs → p c ≡ false
+none-foreign p xs e c m = (elim (nat_lt (position_or_len p xs) (length xs)) as (λ b. nat_lt (position_or_len p xs)
+    (length xs) ≡ b → cond b (Some (position_or_len p xs)) None ≡ None → p c ≡ false) [
+      | true ↦ λ t f. absurd (clash (position_or_len p xs) f)
+      | false ↦ λ t f. (let l : length xs ≤ position_or_len p xs = grind (arith, nat_tests) in
+          turned (p c) (all-pass (λ x. not (p x)) xs l c m))
+    ]) refl e
+  where
+    clash : (x : ℕ) → Some x ≡ None → ⊥
+    clash x h = cc
+
+    turned : (b : Bool) → not b ≡ true → b ≡ false
+    turned true h = cc
+    turned false h = refl
+
+read-in : (cells : List ℕ) (k : ℕ) → k < length cells → In (slice_index cells k) cells
+read-in [] k l = absurd (omega arith)
+read-in (c ∷ cells) zero l = inl refl
+read-in (c ∷ cells) (suc k) l = inr (read-in cells k (omega arith))
+
+pub cells-symbols : (one_row : Bool) (symbols text cells : List ℕ) → cells ≡ cells_of (rows_of one_row text)
+    → position (is_foreign one_row symbols) text ≡ None → AreCells symbols cells
+cells-symbols one_row symbols text cells e none_left k l =
+    let c = slice_index cells k in
+    let h = in-rows one_row text c (carry c cells (cells_of (rows_of one_row text)) e (read-in cells k l)) in
+    let f = none-foreign (is_foreign one_row symbols) text none_left c h.0 in
+    any-contains symbols c (symbol-of one_row (list_any (λ s. s == c) symbols) (c == bar) f (elim h.1 [
+      | inl t ↦ inl t
+      | inr n ↦ inr (bar-false c n)
+    ]))

@@ -1,0 +1,14 @@
+pub mod Grid
+pub mod GridCode
+pub mod Reordered
+pub mod Rules
+pub mod Total
+pub mod Raw
+pub mod Reach
+pub mod Kept
+pub mod Seen
+pub mod Rising
+pub mod Texts
+pub mod Walks
+pub mod Connected
+pub mod PieceReach

@@ -1,0 +1,25 @@
+//! Boards of games, and the rules of games on them.
+#![tactic(auto)]
+
+mod board;
+mod boards;
+mod fault;
+mod grid;
+pub mod laws;
+mod outcomes;
+mod player;
+mod reaching;
+mod rules;
+mod seen;
+mod walk;
+mod writing;
+
+pub use board::Board;
+pub use boards::{Boards, Cells};
+pub use fault::{BoardFault, ReachFault};
+pub use grid::read_grid;
+pub use outcomes::Outcomes;
+pub use player::Player;
+pub use reaching::reach;
+pub use rules::Rules;
+pub use writing::text;

@@ -1,0 +1,25 @@
+//! The boards that play can come to from a board.
+ghost use Rattle.std.specs.Prelude.{◌≡◌, ◌<◌, ◌≤◌, true, IfOk, OnOk, length, Err};
+ghost use Rattle.cg_moves.specs.Reach.{reach_of};
+
+use crate::walk::seen_from;
+use crate::{Board, Boards, ReachFault, Rules};
+use std::alloc::Global;
+
+/// The boards that play can come to from the start, which must be a board of the game: those of each Left move in order,
+/// those of each Right move in order, then the start itself, each only where it comes first. `Positions` comes exactly
+/// where there are more than `limit`. `Memory` is the other error.
+pub fn reach<R: Rules>(
+    alloc: Global,
+    rules: &R,
+    start: &Board,
+    limit: u64,
+) -> Result<Boards, ReachFault>
+    requires { (R.game rules.now).has start.now ≡ true }
+    ensures boards { IfOk result (λ boards. boards ≡ reach_of (R.game rules.now) start.now) }
+    ensures within { OnOk result (length (reach_of (R.game rules.now) start.now) ≤ limit) }
+    ensures refused { result ≡ Err ReachFault.Positions → limit < length (reach_of (R.game rules.now) start.now) }
+{
+    let seen = seen_from(alloc, rules, start, limit)?;
+    Ok(seen.into_boards())
+}

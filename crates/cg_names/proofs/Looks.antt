@@ -1,0 +1,287 @@
+-- What the shape of a game tells of its sign.
+use Rattle.std.proofs.Common.{◌≡◌, refl, ap, sym, ◌∙◌, subst, ℕ, zero, suc, ◌+◌, arith, add-one, inl, inr, List, [], ◌∷◌, Bool, true, false, not, cond, Option, Some, None}
+use Rattle.cg_dyadic.proofs.Negatives.{double_negative}
+use Rattle.cg_dyadic.proofs.Truth.{not_not}
+use Rattle.cg_dyadic.specs.Number.{Number}
+use Rattle.cg_form.specs.Game.{Game, node, number, options}
+use Rattle.cg_form.specs.Shifted.{shifted}
+use Rattle.cg_form.specs.Side.{near}
+use Rattle.cg_nodes.specs.Games.{IsNode}
+use Rattle.cg_dyadic.specs.Exact.{number_negative}
+use Rattle.cg_names.specs.Named.{mirrored_if, pair_form, tiny_form, tiny_part, ups_of, zero_form, zero_number}
+use Rattle.std.specs.Prelude.{IfOk, Result}
+use Rattle.std.specs.declared.alloc.AllocError.{AllocError}
+use Rattle.cg_names.specs.Readings.{IsArrows}
+use Rattle.cg_names.specs.declared.look_arrows.ArrowsFound.{ArrowsFound}
+use Rattle.cg_names.specs.Shapes.{leading}
+use Rattle.cg_names.proofs.Guessing.{one_value}
+use Rattle.cg_names.proofs.SignForms.{ArrowsShape, IsStep, arrows_shape, both, both_is, level, level_is, mirrored-node, mirrored-others, mirrored-own, no_ups, star_above, step, step_is, step_node}
+
+-- ---- lists of one
+
+pub one_same : (g h : Game) → g ∷ [] ≡ h ∷ [] → g ≡ h
+one_same g h e = cc
+
+one_not_two : (g h k : Game) → ¬ (g ∷ [] ≡ h ∷ (k ∷ []))
+one_not_two g h k e = cc
+
+pub not_both : (g : Game) (x : Number) → IsNode g → ¬ (g ≡ number x)
+not_both g x i e = let P : Game → Type 0 = λ z. IsNode z in subst P e i
+
+-- ---- {x|y}
+
+pub pair-lefts : (ls rs : List Game) (x y : Number) → node ls rs ≡ pair_form x y → ls ≡ number x ∷ []
+pair-lefts ls rs x y e = mirrored-own false ls rs (number x ∷ []) (number y ∷ []) e
+
+pub pair-rights : (ls rs : List Game) (x y : Number) → node ls rs ≡ pair_form x y → rs ≡ number y ∷ []
+pair-rights ls rs x y e = mirrored-others false ls rs (number x ∷ []) (number y ∷ []) e
+
+-- the lists of one number each
+pub pair-from : (ls rs : List Game) (g h : Game) (x y : Number) → ls ≡ g ∷ [] → rs ≡ h ∷ [] → g ≡ number x → h ≡ number y
+    → node ls rs ≡ pair_form x y
+pair-from ls rs g h x y e f p q =
+    ap (λ z. node z rs) (e ∙ ap (λ z. z ∷ []) p) ∙ ap (λ z. node (number x ∷ []) z) (f ∙ ap (λ z. z ∷ []) q)
+
+-- ---- ups
+
+-- the number of a game of the chain
+abbrev some_number : Option Number → Number
+some_number None = zero_number
+some_number (Some x) = x
+
+abbrev base_in : Bool → Game → Number
+base_in down (number x) = x
+base_in down (options ls rs) = some_number (leading (near (not down) (options ls rs)))
+
+base_mirrored : (down : Bool) (x : Number) (ls rs : List Game) → base_in down (mirrored_if down (number x ∷ ls) rs) ≡ x
+base_mirrored false x ls rs = refl
+base_mirrored true x ls rs = refl
+
+base_is : (down starred : Bool) (x : Number) (n : ℕ) → base_in down (shifted x (ups_of down starred n)) ≡ x
+base_is down false x zero = ap (base_in down) (no_ups down x)
+base_is down true x zero = ap (base_in down) (level_is down x) ∙ base_mirrored down x [] (number x ∷ [])
+base_is down true x (suc zero) = ap (base_in down) (both_is down x) ∙ base_mirrored down x (star_above x ∷ []) (number x ∷ [])
+base_is down false x (suc zero) = ap (base_in down) (step_is down false x zero tt) ∙ base_mirrored down x [] _
+base_is down starred x (suc (suc n)) = ap (base_in down) (step_is down starred x (suc n) tt) ∙ base_mirrored down x [] _
+
+one_base : (down s t : Bool) (x y : Number) (m n : ℕ)
+    → shifted x (ups_of down s m) ≡ shifted y (ups_of down t n) → x ≡ y
+one_base down s t x y m n e = sym (base_is down s x m) ∙ ap (base_in down) e ∙ base_is down t y n
+
+-- {x|x} is x + *
+pub level-found : (x y : Number) → x ≡ y → (down : Bool) → mirrored_if down (number x ∷ []) (number y ∷ [])
+    ≡ shifted x (ups_of down true 0)
+level-found x y e down = ap (λ z. mirrored_if down (number x ∷ []) (number z ∷ [])) (sym e) ∙ sym (level_is down x)
+
+pub level-none : (x y : Number) → ¬ (x ≡ y) → (down starred : Bool) (z : Number) (n : ℕ)
+    → ¬ (mirrored_if down (number x ∷ []) (number y ∷ []) ≡ shifted z (ups_of down starred n))
+level-none x y d down starred z n e = by (arrows_shape down starred z n (number x ∷ []) (number y ∷ []) e)
+  where
+    by : ArrowsShape down starred z n (number x ∷ []) (number y ∷ []) → ⊥
+    by (level s m p q) = d (one_value x z (one_same _ _ p) ∙ sym (one_value y z (one_same _ _ q)))
+    by (both s m p q) = one_not_two _ _ _ p
+    by (step m i k p q) = not_both _ y (step_node down starred z m i) (sym (one_same _ _ q))
+
+-- {x|g} is one more than g
+pub more-found : (x y : Number) → x ≡ y → (down s : Bool) (n m : ℕ) → m ≡ n + 1 → (g : Game) → IsNode g
+    → g ≡ shifted y (ups_of down s n)
+    → mirrored_if down (number x ∷ []) (g ∷ []) ≡ shifted x (ups_of down (not s) m)
+more-found x y e down s n m c g i f =
+    let same : g ≡ shifted x (ups_of down s n) = f ∙ ap (λ z. shifted z (ups_of down s n)) (sym e) in
+    let P : Game → Type 0 = λ z. IsNode z in
+    let Q : ℕ → Type 0 = λ k. mirrored_if down (number x ∷ []) (g ∷ []) ≡ shifted x (ups_of down (not s) k) in
+    subst Q (sym (add-one n) ∙ sym c) (ap (λ z. mirrored_if down (number x ∷ []) (z ∷ [])) same
+    ∙ ap (λ b. mirrored_if down (number x ∷ []) (shifted x (ups_of down b n) ∷ [])) (sym (not_not s))
+    ∙ sym (step_is down (not s) x n (goes_on s n (subst P same i))))
+  where
+    goes_on : (b : Bool) (k : ℕ) → IsNode (shifted x (ups_of down b k)) → IsStep (not b) k
+    goes_on false zero j = absurd (not_both _ x j (no_ups down x))
+    goes_on true zero j = tt
+    goes_on b (suc k) j = tt
+
+pub more-none : (x y : Number) → ¬ (x ≡ y) → (down s : Bool) (k : ℕ) (g : Game) → IsNode g
+    → g ≡ shifted y (ups_of down s k) → (starred : Bool) (z : Number) (n : ℕ)
+    → ¬ (mirrored_if down (number x ∷ []) (g ∷ []) ≡ shifted z (ups_of down starred n))
+more-none x y d down s k g i f starred z n e = by (arrows_shape down starred z n (number x ∷ []) (g ∷ []) e)
+  where
+    by : ArrowsShape down starred z n (number x ∷ []) (g ∷ []) → ⊥
+    by (level t m p q) = not_both g z i (one_same _ _ q)
+    by (both t m p q) = one_not_two _ _ _ p
+    by (step m j c p q) = d (one_value x z (one_same _ _ p)
+        ∙ one_base down (not starred) s z y m k (sym (one_same _ _ q) ∙ f))
+
+-- {x|g} is none where g is none
+pub on-none : (x : Number) (down : Bool) (g : Game) → ((s : Bool) (y : Number) (k : ℕ) → ¬ (g ≡ shifted y (ups_of down s k)))
+    → IsNode g → (starred : Bool) (z : Number) (n : ℕ)
+    → ¬ (mirrored_if down (number x ∷ []) (g ∷ []) ≡ shifted z (ups_of down starred n))
+on-none x down g nil i starred z n e = by (arrows_shape down starred z n (number x ∷ []) (g ∷ []) e)
+  where
+    by : ArrowsShape down starred z n (number x ∷ []) (g ∷ []) → ⊥
+    by (level t m p q) = not_both g z i (one_same _ _ q)
+    by (both t m p q) = one_not_two _ _ _ p
+    by (step m j c p q) = nil (not starred) z m (one_same _ _ q)
+
+-- ---- x + ^*
+
+two_first : (a b c d : Game) → a ∷ (b ∷ []) ≡ c ∷ (d ∷ []) → a ≡ c
+two_first a b c d e = cc
+
+two_second : (a b c d : Game) → a ∷ (b ∷ []) ≡ c ∷ (d ∷ []) → b ≡ d
+two_second a b c d e = cc
+
+pub both-found : (x y : Number) (a b c : Game) → a ≡ number x → c ≡ number y → x ≡ y → b ≡ node (a ∷ []) (a ∷ [])
+    → (down : Bool) → mirrored_if down (a ∷ (b ∷ [])) (c ∷ []) ≡ shifted x (ups_of down true 1)
+both-found x y a b c p q e f down =
+    ap (λ z. mirrored_if down (a ∷ (z ∷ [])) (c ∷ [])) f
+    ∙ ap (λ z. mirrored_if down (z ∷ (node (z ∷ []) (z ∷ []) ∷ [])) (c ∷ [])) p
+    ∙ ap (λ z. mirrored_if down (number x ∷ (star_above x ∷ [])) (z ∷ [])) (q ∙ ap number (sym e))
+    ∙ sym (both_is down x)
+
+-- such a game has two options on one side, the number and the number and *, and the number on the other
+pub record IsBoth (x : Number) (a b c : Game) : Type 0 where
+  pub first : a ≡ number x
+  pub second : b ≡ node (a ∷ []) (a ∷ [])
+  pub last : c ≡ number x
+
+pub two-both : (a b c : Game) (down starred : Bool) (z : Number) (n : ℕ)
+    → mirrored_if down (a ∷ (b ∷ [])) (c ∷ []) ≡ shifted z (ups_of down starred n) → IsBoth z a b c
+two-both a b c down starred z n e = by (arrows_shape down starred z n (a ∷ (b ∷ [])) (c ∷ []) e)
+  where
+    by : ArrowsShape down starred z n (a ∷ (b ∷ [])) (c ∷ []) → IsBoth z a b c
+    by (level t m p q) = absurd (one_not_two _ _ _ (sym p))
+    by (step m j k p q) = absurd (one_not_two _ _ _ (sym p))
+    by (both t m p q) =
+        let f : a ≡ number z = two_first _ _ _ _ p in
+        record {
+          first = f;
+          second = two_second _ _ _ _ p ∙ sym (ap (λ y. node (y ∷ []) (y ∷ [])) f);
+          last = one_same _ _ q;
+        }
+
+-- ---- the lists of any of them
+
+pub own-number : (down starred : Bool) (x : Number) (n : ℕ) (a : Game) (rs : List Game)
+    → mirrored_if down (a ∷ []) rs ≡ shifted x (ups_of down starred n) → a ≡ number x
+own-number down starred x n a rs e = by (arrows_shape down starred x n (a ∷ []) rs e)
+  where
+    by : ArrowsShape down starred x n (a ∷ []) rs → a ≡ number x
+    by (level t m p q) = one_same _ _ p
+    by (both t m p q) = absurd (one_not_two _ _ _ p)
+    by (step m j k p q) = one_same _ _ p
+
+-- the other side has one option
+pub one-other : (down starred : Bool) (x : Number) (n : ℕ) (ls rs : List Game)
+    → mirrored_if down ls rs ≡ shifted x (ups_of down starred n) → (a : Game) × (rs ≡ a ∷ [])
+one-other down starred x n ls rs e = by (arrows_shape down starred x n ls rs e)
+  where
+    by : ArrowsShape down starred x n ls rs → (a : Game) × (rs ≡ a ∷ [])
+    by (level t m p q) = (number x, q)
+    by (both t m p q) = (number x, q)
+    by (step m j k p q) = (shifted x (ups_of down (not starred) m), q)
+
+-- and the own side one or two
+pub own-few : (down starred : Bool) (x : Number) (n : ℕ) (ls rs : List Game)
+    → mirrored_if down ls rs ≡ shifted x (ups_of down starred n)
+    → ((a : Game) → ¬ (ls ≡ a ∷ [])) → ((a b : Game) → ¬ (ls ≡ a ∷ (b ∷ []))) → ⊥
+own-few down starred x n ls rs e one two = by (arrows_shape down starred x n ls rs e)
+  where
+    by : ArrowsShape down starred x n ls rs → ⊥
+    by (level t m p q) = one (number x) p
+    by (both t m p q) = two (number x) (star_above x) p
+    by (step m j k p q) = one (number x) p
+
+-- ---- tiny and miny
+
+pub tiny-own : (miny : Bool) (x : Number) (ls rs : List Game) → mirrored_if miny ls rs ≡ tiny_form miny x
+    → ls ≡ number zero_number ∷ []
+tiny-own miny x ls rs e = mirrored-own miny ls rs (zero_form ∷ []) (tiny_part miny x ∷ []) e
+
+pub tiny-other : (miny : Bool) (x : Number) (ls rs : List Game) → mirrored_if miny ls rs ≡ tiny_form miny x
+    → rs ≡ tiny_part miny x ∷ []
+tiny-other miny x ls rs e = mirrored-others miny ls rs (zero_form ∷ []) (tiny_part miny x ∷ []) e
+
+pub tiny-found : (miny : Bool) (x l r size rest : Number) → size ≡ cond miny l (number_negative r) → rest ≡ cond miny r l
+    → x ≡ zero_number → rest ≡ zero_number
+    → mirrored_if miny (number x ∷ []) (pair_form l r ∷ []) ≡ tiny_form miny size
+tiny-found false x l r size rest s t e f =
+    ap (λ z. node (number z ∷ []) (pair_form l r ∷ [])) e
+    ∙ ap (λ z. node (zero_form ∷ []) (pair_form z r ∷ [])) (sym t ∙ f)
+    ∙ ap (λ z. node (zero_form ∷ []) (pair_form zero_number z ∷ [])) (sym (double_negative r) ∙ sym (ap number_negative s))
+tiny-found true x l r size rest s t e f =
+    ap (λ z. node (pair_form l r ∷ []) (number z ∷ [])) e
+    ∙ ap (λ z. node (pair_form l z ∷ []) (zero_form ∷ [])) (sym t ∙ f)
+    ∙ ap (λ z. node (pair_form z zero_number ∷ []) (zero_form ∷ [])) (sym s)
+
+-- what a game that is tiny of z, or miny, is made of
+pub record IsTinyOf (x size rest z : Number) : Type 0 where
+  pub none : x ≡ zero_number
+  pub rest_none : rest ≡ zero_number
+  pub size_is : size ≡ z
+
+pub tiny-parts : (miny : Bool) (x l r size rest z : Number) → size ≡ cond miny l (number_negative r)
+    → rest ≡ cond miny r l → mirrored_if miny (number x ∷ []) (pair_form l r ∷ []) ≡ tiny_form miny z
+    → IsTinyOf x size rest z
+tiny-parts miny x l r size rest z s t e = by miny s t
+    (one_value x zero_number (one_same _ _ (tiny-own miny z (number x ∷ []) (pair_form l r ∷ []) e)))
+    (one_same _ _ (tiny-other miny z (number x ∷ []) (pair_form l r ∷ []) e))
+  where
+    left : (a b c d : Number) → pair_form a b ≡ pair_form c d → a ≡ c
+    left a b c d f = one_value a c (one_same (number a) (number c) (pair-lefts (number a ∷ []) (number b ∷ []) c d f))
+
+    right : (a b c d : Number) → pair_form a b ≡ pair_form c d → b ≡ d
+    right a b c d f = one_value b d (one_same (number b) (number d) (pair-rights (number a ∷ []) (number b ∷ []) c d f))
+
+    by : (m : Bool) → size ≡ cond m l (number_negative r) → rest ≡ cond m r l → x ≡ zero_number
+        → pair_form l r ≡ tiny_part m z → IsTinyOf x size rest z
+    by false p q n f = record {
+      none = n;
+      rest_none = q ∙ left l r zero_number (number_negative z) f;
+      size_is = p ∙ ap number_negative (right l r zero_number (number_negative z) f) ∙ double_negative z;
+    }
+    by true p q n f = record {
+      none = n;
+      rest_none = q ∙ right l r z zero_number f;
+      size_is = p ∙ left l r z zero_number f;
+    }
+
+-- ---- what is found of one game is found of the same game
+
+pub arrows-same : (down : Bool) (o : Option ArrowsFound) (ls rs cs ds : List Game) → ls ≡ cs → rs ≡ ds
+    → IsArrows down (mirrored_if down cs ds) o → IsArrows down (mirrored_if down ls rs) o
+arrows-same down o ls rs cs ds e f i =
+    let P : Game → Type 0 = λ z. IsArrows down z o in
+    subst P (sym (ap (λ z. mirrored_if down z rs) e ∙ ap (λ z. mirrored_if down cs z) f)) i
+
+pub ok-arrows-same : (down : Bool) (r : Result (Option ArrowsFound) AllocError) (g h : Game) → g ≡ h
+    → IfOk r (IsArrows down h) → IfOk r (IsArrows down g)
+ok-arrows-same down r g h e i = let P : Game → Type 0 = λ z. IfOk r (IsArrows down z) in subst P (sym e) i
+
+-- the lists of a side
+pub sided : {A : Type 0} (down : Bool) (f : A → List Game) (l r : A) → mirrored_if down (f (cond down r l)) (f (cond down l r))
+    ≡ node (f l) (f r)
+sided false f l r = refl
+sided true f l r = refl
+
+-- x, x + *, and x with the same number x
+pub not_same_number : (x y z : Number) (g h : Game) → g ≡ number x → h ≡ number y → g ≡ number z → h ≡ number z → x ≡ y
+not_same_number x y z g h p q a b = one_value x z (sym p ∙ a) ∙ sym (one_value y z (sym q ∙ b))
+
+pub arrows-nothing : (down : Bool) (o : Option ArrowsFound) (k g : Game) → o ≡ None → IsArrows down k o → g ≡ k
+    → (starred : Bool) (x : Number) (n : ℕ) → ¬ (g ≡ shifted x (ups_of down starred n))
+arrows-nothing down o k g e i f starred x n h =
+    let P : Option ArrowsFound → Type 0 = λ z. IsArrows down k z in subst P e i starred x n (sym f ∙ h)
+
+pub arrows-something : (down : Bool) (o : Option ArrowsFound) (a : ArrowsFound) (k g : Game) → o ≡ Some a
+    → IsArrows down k o → g ≡ k → IsArrows down g (Some a)
+arrows-something down o a k g e i f =
+    let P : Option ArrowsFound → Type 0 = λ z. IsArrows down k z in f ∙ subst P e i
+
+-- the game of the lists, which are taken the other way round for downs
+pub turned-back : {A : Type 0} (down : Bool) (f : A → List Game) (l r own others : A) (g : Game) → own ≡ cond down r l
+    → others ≡ cond down l r → g ≡ node (f l) (f r) → g ≡ mirrored_if down (f own) (f others)
+turned-back down f l r own others g a b e =
+    e ∙ sym (sided down f l r) ∙ ap (λ z. mirrored_if down (f z) (f (cond down l r))) (sym a)
+    ∙ ap (λ z. mirrored_if down (f own) (f z)) (sym b)
+
+pub is_node : (g : Game) (ls rs : List Game) → g ≡ node ls rs → IsNode g
+is_node g ls rs e = let P : Game → Type 0 = λ z. IsNode z in subst P (sym e) tt

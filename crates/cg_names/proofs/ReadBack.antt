@@ -1,0 +1,325 @@
+-- Names read back: braces and whole names.
+use Rattle.std.proofs.Common.{◌≡◌, refl, ap, sym, ◌∙◌, subst, ℕ, zero, suc, ◌+◌, ◌≤◌, max, arith, inl, inr, ◌⊎◌, List, [], ◌∷◌, ◌++◌, append-nil, map, length, Bool, true, false, Option, Some, None}
+use Rattle.std.specs.Prelude.{codes}
+use Rattle.cg_form.specs.Canonical.{Canonical, IsCanonicalForm}
+use Rattle.cg_form.specs.Game.{Among, Game, Games, more, none, options, to_list}
+use Rattle.cg_form.specs.Game as tree
+use Rattle.cg_form.specs.Order.{Equal}
+use Rattle.cg_form.proofs.Preorder.{le-cofinal, equal_back}
+use Rattle.cg_reading.specs.Bytes.{Ends}
+use Rattle.cg_reading.specs.Pieces.{Made, Many, Piece, Then, One}
+use Rattle.cg_reading.specs.Tokens.{behind_blanks}
+use Rattle.cg_syntax.specs.Braces.{Run_side, part_of, side_fault, side_trees}
+use Rattle.cg_syntax.specs.Found.{Found}
+use Rattle.cg_syntax.specs.Grammar as grammar
+use Rattle.cg_syntax.specs.Grammar.{bar, comma, special}
+use Rattle.cg_syntax.specs.Tree.{Tree, Trees, no_trees, trees_from, with_tree}
+use Rattle.cg_syntax.specs.Tree as trees
+use Rattle.cg_syntax.specs.Values.{braces_of, clean}
+use Rattle.cg_reading.proofs.Texts.{behind_none}
+use Rattle.cg_syntax.proofs.WrittenSpecials.{braces_special}
+use Rattle.cg_syntax.proofs.WrittenTerms.{expr_is, special_is}
+use Rattle.cg_names.specs.Meaning.{BoardForm, meaning, meanings}
+use Rattle.cg_names.specs.Name.{braces_name, further_names, name_of, names_of, sign_or}
+use Rattle.cg_names.specs.Reading.{ReadsAs}
+use Rattle.cg_names.specs.Shapes.{sign_of}
+use Rattle.cg_names.specs.declared.sign.Sign.{Sign}
+use Rattle.cg_names.proofs.NameRule.{found_fits}
+use Rattle.cg_names.proofs.Opened.{AreNamesInRange, IsNameInRange, SignOr, braces_with, open_braces, open_in}
+use Rattle.cg_names.proofs.HotTerms.{sign-reads}
+use Rattle.cg_names.proofs.Terms.{Reading, number-reads}
+use Rattle.cg_names.proofs.Tokens.{OtherThanBar, other_append, other_ends}
+
+-- ---- lists of names
+
+-- the trees mean the games, one by one
+AllMean : List Tree → Games → Type 0
+AllMean [] none = Unit {0}
+AllMean [] (more g gs) = ⊥
+AllMean (t ∷ ts) none = ⊥
+AllMean (t ∷ ts) (more g gs) = ((board : BoardForm) → Equal (meaning board t) g) × AllMean ts gs
+
+abbrev next_expr : ℕ → Piece Found
+next_expr k = behind_blanks (Made (λ v. v.1) (Then (One comma) (behind_blanks (grammar.expr (grammar.special k)))))
+
+-- names behind commas
+record Further (k : ℕ) (gs : Games) (text : List ℕ) : Type 0 where
+  trees : List Tree
+  are : (i : ℕ) → Many (next_expr k) i (map clean trees) text
+  mean : AllMean trees gs
+
+-- names as one side of a brace
+record Sided (k : ℕ) (gs : Games) (text : List ℕ) : Type 0 where
+  trees : List Tree
+  are : (i : ℕ) → grammar.side (grammar.expr (grammar.special k)) i (map clean trees) text
+  mean : AllMean trees gs
+  other : (text ≡ []) ⊎ OtherThanBar text
+
+next_is : (k i : ℕ) (t : Tree) (text : List ℕ) → ((j : ℕ) → grammar.term (grammar.special k) j (clean t) text)
+    → next_expr k i (clean t) (44 ∷ text)
+next_is k i t text m =
+    behind_none (Made (λ v. v.1) (Then (One comma) (behind_blanks (grammar.expr (grammar.special k))))) i (clean t) (44 ∷ text)
+    (record {
+      made_of = (44, clean t);
+      is = record {
+        before = 44 ∷ [];
+        behind = text;
+        first = record { within = refl; spelled = refl };
+        second = behind_none (grammar.expr (grammar.special k)) (i + 0 + 1) (clean t) text
+            (expr_is (grammar.special k) (i + 0 + 1 + 0) t text (m (i + 0 + 1 + 0)));
+        spelled = refl;
+      };
+      same = refl;
+    })
+
+further_none : (k : ℕ) → Further k none []
+unfolding AllMean
+further_none k = record { trees = []; are = λ i. refl; mean = tt }
+
+further_more : (k : ℕ) (g : Game) (gs : Games) (name rest : List ℕ) → Reading k g name → Further k gs rest
+    → Further k (more g gs) (codes "," ++ (name ++ rest))
+unfolding AllMean
+further_more k g gs name rest r f = record {
+  trees = r.tree ∷ f.trees;
+  are = λ i. record {
+    before = 44 ∷ name;
+    behind = rest;
+    first = next_is k i r.tree name r.is;
+    second = f.are (i + length (44 ∷ name));
+    spelled = refl;
+  };
+  mean = (r.means, f.mean);
+}
+
+sided_none : (k : ℕ) → Sided k none []
+unfolding AllMean
+sided_none k = record {
+  trees = [];
+  are = λ i. record {
+    made_of = ([], []);
+    is = record {
+      before = [];
+      behind = [];
+      first = record { within = refl; spelled = refl };
+      second = inr (refl, refl);
+      spelled = refl;
+    };
+    same = refl;
+  };
+  mean = tt;
+  other = inl refl;
+}
+
+sided_more : (k : ℕ) (g : Game) (gs : Games) (name rest : List ℕ) → Reading k g name → Further k gs rest
+    → Sided k (more g gs) (name ++ rest)
+unfolding AllMean
+sided_more k g gs name rest r f = record {
+  trees = r.tree ∷ f.trees;
+  are = λ i. record {
+    made_of = ([], map clean (r.tree ∷ f.trees));
+    is = record {
+      before = [];
+      behind = name ++ rest;
+      first = record { within = refl; spelled = refl };
+      second = inl (record {
+        made_of = (map clean (r.tree ∷ f.trees), []);
+        is = record {
+          before = name ++ rest;
+          behind = [];
+          first = record {
+            made_of = (clean r.tree, map clean f.trees);
+            is = record {
+              before = name;
+              behind = rest;
+              first = expr_is (grammar.special k) (i + 0) r.tree name (r.is (i + 0));
+              second = f.are (i + 0 + length name);
+              spelled = refl;
+            };
+            same = refl;
+          };
+          second = record { within = refl; spelled = refl };
+          spelled = sym (append-nil (name ++ rest));
+        };
+        same = refl;
+      });
+      spelled = refl;
+    };
+    same = refl;
+  };
+  mean = (r.means, f.mean);
+  other = inr (other_append name rest r.other);
+}
+
+-- ---- braces
+
+clean_trees : (ts : List Tree) → side_trees (map clean ts) ≡ ts
+clean_trees [] = refl
+clean_trees (t ∷ ts) = ap (λ z. t ∷ z) (clean_trees ts)
+
+clean_fault : (ts : List Tree) → side_fault (map clean ts) ≡ None
+clean_fault [] = refl
+clean_fault (t ∷ ts) = clean_fault ts
+
+one_run : ℕ → List Tree → Run_side
+one_run column ts = record { column = column; bars = 1; side = map clean ts }
+
+braces_value : (ls rs : List Tree) (column : ℕ) → clean (trees.braces ls rs)
+    ≡ braces_of (map clean ls) (one_run column rs ∷ [])
+unfolding one_run part_of
+braces_value ls rs column = rw (clean_trees ls, clean_trees rs, clean_fault ls, clean_fault rs) refl
+
+no_bar : (text : List ℕ) → (text ≡ []) ⊎ OtherThanBar text → Ends bar (text ++ [])
+no_bar text (inl e) = let P : List ℕ → Type 0 = λ z. Ends bar (z ++ []) in subst P (sym e) tt
+no_bar text (inr o) = other_ends text [] o
+
+braces_are : (k i : ℕ) (ls rs : List Tree) (left right : List ℕ)
+    → ((j : ℕ) → grammar.side (grammar.expr (grammar.special k)) j (map clean ls) left)
+    → ((j : ℕ) → grammar.side (grammar.expr (grammar.special k)) j (map clean rs) right)
+    → (right ≡ []) ⊎ OtherThanBar right
+    → grammar.braces (grammar.side (grammar.expr (grammar.special k))) i (clean (trees.braces ls rs)) (braces_name left right)
+unfolding one_run
+braces_are k i ls rs left right l r o =
+    let column : ℕ = i + 1 + length left in
+    record {
+      made_of = (123, (map clean ls, (((column, 1), map clean rs) ∷ [], 125)));
+      is = record {
+        before = 123 ∷ [];
+        behind = left ++ (124 ∷ (right ++ (125 ∷ [])));
+        first = record { within = refl; spelled = refl };
+        second = record {
+          before = left;
+          behind = 124 ∷ (right ++ (125 ∷ []));
+          first = l (i + 1);
+          second = record {
+            before = 124 ∷ right;
+            behind = 125 ∷ [];
+            first = record {
+              made_of = (((column, 1), map clean rs), []);
+              is = record {
+                run = 124 ∷ [];
+                middle = right;
+                more = [];
+                is_run = (
+                  refl,
+                  record {
+                    made_of = 124 ∷ [];
+                    is = record { within = refl; some = omega arith; few = omega arith; spelled = refl };
+                    same = refl;
+                  },
+                );
+                is_side = r (column + 1);
+                is_more = refl;
+                no_bar = no_bar right o;
+                spelled = ap (λ z. 124 ∷ z) (sym (append-nil right));
+              };
+              same = refl;
+            };
+            second = record { within = refl; spelled = refl };
+            spelled = refl;
+          };
+          spelled = refl;
+        };
+        spelled = refl;
+      };
+      same = braces_value ls rs column;
+    }
+
+-- ---- what braces mean
+
+module _ (board : BoardForm) where
+  mean_there : (ts : List Tree) (gs : Games) (a : Game) → AllMean ts gs
+      → Among a (to_list (meanings board (trees_from ts))) → (b : Game) × Among b (to_list gs) × Equal a b
+  unfolding AllMean meaning
+  mean_there [] gs a m i = absurd i
+  mean_there (t ∷ ts) none a m i = absurd m
+  mean_there (t ∷ ts) (more g gs) a m (inl e) =
+      let P : Game → Type 0 = λ z. Equal z g in (g, inl refl, subst P (sym e) (m.0 board))
+  mean_there (t ∷ ts) (more g gs) a m (inr i) = let (b, j, e) = mean_there ts gs a m.1 i in (b, inr j, e)
+
+  mean_here : (ts : List Tree) (gs : Games) (b : Game) → AllMean ts gs → Among b (to_list gs)
+      → (a : Game) × Among a (to_list (meanings board (trees_from ts))) × Equal a b
+  unfolding AllMean meaning
+  mean_here ts none b m i = absurd i
+  mean_here [] (more g gs) b m i = absurd m
+  mean_here (t ∷ ts) (more g gs) b m (inl e) =
+      let P : Game → Type 0 = λ z. Equal (meaning board t) z in (meaning board t, inl refl, subst P (sym e) (m.0 board))
+  mean_here (t ∷ ts) (more g gs) b m (inr i) = let (a, j, e) = mean_here ts gs b m.1 i in (a, inr j, e)
+
+  braces_mean : (ls rs : List Tree) (cs ds : Games) → AllMean ls cs → AllMean rs ds
+      → Equal (meaning board (trees.braces ls rs)) (options cs ds)
+  unfolding meaning
+  braces_mean ls rs cs ds l r =
+      let g : Game = options (meanings board (trees_from ls)) (meanings board (trees_from rs)) in
+      let h : Game = options cs ds in (
+        le-cofinal g h
+            (λ a m. let (b, i, e) = mean_there ls cs a l m in (b, i, e.0))
+            (λ b m. let (a, i, e) = mean_here rs ds b r m in (a, i, e.0)),
+        le-cofinal h g
+            (λ b m. let (a, i, e) = mean_here ls cs b l m in (a, i, e.1))
+            (λ a m. let (b, i, e) = mean_there rs ds a r m in (b, i, e.1)),
+      )
+
+braces-read : (k : ℕ) (ls rs : Games) (left right : List ℕ) → Sided k ls left → Sided k rs right
+    → Reading (suc k) (options ls rs) (braces_name left right)
+braces-read k ls rs left right l r = record {
+  tree = trees.braces l.trees r.trees;
+  is = λ i. special_is (grammar.special (suc k)) i (trees.braces l.trees r.trees) (braces_name left right) (braces_special k i _ _
+      (braces_are k i l.trees r.trees left right l.are r.are r.other));
+  means = λ board. braces_mean board l.trees r.trees ls rs l.mean r.mean;
+  other = refl;
+}
+
+-- ---- whole names
+
+braced : (k : ℕ) (ls rs : Games) → suc (max (open_in ls) (open_in rs)) ≤ k
+    → ((j : ℕ) → open_in ls ≤ j → Sided j ls (names_of ls)) → ((j : ℕ) → open_in rs ≤ j → Sided j rs (names_of rs))
+    → Reading k (options ls rs) (braces_name (names_of ls) (names_of rs))
+braced zero ls rs l f h = absurd (omega arith)
+braced (suc k) ls rs l f h = braces-read k ls rs (names_of ls) (names_of rs) (f k (omega arith)) (h k (omega arith))
+
+mutual
+  pub name-reads : (k : ℕ) (g : Game) → open_braces g ≤ k → IsNameInRange g → Reading k g (name_of g)
+  name-reads k (tree.number x) l r = number-reads k x r
+  name-reads k (options ls rs) l r = by (sign_of (options ls rs)) refl
+      (λ j m q. sides-read j ls m q) (λ j m q. sides-read j rs m q)
+    where
+      g : Game
+      g = options ls rs
+
+      by : (o : Option Sign) → sign_of (options ls rs) ≡ o
+          → ((j : ℕ) → open_in ls ≤ j → AreNamesInRange ls → Sided j ls (names_of ls))
+          → ((j : ℕ) → open_in rs ≤ j → AreNamesInRange rs → Sided j rs (names_of rs))
+          → Reading k (options ls rs) (name_of (options ls rs))
+      by (Some s) e f h =
+          let P : Option Sign → Type 0 = λ o. SignOr o (AreNamesInRange ls × AreNamesInRange rs) in
+          let Q : List ℕ → Type 0 = λ t. Reading k (options ls rs) t in
+          let named = ap (λ o. sign_or o (braces_name (names_of ls) (names_of rs))) e in
+          subst Q (sym named) (sign-reads k s (options ls rs) (found_fits (options ls rs) s e) (subst P e r))
+      by None e f h =
+          let P : Option Sign → Type 0 = λ o. SignOr o (AreNamesInRange ls × AreNamesInRange rs) in
+          let L : Option Sign → Type 0 = λ o. braces_with o (suc (max (open_in ls) (open_in rs))) ≤ k in
+          let Q : List ℕ → Type 0 = λ t. Reading k (options ls rs) t in
+          let named = ap (λ o. sign_or o (braces_name (names_of ls) (names_of rs))) e in
+          let q = subst P e r in
+          subst Q (sym named) (braced k ls rs (subst L e l) (λ j m. f j m q.0) (λ j m. h j m q.1))
+
+  sides-read : (k : ℕ) (gs : Games) → open_in gs ≤ k → AreNamesInRange gs → Sided k gs (names_of gs)
+  sides-read k none l r = sided_none k
+  sides-read k (more g gs) l r =
+      sided_more k g gs (name_of g) (further_names gs) (name-reads k g (omega arith) r.0)
+      (further-read k gs (omega arith) r.1)
+
+  further-read : (k : ℕ) (gs : Games) → open_in gs ≤ k → AreNamesInRange gs → Further k gs (further_names gs)
+  further-read k none l r = further_none k
+  further-read k (more g gs) l r =
+      further_more k g gs (name_of g) (further_names gs) (name-reads k g (omega arith) r.0)
+      (further-read k gs (omega arith) r.1)
+
+pub reads-as : (g : Game) → Canonical g → IsNameInRange g → open_braces g ≤ 64 → ReadsAs g (name_of g)
+reads-as g c r l =
+    let n = name-reads 64 g l r in
+    record {
+      tree = n.tree;
+      is_expr = λ i. expr_is (grammar.special 64) i n.tree (name_of g) (n.is i);
+      means = λ board. record { canonical = c; equal = equal_back (meaning board n.tree) g (n.means board) };
+    }

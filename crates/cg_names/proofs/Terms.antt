@@ -1,0 +1,220 @@
+-- Names as terms of the grammar, and what they mean: numbers, and what may stand behind them.
+use Rattle.std.proofs.Common.{◌≡◌, refl, ap, sym, ◌∙◌, subst, ℕ, zero, suc, ◌+◌, ◌-◌, ◌^◌, ◌<◌, ◌≤◌, arith, inl, inr, ◌⊎◌, List, [], ◌∷◌, ◌++◌, append-nil, append_assoc, length, Bool, true, false, cond, nat_eq, Option, Some, None, ℤ, pos, negsuc, neg_ℤ, unsigned_abs}
+use Rattle.std.specs.Prelude.{codes, decimal, if◌then◌else◌}
+use Rattle.std.proofs.Math.Pow.{pow-lt}
+use Rattle.std.specs.Fmt.{signed_decimal}
+use Rattle.std.proofs.lemmas.Int.{ints}
+use Rattle.cg_dyadic.specs.Exact.{IsQuotient, number_text, signed_of}
+use Rattle.cg_dyadic.specs.Number.{InRange, IsFraction, Number, NumberLe, exp_of, num_of}
+use Rattle.cg_dyadic.proofs.Fractions.{fraction-own}
+use Rattle.cg_dyadic.specs.Units.{units}
+use Rattle.cg_dyadic.proofs.Scale.{units-le, units-own}
+use Rattle.cg_dyadic.proofs.Sums.{doubled-zero}
+use Rattle.cg_dyadic.proofs.Truth.{true_or_false}
+use Rattle.cg_form.specs.Canonical.{IsCanonicalForm}
+use Rattle.cg_form.specs.Game.{Game}
+use Rattle.cg_form.specs.Game as tree
+use Rattle.cg_form.specs.Order.{Equal}
+use Rattle.cg_form.specs.Sum.{sum}
+use Rattle.cg_form.proofs.Preorder.{equal_refl, equal_trans, equal_back}
+use Rattle.cg_reading.specs.Bytes.{Ends}
+use Rattle.cg_reading.specs.Pieces.{Piece, Made}
+use Rattle.cg_syntax.specs.Found.{Found}
+use Rattle.cg_syntax.specs.Grammar as grammar
+use Rattle.cg_syntax.specs.Grammar.{special}
+use Rattle.cg_syntax.specs.Tree.{Tree, nimber, number, switch, terms_from, tiny, ups}
+use Rattle.cg_syntax.specs.Tree as trees
+use Rattle.cg_syntax.proofs.WrittenSpecials.{first_special, second_special}
+use Rattle.cg_syntax.proofs.WrittenTerms.{no_tail_is, special_is}
+use Rattle.cg_syntax.proofs.WrittenTokens.{arrow_of, enclosed_is}
+use Rattle.cg_syntax.specs.Values.{clean, some_term, together, ups_tree, whole, with_tail}
+use Rattle.cg_nodes.specs.CanForms.{is_same-back}
+use Rattle.cg_nodes.specs.Spelled.{is_same}
+use Rattle.cg_names.specs.Meaning.{BoardForm, fraction, meaning, or_zero, signed, total_with}
+use Rattle.cg_names.specs.Named.{nimber_form, nimbers_below, star_form, switch_form, tiny_form, ups_form, ups_of, zero_form, zero_number}
+use Rattle.cg_names.specs.Signs.{Fits, arrows_text, base_text, sign_text, star_text, tiny_word}
+use Rattle.cg_names.specs.declared.sign.Sign.{Sign}
+use Rattle.cg_names.specs.declared.sign.Sign.TheVariants.{Star, Arrows, Switch, Tiny}
+use Rattle.cg_names.proofs.Literals.{quotient-fraction}
+use Rattle.cg_names.proofs.Opened.{IsSignInRange}
+use Rattle.cg_names.proofs.StarredUps.{ups-plus_star}
+use Rattle.cg_form.proofs.EqualGames.{equal_assoc}
+use Rattle.cg_names.proofs.SumWords.{sum_first, sum_second, zero_sum}
+use Rattle.cg_names.proofs.Tokens.{OtherThanBar, decimal_other, nim_is, number_is, other_append, size_text, ups_are, ups_other}
+
+-- a name as a term with so many braces open at most: what it reads as, and that this means the game
+pub record Reading (k : ℕ) (g : Game) (text : List ℕ) : Type 0 where
+  pub tree : Tree
+  pub is : (i : ℕ) → grammar.term (grammar.special k) i (clean tree) text
+  pub means : (board : BoardForm) → Equal (meaning board tree) g
+  pub other : OtherThanBar text
+
+-- ---- numbers
+
+pub is_below : ℤ → Bool
+is_below (pos n) = false
+is_below (negsuc n) = true
+
+abbrev pub size_of : Number → ℕ
+size_of x = unsigned_abs (num_of x)
+
+abbrev pub number_tree : Number → Tree
+number_tree x = number (is_below (num_of x)) (size_of x) (2 ^ exp_of x)
+
+pub signed_size : (n : ℤ) → signed_of (is_below n) (unsigned_abs n) ≡ n
+unfolding is_below
+signed_size (pos n) = refl
+signed_size (negsuc n) = omega (arith, ints)
+
+pub number_means : (x : Number) (b : Bool) → signed_of b (size_of x) ≡ num_of x
+    → fraction b (size_of x) (2 ^ exp_of x) ≡ Some x
+number_means x b e = quotient-fraction b (size_of x) (2 ^ exp_of x) x (record {
+  exp = exp_of x;
+  power = refl;
+  value = let P : ℤ → Type 0 = λ n. IsFraction n (exp_of x) x in subst P (sym e) (fraction-own x);
+})
+
+pub tree-number : (board : BoardForm) (x : Number) → meaning board (number_tree x) ≡ tree.number x
+unfolding meaning
+tree-number board x = ap (λ o. tree.number (or_zero o)) (number_means x (is_below (num_of x)) (signed_size (num_of x)))
+
+-- numbers in range have few digits
+pub few_digits : (x : Number) → InRange x → size_of x < 10 ^ 30
+few_digits x r = let s = r.small in omega arith
+
+pub few_below : (e : ℕ) → e ≤ 40 → 2 ^ e < 10 ^ 30
+few_below e l = let p : 2 ^ e < 2 ^ 41 = pow-lt (let s : e < 41 = omega arith in s) in omega arith
+
+-- a number with ups and a nimber behind it, or without
+abbrev pub Tail : Type 0
+Tail = Option Tree × Option Tree
+
+abbrev pub joined : Tree → Tail → Tree
+joined t v = together t (some_term v.0 ++ some_term v.1)
+
+pub none_ends : (bytes : List ℕ) → Ends [] bytes
+none_ends [] = tt
+none_ends (b ∷ bytes) = refl
+
+module _ (special : Piece Found) where
+  pub counted_is : (i : ℕ) (below : Bool) (n e : ℕ) (v : Tail) (rest : List ℕ) → n < 10 ^ 30 → 2 ^ e < 10 ^ 30
+      → ((j : ℕ) → grammar.tail j v rest)
+      → grammar.counted_tail special below i (clean (joined (number below n (2 ^ e)) v)) (size_text n e ++ rest)
+  counted_is i below n e v rest l r t = record {
+    made_of = (whole n (2 ^ e), v);
+    is = record {
+      before = size_text n e;
+      behind = rest;
+      first = inl (record { made_of = (n, 2 ^ e); is = number_is i n e l r; same = refl });
+      second = t (i + length (size_text n e));
+      ended = none_ends rest;
+      spelled = refl;
+    };
+    same = refl;
+  }
+
+  -- n / 2 ^ e with its sign, and its tail
+  abbrev pub number_piece : ℕ → Tail → List ℕ → ℕ → ℤ → Type 0
+  number_piece i v rest e n =
+      grammar.term special i (clean (joined (number (is_below n) (unsigned_abs n) (2 ^ e)) v))
+      ((signed_decimal n ++ (if nat_eq e 0 then [] else 47 ∷ decimal (2 ^ e))) ++ rest)
+
+  pub signed_is : (i e : ℕ) (n : ℤ) (v : Tail) (rest : List ℕ) → unsigned_abs n < 10 ^ 30 → 2 ^ e < 10 ^ 30
+      → ((j : ℕ) → grammar.tail j v rest) → number_piece i v rest e n
+  unfolding is_below
+  signed_is i e (pos n) v rest l d t = inl (inr (counted_is i false n e v rest l d t))
+  signed_is i e (negsuc n) v rest l d t = inl (inl (record {
+    made_of = (45, clean (joined (number true (suc n) (2 ^ e)) v));
+    is = record {
+      before = 45 ∷ [];
+      behind = size_text (suc n) e ++ rest;
+      first = record { within = refl; spelled = refl };
+      second = counted_is (i + 1) true (suc n) e v rest l d t;
+      spelled = refl;
+    };
+    same = refl;
+  }))
+
+  pub number_term : (i : ℕ) (x : Number) (v : Tail) (rest : List ℕ) → InRange x → ((j : ℕ) → grammar.tail j v rest)
+      → grammar.term special i (clean (joined (number_tree x) v)) (number_text x ++ rest)
+  number_term i x v rest r t = signed_is i (exp_of x) (num_of x) v rest (few_digits x r) (few_below (exp_of x) r.short) t
+
+-- ---- tails
+
+abbrev pub no_tail : Tail
+no_tail = (None, None)
+
+pub nim_tail : (n : ℕ) → n < 10 ^ 30 → (j : ℕ) → grammar.tail j (None, Some (nimber n)) (star_text n)
+nim_tail n l j = record {
+  before = [];
+  behind = star_text n;
+  first = inr (refl, refl);
+  second = inl (record { made_of = nimber n; is = nim_is (j + 0) n l; same = refl });
+  spelled = refl;
+}
+
+-- what stands behind arrows
+abbrev pub starred_tree : Bool → Option Tree
+starred_tree starred = cond starred (Some (nimber 1)) None
+
+abbrev pub starred_text : Bool → List ℕ
+starred_text starred = cond starred (42 ∷ []) []
+
+pub small : 1 < 10 ^ 30
+small = omega arith
+
+pub optional_nim : (j : ℕ) (starred : Bool) → grammar.optional grammar.nim j (starred_tree starred) (starred_text starred)
+optional_nim j false = inr (refl, refl)
+optional_nim j true = inl (record { made_of = nimber 1; is = nim_is j 1 small; same = refl })
+
+pub arrows_tail : (down starred : Bool) (n : ℕ) → 1 ≤ n → n < 10 ^ 30 → (j : ℕ)
+    → grammar.tail j (Some (ups down n), starred_tree starred) (arrows_text (arrow_of down) n ++ starred_text starred)
+arrows_tail down starred n s l j = record {
+  before = arrows_text (arrow_of down) n;
+  behind = starred_text starred;
+  first = inl (record { made_of = ups down n; is = ups_are j down n s l; same = refl });
+  second = optional_nim (j + length (arrows_text (arrow_of down) n)) starred;
+  spelled = refl;
+}
+
+-- ---- names with signs
+
+pub plain_number : (special : Piece Found) (i : ℕ) (x : Number) → InRange x
+    → grammar.term special i (clean (number_tree x)) (number_text x)
+plain_number special i x r =
+    let P : List ℕ → Type 0 = λ z. grammar.term special i (clean (number_tree x)) z in
+    subst P (append-nil (number_text x)) (number_term special i x no_tail [] r no_tail_is)
+
+pub signed_other : (n : ℤ) (rest : List ℕ) → unsigned_abs n < 10 ^ 30 → OtherThanBar (signed_decimal n ++ rest)
+signed_other (pos n) rest l = other_append (decimal n) rest (decimal_other n l)
+signed_other (negsuc n) rest l = refl
+
+pub number_other : (x : Number) → InRange x → OtherThanBar (number_text x)
+number_other x r = signed_other (num_of x) _ (few_digits x r)
+
+pub number-reads : (k : ℕ) (x : Number) → InRange x → Reading k (tree.number x) (number_text x)
+number-reads k x r = record {
+  tree = number_tree x;
+  is = λ i. plain_number (grammar.special k) i x r;
+  means = λ board. let P : Game → Type 0 = λ z. Equal z (tree.number x) in
+      subst P (sym (tree-number board x)) (equal_refl (tree.number x));
+  other = number_other x r;
+}
+
+-- a number that is 0, or is written
+pub zero_or_not : (x : Number) → (is_same (tree.number x) zero_form ≡ true) ⊎ (is_same (tree.number x) zero_form ≡ false)
+zero_or_not x = true_or_false (is_same (tree.number x) zero_form)
+
+pub base_gone : (x : Number) → is_same (tree.number x) zero_form ≡ true → base_text x ≡ []
+base_gone x e = ap (λ b. cond b [] (number_text x)) e
+
+pub base_there : (x : Number) → is_same (tree.number x) zero_form ≡ false → base_text x ≡ number_text x
+base_there x e = ap (λ b. cond b [] (number_text x)) e
+
+-- the game that stands behind a number that is 0
+pub alone : (x : Number) (g h k : Game) → is_same (tree.number x) zero_form ≡ true → Equal k (sum (tree.number x) g) → Equal g h
+    → Equal k h
+alone x g h k e f q =
+    let P : Game → Type 0 = λ z. Equal k (sum z g) in
+    equal_trans k (sum zero_form g) h (subst P (is_same-back (tree.number x) zero_form e) f)
+    (equal_trans (sum zero_form g) g h (zero_sum g) q)

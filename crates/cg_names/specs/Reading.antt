@@ -1,0 +1,24 @@
+-- Names read as expressions.
+use Rattle.std.specs.Prelude.{ℕ, suc, max, ◌-◌, ◌==◌, if◌then◌else◌, List, [], ◌∷◌}
+use Rattle.cg_form.specs.Canonical.{IsCanonicalForm}
+use Rattle.cg_form.specs.Game.{Game}
+use Rattle.cg_syntax.specs.Grammar.{expr, special}
+use Rattle.cg_syntax.specs.Tree.{Tree}
+use Rattle.cg_syntax.specs.Values.{clean}
+use Rattle.cg_names.specs.Meaning.{BoardForm, meaning}
+
+-- the braces that are open behind a byte before which n were open: `{` opens one, and `}` closes one
+abbrev pub open_behind : ℕ → ℕ → ℕ
+open_behind b n = if b == 123 then suc n else if b == 125 then n - 1 else n
+
+-- the most braces that are open at once in a text before which n were open
+abbrev pub most_open : ℕ → List ℕ → ℕ
+most_open n [] = n
+most_open n (b ∷ text) = max n (most_open (open_behind b n) text)
+
+-- the text is an expression, at whatever column it starts, and the game is the canonical form of what it means, whatever
+-- positions mean
+pub record ReadsAs (g : Game) (text : List ℕ) : Type 0 where
+  pub tree : Tree
+  pub is_expr : (column : ℕ) → expr (special 64) column (clean tree) text
+  pub means : (board : BoardForm) → IsCanonicalForm (meaning board tree) g

@@ -1,0 +1,66 @@
+-- What is found of the shape of a game, and of lists of options.
+use Rattle.std.specs.Prelude.{ℕ, suc, ◌≡◌, ◌≤◌, Bool, List, [], ◌∷◌, length, map, Option, Some, None}
+use Rattle.cg_dyadic.specs.Number.{Number}
+use Rattle.cg_form.specs.Game as tree
+use Rattle.cg_form.specs.Game.{node}
+use Rattle.cg_form.specs.Shifted.{shifted}
+use Rattle.cg_cells.specs.Store.{State}
+use Rattle.cg_nodes.specs.Games.{IsGame, IsList, game_at, listed}
+use Rattle.cg_nodes.specs.Meant.{Meant}
+use Rattle.cg_names.specs.Named.{mirrored_if, nimber_form, nimbers_below, switch_form, tiny_form, ups_of}
+use Rattle.cg_names.specs.Signs.{IsPositive}
+use Rattle.cg_names.specs.declared.shape.Few.{Few}
+use Rattle.cg_names.specs.declared.shape.Few.TheVariants.{One, Two, Other}
+use Rattle.cg_names.specs.declared.shape.Numbers.{Numbers}
+use Rattle.cg_names.specs.declared.look_star.StarFound.{StarFound}
+use Rattle.cg_names.specs.declared.look_arrows.ArrowsFound.{ArrowsFound}
+
+-- one game, two games, or another number of games
+abbrev pub IsFew : {R : Type 0} → State Meant R → Few → List tree.Game → Type 0
+IsFew {R} s (One a) gs = IsGame s a × (gs ≡ game_at s a ∷ [])
+IsFew {R} s (Two a b) gs = IsGame s a × IsGame s b × (gs ≡ game_at s a ∷ (game_at s b ∷ []))
+IsFew {R} s Other gs = ((a : tree.Game) → ¬ (gs ≡ a ∷ [])) × ((a b : tree.Game) → ¬ (gs ≡ a ∷ (b ∷ [])))
+
+-- the one game of a list that has one
+abbrev pub IsOnly : {R : Type 0} → State Meant R → Option ℕ → List tree.Game → Type 0
+IsOnly {R} s None gs = (a : tree.Game) → ¬ (gs ≡ a ∷ [])
+IsOnly {R} s (Some h) gs = IsGame s h × (gs ≡ game_at s h ∷ [])
+
+-- what is behind the game in a list that begins with it
+abbrev pub IsBehind : {R : Type 0} → State Meant R → tree.Game → List tree.Game → Option (Option ℕ) → Type 0
+IsBehind {R} s g gs None = (hs : List tree.Game) → ¬ (gs ≡ g ∷ hs)
+IsBehind {R} s g gs (Some rest) = IsList s rest × (gs ≡ g ∷ listed s rest)
+
+-- two numbers
+abbrev pub AreNumbers : tree.Game → tree.Game → Option Numbers → Type 0
+AreNumbers g h None = (x y : Number) → g ≡ tree.number x → ¬ (h ≡ tree.number y)
+AreNumbers g h (Some p) = (g ≡ tree.number p.left) × (h ≡ tree.number p.right)
+
+-- x, x + *, .., x + *(n - 1)
+abbrev pub stars_above : Number → ℕ → List tree.Game
+stars_above x n = map (shifted x) (nimbers_below n)
+
+-- the number x of a list x, x + *, .. that isn't empty
+abbrev pub AreStars : List tree.Game → Option Number → Type 0
+AreStars gs None = (x : Number) (n : ℕ) → ¬ (gs ≡ stars_above x (suc n))
+AreStars gs (Some x) = (1 ≤ length gs) × (gs ≡ stars_above x (length gs))
+
+-- x + *n with n from 1 on
+abbrev pub IsStar : tree.Game → Option StarFound → Type 0
+IsStar g None = (x : Number) (n : ℕ) → ¬ (g ≡ shifted x (nimber_form (suc n)))
+IsStar g (Some a) = (1 ≤ a.count) × (g ≡ shifted a.base (nimber_form a.count))
+
+-- x + n.^ or x + n.^*, or the same with downs
+abbrev pub IsArrows : Bool → tree.Game → Option ArrowsFound → Type 0
+IsArrows down g None = (starred : Bool) (x : Number) (n : ℕ) → ¬ (g ≡ shifted x (ups_of down starred n))
+IsArrows down g (Some a) = g ≡ shifted a.base (ups_of down a.starred a.count)
+
+-- the switch of a number above 0
+abbrev pub IsSwitch : tree.Game → Option Number → Type 0
+IsSwitch g None = (x : Number) → IsPositive x → ¬ (g ≡ switch_form x)
+IsSwitch g (Some x) = IsPositive x × (g ≡ switch_form x)
+
+-- tiny of a number above 0, or miny
+abbrev pub IsTiny : Bool → tree.Game → Option Number → Type 0
+IsTiny miny g None = (x : Number) → IsPositive x → ¬ (g ≡ tiny_form miny x)
+IsTiny miny g (Some x) = IsPositive x × (g ≡ tiny_form miny x)

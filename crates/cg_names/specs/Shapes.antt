@@ -1,0 +1,81 @@
+-- Which sign a game has, by its shape. The law function `names` says that it is the one that fits, and none where none fits;
+-- that is what a reader needs to believe.
+use Rattle.std.specs.Prelude.{ℕ, zero, suc, ◌≡◌, ◌==◌, ◌&&◌, nat_lt, Bool, true, false, not, cond, if◌then◌else◌, List, [], ◌∷◌, length, Option, Some, None}
+use Rattle.cg_dyadic.specs.Number.{Number, number_le}
+use Rattle.cg_form.specs.Depth.{depth_of}
+use Rattle.cg_form.specs.Game.{Game, lefts, number, options, rights}
+use Rattle.cg_form.specs.Shifted.{shifted}
+use Rattle.cg_form.specs.Side.{far, near}
+use Rattle.cg_nodes.specs.Spelled.{is_same}
+use Rattle.cg_dyadic.specs.Exact.{number_negative}
+use Rattle.cg_names.specs.Named.{nimber_form, switch_form, tiny_form, ups_of, zero_form, zero_number}
+use Rattle.cg_names.specs.declared.sign.Sign.{Sign}
+use Rattle.cg_names.specs.declared.sign.Sign.TheVariants.{Star, Arrows, Switch, Tiny}
+
+-- ---- the form of a sign
+
+abbrev pub sign_form : Sign → Game
+sign_form (Star x n) = shifted x (nimber_form n)
+sign_form (Arrows down starred x n) = shifted x (ups_of down starred n)
+sign_form (Switch x) = switch_form x
+sign_form (Tiny miny x) = tiny_form miny x
+
+-- whether its count is above 0, or its size
+abbrev pub is_proper : Sign → Bool
+is_proper (Star x n) = nat_lt 0 n
+is_proper (Arrows down starred x n) = nat_lt 0 n
+is_proper (Switch x) = not (number_le x zero_number)
+is_proper (Tiny miny x) = not (number_le x zero_number)
+
+-- ---- the one sign that may fit
+
+abbrev pub leading : List Game → Option Number
+leading [] = None
+leading (number x ∷ gs) = Some x
+leading (options ls rs ∷ gs) = None
+
+abbrev pub first_game : List Game → Game
+first_game [] = zero_form
+first_game (g ∷ gs) = g
+
+-- whether a star stands at the end of n.^ or n.^*, which take turns; the first of them alone may have two options
+unfoldable pub is_starred : ℕ → Bool → Game → Bool
+is_starred zero down g = true
+is_starred (suc n) down g = if length (near (not down) g) == 2 then true
+    else not (is_starred n down (first_game (far (not down) g)))
+
+-- a game with the same number first on both sides: x + *n has as many options on each, x + ^* and x + v* have not
+abbrev pub guess_level : ℕ → ℕ → Number → Sign
+guess_level m n x = if m == n then Star x m else Arrows (nat_lt m n) true x 1
+
+-- {x|h}, or its mirror image: tiny where h is {a|b} with different numbers, and else arrows
+abbrev pub guess_steep : Bool → Number → Game → Option Number → Option Number → Game → Sign
+guess_steep down x h (Some a) (Some b) g =
+    cond (is_same (number a) (number b)) (Arrows down (is_starred (depth_of h) down g) x (depth_of h))
+    (Tiny down (cond down a (number_negative b)))
+guess_steep down x h a b g = Arrows down (is_starred (depth_of h) down g) x (depth_of h)
+
+abbrev pub guess_by : Game → Option Number → Option Number → Sign
+guess_by g (Some x) (Some y) =
+    cond (is_same (number x) (number y)) (guess_level (length (lefts g)) (length (rights g)) x) (Switch x)
+guess_by g (Some x) None = let h = first_game (rights g) in
+    guess_steep false x h (leading (lefts h)) (leading (rights h)) g
+guess_by g None (Some y) = let h = first_game (lefts g) in
+    guess_steep true y h (leading (lefts h)) (leading (rights h)) g
+guess_by g None None = Switch zero_number
+
+unfoldable pub guess : Game → Sign
+guess g = guess_by g (leading (lefts g)) (leading (rights g))
+
+-- the sign, if the game has its form
+abbrev pub checked : Game → Sign → Option Sign
+checked g s = if is_proper s && is_same g (sign_form s) then Some s else None
+
+unfoldable pub sign_of : Game → Option Sign
+sign_of g = checked g (guess g)
+
+-- ---- what is found of the shape of a game
+
+pub record HasForm (g : Game) (s : Sign) : Type 0 where
+  pub proper : is_proper s ≡ true
+  pub form : g ≡ sign_form s

@@ -1,0 +1,181 @@
+-- The rows and columns that bound a set of cells.
+use Rattle.std.proofs.Common.{◌≡◌, refl, ℕ, zero, suc, ◌+◌, ◌-◌, ◌/◌, ◌<◌, ◌≤◌, ◌⊎◌, inl, inr, Bool, true, false, cond, nat_le, if◌then◌else◌, List, [], ◌∷◌, filter, length, map, ap, sym, ◌∙◌, subst, arith, mul_comm}
+use Rattle.std.proofs.Math.Nat.{mod-eq_of_lt, mul-add-mod_self_left}
+use Rattle.std.proofs.lemmas.Bool.{le-leb, leb-true}
+use Rattle.std.proofs.lemmas.Nat.{div-mul-add}
+use Rattle.cg_dyadic.proofs.Truth.{differ, false-from, true-or-not}
+use Rattle.cg_moves.specs.Grid.{Grid}
+use Rattle.cg_moves.specs.Rising.{counted}
+use Rattle.cg_moves.specs.Rules.{In}
+use Rattle.cg_moves.proofs.Counted.{in_counted}
+use Rattle.cg_moves.proofs.Members.{in-map, in_mapped}
+use Rattle.cg_pieces.specs.Boxes.{Box, box_of, cell_at, column_of, greatest_of, least_of, members, row_of, set_box}
+
+-- ---- rows and columns
+
+pub row-cell : (w a b : ℕ) → b < w → row_of w (cell_at w a b) ≡ a
+row-cell w a b h = ap (λ z. (z + b) / w) (mul_comm w a) ∙ div-mul-add a w b h
+
+pub column-cell : (w a b : ℕ) → b < w → column_of w (cell_at w a b) ≡ b
+column-cell w a b h = mul-add-mod_self_left w a b ∙ mod-eq_of_lt h
+
+pub cell-of : (w k : ℕ) → cell_at w (row_of w k) (column_of w k) ≡ k
+cell-of w k = omega arith
+
+pub same-cell : (w k l : ℕ) → row_of w k ≡ row_of w l → column_of w k ≡ column_of w l → k ≡ l
+same-cell w k l e f =
+    sym (cell-of w k) ∙ ap (λ z. cell_at w z (column_of w k)) e ∙ ap (cell_at w (row_of w l)) f ∙ cell-of w l
+
+-- ---- lists
+
+pub in-filter : (test : ℕ → Bool) (k : ℕ) (ks : List ℕ) → In k (filter test ks) → In k ks × (test k ≡ true)
+in-filter test k [] m = absurd m
+in-filter test k (l ∷ ks) m = elim (true-or-not (test l)) [
+  | inl t ↦
+      let P : Bool → Type 0 = λ b. In k (cond b (l ∷ filter test ks) (filter test ks)) in
+      elim (subst P t m) [
+        | inl e ↦ (inl e, ap test e ∙ t)
+        | inr i ↦ (let h = in-filter test k ks i in (inr h.0, h.1))
+      ]
+  | inr f ↦
+      let P : Bool → Type 0 = λ b. In k (cond b (l ∷ filter test ks) (filter test ks)) in
+      let h = in-filter test k ks (subst P (false-from (test l) f) m) in
+      (inr h.0, h.1)
+]
+
+pub filter-in : (test : ℕ → Bool) (k : ℕ) (ks : List ℕ) → In k ks → test k ≡ true → In k (filter test ks)
+filter-in test k [] m t = absurd m
+filter-in test k (l ∷ ks) (inl e) t =
+    let P : Bool → Type 0 = λ b. In k (cond b (l ∷ filter test ks) (filter test ks)) in
+    subst P (sym (ap test (sym e) ∙ t)) (inl e)
+filter-in test k (l ∷ ks) (inr m) t =
+    let P : Bool → Type 0 = λ b. In k (cond b (l ∷ filter test ks) (filter test ks)) in
+    let h = filter-in test k ks m t in
+    elim (true-or-not (test l)) [
+      | inl u ↦ subst P (sym u) (inr h)
+      | inr f ↦ subst P (sym (false-from (test l) f)) h
+    ]
+
+-- ---- the least and the greatest
+
+pub not_le-test : (x y : ℕ) → nat_le x y ≡ false → y < x
+not_le-test x y e = let n : ¬ (x ≤ y) = λ h. differ (nat_le x y) (le-leb x y h) e in omega (arith, n)
+
+pub record IsEnd (R : ℕ → ℕ → Type 0) (x : ℕ) (xs : List ℕ) : Type 0 where
+  pub among : In x xs
+  pub each : (y : ℕ) → In y xs → R x y
+
+least-is : (x : ℕ) (xs : List ℕ) → IsEnd (λ a b. a ≤ b) (least_of (x ∷ xs)) (x ∷ xs)
+least-is x [] = record {
+  among = inl refl;
+  each = λ y m. elim m [ inl e ↦ omega (arith, e) | inr k ↦ absurd k ];
+}
+least-is x (y ∷ ys) =
+    let h = least-is y ys in
+    let m : ℕ = least_of (y ∷ ys) in
+    let P : Bool → Type 0 = λ b. IsEnd (λ a c. a ≤ c) (if b then x else m) (x ∷ (y ∷ ys)) in
+    elim (true-or-not (nat_le x m)) [
+      | inl t ↦ subst P (sym t) (record {
+        among = inl refl;
+        each = λ z i. elim i [
+          | inl e ↦ omega (arith, e)
+          | inr k ↦ (let a = leb-true x m t in let b = h.each z k in omega (arith, a, b))
+        ];
+      })
+      | inr f ↦ subst P (sym (false-from (nat_le x m) f)) (record {
+        among = inr h.among;
+        each = λ z i. elim i [
+          | inl e ↦ (let a = not_le-test x m (false-from (nat_le x m) f) in omega (arith, a, e))
+          | inr k ↦ h.each z k
+        ];
+      })
+    ]
+
+greatest-is : (x : ℕ) (xs : List ℕ) → IsEnd (λ a b. b ≤ a) (greatest_of (x ∷ xs)) (x ∷ xs)
+greatest-is x [] = record {
+  among = inl refl;
+  each = λ y m. elim m [ inl e ↦ omega (arith, e) | inr k ↦ absurd k ];
+}
+greatest-is x (y ∷ ys) =
+    let h = greatest-is y ys in
+    let m : ℕ = greatest_of (y ∷ ys) in
+    let P : Bool → Type 0 = λ b. IsEnd (λ a c. c ≤ a) (if b then x else m) (x ∷ (y ∷ ys)) in
+    elim (true-or-not (nat_le m x)) [
+      | inl t ↦ subst P (sym t) (record {
+        among = inl refl;
+        each = λ z i. elim i [
+          | inl e ↦ omega (arith, e)
+          | inr k ↦ (let a = leb-true m x t in let b = h.each z k in omega (arith, a, b))
+        ];
+      })
+      | inr f ↦ subst P (sym (false-from (nat_le m x) f)) (record {
+        among = inr h.among;
+        each = λ z i. elim i [
+          | inl e ↦ (let a = not_le-test m x (false-from (nat_le m x) f) in omega (arith, a, e))
+          | inr k ↦ h.each z k
+        ];
+      })
+    ]
+
+-- ---- the box of a set
+
+-- so many lines from the first on bound the cells of the set, by the line of each
+pub record BoundsBy (line : ℕ → ℕ) (in_set : ℕ → Bool) (first many : ℕ) : Type 0 where
+  pub low : (k : ℕ) → in_set k ≡ true → first ≤ line k
+  pub high : (k : ℕ) → in_set k ≡ true → line k < first + many
+  pub lowest : ℕ
+  pub lowest_in : in_set lowest ≡ true
+  pub lowest_is : line lowest ≡ first
+  pub highest : ℕ
+  pub highest_in : in_set highest ≡ true
+  pub highest_is : suc (line highest) ≡ first + many
+
+pub record Bounds (width : ℕ) (in_set : ℕ → Bool) (b : Box) : Type 0 where
+  pub rows : BoundsBy (row_of width) in_set b.top b.rows
+  pub columns : BoundsBy (column_of width) in_set b.left b.columns
+
+bounds-by : (line : ℕ → ℕ) (in_set : ℕ → Bool) (n : ℕ) (l : ℕ) (ls : List ℕ)
+    → ((k : ℕ) → in_set k ≡ true → k < n) → l ∷ ls ≡ map line (filter in_set (counted 0 n))
+    → BoundsBy line in_set (least_of (l ∷ ls)) (suc (greatest_of (l ∷ ls) - least_of (l ∷ ls)))
+bounds-by line in_set n l ls within e =
+    let low = least-is l ls in
+    let high = greatest-is l ls in
+    let of : (k : ℕ) → in_set k ≡ true → In (line k) (l ∷ ls) = λ k t.
+    let P : List ℕ → Type 0 = λ z. In (line k) z in
+    subst P (sym e) (in_mapped line k (filter in_set (counted 0 n))
+    (filter-in in_set k (counted 0 n) (in_counted 0 n k (omega arith) (let h = within k t in omega (arith, h))) t)) in
+    let P : ℕ → List ℕ → Type 0 = λ x z. In x z in
+    let (a, i, f) = in-map line (least_of (l ∷ ls)) (filter in_set (counted 0 n)) (subst (P (least_of (l ∷ ls))) e low.among) in
+    let (c, j, h) = in-map line (greatest_of (l ∷ ls)) (filter in_set (counted 0 n)) (subst (P (greatest_of (l ∷ ls))) e high.among) in
+    let order = low.each (greatest_of (l ∷ ls)) high.among in record {
+      low = λ k t. low.each (line k) (of k t);
+      high = λ k t. let x = high.each (line k) (of k t) in omega (arith, x, order);
+      lowest = a;
+      lowest_in = (in-filter in_set a (counted 0 n) i).1;
+      lowest_is = sym f;
+      highest = c;
+      highest_in = (in-filter in_set c (counted 0 n) j).1;
+      highest_is = omega (arith, h, order);
+    }
+
+bounds-list : (width : ℕ) (in_set : ℕ → Bool) (n : ℕ) (k : ℕ) (ks : List ℕ)
+    → ((k : ℕ) → in_set k ≡ true → k < n) → k ∷ ks ≡ filter in_set (counted 0 n)
+    → Bounds width in_set (box_of width (k ∷ ks))
+unfolding box_of
+bounds-list width in_set n k ks within e = record {
+  rows = bounds-by (row_of width) in_set n (row_of width k) (map (row_of width) ks) within (ap (map (row_of width)) e);
+  columns = bounds-by (column_of width) in_set n (column_of width k) (map (column_of width) ks) within
+      (ap (map (column_of width)) e);
+}
+
+pub set-bounds : (p : Grid) (in_set : ℕ → Bool) (k : ℕ) → ((l : ℕ) → in_set l ≡ true → l < length p.cells)
+    → in_set k ≡ true → Bounds p.columns in_set (set_box in_set p)
+set-bounds p in_set k within some = go (members in_set p) refl
+  where
+    go : (ks : List ℕ) → ks ≡ members in_set p → Bounds p.columns in_set (box_of p.columns ks)
+    go [] e =
+        let P : List ℕ → Type 0 = λ z. In k z in
+        let h : k < 0 + length p.cells = let w = within k some in omega (arith, w) in
+        absurd (subst P (sym e) (filter-in in_set k (counted 0 (length p.cells))
+        (in_counted 0 (length p.cells) k (omega arith) h) some))
+    go (l ∷ ls) e = bounds-list p.columns in_set (length p.cells) l ls within e

@@ -1,0 +1,250 @@
+-- Rules that cut boards into the sets of joined cells.
+use Rattle.std.proofs.Common.{◌≡◌, refl, ℕ, zero, suc, ◌<◌, ◌≤◌, ◌⊎◌, inl, inr, true, List, [], ◌∷◌, ◌++◌, map, ap, sym, ◌∙◌, subst, arith}
+use Rattle.cg_moves.specs.declared.player.Player.{Player}
+use Rattle.cg_moves.specs.declared.player.Player.TheVariants.{Left, Right}
+use Rattle.cg_moves.specs.Grid.{Grid, with_cells}
+use Rattle.cg_moves.specs.Reordered.{IsReordered}
+use Rattle.cg_moves.specs.Rules.{GameRules, In, IsCut, MoveInPiece, MoveOfBoard, MovesAlike, boards_after, followers}
+use Rattle.cg_moves.proofs.Members.{in-append_left, in-append_right, in-map, in_mapped}
+use Rattle.cg_moves.proofs.Totals.{map-append}
+use Rattle.cg_pieces.specs.Cells.{CellGame, CutsByCells, Distinct, First, IsCellGame, Joined, pieces_of}
+use Rattle.cg_pieces.specs.Cells.Linked.{here}
+use Rattle.cg_pieces.proofs.OneMove.{pieces-after}
+use Rattle.cg_pieces.proofs.Orders.{in-middle}
+use Rattle.cg_pieces.proofs.Sets.{first-placed, joined-sym, joined-trans, legal-joined, open-along, placed-first, placed-piece}
+
+-- a list of mapped cells that is cut is cut at a cell
+record MappedCut {Y : Type 0} (f : ℕ → Y) (ks : List ℕ) (us : List Y) (y : Y) (vs : List Y) : Type 0 where
+  before : List ℕ
+  cell : ℕ
+  behind : List ℕ
+  cut : ks ≡ before ++ (cell ∷ behind)
+  left : us ≡ map f before
+  middle : y ≡ f cell
+  right : vs ≡ map f behind
+
+mapped-cut : {Y : Type 0} (f : ℕ → Y) (ks : List ℕ) (us : List Y) (y : Y) (vs : List Y) → map f ks ≡ us ++ (y ∷ vs)
+    → MappedCut f ks us y vs
+mapped-cut {Y} f [] [] y vs e = absurd (cc)
+mapped-cut {Y} f [] (u ∷ us) y vs e = absurd (cc)
+mapped-cut {Y} f (k ∷ ks) [] y vs e = record {
+  before = [];
+  cell = k;
+  behind = ks;
+  cut = refl;
+  left = refl;
+  middle = cc;
+  right = cc;
+}
+mapped-cut {Y} f (k ∷ ks) (u ∷ us) y vs e =
+    let head : u ≡ f k = cc in
+    let tail : map f ks ≡ us ++ (y ∷ vs) = cc in
+    let w = mapped-cut f ks us y vs tail in record {
+      before = k ∷ w.before;
+      cell = w.cell;
+      behind = w.behind;
+      cut = ap (λ z. k ∷ z) w.cut;
+      left = ap (λ z. z ∷ us) head ∙ ap (λ z. f k ∷ z) w.left;
+      middle = w.middle;
+      right = w.right;
+    }
+
+module _ (g : CellGame) (r : GameRules) (laws : IsCellGame g) (cuts : CutsByCells g r) where
+  -- ---- the first cell of a set
+
+  record Least (p : Grid) (k : ℕ) : Type 0 where
+    cell : ℕ
+    joined : Joined g p cell k
+    least : (m : ℕ) → Joined g p m k → cell ≤ m
+
+  least-below : (p : Grid) (k n : ℕ) → Least p k ⊎ ((m : ℕ) → m < n → ¬ Joined g p m k)
+  least-below p k zero = inr (λ m h. absurd (omega arith))
+  least-below p k (suc n) = elim (least-below p k n) [
+    | inl w ↦ inl w
+    | inr none ↦ elim (laws.decided p n k) [
+      | inl j ↦ inl (record {
+        cell = n;
+        joined = j;
+        least = λ m i. elim (below-or-not m n) [ inl h ↦ absurd (none m h i) | inr h ↦ h ];
+      })
+      | inr out ↦ inr (λ m h i. elim (below-or-not m n) [
+        | inl b ↦ none m b i
+        | inr b ↦ (let e : m ≡ n = omega arith in let P : ℕ → Type 0 = λ z. Joined g p z k in out (subst P e i))
+      ])
+    ]
+  ]
+    where
+      below-or-not : (m n : ℕ) → (m < n) ⊎ (n ≤ m)
+      below-or-not zero zero = inr (omega arith)
+      below-or-not zero (suc n) = inl (omega arith)
+      below-or-not (suc m) zero = inr (omega arith)
+      below-or-not (suc m) (suc n) = elim (below-or-not m n) [ inl h ↦ inl (omega arith) | inr h ↦ inr (omega arith) ]
+
+  least-of : (p : Grid) (k : ℕ) → Least p k
+  least-of p k = elim (least-below p k (suc k)) [
+    | inl w ↦ w
+    | inr none ↦ absurd (none k (omega arith) (here k refl))
+  ]
+
+  -- the set of a move has a first cell
+  first-of-move : (player : Player) (p : Grid) (one other : ℕ) → g.legal player p one other ≡ true
+      → (s : ℕ) × In s (g.firsts p) × Joined g p s one
+  first-of-move player p one other legal =
+      let w = least-of p one in
+      let first : First g p w.cell = record {
+        is_open = open-along g laws p one w.cell (joined-sym g laws p w.cell one w.joined) (laws.legal_open player p one other legal).0;
+        least = λ l j. w.least l (joined-trans g laws p l w.cell one (joined-sym g laws p w.cell l j) w.joined);
+        player = player;
+        one = one;
+        other = other;
+        legal = legal;
+        joined = w.joined;
+      } in
+      (w.cell, (laws.first p w.cell).1 first, w.joined)
+
+  -- ---- the same move on the board and in the piece
+
+  alike : (player : Player) (p : Grid) (before : List ℕ) (s : ℕ) (behind : List ℕ) (one other : ℕ) → r.has p ≡ true
+      → g.firsts p ≡ before ++ (s ∷ behind) → g.legal player p one other ≡ true → Joined g p s one
+      → MovesAlike r p (g.after player p one other) (map (g.piece p) before) (g.piece p s)
+      (g.after player (g.piece p s) (g.place p s one) (g.place p s other)) (map (g.piece p) behind)
+  alike player p before s behind one other has cut legal j =
+      let P : List ℕ → Type 0 = λ z. In s z in
+      let among : In s (g.firsts p) = subst P (sym cut) (in-append_right s before (s ∷ behind) (inl refl)) in
+      let after : Grid = with_cells p (g.after player p one other) in
+      let small : Grid = with_cells (g.piece p s) (g.after player (g.piece p s) (g.place p s one) (g.place p s other)) in
+      let o = cuts.shown_after player p s one other has among legal j in
+      let Q : List Grid → Type 0 = λ z. IsReordered z (map (g.piece p) before
+      ++ (r.pieces small ++ map (g.piece p) behind)) in
+      let R : List Grid → Type 0 = λ z. IsReordered (pieces_of g after) (map (g.piece p) before
+      ++ (z ++ map (g.piece p) behind)) in record {
+        cut = cuts.pieces p ∙ ap (map (g.piece p)) cut ∙ map-append (g.piece p) before (s ∷ behind);
+        others = subst Q (sym (cuts.pieces after))
+            (subst R (sym (cuts.pieces small)) (pieces-after g laws p before s behind after small cut o));
+      }
+
+  piece-legal : (player : Player) (p : Grid) (s one other : ℕ) → r.has p ≡ true → In s (g.firsts p)
+      → g.legal player p one other ≡ true → Joined g p s one
+      → g.legal player (g.piece p s) (g.place p s one) (g.place p s other) ≡ true
+  piece-legal player p s one other has among legal j =
+      (cuts.shown p s has among).place_legal player one other j (legal-joined g laws player p s one other legal j) ∙ legal
+
+  in-piece : (player : Player) (p : Grid) (cells : List ℕ) → r.has p ≡ true → In cells (r.moves player p)
+      → MoveInPiece r player p cells
+  in-piece player p cells has m =
+      let w = cuts.legal_move player p cells has m in
+      let (s, among, j) = first-of-move player p w.one w.other w.legal in
+      let c = in-middle s (g.firsts p) among in
+      let moved : List ℕ = g.after player (g.piece p s) (g.place p s w.one) (g.place p s w.other) in
+      let P : List ℕ → Type 0 = λ z. MovesAlike r p z (map (g.piece p) c.before) (g.piece p s) moved (map (g.piece p)
+      c.behind) in record {
+        before = map (g.piece p) c.before;
+        piece = g.piece p s;
+        behind = map (g.piece p) c.behind;
+        moved = moved;
+        is_move = cuts.move player (g.piece p s) (g.place p s w.one) (g.place p s w.other) (cuts.has p s has among)
+            (piece-legal player p s w.one w.other has among w.legal j);
+        alike = subst P (sym w.is) (alike player p c.before s c.behind w.one w.other has c.cut w.legal j);
+      }
+
+  of-cell : (player : Player) (p : Grid) (before : List ℕ) (s : ℕ) (behind : List ℕ) (moved : List ℕ) → r.has p ≡ true
+      → g.firsts p ≡ before ++ (s ∷ behind) → In moved (r.moves player (g.piece p s))
+      → MoveOfBoard r player p (map (g.piece p) before) (g.piece p s) moved (map (g.piece p) behind)
+  of-cell player p before s behind moved has cut m =
+      let P : List ℕ → Type 0 = λ z. In s z in
+      let among : In s (g.firsts p) = subst P (sym cut) (in-append_right s before (s ∷ behind) (inl refl)) in
+      let o = cuts.shown p s has among in
+      let w = cuts.legal_move player (g.piece p s) moved (cuts.has p s has among) m in
+      let (a, b, next) = laws.legal_open player (g.piece p s) w.one w.other w.legal in
+      let (k, j_k, e) = o.placed w.one a in
+      let (l, j_l, f) = o.placed w.other b in
+      let First_legal : ℕ → Type 0 = λ z. g.legal player (g.piece p s) z w.other ≡ true in
+      let Second_legal : ℕ → Type 0 = λ z. g.legal player (g.piece p s) (g.place p s k) z ≡ true in
+      let legal : g.legal player p k l ≡ true =
+      sym (o.place_legal player k l j_k j_l) ∙ subst Second_legal f (subst First_legal e w.legal) in
+      let is : moved ≡ g.after player (g.piece p s) (g.place p s k) (g.place p s l) =
+      w.is ∙ ap (λ z. g.after player (g.piece p s) z w.other) e ∙ ap (g.after player (g.piece p s) (g.place p s k)) f in
+      let Q : List ℕ → Type 0 = λ z. MovesAlike r p (g.after player p k l) (map (g.piece p) before) (g.piece p s) z (map
+      (g.piece p) behind) in record {
+        cells = g.after player p k l;
+        is_move = cuts.move player p k l has legal;
+        alike = subst Q (sym is) (alike player p before s behind k l has cut legal j_k);
+      }
+
+  of-board : (player : Player) (p : Grid) (before : List Grid) (q : Grid) (behind : List Grid) (moved : List ℕ)
+      → r.has p ≡ true → r.pieces p ≡ before ++ (q ∷ behind) → In moved (r.moves player q)
+      → MoveOfBoard r player p before q moved behind
+  of-board player p before q behind moved has cut m =
+      let w = mapped-cut (g.piece p) (g.firsts p) before q behind (sym (cuts.pieces p) ∙ cut) in
+      let Move : Grid → Type 0 = λ z. In moved (r.moves player z) in
+      let P : List Grid → Type 0 = λ z. MoveOfBoard r player p z q moved behind in
+      let Q : Grid → Type 0 = λ z. MoveOfBoard r player p (map (g.piece p) w.before) z moved behind in
+      let R : List Grid → Type 0 = λ z. MoveOfBoard r player p (map (g.piece p) w.before) (g.piece p w.cell) moved z in
+      subst P (sym w.left) (subst Q (sym w.middle) (subst R (sym w.right)
+      (of-cell player p w.before w.cell w.behind moved has w.cut (subst Move w.middle m))))
+
+  -- ---- a piece is its own only piece
+
+  only : (k : ℕ) (ks : List ℕ) → Distinct g ks → In k ks → ((l : ℕ) → In l ks → l ≡ k) → ks ≡ k ∷ []
+  only k [] d m same = absurd m
+  only k (l ∷ []) d m same = ap (λ z. z ∷ []) (same l (inl refl))
+  only k (l ∷ (n ∷ ks)) d m same =
+      let e : l ≡ n = same l (inl refl) ∙ sym (same n (inr (inl refl))) in
+      absurd (d.0 (inl e))
+
+  alone : (p : Grid) (s : ℕ) → r.has p ≡ true → In s (g.firsts p) → r.pieces (g.piece p s) ≡ g.piece p s ∷ []
+  alone p s has among =
+      let o = cuts.shown p s has among in
+      let first_s = (laws.first p s).0 among in
+      let self : Joined g p s s = here s refl in
+      let one : g.firsts (g.piece p s) ≡ g.place p s s ∷ [] =
+      only (g.place p s s) (g.firsts (g.piece p s)) (laws.distinct (g.piece p s))
+      ((laws.first (g.piece p s) (g.place p s s)).1 (first-placed g laws p s p (g.piece p s) o s self first_s))
+      (λ m i. let first_m = (laws.first (g.piece p s) m).0 i in
+      let (k, j, e) = o.placed m first_m.is_open in
+      let P : ℕ → Type 0 = First g (g.piece p s) in
+      let first_k = placed-first g laws p s p (g.piece p s) o k j (subst P e first_m) in
+      let a = first_s.least k j in
+      let b = first_k.least s (joined-sym g laws p s k j) in
+      let f : k ≡ s = omega arith in
+      e ∙ ap (g.place p s) f) in
+      cuts.pieces (g.piece p s) ∙ ap (map (g.piece (g.piece p s))) one
+      ∙ ap (λ z. z ∷ []) (placed-piece g laws p s p (g.piece p s) o s self)
+
+  a-move : (player : Player) (q : Grid) (cells : List ℕ) → In cells (r.moves player q) → ¬ (followers r q ≡ [])
+  a-move player q cells m e =
+      let P : List Grid → Type 0 = λ z. In (with_cells q cells) z in
+      let there : In (with_cells q cells) (followers r q) = by-player player m in
+      subst P e there
+    where
+      by-player : (player : Player) → In cells (r.moves player q) → In (with_cells q cells) (followers r q)
+      by-player Left i = in-append_left (with_cells q cells) (boards_after r Left q) (boards_after r Right q)
+          (in_mapped (with_cells q) cells (r.moves Left q) i)
+      by-player Right i = in-append_right (with_cells q cells) (boards_after r Left q) (boards_after r Right q)
+          (in_mapped (with_cells q) cells (r.moves Right q) i)
+
+  some-move : (p : Grid) (s : ℕ) → r.has p ≡ true → In s (g.firsts p) → ¬ (followers r (g.piece p s) ≡ [])
+  some-move p s has among =
+      let f = (laws.first p s).0 among in
+      a-move f.player (g.piece p s) (g.after f.player (g.piece p s) (g.place p s f.one) (g.place p s f.other))
+      (cuts.move f.player (g.piece p s) (g.place p s f.one) (g.place p s f.other) (cuts.has p s has among)
+      (piece-legal f.player p s f.one f.other has among f.legal f.joined))
+
+  -- what holds of the board of each first cell holds of each piece
+  each-piece : (P : Grid → Type 0) (p q : Grid) → ((s : ℕ) → In s (g.firsts p) → P (g.piece p s))
+      → In q (r.pieces p) → P q
+  each-piece P p q each m =
+      let Q : List Grid → Type 0 = λ z. In q z in
+      let (s, i, e) = in-map (g.piece p) q (g.firsts p) (subst Q (cuts.pieces p) m) in
+      subst P (sym e) (each s i)
+
+  pub is-cut : IsCut r
+  is-cut = record {
+    has = λ p q has m. each-piece (λ z. r.has z ≡ true) p q (λ s i. cuts.has p s has i) m;
+    symbols = λ p q has m. each-piece (λ z. z.symbols ≡ p.symbols) p q (λ s i. cuts.symbols p s has i) m;
+    some_move = λ p q has m. each-piece (λ z. ¬ (followers r z ≡ [])) p q (λ s i. some-move p s has i) m;
+    alone = λ p q has m. each-piece (λ z. r.pieces z ≡ z ∷ []) p q (λ s i. alone p s has i) m;
+    measure = λ p q has m. each-piece (λ z. r.measure z ≤ r.measure p) p q (λ s i. cuts.measure p s has i) m;
+    in_piece = in-piece;
+    of_board = of-board;
+  }

@@ -1,0 +1,14 @@
+pub mod Orders
+pub mod Sets
+pub mod OneMove
+pub mod CutLaws
+pub mod Bounds
+pub mod Crops
+pub mod Parts
+pub mod NeighbourSets
+pub mod Shown
+pub mod ShownAfter
+pub mod Changed
+pub mod Numbers
+pub mod NeighbourCuts
+pub mod Lines

@@ -1,0 +1,116 @@
+-- Lists of cells without repetition: with the same members they are each other in another order.
+use Rattle.std.proofs.Common.{◌≡◌, refl, ℕ, ◌⊎◌, inl, inr, ap, sym, ◌∙◌, subst, List, [], ◌∷◌, ◌++◌, map}
+use Rattle.cg_moves.specs.Reordered.{IsReordered}
+use Rattle.cg_moves.specs.Rules.{In}
+use Rattle.cg_moves.proofs.Members.{in-append, in-map, in-append_left, in-append_right}
+use Rattle.cg_moves.proofs.Totals.{map-append}
+use Rattle.cg_pieces.specs.Cells.{CellGame, Distinct}
+
+-- a member in the middle
+pub record Middle (k : ℕ) (ks : List ℕ) : Type 0 where
+  pub before : List ℕ
+  pub behind : List ℕ
+  pub cut : ks ≡ before ++ (k ∷ behind)
+
+pub in-middle : (k : ℕ) (ks : List ℕ) → In k ks → Middle k ks
+in-middle k [] m = absurd m
+in-middle k (l ∷ ks) (inl e) = record {
+  before = [];
+  behind = ks;
+  cut = ap (λ z. z ∷ ks) (sym e);
+}
+in-middle k (l ∷ ks) (inr m) = let w = in-middle k ks m in record {
+  before = l ∷ w.before;
+  behind = w.behind;
+  cut = ap (λ z. l ∷ z) w.cut;
+}
+
+pub middle-in : (k l : ℕ) (us vs : List ℕ) → In k (us ++ (l ∷ vs)) → (k ≡ l) ⊎ In k (us ++ vs)
+middle-in k l us vs m = elim (in-append k us (l ∷ vs) m) [
+  | inl i ↦ inr (in-append_left k us vs i)
+  | inr (inl e) ↦ inl e
+  | inr (inr i) ↦ inr (in-append_right k us vs i)
+]
+
+pub in_middle : (k l : ℕ) (us vs : List ℕ) → In k (us ++ vs) → In k (us ++ (l ∷ vs))
+in_middle k l us vs m = elim (in-append k us vs m) [
+  | inl i ↦ in-append_left k us (l ∷ vs) i
+  | inr i ↦ in-append_right k us (l ∷ vs) (inr i)
+]
+
+module _ (g : CellGame) where
+  pub distinct-middle : (us vs : List ℕ) (k : ℕ) → Distinct g (us ++ (k ∷ vs)) → (¬ In k (us ++ vs)) × Distinct g (us ++ vs)
+  distinct-middle [] vs k d = d
+  distinct-middle (u ∷ us) vs k d =
+      let h = distinct-middle us vs k d.1 in (
+        λ m. elim m [
+          | inl e ↦ (let P : ℕ → Type 0 = λ z. In z (us ++ (k ∷ vs)) in
+              d.0 (subst P e (in-append_right k us (k ∷ vs) (inl refl))))
+          | inr i ↦ h.0 i
+        ],
+        (λ m. d.0 (in_middle u k us vs m), h.1),
+      )
+
+  pub distinct-append : (us vs : List ℕ) → Distinct g us → Distinct g vs → ((k : ℕ) → In k us → In k vs → ⊥)
+      → Distinct g (us ++ vs)
+  distinct-append [] vs d e apart = e
+  distinct-append (u ∷ us) vs d e apart = (
+    λ m. elim (in-append u us vs m) [ inl i ↦ d.0 i | inr i ↦ apart u (inl refl) i ],
+    distinct-append us vs d.1 e (λ k i j. apart k (inr i) j),
+  )
+
+  pub distinct-left : (us vs : List ℕ) → Distinct g (us ++ vs) → Distinct g us
+  distinct-left [] vs d = tt
+  distinct-left (u ∷ us) vs d = (λ m. d.0 (in-append_left u us vs m), distinct-left us vs d.1)
+
+  pub distinct-right : (us vs : List ℕ) → Distinct g (us ++ vs) → Distinct g vs
+  distinct-right [] vs d = d
+  distinct-right (u ∷ us) vs d = distinct-right us vs d.1
+
+  pub distinct-apart : (us vs : List ℕ) → Distinct g (us ++ vs) → (k : ℕ) → In k us → In k vs → ⊥
+  distinct-apart [] vs d k i j = i
+  distinct-apart (u ∷ us) vs d k (inl e) j =
+      let P : ℕ → Type 0 = λ z. In z vs in d.0 (in-append_right u us vs (subst P e j))
+  distinct-apart (u ∷ us) vs d k (inr i) j = distinct-apart us vs d.1 k i j
+
+  pub distinct-map : (f : ℕ → ℕ) (ks : List ℕ) → Distinct g ks
+      → ((k l : ℕ) → In k ks → In l ks → f k ≡ f l → k ≡ l) → Distinct g (map f ks)
+  distinct-map f [] d h = tt
+  distinct-map f (k ∷ ks) d h = (
+    λ m. let (l, i, e) = in-map f (f k) ks m in
+        (let P : ℕ → Type 0 = λ z. In z ks in d.0 (subst P (sym (h k l (inl refl) (inr i) e)) i)),
+    distinct-map f ks d.1 (λ a b i j. h a b (inr i) (inr j)),
+  )
+
+  pub same-members : (xs ys : List ℕ) → Distinct g xs → Distinct g ys → ((k : ℕ) → In k xs → In k ys)
+      → ((k : ℕ) → In k ys → In k xs) → IsReordered xs ys
+  same-members [] [] d e forth back = refl
+  same-members [] (y ∷ ys) d e forth back = absurd (back y (inl refl))
+  same-members (x ∷ xs) ys d e forth back =
+      let w = in-middle x ys (forth x (inl refl)) in
+      let P : List ℕ → Type 0 = λ z. Distinct g z in
+      let Q : ℕ → List ℕ → Type 0 = λ k z. In k z in
+      let there = distinct-middle w.before w.behind x (subst P w.cut e) in (
+        w.before,
+        w.behind,
+        w.cut,
+        same-members xs (w.before ++ w.behind) d.1 there.1
+            (λ k i. elim (middle-in k x w.before w.behind (subst (Q k) w.cut (forth k (inr i)))) [
+              | inl f ↦ (let R : ℕ → Type 0 = λ z. In z xs in absurd (d.0 (subst R f i)))
+              | inr j ↦ j
+            ])
+            (λ k i. elim (back k (subst (Q k) (sym w.cut) (in_middle k x w.before w.behind i))) [
+              | inl f ↦ (let R : ℕ → Type 0 = λ z. In z (w.before ++ w.behind) in absurd (there.0 (subst R f i)))
+              | inr j ↦ j
+            ]),
+      )
+
+pub reordered-map : {X Y : Type 0} (f : X → Y) (xs ys : List X) → IsReordered xs ys → IsReordered (map f xs) (map f ys)
+reordered-map {X} {Y} f [] ys e = ap (map f) e
+reordered-map {X} {Y} f (x ∷ xs) ys (us, vs, e, r) =
+    let P : List Y → Type 0 = λ z. IsReordered (map f xs) z in (
+      map f us,
+      map f vs,
+      ap (map f) e ∙ map-append f us (x ∷ vs),
+      subst P (map-append f us vs) (reordered-map f xs (us ++ vs) r),
+    )

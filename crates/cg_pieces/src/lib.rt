@@ -1,0 +1,4 @@
+//! Boards in pieces.
+#![tactic(auto)]
+
+pub mod laws;

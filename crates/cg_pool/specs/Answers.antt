@@ -1,0 +1,38 @@
+-- Answers, each with the number of its line, and what workers bring back.
+use Rattle.std.specs.Prelude.{◌≡◌, ℕ, List, length, true, Some, slice_get, All, Contains}
+use Rattle.std.specs.Prelude as list
+use Rattle.std.specs.FinMap as map
+use Rattle.std.specs.Ordering.{nat_cmp}
+use Rattle.cg_cells.specs.Meaning.{Grows}
+use Rattle.cg_cells.specs.Store.{thing_at}
+use Rattle.cg_cells.specs.Table.{passes_of}
+use Rattle.cg_shared.specs.Passes.{CellsOf, PassOf, IsPassOf, pass_state}
+
+abbrev pub numbers : {A : Type 0} → List (ℕ × A) → List ℕ
+numbers {A} all = list.map (λ a. a.0) all
+
+module _ {X A : Type 0} (good : ℕ → A → map.FinMap nat_cmp X → Type 0) where
+  -- each answer is good for its number, under what is known
+  abbrev pub AreGood : map.FinMap nat_cmp X → List (ℕ × A) → Type 0
+  AreGood known all = All (λ (a : ℕ × A). good a.0 a.1 known) all
+
+  -- What a pass of this table and its answers are after one line: it owns what it owned, knows what it knew, and the answer is good
+  pub record IsAnswered (cells : CellsOf) (index : ℕ) (before : PassOf X) (answer : A) (after : PassOf X) : Type 0 where
+    pub own : IsPassOf cells after
+    pub is_good : good index answer (pass_state after).known
+    pub known : Grows (thing_at (pass_state before)) (thing_at (pass_state after))
+    pub tickets : after.sees.tickets ≡ before.sees.tickets
+    pub passes : passes_of after.sees ≡ passes_of before.sees
+
+  -- What workers bring back: a pass that stands for so many, and its answers, one for each ticket, each good. No line is left
+  pub record IsBrought (cells : CellsOf) (passes : ℕ) (all : List (ℕ × A)) (p : PassOf X) : Type 0 where
+    pub own : IsPassOf cells p
+    pub tickets : numbers all ≡ p.sees.tickets
+    pub are_good : AreGood (pass_state p).known all
+    pub stands_for : passes_of p.sees ≡ passes
+    pub over : p.sees.over ≡ true
+
+-- so many answers in the order of their numbers
+pub record AreOrdered {A : Type 0} (count : ℕ) (all : List (ℕ × A)) (ordered : List A) : Type 0 where
+  pub long : length ordered ≡ count
+  pub each : (n : ℕ) (a : A) → slice_get ordered n ≡ Some a → Contains all (n, a)

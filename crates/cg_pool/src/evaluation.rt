@@ -1,0 +1,57 @@
+//! All lines, by many workers.
+ghost use Rattle.std.specs.Prelude.{◌≡◌, ℕ, ◌*◌, ◌≤◌, Some, slice_get, length, IfOk};
+ghost use Rattle.cg_cells.specs.Table.{HasAllTickets};
+ghost use Rattle.cg_shared.specs.Passes.{IsPassOf, pass_state};
+
+use crate::order::ordered;
+use crate::workers::gang;
+use crate::{Gate, Job};
+use cg_cells::Facts;
+use cg_shared::{Pass, SharedCells, StartFault};
+use std::alloc::{AllocError, Global};
+use std::thread::Threads;
+
+/// The answers of all lines, in order, the table over which they were made, and a pass of it that knows all that they speak
+/// of.
+#[derive(Drop)]
+pub struct Evaluated<F: Facts, A: Drop> {
+    pub answers: Vec<A>,
+    pub cells: SharedCells<F>,
+    pub pass: Pass<F>,
+}
+
+/// Answers so many lines of a job, each on so many cells of one new table, by so many workers. Which worker takes which
+/// line is left open.
+pub fn evaluate<R: Threads + Sync, F: Facts + Sync, J: Job<F>, G: Gate>(
+    rt: &R,
+    alloc: Global,
+    count: u64,
+    share: u64,
+    workers: u64,
+    job: &J,
+    gate: &G,
+) -> Result<Evaluated<F, J::Answer>, AllocError>
+    requires cells { (1 ≤ count * share) × (count * share ≤ 67108864) }
+    requires workers { (1 ≤ workers) × (workers ≤ 64) }
+    requires lines { count ≤ J.count job.now }
+    requires share { J.needs job.now ≤ share }
+    ensures table { IfOk result (λ e. e.cells.sizes ≡ record { lines = count; share = share; passes = workers }) }
+    ensures pass { IfOk result (λ e. IsPassOf e.cells e.pass × HasAllTickets e.pass.sees) }
+    ensures long { IfOk result (λ e. length e.answers.items ≡ count) }
+    ensures good { IfOk result (λ e. (n : ℕ) (answer : J.Answer) → slice_get e.answers.items n ≡ Some answer
+        → J.good job.now n answer (pass_state e.pass).known) }
+{
+    let (cells, pass) = match SharedCells::start(alloc, count, share, workers) {
+        Ok(made) => made,
+        Err(StartFault::Size) => unreachable!(),
+        Err(StartFault::Memory) => return Err(AllocError),
+    };
+    let (answers, pass) = gang::<R, F, J, G>(rt, &cells, alloc, job, gate, pass, workers)?;
+    pass.tickets();
+    let answers = ordered(alloc, answers, count)?;
+    Ok(Evaluated {
+        answers,
+        cells,
+        pass,
+    })
+}

@@ -1,0 +1,30 @@
+//! Answers in the order of their lines.
+ghost use Rattle.std.specs.Prelude.{◌≡◌, ℕ, IfOk, if◌then◌else◌, nat_lt};
+ghost use Rattle.cg_cells.specs.Table.{times};
+ghost use Rattle.cg_pool.specs.Answers.{numbers, AreOrdered};
+
+use std::alloc::{AllocError, Global};
+
+// The answers without their numbers.
+fn unnumbered<A: Drop>(alloc: Global, answers: Vec<(u64, A)>) -> Result<Vec<A>, AllocError>
+    ensures { IfOk result (λ v. v.items ≡ Rattle.std.specs.Prelude.map (λ a. a.1) answers.items) }
+{
+    let mut plain = Vec::with_capacity(alloc, answers.len())?;
+    for (_, answer) in answers {
+        plain.push(answer)?;
+    }
+    Ok(plain)
+}
+
+/// The answers of so many lines, each of which has one, in the order of the lines.
+pub(crate) fn ordered<A: Drop>(
+    alloc: Global,
+    mut answers: Vec<(u64, A)>,
+    count: u64,
+) -> Result<Vec<A>, AllocError>
+    requires { (n : ℕ) → times n (numbers answers.items) ≡ (if nat_lt n count then 1 else 0) }
+    ensures { IfOk result (λ v. AreOrdered count answers.items v.items) }
+{
+    answers.sort_unstable_by_key(|answer| answer.0);
+    unnumbered(alloc, answers)
+}

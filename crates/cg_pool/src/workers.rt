@@ -1,0 +1,118 @@
+//! Workers, each with a pass of its own.
+ghost use Rattle.std.specs.Prelude.{◌≡◌, ℕ, ◌+◌, ◌<◌, ◌≤◌, ◌++◌, [], IfOk};
+ghost use Rattle.std.specs.Thread.{IsSync};
+ghost use Rattle.cg_cells.specs.Table.{passes_of};
+ghost use Rattle.cg_shared.specs.Passes.{IsPassOf};
+ghost use Rattle.cg_pool.specs.Answers.{IsAnswered, IsBrought};
+
+use crate::{Gate, Job};
+use cg_cells::Facts;
+use cg_shared::{Desk, Pass, SharedCells, Ticket};
+use std::alloc::{AllocError, Global};
+use std::thread;
+use std::thread::Threads;
+
+// Answers one line with the pass.
+fn answered<F: Facts, J: Job<F>>(
+    cells: &SharedCells<F>,
+    alloc: Global,
+    job: &J,
+    pass: Pass<F>,
+    index: u64,
+) -> Result<(J::Answer, Pass<F>), AllocError>
+    requires own { IsPassOf cells.now pass }
+    requires index { index < J.count job.now }
+    requires spare { J.needs job.now ≤ pass.sees.spare }
+    ensures { IfOk result (λ r. IsAnswered (J.good job.now) cells.now index pass r.0 r.1) }
+{
+    let mut desk = Desk::new(cells, pass);
+    let answer = job.work(alloc, &mut desk, index)?;
+    Ok((answer, desk.into_pass()))
+}
+
+// Draws lines and answers them until none is left.
+fn worker<F: Facts, J: Job<F>, G: Gate>(
+    cells: &SharedCells<F>,
+    alloc: Global,
+    job: &J,
+    gate: &G,
+    mut pass: Pass<F>,
+) -> Result<(Vec<(u64, J::Answer)>, Pass<F>), AllocError>
+    requires own { IsPassOf cells.now pass }
+    requires new { pass.sees.tickets ≡ [] }
+    requires lines { cells.now.sizes.lines ≤ J.count job.now }
+    requires share { J.needs job.now ≤ cells.now.sizes.share }
+    ensures { IfOk result (λ r. IsBrought (J.good job.now) cells.now (passes_of pass.sees) r.0.items r.1) }
+{
+    let mut answers = Vec::new(alloc);
+    loop {
+        let Some(Ticket(index)) = cells.draw(&mut pass) else {
+            return Ok((answers, pass));
+        };
+        pass.tickets();
+        gate.enter(index);
+        let done = answered::<F, J>(cells, alloc, job, pass, index);
+        gate.leave(index);
+        let (answer, after) = done?;
+        pass = after;
+        answers.push((index, answer))?;
+    }
+}
+
+// Puts the second list of answers behind the first.
+fn both<A: Drop>(
+    mut answers: Vec<(u64, A)>,
+    mut more: Vec<(u64, A)>,
+) -> Result<Vec<(u64, A)>, AllocError>
+    ensures { IfOk result (λ v. v.items ≡ answers.items ++ more.items) }
+{
+    answers.append(&mut more)?;
+    Ok(answers)
+}
+
+/// As many workers as the pass has heirs, and one more. They go by std's join, and their passes meet.
+pub(crate) fn gang<R: Threads + Sync, F: Facts + Sync, J: Job<F>, G: Gate>(
+    rt: &R,
+    cells: &SharedCells<F>,
+    alloc: Global,
+    job: &J,
+    gate: &G,
+    mut pass: Pass<F>,
+    workers: u64,
+) -> Result<(Vec<(u64, J::Answer)>, Pass<F>), AllocError>
+    requires own { IsPassOf cells.now pass }
+    requires new { pass.sees.tickets ≡ [] }
+    requires lines { cells.now.sizes.lines ≤ J.count job.now }
+    requires share { J.needs job.now ≤ cells.now.sizes.share }
+    requires workers { workers ≡ pass.sees.heirs + 1 }
+    ensures { IfOk result (λ r. IsBrought (J.good job.now) cells.now (passes_of pass.sees) r.0.items r.1) }
+{
+    if workers <= 1 {
+        return worker::<F, J, G>(cells, alloc, job, gate, pass);
+    }
+    let other = cells.split(&mut pass, workers - 2);
+    let rest = workers - 1;
+    let (mine, theirs) = thread::join(
+        rt,
+        move ||
+            requires own { IsPassOf cells.now pass }
+            requires new { pass.sees.tickets ≡ [] }
+            requires lines { cells.now.sizes.lines ≤ J.count job.now }
+            requires share { J.needs job.now ≤ cells.now.sizes.share }
+            ensures { IfOk result (λ r. IsBrought (J.good job.entry.now) cells.entry.now (passes_of pass.sees) r.0.items r.1) }
+        { worker::<F, J, G>(cells, alloc, job, gate, pass) },
+        move ||
+            requires own { IsPassOf cells.now other }
+            requires new { other.sees.tickets ≡ [] }
+            requires lines { cells.now.sizes.lines ≤ J.count job.now }
+            requires share { J.needs job.now ≤ cells.now.sizes.share }
+            requires workers { rest ≡ other.sees.heirs + 1 }
+            requires sync { IsSync R.row }
+            ensures { IfOk result (λ r. IsBrought (J.good job.entry.now) cells.entry.now (passes_of other.sees) r.0.items r.1) }
+        { gang::<R, F, J, G>(rt, cells, alloc, job, gate, other, rest) },
+    );
+    let (answers, mut pass) = mine?;
+    let (more, met) = theirs?;
+    cells.meet(&mut pass, met);
+    Ok((both(answers, more)?, pass))
+}

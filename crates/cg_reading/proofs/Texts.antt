@@ -1,0 +1,81 @@
+-- Texts that are pieces of a line: numbers in base ten, one blank, and none.
+use Rattle.std.proofs.Common.{◌≡◌, refl, ap, sym, ℕ, ◌+◌, ◌^◌, ◌%◌, ◌<◌, arith, List, [], ◌∷◌, ◌++◌, length, length-append, Bool, true, false, ◌&&◌}
+use Rattle.std.specs.Prelude.{decimal}
+use Rattle.std.specs.List.{list_all}
+use Rattle.std.proofs.lemmas.Fmt.{decimal_by_steps_wide, decimal_is_IsNumeral_wide, length-decimal-le_wide}
+use Rattle.std.proofs.lemmas.Bool.Decides.{nat_tests}
+use Rattle.cg_reading.specs.Bytes.{has}
+use Rattle.cg_reading.specs.Pieces.{Piece}
+use Rattle.cg_reading.specs.Tokens.{behind_blanks, digit, digits, gap}
+
+-- ---- digits
+
+-- one digit or more
+pub record Digits (ds : List ℕ) : Type 0 where
+  pub within : list_all (has digit) ds ≡ true
+  pub some : 0 < length ds
+
+pub digit_is : (n : ℕ) → n < 10 → has digit (48 + n) ≡ true
+digit_is n l = grind (arith, nat_tests)
+
+pub all_append : (xs ys : List ℕ) → list_all (has digit) xs ≡ true → list_all (has digit) ys ≡ true
+    → list_all (has digit) (xs ++ ys) ≡ true
+all_append [] ys p q = q
+all_append (x ∷ xs) ys p q = by (has digit x) (λ e. all_append xs ys e q) p
+  where
+    by : (b : Bool) → (list_all (has digit) xs ≡ true → list_all (has digit) (xs ++ ys) ≡ true)
+        → (b && list_all (has digit) xs) ≡ true → (b && list_all (has digit) (xs ++ ys)) ≡ true
+    by true f e = f e
+    by false f e = absurd (cc)
+
+pub one_digit : (n : ℕ) → n < 10 → Digits ((48 + n) ∷ [])
+one_digit n l = record { within = ap (λ b. b && true) (digit_is n l); some = omega arith }
+
+pub more_digits : (n : ℕ) (ds : List ℕ) → Digits ds → n < 10 → Digits (ds ++ ((48 + n) ∷ []))
+more_digits n ds d l = record {
+  within = all_append ds ((48 + n) ∷ []) d.within (one_digit n l).within;
+  some = let s = d.some in let e = length-append ds ((48 + n) ∷ []) in omega arith;
+}
+
+pub short : (n : ℕ) → n < 10 ^ 30 → n < 10 ^ 64
+short n l = omega arith
+
+pub decimal_digits : (n : ℕ) → n < 10 ^ 30 → Digits (decimal n)
+decimal_digits n l = decimal_by_steps_wide (λ m ds. Digits ds) one_digit
+    (λ m ds t d. more_digits (m % 10) ds d (omega arith)) n (short n l)
+
+pub digits_are : (i n : ℕ) → n < 10 ^ 30 → digits i n (decimal n)
+digits_are i n l = record {
+  made_of = decimal n;
+  is = record {
+    within = (decimal_digits n l).within;
+    some = (decimal_digits n l).some;
+    few = length-decimal-le_wide 30 n (omega arith) l (short n l);
+    spelled = refl;
+  };
+  same = sym (decimal_is_IsNumeral_wide n (short n l)).1;
+}
+
+-- ---- blanks
+
+-- no blank before the piece
+pub behind_none : {A : Type 0} (R : Piece A) (i : ℕ) (a : A) (text : List ℕ) → R (i + 0) a text → behind_blanks R i a text
+behind_none R i a text m = record {
+  made_of = ([], a);
+  is = record { before = []; behind = text; first = record { within = refl; spelled = refl }; second = m; spelled = refl };
+  same = refl;
+}
+
+-- one space
+pub gap_is : (i : ℕ) → gap i (tt {0}) (32 ∷ [])
+gap_is i = record {
+  made_of = (32, []);
+  is = record {
+    before = 32 ∷ [];
+    behind = [];
+    first = record { within = refl; spelled = refl };
+    second = record { within = refl; spelled = refl };
+    spelled = refl;
+  };
+  same = refl;
+}

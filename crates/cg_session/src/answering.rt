@@ -1,0 +1,134 @@
+//! What a session comes to: its limits, the answers of its lines, and what is written of them.
+ghost use Rattle.std.specs.Prelude.{◌≡◌, ◌≤◌, ℕ, [], IfOk, OnOk, IsErrOf, MatchOption, length, map};
+ghost use Rattle.cg_words.specs.Accepted.{InRange};
+ghost use Rattle.cg_session.specs.Good.{AreAnswered};
+ghost use Rattle.cg_session.specs.Kept.{KeepsAnswers};
+ghost use Rattle.cg_session.specs.Lines.{answered_lines};
+ghost use Rattle.cg_session.specs.Output.{IsOutputOf, IsWritten, written_of};
+ghost use Rattle.cg_session.specs.Output.{Output as Out};
+ghost use Rattle.cg_session.specs.Outputs.{AreReplies, output_of, seen};
+ghost use Rattle.cg_session.specs.Settings.{IsWithinLimits};
+
+use crate::input::MOST_BYTES;
+use crate::job::LineJob;
+use crate::lines::{Line, answered_lines};
+use crate::output::{Output, make_output, summary};
+use cg_eval::Answered;
+use cg_nodes::GameFacts;
+use cg_pool::{Evaluated, Gate, evaluate};
+use cg_values::CgBoards;
+use cg_words::Settings;
+use std::alloc::{AllocError, Global};
+use std::thread::Threads;
+
+/// The answers to the answered lines of a session, in order, the table over which they were made, and a pass of it that
+/// knows the handle of every answer that has one.
+pub type Kept = Evaluated<GameFacts<CgBoards>, Answered>;
+
+/// The most lines of a session that may get an answer.
+const MOST_ANSWERED: usize = 4096;
+
+/// Why a session is not answered.
+#[derive(Clone, Copy, Debug, PartialEq, Eq)]
+pub enum AnsweringFault {
+    /// Memory was wanting.
+    Memory,
+    /// The session is past a limit.
+    TooLong,
+}
+
+/// An output, and what is kept of the session: nothing where no line gets an answer.
+#[derive(Drop)]
+pub struct Answers {
+    pub output: Output,
+    pub kept: Option<Kept>,
+}
+
+/// Answers a whole session, with the output that is to be written. TooLong comes exactly where it is past a limit.
+pub fn answer_session<R: Threads + Sync, G: Gate>(
+    rt: &R,
+    alloc: Global,
+    settings: Settings,
+    text: &[u8],
+    gate: &G,
+) -> Result<Answers, AnsweringFault>
+    requires { InRange settings }
+    ensures within { OnOk result (IsWithinLimits settings text.now) }
+    ensures written { IfOk result (λ a. IsWritten settings (answered_lines text.now) (output_of a.output)) }
+    ensures kept { IfOk result (λ a. MatchOption a.kept (answered_lines text.now ≡ [])
+        (λ k. KeepsAnswers settings (answered_lines text.now) k.answers.items k.cells k.pass)) }
+    ensures too_long { IsErrOf result AnsweringFault.TooLong → ¬ IsWithinLimits settings text.now }
+{
+    if text.len() > MOST_BYTES {
+        return Err(AnsweringFault::TooLong);
+    }
+    let Ok(lines) = answered_lines(alloc, text) else {
+        return Err(AnsweringFault::Memory);
+    };
+    if lines.len() > MOST_ANSWERED || lines.len() as u64 > settings.cells {
+        return Err(AnsweringFault::TooLong);
+    }
+    match answer_lines::<R, G>(rt, alloc, settings, &lines, gate) {
+        Ok(answers) => Ok(answers),
+        Err(AllocError) => Err(AnsweringFault::Memory),
+    }
+}
+
+/// Answers these lines, with what is to be written of them.
+fn answer_lines<R: Threads + Sync, G: Gate>(
+    rt: &R,
+    alloc: Global,
+    settings: Settings,
+    lines: &[Line<'_>],
+    gate: &G,
+) -> Result<Answers, AllocError>
+    requires range { InRange settings }
+    requires answered { AreAnswered (map seen lines.now) }
+    requires cells { length lines.now ≤ settings.cells }
+    ensures written { IfOk result (λ a. IsWritten settings (map seen lines.now) (output_of a.output)) }
+    ensures kept { IfOk result (λ a. MatchOption a.kept (map seen lines.now ≡ [])
+        (λ k. KeepsAnswers settings (map seen lines.now) k.answers.items k.cells k.pass)) }
+{
+    if lines.is_empty() {
+        let output = written(alloc, settings.sample, lines, &[])?;
+        return Ok(Answers { output, kept: None });
+    }
+    let count = lines.len() as u64;
+    let job = LineJob {
+        lines,
+        share: settings.cells / count,
+        positions: settings.positions,
+    };
+    let kept = evaluate::<R, GameFacts<CgBoards>, LineJob<'_>, G>(
+        rt,
+        alloc,
+        count,
+        job.share,
+        settings.workers,
+        &job,
+        gate,
+    )?;
+    let output = written(alloc, settings.sample, lines, &kept.answers)?;
+    Ok(Answers {
+        output,
+        kept: Some(kept),
+    })
+}
+
+/// What is to be written of the lines that have these answers: their output, or its summary where there is a sample.
+fn written(
+    alloc: Global,
+    sample: u64,
+    lines: &[Line<'_>],
+    answers: &[Answered],
+) -> Result<Output, AllocError>
+    requires { length answers.now ≡ length lines.now }
+    ensures { IfOk result (λ w. (share positions : ℕ) → AreReplies share positions (map seen lines.now) answers.now
+        → (out : Out) × IsOutputOf share positions (map seen lines.now) out × (output_of w ≡ written_of sample out)) }
+{
+    let output = make_output(alloc, lines, answers)?;
+    if sample == 0 {
+        return Ok(output);
+    }
+    summary(alloc, sample, &output)
+}

@@ -1,0 +1,4 @@
+pub mod Allowed
+pub mod Starting
+pub mod Telling
+pub mod Ending

@@ -1,0 +1,51 @@
+-- The rule of a table's words, and what each step on them tells.
+use Rattle.std.specs.Prelude.{◌≡◌, ◌≢◌, ◌⊎◌, ℕ, suc, ◌+◌, ◌<◌, Some, IsSome}
+use Rattle.atomic_table.specs.Table.{State, Me, Step}
+use Rattle.cg_shared.specs.declared.view.Plan.{Plan}
+use Rattle.cg_cells.specs.Meaning.{Meaning, Has}
+use Rattle.cg_cells.specs.Views.{Sizes, ViewOf, cells_of, knows, searched, after_draw, after_look, after_read, after_claim, after_pass, after_note}
+use Rattle.cg_cells.specs.Table.{Whole, Sure}
+
+abbrev pub sizes_of : Plan → Sizes
+sizes_of p = record { lines = p.lines; share = p.share; passes = p.passes }
+
+module _ {S X : Type 0} (m : Meaning X) where
+  abbrev pub Kept : Plan → State S (ViewOf X) → Type 0
+  Kept p s = Whole m (sizes_of p) s.words s.views
+
+  abbrev pub Drew : Step S → Me S (ViewOf X) → ℕ → Me S (ViewOf X) → Type 0
+  Drew st me n me' = (me'.1 ≡ me.1) × (me'.0 ≡ after_draw me.0 n) × Sure m me'.0
+
+  -- a load of the counter, which only tells what the rule says of the view
+  abbrev pub Checked : Step S → Me S (ViewOf X) → ℕ → Me S (ViewOf X) → Type 0
+  Checked st me n me' = (me'.1 ≡ me.1) × (me'.0 ≡ me.0) × Sure m me'.0
+
+  -- a load of the key word of the cell id
+  abbrev pub Looked : Step S → Me S (ViewOf X) → ℕ → Me S (ViewOf X) → Type 0
+  Looked st me n me' =
+      (me'.1 ≡ me.1)
+      × ((id : ℕ) (t : X) → st.word ≡ 1 + id → knows me.0 id ≡ Some t
+      → (me'.0 ≡ after_look m me.0 n t) × Sure m me'.0 × (n ≢ 0) × (m.spells n (knows me'.0) ≡ Some t))
+
+  -- a load of the value word of the cell id
+  abbrev pub Read : Step S → Me S (ViewOf X) → ℕ → Me S (ViewOf X) → Type 0
+  Read st me n me' =
+      (me'.1 ≡ me.1)
+      × ((id : ℕ) (t : X) → st.word ≡ 1 + cells_of me.0.sizes + id → knows me.0 id ≡ Some t
+      → (me'.0 ≡ after_read m me.0 id n t) × Sure m me'.0
+      × ((value : ℕ) → n ≡ suc value → IsSome (m.note_of t) × (value < cells_of me.0.sizes))
+      × (n ≡ 0 → ¬ Has me.0.noted id))
+
+  -- an exchange of 0 for a key, which spells t, in the key word of the cell id
+  abbrev pub Claimed : Step S → Me S (ViewOf X) → ℕ → Me S (ViewOf X) → Type 0
+  Claimed st me n me' =
+      (me'.1 ≡ me.1)
+      × ((id : ℕ) (t : X) → st.word ≡ 1 + id → m.spells st.second (knows me.0) ≡ Some t
+      → ((n ≡ 0) ⊎ (n ≡ st.second) → (me'.0 ≡ after_claim me.0 id t) × Sure m me'.0)
+      × (n ≢ 0 → n ≢ st.second → (me'.0 ≡ after_pass me.0 st.second) × (searched me.0.probe + 1 < cells_of me.0.sizes)))
+
+  -- an exchange of 0 for a value in the value word of the cell id
+  abbrev pub Noted : Step S → Me S (ViewOf X) → ℕ → Me S (ViewOf X) → Type 0
+  Noted st me n me' =
+      (me'.1 ≡ me.1)
+      × ((id : ℕ) → st.word ≡ 1 + cells_of me.0.sizes + id → (me'.0 ≡ after_note me.0 id) × Sure m me'.0)

@@ -1,0 +1,103 @@
+// The calls on cells.
+ghost use Rattle.std.specs.Prelude.{◌≡◌, ◌≢◌, ℕ, ◌+◌, ◌<◌, ◌≤◌, ◌∷◌, Some, IfSome, IfNone, IsSome};
+ghost use Rattle.cg_cells.specs.Parts.{names_of};
+ghost use Rattle.cg_cells.specs.Meaning.{Has, note_for};
+ghost use Rattle.cg_cells.specs.Store.{Spends, Known, thing_at};
+ghost use Rattle.cg_cells.specs.Views.{knows, cells_of, after_look, after_claim, after_note};
+ghost use Rattle.cg_shared.specs.Passes.{IsPassOf, pass_state};
+
+use crate::pass::Pass;
+use crate::table::SharedCells;
+use crate::{search, steps};
+use cg_cells::{Facts, Id, Key};
+
+impl<F: Facts> SharedCells<F> {
+    // The number of cells.
+    pub(crate) fn size(&self) -> u64
+        ensures { result ≡ cells_of self.now.sizes }
+    {
+        self.plan.lines * self.plan.share
+    }
+
+    /// The key of a known id, as a store of cells tells it. It is one load.
+    pub fn look(&self, pass: &mut Pass<F>, id: Id) -> Key
+        requires own { IsPassOf self.now pass.old }
+        requires known { Known (pass_state pass.old) id }
+        ensures own { IsPassOf self.now pass.new }
+        ensures view { (t : F.Thing) → knows pass.old.sees id ≡ Some t → pass.new.sees ≡ after_look F.meaning pass.old.sees result t }
+        ensures spells { F.meaning.spells result (thing_at (pass_state pass.new)) ≡ thing_at (pass_state pass.old) id }
+        ensures named { (i : ℕ) → Has (names_of result) i → Known (pass_state pass.new) i }
+        ensures spends { Spends 0 (pass_state pass.old) (pass_state pass.new) }
+    {
+        let word = steps::look::<F>(&self.table.shared, &mut pass.seat, id.number() as usize);
+        let Some(key) = Key::from_word(word) else {
+            unreachable!()
+        };
+        key
+    }
+
+    /// The id of the cell with this key, as a store of cells claims it. Where an id is known already to be what the key
+    /// spells, as after an earlier claim of the key, it is this id. Each turn of the search is one exchange.
+    pub fn claim(&self, pass: &mut Pass<F>, key: Key) -> Id
+        requires own { IsPassOf self.now pass.old }
+        requires spare { 1 ≤ pass.old.sees.spare }
+        requires spells { IsSome (F.meaning.spells key (thing_at (pass_state pass.old))) }
+        ensures own { IsPassOf self.now pass.new }
+        ensures view { (t : F.Thing) → F.meaning.spells key (knows pass.old.sees) ≡ Some t → pass.new.sees ≡ after_claim pass.old.sees result t }
+        ensures stands { thing_at (pass_state pass.new) result ≡ F.meaning.spells key (thing_at (pass_state pass.old)) }
+        ensures again { (known : ℕ) → thing_at (pass_state pass.old) known ≡ F.meaning.spells key (thing_at (pass_state pass.old)) → result ≡ known }
+        ensures spends { Spends 1 (pass_state pass.old) (pass_state pass.new) }
+    {
+        let size = self.size();
+        let cell = search::claim::<F>(&self.table.shared, &mut pass.seat, key.word(), size);
+        pass.spare -= 1;
+        Id::new(cell as u32)
+    }
+
+    /// Notes a value on a cell, as a store of cells does. It is one exchange.
+    pub fn note(&self, pass: &mut Pass<F>, id: Id, value: Id)
+        requires own { IsPassOf self.now pass.old }
+        requires id { Known (pass_state pass.old) id }
+        requires value { Known (pass_state pass.old) value }
+        requires due { thing_at (pass_state pass.old) value ≡ note_for F.meaning (thing_at (pass_state pass.old) id) }
+        ensures own { IsPassOf self.now pass.new }
+        ensures view { pass.new.sees ≡ after_note pass.old.sees id }
+        ensures noted { Has (pass_state pass.new).noted id }
+        ensures spends { Spends 0 (pass_state pass.old) (pass_state pass.new) }
+    {
+        let size = self.size() as usize;
+        steps::note::<F>(
+            &self.table.shared,
+            &mut pass.seat,
+            size,
+            id.number() as usize,
+            value.number() as u64,
+        );
+    }
+
+    /// The value that is noted on a cell, as a store of cells tells it. It is one load. None comes only where this load read
+    /// an empty word, and the id is then one more of the pass's empties.
+    pub fn noted(&self, pass: &mut Pass<F>, id: Id) -> Option<Id>
+        requires own { IsPassOf self.now pass.old }
+        requires known { Known (pass_state pass.old) id }
+        ensures own { IsPassOf self.now pass.new }
+        ensures value { IfSome result (λ value. Known (pass_state pass.new) value
+            × (thing_at (pass_state pass.new) value ≡ note_for F.meaning (thing_at (pass_state pass.old) id))) }
+        ensures some { IfSome result (λ value. Has (pass_state pass.new).noted id) }
+        ensures none { IfNone result (¬ Has (pass_state pass.old).noted id) }
+        ensures empty { IfNone result (pass.new.sees ≡ record pass.old.sees { empties = id ∷ pass.old.sees.empties }) }
+        ensures spends { Spends 0 (pass_state pass.old) (pass_state pass.new) }
+    {
+        let size = self.size() as usize;
+        let word = steps::read::<F>(
+            &self.table.shared,
+            &mut pass.seat,
+            size,
+            id.number() as usize,
+        );
+        if word == 0 {
+            return None;
+        }
+        Some(Id::new((word - 1) as u32))
+    }
+}

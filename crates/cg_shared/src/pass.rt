@@ -1,0 +1,79 @@
+// A pass.
+ghost use Rattle.std.specs.Prelude.{◌≡◌, ℕ, ◌≤◌, ◌^◌, ◌↔◌, IsTrue, if◌then◌else◌, nat_lt, length, true};
+ghost use Rattle.cg_cells.specs.Meaning.{IsInjective, IsReal};
+ghost use Rattle.cg_cells.specs.Store.{Known, thing_at};
+ghost use Rattle.cg_cells.specs.Table.{times, passes_of, HasAllTickets};
+ghost use Rattle.cg_shared.specs.Passes.{PassOf, pass_code, pass_state, IsKeptPass};
+
+use crate::view::View;
+use atomic_table::Seat;
+use cg_cells::{Facts, Id};
+use std::marker::Model;
+
+/// What one caller knows of a table and owns of it. Contracts see which table it is one of, and its view.
+#[derive(Drop)]
+pub struct Pass<F: Facts> {
+    pub(crate) seat: Seat<(), View<F::Thing>>,
+    pub(crate) spare: u64,
+    pub(crate) heirs: u64,
+    pub(crate) over: bool,
+}
+
+impl<F: Facts> Model for Pass<F> {
+    ghost Value = { PassOf F.Thing };
+
+    ghost coded = { pass_code F.Thing.code };
+
+    ghost view = { λ p. record { table = p.seat.table_id; sees = p.seat.me.0 } };
+
+    ghost invariant = { λ p. IsKeptPass F.meaning p.spare p.heirs p.over p.seat.me };
+}
+
+impl<F: Facts> Pass<F> {
+    /// How many claims it has left.
+    pub fn spare(&self) -> u64
+        ensures value { result ≡ self.now.sees.spare }
+        ensures few { result ≤ 2 ^ 26 }
+    {
+        self.spare
+    }
+
+    /// How many further passes may come of it.
+    pub fn heirs(&self) -> u64
+        ensures { result ≡ self.now.sees.heirs }
+    {
+        self.heirs
+    }
+
+    /// Whether two known ids are known to be one thing, as a store of cells tells it.
+    pub fn same(&self, a: Id, b: Id) -> bool
+        requires a { Known (pass_state self.now) a }
+        requires b { Known (pass_state self.now) b }
+        ensures ids { IsTrue result ↔ (a ≡ b) }
+        ensures things { IsTrue result ↔ (thing_at (pass_state self.now) a ≡ thing_at (pass_state self.now) b) }
+        ensures real { IsReal F.meaning (thing_at (pass_state self.now) a) × IsReal F.meaning (thing_at (pass_state self.now) b) }
+    {
+        // Read for the proof alone: what holds of a pass is known where a field is read.
+        let _seat = &self.seat;
+        a.number() == b.number()
+    }
+
+    /// Different known ids are known to be different things. It does nothing, and its contract is the fact.
+    pub fn apart(&self)
+        ensures { IsInjective (thing_at (pass_state self.now)) }
+    {
+        // Read for the proof alone: what holds of a pass is known where a field is read.
+        let _seat = &self.seat;
+    }
+
+    /// No line is twice among the tickets, and where none is left and no other pass is about, all are there. It does nothing,
+    /// and its contract is the fact.
+    pub fn tickets(&self)
+        ensures once { (n : ℕ) → times n self.now.sees.tickets ≤ (if nat_lt n self.now.sees.sizes.lines then 1 else 0) }
+        ensures few { length self.now.sees.tickets ≤ self.now.sees.sizes.lines }
+        ensures all { self.now.sees.over ≡ true → passes_of self.now.sees ≡ self.now.sees.sizes.passes → HasAllTickets self.now.sees }
+    {
+        // Read for the proof alone: what holds of a pass is known where a field is read.
+        let _seat = &self.seat;
+    }
+}

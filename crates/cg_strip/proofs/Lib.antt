@@ -1,0 +1,13 @@
+pub mod Texts
+pub mod Productions
+pub mod SaidItems
+pub mod WholeText
+pub mod Places
+pub mod Broken
+pub mod BrokenRules
+pub mod FaultSteps
+pub mod Rulebooks
+pub mod WholeRules
+pub mod WeightBounds
+pub mod ToadsText
+pub mod BoardLemmas

@@ -1,0 +1,160 @@
+-- How questions are written: each brace with one bar, every other operand in parentheses, and each number with its
+-- denominator.
+use Rattle.std.specs.Prelude.{ℕ, suc, max, ◌≡◌, ◌<◌, Bool, true, false, cond, nat_lt, if◌then◌else◌, ◌^◌, List, [], ◌∷◌, ◌++◌, codes, decimal, replicate}
+use Rattle.std.specs.List.{list_all}
+use Rattle.cg_reading.specs.Bytes.{has}
+use Rattle.cg_syntax.specs.Grammar.{printable}
+use Rattle.cg_syntax.specs.Tree.{Tree, Trees, Terms, Question, number, ups, nimber, switch, tiny, sides, negative, multiple, sum, game, no_trees, with_tree, no_terms, with_term, value, compare, outcome, stops, mean, temp, thermo}
+use Rattle.cg_syntax.specs.declared.kind.GameKind.{GameKind}
+use Rattle.cg_syntax.specs.declared.kind.GameKind.TheVariants.{Domineering, Clobber, Amazons, Toads, Strip}
+
+abbrev pub fraction_text : ℕ → ℕ → List ℕ
+fraction_text num den = decimal num ++ (codes "/" ++ decimal den)
+
+-- an arrow with its count, or as a run where the count has more than thirty digits
+abbrev pub ups_text : ℕ → ℕ → List ℕ
+ups_text arrow n = if nat_lt n (10 ^ 30) then arrow ∷ decimal n else replicate n arrow
+
+abbrev pub quoted : List ℕ → List ℕ
+quoted text = 34 ∷ (text ++ (34 ∷ []))
+
+abbrev pub kind_text : GameKind → List ℕ
+kind_text Domineering = codes "Domineering"
+kind_text Clobber = codes "Clobber"
+kind_text Amazons = codes "Amazons"
+kind_text Toads = codes "Toads"
+kind_text Strip = codes "Strip"
+
+-- the rules of a strip, and what parts them from its row
+abbrev pub rules_text : GameKind → List ℕ → List ℕ
+rules_text Strip rules = quoted rules ++ codes ","
+rules_text _ rules = []
+
+abbrev pub is_braces : Tree → Bool
+is_braces (sides lefts rights) = true
+is_braces _ = false
+
+-- braces stand as they are, and any other operand in parentheses
+abbrev pub enclosed_text : Bool → List ℕ → List ℕ
+enclosed_text true text = text
+enclosed_text false text = 40 ∷ (text ++ (41 ∷ []))
+
+unfoldable mutual
+  pub text_of : Tree → List ℕ
+  text_of (number below num den) = cond below (codes "-") [] ++ fraction_text num den
+  text_of (ups down n) = ups_text (cond down 118 94) n
+  text_of (nimber n) = 42 ∷ decimal n
+  text_of (switch num den) = codes "+-" ++ fraction_text num den
+  text_of (tiny miny num den) = cond miny (codes "Miny(") (codes "Tiny(") ++ (fraction_text num den ++ codes ")")
+  text_of (sides lefts rights) = 123 ∷ (texts_of lefts ++ (codes "| " ++ (texts_of rights ++ (125 ∷ []))))
+  text_of (negative t) = 45 ∷ enclosed_text (is_braces t) (text_of t)
+  text_of (multiple n t) = decimal n ++ (46 ∷ enclosed_text (is_braces t) (text_of t))
+  text_of (sum terms) = terms_text terms
+  text_of (game kind rules board) =
+      kind_text kind ++ (40 ∷ (rules_text kind rules ++ (quoted board ++ (41 ∷ []))))
+
+  -- expressions with commas between them
+  pub texts_of : Trees → List ℕ
+  texts_of no_trees = []
+  texts_of (with_tree t ts) = text_of t ++ more_texts ts
+
+  -- expressions, each behind a comma
+  pub more_texts : Trees → List ℕ
+  more_texts no_trees = []
+  more_texts (with_tree t ts) = 44 ∷ (text_of t ++ more_texts ts)
+
+  -- the terms of a sum, the first one without its sign
+  pub terms_text : Terms → List ℕ
+  terms_text no_terms = []
+  terms_text (with_term minus t ts) = enclosed_text (is_braces t) (text_of t) ++ more_terms ts
+
+  -- terms, each behind its sign
+  pub more_terms : Terms → List ℕ
+  more_terms no_terms = []
+  more_terms (with_term minus t ts) = cond minus 45 43 ∷ (enclosed_text (is_braces t) (text_of t) ++ more_terms ts)
+
+abbrev pub asked_text : Question → List ℕ
+asked_text (value t) = codes "value " ++ text_of t
+asked_text (outcome t) = codes "outcome " ++ text_of t
+asked_text (stops t) = codes "stops " ++ text_of t
+asked_text (mean t) = codes "mean " ++ text_of t
+asked_text (temp t) = codes "temp " ++ text_of t
+asked_text (thermo t) = codes "thermo " ++ text_of t
+asked_text (compare s t) = codes "compare " ++ (text_of s ++ (codes ";" ++ text_of t))
+
+-- ---- what can be written
+
+abbrev mutual
+  -- the most nodes on one path of the tree
+  pub height : Tree → ℕ
+  height (sides lefts rights) = suc (max (heights lefts) (heights rights))
+  height (negative t) = suc (height t)
+  height (multiple n t) = suc (height t)
+  height (sum terms) = suc (term_heights terms)
+  height _ = 1
+
+  pub heights : Trees → ℕ
+  heights no_trees = 0
+  heights (with_tree t ts) = max (height t) (heights ts)
+
+  pub term_heights : Terms → ℕ
+  term_heights no_terms = 0
+  term_heights (with_term minus t ts) = max (height t) (term_heights ts)
+
+  -- the same of what stands between the brackets that the tree itself opens
+  pub inner_height : Tree → ℕ
+  inner_height (sides lefts rights) = suc (max (heights lefts) (heights rights))
+  inner_height (negative t) = height t
+  inner_height (multiple n t) = height t
+  inner_height (sum terms) = term_heights terms
+  inner_height _ = 0
+
+abbrev pub IsPrintable : List ℕ → Type 0
+IsPrintable text = list_all (has printable) text ≡ true
+
+-- Strip alone has rules
+abbrev pub AreRules : GameKind → List ℕ → Type 0
+AreRules Strip rules = IsPrintable rules
+AreRules _ rules = rules ≡ []
+
+-- each run of digits has thirty of them at most, each sum two terms, the first of which isn't subtracted, and each text
+-- of a board may stand between quotation marks
+abbrev mutual
+  pub IsWritable : Tree → Type 0
+  IsWritable (number below num den) = (num < 10 ^ 30) × (den < 10 ^ 30)
+  IsWritable (ups down n) = Unit {0}
+  IsWritable (nimber n) = n < 10 ^ 30
+  IsWritable (switch num den) = (num < 10 ^ 30) × (den < 10 ^ 30)
+  IsWritable (tiny miny num den) = (num < 10 ^ 30) × (den < 10 ^ 30)
+  IsWritable (sides lefts rights) = AreWritable lefts × AreWritable rights
+  IsWritable (negative t) = IsWritable t
+  IsWritable (multiple n t) = (n < 10 ^ 30) × IsWritable t
+  IsWritable (sum terms) = IsSum terms
+  IsWritable (game kind rules board) = AreRules kind rules × IsPrintable board
+
+  pub AreWritable : Trees → Type 0
+  AreWritable no_trees = Unit {0}
+  AreWritable (with_tree t ts) = IsWritable t × AreWritable ts
+
+  pub IsSum : Terms → Type 0
+  IsSum no_terms = ⊥
+  IsSum (with_term minus t ts) = (minus ≡ false) × IsWritable t × AreFurther ts
+
+  -- one term at least
+  pub AreFurther : Terms → Type 0
+  AreFurther no_terms = ⊥
+  AreFurther (with_term minus t ts) = IsWritable t × AreTerms ts
+
+  pub AreTerms : Terms → Type 0
+  AreTerms no_terms = Unit {0}
+  AreTerms (with_term minus t ts) = IsWritable t × AreTerms ts
+
+-- each tree of the question
+abbrev pub QuestionIs : (Tree → Type 0) → Question → Type 0
+QuestionIs P (value t) = P t
+QuestionIs P (outcome t) = P t
+QuestionIs P (stops t) = P t
+QuestionIs P (mean t) = P t
+QuestionIs P (temp t) = P t
+QuestionIs P (thermo t) = P t
+QuestionIs P (compare s t) = P s × P t

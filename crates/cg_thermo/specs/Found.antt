@@ -1,0 +1,33 @@
+-- What was found so far, by ids.
+use Rattle.std.specs.Prelude.{◌≡◌, ◌⊎◌, ℕ, Option, Some, None, nat_eq, Bool, cond, List, ℤ, pos, neg_ℤ, ◌≤ℤ◌, IsSome}
+use Rattle.std.specs.HashMap.{get}
+use Rattle.cg_cells.specs.Meaning.{Has}
+use Rattle.cg_lines.specs.declared.TheConstants.{BOUND}
+use Rattle.cg_lines.specs.declared.rise.Rise.{Rise}
+use Rattle.cg_lines.specs.Rises.{IsWall, value_at}
+use Rattle.cg_thermo.specs.declared.chart.Chart.{Chart}
+use Rattle.cg_thermo.specs.declared.charts.Charts.{Charts}
+
+-- the chart for an id
+abbrev pub charted : Charts → ℕ → Option Chart
+charted m a = get nat_eq m.by_id a
+
+-- the value of the right wall, or the negative of that of the left wall, in the chart that was found
+abbrev pub side_in : Bool → Option Chart → ℕ → ℤ
+side_in right None t = pos 0
+side_in right (Some c) t = cond right (value_at c.right t) (value_at c.left t)
+
+-- the charts that were found are of walls
+pub record AreWalls (m : Charts) : Type 0 where
+  pub left : (h : ℕ) (c : Chart) → charted m h ≡ Some c → IsWall c.left
+  pub right : (h : ℕ) (c : Chart) → charted m h ≡ Some c → IsWall c.right
+
+-- all handles of the list have charts
+pub record AllFound (m : Charts) (hs : List ℕ) : Type 0 where
+  pub each : (h : ℕ) → Has hs h → IsSome (charted m h)
+
+-- r is the greatest of the sides of the list, and the lower bound where there is none
+pub record TopOf (m : Charts) (right : Bool) (hs : List ℕ) (r : Rise) : Type 0 where
+  pub wall : IsWall r
+  pub above : (h t : ℕ) → Has hs h → side_in right (charted m h) t ≤ℤ value_at r t
+  pub attained : (t : ℕ) → (value_at r t ≡ neg_ℤ BOUND) ⊎ ((h : ℕ) × Has hs h × (value_at r t ≡ side_in right (charted m h) t))

@@ -1,0 +1,12 @@
+pub mod Thermal
+pub mod Pictures
+pub mod Draws
+pub mod Found
+pub mod Joins
+pub mod Smooths
+pub mod Progress
+pub mod Signed
+pub mod Thermographs
+pub mod Winners
+pub mod Ended
+pub mod WallLine

@@ -1,0 +1,6 @@
+pub mod MapLemmas
+pub mod WrittenLemmas
+pub mod PlaceLemmas
+pub mod ItemSteps
+pub mod ValueSteps
+pub mod FormLemmas

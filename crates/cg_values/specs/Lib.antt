@@ -1,0 +1,5 @@
+pub mod Items
+pub mod Notes
+pub mod Values
+pub mod Chunks
+pub mod Forms

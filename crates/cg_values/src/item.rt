@@ -1,0 +1,165 @@
+//! The item of the value of a board.
+ghost use Rattle.std.specs.Prelude.{◌≡◌, ℕ, ◌+◌, ◌≤◌, true, IfOk, OnOk, IsSome, [], ◌∷◌, Some, length};
+ghost use Rattle.cg_canon.specs.Works.{work_state};
+ghost use Rattle.cg_nodes.specs.Boards.{AreWritten};
+ghost use Rattle.cg_cells.specs.Meaning.{note_for};
+ghost use Rattle.cg_cells.specs.Store.{Known, Spends, thing_at};
+ghost use Rattle.cg_nodes.specs.Games.{StandsFor};
+ghost use Rattle.cg_nodes.specs.Meant.{form};
+ghost use Rattle.cg_nodes.specs.Spelled.{can, game_meaning};
+ghost use Rattle.cg_moves.specs.Grid.{Grid, IsLike};
+ghost use Rattle.cg_moves.specs.Raw.{raw};
+ghost use Rattle.cg_moves.specs.Rules.{followers};
+ghost use Rattle.cg_values.specs.Items.{value_item};
+ghost use Rattle.cg_canon.specs.Made.{ItemsMade};
+ghost use Rattle.cg_values.specs.Notes.{IsNumbered, MayNote, places};
+ghost use Rattle.cg_values.specs.Values.{AreFound, HoldValues};
+
+use crate::cells::board_cell;
+use crate::contents::contents_of;
+use crate::values::{Values, values_of};
+use cg_canon::{ValueFault, Work, canonical, item_of};
+use cg_cells::{CellStore, Id};
+use cg_moves::{Board, Player, Rules};
+use cg_nodes::{BoardForms, GameFacts, Handle};
+use std::alloc::Global;
+
+/// Makes the item of the value of the board from the values of the boards that its moves lead to.
+fn made_item<B: BoardForms, S: CellStore<GameFacts<B>>, R: Rules>(
+    alloc: Global,
+    work: &mut Work<B, S>,
+    rules: &R,
+    board: &Board,
+    values: &Values,
+) -> Result<Handle, ValueFault>
+    requires has { (R.game rules.now).has board.now ≡ true }
+    requires holds { HoldValues (work_state S.state work.old) (R.game rules.now) board.now values.now }
+    requires found { AreFound values.now (followers (R.game rules.now) board.now) }
+    ensures game { IfOk result (λ h. StandsFor (work_state S.state work.new) h (can (raw (R.game rules.now) board.now))) }
+    ensures made { ItemsMade (work_state S.state work.old) (work_state S.state work.new) (value_item (R.game rules.now) board.now ∷ []) result }
+    ensures spare { OnOk result ((work_state S.state work.old).spare + 8 ≤ (work_state S.state work.new).spare) }
+    ensures more { (work_state S.state work.old).spare ≤ (work_state S.state work.new).spare }
+{
+    let left_boards = rules.moves(alloc, board, Player::Left)?;
+    let right_boards = rules.moves(alloc, board, Player::Right)?;
+    let lefts = values_of(alloc, values, left_boards.as_slice())?;
+    let rights = values_of(alloc, values, right_boards.as_slice())?;
+    canonical(alloc, work, &lefts, &rights, 8)
+}
+
+/// Makes the item of the value of the board, which is noted on the cell.
+fn noted_item<B: BoardForms, S: CellStore<GameFacts<B>>, R: Rules>(
+    alloc: Global,
+    work: &mut Work<B, S>,
+    rules: &R,
+    board: &Board,
+    values: &Values,
+    cell: Id,
+) -> Result<Handle, ValueFault>
+    requires has { (R.game rules.now).has board.now ≡ true }
+    requires holds { HoldValues (work_state S.state work.old) (R.game rules.now) board.now values.now }
+    requires found { AreFound values.now (followers (R.game rules.now) board.now) }
+    requires known { Known (work_state S.state work.old) cell }
+    requires due { note_for (game_meaning B.form) (thing_at (work_state S.state work.old) cell)
+        ≡ Some (form (can (raw (R.game rules.now) board.now))) }
+    ensures game { IfOk result (λ h. StandsFor (work_state S.state work.new) h (can (raw (R.game rules.now) board.now))) }
+    ensures made { ItemsMade (work_state S.state work.old) (work_state S.state work.new) (value_item (R.game rules.now) board.now ∷ []) result }
+    ensures more { (work_state S.state work.old).spare ≤ (work_state S.state work.new).spare }
+{
+    match work.noted(cell) {
+        Some(noted) => {
+            let value = Handle::of(noted);
+            item_of(alloc, work, value, 8)?;
+            Ok(value)
+        }
+        None => {
+            let value = made_item(alloc, work, rules, board, values)?;
+            work.note(cell, value.id());
+            Ok(value)
+        }
+    }
+}
+
+/// The cell on which the value of the board is noted. It spends a claim more than there are contents.
+fn cell_of<B: BoardForms, S: CellStore<GameFacts<B>>, R: Rules>(
+    work: &mut Work<B, S>,
+    rules: &R,
+    board: &Board,
+    contents: &[u32],
+) -> Id
+    requires has { (R.game rules.now).has board.now ≡ true }
+    requires numbered { IsNumbered B.form (R.game rules.now) }
+    requires written { AreWritten (places board.now.symbols board.now.cells) contents.now }
+    requires spare { length contents.now + 1 ≤ (work_state S.state work.old).spare }
+    ensures known { Known (work_state S.state work.new) result }
+    ensures due { note_for (game_meaning B.form) (thing_at (work_state S.state work.new) result)
+        ≡ Some (form (can (raw (R.game rules.now) board.now))) }
+    ensures spends { Spends (length contents.now + 1) (work_state S.state work.old) (work_state S.state work.new) }
+{
+    // Read for the proof alone: the board has its cells in rows and columns.
+    let _size = board.size();
+    board_cell(
+        work,
+        rules.number(),
+        board.rows(),
+        board.columns(),
+        contents,
+    )
+}
+
+/// Makes the item of the value of the board of a numbered game. The value is looked for in the notes where the own spare
+/// covers the claims that this takes, above what it was at the start; the value is noted then or after its item was charged.
+fn numbered_item<B: BoardForms, S: CellStore<GameFacts<B>>, R: Rules>(
+    alloc: Global,
+    work: &mut Work<B, S>,
+    rules: &R,
+    board: &Board,
+    values: &Values,
+    start: u64,
+) -> Result<Handle, ValueFault>
+    requires has { (R.game rules.now).has board.now ≡ true }
+    requires numbered { IsNumbered B.form (R.game rules.now) }
+    requires holds { HoldValues (work_state S.state work.old) (R.game rules.now) board.now values.now }
+    requires found { AreFound values.now (followers (R.game rules.now) board.now) }
+    requires spare { start ≤ (work_state S.state work.old).spare }
+    ensures game { IfOk result (λ h. StandsFor (work_state S.state work.new) h (can (raw (R.game rules.now) board.now))) }
+    ensures made { ItemsMade (work_state S.state work.old) (work_state S.state work.new) (value_item (R.game rules.now) board.now ∷ []) result }
+    ensures spare { start ≤ (work_state S.state work.new).spare }
+{
+    // Read for the proof alone: the board's row of symbols is that of its game.
+    let _size = board.size();
+    let contents = contents_of(alloc, board)?;
+    let claims = contents.len() as u64 + 1;
+    if work.spare() >= start + claims {
+        let cell = cell_of(work, rules, board, &contents);
+        return noted_item(alloc, work, rules, board, values, cell);
+    }
+    let value = made_item(alloc, work, rules, board, values)?;
+    let cell = cell_of(work, rules, board, &contents);
+    work.note(cell, value.id());
+    Ok(value)
+}
+
+/// Makes the item of the value of the board, where those of the boards that its moves lead to were made before.
+pub(crate) fn board_item<B: BoardForms, S: CellStore<GameFacts<B>>, R: Rules>(
+    alloc: Global,
+    work: &mut Work<B, S>,
+    rules: &R,
+    board: &Board,
+    values: &Values,
+    start: u64,
+) -> Result<Handle, ValueFault>
+    requires has { (R.game rules.now).has board.now ≡ true }
+    requires notes { MayNote B.form (R.game rules.now) }
+    requires holds { HoldValues (work_state S.state work.old) (R.game rules.now) board.now values.now }
+    requires found { AreFound values.now (followers (R.game rules.now) board.now) }
+    requires spare { start ≤ (work_state S.state work.old).spare }
+    ensures game { IfOk result (λ h. StandsFor (work_state S.state work.new) h (can (raw (R.game rules.now) board.now))) }
+    ensures made { ItemsMade (work_state S.state work.old) (work_state S.state work.new) (value_item (R.game rules.now) board.now ∷ []) result }
+    ensures spare { start ≤ (work_state S.state work.new).spare }
+{
+    if rules.number() == 0 {
+        return made_item(alloc, work, rules, board, values);
+    }
+    numbered_item(alloc, work, rules, board, values, start)
+}
