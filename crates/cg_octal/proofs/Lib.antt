@@ -1,0 +1,10 @@
+pub mod Xor
+pub mod Nimbers
+pub mod NimberSums
+pub mod HeapRule
+pub mod OptionLists
+pub mod Adding
+pub mod HeapValues
+pub mod Searching
+pub mod Marks
+pub mod Places

@@ -1,0 +1,37 @@
+//! The values of the heaps of an octal game.
+ghost use Rattle.std.specs.Prelude.{◌≡◌, ◌+◌, ◌≤◌, IfOk, length};
+ghost use Rattle.cg_form.specs.Order.{Equal};
+ghost use Rattle.cg_names.specs.Named.{nimber_form};
+ghost use Rattle.cg_octal.specs.Heaps.{AreValues, heap};
+
+use crate::list::Values;
+use crate::missing::least_missing;
+use crate::octal::Octal;
+use crate::options::with_options;
+use std::alloc::{AllocError, Global};
+
+/// The value of the heap that has as many tokens as there are values of lesser heaps.
+fn next_value(alloc: Global, digits: &[u8], values: &[u64]) -> Result<u64, AllocError>
+    requires { AreValues digits.now values.now }
+    ensures value { IfOk result (λ k. Equal (heap digits.now (length values.now)) (nimber_form k)) }
+    ensures within { IfOk result (λ k. k ≤ length values.now) }
+{
+    let found = with_options(digits, values, digits, values.len(), Vec::new(alloc))?;
+    least_missing(alloc, &found)
+}
+
+/// The values of the heaps from 0 tokens up to that of the game: the n-th is the k with `heap n = *k`. The only error is
+/// want of memory. It takes memory for as many numbers as the heap has tokens, a few times over, and the time of their
+/// square. (Siegel, Combinatorial Game Theory (2013), IV.2.)
+pub fn values(alloc: Global, octal: &Octal) -> Result<Values, AllocError>
+    ensures count { IfOk result (λ all. length all ≡ octal.now.heap + 1) }
+    ensures values { IfOk result (λ all. AreValues octal.now.digits all) }
+{
+    let digits = octal.digits();
+    let mut items = Vec::new(alloc);
+    for _ in 0..octal.heap() + 1 {
+        let value = next_value(alloc, digits, &items)?;
+        items.push(value)?;
+    }
+    Ok(Values::of(items))
+}
