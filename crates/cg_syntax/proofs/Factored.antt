@@ -2,15 +2,15 @@
 -- stands before them.
 use Rattle.std.specs.Prelude.{ℕ, zero, suc, Bool, true, false, List, [], ◌∷◌, length, codes}
 use Rattle.cg_reading.specs.Pieces.{Piece, Then, Or, Many, Made, Nothing, One, Bytes, Word, Longest}
-use Rattle.cg_reading.specs.Tokens.{only, blanks, gap, digits}
-use Rattle.cg_syntax.specs.Tree.{Tree, Question, tiny, game, value, outcome, stops, mean, temp, thermo}
+use Rattle.cg_reading.specs.Tokens.{only, blanks, gap, with_blanks, digits}
+use Rattle.cg_syntax.specs.Tree.{Tree, Question, tiny, octal, value, compare, outcome, stops, mean, temp, thermo, proof}
 use Rattle.cg_syntax.specs.Found.{Found, Asked}
-use Rattle.cg_syntax.specs.Values.{Arrows, counted_of, with_tail, clean, negated, sum_of, asked_of, compared}
-use Rattle.cg_syntax.specs.Grammar.{number, string, nim, enclosed, switch_piece, two_strings, optional, tail, ups_and_nim, primary, special_tail, Some_rows}
+use Rattle.cg_syntax.specs.Values.{Arrows, counted_of, with_tail, clean, negated, sum_of, one_text, two_texts, asked_of, asked_of_both, checked}
+use Rattle.cg_syntax.specs.Grammar.{number, string, nim, enclosed, switch_piece, string_and, optional, tail, ups_and_nim, primary, special_tail, Some_rows}
 use Rattle.cg_syntax.specs.Grammar as g
 use Rattle.cg_syntax.specs.Reading.{Behind, Over, Times, counted_from, behind_goes_on}
 use Rattle.cg_syntax.specs.declared.kind.GameKind.{GameKind}
-use Rattle.cg_syntax.specs.declared.kind.GameKind.TheVariants.{Domineering, Clobber, Amazons, Toads, Strip}
+use Rattle.cg_syntax.specs.declared.kind.GameKind.TheVariants.{Domineering, Clobber, Amazons, Toads, Strip, Hackenbush, Col, Snort}
 
 -- what follows the first arrow: a count, or more arrows
 abbrev pub count : ℕ → Piece (ℕ × Bool)
@@ -25,25 +25,34 @@ ups = Or (arrows false 94) (arrows true 118)
 abbrev pub this_word : List ℕ → Piece (Unit {0})
 this_word word = Word word (tt {0})
 
--- ---- switches, tiny and boards
+-- ---- switches, tiny, boards and octal games
 
 abbrev pub tiny_of : List ℕ → Bool → Piece Found
 tiny_of word miny = Made (λ v. clean (tiny miny v.1.0 v.1.1)) (Then (this_word word) (enclosed number))
 
-abbrev pub grid_of : List ℕ → GameKind → Piece Found
-grid_of word kind = Made (λ v. clean (game kind [] v.1)) (Then (this_word word) (enclosed string))
+-- a board by its one text, or by its two
+abbrev pub one_of : List ℕ → GameKind → Piece Found
+one_of word kind = Made (λ v. clean (one_text kind v.1.1)) (Then (this_word word) (Then blanks (enclosed string)))
 
-abbrev pub strip : Piece Found
-strip = Made (λ v. clean (game Strip v.1.0 v.1.1)) (Then (this_word (codes "Strip")) (enclosed two_strings))
+abbrev pub two_of : List ℕ → GameKind → Piece Found
+two_of word kind = Made (λ v. clean (two_texts kind v.1.1.0 v.1.1.1)) (Then (this_word word) (Then blanks (enclosed (string_and string))))
 
 abbrev pub tiny_or_toads : Piece Found
-tiny_or_toads = Made (λ v. v.1) (Then (One (only 84)) (Or (tiny_of (codes "iny") false) (grid_of (codes "oads") Toads)))
+tiny_or_toads = Made (λ v. v.1) (Then (One (only 84)) (Or (tiny_of (codes "iny") false) (one_of (codes "oads") Toads)))
+
+abbrev pub clobber_or_col : Piece Found
+clobber_or_col = Made (λ v. v.1) (Then (One (only 67)) (Or (one_of (codes "lobber") Clobber) (two_of (codes "ol") Col)))
+
+abbrev pub strip_or_snort : Piece Found
+strip_or_snort = Made (λ v. v.1) (Then (One (only 83)) (Or (two_of (codes "trip") Strip) (two_of (codes "nort") Snort)))
 
 abbrev pub named_board : Piece Found
-named_board = Or (grid_of (codes "Domineering") Domineering) (Or (grid_of (codes "Clobber") Clobber) (Or (grid_of (codes "Amazons") Amazons) strip))
+named_board =
+    Or (one_of (codes "Domineering") Domineering) (Or (one_of (codes "Hackenbush") Hackenbush) (Or (one_of (codes "Amazons") Amazons)
+    (Or clobber_or_col strip_or_snort)))
 
 abbrev pub plain_special : Piece Found
-plain_special = Or switch_piece (Or (tiny_of (codes "Miny") true) (Or tiny_or_toads named_board))
+plain_special = Or switch_piece (Or (tiny_of (codes "Miny") true) (Or tiny_or_toads (Or g.octal_piece named_board)))
 
 -- ---- terms and sums, over what a special may be
 
@@ -126,8 +135,23 @@ asking = Or (one_word value (codes "value")) (Or (one_word outcome (codes "outco
 abbrev pub measure : Piece Asked
 measure = Made (λ v. asked_of v.0 v.1.1) (Then asking (Then gap (expr 64)))
 
-abbrev pub compare : Piece Asked
-compare = Made (λ v. compared v.1.1.0 v.1.1.1.1.1) (Then (this_word (codes "compare")) (Then gap (Then (expr 64) (Then (One (only 59)) (Then blanks (expr 64))))))
+abbrev pub with_semicolon : {A B : Type 0} → Piece A → Piece B → Piece (A × B)
+with_semicolon R S = Made (λ v. (v.0, v.1.1.1)) (Then R (Then (One (only 59)) (Then blanks S)))
+
+abbrev pub both : Piece (Found × Found)
+both = with_semicolon (expr 64) (expr 64)
+
+abbrev pub both_asked : List ℕ → (Tree → Tree → Question) → Piece Asked
+both_asked word ask = Made (λ v. asked_of_both ask v.1.1.0 v.1.1.1) (Then (this_word word) (Then gap both))
+
+abbrev pub check : List ℕ → Piece Asked
+check word = Made (λ v. checked v.1.1.0.0 v.1.1.0.1 v.1.1.1) (Then (this_word word) (Then gap (with_semicolon both (with_blanks string))))
+
+abbrev pub compare_or_check : Piece Asked
+compare_or_check = Made (λ v. v.1) (Then (One (only 99)) (Or (both_asked (codes "ompare") compare) (check (codes "heck"))))
+
+abbrev pub question : Piece Asked
+question = Or measure (Or (both_asked (codes "proof") proof) compare_or_check)
 
 abbrev pub line : Piece Asked
-line = Made (λ v. v.1) (Then blanks (Or measure compare))
+line = Made (λ v. v.1) (Then blanks question)

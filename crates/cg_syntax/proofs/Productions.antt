@@ -4,7 +4,7 @@ use Rattle.std.specs.Prelude.{codes}
 use Rattle.cg_reading.specs.Bytes.{Class, Begins}
 use Rattle.cg_reading.specs.Pieces.{Piece, Then, Or, Many, Made, Nothing, One, Bytes}
 use Rattle.cg_reading.specs.Readers.{Reader, then_at, made_at}
-use Rattle.cg_reading.specs.Tokens.{only, blank, digit, digits, blanks, gap}
+use Rattle.cg_reading.specs.Tokens.{only, blank, digit, digits, blanks, gap, with_blanks}
 use Rattle.cg_reading.specs.TokenReaders as t
 use Rattle.cg_reading.proofs.Sets.{apart, inside}
 use Rattle.cg_reading.proofs.Laws.{Lawful, Reads, same_ok, Some_text}
@@ -14,15 +14,15 @@ use Rattle.cg_reading.proofs.Longest.{Token, plain_token, token_ok, made_full, o
 use Rattle.cg_reading.proofs.Rules.{then_ok, or_ok, made_ok, many_ok, wide_ok, then_text, made_text, left_text, right_text}
 use Rattle.cg_reading.proofs.Same.{same_token}
 use Rattle.cg_reading.proofs.TokenLaws.{digits_ok, digits_text, byte_ok, byte_text, gap_ok, gap_text, this_word_ok}
-use Rattle.cg_syntax.specs.Tree.{Tree, Question, nimber, switch, tiny, game, value, outcome, stops, mean, temp, thermo}
+use Rattle.cg_syntax.specs.Tree.{Tree, Question, nimber, switch, tiny, octal, value, compare, outcome, stops, mean, temp, thermo, proof}
 use Rattle.cg_syntax.specs.Found.{Found}
-use Rattle.cg_syntax.specs.Values.{Arrows, ups_tree, more_arrows, goes_on, counted_of, with_tail, clean, negated, sum_of, run_side, braces_of, asked_of, compared}
+use Rattle.cg_syntax.specs.Values.{Arrows, ups_tree, more_arrows, goes_on, counted_of, with_tail, clean, negated, sum_of, run_side, braces_of, one_text, two_texts, asked_of, asked_of_both, checked}
 use Rattle.cg_syntax.specs.Grammar as s
 use Rattle.cg_syntax.specs.Grammar.{printable, bar}
 use Rattle.cg_syntax.specs.Reading as r
 use Rattle.cg_syntax.specs.Reading.{arrow, star, plain_begin, special_begin, uncounted_begin, unsigned_begin, term_begin, plus_minus, asking_begin, Behind, Over, Times, counted_from, behind_goes_on}
 use Rattle.cg_syntax.specs.declared.kind.GameKind.{GameKind}
-use Rattle.cg_syntax.specs.declared.kind.GameKind.TheVariants.{Domineering, Clobber, Amazons, Toads, Strip}
+use Rattle.cg_syntax.specs.declared.kind.GameKind.TheVariants.{Domineering, Clobber, Amazons, Toads, Strip, Hackenbush, Col, Snort}
 use Rattle.cg_syntax.proofs.Factored as g
 use Rattle.cg_syntax.proofs.Rows.{some_rows_ok, some_rows_text, row_reads}
 use Rattle.cg_syntax.proofs.Lists.{item_list_is, row_list_is}
@@ -157,18 +157,33 @@ string_ok = made_ok (λ v. v.1.0) (then_ok (byte_ok 34 refl) (then_ok (bytes_law
 string_text : (j : ℕ) → Some_text s.string j
 string_text j = made_text (λ v. v.1.0) j (then_text {S = Then (Bytes printable) (One (only 34))} j (byte_text 34 refl j) (λ k. then_text {S = One (only 34)} k (no_text printable k) (byte_text 34 refl)))
 
-two_strings_ok : Lawful s.two_strings r.two_strings_at (only 34) false []
-unfolding r.two_strings_at
-two_strings_ok = made_ok (λ v. (v.0, v.1.1.1.1))
-    (then_ok string_ok (then_ok (bytes_lawful blank) (then_ok (byte_ok 44 refl) (then_ok (bytes_lawful blank) string_ok string_text refl) (λ j. then_text {S = s.string} j (no_text blank j) string_text) refl) second_text refl)
-    (λ j. then_text {S = Then (One (only 44)) (Then blanks s.string)} j (no_text blank j) second_text) refl)
-  where
-    second_text : (j : ℕ) → Some_text (Then (One (only 44)) (Then blanks s.string)) j
-    second_text j = then_text {S = Then blanks s.string} j (byte_text 44 refl j) (λ k. then_text {S = s.string} k (no_text blank k) string_text)
+-- a string, and a piece behind a comma
+module _ {A : Type 0} (R : Piece A) (f : Reader A) (I F : Class) (w : (j : ℕ) → Some_text R j) where
+  comma_text : (j : ℕ) → Some_text (Then (One (only 44)) (Then blanks R)) j
+  comma_text j = then_text {S = Then blanks R} j (byte_text 44 refl j) (λ k. then_text {S = R} k (no_text blank k) w)
 
-two_strings_text : (j : ℕ) → Some_text s.two_strings j
-two_strings_text j = made_text (λ v. (v.0, v.1.1.1.1)) j (then_text {S = Then blanks (Then (One (only 44)) (Then blanks s.string))} j (string_text j)
-    (λ k. then_text {S = Then (One (only 44)) (Then blanks s.string)} k (no_text blank k) (λ l. then_text {S = Then blanks s.string} l (byte_text 44 refl l) (λ m. then_text {S = s.string} m (no_text blank m) string_text))))
+  string_and_ok : Lawful R f I false F → apart I blank ≡ true → apart (blank ++ I) [] ≡ true → Lawful (s.string_and R) (made_at (λ v. (v.0, v.1.1.1.1)) (then_at r.string_at (then_at t.blanks_at (then_at (t.byte_at 44) (then_at t.blanks_at f))))) (only 34) false F
+  string_and_ok lf a b = made_ok (λ v. (v.0, v.1.1.1.1))
+      (then_ok string_ok (then_ok (bytes_lawful blank) (then_ok (byte_ok 44 refl) (then_ok (bytes_lawful blank) lf w a) (λ j. then_text {S = R} j (no_text blank j) w) b) comma_text refl)
+      (λ j. then_text {S = Then (One (only 44)) (Then blanks R)} j (no_text blank j) comma_text) refl)
+
+  string_and_text : (j : ℕ) → Some_text (s.string_and R) j
+  string_and_text j = made_text (λ v. (v.0, v.1.1.1.1)) j (then_text {S = Then blanks (Then (One (only 44)) (Then blanks R))} j (string_text j)
+      (λ k. then_text {S = Then (One (only 44)) (Then blanks R)} k (no_text blank k) comma_text))
+
+two_strings_ok : Lawful (s.string_and s.string) r.two_strings_at (only 34) false []
+unfolding r.two_strings_at
+two_strings_ok = string_and_ok s.string r.string_at (only 34) [] string_text string_ok refl refl
+
+two_strings_text : (j : ℕ) → Some_text (s.string_and s.string) j
+two_strings_text = string_and_text s.string r.string_at (only 34) [] string_text
+
+string_and_digits_ok : Lawful (s.string_and digits) r.string_and_digits_at (only 34) false digit
+unfolding r.string_and_digits_at
+string_and_digits_ok = string_and_ok digits t.digits_at digit digit digits_text digits_ok refl refl
+
+string_and_digits_text : (j : ℕ) → Some_text (s.string_and digits) j
+string_and_digits_text = string_and_text digits t.digits_at digit digit digits_text
 
 module _ {A : Type 0} (R : Piece A) (f : Reader A) (I F : Class) (w : (j : ℕ) → Some_text R j) where
   closed_text : (j : ℕ) → Some_text (Then blanks (One (only 41))) j
@@ -192,9 +207,13 @@ enclosed_string_ok : Lawful (s.enclosed s.string) r.enclosed_string_at (only 40)
 unfolding r.enclosed_string_at
 enclosed_string_ok = enclosed_ok s.string r.string_at (only 34) [] string_text string_ok refl refl refl
 
-enclosed_strings_ok : Lawful (s.enclosed s.two_strings) r.enclosed_strings_at (only 40) false []
+enclosed_strings_ok : Lawful (s.enclosed (s.string_and s.string)) r.enclosed_strings_at (only 40) false []
 unfolding r.enclosed_strings_at
-enclosed_strings_ok = enclosed_ok s.two_strings r.two_strings_at (only 34) [] two_strings_text two_strings_ok refl refl refl
+enclosed_strings_ok = enclosed_ok (s.string_and s.string) r.two_strings_at (only 34) [] two_strings_text two_strings_ok refl refl refl
+
+enclosed_octal_ok : Lawful (s.enclosed (s.string_and digits)) r.enclosed_octal_at (only 40) false []
+unfolding r.enclosed_octal_at
+enclosed_octal_ok = enclosed_ok (s.string_and digits) r.string_and_digits_at (only 34) digit string_and_digits_text string_and_digits_ok refl refl refl
 
 number_enclosed : (j : ℕ) → Some_text (s.enclosed s.number) j
 number_enclosed = enclosed_text s.number r.number_at digit [] number_text
@@ -202,40 +221,73 @@ number_enclosed = enclosed_text s.number r.number_at digit [] number_text
 string_enclosed : (j : ℕ) → Some_text (s.enclosed s.string) j
 string_enclosed = enclosed_text s.string r.string_at (only 34) [] string_text
 
-strings_enclosed : (j : ℕ) → Some_text (s.enclosed s.two_strings) j
-strings_enclosed = enclosed_text s.two_strings r.two_strings_at (only 34) [] two_strings_text
+strings_enclosed : (j : ℕ) → Some_text (s.enclosed (s.string_and s.string)) j
+strings_enclosed = enclosed_text (s.string_and s.string) r.two_strings_at (only 34) [] two_strings_text
 
--- ---- switches, tiny and boards
+octal_enclosed : (j : ℕ) → Some_text (s.enclosed (s.string_and digits)) j
+octal_enclosed = enclosed_text (s.string_and digits) r.string_and_digits_at (only 34) digit string_and_digits_text
+
+-- ---- switches, tiny, boards and octal games
 
 tiny_ok : (word : List ℕ) (miny : Bool) (begin : Class) → Begins begin false word → Lawful (g.tiny_of word miny) (r.tiny_at word miny) begin false []
 unfolding r.tiny_at
 tiny_ok word miny begin b = made_ok (λ v. clean (tiny miny v.1.0 v.1.1)) (then_ok (this_word_ok word begin b) enclosed_number_ok number_enclosed refl)
 
-grid_ok : (word : List ℕ) (kind : GameKind) (begin : Class) → Begins begin false word → Lawful (g.grid_of word kind) (r.grid_at word kind) begin false []
-unfolding r.grid_at
-grid_ok word kind begin b = made_ok (λ v. clean (game kind [] v.1)) (then_ok (this_word_ok word begin b) enclosed_string_ok string_enclosed refl)
+-- what stands behind a name, with the blanks before it
+spaced_ok : {A : Type 0} {R : Piece A} {f : Reader A} → Lawful R f (only 40) false [] → ((j : ℕ) → Some_text R j) → Lawful (Then blanks R) (then_at t.blanks_at f) ((32, 32) ∷ (9, 9) ∷ (13, 13) ∷ (40, 40) ∷ []) false []
+spaced_ok lf w = then_ok (bytes_lawful blank) lf w refl
 
-strip_ok : Lawful g.strip r.strip_at (only 83) false []
-unfolding r.strip_at
-strip_ok = made_ok (λ v. clean (game Strip v.1.0 v.1.1)) (then_ok (this_word_ok (codes "Strip") (only 83) refl) enclosed_strings_ok strings_enclosed refl)
+spaced_text : {A : Type 0} (R : Piece A) → ((j : ℕ) → Some_text R j) → (j : ℕ) → Some_text (Then blanks R) j
+spaced_text R w j = then_text {S = R} j (no_text blank j) w
 
-grid_text : (word : List ℕ) (kind : GameKind) (j : ℕ) → Some_text (g.grid_of word kind) j
-grid_text word kind j = made_text (λ v. clean (game kind [] v.1)) j (then_text {S = s.enclosed s.string} j (word_text (tt {0}) word j) string_enclosed)
+one_of_ok : (word : List ℕ) (kind : GameKind) (begin : Class) → Begins begin false word → Lawful (g.one_of word kind) (r.one_text_at word kind) begin false []
+unfolding r.one_text_at
+one_of_ok word kind begin b = made_ok (λ v. clean (one_text kind v.1.1)) (then_ok (this_word_ok word begin b) (spaced_ok enclosed_string_ok string_enclosed) (spaced_text (s.enclosed s.string) string_enclosed) refl)
+
+two_of_ok : (word : List ℕ) (kind : GameKind) (begin : Class) → Begins begin false word → Lawful (g.two_of word kind) (r.two_texts_at word kind) begin false []
+unfolding r.two_texts_at
+two_of_ok word kind begin b = made_ok (λ v. clean (two_texts kind v.1.1.0 v.1.1.1)) (then_ok (this_word_ok word begin b) (spaced_ok enclosed_strings_ok strings_enclosed) (spaced_text (s.enclosed (s.string_and s.string)) strings_enclosed) refl)
+
+octal_ok : Lawful s.octal_piece r.octal_at (only 79) false []
+unfolding r.octal_at
+octal_ok = made_ok (λ v. clean (octal v.1.1.0 v.1.1.1)) (then_ok (this_word_ok (codes "Octal") (only 79) refl) (spaced_ok enclosed_octal_ok octal_enclosed) (spaced_text (s.enclosed (s.string_and digits)) octal_enclosed) refl)
+
+one_of_text : (word : List ℕ) (kind : GameKind) (j : ℕ) → Some_text (g.one_of word kind) j
+one_of_text word kind j = made_text (λ v. clean (one_text kind v.1.1)) j (then_text {S = Then blanks (s.enclosed s.string)} j (word_text (tt {0}) word j) (spaced_text (s.enclosed s.string) string_enclosed))
+
+two_of_text : (word : List ℕ) (kind : GameKind) (j : ℕ) → Some_text (g.two_of word kind) j
+two_of_text word kind j = made_text (λ v. clean (two_texts kind v.1.1.0 v.1.1.1)) j (then_text {S = Then blanks (s.enclosed (s.string_and s.string))} j (word_text (tt {0}) word j) (spaced_text (s.enclosed (s.string_and s.string)) strings_enclosed))
 
 tiny_or_toads_ok : Lawful g.tiny_or_toads r.tiny_or_toads_at (only 84) false []
 unfolding r.tiny_or_toads_at
 tiny_or_toads_ok = wide_ok (only 84) [] (made_ok (λ v. v.1) (then_ok (byte_ok 84 refl)
-    (or_ok (tiny_ok (codes "iny") false (only 105) refl) (grid_ok (codes "oads") Toads (only 111) refl) refl)
-    (λ j. right_text j (grid_text (codes "oads") Toads j)) refl)) refl refl
+    (or_ok (tiny_ok (codes "iny") false (only 105) refl) (one_of_ok (codes "oads") Toads (only 111) refl) refl)
+    (λ j. right_text j (one_of_text (codes "oads") Toads j)) refl)) refl refl
 
-named_board_ok : Lawful g.named_board r.named_board_at ((68, 68) ∷ (67, 67) ∷ (65, 65) ∷ (83, 83) ∷ []) false []
+clobber_or_col_ok : Lawful g.clobber_or_col r.clobber_or_col_at (only 67) false []
+unfolding r.clobber_or_col_at
+clobber_or_col_ok = wide_ok (only 67) [] (made_ok (λ v. v.1) (then_ok (byte_ok 67 refl)
+    (or_ok (one_of_ok (codes "lobber") Clobber (only 108) refl) (two_of_ok (codes "ol") Col (only 111) refl) refl)
+    (λ j. right_text j (two_of_text (codes "ol") Col j)) refl)) refl refl
+
+strip_or_snort_ok : Lawful g.strip_or_snort r.strip_or_snort_at (only 83) false []
+unfolding r.strip_or_snort_at
+strip_or_snort_ok = wide_ok (only 83) [] (made_ok (λ v. v.1) (then_ok (byte_ok 83 refl)
+    (or_ok (two_of_ok (codes "trip") Strip (only 116) refl) (two_of_ok (codes "nort") Snort (only 110) refl) refl)
+    (λ j. right_text j (two_of_text (codes "nort") Snort j)) refl)) refl refl
+
+abbrev named_begin : Class
+named_begin = (65, 65) ∷ (67, 68) ∷ (72, 72) ∷ (83, 83) ∷ []
+
+named_board_ok : Lawful g.named_board r.named_board_at named_begin false []
 unfolding r.named_board_at
-named_board_ok = wide_ok ((68, 68) ∷ (67, 67) ∷ (65, 65) ∷ (83, 83) ∷ []) [] (or_ok (grid_ok (codes "Domineering") Domineering (only 68) refl)
-    (or_ok (grid_ok (codes "Clobber") Clobber (only 67) refl) (or_ok (grid_ok (codes "Amazons") Amazons (only 65) refl) strip_ok refl) refl) refl) refl refl
+named_board_ok = wide_ok named_begin [] (or_ok (one_of_ok (codes "Domineering") Domineering (only 68) refl)
+    (or_ok (one_of_ok (codes "Hackenbush") Hackenbush (only 72) refl) (or_ok (one_of_ok (codes "Amazons") Amazons (only 65) refl)
+    (or_ok clobber_or_col_ok strip_or_snort_ok refl) refl) refl) refl) refl refl
 
 plain_special_ok : Lawful g.plain_special r.plain_special_at plain_begin false number_follow
 unfolding r.plain_special_at
-plain_special_ok = wide_ok plain_begin number_follow (or_ok switch_ok (or_ok (tiny_ok (codes "Miny") true (only 77) refl) (or_ok tiny_or_toads_ok named_board_ok refl) refl) refl) refl refl
+plain_special_ok = wide_ok plain_begin number_follow (or_ok switch_ok (or_ok (tiny_ok (codes "Miny") true (only 77) refl) (or_ok tiny_or_toads_ok (or_ok octal_ok named_board_ok refl) refl) refl) refl) refl refl
 
 -- ---- terms
 
@@ -353,10 +405,10 @@ module _ (S : Piece Found) (f : Reader Found) (ls : Lawful S f special_begin fal
 
 -- what may not follow a side, besides bars
 abbrev side_begin : Class
-side_begin = (32, 32) ∷ (9, 9) ∷ (13, 13) ∷ (48, 57) ∷ (94, 94) ∷ (118, 118) ∷ (42, 43) ∷ (65, 65) ∷ (67, 68) ∷ (77, 77) ∷ (83, 84) ∷ (123, 123) ∷ (40, 40) ∷ (45, 45) ∷ []
+side_begin = (32, 32) ∷ (9, 9) ∷ (13, 13) ∷ (48, 57) ∷ (94, 94) ∷ (118, 118) ∷ (42, 43) ∷ (65, 65) ∷ (67, 68) ∷ (72, 72) ∷ (77, 77) ∷ (79, 79) ∷ (83, 84) ∷ (123, 123) ∷ (40, 40) ∷ (45, 45) ∷ []
 
 abbrev side_follow : Class
-side_follow = (32, 32) ∷ (9, 9) ∷ (13, 13) ∷ (42, 57) ∷ (65, 65) ∷ (67, 68) ∷ (77, 77) ∷ (83, 84) ∷ (94, 94) ∷ (118, 118) ∷ (123, 123) ∷ (40, 40) ∷ []
+side_follow = (32, 32) ∷ (9, 9) ∷ (13, 13) ∷ (42, 57) ∷ (65, 65) ∷ (67, 68) ∷ (72, 72) ∷ (77, 77) ∷ (79, 79) ∷ (83, 84) ∷ (94, 94) ∷ (118, 118) ∷ (123, 123) ∷ (40, 40) ∷ []
 
 module _ (E : Piece Found) (e : Reader Found) (le : Lawful E e term_begin false sum_follow) (w : (j : ℕ) → Some_text E j) where
   next_item_text : (j : ℕ) → Some_text (Many (Made (λ v. v.1.1) (Then (One (only 44)) (Then blanks E)))) j
@@ -477,35 +529,68 @@ measure_ok : Lawful g.measure r.measure_at asking_begin false sum_follow
 unfolding r.measure_at
 measure_ok = wide_ok asking_begin sum_follow (made_ok (λ v. asked_of v.0 v.1.1) (then_ok asking_ok (then_ok gap_ok (expr_ok 64) (expr_text 64) refl) asked_text refl)) refl refl
 
-second_text : (j : ℕ) → Some_text (Then blanks (g.expr 64)) j
-second_text j = then_text {S = g.expr 64} j (no_text blank j) (expr_text 64)
+-- two pieces with a semicolon between them
+module _ {A B : Type 0} (R : Piece A) (S : Piece B) (f : Reader A) (h : Reader B) (I F J G : Class) (v : (j : ℕ) → Some_text R j) (w : (j : ℕ) → Some_text S j) where
+  behind_first : (j : ℕ) → Some_text (Then (One (only 59)) (Then blanks S)) j
+  behind_first j = then_text {S = Then blanks S} j (byte_text 59 refl j) (λ k. then_text {S = S} k (no_text blank k) w)
 
-behind_first : (j : ℕ) → Some_text (Then (One (only 59)) (Then blanks (g.expr 64))) j
-behind_first j = then_text {S = Then blanks (g.expr 64)} j (byte_text 59 refl j) second_text
+  semicolon_text : (j : ℕ) → Some_text (g.with_semicolon R S) j
+  semicolon_text j = made_text (λ v. (v.0, v.1.1.1)) j (then_text {S = Then (One (only 59)) (Then blanks S)} j (v j) behind_first)
 
-both_text : (j : ℕ) → Some_text (Then (g.expr 64) (Then (One (only 59)) (Then blanks (g.expr 64)))) j
-both_text j = then_text {S = Then (One (only 59)) (Then blanks (g.expr 64))} j (expr_text 64 j) behind_first
+  semicolon_ok : Lawful R f I false F → Lawful S h J false G → apart (only 59) F ≡ true → apart J blank ≡ true → apart (blank ++ J) [] ≡ true → Lawful (g.with_semicolon R S) (r.with_semicolon_at f h) I false G
+  semicolon_ok lf lh a b c = made_ok (λ v. (v.0, v.1.1.1))
+      (then_ok lf (then_ok (byte_ok 59 refl) (then_ok (bytes_lawful blank) lh w b) (λ j. then_text {S = S} j (no_text blank j) w) c) behind_first a)
 
-compared_text : (j : ℕ) → Some_text (Then gap (Then (g.expr 64) (Then (One (only 59)) (Then blanks (g.expr 64))))) j
-compared_text j = then_text {S = Then (g.expr 64) (Then (One (only 59)) (Then blanks (g.expr 64)))} j (gap_text j) both_text
+both_ok : Lawful g.both r.both_at term_begin false sum_follow
+unfolding r.both_at
+both_ok = semicolon_ok (g.expr 64) (g.expr 64) (r.sum_at (r.special_at 64)) (r.sum_at (r.special_at 64)) term_begin sum_follow term_begin sum_follow (expr_text 64) (expr_text 64) (expr_ok 64) (expr_ok 64) refl refl refl
 
-compare_text : (j : ℕ) → Some_text g.compare j
-compare_text j = made_text (λ v. compared v.1.1.0 v.1.1.1.1.1) j (then_text {S = Then gap (Then (g.expr 64) (Then (One (only 59)) (Then blanks (g.expr 64))))} j (word_text (tt {0}) (codes "compare") j) compared_text)
+both_text : (j : ℕ) → Some_text g.both j
+both_text = semicolon_text (g.expr 64) (g.expr 64) (r.sum_at (r.special_at 64)) (r.sum_at (r.special_at 64)) term_begin sum_follow term_begin sum_follow (expr_text 64) (expr_text 64)
 
-compare_ok : Lawful g.compare r.compare_at (only 99) false sum_follow
-unfolding r.compare_at
-compare_ok = wide_ok (only 99) sum_follow (made_ok (λ v. compared v.1.1.0 v.1.1.1.1.1)
-    (then_ok (this_word_ok (codes "compare") (only 99) refl) (then_ok gap_ok (then_ok (expr_ok 64) (then_ok (byte_ok 59 refl) (then_ok (bytes_lawful blank) (expr_ok 64) (expr_text 64) refl) second_text refl) behind_first refl) both_text refl) compared_text refl)) refl refl
+behind_gap : {A : Type 0} (R : Piece A) → ((j : ℕ) → Some_text R j) → (j : ℕ) → Some_text (Then gap R) j
+behind_gap R w j = then_text {S = R} j (gap_text j) w
+
+both_asked_ok : (word : List ℕ) (ask : Tree → Tree → Question) (begin : Class) → Begins begin false word → Lawful (g.both_asked word ask) (r.both_asked_at word ask) begin false sum_follow
+unfolding r.both_asked_at
+both_asked_ok word ask begin b = made_ok (λ v. asked_of_both ask v.1.1.0 v.1.1.1) (then_ok (this_word_ok word begin b) (then_ok gap_ok both_ok both_text refl) (behind_gap g.both both_text) refl)
+
+last_ok : Lawful (with_blanks s.string) r.last_string_at (only 34) false blank
+last_ok = made_ok (λ v. v.0) (then_ok string_ok (bytes_lawful blank) (no_text blank) refl)
+
+last_text : (j : ℕ) → Some_text (with_blanks s.string) j
+last_text j = made_text (λ v. v.0) j (then_text {S = blanks} j (string_text j) (no_text blank))
+
+checked_ok : Lawful (g.with_semicolon g.both (with_blanks s.string)) (r.with_semicolon_at r.both_at r.last_string_at) term_begin false blank
+checked_ok = semicolon_ok g.both (with_blanks s.string) r.both_at r.last_string_at term_begin sum_follow (only 34) blank both_text last_text both_ok last_ok refl refl refl
+
+checked_text : (j : ℕ) → Some_text (g.with_semicolon g.both (with_blanks s.string)) j
+checked_text = semicolon_text g.both (with_blanks s.string) r.both_at r.last_string_at term_begin sum_follow (only 34) blank both_text last_text
+
+check_ok : Lawful (g.check (codes "heck")) (r.check_at (codes "heck")) (only 104) false blank
+unfolding r.check_at
+check_ok = made_ok (λ v. checked v.1.1.0.0 v.1.1.0.1 v.1.1.1) (then_ok (this_word_ok (codes "heck") (only 104) refl) (then_ok gap_ok checked_ok checked_text refl) (behind_gap (g.with_semicolon g.both (with_blanks s.string)) checked_text) refl)
+
+check_text : (j : ℕ) → Some_text (g.check (codes "heck")) j
+check_text j = made_text (λ v. checked v.1.1.0.0 v.1.1.0.1 v.1.1.1) j (then_text {S = Then gap (g.with_semicolon g.both (with_blanks s.string))} j (word_text (tt {0}) (codes "heck") j) (behind_gap (g.with_semicolon g.both (with_blanks s.string)) checked_text))
+
+compare_or_check_ok : Lawful g.compare_or_check r.compare_or_check_at (only 99) false sum_follow
+unfolding r.compare_or_check_at
+compare_or_check_ok = wide_ok (only 99) sum_follow (made_ok (λ v. v.1) (then_ok (byte_ok 99 refl)
+    (or_ok (both_asked_ok (codes "ompare") compare (only 111) refl) check_ok refl) (λ j. right_text j (check_text j)) refl)) refl refl
+
+compare_or_check_text : (j : ℕ) → Some_text g.compare_or_check j
+compare_or_check_text j = made_text (λ v. v.1) j (then_text {S = Or (g.both_asked (codes "ompare") compare) (g.check (codes "heck"))} j (byte_text 99 refl j) (λ k. right_text k (check_text k)))
 
 -- what a question begins with
 abbrev pub question_begin : Class
-question_begin = (118, 118) ∷ (111, 111) ∷ (115, 116) ∷ (109, 109) ∷ (99, 99) ∷ []
+question_begin = (118, 118) ∷ (111, 111) ∷ (115, 116) ∷ (109, 109) ∷ (112, 112) ∷ (99, 99) ∷ []
 
-pub question_ok : Lawful (Or g.measure g.compare) r.question_at question_begin false sum_follow
+pub question_ok : Lawful g.question r.question_at question_begin false sum_follow
 unfolding r.question_at
-question_ok = wide_ok question_begin sum_follow (or_ok measure_ok compare_ok refl) refl refl
+question_ok = wide_ok question_begin sum_follow (or_ok measure_ok (or_ok (both_asked_ok (codes "proof") proof (only 112) refl) compare_or_check_ok refl) refl) refl refl
 
-pub line_ok : Lawful g.line r.line_at ((32, 32) ∷ (9, 9) ∷ (13, 13) ∷ (118, 118) ∷ (111, 111) ∷ (115, 116) ∷ (109, 109) ∷ (99, 99) ∷ []) false sum_follow
+pub line_ok : Lawful g.line r.line_at ((32, 32) ∷ (9, 9) ∷ (13, 13) ∷ (118, 118) ∷ (111, 111) ∷ (115, 116) ∷ (109, 109) ∷ (112, 112) ∷ (99, 99) ∷ []) false sum_follow
 unfolding r.line_at
-line_ok = wide_ok ((32, 32) ∷ (9, 9) ∷ (13, 13) ∷ (118, 118) ∷ (111, 111) ∷ (115, 116) ∷ (109, 109) ∷ (99, 99) ∷ []) sum_follow
-    (made_ok (λ v. v.1) (then_ok (bytes_lawful blank) question_ok (λ j. right_text j (compare_text j)) refl)) refl refl
+line_ok = wide_ok ((32, 32) ∷ (9, 9) ∷ (13, 13) ∷ (118, 118) ∷ (111, 111) ∷ (115, 116) ∷ (109, 109) ∷ (112, 112) ∷ (99, 99) ∷ []) sum_follow
+    (made_ok (λ v. v.1) (then_ok (bytes_lawful blank) question_ok (λ j. right_text j (right_text j (compare_or_check_text j))) refl)) refl refl

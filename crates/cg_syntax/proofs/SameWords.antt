@@ -4,14 +4,14 @@ use Rattle.std.specs.Prelude.{codes}
 use Rattle.std.proofs.lemmas.Bool.{and_parts, leb-true}
 use Rattle.cg_reading.specs.Bytes.{has}
 use Rattle.cg_reading.specs.Pieces.{Piece, Then, Or, Made, One, Word}
-use Rattle.cg_reading.specs.Tokens.{only}
-use Rattle.cg_reading.proofs.Same.{Same, same_on, or_same, made_same, made_or, or_then}
-use Rattle.cg_syntax.specs.Tree.{Tree, Question, tiny, game, value, outcome, stops, mean, temp, thermo}
+use Rattle.cg_reading.specs.Tokens.{only, blanks}
+use Rattle.cg_reading.proofs.Same.{Same, same_self, same_back, same_on, then_same, or_same, made_same, made_or, or_then, then_or}
+use Rattle.cg_syntax.specs.Tree.{Tree, Question, tiny, value, outcome, stops, mean, temp, thermo}
 use Rattle.cg_syntax.specs.Found.{Found}
-use Rattle.cg_syntax.specs.Values.{clean}
+use Rattle.cg_syntax.specs.Values.{clean, one_text, two_texts}
 use Rattle.cg_syntax.specs.Grammar as s
 use Rattle.cg_syntax.specs.declared.kind.GameKind.{GameKind}
-use Rattle.cg_syntax.specs.declared.kind.GameKind.TheVariants.{Domineering, Clobber, Amazons, Toads}
+use Rattle.cg_syntax.specs.declared.kind.GameKind.TheVariants.{Domineering, Clobber, Amazons, Toads, Strip, Hackenbush, Col, Snort}
 use Rattle.cg_syntax.proofs.Factored as g
 
 or_none : (a : Bool) → (a || false) ≡ a
@@ -21,6 +21,16 @@ or_none false = refl
 -- the one byte of a set of one byte
 only_is : (b x : ℕ) → has (only b) x ≡ true → x ≡ b
 only_is b x h = let p = and_parts (leb b x) (leb x b) (sym (or_none (leb b x && leb x b)) ∙ h) in omega (arith, leb-true b x p.0, leb-true x b p.1)
+
+-- two pieces that are told apart by their second byte
+pub second_byte : {A : Type 0} (b : ℕ) (P Q R S : Piece A) → Same P (Made (λ v. v.1) (Then (One (only b)) R)) → Same Q (Made (λ v. v.1) (Then (One (only b)) S)) → Same (Or P Q) (Made (λ v. v.1) (Then (One (only b)) (Or R S)))
+second_byte b P Q R S p q =
+    same_on (or_same p q)
+    (same_back (same_on (made_same (λ v. v.1) (then_or (One (only b)) R S)) (made_or (λ v. v.1) (Then (One (only b)) R) (Then (One (only b)) S))))
+
+-- one of two words, and what follows it
+pub either_word : {A V X : Type 0} (h : V × X → A) (R S : Piece V) (N : Piece X) (P Q : Piece A) → Same (Made h (Then R N)) P → Same (Made h (Then S N)) Q → Same (Made h (Then (Or R S) N)) (Or P Q)
+either_word h R S N P Q p q = same_on (made_same h (or_then R S N)) (same_on (made_or h (Then R N) (Then S N)) (or_same p q))
 
 module _ {A X : Type 0} (N : Piece X) where
   -- the value of a word is known
@@ -58,86 +68,140 @@ module _ {A X : Type 0} (N : Piece X) where
 
 -- ---- tiny and boards
 
+abbrev tiny_value : Bool × (ℕ × ℕ) → Found
+tiny_value v = clean (tiny v.0 v.1.0 v.1.1)
+
 tiny_words : Same s.tiny_piece (Or (g.tiny_of (codes "Tiny") false) (g.tiny_of (codes "Miny") true))
 tiny_words =
-    same_on (made_same (λ v. clean (tiny v.0 v.1.0 v.1.1)) (or_then (Word (codes "Tiny") false) (Word (codes "Miny") true) (s.enclosed s.number)))
-    (same_on (made_or (λ v. clean (tiny v.0 v.1.0 v.1.1)) (Then (Word (codes "Tiny") false) (s.enclosed s.number)) (Then (Word (codes "Miny") true) (s.enclosed s.number)))
-    (or_same (word_value (s.enclosed s.number) (codes "Tiny") false (λ v. clean (tiny v.0 v.1.0 v.1.1))) (word_value (s.enclosed s.number) (codes "Miny") true (λ v. clean (tiny v.0 v.1.0 v.1.1)))))
+    either_word tiny_value (Word (codes "Tiny") false) (Word (codes "Miny") true) (s.enclosed s.number) (g.tiny_of (codes "Tiny") false) (g.tiny_of (codes "Miny") true)
+    (word_value (s.enclosed s.number) (codes "Tiny") false tiny_value) (word_value (s.enclosed s.number) (codes "Miny") true tiny_value)
 
-abbrev board_of : GameKind × List ℕ → Found
-board_of v = clean (game v.0 [] v.1)
+-- a game's one text, or its two, behind its name
+abbrev One_text : Piece (List ℕ × List ℕ)
+One_text = Then blanks (s.enclosed s.string)
 
-grid_same : (word : List ℕ) (kind : GameKind) → Same (Made board_of (Then (Word word kind) (s.enclosed s.string))) (g.grid_of word kind)
-grid_same word kind = word_value (s.enclosed s.string) word kind board_of
+abbrev Two_texts : Piece (List ℕ × (List ℕ × List ℕ))
+Two_texts = Then blanks (s.enclosed (s.string_and s.string))
 
-either_grid : (R S : Piece GameKind) (P Q : Piece Found) → Same (Made board_of (Then R (s.enclosed s.string))) P → Same (Made board_of (Then S (s.enclosed s.string))) Q → Same (Made board_of (Then (Or R S) (s.enclosed s.string))) (Or P Q)
-either_grid R S P Q a b =
-    same_on (made_same board_of (or_then R S (s.enclosed s.string)))
-    (same_on (made_or board_of (Then R (s.enclosed s.string)) (Then S (s.enclosed s.string))) (or_same a b))
+abbrev one_value : GameKind × (List ℕ × List ℕ) → Found
+one_value v = clean (one_text v.0 v.1.1)
 
-grids : Same (Made board_of (Then s.grid_name (s.enclosed s.string))) (Or (g.grid_of (codes "Domineering") Domineering) (Or (g.grid_of (codes "Clobber") Clobber) (Or (g.grid_of (codes "Amazons") Amazons) (g.grid_of (codes "Toads") Toads))))
-grids =
-    either_grid (Word (codes "Domineering") Domineering) (Or (Word (codes "Clobber") Clobber) (Or (Word (codes "Amazons") Amazons) (Word (codes "Toads") Toads))) (g.grid_of (codes "Domineering") Domineering) (Or (g.grid_of (codes "Clobber") Clobber) (Or (g.grid_of (codes "Amazons") Amazons) (g.grid_of (codes "Toads") Toads))) (grid_same (codes "Domineering") Domineering)
-    (either_grid (Word (codes "Clobber") Clobber) (Or (Word (codes "Amazons") Amazons) (Word (codes "Toads") Toads)) (g.grid_of (codes "Clobber") Clobber) (Or (g.grid_of (codes "Amazons") Amazons) (g.grid_of (codes "Toads") Toads)) (grid_same (codes "Clobber") Clobber)
-    (either_grid (Word (codes "Amazons") Amazons) (Word (codes "Toads") Toads) (g.grid_of (codes "Amazons") Amazons) (g.grid_of (codes "Toads") Toads) (grid_same (codes "Amazons") Amazons) (grid_same (codes "Toads") Toads)))
+abbrev two_value : GameKind × (List ℕ × (List ℕ × List ℕ)) → Found
+two_value v = clean (two_texts v.0 v.1.1.0 v.1.1.1)
+
+one_same : (word : List ℕ) (kind : GameKind) → Same (Made one_value (Then (Word word kind) One_text)) (g.one_of word kind)
+one_same word kind = word_value One_text word kind one_value
+
+two_same : (word : List ℕ) (kind : GameKind) → Same (Made two_value (Then (Word word kind) Two_texts)) (g.two_of word kind)
+two_same word kind = word_value Two_texts word kind two_value
+
+abbrev domineering : Piece Found
+domineering = g.one_of (codes "Domineering") Domineering
+
+abbrev clobber : Piece Found
+clobber = g.one_of (codes "Clobber") Clobber
+
+abbrev amazons : Piece Found
+amazons = g.one_of (codes "Amazons") Amazons
+
+abbrev toads : Piece Found
+toads = g.one_of (codes "Toads") Toads
+
+abbrev hackenbush : Piece Found
+hackenbush = g.one_of (codes "Hackenbush") Hackenbush
+
+abbrev strip : Piece Found
+strip = g.two_of (codes "Strip") Strip
+
+abbrev col : Piece Found
+col = g.two_of (codes "Col") Col
+
+abbrev snort : Piece Found
+snort = g.two_of (codes "Snort") Snort
+
+ones : Same (Made one_value (Then s.name_of_one One_text)) (Or domineering (Or clobber (Or amazons (Or toads hackenbush))))
+ones =
+    either_word one_value (Word (codes "Domineering") Domineering) (Or (Word (codes "Clobber") Clobber) (Or (Word (codes "Amazons") Amazons) (Or (Word (codes "Toads") Toads) (Word (codes "Hackenbush") Hackenbush)))) One_text domineering (Or clobber (Or amazons (Or toads hackenbush))) (one_same (codes "Domineering") Domineering)
+    (either_word one_value (Word (codes "Clobber") Clobber) (Or (Word (codes "Amazons") Amazons) (Or (Word (codes "Toads") Toads) (Word (codes "Hackenbush") Hackenbush))) One_text clobber (Or amazons (Or toads hackenbush)) (one_same (codes "Clobber") Clobber)
+    (either_word one_value (Word (codes "Amazons") Amazons) (Or (Word (codes "Toads") Toads) (Word (codes "Hackenbush") Hackenbush)) One_text amazons (Or toads hackenbush) (one_same (codes "Amazons") Amazons)
+    (either_word one_value (Word (codes "Toads") Toads) (Word (codes "Hackenbush") Hackenbush) One_text toads hackenbush (one_same (codes "Toads") Toads) (one_same (codes "Hackenbush") Hackenbush))))
+
+twos : Same (Made two_value (Then s.name_of_two Two_texts)) (Or strip (Or col snort))
+twos =
+    either_word two_value (Word (codes "Strip") Strip) (Or (Word (codes "Col") Col) (Word (codes "Snort") Snort)) Two_texts strip (Or col snort) (two_same (codes "Strip") Strip)
+    (either_word two_value (Word (codes "Col") Col) (Word (codes "Snort") Snort) Two_texts col snort (two_same (codes "Col") Col) (two_same (codes "Snort") Snort))
+
+-- ---- the second byte
+
+one_apart : (b : ℕ) (word : List ℕ) (kind : GameKind) → has (only b) b ≡ true → Same (g.one_of (b ∷ word) kind) (Made (λ v. v.1) (Then (One (only b)) (g.one_of word kind)))
+one_apart b word kind known = byte_apart One_text b word (λ t. clean (one_text kind t.1)) known
+
+two_apart : (b : ℕ) (word : List ℕ) (kind : GameKind) → has (only b) b ≡ true → Same (g.two_of (b ∷ word) kind) (Made (λ v. v.1) (Then (One (only b)) (g.two_of word kind)))
+two_apart b word kind known = byte_apart Two_texts b word (λ t. clean (two_texts kind t.1.0 t.1.1)) known
 
 tiny_apart : Same (g.tiny_of (codes "Tiny") false) (Made (λ v. v.1) (Then (One (only 84)) (g.tiny_of (codes "iny") false)))
 tiny_apart = byte_apart (s.enclosed s.number) 84 (codes "iny") (λ n. clean (tiny false n.0 n.1)) refl
 
-toads_apart : Same (g.grid_of (codes "Toads") Toads) (Made (λ v. v.1) (Then (One (only 84)) (g.grid_of (codes "oads") Toads)))
-toads_apart = byte_apart (s.enclosed s.string) 84 (codes "oads") (λ t. clean (game Toads [] t)) refl
+tiny_or_toads : Same (Or (g.tiny_of (codes "Tiny") false) toads) g.tiny_or_toads
+tiny_or_toads = second_byte 84 (g.tiny_of (codes "Tiny") false) toads (g.tiny_of (codes "iny") false) (g.one_of (codes "oads") Toads) tiny_apart (one_apart 84 (codes "oads") Toads refl)
 
-tiny_into : (i : ℕ) (a : Found) (text : List ℕ) → g.tiny_of (codes "Tiny") false i a text → g.tiny_or_toads i a text
-tiny_into i a text t = let m = tiny_apart.to i a text t in record { made_of = m.made_of; is = record { before = m.is.before; behind = m.is.behind; first = m.is.first; second = inl m.is.second; spelled = m.is.spelled }; same = m.same }
+clobber_or_col : Same (Or clobber col) g.clobber_or_col
+clobber_or_col = second_byte 67 clobber col (g.one_of (codes "lobber") Clobber) (g.two_of (codes "ol") Col) (one_apart 67 (codes "lobber") Clobber refl) (two_apart 67 (codes "ol") Col refl)
 
-toads_into : (i : ℕ) (a : Found) (text : List ℕ) → g.grid_of (codes "Toads") Toads i a text → g.tiny_or_toads i a text
-toads_into i a text t = let m = toads_apart.to i a text t in record { made_of = m.made_of; is = record { before = m.is.before; behind = m.is.behind; first = m.is.first; second = inr m.is.second; spelled = m.is.spelled }; same = m.same }
+strip_or_snort : Same (Or strip snort) g.strip_or_snort
+strip_or_snort = second_byte 83 strip snort (g.two_of (codes "trip") Strip) (g.two_of (codes "nort") Snort) (two_apart 83 (codes "trip") Strip refl) (two_apart 83 (codes "nort") Snort refl)
 
-out_of : (i : ℕ) (a : Found) (text : List ℕ) (v : ℕ × Found) (x y : List ℕ) → a ≡ v.1 → One (only 84) i v.0 x → Or (g.tiny_of (codes "iny") false) (g.grid_of (codes "oads") Toads) (i + length x) v.1 y → text ≡ x ++ y → Or (g.tiny_of (codes "Tiny") false) (g.grid_of (codes "Toads") Toads) i a text
-out_of i a text v x y same h (inl t) k = inl (tiny_apart.from i a text (record { made_of = v; is = record { before = x; behind = y; first = h; second = t; spelled = k }; same = same }))
-out_of i a text v x y same h (inr t) k = inr (toads_apart.from i a text (record { made_of = v; is = record { before = x; behind = y; first = h; second = t; spelled = k }; same = same }))
+-- ---- all together
 
--- tiny and boards as the grammar has them
+-- tiny, boards and octal games as the grammar has them
 abbrev pub named : Piece Found
-named = Or s.tiny_piece s.board
+named = Or s.tiny_piece (Or s.board s.octal_piece)
 
-abbrev board_words : Piece Found
-board_words = Or (g.grid_of (codes "Domineering") Domineering) (Or (g.grid_of (codes "Clobber") Clobber) (Or (g.grid_of (codes "Amazons") Amazons) (g.grid_of (codes "Toads") Toads)))
+-- the same in the order in which they are told apart
+module _ {A : Type 0} (w t m d c z o h p l n x : Piece A) where
+  abbrev by_text : Piece A
+  by_text = Or w (Or (Or t m) (Or (Or (Or d (Or c (Or z (Or o h)))) (Or p (Or l n))) x))
 
-tiny_to : (i : ℕ) (a : Found) (text : List ℕ) → Or (g.tiny_of (codes "Tiny") false) (g.tiny_of (codes "Miny") true) i a text → g.plain_special i a text
-tiny_to i a text (inl t) = inr (inr (inl (tiny_into i a text t)))
-tiny_to i a text (inr m) = inr (inl m)
+  abbrev by_byte : Piece A
+  by_byte = Or w (Or m (Or (Or t o) (Or x (Or d (Or h (Or z (Or (Or c l) (Or p n))))))))
 
-grid_to : (i : ℕ) (a : Found) (text : List ℕ) → board_words i a text → g.plain_special i a text
-grid_to i a text (inl d) = inr (inr (inr (inl d)))
-grid_to i a text (inr (inl c)) = inr (inr (inr (inr (inl c))))
-grid_to i a text (inr (inr (inl z))) = inr (inr (inr (inr (inr (inl z)))))
-grid_to i a text (inr (inr (inr t))) = inr (inr (inl (toads_into i a text t)))
+  sorted : (i : ℕ) (a : A) (text : List ℕ) → by_text i a text → by_byte i a text
+  sorted i a text (inl k) = inl k
+  sorted i a text (inr (inl (inl k))) = inr (inr (inl (inl k)))
+  sorted i a text (inr (inl (inr k))) = inr (inl k)
+  sorted i a text (inr (inr (inl (inl (inl k))))) = inr (inr (inr (inr (inl k))))
+  sorted i a text (inr (inr (inl (inl (inr (inl k)))))) = inr (inr (inr (inr (inr (inr (inr (inl (inl k))))))))
+  sorted i a text (inr (inr (inl (inl (inr (inr (inl k))))))) = inr (inr (inr (inr (inr (inr (inl k))))))
+  sorted i a text (inr (inr (inl (inl (inr (inr (inr (inl k)))))))) = inr (inr (inl (inr k)))
+  sorted i a text (inr (inr (inl (inl (inr (inr (inr (inr k)))))))) = inr (inr (inr (inr (inr (inl k)))))
+  sorted i a text (inr (inr (inl (inr (inl k))))) = inr (inr (inr (inr (inr (inr (inr (inr (inl k))))))))
+  sorted i a text (inr (inr (inl (inr (inr (inl k)))))) = inr (inr (inr (inr (inr (inr (inr (inl (inr k))))))))
+  sorted i a text (inr (inr (inl (inr (inr (inr k)))))) = inr (inr (inr (inr (inr (inr (inr (inr (inr k))))))))
+  sorted i a text (inr (inr (inr k))) = inr (inr (inr (inl k)))
 
-board_to : (i : ℕ) (a : Found) (text : List ℕ) → s.board i a text → g.plain_special i a text
-board_to i a text (inl b) = grid_to i a text (grids.to i a text b)
-board_to i a text (inr t) = inr (inr (inr (inr (inr (inr t)))))
+  unsorted : (i : ℕ) (a : A) (text : List ℕ) → by_byte i a text → by_text i a text
+  unsorted i a text (inl k) = inl k
+  unsorted i a text (inr (inl k)) = inr (inl (inr k))
+  unsorted i a text (inr (inr (inl (inl k)))) = inr (inl (inl k))
+  unsorted i a text (inr (inr (inl (inr k)))) = inr (inr (inl (inl (inr (inr (inr (inl k)))))))
+  unsorted i a text (inr (inr (inr (inl k)))) = inr (inr (inr k))
+  unsorted i a text (inr (inr (inr (inr (inl k))))) = inr (inr (inl (inl (inl k))))
+  unsorted i a text (inr (inr (inr (inr (inr (inl k)))))) = inr (inr (inl (inl (inr (inr (inr (inr k)))))))
+  unsorted i a text (inr (inr (inr (inr (inr (inr (inl k))))))) = inr (inr (inl (inl (inr (inr (inl k))))))
+  unsorted i a text (inr (inr (inr (inr (inr (inr (inr (inl (inl k))))))))) = inr (inr (inl (inl (inr (inl k)))))
+  unsorted i a text (inr (inr (inr (inr (inr (inr (inr (inl (inr k))))))))) = inr (inr (inl (inr (inr (inl k)))))
+  unsorted i a text (inr (inr (inr (inr (inr (inr (inr (inr (inl k))))))))) = inr (inr (inl (inr (inl k))))
+  unsorted i a text (inr (inr (inr (inr (inr (inr (inr (inr (inr k))))))))) = inr (inr (inl (inr (inr (inr k)))))
 
-named_to : (i : ℕ) (a : Found) (text : List ℕ) → Or s.switch_piece named i a text → g.plain_special i a text
-named_to i a text (inl w) = inl w
-named_to i a text (inr (inl t)) = tiny_to i a text (tiny_words.to i a text t)
-named_to i a text (inr (inr b)) = board_to i a text b
-
-either_from : (i : ℕ) (a : Found) (text : List ℕ) → Or (g.tiny_of (codes "Tiny") false) (g.grid_of (codes "Toads") Toads) i a text → Or s.switch_piece named i a text
-either_from i a text (inl t) = inr (inl (tiny_words.from i a text (inl t)))
-either_from i a text (inr t) = inr (inr (inl (grids.from i a text (inr (inr (inr t))))))
-
-named_from : (i : ℕ) (a : Found) (text : List ℕ) → g.plain_special i a text → Or s.switch_piece named i a text
-named_from i a text (inl w) = inl w
-named_from i a text (inr (inl m)) = inr (inl (tiny_words.from i a text (inr m)))
-named_from i a text (inr (inr (inl t))) = either_from i a text (out_of i a text t.made_of t.is.before t.is.behind t.same t.is.first t.is.second t.is.spelled)
-named_from i a text (inr (inr (inr (inl d)))) = inr (inr (inl (grids.from i a text (inl d))))
-named_from i a text (inr (inr (inr (inr (inl c))))) = inr (inr (inl (grids.from i a text (inr (inl c)))))
-named_from i a text (inr (inr (inr (inr (inr (inl z)))))) = inr (inr (inl (grids.from i a text (inr (inr (inl z))))))
-named_from i a text (inr (inr (inr (inr (inr (inr t)))))) = inr (inr (inr t))
+  in_order : Same by_text by_byte
+  in_order = record { to = sorted; from = unsorted }
 
 pub plain_same : Same g.plain_special (Or s.switch_piece named)
-plain_same = record { to = named_from; from = named_to }
+plain_same = same_back
+    (same_on (or_same (same_self s.switch_piece) (or_same tiny_words (or_same (or_same ones twos) (same_self s.octal_piece))))
+    (same_on (in_order s.switch_piece (g.tiny_of (codes "Tiny") false) (g.tiny_of (codes "Miny") true) domineering clobber amazons toads hackenbush strip col snort s.octal_piece)
+    (or_same (same_self s.switch_piece) (or_same (same_self (g.tiny_of (codes "Miny") true)) (or_same tiny_or_toads (or_same (same_self s.octal_piece)
+    (or_same (same_self domineering) (or_same (same_self hackenbush) (or_same (same_self amazons) (or_same clobber_or_col strip_or_snort))))))))))
 
 -- ---- questions
 

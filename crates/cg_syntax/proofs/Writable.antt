@@ -9,11 +9,11 @@ use Rattle.cg_syntax.specs.Found.{Asked, Found}
 use Rattle.cg_syntax.specs.Lines.{Reads}
 use Rattle.cg_syntax.specs.Grammar as grammar
 use Rattle.cg_syntax.specs.Grammar.{printable, special}
-use Rattle.cg_syntax.specs.Tree.{Question, Tree, mean, outcome, stops, temp, thermo, value, nimber, terms_from, trees_from}
-use Rattle.cg_syntax.specs.Values.{Arrows, Counted, clean, counted_of, minus_of, run_side, some_term, sum_of, times, together, ups_tree, whole}
-use Rattle.cg_syntax.specs.Written.{AreRules, AreTerms, AreWritable, IsPrintable, IsWritable, QuestionIs}
+use Rattle.cg_syntax.specs.Tree.{Question, Tree, compare, mean, outcome, proof, stops, temp, thermo, value, nimber, terms_from, trees_from}
+use Rattle.cg_syntax.specs.Values.{Arrows, Counted, clean, counted_of, minus_of, one_text, run_side, some_term, sum_of, times, together, two_texts, ups_tree, whole}
+use Rattle.cg_syntax.specs.Written.{AreTerms, AreWritable, IsAskable, IsPrintable, IsWritable}
 use Rattle.cg_syntax.specs.declared.kind.GameKind.{GameKind}
-use Rattle.cg_syntax.specs.declared.kind.GameKind.TheVariants.{Domineering, Clobber, Amazons, Toads}
+use Rattle.cg_syntax.specs.declared.kind.GameKind.TheVariants.{Domineering, Clobber, Amazons, Toads, Strip, Hackenbush, Col, Snort}
 
 -- ---- tokens
 
@@ -72,30 +72,63 @@ tiny_writable i e text m =
     let o = enclosed_of grammar.number _ m.made_of.1 _ m.is.second in
     found_at e _ m.same (number_low o.column m.made_of.1 o.between o.is)
 
-no_rules : (i : ℕ) (kind : GameKind) (text : List ℕ) → grammar.grid_name i kind text → AreRules kind []
-no_rules i kind text m = by m
+one_writable : (i : ℕ) (kind : GameKind) (name text : List ℕ) → grammar.name_of_one i kind name → IsPrintable text
+    → IsWritable (one_text kind text)
+one_writable i kind name text m p = by m
   where
-    to : (k : GameKind) → kind ≡ k → AreRules k [] → AreRules kind []
-    to k e r = let P : GameKind → Type 0 = λ z. AreRules z [] in subst P (sym e) r
+    to : (known : GameKind) → kind ≡ known → IsWritable (one_text known text) → IsWritable (one_text kind text)
+    to known e w = let P : GameKind → Type 0 = λ z. IsWritable (one_text z text) in subst P (sym e) w
 
-    by : grammar.grid_name i kind text → AreRules kind []
-    by (inl w) = to Domineering w.0 refl
-    by (inr (inl w)) = to Clobber w.0 refl
-    by (inr (inr (inl w))) = to Amazons w.0 refl
-    by (inr (inr (inr w))) = to Toads w.0 refl
+    by : grammar.name_of_one i kind name → IsWritable (one_text kind text)
+    by (inl w) = to Domineering w.0 (refl, p)
+    by (inr (inl w)) = to Clobber w.0 (refl, p)
+    by (inr (inr (inl w))) = to Amazons w.0 (refl, p)
+    by (inr (inr (inr (inl w)))) = to Toads w.0 (refl, p)
+    by (inr (inr (inr (inr w)))) = to Hackenbush w.0 (p, refl)
+
+two_writable : (i : ℕ) (kind : GameKind) (name first second : List ℕ) → grammar.name_of_two i kind name → IsPrintable first
+    → IsPrintable second → IsWritable (two_texts kind first second)
+two_writable i kind name first second m p q = by m
+  where
+    to : (known : GameKind) → kind ≡ known → IsWritable (two_texts known first second) → IsWritable (two_texts kind first second)
+    to known e w = let P : GameKind → Type 0 = λ z. IsWritable (two_texts z first second) in subst P (sym e) w
+
+    by : grammar.name_of_two i kind name → IsWritable (two_texts kind first second)
+    by (inl w) = to Strip w.0 (p, q)
+    by (inr (inl w)) = to Col w.0 (q, p)
+    by (inr (inr w)) = to Snort w.0 (q, p)
+
+-- a string, and a piece behind a comma
+record Told {A : Type 0} (R : Piece A) (v : List ℕ × A) : Type 0 where
+  printable_first : IsPrintable v.0
+  column : ℕ
+  rest : List ℕ
+  is : R column v.1 rest
+
+told : {A : Type 0} (R : Piece A) (i : ℕ) (v : List ℕ × A) (text : List ℕ) → grammar.string_and R i v text → Told R v
+told {A} R i v text m = let P : List ℕ × A → Type 0 = λ z. Told R z in
+    subst P (sym m.same) (record {
+      printable_first = printable_is _ _ _ m.is.first;
+      column = _;
+      rest = _;
+      is = m.is.second.second.second.second;
+    })
 
 board_writable : (i : ℕ) (e : Found) (text : List ℕ) → grammar.board i e text → W e
 board_writable i e text (inl m) =
-    let o = enclosed_of grammar.string _ m.made_of.1 _ m.is.second in
-    found_at e _ m.same (no_rules i m.made_of.0 m.is.before m.is.first, printable_is o.column m.made_of.1 o.between o.is)
+    let o = enclosed_of grammar.string _ m.made_of.1.1 _ m.is.second.second in
+    found_at e _ m.same (one_writable i m.made_of.0 m.is.before m.made_of.1.1 m.is.first (printable_is o.column m.made_of.1.1 o.between o.is))
 board_writable i e text (inr m) =
-    let o = enclosed_of grammar.two_strings _ m.made_of.1 _ m.is.second in
-    let t = o.is in
-    let P : List ℕ × List ℕ → Type 0 = λ z. IsPrintable z.0 × IsPrintable z.1 in
-    found_at e _ m.same (subst P (sym t.same) (
-      printable_is _ _ _ t.is.first,
-      printable_is _ _ _ t.is.second.second.second.second,
-    ))
+    let o = enclosed_of (grammar.string_and grammar.string) _ m.made_of.1.1 _ m.is.second.second in
+    let t = told grammar.string o.column m.made_of.1.1 o.between o.is in
+    found_at e _ m.same (two_writable i m.made_of.0 m.is.before m.made_of.1.1.0 m.made_of.1.1.1 m.is.first t.printable_first
+    (printable_is t.column m.made_of.1.1.1 t.rest t.is))
+
+octal_writable : (i : ℕ) (e : Found) (text : List ℕ) → grammar.octal_piece i e text → W e
+octal_writable i e text m =
+    let o = enclosed_of (grammar.string_and digits) _ m.made_of.1.1 _ m.is.second.second in
+    let t = told digits o.column m.made_of.1.1 o.between o.is in
+    found_at e _ m.same (t.printable_first, digits_low t.column m.made_of.1.1.1 t.rest t.is)
 
 -- ---- what stands together
 
@@ -302,14 +335,16 @@ special_writable : (k i : ℕ) (e : Found) (text : List ℕ) → grammar.special
 unfolding special
 special_writable zero i e text (inl m) = switch_writable i e text m
 special_writable zero i e text (inr (inl m)) = tiny_writable i e text m
-special_writable zero i e text (inr (inr m)) = board_writable i e text m
+special_writable zero i e text (inr (inr (inl m))) = board_writable i e text m
+special_writable zero i e text (inr (inr (inr m))) = octal_writable i e text m
 special_writable (suc k) i e text (inl m) = switch_writable i e text m
 special_writable (suc k) i e text (inr (inl m)) = tiny_writable i e text m
 special_writable (suc k) i e text (inr (inr (inl m))) =
     braces_writable (grammar.expr (grammar.special k)) (expr_writable (grammar.special k) (special_writable k)) i e text m
 special_writable (suc k) i e text (inr (inr (inr (inl m)))) =
     paren_writable (grammar.expr (grammar.special k)) (expr_writable (grammar.special k) (special_writable k)) i e text m
-special_writable (suc k) i e text (inr (inr (inr (inr m)))) = board_writable i e text m
+special_writable (suc k) i e text (inr (inr (inr (inr (inl m))))) = board_writable i e text m
+special_writable (suc k) i e text (inr (inr (inr (inr (inr m))))) = octal_writable i e text m
 
 -- what an expression of the grammar reads as can be written
 pub expression_writable : (k i : ℕ) (e : Found) (text : List ℕ) → grammar.expr (grammar.special k) i e text → IsWritable e.tree
@@ -317,20 +352,20 @@ expression_writable k = expr_writable (grammar.special k) (special_writable k)
 
 -- ---- questions
 
-abbrev AsksWritable : Asked → Type 0
-AsksWritable a = QuestionIs IsWritable a.question
+abbrev Asks : Asked → Type 0
+Asks a = IsAskable a.question
 
-asked_at : (a b : Asked) → a ≡ b → AsksWritable b → AsksWritable a
-asked_at a b e w = let P : Asked → Type 0 = λ z. QuestionIs IsWritable z.question in subst P (sym e) w
+asked_at : (a b : Asked) → a ≡ b → Asks b → Asks a
+asked_at a b e w = let P : Asked → Type 0 = λ z. IsAskable z.question in subst P (sym e) w
 
 asking_writable : (i : ℕ) (ask : Tree → Question) (text : List ℕ) (t : Tree) → grammar.asking i ask text → IsWritable t
-    → QuestionIs IsWritable (ask t)
+    → IsAskable (ask t)
 asking_writable i ask text t m w = by m
   where
-    to : (known : Tree → Question) → ask ≡ known → QuestionIs IsWritable (known t) → QuestionIs IsWritable (ask t)
-    to known e q = let P : (Tree → Question) → Type 0 = λ z. QuestionIs IsWritable (z t) in subst P (sym e) q
+    to : (known : Tree → Question) → ask ≡ known → IsAskable (known t) → IsAskable (ask t)
+    to known e q = let P : (Tree → Question) → Type 0 = λ z. IsAskable (z t) in subst P (sym e) q
 
-    by : grammar.asking i ask text → QuestionIs IsWritable (ask t)
+    by : grammar.asking i ask text → IsAskable (ask t)
     by (inl v) = to value v.0 w
     by (inr (inl v)) = to outcome v.0 w
     by (inr (inr (inl v))) = to stops v.0 w
@@ -338,21 +373,61 @@ asking_writable i ask text t m w = by m
     by (inr (inr (inr (inr (inl v))))) = to temp v.0 w
     by (inr (inr (inr (inr (inr v))))) = to thermo v.0 w
 
-query_writable : (i : ℕ) (a : Asked) (text : List ℕ) → grammar.query (grammar.expr (grammar.special 64)) i a text → AsksWritable a
+both_asked_writable : (i : ℕ) (ask : Tree → Tree → Question) (text : List ℕ) (t u : Tree) → grammar.asking_both i ask text
+    → IsWritable t × IsWritable u → IsAskable (ask t u)
+both_asked_writable i ask text t u m w = by m
+  where
+    to : (known : Tree → Tree → Question) → ask ≡ known → IsAskable (known t u) → IsAskable (ask t u)
+    to known e q = let P : (Tree → Tree → Question) → Type 0 = λ z. IsAskable (z t u) in subst P (sym e) q
+
+    by : grammar.asking_both i ask text → IsAskable (ask t u)
+    by (inl v) = to compare v.0 w
+    by (inr v) = to proof v.0 w
+
+-- two pieces with a semicolon between them
+record Divided {A B : Type 0} (R : Piece A) (S : Piece B) (v : A × B) : Type 0 where
+  column : ℕ
+  before : List ℕ
+  first : R column v.0 before
+  place : ℕ
+  behind : List ℕ
+  second : S place v.1 behind
+
+divided : {A B : Type 0} (R : Piece A) (S : Piece B) (i : ℕ) (v : A × B) (text : List ℕ) → grammar.with_semicolon R S i v text
+    → Divided R S v
+divided {A} {B} R S i v text m =
+    let P : A × B → Type 0 = λ z. Divided R S z in
+    let Q : A → Type 0 = λ z. Divided R S (z, m.made_of.1.1.1) in
+    let w = m.is.first in
+    subst P (sym m.same) (subst Q (sym w.same) (record {
+      column = _;
+      before = _;
+      first = w.is.first;
+      place = _;
+      behind = _;
+      second = m.is.second.second.second;
+    }))
+
+abbrev Asked_expr : Piece Found
+Asked_expr = grammar.expr (grammar.special 64)
+
+both_writable : (i : ℕ) (v : Found × Found) (text : List ℕ) → grammar.with_semicolon Asked_expr Asked_expr i v text → W v.0 × W v.1
+both_writable i v text m =
+    let d = divided Asked_expr Asked_expr i v text m in
+    (expression_writable 64 d.column v.0 d.before d.first, expression_writable 64 d.place v.1 d.behind d.second)
+
+query_writable : (i : ℕ) (a : Asked) (text : List ℕ) → grammar.query Asked_expr i a text → Asks a
 query_writable i a text (inl m) = asked_at a _ m.same (asking_writable i m.made_of.0 m.is.before m.made_of.1.1.tree m.is.first
     (expression_writable 64 _ m.made_of.1.1 _ m.is.second.second))
-query_writable i a text (inr m) =
-    let n = m.is.second.second in
-    let first = n.first in
-    let last = n.second.second in
-    let E = expression_writable 64 in
-    asked_at a _ m.same (
-      found_at _ _ first.same (E _ first.made_of.0 _ first.is.first),
-      found_at _ _ last.same (E _ last.made_of.1 _ last.is.second),
-    )
+query_writable i a text (inr (inl m)) =
+    asked_at a _ m.same (both_asked_writable i m.made_of.0 m.is.before m.made_of.1.1.0.tree m.made_of.1.1.1.tree m.is.first
+    (both_writable _ m.made_of.1.1 _ m.is.second.second))
+query_writable i a text (inr (inr m)) =
+    let d = divided (grammar.with_semicolon Asked_expr Asked_expr) grammar.string _ m.made_of.1.1 _ m.is.second.second in
+    asked_at a _ m.same (both_writable d.column m.made_of.1.1.0 d.before d.first, printable_is d.place m.made_of.1.1.1 d.behind d.second)
 
 -- what a line reads as can be written
-pub line_writable : (text : List ℕ) (q : Question) → Reads text q → QuestionIs IsWritable q
+pub line_writable : (text : List ℕ) (q : Question) → Reads text q → IsAskable q
 line_writable text q m =
     let n = m.is.second in
     asked_at (record { question = q; fault = None }) _ (m.same ∙ n.same) (query_writable _ n.made_of.0 _ n.is.first)

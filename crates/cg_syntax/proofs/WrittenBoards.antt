@@ -1,58 +1,50 @@
--- What is written reads: boards.
-use Rattle.std.proofs.Common.{◌≡◌, refl, sym, ◌∙◌, subst, ℕ, ◌+◌, inl, inr, List, [], ◌∷◌, ◌++◌, append_assoc, length}
-use Rattle.std.specs.Prelude.{codes}
+-- What is written reads: boards and octal games.
+use Rattle.std.proofs.Common.{◌≡◌, refl, sym, subst, ℕ, ◌+◌, ◌^◌, ◌<◌, inl, inr, List, [], ◌∷◌, ◌++◌, length}
+use Rattle.std.specs.Prelude.{codes, decimal}
+use Rattle.cg_reading.specs.Pieces.{Piece, Then}
+use Rattle.cg_reading.specs.Tokens.{blanks, digits}
+use Rattle.cg_reading.proofs.Texts.{digits_are}
 use Rattle.cg_syntax.specs.Grammar as grammar
-use Rattle.cg_syntax.specs.Grammar.{comma, special}
-use Rattle.cg_syntax.specs.Tree.{game}
-use Rattle.cg_syntax.specs.Values.{clean}
-use Rattle.cg_syntax.specs.Written.{AreRules, IsPrintable, kind_text, quoted, rules_text}
+use Rattle.cg_syntax.specs.Tree.{game, octal}
+use Rattle.cg_syntax.specs.Values.{clean, one_text, two_texts}
+use Rattle.cg_syntax.specs.Written.{AreTexts, IsPrintable, kind_text, quoted, texts_of_game, two_quoted}
 use Rattle.cg_syntax.specs.declared.kind.GameKind.{GameKind}
-use Rattle.cg_syntax.specs.declared.kind.GameKind.TheVariants.{Domineering, Clobber, Amazons, Toads, Strip}
+use Rattle.cg_syntax.specs.declared.kind.GameKind.TheVariants.{Domineering, Clobber, Amazons, Toads, Strip, Hackenbush, Col, Snort}
 use Rattle.cg_syntax.proofs.WrittenTokens.{enclosed_is, quoted_is}
 
-pub kind_name : (i : ℕ) (kind : GameKind) → (rules : List ℕ) → AreRules kind rules → (¬ (kind ≡ Strip))
-    → grammar.grid_name i kind (kind_text kind)
-kind_name i Domineering rules r n = inl (refl, refl)
-kind_name i Clobber rules r n = inr (inl (refl, refl))
-kind_name i Amazons rules r n = inr (inr (inl (refl, refl)))
-kind_name i Toads rules r n = inr (inr (inr (refl, refl)))
-kind_name i Strip rules r n = absurd (n refl)
+-- what stands between parentheses, with no blank before them
+spaced_is : {A : Type 0} (R : Piece A) (i : ℕ) (a : A) (text : List ℕ) → ((j : ℕ) → R j a text)
+    → Then blanks (grammar.enclosed R) i ([], a) (40 ∷ (text ++ (41 ∷ [])))
+spaced_is R i a text m = record {
+  before = [];
+  behind = 40 ∷ (text ++ (41 ∷ []));
+  first = record { within = refl; spelled = refl };
+  second = enclosed_is R (i + 0) a text m;
+  spelled = refl;
+}
 
-pub grid : (i : ℕ) (kind : GameKind) (text : List ℕ) → ((j : ℕ) → grammar.grid_name j kind (kind_text kind)) → IsPrintable text
-    → grammar.board i (clean (game kind [] text)) (kind_text kind ++ (40 ∷ (quoted text ++ (41 ∷ []))))
-grid i kind text m p = inl (record {
-  made_of = (kind, text);
+-- a string and a piece, with a comma between them
+string_and_is : {A : Type 0} (R : Piece A) (j : ℕ) (string : List ℕ) (a : A) (text : List ℕ) → IsPrintable string → ((k : ℕ) → R k a text)
+    → grammar.string_and R j (string, a) (quoted string ++ (44 ∷ text))
+string_and_is R j string a text p m = record {
+  made_of = (string, ([], (44, ([], a))));
   is = record {
-    before = kind_text kind;
-    behind = 40 ∷ (quoted text ++ (41 ∷ []));
-    first = m i;
-    second = enclosed_is grammar.string (i + length (kind_text kind)) text (quoted text) (λ j. quoted_is j text p);
-    spelled = refl;
-  };
-  same = refl;
-})
-
-pub two_are : (j : ℕ) (rules row : List ℕ) → IsPrintable rules → IsPrintable row
-    → grammar.two_strings j (rules, row) (quoted rules ++ (44 ∷ quoted row))
-two_are j rules row p q = record {
-  made_of = (rules, ([], (44, ([], row))));
-  is = record {
-    before = quoted rules;
-    behind = 44 ∷ quoted row;
-    first = quoted_is j rules p;
+    before = quoted string;
+    behind = 44 ∷ text;
+    first = quoted_is j string p;
     second = record {
       before = [];
-      behind = 44 ∷ quoted row;
+      behind = 44 ∷ text;
       first = record { within = refl; spelled = refl };
       second = record {
         before = 44 ∷ [];
-        behind = quoted row;
+        behind = text;
         first = record { within = refl; spelled = refl };
         second = record {
           before = [];
-          behind = quoted row;
+          behind = text;
           first = record { within = refl; spelled = refl };
-          second = quoted_is (j + length (quoted rules) + 0 + 1 + 0) row q;
+          second = m (j + length (quoted string) + 0 + 1 + 0);
           spelled = refl;
         };
         spelled = refl;
@@ -64,40 +56,78 @@ two_are j rules row p q = record {
   same = refl;
 }
 
-pub strip : (i : ℕ) (rules row : List ℕ) → IsPrintable rules → IsPrintable row
-    → grammar.board i (clean (game Strip rules row)) (codes "Strip" ++ (40 ∷ ((quoted rules ++ (44 ∷ quoted row)) ++ (41 ∷ []))))
-strip i rules row p q = inr (record {
-  made_of = (tt, (rules, row));
+one_is : (i : ℕ) (kind : GameKind) (text : List ℕ) → ((j : ℕ) → grammar.name_of_one j kind (kind_text kind)) → IsPrintable text
+    → grammar.board i (clean (one_text kind text)) (kind_text kind ++ (40 ∷ (quoted text ++ (41 ∷ []))))
+one_is i kind text m p = inl (record {
+  made_of = (kind, ([], text));
   is = record {
-    before = codes "Strip";
-    behind = 40 ∷ ((quoted rules ++ (44 ∷ quoted row)) ++ (41 ∷ []));
-    first = (refl, refl);
-    second = enclosed_is grammar.two_strings (i + length (codes "Strip")) (rules, row) (quoted rules ++ (44 ∷ quoted row))
-        (λ j. two_are j rules row p q);
+    before = kind_text kind;
+    behind = 40 ∷ (quoted text ++ (41 ∷ []));
+    first = m i;
+    second = spaced_is grammar.string (i + length (kind_text kind)) text (quoted text) (λ j. quoted_is j text p);
     spelled = refl;
   };
   same = refl;
 })
 
-pub board_is : (i : ℕ) (kind : GameKind) (rules text : List ℕ) → AreRules kind rules → IsPrintable text
-    → grammar.board i (clean (game kind rules text)) (kind_text kind ++ (40 ∷ (rules_text kind rules ++ (quoted text ++ (41 ∷ [])))))
-board_is i Domineering rules text r p = by rules r
-  where
-    by : (rs : List ℕ) → rs ≡ [] → grammar.board i (clean (game Domineering rs text)) (codes "Domineering" ++ (40 ∷ (quoted text ++ (41 ∷ []))))
-    by rs e = let P : List ℕ → Type 0 = λ z. grammar.board i (clean (game Domineering z text)) (codes "Domineering" ++ (40 ∷ (quoted text ++ (41 ∷ [])))) in
-        subst P (sym e) (grid i Domineering text (λ j. inl (refl, refl)) p)
-board_is i Clobber rules text r p =
-    let P : List ℕ → Type 0 = λ z. grammar.board i (clean (game Clobber z text)) (codes "Clobber" ++ (40 ∷ (quoted text ++ (41 ∷ [])))) in
-    subst P (sym r) (grid i Clobber text (λ j. inr (inl (refl, refl))) p)
-board_is i Amazons rules text r p =
-    let P : List ℕ → Type 0 = λ z. grammar.board i (clean (game Amazons z text)) (codes "Amazons" ++ (40 ∷ (quoted text ++ (41 ∷ [])))) in
-    subst P (sym r) (grid i Amazons text (λ j. inr (inr (inl (refl, refl)))) p)
-board_is i Toads rules text r p =
-    let P : List ℕ → Type 0 = λ z. grammar.board i (clean (game Toads z text)) (codes "Toads" ++ (40 ∷ (quoted text ++ (41 ∷ [])))) in
-    subst P (sym r) (grid i Toads text (λ j. inr (inr (inr (refl, refl)))) p)
-board_is i Strip rules text r p =
-    let P : List ℕ → Type 0 = λ z. grammar.board i (clean (game Strip rules text)) (codes "Strip" ++ (40 ∷ z)) in
-    let e : (quoted rules ++ (44 ∷ quoted text)) ++ (41 ∷ []) ≡ (quoted rules ++ (44 ∷ [])) ++ (quoted text ++ (41 ∷ [])) =
-    append_assoc (quoted rules) (44 ∷ quoted text) (41 ∷ [])
-    ∙ sym (append_assoc (quoted rules) (44 ∷ []) (quoted text ++ (41 ∷ []))) in
-    subst P e (strip i rules text r p)
+two_is : (i : ℕ) (kind : GameKind) (first second : List ℕ) → ((j : ℕ) → grammar.name_of_two j kind (kind_text kind)) → IsPrintable first
+    → IsPrintable second → grammar.board i (clean (two_texts kind first second)) (kind_text kind ++ (40 ∷ (two_quoted first second ++ (41 ∷ []))))
+two_is i kind first second m p q = inr (record {
+  made_of = (kind, ([], (first, second)));
+  is = record {
+    before = kind_text kind;
+    behind = 40 ∷ (two_quoted first second ++ (41 ∷ []));
+    first = m i;
+    second = spaced_is (grammar.string_and grammar.string) (i + length (kind_text kind)) (first, second) (two_quoted first second)
+        (λ j. string_and_is grammar.string j first second (quoted second) p (λ k. quoted_is k second q));
+    spelled = refl;
+  };
+  same = refl;
+})
+
+-- one of the games that have a board alone
+without_rules : (i : ℕ) (kind : GameKind) (rules text : List ℕ) → rules ≡ []
+    → grammar.board i (clean (game kind [] text)) (kind_text kind ++ (40 ∷ (quoted text ++ (41 ∷ []))))
+    → grammar.board i (clean (game kind rules text)) (kind_text kind ++ (40 ∷ (quoted text ++ (41 ∷ []))))
+without_rules i kind rules text e m =
+    let P : List ℕ → Type 0 = λ z. grammar.board i (clean (game kind z text)) (kind_text kind ++ (40 ∷ (quoted text ++ (41 ∷ [])))) in
+    subst P (sym e) m
+
+-- Hackenbush, which has its edges alone
+without_board : (i : ℕ) (rules board : List ℕ) → board ≡ []
+    → grammar.board i (clean (game Hackenbush rules [])) (codes "Hackenbush" ++ (40 ∷ (quoted rules ++ (41 ∷ []))))
+    → grammar.board i (clean (game Hackenbush rules board)) (codes "Hackenbush" ++ (40 ∷ (quoted rules ++ (41 ∷ []))))
+without_board i rules board e m =
+    let P : List ℕ → Type 0 = λ z. grammar.board i (clean (game Hackenbush rules z)) (codes "Hackenbush" ++ (40 ∷ (quoted rules ++ (41 ∷ [])))) in
+    subst P (sym e) m
+
+pub board_is : (i : ℕ) (kind : GameKind) (rules board : List ℕ) → AreTexts kind rules board
+    → grammar.board i (clean (game kind rules board)) (kind_text kind ++ (40 ∷ (texts_of_game kind rules board ++ (41 ∷ []))))
+board_is i Domineering rules board a =
+    without_rules i Domineering rules board a.0 (one_is i Domineering board (λ j. inl (refl, refl)) a.1)
+board_is i Clobber rules board a =
+    without_rules i Clobber rules board a.0 (one_is i Clobber board (λ j. inr (inl (refl, refl))) a.1)
+board_is i Amazons rules board a =
+    without_rules i Amazons rules board a.0 (one_is i Amazons board (λ j. inr (inr (inl (refl, refl)))) a.1)
+board_is i Toads rules board a =
+    without_rules i Toads rules board a.0 (one_is i Toads board (λ j. inr (inr (inr (inl (refl, refl))))) a.1)
+board_is i Hackenbush rules board a =
+    without_board i rules board a.1 (one_is i Hackenbush rules (λ j. inr (inr (inr (inr (refl, refl))))) a.0)
+board_is i Strip rules board a = two_is i Strip rules board (λ j. inl (refl, refl)) a.0 a.1
+board_is i Col rules board a = two_is i Col board rules (λ j. inr (inl (refl, refl))) a.1 a.0
+board_is i Snort rules board a = two_is i Snort board rules (λ j. inr (inr (refl, refl))) a.1 a.0
+
+pub octal_is : (i : ℕ) (code : List ℕ) (heap : ℕ) → IsPrintable code → heap < 10 ^ 30
+    → grammar.octal_piece i (clean (octal code heap)) (codes "Octal" ++ (40 ∷ ((quoted code ++ (44 ∷ decimal heap)) ++ (41 ∷ []))))
+octal_is i code heap p l = record {
+  made_of = (tt, ([], (code, heap)));
+  is = record {
+    before = codes "Octal";
+    behind = 40 ∷ ((quoted code ++ (44 ∷ decimal heap)) ++ (41 ∷ []));
+    first = (refl, refl);
+    second = spaced_is (grammar.string_and digits) (i + length (codes "Octal")) (code, heap) (quoted code ++ (44 ∷ decimal heap))
+        (λ j. string_and_is digits j code heap (decimal heap) p (λ k. digits_are k heap l));
+    spelled = refl;
+  };
+  same = refl;
+}

@@ -12,10 +12,10 @@ use Rattle.std.proofs.lemmas.Str.Ascii.{IsAscii-from_all, IsAscii-nil}
 use Rattle.cg_reading.specs.Bytes.{Class, has}
 use Rattle.cg_reading.proofs.Sets.{inside, inside_has}
 use Rattle.cg_syntax.specs.Grammar.{printable}
-use Rattle.cg_syntax.specs.Tree.{Question, Tree, Trees, Terms, compare, game, mean, multiple, negative, nimber, no_terms, no_trees, number, outcome, sides, stops, sum, switch, temp, thermo, tiny, ups, value, with_term, with_tree}
-use Rattle.cg_syntax.specs.Written.{AreFurther, AreRules, AreTerms, AreWritable, IsPrintable, IsSum, IsWritable, QuestionIs, asked_text, enclosed_text, fraction_text, is_braces, kind_text, more_terms, more_texts, quoted, rules_text, terms_text, text_of, texts_of, ups_text}
+use Rattle.cg_syntax.specs.Tree.{Question, Tree, Trees, Terms, check, compare, game, mean, multiple, negative, nimber, no_terms, no_trees, number, octal, outcome, proof, sides, stops, sum, switch, temp, thermo, tiny, ups, value, with_term, with_tree}
+use Rattle.cg_syntax.specs.Written.{AreFurther, AreTerms, AreTexts, AreWritable, IsAskable, IsPrintable, IsSum, IsWritable, asked_text, enclosed_text, fraction_text, is_braces, kind_text, more_terms, more_texts, quoted, terms_text, text_of, texts_of, texts_of_game, two_quoted, ups_text}
 use Rattle.cg_syntax.specs.declared.kind.GameKind.{GameKind}
-use Rattle.cg_syntax.specs.declared.kind.GameKind.TheVariants.{Domineering, Clobber, Amazons, Toads, Strip}
+use Rattle.cg_syntax.specs.declared.kind.GameKind.TheVariants.{Domineering, Clobber, Amazons, Toads, Strip, Hackenbush, Col, Snort}
 
 -- ---- tokens
 
@@ -90,21 +90,36 @@ kind_ascii Clobber = within (codes "Clobber") refl
 kind_ascii Amazons = within (codes "Amazons") refl
 kind_ascii Toads = within (codes "Toads") refl
 kind_ascii Strip = within (codes "Strip") refl
+kind_ascii Hackenbush = within (codes "Hackenbush") refl
+kind_ascii Col = within (codes "Col") refl
+kind_ascii Snort = within (codes "Snort") refl
 
-rules_ascii : (kind : GameKind) (rules : List ℕ) → AreRules kind rules → IsAscii (rules_text kind rules)
-rules_ascii Domineering rules r = IsAscii-nil
-rules_ascii Clobber rules r = IsAscii-nil
-rules_ascii Amazons rules r = IsAscii-nil
-rules_ascii Toads rules r = IsAscii-nil
-rules_ascii Strip rules r = before_end (quoted rules) (quoted_ascii rules r) 44 refl
+two_ascii : (first second : List ℕ) → IsPrintable first → IsPrintable second → IsAscii (two_quoted first second)
+two_ascii first second p q =
+    IsAscii-append (quoted first) (44 ∷ quoted second) (quoted_ascii first p) (behind 44 refl (quoted second) (quoted_ascii second q))
 
-game_ascii : (kind : GameKind) (rules board : List ℕ) → AreRules kind rules → IsPrintable board → IsAscii (text_of (game kind rules board))
+texts_ascii : (kind : GameKind) (rules board : List ℕ) → AreTexts kind rules board → IsAscii (texts_of_game kind rules board)
+texts_ascii Domineering rules board a = quoted_ascii board a.1
+texts_ascii Clobber rules board a = quoted_ascii board a.1
+texts_ascii Amazons rules board a = quoted_ascii board a.1
+texts_ascii Toads rules board a = quoted_ascii board a.1
+texts_ascii Strip rules board a = two_ascii rules board a.0 a.1
+texts_ascii Hackenbush rules board a = quoted_ascii rules a.0
+texts_ascii Col rules board a = two_ascii board rules a.1 a.0
+texts_ascii Snort rules board a = two_ascii board rules a.1 a.0
+
+game_ascii : (kind : GameKind) (rules board : List ℕ) → AreTexts kind rules board → IsAscii (text_of (game kind rules board))
 unfolding text_of
-game_ascii kind rules board r p =
-    let inner = IsAscii-append (rules_text kind rules) (quoted board ++ (41 ∷ [])) (rules_ascii kind rules r)
-    (before_end (quoted board) (quoted_ascii board p) 41 refl) in
-    IsAscii-append (kind_text kind) (40 ∷ (rules_text kind rules ++ (quoted board ++ (41 ∷ [])))) (kind_ascii kind)
-    (behind 40 refl (rules_text kind rules ++ (quoted board ++ (41 ∷ []))) inner)
+game_ascii kind rules board a =
+    IsAscii-append (kind_text kind) (40 ∷ (texts_of_game kind rules board ++ (41 ∷ []))) (kind_ascii kind)
+    (behind 40 refl (texts_of_game kind rules board ++ (41 ∷ [])) (before_end (texts_of_game kind rules board) (texts_ascii kind rules board a) 41 refl))
+
+octal_ascii : (code : List ℕ) (heap : ℕ) → IsPrintable code → heap < 10 ^ 30 → IsAscii (text_of (octal code heap))
+unfolding text_of
+octal_ascii code heap p l =
+    let inner = IsAscii-append (quoted code) (44 ∷ decimal heap) (quoted_ascii code p) (behind 44 refl (decimal heap) (decimal_ascii heap l)) in
+    IsAscii-append (codes "Octal(") ((quoted code ++ (44 ∷ decimal heap)) ++ (41 ∷ [])) (within (codes "Octal(") refl)
+    (before_end (quoted code ++ (44 ∷ decimal heap)) inner 41 refl)
 
 -- ---- trees
 
@@ -194,7 +209,8 @@ mutual
   written_ascii (negative t) w = negative_ascii t (written_ascii t w)
   written_ascii (multiple n t) w = multiple_ascii n t w.0 (written_ascii t w.1)
   written_ascii (sum terms) w = terms_ascii terms w
-  written_ascii (game kind rules board) w = game_ascii kind rules board w.0 w.1
+  written_ascii (game kind rules board) w = game_ascii kind rules board w
+  written_ascii (octal code heap) w = octal_ascii code heap w.0 w.1
 
   side_ascii : (ts : Trees) → AreWritable ts → IsAscii (texts_of ts)
   side_ascii no_trees w = no_trees_ascii
@@ -221,12 +237,24 @@ mutual
 word_ascii : (word : List ℕ) → list_all (has ascii) word ≡ true → (t : Tree) → IsWritable t → IsAscii (word ++ text_of t)
 word_ascii word h t w = IsAscii-append word (text_of t) (within word h) (written_ascii t w)
 
-pub question_ascii : (q : Question) → QuestionIs IsWritable q → IsAscii (asked_text q)
+both_ascii : (word : List ℕ) → list_all (has ascii) word ≡ true → (s t : Tree) → IsWritable s → IsWritable t
+    → IsAscii (word ++ (text_of s ++ (codes ";" ++ text_of t)))
+both_ascii word h s t v w = IsAscii-append word (text_of s ++ (codes ";" ++ text_of t)) (within word h)
+    (IsAscii-append (text_of s) (codes ";" ++ text_of t) (written_ascii s v) (word_ascii (codes ";") refl t w))
+
+check_ascii : (s t : Tree) (text : List ℕ) → IsWritable s → IsWritable t → IsPrintable text → IsAscii (asked_text (check s t text))
+check_ascii s t text v w p =
+    IsAscii-append (codes "check ") ((text_of s ++ (codes ";" ++ text_of t)) ++ (codes ";" ++ quoted text)) (within (codes "check ") refl)
+    (IsAscii-append (text_of s ++ (codes ";" ++ text_of t)) (codes ";" ++ quoted text) (both_ascii [] refl s t v w)
+    (behind 59 refl (quoted text) (quoted_ascii text p)))
+
+pub question_ascii : (q : Question) → IsAskable q → IsAscii (asked_text q)
 question_ascii (value t) w = word_ascii (codes "value ") refl t w
 question_ascii (outcome t) w = word_ascii (codes "outcome ") refl t w
 question_ascii (stops t) w = word_ascii (codes "stops ") refl t w
 question_ascii (mean t) w = word_ascii (codes "mean ") refl t w
 question_ascii (temp t) w = word_ascii (codes "temp ") refl t w
 question_ascii (thermo t) w = word_ascii (codes "thermo ") refl t w
-question_ascii (compare s t) w = IsAscii-append (codes "compare ") (text_of s ++ (codes ";" ++ text_of t)) (within (codes "compare ") refl)
-    (IsAscii-append (text_of s) (codes ";" ++ text_of t) (written_ascii s w.0) (word_ascii (codes ";") refl t w.1))
+question_ascii (compare s t) w = both_ascii (codes "compare ") refl s t w.0 w.1
+question_ascii (proof s t) w = both_ascii (codes "proof ") refl s t w.0 w.1
+question_ascii (check s t text) w = check_ascii s t text w.0.0 w.0.1 w.1

@@ -5,7 +5,7 @@ use Rattle.cg_reading.specs.Tokens.{behind_blanks, blanks}
 use Rattle.cg_syntax.specs.Found.{Found}
 use Rattle.cg_syntax.specs.Grammar as grammar
 use Rattle.cg_syntax.specs.Grammar.{comma, special}
-use Rattle.cg_syntax.specs.Tree.{Tree, Trees, game, multiple, negative, nimber, no_trees, number, sides, sum, switch, tiny, trees_from, ups, with_tree}
+use Rattle.cg_syntax.specs.Tree.{Tree, Trees, game, octal, multiple, negative, nimber, no_trees, number, sides, sum, switch, tiny, trees_from, ups, with_tree}
 use Rattle.cg_syntax.specs.Values.{clean}
 use Rattle.cg_syntax.specs.Written.{enclosed_text, height, heights, inner_height, is_braces, more_texts, text_of, texts_of}
 use Rattle.cg_reading.proofs.Texts.{behind_none}
@@ -61,6 +61,7 @@ inner_low (negative t) k l = omega arith
 inner_low (multiple n t) k l = omega arith
 inner_low (sum terms) k l = omega arith
 inner_low (game kind rules board) k l = omega arith
+inner_low (octal code heap) k l = omega arith
 
 pub front_blanks : (i : ℕ) (front : List ℕ) → (front ≡ []) ⊎ (front ≡ 32 ∷ []) → blanks i front front
 front_blanks i front (inl e) = let P : List ℕ → Type 0 = λ z. blanks i z z in

@@ -20,8 +20,13 @@ second_special (suc k) i t text m = inr (inl m)
 
 pub board_special : (k i : ℕ) (t : Tree) (text : List ℕ) → grammar.board i (clean t) text → grammar.special k i (clean t) text
 unfolding special
-board_special zero i t text m = inr (inr m)
-board_special (suc k) i t text m = inr (inr (inr (inr m)))
+board_special zero i t text m = inr (inr (inl m))
+board_special (suc k) i t text m = inr (inr (inr (inr (inl m))))
+
+pub octal_special : (k i : ℕ) (t : Tree) (text : List ℕ) → grammar.octal_piece i (clean t) text → grammar.special k i (clean t) text
+unfolding special
+octal_special zero i t text m = inr (inr (inr m))
+octal_special (suc k) i t text m = inr (inr (inr (inr (inr m))))
 
 pub braces_special : (k i : ℕ) (t : Tree) (text : List ℕ)
     → grammar.braces (grammar.side (grammar.expr (grammar.special k))) i (clean t) text

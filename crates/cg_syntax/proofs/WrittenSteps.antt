@@ -3,16 +3,16 @@ use Rattle.std.proofs.Common.{◌≡◌, refl, ap, sym, ◌∙◌, subst, ℕ, s
 use Rattle.std.specs.Prelude.{OnOk, codes, decimal, replicate}
 use Rattle.std.specs.Global.{Box}
 use Rattle.std.proofs.lemmas.List.{replicate_more}
-use Rattle.cg_syntax.specs.Tree.{Tree, trees_from, terms_from, number, ups, nimber, switch, tiny, braces, negative, multiple, sum, game}
+use Rattle.cg_syntax.specs.Tree.{Tree, trees_from, terms_from, number, ups, nimber, switch, tiny, braces, negative, multiple, sum, game, octal}
 use Rattle.cg_syntax.specs.Trees.{tree_of, trees_in, trees_of, terms_in, terms_of}
-use Rattle.cg_syntax.specs.Written.{enclosed_text, fraction_text, is_braces, kind_text, more_terms, more_texts, quoted, rules_text, terms_text, text_of, texts_of, ups_text}
+use Rattle.cg_syntax.specs.Written.{enclosed_text, fraction_text, is_braces, kind_text, more_terms, more_texts, quoted, terms_text, text_of, texts_of, texts_of_game, ups_text}
 use Rattle.cg_syntax.specs.declared.kind.GameKind.{GameKind}
 use Rattle.cg_syntax.specs.declared.expr.Expr.{Expr}
 use Rattle.cg_syntax.specs.declared.expr.Exprs.{Exprs}
 use Rattle.cg_syntax.specs.declared.expr.Term.{Term}
 use Rattle.cg_syntax.specs.declared.expr.Terms.{Terms}
 use Rattle.cg_syntax.specs.declared.expr.Expr.TheVariants as expr
-use Rattle.cg_syntax.proofs.TreeOf.{term_tree, number_tree, ups_tree_of, nimber_tree, switch_tree, tiny_tree, braces_tree, negative_tree, multiple_tree, sum_tree, game_tree}
+use Rattle.cg_syntax.proofs.TreeOf.{term_tree, number_tree, ups_tree_of, nimber_tree, switch_tree, tiny_tree, braces_tree, negative_tree, multiple_tree, sum_tree, game_tree, octal_tree}
 use Rattle.cg_syntax.proofs.Walk.{trees_of-take_suc, terms_of-take_suc}
 
 -- what was put at the end is the same text in other words
@@ -76,9 +76,14 @@ unfolding text_of
 sum_put e terms is = text_of_tree e (expr.Sum terms) (sum (terms_from (terms_in terms))) is (sum_tree terms)
 
 pub game_put : (e : Expr) (kind : GameKind) (rules board : List ℕ) → e ≡ expr.Game kind rules board
-    → text_of (tree_of e) ≡ kind_text kind ++ (40 ∷ (rules_text kind rules ++ (quoted board ++ (41 ∷ []))))
+    → text_of (tree_of e) ≡ kind_text kind ++ (40 ∷ (texts_of_game kind rules board ++ (41 ∷ [])))
 unfolding text_of
 game_put e kind rules board is = text_of_tree e (expr.Game kind rules board) (game kind rules board) is (game_tree kind rules board)
+
+pub octal_put : (e : Expr) (code : List ℕ) (heap : ℕ) → e ≡ expr.Octal code heap
+    → text_of (tree_of e) ≡ codes "Octal(" ++ ((quoted code ++ (44 ∷ decimal heap)) ++ (41 ∷ []))
+unfolding text_of
+octal_put e code heap is = text_of_tree e (expr.Octal code heap) (octal code heap) is (octal_tree code heap)
 
 -- ---- lists
 

@@ -2,13 +2,13 @@
 use Rattle.std.proofs.Common.{refl, ℕ, ◌^◌, ◌<◌, ◌≤◌, List, Bool, true, false}
 use Rattle.cg_syntax.specs.Grammar as grammar
 use Rattle.cg_syntax.specs.Grammar.{comma, special}
-use Rattle.cg_syntax.specs.Tree.{Tree, Trees, Terms, game, multiple, negative, nimber, no_terms, no_trees, number, sides, sum, switch, tiny, ups, with_term, with_tree}
+use Rattle.cg_syntax.specs.Tree.{Tree, Trees, Terms, game, multiple, negative, nimber, no_terms, no_trees, number, octal, sides, sum, switch, tiny, ups, with_term, with_tree}
 use Rattle.cg_syntax.specs.Values.{clean}
-use Rattle.cg_syntax.specs.Written.{AreFurther, AreRules, AreTerms, AreWritable, IsPrintable, IsSum, IsWritable, height, text_of}
+use Rattle.cg_syntax.specs.Written.{AreFurther, AreTerms, AreTexts, AreWritable, IsPrintable, IsSum, IsWritable, height, text_of}
 use Rattle.cg_syntax.specs.declared.kind.GameKind.{GameKind}
 use Rattle.cg_syntax.proofs.WrittenTerms.{expr_is, special_is, number_term, ups_term, nimber_term, negative_term, multiple_term}
-use Rattle.cg_syntax.proofs.WrittenSpecials.{board_special, switch_special, tiny_special}
-use Rattle.cg_syntax.proofs.WrittenBoards.{board_is}
+use Rattle.cg_syntax.proofs.WrittenSpecials.{board_special, octal_special, switch_special, tiny_special}
+use Rattle.cg_syntax.proofs.WrittenBoards.{board_is, octal_is}
 use Rattle.cg_syntax.proofs.WrittenLists.{Written, plain_written, WrittenAll, inner_low, none_written, some_written}
 use Rattle.cg_syntax.proofs.WrittenParts.{WrittenTerms, braces_written, no_terms_written, term_written, sum_written}
 
@@ -37,11 +37,17 @@ unfolding text_of
 tiny_written miny num den l r = plain_written (tiny miny num den) refl refl
     (λ k h i. expr_is (grammar.special k) i _ _ (special_is (grammar.special k) i _ _ (tiny_special k i miny num den l r)))
 
-pub game_written : (kind : GameKind) (rules board : List ℕ) → AreRules kind rules → IsPrintable board → Written (game kind rules board)
+pub game_written : (kind : GameKind) (rules board : List ℕ) → AreTexts kind rules board → Written (game kind rules board)
 unfolding text_of
-game_written kind rules board r p = plain_written (game kind rules board) refl refl
+game_written kind rules board a = plain_written (game kind rules board) refl refl
     (λ k h i. expr_is (grammar.special k) i _ _ (special_is (grammar.special k) i _ _
-    (board_special k i _ _ (board_is i kind rules board r p))))
+    (board_special k i _ _ (board_is i kind rules board a))))
+
+pub octal_written : (code : List ℕ) (heap : ℕ) → IsPrintable code → heap < 10 ^ 30 → Written (octal code heap)
+unfolding text_of
+octal_written code heap p l = plain_written (octal code heap) refl refl
+    (λ k h i. expr_is (grammar.special k) i _ _ (special_is (grammar.special k) i _ _
+    (octal_special k i _ _ (octal_is i code heap p l))))
 
 pub negative_written : (t : Tree) → Written t → Written (negative t)
 unfolding text_of
@@ -64,7 +70,8 @@ mutual
   written (negative t) w = negative_written t (written t w)
   written (multiple n t) w = multiple_written n t w.0 (written t w.1)
   written (sum terms) w = written_sum terms w
-  written (game kind rules board) w = game_written kind rules board w.0 w.1
+  written (game kind rules board) w = game_written kind rules board w
+  written (octal code heap) w = octal_written code heap w.0 w.1
 
   all_written : (ts : Trees) → AreWritable ts → WrittenAll ts
   all_written no_trees w = none_written

@@ -2,7 +2,8 @@
 --
 --   line     = B query B
 --   query    = ( "value" | "outcome" | "stops" | "mean" | "temp" | "thermo" ) B1 expr
---            | "compare" B1 expr B ";" B expr
+--            | ( "compare" | "proof" ) B1 expr B ";" B expr
+--            | "check" B1 expr B ";" B expr B ";" B string
 --   expr     = term { B ( "+" | "-" ) B term }
 --   term     = [ "-" ] counted tail | special tail | ups [ nim ] | nim | "-" body
 --   body     = B1 counted tail | B ( special tail | ups [ nim ] | nim )
@@ -11,7 +12,7 @@
 --   number   = digits [ "/" digits ]
 --   multiple = digits "." primary
 --   primary  = ups | nim | special
---   special  = switch | tiny | braces | paren | board
+--   special  = switch | tiny | braces | paren | board | octal
 --   switch   = "+-" number
 --   tiny     = ( "Tiny" | "Miny" ) "(" B number B ")"
 --   ups      = "^" { "^" } | "^" digits | "v" { "v" } | "v" digits
@@ -20,8 +21,9 @@
 --   side     = B [ expr { B "," B expr } B ]
 --   bars     = one to eight bytes "|", with no further "|" directly after them
 --   paren    = "(" B expr B ")"
---   board    = ( "Domineering" | "Clobber" | "Amazons" | "Toads" ) "(" B string B ")"
---            | "Strip" "(" B string B "," B string B ")"
+--   board    = ( "Domineering" | "Clobber" | "Amazons" | "Toads" | "Hackenbush" ) B "(" B string B ")"
+--            | ( "Strip" | "Col" | "Snort" ) B "(" B string B "," B string B ")"
+--   octal    = "Octal" B "(" B string B "," B digits B ")"
 --   string   = one quotation mark, any bytes 0x20 to 0x7E but a quotation mark, one quotation mark
 --   digits   = one to thirty bytes "0" to "9"
 --
@@ -32,11 +34,11 @@ use Rattle.std.specs.Prelude.{ℕ, zero, suc, ◌+◌, ◌≡◌, Bool, true, fa
 use Rattle.cg_reading.specs.Bytes.{Class, Ends}
 use Rattle.cg_reading.specs.Pieces.{Piece, Then, Or, Many, Made, Nothing, One, Bytes, Run, Word, Placed, Longest}
 use Rattle.cg_reading.specs.Tokens.{only, blanks, gap, behind_blanks, with_blanks, digits}
-use Rattle.cg_syntax.specs.Tree.{Tree, Question, nimber, switch, tiny, game, value, outcome, stops, mean, temp, thermo}
+use Rattle.cg_syntax.specs.Tree.{Tree, Question, nimber, switch, tiny, octal, value, compare, outcome, stops, mean, temp, thermo, proof}
 use Rattle.cg_syntax.specs.Found.{Found, Asked}
-use Rattle.cg_syntax.specs.Values.{Arrows, ups_tree, Counted, whole, times, counted_goes_on, counted_of, with_tail, clean, negated, sum_of, run_side, braces_of, asked_of, compared}
+use Rattle.cg_syntax.specs.Values.{Arrows, ups_tree, Counted, whole, times, counted_goes_on, counted_of, with_tail, clean, negated, sum_of, run_side, braces_of, one_text, two_texts, asked_of, asked_of_both, checked}
 use Rattle.cg_syntax.specs.declared.kind.GameKind.{GameKind}
-use Rattle.cg_syntax.specs.declared.kind.GameKind.TheVariants.{Domineering, Clobber, Amazons, Toads, Strip}
+use Rattle.cg_syntax.specs.declared.kind.GameKind.TheVariants.{Domineering, Clobber, Amazons, Toads, Strip, Hackenbush, Col, Snort}
 
 -- ---- bytes by name
 
@@ -126,17 +128,26 @@ switch_piece = Made (λ v. clean (switch v.1.1.0 v.1.1.1)) (Then (One plus) (The
 abbrev pub tiny_piece : Piece Found
 tiny_piece = Made (λ v. clean (tiny v.0 v.1.0 v.1.1)) (Then (Or (Word (codes "Tiny") false) (Word (codes "Miny") true)) (enclosed number))
 
-abbrev pub grid_name : Piece GameKind
-grid_name = Or (Word (codes "Domineering") Domineering) (Or (Word (codes "Clobber") Clobber) (Or (Word (codes "Amazons") Amazons) (Word (codes "Toads") Toads)))
+-- the games that are written by one text, and those that are written by two
+abbrev pub name_of_one : Piece GameKind
+name_of_one =
+    Or (Word (codes "Domineering") Domineering) (Or (Word (codes "Clobber") Clobber) (Or (Word (codes "Amazons") Amazons)
+    (Or (Word (codes "Toads") Toads) (Word (codes "Hackenbush") Hackenbush))))
 
--- rules and a row
-abbrev pub two_strings : Piece (List ℕ × List ℕ)
-two_strings = Made (λ v. (v.0, v.1.1.1.1)) (Then string (Then blanks (Then (One comma) (Then blanks string))))
+abbrev pub name_of_two : Piece GameKind
+name_of_two = Or (Word (codes "Strip") Strip) (Or (Word (codes "Col") Col) (Word (codes "Snort") Snort))
+
+-- a string, and a piece behind a comma
+abbrev pub string_and : {A : Type 0} → Piece A → Piece (List ℕ × A)
+string_and R = Made (λ v. (v.0, v.1.1.1.1)) (Then string (Then blanks (Then (One comma) (Then blanks R))))
 
 abbrev pub board : Piece Found
 board =
-    Or (Made (λ v. clean (game v.0 [] v.1)) (Then grid_name (enclosed string)))
-    (Made (λ v. clean (game Strip v.1.0 v.1.1)) (Then (Word (codes "Strip") (tt {0})) (enclosed two_strings)))
+    Or (Made (λ v. clean (one_text v.0 v.1.1)) (Then name_of_one (Then blanks (enclosed string))))
+    (Made (λ v. clean (two_texts v.0 v.1.1.0 v.1.1.1)) (Then name_of_two (Then blanks (enclosed (string_and string)))))
+
+abbrev pub octal_piece : Piece Found
+octal_piece = Made (λ v. clean (octal v.1.1.0 v.1.1.1)) (Then (Word (codes "Octal") (tt {0})) (Then blanks (enclosed (string_and digits))))
 
 -- ---- terms and expressions, over what a special may be
 
@@ -219,9 +230,9 @@ module _ (side : Piece (List Found)) where
 
 -- what may be an operand besides numbers, ups and nimbers, with so many braces and parens at most open at once
 unfoldable pub special : ℕ → Piece Found
-special zero = Or switch_piece (Or tiny_piece board)
+special zero = Or switch_piece (Or tiny_piece (Or board octal_piece))
 special (suc k) =
-    Or switch_piece (Or tiny_piece (Or (braces (side (expr (special k)))) (Or (enclosed (expr (special k))) board)))
+    Or switch_piece (Or tiny_piece (Or (braces (side (expr (special k)))) (Or (enclosed (expr (special k))) (Or board octal_piece))))
 
 -- ---- lines
 
@@ -231,12 +242,20 @@ asking =
     Or (Word (codes "value") value) (Or (Word (codes "outcome") outcome) (Or (Word (codes "stops") stops)
     (Or (Word (codes "mean") mean) (Or (Word (codes "temp") temp) (Word (codes "thermo") thermo)))))
 
+-- a question about two
+abbrev pub asking_both : Piece (Tree → Tree → Question)
+asking_both = Or (Word (codes "compare") compare) (Word (codes "proof") proof)
+
+-- two pieces, with a semicolon between them
+abbrev pub with_semicolon : {A B : Type 0} → Piece A → Piece B → Piece (A × B)
+with_semicolon R S = Made (λ v. (v.0, v.1.1.1)) (Then (with_blanks R) (Then (One semicolon) (Then blanks S)))
+
 module _ (expr : Piece Found) where
   abbrev pub query : Piece Asked
   query =
       Or (Made (λ v. asked_of v.0 v.1.1) (Then asking (Then gap expr)))
-      (Made (λ v. compared v.1.1.0 v.1.1.1.1) (Then (Word (codes "compare") (tt {0})) (Then gap
-      (Then (with_blanks expr) (Then (One semicolon) (behind_blanks expr))))))
+      (Or (Made (λ v. asked_of_both v.0 v.1.1.0 v.1.1.1) (Then asking_both (Then gap (with_semicolon expr expr))))
+      (Made (λ v. checked v.1.1.0.0 v.1.1.0.1 v.1.1.1) (Then (Word (codes "check") (tt {0})) (Then gap (with_semicolon (with_semicolon expr expr) string)))))
 
 -- a line, with 64 brackets at most open at once
 abbrev pub line : Piece Asked

@@ -4,12 +4,12 @@ use Rattle.cg_reading.specs.Bytes.{Class}
 use Rattle.cg_reading.specs.Readers.{Read, Reader, ◌>>=◌, then_at, or_at, many_at, behind_these, made_at, nothing_at, one_at, bytes_at, run_at, placed_at, whole_at}
 use Rattle.cg_reading.specs.Tokens.{only, blank, digit}
 use Rattle.cg_reading.specs.TokenReaders.{blanks_at, byte_at, gap_at, this_word_at, digits_at}
-use Rattle.cg_syntax.specs.Tree.{Tree, Question, number, ups, nimber, switch, tiny, sum, game, terms_from, value, outcome, stops, mean, temp, thermo}
+use Rattle.cg_syntax.specs.Tree.{Tree, Question, number, ups, nimber, switch, tiny, sum, octal, terms_from, value, compare, outcome, stops, mean, temp, thermo, proof}
 use Rattle.cg_syntax.specs.Found.{Found, Asked, first}
-use Rattle.cg_syntax.specs.Values.{Arrows, ups_tree, Counted, whole, times, goes_on, counted_of, times_of, with_tail, clean, negated, sum_of, minus_of, first_fault, run_side, braces_of, asked_of, compared}
+use Rattle.cg_syntax.specs.Values.{Arrows, ups_tree, Counted, whole, times, goes_on, counted_of, times_of, with_tail, clean, negated, sum_of, minus_of, first_fault, run_side, braces_of, one_text, two_texts, asked_of, asked_of_both, checked}
 use Rattle.cg_syntax.specs.Grammar.{printable, bar}
 use Rattle.cg_syntax.specs.declared.kind.GameKind.{GameKind}
-use Rattle.cg_syntax.specs.declared.kind.GameKind.TheVariants.{Domineering, Clobber, Amazons, Toads, Strip}
+use Rattle.cg_syntax.specs.declared.kind.GameKind.TheVariants.{Domineering, Clobber, Amazons, Toads, Strip, Hackenbush, Col, Snort}
 
 -- ---- what the pieces begin with
 
@@ -19,15 +19,15 @@ arrow = (94, 94) ∷ (118, 118) ∷ []
 abbrev pub star : Class
 star = only 42
 
--- a switch, tiny or a board
+-- a switch, tiny, a board or an octal game
 abbrev pub plain_begin : Class
-plain_begin = (43, 43) ∷ (65, 65) ∷ (67, 68) ∷ (77, 77) ∷ (83, 84) ∷ []
+plain_begin = (43, 43) ∷ (65, 65) ∷ (67, 68) ∷ (72, 72) ∷ (77, 77) ∷ (79, 79) ∷ (83, 84) ∷ []
 
 abbrev pub special_begin : Class
-special_begin = (43, 43) ∷ (65, 65) ∷ (67, 68) ∷ (77, 77) ∷ (83, 84) ∷ (123, 123) ∷ (40, 40) ∷ []
+special_begin = (43, 43) ∷ (65, 65) ∷ (67, 68) ∷ (72, 72) ∷ (77, 77) ∷ (79, 79) ∷ (83, 84) ∷ (123, 123) ∷ (40, 40) ∷ []
 
 abbrev pub uncounted_begin : Class
-uncounted_begin = (94, 94) ∷ (118, 118) ∷ (42, 43) ∷ (65, 65) ∷ (67, 68) ∷ (77, 77) ∷ (83, 84) ∷ (123, 123) ∷ (40, 40) ∷ []
+uncounted_begin = (94, 94) ∷ (118, 118) ∷ (42, 43) ∷ (65, 65) ∷ (67, 68) ∷ (72, 72) ∷ (77, 77) ∷ (79, 79) ∷ (83, 84) ∷ (123, 123) ∷ (40, 40) ∷ []
 
 abbrev pub unsigned_begin : Class
 unsigned_begin = (48, 57) ∷ uncounted_begin
@@ -95,7 +95,7 @@ ups_term_at = made_at (λ v. with_tail (clean v.0) (None, v.1)) (then_at ups_tre
 unfoldable pub sign_at : Reader Bool
 sign_at = or_at (only 45) (made_at (λ _. true) (one_at (only 45))) (made_at (λ _. false) (one_at (only 43)))
 
--- ---- switches, tiny and boards
+-- ---- switches, tiny, boards and octal games
 
 unfoldable pub switch_at : Reader Found
 switch_at = made_at (λ v. clean (switch v.1.1.0 v.1.1.1)) (then_at (byte_at 43) (then_at (byte_at 45) number_at))
@@ -108,12 +108,9 @@ enclosed_number_at = made_at (λ v. v.1.1.0) (then_at (byte_at 40) (then_at blan
 unfoldable pub tiny_at : List ℕ → Bool → Reader Found
 tiny_at word miny = made_at (λ v. clean (tiny miny v.1.0 v.1.1)) (then_at (this_word_at word) enclosed_number_at)
 
+-- a text between parentheses
 unfoldable pub enclosed_string_at : Reader (List ℕ)
 enclosed_string_at = made_at (λ v. v.1.1.0) (then_at (byte_at 40) (then_at blanks_at (then_at string_at (then_at blanks_at (byte_at 41)))))
-
--- a board of one text, by the word in front
-unfoldable pub grid_at : List ℕ → GameKind → Reader Found
-grid_at word kind = made_at (λ v. clean (game kind [] v.1)) (then_at (this_word_at word) enclosed_string_at)
 
 unfoldable pub two_strings_at : Reader (List ℕ × List ℕ)
 two_strings_at = made_at (λ v. (v.0, v.1.1.1.1)) (then_at string_at (then_at blanks_at (then_at (byte_at 44) (then_at blanks_at string_at))))
@@ -121,19 +118,39 @@ two_strings_at = made_at (λ v. (v.0, v.1.1.1.1)) (then_at string_at (then_at bl
 unfoldable pub enclosed_strings_at : Reader (List ℕ × List ℕ)
 enclosed_strings_at = made_at (λ v. v.1.1.0) (then_at (byte_at 40) (then_at blanks_at (then_at two_strings_at (then_at blanks_at (byte_at 41)))))
 
-unfoldable pub strip_at : Reader Found
-strip_at = made_at (λ v. clean (game Strip v.1.0 v.1.1)) (then_at (this_word_at (codes "Strip")) enclosed_strings_at)
+unfoldable pub string_and_digits_at : Reader (List ℕ × ℕ)
+string_and_digits_at = made_at (λ v. (v.0, v.1.1.1.1)) (then_at string_at (then_at blanks_at (then_at (byte_at 44) (then_at blanks_at digits_at))))
 
--- Tiny and Toads are told apart by their second byte
+unfoldable pub enclosed_octal_at : Reader (List ℕ × ℕ)
+enclosed_octal_at = made_at (λ v. v.1.1.0) (then_at (byte_at 40) (then_at blanks_at (then_at string_and_digits_at (then_at blanks_at (byte_at 41)))))
+
+-- a board of one text, by the word in front
+unfoldable pub one_text_at : List ℕ → GameKind → Reader Found
+one_text_at word kind = made_at (λ v. clean (one_text kind v.1.1)) (then_at (this_word_at word) (then_at blanks_at enclosed_string_at))
+
+-- a board of two texts, by the word in front
+unfoldable pub two_texts_at : List ℕ → GameKind → Reader Found
+two_texts_at word kind = made_at (λ v. clean (two_texts kind v.1.1.0 v.1.1.1)) (then_at (this_word_at word) (then_at blanks_at enclosed_strings_at))
+
+unfoldable pub octal_at : Reader Found
+octal_at = made_at (λ v. clean (octal v.1.1.0 v.1.1.1)) (then_at (this_word_at (codes "Octal")) (then_at blanks_at enclosed_octal_at))
+
+-- Tiny and Toads are told apart by their second byte, and so are Clobber and Col, and Strip and Snort
 unfoldable pub tiny_or_toads_at : Reader Found
-tiny_or_toads_at = made_at (λ v. v.1) (then_at (byte_at 84) (or_at (only 105) (tiny_at (codes "iny") false) (grid_at (codes "oads") Toads)))
+tiny_or_toads_at = made_at (λ v. v.1) (then_at (byte_at 84) (or_at (only 105) (tiny_at (codes "iny") false) (one_text_at (codes "oads") Toads)))
+
+unfoldable pub clobber_or_col_at : Reader Found
+clobber_or_col_at = made_at (λ v. v.1) (then_at (byte_at 67) (or_at (only 108) (one_text_at (codes "lobber") Clobber) (two_texts_at (codes "ol") Col)))
+
+unfoldable pub strip_or_snort_at : Reader Found
+strip_or_snort_at = made_at (λ v. v.1) (then_at (byte_at 83) (or_at (only 116) (two_texts_at (codes "trip") Strip) (two_texts_at (codes "nort") Snort)))
 
 unfoldable pub named_board_at : Reader Found
-named_board_at = or_at (only 68) (grid_at (codes "Domineering") Domineering) (or_at (only 67) (grid_at (codes "Clobber") Clobber) (or_at (only 65) (grid_at (codes "Amazons") Amazons) strip_at))
+named_board_at = or_at (only 68) (one_text_at (codes "Domineering") Domineering) (or_at (only 72) (one_text_at (codes "Hackenbush") Hackenbush) (or_at (only 65) (one_text_at (codes "Amazons") Amazons) (or_at (only 67) clobber_or_col_at strip_or_snort_at)))
 
 -- a special without brackets around an expression
 unfoldable pub plain_special_at : Reader Found
-plain_special_at = or_at (only 43) switch_at (or_at (only 77) (tiny_at (codes "Miny") true) (or_at (only 84) tiny_or_toads_at named_board_at))
+plain_special_at = or_at (only 43) switch_at (or_at (only 77) (tiny_at (codes "Miny") true) (or_at (only 84) tiny_or_toads_at (or_at (only 79) octal_at named_board_at)))
 
 -- ---- terms
 
@@ -267,11 +284,31 @@ asking_begin = (118, 118) ∷ (111, 111) ∷ (115, 116) ∷ (109, 109) ∷ []
 unfoldable pub measure_at : Reader Asked
 measure_at = made_at (λ v. asked_of v.0 v.1.1) (then_at asking_at (then_at gap_at (sum_at (special_at 64))))
 
-unfoldable pub compare_at : Reader Asked
-compare_at = made_at (λ v. compared v.1.1.0 v.1.1.1.1.1) (then_at (this_word_at (codes "compare")) (then_at gap_at (then_at (sum_at (special_at 64)) (then_at (byte_at 59) (then_at blanks_at (sum_at (special_at 64)))))))
+abbrev pub with_semicolon_at : {A B : Type 0} → Reader A → Reader B → Reader (A × B)
+with_semicolon_at f g = made_at (λ v. (v.0, v.1.1.1)) (then_at f (then_at (byte_at 59) (then_at blanks_at g)))
+
+-- two expressions with a semicolon between them
+unfoldable pub both_at : Reader (Found × Found)
+both_at = with_semicolon_at (sum_at (special_at 64)) (sum_at (special_at 64))
+
+-- a question about two expressions, by the word in front
+unfoldable pub both_asked_at : List ℕ → (Tree → Tree → Question) → Reader Asked
+both_asked_at word ask = made_at (λ v. asked_of_both ask v.1.1.0 v.1.1.1) (then_at (this_word_at word) (then_at gap_at both_at))
+
+-- a text, and the blanks behind it
+abbrev pub last_string_at : Reader (List ℕ)
+last_string_at = made_at (λ v. v.0) (then_at string_at blanks_at)
+
+-- a question about two expressions and a text, by the word in front
+unfoldable pub check_at : List ℕ → Reader Asked
+check_at word = made_at (λ v. checked v.1.1.0.0 v.1.1.0.1 v.1.1.1) (then_at (this_word_at word) (then_at gap_at (with_semicolon_at both_at last_string_at)))
+
+-- compare and check are told apart by their second byte
+unfoldable pub compare_or_check_at : Reader Asked
+compare_or_check_at = made_at (λ v. v.1) (then_at (byte_at 99) (or_at (only 111) (both_asked_at (codes "ompare") compare) (check_at (codes "heck"))))
 
 unfoldable pub question_at : Reader Asked
-question_at = or_at asking_begin measure_at compare_at
+question_at = or_at asking_begin measure_at (or_at (only 112) (both_asked_at (codes "proof") proof) compare_or_check_at)
 
 unfoldable pub line_at : Reader Asked
 line_at = made_at (λ v. v.1) (then_at blanks_at question_at)

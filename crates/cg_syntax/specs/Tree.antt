@@ -20,8 +20,11 @@ mutual
     -- so many times a tree
     multiple : ℕ → Tree → Tree
     sum : Terms → Tree
-    -- a position of a game: the text of its rules and that of its board
+    -- A position of a game: the text of its rules and that of its board. In Hackenbush, Col and Snort the edges are the
+    -- rules, and in Col and Snort the vertices are the board.
     game : GameKind → List ℕ → List ℕ → Tree
+    -- a heap of so many tokens in the octal game of this code
+    octal : List ℕ → ℕ → Tree
 
   -- a list of trees
   pub data Trees : Type 0 where
@@ -47,7 +50,7 @@ terms_from (t ∷ ts) = with_term t.0 t.1 (terms_from ts)
 abbrev pub braces : List Tree → List Tree → Tree
 braces lefts rights = sides (trees_from lefts) (trees_from rights)
 
--- a question about one tree, or about two
+-- a question about one tree, or about two; check has the text of a proof beside them
 pub data Question : Type 0 where
   value : Tree → Question
   compare : Tree → Tree → Question
@@ -56,3 +59,5 @@ pub data Question : Type 0 where
   mean : Tree → Question
   temp : Tree → Question
   thermo : Tree → Question
+  proof : Tree → Tree → Question
+  check : Tree → Tree → List ℕ → Question

@@ -1,6 +1,6 @@
 -- What expressions and queries of the code stand for.
 use Rattle.std.specs.Prelude.{List, map, Bool}
-use Rattle.cg_syntax.specs.Tree.{Tree, Question, number, ups, nimber, switch, tiny, braces, negative, multiple, sum, game, terms_from, value, compare, outcome, stops, mean, temp, thermo}
+use Rattle.cg_syntax.specs.Tree.{Tree, Question, number, ups, nimber, switch, tiny, braces, negative, multiple, sum, game, octal, terms_from, value, compare, outcome, stops, mean, temp, thermo, proof, check}
 use Rattle.cg_syntax.specs.declared.expr.Expr.{Expr}
 use Rattle.cg_syntax.specs.declared.expr.Exprs.{Exprs}
 use Rattle.cg_syntax.specs.declared.expr.Term.{Term}
@@ -22,6 +22,7 @@ tree_step (Expr-F.Negative e) = negative e.value
 tree_step (Expr-F.Multiple n e) = multiple n e.value
 tree_step (Expr-F.Sum terms) = sum (terms_from terms)
 tree_step (Expr-F.Game kind rules board) = game kind rules board
+tree_step (Expr-F.Octal code heap) = octal code heap
 
 abbrev pub exprs_step : Exprs-F Tree (List Tree) (Bool × Tree) (List (Bool × Tree)) → List Tree
 exprs_step es = es.items.items
@@ -65,3 +66,5 @@ question_of (queries.Stops e) = stops (tree_of e)
 question_of (queries.Mean e) = mean (tree_of e)
 question_of (queries.Temp e) = temp (tree_of e)
 question_of (queries.Thermo e) = thermo (tree_of e)
+question_of (queries.Proof e f) = proof (tree_of e) (tree_of f)
+question_of (queries.Check e f text) = check (tree_of e) (tree_of f) text

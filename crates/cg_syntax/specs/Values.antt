@@ -2,9 +2,11 @@
 use Rattle.std.specs.Prelude.{ℕ, Bool, true, false, cond, List, [], ◌∷◌, ◌++◌, Option, Some, None}
 use Rattle.cg_reading.specs.Bytes.{Class}
 use Rattle.cg_reading.specs.Tokens.{only}
-use Rattle.cg_syntax.specs.Tree.{Tree, Question, number, ups, negative, multiple, sum, terms_from, compare}
+use Rattle.cg_syntax.specs.Tree.{Tree, Question, number, ups, negative, multiple, sum, game, terms_from, check}
 use Rattle.cg_syntax.specs.Found.{Found, Asked, first}
 use Rattle.cg_syntax.specs.Braces.{Run_side, row_tree, row_fault}
+use Rattle.cg_syntax.specs.declared.kind.GameKind.{GameKind}
+use Rattle.cg_syntax.specs.declared.kind.GameKind.TheVariants.{Strip, Hackenbush}
 
 -- a tree in which no run of bars repeats an earlier one
 abbrev pub clean : Tree → Found
@@ -91,10 +93,25 @@ run_side r = record { column = r.0.0; bars = r.0.1; side = r.1 }
 abbrev pub braces_of : List Found → List Run_side → Found
 braces_of s rows = record { tree = row_tree s rows; fault = row_fault s rows }
 
+-- ---- boards
+
+-- the edges of Hackenbush, or the board of another game that is written by one text
+abbrev pub one_text : GameKind → List ℕ → Tree
+one_text Hackenbush text = game Hackenbush text []
+one_text kind text = game kind [] text
+
+-- the rules and the row of a strip, or the vertices and the edges of another game that is written by two texts
+abbrev pub two_texts : GameKind → List ℕ → List ℕ → Tree
+two_texts Strip first second = game Strip first second
+two_texts kind first second = game kind second first
+
 -- ---- questions
 
 abbrev pub asked_of : (Tree → Question) → Found → Asked
 asked_of ask e = record { question = ask e.tree; fault = e.fault }
 
-abbrev pub compared : Found → Found → Asked
-compared e f = record { question = compare e.tree f.tree; fault = first e.fault f.fault }
+abbrev pub asked_of_both : (Tree → Tree → Question) → Found → Found → Asked
+asked_of_both ask e f = record { question = ask e.tree f.tree; fault = first e.fault f.fault }
+
+abbrev pub checked : Found → Found → List ℕ → Asked
+checked e f text = record { question = check e.tree f.tree text; fault = first e.fault f.fault }

@@ -4,9 +4,9 @@ use Rattle.std.specs.Prelude.{ℕ, suc, max, ◌≡◌, ◌<◌, Bool, true, fal
 use Rattle.std.specs.List.{list_all}
 use Rattle.cg_reading.specs.Bytes.{has}
 use Rattle.cg_syntax.specs.Grammar.{printable}
-use Rattle.cg_syntax.specs.Tree.{Tree, Trees, Terms, Question, number, ups, nimber, switch, tiny, sides, negative, multiple, sum, game, no_trees, with_tree, no_terms, with_term, value, compare, outcome, stops, mean, temp, thermo}
+use Rattle.cg_syntax.specs.Tree.{Tree, Trees, Terms, Question, number, ups, nimber, switch, tiny, sides, negative, multiple, sum, game, octal, no_trees, with_tree, no_terms, with_term, value, compare, outcome, stops, mean, temp, thermo, proof, check}
 use Rattle.cg_syntax.specs.declared.kind.GameKind.{GameKind}
-use Rattle.cg_syntax.specs.declared.kind.GameKind.TheVariants.{Domineering, Clobber, Amazons, Toads, Strip}
+use Rattle.cg_syntax.specs.declared.kind.GameKind.TheVariants.{Domineering, Clobber, Amazons, Toads, Strip, Hackenbush, Col, Snort}
 
 abbrev pub fraction_text : ℕ → ℕ → List ℕ
 fraction_text num den = decimal num ++ (codes "/" ++ decimal den)
@@ -24,11 +24,20 @@ kind_text Clobber = codes "Clobber"
 kind_text Amazons = codes "Amazons"
 kind_text Toads = codes "Toads"
 kind_text Strip = codes "Strip"
+kind_text Hackenbush = codes "Hackenbush"
+kind_text Col = codes "Col"
+kind_text Snort = codes "Snort"
 
--- the rules of a strip, and what parts them from its row
-abbrev pub rules_text : GameKind → List ℕ → List ℕ
-rules_text Strip rules = quoted rules ++ codes ","
-rules_text _ rules = []
+abbrev pub two_quoted : List ℕ → List ℕ → List ℕ
+two_quoted first second = quoted first ++ (44 ∷ quoted second)
+
+-- what stands between the parentheses of a board, by its rules and its board
+abbrev pub texts_of_game : GameKind → List ℕ → List ℕ → List ℕ
+texts_of_game Hackenbush rules board = quoted rules
+texts_of_game Strip rules board = two_quoted rules board
+texts_of_game Col rules board = two_quoted board rules
+texts_of_game Snort rules board = two_quoted board rules
+texts_of_game _ rules board = quoted board
 
 abbrev pub is_braces : Tree → Bool
 is_braces (sides lefts rights) = true
@@ -50,8 +59,8 @@ unfoldable mutual
   text_of (negative t) = 45 ∷ enclosed_text (is_braces t) (text_of t)
   text_of (multiple n t) = decimal n ++ (46 ∷ enclosed_text (is_braces t) (text_of t))
   text_of (sum terms) = terms_text terms
-  text_of (game kind rules board) =
-      kind_text kind ++ (40 ∷ (rules_text kind rules ++ (quoted board ++ (41 ∷ []))))
+  text_of (game kind rules board) = kind_text kind ++ (40 ∷ (texts_of_game kind rules board ++ (41 ∷ [])))
+  text_of (octal code heap) = codes "Octal(" ++ ((quoted code ++ (44 ∷ decimal heap)) ++ (41 ∷ []))
 
   -- expressions with commas between them
   pub texts_of : Trees → List ℕ
@@ -81,6 +90,8 @@ asked_text (mean t) = codes "mean " ++ text_of t
 asked_text (temp t) = codes "temp " ++ text_of t
 asked_text (thermo t) = codes "thermo " ++ text_of t
 asked_text (compare s t) = codes "compare " ++ (text_of s ++ (codes ";" ++ text_of t))
+asked_text (proof s t) = codes "proof " ++ (text_of s ++ (codes ";" ++ text_of t))
+asked_text (check s t text) = codes "check " ++ ((text_of s ++ (codes ";" ++ text_of t)) ++ (codes ";" ++ quoted text))
 
 -- ---- what can be written
 
@@ -112,10 +123,13 @@ abbrev mutual
 abbrev pub IsPrintable : List ℕ → Type 0
 IsPrintable text = list_all (has printable) text ≡ true
 
--- Strip alone has rules
-abbrev pub AreRules : GameKind → List ℕ → Type 0
-AreRules Strip rules = IsPrintable rules
-AreRules _ rules = rules ≡ []
+-- which texts a game has; those that it has may stand between quotation marks
+abbrev pub AreTexts : GameKind → List ℕ → List ℕ → Type 0
+AreTexts Hackenbush rules board = IsPrintable rules × (board ≡ [])
+AreTexts Strip rules board = IsPrintable rules × IsPrintable board
+AreTexts Col rules board = IsPrintable rules × IsPrintable board
+AreTexts Snort rules board = IsPrintable rules × IsPrintable board
+AreTexts _ rules board = (rules ≡ []) × IsPrintable board
 
 -- each run of digits has thirty of them at most, each sum two terms, the first of which isn't subtracted, and each text
 -- of a board may stand between quotation marks
@@ -130,7 +144,8 @@ abbrev mutual
   IsWritable (negative t) = IsWritable t
   IsWritable (multiple n t) = (n < 10 ^ 30) × IsWritable t
   IsWritable (sum terms) = IsSum terms
-  IsWritable (game kind rules board) = AreRules kind rules × IsPrintable board
+  IsWritable (game kind rules board) = AreTexts kind rules board
+  IsWritable (octal code heap) = IsPrintable code × (heap < 10 ^ 30)
 
   pub AreWritable : Trees → Type 0
   AreWritable no_trees = Unit {0}
@@ -158,3 +173,10 @@ QuestionIs P (mean t) = P t
 QuestionIs P (temp t) = P t
 QuestionIs P (thermo t) = P t
 QuestionIs P (compare s t) = P s × P t
+QuestionIs P (proof s t) = P s × P t
+QuestionIs P (check s t text) = P s × P t
+
+-- each tree of the question, and the text that it checks
+abbrev pub IsAskable : Question → Type 0
+IsAskable (check s t text) = (IsWritable s × IsWritable t) × IsPrintable text
+IsAskable q = QuestionIs IsWritable q

@@ -42,11 +42,17 @@ pub enum Expr {
     Multiple(u128, Box<Expr>),
     /// The sum of at least two terms, the first of which isn't subtracted.
     Sum(Terms),
-    /// A position of a game. Only Strip has rules.
+    /// A position of a game. In Hackenbush `rules` are the edges, and `board` is empty. In Col and Snort `rules` are
+    /// the edges, and `board` the vertices. Of the other games Strip alone has rules.
     Game {
         kind: GameKind,
         rules: Text,
         board: Text,
+    },
+    /// A heap of so many tokens in the octal game of this code.
+    Octal {
+        code: Text,
+        heap: u128,
     },
 }
 

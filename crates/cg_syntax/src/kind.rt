@@ -13,4 +13,10 @@ pub enum GameKind {
     Toads,
     /// A row of cells that is rewritten by rules of its own.
     Strip,
+    /// Edges are cut, and those that hang on the ground no more fall away.
+    Hackenbush,
+    /// A vertex is given a player's colour where no neighbour has it.
+    Col,
+    /// A vertex is given a player's colour where no neighbour has the other's.
+    Snort,
 }

@@ -19,6 +19,8 @@ pub fn is_low(query: &Query) -> bool
         Query::Mean(expr) => is_within(64, expr),
         Query::Temp(expr) => is_within(64, expr),
         Query::Thermo(expr) => is_within(64, expr),
+        Query::Proof(first, second) => both_within(64, first, second),
+        Query::Check(first, second, _) => both_within(64, first, second),
     }
 }
 
@@ -61,6 +63,7 @@ fn parts_within(levels: u8, expr: &Expr) -> bool
         Expr::Multiple(_, inner) => is_within(levels, inner),
         Expr::Sum(terms) => terms_within(levels, terms),
         Expr::Game { .. } => true,
+        Expr::Octal { .. } => true,
     }
 }
 

@@ -4,7 +4,8 @@
 //! ```text
 //! line     = B query B
 //! query    = ( "value" | "outcome" | "stops" | "mean" | "temp" | "thermo" ) B1 expr
-//!          | "compare" B1 expr B ";" B expr
+//!          | ( "compare" | "proof" ) B1 expr B ";" B expr
+//!          | "check" B1 expr B ";" B expr B ";" B string
 //! expr     = term { B ( "+" | "-" ) B term }
 //! term     = [ "-" ] counted tail | special tail | ups [ nim ] | nim | "-" body
 //! body     = B1 counted tail | B ( special tail | ups [ nim ] | nim )
@@ -13,7 +14,7 @@
 //! number   = digits [ "/" digits ]
 //! multiple = digits "." primary
 //! primary  = ups | nim | special
-//! special  = switch | tiny | braces | paren | board
+//! special  = switch | tiny | braces | paren | board | octal
 //! switch   = "+-" number
 //! tiny     = ( "Tiny" | "Miny" ) "(" B number B ")"
 //! ups      = "^" { "^" } | "^" digits | "v" { "v" } | "v" digits
@@ -22,8 +23,9 @@
 //! side     = B [ expr { B "," B expr } B ]
 //! bars     = one to eight bytes "|", with no further "|" directly after them
 //! paren    = "(" B expr B ")"
-//! board    = ( "Domineering" | "Clobber" | "Amazons" | "Toads" ) "(" B string B ")"
-//!          | "Strip" "(" B string B "," B string B ")"
+//! board    = ( "Domineering" | "Clobber" | "Amazons" | "Toads" | "Hackenbush" ) B "(" B string B ")"
+//!          | ( "Strip" | "Col" | "Snort" ) B "(" B string B "," B string B ")"
+//! octal    = "Octal" B "(" B string B "," B digits B ")"
 //! string   = one quotation mark, any bytes 0x20 to 0x7E but a quotation mark, one quotation mark
 //! digits   = one to thirty bytes "0" to "9"
 //! ```
@@ -36,6 +38,7 @@
 
 mod arrows;
 mod bars;
+mod boards;
 mod build;
 mod expr;
 mod faults;

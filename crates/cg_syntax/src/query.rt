@@ -1,8 +1,9 @@
 //! What a line of a session is, and why one isn't read.
 use crate::expr::Expr;
+use crate::text::Text;
 use thiserror::Error;
 
-/// A question about one expression or about two.
+/// A question about one expression or about two. `Check` has the text of a proof beside them.
 #[derive(Debug, Drop)]
 pub enum Query {
     /// What is the value of this expression?
@@ -19,6 +20,10 @@ pub enum Query {
     Temp(Expr),
     /// What is the thermograph?
     Thermo(Expr),
+    /// Is the first at least the second, and why?
+    Proof(Expr, Expr),
+    /// Does the text prove that the first is at least the second?
+    Check(Expr, Expr, Text),
 }
 
 /// What a line is.

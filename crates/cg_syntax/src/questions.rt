@@ -4,14 +4,17 @@ ghost use Rattle.cg_reading.specs.Bytes.{has};
 ghost use Rattle.cg_reading.specs.Gives.{Gives};
 ghost use Rattle.cg_reading.specs.Readers.{made_at};
 ghost use Rattle.cg_reading.specs.TokenReaders.{this_word_at};
-ghost use Rattle.cg_syntax.specs.Reading.{asking_at, temp_or_thermo_at, asking_begin, measure_at, compare_at};
+ghost use Rattle.cg_syntax.specs.Reading.{asking_at, temp_or_thermo_at, asking_begin, measure_at};
+ghost use Rattle.cg_syntax.specs.Reading.{both_at, both_asked_at, check_at, compare_or_check_at};
 ghost use Rattle.cg_syntax.specs.Reading.{question_at, read_at};
 ghost use Rattle.cg_syntax.specs.Trees.{tree_of, question_of};
-ghost use Rattle.cg_syntax.specs.Questions.{asking_of, asked_in};
+ghost use Rattle.cg_syntax.specs.Views.{found_of};
+ghost use Rattle.cg_syntax.specs.Questions.{asking_of, asking_both_of, asked_in};
 
 use crate::expr::Expr;
 use crate::faults::earlier;
-use crate::found::Asked;
+use crate::found::{Asked, Found};
+use crate::named::string;
 use crate::query::Query;
 use crate::terms::sum;
 use cg_reading::{ReadFault, after_blanks, after_byte, after_gap, after_word, is_byte};
@@ -29,6 +32,13 @@ pub enum Asking {
     Mean,
     Temp,
     Thermo,
+}
+
+/// What is asked of two expressions.
+#[derive(Clone, Copy, Debug, PartialEq, Eq)]
+pub enum AskingBoth {
+    Compare,
+    Proof,
 }
 
 /// This question by this word.
@@ -103,20 +113,87 @@ fn measure(alloc: Global, line_end: u64, bytes: &[u8]) -> Result<(Asked, &[u8]),
     Ok((Asked { query, fault }, rest))
 }
 
-/// A question about two expressions.
-#[tactic(auto, unfolding(crate::specs::Reading::compare_at))]
-fn compare(alloc: Global, line_end: u64, bytes: &[u8]) -> Result<(Asked, &[u8]), ReadFault>
+/// Two expressions with a semicolon between them.
+#[tactic(auto, unfolding(crate::specs::Reading::both_at))]
+fn both(alloc: Global, line_end: u64, bytes: &[u8]) -> Result<((Found, Found), &[u8]), ReadFault>
     requires { length bytes.now ≤ line_end }
-    ensures { Gives (λ x. (asked_in x.0, x.1.now)) result (compare_at line_end bytes.now) }
+    ensures read { Gives (λ x. ((found_of x.0.0, found_of x.0.1), x.1.now)) result
+        (both_at line_end bytes.now) }
+    ensures shorter { IfOk result (λ x. length x.1.now ≤ length bytes.now) }
 {
-    let rest = after_word(b"compare", bytes)?;
-    let rest = after_gap(rest)?;
-    let (first, rest) = sum(alloc, MOST_OPEN, line_end, rest)?;
+    let (first, rest) = sum(alloc, MOST_OPEN, line_end, bytes)?;
     let rest = after_byte(b';', rest)?;
     let (second, rest) = sum(alloc, MOST_OPEN, line_end, after_blanks(rest))?;
+    Ok(((first, second), rest))
+}
+
+/// The query that asks this of two expressions.
+fn query_of_both(asking: AskingBoth, first: Expr, second: Expr) -> Query
+    ensures { question_of result ≡ asking_both_of asking (tree_of first) (tree_of second) }
+{
+    match asking {
+        AskingBoth::Compare => Query::Compare(first, second),
+        AskingBoth::Proof => Query::Proof(first, second),
+    }
+}
+
+/// A question about two expressions, by the word in front.
+#[tactic(auto, unfolding(crate::specs::Reading::both_asked_at))]
+fn asked_of_both<'a>(
+    alloc: Global,
+    word: &[u8],
+    asking: AskingBoth,
+    line_end: u64,
+    bytes: &'a [u8],
+) -> Result<(Asked, &'a [u8]), ReadFault>
+    requires { length bytes.now ≤ line_end }
+    ensures { Gives (λ x. (asked_in x.0, x.1.now)) result
+        (both_asked_at word.now (asking_both_of asking) line_end bytes.now) }
+{
+    let rest = after_word(word, bytes)?;
+    let rest = after_gap(rest)?;
+    let ((first, second), rest) = both(alloc, line_end, rest)?;
     let fault = earlier(first.fault, second.fault);
-    let query = Query::Compare(first.expr, second.expr);
+    let query = query_of_both(asking, first.expr, second.expr);
     Ok((Asked { query, fault }, rest))
+}
+
+/// A question about two expressions and a text, by the word in front.
+#[tactic(auto, unfolding(crate::specs::Reading::check_at))]
+fn check<'a>(
+    alloc: Global,
+    word: &[u8],
+    line_end: u64,
+    bytes: &'a [u8],
+) -> Result<(Asked, &'a [u8]), ReadFault>
+    requires { length bytes.now ≤ line_end }
+    ensures { Gives (λ x. (asked_in x.0, x.1.now)) result (check_at word.now line_end bytes.now) }
+{
+    let rest = after_word(word, bytes)?;
+    let rest = after_gap(rest)?;
+    let ((first, second), rest) = both(alloc, line_end, rest)?;
+    let rest = after_byte(b';', rest)?;
+    let (text, rest) = string(alloc, after_blanks(rest))?;
+    let rest = after_blanks(rest);
+    let fault = earlier(first.fault, second.fault);
+    let query = Query::Check(first.expr, second.expr, text);
+    Ok((Asked { query, fault }, rest))
+}
+
+/// A comparison or a check, which are told apart by their second byte.
+#[tactic(auto, unfolding(crate::specs::Reading::compare_or_check_at))]
+fn compare_or_check(alloc: Global, line_end: u64, bytes: &[u8]) -> Result<(Asked, &[u8]), ReadFault>
+    requires { length bytes.now ≤ line_end }
+    ensures { Gives (λ x. (asked_in x.0, x.1.now)) result
+        (compare_or_check_at line_end bytes.now) }
+{
+    let rest = after_byte(b'c', bytes)?;
+    match rest.split_first() {
+        Some((second, _)) if is_byte(b'o', *second) => {
+            asked_of_both(alloc, b"ompare", AskingBoth::Compare, line_end, rest)
+        }
+        _ => check(alloc, b"heck", line_end, rest),
+    }
 }
 
 /// Whether the byte begins the word of a question about one expression.
@@ -134,7 +211,10 @@ fn question(alloc: Global, line_end: u64, bytes: &[u8]) -> Result<(Asked, &[u8])
 {
     match bytes.split_first() {
         Some((first, _)) if begins_asking(*first) => measure(alloc, line_end, bytes),
-        _ => compare(alloc, line_end, bytes),
+        Some((first, _)) if is_byte(b'p', *first) => {
+            asked_of_both(alloc, b"proof", AskingBoth::Proof, line_end, bytes)
+        }
+        _ => compare_or_check(alloc, line_end, bytes),
     }
 }
 

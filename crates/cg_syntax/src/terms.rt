@@ -19,11 +19,11 @@ ghost use Rattle.cg_syntax.specs.Views.{found_of, row_of};
 
 use crate::arrows::{is_arrow, nim, some_nim, tail, ups};
 use crate::bars::bars;
+use crate::boards::plain_special;
 use crate::build::{braces_of, joined, multiple, negative, sum_of_terms};
 use crate::expr::{Expr, Term};
 use crate::faults::earlier;
 use crate::found::{Found, Row};
-use crate::named::plain_special;
 use cg_reading::{
     ReadFault, after_blanks, after_byte, after_gap, digits, is_blank, is_byte, is_digit,
 };
@@ -69,14 +69,16 @@ fn primary(
     }
 }
 
-/// Whether the byte begins a switch, tiny or miny, or a board.
+/// Whether the byte begins a switch, tiny or miny, a board, or a heap of an octal game.
 fn begins_plain(byte: u8) -> bool
     ensures { result ≡ has plain_begin byte }
 {
     byte == b'+'
         || byte == b'A'
         || (b'C' <= byte && byte <= b'D')
+        || byte == b'H'
         || byte == b'M'
+        || byte == b'O'
         || (b'S' <= byte && byte <= b'T')
 }
 

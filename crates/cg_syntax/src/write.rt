@@ -2,11 +2,13 @@
 ghost use Rattle.std.specs.Prelude.{◌≡◌, ◌≤◌, ◌++◌, List, ℕ, codes, IfOk, OnOk, string_bytes};
 ghost use Rattle.cg_syntax.specs.Lines.{Reads};
 ghost use Rattle.cg_syntax.specs.Trees.{question_of, tree_of};
-ghost use Rattle.cg_syntax.specs.Written.{QuestionIs, asked_text, height, text_of};
+ghost use Rattle.cg_syntax.specs.Written.{QuestionIs, asked_text, height, quoted, text_of};
 
 use crate::expr::Expr;
 use crate::query::Query;
+use crate::text::Text;
 use crate::write_expr::push_expr;
+use crate::write_tokens::push_quoted;
 use std::alloc::{AllocError, Global};
 
 /// A line that reads as the query. It takes a query that some line reads as, and whose trees have at most 64 nodes on
@@ -28,12 +30,14 @@ fn push_query(alloc: Global, text: &mut Vec<u8>, query: &Query) -> Result<(), Al
 {
     match query {
         Query::Value(expr) => push_asked(alloc, text, b"value ", expr),
-        Query::Compare(first, second) => push_compare(alloc, text, first, second),
+        Query::Compare(first, second) => push_both(alloc, text, b"compare ", first, second),
         Query::Outcome(expr) => push_asked(alloc, text, b"outcome ", expr),
         Query::Stops(expr) => push_asked(alloc, text, b"stops ", expr),
         Query::Mean(expr) => push_asked(alloc, text, b"mean ", expr),
         Query::Temp(expr) => push_asked(alloc, text, b"temp ", expr),
         Query::Thermo(expr) => push_asked(alloc, text, b"thermo ", expr),
+        Query::Proof(first, second) => push_both(alloc, text, b"proof ", first, second),
+        Query::Check(first, second, proof) => push_check(alloc, text, first, second, proof),
     }
 }
 
@@ -50,16 +54,34 @@ fn push_asked(
     push_expr(alloc, text, expr)
 }
 
-/// Puts a comparison at the end.
-fn push_compare(
+/// Puts the words, and behind them both expressions, at the end.
+fn push_both(
+    alloc: Global,
+    text: &mut Vec<u8>,
+    words: &[u8],
+    first: &Expr,
+    second: &Expr,
+) -> Result<(), AllocError>
+    ensures { OnOk result (text.new.items ≡ text.old.items ++ (words.now
+        ++ (text_of (tree_of first.now) ++ (codes ";" ++ text_of (tree_of second.now))))) }
+{
+    push_asked(alloc, text, words, first)?;
+    push_asked(alloc, text, b";", second)
+}
+
+/// Puts the question whether the text proves that the first is at least the second at the end.
+fn push_check(
     alloc: Global,
     text: &mut Vec<u8>,
     first: &Expr,
     second: &Expr,
+    proof: &Text,
 ) -> Result<(), AllocError>
-    ensures { OnOk result (text.new.items ≡ text.old.items ++ (codes "compare "
-        ++ (text_of (tree_of first.now) ++ (codes ";" ++ text_of (tree_of second.now))))) }
+    ensures { OnOk result (text.new.items ≡ text.old.items ++ (codes "check "
+        ++ ((text_of (tree_of first.now) ++ (codes ";" ++ text_of (tree_of second.now)))
+        ++ (codes ";" ++ quoted proof.now)))) }
 {
-    push_asked(alloc, text, b"compare ", first)?;
-    push_asked(alloc, text, b";", second)
+    push_both(alloc, text, b"check ", first, second)?;
+    text.push(b';')?;
+    push_quoted(text, proof)
 }

@@ -6,7 +6,7 @@ ghost use Rattle.cg_syntax.specs.Written.{enclosed_text, is_braces, more_terms, 
 
 use crate::expr::{Expr, Exprs, Term, Terms};
 use crate::write_tokens::{
-    push_after, push_count, push_game, push_number, push_switch, push_tiny, push_ups,
+    push_after, push_count, push_game, push_number, push_octal, push_switch, push_tiny, push_ups,
 };
 use std::alloc::{AllocError, Global};
 
@@ -26,6 +26,7 @@ pub fn push_expr(alloc: Global, text: &mut Vec<u8>, expr: &Expr) -> Result<(), A
         Expr::Multiple(count, inner) => push_multiple(alloc, text, *count, inner),
         Expr::Sum(terms) => push_sum(alloc, text, terms),
         Expr::Game { kind, rules, board } => push_game(text, *kind, rules, board),
+        Expr::Octal { code, heap } => push_octal(alloc, text, code, *heap),
     }
 }
 
@@ -94,6 +95,7 @@ fn are_braces(expr: &Expr) -> bool
         Expr::Multiple(_, _) => false,
         Expr::Sum(_) => false,
         Expr::Game { .. } => false,
+        Expr::Octal { .. } => false,
     }
 }
 

@@ -1,6 +1,6 @@
 //! Writing what has no expression inside it: each function puts its text at the end.
 ghost use Rattle.std.specs.Prelude.{◌≡◌, ◌++◌, ◌∷◌, [], cond, codes, decimal, replicate, OnOk};
-ghost use Rattle.cg_syntax.specs.Written.{fraction_text, kind_text, quoted, rules_text, ups_text};
+ghost use Rattle.cg_syntax.specs.Written.{fraction_text, kind_text, quoted, texts_of_game, two_quoted, ups_text};
 
 use crate::kind::GameKind;
 use crate::text::Text;
@@ -144,12 +144,28 @@ pub fn push_game(
     board: &Text,
 ) -> Result<(), AllocError>
     ensures { OnOk result (text.new.items ≡ text.old.items
-        ++ (kind_text kind ++ (40 ∷ (rules_text kind rules.now ++ (quoted board.now ++ (41 ∷ [])))))) }
+        ++ (kind_text kind ++ (40 ∷ (texts_of_game kind rules.now board.now ++ (41 ∷ []))))) }
 {
     push_kind(text, kind)?;
     text.push(b'(')?;
-    push_rules(text, kind, rules)?;
-    push_quoted(text, board)?;
+    push_texts(text, kind, rules, board)?;
+    text.push(b')')?;
+    Ok(())
+}
+
+/// A heap of an octal game.
+pub fn push_octal(
+    alloc: Global,
+    text: &mut Vec<u8>,
+    code: &Text,
+    heap: u128,
+) -> Result<(), AllocError>
+    ensures { OnOk result (text.new.items ≡ text.old.items
+        ++ (codes "Octal(" ++ ((quoted code.now ++ (44 ∷ decimal heap)) ++ (41 ∷ [])))) }
+{
+    text.extend_from_slice(b"Octal(")?;
+    push_quoted(text, code)?;
+    push_after(alloc, text, b',', heap)?;
     text.push(b')')?;
     Ok(())
 }
@@ -164,33 +180,41 @@ fn push_kind(text: &mut Vec<u8>, kind: GameKind) -> Result<(), AllocError>
         GameKind::Amazons => text.extend_from_slice(b"Amazons"),
         GameKind::Toads => text.extend_from_slice(b"Toads"),
         GameKind::Strip => text.extend_from_slice(b"Strip"),
+        GameKind::Hackenbush => text.extend_from_slice(b"Hackenbush"),
+        GameKind::Col => text.extend_from_slice(b"Col"),
+        GameKind::Snort => text.extend_from_slice(b"Snort"),
     }
 }
 
-/// The rules of a strip, and a comma. Other games have none.
-fn push_rules(text: &mut Vec<u8>, kind: GameKind, rules: &Text) -> Result<(), AllocError>
-    ensures { OnOk result (text.new.items ≡ text.old.items ++ rules_text kind rules.now) }
+/// What stands between the parentheses of a board.
+fn push_texts(
+    text: &mut Vec<u8>,
+    kind: GameKind,
+    rules: &Text,
+    board: &Text,
+) -> Result<(), AllocError>
+    ensures { OnOk result (text.new.items ≡ text.old.items ++ texts_of_game kind rules.now board.now) }
 {
     match kind {
-        GameKind::Domineering => Ok(()),
-        GameKind::Clobber => Ok(()),
-        GameKind::Amazons => Ok(()),
-        GameKind::Toads => Ok(()),
-        GameKind::Strip => push_first_of_two(text, rules),
+        GameKind::Hackenbush => push_quoted(text, rules),
+        GameKind::Strip => push_two(text, rules, board),
+        GameKind::Col | GameKind::Snort => push_two(text, board, rules),
+        GameKind::Domineering | GameKind::Clobber => push_quoted(text, board),
+        GameKind::Amazons | GameKind::Toads => push_quoted(text, board),
     }
 }
 
-/// A text between quotation marks, and a comma.
-fn push_first_of_two(text: &mut Vec<u8>, rules: &Text) -> Result<(), AllocError>
-    ensures { OnOk result (text.new.items ≡ text.old.items ++ (quoted rules.now ++ codes ",")) }
+/// Two texts between quotation marks, with a comma between them.
+fn push_two(text: &mut Vec<u8>, first: &Text, second: &Text) -> Result<(), AllocError>
+    ensures { OnOk result (text.new.items ≡ text.old.items ++ two_quoted first.now second.now) }
 {
-    push_quoted(text, rules)?;
+    push_quoted(text, first)?;
     text.push(b',')?;
-    Ok(())
+    push_quoted(text, second)
 }
 
 /// A text between quotation marks.
-fn push_quoted(text: &mut Vec<u8>, string: &Text) -> Result<(), AllocError>
+pub fn push_quoted(text: &mut Vec<u8>, string: &Text) -> Result<(), AllocError>
     ensures { OnOk result (text.new.items ≡ text.old.items ++ quoted string.now) }
 {
     text.push(b'"')?;

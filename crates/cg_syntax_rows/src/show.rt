@@ -1,6 +1,6 @@
 //! What lines read as, in words: a tree is written with all that it holds, a number as `num/den` with its minus, ups and
 //! downs as `up3` and `down3`, a nimber as `nim2`, a sum as its terms with their signs, a board as its game, its rules and
-//! its text.
+//! its text, a heap of an octal game as its code and its size.
 use cg_syntax::{Expr, GameKind, Query, Term};
 use std::alloc::{AllocError, Global};
 
@@ -11,6 +11,9 @@ fn kind_text(kind: GameKind) -> &'static str {
         GameKind::Amazons => "Amazons",
         GameKind::Toads => "Toads",
         GameKind::Strip => "Strip",
+        GameKind::Hackenbush => "Hackenbush",
+        GameKind::Col => "Col",
+        GameKind::Snort => "Snort",
     }
 }
 
@@ -90,7 +93,18 @@ fn expr_text(alloc: Global, depth: u8, expr: &Expr) -> Result<String, AllocError
             let board = bytes_text(alloc, board.as_slice())?;
             format!(in alloc; "{name}[{rules}][{board}]")
         }
+        Expr::Octal { code, heap } => {
+            let code = bytes_text(alloc, code.as_slice())?;
+            format!(in alloc; "octal[{code}] {heap}")
+        }
     }
+}
+
+/// Two expressions.
+fn both_text(alloc: Global, first: &Expr, second: &Expr) -> Result<String, AllocError> {
+    let first = expr_text(alloc, 70, first)?;
+    let second = expr_text(alloc, 70, second)?;
+    format!(in alloc; "{first} ; {second}")
 }
 
 /// A query.
@@ -98,15 +112,23 @@ pub fn query_text(alloc: Global, query: &Query) -> Result<String, AllocError> {
     let (name, expr) = match query {
         Query::Value(expr) => ("value", expr),
         Query::Compare(first, second) => {
-            let first = expr_text(alloc, 70, first)?;
-            let second = expr_text(alloc, 70, second)?;
-            return format!(in alloc; "compare {first} ; {second}");
+            let both = both_text(alloc, first, second)?;
+            return format!(in alloc; "compare {both}");
         }
         Query::Outcome(expr) => ("outcome", expr),
         Query::Stops(expr) => ("stops", expr),
         Query::Mean(expr) => ("mean", expr),
         Query::Temp(expr) => ("temp", expr),
         Query::Thermo(expr) => ("thermo", expr),
+        Query::Proof(first, second) => {
+            let both = both_text(alloc, first, second)?;
+            return format!(in alloc; "proof {both}");
+        }
+        Query::Check(first, second, proof) => {
+            let both = both_text(alloc, first, second)?;
+            let proof = bytes_text(alloc, proof.as_slice())?;
+            return format!(in alloc; "check {both} ; {proof}");
+        }
     };
     let expr = expr_text(alloc, 70, expr)?;
     format!(in alloc; "{name} {expr}")

@@ -1,7 +1,7 @@
-use Rattle.cg_syntax.specs.Tree.{number, ups, nimber, switch, tiny, braces, negative, multiple, sum, game, terms_from}
+use Rattle.cg_syntax.specs.Tree.{number, ups, nimber, switch, tiny, braces, negative, multiple, sum, game, octal, terms_from}
 use Rattle.cg_syntax.specs.Trees.{tree_of, trees_in, terms_in}
 use Rattle.cg_syntax.specs.declared.expr.Expr.TheVariants as expr
-use Rattle.cg_syntax.proofs.TreeOf.{number_tree, ups_tree_of, nimber_tree, switch_tree, tiny_tree, braces_tree, negative_tree, multiple_tree, sum_tree, game_tree}
+use Rattle.cg_syntax.proofs.TreeOf.{number_tree, ups_tree_of, nimber_tree, switch_tree, tiny_tree, braces_tree, negative_tree, multiple_tree, sum_tree, game_tree, octal_tree}
 use Rattle.cg_syntax.proofs.WrittenSteps.{braces_test}
 use Rattle.cg_syntax.proofs.write_expr.are_braces.Goals as goal
 
@@ -48,3 +48,7 @@ pub returns-in-Game : goal.returns-in-Game
 returns-in-Game c = braces_test c.args.expr.now (expr.Game c.in-Game.kind c.in-Game.rules c.in-Game.board)
     (game c.in-Game.kind c.in-Game.rules c.in-Game.board) c.in-Game.is
     (game_tree c.in-Game.kind c.in-Game.rules c.in-Game.board)
+
+pub returns-in-Octal : goal.returns-in-Octal
+returns-in-Octal c = braces_test c.args.expr.now (expr.Octal c.in-Octal.code c.in-Octal.heap) (octal c.in-Octal.code c.in-Octal.heap)
+    c.in-Octal.is (octal_tree c.in-Octal.code c.in-Octal.heap)
