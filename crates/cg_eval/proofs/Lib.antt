@@ -13,6 +13,7 @@ pub mod Expressions
 pub mod ListSteps
 pub mod Verdicts
 pub mod OnePicture
+pub mod EqualPictures
 pub mod OneAnswer
 pub mod Replies
 pub mod PictureTexts

@@ -18,9 +18,9 @@ one-shown g show p r (inr (n, (x, is, e))) (inr (m, (y, same, f))) =
     e ∙ ap (λ z. answer (show z)) (one-picture g x y is same) ∙ sym f
 
 some-shown : (g : Game) (show : Picture → List ℕ) → (p : Piece) × IsShown g show p
-some-shown g show = by (needs-or-not g) (some-picture g)
+some-shown g show = by (needs-or-not (can g)) (some-picture g)
   where
-    by : NeedsMore places g ⊎ (¬ NeedsMore places g) → ((p : Picture) × IsPicture g p) → (p : Piece) × IsShown g show p
+    by : NeedsMore places (can g) ⊎ (¬ NeedsMore places (can g)) → ((p : Picture) × IsPicture g p) → (p : Piece) × IsShown g show p
     by (inl n) x = (too_fine, inl (n, refl))
     by (inr n) x = (answer (show x.0), inr (n, (x.0, x.1, refl)))
 
@@ -29,15 +29,15 @@ one-answer (value t) p r a b = a ∙ sym b
 one-answer (compare s t) p r a b = a ∙ sym b
 one-answer (outcome t) p r a b = a ∙ sym b
 one-answer (stops t) p r a b = a ∙ sym b
-one-answer (mean t) p r a b = one-shown (can (meaning t)) mean_text p r a b
-one-answer (temp t) p r a b = one-shown (can (meaning t)) temp_text p r a b
-one-answer (thermo t) p r a b = one-shown (can (meaning t)) thermograph_text p r a b
+one-answer (mean t) p r a b = one-shown (meaning t) mean_text p r a b
+one-answer (temp t) p r a b = one-shown (meaning t) temp_text p r a b
+one-answer (thermo t) p r a b = one-shown (meaning t) thermograph_text p r a b
 
 pub some-answer : (q : Question) → (p : Piece) × IsAnswerTo q p
 some-answer (value t) = (_, refl)
 some-answer (compare s t) = (_, refl)
 some-answer (outcome t) = (_, refl)
 some-answer (stops t) = (_, refl)
-some-answer (mean t) = some-shown (can (meaning t)) mean_text
-some-answer (temp t) = some-shown (can (meaning t)) temp_text
-some-answer (thermo t) = some-shown (can (meaning t)) thermograph_text
+some-answer (mean t) = some-shown (meaning t) mean_text
+some-answer (temp t) = some-shown (meaning t) temp_text
+some-answer (thermo t) = some-shown (meaning t) thermograph_text

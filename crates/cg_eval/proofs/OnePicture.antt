@@ -17,31 +17,31 @@ use Rattle.cg_thermo.proofs.Upward.{corners-same, seen-own, thermal-none, therma
 use Rattle.cg_eval.specs.Pictures.{IsPicture, Picture}
 use Rattle.cg_eval.proofs.Below.{below_or_not}
 
--- a game that equals no number has a temperature at the scale of its height
-record Cools (g : Game) : Type 0 where
+-- a game that equals no number has a temperature at each scale of at least its height
+pub record Cools (s : ℕ) (g : Game) : Type 0 where
   pub at : ℕ
-  pub is : TemperatureIs number-decide (height g) g at
+  pub is : TemperatureIs number-decide s g at
 
-cools : (g : Game) → NoNumber g → Cools g
-cools g never =
-    let (t, h) = temperature-there number-decide (height g) g (scaffolds_agree number-decide (height g) g never (omega arith))
-    in record { at = t; is = h }
+pub cools : (s : ℕ) (g : Game) → height g ≤ s → NoNumber g → Cools s g
+cools s g h never =
+    let (t, k) = temperature-there number-decide s g (scaffolds_agree number-decide s g never h)
+    in record { at = t; is = k }
 
--- where the mast begins at the scale of the height
-record Mast (g : Game) : Type 0 where
+-- where the mast begins at a scale of at least the height
+pub record Mast (s : ℕ) (g : Game) : Type 0 where
   pub end : ℕ
-  pub from : MastFrom (height g) g end
+  pub from : MastFrom s g end
 
-mast : (g : Game) → Mast g
-mast g = by (number-decide g)
+pub mast : (s : ℕ) (g : Game) → height g ≤ s → Mast s g
+mast s g h = by (number-decide g)
   where
-    by : Decided g → Mast g
+    by : Decided g → Mast s g
     by (inl w) = record {
       end = 0;
       from = record { number = λ y f. refl; other = λ never. absurd (never w.0 w.1) };
     }
     by (inr never) =
-        let c = cools g never in record {
+        let c = cools s g h never in record {
           end = c.at;
           from = record { number = λ y f. absurd (never y f); other = λ k. c.is };
         }
@@ -63,7 +63,7 @@ thermal g = by (number-decide g)
       is = thermal-number g w.0 w.0 (ratio (negsuc 0) (exp_of w.0)) w.1 (λ y f. one_number w.0 y g w.1 f) refl refl;
     }
     by (inr never) =
-        let m = mast g in
+        let m = mast (height g) g (omega arith) in
         record {
           mean = ratio (scaffold_of number-decide (height g) g m.end).left (height g);
           temp = ratio (pos m.end) (height g);
@@ -83,7 +83,7 @@ one-thermal g m t n u a b = by (number-decide g)
         let x = a.number w.0 w.1 in let y = b.number w.0 w.1 in
         record { means = x.0 ∙ sym y.0; temps = x.1 ∙ sym y.1 }
     by (inr never) =
-        let c = cools g never in
+        let c = cools (height g) g (omega arith) never in
         let x = a.other never (height g) c.at (omega arith) c.is in
         let y = b.other never (height g) c.at (omega arith) c.is in
         record { means = x.0 ∙ sym y.0; temps = x.1 ∙ sym y.1 }
@@ -93,7 +93,7 @@ one-thermal g m t n u a b = by (number-decide g)
 pub some-picture : (g : Game) → (p : Picture) × IsPicture g p
 some-picture g =
     let h = thermal g in
-    let m = mast g in
+    let m = mast (height g) g (omega arith) in
     let s = height g in
     let seen = seen-own s g m.end (smooth-high s g (omega arith)) m.from in (
       record { mean = h.mean; temp = h.temp; left = left_corners s g m.end; right = right_corners s g m.end },
@@ -106,7 +106,7 @@ some-picture g =
 
 pub one-picture : (g : Game) (p q : Picture) → IsPicture g p → IsPicture g q → p ≡ q
 one-picture g p q a b =
-    let m = mast g in
+    let m = mast (height g) g (omega arith) in
     let t = one-thermal g p.mean p.temp q.mean q.temp a.thermal b.thermal in
     let l = a.left (height g) m.end (omega arith) m.from ∙ sym (b.left (height g) m.end (omega arith) m.from) in
     let r = a.right (height g) m.end (omega arith) m.from ∙ sym (b.right (height g) m.end (omega arith) m.from) in

@@ -43,6 +43,7 @@ use Rattle.cg_eval.specs.declared.pictures.Part.{Part}
 use Rattle.cg_eval.specs.declared.pictures.Part.TheVariants as parts
 use Rattle.cg_eval.specs.declared.telling.Asked.{Asked}
 use Rattle.cg_eval.specs.declared.telling.Asked.TheVariants as asking
+use Rattle.cg_eval.proofs.EqualPictures.{equal-picture}
 use Rattle.cg_eval.proofs.Replies.{both_made, le-forms, le-value_zero, makes_spends, zero-le_value}
 use Rattle.cg_eval.proofs.Steps.{stops_memory}
 
@@ -95,7 +96,7 @@ pub drawn-none : {A : Type 0} (part : Part) (g : Game) (o : Option (String A)) �
 drawn-none {A} part g o e d = let P : Option (String A) → Type 0 = λ z. IsDrawn part g z in subst P e d
 
 part-answer : (part : Part) (t : Tree) (text : List ℕ) → ¬ NeedsMore places (can (meaning t))
-    → (p : Picture) → IsPicture (can (meaning t)) p → text ≡ part_text part p → IsAnswerTo (part_asked part t) (answer text)
+    → (p : Picture) → IsPicture (meaning t) p → text ≡ part_text part p → IsAnswerTo (part_asked part t) (answer text)
 part-answer parts.Mean t text n p is e = inr (n, (p, is, ap answer e))
 part-answer parts.Temp t text n p is e = inr (n, (p, is, ap answer e))
 part-answer parts.Whole t text n p is e = inr (n, (p, is, ap answer e))
@@ -111,7 +112,7 @@ pub told-part : (g : Game) (h : ℕ) (part : Part) (text : List ℕ) (a : Answer
 told-part g h part text a (n, (p, is, e)) s f = tells-answer g h (asking.Picture part) text a s f (λ t k.
     let N : Game → Type 0 = λ z. ¬ NeedsMore places z in
     let P : Game → Type 0 = λ z. IsPicture z p in
-    part-answer part t text (subst N k n) p (subst P k is) e)
+    part-answer part t text (subst N k n) p (equal-picture (can (meaning t)) (meaning t) p (can-equal (meaning t)) (subst P k is)) e)
 
 pub told-too_fine : (g : Game) (h : ℕ) (part : Part) (a : Answered) → NeedsMore places g → IsRefusedBy too_fine a
     → Tells g h (asking.Picture part) a

@@ -70,24 +70,25 @@ winner true false = codes "L"
 winner false true = codes "R"
 winner false false = codes "N"
 
--- what the picture of a value shows; or a refusal, where the mean or the temperature of some position of the value needs more
--- than 60 binary places
+-- what the picture of a game shows; or a refusal, where the mean or the temperature of some position of the game's canonical
+-- form needs more than 60 binary places
 abbrev pub IsShown : Game → (Picture → List ℕ) → Piece → Type 0
 IsShown g show reply =
-    (NeedsMore places g × (reply ≡ too_fine))
-    ⊎ ((¬ NeedsMore places g) × ((p : Picture) × IsPicture g p × (reply ≡ answer (show p))))
+    (NeedsMore places (can g) × (reply ≡ too_fine))
+    ⊎ ((¬ NeedsMore places (can g)) × ((p : Picture) × IsPicture g p × (reply ≡ answer (show p))))
 
 -- the answer to the question: the name of the value, how the two compare, who wins, the stops, the mean, the temperature,
--- the whole thermograph. The value of an expression is the canonical form of what it means
+-- the whole thermograph. The value of an expression is the canonical form of what it means; stops, mean, temperature and
+-- thermograph are those of the very game that it means, with all its options
 abbrev pub IsAnswerTo : Question → Piece → Type 0
 IsAnswerTo (value t) reply = reply ≡ answer (name_of (can (meaning t)))
 IsAnswerTo (compare s t) reply = reply ≡ answer (comparison (le (meaning s) (meaning t)) (le (meaning t) (meaning s)))
 IsAnswerTo (outcome t) reply = reply ≡ answer (winner (le nothing (meaning t)) (le (meaning t) nothing))
 IsAnswerTo (stops t) reply =
     reply ≡ answer (stops_text (form.stops number-decide (meaning t)).left (form.stops number-decide (meaning t)).right)
-IsAnswerTo (mean t) reply = IsShown (can (meaning t)) mean_text reply
-IsAnswerTo (temp t) reply = IsShown (can (meaning t)) temp_text reply
-IsAnswerTo (thermo t) reply = IsShown (can (meaning t)) thermograph_text reply
+IsAnswerTo (mean t) reply = IsShown (meaning t) mean_text reply
+IsAnswerTo (temp t) reply = IsShown (meaning t) temp_text reply
+IsAnswerTo (thermo t) reply = IsShown (meaning t) thermograph_text reply
 
 -- ---- replies
 
