@@ -1,5 +1,5 @@
 -- Equal games have one picture: the same mean, temperature and corners of both walls.
-use Rattle.std.proofs.Common.{◌≡◌, refl, ap, sym, ◌∙◌, subst, ℕ, ◌+◌, ◌≤◌, inl, inr, arith, map}
+use Rattle.std.proofs.Common.{◌≡◌, ap, sym, ◌∙◌, subst, ℕ, ◌+◌, ◌≤◌, inl, inr, arith, map}
 use Rattle.cg_dyadic.specs.Number.{Number, ratio}
 use Rattle.cg_form.specs.Game.{Game, number}
 use Rattle.cg_form.specs.Heights.{height}

@@ -22,3 +22,4 @@ mod telling;
 
 pub use answered::Answered;
 pub use line::answer;
+pub use reply::answer_query;

@@ -7,7 +7,7 @@ ghost use Rattle.cg_syntax.specs.Lines.{is_blank_line, IsComment};
 
 use crate::Answered;
 use crate::refusals::refuse_syntax;
-use crate::reply::reply;
+use crate::reply::answer_query;
 use cg_cells::CellStore;
 use cg_nodes::GameFacts;
 use cg_syntax::laws::one_query;
@@ -40,7 +40,7 @@ pub fn answer<S: CellStore<GameFacts<CgBoards>>>(
 {
     one_query();
     match read_line(alloc, line) {
-        Ok(Line::Ask(query)) => reply(alloc, store, &query, share, positions),
+        Ok(Line::Ask(query)) => answer_query(alloc, store, &query, share, positions),
         Ok(Line::Blank) => unreachable!(),
         Ok(Line::Comment) => unreachable!(),
         Err(SyntaxFault::Syntax(column)) => refuse_syntax(alloc, column),

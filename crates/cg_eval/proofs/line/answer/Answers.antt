@@ -23,29 +23,29 @@ pub returns-in-Ok-Ask-clause-reply : goal.returns-in-Ok-Ask-clause-reply
 returns-in-Ok-Ask-clause-reply g c =
     let q = question_of c.in-Ok-Ask.query in
     let line = c.args.line.now in
-    let store = g.S.CellStore.state c.reply.new.store in
+    let store = g.S.CellStore.state c.answer_query.new.store in
     let reads : Reads line q = rw c.in-Ok-Ask.field-0-is at c.in-Ok-Ask.ensures.read in
     if_ok_map (λ (a : Answered). IsAnswered c.args.share c.args.positions store q a) (λ
-    (a : Answered). IsReply c.args.share c.args.positions line (shown a)) c.reply.result
+    (a : Answered). IsReply c.args.share c.args.positions line (shown a)) c.answer_query.result
     (λ a h. reply-read c.args.share c.args.positions line q (shown a)
-    (c.one_query.ensures.unique line) reads h.reply) c.reply.ensures.reply
+    (c.one_query.ensures.unique line) reads h.reply) c.answer_query.ensures.reply
 
 pub returns-in-Ok-Ask-clause-handle : goal.returns-in-Ok-Ask-clause-handle
 returns-in-Ok-Ask-clause-handle g c =
     let q = question_of c.in-Ok-Ask.query in
     let line = c.args.line.now in
-    let store = g.S.CellStore.state c.reply.new.store in
+    let store = g.S.CellStore.state c.answer_query.new.store in
     let reads : Reads line q = rw c.in-Ok-Ask.field-0-is at c.in-Ok-Ask.ensures.read in
     if_ok_map (λ (a : Answered). IsAnswered c.args.share c.args.positions store q a) (λ
-    (a : Answered). HandleOf store line a.refused a.handle) c.reply.result
+    (a : Answered). HandleOf store line a.refused a.handle) c.answer_query.result
     (λ a h. handle-read c.args.share c.args.positions store line q a
-    (c.one_query.ensures.unique line) reads h) c.reply.ensures.reply
+    (c.one_query.ensures.unique line) reads h) c.answer_query.ensures.reply
 
 pub returns-in-Ok-Ask-clause-keeps : goal.returns-in-Ok-Ask-clause-keeps
-returns-in-Ok-Ask-clause-keeps g c = c.reply.ensures.keeps
+returns-in-Ok-Ask-clause-keeps g c = c.answer_query.ensures.keeps
 
 pub returns-in-Ok-Ask-clause-spare : goal.returns-in-Ok-Ask-clause-spare
-returns-in-Ok-Ask-clause-spare g c = c.reply.ensures.spare
+returns-in-Ok-Ask-clause-spare g c = c.answer_query.ensures.spare
 
 pub returns-in-Err-Syntax-clause-reply : goal.returns-in-Err-Syntax-clause-reply
 returns-in-Err-Syntax-clause-reply g c =

@@ -4,7 +4,7 @@ use Rattle.cg_syntax.specs.Trees.{question_of}
 use Rattle.cg_eval.specs.declared.answered.Answered.{Answered}
 use Rattle.cg_eval.specs.Shown.{IsAnswered}
 use Rattle.cg_eval.proofs.Replies.{answered-store, if_ok_map, keeps-store}
-use Rattle.cg_eval.proofs.reply.reply.Goals as goal
+use Rattle.cg_eval.proofs.reply.answer_query.Goals as goal
 
 -- the work borrows the store to the end, so what the store is then is what the work had
 pub returns-clause-reply : goal.returns-clause-reply
