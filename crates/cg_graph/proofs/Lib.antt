@@ -1,0 +1,16 @@
+pub mod Colours
+pub mod PathLemmas
+pub mod Cutting
+pub mod Cuts
+pub mod RedBlue
+pub mod Productions
+pub mod Places
+pub mod PairFaults
+pub mod LabelSteps
+pub mod Adjacent
+pub mod Symbols
+pub mod Taken
+pub mod DrawingReadings
+pub mod ChartReadings
+pub mod ChartSound
+pub mod Starts

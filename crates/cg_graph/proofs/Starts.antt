@@ -1,0 +1,43 @@
+-- The start of a drawing without green edges.
+use Rattle.std.proofs.Common.{◌≡◌, ◌≢◌, ℕ, ◌==◌, true, List, length, inl, inr, sym, ◌∙◌, arith}
+use Rattle.std.specs.Prelude.{codes}
+use Rattle.std.specs.Str.{bytes_eq}
+use Rattle.std.proofs.lemmas.Bool.{eq-eqb}
+use Rattle.std.proofs.lemmas.List.{length-map}
+use Rattle.cg_moves.proofs.Same.{both-true, bytes_eq-refl}
+use Rattle.cg_graph.specs.Drawings.{colours_of, drawing_rules, drawing_start, graph_of}
+use Rattle.cg_graph.specs.Hackenbush.{IsRedBlue, green}
+use Rattle.cg_graph.specs.HackenbushLaw.{length-kept}
+use Rattle.cg_graph.specs.Paths.{Edge, colour, is_joined, settled}
+use Rattle.cg_graph.specs.declared.edge.ColouredEdge.{ColouredEdge}
+use Rattle.cg_graph.proofs.Colours.{kept-part, there-or-gone}
+use Rattle.cg_graph.proofs.Cuts.{settled-settled}
+
+graph-long : (drawing : List ColouredEdge) → length (graph_of drawing) ≡ length drawing
+graph-long drawing = length-map drawing (λ e. (let f : Edge = record { one = e.one; other = e.other } in f))
+
+pub start-long : (drawing : List ColouredEdge) → length (settled (graph_of drawing) (colours_of drawing)) ≡ length drawing
+start-long drawing =
+    length-kept (is_joined (graph_of drawing) (colours_of drawing)) (colours_of drawing)
+    ∙ length-map drawing (λ (e : ColouredEdge). e.colour)
+
+pub start-has : (drawing : List ColouredEdge) → (drawing_rules drawing).has (drawing_start drawing) ≡ true
+start-has drawing =
+    let cells = settled (graph_of drawing) (colours_of drawing) in
+    both-true (bytes_eq (codes ".brg") (codes ".brg")) (length cells == length (graph_of drawing))
+    (bytes_eq-refl (codes ".brg"))
+    (eq-eqb (length cells) (length (graph_of drawing)) (start-long drawing ∙ sym (graph-long drawing)))
+
+pub start-red_blue : (drawing : List ColouredEdge) → ((k : ℕ) → colour (colours_of drawing) k ≢ green)
+    → IsRedBlue (graph_of drawing) (drawing_start drawing)
+start-red_blue drawing none =
+    let cells = settled (graph_of drawing) (colours_of drawing) in
+    record {
+      has = start-has drawing;
+      settled = settled-settled (graph_of drawing) (colours_of drawing);
+      no_green = λ k e. elim (there-or-gone cells k) [
+        | inl g ↦ absurd (omega (arith, e, g))
+        | inr there ↦
+            none k (sym ((kept-part (is_joined (graph_of drawing) (colours_of drawing)) (colours_of drawing)).same k there) ∙ e)
+      ];
+    }

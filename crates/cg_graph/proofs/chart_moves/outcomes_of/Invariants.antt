@@ -1,0 +1,10 @@
+use Rattle.std.proofs.Common.{◌≡◌, []}
+use Rattle.std.specs.List.{flat_map}
+use Rattle.cg_moves.specs.Rising.{counted, with_all}
+use Rattle.cg_graph.specs.Charts.{edges_of}
+use Rattle.cg_graph.specs.Colouring.{colourings_at}
+use Rattle.cg_graph.proofs.chart_moves.outcomes_of.Given as goal
+
+abbrev pub invariant-loop-vertex : goal.invariant-loop-vertex
+invariant-loop-vertex l = l.outcomes
+    ≡ with_all [] (flat_map (colourings_at l.chart.snort (edges_of l.chart.edges) l.player l.board.cells) (counted 0 l.vertex))

@@ -1,0 +1,12 @@
+pub mod Paths
+pub mod Hackenbush
+pub mod HackenbushLaw
+pub mod Worked
+pub mod Colouring
+pub mod ColouringLaw
+pub mod Grammar
+pub mod Reading
+pub mod Drawings
+pub mod Charts
+pub mod Labels
+pub mod Items
