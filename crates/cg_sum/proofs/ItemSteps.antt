@@ -1,5 +1,5 @@
 -- The item of a sum, as it is made, found or counted.
-use Rattle.std.proofs.Common.{◌≡◌, ◌⊎◌, inl, inr, ℕ, ◌+◌, ◌≤◌, arith, refl, ap, sym, ◌∙◌, subst, List, [], ◌∷◌, Option, Some, None, IsSome, Result, Ok, Err}
+use Rattle.std.proofs.Common.{◌≡◌, ℕ, ◌+◌, ◌≤◌, arith, refl, ap, sym, ◌∙◌, subst, List, [], ◌∷◌, Option, Some, None, IsSome, Result, Ok, Err}
 use Rattle.std.specs.Prelude.{IfErr, IfOk, OnOk}
 use Rattle.std.specs.Result.{result_ok}
 use Rattle.cg_canon.specs.Items.{AllPass, Item, WasRefused, made}
@@ -11,27 +11,28 @@ use Rattle.cg_cells.specs.Store.{Known, Spends, State, thing_at}
 use Rattle.cg_dyadic.specs.Exact.{IsExact, sum_num}
 use Rattle.cg_dyadic.specs.Number.{Number, exp_of}
 use Rattle.cg_dyadic.specs.declared.fault.RangeFault.{RangeFault}
-use Rattle.cg_form.specs.Game.{Among, Game, node, number}
+use Rattle.cg_form.specs.Game.{Game, node, number}
 use Rattle.cg_form.specs.Sum.{sum}
-use Rattle.cg_nodes.proofs.Later.{game_later, spends_then, stands_game, stands_later}
-use Rattle.cg_nodes.specs.Games.{IsGame, IsInRange, IsNode, StandsFor, game_at, games_at}
-use Rattle.cg_nodes.specs.Meant.{Meant}
+use Rattle.cg_nodes.proofs.Later.{stands_game, stands_later}
+use Rattle.cg_nodes.specs.declared.reading.Sides.{Sides}
+use Rattle.cg_nodes.specs.Games.{IsGame, IsInRange, StandsFor, game_at, games_at}
+use Rattle.cg_nodes.specs.Meant.{Meant, form}
 use Rattle.cg_nodes.specs.Spelled.{can}
 use Rattle.cg_sum.specs.Lists.{sum_item}
 use Rattle.cg_canon.specs.Made.{ItemsMade}
-use Rattle.cg_sum.specs.Progress.{OptionsFound}
-use Rattle.cg_sum.specs.Written.{written}
-use Rattle.cg_sum.specs.declared.found.Sums.{Sums}
+use Rattle.cg_sum.specs.Progress.{IsNoteOf, IsSides}
 use Rattle.cg_canon.proofs.MadeSteps.{made_as, read_then}
 use Rattle.cg_sum.proofs.OutsideItems.{number_charged, refused_number}
 use Rattle.cg_sum.proofs.Sums.{can-sum_numbers}
+use Rattle.cg_sum.proofs.SumSteps.{sums_same}
 
 -- ---- sides that are read as slices
 
-pub sides_as : {R : Type 0} (s : State Meant R) (ls rs hl hr : List ℕ) (g : Game) → hl ≡ ls → hr ≡ rs
-    → can (node (games_at s ls) (games_at s rs)) ≡ g → can (node (games_at s hl) (games_at s hr)) ≡ g
-sides_as s ls rs hl hr g e d is =
-    ap (λ z. can (node (games_at s z) (games_at s hr))) e ∙ (ap (λ z. can (node (games_at s ls) (games_at s z))) d ∙ is)
+pub sides_as : {R : Type 0} (s : State Meant R) (sides : Sides) (hl hr : List ℕ) (g : Game) → hl ≡ sides.lefts
+    → hr ≡ sides.rights → IsSides s sides g → can (node (games_at s hl) (games_at s hr)) ≡ can g
+sides_as s sides hl hr g e d is =
+    ap (λ z. can (node (games_at s z) (games_at s hr))) e ∙ ap (λ z. can (node (games_at s sides.lefts) (games_at s z))) d
+    ∙ is.form
 
 -- ---- the own spare
 
@@ -40,20 +41,6 @@ spare_read (Ok h) a b c e p = omega arith
 spare_read (Err x) a b c e p = tt
 
 -- ---- a later state
-
-pub options_later : {R Q : Type 0} (s : State Meant R) (t : State Meant Q) → Grows (thing_at s) (thing_at t) → (m : Sums) (f k : ℕ)
-    → IsGame s f → IsGame s k → OptionsFound s m f k → OptionsFound t m f k
-options_later s t grows m f k gf gk found =
-    record {
-      first = λ a i.
-          let W : Game → Type 0 = λ z. Among a (written z) in
-          let (p, e, some) = found.first a (subst W (game_later s t grows f gf) i) in
-          (p, stands_later s t grows p a e, some);
-      second = λ c i.
-          let W : Game → Type 0 = λ z. Among c (written z) in
-          let (q, e, some) = found.second c (subst W (game_later s t grows k gk) i) in
-          (q, stands_later s t grows q c e, some);
-    }
 
 some_thing : (o : Option Meant) → IsSome o → (x : Meant) × (o ≡ Some x)
 some_thing None k = absurd cc
@@ -110,16 +97,11 @@ module _ (a b : Number) where
         refused_number r share before after (can (sum (number a) (number b))) 1
         (subst P (sym (can-sum_numbers a b z is)) outside) p
 
-module _ {R : Type 0} (w u v x : State Meant (WorkRest R)) (f k : ℕ) (a b : Number) (o : Option Number)
+module _ {R : Type 0} (w v x : State Meant (WorkRest R)) (f k : ℕ) (a b : Number) (o : Option Number)
     (q : Result Number RangeFault) (r : Result ℕ ValueFault) (isf : game_at w f ≡ number a)
-    (isk : game_at u k ≡ number b) (gk : IsGame w k)
-    (wu : Spends 0 w u) (uv : Spends 0 u v)
-    (is : o ≡ result_ok q) (exact : IsExact (sum_num a b) (exp_of a + exp_of b) q) where
+    (isk : game_at w k ≡ number b) (is : o ≡ result_ok q) (exact : IsExact (sum_num a b) (exp_of a + exp_of b) q) where
   both_numbers : sum (number a) (number b) ≡ sum (game_at w f) (game_at w k)
-  both_numbers =
-      ap (λ z. sum z (number b)) (sym isf)
-      ∙ ap (λ z. sum (game_at w f) z)
-      (sym isk ∙ game_later w u wu.known k gk)
+  both_numbers = ap (λ z. sum z (number b)) (sym isf) ∙ ap (λ z. sum (game_at w f) z) (sym isk)
 
   pub number_game : IfOk r (λ h. IsForm o (StandsFor x h))
       → IfOk r (λ h. StandsFor x h (can (sum (game_at w f) (game_at w k))))
@@ -128,16 +110,15 @@ module _ {R : Type 0} (w u v x : State Meant (WorkRest R)) (f k : ℕ) (a b : Nu
       let Q : Game → Type 0 = λ z. IfOk r (λ h. StandsFor x h (can z)) in
       subst Q both_numbers (exact_game a b x q r exact (subst P is p))
 
-  pub number_items : ItemsMade v x (number_made o 1 ∷ []) r
+  pub number_items : Spends 0 w v → ItemsMade v x (number_made o 1 ∷ []) r
       → ItemsMade w x (sum_item (game_at w f) (game_at w k) ∷ []) r
-  number_items m =
+  number_items wv m =
       let P : Option Number → Type 0 = λ z. OnOk r (AllPass v.rest.share v.rest.spent (number_made z 1 ∷ []) x.rest.spent) in
       let Q : Option Number → Type 0 = λ z. IfErr r (λ fault. WasRefused fault v.rest.share v.rest.spent (number_made z 1 ∷ []) x.rest.spent) in
       let item : Game → Item = λ z. made (can z) 1 in
       made_as w x (sum_item (number a) (number b) ∷ []) (sum_item (game_at w f) (game_at w k) ∷ []) r
       (ap (λ z. item z ∷ []) both_numbers)
-      (read_then 0 w v x (sum_item (number a) (number b) ∷ []) r
-      (spends_then 0 0 w u v wu uv) (record {
+      (read_then 0 w v x (sum_item (number a) (number b) ∷ []) r wv (record {
         charged = exact_charged a b v.rest.share v.rest.spent x.rest.spent q r exact (subst P is m.charged);
         refused = exact_refused a b v.rest.share v.rest.spent x.rest.spent q r exact (subst Q is m.refused);
         keeps = m.keeps;
@@ -147,21 +128,6 @@ module _ {R : Type 0} (w u v x : State Meant (WorkRest R)) (f k : ℕ) (a b : Nu
 
 module _ {R : Type 0} (w u : State Meant (WorkRest R)) (n : ℕ) (wu : Spends n w u)
     (f k : ℕ) (gf : IsGame w f) (gk : IsGame w k) where
-  pub sums_same : sum (game_at u f) (game_at u k)
-      ≡ sum (game_at w f) (game_at w k)
-  sums_same =
-      ap (λ z. sum z (game_at u k)) (game_later w u wu.known f gf)
-      ∙ ap (λ z. sum (game_at w f) z) (game_later w u wu.known k gk)
-
-  pub nodes_later : IsNode (game_at w f) ⊎ IsNode (game_at w k)
-      → IsNode (game_at u f) ⊎ IsNode (game_at u k)
-  nodes_later (inl c) =
-      let P : Game → Type 0 = λ z. IsNode z in
-      inl (subst P (sym (game_later w u wu.known f gf)) c)
-  nodes_later (inr c) =
-      let P : Game → Type 0 = λ z. IsNode z in
-      inr (subst P (sym (game_later w u wu.known k gk)) c)
-
   -- a handle that stands for the sum was charged
   pub known_items : {T : Type 0} (x : State Meant (WorkRest R)) (h : ℕ) (r : Result T ValueFault)
       → StandsFor u h (can (sum (game_at w f) (game_at w k)))
@@ -182,13 +148,28 @@ module _ {R : Type 0} (w u : State Meant (WorkRest R)) (n : ℕ) (wu : Spends n 
       let item : Game → Item = λ z. made (can z) 1 in
       read_then n w u x (sum_item (game_at w f) (game_at w k) ∷ []) r wu
       (made_as u x (sum_item (game_at u f) (game_at u k) ∷ [])
-      (sum_item (game_at w f) (game_at w k) ∷ []) r (ap (λ z. item z ∷ []) sums_same) m)
+      (sum_item (game_at w f) (game_at w k) ∷ []) r (ap (λ z. item z ∷ []) (sums_same w u wu.known f k gf gk)) m)
 
-  pub later_stands : {Q : Type 0} (t : State Meant Q) (h : ℕ)
-      → StandsFor t h (can (sum (game_at u f) (game_at u k)))
-      → StandsFor t h (can (sum (game_at w f) (game_at w k)))
-  later_stands t h e = let P : Game → Type 0 = λ z. StandsFor t h (can z) in subst P sums_same e
+  pub later_game : {Q T : Type 0} (t : State Meant Q) (r : Result ℕ T)
+      → IfOk r (λ h. StandsFor t h (can (sum (game_at u f) (game_at u k))))
+      → IfOk r (λ h. StandsFor t h (can (sum (game_at w f) (game_at w k))))
+  later_game t r e =
+      let P : Game → Type 0 = λ z. IfOk r (λ h. StandsFor t h (can z)) in
+      subst P (sums_same w u wu.known f k gf gk) e
+
+-- the note of a cell stays so
+pub note_of_later : {R Q : Type 0} (m : Meaning Meant) (s : State Meant R) (t : State Meant Q)
+    → Grows (thing_at s) (thing_at t) → (id : ℕ) (g h : Game) → g ≡ h → IsNoteOf m s id g → IsNoteOf m t id h
+note_of_later m s t grows id g h e n =
+    let P : Game → Type 0 = λ z. IsNoteOf m t id z in
+    subst P e (known_later s t grows id n.0, note_later m s t grows id (Some (form (can g))) n.0 n.1)
 
 -- a handle that equals another stands for the same
 pub stands_as : {R : Type 0} (s : State Meant R) (a b : ℕ) (g : Game) → a ≡ b → StandsFor s b g → StandsFor s a g
 stands_as s a b g e h = let P : ℕ → Type 0 = λ z. StandsFor s z g in subst P (sym e) h
+
+-- what is answered is such a handle, and what it stands for stays so
+pub same_game : {R Q : Type 0} {E : Type 0} (s : State Meant R) (t : State Meant Q) → Grows (thing_at s) (thing_at t)
+    → (r : Result ℕ E) (a : ℕ) (g : Game) → IfOk r (λ h. h ≡ a) → StandsFor s a g → IfOk r (λ h. StandsFor t h g)
+same_game s t grows (Ok h) a g e st = stands_later s t grows h g (stands_as s h a g e st)
+same_game s t grows (Err x) a g e st = tt

@@ -2,9 +2,8 @@
 use Rattle.std.proofs.Common.{◌≡◌, ◌<◌, ℕ, zero, suc, ◌+◌, arith, refl, inl, inr, ◌⊎◌, sym, ◌∙◌, ap, subst, List, [], ◌∷◌, ◌++◌, length, take, drop, get_or, Option, Some, None, IsSome}
 use Rattle.cg_cells.specs.Meaning.{Has}
 use Rattle.cg_cells.specs.Store.{State}
-use Rattle.cg_form.specs.Game.{Among, Game}
 use Rattle.cg_nodes.proofs.Lists.{are_games-left}
-use Rattle.cg_nodes.specs.Games.{AreGames, IsGame, StandsFor, games_at, game_at}
+use Rattle.cg_nodes.specs.Games.{AreGames}
 use Rattle.cg_nodes.specs.Meant.{Meant}
 
 pub has_read : (hs : List ℕ) (i x : ℕ) → i < length hs → x ≡ get_or hs i x → Has hs x
@@ -28,24 +27,6 @@ some_of (Some x) s = (x, refl)
 pub was_some : (o : Option ℕ) (x : ℕ) → o ≡ Some x → IsSome o
 was_some None x e = cc
 was_some (Some y) x e = refl
-
-module _ {R : Type 0} (s : State Meant R) where
-  pub has_game : (hs : List ℕ) (h : ℕ) → AreGames s hs → Has hs h → IsGame s h
-  has_game [] h a m = absurd m
-  has_game (k ∷ hs) h a (inl e) = let P : ℕ → Type 0 = λ z. IsGame s z in subst P e a.0
-  has_game (k ∷ hs) h a (inr m) = has_game hs h a.1 m
-
-  pub has_among : (hs : List ℕ) (h : ℕ) → Has hs h → Among (game_at s h) (games_at s hs)
-  has_among [] h m = absurd m
-  has_among (k ∷ hs) h (inl e) = inl (ap (game_at s) (sym e))
-  has_among (k ∷ hs) h (inr m) = inr (has_among hs h m)
-
-  -- some handle of the list stands for each game of its games
-  pub among_has : (hs : List ℕ) (a : Game) → AreGames s hs → Among a (games_at s hs) → (p : ℕ) × Has hs p × StandsFor s p a
-  among_has [] a g m = absurd m
-  among_has (h ∷ hs) a g (inl e) =
-      let P : Game → Type 0 = λ z. StandsFor s h z in (h, inl refl, subst P (sym e) g.0)
-  among_has (h ∷ hs) a g (inr m) = let (p, k, e) = among_has hs a g.1 m in (p, inr k, e)
 
 -- ---- lists that are read up to some place
 

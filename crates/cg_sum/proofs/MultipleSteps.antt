@@ -2,19 +2,19 @@
 use Rattle.std.proofs.Common.{◌≡◌, ℕ, zero, suc, ◌+◌, ◌-◌, ◌≤◌, ◌<◌, pos, arith, refl, ap, sym, ◌∙◌, subst, List, [], ◌∷◌, ◌++◌, append_assoc, Result, Ok, Err}
 use Rattle.std.specs.Prelude.{IfOk}
 use Rattle.std.proofs.lemmas.List.{append-nil}
-use Rattle.cg_canon.proofs.Keeping.{keeps_then, spends_keeps}
+use Rattle.cg_canon.proofs.Keeping.{keeps_all, keeps_then}
 use Rattle.cg_canon.proofs.ItemLaws.{all_pass-none}
 use Rattle.cg_canon.specs.Items.{AllPass, Item, made as form_item}
 use Rattle.cg_canon.specs.Works.{Keeps}
 use Rattle.cg_canon.specs.declared.fault.ValueFault.{ValueFault}
 use Rattle.cg_canon.specs.declared.rest.WorkRest.{WorkRest}
-use Rattle.cg_cells.specs.Store.{Spends, State}
+use Rattle.cg_cells.specs.Store.{State}
 use Rattle.cg_dyadic.specs.Number.{Number, whole}
 use Rattle.cg_form.specs.Canonical.{Canonical}
 use Rattle.cg_form.specs.Game.{Game, number}
 use Rattle.cg_form.specs.Multiple.{multiple}
 use Rattle.cg_form.specs.Sum.{sum}
-use Rattle.cg_nodes.proofs.Later.{game_later, is_game_later, stands_game, stands_is_game, stands_later}
+use Rattle.cg_nodes.proofs.Later.{game_later, is_game_later, stands_game, stands_is_game}
 use Rattle.cg_nodes.specs.Games.{IsGame, StandsFor, game_at}
 use Rattle.cg_nodes.specs.Meant.{Meant}
 use Rattle.cg_nodes.specs.Spelled.{can}
@@ -69,19 +69,15 @@ pub record StepsMade {R : Type 0} (w v : State Meant (WorkRest R)) (a total n : 
   pub spare : w.spare ≤ v.spare
 
 module _ {R : Type 0} (w : State Meant (WorkRest R)) (a : ℕ) (ga : IsGame w a) where
-  pub steps_none : (v : State Meant (WorkRest R)) → Spends 0 w v → Canonical (game_at w a)
-      → StepsMade w v a a 1
-  steps_none v k c =
+  pub steps_none : Canonical (game_at w a) → StepsMade w w a a 1
+  steps_none c =
       let g : Game = game_at w a in
-      let L : List Item → Type 0 = λ z. AllPass w.rest.share w.rest.spent z v.rest.spent in
-      let N : ℕ → Type 0 = λ n. AllPass w.rest.share w.rest.spent [] n in
-      let P : Game → Type 0 = λ z. StandsFor v a z in
-      let spent : v.rest.spent ≡ w.rest.spent = ap (λ r. r.spent) k.rest in
-      let same = k.spare in
+      let L : List Item → Type 0 = λ z. AllPass w.rest.share w.rest.spent z w.rest.spent in
+      let P : Game → Type 0 = λ z. StandsFor w a z in
       record {
-        keeps = spends_keeps 0 w v k;
-        passed = subst L (sym (one_step w.rest.limit g)) (subst N (sym spent) (all_pass-none w.rest.share w.rest.spent));
-        stands = subst P (sym (can-multiple_one g c)) (stands_later w v k.known a g ga);
+        keeps = keeps_all w;
+        passed = subst L (sym (one_step w.rest.limit g)) (all_pass-none w.rest.share w.rest.spent);
+        stands = subst P (sym (can-multiple_one g c)) ga;
         spare = omega arith;
       }
 
@@ -149,30 +145,28 @@ module _ {R : Type 0} (w : State Meant (WorkRest R)) (a : ℕ) (ga : IsGame w a)
 
 -- ---- none at all
 
-module _ {R : Type 0} (w x : State Meant (WorkRest R)) (a count : ℕ) (z : Number) (none_left : count ≡ 0)
-    (is : z ≡ whole (pos 0)) (r : Result ℕ ValueFault) where
-  pub zero_game : IfOk r (λ h. StandsFor x h (number z))
-      → IfOk r (λ h. StandsFor x h (can (multiple count (game_at w a))))
+module _ {R : Type 0} (w x : State Meant (WorkRest R)) (a : ℕ) (z : Number) (is : z ≡ whole (pos 0))
+    (r : Result ℕ ValueFault) where
+  pub zero_game : IfOk r (λ h. StandsFor x h (number z)) → IfOk r (λ h. StandsFor x h (can (multiple 0 (game_at w a))))
   zero_game p =
-      let g : Game = game_at w a in
       let P : Game → Type 0 = λ k. IfOk r (λ h. StandsFor x h k) in
-      subst P (ap number is ∙ (sym (can-multiple_zero g) ∙ ap (λ k. can (multiple k g)) (sym none_left))) p
+      subst P (ap number is ∙ sym (can-multiple_zero (game_at w a))) p
 
   pub zero_items : ItemsMade w x (form_item (number z) 0 ∷ []) r
-      → ItemsMade w x (multiple_items w.rest.limit count (game_at w a)) r
+      → ItemsMade w x (multiple_items w.rest.limit 0 (game_at w a)) r
   zero_items m =
-      let g : Game = game_at w a in
       let item : Number → Item = λ k. form_item (number k) 0 in
-      made_as w x (form_item (number z) 0 ∷ []) (multiple_items w.rest.limit count g) r
-      (ap (λ k. item k ∷ []) is ∙ ap (λ k. multiple_items w.rest.limit k g) (sym none_left)) m
+      made_as w x (form_item (number z) 0 ∷ []) (multiple_items w.rest.limit 0 (game_at w a)) r (ap (λ k. item k ∷ []) is) m
 
 -- ---- the end
 
-pub same_count : (n count : ℕ) → ¬ (count ≡ 0) → count ≤ n → (1 ≤ count → n ≤ count) → n ≡ count
-same_count zero count some l up = absurd (some (omega arith))
-same_count (suc n) zero some l up = absurd (some refl)
-same_count (suc n) (suc k) some l up = let u : suc n ≤ suc k = up (omega arith) in omega arith
+pub same_count : (n count : ℕ) → 1 ≤ count → count ≤ n → (1 ≤ count → n ≤ count) → n ≡ count
+same_count n count some l up = let u : n ≤ count = up some in omega arith
 
 pub steps_done : {R : Type 0} (w v : State Meant (WorkRest R)) (a total n count : ℕ) → n ≡ count
     → StepsMade w v a total n → StepsMade w v a total count
 steps_done w v a total n count e done = let P : ℕ → Type 0 = λ k. StepsMade w v a total k in subst P e done
+
+pub steps_made : {R : Type 0} (w v : State Meant (WorkRest R)) (a total n : ℕ) → StepsMade w v a total n
+    → ItemsMade w v (multiple_items w.rest.limit n (game_at w a)) (Ok total)
+steps_made w v a total n done = record { charged = done.passed; refused = tt; keeps = done.keeps }

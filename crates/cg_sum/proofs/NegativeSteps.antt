@@ -25,12 +25,14 @@ use Rattle.cg_nodes.specs.Spelled.{can}
 use Rattle.cg_sum.specs.Finds.{negative_found, negative_handle}
 use Rattle.cg_sum.specs.Lists.{minus_item, minus_items, negative_items}
 use Rattle.cg_canon.specs.Made.{ItemsMade}
-use Rattle.cg_sum.specs.Progress.{HoldsNegatives, OptionsNegated}
+use Rattle.cg_nodes.specs.declared.reading.Sides.{Sides}
+use Rattle.cg_sum.specs.Progress.{HoldsNegatives, IsNegativeReady, IsSides}
 use Rattle.cg_sum.specs.Written.{IsClosed, written, written_lefts, written_rights}
 use Rattle.cg_sum.specs.declared.found.Negatives.{Negatives}
-use Rattle.cg_canon.proofs.MadeSteps.{made_as, passed, read_then}
+use Rattle.cg_canon.proofs.MadeSteps.{made_as, read_then}
 use Rattle.cg_sum.proofs.ItemLoops.{flat-map, games_split, loop_passed, loop_stopped}
-use Rattle.cg_sum.proofs.Members.{among_has, are_games-take, has-append, has_among, has_game, has_read, some_of, take_next}
+use Rattle.cg_nodes.proofs.Members.{among_has, has_among, has_game}
+use Rattle.cg_sum.proofs.Members.{are_games-take, has-append, has_read, some_of, take_next}
 use Rattle.cg_sum.proofs.SumEnds.{all_within}
 use Rattle.cg_sum.proofs.Sums.{can-negative, can-negative_number}
 
@@ -72,43 +74,53 @@ module _ {R Q : Type 0} (s : State Meant R) (t : State Meant Q) (grows : Grows (
         (stands_later s t grows h (can (negative (game_at s a))) (holds.negatives a h e));
   }
 
-  pub negated_later : (f : ℕ) → IsGame s f → OptionsNegated s m f → OptionsNegated t m f
-  negated_later f gf found = record {
-    each = λ a i.
-        let P : Game → Type 0 = λ z. Among a (written z) in
-        let (p, e, some) = found.each a (subst P (game_later s t grows f gf) i) in
-        (p, stands_later s t grows p a e, some);
+  pub negative_ready_later : (f : ℕ) → IsNegativeReady s m f → IsNegativeReady t m f
+  negative_ready_later f ready = record {
+    game = is_game_later s t grows f ready.game;
+    holds = negatives_later ready.holds;
+    found = record {
+      each = λ a i.
+          let P : Game → Type 0 = λ z. Among a (written z) in
+          let (p, e, some) = ready.found.each a (subst P (game_later s t grows f ready.game) i) in
+          (p, stands_later s t grows p a e, some);
+    };
   }
 
-  -- handles of options of f, as they are known later, are those whose negatives were found
-  pub negated_found : IsInjective (thing_at t) → (f : ℕ) → OptionsNegated s m f → (ps hs : List ℕ) (gs : List Game) → hs ≡ ps
-      → StandFor t ps gs → ((a : Game) → Among a gs → Among a (written (game_at s f))) → (p : ℕ) → Has hs p
+module _ {R : Type 0} (s : State Meant R) (m : Negatives) (f : ℕ) (ready : IsNegativeReady s m f)
+    (apart : IsInjective (thing_at s)) where
+  -- handles of options of f are those whose negatives were found
+  pub negated_found : (hs ps : List ℕ) (gs : List Game) → hs ≡ ps → StandFor s ps gs
+      → ((a : Game) → Among a gs → Among a (written (game_at s f))) → (p : ℕ) → Has hs p
       → IsSome (negative_found m p)
-  negated_found apart f found ps hs gs e a within p i =
+  negated_found hs ps gs e a within p i =
       let L : List ℕ → Type 0 = λ z. Has z p in
       let j : Has ps p = subst L e i in
-      let g : Game = game_at t p in
-      let (q, st, some) = found.each g (within g (carry g (games_at t ps) gs a.1 (has_among t ps p j))) in
+      let g : Game = game_at s p in
+      let (q, st, some) = ready.found.each g (within g (carry g (games_at s ps) gs a.1 (has_among s ps p j))) in
       let P : ℕ → Type 0 = λ z. IsSome (negative_found m z) in
-      subst P (apart q p (form g) (stands_later s t grows q g st) (has_game t ps p a.0 j)) some
+      subst P (apart q p (form g) st (has_game s ps p a.0 j)) some
 
   -- the negatives of one side
-  pub side_stands : HoldsNegatives s m → (ps hs all : List ℕ) (gs : List Game) → hs ≡ ps
-      → all ≡ map (λ p. negative_handle m p) hs → StandFor t ps gs → ((p : ℕ) → Has hs p → IsSome (negative_found m p))
-      → StandFor t all (map (λ a. can (negative a)) gs)
-  side_stands holds ps hs all gs e is a each =
-      let P : List ℕ → Type 0 = λ z. StandFor t z (map (λ b. can (negative b)) gs) in
-      let Q : List Game → Type 0 = λ z. StandFor t (map (λ p. negative_handle m p) hs) (map (λ b. can (negative b)) z) in
-      let same : games_at t hs ≡ gs = ap (games_at t) e ∙ a.1 in
-      subst P (sym is) (subst Q same (negatives_stand t m (negatives_later holds) hs each))
+  pub side_negated : (hs ps all : List ℕ) (gs : List Game) → hs ≡ ps → all ≡ map (λ p. negative_handle m p) hs
+      → StandFor s ps gs → ((a : Game) → Among a gs → Among a (written (game_at s f)))
+      → StandFor s all (map (λ a. can (negative a)) gs)
+  side_negated hs ps all gs e is a within =
+      let P : List ℕ → Type 0 = λ z. StandFor s z (map (λ b. can (negative b)) gs) in
+      let Q : List Game → Type 0 = λ z. StandFor s (map (λ p. negative_handle m p) hs) (map (λ b. can (negative b)) z) in
+      let same : games_at s hs ≡ gs = ap (games_at s) e ∙ a.1 in
+      subst P (sym is) (subst Q same (negatives_stand s m ready.holds hs (negated_found hs ps gs e a within)))
 
-  pub sides_negative : (f : ℕ) (ls rs : List ℕ) → IsNode (game_at s f)
-      → StandFor t ls (map (λ b. can (negative b)) (written_rights (game_at s f)))
-      → StandFor t rs (map (λ a. can (negative a)) (written_lefts (game_at s f)))
-      → can (node (games_at t ls) (games_at t rs)) ≡ can (negative (game_at s f))
-  sides_negative f ls rs n l r =
-      ap (λ z. can (node z (games_at t rs))) l.1
-      ∙ (ap (λ z. can (node (map (λ b. can (negative b)) (written_rights (game_at s f))) z)) r.1 ∙ can-negative_written (game_at s f) n)
+  pub sides_negative : (sides : Sides) (g : Game) → g ≡ game_at s f → IsNode (game_at s f)
+      → StandFor s sides.lefts (map (λ b. can (negative b)) (written_rights (game_at s f)))
+      → StandFor s sides.rights (map (λ a. can (negative a)) (written_lefts (game_at s f)))
+      → IsSides s sides (negative g)
+  sides_negative sides g e n l r = record {
+    lefts = l.0;
+    rights = r.0;
+    form = ap (λ z. can (node z (games_at s sides.rights))) l.1
+        ∙ ap (λ z. can (node (map (λ b. can (negative b)) (written_rights (game_at s f))) z)) r.1
+        ∙ can-negative_written (game_at s f) n ∙ ap (λ z. can (negative z)) (sym e);
+  }
 
 -- ---- one negative more was found
 
@@ -209,18 +221,22 @@ module _ {R : Type 0} (w : State Meant (WorkRest R)) (ps : List ℕ) where
     same_f : game_at v f ≡ game_at w f
     same_f = game_later w v made.keeps.known f game_f
 
-    pub next_game : IsGame v f
+    next_game : IsGame v f
     next_game = is_game_later w v made.keeps.known f game_f
 
-    pub next_options : IsClosed (games_at w ps) → OptionsNegated v n f
-    next_options closed = record {
-      each = λ a j.
-          let P : Game → Type 0 = λ z. Among a (written z) in
-          let before = closed.each (games_at w (take i ps)) (game_at w f)
-          (games_at w (drop (suc i) ps)) (games_split w ps i f within read) a (subst P same_f j) in
-          let (p, here, e) = among_has w (take i ps) a
-          (are_games-take w ps i f within read gps) before in
-          (p, stands_later w v made.keeps.known p a e, made.found p here);
+    pub next_ready : IsClosed (games_at w ps) → IsNegativeReady v n f
+    next_ready closed = record {
+      game = next_game;
+      holds = made.holds;
+      found = record {
+        each = λ a j.
+            let P : Game → Type 0 = λ z. Among a (written z) in
+            let before = closed.each (games_at w (take i ps)) (game_at w f)
+            (games_at w (drop (suc i) ps)) (games_split w ps i f within read) a (subst P same_f j) in
+            let (p, here, e) = among_has w (take i ps) a
+            (are_games-take w ps i f within read gps) before in
+            (p, stands_later w v made.keeps.known p a e, made.found p here);
+      };
     }
 
     -- the item of the negative of f, as the work was at first
@@ -278,6 +294,23 @@ module _ {R : Type 0} (w v x : State Meant (WorkRest R)) (f : ℕ) (a b : Number
       read_then 0 w v x (minus_item (game_at w f) ∷ []) r wv
       (made_as v x (item_of (number b) 0 ∷ []) (minus_item (game_at w f) ∷ []) r
       (ap (λ z. item z ∷ []) same_number) m)
+
+-- ---- the item of the same game, as it was known before
+
+module _ {R : Type 0} (w u : State Meant (WorkRest R)) (wu : Spends 0 w u) (f : ℕ) (gf : IsGame w f) where
+  pub later_items : {T : Type 0} (x : State Meant (WorkRest R)) (r : Result T ValueFault)
+      → ItemsMade u x (minus_item (game_at u f) ∷ []) r → ItemsMade w x (minus_item (game_at w f) ∷ []) r
+  later_items x r m =
+      read_then 0 w u x (minus_item (game_at w f) ∷ []) r wu
+      (made_as u x (minus_item (game_at u f) ∷ []) (minus_item (game_at w f) ∷ []) r
+      (ap (λ z. minus_item z ∷ []) (game_later w u wu.known f gf)) m)
+
+  pub later_game : {Q T : Type 0} (t : State Meant Q) (r : Result ℕ T)
+      → IfOk r (λ h. StandsFor t h (can (negative (game_at u f))))
+      → IfOk r (λ h. StandsFor t h (can (negative (game_at w f))))
+  later_game t r e =
+      let P : Game → Type 0 = λ z. IfOk r (λ h. StandsFor t h (can (negative z))) in
+      subst P (game_later w u wu.known f gf) e
 
 -- ---- the end
 

@@ -21,12 +21,12 @@ use Rattle.cg_nodes.specs.Spelled.{can}
 use Rattle.cg_sum.specs.Finds.{sum_found}
 use Rattle.cg_sum.specs.Lists.{pair_items, row_items, sum_item}
 use Rattle.cg_canon.specs.Made.{ItemsMade}
-use Rattle.cg_sum.specs.Progress.{FindsMore, HoldsSums, OptionsFound, RowFound, RowReady, RowsFound}
+use Rattle.cg_sum.specs.Progress.{FindsMore, HoldsSums, IsSumReady, OptionsFound, RowFound, RowReady, RowsFound}
 use Rattle.cg_sum.specs.Written.{IsClosed, written}
 use Rattle.cg_sum.specs.declared.found.Sums.{Sums}
-use Rattle.cg_canon.proofs.MadeSteps.{passed}
 use Rattle.cg_sum.proofs.ItemLoops.{flat-map, games_split, loop_passed, loop_stopped}
-use Rattle.cg_sum.proofs.Members.{among_has, are_games-take, has-append, has_game, has_read, take_next}
+use Rattle.cg_nodes.proofs.Members.{among_has, has_game}
+use Rattle.cg_sum.proofs.Members.{are_games-take, has-append, has_read, take_next}
 use Rattle.cg_sum.proofs.SumSteps.{holds_later}
 
 -- ---- one sum more was found
@@ -129,13 +129,13 @@ module _ {R : Type 0} (w : State Meant (WorkRest R)) (m : Sums) (f : ℕ) (ks : 
     same_k : game_at v k ≡ game_at w k
     same_k = game_later w v made.keeps.known k game_k
 
-    pub row_game_f : IsGame v f
+    row_game_f : IsGame v f
     row_game_f = is_game_later w v made.keeps.known f gf
 
-    pub row_game_k : IsGame v k
+    row_game_k : IsGame v k
     row_game_k = is_game_later w v made.keeps.known k game_k
 
-    pub row_options : IsClosed (games_at w ks) → RowReady w m f ks → OptionsFound v n f k
+    row_options : IsClosed (games_at w ks) → RowReady w m f ks → OptionsFound v n f k
     row_options closed ready = record {
       first = λ a j.
           let P : Game → Type 0 = λ z. Among a (written z) in
@@ -150,6 +150,14 @@ module _ {R : Type 0} (w : State Meant (WorkRest R)) (m : Sums) (f : ℕ) (ks : 
           (games_split w ks i k within read) c (subst P same_k j) in
           let (q, here, e) = among_has w (take i ks) c (are_games-take w ks i k within read gks) before in
           (q, stands_later w v made.keeps.known q c e, made.found.each q here);
+    }
+
+    pub row_ready : IsClosed (games_at w ks) → RowReady w m f ks → IsSumReady v n f k
+    row_ready closed ready = record {
+      first = row_game_f;
+      second = row_game_k;
+      holds = made.holds;
+      found = row_options closed ready;
     }
 
     -- the item of f and k, as the work was when the row began

@@ -1,5 +1,5 @@
 -- The own list of a sum, whole or too long, and the sum at its end.
-use Rattle.std.proofs.Common.{◌≡◌, ◌⊎◌, inl, inr, ℕ, suc, ◌*◌, ◌≤◌, ◌<◌, arith, refl, ap, sym, ◌∙◌, subst, List, [], ◌∷◌, length, Some, None, Bool, true, false, Result, Err}
+use Rattle.std.proofs.Common.{◌≡◌, ◌⊎◌, inl, inr, ℕ, ◌*◌, ◌≤◌, ◌<◌, arith, ap, sym, ◌∙◌, subst, List, [], ◌∷◌, length, Some, None, false, Result, Err}
 use Rattle.std.specs.Prelude.{IfErr, nat_lt, if◌then◌else◌}
 use Rattle.std.proofs.lemmas.Bool.Decides.{nat_tests}
 use Rattle.std.proofs.Math.Nat.{mul-le-mul_left}
@@ -20,26 +20,25 @@ use Rattle.cg_nodes.specs.Spelled.{can}
 use Rattle.cg_sum.specs.Finds.{sum_found}
 use Rattle.cg_sum.specs.Lists.{pair_items, sum_items, within_limit}
 use Rattle.cg_canon.specs.Made.{ItemsMade}
+use Rattle.cg_canon.specs.Works.{Keeps}
 use Rattle.cg_sum.specs.Progress.{HoldsSums}
 use Rattle.cg_sum.specs.Written.{IsClosed}
 use Rattle.cg_sum.specs.declared.found.Sums.{Sums}
-use Rattle.cg_canon.proofs.MadeSteps.{made_as, read_then}
-use Rattle.cg_sum.proofs.Members.{among_has}
+use Rattle.cg_canon.proofs.MadeSteps.{made_as, read_then, was_refused}
+use Rattle.cg_dyadic.proofs.Truth.{less-nat_lt}
+use Rattle.cg_nodes.proofs.Members.{among_has, length_games}
 use Rattle.cg_sum.proofs.Positions.{positions-closed, positions-own}
 
 -- ---- within the limit or not
 
-pub is_above : (a b : ℕ) → a < b → nat_lt a b ≡ true
-is_above a b h = grind (arith, nat_tests)
-
-pub not_above : (a b : ℕ) → b ≤ a → nat_lt a b ≡ false
+not_above : (a b : ℕ) → b ≤ a → nat_lt a b ≡ false
 not_above a b h = grind (arith, nat_tests)
 
 pub all_within : (limit count : ℕ) (items : List Item) → count ≤ limit → within_limit limit count items ≡ items
 all_within limit count items h = ap (λ b. if b then too_many ∷ [] else items) (not_above limit count h)
 
-pub too_long : (limit count : ℕ) (items : List Item) → limit < count → within_limit limit count items ≡ too_many ∷ []
-too_long limit count items h = ap (λ b. if b then too_many ∷ [] else items) (is_above limit count h)
+too_long : (limit count : ℕ) (items : List Item) → limit < count → within_limit limit count items ≡ too_many ∷ []
+too_long limit count items h = ap (λ b. if b then too_many ∷ [] else items) (less-nat_lt limit count h)
 
 -- the refusal of a list that is too long, or want of memory
 pub limit_refused : (fault : ValueFault) (share spent after limit count : ℕ) (items : List Item) → after ≡ spent
@@ -59,6 +58,20 @@ pub err_refused : {T : Type 0} (q : Result T ValueFault) (fault : ValueFault) (s
     → q ≡ Err fault → WasRefused fault share spent items after → IfErr q (λ f. WasRefused f share spent items after)
 err_refused q fault share spent after items e r =
     let P : Result _ ValueFault → Type 0 = λ z. IfErr z (λ f. WasRefused f share spent items after) in subst P (sym e) r
+
+-- a refusal of the own list, before anything of it was made
+pub refused_items : {R T : Type 0} (w v : State Meant (WorkRest R)) (items : List Item) (q : Result T ValueFault)
+    (fault : ValueFault) → q ≡ Err fault → WasRefused fault w.rest.share w.rest.spent items v.rest.spent → Keeps w v
+    → ItemsMade w v items q
+refused_items w v items q fault e r k =
+    let P : Result _ ValueFault → Type 0 = λ z. ItemsMade w v items z in
+    subst P (sym e) (record { charged = tt; refused = r; keeps = k })
+
+-- the same refusal of the same items, as another result
+pub same_refusal : {R T U : Type 0} (w v : State Meant (WorkRest R)) (items : List Item) (r : Result T ValueFault)
+    (q : Result U ValueFault) (fault : ValueFault) → r ≡ Err fault → q ≡ Err fault → ItemsMade w v items r
+    → ItemsMade w v items q
+same_refusal w v items r q fault e d m = refused_items w v items q fault d (was_refused w v items r fault e m) m.keeps
 
 -- ---- positions
 
@@ -95,10 +108,6 @@ seconds_above limit g h fault (inr (e, above)) =
 pub count_of : {R : Type 0} (s : State Meant R) (hs : List ℕ) (g : Game) → StandFor s hs (positions_of g)
     → length hs ≡ length (positions_of g)
 count_of s hs g a = sym (length_games s hs) ∙ ap length a.1
-  where
-    length_games : {R : Type 0} (t : State Meant R) (ks : List ℕ) → length (games_at t ks) ≡ length ks
-    length_games t [] = refl
-    length_games t (k ∷ ks) = ap suc (length_games t ks)
 
 -- ---- the table at first
 
@@ -202,6 +211,3 @@ module _ {R : Type 0} (w v : State Meant (WorkRest R)) (n : ℕ) (wv : Spends n 
       let P : ℕ → Type 0 = λ z. z < length (positions_of (game_at v b)) in
       let Q : List Game → Type 0 = λ z. w.rest.limit < length z in
       inr (e, subst Q (positions_before b g) (subst P same_limit above))
-
-pub false_true : (b : Bool) → b ≡ false → b ≡ true → ⊥
-false_true b e f = cc

@@ -1,21 +1,23 @@
 -- The sums of the options that were found make the sum.
-use Rattle.std.proofs.Common.{◌≡◌, ◌⊎◌, inl, inr, ℕ, refl, ap, sym, ◌∙◌, subst, List, [], ◌∷◌, ◌++◌, Some, IsSome, map}
+use Rattle.std.proofs.Common.{◌≡◌, inl, inr, ℕ, refl, ap, sym, ◌∙◌, subst, List, [], ◌∷◌, ◌++◌, Some, IsSome, map}
 use Rattle.cg_cells.specs.Meaning.{Grows, Has, IsInjective}
-use Rattle.cg_cells.specs.Store.{Spends, State, thing_at}
+use Rattle.cg_cells.specs.Store.{State, thing_at}
 use Rattle.cg_form.specs.Canonical.{Canonical}
 use Rattle.cg_form.specs.Game.{Among, Game, node}
 use Rattle.cg_form.specs.Sum.{sum}
 use Rattle.cg_form.proofs.Among.{among-append_left, among-append_right, carry}
 use Rattle.cg_nodes.proofs.Later.{game_later, is_game_later, stands_game, stands_is_game, stand_later, stands_later}
 use Rattle.cg_nodes.proofs.Lists.{are_games-append, games_at-append}
+use Rattle.cg_nodes.proofs.Members.{has_among, has_game}
+use Rattle.cg_nodes.specs.declared.reading.Sides.{Sides}
 use Rattle.cg_nodes.specs.Games.{IsGame, IsNode, StandFor, StandsFor, game_at, games_at}
 use Rattle.cg_nodes.specs.Meant.{Meant, form}
 use Rattle.cg_nodes.specs.Spelled.{can}
 use Rattle.cg_sum.specs.Finds.{sum_found, sum_handle}
-use Rattle.cg_sum.specs.Progress.{HoldsSums, OptionsFound}
+use Rattle.cg_sum.specs.Progress.{HoldsSums, IsOneNode, IsSides, IsSumReady, IsWritten, OptionsFound}
 use Rattle.cg_sum.specs.Written.{written, written_lefts, written_rights}
 use Rattle.cg_sum.specs.declared.found.Sums.{Sums}
-use Rattle.cg_sum.proofs.Members.{has_among, has_game, some_of}
+use Rattle.cg_sum.proofs.Members.{some_of}
 use Rattle.cg_sum.proofs.Sums.{can-sum_written, option_forms}
 
 handle_found : (m : Sums) (a b h : ℕ) → sum_found m a b ≡ Some h → sum_handle m a b ≡ h
@@ -81,23 +83,50 @@ module _ {R Q : Type 0} (s : State Meant R) (t : State Meant Q) (grows : Grows (
         (stands_later s t grows h (can (sum (game_at s a) (game_at s b))) (holds.sums a b h e)));
   }
 
-  module _ (apart : IsInjective (thing_at t)) (f k : ℕ) (found : OptionsFound s m f k) where
-    -- handles of options of f, as they are known later, are those whose sums were found
-    pub firsts_found : (ps : List ℕ) (gs : List Game) → StandFor t ps gs
-        → ((a : Game) → Among a gs → Among a (written (game_at s f))) → (p : ℕ) → Has ps p → IsSome (sum_found m p k)
-    firsts_found ps gs a within p i =
-        let g : Game = game_at t p in
-        let (q, e, some) = found.first g (within g (carry g (games_at t ps) gs a.1 (has_among t ps p i))) in
-        let P : ℕ → Type 0 = λ z. IsSome (sum_found m z k) in
-        subst P (apart q p (form g) (stands_later s t grows q g e) (has_game t ps p a.0 i)) some
+  pub options_later : (f k : ℕ) → IsGame s f → IsGame s k → OptionsFound s m f k → OptionsFound t m f k
+  options_later f k gf gk found = record {
+    first = λ a i.
+        let W : Game → Type 0 = λ z. Among a (written z) in
+        let (p, e, some) = found.first a (subst W (game_later s t grows f gf) i) in
+        (p, stands_later s t grows p a e, some);
+    second = λ c i.
+        let W : Game → Type 0 = λ z. Among c (written z) in
+        let (q, e, some) = found.second c (subst W (game_later s t grows k gk) i) in
+        (q, stands_later s t grows q c e, some);
+  }
 
-    pub seconds_found : (qs : List ℕ) (hs : List Game) → StandFor t qs hs
-        → ((c : Game) → Among c hs → Among c (written (game_at s k))) → (q : ℕ) → Has qs q → IsSome (sum_found m f q)
-    seconds_found qs hs a within q i =
-        let g : Game = game_at t q in
-        let (p, e, some) = found.second g (within g (carry g (games_at t qs) hs a.1 (has_among t qs q i))) in
-        let P : ℕ → Type 0 = λ z. IsSome (sum_found m f z) in
-        subst P (apart p q (form g) (stands_later s t grows p g e) (has_game t qs q a.0 i)) some
+  pub ready_later : (f k : ℕ) → IsSumReady s m f k → IsSumReady t m f k
+  ready_later f k ready = record {
+    first = is_game_later s t grows f ready.first;
+    second = is_game_later s t grows k ready.second;
+    holds = holds_later ready.holds;
+    found = options_later f k ready.first ready.second ready.found;
+  }
+
+-- the two games later
+module _ {R Q : Type 0} (s : State Meant R) (t : State Meant Q) (grows : Grows (thing_at s) (thing_at t)) (f k : ℕ)
+    (gf : IsGame s f) (gk : IsGame s k) where
+  pub sums_same : sum (game_at t f) (game_at t k) ≡ sum (game_at s f) (game_at s k)
+  sums_same =
+      ap (λ z. sum z (game_at t k)) (game_later s t grows f gf)
+      ∙ ap (λ z. sum (game_at s f) z) (game_later s t grows k gk)
+
+  pub node_later : IsOneNode s f k → IsOneNode t f k
+  node_later (inl c) = let P : Game → Type 0 = λ z. IsNode z in inl (subst P (sym (game_later s t grows f gf)) c)
+  node_later (inr c) = let P : Game → Type 0 = λ z. IsNode z in inr (subst P (sym (game_later s t grows k gk)) c)
+
+pub written_later : {R : Type 0} (s t : State Meant R) (sides : Sides) (f : ℕ) → Grows (thing_at s) (thing_at t)
+    → IsGame s f → IsWritten s sides f → IsWritten t sides f
+written_later s t sides f grows gf w =
+    let P : Game → Type 0 = λ z. StandFor t sides.lefts (written_lefts z) in
+    let Q : Game → Type 0 = λ z. StandFor t sides.rights (written_rights z) in
+    let V : Game → Type 0 = λ z. Canonical z in
+    let e = sym (game_later s t grows f gf) in
+    record {
+      lefts = subst P e (stand_later s t grows sides.lefts (written_lefts (game_at s f)) w.lefts);
+      rights = subst Q e (stand_later s t grows sides.rights (written_rights (game_at s f)) w.rights);
+      canonical = subst V e w.canonical;
+    }
 
 pub left_written : (g a : Game) → Among a (written_lefts g) → Among a (written g)
 left_written g a i = among-append_left a (written_lefts g) (written_rights g) i
@@ -105,90 +134,55 @@ left_written g a i = among-append_left a (written_lefts g) (written_rights g) i
 pub right_written : (g a : Game) → Among a (written_rights g) → Among a (written g)
 right_written g a i = among-append_right a (written_lefts g) (written_rights g) i
 
--- ---- the options of f were read first, and then those of k
+-- ---- the options of both were read
 
-pub record OptionsRead {R : Type 0} (s t u : State Meant R) (m : Sums) (f k : ℕ) : Type 0 where
-  pub game_f : IsGame s f
-  pub game_k : IsGame s k
-  pub holds : HoldsSums s m
-  pub found : OptionsFound s m f k
-  pub read_f : Spends 0 s t
-  pub read_k : Spends 0 t u
-  pub apart : IsInjective (thing_at u)
+module _ {R : Type 0} (s : State Meant R) (m : Sums) (f k : ℕ) (ready : IsSumReady s m f k)
+    (apart : IsInjective (thing_at s)) where
+  -- handles of options of f are those whose sums were found
+  pub firsts_found : (hs ps : List ℕ) (gs : List Game) → hs ≡ ps → StandFor s ps gs
+      → ((a : Game) → Among a gs → Among a (written (game_at s f))) → (p : ℕ) → Has hs p → IsSome (sum_found m p k)
+  firsts_found hs ps gs e a within p i =
+      let L : List ℕ → Type 0 = λ z. Has z p in
+      let j : Has ps p = subst L e i in
+      let g : Game = game_at s p in
+      let (q, st, some) = ready.found.first g (within g (carry g (games_at s ps) gs a.1 (has_among s ps p j))) in
+      let P : ℕ → Type 0 = λ z. IsSome (sum_found m z k) in
+      subst P (apart q p (form g) st (has_game s ps p a.0 j)) some
 
-module _ {R : Type 0} (s t u : State Meant R) (m : Sums) (f k : ℕ) (r : OptionsRead s t u m f k) where
-  grown : Grows (thing_at s) (thing_at u)
-  grown i x e = r.read_k.known i x (r.read_f.known i x e)
-
-  first_later : (ps hs : List ℕ) (gs : List Game) → hs ≡ ps → StandFor t ps gs → StandFor u hs gs
-  first_later ps hs gs e a =
-      let P : List ℕ → Type 0 = λ z. StandFor u z gs in
-      subst P (sym e) (stand_later t u r.read_k.known ps gs a)
-
-  second_later : (written_of : Game → List Game) (qs hs : List ℕ) → hs ≡ qs → StandFor u qs (written_of (game_at t k))
-      → StandFor u hs (written_of (game_at s k))
-  second_later written_of qs hs e a =
-      let P : List ℕ → Type 0 = λ z. StandFor u z (written_of (game_at s k)) in
-      let Q : Game → Type 0 = λ z. StandFor u qs (written_of z) in
-      subst P (sym e) (subst Q (game_later s t r.read_f.known k r.game_k) a)
-
-  pub left_firsts : (ps hs : List ℕ) → hs ≡ ps → StandFor t ps (written_lefts (game_at s f))
-      → (p : ℕ) → Has hs p → IsSome (sum_found m p k)
-  left_firsts ps hs e a =
-      firsts_found s u grown m r.apart f k r.found hs (written_lefts (game_at s f))
-      (first_later ps hs (written_lefts (game_at s f)) e a) (left_written (game_at s f))
-
-  pub right_firsts : (ps hs : List ℕ) → hs ≡ ps → StandFor t ps (written_rights (game_at s f))
-      → (p : ℕ) → Has hs p → IsSome (sum_found m p k)
-  right_firsts ps hs e a =
-      firsts_found s u grown m r.apart f k r.found hs (written_rights (game_at s f))
-      (first_later ps hs (written_rights (game_at s f)) e a) (right_written (game_at s f))
-
-  pub left_seconds : (qs hs : List ℕ) → hs ≡ qs → StandFor u qs (written_lefts (game_at t k))
-      → (q : ℕ) → Has hs q → IsSome (sum_found m f q)
-  left_seconds qs hs e a =
-      seconds_found s u grown m r.apart f k r.found hs (written_lefts (game_at s k))
-      (second_later written_lefts qs hs e a) (left_written (game_at s k))
-
-  pub right_seconds : (qs hs : List ℕ) → hs ≡ qs → StandFor u qs (written_rights (game_at t k))
-      → (q : ℕ) → Has hs q → IsSome (sum_found m f q)
-  right_seconds qs hs e a =
-      seconds_found s u grown m r.apart f k r.found hs (written_rights (game_at s k))
-      (second_later written_rights qs hs e a) (right_written (game_at s k))
+  pub seconds_found : (hs qs : List ℕ) (gs : List Game) → hs ≡ qs → StandFor s qs gs
+      → ((c : Game) → Among c gs → Among c (written (game_at s k))) → (q : ℕ) → Has hs q → IsSome (sum_found m f q)
+  seconds_found hs qs gs e a within q i =
+      let L : List ℕ → Type 0 = λ z. Has z q in
+      let j : Has qs q = subst L e i in
+      let g : Game = game_at s q in
+      let (p, st, some) = ready.found.second g (within g (carry g (games_at s qs) gs a.1 (has_among s qs q j))) in
+      let P : ℕ → Type 0 = λ z. IsSome (sum_found m f z) in
+      subst P (apart p q (form g) st (has_game s qs q a.0 j)) some
 
   -- the sums of the options on one side
-  side_stands : (written_of : Game → List Game) (ps hs qs ks all : List ℕ) → hs ≡ ps → ks ≡ qs
-      → all ≡ map (λ p. sum_handle m p k) hs ++ map (λ q. sum_handle m f q) ks
-      → StandFor t ps (written_of (game_at s f)) → StandFor u qs (written_of (game_at t k))
-      → ((p : ℕ) → Has hs p → IsSome (sum_found m p k)) → ((q : ℕ) → Has ks q → IsSome (sum_found m f q))
-      → StandFor u all (option_forms (game_at s f) (game_at s k) (written_of (game_at s f)) (written_of (game_at s k)))
-  side_stands written_of ps hs qs ks all e d is a b each every =
-      let gs : List Game = written_of (game_at s f) in
-      let os : List Game = written_of (game_at s k) in
-      let P : List ℕ → Type 0 = λ z. StandFor u z (option_forms (game_at s f) (game_at s k) gs os) in
-      let Q : Game → Type 0 = λ z. StandFor u (map (λ p. sum_handle m p k) hs ++ map (λ q. sum_handle m f q) ks)
-      (option_forms z (game_at s k) gs os) in
-      let V : Game → Type 0 = λ z. StandFor u (map (λ p. sum_handle m p k) hs ++ map (λ q. sum_handle m f q) ks)
-      (option_forms (game_at u f) z gs os) in
-      subst P (sym is) (subst Q (game_later s u grown f r.game_f) (subst V (game_later s u grown k r.game_k)
-      (options_stand u m (holds_later s u grown m r.holds) hs ks f k gs os (first_later ps hs gs e a)
-      (second_later written_of qs ks d b) each every)))
+  pub side_stands : (hs ps ks qs all : List ℕ) (gs os : List Game) → hs ≡ ps → ks ≡ qs
+      → all ≡ map (λ p. sum_handle m p k) hs ++ map (λ q. sum_handle m f q) ks → StandFor s ps gs → StandFor s qs os
+      → ((a : Game) → Among a gs → Among a (written (game_at s f)))
+      → ((c : Game) → Among c os → Among c (written (game_at s k)))
+      → StandFor s all (option_forms (game_at s f) (game_at s k) gs os)
+  side_stands hs ps ks qs all gs os e d is a b within inside =
+      let P : List ℕ → Type 0 = λ z. StandFor s z (option_forms (game_at s f) (game_at s k) gs os) in
+      let H : List ℕ → Type 0 = λ z. StandFor s z gs in
+      let K : List ℕ → Type 0 = λ z. StandFor s z os in
+      subst P (sym is) (options_stand s m ready.holds hs ks f k gs os (subst H (sym e) a) (subst K (sym d) b)
+      (firsts_found hs ps gs e a within) (seconds_found ks qs os d b inside))
 
-  module _ (fl fr kl kr ls rs hl hr ol or : List ℕ) (el : hl ≡ fl) (er : hr ≡ fr) (dl : ol ≡ kl) (dr : or ≡ kr)
-      (fls : StandFor t fl (written_lefts (game_at s f))) (frs : StandFor t fr (written_rights (game_at s f)))
-      (kls : StandFor u kl (written_lefts (game_at t k))) (krs : StandFor u kr (written_rights (game_at t k)))
-      (il : ls ≡ map (λ p. sum_handle m p k) hl ++ map (λ q. sum_handle m f q) ol)
-      (ir : rs ≡ map (λ p. sum_handle m p k) hr ++ map (λ q. sum_handle m f q) or) where
-    pub left_side : StandFor u ls (option_forms (game_at s f) (game_at s k) (written_lefts (game_at s f)) (written_lefts (game_at s k)))
-    left_side = side_stands written_lefts fl hl kl ol ls el dl il fls kls (left_firsts fl hl el fls) (left_seconds kl ol dl kls)
-
-    pub right_side : StandFor u rs (option_forms (game_at s f) (game_at s k) (written_rights (game_at s f)) (written_rights (game_at s k)))
-    right_side = side_stands written_rights fr hr kr or rs er dr ir frs krs (right_firsts fr hr er frs) (right_seconds kr or dr krs)
-
-    pub sides_sum : IsNode (game_at s f) ⊎ IsNode (game_at s k) → Canonical (game_at s f) → Canonical (game_at t k)
-        → can (node (games_at u ls) (games_at u rs)) ≡ can (sum (game_at s f) (game_at s k))
-    sides_sum n c d =
-        let P : Game → Type 0 = λ z. Canonical z in
-        ap (λ z. can (node z (games_at u rs))) left_side.1
-        ∙ (ap (λ z. can (node (option_forms (game_at s f) (game_at s k) (written_lefts (game_at s f)) (written_lefts (game_at s k))) z)) right_side.1
-        ∙ can-sum_written (game_at s f) (game_at s k) c (subst P (game_later s t r.read_f.known k r.game_k) d) n)
+  -- and all of them make the sum
+  pub sides_sum : (sides : Sides) (g h : Game) → g ≡ game_at s f → h ≡ game_at s k → IsOneNode s f k
+      → Canonical (game_at s f) → Canonical (game_at s k)
+      → StandFor s sides.lefts (option_forms (game_at s f) (game_at s k) (written_lefts (game_at s f)) (written_lefts (game_at s k)))
+      → StandFor s sides.rights (option_forms (game_at s f) (game_at s k) (written_rights (game_at s f)) (written_rights (game_at s k)))
+      → IsSides s sides (sum g h)
+  sides_sum sides g h e d n cf ck l r = record {
+    lefts = l.0;
+    rights = r.0;
+    form = ap (λ z. can (node z (games_at s sides.rights))) l.1
+        ∙ ap (λ z. can (node (option_forms (game_at s f) (game_at s k) (written_lefts (game_at s f)) (written_lefts (game_at s k))) z)) r.1
+        ∙ can-sum_written (game_at s f) (game_at s k) cf ck n
+        ∙ ap (λ z. can (sum z (game_at s k))) (sym e) ∙ ap (λ z. can (sum g z)) (sym d);
+  }

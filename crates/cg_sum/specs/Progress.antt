@@ -1,14 +1,16 @@
 -- How far a sum or a negative has come.
-use Rattle.std.specs.Prelude.{◌≡◌, ℕ, List, Some, IsSome}
-use Rattle.cg_cells.specs.Meaning.{Has}
-use Rattle.cg_cells.specs.Store.{State}
-use Rattle.cg_form.specs.Game.{Among, Game}
+use Rattle.std.specs.Prelude.{◌≡◌, ◌⊎◌, ℕ, List, Some, IsSome}
+use Rattle.cg_cells.specs.Meaning.{Has, Meaning, note_for}
+use Rattle.cg_cells.specs.Store.{Known, State, thing_at}
+use Rattle.cg_form.specs.Canonical.{Canonical}
+use Rattle.cg_form.specs.Game.{Among, Game, node}
 use Rattle.cg_form.specs.Sum.{negative, sum}
-use Rattle.cg_nodes.specs.Games.{IsGame, StandsFor, game_at}
-use Rattle.cg_nodes.specs.Meant.{Meant}
+use Rattle.cg_nodes.specs.declared.reading.Sides.{Sides}
+use Rattle.cg_nodes.specs.Games.{AreGames, IsGame, IsNode, StandFor, StandsFor, game_at, games_at}
+use Rattle.cg_nodes.specs.Meant.{Meant, form}
 use Rattle.cg_nodes.specs.Spelled.{can}
 use Rattle.cg_sum.specs.Finds.{negative_found, sum_found}
-use Rattle.cg_sum.specs.Written.{written}
+use Rattle.cg_sum.specs.Written.{written, written_lefts, written_rights}
 use Rattle.cg_sum.specs.declared.found.Negatives.{Negatives}
 use Rattle.cg_sum.specs.declared.found.Sums.{Sums}
 
@@ -35,6 +37,13 @@ pub record OptionsFound {R : Type 0} (s : State Meant R) (m : Sums) (f k : ℕ) 
   pub first : (a : Game) → Among a (written (game_at s f)) → (p : ℕ) × StandsFor s p a × IsSome (sum_found m p k)
   pub second : (c : Game) → Among c (written (game_at s k)) → (q : ℕ) × StandsFor s q c × IsSome (sum_found m f q)
 
+-- two games, with what was found and the sums of their options among that
+pub record IsSumReady {R : Type 0} (s : State Meant R) (m : Sums) (f k : ℕ) : Type 0 where
+  pub first : IsGame s f
+  pub second : IsGame s k
+  pub holds : HoldsSums s m
+  pub found : OptionsFound s m f k
+
 -- for each option that is written in the form, some handle stands for it whose sums with all of the list were found
 pub record RowReady {R : Type 0} (s : State Meant R) (m : Sums) (f : ℕ) (ks : List ℕ) : Type 0 where
   pub each : (a : Game) → Among a (written (game_at s f)) → (p : ℕ) × StandsFor s p a × RowFound m p ks
@@ -47,3 +56,33 @@ pub record HoldsNegatives {R : Type 0} (s : State Meant R) (m : Negatives) : Typ
 -- for each option that is written in the form, some handle stands for it whose negative was found
 pub record OptionsNegated {R : Type 0} (s : State Meant R) (m : Negatives) (f : ℕ) : Type 0 where
   pub each : (a : Game) → Among a (written (game_at s f)) → (p : ℕ) × StandsFor s p a × IsSome (negative_found m p)
+
+-- a game, with what was found and the negatives of its options among that
+pub record IsNegativeReady {R : Type 0} (s : State Meant R) (m : Negatives) (f : ℕ) : Type 0 where
+  pub game : IsGame s f
+  pub holds : HoldsNegatives s m
+  pub found : OptionsNegated s m f
+
+-- ---- lists of options
+
+-- the lists have the options that are written in the form of the handle, which is canonical
+pub record IsWritten {R : Type 0} (s : State Meant R) (sides : Sides) (f : ℕ) : Type 0 where
+  pub lefts : StandFor s sides.lefts (written_lefts (game_at s f))
+  pub rights : StandFor s sides.rights (written_rights (game_at s f))
+  pub canonical : Canonical (game_at s f)
+
+-- the game of the lists has the same canonical form
+pub record IsSides {R : Type 0} (s : State Meant R) (sides : Sides) (g : Game) : Type 0 where
+  pub lefts : AreGames s sides.lefts
+  pub rights : AreGames s sides.rights
+  pub form : can (node (games_at s sides.lefts) (games_at s sides.rights)) ≡ can g
+
+-- ---- a pair
+
+-- one of two games is no number
+abbrev pub IsOneNode : {R : Type 0} → State Meant R → ℕ → ℕ → Type 0
+IsOneNode {R} s f k = IsNode (game_at s f) ⊎ IsNode (game_at s k)
+
+-- the cell is one on which the canonical form of the game is noted, and no other
+abbrev pub IsNoteOf : {R : Type 0} → Meaning Meant → State Meant R → ℕ → Game → Type 0
+IsNoteOf {R} meaning s id g = Known s id × (note_for meaning (thing_at s id) ≡ Some (form (can g)))

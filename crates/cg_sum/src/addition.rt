@@ -1,13 +1,16 @@
 //! The sum of the games of two handles.
-ghost use Rattle.std.specs.Prelude.{◌≡◌, ◌*◌, ◌≤◌, ◌<◌, ◌↔◌, IfErr, IfOk, IsTrue, OnOk, length};
+ghost use Rattle.std.specs.Prelude.{◌≡◌, ◌*◌, ◌≤◌, ◌<◌, ◌↔◌, IfErr, IfOk, IsSome, IsTrue, OnOk, length};
 ghost use Rattle.cg_canon.specs.Items.{AllPass, WasRefused};
+ghost use Rattle.cg_canon.specs.Made.{ItemsMade};
 ghost use Rattle.cg_canon.specs.Works.{Keeps, work_state};
 ghost use Rattle.cg_cells.specs.Store.{Spends};
 ghost use Rattle.cg_form.specs.Sum.{sum as sum_of};
 ghost use Rattle.cg_nodes.specs.Games.{IsGame, StandFor, StandsFor, game_at};
 ghost use Rattle.cg_nodes.specs.Positions.{positions_of};
 ghost use Rattle.cg_nodes.specs.Spelled.{can};
+ghost use Rattle.cg_sum.specs.Finds.{sum_found};
 ghost use Rattle.cg_sum.specs.Lists.{sum_items};
+ghost use Rattle.cg_sum.specs.Progress.{HoldsSums};
 
 use crate::found::Sums;
 use crate::limits::positions_within;
@@ -43,6 +46,46 @@ pub fn sum<B: BoardForms, S: CellStore<GameFacts<B>>>(
     ensures spare { (work_state S.state work.old).spare ≤ (work_state S.state work.new).spare }
     ensures keeps { Keeps (work_state S.state work.old) (work_state S.state work.new) }
 {
+    listed_sum(alloc, work, a, b)
+}
+
+// Makes the items of the sum's own list, of which the last is the sum.
+fn listed_sum<B: BoardForms, S: CellStore<GameFacts<B>>>(
+    alloc: Global,
+    work: &mut Work<B, S>,
+    a: Handle,
+    b: Handle,
+) -> Result<Handle, ValueFault>
+    requires a { IsGame (work_state S.state work.old) a }
+    requires b { IsGame (work_state S.state work.old) b }
+    ensures game { let W = work_state S.state work.old in IfOk result (λ h. StandsFor (work_state S.state work.new) h
+        (can (sum_of (game_at W a) (game_at W b)))) }
+    ensures made { let W = work_state S.state work.old in ItemsMade W (work_state S.state work.new)
+        (sum_items work.old.limit (game_at W a) (game_at W b)) result }
+    ensures spare { (work_state S.state work.old).spare ≤ (work_state S.state work.new).spare }
+{
+    let sums = all_sums(alloc, work, a, b)?;
+    match sums.get(a, b) {
+        Some(sum) => Ok(sum),
+        None => unreachable!(),
+    }
+}
+
+// Makes the items of the sums of all positions of the two.
+fn all_sums<B: BoardForms, S: CellStore<GameFacts<B>>>(
+    alloc: Global,
+    work: &mut Work<B, S>,
+    a: Handle,
+    b: Handle,
+) -> Result<Sums, ValueFault>
+    requires a { IsGame (work_state S.state work.old) a }
+    requires b { IsGame (work_state S.state work.old) b }
+    ensures found { IfOk result (λ sums. IsSome (sum_found sums a b)) }
+    ensures holds { IfOk result (HoldsSums (work_state S.state work.new)) }
+    ensures made { let W = work_state S.state work.old in ItemsMade W (work_state S.state work.new)
+        (sum_items work.old.limit (game_at W a) (game_at W b)) result }
+    ensures spare { (work_state S.state work.old).spare ≤ (work_state S.state work.new).spare }
+{
     let both = both_positions(alloc, work, a, b)?;
     let start = work.spare();
     let mut sums = Sums::new(alloc);
@@ -55,10 +98,7 @@ pub fn sum<B: BoardForms, S: CellStore<GameFacts<B>>>(
         start,
     )?;
     work.apart();
-    let Some(sum) = sums.get(a, b) else {
-        unreachable!()
-    };
-    Ok(sum)
+    Ok(sums)
 }
 
 // The positions of two games.

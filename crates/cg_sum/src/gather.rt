@@ -1,16 +1,14 @@
 //! The options of a sum, which are sums that were made before.
-ghost use Rattle.std.specs.Prelude.{◌≡◌, ◌⊎◌, ℕ, ◌++◌, IfOk, IsSome, map};
+ghost use Rattle.std.specs.Prelude.{◌≡◌, ℕ, ◌++◌, IfOk, IsSome, map};
 ghost use Rattle.cg_cells.specs.Meaning.{Has};
 ghost use Rattle.cg_cells.specs.Store.{Spends};
-ghost use Rattle.cg_form.specs.Game.{node};
 ghost use Rattle.cg_form.specs.Sum.{sum};
-ghost use Rattle.cg_nodes.specs.Games.{AreGames, IsGame, IsNode, game_at, games_at};
-ghost use Rattle.cg_nodes.specs.Spelled.{can};
+ghost use Rattle.cg_nodes.specs.Games.{game_at};
 ghost use Rattle.cg_sum.specs.Finds.{sum_found, sum_handle};
-ghost use Rattle.cg_sum.specs.Progress.{HoldsSums, OptionsFound};
+ghost use Rattle.cg_sum.specs.Progress.{IsOneNode, IsSides, IsSumReady};
 
 use crate::found::Sums;
-use crate::written::written_options;
+use crate::written::both_options;
 use cg_cells::CellStore;
 use cg_nodes::{BoardForms, GameFacts, Handle, Handles, Sides};
 use std::alloc::{AllocError, Global};
@@ -26,36 +24,29 @@ pub(crate) fn sides_of_sum<B: BoardForms, S: CellStore<GameFacts<B>>>(
     k: Handle,
     sums: &Sums,
 ) -> Result<Sides, AllocError>
-    requires f { IsGame (S.state store.old) f }
-    requires k { IsGame (S.state store.old) k }
-    requires node { IsNode (game_at (S.state store.old) f) ⊎ IsNode (game_at (S.state store.old) k) }
-    requires holds { HoldsSums (S.state store.old) sums.now }
-    requires found { OptionsFound (S.state store.old) sums.now f k }
-    ensures lefts { IfOk result (λ sides. AreGames (S.state store.new) sides.lefts) }
-    ensures rights { IfOk result (λ sides. AreGames (S.state store.new) sides.rights) }
-    ensures sum { IfOk result (λ sides.
-        can (node (games_at (S.state store.new) sides.lefts) (games_at (S.state store.new) sides.rights))
-        ≡ can (sum (game_at (S.state store.old) f) (game_at (S.state store.old) k))) }
+    requires ready { IsSumReady (S.state store.old) sums.now f k }
+    requires node { IsOneNode (S.state store.old) f k }
+    ensures sides { IfOk result (λ sides. IsSides (S.state store.new) sides
+        (sum (game_at (S.state store.old) f) (game_at (S.state store.old) k))) }
     ensures spends { Spends 0 (S.state store.old) (S.state store.new) }
 {
-    let first = written_options(alloc, store, f)?;
-    let second = written_options(alloc, store, k)?;
+    let both = both_options(alloc, store, f, k)?;
     store.apart();
     let lefts = option_sums(
         alloc,
         sums,
-        first.lefts.as_slice(),
+        both.first.lefts.as_slice(),
         k,
         f,
-        second.lefts.as_slice(),
+        both.second.lefts.as_slice(),
     )?;
     let rights = option_sums(
         alloc,
         sums,
-        first.rights.as_slice(),
+        both.first.rights.as_slice(),
         k,
         f,
-        second.rights.as_slice(),
+        both.second.rights.as_slice(),
     )?;
     Ok(Sides {
         lefts: Handles::of(lefts),

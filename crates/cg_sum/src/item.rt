@@ -1,18 +1,23 @@
 //! The item of the sum of two positions.
-ghost use Rattle.std.specs.Prelude.{◌≡◌, ◌+◌, ◌⊎◌, ◌≤◌, IfOk, OnOk, [], ◌∷◌};
-ghost use Rattle.cg_canon.specs.Works.{work_state};
-ghost use Rattle.cg_form.specs.Sum.{sum};
-ghost use Rattle.cg_nodes.specs.Games.{IsGame, IsNode, StandsFor, game_at};
-ghost use Rattle.cg_nodes.specs.Spelled.{can};
-ghost use Rattle.cg_sum.specs.Lists.{sum_item as item_of_sum};
+ghost use Rattle.std.specs.Prelude.{◌≡◌, ◌+◌, ◌≤◌, MatchOption, IfOk, OnOk, [], ◌∷◌};
+ghost use Rattle.cg_canon.specs.Items.{made as made_at};
 ghost use Rattle.cg_canon.specs.Made.{ItemsMade};
-ghost use Rattle.cg_sum.specs.Progress.{HoldsSums, OptionsFound};
+ghost use Rattle.cg_canon.specs.Works.{work_state};
+ghost use Rattle.cg_cells.specs.Store.{Spends};
+ghost use Rattle.cg_form.specs.Game.{number};
+ghost use Rattle.cg_form.specs.Sum.{sum};
+ghost use Rattle.cg_nodes.specs.Games.{IsGame, StandsFor, game_at};
+ghost use Rattle.cg_nodes.specs.Spelled.{can, game_meaning};
+ghost use Rattle.cg_sum.specs.Lists.{sum_item as item_of_sum};
+ghost use Rattle.cg_sum.specs.Progress.{IsNoteOf, IsOneNode, IsSumReady};
 
+use crate::form::form_item;
 use crate::found::Sums;
 use crate::gather::sides_of_sum;
 use crate::pairs::pair;
-use cg_canon::{ValueFault, Work, canonical, item_of, number_item};
-use cg_cells::CellStore;
+use cg_canon::{ValueFault, Work, item_of, number_item};
+use cg_cells::{CellStore, Id};
+use cg_dyadic::Dyadic;
 use cg_nodes::{BoardForms, GameFacts, Handle, Kind, kind};
 use std::alloc::Global;
 
@@ -29,10 +34,7 @@ pub(crate) fn sum_item<B: BoardForms, S: CellStore<GameFacts<B>>>(
     sums: &Sums,
     start: u64,
 ) -> Result<Handle, ValueFault>
-    requires f { IsGame (work_state S.state work.old) f }
-    requires k { IsGame (work_state S.state work.old) k }
-    requires holds { HoldsSums (work_state S.state work.old) sums.now }
-    requires found { OptionsFound (work_state S.state work.old) sums.now f k }
+    requires ready { IsSumReady (work_state S.state work.old) sums.now f k }
     requires spare { start ≤ (work_state S.state work.old).spare }
     ensures game { let W = work_state S.state work.old in IfOk result (λ h. StandsFor (work_state S.state work.new) h
         (can (sum (game_at W f) (game_at W k)))) }
@@ -40,12 +42,37 @@ pub(crate) fn sum_item<B: BoardForms, S: CellStore<GameFacts<B>>>(
         (item_of_sum (game_at W f) (game_at W k) ∷ []) result }
     ensures spare { start ≤ (work_state S.state work.new).spare }
 {
-    match kind(work, f) {
-        Kind::Number(x) => match kind(work, k) {
-            Kind::Number(y) => number_item(work, x.add(y).ok(), 1),
-            Kind::Game => game_item(alloc, work, f, k, sums, start),
+    match numbers(work, f, k) {
+        Some(pair) => number_item(work, pair.first.add(pair.second).ok(), 1),
+        None => game_item(alloc, work, f, k, sums, start),
+    }
+}
+
+// Two numbers.
+#[derive(Clone, Copy, Debug)]
+struct Addends {
+    first: Dyadic,
+    second: Dyadic,
+}
+
+// The numbers that the two handles stand for, where both stand for one.
+fn numbers<B: BoardForms, S: CellStore<GameFacts<B>>>(
+    store: &mut S,
+    f: Handle,
+    k: Handle,
+) -> Option<Addends>
+    requires f { IsGame (S.state store.old) f }
+    requires k { IsGame (S.state store.old) k }
+    ensures numbers { let W = S.state store.old in MatchOption result (IsOneNode W f k)
+        (λ pair. (game_at W f ≡ number pair.first) × (game_at W k ≡ number pair.second)) }
+    ensures spends { Spends 0 (S.state store.old) (S.state store.new) }
+{
+    match kind(store, f) {
+        Kind::Number(first) => match kind(store, k) {
+            Kind::Number(second) => Some(Addends { first, second }),
+            Kind::Game => None,
         },
-        Kind::Game => game_item(alloc, work, f, k, sums, start),
+        Kind::Game => None,
     }
 }
 
@@ -58,11 +85,8 @@ fn game_item<B: BoardForms, S: CellStore<GameFacts<B>>>(
     sums: &Sums,
     start: u64,
 ) -> Result<Handle, ValueFault>
-    requires f { IsGame (work_state S.state work.old) f }
-    requires k { IsGame (work_state S.state work.old) k }
-    requires node { IsNode (game_at (work_state S.state work.old) f) ⊎ IsNode (game_at (work_state S.state work.old) k) }
-    requires holds { HoldsSums (work_state S.state work.old) sums.now }
-    requires found { OptionsFound (work_state S.state work.old) sums.now f k }
+    requires ready { IsSumReady (work_state S.state work.old) sums.now f k }
+    requires node { IsOneNode (work_state S.state work.old) f k }
     requires spare { start ≤ (work_state S.state work.old).spare }
     ensures game { let W = work_state S.state work.old in IfOk result (λ h. StandsFor (work_state S.state work.new) h
         (can (sum (game_at W f) (game_at W k)))) }
@@ -75,17 +99,51 @@ fn game_item<B: BoardForms, S: CellStore<GameFacts<B>>>(
     }
     let pair = pair(work, f, k);
     match work.noted(pair) {
-        Some(value) => {
-            let sum = Handle::of(value);
-            item_of(alloc, work, sum, 1)?;
-            Ok(sum)
-        }
-        None => {
-            let sum = made_item(alloc, work, f, k, sums)?;
-            work.note(pair, sum.id());
-            Ok(sum)
-        }
+        Some(value) => charged_item(alloc, work, Handle::of(value)),
+        None => noted_item(alloc, work, pair, f, k, sums),
     }
+}
+
+// Charges the item of the sum that the handle stands for.
+fn charged_item<B: BoardForms, S: CellStore<GameFacts<B>>>(
+    alloc: Global,
+    work: &mut Work<B, S>,
+    sum: Handle,
+) -> Result<Handle, ValueFault>
+    requires { IsGame (work_state S.state work.old) sum }
+    ensures same { IfOk result (λ h. h ≡ sum) }
+    ensures made { let W = work_state S.state work.old in ItemsMade W (work_state S.state work.new)
+        (made_at (game_at W sum) 1 ∷ []) result }
+    ensures spare { OnOk result ((work_state S.state work.old).spare + 1 ≤ (work_state S.state work.new).spare) }
+    ensures more { (work_state S.state work.old).spare ≤ (work_state S.state work.new).spare }
+{
+    item_of(alloc, work, sum, 1)?;
+    Ok(sum)
+}
+
+// Makes the item of f + k from the sums of their options, and notes it on this cell.
+fn noted_item<B: BoardForms, S: CellStore<GameFacts<B>>>(
+    alloc: Global,
+    work: &mut Work<B, S>,
+    pair: Id,
+    f: Handle,
+    k: Handle,
+    sums: &Sums,
+) -> Result<Handle, ValueFault>
+    requires ready { IsSumReady (work_state S.state work.old) sums.now f k }
+    requires node { IsOneNode (work_state S.state work.old) f k }
+    requires pair { let W = work_state S.state work.old in
+        IsNoteOf (game_meaning B.form) W pair (sum (game_at W f) (game_at W k)) }
+    ensures game { let W = work_state S.state work.old in IfOk result (λ h. StandsFor (work_state S.state work.new) h
+        (can (sum (game_at W f) (game_at W k)))) }
+    ensures made { let W = work_state S.state work.old in ItemsMade W (work_state S.state work.new)
+        (item_of_sum (game_at W f) (game_at W k) ∷ []) result }
+    ensures spare { OnOk result ((work_state S.state work.old).spare + 1 ≤ (work_state S.state work.new).spare) }
+    ensures more { (work_state S.state work.old).spare ≤ (work_state S.state work.new).spare }
+{
+    let sum = made_item(alloc, work, f, k, sums)?;
+    work.note(pair, sum.id());
+    Ok(sum)
 }
 
 // Makes the item of f + k from the sums of their options, where one of the two is no number.
@@ -96,11 +154,8 @@ fn made_item<B: BoardForms, S: CellStore<GameFacts<B>>>(
     k: Handle,
     sums: &Sums,
 ) -> Result<Handle, ValueFault>
-    requires f { IsGame (work_state S.state work.old) f }
-    requires k { IsGame (work_state S.state work.old) k }
-    requires node { IsNode (game_at (work_state S.state work.old) f) ⊎ IsNode (game_at (work_state S.state work.old) k) }
-    requires holds { HoldsSums (work_state S.state work.old) sums.now }
-    requires found { OptionsFound (work_state S.state work.old) sums.now f k }
+    requires ready { IsSumReady (work_state S.state work.old) sums.now f k }
+    requires node { IsOneNode (work_state S.state work.old) f k }
     ensures game { let W = work_state S.state work.old in IfOk result (λ h. StandsFor (work_state S.state work.new) h
         (can (sum (game_at W f) (game_at W k)))) }
     ensures made { let W = work_state S.state work.old in ItemsMade W (work_state S.state work.new)
@@ -109,11 +164,5 @@ fn made_item<B: BoardForms, S: CellStore<GameFacts<B>>>(
     ensures more { (work_state S.state work.old).spare ≤ (work_state S.state work.new).spare }
 {
     let sides = sides_of_sum(alloc, work, f, k, sums)?;
-    canonical(
-        alloc,
-        work,
-        sides.lefts.as_slice(),
-        sides.rights.as_slice(),
-        1,
-    )
+    form_item(alloc, work, &sides, 1)
 }

@@ -7,6 +7,7 @@
 #![tactic(auto)]
 
 mod addition;
+mod form;
 mod found;
 mod gather;
 mod item;

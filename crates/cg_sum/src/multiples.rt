@@ -1,6 +1,7 @@
 //! Multiples of the game of a handle.
 ghost use Rattle.std.specs.Prelude.{◌≡◌, ◌≤◌, IfErr, IfOk, OnOk, pos};
 ghost use Rattle.cg_canon.specs.Items.{AllPass, WasRefused};
+ghost use Rattle.cg_canon.specs.Made.{ItemsMade};
 ghost use Rattle.cg_canon.specs.Works.{Keeps, work_state};
 ghost use Rattle.cg_dyadic.specs.Number.{whole};
 ghost use Rattle.cg_form.specs.Multiple.{multiple as times};
@@ -12,7 +13,7 @@ use crate::addition::sum;
 use cg_canon::{ValueFault, Work, number_item};
 use cg_cells::CellStore;
 use cg_dyadic::Dyadic;
-use cg_nodes::{BoardForms, GameFacts, Handle, kind};
+use cg_nodes::{BoardForms, GameFacts, Handle, known_game};
 use std::alloc::Global;
 
 /// The handle of the canonical form of `count` copies of a added up: 0.G is the number 0, and n.G is (n -
@@ -39,10 +40,43 @@ pub fn multiple<B: BoardForms, S: CellStore<GameFacts<B>>>(
     ensures keeps { Keeps (work_state S.state work.old) (work_state S.state work.new) }
 {
     if count == 0 {
-        return number_item(work, Some(zero()), 0);
+        listed_none(work, a)
+    } else {
+        listed_multiple(alloc, work, count, a)
     }
+}
+
+// Makes the item of 0.G.
+fn listed_none<B: BoardForms, S: CellStore<GameFacts<B>>>(
+    work: &mut Work<B, S>,
+    a: Handle,
+) -> Result<Handle, ValueFault>
+    ensures game { let W = work_state S.state work.old in IfOk result (λ h. StandsFor (work_state S.state work.new) h
+        (can (times 0 (game_at W a)))) }
+    ensures made { let W = work_state S.state work.old in ItemsMade W (work_state S.state work.new)
+        (multiple_items work.old.limit 0 (game_at W a)) result }
+    ensures spare { (work_state S.state work.old).spare ≤ (work_state S.state work.new).spare }
+{
+    number_item(work, Some(zero()), 0)
+}
+
+// Makes the items of n.G, for n from 1 on.
+fn listed_multiple<B: BoardForms, S: CellStore<GameFacts<B>>>(
+    alloc: Global,
+    work: &mut Work<B, S>,
+    count: u128,
+    a: Handle,
+) -> Result<Handle, ValueFault>
+    requires count { 1 ≤ count }
+    requires a { IsGame (work_state S.state work.old) a }
+    ensures game { let W = work_state S.state work.old in IfOk result (λ h. StandsFor (work_state S.state work.new) h
+        (can (times count (game_at W a)))) }
+    ensures made { let W = work_state S.state work.old in ItemsMade W (work_state S.state work.new)
+        (multiple_items work.old.limit count (game_at W a)) result }
+    ensures spare { (work_state S.state work.old).spare ≤ (work_state S.state work.new).spare }
+{
     // Called for the proof alone: the form that a handle stands for is canonical.
-    let _kind = kind(work, a);
+    known_game(work, a);
     let mut total = a;
     for _step in 1..count {
         total = sum(alloc, work, total, a)?;

@@ -1,23 +1,23 @@
 //! The negative of the game of a handle.
 ghost use Rattle.std.specs.Prelude.{◌≡◌, ℕ, ◌≤◌, IfErr, IfOk, IsSome, OnOk, [], ◌∷◌, map};
-ghost use Rattle.cg_canon.specs.Items.{AllPass, WasRefused, made};
+ghost use Rattle.cg_canon.specs.Items.{AllPass, WasRefused};
 ghost use Rattle.cg_canon.specs.Works.{Keeps, work_state};
 ghost use Rattle.cg_cells.specs.Meaning.{Has};
 ghost use Rattle.cg_cells.specs.Store.{Spends};
-ghost use Rattle.cg_form.specs.Game.{node};
 ghost use Rattle.cg_form.specs.Sum.{negative as minus};
 ghost use Rattle.cg_nodes.specs.Games.{AreGames, IsGame, IsNode, StandsFor, game_at, games_at};
 ghost use Rattle.cg_nodes.specs.Spelled.{can};
 ghost use Rattle.cg_sum.specs.Finds.{negative_found, negative_handle};
 ghost use Rattle.cg_sum.specs.Lists.{minus_item, minus_items, negative_items};
 ghost use Rattle.cg_canon.specs.Made.{ItemsMade};
-ghost use Rattle.cg_sum.specs.Progress.{HoldsNegatives, OptionsNegated};
+ghost use Rattle.cg_sum.specs.Progress.{HoldsNegatives, IsNegativeReady, IsSides};
 ghost use Rattle.cg_sum.specs.Written.{IsClosed};
 
+use crate::form::form_item;
 use crate::found::Negatives;
 use crate::limits::positions_within;
 use crate::written::written_options;
-use cg_canon::{ValueFault, Work, canonical, number_item};
+use cg_canon::{ValueFault, Work, number_item};
 use cg_cells::CellStore;
 use cg_nodes::{BoardForms, GameFacts, Handle, Handles, Kind, Sides, kind};
 use std::alloc::{AllocError, Global};
@@ -44,14 +44,47 @@ pub fn negative<B: BoardForms, S: CellStore<GameFacts<B>>>(
     ensures spare { (work_state S.state work.old).spare ≤ (work_state S.state work.new).spare }
     ensures keeps { Keeps (work_state S.state work.old) (work_state S.state work.new) }
 {
+    listed_negative(alloc, work, a)
+}
+
+// Makes the items of the negative's own list, of which the last is the negative.
+fn listed_negative<B: BoardForms, S: CellStore<GameFacts<B>>>(
+    alloc: Global,
+    work: &mut Work<B, S>,
+    a: Handle,
+) -> Result<Handle, ValueFault>
+    requires { IsGame (work_state S.state work.old) a }
+    ensures game { let W = work_state S.state work.old in IfOk result (λ h. StandsFor (work_state S.state work.new) h
+        (can (minus (game_at W a)))) }
+    ensures made { let W = work_state S.state work.old in ItemsMade W (work_state S.state work.new)
+        (negative_items work.old.limit (game_at W a)) result }
+    ensures spare { (work_state S.state work.old).spare ≤ (work_state S.state work.new).spare }
+{
+    let negatives = all_negatives(alloc, work, a)?;
+    match negatives.get(a) {
+        Some(negative) => Ok(negative),
+        None => unreachable!(),
+    }
+}
+
+// Makes the items of the negatives of all positions.
+fn all_negatives<B: BoardForms, S: CellStore<GameFacts<B>>>(
+    alloc: Global,
+    work: &mut Work<B, S>,
+    a: Handle,
+) -> Result<Negatives, ValueFault>
+    requires { IsGame (work_state S.state work.old) a }
+    ensures found { IfOk result (λ negatives. IsSome (negative_found negatives a)) }
+    ensures holds { IfOk result (HoldsNegatives (work_state S.state work.new)) }
+    ensures made { let W = work_state S.state work.old in ItemsMade W (work_state S.state work.new)
+        (negative_items work.old.limit (game_at W a)) result }
+    ensures spare { (work_state S.state work.old).spare ≤ (work_state S.state work.new).spare }
+{
     let positions = positions_within(alloc, work, a)?;
     let mut negatives = Negatives::new(alloc);
     add_negatives(alloc, work, positions.as_slice(), &mut negatives)?;
     work.apart();
-    let Some(negative) = negatives.get(a) else {
-        unreachable!()
-    };
-    Ok(negative)
+    Ok(negatives)
 }
 
 // Makes the items of the negatives of the list, in which the options of a game stand before it.
@@ -84,9 +117,7 @@ fn negative_item<B: BoardForms, S: CellStore<GameFacts<B>>>(
     f: Handle,
     negatives: &Negatives,
 ) -> Result<Handle, ValueFault>
-    requires f { IsGame (work_state S.state work.old) f }
-    requires holds { HoldsNegatives (work_state S.state work.old) negatives.now }
-    requires found { OptionsNegated (work_state S.state work.old) negatives.now f }
+    requires { IsNegativeReady (work_state S.state work.old) negatives.now f }
     ensures game { let W = work_state S.state work.old in IfOk result (λ h. StandsFor (work_state S.state work.new) h
         (can (minus (game_at W f)))) }
     ensures made { let W = work_state S.state work.old in ItemsMade W (work_state S.state work.new)
@@ -95,17 +126,27 @@ fn negative_item<B: BoardForms, S: CellStore<GameFacts<B>>>(
 {
     match kind(work, f) {
         Kind::Number(x) => number_item(work, Some(x.negate()), 0),
-        Kind::Game => {
-            let sides = sides_of_negative(alloc, work, f, negatives)?;
-            canonical(
-                alloc,
-                work,
-                sides.lefts.as_slice(),
-                sides.rights.as_slice(),
-                0,
-            )
-        }
+        Kind::Game => game_item(alloc, work, f, negatives),
     }
+}
+
+// Makes the item of -f, where f is no number.
+fn game_item<B: BoardForms, S: CellStore<GameFacts<B>>>(
+    alloc: Global,
+    work: &mut Work<B, S>,
+    f: Handle,
+    negatives: &Negatives,
+) -> Result<Handle, ValueFault>
+    requires ready { IsNegativeReady (work_state S.state work.old) negatives.now f }
+    requires node { IsNode (game_at (work_state S.state work.old) f) }
+    ensures game { let W = work_state S.state work.old in IfOk result (λ h. StandsFor (work_state S.state work.new) h
+        (can (minus (game_at W f)))) }
+    ensures made { let W = work_state S.state work.old in ItemsMade W (work_state S.state work.new)
+        (minus_item (game_at W f) ∷ []) result }
+    ensures spare { (work_state S.state work.old).spare ≤ (work_state S.state work.new).spare }
+{
+    let sides = sides_of_negative(alloc, work, f, negatives)?;
+    form_item(alloc, work, &sides, 0)
 }
 
 // The Left and Right options of -f, where f is no number and the negatives of its options were made before.
@@ -115,15 +156,9 @@ fn sides_of_negative<B: BoardForms, S: CellStore<GameFacts<B>>>(
     f: Handle,
     negatives: &Negatives,
 ) -> Result<Sides, AllocError>
-    requires f { IsGame (S.state store.old) f }
+    requires ready { IsNegativeReady (S.state store.old) negatives.now f }
     requires node { IsNode (game_at (S.state store.old) f) }
-    requires holds { HoldsNegatives (S.state store.old) negatives.now }
-    requires found { OptionsNegated (S.state store.old) negatives.now f }
-    ensures lefts { IfOk result (λ sides. AreGames (S.state store.new) sides.lefts) }
-    ensures rights { IfOk result (λ sides. AreGames (S.state store.new) sides.rights) }
-    ensures negative { IfOk result (λ sides.
-        can (node (games_at (S.state store.new) sides.lefts) (games_at (S.state store.new) sides.rights))
-        ≡ can (minus (game_at (S.state store.old) f))) }
+    ensures sides { IfOk result (λ sides. IsSides (S.state store.new) sides (minus (game_at (S.state store.old) f))) }
     ensures spends { Spends 0 (S.state store.old) (S.state store.new) }
 {
     let sides = written_options(alloc, store, f)?;

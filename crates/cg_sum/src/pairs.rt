@@ -1,11 +1,10 @@
 //! The cells on which sums are noted.
-ghost use Rattle.std.specs.Prelude.{◌≡◌, ◌≤◌, Some};
-ghost use Rattle.cg_cells.specs.Meaning.{note_for};
-ghost use Rattle.cg_cells.specs.Store.{Known, Spends, thing_at};
+ghost use Rattle.std.specs.Prelude.{◌≡◌, ◌≤◌};
+ghost use Rattle.cg_cells.specs.Store.{Spends};
 ghost use Rattle.cg_form.specs.Sum.{sum};
 ghost use Rattle.cg_nodes.specs.Games.{IsGame, game_at};
-ghost use Rattle.cg_nodes.specs.Meant.{form};
-ghost use Rattle.cg_nodes.specs.Spelled.{can, game_meaning};
+ghost use Rattle.cg_nodes.specs.Spelled.{game_meaning};
+ghost use Rattle.cg_sum.specs.Progress.{IsNoteOf};
 
 use cg_cells::{CellStore, Id, Key, KeyParts};
 use cg_nodes::{BoardForms, GameFacts, Handle};
@@ -20,9 +19,8 @@ pub(crate) fn pair<B: BoardForms, S: CellStore<GameFacts<B>>>(
     requires spare { 1 ≤ (S.state store.old).spare }
     requires a { IsGame (S.state store.old) a }
     requires b { IsGame (S.state store.old) b }
-    ensures known { Known (S.state store.new) result }
-    ensures due { note_for (game_meaning B.form) (thing_at (S.state store.new) result)
-        ≡ Some (form (can (sum (game_at (S.state store.old) a) (game_at (S.state store.old) b)))) }
+    ensures note { IsNoteOf (game_meaning B.form) (S.state store.new) result
+        (sum (game_at (S.state store.old) a) (game_at (S.state store.old) b)) }
     ensures spends { Spends 1 (S.state store.old) (S.state store.new) }
 {
     if a.id().number() <= b.id().number() {
@@ -42,9 +40,8 @@ fn ordered_pair<B: BoardForms, S: CellStore<GameFacts<B>>>(
     requires spare { 1 ≤ (S.state store.old).spare }
     requires low { IsGame (S.state store.old) low }
     requires high { IsGame (S.state store.old) high }
-    ensures known { Known (S.state store.new) result }
-    ensures due { note_for (game_meaning B.form) (thing_at (S.state store.new) result)
-        ≡ Some (form (can (sum (game_at (S.state store.old) low) (game_at (S.state store.old) high)))) }
+    ensures note { IsNoteOf (game_meaning B.form) (S.state store.new) result
+        (sum (game_at (S.state store.old) low) (game_at (S.state store.old) high)) }
     ensures spends { Spends 1 (S.state store.old) (S.state store.new) }
 {
     let key = Key::pack(KeyParts::Pair {

@@ -1,9 +1,8 @@
 //! The options that are written in a form.
 ghost use Rattle.std.specs.Prelude.{◌≡◌, IfOk};
 ghost use Rattle.cg_cells.specs.Store.{Spends};
-ghost use Rattle.cg_form.specs.Canonical.{Canonical};
-ghost use Rattle.cg_nodes.specs.Games.{IsGame, StandFor, game_at};
-ghost use Rattle.cg_sum.specs.Written.{written_lefts, written_rights};
+ghost use Rattle.cg_nodes.specs.Games.{IsGame};
+ghost use Rattle.cg_sum.specs.Progress.{IsWritten};
 
 use cg_cells::CellStore;
 use cg_nodes::{BoardForms, GameFacts, Handle, Handles, Reading, Sides, handles, read};
@@ -17,11 +16,7 @@ pub(crate) fn written_options<B: BoardForms, S: CellStore<GameFacts<B>>>(
     handle: Handle,
 ) -> Result<Sides, AllocError>
     requires { IsGame (S.state store.old) handle }
-    ensures lefts { IfOk result (λ sides. StandFor (S.state store.new) sides.lefts
-        (written_lefts (game_at (S.state store.old) handle))) }
-    ensures rights { IfOk result (λ sides. StandFor (S.state store.new) sides.rights
-        (written_rights (game_at (S.state store.old) handle))) }
-    ensures canonical { Canonical (game_at (S.state store.old) handle) }
+    ensures written { IfOk result (λ sides. IsWritten (S.state store.new) sides handle) }
     ensures spends { Spends 0 (S.state store.old) (S.state store.new) }
 {
     match read(store, handle) {
@@ -35,4 +30,29 @@ pub(crate) fn written_options<B: BoardForms, S: CellStore<GameFacts<B>>>(
             Ok(Sides { lefts, rights })
         }
     }
+}
+
+/// The written options of two handles.
+#[derive(Drop)]
+pub(crate) struct Both {
+    pub(crate) first: Sides,
+    pub(crate) second: Sides,
+}
+
+/// The handles of the options that are written in the forms of the two handles. The only error is want of memory.
+pub(crate) fn both_options<B: BoardForms, S: CellStore<GameFacts<B>>>(
+    alloc: Global,
+    store: &mut S,
+    f: Handle,
+    k: Handle,
+) -> Result<Both, AllocError>
+    requires f { IsGame (S.state store.old) f }
+    requires k { IsGame (S.state store.old) k }
+    ensures first { IfOk result (λ both. IsWritten (S.state store.new) both.first f) }
+    ensures second { IfOk result (λ both. IsWritten (S.state store.new) both.second k) }
+    ensures spends { Spends 0 (S.state store.old) (S.state store.new) }
+{
+    let first = written_options(alloc, store, f)?;
+    let second = written_options(alloc, store, k)?;
+    Ok(Both { first, second })
 }

@@ -7,7 +7,7 @@ use Rattle.cg_nodes.proofs.Later.{is_game_later, spends_then, stand_later}
 use Rattle.cg_nodes.specs.Games.{game_at}
 use Rattle.cg_nodes.specs.Positions.{positions_of}
 use Rattle.cg_sum.specs.Lists.{pair_items, within_limit}
-use Rattle.cg_sum.proofs.SumEnds.{count_of, err_refused, false_true, firsts_above, limit_refused, product_above, product_within, refusal_before, same_limit, same_spent, seconds_above, stands_before}
+use Rattle.cg_sum.proofs.SumEnds.{count_of, err_refused, firsts_above, limit_refused, product_above, product_within, refusal_before, same_limit, same_spent, seconds_above, stands_before}
 use Rattle.cg_sum.proofs.addition.both_positions.Goals as goal
 
 pub returns-in_err-firsts-clause-refused : goal.returns-in_err-firsts-clause-refused
@@ -114,7 +114,7 @@ returns-clause-within g c =
     let n = c.len-2.ensures ∙ count_of x c.in_ok-seconds.seconds gb seconds in
     let l = c.limit.ensures ∙ same_limit w x 0 wx in
     product_within c.len.result c.len-2.result (length (positions_of ga)) (length (positions_of gb)) c.limit.result w.rest.limit
-    m n l (λ above. false_true c.is_product_above.result c.if-is_product_above.false (c.is_product_above.ensures.1 above))
+    m n l (λ above. let t = c.is_product_above.ensures.1 above in let f = c.if-is_product_above.false in cc)
 
 pub returns-clause-spends : goal.returns-clause-spends
 returns-clause-spends g c =

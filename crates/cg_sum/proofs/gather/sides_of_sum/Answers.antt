@@ -1,150 +1,50 @@
 -- The options of both are read, and the sums that were found make the sum.
-use Rattle.std.proofs.Common.{◌∙◌}
-use Rattle.cg_nodes.proofs.Later.{spends_then}
-use Rattle.cg_sum.proofs.SumSteps.{OptionsRead, left_firsts, left_seconds, left_side, right_firsts, right_seconds, right_side, sides_sum}
+use Rattle.std.proofs.Common.{sym, ◌∙◌}
+use Rattle.cg_nodes.proofs.Later.{game_later}
+use Rattle.cg_sum.proofs.SumSteps.{firsts_found, left_written, node_later, ready_later, right_written, seconds_found, side_stands, sides_sum}
 use Rattle.cg_sum.proofs.gather.sides_of_sum.Goals as goal
 
 pub option_sums-requires-clause-firsts : goal.option_sums-requires-clause-firsts
 option_sums-requires-clause-firsts g c =
-    let state = g.S.CellStore.state in
-    let s = state c.args.store.now in
-    let t = state c.written_options.new.store in
-    let u = state c.written_options-2.new.store in
-    let r : OptionsRead s t u c.args.sums.now c.args.f c.args.k = record {
-      game_f = c.requires.f;
-      game_k = c.requires.k;
-      holds = c.requires.holds;
-      found = c.requires.found;
-      read_f = c.written_options.ensures.spends;
-      read_k = c.written_options-2.ensures.spends;
-      apart = c.apart.ensures;
-    } in
-    left_firsts _ _ _ _ _ _ r c.in_ok-first.first.lefts _ c.as_slice.ensures
-    c.in_ok-first.ensures.lefts
+    let W = g.S.CellStore.state in
+    let ready = ready_later (W c.args.store.now) (W c.both_options.new.store) c.both_options.ensures.spends.known _ _ _ c.requires.ready in
+    firsts_found _ _ _ _ ready c.apart.ensures _ _ _ c.as_slice.ensures c.in_ok-both.ensures.first.lefts
+    (left_written _)
 
 pub option_sums-requires-clause-seconds : goal.option_sums-requires-clause-seconds
 option_sums-requires-clause-seconds g c =
-    let state = g.S.CellStore.state in
-    let s = state c.args.store.now in
-    let t = state c.written_options.new.store in
-    let u = state c.written_options-2.new.store in
-    let r : OptionsRead s t u c.args.sums.now c.args.f c.args.k = record {
-      game_f = c.requires.f;
-      game_k = c.requires.k;
-      holds = c.requires.holds;
-      found = c.requires.found;
-      read_f = c.written_options.ensures.spends;
-      read_k = c.written_options-2.ensures.spends;
-      apart = c.apart.ensures;
-    } in
-    left_seconds _ _ _ _ _ _ r c.in_ok-second.second.lefts _ c.as_slice-2.ensures
-    c.in_ok-second.ensures.lefts
+    let W = g.S.CellStore.state in
+    let ready = ready_later (W c.args.store.now) (W c.both_options.new.store) c.both_options.ensures.spends.known _ _ _ c.requires.ready in
+    seconds_found _ _ _ _ ready c.apart.ensures _ _ _ c.as_slice-2.ensures c.in_ok-both.ensures.second.lefts
+    (left_written _)
 
 pub option_sums-requires-2-clause-firsts : goal.option_sums-requires-2-clause-firsts
 option_sums-requires-2-clause-firsts g c =
-    let state = g.S.CellStore.state in
-    let s = state c.args.store.now in
-    let t = state c.written_options.new.store in
-    let u = state c.written_options-2.new.store in
-    let r : OptionsRead s t u c.args.sums.now c.args.f c.args.k = record {
-      game_f = c.requires.f;
-      game_k = c.requires.k;
-      holds = c.requires.holds;
-      found = c.requires.found;
-      read_f = c.written_options.ensures.spends;
-      read_k = c.written_options-2.ensures.spends;
-      apart = c.apart.ensures;
-    } in
-    right_firsts _ _ _ _ _ _ r c.in_ok-first.first.rights _ c.as_slice-3.ensures
-    c.in_ok-first.ensures.rights
+    let W = g.S.CellStore.state in
+    let ready = ready_later (W c.args.store.now) (W c.both_options.new.store) c.both_options.ensures.spends.known _ _ _ c.requires.ready in
+    firsts_found _ _ _ _ ready c.apart.ensures _ _ _ c.as_slice-3.ensures c.in_ok-both.ensures.first.rights
+    (right_written _)
 
 pub option_sums-requires-2-clause-seconds : goal.option_sums-requires-2-clause-seconds
 option_sums-requires-2-clause-seconds g c =
-    let state = g.S.CellStore.state in
-    let s = state c.args.store.now in
-    let t = state c.written_options.new.store in
-    let u = state c.written_options-2.new.store in
-    let r : OptionsRead s t u c.args.sums.now c.args.f c.args.k = record {
-      game_f = c.requires.f;
-      game_k = c.requires.k;
-      holds = c.requires.holds;
-      found = c.requires.found;
-      read_f = c.written_options.ensures.spends;
-      read_k = c.written_options-2.ensures.spends;
-      apart = c.apart.ensures;
-    } in
-    right_seconds _ _ _ _ _ _ r c.in_ok-second.second.rights _ c.as_slice-4.ensures
-    c.in_ok-second.ensures.rights
+    let W = g.S.CellStore.state in
+    let ready = ready_later (W c.args.store.now) (W c.both_options.new.store) c.both_options.ensures.spends.known _ _ _ c.requires.ready in
+    seconds_found _ _ _ _ ready c.apart.ensures _ _ _ c.as_slice-4.ensures c.in_ok-both.ensures.second.rights
+    (right_written _)
 
-pub returns-clause-lefts : goal.returns-clause-lefts
-returns-clause-lefts g c =
-    let state = g.S.CellStore.state in
-    let s = state c.args.store.now in
-    let t = state c.written_options.new.store in
-    let u = state c.written_options-2.new.store in
-    let r : OptionsRead s t u c.args.sums.now c.args.f c.args.k = record {
-      game_f = c.requires.f;
-      game_k = c.requires.k;
-      holds = c.requires.holds;
-      found = c.requires.found;
-      read_f = c.written_options.ensures.spends;
-      read_k = c.written_options-2.ensures.spends;
-      apart = c.apart.ensures;
-    } in
-    (left_side s t u c.args.sums.now c.args.f c.args.k r
-    c.in_ok-first.first.lefts c.in_ok-first.first.rights c.in_ok-second.second.lefts c.in_ok-second.second.rights
-    c.of.result c.of-2.result c.as_slice.result.now c.as_slice-3.result.now c.as_slice-2.result.now c.as_slice-4.result.now
-    c.as_slice.ensures c.as_slice-3.ensures c.as_slice-2.ensures c.as_slice-4.ensures
-    c.in_ok-first.ensures.lefts c.in_ok-first.ensures.rights c.in_ok-second.ensures.lefts c.in_ok-second.ensures.rights
-    (c.of.ensures ∙ c.in_ok-lefts.ensures) (c.of-2.ensures ∙ c.in_ok-rights.ensures)).0
-
-pub returns-clause-rights : goal.returns-clause-rights
-returns-clause-rights g c =
-    let state = g.S.CellStore.state in
-    let s = state c.args.store.now in
-    let t = state c.written_options.new.store in
-    let u = state c.written_options-2.new.store in
-    let r : OptionsRead s t u c.args.sums.now c.args.f c.args.k = record {
-      game_f = c.requires.f;
-      game_k = c.requires.k;
-      holds = c.requires.holds;
-      found = c.requires.found;
-      read_f = c.written_options.ensures.spends;
-      read_k = c.written_options-2.ensures.spends;
-      apart = c.apart.ensures;
-    } in
-    (right_side s t u c.args.sums.now c.args.f c.args.k r
-    c.in_ok-first.first.lefts c.in_ok-first.first.rights c.in_ok-second.second.lefts c.in_ok-second.second.rights
-    c.of.result c.of-2.result c.as_slice.result.now c.as_slice-3.result.now c.as_slice-2.result.now c.as_slice-4.result.now
-    c.as_slice.ensures c.as_slice-3.ensures c.as_slice-2.ensures c.as_slice-4.ensures
-    c.in_ok-first.ensures.lefts c.in_ok-first.ensures.rights c.in_ok-second.ensures.lefts c.in_ok-second.ensures.rights
-    (c.of.ensures ∙ c.in_ok-lefts.ensures) (c.of-2.ensures ∙ c.in_ok-rights.ensures)).0
-
-pub returns-clause-sum : goal.returns-clause-sum
-returns-clause-sum g c =
-    let state = g.S.CellStore.state in
-    let s = state c.args.store.now in
-    let t = state c.written_options.new.store in
-    let u = state c.written_options-2.new.store in
-    let r : OptionsRead s t u c.args.sums.now c.args.f c.args.k = record {
-      game_f = c.requires.f;
-      game_k = c.requires.k;
-      holds = c.requires.holds;
-      found = c.requires.found;
-      read_f = c.written_options.ensures.spends;
-      read_k = c.written_options-2.ensures.spends;
-      apart = c.apart.ensures;
-    } in
-    sides_sum s t u c.args.sums.now c.args.f c.args.k r
-    c.in_ok-first.first.lefts c.in_ok-first.first.rights c.in_ok-second.second.lefts c.in_ok-second.second.rights
-    c.of.result c.of-2.result c.as_slice.result.now c.as_slice-3.result.now c.as_slice-2.result.now c.as_slice-4.result.now
-    c.as_slice.ensures c.as_slice-3.ensures c.as_slice-2.ensures c.as_slice-4.ensures
-    c.in_ok-first.ensures.lefts c.in_ok-first.ensures.rights c.in_ok-second.ensures.lefts c.in_ok-second.ensures.rights
-    (c.of.ensures ∙ c.in_ok-lefts.ensures) (c.of-2.ensures ∙ c.in_ok-rights.ensures)
-    c.requires.node c.in_ok-first.ensures.canonical c.in_ok-second.ensures.canonical
-
-pub returns-clause-spends : goal.returns-clause-spends
-returns-clause-spends g c =
-    let state = g.S.CellStore.state in
-    spends_then 0 0 (state _) (state _) (state _)
-    c.written_options.ensures.spends c.written_options-2.ensures.spends
+pub returns-clause-sides : goal.returns-clause-sides
+returns-clause-sides g c =
+    let W = g.S.CellStore.state in
+    let grows = c.both_options.ensures.spends.known in
+    let ready = ready_later (W c.args.store.now) (W c.both_options.new.store) grows _ _ _ c.requires.ready in
+    let first = c.in_ok-both.ensures.first in
+    let second = c.in_ok-both.ensures.second in
+    sides_sum _ _ _ _ ready c.apart.ensures _ _ _
+    (sym (game_later (W c.args.store.now) (W c.both_options.new.store) grows c.args.f c.requires.ready.first))
+    (sym (game_later (W c.args.store.now) (W c.both_options.new.store) grows c.args.k c.requires.ready.second))
+    (node_later (W c.args.store.now) (W c.both_options.new.store) grows _ _ c.requires.ready.first c.requires.ready.second c.requires.node)
+    first.canonical second.canonical
+    (side_stands _ _ _ _ ready c.apart.ensures _ _ _ _ _ _ _ c.as_slice.ensures c.as_slice-2.ensures
+    (c.of.ensures ∙ c.in_ok-lefts.ensures) first.lefts second.lefts (left_written _) (left_written _))
+    (side_stands _ _ _ _ ready c.apart.ensures _ _ _ _ _ _ _ c.as_slice-3.ensures c.as_slice-4.ensures
+    (c.of-2.ensures ∙ c.in_ok-rights.ensures) first.rights second.rights (right_written _) (right_written _))

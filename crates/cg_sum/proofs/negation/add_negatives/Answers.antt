@@ -3,30 +3,23 @@ use Rattle.std.proofs.lemmas.Result.{err_from_is_err_and}
 use Rattle.cg_canon.proofs.Keeping.{keeps_then}
 use Rattle.cg_canon.specs.Works.{work_state}
 use Rattle.cg_canon.proofs.MadeSteps.{made_memory}
-use Rattle.cg_sum.proofs.NegativeSteps.{negatives_done, negatives_made, negatives_more, negatives_none, negatives_stopped, next_game, next_options}
+use Rattle.cg_sum.proofs.NegativeSteps.{negatives_done, negatives_made, negatives_more, negatives_none, negatives_stopped, next_ready}
 use Rattle.cg_sum.proofs.negation.add_negatives.Goals as goal
 
 pub loop-f-init : goal.loop-f-init
 loop-f-init g c =
-    let state = g.S.CellStore.state in
-    let w = work_state state c.args.work.now in
-    negatives_none w c.args.positions.now c.args.negatives.now c.requires.holds
+    negatives_none (work_state g.S.CellStore.state c.args.work.now) c.args.positions.now c.args.negatives.now
+    c.requires.holds
 
-pub negative_item-requires-clause-f : goal.negative_item-requires-clause-f
-negative_item-requires-clause-f g c =
-    next_game _ _ _ _ c.loop-f-test.true c.f-item.is c.requires.positions _ _ c.loop-f.invariant
-
-pub negative_item-requires-clause-holds : goal.negative_item-requires-clause-holds
-negative_item-requires-clause-holds g c = c.loop-f.invariant.holds
-
-pub negative_item-requires-clause-found : goal.negative_item-requires-clause-found
-negative_item-requires-clause-found g c =
-    next_options _ _ _ _ c.loop-f-test.true c.f-item.is c.requires.positions _ _ c.loop-f.invariant c.requires.closed
+pub negative_item-requires : goal.negative_item-requires
+negative_item-requires g c =
+    next_ready _ _ _ _ c.loop-f-test.true c.f-item.is c.requires.positions _ _ c.loop-f.invariant c.requires.closed
 
 pub returns-in_err-negative-clause-made : goal.returns-in_err-negative-clause-made
 returns-in_err-negative-clause-made g c =
     let p = err_from_is_err_and c.from_residual.result c.from_residual.ensures.1 in
-    negatives_stopped _ _ _ _ c.loop-f-test.true c.f-item.is c.requires.positions _ _ c.loop-f.invariant _ _ c.negative_item.ensures.made _ _ c.in_err-negative.was (p.1 ∙ ap Err p.2)
+    negatives_stopped _ _ _ _ c.loop-f-test.true c.f-item.is c.requires.positions _ _ c.loop-f.invariant _ _
+    c.negative_item.ensures.made _ _ c.in_err-negative.was (p.1 ∙ ap Err p.2)
 
 pub returns-in_err-keep-clause-made : goal.returns-in_err-keep-clause-made
 returns-in_err-keep-clause-made g c =
@@ -36,22 +29,11 @@ returns-in_err-keep-clause-made g c =
 
 pub loop-f-preserved : goal.loop-f-preserved
 loop-f-preserved g c =
-    negatives_more _ _ _ _ c.loop-f-test.true c.f-item.is c.requires.positions _ _ c.loop-f.invariant _ _ c.negative_item.ensures.made _ _ _ c.in_ok-negative.was
-    c.in_ok-negative.ensures.game c.negative_item.ensures.spare
-    c.in_ok-keep.ensures.ok
+    negatives_more _ _ _ _ c.loop-f-test.true c.f-item.is c.requires.positions _ _ c.loop-f.invariant _ _
+    c.negative_item.ensures.made _ _ _ c.in_ok-negative.was c.in_ok-negative.ensures.game
+    c.negative_item.ensures.spare c.in_ok-keep.ensures.ok
 
-pub returns-clause-found : goal.returns-clause-found
-returns-clause-found g c = (negatives_done _ _ _ _ _ c.loop-f-test.false c.loop-f.invariant).found
-
-pub returns-clause-holds : goal.returns-clause-holds
-returns-clause-holds g c = (negatives_done _ _ _ _ _ c.loop-f-test.false c.loop-f.invariant).holds
-
-pub returns-clause-made : goal.returns-clause-made
-returns-clause-made g c =
-    let done = negatives_done _ _ _ _ _
-    c.loop-f-test.false c.loop-f.invariant in
-    negatives_made _ _ _ _ tt done
-
-pub returns-clause-spare : goal.returns-clause-spare
-returns-clause-spare g c =
-    (negatives_done _ _ _ _ _ c.loop-f-test.false c.loop-f.invariant).spare
+pub returns : goal.returns
+returns g c =
+    let done = negatives_done _ _ _ _ _ c.loop-f-test.false c.loop-f.invariant in
+    record { found = done.found; holds = done.holds; made = negatives_made _ _ _ _ tt done; spare = done.spare }

@@ -4,8 +4,8 @@ use Rattle.cg_nodes.specs.Meant.{form}
 use Rattle.cg_sum.proofs.Sums.{can-sum_comm}
 use Rattle.cg_sum.proofs.pairs.pair.Goals as goal
 
-pub returns-else-number-clause-due : goal.returns-else-number-clause-due
-returns-else-number-clause-due g c =
+pub returns-else-number-clause-note : goal.returns-else-number-clause-note
+returns-else-number-clause-note g c =
     let s = g.S.CellStore.state c.args.store.now in
-    c.ordered_pair-else-number.ensures.due
-    ∙ ap (λ z. Some (form z)) (can-sum_comm (game_at s c.args.b) (game_at s c.args.a))
+    let note = c.ordered_pair-else-number.ensures.note in
+    (note.0, note.1 ∙ ap (λ z. Some (form z)) (can-sum_comm (game_at s c.args.b) (game_at s c.args.a)))

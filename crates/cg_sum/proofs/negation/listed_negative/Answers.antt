@@ -1,0 +1,27 @@
+use Rattle.std.proofs.Common.{refl, sym, ◌∙◌, ap, Err, Ok}
+use Rattle.std.proofs.lemmas.Result.{err_from_is_err_and}
+use Rattle.cg_canon.specs.Works.{work_state}
+use Rattle.cg_canon.proofs.MadeSteps.{made_with}
+use Rattle.cg_sum.proofs.Members.{not_none}
+use Rattle.cg_sum.proofs.SumEnds.{same_refusal}
+use Rattle.cg_sum.proofs.NegativeSteps.{negative_stands}
+use Rattle.cg_sum.proofs.negation.listed_negative.Goals as goal
+
+pub returns-in_err-negatives-clause-made : goal.returns-in_err-negatives-clause-made
+returns-in_err-negatives-clause-made g c =
+    let p = err_from_is_err_and c.from_residual.result c.from_residual.ensures.1 in
+    same_refusal _ _ _ c.all_negatives.result _ _ c.in_err-negatives.was (p.1 ∙ ap Err p.2)
+    c.all_negatives.ensures.made
+
+pub unreachable-requires : goal.unreachable-requires
+unreachable-requires g c = not_none _ c.in_ok-negatives.ensures.found (sym c.get.ensures ∙ c.in-None.is)
+
+pub returns-clause-game : goal.returns-clause-game
+returns-clause-game g c =
+    let W = work_state g.S.CellStore.state in
+    negative_stands (W c.args.work.now) (W c.all_negatives.new.work) c.all_negatives.ensures.made.keeps.known _ c.in_ok-negatives.ensures.holds _ _ c.requires
+    (sym c.get.ensures ∙ c.in-Some.is)
+
+pub returns-clause-made : goal.returns-clause-made
+returns-clause-made g c =
+    made_with _ _ _ c.all_negatives.result (Ok _) _ _ c.in_ok-negatives.was refl c.all_negatives.ensures.made
