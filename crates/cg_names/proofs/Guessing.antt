@@ -1,11 +1,10 @@
 -- The sign that a game has by its shape is the one whose form it is.
-use Rattle.std.proofs.Common.{◌≡◌, refl, ap, sym, ◌∙◌, subst, ℕ, zero, suc, ◌<◌, ◌≤◌, arith, inl, inr, ◌⊎◌, List, [], ◌∷◌, length, Bool, true, false, not, cond, ◌&&◌, nat_eq, eq-eqb, Option, Some, None}
+use Rattle.std.proofs.Common.{◌≡◌, refl, ap, sym, ◌∙◌, subst, ℕ, zero, suc, arith, inl, inr, List, [], ◌∷◌, length, Bool, true, false, not, cond, ◌&&◌, nat_eq, eq-eqb, Option, Some, None}
 use Rattle.std.specs.Prelude.{nat_lt, if◌then◌else◌}
 use Rattle.std.proofs.lemmas.Bool.Decides.{nat_tests}
-use Rattle.std.proofs.lemmas.Int.{ints}
-use Rattle.cg_dyadic.specs.Exact.{IsNegative, number_negative}
+use Rattle.cg_dyadic.specs.Exact.{number_negative}
 use Rattle.cg_dyadic.specs.Number.{Number, NumberLe, number_le}
-use Rattle.cg_dyadic.proofs.Truth.{and-both, and-split, differ, false-from, not_true, true-or-not, true_not, true_or_false}
+use Rattle.cg_dyadic.proofs.Truth.{and-both, and-split, false-from, not_true, true_or_false}
 use Rattle.cg_dyadic.proofs.Values.{less-le, number_le-refl}
 use Rattle.cg_form.specs.Depth.{depth_of}
 use Rattle.cg_form.specs.Game.{Game, lefts, node, number, options, rights}
@@ -15,7 +14,7 @@ use Rattle.cg_form.proofs.Among.{lefts-node, rights-node}
 use Rattle.cg_nodes.specs.CanForms.{is_same-back, is_same-refl}
 use Rattle.cg_nodes.specs.Games.{IsNode}
 use Rattle.cg_nodes.specs.Spelled.{is_same}
-use Rattle.cg_names.specs.Named.{mirrored_if, nimber_form, pair_form, switch_form, tiny_form, tiny_part, ups_of, zero_form, zero_number}
+use Rattle.cg_names.specs.Named.{mirrored_if, pair_form, switch_form, tiny_form, tiny_part, ups_of, zero_form, zero_number}
 use Rattle.cg_names.specs.Readings.{stars_above}
 use Rattle.cg_dyadic.specs.Exact.{number_text}
 use Rattle.cg_names.specs.Signs.{base_text}
@@ -23,7 +22,7 @@ use Rattle.cg_names.specs.Shapes.{HasForm, checked, first_game, guess, guess_by,
 use Rattle.cg_names.specs.declared.sign.Sign.{Sign}
 use Rattle.cg_names.specs.declared.sign.Sign.TheVariants.{Star, Arrows, Switch, Tiny}
 use Rattle.cg_names.proofs.Reducing.{far-mirrored, near-mirrored}
-use Rattle.cg_names.proofs.SignForms.{IsStep, both_is, depth_step, length-stars, level_is, mirrored-node, star_above, star_over, stars_first, step_is, step_node}
+use Rattle.cg_names.proofs.SignForms.{IsStep, both_is, depth_step, length-stars, level_is, star_above, star_over, stars_first, step_is, step_node}
 use Rattle.cg_dyadic.proofs.Negatives.{double_negative, negative_low}
 use Rattle.cg_dyadic.proofs.Truth.{not_not}
 

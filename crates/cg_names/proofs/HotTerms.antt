@@ -1,46 +1,30 @@
 -- Names as terms of the grammar, and what they mean: switches, tiny and miny, and any sign.
-use Rattle.std.proofs.Common.{◌≡◌, refl, ap, sym, ◌∙◌, subst, ℕ, zero, suc, ◌+◌, ◌-◌, ◌^◌, ◌<◌, ◌≤◌, arith, inl, inr, ◌⊎◌, List, [], ◌∷◌, ◌++◌, append-nil, append_assoc, length, Bool, true, false, cond, nat_eq, Option, Some, None, ℤ, pos, negsuc, neg_ℤ, unsigned_abs}
+use Rattle.std.proofs.Common.{◌≡◌, refl, ap, sym, ◌∙◌, subst, ℕ, ◌+◌, ◌-◌, ◌^◌, ◌<◌, arith, inl, inr, List, [], ◌∷◌, ◌++◌, length, Bool, true, false, nat_eq, ℤ, pos, negsuc, unsigned_abs}
 use Rattle.std.specs.Prelude.{codes, decimal, if◌then◌else◌}
-use Rattle.std.proofs.Math.Pow.{pow-lt}
 use Rattle.std.specs.Fmt.{signed_decimal}
 use Rattle.std.proofs.lemmas.Int.{ints}
-use Rattle.cg_dyadic.specs.Exact.{IsQuotient, number_text, signed_of}
-use Rattle.cg_dyadic.specs.Number.{InRange, IsFraction, Number, NumberLe, exp_of, num_of}
-use Rattle.cg_dyadic.proofs.Fractions.{fraction-own}
+use Rattle.cg_dyadic.specs.Exact.{number_text}
+use Rattle.cg_dyadic.specs.Number.{InRange, Number, NumberLe, exp_of, num_of}
 use Rattle.cg_dyadic.specs.Units.{units}
 use Rattle.cg_dyadic.proofs.Scale.{units-le, units-own}
 use Rattle.cg_dyadic.proofs.Sums.{doubled-zero}
-use Rattle.cg_dyadic.proofs.Truth.{true_or_false}
-use Rattle.cg_form.specs.Canonical.{IsCanonicalForm}
 use Rattle.cg_form.specs.Game.{Game}
-use Rattle.cg_form.specs.Game as tree
 use Rattle.cg_form.specs.Order.{Equal}
-use Rattle.cg_form.specs.Sum.{sum}
-use Rattle.cg_form.proofs.Preorder.{equal_refl, equal_trans, equal_back}
-use Rattle.cg_reading.specs.Bytes.{Ends}
-use Rattle.cg_reading.specs.Pieces.{Piece, Made}
-use Rattle.cg_syntax.specs.Found.{Found}
+use Rattle.cg_form.proofs.Preorder.{equal_refl}
 use Rattle.cg_syntax.specs.Grammar as grammar
 use Rattle.cg_syntax.specs.Grammar.{special}
-use Rattle.cg_syntax.specs.Tree.{Tree, nimber, number, switch, terms_from, tiny, ups}
-use Rattle.cg_syntax.specs.Tree as trees
+use Rattle.cg_syntax.specs.Tree.{switch, tiny}
 use Rattle.cg_syntax.proofs.WrittenSpecials.{first_special, second_special}
-use Rattle.cg_syntax.proofs.WrittenTerms.{no_tail_is, special_is}
-use Rattle.cg_syntax.proofs.WrittenTokens.{arrow_of, enclosed_is}
-use Rattle.cg_syntax.specs.Values.{clean, some_term, together, ups_tree, whole, with_tail}
-use Rattle.cg_nodes.specs.CanForms.{is_same-back}
-use Rattle.cg_nodes.specs.Spelled.{is_same}
-use Rattle.cg_names.specs.Meaning.{BoardForm, fraction, meaning, or_zero, signed, total_with}
-use Rattle.cg_names.specs.Named.{nimber_form, nimbers_below, star_form, switch_form, tiny_form, ups_form, ups_of, zero_form, zero_number}
-use Rattle.cg_names.specs.Signs.{Fits, arrows_text, base_text, sign_text, star_text, tiny_word}
+use Rattle.cg_syntax.proofs.WrittenTerms.{special_is}
+use Rattle.cg_syntax.proofs.WrittenTokens.{enclosed_is}
+use Rattle.cg_syntax.specs.Values.{clean}
+use Rattle.cg_names.specs.Meaning.{fraction, meaning, or_zero}
+use Rattle.cg_names.specs.Named.{switch_form, tiny_form, zero_number}
+use Rattle.cg_names.specs.Signs.{Fits, sign_text, tiny_word}
 use Rattle.cg_names.specs.declared.sign.Sign.{Sign}
 use Rattle.cg_names.specs.declared.sign.Sign.TheVariants.{Star, Arrows, Switch, Tiny}
-use Rattle.cg_names.proofs.Literals.{quotient-fraction}
 use Rattle.cg_names.proofs.Opened.{IsSignInRange}
-use Rattle.cg_names.proofs.StarredUps.{ups-plus_star}
-use Rattle.cg_form.proofs.EqualGames.{equal_assoc}
-use Rattle.cg_names.proofs.SumWords.{sum_first, sum_second, zero_sum}
-use Rattle.cg_names.proofs.Tokens.{OtherThanBar, decimal_other, nim_is, number_is, other_append, size_text, ups_are, ups_other}
+use Rattle.cg_names.proofs.Tokens.{OtherThanBar, number_is, size_text}
 use Rattle.cg_names.proofs.StarTerms.{arrows-read, star-reads}
 use Rattle.cg_names.proofs.Terms.{few_below, few_digits, number_means, size_of, Reading}
 
@@ -96,7 +80,7 @@ switch-reads k x g r p e =
     subst P (sym (above_text x p)) (record {
       tree = switch (size_of x) (2 ^ exp_of x);
       is = λ i. special_is (grammar.special k) i _ _ (switch_special k i (size_of x) (exp_of x) (few_digits x r) (few_below (exp_of x) r.short));
-      means = λ board. subst Q (e ∙ sym (ap switch_form (above_means x p))) (equal_refl g);
+      means = λ forms. subst Q (e ∙ sym (ap switch_form (above_means x p))) (equal_refl g);
       other = refl;
     })
 
@@ -141,7 +125,7 @@ tiny-reads k miny x g r p e =
     subst P (sym (above_text x p)) (record {
       tree = tiny miny (size_of x) (2 ^ exp_of x);
       is = λ i. special_is (grammar.special k) i _ _ (tiny_special k i miny (size_of x) (exp_of x) (few_digits x r) (few_below (exp_of x) r.short));
-      means = λ board. subst Q (e ∙ sym (ap (tiny_form miny) (above_means x p))) (equal_refl g);
+      means = λ forms. subst Q (e ∙ sym (ap (tiny_form miny) (above_means x p))) (equal_refl g);
       other = word_other miny;
     })
   where

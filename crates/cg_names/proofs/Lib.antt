@@ -23,6 +23,7 @@ pub mod StarredUps
 pub mod Looks
 pub mod Listing
 pub mod Stars
+pub mod Memos
 pub mod SignSteps
 pub mod Opened
 pub mod Tokens

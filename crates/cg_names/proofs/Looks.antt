@@ -1,5 +1,6 @@
 -- What the shape of a game tells of its sign.
-use Rattle.std.proofs.Common.{◌≡◌, refl, ap, sym, ◌∙◌, subst, ℕ, zero, suc, ◌+◌, arith, add-one, inl, inr, List, [], ◌∷◌, Bool, true, false, not, cond, Option, Some, None}
+use mathlib.Core.Bool.{beq}
+use Rattle.std.proofs.Common.{◌≡◌, refl, ap, sym, ◌∙◌, subst, ℕ, zero, suc, ◌+◌, arith, add-one, inl, inr, ◌⊎◌, List, [], ◌∷◌, Bool, true, false, not, cond, Option, Some, None}
 use Rattle.cg_dyadic.proofs.Negatives.{double_negative}
 use Rattle.cg_dyadic.proofs.Truth.{not_not}
 use Rattle.cg_dyadic.specs.Number.{Number}
@@ -8,14 +9,17 @@ use Rattle.cg_form.specs.Shifted.{shifted}
 use Rattle.cg_form.specs.Side.{near}
 use Rattle.cg_nodes.specs.Games.{IsNode}
 use Rattle.cg_dyadic.specs.Exact.{number_negative}
-use Rattle.cg_names.specs.Named.{mirrored_if, pair_form, tiny_form, tiny_part, ups_of, zero_form, zero_number}
+use Rattle.cg_names.specs.Named.{mirrored_if, nimber_form, pair_form, tiny_form, tiny_part, ups_of, zero_form, zero_number}
 use Rattle.std.specs.Prelude.{IfOk, Result}
 use Rattle.std.specs.declared.alloc.AllocError.{AllocError}
 use Rattle.cg_names.specs.Readings.{IsArrows}
 use Rattle.cg_names.specs.declared.look_arrows.ArrowsFound.{ArrowsFound}
-use Rattle.cg_names.specs.Shapes.{leading}
-use Rattle.cg_names.proofs.Guessing.{one_value}
-use Rattle.cg_names.proofs.SignForms.{ArrowsShape, IsStep, arrows_shape, both, both_is, level, level_is, mirrored-node, mirrored-others, mirrored-own, no_ups, star_above, step, step_is, step_node}
+use Rattle.cg_names.specs.Shapes.{leading, sign_of}
+use Rattle.cg_names.specs.declared.sign.Sign.{Sign}
+use Rattle.cg_names.specs.declared.sign.Sign.TheVariants.{Star, Arrows}
+use Rattle.cg_names.proofs.Guessing.{found-form, one_value, sign-found}
+use Rattle.cg_names.proofs.NameRule.{some_is}
+use Rattle.cg_names.proofs.SignForms.{ArrowsShape, IsStep, arrows_shape, both, both_is, level, level_is, mirrored-others, mirrored-own, no_ups, one_star_form, star_above, step, step_is, step_node}
 
 -- ---- lists of one
 
@@ -285,3 +289,49 @@ turned-back down f l r own others g a b e =
 
 pub is_node : (g : Game) (ls rs : List Game) → g ≡ node ls rs → IsNode g
 is_node g ls rs e = let P : Game → Type 0 = λ z. IsNode z in subst P (sym e) tt
+
+-- ---- what a sign tells of arrows
+
+pub told : (down starred : Bool) (g : Game) (x : Number) (n : ℕ) → IsNode g → g ≡ shifted x (ups_of down starred n)
+    → (sign_of g ≡ Some (Star x 1)) ⊎ (sign_of g ≡ Some (Arrows down starred x n))
+told down false g x zero i e = absurd (not_both g x i (e ∙ no_ups down x))
+told down true g x zero i e =
+    inl (sign-found g (Star x 1) (record { proper = some_is 1 (omega arith); form = e ∙ one_star_form down x }))
+told down starred g x (suc n) i e =
+    inr (sign-found g (Arrows down starred x (suc n)) (record { proper = some_is (suc n) (omega arith); form = e }))
+
+pub turned_same : (a b : Bool) → beq a b ≡ true → a ≡ b
+turned_same true true e = refl
+turned_same true false e = absurd cc
+turned_same false true e = absurd cc
+turned_same false false e = refl
+
+pub turned_other : (a b : Bool) → beq a b ≡ false → ¬ (a ≡ b)
+turned_other true true e f = cc
+turned_other true false e f = cc
+turned_other false true e f = cc
+turned_other false false e f = cc
+
+pub star_count : (x y : Number) (n m : ℕ) → Some (Star x n) ≡ Some (Star y m) → n ≡ m
+star_count x y n m e = cc
+
+pub arrows_side : (a b s t : Bool) (x y : Number) (n m : ℕ) → Some (Arrows a s x n) ≡ Some (Arrows b t y m) → a ≡ b
+arrows_side a b s t x y n m e = cc
+
+module _ (down : Bool) (g : Game) (o : Option Sign) (i : IsNode g) (is : o ≡ sign_of g) where
+  pub no_arrows_told : ((x : Number) → ¬ (o ≡ Some (Star x 1)))
+      → ((starred : Bool) (x : Number) (n : ℕ) → ¬ (o ≡ Some (Arrows down starred x n))) → IsArrows down g None
+  no_arrows_told a b starred x n e = elim (told down starred g x n i e) [
+    | inl p ↦ a x (is ∙ p)
+    | inr p ↦ b starred x n (is ∙ p)
+  ]
+
+  pub level_told : (x : Number) (n : ℕ) → o ≡ Some (Star x n) → n ≡ 1 → g ≡ shifted x (ups_of down true 0)
+  level_told x n e f =
+      (found-form g (Star x n) (sym is ∙ e)).form ∙ ap (λ (k : ℕ). shifted x (nimber_form k)) f
+      ∙ sym (one_star_form down x)
+
+  pub arrows_told : (turned starred : Bool) (x : Number) (n : ℕ) → o ≡ Some (Arrows turned starred x n) → turned ≡ down
+      → g ≡ shifted x (ups_of down starred n)
+  arrows_told turned starred x n e f =
+      (found-form g (Arrows turned starred x n) (sym is ∙ e)).form ∙ ap (λ b. shifted x (ups_of b starred n)) f

@@ -1,16 +1,16 @@
 -- Which sign fits a game is told by its shape, and the name that is found by it is the one name by the rules.
-use Rattle.std.proofs.Common.{◌≡◌, refl, ap, sym, ◌∙◌, subst, ℕ, suc, ◌≤◌, arith, inl, inr, List, [], ◌∷◌, ◌++◌, Bool, true, not, Option, Some, None}
+use Rattle.std.proofs.Common.{◌≡◌, refl, ap, sym, ◌∙◌, subst, ℕ, ◌≤◌, arith, inl, inr, List, ◌++◌, true, Option, Some, None}
 use Rattle.std.specs.Prelude.{codes, nat_lt}
 use Rattle.std.proofs.lemmas.Bool.Decides.{nat_tests}
-use Rattle.cg_dyadic.specs.Number.{Number, number_le}
+use Rattle.cg_dyadic.specs.Number.{number_le}
 use Rattle.cg_dyadic.proofs.Truth.{not_true, true_not}
 use Rattle.cg_form.specs.Canonical.{IsCanonicalForm}
 use Rattle.cg_form.specs.Game.{Game, Games, more, none, number, options}
 use Rattle.cg_form.specs.Sum.{sum}
-use Rattle.cg_names.specs.Name.{AreFurther, AreNames, Braced, IsName, Joined, Signed, braces_name, further_names, name_of, names_of, sign_or}
+use Rattle.cg_names.specs.Name.{AreFurther, AreNames, IsName, braces_name, further_names, name_of, names_of, sign_or}
 use Rattle.cg_names.specs.Named.{nimber_form, ups_of, zero_number}
 use Rattle.cg_names.specs.Shapes.{HasForm, sign_of}
-use Rattle.cg_names.specs.Signs.{Fits, sign_text}
+use Rattle.cg_names.specs.Signs.{Fits}
 use Rattle.cg_names.specs.declared.sign.Sign.{Sign}
 use Rattle.cg_names.specs.declared.sign.Sign.TheVariants.{Star, Arrows, Switch, Tiny}
 use Rattle.cg_names.proofs.Guessing.{found-form, one_form, sign-found}

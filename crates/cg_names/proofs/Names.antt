@@ -59,24 +59,24 @@ braces-spelled left right t0 t1 t2 t3 t4 a b c d =
     ∙ append_assoc t0 (codes "{") (left ++ (codes "|" ++ (right ++ codes "}")))
 
 -- the name of a game that has no sign
-pub braced-name : {A E : Type 0} (r : Result A E) (g : Game) (ls rs cs ds : List Game) (o : Option Sign)
-    (before now : List ℕ) → g ≡ node ls rs → o ≡ sign_of (node ls rs) → o ≡ None → cs ≡ ls → ds ≡ rs
-    → OnOk r (now ≡ before ++ braces_name (names_of (of_list cs)) (names_of (of_list ds)))
+pub braced-name : {A E : Type 0} (r : Result A E) (g : Game) (ls rs : List Game) (o : Option Sign)
+    (before now : List ℕ) → g ≡ node ls rs → o ≡ sign_of g → o ≡ None
+    → OnOk r (now ≡ before ++ braces_name (names_of (of_list ls)) (names_of (of_list rs)))
     → OnOk r (now ≡ before ++ name_of g)
-braced-name (Err e) g ls rs cs ds o before now p q n a b w = tt
-braced-name (Ok x) g ls rs cs ds o before now p q n a b w =
-    w ∙ ap (λ z. before ++ braces_name (names_of (of_list z)) (names_of (of_list ds))) a
-    ∙ ap (λ z. before ++ braces_name (names_of (of_list ls)) (names_of (of_list z))) b
-    ∙ ap (λ z. before ++ sign_or z (braces_name (names_of (of_list ls)) (names_of (of_list rs)))) (sym n ∙ q)
+braced-name (Err e) g ls rs o before now p q n w = tt
+braced-name (Ok x) g ls rs o before now p q n w =
+    w ∙ ap (λ z. before ++ sign_or z (braces_name (names_of (of_list ls)) (names_of (of_list rs))))
+    (sym n ∙ q ∙ ap sign_of p)
     ∙ ap (λ z. before ++ name_of z) (sym p)
 
 -- and of one that has a sign
 pub signed-name : {A E : Type 0} (r : Result A E) (g : Game) (ls rs : List Game) (o : Option Sign) (s : Sign)
-    (before now : List ℕ) → g ≡ node ls rs → o ≡ sign_of (node ls rs) → o ≡ Some s
+    (before now : List ℕ) → g ≡ node ls rs → o ≡ sign_of g → o ≡ Some s
     → OnOk r (now ≡ before ++ sign_text s) → OnOk r (now ≡ before ++ name_of g)
 signed-name (Err e) g ls rs o s before now p q n w = tt
 signed-name (Ok x) g ls rs o s before now p q n w =
-    w ∙ ap (λ z. before ++ sign_or z (braces_name (names_of (of_list ls)) (names_of (of_list rs)))) (sym n ∙ q)
+    w ∙ ap (λ z. before ++ sign_or z (braces_name (names_of (of_list ls)) (names_of (of_list rs))))
+    (sym n ∙ q ∙ ap sign_of p)
     ∙ ap (λ z. before ++ name_of z) (sym p)
 
 -- what was written where the call succeeds

@@ -1,18 +1,18 @@
 -- The numbers and counts of a name are in range where the numbers of the game are, and its depth is.
-use Rattle.std.proofs.Common.{◌≡◌, refl, ap, sym, ◌∙◌, subst, ℕ, zero, suc, ◌^◌, ◌<◌, ◌≤◌, max, arith, inl, inr, List, [], ◌∷◌, Bool, true, false, not, Option, Some, None, ℤ, unsigned_abs, neg_ℤ}
+use Rattle.std.proofs.Common.{◌≡◌, refl, ap, sym, ◌∙◌, subst, ℕ, zero, suc, ◌^◌, ◌<◌, ◌≤◌, arith, inl, inr, List, [], ◌∷◌, Bool, true, false, Option, Some, None, unsigned_abs, neg_ℤ}
 use Rattle.std.proofs.lemmas.Int.{ints}
-use Rattle.cg_dyadic.specs.Number.{InRange, Number, exp_of, num_of}
+use Rattle.cg_dyadic.specs.Number.{InRange, Number, num_of}
 use Rattle.cg_form.specs.Canonical.{Canonical}
 use Rattle.cg_form.specs.Depth.{deepest_of, depth_of}
 use Rattle.cg_form.specs.Game.{Among, Game, Games, more, node, none, number, of_list, options}
 use Rattle.cg_form.specs.Shifted.{shifted}
 use Rattle.cg_names.specs.Name.{name_of}
 use Rattle.cg_dyadic.specs.Exact.{number_negative}
-use Rattle.cg_names.specs.Named.{mirrored_if, nimber_form, nimbers_below, pair_form, switch_form, tiny_form, ups_of, zero_form}
+use Rattle.cg_names.specs.Named.{mirrored_if, nimber_form, nimbers_below, switch_form, tiny_form, ups_of}
 use Rattle.cg_names.specs.Reading.{ReadsAs, most_open}
 use Rattle.cg_nodes.specs.Ranges.{AllInRange, AreInRange}
 use Rattle.cg_names.specs.Readings.{stars_above}
-use Rattle.cg_names.specs.Shapes.{HasForm, sign_form, sign_of}
+use Rattle.cg_names.specs.Shapes.{HasForm, sign_of}
 use Rattle.cg_names.specs.declared.sign.Sign.{Sign}
 use Rattle.cg_names.specs.declared.sign.Sign.TheVariants.{Star, Arrows, Switch, Tiny}
 use Rattle.cg_names.proofs.Counted.{braces-opened}

@@ -1,7 +1,7 @@
 -- Names read back: braces and whole names.
-use Rattle.std.proofs.Common.{◌≡◌, refl, ap, sym, ◌∙◌, subst, ℕ, zero, suc, ◌+◌, ◌≤◌, max, arith, inl, inr, ◌⊎◌, List, [], ◌∷◌, ◌++◌, append-nil, map, length, Bool, true, false, Option, Some, None}
+use Rattle.std.proofs.Common.{◌≡◌, refl, ap, sym, subst, ℕ, zero, suc, ◌+◌, ◌≤◌, max, arith, inl, inr, ◌⊎◌, List, [], ◌∷◌, ◌++◌, append-nil, map, length, Option, Some, None}
 use Rattle.std.specs.Prelude.{codes}
-use Rattle.cg_form.specs.Canonical.{Canonical, IsCanonicalForm}
+use Rattle.cg_form.specs.Canonical.{Canonical}
 use Rattle.cg_form.specs.Game.{Among, Game, Games, more, none, options, to_list}
 use Rattle.cg_form.specs.Game as tree
 use Rattle.cg_form.specs.Order.{Equal}
@@ -19,7 +19,7 @@ use Rattle.cg_syntax.specs.Values.{braces_of, clean}
 use Rattle.cg_reading.proofs.Texts.{behind_none}
 use Rattle.cg_syntax.proofs.WrittenSpecials.{braces_special}
 use Rattle.cg_syntax.proofs.WrittenTerms.{expr_is, special_is}
-use Rattle.cg_names.specs.Meaning.{BoardForm, meaning, meanings}
+use Rattle.cg_names.specs.Meaning.{PositionForms, meaning, meanings}
 use Rattle.cg_names.specs.Name.{braces_name, further_names, name_of, names_of, sign_or}
 use Rattle.cg_names.specs.Reading.{ReadsAs}
 use Rattle.cg_names.specs.Shapes.{sign_of}
@@ -37,7 +37,7 @@ AllMean : List Tree → Games → Type 0
 AllMean [] none = Unit {0}
 AllMean [] (more g gs) = ⊥
 AllMean (t ∷ ts) none = ⊥
-AllMean (t ∷ ts) (more g gs) = ((board : BoardForm) → Equal (meaning board t) g) × AllMean ts gs
+AllMean (t ∷ ts) (more g gs) = ((forms : PositionForms) → Equal (meaning forms t) g) × AllMean ts gs
 
 abbrev next_expr : ℕ → Piece Found
 next_expr k = behind_blanks (Made (λ v. v.1) (Then (One comma) (behind_blanks (grammar.expr (grammar.special k)))))
@@ -226,30 +226,30 @@ braces_are k i ls rs left right l r o =
 
 -- ---- what braces mean
 
-module _ (board : BoardForm) where
+module _ (forms : PositionForms) where
   mean_there : (ts : List Tree) (gs : Games) (a : Game) → AllMean ts gs
-      → Among a (to_list (meanings board (trees_from ts))) → (b : Game) × Among b (to_list gs) × Equal a b
+      → Among a (to_list (meanings forms (trees_from ts))) → (b : Game) × Among b (to_list gs) × Equal a b
   unfolding AllMean meaning
   mean_there [] gs a m i = absurd i
   mean_there (t ∷ ts) none a m i = absurd m
   mean_there (t ∷ ts) (more g gs) a m (inl e) =
-      let P : Game → Type 0 = λ z. Equal z g in (g, inl refl, subst P (sym e) (m.0 board))
+      let P : Game → Type 0 = λ z. Equal z g in (g, inl refl, subst P (sym e) (m.0 forms))
   mean_there (t ∷ ts) (more g gs) a m (inr i) = let (b, j, e) = mean_there ts gs a m.1 i in (b, inr j, e)
 
   mean_here : (ts : List Tree) (gs : Games) (b : Game) → AllMean ts gs → Among b (to_list gs)
-      → (a : Game) × Among a (to_list (meanings board (trees_from ts))) × Equal a b
+      → (a : Game) × Among a (to_list (meanings forms (trees_from ts))) × Equal a b
   unfolding AllMean meaning
   mean_here ts none b m i = absurd i
   mean_here [] (more g gs) b m i = absurd m
   mean_here (t ∷ ts) (more g gs) b m (inl e) =
-      let P : Game → Type 0 = λ z. Equal (meaning board t) z in (meaning board t, inl refl, subst P (sym e) (m.0 board))
+      let P : Game → Type 0 = λ z. Equal (meaning forms t) z in (meaning forms t, inl refl, subst P (sym e) (m.0 forms))
   mean_here (t ∷ ts) (more g gs) b m (inr i) = let (a, j, e) = mean_here ts gs b m.1 i in (a, inr j, e)
 
   braces_mean : (ls rs : List Tree) (cs ds : Games) → AllMean ls cs → AllMean rs ds
-      → Equal (meaning board (trees.braces ls rs)) (options cs ds)
+      → Equal (meaning forms (trees.braces ls rs)) (options cs ds)
   unfolding meaning
   braces_mean ls rs cs ds l r =
-      let g : Game = options (meanings board (trees_from ls)) (meanings board (trees_from rs)) in
+      let g : Game = options (meanings forms (trees_from ls)) (meanings forms (trees_from rs)) in
       let h : Game = options cs ds in (
         le-cofinal g h
             (λ a m. let (b, i, e) = mean_there ls cs a l m in (b, i, e.0))
@@ -265,7 +265,7 @@ braces-read k ls rs left right l r = record {
   tree = trees.braces l.trees r.trees;
   is = λ i. special_is (grammar.special (suc k)) i (trees.braces l.trees r.trees) (braces_name left right) (braces_special k i _ _
       (braces_are k i l.trees r.trees left right l.are r.are r.other));
-  means = λ board. braces_mean board l.trees r.trees ls rs l.mean r.mean;
+  means = λ forms. braces_mean forms l.trees r.trees ls rs l.mean r.mean;
   other = refl;
 }
 
@@ -321,5 +321,5 @@ reads-as g c r l =
     record {
       tree = n.tree;
       is_expr = λ i. expr_is (grammar.special 64) i n.tree (name_of g) (n.is i);
-      means = λ board. record { canonical = c; equal = equal_back (meaning board n.tree) g (n.means board) };
+      means = λ forms. record { canonical = c; equal = equal_back (meaning forms n.tree) g (n.means forms) };
     }

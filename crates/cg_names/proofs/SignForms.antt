@@ -1,5 +1,5 @@
 -- The forms of signs, by their lists of options.
-use Rattle.std.proofs.Common.{◌≡◌, refl, ap, sym, ◌∙◌, subst, ℕ, zero, suc, ◌+◌, arith, List, [], ◌∷◌, ◌++◌, map, length, Bool, true, false, not}
+use Rattle.std.proofs.Common.{◌≡◌, refl, ap, sym, ◌∙◌, subst, ℕ, zero, suc, arith, List, [], ◌∷◌, ◌++◌, map, length, Bool, true, false, not}
 use Rattle.std.proofs.lemmas.List.{length-map, map-append}
 use Rattle.cg_dyadic.specs.Number.{Number}
 use Rattle.cg_form.specs.Depth.{deepest_of, depth_of}

@@ -1,17 +1,16 @@
 -- The sign of a game, from what is found of its shape.
-use Rattle.std.proofs.Common.{◌≡◌, refl, ap, sym, ◌∙◌, subst, ℕ, zero, suc, ◌≤◌, arith, List, [], ◌∷◌, Option, Some, None, Bool, true, false}
+use Rattle.std.proofs.Common.{◌≡◌, ap, sym, ◌∙◌, subst, ℕ, zero, suc, ◌≤◌, arith, Option, Some, None, Bool, true, false}
 use Rattle.cg_dyadic.specs.Number.{Number, number_le}
 use Rattle.cg_dyadic.proofs.Truth.{not_true, true_not}
-use Rattle.cg_form.specs.Game.{Game, node, number}
+use Rattle.cg_form.specs.Game.{Game, node}
 use Rattle.cg_form.specs.Shifted.{shifted}
 use Rattle.cg_cells.specs.Store.{Spends, State}
 use Rattle.cg_nodes.specs.Games.{IsList, IsNode, listed}
 use Rattle.cg_nodes.specs.Meant.{Meant}
 use Rattle.cg_nodes.proofs.Later.{listed_later}
-use Rattle.cg_names.specs.Named.{mirrored_if, nimber_form, switch_form, tiny_form, ups_of, zero_number}
+use Rattle.cg_names.specs.Named.{nimber_form, ups_of, zero_number}
 use Rattle.cg_names.specs.Readings.{IsArrows, IsStar, IsSwitch, IsTiny}
-use Rattle.cg_names.specs.Shapes.{HasForm, is_proper, sign_of}
-use Rattle.cg_names.specs.Signs.{IsPositive}
+use Rattle.cg_names.specs.Shapes.{HasForm, sign_of}
 use Rattle.cg_names.specs.declared.look_arrows.ArrowsFound.{ArrowsFound}
 use Rattle.cg_names.specs.declared.look_star.StarFound.{StarFound}
 use Rattle.cg_names.specs.declared.sign.Sign.{Sign}
@@ -19,7 +18,7 @@ use Rattle.cg_names.specs.declared.sign.Sign.TheVariants.{Star, Arrows, Switch, 
 use Rattle.cg_names.proofs.Guessing.{above_zero, sign-found, sign-none}
 use Rattle.cg_names.proofs.Looks.{not_both}
 use Rattle.cg_names.proofs.NameRule.{some_is}
-use Rattle.cg_names.proofs.SignForms.{level_is, no_ups, one_star_form}
+use Rattle.cg_names.proofs.SignForms.{no_ups, one_star_form}
 
 -- the game of the lists later
 pub node_later : {R : Type 0} (s t : State Meant R) (ls rs : Option ℕ) → Spends 0 s t → IsList s ls → IsList s rs
@@ -39,6 +38,10 @@ star_none g o e i = let P : Option StarFound → Type 0 = λ z. IsStar g z in su
 
 pub arrows_none : (down : Bool) (g : Game) (o : Option ArrowsFound) → o ≡ None → IsArrows down g o → IsArrows down g None
 arrows_none down g o e i = let P : Option ArrowsFound → Type 0 = λ z. IsArrows down g z in subst P e i
+
+pub arrows_some : (down : Bool) (g : Game) (o : Option ArrowsFound) (a : ArrowsFound) → o ≡ Some a → IsArrows down g o
+    → IsArrows down g (Some a)
+arrows_some down g o a e i = let P : Option ArrowsFound → Type 0 = λ z. IsArrows down g z in subst P e i
 
 -- the arrows of a game that isn't a number and has no star alone
 counted : (down starred : Bool) (g : Game) (x : Number) (n : ℕ) → IsNode g → IsStar g None

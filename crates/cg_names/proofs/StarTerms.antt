@@ -1,46 +1,24 @@
 -- Names as terms of the grammar, and what they mean: nimbers and arrows.
-use Rattle.std.proofs.Common.{◌≡◌, refl, ap, sym, ◌∙◌, subst, ℕ, zero, suc, ◌+◌, ◌-◌, ◌^◌, ◌<◌, ◌≤◌, arith, inl, inr, ◌⊎◌, List, [], ◌∷◌, ◌++◌, append-nil, append_assoc, length, Bool, true, false, cond, nat_eq, Option, Some, None, ℤ, pos, negsuc, neg_ℤ, unsigned_abs}
-use Rattle.std.specs.Prelude.{codes, decimal, if◌then◌else◌}
-use Rattle.std.proofs.Math.Pow.{pow-lt}
-use Rattle.std.specs.Fmt.{signed_decimal}
-use Rattle.std.proofs.lemmas.Int.{ints}
-use Rattle.cg_dyadic.specs.Exact.{IsQuotient, number_text, signed_of}
-use Rattle.cg_dyadic.specs.Number.{InRange, IsFraction, Number, NumberLe, exp_of, num_of}
-use Rattle.cg_dyadic.proofs.Fractions.{fraction-own}
-use Rattle.cg_dyadic.specs.Units.{units}
-use Rattle.cg_dyadic.proofs.Scale.{units-le, units-own}
-use Rattle.cg_dyadic.proofs.Sums.{doubled-zero}
-use Rattle.cg_dyadic.proofs.Truth.{true_or_false}
-use Rattle.cg_form.specs.Canonical.{IsCanonicalForm}
+use Rattle.std.proofs.Common.{◌≡◌, refl, sym, subst, ℕ, ◌+◌, ◌^◌, ◌<◌, ◌≤◌, inl, inr, List, ◌++◌, length, Bool, true, false, cond, Some, None}
+use Rattle.cg_dyadic.specs.Exact.{number_text}
+use Rattle.cg_dyadic.specs.Number.{InRange, Number}
 use Rattle.cg_form.specs.Game.{Game}
 use Rattle.cg_form.specs.Game as tree
 use Rattle.cg_form.specs.Order.{Equal}
 use Rattle.cg_form.specs.Sum.{sum}
 use Rattle.cg_form.proofs.Preorder.{equal_refl, equal_trans, equal_back}
-use Rattle.cg_reading.specs.Bytes.{Ends}
-use Rattle.cg_reading.specs.Pieces.{Piece, Made}
-use Rattle.cg_syntax.specs.Found.{Found}
 use Rattle.cg_syntax.specs.Grammar as grammar
 use Rattle.cg_syntax.specs.Grammar.{special}
-use Rattle.cg_syntax.specs.Tree.{Tree, nimber, number, switch, terms_from, tiny, ups}
-use Rattle.cg_syntax.specs.Tree as trees
-use Rattle.cg_syntax.proofs.WrittenSpecials.{first_special, second_special}
-use Rattle.cg_syntax.proofs.WrittenTerms.{no_tail_is, special_is}
-use Rattle.cg_syntax.proofs.WrittenTokens.{arrow_of, enclosed_is}
-use Rattle.cg_syntax.specs.Values.{clean, some_term, together, ups_tree, whole, with_tail}
-use Rattle.cg_nodes.specs.CanForms.{is_same-back}
-use Rattle.cg_nodes.specs.Spelled.{is_same}
-use Rattle.cg_names.specs.Meaning.{BoardForm, fraction, meaning, or_zero, signed, total_with}
-use Rattle.cg_names.specs.Named.{nimber_form, nimbers_below, star_form, switch_form, tiny_form, ups_form, ups_of, zero_form, zero_number}
-use Rattle.cg_names.specs.Signs.{Fits, arrows_text, base_text, sign_text, star_text, tiny_word}
-use Rattle.cg_names.specs.declared.sign.Sign.{Sign}
-use Rattle.cg_names.specs.declared.sign.Sign.TheVariants.{Star, Arrows, Switch, Tiny}
-use Rattle.cg_names.proofs.Literals.{quotient-fraction}
-use Rattle.cg_names.proofs.Opened.{IsSignInRange}
+use Rattle.cg_syntax.specs.Tree.{Tree, nimber, ups}
+use Rattle.cg_syntax.proofs.WrittenTokens.{arrow_of}
+use Rattle.cg_syntax.specs.Values.{clean}
+use Rattle.cg_names.specs.Meaning.{PositionForms, meaning}
+use Rattle.cg_names.specs.Named.{nimber_form, nimbers_below, star_form, ups_form, ups_of}
+use Rattle.cg_names.specs.Signs.{arrows_text, base_text, star_text}
 use Rattle.cg_names.proofs.StarredUps.{ups-plus_star}
 use Rattle.cg_form.proofs.EqualGames.{equal_assoc}
-use Rattle.cg_names.proofs.SumWords.{sum_first, sum_second, zero_sum}
-use Rattle.cg_names.proofs.Tokens.{OtherThanBar, decimal_other, nim_is, number_is, other_append, size_text, ups_are, ups_other}
+use Rattle.cg_names.proofs.SumWords.{sum_second}
+use Rattle.cg_names.proofs.Tokens.{nim_is, other_append, ups_are, ups_other}
 use Rattle.cg_names.proofs.Terms.{alone, arrows_tail, base_gone, base_there, joined, nim_tail, number_other, number_term, number_tree, optional_nim, starred_text, starred_tree, tree-number, zero_or_not, Reading}
 
 pub star-reads : (k : ℕ) (x : Number) (n : ℕ) (g : Game) → InRange x → n < 10 ^ 30
@@ -52,7 +30,7 @@ star-reads k x n g r l e = elim (zero_or_not x) [
       subst P (sym (base_gone x z)) (record {
         tree = nimber n;
         is = λ i. inr (inr (inr (inl (record { made_of = nimber n; is = nim_is i n l; same = refl }))));
-        means = λ board. equal_back g (nimber_form n) (alone x (nimber_form n) (nimber_form n) g z e (equal_refl (nimber_form n)));
+        means = λ forms. equal_back g (nimber_form n) (alone x (nimber_form n) (nimber_form n) g z e (equal_refl (nimber_form n)));
         other = refl;
       })
   | inr z ↦
@@ -61,7 +39,7 @@ star-reads k x n g r l e = elim (zero_or_not x) [
       subst P (sym (base_there x z)) (record {
         tree = joined (number_tree x) (None, Some (nimber n));
         is = λ i. number_term (grammar.special k) i x (None, Some (nimber n)) (star_text n) r (nim_tail n l);
-        means = λ board. subst Q (sym (tree-number board x)) (equal_back g (sum (tree.number x) (nimber_form n)) e);
+        means = λ forms. subst Q (sym (tree-number forms x)) (equal_back g (sum (tree.number x) (nimber_form n)) e);
         other = other_append (number_text x) (star_text n) (number_other x r);
       })
 ]
@@ -85,11 +63,11 @@ chain_means down true n =
 alone_tree : Bool → Bool → ℕ → Tree
 alone_tree down starred n = joined (ups down n) (None, starred_tree starred)
 
-alone_means : (board : BoardForm) (down starred : Bool) (n : ℕ)
-    → meaning board (alone_tree down starred n) ≡ chain down starred n
+alone_means : (forms : PositionForms) (down starred : Bool) (n : ℕ)
+    → meaning forms (alone_tree down starred n) ≡ chain down starred n
 unfolding meaning alone_tree
-alone_means board down false n = refl
-alone_means board down true n = refl
+alone_means forms down false n = refl
+alone_means forms down true n = refl
 
 alone_is : (k i : ℕ) (down starred : Bool) (n : ℕ) → 1 ≤ n → n < 10 ^ 30
     → grammar.term (grammar.special k) i (clean (alone_tree down starred n))
@@ -107,17 +85,17 @@ alone_is k i down starred n s l = inr (inr (inl (record {
   same = refl;
 })))
 
-behind_means : (board : BoardForm) (x : Number) (down starred : Bool) (n : ℕ)
-    → Equal (meaning board (joined (number_tree x) (Some (ups down n), starred_tree starred)))
+behind_means : (forms : PositionForms) (x : Number) (down starred : Bool) (n : ℕ)
+    → Equal (meaning forms (joined (number_tree x) (Some (ups down n), starred_tree starred)))
     (sum (tree.number x) (chain down starred n))
 unfolding meaning
-behind_means board x down false n =
+behind_means forms x down false n =
     let P : Game → Type 0 = λ h. Equal (sum h (ups_form down n)) (sum (tree.number x) (ups_form down n)) in
-    subst P (sym (tree-number board x)) (equal_refl (sum (tree.number x) (ups_form down n)))
-behind_means board x down true n =
+    subst P (sym (tree-number forms x)) (equal_refl (sum (tree.number x) (ups_form down n)))
+behind_means forms x down true n =
     let P : Game → Type 0 = λ h. Equal (sum (sum h (ups_form down n)) (nimber_form 1))
     (sum (tree.number x) (sum (ups_form down n) (nimber_form 1))) in
-    subst P (sym (tree-number board x)) (equal_assoc (tree.number x) (ups_form down n) (nimber_form 1))
+    subst P (sym (tree-number forms x)) (equal_assoc (tree.number x) (ups_form down n) (nimber_form 1))
 
 pub arrows-read : (k : ℕ) (down starred : Bool) (x : Number) (n : ℕ) (g : Game) → InRange x → 1 ≤ n → n < 10 ^ 30
     → Equal g (sum (tree.number x) (ups_of down starred n))
@@ -133,7 +111,7 @@ arrows-read k down starred x n g r s l e =
           subst P (sym (base_gone x z)) (record {
             tree = alone_tree down starred n;
             is = λ i. alone_is k i down starred n s l;
-            means = λ board. subst Q (sym (alone_means board down starred n)) (equal_back g C
+            means = λ forms. subst Q (sym (alone_means forms down starred n)) (equal_back g C
                 (alone x U C g z e (equal_back C U (chain_means down starred n))));
             other = other_append (arrows_text (arrow_of down) n) (starred_text starred) (ups_other down n);
           })
@@ -143,7 +121,7 @@ arrows-read k down starred x n g r s l e =
             tree = t;
             is = λ i. number_term (grammar.special k) i x (Some (ups down n), starred_tree starred) text r
                 (arrows_tail down starred n s l);
-            means = λ board. equal_trans (meaning board t) (sum (tree.number x) C) g (behind_means board x down starred n)
+            means = λ forms. equal_trans (meaning forms t) (sum (tree.number x) C) g (behind_means forms x down starred n)
                 (equal_trans (sum (tree.number x) C) (sum (tree.number x) U) g
                 (sum_second C U (tree.number x) (chain_means down starred n))
                 (equal_back g (sum (tree.number x) U) e));

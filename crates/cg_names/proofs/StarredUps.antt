@@ -1,5 +1,5 @@
 -- n.^* is n.^ and *, and the same of downs.
-use Rattle.std.proofs.Common.{◌≡◌, refl, ap, sym, ◌∙◌, subst, ℕ, zero, suc, inl, inr, ◌⊎◌, List, [], ◌∷◌, Bool, true, false, not}
+use Rattle.std.proofs.Common.{◌≡◌, refl, ap, sym, ◌∙◌, subst, ℕ, zero, suc, inl, inr, ◌⊎◌, [], ◌∷◌, Bool, true, false, not}
 use Rattle.cg_form.specs.Game.{Among, Game}
 use Rattle.cg_form.specs.Order.{Equal}
 use Rattle.cg_form.specs.Side.{AtMost, far, near}
@@ -7,7 +7,7 @@ use Rattle.cg_form.specs.Sum.{sum}
 use Rattle.cg_form.proofs.Among.{carry}
 use Rattle.cg_form.proofs.Preorder.{equal_trans, equal_back}
 use Rattle.cg_form.proofs.Sides.{equal_side, not_far, not_near, side_equal, side_fold, side_trans, side_unfold}
-use Rattle.cg_names.specs.Named.{mirrored_if, star_form, ups_of, zero_form}
+use Rattle.cg_names.specs.Named.{star_form, ups_of, zero_form}
 use Rattle.cg_names.proofs.Reducing.{far-mirrored, near-mirrored, near-zero}
 use Rattle.cg_form.proofs.EqualGames.{equal_assoc}
 use Rattle.cg_names.proofs.SumWords.{far_first, far_sum, near_first, near_second, near_sum, sum_first, sum_second, sum_zero, two_stars, zero_sum}

@@ -1,21 +1,22 @@
 -- Lists x, x + *, x + *2 and so on, and the games over them.
-use Rattle.std.proofs.Common.{◌≡◌, refl, ap, sym, ◌∙◌, subst, ℕ, zero, suc, ◌+◌, ◌<◌, ◌≤◌, arith, add-one, List, [], ◌∷◌, ◌++◌, map, length, take, drop, get_or, Option, Some, None, true, false, nat_eq, eqb-true}
-use Rattle.std.proofs.lemmas.List.{append_cancel_left, map-append}
+use Rattle.std.proofs.Common.{◌≡◌, refl, ap, sym, ◌∙◌, subst, ℕ, zero, suc, ◌<◌, ◌≤◌, arith, List, [], ◌∷◌, ◌++◌, length, take, get_or, Option, Some, None, true, false, nat_eq, eqb-true}
+use Rattle.std.proofs.lemmas.List.{nil_from_length, same_from_push}
 use Rattle.cg_dyadic.specs.Number.{Number}
 use Rattle.cg_form.specs.Game.{Game, node, number}
 use Rattle.cg_form.specs.Shifted.{shifted}
-use Rattle.cg_cells.specs.Store.{Spends, State}
-use Rattle.cg_nodes.specs.Games.{AreGames, IsGame, game_at, games_at}
+use Rattle.cg_cells.specs.Store.{State}
+use Rattle.cg_nodes.specs.Games.{AreGames, game_at, games_at}
 use Rattle.cg_nodes.specs.Meant.{Meant}
-use Rattle.cg_nodes.proofs.Later.{game_later, games_later}
 use Rattle.cg_canon.proofs.Outlining.{games_take_all, games_take_suc}
-use Rattle.cg_names.specs.Named.{nimber_form, nimbers_below, zero_form}
-use Rattle.cg_names.specs.Readings.{AreStars, IsStar, stars_above}
-use Rattle.cg_names.specs.declared.look_star.StarFound.{StarFound}
-use Rattle.cg_names.proofs.Guessing.{one_value}
-use Rattle.cg_names.proofs.Listing.{games_split, item_known}
-use Rattle.cg_names.proofs.NimberForms.{nimbers_below-front}
-use Rattle.cg_names.proofs.SignForms.{length-stars, mirrored-others, mirrored-own, star_over, stars_first, stars_next}
+use Rattle.cg_names.specs.Named.{nimber_form, nimbers_below}
+use Rattle.cg_names.specs.Readings.{AreStars, stars_above}
+use Rattle.cg_names.specs.Shapes.{sign_of}
+use Rattle.cg_names.specs.declared.sign.Sign.{Sign}
+use Rattle.cg_names.specs.declared.sign.Sign.TheVariants.{Star}
+use Rattle.cg_names.proofs.Guessing.{above_zero, found-form, sign-found}
+use Rattle.cg_names.proofs.Looks.{not_both}
+use Rattle.cg_names.proofs.NameRule.{some_is}
+use Rattle.cg_names.proofs.SignForms.{length-stars, mirrored-node, mirrored-others, mirrored-own, shifted-zero, star_over, stars_first, stars_next}
 
 -- ---- handles in front
 
@@ -29,101 +30,12 @@ pub length-games : {R : Type 0} (s : State Meant R) (hs : List ℕ) → length (
 length-games s [] = refl
 length-games s (h ∷ hs) = ap (λ (n : ℕ). suc n) (length-games s hs)
 
--- ---- the numbers
-
-first_same : (g h : Game) (gs hs : List Game) → g ∷ gs ≡ h ∷ hs → g ≡ h
-first_same g h gs hs e = cc
-
-rest_same : (g h : Game) (gs hs : List Game) → g ∷ gs ≡ h ∷ hs → gs ≡ hs
-rest_same g h gs hs e = cc
-
-some_number : (g : Game) (gs : List Game) → ¬ ([] ≡ g ∷ gs)
-some_number g gs e = cc
-
-pub no_stars : (x : Number) (n : ℕ) (gs : List Game) → gs ≡ [] → ¬ (gs ≡ stars_above x (suc n))
-no_stars x n gs e f = let (hs, p) = stars_first x n in some_number (number x) hs (sym e ∙ f ∙ p)
-
--- the first of them is the number
-pub first_star : (x : Number) (n : ℕ) (g : Game) (gs : List Game) → g ∷ gs ≡ stars_above x (suc n) → g ≡ number x
-first_star x n g gs e = let (hs, p) = stars_first x n in first_same g (number x) gs hs (e ∙ p)
-
-pub one_star : (x : Number) → stars_above x (suc zero) ≡ number x ∷ []
-one_star x =
-    let (gs, e) = stars_first x zero in
-    let l : length (stars_above x (suc zero)) ≡ suc zero = length-stars x (suc zero) in
-    e ∙ ap (λ z. number x ∷ z) (none gs (sym (ap length e) ∙ l))
-  where
-    none : (gs : List Game) → suc (length gs) ≡ suc zero → gs ≡ []
-    none [] e = refl
-    none (g ∷ gs) e = absurd (omega arith)
-
-stars_front : (x : Number) (i n : ℕ) → i < n → (gs : List Game) × (stars_above x n ≡ stars_above x i ++
-    (shifted x (nimber_form i) ∷ gs))
-stars_front x i n l =
-    let (hs, e) = nimbers_below-front i n l in
-    (map (shifted x) hs, ap (map (shifted x)) e ∙ map-append (shifted x) (nimbers_below i) (nimber_form i ∷ hs))
-
--- ---- one more
-
-pub stars_begin : {R : Type 0} (s : State Meant R) (hs : List ℕ) (d : ℕ) (x : Number) → 0 < length hs
-    → game_at s (get_or hs 0 d) ≡ number x → games_at s (take 1 hs) ≡ stars_above x 1
-stars_begin s hs d x l e = games_take_suc s hs 0 d l ∙ ap (λ z. z ∷ []) e ∙ sym (one_star x)
-
-module _ {R : Type 0} (s t : State Meant R) (hs : List ℕ) (k : ℕ) (x : Number) (known : AreGames s hs)
-    (later : Spends 0 s t) where
-  pub stars_more : (i : ℕ) → 1 ≤ i → i < length hs → k ≡ get_or hs i k → games_at s (take i hs) ≡ stars_above x i
-      → game_at t k ≡ node (games_at t (take i hs)) (games_at t (take i hs))
-      → games_at s (take (i + 1) hs) ≡ stars_above x (i + 1)
-  stars_more zero some l e p q = absurd (omega arith)
-  stars_more (suc m) some l e p q =
-      let i : ℕ = suc m in
-      let game : game_at t k ≡ game_at s k = game_later s t later.known k (item_known s hs i k known l e) in
-      let front : games_at t (take i hs) ≡ stars_above x i =
-      games_later s t later.known (take i hs) (games_front s hs i known) ∙ p in
-      let star : game_at s k ≡ shifted x (nimber_form i) =
-      sym game ∙ q ∙ ap (λ z. node z z) front ∙ sym (star_over x m) in
-      ap (λ (n : ℕ). games_at s (take n hs)) (add-one i) ∙ games_take_suc s hs i k l
-      ∙ ap (λ z. games_at s (take i hs) ++ (z ∷ [])) (ap (game_at s) (sym e) ∙ star)
-      ∙ ap (λ z. z ++ (shifted x (nimber_form i) ∷ [])) p ∙ sym (stars_next x i)
-      ∙ ap (λ (n : ℕ). stars_above x n) (sym (add-one i))
-
-  pub stars_broken : (i : ℕ) → 1 ≤ i → i < length hs → k ≡ get_or hs i k → games_at s (take i hs) ≡ stars_above x i
-      → ¬ (game_at t k ≡ node (games_at t (take i hs)) (games_at t (take i hs)))
-      → (y : Number) (n : ℕ) → ¬ (games_at s hs ≡ stars_above y (suc n))
-  stars_broken zero some l e p q y n f = absurd (omega arith)
-  stars_broken (suc m) some l e p q y n f =
-      let i : ℕ = suc m in
-      let game : game_at t k ≡ game_at s k = game_later s t later.known k (item_known s hs i k known l e) in
-      let front : games_at t (take i hs) ≡ stars_above x i =
-      games_later s t later.known (take i hs) (games_front s hs i known) ∙ p in
-      let rest : List Game = games_at s (drop (suc i) hs) in
-      let split : games_at s hs ≡ stars_above x i ++ (game_at s k ∷ rest) =
-      games_split s hs i k l ∙ ap (λ (z : ℕ). games_at s (take i hs) ++ (game_at s z ∷ rest)) (sym e)
-      ∙ ap (λ z. z ++ (game_at s k ∷ rest)) p in
-      let size : length hs ≡ suc n = sym (length-games s hs) ∙ ap length f ∙ length-stars y (suc n) in
-      let (more, cut) = stars_front y i (suc n) (omega arith) in
-      let (us, u) = stars_first x m in
-      let (vs, v) = stars_first y n in
-      let same : x ≡ y = one_value x y (first_same (number x) (number y) (us ++ (game_at s k ∷ rest)) vs
-      (sym (ap (λ z. z ++ (game_at s k ∷ rest)) u) ∙ sym split ∙ f ∙ v)) in
-      let both : stars_above y i ++ (game_at s k ∷ rest) ≡ stars_above y i ++ (shifted y (nimber_form i) ∷ more) =
-      sym (ap (λ z. stars_above z i ++ (game_at s k ∷ rest)) same) ∙ sym split ∙ f ∙ cut in
-      let star : game_at s k ≡ shifted y (nimber_form i) = first_same _ _ _ _ (append_cancel_left (stars_above y i) _ _
-      both) in
-      q (game ∙ star ∙ star_over y m ∙ ap (λ z. node (stars_above z i) (stars_above z i)) (sym same)
-      ∙ ap (λ z. node z z) (sym front))
-
-pub stars_all : {R : Type 0} (s : State Meant R) (hs : List ℕ) (i : ℕ) (x : Number) → length hs ≤ i
-    → games_at s (take i hs) ≡ stars_above x i → games_at s hs ≡ stars_above x (length (games_at s hs))
-stars_all s hs i x l e =
-    let all : games_at s hs ≡ stars_above x i = sym (games_take_all s hs i l) ∙ e in
-    all ∙ ap (λ (n : ℕ). stars_above x n) (sym (ap length all ∙ length-stars x i))
-
--- where the first game is no number
-pub no_first : {R : Type 0} (s : State Meant R) (hs : List ℕ) (d : ℕ) → 0 < length hs
-    → ((x : Number) → ¬ (game_at s (get_or hs 0 d) ≡ number x)) → (y : Number) (n : ℕ)
-    → ¬ (games_at s hs ≡ stars_above y (suc n))
-no_first s hs d l no_number y n f = no_number y (first_star y n _ _ (sym (games_split s hs 0 d l) ∙ f))
+-- the last game behind the others
+pub games_last : {R : Type 0} (s : State Meant R) (hs : List ℕ) (i k : ℕ) → i < length hs → length hs ≤ suc i
+    → k ≡ get_or hs i k → games_at s hs ≡ games_at s (take i hs) ++ (game_at s k ∷ [])
+games_last s hs i k l m e =
+    sym (games_take_all s hs (suc i) m) ∙ games_take_suc s hs i k l
+    ∙ ap (λ (z : ℕ). games_at s (take i hs) ++ (game_at s z ∷ [])) (sym e)
 
 -- ---- a game over such a list
 
@@ -138,6 +50,93 @@ pub star-found : (ls rs : List Game) (x : Number) (n : ℕ) → 1 ≤ n → ls �
     → node ls rs ≡ shifted x (nimber_form n)
 star-found ls rs x zero l e f = absurd (omega arith)
 star-found ls rs x (suc n) l e f = ap (λ z. node z rs) e ∙ ap (λ z. node (stars_above x (suc n)) z) f ∙ sym (star_over x n)
+
+-- ---- what was found
+
+pub stars_none : (gs : List Game) (o : Option Number) → o ≡ None → AreStars gs o → AreStars gs None
+stars_none gs o e i = let P : Option Number → Type 0 = λ z. AreStars gs z in subst P e i
+
+pub stars_some : (gs : List Game) (o : Option Number) (x : Number) → o ≡ Some x → AreStars gs o → AreStars gs (Some x)
+stars_some gs o x e i = let P : Option Number → Type 0 = λ z. AreStars gs z in subst P e i
+
+pub stars_at : (gs hs : List Game) (o : Option Number) → gs ≡ hs → AreStars gs o → AreStars hs o
+stars_at gs hs o e i = let P : List Game → Type 0 = λ z. AreStars z o in subst P e i
+
+-- x + *n over the list of its options
+pub star-is : (ls rs gs : List Game) (x : Number) (n : ℕ) → gs ≡ ls → ls ≡ rs → length gs ≡ n → AreStars gs (Some x)
+    → (1 ≤ n) × (node ls rs ≡ shifted x (nimber_form n))
+star-is ls rs gs x n e f l i =
+    let stars : ls ≡ stars_above x n = sym e ∙ i.1 ∙ ap (λ (k : ℕ). stars_above x k) l in
+    let some : 1 ≤ n = let m = i.0 in omega arith in
+    (some, star-found ls rs x n some stars (sym f ∙ stars))
+
+-- ---- no star
+
+nothing_more : (g : Game) (gs : List Game) → ¬ ([] ≡ g ∷ gs)
+nothing_more g gs e = cc
+
+pub no_stars : (x : Number) (n : ℕ) (gs : List Game) → gs ≡ [] → ¬ (gs ≡ stars_above x (suc n))
+no_stars x n gs e f = let (hs, p) = stars_first x n in nothing_more (number x) hs (sym e ∙ f ∙ p)
+
+-- ---- one more behind the others
+
+-- the last of them and those before it
+pub stars_parts : (x : Number) (n : ℕ) (gs : List Game) (g : Game) → gs ++ (g ∷ []) ≡ stars_above x (suc n)
+    → (gs ≡ stars_above x n) × (g ≡ shifted x (nimber_form n))
+stars_parts x n gs g e = same_from_push gs (stars_above x n) g (shifted x (nimber_form n)) (e ∙ stars_next x n)
+
+pub stars_more : (x : Number) (n : ℕ) (gs : List Game) (g : Game) → gs ≡ stars_above x n → g ≡ shifted x (nimber_form n)
+    → AreStars (gs ++ (g ∷ [])) (Some x)
+stars_more x n gs g e f =
+    let all : gs ++ (g ∷ []) ≡ stars_above x (suc n) =
+    ap (λ z. z ++ (g ∷ [])) e ∙ ap (λ z. stars_above x n ++ (z ∷ [])) f ∙ sym (stars_next x n) in
+    let size : length (gs ++ (g ∷ [])) ≡ suc n = ap length all ∙ length-stars x (suc n) in
+    (omega arith, all ∙ ap (λ (k : ℕ). stars_above x k) (sym size))
+
+-- a number at the end
+pub number_alone : (x : Number) (gs : List Game) (n : ℕ) → length gs ≡ n → n ≡ 0 → AreStars (gs ++ (number x ∷ [])) (Some x)
+unfolding nimber_form nimbers_below
+number_alone x gs n l e = stars_more x 0 gs (number x) (nil_from_length gs (l ∙ e)) (sym (shifted-zero x))
+
+pub number_behind : (x : Number) (gs : List Game) (n : ℕ) → length gs ≡ n → ¬ (n ≡ 0) → AreStars (gs ++ (number x ∷ [])) None
+number_behind x gs n l some y m e =
+    let (p, q) = stars_parts y m gs (number x) e in
+    by m (sym (ap length p ∙ length-stars y m) ∙ l) q
+  where
+    by : (k : ℕ) → k ≡ n → ¬ (number x ≡ shifted y (nimber_form k))
+    by zero z q = some (sym z)
+    by (suc k) z q =
+        let L : List Game = stars_above y (suc k) in
+        not_both (node L L) x (mirrored-node false L L) (sym (star_over y k) ∙ sym q)
+
+-- a game with the Left options ls at the end
+module _ (ls rs hs : List Game) (o : Option Sign) (is : o ≡ sign_of (node ls rs)) where
+  pub star_behind : (x : Number) (n : ℕ) → o ≡ Some (Star x n) → ls ≡ hs → AreStars (hs ++ (node ls rs ∷ [])) (Some x)
+  star_behind x n e f =
+      let has = found-form (node ls rs) (Star x n) (sym is ∙ e) in
+      let (m, p) = above_zero n has.proper in
+      let form : node ls rs ≡ shifted x (nimber_form (suc m)) =
+      has.form ∙ ap (λ (k : ℕ). shifted x (nimber_form k)) p in
+      stars_more x (suc m) hs (node ls rs) (sym f ∙ (star-lists ls rs x m form).0) form
+
+  -- the last one would be a star of which these are the options
+  star_last : (y : Number) (n : ℕ) → hs ++ (node ls rs ∷ []) ≡ stars_above y (suc n)
+      → (m : ℕ) × (hs ≡ stars_above y (suc m)) × (node ls rs ≡ shifted y (nimber_form (suc m)))
+  unfolding nimber_form nimbers_below
+  star_last y n e = let (p, q) = stars_parts y n hs (node ls rs) e in by n p q
+    where
+      by : (k : ℕ) → hs ≡ stars_above y k → node ls rs ≡ shifted y (nimber_form k)
+          → (m : ℕ) × (hs ≡ stars_above y (suc m)) × (node ls rs ≡ shifted y (nimber_form (suc m)))
+      by zero p q = absurd (not_both (node ls rs) y (mirrored-node false ls rs) (q ∙ shifted-zero y))
+      by (suc m) p q = (m, p, q)
+
+  pub no_star_behind : ((x : Number) (n : ℕ) → ¬ (o ≡ Some (Star x n))) → AreStars (hs ++ (node ls rs ∷ [])) None
+  no_star_behind none y n e =
+      let (m, p, q) = star_last y n e in
+      none y (suc m) (is ∙ sign-found (node ls rs) (Star y (suc m)) (record { proper = some_is (suc m) (omega arith); form = q }))
+
+  pub others_behind : ¬ (ls ≡ hs) → AreStars (hs ++ (node ls rs ∷ [])) None
+  others_behind other y n e = let (m, p, q) = star_last y n e in other ((star-lists ls rs y m q).0 ∙ sym p)
 
 -- ---- no handle, or some
 

@@ -1,6 +1,6 @@
 -- Sums of equal games, and with 0.
-use Rattle.std.proofs.Common.{◌≡◌, inl, inr, ◌⊎◌, Bool, true, false}
-use Rattle.cg_form.specs.Game.{Among, Game, number}
+use Rattle.std.proofs.Common.{◌≡◌, ◌⊎◌, Bool, true, false}
+use Rattle.cg_form.specs.Game.{Among, Game}
 use Rattle.cg_form.specs.Order.{Equal}
 use Rattle.cg_form.specs.Side.{far, near}
 use Rattle.cg_form.specs.Sum.{negative, nothing, sum}

@@ -1,7 +1,7 @@
 -- Switches, tinies and minies are canonical.
-use Rattle.std.proofs.Common.{◌≡◌, refl, inl, inr, sym, ◌∙◌, subst, [], ◌∷◌, Bool, true, false, not, IsTrue, ℕ, ℤ, neg_ℤ}
-use Rattle.cg_dyadic.specs.Exact.{IsNegative, number_negative}
-use Rattle.cg_dyadic.specs.Number.{IsFraction, Number, NumberLe, exp_of, num_of, number_le}
+use Rattle.std.proofs.Common.{◌≡◌, refl, inl, inr, sym, ◌∙◌, subst, [], ◌∷◌, Bool, true, false, not, IsTrue}
+use Rattle.cg_dyadic.specs.Exact.{number_negative}
+use Rattle.cg_dyadic.specs.Number.{Number, NumberLe, number_le}
 use Rattle.cg_dyadic.proofs.Negatives.{negative_low}
 use Rattle.cg_dyadic.proofs.Truth.{true-or-not}
 use Rattle.cg_dyadic.proofs.Values.{less-le, number_le-trans}

@@ -1,52 +1,41 @@
 -- Names as terms of the grammar, and what they mean: numbers, and what may stand behind them.
-use Rattle.std.proofs.Common.{◌≡◌, refl, ap, sym, ◌∙◌, subst, ℕ, zero, suc, ◌+◌, ◌-◌, ◌^◌, ◌<◌, ◌≤◌, arith, inl, inr, ◌⊎◌, List, [], ◌∷◌, ◌++◌, append-nil, append_assoc, length, Bool, true, false, cond, nat_eq, Option, Some, None, ℤ, pos, negsuc, neg_ℤ, unsigned_abs}
-use Rattle.std.specs.Prelude.{codes, decimal, if◌then◌else◌}
+use Rattle.std.proofs.Common.{◌≡◌, refl, ap, sym, subst, ℕ, suc, ◌+◌, ◌^◌, ◌<◌, ◌≤◌, arith, inl, inr, ◌⊎◌, List, [], ◌∷◌, ◌++◌, append-nil, length, Bool, true, false, cond, nat_eq, Option, Some, None, ℤ, pos, negsuc, unsigned_abs}
+use Rattle.std.specs.Prelude.{decimal, if◌then◌else◌}
 use Rattle.std.proofs.Math.Pow.{pow-lt}
 use Rattle.std.specs.Fmt.{signed_decimal}
 use Rattle.std.proofs.lemmas.Int.{ints}
-use Rattle.cg_dyadic.specs.Exact.{IsQuotient, number_text, signed_of}
-use Rattle.cg_dyadic.specs.Number.{InRange, IsFraction, Number, NumberLe, exp_of, num_of}
+use Rattle.cg_dyadic.specs.Exact.{number_text, signed_of}
+use Rattle.cg_dyadic.specs.Number.{InRange, IsFraction, Number, exp_of, num_of}
 use Rattle.cg_dyadic.proofs.Fractions.{fraction-own}
-use Rattle.cg_dyadic.specs.Units.{units}
-use Rattle.cg_dyadic.proofs.Scale.{units-le, units-own}
-use Rattle.cg_dyadic.proofs.Sums.{doubled-zero}
 use Rattle.cg_dyadic.proofs.Truth.{true_or_false}
-use Rattle.cg_form.specs.Canonical.{IsCanonicalForm}
 use Rattle.cg_form.specs.Game.{Game}
 use Rattle.cg_form.specs.Game as tree
 use Rattle.cg_form.specs.Order.{Equal}
 use Rattle.cg_form.specs.Sum.{sum}
-use Rattle.cg_form.proofs.Preorder.{equal_refl, equal_trans, equal_back}
+use Rattle.cg_form.proofs.Preorder.{equal_refl, equal_trans}
 use Rattle.cg_reading.specs.Bytes.{Ends}
-use Rattle.cg_reading.specs.Pieces.{Piece, Made}
+use Rattle.cg_reading.specs.Pieces.{Piece}
 use Rattle.cg_syntax.specs.Found.{Found}
 use Rattle.cg_syntax.specs.Grammar as grammar
 use Rattle.cg_syntax.specs.Grammar.{special}
-use Rattle.cg_syntax.specs.Tree.{Tree, nimber, number, switch, terms_from, tiny, ups}
-use Rattle.cg_syntax.specs.Tree as trees
-use Rattle.cg_syntax.proofs.WrittenSpecials.{first_special, second_special}
-use Rattle.cg_syntax.proofs.WrittenTerms.{no_tail_is, special_is}
-use Rattle.cg_syntax.proofs.WrittenTokens.{arrow_of, enclosed_is}
-use Rattle.cg_syntax.specs.Values.{clean, some_term, together, ups_tree, whole, with_tail}
+use Rattle.cg_syntax.specs.Tree.{Tree, nimber, number, ups}
+use Rattle.cg_syntax.proofs.WrittenTerms.{no_tail_is}
+use Rattle.cg_syntax.proofs.WrittenTokens.{arrow_of}
+use Rattle.cg_syntax.specs.Values.{clean, some_term, together, whole}
 use Rattle.cg_nodes.specs.CanForms.{is_same-back}
 use Rattle.cg_nodes.specs.Spelled.{is_same}
-use Rattle.cg_names.specs.Meaning.{BoardForm, fraction, meaning, or_zero, signed, total_with}
-use Rattle.cg_names.specs.Named.{nimber_form, nimbers_below, star_form, switch_form, tiny_form, ups_form, ups_of, zero_form, zero_number}
-use Rattle.cg_names.specs.Signs.{Fits, arrows_text, base_text, sign_text, star_text, tiny_word}
-use Rattle.cg_names.specs.declared.sign.Sign.{Sign}
-use Rattle.cg_names.specs.declared.sign.Sign.TheVariants.{Star, Arrows, Switch, Tiny}
+use Rattle.cg_names.specs.Meaning.{PositionForms, fraction, meaning, or_zero}
+use Rattle.cg_names.specs.Named.{zero_form}
+use Rattle.cg_names.specs.Signs.{arrows_text, base_text, star_text}
 use Rattle.cg_names.proofs.Literals.{quotient-fraction}
-use Rattle.cg_names.proofs.Opened.{IsSignInRange}
-use Rattle.cg_names.proofs.StarredUps.{ups-plus_star}
-use Rattle.cg_form.proofs.EqualGames.{equal_assoc}
-use Rattle.cg_names.proofs.SumWords.{sum_first, sum_second, zero_sum}
-use Rattle.cg_names.proofs.Tokens.{OtherThanBar, decimal_other, nim_is, number_is, other_append, size_text, ups_are, ups_other}
+use Rattle.cg_names.proofs.SumWords.{zero_sum}
+use Rattle.cg_names.proofs.Tokens.{OtherThanBar, decimal_other, nim_is, number_is, other_append, size_text, ups_are}
 
 -- a name as a term with so many braces open at most: what it reads as, and that this means the game
 pub record Reading (k : ℕ) (g : Game) (text : List ℕ) : Type 0 where
   pub tree : Tree
   pub is : (i : ℕ) → grammar.term (grammar.special k) i (clean tree) text
-  pub means : (board : BoardForm) → Equal (meaning board tree) g
+  pub means : (forms : PositionForms) → Equal (meaning forms tree) g
   pub other : OtherThanBar text
 
 -- ---- numbers
@@ -74,9 +63,9 @@ number_means x b e = quotient-fraction b (size_of x) (2 ^ exp_of x) x (record {
   value = let P : ℤ → Type 0 = λ n. IsFraction n (exp_of x) x in subst P (sym e) (fraction-own x);
 })
 
-pub tree-number : (board : BoardForm) (x : Number) → meaning board (number_tree x) ≡ tree.number x
+pub tree-number : (forms : PositionForms) (x : Number) → meaning forms (number_tree x) ≡ tree.number x
 unfolding meaning
-tree-number board x = ap (λ o. tree.number (or_zero o)) (number_means x (is_below (num_of x)) (signed_size (num_of x)))
+tree-number forms x = ap (λ o. tree.number (or_zero o)) (number_means x (is_below (num_of x)) (signed_size (num_of x)))
 
 -- numbers in range have few digits
 pub few_digits : (x : Number) → InRange x → size_of x < 10 ^ 30
@@ -196,8 +185,8 @@ pub number-reads : (k : ℕ) (x : Number) → InRange x → Reading k (tree.numb
 number-reads k x r = record {
   tree = number_tree x;
   is = λ i. plain_number (grammar.special k) i x r;
-  means = λ board. let P : Game → Type 0 = λ z. Equal z (tree.number x) in
-      subst P (sym (tree-number board x)) (equal_refl (tree.number x));
+  means = λ forms. let P : Game → Type 0 = λ z. Equal z (tree.number x) in
+      subst P (sym (tree-number forms x)) (equal_refl (tree.number x));
   other = number_other x r;
 }
 

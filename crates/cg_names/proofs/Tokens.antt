@@ -1,18 +1,16 @@
 -- What numbers, ups and nimbers are written as, is a piece of the grammar.
-use Rattle.std.proofs.Common.{◌≡◌, refl, ap, sym, ◌∙◌, subst, ℕ, zero, suc, ◌+◌, ◌^◌, ◌%◌, ◌<◌, ◌≤◌, arith, inl, inr, List, [], ◌∷◌, ◌++◌, length, length-append, Bool, true, false, cond, ◌&&◌, nat_eq, eqb-true, Option, Some, None}
-use Rattle.std.specs.Prelude.{decimal, if◌then◌else◌, replicate}
+use Rattle.std.proofs.Common.{◌≡◌, refl, ap, sym, subst, ℕ, zero, suc, ◌+◌, ◌^◌, ◌<◌, ◌≤◌, arith, inl, inr, List, [], ◌∷◌, ◌++◌, length, Bool, true, false, ◌&&◌, nat_eq, eqb-true}
+use Rattle.std.specs.Prelude.{decimal, if◌then◌else◌}
 use Rattle.std.specs.List.{list_all}
-use Rattle.std.specs.Str.Parse.{digits_value}
-use Rattle.std.proofs.lemmas.Fmt.{decimal_by_steps_wide, decimal_is_IsNumeral_wide, length-decimal-le_wide}
 use Rattle.std.proofs.lemmas.Bool.Decides.{nat_tests}
 use Rattle.cg_reading.specs.Bytes.{Ends, has}
-use Rattle.cg_reading.specs.Pieces.{Made, Then}
+use Rattle.cg_reading.specs.Pieces.{Made}
 use Rattle.cg_reading.specs.Tokens.{digit, digits, only}
 use Rattle.cg_reading.proofs.Sets.{apart_has}
 use Rattle.cg_reading.proofs.Texts.{Digits, decimal_digits, digits_are}
 use Rattle.cg_syntax.specs.Grammar as grammar
 use Rattle.cg_syntax.specs.Grammar.{bar}
-use Rattle.cg_syntax.specs.Tree.{Tree, nimber, ups}
+use Rattle.cg_syntax.specs.Tree.{nimber, ups}
 use Rattle.cg_syntax.specs.Values.{ups_tree}
 use Rattle.cg_syntax.proofs.WrittenTokens.{arrow_of}
 use Rattle.cg_names.specs.Signs.{arrows_text, star_text}

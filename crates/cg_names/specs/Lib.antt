@@ -3,6 +3,7 @@ pub mod Signs
 pub mod Shapes
 pub mod Name
 pub mod Lists
+pub mod Memos
 pub mod Making
 pub mod Meaning
 pub mod Readings

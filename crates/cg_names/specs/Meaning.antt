@@ -8,7 +8,7 @@ use Rattle.cg_form.specs.Sum.{negative as minus, sum as plus}
 use Rattle.cg_form.specs.Multiple.{multiple as many}
 use Rattle.cg_names.specs.Named.{nimber_form, ups_form, switch_form, tiny_form}
 use Rattle.cg_syntax.specs.declared.kind.GameKind.{GameKind}
-use Rattle.cg_syntax.specs.Tree.{Tree, Trees, Terms, number, ups, nimber, switch, tiny, sides, negative, multiple, sum, game, no_trees, with_tree, no_terms, with_term}
+use Rattle.cg_syntax.specs.Tree.{Tree, Trees, Terms, number, ups, nimber, switch, tiny, sides, negative, multiple, sum, game, octal, no_trees, with_tree, no_terms, with_term}
 
 -- the exponent k of 2 ^ k, if the number is such a power with k at most n
 unfoldable pub exponent_within : ℕ → ℕ → Option ℕ
@@ -39,36 +39,39 @@ or_zero (Some x) = x
 abbrev pub signed : Bool → Game → Game
 signed subtracted g = cond subtracted (minus g) g
 
--- what a position means, by its game, the text of its rules and that of its board
-abbrev pub BoardForm : Type 0
-BoardForm = GameKind → List ℕ → List ℕ → Game
+-- what positions mean: one on a board by its game, the text of its rules and that of its board, and a heap of an octal game
+-- by the game's code and the number of tokens
+pub record PositionForms : Type 0 where
+  pub of_board : GameKind → List ℕ → List ℕ → Game
+  pub of_heap : List ℕ → ℕ → Game
 
 -- The meaning of an expression, where positions mean these games. A literal whose denominator is no power of two has no
 -- meaning. It is refused before its meaning is asked for, and 0 stands for it here.
 unfoldable mutual
-  pub meaning : BoardForm → Tree → Game
-  meaning board (number below num den) = plain_number (or_zero (fraction below num den))
-  meaning board (ups down n) = ups_form down n
-  meaning board (nimber n) = nimber_form n
-  meaning board (switch num den) = switch_form (or_zero (fraction false num den))
-  meaning board (tiny miny num den) = tiny_form miny (or_zero (fraction false num den))
-  meaning board (sides lefts rights) = options (meanings board lefts) (meanings board rights)
-  meaning board (negative t) = minus (meaning board t)
-  meaning board (multiple n t) = many n (meaning board t)
-  meaning board (sum terms) = total board terms
-  meaning board (game kind rules text) = board kind rules text
+  pub meaning : PositionForms → Tree → Game
+  meaning forms (number below num den) = plain_number (or_zero (fraction below num den))
+  meaning forms (ups down n) = ups_form down n
+  meaning forms (nimber n) = nimber_form n
+  meaning forms (switch num den) = switch_form (or_zero (fraction false num den))
+  meaning forms (tiny miny num den) = tiny_form miny (or_zero (fraction false num den))
+  meaning forms (sides lefts rights) = options (meanings forms lefts) (meanings forms rights)
+  meaning forms (negative t) = minus (meaning forms t)
+  meaning forms (multiple n t) = many n (meaning forms t)
+  meaning forms (sum terms) = total forms terms
+  meaning forms (game kind rules text) = forms.of_board kind rules text
+  meaning forms (octal code heap) = forms.of_heap code heap
 
-  pub meanings : BoardForm → Trees → Games
-  meanings board no_trees = none
-  meanings board (with_tree t ts) = more (meaning board t) (meanings board ts)
+  pub meanings : PositionForms → Trees → Games
+  meanings forms no_trees = none
+  meanings forms (with_tree t ts) = more (meaning forms t) (meanings forms ts)
 
   -- the sum of the terms, from the first one on
-  pub total : BoardForm → Terms → Game
-  total board no_terms = plain_number (whole (pos 0))
-  total board (with_term subtracted t ts) = total_with board (signed subtracted (meaning board t)) ts
+  pub total : PositionForms → Terms → Game
+  total forms no_terms = plain_number (whole (pos 0))
+  total forms (with_term subtracted t ts) = total_with forms (signed subtracted (meaning forms t)) ts
 
   -- the sum of the game and the terms
-  pub total_with : BoardForm → Game → Terms → Game
-  total_with board g no_terms = g
-  total_with board g (with_term subtracted t ts) =
-      total_with board (plus g (signed subtracted (meaning board t))) ts
+  pub total_with : PositionForms → Game → Terms → Game
+  total_with forms g no_terms = g
+  total_with forms g (with_term subtracted t ts) =
+      total_with forms (plus g (signed subtracted (meaning forms t))) ts

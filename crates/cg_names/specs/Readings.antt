@@ -7,13 +7,15 @@ use Rattle.cg_form.specs.Shifted.{shifted}
 use Rattle.cg_cells.specs.Store.{State}
 use Rattle.cg_nodes.specs.Games.{IsGame, IsList, game_at, listed}
 use Rattle.cg_nodes.specs.Meant.{Meant}
-use Rattle.cg_names.specs.Named.{mirrored_if, nimber_form, nimbers_below, switch_form, tiny_form, ups_of}
+use Rattle.cg_names.specs.Named.{nimber_form, nimbers_below, switch_form, tiny_form, ups_of}
 use Rattle.cg_names.specs.Signs.{IsPositive}
 use Rattle.cg_names.specs.declared.shape.Few.{Few}
 use Rattle.cg_names.specs.declared.shape.Few.TheVariants.{One, Two, Other}
 use Rattle.cg_names.specs.declared.shape.Numbers.{Numbers}
 use Rattle.cg_names.specs.declared.look_star.StarFound.{StarFound}
 use Rattle.cg_names.specs.declared.look_arrows.ArrowsFound.{ArrowsFound}
+use Rattle.cg_names.specs.declared.sign.Sign.{Sign}
+use Rattle.cg_names.specs.declared.sign.Sign.TheVariants.{Star}
 
 -- one game, two games, or another number of games
 abbrev pub IsFew : {R : Type 0} → State Meant R → Few → List tree.Game → Type 0
@@ -44,6 +46,11 @@ stars_above x n = map (shifted x) (nimbers_below n)
 abbrev pub AreStars : List tree.Game → Option Number → Type 0
 AreStars gs None = (x : Number) (n : ℕ) → ¬ (gs ≡ stars_above x (suc n))
 AreStars gs (Some x) = (1 ≤ length gs) × (gs ≡ stars_above x (length gs))
+
+-- the number x of the sign of x + *n
+abbrev pub IsStarBase : Option Sign → Option Number → Type 0
+IsStarBase o None = (x : Number) (n : ℕ) → ¬ (o ≡ Some (Star x n))
+IsStarBase o (Some x) = (n : ℕ) × (o ≡ Some (Star x n))
 
 -- x + *n with n from 1 on
 abbrev pub IsStar : tree.Game → Option StarFound → Type 0

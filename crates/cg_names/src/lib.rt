@@ -14,6 +14,7 @@ mod look_arrows;
 mod look_hot;
 mod look_star;
 mod making;
+mod memo;
 mod naming;
 mod nimbers;
 mod shape;

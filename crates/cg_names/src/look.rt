@@ -1,83 +1,246 @@
-//! The sign of a game, by the shape of its options.
-ghost use Rattle.std.specs.Prelude.{◌≡◌, IfOk, true, false, Some, None};
-ghost use Rattle.cg_form.specs.Game.{node};
+//! The sign of a game, by the shape of its options and the signs of those.
+ghost use Rattle.std.specs.Prelude.{◌≡◌, IfOk, OnOk, Some, None, [], ◌∷◌};
+ghost use Rattle.cg_form.specs.Game.{node, number as number_form};
 ghost use Rattle.cg_cells.specs.Store.{Spends};
-ghost use Rattle.cg_nodes.specs.Games.{IsList, listed};
-ghost use Rattle.cg_names.specs.Readings.{IsArrows, IsStar};
+ghost use Rattle.cg_nodes.specs.Games.{AreGames, IsGame, IsList, game_at, games_at, listed};
+ghost use Rattle.cg_names.specs.Memos.{IsShape, Recalls};
+ghost use Rattle.cg_names.specs.Named.{mirrored_if};
+ghost use Rattle.cg_names.specs.Readings.{AreStars, IsArrows, IsStar};
 ghost use Rattle.cg_names.specs.Shapes.{sign_of};
 
-use crate::look_arrows::{arrows, arrows_sign};
-use crate::look_hot::{switch, tiny};
-use crate::look_star::star;
-use crate::shape::only;
+use crate::look_arrows::{
+    ArrowsFound, arrows_in, arrows_sign, level_star, one_more, starred_arrow,
+};
+use crate::look_hot::hot;
+use crate::look_star::{StarFound, are_one_list, one_star, star_on};
+use crate::memo::Memo;
+use crate::shape::{Few, number_at, one_or_two, only};
 use crate::sign::Sign;
 use cg_cells::CellStore;
-use cg_nodes::{BoardForms, GameFacts, ListId};
+use cg_dyadic::Dyadic;
+use cg_nodes::{BoardForms, GameFacts, Handle, ListId, Reading, handles, read};
 use std::alloc::{AllocError, Global};
 
-/// The sign of the game with these lists of options. The only error is want of memory.
-pub(crate) fn sign<B: BoardForms, S: CellStore<GameFacts<B>>>(
+/// What a handle stands for: a number, or a game with its lists of Left and of Right options and its sign, if it has one.
+#[derive(Clone, Copy, Debug)]
+pub(crate) enum Shape {
+    /// A number.
+    Number(Dyadic),
+    /// Another game.
+    Game(ListId, ListId, Option<Sign>),
+}
+
+/// What the handle stands for. The sign of each game is found once, and from then on is in the memo. The only error is want
+/// of memory.
+#[cycle(look)]
+pub(crate) fn look<B: BoardForms, S: CellStore<GameFacts<B>>>(
     alloc: Global,
     store: &mut S,
+    memo: &mut Memo,
+    handle: Handle,
+) -> Result<Shape, AllocError>
+    requires game { IsGame (S.state store.old) handle }
+    requires memo { Recalls (S.state store.old) memo.old }
+    ensures look { IfOk result (λ l. IsShape (S.state store.new) l (game_at (S.state store.old) handle)) }
+    ensures memo { OnOk result (Recalls (S.state store.new) memo.new) }
+    ensures spends { Spends 0 (S.state store.old) (S.state store.new) }
+{
+    match read(store, handle) {
+        Reading::Number(x) => Ok(Shape::Number(x)),
+        Reading::Game(lefts, rights) => {
+            let sign = sign(alloc, store, memo, handle, lefts, rights)?;
+            Ok(Shape::Game(lefts, rights, sign))
+        }
+    }
+}
+
+/// The sign of the game of the handle, which has these lists of options: from the memo, or else by its shape.
+#[cycle(look)]
+fn sign<B: BoardForms, S: CellStore<GameFacts<B>>>(
+    alloc: Global,
+    store: &mut S,
+    memo: &mut Memo,
+    handle: Handle,
+    lefts: ListId,
+    rights: ListId,
+) -> Result<Option<Sign>, AllocError>
+    requires game { IsGame (S.state store.old) handle }
+    requires lefts { IsList (S.state store.old) lefts }
+    requires rights { IsList (S.state store.old) rights }
+    requires options { let W = S.state store.old in game_at W handle ≡ node (listed W lefts) (listed W rights) }
+    requires memo { Recalls (S.state store.old) memo.old }
+    ensures sign { IfOk result (λ s. s ≡ sign_of (game_at (S.state store.old) handle)) }
+    ensures memo { OnOk result (Recalls (S.state store.new) memo.new) }
+    ensures spends { Spends 0 (S.state store.old) (S.state store.new) }
+{
+    let id = handle.id().number();
+    match memo.recall(id) {
+        Some(sign) => Ok(sign),
+        None => {
+            let sign = sign_by_shape(alloc, store, memo, lefts, rights)?;
+            memo.remember(id, &sign)?;
+            Ok(sign)
+        }
+    }
+}
+
+/// The sign of the game with these lists of options, by its shape.
+#[cycle(look)]
+fn sign_by_shape<B: BoardForms, S: CellStore<GameFacts<B>>>(
+    alloc: Global,
+    store: &mut S,
+    memo: &mut Memo,
     lefts: ListId,
     rights: ListId,
 ) -> Result<Option<Sign>, AllocError>
     requires lefts { IsList (S.state store.old) lefts }
     requires rights { IsList (S.state store.old) rights }
+    requires memo { Recalls (S.state store.old) memo.old }
     ensures sign { let W = S.state store.old in IfOk result (λ s. s ≡ sign_of
         (node (listed W lefts) (listed W rights))) }
+    ensures memo { OnOk result (Recalls (S.state store.new) memo.new) }
     ensures spends { Spends 0 (S.state store.old) (S.state store.new) }
 {
-    match star(alloc, store, lefts, rights)? {
+    match star(alloc, store, memo, lefts, rights)? {
         Some(found) => Ok(Some(Sign::Star(found.base, found.count))),
-        None => arrows_or_hot(store, lefts, rights),
+        None => arrows_or_hot(alloc, store, memo, lefts, rights),
+    }
+}
+
+/// The number x and the count n of `x + *n`, with n from 1 on.
+#[cycle(look)]
+fn star<B: BoardForms, S: CellStore<GameFacts<B>>>(
+    alloc: Global,
+    store: &mut S,
+    memo: &mut Memo,
+    lefts: ListId,
+    rights: ListId,
+) -> Result<Option<StarFound>, AllocError>
+    requires lefts { IsList (S.state store.old) lefts }
+    requires rights { IsList (S.state store.old) rights }
+    requires memo { Recalls (S.state store.old) memo.old }
+    ensures star { let W = S.state store.old in IfOk result (IsStar (node (listed W lefts) (listed W rights))) }
+    ensures memo { OnOk result (Recalls (S.state store.new) memo.new) }
+    ensures spends { Spends 0 (S.state store.old) (S.state store.new) }
+{
+    if !are_one_list(store, lefts, rights) {
+        return Ok(None);
+    }
+    let options = handles(alloc, store, lefts)?;
+    match stars(alloc, store, memo, options.as_slice())? {
+        None => Ok(None),
+        Some(base) => Ok(Some(StarFound {
+            base,
+            count: options.len() as u64,
+        })),
+    }
+}
+
+/// The number x where the games are x, x + *, x + *2 and so on. The sign of the last one tells what the others must be.
+#[cycle(look)]
+fn stars<B: BoardForms, S: CellStore<GameFacts<B>>>(
+    alloc: Global,
+    store: &mut S,
+    memo: &mut Memo,
+    options: &[Handle],
+) -> Result<Option<Dyadic>, AllocError>
+    requires games { AreGames (S.state store.old) options.now }
+    requires memo { Recalls (S.state store.old) memo.old }
+    ensures stars { IfOk result (AreStars (games_at (S.state store.old) options.now)) }
+    ensures memo { OnOk result (Recalls (S.state store.new) memo.new) }
+    ensures spends { Spends 0 (S.state store.old) (S.state store.new) }
+{
+    if options.is_empty() {
+        return Ok(None);
+    }
+    let place = options.len() - 1;
+    match look(alloc, store, memo, options[place])? {
+        Shape::Number(x) => Ok(one_star(x, place)),
+        Shape::Game(lefts, _, sign) => Ok(star_on(store, lefts, &sign, &options[..place])),
     }
 }
 
 /// The sign of a game that has none with a nimber alone.
+#[cycle(look)]
 fn arrows_or_hot<B: BoardForms, S: CellStore<GameFacts<B>>>(
+    alloc: Global,
     store: &mut S,
+    memo: &mut Memo,
     lefts: ListId,
     rights: ListId,
 ) -> Result<Option<Sign>, AllocError>
     requires lefts { IsList (S.state store.old) lefts }
     requires rights { IsList (S.state store.old) rights }
     requires no_star { let W = S.state store.old in IsStar (node (listed W lefts) (listed W rights)) None }
+    requires memo { Recalls (S.state store.old) memo.old }
     ensures sign { let W = S.state store.old in IfOk result (λ s. s ≡ sign_of
         (node (listed W lefts) (listed W rights))) }
+    ensures memo { OnOk result (Recalls (S.state store.new) memo.new) }
     ensures spends { Spends 0 (S.state store.old) (S.state store.new) }
 {
-    match arrows(store, false, lefts, rights)? {
+    match arrows(alloc, store, memo, false, lefts, rights)? {
         Some(found) => Ok(Some(arrows_sign(false, &found))),
-        None => match arrows(store, true, rights, lefts)? {
+        None => match arrows(alloc, store, memo, true, rights, lefts)? {
             Some(found) => Ok(Some(arrows_sign(true, &found))),
             None => Ok(hot(store, lefts, rights)),
         },
     }
 }
 
-/// The sign of a game that has none with a nimber or arrows.
-fn hot<B: BoardForms, S: CellStore<GameFacts<B>>>(
+/// The ups of the game with these lists, or its downs, of which the lists are given the other way round; `x + *` has none
+/// of them, starred. A count past every table's size is answered as want of memory.
+#[cycle(look)]
+fn arrows<B: BoardForms, S: CellStore<GameFacts<B>>>(
+    alloc: Global,
     store: &mut S,
-    lefts: ListId,
-    rights: ListId,
-) -> Option<Sign>
-    requires lefts { IsList (S.state store.old) lefts }
-    requires rights { IsList (S.state store.old) rights }
-    requires no_star { let W = S.state store.old in IsStar (node (listed W lefts) (listed W rights)) None }
-    requires no_ups { let W = S.state store.old in IsArrows false (node (listed W lefts) (listed W rights)) None }
-    requires no_downs { let W = S.state store.old in IsArrows true (node (listed W lefts) (listed W rights)) None }
-    ensures sign { let W = S.state store.old in result ≡ sign_of (node (listed W lefts) (listed W rights)) }
+    memo: &mut Memo,
+    down: bool,
+    own: ListId,
+    others: ListId,
+) -> Result<Option<ArrowsFound>, AllocError>
+    requires own { IsList (S.state store.old) own }
+    requires others { IsList (S.state store.old) others }
+    requires memo { Recalls (S.state store.old) memo.old }
+    ensures arrows { let W = S.state store.old in IfOk result (IsArrows down
+        (mirrored_if down (listed W own) (listed W others))) }
+    ensures memo { OnOk result (Recalls (S.state store.new) memo.new) }
     ensures spends { Spends 0 (S.state store.old) (S.state store.new) }
 {
-    match switch(store, lefts, rights) {
-        Some(x) => Some(Sign::Switch(x)),
-        None => match tiny(store, false, lefts, rights) {
-            Some(x) => Some(Sign::Tiny(false, x)),
-            None => match tiny(store, true, rights, lefts) {
-                Some(x) => Some(Sign::Tiny(true, x)),
-                None => None,
+    match only(store, others) {
+        None => Ok(None),
+        Some(last) => match one_or_two(store, own) {
+            Few::One(first) => match number_at(store, first) {
+                None => Ok(None),
+                Some(x) => arrows_on(alloc, store, memo, down, x, last),
             },
+            Few::Two(first, second) => Ok(starred_arrow(store, first, second, last)),
+            Few::Other => Ok(None),
+        },
+    }
+}
+
+/// The ups of `{x|last}`, or the downs of `{last|x}`.
+#[cycle(look)]
+fn arrows_on<B: BoardForms, S: CellStore<GameFacts<B>>>(
+    alloc: Global,
+    store: &mut S,
+    memo: &mut Memo,
+    down: bool,
+    x: Dyadic,
+    last: Handle,
+) -> Result<Option<ArrowsFound>, AllocError>
+    requires game { IsGame (S.state store.old) last }
+    requires memo { Recalls (S.state store.old) memo.old }
+    ensures arrows { IfOk result (IsArrows down
+        (mirrored_if down (number_form x ∷ []) (game_at (S.state store.old) last ∷ []))) }
+    ensures memo { OnOk result (Recalls (S.state store.new) memo.new) }
+    ensures spends { Spends 0 (S.state store.old) (S.state store.new) }
+{
+    match look(alloc, store, memo, last)? {
+        Shape::Number(y) => Ok(level_star(x, y)),
+        Shape::Game(_, _, sign) => match arrows_in(down, &sign) {
+            None => Ok(None),
+            Some(found) => one_more(x, &found),
         },
     }
 }

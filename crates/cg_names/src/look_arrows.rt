@@ -1,17 +1,18 @@
 //! Numbers and ups or downs by the shape of their options.
-ghost use Rattle.std.specs.Prelude.{◌≡◌, Bool, cond, IfOk, true, Some, None, [], ◌∷◌};
+ghost use Rattle.std.specs.Prelude.{◌≡◌, Bool, IfOk, Some, [], ◌∷◌};
 ghost use Rattle.cg_form.specs.Game.{Game, number as number_form};
 ghost use Rattle.cg_cells.specs.Store.{Spends};
-ghost use Rattle.cg_nodes.specs.Games.{IsGame, IsList, IsNode, StandsFor, game_at, listed};
+ghost use Rattle.cg_nodes.specs.Games.{IsGame, IsNode, StandsFor, game_at};
 ghost use Rattle.cg_names.specs.Named.{mirrored_if};
 ghost use Rattle.cg_names.specs.Readings.{IsArrows};
+ghost use Rattle.cg_names.specs.Shapes.{sign_of};
 
 use crate::hot::is_same;
-use crate::shape::{Few, is_over, number_at, numbers_at, one_or_two, only};
+use crate::shape::{is_over, numbers_at};
 use crate::sign::Sign;
 use cg_cells::CellStore;
 use cg_dyadic::Dyadic;
-use cg_nodes::{BoardForms, GameFacts, Handle, ListId, Reading, read};
+use cg_nodes::{BoardForms, GameFacts, Handle};
 use std::alloc::AllocError;
 
 /// A number and so many ups or downs, and `*` where it is starred.
@@ -34,76 +35,60 @@ pub(crate) fn arrows_sign(down: bool, found: &ArrowsFound) -> Sign
     }
 }
 
-/// The ups of the game with these lists, or its downs, of which the lists are given the other way round; `x + *` has none
-/// of them, starred. A count past every table's size is answered as want of memory.
-#[cycle(arrows)]
-pub(crate) fn arrows<B: BoardForms, S: CellStore<GameFacts<B>>>(
-    store: &mut S,
-    down: bool,
-    own: ListId,
-    others: ListId,
-) -> Result<Option<ArrowsFound>, AllocError>
-    requires own { IsList (S.state store.old) own }
-    requires others { IsList (S.state store.old) others }
-    ensures arrows { let W = S.state store.old in IfOk result (IsArrows down
-        (mirrored_if down (listed W own) (listed W others))) }
-    ensures spends { Spends 0 (S.state store.old) (S.state store.new) }
+/// The ups, or the downs, that a game with this sign is, if it has one; `x + *` is none of them, starred.
+pub(crate) fn arrows_in(down: bool, sign: &Option<Sign>) -> Option<ArrowsFound>
+    ensures { (g : Game) → IsNode g → sign.now ≡ sign_of g → IsArrows down g result }
 {
-    match only(store, others) {
-        None => Ok(None),
-        Some(last) => match one_or_two(store, own) {
-            Few::One(first) => match number_at(store, first) {
-                None => Ok(None),
-                Some(x) => arrows_on(store, down, x, last),
-            },
-            Few::Two(first, second) => Ok(starred_arrow(store, first, second, last)),
-            Few::Other => Ok(None),
-        },
+    match sign {
+        None => None,
+        Some(found) => arrows_of(down, found),
     }
 }
 
-/// The ups of `{x|last}`, or the downs of `{last|x}`.
-#[cycle(arrows)]
-fn arrows_on<B: BoardForms, S: CellStore<GameFacts<B>>>(
-    store: &mut S,
-    down: bool,
-    x: Dyadic,
-    last: Handle,
-) -> Result<Option<ArrowsFound>, AllocError>
-    requires { IsGame (S.state store.old) last }
-    ensures arrows { IfOk result (IsArrows down
-        (mirrored_if down (number_form x ∷ []) (game_at (S.state store.old) last ∷ []))) }
-    ensures spends { Spends 0 (S.state store.old) (S.state store.new) }
+/// The ups, or the downs, that a game with this sign is.
+fn arrows_of(down: bool, sign: &Sign) -> Option<ArrowsFound>
+    ensures { (g : Game) → IsNode g → Some sign.now ≡ sign_of g → IsArrows down g result }
 {
-    match read(store, last) {
-        Reading::Number(y) => Ok(level_star(x, y)),
-        Reading::Game(lefts, rights) => {
-            let own = own_of(down, lefts, rights);
-            let others = others_of(down, lefts, rights);
-            match arrows(store, down, own, others)? {
-                None => Ok(None),
-                Some(found) => one_more(x, &found),
+    match sign {
+        Sign::Star(base, count) => level_at(*base, *count),
+        Sign::Arrows {
+            down: turned,
+            starred,
+            base,
+            count,
+        } => {
+            if *turned == down {
+                Some(ArrowsFound {
+                    base: *base,
+                    starred: *starred,
+                    count: *count,
+                })
+            } else {
+                None
             }
         }
+        Sign::Switch(_) => None,
+        Sign::Tiny(_, _) => None,
     }
 }
 
-/// The list of the side that ups favour, or downs.
-fn own_of(down: bool, lefts: ListId, rights: ListId) -> ListId
-    ensures { result ≡ cond down rights lefts }
+/// The `x + *` that `x + *n` is where n is 1.
+fn level_at(x: Dyadic, count: u64) -> Option<ArrowsFound>
+    ensures { (down : Bool) (g : Game) → IsNode g → Some (Sign.Star x count) ≡ sign_of g → IsArrows down g result }
 {
-    if down { rights } else { lefts }
-}
-
-/// The list of the other side.
-fn others_of(down: bool, lefts: ListId, rights: ListId) -> ListId
-    ensures { result ≡ cond down lefts rights }
-{
-    if down { lefts } else { rights }
+    if count == 1 {
+        Some(ArrowsFound {
+            base: x,
+            starred: true,
+            count: 0,
+        })
+    } else {
+        None
+    }
 }
 
 /// The `x + *` that `{x|y}` is where y is x.
-fn level_star(x: Dyadic, y: Dyadic) -> Option<ArrowsFound>
+pub(crate) fn level_star(x: Dyadic, y: Dyadic) -> Option<ArrowsFound>
     ensures { (down : Bool) → IsArrows down (mirrored_if down (number_form x ∷ []) (number_form y ∷ [])) result }
 {
     if is_same(x, y) {
@@ -118,7 +103,7 @@ fn level_star(x: Dyadic, y: Dyadic) -> Option<ArrowsFound>
 }
 
 /// The ups of `{x|g}` where those of g are found, or the downs of `{g|x}`.
-fn one_more(x: Dyadic, found: &ArrowsFound) -> Result<Option<ArrowsFound>, AllocError>
+pub(crate) fn one_more(x: Dyadic, found: &ArrowsFound) -> Result<Option<ArrowsFound>, AllocError>
     ensures { (down : Bool) (g : Game) → IsNode g → IsArrows down g (Some found.now) → IfOk result (IsArrows down
         (mirrored_if down (number_form x ∷ []) (g ∷ []))) }
 {
@@ -138,7 +123,7 @@ fn one_more(x: Dyadic, found: &ArrowsFound) -> Result<Option<ArrowsFound>, Alloc
 
 /// The `x + ^*` that the game `{first,second|last}` is where first and last are x and second is x + *, or the `x + v*`
 /// that its mirror image is.
-fn starred_arrow<B: BoardForms, S: CellStore<GameFacts<B>>>(
+pub(crate) fn starred_arrow<B: BoardForms, S: CellStore<GameFacts<B>>>(
     store: &mut S,
     first: Handle,
     second: Handle,

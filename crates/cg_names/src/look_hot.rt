@@ -1,20 +1,48 @@
 //! Switches, tinies and minies by the shape of their options.
-ghost use Rattle.std.specs.Prelude.{◌≡◌, ◌↔◌, not, cond, IsTrue, Some, None, [], ◌∷◌};
+ghost use Rattle.std.specs.Prelude.{◌≡◌, ◌↔◌, true, false, not, cond, IsTrue, Some, None, [], ◌∷◌};
 ghost use Rattle.cg_dyadic.specs.Number.{number_le};
 ghost use Rattle.cg_form.specs.Game.{Game, node, number as number_form};
 ghost use Rattle.cg_cells.specs.Store.{Spends};
 ghost use Rattle.cg_nodes.specs.Games.{IsGame, IsList, game_at, listed};
 ghost use Rattle.cg_dyadic.specs.Exact.{number_negative};
 ghost use Rattle.cg_names.specs.Named.{mirrored_if, pair_form, zero_number};
-ghost use Rattle.cg_names.specs.Readings.{IsSwitch, IsTiny};
+ghost use Rattle.cg_names.specs.Readings.{IsArrows, IsStar, IsSwitch, IsTiny};
+ghost use Rattle.cg_names.specs.Shapes.{sign_of};
 ghost use Rattle.cg_names.specs.Signs.{IsPositive};
 
 use crate::hot::{is_same, opposite};
 use crate::making::zero;
 use crate::shape::{Numbers, number_at, numbers_of, only};
+use crate::sign::Sign;
 use cg_cells::CellStore;
 use cg_dyadic::Dyadic;
 use cg_nodes::{BoardForms, GameFacts, Handle, ListId, Reading, read};
+
+/// The sign of a game that has none with a nimber or arrows.
+pub(crate) fn hot<B: BoardForms, S: CellStore<GameFacts<B>>>(
+    store: &mut S,
+    lefts: ListId,
+    rights: ListId,
+) -> Option<Sign>
+    requires lefts { IsList (S.state store.old) lefts }
+    requires rights { IsList (S.state store.old) rights }
+    requires no_star { let W = S.state store.old in IsStar (node (listed W lefts) (listed W rights)) None }
+    requires no_ups { let W = S.state store.old in IsArrows false (node (listed W lefts) (listed W rights)) None }
+    requires no_downs { let W = S.state store.old in IsArrows true (node (listed W lefts) (listed W rights)) None }
+    ensures sign { let W = S.state store.old in result ≡ sign_of (node (listed W lefts) (listed W rights)) }
+    ensures spends { Spends 0 (S.state store.old) (S.state store.new) }
+{
+    match switch(store, lefts, rights) {
+        Some(x) => Some(Sign::Switch(x)),
+        None => match tiny(store, false, lefts, rights) {
+            Some(x) => Some(Sign::Tiny(false, x)),
+            None => match tiny(store, true, rights, lefts) {
+                Some(x) => Some(Sign::Tiny(true, x)),
+                None => None,
+            },
+        },
+    }
+}
 
 /// Whether the number is above 0.
 fn is_positive(x: Dyadic) -> bool
@@ -24,7 +52,7 @@ fn is_positive(x: Dyadic) -> bool
 }
 
 /// The number of the switch of one above 0.
-pub(crate) fn switch<B: BoardForms, S: CellStore<GameFacts<B>>>(
+fn switch<B: BoardForms, S: CellStore<GameFacts<B>>>(
     store: &mut S,
     lefts: ListId,
     rights: ListId,
@@ -50,7 +78,7 @@ fn switch_size(pair: &Numbers) -> Option<Dyadic>
 }
 
 /// The number of tiny of one above 0, or of miny, of which the lists are given the other way round.
-pub(crate) fn tiny<B: BoardForms, S: CellStore<GameFacts<B>>>(
+fn tiny<B: BoardForms, S: CellStore<GameFacts<B>>>(
     store: &mut S,
     miny: bool,
     own: ListId,

@@ -1,15 +1,16 @@
 //! Numbers and nimbers by the shape of their options.
-ghost use Rattle.std.specs.Prelude.{◌≡◌, IfOk, true, false, take, length, Some, None};
-ghost use Rattle.cg_form.specs.Game.{node};
+ghost use Rattle.std.specs.Prelude.{◌≡◌, List, true, false, length, [], ◌∷◌, ◌++◌};
+ghost use Rattle.cg_form.specs.Game.{Game, node, number as number_form};
 ghost use Rattle.cg_cells.specs.Store.{Spends};
 ghost use Rattle.cg_nodes.specs.Games.{AreGames, IsList, games_at, listed};
-ghost use Rattle.cg_names.specs.Readings.{AreStars, IsStar, stars_above};
+ghost use Rattle.cg_names.specs.Readings.{AreStars, IsStarBase};
+ghost use Rattle.cg_names.specs.Shapes.{sign_of};
 
-use crate::shape::{is_list, is_over, number_at};
+use crate::shape::is_list;
+use crate::sign::Sign;
 use cg_cells::CellStore;
 use cg_dyadic::Dyadic;
-use cg_nodes::{BoardForms, GameFacts, Handle, ListId, handles};
-use std::alloc::{AllocError, Global};
+use cg_nodes::{BoardForms, GameFacts, Handle, ListId};
 
 /// A number and a nimber.
 #[derive(Clone, Copy, Debug)]
@@ -18,71 +19,69 @@ pub(crate) struct StarFound {
     pub(crate) count: u64,
 }
 
-/// The number x and the count n of `x + *n`, with n from 1 on.
-pub(crate) fn star<B: BoardForms, S: CellStore<GameFacts<B>>>(
-    alloc: Global,
-    store: &mut S,
+/// Whether the two lists have the same games, which they have exactly where they are one list.
+pub(crate) fn are_one_list<B: BoardForms, S: CellStore<GameFacts<B>>>(
+    store: &S,
     lefts: ListId,
     rights: ListId,
-) -> Result<Option<StarFound>, AllocError>
-    requires lefts { IsList (S.state store.old) lefts }
-    requires rights { IsList (S.state store.old) rights }
-    ensures star { let W = S.state store.old in IfOk result (IsStar (node (listed W lefts) (listed W rights))) }
-    ensures spends { Spends 0 (S.state store.old) (S.state store.new) }
+) -> bool
+    requires lefts { IsList (S.state store.now) lefts }
+    requires rights { IsList (S.state store.now) rights }
+    ensures same { result ≡ true → listed (S.state store.now) lefts ≡ listed (S.state store.now) rights }
+    ensures other { result ≡ false → ¬ (listed (S.state store.now) lefts ≡ listed (S.state store.now) rights) }
 {
-    let options = handles(alloc, store, lefts)?;
-    if !is_list(store, rights, options.as_slice()) {
-        return Ok(None);
-    }
-    match stars(store, options.as_slice()) {
-        None => Ok(None),
-        Some(base) => Ok(Some(StarFound {
-            base,
-            count: options.len() as u64,
-        })),
+    store.apart();
+    lefts == rights
+}
+
+/// The number x where the games are x, x + *, x + *2 and so on, of which the last one, at this place, is a number.
+pub(crate) fn one_star(x: Dyadic, place: usize) -> Option<Dyadic>
+    ensures { (gs : List Game) → length gs ≡ place → AreStars (gs ++ (number_form x ∷ [])) result }
+{
+    if place == 0 { Some(x) } else { None }
+}
+
+/// The number x of the sign of `x + *n`.
+fn star_base(sign: &Option<Sign>) -> Option<Dyadic>
+    ensures { IsStarBase sign.now result }
+{
+    match sign {
+        None => None,
+        Some(Sign::Star(base, _)) => Some(*base),
+        Some(
+            Sign::Arrows {
+                down: _,
+                starred: _,
+                base: _,
+                count: _,
+            },
+        ) => None,
+        Some(Sign::Switch(_)) => None,
+        Some(Sign::Tiny(_, _)) => None,
     }
 }
 
-/// The number x where the games are x, x + *, x + *2 and so on.
-fn stars<B: BoardForms, S: CellStore<GameFacts<B>>>(
+/// The number x where the games are x, x + *, x + *2 and so on, of which the last one has this sign and these Left options.
+pub(crate) fn star_on<B: BoardForms, S: CellStore<GameFacts<B>>>(
     store: &mut S,
-    options: &[Handle],
+    lefts: ListId,
+    sign: &Option<Sign>,
+    others: &[Handle],
 ) -> Option<Dyadic>
-    requires { AreGames (S.state store.old) options.now }
-    ensures stars { AreStars (games_at (S.state store.old) options.now) result }
+    requires lefts { IsList (S.state store.old) lefts }
+    requires others { AreGames (S.state store.old) others.now }
+    ensures stars { let W = S.state store.old in (rs : List Game) → sign.now ≡ sign_of (node (listed W lefts) rs)
+        → AreStars (games_at W others.now ++ (node (listed W lefts) rs ∷ [])) result }
     ensures spends { Spends 0 (S.state store.old) (S.state store.new) }
 {
-    if options.is_empty() {
-        return None;
-    }
-    match number_at(store, options[0]) {
+    match star_base(sign) {
         None => None,
         Some(base) => {
-            if are_stars(store, base, options) {
+            if is_list(store, lefts, others) {
                 Some(base)
             } else {
                 None
             }
         }
     }
-}
-
-/// Whether the games, the first of which is the number x, are x, x + *, x + *2 and so on.
-fn are_stars<B: BoardForms, S: CellStore<GameFacts<B>>>(
-    store: &mut S,
-    x: Dyadic,
-    options: &[Handle],
-) -> bool
-    requires games { AreGames (S.state store.old) options.now }
-    requires first { games_at (S.state store.old) (take 1 options.now) ≡ stars_above x 1 }
-    ensures same { let gs = games_at (S.state store.old) options.now in result ≡ true → gs ≡ stars_above x (length gs) }
-    ensures other { let gs = games_at (S.state store.old) options.now in result ≡ false → AreStars gs None }
-    ensures spends { Spends 0 (S.state store.old) (S.state store.new) }
-{
-    for place in 1..options.len() {
-        if !is_over(store, options[place], &options[..place]) {
-            return false;
-        }
-    }
-    true
 }

@@ -5,17 +5,19 @@ ghost use Rattle.cg_form.specs.Depth.{depth_of};
 ghost use Rattle.cg_form.specs.Game.{of_list};
 ghost use Rattle.cg_cells.specs.Store.{Spends};
 ghost use Rattle.cg_nodes.specs.Games.{IsGame, IsList, game_at, listed};
+ghost use Rattle.cg_names.specs.Memos.{Recalls};
 ghost use Rattle.cg_names.specs.Name.{IsName, braces_name, name_of, names_of, further_names};
 ghost use Rattle.cg_names.specs.Reading.{ReadsAs, most_open};
 ghost use Rattle.cg_names.specs.Signs.{arrows_text, base_text, sign_text, star_text};
 
 use crate::hot::is_same;
-use crate::look::sign;
+use crate::look::{Shape, look};
 use crate::making::zero;
+use crate::memo::Memo;
 use crate::sign::Sign;
 use cg_cells::CellStore;
 use cg_dyadic::Dyadic;
-use cg_nodes::{BoardForms, GameFacts, Handle, ListId, Reading, head, known_game, read};
+use cg_nodes::{BoardForms, GameFacts, Handle, ListId, head, known_game};
 use std::alloc::{AllocError, Global};
 
 /// The name of the game, by the first of these rules that fits:
@@ -45,8 +47,9 @@ pub fn name<B: BoardForms, S: CellStore<GameFacts<B>>>(
     ensures spends { Spends 0 (S.state store.old) (S.state store.new) }
 {
     known_game(store, handle);
+    let mut memo = Memo::new(alloc);
     let mut text = String::new(alloc);
-    push_name(alloc, store, &mut text, handle)?;
+    push_name(alloc, store, &mut memo, &mut text, handle)?;
     Ok(text)
 }
 
@@ -55,19 +58,22 @@ pub fn name<B: BoardForms, S: CellStore<GameFacts<B>>>(
 fn push_name<B: BoardForms, S: CellStore<GameFacts<B>>>(
     alloc: Global,
     store: &mut S,
+    memo: &mut Memo,
     text: &mut String,
     handle: Handle,
 ) -> Result<(), AllocError>
     requires game { IsGame (S.state store.old) handle }
+    requires memo { Recalls (S.state store.old) memo.old }
     ensures text { OnOk result (string_bytes text.new ≡ string_bytes text.old ++ name_of
         (game_at (S.state store.old) handle)) }
+    ensures memo { OnOk result (Recalls (S.state store.new) memo.new) }
     ensures spends { Spends 0 (S.state store.old) (S.state store.new) }
 {
-    match read(store, handle) {
-        Reading::Number(number) => push_number(alloc, text, number),
-        Reading::Game(lefts, rights) => match sign(alloc, store, lefts, rights)? {
+    match look(alloc, store, memo, handle)? {
+        Shape::Number(number) => push_number(alloc, text, number),
+        Shape::Game(lefts, rights, sign) => match sign {
             Some(sign) => push_sign(alloc, text, &sign),
-            None => push_braces(alloc, store, text, lefts, rights),
+            None => push_braces(alloc, store, memo, text, lefts, rights),
         },
     }
 }
@@ -77,20 +83,23 @@ fn push_name<B: BoardForms, S: CellStore<GameFacts<B>>>(
 fn push_braces<B: BoardForms, S: CellStore<GameFacts<B>>>(
     alloc: Global,
     store: &mut S,
+    memo: &mut Memo,
     text: &mut String,
     lefts: ListId,
     rights: ListId,
 ) -> Result<(), AllocError>
     requires lefts { IsList (S.state store.old) lefts }
     requires rights { IsList (S.state store.old) rights }
+    requires memo { Recalls (S.state store.old) memo.old }
     ensures text { let W = S.state store.old in OnOk result (string_bytes text.new ≡ string_bytes text.old
         ++ braces_name (names_of (of_list (listed W lefts))) (names_of (of_list (listed W rights)))) }
+    ensures memo { OnOk result (Recalls (S.state store.new) memo.new) }
     ensures spends { Spends 0 (S.state store.old) (S.state store.new) }
 {
     text.push_str("{")?;
-    push_names(alloc, store, text, lefts)?;
+    push_names(alloc, store, memo, text, lefts)?;
     text.push_str("|")?;
-    push_names(alloc, store, text, rights)?;
+    push_names(alloc, store, memo, text, rights)?;
     text.push_str("}")
 }
 
@@ -183,19 +192,22 @@ fn push_arrows(alloc: Global, text: &mut String, arrow: &str, count: u64) -> Res
 fn push_names<B: BoardForms, S: CellStore<GameFacts<B>>>(
     alloc: Global,
     store: &mut S,
+    memo: &mut Memo,
     text: &mut String,
     list: ListId,
 ) -> Result<(), AllocError>
     requires list { IsList (S.state store.old) list }
+    requires memo { Recalls (S.state store.old) memo.old }
     ensures text { OnOk result (string_bytes text.new ≡ string_bytes text.old ++ names_of
         (of_list (listed (S.state store.old) list))) }
+    ensures memo { OnOk result (Recalls (S.state store.new) memo.new) }
     ensures spends { Spends 0 (S.state store.old) (S.state store.new) }
 {
     match head(store, list) {
         None => Ok(()),
         Some(top) => {
-            push_name(alloc, store, text, top.first)?;
-            push_further(alloc, store, text, top.rest)
+            push_name(alloc, store, memo, text, top.first)?;
+            push_further(alloc, store, memo, text, top.rest)
         }
     }
 }
@@ -205,18 +217,21 @@ fn push_names<B: BoardForms, S: CellStore<GameFacts<B>>>(
 fn push_further<B: BoardForms, S: CellStore<GameFacts<B>>>(
     alloc: Global,
     store: &mut S,
+    memo: &mut Memo,
     text: &mut String,
     list: ListId,
 ) -> Result<(), AllocError>
     requires list { IsList (S.state store.old) list }
+    requires memo { Recalls (S.state store.old) memo.old }
     ensures text { OnOk result (string_bytes text.new ≡ string_bytes text.old ++ further_names
         (of_list (listed (S.state store.old) list))) }
+    ensures memo { OnOk result (Recalls (S.state store.new) memo.new) }
     ensures spends { Spends 0 (S.state store.old) (S.state store.new) }
 {
     let mut left = list;
     while let Some(top) = head(store, left) {
         text.push_str(",")?;
-        push_name(alloc, store, text, top.first)?;
+        push_name(alloc, store, memo, text, top.first)?;
         left = top.rest;
     }
     Ok(())

@@ -1,5 +1,5 @@
 use Rattle.std.proofs.Common.{◌≡◌, ap, sym, ◌∙◌, [], ◌∷◌}
-use Rattle.cg_form.specs.Game.{Game, number}
+use Rattle.cg_form.specs.Game.{number}
 use Rattle.cg_nodes.specs.Games.{game_at}
 use Rattle.cg_nodes.proofs.Later.{game_later}
 use Rattle.cg_names.proofs.Looks.{arrows-same, not_same_number, two-both}

@@ -1,4 +1,4 @@
-use Rattle.std.proofs.Common.{◌≡◌, ◌≤◌, ap, sym, ◌∙◌, ◌++◌, subst, List, ℕ, string_bytes}
+use Rattle.std.proofs.Common.{◌≤◌, ap, sym, ◌∙◌, ◌++◌, subst, List, ℕ}
 use Rattle.cg_nodes.specs.Games.{game_at}
 use Rattle.cg_names.specs.Name.{name_of}
 use Rattle.cg_names.specs.Reading.{ReadsAs, most_open}

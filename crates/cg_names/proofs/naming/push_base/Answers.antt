@@ -1,6 +1,5 @@
-use Rattle.std.proofs.Common.{◌≡◌, ap, sym, ◌∙◌, subst, append-nil, ◌++◌, List, ℕ, [], string_bytes}
+use Rattle.std.proofs.Common.{◌≡◌, ap, sym, ◌∙◌, subst, append-nil, ◌++◌, List, ℕ, string_bytes}
 use Rattle.std.specs.Prelude.{OnOk}
-use Rattle.cg_dyadic.specs.Number.{Number}
 use Rattle.cg_names.proofs.Guessing.{base-none, base-some}
 use Rattle.cg_names.proofs.naming.push_base.Goals as goal
 

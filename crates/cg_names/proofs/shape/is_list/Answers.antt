@@ -1,4 +1,3 @@
-use Rattle.std.proofs.Common.{ℕ, ◌≤◌, arith}
 use Rattle.cg_nodes.proofs.Later.{is_game_later}
 use Rattle.cg_names.proofs.Listing.{item_known, listed_breaks, listed_longer, listed_more}
 use Rattle.cg_names.proofs.shape.is_list.Goals as goal

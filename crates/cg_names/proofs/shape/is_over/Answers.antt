@@ -1,4 +1,4 @@
-use Rattle.cg_nodes.proofs.Later.{are_games_later, is_list_later, spends_then}
+use Rattle.cg_nodes.proofs.Later.{are_games_later, spends_then}
 use Rattle.cg_names.proofs.Listing.{over-found, over-not_left, over-not_right}
 use Rattle.cg_names.proofs.shape.is_over.Goals as goal
 

@@ -1,4 +1,4 @@
-use Rattle.std.proofs.Common.{◌∙◌, sym}
+use Rattle.std.proofs.Common.{◌∙◌}
 use Rattle.cg_form.specs.Game.{number}
 use Rattle.cg_nodes.proofs.Later.{listed_later}
 use Rattle.cg_names.proofs.Looks.{pair-lefts, pair-rights}

@@ -1,7 +1,7 @@
 use Rattle.cg_nodes.proofs.Later.{spends_then}
 use Rattle.cg_names.proofs.SignSteps.{node_later, sign_none, sign_switch, sign_tiny_at, switch_none, tiny_none_at}
 use Rattle.std.proofs.Common.{true, false}
-use Rattle.cg_names.proofs.look.hot.Goals as goal
+use Rattle.cg_names.proofs.look_hot.hot.Goals as goal
 
 pub returns-in-Some-clause-sign : goal.returns-in-Some-clause-sign
 returns-in-Some-clause-sign g c = sign_switch _ c.switch.result c.in-Some.x c.in-Some.is c.switch.ensures.switch

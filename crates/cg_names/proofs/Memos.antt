@@ -1,0 +1,86 @@
+-- What a memo recalls, from call to call.
+use Rattle.std.proofs.Common.{◌≡◌, refl, ap, sym, ◌∙◌, subst, inl, inr, ℕ, ◌≤◌, arith, List, [], ◌∷◌, ◌++◌, Option, Some, None, true, nat_eq, eqb-true}
+use Rattle.std.specs.Prelude.{if◌then◌else◌}
+use Rattle.cg_dyadic.proofs.Truth.{true_or_false}
+use Rattle.cg_cells.specs.Meaning.{IsInjective}
+use Rattle.cg_cells.specs.Store.{Spends, State, thing_at}
+use Rattle.cg_dyadic.specs.Number.{Number}
+use Rattle.cg_form.specs.Game.{Game, node, number}
+use Rattle.cg_form.specs.Size.{list_size, size}
+use Rattle.cg_nodes.specs.Games.{IsGame, IsList, ListsAs, game_at, listed}
+use Rattle.cg_nodes.specs.Meant.{Meant, list}
+use Rattle.cg_nodes.proofs.Later.{game_later, is_game_later}
+use Rattle.cg_names.specs.Memos.{IsShape, Recalls, recalled}
+use Rattle.cg_names.specs.Shapes.{sign_of}
+use Rattle.cg_names.specs.declared.look.Shape.{Shape}
+use Rattle.cg_names.specs.declared.look.Shape.TheVariants as shape
+use Rattle.cg_names.specs.declared.memo.Memo.{Memo}
+use Rattle.cg_names.specs.declared.sign.Sign.{Sign}
+
+pub recalls_none : {R : Type 0} (s : State Meant R) (m : Memo) → ((a : ℕ) → recalled m a ≡ None) → Recalls s m
+recalls_none s m n h o e = absurd (let q : None ≡ Some o = sym (n h) ∙ e in cc)
+
+pub recalls_later : {R : Type 0} (s t : State Meant R) (m : Memo) → Spends 0 s t → Recalls s m → Recalls t m
+recalls_later s t m b r h o e =
+    let p = r h o e in
+    (is_game_later s t b.known h p.0, p.1 ∙ ap sign_of (sym (game_later s t b.known h p.0)))
+
+some_same : (o p : Option Sign) → Some o ≡ Some p → o ≡ p
+some_same o p e = cc
+
+-- one sign more
+pub recalls_more : {R : Type 0} (s : State Meant R) (m n : Memo) (a : ℕ) (o : Option Sign) → Recalls s m → IsGame s a
+    → o ≡ sign_of (game_at s a) → ((b : ℕ) → recalled n b ≡ (if nat_eq a b then Some o else recalled m b))
+    → Recalls s n
+recalls_more {R} s m n a o r i e grown h p f = elim (true_or_false (nat_eq a h)) [
+  | inl t ↦ here t
+  | inr t ↦ r h p (sym (grown h ∙ ap (λ b. if b then Some o else recalled m h) t) ∙ f)
+]
+  where
+    here : nat_eq a h ≡ true → IsGame s h × (p ≡ sign_of (game_at s h))
+    here t =
+        let same : a ≡ h = eqb-true a h t in
+        let Q : ℕ → Type 0 = λ z. IsGame s z in (
+          subst Q same i,
+          some_same p o (sym f ∙ grown h ∙ ap (λ b. if b then Some o else recalled m h) t) ∙ e
+              ∙ ap (λ z. sign_of (game_at s z)) same,
+        )
+
+-- what was found for a handle, by its id
+pub recalled_sign : {R : Type 0} (s : State Meant R) (m : Memo) (a h : ℕ) (o : Option Sign) → a ≡ h
+    → recalled m a ≡ Some o → Recalls s m → o ≡ sign_of (game_at s h)
+recalled_sign s m a h o e p r = (r a o p).1 ∙ ap (λ (z : ℕ). sign_of (game_at s z)) e
+
+-- ---- what was found of a game
+
+pub told_number : {R : Type 0} (s : State Meant R) (l : Shape) (g : Game) (x : Number) → l ≡ shape.Number x → IsShape s l g
+    → g ≡ number x
+told_number s l g x e i = let P : Shape → Type 0 = λ z. IsShape s z g in subst P e i
+
+pub told_game : {R : Type 0} (s : State Meant R) (l : Shape) (g : Game) (ls rs : Option ℕ) (o : Option Sign)
+    → l ≡ shape.Game ls rs o → IsShape s l g
+    → IsList s ls × IsList s rs × (g ≡ node (listed s ls) (listed s rs)) × (o ≡ sign_of g)
+told_game s l g ls rs o e i = let P : Shape → Type 0 = λ z. IsShape s z g in subst P e i
+
+-- ---- one list, or two lists of different games
+
+pub one_list : {R : Type 0} (s : State Meant R) (a b : Option ℕ) → a ≡ b → listed s a ≡ listed s b
+one_list s a b e = ap (listed s) e
+
+pub other_lists : {R : Type 0} (s : State Meant R) (a b : Option ℕ) → IsInjective (thing_at s) → IsList s a → IsList s b
+    → ¬ (a ≡ b) → ¬ (listed s a ≡ listed s b)
+other_lists {R} s a b apart l m n e = n (by a b (listed s b) (let P : List Game → Type 0 = λ z. ListsAs s a z in subst P e l) m)
+  where
+    by : (a b : Option ℕ) (gs : List Game) → ListsAs s a gs → ListsAs s b gs → a ≡ b
+    by None None gs l m = refl
+    by None (Some j) [] l m = absurd m
+    by None (Some j) (g ∷ gs) l m = absurd (let q : g ∷ gs ≡ [] = l in cc)
+    by (Some i) b [] l m = absurd l
+    by (Some i) None (g ∷ gs) l m = absurd (let q : g ∷ gs ≡ [] = m in cc)
+    by (Some i) (Some j) (g ∷ gs) l m = ap (λ (z : ℕ). Some z) (apart i j (list (g ∷ gs)) l m)
+
+-- ---- the last option is no larger than all of them
+
+pub last_size : (gs : List Game) (g : Game) → size g ≤ list_size (gs ++ (g ∷ []))
+last_size [] g = omega arith
+last_size (h ∷ gs) g = let l = last_size gs g in omega arith

@@ -1,0 +1,32 @@
+use Rattle.std.proofs.Common.{◌+◌, ◌*◌}
+use Rattle.cg_form.specs.Size.{list_size, size}
+use Rattle.cg_nodes.specs.Games.{game_at, games_at, listed}
+use Rattle.cg_names.proofs.look.+look.Given as goal
+
+abbrev pub decreases-look : goal.decreases-look
+decreases-look g l = 8 * size (game_at (g.S.CellStore.state l.store.now) l.handle)
+
+abbrev pub decreases-sign : goal.decreases-sign
+decreases-sign g l = 8 * (list_size (listed (g.S.CellStore.state l.store.now) l.lefts)
+    + list_size (listed (g.S.CellStore.state l.store.now) l.rights)) + 7
+
+abbrev pub decreases-sign_by_shape : goal.decreases-sign_by_shape
+decreases-sign_by_shape g l = 8 * (list_size (listed (g.S.CellStore.state l.store.now) l.lefts)
+    + list_size (listed (g.S.CellStore.state l.store.now) l.rights)) + 6
+
+abbrev pub decreases-star : goal.decreases-star
+decreases-star g l = 8 * (list_size (listed (g.S.CellStore.state l.store.now) l.lefts)
+    + list_size (listed (g.S.CellStore.state l.store.now) l.rights)) + 5
+
+abbrev pub decreases-stars : goal.decreases-stars
+decreases-stars g l = 8 * list_size (games_at (g.S.CellStore.state l.store.now) l.options.now) + 1
+
+abbrev pub decreases-arrows_or_hot : goal.decreases-arrows_or_hot
+decreases-arrows_or_hot g l = 8 * (list_size (listed (g.S.CellStore.state l.store.now) l.lefts)
+    + list_size (listed (g.S.CellStore.state l.store.now) l.rights)) + 5
+
+abbrev pub decreases-arrows : goal.decreases-arrows
+decreases-arrows g l = 8 * list_size (listed (g.S.CellStore.state l.store.now) l.others) + 2
+
+abbrev pub decreases-arrows_on : goal.decreases-arrows_on
+decreases-arrows_on g l = 8 * size (game_at (g.S.CellStore.state l.store.now) l.last) + 1
