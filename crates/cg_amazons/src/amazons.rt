@@ -4,7 +4,7 @@ ghost use Rattle.cg_moves.specs.Grid.{AreCells};
 ghost use Rattle.cg_amazons.specs.Amazons.{amazons, amazons_moves, queen};
 
 use crate::queens::move_all;
-use cg_moves::{Board, Boards, Outcomes, Player, Rules};
+use cg_moves::{Board, Boards, Outcomes, Pieces, Player, Rules};
 use std::alloc::{AllocError, Global};
 
 /// Amazons: a queen moves along empty cells in one of the eight directions, and then shoots an arrow along empty cells in one
@@ -52,6 +52,10 @@ impl Rules for Amazons {
 
     fn moves(&self, alloc: Global, board: &Board, player: Player) -> Result<Boards, AllocError> {
         outcomes_of(alloc, board, player)?.boards(alloc, board)
+    }
+
+    fn pieces(&self, _alloc: Global, _board: &Board) -> Result<Pieces, AllocError> {
+        Ok(Pieces::Whole)
     }
 
     fn number(&self) -> u8 {

@@ -20,6 +20,12 @@ own-contained Right = (2, omega arith, refl)
 empty-contained : Contains (codes ".xo") empty
 empty-contained = (0, omega arith, refl)
 
+pub has-empty : (p : Grid) → clobber.has p ≡ true → Contains p.symbols empty
+has-empty p has =
+    let P : List ℕ → Type 0 = λ z. Contains z empty in
+    subst P (sym (bytes_eq-back p.symbols (codes ".xo") (and-true (is_in_rows p) (bytes_eq p.symbols (codes ".xo")) has).1))
+    empty-contained
+
 -- the moves lead to cells with the symbols, and as many as before
 pub moves_cells : (player : Player) (p : Grid) → clobber.has p ≡ true → AreCells p.symbols p.cells
     → All (AreCells p.symbols) (moves_of player p)

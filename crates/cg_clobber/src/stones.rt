@@ -2,11 +2,13 @@
 ghost use Rattle.std.specs.Prelude.{◌≡◌, ◌<◌, All, IfOk, IfSome, length, true};
 ghost use Rattle.cg_moves.specs.Grid.{AreCells};
 ghost use Rattle.cg_moves.specs.Rising.{with_all};
+ghost use Rattle.cg_clobber.specs.Cuts.{stones-are};
 ghost use Rattle.cg_clobber.specs.Lawful.{clobber_lawful};
-ghost use Rattle.cg_clobber.specs.Moves.{clobber, moves_at, moves_of, moves_that_way, next_cell, other, own};
+ghost use Rattle.cg_clobber.specs.Moves.{clobber, moves_at, moves_of, moves_that_way, next_cell, other, own, stones};
 
 use crate::Way;
-use cg_moves::{Board, Boards, Outcomes, Player, Rules};
+use cg_moves::{Board, Boards, Outcomes, Pieces, Player, Rules};
+use cg_pieces::{NeighbourRules, pieces};
 use std::alloc::{AllocError, Global};
 
 const EMPTY: u8 = b'.';
@@ -134,11 +136,33 @@ fn outcomes_of(alloc: Global, board: &Board, player: Player) -> Result<Outcomes,
     Ok(outcomes)
 }
 
+impl NeighbourRules for Clobber {
+    ghost neighbours = { λ rules. stones };
+
+    fn blank(&self) -> u8 {
+        EMPTY
+    }
+
+    fn forms_pieces(&self, symbol: u8) -> bool {
+        symbol == own(Player::Left) || symbol == own(Player::Right)
+    }
+
+    fn allows(&self, player: Player, _below: bool, _beside: bool, one: u8, second: u8) -> bool {
+        one == own(player) && second == other(player)
+    }
+
+    ghost lawful = { λ rules. stones-are };
+}
+
 impl Rules for Clobber {
     ghost game = { λ rules. clobber };
 
     fn moves(&self, alloc: Global, board: &Board, player: Player) -> Result<Boards, AllocError> {
         outcomes_of(alloc, board, player)?.boards(alloc, board)
+    }
+
+    fn pieces(&self, alloc: Global, board: &Board) -> Result<Pieces, AllocError> {
+        Ok(Pieces::Cut(pieces(alloc, self, board)?))
     }
 
     fn number(&self) -> u8 {

@@ -11,7 +11,7 @@ use Rattle.cg_moves.proofs.Same.{and-true, bytes_eq-back}
 use Rattle.cg_domineering.specs.Domino.{is_domino}
 use Rattle.cg_domineering.specs.Moves.{domineering, filled, fits, moves_at, moves_of, other_cell, with_domino}
 
-has-filled : (p : Grid) → domineering.has p ≡ true → Contains p.symbols filled
+pub has-filled : (p : Grid) → domineering.has p ≡ true → Contains p.symbols filled
 has-filled p has =
     let P : List ℕ → Type 0 = λ z. Contains z filled in
     subst P (sym (bytes_eq-back p.symbols (codes ".#") (and-true (is_in_rows p) (bytes_eq p.symbols (codes ".#")) has).1))

@@ -2,10 +2,12 @@
 ghost use Rattle.std.specs.Prelude.{◌≡◌, ◌<◌, All, IfOk, IfSome, None, Some, if◌then◌else◌, length, true};
 ghost use Rattle.cg_moves.specs.Grid.{AreCells};
 ghost use Rattle.cg_moves.specs.Rising.{with_all};
+ghost use Rattle.cg_domineering.specs.Cuts.{dominoes-are};
 ghost use Rattle.cg_domineering.specs.Lawful.{domineering_lawful};
-ghost use Rattle.cg_domineering.specs.Moves.{domineering, fits, has_other, moves_at, moves_of, other_cell};
+ghost use Rattle.cg_domineering.specs.Moves.{domineering, dominoes, fits, has_other, moves_at, moves_of, other_cell};
 
-use cg_moves::{Board, Boards, Outcomes, Player, Rules};
+use cg_moves::{Board, Boards, Outcomes, Pieces, Player, Rules};
+use cg_pieces::{NeighbourRules, pieces};
 use std::alloc::{AllocError, Global};
 
 const EMPTY: u8 = b'.';
@@ -91,11 +93,36 @@ fn outcomes_of(alloc: Global, board: &Board, player: Player) -> Result<Outcomes,
     Ok(outcomes)
 }
 
+impl NeighbourRules for Domineering {
+    ghost neighbours = { λ rules. dominoes };
+
+    fn blank(&self) -> u8 {
+        FILLED
+    }
+
+    fn forms_pieces(&self, symbol: u8) -> bool {
+        symbol == EMPTY
+    }
+
+    fn allows(&self, player: Player, below: bool, beside: bool, _one: u8, _other: u8) -> bool {
+        match player {
+            Player::Left => below,
+            Player::Right => beside,
+        }
+    }
+
+    ghost lawful = { λ rules. dominoes-are };
+}
+
 impl Rules for Domineering {
     ghost game = { λ rules. domineering };
 
     fn moves(&self, alloc: Global, board: &Board, player: Player) -> Result<Boards, AllocError> {
         outcomes_of(alloc, board, player)?.boards(alloc, board)
+    }
+
+    fn pieces(&self, alloc: Global, board: &Board) -> Result<Pieces, AllocError> {
+        Ok(Pieces::Cut(pieces(alloc, self, board)?))
     }
 
     fn number(&self) -> u8 {

@@ -7,7 +7,7 @@ ghost use Rattle.cg_graph.specs.Colouring.{colourings_at, colourings_of, forbidd
 
 use crate::chart::Colouring;
 use crate::neighbours::has_neighbour;
-use cg_moves::{Board, Boards, Outcomes, Player, Rules};
+use cg_moves::{Board, Boards, Outcomes, Pieces, Player, Rules};
 use std::alloc::{AllocError, Global};
 
 const FREE: u8 = b'.';
@@ -99,6 +99,10 @@ impl Rules for Colouring {
 
     fn moves(&self, alloc: Global, board: &Board, player: Player) -> Result<Boards, AllocError> {
         outcomes_of(alloc, self, board, player)?.boards(alloc, board)
+    }
+
+    fn pieces(&self, _alloc: Global, _board: &Board) -> Result<Pieces, AllocError> {
+        Ok(Pieces::Whole)
     }
 
     fn number(&self) -> u8 {

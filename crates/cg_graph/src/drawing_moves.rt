@@ -8,7 +8,7 @@ ghost use Rattle.cg_graph.specs.Hackenbush.{cuts_at, cuts_of, may_cut};
 use crate::drawing::Hackenbush;
 use crate::edge::ColouredEdge;
 use crate::labels::{GONE, settled};
-use cg_moves::{Board, Boards, Outcomes, Player, Rules};
+use cg_moves::{Board, Boards, Outcomes, Pieces, Player, Rules};
 use std::alloc::{AllocError, Global};
 
 /// Whether the player may cut an edge of this colour.
@@ -73,6 +73,10 @@ impl Rules for Hackenbush {
 
     fn moves(&self, alloc: Global, board: &Board, player: Player) -> Result<Boards, AllocError> {
         outcomes_of(alloc, self.edges(), board, player)?.boards(alloc, board)
+    }
+
+    fn pieces(&self, _alloc: Global, _board: &Board) -> Result<Pieces, AllocError> {
+        Ok(Pieces::Whole)
     }
 
     fn number(&self) -> u8 {

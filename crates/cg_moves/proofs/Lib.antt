@@ -14,8 +14,10 @@ pub mod TextLemmas
 pub mod ReadBack
 pub mod Totals
 pub mod RawOptions
-pub mod Pieces
+pub mod PieceSums
 pub mod ConnectedLemmas
 pub mod PieceBounds
+pub mod PlayLemmas
+pub mod PlayOrder
 pub mod Inserted
 pub mod Carried

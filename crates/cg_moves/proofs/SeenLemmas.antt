@@ -1,4 +1,4 @@
--- Boards that were seen, with their cells in a set.
+-- Boards that were seen, with their keys in a set.
 use Rattle.std.proofs.Common.{◌≡◌, refl, ℕ, ◌+◌, ◌<◌, ◌≤◌, Bool, true, false, cond, inl, inr, ⊎_elim, List, [], ◌∷◌, ◌++◌, length, length-append, map, ap, sym, ◌∙◌, subst, arith}
 use Rattle.std.specs.Prelude.{◌↔◌, IsTrue, IfOk, OnOk, Ok, Err, Result, Vec}
 use Rattle.std.specs.List.{list_any}
@@ -8,17 +8,14 @@ use Rattle.std.specs.Set.{KeepsOthers}
 use Rattle.std.specs.Map.{AreApart, IsKeyTest}
 use Rattle.std.specs.Cmp.Lexicographic.{bytes_decides, nat_list_eq_equiv}
 use Rattle.std.proofs.lemmas.Bool.{cases_Bool, cond-false, cond-true}
-use Rattle.cg_moves.specs.Grid.{Grid, IsLike, with_cells}
+use Rattle.cg_moves.specs.Grid.{Grid}
 use Rattle.cg_moves.specs.Rules.{In}
 use Rattle.cg_moves.specs.Kept.{one_more}
-use Rattle.cg_moves.specs.Seen.{HasCells}
+use Rattle.cg_moves.specs.Seen.{HasKeys, key_of}
 use Rattle.cg_moves.specs.declared.fault.ReachFault.{ReachFault}
 use Rattle.cg_moves.specs.declared.fault.ReachFault.TheVariants.{Positions}
 use Rattle.cg_moves.proofs.Members.{in-append, in-append_left, in-append_right, in-map, in_mapped, in_one}
 use Rattle.cg_moves.proofs.KeptLemmas.{one_more-new}
-
-abbrev cells_of : Grid → List ℕ
-cells_of p = p.cells
 
 -- ---- a set with one key more
 
@@ -42,50 +39,62 @@ with_key {A} {S} bs s n h cs = ⊎_elim
     ∙ sym (cond-false (bytes_eq bs cs) true (contains_by (λ k. bytes_eq cs k.items) s) e))
     (cases_Bool (bytes_eq bs cs))
 
--- the set with the cells of one board more
-pub has_cells-more : {A S : Type 0} (s n : HashSet (Vec ℕ A) S) (boards : List Grid) (p : Grid) (bs : List ℕ)
-    → bs ≡ p.cells → HasCells s boards
-    → UpdatesBy (λ x y. bytes_eq x.items y.items) (λ k. bytes_eq bs k.items) s n true → HasCells n (boards ++ (p ∷ []))
-has_cells-more {A} {S} s n boards p bs is h u cs =
+-- the set with the key of one board more
+pub has_keys-more : {A S : Type 0} (s n : HashSet (Vec ℕ A) S) (boards : List Grid) (p : Grid) (bs : List ℕ)
+    → bs ≡ key_of p → HasKeys s boards
+    → UpdatesBy (λ x y. bytes_eq x.items y.items) (λ k. bytes_eq bs k.items) s n true → HasKeys n (boards ++ (p ∷ []))
+has_keys-more {A} {S} s n boards p bs is h u cs =
     let e = with_key bs s n u cs in (
       λ t. ⊎_elim
-          (λ y. let same : cs ≡ p.cells = sym ((bytes_decides bs cs).0 y) ∙ is in
-          let P : List ℕ → Type 0 = λ l. In l (map cells_of (boards ++ (p ∷ []))) in
-          subst P (sym same) (in_mapped cells_of p (boards ++ (p ∷ [])) (in-append_right p boards (p ∷ []) (inl refl))))
+          (λ y. let same : cs ≡ key_of p = sym ((bytes_decides bs cs).0 y) ∙ is in
+          let P : List ℕ → Type 0 = λ l. In l (map key_of (boards ++ (p ∷ []))) in
+          subst P (sym same) (in_mapped key_of p (boards ++ (p ∷ [])) (in-append_right p boards (p ∷ []) (inl refl))))
           (λ y. let there = (h cs).0 (sym (e ∙ cond-false (bytes_eq bs cs) true (contains_by (λ k. bytes_eq cs k.items) s) y) ∙ t) in
-          let (q, m, f) = in-map cells_of cs boards there in
-          let P : List ℕ → Type 0 = λ l. In l (map cells_of (boards ++ (p ∷ []))) in
-          subst P (sym f) (in_mapped cells_of q (boards ++ (p ∷ [])) (in-append_left q boards (p ∷ []) m)))
+          let (q, m, f) = in-map key_of cs boards there in
+          let P : List ℕ → Type 0 = λ l. In l (map key_of (boards ++ (p ∷ []))) in
+          subst P (sym f) (in_mapped key_of q (boards ++ (p ∷ [])) (in-append_left q boards (p ∷ []) m)))
           (cases_Bool (bytes_eq bs cs)),
-      λ m. let (q, k, f) = in-map cells_of cs (boards ++ (p ∷ [])) m in
+      λ m. let (q, k, f) = in-map key_of cs (boards ++ (p ∷ [])) m in
           elim (in-append q boards (p ∷ []) k) [
-            | inl there ↦ (let P : List ℕ → Type 0 = λ l. In l (map cells_of boards) in
-                let t = (h cs).1 (subst P (sym f) (in_mapped cells_of q boards there)) in
+            | inl there ↦ (let P : List ℕ → Type 0 = λ l. In l (map key_of boards) in
+                let t = (h cs).1 (subst P (sym f) (in_mapped key_of q boards there)) in
                 ⊎_elim (λ y. e ∙ cond-true (bytes_eq bs cs) true (contains_by (λ k. bytes_eq cs k.items) s) y)
                 (λ y. e ∙ cond-false (bytes_eq bs cs) true (contains_by (λ k. bytes_eq cs k.items) s) y ∙ t)
                 (cases_Bool (bytes_eq bs cs)))
-            | inr last ↦ (let y : bytes_eq bs cs ≡ true = (bytes_decides bs cs).1 (is ∙ sym (f ∙ ap cells_of (in_one q p last))) in
+            | inr last ↦ (let y : bytes_eq bs cs ≡ true = (bytes_decides bs cs).1 (is ∙ sym (f ∙ ap key_of (in_one q p last))) in
                 e ∙ cond-true (bytes_eq bs cs) true (contains_by (λ k. bytes_eq cs k.items) s) y)
           ],
     )
 
 -- ---- look-ups
 
--- a board whose cells were seen was seen, where all that were seen are like it
-pub like-in : (seen : List Grid) (p : Grid) → ((q : Grid) → In q seen → IsLike p q) → In p.cells (map cells_of seen)
-    → In p seen
-like-in seen p like m =
-    let (q, k, e) = in-map cells_of p.cells seen m in
-    let same : q ≡ p = like q k ∙ ap (λ z. with_cells p z) (sym e) in
-    let P : Grid → Type 0 = λ z. In z seen in
-    subst P same k
+-- boards with one key and the same symbols are one board
+pub one-key : (p q : Grid) → key_of p ≡ key_of q → q.symbols ≡ p.symbols → q ≡ p
+one-key p q e f =
+    let a : p.rows ≡ q.rows = cc in
+    let b : p.columns ≡ q.columns = cc in
+    let c : p.cells ≡ q.cells = cc in
+    λ i. record {
+      rows = sym a i;
+      columns = sym b i;
+      symbols = f i;
+      cells = sym c i;
+    }
 
-pub looked_up : (seen : List Grid) (found : Bool) (cells key : List ℕ) (p : Grid)
-    → ((q : Grid) → In q seen → IsLike p q) → key ≡ cells → cells ≡ p.cells
-    → IsTrue found ↔ In key (map cells_of seen) → IsTrue found ↔ In p seen
-looked_up seen found cells key p like e f h =
-    let P : List ℕ → Type 0 = λ z. In z (map cells_of seen) in
-    (λ t. like-in seen p like (subst P (e ∙ f) (h.0 t)), λ m. h.1 (subst P (sym (e ∙ f)) (in_mapped cells_of p seen m)))
+-- a board whose key was seen was seen, where all that were seen have its symbols
+pub key-in : (seen : List Grid) (p : Grid) → ((q : Grid) → In q seen → q.symbols ≡ p.symbols)
+    → In (key_of p) (map key_of seen) → In p seen
+key-in seen p like m =
+    let (q, k, e) = in-map key_of (key_of p) seen m in
+    let P : Grid → Type 0 = λ z. In z seen in
+    subst P (one-key p q e (like q k)) k
+
+pub looked_up : (seen : List Grid) (found : Bool) (key : List ℕ) (p : Grid)
+    → ((q : Grid) → In q seen → q.symbols ≡ p.symbols) → key ≡ key_of p
+    → IsTrue found ↔ In key (map key_of seen) → IsTrue found ↔ In p seen
+looked_up seen found key p like e h =
+    let P : List ℕ → Type 0 = λ z. In z (map key_of seen) in
+    (λ t. key-in seen p like (subst P e (h.0 t)), λ m. h.1 (subst P (sym e) (in_mapped key_of p seen m)))
 
 -- ---- what an Ok tells
 

@@ -9,6 +9,8 @@ pub mod Kept
 pub mod Seen
 pub mod Rising
 pub mod Texts
+pub mod PieceReach
+pub mod Plays
 pub mod Walks
 pub mod Connected
-pub mod PieceReach
+pub mod Cutting

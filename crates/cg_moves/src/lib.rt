@@ -3,10 +3,12 @@
 
 mod board;
 mod boards;
+mod course;
 mod fault;
 mod grid;
 pub mod laws;
 mod outcomes;
+mod pieces;
 mod player;
 mod reaching;
 mod rules;
@@ -16,10 +18,13 @@ mod writing;
 
 pub use board::Board;
 pub use boards::{Boards, Cells};
+pub use course::pieces_in;
 pub use fault::{BoardFault, ReachFault};
 pub use grid::read_grid;
 pub use outcomes::Outcomes;
+pub use pieces::Pieces;
 pub use player::Player;
-pub use reaching::reach;
+pub use reaching::{reach, reach_pieces};
 pub use rules::Rules;
+pub use seen::key_of;
 pub use writing::text;

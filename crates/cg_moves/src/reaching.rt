@@ -1,7 +1,9 @@
 //! The boards that play can come to from a board.
 ghost use Rattle.std.specs.Prelude.{◌≡◌, ◌<◌, ◌≤◌, true, IfOk, OnOk, length, Err};
+ghost use Rattle.cg_moves.specs.PieceReach.{piece_reach_of};
 ghost use Rattle.cg_moves.specs.Reach.{reach_of};
 
+use crate::course::{Course, alone, pieces_in};
 use crate::walk::seen_from;
 use crate::{Board, Boards, ReachFault, Rules};
 use std::alloc::Global;
@@ -20,6 +22,29 @@ pub fn reach<R: Rules>(
     ensures within { OnOk result (length (reach_of (R.game rules.now) start.now) ≤ limit) }
     ensures refused { result ≡ Err ReachFault.Positions → limit < length (reach_of (R.game rules.now) start.now) }
 {
-    let seen = seen_from(alloc, rules, start, limit)?;
+    let starts = alone(alloc, start)?;
+    let seen = seen_from(alloc, rules, Course::Moves, starts, limit)?;
+    Ok(seen.into_boards())
+}
+
+/// The boards that play can come to from the pieces of the start, which must be a board of the game; the rules must cut. For
+/// each piece in order these are those of the pieces of the boards that its Left moves lead to, those of its Right moves, then
+/// the piece itself, each only where it comes first. `Positions` comes exactly where there are more than `limit`. `Memory` is
+/// the other error.
+pub fn reach_pieces<R: Rules>(
+    alloc: Global,
+    rules: &R,
+    start: &Board,
+    limit: u64,
+) -> Result<Boards, ReachFault>
+    requires has { (R.game rules.now).has start.now ≡ true }
+    requires cuts { (R.game rules.now).cuts ≡ true }
+    ensures boards { IfOk result (λ boards. boards ≡ piece_reach_of (R.game rules.now) start.now) }
+    ensures within { OnOk result (length (piece_reach_of (R.game rules.now) start.now) ≤ limit) }
+    ensures refused { result ≡ Err ReachFault.Positions
+        → limit < length (piece_reach_of (R.game rules.now) start.now) }
+{
+    let starts = pieces_in(alloc, rules, start)?;
+    let seen = seen_from(alloc, rules, Course::Pieces, starts, limit)?;
     Ok(seen.into_boards())
 }

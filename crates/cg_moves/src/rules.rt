@@ -1,15 +1,19 @@
 //! The rules of games on boards.
 ghost use Rattle.std.specs.Prelude.{◌≡◌, ◌<◌, true, IfOk};
+ghost use Rattle.cg_moves.specs.Cutting.{cutting};
 ghost use Rattle.cg_moves.specs.Rules.{GameRules, IsLawful, boards_after};
 
-use crate::{Board, Boards, Player};
+use crate::{Board, Boards, Pieces, Player};
 use std::alloc::{AllocError, Global};
 
 /// The rules of a game, by what contracts see of them: which boards are boards of the game; the moves of each player on a
-/// board, by the cells that they lead to; a measure of boards; and the game's number.
+/// board, by the cells that they lead to; a measure of boards; the game's number; whether the rules cut boards into pieces,
+/// and where they do, the pieces of each board.
 ///
-/// Their law: each move of a board of the game leads to a board of the game with a lower measure. Rows, columns and symbols
-/// stay. The number is below 16, and 0 where positions aren't noted in a table.
+/// Their laws: each move of a board of the game leads to a board of the game with a lower measure. Rows, columns and symbols
+/// stay. The number is below 16, and 0 where positions aren't noted in a table. Where the rules cut, each piece of a board of
+/// the game is a board of the game with the same symbols and at most the same measure, has a move, and is its own only piece;
+/// and a move of a board is a move in one piece that leaves the others as they are.
 pub trait Rules {
     ghost game: { Self → GameRules };
 
@@ -17,6 +21,11 @@ pub trait Rules {
     fn moves(&self, alloc: Global, board: &Board, player: Player) -> Result<Boards, AllocError>
         requires { (game self.now).has board.now ≡ true }
         ensures { IfOk result (λ boards. boards ≡ boards_after (game self.now) player board.now) };
+
+    /// The pieces of the board where the rules cut, and `Whole` where they don't. The board must be one of the game.
+    fn pieces(&self, alloc: Global, board: &Board) -> Result<Pieces, AllocError>
+        requires { (game self.now).has board.now ≡ true }
+        ensures { IfOk result (λ pieces. pieces ≡ cutting (game self.now) board.now) };
 
     /// The game's number.
     fn number(&self) -> u8

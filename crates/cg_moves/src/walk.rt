@@ -1,18 +1,18 @@
-//! A walk over the boards that play can come to.
-ghost use Rattle.std.specs.Prelude.{◌≡◌, ◌<◌, ◌≤◌, ◌∷◌, ◌++◌, [], true, IfOk, OnOk, OnErr, length, Err, map, reverse};
-ghost use Rattle.cg_moves.specs.Grid.{Grid, IsLike};
+//! A walk over boards.
+ghost use Rattle.std.specs.Prelude.{◌≡◌, ◌<◌, ◌≤◌, ◌∷◌, ◌++◌, [], true, IfOk, length, Err};
+ghost use Rattle.std.specs.List.{flat_map};
 ghost use Rattle.cg_moves.specs.Kept.{kept};
-ghost use Rattle.cg_moves.specs.Rules.{In, followers};
-ghost use Rattle.cg_moves.specs.Reach.{all_reached};
-ghost use Rattle.cg_moves.specs.Walks.{GoesOn, IsWalk, boards_left, entered};
+ghost use Rattle.cg_moves.specs.Plays.{MayGo, play_of};
+ghost use Rattle.cg_moves.specs.Walks.{AreStarts, GoesOn, IsWalk, boards_left, entered};
 ghost use Rattle.cg_moves.specs.declared.walk.Task.TheVariants.{Leave};
 
+use crate::course::{Course, next_boards};
 use crate::seen::Seen;
-use crate::{Board, Player, ReachFault, Rules};
+use crate::{Board, ReachFault, Rules};
 use std::alloc::{AllocError, Global};
 
-/// What is left to do in a walk: to see all boards that play can come to from a board, or to see the board itself, where the
-/// others were seen.
+/// What is left to do in a walk: to see all boards that come after a board, or to see the board itself, where the others were
+/// seen.
 #[derive(Drop)]
 pub(crate) enum Task {
     Enter(Board),
@@ -31,24 +31,24 @@ fn enter_all(tasks: Vec<Task>, boards: Vec<Board>) -> Result<Vec<Task>, AllocErr
     Ok(tasks)
 }
 
-/// The tasks of which entering the board is made, behind the tasks: to enter the boards that its moves lead to, Left's
-/// first, and then to leave it.
+/// The tasks of which entering the board is made, behind the tasks: to enter the boards that come next after it, and then to
+/// leave it.
 fn expand<R: Rules>(
     alloc: Global,
     rules: &R,
+    course: Course,
     tasks: Vec<Task>,
     board: Board,
 ) -> Result<Vec<Task>, AllocError>
-    requires { (R.game rules.now).has board ≡ true }
+    requires has { (R.game rules.now).has board ≡ true }
+    requires may { MayGo (R.game rules.now) course }
     ensures { IfOk result (λ more. more.items
-        ≡ tasks.items ++ (Leave board ∷ []) ++ entered (followers (R.game rules.now) board)) }
+        ≡ tasks.items ++ ((Leave board ∷ []) ++ entered ((play_of (R.game rules.now) course).next board))) }
 {
-    let lefts = rules.moves(alloc, &board, Player::Left)?;
-    let rights = rules.moves(alloc, &board, Player::Right)?;
+    let next = next_boards(alloc, rules, course, &board)?;
     let mut tasks = tasks;
     tasks.push(Task::Leave(board))?;
-    let tasks = enter_all(tasks, rights.into_vec())?;
-    enter_all(tasks, lefts.into_vec())
+    enter_all(tasks, next)
 }
 
 /// A walk: the boards that were seen, and the tasks that are left, of which the last comes first.
@@ -58,19 +58,21 @@ struct Walk {
     tasks: Vec<Task>,
 }
 
-/// The walk after the task. A board that was seen has all that play can come to from it there.
+/// The walk after the task. A board that was seen has all that come after it there.
 fn step<R: Rules>(
     alloc: Global,
     rules: &R,
+    course: Course,
     walk: Walk,
     task: Task,
     limit: u64,
 ) -> Result<Walk, ReachFault>
-    requires { IsWalk (R.game rules.now) limit walk.seen (walk.tasks.items ++ (task ∷ [])) }
-    ensures goes_on { IfOk result (λ w. GoesOn (R.game rules.now) limit walk.seen w.seen (walk.tasks.items ++ (task ∷ []))
-        w.tasks.items) }
-    ensures refused { result ≡ Err ReachFault.Positions → limit < length (kept walk.seen (boards_left (R.game rules.now)
-        (walk.tasks.items ++ (task ∷ [])))) }
+    requires may { MayGo (R.game rules.now) course }
+    requires walk { IsWalk (play_of (R.game rules.now) course) limit walk.seen (walk.tasks.items ++ (task ∷ [])) }
+    ensures goes_on { IfOk result (λ w. GoesOn (play_of (R.game rules.now) course) limit walk.seen w.seen
+        (walk.tasks.items ++ (task ∷ [])) w.tasks.items) }
+    ensures refused { result ≡ Err ReachFault.Positions → limit < length (kept walk.seen (boards_left
+        (play_of (R.game rules.now) course) (walk.tasks.items ++ (task ∷ [])))) }
 {
     let Walk { seen, tasks } = walk;
     match task {
@@ -78,7 +80,7 @@ fn step<R: Rules>(
             if seen.has(alloc, &board)? {
                 return Ok(Walk { seen, tasks });
             }
-            let tasks = expand(alloc, rules, tasks, board)?;
+            let tasks = expand(alloc, rules, course, tasks, board)?;
             Ok(Walk { seen, tasks })
         }
         Task::Leave(board) => {
@@ -88,27 +90,27 @@ fn step<R: Rules>(
     }
 }
 
-/// The boards that play can come to from the start.
+/// The boards that come after the starts, and the starts themselves.
 pub(crate) fn seen_from<R: Rules>(
     alloc: Global,
     rules: &R,
-    start: &Board,
+    course: Course,
+    starts: Vec<Board>,
     limit: u64,
 ) -> Result<Seen, ReachFault>
-    requires { (R.game rules.now).has start.now ≡ true }
-    ensures seen { IfOk result (λ seen. seen ≡ kept [] (all_reached (R.game rules.now) start.now)) }
+    requires may { MayGo (R.game rules.now) course }
+    requires starts { AreStarts (play_of (R.game rules.now) course) starts.items }
+    ensures seen { IfOk result (λ seen. seen ≡ kept [] (flat_map (play_of (R.game rules.now) course).all starts.items)) }
     ensures within { IfOk result (λ seen. length seen ≤ limit) }
     ensures refused { result ≡ Err ReachFault.Positions
-        → limit < length (kept [] (all_reached (R.game rules.now) start.now)) }
+        → limit < length (kept [] (flat_map (play_of (R.game rules.now) course).all starts.items)) }
 {
-    let mut tasks = Vec::new(alloc);
-    tasks.push(Task::Enter(start.copy(alloc)?))?;
-    let mut left = Walk {
-        seen: Seen::new(alloc),
-        tasks,
-    };
+    let none = Vec::new(alloc);
+    let tasks = enter_all(none, starts)?;
+    let seen = Seen::new(alloc);
+    let mut left = Walk { seen, tasks };
     while let Some(task) = left.tasks.pop() {
-        left = step(alloc, rules, left, task, limit)?;
+        left = step(alloc, rules, course, left, task, limit)?;
     }
     let Walk { seen, tasks: _ } = left;
     Ok(seen)

@@ -1,7 +1,5 @@
 -- A move changes two cells of a joined set alike on the board and on the set's board.
-use Rattle.std.proofs.Common.{◌≡◌, ◌≢◌, ℕ, ◌<◌, ◌==◌, ◌⊎◌, inl, inr, Bool, true, List, length, slice_index, slice_set, ap, sym, ◌∙◌, subst, arith, get_or-set_other, get_or-set_same, length-set}
-use Rattle.std.proofs.lemmas.Bool.{eqb-true, eq-eqb}
-use Rattle.cg_dyadic.proofs.Truth.{true-or-not}
+use Rattle.std.proofs.Common.{◌≡◌, ◌≢◌, ℕ, ◌<◌, inl, inr, Bool, true, List, length, slice_index, slice_set, ap, sym, ◌∙◌, subst, arith, get_or-set_other, get_or-set_same, length-set}
 use Rattle.cg_moves.specs.Grid.{Grid, with_cells}
 use Rattle.cg_moves.proofs.Counted.{same-or-not}
 use Rattle.cg_pieces.specs.Boxes.{Box, boxed, cropped, set_box, unboxed}

@@ -7,7 +7,7 @@ use Rattle.cg_moves.specs.Rising.{counted}
 use Rattle.cg_pieces.specs.Boxes.{Box, boxed, cell_at, column_of, cropped, row_of, set_box, shown_cell, unboxed}
 use Rattle.cg_pieces.proofs.Bounds.{Bounds, BoundsBy, cell-of, column-cell, row-cell, set-bounds}
 
-cell-below : (w r a c : ℕ) → a < r → c < w → cell_at w a c < r * w
+pub cell-below : (w r a c : ℕ) → a < r → c < w → cell_at w a c < r * w
 cell-below w r a c h k =
     let m : w * (a + 1) ≤ w * r = mul-le-mul_left w (omega arith) in
     let e : w * r ≡ r * w = mul_comm w r in

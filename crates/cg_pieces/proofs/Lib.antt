@@ -12,3 +12,6 @@ pub mod Changed
 pub mod Numbers
 pub mod NeighbourCuts
 pub mod Lines
+pub mod Labelled
+pub mod FirstCells
+pub mod Frames

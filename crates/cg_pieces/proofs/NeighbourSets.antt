@@ -193,7 +193,7 @@ module _ (n : Neighbours) (laws : IsNeighbours n) where
         }
       ]
 
-  either : (player : Player) (p : Grid) (k l : ℕ) → may_move n player p k l ≡ true
+  pub either : (player : Player) (p : Grid) (k l : ℕ) → may_move n player p k l ≡ true
       → IsTrue (may_move n Left p k l || may_move n Right p k l)
   either Left p k l t = or-first (may_move n Left p k l) (may_move n Right p k l) t
   either Right p k l t = or-second (may_move n Left p k l) (may_move n Right p k l) t

@@ -3,7 +3,7 @@ ghost use Rattle.std.specs.Prelude.{◌≡◌};
 
 use crate::placing::outcomes_of;
 use crate::strip::Strip;
-use cg_moves::{Board, Boards, Player, Rules};
+use cg_moves::{Board, Boards, Pieces, Player, Rules};
 use std::alloc::{AllocError, Global};
 
 impl Rules for Strip {
@@ -20,6 +20,10 @@ impl Rules for Strip {
         let cells = board.cells(alloc)?;
         let outcomes = outcomes_of(alloc, self.rules(), player, cells.as_slice())?;
         outcomes.boards(alloc, board)
+    }
+
+    fn pieces(&self, _alloc: Global, _board: &Board) -> Result<Pieces, AllocError> {
+        Ok(Pieces::Whole)
     }
 
     fn number(&self) -> u8 {

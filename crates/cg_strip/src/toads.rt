@@ -4,7 +4,7 @@ ghost use Rattle.cg_strip.specs.Toads.{toads_moves};
 ghost use Rattle.cg_strip.specs.ToadsBoards.{IsToadsBoard, IsNoToadsBoard};
 
 use crate::placing::place_all;
-use cg_moves::{Board, BoardFault, Boards, Outcomes, Player, Rules, read_grid};
+use cg_moves::{Board, BoardFault, Boards, Outcomes, Pieces, Player, Rules, read_grid};
 use std::alloc::{AllocError, Global};
 
 /// Toads and Frogs: toads, which are Left's, step and jump to the right, and frogs, which are Right's, to the left.
@@ -44,6 +44,10 @@ impl Rules for Toads {
         let cells = board.cells(alloc)?;
         let outcomes = hops(alloc, player, cells.as_slice())?;
         outcomes.boards(alloc, board)
+    }
+
+    fn pieces(&self, _alloc: Global, _board: &Board) -> Result<Pieces, AllocError> {
+        Ok(Pieces::Whole)
     }
 
     fn number(&self) -> u8 {

@@ -1,4 +1,4 @@
-use Rattle.cg_moves.proofs.Pieces.{pieces-sum}
+use Rattle.cg_moves.proofs.PieceSums.{pieces-sum}
 use Rattle.cg_moves.proofs.laws.l9.Goals as goal
 
 pub returns : goal.returns

@@ -4,61 +4,62 @@ use Rattle.std.proofs.lemmas.Result.{err_from_is_err_and}
 use Rattle.cg_moves.specs.declared.walk.Task.{Task}
 use Rattle.cg_moves.specs.declared.walk.Task.TheVariants.{Enter}
 use Rattle.cg_moves.specs.Kept.{kept}
+use Rattle.cg_moves.specs.Plays.{play_of}
 use Rattle.cg_moves.specs.Walks.{GoesOn, IsWalk, boards_left, task_board}
+use Rattle.cg_moves.proofs.PlayLemmas.{plays}
 use Rattle.cg_moves.proofs.SeenLemmas.{passed_on}
-use Rattle.cg_moves.proofs.WalkLemmas.{enter_new, enter_seen, leave, leave_refused, next_has, next_like}
+use Rattle.cg_moves.proofs.WalkLemmas.{enter_new, enter_seen, leave, leave_refused, next_has, next_symbols}
 use Rattle.cg_moves.proofs.walk.step.Goals as goal
 
 pub has-requires : goal.has-requires
-has-requires g c = next_like (g.R.Rules.game c.args.rules.now) c.args.limit c.args.walk.seen c.args.walk.tasks.items
-    c.args.task c.in-Enter.board c.requires (sym (ap task_board c.in-Enter.is))
+has-requires g c = next_symbols (play_of (g.R.Rules.game c.args.rules.now) c.args.course) c.args.limit c.args.walk.seen c.args.walk.tasks.items
+    c.args.task c.in-Enter.board c.requires.walk (sym (ap task_board c.in-Enter.is))
 
-pub expand-requires : goal.expand-requires
-expand-requires g c = next_has (g.R.Rules.game c.args.rules.now) c.args.limit c.args.walk.seen c.args.walk.tasks.items
-    c.args.task c.in-Enter.board c.requires (sym (ap task_board c.in-Enter.is))
+pub expand-requires-clause-has : goal.expand-requires-clause-has
+expand-requires-clause-has g c = next_has (play_of (g.R.Rules.game c.args.rules.now) c.args.course) c.args.limit c.args.walk.seen c.args.walk.tasks.items
+    c.args.task c.in-Enter.board c.requires.walk (sym (ap task_board c.in-Enter.is))
 
-pub add-requires-clause-like : goal.add-requires-clause-like
-add-requires-clause-like g c = next_like (g.R.Rules.game c.args.rules.now) c.args.limit c.args.walk.seen
-    c.args.walk.tasks.items c.args.task c.in-Leave.board c.requires (sym (ap task_board c.in-Leave.is))
+pub add-requires-clause-symbols : goal.add-requires-clause-symbols
+add-requires-clause-symbols g c = next_symbols (play_of (g.R.Rules.game c.args.rules.now) c.args.course) c.args.limit c.args.walk.seen
+    c.args.walk.tasks.items c.args.task c.in-Leave.board c.requires.walk (sym (ap task_board c.in-Leave.is))
 
 pub returns-then-branch-clause-goes_on : goal.returns-then-branch-clause-goes_on
 returns-then-branch-clause-goes_on g c =
-    let r = g.R.Rules.game c.args.rules.now in
+    let r = play_of (g.R.Rules.game c.args.rules.now) c.args.course in
     let ts = c.args.walk.tasks.items in
     let P : Task → Type 0 = λ t. IsWalk r c.args.limit c.args.walk.seen (ts ++ (t ∷ [])) in
     let Q : Task → Type 0 = λ t. GoesOn r c.args.limit c.args.walk.seen c.args.walk.seen (ts ++ (t ∷ [])) ts in
-    subst Q (sym c.in-Enter.is) (enter_seen r (g.met.R.Rules.lawful c.args.rules.now) c.args.limit c.args.walk.seen ts
-    c.in-Enter.board (subst P c.in-Enter.is c.requires) (c.in_ok-has-in-Enter.ensures.0 c.if-branch.true))
+    subst Q (sym c.in-Enter.is) (enter_seen r (plays (g.R.Rules.game c.args.rules.now) (g.met.R.Rules.lawful c.args.rules.now) c.args.course c.requires.may) c.args.limit c.args.walk.seen ts
+    c.in-Enter.board (subst P c.in-Enter.is c.requires.walk) (c.in_ok-has-in-Enter.ensures.0 c.if-branch.true))
 
 pub returns-in_ok-tasks-in-Enter-clause-goes_on : goal.returns-in_ok-tasks-in-Enter-clause-goes_on
 returns-in_ok-tasks-in-Enter-clause-goes_on g c =
-    let r = g.R.Rules.game c.args.rules.now in
+    let r = play_of (g.R.Rules.game c.args.rules.now) c.args.course in
     let ts = c.args.walk.tasks.items in
     let p = c.in-Enter.board in
     let P : Task → Type 0 = λ t. IsWalk r c.args.limit c.args.walk.seen (ts ++ (t ∷ [])) in
     let Q : Task → Type 0 = λ t. GoesOn r c.args.limit c.args.walk.seen c.args.walk.seen (ts ++ (t ∷ []))
     c.in_ok-tasks-in-Enter.tasks.items in
     let S : List Task → Type 0 = λ z. GoesOn r c.args.limit c.args.walk.seen c.args.walk.seen (ts ++ (Enter p ∷ [])) z in
-    subst Q (sym c.in-Enter.is) (subst S (sym c.in_ok-tasks-in-Enter.ensures) (enter_new r (g.met.R.Rules.lawful
-    c.args.rules.now) c.args.limit c.args.walk.seen ts p (subst P c.in-Enter.is c.requires)))
+    subst Q (sym c.in-Enter.is) (subst S (sym c.in_ok-tasks-in-Enter.ensures) (enter_new r (plays (g.R.Rules.game c.args.rules.now) (g.met.R.Rules.lawful c.args.rules.now) c.args.course c.requires.may) c.args.limit c.args.walk.seen ts p (subst P c.in-Enter.is c.requires.walk)))
 
 pub returns-in_ok-seen-in-Leave-clause-goes_on : goal.returns-in_ok-seen-in-Leave-clause-goes_on
 returns-in_ok-seen-in-Leave-clause-goes_on g c =
-    let r = g.R.Rules.game c.args.rules.now in
+    let r = play_of (g.R.Rules.game c.args.rules.now) c.args.course in
     let ts = c.args.walk.tasks.items in
     let P : Task → Type 0 = λ t. IsWalk r c.args.limit c.args.walk.seen (ts ++ (t ∷ [])) in
     let Q : Task → Type 0 = λ t. GoesOn r c.args.limit c.args.walk.seen c.in_ok-seen-in-Leave.seen (ts ++ (t ∷ [])) ts in
-    subst Q (sym c.in-Leave.is) (leave r (g.met.R.Rules.lawful c.args.rules.now) c.args.limit c.args.walk.seen ts
-    c.in-Leave.board c.in_ok-seen-in-Leave.seen (subst P c.in-Leave.is c.requires) c.in_ok-seen-in-Leave.ensures.added
+    subst Q (sym c.in-Leave.is) (leave r (plays (g.R.Rules.game c.args.rules.now) (g.met.R.Rules.lawful c.args.rules.now) c.args.course c.requires.may) c.args.limit c.args.walk.seen ts
+    c.in-Leave.board c.in_ok-seen-in-Leave.seen (subst P c.in-Leave.is c.requires.walk) c.in_ok-seen-in-Leave.ensures.added
     c.in_ok-seen-in-Leave.ensures.within)
 
 pub returns-in_err-seen-in-Leave-clause-refused : goal.returns-in_err-seen-in-Leave-clause-refused
 returns-in_err-seen-in-Leave-clause-refused g c =
     let p = err_from_is_err_and c.from_residual-in_err-seen-in-Leave.result
     c.from_residual-in_err-seen-in-Leave.ensures.1 in λ e.
-    let r = g.R.Rules.game c.args.rules.now in
+    let r = play_of (g.R.Rules.game c.args.rules.now) c.args.course in
     let ts = c.args.walk.tasks.items in
     let Q : Task → Type 0 = λ t. c.args.limit < length (kept c.args.walk.seen (boards_left r (ts ++ (t ∷ [])))) in
-    subst Q (sym c.in-Leave.is) (leave_refused r (g.met.R.Rules.lawful c.args.rules.now) c.args.limit c.args.walk.seen
+    subst Q (sym c.in-Leave.is) (leave_refused r (plays (g.R.Rules.game c.args.rules.now) (g.met.R.Rules.lawful c.args.rules.now) c.args.course c.requires.may) c.args.limit c.args.walk.seen
     ts c.in-Leave.board (c.in_err-seen-in-Leave.ensures.refused (ap Err (passed_on p.0 c.in_err-seen-in-Leave.field-0.0
     c.from_residual-in_err-seen-in-Leave.result p.1 p.2 e))))

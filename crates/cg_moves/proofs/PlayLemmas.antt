@@ -1,0 +1,112 @@
+-- Going over boards by moves, and from piece to piece.
+use Rattle.std.proofs.Common.{◌≡◌, refl, true, inl, inr, List, [], ◌∷◌, ◌++◌, ap, sym, ◌∙◌, subst, arith}
+use Rattle.std.specs.List.{flat_map}
+use Rattle.std.proofs.lemmas.Grind.{flat_map-append}
+use Rattle.std.proofs.lemmas.List.{append-nil}
+use Rattle.cg_moves.specs.declared.course.Course.{Course}
+use Rattle.cg_moves.specs.declared.course.Course.TheVariants.{Moves, Pieces}
+use Rattle.cg_moves.specs.declared.player.Player.{Player}
+use Rattle.cg_moves.specs.declared.player.Player.TheVariants.{Left, Right}
+use Rattle.cg_moves.specs.Grid.{Grid, with_cells}
+use Rattle.cg_moves.specs.Kept.{kept}
+use Rattle.cg_moves.specs.PieceReach.{all_piece_reached, piece_reach_of}
+use Rattle.cg_moves.specs.Plays.{IsPlay, MayGo, next_pieces, pieces_after, play_of}
+use Rattle.cg_moves.specs.Reach.{all_reached, reach_of}
+use Rattle.cg_moves.specs.Rules.{GameRules, In, IsCut, IsLawful, boards_after, followers}
+use Rattle.cg_moves.specs.Walks.{AreStarts}
+use Rattle.cg_moves.proofs.Bounds.{follower-has, follower-lowers, reached-moves}
+use Rattle.cg_moves.proofs.KeptLemmas.{once-kept}
+use Rattle.cg_moves.proofs.Members.{flat_map-agree, in-append, in-flat_map, in-map, in_one}
+use Rattle.cg_moves.proofs.PieceBounds.{piece_reached-moves}
+
+module _ {X Y : Type 0} where
+  flat_map-twice : {Z : Type 0} (f : X → List Y) (g : Z → List X) (zs : List Z)
+      → flat_map f (flat_map g zs) ≡ flat_map (λ z. flat_map f (g z)) zs
+  flat_map-twice {Z} f g [] = refl
+  flat_map-twice {Z} f g (z ∷ zs) =
+      flat_map-append f (g z) (flat_map g zs) ∙ ap (λ y. flat_map f (g z) ++ y) (flat_map-twice f g zs)
+
+module _ (r : GameRules) (lawful : IsLawful r) where
+  pub follower-symbols : (p q : Grid) → In q (followers r p) → q.symbols ≡ p.symbols
+  follower-symbols p q m =
+      let go : (player : Player) → In q (boards_after r player p) → q.symbols ≡ p.symbols = λ player k.
+      (let (cells, n, e) = in-map (with_cells p) q (r.moves player p) k in ap (λ z. z.symbols) e) in
+      elim (in-append q (boards_after r Left p) (boards_after r Right p) m) [ inl k ↦ go Left k | inr k ↦ go Right k ]
+
+  pub by-moves : IsPlay (play_of r Moves)
+  by-moves = record {
+    has = follower-has r lawful;
+    symbols = λ p q has m. follower-symbols p q m;
+    lowers = follower-lowers r lawful;
+    all = reached-moves r lawful;
+  }
+
+  module _ (cut : IsCut r) where
+    -- a piece of a board that a move leads to
+    record NextPiece (p q : Grid) : Type 0 where
+      board : Grid
+      follows : In board (followers r p)
+      piece : In q (r.pieces board)
+
+    next-piece : (p q : Grid) → In q (next_pieces r p) → NextPiece p q
+    next-piece p q m = let (s, l, o) = in-flat_map r.pieces q (followers r p) m in record {
+      board = s;
+      follows = l;
+      piece = o;
+    }
+
+    pub by-pieces : IsPlay (play_of r Pieces)
+    by-pieces = record {
+      has = λ p q has m.
+          let s = next-piece p q m in cut.has s.board q (follower-has r lawful p s.board has s.follows) s.piece;
+      symbols = λ p q has m.
+          let s = next-piece p q m in
+          cut.symbols s.board q (follower-has r lawful p s.board has s.follows) s.piece
+          ∙ follower-symbols p s.board s.follows;
+      lowers = λ p q has m.
+          let s = next-piece p q m in
+          let a = cut.measure s.board q (follower-has r lawful p s.board has s.follows) s.piece in
+          let b = follower-lowers r lawful p s.board has s.follows in
+          omega (arith, a, b);
+      all = λ p has.
+          ap (λ z. z ++ (p ∷ []))
+          (flat_map-agree (all_piece_reached r) (λ s. flat_map (pieces_after r) (r.pieces s)) (followers r p)
+          (λ s l. piece_reached-moves r lawful cut s (follower-has r lawful p s has l))
+          ∙ sym (flat_map-twice (pieces_after r) r.pieces (followers r p)));
+    }
+
+    pub piece_starts : (p : Grid) → r.has p ≡ true → AreStarts (play_of r Pieces) (r.pieces p)
+    piece_starts p has = record {
+      symbols = p.symbols;
+      known = λ q m. (cut.symbols p q has m, cut.has p q has m);
+    }
+
+    pub piece_reach-kept : (p : Grid) → r.has p ≡ true
+        → piece_reach_of r p ≡ kept [] (flat_map (play_of r Pieces).all (r.pieces p))
+    unfolding piece_reach_of
+    piece_reach-kept p has = once-kept (all_piece_reached r p) ∙ ap (kept []) (piece_reached-moves r lawful cut p has)
+
+    pub piece_reach-all : (p : Grid) (starts : List Grid) → r.has p ≡ true → starts ≡ r.pieces p
+        → piece_reach_of r p ≡ kept [] (flat_map (play_of r Pieces).all starts)
+    piece_reach-all p starts has e =
+        piece_reach-kept p has ∙ ap (λ z. kept [] (flat_map (play_of r Pieces).all z)) (sym e)
+
+  pub plays : (course : Course) → MayGo r course → IsPlay (play_of r course)
+  plays Moves may = by-moves
+  plays Pieces may = by-pieces (lawful.cut may)
+
+  pub one_start : (p : Grid) (starts : List Grid) → r.has p ≡ true → starts ≡ p ∷ [] → AreStarts (play_of r Moves) starts
+  one_start p starts has e =
+      let P : List Grid → Type 0 = λ z. AreStarts (play_of r Moves) z in
+      let Q : Grid → Type 0 = λ z. (z.symbols ≡ p.symbols) × (r.has z ≡ true) in
+      subst P (sym e) (record {
+        symbols = p.symbols;
+        known = λ q m. subst Q (sym (in_one q p m)) (refl, has);
+      })
+
+  pub reach-kept_all : (p : Grid) (starts : List Grid) → starts ≡ p ∷ []
+      → reach_of r p ≡ kept [] (flat_map (play_of r Moves).all starts)
+  unfolding reach_of
+  reach-kept_all p starts e =
+      once-kept (all_reached r p)
+      ∙ ap (kept []) (sym (ap (flat_map (all_reached r)) e ∙ append-nil (all_reached r p)))
