@@ -18,7 +18,7 @@ adjacent : (pairs : List Pair) (k l : ℕ) → list_any (is_between k l) pairs �
 adjacent [] k l = refl
 adjacent (e ∷ pairs) k l = ap (λ b. is_between k l e || b) (adjacent pairs k l)
 
-any_in : (f : ℕ → Bool) (xs : List ℕ) (k : ℕ) → In k xs → f k ≡ true → list_any f xs ≡ true
+pub any_in : (f : ℕ → Bool) (xs : List ℕ) (k : ℕ) → In k xs → f k ≡ true → list_any f xs ≡ true
 any_in f [] k m t = absurd m
 any_in f (x ∷ xs) k (inl e) t = or-first (f x) (list_any f xs) (ap f (sym e) ∙ t)
 any_in f (x ∷ xs) k (inr m) t = or-second (f x) (list_any f xs) (any_in f xs k m t)

@@ -14,3 +14,4 @@ pub mod DrawingReadings
 pub mod ChartReadings
 pub mod ChartSound
 pub mod Starts
+pub mod ColouringMoves

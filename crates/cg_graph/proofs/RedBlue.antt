@@ -35,7 +35,7 @@ there-within [] k there = absurd (there refl)
 there-within (c ∷ cs) zero there = omega arith
 there-within (c ∷ cs) (suc k) there = let h = there-within cs k there in omega arith
 
-cut_is : (edges : List Edge) (player : Player) (cells : List ℕ) (k : ℕ) → may_cut player (colour cells k) ≡ true
+pub cut_is : (edges : List Edge) (player : Player) (cells : List ℕ) (k : ℕ) → may_cut player (colour cells k) ≡ true
     → In (cut edges cells k) (cuts_of edges player cells)
 cut_is edges player cells k may =
     let P : Bool → Type 0 = λ b. In (cut edges cells k) (if b then cut edges cells k ∷ [] else []) in

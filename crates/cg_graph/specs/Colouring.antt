@@ -1,13 +1,13 @@
 -- Col and Snort on graphs. Berlekamp, Conway, Guy, Winning Ways, chapters 2 and 6: a player turns a free vertex into the own
 -- colour. In Col no neighbour may have the own colour, and in Snort none the other player's.
-use Rattle.std.specs.Prelude.{ℕ, ◌==◌, ◌&&◌, ◌||◌, Bool, false, not, if◌then◌else◌, List, [], ◌∷◌, codes, count_by, length, slice_index, slice_set}
+use Rattle.std.specs.Prelude.{◌<◌, ◌⊎◌, ◌≢◌, ◌≡◌, ℕ, ◌==◌, ◌&&◌, ◌||◌, Bool, false, not, if◌then◌else◌, List, [], ◌∷◌, codes, count_by, length, slice_index, slice_set}
 use Rattle.std.specs.List.{flat_map, list_any}
 use Rattle.std.specs.Str.{bytes_eq}
 use Rattle.cg_moves.specs.declared.player.Player.{Player}
 use Rattle.cg_moves.specs.declared.player.Player.TheVariants.{Left, Right}
 use Rattle.cg_moves.specs.Connected.{Edge}
 use Rattle.cg_moves.specs.Rising.{counted, rising}
-use Rattle.cg_moves.specs.Rules.{GameRules}
+use Rattle.cg_moves.specs.Rules.{GameRules, In}
 
 -- `.`
 abbrev pub free : ℕ
@@ -55,3 +55,18 @@ colouring snort vertices edges = record {
   cuts = false;
   pieces = λ p. [];
 }
+
+-- ---- the same, said of one move: the law function `moves` says so
+
+-- an edge joins the two vertices
+abbrev pub AreNeighbours : List Edge → ℕ → ℕ → Type 0
+AreNeighbours edges k l = In (record { one = k; other = l }) edges ⊎ In (record { one = l; other = k }) edges
+
+-- a move of the player leads from these cells to those: it gives a free vertex, no neighbour of which has the forbidden
+-- colour, the own colour
+pub record IsColouringMove (snort : Bool) (edges : List Edge) (player : Player) (cells after : List ℕ) : Type 0 where
+  pub vertex : ℕ
+  pub within : vertex < length cells
+  pub was_free : slice_index cells vertex ≡ free
+  pub allowed : (l : ℕ) → l < length cells → AreNeighbours edges vertex l → slice_index cells l ≢ forbidden snort player
+  pub written : after ≡ slice_set cells vertex (own player)

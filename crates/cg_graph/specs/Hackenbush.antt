@@ -39,6 +39,13 @@ cuts_at edges player cells k = if may_cut player (colour cells k) then cut edges
 abbrev pub cuts_of : List Edge → Player → List ℕ → List (List ℕ)
 cuts_of edges player cells = rising (flat_map (cuts_at edges player cells) (counted 0 (length cells)))
 
+-- a move of the player leads from these cells to those: it cuts an edge that the player may cut. The law function `moves`
+-- says that these are the moves
+pub record IsCutMove (edges : List Edge) (player : Player) (cells after : List ℕ) : Type 0 where
+  pub place : ℕ
+  pub may : may_cut player (colour cells place) ≡ true
+  pub left : after ≡ cut edges cells place
+
 -- a board is a row with a cell for each edge, with the symbols `.`, `b`, `r` and `g`; each move lowers the number of edges
 -- that are there
 abbrev pub hackenbush : List Edge → GameRules

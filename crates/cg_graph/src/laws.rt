@@ -7,13 +7,14 @@ ghost use Rattle.cg_moves.specs.declared.player.Player.{Player};
 ghost use Rattle.cg_moves.specs.declared.player.Player.TheVariants.{Left, Right};
 ghost use Rattle.cg_moves.specs.Grid.{Grid};
 ghost use Rattle.cg_moves.specs.Raw.{raw};
+ghost use Rattle.cg_moves.specs.Rising.{IsRising};
 ghost use Rattle.cg_moves.specs.Rules.{In, IsLawful, boards_after};
 ghost use Rattle.cg_graph.specs.Charts.{Chart, IsChartedAs, IsNotCharted, chart_read};
 ghost use Rattle.cg_graph.specs.Drawings.{IsDrawnAs, IsNotDrawn, colours_of, drawing_read, drawing_start, graph_of};
-ghost use Rattle.cg_graph.specs.Hackenbush.{IsRedBlue, cuts_of, green, hackenbush};
+ghost use Rattle.cg_graph.specs.Hackenbush.{IsCutMove, IsRedBlue, cuts_of, green, hackenbush};
 ghost use Rattle.cg_graph.specs.declared.edge.ColouredEdge.{ColouredEdge};
 ghost use Rattle.cg_graph.specs.Paths.{Edge, IsJoined, IsSettled, colour, is_joined, settled};
-ghost use Rattle.cg_graph.specs.Colouring.{colouring, colourings_of};
+ghost use Rattle.cg_graph.specs.Colouring.{IsColouringMove, colouring, colourings_of};
 ghost use Rattle.cg_graph.specs.Worked.{pair, path};
 
 use crate::GraphFault;
@@ -49,6 +50,19 @@ pub fn worked()
     ensures left { cuts_of path Left (codes "brr") ≡ codes "..." ∷ [] }
     ensures right { cuts_of path Right (codes "brr") ≡ codes "b.." ∷ (codes "br." ∷ []) }
     ensures start { settled path (codes ".rr") ≡ codes "..." }
+{}
+
+/// The moves of Hackenbush are exactly the cuts of edges that the player may cut, and those of Col and Snort exactly the
+/// colourings of free vertices without a neighbour of the forbidden colour, in rising order of the bytes of the cells that
+/// they lead to, each once.
+pub fn moves()
+    ensures cuts { (edges : List Edge) (player : Player) (cells after : List ℕ)
+        → In after (cuts_of edges player cells) ↔ IsCutMove edges player cells after }
+    ensures colourings { (snort : Bool) (edges : List Edge) (player : Player) (cells after : List ℕ)
+        → In after (colourings_of snort edges player cells) ↔ IsColouringMove snort edges player cells after }
+    ensures cuts_rise { (edges : List Edge) (player : Player) (cells : List ℕ) → IsRising (cuts_of edges player cells) }
+    ensures colourings_rise { (snort : Bool) (edges : List Edge) (player : Player) (cells : List ℕ)
+        → IsRising (colourings_of snort edges player cells) }
 {}
 
 /// What a text is read as, computed: a drawing exactly where it is one, and a fault exactly where it is refused so.
