@@ -1,5 +1,5 @@
 -- Ups and downs, made one after another.
-use Rattle.std.proofs.Common.{◌≡◌, refl, ap, sym, ◌∙◌, subst, ℕ, zero, suc, ◌+◌, ◌-◌, ◌%◌, ◌<◌, ◌≤◌, arith, List, [], ◌∷◌, ◌++◌, append_assoc, append-nil, Bool, true, false, not, ◌&&◌, nat_eq, inl, inr}
+use Rattle.std.proofs.Common.{◌≡◌, refl, ap, sym, ◌∙◌, subst, ℕ, zero, suc, ◌+◌, ◌-◌, ◌%◌, ◌<◌, ◌≤◌, arith, List, [], ◌∷◌, ◌++◌, append_assoc, append-nil, Bool, true, false, not, ◌&&◌, nat_eq, inl, inr, Result, Ok, Err}
 use Rattle.std.proofs.lemmas.Bool.Decides.{nat_tests}
 use Rattle.cg_dyadic.proofs.Truth.{not_not}
 use Rattle.cg_dyadic.proofs.Truth.{true_or_false}
@@ -9,10 +9,10 @@ use Rattle.cg_nodes.specs.Games.{StandsFor, game_at, games_at}
 use Rattle.cg_nodes.specs.Meant.{Meant}
 use Rattle.cg_nodes.proofs.Later.{stands_game, stands_later}
 use Rattle.cg_canon.specs.declared.fault.ValueFault.{ValueFault}
-use Rattle.cg_canon.specs.Works.{WorkOf, work_state}
-use Rattle.cg_names.specs.Making.{Makes, Refuses}
+use Rattle.cg_canon.specs.declared.rest.WorkRest.{WorkRest}
+use Rattle.cg_names.specs.Making.{FormsMade}
 use Rattle.cg_names.specs.Named.{mirrored_if, nimber_form, nimbers_below, star_form, ups_chain, ups_form, ups_last, ups_of, zero_form}
-use Rattle.cg_names.proofs.Steps.{makes_at, makes_none, makes_then, refuses_then}
+use Rattle.cg_names.proofs.Steps.{forms_after, forms_stopped, forms_with}
 
 -- ---- which games of the chain have a star
 
@@ -68,145 +68,132 @@ one_is down false zero e = refl
 one_is down true zero e = absurd (cc)
 one_is down starred (suc n) e = refl
 
-module _ {S R : Type 0} (state : S → State Meant R) where
+module _ {R : Type 0} (v : State Meant R) where
   -- what is made of the handles
-  pub two_made : (v : WorkOf S) (down starred : Bool) (level z last : ℕ) → StandsFor (work_state state v) z zero_form
-      → StandsFor (work_state state v) last (ups_last down (not starred) level) → (starred && nat_eq level 0) ≡ true
-      → mirrored_if down (games_at (work_state state v) (z ∷ (last ∷ []))) (games_at (work_state state v) (z ∷ [])) ≡
-      ups_of down starred (suc level)
-  two_made v down starred level z last a b e =
-      ap (λ g. mirrored_if down (g ∷ (game_at (work_state state v) last ∷ [])) (g ∷ []))
-      (stands_game (work_state state v) z zero_form a)
+  pub two_made : (down starred : Bool) (level z last : ℕ) → StandsFor v z zero_form
+      → StandsFor v last (ups_last down (not starred) level) → (starred && nat_eq level 0) ≡ true
+      → mirrored_if down (games_at v (z ∷ (last ∷ []))) (games_at v (z ∷ [])) ≡ ups_of down starred (suc level)
+  two_made down starred level z last a b e =
+      ap (λ g. mirrored_if down (g ∷ (game_at v last ∷ [])) (g ∷ [])) (stands_game v z zero_form a)
       ∙ ap (λ g. mirrored_if down (zero_form ∷ (g ∷ [])) (zero_form ∷ []))
-      (stands_game (work_state state v) last (ups_last down (not starred) level) b)
+      (stands_game v last (ups_last down (not starred) level) b)
       ∙ two_are down starred level e
 
-  pub one_made : (v : WorkOf S) (down starred : Bool) (level z last : ℕ) → StandsFor (work_state state v) z zero_form
-      → StandsFor (work_state state v) last (ups_last down (not starred) level) → (starred && nat_eq level 0) ≡ false
-      → mirrored_if down (games_at (work_state state v) (z ∷ [])) (games_at (work_state state v) (last ∷ [])) ≡ ups_of
-      down starred (suc level)
-  one_made v down starred level z last a b e =
-      ap (λ g. mirrored_if down (g ∷ []) (game_at (work_state state v) last ∷ []))
-      (stands_game (work_state state v) z zero_form a)
-      ∙ ap (λ g. mirrored_if down (zero_form ∷ []) (g ∷ [])) (stands_game (work_state state v) last
-      (ups_last down (not starred) level) b)
+  pub one_made : (down starred : Bool) (level z last : ℕ) → StandsFor v z zero_form
+      → StandsFor v last (ups_last down (not starred) level) → (starred && nat_eq level 0) ≡ false
+      → mirrored_if down (games_at v (z ∷ [])) (games_at v (last ∷ [])) ≡ ups_of down starred (suc level)
+  one_made down starred level z last a b e =
+      ap (λ g. mirrored_if down (g ∷ []) (game_at v last ∷ [])) (stands_game v z zero_form a)
+      ∙ ap (λ g. mirrored_if down (zero_form ∷ []) (g ∷ []))
+      (stands_game v last (ups_last down (not starred) level) b)
       ∙ one_is down starred level e
 
-  pub star_made : (v : WorkOf S) (z : ℕ) → StandsFor (work_state state v) z zero_form
-      → mirrored_if false (games_at (work_state state v) (z ∷ [])) (games_at (work_state state v) (z ∷ [])) ≡ star_form
-  star_made v z a = ap (λ g. mirrored_if false (g ∷ []) (g ∷ [])) (stands_game (work_state state v) z zero_form a)
+  pub star_made : (z : ℕ) → StandsFor v z zero_form
+      → mirrored_if false (games_at v (z ∷ [])) (games_at v (z ∷ [])) ≡ star_form
+  star_made z a = ap (λ g. mirrored_if false (g ∷ []) (g ∷ [])) (stands_game v z zero_form a)
 
 -- ---- the loop
 
 -- the handles of 0 and of the game that was made last, and what was made
-pub record UpsMade {S R : Type 0} (state : S → State Meant R) (w v : WorkOf S) (down : Bool) (count z last : ℕ)
-    (starred : Bool) (level : ℕ) : Type 0 where
-  pub zero_stands : StandsFor (work_state state v) z zero_form
-  pub last_stands : StandsFor (work_state state v) last (ups_last down starred level)
-  pub makes : Makes state w v (ups_chain down starred level)
+pub record UpsMade {R : Type 0} (w v : State Meant (WorkRest R)) (down : Bool) (count z last : ℕ) (starred : Bool)
+    (level : ℕ) : Type 0 where
+  pub zero_stands : StandsFor v z zero_form
+  pub last_stands : StandsFor v last (ups_last down starred level)
+  pub made : FormsMade w v (ups_chain down starred level) (Ok last)
   pub parity : starred ≡ odd (count - level)
+  pub more : w.spare ≤ v.spare
 
-module _ {S R : Type 0} (state : S → State Meant R) where
-  pub ups_start : (w v u : WorkOf S) (down : Bool) (count z last : ℕ) (starred : Bool) → StandsFor
-      (work_state state v) z zero_form
-      → Makes state w v (zero_form ∷ []) → StandsFor (work_state state u) last star_form → Makes state v u
-      (star_form ∷ [])
-      → starred ≡ odd count → UpsMade state w u down count z last starred 0
+-- before the next one
+next_odd : (count level : ℕ) (starred : Bool) → starred ≡ odd (count - level) → level < count → not starred ≡
+    odd (count - suc level)
+next_odd count level starred p l =
+    let d : count - level ≡ suc (count - suc level) = omega arith in
+    ap not (p ∙ ap odd d ∙ odd-next (count - suc level)) ∙ not_not (odd (count - suc level))
+
+pub last_before : {R : Type 0} (v : State Meant R) (down starred : Bool) (last level : ℕ)
+    → StandsFor v last (ups_last down starred level) → StandsFor v last (ups_last down (not (not starred)) level)
+last_before v down starred last level s =
+    let P : Bool → Type 0 = λ b. StandsFor v last (ups_last down b level) in subst P (sym (not_not starred)) s
+
+-- 0 and *, with which each chain begins
+module _ {R : Type 0} (w v : State Meant (WorkRest R)) (down : Bool) (count : ℕ) where
+  pub ups_first_refused : (r q : Result ℕ ValueFault) (fault : ValueFault) → r ≡ Err fault → q ≡ Err fault
+      → FormsMade w v (zero_form ∷ []) r → FormsMade w v (ups_chain down false count) q
   unfolding ups_chain
-  ups_start w v u down count z last starred a m b n p = record {
-    zero_stands = stands_later (work_state state v) (work_state state u) n.keeps.known z zero_form a;
-    last_stands = b;
-    makes = makes_then state w v u (zero_form ∷ []) (star_form ∷ []) m n;
-    parity = p ∙ ap odd (let e : count ≡ count - 0 = omega arith in e);
-  }
+  ups_first_refused r q fault e f m =
+      let (back, front) = ups_chain-front down count 0 in
+      forms_stopped w v (zero_form ∷ []) (star_form ∷ back) (ups_chain down false count) r q fault e f m
+      (ap (ups_chain down false) (let e : count ≡ 0 + count = omega arith in e) ∙ front)
 
-  -- before the next one
-  pub next_odd : (count level : ℕ) (starred : Bool) → starred ≡ odd (count - level) → level < count → not starred ≡
-      odd (count - suc level)
-  next_odd count level starred p l =
-      let d : count - level ≡ suc (count - suc level) = omega arith in
-      ap not (p ∙ ap odd d ∙ odd-next (count - suc level)) ∙ not_not (odd (count - suc level))
+  module _ (u : State Meant (WorkRest R)) (r : Result ℕ ValueFault) (z : ℕ) (ok : r ≡ Ok z)
+      (m : FormsMade w v (zero_form ∷ []) r) (q : Result ℕ ValueFault) (n : FormsMade v u (star_form ∷ []) q) where
+    begun : FormsMade w u (zero_form ∷ (star_form ∷ [])) q
+    begun = forms_after w v u (zero_form ∷ []) (star_form ∷ []) (zero_form ∷ (star_form ∷ [])) r z q ok m n refl
 
-  pub last_before : (v : WorkOf S) (down starred : Bool) (last level : ℕ) → StandsFor (work_state state v) last
-      (ups_last down starred level)
-      → StandsFor (work_state state v) last (ups_last down (not (not starred)) level)
-  last_before v down starred last level s =
-      let P : Bool → Type 0 = λ b. StandsFor (work_state state v) last (ups_last down b level) in subst P
-      (sym (not_not starred)) s
+    pub ups_star_refused : (o : Result ℕ ValueFault) (fault : ValueFault) → q ≡ Err fault → o ≡ Err fault
+        → FormsMade w u (ups_chain down false count) o
+    unfolding ups_chain
+    ups_star_refused o fault e f =
+        let (back, front) = ups_chain-front down count 0 in
+        forms_stopped w u (zero_form ∷ (star_form ∷ [])) back (ups_chain down false count) q o fault e f begun
+        (ap (ups_chain down false) (let e : count ≡ 0 + count = omega arith in e) ∙ front)
 
-  pub ups_next : (w v u : WorkOf S) (down : Bool) (count z last next : ℕ) (starred : Bool) (level after : ℕ)
-      → UpsMade state w v down count z last starred level → StandsFor (work_state state u) next
-      (ups_of down (not starred) (suc level))
-      → Makes state v u (ups_of down (not starred) (suc level) ∷ []) → level < count → after ≡ suc level
-      → UpsMade state w u down count z next (not starred) after
-  ups_next w v u down count z last next starred level after i s m l e =
-      let N : ℕ → Type 0 = λ k. UpsMade state w u down count z next (not starred) k in
-      let all : ups_chain down starred level ++ (ups_of down (not starred) (suc level) ∷ []) ≡ ups_chain down
-      (not starred) (suc level) =
-      ap (λ b. ups_chain down b level ++ (ups_of down (not starred) (suc level) ∷ [])) (sym (not_not starred))
-      ∙ sym (ups_chain-next down (not starred) level) in
+    pub ups_start : (last : ℕ) (starred : Bool) → q ≡ Ok last → StandsFor v z zero_form → StandsFor u last star_form
+        → w.spare ≤ v.spare → v.spare ≤ u.spare → starred ≡ odd count → UpsMade w u down count z last starred 0
+    unfolding ups_chain
+    ups_start last starred o a b k l p = record {
+      zero_stands = stands_later v u n.keeps.known z zero_form a;
+      last_stands = b;
+      made = forms_with w u (zero_form ∷ (star_form ∷ [])) q (Ok last) last last o refl begun;
+      parity = p ∙ ap odd (let e : count ≡ count - 0 = omega arith in e);
+      more = omega arith;
+    }
+
+-- one game more
+module _ {R : Type 0} (w v u : State Meant (WorkRest R)) (down : Bool) (count z last : ℕ) (starred : Bool) (level : ℕ)
+    (i : UpsMade w v down count z last starred level) (r : Result ℕ ValueFault)
+    (m : FormsMade v u (ups_of down (not starred) (suc level) ∷ []) r) (within : level < count) where
+  one_more : FormsMade w u (ups_chain down (not starred) (suc level)) r
+  one_more =
+      forms_after w v u (ups_chain down starred level) (ups_of down (not starred) (suc level) ∷ [])
+      (ups_chain down (not starred) (suc level)) (Ok last) last r refl i.made m
+      (ups_chain-next down (not starred) level
+      ∙ ap (λ b. ups_chain down b level ++ (ups_of down (not starred) (suc level) ∷ [])) (not_not starred))
+
+  pub ups_next : (next after : ℕ) → r ≡ Ok next → StandsFor u next (ups_of down (not starred) (suc level))
+      → v.spare ≤ u.spare → after ≡ suc level → UpsMade w u down count z next (not starred) after
+  ups_next next after o s l e =
+      let N : ℕ → Type 0 = λ k. UpsMade w u down count z next (not starred) k in
+      let before = i.more in
       subst N (sym e) (record {
-        zero_stands = stands_later (work_state state v) (work_state state u) m.keeps.known z zero_form i.zero_stands;
+        zero_stands = stands_later v u m.keeps.known z zero_form i.zero_stands;
         last_stands = s;
-        makes = makes_at state w u _ (ups_chain down (not starred) (suc level)) all
-            (makes_then state w v u (ups_chain down starred level) (ups_of down (not starred) (suc level) ∷ [])
-            i.makes m);
-        parity = next_odd count level starred i.parity l;
+        made = forms_with w u (ups_chain down (not starred) (suc level)) r (Ok next) next next o refl one_more;
+        parity = next_odd count level starred i.parity within;
+        more = omega arith;
       })
 
-  -- ---- refusals
-
-  pub ups_refused : (fault : ValueFault) (w v u : WorkOf S) (down : Bool) (count z last : ℕ) (starred : Bool)
-      (level : ℕ)
-      → UpsMade state w v down count z last starred level → Refuses fault state v u
-      (ups_of down (not starred) (suc level) ∷ [])
-      → level < count → Refuses fault state w u (ups_chain down false count)
-  ups_refused fault w v u down count z last starred level i r l =
+  pub ups_refused : (q : Result ℕ ValueFault) (fault : ValueFault) → r ≡ Err fault → q ≡ Err fault
+      → FormsMade w u (ups_chain down false count) q
+  ups_refused q fault e f =
       let d : ℕ = count - suc level in
       let (back, front) = ups_chain-front down d (suc level) in
-      let next : List Game = ups_of down (not starred) (suc level) ∷ [] in
-      let s : not starred ≡ odd d = next_odd count level starred i.parity l in
-      let all : ups_chain down false count ≡ ups_chain down starred level ++ (next ++ back) =
-      ap (ups_chain down false) (let e : count ≡ suc level + d = omega arith in e) ∙ front
-      ∙ ap (λ b. ups_chain down b (suc level) ++ back) (sym s)
-      ∙ ap (λ z. z ++ back) (ups_chain-next down (not starred) level ∙ ap (λ b. ups_chain down b level ++ next)
-      (not_not starred))
-      ∙ append_assoc (ups_chain down starred level) next back in
-      refuses_then state fault w v u (ups_chain down starred level) next back (ups_chain down false count) i.makes r all
+      forms_stopped w u (ups_chain down (not starred) (suc level)) back (ups_chain down false count) r q fault e f one_more
+      (ap (ups_chain down false) (let e : count ≡ suc level + d = omega arith in e) ∙ front
+      ∙ ap (λ b. ups_chain down b (suc level) ++ back) (sym (next_odd count level starred i.parity within)))
 
-  pub ups_first_refused : (fault : ValueFault) (w v : WorkOf S) (down : Bool) (count : ℕ) → Refuses fault state w v
-      (zero_form ∷ [])
-      → Refuses fault state w v (ups_chain down false count)
-  unfolding ups_chain
-  ups_first_refused fault w v down count r =
-      let (back, front) = ups_chain-front down count 0 in
-      refuses_then state fault w w v [] (zero_form ∷ []) (star_form ∷ back) (ups_chain down false count)
-      (makes_none state w) r
-      (ap (ups_chain down false) (let e : count ≡ 0 + count = omega arith in e) ∙ front)
-
-  pub ups_star_refused : (fault : ValueFault) (w v u : WorkOf S) (down : Bool) (count : ℕ) → Makes state w v
-      (zero_form ∷ [])
-      → Refuses fault state v u (star_form ∷ []) → Refuses fault state w u (ups_chain down false count)
-  unfolding ups_chain
-  ups_star_refused fault w v u down count m r =
-      let (back, front) = ups_chain-front down count 0 in
-      refuses_then state fault w v u (zero_form ∷ []) (star_form ∷ []) back (ups_chain down false count) m r
-      (ap (ups_chain down false) (let e : count ≡ 0 + count = omega arith in e) ∙ front)
-
-  -- ---- the end
-
-  pub ups_done : (w v : WorkOf S) (down : Bool) (count z last : ℕ) (starred : Bool) (level : ℕ) → UpsMade state w v
-      down count z last starred level
-      → level ≡ count → 1 ≤ count → StandsFor (work_state state v) last (ups_form down count) × Makes state w v
-      (ups_chain down false count)
-  ups_done w v down zero z last starred level i e l = absurd (omega arith)
-  ups_done w v down (suc n) z last starred level i e l =
-      let s : starred ≡ false = i.parity ∙ ap odd (let d : suc n - level ≡ 0 = omega arith in d) in
-      let P : ℕ → Type 0 = λ k. StandsFor (work_state state v) last (ups_last down starred k) × Makes state w v
-      (ups_chain down starred k) in
-      let Q : Bool → Type 0 = λ b. StandsFor (work_state state v) last (ups_last down b (suc n)) × Makes state w v
-      (ups_chain down b (suc n)) in
-      subst Q s (subst P e (i.last_stands, i.makes))
+-- the end
+pub ups_done : {R : Type 0} (w v : State Meant (WorkRest R)) (down : Bool) (count z last : ℕ) (starred : Bool) (level : ℕ)
+    → UpsMade w v down count z last starred level → level ≡ count → 1 ≤ count
+    → StandsFor v last (ups_form down count) × FormsMade w v (ups_chain down false count) (Ok last)
+ups_done w v down zero z last starred level i e l = absurd (omega arith)
+ups_done w v down (suc n) z last starred level i e l =
+    let s : starred ≡ false = i.parity ∙ ap odd (let d : suc n - level ≡ 0 = omega arith in d) in
+    let P : ℕ → Type 0 = λ k. StandsFor v last (ups_last down starred k)
+    × FormsMade w v (ups_chain down starred k) (Ok last) in
+    let Q : Bool → Type 0 = λ b. StandsFor v last (ups_last down b (suc n))
+    × FormsMade w v (ups_chain down b (suc n)) (Ok last) in
+    subst Q s (subst P e (i.last_stands, i.made))
 
 -- with no ups the form is 0, as that of no nimber
 pub none_up : (down : Bool) (count : ℕ) → count ≡ 0 → nimber_form 0 ≡ ups_form down count

@@ -4,7 +4,7 @@ ghost use Rattle.cg_nodes.specs.Games.{StandsFor};
 ghost use Rattle.cg_canon.specs.Items.{AllPass, WasRefused};
 ghost use Rattle.cg_canon.specs.Works.{Keeps, work_state};
 ghost use Rattle.cg_names.specs.Lists.{form_items};
-ghost use Rattle.cg_names.specs.Making.{Makes, Refuses};
+ghost use Rattle.cg_names.specs.Making.{FormsMade};
 ghost use Rattle.cg_names.specs.Named.{ups_form, ups_of, ups_chain, ups_last, zero_form, star_form};
 
 use crate::making::{make, make_zero, within};
@@ -54,8 +54,8 @@ fn make_ups<B: BoardForms, S: CellStore<GameFacts<B>>>(
 ) -> Result<Handle, ValueFault>
     requires { 1 ≤ count }
     ensures game { IfOk result (λ h. StandsFor (work_state S.state work.new) h (ups_form down count)) }
-    ensures made { OnOk result (Makes S.state work.old work.new (ups_chain down false count)) }
-    ensures refused { IfErr result (λ fault. Refuses fault S.state work.old work.new (ups_chain down false count)) }
+    ensures made { FormsMade (work_state S.state work.old) (work_state S.state work.new) (ups_chain down false count) result }
+    ensures more { (work_state S.state work.old).spare ≤ (work_state S.state work.new).spare }
 {
     let zero = make_zero(work)?;
     let mut last = make_star(alloc, work, zero)?;
@@ -76,8 +76,8 @@ fn make_star<B: BoardForms, S: CellStore<GameFacts<B>>>(
 ) -> Result<Handle, ValueFault>
     requires { StandsFor (work_state S.state work.old) zero zero_form }
     ensures game { IfOk result (λ h. StandsFor (work_state S.state work.new) h star_form) }
-    ensures made { OnOk result (Makes S.state work.old work.new (star_form ∷ [])) }
-    ensures refused { IfErr result (λ fault. Refuses fault S.state work.old work.new (star_form ∷ [])) }
+    ensures made { FormsMade (work_state S.state work.old) (work_state S.state work.new) (star_form ∷ []) result }
+    ensures more { (work_state S.state work.old).spare ≤ (work_state S.state work.new).spare }
 {
     make(alloc, work, false, &[zero], &[zero])
 }
@@ -102,9 +102,8 @@ fn make_next<B: BoardForms, S: CellStore<GameFacts<B>>>(
     requires zero { StandsFor (work_state S.state work.old) zero zero_form }
     requires last { StandsFor (work_state S.state work.old) last (ups_last down (not starred) level) }
     ensures game { IfOk result (λ h. StandsFor (work_state S.state work.new) h (ups_of down starred (suc level))) }
-    ensures made { OnOk result (Makes S.state work.old work.new (ups_of down starred (suc level) ∷ [])) }
-    ensures refused { IfErr result (λ fault. Refuses fault S.state work.old work.new
-        (ups_of down starred (suc level) ∷ [])) }
+    ensures made { FormsMade (work_state S.state work.old) (work_state S.state work.new) (ups_of down starred (suc level) ∷ []) result }
+    ensures more { (work_state S.state work.old).spare ≤ (work_state S.state work.new).spare }
 {
     if has_two(starred, level) {
         make(alloc, work, down, &[zero, last], &[zero])

@@ -8,7 +8,7 @@ ghost use Rattle.cg_nodes.specs.Games.{StandsFor};
 ghost use Rattle.cg_canon.specs.Items.{AllPass, WasRefused};
 ghost use Rattle.cg_canon.specs.Works.{Keeps, work_state};
 ghost use Rattle.cg_names.specs.Lists.{form_items, number_items};
-ghost use Rattle.cg_names.specs.Making.{Makes, Refuses};
+ghost use Rattle.cg_names.specs.Making.{FormsMade};
 ghost use Rattle.cg_dyadic.specs.Exact.{number_negative};
 ghost use Rattle.cg_names.specs.Named.{other_numbers, pair_form, pair_positions, first_number, second_number, switch_form, tiny_form, tiny_part, zero_form, zero_number};
 
@@ -174,8 +174,8 @@ fn make_pair<B: BoardForms, S: CellStore<GameFacts<B>>>(
     ensures first { IfOk result (λ p. StandsFor (work_state S.state work.new) p.first (number_form x)) }
     ensures second { IfOk result (λ p. StandsFor (work_state S.state work.new) p.second (number_form y)) }
     ensures game { IfOk result (λ p. StandsFor (work_state S.state work.new) p.game (pair_form x y)) }
-    ensures made { OnOk result (Makes S.state work.old work.new (pair_positions x y)) }
-    ensures refused { IfErr result (λ fault. Refuses fault S.state work.old work.new (pair_positions x y)) }
+    ensures made { FormsMade (work_state S.state work.old) (work_state S.state work.new) (pair_positions x y) result }
+    ensures more { (work_state S.state work.old).spare ≤ (work_state S.state work.new).spare }
 {
     let first = make_number(work, x)?;
     let second = make_other(work, x, first, y)?;
@@ -196,8 +196,8 @@ fn make_other<B: BoardForms, S: CellStore<GameFacts<B>>>(
 ) -> Result<Handle, ValueFault>
     requires { StandsFor (work_state S.state work.old) first (number_form x) }
     ensures game { IfOk result (λ h. StandsFor (work_state S.state work.new) h (number_form y)) }
-    ensures made { OnOk result (Makes S.state work.old work.new (other_numbers x y)) }
-    ensures refused { IfErr result (λ fault. Refuses fault S.state work.old work.new (other_numbers x y)) }
+    ensures made { FormsMade (work_state S.state work.old) (work_state S.state work.new) (other_numbers x y) result }
+    ensures more { (work_state S.state work.old).spare ≤ (work_state S.state work.new).spare }
 {
     if is_same(x, y) {
         Ok(first)
@@ -215,8 +215,8 @@ fn make_switch<B: BoardForms, S: CellStore<GameFacts<B>>>(
 ) -> Result<Handle, ValueFault>
     requires { Canonical (pair_form x y) }
     ensures game { IfOk result (λ h. StandsFor (work_state S.state work.new) h (pair_form x y)) }
-    ensures made { OnOk result (Makes S.state work.old work.new (pair_positions x y)) }
-    ensures refused { IfErr result (λ fault. Refuses fault S.state work.old work.new (pair_positions x y)) }
+    ensures made { FormsMade (work_state S.state work.old) (work_state S.state work.new) (pair_positions x y) result }
+    ensures more { (work_state S.state work.old).spare ≤ (work_state S.state work.new).spare }
 {
     let pair = make_pair(alloc, work, x, y)?;
     Ok(pair.game)
@@ -242,10 +242,8 @@ fn make_tiny<B: BoardForms, S: CellStore<GameFacts<B>>>(
     requires first { first ≡ first_number miny x }
     requires second { second ≡ second_number miny x }
     ensures game { IfOk result (λ h. StandsFor (work_state S.state work.new) h (tiny_form miny x)) }
-    ensures made { OnOk result (Makes S.state work.old work.new (pair_positions first second ++
-        (tiny_form miny x ∷ []))) }
-    ensures refused { IfErr result (λ fault. Refuses fault S.state work.old work.new
-        (pair_positions first second ++ (tiny_form miny x ∷ []))) }
+    ensures made { FormsMade (work_state S.state work.old) (work_state S.state work.new) (pair_positions first second ++ (tiny_form miny x ∷ [])) result }
+    ensures more { (work_state S.state work.old).spare ≤ (work_state S.state work.new).spare }
 {
     let pair = make_pair(alloc, work, first, second)?;
     let zero = zero_of(miny, &pair);

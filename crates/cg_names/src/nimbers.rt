@@ -4,7 +4,7 @@ ghost use Rattle.cg_nodes.specs.Games.{StandsFor};
 ghost use Rattle.cg_canon.specs.Items.{AllPass, WasRefused};
 ghost use Rattle.cg_canon.specs.Works.{Keeps, work_state};
 ghost use Rattle.cg_names.specs.Lists.{form_items};
-ghost use Rattle.cg_names.specs.Making.{Makes, Refuses};
+ghost use Rattle.cg_names.specs.Making.{FormsMade};
 ghost use Rattle.cg_names.specs.Named.{nimber_form, nimbers_below};
 ghost use Rattle.std.specs.Prelude.{suc};
 
@@ -47,8 +47,8 @@ fn make_nimbers<B: BoardForms, S: CellStore<GameFacts<B>>>(
     count: u64,
 ) -> Result<Handle, ValueFault>
     ensures game { IfOk result (λ h. StandsFor (work_state S.state work.new) h (nimber_form count)) }
-    ensures made { OnOk result (Makes S.state work.old work.new (nimbers_below (suc count))) }
-    ensures refused { IfErr result (λ fault. Refuses fault S.state work.old work.new (nimbers_below (suc count))) }
+    ensures made { FormsMade (work_state S.state work.old) (work_state S.state work.new) (nimbers_below (suc count)) result }
+    ensures more { (work_state S.state work.old).spare ≤ (work_state S.state work.new).spare }
 {
     let mut last = make_zero(work)?;
     let mut lesser = Vec::new(alloc);

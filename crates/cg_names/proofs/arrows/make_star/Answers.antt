@@ -1,4 +1,5 @@
 use Rattle.std.proofs.Common.{sym, subst}
+use Rattle.cg_canon.specs.Works.{work_state}
 use Rattle.cg_form.specs.Canonical.{Canonical}
 use Rattle.cg_form.specs.Game.{Game}
 use Rattle.cg_names.proofs.UpForms.{star_canonical}
@@ -8,4 +9,10 @@ use Rattle.cg_names.proofs.arrows.make_star.Goals as goal
 pub make-requires-clause-canonical : goal.make-requires-clause-canonical
 make-requires-clause-canonical g c =
     let P : Game → Type 0 = λ z. Canonical z in
-    subst P (sym (star_made g.S.CellStore.state c.args.work.now c.args.zero c.requires)) star_canonical
+    subst P (sym (star_made (work_state g.S.CellStore.state c.args.work.now) c.args.zero c.requires)) star_canonical
+
+pub returns-clause-game : goal.returns-clause-game
+returns-clause-game g c = c.make.ensures.game _ (star_made (work_state g.S.CellStore.state c.args.work.now) c.args.zero c.requires)
+
+pub returns-clause-made : goal.returns-clause-made
+returns-clause-made g c = c.make.ensures.made _ (star_made (work_state g.S.CellStore.state c.args.work.now) c.args.zero c.requires)

@@ -1,44 +1,46 @@
-use Rattle.std.proofs.Common.{refl, add-one}
+use Rattle.std.proofs.Common.{refl, add-one, ap, ◌∙◌, Err, arith}
 use Rattle.std.proofs.lemmas.Result.{err_from_is_err_and}
-use Rattle.cg_names.proofs.UpSteps.{last_before, ups_first_refused, ups_next, ups_refused, ups_star_refused, ups_start}
+use Rattle.cg_canon.specs.Works.{work_state}
+use Rattle.cg_names.proofs.UpSteps.{last_before, ups_done, ups_first_refused, ups_next, ups_refused, ups_star_refused, ups_start}
 use Rattle.cg_names.proofs.arrows.make_ups.Goals as goal
 
-pub returns-in_err-zero-clause-refused : goal.returns-in_err-zero-clause-refused
-returns-in_err-zero-clause-refused g c =
+pub returns-in_err-zero-clause-made : goal.returns-in_err-zero-clause-made
+returns-in_err-zero-clause-made g c =
     let p = err_from_is_err_and c.from_residual.result c.from_residual.ensures.1 in
-    rw (p.1, p.2) (ups_first_refused g.S.CellStore.state _ c.args.work.now c.make_zero.new.work c.args.down
-    c.args.count c.in_err-zero.ensures.refused)
+    ups_first_refused _ _ _ _ _ _ _ c.in_err-zero.was (p.1 ∙ ap Err p.2) c.make_zero.ensures.made
 
-pub returns-in_err-last-clause-refused : goal.returns-in_err-last-clause-refused
-returns-in_err-last-clause-refused g c =
+pub returns-in_err-last-clause-made : goal.returns-in_err-last-clause-made
+returns-in_err-last-clause-made g c =
     let p = err_from_is_err_and c.from_residual-in_err-last.result c.from_residual-in_err-last.ensures.1 in
-    rw (p.1, p.2) (ups_star_refused g.S.CellStore.state _ c.args.work.now c.make_zero.new.work c.make_star.new.work
-    c.args.down c.args.count c.in_ok-zero.ensures.made c.in_err-last.ensures.refused)
+    ups_star_refused _ _ _ _ _ _ _ c.in_ok-zero.was c.make_zero.ensures.made _ c.make_star.ensures.made _ _
+    c.in_err-last.was (p.1 ∙ ap Err p.2)
 
 pub loop-level-init : goal.loop-level-init
 loop-level-init g c =
-    ups_start g.S.CellStore.state c.args.work.now c.make_zero.new.work c.make_star.new.work c.args.down c.args.count
-    c.in_ok-zero.zero c.in_ok-last.last _ c.in_ok-zero.ensures.game
-    c.in_ok-zero.ensures.made c.in_ok-last.ensures.game c.in_ok-last.ensures.made refl
+    ups_start _ _ _ _ _ _ _ c.in_ok-zero.was c.make_zero.ensures.made _ c.make_star.ensures.made _ _ c.in_ok-last.was
+    c.in_ok-zero.ensures.game c.in_ok-last.ensures.game c.make_zero.ensures.more c.make_star.ensures.more refl
 
 pub make_next-requires-clause-zero : goal.make_next-requires-clause-zero
 make_next-requires-clause-zero g c = c.loop-level.invariant.zero_stands
 
 pub make_next-requires-clause-last : goal.make_next-requires-clause-last
 make_next-requires-clause-last g c =
-    last_before g.S.CellStore.state c.loop-level.work c.args.down c.loop-level.starred c.loop-level.last
-    c.loop-level.level c.loop-level.invariant.last_stands
+    last_before (work_state g.S.CellStore.state c.loop-level.work) _ _ c.loop-level.last _ c.loop-level.invariant.last_stands
 
-pub returns-in_err-last-2-clause-refused : goal.returns-in_err-last-2-clause-refused
-returns-in_err-last-2-clause-refused g c =
+pub returns-in_err-last-2-clause-made : goal.returns-in_err-last-2-clause-made
+returns-in_err-last-2-clause-made g c =
     let p = err_from_is_err_and c.from_residual-in_err-last-2.result c.from_residual-in_err-last-2.ensures.1 in
-    rw (p.1, p.2) (ups_refused g.S.CellStore.state _ c.args.work.now c.loop-level.work c.make_next.new.work
-    c.args.down c.args.count c.in_ok-zero.zero c.loop-level.last c.loop-level.starred
-    c.loop-level.level c.loop-level.invariant c.in_err-last-2.ensures.refused c.loop-level-test.true)
+    ups_refused _ _ _ _ _ _ _ _ _ c.loop-level.invariant _ c.make_next.ensures.made c.loop-level-test.true _ _
+    c.in_err-last-2.was (p.1 ∙ ap Err p.2)
 
 pub loop-level-preserved : goal.loop-level-preserved
 loop-level-preserved g c =
-    ups_next g.S.CellStore.state c.args.work.now c.loop-level.work c.make_next.new.work c.args.down c.args.count
-    c.in_ok-zero.zero c.loop-level.last c.in_ok-last-2.last c.loop-level.starred
-    c.loop-level.level _ c.loop-level.invariant c.in_ok-last-2.ensures.game c.in_ok-last-2.ensures.made
-    c.loop-level-test.true (add-one c.loop-level.level)
+    ups_next _ _ _ _ _ _ _ _ _ c.loop-level.invariant c.make_next.result c.make_next.ensures.made
+    c.loop-level-test.true _ _ c.in_ok-last-2.was c.in_ok-last-2.ensures.game c.make_next.ensures.more
+    (add-one c.loop-level.level)
+
+pub returns : goal.returns
+returns g c =
+    let done = ups_done _ _ _ _ _ _ _ _ c.loop-level.invariant
+    (omega (arith, c.loop-level-test.false, c.loop-level.auto.level-end)) c.requires in
+    record { game = done.0; made = done.1; more = c.loop-level.invariant.more }

@@ -6,7 +6,7 @@ use Rattle.cg_canon.specs.Items.{AllPass, WasRefused}
 use Rattle.cg_canon.specs.Works.{work_state}
 use Rattle.cg_names.specs.Lists.{form_items}
 use Rattle.cg_names.specs.Named.{ups_chain, ups_form}
-use Rattle.cg_names.proofs.Steps.{charged_from, refused_from, refused_positions}
+use Rattle.cg_names.proofs.Steps.{items_from, refused_positions}
 use Rattle.cg_names.proofs.UpPositions.{length-ups_chain, ups_form-positions}
 use Rattle.cg_names.proofs.UpSteps.{none_up}
 use Rattle.cg_names.proofs.arrows.ups.Goals as goal
@@ -22,19 +22,17 @@ pub returns-in-Some-clause-charged : goal.returns-in-Some-clause-charged
 returns-in-Some-clause-charged g c =
     let h = c.in-Some.ensures in
     let n = length-ups_chain c.args.down false c.in-Some.count in
-    charged_from g.S.CellStore.state c.make_ups.result c.args.work.now c.make_ups.new.work
-    (ups_form c.args.down c.args.count) (ups_chain c.args.down false c.in-Some.count)
+    (items_from _ _ _ (ups_form c.args.down c.args.count) (ups_chain c.args.down false c.in-Some.count)
     (ups_form-positions c.args.down c.args.count (omega arith) ∙ ap (ups_chain c.args.down false) (sym h.0))
-    (omega (arith, h.0, h.1, n, c.limit-limit.ensures)) c.make_ups.ensures.made
+    (omega (arith, h.0, h.1, n, c.limit-limit.ensures)) c.make_ups.ensures.made).charged
 
 pub returns-in-Some-clause-refused : goal.returns-in-Some-clause-refused
 returns-in-Some-clause-refused g c =
     let h = c.in-Some.ensures in
     let n = length-ups_chain c.args.down false c.in-Some.count in
-    refused_from g.S.CellStore.state c.make_ups.result c.args.work.now c.make_ups.new.work
-    (ups_form c.args.down c.args.count) (ups_chain c.args.down false c.in-Some.count)
+    (items_from _ _ _ (ups_form c.args.down c.args.count) (ups_chain c.args.down false c.in-Some.count)
     (ups_form-positions c.args.down c.args.count (omega arith) ∙ ap (ups_chain c.args.down false) (sym h.0))
-    (omega (arith, h.0, h.1, n, c.limit-limit.ensures)) c.make_ups.ensures.refused
+    (omega (arith, h.0, h.1, n, c.limit-limit.ensures)) c.make_ups.ensures.made).refused
 
 pub returns-then-count-eq0-clause-game : goal.returns-then-count-eq0-clause-game
 returns-then-count-eq0-clause-game g c =

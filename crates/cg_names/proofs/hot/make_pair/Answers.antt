@@ -1,68 +1,62 @@
-use Rattle.std.proofs.Common.{sym, subst}
+use Rattle.std.proofs.Common.{refl, sym, subst, ap, ◌∙◌, [], ◌∷◌, Err, Ok, arith}
 use Rattle.std.proofs.lemmas.Result.{err_from_is_err_and}
+use Rattle.cg_canon.specs.Works.{work_state}
 use Rattle.cg_form.specs.Canonical.{Canonical}
 use Rattle.cg_form.specs.Game.{Game, number}
-use Rattle.cg_canon.specs.Works.{work_state}
 use Rattle.cg_nodes.proofs.Later.{stands_later}
-use Rattle.cg_names.proofs.PairSteps.{pair_first_refused, pair_game_refused, pair_made, pair_makes, pair_second_refused}
+use Rattle.cg_names.specs.Named.{pair_positions}
+use Rattle.cg_names.proofs.PairSteps.{pair_all, pair_game_refused, pair_made, pair_second_refused}
+use Rattle.cg_names.proofs.Steps.{forms_stopped, forms_with}
 use Rattle.cg_names.proofs.hot.make_pair.Goals as goal
 
-pub returns-in_err-first-clause-refused : goal.returns-in_err-first-clause-refused
-returns-in_err-first-clause-refused g c =
+pub returns-in_err-first-clause-made : goal.returns-in_err-first-clause-made
+returns-in_err-first-clause-made g c =
     let p = err_from_is_err_and c.from_residual.result c.from_residual.ensures.1 in
-    rw (p.1, p.2) (pair_first_refused g.S.CellStore.state _ c.args.work.now c.make_number.new.work c.args.x c.args.y
-    c.in_err-first.ensures.refused)
+    forms_stopped _ _ (number c.args.x ∷ []) _ (pair_positions c.args.x c.args.y) _ _ _ c.in_err-first.was
+    (p.1 ∙ ap Err p.2) c.make_number.ensures.made refl
 
-pub returns-in_err-second-clause-refused : goal.returns-in_err-second-clause-refused
-returns-in_err-second-clause-refused g c =
+pub returns-in_err-second-clause-made : goal.returns-in_err-second-clause-made
+returns-in_err-second-clause-made g c =
     let p = err_from_is_err_and c.from_residual-in_err-second.result c.from_residual-in_err-second.ensures.1 in
-    rw (p.1, p.2) (pair_second_refused g.S.CellStore.state _ c.args.work.now c.make_number.new.work
-    c.make_other.new.work c.args.x c.args.y c.in_ok-first.ensures.made c.in_err-second.ensures.refused)
+    pair_second_refused _ _ _ c.args.x c.args.y _ _ c.in_ok-first.was c.make_number.ensures.made _
+    c.make_other.ensures.made _ _ c.in_err-second.was (p.1 ∙ ap Err p.2)
 
 pub make-requires-clause-canonical : goal.make-requires-clause-canonical
 make-requires-clause-canonical g c =
-    let f = stands_later (work_state g.S.CellStore.state c.make_number.new.work)
-    (work_state g.S.CellStore.state c.make_other.new.work) c.in_ok-second.ensures.made.keeps.known
-    c.in_ok-first.first (number c.args.x) c.in_ok-first.ensures.game in
-    let e = pair_made g.S.CellStore.state c.make_other.new.work c.args.x c.args.y c.in_ok-first.first
-    c.in_ok-second.second f c.in_ok-second.ensures.game in
+    let W = work_state g.S.CellStore.state in
+    let f = stands_later (W c.make_number.new.work) (W c.make_other.new.work) c.make_other.ensures.made.keeps.known c.in_ok-first.first
+    (number c.args.x) c.in_ok-first.ensures.game in
     let P : Game → Type 0 = λ z. Canonical z in
-    subst P (sym e) c.requires
+    subst P (sym (pair_made (W c.make_other.new.work) c.args.x c.args.y _ _ f c.in_ok-second.ensures.game)) c.requires
 
-pub returns-in_err-game-clause-refused : goal.returns-in_err-game-clause-refused
-returns-in_err-game-clause-refused g c =
-    let f = stands_later (work_state g.S.CellStore.state c.make_number.new.work)
-    (work_state g.S.CellStore.state c.make_other.new.work) c.in_ok-second.ensures.made.keeps.known
-    c.in_ok-first.first (number c.args.x) c.in_ok-first.ensures.game in
-    let e = pair_made g.S.CellStore.state c.make_other.new.work c.args.x c.args.y c.in_ok-first.first
-    c.in_ok-second.second f c.in_ok-second.ensures.game in
+pub returns-in_err-game-clause-made : goal.returns-in_err-game-clause-made
+returns-in_err-game-clause-made g c =
+    let W = work_state g.S.CellStore.state in
+    let f = stands_later (W c.make_number.new.work) (W c.make_other.new.work) c.make_other.ensures.made.keeps.known c.in_ok-first.first
+    (number c.args.x) c.in_ok-first.ensures.game in
+    let e = pair_made (W c.make_other.new.work) c.args.x c.args.y _ _ f c.in_ok-second.ensures.game in
     let p = err_from_is_err_and c.from_residual-in_err-game.result c.from_residual-in_err-game.ensures.1 in
-    rw (p.1, p.2) (pair_game_refused g.S.CellStore.state _ c.args.work.now c.make_number.new.work
-    c.make_other.new.work c.make.new.work c.args.x c.args.y _ c.in_ok-first.ensures.made
-    c.in_ok-second.ensures.made c.in_err-game.ensures.refused e)
+    pair_game_refused _ _ _ c.args.x c.args.y _ _ c.in_ok-first.was c.make_number.ensures.made _
+    c.make_other.ensures.made _ _ c.in_ok-second.was _ (c.make.ensures.made _ e) _ _ c.in_err-game.was
+    (p.1 ∙ ap Err p.2)
 
-pub returns-clause-first : goal.returns-clause-first
-returns-clause-first g c =
-    stands_later (work_state g.S.CellStore.state c.make_other.new.work)
-    (work_state g.S.CellStore.state c.make.new.work) c.in_ok-game.ensures.made.keeps.known c.in_ok-first.first
-    (number c.args.x)
-    (stands_later (work_state g.S.CellStore.state c.make_number.new.work)
-    (work_state g.S.CellStore.state c.make_other.new.work) c.in_ok-second.ensures.made.keeps.known
-    c.in_ok-first.first (number c.args.x) c.in_ok-first.ensures.game)
-
-pub returns-clause-second : goal.returns-clause-second
-returns-clause-second g c =
-    stands_later (work_state g.S.CellStore.state c.make_other.new.work)
-    (work_state g.S.CellStore.state c.make.new.work) c.in_ok-game.ensures.made.keeps.known c.in_ok-second.second
-    (number c.args.y) c.in_ok-second.ensures.game
-
-pub returns-clause-made : goal.returns-clause-made
-returns-clause-made g c =
-    let f = stands_later (work_state g.S.CellStore.state c.make_number.new.work)
-    (work_state g.S.CellStore.state c.make_other.new.work) c.in_ok-second.ensures.made.keeps.known
-    c.in_ok-first.first (number c.args.x) c.in_ok-first.ensures.game in
-    let e = pair_made g.S.CellStore.state c.make_other.new.work c.args.x c.args.y c.in_ok-first.first
-    c.in_ok-second.second f c.in_ok-second.ensures.game in
-    pair_makes g.S.CellStore.state c.args.work.now c.make_number.new.work c.make_other.new.work c.make.new.work
-    c.args.x c.args.y _ c.in_ok-first.ensures.made c.in_ok-second.ensures.made
-    c.in_ok-game.ensures.made e
+pub returns : goal.returns
+returns g c =
+    let W = work_state g.S.CellStore.state in
+    let f = stands_later (W c.make_number.new.work) (W c.make_other.new.work) c.make_other.ensures.made.keeps.known c.in_ok-first.first
+    (number c.args.x) c.in_ok-first.ensures.game in
+    let e = pair_made (W c.make_other.new.work) c.args.x c.args.y _ _ f c.in_ok-second.ensures.game in
+    let made = c.make.ensures.made _ e in
+    let all = pair_all _ _ _ c.args.x c.args.y _ _ c.in_ok-first.was c.make_number.ensures.made _
+    c.make_other.ensures.made _ _ c.in_ok-second.was _ made in
+    let first = c.make_number.ensures.more in
+    let second = c.make_other.ensures.more in
+    let last = c.make.ensures.more in
+    record {
+      first = stands_later (W c.make_other.new.work) (W c.make.new.work) made.keeps.known c.in_ok-first.first (number c.args.x) f;
+      second = stands_later (W c.make_other.new.work) (W c.make.new.work) made.keeps.known c.in_ok-second.second (number c.args.y)
+          c.in_ok-second.ensures.game;
+      game = c.in_ok-game.ensures.game _ e;
+      made = forms_with _ _ (pair_positions c.args.x c.args.y) c.make.result (Ok _) _ _ c.in_ok-game.was refl all;
+      more = omega arith;
+    }
