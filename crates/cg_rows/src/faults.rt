@@ -1,7 +1,7 @@
 //! Whole sessions in which a call of the source or of the sink fails, or the words are not accepted.
 ghost use Rattle.std.specs.Prelude.{◌<◌};
 
-use crate::sheet::words_of;
+use crate::sheet::{SHEET, words_of};
 use cg_io::{MemorySink, MemorySource, Source};
 use cg_pool::NoGate;
 use cg_session::{Status, run};
@@ -122,15 +122,7 @@ fn end_at_the_call_that_fails(rt: HostRuntime) -> Result<(), AllocError> {
     Ok(())
 }
 
-/// The usual session, of 135 bytes.
-const USUAL: &str = r#"# sheet 1
-value Clobber("xxo") + Clobber("xox")
-compare Clobber("xxo") ; *
-thermo Domineering("...|...")
-outcome {1|-1} + Toads("T.F")
-"#;
-
-/// Its output, of 76 bytes.
+/// The output of a sheet, which has 135 bytes: 76 bytes.
 const USUAL_OUTPUT: &str = "\
 2: ^*
 3: ||
@@ -149,7 +141,7 @@ fn writes_front<R: Threads + Sync>(
 ) -> Result<bool, AllocError>
     requires { 0 < most }
 {
-    let (status, _, sink) = session(rt, alloc, USUAL, most, trouble)?;
+    let (status, _, sink) = session(rt, alloc, SHEET, most, trouble)?;
     let wanted = USUAL_OUTPUT.as_bytes();
     Ok(status == ending && sink.bytes() == &wanted[..front.min(wanted.len())])
 }

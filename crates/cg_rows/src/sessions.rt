@@ -1,8 +1,9 @@
 //! Whole sessions: their words, their lines, what they write, and the number that they end with.
 use crate::sheet::session;
 use cg_session::Status;
-use std::alloc::AllocError;
+use std::alloc::{AllocError, Global};
 use std::test::Fail;
+use std::thread::Threads;
 
 /// The limit of a session in bytes.
 const LIMIT: usize = 1_048_576;
@@ -143,6 +144,22 @@ value *513
 --
 1: *512
 2: ! depth
+$ --cells 8 => 0
+value -*
+--
+1: *
+$ --cells 7 => 1
+value -*
+--
+1: ! full
+$ --cells 5 => 0
+value 0.*
+--
+1: 0
+$ --cells 4 => 1
+value 0.*
+--
+1: ! full
 $ --cells 5 => 0
 value {0|0}
 --
@@ -270,6 +287,41 @@ value {0|1}
 2: 1/2
 "#;
 
+/// Sessions with the deepest nimber, and with one that is too deep: a line that is refused leaves the others as they are.
+const NIMBERS: &str = "\
+$ --cells 263169 => 0
+value *512
+--
+1: *512
+$ --cells 263168 => 1
+value *512
+--
+1: ! full
+$ --workers 1 --cells 900000 => 1
+value {2,1|0}
+value *513
+compare ^ ; *
+--
+1: {2|0}
+2: ! depth
+3: ||
+$ --workers 3 --cells 900000 => 1
+value {2,1|0}
+value *513
+compare ^ ; *
+--
+1: {2|0}
+2: ! depth
+3: ||
+$ --workers 3 --cells 600000 => 0
+value {2,1|0}
+# value *513
+compare ^ ; *
+--
+1: {2|0}
+3: ||
+";
+
 /// Sessions with blanks that a reader can't see: blank lines and comments have no answer, and count. A comment may hold
 /// any bytes.
 const BLANKS: &str = "\
@@ -289,29 +341,41 @@ $ --cells 1000 => 0
 6: N
 ";
 
-#[test]
-fn write_what_they_should(rt: HostRuntime) -> Result<(), Fail> {
-    let alloc = rt.alloc();
-    for sheet in [SESSIONS, BLANKS] {
-        for row in sheet.split("$ ").skip(1) {
-            let Some((words, row)) = row.split_once("=> ") else {
-                return Err("a session without a number")?;
-            };
-            let Some((number, row)) = row.split_once("\n") else {
-                return Err("a session without lines")?;
-            };
-            let Some((input, output)) = row.split_once("--\n") else {
-                return Err("a session without an output")?;
-            };
-            let (status, sink) = session(&rt, alloc, words, input.as_bytes())?;
-            let ended = status.code().to_string(alloc)?;
-            assert!(rt; ended.as_str() == number, "the number of {words}: {input}");
-            assert!(rt;
-                sink.bytes() == output.as_bytes(),
-                "the output of {words}: {input}"
-            );
+/// The words and lines of the first of these sessions that doesn't write what it should, or ends otherwise.
+fn first_wrong<R: Threads + Sync>(
+    rt: &R,
+    alloc: Global,
+    sheet: &str,
+) -> Result<Option<String>, Fail> {
+    for text in sheet.split("$ ").skip(1) {
+        let Some((words, row)) = text.split_once("=> ") else {
+            return Err("a session without a number")?;
+        };
+        let Some((number, row)) = row.split_once("\n") else {
+            return Err("a session without lines")?;
+        };
+        let Some((input, output)) = row.split_once("--\n") else {
+            return Err("a session without an output")?;
+        };
+        let (status, sink) = session(rt, alloc, words, input.as_bytes())?;
+        let ended = status.code().to_string(alloc)?;
+        if ended.as_str() != number || sink.bytes() != output.as_bytes() {
+            return Ok(Some(String::from_str(alloc, text)?));
         }
     }
+    Ok(None)
+}
+
+#[test]
+fn write_what_they_should(rt: HostRuntime) -> Result<(), Fail> {
+    assert_eq!(rt; first_wrong(&rt, rt.alloc(), SESSIONS)?, None);
+    assert_eq!(rt; first_wrong(&rt, rt.alloc(), BLANKS)?, None);
+    Ok(())
+}
+
+#[test]
+fn answer_beside_the_deepest_nimbers(rt: HostRuntime) -> Result<(), Fail> {
+    assert_eq!(rt; first_wrong(&rt, rt.alloc(), NIMBERS)?, None);
     Ok(())
 }
 
@@ -367,6 +431,53 @@ fn keep_the_limits(rt: HostRuntime) -> Result<(), AllocError> {
     let (ended, sink) = session(&rt, alloc, "--cells 1", &long)?;
     assert!(rt; ended == Status::Refused);
     assert!(rt; sink.bytes() == b"1: ! syntax 1\n".as_slice());
+    Ok(())
+}
+
+/// The piece, so many times over.
+fn repeated(alloc: Global, piece: &str, times: u64) -> Result<String, AllocError> {
+    let mut text = String::new(alloc);
+    for _ in 0..times {
+        text.push_str(piece)?;
+    }
+    Ok(text)
+}
+
+/// Whether the session of the line writes this, and ends as told.
+fn replies<R: Threads + Sync>(
+    rt: &R,
+    alloc: Global,
+    words: &str,
+    line: &str,
+    ending: Status,
+    output: &str,
+) -> Result<bool, AllocError> {
+    let (status, sink) = session(rt, alloc, words, line.as_bytes())?;
+    Ok(status == ending && sink.bytes() == output.as_bytes())
+}
+
+/// Brackets may be 64 deep. A sum of 1,001 terms costs 1 for the first and 3 for each of the others.
+#[test]
+fn answer_deep_and_long_lines(rt: HostRuntime) -> Result<(), AllocError> {
+    let alloc = rt.alloc();
+    let open = repeated(alloc, "(", 64)?;
+    let close = repeated(alloc, ")", 64)?;
+    let line = format!(in alloc; "value {open}1{close}")?;
+    assert!(rt; replies(&rt, alloc, "--cells 1", &line, Status::Done, "1: 1\n")?);
+
+    let open = repeated(alloc, "({", 33)?;
+    let line = format!(in alloc; "value {open}")?;
+    let deep = "1: ! syntax 71\n";
+    assert!(rt; replies(&rt, alloc, "--cells 1", &line, Status::Refused, deep)?);
+
+    let terms = repeated(alloc, " + 1", 1000)?;
+    let line = format!(in alloc; "value 1{terms}")?;
+    let sum = "1: 1001\n";
+    let full = "1: ! full\n";
+    assert!(rt; replies(&rt, alloc, "--cells 4000", &line, Status::Done, sum)?);
+    assert!(rt; replies(&rt, alloc, "--cells 3001", &line, Status::Done, sum)?);
+    assert!(rt; replies(&rt, alloc, "--cells 3000", &line, Status::Refused, full)?);
+    assert!(rt; replies(&rt, alloc, "--cells 2000", &line, Status::Refused, full)?);
     Ok(())
 }
 

@@ -5,6 +5,14 @@ use cg_session::{Status, run};
 use std::alloc::{AllocError, Global};
 use std::thread::Threads;
 
+/// Five lines; eight times over they make forty.
+pub const SHEET: &str = r#"# sheet 1
+value Clobber("xxo") + Clobber("xox")
+compare Clobber("xxo") ; *
+thermo Domineering("...|...")
+outcome {1|-1} + Toads("T.F")
+"#;
+
 /// More room than any output of these tests takes.
 const ROOM: usize = 40_000;
 

@@ -1,19 +1,11 @@
 //! Sessions whose lines are answered by several workers.
-use crate::sheet::{session, words_of};
+use crate::sheet::{SHEET, session, words_of};
 use cg_io::{MemorySink, SteadySource};
 use cg_pool::Gate;
 use cg_session::{Status, run};
 use std::alloc::AllocError;
 use std::sync::atomic::{AtomicU64, Ordering};
 use std::test::Fail;
-
-/// Five lines; eight times over they make forty.
-const SHEET: &str = r#"# sheet 1
-value Clobber("xxo") + Clobber("xox")
-compare Clobber("xxo") ; *
-thermo Domineering("...|...")
-outcome {1|-1} + Toads("T.F")
-"#;
 
 /// The replies to the lines of a sheet, each with its place in it.
 const REPLIES: [(u64, &str); 4] = [

@@ -1,0 +1,15 @@
+//! Worked claims, tickets, notes and answers on a table that threads share, as tests of cg_shared and cg_pool.
+#![tactic(auto)]
+
+#[cfg(test)]
+mod crowds;
+#[cfg(test)]
+mod gates;
+#[cfg(test)]
+mod homes;
+#[cfg(test)]
+mod pools;
+#[cfg(test)]
+mod stars;
+#[cfg(test)]
+mod tables;
