@@ -1,5 +1,5 @@
 -- The last item of a board is its value.
-use Rattle.std.proofs.Common.{◌≡◌, refl, ap, ◌∙◌, subst, ℕ, ◌==◌, false, true, None, Result, Ok, Err, List, [], ◌∷◌, ◌++◌, length, nat_lt, inl, inr, eq-eqb}
+use Rattle.std.proofs.Common.{◌≡◌, refl, ap, ◌∙◌, subst, ℕ, suc, ◌==◌, false, true, None, Result, Ok, Err, List, [], ◌∷◌, ◌++◌, length, nat_lt, inl, inr, eq-eqb}
 use Rattle.std.specs.Prelude.{◌&&◌, bytes_eq, codes}
 use Rattle.std.proofs.lemmas.Bool.{and_from}
 use Rattle.cg_dyadic.proofs.Truth.{true_or_false}
@@ -18,13 +18,19 @@ use Rattle.cg_clobber.specs.Lawful.{clobber_lawful}
 use Rattle.cg_clobber.specs.Moves.{clobber}
 use Rattle.cg_amazons.specs.Amazons.{amazons}
 use Rattle.cg_amazons.specs.AmazonsMoves.{amazons_lawful}
+use Rattle.cg_graph.specs.Charts.{Chart, chart_read, chart_rules, chart_start, edges_of}
+use Rattle.cg_graph.specs.ColouringLaw.{colouring_lawful}
+use Rattle.cg_graph.specs.Drawings.{colours_of, drawing_read, drawing_rules, drawing_start, graph_of}
+use Rattle.cg_graph.specs.HackenbushLaw.{hackenbush_lawful, length-kept}
+use Rattle.cg_graph.specs.declared.edge.ColouredEdge.{ColouredEdge}
+use Rattle.cg_graph.specs.declared.fault.GraphFault.{GraphFault}
 use Rattle.cg_strip.specs.StripLaws.{strip_lawful}
 use Rattle.cg_strip.specs.Toads.{toads_game}
 use Rattle.cg_strip.specs.ToadsLaws.{toads_lawful}
 use Rattle.cg_values.specs.Items.{board_items, value_item, value_items}
 use Rattle.cg_syntax.specs.declared.kind.GameKind.{GameKind}
-use Rattle.cg_syntax.specs.declared.kind.GameKind.TheVariants.{Domineering, Clobber, Amazons, Toads, Strip}
-use Rattle.cg_eval.specs.Boards.{IsStrip, Position, board, faulty, no_row, no_rules, not_lowered, position_by, position_fault, position_form, position_items, position_of, strip_board, strip_position}
+use Rattle.cg_syntax.specs.declared.kind.GameKind.TheVariants.{Domineering, Clobber, Amazons, Toads, Strip, Hackenbush, Col, Snort}
+use Rattle.cg_eval.specs.Boards.{IsStrip, Position, board, faulty, no_row, no_rules, not_lowered, position_by, position_charted, position_drawn, position_fault, position_form, position_items, position_of, strip_board, strip_position}
 use Rattle.cg_eval.specs.Parts.{IsSound}
 use Rattle.cg_eval.proofs.Lasts.{AreMade, EndsIn, not_too_many}
 use Rattle.cg_eval.proofs.ReadBoards.{in-rows, read-by, same-symbols}
@@ -61,6 +67,31 @@ played-strip rules row _ (no_rules place r) = tt
 played-strip rules row _ (no_row book fault a e) = tt
 played-strip rules row _ (not_lowered book p k a e r) = tt
 
+-- the row of the colours of the edges
+drawing-has : (drawing : List ColouredEdge) → (drawing_rules drawing).has (drawing_start drawing) ≡ true
+drawing-has drawing =
+    let cells = (drawing_start drawing).cells in
+    and_from (bytes_eq (codes ".brg") (codes ".brg")) (length cells == length (graph_of drawing)) refl
+    (eq-eqb (length cells) (length (graph_of drawing)) (length-kept _ (colours_of drawing) ∙ same drawing))
+  where
+    same : (drawing : List ColouredEdge) → length (colours_of drawing) ≡ length (graph_of drawing)
+    same [] = refl
+    same (e ∷ es) = ap suc (same es)
+
+played-drawn : (read : Result (List ColouredEdge) GraphFault) → IsPlayed (position_drawn read)
+played-drawn (Ok drawing) = (hackenbush_lawful (graph_of drawing), drawing-has drawing)
+played-drawn (Err fault) = tt
+
+-- the row of the vertices
+chart-has : (chart : Chart) → (chart_rules chart).has (chart_start chart) ≡ true
+chart-has chart =
+    let n = length chart.vertices in
+    and_from (bytes_eq (codes ".xo") (codes ".xo")) (n == n) refl (eq-eqb n n refl)
+
+played-charted : (read : Result Chart GraphFault) → IsPlayed (position_charted read)
+played-charted (Ok chart) = (colouring_lawful chart.snort (length chart.vertices) (edges_of chart.edges), chart-has chart)
+played-charted (Err fault) = tt
+
 played : (kind : GameKind) (rules text : List ℕ) → IsPlayed (position_of kind rules text)
 played Domineering rules text = played-by domineering (read_of (codes ".#") false text) domineering_lawful
     (λ p e. grid-has (codes ".#") text p e)
@@ -71,6 +102,9 @@ played Amazons rules text = played-by amazons (read_of (codes ".xo#") false text
 played Toads rules text = played-by toads_game (read_of (codes ".TF") true text) toads_lawful
     (λ p e. row-has (codes ".TF") text p e)
 played Strip rules text = played-strip rules text (strip_position rules text) (strip-some rules text)
+played Hackenbush rules text = played-drawn (drawing_read rules)
+played Col rules text = played-charted (chart_read false text rules)
+played Snort rules text = played-charted (chart_read true text rules)
 
 sound-played : (q : Position) → IsPlayed q → IsSound q
 sound-played (board r p) h = h.1

@@ -1,14 +1,15 @@
--- Board expressions among others.
+-- Boards and heaps among other expressions.
 use Rattle.std.proofs.Common.{ℕ, List, Result}
 use Rattle.cg_cells.specs.Store.{State}
 use Rattle.cg_nodes.specs.Meant.{Meant}
 use Rattle.cg_canon.specs.declared.fault.ValueFault.{ValueFault}
 use Rattle.cg_canon.specs.declared.rest.WorkRest.{WorkRest}
-use Rattle.cg_syntax.specs.Tree.{game}
+use Rattle.cg_syntax.specs.Tree.{game, octal}
 use Rattle.cg_syntax.specs.declared.kind.GameKind.{GameKind}
 use Rattle.cg_eval.specs.Boards.{position_form, position_items, position_of}
 use Rattle.cg_eval.specs.Items.{items}
 use Rattle.cg_eval.specs.Meaning.{meaning}
+use Rattle.cg_eval.specs.Octals.{heap_form, heap_items, octal_read}
 use Rattle.cg_eval.specs.Progress.{Evaluates, Gives}
 
 pub board_gives : {R : Type 0} (s t : State Meant (WorkRest R)) (kind : GameKind) (rules text : List ℕ)
@@ -18,3 +19,9 @@ pub board_gives : {R : Type 0} (s t : State Meant (WorkRest R)) (kind : GameKind
     → Evaluates s t (game kind rules text) result
 unfolding items meaning
 board_gives s t kind rules text result h = h
+
+pub heap_gives : {R : Type 0} (s t : State Meant (WorkRest R)) (code : List ℕ) (tokens : ℕ) (result : Result ℕ ValueFault)
+    → Gives s t (heap_items s.rest.limit (octal_read code tokens)) (heap_form (octal_read code tokens)) result
+    → Evaluates s t (octal code tokens) result
+unfolding items meaning
+heap_gives s t code tokens result h = h

@@ -1,6 +1,6 @@
 -- Faults in lists of expressions and in compound expressions.
 use Rattle.std.proofs.Common.{◌≡◌, refl, ap, sym, ◌∙◌, ℕ, zero, suc, ◌+◌, ◌<◌, ◌≤◌, arith, Bool, Option, Some, None, List, [], ◌∷◌, ◌++◌, length, get_or, take}
-use Rattle.cg_moves.specs.declared.fault.BoardFault.{BoardFault}
+use Rattle.cg_eval.specs.declared.fault.GameFault.{GameFault}
 use Rattle.cg_syntax.specs.declared.expr.Expr.{Expr}
 use Rattle.cg_syntax.specs.declared.expr.Exprs.{Exprs}
 use Rattle.cg_syntax.specs.declared.expr.Term.{Term}
@@ -13,17 +13,17 @@ use Rattle.cg_eval.proofs.Walk.{trees_of-all, trees_of-take_suc, terms_of-all, t
 
 -- ---- one after another
 
-first-none : (f : Option BoardFault) → first_of_two f None ≡ f
+first-none : (f : Option GameFault) → first_of_two f None ≡ f
 first-none None = refl
 first-none (Some fault) = refl
 
-first-assoc : (f g h : Option BoardFault)
+first-assoc : (f g h : Option GameFault)
     → first_of_two (first_of_two f g) h ≡ first_of_two f (first_of_two g h)
 first-assoc None g h = refl
 first-assoc (Some fault) g h = refl
 
 -- there is none in two where there is none in either
-pub neither : (f g : Option BoardFault) → first_of_two f g ≡ None → (f ≡ None) × (g ≡ None)
+pub neither : (f g : Option GameFault) → first_of_two f g ≡ None → (f ≡ None) × (g ≡ None)
 neither None g e = (refl, e)
 neither (Some fault) g e = absurd (cc)
 
@@ -35,7 +35,7 @@ all-append [] ys = refl
 all-append (x ∷ xs) ys = ap (first_of_two (fault_in x)) (all-append xs ys)
     ∙ sym (first-assoc (fault_in x) (fault_in_all (trees_from xs)) (fault_in_all (trees_from ys)))
 
-pub all-one_more : (es : List Expr) (i : ℕ) (e : Expr) (found more : Option BoardFault) → i < length es
+pub all-one_more : (es : List Expr) (i : ℕ) (e : Expr) (found more : Option GameFault) → i < length es
     → e ≡ get_or es i e
     → found ≡ fault_in_all (trees_from (trees_of (take i es))) → more ≡ fault_in (tree_of e)
     → first_of_two found more ≡ fault_in_all (trees_from (trees_of (take (i + 1) es)))
@@ -47,7 +47,7 @@ all-one_more es i e found more below at f m =
     ∙ ap (λ (us : List Tree). fault_in_all (trees_from us)) (sym (trees_of-take_suc es i e below at))
     ∙ ap (λ n. fault_in_all (trees_from (trees_of (take n es)))) (sym one)
 
-pub all-whole : (es : List Expr) (ts : List Tree) (i : ℕ) (found : Option BoardFault) → trees_of es ≡ ts
+pub all-whole : (es : List Expr) (ts : List Tree) (i : ℕ) (found : Option GameFault) → trees_of es ≡ ts
     → length es ≤ i → found ≡ fault_in_all (trees_from (trees_of (take i es)))
     → found ≡ fault_in_all (trees_from ts)
 all-whole es ts i found is end e = e ∙ ap (λ (us : List Tree). fault_in_all (trees_from us))
@@ -76,7 +76,7 @@ terms-append [] ys = refl
 terms-append (x ∷ xs) ys = ap (first_of_two (fault_in x.1)) (terms-append xs ys)
     ∙ sym (first-assoc (fault_in x.1) (fault_in_terms (terms_from xs)) (fault_in_terms (terms_from ys)))
 
-pub terms-one_more : (es : List Term) (i : ℕ) (e : Term) (found more : Option BoardFault) → i < length es
+pub terms-one_more : (es : List Term) (i : ℕ) (e : Term) (found more : Option GameFault) → i < length es
     → e ≡ get_or es i e
     → found ≡ fault_in_terms (terms_from (terms_of (take i es))) → more ≡ fault_in (tree_of e.expr)
     → first_of_two found more ≡ fault_in_terms (terms_from (terms_of (take (i + 1) es)))
@@ -91,7 +91,7 @@ terms-one_more es i e found more below at f m =
     ∙ ap (λ (us : List (Bool × Tree)). fault_in_terms (terms_from us)) (sym (terms_of-take_suc es i e below at))
     ∙ ap (λ n. fault_in_terms (terms_from (terms_of (take n es)))) (sym one)
 
-pub terms-whole : (es : List Term) (ts : List (Bool × Tree)) (i : ℕ) (found : Option BoardFault) → terms_of es ≡ ts
+pub terms-whole : (es : List Term) (ts : List (Bool × Tree)) (i : ℕ) (found : Option GameFault) → terms_of es ≡ ts
     → length es ≤ i → found ≡ fault_in_terms (terms_from (terms_of (take i es)))
     → found ≡ fault_in_terms (terms_from ts)
 terms-whole es ts i found is end e = e ∙ ap (λ (us : List (Bool × Tree)). fault_in_terms (terms_from us))

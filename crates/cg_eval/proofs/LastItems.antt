@@ -1,5 +1,5 @@
 -- The last of the items of an expression.
-use Rattle.std.proofs.Common.{◌≡◌, refl, ℕ, zero, suc, pos, ap, sym, ◌∙◌, subst, List, [], ◌∷◌, ◌++◌, append_assoc, length, Bool, true, false, nat_lt, inl, inr, Option, Some, None}
+use Rattle.std.proofs.Common.{◌≡◌, refl, ℕ, zero, suc, ◌+◌, pos, ap, sym, ◌∙◌, subst, List, [], ◌∷◌, ◌++◌, append_assoc, length, map, Bool, true, false, nat_lt, inl, inr, Option, Some, None, Result, Ok, Err}
 use Rattle.cg_dyadic.specs.Number.{Number, whole}
 use Rattle.cg_dyadic.proofs.Truth.{true_or_false}
 use Rattle.cg_form.specs.Canonical.{Canonical}
@@ -24,7 +24,11 @@ use Rattle.cg_names.specs.Meaning.{fraction, literal, signed, or_zero}
 use Rattle.cg_eval.specs.Faults.{fault_in, fault_in_terms}
 use Rattle.cg_eval.specs.Meaning.{meaning, total, total_with}
 use Rattle.cg_names.specs.Named.{nimber_form, ups_form, switch_form, tiny_form}
-use Rattle.cg_syntax.specs.Tree.{Tree, Terms, number, ups, nimber, switch, tiny, sides, negative, multiple, sum, game, no_terms, with_term}
+use Rattle.cg_syntax.specs.Tree.{Tree, Terms, number, ups, nimber, switch, tiny, sides, negative, multiple, sum, game, octal, no_terms, with_term}
+use Rattle.cg_octal.specs.Codes.{OctalHeap}
+use Rattle.cg_octal.specs.Heaps.{heap}
+use Rattle.cg_octal.specs.declared.fault.OctalFault.{OctalFault}
+use Rattle.cg_eval.specs.Octals.{heap_fault, heap_form, heap_items, octal_read}
 use Rattle.cg_eval.specs.Items.{items, all_items, term_items, further_items, signed_items, term_part}
 use Rattle.cg_eval.proofs.BoardEnds.{ends-board}
 use Rattle.cg_eval.proofs.FaultParts.{neither}
@@ -32,7 +36,7 @@ use Rattle.cg_names.proofs.Literals.{literal_not_negative, literal-fraction}
 use Rattle.cg_names.proofs.NimberForms.{nimber-canonical}
 use Rattle.cg_names.proofs.SwitchForms.{switch-canonical, tiny-canonical}
 use Rattle.cg_names.proofs.UpForms.{ups-canonical}
-use Rattle.cg_eval.proofs.Lasts.{AreMade, EndsIn, append_none, are_made-back, are_made-front, ends-as, ends-back, ends-map, ends-multiple, ends-negative, ends-sum, last_position, not_outside, not_too_many}
+use Rattle.cg_eval.proofs.Lasts.{AreMade, EndsIn, append_none, are_made-back, are_made-front, ends-as, ends-back, ends-map, ends-multiple, ends-negative, ends-sum, ends-within, last_position, not_outside, not_too_many}
 
 -- ---- the forms of the parts may stand for the parts
 
@@ -94,6 +98,16 @@ ends-number (Some x) all h m =
     let P : Option Number → Type 0 = λ z. EndsIn (can (plain_number (or_zero z))) (made (plain_number x) 0 ∷ []) in
     subst P (sym (h x refl)) (one_number x)
 
+-- ---- heaps
+
+ends-heap : (limit : ℕ) (o : Result OctalHeap OctalFault) → heap_fault o ≡ None → AreMade (heap_items limit o)
+    → EndsIn (can (heap_form o)) (heap_items limit o)
+ends-heap limit (Err fault) e m = absurd (cc)
+ends-heap limit (Ok o) e m =
+    let k = can (heap o.digits o.heap) in
+    ends-within limit (o.heap + 1) k (map plain_item (positions_of k)) m
+    (ends-map plain_item k k 0 (positions_of k) refl (last_position k))
+
 -- ---- sums
 
 -- a game, or its negative, behind its items
@@ -137,6 +151,7 @@ mutual
       (last_item limit t b (are_made-front (items limit t) (multiple_items limit n (can (meaning t))) m)) m)
   last_item limit (sum terms) b m = last_of_terms limit terms b m
   last_item limit (game kind rules board) b m = ends-board limit kind rules board b m
+  last_item limit (octal code tokens) b m = ends-heap limit (octal_read code tokens) b m
 
   last_of_terms : (limit : ℕ) (ts : Terms) → fault_in_terms ts ≡ None → AreMade (term_items limit ts)
       → EndsIn (can (total ts)) (term_items limit ts)

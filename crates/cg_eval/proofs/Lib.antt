@@ -2,6 +2,8 @@ pub mod Below
 pub mod Lasts
 pub mod ReadBoards
 pub mod StripReadings
+pub mod OctalReadings
+pub mod HeapValues
 pub mod BoardReads
 pub mod BoardEnds
 pub mod LastItems

@@ -4,7 +4,7 @@ use Rattle.cg_dyadic.specs.Wide.{places}
 use Rattle.cg_form.specs.Game.{Game}
 use Rattle.cg_nodes.specs.Spelled.{can}
 use Rattle.cg_thermo.specs.Thermal.{NeedsMore}
-use Rattle.cg_syntax.specs.Tree.{Question, value, compare, outcome, stops, mean, temp, thermo}
+use Rattle.cg_syntax.specs.Tree.{Question, value, compare, outcome, stops, mean, temp, thermo, proof, check}
 use Rattle.cg_eval.specs.Meaning.{meaning}
 use Rattle.cg_eval.specs.Pictures.{IsPicture, Picture, mean_text, temp_text, thermograph_text}
 use Rattle.cg_eval.specs.Reply.{IsAnswerTo, IsShown, Piece, answer, too_fine}
@@ -32,6 +32,8 @@ one-answer (stops t) p r a b = a ∙ sym b
 one-answer (mean t) p r a b = one-shown (meaning t) mean_text p r a b
 one-answer (temp t) p r a b = one-shown (meaning t) temp_text p r a b
 one-answer (thermo t) p r a b = one-shown (meaning t) thermograph_text p r a b
+one-answer (proof s t) p r a b = a ∙ sym b
+one-answer (check s t text) p r a b = a ∙ sym b
 
 pub some-answer : (q : Question) → (p : Piece) × IsAnswerTo q p
 some-answer (value t) = (_, refl)
@@ -41,3 +43,5 @@ some-answer (stops t) = (_, refl)
 some-answer (mean t) = some-shown (meaning t) mean_text
 some-answer (temp t) = some-shown (meaning t) temp_text
 some-answer (thermo t) = some-shown (meaning t) thermograph_text
+some-answer (proof s t) = (_, refl)
+some-answer (check s t text) = (_, refl)

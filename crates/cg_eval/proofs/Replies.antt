@@ -1,5 +1,5 @@
 -- Replies, from answers and refusals.
-use Rattle.std.proofs.Common.{◌≡◌, arith, refl, ap, sym, ◌∙◌, subst, ℕ, ◌⊎◌, inl, inr, Bool, true, false, List, Option, Some, None, Result, Ok, Err, pos, IfOk}
+use Rattle.std.proofs.Common.{◌≡◌, arith, refl, ap, sym, ◌∙◌, subst, ℕ, ◌⊎◌, inl, inr, Bool, true, false, List, ◌++◌, Option, Some, None, Result, Ok, Err, pos, IfOk}
 use Rattle.cg_cells.specs.Store.{Spends, State}
 use Rattle.cg_form.specs.Game.{Game, number}
 use Rattle.cg_form.specs.Order.{le}
@@ -19,17 +19,17 @@ use Rattle.cg_eval.specs.Meaning.{meaning}
 use Rattle.cg_dyadic.specs.Number.{whole}
 use Rattle.cg_canon.proofs.Keeping.{keeps_then, spends_keeps}
 use Rattle.cg_syntax.specs.Lines.{IsColumn, IsComment, IsUnread, Reads, is_blank_line}
-use Rattle.cg_syntax.specs.Tree.{Question, Tree, compare}
+use Rattle.cg_syntax.specs.Tree.{Question, Tree}
 use Rattle.cg_eval.specs.declared.answered.Answered.{Answered}
-use Rattle.cg_moves.specs.declared.fault.BoardFault.{BoardFault}
+use Rattle.cg_eval.specs.declared.fault.GameFault.{GameFault}
 use Rattle.cg_eval.specs.Faults.{question_fault}
 use Rattle.cg_eval.specs.Items.{items, question_items}
-use Rattle.cg_eval.specs.Progress.{Evaluates, Makes, Stops}
+use Rattle.cg_eval.specs.Progress.{Evaluates, EvaluatesTwo, Makes, Stops}
 use Rattle.cg_eval.specs.Refused.{IsRefusedBy, IsRefusedFor}
 use Rattle.cg_eval.specs.Reply.{IsReply, IsReplyBy, IsReplyTo, Piece, ill_formed, refusal_of, syntax_at}
 use Rattle.cg_eval.specs.Shown.{Answers, HandleIs, HandleOf, IsAnswered, first_of, shown}
 use Rattle.cg_eval.specs.Stores.{KeepsStore}
-use Rattle.cg_eval.proofs.Steps.{makes_then, stops_then}
+use Rattle.cg_eval.proofs.Steps.{makes_then, stops_front, stops_then}
 use Rattle.cg_eval.proofs.OneAnswer.{one-answer, some-answer}
 use Rattle.cg_eval.proofs.Verdicts.{verdict-apart, verdict-decided, verdict-stopped}
 
@@ -63,10 +63,10 @@ handle-none s q refused handle e h = let P : Bool → Type 0 = λ b. HandleIs s 
 
 -- of a question with an ill-formed board
 pub answered-ill_formed : {R : Type 0} (share limit : ℕ) (s : State Meant R) (q : Question) (a : Answered)
-    (fault : BoardFault) → question_fault q ≡ Some fault
+    (fault : GameFault) → question_fault q ≡ Some fault
     → IsRefusedBy (ill_formed fault) a → IsAnswered share limit s q a
 answered-ill_formed share limit s q a fault e r =
-    let P : Option BoardFault → Type 0 = λ o. IsReplyBy o share limit q (shown a) in
+    let P : Option GameFault → Type 0 = λ o. IsReplyBy o share limit q (shown a) in
     record {
       reply = subst P (sym e) r.text;
       handle = handle-none s q a.refused a.handle (ap (λ (p : Piece). p.refused) r.text) r.handle;
@@ -76,7 +76,7 @@ pub answered-made : {R : Type 0} (s t : State Meant (WorkRest R)) (q : Question)
     → question_fault q ≡ None
     → Answers s t q (Ok a) → IsAnswered s.rest.share s.rest.limit t q a
 answered-made s t q a none e (is, made_items) =
-    let P : Option BoardFault → Type 0 = λ o. IsReplyBy o s.rest.share s.rest.limit q (shown a) in
+    let P : Option GameFault → Type 0 = λ o. IsReplyBy o s.rest.share s.rest.limit q (shown a) in
     let N : ℕ → Type 0 = λ n. AllPass s.rest.share n (question_items s.rest.limit q) t.rest.spent in
     record {
       reply = subst P (sym e) (inl (t.rest.spent, subst N none made_items.passed, is.text));
@@ -88,7 +88,7 @@ stopped-reply : {R : Type 0} (s t : State Meant (WorkRest R)) (q : Question) (a 
     → question_fault q ≡ None → IsStopped fault s.rest.share s.rest.spent (question_items s.rest.limit q) t.rest.spent
     → IsRefusedBy (refusal_of fault) a → (refusal_of fault).refused ≡ true → IsAnswered s.rest.share s.rest.limit t q a
 stopped-reply s t q a fault none e stopped r is_refusal =
-    let P : Option BoardFault → Type 0 = λ o. IsReplyBy o s.rest.share s.rest.limit q (shown a) in
+    let P : Option GameFault → Type 0 = λ o. IsReplyBy o s.rest.share s.rest.limit q (shown a) in
     let N : ℕ → Type 0 = λ n. IsStopped fault s.rest.share n (question_items s.rest.limit q) t.rest.spent in
     record {
       reply = subst P (sym e) (inr (fault, t.rest.spent, subst N none stopped, r.text));
@@ -160,7 +160,7 @@ handle-unread s line c a unread none = record {
 
 -- ---- one reply
 
-one-reply_by : (o : Option BoardFault) (share limit : ℕ) (q : Question) (p r : Piece) → IsReplyBy o share limit q p
+one-reply_by : (o : Option GameFault) (share limit : ℕ) (q : Question) (p r : Piece) → IsReplyBy o share limit q p
     → IsReplyBy o share limit q r → p ≡ r
 one-reply_by (Some fault) share limit q p r a b = a ∙ sym b
 one-reply_by None share limit q p r (inl a) (inl b) = one-answer q p r a.2 b.2
@@ -171,7 +171,7 @@ one-reply_by None share limit q p r (inr a) (inl b) = absurd (verdict-apart a.0 
 one-reply_by None share limit q p r (inr a) (inr b) =
     a.3 ∙ ap refusal_of (verdict-stopped a.0 b.0 share 0 (question_items limit q) a.1 b.1 a.2 b.2).0 ∙ sym b.3
 
-some-reply_by : (o : Option BoardFault) (share limit : ℕ) (q : Question) → (p : Piece) × IsReplyBy o share limit q p
+some-reply_by : (o : Option GameFault) (share limit : ℕ) (q : Question) → (p : Piece) × IsReplyBy o share limit q p
 some-reply_by (Some fault) share limit q = (ill_formed fault, refl)
 some-reply_by None share limit q = elim (verdict-decided share 0 (question_items limit q)) [
   | inl a ↦ (let (p, is) = some-answer q in (p, inl (a.0, a.1, is)))
@@ -203,9 +203,7 @@ some-reply share limit line one one_column blank comment (inr (none, (c, at))) =
 
 -- the first expression's items, then the second's
 pub both_made : {R : Type 0} (s t u : State Meant (WorkRest R)) (a b : Tree) (v w : ℕ) → Evaluates s t a (Ok v)
-    → Evaluates t u b (Ok w)
-    → StandsFor u v (can (meaning a)) × StandsFor u w (can (meaning b)) × Makes s u (question_items s.rest.limit
-    (compare a b))
+    → Evaluates t u b (Ok w) → EvaluatesTwo s u a b (Ok (v, w))
 both_made s t u a b v w (first, first_made) (second, second_made) =
     let P : ℕ → Type 0 = λ n. Makes t u (items n b) in (
       stands_later t u second_made.keeps.known v (can (meaning a)) first,
@@ -214,12 +212,24 @@ both_made s t u a b v w (first, first_made) (second, second_made) =
           (subst P first_made.keeps.limit second_made),
     )
 
+pub first_stopped : {R : Type 0} (s t : State Meant (WorkRest R)) (a b : Tree) (fault : ValueFault)
+    → Evaluates s t a (Err fault) → Stops s t fault (items s.rest.limit a ++ items s.rest.limit b)
+first_stopped s t a b fault r = stops_front s t fault (items s.rest.limit a) (items s.rest.limit b) r
+
 pub second_stopped : {R : Type 0} (s t u : State Meant (WorkRest R)) (a b : Tree) (v : ℕ) (fault : ValueFault)
     → Evaluates s t a (Ok v)
-    → Evaluates t u b (Err fault) → Stops s u fault (question_items s.rest.limit (compare a b))
+    → Evaluates t u b (Err fault) → Stops s u fault (items s.rest.limit a ++ items s.rest.limit b)
 second_stopped s t u a b v fault (first, first_made) r =
     let P : ℕ → Type 0 = λ n. Stops t u fault (items n b) in
     stops_then s t u fault (items s.rest.limit a) (items s.rest.limit b) first_made (subst P first_made.keeps.limit r)
+
+pub two-stop : {R : Type 0} (s t : State Meant (WorkRest R)) (a b : Tree) (result : Result (ℕ × ℕ) ValueFault)
+    (x fault : ValueFault) → result ≡ Err x → x ≡ fault
+    → Stops s t fault (items s.rest.limit a ++ items s.rest.limit b) → EvaluatesTwo s t a b result
+two-stop s t a b result x fault e f r =
+    let P : Result (ℕ × ℕ) ValueFault → Type 0 = λ z. EvaluatesTwo s t a b z in
+    let Q : ValueFault → Type 0 = λ z. Stops s t z (items s.rest.limit a ++ items s.rest.limit b) in
+    subst P (sym e) (subst Q (sym f) r)
 
 pub le_at : {R : Type 0} (s : State Meant R) (a b : ℕ) (m n : Game) (r : Bool) → StandsFor s a (can m)
     → StandsFor s b (can n)

@@ -27,6 +27,7 @@ use Rattle.cg_strip.proofs.Rulebooks.{book_sound}
 use Rattle.cg_strip.proofs.WholeRules.{stuck_left, stuck_place}
 use Rattle.cg_strip.proofs.WholeText.{rules_text_ok}
 use Rattle.cg_eval.specs.Boards.{IsStrip, Position, board, faulty, lowered, no_row, no_rules, not_lowered, strip_board, strip_of, strip_of_items, strip_position, strip_row}
+use Rattle.cg_eval.specs.declared.fault.GameFault.TheVariants as by
 use Rattle.cg_eval.proofs.ReadBoards.{read-by}
 use Rattle.cg_eval.proofs.Below.{below_or_not}
 
@@ -62,7 +63,7 @@ stuck_at : (text : List ℕ) (n : ℕ) → whole_at rules_text_at text ≡ Err n
 stuck_at text n e = let h = stuck_left text n e in omega (arith, h)
 
 -- a refused text of rules is refused so
-rules-refused : (rules row : List ℕ) (p : ℕ) → IsRulesPlace rules p → strip_position rules row ≡ faulty (Rules p)
+rules-refused : (rules row : List ℕ) (p : ℕ) → IsRulesPlace rules p → strip_position rules row ≡ faulty (by.Board (Rules p))
 unfolding strip_position
 rules-refused rules row p (inl stops) = by_read (whole_at rules_text_at rules) refl
   where
@@ -73,16 +74,16 @@ rules-refused rules row p (inl stops) = by_read (whole_at rules_text_at rules) r
     left_at : (n : ℕ) → whole_at rules_text_at rules ≡ Err n → Stops IsInGrammar rules (suc (length rules) - n)
     left_at n e = left (suc (length rules) - n) (stuck_place rules n (suc (length rules) - n) e (stuck_at rules n e))
 
-    by_read : (r : Result Items ℕ) → whole_at rules_text_at rules ≡ r → strip_of rules row r ≡ faulty (Rules p)
+    by_read : (r : Result Items ℕ) → whole_at rules_text_at rules ≡ r → strip_of rules row r ≡ faulty (by.Board (Rules p))
     by_read (Ok t) e = absurd (stops.none (t, takes rules t e))
-    by_read (Err n) e = ap (λ z. faulty (Rules z)) (one-place rules (suc (length rules) - n) p
+    by_read (Err n) e = ap (λ z. faulty (by.Board (Rules z))) (one-place rules (suc (length rules) - n) p
         (left_at n e) stops)
 rules-refused rules row p (inr (t, is, first)) =
     ap (strip_of rules row) (again rules t is) ∙ by_fault (fault_of t) refl
   where
-    by_fault : (o : Option ℕ) → fault_of t ≡ o → strip_of_items t row o ≡ faulty (Rules p)
+    by_fault : (o : Option ℕ) → fault_of t ≡ o → strip_of_items t row o ≡ faulty (by.Board (Rules p))
     by_fault None e = absurd (none_broken t rules is e p first.broken)
-    by_fault (Some q) e = ap (λ z. faulty (Rules z)) (one-broken t q p (broken_at t rules q is e) first)
+    by_fault (Some q) e = ap (λ z. faulty (by.Board (Rules z))) (one-broken t q p (broken_at t rules q is e) first)
 
 -- ---- the row
 
@@ -173,9 +174,9 @@ strip-only rules row _ (strip_board book p a b) =
     at-book rules row book (board (strip_game book) p) a (ap (strip_row book) b.read
     ∙ ap (lowered book p) (none-lowered book.weights (length p.cells) 0 book.rules l))
 strip-only rules row _ (no_rules place r) = rules-refused rules row place r
-strip-only rules row _ (no_row book fault a e) = at-book rules row book (faulty fault) a (ap (strip_row book) e)
+strip-only rules row _ (no_row book fault a e) = at-book rules row book (faulty (by.Board fault)) a (ap (strip_row book) e)
 strip-only rules row _ (not_lowered book p k a e r) =
-    at-book rules row book (faulty (Lowering k)) a (ap (strip_row book) e
+    at-book rules row book (faulty (by.Board (Lowering k))) a (ap (strip_row book) e
     ∙ ap (lowered book p) (first-found book (length p.cells) k (even-rules rules book a) r))
 
 pub strip-some : (rules row : List ℕ) → IsStrip rules row (strip_position rules row)

@@ -1,5 +1,5 @@
 -- Answers from what is told of the games of handles.
-use Rattle.std.proofs.Common.{◌≡◌, refl, ap, sym, ◌∙◌, subst, ℕ, Bool, true, false, List, Option, Some, None, Ok, Err, if◌then◌else◌, pos, inl, inr}
+use Rattle.std.proofs.Common.{◌≡◌, refl, ap, sym, ◌∙◌, subst, ℕ, Bool, true, false, List, ◌++◌, Option, Some, None, Result, Ok, Err, if◌then◌else◌, pos, inl, inr}
 use Rattle.std.specs.Prelude.{String, string_bytes}
 use Rattle.cg_cells.specs.Store.{Spends, State}
 use Rattle.cg_dyadic.specs.Number.{whole}
@@ -32,11 +32,11 @@ use Rattle.cg_thermo.proofs.Wins.{wins}
 use Rattle.cg_syntax.specs.Tree.{Question, Tree, compare}
 use Rattle.cg_eval.specs.Items.{items, question_items}
 use Rattle.cg_eval.specs.Meaning.{meaning}
-use Rattle.cg_eval.specs.Parts.{IsDrawn, Tells, asked_of, part_asked, part_text, picture_of, winner_of}
+use Rattle.cg_eval.specs.Parts.{IsCompared, IsDrawn, IsLater, Tells, TellsTwo, asked_of, part_asked, part_text, picture_of, winner_of}
 use Rattle.cg_eval.specs.Pictures.{IsPicture, Picture, stops_text}
-use Rattle.cg_eval.specs.Progress.{Evaluates, Makes, Stops as Halts}
+use Rattle.cg_eval.specs.Progress.{Evaluates, EvaluatesTwo, Makes, Stops as Halts}
 use Rattle.cg_eval.specs.Refused.{IsRefusedBy}
-use Rattle.cg_eval.specs.Reply.{IsAnswerTo, Piece, answer, comparison, too_fine, winner}
+use Rattle.cg_eval.specs.Reply.{IsAnswerTo, Piece, answer, comparison, later, too_fine, winner}
 use Rattle.cg_eval.specs.Shown.{Answers, HandleIs, first_of, shown}
 use Rattle.cg_eval.specs.declared.answered.Answered.{Answered}
 use Rattle.cg_eval.specs.declared.pictures.Part.{Part}
@@ -44,7 +44,7 @@ use Rattle.cg_eval.specs.declared.pictures.Part.TheVariants as parts
 use Rattle.cg_eval.specs.declared.telling.Asked.{Asked}
 use Rattle.cg_eval.specs.declared.telling.Asked.TheVariants as asking
 use Rattle.cg_eval.proofs.EqualPictures.{equal-picture}
-use Rattle.cg_eval.proofs.Replies.{both_made, le-forms, le-value_zero, makes_spends, zero-le_value}
+use Rattle.cg_eval.proofs.Replies.{answers-stop, le-forms, le-value_zero, makes_spends, zero-le_value}
 use Rattle.cg_eval.proofs.Steps.{stops_memory}
 
 -- ---- what is told
@@ -175,36 +175,64 @@ pub answers-halted : {R : Type 0} (s t : State Meant (WorkRest R)) (asked : Aske
 answers-halted s t asked e fault h =
     let P : List Item → Type 0 = λ z. Halts s t fault z in subst P (same-items s.rest.limit asked e) h
 
--- ---- comparisons
+-- ---- questions about two expressions
 
-orders-of : {R : Type 0} (s : State Meant (WorkRest R)) (v w : ℕ) (a b : Game) → StandsFor s v (can a) → StandsFor s w (can b)
-    → le (game_at s v) (game_at s w) ≡ le a b
-orders-of s v w a b x y =
-    ap (λ (z : Game). le z (game_at s w)) (stands_game s v (can a) x)
-    ∙ ap (le (can a)) (stands_game s w (can b) y) ∙ le-forms a b
+-- what is told of the two handles
+pub told-two : (h : ℕ) (Is : Piece → Type 0) (a : Answered) (text : List ℕ) → shown a ≡ answer text → a.handle ≡ Some h
+    → Is (answer text) → TellsTwo h Is a
+told-two h Is a text e f is = record {
+  text = subst Is (sym e) is;
+  handle = f ∙ ap (λ (b : Bool). if b then None else Some h) (sym (ap (λ (z : Piece). z.refused) e));
+}
 
-module _ {R : Type 0} (s t u x : State Meant (WorkRest R)) (a b : Tree) (v w : ℕ)
-    (first : Evaluates s t a (Ok v)) (second : Evaluates t u b (Ok w)) (spends : Spends 0 u x) where
-  pub compared-answer : (text : List ℕ) (z : Answered)
-      → text ≡ comparison (le (game_at u v) (game_at u w)) (le (game_at u w) (game_at u v)) → shown z ≡ answer text
-      → z.handle ≡ Some v → Answers s x (compare a b) (Ok z)
-  compared-answer text z e sh hd =
-      let both = both_made s t u a b v w first second in
-      let low = orders-of u v w (meaning a) (meaning b) both.0 both.1 in
-      let high = orders-of u w v (meaning b) (meaning a) both.1 both.0 in
-      let stands = stands_later u x spends.known v (can (meaning a)) both.0 in
-      let same : text ≡ comparison (le (meaning a) (meaning b)) (le (meaning b) (meaning a)) =
-      e ∙ ap (λ k. comparison k (le (game_at u w) (game_at u v))) low ∙ ap (comparison (le (meaning a) (meaning b))) high in (
+pub told-later : (v : ℕ) (a : Answered) → IsRefusedBy later a → TellsTwo v IsLater a
+told-later v a r = record {
+  text = r.text;
+  handle = r.handle ∙ ap (λ (b : Bool). if b then None else Some v) (sym (ap (λ (z : Piece). z.refused) r.text));
+}
+
+compared-forms : (a b : Game) (reply : Piece) → IsCompared (can a) (can b) reply → IsCompared a b reply
+compared-forms a b reply e =
+    e ∙ ap (λ k. answer (comparison k (le (can b) (can a)))) (le-forms a b)
+    ∙ ap (λ k. answer (comparison (le a b) k)) (le-forms b a)
+
+-- s before, t with the two values, u after what is told of them
+module _ {R : Type 0} (s t u : State Meant (WorkRest R)) (q : Question) (a b : Tree) (hs : ℕ × ℕ)
+    (both : EvaluatesTwo s t a b (Ok hs)) (spends : Spends 0 t u)
+    (same_items : items s.rest.limit a ++ items s.rest.limit b ≡ question_items s.rest.limit q) where
+  both_spend : Makes s u (question_items s.rest.limit q)
+  both_spend =
+      let M : List Item → Type 0 = λ k. Makes s u k in
+      subst M same_items (makes_spends s t u (items s.rest.limit a ++ items s.rest.limit b) both.2 spends)
+
+  pub two-answered : (z : Answered) (Is : Game → Game → Piece → Type 0)
+      → TellsTwo hs.0 (Is (game_at t hs.0) (game_at t hs.1)) z → first_of q ≡ a
+      → (Is (can (meaning a)) (can (meaning b)) (shown z) → IsAnswerTo q (shown z)) → Answers s u q (Ok z)
+  two-answered z Is tells first is =
+      let P : Game → Type 0 = λ g. Is g (game_at t hs.1) (shown z) in
+      let Q : Game → Type 0 = λ h. Is (can (meaning a)) h (shown z) in
+      let F : Tree → Type 0 = λ e. StandsFor u hs.0 (can (meaning e)) in (
         record {
-          text = sh ∙ ap answer same;
-          value = handle-told x (compare a b) v z.refused z.handle (hd ∙ ap (λ (k : Bool). if k then None else Some v)
-              (sym (ap (λ (p : Piece). p.refused) sh))) stands;
+          text = is (subst Q (stands_game t hs.1 (can (meaning b)) both.1)
+              (subst P (stands_game t hs.0 (can (meaning a)) both.0) tells.text));
+          value = handle-told u q hs.0 z.refused z.handle tells.handle
+              (subst F (sym first) (stands_later t u spends.known hs.0 (can (meaning a)) both.0));
         },
-        makes_spends s u x (question_items s.rest.limit (compare a b)) both.2 spends,
+        both_spend,
       )
 
-  pub compared-memory : Halts s x Memory (question_items s.rest.limit (compare a b))
-  compared-memory =
-      let both = both_made s t u a b v w first second in
-      stops_memory s x (question_items s.rest.limit (compare a b)) (question_items s.rest.limit (compare a b))
-      (makes_spends s u x (question_items s.rest.limit (compare a b)) both.2 spends)
+  pub two-memory : Halts s u Memory (question_items s.rest.limit q)
+  two-memory = stops_memory s u (question_items s.rest.limit q) (question_items s.rest.limit q) both_spend
+
+pub compared-answer : (a b : Tree) (reply : Piece) → IsCompared (can (meaning a)) (can (meaning b)) reply
+    → IsAnswerTo (compare a b) reply
+compared-answer a b reply is = compared-forms (meaning a) (meaning b) reply is
+
+-- the fault of the two values is that of the question
+pub two-halted : {R : Type 0} (s t : State Meant (WorkRest R)) (q : Question) (a b : Tree)
+    (result : Result Answered ValueFault) (x fault : ValueFault) → result ≡ Err x → x ≡ fault
+    → items s.rest.limit a ++ items s.rest.limit b ≡ question_items s.rest.limit q
+    → EvaluatesTwo s t a b (Err fault) → Answers s t q result
+two-halted s t q a b result x fault e f same_items h =
+    let P : List Item → Type 0 = λ z. Halts s t fault z in
+    answers-stop s t q result x fault e f (subst P same_items h)

@@ -12,7 +12,8 @@ use Rattle.cg_names.specs.Lists.{form_items, number_items}
 use Rattle.cg_names.specs.Meaning.{literal, signed}
 use Rattle.cg_eval.specs.Meaning.{meaning}
 use Rattle.cg_eval.specs.Boards.{position_items, position_of}
-use Rattle.cg_syntax.specs.Tree.{Tree, Trees, Terms, Question, number, ups, nimber, switch, tiny, sides, negative, multiple, sum, game, no_trees, with_tree, no_terms, with_term, value, compare, outcome, stops, mean, temp, thermo}
+use Rattle.cg_eval.specs.Octals.{heap_items, octal_read}
+use Rattle.cg_syntax.specs.Tree.{Tree, Trees, Terms, Question, number, ups, nimber, switch, tiny, sides, negative, multiple, sum, game, octal, no_trees, with_tree, no_terms, with_term, value, compare, outcome, stops, mean, temp, thermo, proof, check}
 
 -- the items that subtracting a game adds before the sum
 abbrev pub signed_items : ℕ → Bool → Game → List Item
@@ -31,6 +32,7 @@ unfoldable mutual
   items limit (multiple n t) = items limit t ++ multiple_items limit n (can (meaning t))
   items limit (sum terms) = term_items limit terms
   items limit (game kind rules board) = position_items limit (position_of kind rules board)
+  items limit (octal code heap) = heap_items limit (octal_read code heap)
 
   -- those of the expressions in order
   pub all_items : ℕ → Trees → List Item
@@ -65,3 +67,5 @@ question_items limit (stops t) = items limit t
 question_items limit (mean t) = items limit t
 question_items limit (temp t) = items limit t
 question_items limit (thermo t) = items limit t
+question_items limit (proof s t) = items limit s ++ items limit t
+question_items limit (check s t text) = items limit s ++ items limit t

@@ -1,5 +1,7 @@
 -- what a reader has to believe
+pub mod IllFormed
 pub mod Boards
+pub mod Octals
 pub mod Meaning
 pub mod Faults
 pub mod Items

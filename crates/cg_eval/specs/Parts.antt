@@ -1,12 +1,13 @@
 -- What private contracts say of boards that were read and of what is shown.
-use Rattle.std.specs.Prelude.{◌≡◌, ℕ, List, Option, Some, None, Result, Ok, Err, true, codes, if◌then◌else◌, String, string_bytes}
+use Rattle.std.specs.Prelude.{◌≡◌, ◌⊎◌, ℕ, List, Option, Some, None, Result, Ok, Err, true, false, codes, if◌then◌else◌, String, string_bytes}
 use Rattle.cg_dyadic.specs.Wide.{places}
 use Rattle.cg_form.specs.Game.{Game}
-use Rattle.cg_moves.specs.declared.fault.BoardFault.{BoardFault}
-use Rattle.cg_moves.specs.declared.fault.BoardFault.TheVariants.{Symbol, Empty, Ragged, Large, Rules, Lowering, Memory}
+use Rattle.cg_form.specs.Order.{le}
 use Rattle.cg_domineering.specs.Moves.{domineering}
 use Rattle.cg_clobber.specs.Moves.{clobber}
 use Rattle.cg_amazons.specs.Amazons.{amazons}
+use Rattle.cg_graph.specs.Charts.{chart_rules}
+use Rattle.cg_graph.specs.Drawings.{drawing_rules}
 use Rattle.cg_strip.specs.Toads.{toads_game}
 use Rattle.cg_strip.specs.StripGame.{strip_game}
 use Rattle.cg_thermo.specs.declared.thermo.Walls.{Walls}
@@ -18,9 +19,15 @@ use Rattle.cg_syntax.specs.Tree.{Question, Tree, value, outcome, stops, mean, te
 use Rattle.cg_eval.specs.Boards.{Position, board, faulty}
 use Rattle.cg_eval.specs.Pictures.{IsPicture, Picture, mean_text, temp_text, thermograph_text}
 use Rattle.cg_eval.specs.Meaning.{meaning}
-use Rattle.cg_eval.specs.Reply.{IsAnswerTo}
+use Rattle.cg_eval.specs.Reply.{IsAnswerTo, Piece, answer, comparison, later}
 use Rattle.cg_eval.specs.Shown.{shown}
 use Rattle.cg_eval.specs.declared.answered.Answered.{Answered}
+use Rattle.cg_eval.specs.IllFormed.{is_memory}
+use Rattle.cg_octal.specs.Codes.{OctalHeap}
+use Rattle.cg_octal.specs.declared.fault.OctalFault.{OctalFault}
+use Rattle.cg_octal.specs.declared.fault.OctalFault.TheVariants as octal
+use Rattle.cg_eval.specs.declared.fault.GameFault.{GameFault}
+use Rattle.cg_eval.specs.declared.fault.GameFault.TheVariants as by
 use Rattle.cg_eval.specs.declared.boards.GameBoard.{GameBoard}
 use Rattle.cg_eval.specs.declared.boards.GameBoard.TheVariants as boards
 use Rattle.cg_eval.specs.declared.pictures.Part.{Part}
@@ -37,22 +44,29 @@ set_up (boards.Clobber p) = board clobber p
 set_up (boards.Amazons p) = board amazons p
 set_up (boards.Toads p) = board toads_game p
 set_up (boards.Strip book p) = board (strip_game book) p
+set_up (boards.Hackenbush drawing p) = board (drawing_rules drawing) p
+set_up (boards.Colouring chart p) = board (chart_rules chart) p
 
 -- it is a board of its game
 abbrev pub IsSound : Position → Type 0
 IsSound (board r p) = r.has p ≡ true
 IsSound (faulty fault) = Unit {0}
 
+-- want of memory, or why the position is ill-formed
+abbrev pub IsFaulty : Position → GameFault → Type 0
+IsFaulty q fault = (is_memory fault ≡ true) ⊎ (q ≡ faulty fault)
+
 -- the fault of a reading: none of a board, and none is told of want of memory
-abbrev pub IsFaultOf : Option BoardFault → Result GameBoard BoardFault → Type 0
+abbrev pub IsFaultOf : Option GameFault → Result GameBoard GameFault → Type 0
 IsFaultOf fault (Ok p) = fault ≡ None
-IsFaultOf fault (Err Memory) = ⊥
-IsFaultOf fault (Err (Symbol place)) = fault ≡ Some (Symbol place)
-IsFaultOf fault (Err (Empty place)) = fault ≡ Some (Empty place)
-IsFaultOf fault (Err (Ragged place)) = fault ≡ Some (Ragged place)
-IsFaultOf fault (Err (Large place)) = fault ≡ Some (Large place)
-IsFaultOf fault (Err (Rules place)) = fault ≡ Some (Rules place)
-IsFaultOf fault (Err (Lowering rule)) = fault ≡ Some (Lowering rule)
+IsFaultOf fault (Err cause) = (is_memory cause ≡ false) × (fault ≡ Some cause)
+
+-- the fault of the reading of a code and a heap: none of a heap, and none is told of want of memory
+abbrev pub IsHeapFault : Option GameFault → Result OctalHeap OctalFault → Type 0
+IsHeapFault fault (Ok o) = fault ≡ None
+IsHeapFault fault (Err octal.Memory) = ⊥
+IsHeapFault fault (Err (octal.Code place)) = fault ≡ Some (by.Octal (octal.Code place))
+IsHeapFault fault (Err octal.Heap) = fault ≡ Some (by.Octal octal.Heap)
 
 -- ---- thermographs
 
@@ -98,3 +112,16 @@ winner_of N = codes "N"
 pub record Tells (g : Game) (h : ℕ) (asked : Asked) (a : Answered) : Type 0 where
   pub text : (t : Tree) → g ≡ can (meaning t) → IsAnswerTo (asked_of asked t) (shown a)
   pub handle : a.handle ≡ (if a.refused then None else Some h)
+
+-- the answer to a question about two games, with the first one's handle unless it is a refusal
+pub record TellsTwo (h : ℕ) (Is : Piece → Type 0) (a : Answered) : Type 0 where
+  pub text : Is (shown a)
+  pub handle : a.handle ≡ (if a.refused then None else Some h)
+
+-- how the two compare
+abbrev pub IsCompared : Game → Game → Piece → Type 0
+IsCompared g h reply = reply ≡ answer (comparison (le g h) (le h g))
+
+-- the refusal of a question that has no answer yet
+abbrev pub IsLater : Piece → Type 0
+IsLater reply = reply ≡ later

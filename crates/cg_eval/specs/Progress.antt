@@ -1,5 +1,5 @@
 -- How a call on a work ends that makes items.
-use Rattle.std.specs.Prelude.{ℕ, ◌≤◌, List, map, Result, Ok, Err, Vec}
+use Rattle.std.specs.Prelude.{ℕ, ◌≤◌, ◌++◌, List, map, Result, Ok, Err, Vec}
 use Rattle.cg_form.specs.Game.{Game, to_list}
 use Rattle.cg_cells.specs.Store.{State}
 use Rattle.cg_nodes.specs.Games.{StandsFor, StandFor}
@@ -35,6 +35,14 @@ Gives {R} s t items g (Err fault) = Stops s t fault items
 abbrev pub Evaluates : {R : Type 0} → State Meant (WorkRest R) → State Meant (WorkRest R) → Tree
     → Result ℕ ValueFault → Type 0
 Evaluates {R} s t e result = Gives s t (items s.rest.limit e) (meaning e) result
+
+-- the handles of what two expressions mean, with the items of both made, the first one's before the second's
+abbrev pub EvaluatesTwo : {R : Type 0} → State Meant (WorkRest R) → State Meant (WorkRest R) → Tree → Tree
+    → Result (ℕ × ℕ) ValueFault → Type 0
+EvaluatesTwo {R} s t a b (Ok hs) =
+    StandsFor t hs.0 (can (meaning a)) × StandsFor t hs.1 (can (meaning b))
+    × Makes s t (items s.rest.limit a ++ items s.rest.limit b)
+EvaluatesTwo {R} s t a b (Err fault) = Stops s t fault (items s.rest.limit a ++ items s.rest.limit b)
 
 -- handles of games in order, with all items made
 abbrev pub GivesAll : {R A : Type 0} → State Meant (WorkRest R) → State Meant (WorkRest R) → Trees

@@ -13,10 +13,10 @@ use Rattle.cg_names.specs.Name.{name_of}
 use Rattle.cg_dyadic.specs.Wide.{places}
 use Rattle.cg_thermo.specs.Thermal.{NeedsMore}
 use Rattle.cg_eval.specs.Meaning.{meaning}
-use Rattle.cg_syntax.specs.Tree.{Question, value, compare, outcome, stops, mean, temp, thermo}
+use Rattle.cg_syntax.specs.Tree.{Question, value, compare, outcome, stops, mean, temp, thermo, proof, check}
 use Rattle.cg_syntax.specs.Lines.{Reads, IsUnread}
-use Rattle.cg_moves.specs.declared.fault.BoardFault.{BoardFault}
-use Rattle.cg_eval.specs.Boards.{fault_text}
+use Rattle.cg_eval.specs.declared.fault.GameFault.{GameFault}
+use Rattle.cg_eval.specs.IllFormed.{fault_text}
 use Rattle.cg_eval.specs.Faults.{question_fault}
 use Rattle.cg_eval.specs.Items.{question_items}
 use Rattle.cg_eval.specs.Pictures.{IsPicture, Picture, mean_text, stops_text, temp_text, thermograph_text}
@@ -38,8 +38,8 @@ refusal text = record { text = text; refused = true }
 abbrev pub syntax_at : ℕ → Piece
 syntax_at column = refusal (codes "! syntax " ++ decimal column)
 
--- of a question that has an ill-formed board
-abbrev pub ill_formed : BoardFault → Piece
+-- of a question that has an ill-formed board or heap
+abbrev pub ill_formed : GameFault → Piece
 ill_formed fault = refusal (fault_text fault)
 
 -- of a question of which some item is refused
@@ -53,6 +53,10 @@ refusal_of Memory = refusal (codes "! memory")
 -- of a question for a mean or a temperature, some of which needs too many binary places
 abbrev pub too_fine : Piece
 too_fine = refusal (codes "! range")
+
+-- of a question that has no answer yet
+abbrev pub later : Piece
+later = refusal (codes "! later")
 
 -- ---- answers
 
@@ -79,7 +83,7 @@ IsShown g show reply =
 
 -- the answer to the question: the name of the value, how the two compare, who wins, the stops, the mean, the temperature,
 -- the whole thermograph. The value of an expression is the canonical form of what it means; stops, mean, temperature and
--- thermograph are those of the very game that it means, with all its options
+-- thermograph are those of the very game that it means, with all its options. Proofs of order aren't answered yet
 abbrev pub IsAnswerTo : Question → Piece → Type 0
 IsAnswerTo (value t) reply = reply ≡ answer (name_of (can (meaning t)))
 IsAnswerTo (compare s t) reply = reply ≡ answer (comparison (le (meaning s) (meaning t)) (le (meaning t) (meaning s)))
@@ -89,12 +93,14 @@ IsAnswerTo (stops t) reply =
 IsAnswerTo (mean t) reply = IsShown (meaning t) mean_text reply
 IsAnswerTo (temp t) reply = IsShown (meaning t) temp_text reply
 IsAnswerTo (thermo t) reply = IsShown (meaning t) thermograph_text reply
+IsAnswerTo (proof s t) reply = reply ≡ later
+IsAnswerTo (check s t text) reply = reply ≡ later
 
 -- ---- replies
 
--- The reply to a question, by why its first ill-formed board is so. Such a board's refusal comes first; else the refusal of
+-- The reply to a question, by why its first ill-formed board or heap is so. Its refusal comes first; else the refusal of
 -- the first item that isn't made; else the answer.
-abbrev pub IsReplyBy : Option BoardFault → ℕ → ℕ → Question → Piece → Type 0
+abbrev pub IsReplyBy : Option GameFault → ℕ → ℕ → Question → Piece → Type 0
 IsReplyBy (Some fault) share limit q reply = reply ≡ ill_formed fault
 IsReplyBy None share limit q reply =
     ((total : ℕ) × AllPass share 0 (question_items limit q) total × IsAnswerTo q reply)

@@ -7,7 +7,7 @@ use Rattle.cg_nodes.specs.Spelled.{can}
 use Rattle.cg_canon.specs.declared.fault.ValueFault.{ValueFault}
 use Rattle.cg_canon.specs.declared.rest.WorkRest.{WorkRest}
 use Rattle.cg_eval.specs.Meaning.{meaning}
-use Rattle.cg_syntax.specs.Tree.{Tree, Question, value, compare, outcome, stops, mean, temp, thermo}
+use Rattle.cg_syntax.specs.Tree.{Tree, Question, value, compare, outcome, stops, mean, temp, thermo, proof, check}
 use Rattle.cg_syntax.specs.Lines.{Reads}
 use Rattle.cg_eval.specs.declared.answered.Answered.{Answered}
 use Rattle.cg_eval.specs.Items.{question_items}
@@ -26,6 +26,8 @@ first_of (stops t) = t
 first_of (mean t) = t
 first_of (temp t) = t
 first_of (thermo t) = t
+first_of (proof s t) = s
+first_of (check s t text) = s
 
 -- a refused line has no handle, and any other has that of the value of its first expression
 abbrev pub HandleIs : {R : Type 0} → State Meant R → Question → Bool → Option ℕ → Type 0

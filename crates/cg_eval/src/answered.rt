@@ -32,7 +32,7 @@ pub(crate) fn answer_of(text: String, value: Handle) -> Answered
 }
 
 /// The refusal of this text.
-fn refused(text: String) -> Answered
+pub(crate) fn refused(text: String) -> Answered
     ensures { IsRefusedBy (refusal (string_bytes text)) result }
 {
     Answered {

@@ -1,19 +1,23 @@
 //! Boards read from texts.
-ghost use Rattle.std.specs.Prelude.{◌≡◌, ◌⊎◌, IfErr, IfOk, codes, false, true};
+ghost use Rattle.std.specs.Prelude.{◌≡◌, IfErr, IfOk, codes, false, true};
 ghost use Rattle.cg_moves.specs.Texts.{read_of};
 ghost use Rattle.cg_domineering.specs.Moves.{domineering};
 ghost use Rattle.cg_clobber.specs.Moves.{clobber};
 ghost use Rattle.cg_amazons.specs.Amazons.{amazons};
+ghost use Rattle.cg_graph.specs.Charts.{chart_read};
+ghost use Rattle.cg_graph.specs.Drawings.{drawing_read};
 ghost use Rattle.cg_strip.specs.Toads.{toads_game};
-ghost use Rattle.cg_eval.specs.Boards.{faulty, position_by, position_fault, position_of, strip_position};
-ghost use Rattle.cg_eval.specs.Parts.{IsFaultOf, set_up};
+ghost use Rattle.cg_eval.specs.Boards.{position_by, position_charted, position_drawn, position_fault, position_of, strip_position};
+ghost use Rattle.cg_eval.specs.Parts.{IsFaultOf, IsFaulty, set_up};
 
-use cg_moves::{Board, BoardFault};
+use crate::fault::{GameFault, is_memory};
+use cg_graph::{Colouring, GraphFault, Hackenbush};
+use cg_moves::Board;
 use cg_strip::{Strip, read_toads};
 use cg_syntax::{GameKind, Text};
 use std::alloc::{AllocError, Global};
 
-/// A board of one of the games, with the rules of a strip game.
+/// A board of one of the games, with the rules where they aren't the same for each board.
 #[derive(Debug, Drop)]
 pub enum GameBoard {
     /// Of Domineering.
@@ -26,57 +30,104 @@ pub enum GameBoard {
     Toads(Board),
     /// Of a strip game.
     Strip(Strip, Board),
+    /// Of Hackenbush on a graph.
+    Hackenbush(Hackenbush, Board),
+    /// Of Col or of Snort on a graph.
+    Colouring(Colouring, Board),
 }
 
 /// The board of Domineering.
-fn domineering_board(alloc: Global, text: &[u8]) -> Result<GameBoard, BoardFault>
+fn domineering_board(alloc: Global, text: &[u8]) -> Result<GameBoard, GameFault>
     ensures read { IfOk result (λ b. position_by domineering (read_of (codes ".#") false text.now) ≡ set_up b) }
-    ensures refused { IfErr result (λ fault. (fault ≡ BoardFault.Memory)
-        ⊎ (position_by domineering (read_of (codes ".#") false text.now) ≡ faulty fault)) }
+    ensures refused { IfErr result (IsFaulty (position_by domineering (read_of (codes ".#") false text.now))) }
 {
-    let board = cg_domineering::read(alloc, text)?;
-    Ok(GameBoard::Domineering(board))
+    match cg_domineering::read(alloc, text) {
+        Ok(board) => Ok(GameBoard::Domineering(board)),
+        Err(fault) => Err(GameFault::Board(fault)),
+    }
 }
 
 /// The board of Clobber.
-fn clobber_board(alloc: Global, text: &[u8]) -> Result<GameBoard, BoardFault>
+fn clobber_board(alloc: Global, text: &[u8]) -> Result<GameBoard, GameFault>
     ensures read { IfOk result (λ b. position_by clobber (read_of (codes ".xo") false text.now) ≡ set_up b) }
-    ensures refused { IfErr result (λ fault. (fault ≡ BoardFault.Memory)
-        ⊎ (position_by clobber (read_of (codes ".xo") false text.now) ≡ faulty fault)) }
+    ensures refused { IfErr result (IsFaulty (position_by clobber (read_of (codes ".xo") false text.now))) }
 {
-    let board = cg_clobber::read(alloc, text)?;
-    Ok(GameBoard::Clobber(board))
+    match cg_clobber::read(alloc, text) {
+        Ok(board) => Ok(GameBoard::Clobber(board)),
+        Err(fault) => Err(GameFault::Board(fault)),
+    }
 }
 
 /// The board of Amazons.
-fn amazons_board(alloc: Global, text: &[u8]) -> Result<GameBoard, BoardFault>
+fn amazons_board(alloc: Global, text: &[u8]) -> Result<GameBoard, GameFault>
     ensures read { IfOk result (λ b. position_by amazons (read_of (codes ".xo#") false text.now) ≡ set_up b) }
-    ensures refused { IfErr result (λ fault. (fault ≡ BoardFault.Memory)
-        ⊎ (position_by amazons (read_of (codes ".xo#") false text.now) ≡ faulty fault)) }
+    ensures refused { IfErr result (IsFaulty (position_by amazons (read_of (codes ".xo#") false text.now))) }
 {
-    let board = cg_amazons::read(alloc, text)?;
-    Ok(GameBoard::Amazons(board))
+    match cg_amazons::read(alloc, text) {
+        Ok(board) => Ok(GameBoard::Amazons(board)),
+        Err(fault) => Err(GameFault::Board(fault)),
+    }
 }
 
 /// The row of Toads and Frogs.
-fn toads_board(alloc: Global, text: &[u8]) -> Result<GameBoard, BoardFault>
+fn toads_board(alloc: Global, text: &[u8]) -> Result<GameBoard, GameFault>
     ensures read { IfOk result (λ b. position_by toads_game (read_of (codes ".TF") true text.now) ≡ set_up b) }
-    ensures refused { IfErr result (λ fault. (fault ≡ BoardFault.Memory)
-        ⊎ (position_by toads_game (read_of (codes ".TF") true text.now) ≡ faulty fault)) }
+    ensures refused { IfErr result (IsFaulty (position_by toads_game (read_of (codes ".TF") true text.now))) }
 {
-    let board = read_toads(alloc, text)?;
-    Ok(GameBoard::Toads(board))
+    match read_toads(alloc, text) {
+        Ok(board) => Ok(GameBoard::Toads(board)),
+        Err(fault) => Err(GameFault::Board(fault)),
+    }
 }
 
 /// The row of a strip game, whose rules are read first.
-fn strip_board(alloc: Global, rules: &[u8], row: &[u8]) -> Result<GameBoard, BoardFault>
+fn strip_board(alloc: Global, rules: &[u8], row: &[u8]) -> Result<GameBoard, GameFault>
     ensures read { IfOk result (λ b. strip_position rules.now row.now ≡ set_up b) }
-    ensures refused { IfErr result (λ fault. (fault ≡ BoardFault.Memory)
-        ⊎ (strip_position rules.now row.now ≡ faulty fault)) }
+    ensures refused { IfErr result (IsFaulty (strip_position rules.now row.now)) }
 {
-    let strip = Strip::read(alloc, rules)?;
-    let board = strip.board(alloc, row)?;
-    Ok(GameBoard::Strip(strip, board))
+    let strip = match Strip::read(alloc, rules) {
+        Ok(strip) => strip,
+        Err(fault) => return Err(GameFault::Board(fault)),
+    };
+    match strip.board(alloc, row) {
+        Ok(board) => Ok(GameBoard::Strip(strip, board)),
+        Err(fault) => Err(GameFault::Board(fault)),
+    }
+}
+
+/// The board of Hackenbush on the graph of these edges.
+fn hackenbush_board(alloc: Global, edges: &[u8]) -> Result<GameBoard, GameFault>
+    ensures read { IfOk result (λ b. position_drawn (drawing_read edges.now) ≡ set_up b) }
+    ensures refused { IfErr result (IsFaulty (position_drawn (drawing_read edges.now))) }
+{
+    let drawing = match Hackenbush::read(alloc, edges) {
+        Ok(drawing) => drawing,
+        Err(fault) => return Err(GameFault::Graph(fault)),
+    };
+    match drawing.board(alloc) {
+        Ok(board) => Ok(GameBoard::Hackenbush(drawing, board)),
+        Err(_) => Err(GameFault::Graph(GraphFault::Memory)),
+    }
+}
+
+/// The board of Col or of Snort on the graph of these vertices and edges.
+fn colouring_board(
+    alloc: Global,
+    snort: bool,
+    vertices: &[u8],
+    edges: &[u8],
+) -> Result<GameBoard, GameFault>
+    ensures read { IfOk result (λ b. position_charted (chart_read snort vertices.now edges.now) ≡ set_up b) }
+    ensures refused { IfErr result (IsFaulty (position_charted (chart_read snort vertices.now edges.now))) }
+{
+    let chart = match Colouring::read(alloc, snort, vertices, edges) {
+        Ok(chart) => chart,
+        Err(fault) => return Err(GameFault::Graph(fault)),
+    };
+    match chart.board(alloc) {
+        Ok(board) => Ok(GameBoard::Colouring(chart, board)),
+        Err(_) => Err(GameFault::Graph(GraphFault::Memory)),
+    }
 }
 
 /// The board of the text. Of a strip game the rules are read first.
@@ -85,28 +136,37 @@ pub(crate) fn game_board(
     kind: GameKind,
     rules: &Text,
     board: &Text,
-) -> Result<GameBoard, BoardFault>
+) -> Result<GameBoard, GameFault>
     ensures read { IfOk result (λ b. position_of kind rules.now board.now ≡ set_up b) }
-    ensures refused { IfErr result (λ fault. (fault ≡ BoardFault.Memory)
-        ⊎ (position_of kind rules.now board.now ≡ faulty fault)) }
+    ensures refused { IfErr result (IsFaulty (position_of kind rules.now board.now)) }
 {
+    let rules = rules.as_slice();
+    let board = board.as_slice();
     match kind {
-        GameKind::Domineering => domineering_board(alloc, board.as_slice()),
-        GameKind::Clobber => clobber_board(alloc, board.as_slice()),
-        GameKind::Amazons => amazons_board(alloc, board.as_slice()),
-        GameKind::Toads => toads_board(alloc, board.as_slice()),
-        GameKind::Strip => strip_board(alloc, rules.as_slice(), board.as_slice()),
+        GameKind::Domineering => domineering_board(alloc, board),
+        GameKind::Clobber => clobber_board(alloc, board),
+        GameKind::Amazons => amazons_board(alloc, board),
+        GameKind::Toads => toads_board(alloc, board),
+        GameKind::Strip => strip_board(alloc, rules, board),
+        GameKind::Hackenbush => hackenbush_board(alloc, rules),
+        GameKind::Col => colouring_board(alloc, false, board, rules),
+        GameKind::Snort => colouring_board(alloc, true, board, rules),
     }
 }
 
 /// The fault of a reading, where that isn't want of memory.
-fn fault_of(read: Result<GameBoard, BoardFault>) -> Result<Option<BoardFault>, AllocError>
+fn fault_of(read: Result<GameBoard, GameFault>) -> Result<Option<GameFault>, AllocError>
     ensures { IfOk result (λ fault. IsFaultOf fault read) }
 {
     match read {
         Ok(_) => Ok(None),
-        Err(BoardFault::Memory) => Err(AllocError),
-        Err(fault) => Ok(Some(fault)),
+        Err(fault) => {
+            if is_memory(fault) {
+                Err(AllocError)
+            } else {
+                Ok(Some(fault))
+            }
+        }
     }
 }
 
@@ -116,7 +176,7 @@ pub(crate) fn board_fault(
     kind: GameKind,
     rules: &Text,
     board: &Text,
-) -> Result<Option<BoardFault>, AllocError>
+) -> Result<Option<GameFault>, AllocError>
     ensures { IfOk result (λ fault. fault ≡ position_fault (position_of kind rules.now board.now)) }
 {
     let read = game_board(alloc, kind, rules, board);

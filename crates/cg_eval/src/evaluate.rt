@@ -15,6 +15,7 @@ ghost use Rattle.cg_syntax.specs.Tree.{terms_from, trees_from};
 ghost use Rattle.cg_syntax.specs.Tree as trees;
 ghost use Rattle.cg_syntax.specs.Trees.{terms_in, terms_of, tree_of, trees_in};
 
+use crate::heaps::heap_value;
 use crate::named::{literal, named_nimber, named_switch, named_tiny, named_ups, zero};
 use crate::positions::board_value;
 use cg_canon::{ValueFault, Work, canonical, number_item};
@@ -47,6 +48,7 @@ pub fn evaluate<S: CellStore<GameFacts<CgBoards>>>(
         Expr::Multiple(count, inner) => times(alloc, work, *count, inner),
         Expr::Sum(terms) => total(alloc, work, terms),
         Expr::Game { kind, rules, board } => board_value(alloc, work, *kind, rules, board),
+        Expr::Octal { code, heap } => heap_value(alloc, work, code, *heap),
     }
 }
 

@@ -1,19 +1,23 @@
 //! Laws of expressions and replies: a call puts its law into the caller's facts.
-ghost use Rattle.std.specs.Prelude.{◌≡◌, ◌⊎◌, ◌++◌, ◌∷◌, [], ℕ, List, None, false};
+ghost use Rattle.std.specs.Prelude.{◌≡◌, ◌⊎◌, ◌++◌, ◌∷◌, [], ℕ, List, None, Result, Err, false};
 ghost use Rattle.cg_nodes.specs.Spelled.{can};
 ghost use Rattle.cg_canon.specs.declared.fault.ValueFault.{ValueFault};
 ghost use Rattle.cg_canon.specs.Items.{Item, made, AllPass, IsStopped};
+ghost use Rattle.cg_octal.specs.Codes.{IsRead, OctalHeap};
+ghost use Rattle.cg_octal.specs.declared.fault.OctalFault.{OctalFault};
+ghost use Rattle.cg_octal.specs.declared.fault.OctalFault.TheVariants.{Memory};
 ghost use Rattle.cg_eval.specs.Boards.{IsStrip, Position, strip_position};
 ghost use Rattle.cg_eval.specs.Faults.{fault_in};
 ghost use Rattle.cg_eval.specs.Meaning.{meaning};
 ghost use Rattle.cg_eval.specs.Items.{items};
+ghost use Rattle.cg_eval.specs.Octals.{octal_read};
 ghost use Rattle.cg_eval.specs.Reply.{IsReply, Piece};
 ghost use Rattle.cg_syntax.specs.Lines.{is_blank_line, IsComment};
 ghost use Rattle.cg_syntax.specs.Tree.{Tree};
 
 use cg_syntax::laws::one_query;
 
-/// Where all items of an expression pass whose boards are all well-formed, the last of them is the canonical form of what the
+/// Where all items of an expression pass whose boards and heaps are all well-formed, the last is the canonical form of what the
 /// expression means, for every share and positions limit.
 pub fn l8()
     ensures { (share limit spent : ℕ) (t : Tree) → fault_in t ≡ None → AllPass share 0 (items limit t) spent
@@ -42,6 +46,13 @@ pub fn one_reply()
 {
     one_query();
 }
+
+/// A code and a heap are one heap of an octal game, or ill-formed for one cause.
+pub fn octal_heaps()
+    ensures some { (code : List ℕ) (tokens : ℕ) → IsRead code tokens (octal_read code tokens) }
+    ensures only { (code : List ℕ) (tokens : ℕ) (r : Result OctalHeap OctalFault) → IsRead code tokens r
+        → ¬ (r ≡ Err Memory) → octal_read code tokens ≡ r }
+{}
 
 /// The rules text and the row of a strip game are one position: a board of the game of these rules, or ill-formed for one cause.
 pub fn strip_boards()

@@ -9,7 +9,9 @@
 mod answered;
 mod boards;
 mod evaluate;
+mod fault;
 mod faults;
+mod heaps;
 pub mod laws;
 mod line;
 mod named;

@@ -8,12 +8,13 @@ ghost use Rattle.cg_eval.specs.Parts.{IsSound, set_up};
 ghost use Rattle.cg_eval.specs.Progress.{Gives};
 
 use crate::boards::{GameBoard, game_board};
+use crate::fault::is_memory;
 use cg_amazons::Amazons;
 use cg_canon::{ValueFault, Work};
 use cg_cells::CellStore;
 use cg_clobber::Clobber;
 use cg_domineering::Domineering;
-use cg_moves::{Board, BoardFault, Rules};
+use cg_moves::{Board, Rules};
 use cg_nodes::{GameFacts, Handle};
 use cg_strip::Toads;
 use cg_syntax::{GameKind, Text};
@@ -53,6 +54,8 @@ fn value_in<S: CellStore<GameFacts<CgBoards>>>(
         GameBoard::Amazons(board) => value_by(alloc, work, &Amazons, board),
         GameBoard::Toads(board) => value_by(alloc, work, &Toads, board),
         GameBoard::Strip(strip, board) => value_by(alloc, work, strip, board),
+        GameBoard::Hackenbush(drawing, board) => value_by(alloc, work, drawing, board),
+        GameBoard::Colouring(chart, board) => value_by(alloc, work, chart, board),
     }
 }
 
@@ -72,7 +75,12 @@ pub fn board_value<S: CellStore<GameFacts<CgBoards>>>(
 {
     match game_board(alloc, kind, rules, board) {
         Ok(board) => value_in(alloc, work, &board),
-        Err(BoardFault::Memory) => Err(ValueFault::Memory),
-        Err(_) => unreachable!(),
+        Err(fault) => {
+            if is_memory(fault) {
+                Err(ValueFault::Memory)
+            } else {
+                unreachable!()
+            }
+        }
     }
 }

@@ -1,25 +1,25 @@
 //! Answers to questions, on a work.
-ghost use Rattle.std.specs.Prelude.{◌≡◌, None};
+ghost use Rattle.std.specs.Prelude.{◌≡◌, ℕ, List, None};
 ghost use Rattle.cg_canon.specs.Works.{work_state};
-ghost use Rattle.cg_eval.specs.Faults.{fault_in, question_fault};
+ghost use Rattle.cg_eval.specs.Faults.{fault_in, first_of_two, question_fault};
 ghost use Rattle.cg_eval.specs.Parts.{asked_of};
+ghost use Rattle.cg_eval.specs.Progress.{EvaluatesTwo};
 ghost use Rattle.cg_eval.specs.Shown.{Answers};
-ghost use Rattle.cg_syntax.specs.Tree.{compare};
+ghost use Rattle.cg_syntax.specs.Tree.{check, compare, proof};
 ghost use Rattle.cg_syntax.specs.Trees.{question_of, tree_of};
 
 use crate::Answered;
-use crate::answered::answer_of;
 use crate::evaluate::evaluate;
 use crate::pictures::Part;
-use crate::telling::{Asked, compared, tell};
+use crate::telling::{Asked, tell, tell_later, tell_order};
 use cg_canon::{ValueFault, Work};
 use cg_cells::CellStore;
-use cg_nodes::GameFacts;
+use cg_nodes::{GameFacts, Handle};
 use cg_syntax::{Expr, Query};
 use cg_values::CgBoards;
 use std::alloc::Global;
 
-/// The answer to a question whose boards are all well-formed. It makes the question's items in order; the fault is that of
+/// The answer to a question whose boards and heaps are all well-formed. It makes the question's items in order; the fault is that of
 /// the first that is refused, or want of memory.
 pub fn answer_question<S: CellStore<GameFacts<CgBoards>>>(
     alloc: Global,
@@ -37,6 +37,8 @@ pub fn answer_question<S: CellStore<GameFacts<CgBoards>>>(
         Query::Mean(expr) => answer_about(alloc, work, Asked::Picture(Part::Mean), expr),
         Query::Temp(expr) => answer_about(alloc, work, Asked::Picture(Part::Temp), expr),
         Query::Thermo(expr) => answer_about(alloc, work, Asked::Picture(Part::Whole), expr),
+        Query::Proof(first, second) => answer_proof(alloc, work, first, second),
+        Query::Check(first, second, _) => answer_check(alloc, work, first, second),
     }
 }
 
@@ -55,6 +57,22 @@ fn answer_about<S: CellStore<GameFacts<CgBoards>>>(
     Ok(told)
 }
 
+/// The values of two expressions. The first one's items are made before the second's.
+fn evaluate_two<S: CellStore<GameFacts<CgBoards>>>(
+    alloc: Global,
+    work: &mut Work<CgBoards, S>,
+    first: &Expr,
+    second: &Expr,
+) -> Result<(Handle, Handle), ValueFault>
+    requires { first_of_two (fault_in (tree_of first.now)) (fault_in (tree_of second.now)) ≡ None }
+    ensures { EvaluatesTwo (work_state S.state work.old) (work_state S.state work.new) (tree_of first.now)
+        (tree_of second.now) result }
+{
+    let left = evaluate(alloc, work, first)?;
+    let right = evaluate(alloc, work, second)?;
+    Ok((left, right))
+}
+
 /// How two expressions compare.
 fn answer_comparison<S: CellStore<GameFacts<CgBoards>>>(
     alloc: Global,
@@ -62,14 +80,43 @@ fn answer_comparison<S: CellStore<GameFacts<CgBoards>>>(
     first: &Expr,
     second: &Expr,
 ) -> Result<Answered, ValueFault>
-    requires first { fault_in (tree_of first.now) ≡ None }
-    requires second { fault_in (tree_of second.now) ≡ None }
+    requires { first_of_two (fault_in (tree_of first.now)) (fault_in (tree_of second.now)) ≡ None }
     ensures { Answers (work_state S.state work.old) (work_state S.state work.new)
         (compare (tree_of first.now) (tree_of second.now)) result }
 {
-    let left = evaluate(alloc, work, first)?;
-    let right = evaluate(alloc, work, second)?;
-    let order = compared(alloc, work, left, right)?;
-    let text = String::from_str(alloc, order)?;
-    Ok(answer_of(text, left))
+    let values = evaluate_two(alloc, work, first, second)?;
+    let told = tell_order(alloc, work, values.0, values.1)?;
+    Ok(told)
+}
+
+/// The reply to the question for a proof of how two expressions are ordered, which has no answer yet.
+fn answer_proof<S: CellStore<GameFacts<CgBoards>>>(
+    alloc: Global,
+    work: &mut Work<CgBoards, S>,
+    first: &Expr,
+    second: &Expr,
+) -> Result<Answered, ValueFault>
+    requires { first_of_two (fault_in (tree_of first.now)) (fault_in (tree_of second.now)) ≡ None }
+    ensures { Answers (work_state S.state work.old) (work_state S.state work.new)
+        (proof (tree_of first.now) (tree_of second.now)) result }
+{
+    let values = evaluate_two(alloc, work, first, second)?;
+    let told = tell_later(alloc, values.0)?;
+    Ok(told)
+}
+
+/// The reply to the question whether a text is a proof, which has no answer yet.
+fn answer_check<S: CellStore<GameFacts<CgBoards>>>(
+    alloc: Global,
+    work: &mut Work<CgBoards, S>,
+    first: &Expr,
+    second: &Expr,
+) -> Result<Answered, ValueFault>
+    requires { first_of_two (fault_in (tree_of first.now)) (fault_in (tree_of second.now)) ≡ None }
+    ensures { (text : List ℕ) → Answers (work_state S.state work.old) (work_state S.state work.new)
+        (check (tree_of first.now) (tree_of second.now) text) result }
+{
+    let values = evaluate_two(alloc, work, first, second)?;
+    let told = tell_later(alloc, values.0)?;
+    Ok(told)
 }

@@ -20,11 +20,11 @@ use std::alloc::{AllocError, Global};
 /// The reply to a question, on a share of so much of the store's spare, with so many positions at most in one list of
 /// items.
 ///
-/// It is the first of these that applies: `! board cause p` for the first ill-formed board from the left; `! positions`,
-/// `! range`, `! depth` or `! full` where an item of the question is refused; `! range` where the mean or the temperature of
-/// some position of the value needs more than 60 binary places and the question is for a mean, a temperature or a
-/// thermograph; and else its answer. The one fault is want of memory. Whatever it answers, what the store knew it knows, and
-/// its spare falls by the share at most.
+/// It is the first of these that applies: `! board cause p` for the first ill-formed board or heap from the left;
+/// `! positions`, `! range`, `! depth` or `! full` where an item of the question is refused; `! range` where the mean or the
+/// temperature of some position of the value needs more than 60 binary places and the question is for a mean, a temperature
+/// or a thermograph; `! long` where a proof has more than 65,536 bytes; and else its answer. The one fault is want of memory.
+/// Whatever it answers, what the store knew it knows, and its spare falls by the share at most.
 pub fn answer_query<S: CellStore<GameFacts<CgBoards>>>(
     alloc: Global,
     store: &mut S,
@@ -43,7 +43,7 @@ pub fn answer_query<S: CellStore<GameFacts<CgBoards>>>(
     replied
 }
 
-/// The reply to a question, on a work on which nothing was spent. An ill-formed board is refused before anything is made.
+/// The reply to a question, on a work on which nothing was spent. An ill-formed board or heap is refused before anything is made.
 fn reply_on<S: CellStore<GameFacts<CgBoards>>>(
     alloc: Global,
     work: &mut Work<CgBoards, S>,
@@ -61,7 +61,7 @@ fn reply_on<S: CellStore<GameFacts<CgBoards>>>(
     }
 }
 
-/// The reply to a question whose boards are all well-formed, on a work on which nothing was spent.
+/// The reply to a question whose boards and heaps are all well-formed, on a work on which nothing was spent.
 fn reply_well_formed<S: CellStore<GameFacts<CgBoards>>>(
     alloc: Global,
     work: &mut Work<CgBoards, S>,

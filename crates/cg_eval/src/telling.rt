@@ -4,7 +4,7 @@ ghost use Rattle.cg_canon.specs.Works.{work_state};
 ghost use Rattle.cg_cells.specs.Store.{Spends};
 ghost use Rattle.cg_form.specs.Order.{le};
 ghost use Rattle.cg_nodes.specs.Games.{IsGame, game_at};
-ghost use Rattle.cg_eval.specs.Parts.{IsDrawn, Tells, winner_of};
+ghost use Rattle.cg_eval.specs.Parts.{IsCompared, IsDrawn, IsLater, Tells, TellsTwo, winner_of};
 ghost use Rattle.cg_eval.specs.Reply.{comparison};
 
 use crate::Answered;
@@ -157,7 +157,7 @@ fn comparison(at_most: bool, at_least: bool) -> &'static str
 }
 
 /// How the two games compare.
-pub(crate) fn compared<B: BoardForms, S: CellStore<GameFacts<B>>>(
+fn compared<B: BoardForms, S: CellStore<GameFacts<B>>>(
     alloc: Global,
     work: &mut Work<B, S>,
     a: Handle,
@@ -172,4 +172,29 @@ pub(crate) fn compared<B: BoardForms, S: CellStore<GameFacts<B>>>(
     let at_most = le(alloc, work, a, b)?;
     let at_least = le(alloc, work, b, a)?;
     Ok(comparison(at_most, at_least))
+}
+
+/// How the two games compare.
+pub(crate) fn tell_order<B: BoardForms, S: CellStore<GameFacts<B>>>(
+    alloc: Global,
+    work: &mut Work<B, S>,
+    a: Handle,
+    b: Handle,
+) -> Result<Answered, AllocError>
+    requires a { IsGame (work_state S.state work.old) a }
+    requires b { IsGame (work_state S.state work.old) b }
+    ensures told { let s = work_state S.state work.old in
+        IfOk result (TellsTwo a (IsCompared (game_at s a) (game_at s b))) }
+    ensures spends { Spends 0 (work_state S.state work.old) (work_state S.state work.new) }
+{
+    let order = compared(alloc, work, a, b)?;
+    let text = String::from_str(alloc, order)?;
+    Ok(answer_of(text, a))
+}
+
+/// The refusal of a question about two games that has no answer yet.
+pub(crate) fn tell_later(alloc: Global, a: Handle) -> Result<Answered, AllocError>
+    ensures { IfOk result (TellsTwo a IsLater) }
+{
+    refuse(alloc, "! later")
 }

@@ -7,7 +7,7 @@ use Rattle.cg_syntax.specs.Tree as trees
 use Rattle.cg_syntax.specs.Trees.{tree_of, trees_in, trees_of, term_of, terms_in, terms_of}
 use Rattle.cg_syntax.specs.declared.expr.Expr.{Expr}
 use Rattle.cg_syntax.specs.declared.expr.Expr.TheVariants as expr
-use Rattle.cg_syntax.proofs.TreeOf.{number_tree, ups_tree_of, nimber_tree, switch_tree, tiny_tree, braces_tree, negative_tree, multiple_tree, sum_tree, game_tree, term_tree}
+use Rattle.cg_syntax.proofs.TreeOf.{number_tree, ups_tree_of, nimber_tree, switch_tree, tiny_tree, braces_tree, negative_tree, multiple_tree, sum_tree, game_tree, octal_tree, term_tree}
 use Rattle.cg_names.specs.Meaning.{signed}
 use Rattle.cg_eval.specs.Faults.{fault_in, fault_in_all}
 use Rattle.cg_eval.specs.Meaning.{meaning, total_with}
@@ -23,7 +23,7 @@ use Rattle.cg_nodes.proofs.Later.{are_games_later, is_game_later, stands_is_game
 use Rattle.cg_canon.specs.Items.{made}
 use Rattle.std.proofs.lemmas.List.{nil_from_length}
 use Rattle.cg_syntax.specs.declared.expr.Term.{Term}
-use Rattle.cg_eval.proofs.BoardParts.{board_gives}
+use Rattle.cg_eval.proofs.BoardParts.{board_gives, heap_gives}
 use Rattle.cg_eval.proofs.FaultParts.{fault_of_braces, fault_of_term, fault_of_tree, neither, none_in-all, none_in-terms}
 use Rattle.cg_eval.proofs.Walk.{size, size_of_braces, size_of_negative, size_of_multiple, size_of_sum, size_of_item, size_of_term}
 use Rattle.cg_eval.proofs.ListSteps.{adds, all_made-all, all_made-none, all_made-step, all_stopped, added-all, added-none, added-step, added-stopped, first_and_rest, first_board, first_size, first_term_stopped, gives_all-err, no_terms_give, sum_of_terms}
@@ -83,6 +83,21 @@ evaluate-returns-in-Game g t c =
     subst P (sym tree) (board_gives (work_state g.S.CellStore.state c.args.work.now)
     (work_state g.S.CellStore.state c.board_value.new.work) c.in-Game.kind c.in-Game.rules c.in-Game.board
     c.board_value.result c.board_value.ensures)
+
+pub evaluate-heap_value-requires : goal.evaluate-heap_value-requires
+evaluate-heap_value-requires g t c =
+    let b = fault_of_tree c.args.expr.now (expr.Octal c.in-Octal.code c.in-Octal.heap) c.in-Octal.is
+    (octal_tree c.in-Octal.code c.in-Octal.heap) in
+    sym b ∙ c.requires
+
+pub evaluate-returns-in-Octal : goal.evaluate-returns-in-Octal
+evaluate-returns-in-Octal g t c =
+    let tree = ap tree_of c.in-Octal.is ∙ octal_tree c.in-Octal.code c.in-Octal.heap in
+    let P : Tree → Type 0 = λ u. Evaluates (work_state g.S.CellStore.state c.args.work.now)
+    (work_state g.S.CellStore.state c.heap_value.new.work) u c.heap_value.result in
+    subst P (sym tree) (heap_gives (work_state g.S.CellStore.state c.args.work.now)
+    (work_state g.S.CellStore.state c.heap_value.new.work) c.in-Octal.code c.in-Octal.heap c.heap_value.result
+    c.heap_value.ensures)
 
 pub evaluate-returns-in-Number : goal.evaluate-returns-in-Number
 evaluate-returns-in-Number g t c =

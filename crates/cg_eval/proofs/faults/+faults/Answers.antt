@@ -1,10 +1,10 @@
 use Rattle.std.proofs.Common.{◌≡◌, Bool, IfOk, Option, rules, ap, sym, ◌∙◌, subst}
-use Rattle.cg_moves.specs.declared.fault.BoardFault.{BoardFault}
+use Rattle.cg_eval.specs.declared.fault.GameFault.{GameFault}
 use Rattle.cg_syntax.specs.Trees.{tree_of, trees_in, term_of, terms_in}
 use Rattle.cg_syntax.specs.Tree.{Tree, trees_from}
 use Rattle.cg_syntax.specs.declared.expr.Expr.{Expr}
 use Rattle.cg_syntax.specs.declared.expr.Expr.TheVariants as expr
-use Rattle.cg_syntax.proofs.TreeOf.{number_tree, ups_tree_of, nimber_tree, switch_tree, tiny_tree, negative_tree, multiple_tree, sum_tree, game_tree, term_tree}
+use Rattle.cg_syntax.proofs.TreeOf.{number_tree, ups_tree_of, nimber_tree, switch_tree, tiny_tree, negative_tree, multiple_tree, sum_tree, game_tree, octal_tree, term_tree}
 use Rattle.cg_eval.specs.Faults.{fault_in, fault_in_all, first_of_two}
 use Rattle.cg_eval.proofs.FaultParts.{all-one_more, fault_of_braces, fault_of_tree, terms-one_more}
 use Rattle.cg_eval.proofs.Walk.{size, size_of_braces, size_of_negative, size_of_multiple, size_of_sum, size_of_item, size_of_term}
@@ -71,7 +71,7 @@ fault_in-returns-in-Negative t c =
     let b : fault_in (tree_of c.args.expr.now) ≡ fault_in (tree_of c.in-Negative.inner.value) = fault_of_tree
     c.args.expr.now (expr.Negative c.in-Negative.inner) c.in-Negative.is (negative_tree c.in-Negative.inner) in
     let d = ap (λ (x : Expr). fault_in (tree_of x)) c.deref.ensures in
-    let P : Option BoardFault → Type 0 = λ z. IfOk c.fault_in.result (λ found. found ≡ z) in
+    let P : Option GameFault → Type 0 = λ z. IfOk c.fault_in.result (λ found. found ≡ z) in
     subst P (d ∙ sym b) c.fault_in.ensures
 
 pub fault_in-returns-in-Multiple : goal.fault_in-returns-in-Multiple
@@ -80,21 +80,28 @@ fault_in-returns-in-Multiple t c =
     c.args.expr.now (expr.Multiple c.in-Multiple.field-0 c.in-Multiple.inner) c.in-Multiple.is
     (multiple_tree c.in-Multiple.field-0 c.in-Multiple.inner) in
     let d = ap (λ (x : Expr). fault_in (tree_of x)) c.deref-in-Multiple.ensures in
-    let P : Option BoardFault → Type 0 = λ z. IfOk c.fault_in-in-Multiple.result (λ found. found ≡ z) in
+    let P : Option GameFault → Type 0 = λ z. IfOk c.fault_in-in-Multiple.result (λ found. found ≡ z) in
     subst P (d ∙ sym b) c.fault_in-in-Multiple.ensures
 
 pub fault_in-returns-in-Sum : goal.fault_in-returns-in-Sum
 fault_in-returns-in-Sum t c =
     let b = fault_of_tree c.args.expr.now (expr.Sum c.in-Sum.terms) c.in-Sum.is (sum_tree c.in-Sum.terms) in
-    let P : Option BoardFault → Type 0 = λ z. IfOk c.fault_in_terms.result (λ found. found ≡ z) in
+    let P : Option GameFault → Type 0 = λ z. IfOk c.fault_in_terms.result (λ found. found ≡ z) in
     subst P (sym b) c.fault_in_terms.ensures
 
 pub fault_in-returns-in-Game : goal.fault_in-returns-in-Game
 fault_in-returns-in-Game t c =
     let b = fault_of_tree c.args.expr.now (expr.Game c.in-Game.kind c.in-Game.rules c.in-Game.board) c.in-Game.is
     (game_tree c.in-Game.kind c.in-Game.rules c.in-Game.board) in
-    let P : Option BoardFault → Type 0 = λ z. IfOk c.board_fault.result (λ found. found ≡ z) in
+    let P : Option GameFault → Type 0 = λ z. IfOk c.board_fault.result (λ found. found ≡ z) in
     subst P (sym b) c.board_fault.ensures
+
+pub fault_in-returns-in-Octal : goal.fault_in-returns-in-Octal
+fault_in-returns-in-Octal t c =
+    let b = fault_of_tree c.args.expr.now (expr.Octal c.in-Octal.code c.in-Octal.heap) c.in-Octal.is
+    (octal_tree c.in-Octal.code c.in-Octal.heap) in
+    let P : Option GameFault → Type 0 = λ z. IfOk c.heap_fault.result (λ found. found ≡ z) in
+    subst P (sym b) c.heap_fault.ensures
 
 -- ---- fault_in_all
 

@@ -1,0 +1,34 @@
+use Rattle.std.proofs.Common.{Err, List, Ok, Result, ℕ, sym, subst}
+use Rattle.cg_canon.specs.Works.{work_state}
+use Rattle.cg_octal.specs.Codes.{IsRead, OctalHeap}
+use Rattle.cg_octal.specs.declared.fault.OctalFault.{OctalFault}
+use Rattle.cg_octal.specs.declared.fault.OctalFault.TheVariants.{Code, Heap}
+use Rattle.cg_eval.specs.Octals.{heap_form, heap_items}
+use Rattle.cg_eval.specs.Progress.{Gives}
+use Rattle.cg_eval.proofs.OctalReadings.{heap-read, no-heap-refused}
+use Rattle.cg_eval.proofs.heaps.heap_value.Goals as goal
+
+pub returns-in-Ok : goal.returns-in-Ok
+returns-in-Ok g c =
+    let s = work_state g.S.CellStore.state c.args.work.now in
+    let t = work_state g.S.CellStore.state c.value_of_heap.new.work in
+    let R : List ℕ → Type 0 = λ z. IsRead z c.args.tokens (Ok c.in-Ok.octal) in
+    let P : Result OctalHeap OctalFault → Type 0 = λ o.
+    Gives s t (heap_items s.rest.limit o) (heap_form o) c.value_of_heap.result in
+    subst P (sym (heap-read c.args.code.now c.args.tokens c.in-Ok.octal
+    (subst R c.as_slice.ensures c.in-Ok.ensures.read))) c.value_of_heap.ensures
+
+pub unreachable-requires : goal.unreachable-requires
+unreachable-requires g c =
+    let R : List ℕ → Type 0 = λ z. IsRead z c.args.tokens (Err (Code c.in-Err-Code._place)) in
+    let is : IsRead c.as_slice.result.now c.args.tokens (Err (Code c.in-Err-Code._place)) =
+    rw c.in-Err-Code.field-0-is at c.in-Err-Code.ensures.read in
+    no-heap-refused c.args.code.now c.args.tokens (Code c.in-Err-Code._place) (subst R c.as_slice.ensures is) (λ e. cc)
+    c.requires
+
+pub unreachable-requires-in-Err-Heap : goal.unreachable-requires-in-Err-Heap
+unreachable-requires-in-Err-Heap g c =
+    let R : List ℕ → Type 0 = λ z. IsRead z c.args.tokens (Err Heap) in
+    let is : IsRead c.as_slice.result.now c.args.tokens (Err Heap) =
+    rw c.in-Err-Heap.field-0-is at c.in-Err-Heap.ensures.read in
+    no-heap-refused c.args.code.now c.args.tokens Heap (subst R c.as_slice.ensures is) (λ e. cc) c.requires
