@@ -1,9 +1,11 @@
+-- what public contracts cite
 pub mod Items
 pub mod Profiles
 pub mod Memos
 pub mod Works
 pub mod Made
 pub mod NumberItems
+-- what private contracts cite, and what proofs need here
 pub mod Verdict
 pub mod Wholes
 pub mod Passed

@@ -1,3 +1,4 @@
+-- what public contracts cite
 pub mod Game
 pub mod Size
 pub mod GameCode
@@ -23,4 +24,5 @@ pub mod Cut
 pub mod Best
 pub mod Bypass
 pub mod Known
+-- what private contracts cite, and what proofs need here
 pub mod Total
