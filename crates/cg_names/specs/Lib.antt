@@ -1,10 +1,12 @@
+-- what public contracts cite
 pub mod Named
 pub mod Signs
 pub mod Shapes
 pub mod Name
 pub mod Lists
+pub mod Meaning
+pub mod Reading
+-- what private contracts cite
 pub mod Memos
 pub mod Making
-pub mod Meaning
 pub mod Readings
-pub mod Reading

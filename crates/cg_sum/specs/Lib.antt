@@ -1,4 +1,6 @@
-pub mod Written
+-- what public contracts cite
 pub mod Lists
+-- what private contracts cite
+pub mod Written
 pub mod Finds
 pub mod Progress
