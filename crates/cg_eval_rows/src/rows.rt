@@ -10,6 +10,9 @@ use cg_syntax::{Line, read_line};
 use cg_values::CgBoards;
 use std::alloc::Global;
 
+/// The cells, the share and the positions with which names are read back.
+const WIDE: u64 = 300_000;
+
 /// The store that lines are answered on.
 pub type Store = PlainStore<GameFacts<CgBoards>>;
 
@@ -72,7 +75,36 @@ fn shown(alloc: Global, answered: &Answered) -> Result<String> {
     Ok(format!(in alloc; "{text} is refused: {refused}")?)
 }
 
-/// The reply to a row, on a store of its own or on this one.
+/// The reply to `value` of a name, on a store of its own.
+fn again(alloc: Global, name: &str) -> Result<String> {
+    let line = format!(in alloc; "value {name}")?;
+    let mut store = Store::new(alloc, WIDE)?;
+    let row = Row {
+        cells: 0,
+        share: WIDE,
+        positions: WIDE,
+        line: line.as_str(),
+    };
+    match ask(alloc, &mut store, &row)? {
+        Some(answered) => shown(alloc, &answered),
+        None => Ok(String::from_str(alloc, "no reply")?),
+    }
+}
+
+/// The text of the reply, and where it is a name that doesn't read back as itself, what it reads back as.
+fn read_back(alloc: Global, row: &Row, answered: &Answered) -> Result<String> {
+    let text = shown(alloc, answered)?;
+    if answered.refused || !row.line.starts_with("value ") {
+        return Ok(text);
+    }
+    let other = again(alloc, text.as_str())?;
+    if other == text {
+        return Ok(text);
+    }
+    Ok(format!(in alloc; "{text} reads back as {other}")?)
+}
+
+/// The reply to a row, on a store of its own or on this one. A name is read back.
 pub fn reply(alloc: Global, store: &mut Store, text: &str) -> Result<String> {
     let Some(row) = row_of(text) else {
         return Ok(String::from_str(alloc, "no row")?);
@@ -81,7 +113,7 @@ pub fn reply(alloc: Global, store: &mut Store, text: &str) -> Result<String> {
         *store = Store::new(alloc, row.cells)?;
     }
     match ask(alloc, store, &row)? {
-        Some(answered) => shown(alloc, &answered),
+        Some(answered) => read_back(alloc, &row, &answered),
         None => Ok(String::from_str(alloc, "no reply")?),
     }
 }
