@@ -46,7 +46,7 @@ fn gets_reply(alloc: Global, line: &[u8]) -> bool
     match read_line(alloc, line) {
         Ok(Line::Blank) => false,
         Ok(Line::Comment) => false,
-        Ok(Line::Ask(_)) => true,
+        Ok(Line::Ask(_query)) => true,
         Err(_) => true,
     }
 }

@@ -8,6 +8,8 @@ mod gates;
 #[cfg(test)]
 mod homes;
 #[cfg(test)]
+mod notes;
+#[cfg(test)]
 mod pools;
 #[cfg(test)]
 mod stars;

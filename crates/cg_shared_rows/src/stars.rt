@@ -36,7 +36,7 @@ pub(crate) struct Star {
 }
 
 /// Makes star, with the claims of its three cells.
-fn make_star<B: BoardForms, S: CellStore<GameFacts<B>>>(store: &mut S) -> Star
+pub(crate) fn make_star<B: BoardForms, S: CellStore<GameFacts<B>>>(store: &mut S) -> Star
     requires { 3 ≤ (S.state store.old).spare }
     ensures zero { StandsFor (S.state store.new) result.zero zero_game }
     ensures star { StandsFor (S.state store.new) result.star star }

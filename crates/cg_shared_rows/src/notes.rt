@@ -1,0 +1,93 @@
+//! A note by one pass, read by another.
+ghost use Rattle.std.specs.Prelude.{◌≡◌, ◌≤◌};
+ghost use Rattle.cg_cells.specs.Store.{Known, Spends};
+ghost use Rattle.cg_nodes.specs.Games.{IsGame};
+ghost use Rattle.cg_shared.specs.Passes.{IsPassOf, pass_state};
+
+use crate::stars::{Games, Star, make_star};
+use cg_canon::{ValueFault, Work};
+use cg_cells::{CellStore, Id, Key, KeyParts};
+use cg_nodes::{BoardForms, GameFacts, Handle};
+use cg_shared::{Desk, Pass, SharedCells};
+use cg_sum::sum;
+use std::alloc::Global;
+use std::test::Fail;
+
+/// The cell of the pair of a game with itself, on which their sum is noted.
+fn twice<B: BoardForms, S: CellStore<GameFacts<B>>>(store: &mut S, game: Handle) -> Id
+    requires spare { 1 ≤ (S.state store.old).spare }
+    requires game { IsGame (S.state store.old) game }
+    ensures known { Known (S.state store.new) result }
+    ensures spends { Spends 1 (S.state store.old) (S.state store.new) }
+{
+    let key = Key::pack(KeyParts::Pair {
+        low: game.id(),
+        high: game.id(),
+    });
+    store.claim(key)
+}
+
+/// Star, the cell of its pair with itself, and whether no note is read there.
+#[tactic(auto, using(crate::proofs::Knowing::known_grows))]
+fn star_unread<B: BoardForms, S: CellStore<GameFacts<B>>>(store: &mut S) -> (Star, Id, bool)
+    requires { 4 ≤ (S.state store.old).spare }
+    ensures known { Known (S.state store.new) result.1 }
+    ensures rest { (S.state store.new).rest ≡ (S.state store.old).rest }
+{
+    let made = make_star(store);
+    let pair = twice(store, made.star);
+    let unread = store.noted(pair).is_none();
+    (made, pair, unread)
+}
+
+/// The sum of a game with itself, which is noted.
+fn doubled<B: BoardForms, S: CellStore<GameFacts<B>>>(
+    alloc: Global,
+    store: &mut S,
+    game: Handle,
+) -> Result<Handle, ValueFault>
+    requires spare { 12 ≤ (S.state store.old).spare }
+    requires game { IsGame (S.state store.old) game }
+    ensures rest { (S.state store.new).rest ≡ (S.state store.old).rest }
+{
+    let mut work = Work::new(alloc, store, 12, 4);
+    let doubled = sum(alloc, &mut work, game, game);
+    let _store = work.into_store();
+    doubled
+}
+
+/// What the pass reads of the note on a cell, once it has met the other.
+#[tactic(auto, using(crate::proofs::Knowing::known_grows))]
+fn read_after(
+    cells: &SharedCells<Games>,
+    mut pass: Pass<Games>,
+    other: Pass<Games>,
+    id: Id,
+) -> Option<Id>
+    requires own { IsPassOf cells.now pass × IsPassOf cells.now other }
+    requires id { Known (pass_state pass) id }
+{
+    cells.meet(&mut pass, other);
+    cells.noted(&mut pass, id)
+}
+
+#[test]
+fn a_note_is_read_after_a_meeting(rt: HostRuntime) -> Result<(), Fail> {
+    let alloc = rt.alloc();
+    let (cells, mut pass) = SharedCells::<Games>::start(alloc, 2, 15, 2)?;
+    let mut other = cells.split(&mut pass, 0);
+    let (Some(_), Some(_)) = (cells.draw(&mut pass), cells.draw(&mut other)) else {
+        return Err("no line")?;
+    };
+    let mut desk = Desk::new(&cells, pass);
+    let (made, pair, unread) = star_unread(&mut desk);
+    assert!(rt; unread);
+    let mut other_desk = Desk::new(&cells, other);
+    let star = make_star(&mut other_desk).star;
+    assert_eq!(rt; star, made.star);
+    let sum = doubled(alloc, &mut other_desk, star)?;
+    assert_eq!(rt; sum, made.zero);
+    let noted = read_after(&cells, desk.into_pass(), other_desk.into_pass(), pair);
+    assert_eq!(rt; noted, Some(sum.id()));
+    Ok(())
+}
