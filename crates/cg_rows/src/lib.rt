@@ -7,6 +7,8 @@ mod adapters;
 #[cfg(test)]
 mod faults;
 #[cfg(test)]
+mod kept;
+#[cfg(test)]
 mod memory;
 #[cfg(test)]
 mod sessions;
