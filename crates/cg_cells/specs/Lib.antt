@@ -1,10 +1,12 @@
+-- what public contracts cite
 pub mod Layout
 pub mod Parts
 pub mod Meaning
 pub mod Store
 pub mod Words
-pub mod Codes
 pub mod Index
 pub mod Views
 pub mod Table
 pub mod Steps
+-- what private contracts cite
+pub mod Codes

@@ -1,7 +1,9 @@
+-- what public contracts cite
 pub mod Number
 pub mod Exact
 pub mod Units
 pub mod Simplest
 pub mod Cut
-pub mod Search
 pub mod Wide
+-- what private contracts cite
+pub mod Search

@@ -1,4 +1,6 @@
+-- what public contracts cite
 pub mod Rises
-pub mod Places
 pub mod Corners
 pub mod Fits
+-- what private contracts cite
+pub mod Places

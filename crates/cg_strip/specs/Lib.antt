@@ -1,3 +1,4 @@
+-- what public contracts cite
 pub mod Grammar
 pub mod Reading
 pub mod Views
@@ -7,12 +8,13 @@ pub mod Faults
 pub mod Placing
 pub mod Weighing
 pub mod StripGame
+pub mod Toads
+pub mod Laws
+pub mod Boards
+pub mod ToadsBoards
+-- proofs that the traits of games want here
 pub mod PlacingLemmas
 pub mod LoweringSteps
 pub mod WeighingLemmas
 pub mod StripLaws
-pub mod Toads
 pub mod ToadsLaws
-pub mod Laws
-pub mod Boards
-pub mod ToadsBoards
