@@ -116,6 +116,14 @@ module _ {R : Type 0} where
   judged s u w v left a r b h k e q =
       ap (λ z. at_most left (game_at u a) z) (sym (whole_same 0 s u w v h k)) ∙ sym e ∙ q
 
+  -- and one about the game of the handle as it was
+  pub judged_later : (s u : State Meant R) (w : Whole) (v : Verdicts) (left : Bool) (a : ℕ) (r : Bool) → WholeHolds s w v
+      → IsGame s a → Spends 0 s u → r ≡ at_most left (game_at u a) (whole_game u w)
+      → r ≡ at_most left (game_at s a) (whole_game s w)
+  judged_later s u w v left a r h ga k e =
+      e ∙ ap (λ z. at_most left z (whole_game u w)) (game_later s u k.known a ga)
+      ∙ ap (λ z. at_most left (game_at s a) z) (whole_same 0 s u w v h k)
+
   -- ---- the lists of one side
 
   pub own_games : (s t : State Meant R) (w : Whole) (v : Verdicts) (left : Bool) (o : List ℕ) → WholeHolds s w v

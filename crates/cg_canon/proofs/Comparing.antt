@@ -114,6 +114,12 @@ hindered g h k al ar xs u a d e q t =
     sym (false-from (le g h) (λ l. differ (no_one (at_most true h) (lefts g))
     (no_one-all (at_most true h) (lefts g) (λ b w. false-from (le h b) ((le-unfold g h l).on_left b w))) m))
 
+-- an answer that was found later is one about the games as they were
+pub le_later : {R : Type 0} (s t : State Meant R) (a b : ℕ) (r : Bool) → Spends 0 s t → IsGame s a → IsGame s b
+    → r ≡ le (game_at t a) (game_at t b) → r ≡ le (game_at s a) (game_at s b)
+le_later s t a b r k ga gb e =
+    e ∙ le_same (game_at t a) (game_at t b) (game_at s a) (game_at s b) (game_later s t k.known a ga) (game_later s t k.known b gb)
+
 -- ---- results
 
 pub ok_same : {E : Type 0} (r : Result Bool E) (u v : Bool) → IfOk r (λ x. x ≡ u) → u ≡ v → IfOk r (λ x. x ≡ v)

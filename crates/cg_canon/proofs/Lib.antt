@@ -13,3 +13,4 @@ pub mod Against
 pub mod Bypassing
 pub mod Besting
 pub mod Forming
+pub mod Telling

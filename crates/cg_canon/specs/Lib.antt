@@ -5,7 +5,9 @@ pub mod Memos
 pub mod Works
 pub mod Made
 pub mod NumberItems
+pub mod SumItems
 -- what private contracts cite, and what proofs need here
 pub mod Verdict
 pub mod Wholes
 pub mod Passed
+pub mod Told

@@ -15,6 +15,7 @@ mod profiles;
 mod reduce;
 mod rest;
 mod substitutes;
+mod told;
 mod whole;
 mod work;
 

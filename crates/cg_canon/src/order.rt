@@ -1,8 +1,9 @@
 //! The order of the games of two handles.
 //!
-//! Games are compared by their options, as the definition says, and each answer is kept, so each pair of ids is compared at
-//! most once in a work. A number is never counted down: it is at most a game that equals no number exactly where it is at
-//! least no Right option, and at least such a game exactly where it is at most no Left option.
+//! Numbers that lie between two games, or beside one of them, tell most answers. Only the other pairs are compared by their
+//! options, as the definition says, and only their answers are kept, so each such pair of ids is compared at most once in a
+//! work. A number is never counted down: it is at most a game that equals no number exactly where it is at least no Right
+//! option, and at least such a game exactly where it is at most no Left option.
 ghost use Rattle.std.specs.Prelude.{◌≡◌, IfOk};
 ghost use Rattle.cg_form.specs.Order.{le, no_one};
 ghost use Rattle.cg_form.specs.Side.{at_most};
@@ -10,6 +11,7 @@ ghost use Rattle.cg_cells.specs.Store.{Spends};
 ghost use Rattle.cg_nodes.specs.Games.{IsGame, IsList, game_at, listed};
 ghost use Rattle.cg_canon.specs.Works.{work_state};
 
+use crate::told::told;
 use crate::work::Work;
 use cg_cells::CellStore;
 use cg_nodes::{BoardForms, GameFacts, Handle, ListId, Reading, head, read};
@@ -89,7 +91,13 @@ pub fn le<B: BoardForms, S: CellStore<GameFacts<B>>>(
         ≡ le (game_at (work_state S.state work.old) a) (game_at (work_state S.state work.old) b)) }
     ensures spends { Spends 0 (work_state S.state work.old) (work_state S.state work.new) }
 {
+    if a == b {
+        return Ok(true);
+    }
     if let Some(answer) = work.recall(a, b) {
+        return Ok(answer);
+    }
+    if let Some(answer) = told(alloc, work, a, b)? {
         return Ok(answer);
     }
     let answer = compared(alloc, work, a, b)?;

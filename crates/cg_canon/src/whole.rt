@@ -11,6 +11,7 @@ ghost use Rattle.cg_canon.specs.Works.{work_state};
 
 use crate::order::at_most;
 use crate::profile::Profile;
+use crate::told::told_beside;
 use crate::work::Work;
 use cg_cells::CellStore;
 use cg_form::cuts::in_cut;
@@ -209,6 +210,9 @@ fn at_most_whole<B: BoardForms, S: CellStore<GameFacts<B>>>(
     ensures spends { Spends 0 (work_state S.state work.old) (work_state S.state work.new) }
 {
     if let Some(answer) = verdicts.recall(left, handle) {
+        return Ok(answer);
+    }
+    if let Some(answer) = told_beside(alloc, work, left, handle, &whole.profile)? {
         return Ok(answer);
     }
     let answer = compared_with_whole(alloc, work, whole, verdicts, left, handle)?;

@@ -18,7 +18,7 @@ use Rattle.cg_nodes.specs.declared.reading.Sides.{Sides}
 use Rattle.cg_nodes.specs.Games.{IsGame, IsInRange, StandsFor, game_at, games_at}
 use Rattle.cg_nodes.specs.Meant.{Meant, form}
 use Rattle.cg_nodes.specs.Spelled.{can}
-use Rattle.cg_sum.specs.Lists.{sum_item}
+use Rattle.cg_canon.specs.SumItems.{sum_item}
 use Rattle.cg_canon.specs.Made.{ItemsMade}
 use Rattle.cg_sum.specs.Progress.{IsNoteOf, IsSides}
 use Rattle.cg_canon.proofs.MadeSteps.{made_as, read_then}

@@ -18,7 +18,8 @@ use Rattle.cg_nodes.proofs.Later.{game_later, is_game_later, stands_game, stands
 use Rattle.cg_nodes.specs.Games.{IsGame, StandsFor, game_at}
 use Rattle.cg_nodes.specs.Meant.{Meant}
 use Rattle.cg_nodes.specs.Spelled.{can}
-use Rattle.cg_sum.specs.Lists.{multiple_items, step_items, sum_items}
+use Rattle.cg_canon.specs.SumItems.{sum_items}
+use Rattle.cg_sum.specs.Lists.{multiple_items, step_items}
 use Rattle.cg_canon.specs.Made.{ItemsMade}
 use Rattle.cg_canon.proofs.MadeSteps.{made_as, made_then, passed, stopped}
 use Rattle.cg_sum.proofs.Sums.{can-multiple_more, can-multiple_one, can-multiple_zero}

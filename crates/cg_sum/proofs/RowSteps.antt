@@ -19,7 +19,7 @@ use Rattle.cg_nodes.specs.Games.{AreGames, IsGame, StandsFor, game_at, games_at}
 use Rattle.cg_nodes.specs.Meant.{Meant}
 use Rattle.cg_nodes.specs.Spelled.{can}
 use Rattle.cg_sum.specs.Finds.{sum_found}
-use Rattle.cg_sum.specs.Lists.{pair_items, row_items, sum_item}
+use Rattle.cg_canon.specs.SumItems.{pair_items, row_items, sum_item}
 use Rattle.cg_canon.specs.Made.{ItemsMade}
 use Rattle.cg_sum.specs.Progress.{FindsMore, HoldsSums, IsSumReady, OptionsFound, RowFound, RowReady, RowsFound}
 use Rattle.cg_sum.specs.Written.{IsClosed, written}

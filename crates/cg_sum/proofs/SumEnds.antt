@@ -18,7 +18,7 @@ use Rattle.cg_nodes.specs.Meant.{Meant, form}
 use Rattle.cg_nodes.specs.Positions.{positions_of}
 use Rattle.cg_nodes.specs.Spelled.{can}
 use Rattle.cg_sum.specs.Finds.{sum_found}
-use Rattle.cg_sum.specs.Lists.{pair_items, sum_items, within_limit}
+use Rattle.cg_canon.specs.SumItems.{pair_items, sum_items, within_limit}
 use Rattle.cg_canon.specs.Made.{ItemsMade}
 use Rattle.cg_canon.specs.Works.{Keeps}
 use Rattle.cg_sum.specs.Progress.{HoldsSums}

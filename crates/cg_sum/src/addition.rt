@@ -9,7 +9,7 @@ ghost use Rattle.cg_nodes.specs.Games.{IsGame, StandFor, StandsFor, game_at};
 ghost use Rattle.cg_nodes.specs.Positions.{positions_of};
 ghost use Rattle.cg_nodes.specs.Spelled.{can};
 ghost use Rattle.cg_sum.specs.Finds.{sum_found};
-ghost use Rattle.cg_sum.specs.Lists.{sum_items};
+ghost use Rattle.cg_canon.specs.SumItems.{sum_items};
 ghost use Rattle.cg_sum.specs.Progress.{HoldsSums};
 
 use crate::found::Sums;

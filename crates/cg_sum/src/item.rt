@@ -8,7 +8,7 @@ ghost use Rattle.cg_form.specs.Game.{number};
 ghost use Rattle.cg_form.specs.Sum.{sum};
 ghost use Rattle.cg_nodes.specs.Games.{IsGame, StandsFor, game_at};
 ghost use Rattle.cg_nodes.specs.Spelled.{can, game_meaning};
-ghost use Rattle.cg_sum.specs.Lists.{sum_item as item_of_sum};
+ghost use Rattle.cg_canon.specs.SumItems.{sum_item as item_of_sum};
 ghost use Rattle.cg_sum.specs.Progress.{IsNoteOf, IsOneNode, IsSumReady};
 
 use crate::form::form_item;

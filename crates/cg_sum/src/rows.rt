@@ -2,7 +2,7 @@
 ghost use Rattle.std.specs.Prelude.{◌≤◌, OnOk};
 ghost use Rattle.cg_canon.specs.Works.{work_state};
 ghost use Rattle.cg_nodes.specs.Games.{AreGames, IsGame, game_at, games_at};
-ghost use Rattle.cg_sum.specs.Lists.{pair_items, row_items};
+ghost use Rattle.cg_canon.specs.SumItems.{pair_items, row_items};
 ghost use Rattle.cg_canon.specs.Made.{ItemsMade};
 ghost use Rattle.cg_sum.specs.Progress.{FindsMore, HoldsSums, RowFound, RowReady, RowsFound};
 ghost use Rattle.cg_sum.specs.Written.{IsClosed};

@@ -1,11 +1,12 @@
-use Rattle.std.proofs.Common.{◌≡◌, refl, ap, sym, ◌∙◌, true, rules}
+use Rattle.std.proofs.Common.{◌≡◌, refl, ap, sym, ◌∙◌, true, eqb-true, rules}
 use Rattle.cg_form.specs.Size.{list_size, size}
 use Rattle.cg_form.specs.Side.{at_most}
 use Rattle.cg_nodes.specs.Games.{game_at, listed}
 use Rattle.cg_nodes.proofs.Later.{is_list_later, listed_later, game_later, is_game_later, spends_then}
 use Rattle.cg_canon.specs.Works.{work_state}
-use Rattle.cg_canon.proofs.Comparing.{both_read, canonical_at, game_case, games_case, hindered, number_case, numbers_case, ok_same}
+use Rattle.cg_canon.proofs.Comparing.{both_read, canonical_at, game_case, games_case, hindered, le_later, number_case, numbers_case, ok_same}
 use Rattle.cg_canon.proofs.Searching.{searched_more}
+use Rattle.cg_canon.proofs.Telling.{same_game}
 use Rattle.cg_canon.proofs.order.+le.Goals as goal
 
 pub compared-none_as_good-requires-in-Game : goal.compared-none_as_good-requires-in-Game
@@ -93,3 +94,23 @@ none_as_good-loop-top-preserved g t c =
     c.loop-top.invariant c.head.ensures.spends c.in-Some.ensures.head c.at_most.ensures.spends
     (ap (λ z. at_most c.args.left z (game_at (W c.head.new.store) c.in-Some.top.first)) (sym (game_later (W c.args.work.now) (W c.head.new.store) all.known c.args.x c.requires.x))
     ∙ sym c.in_ok-at_most.ensures.order ∙ c.if-branch.false)
+
+pub le-returns-then-eq-clause-order : goal.le-returns-then-eq-clause-order
+le-returns-then-eq-clause-order g t c =
+    let W = work_state g.S.CellStore.state in
+    let same : c.args.a ≡ c.args.b = eqb-true c.args.a c.args.b (sym c.eq.ensures ∙ c.if-eq.true) in
+    same_game (game_at (W c.args.work.now) c.args.a) (game_at (W c.args.work.now) c.args.b) (ap (game_at (W c.args.work.now)) same)
+
+pub le-compared-requires : goal.le-compared-requires
+le-compared-requires g t c κs within =
+    let W = work_state g.S.CellStore.state in
+    let first = is_game_later (W c.args.work.now) (W c.told.new.work) c.told.ensures.spends.known c.args.a c.requires.a in
+    let second = is_game_later (W c.args.work.now) (W c.told.new.work) c.told.ensures.spends.known c.args.b c.requires.b in
+    let m = ap size (game_later (W c.args.work.now) (W c.told.new.work) c.told.ensures.spends.known c.args.a c.requires.a) in
+    let n = ap size (game_later (W c.args.work.now) (W c.told.new.work) c.told.ensures.spends.known c.args.b c.requires.b) in
+    (search rules, (within.0, (within.1.0, (within.1.1, (first, second)))))
+
+pub le-returns-clause-order : goal.le-returns-clause-order
+le-returns-clause-order g t c =
+    let W = work_state g.S.CellStore.state in
+    le_later (W c.args.work.now) (W c.told.new.work) c.args.a c.args.b c.in_ok-answer-2.answer c.told.ensures.spends c.requires.a c.requires.b c.in_ok-answer-2.ensures.order

@@ -1,26 +1,54 @@
 use Rattle.std.proofs.Common.{◌≡◌, ap, sym, rules, true, false, not}
 use Rattle.cg_form.specs.Side.{at_most}
-use Rattle.cg_form.specs.Size.{list_size}
+use Rattle.cg_form.specs.Size.{list_size, size}
 use Rattle.cg_nodes.specs.Games.{game_at, games_at, listed}
-use Rattle.cg_nodes.proofs.Later.{game_later, spends_then}
+use Rattle.cg_nodes.proofs.Later.{game_later, is_game_later, spends_then}
 use Rattle.cg_canon.specs.Wholes.{whole_game}
 use Rattle.cg_canon.specs.Works.{work_state}
-use Rattle.cg_canon.proofs.Against.{far_own, hindered, judged, near_side, own_games, unhindered, verdict_more, whole_later, whole_same}
+use Rattle.cg_canon.proofs.Against.{far_own, hindered, judged, judged_later, near_side, own_games, unhindered, verdict_more, whole_later, whole_same}
 use Rattle.cg_canon.proofs.Comparing.{ok_same}
 use Rattle.cg_canon.proofs.Searching.{searched_hit, searched_more}
 use Rattle.cg_canon.proofs.whole.+whole.Goals as goal
 
+pub at_most_whole-returns-in_err-answer-clause-holds : goal.at_most_whole-returns-in_err-answer-clause-holds
+at_most_whole-returns-in_err-answer-clause-holds g t c =
+    let W = work_state g.S.CellStore.state in
+    whole_later 0 (W c.args.work.now) (W c.told_beside.new.work) c.args.whole.now c.args.verdicts.now c.requires.holds c.told_beside.ensures.spends
+
+pub at_most_whole-returns-in-Some-2-clause-holds : goal.at_most_whole-returns-in-Some-2-clause-holds
+at_most_whole-returns-in-Some-2-clause-holds g t c =
+    let W = work_state g.S.CellStore.state in
+    whole_later 0 (W c.args.work.now) (W c.told_beside.new.work) c.args.whole.now c.args.verdicts.now c.requires.holds c.told_beside.ensures.spends
+
+pub at_most_whole-compared_with_whole-requires : goal.at_most_whole-compared_with_whole-requires
+at_most_whole-compared_with_whole-requires g t c κs within =
+    let W = work_state g.S.CellStore.state in
+    let holds = whole_later 0 (W c.args.work.now) (W c.told_beside.new.work) c.args.whole.now c.args.verdicts.now c.requires.holds c.told_beside.ensures.spends in
+    let game = is_game_later (W c.args.work.now) (W c.told_beside.new.work) c.told_beside.ensures.spends.known c.args.handle c.requires.game in
+    let m = ap size (game_later (W c.args.work.now) (W c.told_beside.new.work) c.told_beside.ensures.spends.known c.args.handle c.requires.game) in
+    (search rules, (within.0, (within.1.0, (within.1.1, (holds, game)))))
+
 pub at_most_whole-returns-in_err-remember-clause-holds : goal.at_most_whole-returns-in_err-remember-clause-holds
 at_most_whole-returns-in_err-remember-clause-holds g t c =
     let W = work_state g.S.CellStore.state in
-    verdict_more (W c.args.work.now) (W c.compared_with_whole.new.work) c.args.whole.now c.args.verdicts.now c.compared_with_whole.new.verdicts c.remember.new.self c.args.left c.args.handle c.args.handle c.in_ok-answer.answer
-    c.requires.holds c.requires.game c.compared_with_whole.ensures.spends c.compared_with_whole.ensures.holds c.in_ok-answer.ensures.order c.remember.ensures
+    verdict_more (W c.told_beside.new.work) (W c.compared_with_whole.new.work) c.args.whole.now c.args.verdicts.now c.compared_with_whole.new.verdicts c.remember.new.self c.args.left c.args.handle c.args.handle c.in_ok-answer-2.answer
+    (whole_later 0 (W c.args.work.now) (W c.told_beside.new.work) c.args.whole.now c.args.verdicts.now c.requires.holds c.told_beside.ensures.spends)
+    (is_game_later (W c.args.work.now) (W c.told_beside.new.work) c.told_beside.ensures.spends.known c.args.handle c.requires.game)
+    c.compared_with_whole.ensures.spends c.compared_with_whole.ensures.holds c.in_ok-answer-2.ensures.order c.remember.ensures
 
 pub at_most_whole-returns-clause-holds : goal.at_most_whole-returns-clause-holds
 at_most_whole-returns-clause-holds g t c =
     let W = work_state g.S.CellStore.state in
-    verdict_more (W c.args.work.now) (W c.compared_with_whole.new.work) c.args.whole.now c.args.verdicts.now c.compared_with_whole.new.verdicts c.remember.new.self c.args.left c.args.handle c.args.handle c.in_ok-answer.answer
-    c.requires.holds c.requires.game c.compared_with_whole.ensures.spends c.compared_with_whole.ensures.holds c.in_ok-answer.ensures.order c.remember.ensures
+    verdict_more (W c.told_beside.new.work) (W c.compared_with_whole.new.work) c.args.whole.now c.args.verdicts.now c.compared_with_whole.new.verdicts c.remember.new.self c.args.left c.args.handle c.args.handle c.in_ok-answer-2.answer
+    (whole_later 0 (W c.args.work.now) (W c.told_beside.new.work) c.args.whole.now c.args.verdicts.now c.requires.holds c.told_beside.ensures.spends)
+    (is_game_later (W c.args.work.now) (W c.told_beside.new.work) c.told_beside.ensures.spends.known c.args.handle c.requires.game)
+    c.compared_with_whole.ensures.spends c.compared_with_whole.ensures.holds c.in_ok-answer-2.ensures.order c.remember.ensures
+
+pub at_most_whole-returns-clause-order : goal.at_most_whole-returns-clause-order
+at_most_whole-returns-clause-order g t c =
+    let W = work_state g.S.CellStore.state in
+    judged_later (W c.args.work.now) (W c.told_beside.new.work) c.args.whole.now c.args.verdicts.now c.args.left c.args.handle c.in_ok-answer-2.answer
+    c.requires.holds c.requires.game c.told_beside.ensures.spends c.in_ok-answer-2.ensures.order
 
 pub compared_with_whole-none_at_most-requires-clause-options : goal.compared_with_whole-none_at_most-requires-clause-options
 compared_with_whole-none_at_most-requires-clause-options g t c =

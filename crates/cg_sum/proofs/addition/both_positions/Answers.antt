@@ -6,7 +6,7 @@ use Rattle.cg_canon.specs.declared.fault.ValueFault.TheVariants.{Positions}
 use Rattle.cg_nodes.proofs.Later.{is_game_later, spends_then, stand_later}
 use Rattle.cg_nodes.specs.Games.{game_at}
 use Rattle.cg_nodes.specs.Positions.{positions_of}
-use Rattle.cg_sum.specs.Lists.{pair_items, within_limit}
+use Rattle.cg_canon.specs.SumItems.{pair_items, within_limit}
 use Rattle.cg_sum.proofs.SumEnds.{count_of, err_refused, firsts_above, limit_refused, product_above, product_within, refusal_before, same_limit, same_spent, seconds_above, stands_before}
 use Rattle.cg_sum.proofs.addition.both_positions.Goals as goal
 

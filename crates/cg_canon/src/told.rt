@@ -1,0 +1,115 @@
+//! What the numbers tell of the order of two games.
+//!
+//! A game cuts the numbers into those that are at most it, those that are at least it, and the others. Where some number is
+//! at least the first game and at most the second, the first is at most the second. Where some number is at most the first
+//! and not at most the second, or at least the second and not at least the first, it isn't.
+ghost use Rattle.std.specs.Prelude.{◌≡◌, false, IfSome, IfOk, IsTrue};
+ghost use Rattle.cg_form.specs.Game.{Game};
+ghost use Rattle.cg_form.specs.Order.{le};
+ghost use Rattle.cg_form.specs.Side.{at_most};
+ghost use Rattle.cg_cells.specs.Store.{Spends};
+ghost use Rattle.cg_nodes.specs.Games.{IsGame, game_at};
+ghost use Rattle.cg_canon.specs.Profiles.{IsProfile};
+ghost use Rattle.cg_canon.specs.Told.{GoesPast, Meet};
+ghost use Rattle.cg_canon.specs.Works.{work_state};
+
+use crate::profile::Profile;
+use crate::profiles::profile_of;
+use crate::work::Work;
+use cg_cells::CellStore;
+use cg_dyadic::cut::Cut;
+use cg_form::cuts::in_cut;
+use cg_nodes::{BoardForms, GameFacts, Handle};
+use std::alloc::{AllocError, Global};
+
+/// Whether some number of the first cut isn't in the second.
+fn goes_past(left: bool, a: &Cut, b: &Cut) -> bool
+    ensures { IsTrue result → GoesPast left a.now b.now }
+{
+    if a.closed {
+        return !in_cut(left, b, a.at);
+    }
+    !in_cut(left, &Cut::closed(b.at), a.at)
+}
+
+/// Whether some number is in both: `high` holds the numbers from some one on, `low` those up to some one.
+fn meets(high: &Cut, low: &Cut) -> bool
+    ensures { IsTrue result → Meet high.now low.now }
+{
+    if high.closed {
+        return in_cut(true, low, high.at);
+    }
+    if low.closed {
+        return in_cut(false, high, low.at);
+    }
+    !in_cut(true, &Cut::closed(high.at), low.at)
+}
+
+/// Whether some number shows that the first game isn't at most the second.
+fn stands_out(a: &Profile, b: &Profile) -> bool
+    ensures { (g h : Game) → IsProfile g a.now → IsProfile h b.now → IsTrue result → le g h ≡ false }
+{
+    if goes_past(true, &a.low, &b.low) {
+        return true;
+    }
+    goes_past(false, &b.high, &a.high)
+}
+
+/// Whether the first game is at most the second, where the numbers tell.
+fn told_of(a: &Profile, b: &Profile) -> Option<bool>
+    ensures { (g h : Game) → IsProfile g a.now → IsProfile h b.now → IfSome result (λ answer. answer ≡ le g h) }
+{
+    if stands_out(a, b) {
+        return Some(false);
+    }
+    if meets(&a.high, &b.low) {
+        return Some(true);
+    }
+    None
+}
+
+/// Whether the first game is no better for the player than the second, where the numbers tell; with `left` the player is
+/// Left, and else Right.
+fn told_for(left: bool, a: &Profile, b: &Profile) -> Option<bool>
+    ensures { (g h : Game) → IsProfile g a.now → IsProfile h b.now → IfSome result (λ answer. answer ≡ at_most left g h) }
+{
+    if left {
+        return told_of(a, b);
+    }
+    told_of(b, a)
+}
+
+/// Whether a <= b, where the numbers tell.
+pub(crate) fn told<B: BoardForms, S: CellStore<GameFacts<B>>>(
+    alloc: Global,
+    work: &mut Work<B, S>,
+    a: Handle,
+    b: Handle,
+) -> Result<Option<bool>, AllocError>
+    requires a { IsGame (work_state S.state work.old) a }
+    requires b { IsGame (work_state S.state work.old) b }
+    ensures order { IfOk result (λ answer. IfSome answer (λ yes. yes
+        ≡ le (game_at (work_state S.state work.old) a) (game_at (work_state S.state work.old) b))) }
+    ensures spends { Spends 0 (work_state S.state work.old) (work_state S.state work.new) }
+{
+    let first = profile_of(alloc, work, a)?;
+    let second = profile_of(alloc, work, b)?;
+    Ok(told_of(&first, &second))
+}
+
+/// Whether the game of the handle is for the player at most as good as a game of this profile, where the numbers tell.
+pub(crate) fn told_beside<B: BoardForms, S: CellStore<GameFacts<B>>>(
+    alloc: Global,
+    work: &mut Work<B, S>,
+    left: bool,
+    a: Handle,
+    profile: &Profile,
+) -> Result<Option<bool>, AllocError>
+    requires { IsGame (work_state S.state work.old) a }
+    ensures order { (h : Game) → IsProfile h profile.now → IfOk result (λ answer. IfSome answer (λ yes. yes
+        ≡ at_most left (game_at (work_state S.state work.old) a) h)) }
+    ensures spends { Spends 0 (work_state S.state work.old) (work_state S.state work.new) }
+{
+    let own = profile_of(alloc, work, a)?;
+    Ok(told_for(left, &own, profile))
+}
