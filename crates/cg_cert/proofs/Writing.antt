@@ -1,0 +1,179 @@
+-- The pieces of a proof, put one behind another.
+use Rattle.std.proofs.Common.{◌≡◌, refl, ap, sym, ◌∙◌, subst, append_assoc, append-nil, ℕ, ◌<◌, ◌≤◌, arith, length, length-append, List, [], ◌∷◌, ◌++◌, Option, Some, None, Result, Ok, Err, Bool, false, true, cond, if◌then◌else◌}
+use Rattle.std.specs.Prelude.{codes, decimal}
+use Rattle.cg_cells.specs.Store.{Spends, State}
+use Rattle.cg_nodes.specs.Meant.{Meant}
+use Rattle.cg_cert.specs.declared.fault.CertFault.{CertFault}
+use Rattle.cg_cert.specs.declared.fault.CertFault.TheVariants.{Long, Memory}
+use Rattle.cg_cert.specs.declared.stage.Stage.{Stage}
+use Rattle.cg_cert.specs.Certificate.{Answer, Answers, Certificate, answer_in, answer_text, answered, answers_text, certificate_text, no_answers, settled}
+use Rattle.cg_cert.specs.First.{first_answer, first_answers, first_proof, with_first, with_led}
+use Rattle.cg_cert.specs.Pairs.{Pair, both_numbers, led, moves}
+use Rattle.cg_cert.specs.Positions.{AreStages, stage_at, stages_at}
+use Rattle.cg_cert.specs.Written.{Wrote}
+use Rattle.cg_cert.proofs.FirstProof.{first_proof-options}
+use Rattle.cg_cert.proofs.Walking.{Walk, walk_all, walk_more}
+
+-- ---- pieces
+
+-- a further piece behind one that was put
+pub wrote_then : (r : Result (Unit {0}) CertFault) (limit : ℕ) (old mid new p q : List ℕ) → mid ≡ old ++ p
+    → Wrote r limit mid new q → Wrote r limit old new (p ++ q)
+wrote_then (Ok u) limit old mid new p q e w = (w.0 ∙ ap (λ z. z ++ q) e ∙ append_assoc old p q, w.1)
+wrote_then (Err Long) limit old mid new p q e w =
+    let P : List ℕ → Type 0 = λ z. limit < length z in subst P (ap (λ z. z ++ q) e ∙ append_assoc old p q) w
+wrote_then (Err Memory) limit old mid new p q e w = tt
+
+-- a piece that wasn't put, in front of others
+pub wrote_fault : (e : CertFault) (limit : ℕ) (old new now p q : List ℕ) → Wrote (Err e) limit old new p
+    → Wrote (Err e) limit old now (p ++ q)
+wrote_fault Long limit old new now p q w =
+    let e = length-append old p in
+    let f = length-append old (p ++ q) in
+    let g = length-append p q in
+    omega arith
+wrote_fault Memory limit old new now p q w = tt
+
+pub wrote_along : (r : Result (Unit {0}) CertFault) (limit : ℕ) (old new p q : List ℕ) → p ≡ q → Wrote r limit old new p
+    → Wrote r limit old new q
+wrote_along r limit old new p q e w = let P : List ℕ → Type 0 = λ z. Wrote r limit old new z in subst P e w
+
+pub wrote_nothing : (limit : ℕ) (old new piece : List ℕ) → new ≡ old → piece ≡ [] → length old ≤ limit
+    → Wrote (Ok tt) limit old new piece
+wrote_nothing limit old new piece e n l =
+    let P : List ℕ → Type 0 = λ z. length z ≤ limit in
+    (e ∙ sym (append-nil old) ∙ ap (λ z. old ++ z) (sym n), subst P (sym e) l)
+
+pub wrote_memory : (e : CertFault) (limit : ℕ) (old new piece : List ℕ) → e ≡ Memory → Wrote (Err e) limit old new piece
+wrote_memory Memory limit old new piece e = tt
+wrote_memory Long limit old new piece e = absurd (cc)
+
+-- the same result
+pub wrote_as : (r q : Result (Unit {0}) CertFault) (limit : ℕ) (old new piece : List ℕ) → r ≡ q
+    → Wrote q limit old new piece → Wrote r limit old new piece
+wrote_as r q limit old new piece e w =
+    let P : Result (Unit {0}) CertFault → Type 0 = λ z. Wrote z limit old new piece in subst P (sym e) w
+
+-- the same limit, text and piece
+pub wrote_from : (r : Result (Unit {0}) CertFault) (limit bound : ℕ) (old word new p q : List ℕ) → limit ≡ bound
+    → old ≡ word → p ≡ q → Wrote r limit old new p → Wrote r bound word new q
+wrote_from r limit bound old word new p q l e f w =
+    let P : ℕ → Type 0 = λ z. Wrote r z old new p in
+    let Q : List ℕ → Type 0 = λ z. Wrote r bound z new p in
+    wrote_along r bound word new p q f (subst Q e (subst P l w))
+
+-- at the exit of a `?`
+pub wrote_exit : (r : Result (Unit {0}) CertFault) (x fault : CertFault) (limit : ℕ) (old new piece : List ℕ) → r ≡ Err x
+    → x ≡ fault → Wrote (Err fault) limit old new piece → Wrote r limit old new piece
+wrote_exit r x fault limit old new piece e f w = wrote_as r (Err fault) limit old new piece (e ∙ ap Err f) w
+
+-- ---- the answers
+
+with_led-cons : (proof : Pair → Certificate) (a : Answer) (o : Option Pair) (rest : Answers)
+    → answers_text (with_led proof a o rest) ≡ answers_text (with_led proof a o no_answers) ++ answers_text rest
+with_led-cons proof a None rest = refl
+with_led-cons proof a (Some k) rest =
+    let t : List ℕ = answer_text a in
+    let c : List ℕ = certificate_text (proof k) in
+    ap (λ z. t ++ (z ++ answers_text rest)) (sym (append-nil c)) ∙ sym (append_assoc t (c ++ []) (answers_text rest))
+
+with_first-cons : (proof : Pair → Certificate) (m : Pair) (o : Option Answer) (rest : Answers)
+    → answers_text (with_first proof m o rest) ≡ answers_text (with_first proof m o no_answers) ++ answers_text rest
+with_first-cons proof m None rest = refl
+with_first-cons proof m (Some a) rest = with_led-cons proof a (led a m) rest
+
+pub first_text-cons : (m : Pair) (ms : List Pair) → answers_text (first_answers first_proof (m ∷ ms))
+    ≡ answers_text (first_answers first_proof (m ∷ [])) ++ answers_text (first_answers first_proof ms)
+first_text-cons m ms = with_first-cons first_proof m (first_answer m) (first_answers first_proof ms)
+
+-- the one answer that serves, and the proof of what it leads to
+pub reply_text : (m k : Pair) (a : Answer) (letter : List ℕ) (i : ℕ) → first_answer m ≡ Some a → led a m ≡ Some k
+    → answer_text a ≡ letter ++ decimal i
+    → (letter ++ decimal i) ++ certificate_text (first_proof k) ≡ answers_text (first_answers first_proof (m ∷ []))
+reply_text m k a letter i f l t =
+    ap (λ z. z ++ certificate_text (first_proof k)) (sym t)
+    ∙ ap (λ z. answer_text a ++ z) (sym (append-nil (certificate_text (first_proof k))))
+    ∙ ap (λ o. answers_text (with_led first_proof a o no_answers)) (sym l)
+    ∙ ap (λ o. answers_text (with_first first_proof m o no_answers)) (sym f)
+
+pub answer_text-letter : (b : Bool) (i : ℕ) → answer_text (answer_in b i) ≡ cond b (codes "g") (codes "h") ++ decimal i
+answer_text-letter true i = refl
+answer_text-letter false i = refl
+
+-- ---- the proof of a pair
+
+pub settled-text : (m : Pair) → both_numbers m ≡ true → codes "." ≡ certificate_text (first_proof m)
+settled-text m b =
+    sym (ap certificate_text (first_proof-options m
+    ∙ ap (λ z. if z then settled else answered (first_answers first_proof (moves m))) b))
+
+pub answered-text : (m : Pair) → both_numbers m ≡ false
+    → codes "(" ++ (answers_text (first_answers first_proof (moves m)) ++ codes ")") ≡ certificate_text (first_proof m)
+answered-text m b =
+    sym (ap certificate_text (first_proof-options m
+    ∙ ap (λ z. if z then settled else answered (first_answers first_proof (moves m))) b))
+
+-- what is left to put: the answers to these moves, and the closing bracket
+abbrev pub left_text : List Pair → List ℕ
+left_text ms = answers_text (first_answers first_proof ms) ++ codes ")"
+
+-- with what is left to put, the text is that of the proof
+pub record Putting {R : Type 0} (s t : State Meant R) (m : Pair) (limit : ℕ) (before now : List ℕ) (rest : List Stage) :
+    Type 0 where
+  pub walk : Walk s t m rest
+  pub within : length now ≤ limit
+  pub onward : (r : Result (Unit {0}) CertFault) (new : List ℕ) → Wrote r limit now new (left_text (stages_at t rest))
+      → Wrote r limit before new (certificate_text (first_proof m))
+
+pub putting_all : {R : Type 0} (s t : State Meant R) (m : Pair) (limit : ℕ) (before now : List ℕ) (all : List Stage)
+    → both_numbers m ≡ false → Spends 0 s t → AreStages t all → stages_at t all ≡ moves m
+    → Wrote (Ok tt) limit before now (codes "(") → Putting s t m limit before now all
+putting_all s t m limit before now all b k a e w = record {
+  walk = walk_all s t m all k a e;
+  within = w.1;
+  onward = λ r new v.
+      wrote_along r limit before new (codes "(" ++ left_text (moves m)) (certificate_text (first_proof m))
+      (answered-text m b) (wrote_then r limit before now new (codes "(") (left_text (moves m)) w.0
+      (wrote_along r limit now new (left_text (stages_at t all)) (left_text (moves m)) (ap left_text e) v));
+}
+
+left_text-cons : (m : Pair) (ms : List Pair)
+    → answers_text (first_answers first_proof (m ∷ [])) ++ left_text ms ≡ left_text (m ∷ ms)
+left_text-cons m ms =
+    sym (append_assoc (answers_text (first_answers first_proof (m ∷ []))) (answers_text (first_answers first_proof ms))
+    (codes ")")) ∙ ap (λ z. z ++ codes ")") (sym (first_text-cons m ms))
+
+module _ {R : Type 0} (s t u : State Meant R) (m : Pair) (limit : ℕ) (before now : List ℕ) (rest others : List Stage)
+    (p : Stage) (h : Putting s t m limit before now rest) (e : rest ≡ p ∷ others) (k : Spends 0 t u) where
+  whole : answers_text (first_answers first_proof (stage_at t p ∷ [])) ++ left_text (stages_at u others)
+      ≡ left_text (stages_at t rest)
+  whole = left_text-cons (stage_at t p) (stages_at u others)
+      ∙ ap left_text (sym ((walk_more s t u m rest others p h.walk e k).1))
+
+  pub putting_more : (next : List ℕ)
+      → Wrote (Ok tt) limit now next (answers_text (first_answers first_proof (stage_at t p ∷ [])))
+      → Putting s u m limit before next others
+  putting_more next w = record {
+    walk = (walk_more s t u m rest others p h.walk e k).0;
+    within = w.1;
+    onward = λ r new v. h.onward r new (wrote_along r limit now new
+        (answers_text (first_answers first_proof (stage_at t p ∷ [])) ++ left_text (stages_at u others))
+        (left_text (stages_at t rest)) whole
+        (wrote_then r limit now next new (answers_text (first_answers first_proof (stage_at t p ∷ [])))
+        (left_text (stages_at u others)) w.0 v));
+  }
+
+  pub putting_fault : (f : CertFault) (next new : List ℕ)
+      → Wrote (Err f) limit now next (answers_text (first_answers first_proof (stage_at t p ∷ [])))
+      → Wrote (Err f) limit before new (certificate_text (first_proof m))
+  putting_fault f next new w = h.onward (Err f) new (wrote_along (Err f) limit now new
+      (answers_text (first_answers first_proof (stage_at t p ∷ [])) ++ left_text (stages_at u others))
+      (left_text (stages_at t rest)) whole
+      (wrote_fault f limit now next new (answers_text (first_answers first_proof (stage_at t p ∷ [])))
+      (left_text (stages_at u others)) w))
+
+pub putting_end : {R : Type 0} (s t : State Meant R) (m : Pair) (limit : ℕ) (before now new : List ℕ) (rest : List Stage)
+    (r : Result (Unit {0}) CertFault) → Putting s t m limit before now rest → length rest ≡ 0
+    → Wrote r limit now new (codes ")") → Wrote r limit before new (certificate_text (first_proof m))
+putting_end s t m limit before now new [] r h e w = h.onward r new w
+putting_end s t m limit before now new (p ∷ ps) r h e w = absurd (omega arith)

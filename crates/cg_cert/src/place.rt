@@ -1,0 +1,29 @@
+//! The place that a numeral writes.
+ghost use Rattle.std.specs.Prelude.{◌≡◌, ◌↔◌, IfOk, IsTrue, decimal};
+ghost use Rattle.cg_cert.specs.Reads.{IsPlace};
+
+use std::alloc::{AllocError, Global};
+
+/// Whether the digits are those of the place, in decimal without leading zeros.
+fn is_written(alloc: Global, place: usize, digits: &[u8]) -> Result<bool, AllocError>
+    ensures { IfOk result (λ answer. IsTrue answer ↔ (decimal place ≡ digits.now)) }
+{
+    let text = place.to_string(alloc)?;
+    Ok(text.as_bytes() == digits)
+}
+
+/// The place below the count whose digits these are.
+pub(crate) fn place_of(
+    alloc: Global,
+    digits: &[u8],
+    count: usize,
+) -> Result<Option<usize>, AllocError>
+    ensures { IfOk result (λ r. IsPlace count digits.now r) }
+{
+    for place in 0..count {
+        if is_written(alloc, place, digits)? {
+            return Ok(Some(place));
+        }
+    }
+    Ok(None)
+}

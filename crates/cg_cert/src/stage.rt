@@ -1,0 +1,100 @@
+//! Pairs of positions, and Right's moves in them.
+ghost use Rattle.std.specs.Prelude.{◌≡◌, ◌++◌, IfOk, cond, map};
+ghost use Rattle.cg_cells.specs.Store.{Spends};
+ghost use Rattle.cg_canon.specs.Works.{work_state};
+ghost use Rattle.cg_cert.specs.Pairs.{both_numbers, moves};
+ghost use Rattle.cg_cert.specs.Positions.{AreStages, IsStage, kept, moved, stage_at, staged, stages_at};
+
+use crate::position::{Position, is_number, options};
+use cg_canon::Work;
+use cg_cells::CellStore;
+use cg_nodes::{BoardForms, GameFacts};
+use std::alloc::{AllocError, Global};
+
+/// Two positions, of which the first is to be at least the second.
+#[derive(Clone, Copy, Debug, PartialEq, Eq)]
+pub(crate) struct Stage {
+    /// The first position.
+    pub first: Position,
+    /// The second position.
+    pub second: Position,
+}
+
+/// The pair of the position and the other one; the position is the first where it is said so.
+pub(crate) fn staged(is_first: bool, other: &Position, position: &Position) -> Stage
+    ensures { result ≡ staged is_first other.now position.now }
+{
+    if is_first {
+        Stage {
+            first: *position,
+            second: *other,
+        }
+    } else {
+        Stage {
+            first: *other,
+            second: *position,
+        }
+    }
+}
+
+/// The first position or the second.
+pub(crate) fn moved(is_first: bool, stage: &Stage) -> Position
+    ensures { result ≡ moved is_first stage.now }
+{
+    if is_first { stage.first } else { stage.second }
+}
+
+/// The other one.
+pub(crate) fn kept(is_first: bool, stage: &Stage) -> Position
+    ensures { result ≡ kept is_first stage.now }
+{
+    if is_first { stage.second } else { stage.first }
+}
+
+/// Whether both positions are written as numbers.
+pub(crate) fn both_numbers<B: BoardForms, S: CellStore<GameFacts<B>>>(
+    work: &mut Work<B, S>,
+    stage: &Stage,
+) -> bool
+    requires { IsStage (work_state S.state work.old) stage.now }
+    ensures numbers { result ≡ both_numbers (stage_at (work_state S.state work.old) stage.now) }
+    ensures spends { Spends 0 (work_state S.state work.old) (work_state S.state work.new) }
+{
+    let first = is_number(work, &stage.first);
+    let second = is_number(work, &stage.second);
+    first & second
+}
+
+/// The pairs that were found, and behind them each of the positions beside the other one.
+fn with_stages(
+    is_first: bool,
+    other: &Position,
+    positions: &[Position],
+    found: Vec<Stage>,
+) -> Result<Vec<Stage>, AllocError>
+    ensures { IfOk result (λ all. all.items ≡ found.items ++ map (staged is_first other.now) positions.now) }
+{
+    let mut all = found;
+    for position in positions {
+        all.push(staged(is_first, other, position))?;
+    }
+    Ok(all)
+}
+
+/// The pairs to which Right's moves lead, in order. The only error is want of memory.
+pub(crate) fn moves<B: BoardForms, S: CellStore<GameFacts<B>>>(
+    alloc: Global,
+    work: &mut Work<B, S>,
+    stage: &Stage,
+) -> Result<Vec<Stage>, AllocError>
+    requires { IsStage (work_state S.state work.old) stage.now }
+    ensures are { IfOk result (λ all. AreStages (work_state S.state work.new) all.items) }
+    ensures games { IfOk result (λ all. stages_at (work_state S.state work.new) all.items
+        ≡ moves (stage_at (work_state S.state work.old) stage.now)) }
+    ensures spends { Spends 0 (work_state S.state work.old) (work_state S.state work.new) }
+{
+    let rights = options(alloc, work, false, &stage.first)?;
+    let lefts = options(alloc, work, true, &stage.second)?;
+    let all = with_stages(true, &stage.second, &rights, Vec::new(alloc))?;
+    with_stages(false, &stage.first, &lefts, all)
+}
