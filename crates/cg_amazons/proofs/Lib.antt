@@ -1,3 +1,4 @@
-pub mod Lines
-pub mod Listed
+pub mod CellBits
+pub mod RayLines
+pub mod Taken
 pub mod ReadLemmas

@@ -10,28 +10,28 @@ use Rattle.cg_amazons.specs.declared.way.Way.TheVariants.{UpBack, Up, UpForth, B
 
 -- ---- one step
 
-if_false : (t : Bool) (a b : ℕ) → cond t None (Some a) ≡ Some b → (t ≡ false) × (a ≡ b)
+pub if_false : (t : Bool) (a b : ℕ) → cond t None (Some a) ≡ Some b → (t ≡ false) × (a ≡ b)
 if_false true a b e = absurd cc
 if_false false a b e = (refl, cc)
 
-if_true : (t : Bool) (a b : ℕ) → cond t (Some a) None ≡ Some b → (t ≡ true) × (a ≡ b)
+pub if_true : (t : Bool) (a b : ℕ) → cond t (Some a) None ≡ Some b → (t ≡ true) × (a ≡ b)
 if_true true a b e = (refl, cc)
 if_true false a b e = absurd cc
 
-two_steps : (f : ℕ → Option ℕ) (o : Option ℕ) (j : ℕ) → option_and_then f o ≡ Some j → (m : ℕ) × (o ≡ Some m) × (f m ≡ Some j)
+pub two_steps : (f : ℕ → Option ℕ) (o : Option ℕ) (j : ℕ) → option_and_then f o ≡ Some j → (m : ℕ) × (o ≡ Some m) × (f m ≡ Some j)
 two_steps f None j e = absurd cc
 two_steps f (Some m) j e = (m, refl, e)
 
-up_is : (columns i j : ℕ) → up columns i ≡ Some j → (columns ≤ i) × (j + columns ≡ i)
+pub up_is : (columns i j : ℕ) → up columns i ≡ Some j → (columns ≤ i) × (j + columns ≡ i)
 up_is columns i j e = let p = if_false (nat_lt i columns) (i - columns) j e in let h = leb-false (suc i) columns p.0 in (omega arith, omega (arith, p.1))
 
-down_is : (columns size i j : ℕ) → down columns size i ≡ Some j → j ≡ i + columns
+pub down_is : (columns size i j : ℕ) → down columns size i ≡ Some j → j ≡ i + columns
 down_is columns size i j e = let p = if_true (nat_lt (i + columns) size) (i + columns) j e in sym p.1
 
-back_is : (columns i j : ℕ) → back columns i ≡ Some j → (i % columns ≢ 0) × (j ≡ i - 1)
+pub back_is : (columns i j : ℕ) → back columns i ≡ Some j → (i % columns ≢ 0) × (j ≡ i - 1)
 back_is columns i j e = let p = if_false (i % columns == 0) (i - 1) j e in (eqb-false (i % columns) 0 p.0, sym p.1)
 
-forth_is : (columns i j : ℕ) → forth columns i ≡ Some j → (1 < columns) × (j ≡ i + 1)
+pub forth_is : (columns i j : ℕ) → forth columns i ≡ Some j → (1 < columns) × (j ≡ i + 1)
 forth_is columns i j e = let p = if_true (nat_lt (i % columns + 1) columns) (i + 1) j e in let h = ltb-true (i % columns + 1) columns p.0 in (omega arith, sym p.1)
 
 -- the ways on which cells come earlier
@@ -45,7 +45,7 @@ goes_back DownBack = false
 goes_back Down = false
 goes_back DownForth = false
 
-some_before : (columns i : ℕ) → 1 ≤ columns → i % columns ≢ 0 → 0 < i
+pub some_before : (columns i : ℕ) → 1 ≤ columns → i % columns ≢ 0 → 0 < i
 some_before columns i some h = omega arith
 
 wide : (columns i : ℕ) → 1 ≤ columns → i % columns ≢ 0 → 1 < columns
@@ -104,7 +104,7 @@ along_short columns cells way steps from to some here a = by_way (goes_back way)
 
 -- ---- the listed line
 
-open_is : (cells : List ℕ) (next : ℕ) (o : Option ℕ) → option_and_then (λ n. cond (is_empty cells n) (Some n) None) o ≡ Some next → (o ≡ Some next) × (is_empty cells next ≡ true)
+pub open_is : (cells : List ℕ) (next : ℕ) (o : Option ℕ) → option_and_then (λ n. cond (is_empty cells n) (Some n) None) o ≡ Some next → (o ≡ Some next) × (is_empty cells next ≡ true)
 open_is cells next None e = absurd cc
 open_is cells next (Some n) e = by_test (is_empty cells n) refl e
   where
@@ -112,7 +112,7 @@ open_is cells next (Some n) e = by_test (is_empty cells n) refl e
     by_test true f g = let same : n ≡ next = cc in (g, subst (λ (k : ℕ). is_empty cells k ≡ true) same f)
     by_test false f g = absurd cc
 
-open_has : (columns : ℕ) (cells : List ℕ) (way : Way) (from next : ℕ) → step columns (length cells) way from ≡ Some next → is_empty cells next ≡ true → open_step columns cells way from ≡ Some next
+pub open_has : (columns : ℕ) (cells : List ℕ) (way : Way) (from next : ℕ) → step columns (length cells) way from ≡ Some next → is_empty cells next ≡ true → open_step columns cells way from ≡ Some next
 open_has columns cells way from next s e = ap (option_and_then (λ n. cond (is_empty cells n) (Some n) None)) s ∙ ap (λ (t : Bool). cond t (Some next) None) e
 
 pub line_is : (columns : ℕ) (cells : List ℕ) (way : Way) (most from to : ℕ) → In to (line columns cells way most from) → (steps : ℕ) × Along columns cells way (suc steps) from to

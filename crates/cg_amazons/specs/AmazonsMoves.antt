@@ -30,7 +30,7 @@ every_way DownForth = inr (inr (inr (inr (inr (inr (inr (inl refl)))))))
 
 -- ---- shots
 
-record IsShot (columns : ℕ) (cells : List ℕ) (from : ℕ) (after : List ℕ) : Type 0 where
+pub record IsShot (columns : ℕ) (cells : List ℕ) (from : ℕ) (after : List ℕ) : Type 0 where
   pub target : ℕ
   pub shot : Reaches columns cells from target
   pub written : after ≡ slice_set cells target blocked
@@ -51,7 +51,7 @@ shot_has columns cells from after some here s =
 
 -- ---- moves of one queen
 
-record IsQueenMove (columns q : ℕ) (cells : List ℕ) (from : ℕ) (after : List ℕ) : Type 0 where
+pub record IsQueenMove (columns q : ℕ) (cells : List ℕ) (from : ℕ) (after : List ℕ) : Type 0 where
   pub to : ℕ
   pub moved : Reaches columns cells from to
   pub shot : IsShot columns (with_queen cells from to q) to after
@@ -69,7 +69,7 @@ queen_is columns q cells from after m =
 pub queen_long : (cells : List ℕ) (from to q : ℕ) → length (with_queen cells from to q) ≡ length cells
 queen_long cells from to q = length-set (slice_set cells from empty) to q ∙ length-set cells from empty
 
-reach_within : (columns : ℕ) (cells : List ℕ) (from to : ℕ) → Reaches columns cells from to → to < length cells
+pub reach_within : (columns : ℕ) (cells : List ℕ) (from to : ℕ) → Reaches columns cells from to → to < length cells
 reach_within columns cells from to r = within cells to (along_ends columns cells r.way r.steps from to r.along)
 
 queen_has : (columns q : ℕ) (cells : List ℕ) (from : ℕ) (after : List ℕ) → 1 ≤ columns → from < length cells → IsQueenMove columns q cells from after → In after (flat_map (moves_that_way columns q cells from) ways)
@@ -90,13 +90,13 @@ le_or_lt a b = by_test (leb a b) refl
     by_test true h = inl (leb-true a b h)
     by_test false h = inr (leb-false a b h)
 
-record IsMoveBelow (columns q : ℕ) (cells : List ℕ) (most : ℕ) (after : List ℕ) : Type 0 where
+pub record IsMoveBelow (columns q : ℕ) (cells : List ℕ) (most : ℕ) (after : List ℕ) : Type 0 where
   pub from : ℕ
   pub below : from < most
   pub own : slice_index cells from ≡ q
   pub moves : IsQueenMove columns q cells from after
 
-below_is : (columns q : ℕ) (cells : List ℕ) (most : ℕ) (after : List ℕ) → In after (moves_below columns q cells most) → IsMoveBelow columns q cells most after
+pub below_is : (columns q : ℕ) (cells : List ℕ) (most : ℕ) (after : List ℕ) → In after (moves_below columns q cells most) → IsMoveBelow columns q cells most after
 below_is columns q cells zero after m = absurd m
 below_is columns q cells (suc i) after m = elim (in-append after (moves_below columns q cells i) (moves_from columns q cells i) m) [
   | inl n ↦ (let r = below_is columns q cells i after n in record { from = r.from; below = omega (arith, r.below); own = r.own; moves = r.moves })
@@ -107,7 +107,7 @@ below_is columns q cells (suc i) after m = elim (in-append after (moves_below co
     by_own true e n = record { from = i; below = omega arith; own = eqb-true (slice_index cells i) q e; moves = queen_is columns q cells i after n }
     by_own false e n = absurd n
 
-below_has : (columns q : ℕ) (cells : List ℕ) (most : ℕ) (after : List ℕ) → 1 ≤ columns → most ≤ length cells → IsMoveBelow columns q cells most after → In after (moves_below columns q cells most)
+pub below_has : (columns q : ℕ) (cells : List ℕ) (most : ℕ) (after : List ℕ) → 1 ≤ columns → most ≤ length cells → IsMoveBelow columns q cells most after → In after (moves_below columns q cells most)
 below_has columns q cells zero after some h r = absurd (omega (arith, r.below))
 below_has columns q cells (suc i) after some h r = elim (le_or_lt i r.from) [
   | inl k ↦ in-append_right after (moves_below columns q cells i) (moves_from columns q cells i) (by_own (omega (arith, r.below)))

@@ -1,9 +1,11 @@
 //! Amazons.
 ghost use Rattle.std.specs.Prelude.{◌≡◌, All, IfOk, length, true};
-ghost use Rattle.cg_moves.specs.Grid.{AreCells};
+ghost use Rattle.cg_moves.specs.Grid.{AreCells, IsGrid};
 ghost use Rattle.cg_amazons.specs.Amazons.{amazons, amazons_moves, queen};
+ghost use Rattle.cg_amazons.specs.Rays.{AreQueenWords};
 
-use crate::queens::move_all;
+use crate::queens::{EMPTY, QueenWords, move_all};
+use crate::shape::Shape;
 use cg_moves::{Board, Boards, Outcomes, Pieces, Player, Rules};
 use std::alloc::{AllocError, Global};
 
@@ -22,6 +24,28 @@ fn queen(player: Player) -> u8
     }
 }
 
+/// The board in words, for the player.
+fn words_of(board: &Board, player: Player) -> QueenWords
+    requires { amazons.has board.now ≡ true }
+    ensures columns { result.shape.columns ≡ board.now.columns }
+    ensures queen { result.queen ≡ queen player }
+    ensures words { AreQueenWords board.now.cells result }
+    ensures grid { IsGrid board.now }
+{
+    let rows = board.rows();
+    let columns = board.columns();
+    let shape = Shape::of(rows, columns);
+    let free = board.places(EMPTY);
+    let queen = queen(player);
+    let queens = board.places(queen);
+    QueenWords {
+        shape,
+        free,
+        queen,
+        queens,
+    }
+}
+
 /// What the player's queens make of the cells.
 fn outcomes_of(alloc: Global, board: &Board, player: Player) -> Result<Outcomes, AllocError>
     requires { amazons.has board.now ≡ true }
@@ -29,16 +53,10 @@ fn outcomes_of(alloc: Global, board: &Board, player: Player) -> Result<Outcomes,
     ensures cells { IfOk result (λ outcomes. All (AreCells board.now.symbols) outcomes) }
     ensures size { IfOk result (λ outcomes. All (λ cells. length cells ≡ length board.now.cells) outcomes) }
 {
+    let words = words_of(board, player);
     let cells = board.cells(alloc)?;
-    let columns = board.columns() as usize;
     let mut outcomes = Outcomes::new(alloc);
-    move_all(
-        alloc,
-        columns,
-        queen(player),
-        cells.as_slice(),
-        &mut outcomes,
-    )?;
+    move_all(alloc, &words, cells.as_slice(), &mut outcomes)?;
     Ok(outcomes)
 }
 

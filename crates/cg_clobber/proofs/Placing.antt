@@ -58,9 +58,3 @@ captured player p i j way cells old new is takes e put =
 pub no_next : (player : Player) (p : Grid) (i : ℕ) (way : Way) (old : List (List ℕ)) → next_cell way p i ≡ None
     → old ≡ with_all old (moves_that_way player p i way)
 no_next player p i way old is = ap (λ o. with_all old (moves_onto player p i o)) (sym is)
-
-pub no_capture : (player : Player) (p : Grid) (i j : ℕ) (way : Way) (old : List (List ℕ)) → next_cell way p i ≡ Some j
-    → captures player p i j ≡ false → old ≡ with_all old (moves_that_way player p i way)
-no_capture player p i j way old is takes =
-    ap (λ b. with_all old (if b then with_capture player p i j ∷ [] else [])) (sym takes)
-    ∙ ap (λ o. with_all old (moves_onto player p i o)) (sym is)

@@ -1,4 +1,5 @@
 pub mod Moves
+pub mod CaptureWords
 pub mod Capture
 pub mod Cuts
 pub mod Lawful

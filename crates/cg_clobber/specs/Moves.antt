@@ -1,6 +1,6 @@
 -- Clobber: Left moves an `x` onto a neighbouring `o`, which is removed, and Right an `o` onto a neighbouring `x`. Neighbours
 -- share an edge.
-use Rattle.std.specs.Prelude.{ℕ, ◌+◌, ◌-◌, ◌%◌, ◌==◌, ◌&&◌, ◌||◌, Bool, true, nat_lt, if◌then◌else◌, Option, Some, None, List, [], ◌∷◌, codes, count_by, length, slice_index, slice_set}
+use Rattle.std.specs.Prelude.{ℕ, ◌+◌, ◌-◌, ◌%◌, ◌==◌, ◌&&◌, ◌||◌, Bool, true, false, nat_lt, if◌then◌else◌, Option, Some, None, List, [], ◌∷◌, codes, count_by, length, slice_index, slice_set}
 use Rattle.std.specs.List.{flat_map}
 use Rattle.std.specs.Str.{bytes_eq}
 use Rattle.cg_moves.specs.declared.player.Player.{Player}
@@ -51,6 +51,15 @@ moves_onto player p i (Some j) = if captures player p i j then with_capture play
 
 abbrev pub moves_that_way : Player → Grid → ℕ → Way → List (List ℕ)
 moves_that_way player p i way = moves_onto player p i (next_cell way p i)
+
+-- whether it captures there
+abbrev pub captures_onto : Player → Grid → ℕ → Option ℕ → Bool
+captures_onto player p i None = false
+captures_onto player p i (Some j) = captures player p i j
+
+-- the player's stone stands at i and the other player's on the next cell that way
+abbrev pub captures_that_way : Player → Grid → Way → ℕ → Bool
+captures_that_way player p way i = captures_onto player p i (next_cell way p i)
 
 abbrev pub ways : List Way
 ways = Up ∷ Down ∷ Back ∷ Forth ∷ []

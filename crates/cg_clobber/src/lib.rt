@@ -1,11 +1,14 @@
 //! Clobber.
 #![tactic(auto)]
 
+mod capturing;
 pub mod laws;
 mod reading;
 mod stones;
+mod symbols;
 mod way;
 
+pub use capturing::captures;
 pub use reading::read;
 pub use stones::Clobber;
 pub use way::Way;

@@ -1,44 +1,26 @@
 //! The moves of Clobber.
-ghost use Rattle.std.specs.Prelude.{◌≡◌, ◌<◌, All, IfOk, IfSome, length, true};
+ghost use Rattle.std.specs.Prelude.{◌≡◌, ◌<◌, ◌≤◌, All, IfOk, IfSome, length, true};
 ghost use Rattle.cg_moves.specs.Grid.{AreCells};
 ghost use Rattle.cg_moves.specs.Rising.{with_all};
+ghost use Rattle.cg_moves.specs.Words.{Marks};
+ghost use Rattle.cg_clobber.specs.CaptureWords.{AreCaptureWords};
 ghost use Rattle.cg_clobber.specs.Cuts.{stones-are};
 ghost use Rattle.cg_clobber.specs.Lawful.{clobber_lawful};
-ghost use Rattle.cg_clobber.specs.Moves.{clobber, moves_at, moves_of, moves_that_way, next_cell, other, own, stones};
+ghost use Rattle.cg_clobber.specs.Moves.{captures_that_way, clobber, moves_at, moves_of, moves_that_way, next_cell, stones};
 
 use crate::Way;
+use crate::capturing::captures;
+use crate::symbols::{other, own};
+use cg_moves::words::bit;
 use cg_moves::{Board, Boards, Outcomes, Pieces, Player, Rules};
 use cg_pieces::{NeighbourRules, pieces};
 use std::alloc::{AllocError, Global};
 
 const EMPTY: u8 = b'.';
 
-/// All ways.
-const WAYS: [Way; 4] = [Way::Up, Way::Down, Way::Back, Way::Forth];
-
 /// The rules of Clobber. The symbols are `.` for an empty cell, `x` for a stone of Left and `o` for one of Right. A player
 /// moves a stone onto a neighbouring one of the other player, which is removed.
 pub struct Clobber;
-
-/// The player's stone.
-fn own(player: Player) -> u8
-    ensures { result ≡ own player }
-{
-    match player {
-        Player::Left => b'x',
-        Player::Right => b'o',
-    }
-}
-
-/// The other player's stone.
-fn other(player: Player) -> u8
-    ensures { result ≡ other player }
-{
-    match player {
-        Player::Left => b'o',
-        Player::Right => b'x',
-    }
-}
 
 /// The next cell that way, if there is one.
 fn next_cell(board: &Board, from: u8, way: Way) -> Option<u8>
@@ -81,24 +63,49 @@ fn next_cell(board: &Board, from: u8, way: Way) -> Option<u8>
     }
 }
 
-/// Takes in what the player's stone on this cell makes of the cells when it moves that way, if it does.
+/// The player's captures in each way, as words.
+#[derive(Drop)]
+struct CaptureWords {
+    up: u64,
+    down: u64,
+    back: u64,
+    forth: u64,
+}
+
+/// The player's captures.
+fn captures_of(board: &Board, player: Player) -> CaptureWords
+    requires { clobber.has board.now ≡ true }
+    ensures { AreCaptureWords player board.now result }
+{
+    CaptureWords {
+        up: captures(board, player, Way::Up),
+        down: captures(board, player, Way::Down),
+        back: captures(board, player, Way::Back),
+        forth: captures(board, player, Way::Forth),
+    }
+}
+
+/// Takes in what the player's stone on this cell makes of the cells when it moves that way, if it captures.
 fn put_move(
     alloc: Global,
     board: &Board,
     player: Player,
     from: u8,
     way: Way,
+    word: u64,
     outcomes: &mut Outcomes,
 ) -> Result<(), AllocError>
-    requires { from < length board.now.cells }
+    requires from { from < length board.now.cells }
+    requires few { length board.now.cells ≤ 64 }
+    requires word { Marks word (captures_that_way player board.now way) }
     ensures { IfOk result (λ _. outcomes.new ≡ with_all outcomes.old (moves_that_way player board.now from way)) }
 {
+    if bit(word, from) == 0 {
+        return Ok(());
+    }
     let Some(onto) = next_cell(board, from, way) else {
         return Ok(());
     };
-    if board.cell(from) != own(player) || board.cell(onto) != other(player) {
-        return Ok(());
-    }
     let mut cells = board.cells(alloc)?.into_vec();
     cells[from as usize] = EMPTY;
     cells[onto as usize] = own(player);
@@ -111,15 +118,26 @@ fn put_moves(
     board: &Board,
     player: Player,
     from: u8,
+    words: &CaptureWords,
     outcomes: &mut Outcomes,
 ) -> Result<(), AllocError>
-    requires { from < length board.now.cells }
+    requires from { from < length board.now.cells }
+    requires few { length board.now.cells ≤ 64 }
+    requires words { AreCaptureWords player board.now words.now }
     ensures { IfOk result (λ _. outcomes.new ≡ with_all outcomes.old (moves_at player board.now from)) }
 {
-    for way in WAYS {
-        put_move(alloc, board, player, from, way, outcomes)?;
-    }
-    Ok(())
+    put_move(alloc, board, player, from, Way::Up, words.up, outcomes)?;
+    put_move(alloc, board, player, from, Way::Down, words.down, outcomes)?;
+    put_move(alloc, board, player, from, Way::Back, words.back, outcomes)?;
+    put_move(
+        alloc,
+        board,
+        player,
+        from,
+        Way::Forth,
+        words.forth,
+        outcomes,
+    )
 }
 
 /// What the player's stones make of the cells.
@@ -129,9 +147,10 @@ fn outcomes_of(alloc: Global, board: &Board, player: Player) -> Result<Outcomes,
     ensures cells { IfOk result (λ outcomes. All (AreCells board.now.symbols) outcomes) }
     ensures size { IfOk result (λ outcomes. All (λ cells. length cells ≡ length board.now.cells) outcomes) }
 {
+    let words = captures_of(board, player);
     let mut outcomes = Outcomes::new(alloc);
     for from in 0..board.size() {
-        put_moves(alloc, board, player, from, &mut outcomes)?;
+        put_moves(alloc, board, player, from, &words, &mut outcomes)?;
     }
     Ok(outcomes)
 }

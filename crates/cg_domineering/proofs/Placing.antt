@@ -1,56 +1,225 @@
 -- Dominoes that are placed.
-use Rattle.std.proofs.Common.{◌≡◌, refl, ℕ, ◌+◌, ◌==◌, Bool, true, false, if◌then◌else◌, Option, Some, None, List, [], ◌∷◌, length, ap, sym, ◌∙◌, subst, arith, length-set}
-use Rattle.std.specs.Prelude.{All, Contains, codes, slice_set}
+use Rattle.std.proofs.Common.{◌≡◌, ◌≢◌, refl, ℕ, zero, suc, ◌+◌, ◌-◌, ◌*◌, ◌%◌, ◌<◌, ◌≤◌, ◌==◌, ◌&&◌, not, nat_lt, inl, inr, Bool, true, false, if◌then◌else◌, List, [], ◌∷◌, ◌++◌, Result, Ok, length, map, ap, sym, ◌∙◌, subst, arith, bit_and, ◌^◌, length-set, get_or, get_or-set_same, get_or-set_other}
+use Rattle.std.specs.Prelude.{Contains, codes, slice_index, slice_set}
+use Rattle.std.specs.Int.{bit_at}
+use Rattle.std.specs.List.{flat_map}
 use Rattle.std.specs.Str.{bytes_eq}
+use Rattle.std.specs.declared.cmp.Ordering.TheVariants.{Less}
+use Rattle.std.proofs.lemmas.Bool.{eqb-true, lt-ltb, ltb-true}
+use Rattle.std.proofs.lemmas.Bool.Decides.{leb_tells}
+use Rattle.std.proofs.lemmas.List.{append-nil, get_or_past}
 use Rattle.cg_moves.specs.declared.player.Player.{Player}
-use Rattle.cg_moves.specs.Grid.{AreCells, Grid, is_in_rows}
-use Rattle.cg_moves.specs.Rising.{with_all, with_one}
-use Rattle.cg_moves.proofs.GridFacts.{set-cells}
-use Rattle.cg_moves.proofs.Members.{all_from}
+use Rattle.cg_moves.specs.declared.player.Player.TheVariants.{Left, Right}
+use Rattle.cg_moves.specs.Grid.{Grid, is_in_rows, with_cells}
+use Rattle.cg_moves.specs.Rising.{IsRising, bytes_cmp, counted}
+use Rattle.cg_moves.specs.Rules.{In}
+use Rattle.cg_moves.specs.Words.{Marks}
+use Rattle.cg_moves.proofs.Counted.{counted-from}
+use Rattle.cg_moves.proofs.Members.{in-flat_map, in_one}
+use Rattle.cg_moves.proofs.RisingLemmas.{first-less, rises-none, rises-on, rising-kept}
 use Rattle.cg_moves.proofs.Same.{and-true, bytes_eq-back}
-use Rattle.cg_domineering.specs.Domino.{is_domino}
-use Rattle.cg_domineering.specs.Moves.{domineering, filled, fits, moves_at, moves_of, other_cell, with_domino}
+use Rattle.cg_moves.proofs.WordBits.{marks_both, marks_same, marks_without, row_end}
+use Rattle.cg_domineering.specs.Moves.{domineering, empty, filled, fits, has_other, is_empty, moves_at, moves_of, other_cell, with_domino}
+
+has-symbol : (p : Grid) (s : ℕ) → domineering.has p ≡ true → Contains (codes ".#") s → Contains p.symbols s
+has-symbol p s has is =
+    let P : List ℕ → Type 0 = λ z. Contains z s in
+    subst P (sym (bytes_eq-back p.symbols (codes ".#") (and-true (is_in_rows p) (bytes_eq p.symbols (codes ".#")) has).1)) is
+
+pub has-empty : (p : Grid) → domineering.has p ≡ true → Contains p.symbols empty
+has-empty p has = has-symbol p empty has (0, omega arith, refl)
 
 pub has-filled : (p : Grid) → domineering.has p ≡ true → Contains p.symbols filled
-has-filled p has =
-    let P : List ℕ → Type 0 = λ z. Contains z filled in
-    subst P (sym (bytes_eq-back p.symbols (codes ".#") (and-true (is_in_rows p) (bytes_eq p.symbols (codes ".#")) has).1))
-    (1, omega arith, refl)
+has-filled p has = has-symbol p filled has (1, omega arith, refl)
 
--- the moves lead to cells with the symbols, and as many as before
-pub moves_cells : (player : Player) (p : Grid) → domineering.has p ≡ true → AreCells p.symbols p.cells
-    → All (AreCells p.symbols) (moves_of player p)
-moves_cells player p has are = all_from (AreCells p.symbols) (moves_of player p) (λ cells m.
-    let (i, k, f, e) = is_domino player p cells m in
-    let P : List ℕ → Type 0 = λ z. AreCells p.symbols z in
-    subst P (sym e) (set-cells p.symbols (slice_set p.cells i filled) (other_cell player p i) filled
-    (set-cells p.symbols p.cells i filled are (has-filled p has)) (has-filled p has)))
+pub wide : (p : Grid) → domineering.has p ≡ true → 0 < p.columns
+wide p has =
+    let a = and-true (is_in_rows p) (bytes_eq p.symbols (codes ".#")) has in
+    ltb-true 0 p.columns (and-true (nat_lt 0 p.columns) (length p.cells == p.rows * p.columns) a.0).0
 
-pub moves_long : (player : Player) (p : Grid) → All (λ cells. length cells ≡ length p.cells) (moves_of player p)
-moves_long player p = all_from (λ cells. length cells ≡ length p.cells) (moves_of player p) (λ cells m.
-    let (i, k, f, e) = is_domino player p cells m in
-    ap length e ∙ length-set (slice_set p.cells i filled) (other_cell player p i) filled ∙ length-set p.cells i filled)
+-- ---- the cells of a domino that fits
 
--- where a domino is found, it fits
-pub fits-found : (b : Bool) (other o : ℕ) → Some o ≡ (if b then Some other else None) → (b ≡ true) × (o ≡ other)
-fits-found true other o e = (refl, cc)
-fits-found false other o e = cc
+empty-inside : (cells : List ℕ) (i : ℕ) → is_empty cells i ≡ true → i < length cells
+empty-inside cells i e = elim (leb_tells (length cells) i) [
+  | inl h ↦ (let a : slice_index cells i ≡ 46 = eqb-true (slice_index cells i) empty e in
+      let b : slice_index cells i ≡ 0 = get_or_past cells i 0 h.1 in
+      absurd (omega arith))
+  | inr h ↦ h.1
+]
 
-not-found : (b : Bool) (other : ℕ) → None ≡ (if b then Some other else None) → b ≡ false
-not-found true other e = cc
-not-found false other e = refl
+record Placed (player : Player) (p : Grid) (i : ℕ) : Type 0 where
+  first_empty : is_empty p.cells i ≡ true
+  other_empty : is_empty p.cells (other_cell player p i) ≡ true
 
--- what is taken in where a domino is found, and where none is
-pub one_placed : (player : Player) (p : Grid) (i o : ℕ) (cells : List ℕ) (old new : List (List ℕ))
-    → Some o ≡ (if fits player p i then Some (other_cell player p i) else None)
-    → cells ≡ slice_set (slice_set p.cells i filled) o filled → new ≡ with_one old cells
-    → new ≡ with_all old (moves_at player p i)
-one_placed player p i o cells old new found e put =
-    let h = fits-found (fits player p i) (other_cell player p i) o found in
-    put ∙ ap (with_one old) (e ∙ ap (λ k. slice_set (slice_set p.cells i filled) k filled) h.1)
-    ∙ ap (λ b. with_all old (if b then with_domino player p i ∷ [] else [])) (sym h.0)
+fits-placed : (player : Player) (p : Grid) (i : ℕ) → fits player p i ≡ true → Placed player p i
+fits-placed player p i f =
+    let a = and-true (has_other player p i && is_empty p.cells i) (is_empty p.cells (other_cell player p i)) f in
+    record { first_empty = (and-true (has_other player p i) (is_empty p.cells i) a.0).1; other_empty = a.1 }
 
-pub none_placed : (player : Player) (p : Grid) (i : ℕ) (old : List (List ℕ))
-    → None ≡ (if fits player p i then Some (other_cell player p i) else None) → old ≡ with_all old (moves_at player p i)
-none_placed player p i old found =
-    ap (λ b. with_all old (if b then with_domino player p i ∷ [] else [])) (sym (not-found (fits player p i) (other_cell player p i) found))
+pub first-inside : (player : Player) (p : Grid) (i : ℕ) → fits player p i ≡ true → i < length p.cells
+first-inside player p i f = empty-inside p.cells i (fits-placed player p i f).first_empty
+
+pub other-inside : (player : Player) (p : Grid) (i : ℕ) → fits player p i ≡ true → other_cell player p i < length p.cells
+other-inside player p i f = empty-inside p.cells (other_cell player p i) (fits-placed player p i f).other_empty
+
+other-after : (player : Player) (p : Grid) (i : ℕ) → 0 < p.columns → i < other_cell player p i
+other-after Left p i some = omega arith
+other-after Right p i some = omega arith
+
+-- ---- the moves rise by their first cells
+
+domino-long : (player : Player) (p : Grid) (i : ℕ) → length (with_domino player p i) ≡ length p.cells
+domino-long player p i =
+    length-set (slice_set p.cells i filled) (other_cell player p i) filled ∙ length-set p.cells i filled
+
+-- a cell before a domino is as it was
+before-domino : (player : Player) (p : Grid) (i k : ℕ) → 0 < p.columns → k < i
+    → slice_index (with_domino player p i) k ≡ slice_index p.cells k
+before-domino player p i k some l =
+    let o = other-after player p i some in
+    get_or-set_other (slice_set p.cells i filled) (other_cell player p i) k filled 0 (omega arith)
+    ∙ get_or-set_other p.cells i k filled 0 (omega arith)
+
+at-domino : (player : Player) (p : Grid) (i : ℕ) → 0 < p.columns → i < length p.cells
+    → slice_index (with_domino player p i) i ≡ filled
+at-domino player p i some l =
+    let o = other-after player p i some in
+    get_or-set_other (slice_set p.cells i filled) (other_cell player p i) i filled 0 (omega arith)
+    ∙ get_or-set_same p.cells i filled 0 l
+
+domino-less : (player : Player) (p : Grid) (i j : ℕ) → 0 < p.columns → fits player p i ≡ true → i < j
+    → bytes_cmp (with_domino player p i) (with_domino player p j) ≡ Less
+domino-less player p i j some f l =
+    let inside = first-inside player p i f in
+    let a = domino-long player p i in
+    let b = domino-long player p j in
+    let here = at-domino player p i some inside in
+    let there = before-domino player p j i some l in
+    let was : slice_index p.cells i ≡ 46 = eqb-true (slice_index p.cells i) empty (fits-placed player p i f).first_empty in
+    first-less (with_domino player p i) (with_domino player p j) i (omega arith) (omega arith)
+    (λ k h. before-domino player p i k some h ∙ sym (before-domino player p j k some (omega arith)))
+    (omega arith)
+
+placed-in : (player : Player) (p : Grid) (j : ℕ) (z : List ℕ) → In z (moves_at player p j) → z ≡ with_domino player p j
+placed-in player p j z m = go (fits player p j) m
+  where
+    go : (b : Bool) → In z (if b then with_domino player p j ∷ [] else []) → z ≡ with_domino player p j
+    go true n = in_one z (with_domino player p j) n
+    go false n = absurd n
+
+pub dominoes-rise : (player : Player) (p : Grid) (i n : ℕ) → 0 < p.columns
+    → IsRising (flat_map (moves_at player p) (counted i n))
+dominoes-rise player p i zero some = rises-none
+dominoes-rise player p i (suc n) some = go (fits player p i) refl (dominoes-rise player p (suc i) n some)
+  where
+    below : fits player p i ≡ true → (z : List ℕ) → In z (flat_map (moves_at player p) (counted (suc i) n))
+        → bytes_cmp (with_domino player p i) z ≡ Less
+    below f z m =
+        let (j, k, o) = in-flat_map (moves_at player p) z (counted (suc i) n) m in
+        let l = counted-from (suc i) n j k in
+        ap (bytes_cmp (with_domino player p i)) (placed-in player p j z o)
+        ∙ domino-less player p i j some f (omega arith)
+
+    go : (b : Bool) → fits player p i ≡ b → IsRising (flat_map (moves_at player p) (counted (suc i) n))
+        → IsRising ((if b then with_domino player p i ∷ [] else []) ++ flat_map (moves_at player p) (counted (suc i) n))
+    go true f rest = rises-on (with_domino player p i) (flat_map (moves_at player p) (counted (suc i) n)) (below f) rest
+    go false f rest = rest
+
+-- ---- the words
+
+left-test : (s e f : Bool) → (f ≡ true → s ≡ true) → (e && f) ≡ (s && e && f)
+left-test true true f h = refl
+left-test true false f h = refl
+left-test false e true h = absurd (no (h refl))
+  where
+    no : false ≡ true → ⊥
+    no g = cc
+left-test false true false h = refl
+left-test false false false h = refl
+
+pub left_marks : (p : Grid) (word below : ℕ) → Marks word (λ i. is_empty p.cells i)
+    → ((i : ℕ) → bit_at below i ≡ bit_at word (i + p.columns)) → Marks (bit_and word below) (fits Left p)
+left_marks p word below are moved =
+    marks_same (bit_and word below) (λ i. is_empty p.cells i && is_empty p.cells (i + p.columns)) (fits Left p)
+    (λ i. left-test (has_other Left p i) (is_empty p.cells i) (is_empty p.cells (i + p.columns))
+    (λ e. lt-ltb (i + p.columns) (length p.cells) (empty-inside p.cells (i + p.columns) e)))
+    (marks_both word below (λ i. is_empty p.cells i) (λ i. is_empty p.cells (i + p.columns)) are
+    (λ i. moved i ∙ are (i + p.columns)))
+
+-- the next cell is inside where it is empty, and in the first column where this one is in the last
+right-test : (e f s x l : Bool) → (f ≡ true → s ≡ true) → x ≡ not l → (e && (f && not (s && x))) ≡ (l && e && f)
+right-test e true s x l h k =
+    ap (λ z. e && (true && not (z && x))) (h refl) ∙ ap (λ z. e && (true && not (true && z))) k ∙ go e l
+  where
+    go : (e l : Bool) → (e && (true && not (true && not l))) ≡ (l && e && true)
+    go true true = refl
+    go true false = refl
+    go false true = refl
+    go false false = refl
+right-test e false s x l h k = go e l
+  where
+    go : (e l : Bool) → (e && (false && not (s && x))) ≡ (l && e && false)
+    go true true = refl
+    go true false = refl
+    go false true = refl
+    go false false = refl
+
+pub right_marks : (p : Grid) (word first beside : ℕ) → 0 < p.columns → word < 2 ^ 64 → first < 2 ^ 64
+    → Marks word (λ i. is_empty p.cells i)
+    → Marks first (λ i. nat_lt i (length p.cells) && (i % p.columns == 0))
+    → ((i : ℕ) → bit_at beside i ≡ bit_at (bit_and word (18446744073709551615 - first)) (i + 1))
+    → Marks (bit_and word beside) (fits Right p)
+right_marks p word first beside some fit below are column moved =
+    let inner = marks_without word first (λ i. is_empty p.cells i) (λ i. nat_lt i (length p.cells) && (i % p.columns == 0))
+    are column fit below in
+    marks_same (bit_and word beside) (λ i. is_empty p.cells i && (is_empty p.cells (i + 1) && not (nat_lt (i + 1)
+    (length p.cells) && ((i + 1) % p.columns == 0)))) (fits Right p)
+    (λ i. right-test (is_empty p.cells i) (is_empty p.cells (i + 1)) (nat_lt (i + 1) (length p.cells))
+    ((i + 1) % p.columns == 0) (has_other Right p i)
+    (λ e. lt-ltb (i + 1) (length p.cells) (empty-inside p.cells (i + 1) e)) (row_end p.columns i (omega (arith, some))))
+    (marks_both word beside (λ i. is_empty p.cells i) (λ i. is_empty p.cells (i + 1) && not (nat_lt (i + 1)
+    (length p.cells) && ((i + 1) % p.columns == 0))) are (λ i. moved i ∙ inner (i + 1)))
+
+-- ---- what a bit of the word tells
+
+pub bit-fits : (player : Player) (p : Grid) (word i : ℕ) → Marks word (fits player p) → (bit_at word i ≡ 0 → ⊥)
+    → fits player p i ≡ true
+bit-fits player p word i are some = go (fits player p i) refl
+  where
+    go : (b : Bool) → fits player p i ≡ b → fits player p i ≡ true
+    go true e = e
+    go false e = absurd (some (are i ∙ ap (λ t. if t then 1 else 0) e))
+
+no-bit : (player : Player) (p : Grid) (word i : ℕ) → Marks word (fits player p) → bit_at word i ≡ 0
+    → fits player p i ≡ false
+no-bit player p word i are none = go (fits player p i) refl
+  where
+    go : (b : Bool) → fits player p i ≡ b → fits player p i ≡ false
+    go true e = absurd (let one : bit_at word i ≡ 1 = are i ∙ ap (λ t. if t then 1 else 0) e in omega arith)
+    go false e = e
+
+pub none_listed : (player : Player) (p : Grid) (word i : ℕ) (old : List Grid) → Marks word (fits player p)
+    → bit_at word i ≡ 0 → old ≡ old ++ map (with_cells p) (moves_at player p i)
+none_listed player p word i old are none =
+    sym (append-nil old) ∙ ap (λ b. old ++ map (with_cells p) (if b then with_domino player p i ∷ [] else []))
+    (sym (no-bit player p word i are none))
+
+pub one_listed : (player : Player) (p after : Grid) (i : ℕ) (old new : List Grid) → fits player p i ≡ true
+    → after ≡ with_cells p (with_domino player p i) → new ≡ old ++ (after ∷ [])
+    → new ≡ old ++ map (with_cells p) (moves_at player p i)
+one_listed player p after i old new f is put =
+    put ∙ ap (λ z. old ++ (z ∷ [])) is
+    ∙ ap (λ b. old ++ map (with_cells p) (if b then with_domino player p i ∷ [] else [])) (sym f)
+
+-- all of them
+pub all_listed : (player : Player) (p : Grid) (i n : ℕ) (boards : List Grid) → 0 < p.columns → i ≡ n → n ≡ length p.cells
+    → boards ≡ map (with_cells p) (flat_map (moves_at player p) (counted 0 i))
+    → boards ≡ map (with_cells p) (moves_of player p)
+all_listed player p i n boards some end size all =
+    all ∙ ap (λ k. map (with_cells p) (flat_map (moves_at player p) (counted 0 k))) (end ∙ size)
+    ∙ ap (map (with_cells p)) (sym (rising-kept (flat_map (moves_at player p) (counted 0 (length p.cells)))
+    (dominoes-rise player p 0 (length p.cells) some)))
+
+-- a result that is another one
+pub ok-is : {E : Type 0} (a b : Grid) → ◌≡◌ {A = Result Grid E} (Ok a) (Ok b) → a ≡ b
+ok-is a b e = cc

@@ -1,16 +1,16 @@
 //! The moves of Domineering.
-ghost use Rattle.std.specs.Prelude.{◌≡◌, ◌<◌, All, IfOk, IfSome, None, Some, if◌then◌else◌, length, true};
-ghost use Rattle.cg_moves.specs.Grid.{AreCells};
-ghost use Rattle.cg_moves.specs.Rising.{with_all};
+ghost use Rattle.std.specs.Prelude.{◌≡◌, ◌++◌, ◌<◌, IfOk, length, map, true};
+ghost use Rattle.cg_moves.specs.Grid.{with_cells};
+ghost use Rattle.cg_moves.specs.Words.{Marks};
 ghost use Rattle.cg_domineering.specs.Cuts.{dominoes-are};
 ghost use Rattle.cg_domineering.specs.Lawful.{domineering_lawful};
-ghost use Rattle.cg_domineering.specs.Moves.{domineering, dominoes, fits, has_other, moves_at, moves_of, other_cell};
+ghost use Rattle.cg_domineering.specs.Moves.{domineering, dominoes, fits, moves_at, moves_of, other_cell, with_domino};
 
-use cg_moves::{Board, Boards, Outcomes, Pieces, Player, Rules};
+use crate::fitting::{EMPTY, spots};
+use cg_moves::words::bit;
+use cg_moves::{Board, Boards, Pieces, Player, Rules};
 use cg_pieces::{NeighbourRules, pieces};
 use std::alloc::{AllocError, Global};
-
-const EMPTY: u8 = b'.';
 
 const FILLED: u8 = b'#';
 
@@ -18,79 +18,68 @@ const FILLED: u8 = b'#';
 /// above the other, and Right two empty cells side by side.
 pub struct Domineering;
 
-/// The other cell of a domino of the player whose first cell is this one, if there is such a cell.
-fn other_cell(board: &Board, player: Player, first: u8) -> Option<u8>
-    requires { first < length board.now.cells }
-    ensures value { result ≡ (if has_other player board.now first then Some (other_cell player board.now first) else None) }
-    ensures inside { IfSome result (λ other. other < length board.now.cells) }
+/// The other cell of the player's domino that fits with this first cell.
+fn other_cell(board: &Board, player: Player, first: u8) -> u8
+    requires { fits player board.now first ≡ true }
+    ensures value { result ≡ other_cell player board.now first }
+    ensures inside { result < length board.now.cells }
 {
+    // Read for the proof alone: the board has few cells.
+    let _size = board.size();
     match player {
-        Player::Left => {
-            let below = first as u16 + board.columns() as u16;
-            if below < board.size() as u16 {
-                Some(below as u8)
-            } else {
-                None
-            }
-        }
-        Player::Right => {
-            // Read for the proof alone: the board has its cells in rows and columns.
-            let _size = board.size();
-            if first % board.columns() + 1 < board.columns() {
-                Some(first + 1)
-            } else {
-                None
-            }
-        }
+        Player::Left => first + board.columns(),
+        Player::Right => first + 1,
     }
 }
 
-/// The other cell of a domino of the player whose first cell is this one, if a domino fits there.
-fn domino_at(board: &Board, player: Player, first: u8) -> Option<u8>
-    requires { first < length board.now.cells }
-    ensures value { result ≡ (if fits player board.now first then Some (other_cell player board.now first) else None) }
-    ensures inside { IfSome result (λ other. other < length board.now.cells) }
+/// The board after the player's domino with this first cell, which fits.
+fn placed(alloc: Global, board: &Board, player: Player, first: u8) -> Result<Board, AllocError>
+    requires has { domineering.has board.now ≡ true }
+    requires fits { fits player board.now first ≡ true }
+    ensures { IfOk result (λ after. after ≡ with_cells board.now (with_domino player board.now first)) }
 {
-    let other = other_cell(board, player, first)?;
-    if board.cell(first) == EMPTY && board.cell(other) == EMPTY {
-        Some(other)
-    } else {
-        None
-    }
+    let other = other_cell(board, player, first);
+    let mut after = board.copy(alloc)?;
+    after.set(first, FILLED);
+    after.set(other, FILLED);
+    Ok(after)
 }
 
-/// Takes in what the player's domino with this first cell makes of the cells, if one fits.
+/// Puts the board after the player's domino with this first cell behind the boards, if one fits.
 fn put_move(
     alloc: Global,
     board: &Board,
     player: Player,
+    spots: u64,
     first: u8,
-    outcomes: &mut Outcomes,
+    boards: &mut Vec<Board>,
 ) -> Result<(), AllocError>
-    requires { first < length board.now.cells }
-    ensures { IfOk result (λ _. outcomes.new ≡ with_all outcomes.old (moves_at player board.now first)) }
+    requires has { domineering.has board.now ≡ true }
+    requires spots { Marks spots (fits player board.now) }
+    requires first { first < 64 }
+    ensures { IfOk result (λ _. boards.new.items ≡
+        boards.old.items ++ map (with_cells board.now) (moves_at player board.now first)) }
 {
-    let Some(other) = domino_at(board, player, first) else {
+    if bit(spots, first) == 0 {
         return Ok(());
-    };
-    let mut cells = board.cells(alloc)?.into_vec();
-    cells[first as usize] = FILLED;
-    cells[other as usize] = FILLED;
-    outcomes.add(cells)
+    }
+    let after = placed(alloc, board, player, first)?;
+    boards.push(after)?;
+    Ok(())
 }
 
-/// What the player's dominoes make of the cells.
-fn outcomes_of(alloc: Global, board: &Board, player: Player) -> Result<Outcomes, AllocError>
+/// The boards after the player's dominoes, by their first cells. They are in rising order, since a filled cell is below an
+/// empty one.
+fn boards_of(alloc: Global, board: &Board, player: Player) -> Result<Vec<Board>, AllocError>
     requires { domineering.has board.now ≡ true }
-    ensures value { IfOk result (λ outcomes. outcomes ≡ moves_of player board.now) }
-    ensures cells { IfOk result (λ outcomes. All (AreCells board.now.symbols) outcomes) }
-    ensures size { IfOk result (λ outcomes. All (λ cells. length cells ≡ length board.now.cells) outcomes) }
+    ensures { IfOk result (λ boards. boards.items ≡ map (with_cells board.now) (moves_of player board.now)) }
 {
-    let mut outcomes = Outcomes::new(alloc);
+    let spots = spots(board, player);
+    let mut boards = Vec::new(alloc);
     for first in 0..board.size() {
-        put_move(alloc, board, player, first, &mut outcomes)?;
+        put_move(alloc, board, player, spots, first, &mut boards)?;
     }
-    Ok(outcomes)
+    Ok(boards)
 }
 
 impl NeighbourRules for Domineering {
@@ -118,7 +107,8 @@ impl Rules for Domineering {
     ghost game = { λ rules. domineering };
 
     fn moves(&self, alloc: Global, board: &Board, player: Player) -> Result<Boards, AllocError> {
-        outcomes_of(alloc, board, player)?.boards(alloc, board)
+        let boards = boards_of(alloc, board, player)?;
+        Ok(Boards::of(boards))
     }
 
     fn pieces(&self, alloc: Global, board: &Board) -> Result<Pieces, AllocError> {

@@ -1,8 +1,11 @@
 //! The calls on a board: `read` shows it, `copy` its copy, `make` the board made anew of its cells, `left` and `right` the
-//! boards that the player's moves lead to, and a number all boards that play can come to, if there are no more.
+//! boards that the player's moves lead to, and a number all boards that play can come to, if there are no more. `pieces` shows
+//! the board's pieces, and `pieces7` and `pieces8` all that play can come to from them, if there are no more.
 ghost use Rattle.std.specs.Prelude.{◌≡◌, true};
 
-use cg_moves::{Board, BoardFault, Boards, Player, ReachFault, Rules, reach, text};
+use cg_moves::{
+    Board, BoardFault, Boards, Pieces, Player, ReachFault, Rules, reach, reach_pieces, text,
+};
 use std::alloc::{AllocError, Global};
 
 /// The texts of the boards, with a blank between them.
@@ -18,6 +21,33 @@ fn listed(alloc: Global, boards: &Boards) -> Result<String, AllocError> {
     Ok(all)
 }
 
+/// The boards that were reached, unless there are too many.
+fn reached_or(alloc: Global, reached: Result<Boards, ReachFault>) -> Result<String, AllocError> {
+    match reached {
+        Ok(boards) => listed(alloc, &boards),
+        Err(ReachFault::Positions) => String::from_str(alloc, "positions"),
+        Err(ReachFault::Memory) => Err(AllocError),
+    }
+}
+
+/// The pieces of the board, and where there is a limit, all that play can come to from them, if there are so many at most.
+fn in_pieces<R: Rules>(
+    alloc: Global,
+    rules: &R,
+    board: &Board,
+    limit: Option<u64>,
+) -> Result<String, AllocError>
+    requires { (R.game rules.now).has board.now ≡ true }
+{
+    match rules.pieces(alloc, board)? {
+        Pieces::Whole => String::from_str(alloc, "whole"),
+        Pieces::Cut(pieces) => match limit {
+            Some(limit) => reached_or(alloc, reach_pieces(alloc, rules, board, limit)),
+            None => listed(alloc, &pieces),
+        },
+    }
+}
+
 /// The boards that play can come to from this one, if there are so many at most.
 fn reached<R: Rules>(
     alloc: Global,
@@ -27,11 +57,7 @@ fn reached<R: Rules>(
 ) -> Result<String, AllocError>
     requires { (R.game rules.now).has board.now ≡ true }
 {
-    match reach(alloc, rules, board, limit) {
-        Ok(boards) => listed(alloc, &boards),
-        Err(ReachFault::Positions) => String::from_str(alloc, "positions"),
-        Err(ReachFault::Memory) => Err(AllocError),
-    }
+    reached_or(alloc, reach(alloc, rules, board, limit))
 }
 
 /// The board made anew of its rows, columns, symbols and cells.
@@ -66,6 +92,15 @@ pub(crate) fn on_board<R: Rules>(
     if call == "right" {
         let boards = rules.moves(alloc, board, Player::Right)?;
         return listed(alloc, &boards);
+    }
+    if call == "pieces" {
+        return in_pieces(alloc, rules, board, None);
+    }
+    if call == "pieces7" {
+        return in_pieces(alloc, rules, board, Some(7));
+    }
+    if call == "pieces8" {
+        return in_pieces(alloc, rules, board, Some(8));
     }
     match call.parse::<u64>() {
         Ok(limit) => reached(alloc, rules, board, limit),

@@ -4,6 +4,7 @@
 
 mod calls;
 mod rows;
+mod words;
 
 use std::io;
 

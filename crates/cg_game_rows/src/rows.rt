@@ -3,6 +3,7 @@
 ghost use Rattle.std.specs.Prelude.{◌≡◌, IfOk, true};
 
 use crate::calls::{on_board, refusal};
+use crate::words::{captures_call, on_captures, on_rays, on_spots, spots_call};
 use cg_amazons::Amazons;
 use cg_clobber::Clobber;
 use cg_domineering::Domineering;
@@ -46,9 +47,15 @@ fn on_strip(alloc: Global, call: &str, text: &str) -> Result<String, AllocError>
 /// What is answered to the line.
 pub(crate) fn answered(alloc: Global, line: &str) -> Result<String, AllocError> {
     let (game, rest) = cut(line);
+    if game == "rays" {
+        return on_rays(alloc, rest);
+    }
     let (call, text) = cut(rest);
     let bytes = text.as_bytes();
     if game == "Domineering" {
+        if let Some(player) = spots_call(call) {
+            return on_spots(alloc, cg_domineering::read(alloc, bytes), player);
+        }
         return on_read(
             alloc,
             &Domineering,
@@ -57,6 +64,9 @@ pub(crate) fn answered(alloc: Global, line: &str) -> Result<String, AllocError> 
         );
     }
     if game == "Clobber" {
+        if let Some((player, way)) = captures_call(call) {
+            return on_captures(alloc, cg_clobber::read(alloc, bytes), player, way);
+        }
         return on_read(alloc, &Clobber, cg_clobber::read(alloc, bytes), call);
     }
     if game == "Amazons" {

@@ -1,5 +1,5 @@
 -- Numbers in their order.
-use Rattle.std.proofs.Common.{◌≡◌, ◌≢◌, ◌⊎◌, inl, inr, ℕ, zero, suc, ◌+◌, ◌<◌, ◌≤◌, ◌==◌, List, [], ◌∷◌, ◌++◌, ap, sym, ◌∙◌, arith}
+use Rattle.std.proofs.Common.{◌≡◌, ◌≢◌, ◌⊎◌, inl, inr, ℕ, zero, suc, ◌+◌, ◌<◌, ◌≤◌, ◌==◌, [], ◌∷◌, ◌++◌, ap, sym, ◌∙◌, arith}
 use Rattle.std.proofs.lemmas.Bool.{eqb-true, eq-eqb}
 use Rattle.std.proofs.Math.Nat.{eq-or-lt_of_le}
 use Rattle.cg_dyadic.proofs.Truth.{true-or-not}
@@ -32,3 +32,8 @@ counted-last i (suc n) =
 
 pub counted-next : (n : ℕ) → counted 0 (suc n) ≡ counted 0 n ++ (n ∷ [])
 counted-next n = let e : 0 + n ≡ n = omega arith in counted-last 0 n ∙ ap (λ z. counted 0 n ++ (z ∷ [])) e
+
+pub counted-from : (i n k : ℕ) → In k (counted i n) → i ≤ k
+counted-from i zero k m = absurd m
+counted-from i (suc n) k (inl e) = omega (arith, e)
+counted-from i (suc n) k (inr m) = let h = counted-from (suc i) n k m in omega arith

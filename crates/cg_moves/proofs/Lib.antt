@@ -21,3 +21,6 @@ pub mod PlayLemmas
 pub mod PlayOrder
 pub mod Inserted
 pub mod Carried
+pub mod WordBits
+pub mod Copied
+pub mod PlaneLemmas

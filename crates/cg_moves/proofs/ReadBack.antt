@@ -1,5 +1,5 @@
 -- The text of a board reads back as the board.
-use Rattle.std.proofs.Common.{◌≡◌, refl, ℕ, zero, suc, ◌+◌, ◌-◌, ◌*◌, ◌/◌, ◌<◌, ◌≤◌, ◌==◌, ◌||◌, ◌&&◌, not, Bool, true, false, cond, if◌then◌else◌, ◌⊎◌, inl, inr, Option, Some, None, List, [], ◌∷◌, ◌++◌, length, take, drop, ap, sym, ◌∙◌, subst, arith, length-drop, append-nil, append_assoc}
+use Rattle.std.proofs.Common.{◌≡◌, refl, ℕ, zero, suc, ◌+◌, ◌-◌, ◌*◌, ◌/◌, ◌<◌, ◌≤◌, ◌==◌, ◌||◌, ◌&&◌, not, Bool, true, false, cond, if◌then◌else◌, ◌⊎◌, inl, inr, Some, None, List, [], ◌∷◌, ◌++◌, length, take, drop, ap, sym, ◌∙◌, subst, arith, length-drop, append-nil, append_assoc}
 use Rattle.std.specs.Prelude.{All, Contains, Ok, Result, nat_le, nat_lt, position}
 use Rattle.std.specs.List.{list_all, list_any, position_or_len, prefix_len}
 use Rattle.std.proofs.Math.Seq.{take-length}
@@ -10,11 +10,11 @@ use Rattle.cg_moves.specs.declared.fault.BoardFault.{BoardFault}
 use Rattle.cg_moves.specs.declared.fault.BoardFault.TheVariants.{Symbol, Empty, Ragged, Large}
 use Rattle.cg_moves.specs.Grid.{AreCells, Grid, IsGrid, all_distinct, is_symbol}
 use Rattle.cg_moves.specs.Rules.{In}
-use Rattle.cg_moves.specs.Texts.{ReadsBack, bar, behind_bars, cut, first_row, in_front, in_rows, is_foreign, joined, next_place, ragged, read_of, refused_at, rows_of, text_of}
+use Rattle.cg_moves.specs.Texts.{ReadsBack, bar, behind_bars, cells_of, cut, first_row, in_front, in_rows, is_foreign, joined, next_place, ragged, read_of, refused_at, rows_of, text_of}
 use Rattle.cg_moves.proofs.ConnectedLemmas.{or-first, or-second}
 use Rattle.cg_moves.proofs.Members.{all_from, carry, in-append, in-append_left, in-append_right, in_flat_mapped, in_one}
 use Rattle.cg_moves.proofs.Same.{and-true, both-true}
-use Rattle.cg_moves.proofs.TextLemmas.{cells_of, cut-bar, cut-front}
+use Rattle.cg_moves.proofs.TextLemmas.{cut-bar, cut-front}
 
 -- no byte of these is a bar
 abbrev HasNoBar : List ℕ → Type 0

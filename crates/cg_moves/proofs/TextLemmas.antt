@@ -1,17 +1,14 @@
 -- Texts, cut at bars.
-use Rattle.std.proofs.Common.{◌≡◌, refl, ℕ, zero, suc, ◌+◌, ◌-◌, ◌*◌, ◌<◌, ◌≤◌, ◌==◌, ◌||◌, ◌&&◌, not, Bool, true, false, if◌then◌else◌, ◌⊎◌, inl, inr, Option, Some, None, List, [], ◌∷◌, ◌++◌, append_assoc, cond, length, length-append, drop, get_or, ap, sym, ◌∙◌, arith}
-use Rattle.std.specs.List.{flat_map, list_any, position_or_len, prefix_len}
+use Rattle.std.proofs.Common.{◌≡◌, refl, ℕ, zero, suc, ◌+◌, ◌-◌, ◌*◌, ◌<◌, ◌≤◌, ◌==◌, ◌||◌, ◌&&◌, not, Bool, true, false, if◌then◌else◌, ◌⊎◌, inl, inr, Option, Some, None, List, [], ◌∷◌, ◌++◌, append_assoc, cond, length, length-append, take, drop, get_or, ap, sym, ◌∙◌, arith}
+use Rattle.std.specs.List.{list_any, position_or_len, prefix_len}
 use Rattle.std.specs.Prelude.{Contains, nat_lt, position, slice_index}
 use Rattle.std.proofs.Math.Nat.{mul-le-mul_left}
 use Rattle.std.proofs.lemmas.Bool.Decides.{eqb_tells, nat_tests}
-use Rattle.std.proofs.lemmas.List.{append-nil}
-use Rattle.cg_moves.specs.Texts.{bar, cut, first_row, in_front, is_foreign, ragged, rows_of}
+use Rattle.std.proofs.lemmas.List.{append-nil, length-take-le}
+use Rattle.cg_moves.specs.Texts.{bar, cells_of, cut, first_row, in_front, is_foreign, ragged, rows_of}
 use Rattle.cg_moves.specs.Grid.{AreCells}
 use Rattle.cg_moves.specs.Rules.{In}
 use Rattle.cg_moves.proofs.Members.{carry}
-
-abbrev pub cells_of : List (List ℕ) → List ℕ
-cells_of rows = flat_map (λ row. row) rows
 
 -- a text is cut at a bar
 pub cut-bar : (c : ℕ) (cs : List ℕ) → c ≡ bar → cut (c ∷ cs) ≡ [] ∷ cut cs
@@ -114,6 +111,34 @@ module _ (text : List ℕ) (i c : ℕ) (within : i < length text) (read : c ≡ 
       → one_row ≡ false → c ≡ bar → all ≡ cells ++ cells_of (rows_of one_row (drop (i + 1) text))
   bar-left true all cells e f b = cc
   bar-left false all cells e f b = e ∙ ap (λ z. cells ++ z) (cells-bar b)
+
+-- ---- the cells, put into an array
+
+pub which_cell : (one_row : Bool) (c : ℕ) → (one_row || not (c == bar)) ≡ true → (one_row ≡ true) ⊎ (c ≡ bar → ⊥)
+which_cell true c e = inl refl
+which_cell false c e = elim (eqb_tells c bar) [
+  | inl p ↦ (let f : (false || not (c == bar)) ≡ false = ap (λ b. false || not b) p.0 in absurd cc)
+  | inr p ↦ inr p.1
+]
+
+pub no_cell : (one_row : Bool) (c : ℕ) → (one_row || not (c == bar)) ≡ false → (one_row ≡ false) × (c ≡ bar)
+no_cell true c e = absurd cc
+no_cell false c e = elim (eqb_tells c bar) [
+  | inl p ↦ (refl, p.1)
+  | inr p ↦ (let f : (false || not (c == bar)) ≡ true = ap (λ b. false || not b) p.0 in absurd cc)
+]
+
+-- there is room where a cell more is among few
+pub room : (all cells rest : List ℕ) (n c : ℕ) → length all ≤ 64 → n ≤ length cells
+    → all ≡ (take n cells ++ (c ∷ [])) ++ rest → n < 64
+room all cells rest n c few inside e =
+    let a = ap length e ∙ length-append (take n cells ++ (c ∷ [])) rest in
+    let b = length-append (take n cells) (c ∷ []) in
+    let t = length-take-le n cells inside in
+    omega arith
+
+pub taken : (n : ℕ) (all cells : List ℕ) → n ≡ length cells → take (length cells) all ≡ cells → take n all ≡ cells
+taken n all cells e same = ap (λ k. take k all) e ∙ same
 
 pub first-end : (text : List ℕ) (i : ℕ) → length text ≤ i → length (first_row (cut (drop i text))) ≡ 0
 first-end text i h = ap (λ z. length (first_row (cut z))) (drop-end text i h)

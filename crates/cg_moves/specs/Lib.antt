@@ -1,5 +1,7 @@
 pub mod Grid
 pub mod GridCode
+pub mod Words
+pub mod PlaneBits
 pub mod Reordered
 pub mod Rules
 pub mod Total

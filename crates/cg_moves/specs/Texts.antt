@@ -27,6 +27,10 @@ abbrev pub first_row : List (List ℕ) → List ℕ
 first_row [] = []
 first_row (row ∷ rows) = row
 
+-- the cells of the rows, row by row
+abbrev pub cells_of : List (List ℕ) → List ℕ
+cells_of rows = flat_map (λ row. row) rows
+
 -- the byte is no symbol, nor is the text cut there
 abbrev pub is_foreign : Bool → List ℕ → ℕ → Bool
 is_foreign one_row symbols c = not (list_any (λ s. s == c) symbols || (not one_row && (c == bar)))
@@ -53,7 +57,7 @@ abbrev pub read_of : List ℕ → Bool → List ℕ → Result Grid BoardFault
 read_of symbols one_row text =
     let rows = rows_of one_row text in
     let columns = length (first_row rows) in
-    let cells = flat_map (λ row. row) rows in
+    let cells = cells_of rows in
     refused_at Symbol (next_place (position (is_foreign one_row symbols) text))
     (refused_at Empty (if columns == 0 then Some 1 else None)
     (refused_at Ragged (ragged columns 1 rows)

@@ -1,38 +1,58 @@
 //! Boards.
-ghost use Rattle.std.specs.Prelude.{◌≡◌, ◌*◌, ◌<◌, ◌≤◌, true, length, slice_index, slice_set, Contains, IfOk};
+ghost use Rattle.std.specs.Prelude.{◌≡◌, ◌*◌, ◌%◌, ◌<◌, ◌≤◌, ◌==◌, ◌&&◌, nat_lt, true, length, slice_index, slice_set, take, Contains, IfOk, Ok};
 ghost use Rattle.cg_moves.specs.Grid.{AreCells, IsGrid, are_symbols, with_cells};
+ghost use Rattle.cg_moves.specs.PlaneBits.{ArePlanes};
+ghost use Rattle.cg_moves.specs.Words.{Marks};
 
-use crate::Cells;
+use crate::planes::{index_in, planes_of};
+use crate::words::{all_cells, first_column};
+use crate::{Cells, Planes};
 use std::alloc::{AllocError, Global};
 use std::marker::Model;
 
 /// A board: its rows and columns, the symbols that its cells may have, and its cells.
 ///
 /// There are 1 to 16 different symbols, each a printable byte other than `|`, and 1 to 64 cells, each with one of the
-/// symbols. Contracts see the numbers of rows and columns, the row of symbols, and the list of cells, row by row.
+/// symbols. Contracts see the numbers of rows and columns, the row of symbols, and the list of cells, row by row. The cells
+/// are kept in four words ([`Planes`]), so that a board takes no memory of its own.
 #[derive(Debug, Drop)]
 pub struct Board {
     rows: u8,
     columns: u8,
-    symbols: Vec<u8>,
-    cells: Vec<u8>,
+    count: u8,
+    symbols: [u8; 16],
+    planes: Planes,
 }
 
 impl Model for Board {
-    ghost use Rattle.cg_moves.specs.Grid.{Grid, IsGrid};
+    ghost use Rattle.std.specs.Prelude.{◌≤◌, take};
+    ghost use Rattle.cg_moves.specs.Grid.{Grid};
     ghost use Rattle.cg_moves.specs.GridCode.{grid_code};
+    ghost use Rattle.cg_moves.specs.PlaneBits.{IsGridBy, grid_by};
 
     ghost Value = { Grid };
 
     ghost coded = { grid_code };
 
-    ghost view = { λ b. record { rows = b.rows; columns = b.columns; symbols = b.symbols.items; cells = b.cells.items } };
+    ghost view = { λ b. grid_by b.rows b.columns (take b.count b.symbols) b.planes };
 
-    ghost invariant = { λ b. IsGrid (record { rows = b.rows; columns = b.columns; symbols = b.symbols.items; cells = b.cells.items }) };
+    ghost invariant = { λ b. (b.count ≤ 16) × IsGridBy b.rows b.columns (take b.count b.symbols) b.planes };
+}
+
+/// The symbols at the front of an array.
+fn symbols_in(symbols: &[u8]) -> [u8; 16]
+    requires { length symbols.now ≤ 16 }
+    ensures { take (length symbols.now) result ≡ symbols.now }
+{
+    let mut all = [0; 16];
+    for (index, symbol) in symbols.iter().enumerate() {
+        all[index] = *symbol;
+    }
+    all
 }
 
 impl Board {
-    /// The board of these rows, columns, symbols and cells, row by row.
+    /// The board of these rows, columns, symbols and cells, row by row. It takes no memory, and is never refused.
     pub fn make(
         alloc: Global,
         rows: u8,
@@ -45,23 +65,30 @@ impl Board {
         requires some { 1 ≤ length cells.now }
         requires few { length cells.now ≤ 64 }
         requires cells { AreCells symbols.now cells.now }
-        ensures { IfOk result (λ b. b ≡ record { rows = rows; columns = columns; symbols = symbols.now; cells = cells.now }) }
+        ensures { result ≡ Ok (record { rows = rows; columns = columns; symbols = symbols.now; cells = cells.now }) }
     {
-        let symbols = symbols.to_vec(alloc)?;
-        let cells = cells.to_vec(alloc)?;
+        let _ = alloc;
         Ok(Board {
             rows,
             columns,
-            symbols,
-            cells,
+            count: symbols.len() as u8,
+            symbols: symbols_in(symbols),
+            planes: planes_of(symbols, cells),
         })
     }
 
-    /// An equal board.
+    /// An equal board. It takes no memory, and is never refused.
     pub fn copy(&self, alloc: Global) -> Result<Board, AllocError>
-        ensures { IfOk result (λ b. b ≡ self.now) }
+        ensures { result ≡ Ok self.now }
     {
-        Board::make(alloc, self.rows, self.columns, &self.symbols, &self.cells)
+        let _ = alloc;
+        Ok(Board {
+            rows: self.rows,
+            columns: self.columns,
+            count: self.count,
+            symbols: self.symbols,
+            planes: self.planes,
+        })
     }
 
     /// How many rows there are.
@@ -85,7 +112,7 @@ impl Board {
         ensures value { result.now ≡ self.now.symbols }
         ensures grid { IsGrid self.now }
     {
-        &self.symbols
+        &self.symbols[..self.count as usize]
     }
 
     /// How many cells there are.
@@ -93,7 +120,38 @@ impl Board {
         ensures value { result ≡ length self.now.cells }
         ensures grid { IsGrid self.now }
     {
-        self.cells.len() as u8
+        self.rows * self.columns
+    }
+
+    /// The cells in words: bit i of word a, b, c or d is bit 0, 1, 2 or 3 of the index of cell i's symbol in the row of
+    /// symbols, and 0 where there is no cell i.
+    pub fn planes(&self) -> Planes
+        ensures planes { ArePlanes self.now.symbols self.now.cells result }
+        ensures grid { IsGrid self.now }
+    {
+        self.planes
+    }
+
+    /// The cells with this symbol: bit i is 1 exactly where cell i has it.
+    pub fn places(&self, symbol: u8) -> u64
+        requires { Contains self.now.symbols symbol }
+        ensures places { Marks result (λ i. slice_index self.now.cells i == symbol) }
+        ensures grid { IsGrid self.now }
+    {
+        let symbols = self.symbols();
+        let index = index_in(symbols, symbol);
+        let size = self.size();
+        let all = all_cells(size);
+        let places = self.planes.places(index);
+        places & all
+    }
+
+    /// The cells of the first column, each as a bit that is 1.
+    pub fn first_column(&self) -> u64
+        ensures column { Marks result (λ i. nat_lt i (length self.now.cells) && (i % self.now.columns == 0)) }
+        ensures grid { IsGrid self.now }
+    {
+        first_column(self.rows, self.columns)
     }
 
     /// The symbol of the cell with this index, counted from 0 and row by row.
@@ -101,7 +159,7 @@ impl Board {
         requires { index < length self.now.cells }
         ensures { result ≡ slice_index self.now.cells index }
     {
-        self.cells[index as usize]
+        self.symbols[self.planes.index_at(index) as usize]
     }
 
     /// The cells, row by row.
@@ -109,7 +167,11 @@ impl Board {
         ensures value { IfOk result (λ cells. cells ≡ self.now.cells) }
         ensures grid { IfOk result (λ _. IsGrid self.now) }
     {
-        let cells = self.cells.to_vec(alloc)?;
+        let size = self.size();
+        let mut cells = Vec::with_capacity(alloc, size as usize)?;
+        for index in 0..size {
+            cells.push(self.cell(index))?;
+        }
         Ok(Cells::of(cells))
     }
 
@@ -119,6 +181,7 @@ impl Board {
         requires symbol { Contains self.old.symbols symbol }
         ensures { self.new ≡ with_cells self.old (slice_set self.old.cells index symbol) }
     {
-        self.cells[index as usize] = symbol;
+        let symbols = &self.symbols[..self.count as usize];
+        self.planes = self.planes.with_symbol(symbols, index, symbol);
     }
 }

@@ -1,11 +1,10 @@
 //! Boards read from texts.
-ghost use Rattle.std.specs.Prelude.{◌≡◌, ◌⊎◌, ◌+◌, ◌≤◌, ◌<◌, true, Ok, Err, IfErr, IfOk, length, position, drop, take};
+ghost use Rattle.std.specs.Prelude.{◌≡◌, ◌≢◌, ◌⊎◌, ◌==◌, ◌||◌, not, ◌+◌, ◌≤◌, ◌<◌, true, Ok, Err, IfErr, IfOk, length, position, drop, take};
 ghost use Rattle.cg_moves.specs.Grid.{IsGrid, are_symbols};
-ghost use Rattle.cg_moves.specs.Texts.{cut, first_row, is_foreign, ragged, read_of, rows_of};
-ghost use Rattle.std.specs.List.{flat_map};
+ghost use Rattle.cg_moves.specs.Texts.{bar, cells_of, cut, first_row, is_foreign, ragged, read_of, rows_of};
 
 use crate::{Board, BoardFault};
-use std::alloc::{AllocError, Global};
+use std::alloc::Global;
 
 const BAR: u8 = b'|';
 
@@ -57,17 +56,41 @@ fn rows_in(one_row: bool, text: &[u8]) -> usize
     rows
 }
 
-/// The cells, row by row.
-fn cells_in(alloc: Global, one_row: bool, text: &[u8]) -> Result<Vec<u8>, AllocError>
-    ensures { IfOk result (λ cells. cells.items ≡ flat_map (λ row. row) (rows_of one_row text.now)) }
+/// Whether the byte is a cell, and not a bar between rows.
+fn is_cell(one_row: bool, byte: u8) -> bool
+    ensures { result ≡ (one_row || not (byte == bar)) }
 {
-    let mut cells = Vec::new(alloc);
+    one_row || byte != BAR
+}
+
+/// How many cells there are.
+fn size_of(one_row: bool, text: &[u8]) -> usize
+    ensures { result ≡ length (cells_of (rows_of one_row text.now)) }
+{
+    let mut size = 0;
     for byte in text {
         if one_row || *byte != BAR {
-            cells.push(*byte)?;
+            size += 1;
         }
     }
-    Ok(cells)
+    size
+}
+
+/// The cells, row by row, at the front of an array.
+fn cells_in(one_row: bool, text: &[u8]) -> [u8; 64]
+    requires { length (cells_of (rows_of one_row text.now)) ≤ 64 }
+    ensures { take (length (cells_of (rows_of one_row text.now))) result ≡ cells_of (rows_of one_row text.now) }
+{
+    let mut cells = [0; 64];
+    let mut size = 0;
+    for byte in text {
+        if !is_cell(one_row, *byte) {
+            continue;
+        }
+        cells[size] = *byte;
+        size += 1;
+    }
+    cells
 }
 
 /// The place of the first row that isn't as long as the first, where the text is cut at each bar.
@@ -107,8 +130,8 @@ fn ragged_in(one_row: bool, text: &[u8], columns: usize) -> Option<u64>
 /// Places count bytes of the text from 1. The first of these that applies is the refusal.
 ///
 /// `Symbol` comes at the first byte that is neither a symbol nor a bar between rows; `Empty(1)` where the first row has no
-/// cell; `Ragged` at the start of the first row that isn't as long as the first; `Large` at the 65th cell. `Memory` is the
-/// one other fault.
+/// cell; `Ragged` at the start of the first row that isn't as long as the first; `Large` at the 65th cell. It takes no memory,
+/// and there is no other fault.
 pub fn read_grid(
     alloc: Global,
     text: &[u8],
@@ -120,6 +143,7 @@ pub fn read_grid(
     ensures symbols { IfOk result (λ board. board.symbols ≡ symbols.now) }
     ensures grid { IfOk result IsGrid }
     ensures refused { IfErr result (λ fault. (fault ≡ BoardFault.Memory) ⊎ (read_of symbols.now one_row text.now ≡ Err fault)) }
+    ensures no_memory { IfErr result (λ fault. fault ≢ BoardFault.Memory) }
 {
     if let Some(index) = first_foreign(one_row, symbols, text) {
         return Err(BoardFault::Symbol(index as u64 + 1));
@@ -131,12 +155,13 @@ pub fn read_grid(
     if let Some(place) = ragged_in(one_row, text, columns) {
         return Err(BoardFault::Ragged(place));
     }
-    let cells = cells_in(alloc, one_row, text)?;
-    if cells.len() > 64 {
+    let size = size_of(one_row, text);
+    if size > 64 {
         return Err(BoardFault::Large(65 + 64 / columns as u64));
     }
+    let cells = cells_in(one_row, text);
     let rows = rows_in(one_row, text);
-    let board = Board::make(alloc, rows as u8, columns as u8, symbols, &cells)?;
+    let board = Board::make(alloc, rows as u8, columns as u8, symbols, &cells[..size])?;
     // Read for the proof alone: each board is one.
     let _size = board.size();
     Ok(board)

@@ -15,7 +15,7 @@ pub fn key_of(alloc: Global, board: &Board) -> Result<Vec<u8>, AllocError>
     ensures { IfOk result (λ key. key.items ≡ key_of board.now) }
 {
     let cells = board.cells(alloc)?;
-    let mut key = Vec::new(alloc);
+    let mut key = Vec::with_capacity(alloc, cells.len() + 2)?;
     key.push(board.rows())?;
     key.push(board.columns())?;
     key.extend_from_slice(cells.as_slice())?;

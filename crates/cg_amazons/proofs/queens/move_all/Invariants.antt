@@ -1,7 +1,8 @@
-use Rattle.std.proofs.Common.{◌≡◌}
-use Rattle.cg_moves.specs.Rising.{with_all}
-use Rattle.cg_amazons.specs.Amazons.{moves_below}
+use Rattle.cg_amazons.specs.AmazonsMoves.{IsQueenMove}
+use Rattle.cg_amazons.specs.Taking.{AnyMarked, Takes}
 use Rattle.cg_amazons.proofs.queens.move_all.Given as goal
 
 abbrev pub invariant-loop-from : goal.invariant-loop-from
-invariant-loop-from l = l.outcomes ≡ with_all l.fn.outcomes (moves_below l.columns l.queen l.cells l.from)
+invariant-loop-from l =
+    Takes l.fn.outcomes l.outcomes
+    (AnyMarked l.words.queens (IsQueenMove l.words.shape.columns l.words.queen l.cells) l.from)

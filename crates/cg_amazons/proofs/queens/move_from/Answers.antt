@@ -1,7 +1,11 @@
-use Rattle.cg_amazons.specs.Amazons.{moves_that_way, ways}
-use Rattle.cg_moves.proofs.MoveLemmas.{taken_more}
+use Rattle.std.proofs.Common.{arith}
+use Rattle.cg_amazons.specs.AmazonsMoves.{IsQueenMove}
+use Rattle.cg_amazons.proofs.Taken.{takes_if}
 use Rattle.cg_amazons.proofs.queens.move_from.Goals as goal
 
-pub loop-way-preserved : goal.loop-way-preserved
-loop-way-preserved c =
-    taken_more (moves_that_way c.args.columns c.args.queen c.args.cells.now c.args.from) ways c.loop-way.way-index _ _ _ _ c.loop-way-test.true c.loop-way.invariant c.in_ok-move_that_way.ensures
+pub returns : goal.returns
+returns c =
+    takes_if c.args.outcomes.now c.move_queen.new.outcomes c.args.words.now.queens
+    (IsQueenMove c.args.words.now.shape.columns c.args.words.now.queen c.args.cells.now) c.args.from
+    (let n = c.if-bit-eq0.false in let one = c.bit.ensures.one in let e = c.bit.ensures.value in omega arith)
+    c.in_ok-move_queen.ensures

@@ -1,28 +1,26 @@
 use Rattle.std.proofs.Common.{◌*◌, ◌≤◌, length, ap, sym, ◌∙◌, arith}
 use Rattle.cg_moves.specs.Texts.{rows_of}
-use Rattle.cg_moves.proofs.TextLemmas.{cells-symbols, few-rows, not-ragged}
+use Rattle.cg_moves.proofs.TextLemmas.{cells-symbols, few-rows, not-ragged, taken}
 use Rattle.cg_moves.proofs.grid.read_grid.Goals as goal
 
 pub overflow_cast-rows : goal.overflow_cast-rows
 overflow_cast-rows c =
     let rows = rows_of c.args.one_row c.args.text.now in
-    let size = ap length c.in_ok-cells.ensures ∙ not-ragged c.columns_in-columns.result 1 rows (sym c.ragged_in.ensures
+    let size = c.size_of-size.ensures ∙ not-ragged c.columns_in-columns.result 1 rows (sym c.ragged_in.ensures
     ∙ c.in_default-ragged_in.is) in
     let same = c.rows_in-rows.ensures in
-    let l = c.len.ensures in
-    let w = c.if-len-gt64.false in
-    let few : length rows ≤ 64 = few-rows (length rows) c.columns_in-columns.result (length c.in_ok-cells.cells.items)
+    let w = c.if-size-gt64.false in
+    let few : length rows ≤ 64 = few-rows (length rows) c.columns_in-columns.result c.size_of-size.result
     size (omega arith) c.if-columns-eq0.false in
     omega arith
 
 pub make-requires-clause-size : goal.make-requires-clause-size
 make-requires-clause-size c =
     let rows = rows_of c.args.one_row c.args.text.now in
-    ap length (c.deref.ensures.value ∙ c.in_ok-cells.ensures) ∙ not-ragged c.columns_in-columns.result 1 rows (sym
+    ap length (taken _ _ _ c.size_of-size.ensures c.cells_in-cells.ensures) ∙ not-ragged c.columns_in-columns.result 1 rows (sym
     c.ragged_in.ensures ∙ c.in_default-ragged_in.is) ∙ ap (λ n. n * c.columns_in-columns.result) (sym
     c.rows_in-rows.ensures)
 
 pub make-requires-clause-cells : goal.make-requires-clause-cells
 make-requires-clause-cells c =
-    cells-symbols c.args.one_row c.args.symbols.now c.args.text.now c.deref.result.now (c.deref.ensures.value
-    ∙ c.in_ok-cells.ensures) (sym c.first_foreign.ensures ∙ c.in_default.is)
+    cells-symbols c.args.one_row c.args.symbols.now c.args.text.now _ (taken _ _ _ c.size_of-size.ensures c.cells_in-cells.ensures) (sym c.first_foreign.ensures ∙ c.in_default.is)

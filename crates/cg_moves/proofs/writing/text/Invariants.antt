@@ -1,4 +1,4 @@
-use Rattle.std.proofs.Common.{◌≡◌, ◌≤◌}
+use Rattle.std.proofs.Common.{◌≡◌}
 use Rattle.std.specs.String.{string_bytes}
 use Rattle.cg_moves.specs.Texts.{in_rows, joined}
 use Rattle.cg_moves.proofs.writing.text.Given as goal

@@ -1,6 +1,7 @@
-use Rattle.std.proofs.Common.{◌≡◌, ℕ, ◌<◌, List, true, length, ap, sym, ◌∙◌, subst, arith}
-use Rattle.cg_moves.specs.Grid.{AreCells}
-use Rattle.cg_moves.proofs.SeenLemmas.{ok_equal}
+use Rattle.std.proofs.Common.{◌≡◌, ℕ, ◌<◌, List, true, length, ap, sym, ◌∙◌, subst, arith, Result}
+use Rattle.std.specs.Prelude.{IfOk}
+use Rattle.std.specs.declared.alloc.AllocError.{AllocError}
+use Rattle.cg_moves.specs.Grid.{AreCells, Grid}
 use Rattle.cg_pieces.specs.Boxes.{cropped}
 use Rattle.cg_pieces.specs.Labels.{has_label}
 use Rattle.cg_pieces.proofs.Frames.{board-is, cropped-cells, cropped-size, few-cells, frame-cells, label-within, some-cells, wide-grid}
@@ -67,7 +68,7 @@ returns c =
     let set = has_label labels first in
     let grid = c.size-size.ensures.grid in
     let within : (k : ℕ) → set k ≡ true → k < length p.cells = λ k. label-within labels first (length p.cells) k c.requires.size in
-    ok_equal c.make.result _ (cropped c.args.blank set p) c.make.ensures
-    (board-is p set within first c.requires.first (wide-grid p grid) grid.size c.frame_of-frame.result c.frame_of-frame.ensures
+    let R : Result Grid AllocError → Type 0 = λ r. IfOk r (λ piece. piece ≡ cropped c.args.blank set p) in
+    subst R (sym c.make.ensures) (board-is p set within first c.requires.first (wide-grid p grid) grid.size c.frame_of-frame.result c.frame_of-frame.ensures
     c.args.blank c.symbols.result.now c.deref.result.now c.symbols.ensures.value
     (c.deref.ensures.value ∙ c.in_ok-cells.ensures))

@@ -1,16 +1,12 @@
-use Rattle.std.proofs.Common.{◌<◌, length, subst, sym}
-use Rattle.std.specs.Prelude.{Contains}
-use Rattle.cg_moves.specs.Grid.{Grid}
-use Rattle.cg_moves.proofs.GridFacts.{set-grid}
+use Rattle.cg_moves.proofs.PlaneLemmas.{set_by}
 use Rattle.cg_moves.proofs.board.Board.set.Goals as goal
 
 pub invariant_of-self : goal.invariant_of-self
 invariant_of-self c =
-    let Q : Grid → Type 0 = λ z. Contains z.symbols c.args.symbol in
-    set-grid (record {
-      rows = c.self.inside.rows;
-      columns = c.self.inside.columns;
-      symbols = c.self.inside.symbols.items;
-      cells = c.self.inside.cells.items;
-    }) c.args.index c.args.symbol (subst Q (sym c.self.view_is)
-    c.requires.symbol) c.self.invariant
+    let h = set_by _ _ _ _ _ c.args.self.now c.args.index c.args.symbol c.self.view_is c.self.invariant.1 c.requires.index c.requires.symbol c.with_symbol-self-inside.ensures in
+    (c.self.invariant.0, h.grid)
+
+pub returns : goal.returns
+returns c =
+    let h = set_by _ _ _ _ _ c.args.self.now c.args.index c.args.symbol c.self.view_is c.self.invariant.1 c.requires.index c.requires.symbol c.with_symbol-self-inside.ensures in
+    h.view

@@ -1,4 +1,4 @@
-use Rattle.std.proofs.Common.{◌≡◌, map, refl, ap, ◌∙◌}
+use Rattle.std.proofs.Common.{refl, ap, ◌∙◌}
 use Rattle.cg_moves.specs.Rising.{bytes_cmp, with_one}
 use Rattle.cg_moves.proofs.Inserted.{map-insert_key}
 use Rattle.cg_moves.proofs.outcomes.Outcomes.add.Goals as goal

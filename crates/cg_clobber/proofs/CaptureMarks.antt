@@ -1,0 +1,252 @@
+-- Captures in words.
+use Rattle.std.proofs.Common.{◌≡◌, refl, ℕ, suc, ◌+◌, ◌-◌, ◌*◌, ◌%◌, ◌^◌, ◌<◌, ◌≤◌, ◌==◌, ◌&&◌, not, nat_lt, inl, inr, Bool, true, false, if◌then◌else◌, Option, Some, None, List, [], ◌∷◌, ◌++◌, length, ap, sym, ◌∙◌, subst, arith, bit_and, append-nil}
+use Rattle.std.specs.Prelude.{Contains, codes, slice_index}
+use Rattle.std.specs.Int.{bit_at}
+use Rattle.std.specs.Str.{bytes_eq}
+use Rattle.std.proofs.lemmas.Bool.{eqb-true, eq-eqb, lt-ltb, ltb-true}
+use Rattle.std.proofs.lemmas.Bool.Decides.{eqb_tells, leb_tells}
+use Rattle.std.proofs.lemmas.List.{get_or_past}
+use Rattle.std.proofs.lemmas.Nat.{and_le_l}
+use Rattle.std.proofs.lemmas.List.Sums.{fold-append}
+use Rattle.cg_moves.specs.declared.player.Player.{Player}
+use Rattle.cg_moves.specs.declared.player.Player.TheVariants.{Left, Right}
+use Rattle.cg_moves.specs.Grid.{Grid, is_in_rows}
+use Rattle.cg_moves.specs.Rising.{with_all, with_one}
+use Rattle.cg_moves.specs.Words.{Marks}
+use Rattle.cg_moves.proofs.Same.{and-true, bytes_eq-back}
+use Rattle.cg_moves.proofs.WordBits.{marks_both, marks_moved_on, marks_same, marks_without, row_end}
+use Rattle.cg_clobber.specs.declared.way.Way.{Way}
+use Rattle.cg_clobber.specs.declared.way.Way.TheVariants.{Up, Down, Back, Forth}
+use Rattle.cg_clobber.specs.Moves.{captures_onto, captures_that_way, clobber, has_stone, moves_at, moves_onto, moves_that_way, next_cell, other, own, with_capture}
+
+-- ---- what boards of the game have
+
+pub wide : (p : Grid) → clobber.has p ≡ true → 0 < p.columns
+wide p has =
+    let a = and-true (is_in_rows p) (bytes_eq p.symbols (codes ".xo")) has in
+    ltb-true 0 p.columns (and-true (nat_lt 0 p.columns) (length p.cells == p.rows * p.columns) a.0).0
+
+has-symbol : (p : Grid) (s : ℕ) → clobber.has p ≡ true → Contains (codes ".xo") s → Contains p.symbols s
+has-symbol p s has is =
+    let P : List ℕ → Type 0 = λ z. Contains z s in
+    subst P (sym (bytes_eq-back p.symbols (codes ".xo") (and-true (is_in_rows p) (bytes_eq p.symbols (codes ".xo")) has).1)) is
+
+pub has-stone : (player : Player) (p : Grid) (s : ℕ) → clobber.has p ≡ true → s ≡ own player → Contains p.symbols s
+has-stone Left p s has e = has-symbol p s has (1, omega arith, sym e)
+has-stone Right p s has e = has-symbol p s has (2, omega arith, sym e)
+
+pub has-other : (player : Player) (p : Grid) (s : ℕ) → clobber.has p ≡ true → s ≡ other player → Contains p.symbols s
+has-other Left p s has e = has-symbol p s has (2, omega arith, sym e)
+has-other Right p s has e = has-symbol p s has (1, omega arith, sym e)
+
+pub bit_and-below : (a b : ℕ) → a < 2 ^ 64 → bit_and a b < 2 ^ 64
+bit_and-below a b l = let k = and_le_l a b in omega arith
+
+-- ---- a stone stands inside
+
+stone-inside : (cells : List ℕ) (i s : ℕ) → 0 < s → has_stone cells i s ≡ true → i < length cells
+stone-inside cells i s some e = elim (leb_tells (length cells) i) [
+  | inl h ↦ (let a : slice_index cells i ≡ s = eqb-true (slice_index cells i) s e in
+      let b : slice_index cells i ≡ 0 = get_or_past cells i 0 h.1 in
+      absurd (omega arith))
+  | inr h ↦ h.1
+]
+
+own-some : (player : Player) → 0 < own player
+own-some Left = omega arith
+own-some Right = omega arith
+
+other-some : (player : Player) → 0 < other player
+other-some Left = omega arith
+other-some Right = omega arith
+
+-- ---- the four ways
+
+module _ (player : Player) (p : Grid) where
+  abbrev stone_at : ℕ → Bool
+  stone_at i = has_stone p.cells i (own player)
+
+  abbrev other_at : ℕ → Bool
+  other_at i = has_stone p.cells i (other player)
+
+  -- up: there is a row above, and an opposing stone there
+  up-test : (i : ℕ) (b s : Bool) → (stone_at i ≡ true → s ≡ true)
+      → (stone_at i && (s && (not b && other_at (i - p.columns))))
+      ≡ captures_onto player p i (if b then None else Some (i - p.columns))
+  up-test i true s h = go (stone_at i) s (other_at (i - p.columns))
+    where
+      go : (o s t : Bool) → (o && (s && (false && t))) ≡ false
+      go true true t = refl
+      go true false t = refl
+      go false s t = refl
+  up-test i false s h = go (stone_at i) h
+    where
+      go : (o : Bool) → (o ≡ true → s ≡ true)
+          → (o && (s && (true && other_at (i - p.columns)))) ≡ (o && other_at (i - p.columns))
+      go true k = ap (λ z. z && (true && other_at (i - p.columns))) (k refl)
+      go false k = refl
+
+  pub up_marks : (stones others moved : ℕ) → length p.cells ≤ 64 → moved < 2 ^ 64 → Marks stones stone_at
+      → Marks others other_at → ((i : ℕ) → i < p.columns → bit_at moved i ≡ 0)
+      → ((i : ℕ) → p.columns ≤ i → i < 64 → bit_at moved i ≡ bit_at others (i - p.columns))
+      → Marks (bit_and stones moved) (captures_that_way player p Up)
+  up_marks stones others moved few fits are opposing first rest =
+      marks_same (bit_and stones moved)
+      (λ i. stone_at i && (nat_lt i 64 && (not (nat_lt i p.columns) && other_at (i - p.columns))))
+      (captures_that_way player p Up)
+      (λ i. up-test i (nat_lt i p.columns) (nat_lt i 64) (λ e. lt-ltb i 64 (let l = stone-inside p.cells i (own player) (own-some player) e in omega arith)))
+      (marks_both stones moved stone_at (λ i. nat_lt i 64 && (not (nat_lt i p.columns) && other_at (i - p.columns))) are
+      (marks_moved_on others p.columns moved other_at fits opposing first rest))
+
+  -- down: an opposing stone below
+  down-test : (i : ℕ) (b : Bool) → (other_at (i + p.columns) ≡ true → b ≡ true)
+      → (stone_at i && other_at (i + p.columns)) ≡ captures_onto player p i (if b then Some (i + p.columns) else None)
+  down-test i true h = refl
+  down-test i false h = go (stone_at i) (other_at (i + p.columns)) h
+    where
+      go : (o t : Bool) → (t ≡ true → false ≡ true) → (o && t) ≡ false
+      go true true k = sym (k refl)
+      go true false k = refl
+      go false t k = refl
+
+  pub down_marks : (stones others moved : ℕ) → Marks stones stone_at → Marks others other_at
+      → ((i : ℕ) → bit_at moved i ≡ bit_at others (i + p.columns))
+      → Marks (bit_and stones moved) (captures_that_way player p Down)
+  down_marks stones others moved are opposing rest =
+      marks_same (bit_and stones moved) (λ i. stone_at i && other_at (i + p.columns)) (captures_that_way player p Down)
+      (λ i. down-test i (nat_lt (i + p.columns) (length p.cells)) (λ e. lt-ltb (i + p.columns) (length p.cells) (stone-inside p.cells (i + p.columns) (other player) (other-some player) e)))
+      (marks_both stones moved stone_at (λ i. other_at (i + p.columns)) are (λ i. rest i ∙ opposing (i + p.columns)))
+
+  -- back: not in the first column, and an opposing stone on the cell before
+  back-test : (i : ℕ) (x s l b : Bool) → (stone_at i ≡ true → s ≡ true) → (stone_at i ≡ true → l ≡ true)
+      → (x ≡ false → b ≡ false)
+      → ((stone_at i && (s && (not b && other_at (i - 1)))) && not (l && x))
+      ≡ captures_onto player p i (if x then None else Some (i - 1))
+  back-test i true s l b hs hl hb = go (stone_at i) hl
+    where
+      none : (z : Bool) → (z && false) ≡ false
+      none true = refl
+      none false = refl
+
+      go : (o : Bool) → (o ≡ true → l ≡ true) → ((o && (s && (not b && other_at (i - 1)))) && not (l && true)) ≡ false
+      go true k = ap (λ z. (s && (not b && other_at (i - 1))) && not (z && true)) (k refl)
+          ∙ none (s && (not b && other_at (i - 1)))
+      go false k = refl
+  back-test i false s l b hs hl hb = go (stone_at i) hs hl
+    where
+      all : (z : Bool) → (z && true) ≡ z
+      all true = refl
+      all false = refl
+
+      go : (o : Bool) → (o ≡ true → s ≡ true) → (o ≡ true → l ≡ true)
+          → ((o && (s && (not b && other_at (i - 1)))) && not (l && false)) ≡ (o && other_at (i - 1))
+      go true k m = ap (λ z. (z && (not b && other_at (i - 1))) && not (l && false)) (k refl)
+          ∙ ap (λ z. (true && (not z && other_at (i - 1))) && not (l && false)) (hb refl)
+          ∙ ap (λ z. other_at (i - 1) && not (z && false)) (m refl) ∙ all (other_at (i - 1))
+      go false k m = refl
+
+  pub back_marks : (stones others moved first : ℕ) → length p.cells ≤ 64 → stones < 2 ^ 64 → moved < 2 ^ 64
+      → first < 2 ^ 64 → Marks stones stone_at → Marks others other_at
+      → Marks first (λ i. nat_lt i (length p.cells) && (i % p.columns == 0))
+      → ((i : ℕ) → i < 1 → bit_at moved i ≡ 0) → ((i : ℕ) → 1 ≤ i → i < 64 → bit_at moved i ≡ bit_at others (i - 1))
+      → bit_and stones moved < 2 ^ 64
+      → Marks (bit_and (bit_and stones moved) (18446744073709551615 - first)) (captures_that_way player p Back)
+  back_marks stones others moved first few fits below under are opposing column start rest both =
+      marks_same (bit_and (bit_and stones moved) (18446744073709551615 - first))
+      (λ i. (stone_at i && (nat_lt i 64 && (not (nat_lt i 1) && other_at (i - 1)))) && not (nat_lt i (length p.cells) && (i % p.columns == 0)))
+      (captures_that_way player p Back)
+      (λ i. back-test i (i % p.columns == 0) (nat_lt i 64) (nat_lt i (length p.cells)) (nat_lt i 1)
+      (λ e. lt-ltb i 64 (let l = inside i e in omega arith)) (λ e. lt-ltb i (length p.cells) (inside i e)) (later i))
+      (marks_without (bit_and stones moved) first
+      (λ i. stone_at i && (nat_lt i 64 && (not (nat_lt i 1) && other_at (i - 1))))
+      (λ i. nat_lt i (length p.cells) && (i % p.columns == 0))
+      (marks_both stones moved stone_at (λ i. nat_lt i 64 && (not (nat_lt i 1) && other_at (i - 1))) are
+      (marks_moved_on others 1 moved other_at below opposing start rest)) column both under)
+    where
+      inside : (i : ℕ) → stone_at i ≡ true → i < length p.cells
+      inside i e = stone-inside p.cells i (own player) (own-some player) e
+
+      zero_first : (c : ℕ) → 0 % c ≡ 0
+      zero_first c = omega arith
+
+      later : (i : ℕ) → (i % p.columns == 0) ≡ false → nat_lt i 1 ≡ false
+      later i e = elim (leb_tells (suc i) 1) [
+        | inl h ↦ (let z : i ≡ 0 = omega (arith, h.1) in
+            let t : (i % p.columns == 0) ≡ true = eq-eqb (i % p.columns) 0 (ap (λ k. k % p.columns) z ∙ zero_first p.columns) in
+            absurd cc)
+        | inr h ↦ h.0
+      ]
+
+  -- forth: not in the last column, and an opposing stone on the next cell
+  forth-test : (i : ℕ) (s x l : Bool) → (other_at (i + 1) ≡ true → s ≡ true) → x ≡ not l
+      → (stone_at i && (other_at (i + 1) && not (s && x)))
+      ≡ captures_onto player p i (if l then Some (i + 1) else None)
+  forth-test i s x true h e = ap (λ z. stone_at i && (other_at (i + 1) && not (s && z))) e
+      ∙ go (stone_at i) (other_at (i + 1)) s
+    where
+      go : (o t s : Bool) → (o && (t && not (s && false))) ≡ (o && t)
+      go o true true = refl
+      go o true false = refl
+      go true false s = refl
+      go false false s = refl
+  forth-test i s x false h e = ap (λ z. stone_at i && (other_at (i + 1) && not (s && z))) e
+      ∙ go (stone_at i) (other_at (i + 1)) h
+    where
+      go : (o t : Bool) → (t ≡ true → s ≡ true) → (o && (t && not (s && true))) ≡ false
+      go true true k = ap (λ z. not (z && true)) (k refl)
+      go true false k = refl
+      go false t k = refl
+
+  pub forth_marks : (stones others moved first : ℕ) → 0 < p.columns → others < 2 ^ 64 → first < 2 ^ 64
+      → Marks stones stone_at → Marks others other_at
+      → Marks first (λ i. nat_lt i (length p.cells) && (i % p.columns == 0))
+      → ((i : ℕ) → bit_at moved i ≡ bit_at (bit_and others (18446744073709551615 - first)) (i + 1))
+      → Marks (bit_and stones moved) (captures_that_way player p Forth)
+  forth_marks stones others moved first some fits under are opposing column rest =
+      let inner = marks_without others first other_at (λ i. nat_lt i (length p.cells) && (i % p.columns == 0)) opposing column fits under in
+      marks_same (bit_and stones moved)
+      (λ i. stone_at i && (other_at (i + 1) && not (nat_lt (i + 1) (length p.cells) && ((i + 1) % p.columns == 0))))
+      (captures_that_way player p Forth)
+      (λ i. forth-test i (nat_lt (i + 1) (length p.cells)) ((i + 1) % p.columns == 0) (nat_lt (i % p.columns + 1) p.columns)
+      (λ e. lt-ltb (i + 1) (length p.cells) (stone-inside p.cells (i + 1) (other player) (other-some player) e))
+      (row_end p.columns i (omega (arith, some))))
+      (marks_both stones moved stone_at
+      (λ i. other_at (i + 1) && not (nat_lt (i + 1) (length p.cells) && ((i + 1) % p.columns == 0))) are
+      (λ i. rest i ∙ inner (i + 1)))
+
+-- ---- what is taken in by a bit of a word
+
+module _ (player : Player) (p : Grid) (way : Way) (word i : ℕ) (are : Marks word (captures_that_way player p way)) where
+  pub bit-captures : (j : ℕ) → (bit_at word i ≡ 0 → ⊥) → next_cell way p i ≡ Some j
+      → captures_onto player p i (Some j) ≡ true
+  bit-captures j some is = ap (captures_onto player p i) (sym is) ∙ go (captures_that_way player p way i) refl
+    where
+      go : (b : Bool) → captures_that_way player p way i ≡ b → captures_that_way player p way i ≡ true
+      go true e = e
+      go false e = absurd (some (are i ∙ ap (λ t. if t then 1 else 0) e))
+
+  nothing : (o : Option ℕ) → captures_onto player p i o ≡ false → moves_onto player p i o ≡ []
+  nothing None e = refl
+  nothing (Some j) e = ap (λ b. if b then with_capture player p i j ∷ [] else []) e
+
+  pub no-capture : (old : List (List ℕ)) → bit_at word i ≡ 0 → old ≡ with_all old (moves_that_way player p i way)
+  no-capture old none = ap (with_all old) (sym (nothing (next_cell way p i) (go (captures_that_way player p way i) refl)))
+    where
+      go : (b : Bool) → captures_that_way player p way i ≡ b → captures_that_way player p way i ≡ false
+      go true e = absurd (let one : bit_at word i ≡ 1 = are i ∙ ap (λ t. if t then 1 else 0) e in omega arith)
+      go false e = e
+
+-- the four ways, one after the other
+pub four_taken : (player : Player) (p : Grid) (i : ℕ) (old a b c d : List (List ℕ))
+    → a ≡ with_all old (moves_that_way player p i Up) → b ≡ with_all a (moves_that_way player p i Down)
+    → c ≡ with_all b (moves_that_way player p i Back) → d ≡ with_all c (moves_that_way player p i Forth)
+    → d ≡ with_all old (moves_at player p i)
+four_taken player p i old a b c d ea eb ec ed =
+    let u = moves_that_way player p i Up in
+    let v = moves_that_way player p i Down in
+    let w = moves_that_way player p i Back in
+    let x = moves_that_way player p i Forth in
+    ed ∙ ap (λ z. with_all z x) ec ∙ sym (fold-append with_one b w x) ∙ ap (λ z. with_all z (w ++ x)) eb
+    ∙ sym (fold-append with_one a v (w ++ x)) ∙ ap (λ z. with_all z (v ++ (w ++ x))) ea
+    ∙ sym (fold-append with_one old u (v ++ (w ++ x)))
+    ∙ ap (λ z. with_all old (u ++ (v ++ (w ++ z)))) (sym (append-nil x))

@@ -1,0 +1,23 @@
+use Rattle.std.proofs.Common.{ℕ, ◌+◌, ◌-◌, ◌==◌, ◌∙◌, ap, arith, subst}
+use Rattle.std.specs.Prelude.{slice_index}
+use Rattle.std.specs.Int.{bit_at}
+use Rattle.cg_moves.specs.Words.{Marks}
+use Rattle.cg_clobber.proofs.CaptureMarks.{bit_and-below, has-other, has-stone, down_marks, wide}
+use Rattle.cg_clobber.proofs.capturing.captures_down.Goals as goal
+
+pub places-stones-requires : goal.places-stones-requires
+places-stones-requires c =
+    has-stone c.args.player c.args.board.now c.own-stone.result c.requires c.own-stone.ensures
+
+pub places-others-requires : goal.places-others-requires
+places-others-requires c =
+    has-other c.args.player c.args.board.now c.other-opposing.result c.requires c.other-opposing.ensures
+
+pub returns : goal.returns
+returns c =
+    let P : ℕ → Type 0 = λ s. Marks c.places-stones.result (λ i. slice_index c.args.board.now.cells i == s) in
+    let Q : ℕ → Type 0 = λ s. Marks c.places-others.result (λ i. slice_index c.args.board.now.cells i == s) in
+    let col = c.columns-columns.ensures.value in
+    down_marks c.args.player c.args.board.now c.places-stones.result c.places-others.result c.moved_back-moved.result
+    (subst P c.own-stone.ensures c.places-stones.ensures.places) (subst Q c.other-opposing.ensures c.places-others.ensures.places)
+    (λ i. c.moved_back-moved.ensures i ∙ ap (λ n. bit_at c.places-others.result (i + n)) col)

@@ -1,0 +1,292 @@
+-- Words by their bits.
+use Rattle.std.proofs.Common.{◌≡◌, ◌≢◌, refl, Bool, true, false, not, ◌&&◌, ◌||◌, ℕ, zero, suc, ◌+◌, ◌-◌, ◌*◌, ◌/◌, ◌%◌, ◌^◌, ◌<◌, ◌≤◌, ◌==◌, ◌⊎◌, inl, inr, if◌then◌else◌, ap, sym, ◌∙◌, arith, bit_and, bit_or, max, min, nat_lt, w64}
+use Rattle.std.specs.Int.{bit_at}
+use Rattle.std.proofs.lemmas.Bool.Decides.{eqb_tells, leb_tells}
+use Rattle.std.proofs.Math.Nat.{lt_of_mul-lt-mul_right, mod-eq_of_lt, mod-lt, mod_self, mul-mod_left, mul_comm, suc-mod}
+use Rattle.std.proofs.lemmas.Bool.{eq-eqb, le-ltb, lt-ltb}
+use Rattle.std.proofs.lemmas.Nat.{pow_pos, shr-shr}
+use Rattle.std.proofs.lemmas.Nat.Bits.{bit_at-lt, bit_at-zero, bit_at_above, bit_at_and, bit_at_cat_high, bit_at_cat_low, bit_at_clear_other, bit_at_clear_same, bit_at_not, bit_at_ones, bit_at_ones_above, bit_at_or, bit_at_set_other, bit_at_set_same, ones_shr}
+use Rattle.cg_moves.specs.Words.{IsWithBit, Marks}
+
+-- what a word is with a bit, where it has that bit at the place and its own elsewhere
+with_bit : (word new place bit i : ℕ) → bit_at new place ≡ bit → (i ≢ place → bit_at new i ≡ bit_at word i)
+    → bit_at new i ≡ (if i == place then bit else bit_at word i)
+with_bit word new place bit i here others = elim (eqb_tells i place) [
+  | inl h ↦ ap (bit_at new) h.1 ∙ here ∙ ap (λ b. if b then bit else bit_at word i) (sym h.0)
+  | inr h ↦ others h.1 ∙ ap (λ b. if b then bit else bit_at word i) (sym h.0)
+]
+
+-- the word `word & !(1 << place)`
+abbrev pub cleared : ℕ → ℕ → ℕ
+cleared word place = bit_and word (18446744073709551615 - 1 * 2 ^ place % 18446744073709551616)
+
+-- the word `word | 1 << place`
+abbrev pub raised : ℕ → ℕ → ℕ
+raised word place = bit_or word (1 * 2 ^ place % 18446744073709551616)
+
+pub bit_cleared : (word place bit : ℕ) → word < 2 ^ 64 → place < 64 → bit ≡ 0
+    → IsWithBit word (cleared word place) place bit
+bit_cleared word place bit fits within e i =
+    with_bit word (cleared word place) place bit i (bit_at_clear_same w64 word place within ∙ sym e) others
+  where
+    others : i ≢ place → bit_at (cleared word place) i ≡ bit_at word i
+    others n = elim (leb_tells 64 i) [
+      | inl h ↦ (let none = bit_at_above word 64 i fits h.1 in
+          let both = bit_at_and word (18446744073709551615 - 1 * 2 ^ place % 18446744073709551616) i in
+          omega arith)
+      | inr h ↦ bit_at_clear_other w64 word place within i h.1 n
+    ]
+
+pub bit_raised : (word place bit : ℕ) → place < 64 → bit ≡ 1 → IsWithBit word (raised word place) place bit
+bit_raised word place bit within e i =
+    with_bit word (raised word place) place bit i (bit_at_set_same w64 word place within ∙ sym e)
+    (bit_at_set_other w64 word place within i)
+
+-- ---- words by tests of their places
+
+abbrev one : Bool → ℕ
+one t = if t then 1 else 0
+
+both : (s t : Bool) → min (if s then 1 else 0) (if t then 1 else 0) ≡ (if s && t then 1 else 0)
+both true true = refl
+both true false = refl
+both false true = refl
+both false false = refl
+
+either : (s t : Bool) → max (if s then 1 else 0) (if t then 1 else 0) ≡ (if s || t then 1 else 0)
+either true true = refl
+either true false = refl
+either false true = refl
+either false false = refl
+
+without : (s t : Bool) → min (if s then 1 else 0) (1 - (if t then 1 else 0)) ≡ (if s && not t then 1 else 0)
+without true true = refl
+without true false = refl
+without false true = refl
+without false false = refl
+
+module _ (a b : ℕ) (p q : ℕ → Bool) (are : Marks a p) (others : Marks b q) where
+  pub marks_both : Marks (bit_and a b) (λ i. p i && q i)
+  marks_both i = bit_at_and a b i ∙ ap (λ z. min z (bit_at b i)) (are i) ∙ ap (min (if p i then 1 else 0)) (others i)
+      ∙ both (p i) (q i)
+
+  pub marks_either : Marks (bit_or a b) (λ i. p i || q i)
+  marks_either i = bit_at_or a b i ∙ ap (λ z. max z (bit_at b i)) (are i) ∙ ap (max (if p i then 1 else 0)) (others i)
+      ∙ either (p i) (q i)
+
+  -- the word `a & !b`
+  pub marks_without : a < 2 ^ 64 → b < 2 ^ 64 → Marks (bit_and a (18446744073709551615 - b)) (λ i. p i && not (q i))
+  marks_without fits below i = elim (leb_tells 64 i) [
+    | inl h ↦ (let none : bit_at a i ≡ 0 = bit_at_above a 64 i fits h.1 in
+        let k = bit_at_and a (18446744073709551615 - b) i in
+        k ∙ ap (λ z. min z (bit_at (18446744073709551615 - b) i)) none ∙ least (bit_at (18446744073709551615 - b) i)
+        ∙ no (p i) (q i) (sym (are i) ∙ none))
+    | inr h ↦ bit_at_and a (18446744073709551615 - b) i ∙ ap (λ z. min z (bit_at (18446744073709551615 - b) i)) (are i)
+        ∙ ap (min (if p i then 1 else 0)) (bit_at_not w64 b i below h.1 ∙ ap (λ z. 1 - z) (others i))
+        ∙ without (p i) (q i)
+  ]
+    where
+      least : (n : ℕ) → min 0 n ≡ 0
+      least n = omega arith
+
+      no : (s t : Bool) → one s ≡ one false → one false ≡ one (s && not t)
+      no true t e = absurd (omega (arith, e))
+      no false t e = refl
+
+-- another test that passes at the same places
+pub marks_same : (a : ℕ) (p q : ℕ → Bool) → ((i : ℕ) → p i ≡ q i) → Marks a p → Marks a q
+marks_same a p q same are i = are i ∙ ap (λ t. if t then 1 else 0) (same i)
+
+-- ---- shifts
+
+low-bits : (n i : ℕ) → i < 64 → bit_at (n % 2 ^ 64) i ≡ bit_at n i
+low-bits n i l =
+    let e : n / 2 ^ 64 * 2 ^ 64 + n % 2 ^ 64 ≡ n = omega arith in
+    sym (bit_at_cat_low (n / 2 ^ 64) 64 (n % 2 ^ 64) i l) ∙ ap (λ z. bit_at z i) e
+
+pub shifted_on_first : (word by i : ℕ) → i < by → by < 64 → bit_at (word * 2 ^ by % 18446744073709551616) i ≡ 0
+shifted_on_first word by i l few =
+    let e : word * 2 ^ by + 0 ≡ word * 2 ^ by = omega arith in
+    low-bits (word * 2 ^ by) i (omega arith) ∙ ap (λ z. bit_at z i) (sym e) ∙ bit_at_cat_low word by 0 i l ∙ bit_at-zero i
+
+pub shifted_on : (word by i : ℕ) → by ≤ i → i < 64 → bit_at (word * 2 ^ by % 18446744073709551616) i ≡ bit_at word (i - by)
+shifted_on word by i l few =
+    let e : word * 2 ^ by + 0 ≡ word * 2 ^ by = omega arith in
+    low-bits (word * 2 ^ by) i few ∙ ap (λ z. bit_at z i) (sym e) ∙ bit_at_cat_high word by 0 i (pow_pos by) l
+
+pub shifted_back : (word by i : ℕ) → bit_at (word / 2 ^ by) i ≡ bit_at word (i + by)
+shifted_back word by i =
+    let e : by + i ≡ i + by = omega arith in
+    ap (λ z. z % 2) (shr-shr word by i) ∙ ap (bit_at word) e
+
+-- the tests after a shift
+pub marks_moved_on : (word by result : ℕ) (p : ℕ → Bool) → result < 2 ^ 64 → Marks word p
+    → ((i : ℕ) → i < by → bit_at result i ≡ 0)
+    → ((i : ℕ) → by ≤ i → i < 64 → bit_at result i ≡ bit_at word (i - by))
+    → Marks result (λ i. nat_lt i 64 && (not (nat_lt i by) && p (i - by)))
+marks_moved_on word by result p fits are first others i = elim (leb_tells 64 i) [
+  | inl h ↦ bit_at_above result 64 i fits h.1
+      ∙ ap (λ t. if t && (not (nat_lt i by) && p (i - by)) then 1 else 0) (sym (le-ltb i 64 h.1))
+  | inr h ↦ elim (leb_tells (suc i) by) [
+    | inl k ↦ first i (omega (arith, k.1)) ∙ sym (inside h.1 true k.0)
+    | inr k ↦ others i (omega (arith, k.1)) h.1 ∙ are (i - by) ∙ sym (inside h.1 false k.0)
+  ]
+]
+  where
+    inside : i < 64 → (b : Bool) → nat_lt i by ≡ b
+        → one (nat_lt i 64 && (not (nat_lt i by) && p (i - by))) ≡ one (not b && p (i - by))
+    inside l b e = ap (λ t. one (t && (not (nat_lt i by) && p (i - by)))) (lt-ltb i 64 l)
+        ∙ ap (λ t. one (true && (not t && p (i - by)))) e
+
+-- ---- masks
+
+pub marks_all : (size : ℕ) → 1 ≤ size → size ≤ 64 → Marks (18446744073709551615 / 2 ^ (64 - size)) (λ i. nat_lt i size)
+marks_all size some few i =
+    let e : 64 - (64 - size) ≡ size = omega arith in
+    let ones : 18446744073709551615 / 2 ^ (64 - size) ≡ 2 ^ size - 1 = ones_shr 64 (64 - size) (omega arith)
+    ∙ ap (λ k. 2 ^ k - 1) e in
+    ap (λ z. bit_at z i) ones ∙ elim (leb_tells size i) [
+      | inl h ↦ bit_at_ones_above size i h.1 ∙ ap (λ t. if t then 1 else 0) (sym (le-ltb i size h.1))
+      | inr h ↦ bit_at_ones size i h.1 ∙ ap (λ t. if t then 1 else 0) (sym (lt-ltb i size h.1))
+    ]
+
+pub alike_not : (word bit i : ℕ) → word < 2 ^ 64 → bit ≡ 0 → i < 64
+    → bit_at (18446744073709551615 - word) i ≡ (if bit_at word i == bit then 1 else 0)
+alike_not word bit i fits e l =
+    let h = bit_at_not w64 word i fits l in
+    let k = bit_at-lt word i in
+    elim (eqb_tells (bit_at word i) bit) [
+      | inl s ↦ (let one : bit_at (18446744073709551615 - word) i ≡ 1 = omega (arith, s.1) in
+          one ∙ ap (λ t. if t then 1 else 0) (sym s.0))
+      | inr s ↦ (let none : bit_at (18446744073709551615 - word) i ≡ 0 = omega (arith, s.1) in
+          none ∙ ap (λ t. if t then 1 else 0) (sym s.0))
+    ]
+
+pub alike_itself : (word bit i : ℕ) → bit ≡ 1 → bit_at word i ≡ (if bit_at word i == bit then 1 else 0)
+alike_itself word bit i e =
+    let k = bit_at-lt word i in
+    elim (eqb_tells (bit_at word i) bit) [
+      | inl s ↦ (let one : bit_at word i ≡ 1 = omega (arith, s.1) in one ∙ ap (λ t. if t then 1 else 0) (sym s.0))
+      | inr s ↦ (let none : bit_at word i ≡ 0 = omega (arith, s.1) in none ∙ ap (λ t. if t then 1 else 0) (sym s.0))
+    ]
+
+-- ---- the places whose four bits are these
+
+abbrev alike : ℕ → ℕ → ℕ
+alike x y = if x == y then 1 else 0
+
+same-four : (a b c d p q r s : ℕ) → a < 2 → b < 2 → c < 2 → d < 2 → p < 2 → q < 2 → r < 2 → s < 2
+    → a + 2 * b + 4 * c + 8 * d ≡ p + 2 * q + 4 * r + 8 * s → (a ≡ p) × (b ≡ q) × (c ≡ r) × (d ≡ s)
+same-four a b c d p q r s la lb lc ld lp lq lr ls e = (omega arith, omega arith, omega arith, omega arith)
+
+-- all four are alike where the numbers of these bits are
+pub four_alike : (a b c d p q r s : ℕ) → a < 2 → b < 2 → c < 2 → d < 2 → p < 2 → q < 2 → r < 2 → s < 2
+    → min (min (alike a p) (alike b q)) (min (alike c r) (alike d s))
+    ≡ alike (a + 2 * b + 4 * c + 8 * d) (p + 2 * q + 4 * r + 8 * s)
+four_alike a b c d p q r s la lb lc ld lp lq lr ls = elim (eqb_tells (a + 2 * b + 4 * c + 8 * d) (p + 2 * q + 4 * r + 8 * s)) [
+  | inl h ↦ (let e = same-four a b c d p q r s la lb lc ld lp lq lr ls h.1 in
+      let x : alike a p ≡ 1 = ap one (eq-eqb a p e.0) in
+      let y : alike b q ≡ 1 = ap one (eq-eqb b q e.1) in
+      let z : alike c r ≡ 1 = ap one (eq-eqb c r e.2) in
+      let w : alike d s ≡ 1 = ap one (eq-eqb d s e.3) in
+      let all : min (min (alike a p) (alike b q)) (min (alike c r) (alike d s)) ≡ 1 = omega arith in
+      all ∙ ap one (sym h.0))
+  | inr h ↦ differ (eqb_tells a p) (eqb_tells b q) (eqb_tells c r) (eqb_tells d s) h.1 ∙ ap one (sym h.0)
+]
+  where
+    Tells : ℕ → ℕ → Type 0
+    Tells x y = (((x == y) ≡ true) × (x ≡ y)) ⊎ (((x == y) ≡ false) × (x ≢ y))
+
+    none : (x y : ℕ) → (x == y) ≡ false → alike x y ≡ 0
+    none x y e = ap (λ t. if t then 1 else 0) e
+
+    differ : Tells a p → Tells b q → Tells c r → Tells d s → a + 2 * b + 4 * c + 8 * d ≢ p + 2 * q + 4 * r + 8 * s
+        → min (min (alike a p) (alike b q)) (min (alike c r) (alike d s)) ≡ 0
+    differ (inr x) y z w n = let e = none a p x.0 in omega arith
+    differ (inl x) (inr y) z w n = let e = none b q y.0 in omega arith
+    differ (inl x) (inl y) (inr z) w n = let e = none c r z.0 in omega arith
+    differ (inl x) (inl y) (inl z) (inr w) n = let e = none d s w.0 in omega arith
+    differ (inl x) (inl y) (inl z) (inl w) n = absurd (n (omega (arith, x.1, y.1, z.1, w.1)))
+
+-- ---- the cells of the first column
+
+-- where a place of one row more is in the first column, it is its row's first
+row-first : (columns row i : ℕ) → i < (row + 1) * columns → i % columns ≡ 0 → row * columns ≤ i → i ≡ row * columns
+row-first columns row i below first least =
+    let q : ℕ = i / columns in
+    let split : q * columns ≡ i = (let s : columns * q + i % columns ≡ i = omega arith in let c = mul_comm columns q in omega arith) in
+    let few : q < row + 1 = lt_of_mul-lt-mul_right columns (omega arith) in
+    let next : (q + 1) * columns ≡ q * columns + columns = omega arith in
+    let many : row < q + 1 = lt_of_mul-lt-mul_right columns (let n = next in let b : 0 < columns = wide columns row i below least in omega arith) in
+    let e : q ≡ row = omega arith in
+    sym split ∙ ap (λ k. k * columns) e
+  where
+    wide : (columns row i : ℕ) → i < (row + 1) * columns → row * columns ≤ i → 0 < columns
+    wide zero row i b l = (let z : (row + 1) * 0 ≡ 0 = omega arith in omega arith)
+    wide (suc n) row i b l = omega arith
+
+-- a place of the first rows, and its column is the first
+abbrev in_first : ℕ → ℕ → ℕ → Bool
+in_first columns row i = nat_lt i (row * columns) && (i % columns == 0)
+
+pub marks_no_row : (columns : ℕ) → Marks 0 (in_first columns 0)
+marks_no_row columns i =
+    let z : 0 * columns ≡ 0 = omega arith in
+    bit_at-zero i ∙ ap (λ t. if t && (i % columns == 0) then 1 else 0) (sym (le-ltb i (0 * columns) (omega arith)))
+
+-- one row more
+pub marks_row : (columns row word new : ℕ) → 1 ≤ columns → Marks word (in_first columns row)
+    → IsWithBit word new (row * columns) 1 → Marks new (in_first columns (row + 1))
+marks_row columns row word new some are put i = put i ∙ elim (eqb_tells i (row * columns)) [
+  | inl h ↦ (let below : i < (row + 1) * columns = (let n : (row + 1) * columns ≡ row * columns + columns = omega arith in omega (arith, h.1)) in
+      let first : i % columns ≡ 0 = ap (λ k. k % columns) h.1 ∙ mul-mod_left row columns in
+      let t : in_first columns (row + 1) i ≡ true = both_true (nat_lt i ((row + 1) * columns)) (i % columns == 0) (lt-ltb i ((row + 1) * columns) below) (eq-eqb (i % columns) 0 first) in
+      ap (λ t. if t then 1 else bit_at word i) h.0 ∙ ap (λ t. if t then 1 else 0) (sym t))
+  | inr h ↦ ap (λ t. if t then 1 else bit_at word i) h.0 ∙ are i
+      ∙ ap (λ t. if t then 1 else 0) (elsewhere h.1)
+]
+  where
+    both_true : (s t : Bool) → s ≡ true → t ≡ true → (s && t) ≡ true
+    both_true s t e f = ap (λ z. z && t) e ∙ f
+
+    and_false : (t : Bool) → (t && false) ≡ false
+    and_false true = refl
+    and_false false = refl
+
+    elsewhere : i ≢ row * columns → in_first columns row i ≡ in_first columns (row + 1) i
+    elsewhere other =
+        let n : (row + 1) * columns ≡ row * columns + columns = omega arith in
+        elim (leb_tells (suc i) (row * columns)) [
+          | inl h ↦ ap (λ t. t && (i % columns == 0)) (h.0 ∙ sym (lt-ltb i ((row + 1) * columns) (omega (arith, h.1))))
+          | inr h ↦ elim (eqb_tells (i % columns) 0) [
+            | inl f ↦ elim (leb_tells (suc i) ((row + 1) * columns)) [
+              | inl b ↦ absurd (other (row-first columns row i (omega (arith, b.1)) f.1 (omega (arith, h.1))))
+              | inr b ↦ ap (λ t. t && (i % columns == 0)) (h.0 ∙ sym b.0)
+            ]
+            | inr f ↦ ap (λ t. nat_lt i (row * columns) && t) f.0 ∙ and_false (nat_lt i (row * columns))
+                ∙ sym (ap (λ t. nat_lt i ((row + 1) * columns) && t) f.0 ∙ and_false (nat_lt i ((row + 1) * columns)))
+          ]
+        ]
+
+-- the next place isn't in the first column where this one isn't in the last
+pub row_end : (columns i : ℕ) → 1 ≤ columns → ((i + 1) % columns == 0) ≡ not (nat_lt (i % columns + 1) columns)
+row_end columns i some =
+    let step : (i + 1) % columns ≡ (i % columns + 1) % columns = (let a : i + 1 ≡ suc i = omega arith in
+    let b : suc (i % columns) ≡ i % columns + 1 = omega arith in
+    ap (λ z. z % columns) a ∙ suc-mod i columns ∙ ap (λ z. z % columns) b) in
+    elim (leb_tells (suc (i % columns + 1)) columns) [
+      | inl h ↦ (let below : i % columns + 1 < columns = omega (arith, h.1) in
+          let stays : (i % columns + 1) % columns ≡ i % columns + 1 = mod-eq_of_lt below in
+          let other : (i + 1) % columns ≢ 0 = (let e = step ∙ stays in omega arith) in
+          not_zero ((i + 1) % columns) other ∙ sym (ap not h.0))
+      | inr h ↦ (let low = mod-lt i (positive columns some) in
+          let last : i % columns + 1 ≡ columns = omega (arith, h.1, low) in
+          let first : (i + 1) % columns ≡ 0 = step ∙ ap (λ z. z % columns) last ∙ mod_self columns in
+          eq-eqb ((i + 1) % columns) 0 first ∙ sym (ap not h.0))
+    ]
+  where
+    positive : (n : ℕ) → 1 ≤ n → 0 < n
+    positive n h = omega arith
+
+    not_zero : (n : ℕ) → n ≢ 0 → (n == 0) ≡ false
+    not_zero n h = elim (eqb_tells n 0) [ inl e ↦ absurd (h e.1) | inr e ↦ e.0 ]
