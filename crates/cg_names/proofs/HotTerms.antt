@@ -11,13 +11,14 @@ use Rattle.cg_dyadic.proofs.Sums.{doubled-zero}
 use Rattle.cg_form.specs.Game.{Game}
 use Rattle.cg_form.specs.Order.{Equal}
 use Rattle.cg_form.proofs.Preorder.{equal_refl}
+use Rattle.cg_syntax.specs.declared.format.Format.TheVariants as formats
 use Rattle.cg_syntax.specs.Grammar as grammar
 use Rattle.cg_syntax.specs.Grammar.{special}
 use Rattle.cg_syntax.specs.Tree.{switch, tiny}
 use Rattle.cg_syntax.proofs.WrittenSpecials.{first_special, second_special}
 use Rattle.cg_syntax.proofs.WrittenTerms.{special_is}
 use Rattle.cg_syntax.proofs.WrittenTokens.{enclosed_is}
-use Rattle.cg_syntax.specs.Values.{clean}
+use Rattle.cg_syntax.specs.Values.{In_none, clean}
 use Rattle.cg_names.specs.Meaning.{fraction, meaning, or_zero}
 use Rattle.cg_names.specs.Named.{switch_form, tiny_form, zero_number}
 use Rattle.cg_names.specs.Signs.{Fits, sign_text, tiny_word}
@@ -49,7 +50,7 @@ above_means : (x : Number) → ¬ NumberLe x zero_number → or_zero (fraction f
 above_means x p = ap or_zero (number_means x false (sym (above_size x p)))
 
 switch_special : (k i n e : ℕ) → n < 10 ^ 30 → 2 ^ e < 10 ^ 30
-    → grammar.special k i (clean (switch n (2 ^ e))) (codes "+-" ++ size_text n e)
+    → grammar.special formats.One k i (clean (switch n (2 ^ e)), In_none) (codes "+-" ++ size_text n e)
 switch_special k i n e l r = first_special k i (switch n (2 ^ e)) (codes "+-" ++ size_text n e) piece
   where
     piece : grammar.switch_piece i (clean (switch n (2 ^ e))) (codes "+-" ++ size_text n e)
@@ -79,13 +80,13 @@ switch-reads k x g r p e =
     let Q : Game → Type 0 = λ h. Equal h g in
     subst P (sym (above_text x p)) (record {
       tree = switch (size_of x) (2 ^ exp_of x);
-      is = λ i. special_is (grammar.special k) i _ _ (switch_special k i (size_of x) (exp_of x) (few_digits x r) (few_below (exp_of x) r.short));
+      is = λ i. special_is (grammar.special formats.One k) i _ _ (switch_special k i (size_of x) (exp_of x) (few_digits x r) (few_below (exp_of x) r.short));
       means = λ forms. subst Q (e ∙ sym (ap switch_form (above_means x p))) (equal_refl g);
       other = refl;
     })
 
 tiny_special : (k i : ℕ) (miny : Bool) (n e : ℕ) → n < 10 ^ 30 → 2 ^ e < 10 ^ 30
-    → grammar.special k i (clean (tiny miny n (2 ^ e))) (tiny_word miny ++ (size_text n e ++ codes ")"))
+    → grammar.special formats.One k i (clean (tiny miny n (2 ^ e)), In_none) (tiny_word miny ++ (size_text n e ++ codes ")"))
 tiny_special k i miny n e l r =
     second_special k i (tiny miny n (2 ^ e)) (tiny_word miny ++ (size_text n e ++ codes ")")) (piece miny)
   where
@@ -124,7 +125,7 @@ tiny-reads k miny x g r p e =
     let Q : Game → Type 0 = λ h. Equal h g in
     subst P (sym (above_text x p)) (record {
       tree = tiny miny (size_of x) (2 ^ exp_of x);
-      is = λ i. special_is (grammar.special k) i _ _ (tiny_special k i miny (size_of x) (exp_of x) (few_digits x r) (few_below (exp_of x) r.short));
+      is = λ i. special_is (grammar.special formats.One k) i _ _ (tiny_special k i miny (size_of x) (exp_of x) (few_digits x r) (few_below (exp_of x) r.short));
       means = λ forms. subst Q (e ∙ sym (ap (tiny_form miny) (above_means x p))) (equal_refl g);
       other = word_other miny;
     })

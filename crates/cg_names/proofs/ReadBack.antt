@@ -11,6 +11,7 @@ use Rattle.cg_reading.specs.Pieces.{Made, Many, Piece, Then, One}
 use Rattle.cg_reading.specs.Tokens.{behind_blanks}
 use Rattle.cg_syntax.specs.Braces.{Run_side, part_of, side_fault, side_trees}
 use Rattle.cg_syntax.specs.Found.{Found}
+use Rattle.cg_syntax.specs.declared.format.Format.TheVariants as formats
 use Rattle.cg_syntax.specs.Grammar as grammar
 use Rattle.cg_syntax.specs.Grammar.{bar, comma, special}
 use Rattle.cg_syntax.specs.Tree.{Tree, Trees, no_trees, trees_from, with_tree}
@@ -40,7 +41,7 @@ AllMean (t ∷ ts) none = ⊥
 AllMean (t ∷ ts) (more g gs) = ((forms : PositionForms) → Equal (meaning forms t) g) × AllMean ts gs
 
 abbrev next_expr : ℕ → Piece Found
-next_expr k = behind_blanks (Made (λ v. v.1) (Then (One comma) (behind_blanks (grammar.expr (grammar.special k)))))
+next_expr k = behind_blanks (Made (λ v. v.1) (Then (One comma) (behind_blanks (grammar.expr (grammar.special formats.One k)))))
 
 -- names behind commas
 record Further (k : ℕ) (gs : Games) (text : List ℕ) : Type 0 where
@@ -51,22 +52,22 @@ record Further (k : ℕ) (gs : Games) (text : List ℕ) : Type 0 where
 -- names as one side of a brace
 record Sided (k : ℕ) (gs : Games) (text : List ℕ) : Type 0 where
   trees : List Tree
-  are : (i : ℕ) → grammar.side (grammar.expr (grammar.special k)) i (map clean trees) text
+  are : (i : ℕ) → grammar.side (grammar.expr (grammar.special formats.One k)) i (map clean trees) text
   mean : AllMean trees gs
   other : (text ≡ []) ⊎ OtherThanBar text
 
-next_is : (k i : ℕ) (t : Tree) (text : List ℕ) → ((j : ℕ) → grammar.term (grammar.special k) j (clean t) text)
+next_is : (k i : ℕ) (t : Tree) (text : List ℕ) → ((j : ℕ) → grammar.term (grammar.special formats.One k) j (clean t) text)
     → next_expr k i (clean t) (44 ∷ text)
 next_is k i t text m =
-    behind_none (Made (λ v. v.1) (Then (One comma) (behind_blanks (grammar.expr (grammar.special k))))) i (clean t) (44 ∷ text)
+    behind_none (Made (λ v. v.1) (Then (One comma) (behind_blanks (grammar.expr (grammar.special formats.One k))))) i (clean t) (44 ∷ text)
     (record {
       made_of = (44, clean t);
       is = record {
         before = 44 ∷ [];
         behind = text;
         first = record { within = refl; spelled = refl };
-        second = behind_none (grammar.expr (grammar.special k)) (i + 0 + 1) (clean t) text
-            (expr_is (grammar.special k) (i + 0 + 1 + 0) t text (m (i + 0 + 1 + 0)));
+        second = behind_none (grammar.expr (grammar.special formats.One k)) (i + 0 + 1) (clean t) text
+            (expr_is (grammar.special formats.One k) (i + 0 + 1 + 0) t text (m (i + 0 + 1 + 0)));
         spelled = refl;
       };
       same = refl;
@@ -131,7 +132,7 @@ sided_more k g gs name rest r f = record {
             is = record {
               before = name;
               behind = rest;
-              first = expr_is (grammar.special k) (i + 0) r.tree name (r.is (i + 0));
+              first = expr_is (grammar.special formats.One k) (i + 0) r.tree name (r.is (i + 0));
               second = f.are (i + 0 + length name);
               spelled = refl;
             };
@@ -173,10 +174,10 @@ no_bar text (inl e) = let P : List ℕ → Type 0 = λ z. Ends bar (z ++ []) in 
 no_bar text (inr o) = other_ends text [] o
 
 braces_are : (k i : ℕ) (ls rs : List Tree) (left right : List ℕ)
-    → ((j : ℕ) → grammar.side (grammar.expr (grammar.special k)) j (map clean ls) left)
-    → ((j : ℕ) → grammar.side (grammar.expr (grammar.special k)) j (map clean rs) right)
+    → ((j : ℕ) → grammar.side (grammar.expr (grammar.special formats.One k)) j (map clean ls) left)
+    → ((j : ℕ) → grammar.side (grammar.expr (grammar.special formats.One k)) j (map clean rs) right)
     → (right ≡ []) ⊎ OtherThanBar right
-    → grammar.braces (grammar.side (grammar.expr (grammar.special k))) i (clean (trees.braces ls rs)) (braces_name left right)
+    → grammar.braces (grammar.side (grammar.expr (grammar.special formats.One k))) i (clean (trees.braces ls rs)) (braces_name left right)
 unfolding one_run
 braces_are k i ls rs left right l r o =
     let column : ℕ = i + 1 + length left in
@@ -263,7 +264,7 @@ braces-read : (k : ℕ) (ls rs : Games) (left right : List ℕ) → Sided k ls l
     → Reading (suc k) (options ls rs) (braces_name left right)
 braces-read k ls rs left right l r = record {
   tree = trees.braces l.trees r.trees;
-  is = λ i. special_is (grammar.special (suc k)) i (trees.braces l.trees r.trees) (braces_name left right) (braces_special k i _ _
+  is = λ i. special_is (grammar.special formats.One (suc k)) i (trees.braces l.trees r.trees) (braces_name left right) (braces_special k i _ _
       (braces_are k i l.trees r.trees left right l.are r.are r.other));
   means = λ forms. braces_mean forms l.trees r.trees ls rs l.mean r.mean;
   other = refl;
@@ -320,6 +321,6 @@ reads-as g c r l =
     let n = name-reads 64 g l r in
     record {
       tree = n.tree;
-      is_expr = λ i. expr_is (grammar.special 64) i n.tree (name_of g) (n.is i);
+      is_expr = λ i. expr_is (grammar.special formats.One 64) i n.tree (name_of g) (n.is i);
       means = λ forms. record { canonical = c; equal = equal_back (meaning forms n.tree) g (n.means forms) };
     }

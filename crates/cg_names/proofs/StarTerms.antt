@@ -7,6 +7,7 @@ use Rattle.cg_form.specs.Game as tree
 use Rattle.cg_form.specs.Order.{Equal}
 use Rattle.cg_form.specs.Sum.{sum}
 use Rattle.cg_form.proofs.Preorder.{equal_refl, equal_trans, equal_back}
+use Rattle.cg_syntax.specs.declared.format.Format.TheVariants as formats
 use Rattle.cg_syntax.specs.Grammar as grammar
 use Rattle.cg_syntax.specs.Grammar.{special}
 use Rattle.cg_syntax.specs.Tree.{Tree, nimber, ups}
@@ -38,7 +39,7 @@ star-reads k x n g r l e = elim (zero_or_not x) [
       let Q : Game → Type 0 = λ h. Equal (sum h (nimber_form n)) g in
       subst P (sym (base_there x z)) (record {
         tree = joined (number_tree x) (None, Some (nimber n));
-        is = λ i. number_term (grammar.special k) i x (None, Some (nimber n)) (star_text n) r (nim_tail n l);
+        is = λ i. number_term (grammar.special formats.One k) i x (None, Some (nimber n)) (star_text n) r (nim_tail n l);
         means = λ forms. subst Q (sym (tree-number forms x)) (equal_back g (sum (tree.number x) (nimber_form n)) e);
         other = other_append (number_text x) (star_text n) (number_other x r);
       })
@@ -70,7 +71,7 @@ alone_means forms down false n = refl
 alone_means forms down true n = refl
 
 alone_is : (k i : ℕ) (down starred : Bool) (n : ℕ) → 1 ≤ n → n < 10 ^ 30
-    → grammar.term (grammar.special k) i (clean (alone_tree down starred n))
+    → grammar.term (grammar.special formats.One k) i (clean (alone_tree down starred n))
     (arrows_text (arrow_of down) n ++ starred_text starred)
 unfolding alone_tree
 alone_is k i down starred n s l = inr (inr (inl (record {
@@ -119,7 +120,7 @@ arrows-read k down starred x n g r s l e =
           let t : Tree = joined (number_tree x) (Some (ups down n), starred_tree starred) in
           subst P (sym (base_there x z)) (record {
             tree = t;
-            is = λ i. number_term (grammar.special k) i x (Some (ups down n), starred_tree starred) text r
+            is = λ i. number_term (grammar.special formats.One k) i x (Some (ups down n), starred_tree starred) text r
                 (arrows_tail down starred n s l);
             means = λ forms. equal_trans (meaning forms t) (sum (tree.number x) C) g (behind_means forms x down starred n)
                 (equal_trans (sum (tree.number x) C) (sum (tree.number x) U) g

@@ -16,12 +16,13 @@ use Rattle.cg_form.proofs.Preorder.{equal_refl, equal_trans}
 use Rattle.cg_reading.specs.Bytes.{Ends}
 use Rattle.cg_reading.specs.Pieces.{Piece}
 use Rattle.cg_syntax.specs.Found.{Found}
+use Rattle.cg_syntax.specs.declared.format.Format.TheVariants as formats
 use Rattle.cg_syntax.specs.Grammar as grammar
 use Rattle.cg_syntax.specs.Grammar.{special}
 use Rattle.cg_syntax.specs.Tree.{Tree, nimber, number, ups}
 use Rattle.cg_syntax.proofs.WrittenTerms.{no_tail_is}
 use Rattle.cg_syntax.proofs.WrittenTokens.{arrow_of}
-use Rattle.cg_syntax.specs.Values.{clean, some_term, together, whole}
+use Rattle.cg_syntax.specs.Values.{Last, clean, some_term, together, whole}
 use Rattle.cg_nodes.specs.CanForms.{is_same-back}
 use Rattle.cg_nodes.specs.Spelled.{is_same}
 use Rattle.cg_names.specs.Meaning.{PositionForms, fraction, meaning, or_zero}
@@ -34,7 +35,7 @@ use Rattle.cg_names.proofs.Tokens.{OtherThanBar, decimal_other, nim_is, number_i
 -- a name as a term with so many braces open at most: what it reads as, and that this means the game
 pub record Reading (k : ℕ) (g : Game) (text : List ℕ) : Type 0 where
   pub tree : Tree
-  pub is : (i : ℕ) → grammar.term (grammar.special k) i (clean tree) text
+  pub is : (i : ℕ) → grammar.term (grammar.special formats.One k) i (clean tree) text
   pub means : (forms : PositionForms) → Equal (meaning forms tree) g
   pub other : OtherThanBar text
 
@@ -85,7 +86,7 @@ pub none_ends : (bytes : List ℕ) → Ends [] bytes
 none_ends [] = tt
 none_ends (b ∷ bytes) = refl
 
-module _ (special : Piece Found) where
+module _ (special : Piece (Found × Last)) where
   pub counted_is : (i : ℕ) (below : Bool) (n e : ℕ) (v : Tail) (rest : List ℕ) → n < 10 ^ 30 → 2 ^ e < 10 ^ 30
       → ((j : ℕ) → grammar.tail j v rest)
       → grammar.counted_tail special below i (clean (joined (number below n (2 ^ e)) v)) (size_text n e ++ rest)
@@ -168,7 +169,7 @@ arrows_tail down starred n s l j = record {
 
 -- ---- names with signs
 
-pub plain_number : (special : Piece Found) (i : ℕ) (x : Number) → InRange x
+pub plain_number : (special : Piece (Found × Last)) (i : ℕ) (x : Number) → InRange x
     → grammar.term special i (clean (number_tree x)) (number_text x)
 plain_number special i x r =
     let P : List ℕ → Type 0 = λ z. grammar.term special i (clean (number_tree x)) z in
@@ -184,7 +185,7 @@ number_other x r = signed_other (num_of x) _ (few_digits x r)
 pub number-reads : (k : ℕ) (x : Number) → InRange x → Reading k (tree.number x) (number_text x)
 number-reads k x r = record {
   tree = number_tree x;
-  is = λ i. plain_number (grammar.special k) i x r;
+  is = λ i. plain_number (grammar.special formats.One k) i x r;
   means = λ forms. let P : Game → Type 0 = λ z. Equal z (tree.number x) in
       subst P (sym (tree-number forms x)) (equal_refl (tree.number x));
   other = number_other x r;

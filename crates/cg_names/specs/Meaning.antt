@@ -8,7 +8,7 @@ use Rattle.cg_form.specs.Sum.{negative as minus, sum as plus}
 use Rattle.cg_form.specs.Multiple.{multiple as many}
 use Rattle.cg_names.specs.Named.{nimber_form, ups_form, switch_form, tiny_form}
 use Rattle.cg_syntax.specs.declared.kind.GameKind.{GameKind}
-use Rattle.cg_syntax.specs.Tree.{Tree, Trees, Terms, number, ups, nimber, switch, tiny, sides, negative, multiple, sum, game, octal, no_trees, with_tree, no_terms, with_term}
+use Rattle.cg_syntax.specs.Tree.{Tree, Trees, Terms, number, ups, nimber, switch, tiny, sides, negative, multiple, sum, game, octal, used, no_trees, with_tree, no_terms, with_term}
 
 -- the exponent k of 2 ^ k, if the number is such a power with k at most n
 unfoldable pub exponent_within : ℕ → ℕ → Option ℕ
@@ -46,7 +46,8 @@ pub record PositionForms : Type 0 where
   pub of_heap : List ℕ → ℕ → Game
 
 -- The meaning of an expression, where positions mean these games. A literal whose denominator is no power of two has no
--- meaning. It is refused before its meaning is asked for, and 0 stands for it here.
+-- meaning. It is refused before its meaning is asked for, and 0 stands for it here. Nor has a name: the expression that it
+-- is bound to stands in its place before a meaning is asked for.
 unfoldable mutual
   pub meaning : PositionForms → Tree → Game
   meaning forms (number below num den) = plain_number (or_zero (fraction below num den))
@@ -60,6 +61,7 @@ unfoldable mutual
   meaning forms (sum terms) = total forms terms
   meaning forms (game kind rules text) = forms.of_board kind rules text
   meaning forms (octal code heap) = forms.of_heap code heap
+  meaning forms (used word column) = plain_number (whole (pos 0))
 
   pub meanings : PositionForms → Trees → Games
   meanings forms no_trees = none

@@ -5,6 +5,7 @@ use Rattle.cg_form.specs.Game.{Game}
 use Rattle.cg_syntax.specs.Grammar.{expr, special}
 use Rattle.cg_syntax.specs.Tree.{Tree}
 use Rattle.cg_syntax.specs.Values.{clean}
+use Rattle.cg_syntax.specs.declared.format.Format.TheVariants as formats
 use Rattle.cg_names.specs.Meaning.{PositionForms, meaning}
 
 -- the braces that are open behind a byte before which n were open: `{` opens one, and `}` closes one
@@ -20,5 +21,5 @@ most_open n (b ∷ text) = max n (most_open (open_behind b n) text)
 -- positions mean
 pub record ReadsAs (g : Game) (text : List ℕ) : Type 0 where
   pub tree : Tree
-  pub is_expr : (column : ℕ) → expr (special 64) column (clean tree) text
+  pub is_expr : (column : ℕ) → expr (special formats.One 64) column (clean tree) text
   pub means : (forms : PositionForms) → IsCanonicalForm (meaning forms tree) g

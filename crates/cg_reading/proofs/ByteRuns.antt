@@ -3,7 +3,7 @@ use Rattle.std.proofs.Common.{◌≡◌, ℕ, zero, suc, ◌+◌, ◌-◌, ◌<�
 use Rattle.std.specs.List.{list_all}
 use Rattle.std.proofs.lemmas.Bool.{and_parts, and_from, eqb-true, eq-eqb}
 use Rattle.cg_reading.specs.Bytes.{Class, has, Ends, Begins}
-use Rattle.cg_reading.specs.Pieces.{Piece, One, Bytes, Run, Word, Placed}
+use Rattle.cg_reading.specs.Pieces.{Piece, One, Bytes, Few, Run, Word, Placed}
 use Rattle.cg_reading.specs.Readers.{Read, Reader, ◌>>=◌, one_at, taken, skipped, bytes_at, few_at, run_at, word_at, placed_at}
 use Rattle.std.specs.Prelude.{◌==◌}
 use Rattle.cg_reading.proofs.Laws.{kept, stuck, past, Agree, Alive, Lawful, Outcome, Some_text, Takes, left_made, made_agree, outcome_left, same_ok}
@@ -98,7 +98,7 @@ module _ (c : Class) where
       chosen true a = made_agree (λ v. b ∷ v) x q r (bytes_from c end (p ++ x ∷ q)) (bytes_from c last (p ++ x ∷ r)) a
       chosen false a = kept [] (b ∷ p) refl refl
 
-  all_begin : (bs : List ℕ) → list_all (has c) bs ≡ true → Begins c true bs
+  pub all_begin : (bs : List ℕ) → list_all (has c) bs ≡ true → Begins c true bs
   all_begin [] h = refl
   all_begin (b ∷ bs) h = (and_parts (has c b) (list_all (has c) bs) h).0
 
@@ -116,18 +116,12 @@ module _ (c : Class) where
 
 -- ---- one byte or more, up to a number of them
 
--- so many bytes at most
-record Few (c : Class) (most : ℕ) (i : ℕ) (bs : List ℕ) (text : List ℕ) : Type 0 where
-  within : list_all (has c) bs ≡ true
-  few : length bs ≤ most
-  spelled : text ≡ bs
-
 module _ (c : Class) where
-  few_more : (room b i : ℕ) (bytes : List ℕ) (x : Read (List ℕ)) → has c b ≡ true → Outcome (Few c room) i bytes x → Outcome (Few c (suc room)) i (b ∷ bytes) (x >>= λ v. Ok (b ∷ v.0, v.1))
+  pub few_more : (room b i : ℕ) (bytes : List ℕ) (x : Read (List ℕ)) → has c b ≡ true → Outcome (Few c room) i bytes x → Outcome (Few c (suc room)) i (b ∷ bytes) (x >>= λ v. Ok (b ∷ v.0, v.1))
   few_more room b i bytes (Ok v) h o = record { text = b ∷ o.text; is = record { within = and_from (has c b) (list_all (has c) v.0) h o.is.within; few = omega (arith, o.is.few); spelled = ap (λ (z : List ℕ). b ∷ z) o.is.spelled }; split = ap (λ (z : List ℕ). b ∷ z) o.split }
   few_more room b i bytes (Err m) h o = record { taken = b ∷ o.taken; rest = o.rest; more = o.more; value = b ∷ o.value; is = record { within = and_from (has c b) (list_all (has c) o.value) h o.is.within; few = omega (arith, o.is.few); spelled = ap (λ (z : List ℕ). b ∷ z) o.is.spelled }; split = ap (λ (z : List ℕ). b ∷ z) o.split; stuck = o.stuck }
 
-  few_none : (room i : ℕ) (bytes : List ℕ) → Takes (Few c room) i bytes [] bytes
+  pub few_none : (room i : ℕ) (bytes : List ℕ) → Takes (Few c room) i bytes [] bytes
   few_none room i bytes = record { text = []; is = record { within = refl; few = omega arith; spelled = refl }; split = refl }
 
   few_full : (room i : ℕ) (bytes : List ℕ) → Alive (Few c room) i bytes (length bytes)

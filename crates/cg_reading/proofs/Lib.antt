@@ -16,3 +16,5 @@ pub mod Words
 pub mod TurnLaws
 pub mod TurnsGathered
 pub mod Texts
+pub mod MostBytes
+pub mod Tellings

@@ -1,9 +1,9 @@
 -- Tokens that are as long as possible.
-use Rattle.std.proofs.Common.{◌≡◌, ℕ, ◌+◌, inl, inr, Bool, true, false, ◌&&◌, cond, List, [], ◌∷◌, ◌++◌, length, Ok, Err, refl, ap, sym, subst, ◌∙◌, append_assoc, append-nil, arith, length-append}
+use Rattle.std.proofs.Common.{◌≡◌, ℕ, ◌+◌, ◌-◌, inl, inr, Bool, true, false, ◌&&◌, cond, List, [], ◌∷◌, ◌++◌, length, Ok, Err, refl, ap, sym, subst, ◌∙◌, append_assoc, append-nil, arith, length-append}
 use Rattle.cg_reading.specs.Bytes.{Class, has, Ends, Begins}
-use Rattle.cg_reading.specs.Pieces.{Piece, Then, Or, Made, Nothing, Bytes, Longest}
-use Rattle.cg_reading.specs.Readers.{Read, Reader, ◌>>=◌, then_at, or_at, made_at, nothing_at, taken, skipped, bytes_at}
-use Rattle.cg_reading.proofs.ByteRuns.{bytes_lawful}
+use Rattle.cg_reading.specs.Pieces.{Piece, Then, Or, Made, Nothing, Bytes, Placed, Longest}
+use Rattle.cg_reading.specs.Readers.{Read, Reader, ◌>>=◌, then_at, or_at, made_at, nothing_at, placed_at, taken, skipped, bytes_at}
+use Rattle.cg_reading.proofs.ByteRuns.{bytes_lawful, placed_lawful}
 use Rattle.cg_reading.proofs.Laws.{Alive, Lawful, Outcome, Reads, Some_text, Takes, behind, made_agree, made_sound}
 use Rattle.cg_reading.proofs.Sets.{apart, apart_has, both_begin, ends_left, ends_right, inside, last_ends, next_ends, no_class, wider_begins, wider_ends}
 use Rattle.cg_reading.proofs.Steps.{nothing_lawful, or_agree, or_begins, or_sound, then_agree, then_sound}
@@ -48,6 +48,20 @@ nothing_token v K h =
 -- the same with a larger set behind it
 pub token_ok : {A : Type 0} {R : Piece A} {f : Reader A} {I : Class} {e : Bool} {F : Class} {K : A → Class} (C : Class) → Token R f I e F K → ((a : A) → inside (K a) C ≡ true) → Lawful R f I e (F ++ C)
 token_ok {A} {R} {f} {I} {e} {F} {K} C t b = record { reads = t.reads; again = λ end i a text rest is h n. t.again end i a text rest is (ends_left F C rest h) (wider_ends (K a) C rest (b a) (ends_right F C rest h)) n }
+
+-- the piece, with the column where it starts
+full_placed : {A : Type 0} (K : A → Class) (j : ℕ) (x : Read A) → Full K x → Full {A = ℕ × A} (λ v. K v.1) (x >>= λ v. Ok ((j, v.0), v.1))
+full_placed K j (Ok v) k = k
+full_placed K j (Err n) k = tt
+
+pub placed_token : {A : Type 0} {R : Piece A} {f : Reader A} {I : Class} {e : Bool} {F : Class} {K : A → Class} (C : Class) → ((a : A) → inside (K a) C ≡ true) → Token R f I e F K → Token (Placed R) (placed_at f) I e F (λ v. K v.1)
+placed_token {A} {R} {f} {I} {e} {F} {K} C b t = record {
+  reads = (placed_lawful R f I e (F ++ C) (token_ok C t b)).reads;
+  full = λ end bytes. full_placed K (end - length bytes) (f end bytes) (t.full end bytes);
+  again = λ end i v text rest is h k n.
+      let j : end - length (text ++ rest) ≡ v.0 = omega (arith, is.0) in
+      ap (λ z. z >>= λ x. Ok ((end - length (text ++ rest), x.0), x.1)) (t.again end i v.1 text rest is.1 h k n) ∙ ap (λ (k : ℕ). Ok ((k, v.1), rest)) j;
+}
 
 module _ {A B : Type 0} (h : A → B) (K : B → Class) (R : Piece A) (f : Reader A) (I : Class) (e : Bool) (F : Class) where
   full_made : (x : Read A) → Full (λ a. K (h a)) x → Full K (x >>= λ v. Ok (h v.0, v.1))

@@ -1,5 +1,5 @@
 -- Pieces of a grammar.
-use Rattle.std.specs.Prelude.{ℕ, ◌+◌, ◌≡◌, ◌≤◌, ◌<◌, true, List, [], ◌∷◌, ◌++◌, length, ◌⊎◌}
+use Rattle.std.specs.Prelude.{ℕ, zero, suc, ◌+◌, ◌≡◌, ◌≤◌, ◌<◌, Bool, true, List, [], ◌∷◌, ◌++◌, length, ◌⊎◌}
 use Rattle.std.specs.List.{list_all}
 use Rattle.cg_reading.specs.Bytes.{Class, has, Ends}
 
@@ -55,6 +55,18 @@ pub record Run (c : Class) (most : ℕ) (i : ℕ) (bs : List ℕ) (text : List �
   pub few : length bs ≤ most
   pub spelled : text ≡ bs
 
+-- so many bytes of a set at most
+pub record Few (c : Class) (most : ℕ) (i : ℕ) (bs : List ℕ) (text : List ℕ) : Type 0 where
+  pub within : list_all (has c) bs ≡ true
+  pub few : length bs ≤ most
+  pub spelled : text ≡ bs
+
+-- the bytes that would still belong to these bytes of a set, of which there are so many at most
+abbrev pub more_of : Class → ℕ → List ℕ → Class
+more_of c zero bs = []
+more_of c (suc most) [] = c
+more_of c (suc most) (b ∷ bs) = more_of c most bs
+
 -- this word, with this value
 abbrev pub Word : {A : Type 0} → List ℕ → A → Piece A
 Word w v i a text = (a ≡ v) × (text ≡ w)
@@ -70,4 +82,18 @@ pub record Longest {A B : Type 0} (goes_on : A → Class) (R : Piece A) (S : Pie
   pub first : R i v.0 before
   pub second : S (i + length before) v.1 behind
   pub ended : Ends (goes_on v.0) behind
+  pub spelled : text ≡ before ++ behind
+
+-- the piece, with a value of which the test holds
+pub record Such {A : Type 0} (test : A → Bool) (R : Piece A) (i : ℕ) (a : A) (text : List ℕ) : Type 0 where
+  pub is : R i a text
+  pub holds : test a ≡ true
+
+-- One piece, and then another one that the first one's value tells. Nothing is kept of the first.
+pub record Telling {A B : Type 0} (R : Piece A) (S : A → Piece B) (i : ℕ) (b : B) (text : List ℕ) : Type 0 where
+  pub told : A
+  pub before : List ℕ
+  pub behind : List ℕ
+  pub first : R i told before
+  pub second : S told (i + length before) b behind
   pub spelled : text ≡ before ++ behind

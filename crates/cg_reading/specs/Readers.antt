@@ -1,5 +1,5 @@
 -- Reading pieces of a grammar from the front of the bytes.
-use Rattle.std.specs.Prelude.{◌==◌, ℕ, zero, suc, ◌-◌, cond, List, [], ◌∷◌, ◌++◌, length, Result, Ok, Err}
+use Rattle.std.specs.Prelude.{◌==◌, ℕ, zero, suc, ◌-◌, Bool, cond, List, [], ◌∷◌, ◌++◌, length, Result, Ok, Err}
 use Rattle.cg_reading.specs.Bytes.{Class, has}
 
 -- a value and the bytes after it, or how many bytes are left at the first that doesn't fit
@@ -68,6 +68,18 @@ few_at c room end [] = Ok ([], [])
 few_at c zero end (b ∷ bytes) = cond (has c b) (Err (length (b ∷ bytes))) (Ok ([], b ∷ bytes))
 few_at c (suc room) end (b ∷ bytes) = cond (has c b) (few_at c room end bytes >>= λ x. Ok (b ∷ x.0, x.1)) (Ok ([], b ∷ bytes))
 
+-- the bytes of a set that come next, so many at most
+abbrev pub most_at : Class → ℕ → Reader (List ℕ)
+most_at c room end [] = Ok ([], [])
+most_at c zero end (b ∷ bytes) = Ok ([], b ∷ bytes)
+most_at c (suc room) end (b ∷ bytes) = cond (has c b) (most_at c room end bytes >>= λ x. Ok (b ∷ x.0, x.1)) (Ok ([], b ∷ bytes))
+
+-- what is left behind them
+abbrev pub most_skipped : Class → ℕ → List ℕ → List ℕ
+most_skipped c zero bytes = bytes
+most_skipped c (suc room) [] = []
+most_skipped c (suc room) (b ∷ bytes) = cond (has c b) (most_skipped c room bytes) (b ∷ bytes)
+
 -- at least one of them
 abbrev pub run_at : Class → ℕ → Reader (List ℕ)
 run_at c room end [] = Err 0
@@ -82,6 +94,14 @@ word_at (w ∷ word) v end (b ∷ bytes) = cond (b == w) (word_at word v end byt
 -- the piece, with the column where it starts
 abbrev pub placed_at : {A : Type 0} → Reader A → Reader (ℕ × A)
 placed_at f end bytes = f end bytes >>= λ x. Ok ((end - length bytes, x.0), x.1)
+
+-- the piece, where the test holds of its value
+abbrev pub such_at : {A : Type 0} → (A → Bool) → Reader A → Reader A
+such_at test f end bytes = f end bytes >>= λ x. cond (test x.0) (Ok x) (Err (length x.1))
+
+-- one piece, and then the one that its value tells
+abbrev pub telling_at : {A B : Type 0} → Reader A → (A → Reader B) → Reader B
+telling_at f g end bytes = f end bytes >>= λ x. g x.0 end x.1
 
 -- the value of the whole line, or how many bytes are left at the first that doesn't fit
 abbrev pub whole_of : {A : Type 0} → Read A → Result A ℕ

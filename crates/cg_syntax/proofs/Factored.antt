@@ -1,14 +1,16 @@
 -- The grammar as it is read: what several alternatives begin with stands in front of them, and blanks belong to what
 -- stands before them.
 use Rattle.std.specs.Prelude.{ℕ, zero, suc, Bool, true, false, List, [], ◌∷◌, length, codes}
-use Rattle.cg_reading.specs.Pieces.{Piece, Then, Or, Many, Made, Nothing, One, Bytes, Word, Longest}
+use Rattle.cg_reading.specs.Pieces.{Piece, Then, Or, Many, Made, Nothing, One, Bytes, Word, Longest, Telling}
 use Rattle.cg_reading.specs.Tokens.{only, blanks, gap, with_blanks, digits}
 use Rattle.cg_syntax.specs.Tree.{Tree, Question, tiny, octal, value, compare, outcome, stops, mean, temp, thermo, proof}
-use Rattle.cg_syntax.specs.Found.{Found, Asked}
-use Rattle.cg_syntax.specs.Values.{Arrows, counted_of, with_tail, clean, negated, sum_of, one_text, two_texts, asked_of, asked_of_both, checked}
+use Rattle.cg_syntax.specs.Found.{Found, Asked, Stated}
+use Rattle.cg_syntax.specs.Values.{Arrows, Last, In_none, counted_of, with_tail, clean, negated, sum_of, one_text, two_texts, asked_of, asked_of_both, checked, asking as asking_line, defined}
 use Rattle.cg_syntax.specs.Grammar.{number, string, nim, enclosed, switch_piece, string_and, optional, tail, ups_and_nim, primary, special_tail, Some_rows}
 use Rattle.cg_syntax.specs.Grammar as g
-use Rattle.cg_syntax.specs.Reading.{Behind, Over, Times, counted_from, behind_goes_on}
+use Rattle.cg_syntax.specs.Reading.{Behind, Over, Times, counted_from, behind_goes_on, Kind, Of_one, Of_two, Of_check, Of_name, kind_of}
+use Rattle.cg_syntax.specs.declared.format.Format.{Format}
+use Rattle.cg_syntax.specs.declared.format.Format.TheVariants as formats
 use Rattle.cg_syntax.specs.declared.kind.GameKind.{GameKind}
 use Rattle.cg_syntax.specs.declared.kind.GameKind.TheVariants.{Domineering, Clobber, Amazons, Toads, Strip, Hackenbush, Col, Snort}
 
@@ -59,7 +61,7 @@ plain_special = Or switch_piece (Or (tiny_of (codes "Miny") true) (Or tiny_or_to
 abbrev pub sign : Piece Bool
 sign = Or (Made (λ _. true) (One (only 45))) (Made (λ _. false) (One (only 43)))
 
-module _ (special : Piece Found) where
+module _ (special : Piece (Found × Last)) where
   abbrev pub behind : Piece Behind
   behind = Or (Made (λ v. Over v.1) (Then (One (only 47)) digits)) (Or (Made (λ v. Times v.1.0 v.1.1) (Then (One (only 46)) (primary special))) (Nothing (Over 1)))
 
@@ -113,13 +115,23 @@ module _ (expr : Piece Found) where
   abbrev pub paren : Piece Found
   paren = Made (λ v. v.1.1.0) (Then (One (only 40)) (Then blanks (Then expr (One (only 41)))))
 
-unfoldable pub special : ℕ → Piece Found
-special zero = plain_special
-special (suc k) = Or plain_special (Or (braces (sum (special k))) (paren (sum (special k))))
+-- a name where one may stand, and else the other
+abbrev pub with_names : Format → Piece (Found × Last) → Piece (Found × Last)
+with_names formats.One R = R
+with_names formats.Two R = Or g.use_piece R
+
+-- a special that is no name
+unfoldable pub bare : Format → ℕ → Piece Found
+bare format zero = plain_special
+bare format (suc k) =
+    Or plain_special (Or (braces (sum (with_names format (g.whole_piece (bare format k))))) (paren (sum (with_names format (g.whole_piece (bare format k))))))
+
+abbrev pub special : Format → ℕ → Piece (Found × Last)
+special format k = with_names format (g.whole_piece (bare format k))
 
 -- an expression with so many brackets at most open at once, and the blanks behind it
-abbrev pub expr : ℕ → Piece Found
-expr k = sum (special k)
+abbrev pub expr : Format → ℕ → Piece Found
+expr format k = sum (special format k)
 
 -- ---- lines
 
@@ -133,19 +145,19 @@ abbrev pub asking : Piece (Tree → Question)
 asking = Or (one_word value (codes "value")) (Or (one_word outcome (codes "outcome")) (Or (one_word stops (codes "stops")) (Or (one_word mean (codes "mean")) temp_or_thermo)))
 
 abbrev pub measure : Piece Asked
-measure = Made (λ v. asked_of v.0 v.1.1) (Then asking (Then gap (expr 64)))
+measure = Made (λ v. asked_of v.0 v.1.1) (Then asking (Then gap (expr formats.One 64)))
 
 abbrev pub with_semicolon : {A B : Type 0} → Piece A → Piece B → Piece (A × B)
 with_semicolon R S = Made (λ v. (v.0, v.1.1.1)) (Then R (Then (One (only 59)) (Then blanks S)))
 
-abbrev pub both : Piece (Found × Found)
-both = with_semicolon (expr 64) (expr 64)
+abbrev pub both : Format → Piece (Found × Found)
+both format = with_semicolon (expr format 64) (expr format 64)
 
 abbrev pub both_asked : List ℕ → (Tree → Tree → Question) → Piece Asked
-both_asked word ask = Made (λ v. asked_of_both ask v.1.1.0 v.1.1.1) (Then (this_word word) (Then gap both))
+both_asked word ask = Made (λ v. asked_of_both ask v.1.1.0 v.1.1.1) (Then (this_word word) (Then gap (both formats.One)))
 
 abbrev pub check : List ℕ → Piece Asked
-check word = Made (λ v. checked v.1.1.0.0 v.1.1.0.1 v.1.1.1) (Then (this_word word) (Then gap (with_semicolon both (with_blanks string))))
+check word = Made (λ v. checked v.1.1.0.0 v.1.1.0.1 v.1.1.1) (Then (this_word word) (Then gap (with_semicolon (both formats.One) (with_blanks string))))
 
 abbrev pub compare_or_check : Piece Asked
 compare_or_check = Made (λ v. v.1) (Then (One (only 99)) (Or (both_asked (codes "ompare") compare) (check (codes "heck"))))
@@ -155,3 +167,27 @@ question = Or measure (Or (both_asked (codes "proof") proof) compare_or_check)
 
 abbrev pub line : Piece Asked
 line = Made (λ v. v.1) (Then blanks question)
+
+-- ---- lines of format 2
+
+abbrev pub becomes : Piece (Unit {0})
+becomes = Made (λ _. tt {0}) (Then blanks (Then (this_word (codes ":=")) blanks))
+
+-- what stands behind the first word
+abbrev pub behind_word : List ℕ → Kind → Piece Stated
+behind_word word (Of_one ask) = Made (λ v. asking_line (asked_of ask v.1)) (Then gap (expr formats.Two 64))
+behind_word word (Of_two ask) = Made (λ v. asking_line (asked_of_both ask v.1.0 v.1.1)) (Then gap (both formats.Two))
+behind_word word Of_check = Made (λ v. asking_line (checked v.1.0.0 v.1.0.1 v.1.1)) (Then gap (with_semicolon (both formats.Two) (with_blanks string)))
+behind_word word Of_name = Made (λ v. defined word v.1) (Then becomes (expr formats.Two 64))
+
+abbrev pub statement_word : List ℕ → Piece Stated
+statement_word word = behind_word word (kind_of word)
+
+abbrev pub value_line : Piece Stated
+value_line = Made (λ v. asking_line (asked_of value v.1.1)) (Then (this_word (codes "value")) (Then gap (expr formats.Two 64)))
+
+abbrev pub statement : Piece Stated
+statement = Or value_line (Telling g.lettered statement_word)
+
+abbrev pub line_two : Piece Stated
+line_two = Made (λ v. v.1) (Then blanks statement)

@@ -2,12 +2,12 @@
 use Rattle.std.proofs.Common.{◌≡◌, ℕ, ◌+◌, inl, inr, Bool, true, false, List, [], ◌∷◌, ◌++◌, length, map, Option, Some, None, refl, ap, sym, subst, ◌∙◌, arith}
 use Rattle.std.specs.List.{list_all}
 use Rattle.std.proofs.lemmas.Bool.{and_parts, and_from}
-use Rattle.cg_reading.specs.Bytes.{has, Ends}
-use Rattle.cg_reading.specs.Pieces.{Piece, Then, Or, Many, Made, Nothing, One}
+use Rattle.cg_reading.specs.Bytes.{Class, has, Ends}
+use Rattle.cg_reading.specs.Pieces.{Piece, Then, Or, Many, Made, Nothing, One, Longest}
 use Rattle.cg_reading.specs.Tokens.{only, blank, digits, blanks, gap, behind_blanks, with_blanks}
 use Rattle.cg_reading.proofs.Same.{Same, same_self, same_back, same_on, then_same, or_same, made_same, many_same, made_twice, made_first, made_second, then_then, blanks_behind_made, blanks_behind_then, blanks_behind_list}
 use Rattle.cg_syntax.specs.Found.{Found}
-use Rattle.cg_syntax.specs.Values.{Arrows, ups_tree, Counted, whole, times, counted_goes_on, counted_of, with_tail, clean, negated, sum_of, run_side, braces_of}
+use Rattle.cg_syntax.specs.Values.{Arrows, ups_tree, Last, In_none, In_arrows, goes_on, Counted, whole, times, counted_goes_on, counted_of, with_tail, clean, negated, sum_of, run_side, braces_of}
 use Rattle.cg_syntax.specs.Grammar as s
 use Rattle.cg_syntax.specs.Grammar.{Bars_side}
 use Rattle.cg_syntax.specs.Reading.{Behind, Over, Times, counted_from, behind_goes_on}
@@ -38,9 +38,16 @@ some_gap i b bs h =
 
 -- ---- terms
 
-module _ (S T : Piece Found) (e : Same S T) where
+-- a piece as long as possible, said otherwise
+longest_same : {A B : Type 0} {R S : Piece A} (more : A → Class) (N : Piece B) → Same R S → Same (Longest more R N) (Longest more S N)
+longest_same more N e = record {
+  to = λ i a text m. record { before = m.before; behind = m.behind; first = e.to i a.0 m.before m.first; second = m.second; ended = m.ended; spelled = m.spelled };
+  from = λ i a text m. record { before = m.before; behind = m.behind; first = e.from i a.0 m.before m.first; second = m.second; ended = m.ended; spelled = m.spelled };
+}
+
+module _ (S T : Piece (Found × Last)) (e : Same S T) where
   primary_same : Same (s.primary S) (s.primary T)
-  primary_same = or_same (same_self (Made (λ a. (clean (ups_tree a), Some a)) s.ups)) (or_same (same_self (Made (λ t. (clean t, None)) s.nim)) (made_same (λ x. (x, None)) e))
+  primary_same = or_same (same_self (Made (λ a. (clean (ups_tree a), In_arrows a)) s.ups)) (or_same (same_self (Made (λ t. (clean t, In_none)) s.nim)) e)
 
   times_same : Same (Then (One (only 46)) (s.primary S)) (Then (One (only 46)) (s.primary T))
   times_same = then_same (same_self (One (only 46))) primary_same
@@ -81,7 +88,7 @@ module _ (S T : Piece Found) (e : Same S T) where
       record {
         value = (w.0, Times p.0 p.1);
         is = record { before = m.is.is.before; behind = m.is.is.behind; first = m.is.is.first; second = inr (inl (record { made_of = w.1; is = times_same.from (i + length m.is.is.before) w.1 m.is.is.behind m.is.is.second; same = refl })); spelled = m.is.is.spelled };
-        same = m.same ∙ ap (λ (z : ℕ × (Found × Option Arrows)). times z.0 z.1.0 z.1.1) m.is.same;
+        same = m.same ∙ ap (λ (z : ℕ × (Found × Last)). times z.0 z.1.0 z.1.1) m.is.same;
       }
 
   counted_same : (negative : Bool) → Same (g.counted_term S negative) (s.counted_tail T negative)
@@ -101,7 +108,7 @@ module _ (S T : Piece Found) (e : Same S T) where
   }
 
   special_tail_same : Same (s.special_tail S) (s.special_tail T)
-  special_tail_same = made_same (λ v. with_tail v.0 v.1) (then_same e (same_self s.tail))
+  special_tail_same = made_same (λ v. with_tail v.0.0 v.1) (longest_same (λ v. goes_on v.1) s.tail e)
 
   -- what may begin a term besides digits and a minus, as a body has it
   abbrev uncounted : Piece Found

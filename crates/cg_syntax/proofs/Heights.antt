@@ -2,7 +2,7 @@
 use Rattle.std.proofs.Common.{◌≡◌, refl, ap, sym, ◌∙◌, subst, ℕ, zero, suc, ◌+◌, ◌-◌, ◌<◌, ◌≤◌, max, arith, List, [], ◌∷◌, ◌++◌, length, get_or, take, Bool, true, false}
 use Rattle.std.specs.Prelude.{◌↔◌, IsTrue}
 use Rattle.std.proofs.Math.Nat.{le-max_left, le-max_right, max-le}
-use Rattle.cg_syntax.specs.Tree.{Tree, number, ups, nimber, switch, tiny, sides, negative, multiple, sum, game, octal, trees_from, terms_from}
+use Rattle.cg_syntax.specs.Tree.{Tree, number, ups, nimber, switch, tiny, sides, negative, multiple, sum, game, octal, used, trees_from, terms_from}
 use Rattle.cg_syntax.specs.Trees.{tree_of, trees_of, term_of, terms_of}
 use Rattle.cg_syntax.specs.Written.{height, heights, term_heights}
 use Rattle.cg_syntax.specs.declared.expr.Expr.{Expr}
@@ -51,6 +51,7 @@ height_some (multiple n t) = omega arith
 height_some (sum terms) = omega arith
 height_some (game kind rules board) = omega arith
 height_some (octal code heap) = omega arith
+height_some (used word column) = omega arith
 
 pub no_level : (t : Tree) (n : ℕ) → n ≡ 0 → IsTrue false ↔ (height t ≤ n)
 no_level t n e = (λ h. absurd (cc), λ h. absurd (let s = height_some t in omega (arith, s, h, e)))

@@ -4,7 +4,7 @@ use Rattle.std.proofs.lemmas.List.{length-map, nil_from_length}
 use Rattle.std.proofs.lemmas.Bool.{eqb-true, eq-eqb}
 use Rattle.std.specs.Prelude.{◌==◌, ◌↔◌, IsTrue}
 use Rattle.std.specs.Global.{Vec, Box}
-use Rattle.cg_syntax.specs.Tree.{Tree, number, ups, nimber, switch, tiny, braces, negative, multiple, sum, game, octal, terms_from}
+use Rattle.cg_syntax.specs.Tree.{Tree, number, ups, nimber, switch, tiny, braces, negative, multiple, sum, game, octal, used, terms_from}
 use Rattle.cg_syntax.specs.Braces.{only_tree}
 use Rattle.cg_syntax.specs.Trees.{tree_of, trees_in, term_of, terms_in, trees_of, terms_of, tree_step, exprs_step, term_step, terms_step}
 use Rattle.cg_syntax.specs.declared.kind.GameKind.{GameKind}
@@ -13,7 +13,7 @@ use Rattle.cg_syntax.specs.declared.expr.Exprs.{Exprs}
 use Rattle.cg_syntax.specs.declared.expr.Term.{Term}
 use Rattle.cg_syntax.specs.declared.expr.Terms.{Terms}
 use Rattle.cg_syntax.specs.declared.expr.Expr.TheVariants as expr
-use Rattle.cg_syntax.specs.declared.expr.Expr.TheVariants.{rolls-Number, rolls-Ups, rolls-Nimber, rolls-Switch, rolls-Tiny, rolls-Braces, rolls-Negative, rolls-Multiple, rolls-Sum, rolls-Game, rolls-Octal}
+use Rattle.cg_syntax.specs.declared.expr.Expr.TheVariants.{rolls-Number, rolls-Ups, rolls-Nimber, rolls-Switch, rolls-Tiny, rolls-Braces, rolls-Negative, rolls-Multiple, rolls-Sum, rolls-Game, rolls-Octal, rolls-Name}
 use Rattle.cg_syntax.specs.declared.expr.Expr.TheOpen.{Expr-F}
 use Rattle.cg_syntax.specs.declared.expr.Expr.TheViews.{out-Terms, roll-Terms}
 use Rattle.cg_syntax.specs.declared.expr.Expr.TheFolds.{fold-roll-Terms, fold-roll-Expr, fold_out-Exprs, fold_out-Term, fold_out-Terms}
@@ -91,6 +91,10 @@ game_tree kind rules board = ap tree_of (sym (rolls-Game kind rules board)) ∙ 
 pub octal_tree : (code : List ℕ) (heap : ℕ) → tree_of (expr.Octal code heap) ≡ octal code heap
 unfolding tree_of
 octal_tree code heap = ap tree_of (sym (rolls-Octal code heap)) ∙ fold-roll-Expr Tree (List Tree) (Bool × Tree) (List (Bool × Tree)) tree_step exprs_step term_step terms_step (Expr-F.Octal code heap)
+
+pub used_tree : (word : List ℕ) (column : ℕ) → tree_of (expr.Name word column) ≡ used word column
+unfolding tree_of
+used_tree word column = ap tree_of (sym (rolls-Name word column)) ∙ fold-roll-Expr Tree (List Tree) (Bool × Tree) (List (Bool × Tree)) tree_step exprs_step term_step terms_step (Expr-F.Name word column)
 
 -- ---- short sums and empty braces
 

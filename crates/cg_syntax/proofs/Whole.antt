@@ -32,7 +32,7 @@ skipped_blanks (b ∷ text) e = chosen (has blank b) refl (skipped_blanks text) 
     chosen true h more e = more e
     chosen false h more e = absurd cc
 
-blanks_skipped : (front behind : List ℕ) → list_all (has blank) front ≡ true → skipped blank (front ++ behind) ≡ skipped blank behind
+pub blanks_skipped : (front behind : List ℕ) → list_all (has blank) front ≡ true → skipped blank (front ++ behind) ≡ skipped blank behind
 blanks_skipped [] behind h = refl
 blanks_skipped (b ∷ front) behind h = let p = and_parts (has blank b) (list_all (has blank) front) h in rw p.0 (blanks_skipped front behind p.1)
 
@@ -158,7 +158,7 @@ read_is : (text : List ℕ) (a : Asked) → read_at text ≡ Ok a → line 1 a t
 unfolding read_at
 read_is text a h = whole_takes line line_at line_begin false line_follow line_lawful text a h
 
-faulty_reads_none : (text : List ℕ) (q : Question) (c : ℕ) → line 1 (record { question = q; fault = Some c }) text → (p : Question) → Reads text p → ⊥
+pub faulty_reads_none : (text : List ℕ) (q : Question) (c : ℕ) → line 1 (record { question = q; fault = Some c }) text → (p : Question) → Reads text p → ⊥
 faulty_reads_none text q c is p reads = some_none c (ap (λ (a : Asked). a.fault) (one_asked text (record { question = q; fault = Some c }) (record { question = p; fault = None }) is reads))
 
 stops_of : (text : List ℕ) (n column : ℕ) → read_at text ≡ Err n → column + n ≡ suc (length text) → Stops IsInGrammar text column
@@ -233,7 +233,7 @@ reads_or_not text = tells (read_at text) refl
     tells (Ok a) h = by_fault a.question a.fault h
     tells (Err n) h = let s = stuck n h in inr (λ p is. s.none (record { question = p; fault = None }, is), (suc (length text) - n, inl s))
 
-stops_once : {P : List ℕ → Type 0} (text : List ℕ) (c d : ℕ) → Stops P text c → Stops P text d → c ≡ d
+pub stops_once : {P : List ℕ → Type 0} (text : List ℕ) (c d : ℕ) → Stops P text c → Stops P text d → c ≡ d
 stops_once text c d s t = omega (arith, s.at, t.at, t.longest s.before s.behind s.split s.begun, s.longest t.before t.behind t.split t.begun)
 
 same_some : (c d : ℕ) → Some c ≡ Some d → c ≡ d

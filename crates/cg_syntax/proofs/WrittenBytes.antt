@@ -12,7 +12,7 @@ use Rattle.std.proofs.lemmas.Str.Ascii.{IsAscii-from_all, IsAscii-nil}
 use Rattle.cg_reading.specs.Bytes.{Class, has}
 use Rattle.cg_reading.proofs.Sets.{inside, inside_has}
 use Rattle.cg_syntax.specs.Grammar.{printable}
-use Rattle.cg_syntax.specs.Tree.{Question, Tree, Trees, Terms, check, compare, game, mean, multiple, negative, nimber, no_terms, no_trees, number, octal, outcome, proof, sides, stops, sum, switch, temp, thermo, tiny, ups, value, with_term, with_tree}
+use Rattle.cg_syntax.specs.Tree.{Question, Tree, Trees, Terms, check, compare, game, mean, multiple, negative, nimber, no_terms, no_trees, number, octal, used, outcome, proof, sides, stops, sum, switch, temp, thermo, tiny, ups, value, with_term, with_tree}
 use Rattle.cg_syntax.specs.Written.{AreFurther, AreTerms, AreTexts, AreWritable, IsAskable, IsPrintable, IsSum, IsWritable, asked_text, enclosed_text, fraction_text, is_braces, kind_text, more_terms, more_texts, quoted, terms_text, text_of, texts_of, texts_of_game, two_quoted, ups_text}
 use Rattle.cg_syntax.specs.declared.kind.GameKind.{GameKind}
 use Rattle.cg_syntax.specs.declared.kind.GameKind.TheVariants.{Domineering, Clobber, Amazons, Toads, Strip, Hackenbush, Col, Snort}
@@ -211,6 +211,7 @@ mutual
   written_ascii (sum terms) w = terms_ascii terms w
   written_ascii (game kind rules board) w = game_ascii kind rules board w
   written_ascii (octal code heap) w = octal_ascii code heap w.0 w.1
+  written_ascii (used word column) w = absurd w
 
   side_ascii : (ts : Trees) → AreWritable ts → IsAscii (texts_of ts)
   side_ascii no_trees w = no_trees_ascii

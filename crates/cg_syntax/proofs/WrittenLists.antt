@@ -5,8 +5,9 @@ use Rattle.cg_reading.specs.Tokens.{behind_blanks, blanks}
 use Rattle.cg_syntax.specs.Found.{Found}
 use Rattle.cg_syntax.specs.Grammar as grammar
 use Rattle.cg_syntax.specs.Grammar.{comma, special}
-use Rattle.cg_syntax.specs.Tree.{Tree, Trees, game, octal, multiple, negative, nimber, no_trees, number, sides, sum, switch, tiny, trees_from, ups, with_tree}
-use Rattle.cg_syntax.specs.Values.{clean}
+use Rattle.cg_syntax.specs.declared.format.Format.TheVariants as formats
+use Rattle.cg_syntax.specs.Tree.{Tree, Trees, game, octal, used, multiple, negative, nimber, no_trees, number, sides, sum, switch, tiny, trees_from, ups, with_tree}
+use Rattle.cg_syntax.specs.Values.{In_none, clean}
 use Rattle.cg_syntax.specs.Written.{enclosed_text, height, heights, inner_height, is_braces, more_texts, text_of, texts_of}
 use Rattle.cg_reading.proofs.Texts.{behind_none}
 use Rattle.cg_syntax.proofs.WrittenSpecials.{paren_special}
@@ -15,22 +16,22 @@ use Rattle.cg_syntax.proofs.WrittenSpecials.{paren_special}
 
 -- written as an operand, and inside brackets or alone
 pub record Written (t : Tree) : Type 0 where
-  pub operand : (k : ℕ) → height t ≤ k → (i : ℕ) → grammar.special k i (clean t) (enclosed_text (is_braces t) (text_of t))
-  pub inner : (k : ℕ) → inner_height t ≤ k → (i : ℕ) → grammar.expr (grammar.special k) i (clean t) (text_of t)
+  pub operand : (k : ℕ) → height t ≤ k → (i : ℕ) → grammar.special formats.One k i (clean t, In_none) (enclosed_text (is_braces t) (text_of t))
+  pub inner : (k : ℕ) → inner_height t ≤ k → (i : ℕ) → grammar.expr (grammar.special formats.One k) i (clean t) (text_of t)
 
 -- a tree that stands in parentheses as an operand
 pub plain_written : (t : Tree) → is_braces t ≡ false → height t ≡ suc (inner_height t)
-    → ((k : ℕ) → inner_height t ≤ k → (i : ℕ) → grammar.expr (grammar.special k) i (clean t) (text_of t)) → Written t
+    → ((k : ℕ) → inner_height t ≤ k → (i : ℕ) → grammar.expr (grammar.special formats.One k) i (clean t) (text_of t)) → Written t
 plain_written t b h f = record {
   operand = λ k l i. operand_at k (let e = h in omega arith) i;
   inner = f;
 }
   where
     operand_at : (k : ℕ) → suc (inner_height t) ≤ k → (i : ℕ)
-        → grammar.special k i (clean t) (enclosed_text (is_braces t) (text_of t))
+        → grammar.special formats.One k i (clean t, In_none) (enclosed_text (is_braces t) (text_of t))
     operand_at zero l i = absurd (omega arith)
     operand_at (suc k) l i =
-        let P : Bool → Type 0 = λ z. grammar.special (suc k) i (clean t) (enclosed_text z (text_of t)) in
+        let P : Bool → Type 0 = λ z. grammar.special formats.One (suc k) i (clean t, In_none) (enclosed_text z (text_of t)) in
         subst P (sym b) (paren_special k i t (text_of t) (f k (omega arith)))
 
 abbrev pub tree_list : Trees → List Tree
@@ -42,13 +43,13 @@ trees_back no_trees = refl
 trees_back (with_tree t ts) = ap (λ z. with_tree t z) (trees_back ts)
 
 abbrev pub next_expr : ℕ → Piece Found
-next_expr k = behind_blanks (Made (λ v. v.1) (Then (One comma) (behind_blanks (grammar.expr (grammar.special k)))))
+next_expr k = behind_blanks (Made (λ v. v.1) (Then (One comma) (behind_blanks (grammar.expr (grammar.special formats.One k)))))
 
 -- the lists of a side, behind its first expression and as a whole
 pub record WrittenAll (ts : Trees) : Type 0 where
   pub further : (k : ℕ) → heights ts ≤ k → (i : ℕ) → Many (next_expr k) i (map clean (tree_list ts)) (more_texts ts)
   pub side : (k : ℕ) → heights ts ≤ k → (front : List ℕ) → (front ≡ []) ⊎ (front ≡ 32 ∷ []) → (i : ℕ)
-      → grammar.side (grammar.expr (grammar.special k)) i (map clean (tree_list ts)) (front ++ texts_of ts)
+      → grammar.side (grammar.expr (grammar.special formats.One k)) i (map clean (tree_list ts)) (front ++ texts_of ts)
 
 pub inner_low : (t : Tree) (k : ℕ) → height t ≤ k → inner_height t ≤ k
 inner_low (number below num den) k l = omega arith
@@ -62,6 +63,7 @@ inner_low (multiple n t) k l = omega arith
 inner_low (sum terms) k l = omega arith
 inner_low (game kind rules board) k l = omega arith
 inner_low (octal code heap) k l = omega arith
+inner_low (used word column) k l = omega arith
 
 pub front_blanks : (i : ℕ) (front : List ℕ) → (front ≡ []) ⊎ (front ≡ 32 ∷ []) → blanks i front front
 front_blanks i front (inl e) = let P : List ℕ → Type 0 = λ z. blanks i z z in
@@ -86,14 +88,14 @@ some_written t ts w all = record {
   further = λ k l i. record {
     before = 44 ∷ text_of t;
     behind = more_texts ts;
-    first = behind_none (Made (λ v. v.1) (Then (One comma) (behind_blanks (grammar.expr (grammar.special k))))) i (clean t) (44 ∷ text_of t)
+    first = behind_none (Made (λ v. v.1) (Then (One comma) (behind_blanks (grammar.expr (grammar.special formats.One k))))) i (clean t) (44 ∷ text_of t)
         (record {
           made_of = (44, clean t);
           is = record {
             before = 44 ∷ [];
             behind = text_of t;
             first = record { within = refl; spelled = refl };
-            second = behind_none (grammar.expr (grammar.special k)) (i + 0 + 1) (clean t) (text_of t)
+            second = behind_none (grammar.expr (grammar.special formats.One k)) (i + 0 + 1) (clean t) (text_of t)
                 (w.inner k (inner_low t k (omega arith)) (i + 0 + 1 + 0));
             spelled = refl;
           };

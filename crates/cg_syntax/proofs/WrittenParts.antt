@@ -7,8 +7,9 @@ use Rattle.cg_syntax.specs.Braces.{Run_side, part_of, side_fault, side_trees}
 use Rattle.cg_syntax.specs.Found.{Found}
 use Rattle.cg_syntax.specs.Grammar as grammar
 use Rattle.cg_syntax.specs.Grammar.{comma, special}
+use Rattle.cg_syntax.specs.declared.format.Format.TheVariants as formats
 use Rattle.cg_syntax.specs.Tree.{Tree, Trees, Terms, braces, no_terms, sides, sum, terms_from, trees_from, with_term}
-use Rattle.cg_syntax.specs.Values.{braces_of, clean, first_fault, minus_of, sum_of}
+use Rattle.cg_syntax.specs.Values.{In_none, braces_of, clean, first_fault, minus_of, sum_of}
 use Rattle.cg_syntax.specs.Written.{enclosed_text, heights, is_braces, more_terms, term_heights, terms_text, text_of, texts_of}
 use Rattle.cg_reading.proofs.Texts.{behind_none}
 use Rattle.cg_syntax.proofs.WrittenTerms.{expr_is, special_is}
@@ -33,9 +34,9 @@ unfolding one_run part_of
 braces_value ls rs column = rw (clean_trees ls, clean_trees rs, clean_fault ls, clean_fault rs) refl
 
 pub braces_are : (k i : ℕ) (ls rs : List Tree) (left right : List ℕ)
-    → ((j : ℕ) → grammar.side (grammar.expr (grammar.special k)) j (map clean ls) left)
-    → ((j : ℕ) → grammar.side (grammar.expr (grammar.special k)) j (map clean rs) (32 ∷ right))
-    → grammar.braces (grammar.side (grammar.expr (grammar.special k))) i (clean (braces ls rs))
+    → ((j : ℕ) → grammar.side (grammar.expr (grammar.special formats.One k)) j (map clean ls) left)
+    → ((j : ℕ) → grammar.side (grammar.expr (grammar.special formats.One k)) j (map clean rs) (32 ∷ right))
+    → grammar.braces (grammar.side (grammar.expr (grammar.special formats.One k))) i (clean (braces ls rs))
     (123 ∷ (left ++ (124 ∷ (32 ∷ (right ++ (125 ∷ []))))))
 unfolding one_run
 braces_are k i ls rs left right l r =
@@ -88,16 +89,16 @@ pub braces_written : (ls rs : Trees) → WrittenAll ls → WrittenAll rs → Wri
 unfolding text_of
 braces_written ls rs l r = record {
   operand = λ k h i. at k h i;
-  inner = λ k h i. expr_is (grammar.special k) i (sides ls rs) _ (special_is (grammar.special k) i (sides ls rs) _ (at k h i));
+  inner = λ k h i. expr_is (grammar.special formats.One k) i (sides ls rs) _ (special_is (grammar.special formats.One k) i (sides ls rs) _ (at k h i));
 }
   where
-    at : (k : ℕ) → suc (max (heights ls) (heights rs)) ≤ k → (i : ℕ) → grammar.special k i (clean (sides ls rs))
+    at : (k : ℕ) → suc (max (heights ls) (heights rs)) ≤ k → (i : ℕ) → grammar.special formats.One k i (clean (sides ls rs), In_none)
         (123 ∷ (texts_of ls ++ (codes "| " ++ (texts_of rs ++ (125 ∷ [])))))
     at zero h i = absurd (omega arith)
     at (suc k) h i =
-        let P : Trees → Type 0 = λ z. grammar.special (suc k) i (clean (sides z (trees_from (tree_list rs))))
+        let P : Trees → Type 0 = λ z. grammar.special formats.One (suc k) i (clean (sides z (trees_from (tree_list rs))), In_none)
         (123 ∷ (texts_of ls ++ (codes "| " ++ (texts_of rs ++ (125 ∷ []))))) in
-        let Q : Trees → Type 0 = λ z. grammar.special (suc k) i (clean (sides ls z))
+        let Q : Trees → Type 0 = λ z. grammar.special formats.One (suc k) i (clean (sides ls z), In_none)
         (123 ∷ (texts_of ls ++ (codes "| " ++ (texts_of rs ++ (125 ∷ []))))) in
         subst Q (trees_back rs) (subst P (trees_back ls) (braces_special k i _ _
         (braces_are k i (tree_list ls) (tree_list rs) (texts_of ls) (texts_of rs)
@@ -106,7 +107,7 @@ braces_written ls rs l r = record {
 -- ---- sums
 
 abbrev pub next_term : ℕ → Piece (Bool × Found)
-next_term k = behind_blanks (Then grammar.sign (behind_blanks (grammar.term (grammar.special k))))
+next_term k = behind_blanks (Then grammar.sign (behind_blanks (grammar.term (grammar.special formats.One k))))
 
 abbrev pub founds : Terms → List (Bool × Found)
 founds no_terms = []
@@ -143,13 +144,13 @@ term_written minus t ts w all = record {
       record {
         before = cond minus 45 43 ∷ text;
         behind = more_terms ts;
-        first = behind_none (Then grammar.sign (behind_blanks (grammar.term (grammar.special k)))) i (minus, clean t)
+        first = behind_none (Then grammar.sign (behind_blanks (grammar.term (grammar.special formats.One k)))) i (minus, clean t)
             (cond minus 45 43 ∷ text) (record {
               before = cond minus 45 43 ∷ [];
               behind = text;
               first = sign_is (i + 0) minus;
-              second = behind_none (grammar.term (grammar.special k)) (i + 0 + 1) (clean t) text
-                  (special_is (grammar.special k) (i + 0 + 1 + 0) t text (w.operand k (omega arith) (i + 0 + 1 + 0)));
+              second = behind_none (grammar.term (grammar.special formats.One k)) (i + 0 + 1) (clean t) text
+                  (special_is (grammar.special formats.One k) (i + 0 + 1 + 0) t text (w.operand k (omega arith) (i + 0 + 1 + 0)));
               spelled = refl;
             });
         second = all.terms k (omega arith) (i + length (cond minus 45 43 ∷ text));
@@ -167,7 +168,7 @@ sum_written t minus u ts w all = plain_written (sum (with_term false t (with_ter
       is = record {
         before = text;
         behind = more_terms (with_term minus u ts);
-        first = special_is (grammar.special k) i t text (w.operand k (omega arith) i);
+        first = special_is (grammar.special formats.One k) i t text (w.operand k (omega arith) i);
         second = all.terms k (omega arith) (i + length text);
         spelled = refl;
       };

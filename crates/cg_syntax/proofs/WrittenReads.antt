@@ -4,6 +4,7 @@ use Rattle.std.specs.Prelude.{codes}
 use Rattle.cg_syntax.specs.Grammar as grammar
 use Rattle.cg_syntax.specs.Found.{Found}
 use Rattle.cg_syntax.specs.Lines.{Reads}
+use Rattle.cg_syntax.specs.declared.format.Format.TheVariants as formats
 use Rattle.cg_syntax.specs.Tree.{Question, Tree, check, compare, mean, outcome, proof, stops, temp, thermo, value}
 use Rattle.cg_syntax.specs.Values.{clean}
 use Rattle.cg_syntax.specs.Written.{IsAskable, IsPrintable, IsWritable, QuestionIs, asked_text, height, quoted, text_of}
@@ -13,7 +14,7 @@ use Rattle.cg_syntax.proofs.WrittenTokens.{quoted_is}
 use Rattle.cg_syntax.proofs.WrittenTrees.{text_reads}
 
 pub line_is : (q : Question) (text : List ℕ)
-    → ((i : ℕ) → grammar.query (grammar.expr (grammar.special 64)) i (record { question = q; fault = None }) text) → Reads text q
+    → ((i : ℕ) → grammar.query (grammar.expr (grammar.special formats.One 64)) i (record { question = q; fault = None }) text) → Reads text q
 line_is q text m = record {
   made_of = ([], record { question = q; fault = None });
   is = record {
@@ -89,7 +90,7 @@ semicolon_is R S i a b x y r s = record {
 }
 
 abbrev Asked_expr : Piece Found
-Asked_expr = grammar.expr (grammar.special 64)
+Asked_expr = grammar.expr (grammar.special formats.One 64)
 
 both_read : (s t : Tree) → IsWritable s × IsWritable t → (height s ≤ 64) × (height t ≤ 64) → (i : ℕ)
     → grammar.with_semicolon Asked_expr Asked_expr i (clean s, clean t) (text_of s ++ (59 ∷ text_of t))

@@ -3,7 +3,7 @@ use Rattle.std.proofs.Common.{◌≡◌, refl, ap, sym, ◌∙◌, subst, ℕ, s
 use Rattle.std.specs.Prelude.{OnOk, codes, decimal, replicate}
 use Rattle.std.specs.Global.{Box}
 use Rattle.std.proofs.lemmas.List.{replicate_more}
-use Rattle.cg_syntax.specs.Tree.{Tree, trees_from, terms_from, number, ups, nimber, switch, tiny, braces, negative, multiple, sum, game, octal}
+use Rattle.cg_syntax.specs.Tree.{Tree, trees_from, terms_from, number, ups, nimber, switch, tiny, braces, negative, multiple, sum, game, octal, used}
 use Rattle.cg_syntax.specs.Trees.{tree_of, trees_in, trees_of, terms_in, terms_of}
 use Rattle.cg_syntax.specs.Written.{enclosed_text, fraction_text, is_braces, kind_text, more_terms, more_texts, quoted, terms_text, text_of, texts_of, texts_of_game, ups_text}
 use Rattle.cg_syntax.specs.declared.kind.GameKind.{GameKind}
@@ -12,7 +12,7 @@ use Rattle.cg_syntax.specs.declared.expr.Exprs.{Exprs}
 use Rattle.cg_syntax.specs.declared.expr.Term.{Term}
 use Rattle.cg_syntax.specs.declared.expr.Terms.{Terms}
 use Rattle.cg_syntax.specs.declared.expr.Expr.TheVariants as expr
-use Rattle.cg_syntax.proofs.TreeOf.{term_tree, number_tree, ups_tree_of, nimber_tree, switch_tree, tiny_tree, braces_tree, negative_tree, multiple_tree, sum_tree, game_tree, octal_tree}
+use Rattle.cg_syntax.proofs.TreeOf.{term_tree, number_tree, ups_tree_of, nimber_tree, switch_tree, tiny_tree, braces_tree, negative_tree, multiple_tree, sum_tree, game_tree, octal_tree, used_tree}
 use Rattle.cg_syntax.proofs.Walk.{trees_of-take_suc, terms_of-take_suc}
 
 -- what was put at the end is the same text in other words
@@ -84,6 +84,10 @@ pub octal_put : (e : Expr) (code : List ℕ) (heap : ℕ) → e ≡ expr.Octal c
     → text_of (tree_of e) ≡ codes "Octal(" ++ ((quoted code ++ (44 ∷ decimal heap)) ++ (41 ∷ []))
 unfolding text_of
 octal_put e code heap is = text_of_tree e (expr.Octal code heap) (octal code heap) is (octal_tree code heap)
+
+pub used_put : (e : Expr) (word : List ℕ) (column : ℕ) → e ≡ expr.Name word column → text_of (tree_of e) ≡ word
+unfolding text_of
+used_put e word column is = text_of_tree e (expr.Name word column) (used word column) is (used_tree word column)
 
 -- ---- lists
 

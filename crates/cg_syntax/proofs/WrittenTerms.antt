@@ -4,14 +4,13 @@ use Rattle.std.specs.Prelude.{codes, decimal}
 use Rattle.cg_reading.specs.Pieces.{Piece}
 use Rattle.cg_syntax.specs.Found.{Found}
 use Rattle.cg_syntax.specs.Grammar as grammar
-use Rattle.cg_syntax.specs.Grammar.{comma, special}
 use Rattle.cg_syntax.specs.Tree.{Tree, multiple, negative, nimber, number, ups}
-use Rattle.cg_syntax.specs.Values.{clean, times, whole}
+use Rattle.cg_syntax.specs.Values.{Last, In_none, clean, times, whole}
 use Rattle.cg_syntax.specs.Written.{fraction_text, ups_text}
 use Rattle.cg_syntax.proofs.WrittenTokens.{arrow_of, fraction_is, ups_is}
 use Rattle.cg_reading.proofs.Texts.{digits_are}
 
-pub expr_is : (s : Piece Found) (i : ℕ) (t : Tree) (text : List ℕ) → grammar.term s i (clean t) text
+pub expr_is : (s : Piece (Found × Last)) (i : ℕ) (t : Tree) (text : List ℕ) → grammar.term s i (clean t) text
     → grammar.expr s i (clean t) text
 expr_is s i t text m = record {
   made_of = (clean t, []);
@@ -22,18 +21,18 @@ expr_is s i t text m = record {
 pub no_tail_is : (j : ℕ) → grammar.tail j (None, None) []
 no_tail_is j = record { before = []; behind = []; first = inr (refl, refl); second = inr (refl, refl); spelled = refl }
 
-pub special_tail_is : (s : Piece Found) (i : ℕ) (t : Tree) (text : List ℕ) → s i (clean t) text
+pub special_tail_is : (s : Piece (Found × Last)) (i : ℕ) (t : Tree) (text : List ℕ) → s i (clean t, In_none) text
     → grammar.special_tail s i (clean t) text
 special_tail_is s i t text m = record {
-  made_of = (clean t, (None, None));
-  is = record { before = text; behind = []; first = m; second = no_tail_is (i + length text); spelled = sym (append-nil text) };
+  made_of = ((clean t, In_none), (None, None));
+  is = record { before = text; behind = []; first = m; second = no_tail_is (i + length text); ended = tt; spelled = sym (append-nil text) };
   same = refl;
 }
 
-pub special_is : (s : Piece Found) (i : ℕ) (t : Tree) (text : List ℕ) → s i (clean t) text → grammar.term s i (clean t) text
+pub special_is : (s : Piece (Found × Last)) (i : ℕ) (t : Tree) (text : List ℕ) → s i (clean t, In_none) text → grammar.term s i (clean t) text
 special_is s i t text m = inr (inl (special_tail_is s i t text m))
 
-pub number_term : (s : Piece Found) (i : ℕ) (below : Bool) (num den : ℕ) → num < 10 ^ 30 → den < 10 ^ 30
+pub number_term : (s : Piece (Found × Last)) (i : ℕ) (below : Bool) (num den : ℕ) → num < 10 ^ 30 → den < 10 ^ 30
     → grammar.term s i (clean (number below num den)) (cond below (codes "-") [] ++ fraction_text num den)
 number_term s i below num den l r = by below
   where
@@ -65,7 +64,7 @@ number_term s i below num den l r = by below
       same = refl;
     }))
 
-pub ups_term : (s : Piece Found) (i : ℕ) (down : Bool) (n : ℕ) → grammar.term s i (clean (ups down n)) (ups_text (arrow_of down) n)
+pub ups_term : (s : Piece (Found × Last)) (i : ℕ) (down : Bool) (n : ℕ) → grammar.term s i (clean (ups down n)) (ups_text (arrow_of down) n)
 ups_term s i down n = inr (inr (inl (record {
   made_of = (ups down n, None);
   is = record {
@@ -78,7 +77,7 @@ ups_term s i down n = inr (inr (inl (record {
   same = refl;
 })))
 
-pub nimber_term : (s : Piece Found) (i n : ℕ) → n < 10 ^ 30 → grammar.term s i (clean (nimber n)) (42 ∷ decimal n)
+pub nimber_term : (s : Piece (Found × Last)) (i n : ℕ) → n < 10 ^ 30 → grammar.term s i (clean (nimber n)) (42 ∷ decimal n)
 nimber_term s i n l = inr (inr (inr (inl (record {
   made_of = nimber n;
   is = record {
@@ -95,7 +94,7 @@ nimber_term s i n l = inr (inr (inr (inl (record {
   same = refl;
 }))))
 
-pub negative_term : (s : Piece Found) (i : ℕ) (t : Tree) (text : List ℕ) → ((j : ℕ) → s j (clean t) text)
+pub negative_term : (s : Piece (Found × Last)) (i : ℕ) (t : Tree) (text : List ℕ) → ((j : ℕ) → s j (clean t, In_none) text)
     → grammar.term s i (clean (negative t)) (45 ∷ text)
 negative_term s i t text m = inr (inr (inr (inr (record {
   made_of = (45, clean t);
@@ -119,17 +118,17 @@ negative_term s i t text m = inr (inr (inr (inr (record {
   same = refl;
 }))))
 
-pub multiple_term : (s : Piece Found) (i n : ℕ) (t : Tree) (text : List ℕ) → n < 10 ^ 30 → ((j : ℕ) → s j (clean t) text)
+pub multiple_term : (s : Piece (Found × Last)) (i n : ℕ) (t : Tree) (text : List ℕ) → n < 10 ^ 30 → ((j : ℕ) → s j (clean t, In_none) text)
     → grammar.term s i (clean (multiple n t)) (decimal n ++ (46 ∷ text))
 multiple_term s i n t text l m = inl (inr (record {
-  made_of = (times n (clean t) None, (None, None));
+  made_of = (times n (clean t) In_none, (None, None));
   is = record {
     before = decimal n ++ (46 ∷ text);
     behind = [];
     first = inr (record {
-      made_of = (n, (clean t, None));
+      made_of = (n, (clean t, In_none));
       is = record {
-        made_of = (n, (46, (clean t, None)));
+        made_of = (n, (46, (clean t, In_none)));
         is = record {
           before = decimal n;
           behind = 46 ∷ text;
@@ -138,11 +137,7 @@ multiple_term s i n t text l m = inl (inr (record {
             before = 46 ∷ [];
             behind = text;
             first = record { within = refl; spelled = refl };
-            second = inr (inr (record {
-              made_of = clean t;
-              is = m (i + length (decimal n) + 1);
-              same = refl;
-            }));
+            second = inr (inr (m (i + length (decimal n) + 1)));
             spelled = refl;
           };
           spelled = refl;

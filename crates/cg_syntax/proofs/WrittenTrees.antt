@@ -2,7 +2,8 @@
 use Rattle.std.proofs.Common.{refl, ℕ, ◌^◌, ◌<◌, ◌≤◌, List, Bool, true, false}
 use Rattle.cg_syntax.specs.Grammar as grammar
 use Rattle.cg_syntax.specs.Grammar.{comma, special}
-use Rattle.cg_syntax.specs.Tree.{Tree, Trees, Terms, game, multiple, negative, nimber, no_terms, no_trees, number, octal, sides, sum, switch, tiny, ups, with_term, with_tree}
+use Rattle.cg_syntax.specs.declared.format.Format.TheVariants as formats
+use Rattle.cg_syntax.specs.Tree.{Tree, Trees, Terms, game, multiple, negative, nimber, no_terms, no_trees, number, octal, used, sides, sum, switch, tiny, ups, with_term, with_tree}
 use Rattle.cg_syntax.specs.Values.{clean}
 use Rattle.cg_syntax.specs.Written.{AreFurther, AreTerms, AreTexts, AreWritable, IsPrintable, IsSum, IsWritable, height, text_of}
 use Rattle.cg_syntax.specs.declared.kind.GameKind.{GameKind}
@@ -15,49 +16,49 @@ use Rattle.cg_syntax.proofs.WrittenParts.{WrittenTerms, braces_written, no_terms
 pub number_written : (below : Bool) (num den : ℕ) → num < 10 ^ 30 → den < 10 ^ 30 → Written (number below num den)
 unfolding text_of
 number_written below num den l r = plain_written (number below num den) refl refl
-    (λ k h i. expr_is (grammar.special k) i _ _ (number_term (grammar.special k) i below num den l r))
+    (λ k h i. expr_is (grammar.special formats.One k) i _ _ (number_term (grammar.special formats.One k) i below num den l r))
 
 pub ups_written : (down : Bool) (n : ℕ) → Written (ups down n)
 unfolding text_of
 ups_written down n = plain_written (ups down n) refl refl
-    (λ k h i. expr_is (grammar.special k) i _ _ (ups_term (grammar.special k) i down n))
+    (λ k h i. expr_is (grammar.special formats.One k) i _ _ (ups_term (grammar.special formats.One k) i down n))
 
 pub nimber_written : (n : ℕ) → n < 10 ^ 30 → Written (nimber n)
 unfolding text_of
 nimber_written n l = plain_written (nimber n) refl refl
-    (λ k h i. expr_is (grammar.special k) i _ _ (nimber_term (grammar.special k) i n l))
+    (λ k h i. expr_is (grammar.special formats.One k) i _ _ (nimber_term (grammar.special formats.One k) i n l))
 
 pub switch_written : (num den : ℕ) → num < 10 ^ 30 → den < 10 ^ 30 → Written (switch num den)
 unfolding text_of
 switch_written num den l r = plain_written (switch num den) refl refl
-    (λ k h i. expr_is (grammar.special k) i _ _ (special_is (grammar.special k) i _ _ (switch_special k i num den l r)))
+    (λ k h i. expr_is (grammar.special formats.One k) i _ _ (special_is (grammar.special formats.One k) i _ _ (switch_special k i num den l r)))
 
 pub tiny_written : (miny : Bool) (num den : ℕ) → num < 10 ^ 30 → den < 10 ^ 30 → Written (tiny miny num den)
 unfolding text_of
 tiny_written miny num den l r = plain_written (tiny miny num den) refl refl
-    (λ k h i. expr_is (grammar.special k) i _ _ (special_is (grammar.special k) i _ _ (tiny_special k i miny num den l r)))
+    (λ k h i. expr_is (grammar.special formats.One k) i _ _ (special_is (grammar.special formats.One k) i _ _ (tiny_special k i miny num den l r)))
 
 pub game_written : (kind : GameKind) (rules board : List ℕ) → AreTexts kind rules board → Written (game kind rules board)
 unfolding text_of
 game_written kind rules board a = plain_written (game kind rules board) refl refl
-    (λ k h i. expr_is (grammar.special k) i _ _ (special_is (grammar.special k) i _ _
+    (λ k h i. expr_is (grammar.special formats.One k) i _ _ (special_is (grammar.special formats.One k) i _ _
     (board_special k i _ _ (board_is i kind rules board a))))
 
 pub octal_written : (code : List ℕ) (heap : ℕ) → IsPrintable code → heap < 10 ^ 30 → Written (octal code heap)
 unfolding text_of
 octal_written code heap p l = plain_written (octal code heap) refl refl
-    (λ k h i. expr_is (grammar.special k) i _ _ (special_is (grammar.special k) i _ _
+    (λ k h i. expr_is (grammar.special formats.One k) i _ _ (special_is (grammar.special formats.One k) i _ _
     (octal_special k i _ _ (octal_is i code heap p l))))
 
 pub negative_written : (t : Tree) → Written t → Written (negative t)
 unfolding text_of
 negative_written t w = plain_written (negative t) refl refl
-    (λ k h i. expr_is (grammar.special k) i _ _ (negative_term (grammar.special k) i t _ (λ j. w.operand k h j)))
+    (λ k h i. expr_is (grammar.special formats.One k) i _ _ (negative_term (grammar.special formats.One k) i t _ (λ j. w.operand k h j)))
 
 pub multiple_written : (n : ℕ) (t : Tree) → n < 10 ^ 30 → Written t → Written (multiple n t)
 unfolding text_of
 multiple_written n t l w = plain_written (multiple n t) refl refl
-    (λ k h i. expr_is (grammar.special k) i _ _ (multiple_term (grammar.special k) i n t _ l (λ j. w.operand k h j)))
+    (λ k h i. expr_is (grammar.special formats.One k) i _ _ (multiple_term (grammar.special formats.One k) i n t _ l (λ j. w.operand k h j)))
 
 mutual
   written : (t : Tree) → IsWritable t → Written t
@@ -72,6 +73,7 @@ mutual
   written (sum terms) w = written_sum terms w
   written (game kind rules board) w = game_written kind rules board w
   written (octal code heap) w = octal_written code heap w.0 w.1
+  written (used word column) w = absurd w
 
   all_written : (ts : Trees) → AreWritable ts → WrittenAll ts
   all_written no_trees w = none_written
@@ -94,5 +96,5 @@ mutual
   some_sum t no_terms w all f = absurd f
   some_sum t (with_term minus u ts) w all f = sum_written t minus u ts w all
 
-pub text_reads : (t : Tree) → IsWritable t → height t ≤ 64 → (i : ℕ) → grammar.expr (grammar.special 64) i (clean t) (text_of t)
+pub text_reads : (t : Tree) → IsWritable t → height t ≤ 64 → (i : ℕ) → grammar.expr (grammar.special formats.One 64) i (clean t) (text_of t)
 text_reads t w l i = (written t w).inner 64 (inner_low t 64 l) i

@@ -27,16 +27,27 @@
 --   string   = one quotation mark, any bytes 0x20 to 0x7E but a quotation mark, one quotation mark
 --   digits   = one to thirty bytes "0" to "9"
 --
+-- In format 2 there are also
+--
+--   line     = B query B | B define B
+--   define   = name B ":=" B expr
+--   special  = switch | tiny | braces | paren | board | octal | name
+--   name     = one byte "a" to "z" but "v", then up to fifteen bytes "a" to "z" or "0" to "9"; no word of a question
+--
 -- B is any number of blanks, and B1 is at least one; blanks are space, tab and CR. Tokens are as long as possible: this
--- shows in runs of bars, in runs of arrows behind the point of a multiple, and in runs of digits. At most 64 braces and
+-- shows in runs of bars, in runs of arrows behind the point of a multiple, in names, and in runs of digits. At most 64 braces and
 -- parens are open at once.
-use Rattle.std.specs.Prelude.{ℕ, zero, suc, ◌+◌, ◌≡◌, Bool, true, false, List, [], ◌∷◌, ◌++◌, length, map, Option, Some, None, codes}
+use Rattle.std.specs.Prelude.{ℕ, zero, suc, ◌+◌, ◌≡◌, Bool, true, false, List, [], ◌∷◌, ◌++◌, length, map, Option, Some, None, codes, not}
+use Rattle.std.specs.List.{list_any}
+use Rattle.std.specs.Str.{bytes_eq}
 use Rattle.cg_reading.specs.Bytes.{Class, Ends}
-use Rattle.cg_reading.specs.Pieces.{Piece, Then, Or, Many, Made, Nothing, One, Bytes, Run, Word, Placed, Longest}
+use Rattle.cg_reading.specs.Pieces.{Piece, Then, Or, Many, Made, Nothing, One, Bytes, Few, Run, Word, Placed, Longest, Such}
 use Rattle.cg_reading.specs.Tokens.{only, blanks, gap, behind_blanks, with_blanks, digits}
-use Rattle.cg_syntax.specs.Tree.{Tree, Question, nimber, switch, tiny, octal, value, compare, outcome, stops, mean, temp, thermo, proof}
-use Rattle.cg_syntax.specs.Found.{Found, Asked}
-use Rattle.cg_syntax.specs.Values.{Arrows, ups_tree, Counted, whole, times, counted_goes_on, counted_of, with_tail, clean, negated, sum_of, run_side, braces_of, one_text, two_texts, asked_of, asked_of_both, checked}
+use Rattle.cg_syntax.specs.Tree.{Tree, Question, nimber, switch, tiny, octal, used, value, compare, outcome, stops, mean, temp, thermo, proof}
+use Rattle.cg_syntax.specs.Found.{Found, Asked, Stated}
+use Rattle.cg_syntax.specs.Values.{Arrows, ups_tree, letter_or_digit, Last, In_none, In_arrows, In_name, goes_on, Counted, whole, times, counted_goes_on, counted_of, with_tail, clean, negated, sum_of, run_side, braces_of, one_text, two_texts, asked_of, asked_of_both, checked, asking as asking_line, defined}
+use Rattle.cg_syntax.specs.declared.format.Format.{Format}
+use Rattle.cg_syntax.specs.declared.format.Format.TheVariants as formats
 use Rattle.cg_syntax.specs.declared.kind.GameKind.{GameKind}
 use Rattle.cg_syntax.specs.declared.kind.GameKind.TheVariants.{Domineering, Clobber, Amazons, Toads, Strip, Hackenbush, Col, Snort}
 
@@ -149,6 +160,25 @@ board =
 abbrev pub octal_piece : Piece Found
 octal_piece = Made (λ v. clean (octal v.1.1.0 v.1.1.1)) (Then (Word (codes "Octal") (tt {0})) (Then blanks (enclosed (string_and digits))))
 
+-- ---- names
+
+-- what a name begins with: "v" is an arrow
+abbrev pub letter : Class
+letter = (97, 117) ∷ (119, 122) ∷ []
+
+abbrev pub lettered : Piece (List ℕ)
+lettered = Made (λ v. v.0 ∷ v.1) (Then (One letter) (Few letter_or_digit 15))
+
+-- the words of questions that begin with such a letter
+abbrev pub question_words : List (List ℕ)
+question_words = codes "compare" ∷ codes "outcome" ∷ codes "stops" ∷ codes "mean" ∷ codes "temp" ∷ codes "thermo" ∷ codes "proof" ∷ codes "check" ∷ []
+
+abbrev pub is_free : List ℕ → Bool
+is_free word = not (list_any (bytes_eq word) question_words)
+
+abbrev pub name : Piece (List ℕ)
+name = Such is_free lettered
+
 -- ---- terms and expressions, over what a special may be
 
 abbrev pub optional : {A : Type 0} → Piece A → Piece (Option A)
@@ -163,12 +193,12 @@ ups_and_nim = Made (λ v. with_tail (clean v.0) (None, v.1)) (Then (Made ups_tre
 abbrev pub sign : Piece Bool
 sign = Or (Made (λ _. false) (One plus)) (Made (λ _. true) (One minus))
 
-module _ (special : Piece Found) where
-  -- an operand of a multiple, with its arrows if it is some
-  abbrev pub primary : Piece (Found × Option Arrows)
-  primary = Or (Made (λ a. (clean (ups_tree a), Some a)) ups) (Or (Made (λ t. (clean t, None)) nim) (Made (λ e. (e, None)) special))
+module _ (special : Piece (Found × Last)) where
+  -- an operand of a multiple
+  abbrev pub primary : Piece (Found × Last)
+  primary = Or (Made (λ a. (clean (ups_tree a), In_arrows a)) ups) (Or (Made (λ t. (clean t, In_none)) nim) special)
 
-  abbrev pub multiple : Piece (ℕ × (Found × Option Arrows))
+  abbrev pub multiple : Piece (ℕ × (Found × Last))
   multiple = Made (λ v. (v.0, v.1.1)) (Then digits (Then (One point) primary))
 
   abbrev pub counted : Piece Counted
@@ -179,7 +209,7 @@ module _ (special : Piece Found) where
   counted_tail negative = Made (λ v. with_tail (counted_of negative v.0) v.1) (Longest counted_goes_on counted tail)
 
   abbrev pub special_tail : Piece Found
-  special_tail = Made (λ v. with_tail v.0 v.1) (Then special tail)
+  special_tail = Made (λ v. with_tail v.0.0 v.1) (Longest (λ v. goes_on v.1) special tail)
 
   abbrev pub body : Piece Found
   body =
@@ -228,11 +258,25 @@ module _ (side : Piece (List Found)) where
   abbrev pub braces : Piece Found
   braces = Made (λ v. braces_of v.1.0 (map run_side v.1.1.0)) (Then (One opening_brace) (Then side (Then (Made (λ v. v.0 ∷ v.1) Some_rows) (One closing_brace))))
 
+-- an operand that ends in no token that may go on
+abbrev pub whole_piece : Piece Found → Piece (Found × Last)
+whole_piece R = Made (λ e. (e, In_none)) R
+
+-- a use of a name
+abbrev pub use_piece : Piece (Found × Last)
+use_piece = Made (λ v. (clean (used v.1 v.0), In_name v.1)) (Placed name)
+
+-- names are operands in format 2 alone
+abbrev pub with_names : Format → Piece (Found × Last) → Piece (Found × Last)
+with_names formats.One R = R
+with_names formats.Two R = Or R use_piece
+
 -- what may be an operand besides numbers, ups and nimbers, with so many braces and parens at most open at once
-unfoldable pub special : ℕ → Piece Found
-special zero = Or switch_piece (Or tiny_piece (Or board octal_piece))
-special (suc k) =
-    Or switch_piece (Or tiny_piece (Or (braces (side (expr (special k)))) (Or (enclosed (expr (special k))) (Or board octal_piece))))
+unfoldable pub special : Format → ℕ → Piece (Found × Last)
+special format zero = with_names format (whole_piece (Or switch_piece (Or tiny_piece (Or board octal_piece))))
+special format (suc k) =
+    with_names format (whole_piece
+    (Or switch_piece (Or tiny_piece (Or (braces (side (expr (special format k)))) (Or (enclosed (expr (special format k))) (Or board octal_piece))))))
 
 -- ---- lines
 
@@ -257,6 +301,14 @@ module _ (expr : Piece Found) where
       (Or (Made (λ v. asked_of_both v.0 v.1.1.0 v.1.1.1) (Then asking_both (Then gap (with_semicolon expr expr))))
       (Made (λ v. checked v.1.1.0.0 v.1.1.0.1 v.1.1.1) (Then (Word (codes "check") (tt {0})) (Then gap (with_semicolon (with_semicolon expr expr) string)))))
 
--- a line, with 64 brackets at most open at once
+-- a line of format 1, with 64 brackets at most open at once
 abbrev pub line : Piece Asked
-line = behind_blanks (with_blanks (query (expr (special 64))))
+line = behind_blanks (with_blanks (query (expr (special formats.One 64))))
+
+-- a definition
+abbrev pub define : Piece Stated
+define = Made (λ v. defined v.0 v.1.1.1.1) (Then name (Then blanks (Then (Word (codes ":=") (tt {0})) (Then blanks (expr (special formats.Two 64))))))
+
+-- a line of format 2
+abbrev pub line_two : Piece Stated
+line_two = behind_blanks (with_blanks (Or (Made asking_line (query (expr (special formats.Two 64)))) define))

@@ -8,7 +8,14 @@ pub mod Reading
 pub mod Views
 pub mod Cuts
 pub mod Questions
+pub mod Statements
 pub mod Lines
 pub mod Answered
 pub mod Splitting
 pub mod Written
+pub mod Formats
+pub mod Naming
+pub mod SessionLines
+pub mod Session
+pub mod SessionViews
+pub mod Bound

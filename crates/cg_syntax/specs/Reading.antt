@@ -1,13 +1,16 @@
 -- Reading a line from its front, piece by piece. The functions of the code are told by these what they return.
-use Rattle.std.specs.Prelude.{ℕ, zero, suc, Bool, true, false, List, [], ◌∷◌, ◌++◌, length, map, Option, Some, None, Result, Ok, codes}
+use Rattle.std.specs.Prelude.{ℕ, zero, suc, Bool, true, false, List, [], ◌∷◌, ◌++◌, length, map, Option, Some, None, Result, Ok, cond, codes}
+use Rattle.std.specs.Str.{bytes_eq}
 use Rattle.cg_reading.specs.Bytes.{Class}
-use Rattle.cg_reading.specs.Readers.{Read, Reader, ◌>>=◌, then_at, or_at, many_at, behind_these, made_at, nothing_at, one_at, bytes_at, run_at, placed_at, whole_at}
+use Rattle.cg_reading.specs.Readers.{Read, Reader, ◌>>=◌, then_at, or_at, many_at, behind_these, made_at, nothing_at, one_at, bytes_at, most_at, run_at, placed_at, such_at, telling_at, whole_at}
 use Rattle.cg_reading.specs.Tokens.{only, blank, digit}
 use Rattle.cg_reading.specs.TokenReaders.{blanks_at, byte_at, gap_at, this_word_at, digits_at}
-use Rattle.cg_syntax.specs.Tree.{Tree, Question, number, ups, nimber, switch, tiny, sum, octal, terms_from, value, compare, outcome, stops, mean, temp, thermo, proof}
-use Rattle.cg_syntax.specs.Found.{Found, Asked, first}
-use Rattle.cg_syntax.specs.Values.{Arrows, ups_tree, Counted, whole, times, goes_on, counted_of, times_of, with_tail, clean, negated, sum_of, minus_of, first_fault, run_side, braces_of, one_text, two_texts, asked_of, asked_of_both, checked}
-use Rattle.cg_syntax.specs.Grammar.{printable, bar}
+use Rattle.cg_syntax.specs.Tree.{Tree, Question, number, ups, nimber, switch, tiny, sum, octal, used, terms_from, value, compare, outcome, stops, mean, temp, thermo, proof}
+use Rattle.cg_syntax.specs.Found.{Found, Asked, Stated, first}
+use Rattle.cg_syntax.specs.Values.{Arrows, ups_tree, letter_or_digit, Last, In_none, In_arrows, In_name, Counted, whole, times, goes_on, counted_of, times_of, with_tail, clean, negated, sum_of, minus_of, first_fault, run_side, braces_of, one_text, two_texts, asked_of, asked_of_both, checked, asking, defined}
+use Rattle.cg_syntax.specs.Grammar.{printable, bar, letter, is_free}
+use Rattle.cg_syntax.specs.declared.format.Format.{Format}
+use Rattle.cg_syntax.specs.declared.format.Format.TheVariants as formats
 use Rattle.cg_syntax.specs.declared.kind.GameKind.{GameKind}
 use Rattle.cg_syntax.specs.declared.kind.GameKind.TheVariants.{Domineering, Clobber, Amazons, Toads, Strip, Hackenbush, Col, Snort}
 
@@ -24,10 +27,10 @@ abbrev pub plain_begin : Class
 plain_begin = (43, 43) ∷ (65, 65) ∷ (67, 68) ∷ (72, 72) ∷ (77, 77) ∷ (79, 79) ∷ (83, 84) ∷ []
 
 abbrev pub special_begin : Class
-special_begin = (43, 43) ∷ (65, 65) ∷ (67, 68) ∷ (72, 72) ∷ (77, 77) ∷ (79, 79) ∷ (83, 84) ∷ (123, 123) ∷ (40, 40) ∷ []
+special_begin = (43, 43) ∷ (65, 65) ∷ (67, 68) ∷ (72, 72) ∷ (77, 77) ∷ (79, 79) ∷ (83, 84) ∷ (123, 123) ∷ (40, 40) ∷ (97, 117) ∷ (119, 122) ∷ []
 
 abbrev pub uncounted_begin : Class
-uncounted_begin = (94, 94) ∷ (118, 118) ∷ (42, 43) ∷ (65, 65) ∷ (67, 68) ∷ (72, 72) ∷ (77, 77) ∷ (79, 79) ∷ (83, 84) ∷ (123, 123) ∷ (40, 40) ∷ []
+uncounted_begin = (97, 122) ∷ (94, 94) ∷ (42, 43) ∷ (65, 65) ∷ (67, 68) ∷ (72, 72) ∷ (77, 77) ∷ (79, 79) ∷ (83, 84) ∷ (123, 123) ∷ (40, 40) ∷ []
 
 abbrev pub unsigned_begin : Class
 unsigned_begin = (48, 57) ∷ uncounted_begin
@@ -152,12 +155,33 @@ named_board_at = or_at (only 68) (one_text_at (codes "Domineering") Domineering)
 unfoldable pub plain_special_at : Reader Found
 plain_special_at = or_at (only 43) switch_at (or_at (only 77) (tiny_at (codes "Miny") true) (or_at (only 84) tiny_or_toads_at (or_at (only 79) octal_at named_board_at)))
 
+-- ---- names
+
+-- all letters and digits in front, sixteen at most
+unfoldable pub lettered_at : Reader (List ℕ)
+lettered_at = made_at (λ v. v.0 ∷ v.1) (then_at (one_at letter) (most_at letter_or_digit 15))
+
+unfoldable pub name_at : Reader (List ℕ)
+name_at = such_at is_free lettered_at
+
+unfoldable pub use_at : Reader Found
+use_at = made_at (λ v. clean (used v.1 v.0)) (placed_at name_at)
+
+-- the same, with what it ends in
+unfoldable pub whole_use_at : Reader (Found × Last)
+whole_use_at = made_at (λ v. (clean (used v.1 v.0), In_name v.1)) (placed_at name_at)
+
+-- a name where one may stand, and else the other
+abbrev pub with_names_at : {A : Type 0} → Format → Reader A → Reader A → Reader A
+with_names_at formats.One named f = f
+with_names_at formats.Two named f = or_at letter named f
+
 -- ---- terms
 
 -- what stands behind the digits of a number or a multiple
 pub data Behind : Type 0 where
   Over : ℕ → Behind
-  Times : Found → Option Arrows → Behind
+  Times : Found → Last → Behind
 
 -- the number or the multiple that it makes with the digits
 abbrev pub counted_from : ℕ × Behind → Counted
@@ -169,9 +193,10 @@ abbrev pub behind_goes_on : Behind → Class
 behind_goes_on (Over d) = []
 behind_goes_on (Times e last) = goes_on last
 
-module _ (special : Reader Found) where
-  unfoldable pub primary_at : Reader (Found × Option Arrows)
-  primary_at = or_at arrow (made_at (λ a. (clean (ups_tree a), Some a)) ups_at) (or_at star (made_at (λ t. (clean t, None)) nim_at) (made_at (λ e. (e, None)) special))
+-- operands with what they end in
+module _ (special : Reader (Found × Last)) where
+  unfoldable pub primary_at : Reader (Found × Last)
+  primary_at = or_at arrow (made_at (λ a. (clean (ups_tree a), In_arrows a)) ups_at) (or_at star (made_at (λ t. (clean t, In_none)) nim_at) special)
 
   unfoldable pub behind_at : Reader Behind
   behind_at = or_at (only 47) (made_at (λ v. Over v.1) (then_at (one_at (only 47)) digits_at)) (or_at (only 46) (made_at (λ v. Times v.1.0 v.1.1) (then_at (one_at (only 46)) primary_at)) (nothing_at (Over 1)))
@@ -182,7 +207,11 @@ module _ (special : Reader Found) where
   unfoldable pub counted_term_at : Bool → Reader Found
   counted_term_at negative = made_at (λ v. with_tail (counted_of negative (counted_from v.0)) v.1) (then_at counted_at tail_at)
 
-  -- the same, without what goes on with the last token
+  unfoldable pub whole_term_at : Reader Found
+  whole_term_at = made_at (λ v. with_tail v.0.0 v.1) (then_at special tail_at)
+
+-- the same, without what they end in
+module _ (special : Reader Found) where
   unfoldable pub plain_primary_at : Reader Found
   plain_primary_at = or_at arrow (made_at clean ups_tree_at) (or_at star (made_at clean nim_at) special)
 
@@ -256,17 +285,25 @@ module _ (expr : Reader Found) where
 unfoldable pub bracket_at : Reader Found → Reader Found
 bracket_at expr = or_at (only 123) (braces_at expr) (paren_at expr)
 
--- a special with so many brackets at most open at once
-unfoldable pub special_at : ℕ → Reader Found
-special_at zero end bytes = plain_special_at end bytes
-special_at (suc k) end bytes = or_at plain_begin plain_special_at (bracket_at (sum_at (λ e b. special_at k e b))) end bytes
+-- a special that is no name, with so many brackets at most open at once
+unfoldable pub bare_special_at : Format → ℕ → Reader Found
+bare_special_at format zero end bytes = plain_special_at end bytes
+bare_special_at format (suc k) end bytes = or_at plain_begin plain_special_at (bracket_at (sum_at (λ e b. with_names_at format use_at (λ o s. bare_special_at format k o s) e b))) end bytes
+
+-- a special
+unfoldable pub special_at : Format → ℕ → Reader Found
+special_at format k end bytes = with_names_at format use_at (bare_special_at format k) end bytes
+
+-- the same, with what it ends in
+unfoldable pub whole_special_at : Format → ℕ → Reader (Found × Last)
+whole_special_at format k = with_names_at format whole_use_at (made_at (λ e. (e, In_none)) (bare_special_at format k))
 
 -- more terms behind these, where these faults come before
 abbrev pub with_terms : List (Bool × Tree) → Option ℕ → Read (List (Bool × Found)) → Read Found
 with_terms front fault read = read >>= λ x. Ok (record { tree = sum (terms_from (front ++ minus_of x.0)); fault = first fault (first_fault x.0) }, x.1)
 
-unfoldable pub more_terms_at : ℕ → List (Bool × Tree) → Option ℕ → Reader Found
-more_terms_at k front fault end bytes = with_terms front fault (many_at plus_minus (next_term_at (special_at k)) end bytes)
+unfoldable pub more_terms_at : Format → ℕ → List (Bool × Tree) → Option ℕ → Reader Found
+more_terms_at format k front fault end bytes = with_terms front fault (many_at plus_minus (next_term_at (special_at format k)) end bytes)
 
 -- ---- questions
 
@@ -282,18 +319,18 @@ abbrev pub asking_begin : Class
 asking_begin = (118, 118) ∷ (111, 111) ∷ (115, 116) ∷ (109, 109) ∷ []
 
 unfoldable pub measure_at : Reader Asked
-measure_at = made_at (λ v. asked_of v.0 v.1.1) (then_at asking_at (then_at gap_at (sum_at (special_at 64))))
+measure_at = made_at (λ v. asked_of v.0 v.1.1) (then_at asking_at (then_at gap_at (sum_at (special_at formats.One 64))))
 
 abbrev pub with_semicolon_at : {A B : Type 0} → Reader A → Reader B → Reader (A × B)
 with_semicolon_at f g = made_at (λ v. (v.0, v.1.1.1)) (then_at f (then_at (byte_at 59) (then_at blanks_at g)))
 
 -- two expressions with a semicolon between them
-unfoldable pub both_at : Reader (Found × Found)
-both_at = with_semicolon_at (sum_at (special_at 64)) (sum_at (special_at 64))
+unfoldable pub both_at : Format → Reader (Found × Found)
+both_at format = with_semicolon_at (sum_at (special_at format 64)) (sum_at (special_at format 64))
 
 -- a question about two expressions, by the word in front
 unfoldable pub both_asked_at : List ℕ → (Tree → Tree → Question) → Reader Asked
-both_asked_at word ask = made_at (λ v. asked_of_both ask v.1.1.0 v.1.1.1) (then_at (this_word_at word) (then_at gap_at both_at))
+both_asked_at word ask = made_at (λ v. asked_of_both ask v.1.1.0 v.1.1.1) (then_at (this_word_at word) (then_at gap_at (both_at formats.One)))
 
 -- a text, and the blanks behind it
 abbrev pub last_string_at : Reader (List ℕ)
@@ -301,7 +338,7 @@ last_string_at = made_at (λ v. v.0) (then_at string_at blanks_at)
 
 -- a question about two expressions and a text, by the word in front
 unfoldable pub check_at : List ℕ → Reader Asked
-check_at word = made_at (λ v. checked v.1.1.0.0 v.1.1.0.1 v.1.1.1) (then_at (this_word_at word) (then_at gap_at (with_semicolon_at both_at last_string_at)))
+check_at word = made_at (λ v. checked v.1.1.0.0 v.1.1.0.1 v.1.1.1) (then_at (this_word_at word) (then_at gap_at (with_semicolon_at (both_at formats.One) last_string_at)))
 
 -- compare and check are told apart by their second byte
 unfoldable pub compare_or_check_at : Reader Asked
@@ -313,6 +350,55 @@ question_at = or_at asking_begin measure_at (or_at (only 112) (both_asked_at (co
 unfoldable pub line_at : Reader Asked
 line_at = made_at (λ v. v.1) (then_at blanks_at question_at)
 
--- the whole line
+-- the whole line of format 1
 unfoldable pub read_at : List ℕ → Result Asked ℕ
 read_at text = whole_at line_at text
+
+-- ---- lines of format 2
+
+-- what a line is whose first word is this one
+pub data Kind : Type 0 where
+  Of_one : (Tree → Question) → Kind
+  Of_two : (Tree → Tree → Question) → Kind
+  Of_check : Kind
+  Of_name : Kind
+
+abbrev pub kinds : List (List ℕ × Kind)
+kinds =
+    (codes "compare", Of_two compare) ∷ (codes "outcome", Of_one outcome) ∷ (codes "stops", Of_one stops) ∷ (codes "mean", Of_one mean)
+    ∷ (codes "temp", Of_one temp) ∷ (codes "thermo", Of_one thermo) ∷ (codes "proof", Of_two proof) ∷ (codes "check", Of_check) ∷ []
+
+abbrev pub kind_among : List (List ℕ × Kind) → List ℕ → Kind
+kind_among [] word = Of_name
+kind_among (k ∷ ks) word = cond (bytes_eq word k.0) k.1 (kind_among ks word)
+
+-- a word that is none of a question is a name
+abbrev pub kind_of : List ℕ → Kind
+kind_of word = kind_among kinds word
+
+-- ":=", and what stands around it
+unfoldable pub becomes_at : Reader (Unit {0})
+becomes_at = made_at (λ _. tt {0}) (then_at blanks_at (then_at (this_word_at (codes ":=")) blanks_at))
+
+-- what stands behind the first word
+abbrev pub behind_word_at : List ℕ → Kind → Reader Stated
+behind_word_at word (Of_one ask) = made_at (λ v. asking (asked_of ask v.1)) (then_at gap_at (sum_at (special_at formats.Two 64)))
+behind_word_at word (Of_two ask) = made_at (λ v. asking (asked_of_both ask v.1.0 v.1.1)) (then_at gap_at (both_at formats.Two))
+behind_word_at word Of_check = made_at (λ v. asking (checked v.1.0.0 v.1.0.1 v.1.1)) (then_at gap_at (with_semicolon_at (both_at formats.Two) last_string_at))
+behind_word_at word Of_name = made_at (λ v. defined word v.1) (then_at becomes_at (sum_at (special_at formats.Two 64)))
+
+unfoldable pub statement_word_at : List ℕ → Reader Stated
+statement_word_at word = behind_word_at word (kind_of word)
+
+unfoldable pub value_line_at : Reader Stated
+value_line_at = made_at (λ v. asking (asked_of value v.1.1)) (then_at (this_word_at (codes "value")) (then_at gap_at (sum_at (special_at formats.Two 64))))
+
+unfoldable pub statement_at : Reader Stated
+statement_at = or_at (only 118) value_line_at (telling_at lettered_at statement_word_at)
+
+unfoldable pub line_two_at : Reader Stated
+line_two_at = made_at (λ v. v.1) (then_at blanks_at statement_at)
+
+-- the whole line of format 2
+unfoldable pub read_two_at : List ℕ → Result Stated ℕ
+read_two_at text = whole_at line_two_at text

@@ -25,6 +25,8 @@ mutual
     game : GameKind → List ℕ → List ℕ → Tree
     -- a heap of so many tokens in the octal game of this code
     octal : List ℕ → ℕ → Tree
+    -- a use of a name, with the column where it stands
+    used : List ℕ → ℕ → Tree
 
   -- a list of trees
   pub data Trees : Type 0 where
@@ -61,3 +63,8 @@ pub data Question : Type 0 where
   thermo : Tree → Question
   proof : Tree → Tree → Question
   check : Tree → Tree → List ℕ → Question
+
+-- what a line states: it asks a question, or it defines a name by an expression
+pub data Statement : Type 0 where
+  asks : Question → Statement
+  defines : List ℕ → Tree → Statement

@@ -1,6 +1,6 @@
 -- What expressions and queries of the code stand for.
 use Rattle.std.specs.Prelude.{List, map, Bool}
-use Rattle.cg_syntax.specs.Tree.{Tree, Question, number, ups, nimber, switch, tiny, braces, negative, multiple, sum, game, octal, terms_from, value, compare, outcome, stops, mean, temp, thermo, proof, check}
+use Rattle.cg_syntax.specs.Tree.{Tree, Question, number, ups, nimber, switch, tiny, braces, negative, multiple, sum, game, octal, used, terms_from, value, compare, outcome, stops, mean, temp, thermo, proof, check}
 use Rattle.cg_syntax.specs.declared.expr.Expr.{Expr}
 use Rattle.cg_syntax.specs.declared.expr.Exprs.{Exprs}
 use Rattle.cg_syntax.specs.declared.expr.Term.{Term}
@@ -23,6 +23,7 @@ tree_step (Expr-F.Multiple n e) = multiple n e.value
 tree_step (Expr-F.Sum terms) = sum (terms_from terms)
 tree_step (Expr-F.Game kind rules board) = game kind rules board
 tree_step (Expr-F.Octal code heap) = octal code heap
+tree_step (Expr-F.Name word column) = used word column
 
 abbrev pub exprs_step : Exprs-F Tree (List Tree) (Bool × Tree) (List (Bool × Tree)) → List Tree
 exprs_step es = es.items.items

@@ -1,9 +1,10 @@
 -- What the pieces of an expression spell, from what their parts spell.
 use Rattle.std.specs.Prelude.{ℕ, Bool, true, false, cond, List, [], ◌∷◌, ◌++◌, Option, Some, None}
 use Rattle.cg_reading.specs.Bytes.{Class}
+use Rattle.cg_reading.specs.Pieces.{more_of}
 use Rattle.cg_reading.specs.Tokens.{only}
-use Rattle.cg_syntax.specs.Tree.{Tree, Question, number, ups, negative, multiple, sum, game, terms_from, check}
-use Rattle.cg_syntax.specs.Found.{Found, Asked, first}
+use Rattle.cg_syntax.specs.Tree.{Tree, Question, number, ups, negative, multiple, sum, game, terms_from, check, used, asks, defines}
+use Rattle.cg_syntax.specs.Found.{Found, Asked, Stated, first}
 use Rattle.cg_syntax.specs.Braces.{Run_side, row_tree, row_fault}
 use Rattle.cg_syntax.specs.declared.kind.GameKind.{GameKind}
 use Rattle.cg_syntax.specs.declared.kind.GameKind.TheVariants.{Strip, Hackenbush}
@@ -30,6 +31,17 @@ ups_tree a = ups a.down a.count
 abbrev pub more_arrows : Arrows → Class
 more_arrows a = cond a.is_run (only (cond a.down 118 94)) []
 
+-- ---- names
+
+-- what a name has behind its first letter
+abbrev pub letter_or_digit : Class
+letter_or_digit = (97, 122) ∷ (48, 57) ∷ []
+
+-- the bytes that would still belong to this name, which has at most sixteen
+abbrev pub more_letters : List ℕ → Class
+more_letters [] = []
+more_letters (b ∷ bs) = more_of letter_or_digit 15 bs
+
 -- ---- what stands together is added
 
 abbrev pub some_term : Option Tree → List (Bool × Tree)
@@ -46,15 +58,22 @@ with_tail e v = record { tree = together e.tree (some_term v.0 ++ some_term v.1)
 
 -- ---- numbers and multiples
 
--- a number by its numerator and denominator, or so many times an operand, with its arrows if it is some
-pub data Counted : Type 0 where
-  whole : ℕ → ℕ → Counted
-  times : ℕ → Found → Option Arrows → Counted
+-- what an operand ends in, where it is a token that may go on: arrows, or a name
+pub data Last : Type 0 where
+  In_none : Last
+  In_arrows : Arrows → Last
+  In_name : List ℕ → Last
 
 -- the bytes that would still belong to an operand
-abbrev pub goes_on : Option Arrows → Class
-goes_on None = []
-goes_on (Some a) = more_arrows a
+abbrev pub goes_on : Last → Class
+goes_on In_none = []
+goes_on (In_arrows a) = more_arrows a
+goes_on (In_name word) = more_letters word
+
+-- a number by its numerator and denominator, or so many times an operand
+pub data Counted : Type 0 where
+  whole : ℕ → ℕ → Counted
+  times : ℕ → Found → Last → Counted
 
 -- and to a number or a multiple
 abbrev pub counted_goes_on : Counted → Class
@@ -115,3 +134,11 @@ asked_of_both ask e f = record { question = ask e.tree f.tree; fault = first e.f
 
 abbrev pub checked : Found → Found → List ℕ → Asked
 checked e f text = record { question = check e.tree f.tree text; fault = first e.fault f.fault }
+
+-- ---- lines
+
+abbrev pub asking : Asked → Stated
+asking a = record { statement = asks a.question; fault = a.fault }
+
+abbrev pub defined : List ℕ → Found → Stated
+defined word e = record { statement = defines word e.tree; fault = e.fault }

@@ -4,7 +4,7 @@ use Rattle.std.specs.Prelude.{ℕ, suc, max, ◌≡◌, ◌<◌, Bool, true, fal
 use Rattle.std.specs.List.{list_all}
 use Rattle.cg_reading.specs.Bytes.{has}
 use Rattle.cg_syntax.specs.Grammar.{printable}
-use Rattle.cg_syntax.specs.Tree.{Tree, Trees, Terms, Question, number, ups, nimber, switch, tiny, sides, negative, multiple, sum, game, octal, no_trees, with_tree, no_terms, with_term, value, compare, outcome, stops, mean, temp, thermo, proof, check}
+use Rattle.cg_syntax.specs.Tree.{Tree, Trees, Terms, Question, number, ups, nimber, switch, tiny, sides, negative, multiple, sum, game, octal, used, no_trees, with_tree, no_terms, with_term, value, compare, outcome, stops, mean, temp, thermo, proof, check}
 use Rattle.cg_syntax.specs.declared.kind.GameKind.{GameKind}
 use Rattle.cg_syntax.specs.declared.kind.GameKind.TheVariants.{Domineering, Clobber, Amazons, Toads, Strip, Hackenbush, Col, Snort}
 
@@ -61,6 +61,7 @@ unfoldable mutual
   text_of (sum terms) = terms_text terms
   text_of (game kind rules board) = kind_text kind ++ (40 ∷ (texts_of_game kind rules board ++ (41 ∷ [])))
   text_of (octal code heap) = codes "Octal(" ++ ((quoted code ++ (44 ∷ decimal heap)) ++ (41 ∷ []))
+  text_of (used word column) = word
 
   -- expressions with commas between them
   pub texts_of : Trees → List ℕ
@@ -131,8 +132,8 @@ AreTexts Col rules board = IsPrintable rules × IsPrintable board
 AreTexts Snort rules board = IsPrintable rules × IsPrintable board
 AreTexts _ rules board = (rules ≡ []) × IsPrintable board
 
--- each run of digits has thirty of them at most, each sum two terms, the first of which isn't subtracted, and each text
--- of a board may stand between quotation marks
+-- each run of digits has thirty of them at most, each sum two terms, the first of which isn't subtracted, each text of a
+-- board may stand between quotation marks, and there are no names
 abbrev mutual
   pub IsWritable : Tree → Type 0
   IsWritable (number below num den) = (num < 10 ^ 30) × (den < 10 ^ 30)
@@ -146,6 +147,7 @@ abbrev mutual
   IsWritable (sum terms) = IsSum terms
   IsWritable (game kind rules board) = AreTexts kind rules board
   IsWritable (octal code heap) = IsPrintable code × (heap < 10 ^ 30)
+  IsWritable (used word column) = ⊥
 
   pub AreWritable : Trees → Type 0
   AreWritable no_trees = Unit {0}

@@ -54,6 +54,11 @@ pub enum Expr {
         code: Text,
         heap: u128,
     },
+    /// A use of a name, with the column where it stands. Only lines of format 2 have uses of names.
+    Name {
+        text: Text,
+        column: u64,
+    },
 }
 
 /// A term of a sum, which is added or subtracted.

@@ -64,6 +64,7 @@ fn parts_within(levels: u8, expr: &Expr) -> bool
         Expr::Sum(terms) => terms_within(levels, terms),
         Expr::Game { .. } => true,
         Expr::Octal { .. } => true,
+        Expr::Name { .. } => true,
     }
 }
 

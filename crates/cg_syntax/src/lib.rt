@@ -1,5 +1,5 @@
 //! Lines of questions: `read_line` tells what one line of a session asks, by this grammar, and `write_query` writes a
-//! question as a line.
+//! question as a line. `read_statement` tells what one line of a session of format 2 asks or defines.
 //!
 //! ```text
 //! line     = B query B
@@ -30,6 +30,15 @@
 //! digits   = one to thirty bytes "0" to "9"
 //! ```
 //!
+//! In format 2 there are names:
+//!
+//! ```text
+//! line     = B query B | B define B
+//! define   = name B ":=" B expr
+//! special  = switch | tiny | braces | paren | board | octal | name
+//! name     = one byte "a" to "z" but "v", then up to fifteen bytes "a" to "z" or "0" to "9"; no word of a question
+//! ```
+//!
 //! `B` is any number of blanks, and `B1` at least one. A blank is a space, a tab or a CR. Tokens are as long as
 //! possible. At most 64 braces and parens are open at once. In a brace, two runs of bars of the same length have a
 //! longer run between them. The longest run splits a brace into its Left and its Right side; a side that holds a run is
@@ -40,27 +49,43 @@ mod arrows;
 mod bars;
 mod boards;
 mod build;
+mod count;
+mod expand;
 mod expr;
 mod faults;
+mod format;
 mod found;
 mod kind;
 pub mod laws;
 mod levels;
 mod line;
+mod marks;
 mod named;
+mod names;
 mod query;
 mod questions;
+mod resolve;
+mod session;
+mod session_lines;
+mod sheet;
+mod sizes;
 mod split;
+mod statements;
 mod terms;
 mod text;
 mod write;
 mod write_expr;
 mod write_tokens;
 
+pub use count::answered_count;
 pub use expr::{Expr, Exprs, Term, Terms};
+pub use format::Format;
+pub use found::Statement;
 pub use kind::GameKind;
 pub use levels::is_low;
 pub use line::read_line;
 pub use query::{Line, Query, SyntaxFault};
+pub use session::{Asked, Session, SessionLine, SessionLines, read_session};
+pub use statements::read_statement;
 pub use text::Text;
 pub use write::write_query;

@@ -37,10 +37,10 @@ pub enum Line {
     Ask(Query),
 }
 
-/// Why `read_line` read nothing.
+/// Why `read_line` or `read_statement` read nothing.
 #[derive(Clone, Copy, Debug, PartialEq, Eq, Error)]
 pub enum SyntaxFault {
-    /// The line is neither blank nor a comment, and isn't in the grammar. The column counts bytes from 1.
+    /// The line isn't in the grammar. The column counts bytes from 1.
     #[error("the line isn't in the grammar at column {0}")]
     Syntax(u64),
     /// There was no memory for the expressions.

@@ -13,6 +13,7 @@ ghost use Rattle.cg_syntax.specs.Questions.{asking_of, asking_both_of, asked_in}
 
 use crate::expr::Expr;
 use crate::faults::earlier;
+use crate::format::Format;
 use crate::found::{Asked, Found};
 use crate::named::string;
 use crate::query::Query;
@@ -21,7 +22,7 @@ use cg_reading::{ReadFault, after_blanks, after_byte, after_gap, after_word, is_
 use std::alloc::Global;
 
 /// How many braces and parentheses may be open at once.
-const MOST_OPEN: u8 = 64;
+pub const MOST_OPEN: u8 = 64;
 
 /// What is asked of one expression.
 #[derive(Clone, Copy, Debug, PartialEq, Eq)]
@@ -86,7 +87,7 @@ fn asking_word(bytes: &[u8]) -> Result<(Asking, &[u8]), ReadFault>
 }
 
 /// The query that asks this of an expression.
-fn query(asking: Asking, expr: Expr) -> Query
+pub fn query(asking: Asking, expr: Expr) -> Query
     ensures { question_of result ≡ asking_of asking (tree_of expr) }
 {
     match asking {
@@ -107,7 +108,7 @@ fn measure(alloc: Global, line_end: u64, bytes: &[u8]) -> Result<(Asked, &[u8]),
 {
     let (asking, rest) = asking_word(bytes)?;
     let rest = after_gap(rest)?;
-    let (found, rest) = sum(alloc, MOST_OPEN, line_end, rest)?;
+    let (found, rest) = sum(alloc, Format::One, MOST_OPEN, line_end, rest)?;
     let fault = found.fault;
     let query = query(asking, found.expr);
     Ok((Asked { query, fault }, rest))
@@ -115,20 +116,25 @@ fn measure(alloc: Global, line_end: u64, bytes: &[u8]) -> Result<(Asked, &[u8]),
 
 /// Two expressions with a semicolon between them.
 #[tactic(auto, unfolding(crate::specs::Reading::both_at))]
-fn both(alloc: Global, line_end: u64, bytes: &[u8]) -> Result<((Found, Found), &[u8]), ReadFault>
+pub fn both(
+    alloc: Global,
+    format: Format,
+    line_end: u64,
+    bytes: &[u8],
+) -> Result<((Found, Found), &[u8]), ReadFault>
     requires { length bytes.now ≤ line_end }
     ensures read { Gives (λ x. ((found_of x.0.0, found_of x.0.1), x.1.now)) result
-        (both_at line_end bytes.now) }
+        (both_at format line_end bytes.now) }
     ensures shorter { IfOk result (λ x. length x.1.now ≤ length bytes.now) }
 {
-    let (first, rest) = sum(alloc, MOST_OPEN, line_end, bytes)?;
+    let (first, rest) = sum(alloc, format, MOST_OPEN, line_end, bytes)?;
     let rest = after_byte(b';', rest)?;
-    let (second, rest) = sum(alloc, MOST_OPEN, line_end, after_blanks(rest))?;
+    let (second, rest) = sum(alloc, format, MOST_OPEN, line_end, after_blanks(rest))?;
     Ok(((first, second), rest))
 }
 
 /// The query that asks this of two expressions.
-fn query_of_both(asking: AskingBoth, first: Expr, second: Expr) -> Query
+pub fn query_of_both(asking: AskingBoth, first: Expr, second: Expr) -> Query
     ensures { question_of result ≡ asking_both_of asking (tree_of first) (tree_of second) }
 {
     match asking {
@@ -152,7 +158,7 @@ fn asked_of_both<'a>(
 {
     let rest = after_word(word, bytes)?;
     let rest = after_gap(rest)?;
-    let ((first, second), rest) = both(alloc, line_end, rest)?;
+    let ((first, second), rest) = both(alloc, Format::One, line_end, rest)?;
     let fault = earlier(first.fault, second.fault);
     let query = query_of_both(asking, first.expr, second.expr);
     Ok((Asked { query, fault }, rest))
@@ -171,7 +177,7 @@ fn check<'a>(
 {
     let rest = after_word(word, bytes)?;
     let rest = after_gap(rest)?;
-    let ((first, second), rest) = both(alloc, line_end, rest)?;
+    let ((first, second), rest) = both(alloc, Format::One, line_end, rest)?;
     let rest = after_byte(b';', rest)?;
     let (text, rest) = string(alloc, after_blanks(rest))?;
     let rest = after_blanks(rest);

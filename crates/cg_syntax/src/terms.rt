@@ -1,12 +1,14 @@
 //! Terms, sums and brackets: each function reads one production from the front of the bytes, and gives what is left
-//! behind it. `brackets` is how many further brackets may be open at once, and `line_end` the column behind the line.
+//! behind it. `format` tells whether names are operands, `brackets` is how many further brackets may be open at once, and
+//! `line_end` is the column behind the line.
 ghost use Rattle.std.specs.Prelude.{◌≡◌, ◌<◌, ◌≤◌, length, IfOk, ℕ, map};
 ghost use Rattle.cg_reading.specs.Bytes.{has};
 ghost use Rattle.cg_reading.specs.Gives.{Gives};
-ghost use Rattle.cg_reading.specs.Readers.{made_at, many_at, behind_these};
+ghost use Rattle.cg_reading.specs.Readers.{made_at, many_at, behind_these, or_at};
 ghost use Rattle.cg_reading.specs.Tokens.{only};
-ghost use Rattle.cg_syntax.specs.Grammar.{bar};
-ghost use Rattle.cg_syntax.specs.Reading.{special_at, plain_primary_at, behind_number_at};
+ghost use Rattle.cg_syntax.specs.Grammar.{bar, letter};
+ghost use Rattle.cg_syntax.specs.Reading.{special_at, bare_special_at, use_at, plain_primary_at};
+ghost use Rattle.cg_syntax.specs.Reading.{behind_number_at};
 ghost use Rattle.cg_syntax.specs.Reading.{number_or_multiple_at, plain_counted_term_at, ups_term_at};
 ghost use Rattle.cg_syntax.specs.Reading.{special_term_at, uncounted_term_at, unsigned_term_at};
 ghost use Rattle.cg_syntax.specs.Reading.{minus_body_at, term_at, bracket_at, braces_at, side_at};
@@ -14,6 +16,7 @@ ghost use Rattle.cg_syntax.specs.Reading.{item_list_at, row_list_at, row_at, nex
 ghost use Rattle.cg_syntax.specs.Reading.{uncounted_begin, term_begin, sign_at, next_term_at, sum_at};
 ghost use Rattle.cg_syntax.specs.Reading.{more_terms_at, paren_at, plus_minus};
 ghost use Rattle.cg_syntax.specs.Trees.{terms_of};
+ghost use Rattle.cg_syntax.specs.declared.format.Format.TheVariants as formats;
 ghost use Rattle.cg_syntax.specs.Values.{sum_of};
 ghost use Rattle.cg_syntax.specs.Views.{found_of, row_of};
 
@@ -23,7 +26,9 @@ use crate::boards::plain_special;
 use crate::build::{braces_of, joined, multiple, negative, sum_of_terms};
 use crate::expr::{Expr, Term};
 use crate::faults::earlier;
+use crate::format::Format;
 use crate::found::{Found, Row};
+use crate::names::{is_letter, is_small_letter, use_of_name};
 use cg_reading::{
     ReadFault, after_blanks, after_byte, after_gap, digits, is_blank, is_byte, is_digit,
 };
@@ -47,13 +52,14 @@ fn ups_term(alloc: Global, bytes: &[u8]) -> Result<(Found, &[u8]), ReadFault>
 #[tactic(auto, unfolding(crate::specs::Reading::plain_primary_at))]
 fn primary(
     alloc: Global,
+    format: Format,
     brackets: u8,
     line_end: u64,
     bytes: &[u8],
 ) -> Result<(Found, &[u8]), ReadFault>
     requires { length bytes.now ≤ line_end }
     ensures read { Gives (λ x. (found_of x.0, x.1.now)) result
-        (plain_primary_at (special_at brackets) line_end bytes.now) }
+        (plain_primary_at (special_at format brackets) line_end bytes.now) }
     ensures shorter { IfOk result (λ x. length x.1.now < length bytes.now) }
 {
     match bytes.split_first() {
@@ -65,7 +71,7 @@ fn primary(
             let (expr, rest) = nim(bytes)?;
             Ok((Found { expr, fault: None }, rest))
         }
-        _ => special(alloc, brackets, line_end, bytes),
+        _ => special(alloc, format, brackets, line_end, bytes),
     }
 }
 
@@ -87,13 +93,55 @@ fn begins_plain(byte: u8) -> bool
 #[tactic(auto, unfolding(crate::specs::Reading::special_at))]
 fn special(
     alloc: Global,
+    format: Format,
     brackets: u8,
     line_end: u64,
     bytes: &[u8],
 ) -> Result<(Found, &[u8]), ReadFault>
     requires { length bytes.now ≤ line_end }
     ensures read { Gives (λ x. (found_of x.0, x.1.now)) result
-        (special_at brackets line_end bytes.now) }
+        (special_at format brackets line_end bytes.now) }
+    ensures shorter { IfOk result (λ x. length x.1.now < length bytes.now) }
+{
+    match format {
+        Format::One => bare_special(alloc, format, brackets, line_end, bytes),
+        Format::Two => special_or_use(alloc, brackets, line_end, bytes),
+    }
+}
+
+/// A use of a name, or another special of format 2.
+#[cycle(items)]
+#[tactic(auto, unfolding(crate::specs::Reading::bare_special_at))]
+fn special_or_use(
+    alloc: Global,
+    brackets: u8,
+    line_end: u64,
+    bytes: &[u8],
+) -> Result<(Found, &[u8]), ReadFault>
+    requires { length bytes.now ≤ line_end }
+    ensures read { Gives (λ x. (found_of x.0, x.1.now)) result
+        (or_at letter use_at (bare_special_at formats.Two brackets) line_end bytes.now) }
+    ensures shorter { IfOk result (λ x. length x.1.now < length bytes.now) }
+{
+    match bytes.split_first() {
+        Some((first, _)) if is_letter(*first) => use_of_name(alloc, line_end, bytes),
+        _ => bare_special(alloc, Format::Two, brackets, line_end, bytes),
+    }
+}
+
+/// What may be an operand besides numbers, ups, nimbers and names.
+#[cycle(items)]
+#[tactic(auto, unfolding(crate::specs::Reading::bare_special_at))]
+fn bare_special(
+    alloc: Global,
+    format: Format,
+    brackets: u8,
+    line_end: u64,
+    bytes: &[u8],
+) -> Result<(Found, &[u8]), ReadFault>
+    requires { length bytes.now ≤ line_end }
+    ensures read { Gives (λ x. (found_of x.0, x.1.now)) result
+        (bare_special_at format brackets line_end bytes.now) }
     ensures shorter { IfOk result (λ x. length x.1.now < length bytes.now) }
 {
     if brackets == 0 {
@@ -101,7 +149,7 @@ fn special(
     }
     match bytes.split_first() {
         Some((first, _)) if begins_plain(*first) => plain_special(alloc, bytes),
-        _ => bracket(alloc, brackets - 1, line_end, bytes),
+        _ => bracket(alloc, format, brackets - 1, line_end, bytes),
     }
 }
 
@@ -110,6 +158,7 @@ fn special(
 #[tactic(auto, using(crate::proofs::TreeOf::number_tree), unfolding(crate::specs::Reading::behind_number_at))]
 fn behind_number(
     alloc: Global,
+    format: Format,
     brackets: u8,
     line_end: u64,
     negative: bool,
@@ -118,7 +167,7 @@ fn behind_number(
 ) -> Result<(Found, &[u8]), ReadFault>
     requires { length bytes.now ≤ line_end }
     ensures read { Gives (λ x. (found_of x.0, x.1.now)) result
-        (behind_number_at (special_at brackets) negative num line_end bytes.now) }
+        (behind_number_at (special_at format brackets) negative num line_end bytes.now) }
     ensures shorter { IfOk result (λ x. length x.1.now ≤ length bytes.now) }
 {
     match bytes.split_first() {
@@ -128,7 +177,7 @@ fn behind_number(
             Ok((Found { expr, fault: None }, rest))
         }
         Some((first, rest)) if is_byte(b'.', *first) => {
-            let (operand, rest) = primary(alloc, brackets, line_end, rest)?;
+            let (operand, rest) = primary(alloc, format, brackets, line_end, rest)?;
             let found = multiple(alloc, negative, num, operand)?;
             Ok((found, rest))
         }
@@ -148,6 +197,7 @@ fn behind_number(
 #[tactic(auto, unfolding(crate::specs::Reading::number_or_multiple_at))]
 fn number_or_multiple(
     alloc: Global,
+    format: Format,
     brackets: u8,
     line_end: u64,
     negative: bool,
@@ -155,11 +205,11 @@ fn number_or_multiple(
 ) -> Result<(Found, &[u8]), ReadFault>
     requires { length bytes.now ≤ line_end }
     ensures read { Gives (λ x. (found_of x.0, x.1.now)) result
-        (number_or_multiple_at (special_at brackets) negative line_end bytes.now) }
+        (number_or_multiple_at (special_at format brackets) negative line_end bytes.now) }
     ensures shorter { IfOk result (λ x. length x.1.now < length bytes.now) }
 {
     let (num, rest) = digits(bytes)?;
-    behind_number(alloc, brackets, line_end, negative, num, rest)
+    behind_number(alloc, format, brackets, line_end, negative, num, rest)
 }
 
 /// A number or a multiple, and what stands together with it.
@@ -167,6 +217,7 @@ fn number_or_multiple(
 #[tactic(auto, unfolding(crate::specs::Reading::plain_counted_term_at))]
 fn counted_term(
     alloc: Global,
+    format: Format,
     brackets: u8,
     line_end: u64,
     negative: bool,
@@ -174,10 +225,10 @@ fn counted_term(
 ) -> Result<(Found, &[u8]), ReadFault>
     requires { length bytes.now ≤ line_end }
     ensures read { Gives (λ x. (found_of x.0, x.1.now)) result
-        (plain_counted_term_at (special_at brackets) negative line_end bytes.now) }
+        (plain_counted_term_at (special_at format brackets) negative line_end bytes.now) }
     ensures shorter { IfOk result (λ x. length x.1.now < length bytes.now) }
 {
-    let (operand, rest) = number_or_multiple(alloc, brackets, line_end, negative, bytes)?;
+    let (operand, rest) = number_or_multiple(alloc, format, brackets, line_end, negative, bytes)?;
     let ((ups, nim), rest) = tail(rest)?;
     let found = joined(alloc, operand, ups, nim)?;
     Ok((found, rest))
@@ -188,16 +239,17 @@ fn counted_term(
 #[tactic(auto, unfolding(crate::specs::Reading::special_term_at))]
 fn special_term(
     alloc: Global,
+    format: Format,
     brackets: u8,
     line_end: u64,
     bytes: &[u8],
 ) -> Result<(Found, &[u8]), ReadFault>
     requires { length bytes.now ≤ line_end }
     ensures read { Gives (λ x. (found_of x.0, x.1.now)) result
-        (special_term_at (special_at brackets) line_end bytes.now) }
+        (special_term_at (special_at format brackets) line_end bytes.now) }
     ensures shorter { IfOk result (λ x. length x.1.now < length bytes.now) }
 {
-    let (operand, rest) = special(alloc, brackets, line_end, bytes)?;
+    let (operand, rest) = special(alloc, format, brackets, line_end, bytes)?;
     let ((ups, nim), rest) = tail(rest)?;
     let found = joined(alloc, operand, ups, nim)?;
     Ok((found, rest))
@@ -208,13 +260,14 @@ fn special_term(
 #[tactic(auto, unfolding(crate::specs::Reading::uncounted_term_at))]
 fn uncounted_term(
     alloc: Global,
+    format: Format,
     brackets: u8,
     line_end: u64,
     bytes: &[u8],
 ) -> Result<(Found, &[u8]), ReadFault>
     requires { length bytes.now ≤ line_end }
     ensures read { Gives (λ x. (found_of x.0, x.1.now)) result
-        (uncounted_term_at (special_at brackets) line_end bytes.now) }
+        (uncounted_term_at (special_at format brackets) line_end bytes.now) }
     ensures shorter { IfOk result (λ x. length x.1.now < length bytes.now) }
 {
     match bytes.split_first() {
@@ -223,7 +276,7 @@ fn uncounted_term(
             let (expr, rest) = nim(bytes)?;
             Ok((Found { expr, fault: None }, rest))
         }
-        _ => special_term(alloc, brackets, line_end, bytes),
+        _ => special_term(alloc, format, brackets, line_end, bytes),
     }
 }
 
@@ -232,20 +285,21 @@ fn uncounted_term(
 #[tactic(auto, unfolding(crate::specs::Reading::unsigned_term_at))]
 fn unsigned_term(
     alloc: Global,
+    format: Format,
     brackets: u8,
     line_end: u64,
     bytes: &[u8],
 ) -> Result<(Found, &[u8]), ReadFault>
     requires { length bytes.now ≤ line_end }
     ensures read { Gives (λ x. (found_of x.0, x.1.now)) result
-        (unsigned_term_at (special_at brackets) line_end bytes.now) }
+        (unsigned_term_at (special_at format brackets) line_end bytes.now) }
     ensures shorter { IfOk result (λ x. length x.1.now < length bytes.now) }
 {
     match bytes.split_first() {
         Some((first, _)) if is_digit(*first) => {
-            counted_term(alloc, brackets, line_end, false, bytes)
+            counted_term(alloc, format, brackets, line_end, false, bytes)
         }
-        _ => uncounted_term(alloc, brackets, line_end, bytes),
+        _ => uncounted_term(alloc, format, brackets, line_end, bytes),
     }
 }
 
@@ -254,17 +308,18 @@ fn unsigned_term(
 #[tactic(auto, unfolding(crate::specs::Reading::paren_at))]
 fn paren(
     alloc: Global,
+    format: Format,
     brackets: u8,
     line_end: u64,
     bytes: &[u8],
 ) -> Result<(Found, &[u8]), ReadFault>
     requires { length bytes.now ≤ line_end }
     ensures read { Gives (λ x. (found_of x.0, x.1.now)) result
-        (paren_at (sum_at (special_at brackets)) line_end bytes.now) }
+        (paren_at (sum_at (special_at format brackets)) line_end bytes.now) }
     ensures shorter { IfOk result (λ x. length x.1.now < length bytes.now) }
 {
     let rest = after_byte(b'(', bytes)?;
-    let (found, rest) = sum(alloc, brackets, line_end, after_blanks(rest))?;
+    let (found, rest) = sum(alloc, format, brackets, line_end, after_blanks(rest))?;
     let rest = after_byte(b')', rest)?;
     Ok((found, rest))
 }
@@ -274,26 +329,27 @@ fn paren(
 #[tactic(auto, unfolding(crate::specs::Reading::minus_body_at))]
 fn minus_body(
     alloc: Global,
+    format: Format,
     brackets: u8,
     line_end: u64,
     bytes: &[u8],
 ) -> Result<(Found, &[u8]), ReadFault>
     requires { length bytes.now ≤ line_end }
     ensures read { Gives (λ x. (found_of x.0, x.1.now)) result
-        (minus_body_at (special_at brackets) line_end bytes.now) }
+        (minus_body_at (special_at format brackets) line_end bytes.now) }
     ensures shorter { IfOk result (λ x. length x.1.now < length bytes.now) }
 {
     match bytes.split_first() {
         Some((first, _)) if is_digit(*first) => {
-            counted_term(alloc, brackets, line_end, true, bytes)
+            counted_term(alloc, format, brackets, line_end, true, bytes)
         }
         Some((first, _)) if is_blank(*first) => {
             let rest = after_gap(bytes)?;
-            let (found, rest) = unsigned_term(alloc, brackets, line_end, rest)?;
+            let (found, rest) = unsigned_term(alloc, format, brackets, line_end, rest)?;
             Ok((negative(alloc, found)?, rest))
         }
         _ => {
-            let (found, rest) = uncounted_term(alloc, brackets, line_end, bytes)?;
+            let (found, rest) = uncounted_term(alloc, format, brackets, line_end, bytes)?;
             Ok((negative(alloc, found)?, rest))
         }
     }
@@ -304,18 +360,21 @@ fn minus_body(
 #[tactic(auto, unfolding(crate::specs::Reading::term_at, crate::specs::Reading::minus_term_at))]
 fn term(
     alloc: Global,
+    format: Format,
     brackets: u8,
     line_end: u64,
     bytes: &[u8],
 ) -> Result<(Found, &[u8]), ReadFault>
     requires { length bytes.now ≤ line_end }
     ensures read { Gives (λ x. (found_of x.0, x.1.now)) result
-        (term_at (special_at brackets) line_end bytes.now) }
+        (term_at (special_at format brackets) line_end bytes.now) }
     ensures shorter { IfOk result (λ x. length x.1.now < length bytes.now) }
 {
     match bytes.split_first() {
-        Some((first, rest)) if is_byte(b'-', *first) => minus_body(alloc, brackets, line_end, rest),
-        _ => unsigned_term(alloc, brackets, line_end, bytes),
+        Some((first, rest)) if is_byte(b'-', *first) => minus_body(
+            alloc, format, brackets, line_end, rest,
+        ),
+        _ => unsigned_term(alloc, format, brackets, line_end, bytes),
     }
 }
 
@@ -342,17 +401,18 @@ fn sign(bytes: &[u8]) -> Result<(bool, &[u8]), ReadFault>
 #[tactic(auto, unfolding(crate::specs::Reading::next_term_at))]
 fn next_term(
     alloc: Global,
+    format: Format,
     brackets: u8,
     line_end: u64,
     bytes: &[u8],
 ) -> Result<((bool, Found), &[u8]), ReadFault>
     requires { length bytes.now ≤ line_end }
     ensures read { Gives (λ x. ((x.0.0, found_of x.0.1), x.1.now)) result
-        (next_term_at (special_at brackets) line_end bytes.now) }
+        (next_term_at (special_at format brackets) line_end bytes.now) }
     ensures shorter { IfOk result (λ x. length x.1.now < length bytes.now) }
 {
     let (minus, rest) = sign(bytes)?;
-    let (found, rest) = term(alloc, brackets, line_end, after_blanks(rest))?;
+    let (found, rest) = term(alloc, format, brackets, line_end, after_blanks(rest))?;
     Ok(((minus, found), after_blanks(rest)))
 }
 
@@ -367,6 +427,7 @@ fn is_sign(byte: u8) -> bool
 #[cycle(items)]
 fn more_terms(
     alloc: Global,
+    format: Format,
     brackets: u8,
     line_end: u64,
     terms: Vec<Term>,
@@ -375,7 +436,7 @@ fn more_terms(
 ) -> Result<(Found, &[u8]), ReadFault>
     requires { length bytes.now ≤ line_end }
     ensures read { Gives (λ x. (found_of x.0, x.1.now)) result
-        (more_terms_at brackets (terms_of terms.items) fault line_end bytes.now) }
+        (more_terms_at format brackets (terms_of terms.items) fault line_end bytes.now) }
     ensures shorter { IfOk result (λ x. length x.1.now ≤ length bytes.now) }
 {
     let mut terms = terms;
@@ -385,7 +446,7 @@ fn more_terms(
         if !is_sign(*first) {
             break;
         }
-        let ((minus, found), after) = next_term(alloc, brackets, line_end, rest)?;
+        let ((minus, found), after) = next_term(alloc, format, brackets, line_end, rest)?;
         let merged = earlier(fault, found.fault);
         terms.push(Term {
             minus,
@@ -402,6 +463,7 @@ fn more_terms(
 #[cycle(items)]
 fn rest_of_sum(
     alloc: Global,
+    format: Format,
     brackets: u8,
     line_end: u64,
     found: Found,
@@ -410,7 +472,7 @@ fn rest_of_sum(
     requires { length bytes.now ≤ line_end }
     ensures read { Gives (λ x. (found_of x.0, x.1.now)) result
         (made_at (λ vs. sum_of (found_of found) vs)
-        (many_at plus_minus (next_term_at (special_at brackets))) line_end bytes.now) }
+        (many_at plus_minus (next_term_at (special_at format brackets))) line_end bytes.now) }
     ensures shorter { IfOk result (λ x. length x.1.now ≤ length bytes.now) }
 {
     match bytes.split_first() {
@@ -421,7 +483,7 @@ fn rest_of_sum(
                 minus: false,
                 expr: found.expr,
             })?;
-            more_terms(alloc, brackets, line_end, terms, fault, bytes)
+            more_terms(alloc, format, brackets, line_end, terms, fault, bytes)
         }
         _ => Ok((found, bytes)),
     }
@@ -432,17 +494,18 @@ fn rest_of_sum(
 #[tactic(auto, unfolding(crate::specs::Reading::sum_at))]
 pub fn sum(
     alloc: Global,
+    format: Format,
     brackets: u8,
     line_end: u64,
     bytes: &[u8],
 ) -> Result<(Found, &[u8]), ReadFault>
     requires { length bytes.now ≤ line_end }
     ensures read { Gives (λ x. (found_of x.0, x.1.now)) result
-        (sum_at (special_at brackets) line_end bytes.now) }
+        (sum_at (special_at format brackets) line_end bytes.now) }
     ensures shorter { IfOk result (λ x. length x.1.now < length bytes.now) }
 {
-    let (first, rest) = term(alloc, brackets, line_end, bytes)?;
-    rest_of_sum(alloc, brackets, line_end, first, after_blanks(rest))
+    let (first, rest) = term(alloc, format, brackets, line_end, bytes)?;
+    rest_of_sum(alloc, format, brackets, line_end, first, after_blanks(rest))
 }
 
 /// An expression in brackets.
@@ -450,18 +513,21 @@ pub fn sum(
 #[tactic(auto, unfolding(crate::specs::Reading::bracket_at))]
 fn bracket(
     alloc: Global,
+    format: Format,
     brackets: u8,
     line_end: u64,
     bytes: &[u8],
 ) -> Result<(Found, &[u8]), ReadFault>
     requires { length bytes.now ≤ line_end }
     ensures read { Gives (λ x. (found_of x.0, x.1.now)) result
-        (bracket_at (sum_at (special_at brackets)) line_end bytes.now) }
+        (bracket_at (sum_at (special_at format brackets)) line_end bytes.now) }
     ensures shorter { IfOk result (λ x. length x.1.now < length bytes.now) }
 {
     match bytes.split_first() {
-        Some((first, _)) if is_byte(b'{', *first) => braces(alloc, brackets, line_end, bytes),
-        _ => paren(alloc, brackets, line_end, bytes),
+        Some((first, _)) if is_byte(b'{', *first) => braces(
+            alloc, format, brackets, line_end, bytes,
+        ),
+        _ => paren(alloc, format, brackets, line_end, bytes),
     }
 }
 
@@ -470,18 +536,19 @@ fn bracket(
 #[tactic(auto, unfolding(crate::specs::Reading::braces_at))]
 fn braces(
     alloc: Global,
+    format: Format,
     brackets: u8,
     line_end: u64,
     bytes: &[u8],
 ) -> Result<(Found, &[u8]), ReadFault>
     requires { length bytes.now ≤ line_end }
     ensures read { Gives (λ x. (found_of x.0, x.1.now)) result
-        (braces_at (sum_at (special_at brackets)) line_end bytes.now) }
+        (braces_at (sum_at (special_at format brackets)) line_end bytes.now) }
     ensures shorter { IfOk result (λ x. length x.1.now < length bytes.now) }
 {
     let rest = after_byte(b'{', bytes)?;
-    let (first, rest) = side(alloc, brackets, line_end, rest)?;
-    let (rows, rest) = rows(alloc, brackets, line_end, rest)?;
+    let (first, rest) = side(alloc, format, brackets, line_end, rest)?;
+    let (rows, rest) = rows(alloc, format, brackets, line_end, rest)?;
     let rest = after_byte(b'}', rest)?;
     let found = braces_of(alloc, first, rows)?;
     Ok((found, rest))
@@ -491,7 +558,12 @@ fn braces(
 fn begins_uncounted(byte: u8) -> bool
     ensures { result ≡ has uncounted_begin byte }
 {
-    is_arrow(byte) || byte == b'*' || begins_plain(byte) || byte == b'{' || byte == b'('
+    is_small_letter(byte)
+        || byte == b'^'
+        || byte == b'*'
+        || begins_plain(byte)
+        || byte == b'{'
+        || byte == b'('
 }
 
 /// Whether the byte begins a term.
@@ -506,18 +578,19 @@ fn begins_term(byte: u8) -> bool
 #[tactic(auto, unfolding(crate::specs::Reading::side_at))]
 fn side(
     alloc: Global,
+    format: Format,
     brackets: u8,
     line_end: u64,
     bytes: &[u8],
 ) -> Result<(Vec<Found>, &[u8]), ReadFault>
     requires { length bytes.now ≤ line_end }
     ensures read { Gives (λ x. (map found_of x.0.items, x.1.now)) result
-        (side_at (sum_at (special_at brackets)) line_end bytes.now) }
+        (side_at (sum_at (special_at format brackets)) line_end bytes.now) }
     ensures shorter { IfOk result (λ x. length x.1.now ≤ length bytes.now) }
 {
     let rest = after_blanks(bytes);
     match rest.split_first() {
-        Some((first, _)) if begins_term(*first) => items(alloc, brackets, line_end, rest),
+        Some((first, _)) if begins_term(*first) => items(alloc, format, brackets, line_end, rest),
         _ => Ok((Vec::new(alloc), rest)),
     }
 }
@@ -527,19 +600,20 @@ fn side(
 #[tactic(auto, unfolding(crate::specs::Reading::item_list_at))]
 fn items(
     alloc: Global,
+    format: Format,
     brackets: u8,
     line_end: u64,
     bytes: &[u8],
 ) -> Result<(Vec<Found>, &[u8]), ReadFault>
     requires { length bytes.now ≤ line_end }
     ensures read { Gives (λ x. (map found_of x.0.items, x.1.now)) result
-        (item_list_at (sum_at (special_at brackets)) line_end bytes.now) }
+        (item_list_at (sum_at (special_at format brackets)) line_end bytes.now) }
     ensures shorter { IfOk result (λ x. length x.1.now < length bytes.now) }
 {
-    let (found, rest) = sum(alloc, brackets, line_end, bytes)?;
+    let (found, rest) = sum(alloc, format, brackets, line_end, bytes)?;
     let mut front = Vec::new(alloc);
     front.push(found)?;
-    more_items(alloc, brackets, line_end, front, rest)
+    more_items(alloc, format, brackets, line_end, front, rest)
 }
 
 /// A comma and an expression.
@@ -547,18 +621,19 @@ fn items(
 #[tactic(auto, unfolding(crate::specs::Reading::next_item_at))]
 fn next_item(
     alloc: Global,
+    format: Format,
     brackets: u8,
     line_end: u64,
     bytes: &[u8],
 ) -> Result<(Found, &[u8]), ReadFault>
     requires { length bytes.now ≤ line_end }
     ensures read { Gives (λ x. (found_of x.0, x.1.now)) result
-        (next_item_at (sum_at (special_at brackets)) line_end bytes.now) }
+        (next_item_at (sum_at (special_at format brackets)) line_end bytes.now) }
     ensures shorter { IfOk result (λ x. length x.1.now < length bytes.now) }
 {
     match bytes.split_first() {
         Some((first, rest)) if is_byte(b',', *first) => {
-            let (found, rest) = sum(alloc, brackets, line_end, after_blanks(rest))?;
+            let (found, rest) = sum(alloc, format, brackets, line_end, after_blanks(rest))?;
             Ok((found, rest))
         }
         _ => Err(ReadFault::Stuck(bytes.len())),
@@ -569,6 +644,7 @@ fn next_item(
 #[cycle(items)]
 fn more_items(
     alloc: Global,
+    format: Format,
     brackets: u8,
     line_end: u64,
     front: Vec<Found>,
@@ -576,7 +652,7 @@ fn more_items(
 ) -> Result<(Vec<Found>, &[u8]), ReadFault>
     requires { length bytes.now ≤ line_end }
     ensures read { Gives (λ x. (map found_of x.0.items, x.1.now)) result
-        (behind_these (only 44) (next_item_at (sum_at (special_at brackets)))
+        (behind_these (only 44) (next_item_at (sum_at (special_at format brackets)))
         (map found_of front.items) line_end bytes.now) }
     ensures shorter { IfOk result (λ x. length x.1.now ≤ length bytes.now) }
 {
@@ -586,7 +662,7 @@ fn more_items(
         if !is_byte(b',', *first) {
             break;
         }
-        let (found, after) = next_item(alloc, brackets, line_end, rest)?;
+        let (found, after) = next_item(alloc, format, brackets, line_end, rest)?;
         items.push(found)?;
         rest = after;
     }
@@ -595,14 +671,20 @@ fn more_items(
 
 /// A run of bars and a side.
 #[cycle(items)]
-fn row(alloc: Global, brackets: u8, line_end: u64, bytes: &[u8]) -> Result<(Row, &[u8]), ReadFault>
+fn row(
+    alloc: Global,
+    format: Format,
+    brackets: u8,
+    line_end: u64,
+    bytes: &[u8],
+) -> Result<(Row, &[u8]), ReadFault>
     requires { length bytes.now ≤ line_end }
     ensures read { Gives (λ x. (row_of x.0, x.1.now)) result
-        (row_at (sum_at (special_at brackets)) line_end bytes.now) }
+        (row_at (sum_at (special_at format brackets)) line_end bytes.now) }
     ensures shorter { IfOk result (λ x. length x.1.now < length bytes.now) }
 {
     let ((column, bars), rest) = bars(line_end, bytes)?;
-    let (side, rest) = side(alloc, brackets, line_end, rest)?;
+    let (side, rest) = side(alloc, format, brackets, line_end, rest)?;
     Ok((Row { column, bars, side }, rest))
 }
 
@@ -611,25 +693,27 @@ fn row(alloc: Global, brackets: u8, line_end: u64, bytes: &[u8]) -> Result<(Row,
 #[tactic(auto, unfolding(crate::specs::Reading::row_list_at))]
 fn rows(
     alloc: Global,
+    format: Format,
     brackets: u8,
     line_end: u64,
     bytes: &[u8],
 ) -> Result<(Vec<Row>, &[u8]), ReadFault>
     requires { length bytes.now ≤ line_end }
     ensures read { Gives (λ x. (map row_of x.0.items, x.1.now)) result
-        (row_list_at (sum_at (special_at brackets)) line_end bytes.now) }
+        (row_list_at (sum_at (special_at format brackets)) line_end bytes.now) }
     ensures shorter { IfOk result (λ x. length x.1.now < length bytes.now) }
 {
-    let (first, rest) = row(alloc, brackets, line_end, bytes)?;
+    let (first, rest) = row(alloc, format, brackets, line_end, bytes)?;
     let mut front = Vec::new(alloc);
     front.push(first)?;
-    more_rows(alloc, brackets, line_end, front, rest)
+    more_rows(alloc, format, brackets, line_end, front, rest)
 }
 
 /// More rows behind these.
 #[cycle(items)]
 fn more_rows(
     alloc: Global,
+    format: Format,
     brackets: u8,
     line_end: u64,
     front: Vec<Row>,
@@ -637,7 +721,7 @@ fn more_rows(
 ) -> Result<(Vec<Row>, &[u8]), ReadFault>
     requires { length bytes.now ≤ line_end }
     ensures read { Gives (λ x. (map row_of x.0.items, x.1.now)) result
-        (behind_these bar (row_at (sum_at (special_at brackets))) (map row_of front.items) line_end bytes.now) }
+        (behind_these bar (row_at (sum_at (special_at format brackets))) (map row_of front.items) line_end bytes.now) }
     ensures shorter { IfOk result (λ x. length x.1.now ≤ length bytes.now) }
 {
     let mut rows = front;
@@ -646,7 +730,7 @@ fn more_rows(
         if !is_byte(b'|', *first) {
             break;
         }
-        let (next, after) = row(alloc, brackets, line_end, rest)?;
+        let (next, after) = row(alloc, format, brackets, line_end, rest)?;
         rows.push(next)?;
         rest = after;
     }

@@ -6,7 +6,8 @@ ghost use Rattle.cg_syntax.specs.Written.{enclosed_text, is_braces, more_terms, 
 
 use crate::expr::{Expr, Exprs, Term, Terms};
 use crate::write_tokens::{
-    push_after, push_count, push_game, push_number, push_octal, push_switch, push_tiny, push_ups,
+    push_after, push_count, push_game, push_name, push_number, push_octal, push_switch, push_tiny,
+    push_ups,
 };
 use std::alloc::{AllocError, Global};
 
@@ -27,6 +28,7 @@ pub fn push_expr(alloc: Global, text: &mut Vec<u8>, expr: &Expr) -> Result<(), A
         Expr::Sum(terms) => push_sum(alloc, text, terms),
         Expr::Game { kind, rules, board } => push_game(text, *kind, rules, board),
         Expr::Octal { code, heap } => push_octal(alloc, text, code, *heap),
+        Expr::Name { text: name, .. } => push_name(text, name),
     }
 }
 
@@ -96,6 +98,7 @@ fn are_braces(expr: &Expr) -> bool
         Expr::Sum(_) => false,
         Expr::Game { .. } => false,
         Expr::Octal { .. } => false,
+        Expr::Name { .. } => false,
     }
 }
 

@@ -222,3 +222,11 @@ pub fn push_quoted(text: &mut Vec<u8>, string: &Text) -> Result<(), AllocError>
     text.push(b'"')?;
     Ok(())
 }
+
+/// A name.
+pub fn push_name(text: &mut Vec<u8>, name: &Text) -> Result<(), AllocError>
+    ensures { OnOk result (text.new.items ≡ text.old.items ++ name.now) }
+{
+    text.extend_from_slice(name.as_slice())?;
+    Ok(())
+}

@@ -3,7 +3,7 @@
 //!
 //! In a row a backslash and two digits of base sixteen stand for a byte. A row that begins with `~` is cut before each of
 //! its bytes: each cut has to read, or to be refused where it ends. Of a row that begins with `?` the lengths of the lists
-//! in its tree are told.
+//! in its tree are told. A row that begins with `=` is a line of format 2, and one that begins with `!` is a session.
 #![tactic(auto)]
 
 mod rows;

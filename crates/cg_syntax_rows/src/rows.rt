@@ -2,9 +2,12 @@
 ghost use Rattle.cg_syntax.specs.Lines.{Reads};
 ghost use Rattle.cg_syntax.specs.Trees.{question_of};
 
-use crate::show::query_text;
+use crate::show::{query_text, statement_text};
 use crate::units::bytes_of;
-use cg_syntax::{Expr, Line, Query, SyntaxFault, is_low, read_line, write_query};
+use cg_syntax::{
+    Asked, Expr, Line, Query, SessionLine, SyntaxFault, is_low, read_line, read_session,
+    read_statement, write_query,
+};
 use std::alloc::{AllocError, Global};
 
 /// What is told of the row.
@@ -12,6 +15,14 @@ pub fn row_text(alloc: Global, row: &[u8]) -> Result<String, AllocError> {
     match row.split_first() {
         Some((b'~', behind)) => cuts_text(alloc, behind),
         Some((b'?', behind)) => lengths_text(alloc, behind),
+        Some((b'=', behind)) => {
+            let line = bytes_of(alloc, behind)?;
+            stated_text(alloc, line.as_slice())
+        }
+        Some((b'!', behind)) => {
+            let text = bytes_of(alloc, behind)?;
+            session_text(alloc, text.as_slice())
+        }
         _ => {
             let line = bytes_of(alloc, row)?;
             line_text(alloc, line.as_slice())
@@ -111,4 +122,40 @@ fn lists_text(
     is_second_empty: bool,
 ) -> Result<String, AllocError> {
     format!(in alloc; "{first} {is_first_empty}, {second} {is_second_empty}")
+}
+
+/// What the line of format 2 states, or the column of its refusal.
+fn stated_text(alloc: Global, line: &[u8]) -> Result<String, AllocError> {
+    match read_statement(alloc, line) {
+        Ok(statement) => statement_text(alloc, &statement),
+        Err(SyntaxFault::Syntax(column)) => format!(in alloc; "column {column}"),
+        Err(SyntaxFault::Memory) => Err(AllocError),
+    }
+}
+
+/// What a session says.
+fn session_text(alloc: Global, text: &[u8]) -> Result<String, AllocError> {
+    let session = read_session(alloc, text)?;
+    let format = session.format;
+    let mut out = format!(in alloc; "format {format}")?;
+    for line in session.lines.as_slice() {
+        let said = said_text(alloc, line)?;
+        out.push_str(" / ")?;
+        out.push_str(said.as_str())?;
+    }
+    Ok(out)
+}
+
+/// What a line of a session says.
+fn said_text(alloc: Global, line: &SessionLine) -> Result<String, AllocError> {
+    let number = line.number;
+    match &line.asked {
+        Asked::Query(query) => {
+            let query = query_text(alloc, query)?;
+            format!(in alloc; "{number} {query}")
+        }
+        Asked::Syntax(column) => format!(in alloc; "{number} column {column}"),
+        Asked::Unknown(column) => format!(in alloc; "{number} unknown {column}"),
+        Asked::Parts => format!(in alloc; "{number} parts"),
+    }
 }

@@ -1,7 +1,7 @@
 //! What lines read as, in words: a tree is written with all that it holds, a number as `num/den` with its minus, ups and
 //! downs as `up3` and `down3`, a nimber as `nim2`, a sum as its terms with their signs, a board as its game, its rules and
-//! its text, a heap of an octal game as its code and its size.
-use cg_syntax::{Expr, GameKind, Query, Term};
+//! its text, a heap of an octal game as its code and its size, a use of a name as `name at column`.
+use cg_syntax::{Expr, GameKind, Query, Statement, Term};
 use std::alloc::{AllocError, Global};
 
 fn kind_text(kind: GameKind) -> &'static str {
@@ -93,6 +93,10 @@ fn expr_text(alloc: Global, depth: u8, expr: &Expr) -> Result<String, AllocError
             let board = bytes_text(alloc, board.as_slice())?;
             format!(in alloc; "{name}[{rules}][{board}]")
         }
+        Expr::Name { text, column } => {
+            let name = bytes_text(alloc, text.as_slice())?;
+            format!(in alloc; "{name} at {column}")
+        }
         Expr::Octal { code, heap } => {
             let code = bytes_text(alloc, code.as_slice())?;
             format!(in alloc; "octal[{code}] {heap}")
@@ -132,4 +136,16 @@ pub fn query_text(alloc: Global, query: &Query) -> Result<String, AllocError> {
     };
     let expr = expr_text(alloc, 70, expr)?;
     format!(in alloc; "{name} {expr}")
+}
+
+/// What a line of format 2 states.
+pub fn statement_text(alloc: Global, statement: &Statement) -> Result<String, AllocError> {
+    match statement {
+        Statement::Ask(query) => query_text(alloc, query),
+        Statement::Define(name, expr) => {
+            let name = bytes_text(alloc, name.as_slice())?;
+            let expr = expr_text(alloc, 70, expr)?;
+            format!(in alloc; "{name} is {expr}")
+        }
+    }
 }

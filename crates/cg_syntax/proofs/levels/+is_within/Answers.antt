@@ -1,10 +1,10 @@
 use Rattle.std.proofs.Common.{ap, sym, ◌∙◌, refl, max}
-use Rattle.cg_syntax.specs.Tree.{number, ups, nimber, switch, tiny, braces, negative, multiple, sum, game, octal, terms_from, trees_from}
+use Rattle.cg_syntax.specs.Tree.{number, ups, nimber, switch, tiny, braces, negative, multiple, sum, game, octal, used, terms_from, trees_from}
 use Rattle.cg_syntax.specs.Trees.{tree_of, trees_in, terms_in}
 use Rattle.cg_syntax.specs.Written.{height, heights, term_heights}
 use Rattle.cg_syntax.specs.declared.expr.Expr.{Expr}
 use Rattle.cg_syntax.specs.declared.expr.Expr.TheVariants as expr
-use Rattle.cg_syntax.proofs.TreeOf.{number_tree, ups_tree_of, nimber_tree, switch_tree, tiny_tree, braces_tree, negative_tree, multiple_tree, sum_tree, game_tree, octal_tree}
+use Rattle.cg_syntax.proofs.TreeOf.{number_tree, ups_tree_of, nimber_tree, switch_tree, tiny_tree, braces_tree, negative_tree, multiple_tree, sum_tree, game_tree, octal_tree, used_tree}
 use Rattle.cg_syntax.proofs.Heights.{leaf_low, parts_low, heights_next, item_high, term_heights_next, term_high}
 use Rattle.cg_syntax.proofs.levels.+is_within.Goals as goal
 
@@ -38,6 +38,10 @@ parts_within-returns-in-Game t c = leaf_low c.args.expr.now (expr.Game c.in-Game
 pub parts_within-returns-in-Octal : goal.parts_within-returns-in-Octal
 parts_within-returns-in-Octal t c = leaf_low c.args.expr.now (expr.Octal c.in-Octal.code c.in-Octal.heap)
     (octal c.in-Octal.code c.in-Octal.heap) c.args.levels c.in-Octal.is (octal_tree c.in-Octal.code c.in-Octal.heap) refl
+
+pub parts_within-returns-in-Name : goal.parts_within-returns-in-Name
+parts_within-returns-in-Name t c = leaf_low c.args.expr.now (expr.Name c.in-Name.text c.in-Name.column)
+    (used c.in-Name.text c.in-Name.column) c.args.levels c.in-Name.is (used_tree c.in-Name.text c.in-Name.column) refl
 
 pub parts_within-returns-in-Braces : goal.parts_within-returns-in-Braces
 parts_within-returns-in-Braces t c = parts_low c.args.expr.now (expr.Braces c.in-Braces.lefts c.in-Braces.rights)

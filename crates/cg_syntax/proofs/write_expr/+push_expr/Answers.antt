@@ -7,7 +7,7 @@ use Rattle.cg_syntax.specs.declared.expr.Expr.{Expr}
 use Rattle.cg_syntax.specs.declared.expr.Term.{Term}
 use Rattle.cg_syntax.proofs.TreeOf.{term_tree}
 use Rattle.cg_syntax.proofs.Walk.{size, term_sizes, size_of_braces, size_of_negative, size_of_multiple, size_of_sum, size_of_item, size_of_term}
-use Rattle.cg_syntax.proofs.WrittenSteps.{put_as, put_both, put_none, number_put, ups_put, nimber_put, switch_put, tiny_put, braces_put, negative_put, multiple_put, sum_put, game_put, octal_put, trees_split, terms_split, side_none, side_first, sum_none, sum_first, no_more_texts, no_more_terms, expr_next, term_next}
+use Rattle.cg_syntax.proofs.WrittenSteps.{put_as, put_both, put_none, number_put, ups_put, nimber_put, switch_put, tiny_put, braces_put, negative_put, multiple_put, sum_put, game_put, octal_put, used_put, trees_split, terms_split, side_none, side_first, sum_none, sum_first, no_more_texts, no_more_terms, expr_next, term_next}
 use Rattle.cg_syntax.proofs.write_expr.+push_expr.Goals as goal
 
 -- ---- measures
@@ -94,6 +94,10 @@ push_expr-returns-in-Game t c = put_as c.push_game.result c.push_game.new.text.i
 pub push_expr-returns-in-Octal : goal.push_expr-returns-in-Octal
 push_expr-returns-in-Octal t c = put_as c.push_octal.result c.push_octal.new.text.items c.args.text.now.items _ _
     (octal_put c.args.expr.now c.in-Octal.code c.in-Octal.heap c.in-Octal.is) c.push_octal.ensures
+
+pub push_expr-returns-in-Name : goal.push_expr-returns-in-Name
+push_expr-returns-in-Name t c = put_as c.push_name.result c.push_name.new.text.items c.args.text.now.items _ _
+    (used_put c.args.expr.now _ _ c.in-Name.is) c.push_name.ensures
 
 -- ---- lists of expressions
 

@@ -1,7 +1,7 @@
-use Rattle.cg_syntax.specs.Tree.{number, ups, nimber, switch, tiny, braces, negative, multiple, sum, game, octal, terms_from}
+use Rattle.cg_syntax.specs.Tree.{number, ups, nimber, switch, tiny, braces, negative, multiple, sum, game, octal, used, terms_from}
 use Rattle.cg_syntax.specs.Trees.{tree_of, trees_in, terms_in}
 use Rattle.cg_syntax.specs.declared.expr.Expr.TheVariants as expr
-use Rattle.cg_syntax.proofs.TreeOf.{number_tree, ups_tree_of, nimber_tree, switch_tree, tiny_tree, braces_tree, negative_tree, multiple_tree, sum_tree, game_tree, octal_tree}
+use Rattle.cg_syntax.proofs.TreeOf.{number_tree, ups_tree_of, nimber_tree, switch_tree, tiny_tree, braces_tree, negative_tree, multiple_tree, sum_tree, game_tree, octal_tree, used_tree}
 use Rattle.cg_syntax.proofs.WrittenSteps.{braces_test}
 use Rattle.cg_syntax.proofs.write_expr.are_braces.Goals as goal
 
@@ -52,3 +52,7 @@ returns-in-Game c = braces_test c.args.expr.now (expr.Game c.in-Game.kind c.in-G
 pub returns-in-Octal : goal.returns-in-Octal
 returns-in-Octal c = braces_test c.args.expr.now (expr.Octal c.in-Octal.code c.in-Octal.heap) (octal c.in-Octal.code c.in-Octal.heap)
     c.in-Octal.is (octal_tree c.in-Octal.code c.in-Octal.heap)
+
+pub returns-in-Name : goal.returns-in-Name
+returns-in-Name c = braces_test c.args.expr.now (expr.Name c.in-Name.text c.in-Name.column) (used c.in-Name.text c.in-Name.column)
+    c.in-Name.is (used_tree c.in-Name.text c.in-Name.column)

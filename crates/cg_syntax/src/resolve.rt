@@ -1,0 +1,216 @@
+//! What the lines of a session ask, one after the other.
+ghost use Rattle.std.specs.Prelude.{◌≡◌, ◌∷◌, ◌≤◌, ◌||◌, IfOk, OnOk, [], ltb, true};
+ghost use Rattle.cg_syntax.specs.Bound.{IsMeasured, IsSound, bindings_in};
+ghost use Rattle.cg_syntax.specs.Naming.{question_expanded, trees_of_question};
+ghost use Rattle.cg_syntax.specs.Session.{AreLines};
+ghost use Rattle.cg_syntax.specs.SessionLines.{answered_from, is_answered, lines_of};
+ghost use Rattle.cg_syntax.specs.SessionViews.{Puts, PutsStatement, Steps, lines_in};
+ghost use Rattle.cg_syntax.specs.Tree.{asks, defines};
+ghost use Rattle.cg_syntax.specs.Trees.{question_of, tree_of};
+ghost use Rattle.cg_syntax.specs.declared.format.Format.TheVariants as formats;
+
+use crate::expand::{copy_text, expand};
+use crate::expr::Expr;
+use crate::format::Format;
+use crate::found::Statement;
+use crate::line::read_line;
+use crate::query::{Line, Query, SyntaxFault};
+use crate::session::{Asked, SessionLines};
+use crate::session_lines::{first_line, is_answered};
+use crate::sheet::Sheet;
+use crate::sizes::{Size, beside, measured};
+use crate::statements::read_statement;
+use crate::text::Text;
+use std::alloc::{AllocError, Global};
+
+/// How many parts expanded expressions may have together.
+const MOST_PARTS: u64 = 4096;
+
+/// How many nodes a path of an expanded expression may have.
+const MOST_LEVELS: u64 = 1024;
+
+/// What the lines of this text ask in this format, where the first of them has this number. Before it no name is bound.
+pub fn read_lines(
+    alloc: Global,
+    format: Format,
+    first: u64,
+    text: &[u8],
+) -> Result<SessionLines, AllocError>
+    requires { first ≤ 2 }
+    ensures { IfOk result (λ ls. AreLines format [] (answered_from first (lines_of text.now)) (lines_in ls)) }
+{
+    let mut sheet = Sheet::new(alloc);
+    let mut number = first;
+    let mut rest = text;
+    while !rest.is_empty() {
+        let (line, behind) = first_line(rest);
+        put_line(alloc, format, &mut sheet, number, line)?;
+        number += 1;
+        rest = behind;
+    }
+    Ok(sheet.into_lines())
+}
+
+/// Puts what a line asks at the end of the sheet, if it gets an answer.
+fn put_line(
+    alloc: Global,
+    format: Format,
+    sheet: &mut Sheet,
+    number: u64,
+    line: &[u8],
+) -> Result<(), AllocError>
+    requires { IsSound sheet.old }
+    ensures steps { OnOk result (Steps format number line.now sheet.old sheet.new) }
+    ensures sound { OnOk result (IsSound sheet.new) }
+{
+    if !is_answered(line) {
+        return Ok(());
+    }
+    match format {
+        Format::One => put_question(alloc, sheet, number, line),
+        Format::Two => put_statement(alloc, sheet, number, line),
+    }
+}
+
+/// Puts what a line of format 1 asks at the end.
+fn put_question(
+    alloc: Global,
+    sheet: &mut Sheet,
+    number: u64,
+    line: &[u8],
+) -> Result<(), AllocError>
+    requires answered { is_answered line.now ≡ true }
+    requires sound { IsSound sheet.old }
+    ensures puts { OnOk result (Puts formats.One number line.now sheet.old sheet.new) }
+    ensures sound { OnOk result (IsSound sheet.new) }
+{
+    match read_line(alloc, line) {
+        Ok(Line::Ask(query)) => sheet.push(number, Asked::Query(query)),
+        Ok(Line::Blank) => unreachable!(),
+        Ok(Line::Comment) => unreachable!(),
+        Err(SyntaxFault::Syntax(column)) => sheet.push(number, Asked::Syntax(column)),
+        Err(SyntaxFault::Memory) => Err(AllocError),
+    }
+}
+
+/// Puts what a line of format 2 asks at the end, and binds its name.
+fn put_statement(
+    alloc: Global,
+    sheet: &mut Sheet,
+    number: u64,
+    line: &[u8],
+) -> Result<(), AllocError>
+    requires { IsSound sheet.old }
+    ensures puts { OnOk result (Puts formats.Two number line.now sheet.old sheet.new) }
+    ensures sound { OnOk result (IsSound sheet.new) }
+{
+    match read_statement(alloc, line) {
+        Ok(Statement::Ask(query)) => put_query(alloc, sheet, number, query),
+        Ok(Statement::Define(name, expr)) => put_definition(alloc, sheet, number, name, expr),
+        Err(SyntaxFault::Syntax(column)) => sheet.push(number, Asked::Syntax(column)),
+        Err(SyntaxFault::Memory) => Err(AllocError),
+    }
+}
+
+/// Puts what a query asks at the end.
+fn put_query(alloc: Global, sheet: &mut Sheet, number: u64, query: Query) -> Result<(), AllocError>
+    requires { IsSound sheet.old }
+    ensures puts { OnOk result (PutsStatement number (asks (question_of query)) sheet.old sheet.new) }
+    ensures sound { OnOk result (IsSound sheet.new) }
+{
+    match query_size(sheet, &query) {
+        Err(column) => sheet.push(number, Asked::Unknown(column)),
+        Ok(size) if !size.has_use => sheet.push(number, Asked::Query(query)),
+        Ok(size) if is_too_large(size) => sheet.push(number, Asked::Parts),
+        Ok(_) => {
+            let expanded = expanded_query(alloc, sheet, &query)?;
+            sheet.push(number, Asked::Query(expanded))
+        }
+    }
+}
+
+/// Puts what a definition asks at the end, and binds its name where it isn't refused.
+fn put_definition(
+    alloc: Global,
+    sheet: &mut Sheet,
+    number: u64,
+    name: Text,
+    expr: Expr,
+) -> Result<(), AllocError>
+    requires { IsSound sheet.old }
+    ensures puts { OnOk result (PutsStatement number (defines name (tree_of expr)) sheet.old sheet.new) }
+    ensures sound { OnOk result (IsSound sheet.new) }
+{
+    match measured(sheet, &expr) {
+        Err(column) => sheet.push(number, Asked::Unknown(column)),
+        Ok(size) if !size.has_use => sheet.define(number, name, expr, size),
+        Ok(size) if is_too_large(size) => sheet.push(number, Asked::Parts),
+        Ok(size) => {
+            let expanded = expand(alloc, sheet, &expr)?;
+            sheet.define(number, name, expanded, size)
+        }
+    }
+}
+
+/// Whether expanded expressions of this size are too large.
+fn is_too_large(size: Size) -> bool
+    ensures { result ≡ (ltb 4096 size.parts || ltb 1024 size.levels) }
+{
+    size.parts > MOST_PARTS || size.levels > MOST_LEVELS
+}
+
+/// The size of the query's expressions, or the column of the first use of an unknown name.
+fn query_size(sheet: &Sheet, query: &Query) -> Result<Size, u64>
+    requires { IsSound sheet.now }
+    ensures { IsMeasured (bindings_in sheet.now) (trees_of_question (question_of query.now)) result }
+{
+    match query {
+        Query::Value(expr) => measured(sheet, expr),
+        Query::Outcome(expr) => measured(sheet, expr),
+        Query::Stops(expr) => measured(sheet, expr),
+        Query::Mean(expr) => measured(sheet, expr),
+        Query::Temp(expr) => measured(sheet, expr),
+        Query::Thermo(expr) => measured(sheet, expr),
+        Query::Compare(first, second) => both_size(sheet, first, second),
+        Query::Proof(first, second) => both_size(sheet, first, second),
+        Query::Check(first, second, _) => both_size(sheet, first, second),
+    }
+}
+
+/// The size of two expressions.
+fn both_size(sheet: &Sheet, first: &Expr, second: &Expr) -> Result<Size, u64>
+    requires { IsSound sheet.now }
+    ensures { IsMeasured (bindings_in sheet.now) (tree_of first.now ∷ tree_of second.now ∷ []) result }
+{
+    let first = measured(sheet, first)?;
+    let second = measured(sheet, second)?;
+    Ok(beside(first, second))
+}
+
+/// The query about expanded expressions.
+fn expanded_query(alloc: Global, sheet: &Sheet, query: &Query) -> Result<Query, AllocError>
+    requires { IsSound sheet.now }
+    ensures { IfOk result (λ q. question_of q ≡ question_expanded (bindings_in sheet.now) (question_of query.now)) }
+{
+    match query {
+        Query::Value(expr) => Ok(Query::Value(expand(alloc, sheet, expr)?)),
+        Query::Outcome(expr) => Ok(Query::Outcome(expand(alloc, sheet, expr)?)),
+        Query::Stops(expr) => Ok(Query::Stops(expand(alloc, sheet, expr)?)),
+        Query::Mean(expr) => Ok(Query::Mean(expand(alloc, sheet, expr)?)),
+        Query::Temp(expr) => Ok(Query::Temp(expand(alloc, sheet, expr)?)),
+        Query::Thermo(expr) => Ok(Query::Thermo(expand(alloc, sheet, expr)?)),
+        Query::Compare(first, second) => {
+            let first = expand(alloc, sheet, first)?;
+            Ok(Query::Compare(first, expand(alloc, sheet, second)?))
+        }
+        Query::Proof(first, second) => {
+            let first = expand(alloc, sheet, first)?;
+            Ok(Query::Proof(first, expand(alloc, sheet, second)?))
+        }
+        Query::Check(first, second, proof) => {
+            let first = expand(alloc, sheet, first)?;
+            let second = expand(alloc, sheet, second)?;
+            Ok(Query::Check(first, second, copy_text(alloc, proof)?))
+        }
+    }
+}

@@ -1,0 +1,87 @@
+//! Sessions of either format.
+ghost use Rattle.std.specs.Prelude.{◌≡◌, IfOk, length};
+ghost use Rattle.cg_syntax.specs.Session.{AreClosedLines, IsSession, format_number, format_of};
+ghost use Rattle.cg_syntax.specs.SessionViews.{line_of, lines_in};
+
+use crate::format::Format;
+use crate::marks::behind_mark;
+use crate::query::Query;
+use crate::resolve::read_lines;
+use std::alloc::{AllocError, Global};
+
+/// What a session says.
+#[derive(Debug, Drop)]
+pub struct Session {
+    /// The format, 1 or 2.
+    pub format: u8,
+    /// The lines that get an answer.
+    pub lines: SessionLines,
+}
+
+/// A list of lines. Contracts see it by `lines_in`, as a list of numbers and what is made of each line.
+#[derive(Debug, Drop)]
+pub struct SessionLines {
+    lines: Vec<SessionLine>,
+}
+
+impl SessionLines {
+    /// The list of these lines.
+    pub fn of(lines: Vec<SessionLine>) -> SessionLines
+        ensures { result.lines ≡ lines }
+    {
+        SessionLines { lines }
+    }
+
+    /// The lines in order.
+    pub fn as_slice(&self) -> &[SessionLine]
+        ensures { result.now ≡ self.now.lines.items }
+    {
+        &self.lines
+    }
+}
+
+/// A line that gets an answer.
+#[derive(Debug, Drop)]
+pub struct SessionLine {
+    /// Its number; all lines are counted, from 1.
+    pub number: u64,
+    /// What it asks.
+    pub asked: Asked,
+}
+
+/// What a line asks, or why it is refused.
+#[derive(Debug, Drop)]
+pub enum Asked {
+    /// A closed query: it has no names. A definition asks for the value of its expression.
+    Query(Query),
+    /// The line isn't in the grammar of its format. The column counts bytes from 1.
+    Syntax(u64),
+    /// At this column stands the first use of a name that no earlier line binds.
+    Unknown(u64),
+    /// A name is used, and the expanded expressions have more than 4,096 parts together, or one has more than 1,024
+    /// levels.
+    Parts,
+}
+
+/// The lines of the text that get an answer, each with its number and what it asks.
+///
+/// A session has format 2 where its first line, without the blanks at both ends, is `cg 2`; then that line gets no answer,
+/// a line may define a name, and each use of a name is replaced by what the last earlier line bound to it. Each line is
+/// refused by the first of `Syntax`, `Unknown` and `Parts` that applies; a definition that is refused binds nothing. The
+/// one fault is want of memory.
+pub fn read_session(alloc: Global, text: &[u8]) -> Result<Session, AllocError>
+    ensures format { IfOk result (λ s. s.format ≡ format_number (format_of text.now)) }
+    ensures lines { IfOk result (λ s. IsSession text.now (lines_in s.lines)) }
+    ensures closed { IfOk result (λ s. AreClosedLines (lines_in s.lines)) }
+{
+    match behind_mark(text) {
+        None => Ok(Session {
+            format: 1,
+            lines: read_lines(alloc, Format::One, 1, text)?,
+        }),
+        Some(rest) => Ok(Session {
+            format: 2,
+            lines: read_lines(alloc, Format::Two, 2, rest)?,
+        }),
+    }
+}
