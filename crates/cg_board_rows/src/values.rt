@@ -5,18 +5,34 @@ ghost use Rattle.cg_values.specs.Notes.{MayNote};
 
 use cg_amazons::Amazons;
 use cg_canon::{ValueFault, Work};
-use cg_cells::PlainStore;
+use cg_cells::{CellStore, PlainStore};
 use cg_clobber::Clobber;
 use cg_domineering::Domineering;
 use cg_moves::{Board, Rules};
 use cg_names::name;
-use cg_nodes::GameFacts;
+use cg_nodes::{BoardForms, GameFacts, Handle};
 use cg_strip::{Strip, Toads, read_toads};
-use cg_values::{CgBoards, may_note, value_of};
+use cg_sum::sum;
+use cg_values::{Adder, CgBoards, may_note, value_of};
 use std::alloc::Global;
 use std::test::Fail;
 
 type Store = PlainStore<GameFacts<CgBoards>>;
+
+/// What adds the values of pieces.
+struct Sums;
+
+impl Adder for Sums {
+    fn add<B: BoardForms, S: CellStore<GameFacts<B>>>(
+        &self,
+        alloc: Global,
+        work: &mut Work<'_, B, S>,
+        a: Handle,
+        b: Handle,
+    ) -> Result<Handle, ValueFault> {
+        sum(alloc, work, a, b)
+    }
+}
 
 /// What was answered, by the name of the value, and what was spent.
 #[derive(Debug, Drop)]
@@ -39,7 +55,7 @@ fn valued<R: Rules>(
 {
     let mut store: Store = PlainStore::new(alloc, 4096)?;
     let mut work = Work::new(alloc, &mut store, share, positions);
-    let answer = value_of(alloc, &mut work, rules, board);
+    let answer = value_of(alloc, &mut work, rules, &Sums, board);
     let spent = work.spent();
     match answer {
         Ok(value) => Ok(Row {
@@ -54,19 +70,21 @@ fn valued<R: Rules>(
 }
 
 /// The value of the Clobber board.
-fn clobber(alloc: Global, text: &[u8], share: u64) -> Result<Row, Fail>
+fn clobber(alloc: Global, text: &[u8], share: u64, positions: u64) -> Result<Row, Fail>
     requires { share ≤ 4096 }
 {
     may_note();
     let board = cg_clobber::read(alloc, text)?;
-    valued(alloc, &Clobber, &board, share, 65_536)
+    valued(alloc, &Clobber, &board, share, positions)
 }
 
 /// The value of the Domineering board.
-fn domineering(alloc: Global, text: &[u8], positions: u64) -> Result<Row, Fail> {
+fn domineering(alloc: Global, text: &[u8], share: u64, positions: u64) -> Result<Row, Fail>
+    requires { share ≤ 4096 }
+{
     may_note();
     let board = cg_domineering::read(alloc, text)?;
-    valued(alloc, &Domineering, &board, 4096, positions)
+    valued(alloc, &Domineering, &board, share, positions)
 }
 
 /// Whether the row is a value of this name.
@@ -85,32 +103,60 @@ fn is_refused(row: &Row, fault: ValueFault) -> bool {
     }
 }
 
-/// *, at 9 for each of the two moves and 11 for itself; ^; and * again.
+/// *, at 1 for each of the two moves, which leave no piece, and 11 for itself; ^; and * again.
 #[test]
 fn values_clobber(rt: HostRuntime) -> Result<(), Fail> {
-    let pair = clobber(rt.alloc(), b"xo", 4096)?;
+    let pair = clobber(rt.alloc(), b"xo", 4096, 1)?;
     assert!(rt; is_value(&pair, "*"));
-    assert_eq!(rt; pair.spent, 29);
-    let exact = clobber(rt.alloc(), b"xo", 29)?;
+    assert_eq!(rt; pair.spent, 13);
+    let exact = clobber(rt.alloc(), b"xo", 13, 1)?;
     assert!(rt; is_value(&exact, "*"));
-    let short = clobber(rt.alloc(), b"xo", 28)?;
-    assert!(rt; is_refused(&short, ValueFault::Full(29)));
-    assert_eq!(rt; short.spent, 18);
-    let up = clobber(rt.alloc(), b"xxo", 4096)?;
+    let short = clobber(rt.alloc(), b"xo", 12, 1)?;
+    assert!(rt; is_refused(&short, ValueFault::Full(13)));
+    assert_eq!(rt; short.spent, 2);
+    let up = clobber(rt.alloc(), b"xxo", 4096, 99)?;
     assert!(rt; is_value(&up, "^"));
-    let star = clobber(rt.alloc(), b"xox", 4096)?;
+    assert_eq!(rt; up.spent, 25);
+    let star = clobber(rt.alloc(), b"xox", 4096, 99)?;
     assert!(rt; is_value(&star, "*"));
+    assert_eq!(rt; star.spent, 15);
     Ok(())
 }
 
-/// The board of two rows and three columns, which has 18 positions.
+/// Two equal pieces, at 13 for both and 12 for the four sums of their positions; a board without a piece; and a piece beside
+/// stones that nobody can move.
+#[test]
+fn joins_pieces(rt: HostRuntime) -> Result<(), Fail> {
+    let both = clobber(rt.alloc(), b"xo.xo", 25, 4)?;
+    assert!(rt; is_value(&both, "0"));
+    assert_eq!(rt; both.spent, 25);
+    let long = clobber(rt.alloc(), b"xo.xo", 4096, 3)?;
+    assert!(rt; is_refused(&long, ValueFault::Positions));
+    assert_eq!(rt; long.spent, 13);
+    let none = clobber(rt.alloc(), b"xx.oo", 1, 0)?;
+    assert!(rt; is_value(&none, "0"));
+    assert_eq!(rt; none.spent, 1);
+    let beside = clobber(rt.alloc(), b"xx.xo", 4096, 1)?;
+    assert!(rt; is_value(&beside, "*"));
+    assert_eq!(rt; beside.spent, 13);
+    Ok(())
+}
+
+/// The board of two rows and three columns, from which play comes to 8 pieces; and two pieces that are alike.
 #[test]
 fn values_domineering(rt: HostRuntime) -> Result<(), Fail> {
-    let board = domineering(rt.alloc(), b"...|...", 18)?;
+    let board = domineering(rt.alloc(), b"...|...", 4096, 8)?;
     assert!(rt; is_value(&board, "{2|-1/2}"));
-    let short = domineering(rt.alloc(), b"...|...", 17)?;
-    assert!(rt; is_refused(&short, ValueFault::Positions));
-    assert_eq!(rt; short.spent, 0);
+    assert_eq!(rt; board.spent, 84);
+    let long = domineering(rt.alloc(), b"...|...", 4096, 7)?;
+    assert!(rt; is_refused(&long, ValueFault::Positions));
+    assert_eq!(rt; long.spent, 0);
+    let alike = domineering(rt.alloc(), b"..#..", 12, 99)?;
+    assert!(rt; is_value(&alike, "-2"));
+    assert_eq!(rt; alike.spent, 12);
+    let short = domineering(rt.alloc(), b"..#..", 11, 99)?;
+    assert!(rt; is_refused(&short, ValueFault::Full(12)));
+    assert_eq!(rt; short.spent, 10);
     Ok(())
 }
 

@@ -1,14 +1,16 @@
 -- The last item of a board is its value.
-use Rattle.std.proofs.Common.{◌≡◌, refl, ap, ◌∙◌, subst, ℕ, suc, ◌==◌, false, true, None, Result, Ok, Err, List, [], ◌∷◌, ◌++◌, length, nat_lt, inl, inr, eq-eqb}
+use Rattle.std.proofs.Common.{◌≡◌, refl, ap, sym, ◌∙◌, subst, ℕ, Bool, if◌then◌else◌, suc, ◌==◌, false, true, None, Result, Ok, Err, List, [], ◌∷◌, ◌++◌, length, nat_lt, inl, inr, eq-eqb}
 use Rattle.std.specs.Prelude.{◌&&◌, bytes_eq, codes}
 use Rattle.std.proofs.lemmas.Bool.{and_from}
 use Rattle.cg_dyadic.proofs.Truth.{true_or_false}
+use Rattle.cg_canon.specs.Items.{Item}
 use Rattle.cg_nodes.specs.Spelled.{can}
 use Rattle.cg_moves.specs.declared.fault.BoardFault.{BoardFault}
 use Rattle.cg_moves.specs.Grid.{Grid}
 use Rattle.cg_moves.specs.Raw.{raw}
 use Rattle.cg_moves.specs.Reach.{reach_of}
-use Rattle.cg_moves.specs.Rules.{GameRules, IsLawful}
+use Rattle.cg_moves.specs.PieceReach.{piece_reach_of}
+use Rattle.cg_moves.specs.Rules.{GameRules, IsCut, IsLawful}
 use Rattle.cg_moves.specs.Texts.{read_of}
 use Rattle.cg_moves.proofs.ReachLemmas.{reach-last}
 use Rattle.cg_moves.specs.Grid.{is_in_rows}
@@ -27,11 +29,12 @@ use Rattle.cg_graph.specs.declared.fault.GraphFault.{GraphFault}
 use Rattle.cg_strip.specs.StripLaws.{strip_lawful}
 use Rattle.cg_strip.specs.Toads.{toads_game}
 use Rattle.cg_strip.specs.ToadsLaws.{toads_lawful}
-use Rattle.cg_values.specs.Items.{board_items, value_item, value_items}
+use Rattle.cg_values.specs.Items.{board_items, cut_items, value_item, value_items, whole_items}
 use Rattle.cg_syntax.specs.declared.kind.GameKind.{GameKind}
 use Rattle.cg_syntax.specs.declared.kind.GameKind.TheVariants.{Domineering, Clobber, Amazons, Toads, Strip, Hackenbush, Col, Snort}
 use Rattle.cg_eval.specs.Boards.{IsStrip, Position, board, faulty, no_row, no_rules, not_lowered, position_by, position_charted, position_drawn, position_fault, position_form, position_items, position_of, strip_board, strip_position}
 use Rattle.cg_eval.specs.Parts.{IsSound}
+use Rattle.cg_eval.proofs.CutEnds.{ends-cut}
 use Rattle.cg_eval.proofs.Lasts.{AreMade, EndsIn, not_too_many}
 use Rattle.cg_eval.proofs.ReadBoards.{in-rows, read-by, same-symbols}
 use Rattle.cg_eval.proofs.StripReadings.{strip-some}
@@ -130,13 +133,31 @@ ends-values r p front ps e = record {
   split = ap (value_items r) e ∙ over_last r p front;
 }
 
-ends-items : (limit : ℕ) (r : GameRules) → IsLawful r → (p : Grid) → r.has p ≡ true → AreMade (board_items limit r p)
-    → EndsIn (can (raw r p)) (board_items limit r p)
-unfolding board_items
-ends-items limit r lawful p has m = elim (true_or_false (nat_lt limit (length (reach_of r p)))) [
+ends-whole : (limit : ℕ) (r : GameRules) → IsLawful r → (p : Grid) → r.has p ≡ true → AreMade (whole_items limit r p)
+    → EndsIn (can (raw r p)) (whole_items limit r p)
+ends-whole limit r lawful p has m = elim (true_or_false (nat_lt limit (length (reach_of r p)))) [
   | inl t ↦ absurd (not_too_many (rw t at m))
   | inr e ↦ rw e (ends-values r p _ (reach_of r p) (reach-last r lawful p has))
 ]
+
+ends-in_pieces : (limit : ℕ) (r : GameRules) → IsLawful r → IsCut r → (p : Grid) → r.has p ≡ true
+    → AreMade (cut_items limit r p) → EndsIn (can (raw r p)) (cut_items limit r p)
+ends-in_pieces limit r lawful cut p has m = elim (true_or_false (nat_lt limit (length (piece_reach_of r p)))) [
+  | inl t ↦ absurd (not_too_many (rw t at m))
+  | inr e ↦ rw e (ends-cut limit r lawful cut p has (rw e at m))
+]
+
+ends-items : (limit : ℕ) (r : GameRules) → IsLawful r → (p : Grid) → r.has p ≡ true → AreMade (board_items limit r p)
+    → EndsIn (can (raw r p)) (board_items limit r p)
+unfolding board_items
+ends-items limit r lawful p has m =
+    let items : Bool → List Item = λ b. if b then cut_items limit r p else whole_items limit r p in
+    let P : Bool → Type 0 = λ b. EndsIn (can (raw r p)) (items b) in
+    let Q : Bool → Type 0 = λ b. AreMade (items b) in
+    elim (true_or_false r.cuts) [
+      | inl t ↦ subst P (sym t) (ends-in_pieces limit r lawful (lawful.cut t) p has (subst Q t m))
+      | inr f ↦ subst P (sym f) (ends-whole limit r lawful p has (subst Q f m))
+    ]
 
 ends-position : (limit : ℕ) (q : Position) → IsPlayed q → position_fault q ≡ None → AreMade (position_items limit q)
     → EndsIn (can (position_form q)) (position_items limit q)

@@ -5,7 +5,7 @@ use Rattle.cg_form.specs.Game.{Game, number}
 use Rattle.cg_form.specs.Heights.{height}
 use Rattle.cg_form.specs.Order.{Equal}
 use Rattle.cg_form.specs.Simple.{Decided, NoNumber}
-use Rattle.cg_form.specs.Walls.{TemperatureIs, Walls, scaffold_of, walls}
+use Rattle.cg_form.specs.Walls.{TemperatureIs, Walls, scaffold_of}
 use Rattle.cg_form.proofs.Decide.{number-decide}
 use Rattle.cg_form.proofs.Preorder.{equal_trans}
 use Rattle.cg_form.proofs.Temperature.{temperature-equal, walls-mast}

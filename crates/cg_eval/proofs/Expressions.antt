@@ -19,7 +19,8 @@ use Rattle.cg_canon.specs.Items.{AllPass, Item, WasRefused, made}
 use Rattle.cg_canon.specs.NumberItems.{IsForm, number_made}
 use Rattle.cg_canon.specs.Works.{Keeps}
 use Rattle.cg_canon.proofs.ItemLaws.{passes-first}
-use Rattle.cg_sum.specs.Lists.{sum_items, negative_items, multiple_items}
+use Rattle.cg_canon.specs.SumItems.{sum_items}
+use Rattle.cg_sum.specs.Lists.{negative_items, multiple_items}
 use Rattle.cg_nodes.specs.CanForms.{can-fixed}
 use Rattle.cg_nodes.proofs.Forms.{can-node}
 use Rattle.cg_sum.proofs.Sums.{can-sum_form, can-sum_comm}

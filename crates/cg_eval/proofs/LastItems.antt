@@ -1,5 +1,5 @@
 -- The last of the items of an expression.
-use Rattle.std.proofs.Common.{◌≡◌, refl, ℕ, zero, suc, ◌+◌, pos, ap, sym, ◌∙◌, subst, List, [], ◌∷◌, ◌++◌, append_assoc, length, map, Bool, true, false, nat_lt, inl, inr, Option, Some, None, Result, Ok, Err}
+use Rattle.std.proofs.Common.{◌≡◌, refl, ℕ, zero, suc, ◌+◌, pos, ap, sym, subst, List, [], ◌∷◌, ◌++◌, append_assoc, length, map, Bool, true, false, nat_lt, inl, inr, Option, Some, None, Result, Ok, Err}
 use Rattle.cg_dyadic.specs.Number.{Number, whole}
 use Rattle.cg_dyadic.proofs.Truth.{true_or_false}
 use Rattle.cg_form.specs.Canonical.{Canonical}
@@ -10,21 +10,20 @@ use Rattle.cg_form.specs.Sum.{sum as plus, negative as minus}
 use Rattle.cg_form.proofs.EqualGames.{sum_equal}
 use Rattle.cg_form.proofs.Negative.{negative-le}
 use Rattle.cg_form.proofs.Preorder.{equal_refl}
-use Rattle.cg_form.proofs.SumLaws.{sum-le_second}
 use Rattle.cg_nodes.specs.Positions.{positions_of}
 use Rattle.cg_nodes.specs.Spelled.{can}
 use Rattle.cg_canon.specs.Items.{Item, made}
-use Rattle.cg_sum.specs.Lists.{sum_items, negative_items, multiple_items}
+use Rattle.cg_canon.specs.SumItems.{sum_items}
+use Rattle.cg_sum.specs.Lists.{negative_items, multiple_items}
 use Rattle.cg_nodes.specs.CanForms.{can-canonical, can-equal, can-fixed}
 use Rattle.cg_nodes.proofs.Forms.{can-same}
-use Rattle.cg_sum.proofs.Sums.{can-sum_form}
 use Rattle.cg_names.specs.Lists.{form_items, number_items, plain_item}
 use Rattle.cg_canon.specs.NumberItems.{number_made}
 use Rattle.cg_names.specs.Meaning.{fraction, literal, signed, or_zero}
 use Rattle.cg_eval.specs.Faults.{fault_in, fault_in_terms}
 use Rattle.cg_eval.specs.Meaning.{meaning, total, total_with}
 use Rattle.cg_names.specs.Named.{nimber_form, ups_form, switch_form, tiny_form}
-use Rattle.cg_syntax.specs.Tree.{Tree, Terms, number, ups, nimber, switch, tiny, sides, negative, multiple, sum, game, octal, no_terms, with_term}
+use Rattle.cg_syntax.specs.Tree.{Tree, Terms, number, ups, nimber, switch, tiny, sides, negative, multiple, sum, game, octal, used, no_terms, with_term}
 use Rattle.cg_octal.specs.Codes.{OctalHeap}
 use Rattle.cg_octal.specs.Heaps.{heap}
 use Rattle.cg_octal.specs.declared.fault.OctalFault.{OctalFault}
@@ -37,6 +36,7 @@ use Rattle.cg_names.proofs.NimberForms.{nimber-canonical}
 use Rattle.cg_names.proofs.SwitchForms.{switch-canonical, tiny-canonical}
 use Rattle.cg_names.proofs.UpForms.{ups-canonical}
 use Rattle.cg_eval.proofs.Lasts.{AreMade, EndsIn, append_none, are_made-back, are_made-front, ends-as, ends-back, ends-map, ends-multiple, ends-negative, ends-sum, ends-within, last_position, not_outside, not_too_many}
+use Rattle.cg_values.proofs.GiveSteps.{can-sum_forms}
 
 -- ---- the forms of the parts may stand for the parts
 
@@ -44,15 +44,6 @@ pub can-negative_form : (g : Game) → can (minus (can g)) ≡ can (minus g)
 can-negative_form g =
     let e = can-equal g in
     can-same (minus (can g)) (minus g) (negative-le g (can g) e.1, negative-le (can g) g e.0)
-
-pub can-sum_forms : (g h : Game) → can (plus (can g) (can h)) ≡ can (plus g h)
-can-sum_forms g h =
-    let e = can-equal h in
-    can-sum_form g (can h) ∙ can-same (plus g (can h)) (plus g h) (
-      sum-le_second (can h) h g e.0,
-      sum-le_second h
-          (can h) g e.1,
-    )
 
 pub can-signed_form : (subtracted : Bool) (g : Game) → can (signed subtracted (can g)) ≡ can (signed subtracted g)
 can-signed_form true g = can-negative_form g
@@ -152,6 +143,7 @@ mutual
   last_item limit (sum terms) b m = last_of_terms limit terms b m
   last_item limit (game kind rules board) b m = ends-board limit kind rules board b m
   last_item limit (octal code tokens) b m = ends-heap limit (octal_read code tokens) b m
+  last_item limit (used word column) b m = one_number (whole (pos 0))
 
   last_of_terms : (limit : ℕ) (ts : Terms) → fault_in_terms ts ≡ None → AreMade (term_items limit ts)
       → EndsIn (can (total ts)) (term_items limit ts)

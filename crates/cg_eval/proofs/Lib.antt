@@ -5,9 +5,11 @@ pub mod StripReadings
 pub mod OctalReadings
 pub mod HeapValues
 pub mod BoardReads
+pub mod CutEnds
 pub mod BoardEnds
 pub mod LastItems
 pub mod Walk
+pub mod ClosedParts
 pub mod BoardParts
 pub mod FaultParts
 pub mod Steps
@@ -16,6 +18,7 @@ pub mod ListSteps
 pub mod Verdicts
 pub mod OnePicture
 pub mod EqualPictures
+pub mod ProofTexts
 pub mod OneAnswer
 pub mod Replies
 pub mod PictureTexts

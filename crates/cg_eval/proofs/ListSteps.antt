@@ -16,7 +16,7 @@ use Rattle.cg_canon.specs.Works.{Keeps}
 use Rattle.cg_nodes.specs.CanForms.{can-fixed}
 use Rattle.cg_sum.proofs.Sums.{can-sum_form}
 use Rattle.cg_names.specs.Named.{zero_number}
-use Rattle.cg_sum.specs.Lists.{sum_items}
+use Rattle.cg_canon.specs.SumItems.{sum_items}
 use Rattle.cg_names.specs.Meaning.{signed}
 use Rattle.cg_eval.specs.Faults.{fault_in, fault_in_terms}
 use Rattle.cg_eval.specs.Meaning.{meaning, meanings, total, total_with}

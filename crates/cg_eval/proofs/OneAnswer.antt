@@ -7,7 +7,11 @@ use Rattle.cg_thermo.specs.Thermal.{NeedsMore}
 use Rattle.cg_syntax.specs.Tree.{Question, value, compare, outcome, stops, mean, temp, thermo, proof, check}
 use Rattle.cg_eval.specs.Meaning.{meaning}
 use Rattle.cg_eval.specs.Pictures.{IsPicture, Picture, mean_text, temp_text, thermograph_text}
-use Rattle.cg_eval.specs.Reply.{IsAnswerTo, IsShown, Piece, answer, too_fine}
+use Rattle.cg_eval.specs.Reply.{IsAnswerTo, IsChecked, IsProved, IsShown, Piece, answer, too_fine, too_long}
+use Rattle.cg_cert.specs.Answer.{IsLong, proof_answer}
+use Rattle.cg_cert.specs.Proves.{IsProofOf}
+use Rattle.std.specs.Prelude.{codes}
+use Rattle.cg_eval.proofs.ProofTexts.{long-or-not, proof-or-not}
 use Rattle.cg_eval.proofs.OnePicture.{needs-or-not, one-picture, some-picture}
 
 one-shown : (g : Game) (show : Picture → List ℕ) (p r : Piece) → IsShown g show p → IsShown g show r → p ≡ r
@@ -24,6 +28,32 @@ some-shown g show = by (needs-or-not (can g)) (some-picture g)
     by (inl n) x = (too_fine, inl (n, refl))
     by (inr n) x = (answer (show x.0), inr (n, (x.0, x.1, refl)))
 
+one-proved : (g h : Game) (p r : Piece) → IsProved g h p → IsProved g h r → p ≡ r
+one-proved g h p r (inl a) (inl b) = a.1 ∙ sym b.1
+one-proved g h p r (inl a) (inr b) = absurd (b.0 a.0)
+one-proved g h p r (inr a) (inl b) = absurd (a.0 b.0)
+one-proved g h p r (inr a) (inr b) = a.1 ∙ sym b.1
+
+one-checked : (g h : Game) (text : List ℕ) (p r : Piece) → IsChecked g h text p → IsChecked g h text r → p ≡ r
+one-checked g h text p r (inl a) (inl b) = a.1 ∙ sym b.1
+one-checked g h text p r (inl a) (inr b) = absurd (b.0 a.0)
+one-checked g h text p r (inr a) (inl b) = absurd (a.0 b.0)
+one-checked g h text p r (inr a) (inr b) = a.1 ∙ sym b.1
+
+some-proved : (g h : Game) → (p : Piece) × IsProved g h p
+some-proved g h = by (long-or-not g h)
+  where
+    by : IsLong g h ⊎ (¬ IsLong g h) → (p : Piece) × IsProved g h p
+    by (inl long) = (too_long, inl (long, refl))
+    by (inr short) = (answer (proof_answer g h), inr (short, refl))
+
+some-checked : (g h : Game) (text : List ℕ) → (p : Piece) × IsChecked g h text p
+some-checked g h text = by (proof-or-not g h text)
+  where
+    by : IsProofOf g h text ⊎ (¬ IsProofOf g h text) → (p : Piece) × IsChecked g h text p
+    by (inl is) = (answer (codes "yes"), inl (is, refl))
+    by (inr other) = (answer (codes "no"), inr (other, refl))
+
 pub one-answer : (q : Question) (p r : Piece) → IsAnswerTo q p → IsAnswerTo q r → p ≡ r
 one-answer (value t) p r a b = a ∙ sym b
 one-answer (compare s t) p r a b = a ∙ sym b
@@ -32,8 +62,8 @@ one-answer (stops t) p r a b = a ∙ sym b
 one-answer (mean t) p r a b = one-shown (meaning t) mean_text p r a b
 one-answer (temp t) p r a b = one-shown (meaning t) temp_text p r a b
 one-answer (thermo t) p r a b = one-shown (meaning t) thermograph_text p r a b
-one-answer (proof s t) p r a b = a ∙ sym b
-one-answer (check s t text) p r a b = a ∙ sym b
+one-answer (proof s t) p r a b = one-proved (can (meaning s)) (can (meaning t)) p r a b
+one-answer (check s t text) p r a b = one-checked (can (meaning s)) (can (meaning t)) text p r a b
 
 pub some-answer : (q : Question) → (p : Piece) × IsAnswerTo q p
 some-answer (value t) = (_, refl)
@@ -43,5 +73,5 @@ some-answer (stops t) = (_, refl)
 some-answer (mean t) = some-shown (meaning t) mean_text
 some-answer (temp t) = some-shown (meaning t) temp_text
 some-answer (thermo t) = some-shown (meaning t) thermograph_text
-some-answer (proof s t) = (_, refl)
-some-answer (check s t text) = (_, refl)
+some-answer (proof s t) = some-proved (can (meaning s)) (can (meaning t))
+some-answer (check s t text) = some-checked (can (meaning s)) (can (meaning t)) text

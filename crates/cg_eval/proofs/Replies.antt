@@ -160,7 +160,7 @@ handle-unread s line c a unread none = record {
 
 -- ---- one reply
 
-one-reply_by : (o : Option GameFault) (share limit : ℕ) (q : Question) (p r : Piece) → IsReplyBy o share limit q p
+pub one-reply_by : (o : Option GameFault) (share limit : ℕ) (q : Question) (p r : Piece) → IsReplyBy o share limit q p
     → IsReplyBy o share limit q r → p ≡ r
 one-reply_by (Some fault) share limit q p r a b = a ∙ sym b
 one-reply_by None share limit q p r (inl a) (inl b) = one-answer q p r a.2 b.2

@@ -1,6 +1,6 @@
 -- Answers from what is told of the games of handles.
-use Rattle.std.proofs.Common.{◌≡◌, refl, ap, sym, ◌∙◌, subst, ℕ, Bool, true, false, List, ◌++◌, Option, Some, None, Result, Ok, Err, if◌then◌else◌, pos, inl, inr}
-use Rattle.std.specs.Prelude.{String, string_bytes}
+use Rattle.std.proofs.Common.{◌≡◌, refl, ap, sym, ◌∙◌, subst, ℕ, arith, Bool, true, false, List, ◌++◌, Option, Some, None, Result, Ok, Err, if◌then◌else◌, pos, inl, inr}
+use Rattle.std.specs.Prelude.{◌↔◌, IsTrue, String, string_bytes}
 use Rattle.cg_cells.specs.Store.{Spends, State}
 use Rattle.cg_dyadic.specs.Number.{whole}
 use Rattle.cg_dyadic.specs.Wide.{places}
@@ -29,14 +29,16 @@ use Rattle.cg_thermo.specs.declared.ending.Stops.{Stops}
 use Rattle.cg_thermo.specs.declared.thermo.Walls.{Walls}
 use Rattle.cg_thermo.specs.declared.winner.Outcome.{Outcome}
 use Rattle.cg_thermo.proofs.Wins.{wins}
+use Rattle.cg_cert.specs.Answer.{IsLong, IsShort, proof_answer}
+use Rattle.cg_cert.specs.Proves.{IsProofOf}
 use Rattle.cg_syntax.specs.Tree.{Question, Tree, compare}
 use Rattle.cg_eval.specs.Items.{items, question_items}
 use Rattle.cg_eval.specs.Meaning.{meaning}
-use Rattle.cg_eval.specs.Parts.{IsCompared, IsDrawn, IsLater, Tells, TellsTwo, asked_of, part_asked, part_text, picture_of, winner_of}
+use Rattle.cg_eval.specs.Parts.{IsCompared, IsDrawn, Tells, TellsTwo, asked_of, part_asked, part_text, picture_of, winner_of, yes_or_no}
 use Rattle.cg_eval.specs.Pictures.{IsPicture, Picture, stops_text}
 use Rattle.cg_eval.specs.Progress.{Evaluates, EvaluatesTwo, Makes, Stops as Halts}
 use Rattle.cg_eval.specs.Refused.{IsRefusedBy}
-use Rattle.cg_eval.specs.Reply.{IsAnswerTo, Piece, answer, comparison, later, too_fine, winner}
+use Rattle.cg_eval.specs.Reply.{IsAnswerTo, IsChecked, IsProved, Piece, answer, comparison, too_fine, too_long, winner}
 use Rattle.cg_eval.specs.Shown.{Answers, HandleIs, first_of, shown}
 use Rattle.cg_eval.specs.declared.answered.Answered.{Answered}
 use Rattle.cg_eval.specs.declared.pictures.Part.{Part}
@@ -185,11 +187,22 @@ told-two h Is a text e f is = record {
   handle = f ∙ ap (λ (b : Bool). if b then None else Some h) (sym (ap (λ (z : Piece). z.refused) e));
 }
 
-pub told-later : (v : ℕ) (a : Answered) → IsRefusedBy later a → TellsTwo v IsLater a
-told-later v a r = record {
-  text = r.text;
+pub told-too_long : (g h : Game) (v : ℕ) (a : Answered) → IsLong g h → IsRefusedBy too_long a → TellsTwo v (IsProved g h) a
+told-too_long g h v a long r = record {
+  text = subst (IsProved g h) (sym r.text) (inl (long, refl));
   handle = r.handle ∙ ap (λ (b : Bool). if b then None else Some v) (sym (ap (λ (z : Piece). z.refused) r.text));
 }
+
+pub told-proof : (g h : Game) (v : ℕ) (a : Answered) (text : List ℕ) → shown a ≡ answer text → a.handle ≡ Some v
+    → text ≡ proof_answer g h → IsShort g h → TellsTwo v (IsProved g h) a
+told-proof g h v a text e f t short =
+    told-two v (IsProved g h) a text e f (inr ((λ l. absurd (omega (arith, l, short))), ap answer t))
+
+pub told-check : (g h : Game) (v : ℕ) (proof : List ℕ) (a : Answered) (text : List ℕ) (b : Bool) → shown a ≡ answer text
+    → a.handle ≡ Some v → text ≡ yes_or_no b → (IsTrue b ↔ IsProofOf g h proof) → TellsTwo v (IsChecked g h proof) a
+told-check g h v proof a text true e f t iff = told-two v (IsChecked g h proof) a text e f (inl (iff.0 refl, ap answer t))
+told-check g h v proof a text false e f t iff =
+    told-two v (IsChecked g h proof) a text e f (inr ((λ p. let x = iff.1 p in cc), ap answer t))
 
 compared-forms : (a b : Game) (reply : Piece) → IsCompared (can a) (can b) reply → IsCompared a b reply
 compared-forms a b reply e =

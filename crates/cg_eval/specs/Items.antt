@@ -1,4 +1,5 @@
--- The forms that an expression makes, in order. `limit` is the most that one list of items may have.
+-- The forms that an expression makes, in order. `limit` is the most that one list of items may have. An expression that is
+-- evaluated has no uses of names; 0 stands for one here, as in its meaning
 use Rattle.std.specs.Prelude.{ℕ, pos, Bool, false, cond, List, [], ◌∷◌, ◌++◌}
 use Rattle.cg_dyadic.specs.Number.{whole}
 use Rattle.cg_form.specs.Game.{Game, number as plain_number}
@@ -6,14 +7,15 @@ use Rattle.cg_form.specs.Sum.{sum as plus}
 use Rattle.cg_nodes.specs.Spelled.{can}
 use Rattle.cg_canon.specs.Items.{Item, made}
 use Rattle.cg_canon.specs.NumberItems.{number_made}
-use Rattle.cg_sum.specs.Lists.{sum_items, negative_items, multiple_items}
+use Rattle.cg_canon.specs.SumItems.{sum_items}
+use Rattle.cg_sum.specs.Lists.{negative_items, multiple_items}
 use Rattle.cg_names.specs.Named.{nimber_form, ups_form, switch_form, tiny_form}
 use Rattle.cg_names.specs.Lists.{form_items, number_items}
 use Rattle.cg_names.specs.Meaning.{literal, signed}
 use Rattle.cg_eval.specs.Meaning.{meaning}
 use Rattle.cg_eval.specs.Boards.{position_items, position_of}
 use Rattle.cg_eval.specs.Octals.{heap_items, octal_read}
-use Rattle.cg_syntax.specs.Tree.{Tree, Trees, Terms, Question, number, ups, nimber, switch, tiny, sides, negative, multiple, sum, game, octal, no_trees, with_tree, no_terms, with_term, value, compare, outcome, stops, mean, temp, thermo, proof, check}
+use Rattle.cg_syntax.specs.Tree.{Tree, Trees, Terms, Question, number, ups, nimber, switch, tiny, sides, negative, multiple, sum, game, octal, used, no_trees, with_tree, no_terms, with_term, value, compare, outcome, stops, mean, temp, thermo, proof, check}
 
 -- the items that subtracting a game adds before the sum
 abbrev pub signed_items : ℕ → Bool → Game → List Item
@@ -33,6 +35,7 @@ unfoldable mutual
   items limit (sum terms) = term_items limit terms
   items limit (game kind rules board) = position_items limit (position_of kind rules board)
   items limit (octal code heap) = heap_items limit (octal_read code heap)
+  items limit (used word column) = made (plain_number (whole (pos 0))) 0 ∷ []
 
   -- those of the expressions in order
   pub all_items : ℕ → Trees → List Item

@@ -7,12 +7,13 @@ use Rattle.cg_form.specs.Sum.{negative as minus, sum as plus}
 use Rattle.cg_form.specs.Multiple.{multiple as many}
 use Rattle.cg_names.specs.Meaning.{fraction, or_zero, signed}
 use Rattle.cg_names.specs.Named.{nimber_form, ups_form, switch_form, tiny_form}
-use Rattle.cg_syntax.specs.Tree.{Tree, Trees, Terms, number, ups, nimber, switch, tiny, sides, negative, multiple, sum, game, octal, no_trees, with_tree, no_terms, with_term}
+use Rattle.cg_syntax.specs.Tree.{Tree, Trees, Terms, number, ups, nimber, switch, tiny, sides, negative, multiple, sum, game, octal, used, no_trees, with_tree, no_terms, with_term}
 use Rattle.cg_eval.specs.Boards.{position_form, position_of}
 use Rattle.cg_eval.specs.Octals.{heap_form, octal_read}
 
 -- A literal whose denominator is no power of two has no meaning. It is refused before its meaning is asked for, and 0
--- stands for it here; so it does for what is no board or heap
+-- stands for it here; so it does for what is no board or heap, and for a use of a name: each is replaced by what the name
+-- stands for before a meaning is asked for
 unfoldable mutual
   pub meaning : Tree → Game
   meaning (number below num den) = plain_number (or_zero (fraction below num den))
@@ -26,6 +27,7 @@ unfoldable mutual
   meaning (sum terms) = total terms
   meaning (game kind rules board) = position_form (position_of kind rules board)
   meaning (octal code heap) = heap_form (octal_read code heap)
+  meaning (used word column) = plain_number (whole (pos 0))
 
   pub meanings : Trees → Games
   meanings no_trees = none

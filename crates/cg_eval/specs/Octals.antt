@@ -5,7 +5,7 @@ use Rattle.cg_form.specs.Game.{Game, number}
 use Rattle.cg_nodes.specs.Positions.{positions_of}
 use Rattle.cg_nodes.specs.Spelled.{can}
 use Rattle.cg_canon.specs.Items.{Item}
-use Rattle.cg_sum.specs.Lists.{within_limit}
+use Rattle.cg_canon.specs.SumItems.{within_limit}
 use Rattle.cg_names.specs.Lists.{plain_item}
 use Rattle.cg_octal.specs.Codes.{OctalHeap, digits_of}
 use Rattle.cg_octal.specs.Fitting.{fit_length}

@@ -1,5 +1,5 @@
 -- What private contracts say of boards that were read and of what is shown.
-use Rattle.std.specs.Prelude.{◌≡◌, ◌⊎◌, ℕ, List, Option, Some, None, Result, Ok, Err, true, false, codes, if◌then◌else◌, String, string_bytes}
+use Rattle.std.specs.Prelude.{◌≡◌, ◌⊎◌, ℕ, Bool, List, Option, Some, None, Result, Ok, Err, true, false, codes, if◌then◌else◌, String, string_bytes}
 use Rattle.cg_dyadic.specs.Wide.{places}
 use Rattle.cg_form.specs.Game.{Game}
 use Rattle.cg_form.specs.Order.{le}
@@ -19,7 +19,7 @@ use Rattle.cg_syntax.specs.Tree.{Question, Tree, value, outcome, stops, mean, te
 use Rattle.cg_eval.specs.Boards.{Position, board, faulty}
 use Rattle.cg_eval.specs.Pictures.{IsPicture, Picture, mean_text, temp_text, thermograph_text}
 use Rattle.cg_eval.specs.Meaning.{meaning}
-use Rattle.cg_eval.specs.Reply.{IsAnswerTo, Piece, answer, comparison, later}
+use Rattle.cg_eval.specs.Reply.{IsAnswerTo, Piece, answer, comparison}
 use Rattle.cg_eval.specs.Shown.{shown}
 use Rattle.cg_eval.specs.declared.answered.Answered.{Answered}
 use Rattle.cg_eval.specs.IllFormed.{is_memory}
@@ -122,6 +122,7 @@ pub record TellsTwo (h : ℕ) (Is : Piece → Type 0) (a : Answered) : Type 0 wh
 abbrev pub IsCompared : Game → Game → Piece → Type 0
 IsCompared g h reply = reply ≡ answer (comparison (le g h) (le h g))
 
--- the refusal of a question that has no answer yet
-abbrev pub IsLater : Piece → Type 0
-IsLater reply = reply ≡ later
+-- whether a text is a proof
+abbrev pub yes_or_no : Bool → List ℕ
+yes_or_no true = codes "yes"
+yes_or_no false = codes "no"

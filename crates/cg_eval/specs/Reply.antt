@@ -15,6 +15,8 @@ use Rattle.cg_thermo.specs.Thermal.{NeedsMore}
 use Rattle.cg_eval.specs.Meaning.{meaning}
 use Rattle.cg_syntax.specs.Tree.{Question, value, compare, outcome, stops, mean, temp, thermo, proof, check}
 use Rattle.cg_syntax.specs.Lines.{Reads, IsUnread}
+use Rattle.cg_cert.specs.Answer.{IsLong, proof_answer}
+use Rattle.cg_cert.specs.Proves.{IsProofOf}
 use Rattle.cg_eval.specs.declared.fault.GameFault.{GameFault}
 use Rattle.cg_eval.specs.IllFormed.{fault_text}
 use Rattle.cg_eval.specs.Faults.{question_fault}
@@ -54,9 +56,9 @@ refusal_of Memory = refusal (codes "! memory")
 abbrev pub too_fine : Piece
 too_fine = refusal (codes "! range")
 
--- of a question that has no answer yet
-abbrev pub later : Piece
-later = refusal (codes "! later")
+-- of a question for a proof that is too long
+abbrev pub too_long : Piece
+too_long = refusal (codes "! long")
 
 -- ---- answers
 
@@ -81,9 +83,20 @@ IsShown g show reply =
     (NeedsMore places (can g) × (reply ≡ too_fine))
     ⊎ ((¬ NeedsMore places (can g)) × ((p : Picture) × IsPicture g p × (reply ≡ answer (show p))))
 
+-- the proof that a form is at least another, or that it isn't; or a refusal, where that has more than 65,536 bytes
+abbrev pub IsProved : Game → Game → Piece → Type 0
+IsProved g h reply =
+    (IsLong g h × (reply ≡ too_long)) ⊎ ((¬ IsLong g h) × (reply ≡ answer (proof_answer g h)))
+
+-- `yes` where the text is a proof that a form is at least another, and else `no`
+abbrev pub IsChecked : Game → Game → List ℕ → Piece → Type 0
+IsChecked g h text reply =
+    (IsProofOf g h text × (reply ≡ answer (codes "yes"))) ⊎ ((¬ IsProofOf g h text) × (reply ≡ answer (codes "no")))
+
 -- the answer to the question: the name of the value, how the two compare, who wins, the stops, the mean, the temperature,
--- the whole thermograph. The value of an expression is the canonical form of what it means; stops, mean, temperature and
--- thermograph are those of the very game that it means, with all its options. Proofs of order aren't answered yet
+-- the whole thermograph, a proof of how the values are ordered, whether a text is one. The value of an expression is the
+-- canonical form of what it means; stops, mean, temperature and thermograph are those of the very game that it means, with
+-- all its options
 abbrev pub IsAnswerTo : Question → Piece → Type 0
 IsAnswerTo (value t) reply = reply ≡ answer (name_of (can (meaning t)))
 IsAnswerTo (compare s t) reply = reply ≡ answer (comparison (le (meaning s) (meaning t)) (le (meaning t) (meaning s)))
@@ -93,8 +106,8 @@ IsAnswerTo (stops t) reply =
 IsAnswerTo (mean t) reply = IsShown (meaning t) mean_text reply
 IsAnswerTo (temp t) reply = IsShown (meaning t) temp_text reply
 IsAnswerTo (thermo t) reply = IsShown (meaning t) thermograph_text reply
-IsAnswerTo (proof s t) reply = reply ≡ later
-IsAnswerTo (check s t text) reply = reply ≡ later
+IsAnswerTo (proof s t) reply = IsProved (can (meaning s)) (can (meaning t)) reply
+IsAnswerTo (check s t text) reply = IsChecked (can (meaning s)) (can (meaning t)) text reply
 
 -- ---- replies
 

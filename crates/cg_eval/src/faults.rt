@@ -41,6 +41,7 @@ pub fn fault_in(alloc: Global, expr: &Expr) -> Result<Option<GameFault>, AllocEr
         Expr::Sum(terms) => fault_in_terms(alloc, terms),
         Expr::Game { kind, rules, board } => board_fault(alloc, *kind, rules, board),
         Expr::Octal { code, heap } => heap_fault(alloc, code, *heap),
+        Expr::Name { .. } => Ok(None),
     }
 }
 

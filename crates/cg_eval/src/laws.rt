@@ -11,9 +11,9 @@ ghost use Rattle.cg_eval.specs.Faults.{fault_in};
 ghost use Rattle.cg_eval.specs.Meaning.{meaning};
 ghost use Rattle.cg_eval.specs.Items.{items};
 ghost use Rattle.cg_eval.specs.Octals.{octal_read};
-ghost use Rattle.cg_eval.specs.Reply.{IsReply, Piece};
+ghost use Rattle.cg_eval.specs.Reply.{IsReply, IsReplyTo, Piece};
 ghost use Rattle.cg_syntax.specs.Lines.{is_blank_line, IsComment};
-ghost use Rattle.cg_syntax.specs.Tree.{Tree};
+ghost use Rattle.cg_syntax.specs.Tree.{Question, Tree};
 
 use cg_syntax::laws::one_query;
 
@@ -46,6 +46,12 @@ pub fn one_reply()
 {
     one_query();
 }
+
+/// A question has at most one reply, given the share and the positions limit.
+pub fn one_reply_to()
+    ensures { (share limit : ℕ) (q : Question) (p r : Piece) → IsReplyTo share limit q p → IsReplyTo share limit q r
+        → p ≡ r }
+{}
 
 /// A code and a heap are one heap of an octal game, or ill-formed for one cause.
 pub fn octal_heaps()

@@ -6,6 +6,7 @@
 //! limit. What was made before stays in the store and serves the lines after it, but doesn't change their costs.
 #![tactic(auto)]
 
+mod adder;
 mod answered;
 mod boards;
 mod evaluate;
@@ -22,6 +23,7 @@ mod refusals;
 mod reply;
 mod telling;
 
+pub use adder::SumAdder;
 pub use answered::Answered;
 pub use line::answer;
 pub use reply::answer_query;

@@ -7,6 +7,7 @@ ghost use Rattle.cg_eval.specs.Boards.{board, position_fault, position_form, pos
 ghost use Rattle.cg_eval.specs.Parts.{IsSound, set_up};
 ghost use Rattle.cg_eval.specs.Progress.{Gives};
 
+use crate::SumAdder;
 use crate::boards::{GameBoard, game_board};
 use crate::fault::is_memory;
 use cg_amazons::Amazons;
@@ -34,7 +35,7 @@ fn value_by<S: CellStore<GameFacts<CgBoards>>, R: Rules>(
         Gives (work_state S.state work.old) (work_state S.state work.new) (position_items work.old.limit p)
         (position_form p) result }
 {
-    value_of(alloc, work, rules, start)
+    value_of(alloc, work, rules, &SumAdder, start)
 }
 
 /// The value of the board by the rules of its game.

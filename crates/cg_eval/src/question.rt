@@ -1,32 +1,34 @@
 //! Answers to questions, on a work.
-ghost use Rattle.std.specs.Prelude.{◌≡◌, ℕ, List, None};
+ghost use Rattle.std.specs.Prelude.{◌≡◌, None};
 ghost use Rattle.cg_canon.specs.Works.{work_state};
 ghost use Rattle.cg_eval.specs.Faults.{fault_in, first_of_two, question_fault};
 ghost use Rattle.cg_eval.specs.Parts.{asked_of};
 ghost use Rattle.cg_eval.specs.Progress.{EvaluatesTwo};
 ghost use Rattle.cg_eval.specs.Shown.{Answers};
+ghost use Rattle.cg_syntax.specs.Naming.{IsClosed, IsClosedQuestion};
 ghost use Rattle.cg_syntax.specs.Tree.{check, compare, proof};
 ghost use Rattle.cg_syntax.specs.Trees.{question_of, tree_of};
 
 use crate::Answered;
 use crate::evaluate::evaluate;
 use crate::pictures::Part;
-use crate::telling::{Asked, tell, tell_later, tell_order};
+use crate::telling::{Asked, tell, tell_check, tell_order, tell_proof};
 use cg_canon::{ValueFault, Work};
 use cg_cells::CellStore;
 use cg_nodes::{GameFacts, Handle};
-use cg_syntax::{Expr, Query};
+use cg_syntax::{Expr, Query, Text};
 use cg_values::CgBoards;
 use std::alloc::Global;
 
-/// The answer to a question whose boards and heaps are all well-formed. It makes the question's items in order; the fault is that of
+/// The answer to a question that has no uses of names and whose boards and heaps are all well-formed. It makes the question's items in order; the fault is that of
 /// the first that is refused, or want of memory.
 pub fn answer_question<S: CellStore<GameFacts<CgBoards>>>(
     alloc: Global,
     work: &mut Work<CgBoards, S>,
     query: &Query,
 ) -> Result<Answered, ValueFault>
-    requires { question_fault (question_of query.now) ≡ None }
+    requires closed { IsClosedQuestion (question_of query.now) }
+    requires boards { question_fault (question_of query.now) ≡ None }
     ensures { Answers (work_state S.state work.old) (work_state S.state work.new) (question_of query.now) result }
 {
     match query {
@@ -38,7 +40,7 @@ pub fn answer_question<S: CellStore<GameFacts<CgBoards>>>(
         Query::Temp(expr) => answer_about(alloc, work, Asked::Picture(Part::Temp), expr),
         Query::Thermo(expr) => answer_about(alloc, work, Asked::Picture(Part::Whole), expr),
         Query::Proof(first, second) => answer_proof(alloc, work, first, second),
-        Query::Check(first, second, _) => answer_check(alloc, work, first, second),
+        Query::Check(first, second, text) => answer_check(alloc, work, first, second, text),
     }
 }
 
@@ -49,7 +51,8 @@ fn answer_about<S: CellStore<GameFacts<CgBoards>>>(
     asked: Asked,
     expr: &Expr,
 ) -> Result<Answered, ValueFault>
-    requires { fault_in (tree_of expr.now) ≡ None }
+    requires closed { IsClosed (tree_of expr.now) }
+    requires boards { fault_in (tree_of expr.now) ≡ None }
     ensures { Answers (work_state S.state work.old) (work_state S.state work.new) (asked_of asked (tree_of expr.now)) result }
 {
     let value = evaluate(alloc, work, expr)?;
@@ -64,7 +67,8 @@ fn evaluate_two<S: CellStore<GameFacts<CgBoards>>>(
     first: &Expr,
     second: &Expr,
 ) -> Result<(Handle, Handle), ValueFault>
-    requires { first_of_two (fault_in (tree_of first.now)) (fault_in (tree_of second.now)) ≡ None }
+    requires closed { IsClosed (tree_of first.now) × IsClosed (tree_of second.now) }
+    requires boards { first_of_two (fault_in (tree_of first.now)) (fault_in (tree_of second.now)) ≡ None }
     ensures { EvaluatesTwo (work_state S.state work.old) (work_state S.state work.new) (tree_of first.now)
         (tree_of second.now) result }
 {
@@ -80,7 +84,8 @@ fn answer_comparison<S: CellStore<GameFacts<CgBoards>>>(
     first: &Expr,
     second: &Expr,
 ) -> Result<Answered, ValueFault>
-    requires { first_of_two (fault_in (tree_of first.now)) (fault_in (tree_of second.now)) ≡ None }
+    requires closed { IsClosed (tree_of first.now) × IsClosed (tree_of second.now) }
+    requires boards { first_of_two (fault_in (tree_of first.now)) (fault_in (tree_of second.now)) ≡ None }
     ensures { Answers (work_state S.state work.old) (work_state S.state work.new)
         (compare (tree_of first.now) (tree_of second.now)) result }
 {
@@ -89,34 +94,37 @@ fn answer_comparison<S: CellStore<GameFacts<CgBoards>>>(
     Ok(told)
 }
 
-/// The reply to the question for a proof of how two expressions are ordered, which has no answer yet.
+/// The proof of how two expressions are ordered.
 fn answer_proof<S: CellStore<GameFacts<CgBoards>>>(
     alloc: Global,
     work: &mut Work<CgBoards, S>,
     first: &Expr,
     second: &Expr,
 ) -> Result<Answered, ValueFault>
-    requires { first_of_two (fault_in (tree_of first.now)) (fault_in (tree_of second.now)) ≡ None }
+    requires closed { IsClosed (tree_of first.now) × IsClosed (tree_of second.now) }
+    requires boards { first_of_two (fault_in (tree_of first.now)) (fault_in (tree_of second.now)) ≡ None }
     ensures { Answers (work_state S.state work.old) (work_state S.state work.new)
         (proof (tree_of first.now) (tree_of second.now)) result }
 {
     let values = evaluate_two(alloc, work, first, second)?;
-    let told = tell_later(alloc, values.0)?;
+    let told = tell_proof(alloc, work, values.0, values.1)?;
     Ok(told)
 }
 
-/// The reply to the question whether a text is a proof, which has no answer yet.
+/// Whether a text is a proof that the first expression is at least the second.
 fn answer_check<S: CellStore<GameFacts<CgBoards>>>(
     alloc: Global,
     work: &mut Work<CgBoards, S>,
     first: &Expr,
     second: &Expr,
+    text: &Text,
 ) -> Result<Answered, ValueFault>
-    requires { first_of_two (fault_in (tree_of first.now)) (fault_in (tree_of second.now)) ≡ None }
-    ensures { (text : List ℕ) → Answers (work_state S.state work.old) (work_state S.state work.new)
-        (check (tree_of first.now) (tree_of second.now) text) result }
+    requires closed { IsClosed (tree_of first.now) × IsClosed (tree_of second.now) }
+    requires boards { first_of_two (fault_in (tree_of first.now)) (fault_in (tree_of second.now)) ≡ None }
+    ensures { Answers (work_state S.state work.old) (work_state S.state work.new)
+        (check (tree_of first.now) (tree_of second.now) text.now) result }
 {
     let values = evaluate_two(alloc, work, first, second)?;
-    let told = tell_later(alloc, values.0)?;
+    let told = tell_check(alloc, work, values.0, values.1, text.as_slice())?;
     Ok(told)
 }

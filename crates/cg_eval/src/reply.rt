@@ -4,6 +4,7 @@ ghost use Rattle.cg_canon.specs.Works.{Keeps, work_state};
 ghost use Rattle.cg_eval.specs.Faults.{question_fault};
 ghost use Rattle.cg_eval.specs.Shown.{IsAnswered};
 ghost use Rattle.cg_eval.specs.Stores.{KeepsStore};
+ghost use Rattle.cg_syntax.specs.Naming.{IsClosedQuestion};
 ghost use Rattle.cg_syntax.specs.Trees.{question_of};
 
 use crate::Answered;
@@ -17,8 +18,9 @@ use cg_syntax::Query;
 use cg_values::CgBoards;
 use std::alloc::{AllocError, Global};
 
-/// The reply to a question, on a share of so much of the store's spare, with so many positions at most in one list of
-/// items.
+/// The reply to a closed question, which has no uses of names, on a share of so much of the store's spare, with so many
+/// positions at most in one list of items. Each question that a line of format 1 asks is closed, and so is each whose names
+/// were replaced by what they stand for.
 ///
 /// It is the first of these that applies: `! board cause p` for the first ill-formed board or heap from the left;
 /// `! positions`, `! range`, `! depth` or `! full` where an item of the question is refused; `! range` where the mean or the
@@ -32,7 +34,8 @@ pub fn answer_query<S: CellStore<GameFacts<CgBoards>>>(
     share: u64,
     positions: u64,
 ) -> Result<Answered, AllocError>
-    requires { share ≤ (S.state store.old).spare }
+    requires closed { IsClosedQuestion (question_of query.now) }
+    requires spare { share ≤ (S.state store.old).spare }
     ensures reply { IfOk result (IsAnswered share positions (S.state store.new) (question_of query.now)) }
     ensures keeps { KeepsStore (S.state store.old) (S.state store.new) }
     ensures spare { (S.state store.old).spare ≤ (S.state store.new).spare + share }
@@ -49,7 +52,8 @@ fn reply_on<S: CellStore<GameFacts<CgBoards>>>(
     work: &mut Work<CgBoards, S>,
     query: &Query,
 ) -> Result<Answered, AllocError>
-    requires { work.old.spent ≡ 0 }
+    requires closed { IsClosedQuestion (question_of query.now) }
+    requires spent { work.old.spent ≡ 0 }
     ensures reply { IfOk result (IsAnswered work.old.share work.old.limit (work_state S.state work.new)
         (question_of query.now)) }
     ensures keeps { Keeps (work_state S.state work.old) (work_state S.state work.new) }
@@ -67,6 +71,7 @@ fn reply_well_formed<S: CellStore<GameFacts<CgBoards>>>(
     work: &mut Work<CgBoards, S>,
     query: &Query,
 ) -> Result<Answered, AllocError>
+    requires closed { IsClosedQuestion (question_of query.now) }
     requires spent { work.old.spent ≡ 0 }
     requires boards { question_fault (question_of query.now) ≡ None }
     ensures reply { IfOk result (IsAnswered work.old.share work.old.limit (work_state S.state work.new)

@@ -4,14 +4,15 @@ ghost use Rattle.cg_canon.specs.Works.{work_state};
 ghost use Rattle.cg_cells.specs.Store.{Spends};
 ghost use Rattle.cg_form.specs.Order.{le};
 ghost use Rattle.cg_nodes.specs.Games.{IsGame, game_at};
-ghost use Rattle.cg_eval.specs.Parts.{IsCompared, IsDrawn, IsLater, Tells, TellsTwo, winner_of};
-ghost use Rattle.cg_eval.specs.Reply.{comparison};
+ghost use Rattle.cg_eval.specs.Parts.{IsCompared, IsDrawn, Tells, TellsTwo, winner_of, yes_or_no};
+ghost use Rattle.cg_eval.specs.Reply.{IsChecked, IsProved, comparison};
 
 use crate::Answered;
 use crate::answered::{answer_of, refuse};
 use crate::pictures::{Part, part_text, stops_text};
 use cg_canon::{Work, le};
 use cg_cells::CellStore;
+use cg_cert::{CertFault, check, prove};
 use cg_names::name;
 use cg_nodes::{BoardForms, GameFacts, Handle};
 use cg_thermo::{Outcome, ThermoFault, outcome, stops, thermograph};
@@ -192,9 +193,48 @@ pub(crate) fn tell_order<B: BoardForms, S: CellStore<GameFacts<B>>>(
     Ok(answer_of(text, a))
 }
 
-/// The refusal of a question about two games that has no answer yet.
-pub(crate) fn tell_later(alloc: Global, a: Handle) -> Result<Answered, AllocError>
-    ensures { IfOk result (TellsTwo a IsLater) }
+/// The proof that the first is at least the second, or that it isn't, or the refusal where that is too long.
+pub(crate) fn tell_proof<B: BoardForms, S: CellStore<GameFacts<B>>>(
+    alloc: Global,
+    work: &mut Work<B, S>,
+    a: Handle,
+    b: Handle,
+) -> Result<Answered, AllocError>
+    requires a { IsGame (work_state S.state work.old) a }
+    requires b { IsGame (work_state S.state work.old) b }
+    ensures told { let s = work_state S.state work.old in
+        IfOk result (TellsTwo a (IsProved (game_at s a) (game_at s b))) }
+    ensures spends { Spends 0 (work_state S.state work.old) (work_state S.state work.new) }
 {
-    refuse(alloc, "! later")
+    match prove(alloc, work, a, b) {
+        Ok(text) => Ok(answer_of(text, a)),
+        Err(CertFault::Long) => refuse(alloc, "! long"),
+        Err(CertFault::Memory) => Err(AllocError),
+    }
+}
+
+/// The answer to the question whether a text is a proof.
+fn yes_or_no(proves: bool) -> &'static str
+    ensures { result.now ≡ yes_or_no proves }
+{
+    if proves { "yes" } else { "no" }
+}
+
+/// Whether the text is a proof that the first is at least the second.
+pub(crate) fn tell_check<B: BoardForms, S: CellStore<GameFacts<B>>>(
+    alloc: Global,
+    work: &mut Work<B, S>,
+    a: Handle,
+    b: Handle,
+    proof: &[u8],
+) -> Result<Answered, AllocError>
+    requires a { IsGame (work_state S.state work.old) a }
+    requires b { IsGame (work_state S.state work.old) b }
+    ensures told { let s = work_state S.state work.old in
+        IfOk result (TellsTwo a (IsChecked (game_at s a) (game_at s b) proof.now)) }
+    ensures spends { Spends 0 (work_state S.state work.old) (work_state S.state work.new) }
+{
+    let proves = check(alloc, work, a, b, proof)?;
+    let text = String::from_str(alloc, yes_or_no(proves))?;
+    Ok(answer_of(text, a))
 }

@@ -10,15 +10,18 @@ use Rattle.cg_nodes.specs.Meant.{Meant}
 use Rattle.cg_nodes.specs.Spelled.{can}
 use Rattle.cg_nodes.proofs.BoardContents.{contents-written, is-of_board}
 use Rattle.cg_nodes.proofs.Forms.{can-node}
-use Rattle.cg_nodes.proofs.Later.{stands_game, stands_is_game, stands_later}
+use Rattle.cg_nodes.proofs.Later.{stand_later, stands_game, stands_is_game, stands_later}
 use Rattle.cg_moves.specs.declared.player.Player.TheVariants.{Left, Right}
-use Rattle.cg_moves.specs.Grid.{Grid, IsGrid, IsLike, with_cells}
+use Rattle.cg_moves.specs.Grid.{Grid, IsGrid}
 use Rattle.cg_moves.specs.Raw.{raw}
 use Rattle.cg_moves.specs.Rules.{GameRules, In, IsLawful, boards_after, followers}
 use Rattle.cg_moves.proofs.Bounds.{raw-moves}
 use Rattle.cg_moves.proofs.Members.{carry, in-append_left, in-append_right}
-use Rattle.cg_moves.proofs.ReachLemmas.{follower-like}
+use Rattle.cg_moves.proofs.PlayLemmas.{follower-symbols}
+use Rattle.cg_moves.specs.Seen.{key_of}
 use Rattle.cg_values.specs.Notes.{places, symbol_row}
+use Rattle.cg_values.specs.Options.{AreOptions, values_after}
+use Rattle.cg_values.specs.declared.options.Options.{Options}
 use Rattle.cg_values.specs.Values.{AreFound, HoldValues, value_found, value_handle}
 use Rattle.cg_values.specs.declared.values.Values.{Values}
 use Rattle.cg_values.proofs.PlaceLemmas.{places-below}
@@ -31,19 +34,22 @@ pub some_of : (o : Option ℕ) → IsSome o → (x : ℕ) × (o ≡ Some x)
 some_of None s = absurd cc
 some_of (Some x) s = (x, refl)
 
-pub hold_later : {R Q : Type 0} (s : State Meant R) (t : State Meant Q) (r : GameRules) (p : Grid) (m : Values)
-    → Grows (thing_at s) (thing_at t) → HoldValues s r p m → HoldValues t r p m
-hold_later s t r p m grows holds = record {
-  values = λ cells h e. stands_later s t grows h (can (raw r (with_cells p cells))) (holds.values cells h e);
+pub hold_later : {R Q : Type 0} (s : State Meant R) (t : State Meant Q) (r : GameRules) (symbols : List ℕ) (m : Values)
+    → Grows (thing_at s) (thing_at t) → HoldValues s r symbols m → HoldValues t r symbols m
+hold_later s t r symbols m grows holds = record {
+  values = λ p h same e. stands_later s t grows h (can (raw r p)) (holds.values p h same e);
 }
 
--- what holds for a board holds for one like it
-pub hold_like : {R : Type 0} (s : State Meant R) (r : GameRules) (p q : Grid) (m : Values) → IsLike p q
-    → HoldValues s r p m → HoldValues s r q m
-hold_like s r p q m like holds = record {
-  values = λ cells h e.
-      let P : Grid → Type 0 = λ z. StandsFor s h (can (raw r (with_cells z cells))) in
-      subst P (sym like) (holds.values cells h e);
+-- for boards with the same symbols
+pub hold_same : {R : Type 0} (s : State Meant R) (r : GameRules) (a b : List ℕ) (m : Values) → a ≡ b
+    → HoldValues s r a m → HoldValues s r b m
+hold_same s r a b m e holds = let P : List ℕ → Type 0 = λ z. HoldValues s r z m in subst P e holds
+
+pub options_later : {R Q : Type 0} (s : State Meant R) (t : State Meant Q) (r : GameRules) (p : Grid) (opts : Options)
+    → Grows (thing_at s) (thing_at t) → AreOptions s r p opts → AreOptions t r p opts
+options_later s t r p opts grows are = record {
+  lefts = stand_later s t grows opts.lefts.items (values_after r Left p) are.lefts;
+  rights = stand_later s t grows opts.rights.items (values_after r Right p) are.rights;
 }
 
 -- ---- the options of a board
@@ -62,41 +68,41 @@ right_found r p m qs ps found e f = record {
       r Right p) (e ∙ f) k));
 }
 
-module _ {R : Type 0} (s : State Meant R) (r : GameRules) (p : Grid) (m : Values) (holds : HoldValues s r p m) where
-  stands_found : (q : Grid) → IsLike p q → IsSome (value_found m q.cells)
-      → StandsFor s (value_handle m q.cells) (can (raw r q))
-  stands_found q like some =
-      let (h, e) = some_of (value_found m q.cells) some in
-      let P : Grid → Type 0 = λ z. StandsFor s h (can (raw r z)) in
+module _ {R : Type 0} (s : State Meant R) (r : GameRules) (symbols : List ℕ) (m : Values)
+    (holds : HoldValues s r symbols m) where
+  stands_found : (q : Grid) → q.symbols ≡ symbols → IsSome (value_found m (key_of q))
+      → StandsFor s (value_handle m (key_of q)) (can (raw r q))
+  stands_found q same some =
+      let (h, e) = some_of (value_found m (key_of q)) some in
       let Q : ℕ → Type 0 = λ z. StandsFor s z (can (raw r q)) in
-      subst Q (sym (ap (λ o. unwrap_or o 0) e)) (subst P (sym like) (holds.values q.cells h e))
+      subst Q (sym (ap (λ o. unwrap_or o 0) e)) (holds.values q h same e)
 
-  pub values_stand : (qs : List Grid) → ((q : Grid) → In q qs → IsLike p q) → AreFound m qs
-      → StandFor s (map (λ (q : Grid). value_handle m q.cells) qs) (map can (map (raw r) qs))
-  values_stand [] like found = (tt, refl)
-  values_stand (q ∷ qs) like found =
-      let st = stands_found q (like q (inl refl)) (found.each q (inl refl)) in
-      let rest = values_stand qs (λ k n. like k (inr n)) (record { each = λ k n. found.each k (inr n) }) in (
-        (stands_is_game s (value_handle m q.cells) (can (raw r q)) st, rest.0),
-        ap (λ z. z ∷ games_at s (map (λ (q : Grid). value_handle m q.cells) qs)) (stands_game s (value_handle m q.cells)
+  pub values_stand : (qs : List Grid) → ((q : Grid) → In q qs → q.symbols ≡ symbols) → AreFound m qs
+      → StandFor s (map (λ (q : Grid). value_handle m (key_of q)) qs) (map can (map (raw r) qs))
+  values_stand [] same found = (tt, refl)
+  values_stand (q ∷ qs) same found =
+      let st = stands_found q (same q (inl refl)) (found.each q (inl refl)) in
+      let rest = values_stand qs (λ k n. same k (inr n)) (record { each = λ k n. found.each k (inr n) }) in (
+        (stands_is_game s (value_handle m (key_of q)) (can (raw r q)) st, rest.0),
+        ap (λ z. z ∷ games_at s (map (λ (q : Grid). value_handle m (key_of q)) qs)) (stands_game s (value_handle m (key_of q))
             (can (raw r q)) st) ∙ ap (λ z. can (raw r q) ∷ z) rest.1,
       )
 
-  -- the handles of the options of a player
-  pub side_stands : (hs items : List ℕ) (qs ps : List Grid) (after : List Grid) → hs ≡ items
-      → items ≡ map (λ (q : Grid). value_handle m q.cells) qs → qs ≡ ps → ps ≡ after
-      → ((q : Grid) → In q after → IsLike p q) → AreFound m qs → StandFor s hs (map can (map (raw r) after))
-  side_stands hs items qs ps after e f g h like found =
-      let P : List ℕ → Type 0 = λ z. StandFor s z (map can (map (raw r) after)) in
-      let Q : List Grid → Type 0 = λ z. StandFor s (map (λ (q : Grid). value_handle m q.cells) qs) (map can (map (raw r)
-      z)) in
-      subst P (sym (e ∙ f)) (subst Q (g ∙ h) (values_stand qs (λ q k. like q (carry q qs after (g ∙ h) k)) found))
+  -- the handles that were looked up for boards
+  pub looked_stand : (hs : List ℕ) (qs ps : List Grid) → hs ≡ map (λ (q : Grid). value_handle m (key_of q)) qs → qs ≡ ps
+      → ((q : Grid) → In q ps → q.symbols ≡ symbols) → AreFound m qs → StandFor s hs (map can (map (raw r) ps))
+  looked_stand hs qs ps e f same found =
+      let P : List ℕ → Type 0 = λ z. StandFor s z (map can (map (raw r) ps)) in
+      let Q : List Grid → Type 0 = λ z. StandFor s (map (λ (q : Grid). value_handle m (key_of q)) qs) (map can (map (raw r) z)) in
+      subst P (sym e) (subst Q f (values_stand qs (λ q k. same q (carry q qs ps f k)) found))
 
-pub left-like : (r : GameRules) (p q : Grid) → In q (boards_after r Left p) → IsLike p q
-left-like r p q k = follower-like r p p q refl (in-append_left q (boards_after r Left p) (boards_after r Right p) k)
+pub left-symbols : (r : GameRules) (lawful : IsLawful r) (p q : Grid) → In q (boards_after r Left p) → q.symbols ≡ p.symbols
+left-symbols r lawful p q k =
+    follower-symbols r lawful p q (in-append_left q (boards_after r Left p) (boards_after r Right p) k)
 
-pub right-like : (r : GameRules) (p q : Grid) → In q (boards_after r Right p) → IsLike p q
-right-like r p q k = follower-like r p p q refl (in-append_right q (boards_after r Left p) (boards_after r Right p) k)
+pub right-symbols : (r : GameRules) (lawful : IsLawful r) (p q : Grid) → In q (boards_after r Right p) → q.symbols ≡ p.symbols
+right-symbols r lawful p q k =
+    follower-symbols r lawful p q (in-append_right q (boards_after r Left p) (boards_after r Right p) k)
 
 -- the value of a board is made of those of its options
 pub value-options : {R : Type 0} (s : State Meant R) (r : GameRules) (lawful : IsLawful r) (p : Grid) (ls rs : List ℕ)

@@ -4,3 +4,10 @@ pub mod PlaceLemmas
 pub mod ItemSteps
 pub mod ValueSteps
 pub mod FormLemmas
+pub mod GiveSteps
+pub mod AddSteps
+pub mod JoinSteps
+pub mod PieceSteps
+pub mod SumUp
+pub mod AfterSteps
+pub mod LastPiece

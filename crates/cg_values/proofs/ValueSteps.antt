@@ -16,18 +16,20 @@ use Rattle.cg_cells.specs.Store.{State}
 use Rattle.cg_nodes.specs.Games.{StandsFor}
 use Rattle.cg_nodes.specs.Meant.{Meant}
 use Rattle.cg_nodes.specs.Spelled.{can}
-use Rattle.cg_moves.specs.Grid.{Grid, IsLike, with_cells}
+use Rattle.cg_moves.specs.Grid.{Grid}
 use Rattle.cg_moves.specs.Raw.{raw}
 use Rattle.cg_moves.specs.Reach.{reach_of}
 use Rattle.cg_moves.specs.Rules.{GameRules, In, IsLawful, followers}
 use Rattle.cg_moves.proofs.Members.{carry, in-append, in-append_right, in_one}
+use Rattle.cg_moves.specs.Seen.{key_of}
 use Rattle.cg_moves.proofs.Places.{in_read, split_read, take_next}
 use Rattle.cg_moves.proofs.ReachLemmas.{reach-first, reach-has, reach-last, reach-like}
-use Rattle.cg_values.specs.Items.{board_items, value_item, value_items}
+use Rattle.cg_moves.proofs.SeenLemmas.{one-key}
+use Rattle.cg_values.specs.Items.{whole_items, value_item, value_items}
 use Rattle.cg_canon.specs.Made.{ItemsMade}
 use Rattle.cg_values.specs.Values.{AreFound, HoldValues, value_found}
 use Rattle.cg_values.specs.declared.values.Values.{Values}
-use Rattle.cg_values.proofs.ItemSteps.{hold_later, hold_like}
+use Rattle.cg_values.proofs.ItemSteps.{hold_later, hold_same}
 use Rattle.cg_canon.proofs.MadeSteps.{made_as, made_then, passed, stopped}
 
 -- ---- one value more was found
@@ -36,12 +38,12 @@ some_same : (x y : ℕ) → Some x ≡ Some y → x ≡ y
 some_same x y e = cc
 
 module _ (m n : Values) (p : Grid) (h : ℕ)
-    (kept : (cells : List ℕ) → value_found n cells ≡ (if bytes_eq p.cells cells then Some h else value_found m cells)) where
+    (kept : (key : List ℕ) → value_found n key ≡ (if bytes_eq (key_of p) key then Some h else value_found m key)) where
   found_cases : (cells : List ℕ) (y : ℕ) → value_found n cells ≡ Some y
-      → ((p.cells ≡ cells) × (h ≡ y)) ⊎ (value_found m cells ≡ Some y)
-  found_cases cells y e = elim (cases_Bool (bytes_eq p.cells cells)) [
+      → ((key_of p ≡ cells) × (h ≡ y)) ⊎ (value_found m cells ≡ Some y)
+  found_cases cells y e = elim (cases_Bool (bytes_eq (key_of p) cells)) [
     | inl t ↦ inl (
-      (bytes_decides p.cells cells).0 t,
+      (bytes_decides (key_of p) cells).0 t,
       some_same h y (sym (kept cells ∙ ap (λ b. if b then Some h else
           value_found m cells) t) ∙ e),
     )
@@ -52,66 +54,66 @@ module _ (m n : Values) (p : Grid) (h : ℕ)
   some_if true cells some = refl
   some_if false cells some = some
 
-  finds_more : (cells : List ℕ) → IsSome (value_found m cells) → IsSome (value_found n cells)
+  pub finds_more : (cells : List ℕ) → IsSome (value_found m cells) → IsSome (value_found n cells)
   finds_more cells some = let P : Option ℕ → Type 0 = λ z. IsSome z in subst P (sym (kept cells)) (some_if (bytes_eq
-      p.cells cells) cells some)
+      (key_of p) cells) cells some)
 
-  finds_it : IsSome (value_found n p.cells)
+  pub finds_it : IsSome (value_found n (key_of p))
   finds_it =
       let P : Option ℕ → Type 0 = λ z. IsSome z in
-      subst P (sym (kept p.cells ∙ ap (λ b. if b then Some h else value_found m p.cells) ((bytes_decides p.cells
-      p.cells).1 refl))) refl
+      subst P (sym (kept (key_of p) ∙ ap (λ b. if b then Some h else value_found m (key_of p)) ((bytes_decides (key_of p)
+      (key_of p)).1 refl))) refl
 
-  holds_more : {R : Type 0} (s : State Meant R) (r : GameRules) (start : Grid) → IsLike start p → HoldValues s r start m
-      → StandsFor s h (can (raw r p)) → HoldValues s r start n
-  holds_more s r start like holds st = record {
-    values = λ cells y e. elim (found_cases cells y e) [
-      | inl w ↦ (let P : ℕ → Type 0 = λ z. StandsFor s z (can (raw r (with_cells start cells))) in
+  pub holds_more : {R : Type 0} (s : State Meant R) (r : GameRules) (symbols : List ℕ) → p.symbols ≡ symbols → HoldValues s r symbols m
+      → StandsFor s h (can (raw r p)) → HoldValues s r symbols n
+  holds_more s r symbols same holds st = record {
+    values = λ q y like e. elim (found_cases (key_of q) y e) [
+      | inl w ↦ (let P : ℕ → Type 0 = λ z. StandsFor s z (can (raw r q)) in
           let Q : Grid → Type 0 = λ z. StandsFor s h (can (raw r z)) in
-          subst P w.1 (subst Q (like ∙ ap (λ z. with_cells start z) w.0) st))
-      | inr old ↦ holds.values cells y old
+          subst P w.1 (subst Q (sym (one-key p q w.0 (like ∙ sym same))) st))
+      | inr old ↦ holds.values q y like old
     ];
   }
 
-pub no_values : {R : Type 0} (s : State Meant R) (r : GameRules) (start : Grid) (m : Values)
-    → ((cells : List ℕ) → value_found m cells ≡ None) → HoldValues s r start m
-no_values s r start m none_found = record { values = λ cells h e. absurd (clash cells h e) }
+pub no_values : {R : Type 0} (s : State Meant R) (r : GameRules) (symbols : List ℕ) (m : Values)
+    → ((key : List ℕ) → value_found m key ≡ None) → HoldValues s r symbols m
+no_values s r symbols m none_found = record { values = λ p h same e. absurd (clash (key_of p) h e) }
   where
     differ : (x : ℕ) → None ≡ Some x → ⊥
     differ x p = cc
 
-    clash : (cells : List ℕ) (h : ℕ) → value_found m cells ≡ Some h → ⊥
-    clash cells h e = differ h (sym (none_found cells) ∙ e)
+    clash : (key : List ℕ) (h : ℕ) → value_found m key ≡ Some h → ⊥
+    clash key h e = differ h (sym (none_found key) ∙ e)
 
 -- ---- all of a list
 
 -- the values of the boards were made
-pub record ValuesMade {S R : Type 0} (state : S → State Meant R) (w v : WorkOf S) (r : GameRules) (start : Grid)
+pub record ValuesMade {S R : Type 0} (state : S → State Meant R) (w v : WorkOf S) (r : GameRules) (symbols : List ℕ)
     (m : Values) (ps : List Grid) (spare : ℕ) : Type 0 where
   pub keeps : Keeps (work_state state w) (work_state state v)
   pub passed : AllPass w.share w.spent (value_items r ps) v.spent
-  pub holds : HoldValues (work_state state v) r start m
+  pub holds : HoldValues (work_state state v) r symbols m
   pub found : AreFound m ps
   pub spare_kept : spare ≤ (work_state state v).spare
 
 module _ {S R : Type 0} (state : S → State Meant R) (w : WorkOf S) (r : GameRules) (lawful : IsLawful r) (start : Grid)
     (has : r.has start ≡ true) (spare : ℕ) (ps : List Grid) (all : ps ≡ reach_of r start) where
-  pub values_none : (m : Values) → ((cells : List ℕ) → value_found m cells ≡ None)
-      → spare ≤ (work_state state w).spare → ValuesMade state w w r start m [] spare
+  pub values_none : (m : Values) → ((key : List ℕ) → value_found m key ≡ None)
+      → spare ≤ (work_state state w).spare → ValuesMade state w w r start.symbols m [] spare
   values_none m none_found kept = record {
     keeps = keeps_all (work_state state w);
     passed = all_pass-none w.share w.spent;
-    holds = no_values (work_state state w) r start m none_found;
+    holds = no_values (work_state state w) r start.symbols m none_found;
     found = record { each = λ p i. absurd i };
     spare_kept = kept;
   }
 
-  pub values_done : (v : WorkOf S) (m : Values) (i : ℕ) → length ps ≤ i → ValuesMade state w v r start m (take i ps) spare
-      → ValuesMade state w v r start m ps spare
-  values_done v m i l made = let P : List Grid → Type 0 = λ z. ValuesMade state w v r start m z spare in subst P (take_all
+  pub values_done : (v : WorkOf S) (m : Values) (i : ℕ) → length ps ≤ i → ValuesMade state w v r start.symbols m (take i ps) spare
+      → ValuesMade state w v r start.symbols m ps spare
+  values_done v m i l made = let P : List Grid → Type 0 = λ z. ValuesMade state w v r start.symbols m z spare in subst P (take_all
       i ps l) made
 
-  pub values_made : {T : Type 0} (v : WorkOf S) (m : Values) (t : T) → ValuesMade state w v r start m ps spare
+  pub values_made : {T : Type 0} (v : WorkOf S) (m : Values) (t : T) → ValuesMade state w v r start.symbols m ps spare
       → ItemsMade (work_state state w) (work_state state v) (value_items r ps) (Ok t)
   values_made v m t made = record { charged = made.passed; refused = tt; keeps = made.keeps }
 
@@ -119,23 +121,23 @@ module _ {S R : Type 0} (state : S → State Meant R) (w : WorkOf S) (r : GameRu
   pub start-in : In start ps
   start-in = carry start _ ps (sym (all ∙ reach-last r lawful start has)) (in-append_right start _ (start ∷ []) (inl refl))
 
-  pub start_stands : (v : WorkOf S) (m : Values) (h : ℕ) → ValuesMade state w v r start m ps spare
-      → value_found m start.cells ≡ Some h → StandsFor (work_state state v) h (can (raw r start))
-  start_stands v m h made e = made.holds.values start.cells h e
+  pub start_stands : (v : WorkOf S) (m : Values) (h : ℕ) → ValuesMade state w v r start.symbols m ps spare
+      → value_found m (key_of start) ≡ Some h → StandsFor (work_state state v) h (can (raw r start))
+  start_stands v m h made e = made.holds.values start h refl e
 
   module _ (i : ℕ) (p : Grid) (within : i < length ps) (read : p ≡ get_or ps i p) (v : WorkOf S) (m : Values)
-      (made : ValuesMade state w v r start m (take i ps) spare) where
+      (made : ValuesMade state w v r start.symbols m (take i ps) spare) where
     board-in : In p (reach_of r start)
     board-in = carry p ps (reach_of r start) all (in_read ps i p within read)
 
     pub board-has : r.has p ≡ true
     board-has = reach-has r lawful start p has board-in
 
-    board-like : IsLike start p
-    board-like = reach-like r lawful start p has board-in
+    board-symbols : p.symbols ≡ start.symbols
+    board-symbols = ap (λ z. z.symbols) (reach-like r lawful start p has board-in)
 
-    pub board-holds : HoldValues (work_state state v) r p m
-    board-holds = hold_like (work_state state v) r start p m board-like made.holds
+    pub board-holds : HoldValues (work_state state v) r p.symbols m
+    board-holds = hold_same (work_state state v) r start.symbols p.symbols m (sym board-symbols) made.holds
 
     pub board-found : AreFound m (followers r p)
     board-found = record {
@@ -169,8 +171,8 @@ module _ {S R : Type 0} (state : S → State Meant R) (w : WorkOf S) (r : GameRu
     pub values_more : {T : Type 0} (x : WorkOf S) (n : Values) (h : ℕ) (q : Result T ValueFault) (t : T) → q ≡ Ok t
         → ItemsMade (work_state state v) (work_state state x) (value_item r p ∷ []) q → StandsFor (work_state state x) h (can (raw r p))
         → spare ≤ (work_state state x).spare
-        → ((cells : List ℕ) → value_found n cells ≡ (if bytes_eq p.cells cells then Some h else value_found m cells))
-        → ValuesMade state w x r start n (take (i + 1) ps) spare
+        → ((key : List ℕ) → value_found n key ≡ (if bytes_eq (key_of p) key then Some h else value_found m key))
+        → ValuesMade state w x r start.symbols n (take (i + 1) ps) spare
     values_more x n h q t ok item st kept_spare kept =
         let sv = work_state state v in
         let sx = work_state state x in
@@ -180,11 +182,11 @@ module _ {S R : Type 0} (state : S → State Meant R) (w : WorkOf S) (r : GameRu
           keeps = keeps_then (work_state state w) sv sx made.keeps item.keeps;
           passed = subst L next_items (passed (work_state state w) (work_state state x) (value_items r (take i ps) ++ (value_item r p ∷ [])) q t ok
               (items_made x q item));
-          holds = holds_more m n p h kept sx r start board-like (hold_later sv sx r start m item.keeps.known made.holds) st;
+          holds = holds_more m n p h kept sx r start.symbols board-symbols (hold_later sv sx r start.symbols m item.keeps.known made.holds) st;
           found = subst V (sym (take_next ps i p within read)) (record {
             each = λ k j. elim (in-append k (take i ps) (p ∷ []) j) [
-              | inl here ↦ finds_more m n p h kept k.cells (made.found.each k here)
-              | inr last ↦ (let U : Grid → Type 0 = λ z. IsSome (value_found n z.cells) in subst U (sym (in_one k p last))
+              | inl here ↦ finds_more m n p h kept (key_of k) (made.found.each k here)
+              | inr last ↦ (let U : Grid → Type 0 = λ z. IsSome (value_found n (key_of z)) in subst U (sym (in_one k p last))
                   (finds_it m n p h kept))
             ];
           });
@@ -194,15 +196,13 @@ module _ {S R : Type 0} (state : S → State Meant R) (w : WorkOf S) (r : GameRu
 -- ---- within the limit or not
 
 pub all_within : (limit : ℕ) (r : GameRules) (p : Grid) → length (reach_of r p) ≤ limit
-    → board_items limit r p ≡ value_items r (reach_of r p)
-unfolding board_items
+    → whole_items limit r p ≡ value_items r (reach_of r p)
 all_within limit r p h =
     let e : nat_lt limit (length (reach_of r p)) ≡ false = grind (arith, nat_tests) in
     ap (λ b. if b then too_many ∷ [] else value_items r (reach_of r p)) e
 
 too_long : (limit : ℕ) (r : GameRules) (p : Grid) → limit < length (reach_of r p)
-    → board_items limit r p ≡ too_many ∷ []
-unfolding board_items
+    → whole_items limit r p ≡ too_many ∷ []
 too_long limit r p h =
     let e : nat_lt limit (length (reach_of r p)) ≡ true = grind (arith, nat_tests) in
     ap (λ b. if b then too_many ∷ [] else value_items r (reach_of r p)) e
@@ -210,11 +210,11 @@ too_long limit r p h =
 -- the refusal of a list that is too long, or want of memory
 pub limit_refused : (fault : ValueFault) (share spent limit : ℕ) (r : GameRules) (p : Grid)
     → (fault ≡ Memory) ⊎ ((fault ≡ Positions) × (limit < length (reach_of r p)))
-    → WasRefused fault share spent (board_items limit r p) spent
+    → WasRefused fault share spent (whole_items limit r p) spent
 limit_refused fault share spent limit r p (inl memory) =
-    let P : ValueFault → Type 0 = λ z. WasRefused z share spent (board_items limit r p) spent in subst P (sym memory) tt
+    let P : ValueFault → Type 0 = λ z. WasRefused z share spent (whole_items limit r p) spent in subst P (sym memory) tt
 limit_refused fault share spent limit r p (inr (positions, above)) =
-    let P : ValueFault → Type 0 = λ z. WasRefused z share spent (board_items limit r p) spent in
+    let P : ValueFault → Type 0 = λ z. WasRefused z share spent (whole_items limit r p) spent in
     let Q : List Item → Type 0 = λ z. WasRefused Positions share spent z spent in
     subst P (sym positions) (subst Q (sym (too_long limit r p above)) (refused-one Positions share spent too_many [] tt))
 

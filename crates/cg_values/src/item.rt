@@ -7,44 +7,38 @@ ghost use Rattle.cg_cells.specs.Store.{Known, Spends, thing_at};
 ghost use Rattle.cg_nodes.specs.Games.{StandsFor};
 ghost use Rattle.cg_nodes.specs.Meant.{form};
 ghost use Rattle.cg_nodes.specs.Spelled.{can, game_meaning};
-ghost use Rattle.cg_moves.specs.Grid.{Grid, IsLike};
+ghost use Rattle.cg_moves.specs.Grid.{Grid};
 ghost use Rattle.cg_moves.specs.Raw.{raw};
-ghost use Rattle.cg_moves.specs.Rules.{followers};
 ghost use Rattle.cg_values.specs.Items.{value_item};
 ghost use Rattle.cg_canon.specs.Made.{ItemsMade};
 ghost use Rattle.cg_values.specs.Notes.{IsNumbered, MayNote, places};
-ghost use Rattle.cg_values.specs.Values.{AreFound, HoldValues};
+ghost use Rattle.cg_values.specs.Options.{AreOptions};
 
 use crate::cells::board_cell;
 use crate::contents::contents_of;
-use crate::values::{Values, values_of};
+use crate::options::Options;
 use cg_canon::{ValueFault, Work, canonical, item_of};
 use cg_cells::{CellStore, Id};
-use cg_moves::{Board, Player, Rules};
+use cg_moves::{Board, Rules};
 use cg_nodes::{BoardForms, GameFacts, Handle};
 use std::alloc::Global;
 
-/// Makes the item of the value of the board from the values of the boards that its moves lead to.
+/// Makes the item of the value of the board from those of the boards that its moves lead to.
 fn made_item<B: BoardForms, S: CellStore<GameFacts<B>>, R: Rules>(
     alloc: Global,
     work: &mut Work<B, S>,
     rules: &R,
     board: &Board,
-    values: &Values,
+    options: &Options,
 ) -> Result<Handle, ValueFault>
     requires has { (R.game rules.now).has board.now ≡ true }
-    requires holds { HoldValues (work_state S.state work.old) (R.game rules.now) board.now values.now }
-    requires found { AreFound values.now (followers (R.game rules.now) board.now) }
+    requires options { AreOptions (work_state S.state work.old) (R.game rules.now) board.now options.now }
     ensures game { IfOk result (λ h. StandsFor (work_state S.state work.new) h (can (raw (R.game rules.now) board.now))) }
     ensures made { ItemsMade (work_state S.state work.old) (work_state S.state work.new) (value_item (R.game rules.now) board.now ∷ []) result }
     ensures spare { OnOk result ((work_state S.state work.old).spare + 8 ≤ (work_state S.state work.new).spare) }
     ensures more { (work_state S.state work.old).spare ≤ (work_state S.state work.new).spare }
 {
-    let left_boards = rules.moves(alloc, board, Player::Left)?;
-    let right_boards = rules.moves(alloc, board, Player::Right)?;
-    let lefts = values_of(alloc, values, left_boards.as_slice())?;
-    let rights = values_of(alloc, values, right_boards.as_slice())?;
-    canonical(alloc, work, &lefts, &rights, 8)
+    canonical(alloc, work, &options.lefts, &options.rights, 8)
 }
 
 /// Makes the item of the value of the board, which is noted on the cell.
@@ -53,12 +47,11 @@ fn noted_item<B: BoardForms, S: CellStore<GameFacts<B>>, R: Rules>(
     work: &mut Work<B, S>,
     rules: &R,
     board: &Board,
-    values: &Values,
+    options: &Options,
     cell: Id,
 ) -> Result<Handle, ValueFault>
     requires has { (R.game rules.now).has board.now ≡ true }
-    requires holds { HoldValues (work_state S.state work.old) (R.game rules.now) board.now values.now }
-    requires found { AreFound values.now (followers (R.game rules.now) board.now) }
+    requires options { AreOptions (work_state S.state work.old) (R.game rules.now) board.now options.now }
     requires known { Known (work_state S.state work.old) cell }
     requires due { note_for (game_meaning B.form) (thing_at (work_state S.state work.old) cell)
         ≡ Some (form (can (raw (R.game rules.now) board.now))) }
@@ -73,7 +66,7 @@ fn noted_item<B: BoardForms, S: CellStore<GameFacts<B>>, R: Rules>(
             Ok(value)
         }
         None => {
-            let value = made_item(alloc, work, rules, board, values)?;
+            let value = made_item(alloc, work, rules, board, options)?;
             work.note(cell, value.id());
             Ok(value)
         }
@@ -114,13 +107,12 @@ fn numbered_item<B: BoardForms, S: CellStore<GameFacts<B>>, R: Rules>(
     work: &mut Work<B, S>,
     rules: &R,
     board: &Board,
-    values: &Values,
+    options: &Options,
     start: u64,
 ) -> Result<Handle, ValueFault>
     requires has { (R.game rules.now).has board.now ≡ true }
     requires numbered { IsNumbered B.form (R.game rules.now) }
-    requires holds { HoldValues (work_state S.state work.old) (R.game rules.now) board.now values.now }
-    requires found { AreFound values.now (followers (R.game rules.now) board.now) }
+    requires options { AreOptions (work_state S.state work.old) (R.game rules.now) board.now options.now }
     requires spare { start ≤ (work_state S.state work.old).spare }
     ensures game { IfOk result (λ h. StandsFor (work_state S.state work.new) h (can (raw (R.game rules.now) board.now))) }
     ensures made { ItemsMade (work_state S.state work.old) (work_state S.state work.new) (value_item (R.game rules.now) board.now ∷ []) result }
@@ -132,34 +124,33 @@ fn numbered_item<B: BoardForms, S: CellStore<GameFacts<B>>, R: Rules>(
     let claims = contents.len() as u64 + 1;
     if work.spare() >= start + claims {
         let cell = cell_of(work, rules, board, &contents);
-        return noted_item(alloc, work, rules, board, values, cell);
+        return noted_item(alloc, work, rules, board, options, cell);
     }
-    let value = made_item(alloc, work, rules, board, values)?;
+    let value = made_item(alloc, work, rules, board, options)?;
     let cell = cell_of(work, rules, board, &contents);
     work.note(cell, value.id());
     Ok(value)
 }
 
-/// Makes the item of the value of the board, where those of the boards that its moves lead to were made before.
+/// Makes the item of the value of the board, from those of the boards that its moves lead to.
 pub(crate) fn board_item<B: BoardForms, S: CellStore<GameFacts<B>>, R: Rules>(
     alloc: Global,
     work: &mut Work<B, S>,
     rules: &R,
     board: &Board,
-    values: &Values,
+    options: &Options,
     start: u64,
 ) -> Result<Handle, ValueFault>
     requires has { (R.game rules.now).has board.now ≡ true }
     requires notes { MayNote B.form (R.game rules.now) }
-    requires holds { HoldValues (work_state S.state work.old) (R.game rules.now) board.now values.now }
-    requires found { AreFound values.now (followers (R.game rules.now) board.now) }
+    requires options { AreOptions (work_state S.state work.old) (R.game rules.now) board.now options.now }
     requires spare { start ≤ (work_state S.state work.old).spare }
     ensures game { IfOk result (λ h. StandsFor (work_state S.state work.new) h (can (raw (R.game rules.now) board.now))) }
     ensures made { ItemsMade (work_state S.state work.old) (work_state S.state work.new) (value_item (R.game rules.now) board.now ∷ []) result }
     ensures spare { start ≤ (work_state S.state work.new).spare }
 {
     if rules.number() == 0 {
-        return made_item(alloc, work, rules, board, values);
+        return made_item(alloc, work, rules, board, options);
     }
-    numbered_item(alloc, work, rules, board, values, start)
+    numbered_item(alloc, work, rules, board, options, start)
 }

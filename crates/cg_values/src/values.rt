@@ -2,14 +2,15 @@
 ghost use Rattle.std.specs.Prelude.{◌≡◌, ℕ, List, IfOk, None, Some, Option, map, if◌then◌else◌};
 ghost use Rattle.std.specs.Str.{bytes_eq};
 ghost use Rattle.cg_moves.specs.Grid.{Grid};
+ghost use Rattle.cg_moves.specs.Seen.{key_of};
 ghost use Rattle.cg_values.specs.Values.{AreFound, value_found, value_handle};
 
-use cg_moves::Board;
+use cg_moves::{Board, key_of};
 use cg_nodes::Handle;
 use std::alloc::{AllocError, Global};
 use std::collections::HashMap;
 
-/// Handles of values of boards, by the boards' cells.
+/// Handles of values of boards with the same symbols, by the boards' keys.
 #[derive(Drop)]
 pub(crate) struct Values {
     handles: HashMap<Vec<u8>, Handle>,
@@ -18,18 +19,18 @@ pub(crate) struct Values {
 impl Values {
     /// None.
     pub(crate) fn new(alloc: Global) -> Values
-        ensures { (cells : List ℕ) → value_found result cells ≡ None }
+        ensures { (key : List ℕ) → value_found result key ≡ None }
     {
         Values {
             handles: HashMap::new(alloc),
         }
     }
 
-    /// The value of the board with these cells, if it was found.
-    pub(crate) fn get(&self, cells: &[u8]) -> Option<Handle>
-        ensures { result ≡ value_found self.now cells.now }
+    /// The value of the board with this key, if it was found.
+    pub(crate) fn get(&self, key: &[u8]) -> Option<Handle>
+        ensures { result ≡ value_found self.now key.now }
     {
-        self.handles.get(cells).copied()
+        self.handles.get(key).copied()
     }
 
     /// Keeps the value of the board.
@@ -39,11 +40,11 @@ impl Values {
         board: &Board,
         value: Handle,
     ) -> Result<(), AllocError>
-        ensures { IfOk result (λ _. (cells : List ℕ) → value_found self.new cells
-            ≡ (if bytes_eq board.now.cells cells then Some value else value_found self.old cells)) }
+        ensures { IfOk result (λ _. (key : List ℕ) → value_found self.new key
+            ≡ (if bytes_eq (key_of board.now) key then Some value else value_found self.old key)) }
     {
-        let cells = board.cells(alloc)?.into_vec();
-        self.handles.insert(cells, value)?;
+        let key = key_of(alloc, board)?;
+        self.handles.insert(key, value)?;
         Ok(())
     }
 }
@@ -55,12 +56,12 @@ pub(crate) fn values_of(
     boards: &[Board],
 ) -> Result<Vec<Handle>, AllocError>
     requires { AreFound values.now boards.now }
-    ensures { IfOk result (λ all. all.items ≡ map (λ (p : Grid). value_handle values.now p.cells) boards.now) }
+    ensures { IfOk result (λ all. all.items ≡ map (λ (p : Grid). value_handle values.now (key_of p)) boards.now) }
 {
     let mut all = Vec::new(alloc);
     for board in boards {
-        let cells = board.cells(alloc)?;
-        let Some(value) = values.get(cells.as_slice()) else {
+        let key = key_of(alloc, board)?;
+        let Some(value) = values.get(&key) else {
             unreachable!()
         };
         all.push(value)?;

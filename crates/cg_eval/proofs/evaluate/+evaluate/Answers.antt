@@ -7,13 +7,14 @@ use Rattle.cg_syntax.specs.Tree as trees
 use Rattle.cg_syntax.specs.Trees.{tree_of, trees_in, trees_of, term_of, terms_in, terms_of}
 use Rattle.cg_syntax.specs.declared.expr.Expr.{Expr}
 use Rattle.cg_syntax.specs.declared.expr.Expr.TheVariants as expr
-use Rattle.cg_syntax.proofs.TreeOf.{number_tree, ups_tree_of, nimber_tree, switch_tree, tiny_tree, braces_tree, negative_tree, multiple_tree, sum_tree, game_tree, octal_tree, term_tree}
+use Rattle.cg_syntax.proofs.TreeOf.{number_tree, ups_tree_of, nimber_tree, switch_tree, tiny_tree, braces_tree, negative_tree, multiple_tree, sum_tree, game_tree, octal_tree, term_tree, used_tree}
 use Rattle.cg_names.specs.Meaning.{signed}
 use Rattle.cg_eval.specs.Faults.{fault_in, fault_in_all}
 use Rattle.cg_eval.specs.Meaning.{meaning, total_with}
 use Rattle.cg_eval.specs.Progress.{Evaluates, Gives}
 use Rattle.cg_eval.specs.Items.{all_items, further_items, items, signed_items, term_part}
-use Rattle.cg_sum.specs.Lists.{sum_items, negative_items, multiple_items}
+use Rattle.cg_canon.specs.SumItems.{sum_items}
+use Rattle.cg_sum.specs.Lists.{negative_items, multiple_items}
 use Rattle.cg_form.specs.Game.{node}
 use Rattle.cg_form.specs.Multiple.{multiple as many}
 use Rattle.cg_form.specs.Sum.{sum as plus, negative as minus}
@@ -23,6 +24,7 @@ use Rattle.cg_nodes.proofs.Later.{are_games_later, is_game_later, stands_is_game
 use Rattle.cg_canon.specs.Items.{made}
 use Rattle.std.proofs.lemmas.List.{nil_from_length}
 use Rattle.cg_syntax.specs.declared.expr.Term.{Term}
+use Rattle.cg_eval.proofs.ClosedParts.{closed_behind, closed_first, closed_in-all, closed_in-terms, closed_of_tree}
 use Rattle.cg_eval.proofs.BoardParts.{board_gives, heap_gives}
 use Rattle.cg_eval.proofs.FaultParts.{fault_of_braces, fault_of_term, fault_of_tree, neither, none_in-all, none_in-terms}
 use Rattle.cg_eval.proofs.Walk.{size, size_of_braces, size_of_negative, size_of_multiple, size_of_sum, size_of_item, size_of_term}
@@ -38,7 +40,9 @@ evaluate-braces-requires g t c =
     let b = size_of_braces c.args.expr.now c.in-Braces.lefts c.in-Braces.rights c.in-Braces.is in
     let d = neither (fault_in_all (trees_from (trees_in c.in-Braces.lefts))) (fault_in_all (trees_from
     (trees_in c.in-Braces.rights)))
-    (sym (fault_of_braces c.args.expr.now c.in-Braces.lefts c.in-Braces.rights c.in-Braces.is) ∙ c.requires) in
+    (sym (fault_of_braces c.args.expr.now c.in-Braces.lefts c.in-Braces.rights c.in-Braces.is) ∙ c.requires.boards) in
+    let k = closed_of_tree c.args.expr.now (expr.Braces c.in-Braces.lefts c.in-Braces.rights) c.in-Braces.is
+    (braces_tree c.in-Braces.lefts c.in-Braces.rights) c.requires.closed in
     search rules
 
 pub evaluate-minus-requires : goal.evaluate-minus-requires
@@ -48,7 +52,10 @@ evaluate-minus-requires g t c =
     (tree_of x)) c.deref.ensures in
     let d : fault_in (tree_of c.deref.result.now) ≡ None = ap (λ (x : Expr). fault_in (tree_of x)) c.deref.ensures
     ∙ sym (fault_of_tree c.args.expr.now (expr.Negative c.in-Negative.inner) c.in-Negative.is
-    (negative_tree c.in-Negative.inner)) ∙ c.requires in
+    (negative_tree c.in-Negative.inner)) ∙ c.requires.boards in
+    let k = closed_behind c.deref.result.now c.in-Negative.inner.value c.deref.ensures
+    (closed_of_tree c.args.expr.now (expr.Negative c.in-Negative.inner) c.in-Negative.is
+    (negative_tree c.in-Negative.inner) c.requires.closed) in
     search rules
 
 pub evaluate-times-requires : goal.evaluate-times-requires
@@ -59,21 +66,26 @@ evaluate-times-requires g t c =
     let d : fault_in (tree_of c.deref-in-Multiple.result.now) ≡ None = ap (λ (x : Expr). fault_in
     (tree_of x)) c.deref-in-Multiple.ensures
     ∙ sym (fault_of_tree c.args.expr.now (expr.Multiple c.in-Multiple.count c.in-Multiple.inner) c.in-Multiple.is
-    (multiple_tree c.in-Multiple.count c.in-Multiple.inner)) ∙ c.requires in
+    (multiple_tree c.in-Multiple.count c.in-Multiple.inner)) ∙ c.requires.boards in
+    let k = closed_behind c.deref-in-Multiple.result.now c.in-Multiple.inner.value c.deref-in-Multiple.ensures
+    (closed_of_tree c.args.expr.now (expr.Multiple c.in-Multiple.count c.in-Multiple.inner) c.in-Multiple.is
+    (multiple_tree c.in-Multiple.count c.in-Multiple.inner) c.requires.closed) in
     search rules
 
 pub evaluate-total-requires : goal.evaluate-total-requires
 evaluate-total-requires g t c =
     let b = size_of_sum c.args.expr.now c.in-Sum.terms c.in-Sum.is in
     let d = sym (fault_of_tree c.args.expr.now (expr.Sum c.in-Sum.terms) c.in-Sum.is (sum_tree c.in-Sum.terms))
-    ∙ c.requires in
+    ∙ c.requires.boards in
+    let k = closed_of_tree c.args.expr.now (expr.Sum c.in-Sum.terms) c.in-Sum.is (sum_tree c.in-Sum.terms)
+    c.requires.closed in
     search rules
 
 pub evaluate-board_value-requires : goal.evaluate-board_value-requires
 evaluate-board_value-requires g t c =
     let b = fault_of_tree c.args.expr.now (expr.Game c.in-Game.kind c.in-Game.rules c.in-Game.board) c.in-Game.is
     (game_tree c.in-Game.kind c.in-Game.rules c.in-Game.board) in
-    sym b ∙ c.requires
+    sym b ∙ c.requires.boards
 
 pub evaluate-returns-in-Game : goal.evaluate-returns-in-Game
 evaluate-returns-in-Game g t c =
@@ -88,7 +100,7 @@ pub evaluate-heap_value-requires : goal.evaluate-heap_value-requires
 evaluate-heap_value-requires g t c =
     let b = fault_of_tree c.args.expr.now (expr.Octal c.in-Octal.code c.in-Octal.heap) c.in-Octal.is
     (octal_tree c.in-Octal.code c.in-Octal.heap) in
-    sym b ∙ c.requires
+    sym b ∙ c.requires.boards
 
 pub evaluate-returns-in-Octal : goal.evaluate-returns-in-Octal
 evaluate-returns-in-Octal g t c =
@@ -98,6 +110,11 @@ evaluate-returns-in-Octal g t c =
     subst P (sym tree) (heap_gives (work_state g.S.CellStore.state c.args.work.now)
     (work_state g.S.CellStore.state c.heap_value.new.work) c.in-Octal.code c.in-Octal.heap c.heap_value.result
     c.heap_value.ensures)
+
+pub evaluate-unreachable-requires : goal.evaluate-unreachable-requires
+evaluate-unreachable-requires g t c =
+    closed_of_tree c.args.expr.now (expr.Name c.in-Name.text c.in-Name.column) c.in-Name.is
+    (used_tree c.in-Name.text c.in-Name.column) c.requires.closed
 
 pub evaluate-returns-in-Number : goal.evaluate-returns-in-Number
 evaluate-returns-in-Number g t c =
@@ -173,7 +190,10 @@ evaluate_all-evaluate-requires g t c =
     c.expr-item.is c.loop-expr-test.true in
     let b = none_in-all c.as_slice-expr-items.result.now
     (trees_in c.args.exprs.now) c.loop-expr.expr-index c.expr-item.result c.as_slice-expr-items.ensures
-    c.loop-expr-test.true c.expr-item.is c.requires in
+    c.loop-expr-test.true c.expr-item.is c.requires.boards in
+    let k = closed_in-all c.as_slice-expr-items.result.now
+    (trees_in c.args.exprs.now) c.loop-expr.expr-index c.expr-item.result c.as_slice-expr-items.ensures
+    c.loop-expr-test.true c.expr-item.is c.requires.closed in
     search rules
 
 pub evaluate_all-loop-expr-init : goal.evaluate_all-loop-expr-init
@@ -341,7 +361,9 @@ total-signed-requires g t c =
     let s = first_size (terms_in c.args.terms.now) c.in-Some.first.now.minus (tree_of c.in-Some.first.now.expr)
     (terms_of c.in-Some.others.now) split in
     let b = first_board (terms_in c.args.terms.now) c.in-Some.first.now.minus (tree_of c.in-Some.first.now.expr)
-    (terms_of c.in-Some.others.now) split c.requires in
+    (terms_of c.in-Some.others.now) split c.requires.boards in
+    let n = closed_first (terms_in c.args.terms.now) c.in-Some.first.now.minus (tree_of c.in-Some.first.now.expr)
+    (terms_of c.in-Some.others.now) split c.requires.closed in
     search rules
 
 pub total-further-requires : goal.total-further-requires
@@ -352,7 +374,9 @@ total-further-requires g t c =
     let s = first_size (terms_in c.args.terms.now) c.in-Some.first.now.minus (tree_of c.in-Some.first.now.expr)
     (terms_of c.in-Some.others.now) split in
     let b = first_board (terms_in c.args.terms.now) c.in-Some.first.now.minus (tree_of c.in-Some.first.now.expr)
-    (terms_of c.in-Some.others.now) split c.requires in
+    (terms_of c.in-Some.others.now) split c.requires.boards in
+    let n = closed_first (terms_in c.args.terms.now) c.in-Some.first.now.minus (tree_of c.in-Some.first.now.expr)
+    (terms_of c.in-Some.others.now) split c.requires.closed in
     let k = stands_is_game (work_state g.S.CellStore.state c.signed.new.work) c.in_ok-start-in-Some.start (can
     (signed c.in-Some.first.now.minus (meaning
     (tree_of c.in-Some.first.now.expr)))) c.in_ok-start-in-Some.ensures.0 in
@@ -403,7 +427,9 @@ further-added-requires g t c =
     × Tree). size p.1) (sym (term_tree c.term-item.result.minus c.term-item.result.expr)) in
     let b = sym (fault_of_term c.term-item.result) ∙ none_in-terms c.args.terms.now
     (terms_of c.args.terms.now) c.loop-term.term-index c.term-item.result refl c.loop-term-test.true
-    c.term-item.is c.requires.board in
+    c.term-item.is c.requires.boards in
+    let n = closed_in-terms c.args.terms.now c.loop-term.term-index c.term-item.result c.loop-term-test.true
+    c.term-item.is c.requires.closed in
     let k = c.loop-term.invariant.known in
     search rules
 

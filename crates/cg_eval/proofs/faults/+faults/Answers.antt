@@ -4,7 +4,7 @@ use Rattle.cg_syntax.specs.Trees.{tree_of, trees_in, term_of, terms_in}
 use Rattle.cg_syntax.specs.Tree.{Tree, trees_from}
 use Rattle.cg_syntax.specs.declared.expr.Expr.{Expr}
 use Rattle.cg_syntax.specs.declared.expr.Expr.TheVariants as expr
-use Rattle.cg_syntax.proofs.TreeOf.{number_tree, ups_tree_of, nimber_tree, switch_tree, tiny_tree, negative_tree, multiple_tree, sum_tree, game_tree, octal_tree, term_tree}
+use Rattle.cg_syntax.proofs.TreeOf.{number_tree, ups_tree_of, nimber_tree, switch_tree, tiny_tree, negative_tree, multiple_tree, sum_tree, game_tree, octal_tree, term_tree, used_tree}
 use Rattle.cg_eval.specs.Faults.{fault_in, fault_in_all, first_of_two}
 use Rattle.cg_eval.proofs.FaultParts.{all-one_more, fault_of_braces, fault_of_tree, terms-one_more}
 use Rattle.cg_eval.proofs.Walk.{size, size_of_braces, size_of_negative, size_of_multiple, size_of_sum, size_of_item, size_of_term}
@@ -41,6 +41,10 @@ pub fault_in-returns-in-Number : goal.fault_in-returns-in-Number
 fault_in-returns-in-Number t c = sym (fault_of_tree c.args.expr.now
     (expr.Number c.in-Number.negative c.in-Number.num c.in-Number.den) c.in-Number.is
     (number_tree c.in-Number.negative c.in-Number.num c.in-Number.den))
+
+pub fault_in-returns-in-Name : goal.fault_in-returns-in-Name
+fault_in-returns-in-Name t c = sym (fault_of_tree c.args.expr.now (expr.Name c.in-Name.text c.in-Name.column) c.in-Name.is
+    (used_tree c.in-Name.text c.in-Name.column))
 
 pub fault_in-returns-in-Ups : goal.fault_in-returns-in-Ups
 fault_in-returns-in-Ups t c = sym (fault_of_tree c.args.expr.now (expr.Ups c.in-Ups.down c.in-Ups.count) c.in-Ups.is

@@ -1,39 +1,45 @@
-use Rattle.std.proofs.Common.{refl}
+use Rattle.std.proofs.Common.{refl, subst, ℕ, List}
 use Rattle.std.proofs.lemmas.Result.{err_from_is_err_and}
 use Rattle.cg_canon.specs.Works.{work_state}
 use Rattle.cg_canon.specs.declared.fault.ValueFault.TheVariants.{Memory}
 use Rattle.cg_syntax.specs.Tree.{check}
 use Rattle.cg_syntax.specs.Trees.{tree_of}
-use Rattle.cg_eval.specs.Parts.{IsLater}
+use Rattle.cg_nodes.specs.Spelled.{can}
+use Rattle.cg_eval.specs.Meaning.{meaning}
+use Rattle.cg_eval.specs.Reply.{IsChecked}
+use Rattle.cg_eval.specs.Shown.{shown}
 use Rattle.cg_eval.proofs.Told.{two-answered, two-halted, two-memory}
-use Rattle.cg_nodes.proofs.Later.{nothing_spent}
 use Rattle.cg_eval.proofs.Replies.{answers-stop}
 use Rattle.cg_eval.proofs.question.answer_check.Goals as goal
 
 pub returns-in_err-values : goal.returns-in_err-values
-returns-in_err-values g c text =
+returns-in_err-values g c =
     let s = work_state g.S.CellStore.state c.args.work.now in
     let t = work_state g.S.CellStore.state c.evaluate_two.new.work in
     let a = tree_of c.args.first.now in
     let b = tree_of c.args.second.now in
     let p = err_from_is_err_and c.from_residual.result c.from_residual.ensures.1 in
-    two-halted s t (check a b text) a b c.from_residual.result p.0 c.in_err-values.field-0.0 p.1 p.2 refl c.in_err-values.ensures
+    two-halted s t (check a b c.args.text.now) a b c.from_residual.result p.0 c.in_err-values.field-0.0 p.1 p.2 refl c.in_err-values.ensures
 
 pub returns-in_err-told : goal.returns-in_err-told
-returns-in_err-told g c text =
+returns-in_err-told g c =
     let s = work_state g.S.CellStore.state c.args.work.now in
     let t = work_state g.S.CellStore.state c.evaluate_two.new.work in
+    let u = work_state g.S.CellStore.state c.tell_check.new.work in
     let a = tree_of c.args.first.now in
     let b = tree_of c.args.second.now in
     let p = err_from_is_err_and c.from_residual-in_err-told.result c.from_residual-in_err-told.ensures.1 in
-    answers-stop s t (check a b text) c.from_residual-in_err-told.result p.0 Memory p.1 p.2
-    (two-memory s t t (check a b text) a b c.in_ok-values.values c.in_ok-values.ensures (nothing_spent t) refl)
+    answers-stop s u (check a b c.args.text.now) c.from_residual-in_err-told.result p.0 Memory p.1 p.2
+    (two-memory s t u (check a b c.args.text.now) a b c.in_ok-values.values c.in_ok-values.ensures c.tell_check.ensures.spends refl)
 
 pub returns : goal.returns
-returns g c text =
+returns g c =
     let s = work_state g.S.CellStore.state c.args.work.now in
     let t = work_state g.S.CellStore.state c.evaluate_two.new.work in
+    let u = work_state g.S.CellStore.state c.tell_check.new.work in
     let a = tree_of c.args.first.now in
     let b = tree_of c.args.second.now in
-    two-answered s t t (check a b text) a b c.in_ok-values.values c.in_ok-values.ensures (nothing_spent t) refl c.in_ok-told.told (λ x y. IsLater)
-    c.in_ok-told.ensures refl (λ h. h)
+    let P : List ℕ → Type 0 = λ w. IsChecked (can (meaning a)) (can (meaning b)) w (shown c.in_ok-told.told) in
+    two-answered s t u (check a b c.args.text.now) a b c.in_ok-values.values c.in_ok-values.ensures
+    c.tell_check.ensures.spends refl c.in_ok-told.told (λ x y. IsChecked x y c.as_slice.result.now)
+    c.in_ok-told.ensures.told refl (λ h. subst P c.as_slice.ensures h)

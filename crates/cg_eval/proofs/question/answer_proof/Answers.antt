@@ -4,9 +4,8 @@ use Rattle.cg_canon.specs.Works.{work_state}
 use Rattle.cg_canon.specs.declared.fault.ValueFault.TheVariants.{Memory}
 use Rattle.cg_syntax.specs.Tree.{proof}
 use Rattle.cg_syntax.specs.Trees.{tree_of}
-use Rattle.cg_eval.specs.Parts.{IsLater}
+use Rattle.cg_eval.specs.Reply.{IsProved}
 use Rattle.cg_eval.proofs.Told.{two-answered, two-halted, two-memory}
-use Rattle.cg_nodes.proofs.Later.{nothing_spent}
 use Rattle.cg_eval.proofs.Replies.{answers-stop}
 use Rattle.cg_eval.proofs.question.answer_proof.Goals as goal
 
@@ -23,17 +22,19 @@ pub returns-in_err-told : goal.returns-in_err-told
 returns-in_err-told g c =
     let s = work_state g.S.CellStore.state c.args.work.now in
     let t = work_state g.S.CellStore.state c.evaluate_two.new.work in
+    let u = work_state g.S.CellStore.state c.tell_proof.new.work in
     let a = tree_of c.args.first.now in
     let b = tree_of c.args.second.now in
     let p = err_from_is_err_and c.from_residual-in_err-told.result c.from_residual-in_err-told.ensures.1 in
-    answers-stop s t (proof a b) c.from_residual-in_err-told.result p.0 Memory p.1 p.2
-    (two-memory s t t (proof a b) a b c.in_ok-values.values c.in_ok-values.ensures (nothing_spent t) refl)
+    answers-stop s u (proof a b) c.from_residual-in_err-told.result p.0 Memory p.1 p.2
+    (two-memory s t u (proof a b) a b c.in_ok-values.values c.in_ok-values.ensures c.tell_proof.ensures.spends refl)
 
 pub returns : goal.returns
 returns g c =
     let s = work_state g.S.CellStore.state c.args.work.now in
     let t = work_state g.S.CellStore.state c.evaluate_two.new.work in
+    let u = work_state g.S.CellStore.state c.tell_proof.new.work in
     let a = tree_of c.args.first.now in
     let b = tree_of c.args.second.now in
-    two-answered s t t (proof a b) a b c.in_ok-values.values c.in_ok-values.ensures (nothing_spent t) refl c.in_ok-told.told (λ x y. IsLater)
-    c.in_ok-told.ensures refl (λ h. h)
+    two-answered s t u (proof a b) a b c.in_ok-values.values c.in_ok-values.ensures c.tell_proof.ensures.spends refl c.in_ok-told.told IsProved
+    c.in_ok-told.ensures.told refl (λ h. h)

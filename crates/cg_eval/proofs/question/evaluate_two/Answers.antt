@@ -7,10 +7,16 @@ use Rattle.cg_eval.proofs.Replies.{both_made, first_stopped, second_stopped, two
 use Rattle.cg_eval.proofs.question.evaluate_two.Goals as goal
 
 pub evaluate-requires : goal.evaluate-requires
-evaluate-requires g c = (neither (fault_in (tree_of c.args.first.now)) (fault_in (tree_of c.args.second.now)) c.requires).0
+evaluate-requires g c = record {
+  closed = c.requires.closed.0;
+  boards = (neither (fault_in (tree_of c.args.first.now)) (fault_in (tree_of c.args.second.now)) c.requires.boards).0;
+}
 
 pub evaluate-requires-2 : goal.evaluate-requires-2
-evaluate-requires-2 g c = (neither (fault_in (tree_of c.args.first.now)) (fault_in (tree_of c.args.second.now)) c.requires).1
+evaluate-requires-2 g c = record {
+  closed = c.requires.closed.1;
+  boards = (neither (fault_in (tree_of c.args.first.now)) (fault_in (tree_of c.args.second.now)) c.requires.boards).1;
+}
 
 pub returns-in_err-left : goal.returns-in_err-left
 returns-in_err-left g c =

@@ -1,9 +1,10 @@
 use Rattle.std.proofs.Common.{ap, sym, ◌∙◌, Err, arith}
 use Rattle.std.proofs.lemmas.Result.{err_from_is_err_and}
+use Rattle.cg_moves.specs.Seen.{key_of}
 use Rattle.cg_values.specs.Values.{value_found}
 use Rattle.cg_values.proofs.ItemSteps.{not_none}
 use Rattle.cg_values.proofs.ValueSteps.{board-found, board-has, board-holds, start-in, start_stands, values_done, values_more, values_none, values_stopped}
-use Rattle.cg_values.proofs.reached.make_values.Goals as goal
+use Rattle.cg_values.proofs.whole.make_values.Goals as goal
 
 pub loop-board-init : goal.loop-board-init
 loop-board-init g c =
@@ -12,22 +13,22 @@ loop-board-init g c =
     c.args.rules.now) c.args.start.now c.requires.has c.spare-spare.result c.args.boards.now c.requires.boards
     c.new-values.result c.new-values.ensures (omega arith)
 
-pub board_item-requires-clause-has : goal.board_item-requires-clause-has
-board_item-requires-clause-has g c =
+pub whole_item-requires-clause-has : goal.whole_item-requires-clause-has
+whole_item-requires-clause-has g c =
     board-has g.S.CellStore.state c.args.work.now (g.R.Rules.game c.args.rules.now) (g.met.R.Rules.lawful
     c.args.rules.now) c.args.start.now c.requires.has c.spare-spare.result c.args.boards.now c.requires.boards
     c.loop-board.board-index c.board-item.result c.loop-board-test.true c.board-item.is c.loop-board.work
     c.loop-board.values c.loop-board.invariant
 
-pub board_item-requires-clause-holds : goal.board_item-requires-clause-holds
-board_item-requires-clause-holds g c =
+pub whole_item-requires-clause-holds : goal.whole_item-requires-clause-holds
+whole_item-requires-clause-holds g c =
     board-holds g.S.CellStore.state c.args.work.now (g.R.Rules.game c.args.rules.now) (g.met.R.Rules.lawful
     c.args.rules.now) c.args.start.now c.requires.has c.spare-spare.result c.args.boards.now c.requires.boards
     c.loop-board.board-index c.board-item.result c.loop-board-test.true c.board-item.is c.loop-board.work
     c.loop-board.values c.loop-board.invariant
 
-pub board_item-requires-clause-found : goal.board_item-requires-clause-found
-board_item-requires-clause-found g c =
+pub whole_item-requires-clause-found : goal.whole_item-requires-clause-found
+whole_item-requires-clause-found g c =
     board-found g.S.CellStore.state c.args.work.now (g.R.Rules.game c.args.rules.now) (g.met.R.Rules.lawful
     c.args.rules.now) c.args.start.now c.requires.has c.spare-spare.result c.args.boards.now c.requires.boards
     c.loop-board.board-index c.board-item.result c.loop-board-test.true c.board-item.is c.loop-board.work
@@ -39,17 +40,17 @@ returns-in_err-value-clause-made g c =
     values_stopped g.S.CellStore.state c.args.work.now (g.R.Rules.game c.args.rules.now) (g.met.R.Rules.lawful
     c.args.rules.now) c.args.start.now c.requires.has c.spare-spare.result c.args.boards.now c.requires.boards
     c.loop-board.board-index c.board-item.result c.loop-board-test.true c.board-item.is c.loop-board.work
-    c.loop-board.values c.loop-board.invariant c.board_item.new.work c.board_item.result c.from_residual.result
-    c.in_err-value.field-0.0 c.in_err-value.was (p.1 ∙ ap Err p.2) c.board_item.ensures.made
+    c.loop-board.values c.loop-board.invariant c.whole_item.new.work c.whole_item.result c.from_residual.result
+    c.in_err-value.field-0.0 c.in_err-value.was (p.1 ∙ ap Err p.2) c.whole_item.ensures.made
 
 pub loop-board-preserved : goal.loop-board-preserved
 loop-board-preserved g c =
     values_more g.S.CellStore.state c.args.work.now (g.R.Rules.game c.args.rules.now) (g.met.R.Rules.lawful
     c.args.rules.now) c.args.start.now c.requires.has c.spare-spare.result c.args.boards.now c.requires.boards
     c.loop-board.board-index c.board-item.result c.loop-board-test.true c.board-item.is c.loop-board.work
-    c.loop-board.values c.loop-board.invariant c.board_item.new.work c.keep.new.self c.in_ok-value.value
-    c.board_item.result c.in_ok-value.value c.in_ok-value.was c.board_item.ensures.made c.in_ok-value.ensures.game
-    c.board_item.ensures.spare c.in_ok-keep.ensures
+    c.loop-board.values c.loop-board.invariant c.whole_item.new.work c.keep.new.self c.in_ok-value.value
+    c.whole_item.result c.in_ok-value.value c.in_ok-value.was c.whole_item.ensures.made c.in_ok-value.ensures.game
+    c.whole_item.ensures.spare c.in_ok-keep.ensures
 
 pub unreachable-requires : goal.unreachable-requires
 unreachable-requires g c =
@@ -58,10 +59,10 @@ unreachable-requires g c =
     let made = values_done g.S.CellStore.state c.args.work.now r lawful c.args.start.now c.requires.has
     c.spare-spare.result c.args.boards.now c.requires.boards c.loop-board.work c.loop-board.values
     c.loop-board.board-index c.loop-board-test.false c.loop-board.invariant in
-    not_none (value_found c.loop-board.values c.args.start.now.cells) (made.found.each c.args.start.now (start-in
+    not_none (value_found c.loop-board.values (key_of c.args.start.now)) (made.found.each c.args.start.now (start-in
     g.S.CellStore.state c.args.work.now r lawful c.args.start.now c.requires.has c.spare-spare.result c.args.boards.now
     c.requires.boards))
-    (ap (value_found c.loop-board.values) (sym (c.as_slice.ensures ∙ c.in_ok-cells.ensures.value)) ∙ sym c.get.ensures
+    (ap (value_found c.loop-board.values) (sym (c.deref.ensures.value ∙ c.in_ok-key.ensures)) ∙ sym c.get.ensures
     ∙ c.in-None.is)
 
 pub returns-clause-game : goal.returns-clause-game
@@ -73,5 +74,5 @@ returns-clause-game g c =
     c.loop-board.board-index c.loop-board-test.false c.loop-board.invariant in
     start_stands g.S.CellStore.state c.args.work.now r lawful c.args.start.now c.requires.has c.spare-spare.result
     c.args.boards.now c.requires.boards c.loop-board.work c.loop-board.values c.in-Some.value made
-    (ap (value_found c.loop-board.values) (sym (c.as_slice.ensures ∙ c.in_ok-cells.ensures.value)) ∙ sym c.get.ensures
+    (ap (value_found c.loop-board.values) (sym (c.deref.ensures.value ∙ c.in_ok-key.ensures)) ∙ sym c.get.ensures
     ∙ c.in-Some.is)

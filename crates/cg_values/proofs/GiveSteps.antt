@@ -1,0 +1,177 @@
+-- Calls that make the items of games, one after another.
+use Rattle.std.proofs.Common.{◌≡◌, refl, ℕ, ◌≤◌, ◌<◌, ◌⊎◌, arith, ap, sym, ◌∙◌, subst, List, [], ◌∷◌, ◌++◌, map, length, Some, Bool, true, false, if◌then◌else◌, Result, Ok, Err}
+use Rattle.std.specs.Prelude.{IfOk}
+use Rattle.cg_cells.specs.Store.{State}
+use Rattle.cg_canon.proofs.Keeping.{keeps_all}
+use Rattle.cg_canon.proofs.MadeSteps.{made_as, made_then, passed, stopped}
+use Rattle.cg_canon.specs.Items.{Item, made as made_item}
+use Rattle.cg_canon.specs.Made.{ItemsMade}
+use Rattle.cg_canon.specs.declared.fault.ValueFault.{ValueFault}
+use Rattle.cg_canon.specs.declared.fault.ValueFault.TheVariants.{Memory, Positions}
+use Rattle.cg_canon.specs.declared.rest.WorkRest.{WorkRest}
+use Rattle.cg_form.proofs.SumLaws.{sum-le_second}
+use Rattle.cg_form.proofs.SumOrder.{sum-le}
+use Rattle.cg_form.specs.Game.{Game}
+use Rattle.cg_form.specs.Sum.{nothing, sum}
+use Rattle.cg_nodes.proofs.Forms.{can-same}
+use Rattle.cg_nodes.specs.CanForms.{can-equal}
+use Rattle.cg_nodes.specs.Games.{StandFor, StandsFor, game_at, games_at}
+use Rattle.cg_nodes.specs.Meant.{Meant, form}
+use Rattle.cg_nodes.specs.Spelled.{can}
+use Rattle.cg_moves.specs.Cutting.{cutting}
+use Rattle.cg_moves.specs.declared.pieces.Pieces.TheVariants.{Whole, Cut}
+use Rattle.cg_moves.specs.Grid.{Grid}
+use Rattle.cg_moves.specs.Raw.{raw}
+use Rattle.cg_moves.specs.Reach.{reach_of}
+use Rattle.cg_moves.specs.Rules.{GameRules}
+use Rattle.cg_values.specs.Gives.{Gives}
+use Rattle.cg_values.specs.Items.{added, added_items, board_items, cut_items, sum_up, sum_up_items, value_items, whole_items}
+use Rattle.cg_values.proofs.ValueSteps.{all_within, limit_refused}
+
+-- the forms of two games may stand for them in a sum
+pub can-sum_forms : (g h : Game) → can (sum (can g) (can h)) ≡ can (sum g h)
+can-sum_forms g h =
+    let d = can-equal g in
+    let e = can-equal h in
+    can-same (sum (can g) (can h)) (sum g (can h)) (sum-le (can g) g (can h) d.0, sum-le g (can g) (can h) d.1)
+    ∙ can-same (sum g (can h)) (sum g h) (sum-le_second (can h) h g e.0, sum-le_second h (can h) g e.1)
+
+module _ {R : Type 0} where
+  pub gives_as : (s t : State Meant (WorkRest R)) (xs ys : List Item) (g h : Game) (r : Result ℕ ValueFault) → xs ≡ ys
+      → can g ≡ can h → Gives s t xs g r → Gives s t ys h r
+  gives_as s t xs ys g h r e f v =
+      let P : Game → Type 0 = λ z. IfOk r (λ k. StandsFor t k z) in record {
+        game = subst P f v.game;
+        made = made_as s t xs ys r e v.made;
+        more = v.more;
+      }
+
+  -- items that were made, and then those of a game
+  pub gives_then : {T : Type 0} (s t u : State Meant (WorkRest R)) (xs ys : List Item) (g : Game) (q : Result T ValueFault) (x : T)
+      (r : Result ℕ ValueFault) → q ≡ Ok x → ItemsMade s t xs q → s.spare ≤ t.spare → Gives t u ys g r
+      → Gives s u (xs ++ ys) g r
+  gives_then s t u xs ys g q x r ok first more v =
+      let after = v.more in record {
+        game = v.game;
+        made = made_then s t u xs ys r (passed s t xs q x ok first) first.keeps v.made;
+        more = omega (arith, more, after);
+      }
+
+  -- an item before those of a game was refused
+  pub gives_stopped : {T : Type 0} (s t : State Meant (WorkRest R)) (xs ys : List Item) (g : Game) (q : Result T ValueFault)
+      (r : Result ℕ ValueFault) (e : ValueFault) → q ≡ Err e → r ≡ Err e → ItemsMade s t xs q → s.spare ≤ t.spare
+      → Gives s t (xs ++ ys) g r
+  gives_stopped s t xs ys g q r e a b first more =
+      let P : Result ℕ ValueFault → Type 0 = λ z. IfOk z (λ k. StandsFor t k (can g)) in record {
+        game = subst P (sym b) tt;
+        made = stopped s t xs ys q r e a b first;
+        more = more;
+      }
+
+  -- ---- games that are added
+
+  -- of the other games the first, and the rest
+  pub record First (s : State Meant (WorkRest R)) (other : ℕ) (rest : List ℕ) (hs : List Game) : Type 0 where
+    pub game : Game
+    pub games : List Game
+    pub split : hs ≡ game ∷ games
+    pub stands : StandsFor s other (can game)
+    pub others : StandFor s rest (map can games)
+
+  pub first-of : (s : State Meant (WorkRest R)) (others : List ℕ) (other : ℕ) (rest : List ℕ) (hs : List Game)
+      → others ≡ other ∷ rest → StandFor s others (map can hs) → First s other rest hs
+  first-of s others other rest [] is all =
+      let P : List ℕ → Type 0 = λ z. StandFor s z [] in
+      let both = subst P is all in let e = both.1 in absurd (cc)
+  first-of s others other rest (h ∷ hs) is all =
+      let P : List ℕ → Type 0 = λ z. StandFor s z (can h ∷ map can hs) in
+      let both = subst P is all in
+      let e = both.1 in
+      let a : game_at s other ≡ can h = cc in
+      let b : games_at s rest ≡ map can hs = cc in record {
+        game = h;
+        games = hs;
+        split = refl;
+        stands = both.0.0 ∙ ap (λ z. Some (form z)) a;
+        others = (both.0.1, b);
+      }
+
+  -- ---- games that are added up
+
+  pub up_none : (s t : State Meant (WorkRest R)) (handles : List ℕ) (gs : List Game) (r : Result ℕ ValueFault) → handles ≡ []
+      → StandFor s handles (map can gs) → IfOk r (λ h. StandsFor t h (can nothing))
+      → ItemsMade s t (made_item (can nothing) 0 ∷ []) r → s.spare ≤ t.spare
+      → Gives s t (sum_up_items s.rest.limit gs) (sum_up gs) r
+  up_none s t handles [] r none all game items more = record {
+    game = game;
+    made = items;
+    more = more;
+  }
+  up_none s t handles (g ∷ gs) r none all game items more =
+      let e = all.1 in let f = ap (games_at s) none in absurd (let z : [] ≡ map can (g ∷ gs) = sym f ∙ e in cc)
+
+  pub up_some : (s t : State Meant (WorkRest R)) (handles : List ℕ) (first : ℕ) (others : List ℕ) (gs : List Game)
+      (r : Result ℕ ValueFault) → handles ≡ first ∷ others → StandFor s handles (map can gs)
+      → ((g : Game) (hs : List Game) → StandsFor s first (can g) → StandFor s others (map can hs)
+      → Gives s t (added_items s.rest.limit g hs) (added g hs) r)
+      → Gives s t (sum_up_items s.rest.limit gs) (sum_up gs) r
+  up_some s t handles first others gs r is all add =
+      let f = first-of s handles first others gs is all in
+      let P : List Game → Type 0 = λ z. Gives s t (sum_up_items s.rest.limit z) (sum_up z) r in
+      subst P (sym f.split) (add f.game f.games f.stands f.others)
+
+-- ---- boards by rules that don't cut
+
+pub whole_gives : {R : Type 0} (s t : State Meant (WorkRest R)) (r : GameRules) (p : Grid) (ps : List Grid) (limit : ℕ)
+    (result : Result ℕ ValueFault) → limit ≡ s.rest.limit → ps ≡ reach_of r p
+    → length (reach_of r p) ≤ limit → IfOk result (λ h. StandsFor t h (can (raw r p)))
+    → ItemsMade s t (value_items r ps) result → s.spare ≤ t.spare
+    → Gives s t (whole_items s.rest.limit r p) (raw r p) result
+whole_gives s t r p ps limit result is all within game made more =
+    let within_s : length (reach_of r p) ≤ s.rest.limit = omega (arith, within, is) in record {
+      game = game;
+      made = made_as s t (value_items r ps) (whole_items s.rest.limit r p) result
+          (ap (value_items r) all ∙ sym (all_within s.rest.limit r p within_s)) made;
+      more = more;
+    }
+
+pub whole_refused : {R : Type 0} (s : State Meant (WorkRest R)) (r : GameRules) (p : Grid) (fault : ValueFault) (limit : ℕ)
+    (result : Result ℕ ValueFault) → limit ≡ s.rest.limit → result ≡ Err fault
+    → (fault ≡ Memory) ⊎ ((fault ≡ Positions) × (limit < length (reach_of r p)))
+    → Gives s s (whole_items s.rest.limit r p) (raw r p) result
+whole_refused s r p fault limit result is e cause =
+    let P : Result ℕ ValueFault → Type 0 = λ z. Gives s s (whole_items s.rest.limit r p) (raw r p) z in
+    let Q : ℕ → Type 0 = λ z. (fault ≡ Memory) ⊎ ((fault ≡ Positions) × (z < length (reach_of r p))) in
+    subst P (sym e) (record {
+      game = tt;
+      made = record {
+        charged = tt;
+        refused = limit_refused fault s.rest.share s.rest.spent s.rest.limit r p (subst Q is cause);
+        keeps = keeps_all s;
+      };
+      more = omega arith;
+    })
+
+-- ---- whether the rules cut
+
+whole_cuts : (b : Bool) (qs : List Grid) → Whole ≡ (if b then Cut qs else Whole) → b ≡ false
+whole_cuts true qs e = absurd (cc)
+whole_cuts false qs e = refl
+
+cut_cuts : (b : Bool) (ps qs : List Grid) → Cut ps ≡ (if b then Cut qs else Whole) → b ≡ true
+cut_cuts true ps qs e = refl
+cut_cuts false ps qs e = absurd (cc)
+
+pub whole_board : (limit : ℕ) (r : GameRules) (p : Grid) → Whole ≡ cutting r p → whole_items limit r p ≡ board_items limit r p
+unfolding board_items
+whole_board limit r p e =
+    sym (ap (λ b. if b then cut_items limit r p else whole_items limit r p) (whole_cuts r.cuts (r.pieces p) e))
+
+pub cut_board : (limit : ℕ) (r : GameRules) (p : Grid) (ps : List Grid) → Cut ps ≡ cutting r p
+    → cut_items limit r p ≡ board_items limit r p
+unfolding board_items
+cut_board limit r p ps e =
+    sym (ap (λ b. if b then cut_items limit r p else whole_items limit r p) (cut_cuts r.cuts ps (r.pieces p) e))
+
+pub rules_cut : (r : GameRules) (p : Grid) (ps : List Grid) → Cut ps ≡ cutting r p → r.cuts ≡ true
+rules_cut r p ps e = cut_cuts r.cuts ps (r.pieces p) e
