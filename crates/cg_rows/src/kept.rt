@@ -11,7 +11,6 @@ use cg_nodes::Handle;
 use cg_pool::{Evaluated, NoGate};
 use cg_session::{Kept, Status, run};
 use cg_shared::Desk;
-use cg_syntax::laws::one_query;
 use std::alloc::{AllocError, Global};
 use std::test::Fail;
 use std::thread::Threads;
@@ -28,7 +27,6 @@ fn kept_of<R: Threads + Sync>(
     ensures own { IfSome result (λ k. IsPassOf k.cells k.pass) }
     ensures games { IfSome result (λ k. HaveGames k.answers.items (pass_state k.pass)) }
 {
-    one_query();
     let mut source = SteadySource::new(input);
     let mut kept = None;
     let status = run(rt, alloc, words, &mut source, sink, &NoGate, &mut kept);

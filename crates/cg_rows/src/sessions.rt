@@ -48,11 +48,11 @@ stops {0|1/2}
 1: mean 3/4 temp -1/4 left 3/4@0 right 3/4@0
 2: mean 0 temp 0 left 0@0 right 0@0
 3: left 1/4 right 1/4
-$ --positions 18 --cells 4000 => 0
+$ --positions 8 --cells 4000 => 0
 value Domineering("...|...")
 --
 1: {2|-1/2}
-$ --positions 17 --cells 4000 => 1
+$ --positions 7 --cells 4000 => 1
 value Domineering("...|...")
 --
 1: ! positions
@@ -208,11 +208,11 @@ $ --positions 3 --cells 1000 => 1
 value * + *
 --
 1: ! positions
-$ --cells 29 => 0
+$ --cells 13 => 0
 value Clobber("xo")
 --
 1: *
-$ --cells 28 => 1
+$ --cells 12 => 1
 value Clobber("xo")
 --
 1: ! full
@@ -341,6 +341,121 @@ $ --cells 1000 => 0
 6: N
 ";
 
+/// Sessions of format 2, in which lines define names.
+const NAMES: &str = r#"
+$ --cells 100000 => 1
+cg 2
+g := Clobber("xxo")
+value g + g
+h := g + k
+compare h ; g
+--
+2: ^
+3: ^^
+4: ! name 10
+5: ! name 9
+$ --cells 1000000 => 1
+cg 2
+a := *
+a := a + a
+a := a + a
+a := a + a
+a := a + a
+a := a + a
+a := a + a
+a := a + a
+a := a + a
+a := a + a
+a := a + a
+a := a + a
+a := a + a
+value a
+--
+2: *
+3: 0
+4: 0
+5: 0
+6: 0
+7: 0
+8: 0
+9: 0
+10: 0
+11: 0
+12: 0
+13: 0
+14: ! parts
+15: 0
+$ => 1
+cg 2
+g := *513
+value 0.g
+compare g ; g
+--
+2: ! depth
+3: ! depth
+4: ! depth
+$ --cells 1000 => 1
+g := 1
+value g
+--
+1: ! syntax 1
+2: ! syntax 7
+$ => 0
+cg 2
+--
+$ => 0
+cg 2--
+$ --cells 1000 => 1
+value 1
+cg 2
+g := 1
+--
+1: 1
+2: ! syntax 2
+3: ! syntax 1
+$ --cells 1000 => 1
+cg 2
+# g := 1
+value g
+g := 2
+# g := 3
+
+value g + g
+temp := 1
+temp g
+v := 1
+x := Clobber("xz")
+value -x
+--
+3: ! name 7
+4: 2
+7: 4
+8: ! syntax 6
+9: -1
+10: ! syntax 2
+11: ! board symbol 2
+12: ! board symbol 2
+$ --cells 1000 => 1
+cg 2
+g := 1
+g := g + g
+g := k
+value g
+g := 1 1
+value g
+g := {g|}
+value g
+--
+2: 1
+3: 2
+4: ! name 6
+5: 2
+6: ! syntax 8
+7: 2
+8: 3
+9: 3
+"#;
+
 /// The words and lines of the first of these sessions that doesn't write what it should, or ends otherwise.
 fn first_wrong<R: Threads + Sync>(
     rt: &R,
@@ -370,6 +485,39 @@ fn first_wrong<R: Threads + Sync>(
 fn write_what_they_should(rt: HostRuntime) -> Result<(), Fail> {
     assert_eq!(rt; first_wrong(&rt, rt.alloc(), SESSIONS)?, None);
     assert_eq!(rt; first_wrong(&rt, rt.alloc(), BLANKS)?, None);
+    Ok(())
+}
+
+#[test]
+fn define_names(rt: HostRuntime) -> Result<(), Fail> {
+    assert_eq!(rt; first_wrong(&rt, rt.alloc(), NAMES)?, None);
+    Ok(())
+}
+
+/// A definition of `a` by so many of these brackets around it.
+fn nested(alloc: Global, open: &str, close: &str, times: u64) -> Result<String, AllocError> {
+    let open = repeated(alloc, open, times)?;
+    let close = repeated(alloc, close, times)?;
+    format!(in alloc; "a := {open}a{close}\n")
+}
+
+/// A name may stand for an expression of 1,024 levels, whatever adds them, and no expression may have more.
+#[test]
+fn define_deep_names(rt: HostRuntime) -> Result<(), AllocError> {
+    let alloc = rt.alloc();
+    let rows = [
+        ("{", "|}", "19: 1023\n20: ! parts\n"),
+        ("-(", ")", "19: 0\n20: ! parts\n"),
+        ("0 - (", ")", "19: 0\n20: ! parts\n"),
+    ];
+    for (open, close, end) in rows {
+        let most = nested(alloc, open, close, 64)?;
+        let steps = repeated(alloc, most.as_str(), 15)?;
+        let last = nested(alloc, open, close, 63)?;
+        let text = format!(in alloc; "cg 2\na := 0\n{steps}{last}value a\nvalue {open}a{close}\n")?;
+        let (_, sink) = session(&rt, alloc, "--workers 3", text.as_bytes())?;
+        assert!(rt; sink.bytes().ends_with(end.as_bytes()));
+    }
     Ok(())
 }
 

@@ -1,8 +1,6 @@
-pub mod Cuts
 pub mod Endings
 pub mod Fronts
 pub mod Knowing
 pub mod Outputs
-pub mod Reading
 pub mod Shares
 pub mod Writings

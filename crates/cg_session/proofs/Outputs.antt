@@ -1,13 +1,15 @@
 -- The output of the lines so far, with that of the lines that are left, is the output of all; and lines have one output.
-use Rattle.std.proofs.Common.{◌≡◌, ℕ, zero, suc, ◌+◌, arith, Bool, cond, true, false, List, [], ◌∷◌, ◌++◌, drop, Some, refl, ap, sym, subst, ◌∙◌, append_assoc, append-nil}
+use Rattle.std.proofs.Common.{◌≡◌, ℕ, zero, suc, ◌+◌, arith, Bool, cond, true, false, List, [], ◌∷◌, drop, Some, refl, ap, sym, subst, ◌∙◌, append_assoc, append-nil}
 use Rattle.std.specs.Prelude.{◌≤◌, slice_get}
 use Rattle.cg_cells.proofs.Levels.{same_Some}
-use Rattle.cg_eval.specs.Reply.{Piece, IsReply}
+use Rattle.cg_words.specs.declared.settings.Settings.{Settings}
+use Rattle.cg_eval.specs.Reply.{Piece, IsReplyTo}
+use Rattle.cg_syntax.specs.Tree.{Question}
+use Rattle.cg_syntax.specs.Session.{Resolved, Asked_of, Syntax_at, Too_large, Unknown_at}
 use Rattle.cg_eval.specs.Shown.{shown}
 use Rattle.cg_eval.specs.declared.answered.Answered.{Answered}
-use Rattle.cg_session.specs.Lines.{is_answered, answered_from}
-use Rattle.cg_session.specs.Good.{AreAnswered}
-use Rattle.cg_session.specs.Output.{Output, joined, nothing, numbered, IsOutputOf}
+use Rattle.cg_session.specs.Output.{Output, joined, nothing, numbered, IsOutput, IsOutputOf}
+use Rattle.cg_session.specs.Replies.{IsReply}
 use Rattle.cg_session.specs.Outputs.{AreReplies}
 
 -- ---- joined
@@ -32,7 +34,7 @@ counted old new n i reply same few = rw (ap (λ (o : Output). o.refused) same) (
 -- ---- the output of all lines
 
 -- what was written, with any output of the lines that are left, is the output of all
-abbrev pub Completes : ℕ → ℕ → List (ℕ × List ℕ) → Output → List (ℕ × List ℕ) → Type 0
+abbrev pub Completes : ℕ → ℕ → List (ℕ × Resolved) → Output → List (ℕ × Resolved) → Type 0
 Completes share positions left done all =
     (tail : Output) → IsOutputOf share positions left tail → IsOutputOf share positions all (joined done tail)
 
@@ -44,7 +46,7 @@ drop_at {A} (y ∷ ys) (suc i) x at =
     let cut : drop (suc i + 1) (y ∷ ys) ≡ drop (i + 1) ys = ap (λ (k : ℕ). drop k (y ∷ ys)) next in
     drop_at ys i x at ∙ ap (λ (l : List A). x ∷ l) (sym cut)
 
-pub Completes-line : (share positions : ℕ) (lines : List (ℕ × List ℕ)) (answers : List Answered) (i : ℕ) (line : ℕ × List ℕ)
+pub Completes-line : (share positions : ℕ) (lines : List (ℕ × Resolved)) (answers : List Answered) (i : ℕ) (line : ℕ × Resolved)
     (answer : Answered) (old new : Output) → slice_get lines i ≡ Some line → slice_get answers i ≡ Some answer
     → new ≡ joined old (numbered line.0 (shown answer)) → AreReplies share positions lines answers
     → Completes share positions (drop i lines) old lines → Completes share positions (drop (i + 1) lines) new lines
@@ -59,39 +61,35 @@ Completes-line share positions lines answers i line answer old new at has same r
     (completes (joined own tail)
     (subst (λ ls. IsOutputOf share positions ls (joined own tail)) (sym (drop_at lines i line at)) first))
 
-pub Completes-all : (share positions : ℕ) (done : Output) (all : List (ℕ × List ℕ)) → Completes share positions [] done all
+pub Completes-all : (share positions : ℕ) (done : Output) (all : List (ℕ × Resolved)) → Completes share positions [] done all
     → IsOutputOf share positions all done
 unfolding IsOutputOf
 Completes-all share positions done all completes =
     subst (λ (p : Output). IsOutputOf share positions all p) (joined-nothing done) (completes nothing refl)
 
--- ---- answered lines
-
-answered_first : (n : ℕ) (line : List ℕ) (rest : List (ℕ × List ℕ)) (b : Bool) → is_answered line ≡ b → AreAnswered rest
-    → AreAnswered (cond b ((n, line) ∷ []) [] ++ rest)
-answered_first n line rest true e answered zero l at =
-    subst (λ (m : ℕ × List ℕ). is_answered m.1 ≡ true) (same_Some at) e
-answered_first n line rest true e answered (suc k) l at = answered k l at
-answered_first n line rest false e answered k l at = answered k l at
-
-pub are_answered : (n : ℕ) (lines : List (List ℕ)) → AreAnswered (answered_from n lines)
-are_answered n [] = λ k l at. absurd cc
-are_answered n (line ∷ lines) =
-    answered_first n line (answered_from (n + 1) lines) (is_answered line) refl (are_answered (n + 1) lines)
-
 -- ---- one output
 
--- no line that gets an answer has two replies on one share
+-- a question has one reply, on a share and with a positions limit
 abbrev pub HasOneReply : ℕ → ℕ → Type 0
-HasOneReply share positions = (line : List ℕ) (r s : Piece) → is_answered line ≡ true → IsReply share positions line r
-    → IsReply share positions line s → r ≡ s
+HasOneReply share positions = (q : Question) (p r : Piece) → IsReplyTo share positions q p → IsReplyTo share positions q r → p ≡ r
 
-pub IsOutputOf-unique : (share positions : ℕ) → HasOneReply share positions → (lines : List (ℕ × List ℕ)) → AreAnswered lines
+one_reply : (share positions : ℕ) → HasOneReply share positions → (line : Resolved) (p r : Piece) → IsReply share positions line p
+    → IsReply share positions line r → p ≡ r
+unfolding IsReply
+one_reply share positions one (Asked_of q) p r a b = one q p r a b
+one_reply share positions one (Syntax_at column) p r a b = a ∙ sym b
+one_reply share positions one (Unknown_at column) p r a b = a ∙ sym b
+one_reply share positions one Too_large p r a b = a ∙ sym b
+
+pub IsOutputOf-unique : (share positions : ℕ) → HasOneReply share positions → (lines : List (ℕ × Resolved))
     → (p q : Output) → IsOutputOf share positions lines p → IsOutputOf share positions lines q → p ≡ q
 unfolding IsOutputOf
-IsOutputOf-unique share positions one [] answered p q a b = a ∙ sym b
-IsOutputOf-unique share positions one (line ∷ lines) answered p q (r, rest, is_r, is_rest, a) (s, rest', is_s, is_rest', b) =
-    let same_reply : r ≡ s = one line.1 r s (answered zero line refl) is_r is_s in
-    let same_rest : rest ≡ rest' =
-    IsOutputOf-unique share positions one lines (λ k l at. answered (suc k) l at) rest rest' is_rest is_rest' in
+IsOutputOf-unique share positions one [] p q a b = a ∙ sym b
+IsOutputOf-unique share positions one (line ∷ lines) p q (r, rest, is_r, is_rest, a) (s, rest', is_s, is_rest', b) =
+    let same_reply : r ≡ s = one_reply share positions one line.1 r s is_r is_s in
+    let same_rest : rest ≡ rest' = IsOutputOf-unique share positions one lines rest rest' is_rest is_rest' in
     a ∙ ap (λ (x : Piece). joined (numbered line.0 x) rest) same_reply ∙ ap (joined (numbered line.0 s)) same_rest ∙ sym b
+
+-- lines that are the same have the same output
+pub same_output : (s : Settings) (rs qs : List (ℕ × Resolved)) (out : Output) → rs ≡ qs → IsOutput s rs out → IsOutput s qs out
+same_output s rs qs out e is = subst (λ (z : List (ℕ × Resolved)). IsOutput s z out) e is

@@ -5,7 +5,6 @@ use Rattle.cg_words.specs.declared.settings.Settings.{Settings}
 use Rattle.cg_words.specs.Accepted.{IsAccepted, settings_of}
 use Rattle.cg_session.specs.declared.status.Status.{Status}
 use Rattle.cg_session.specs.declared.status.Status.TheVariants as status
-use Rattle.cg_session.specs.Lines.{answered_lines}
 use Rattle.cg_session.specs.Output.{Output, IsWritten}
 use Rattle.cg_session.specs.Input.{ReadsOut}
 use Rattle.cg_session.specs.Settings.{session_text, IsWithinLimits}
@@ -18,7 +17,7 @@ pub record WritesWhole (refused : ℕ) (s : Settings) (text : List ℕ) (left be
   pub within : IsWithinLimits s text
   pub read : s.sample ≡ 0 → left ≡ Some []
   pub written : List ℕ
-  pub is_written : IsWritten s (answered_lines text) (record { text = written; refused = refused })
+  pub is_written : IsWritten s text (record { text = written; refused = refused })
   pub appended : Appends before now written
 
 -- The session is within the limits, its input was read to its end where there is no sample, and a front of what it writes
@@ -27,7 +26,7 @@ pub record WritesFront (s : Settings) (text : List ℕ) (left before now : Optio
   pub within : IsWithinLimits s text
   pub read : s.sample ≡ 0 → left ≡ Some []
   pub whole : Output
-  pub is_written : IsWritten s (answered_lines text) whole
+  pub is_written : IsWritten s text whole
   pub appended : AppendsFront whole.text before now
 
 -- The session is past a limit, its input was read as far as it may be where there is no sample, and nothing was appended.

@@ -7,28 +7,24 @@ use Rattle.cg_cells.specs.Store.{State}
 use Rattle.cg_nodes.specs.Meant.{Meant}
 use Rattle.cg_eval.specs.declared.answered.Answered.{Answered}
 use Rattle.cg_syntax.specs.Tree.{Question}
-use Rattle.cg_eval.specs.Shown.{shown, HandleIs, HandleOf}
-use Rattle.cg_eval.specs.Reply.{IsReply}
-use Rattle.cg_session.specs.Lines.{is_answered}
+use Rattle.cg_eval.specs.Shown.{shown, HandleIs}
+use Rattle.cg_syntax.specs.Session.{Resolved, Asked_of, Syntax_at, Too_large, Unknown_at}
+use Rattle.cg_session.specs.Replies.{HandleOf, IsReply}
 
 -- a store that knows this, and nothing else
 abbrev pub knowing : map.FinMap nat_cmp Meant → State Meant (Unit {0})
 knowing known = record { known = known; noted = []; spare = 0; rest = tt }
 
--- The answer to the line, on a share of so many cells: its text is the reply, and its handle is known to be the value of
--- the line's first expression.
-pub record IsGood (share positions : ℕ) (line : List ℕ) (a : Answered) (known : map.FinMap nat_cmp Meant) : Type 0 where
+-- The answer to a line of which this is made, on a share of so many cells: its text is the reply, and its handle is known to
+-- be the value of the line's first expression, expanded.
+pub record IsGood (share positions : ℕ) (line : Resolved) (a : Answered) (known : map.FinMap nat_cmp Meant) : Type 0 where
   pub reply : IsReply share positions line (shown a)
   pub handle : HandleOf (knowing known) line a.refused a.handle
 
--- each of these lines gets an answer
-abbrev pub AreAnswered : List (ℕ × List ℕ) → Type 0
-AreAnswered lines = (n : ℕ) (line : ℕ × List ℕ) → slice_get lines n ≡ Some line → is_answered line.1 ≡ true
-
 -- each of these answers is good for the line in its place
-abbrev pub AreGood : ℕ → ℕ → List (ℕ × List ℕ) → List Answered → map.FinMap nat_cmp Meant → Type 0
+abbrev pub AreGood : ℕ → ℕ → List (ℕ × Resolved) → List Answered → map.FinMap nat_cmp Meant → Type 0
 AreGood share positions lines answers known =
-    (n : ℕ) (line : ℕ × List ℕ) (answer : Answered) → slice_get lines n ≡ Some line → slice_get answers n ≡ Some answer
+    (n : ℕ) (line : ℕ × Resolved) (answer : Answered) → slice_get lines n ≡ Some line → slice_get answers n ≡ Some answer
     → IsGood share positions line.1 answer known
 
 -- an answer stays good when more is known
@@ -38,9 +34,16 @@ handle_stays f g grows q true handle h = h
 handle_stays f g grows q false None h = h
 handle_stays f g grows q false (Some id) h = grows id _ h
 
-pub good_stays : (share positions : ℕ) (line : List ℕ) (a : Answered) (f g : map.FinMap nat_cmp Meant)
+line_stays : (f g : map.FinMap nat_cmp Meant) → Grows (map.get f) (map.get g) → (line : Resolved) (refused : Bool) (handle : Option ℕ)
+    → HandleOf (knowing f) line refused handle → HandleOf (knowing g) line refused handle
+line_stays f g grows (Asked_of q) refused handle h = handle_stays f g grows q refused handle h
+line_stays f g grows (Syntax_at column) refused handle h = h
+line_stays f g grows (Unknown_at column) refused handle h = h
+line_stays f g grows Too_large refused handle h = h
+
+pub good_stays : (share positions : ℕ) (line : Resolved) (a : Answered) (f g : map.FinMap nat_cmp Meant)
     → Grows (map.get f) (map.get g) → IsGood share positions line a f → IsGood share positions line a g
 good_stays share positions line a f g grows G = record {
   reply = G.reply;
-  handle = record { read = λ q r. handle_stays f g grows q a.refused a.handle (G.handle.read q r); refusal = G.handle.refusal };
+  handle = line_stays f g grows line a.refused a.handle G.handle;
 }

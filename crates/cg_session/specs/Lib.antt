@@ -1,6 +1,6 @@
--- the lines of a session, its limits, and what it writes
-pub mod Lines
+-- the limits of a session, the replies to its lines, and what it writes
 pub mod Settings
+pub mod Replies
 pub mod Output
 -- what the words mean, and how a session ends
 pub mod Words

@@ -2,7 +2,7 @@
 use Rattle.std.specs.Prelude.{ℕ, zero, suc, ◌/◌, ◌≤◌, ◌^◌, List, Option, Some, length}
 use Rattle.cg_words.specs.declared.settings.Settings.{Settings}
 use Rattle.cg_sample.specs.SampleText.{sample_text}
-use Rattle.cg_session.specs.Lines.{answered_lines}
+use Rattle.cg_syntax.specs.Session.{answered_lines}
 
 -- the share of so many cells for each of so many answered lines
 abbrev pub share_of : ℕ → ℕ → ℕ

@@ -1,21 +1,22 @@
 //! What a session comes to: its limits, the answers of its lines, and what is written of them.
 ghost use Rattle.std.specs.Prelude.{◌≡◌, ◌≤◌, ℕ, [], IfOk, OnOk, IsErrOf, MatchOption, length, map};
 ghost use Rattle.cg_words.specs.Accepted.{InRange};
-ghost use Rattle.cg_session.specs.Good.{AreAnswered};
-ghost use Rattle.cg_session.specs.Kept.{KeepsAnswers};
-ghost use Rattle.cg_session.specs.Lines.{answered_lines};
-ghost use Rattle.cg_session.specs.Output.{IsOutputOf, IsWritten, written_of};
+ghost use Rattle.cg_session.specs.Kept.{KeepsAnswers, KeepsSession};
+ghost use Rattle.cg_session.specs.Output.{IsOutput, IsOutputOf, IsWritten, written_of};
 ghost use Rattle.cg_session.specs.Output.{Output as Out};
-ghost use Rattle.cg_session.specs.Outputs.{AreReplies, output_of, seen};
+ghost use Rattle.cg_session.specs.Outputs.{AreClosed, AreReplies, output_of};
 ghost use Rattle.cg_session.specs.Settings.{IsWithinLimits};
+ghost use Rattle.cg_syntax.specs.Session.{answered_lines};
+ghost use Rattle.cg_syntax.specs.SessionViews.{line_of};
 
 use crate::input::MOST_BYTES;
 use crate::job::LineJob;
-use crate::lines::{Line, answered_lines};
 use crate::output::{Output, make_output, summary};
 use cg_eval::Answered;
 use cg_nodes::GameFacts;
 use cg_pool::{Evaluated, Gate, evaluate};
+use cg_syntax::laws::one_session;
+use cg_syntax::{SessionLine, answered_count, read_session};
 use cg_values::CgBoards;
 use cg_words::Settings;
 use std::alloc::{AllocError, Global};
@@ -26,7 +27,7 @@ use std::thread::Threads;
 pub type Kept = Evaluated<GameFacts<CgBoards>, Answered>;
 
 /// The most lines of a session that may get an answer.
-const MOST_ANSWERED: usize = 4096;
+const MOST_ANSWERED: u64 = 4096;
 
 /// Why a session is not answered.
 #[derive(Clone, Copy, Debug, PartialEq, Eq)]
@@ -54,21 +55,23 @@ pub fn answer_session<R: Threads + Sync, G: Gate>(
 ) -> Result<Answers, AnsweringFault>
     requires { InRange settings }
     ensures within { OnOk result (IsWithinLimits settings text.now) }
-    ensures written { IfOk result (λ a. IsWritten settings (answered_lines text.now) (output_of a.output)) }
+    ensures written { IfOk result (λ a. IsWritten settings text.now (output_of a.output)) }
     ensures kept { IfOk result (λ a. MatchOption a.kept (answered_lines text.now ≡ [])
-        (λ k. KeepsAnswers settings (answered_lines text.now) k.answers.items k.cells k.pass)) }
+        (λ k. KeepsSession settings text.now k.answers.items k.cells k.pass)) }
     ensures too_long { IsErrOf result AnsweringFault.TooLong → ¬ IsWithinLimits settings text.now }
 {
     if text.len() > MOST_BYTES {
         return Err(AnsweringFault::TooLong);
     }
-    let Ok(lines) = answered_lines(alloc, text) else {
-        return Err(AnsweringFault::Memory);
-    };
-    if lines.len() > MOST_ANSWERED || lines.len() as u64 > settings.cells {
+    let count = answered_count(text);
+    if count > MOST_ANSWERED || count > settings.cells {
         return Err(AnsweringFault::TooLong);
     }
-    match answer_lines::<R, G>(rt, alloc, settings, &lines, gate) {
+    let Ok(session) = read_session(alloc, text) else {
+        return Err(AnsweringFault::Memory);
+    };
+    one_session();
+    match answer_lines::<R, G>(rt, alloc, settings, session.lines.as_slice(), gate) {
         Ok(answers) => Ok(answers),
         Err(AllocError) => Err(AnsweringFault::Memory),
     }
@@ -79,15 +82,16 @@ fn answer_lines<R: Threads + Sync, G: Gate>(
     rt: &R,
     alloc: Global,
     settings: Settings,
-    lines: &[Line<'_>],
+    lines: &[SessionLine],
     gate: &G,
 ) -> Result<Answers, AllocError>
     requires range { InRange settings }
-    requires answered { AreAnswered (map seen lines.now) }
+    requires closed { AreClosed (map line_of lines.now) }
     requires cells { length lines.now ≤ settings.cells }
-    ensures written { IfOk result (λ a. IsWritten settings (map seen lines.now) (output_of a.output)) }
-    ensures kept { IfOk result (λ a. MatchOption a.kept (map seen lines.now ≡ [])
-        (λ k. KeepsAnswers settings (map seen lines.now) k.answers.items k.cells k.pass)) }
+    ensures written { IfOk result (λ a. (out : Out) × IsOutput settings (map line_of lines.now) out
+        × (output_of a.output ≡ written_of settings.sample out)) }
+    ensures kept { IfOk result (λ a. MatchOption a.kept (map line_of lines.now ≡ [])
+        (λ k. KeepsAnswers settings (map line_of lines.now) k.answers.items k.cells k.pass)) }
 {
     if lines.is_empty() {
         let output = written(alloc, settings.sample, lines, &[])?;
@@ -119,12 +123,12 @@ fn answer_lines<R: Threads + Sync, G: Gate>(
 fn written(
     alloc: Global,
     sample: u64,
-    lines: &[Line<'_>],
+    lines: &[SessionLine],
     answers: &[Answered],
 ) -> Result<Output, AllocError>
     requires { length answers.now ≡ length lines.now }
-    ensures { IfOk result (λ w. (share positions : ℕ) → AreReplies share positions (map seen lines.now) answers.now
-        → (out : Out) × IsOutputOf share positions (map seen lines.now) out × (output_of w ≡ written_of sample out)) }
+    ensures { IfOk result (λ w. (share positions : ℕ) → AreReplies share positions (map line_of lines.now) answers.now
+        → (out : Out) × IsOutputOf share positions (map line_of lines.now) out × (output_of w ≡ written_of sample out)) }
 {
     let output = make_output(alloc, lines, answers)?;
     if sample == 0 {

@@ -1,24 +1,32 @@
-//! The answered lines of a session as the job of many workers.
-ghost use Rattle.std.specs.Prelude.{◌≡◌, ℕ, List, Some, slice_get, length, map};
+//! The lines of a session as the job of many workers.
+ghost use Rattle.std.specs.Prelude.{◌≡◌, ◌+◌, ◌≤◌, ℕ, List, Some, IfOk, slice_get, length, map, true};
 ghost use Rattle.std.proofs.Props.{props};
-ghost use Rattle.cg_session.specs.Good.{AreAnswered, IsGood, good_stays};
-ghost use Rattle.cg_session.specs.Outputs.{seen};
+ghost use Rattle.cg_cells.specs.Store.{State};
+ghost use Rattle.cg_eval.specs.Shown.{shown};
+ghost use Rattle.cg_eval.specs.Stores.{KeepsStore};
+ghost use Rattle.cg_session.specs.Good.{IsGood, good_stays};
+ghost use Rattle.cg_session.specs.Outputs.{AreClosed, is_closed};
+ghost use Rattle.cg_session.specs.Replies.{HandleOf, IsReply};
+ghost use Rattle.cg_syntax.specs.Session.{Resolved};
+ghost use Rattle.cg_syntax.specs.SessionViews.{line_of, resolved_of};
 
-use crate::lines::Line;
-use cg_eval::{Answered, answer};
+use crate::refusals::{refuse_name, refuse_parts, refuse_syntax};
+use cg_cells::CellStore;
+use cg_eval::{Answered, answer_query};
 use cg_nodes::GameFacts;
 use cg_pool::Job;
 use cg_shared::Desk;
+use cg_syntax::{Asked, SessionLine};
 use cg_values::CgBoards;
 use std::alloc::{AllocError, Global};
 
-/// Lines that get an answer, each on a share of so many cells, with so many positions at most in one list of items.
+/// Lines without names, each on a share of so many cells, with so many positions at most in one list of items.
 #[derive(Drop)]
 pub struct LineJob<'a> {
-    pub lines: &'a [Line<'a>],
+    pub lines: &'a [SessionLine],
     pub share: u64,
     pub positions: u64,
-    ghost answered: { AreAnswered (map seen lines.now) } by { Prim.hlevel props },
+    ghost closed: { AreClosed (map line_of lines.now) } by { Prim.hlevel props },
 }
 
 impl<'a> Job<GameFacts<CgBoards>> for LineJob<'a> {
@@ -28,7 +36,7 @@ impl<'a> Job<GameFacts<CgBoards>> for LineJob<'a> {
 
     ghost needs = { λ job. job.share };
 
-    ghost good = { λ job n a known. (line : ℕ × List ℕ) → slice_get (map seen job.lines.now) n ≡ Some line → IsGood job.share job.positions line.1 a known };
+    ghost good = { λ job n a known. (line : ℕ × Resolved) → slice_get (map line_of job.lines.now) n ≡ Some line → IsGood job.share job.positions line.1 a known };
 
     fn work(
         &self,
@@ -36,9 +44,32 @@ impl<'a> Job<GameFacts<CgBoards>> for LineJob<'a> {
         desk: &mut Desk<'_, GameFacts<CgBoards>>,
         index: u64,
     ) -> Result<Answered, AllocError> {
-        let line = self.lines[index as usize].bytes;
-        answer(alloc, desk, line, self.share, self.positions)
+        let asked = &self.lines[index as usize].asked;
+        answer_line(alloc, desk, asked, self.share, self.positions)
     }
 
     ghost stays = { λ job n a f g grows h line at. good_stays job.share job.positions line.1 a f g grows (h line at) };
+}
+
+/// The answer to what a line asks, or its refusal, on a share of so much of the store's spare.
+fn answer_line<S: CellStore<GameFacts<CgBoards>>>(
+    alloc: Global,
+    store: &mut S,
+    asked: &Asked,
+    share: u64,
+    positions: u64,
+) -> Result<Answered, AllocError>
+    requires closed { is_closed (resolved_of asked.now) ≡ true }
+    requires spare { share ≤ (S.state store.old).spare }
+    ensures reply { IfOk result (λ a. IsReply share positions (resolved_of asked.now) (shown a)) }
+    ensures handle { IfOk result (λ a. HandleOf (S.state store.new) (resolved_of asked.now) a.refused a.handle) }
+    ensures keeps { KeepsStore (S.state store.old) (S.state store.new) }
+    ensures spare { (S.state store.old).spare ≤ (S.state store.new).spare + share }
+{
+    match asked {
+        Asked::Query(query) => answer_query(alloc, store, query, share, positions),
+        Asked::Syntax(column) => refuse_syntax(alloc, *column),
+        Asked::Unknown(column) => refuse_name(alloc, *column),
+        Asked::Parts => refuse_parts(alloc),
+    }
 }

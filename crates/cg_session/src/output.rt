@@ -1,11 +1,12 @@
-//! The output of answered lines.
+//! The output of the lines of a session.
 ghost use Rattle.std.specs.Prelude.{◌≡◌, ◌+◌, ◌≤◌, ◌<◌, ◌^◌, ◌++◌, ◌∷◌, [], ℕ, IfOk, OnOk, cond, decimal, codes, length, map};
 ghost use Rattle.cg_eval.specs.Shown.{shown};
+ghost use Rattle.cg_syntax.specs.SessionViews.{line_of};
 ghost use Rattle.cg_session.specs.Output.{IsOutputOf, joined, numbered, summary};
-ghost use Rattle.cg_session.specs.Outputs.{AreReplies, output_of, seen};
+ghost use Rattle.cg_session.specs.Outputs.{AreReplies, output_of};
 
-use crate::lines::Line;
 use cg_eval::Answered;
+use cg_syntax::SessionLine;
 use std::alloc::{AllocError, Global};
 
 /// A text to be written, and how many lines were refused.
@@ -18,12 +19,12 @@ pub struct Output {
 /// The output of the lines that have these answers, one each, in order. It fails only for want of memory.
 pub fn make_output(
     alloc: Global,
-    lines: &[Line<'_>],
+    lines: &[SessionLine],
     answers: &[Answered],
 ) -> Result<Output, AllocError>
     requires { length answers.now ≡ length lines.now }
-    ensures { IfOk result (λ out. (share positions : ℕ) → AreReplies share positions (map seen lines.now) answers.now
-        → IsOutputOf share positions (map seen lines.now) (output_of out)) }
+    ensures { IfOk result (λ out. (share positions : ℕ) → AreReplies share positions (map line_of lines.now) answers.now
+        → IsOutputOf share positions (map line_of lines.now) (output_of out)) }
 {
     let mut out = Output {
         text: Vec::new(alloc),

@@ -4,8 +4,8 @@ ghost use Rattle.cg_io.specs.Faults.{Rose};
 ghost use Rattle.cg_words.specs.Accepted.{InRange, IsAccepted, settings_of};
 ghost use Rattle.cg_session.specs.Ends.{AnswersOrLacksMemory, EndsBeforeAnswers, IsWhole, UsageOrLacksMemory, Writes, WritesSession};
 ghost use Rattle.cg_session.specs.Input.{TakesAtMost};
-ghost use Rattle.cg_session.specs.Kept.{KeepsAnswers};
-ghost use Rattle.cg_session.specs.Lines.{answered_lines};
+ghost use Rattle.cg_session.specs.Kept.{KeepsSession};
+ghost use Rattle.cg_syntax.specs.Session.{answered_lines};
 ghost use Rattle.cg_session.specs.Settings.{IsWithinLimits, session_text};
 ghost use Rattle.cg_session.specs.Words.{texts};
 
@@ -78,7 +78,7 @@ pub fn run<R: Threads + Sync, S: Source, K: Sink, G: Gate>(
     ensures kept { IsWhole result
         → IfSome (session_text (settings_of (texts words.now)) (S.left source.old)) (λ text.
         MatchOption kept.new (answered_lines text ≡ []) (λ k.
-        KeepsAnswers (settings_of (texts words.now)) (answered_lines text) k.answers.items k.cells k.pass)) }
+        KeepsSession (settings_of (texts words.now)) text k.answers.items k.cells k.pass)) }
     ensures not_kept { ¬ IsWhole result → kept.new ≡ None }
 {
     match Settings::read(alloc, words) {
@@ -113,7 +113,7 @@ fn serve<R: Threads + Sync, S: Source, K: Sink, G: Gate>(
     ensures sink_never_falls { K.faults sink.old ≤ K.faults sink.new }
     ensures kept { IsWhole result → IfSome (session_text settings (S.left source.old)) (λ text.
         MatchOption kept.new (answered_lines text ≡ []) (λ k.
-        KeepsAnswers settings (answered_lines text) k.answers.items k.cells k.pass)) }
+        KeepsSession settings text k.answers.items k.cells k.pass)) }
     ensures not_kept { ¬ IsWhole result → kept.new ≡ None }
 {
     let text = match session_text(alloc, settings, source) {

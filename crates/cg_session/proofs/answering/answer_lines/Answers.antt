@@ -6,44 +6,40 @@ use Rattle.cg_shared.specs.Passes.{pass_state}
 use Rattle.cg_eval.specs.declared.answered.Answered.{Answered}
 use Rattle.cg_session.specs.Good.{IsGood}
 use Rattle.cg_session.specs.Output.{IsOutputOf}
-use Rattle.cg_session.specs.Outputs.{seen}
+use Rattle.cg_syntax.specs.SessionViews.{line_of}
 use Rattle.cg_session.specs.Settings.{share_of}
 use Rattle.cg_session.proofs.Shares.{share_is}
 use Rattle.cg_session.proofs.answering.answer_lines.Goals as goal
 
 pub returns-then-is_empty-clause-written : goal.returns-then-is_empty-clause-written
 returns-then-is_empty-clause-written g c =
-    let lines = map seen c.args.lines.now in
+    let lines = map line_of c.args.lines.now in
     let (out, is, same) = c.in_ok-output.ensures (share_of c.args.settings.cells (length lines)) c.args.settings.positions
     (λ n line answer at has. absurd cc) in
-    record { output = out; is_output = is; same = same }
+    (out, is, same)
 
 pub returns-clause-written : goal.returns-clause-written
 returns-clause-written g c =
-    let lines = map seen c.args.lines.now in
+    let lines = map line_of c.args.lines.now in
     let cells = c.args.settings.cells in
     let positions = c.args.settings.positions in
-    let long : length lines ≡ length c.args.lines.now = length-map c.args.lines.now seen in
+    let long : length lines ≡ length c.args.lines.now = length-map c.args.lines.now line_of in
     let some : 0 < length c.args.lines.now = search rules in
     let share : share_of cells (length lines) ≡ cells / length c.args.lines.now =
     ap (share_of cells) long ∙ share_is cells (length c.args.lines.now) some in
     let (out, is, same) = c.in_ok-output-2.ensures (cells / length c.args.lines.now) positions
     (λ n line answer at has.
     (c.in_ok-kept.ensures.good n answer (ap (λ (l : List Answered). slice_get l n) (sym c.deref.ensures.value) ∙ has) line at).reply) in
-    record {
-      output = out;
-      is_output = subst (λ (m : ℕ). IsOutputOf m positions lines out) (sym share) is;
-      same = same;
-    }
+    (out, subst (λ (m : ℕ). IsOutputOf m positions lines out) (sym share) is, same)
 
 pub returns-clause-kept : goal.returns-clause-kept
 returns-clause-kept g c =
-    let lines = map seen c.args.lines.now in
+    let lines = map line_of c.args.lines.now in
     let cells = c.args.settings.cells in
     let positions = c.args.settings.positions in
     let kept = c.in_ok-kept.kept in
     let of = c.in_ok-kept.ensures in
-    let long : length lines ≡ length c.args.lines.now = length-map c.args.lines.now seen in
+    let long : length lines ≡ length c.args.lines.now = length-map c.args.lines.now line_of in
     let some : 0 < length c.args.lines.now = search rules in
     let share : share_of cells (length lines) ≡ cells / length c.args.lines.now =
     ap (share_of cells) long ∙ share_is cells (length c.args.lines.now) some in
