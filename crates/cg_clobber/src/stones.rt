@@ -1,18 +1,19 @@
 //! The moves of Clobber.
-ghost use Rattle.std.specs.Prelude.{◌≡◌, ◌<◌, ◌≤◌, All, IfOk, IfSome, length, true};
-ghost use Rattle.cg_moves.specs.Grid.{AreCells};
-ghost use Rattle.cg_moves.specs.Rising.{with_all};
+ghost use Rattle.std.specs.Prelude.{◌≡◌, ◌++◌, ◌<◌, ◌≤◌, IfOk, IfSome, length, map, true};
+ghost use Rattle.std.specs.List.{flat_map};
+ghost use Rattle.cg_moves.specs.Grid.{with_cells};
+ghost use Rattle.cg_moves.specs.Rising.{counted};
 ghost use Rattle.cg_moves.specs.Words.{Marks};
 ghost use Rattle.cg_clobber.specs.CaptureWords.{AreCaptureWords};
 ghost use Rattle.cg_clobber.specs.Cuts.{stones-are};
 ghost use Rattle.cg_clobber.specs.Lawful.{clobber_lawful};
-ghost use Rattle.cg_clobber.specs.Moves.{captures_that_way, clobber, moves_at, moves_of, moves_that_way, next_cell, stones};
+ghost use Rattle.cg_clobber.specs.Moves.{captures_that_way, clobber, moves_at, moves_that_way, next_cell, stones, with_capture};
 
 use crate::Way;
 use crate::capturing::captures;
 use crate::symbols::{other, own};
 use cg_moves::words::bit;
-use cg_moves::{Board, Boards, Outcomes, Pieces, Player, Rules};
+use cg_moves::{Board, Boards, Pieces, Player, Rules, in_order};
 use cg_pieces::{NeighbourRules, pieces};
 use std::alloc::{AllocError, Global};
 
@@ -85,7 +86,26 @@ fn captures_of(board: &Board, player: Player) -> CaptureWords
     }
 }
 
-/// Takes in what the player's stone on this cell makes of the cells when it moves that way, if it captures.
+/// The board after the player's stone on the one cell has moved onto the other.
+fn moved(
+    alloc: Global,
+    board: &Board,
+    player: Player,
+    from: u8,
+    onto: u8,
+) -> Result<Board, AllocError>
+    requires has { clobber.has board.now ≡ true }
+    requires from { from < length board.now.cells }
+    requires onto { onto < length board.now.cells }
+    ensures { IfOk result (λ after. after ≡ with_cells board.now (with_capture player board.now from onto)) }
+{
+    let mut after = board.copy(alloc)?;
+    after.set(from, EMPTY);
+    after.set(onto, own(player));
+    Ok(after)
+}
+
+/// Puts the board after the move of the player's stone on this cell that way behind the boards, if it captures.
 fn put_move(
     alloc: Global,
     board: &Board,
@@ -93,12 +113,14 @@ fn put_move(
     from: u8,
     way: Way,
     word: u64,
-    outcomes: &mut Outcomes,
+    boards: &mut Vec<Board>,
 ) -> Result<(), AllocError>
+    requires has { clobber.has board.now ≡ true }
     requires from { from < length board.now.cells }
     requires few { length board.now.cells ≤ 64 }
     requires word { Marks word (captures_that_way player board.now way) }
-    ensures { IfOk result (λ _. outcomes.new ≡ with_all outcomes.old (moves_that_way player board.now from way)) }
+    ensures { IfOk result (λ _. boards.new.items ≡
+        boards.old.items ++ map (with_cells board.now) (moves_that_way player board.now from way)) }
 {
     if bit(word, from) == 0 {
         return Ok(());
@@ -106,53 +128,49 @@ fn put_move(
     let Some(onto) = next_cell(board, from, way) else {
         return Ok(());
     };
-    let mut cells = board.cells(alloc)?.into_vec();
-    cells[from as usize] = EMPTY;
-    cells[onto as usize] = own(player);
-    outcomes.add(cells)
+    let after = moved(alloc, board, player, from, onto)?;
+    boards.push(after)?;
+    Ok(())
 }
 
-/// Takes in what the player's stone on this cell makes of the cells.
+/// Puts the boards after the moves of the player's stone on this cell behind the boards.
 fn put_moves(
     alloc: Global,
     board: &Board,
     player: Player,
     from: u8,
     words: &CaptureWords,
-    outcomes: &mut Outcomes,
+    boards: &mut Vec<Board>,
 ) -> Result<(), AllocError>
+    requires has { clobber.has board.now ≡ true }
     requires from { from < length board.now.cells }
     requires few { length board.now.cells ≤ 64 }
     requires words { AreCaptureWords player board.now words.now }
-    ensures { IfOk result (λ _. outcomes.new ≡ with_all outcomes.old (moves_at player board.now from)) }
+    ensures { IfOk result (λ _. boards.new.items ≡
+        boards.old.items ++ map (with_cells board.now) (moves_at player board.now from)) }
 {
-    put_move(alloc, board, player, from, Way::Up, words.up, outcomes)?;
-    put_move(alloc, board, player, from, Way::Down, words.down, outcomes)?;
-    put_move(alloc, board, player, from, Way::Back, words.back, outcomes)?;
-    put_move(
-        alloc,
-        board,
-        player,
-        from,
-        Way::Forth,
-        words.forth,
-        outcomes,
-    )
+    let captures = words.up | words.down | words.back | words.forth;
+    if bit(captures, from) == 0 {
+        return Ok(());
+    }
+    put_move(alloc, board, player, from, Way::Up, words.up, boards)?;
+    put_move(alloc, board, player, from, Way::Down, words.down, boards)?;
+    put_move(alloc, board, player, from, Way::Back, words.back, boards)?;
+    put_move(alloc, board, player, from, Way::Forth, words.forth, boards)
 }
 
-/// What the player's stones make of the cells.
-fn outcomes_of(alloc: Global, board: &Board, player: Player) -> Result<Outcomes, AllocError>
+/// The boards after the player's moves, cell by cell.
+fn boards_of(alloc: Global, board: &Board, player: Player) -> Result<Vec<Board>, AllocError>
     requires { clobber.has board.now ≡ true }
-    ensures value { IfOk result (λ outcomes. outcomes ≡ moves_of player board.now) }
-    ensures cells { IfOk result (λ outcomes. All (AreCells board.now.symbols) outcomes) }
-    ensures size { IfOk result (λ outcomes. All (λ cells. length cells ≡ length board.now.cells) outcomes) }
+    ensures { IfOk result (λ boards. boards.items ≡
+        map (with_cells board.now) (flat_map (moves_at player board.now) (counted 0 (length board.now.cells)))) }
 {
     let words = captures_of(board, player);
-    let mut outcomes = Outcomes::new(alloc);
+    let mut boards = Vec::new(alloc);
     for from in 0..board.size() {
-        put_moves(alloc, board, player, from, &words, &mut outcomes)?;
+        put_moves(alloc, board, player, from, &words, &mut boards)?;
     }
-    Ok(outcomes)
+    Ok(boards)
 }
 
 impl NeighbourRules for Clobber {
@@ -177,7 +195,8 @@ impl Rules for Clobber {
     ghost game = { λ rules. clobber };
 
     fn moves(&self, alloc: Global, board: &Board, player: Player) -> Result<Boards, AllocError> {
-        outcomes_of(alloc, board, player)?.boards(alloc, board)
+        let boards = boards_of(alloc, board, player)?;
+        in_order(alloc, board, &boards)
     }
 
     fn pieces(&self, alloc: Global, board: &Board) -> Result<Pieces, AllocError> {

@@ -16,3 +16,6 @@ all_mapped {X} {Y} P f xs ys e h k d below =
 pub ok_along : {X E : Type 0} (r : Result X E) (a b : X) → a ≡ b → IfOk r (λ x. x ≡ a) → IfOk r (λ x. x ≡ b)
 ok_along (Ok x) a b e h = h ∙ e
 ok_along (Err f) a b e h = tt
+
+pub ok_is : {X E : Type 0} (a b : X) → ◌≡◌ {A = Result X E} (Ok a) (Ok b) → a ≡ b
+ok_is a b e = cc

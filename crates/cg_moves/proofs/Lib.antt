@@ -24,3 +24,7 @@ pub mod Carried
 pub mod WordBits
 pub mod Copied
 pub mod PlaneLemmas
+pub mod KeyLemmas
+pub mod Halves
+pub mod Differing
+pub mod Sorting

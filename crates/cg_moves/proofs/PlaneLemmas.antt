@@ -45,12 +45,12 @@ sum-bits n l = omega arith
 
 -- ---- the bits that planes have
 
-plane-inside : (symbols cells : List ℕ) (b i : ℕ) → i < length cells
+pub plane-inside : (symbols cells : List ℕ) (b i : ℕ) → i < length cells
     → plane_bit symbols cells b i ≡ bit_at (index_of symbols (slice_index cells i)) b
 plane-inside symbols cells b i l =
     ap (λ t. if t then bit_at (index_of symbols (slice_index cells i)) b else 0) (lt-ltb i (length cells) l)
 
-plane-outside : (symbols cells : List ℕ) (b i : ℕ) → length cells ≤ i → plane_bit symbols cells b i ≡ 0
+pub plane-outside : (symbols cells : List ℕ) (b i : ℕ) → length cells ≤ i → plane_bit symbols cells b i ≡ 0
 plane-outside symbols cells b i l =
     ap (λ t. if t then bit_at (index_of symbols (slice_index cells i)) b else 0) (le-ltb i (length cells) l)
 

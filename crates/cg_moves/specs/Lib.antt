@@ -1,5 +1,5 @@
+-- what public contracts cite
 pub mod Grid
-pub mod GridCode
 pub mod Words
 pub mod PlaneBits
 pub mod Reordered
@@ -7,12 +7,14 @@ pub mod Rules
 pub mod Total
 pub mod Raw
 pub mod Reach
-pub mod Kept
 pub mod Seen
 pub mod Rising
 pub mod Texts
 pub mod PieceReach
 pub mod Plays
-pub mod Walks
 pub mod Connected
 pub mod Cutting
+-- what private contracts cite, and what proofs need here
+pub mod GridCode
+pub mod Kept
+pub mod Walks

@@ -1,16 +1,40 @@
 -- The keys of boards, for look-ups.
-use Rattle.std.specs.Prelude.{◌↔◌, ℕ, IsTrue, List, ◌∷◌, map}
-use Rattle.std.specs.Str.{bytes_eq}
-use Rattle.std.specs.HashSet.{HashSet, contains_by}
-use Rattle.std.specs.Prelude.{Vec}
-use Rattle.cg_moves.specs.Grid.{Grid}
+use Rattle.std.specs.Prelude.{◌↔◌, ℕ, ◌+◌, ◌*◌, ◌==◌, ◌&&◌, Bool, IsTrue, List, [], ◌∷◌, map}
+use Rattle.std.specs.HashSet.{HashSet, contains}
+use Rattle.std.specs.Int.{bit_at}
+use Rattle.cg_moves.specs.declared.key.BoardKey.{BoardKey}
+use Rattle.cg_moves.specs.declared.planes.Planes.{Planes}
+use Rattle.cg_moves.specs.Grid.{Grid, IsGrid}
+use Rattle.cg_moves.specs.PlaneBits.{index_of}
 use Rattle.cg_moves.specs.Rules.{In}
 
--- the rows, columns and cells of a board, which tell it from others with the same symbols
-abbrev pub key_of : Grid → List ℕ
-key_of p = p.rows ∷ (p.columns ∷ p.cells)
+-- bit b of the index of each cell's symbol, the first cell's in the least bit
+abbrev pub word_of : List ℕ → ℕ → List ℕ → ℕ
+word_of symbols b [] = 0
+word_of symbols b (c ∷ cells) = bit_at (index_of symbols c) b + 2 * word_of symbols b cells
+
+-- the words 0 to 3 of these cells
+abbrev pub words_of : List ℕ → List ℕ → Planes
+words_of symbols cells = record {
+  a = word_of symbols 0 cells;
+  b = word_of symbols 1 cells;
+  c = word_of symbols 2 cells;
+  d = word_of symbols 3 cells;
+}
+
+-- the rows, columns and words of a board, which tell it from others with the same symbols
+abbrev pub key_of : Grid → BoardKey
+key_of p = record { rows = p.rows; columns = p.columns; planes = words_of p.symbols p.cells }
+
+-- whether the two are one key
+abbrev pub key_eq : BoardKey → BoardKey → Bool
+key_eq j k = (j.rows == k.rows) && ((j.columns == k.columns) && ((j.planes.a == k.planes.a) && ((j.planes.b == k.planes.b)
+    && ((j.planes.c == k.planes.c) && (j.planes.d == k.planes.d)))))
 
 -- the set has exactly the keys of the boards
-abbrev pub HasKeys : {A S : Type 0} → HashSet (Vec ℕ A) S → List Grid → Type 0
-HasKeys {A} {S} set boards =
-    (key : List ℕ) → IsTrue (contains_by (λ k. bytes_eq key k.items) set) ↔ In key (map key_of boards)
+abbrev pub HasKeys : {S : Type 0} → HashSet BoardKey S → List Grid → Type 0
+HasKeys {S} set boards = (key : BoardKey) → IsTrue (contains key_eq set key) ↔ In key (map key_of boards)
+
+-- each of the list is a board
+abbrev pub AreGrids : List Grid → Type 0
+AreGrids ps = (p : Grid) → In p ps → IsGrid p

@@ -1,13 +1,15 @@
 //! Boards.
-ghost use Rattle.std.specs.Prelude.{◌≡◌, ◌*◌, ◌%◌, ◌<◌, ◌≤◌, ◌==◌, ◌&&◌, nat_lt, true, length, slice_index, slice_set, take, Contains, IfOk, Ok};
-ghost use Rattle.cg_moves.specs.Grid.{AreCells, IsGrid, are_symbols, with_cells};
-ghost use Rattle.cg_moves.specs.PlaneBits.{ArePlanes};
+ghost use Rattle.std.specs.Prelude.{◌≡◌, ◌*◌, ◌%◌, ◌<◌, ◌≤◌, ◌==◌, ◌&&◌, nat_lt, not, true, length, slice_index, slice_set, take, Contains, IfOk, Ok};
+ghost use Rattle.cg_moves.specs.Grid.{AreCells, IsGrid, IsLike, are_symbols, with_cells};
+ghost use Rattle.cg_moves.specs.PlaneBits.{ArePlanes, IsGridBy, grid_by, index_of};
+ghost use Rattle.cg_moves.specs.Rising.{bytes_cmp};
 ghost use Rattle.cg_moves.specs.Words.{Marks};
 
 use crate::planes::{index_in, planes_of};
 use crate::words::{all_cells, first_column};
 use crate::{Cells, Planes};
 use std::alloc::{AllocError, Global};
+use std::cmp::Ordering;
 use std::marker::Model;
 
 /// A board: its rows and columns, the symbols that its cells may have, and its cells.
@@ -91,6 +93,20 @@ impl Board {
         })
     }
 
+    /// The board of these rows and columns with the same symbols, whose cells these words are.
+    pub fn with_planes(&self, rows: u8, columns: u8, planes: Planes) -> Board
+        requires { IsGridBy rows columns self.now.symbols planes }
+        ensures { result ≡ grid_by rows columns self.now.symbols planes }
+    {
+        Board {
+            rows,
+            columns,
+            count: self.count,
+            symbols: self.symbols,
+            planes,
+        }
+    }
+
     /// How many rows there are.
     pub fn rows(&self) -> u8
         ensures value { result ≡ self.now.rows }
@@ -113,6 +129,15 @@ impl Board {
         ensures grid { IsGrid self.now }
     {
         &self.symbols[..self.count as usize]
+    }
+
+    /// The index of the symbol in the row of symbols.
+    pub fn index(&self, symbol: u8) -> u8
+        requires { Contains self.now.symbols symbol }
+        ensures value { result ≡ index_of self.now.symbols symbol }
+        ensures below { result < 16 }
+    {
+        index_in(self.symbols(), symbol)
     }
 
     /// How many cells there are.
@@ -183,5 +208,30 @@ impl Board {
     {
         let symbols = &self.symbols[..self.count as usize];
         self.planes = self.planes.with_symbol(symbols, index, symbol);
+    }
+
+    /// The cells that have another symbol on the other board, which is like this one.
+    fn differing(&self, other: &Board) -> u64
+        requires { IsLike self.now other.now }
+        ensures cells { Marks result (λ i. not (slice_index self.now.cells i == slice_index other.now.cells i)) }
+        ensures grid { IsGrid self.now }
+        ensures other { IsGrid other.now }
+    {
+        let here = self.planes();
+        let there = other.planes();
+        (here.a ^ there.a | here.b ^ there.b) | (here.c ^ there.c | here.d ^ there.d)
+    }
+
+    /// Which of the two boards, which are like each other, has the lower cells by their bytes.
+    pub(crate) fn order(&self, other: &Board) -> Ordering
+        requires { IsLike self.now other.now }
+        ensures { result ≡ bytes_cmp self.now.cells other.now.cells }
+    {
+        let differing = self.differing(other);
+        if differing == 0 {
+            return Ordering::Equal;
+        }
+        let place = differing.trailing_zeros() as u8;
+        self.cell(place).cmp(&other.cell(place))
     }
 }

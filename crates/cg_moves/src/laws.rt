@@ -1,11 +1,12 @@
 //! Laws of the boards that play comes to: each function does nothing, and its contract is the law.
 ghost use Rattle.std.specs.Prelude.{◌≡◌, ◌↔◌, ℕ, List, true};
-ghost use Rattle.cg_moves.specs.Grid.{Grid};
+ghost use Rattle.cg_moves.specs.Grid.{Grid, IsGrid};
 ghost use Rattle.cg_moves.specs.Raw.{IsSumOfPieces, IsTreeOfMoves};
 ghost use Rattle.cg_moves.specs.PieceReach.{IsListOfPieceReached};
 ghost use Rattle.cg_moves.specs.Reach.{IsListOfReached};
 ghost use Rattle.cg_moves.specs.Rising.{IsRising, rising};
 ghost use Rattle.cg_moves.specs.Rules.{In};
+ghost use Rattle.cg_moves.specs.Seen.{key_of};
 
 use crate::Rules;
 
@@ -37,4 +38,9 @@ pub fn l9<R: Rules>(rules: &R)
 pub fn reached_pieces<R: Rules>(rules: &R)
     ensures { (p : Grid) → (R.game rules.now).cuts ≡ true → (R.game rules.now).has p ≡ true
         → IsListOfPieceReached (R.game rules.now) p }
+{}
+
+/// Boards with the same symbols have the same key exactly if they are equal.
+pub fn keys()
+    ensures { (p q : Grid) → IsGrid p → IsGrid q → p.symbols ≡ q.symbols → (key_of p ≡ key_of q) ↔ (p ≡ q) }
 {}

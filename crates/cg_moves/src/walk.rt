@@ -77,14 +77,14 @@ fn step<R: Rules>(
     let Walk { seen, tasks } = walk;
     match task {
         Task::Enter(board) => {
-            if seen.has(alloc, &board)? {
+            if seen.has(&board) {
                 return Ok(Walk { seen, tasks });
             }
             let tasks = expand(alloc, rules, course, tasks, board)?;
             Ok(Walk { seen, tasks })
         }
         Task::Leave(board) => {
-            let seen = seen.add(alloc, board, limit)?;
+            let seen = seen.add(board, limit)?;
             Ok(Walk { seen, tasks })
         }
     }

@@ -1,20 +1,19 @@
--- First cells of joined sets in which some player has a move, as labels tell them.
-use Rattle.std.proofs.Common.{◌≡◌, refl, ℕ, ◌+◌, ◌<◌, ◌&&◌, ◌||◌, ◌⊎◌, inl, inr, Bool, true, false, not, nat_le, if◌then◌else◌, IsTrue, List, [], ◌∷◌, ◌++◌, cond, filter, length, map, slice_index, ap, sym, ◌∙◌, subst, arith}
-use Rattle.std.proofs.lemmas.Bool.{le-leb}
-use Rattle.cg_dyadic.proofs.Truth.{and-both, and-split, false-from, true-or-not, true_not}
+-- Joined sets in which some player has a move, and what is taken of their first cells.
+use Rattle.std.proofs.Common.{◌≡◌, refl, ℕ, suc, ◌+◌, ◌<◌, ◌&&◌, ◌||◌, ◌⊎◌, inl, inr, Bool, true, false, if◌then◌else◌, IsTrue, List, [], ◌∷◌, ◌++◌, cond, filter, length, map, ap, sym, ◌∙◌, subst, arith}
+use Rattle.std.proofs.lemmas.List.{append-nil}
+use Rattle.cg_dyadic.proofs.Truth.{and-both, and-split}
 use Rattle.cg_moves.specs.declared.player.Player.{Player}
 use Rattle.cg_moves.specs.declared.player.Player.TheVariants.{Left, Right}
 use Rattle.cg_moves.specs.Grid.{Grid}
 use Rattle.cg_moves.specs.Rising.{counted}
 use Rattle.cg_moves.proofs.ConnectedLemmas.{or-cases, or-first, or-second}
+use Rattle.cg_moves.proofs.Counted.{counted-next}
 use Rattle.cg_moves.proofs.Totals.{map-append}
-use Rattle.cg_pieces.specs.Boxes.{cropped}
 use Rattle.cg_pieces.specs.Cells.{Joined}
 use Rattle.cg_pieces.specs.Cells.Linked.{step}
-use Rattle.cg_pieces.specs.Labels.{AreJoinedBy, MovesWith, has_label, is_behind, moves_between}
-use Rattle.cg_pieces.specs.Neighbours.{IsNeighbours, Neighbours, are_joined, cell_game, has_move, has_move_at, is_below, is_beside, is_first, is_least, is_piece_cell, may_move}
-use Rattle.cg_pieces.proofs.Labelled.{counted-to, joined-same, least-own, own-least, same-tests, set-label}
-use Rattle.cg_pieces.proofs.NeighbourSets.{any-one, at-cell, each-all, either, joined-so, may-parts, next-sym, one-any, piece-cell-below, so-joined}
+use Rattle.cg_pieces.specs.Moving.{MovesWith, is_behind, moves_between}
+use Rattle.cg_pieces.specs.Neighbours.{IsNeighbours, Neighbours, are_joined, cell_game, has_move, has_move_at, is_below, is_beside, is_piece_cell, may_move}
+use Rattle.cg_pieces.proofs.NeighbourSets.{any-one, at-cell, either, joined-so, may-parts, next-sym, one-any, piece-cell-below, so-joined}
 
 module _ (n : Neighbours) (laws : IsNeighbours n) (p : Grid) where
   -- a move on two cells that some player has, of which this is the one
@@ -36,6 +35,17 @@ module _ (n : Neighbours) (laws : IsNeighbours n) (p : Grid) where
           | inl a ↦ record { player = Left; one = l; other = k; legal = a; cells = inr (refl, refl) }
           | inr a ↦ record { player = Right; one = l; other = k; legal = a; cells = inr (refl, refl) }
         ]
+      ]
+
+  -- cells on which some player has a move form pieces
+  pub moves-open : (k l : ℕ) → moves_between n p k l ≡ true → (is_piece_cell n p k ≡ true) × (is_piece_cell n p l ≡ true)
+  moves-open k l t =
+      let s = some-move k l t in
+      let parts = may-parts n laws s.player p s.one s.other s.legal in
+      let P : ℕ → Type 0 = λ z. is_piece_cell n p z ≡ true in
+      elim s.cells [
+        | inl same ↦ (subst P same.0 parts.0, subst P same.1 parts.1)
+        | inr same ↦ (subst P same.1 parts.1, subst P same.0 parts.0)
       ]
 
   -- a player who may move on two adjacent cells, of which one is behind the other
@@ -84,21 +94,16 @@ module _ (n : Neighbours) (laws : IsNeighbours n) (p : Grid) where
         ]
       ]
 
-  module _ (labels : List ℕ) (all : AreJoinedBy n p labels) (first : ℕ) (below : first < length p.cells)
-      (own : slice_index labels first ≡ first) where
-    -- a move with a cell that has the label is one in the set
-    pub has-move : (k : ℕ) → k < length p.cells → slice_index labels k ≡ first → MovesWith n p k
-        → has_move n p first ≡ true
-    has-move k below_k e m =
+  module _ (first : ℕ) where
+    -- a move with a cell that is joined with this one is one in its set
+    pub joined-move : (k : ℕ) → Joined (cell_game n) p first k → MovesWith n p k → has_move n p first ≡ true
+    joined-move k to_k m =
         let s = some-move k m.other m.move in
         let parts = may-parts n laws s.player p s.one s.other s.legal in
-        let to_k : are_joined n p first k ≡ true = all.are.joined first k below below_k (own ∙ sym e) in
+        let P : ℕ → Type 0 = λ z. Joined (cell_game n) p first z in
         let to_one : Joined (cell_game n) p first s.one = elim s.cells [
-          | inl same ↦ (let P : ℕ → Type 0 = λ z. Joined (cell_game n) p first z in
-              subst P (sym same.0) (joined-so n laws p first k to_k))
-          | inr same ↦ (let P : ℕ → Type 0 = λ z. Joined (cell_game n) p first z in
-              let to_other : Joined (cell_game n) p first s.other = subst P (sym same.1) (joined-so n laws p first k to_k) in
-              step s.other s.one to_other parts.1 parts.0 (next-sym p.columns s.one s.other parts.2))
+          | inl same ↦ subst P (sym same.0) to_k
+          | inr same ↦ step s.other s.one (subst P (sym same.1) to_k) parts.1 parts.0 (next-sym p.columns s.one s.other parts.2)
         ] in
         let at_one : IsTrue (has_move_at n p s.one) =
         one-any (λ l. may_move n Left p s.one l || may_move n Right p s.one l) s.other (counted 0 (length p.cells))
@@ -107,11 +112,10 @@ module _ (n : Neighbours) (laws : IsNeighbours n) (p : Grid) where
         (at-cell n laws p s.one parts.0)
         (and-both (are_joined n p first s.one) (has_move_at n p s.one) (so-joined n laws p first s.one to_one) at_one)
 
-    -- where there is one in the set, it is one with a cell that has the label
-    pub move-had : has_move n p first ≡ true
-        → ((k : ℕ) → k < length p.cells → slice_index labels k ≡ first → (l : ℕ) → l < length p.cells
-        → is_behind p k l ≡ true → moves_between n p k l ≡ true → ⊥) → ⊥
-    move-had h none =
+    -- where there is one in the set, it is one with a cell that is joined with this one
+    pub move-joined : has_move n p first ≡ true → ((k l : ℕ) → Joined (cell_game n) p first k → is_behind p k l ≡ true
+        → moves_between n p k l ≡ true → ⊥) → ⊥
+    move-joined h none =
         let (one, i, c) = any-one (λ l. are_joined n p first l && has_move_at n p l) (counted 0 (length p.cells)) h in
         let d = and-split (are_joined n p first one) (has_move_at n p one) c in
         let (other, j, e) = any-one (λ l. may_move n Left p one l || may_move n Right p one l) (counted 0 (length p.cells)) d.1 in
@@ -123,67 +127,18 @@ module _ (n : Neighbours) (laws : IsNeighbours n) (p : Grid) where
         go : (player : Player) (one other : ℕ) → Joined (cell_game n) p first one → may_move n player p one other ≡ true → ⊥
         go player one other to_one legal =
             let parts = may-parts n laws player p one other legal in
-            let to_other = step one other to_one parts.0 parts.1 parts.2 in
             let b = behind-of player one other legal in
-            let label_one = sym (joined-same n laws p labels all first one to_one) ∙ own in
-            let label_other = sym (joined-same n laws p labels all first other to_other) ∙ own in
+            let P : ℕ → Type 0 = λ z. Joined (cell_game n) p first z in
             elim b.cells [
-              | inl same ↦ none b.first (omega (arith, same, piece-cell-below n laws p one parts.0))
-                  (ap (slice_index labels) same ∙ label_one) b.second b.inside b.behind b.moves
-              | inr same ↦ none b.first (omega (arith, same, piece-cell-below n laws p other parts.1))
-                  (ap (slice_index labels) same ∙ label_other) b.second b.inside b.behind b.moves
+              | inl same ↦ none b.first b.second (subst P (sym same) to_one) b.behind b.moves
+              | inr same ↦ none b.first b.second (subst P (sym same) (step one other to_one parts.0 parts.1 parts.2))
+                  b.behind b.moves
             ]
 
-  -- ---- first cells
-
-  module _ (labels : List ℕ) (all : AreJoinedBy n p labels) where
-    pub is-first : (k : ℕ) → is_piece_cell n p k ≡ true → slice_index labels k ≡ k → has_move n p k ≡ true
-        → is_first n p k ≡ true
-    is-first k some own moves =
-        let least : is_least n p k ≡ true =
-        each-all (λ l. not (are_joined n p k l) || nat_le k l) (counted 0 (length p.cells))
-        (λ l m. elim (true-or-not (are_joined n p k l)) [
-          | inl t ↦ or-second (not (are_joined n p k l)) (nat_le k l)
-              (le-leb k l (own-least n laws p labels all k some own l (joined-so n laws p k l t)))
-          | inr o ↦ or-first (not (are_joined n p k l)) (nat_le k l) (true_not (are_joined n p k l) o)
-        ]) in
-        and-both (is_piece_cell n p k) (is_least n p k && has_move n p k) some
-        (and-both (is_least n p k) (has_move n p k) least moves)
-
-    -- the three facts that make a first cell
-    pub record FirstParts (k : ℕ) : Type 0 where
-      pub some : is_piece_cell n p k ≡ true
-      pub own : slice_index labels k ≡ k
-      pub moves : has_move n p k ≡ true
-
-    pub first-parts : (k : ℕ) → is_first n p k ≡ true → FirstParts k
-    first-parts k t =
-        let a = and-split (is_piece_cell n p k) (is_least n p k && has_move n p k) t in
-        let b = and-split (is_least n p k) (has_move n p k) a.1 in record {
-          some = a.0;
-          own = least-own n laws p labels all k a.0 b.0;
-          moves = b.1;
-        }
-
-    pub cell-first : (k : ℕ) → is_piece_cell n p k ≡ true → slice_index labels k ≡ k → has_move n p k ≡ is_first n p k
-    cell-first k some own =
-        same-tests (has_move n p k) (is_first n p k) (is-first k some own) (λ t. (first-parts k t).moves)
-
-    pub no-first : (k : ℕ) → ¬ (slice_index labels k ≡ k) → is_first n p k ≡ false
-    no-first k other = false-from (is_first n p k) (λ t. other (first-parts k t).own)
-
-    pub no-piece : (k : ℕ) → ¬ IsTrue (is_piece_cell n p k) → is_first n p k ≡ false
-    no-piece k none = false-from (is_first n p k) (λ t. none (first-parts k t).some)
-
-    -- the board of the cells with the label of a first cell is the piece of its set
-    pub crop-label : (k : ℕ) → is_first n p k ≡ true
-        → cropped n.blank (has_label labels k) p ≡ cropped n.blank (are_joined n p k) p
-    crop-label k t =
-        let f = first-parts k t in
-        let same : (l : ℕ) → has_label labels k l ≡ are_joined n p k l = set-label n laws p labels all k f.some f.own in
-        λ i. cropped n.blank (λ l. same l i) p
-
 -- ---- one cell after another
+
+counted-to : (n : ℕ) → counted 0 (n + 1) ≡ counted 0 n ++ (n ∷ [])
+counted-to n = let up : n + 1 ≡ suc n = omega arith in ap (counted 0) up ∙ counted-next n
 
 filter-append : (test : ℕ → Bool) (xs ys : List ℕ) → filter test (xs ++ ys) ≡ filter test xs ++ filter test ys
 filter-append test [] ys = refl
@@ -207,3 +162,8 @@ one-more test f k old new e h =
     last : (b : Bool) → map f (cond b (k ∷ []) []) ≡ (if b then f k ∷ [] else [])
     last true = refl
     last false = refl
+
+pub none-more : (test : ℕ → Bool) (f : ℕ → Grid) (k : ℕ) (old : List Grid) → test k ≡ false
+    → old ≡ map f (filter test (counted 0 k)) → old ≡ map f (filter test (counted 0 (k + 1)))
+none-more test f k old none e =
+    one-more test f k old old e (sym (append-nil old) ∙ ap (λ t. old ++ (if t then f k ∷ [] else [])) (sym none))

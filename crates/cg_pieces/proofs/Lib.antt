@@ -12,6 +12,16 @@ pub mod Changed
 pub mod Numbers
 pub mod NeighbourCuts
 pub mod Lines
-pub mod Labelled
 pub mod FirstCells
 pub mod Frames
+pub mod GrowingSets
+pub mod GrownSets
+pub mod OpenWords
+pub mod TakenSets
+pub mod ShownWords
+pub mod LastBits
+pub mod MovingWords
+pub mod MovingPairs
+pub mod RowWords
+pub mod FrameWords
+pub mod CropWords

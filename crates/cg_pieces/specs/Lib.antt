@@ -1,5 +1,8 @@
+-- what public contracts cite
 pub mod Cells
 pub mod Boxes
 pub mod Neighbours
-pub mod Labels
-pub mod Spans
+-- what private contracts cite, and what proofs need here
+pub mod Moving
+pub mod Frames
+pub mod Words

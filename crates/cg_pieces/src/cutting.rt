@@ -1,88 +1,38 @@
 //! The pieces of a board.
-ghost use Rattle.std.specs.Prelude.{◌≡◌, ◌++◌, ℕ, ◌<◌, true, Contains, IfOk, IfSome, IsTrue, Some, length, slice_index};
+ghost use Rattle.std.specs.Prelude.{◌≡◌, ◌++◌, Contains, IfOk};
 ghost use Rattle.cg_pieces.specs.Cells.{pieces_of};
-ghost use Rattle.cg_pieces.specs.Labels.{AreJoinedBy, MovesWith, is_behind, moves_between, piece_at};
-ghost use Rattle.cg_pieces.specs.Neighbours.{cell_game, has_move, is_first};
+ghost use Rattle.cg_pieces.specs.Moving.{piece_at};
+ghost use Rattle.cg_pieces.specs.Neighbours.{cell_game};
+ghost use Rattle.cg_pieces.specs.Words.{AreMoving, IsTaken};
 
 use crate::NeighbourRules;
-use crate::adjacent::{below, beside, have_move};
+use crate::field::field_of;
 use crate::frame::crop;
-use crate::labels::labels_of;
+use crate::moving::moving_cells;
+use cg_moves::words::bit;
 use cg_moves::{Board, Boards};
 use std::alloc::{AllocError, Global};
 
-/// Whether some player has a move on the cell and the other, if there is another.
-fn moves_with<N: NeighbourRules>(rules: &N, board: &Board, cell: u8, other: Option<u8>) -> bool
-    requires cell { cell < length board.now.cells }
-    requires other { IfSome other (λ other. other < length board.now.cells) }
-    ensures some { IsTrue result → MovesWith (N.neighbours rules.now) board.now cell }
-    ensures all { (k : ℕ) → other ≡ Some k → moves_between (N.neighbours rules.now) board.now cell k ≡ true → IsTrue result }
-{
-    match other {
-        Some(other) => have_move(rules, board, cell, other),
-        None => false,
-    }
-}
-
-/// Whether some player has a move on the cell and the one below it or the next one in its row.
-fn moves_at<N: NeighbourRules>(rules: &N, board: &Board, cell: u8) -> bool
-    requires { cell < length board.now.cells }
-    ensures some { IsTrue result → MovesWith (N.neighbours rules.now) board.now cell }
-    ensures all { (k : ℕ) → k < length board.now.cells → is_behind board.now cell k ≡ true
-        → moves_between (N.neighbours rules.now) board.now cell k ≡ true → IsTrue result }
-{
-    moves_with(rules, board, cell, below(board, cell))
-        || moves_with(rules, board, cell, beside(board, cell))
-}
-
-/// Whether some player has a move in the joined set of which this is the first cell.
-fn has_move<N: NeighbourRules>(rules: &N, board: &Board, labels: &[u8], first: u8) -> bool
-    requires labels { AreJoinedBy (N.neighbours rules.now) board.now labels.now }
-    requires cell { first < length board.now.cells }
-    requires first { slice_index labels.now first ≡ first }
-    ensures { result ≡ has_move (N.neighbours rules.now) board.now first }
-{
-    for cell in 0..board.size() {
-        if labels[cell as usize] == first && moves_at(rules, board, cell) {
-            return true;
-        }
-    }
-    false
-}
-
-/// Whether this is the first cell of a joined set in which some player has a move.
-fn is_first<N: NeighbourRules>(rules: &N, board: &Board, labels: &[u8], cell: u8) -> bool
-    requires labels { AreJoinedBy (N.neighbours rules.now) board.now labels.now }
-    requires cell { cell < length board.now.cells }
-    ensures { result ≡ is_first (N.neighbours rules.now) board.now cell }
-{
-    if labels[cell as usize] != cell {
-        return false;
-    }
-    rules.forms_pieces(board.cell(cell)) && has_move(rules, board, labels, cell)
-}
-
-/// The boards, with the piece of the set of which this is the first cell behind them, if it is one and some player has a move
-/// in the set.
+/// The boards, with the piece of this set behind them, if some player has a move in it.
 fn with_piece<N: NeighbourRules>(
-    alloc: Global,
     rules: &N,
     board: &Board,
-    labels: &[u8],
+    moving: u64,
+    set: u64,
     cell: u8,
     boards: Vec<Board>,
 ) -> Result<Vec<Board>, AllocError>
     requires blank { Contains board.now.symbols (N.neighbours rules.now).blank }
-    requires labels { AreJoinedBy (N.neighbours rules.now) board.now labels.now }
-    requires cell { cell < length board.now.cells }
+    requires moving { AreMoving (N.neighbours rules.now) board.now moving }
+    requires set { IsTaken (N.neighbours rules.now) board.now cell set }
     ensures { IfOk result (λ more. more.items ≡ boards.items ++ piece_at (N.neighbours rules.now) board.now cell) }
 {
-    if is_first(rules, board, labels, cell) {
-        let piece = crop(alloc, board, labels, cell, rules.blank())?;
-        let mut boards = boards;
-        boards.push(piece)?;
+    if set & moving == 0 {
         return Ok(boards);
     }
+    let piece = crop(board, set, cell, rules.blank());
+    let mut boards = boards;
+    boards.push(piece)?;
     Ok(boards)
 }
 
@@ -96,10 +46,17 @@ pub fn pieces<N: NeighbourRules>(
     requires { Contains board.now.symbols (N.neighbours rules.now).blank }
     ensures { IfOk result (λ boards. boards ≡ pieces_of (cell_game (N.neighbours rules.now)) board.now) }
 {
-    let labels = labels_of(alloc, rules, board)?;
+    let field = field_of(rules, board);
+    let moving = moving_cells(rules, board, field);
     let mut boards = Vec::new(alloc);
+    let mut left = field.cells;
     for cell in 0..board.size() {
-        boards = with_piece(alloc, rules, board, &labels, cell, boards)?;
+        if bit(left, cell) == 0 {
+            continue;
+        }
+        let set = field.joined(cell);
+        boards = with_piece(rules, board, moving, set, cell, boards)?;
+        left &= !set;
     }
     Ok(Boards::of(boards))
 }

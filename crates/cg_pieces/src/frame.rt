@@ -1,20 +1,13 @@
-//! The board of the rows and columns that bound a set of cells.
-ghost use Rattle.std.specs.Prelude.{◌≡◌, ◌<◌, true, Contains, IfOk, length};
-ghost use Rattle.cg_pieces.specs.Boxes.{cropped, set_box, shown_cell};
-ghost use Rattle.cg_pieces.specs.Labels.{has_label};
-ghost use Rattle.cg_pieces.specs.Spans.{IsSpan, IsWidened, box_from};
+//! The board of the rows and columns that bound a set of cells, in words.
+ghost use Rattle.std.specs.Prelude.{◌≡◌, ℕ, ◌+◌, ◌*◌, ◌<◌, ◌≤◌, ◌==◌, ◌&&◌, nat_lt, if◌then◌else◌, Contains};
+ghost use Rattle.std.specs.Int.{bit_at};
+ghost use Rattle.cg_moves.specs.PlaneBits.{ArePlanes};
+ghost use Rattle.cg_pieces.specs.Boxes.{cropped, set_box, unboxed};
+ghost use Rattle.cg_pieces.specs.Frames.{IsBoxIn, box_from};
+ghost use Rattle.cg_pieces.specs.Words.{IsInOneRow, IsSet, IsSetFrom, in_word};
 
-use cg_moves::Board;
-use std::alloc::{AllocError, Global};
-
-/// The first and the last row and column of some cells.
-#[derive(Clone, Copy)]
-struct Span {
-    top: u8,
-    bottom: u8,
-    left: u8,
-    right: u8,
-}
+use cg_moves::words::{all_cells, bit, moved_back, moved_on};
+use cg_moves::{Board, Planes};
 
 /// So many rows and columns from a first row and column on.
 #[derive(Clone, Copy)]
@@ -25,112 +18,102 @@ struct Frame {
     columns: u8,
 }
 
-/// The span with one more cell, in this row and column.
-fn widened(span: Span, row: u8, column: u8) -> Span
-    ensures { IsWidened span row column result }
+/// The cells of a set in all rows, as if they stood in one row.
+fn in_one_row(set: u64, rows: u8, columns: u8) -> u64
+    requires some { 1 ≤ columns }
+    requires few { rows * columns ≤ 64 }
+    requires columns { columns ≤ 64 }
+    ensures { IsInOneRow columns (rows * columns) set result }
 {
-    Span {
-        top: span.top.min(row),
-        bottom: span.bottom.max(row),
-        left: span.left.min(column),
-        right: span.right.max(column),
+    let row_cells = all_cells(columns);
+    let mut found = 0;
+    for row in 0..rows {
+        found |= moved_back(set, row * columns) & row_cells;
     }
+    found
 }
 
-/// The span of the cells with the label, of which this is the first.
-fn span_of(board: &Board, labels: &[u8], first: u8) -> Span
-    requires size { length labels.now ≡ length board.now.cells }
-    requires first { has_label labels.now first first ≡ true }
-    ensures { IsSpan board.now (has_label labels.now first) result }
+/// The place of the last bit that is 1.
+fn last_bit(word: u64) -> u8
+    requires { 0 < word }
+    ensures one { bit_at word result ≡ 1 }
+    ensures last { (k : ℕ) → bit_at word k ≡ 1 → k ≤ result }
 {
-    let size = board.size();
+    63 - word.leading_zeros() as u8
+}
+
+/// The rows and columns that bound the set, of which this is the first cell.
+fn frame_of(board: &Board, set: u64, first: u8) -> Frame
+    requires { IsSetFrom board.now set first }
+    ensures { box_from result ≡ set_box (in_word set) board.now }
+{
     let columns = board.columns();
-    let mut span = Span {
-        top: first / columns,
-        bottom: first / columns,
-        left: first % columns,
-        right: first % columns,
-    };
-    for cell in 0..size {
-        if labels[cell as usize] == first {
-            span = widened(span, cell / columns, cell % columns);
-        }
-    }
-    span
-}
-
-/// The rows and columns that bound the cells with the label, of which this is the first.
-fn frame_of(board: &Board, labels: &[u8], first: u8) -> Frame
-    requires size { length labels.now ≡ length board.now.cells }
-    requires first { has_label labels.now first first ≡ true }
-    ensures { box_from result ≡ set_box (has_label labels.now first) board.now }
-{
-    // Read for the proof alone: the board has its cells in rows and columns.
-    let _size = board.size();
-    let span = span_of(board, labels, first);
+    let top = first / columns;
+    let bottom = last_bit(set) / columns;
+    let line = in_one_row(set, board.rows(), columns);
+    let left = line.trailing_zeros() as u8;
+    let right = last_bit(line);
     Frame {
-        top: span.top,
-        left: span.left,
-        rows: span.bottom - span.top + 1,
-        columns: span.right - span.left + 1,
+        top,
+        left,
+        rows: bottom - top + 1,
+        columns: right - left + 1,
     }
 }
 
-/// The symbol of the cell if it has the label, and else blank.
-fn shown_cell(board: &Board, labels: &[u8], first: u8, blank: u8, cell: u8) -> u8
-    requires size { length labels.now ≡ length board.now.cells }
-    requires cell { cell < length board.now.cells }
-    ensures { result ≡ shown_cell blank (has_label labels.now first) board.now.cells cell }
+/// The bits of the word within the frame, row by row.
+fn cut_out(word: u64, columns: u8, frame: Frame) -> u64
+    requires { IsBoxIn columns (box_from frame) }
+    ensures { (m : ℕ) → bit_at result m
+        ≡ (if nat_lt m (frame.rows * frame.columns) then bit_at word (unboxed (box_from frame) columns m) else 0) }
 {
-    if labels[cell as usize] == first {
-        board.cell(cell)
-    } else {
-        blank
+    if word == 0 {
+        return 0;
     }
+    let row_cells = all_cells(frame.columns);
+    let mut found = 0;
+    for row in 0..frame.rows {
+        let line = moved_back(word, (frame.top + row) * columns + frame.left) & row_cells;
+        found |= moved_on(line, row * frame.columns);
+    }
+    found
 }
 
-/// The cells of the board of the cells with the label.
-fn shown_cells(
-    alloc: Global,
-    board: &Board,
-    labels: &[u8],
-    first: u8,
-    blank: u8,
-    frame: Frame,
-) -> Result<Vec<u8>, AllocError>
-    requires size { length labels.now ≡ length board.now.cells }
-    requires first { has_label labels.now first first ≡ true }
-    requires frame { box_from frame ≡ set_box (has_label labels.now first) board.now }
-    ensures { IfOk result (λ cells. cells.items ≡ (cropped blank (has_label labels.now first) board.now).cells) }
+/// The word in the set, and this bit, 0 or 1, at all other places.
+fn shown(word: u64, set: u64, bit: u8) -> u64
+    requires { bit ≤ 1 }
+    ensures { (k : ℕ) → k < 64 → bit_at result k ≡ (if in_word set k then bit_at word k else bit) }
 {
-    // Read for the proof alone: the board has its cells in rows and columns.
-    let _size = board.size();
-    let mut cells = Vec::new(alloc);
-    for place in 0..frame.rows * frame.columns {
-        let row = frame.top + place / frame.columns;
-        let column = frame.left + place % frame.columns;
-        let cell = board.columns() * row + column;
-        cells.push(shown_cell(board, labels, first, blank, cell))?;
-    }
-    Ok(cells)
+    if bit == 0 { word & set } else { word | !set }
 }
 
-/// The board of the cells with the label, of which this is the first, with all other cells blank.
-pub(crate) fn crop(
-    alloc: Global,
-    board: &Board,
-    labels: &[u8],
-    first: u8,
-    blank: u8,
-) -> Result<Board, AllocError>
-    requires size { length labels.now ≡ length board.now.cells }
-    requires first { has_label labels.now first first ≡ true }
+/// The words of the board of the set, which this frame bounds, with all other cells blank.
+fn planes_in(board: &Board, set: u64, frame: Frame, blank: u8) -> Planes
+    requires set { IsSet board.now set }
+    requires frame { box_from frame ≡ set_box (in_word set) board.now }
     requires blank { Contains board.now.symbols blank }
-    ensures { IfOk result (λ piece. piece ≡ cropped blank (has_label labels.now first) board.now) }
+    ensures { ArePlanes board.now.symbols (cropped blank (in_word set) board.now).cells result }
+{
+    let columns = board.columns();
+    let index = u64::from(board.index(blank));
+    let planes = board.planes();
+    Planes {
+        a: cut_out(shown(planes.a, set, bit(index, 0)), columns, frame),
+        b: cut_out(shown(planes.b, set, bit(index, 1)), columns, frame),
+        c: cut_out(shown(planes.c, set, bit(index, 2)), columns, frame),
+        d: cut_out(shown(planes.d, set, bit(index, 3)), columns, frame),
+    }
+}
+
+/// The board of the set, of which this is the first cell, with all other cells blank.
+pub(crate) fn crop(board: &Board, set: u64, first: u8, blank: u8) -> Board
+    requires set { IsSetFrom board.now set first }
+    requires blank { Contains board.now.symbols blank }
+    ensures { result ≡ cropped blank (in_word set) board.now }
 {
     // Read for the proof alone: the board has its cells in rows and columns.
     let _size = board.size();
-    let frame = frame_of(board, labels, first);
-    let cells = shown_cells(alloc, board, labels, first, blank, frame)?;
-    Board::make(alloc, frame.rows, frame.columns, board.symbols(), &cells)
+    let frame = frame_of(board, set, first);
+    let planes = planes_in(board, set, frame, blank);
+    board.with_planes(frame.rows, frame.columns, planes)
 }

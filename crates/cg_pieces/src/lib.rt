@@ -1,11 +1,11 @@
 //! Boards in pieces.
 #![tactic(auto)]
 
-mod adjacent;
 mod cutting;
+mod field;
 mod frame;
-mod labels;
 pub mod laws;
+mod moving;
 mod rules;
 
 pub use cutting::pieces;

@@ -17,7 +17,7 @@ use Rattle.cg_moves.specs.Plays.{next_pieces}
 use Rattle.cg_moves.specs.Rules.{GameRules, In, IsLawful, boards_after, followers}
 use Rattle.cg_values.specs.Gives.{GivesAll}
 use Rattle.cg_values.specs.Options.{values_after}
-use Rattle.cg_values.specs.Values.{AreFound, HoldValues}
+use Rattle.cg_values.specs.Values.{AreAlone, AreFound, HoldValues}
 use Rattle.cg_values.specs.declared.values.Values.{Values}
 use Rattle.cg_values.proofs.ItemSteps.{hold_later, hold_same}
 use Rattle.cg_values.proofs.JoinSteps.{forms, joins}
@@ -48,6 +48,12 @@ pub after-holds : {R Q : Type 0} (s : State Meant R) (t : State Meant Q) (r : Ga
 after-holds s t r lawful m p player q k grows holds =
     hold_same t r p.symbols q.symbols m (sym (follower-symbols r lawful p q (follows r p player q k)))
     (hold_later s t r p.symbols m grows holds)
+
+pub after-alone : (r : GameRules) (lawful : IsLawful r) (m : Values) (p : Grid) (player : Player) (q : Grid)
+    → In q (boards_after r player p) → AreAlone r p.symbols m → AreAlone r q.symbols m
+after-alone r lawful m p player q k alone =
+    let P : List ℕ → Type 0 = λ z. AreAlone r z m in
+    subst P (sym (follower-symbols r lawful p q (follows r p player q k))) alone
 
 pub all_after : {R A : Type 0} (s t : State Meant (WorkRest R)) (r : GameRules) (player : Player) (p : Grid) (ps : List Grid)
     (result : Result (Vec ℕ A) ValueFault) → ps ≡ boards_after r player p

@@ -2,6 +2,7 @@
 use Rattle.std.proofs.Common.{◌≡◌, refl, ℕ, ◌≤◌, ◌<◌, ◌⊎◌, arith, ap, sym, ◌∙◌, subst, List, [], ◌∷◌, ◌++◌, map, length, Some, Bool, true, false, if◌then◌else◌, Result, Ok, Err}
 use Rattle.std.specs.Prelude.{IfOk}
 use Rattle.cg_cells.specs.Store.{State}
+use Rattle.cg_canon.proofs.ItemLaws.{all_pass-none}
 use Rattle.cg_canon.proofs.Keeping.{keeps_all}
 use Rattle.cg_canon.proofs.MadeSteps.{made_as, made_then, passed, stopped}
 use Rattle.cg_canon.specs.Items.{Item, made as made_item}
@@ -45,6 +46,14 @@ module _ {R : Type 0} where
         made = made_as s t xs ys r e v.made;
         more = v.more;
       }
+
+  -- a game that was found, with nothing to make
+  pub gives_found : (s : State Meant (WorkRest R)) (g : Game) (h : ℕ) → StandsFor s h (can g) → Gives s s [] g (Ok h)
+  gives_found s g h st = record {
+    game = st;
+    made = record { charged = all_pass-none s.rest.share s.rest.spent; refused = tt; keeps = keeps_all s };
+    more = omega arith;
+  }
 
   -- items that were made, and then those of a game
   pub gives_then : {T : Type 0} (s t u : State Meant (WorkRest R)) (xs ys : List Item) (g : Game) (q : Result T ValueFault) (x : T)

@@ -18,7 +18,7 @@ use Rattle.cg_moves.specs.Rules.{GameRules, In, IsLawful, boards_after, follower
 use Rattle.cg_moves.proofs.Bounds.{raw-moves}
 use Rattle.cg_moves.proofs.Members.{carry, in-append_left, in-append_right}
 use Rattle.cg_moves.proofs.PlayLemmas.{follower-symbols}
-use Rattle.cg_moves.specs.Seen.{key_of}
+use Rattle.cg_moves.specs.Seen.{AreGrids, key_of}
 use Rattle.cg_values.specs.Notes.{places, symbol_row}
 use Rattle.cg_values.specs.Options.{AreOptions, values_after}
 use Rattle.cg_values.specs.declared.options.Options.{Options}
@@ -37,7 +37,7 @@ some_of (Some x) s = (x, refl)
 pub hold_later : {R Q : Type 0} (s : State Meant R) (t : State Meant Q) (r : GameRules) (symbols : List ℕ) (m : Values)
     → Grows (thing_at s) (thing_at t) → HoldValues s r symbols m → HoldValues t r symbols m
 hold_later s t r symbols m grows holds = record {
-  values = λ p h same e. stands_later s t grows h (can (raw r p)) (holds.values p h same e);
+  values = λ p h g same e. stands_later s t grows h (can (raw r p)) (holds.values p h g same e);
 }
 
 -- for boards with the same symbols
@@ -70,19 +70,19 @@ right_found r p m qs ps found e f = record {
 
 module _ {R : Type 0} (s : State Meant R) (r : GameRules) (symbols : List ℕ) (m : Values)
     (holds : HoldValues s r symbols m) where
-  stands_found : (q : Grid) → q.symbols ≡ symbols → IsSome (value_found m (key_of q))
+  stands_found : (q : Grid) → IsGrid q → q.symbols ≡ symbols → IsSome (value_found m (key_of q))
       → StandsFor s (value_handle m (key_of q)) (can (raw r q))
-  stands_found q same some =
+  stands_found q g same some =
       let (h, e) = some_of (value_found m (key_of q)) some in
       let Q : ℕ → Type 0 = λ z. StandsFor s z (can (raw r q)) in
-      subst Q (sym (ap (λ o. unwrap_or o 0) e)) (holds.values q h same e)
+      subst Q (sym (ap (λ o. unwrap_or o 0) e)) (holds.values q h g same e)
 
-  pub values_stand : (qs : List Grid) → ((q : Grid) → In q qs → q.symbols ≡ symbols) → AreFound m qs
+  pub values_stand : (qs : List Grid) → AreGrids qs → ((q : Grid) → In q qs → q.symbols ≡ symbols) → AreFound m qs
       → StandFor s (map (λ (q : Grid). value_handle m (key_of q)) qs) (map can (map (raw r) qs))
-  values_stand [] same found = (tt, refl)
-  values_stand (q ∷ qs) same found =
-      let st = stands_found q (same q (inl refl)) (found.each q (inl refl)) in
-      let rest = values_stand qs (λ k n. same k (inr n)) (record { each = λ k n. found.each k (inr n) }) in (
+  values_stand [] grids same found = (tt, refl)
+  values_stand (q ∷ qs) grids same found =
+      let st = stands_found q (grids q (inl refl)) (same q (inl refl)) (found.each q (inl refl)) in
+      let rest = values_stand qs (λ k n. grids k (inr n)) (λ k n. same k (inr n)) (record { each = λ k n. found.each k (inr n) }) in (
         (stands_is_game s (value_handle m (key_of q)) (can (raw r q)) st, rest.0),
         ap (λ z. z ∷ games_at s (map (λ (q : Grid). value_handle m (key_of q)) qs)) (stands_game s (value_handle m (key_of q))
             (can (raw r q)) st) ∙ ap (λ z. can (raw r q) ∷ z) rest.1,
@@ -90,11 +90,12 @@ module _ {R : Type 0} (s : State Meant R) (r : GameRules) (symbols : List ℕ) (
 
   -- the handles that were looked up for boards
   pub looked_stand : (hs : List ℕ) (qs ps : List Grid) → hs ≡ map (λ (q : Grid). value_handle m (key_of q)) qs → qs ≡ ps
-      → ((q : Grid) → In q ps → q.symbols ≡ symbols) → AreFound m qs → StandFor s hs (map can (map (raw r) ps))
-  looked_stand hs qs ps e f same found =
+      → AreGrids qs → ((q : Grid) → In q ps → q.symbols ≡ symbols) → AreFound m qs
+      → StandFor s hs (map can (map (raw r) ps))
+  looked_stand hs qs ps e f grids same found =
       let P : List ℕ → Type 0 = λ z. StandFor s z (map can (map (raw r) ps)) in
       let Q : List Grid → Type 0 = λ z. StandFor s (map (λ (q : Grid). value_handle m (key_of q)) qs) (map can (map (raw r) z)) in
-      subst P (sym e) (subst Q f (values_stand qs (λ q k. same q (carry q qs ps f k)) found))
+      subst P (sym e) (subst Q f (values_stand qs grids (λ q k. same q (carry q qs ps f k)) found))
 
 pub left-symbols : (r : GameRules) (lawful : IsLawful r) (p q : Grid) → In q (boards_after r Left p) → q.symbols ≡ p.symbols
 left-symbols r lawful p q k =

@@ -1,4 +1,3 @@
-pub mod MapLemmas
 pub mod WrittenLemmas
 pub mod PlaceLemmas
 pub mod ItemSteps

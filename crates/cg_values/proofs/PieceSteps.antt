@@ -2,7 +2,6 @@
 use Rattle.std.proofs.Common.{◌≡◌, ◌⊎◌, inl, inr, refl, ℕ, suc, ◌+◌, ◌≤◌, ◌<◌, arith, ap, sym, ◌∙◌, subst, true, false, List, [], ◌∷◌, ◌++◌, append_assoc, Some, None, Result, Ok, Err, take, drop, get_or, length}
 use Rattle.std.specs.Prelude.{IsSome, nat_lt, if◌then◌else◌}
 use Rattle.std.specs.List.{flat_map}
-use Rattle.std.specs.Str.{bytes_eq}
 use Rattle.std.proofs.lemmas.Bool.Decides.{nat_tests}
 use Rattle.std.proofs.lemmas.Grind.{flat_map-append}
 use Rattle.std.proofs.lemmas.List.{take_all}
@@ -19,25 +18,29 @@ use Rattle.cg_canon.specs.declared.rest.WorkRest.{WorkRest}
 use Rattle.cg_nodes.specs.Games.{StandsFor}
 use Rattle.cg_nodes.specs.Meant.{Meant}
 use Rattle.cg_nodes.specs.Spelled.{can}
-use Rattle.cg_moves.proofs.Members.{carry, in-append, in_one}
+use Rattle.cg_moves.proofs.Bounds.{follower-has}
+use Rattle.cg_moves.proofs.KeptLemmas.{kept-among}
+use Rattle.cg_moves.proofs.Members.{carry, in-append, in-flat_map, in_one}
 use Rattle.cg_moves.proofs.Places.{in_read, split_read, take_next}
 use Rattle.cg_moves.proofs.PlayLemmas.{by-pieces, piece_reach-kept}
-use Rattle.cg_moves.proofs.PlayOrder.{seen-first, seen-known, start-seen}
-use Rattle.cg_moves.specs.Grid.{Grid}
+use Rattle.cg_moves.proofs.PlayOrder.{all-each, seen-first, seen-known, start-seen}
+use Rattle.cg_moves.specs.Grid.{Grid, IsGrid}
+use Rattle.cg_moves.specs.Kept.{kept}
 use Rattle.cg_moves.specs.PieceReach.{piece_reach_of}
 use Rattle.cg_moves.specs.Plays.{Play, next_pieces, pieces_after}
 use Rattle.cg_moves.specs.Raw.{raw}
-use Rattle.cg_moves.specs.Rules.{GameRules, IsCut, IsLawful, followers}
-use Rattle.cg_moves.specs.Seen.{key_of}
+use Rattle.cg_moves.specs.Rules.{GameRules, In, IsCut, IsLawful, followers}
+use Rattle.cg_moves.specs.Seen.{key_eq, key_of}
+use Rattle.cg_moves.specs.declared.key.BoardKey.{BoardKey}
 use Rattle.cg_moves.specs.Walks.{AreStarts}
 use Rattle.cg_values.specs.Gives.{Gives}
 use Rattle.cg_values.specs.Items.{cut_items, joining_items, piece_items, value_item}
-use Rattle.cg_values.specs.Values.{AreFound, HoldValues, value_found}
+use Rattle.cg_values.specs.Values.{AreAlone, AreFound, HoldValues, value_found}
 use Rattle.cg_values.specs.declared.values.Values.{Values}
 use Rattle.cg_values.proofs.GiveSteps.{gives_as, gives_stopped, gives_then}
 use Rattle.cg_values.proofs.ItemSteps.{hold_later, hold_same}
 use Rattle.cg_values.proofs.JoinSteps.{flat-next}
-use Rattle.cg_values.proofs.ValueSteps.{finds_it, finds_more, holds_more, no_values}
+use Rattle.cg_values.proofs.ValueSteps.{alone_more, finds_it, finds_more, holds_more, no_values, none_alone}
 
 -- ---- one piece
 
@@ -62,6 +65,7 @@ pub record PiecesMade {R : Type 0} (s t : State Meant (WorkRest R)) (r : GameRul
   pub keeps : Keeps s t
   pub passed : AllPass s.rest.share s.rest.spent (flat_map (piece_items s.rest.limit r) qs) t.rest.spent
   pub holds : HoldValues t r symbols m
+  pub alone : AreAlone r symbols m
   pub found : AreFound m qs
   pub spare_kept : spare ≤ t.spare
 
@@ -78,12 +82,13 @@ module _ {R : Type 0} (s : State Meant (WorkRest R)) (r : GameRules) (lawful : I
   abbrev own : AreStarts by_piece (r.pieces start)
   own = record { symbols = start.symbols; known = λ q m. (cut.symbols start q has m, cut.has start q has m) }
 
-  pub pieces_none : (m : Values) → ((key : List ℕ) → value_found m key ≡ None) → spare ≤ s.spare
+  pub pieces_none : (m : Values) → ((key : BoardKey) → value_found m key ≡ None) → spare ≤ s.spare
       → PiecesMade s s r start.symbols m [] spare
   pieces_none m none_found kept = record {
     keeps = keeps_all s;
     passed = all_pass-none s.rest.share s.rest.spent;
     holds = no_values s r start.symbols m none_found;
+    alone = none_alone r start.symbols m none_found;
     found = record { each = λ p i. absurd i };
     spare_kept = kept;
   }
@@ -100,6 +105,17 @@ module _ {R : Type 0} (s : State Meant (WorkRest R)) (r : GameRules) (lawful : I
         (start-seen by_piece (by-pieces r lawful cut) (r.pieces start) own q k));
   }
 
+  -- each piece that play can come to is its own only piece
+  reached-alone : (q : Grid) → In q (kept [] (flat_map (pieces_after r) (r.pieces start))) → r.pieces q ≡ q ∷ []
+  reached-alone q m = elim (kept-among [] (flat_map (pieces_after r) (r.pieces start)) q m) [
+    | inl nothing ↦ absurd nothing
+    | inr k ↦ (let (s, l, o) = in-flat_map (pieces_after r) q (r.pieces start) k in
+        all-each by_piece (by-pieces r lawful cut) (λ z. r.pieces z ≡ z ∷ [])
+        (λ u v there own j. let (w, n, b) = in-flat_map r.pieces v (followers r u) j in
+        cut.alone w v (follower-has r lawful u w there n) b)
+        (suc (r.measure s)) s (omega arith) (cut.has start s has l) (cut.alone start s has l) q o)
+  ]
+
   module _ (i : ℕ) (p : Grid) (within : i < length ps) (read : p ≡ get_or ps i p) (t : State Meant (WorkRest R)) (m : Values)
       (made : PiecesMade s t r start.symbols m (take i ps) spare) where
     known : (p.symbols ≡ start.symbols) × (r.has p ≡ true)
@@ -111,6 +127,12 @@ module _ {R : Type 0} (s : State Meant (WorkRest R)) (r : GameRules) (lawful : I
 
     pub piece-holds : HoldValues t r p.symbols m
     piece-holds = hold_same t r start.symbols p.symbols m (sym known.0) made.holds
+
+    pub piece-values_alone : AreAlone r p.symbols m
+    piece-values_alone = let P : List ℕ → Type 0 = λ z. AreAlone r z m in subst P (sym known.0) made.alone
+
+    piece-own : r.pieces p ≡ p ∷ []
+    piece-own = reached-alone p (carry p ps _ (all ∙ piece_reach-kept r lawful cut start has) (in_read ps i p within read))
 
     pub piece-found : AreFound m (next_pieces r p)
     piece-found = record {
@@ -139,17 +161,18 @@ module _ {R : Type 0} (s : State Meant (WorkRest R)) (r : GameRules) (lawful : I
           all_items (stopped s u (made_items (take i ps) ++ piece_items s.rest.limit r p) (made_items (drop (suc i) ps)) q v e a b
           items_made)
 
-      pub pieces_more : (n : Values) (h : ℕ) (x : T) → q ≡ Ok x → StandsFor u h (can (raw r p)) → spare ≤ u.spare
-          → ((key : List ℕ) → value_found n key ≡ (if bytes_eq (key_of p) key then Some h else value_found m key))
+      pub pieces_more : (n : Values) (h : ℕ) (x : T) → q ≡ Ok x → StandsFor u h (can (raw r p)) → spare ≤ u.spare → IsGrid p
+          → ((key : BoardKey) → value_found n key ≡ (if key_eq (key_of p) key then Some h else value_found m key))
           → PiecesMade s u r start.symbols n (take (i + 1) ps) spare
-      pieces_more n h x ok st kept_spare kept =
+      pieces_more n h x ok st kept_spare g kept =
           let L : List Item → Type 0 = λ z. AllPass s.rest.share s.rest.spent z u.rest.spent in
           let T : List Grid → Type 0 = λ z. PiecesMade s u r start.symbols n z spare in
           subst T (sym (take_next ps i p within read)) (record {
             keeps = keeps_then s t u made.keeps item.keeps;
             passed = subst L (sym (flat-next (piece_items s.rest.limit r) (take i ps) p))
                 (passed s u (made_items (take i ps) ++ piece_items s.rest.limit r p) q x ok items_made);
-            holds = holds_more m n p h kept u r start.symbols known.0 (hold_later t u r start.symbols m item.keeps.known made.holds) st;
+            holds = holds_more m n p h kept u r start.symbols g known.0 (hold_later t u r start.symbols m item.keeps.known made.holds) st;
+            alone = alone_more m n p h kept r start.symbols g known.0 piece-own made.alone;
             found = record {
               each = λ k j. elim (in-append k (take i ps) (p ∷ []) j) [
                 | inl here ↦ finds_more m n p h kept (key_of k) (made.found.each k here)

@@ -1,8 +1,6 @@
 -- The values of all boards that play can come to, made one after another.
 use Rattle.std.proofs.Common.{◌≡◌, ◌⊎◌, inl, inr, ℕ, suc, ◌+◌, ◌≤◌, ◌<◌, arith, refl, ap, sym, ◌∙◌, subst, List, [], ◌∷◌, ◌++◌, append_assoc, Option, Some, None, Bool, true, false, Result, Ok, Err, take, drop, get_or, length}
 use Rattle.std.specs.Prelude.{IfErr, IsSome, nat_lt, if◌then◌else◌}
-use Rattle.std.specs.Str.{bytes_eq}
-use Rattle.std.specs.Cmp.Lexicographic.{bytes_decides}
 use Rattle.std.proofs.lemmas.Bool.{cases_Bool}
 use Rattle.std.proofs.lemmas.Bool.Decides.{nat_tests}
 use Rattle.std.proofs.lemmas.List.{map-append, take_all}
@@ -16,18 +14,19 @@ use Rattle.cg_cells.specs.Store.{State}
 use Rattle.cg_nodes.specs.Games.{StandsFor}
 use Rattle.cg_nodes.specs.Meant.{Meant}
 use Rattle.cg_nodes.specs.Spelled.{can}
-use Rattle.cg_moves.specs.Grid.{Grid}
+use Rattle.cg_moves.specs.Grid.{Grid, IsGrid}
 use Rattle.cg_moves.specs.Raw.{raw}
 use Rattle.cg_moves.specs.Reach.{reach_of}
 use Rattle.cg_moves.specs.Rules.{GameRules, In, IsLawful, followers}
 use Rattle.cg_moves.proofs.Members.{carry, in-append, in-append_right, in_one}
-use Rattle.cg_moves.specs.Seen.{key_of}
+use Rattle.cg_moves.specs.Seen.{key_eq, key_of}
+use Rattle.cg_moves.specs.declared.key.BoardKey.{BoardKey}
 use Rattle.cg_moves.proofs.Places.{in_read, split_read, take_next}
 use Rattle.cg_moves.proofs.ReachLemmas.{reach-first, reach-has, reach-last, reach-like}
-use Rattle.cg_moves.proofs.SeenLemmas.{one-key}
+use Rattle.cg_moves.proofs.KeyLemmas.{key_eq-back, key_eq-refl, one-key}
 use Rattle.cg_values.specs.Items.{whole_items, value_item, value_items}
 use Rattle.cg_canon.specs.Made.{ItemsMade}
-use Rattle.cg_values.specs.Values.{AreFound, HoldValues, value_found}
+use Rattle.cg_values.specs.Values.{AreAlone, AreFound, HoldValues, value_found}
 use Rattle.cg_values.specs.declared.values.Values.{Values}
 use Rattle.cg_values.proofs.ItemSteps.{hold_later, hold_same}
 use Rattle.cg_canon.proofs.MadeSteps.{made_as, made_then, passed, stopped}
@@ -38,52 +37,66 @@ some_same : (x y : ℕ) → Some x ≡ Some y → x ≡ y
 some_same x y e = cc
 
 module _ (m n : Values) (p : Grid) (h : ℕ)
-    (kept : (key : List ℕ) → value_found n key ≡ (if bytes_eq (key_of p) key then Some h else value_found m key)) where
-  found_cases : (cells : List ℕ) (y : ℕ) → value_found n cells ≡ Some y
-      → ((key_of p ≡ cells) × (h ≡ y)) ⊎ (value_found m cells ≡ Some y)
-  found_cases cells y e = elim (cases_Bool (bytes_eq (key_of p) cells)) [
+    (kept : (key : BoardKey) → value_found n key ≡ (if key_eq (key_of p) key then Some h else value_found m key)) where
+  found_cases : (key : BoardKey) (y : ℕ) → value_found n key ≡ Some y
+      → ((key_of p ≡ key) × (h ≡ y)) ⊎ (value_found m key ≡ Some y)
+  found_cases key y e = elim (cases_Bool (key_eq (key_of p) key)) [
     | inl t ↦ inl (
-      (bytes_decides (key_of p) cells).0 t,
-      some_same h y (sym (kept cells ∙ ap (λ b. if b then Some h else
-          value_found m cells) t) ∙ e),
+      key_eq-back (key_of p) key t,
+      some_same h y (sym (kept key ∙ ap (λ b. if b then Some h else value_found m key) t) ∙ e),
     )
-    | inr f ↦ inr (sym (kept cells ∙ ap (λ b. if b then Some h else value_found m cells) f) ∙ e)
+    | inr f ↦ inr (sym (kept key ∙ ap (λ b. if b then Some h else value_found m key) f) ∙ e)
   ]
 
-  some_if : (b : Bool) (cells : List ℕ) → IsSome (value_found m cells) → IsSome (if b then Some h else value_found m cells)
-  some_if true cells some = refl
-  some_if false cells some = some
+  some_if : (b : Bool) (key : BoardKey) → IsSome (value_found m key) → IsSome (if b then Some h else value_found m key)
+  some_if true key some = refl
+  some_if false key some = some
 
-  pub finds_more : (cells : List ℕ) → IsSome (value_found m cells) → IsSome (value_found n cells)
-  finds_more cells some = let P : Option ℕ → Type 0 = λ z. IsSome z in subst P (sym (kept cells)) (some_if (bytes_eq
-      (key_of p) cells) cells some)
+  pub finds_more : (key : BoardKey) → IsSome (value_found m key) → IsSome (value_found n key)
+  finds_more key some =
+      let P : Option ℕ → Type 0 = λ z. IsSome z in
+      subst P (sym (kept key)) (some_if (key_eq (key_of p) key) key some)
 
   pub finds_it : IsSome (value_found n (key_of p))
   finds_it =
       let P : Option ℕ → Type 0 = λ z. IsSome z in
-      subst P (sym (kept (key_of p) ∙ ap (λ b. if b then Some h else value_found m (key_of p)) ((bytes_decides (key_of p)
-      (key_of p)).1 refl))) refl
+      subst P (sym (kept (key_of p) ∙ ap (λ b. if b then Some h else value_found m (key_of p)) (key_eq-refl (key_of p)))) refl
 
-  pub holds_more : {R : Type 0} (s : State Meant R) (r : GameRules) (symbols : List ℕ) → p.symbols ≡ symbols → HoldValues s r symbols m
-      → StandsFor s h (can (raw r p)) → HoldValues s r symbols n
-  holds_more s r symbols same holds st = record {
-    values = λ q y like e. elim (found_cases (key_of q) y e) [
+  pub holds_more : {R : Type 0} (s : State Meant R) (r : GameRules) (symbols : List ℕ) → IsGrid p → p.symbols ≡ symbols
+      → HoldValues s r symbols m → StandsFor s h (can (raw r p)) → HoldValues s r symbols n
+  holds_more s r symbols g same holds st = record {
+    values = λ q y g_q like e. elim (found_cases (key_of q) y e) [
       | inl w ↦ (let P : ℕ → Type 0 = λ z. StandsFor s z (can (raw r q)) in
           let Q : Grid → Type 0 = λ z. StandsFor s h (can (raw r z)) in
-          subst P w.1 (subst Q (sym (one-key p q w.0 (like ∙ sym same))) st))
-      | inr old ↦ holds.values q y like old
+          subst P w.1 (subst Q (sym (one-key p q g g_q w.0 (like ∙ sym same))) st))
+      | inr old ↦ holds.values q y g_q like old
     ];
   }
 
-pub no_values : {R : Type 0} (s : State Meant R) (r : GameRules) (symbols : List ℕ) (m : Values)
-    → ((key : List ℕ) → value_found m key ≡ None) → HoldValues s r symbols m
-no_values s r symbols m none_found = record { values = λ p h same e. absurd (clash (key_of p) h e) }
-  where
-    differ : (x : ℕ) → None ≡ Some x → ⊥
-    differ x p = cc
+  pub alone_more : (r : GameRules) (symbols : List ℕ) → IsGrid p → p.symbols ≡ symbols → r.pieces p ≡ p ∷ []
+      → AreAlone r symbols m → AreAlone r symbols n
+  alone_more r symbols g same own alone = record {
+    each = λ q y g_q like e. elim (found_cases (key_of q) y e) [
+      | inl w ↦ (let P : Grid → Type 0 = λ z. r.pieces z ≡ z ∷ [] in
+          subst P (sym (one-key p q g g_q w.0 (like ∙ sym same))) own)
+      | inr old ↦ alone.each q y g_q like old
+    ];
+  }
 
-    clash : (key : List ℕ) (h : ℕ) → value_found m key ≡ Some h → ⊥
-    clash key h e = differ h (sym (none_found key) ∙ e)
+never_found : (m : Values) → ((key : BoardKey) → value_found m key ≡ None) → (key : BoardKey) (h : ℕ)
+    → value_found m key ≡ Some h → ⊥
+never_found m none_found key h e = differ (sym (none_found key) ∙ e)
+  where
+    differ : None ≡ Some h → ⊥
+    differ p = cc
+
+pub no_values : {R : Type 0} (s : State Meant R) (r : GameRules) (symbols : List ℕ) (m : Values)
+    → ((key : BoardKey) → value_found m key ≡ None) → HoldValues s r symbols m
+no_values s r symbols m none_found = record { values = λ p h g same e. absurd (never_found m none_found (key_of p) h e) }
+
+pub none_alone : (r : GameRules) (symbols : List ℕ) (m : Values) → ((key : BoardKey) → value_found m key ≡ None)
+    → AreAlone r symbols m
+none_alone r symbols m none_found = record { each = λ p h g same e. absurd (never_found m none_found (key_of p) h e) }
 
 -- ---- all of a list
 
@@ -98,7 +111,7 @@ pub record ValuesMade {S R : Type 0} (state : S → State Meant R) (w v : WorkOf
 
 module _ {S R : Type 0} (state : S → State Meant R) (w : WorkOf S) (r : GameRules) (lawful : IsLawful r) (start : Grid)
     (has : r.has start ≡ true) (spare : ℕ) (ps : List Grid) (all : ps ≡ reach_of r start) where
-  pub values_none : (m : Values) → ((key : List ℕ) → value_found m key ≡ None)
+  pub values_none : (m : Values) → ((key : BoardKey) → value_found m key ≡ None)
       → spare ≤ (work_state state w).spare → ValuesMade state w w r start.symbols m [] spare
   values_none m none_found kept = record {
     keeps = keeps_all (work_state state w);
@@ -121,9 +134,9 @@ module _ {S R : Type 0} (state : S → State Meant R) (w : WorkOf S) (r : GameRu
   pub start-in : In start ps
   start-in = carry start _ ps (sym (all ∙ reach-last r lawful start has)) (in-append_right start _ (start ∷ []) (inl refl))
 
-  pub start_stands : (v : WorkOf S) (m : Values) (h : ℕ) → ValuesMade state w v r start.symbols m ps spare
+  pub start_stands : (v : WorkOf S) (m : Values) (h : ℕ) → IsGrid start → ValuesMade state w v r start.symbols m ps spare
       → value_found m (key_of start) ≡ Some h → StandsFor (work_state state v) h (can (raw r start))
-  start_stands v m h made e = made.holds.values start h refl e
+  start_stands v m h g made e = made.holds.values start h g refl e
 
   module _ (i : ℕ) (p : Grid) (within : i < length ps) (read : p ≡ get_or ps i p) (v : WorkOf S) (m : Values)
       (made : ValuesMade state w v r start.symbols m (take i ps) spare) where
@@ -170,10 +183,10 @@ module _ {S R : Type 0} (state : S → State Meant R) (w : WorkOf S) (r : GameRu
 
     pub values_more : {T : Type 0} (x : WorkOf S) (n : Values) (h : ℕ) (q : Result T ValueFault) (t : T) → q ≡ Ok t
         → ItemsMade (work_state state v) (work_state state x) (value_item r p ∷ []) q → StandsFor (work_state state x) h (can (raw r p))
-        → spare ≤ (work_state state x).spare
-        → ((key : List ℕ) → value_found n key ≡ (if bytes_eq (key_of p) key then Some h else value_found m key))
+        → spare ≤ (work_state state x).spare → IsGrid p
+        → ((key : BoardKey) → value_found n key ≡ (if key_eq (key_of p) key then Some h else value_found m key))
         → ValuesMade state w x r start.symbols n (take (i + 1) ps) spare
-    values_more x n h q t ok item st kept_spare kept =
+    values_more x n h q t ok item st kept_spare g kept =
         let sv = work_state state v in
         let sx = work_state state x in
         let L : List Item → Type 0 = λ z. AllPass w.share w.spent z x.spent in
@@ -182,7 +195,7 @@ module _ {S R : Type 0} (state : S → State Meant R) (w : WorkOf S) (r : GameRu
           keeps = keeps_then (work_state state w) sv sx made.keeps item.keeps;
           passed = subst L next_items (passed (work_state state w) (work_state state x) (value_items r (take i ps) ++ (value_item r p ∷ [])) q t ok
               (items_made x q item));
-          holds = holds_more m n p h kept sx r start.symbols board-symbols (hold_later sv sx r start.symbols m item.keeps.known made.holds) st;
+          holds = holds_more m n p h kept sx r start.symbols g board-symbols (hold_later sv sx r start.symbols m item.keeps.known made.holds) st;
           found = subst V (sym (take_next ps i p within read)) (record {
             each = λ k j. elim (in-append k (take i ps) (p ∷ []) j) [
               | inl here ↦ finds_more m n p h kept (key_of k) (made.found.each k here)

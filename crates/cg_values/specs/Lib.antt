@@ -1,7 +1,10 @@
+-- what public contracts cite
 pub mod Items
 pub mod Notes
+pub mod Forms
+-- what private contracts cite, and what proofs need here
 pub mod Values
 pub mod Options
 pub mod Gives
 pub mod Chunks
-pub mod Forms
+pub mod Contents

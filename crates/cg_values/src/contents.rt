@@ -1,68 +1,52 @@
 //! The contents in which the cells of a board are written.
-ghost use Rattle.std.specs.Prelude.{◌≡◌, ◌+◌, ◌*◌, ◌≤◌, ◌<◌, IfOk, length};
-ghost use Rattle.cg_nodes.specs.Boards.{AreBelow, AreWritten, content_of};
-ghost use Rattle.cg_values.specs.Notes.{place_in, places};
+ghost use Rattle.std.specs.Prelude.{◌≡◌, ◌+◌, ◌-◌, ◌*◌, ◌≤◌, ◌<◌, IfOk, length};
+ghost use Rattle.cg_nodes.specs.Boards.{AreWritten, content_of};
+ghost use Rattle.cg_values.specs.Contents.{place_at, places_at};
+ghost use Rattle.cg_values.specs.Notes.{places};
 
-use cg_moves::Board;
+use cg_moves::words::bit;
+use cg_moves::{Board, Planes};
 use std::alloc::{AllocError, Global};
 
 /// How many cells a content holds.
-const CELLS: usize = 16;
+const CELLS: u8 = 16;
 
-/// The place of the symbol in the row of symbols.
-fn place_in(symbols: &[u8], symbol: u8) -> u8
-    requires { length symbols.now ≤ 16 }
-    ensures { result ≡ place_in symbols.now symbol }
+/// The place of the cell's symbol in a row of at most 4 symbols, from the first two words.
+fn place_at(planes: Planes, cell: u8) -> u8
+    requires { cell < 64 }
+    ensures value { result ≡ place_at planes cell }
+    ensures below { result < 4 }
 {
-    let mut place = 0;
-    for other in symbols {
-        if *other == symbol {
-            return place;
-        }
-        place += 1;
-    }
-    place
+    bit(planes.a, cell) + 2 * bit(planes.b, cell)
 }
 
-/// The places of the symbols of the cells.
-fn places_of(alloc: Global, board: &Board) -> Result<Vec<u8>, AllocError>
-    ensures { IfOk result (λ all. all.items ≡ places board.now.symbols board.now.cells) }
-{
-    let cells = board.cells(alloc)?;
-    let mut all = Vec::new(alloc);
-    for cell in cells.as_slice() {
-        all.push(place_in(board.symbols(), *cell))?;
-    }
-    Ok(all)
-}
-
-/// The content of cells whose symbols have these places.
-fn content_of(places: &[u8]) -> u32
-    requires few { length places.now ≤ 16 }
-    requires below { AreBelow 4 places.now }
-    ensures { result ≡ content_of places.now }
+/// The content of the cells from the start on and before the end.
+fn content_of(planes: Planes, start: u8, end: u8) -> u32
+    requires start { start ≤ end }
+    requires few { end ≤ start + 16 }
+    requires end { end ≤ 64 }
+    ensures { result ≡ content_of (places_at planes start (end - start)) }
 {
     let mut content: u32 = 0;
-    let mut left = places.len();
-    while left > 0 {
+    let mut left = end;
+    while left > start {
         left -= 1;
-        content = content * 4 + places[left] as u32;
+        content = content * 4 + place_at(planes, left) as u32;
     }
     content
 }
 
-/// The contents of cells whose symbols have these places.
-fn contents_in(alloc: Global, places: &[u8]) -> Result<Vec<u32>, AllocError>
-    requires few { length places.now ≤ 64 }
-    requires below { AreBelow 4 places.now }
-    ensures written { IfOk result (λ all. AreWritten places.now all.items) }
+/// The contents of so many cells.
+fn contents_in(alloc: Global, planes: Planes, size: u8) -> Result<Vec<u32>, AllocError>
+    requires { size ≤ 64 }
+    ensures written { IfOk result (λ all. AreWritten (places_at planes 0 size) all.items) }
     ensures few { IfOk result (λ all. length all.items ≤ 4) }
 {
     let mut all = Vec::new(alloc);
     let mut start = 0;
-    while start < places.len() {
-        let end = (start + CELLS).min(places.len());
-        all.push(content_of(&places[start..end]))?;
+    while start < size {
+        let end = (start + CELLS).min(size);
+        all.push(content_of(planes, start, end))?;
         start = end;
     }
     Ok(all)
@@ -74,8 +58,5 @@ pub(crate) fn contents_of(alloc: Global, board: &Board) -> Result<Vec<u32>, Allo
     ensures written { IfOk result (λ all. AreWritten (places board.now.symbols board.now.cells) all.items) }
     ensures few { IfOk result (λ all. length all.items ≤ 4) }
 {
-    // Read for the proof alone: the board has at most 64 cells, each with one of its symbols.
-    let _size = board.size();
-    let places = places_of(alloc, board)?;
-    contents_in(alloc, &places)
+    contents_in(alloc, board.planes(), board.size())
 }

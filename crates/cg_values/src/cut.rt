@@ -11,7 +11,7 @@ ghost use Rattle.cg_moves.specs.Raw.{raw};
 ghost use Rattle.cg_values.specs.Gives.{Gives};
 ghost use Rattle.cg_values.specs.Items.{cut_items, piece_items};
 ghost use Rattle.cg_values.specs.Notes.{MayNote};
-ghost use Rattle.cg_values.specs.Values.{AreFound, HoldValues};
+ghost use Rattle.cg_values.specs.Values.{AreAlone, AreFound, HoldValues};
 
 use crate::Adder;
 use crate::item::board_item;
@@ -58,6 +58,7 @@ fn piece_value<B: BoardForms, S: CellStore<GameFacts<B>>, R: Rules, A: Adder>(
     requires cuts { (R.game rules.now).cuts ≡ true }
     requires notes { MayNote B.form (R.game rules.now) }
     requires holds { HoldValues (work_state S.state work.old) (R.game rules.now) piece.now.symbols values.now }
+    requires alone { AreAlone (R.game rules.now) piece.now.symbols values.now }
     requires found { AreFound values.now (next_pieces (R.game rules.now) piece.now) }
     requires spare { start ≤ (work_state S.state work.old).spare }
     ensures game { IfOk result (λ h. StandsFor (work_state S.state work.new) h (can (raw (R.game rules.now) piece.now))) }
@@ -83,6 +84,7 @@ fn piece_values<B: BoardForms, S: CellStore<GameFacts<B>>, R: Rules, A: Adder>(
     requires notes { MayNote B.form (R.game rules.now) }
     requires pieces { pieces.now ≡ piece_reach_of (R.game rules.now) start.now }
     ensures holds { IfOk result (HoldValues (work_state S.state work.new) (R.game rules.now) start.now.symbols) }
+    ensures alone { IfOk result (AreAlone (R.game rules.now) start.now.symbols) }
     ensures found { IfOk result (λ values. AreFound values pieces.now) }
     ensures made { ItemsMade (work_state S.state work.old) (work_state S.state work.new)
         (flat_map (piece_items work.old.limit (R.game rules.now)) pieces.now) result }
@@ -92,7 +94,7 @@ fn piece_values<B: BoardForms, S: CellStore<GameFacts<B>>, R: Rules, A: Adder>(
     let mut values = Values::new(alloc);
     for piece in pieces {
         let value = piece_value(alloc, work, rules, adder, piece, &values, spare)?;
-        values.keep(alloc, piece, value)?;
+        values.keep(piece, value)?;
     }
     Ok(values)
 }

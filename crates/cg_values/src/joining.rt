@@ -12,7 +12,7 @@ ghost use Rattle.cg_moves.specs.Rules.{boards_after, followers};
 ghost use Rattle.cg_values.specs.Gives.{Gives, GivesAll};
 ghost use Rattle.cg_values.specs.Items.{added, added_items, joining_items, sum_up, sum_up_items};
 ghost use Rattle.cg_values.specs.Options.{AreOptions, values_after};
-ghost use Rattle.cg_values.specs.Values.{AreFound, HoldValues};
+ghost use Rattle.cg_values.specs.Values.{AreAlone, AreFound, HoldValues};
 
 use crate::Adder;
 use crate::options::Options;
@@ -63,7 +63,8 @@ fn add_up<B: BoardForms, S: CellStore<GameFacts<B>>, A: Adder>(
     }
 }
 
-/// Joins the pieces of the board, whose values were found before: the value of the board is their sum.
+/// Joins the pieces of the board, whose values were found before: the value of the board is their sum. A board whose own value
+/// was found is its only piece.
 pub(crate) fn joined<B: BoardForms, S: CellStore<GameFacts<B>>, R: Rules, A: Adder>(
     alloc: Global,
     work: &mut Work<B, S>,
@@ -76,9 +77,13 @@ pub(crate) fn joined<B: BoardForms, S: CellStore<GameFacts<B>>, R: Rules, A: Add
     requires cuts { (R.game rules.now).cuts ≡ true }
     requires found { AreFound values.now ((R.game rules.now).pieces board.now) }
     requires holds { HoldValues (work_state S.state work.old) (R.game rules.now) board.now.symbols values.now }
+    requires alone { AreAlone (R.game rules.now) board.now.symbols values.now }
     ensures { Gives (work_state S.state work.old) (work_state S.state work.new)
         (joining_items work.old.limit (R.game rules.now) board.now) (raw (R.game rules.now) board.now) result }
 {
+    if let Some(value) = values.get(board) {
+        return Ok(value);
+    }
     let pieces = pieces_in(alloc, rules, board)?;
     let handles = values_of(alloc, values, &pieces)?;
     add_up(alloc, work, adder, &handles)
@@ -98,6 +103,7 @@ fn joined_after<B: BoardForms, S: CellStore<GameFacts<B>>, R: Rules, A: Adder>(
     requires cuts { (R.game rules.now).cuts ≡ true }
     requires found { AreFound values.now (next_pieces (R.game rules.now) board.now) }
     requires holds { HoldValues (work_state S.state work.old) (R.game rules.now) board.now.symbols values.now }
+    requires alone { AreAlone (R.game rules.now) board.now.symbols values.now }
     ensures { GivesAll (work_state S.state work.old) (work_state S.state work.new)
         (flat_map (joining_items work.old.limit (R.game rules.now)) (boards_after (R.game rules.now) player board.now))
         (values_after (R.game rules.now) player board.now) result }
@@ -124,6 +130,7 @@ pub(crate) fn options_joined<B: BoardForms, S: CellStore<GameFacts<B>>, R: Rules
     requires cuts { (R.game rules.now).cuts ≡ true }
     requires found { AreFound values.now (next_pieces (R.game rules.now) board.now) }
     requires holds { HoldValues (work_state S.state work.old) (R.game rules.now) board.now.symbols values.now }
+    requires alone { AreAlone (R.game rules.now) board.now.symbols values.now }
     ensures options { IfOk result (AreOptions (work_state S.state work.new) (R.game rules.now) board.now) }
     ensures made { ItemsMade (work_state S.state work.old) (work_state S.state work.new)
         (flat_map (joining_items work.old.limit (R.game rules.now)) (followers (R.game rules.now) board.now)) result }

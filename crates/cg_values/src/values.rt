@@ -1,11 +1,11 @@
 //! The values of boards that were found so far.
-ghost use Rattle.std.specs.Prelude.{◌≡◌, ℕ, List, IfOk, None, Some, Option, map, if◌then◌else◌};
-ghost use Rattle.std.specs.Str.{bytes_eq};
-ghost use Rattle.cg_moves.specs.Grid.{Grid};
-ghost use Rattle.cg_moves.specs.Seen.{key_of};
+ghost use Rattle.std.specs.Prelude.{◌≡◌, IfOk, None, Some, Option, map, if◌then◌else◌};
+ghost use Rattle.cg_moves.specs.Grid.{Grid, IsGrid};
+ghost use Rattle.cg_moves.specs.Seen.{AreGrids, key_eq, key_of};
+ghost use Rattle.cg_moves.specs.declared.key.BoardKey.{BoardKey};
 ghost use Rattle.cg_values.specs.Values.{AreFound, value_found, value_handle};
 
-use cg_moves::{Board, key_of};
+use cg_moves::{Board, BoardKey};
 use cg_nodes::Handle;
 use std::alloc::{AllocError, Global};
 use std::collections::HashMap;
@@ -13,38 +13,34 @@ use std::collections::HashMap;
 /// Handles of values of boards with the same symbols, by the boards' keys.
 #[derive(Drop)]
 pub(crate) struct Values {
-    handles: HashMap<Vec<u8>, Handle>,
+    handles: HashMap<BoardKey, Handle>,
 }
 
 impl Values {
     /// None.
     pub(crate) fn new(alloc: Global) -> Values
-        ensures { (key : List ℕ) → value_found result key ≡ None }
+        ensures { (key : BoardKey) → value_found result key ≡ None }
     {
         Values {
             handles: HashMap::new(alloc),
         }
     }
 
-    /// The value of the board with this key, if it was found.
-    pub(crate) fn get(&self, key: &[u8]) -> Option<Handle>
-        ensures { result ≡ value_found self.now key.now }
+    /// The value of the board, if it was found.
+    pub(crate) fn get(&self, board: &Board) -> Option<Handle>
+        ensures value { result ≡ value_found self.now (key_of board.now) }
+        ensures grid { IsGrid board.now }
     {
-        self.handles.get(key).copied()
+        self.handles.get(&board.key()).copied()
     }
 
     /// Keeps the value of the board.
-    pub(crate) fn keep(
-        &mut self,
-        alloc: Global,
-        board: &Board,
-        value: Handle,
-    ) -> Result<(), AllocError>
-        ensures { IfOk result (λ _. (key : List ℕ) → value_found self.new key
-            ≡ (if bytes_eq (key_of board.now) key then Some value else value_found self.old key)) }
+    pub(crate) fn keep(&mut self, board: &Board, value: Handle) -> Result<(), AllocError>
+        ensures found { IfOk result (λ _. (key : BoardKey) → value_found self.new key
+            ≡ (if key_eq (key_of board.now) key then Some value else value_found self.old key)) }
+        ensures grid { IsGrid board.now }
     {
-        let key = key_of(alloc, board)?;
-        self.handles.insert(key, value)?;
+        self.handles.insert(board.key(), value)?;
         Ok(())
     }
 }
@@ -56,12 +52,12 @@ pub(crate) fn values_of(
     boards: &[Board],
 ) -> Result<Vec<Handle>, AllocError>
     requires { AreFound values.now boards.now }
-    ensures { IfOk result (λ all. all.items ≡ map (λ (p : Grid). value_handle values.now (key_of p)) boards.now) }
+    ensures handles { IfOk result (λ all. all.items ≡ map (λ (p : Grid). value_handle values.now (key_of p)) boards.now) }
+    ensures grids { IfOk result (λ _. AreGrids boards.now) }
 {
     let mut all = Vec::new(alloc);
     for board in boards {
-        let key = key_of(alloc, board)?;
-        let Some(value) = values.get(&key) else {
+        let Some(value) = values.get(board) else {
             unreachable!()
         };
         all.push(value)?;

@@ -17,7 +17,7 @@ use crate::options::options_of;
 use crate::values::Values;
 use cg_canon::{ValueFault, Work};
 use cg_cells::CellStore;
-use cg_moves::{Board, Boards, ReachFault, Rules, key_of, reach};
+use cg_moves::{Board, Boards, ReachFault, Rules, reach};
 use cg_nodes::{BoardForms, GameFacts, Handle};
 use std::alloc::Global;
 
@@ -83,10 +83,9 @@ fn make_values<B: BoardForms, S: CellStore<GameFacts<B>>, R: Rules>(
     let mut values = Values::new(alloc);
     for board in boards {
         let value = whole_item(alloc, work, rules, board, &values, spare)?;
-        values.keep(alloc, board, value)?;
+        values.keep(board, value)?;
     }
-    let key = key_of(alloc, start)?;
-    match values.get(&key) {
+    match values.get(start) {
         Some(value) => Ok(value),
         None => unreachable!(),
     }

@@ -1,8 +1,7 @@
-use Rattle.std.proofs.Common.{ℕ, ◌+◌, ◌-◌, ◌==◌, ◌∙◌, ap, arith, subst}
+use Rattle.std.proofs.Common.{ℕ, ◌==◌, arith, subst}
 use Rattle.std.specs.Prelude.{slice_index}
-use Rattle.std.specs.Int.{bit_at}
 use Rattle.cg_moves.specs.Words.{Marks}
-use Rattle.cg_clobber.proofs.CaptureMarks.{bit_and-below, has-other, has-stone, back_marks, wide}
+use Rattle.cg_clobber.proofs.CaptureMarks.{bit_and-below, has-other, has-stone, back_marks}
 use Rattle.cg_clobber.proofs.capturing.captures_back.Goals as goal
 
 pub places-stones-requires : goal.places-stones-requires

@@ -1,8 +1,8 @@
-use Rattle.std.proofs.Common.{ℕ, ◌+◌, ◌-◌, ◌==◌, ◌∙◌, ap, arith, subst}
+use Rattle.std.proofs.Common.{ℕ, ◌-◌, ◌==◌, ◌∙◌, ap, arith, subst}
 use Rattle.std.specs.Prelude.{slice_index}
 use Rattle.std.specs.Int.{bit_at}
 use Rattle.cg_moves.specs.Words.{Marks}
-use Rattle.cg_clobber.proofs.CaptureMarks.{bit_and-below, has-other, has-stone, up_marks, wide}
+use Rattle.cg_clobber.proofs.CaptureMarks.{has-other, has-stone, up_marks}
 use Rattle.cg_clobber.proofs.capturing.captures_up.Goals as goal
 
 pub places-stones-requires : goal.places-stones-requires

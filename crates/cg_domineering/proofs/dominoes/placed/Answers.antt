@@ -1,4 +1,4 @@
-use Rattle.std.proofs.Common.{◌≡◌, List, ℕ, ap, subst, sym, ◌∙◌}
+use Rattle.std.proofs.Common.{List, ℕ, ap, subst, sym}
 use Rattle.std.specs.Prelude.{Contains}
 use Rattle.cg_moves.specs.Grid.{Grid}
 use Rattle.cg_domineering.specs.Moves.{filled}

@@ -23,14 +23,14 @@ pub add-requires-clause-symbols : goal.add-requires-clause-symbols
 add-requires-clause-symbols g c = next_symbols (play_of (g.R.Rules.game c.args.rules.now) c.args.course) c.args.limit c.args.walk.seen
     c.args.walk.tasks.items c.args.task c.in-Leave.board c.requires.walk (sym (ap task_board c.in-Leave.is))
 
-pub returns-then-branch-clause-goes_on : goal.returns-then-branch-clause-goes_on
-returns-then-branch-clause-goes_on g c =
+pub returns-then-has-clause-goes_on : goal.returns-then-has-clause-goes_on
+returns-then-has-clause-goes_on g c =
     let r = play_of (g.R.Rules.game c.args.rules.now) c.args.course in
     let ts = c.args.walk.tasks.items in
     let P : Task → Type 0 = λ t. IsWalk r c.args.limit c.args.walk.seen (ts ++ (t ∷ [])) in
     let Q : Task → Type 0 = λ t. GoesOn r c.args.limit c.args.walk.seen c.args.walk.seen (ts ++ (t ∷ [])) ts in
     subst Q (sym c.in-Enter.is) (enter_seen r (plays (g.R.Rules.game c.args.rules.now) (g.met.R.Rules.lawful c.args.rules.now) c.args.course c.requires.may) c.args.limit c.args.walk.seen ts
-    c.in-Enter.board (subst P c.in-Enter.is c.requires.walk) (c.in_ok-has-in-Enter.ensures.0 c.if-branch.true))
+    c.in-Enter.board (subst P c.in-Enter.is c.requires.walk) (c.has.ensures.0 c.if-has.true))
 
 pub returns-in_ok-tasks-in-Enter-clause-goes_on : goal.returns-in_ok-tasks-in-Enter-clause-goes_on
 returns-in_ok-tasks-in-Enter-clause-goes_on g c =

@@ -1,10 +1,11 @@
-use Rattle.std.proofs.Common.{List, ℕ, subst, sym, ◌∙◌}
-use Rattle.cg_nodes.specs.Boards.{AreBelow}
-use Rattle.cg_values.proofs.PlaceLemmas.{places-below}
+use Rattle.std.proofs.Common.{List, ℕ, subst}
+use Rattle.std.specs.Prelude.{IfOk}
+use Rattle.cg_nodes.specs.Boards.{AreWritten}
+use Rattle.cg_values.proofs.PlaceLemmas.{places-told}
 use Rattle.cg_values.proofs.contents.contents_of.Goals as goal
 
-pub contents_in-requires-clause-below : goal.contents_in-requires-clause-below
-contents_in-requires-clause-below c =
-    let P : List ℕ → Type 0 = λ z. AreBelow 4 z in
-    subst P (sym (c.deref.ensures.value ∙ c.in_ok-places.ensures)) (places-below 4 c.args.board.now.symbols
-    c.args.board.now.cells c.requires c.size-size.ensures.grid.cells)
+pub returns-clause-written : goal.returns-clause-written
+returns-clause-written c =
+    let P : List ℕ → Type 0 = λ z. IfOk c.contents_in.result (λ all. AreWritten z all.items) in
+    subst P (places-told c.args.board.now c.planes.result c.size.result c.requires c.planes.ensures.grid
+    c.planes.ensures.planes c.size.ensures.value) c.contents_in.ensures.written

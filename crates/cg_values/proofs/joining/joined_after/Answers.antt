@@ -4,7 +4,7 @@ use Rattle.cg_canon.specs.Works.{work_state}
 use Rattle.cg_moves.specs.Grid.{Grid}
 use Rattle.cg_values.specs.Gives.{GivesAll}
 use Rattle.cg_values.specs.Options.{values_after}
-use Rattle.cg_values.proofs.AfterSteps.{after-found, after-has, after-holds, all_after, read-after}
+use Rattle.cg_values.proofs.AfterSteps.{after-alone, after-found, after-has, after-holds, all_after, read-after}
 use Rattle.cg_values.proofs.JoinSteps.{joined_done, joined_more, joined_none, joined_stopped, joins}
 use Rattle.cg_values.proofs.joining.joined_after.Goals as goal
 
@@ -34,6 +34,13 @@ joined-requires-clause-holds g c =
     (read-after r c.args.board.now c.args.player c.as_slice-next-items.result.now c.loop-next.next-index c.next-item.result
     (c.as_slice-next-items.ensures ∙ c.in_ok-boards.ensures) c.loop-next-test.true c.next-item.is)
     c.loop-next.invariant.keeps.known c.requires.holds
+
+pub joined-requires-clause-alone : goal.joined-requires-clause-alone
+joined-requires-clause-alone g c =
+    let r = g.R.Rules.game c.args.rules.now in
+    after-alone r (g.met.R.Rules.lawful c.args.rules.now) c.args.values.now c.args.board.now c.args.player c.next-item.result
+    (read-after r c.args.board.now c.args.player c.as_slice-next-items.result.now c.loop-next.next-index c.next-item.result
+    (c.as_slice-next-items.ensures ∙ c.in_ok-boards.ensures) c.loop-next-test.true c.next-item.is) c.requires.alone
 
 pub loop-next-preserved : goal.loop-next-preserved
 loop-next-preserved g c =

@@ -22,12 +22,14 @@ returns g c =
     let lawful = g.met.R.Rules.lawful c.args.rules.now in
     record {
       lefts = looked_stand s r p.symbols c.args.values.now c.requires.holds c.in_ok-lefts.lefts.items c.as_slice.result.now
-          (boards_after r Left p) c.in_ok-lefts.ensures (c.as_slice.ensures ∙ c.in_ok-left_boards.ensures)
+          (boards_after r Left p) c.in_ok-lefts.ensures.handles (c.as_slice.ensures ∙ c.in_ok-left_boards.ensures)
+          c.in_ok-lefts.ensures.grids
           (left-symbols r lawful p)
           (left_found r p c.args.values.now c.as_slice.result.now c.in_ok-left_boards.left_boards c.requires.found
           c.as_slice.ensures c.in_ok-left_boards.ensures);
       rights = looked_stand s r p.symbols c.args.values.now c.requires.holds c.in_ok-rights.rights.items c.as_slice-2.result.now
-          (boards_after r Right p) c.in_ok-rights.ensures (c.as_slice-2.ensures ∙ c.in_ok-right_boards.ensures)
+          (boards_after r Right p) c.in_ok-rights.ensures.handles (c.as_slice-2.ensures ∙ c.in_ok-right_boards.ensures)
+          c.in_ok-rights.ensures.grids
           (right-symbols r lawful p)
           (right_found r p c.args.values.now c.as_slice-2.result.now c.in_ok-right_boards.right_boards c.requires.found
           c.as_slice-2.ensures c.in_ok-right_boards.ensures);

@@ -1,5 +1,7 @@
 use Rattle.std.proofs.Common.{ap, sym, ◌∙◌, Err, arith}
 use Rattle.std.proofs.lemmas.Result.{err_from_is_err_and}
+use Rattle.cg_canon.proofs.Keeping.{keeps_then}
+use Rattle.cg_canon.proofs.MadeSteps.{made_memory}
 use Rattle.cg_moves.specs.Seen.{key_of}
 use Rattle.cg_values.specs.Values.{value_found}
 use Rattle.cg_values.proofs.ItemSteps.{not_none}
@@ -50,7 +52,7 @@ loop-board-preserved g c =
     c.loop-board.board-index c.board-item.result c.loop-board-test.true c.board-item.is c.loop-board.work
     c.loop-board.values c.loop-board.invariant c.whole_item.new.work c.keep.new.self c.in_ok-value.value
     c.whole_item.result c.in_ok-value.value c.in_ok-value.was c.whole_item.ensures.made c.in_ok-value.ensures.game
-    c.whole_item.ensures.spare c.in_ok-keep.ensures
+    c.whole_item.ensures.spare c.keep.ensures.grid c.in_ok-keep.ensures.found
 
 pub unreachable-requires : goal.unreachable-requires
 unreachable-requires g c =
@@ -62,8 +64,7 @@ unreachable-requires g c =
     not_none (value_found c.loop-board.values (key_of c.args.start.now)) (made.found.each c.args.start.now (start-in
     g.S.CellStore.state c.args.work.now r lawful c.args.start.now c.requires.has c.spare-spare.result c.args.boards.now
     c.requires.boards))
-    (ap (value_found c.loop-board.values) (sym (c.deref.ensures.value ∙ c.in_ok-key.ensures)) ∙ sym c.get.ensures
-    ∙ c.in-None.is)
+    (sym c.get.ensures.value ∙ c.in-None.is)
 
 pub returns-clause-game : goal.returns-clause-game
 returns-clause-game g c =
@@ -73,6 +74,10 @@ returns-clause-game g c =
     c.spare-spare.result c.args.boards.now c.requires.boards c.loop-board.work c.loop-board.values
     c.loop-board.board-index c.loop-board-test.false c.loop-board.invariant in
     start_stands g.S.CellStore.state c.args.work.now r lawful c.args.start.now c.requires.has c.spare-spare.result
-    c.args.boards.now c.requires.boards c.loop-board.work c.loop-board.values c.in-Some.value made
-    (ap (value_found c.loop-board.values) (sym (c.deref.ensures.value ∙ c.in_ok-key.ensures)) ∙ sym c.get.ensures
-    ∙ c.in-Some.is)
+    c.args.boards.now c.requires.boards c.loop-board.work c.loop-board.values c.in-Some.value c.get.ensures.grid made
+    (sym c.get.ensures.value ∙ c.in-Some.is)
+
+pub returns-in_err-keep-clause-made : goal.returns-in_err-keep-clause-made
+returns-in_err-keep-clause-made g c =
+    let p = err_from_is_err_and c.from_residual-in_err-keep.result c.from_residual-in_err-keep.ensures.1 in
+    made_memory _ _ _ _ (p.1 ∙ ap Err p.2) (keeps_then _ _ _ c.loop-board.invariant.keeps c.whole_item.ensures.made.keeps)

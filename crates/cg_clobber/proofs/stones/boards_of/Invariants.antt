@@ -1,0 +1,9 @@
+use Rattle.std.proofs.Common.{◌≡◌, map}
+use Rattle.std.specs.List.{flat_map}
+use Rattle.cg_moves.specs.Grid.{with_cells}
+use Rattle.cg_moves.specs.Rising.{counted}
+use Rattle.cg_clobber.specs.Moves.{moves_at}
+use Rattle.cg_clobber.proofs.stones.boards_of.Given as goal
+
+abbrev pub invariant-loop-from : goal.invariant-loop-from
+invariant-loop-from l = l.boards.items ≡ map (with_cells l.board) (flat_map (moves_at l.player l.board) (counted 0 l.from))

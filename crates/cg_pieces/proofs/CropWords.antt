@@ -1,0 +1,118 @@
+-- The board of a set of cells, by its words.
+use Rattle.std.proofs.Common.{◌≡◌, refl, ℕ, ◌*◌, ◌<◌, ◌≤◌, inl, inr, true, if◌then◌else◌, List, length, slice_index, ap, sym, ◌∙◌, arith}
+use Rattle.std.specs.Prelude.{Contains}
+use Rattle.std.specs.Int.{bit_at}
+use Rattle.std.proofs.lemmas.Bool.{le-ltb, lt-ltb}
+use Rattle.std.proofs.lemmas.Bool.Decides.{leb_tells}
+use Rattle.cg_dyadic.proofs.Truth.{false-from, true-or-not}
+use Rattle.cg_moves.specs.declared.planes.Planes.{Planes}
+use Rattle.cg_moves.specs.Grid.{Grid, IsGrid}
+use Rattle.cg_moves.specs.PlaneBits.{ArePlanes, IsGridBy, grid_by, index_of, plane_bit}
+use Rattle.cg_moves.proofs.PlaneLemmas.{grid-is, is_grid-by}
+use Rattle.cg_pieces.specs.declared.frame.Frame.{Frame}
+use Rattle.cg_pieces.specs.Boxes.{cropped, set_box, shown_cell, unboxed}
+use Rattle.cg_pieces.specs.Frames.{box_from}
+use Rattle.cg_pieces.specs.Words.{IsSetFrom, in_word}
+use Rattle.cg_pieces.proofs.Crops.{crop-at}
+use Rattle.cg_pieces.proofs.Frames.{board-is, cropped-cells, cropped-size, few-cells, frame-cells, made, some-cells, unboxed-below, wide-grid}
+use Rattle.cg_pieces.proofs.FrameWords.{first-in, in-set}
+use Rattle.cg_pieces.proofs.RowWords.{cut}
+
+plane-in : (symbols cells : List ℕ) (b i : ℕ) → i < length cells
+    → plane_bit symbols cells b i ≡ bit_at (index_of symbols (slice_index cells i)) b
+plane-in symbols cells b i l =
+    ap (λ t. if t then bit_at (index_of symbols (slice_index cells i)) b else 0) (lt-ltb i (length cells) l)
+
+plane-past : (symbols cells : List ℕ) (b i : ℕ) → length cells ≤ i → plane_bit symbols cells b i ≡ 0
+plane-past symbols cells b i l =
+    ap (λ t. if t then bit_at (index_of symbols (slice_index cells i)) b else 0) (le-ltb i (length cells) l)
+
+module _ (p : Grid) (grid : IsGrid p) (set first blank : ℕ) (from : IsSetFrom p set first)
+    (has : Contains p.symbols blank) (f : Frame) (frame : box_from f ≡ set_box (in_word set) p) where
+  abbrev inside : (k : ℕ) → in_word set k ≡ true → k < length p.cells
+  inside = in-set p grid set first from
+
+  abbrev some : in_word set first ≡ true
+  some = first-in p grid set first from
+
+  abbrev piece : Grid
+  piece = cropped blank (in_word set) p
+
+  size-is : length piece.cells ≡ f.rows * f.columns
+  size-is =
+      cropped-size p (in_word set) inside first some (wide-grid p grid) grid.size blank
+      ∙ sym (frame-cells p (in_word set) inside first some (wide-grid p grid) grid.size f frame)
+
+  -- ---- one of the words
+
+  module _ (columns : ℕ) (same : columns ≡ p.columns) (word index bit shown : ℕ) (b : ℕ)
+      (word_is : (k : ℕ) → bit_at word k ≡ plane_bit p.symbols p.cells b k) (index_is : index ≡ index_of p.symbols blank)
+      (bit_is : bit ≡ bit_at index b)
+      (shown_is : (k : ℕ) → k < 64 → bit_at shown k ≡ (if in_word set k then bit_at word k else bit)) where
+    shown-at : (k : ℕ) → k < length p.cells
+        → bit_at shown k ≡ bit_at (index_of p.symbols (shown_cell blank (in_word set) p.cells k)) b
+    shown-at k below =
+        let few = grid.few in
+        shown_is k (omega (arith, below, few)) ∙ elim (true-or-not (in_word set k)) [
+          | inl t ↦
+              ap (λ z. if z then bit_at word k else bit) t ∙ word_is k ∙ plane-in p.symbols p.cells b k below
+              ∙ ap (λ z. bit_at (index_of p.symbols (if z then slice_index p.cells k else blank)) b) (sym t)
+          | inr n ↦
+              let none = false-from (in_word set k) n in
+              ap (λ z. if z then bit_at word k else bit) none ∙ bit_is ∙ ap (λ z. bit_at z b) index_is
+              ∙ ap (λ z. bit_at (index_of p.symbols (if z then slice_index p.cells k else blank)) b) (sym none)
+        ]
+
+    pub plane-is : (result : ℕ) → ((m : ℕ) → bit_at result m ≡ cut shown columns f f.rows m)
+        → (m : ℕ) → bit_at result m ≡ plane_bit p.symbols piece.cells b m
+    plane-is result cut_is m =
+        let e = size-is in
+        elim (leb_tells (f.rows * f.columns) m) [
+          | inl h ↦
+              let past = h.1 in
+              cut_is m
+              ∙ ap (λ t. if t then bit_at shown (unboxed (box_from f) columns m) else 0) (le-ltb m (f.rows * f.columns) past)
+              ∙ sym (plane-past p.symbols piece.cells b m (omega (arith, e, past)))
+          | inr h ↦
+              let within = h.1 in
+              let cells = frame-cells p (in_word set) inside first some (wide-grid p grid) grid.size f frame in
+              let in_box : m < (set_box (in_word set) p).rows * (set_box (in_word set) p).columns = omega (arith, within, cells) in
+              let at : unboxed (box_from f) columns m ≡ unboxed (set_box (in_word set) p) p.columns m =
+              ap (λ w. unboxed (box_from f) w m) same ∙ ap (λ z. unboxed z p.columns m) frame in
+              let k : ℕ = unboxed (set_box (in_word set) p) p.columns m in
+              cut_is m
+              ∙ ap (λ t. if t then bit_at shown (unboxed (box_from f) columns m) else 0) (lt-ltb m (f.rows * f.columns) within)
+              ∙ ap (bit_at shown) at
+              ∙ shown-at k (unboxed-below p (in_word set) inside first some (wide-grid p grid) grid.size m in_box)
+              ∙ ap (λ z. bit_at (index_of p.symbols z) b)
+              (sym (crop-at blank p (in_word set) inside first some (wide-grid p grid) m in_box))
+              ∙ sym (plane-in p.symbols piece.cells b m (omega (arith, e, within)))
+        ]
+
+  -- ---- the board
+
+  abbrev same_piece : Grid
+  same_piece = made f.rows f.columns p.symbols piece.cells
+
+  is-grid : IsGrid same_piece
+  is-grid =
+      let wide = wide-grid p grid in
+      let e = size-is in
+      let cells = frame-cells p (in_word set) inside first some wide grid.size f frame in
+      let low = some-cells p (in_word set) inside first some wide grid.size in
+      let high = few-cells p (in_word set) inside first some wide grid.size in
+      let few = grid.few in record {
+        symbols = grid.symbols;
+        size = e;
+        some = omega (arith, e, cells, low);
+        few = omega (arith, e, cells, high, few);
+        cells = cropped-cells p (in_word set) inside first some wide grid.size blank grid.cells has;
+      }
+
+  pub crop-grid : (w : Planes) → ArePlanes p.symbols piece.cells w → IsGridBy f.rows f.columns p.symbols w
+  crop-grid w are = is_grid-by same_piece p.symbols w refl is-grid are
+
+  pub crop-is : (w : Planes) → ArePlanes p.symbols piece.cells w → grid_by f.rows f.columns p.symbols w ≡ piece
+  crop-is w are =
+      grid-is same_piece p.symbols w refl is-grid are
+      ∙ board-is p (in_word set) inside first some (wide-grid p grid) grid.size f frame blank p.symbols piece.cells refl refl

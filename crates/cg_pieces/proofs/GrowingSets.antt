@@ -1,0 +1,223 @@
+-- Sets of cells in words that grow by the cells adjacent to them.
+use Rattle.std.proofs.Common.{◌≡◌, ℕ, ◌+◌, ◌-◌, ◌<◌, ◌≤◌, ◌^◌, ◌||◌, ◌⊎◌, inl, inr, true, ap, sym, ◌∙◌, subst, arith, bit_and, bit_or, w64}
+use Rattle.std.specs.Int.{bit_at}
+use Rattle.std.proofs.lemmas.Bool.Decides.{eqb_tells, leb_tells}
+use Rattle.std.proofs.lemmas.Nat.Bits.{bit_at-lt, bit_at_above, bit_at_and, bit_at_not, bit_at_or}
+use Rattle.cg_moves.proofs.ConnectedLemmas.{or-cases, or-first, or-second}
+use Rattle.cg_pieces.specs.declared.field.Field.{Field}
+use Rattle.cg_pieces.specs.Boxes.{column_of}
+use Rattle.cg_pieces.specs.Neighbours.{is_below, is_beside, is_next}
+use Rattle.cg_pieces.specs.Words.{IsField, IsNextSet, IsWithin, NextIn}
+use Rattle.cg_pieces.proofs.Lines.{before-beside, below-is, beside-is, is-below, second-column}
+
+-- ---- single bits
+
+pub and-one : (a b i : ℕ) → bit_at a i ≡ 1 → bit_at b i ≡ 1 → bit_at (bit_and a b) i ≡ 1
+and-one a b i x y = let h = bit_at_and a b i in omega (arith, h, x, y)
+
+pub and-parts : (a b i : ℕ) → bit_at (bit_and a b) i ≡ 1 → (bit_at a i ≡ 1) × (bit_at b i ≡ 1)
+and-parts a b i t =
+    let h = bit_at_and a b i in
+    let x = bit_at-lt a i in
+    let y = bit_at-lt b i in (omega (arith, h, x, y, t), omega (arith, h, x, y, t))
+
+pub or-left : (a b i : ℕ) → bit_at a i ≡ 1 → bit_at (bit_or a b) i ≡ 1
+or-left a b i x = let h = bit_at_or a b i in let y = bit_at-lt b i in omega (arith, h, x, y)
+
+pub or-right : (a b i : ℕ) → bit_at b i ≡ 1 → bit_at (bit_or a b) i ≡ 1
+or-right a b i y = let h = bit_at_or a b i in let x = bit_at-lt a i in omega (arith, h, x, y)
+
+pub or-parts : (a b i : ℕ) → bit_at (bit_or a b) i ≡ 1 → (bit_at a i ≡ 1) ⊎ (bit_at b i ≡ 1)
+or-parts a b i t =
+    let h = bit_at_or a b i in
+    let x = bit_at-lt a i in
+    let y = bit_at-lt b i in
+    elim (eqb_tells (bit_at a i) 1) [
+      | inl e ↦ inl e.1
+      | inr o ↦ let no = o.1 in inr (omega (arith, h, x, y, t, no))
+    ]
+
+-- the word `!b`
+abbrev pub other_bits : ℕ → ℕ
+other_bits b = 18446744073709551615 - b
+
+pub not-one : (b i : ℕ) → b < 2 ^ 64 → i < 64 → bit_at b i ≡ 0 → bit_at (other_bits b) i ≡ 1
+not-one b i fits few z = bit_at_not w64 b i fits few ∙ ap (λ m. 1 - m) z
+
+pub not-zero : (b i : ℕ) → b < 2 ^ 64 → i < 64 → bit_at (other_bits b) i ≡ 1 → bit_at b i ≡ 1 → ⊥
+not-zero b i fits few t o = let h = bit_at_not w64 b i fits few ∙ ap (λ m. 1 - m) o in omega (arith, h, t)
+
+pub bit-below : (a i : ℕ) → a < 2 ^ 64 → bit_at a i ≡ 1 → i < 64
+bit-below a i fits t = elim (leb_tells 64 i) [
+  | inl h ↦ let none = bit_at_above a 64 i fits h.1 in absurd (omega (arith, none, t))
+  | inr h ↦ h.1
+]
+
+-- ---- adjacent cells
+
+pub down-next : (w k l : ℕ) → is_below w k l ≡ true → is_next w k l ≡ true
+down-next w k l t =
+    or-first (is_below w k l || is_below w l k) (is_beside w k l || is_beside w l k)
+    (or-first (is_below w k l) (is_below w l k) t)
+
+up-next : (w k l : ℕ) → is_below w l k ≡ true → is_next w k l ≡ true
+up-next w k l t =
+    or-first (is_below w k l || is_below w l k) (is_beside w k l || is_beside w l k)
+    (or-second (is_below w k l) (is_below w l k) t)
+
+pub forth-next : (w k l : ℕ) → is_beside w k l ≡ true → is_next w k l ≡ true
+forth-next w k l t =
+    or-second (is_below w k l || is_below w l k) (is_beside w k l || is_beside w l k)
+    (or-first (is_beside w k l) (is_beside w l k) t)
+
+back-next : (w k l : ℕ) → is_beside w l k ≡ true → is_next w k l ≡ true
+back-next w k l t =
+    or-second (is_below w k l || is_below w l k) (is_beside w k l || is_beside w l k)
+    (or-second (is_beside w k l) (is_beside w l k) t)
+
+-- ---- the set and what is adjacent to it
+
+module _ (f : Field) (set down up on back : ℕ) (is : IsField f) (within : IsWithin set f.cells) (open_fits : f.cells < 2 ^ 64)
+    (first_fits : f.first_column < 2 ^ 64)
+    (down_first : (i : ℕ) → i < f.columns → bit_at down i ≡ 0)
+    (down_others : (i : ℕ) → f.columns ≤ i → i < 64 → bit_at down i ≡ bit_at set (i - f.columns))
+    (up_is : (i : ℕ) → bit_at up i ≡ bit_at set (i + f.columns))
+    (on_first : (i : ℕ) → i < 1 → bit_at on i ≡ 0)
+    (on_others : (i : ℕ) → 1 ≤ i → i < 64 → bit_at on i ≡ bit_at set (i - 1))
+    (back_is : (i : ℕ) → bit_at back i ≡ bit_at (bit_and set (other_bits f.first_column)) (i + 1)) where
+  -- the words of cells below, above, behind and before
+  abbrev forth : ℕ
+  forth = bit_and on (other_bits f.first_column)
+
+  abbrev beside : ℕ
+  beside = bit_or (bit_or down up) (bit_or forth back)
+
+  abbrev pub next_set : ℕ
+  next_set = bit_and (bit_or set beside) f.cells
+
+  next-down : (k : ℕ) → k < 64 → bit_at down k ≡ 1 → NextIn f set k
+  next-down k few t = elim (leb_tells f.columns k) [
+    | inl h ↦ (let e : (k - f.columns) + f.columns ≡ k = let x = h.1 in omega (arith, x) in
+        let P : ℕ → Type 0 = λ z. is_below f.columns (k - f.columns) z ≡ true in
+        record {
+          other = k - f.columns;
+          in_set = sym (down_others k h.1 few) ∙ t;
+          next = down-next f.columns (k - f.columns) k (subst P e (is-below f.columns (k - f.columns) is.wide));
+        })
+    | inr h ↦ let none = down_first k h.1 in absurd (omega (arith, none, t))
+  ]
+
+  next-up : (k : ℕ) → bit_at up k ≡ 1 → NextIn f set k
+  next-up k t = record {
+    other = k + f.columns;
+    in_set = sym (up_is k) ∙ t;
+    next = up-next f.columns (k + f.columns) k (is-below f.columns k is.wide);
+  }
+
+  next-forth : (k : ℕ) → k < 64 → bit_at f.cells k ≡ 1 → bit_at forth k ≡ 1 → NextIn f set k
+  next-forth k few o t =
+      let both = and-parts on (other_bits f.first_column) k t in
+      let some : ¬ (column_of f.columns k ≡ 0) = λ z. not-zero f.first_column k first_fits few both.1 (is.starts k o z) in
+      elim (leb_tells 1 k) [
+        | inl h ↦ record {
+          other = k - 1;
+          in_set = sym (on_others k h.1 few) ∙ both.0;
+          next = forth-next f.columns (k - 1) k (before-beside f.columns k is.wide some);
+        }
+        | inr h ↦ let none = on_first k h.1 in let one = both.0 in absurd (omega (arith, none, one))
+      ]
+
+  next-back : (k : ℕ) → bit_at back k ≡ 1 → NextIn f set k
+  next-back k t =
+      let both = and-parts set (other_bits f.first_column) (k + 1) (sym (back_is k) ∙ t) in
+      let o = within (k + 1) both.0 in
+      let few = bit-below f.cells (k + 1) open_fits o in
+      let some : ¬ (column_of f.columns (k + 1) ≡ 0) =
+      λ z. not-zero f.first_column (k + 1) first_fits few both.1 (is.starts (k + 1) o z) in
+      let e : (k + 1) - 1 ≡ k = omega arith in
+      let P : ℕ → Type 0 = λ z. is_beside f.columns z (k + 1) ≡ true in
+      record {
+        other = k + 1;
+        in_set = both.0;
+        next = back-next f.columns (k + 1) k (subst P e (before-beside f.columns (k + 1) is.wide some));
+      }
+
+  next-only : (k : ℕ) → bit_at next_set k ≡ 1 → (bit_at set k ≡ 1) ⊎ NextIn f set k
+  next-only k t =
+      let both = and-parts (bit_or set beside) f.cells k t in
+      let few = bit-below f.cells k open_fits both.1 in
+      elim (or-parts set beside k both.0) [
+        | inl x ↦ inl x
+        | inr x ↦ inr (elim (or-parts (bit_or down up) (bit_or forth back) k x) [
+          | inl y ↦ elim (or-parts down up k y) [
+            | inl z ↦ next-down k few z
+            | inr z ↦ next-up k z
+          ]
+          | inr y ↦ elim (or-parts forth back k y) [
+            | inl z ↦ next-forth k few both.1 z
+            | inr z ↦ next-back k z
+          ]
+        ])
+      ]
+
+  in-beside : (l : ℕ) → bit_at f.cells l ≡ 1 → bit_at beside l ≡ 1 → bit_at next_set l ≡ 1
+  in-beside l o t = and-one (bit_or set beside) f.cells l (or-right set beside l t) o
+
+  in-lines : (l : ℕ) → bit_at f.cells l ≡ 1 → bit_at (bit_or down up) l ≡ 1 → bit_at next_set l ≡ 1
+  in-lines l o t = in-beside l o (or-left (bit_or down up) (bit_or forth back) l t)
+
+  in-rows : (l : ℕ) → bit_at f.cells l ≡ 1 → bit_at (bit_or forth back) l ≡ 1 → bit_at next_set l ≡ 1
+  in-rows l o t = in-beside l o (or-right (bit_or down up) (bit_or forth back) l t)
+
+  all-down : (k l : ℕ) → bit_at set k ≡ 1 → bit_at f.cells l ≡ 1 → is_below f.columns k l ≡ true → bit_at next_set l ≡ 1
+  all-down k l s o b =
+      let e = below-is f.columns k l b in
+      let few = bit-below f.cells l open_fits o in
+      let same : l - f.columns ≡ k = omega (arith, e) in
+      in-lines l o (or-left down up l (down_others l (omega (arith, e)) few ∙ ap (bit_at set) same ∙ s))
+
+  all-up : (k l : ℕ) → bit_at set k ≡ 1 → bit_at f.cells l ≡ 1 → is_below f.columns l k ≡ true → bit_at next_set l ≡ 1
+  all-up k l s o b =
+      let e = below-is f.columns l k b in
+      in-lines l o (or-right down up l (up_is l ∙ ap (bit_at set) (sym e) ∙ s))
+
+  all-forth : (k l : ℕ) → bit_at set k ≡ 1 → bit_at f.cells l ≡ 1 → is_beside f.columns k l ≡ true → bit_at next_set l ≡ 1
+  all-forth k l s o b =
+      let e = beside-is f.columns k l b in
+      let c = second-column f.columns k l b in
+      let few = bit-below f.cells l open_fits o in
+      let same : l - 1 ≡ k = omega (arith, e) in
+      let none = is.others l o (λ z. omega (arith, c, z)) in
+      in-rows l o (or-left forth back l (and-one on (other_bits f.first_column) l
+      (on_others l (omega (arith, e)) few ∙ ap (bit_at set) same ∙ s) (not-one f.first_column l first_fits few none)))
+
+  all-back : (k l : ℕ) → bit_at set k ≡ 1 → bit_at f.cells l ≡ 1 → is_beside f.columns l k ≡ true → bit_at next_set l ≡ 1
+  all-back k l s o b =
+      let e = beside-is f.columns l k b in
+      let c = second-column f.columns l k b in
+      let open_k = within k s in
+      let few = bit-below f.cells k open_fits open_k in
+      let none = is.others k open_k (λ z. omega (arith, c, z)) in
+      in-rows l o (or-right forth back l (back_is l ∙ ap (bit_at (bit_and set (other_bits f.first_column))) (sym e)
+      ∙ and-one set (other_bits f.first_column) k s (not-one f.first_column k first_fits few none)))
+
+  next-all : (k l : ℕ) → bit_at set k ≡ 1 → bit_at f.cells l ≡ 1 → is_next f.columns k l ≡ true → bit_at next_set l ≡ 1
+  next-all k l s o t =
+      elim (or-cases (is_below f.columns k l || is_below f.columns l k) (is_beside f.columns k l || is_beside f.columns l k) t) [
+        | inl x ↦ elim (or-cases (is_below f.columns k l) (is_below f.columns l k) x) [
+          | inl a ↦ all-down k l s o a
+          | inr a ↦ all-up k l s o a
+        ]
+        | inr y ↦ elim (or-cases (is_beside f.columns k l) (is_beside f.columns l k) y) [
+          | inl a ↦ all-forth k l s o a
+          | inr a ↦ all-back k l s o a
+        ]
+      ]
+
+  pub next-set : IsNextSet f set next_set
+  next-set = record {
+    within = λ k t. (and-parts (bit_or set beside) f.cells k t).1;
+    grows = λ k t. and-one (bit_or set beside) f.cells k (or-left set beside k t) (within k t);
+    only = next-only;
+    all = next-all;
+  }

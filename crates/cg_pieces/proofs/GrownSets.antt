@@ -1,0 +1,67 @@
+-- Sets of cells in words that have grown to all joined cells.
+use Rattle.std.proofs.Common.{◌≡◌, ◌≢◌, ◌↔◌, refl, ℕ, ◌<◌, ◌≤◌, ◌-◌, inl, inr, if◌then◌else◌, ap, sym, ◌∙◌, subst, arith, bit_or}
+use Rattle.std.specs.Int.{bit_at}
+use Rattle.std.proofs.lemmas.Bool.{eq-eqb, eqb-true}
+use Rattle.std.proofs.lemmas.Bool.Decides.{eqb_tells}
+use Rattle.std.proofs.lemmas.Nat.{le_or_l}
+use Rattle.std.proofs.lemmas.Nat.Bits.{bit_at-lt, bit_at-zero, bit_at_or, same_from_bits}
+use Rattle.cg_moves.specs.Words.{IsWithBit}
+use Rattle.cg_pieces.specs.declared.field.Field.{Field}
+use Rattle.cg_pieces.specs.Cells.Linked.{here, step}
+use Rattle.cg_pieces.specs.Words.{IsGrowing, IsNextSet, IsWithin, JoinedIn}
+use Rattle.cg_pieces.proofs.GrowingSets.{or-left}
+
+within-le : (a b : ℕ) → IsWithin a b → a ≤ b
+within-le a b w =
+    let same : bit_or a b ≡ b = same_from_bits (bit_or a b) b bits in
+    let P : ℕ → Type 0 = λ z. a ≤ z in
+    subst P same (le_or_l a b)
+  where
+    bits : (i : ℕ) → bit_at (bit_or a b) i ≡ bit_at b i
+    bits i = elim (eqb_tells (bit_at a i) 1) [
+      | inl e ↦ or-left a b i e.1 ∙ sym (w i e.1)
+      | inr o ↦
+          let no = o.1 in
+          let h = bit_at_or a b i in let x = bit_at-lt a i in let y = bit_at-lt b i in omega (arith, no, h, x, y)
+    ]
+
+-- the measure of a set falls as it grows
+pub grows-down : (a b all : ℕ) → IsWithin a b → b ≢ a → IsWithin b all → all - b < all - a
+grows-down a b all w other inside =
+    let h = within-le a b w in let k = within-le b all inside in omega (arith, h, k, other)
+
+pub growing-start : (f : Field) (cell set : ℕ) → IsWithBit 0 set cell 1 → bit_at f.cells cell ≡ 1 → IsGrowing f cell set
+growing-start f cell set is inside = record {
+  here = elim (eqb_tells cell cell) [
+    | inl h ↦ is cell ∙ ap (λ b. if b then 1 else bit_at 0 cell) h.0
+    | inr h ↦ absurd (h.1 refl)
+  ];
+  within = λ k t. let P : ℕ → Type 0 = λ z. bit_at f.cells z ≡ 1 in subst P (sym (only k t)) inside;
+  joined = λ k t. here k (sym (only k t));
+}
+  where
+    only : (k : ℕ) → bit_at set k ≡ 1 → k ≡ cell
+    only k t = elim (eqb_tells k cell) [
+      | inl h ↦ h.1
+      | inr h ↦ let none = is k ∙ ap (λ b. if b then 1 else bit_at 0 k) h.0 ∙ bit_at-zero k in absurd (omega (arith, none, t))
+    ]
+
+pub growing-more : (f : Field) (cell set more : ℕ) → IsGrowing f cell set → IsNextSet f set more → IsGrowing f cell more
+growing-more f cell set more g next = record {
+  here = next.grows cell g.here;
+  within = next.within;
+  joined = λ k t. elim (next.only k t) [
+    | inl x ↦ g.joined k x
+    | inr x ↦ step x.other k (g.joined x.other x.in_set) (eq-eqb (bit_at f.cells x.other) 1 (g.within x.other x.in_set))
+        (eq-eqb (bit_at f.cells k) 1 (next.within k t)) x.next
+  ];
+}
+
+-- a set that grows no more has all joined cells
+pub grown : (f : Field) (cell set : ℕ) → IsGrowing f cell set → IsNextSet f set set → (k : ℕ)
+    → (bit_at set k ≡ 1) ↔ JoinedIn f cell k
+grown f cell set g next k = (g.joined k, go k)
+  where
+    go : (k : ℕ) → JoinedIn f cell k → bit_at set k ≡ 1
+    go k (here m e) = let P : ℕ → Type 0 = λ z. bit_at set z ≡ 1 in subst P e g.here
+    go k (step m l r m_open l_open adjacent) = next.all m k (go m r) (eqb-true (bit_at f.cells k) 1 l_open) adjacent

@@ -1,0 +1,151 @@
+-- Rows of cells in words: put over each other, and cut out.
+use Rattle.std.proofs.Common.{◌≡◌, ℕ, ◌+◌, ◌-◌, ◌*◌, ◌<◌, ◌≤◌, ◌^◌, inl, inr, nat_lt, if◌then◌else◌, ap, sym, ◌∙◌, subst, arith, bit_and, bit_or}
+use Rattle.std.specs.Int.{bit_at}
+use Rattle.std.proofs.Math.Nat.{mul-le-mul_left, mul-le-mul_right}
+use Rattle.std.proofs.lemmas.Bool.{le-ltb, lt-ltb, ltb-true}
+use Rattle.std.proofs.lemmas.Bool.Decides.{leb_tells}
+use Rattle.std.proofs.lemmas.Nat.Bits.{bit_at-lt, bit_at-zero, bit_at_above, bit_at_and, bit_at_or}
+use Rattle.cg_moves.specs.Words.{Marks}
+use Rattle.cg_pieces.specs.declared.frame.Frame.{Frame}
+use Rattle.cg_pieces.specs.Boxes.{cell_at, column_of, row_of, unboxed}
+use Rattle.cg_pieces.specs.Frames.{IsBoxIn, box_from}
+use Rattle.cg_pieces.specs.Words.{IsInOneRow}
+use Rattle.cg_pieces.proofs.Bounds.{column-cell, row-cell}
+use Rattle.cg_pieces.proofs.GrowingSets.{and-one, and-parts, or-left, or-parts, or-right}
+use Rattle.cg_pieces.proofs.OpenWords.{marks-test, test-marks}
+
+-- a cell of a row is so many cells behind its first
+row-cells : (width row k : ℕ) → row * width ≤ k → k ≡ cell_at width row (k - row * width)
+row-cells width row k low = omega arith
+
+-- ---- all rows as one
+
+pub no-row : (width set : ℕ) → IsInOneRow width (0 * width) set 0
+no-row width set = record {
+  all = λ k h t. absurd (omega (arith, h));
+  only = λ c t. let z = bit_at-zero c in absurd (omega (arith, z, t));
+}
+
+pub row-more : (width row set line moved mask : ℕ) → IsInOneRow width (row * width) set line
+    → ((i : ℕ) → bit_at moved i ≡ bit_at set (i + row * width)) → Marks mask (λ i. nat_lt i width)
+    → IsInOneRow width ((row + 1) * width) set (bit_or line (bit_and moved mask))
+row-more width row set line moved mask old moved_is mask_is = record {
+  all = λ k h t. elim (leb_tells (row * width) k) [
+    | inl low ↦
+        let d : ℕ = k - row * width in
+        let few : d < width = (let a = low.1 in omega (arith, a, h)) in
+        let e : d + row * width ≡ k = (let a = low.1 in omega (arith, a)) in
+        let column : column_of width k ≡ d =
+        ap (column_of width) (row-cells width row k low.1) ∙ column-cell width row d few in
+        let P : ℕ → Type 0 = λ z. bit_at (bit_or line (bit_and moved mask)) z ≡ 1 in
+        subst P (sym column) (or-right line (bit_and moved mask) d (and-one moved mask d
+        (moved_is d ∙ ap (bit_at set) e ∙ t)
+        (test-marks mask (λ i. nat_lt i width) mask_is d (lt-ltb d width few))))
+    | inr high ↦ or-left line (bit_and moved mask) (column_of width k) (old.all k high.1 t)
+  ];
+  only = λ c t. elim (or-parts line (bit_and moved mask) c t) [
+    | inl x ↦ old.only c x
+    | inr x ↦
+        let both = and-parts moved mask c x in
+        let few = ltb-true c width (marks-test mask (λ i. nat_lt i width) mask_is c both.1) in
+        let e : c + row * width ≡ cell_at width row c = omega arith in
+        (c + row * width, sym (moved_is c) ∙ both.0, ap (column_of width) e ∙ column-cell width row c few)
+  ];
+}
+
+-- ---- the rows of a box, one after another
+
+module _ (word columns : ℕ) (f : Frame) where
+  -- what the word of the first so many rows of the box has at this place
+  abbrev pub cut : ℕ → ℕ → ℕ
+  cut rows m = if nat_lt m (rows * f.columns) then bit_at word (unboxed (box_from f) columns m) else 0
+
+  cut-inside : (rows m : ℕ) → m < rows * f.columns → cut rows m ≡ bit_at word (unboxed (box_from f) columns m)
+  cut-inside rows m h =
+      ap (λ t. if t then bit_at word (unboxed (box_from f) columns m) else 0) (lt-ltb m (rows * f.columns) h)
+
+  cut-outside : (rows m : ℕ) → rows * f.columns ≤ m → cut rows m ≡ 0
+  cut-outside rows m h =
+      ap (λ t. if t then bit_at word (unboxed (box_from f) columns m) else 0) (le-ltb m (rows * f.columns) h)
+
+  pub cut-none : (m : ℕ) → bit_at 0 m ≡ cut 0 m
+  cut-none m = bit_at-zero m ∙ sym (cut-outside 0 m (omega arith))
+
+  -- nothing is cut out of the word 0
+  pub cut-zero : word ≡ 0 → (m : ℕ) → bit_at 0 m ≡ cut f.rows m
+  cut-zero none m = elim (leb_tells (f.rows * f.columns) m) [
+    | inl h ↦ bit_at-zero m ∙ sym (cut-outside f.rows m h.1)
+    | inr h ↦
+        bit_at-zero m
+        ∙ sym (cut-inside f.rows m h.1 ∙ ap (λ z. bit_at z (unboxed (box_from f) columns m)) none
+        ∙ bit_at-zero (unboxed (box_from f) columns m))
+  ]
+
+  module _ (inside : IsBoxIn columns (box_from f)) where
+    pub few-cut : f.rows * f.columns ≤ 64
+    few-cut =
+        let w = inside.wide in
+        let a : f.rows * f.columns ≤ f.rows * columns = mul-le-mul_left f.rows (omega (arith, w)) in
+        let b = inside.few in
+        omega (arith, a, b)
+
+    module _ (row found moved mask on : ℕ) (below : row < f.rows) (fits : on < 2 ^ 64)
+        (found_is : (m : ℕ) → bit_at found m ≡ cut row m)
+        (moved_is : (i : ℕ) → bit_at moved i ≡ bit_at word (i + ((f.top + row) * columns + f.left)))
+        (mask_is : Marks mask (λ i. nat_lt i f.columns))
+        (on_first : (i : ℕ) → i < row * f.columns → bit_at on i ≡ 0)
+        (on_others : (i : ℕ) → row * f.columns ≤ i → i < 64 → bit_at on i ≡ bit_at (bit_and moved mask) (i - row * f.columns))
+      where
+        few-row : (row + 1) * f.columns ≤ 64
+        few-row =
+            let a : (row + 1) * f.columns ≤ f.rows * f.columns = mul-le-mul_right f.columns (omega (arith, below)) in
+            let b = few-cut in
+            omega (arith, a, b)
+
+        in-row : (m : ℕ) → row * f.columns ≤ m → m < (row + 1) * f.columns
+            → bit_at on m ≡ bit_at word (unboxed (box_from f) columns m)
+        in-row m low high =
+            let d : ℕ = m - row * f.columns in
+            let few : d < f.columns = omega (arith, low, high) in
+            let e = row-cells f.columns row m low in
+            let r : row_of f.columns m ≡ row = ap (row_of f.columns) e ∙ row-cell f.columns row d few in
+            let c : column_of f.columns m ≡ d = ap (column_of f.columns) e ∙ column-cell f.columns row d few in
+            let place : d + ((f.top + row) * columns + f.left) ≡ cell_at columns (f.top + row) (f.left + d) = omega arith in
+            let all = few-row in
+            let one : bit_at mask d ≡ 1 = test-marks mask (λ i. nat_lt i f.columns) mask_is d (lt-ltb d f.columns few) in
+            let both = bit_at_and moved mask d in
+            let bit = bit_at-lt moved d in
+            let is : bit_at (bit_and moved mask) d ≡ bit_at moved d = omega (arith, one, both, bit) in
+            on_others m low (omega (arith, high, all)) ∙ is ∙ moved_is d ∙ ap (bit_at word) place
+            ∙ ap (λ z. bit_at word (cell_at columns (f.top + z) (f.left + d))) (sym r)
+            ∙ ap (λ z. bit_at word (cell_at columns (f.top + row_of f.columns m) (f.left + z))) (sym c)
+
+        past-row : (m : ℕ) → (row + 1) * f.columns ≤ m → bit_at on m ≡ 0
+        past-row m high = elim (leb_tells 64 m) [
+          | inl h ↦ bit_at_above on 64 m fits h.1
+          | inr h ↦
+              let d : ℕ = m - row * f.columns in
+              let past : f.columns ≤ d = omega (arith, high) in
+              let none : bit_at mask d ≡ 0 = mask_is d ∙ ap (λ t. if t then 1 else 0) (le-ltb d f.columns past) in
+              let both = bit_at_and moved mask d in
+              let is : bit_at (bit_and moved mask) d ≡ 0 = omega (arith, none, both) in
+              on_others m (omega (arith, high)) h.1 ∙ is
+        ]
+
+        pub cut-more : (m : ℕ) → bit_at (bit_or found on) m ≡ cut (row + 1) m
+        cut-more m =
+            let either = bit_at_or found on m in
+            elim (leb_tells (row * f.columns) m) [
+              | inl low ↦
+                  let old : bit_at found m ≡ 0 = found_is m ∙ cut-outside row m low.1 in
+                  let is : bit_at (bit_or found on) m ≡ bit_at on m = omega (arith, either, old) in
+                  elim (leb_tells ((row + 1) * f.columns) m) [
+                    | inl high ↦ is ∙ past-row m high.1 ∙ sym (cut-outside (row + 1) m high.1)
+                    | inr high ↦ is ∙ in-row m low.1 high.1 ∙ sym (cut-inside (row + 1) m high.1)
+                  ]
+              | inr low ↦
+                  let before = low.1 in
+                  let none = on_first m before in
+                  let is : bit_at (bit_or found on) m ≡ bit_at found m = omega (arith, either, none) in
+                  is ∙ found_is m ∙ cut-inside row m before ∙ sym (cut-inside (row + 1) m (omega (arith, before)))
+            ]

@@ -1,0 +1,6 @@
+use Rattle.std.proofs.Common.{◌*◌}
+use Rattle.cg_pieces.specs.Words.{IsInOneRow}
+use Rattle.cg_pieces.proofs.frame.in_one_row.Given as goal
+
+abbrev pub invariant-loop-row : goal.invariant-loop-row
+invariant-loop-row l = IsInOneRow l.columns (l.row * l.columns) l.set l.found

@@ -1,0 +1,76 @@
+//! The cells of a board that form pieces, and their joined sets, in words.
+ghost use Rattle.std.specs.Prelude.{◌≡◌, ◌↔◌, ℕ, ◌<◌};
+ghost use Rattle.std.specs.Int.{bit_at};
+ghost use Rattle.cg_moves.specs.Words.{Marks};
+ghost use Rattle.cg_pieces.specs.Neighbours.{is_piece_cell};
+ghost use Rattle.cg_pieces.specs.Words.{IsFieldOf, IsField, IsNextSet, IsWithin, JoinedIn};
+
+use crate::NeighbourRules;
+use cg_moves::Board;
+use cg_moves::words::{moved_back, moved_on, with_bit};
+
+/// The cells of a board that form pieces, with what tells which of them are adjacent.
+#[derive(Clone, Copy)]
+pub(crate) struct Field {
+    /// How many columns the board has.
+    pub(crate) columns: u8,
+    /// The cells of the first column.
+    pub(crate) first_column: u64,
+    /// The cells that form pieces.
+    pub(crate) cells: u64,
+}
+
+/// The cells that form pieces.
+fn open_cells<N: NeighbourRules>(rules: &N, board: &Board) -> u64
+    ensures { Marks result (is_piece_cell (N.neighbours rules.now) board.now) }
+{
+    let mut found = 0;
+    for symbol in board.symbols() {
+        if rules.forms_pieces(*symbol) {
+            found |= board.places(*symbol);
+        }
+    }
+    found
+}
+
+/// The cells of the board that form pieces.
+pub(crate) fn field_of<N: NeighbourRules>(rules: &N, board: &Board) -> Field
+    ensures { IsFieldOf (N.neighbours rules.now) board.now result }
+{
+    Field {
+        columns: board.columns(),
+        first_column: board.first_column(),
+        cells: open_cells(rules, board),
+    }
+}
+
+impl Field {
+    /// The set with the cells that form pieces and are adjacent to one of it.
+    fn with_next(self, set: u64) -> u64
+        requires field { IsField self }
+        requires set { IsWithin set self.cells }
+        ensures { IsNextSet self set result }
+    {
+        let down = moved_on(set, self.columns);
+        let up = moved_back(set, self.columns);
+        let on = moved_on(set, 1);
+        let back = moved_back(set & !self.first_column, 1);
+        (set | ((down | up) | (on & !self.first_column | back))) & self.cells
+    }
+
+    /// The set of cells that are joined with this one, which forms pieces.
+    pub(crate) fn joined(self, cell: u8) -> u64
+        requires field { IsField self }
+        requires cell { cell < 64 }
+        requires inside { bit_at self.cells cell ≡ 1 }
+        ensures { (k : ℕ) → (bit_at result k ≡ 1) ↔ JoinedIn self cell k }
+    {
+        let mut set = with_bit(0, cell, 1);
+        let mut more = self.with_next(set);
+        while more != set {
+            set = more;
+            more = self.with_next(set);
+        }
+        set
+    }
+}
