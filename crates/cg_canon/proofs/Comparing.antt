@@ -1,5 +1,5 @@
 -- The steps of a comparison.
-use Rattle.std.proofs.Common.{◌≡◌, ℕ, ap, sym, ◌∙◌, subst, List, Bool, true, false, ◌&&◌, IfOk}
+use Rattle.std.proofs.Common.{◌≡◌, ℕ, ap, sym, ◌∙◌, subst, List, Bool, true, false, not, ◌&&◌, IfOk}
 use Rattle.std.specs.Prelude.{Result, Ok, Err}
 use Rattle.cg_dyadic.specs.Number.{Number, number_le}
 use Rattle.cg_dyadic.proofs.Truth.{differ, false-from}
@@ -9,6 +9,7 @@ use Rattle.cg_form.specs.Order.{Le, le, no_one}
 use Rattle.cg_form.specs.Side.{at_most}
 use Rattle.cg_form.proofs.Among.{lefts-node, rights-node}
 use Rattle.cg_form.proofs.Cut.{same_when}
+use Rattle.cg_form.proofs.Sides.{side_turned}
 use Rattle.cg_form.proofs.LeSteps.{le_of_nodes, le_of_numbers}
 use Rattle.cg_form.proofs.Order.{le-unfold, no_one-all, no_one-each}
 use Rattle.cg_form.proofs.Simplicity.{le-number, none_fits, number-le}
@@ -43,7 +44,7 @@ both_read s t u a b k l ga gb =
 
 -- ---- a number and a game that equals none
 
-le_same : (g h k l : Game) → g ≡ k → h ≡ l → le g h ≡ le k l
+pub le_same : (g h k l : Game) → g ≡ k → h ≡ l → le g h ≡ le k l
 le_same g h k l a b = cc
 
 pub canonical_at : (h k : Game) → h ≡ k → Canonical h → Canonical k
@@ -115,10 +116,11 @@ hindered g h k al ar xs u a d e q t =
     (no_one-all (at_most true h) (lefts g) (λ b w. false-from (le h b) ((le-unfold g h l).on_left b w))) m))
 
 -- an answer that was found later is one about the games as they were
-pub le_later : {R : Type 0} (s t : State Meant R) (a b : ℕ) (r : Bool) → Spends 0 s t → IsGame s a → IsGame s b
-    → r ≡ le (game_at t a) (game_at t b) → r ≡ le (game_at s a) (game_at s b)
-le_later s t a b r k ga gb e =
-    e ∙ le_same (game_at t a) (game_at t b) (game_at s a) (game_at s b) (game_later s t k.known a ga) (game_later s t k.known b gb)
+-- an answer that was found later, with the two games turned round
+pub turned_before : (left : Bool) (x u y : Game) (r b : Bool) → u ≡ x → r ≡ at_most (not left) y u → r ≡ b
+    → at_most left x y ≡ b
+turned_before left x u y r b e q h =
+    ap (λ z. at_most left z y) (sym e) ∙ sym (side_turned left y u) ∙ sym q ∙ h
 
 -- ---- results
 

@@ -5,14 +5,37 @@ use Rattle.std.proofs.lemmas.Bool.Decides.{eqb_tells}
 use Rattle.cg_form.specs.Game.{Game}
 use Rattle.cg_form.specs.Order.{le}
 use Rattle.cg_cells.specs.Store.{Spends, State}
-use Rattle.cg_nodes.specs.Games.{IsGame, game_at}
+use Rattle.cg_form.specs.Sum.{sum}
+use Rattle.cg_cells.specs.Meaning.{Grows}
+use Rattle.cg_cells.specs.Store.{thing_at}
+use Rattle.cg_nodes.specs.Games.{IsGame, StandsFor, game_at}
+use Rattle.cg_nodes.specs.Spelled.{can}
+use Rattle.cg_canon.specs.Items.{AllPass}
+use Rattle.cg_canon.specs.SumItems.{sum_items}
 use Rattle.cg_nodes.specs.Meant.{Meant}
-use Rattle.cg_nodes.proofs.Later.{game_later, is_game_later}
+use Rattle.cg_nodes.proofs.Later.{game_later, is_game_later, stands_later}
+use Rattle.cg_canon.specs.declared.memo.KnownSum.{KnownSum}
 use Rattle.cg_canon.specs.declared.memo.Memo.{Memo}
 use Rattle.cg_canon.specs.declared.profile.Profile.{Profile}
-use Rattle.cg_canon.specs.Memos.{profiled, recalled}
+use Rattle.cg_canon.specs.Added.{IsKnownSum}
+use Rattle.cg_canon.specs.Memos.{profiled, recalled, summed}
 use Rattle.cg_canon.specs.Profiles.{IsProfile}
 use Rattle.cg_canon.specs.Works.{WorkHolds}
+
+-- a known sum stays one
+known_sum_later : {R Q : Type 0} (s : State Meant R) (t : State Meant Q) → Grows (thing_at s) (thing_at t)
+    → (a b : ℕ) (known : KnownSum) → IsKnownSum s a b known → IsKnownSum t a b known
+known_sum_later s t grows a b known h =
+    let x = game_later s t grows a h.first in
+    let y = game_later s t grows b h.second in
+    let P : Game → Game → Type 0 = λ p q. StandsFor t known.sum (can (sum p q)) in
+    let Q : Game → Game → Type 0 = λ p q. AllPass known.cost 0 (sum_items known.limit p q) known.cost in
+    record {
+      first = is_game_later s t grows a h.first;
+      second = is_game_later s t grows b h.second;
+      sum = subst (λ p. P p (game_at t b)) (sym x) (subst (P (game_at s a)) (sym y) (stands_later s t grows known.sum _ h.sum));
+      items = subst (λ p. Q p (game_at t b)) (sym x) (subst (Q (game_at s a)) (sym y) h.items);
+    }
 
 -- when the store has grown
 pub holds_later : {R : Type 0} (n : ℕ) (s t : State Meant R) (spent share start : ℕ) (m : Memo)
@@ -34,13 +57,14 @@ holds_later n s t spent share start m h k room =
           let o = h.profiles a p r in
           let P : Game → Type 0 = λ z. IsProfile z p in
           (is_game_later s t k.known a o.0, subst P (sym (game_later s t k.known a o.0)) o.1);
+      sums = λ a b known r. known_sum_later s t k.known a b known (h.sums a b known r);
     }
 
 -- when the memo has the same
 pub holds_same : {R : Type 0} (s : State Meant R) (spent share start : ℕ) (m n : Memo) → WorkHolds s spent share start m
     → ((a b : ℕ) → recalled n a b ≡ recalled m a b) → ((a : ℕ) → profiled n a ≡ profiled m a)
-    → WorkHolds s spent share start n
-holds_same s spent share start m n h e f = record {
+    → ((a b : ℕ) → summed n a b ≡ summed m a b) → WorkHolds s spent share start n
+holds_same s spent share start m n h e f g = record {
   within = h.within;
   room = h.room;
   small = h.small;
@@ -48,6 +72,7 @@ holds_same s spent share start m n h e f = record {
   enough = h.enough;
   answers = λ a b answer r. h.answers a b answer (sym (e a b) ∙ r);
   profiles = λ a p r. h.profiles a p (sym (f a) ∙ r);
+  sums = λ a b known r. h.sums a b known (sym (g a b) ∙ r);
 }
 
 some_same : {A : Type 0} (x y : A) → Some x ≡ Some y → x ≡ y
@@ -57,9 +82,9 @@ some_same x y e = cc
 pub holds_answer : {R : Type 0} (s : State Meant R) (spent share start : ℕ) (m n : Memo) (a b : ℕ) (answer : Bool)
     → WorkHolds s spent share start m
     → ((c d : ℕ) → recalled n c d ≡ (if (a == c) && (b == d) then Some answer else recalled m c d))
-    → ((c : ℕ) → profiled n c ≡ profiled m c)
+    → ((c : ℕ) → profiled n c ≡ profiled m c) → ((c d : ℕ) → summed n c d ≡ summed m c d)
     → IsGame s a → IsGame s b → answer ≡ le (game_at s a) (game_at s b) → WorkHolds s spent share start n
-holds_answer {R} s spent share start m n a b answer h e f ga gb o = record {
+holds_answer {R} s spent share start m n a b answer h e f g ga gb o = record {
   within = h.within;
   room = h.room;
   small = h.small;
@@ -67,6 +92,7 @@ holds_answer {R} s spent share start m n a b answer h e f ga gb o = record {
   enough = h.enough;
   answers = λ c d v r. by c d v (sym (e c d) ∙ r);
   profiles = λ c p r. h.profiles c p (sym (f c) ∙ r);
+  sums = λ c d known r. h.sums c d known (sym (g c d) ∙ r);
 }
   where
     by : (c d : ℕ) (v : Bool) → (if (a == c) && (b == d) then Some answer else recalled m c d) ≡ Some v
@@ -92,9 +118,9 @@ holds_answer {R} s spent share start m n a b answer h e f ga gb o = record {
 pub holds_profile : {R : Type 0} (s : State Meant R) (spent share start : ℕ) (m n : Memo) (a : ℕ) (p : Profile)
     → WorkHolds s spent share start m
     → ((c : ℕ) → profiled n c ≡ (if a == c then Some p else profiled m c))
-    → ((c d : ℕ) → recalled n c d ≡ recalled m c d)
+    → ((c d : ℕ) → recalled n c d ≡ recalled m c d) → ((c d : ℕ) → summed n c d ≡ summed m c d)
     → IsGame s a → IsProfile (game_at s a) p → WorkHolds s spent share start n
-holds_profile {R} s spent share start m n a p h e f g o = record {
+holds_profile {R} s spent share start m n a p h e f k g o = record {
   within = h.within;
   room = h.room;
   small = h.small;
@@ -102,6 +128,7 @@ holds_profile {R} s spent share start m n a p h e f g o = record {
   enough = h.enough;
   answers = λ c d v r. h.answers c d v (sym (f c d) ∙ r);
   profiles = λ c q r. by c q (sym (e c) ∙ r);
+  sums = λ c d known r. h.sums c d known (sym (k c d) ∙ r);
 }
   where
     by : (c : ℕ) (q : Profile) → (if a == c then Some p else profiled m c) ≡ Some q → IsGame s c × IsProfile (game_at s c) q
@@ -114,4 +141,39 @@ holds_profile {R} s spent share start m n a p h e f g o = record {
       | inr t ↦
           let k : (if a == c then Some p else profiled m c) ≡ profiled m c = rw t.0 refl in
           h.profiles c q (sym k ∙ r)
+    ]
+
+-- when the memo has one sum more
+pub holds_sum : {R : Type 0} (s : State Meant R) (spent share start : ℕ) (m n : Memo) (a b : ℕ) (known : KnownSum)
+    → WorkHolds s spent share start m
+    → ((c d : ℕ) → summed n c d ≡ (if (a == c) && (b == d) then Some known else summed m c d))
+    → ((c d : ℕ) → recalled n c d ≡ recalled m c d) → ((c : ℕ) → profiled n c ≡ profiled m c)
+    → IsKnownSum s a b known → WorkHolds s spent share start n
+holds_sum {R} s spent share start m n a b known h e f g o = record {
+  within = h.within;
+  room = h.room;
+  small = h.small;
+  fallen = h.fallen;
+  enough = h.enough;
+  answers = λ c d v r. h.answers c d v (sym (f c d) ∙ r);
+  profiles = λ c p r. h.profiles c p (sym (g c) ∙ r);
+  sums = λ c d v r. by c d v (sym (e c d) ∙ r);
+}
+  where
+    by : (c d : ℕ) (v : KnownSum) → (if (a == c) && (b == d) then Some known else summed m c d) ≡ Some v
+        → IsKnownSum s c d v
+    by c d v r = elim (eqb_tells a c) [
+      | inl p ↦ elim (eqb_tells b d) [
+        | inl q ↦
+            let t : (if (a == c) && (b == d) then Some known else summed m c d) ≡ Some known = rw (p.0, q.0) refl in
+            let k : known ≡ v = some_same known v (sym t ∙ r) in
+            let P : ℕ → ℕ → KnownSum → Type 0 = λ x y z. IsKnownSum s x y z in
+            subst (λ x. P x d v) p.1 (subst (λ y. P a y v) q.1 (subst (P a b) k o))
+        | inr q ↦
+            let t : (if (a == c) && (b == d) then Some known else summed m c d) ≡ summed m c d = rw (p.0, q.0) refl in
+            h.sums c d v (sym t ∙ r)
+      ]
+      | inr p ↦
+          let t : (if (a == c) && (b == d) then Some known else summed m c d) ≡ summed m c d = rw p.0 refl in
+          h.sums c d v (sym t ∙ r)
     ]

@@ -1,4 +1,5 @@
 pub mod ItemLaws
+pub mod AgainItems
 pub mod Profiling
 pub mod Holding
 pub mod Same
@@ -12,5 +13,8 @@ pub mod MadeSteps
 pub mod Against
 pub mod Bypassing
 pub mod Besting
+pub mod Halving
+pub mod Reaching
+pub mod Ranking
 pub mod Forming
 pub mod Telling

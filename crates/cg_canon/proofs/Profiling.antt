@@ -54,7 +54,7 @@ deepest-last : (gs : List Game) (g : Game) → deepest (gs ++ g ∷ []) ≡ max 
 deepest-last [] g = omega arith
 deepest-last (h ∷ gs) g = omega (arith, deepest-last gs g)
 
-profile_cut : (s : Bool) (g : Game) (p : Profile) → IsProfile g p → CutIs AnyNumber s (chosen_cut s p.low p.high) g
+pub profile_cut : (s : Bool) (g : Game) (p : Profile) → IsProfile g p → CutIs AnyNumber s (chosen_cut s p.low p.high) g
 profile_cut true g p h = h.low
 profile_cut false g p h = h.high
 

@@ -22,6 +22,20 @@ pub searched_none : {R : Type 0} (s : State Meant R) (p : Game → Bool) (list :
     → Searched s s p list list
 searched_none s p list l = record { spends = nothing_spent s; left = l; size = omega arith; same = refl; inside = λ x m. m }
 
+-- the search begins at t
+pub searched_from : {R : Type 0} (s t : State Meant R) (p : Game → Bool) (list : Option ℕ) → IsList s list → Spends 0 s t
+    → Searched s t p list list
+searched_from s t p list l k =
+    let same = listed_later s t k.known list l in
+    let m = ap list_size same in
+    record {
+      spends = k;
+      left = is_list_later s t k.known list l;
+      size = omega arith;
+      same = ap (no_one p) (sym same);
+      inside = λ x m. carry x (listed t list) (listed s list) same m;
+    }
+
 list_as : {R : Type 0} (s t : State Meant R) (gs : List Game) (o : Option ℕ) → Spends 0 s t → IsList s o → gs ≡ listed s o
     → listed t o ≡ gs
 list_as s t gs o k l e = listed_later s t k.known o l ∙ sym e

@@ -2,6 +2,7 @@
 pub mod Items
 pub mod Profiles
 pub mod Memos
+pub mod Added
 pub mod Works
 pub mod Made
 pub mod NumberItems
@@ -11,3 +12,5 @@ pub mod Verdict
 pub mod Wholes
 pub mod Passed
 pub mod Told
+pub mod Reach
+pub mod Ranked

@@ -1,6 +1,7 @@
 -- What a memo has.
 use Rattle.std.specs.Prelude.{ℕ, Bool, Option, ◌==◌, ◌&&◌, nat_eq}
 use Rattle.std.specs.HashMap.{get}
+use Rattle.cg_canon.specs.declared.memo.KnownSum.{KnownSum}
 use Rattle.cg_canon.specs.declared.memo.Memo.{Memo}
 use Rattle.cg_canon.specs.declared.profile.Profile.{Profile}
 
@@ -14,3 +15,7 @@ recalled m a b = get pair_eq m.answers (a, b)
 -- the profile for an id
 abbrev pub profiled : Memo → ℕ → Option Profile
 profiled m a = get nat_eq m.profiles a
+
+-- the sum for a pair of ids
+abbrev pub summed : Memo → ℕ → ℕ → Option KnownSum
+summed m a b = get pair_eq m.sums (a, b)

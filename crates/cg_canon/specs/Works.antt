@@ -8,10 +8,12 @@ use Rattle.cg_cells.specs.Meaning.{Grows}
 use Rattle.cg_cells.specs.Store.{IsSublist, State, thing_at}
 use Rattle.cg_nodes.specs.Games.{IsGame, game_at}
 use Rattle.cg_nodes.specs.Meant.{Meant}
+use Rattle.cg_canon.specs.declared.memo.KnownSum.{KnownSum}
 use Rattle.cg_canon.specs.declared.memo.Memo.{Memo}
 use Rattle.cg_canon.specs.declared.profile.Profile.{Profile}
 use Rattle.cg_canon.specs.declared.rest.WorkRest.{WorkRest}
-use Rattle.cg_canon.specs.Memos.{profiled, recalled}
+use Rattle.cg_canon.specs.Added.{IsKnownSum}
+use Rattle.cg_canon.specs.Memos.{profiled, recalled, summed}
 use Rattle.cg_canon.specs.Profiles.{IsProfile}
 
 -- the store that is borrowed, the cost so far, the greatest cost, what the store had to spare at first, and the limit on
@@ -38,6 +40,10 @@ AnswersHold {R} s m = (a b : ℕ) (answer : Bool) → recalled m a b ≡ Some an
 abbrev pub ProfilesHold : {R : Type 0} → State Meant R → Memo → Type 0
 ProfilesHold {R} s m = (a : ℕ) (p : Profile) → profiled m a ≡ Some p → IsGame s a × IsProfile (game_at s a) p
 
+-- each sum of the memo is that of its two games
+abbrev pub SumsHold : {R : Type 0} → State Meant R → Memo → Type 0
+SumsHold {R} s m = (a b : ℕ) (known : KnownSum) → summed m a b ≡ Some known → IsKnownSum s a b known
+
 pub record WorkHolds {R : Type 0} (s : State Meant R) (spent share start : ℕ) (m : Memo) : Type 0 where
   pub within : spent ≤ share
   pub room : share ≤ start
@@ -46,6 +52,7 @@ pub record WorkHolds {R : Type 0} (s : State Meant R) (spent share start : ℕ) 
   pub enough : start ≤ s.spare + spent
   pub answers : AnswersHold s m
   pub profiles : ProfilesHold s m
+  pub sums : SumsHold s m
 
 abbrev pub work_rest : {S R : Type 0} → WorkOf S → R → WorkRest R
 work_rest {S} {R} w rest = record {

@@ -2,7 +2,8 @@
 //!
 //! An option that is reversible through a number is replaced by that number itself: the number is at least as good as what
 //! the bypass would bring in, and adds nothing, since another option is at least as good as the number. So no number is
-//! counted down. Each option is bypassed once, however many ways lead to it.
+//! counted down. Each option is bypassed once, however many ways lead to it; only the own options of the whole, where they are
+//! few, may be met a second time.
 ghost use Rattle.std.specs.Prelude.{[], IfOk, cond};
 ghost use Rattle.cg_form.specs.Bypass.{AllCovered, Covered, Grown};
 ghost use Rattle.cg_form.specs.Game.{Among, Game};
@@ -14,7 +15,7 @@ ghost use Rattle.cg_canon.specs.Passed.{AreSubstitutes};
 ghost use Rattle.cg_canon.specs.Wholes.{WholeHolds, whole_game};
 ghost use Rattle.cg_canon.specs.Works.{work_state};
 
-use crate::substitutes::{Options, Substitutes};
+use crate::substitutes::{FEW, Options, Substitutes};
 use crate::whole::{Verdicts, Whole, chosen, first_at_most};
 use crate::work::Work;
 use cg_cells::CellStore;
@@ -150,6 +151,35 @@ fn bypass_list<B: BoardForms, S: CellStore<GameFacts<B>>>(
     Ok(all)
 }
 
+/// The list with what stands in the place of one of the player's own options of the whole. Where these are few, it is neither
+/// looked for among those that were passed nor kept with them.
+fn bypass_own<B: BoardForms, S: CellStore<GameFacts<B>>>(
+    alloc: Global,
+    work: &mut Work<B, S>,
+    whole: &Whole,
+    verdicts: &mut Verdicts,
+    left: bool,
+    option: Handle,
+    out: Substitutes,
+) -> Result<Substitutes, AllocError>
+    requires holds { WholeHolds (work_state S.state work.old) whole.now verdicts.old }
+    requires option { IsGame (work_state S.state work.old) option }
+    requires less { ¬ AtMost left (whole_game (work_state S.state work.old) whole.now) (game_at (work_state S.state work.old) option) }
+    requires out { let W = work_state S.state work.old in AreSubstitutes W left (whole_game W whole.now) out }
+    ensures out { let W = work_state S.state work.new in IfOk result (λ r. AreSubstitutes W left (whole_game W whole.now) r) }
+    ensures grown { IfOk result (λ r. Grown left (whole_game (work_state S.state work.old) whole.now)
+        (games_at (work_state S.state work.old) out.items.items) (games_at (work_state S.state work.new) r.items.items)) }
+    ensures covered { IfOk result (λ r. Covered left (whole_game (work_state S.state work.old) whole.now)
+        (games_at (work_state S.state work.new) r.items.items) (game_at (work_state S.state work.old) option)) }
+    ensures holds { WholeHolds (work_state S.state work.new) whole.now verdicts.new }
+    ensures spends { Spends 0 (work_state S.state work.old) (work_state S.state work.new) }
+{
+    if whole.own(left).len() <= FEW {
+        return bypass(alloc, work, whole, verdicts, left, option, out);
+    }
+    bypass_once(alloc, work, whole, verdicts, left, option, out)
+}
+
 /// What stands in the places of the player's own options of the whole.
 pub(crate) fn candidates<B: BoardForms, S: CellStore<GameFacts<B>>>(
     alloc: Global,
@@ -170,7 +200,7 @@ pub(crate) fn candidates<B: BoardForms, S: CellStore<GameFacts<B>>>(
 {
     let mut all = Substitutes::new(alloc);
     for option in whole.own(left) {
-        all = bypass_once(alloc, work, whole, verdicts, left, *option, all)?;
+        all = bypass_own(alloc, work, whole, verdicts, left, *option, all)?;
     }
     Ok(all.into_items())
 }

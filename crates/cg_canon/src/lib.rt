@@ -1,6 +1,7 @@
 //! The order of games and their canonical forms, on handles of a store, with exact costs.
 #![tactic(auto)]
 
+mod again;
 mod best;
 mod bypass;
 mod equality;
@@ -12,13 +13,17 @@ mod numbers;
 mod order;
 mod profile;
 mod profiles;
+mod ranked;
+mod reach;
 mod reduce;
 mod rest;
 mod substitutes;
 mod told;
 mod whole;
+mod wide;
 mod work;
 
+pub use again::{keep_sum, sum_again};
 pub use equality::equal;
 pub use fault::ValueFault;
 pub use forms::canonical;

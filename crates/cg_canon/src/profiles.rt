@@ -68,7 +68,7 @@ pub(crate) fn profile_of<B: BoardForms, S: CellStore<GameFacts<B>>>(
     ensures spends { Spends 0 (work_state S.state work.old) (work_state S.state work.new) }
 {
     if let Some(profile) = work.profile(handle) {
-        return Ok(profile);
+        return Ok(*profile);
     }
     let profile = new_profile(alloc, work, handle)?;
     work.keep(handle, &profile)?;

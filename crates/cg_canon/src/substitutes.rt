@@ -7,6 +7,9 @@ use smallvec::SmallVec;
 use std::alloc::{AllocError, Global};
 use std::collections::HashSet;
 
+/// Up to so many options are dealt with as they come, and nothing is kept beside them.
+pub(crate) const FEW: usize = 8;
+
 /// A list of options while a form is computed: up to 8 of them take no memory.
 pub(crate) type Options = SmallVec<Handle, 8>;
 

@@ -23,7 +23,7 @@ use cg_nodes::{BoardForms, GameFacts, Handle};
 use std::alloc::{AllocError, Global};
 
 /// Whether some number of the first cut isn't in the second.
-fn goes_past(left: bool, a: &Cut, b: &Cut) -> bool
+pub(crate) fn goes_past(left: bool, a: &Cut, b: &Cut) -> bool
     ensures { IsTrue result → GoesPast left a.now b.now }
 {
     if a.closed {
@@ -55,10 +55,19 @@ fn stands_out(a: &Profile, b: &Profile) -> bool
     goes_past(false, &b.high, &a.high)
 }
 
+/// Whether the two games make the same cuts of the numbers, and all of them open. Then no number lies between them.
+fn alike(a: &Profile, b: &Profile) -> bool {
+    let open = !(a.low.closed || b.low.closed || a.high.closed || b.high.closed);
+    open && a.low.at == b.low.at && a.high.at == b.high.at
+}
+
 /// Whether the first game is at most the second, where the numbers tell.
 fn told_of(a: &Profile, b: &Profile) -> Option<bool>
     ensures { (g h : Game) → IsProfile g a.now → IsProfile h b.now → IfSome result (λ answer. answer ≡ le g h) }
 {
+    if alike(a, b) {
+        return None;
+    }
     if stands_out(a, b) {
         return Some(false);
     }
@@ -97,6 +106,22 @@ pub(crate) fn told<B: BoardForms, S: CellStore<GameFacts<B>>>(
     Ok(told_of(&first, &second))
 }
 
+/// What the numbers tell of the game of the handle and a game of this profile, where the handle's profile is kept: it is lent.
+fn told_lent<B: BoardForms, S: CellStore<GameFacts<B>>>(
+    work: &Work<B, S>,
+    left: bool,
+    a: Handle,
+    profile: &Profile,
+) -> Option<Option<bool>>
+    ensures { (h : Game) → IsProfile h profile.now → IfSome result (λ answer. IfSome answer (λ yes. yes
+        ≡ at_most left (game_at (S.state work.now.store.now) a) h)) }
+{
+    match work.profile(a) {
+        None => None,
+        Some(own) => Some(told_for(left, own, profile)),
+    }
+}
+
 /// Whether the game of the handle is for the player at most as good as a game of this profile, where the numbers tell.
 pub(crate) fn told_beside<B: BoardForms, S: CellStore<GameFacts<B>>>(
     alloc: Global,
@@ -110,6 +135,9 @@ pub(crate) fn told_beside<B: BoardForms, S: CellStore<GameFacts<B>>>(
         ≡ at_most left (game_at (work_state S.state work.old) a) h)) }
     ensures spends { Spends 0 (work_state S.state work.old) (work_state S.state work.new) }
 {
+    if let Some(answer) = told_lent(work, left, a, profile) {
+        return Ok(answer);
+    }
     let own = profile_of(alloc, work, a)?;
     Ok(told_for(left, &own, profile))
 }

@@ -9,8 +9,9 @@ ghost use Rattle.cg_canon.specs.Verdict.{answer_for, verdict};
 ghost use Rattle.cg_canon.specs.Wholes.{WholeHolds, whole_game};
 ghost use Rattle.cg_canon.specs.Works.{work_state};
 
-use crate::order::at_most;
+use crate::order::at_most_beside;
 use crate::profile::Profile;
+use crate::profiles::profile_of;
 use crate::told::told_beside;
 use crate::work::Work;
 use cg_cells::CellStore;
@@ -128,8 +129,9 @@ fn none_at_most<B: BoardForms, S: CellStore<GameFacts<B>>>(
         ≡ no_one (λ b. at_most left b (game_at (work_state S.state work.old) handle)) (games_at (work_state S.state work.old) options.now)) }
     ensures spends { Spends 0 (work_state S.state work.old) (work_state S.state work.new) }
 {
+    let own = profile_of(alloc, work, handle)?;
     for option in options {
-        if at_most(alloc, work, left, *option, handle)? {
+        if at_most_beside(alloc, work, left, *option, handle, &own)? {
             return Ok(false);
         }
     }

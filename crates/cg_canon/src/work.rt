@@ -3,10 +3,11 @@ ghost use Rattle.std.specs.Prelude.{◌≡◌, ℕ, ◌+◌, ◌-◌, ◌≤◌,
 ghost use Rattle.cg_form.specs.Order.{le};
 ghost use Rattle.cg_nodes.specs.Games.{IsGame, game_at};
 ghost use Rattle.cg_canon.specs.Profiles.{IsProfile};
+ghost use Rattle.cg_canon.specs.Added.{IsKnownSum};
 ghost use Rattle.cg_canon.specs.Works.{IsUnspent, WorkHolds, WorkOf, work_code, work_state};
 
 use crate::fault::ValueFault;
-use crate::memo::Memo;
+use crate::memo::{KnownSum, Memo};
 use crate::profile::Profile;
 use crate::rest::WorkRest;
 use cg_cells::{CellStore, Id, Key};
@@ -137,9 +138,9 @@ impl<'a, B: BoardForms, S: CellStore<GameFacts<B>>> Work<'a, B, S> {
         Ok(())
     }
 
-    /// The profile that was found for the game, if one was.
-    pub(crate) fn profile(&self, a: Handle) -> Option<Profile>
-        ensures { IfSome result (λ p. IsProfile (game_at (S.state self.now.store.now) a) p) }
+    /// The profile that was found for the game, if one was. It is lent.
+    pub(crate) fn profile(&self, a: Handle) -> Option<&Profile>
+        ensures { IfSome result (λ p. IsProfile (game_at (S.state self.now.store.now) a) p.now) }
     {
         self.memo.profile(a.id().number())
     }
@@ -151,6 +152,28 @@ impl<'a, B: BoardForms, S: CellStore<GameFacts<B>>> Work<'a, B, S> {
         ensures { self.new ≡ self.old }
     {
         self.memo.keep(a.id().number(), profile)?;
+        Ok(())
+    }
+
+    /// The sum of the two that was found, if one was.
+    pub(crate) fn added(&self, a: Handle, b: Handle) -> Option<KnownSum>
+        ensures { IfSome result (IsKnownSum (S.state self.now.store.now) a b) }
+    {
+        self.memo.added(a.id().number(), b.id().number())
+    }
+
+    /// Keeps the sum of the two.
+    pub(crate) fn keep_added(
+        &mut self,
+        a: Handle,
+        b: Handle,
+        known: KnownSum,
+    ) -> Result<(), AllocError>
+        requires { IsKnownSum (S.state self.old.store.now) a b known }
+        ensures { self.new ≡ self.old }
+    {
+        self.memo
+            .keep_added(a.id().number(), b.id().number(), known)?;
         Ok(())
     }
 }

@@ -11,16 +11,16 @@ use Rattle.cg_canon.proofs.Bypassing.{covered_before, no_substitutes, not_at_mos
 use Rattle.cg_canon.proofs.Outlining.{game_of_item}
 use Rattle.cg_canon.proofs.bypass.candidates.Goals as goal
 
-pub bypass_once-requires-clause-option : goal.bypass_once-requires-clause-option
-bypass_once-requires-clause-option g c =
+pub bypass_own-requires-clause-option : goal.bypass_own-requires-clause-option
+bypass_own-requires-clause-option g c =
     let W = work_state g.S.CellStore.state in
     let a = own_games (W c.args.work.now) (W c.args.work.now) c.args.whole.now c.args.verdicts.now c.args.left c.own-option-items.result.now c.requires.holds (nothing_spent (W c.args.work.now)) c.own-option-items.ensures in
     let P : ℕ → Type 0 = λ z. IsGame (W c.args.work.now) z in
     is_game_later (W c.args.work.now) (W c.loop-option.work) c.loop-option.invariant.so_far.spends.known c.option-item.result
     (subst P (sym c.option-item.is) (game_of_item (W c.args.work.now) c.own-option-items.result.now c.loop-option.option-index c.option-item.result a c.loop-option-test.true))
 
-pub bypass_once-requires-clause-less : goal.bypass_once-requires-clause-less
-bypass_once-requires-clause-less g c =
+pub bypass_own-requires-clause-less : goal.bypass_own-requires-clause-less
+bypass_own-requires-clause-less g c =
     let W = work_state g.S.CellStore.state in
     let a = own_games (W c.args.work.now) (W c.args.work.now) c.args.whole.now c.args.verdicts.now c.args.left c.own-option-items.result.now c.requires.holds (nothing_spent (W c.args.work.now)) c.own-option-items.ensures in
     let P : ℕ → Type 0 = λ z. IsGame (W c.args.work.now) z in
@@ -44,17 +44,17 @@ pub loop-option-preserved : goal.loop-option-preserved
 loop-option-preserved g c =
     let W = work_state g.S.CellStore.state in
     let a = own_games (W c.args.work.now) (W c.args.work.now) c.args.whole.now c.args.verdicts.now c.args.left c.own-option-items.result.now c.requires.holds (nothing_spent (W c.args.work.now)) c.own-option-items.ensures in
-    let P : Game → Type 0 = λ z. Grown c.args.left z (games_at (W c.loop-option.work) c.loop-option.all.items.items) (games_at (W c.bypass_once.new.work) c.in_ok-all.all.items.items) in
+    let P : Game → Type 0 = λ z. Grown c.args.left z (games_at (W c.loop-option.work) c.loop-option.all.items.items) (games_at (W c.bypass_own.new.work) c.in_ok-all.all.items.items) in
     record {
-      so_far = own_bypassed_more (W c.args.work.now) (W c.loop-option.work) (W c.bypass_once.new.work) c.args.left (whole_game (W c.args.work.now) c.args.whole.now) c.own-option-items.result.now c.loop-option.all.items.items c.in_ok-all.all.items.items c.loop-option.option-index c.option-item.result
-          c.loop-option.invariant.so_far a c.loop-option-test.true c.option-item.is c.bypass_once.ensures.spends c.in_ok-all.ensures.out.games
+      so_far = own_bypassed_more (W c.args.work.now) (W c.loop-option.work) (W c.bypass_own.new.work) c.args.left (whole_game (W c.args.work.now) c.args.whole.now) c.own-option-items.result.now c.loop-option.all.items.items c.in_ok-all.all.items.items c.loop-option.option-index c.option-item.result
+          c.loop-option.invariant.so_far a c.loop-option-test.true c.option-item.is c.bypass_own.ensures.spends c.in_ok-all.ensures.out.games
           (subst P (whole_same 0 (W c.args.work.now) (W c.loop-option.work) c.args.whole.now c.args.verdicts.now c.requires.holds c.loop-option.invariant.so_far.spends) c.in_ok-all.ensures.grown)
-          (covered_before (W c.args.work.now) (W c.loop-option.work) c.args.whole.now c.args.verdicts.now c.requires.holds c.loop-option.invariant.so_far.spends c.args.left (games_at (W c.bypass_once.new.work) c.in_ok-all.all.items.items) (game_at (W c.loop-option.work) c.option-item.result) c.in_ok-all.ensures.covered);
-      holds = c.bypass_once.ensures.holds;
+          (covered_before (W c.args.work.now) (W c.loop-option.work) c.args.whole.now c.args.verdicts.now c.requires.holds c.loop-option.invariant.so_far.spends c.args.left (games_at (W c.bypass_own.new.work) c.in_ok-all.all.items.items) (game_at (W c.loop-option.work) c.option-item.result) c.in_ok-all.ensures.covered);
+      holds = c.bypass_own.ensures.holds;
       out = c.in_ok-all.ensures.out;
     }
 
 pub returns-in_err-all-clause-spends : goal.returns-in_err-all-clause-spends
 returns-in_err-all-clause-spends g c =
     let W = work_state g.S.CellStore.state in
-    spends_then 0 0 (W c.args.work.now) (W c.loop-option.work) (W c.bypass_once.new.work) c.loop-option.invariant.so_far.spends c.bypass_once.ensures.spends
+    spends_then 0 0 (W c.args.work.now) (W c.loop-option.work) (W c.bypass_own.new.work) c.loop-option.invariant.so_far.spends c.bypass_own.ensures.spends

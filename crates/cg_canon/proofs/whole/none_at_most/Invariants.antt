@@ -8,6 +8,6 @@ use Rattle.cg_canon.proofs.whole.none_at_most.Given as goal
 
 abbrev pub invariant-loop-option : goal.invariant-loop-option
 invariant-loop-option g l = record {
-  spends : Spends 0 (work_state g.S.CellStore.state l.initial.work) (work_state g.S.CellStore.state l.work);
-  none : no_one (λ b. at_most l.left b (game_at (work_state g.S.CellStore.state l.initial.work) l.handle)) (games_at (work_state g.S.CellStore.state l.initial.work) (take l.option-index l.options)) ≡ true;
+  spends : Spends 0 (work_state g.S.CellStore.state l.fn.work) (work_state g.S.CellStore.state l.work);
+  none : no_one (λ b. at_most l.left b (game_at (work_state g.S.CellStore.state l.fn.work) l.handle)) (games_at (work_state g.S.CellStore.state l.fn.work) (take l.option-index l.options)) ≡ true;
 }

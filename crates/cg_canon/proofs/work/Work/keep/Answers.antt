@@ -8,7 +8,7 @@ use Rattle.cg_canon.proofs.work.Work.keep.Goals as goal
 pub invariant_of-self : goal.invariant_of-self
 invariant_of-self g c =
     holds_same (g.S.CellStore.state c.self.inside.store.now) c.self.inside.spent c.self.inside.share c.self.inside.start c.self.inside.memo c.keep.new.self
-    c.self.invariant c.in_err-keep.ensures.answers c.in_err-keep.ensures.err
+    c.self.invariant c.in_err-keep.ensures.answers c.in_err-keep.ensures.err c.in_err-keep.ensures.sums
 
 pub invariant_of-self-2 : goal.invariant_of-self-2
 invariant_of-self-2 g c =
@@ -17,4 +17,4 @@ invariant_of-self-2 g c =
     let Q : ℕ → Type 0 = λ i. IsGame (g.S.CellStore.state c.self.inside.store.now) i × IsProfile (game_at (g.S.CellStore.state c.self.inside.store.now) i) c.args.profile.now in
     let h = subst Q (sym id) (subst P (sym c.self.view_is) (c.requires.game, c.requires.profile)) in
     holds_profile (g.S.CellStore.state c.self.inside.store.now) c.self.inside.spent c.self.inside.share c.self.inside.start c.self.inside.memo c.keep.new.self c.number.result c.args.profile.now
-    c.self.invariant c.in_ok-keep.ensures.ok c.in_ok-keep.ensures.answers h.0 h.1
+    c.self.invariant c.in_ok-keep.ensures.ok c.in_ok-keep.ensures.answers c.in_ok-keep.ensures.sums h.0 h.1

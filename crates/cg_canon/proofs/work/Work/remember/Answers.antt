@@ -8,7 +8,7 @@ use Rattle.cg_canon.proofs.work.Work.remember.Goals as goal
 pub invariant_of-self : goal.invariant_of-self
 invariant_of-self g c =
     holds_same (g.S.CellStore.state c.self.inside.store.now) c.self.inside.spent c.self.inside.share c.self.inside.start c.self.inside.memo c.remember.new.self
-    c.self.invariant c.in_err-remember.ensures.err c.in_err-remember.ensures.profiles
+    c.self.invariant c.in_err-remember.ensures.err c.in_err-remember.ensures.profiles c.in_err-remember.ensures.sums
 
 pub invariant_of-self-2 : goal.invariant_of-self-2
 invariant_of-self-2 g c =
@@ -22,4 +22,4 @@ invariant_of-self-2 g c =
     let k = subst (λ i. Q i c.number-2.result) (sym first) (subst (λ j. Q c.args.a j) (sym second) h) in
     holds_answer (g.S.CellStore.state c.self.inside.store.now) c.self.inside.spent c.self.inside.share c.self.inside.start c.self.inside.memo c.remember.new.self
     c.number.result c.number-2.result c.args.answer
-    c.self.invariant c.in_ok-remember.ensures.ok c.in_ok-remember.ensures.profiles k.0 k.1 k.2
+    c.self.invariant c.in_ok-remember.ensures.ok c.in_ok-remember.ensures.profiles c.in_ok-remember.ensures.sums k.0 k.1 k.2

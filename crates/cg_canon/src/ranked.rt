@@ -1,0 +1,79 @@
+//! Options with their profiles, the furthest first.
+//!
+//! Of options that the numbers tell apart, each goes further than all before it to one side and less far to the other, so it
+//! is enough to look at how far those before it go together.
+ghost use Rattle.std.specs.Prelude.{◌≡◌, IfOk};
+ghost use Rattle.std.specs.List.Sorted.{IsPermutation};
+ghost use Rattle.cg_cells.specs.Store.{Spends};
+ghost use Rattle.cg_nodes.specs.Games.{AreGames};
+ghost use Rattle.cg_canon.specs.Ranked.{AreRanked, handles_of};
+ghost use Rattle.cg_canon.specs.Works.{work_state};
+
+use crate::profile::Profile;
+use crate::profiles::profile_of;
+use crate::work::Work;
+use cg_cells::CellStore;
+use cg_dyadic::cut::Cut;
+use cg_nodes::{BoardForms, GameFacts, Handle};
+use std::alloc::{AllocError, Global};
+use std::cmp::Ordering;
+
+/// The handle of a game and the game's profile.
+#[derive(Clone, Copy)]
+pub(crate) struct Ranked {
+    pub handle: Handle,
+    pub profile: Profile,
+}
+
+/// Which of two cuts has fewer numbers; the player sees them.
+fn compare_cuts(left: bool, a: &Cut, b: &Cut) -> Ordering {
+    let values = a.at.compare(b.at);
+    let places = if left { values } else { values.reverse() };
+    places.then(a.closed.cmp(&b.closed))
+}
+
+/// Which of two games comes first for the player: the one with more numbers that are no better, and where these are the same,
+/// the one with fewer numbers that are as good.
+fn compare_profiles(left: bool, a: &Profile, b: &Profile) -> Ordering {
+    let no_better = compare_cuts(left, &b.cut(left), &a.cut(left));
+    no_better.then(compare_cuts(!left, &a.cut(!left), &b.cut(!left)))
+}
+
+/// The items with their profiles.
+fn profiled<B: BoardForms, S: CellStore<GameFacts<B>>>(
+    alloc: Global,
+    work: &mut Work<B, S>,
+    items: &[Handle],
+) -> Result<Vec<Ranked>, AllocError>
+    requires { AreGames (work_state S.state work.old) items.now }
+    ensures ranked { IfOk result (λ r. AreRanked (work_state S.state work.new) r.items) }
+    ensures handles { IfOk result (λ r. handles_of r.items ≡ items.now) }
+    ensures spends { Spends 0 (work_state S.state work.old) (work_state S.state work.new) }
+{
+    let mut all = Vec::new(alloc);
+    for item in items {
+        let profile = profile_of(alloc, work, *item)?;
+        all.push(Ranked {
+            handle: *item,
+            profile,
+        })?;
+    }
+    Ok(all)
+}
+
+/// The items with their profiles, those first that go furthest for the player.
+pub(crate) fn furthest_first<B: BoardForms, S: CellStore<GameFacts<B>>>(
+    alloc: Global,
+    work: &mut Work<B, S>,
+    left: bool,
+    items: &[Handle],
+) -> Result<Vec<Ranked>, AllocError>
+    requires { AreGames (work_state S.state work.old) items.now }
+    ensures ranked { IfOk result (λ r. AreRanked (work_state S.state work.new) r.items) }
+    ensures handles { IfOk result (λ r. IsPermutation items.now (handles_of r.items)) }
+    ensures spends { Spends 0 (work_state S.state work.old) (work_state S.state work.new) }
+{
+    let mut all = profiled(alloc, work, items)?;
+    all.sort_unstable_by(|a, b| compare_profiles(left, &a.profile, &b.profile));
+    Ok(all)
+}
