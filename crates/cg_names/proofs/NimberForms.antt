@@ -8,75 +8,12 @@ use Rattle.cg_form.specs.Game.{Among, Game, of_list}
 use Rattle.cg_form.specs.Side.{AtMost, far, near}
 use Rattle.cg_form.specs.Simple.{NoNumber}
 use Rattle.cg_form.specs.Structure.{Before, Rises, list_cmp}
-use Rattle.cg_form.proofs.Among.{among-append, carry, among-append_left, among-append_right, lefts-node, rights-node}
-use Rattle.cg_form.proofs.Sides.{not_far, not_near}
+use Rattle.cg_form.proofs.Among.{among-append, carry}
 use Rattle.cg_form.proofs.Structure.{game_cmp-refl}
 use Rattle.cg_names.specs.Named.{nimber_form, nimber_over, nimbers_below, zero_form, zero_number}
 use Rattle.cg_names.proofs.Infinitesimals.{slight-no_number, slight-number}
 use Rattle.cg_names.proofs.Reducing.{SideReduced, canonical_node}
-
--- ---- the lists
-
-pub nimbers_below-next : (k : ℕ) → nimbers_below (suc k) ≡ nimbers_below k ++ (nimber_form k ∷ [])
-unfolding nimbers_below nimber_form
-nimbers_below-next k = refl
-
--- the members of the list are the nimbers below k
-pub nimber_among : (i k : ℕ) → i < k → Among (nimber_form i) (nimbers_below k)
-nimber_among i zero l = absurd (omega arith)
-nimber_among i (suc k) l =
-    let P : List Game → Type 0 = λ z. Among (nimber_form i) z in
-    subst P (sym (nimbers_below-next k)) (elim (le_or_gt k i) [
-      | inl m ↦ let e : i ≡ k = omega arith in
-          among-append_right _ (nimbers_below k) _ (inl (ap nimber_form e))
-      | inr m ↦ among-append_left _ (nimbers_below k) _ (nimber_among i k m)
-    ])
-
-pub among_nimbers : (g : Game) (k : ℕ) → Among g (nimbers_below k) → (i : ℕ) × (i < k) × (g ≡ nimber_form i)
-unfolding nimbers_below
-among_nimbers g zero m = absurd m
-among_nimbers g (suc k) m =
-    let P : List Game → Type 0 = λ z. Among g z in
-    elim (among-append g (nimbers_below k) (nimber_form k ∷ []) (subst P (nimbers_below-next k) m)) [
-      | inl n ↦ let (i, l, e) = among_nimbers g k n in (i, omega arith, e)
-      | inr (inl e) ↦ (k, omega arith, e)
-      | inr (inr n) ↦ absurd n
-    ]
-
--- both lists of options of *k
-pub near-nimber : (s : Bool) (k : ℕ) → near s (nimber_form k) ≡ nimbers_below k
-unfolding nimber_form
-near-nimber s k = by s (nimbers_below k)
-  where
-    by : (s : Bool) (gs : List Game) → near s (nimber_over gs) ≡ gs
-    by true [] = refl
-    by false [] = refl
-    by true (g ∷ gs) = lefts-node (g ∷ gs) (g ∷ gs)
-    by false (g ∷ gs) = rights-node (g ∷ gs) (g ∷ gs)
-
-pub far-nimber : (s : Bool) (k : ℕ) → far s (nimber_form k) ≡ nimbers_below k
-far-nimber true k = near-nimber false k
-far-nimber false k = near-nimber true k
-
-pub nimber_near : (s : Bool) (i k : ℕ) → i < k → Among (nimber_form i) (near s (nimber_form k))
-nimber_near s i k l = let P : List Game → Type 0 = λ z. Among (nimber_form i) z in
-    subst P (sym (near-nimber s k)) (nimber_among i k l)
-
-pub nimber_far : (s : Bool) (i k : ℕ) → i < k → Among (nimber_form i) (far s (nimber_form k))
-nimber_far s i k l = let P : List Game → Type 0 = λ z. Among (nimber_form i) z in
-    subst P (sym (far-nimber s k)) (nimber_among i k l)
-
--- ---- the order
-
--- no nimber is at most another
-pub nimbers_apart : (s : Bool) (i j : ℕ) → AtMost s (nimber_form i) (nimber_form j) → i ≡ j
-nimbers_apart s i j l = elim (le_or_gt i j) [
-  | inl m ↦ elim (le_or_gt j i) [
-    | inl n ↦ omega arith
-    | inr n ↦ absurd (not_far s (nimber_form j) (nimber_form i) (nimber_far s i j n) l)
-  ]
-  | inr m ↦ absurd (not_near s (nimber_form i) (nimber_form j) (nimber_near s j i m) l)
-]
+pub use Rattle.cg_nimbers.proofs.NimberLists.{among_nimbers, far-nimber, near-nimber, nimber_among, nimber_far, nimber_near, nimbers_apart, nimbers_below-next}
 
 -- ---- the structural order
 

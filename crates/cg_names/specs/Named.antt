@@ -1,37 +1,16 @@
--- The named games: nimbers, ups and downs, switches, tiny and miny.
+-- The named games: nimbers, whose definition stands in cg_nimbers, ups and downs, switches, tiny and miny.
 -- Siegel, Combinatorial Game Theory (2013), II.1 and II.4.
-use Rattle.std.specs.Prelude.{ℕ, zero, suc, pos, Bool, true, false, not, cond, List, [], ◌∷◌, ◌++◌}
+use Rattle.std.specs.Prelude.{ℕ, zero, suc, Bool, true, false, not, cond, List, [], ◌∷◌, ◌++◌}
 use Rattle.cg_dyadic.specs.Exact.{number_negative}
-use Rattle.cg_dyadic.specs.Number.{Number, whole}
+use Rattle.cg_dyadic.specs.Number.{Number}
 use Rattle.cg_form.specs.Game.{Game, node, number}
 use Rattle.cg_nodes.specs.Spelled.{is_same}
-
-abbrev pub zero_number : Number
-zero_number = whole (pos 0)
-
--- 0
-abbrev pub zero_form : Game
-zero_form = number zero_number
+pub use Rattle.cg_nimbers.specs.Nimbers.{nimber_over, zero_form, zero_number}
+unfoldable pub use Rattle.cg_nimbers.specs.Nimbers.{nimber_form, nimbers_below}
 
 -- * = {0|0}
 abbrev pub star_form : Game
 star_form = node (zero_form ∷ []) (zero_form ∷ [])
-
--- ---- nimbers
-
--- the nimber of the lesser ones: {gs|gs}, and 0 where there is none
-abbrev pub nimber_over : List Game → Game
-nimber_over [] = zero_form
-nimber_over (g ∷ gs) = node (g ∷ gs) (g ∷ gs)
-
--- 0, *1, .., *(k - 1)
-unfoldable pub nimbers_below : ℕ → List Game
-nimbers_below zero = []
-nimbers_below (suc k) = nimbers_below k ++ (nimber_over (nimbers_below k) ∷ [])
-
--- *k = {0, *1, .., *(k - 1) | 0, *1, .., *(k - 1)}, and *0 is 0
-unfoldable pub nimber_form : ℕ → Game
-nimber_form k = nimber_over (nimbers_below k)
 
 -- ---- ups and downs
 

@@ -12,7 +12,7 @@ use Rattle.cg_names.specs.Named.{nimber_form, nimbers_below, zero_form}
 use Rattle.cg_octal.specs.Found.{Adds}
 use Rattle.cg_octal.specs.Heaps.{AreValues, heap, leaves_nothing, leaves_one_heap, two_heaps}
 use Rattle.cg_octal.specs.Mex.{AreNimbers, Listed}
-use Rattle.cg_octal.proofs.NimberSums.{nimber_sum}
+use Rattle.cg_nimbers.proofs.NimberSums.{nimber_sum}
 
 nimbers-append : (gs hs : List Game) (ks js : List ℕ) → AreNimbers gs ks → AreNimbers hs js
     → AreNimbers (gs ++ hs) (ks ++ js)

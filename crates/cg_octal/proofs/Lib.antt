@@ -1,6 +1,4 @@
-pub mod Xor
 pub mod Nimbers
-pub mod NimberSums
 pub mod HeapRule
 pub mod OptionLists
 pub mod Adding

@@ -1,5 +1,6 @@
 //! A note by one pass, read by another.
-ghost use Rattle.std.specs.Prelude.{◌≡◌, ◌≤◌};
+ghost use Rattle.std.specs.Prelude.{◌≡◌, ◌≤◌, pos};
+ghost use Rattle.cg_dyadic.specs.Number.{whole};
 ghost use Rattle.cg_cells.specs.Store.{Known, Spends};
 ghost use Rattle.cg_nodes.specs.Games.{IsGame};
 ghost use Rattle.cg_shared.specs.Passes.{IsPassOf, pass_state};
@@ -7,53 +8,83 @@ ghost use Rattle.cg_shared.specs.Passes.{IsPassOf, pass_state};
 use crate::stars::{Games, Star, make_star};
 use cg_canon::{ValueFault, Work};
 use cg_cells::{CellStore, Id, Key, KeyParts};
-use cg_nodes::{BoardForms, GameFacts, Handle};
+use cg_dyadic::Dyadic;
+use cg_nodes::{BoardForms, GameFacts, Handle, number};
 use cg_shared::{Desk, Pass, SharedCells};
 use cg_sum::sum;
 use std::alloc::Global;
 use std::test::Fail;
 
-/// The cell of the pair of a game with itself, on which their sum is noted.
-fn twice<B: BoardForms, S: CellStore<GameFacts<B>>>(store: &mut S, game: Handle) -> Id
+/// The number 1.
+fn one() -> Dyadic
+    ensures { result ≡ whole (pos 1) }
+{
+    match Dyadic::make(1, 0) {
+        Ok(one) => one,
+        Err(_) => unreachable!(),
+    }
+}
+
+/// The cell of the pair of two games, the lesser id first.
+fn pair<B: BoardForms, S: CellStore<GameFacts<B>>>(store: &mut S, low: Handle, high: Handle) -> Id
+    requires order { low ≤ high }
     requires spare { 1 ≤ (S.state store.old).spare }
-    requires game { IsGame (S.state store.old) game }
+    requires low { IsGame (S.state store.old) low }
+    requires high { IsGame (S.state store.old) high }
     ensures known { Known (S.state store.new) result }
     ensures spends { Spends 1 (S.state store.old) (S.state store.new) }
 {
     let key = Key::pack(KeyParts::Pair {
-        low: game.id(),
-        high: game.id(),
+        low: low.id(),
+        high: high.id(),
     });
     store.claim(key)
 }
 
-/// Star, the cell of its pair with itself, and whether no note is read there.
+/// The cell of the pair of two games, on which their sum is noted.
+fn pair_of<B: BoardForms, S: CellStore<GameFacts<B>>>(store: &mut S, a: Handle, b: Handle) -> Id
+    requires spare { 1 ≤ (S.state store.old).spare }
+    requires a { IsGame (S.state store.old) a }
+    requires b { IsGame (S.state store.old) b }
+    ensures known { Known (S.state store.new) result }
+    ensures spends { Spends 1 (S.state store.old) (S.state store.new) }
+{
+    if a.id().number() <= b.id().number() {
+        pair(store, a, b)
+    } else {
+        pair(store, b, a)
+    }
+}
+
+/// Star, the cell of its pair with the number 1, and whether no note is read there.
 #[tactic(auto, using(crate::proofs::Knowing::known_grows))]
 fn star_unread<B: BoardForms, S: CellStore<GameFacts<B>>>(store: &mut S) -> (Star, Id, bool)
-    requires { 4 ≤ (S.state store.old).spare }
+    requires { 5 ≤ (S.state store.old).spare }
     ensures known { Known (S.state store.new) result.1 }
     ensures rest { (S.state store.new).rest ≡ (S.state store.old).rest }
 {
+    let one = number(store, one());
     let made = make_star(store);
-    let pair = twice(store, made.star);
+    let pair = pair_of(store, made.star, one);
     let unread = store.noted(pair).is_none();
     (made, pair, unread)
 }
 
-/// The sum of a game with itself, which is noted.
-fn doubled<B: BoardForms, S: CellStore<GameFacts<B>>>(
+/// The sum of a game and the number 1, which is noted.
+fn and_one<B: BoardForms, S: CellStore<GameFacts<B>>>(
     alloc: Global,
     store: &mut S,
     game: Handle,
 ) -> Result<Handle, ValueFault>
-    requires spare { 12 ≤ (S.state store.old).spare }
+    requires spare { 9 ≤ (S.state store.old).spare }
     requires game { IsGame (S.state store.old) game }
     ensures rest { (S.state store.new).rest ≡ (S.state store.old).rest }
 {
-    let mut work = Work::new(alloc, store, 12, 4);
-    let doubled = sum(alloc, &mut work, game, game);
+    let one = number(store, one());
+    let mut work = Work::new(alloc, store, 8, 4);
+    let more = sum(alloc, &mut work, game, one);
     let _store = work.into_store();
-    doubled
+    more
 }
 
 /// What the pass reads of the note on a cell, once it has met the other.
@@ -85,8 +116,8 @@ fn a_note_is_read_after_a_meeting(rt: HostRuntime) -> Result<(), Fail> {
     let mut other_desk = Desk::new(&cells, other);
     let star = make_star(&mut other_desk).star;
     assert_eq!(rt; star, made.star);
-    let sum = doubled(alloc, &mut other_desk, star)?;
-    assert_eq!(rt; sum, made.zero);
+    let sum = and_one(alloc, &mut other_desk, star)?;
+    assert!(rt; sum != star);
     let noted = read_after(&cells, desk.into_pass(), other_desk.into_pass(), pair);
     assert_eq!(rt; noted, Some(sum.id()));
     Ok(())

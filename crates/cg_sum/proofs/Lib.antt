@@ -2,11 +2,16 @@ pub mod Sums
 pub mod Positions
 pub mod OptionSteps
 pub mod Members
+pub mod Tables
+pub mod NimberSteps
 pub mod SumSteps
 pub mod OutsideItems
 pub mod ItemLoops
 pub mod ItemSteps
+pub mod KeptSums
 pub mod RowSteps
 pub mod SumEnds
+pub mod AgainSums
+pub mod NegativeOptions
 pub mod NegativeSteps
 pub mod MultipleSteps

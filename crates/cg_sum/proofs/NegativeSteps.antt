@@ -1,8 +1,7 @@
 -- The negatives of positions, made one after another.
-use Rattle.std.proofs.Common.{◌≡◌, ◌⊎◌, inl, inr, ℕ, suc, ◌+◌, ◌≤◌, ◌<◌, arith, refl, ap, sym, ◌∙◌, subst, List, [], ◌∷◌, Option, Some, None, IsSome, Bool, true, false, Result, Ok, Err, map, take, drop, get_or, length}
+use Rattle.std.proofs.Common.{◌≡◌, inl, inr, ℕ, suc, ◌+◌, ◌≤◌, ◌<◌, arith, refl, ap, sym, ◌∙◌, subst, List, [], ◌∷◌, Option, Some, None, IsSome, Result, Ok, Err, take, drop, get_or, length}
 use Rattle.std.specs.Prelude.{◌==◌, IfOk, if◌then◌else◌}
 use Rattle.std.specs.List.{flat_map}
-use Rattle.std.proofs.lemmas.Bool.Decides.{eqb_tells}
 use Rattle.std.proofs.lemmas.List.{take_all}
 use Rattle.cg_canon.proofs.Keeping.{keeps_all, keeps_then}
 use Rattle.cg_canon.proofs.ItemLaws.{all_pass-none}
@@ -10,157 +9,54 @@ use Rattle.cg_canon.specs.Items.{AllPass, Item, made as item_of}
 use Rattle.cg_canon.specs.Works.{Keeps}
 use Rattle.cg_canon.specs.declared.fault.ValueFault.{ValueFault}
 use Rattle.cg_canon.specs.declared.rest.WorkRest.{WorkRest}
-use Rattle.cg_cells.specs.Meaning.{Grows, Has, IsInjective}
+use Rattle.cg_cells.specs.Meaning.{Grows, Has}
 use Rattle.cg_cells.specs.Store.{Spends, State, thing_at}
 use Rattle.cg_dyadic.specs.Exact.{IsNegative}
 use Rattle.cg_dyadic.specs.Number.{Number}
-use Rattle.cg_form.specs.Game.{Among, Game, node, number, options}
+use Rattle.cg_form.specs.Game.{Among, Game, number}
 use Rattle.cg_form.specs.Sum.{negative}
-use Rattle.cg_form.proofs.Among.{carry}
-use Rattle.cg_nodes.proofs.Later.{game_later, is_game_later, stands_game, stands_is_game, stands_later}
-use Rattle.cg_nodes.specs.Games.{AreGames, IsGame, IsNode, StandFor, StandsFor, game_at, games_at}
-use Rattle.cg_nodes.specs.Meant.{Meant, form}
+use Rattle.cg_nodes.proofs.Later.{game_later, is_game_later, stands_later}
+use Rattle.cg_nodes.specs.Games.{AreGames, IsGame, StandsFor, game_at, games_at}
+use Rattle.cg_nodes.specs.Meant.{Meant}
 use Rattle.cg_nodes.specs.Positions.{positions_of}
 use Rattle.cg_nodes.specs.Spelled.{can}
-use Rattle.cg_sum.specs.Finds.{negative_found, negative_handle}
+use Rattle.cg_sum.specs.Finds.{negative_found}
 use Rattle.cg_sum.specs.Lists.{minus_item, minus_items, negative_items}
 use Rattle.cg_canon.specs.Made.{ItemsMade}
-use Rattle.cg_nodes.specs.declared.reading.Sides.{Sides}
-use Rattle.cg_sum.specs.Progress.{HoldsNegatives, IsNegativeReady, IsSides}
-use Rattle.cg_sum.specs.Written.{IsClosed, written, written_lefts, written_rights}
+use Rattle.cg_sum.specs.Progress.{HoldsNegatives, IsNegativeReady}
+use Rattle.cg_sum.specs.Written.{IsClosed, written}
 use Rattle.cg_sum.specs.declared.found.Negatives.{Negatives}
 use Rattle.cg_canon.proofs.MadeSteps.{made_as, read_then}
 use Rattle.cg_sum.proofs.ItemLoops.{flat-map, games_split, loop_passed, loop_stopped}
-use Rattle.cg_nodes.proofs.Members.{among_has, has_among, has_game}
-use Rattle.cg_sum.proofs.Members.{are_games-take, has-append, has_read, some_of, take_next}
+use Rattle.cg_nodes.proofs.Members.{among_has, has_game}
+use Rattle.cg_sum.proofs.Tables.{found_cases, found_now, found_stays, none_some}
+use Rattle.cg_sum.proofs.Members.{are_games-take, has-append, has_read, take_next}
 use Rattle.cg_sum.proofs.SumEnds.{all_within}
-use Rattle.cg_sum.proofs.Sums.{can-negative, can-negative_number}
-
--- ---- the options of a negative
-
-can-negative_written : (g : Game) → IsNode g
-    → can (node (map (λ b. can (negative b)) (written_rights g)) (map (λ a. can (negative a)) (written_lefts g))) ≡ can (negative g)
-can-negative_written (number x) n = absurd n
-can-negative_written (options ls rs) n = can-negative (options ls rs)
-
-handle_found : (m : Negatives) (a h : ℕ) → negative_found m a ≡ Some h → negative_handle m a ≡ h
-handle_found m a h e = rw e refl
-
-module _ {R : Type 0} (s : State Meant R) (m : Negatives) (holds : HoldsNegatives s m) where
-  stands_found : (a : ℕ) → IsSome (negative_found m a) → StandsFor s (negative_handle m a) (can (negative (game_at s a)))
-  stands_found a some =
-      let (h, e) = some_of (negative_found m a) some in
-      let P : ℕ → Type 0 = λ z. StandsFor s z (can (negative (game_at s a))) in
-      subst P (sym (handle_found m a h e)) (holds.negatives a h e)
-
-  negatives_stand : (ps : List ℕ) → ((p : ℕ) → Has ps p → IsSome (negative_found m p))
-      → StandFor s (map (λ p. negative_handle m p) ps) (map (λ a. can (negative a)) (games_at s ps))
-  negatives_stand [] each = (tt, refl)
-  negatives_stand (p ∷ ps) each =
-      let st = stands_found p (each p (inl refl)) in
-      let rest = negatives_stand ps (λ q i. each q (inr i)) in (
-        (stands_is_game s (negative_handle m p) (can (negative (game_at s p))) st, rest.0),
-        ap (λ z. z ∷ games_at s (map (λ q. negative_handle m q) ps)) (stands_game s (negative_handle m p) (can (negative (game_at s p))) st)
-            ∙ ap (λ z. can (negative (game_at s p)) ∷ z) rest.1,
-      )
-
-module _ {R Q : Type 0} (s : State Meant R) (t : State Meant Q) (grows : Grows (thing_at s) (thing_at t)) (m : Negatives) where
-  pub negatives_later : HoldsNegatives s m → HoldsNegatives t m
-  negatives_later holds = record {
-    of = λ a h e. is_game_later s t grows a (holds.of a h e);
-    negatives = λ a h e.
-        let P : Game → Type 0 = λ z. StandsFor t h (can (negative z)) in
-        subst P (sym (game_later s t grows a (holds.of a h e)))
-        (stands_later s t grows h (can (negative (game_at s a))) (holds.negatives a h e));
-  }
-
-  pub negative_ready_later : (f : ℕ) → IsNegativeReady s m f → IsNegativeReady t m f
-  negative_ready_later f ready = record {
-    game = is_game_later s t grows f ready.game;
-    holds = negatives_later ready.holds;
-    found = record {
-      each = λ a i.
-          let P : Game → Type 0 = λ z. Among a (written z) in
-          let (p, e, some) = ready.found.each a (subst P (game_later s t grows f ready.game) i) in
-          (p, stands_later s t grows p a e, some);
-    };
-  }
-
-module _ {R : Type 0} (s : State Meant R) (m : Negatives) (f : ℕ) (ready : IsNegativeReady s m f)
-    (apart : IsInjective (thing_at s)) where
-  -- handles of options of f are those whose negatives were found
-  pub negated_found : (hs ps : List ℕ) (gs : List Game) → hs ≡ ps → StandFor s ps gs
-      → ((a : Game) → Among a gs → Among a (written (game_at s f))) → (p : ℕ) → Has hs p
-      → IsSome (negative_found m p)
-  negated_found hs ps gs e a within p i =
-      let L : List ℕ → Type 0 = λ z. Has z p in
-      let j : Has ps p = subst L e i in
-      let g : Game = game_at s p in
-      let (q, st, some) = ready.found.each g (within g (carry g (games_at s ps) gs a.1 (has_among s ps p j))) in
-      let P : ℕ → Type 0 = λ z. IsSome (negative_found m z) in
-      subst P (apart q p (form g) st (has_game s ps p a.0 j)) some
-
-  -- the negatives of one side
-  pub side_negated : (hs ps all : List ℕ) (gs : List Game) → hs ≡ ps → all ≡ map (λ p. negative_handle m p) hs
-      → StandFor s ps gs → ((a : Game) → Among a gs → Among a (written (game_at s f)))
-      → StandFor s all (map (λ a. can (negative a)) gs)
-  side_negated hs ps all gs e is a within =
-      let P : List ℕ → Type 0 = λ z. StandFor s z (map (λ b. can (negative b)) gs) in
-      let Q : List Game → Type 0 = λ z. StandFor s (map (λ p. negative_handle m p) hs) (map (λ b. can (negative b)) z) in
-      let same : games_at s hs ≡ gs = ap (games_at s) e ∙ a.1 in
-      subst P (sym is) (subst Q same (negatives_stand s m ready.holds hs (negated_found hs ps gs e a within)))
-
-  pub sides_negative : (sides : Sides) (g : Game) → g ≡ game_at s f → IsNode (game_at s f)
-      → StandFor s sides.lefts (map (λ b. can (negative b)) (written_rights (game_at s f)))
-      → StandFor s sides.rights (map (λ a. can (negative a)) (written_lefts (game_at s f)))
-      → IsSides s sides (negative g)
-  sides_negative sides g e n l r = record {
-    lefts = l.0;
-    rights = r.0;
-    form = ap (λ z. can (node z (games_at s sides.rights))) l.1
-        ∙ ap (λ z. can (node (map (λ b. can (negative b)) (written_rights (game_at s f))) z)) r.1
-        ∙ can-negative_written (game_at s f) n ∙ ap (λ z. can (negative z)) (sym e);
-  }
+use Rattle.cg_sum.proofs.Sums.{can-negative_number}
+use Rattle.cg_sum.proofs.NegativeOptions.{negatives_later}
 
 -- ---- one negative more was found
 
-some_same : (x y : ℕ) → Some x ≡ Some y → x ≡ y
-some_same x y e = cc
-
 module _ (m n : Negatives) (f h : ℕ)
     (kept : (c : ℕ) → negative_found n c ≡ (if f == c then Some h else negative_found m c)) where
-  found_cases : (c y : ℕ) → negative_found n c ≡ Some y → ((f ≡ c) × (h ≡ y)) ⊎ (negative_found m c ≡ Some y)
-  found_cases c y e = elim (eqb_tells f c) [
-    | inl p ↦
-        let t : (if f == c then Some h else negative_found m c) ≡ Some h = rw p.0 refl in
-        inl (p.1, some_same h y (sym t ∙ (sym (kept c) ∙ e)))
-    | inr p ↦
-        let t : (if f == c then Some h else negative_found m c) ≡ negative_found m c = rw p.0 refl in
-        inr (sym t ∙ (sym (kept c) ∙ e))
-  ]
-
-  some_if : (b : Bool) (c : ℕ) → IsSome (negative_found m c) → IsSome (if b then Some h else negative_found m c)
-  some_if true c some = refl
-  some_if false c some = some
-
   finds_more : (c : ℕ) → IsSome (negative_found m c) → IsSome (negative_found n c)
-  finds_more c some = let P : Option ℕ → Type 0 = λ z. IsSome z in subst P (sym (kept c)) (some_if (f == c) c some)
+  finds_more c some =
+      let P : Option ℕ → Type 0 = λ z. IsSome z in
+      subst P (sym (kept c)) (found_stays (negative_found m c) (f == c) h some)
 
   finds_it : IsSome (negative_found n f)
   finds_it =
       let P : Option ℕ → Type 0 = λ z. IsSome z in
-      let t : (if f == f then Some h else negative_found m f) ≡ Some h =
-      elim (eqb_tells f f) [ inl p ↦ rw p.0 refl | inr p ↦ absurd (p.1 refl) ] in
-      subst P (sym (kept f ∙ t)) refl
+      subst P (sym (kept f ∙ found_now (negative_found m f) f h)) refl
 
   holds_more : {R : Type 0} (s : State Meant R) → HoldsNegatives s m → IsGame s f
       → StandsFor s h (can (negative (game_at s f))) → HoldsNegatives s n
   holds_more s holds gf st = record {
-    of = λ c y e. elim (found_cases c y e) [
+    of = λ c y e. elim (found_cases (negative_found m c) f c h y (sym (kept c) ∙ e)) [
       | inl w ↦ (let P : ℕ → Type 0 = λ z. IsGame s z in subst P w.0 gf)
       | inr old ↦ holds.of c y old
     ];
-    negatives = λ c y e. elim (found_cases c y e) [
+    negatives = λ c y e. elim (found_cases (negative_found m c) f c h y (sym (kept c) ∙ e)) [
       | inl w ↦
           let P : ℕ → Type 0 = λ z. StandsFor s y (can (negative (game_at s z))) in
           let V : ℕ → Type 0 = λ z. StandsFor s z (can (negative (game_at s f))) in
@@ -170,14 +66,10 @@ module _ (m n : Negatives) (f h : ℕ)
   }
 
 pub no_negatives : {R : Type 0} (s : State Meant R) (m : Negatives) → ((a : ℕ) → negative_found m a ≡ None) → HoldsNegatives s m
-no_negatives s m none_found =
-    record { of = λ a h e. absurd (clash a h e); negatives = λ a h e. absurd (clash a h e) }
-  where
-    clash : (a h : ℕ) → negative_found m a ≡ Some h → ⊥
-    clash a h e = differ h (sym (none_found a) ∙ e)
-      where
-        differ : (x : ℕ) → None ≡ Some x → ⊥
-        differ x p = cc
+no_negatives s m none_found = record {
+  of = λ a h e. absurd (none_some (negative_found m a) h (none_found a) e);
+  negatives = λ a h e. absurd (none_some (negative_found m a) h (none_found a) e);
+}
 
 -- ---- all of a list
 

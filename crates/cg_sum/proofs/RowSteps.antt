@@ -1,8 +1,6 @@
 -- The sums of one position and a list, and of two lists, made one after another.
-use Rattle.std.proofs.Common.{◌≡◌, ◌⊎◌, inl, inr, ℕ, suc, ◌+◌, ◌≤◌, ◌<◌, refl, sym, ◌∙◌, subst, List, [], ◌∷◌, Option, Some, IsSome, Bool, true, false, Result, Ok, Err, take, drop, get_or, length}
-use Rattle.std.specs.Prelude.{◌==◌, ◌&&◌, if◌then◌else◌}
+use Rattle.std.proofs.Common.{◌≡◌, inl, inr, ℕ, suc, ◌+◌, ◌≤◌, ◌<◌, sym, subst, List, [], ◌∷◌, IsSome, Result, Ok, Err, take, drop, get_or, length}
 use Rattle.std.specs.List.{flat_map}
-use Rattle.std.proofs.lemmas.Bool.Decides.{eqb_tells}
 use Rattle.std.proofs.lemmas.List.{take_all}
 use Rattle.cg_canon.proofs.Keeping.{keeps_all, keeps_then}
 use Rattle.cg_canon.proofs.ItemLaws.{all_pass-none}
@@ -10,14 +8,11 @@ use Rattle.cg_canon.specs.Items.{AllPass, Item}
 use Rattle.cg_canon.specs.Works.{Keeps}
 use Rattle.cg_canon.specs.declared.fault.ValueFault.{ValueFault}
 use Rattle.cg_canon.specs.declared.rest.WorkRest.{WorkRest}
-use Rattle.cg_cells.specs.Meaning.{Grows}
-use Rattle.cg_cells.specs.Store.{State, thing_at}
+use Rattle.cg_cells.specs.Store.{State}
 use Rattle.cg_form.specs.Game.{Among, Game}
-use Rattle.cg_form.specs.Sum.{sum}
 use Rattle.cg_nodes.proofs.Later.{are_games_later, game_later, games_later, is_game_later, stands_later}
-use Rattle.cg_nodes.specs.Games.{AreGames, IsGame, StandsFor, game_at, games_at}
+use Rattle.cg_nodes.specs.Games.{AreGames, IsGame, game_at, games_at}
 use Rattle.cg_nodes.specs.Meant.{Meant}
-use Rattle.cg_nodes.specs.Spelled.{can}
 use Rattle.cg_sum.specs.Finds.{sum_found}
 use Rattle.cg_canon.specs.SumItems.{pair_items, row_items, sum_item}
 use Rattle.cg_canon.specs.Made.{ItemsMade}
@@ -27,72 +22,7 @@ use Rattle.cg_sum.specs.declared.found.Sums.{Sums}
 use Rattle.cg_sum.proofs.ItemLoops.{flat-map, games_split, loop_passed, loop_stopped}
 use Rattle.cg_nodes.proofs.Members.{among_has, has_game}
 use Rattle.cg_sum.proofs.Members.{are_games-take, has-append, has_read, take_next}
-use Rattle.cg_sum.proofs.SumSteps.{holds_later}
-
--- ---- one sum more was found
-
-some_same : (x y : ℕ) → Some x ≡ Some y → x ≡ y
-some_same x y e = cc
-
-module _ (m n : Sums) (f k h : ℕ)
-    (kept : (c d : ℕ) → sum_found n c d ≡ (if (f == c) && (k == d) then Some h else sum_found m c d)) where
-  found_cases : (c d y : ℕ) → sum_found n c d ≡ Some y → ((f ≡ c) × (k ≡ d) × (h ≡ y)) ⊎ (sum_found m c d ≡ Some y)
-  found_cases c d y e = elim (eqb_tells f c) [
-    | inl p ↦ elim (eqb_tells k d) [
-      | inl q ↦
-          let t : (if (f == c) && (k == d) then Some h else sum_found m c d) ≡ Some h = rw (p.0, q.0) refl in
-          inl (p.1, q.1, some_same h y (sym t ∙ (sym (kept c d) ∙ e)))
-      | inr q ↦
-          let t : (if (f == c) && (k == d) then Some h else sum_found m c d) ≡ sum_found m c d = rw (p.0, q.0) refl in
-          inr (sym t ∙ (sym (kept c d) ∙ e))
-    ]
-    | inr p ↦
-        let t : (if (f == c) && (k == d) then Some h else sum_found m c d) ≡ sum_found m c d = rw p.0 refl in
-        inr (sym t ∙ (sym (kept c d) ∙ e))
-  ]
-
-  some_if : (b : Bool) (c d : ℕ) → IsSome (sum_found m c d) → IsSome (if b then Some h else sum_found m c d)
-  some_if true c d some = refl
-  some_if false c d some = some
-
-  pub finds_more : FindsMore m n
-  finds_more = record {
-    stays = λ c d some. let P : Option ℕ → Type 0 = λ z. IsSome z in
-        subst P (sym (kept c d)) (some_if ((f == c) && (k == d)) c d some);
-  }
-
-  pub finds_it : IsSome (sum_found n f k)
-  finds_it =
-      let P : Option ℕ → Type 0 = λ z. IsSome z in
-      let t : (if (f == f) && (k == k) then Some h else sum_found m f k) ≡ Some h = elim (eqb_tells f f) [
-        | inl p ↦ elim (eqb_tells k k) [ inl q ↦ rw (p.0, q.0) refl | inr q ↦ absurd (q.1 refl) ]
-        | inr p ↦ absurd (p.1 refl)
-      ] in
-      subst P (sym (kept f k ∙ t)) refl
-
-  pub holds_more : {R : Type 0} (s : State Meant R) → HoldsSums s m → IsGame s f → IsGame s k
-      → StandsFor s h (can (sum (game_at s f) (game_at s k))) → HoldsSums s n
-  holds_more s holds gf gk st = record {
-    first = λ c d y e. elim (found_cases c d y e) [
-      | inl w ↦ (let P : ℕ → Type 0 = λ z. IsGame s z in subst P w.0 gf)
-      | inr old ↦ holds.first c d y old
-    ];
-    second = λ c d y e. elim (found_cases c d y e) [
-      | inl w ↦ (let P : ℕ → Type 0 = λ z. IsGame s z in subst P w.1 gk)
-      | inr old ↦ holds.second c d y old
-    ];
-    sums = λ c d y e. elim (found_cases c d y e) [
-      | inl w ↦
-          let P : ℕ → Type 0 = λ z. StandsFor s y (can (sum (game_at s z) (game_at s d))) in
-          let Q : ℕ → Type 0 = λ z. StandsFor s y (can (sum (game_at s f) (game_at s z))) in
-          let V : ℕ → Type 0 = λ z. StandsFor s z (can (sum (game_at s f) (game_at s k))) in
-          subst P w.0 (subst Q w.1 (subst V w.2 st))
-      | inr old ↦ holds.sums c d y old
-    ];
-  }
-
-pub more_then : (m n o : Sums) → FindsMore m n → FindsMore n o → FindsMore m o
-more_then m n o a b = record { stays = λ c d some. b.stays c d (a.stays c d some) }
+use Rattle.cg_sum.proofs.KeptSums.{more_then}
 
 -- ---- a row
 
@@ -176,28 +106,20 @@ module _ {R : Type 0} (w : State Meant (WorkRest R)) (m : Sums) (f : ℕ) (ks : 
           subst P (flat-map (sum_item (game_at w f)) (games_at w ks))
           (loop_stopped w v x (row_item (game_at w f)) ks i k within read made.keeps made.passed r row_item_made q e a b)
 
-      pub row_more : (o : Sums) (h : ℕ) (t : T) → r ≡ Ok t
-          → StandsFor x h (can (sum (game_at v f) (game_at v k))) → start ≤ x.spare
-          → ((c d : ℕ) → sum_found o c d ≡ (if (f == c) && (k == d) then Some h else sum_found n c d))
-          → RowMade w x m o f (take (i + 1) ks) start
-      row_more o h t ok st spare kept =
-          let grows : Grows (thing_at v) (thing_at x) = item.keeps.known in
-          let P : Game → Type 0 = λ z. StandsFor x h (can (sum z (game_at x k))) in
-          let Q : Game → Type 0 = λ z. StandsFor x h (can (sum (game_at v f) z)) in
+      pub row_more : (o : Sums) (t : T) → r ≡ Ok t → HoldsSums x o → FindsMore n o → IsSome (sum_found o f k)
+          → start ≤ x.spare → RowMade w x m o f (take (i + 1) ks) start
+      row_more o t ok holds more found spare =
           let V : List ℕ → Type 0 = λ z. RowFound o f z in
-          let more : FindsMore n o = finds_more n o f k h kept in
           record {
             keeps = keeps_then w v x made.keeps item.keeps;
             passed = loop_passed w v x (row_item (game_at w f)) ks i k within read made.keeps made.passed r row_item_made
                 t ok;
-            holds = holds_more n o f k h kept x (holds_later v x grows n made.holds)
-                (is_game_later v x grows f row_game_f) (is_game_later v x grows k row_game_k)
-                (subst P (sym (game_later v x grows f row_game_f)) (subst Q (sym (game_later v x grows k row_game_k)) st));
+            holds = holds;
             more = more_then m n o made.more more;
             found = subst V (sym (take_next ks i k within read)) (record {
               each = λ c j. elim (has-append (take i ks) (k ∷ []) c j) [
                 | inl before ↦ more.stays f c (made.found.each c before)
-                | inr (inl e) ↦ (let U : ℕ → Type 0 = λ z. IsSome (sum_found o f z) in subst U e (finds_it n o f k h kept))
+                | inr (inl e) ↦ (let U : ℕ → Type 0 = λ z. IsSome (sum_found o f z) in subst U e found)
                 | inr (inr none_left) ↦ absurd none_left
               ];
             });

@@ -12,12 +12,12 @@ use Rattle.cg_cells.specs.Meaning.{Grows, Has, IsInjective}
 use Rattle.cg_cells.specs.Store.{Spends, State, thing_at}
 use Rattle.cg_form.specs.Game.{Among, Game}
 use Rattle.cg_form.specs.Sum.{sum}
-use Rattle.cg_nodes.proofs.Later.{game_later, stands_later}
+use Rattle.cg_nodes.proofs.Later.{game_later, spends_then, stand_later, stands_later}
 use Rattle.cg_nodes.specs.Games.{IsGame, StandFor, StandsFor, game_at, games_at}
 use Rattle.cg_nodes.specs.Meant.{Meant, form}
 use Rattle.cg_nodes.specs.Positions.{positions_of}
 use Rattle.cg_nodes.specs.Spelled.{can}
-use Rattle.cg_sum.specs.Finds.{sum_found}
+use Rattle.cg_sum.specs.Finds.{nimber_found, sum_found, value_found}
 use Rattle.cg_canon.specs.SumItems.{pair_items, sum_items, within_limit}
 use Rattle.cg_canon.specs.Made.{ItemsMade}
 use Rattle.cg_canon.specs.Works.{Keeps}
@@ -27,6 +27,8 @@ use Rattle.cg_sum.specs.declared.found.Sums.{Sums}
 use Rattle.cg_canon.proofs.MadeSteps.{made_as, read_then, was_refused}
 use Rattle.cg_dyadic.proofs.Truth.{less-nat_lt}
 use Rattle.cg_nodes.proofs.Members.{among_has, length_games}
+use Rattle.cg_sum.proofs.Tables.{none_some}
+use Rattle.cg_sum.proofs.NimberSteps.{nimbers_none}
 use Rattle.cg_sum.proofs.Positions.{positions-closed, positions-own}
 
 -- ---- within the limit or not
@@ -105,24 +107,20 @@ seconds_above limit g h fault (inr (e, above)) =
     inr (e, more_seconds limit (length (positions_of g)) (length (positions_of h)) (some_position g) above)
 
 -- so many handles stand for the positions
-pub count_of : {R : Type 0} (s : State Meant R) (hs : List ℕ) (g : Game) → StandFor s hs (positions_of g)
+count_of : {R : Type 0} (s : State Meant R) (hs : List ℕ) (g : Game) → StandFor s hs (positions_of g)
     → length hs ≡ length (positions_of g)
 count_of s hs g a = sym (length_games s hs) ∙ ap length a.1
 
 -- ---- the table at first
 
-pub holds_none : {R : Type 0} (s : State Meant R) (m : Sums) → ((a b : ℕ) → sum_found m a b ≡ None) → HoldsSums s m
-holds_none s m none_found = record {
-  first = λ a b h e. absurd (clash a b h e);
-  second = λ a b h e. absurd (clash a b h e);
-  sums = λ a b h e. absurd (clash a b h e);
+pub holds_none : {R : Type 0} (s : State Meant R) (m : Sums) → ((a b : ℕ) → sum_found m a b ≡ None)
+    → ((a : ℕ) → value_found m.nimbers a ≡ None) → ((n : ℕ) → nimber_found m.nimbers n ≡ None) → HoldsSums s m
+holds_none s m none_found no_values no_handles = record {
+  first = λ a b h e. absurd (none_some (sum_found m a b) h (none_found a b) e);
+  second = λ a b h e. absurd (none_some (sum_found m a b) h (none_found a b) e);
+  sums = λ a b h e. absurd (none_some (sum_found m a b) h (none_found a b) e);
+  nimbers = nimbers_none s m.nimbers no_values no_handles;
 }
-  where
-    clash : (a b h : ℕ) → sum_found m a b ≡ Some h → ⊥
-    clash a b h e = differ h (sym (none_found a b) ∙ e)
-      where
-        differ : (x : ℕ) → None ≡ Some x → ⊥
-        differ x p = cc
 
 -- ---- both lists of positions, as slices
 
@@ -175,14 +173,14 @@ sum_stands s t grows m holds a b h ga gb e =
 
 -- ---- the product of the two lengths
 
-pub product_above : (a b c d l k : ℕ) → a ≡ c → b ≡ d → l ≡ k → l < a * b → k < c * d
+product_above : (a b c d l k : ℕ) → a ≡ c → b ≡ d → l ≡ k → l < a * b → k < c * d
 product_above a b c d l k e f h above =
     let P : ℕ → Type 0 = λ z. l < z * b in
     let Q : ℕ → Type 0 = λ z. l < c * z in
     let V : ℕ → Type 0 = λ z. z < c * d in
     subst V h (subst Q f (subst P e above))
 
-pub product_within : (a b c d l k : ℕ) → a ≡ c → b ≡ d → l ≡ k → ¬ (l < a * b) → c * d ≤ k
+product_within : (a b c d l k : ℕ) → a ≡ c → b ≡ d → l ≡ k → ¬ (l < a * b) → c * d ≤ k
 product_within a b c d l k e f h within =
     let no_more : ¬ (k < c * d) = λ above. within (product_above c d a b k l (sym e) (sym f) (sym h) above) in
     omega (arith, no_more)
@@ -191,7 +189,7 @@ module _ {R : Type 0} (w v : State Meant (WorkRest R)) (n : ℕ) (wv : Spends n 
   pub same_spent : v.rest.spent ≡ w.rest.spent
   same_spent = ap (λ r. r.spent) wv.rest
 
-  pub same_limit : v.rest.limit ≡ w.rest.limit
+  same_limit : v.rest.limit ≡ w.rest.limit
   same_limit = ap (λ r. r.limit) wv.rest
 
   -- the positions of a game, as the work was before
@@ -199,7 +197,7 @@ module _ {R : Type 0} (w v : State Meant (WorkRest R)) (n : ℕ) (wv : Spends n 
       → positions_of (game_at v b) ≡ positions_of (game_at w b)
   positions_before b g = ap positions_of (game_later w v wv.known b g)
 
-  pub stands_before : {Q : Type 0} (t : State Meant Q) (b : ℕ) (hs : List ℕ) → IsGame w b
+  stands_before : {Q : Type 0} (t : State Meant Q) (b : ℕ) (hs : List ℕ) → IsGame w b
       → StandFor t hs (positions_of (game_at v b)) → StandFor t hs (positions_of (game_at w b))
   stands_before t b hs g a = let P : List Game → Type 0 = λ z. StandFor t hs z in subst P (positions_before b g) a
 
@@ -211,3 +209,35 @@ module _ {R : Type 0} (w v : State Meant (WorkRest R)) (n : ℕ) (wv : Spends n 
       let P : ℕ → Type 0 = λ z. z < length (positions_of (game_at v b)) in
       let Q : List Game → Type 0 = λ z. w.rest.limit < length z in
       inr (e, subst Q (positions_before b g) (subst P same_limit above))
+
+-- ---- both lists were read
+
+module _ {R : Type 0} (w v x : State Meant (WorkRest R)) (a b : ℕ) (fs ks : List ℕ) (gb : IsGame w b) (wv : Spends 0 w v)
+    (vx : Spends 0 v x) (firsts : StandFor v fs (positions_of (game_at w a)))
+    (seconds : StandFor x ks (positions_of (game_at v b))) where
+  pub firsts_stay : StandFor x fs (positions_of (game_at w a))
+  firsts_stay = stand_later v x vx.known fs (positions_of (game_at w a)) firsts
+
+  pub seconds_stay : StandFor x ks (positions_of (game_at w b))
+  seconds_stay = stands_before w v 0 wv x b ks gb seconds
+
+  -- how many pairs there are, by the lengths of both and the limit
+  module _ (m n l : ℕ) (first : m ≡ length fs) (second : n ≡ length ks) (limit : l ≡ x.rest.limit) where
+    count_firsts : m ≡ length (positions_of (game_at w a))
+    count_firsts = first ∙ count_of x fs (game_at w a) firsts_stay
+
+    count_seconds : n ≡ length (positions_of (game_at w b))
+    count_seconds = second ∙ count_of x ks (game_at w b) seconds_stay
+
+    own_limit : l ≡ w.rest.limit
+    own_limit = limit ∙ same_limit w x 0 (spends_then 0 0 w v x wv vx)
+
+    pub pairs_above : l < m * n
+        → w.rest.limit < length (positions_of (game_at w a)) * length (positions_of (game_at w b))
+    pairs_above = product_above m n (length (positions_of (game_at w a))) (length (positions_of (game_at w b))) l w.rest.limit
+        count_firsts count_seconds own_limit
+
+    pub pairs_within : ¬ (l < m * n)
+        → length (positions_of (game_at w a)) * length (positions_of (game_at w b)) ≤ w.rest.limit
+    pairs_within = product_within m n (length (positions_of (game_at w a))) (length (positions_of (game_at w b))) l w.rest.limit
+        count_firsts count_seconds own_limit

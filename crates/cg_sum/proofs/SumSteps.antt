@@ -14,16 +14,30 @@ use Rattle.cg_nodes.specs.Games.{IsGame, IsNode, StandFor, StandsFor, game_at, g
 use Rattle.cg_nodes.specs.Meant.{Meant, form}
 use Rattle.cg_nodes.specs.Spelled.{can}
 use Rattle.cg_sum.specs.Finds.{sum_found, sum_handle}
-use Rattle.cg_sum.specs.Progress.{HoldsSums, IsOneNode, IsSides, IsSumReady, IsWritten, OptionsFound}
+use Rattle.cg_sum.specs.Progress.{HoldsNimbers, HoldsSums, IsOneNode, IsSides, IsSumReady, IsWritten, OptionsFound}
 use Rattle.cg_sum.specs.Written.{written, written_lefts, written_rights}
 use Rattle.cg_sum.specs.declared.found.Sums.{Sums}
+use Rattle.cg_sum.specs.declared.nimbers.Nimbers.{Nimbers}
 use Rattle.cg_sum.proofs.Members.{some_of}
+use Rattle.cg_sum.proofs.NimberSteps.{nimbers_later}
 use Rattle.cg_sum.proofs.Sums.{can-sum_written, option_forms}
 
 handle_found : (m : Sums) (a b h : ℕ) → sum_found m a b ≡ Some h → sum_handle m a b ≡ h
 handle_found m a b h e = rw e refl
 
 -- ---- one state
+
+-- handles that stand for games made of those of a list
+pub mapped_stand : {R : Type 0} (s : State Meant R) (h : ℕ → ℕ) (G : Game → Game) (ps : List ℕ)
+    → ((p : ℕ) → Has ps p → StandsFor s (h p) (G (game_at s p))) → StandFor s (map h ps) (map G (games_at s ps))
+mapped_stand s h G [] each = (tt, refl)
+mapped_stand s h G (p ∷ ps) each =
+    let g : Game = G (game_at s p) in
+    let st = each p (inl refl) in
+    let rest = mapped_stand s h G ps (λ q i. each q (inr i)) in (
+      (stands_is_game s (h p) g st, rest.0),
+      ap (λ z. z ∷ games_at s (map h ps)) (stands_game s (h p) g st) ∙ ap (λ z. g ∷ z) rest.1,
+    )
 
 module _ {R : Type 0} (s : State Meant R) (m : Sums) (holds : HoldsSums s m) where
   -- the handle that was found
@@ -35,25 +49,13 @@ module _ {R : Type 0} (s : State Meant R) (m : Sums) (holds : HoldsSums s m) whe
 
   pub firsts_stand : (ps : List ℕ) (k : ℕ) → ((p : ℕ) → Has ps p → IsSome (sum_found m p k))
       → StandFor s (map (λ p. sum_handle m p k) ps) (map (λ a. can (sum a (game_at s k))) (games_at s ps))
-  firsts_stand [] k each = (tt, refl)
-  firsts_stand (p ∷ ps) k each =
-      let st = stands_found p k (each p (inl refl)) in
-      let rest = firsts_stand ps k (λ q i. each q (inr i)) in (
-        (stands_is_game s (sum_handle m p k) (can (sum (game_at s p) (game_at s k))) st, rest.0),
-        ap (λ z. z ∷ games_at s (map (λ q. sum_handle m q k) ps)) (stands_game s (sum_handle m p k) (can (sum (game_at s p) (game_at s k))) st)
-            ∙ ap (λ z. can (sum (game_at s p) (game_at s k)) ∷ z) rest.1,
-      )
+  firsts_stand ps k each =
+      mapped_stand s (λ p. sum_handle m p k) (λ a. can (sum a (game_at s k))) ps (λ p i. stands_found p k (each p i))
 
   pub seconds_stand : (qs : List ℕ) (f : ℕ) → ((q : ℕ) → Has qs q → IsSome (sum_found m f q))
       → StandFor s (map (λ q. sum_handle m f q) qs) (map (λ c. can (sum (game_at s f) c)) (games_at s qs))
-  seconds_stand [] f each = (tt, refl)
-  seconds_stand (q ∷ qs) f each =
-      let st = stands_found f q (each q (inl refl)) in
-      let rest = seconds_stand qs f (λ r i. each r (inr i)) in (
-        (stands_is_game s (sum_handle m f q) (can (sum (game_at s f) (game_at s q))) st, rest.0),
-        ap (λ z. z ∷ games_at s (map (λ r. sum_handle m f r) qs)) (stands_game s (sum_handle m f q) (can (sum (game_at s f) (game_at s q))) st)
-            ∙ ap (λ z. can (sum (game_at s f) (game_at s q)) ∷ z) rest.1,
-      )
+  seconds_stand qs f each =
+      mapped_stand s (λ q. sum_handle m f q) (λ c. can (sum (game_at s f) c)) qs (λ q i. stands_found f q (each q i))
 
   -- the sums of the options gs of f, with k, and of f with the options hs of k
   pub options_stand : (ps qs : List ℕ) (f k : ℕ) (gs hs : List Game) → StandFor s ps gs → StandFor s qs hs
@@ -81,7 +83,15 @@ module _ {R Q : Type 0} (s : State Meant R) (t : State Meant Q) (grows : Grows (
         subst P (sym (game_later s t grows a (holds.first a b h e)))
         (subst Q (sym (game_later s t grows b (holds.second a b h e)))
         (stands_later s t grows h (can (sum (game_at s a) (game_at s b))) (holds.sums a b h e)));
+    nimbers = nimbers_later s t grows m.nimbers holds.nimbers;
   }
+
+  -- with more nimbers known
+  pub holds_known : (nimbers : Nimbers) → HoldsSums s m → HoldsNimbers t nimbers
+      → HoldsSums t (record { sums = m.sums; nimbers = nimbers })
+  holds_known nimbers holds known =
+      let later = holds_later holds in
+      record { first = later.first; second = later.second; sums = later.sums; nimbers = known }
 
   pub options_later : (f k : ℕ) → IsGame s f → IsGame s k → OptionsFound s m f k → OptionsFound t m f k
   options_later f k gf gk found = record {

@@ -99,7 +99,7 @@ can-negative g =
     ∙ (ap (λ z. can (node (map can ls) z)) (sym (map-map can negative (lefts g)))
     ∙ (can-node ls rs ∙ ap can (sym (negative-options g))))
 
-zero_is : Equal (number (whole (pos 0))) nothing
+pub zero_is : Equal (number (whole (pos 0))) nothing
 zero_is = (
   le-fold (number (whole (pos 0))) nothing (record { on_left = λ a m. absurd m; on_right = λ b m. absurd m }),
   le-fold nothing (number (whole (pos 0))) (record { on_left = λ a m. absurd m; on_right = λ b m. absurd m }),

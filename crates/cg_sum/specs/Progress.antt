@@ -1,24 +1,49 @@
 -- How far a sum or a negative has come.
-use Rattle.std.specs.Prelude.{◌≡◌, ◌⊎◌, ℕ, List, Some, IsSome}
+use Rattle.std.specs.Prelude.{◌≡◌, ◌⊎◌, ◌<◌, ℕ, List, Some, IsSome, get_or, length, map}
 use Rattle.cg_cells.specs.Meaning.{Has, Meaning, note_for}
 use Rattle.cg_cells.specs.Store.{Known, State, thing_at}
 use Rattle.cg_form.specs.Canonical.{Canonical}
 use Rattle.cg_form.specs.Game.{Among, Game, node}
 use Rattle.cg_form.specs.Sum.{negative, sum}
+use Rattle.cg_nimbers.specs.Nimbers.{nimber_form, nimbers_below}
 use Rattle.cg_nodes.specs.declared.reading.Sides.{Sides}
 use Rattle.cg_nodes.specs.Games.{AreGames, IsGame, IsNode, StandFor, StandsFor, game_at, games_at}
 use Rattle.cg_nodes.specs.Meant.{Meant, form}
 use Rattle.cg_nodes.specs.Spelled.{can}
-use Rattle.cg_sum.specs.Finds.{negative_found, sum_found}
+use Rattle.cg_sum.specs.Finds.{negative_found, nimber_found, sum_found, value_found}
 use Rattle.cg_sum.specs.Written.{written, written_lefts, written_rights}
 use Rattle.cg_sum.specs.declared.found.Negatives.{Negatives}
 use Rattle.cg_sum.specs.declared.found.Sums.{Sums}
+use Rattle.cg_sum.specs.declared.nimbers.Nimbers.{Nimbers}
+
+-- the handle stands for the nimber of n
+abbrev pub IsNimber : {R : Type 0} → State Meant R → ℕ → ℕ → Type 0
+IsNimber {R} s a n = StandsFor s a (can (nimber_form n))
+
+-- the games are the nimbers below n, in their order
+abbrev pub AreNimbers : List Game → ℕ → Type 0
+AreNimbers gs n = gs ≡ map can (nimbers_below n)
+
+-- the handles are known as the nimbers below n, in their order
+pub record AreInOrder (m : Nimbers) (hs : List ℕ) (n : ℕ) : Type 0 where
+  pub count : n ≡ length hs
+  pub each : (i : ℕ) → i < n → value_found m (get_or hs i 0) ≡ Some i
+
+-- the sum of the two equals the nimber of n
+abbrev pub IsNimberSum : {R : Type 0} → State Meant R → ℕ → ℕ → ℕ → Type 0
+IsNimberSum {R} s f k n = can (sum (game_at s f) (game_at s k)) ≡ can (nimber_form n)
+
+-- what is known as a nimber is that nimber
+pub record HoldsNimbers {R : Type 0} (s : State Meant R) (m : Nimbers) : Type 0 where
+  pub values : (a n : ℕ) → value_found m a ≡ Some n → IsNimber s a n
+  pub handles : (n a : ℕ) → nimber_found m n ≡ Some a → IsNimber s a n
 
 -- what was found for two handles stands for the form of their sum
 pub record HoldsSums {R : Type 0} (s : State Meant R) (m : Sums) : Type 0 where
   pub first : (a b h : ℕ) → sum_found m a b ≡ Some h → IsGame s a
   pub second : (a b h : ℕ) → sum_found m a b ≡ Some h → IsGame s b
   pub sums : (a b h : ℕ) → sum_found m a b ≡ Some h → StandsFor s h (can (sum (game_at s a) (game_at s b)))
+  pub nimbers : HoldsNimbers s m.nimbers
 
 -- the sums of the handle and each of the list were found
 pub record RowFound (m : Sums) (f : ℕ) (ks : List ℕ) : Type 0 where

@@ -10,12 +10,14 @@ ghost use Rattle.cg_nodes.specs.Positions.{positions_of};
 ghost use Rattle.cg_nodes.specs.Spelled.{can};
 ghost use Rattle.cg_sum.specs.Finds.{sum_found};
 ghost use Rattle.cg_canon.specs.SumItems.{sum_items};
-ghost use Rattle.cg_sum.specs.Progress.{HoldsSums};
+ghost use Rattle.cg_sum.specs.Progress.{HoldsNimbers, HoldsSums};
 
 use crate::found::Sums;
+use crate::item::LookUp;
 use crate::limits::positions_within;
+use crate::nimbers::{Nimbers, learn};
 use crate::rows::add_rows;
-use cg_canon::{ValueFault, Work};
+use cg_canon::{ValueFault, Work, keep_sum, sum_again};
 use cg_cells::CellStore;
 use cg_nodes::{BoardForms, GameFacts, Handle, Handles};
 use std::alloc::Global;
@@ -28,7 +30,7 @@ use std::alloc::Global;
 /// the inner loop. Such an item costs 1 more than the form. `Positions` comes exactly where there are more
 /// such pairs than the limit, and nothing is made then. `Range`, `Depth` and `Full` come exactly where the
 /// first item that isn't made is refused so; what the items before it cost is spent. No difference is made
-/// in order to compare.
+/// in order to compare. A sum that was made in this work before is charged again at once.
 pub fn sum<B: BoardForms, S: CellStore<GameFacts<B>>>(
     alloc: Global,
     work: &mut Work<B, S>,
@@ -46,11 +48,14 @@ pub fn sum<B: BoardForms, S: CellStore<GameFacts<B>>>(
     ensures spare { (work_state S.state work.old).spare ≤ (work_state S.state work.new).spare }
     ensures keeps { Keeps (work_state S.state work.old) (work_state S.state work.new) }
 {
-    listed_sum(alloc, work, a, b)
+    match sum_again(work, a, b) {
+        Some(sum) => Ok(sum),
+        None => new_sum(alloc, work, a, b),
+    }
 }
 
-// Makes the items of the sum's own list, of which the last is the sum.
-fn listed_sum<B: BoardForms, S: CellStore<GameFacts<B>>>(
+// Makes the items of the sum's own list, one by one, and keeps what they cost together.
+fn new_sum<B: BoardForms, S: CellStore<GameFacts<B>>>(
     alloc: Global,
     work: &mut Work<B, S>,
     a: Handle,
@@ -64,7 +69,33 @@ fn listed_sum<B: BoardForms, S: CellStore<GameFacts<B>>>(
         (sum_items work.old.limit (game_at W a) (game_at W b)) result }
     ensures spare { (work_state S.state work.old).spare ≤ (work_state S.state work.new).spare }
 {
-    let sums = all_sums(alloc, work, a, b)?;
+    let before = work.spent();
+    let mut sums = Sums::new(alloc);
+    let sum = found_sum(alloc, work, a, b, &mut sums, LookUp::OnCells)?;
+    keep_sum(work, a, b, sum, before)?;
+    Ok(sum)
+}
+
+/// Makes the items of the sum's own list, of which the last is the sum, and keeps the sums.
+pub(crate) fn found_sum<B: BoardForms, S: CellStore<GameFacts<B>>>(
+    alloc: Global,
+    work: &mut Work<B, S>,
+    a: Handle,
+    b: Handle,
+    sums: &mut Sums,
+    look_up: LookUp,
+) -> Result<Handle, ValueFault>
+    requires a { IsGame (work_state S.state work.old) a }
+    requires b { IsGame (work_state S.state work.old) b }
+    requires holds { HoldsSums (work_state S.state work.old) sums.old }
+    ensures game { let W = work_state S.state work.old in IfOk result (λ h. StandsFor (work_state S.state work.new) h
+        (can (sum_of (game_at W a) (game_at W b)))) }
+    ensures holds { OnOk result (HoldsSums (work_state S.state work.new) sums.new) }
+    ensures made { let W = work_state S.state work.old in ItemsMade W (work_state S.state work.new)
+        (sum_items work.old.limit (game_at W a) (game_at W b)) result }
+    ensures spare { (work_state S.state work.old).spare ≤ (work_state S.state work.new).spare }
+{
+    add_sums(alloc, work, a, b, sums, look_up)?;
     match sums.get(a, b) {
         Some(sum) => Ok(sum),
         None => unreachable!(),
@@ -72,33 +103,36 @@ fn listed_sum<B: BoardForms, S: CellStore<GameFacts<B>>>(
 }
 
 // Makes the items of the sums of all positions of the two.
-fn all_sums<B: BoardForms, S: CellStore<GameFacts<B>>>(
+fn add_sums<B: BoardForms, S: CellStore<GameFacts<B>>>(
     alloc: Global,
     work: &mut Work<B, S>,
     a: Handle,
     b: Handle,
-) -> Result<Sums, ValueFault>
+    sums: &mut Sums,
+    look_up: LookUp,
+) -> Result<(), ValueFault>
     requires a { IsGame (work_state S.state work.old) a }
     requires b { IsGame (work_state S.state work.old) b }
-    ensures found { IfOk result (λ sums. IsSome (sum_found sums a b)) }
-    ensures holds { IfOk result (HoldsSums (work_state S.state work.new)) }
+    requires holds { HoldsSums (work_state S.state work.old) sums.old }
+    ensures found { OnOk result (IsSome (sum_found sums.new a b)) }
+    ensures holds { OnOk result (HoldsSums (work_state S.state work.new) sums.new) }
     ensures made { let W = work_state S.state work.old in ItemsMade W (work_state S.state work.new)
         (sum_items work.old.limit (game_at W a) (game_at W b)) result }
     ensures spare { (work_state S.state work.old).spare ≤ (work_state S.state work.new).spare }
 {
-    let both = both_positions(alloc, work, a, b)?;
+    let both = known_positions(alloc, work, a, b, &mut sums.nimbers)?;
     let start = work.spare();
-    let mut sums = Sums::new(alloc);
     add_rows(
         alloc,
         work,
         both.firsts.as_slice(),
         both.seconds.as_slice(),
-        &mut sums,
+        sums,
+        look_up,
         start,
     )?;
     work.apart();
-    Ok(sums)
+    Ok(())
 }
 
 // The positions of two games.
@@ -106,6 +140,34 @@ fn all_sums<B: BoardForms, S: CellStore<GameFacts<B>>>(
 struct Both {
     firsts: Handles,
     seconds: Handles,
+}
+
+// The positions of both games, unless there are more pairs of them than the limit. Those of nimbers are known then.
+fn known_positions<B: BoardForms, S: CellStore<GameFacts<B>>>(
+    alloc: Global,
+    work: &mut Work<B, S>,
+    a: Handle,
+    b: Handle,
+    nimbers: &mut Nimbers,
+) -> Result<Both, ValueFault>
+    requires a { IsGame (work_state S.state work.old) a }
+    requires b { IsGame (work_state S.state work.old) b }
+    requires holds { HoldsNimbers (work_state S.state work.old) nimbers.old }
+    ensures firsts { IfOk result (λ both. StandFor (work_state S.state work.new) both.firsts
+        (positions_of (game_at (work_state S.state work.old) a))) }
+    ensures seconds { IfOk result (λ both. StandFor (work_state S.state work.new) both.seconds
+        (positions_of (game_at (work_state S.state work.old) b))) }
+    ensures within { OnOk result (length (positions_of (game_at (work_state S.state work.old) a))
+        * length (positions_of (game_at (work_state S.state work.old) b)) ≤ work.old.limit) }
+    ensures holds { OnOk result (HoldsNimbers (work_state S.state work.new) nimbers.new) }
+    ensures refused { let W = work_state S.state work.old in IfErr result (λ fault. WasRefused fault work.old.share
+        work.old.spent (sum_items work.old.limit (game_at W a) (game_at W b)) work.new.spent) }
+    ensures spends { Spends 0 (work_state S.state work.old) (work_state S.state work.new) }
+{
+    let both = both_positions(alloc, work, a, b)?;
+    learn(alloc, work, both.firsts.as_slice(), nimbers)?;
+    learn(alloc, work, both.seconds.as_slice(), nimbers)?;
+    Ok(both)
 }
 
 // The positions of both games, unless there are more pairs of them than the limit.

@@ -1,23 +1,28 @@
 //! The forms that a call has made so far, by the ids of what they were made of.
 ghost use Rattle.std.specs.Prelude.{◌≡◌, ℕ, ◌==◌, ◌&&◌, IfOk, None, Some, Option, if◌then◌else◌};
-ghost use Rattle.cg_sum.specs.Finds.{negative_found, sum_found};
+ghost use Rattle.cg_sum.specs.Finds.{negative_found, nimber_found, sum_found, value_found};
 
+use crate::nimbers::Nimbers;
 use cg_nodes::Handle;
 use std::alloc::{AllocError, Global};
 use std::collections::HashMap;
 
-/// For pairs of handles the handle of the form of their sum.
+/// For pairs of handles the handle of the form of their sum, and the nimbers that are known.
 #[derive(Drop)]
 pub(crate) struct Sums {
     sums: HashMap<(u32, u32), Handle>,
+    pub(crate) nimbers: Nimbers,
 }
 
 impl Sums {
     pub(crate) fn new(alloc: Global) -> Sums
-        ensures { (a b : ℕ) → sum_found result a b ≡ None }
+        ensures sums { (a b : ℕ) → sum_found result a b ≡ None }
+        ensures values { (a : ℕ) → value_found result.nimbers a ≡ None }
+        ensures nimbers { (n : ℕ) → nimber_found result.nimbers n ≡ None }
     {
         Sums {
             sums: HashMap::new(alloc),
+            nimbers: Nimbers::new(alloc),
         }
     }
 
@@ -30,6 +35,7 @@ impl Sums {
     pub(crate) fn keep(&mut self, a: Handle, b: Handle, sum: Handle) -> Result<(), AllocError>
         ensures ok { IfOk result (λ _. (c d : ℕ) → sum_found self.new c d
             ≡ (if (a == c) && (b == d) then Some sum else sum_found self.old c d)) }
+        ensures nimbers { self.new.nimbers ≡ self.old.nimbers }
     {
         self.sums.insert((a.id().number(), b.id().number()), sum)?;
         Ok(())

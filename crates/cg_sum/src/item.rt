@@ -21,17 +21,25 @@ use cg_dyadic::Dyadic;
 use cg_nodes::{BoardForms, GameFacts, Handle, Kind, kind};
 use std::alloc::Global;
 
+/// Where a sum that was made before is found.
+#[derive(Clone, Copy, Debug)]
+pub(crate) enum LookUp {
+    /// On the cell of its pair, for other calls too.
+    OnCells,
+    /// Among the sums that the call keeps.
+    Kept,
+}
+
 /// Makes the item of f + k, where the sums of their options were made before.
 ///
-/// The sum of two numbers is a number. Any other sum is noted on the cell of the pair, and a note that is
-/// there is used. That cell takes a claim before the item is charged that pays for it, so no note is asked
-/// for where the own spare is still `start`: an earlier item has paid where it is more.
+/// The sum of two numbers is a number. Any other sum that was made before is found where `look_up` says.
 pub(crate) fn sum_item<B: BoardForms, S: CellStore<GameFacts<B>>>(
     alloc: Global,
     work: &mut Work<B, S>,
     f: Handle,
     k: Handle,
     sums: &Sums,
+    look_up: LookUp,
     start: u64,
 ) -> Result<Handle, ValueFault>
     requires ready { IsSumReady (work_state S.state work.old) sums.now f k }
@@ -44,7 +52,7 @@ pub(crate) fn sum_item<B: BoardForms, S: CellStore<GameFacts<B>>>(
 {
     match numbers(work, f, k) {
         Some(pair) => number_item(work, pair.first.add(pair.second).ok(), 1),
-        None => game_item(alloc, work, f, k, sums, start),
+        None => game_item(alloc, work, f, k, sums, look_up, start),
     }
 }
 
@@ -83,6 +91,34 @@ fn game_item<B: BoardForms, S: CellStore<GameFacts<B>>>(
     f: Handle,
     k: Handle,
     sums: &Sums,
+    look_up: LookUp,
+    start: u64,
+) -> Result<Handle, ValueFault>
+    requires ready { IsSumReady (work_state S.state work.old) sums.now f k }
+    requires node { IsOneNode (work_state S.state work.old) f k }
+    requires spare { start ≤ (work_state S.state work.old).spare }
+    ensures game { let W = work_state S.state work.old in IfOk result (λ h. StandsFor (work_state S.state work.new) h
+        (can (sum (game_at W f) (game_at W k)))) }
+    ensures made { let W = work_state S.state work.old in ItemsMade W (work_state S.state work.new)
+        (item_of_sum (game_at W f) (game_at W k) ∷ []) result }
+    ensures spare { start ≤ (work_state S.state work.new).spare }
+{
+    match look_up {
+        LookUp::OnCells => cell_item(alloc, work, f, k, sums, start),
+        LookUp::Kept => kept_item(alloc, work, f, k, sums),
+    }
+}
+
+// Makes the item of f + k, by the note on the cell of the pair where one is there.
+//
+// That cell takes a claim before the item is charged that pays for it, so no note is asked for where the own
+// spare is still `start`: an earlier item has paid where it is more.
+fn cell_item<B: BoardForms, S: CellStore<GameFacts<B>>>(
+    alloc: Global,
+    work: &mut Work<B, S>,
+    f: Handle,
+    k: Handle,
+    sums: &Sums,
     start: u64,
 ) -> Result<Handle, ValueFault>
     requires ready { IsSumReady (work_state S.state work.old) sums.now f k }
@@ -104,8 +140,30 @@ fn game_item<B: BoardForms, S: CellStore<GameFacts<B>>>(
     }
 }
 
-// Charges the item of the sum that the handle stands for.
-fn charged_item<B: BoardForms, S: CellStore<GameFacts<B>>>(
+// Makes the item of f + k, by the sum that was kept where there is one.
+fn kept_item<B: BoardForms, S: CellStore<GameFacts<B>>>(
+    alloc: Global,
+    work: &mut Work<B, S>,
+    f: Handle,
+    k: Handle,
+    sums: &Sums,
+) -> Result<Handle, ValueFault>
+    requires ready { IsSumReady (work_state S.state work.old) sums.now f k }
+    requires node { IsOneNode (work_state S.state work.old) f k }
+    ensures game { let W = work_state S.state work.old in IfOk result (λ h. StandsFor (work_state S.state work.new) h
+        (can (sum (game_at W f) (game_at W k)))) }
+    ensures made { let W = work_state S.state work.old in ItemsMade W (work_state S.state work.new)
+        (item_of_sum (game_at W f) (game_at W k) ∷ []) result }
+    ensures more { (work_state S.state work.old).spare ≤ (work_state S.state work.new).spare }
+{
+    match sums.get(f, k) {
+        Some(sum) => charged_item(alloc, work, sum),
+        None => made_item(alloc, work, f, k, sums),
+    }
+}
+
+/// Charges the item of the sum that the handle stands for.
+pub(crate) fn charged_item<B: BoardForms, S: CellStore<GameFacts<B>>>(
     alloc: Global,
     work: &mut Work<B, S>,
     sum: Handle,

@@ -3,7 +3,9 @@
 //! Each call makes a list of items, forms with their costs, in order, and stops at the first that is
 //! refused: [`sum`] the sums of all pairs of positions, [`negative`] the negatives of all positions,
 //! [`multiple`] the sums of its steps. A sum is noted on the cell of its pair, so that a second sum of the
-//! same two positions takes the note; the charge is the same.
+//! same two positions takes the note; the steps of a multiple keep their sums instead. The sum of two
+//! nimbers is the nimber of the exclusive or of their numbers, which is made once in a call. The charge is
+//! the same.
 #![tactic(auto)]
 
 mod addition;
@@ -14,6 +16,7 @@ mod item;
 mod limits;
 mod multiples;
 mod negation;
+mod nimbers;
 mod pairs;
 mod rows;
 mod written;

@@ -9,7 +9,9 @@ ghost use Rattle.cg_nodes.specs.Games.{IsGame, StandsFor, game_at};
 ghost use Rattle.cg_nodes.specs.Spelled.{can};
 ghost use Rattle.cg_sum.specs.Lists.{multiple_items};
 
-use crate::addition::sum;
+use crate::addition::found_sum;
+use crate::found::Sums;
+use crate::item::LookUp;
 use cg_canon::{ValueFault, Work, number_item};
 use cg_cells::CellStore;
 use cg_dyadic::Dyadic;
@@ -20,7 +22,8 @@ use std::alloc::Global;
 /// 1).G + G (Siegel, Combinatorial Game Theory (2013), I.1).
 ///
 /// For 0 it makes the item of the number 0, for 1 none, and else those of `count - 1` sums: each adds a to
-/// the form of the multiple so far, and has its own list with its own limit. A refusal is that of the first
+/// the form of the multiple so far, and has its own list with its own limit. The sums of one step are kept for
+/// the later ones, and none is noted on a cell. A refusal is that of the first
 /// item that isn't made, or of the first list that is too long; what the items before it cost is spent.
 /// Each sum costs at least 2, so a great count ends by `Full` or by another refusal.
 pub fn multiple<B: BoardForms, S: CellStore<GameFacts<B>>>(
@@ -77,9 +80,10 @@ fn listed_multiple<B: BoardForms, S: CellStore<GameFacts<B>>>(
 {
     // Called for the proof alone: the form that a handle stands for is canonical.
     known_game(work, a);
+    let mut sums = Sums::new(alloc);
     let mut total = a;
     for _step in 1..count {
-        total = sum(alloc, work, total, a)?;
+        total = found_sum(alloc, work, total, a, &mut sums, LookUp::Kept)?;
     }
     Ok(total)
 }

@@ -1,14 +1,18 @@
 //! The sums of all positions of one game and all positions of another.
-ghost use Rattle.std.specs.Prelude.{◌≤◌, OnOk};
+ghost use Rattle.std.specs.Prelude.{◌≤◌, IfOk, IsSome, OnOk, [], ◌∷◌};
+ghost use Rattle.std.specs.Option.{ForSome};
 ghost use Rattle.cg_canon.specs.Works.{work_state};
-ghost use Rattle.cg_nodes.specs.Games.{AreGames, IsGame, game_at, games_at};
-ghost use Rattle.cg_canon.specs.SumItems.{pair_items, row_items};
+ghost use Rattle.cg_form.specs.Sum.{sum};
+ghost use Rattle.cg_nodes.specs.Games.{AreGames, IsGame, StandsFor, game_at, games_at};
+ghost use Rattle.cg_nodes.specs.Spelled.{can};
+ghost use Rattle.cg_canon.specs.SumItems.{pair_items, row_items, sum_item as item_of_sum};
 ghost use Rattle.cg_canon.specs.Made.{ItemsMade};
-ghost use Rattle.cg_sum.specs.Progress.{FindsMore, HoldsSums, RowFound, RowReady, RowsFound};
+ghost use Rattle.cg_sum.specs.Progress.{FindsMore, HoldsSums, IsNimberSum, IsSumReady, RowFound, RowReady, RowsFound};
+ghost use Rattle.cg_sum.specs.Finds.{sum_found};
 ghost use Rattle.cg_sum.specs.Written.{IsClosed};
 
 use crate::found::Sums;
-use crate::item::sum_item;
+use crate::item::{LookUp, charged_item, sum_item};
 use cg_canon::{ValueFault, Work};
 use cg_cells::CellStore;
 use cg_nodes::{BoardForms, GameFacts, Handle};
@@ -22,6 +26,7 @@ pub(crate) fn add_rows<B: BoardForms, S: CellStore<GameFacts<B>>>(
     firsts: &[Handle],
     seconds: &[Handle],
     sums: &mut Sums,
+    look_up: LookUp,
     start: u64,
 ) -> Result<(), ValueFault>
     requires firsts { AreGames (work_state S.state work.old) firsts.now }
@@ -37,7 +42,7 @@ pub(crate) fn add_rows<B: BoardForms, S: CellStore<GameFacts<B>>>(
     ensures spare { start ≤ (work_state S.state work.new).spare }
 {
     for f in firsts {
-        add_row(alloc, work, *f, seconds, sums, start)?;
+        add_row(alloc, work, *f, seconds, sums, look_up, start)?;
     }
     Ok(())
 }
@@ -49,6 +54,7 @@ fn add_row<B: BoardForms, S: CellStore<GameFacts<B>>>(
     f: Handle,
     seconds: &[Handle],
     sums: &mut Sums,
+    look_up: LookUp,
     start: u64,
 ) -> Result<(), ValueFault>
     requires f { IsGame (work_state S.state work.old) f }
@@ -64,9 +70,73 @@ fn add_row<B: BoardForms, S: CellStore<GameFacts<B>>>(
         (row_items (games_at W seconds.now) (game_at W f)) result }
     ensures spare { start ≤ (work_state S.state work.new).spare }
 {
+    let nimber = sums.nimbers.value_of(f);
     for k in seconds {
-        let sum = sum_item(alloc, work, f, *k, sums, start)?;
-        sums.keep(f, *k, sum)?;
+        let pair = Pair {
+            first: f,
+            second: *k,
+            nimber: sums.nimbers.sum_value(nimber, *k),
+        };
+        add_pair(alloc, work, pair, sums, look_up, start)?;
     }
     Ok(())
+}
+
+// Two positions, and the number of the nimber that their sum equals, where both are known as nimbers.
+#[derive(Clone, Copy, Debug)]
+struct Pair {
+    first: Handle,
+    second: Handle,
+    nimber: Option<usize>,
+}
+
+// Makes the item of the sum of the pair, and keeps the sum.
+fn add_pair<B: BoardForms, S: CellStore<GameFacts<B>>>(
+    alloc: Global,
+    work: &mut Work<B, S>,
+    pair: Pair,
+    sums: &mut Sums,
+    look_up: LookUp,
+    start: u64,
+) -> Result<(), ValueFault>
+    requires ready { IsSumReady (work_state S.state work.old) sums.old pair.first pair.second }
+    requires nimber { ForSome pair.nimber (λ n. IsNimberSum (work_state S.state work.old) pair.first pair.second n) }
+    requires spare { start ≤ (work_state S.state work.old).spare }
+    ensures found { OnOk result (IsSome (sum_found sums.new pair.first pair.second)) }
+    ensures more { OnOk result (FindsMore sums.old sums.new) }
+    ensures holds { OnOk result (HoldsSums (work_state S.state work.new) sums.new) }
+    ensures made { let W = work_state S.state work.old in ItemsMade W (work_state S.state work.new)
+        (item_of_sum (game_at W pair.first) (game_at W pair.second) ∷ []) result }
+    ensures spare { start ≤ (work_state S.state work.new).spare }
+{
+    let sum = known_item(alloc, work, pair, sums, look_up, start)?;
+    sums.keep(pair.first, pair.second, sum)?;
+    match pair.nimber {
+        Some(value) => Ok(sums.nimbers.keep(sum, value)?),
+        None => Ok(()),
+    }
+}
+
+// Makes the item of the sum of the pair, by the handle of its nimber where that is known.
+fn known_item<B: BoardForms, S: CellStore<GameFacts<B>>>(
+    alloc: Global,
+    work: &mut Work<B, S>,
+    pair: Pair,
+    sums: &Sums,
+    look_up: LookUp,
+    start: u64,
+) -> Result<Handle, ValueFault>
+    requires ready { IsSumReady (work_state S.state work.old) sums.now pair.first pair.second }
+    requires nimber { ForSome pair.nimber (λ n. IsNimberSum (work_state S.state work.old) pair.first pair.second n) }
+    requires spare { start ≤ (work_state S.state work.old).spare }
+    ensures game { let W = work_state S.state work.old in IfOk result (λ h. StandsFor (work_state S.state work.new) h
+        (can (sum (game_at W pair.first) (game_at W pair.second)))) }
+    ensures made { let W = work_state S.state work.old in ItemsMade W (work_state S.state work.new)
+        (item_of_sum (game_at W pair.first) (game_at W pair.second) ∷ []) result }
+    ensures spare { start ≤ (work_state S.state work.new).spare }
+{
+    match sums.nimbers.known(pair.nimber) {
+        Some(sum) => charged_item(alloc, work, sum),
+        None => sum_item(alloc, work, pair.first, pair.second, sums, look_up, start),
+    }
 }

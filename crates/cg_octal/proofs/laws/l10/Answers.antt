@@ -1,4 +1,4 @@
-use Rattle.cg_octal.proofs.NimberSums.{nimber_sum}
+use Rattle.cg_nimbers.proofs.NimberSums.{nimber_sum}
 use Rattle.cg_octal.proofs.Nimbers.{least_missing-equal}
 use Rattle.cg_octal.proofs.laws.l10.Goals as goal
 

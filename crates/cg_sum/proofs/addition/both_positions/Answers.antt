@@ -1,13 +1,11 @@
 -- The positions of both, or the refusal of a list that is too long.
-use Rattle.std.proofs.Common.{◌*◌, inr, refl, ◌∙◌, ap, length, Err}
+use Rattle.std.proofs.Common.{inr, refl, ◌∙◌, ap, Err}
 use Rattle.std.proofs.lemmas.Result.{err_from_is_err_and}
+use Rattle.cg_canon.specs.SumItems.{within_limit}
 use Rattle.cg_canon.specs.Works.{work_state}
 use Rattle.cg_canon.specs.declared.fault.ValueFault.TheVariants.{Positions}
 use Rattle.cg_nodes.proofs.Later.{is_game_later, spends_then, stand_later}
-use Rattle.cg_nodes.specs.Games.{game_at}
-use Rattle.cg_nodes.specs.Positions.{positions_of}
-use Rattle.cg_canon.specs.SumItems.{pair_items, within_limit}
-use Rattle.cg_sum.proofs.SumEnds.{count_of, err_refused, firsts_above, limit_refused, product_above, product_within, refusal_before, same_limit, same_spent, seconds_above, stands_before}
+use Rattle.cg_sum.proofs.SumEnds.{err_refused, firsts_above, limit_refused, pairs_above, pairs_within, refusal_before, same_spent, seconds_above, seconds_stay}
 use Rattle.cg_sum.proofs.addition.both_positions.Goals as goal
 
 pub returns-in_err-firsts-clause-refused : goal.returns-in_err-firsts-clause-refused
@@ -43,80 +41,48 @@ returns-in_err-seconds-clause-refused g c =
 
 pub returns-in_err-seconds-clause-spends : goal.returns-in_err-seconds-clause-spends
 returns-in_err-seconds-clause-spends g c =
-    let wx = spends_then 0 0 _ _ _ c.positions_within.ensures.spends c.positions_within-2.ensures.spends in
-    wx
+    spends_then 0 0 _ _ _ c.positions_within.ensures.spends c.positions_within-2.ensures.spends
 
 pub returns-then-is_product_above-clause-refused : goal.returns-then-is_product_above-clause-refused
 returns-then-is_product_above-clause-refused g c =
-    let state = g.S.CellStore.state in
-    let w = work_state state c.args.work.now in
-    let v = work_state state c.positions_within.new.work in
-    let ga = game_at w c.args.a in
-    let gb = game_at w c.args.b in
-    let count = length (positions_of ga) * length (positions_of gb) in
-    let items = pair_items (positions_of ga) (positions_of gb) in
-    let x = work_state state c.positions_within-2.new.work in
-    let vx = c.positions_within-2.ensures.spends in
-    let wx = spends_then 0 0 w v x c.positions_within.ensures.spends vx in
-    let firsts = stand_later v x vx.known c.in_ok-firsts.firsts (positions_of ga) c.in_ok-firsts.ensures.positions in
-    let seconds = stands_before w v 0 c.positions_within.ensures.spends x c.args.b c.in_ok-seconds.seconds c.requires.b
-    c.in_ok-seconds.ensures.positions in
-    let m = c.len.ensures ∙ count_of x c.in_ok-firsts.firsts ga firsts in
-    let n = c.len-2.ensures ∙ count_of x c.in_ok-seconds.seconds gb seconds in
-    let l = c.limit.ensures ∙ same_limit w x 0 wx in
-    limit_refused Positions w.rest.share w.rest.spent x.rest.spent w.rest.limit count items (same_spent w x 0 wx)
+    let W = work_state g.S.CellStore.state in
+    let w = W c.args.work.now in
+    let v = W c.positions_within.new.work in
+    let x = W c.positions_within-2.new.work in
+    let wx = spends_then 0 0 w v x c.positions_within.ensures.spends c.positions_within-2.ensures.spends in
+    limit_refused Positions w.rest.share w.rest.spent x.rest.spent w.rest.limit _ _ (same_spent w x 0 wx)
     (inr (
       refl,
-      product_above c.len.result c.len-2.result (length (positions_of ga)) (length (positions_of gb))
-          c.limit.result w.rest.limit m n l (c.is_product_above.ensures.0 c.if-is_product_above.true),
+      pairs_above w v x _ _ _ _ c.requires.b c.positions_within.ensures.spends c.positions_within-2.ensures.spends
+          c.in_ok-firsts.ensures.positions c.in_ok-seconds.ensures.positions _ _ _ c.len.ensures c.len-2.ensures c.limit.ensures
+          (c.is_product_above.ensures.0 c.if-is_product_above.true),
     ))
 
 pub returns-then-is_product_above-clause-spends : goal.returns-then-is_product_above-clause-spends
 returns-then-is_product_above-clause-spends g c =
-    let wx = spends_then 0 0 _ _ _ c.positions_within.ensures.spends c.positions_within-2.ensures.spends in
-    wx
+    spends_then 0 0 _ _ _ c.positions_within.ensures.spends c.positions_within-2.ensures.spends
 
 pub returns-clause-firsts : goal.returns-clause-firsts
 returns-clause-firsts g c =
-    let state = g.S.CellStore.state in
-    let w = work_state state c.args.work.now in
-    let v = work_state state c.positions_within.new.work in
-    let ga = game_at w c.args.a in
-    let x = work_state state c.positions_within-2.new.work in
-    let vx = c.positions_within-2.ensures.spends in
-    let firsts = stand_later v x vx.known c.in_ok-firsts.firsts (positions_of ga) c.in_ok-firsts.ensures.positions in
-    firsts
+    let W = work_state g.S.CellStore.state in
+    stand_later (W c.positions_within.new.work) (W c.positions_within-2.new.work) c.positions_within-2.ensures.spends.known
+    _ _ c.in_ok-firsts.ensures.positions
 
 pub returns-clause-seconds : goal.returns-clause-seconds
 returns-clause-seconds g c =
-    let state = g.S.CellStore.state in
-    let w = work_state state c.args.work.now in
-    let v = work_state state c.positions_within.new.work in
-    let x = work_state state c.positions_within-2.new.work in
-    let seconds = stands_before w v 0 c.positions_within.ensures.spends x c.args.b c.in_ok-seconds.seconds c.requires.b
-    c.in_ok-seconds.ensures.positions in
-    seconds
+    let W = work_state g.S.CellStore.state in
+    seconds_stay (W c.args.work.now) (W c.positions_within.new.work) (W c.positions_within-2.new.work) _ _ _ _ c.requires.b
+    c.positions_within.ensures.spends c.positions_within-2.ensures.spends c.in_ok-firsts.ensures.positions
+    c.in_ok-seconds.ensures.positions
 
 pub returns-clause-within : goal.returns-clause-within
 returns-clause-within g c =
-    let state = g.S.CellStore.state in
-    let w = work_state state c.args.work.now in
-    let v = work_state state c.positions_within.new.work in
-    let ga = game_at w c.args.a in
-    let gb = game_at w c.args.b in
-    let x = work_state state c.positions_within-2.new.work in
-    let vx = c.positions_within-2.ensures.spends in
-    let wx = spends_then 0 0 w v x c.positions_within.ensures.spends vx in
-    let firsts = stand_later v x vx.known c.in_ok-firsts.firsts (positions_of ga) c.in_ok-firsts.ensures.positions in
-    let seconds = stands_before w v 0 c.positions_within.ensures.spends x c.args.b c.in_ok-seconds.seconds c.requires.b
-    c.in_ok-seconds.ensures.positions in
-    let m = c.len.ensures ∙ count_of x c.in_ok-firsts.firsts ga firsts in
-    let n = c.len-2.ensures ∙ count_of x c.in_ok-seconds.seconds gb seconds in
-    let l = c.limit.ensures ∙ same_limit w x 0 wx in
-    product_within c.len.result c.len-2.result (length (positions_of ga)) (length (positions_of gb)) c.limit.result w.rest.limit
-    m n l (λ above. let t = c.is_product_above.ensures.1 above in let f = c.if-is_product_above.false in cc)
+    let W = work_state g.S.CellStore.state in
+    pairs_within (W c.args.work.now) (W c.positions_within.new.work) (W c.positions_within-2.new.work) _ _ _ _ c.requires.b
+    c.positions_within.ensures.spends c.positions_within-2.ensures.spends c.in_ok-firsts.ensures.positions
+    c.in_ok-seconds.ensures.positions _ _ _ c.len.ensures c.len-2.ensures c.limit.ensures
+    (λ above. let t = c.is_product_above.ensures.1 above in let f = c.if-is_product_above.false in cc)
 
 pub returns-clause-spends : goal.returns-clause-spends
 returns-clause-spends g c =
-    let wx = spends_then 0 0 _ _ _ c.positions_within.ensures.spends c.positions_within-2.ensures.spends in
-    wx
+    spends_then 0 0 _ _ _ c.positions_within.ensures.spends c.positions_within-2.ensures.spends

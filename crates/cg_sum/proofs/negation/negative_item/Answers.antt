@@ -4,7 +4,8 @@ use Rattle.cg_canon.specs.Works.{work_state}
 use Rattle.cg_form.specs.Game.{Game}
 use Rattle.cg_nodes.proofs.Later.{game_later}
 use Rattle.cg_nodes.specs.Games.{IsNode}
-use Rattle.cg_sum.proofs.NegativeSteps.{later_game, later_items, negative_ready_later, number_game, number_items}
+use Rattle.cg_sum.proofs.NegativeOptions.{negative_ready_later}
+use Rattle.cg_sum.proofs.NegativeSteps.{later_game, later_items, number_game, number_items}
 use Rattle.cg_sum.proofs.negation.negative_item.Goals as goal
 
 pub returns-in-Number-clause-game : goal.returns-in-Number-clause-game

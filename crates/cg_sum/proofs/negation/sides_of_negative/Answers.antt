@@ -2,7 +2,7 @@ use Rattle.std.proofs.Common.{sym, subst, ◌∙◌}
 use Rattle.cg_form.specs.Game.{Game}
 use Rattle.cg_nodes.proofs.Later.{game_later}
 use Rattle.cg_nodes.specs.Games.{IsNode}
-use Rattle.cg_sum.proofs.NegativeSteps.{negated_found, negative_ready_later, side_negated, sides_negative}
+use Rattle.cg_sum.proofs.NegativeOptions.{negated_found, negative_ready_later, side_negated, sides_negative}
 use Rattle.cg_sum.proofs.SumSteps.{left_written, right_written}
 use Rattle.cg_sum.proofs.negation.sides_of_negative.Goals as goal
 

@@ -1,8 +1,7 @@
 use Rattle.std.proofs.Common.{ap, ◌∙◌, Err}
 use Rattle.std.proofs.lemmas.Result.{err_from_is_err_and}
-use Rattle.cg_canon.proofs.Keeping.{keeps_then}
 use Rattle.cg_canon.specs.Works.{work_state}
-use Rattle.cg_canon.proofs.MadeSteps.{made_memory}
+use Rattle.cg_sum.proofs.NimberSteps.{known_later, sum_is_nimber}
 use Rattle.cg_sum.proofs.RowSteps.{row_done, row_made, row_more, row_none, row_ready, row_stopped}
 use Rattle.cg_sum.proofs.rows.add_row.Goals as goal
 
@@ -11,29 +10,31 @@ loop-k-init g c =
     row_none (work_state g.S.CellStore.state c.args.work.now) c.args.sums.now c.args.f c.args.seconds.now c.args.start
     c.requires.holds c.requires.spare
 
-pub sum_item-requires : goal.sum_item-requires
-sum_item-requires g c = record {
-  ready = row_ready _ _ _ _ _ _ _ c.loop-k-test.true c.k-item.is c.requires.f c.requires.seconds
-      _ _ c.loop-k.invariant c.requires.closed c.requires.ready;
-  spare = c.loop-k.invariant.spare;
-}
+pub add_pair-requires : goal.add_pair-requires
+add_pair-requires g c =
+    let W = work_state g.S.CellStore.state in
+    let w = W c.args.work.now in
+    let v = W c.loop-k.work in
+    record {
+      ready = row_ready _ _ _ _ _ _ _ c.loop-k-test.true c.k-item.is c.requires.f c.requires.seconds
+          _ _ c.loop-k.invariant c.requires.closed c.requires.ready;
+      nimber = sum_is_nimber v _ _ _ _ _ c.loop-k.invariant.holds.nimbers
+          (known_later w v c.loop-k.invariant.keeps.known _ _ _ c.requires.holds.nimbers c.value_of-nimber.ensures)
+          c.sum_value.ensures;
+      spare = c.loop-k.invariant.spare;
+    }
 
-pub returns-in_err-sum-clause-made : goal.returns-in_err-sum-clause-made
-returns-in_err-sum-clause-made g c =
+pub returns-in_err-add_pair-clause-made : goal.returns-in_err-add_pair-clause-made
+returns-in_err-add_pair-clause-made g c =
     let p = err_from_is_err_and c.from_residual.result c.from_residual.ensures.1 in
     row_stopped _ _ _ _ _ _ _ c.loop-k-test.true c.k-item.is c.requires.f c.requires.seconds
-    _ _ c.loop-k.invariant _ _ c.sum_item.ensures.made _ _ c.in_err-sum.was (p.1 ∙ ap Err p.2)
-
-pub returns-in_err-keep-clause-made : goal.returns-in_err-keep-clause-made
-returns-in_err-keep-clause-made g c =
-    let p = err_from_is_err_and c.from_residual-in_err-keep.result c.from_residual-in_err-keep.ensures.1 in
-    made_memory _ _ _ _ (p.1 ∙ ap Err p.2) (keeps_then _ _ _ c.loop-k.invariant.keeps c.sum_item.ensures.made.keeps)
+    _ _ c.loop-k.invariant _ _ c.add_pair.ensures.made _ _ c.in_err-add_pair.was (p.1 ∙ ap Err p.2)
 
 pub loop-k-preserved : goal.loop-k-preserved
 loop-k-preserved g c =
     row_more _ _ _ _ _ _ _ c.loop-k-test.true c.k-item.is c.requires.f c.requires.seconds
-    _ _ c.loop-k.invariant _ _ c.sum_item.ensures.made _ _ _ c.in_ok-sum.was
-    c.in_ok-sum.ensures.game c.sum_item.ensures.spare c.in_ok-keep.ensures.ok
+    _ _ c.loop-k.invariant _ _ c.add_pair.ensures.made _ _ c.in_ok-add_pair.was
+    c.in_ok-add_pair.ensures.holds c.in_ok-add_pair.ensures.more c.in_ok-add_pair.ensures.found c.add_pair.ensures.spare
 
 pub returns : goal.returns
 returns g c =

@@ -7,11 +7,11 @@ use Rattle.cg_form.specs.Side.{far, near}
 use Rattle.cg_form.specs.Sum.{sum}
 use Rattle.cg_form.proofs.Among.{carry}
 use Rattle.cg_form.proofs.Sum.{sum-left_cases, sum-left_first, sum-left_second, sum-right_cases, sum-right_first, sum-right_second}
-use Rattle.cg_names.specs.Named.{nimber_form, nimbers_below}
-use Rattle.cg_names.proofs.NimberForms.{among_nimbers, near-nimber, nimber_far}
-use Rattle.cg_octal.proofs.Nimbers.{Has, IsOther, mex-equal}
+use Rattle.cg_nimbers.specs.Nimbers.{nimber_form, nimbers_below}
+use Rattle.cg_nimbers.proofs.NimberLists.{among_nimbers, near-nimber, nimber_far}
+use Rattle.cg_nimbers.proofs.LesserNimbers.{Has, IsOther, mex-equal}
 use Rattle.std.proofs.lemmas.Nat.{xor_comm}
-use Rattle.cg_octal.proofs.Xor.{xor-injective, xor-lesser}
+use Rattle.cg_nimbers.proofs.Xor.{xor-injective, xor-lesser}
 
 -- an option of a sum is one of either game, with the other game
 near_cases : (s : Bool) (g h x : Game) → Among x (near s (sum g h))

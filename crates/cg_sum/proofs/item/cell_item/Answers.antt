@@ -5,7 +5,7 @@ use Rattle.cg_nodes.proofs.Later.{spends_then, stands_is_game}
 use Rattle.cg_nodes.specs.Spelled.{game_meaning}
 use Rattle.cg_sum.proofs.ItemSteps.{known_items, later_game, later_items, note_of_later, same_game, stands_as}
 use Rattle.cg_sum.proofs.SumSteps.{node_later, ready_later, sums_same}
-use Rattle.cg_sum.proofs.item.game_item.Goals as goal
+use Rattle.cg_sum.proofs.item.cell_item.Goals as goal
 
 pub charged_item-requires : goal.charged_item-requires
 charged_item-requires g c =

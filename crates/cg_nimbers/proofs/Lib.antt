@@ -1,0 +1,4 @@
+pub mod NimberLists
+pub mod Xor
+pub mod LesserNimbers
+pub mod NimberSums
