@@ -1,12 +1,12 @@
 -- Where two scaffolds meet.
-use Rattle.std.proofs.Common.{◌≡◌, refl, ℕ, ◌+◌, ◌-◌, ◌*◌, ◌/◌, ◌%◌, ◌<◌, ◌≤◌, arith, zero, suc, ap, sym, ◌∙◌, subst, Bool, true, false, inl, inr, ◌⊎◌, min, ℤ, pos, negsuc, neg_ℤ, ◌+ℤ◌, ◌-ℤ◌, ◌≤ℤ◌, ◌<ℤ◌}
+use Rattle.std.proofs.Common.{◌≡◌, refl, ℕ, ◌+◌, ◌-◌, ◌*◌, ◌/◌, ◌%◌, ◌<◌, ◌≤◌, arith, ap, sym, ◌∙◌, subst, Bool, true, false, inl, inr, ◌⊎◌, min, ℤ, pos, negsuc, ◌+ℤ◌, ◌-ℤ◌, ◌≤ℤ◌, ◌<ℤ◌}
 use Rattle.std.proofs.lemmas.Int.{ints}
 use Rattle.std.specs.Prelude.{Option, Some, None, IfSome, IfNone}
 use Rattle.cg_lines.specs.declared.TheConstants.{BOUND, END}
 use Rattle.cg_lines.specs.declared.place.Place.{Place}
 use Rattle.cg_lines.specs.declared.rise.Rise.{Rise}
 use Rattle.cg_lines.specs.Places.{At, fall, next_of}
-use Rattle.cg_lines.specs.Rises.{IsWall, gap, rises_of, steps, value_at}
+use Rattle.cg_lines.specs.Rises.{IsWall, gap, steps, value_at}
 use Rattle.cg_lines.proofs.Rising.{steady_from}
 use Rattle.cg_lines.proofs.Walking.{at-steady}
 

@@ -1,12 +1,12 @@
 -- A scaffold that is kept from a time on.
-use Rattle.std.proofs.Common.{◌≡◌, refl, ℕ, ◌+◌, ◌-◌, ◌<◌, ◌≤◌, arith, zero, suc, ap, sym, ◌∙◌, subst, Bool, true, false, not, ◌&&◌, cond, List, [], ◌∷◌, ◌++◌, length, drop, get_or, inl, inr, ◌⊎◌, min, ℤ, pos, neg_ℤ, ◌+ℤ◌, ◌-ℤ◌, ◌≤ℤ◌}
+use Rattle.std.proofs.Common.{◌≡◌, refl, ℕ, ◌+◌, ◌<◌, ◌≤◌, arith, zero, suc, ap, sym, ◌∙◌, subst, Bool, true, false, not, ◌&&◌, cond, List, [], ◌∷◌, ◌++◌, length, drop, get_or, inl, inr, min, ℤ, pos, neg_ℤ, ◌+ℤ◌, ◌-ℤ◌, ◌≤ℤ◌}
 use Rattle.std.proofs.lemmas.Int.{ints}
 use Rattle.std.proofs.Math.Seq.{drop-cons}
 use Rattle.std.specs.Prelude.{nat_lt}
 use Rattle.cg_lines.specs.declared.TheConstants.{BOUND, END}
 use Rattle.cg_lines.specs.declared.rise.Rise.{Rise}
 use Rattle.cg_lines.specs.Rises.{Climbs, IsWall, rises_at, rises_of, step, turned, value_at}
-use Rattle.cg_lines.proofs.Rising.{climbed_is, climbs-wider, le_or_lt_n, lt_false, lt_true, value-suc, value-zero}
+use Rattle.cg_lines.proofs.Rising.{climbed_is, le_or_lt_n, lt_false, lt_true, value-suc, value-zero}
 
 -- the turns before the end, and the end where it rises there
 abbrev pub kept : ℕ → Bool → List ℕ → List ℕ

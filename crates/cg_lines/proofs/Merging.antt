@@ -1,5 +1,5 @@
 -- The greater of two walls, step by step.
-use Rattle.std.proofs.Common.{◌≡◌, refl, ℕ, ◌+◌, ◌-◌, ◌<◌, ◌≤◌, arith, zero, suc, ap, sym, ◌∙◌, subst, Bool, true, false, not, ◌||◌, ◌&&◌, cond, List, [], ◌∷◌, ◌++◌, length, drop, inl, inr, ◌⊎◌, min, unsigned_abs, ℤ, pos, neg_ℤ, ◌+ℤ◌, ◌-ℤ◌, ◌≤ℤ◌, ◌<ℤ◌}
+use Rattle.std.proofs.Common.{◌≡◌, refl, ℕ, ◌+◌, ◌-◌, ◌<◌, ◌≤◌, arith, suc, ap, sym, ◌∙◌, subst, Bool, true, false, not, ◌||◌, ◌&&◌, cond, List, [], ◌∷◌, ◌++◌, inl, inr, ◌⊎◌, unsigned_abs, ℤ, pos, neg_ℤ, ◌+ℤ◌, ◌-ℤ◌, ◌≤ℤ◌, ◌<ℤ◌}
 use Rattle.std.proofs.lemmas.Int.{ints}
 use lib.Signed.{le_z, lt_z}
 use mathlib.Core.Bool.{beq}
@@ -10,7 +10,7 @@ use Rattle.cg_lines.specs.declared.rise.Rise.{Rise}
 use Rattle.cg_lines.specs.Places.{At, catch_up, event, leads, next_of}
 use Rattle.cg_lines.specs.Rises.{Climbs, IsWall, greater, rises_at, rises_of, step, steps, value_at}
 use Rattle.cg_lines.proofs.Rising.{climbed_is, climbs-more, climbs-wider, le_or_lt_n, near, rises-after, rises-before, steady, true_or_false, value-suc, value-zero}
-use Rattle.cg_lines.proofs.Walking.{at-last, at-steady, moved-value, next-after, next-below}
+use Rattle.cg_lines.proofs.Walking.{at-last, at-steady, next-after}
 
 -- ---- the greater
 

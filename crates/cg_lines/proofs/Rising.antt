@@ -1,11 +1,11 @@
 -- Values of rises.
-use Rattle.std.proofs.Common.{◌≡◌, refl, ℕ, ◌+◌, ◌-◌, ◌<◌, ◌≤◌, arith, zero, suc, ap, sym, ◌∙◌, subst, Bool, true, false, not, cond, List, [], ◌∷◌, ◌++◌, inl, inr, ◌⊎◌, ℤ, pos, neg_ℤ, ◌+ℤ◌, ◌-ℤ◌, ◌≤ℤ◌}
+use Rattle.std.proofs.Common.{◌≡◌, refl, ℕ, ◌+◌, ◌-◌, ◌<◌, ◌≤◌, arith, zero, suc, ap, sym, ◌∙◌, subst, Bool, true, false, not, cond, List, [], ◌∷◌, ◌++◌, inl, inr, ◌⊎◌, ℤ, pos, neg_ℤ, ◌+ℤ◌, ◌≤ℤ◌}
 use Rattle.std.proofs.lemmas.Int.{ints}
 use Rattle.std.proofs.lemmas.Bool.Decides.{nat_tests}
 use Rattle.std.specs.Prelude.{nat_lt}
 use Rattle.cg_lines.specs.declared.TheConstants.{BOUND, END}
 use Rattle.cg_lines.specs.declared.rise.Rise.{Rise}
-use Rattle.cg_lines.specs.Rises.{Climbs, IsWall, climbed, rises_at, rises_of, step, steps, value_at}
+use Rattle.cg_lines.specs.Rises.{Climbs, IsWall, rises_at, rises_of, step, steps, value_at}
 
 -- ---- tests
 

@@ -1,9 +1,8 @@
 -- Walks along rises.
-use Rattle.std.proofs.Common.{◌≡◌, refl, ℕ, ◌+◌, ◌-◌, ◌<◌, ◌≤◌, arith, zero, suc, ap, sym, ◌∙◌, subst, Bool, true, false, not, cond, List, [], ◌∷◌, length, drop, get_or, inl, inr, ◌⊎◌, ℤ, pos, ◌+ℤ◌, ◌-ℤ◌, ◌≤ℤ◌}
+use Rattle.std.proofs.Common.{◌≡◌, refl, ℕ, ◌+◌, ◌-◌, ◌<◌, ◌≤◌, arith, zero, suc, ap, sym, ◌∙◌, subst, Bool, not, cond, List, [], ◌∷◌, length, drop, get_or, inl, inr, ◌+ℤ◌}
 use Rattle.std.proofs.lemmas.Int.{ints}
 use Rattle.std.proofs.Math.Seq.{drop-cons}
-use Rattle.std.specs.Prelude.{nat_lt}
-use Rattle.cg_lines.specs.declared.TheConstants.{BOUND, END}
+use Rattle.cg_lines.specs.declared.TheConstants.{END}
 use Rattle.cg_lines.specs.declared.place.Place.{Place}
 use Rattle.cg_lines.specs.declared.rise.Rise.{Rise}
 use Rattle.cg_lines.specs.Places.{At, Within, first_of, next_of}

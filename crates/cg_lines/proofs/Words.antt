@@ -1,12 +1,12 @@
 -- Starts and values of walls are words.
-use Rattle.std.proofs.Common.{◌≡◌, ◌<◌, ◌^◌, ◌≤◌, ap, arith, ℕ, unsigned_abs, ℤ, pos, neg_ℤ, ◌-ℤ◌, ◌∙◌, ◌≤ℤ◌, to_z, of_z}
+use Rattle.std.proofs.Common.{◌≡◌, ◌<◌, ◌^◌, ◌≤◌, ap, arith, unsigned_abs, ℤ, pos, neg_ℤ, ◌-ℤ◌, ◌∙◌, ◌≤ℤ◌, to_z, of_z}
 use Rattle.std.proofs.lemmas.Int.{fits_signed_from_abs, ints, to_z-of_z}
 use mir.Syntax.{w128}
 use Rattle.cg_lines.specs.declared.TheConstants.{BOUND}
 use Rattle.cg_lines.specs.declared.place.Place.{Place}
 use Rattle.cg_lines.specs.declared.rise.Rise.{Rise}
 use Rattle.cg_lines.specs.Places.{Within}
-use Rattle.cg_lines.specs.Rises.{IsWall, value_at}
+use Rattle.cg_lines.specs.Rises.{IsWall}
 use Rattle.cg_lines.proofs.Rising.{value-zero}
 
 size_small : (n : ℤ) → neg_ℤ (pos 21267647932558653966460912964485513216) ≤ℤ n → n ≤ℤ pos 21267647932558653966460912964485513216

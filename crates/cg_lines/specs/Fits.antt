@@ -1,5 +1,5 @@
 -- Points within the bound and before the end of all times.
-use Rattle.std.specs.Prelude.{ℕ, ◌<◌, neg_ℤ, ◌≤ℤ◌, List, [], ◌∷◌}
+use Rattle.std.specs.Prelude.{◌<◌, neg_ℤ, ◌≤ℤ◌, List, [], ◌∷◌}
 use Rattle.cg_lines.specs.declared.TheConstants.{BOUND, END}
 use Rattle.cg_lines.specs.declared.bends.Point.{Point}
 

@@ -1,3 +1,4 @@
+-- what public contracts cite
 pub mod Bytes
 pub mod Pieces
 pub mod Tokens

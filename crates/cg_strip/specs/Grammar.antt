@@ -7,7 +7,7 @@
 --   nat    = one to three digits
 use Rattle.std.specs.Prelude.{ℕ, List, [], ◌∷◌}
 use Rattle.cg_reading.specs.Bytes.{Class}
-use Rattle.cg_reading.specs.Pieces.{Piece, Then, Or, Many, Made, One, Bytes, Run, Placed}
+use Rattle.cg_reading.specs.Pieces.{Piece, Then, Or, Many, Made, One, Bytes, Placed}
 use Rattle.cg_reading.specs.Tokens.{few_digits, only}
 use Rattle.cg_moves.specs.declared.player.Player.{Player}
 use Rattle.cg_moves.specs.declared.player.Player.TheVariants.{Left, Right}

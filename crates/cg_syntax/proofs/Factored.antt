@@ -3,9 +3,9 @@
 use Rattle.std.specs.Prelude.{ℕ, zero, suc, Bool, true, false, List, [], ◌∷◌, length, codes}
 use Rattle.cg_reading.specs.Pieces.{Piece, Then, Or, Many, Made, Nothing, One, Bytes, Word, Longest, Telling}
 use Rattle.cg_reading.specs.Tokens.{only, blanks, gap, with_blanks, digits}
-use Rattle.cg_syntax.specs.Tree.{Tree, Question, tiny, octal, value, compare, outcome, stops, mean, temp, thermo, proof}
+use Rattle.cg_syntax.specs.Tree.{Tree, Question, tiny, value, compare, outcome, stops, mean, temp, thermo, proof}
 use Rattle.cg_syntax.specs.Found.{Found, Asked, Stated}
-use Rattle.cg_syntax.specs.Values.{Arrows, Last, In_none, counted_of, with_tail, clean, negated, sum_of, one_text, two_texts, asked_of, asked_of_both, checked, asking as asking_line, defined}
+use Rattle.cg_syntax.specs.Values.{Arrows, Last, counted_of, with_tail, clean, negated, sum_of, one_text, two_texts, asked_of, asked_of_both, checked, asking as asking_line, defined}
 use Rattle.cg_syntax.specs.Grammar.{number, string, nim, enclosed, switch_piece, string_and, optional, tail, ups_and_nim, primary, special_tail, Some_rows}
 use Rattle.cg_syntax.specs.Grammar as g
 use Rattle.cg_syntax.specs.Reading.{Behind, Over, Times, counted_from, behind_goes_on, Kind, Of_one, Of_two, Of_check, Of_name, kind_of}

@@ -1,5 +1,5 @@
 -- The letters and digits in front, told by what is left behind them.
-use Rattle.std.proofs.Common.{◌≡◌, ℕ, ◌-◌, true, List, ◌∷◌, length, take, Ok, refl, ap, sym, subst, ◌∙◌}
+use Rattle.std.proofs.Common.{◌≡◌, ℕ, ◌-◌, true, List, ◌∷◌, length, take, Ok, refl, ap, sym, subst}
 use Rattle.cg_reading.specs.Bytes.{has}
 use Rattle.cg_reading.specs.Readers.{most_skipped}
 use Rattle.cg_reading.proofs.MostBytes.{most_is, one_and_most}

@@ -1,5 +1,5 @@
 -- Readers that read the same.
-use Rattle.std.proofs.Common.{◌≡◌, ℕ, Bool, true, false, cond, List, [], ◌∷◌, length, Option, Some, None, Ok, Err, refl, ap, sym, ◌∙◌}
+use Rattle.std.proofs.Common.{◌≡◌, ℕ, Bool, true, false, cond, List, [], ◌∷◌, length, Option, Ok, Err, refl, ap, sym, ◌∙◌}
 use Rattle.cg_reading.specs.Bytes.{has}
 use Rattle.cg_reading.specs.Readers.{Read, Reader, ◌>>=◌, then_at, made_at, one_at, placed_at}
 use Rattle.cg_syntax.specs.Tree.{Tree, number, ups, used}

@@ -6,7 +6,7 @@ use Rattle.std.specs.Str.{bytes_eq}
 use Rattle.cg_reading.specs.Pieces.{Piece, Then, Or, Made, Word}
 use Rattle.cg_reading.specs.Tokens.{blanks, gap, with_blanks}
 use Rattle.cg_reading.proofs.Same.{Same, same_self, same_back, same_on, then_same, or_same, made_same, made_or, blanks_behind_made, blanks_behind_then, blanks_behind_or}
-use Rattle.cg_syntax.specs.Tree.{Tree, Question, value, compare, outcome, stops, mean, temp, thermo, proof}
+use Rattle.cg_syntax.specs.Tree.{Tree, Question, compare, outcome, stops, mean, temp, thermo, proof}
 use Rattle.cg_syntax.specs.Found.{Found, Asked, Stated}
 use Rattle.cg_syntax.specs.Values.{asked_of, asked_of_both, asking, defined}
 use Rattle.cg_syntax.specs.Grammar as s

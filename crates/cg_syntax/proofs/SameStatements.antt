@@ -11,7 +11,7 @@ use Rattle.cg_reading.proofs.Laws.{Lawful}
 use Rattle.cg_reading.proofs.Same.{Same, same_self, same_back, same_on, same_lawful, then_same, made_same}
 use Rattle.cg_syntax.specs.Tree.{Tree, Question, value, compare, outcome, stops, mean, temp, thermo, proof}
 use Rattle.cg_syntax.specs.Found.{Stated}
-use Rattle.cg_syntax.specs.Values.{asked_of, asked_of_both, checked, asking}
+use Rattle.cg_syntax.specs.Values.{asked_of, asked_of_both, checked}
 use Rattle.cg_syntax.specs.Grammar as s
 use Rattle.cg_syntax.specs.Reading.{line_two_at, Kind, Of_one, Of_two, Of_check, Of_name, kinds}
 use Rattle.cg_syntax.proofs.Factored as g

@@ -5,7 +5,7 @@ use Rattle.std.proofs.lemmas.Bool.{and_parts, leb-true}
 use Rattle.cg_reading.specs.Bytes.{has}
 use Rattle.cg_reading.specs.Pieces.{Piece, Then, Or, Made, One, Word}
 use Rattle.cg_reading.specs.Tokens.{only, blanks}
-use Rattle.cg_reading.proofs.Same.{Same, same_self, same_back, same_on, then_same, or_same, made_same, made_or, or_then, then_or}
+use Rattle.cg_reading.proofs.Same.{Same, same_self, same_back, same_on, or_same, made_same, made_or, or_then, then_or}
 use Rattle.cg_syntax.specs.Tree.{Tree, Question, tiny, value, outcome, stops, mean, temp, thermo}
 use Rattle.cg_syntax.specs.Found.{Found}
 use Rattle.cg_syntax.specs.Values.{clean, one_text, two_texts}

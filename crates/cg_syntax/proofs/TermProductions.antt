@@ -4,7 +4,6 @@ use Rattle.cg_reading.specs.Bytes.{Class}
 use Rattle.cg_reading.specs.Pieces.{Piece, Then, Or, Many, Made, Nothing, One}
 use Rattle.cg_reading.specs.Readers.{Reader, ◌>>=◌}
 use Rattle.cg_reading.specs.Tokens.{only, blank, digit, digits, blanks}
-use Rattle.cg_reading.specs.TokenReaders as t
 use Rattle.cg_reading.proofs.Sets.{inside}
 use Rattle.cg_reading.proofs.Laws.{Lawful, Reads, same_ok, Some_text}
 use Rattle.cg_reading.proofs.Steps.{nothing_lawful}
@@ -13,7 +12,6 @@ use Rattle.cg_reading.proofs.Longest.{Token, plain_token, made_full, or_full_ok,
 use Rattle.cg_reading.proofs.Rules.{then_ok, or_ok, made_ok, many_ok, wide_ok, then_text, made_text, left_text, right_text}
 use Rattle.cg_reading.proofs.MostBytes.{more_inside}
 use Rattle.cg_reading.proofs.TokenLaws.{digits_ok, digits_text, byte_ok, byte_text, gap_ok}
-use Rattle.cg_syntax.specs.Tree.{value}
 use Rattle.cg_syntax.specs.Found.{Found}
 use Rattle.cg_syntax.specs.Values.{Arrows, ups_tree, more_arrows, Last, In_none, In_arrows, In_name, goes_on, letter_or_digit, more_letters, counted_of, with_tail, clean, negated, sum_of, run_side, braces_of}
 use Rattle.cg_syntax.specs.Grammar as s

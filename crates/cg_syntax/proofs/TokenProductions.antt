@@ -14,7 +14,7 @@ use Rattle.cg_reading.proofs.Longest.{Token, plain_token, token_ok, made_full, o
 use Rattle.cg_reading.proofs.Rules.{then_ok, or_ok, made_ok, wide_ok, then_text, made_text, left_text, right_text}
 use Rattle.cg_reading.proofs.Same.{same_token}
 use Rattle.cg_reading.proofs.TokenLaws.{digits_ok, digits_text, byte_ok, byte_text, this_word_ok}
-use Rattle.cg_syntax.specs.Tree.{Tree, nimber, switch, tiny, octal, value}
+use Rattle.cg_syntax.specs.Tree.{Tree, nimber, switch, tiny, octal}
 use Rattle.cg_syntax.specs.Values.{Arrows, ups_tree, more_arrows, clean, one_text, two_texts}
 use Rattle.cg_syntax.specs.Grammar as s
 use Rattle.cg_syntax.specs.Grammar.{printable}

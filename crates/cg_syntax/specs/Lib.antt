@@ -1,3 +1,4 @@
+-- what public contracts cite
 pub mod Tree
 pub mod Found
 pub mod Trees
@@ -6,11 +7,9 @@ pub mod Values
 pub mod Grammar
 pub mod Reading
 pub mod Views
-pub mod Cuts
 pub mod Questions
 pub mod Statements
 pub mod Lines
-pub mod Answered
 pub mod Splitting
 pub mod Written
 pub mod Formats
@@ -19,3 +18,6 @@ pub mod SessionLines
 pub mod Session
 pub mod SessionViews
 pub mod Bound
+-- what private contracts cite, and what proofs need here
+pub mod Cuts
+pub mod Answered

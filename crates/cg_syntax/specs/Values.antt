@@ -3,7 +3,7 @@ use Rattle.std.specs.Prelude.{ℕ, Bool, true, false, cond, List, [], ◌∷◌,
 use Rattle.cg_reading.specs.Bytes.{Class}
 use Rattle.cg_reading.specs.Pieces.{more_of}
 use Rattle.cg_reading.specs.Tokens.{only}
-use Rattle.cg_syntax.specs.Tree.{Tree, Question, number, ups, negative, multiple, sum, game, terms_from, check, used, asks, defines}
+use Rattle.cg_syntax.specs.Tree.{Tree, Question, number, ups, negative, multiple, sum, game, terms_from, check, asks, defines}
 use Rattle.cg_syntax.specs.Found.{Found, Asked, Stated, first}
 use Rattle.cg_syntax.specs.Braces.{Run_side, row_tree, row_fault}
 use Rattle.cg_syntax.specs.declared.kind.GameKind.{GameKind}

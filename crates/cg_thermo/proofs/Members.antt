@@ -1,10 +1,8 @@
 -- Lists of handles, split at one of them.
-use Rattle.std.proofs.Common.{◌≡◌, ◌<◌, ℕ, zero, suc, arith, refl, inl, inr, sym, ap, subst, List, [], ◌∷◌, ◌++◌, length, get_or, take, drop, Option, Some, None}
+use Rattle.std.proofs.Common.{◌≡◌, ◌<◌, ℕ, zero, suc, arith, refl, ap, List, [], ◌∷◌, ◌++◌, length, get_or, take, drop, Option, Some, None}
 use Rattle.std.specs.Prelude.{IsSome}
-use Rattle.cg_cells.specs.Meaning.{Has}
 use Rattle.cg_cells.specs.Store.{State}
-use Rattle.cg_form.specs.Game.{Among, Game}
-use Rattle.cg_nodes.specs.Games.{AreGames, IsGame, StandsFor, games_at, game_at}
+use Rattle.cg_nodes.specs.Games.{AreGames, games_at, game_at}
 use Rattle.cg_nodes.specs.Meant.{Meant}
 
 module _ {R : Type 0} (s : State Meant R) where

@@ -1,5 +1,4 @@
 use Rattle.std.proofs.Common.{◌≡◌, refl, ap, sym, ◌∙◌, subst, arith, ◌++◌, ◌∷◌, [], ◌-◌, List}
-use Rattle.std.proofs.lemmas.Int.{to_z-of_z}
 use Rattle.cg_lines.specs.Corners.{corners, point}
 use Rattle.cg_lines.specs.Fits.{AllFit}
 use Rattle.cg_lines.specs.declared.bends.Point.{Point}

@@ -1,9 +1,8 @@
-use Rattle.std.proofs.Common.{◌≡◌, refl, ap, sym, ◌∙◌, subst, arith, ℕ, ◌<◌, ◌≤◌, ◌-◌, ◌*◌, ◌%◌, min, ℤ, pos, ◌+ℤ◌, ◌-ℤ◌, ◌≤ℤ◌}
+use Rattle.std.proofs.Common.{◌≡◌, refl, ap, sym, ◌∙◌, subst, arith, ℕ, ◌≤◌, ◌-◌, ◌*◌, ◌%◌, min, pos, ◌+ℤ◌}
 use Rattle.std.proofs.lemmas.Int.{ints}
 use Rattle.std.specs.Prelude.{IfSome, IfNone}
 use Rattle.cg_lines.specs.declared.TheConstants.{BOUND, END}
 use Rattle.cg_lines.specs.Places.{fall, next_of}
-use Rattle.cg_lines.specs.Rises.{gap}
 use Rattle.cg_lines.proofs.Gaps.{Closes, apart-ends, apart-later, apart-start, closes-all, gap-here}
 use Rattle.cg_lines.proofs.Walking.{at-within, next-after, next-below}
 use Rattle.cg_lines.proofs.meet.meeting.Goals as goal

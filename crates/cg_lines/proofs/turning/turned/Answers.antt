@@ -1,5 +1,5 @@
-use Rattle.std.proofs.Common.{◌≡◌, refl, ap, sym, ◌∙◌, subst, arith, Bool, true, false, not, ◌&&◌, cond, List, ◌∷◌, [], ◌++◌, drop, length}
-use Rattle.std.specs.Prelude.{nat_lt, neg_ℤ}
+use Rattle.std.proofs.Common.{◌≡◌, refl, ap, sym, ◌∙◌, arith, not, ◌&&◌, cond, ◌∷◌, [], ◌++◌, length}
+use Rattle.std.specs.Prelude.{nat_lt}
 use Rattle.cg_lines.proofs.Kept.{Follows, follows-value, follows-wall, kept, kept-last, lasts}
 use Rattle.cg_lines.proofs.Words.{negative_word}
 use Rattle.cg_lines.proofs.turning.turned.Goals as goal

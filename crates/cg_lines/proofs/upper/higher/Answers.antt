@@ -1,7 +1,6 @@
-use Rattle.std.proofs.Common.{◌≡◌, refl, ap, sym, ◌∙◌, subst, arith, ◌<◌, ◌≤◌, ◌+◌, ◌-◌, Bool, not, List, ◌∷◌, [], ◌++◌}
+use Rattle.std.proofs.Common.{◌≡◌, refl, sym, ◌∙◌, subst, arith, ◌<◌, ◌-◌, List, ◌∷◌, [], ◌++◌}
 use Rattle.std.proofs.lemmas.Int.{to_z-of_z}
 use Rattle.cg_lines.specs.declared.TheConstants.{END}
-use Rattle.cg_lines.specs.Places.{event, leads, next_of}
 use Rattle.cg_lines.proofs.Merging.{Merged, bool_other, bool_same, event-after, merged-along, max_is, merged-none, merged-same, merged-turned, upper-wall}
 use Rattle.cg_lines.proofs.Walking.{at-within}
 use Rattle.cg_lines.proofs.Words.{start_word}

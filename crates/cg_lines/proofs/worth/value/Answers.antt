@@ -1,5 +1,5 @@
-use Rattle.std.proofs.Common.{◌≡◌, ap, sym, ◌∙◌, subst, arith}
-use Rattle.cg_lines.proofs.Walking.{at-within, next-after}
+use Rattle.std.proofs.Common.{arith}
+use Rattle.cg_lines.proofs.Walking.{next-after}
 use Rattle.cg_lines.proofs.worth.value.Goals as goal
 
 pub loop-p-smaller : goal.loop-p-smaller

@@ -1,4 +1,4 @@
-use Rattle.std.proofs.Common.{◌≡◌, ℕ}
+use Rattle.std.proofs.Common.{ℕ}
 use Rattle.std.proofs.lemmas.List.Elements.{All-contains}
 use Rattle.cg_shared.specs.Passes.{pass_state}
 use Rattle.cg_pool.proofs.evaluation.evaluate.Goals as goal

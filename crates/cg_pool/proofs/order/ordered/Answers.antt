@@ -1,4 +1,4 @@
-use Rattle.std.proofs.Common.{◌≡◌, ℕ, rules, sym, subst, List, Result, IfOk}
+use Rattle.std.proofs.Common.{ℕ, rules, sym, subst}
 use Rattle.std.proofs.lemmas.List.Sorted.{IsNonDecreasingBy-from_sort_by_key}
 use Rattle.cg_shared.proofs.Ending.{ok_map}
 use Rattle.cg_pool.specs.Answers.{AreOrdered}

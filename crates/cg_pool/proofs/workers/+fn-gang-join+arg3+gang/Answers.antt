@@ -1,4 +1,4 @@
-use Rattle.std.proofs.Common.{◌≡◌, ◌+◌, IfOk, subst}
+use Rattle.std.proofs.Common.{IfOk, subst}
 use Rattle.cg_cells.specs.Table.{passes_of}
 use Rattle.cg_pool.specs.Answers.{IsBrought}
 use Rattle.cg_pool.proofs.Bringing.{brought_both, split_passes}

@@ -1,4 +1,3 @@
-use Rattle.std.proofs.Common.{◌≡◌}
 use Rattle.cg_cells.specs.Table.{passes_of}
 use Rattle.cg_pool.proofs.Bringing.{sets_out, goes_on, comes_back}
 use Rattle.cg_pool.proofs.workers.worker.Goals as goal

@@ -1,6 +1,6 @@
-use Rattle.std.proofs.Common.{◌≡◌, ap, sym, ◌∙◌, subst}
+use Rattle.std.proofs.Common.{ap, sym, ◌∙◌, subst}
 use Rattle.cg_reading.specs.Gives.{Gives}
-use Rattle.cg_syntax.specs.Reading.{Kind, behind_word_at, kind_of, statement_word_at}
+use Rattle.cg_syntax.specs.Reading.{Kind, behind_word_at, statement_word_at}
 use Rattle.cg_syntax.specs.Statements.{kind_view, stated_view}
 use Rattle.cg_syntax.proofs.statements.behind_word.Goals as goal
 

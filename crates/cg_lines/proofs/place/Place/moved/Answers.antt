@@ -1,7 +1,6 @@
 use Rattle.std.proofs.lemmas.Int.{to_z-of_z}
 use mir.Syntax.{w128}
-use Rattle.std.proofs.Common.{sym, ◌∙◌, arith, ◌<◌, ◌≡◌}
-use Rattle.cg_lines.specs.declared.TheConstants.{END}
+use Rattle.std.proofs.Common.{sym, ◌∙◌, arith, ◌≡◌}
 use Rattle.cg_lines.specs.Places.{next_of}
 use Rattle.cg_lines.proofs.Walking.{at-later, at-turn, at-within}
 use Rattle.cg_lines.proofs.place.Place.moved.Goals as goal
