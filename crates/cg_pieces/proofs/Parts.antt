@@ -73,10 +73,6 @@ module _ (blank : ℕ) (p : Grid) (set : ℕ → Bool) (within : (k : ℕ) → s
     abbrev small : Box
     small = box_of outer.columns (filter there (counted 0 (length shown)))
 
-    outer_columns : piece.columns ≡ outer.columns
-    unfolding cropped
-    outer_columns = refl
-
     big-bounds : Bounds p.columns part big
     big-bounds = set-bounds (with_cells p cells) part o.member
         (λ k t. let a = within k (o.inside k t) in let e = o.long in omega (arith, a, e)) o.member_in

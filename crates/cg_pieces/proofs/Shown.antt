@@ -89,10 +89,6 @@ module _ (n : Neighbours) (laws : IsNeighbours n) (p : Grid) (s : ℕ) (wide : 0
   pub self : set s ≡ true
   self = so-joined n laws p s s (here s refl)
 
-  pub piece-columns : piece.columns ≡ box.columns
-  unfolding cropped
-  piece-columns = refl
-
   pub piece-length : length piece.cells ≡ box.rows * box.columns
   unfolding cropped
   piece-length = length-map-counted _ 0 (box.rows * box.columns)
