@@ -12,7 +12,8 @@ pub mod Results
 pub mod Simpler
 pub mod SumGap
 pub mod Middle
-pub mod Descend
+pub mod Shifts
+pub mod Coarser
 pub mod Simplest
 pub mod Gap
 pub mod Strict

@@ -1,6 +1,6 @@
--- The search for the simplest number between two cuts: ends of a gap in units of a scale, which is made coarser
--- for as long as some unit stays between the ends.
-use Rattle.std.specs.Prelude.{pos, negsuc, if◌then◌else◌, ℕ, ℤ, Bool, true, false, ◌≡◌, ◌≤◌, IsTrue, Option, Some, None, ◌+ℤ◌, ◌-ℤ◌}
+-- The search for the simplest number between two cuts: ends of a gap in units of a scale, and the coarsest scale at
+-- which some unit lies between the ends.
+use Rattle.std.specs.Prelude.{pos, negsuc, if◌then◌else◌, ℕ, ℤ, Bool, true, false, ◌≡◌, ◌≤◌, ◌<◌, ◌-◌, zero, suc, IsTrue, Option, Some, None, ◌+ℤ◌, ◌-ℤ◌}
 use lib.Signed.{◌≤ℤ◌, lt_z}
 use Rattle.cg_dyadic.specs.declared.cut.Cut.{Cut}
 use Rattle.cg_dyadic.specs.Number.{Number, exp_of, half, num_of, ratio}
@@ -51,10 +51,32 @@ abbrev pub half_of_high : Option ℤ → Option ℤ
 half_of_high None = None
 half_of_high (Some b) = Some (half b)
 
+-- the ends in units 2 ^ d times as large
+abbrev pub coarse_low : ℕ → Option ℤ → Option ℤ
+coarse_low zero a = a
+coarse_low (suc d) a = half_of_low (coarse_low d a)
+
+abbrev pub coarse_high : ℕ → Option ℤ → Option ℤ
+coarse_high zero b = b
+coarse_high (suc d) b = half_of_high (coarse_high d b)
+
+-- ends in units of 1 / 2 ^ 41, in units of 1 / 2 ^ s
+abbrev pub low_at : ℕ → Option ℤ → Option ℤ
+low_at s a = coarse_low (41 - s) a
+
+abbrev pub high_at : ℕ → Option ℤ → Option ℤ
+high_at s b = coarse_high (41 - s) b
+
 -- no unit lies between the ends
 abbrev pub crossed : Option ℤ → Option ℤ → Bool
 crossed (Some a) (Some b) = lt_z b a
 crossed _ _ = false
+
+-- s is the coarsest scale at which a unit lies between the ends
+pub record Coarsest (a b : Option ℤ) (s : ℕ) : Type 0 where
+  pub within : s ≤ 41
+  pub some : crossed (low_at s a) (high_at s b) ≡ false
+  pub none : (t : ℕ) → t < s → crossed (low_at t a) (high_at t b) ≡ true
 
 -- the integer of least size from a to b
 abbrev pub nearest : Option ℤ → Option ℤ → ℤ

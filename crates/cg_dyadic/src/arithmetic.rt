@@ -1,6 +1,6 @@
 //! Sums, halves and negatives: each is exact, or refused with the exact result.
 ghost use Rattle.std.specs.Prelude.{◌≡◌, ◌+◌, ◌*◌, ◌^◌, ◌<◌, ◌≤◌, ◌+ℤ◌, ◌*ℤ◌, pos, neg_ℤ, cond, unsigned_abs, IfSome, IsNone};
-ghost use Rattle.cg_dyadic.specs.Number.{num_of, exp_of, InRange};
+ghost use Rattle.cg_dyadic.specs.Number.{num_of, exp_of, ratio, InRange};
 ghost use Rattle.cg_dyadic.specs.Exact.{IsExact, IsLowest, IsNegative, signed_of, sum_num};
 
 use crate::order::scaled;
@@ -20,6 +20,16 @@ impl Dyadic {
                 exp,
             }),
         }
+    }
+
+    /// The number of this numerator and exponent, which are in lowest terms and in range. Nothing is tested or halved.
+    pub fn of_lowest(num: i128, exp: u8) -> Dyadic
+        requires lowest { IsLowest (unsigned_abs num) exp }
+        requires small { unsigned_abs num < 2 ^ 64 }
+        requires short { exp ≤ 40 }
+        ensures { result ≡ ratio num exp }
+    {
+        Dyadic { num, exp }
     }
 
     /// The sum. The fault comes exactly where it is out of range, and holds it in lowest terms.

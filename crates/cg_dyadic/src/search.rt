@@ -1,14 +1,14 @@
 //! The simplest number between two cuts.
 //!
-//! The ends of the gap are taken in units of 1/2^41, which is finer than any number in range. Both ends are halved for
-//! as long as some unit stays between them: at the scale of whole numbers the integer nearest 0 is the simplest, and at
-//! any other scale the ends meet at one odd number of units.
+//! The ends of the gap are taken in units of 1/2^41, which is finer than any number in range. The scales are tried from
+//! whole numbers on, each twice as fine as the one before, until some unit lies between the ends: at the scale of whole
+//! numbers the integer nearest 0 is the simplest, and at any other scale the ends meet at one odd number of units.
 ghost use Rattle.std.specs.Prelude.{◌≡◌, ◌≤◌, ◌^◌, ◌<◌, ◌+ℤ◌, ◌≤ℤ◌, ℤ, Bool, pos, negsuc, unsigned_abs, false, ◌-ℤ◌, IsTrue, ◌↔◌, IfOk, IfErr, IfSome, IsNone};
 ghost use Rattle.cg_dyadic.specs.Number.{Number, half, exp_of};
 ghost use Rattle.cg_dyadic.specs.Units.{units};
 ghost use Rattle.cg_dyadic.specs.Simplest.{Apart, SimplestFor, strictly_between, SimplestIsOutside};
 ghost use Rattle.cg_dyadic.specs.Cut.{in_gap, FoundIs, SimplestBetween, NoneBetween};
-ghost use Rattle.cg_dyadic.specs.Search.{AtLeast, AtMost, AtScale, FoundAt, first_unit, last_unit, ShortCut, SmallAround, Small, SmallEnd, half_of_low, half_of_high, crossed, nearest, closed_cut};
+ghost use Rattle.cg_dyadic.specs.Search.{AtLeast, AtMost, AtScale, FoundAt, first_unit, last_unit, ShortCut, SmallAround, Small, SmallEnd, low_at, high_at, Coarsest, crossed, nearest, closed_cut};
 
 use crate::cut::{Cut, Found};
 use crate::order::scaled;
@@ -17,25 +17,27 @@ use crate::{Dyadic, RangeFault};
 /// The finest scale of a search: one binary place more than a number in range has.
 const FINEST: u8 = 41;
 
-/// The least end at half the scale that is at or above this low end.
-fn half_low(end: Option<i128>) -> Option<i128>
-    requires { SmallEnd end }
-    ensures { result ≡ half_of_low end }
+/// The least number of units of the scale at or above the low end, which is in units of the finest scale.
+fn low_at(end: Option<i128>, scale: u8) -> Option<i128>
+    requires small { SmallEnd end }
+    requires scale { scale ≤ 41 }
+    ensures { result ≡ low_at scale end }
 {
     match end {
         None => None,
-        Some(n) => Some((n + 1) >> 1),
+        Some(n) => Some(((n - 1) >> (FINEST - scale)) + 1),
     }
 }
 
-/// The greatest end at half the scale that is at or below this high end.
-fn half_high(end: Option<i128>) -> Option<i128>
-    requires { SmallEnd end }
-    ensures { result ≡ half_of_high end }
+/// The greatest number of units of the scale at or below the high end, which is in units of the finest scale.
+fn high_at(end: Option<i128>, scale: u8) -> Option<i128>
+    requires small { SmallEnd end }
+    requires scale { scale ≤ 41 }
+    ensures { result ≡ high_at scale end }
 {
     match end {
         None => None,
-        Some(n) => Some(n >> 1),
+        Some(n) => Some(n >> (FINEST - scale)),
     }
 }
 
@@ -69,28 +71,32 @@ fn nearest(low: Option<i128>, high: Option<i128>) -> i128
     0
 }
 
-/// The simplest number from low to high, which are in units of `1 / 2^scale`.
-fn descend(low: Option<i128>, high: Option<i128>, scale: u8) -> RangeFault
+/// The coarsest scale at which a unit lies between the ends, which are in units of the finest scale.
+fn coarsest(low: Option<i128>, high: Option<i128>) -> u8
     requires small_low { SmallEnd low }
     requires small_high { SmallEnd high }
     requires some { crossed low high ≡ false }
-    ensures { (test : Number → Bool) → AtScale scale low high test → FoundAt test result.num result.exp }
+    ensures { Coarsest low high result }
 {
-    if scale == 0 {
-        return RangeFault {
-            num: nearest(low, high),
-            exp: 0,
-        };
+    let mut scale = 0;
+    while crossed(low_at(low, scale), high_at(high, scale)) {
+        scale += 1;
     }
-    let coarse_low = half_low(low);
-    let coarse_high = half_high(high);
-    if crossed(coarse_low, coarse_high) {
-        return RangeFault {
-            num: nearest(low, high),
-            exp: scale,
-        };
+    scale
+}
+
+/// The simplest number between the ends, which are in units of the finest scale.
+fn simplest_of(low: Option<i128>, high: Option<i128>) -> RangeFault
+    requires small_low { SmallEnd low }
+    requires small_high { SmallEnd high }
+    requires some { crossed low high ≡ false }
+    ensures { (test : Number → Bool) → AtScale 41 low high test → FoundAt test result.num result.exp }
+{
+    let scale = coarsest(low, high);
+    RangeFault {
+        num: nearest(low_at(low, scale), high_at(high, scale)),
+        exp: scale,
     }
-    descend(coarse_low, coarse_high, scale - 1)
 }
 
 /// The number in units of the finest scale.
@@ -149,7 +155,7 @@ pub fn simplest_in(low: Option<Cut>, high: Option<Cut>) -> Found
     if crossed(first, last) {
         return Found::Nothing;
     }
-    let best = descend(first, last, FINEST);
+    let best = simplest_of(first, last);
     if is_in_range(best) {
         return Found::Number(Dyadic {
             num: best.num,

@@ -16,16 +16,16 @@ returns-then-crossed c = gap_nothing c.args.low c.args.high _ _ _ c.first_unit-f
 pub invariant_of-result : goal.invariant_of-result
 invariant_of-result c =
     let (s, t) = c.is_in_range.ensures.0 c.if-is_in_range.true in
-    lowest_found (in_gap c.args.low c.args.high) c.descend-best.result.num _ c.descend-best.result.exp (word c.descend-best.result.num s)
-    (gap_found c.args.low c.args.high _ _ _ _ c.first_unit-first.ensures.is c.last_unit-last.ensures.is c.first_unit-first.ensures.short c.last_unit-last.ensures.short c.descend-best.ensures) s t
+    lowest_found (in_gap c.args.low c.args.high) c.simplest_of-best.result.num _ c.simplest_of-best.result.exp (word c.simplest_of-best.result.num s)
+    (gap_found c.args.low c.args.high _ _ _ _ c.first_unit-first.ensures.is c.last_unit-last.ensures.is c.first_unit-first.ensures.short c.last_unit-last.ensures.short c.simplest_of-best.ensures) s t
 
 pub returns-then-is_in_range : goal.returns-then-is_in_range
 returns-then-is_in_range c =
     let (s, t) = c.is_in_range.ensures.0 c.if-is_in_range.true in
-    let f = gap_found c.args.low c.args.high _ _ _ _ c.first_unit-first.ensures.is c.last_unit-last.ensures.is c.first_unit-first.ensures.short c.last_unit-last.ensures.short c.descend-best.ensures in
-    found_inside (in_gap c.args.low c.args.high) c.descend-best.result.num _ c.descend-best.result.exp (word c.descend-best.result.num s) f s t
+    let f = gap_found c.args.low c.args.high _ _ _ _ c.first_unit-first.ensures.is c.last_unit-last.ensures.is c.first_unit-first.ensures.short c.last_unit-last.ensures.short c.simplest_of-best.ensures in
+    found_inside (in_gap c.args.low c.args.high) c.simplest_of-best.result.num _ c.simplest_of-best.result.exp (word c.simplest_of-best.result.num s) f s t
 
 pub returns : goal.returns
 returns c =
-    let f = gap_found c.args.low c.args.high _ _ _ _ c.first_unit-first.ensures.is c.last_unit-last.ensures.is c.first_unit-first.ensures.short c.last_unit-last.ensures.short c.descend-best.ensures in
+    let f = gap_found c.args.low c.args.high _ _ _ _ c.first_unit-first.ensures.is c.last_unit-last.ensures.is c.first_unit-first.ensures.short c.last_unit-last.ensures.short c.simplest_of-best.ensures in
     found_held (in_gap c.args.low c.args.high) _ f (λ s. differ c.is_in_range.result (c.is_in_range.ensures.1 s) c.if-is_in_range.false)

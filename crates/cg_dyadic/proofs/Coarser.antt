@@ -1,12 +1,10 @@
--- The search at a scale, and one scale coarser.
-use Rattle.std.proofs.Common.{◌≡◌, refl, ℕ, ◌+◌, ◌-◌, arith, zero, suc, Bool, true, false, ap, sym, ◌∙◌, subst, ℤ, pos, negsuc, ◌+ℤ◌, ◌≤ℤ◌, ◌<ℤ◌, ◌⊎◌, inl, inr}
+-- The search at a scale, one scale coarser, and at the coarsest scale at which a unit lies between the ends.
+use Rattle.std.proofs.Common.{◌≡◌, refl, ℕ, ◌+◌, ◌-◌, ◌<◌, ◌≤◌, arith, zero, suc, Bool, true, false, ap, sym, ◌∙◌, subst, ℤ, pos, negsuc, ◌+ℤ◌, ◌≤ℤ◌, ◌<ℤ◌, ◌⊎◌, inl, inr}
 use Rattle.std.proofs.lemmas.Int.{ints}
 use Rattle.std.specs.Prelude.{Option, Some, None, if◌then◌else◌}
 use lib.Signed.{lt_z}
-use mir.Syntax.{w128}
-use mir.Val.{to_z, of_z}
 use Rattle.cg_dyadic.specs.Number.{Number, between, exp_of, half, is_even, num_of, ratio, whole}
-use Rattle.cg_dyadic.specs.Search.{AtLeast, AtMost, AtScale, FoundAt, SmallEnd, crossed, half_of_high, half_of_low, nearest}
+use Rattle.cg_dyadic.specs.Search.{AtLeast, AtMost, AtScale, Coarsest, FoundAt, coarse_high, coarse_low, crossed, half_of_high, half_of_low, high_at, low_at, nearest}
 use Rattle.cg_dyadic.specs.Simplest.{NoOptionPasses}
 use Rattle.cg_dyadic.specs.Units.{units}
 use Rattle.cg_dyadic.proofs.Integers.{even_half, from_lt_z, half_floor, lt_cases, not_lt_z}
@@ -16,17 +14,17 @@ use Rattle.cg_dyadic.proofs.Truth.{false-from}
 
 -- ---- one scale coarser
 
-coarse_low : (a : Option ℤ) (u v : ℤ) → v ≡ u +ℤ u → AtLeast a v → AtLeast (half_of_low a) u
-coarse_low None u v e h = tt
-coarse_low (Some a) u v e h = let f = half_floor (a +ℤ pos 1) in omega (arith, ints)
+least_half : (a : Option ℤ) (u v : ℤ) → v ≡ u +ℤ u → AtLeast a v → AtLeast (half_of_low a) u
+least_half None u v e h = tt
+least_half (Some a) u v e h = let f = half_floor (a +ℤ pos 1) in omega (arith, ints)
 
 fine_low : (a : Option ℤ) (u v : ℤ) → v ≡ u +ℤ u → AtLeast (half_of_low a) u → AtLeast a v
 fine_low None u v e h = tt
 fine_low (Some a) u v e h = let f = half_floor (a +ℤ pos 1) in omega (arith, ints)
 
-coarse_high : (b : Option ℤ) (u v : ℤ) → v ≡ u +ℤ u → AtMost b v → AtMost (half_of_high b) u
-coarse_high None u v e h = tt
-coarse_high (Some b) u v e h = let f = half_floor b in omega (arith, ints)
+most_half : (b : Option ℤ) (u v : ℤ) → v ≡ u +ℤ u → AtMost b v → AtMost (half_of_high b) u
+most_half None u v e h = tt
+most_half (Some b) u v e h = let f = half_floor b in omega (arith, ints)
 
 fine_high : (b : Option ℤ) (u v : ℤ) → v ≡ u +ℤ u → AtMost (half_of_high b) u → AtMost b v
 fine_high None u v e h = tt
@@ -34,18 +32,21 @@ fine_high (Some b) u v e h = let f = half_floor b in omega (arith, ints)
 
 pub coarser : (s : ℕ) (a b : Option ℤ) (test : Number → Bool) → AtScale (suc s) a b test → AtScale s (half_of_low a) (half_of_high b) test
 coarser s a b test h = record {
-  low = λ x p t. coarse_low a (units s x) (units (suc s) x) (units-suc s x p) (h.low x (omega arith) t);
-  high = λ x p t. coarse_high b (units s x) (units (suc s) x) (units-suc s x p) (h.high x (omega arith) t);
+  low = λ x p t. least_half a (units s x) (units (suc s) x) (units-suc s x p) (h.low x (omega arith) t);
+  high = λ x p t. most_half b (units s x) (units (suc s) x) (units-suc s x p) (h.high x (omega arith) t);
   passes = λ x p t u. h.passes x (omega arith) (fine_low a (units s x) (units (suc s) x) (units-suc s x p) t) (fine_high b (units s x) (units (suc s) x) (units-suc s x p) u);
 }
 
-pub small_half_low : (a : Option ℤ) → SmallEnd a → SmallEnd (half_of_low a)
-small_half_low None h = tt
-small_half_low (Some a) h = let f = half_floor (a +ℤ pos 1) in let l = h.from_low in let k = h.to_high in record { from_low = omega (arith, ints); to_high = omega (arith, ints) }
-
-pub small_half_high : (b : Option ℤ) → SmallEnd b → SmallEnd (half_of_high b)
-small_half_high None h = tt
-small_half_high (Some a) h = let f = half_floor a in let l = h.from_low in let k = h.to_high in record { from_low = omega (arith, ints); to_high = omega (arith, ints) }
+-- and d scales coarser
+pub coarser_by : (d s : ℕ) (a b : Option ℤ) (test : Number → Bool) → AtScale (d + s) a b test → AtScale s (coarse_low d a) (coarse_high d b) test
+coarser_by zero s a b test h =
+    let e : 0 + s ≡ s = omega arith in
+    let P : ℕ → Type 0 = λ t. AtScale t a b test in
+    subst P e h
+coarser_by (suc d) s a b test h =
+    let e : suc d + s ≡ d + suc s = omega arith in
+    let P : ℕ → Type 0 = λ t. AtScale t a b test in
+    coarser s (coarse_low d a) (coarse_high d b) test (coarser_by d (suc s) a b test (subst P e h))
 
 -- ---- the integer of least size
 
@@ -208,23 +209,30 @@ found_between k a b test c d h =
 
 -- ---- for the code
 
-pub found_crossed : (s : ℕ) (a b : Option ℤ) (r : ℤ) → ¬ (s ≡ 0) → crossed a b ≡ false → crossed (half_of_low a) (half_of_high b) ≡ true → r ≡ nearest a b
-    → (test : Number → Bool) → AtScale s a b test → FoundAt test r s
-found_crossed zero a b r n c d e test h = absurd (n refl)
-found_crossed (suc k) a b r n c d e test h = let P : ℤ → Type 0 = λ z. FoundAt test z (suc k) in subst P (sym e) (found_between k a b test c d h)
+at-coarser : (k : ℕ) (a b : Option ℤ) → suc k ≤ 41 → crossed (low_at k a) (high_at k b) ≡ true
+    → crossed (half_of_low (low_at (suc k) a)) (half_of_high (high_at (suc k) b)) ≡ true
+at-coarser k a b h c =
+    let e : 41 - k ≡ suc (41 - suc k) = omega arith in
+    ap (λ d. crossed (coarse_low d a) (coarse_high d b)) (sym e) ∙ c
 
-pub found_coarser : (s t : ℕ) (a b c d : Option ℤ) (n : ℤ) (e : ℕ) → ¬ (s ≡ 0) → t ≡ s - 1 → c ≡ half_of_low a → d ≡ half_of_high b
-    → ((test : Number → Bool) → AtScale t c d test → FoundAt test n e) → (test : Number → Bool) → AtScale s a b test → FoundAt test n e
-found_coarser zero t a b c d n e z p q r f test h = absurd (z refl)
-found_coarser (suc k) t a b c d n e z p q r f test h =
-    let i : t ≡ k = omega arith in
-    let P : ℕ → Type 0 = λ u. AtScale u (half_of_low a) (half_of_high b) test in
-    let Q : Option ℤ → Type 0 = λ u. AtScale t u (half_of_high b) test in
-    let R : Option ℤ → Type 0 = λ u. AtScale t c u test in
-    f test (subst R (sym r) (subst Q (sym q) (subst P (sym i) (coarser k a b test h))))
+at_own : (s : ℕ) (a b : Option ℤ) (test : Number → Bool) → s ≤ 41 → AtScale 41 a b test → AtScale s (low_at s a) (high_at s b) test
+at_own s a b test k h =
+    let e : 41 ≡ 41 - s + s = omega arith in
+    let P : ℕ → Type 0 = λ t. AtScale t a b test in
+    coarser_by (41 - s) s a b test (subst P e h)
 
-pub word : (n : ℤ) (r : ℤ) → to_z w128 (of_z w128 n) ≡ n → n ≡ r → to_z w128 (of_z w128 n) ≡ r
-word n r e f = e ∙ f
+found_at : (s : ℕ) (a b : Option ℤ) → Coarsest a b s → (test : Number → Bool) → AtScale 41 a b test → FoundAt test (nearest (low_at s a) (high_at s b)) s
+found_at zero a b c test h = found_whole (low_at 0 a) (high_at 0 b) test c.some (at_own 0 a b test c.within h)
+found_at (suc k) a b c test h =
+    found_between k (low_at (suc k) a) (high_at (suc k) b) test c.some (at-coarser k a b c.within (c.none k (omega arith))) (at_own (suc k) a b test c.within h)
 
-pub crossed_along : (a b c d : Option ℤ) (r v : Bool) → c ≡ half_of_low a → d ≡ half_of_high b → r ≡ crossed c d → r ≡ v → crossed (half_of_low a) (half_of_high b) ≡ v
-crossed_along a b c d r v e f g h = ap (λ z. crossed z (half_of_high b)) (sym e) ∙ ap (λ z. crossed c z) (sym f) ∙ sym g ∙ h
+pub found_nearest : (s : ℕ) (a b l m : Option ℤ) (r : ℤ) → Coarsest a b s → l ≡ low_at s a → m ≡ high_at s b → r ≡ nearest l m
+    → (test : Number → Bool) → AtScale 41 a b test → FoundAt test r s
+found_nearest s a b l m r c e f g test h =
+    let P : ℤ → Type 0 = λ z. FoundAt test z s in
+    subst P (sym (g ∙ ap (λ z. nearest z m) e ∙ ap (λ z. nearest (low_at s a) z) f)) (found_at s a b c test h)
+
+-- at no scale coarser than s a unit lies between the ends
+pub record CoarserCrossed (a b : Option ℤ) (s : ℕ) : Type 0 where
+  pub within : s ≤ 41
+  pub none : (t : ℕ) → t < s → crossed (low_at t a) (high_at t b) ≡ true
