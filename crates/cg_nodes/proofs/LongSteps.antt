@@ -2,7 +2,8 @@
 use Rattle.std.proofs.Common.{◌≡◌, ℕ, ◌+◌, ◌-◌, ◌*◌, ◌/◌, ◌%◌, ◌^◌, ◌<◌, ◌≤◌, ◌⊎◌, inl, inr, Bool, true, false, IsTrue, not, ℤ, pos, negsuc, ◌+ℤ◌, unsigned_abs, List, [], ◌∷◌, Option, Some, None, IsSome, arith, rules, ap, sym, refl, ◌∙◌, subst}
 use Rattle.std.proofs.lemmas.Int.{ints}
 use Rattle.std.specs.Prelude.{if◌then◌else◌}
-use Rattle.cg_dyadic.specs.Number.{InRange, IsFraction, Number, between, exp_of, is_long, is_narrow, num_of, ratio, whole}
+use Rattle.cg_dyadic.specs.Number.{InRange, Number, between, exp_of, is_long, is_narrow, num_of, ratio, whole}
+use Rattle.cg_dyadic.specs.Exact.{IsLowest}
 use Rattle.cg_dyadic.proofs.Fractions.{fraction-own, fraction-ratio, fraction-unique}
 use Rattle.cg_form.specs.Game.{Game, number}
 use Rattle.cg_cells.specs.declared.key.KeyParts.TheVariants as key
@@ -92,19 +93,17 @@ spells-long k i e bits n b x f r long p same sign exp written c =
 
 -- ---- the number of two chunks
 
-pub chunks_number : (b : Bool) (e low high : ℕ) (n m : ℤ) (x : Number) → n ≡ num_in b (low + 2 ^ 32 * high) → m ≡ n → IsFraction m e x
-    → x ≡ ratio (num_in b (low + 2 ^ 32 * high)) e
-chunks_number b e low high n m x p q f =
-    let P : ℤ → Type 0 = λ z. IsFraction z e x in
-    fraction-unique (num_in b (low + 2 ^ 32 * high)) e x (ratio (num_in b (low + 2 ^ 32 * high)) e) (subst P (q ∙ p) f)
-    (fraction-ratio (num_in b (low + 2 ^ 32 * high)) e)
+-- its numerator and exponent are in lowest terms and in range
+pub record ChunksLowest (n : ℤ) (e : ℕ) : Type 0 where
+  pub lowest : IsLowest (unsigned_abs n) e
+  pub small : unsigned_abs n < 2 ^ 64
+  pub short : e ≤ 40
 
--- no fault holds it
-pub chunks_no_fault : (b : Bool) (e low high : ℕ) (n m : ℤ) (x : Number) → n ≡ num_in b (low + 2 ^ 32 * high) → m ≡ n → IsFraction m e x
-    → is_long_written b e low high ≡ true → ¬ InRange x → ⊥
-chunks_no_fault b e low high n m x p q f written outside =
-    let P : Number → Type 0 = λ z. InRange z in
-    outside (subst P (sym (chunks_number b e low high n m x p q f)) (long_written b e low high written).fraction.in_range)
+pub chunks_lowest : (b : Bool) (e low high : ℕ) (n : ℤ) → n ≡ num_in b (low + 2 ^ 32 * high) → is_long_written b e low high ≡ true → ChunksLowest n e
+chunks_lowest b e low high n p written =
+    let f = (long_written b e low high written).fraction in
+    let P : ℤ → Type 0 = λ z. ChunksLowest z e in
+    subst P (sym p) (record { lowest = f.lowest; small = f.small; short = f.short })
 
 -- ---- what two chunks tell that were read
 

@@ -1,7 +1,7 @@
 -- What the keys of numbers, lists and games spell.
 use Rattle.std.proofs.Common.{◌≡◌, ℕ, ℤ, pos, ◌+◌, ◌*◌, ◌≤◌, ◌<◌, ◌^◌, Option, Some, None, IsSome, List, [], ◌∷◌, unsigned_abs, arith, ap, sym, refl, ◌∙◌, subst}
-use Rattle.cg_dyadic.specs.Number.{Number, ratio, whole, InRange, IsFraction}
-use Rattle.cg_dyadic.proofs.Fractions.{fraction-ratio, fraction-unique, ratio-lowest}
+use Rattle.cg_dyadic.specs.Number.{Number, ratio, whole, InRange}
+use Rattle.cg_dyadic.proofs.Fractions.{ratio-lowest}
 use Rattle.cg_form.specs.Game.{Game, number, node}
 use Rattle.cg_form.specs.Canonical.{Canonical}
 use Rattle.cg_form.specs.Order.{Equal}
@@ -83,13 +83,7 @@ pub canonical_spelled : {R : Type 0} (k i : ℕ) (f : Map) (s : State Meant R) �
     → spelled (parts_of k) f ≡ thing_at s i → Canonical (game_at s i)
 canonical_spelled k i f s g e = canonical_spelled_at (parts_of k) f (game_at s i) (e ∙ g)
 
--- ---- the number of a key
-
--- a fraction is the number of its fields
-pub ratio_is : (n m : ℤ) (k : ℕ) (x : Number) → n ≡ m → IsFraction m k x → x ≡ ratio n k
-ratio_is n m k x e f = let P : ℤ
-    → Type 0 = λ z. IsFraction z k x in fraction-unique n k x (ratio n k) (subst P (sym e) f) (fraction-ratio n k)
-
+-- the number of a key is in range
 pub ratio_in_range : (n : ℤ) (k : ℕ) → FieldsFit (key.Number n k) → InRange (ratio n k)
 ratio_in_range n k f =
     let e = ratio-lowest n k f.2 in
@@ -97,9 +91,3 @@ ratio_in_range n k f =
       small = (let s = f.0 in let h : unsigned_abs n < 2 ^ 64 = omega arith in let P : ℤ → Type 0 = λ z. unsigned_abs z < 2 ^ 64 in subst P (sym e.0) h);
       short = (let s = f.1 in let h : k ≤ 40 = omega arith in let P : ℕ → Type 0 = λ z. z ≤ 40 in subst P (sym e.1) h);
     }
-
--- and no fault holds it
-pub no_fault : (n m : ℤ) (k : ℕ) (x : Number) → n ≡ m → FieldsFit (key.Number n k) → IsFraction m k x → ¬ InRange x → ⊥
-no_fault n m k x e f is outside =
-    let P : Number → Type 0 = λ z. InRange z in
-    outside (subst P (sym (ratio_is n m k x e is)) (ratio_in_range n k f))

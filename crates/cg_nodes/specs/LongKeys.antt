@@ -1,6 +1,7 @@
 -- What follows from the chunks of a long number. These lemmas stand here since the laws of the facts rest on them.
 use Rattle.std.proofs.Common.{◌≡◌, ℕ, ◌+◌, ◌*◌, ◌/◌, ◌%◌, ◌^◌, ◌<◌, ◌≤◌, Bool, true, false, IsTrue, nat_lt, ℤ, unsigned_abs, [], ◌∷◌, arith, rules, sym, refl, subst}
 use Rattle.cg_dyadic.specs.Number.{InRange, Number, exp_of, is_long, num_of, ratio}
+use Rattle.cg_dyadic.specs.Exact.{IsLowest}
 use Rattle.cg_dyadic.proofs.Fractions.{ratio-lowest}
 use Rattle.cg_cells.specs.declared.key.KeyParts.TheVariants as key
 use Rattle.cg_cells.specs.Layout.{FieldsFit}
@@ -14,6 +15,8 @@ pub record IsLongFraction (n : ℤ) (e : ℕ) : Type 0 where
   pub in_range : InRange (ratio n e)
   pub long : is_long (ratio n e) ≡ true
   pub small : unsigned_abs n < 2 ^ 64
+  pub short : e ≤ 40
+  pub lowest : IsLowest (unsigned_abs n) e
 
 is_true : (b : Bool) → IsTrue b → b ≡ true
 is_true true h = refl
@@ -26,16 +29,19 @@ long_fraction n e h =
     let (s, t) = both_back _ _ b in
     let small : unsigned_abs n < 2 ^ 64 = lt_back _ (2 ^ 64) s in
     let short : e < 41 = lt_back e 41 t in
+    let f : e ≤ 40 = omega arith in
     let (p, q) = ratio-lowest n e (lowest_test e _ o) in
     record {
       num = p;
       exp = q;
       in_range = record {
         small = (let P : ℤ → Type 0 = λ z. unsigned_abs z < 2 ^ 64 in subst P (sym p) small);
-        short = (let f : e ≤ 40 = omega arith in let P : ℕ → Type 0 = λ z. z ≤ 40 in subst P (sym q) f);
+        short = (let P : ℕ → Type 0 = λ z. z ≤ 40 in subst P (sym q) f);
       };
       long = is_true (is_long (ratio n e)) l;
       small = small;
+      short = f;
+      lowest = lowest_test e _ o;
     }
 
 -- what the test of the chunks tells

@@ -111,10 +111,7 @@ fn number_of_chunks(negative: bool, exp: u8, low: u32, high: u32) -> Dyadic
     requires { is_long_written negative exp low high ≡ true }
     ensures { result ≡ ratio (num_in negative (low + 2 ^ 32 * high)) exp }
 {
-    match Dyadic::make(num_in(negative, low, high), exp) {
-        Ok(number) => number,
-        Err(_) => unreachable!(),
-    }
+    Dyadic::of_lowest(num_in(negative, low, high), exp)
 }
 
 /// The number of this sign and exponent, whose chunks begin with the first.

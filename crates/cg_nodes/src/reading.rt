@@ -46,10 +46,7 @@ fn number_of(num: i64, exp: u8) -> Dyadic
     requires { FieldsFit (parts.Number num exp) }
     ensures { result ≡ ratio num exp }
 {
-    match Dyadic::make(i128::from(num), exp) {
-        Ok(number) => number,
-        Err(_) => unreachable!(),
-    }
+    Dyadic::of_lowest(i128::from(num), exp)
 }
 
 /// What the handle stands for. That game is canonical, and if it is a number, it is in range.

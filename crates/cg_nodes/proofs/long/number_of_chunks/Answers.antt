@@ -1,11 +1,19 @@
-use Rattle.std.proofs.Common.{rules}
-use Rattle.cg_nodes.proofs.LongSteps.{chunks_number, chunks_no_fault}
+use Rattle.std.proofs.Common.{◌∙◌, to_z, of_z}
+use Rattle.std.proofs.lemmas.Int.{to_z-of_z}
+use mir.Syntax.{w128}
+use Rattle.cg_nodes.proofs.LongSteps.{ChunksLowest, chunks_lowest}
 use Rattle.cg_nodes.proofs.long.number_of_chunks.Goals as goal
 
-pub unreachable-requires : goal.unreachable-requires
-unreachable-requires c =
-    let h = c.in-Err.ensures in
-    chunks_no_fault c.args.negative c.args.exp c.args.low c.args.high c.num_in.result _ h.0 c.num_in.ensures (search rules) h.1 c.requires h.3
+terms : (c : goal.After-num_in) → ChunksLowest (to_z w128 (of_z w128 c.num_in.result)) c.args.exp
+terms c =
+    chunks_lowest c.args.negative c.args.exp c.args.low c.args.high _
+    (to_z-of_z w128 c.num_in.result (record { sfits = c.num_in.type_inv }) ∙ c.num_in.ensures) c.requires
 
-pub returns : goal.returns
-returns c = chunks_number c.args.negative c.args.exp c.args.low c.args.high c.num_in.result _ c.in-Ok.number c.num_in.ensures (search rules) c.in-Ok.ensures.0
+pub of_lowest-requires-clause-lowest : goal.of_lowest-requires-clause-lowest
+of_lowest-requires-clause-lowest c = (terms c).lowest
+
+pub of_lowest-requires-clause-small : goal.of_lowest-requires-clause-small
+of_lowest-requires-clause-small c = (terms c).small
+
+pub of_lowest-requires-clause-short : goal.of_lowest-requires-clause-short
+of_lowest-requires-clause-short c = (terms c).short
