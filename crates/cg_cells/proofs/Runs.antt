@@ -7,7 +7,7 @@ use Rattle.std.proofs.lemmas.Bool.Decides.{nat_tests}
 use Rattle.cg_cells.specs.Meaning.{Meaning, IsLawful, Sound}
 use Rattle.cg_cells.specs.Views.{Sizes, ViewOf, cells_of, ended, after_note}
 use Rattle.cg_cells.specs.Table.{IsAllowed, Whole, IsLive, key_at, value_at}
-use Rattle.cg_cells.specs.Steps.{Table, Step, split, join, draw, check, look, read, claim, note, close, Leads, Run, opening, is_close, IsOpen}
+use Rattle.cg_cells.specs.Steps.{Table, Step, split, join, draw, check, look, read, probe, claim, note, close, Leads, Run, opening, is_close, IsOpen}
 use Rattle.cg_cells.proofs.Keeping.{looks, reads, found, passes, won, notes, renotes}
 use Rattle.cg_cells.proofs.Moving.{draws, splits, joins, opens}
 use Rattle.cg_cells.proofs.Rows.{word_again, value_in}
@@ -35,6 +35,13 @@ module _ {X : Type 0} (m : Meaning X) (L : IsLawful m) (z : Sizes) where
   step_keeps s t (check j) opened W (v, at, e) = from _ t e W
   step_keeps s t (look j id) opened W (v, at, (thing, known, e)) = from _ t e (looks m L z s.words s.views W j v at id thing known)
   step_keeps s t (read j id) opened W (v, at, (thing, known, e)) = from _ t e (reads m L z s.words s.views W j v at id thing known)
+  step_keeps s t (probe j key) opened W (v, at, (thing, steps, is_key, spare, spells, goes, how)) = ⊎_elim
+      (λ empty. from _ t empty.1 W)
+      (λ full. ⊎_elim
+      (λ same. from _ t same.1 (found m L z s.words s.views W j v at key steps thing is_key spare spells goes same.0))
+      (λ other. from _ t other.2 (passes m L z s.words s.views W j v at key steps thing is_key spare spells goes other.0 other.1))
+      full)
+      how
   step_keeps s t (claim j key) opened W (v, at, (thing, steps, is_key, spare, spells, goes, how)) = ⊎_elim
       (λ new. from _ t new.1 (won m L z s.words s.views W j v at key steps thing is_key spare spells goes new.0))
       (λ full. ⊎_elim
@@ -76,6 +83,7 @@ module _ {X : Type 0} (m : Meaning X) (L : IsLawful m) (z : Sizes) where
   needs_live s t (check j) none (v, at, rest) = none j v at
   needs_live s t (look j id) none (v, at, rest) = none j v at
   needs_live s t (read j id) none (v, at, rest) = none j v at
+  needs_live s t (probe j key) none (v, at, rest) = none j v at
   needs_live s t (claim j key) none (v, at, rest) = none j v at
   needs_live s t (note j id value) none (v, at, rest) = none j v at
   needs_live s t (close j) none (v, at, rest) = none j v at

@@ -21,7 +21,8 @@ pub data Step : Type 0 where
   check : ℕ → Step
   look : ℕ → ℕ → Step
   read : ℕ → ℕ → Step
-  -- one turn of the search for a key
+  -- at the cell that the search for a key has come to: a look at its key word, an exchange of 0 for the key in it
+  probe : ℕ → ℕ → Step
   claim : ℕ → ℕ → Step
   -- the id and its value
   note : ℕ → ℕ → ℕ → Step
@@ -50,12 +51,22 @@ module _ {X : Type 0} where
   OfLive P s j = (v : ViewOf X) × IsLive s.views j v × P v
 
 module _ {X : Type 0} (m : Meaning X) (z : Sizes) where
-  -- A turn of the search for a key that spells thing: at its cell there is no key, which becomes this key, or there is this key, or another
+  -- Where the search for a key that spells thing comes to a cell with a key: it is this key, or another
+  abbrev pub Finds : Table X → ℕ → ℕ → ViewOf X → ℕ → X → Table X → Type 0
+  Finds s j key v cell thing t =
+      ((key_at (cells_of z) s.words cell ≡ key) × (t ≡ seen s j (after_claim v cell thing)))
+      ⊎ ((key_at (cells_of z) s.words cell ≢ 0) × (key_at (cells_of z) s.words cell ≢ key) × (t ≡ seen s j (after_pass v key)))
+
+  -- A probe: at the cell there is no key, which changes nothing, or there is one
+  abbrev pub Probes : Table X → ℕ → ℕ → ViewOf X → ℕ → X → Table X → Type 0
+  Probes s j key v cell thing t =
+      ((key_at (cells_of z) s.words cell ≡ 0) × (t ≡ s)) ⊎ Finds s j key v cell thing t
+
+  -- A claim: at the cell there is no key, which becomes this key, or there is one
   abbrev pub Claims : Table X → ℕ → ℕ → ViewOf X → ℕ → X → Table X → Type 0
   Claims s j key v cell thing t =
       ((key_at (cells_of z) s.words cell ≡ 0) × (t ≡ stepped s (1 + cell) key j (after_claim v cell thing)))
-      ⊎ ((key_at (cells_of z) s.words cell ≡ key) × (t ≡ seen s j (after_claim v cell thing)))
-      ⊎ ((key_at (cells_of z) s.words cell ≢ 0) × (key_at (cells_of z) s.words cell ≢ key) × (t ≡ seen s j (after_pass v key)))
+      ⊎ Finds s j key v cell thing t
 
   -- the step may be made at s, and leads to t
   abbrev pub Leads : Table X → Step → Table X → Type 0
@@ -70,6 +81,9 @@ module _ {X : Type 0} (m : Meaning X) (z : Sizes) where
       × (t ≡ seen s j (after_look m v (key_at (cells_of z) s.words id) thing))) s j
   Leads s (read j id) t = OfLive (λ v. (thing : X) × (knows v id ≡ Some thing)
       × (t ≡ seen s j (after_read m v id (value_at (cells_of z) s.words id) thing))) s j
+  Leads s (probe j key) t = OfLive (λ v. (thing : X) × (steps : ℕ) × (key ≢ 0) × (1 ≤ v.spare)
+      × (m.spells key (knows v) ≡ Some thing) × GoesOn v.probe key steps
+      × Probes s j key v (place (cells_of z) (m.home key (cells_of z)) steps) thing t) s j
   Leads s (claim j key) t = OfLive (λ v. (thing : X) × (steps : ℕ) × (key ≢ 0) × (1 ≤ v.spare)
       × (m.spells key (knows v) ≡ Some thing) × GoesOn v.probe key steps
       × Claims s j key v (place (cells_of z) (m.home key (cells_of z)) steps) thing t) s j
@@ -91,6 +105,7 @@ is_close (draw j) = false
 is_close (check j) = false
 is_close (look j id) = false
 is_close (read j id) = false
+is_close (probe j key) = false
 is_close (claim j key) = false
 is_close (note j id value) = false
 is_close (close j) = true

@@ -124,11 +124,11 @@ module _ {X : Type 0} where
       then record v { spare = v.spare + v.sizes.share; tickets = v.tickets ++ number ∷ [] }
       else record v { over = true }
 
-  -- Claim of a key that spells t, which was written or found at the cell id
+  -- Claim of a key that spells t, which was written or found at the cell id, or probe that found it there
   abbrev pub after_claim : ViewOf X → ℕ → X → ViewOf X
   after_claim v id t = record v { known = (id, t) ∷ v.known; spare = v.spare - 1; probe = None }
 
-  -- Claim that found another key
+  -- Probe or claim that found another key
   abbrev pub after_pass : ViewOf X → ℕ → ViewOf X
   after_pass v key = record v { probe = Some (key, searched v.probe + 1) }
 

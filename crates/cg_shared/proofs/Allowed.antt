@@ -20,7 +20,7 @@ use Rattle.cg_cells.proofs.Totals.{at_set, at_after, set_again}
 use Rattle.cg_cells.proofs.Fitting.{is_sure, known_inside}
 use Rattle.cg_cells.proofs.Keeping.{looks, looked_key, looked_spells, value_is, reads, noted_value, renotes, notes, claim_inside, found, passes, goes_on, won}
 use Rattle.cg_cells.proofs.Moving.{draws, draw_room, lines_few, splits, joins}
-use Rattle.cg_shared.specs.Plays.{sizes_of, Kept, Checked, Drew, Looked, Read, Claimed, Noted}
+use Rattle.cg_shared.specs.Plays.{sizes_of, Kept, Checked, Drew, Looked, Read, Probed, Claimed, Noted}
 
 module _ {S X : Type 0} (m : Meaning X) (L : IsLawful m) (p : Plan) (slots id : ℕ) (me : Me S (ViewOf X)) (alive : me.0.gone ≡ false) where
   -- the view after a step, of which the rule then tells
@@ -137,6 +137,58 @@ module _ {S X : Type 0} (m : Meaning X) (L : IsLawful m) (p : Plan) (slots id : 
     abbrev c : ℕ
     c = place (cells_of (sizes_of p)) (m.home key (cells_of (sizes_of p))) steps
 
+    agrees : (cell' : ℕ) (t' : X) → 1 + c ≡ 1 + cell' → m.spells key (knows me.0) ≡ Some t' → after_claim me.0 c t ≡ after_claim me.0 cell' t'
+    agrees cell' t' at_word e = let here : c ≡ cell' = omega arith in let same : t ≡ t' = same_Some (sym spelt ∙ e) in λ i. after_claim me.0 (here i) (same i)
+
+    probe_at : Allows (Kept m p) slots id me (1 + c) (λ n. n) (Probed m key (step slots (1 + c) 0 0 none) me)
+    probe_at s W len at fits = dite (ℕ_discrete n 0) vacant (λ full. dite (ℕ_discrete n key) met (λ other. missed full other))
+      where
+        n : ℕ
+        n = slice_index s.words (1 + c)
+
+        Goal : Type 0
+        Goal = (w : ViewOf X) × (a : Act S) × Valid s.homes me.1 a × Kept m p (stepped s (1 + c) (slice_index s.words (1 + c)) id me.1 w a) × Probed m key (step slots (1 + c) 0 0 none) me (slice_index s.words (1 + c)) (w, carried_after me.1 a)
+
+        is : key_at (cells_of (sizes_of p)) s.words c ≡ slice_index s.words (1 + c)
+        is = key_in (cells_of (sizes_of p)) s.words c (claim_inside m L (sizes_of p) s.words s.views W id me.0 (at, alive) key steps t is_key spare spelt goes)
+
+        again : (w : ViewOf X) → Whole m (sizes_of p) s.words (set s.views id w) → Whole m (sizes_of p) (set s.words (1 + c) (slice_index s.words (1 + c))) (set s.views id w)
+        again w W' = subst (λ ws. Whole m (sizes_of p) ws (set s.views id w)) (sym (word_again s.words (1 + c))) W'
+
+        vacant : slice_index s.words (1 + c) ≡ 0 → Goal
+        vacant empty = (
+          me.0,
+          keeps,
+          tt,
+          again me.0 (subst (λ vs. Whole m (sizes_of p) s.words vs) (sym (set_again s.views id me.0 at)) W),
+          (refl, λ cell' t' at_word e. ((λ _. refl), (λ same. absurd (is_key (sym same ∙ empty))), λ full. absurd (full empty))),
+        )
+
+        met : slice_index s.words (1 + c) ≡ key → Goal
+        met same =
+            let W' = found m L (sizes_of p) s.words s.views W id me.0 (at, alive) key steps t is_key spare spelt goes (is ∙ same) in (
+              after_claim me.0 c t,
+              keeps,
+              tt,
+              again (after_claim me.0 c t) W',
+              (refl, λ cell' t' at_word e. ((λ empty. absurd (is_key (sym same ∙ empty))), (λ _. (agrees cell' t' at_word e, told s.words s.views (after_claim me.0 c t) W' (at, alive) alive)), λ _ other. absurd (other same))),
+            )
+
+        missed : slice_index s.words (1 + c) ≢ 0 → slice_index s.words (1 + c) ≢ key → Goal
+        missed full other =
+            let W' = passes m L (sizes_of p) s.words s.views W id me.0 (at, alive) key steps t is_key spare spelt goes (λ e. full (sym is ∙ e)) (λ e. other (sym is ∙ e)) in
+            let r = goes_on m L (sizes_of p) s.words s.views W id me.0 (at, alive) key steps t is_key spare spelt goes (λ e. full (sym is ∙ e)) (λ e. other (sym is ∙ e)) in (
+              after_pass me.0 key,
+              keeps,
+              tt,
+              again (after_pass me.0 key) W',
+              (refl, λ cell' t' at_word e. ((λ empty. absurd (full empty)), (λ same. absurd (other same)), λ _ _. (refl, subst (λ z. searched me.0.probe + 1 < cells_of z) (sym (W.each id me.0 (at, alive)).sized) r))),
+            )
+
+    pub probe_allowed : (cell sought : ℕ) → cell ≡ place (cells_of (sizes_of p)) (m.home key (cells_of (sizes_of p))) steps → key ≡ sought → Allows (Kept m p) slots id me (1 + cell) (λ n. n) (Probed m sought (step slots (1 + cell) 0 0 none) me)
+    probe_allowed cell sought is_place same = subst (λ k. Allows (Kept m p) slots id me (1 + cell) (λ n. n) (Probed m k (step slots (1 + cell) 0 0 none) me)) same
+        (subst (λ y. Allows (Kept m p) slots id me (1 + y) (λ n. n) (Probed m key (step slots (1 + y) 0 0 none) me)) (sym is_place) probe_at)
+
     claim_at : Allows (Kept m p) slots id me (1 + c) (λ n. either (eqb n 0) key n) (Claimed m (step slots (1 + c) 0 key none) me)
     claim_at s W len at fits = exchanged (slice_index s.words (1 + c)) 0 key (λ x. Goal x) hit (λ full. dite (ℕ_discrete n key) (λ same. met full same) (λ other. missed full other))
       where
@@ -148,9 +200,6 @@ module _ {S X : Type 0} (m : Meaning X) (L : IsLawful m) (p : Plan) (slots id : 
 
         is : key_at (cells_of (sizes_of p)) s.words c ≡ slice_index s.words (1 + c)
         is = key_in (cells_of (sizes_of p)) s.words c (claim_inside m L (sizes_of p) s.words s.views W id me.0 (at, alive) key steps t is_key spare spelt goes)
-
-        agrees : (cell' : ℕ) (t' : X) → 1 + c ≡ 1 + cell' → m.spells key (knows me.0) ≡ Some t' → after_claim me.0 c t ≡ after_claim me.0 cell' t'
-        agrees cell' t' at_word e = let here : c ≡ cell' = omega arith in let same : t ≡ t' = same_Some (sym spelt ∙ e) in λ i. after_claim me.0 (here i) (same i)
 
         hit : slice_index s.words (1 + c) ≡ 0 → Goal key
         hit empty =

@@ -36,6 +36,15 @@ module _ {S X : Type 0} (m : Meaning X) where
       × ((value : ℕ) → n ≡ suc value → IsSome (m.note_of t) × (value < cells_of me.0.sizes))
       × (n ≡ 0 → ¬ Has me.0.noted id))
 
+  -- a load of the key word of the cell id, to which the search for a key, which spells t, has come
+  abbrev pub Probed : ℕ → Step S → Me S (ViewOf X) → ℕ → Me S (ViewOf X) → Type 0
+  Probed key st me n me' =
+      (me'.1 ≡ me.1)
+      × ((id : ℕ) (t : X) → st.word ≡ 1 + id → m.spells key (knows me.0) ≡ Some t
+      → (n ≡ 0 → me'.0 ≡ me.0)
+      × (n ≡ key → (me'.0 ≡ after_claim me.0 id t) × Sure m me'.0)
+      × (n ≢ 0 → n ≢ key → (me'.0 ≡ after_pass me.0 key) × (searched me.0.probe + 1 < cells_of me.0.sizes)))
+
   -- an exchange of 0 for a key, which spells t, in the key word of the cell id
   abbrev pub Claimed : Step S → Me S (ViewOf X) → ℕ → Me S (ViewOf X) → Type 0
   Claimed st me n me' =

@@ -37,7 +37,8 @@ impl<F: Facts> SharedCells<F> {
     }
 
     /// The id of the cell with this key, as a store of cells claims it. Where an id is known already to be what the key
-    /// spells, as after an earlier claim of the key, it is this id. Each turn of the search is one exchange.
+    /// spells, as after an earlier claim of the key, it is this id. Each turn of the search is one load, and one exchange
+    /// more where the load read an empty word.
     pub fn claim(&self, pass: &mut Pass<F>, key: Key) -> Id
         requires own { IsPassOf self.now pass.old }
         requires spare { 1 ≤ pass.old.sees.spare }

@@ -1,7 +1,7 @@
 // The rule of a table, and what each step tells.
 ghost use Rattle.std.specs.Prelude.{ℕ};
 ghost use Rattle.cg_cells.specs.Views.{first_view, after_split, split_off, after_meet, ended};
-ghost use Rattle.cg_shared.specs.Plays.{sizes_of, Kept, Drew, Checked, Looked, Read, Claimed, Noted};
+ghost use Rattle.cg_shared.specs.Plays.{sizes_of, Kept, Drew, Checked, Looked, Read, Probed, Claimed, Noted};
 
 use crate::view::{Plan, View};
 use atomic_table::{Join, Play, Split, TableRule};
@@ -49,6 +49,23 @@ pub(crate) struct Reads<F> {
 
 impl<F: Facts> Play<(), View<F::Thing>> for Reads<F> {
     ghost then = { Read F.meaning };
+}
+
+// The key that a probe is for. A probe reads it off its type, since a load tells its play of a word alone.
+pub(crate) trait Sought {
+    ghost key: { ℕ };
+}
+
+impl Sought for Brand {
+    ghost key = { 0 };
+}
+
+pub(crate) struct Probes<F, K> {
+    of: PhantomData<(F, K)>,
+}
+
+impl<F: Facts, K: Sought> Play<(), View<F::Thing>> for Probes<F, K> {
+    ghost then = { Probed F.meaning K.key };
 }
 
 pub(crate) struct Claims<F> {

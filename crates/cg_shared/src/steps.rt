@@ -10,7 +10,9 @@ ghost use Rattle.cg_cells.specs.Steps.{GoesOn};
 ghost use Rattle.cg_shared.specs.Passes.{IsStill, state_by};
 ghost use Rattle.cg_shared.specs.Plays.{sizes_of};
 
-use crate::plays::{Checks, Claims, Cuts, Draws, Heirs, Looks, Meets, Notes, Reads, Rule};
+use crate::plays::{
+    Checks, Claims, Cuts, Draws, Heirs, Looks, Meets, Notes, Probes, Reads, Rule, Sought,
+};
 use crate::view::{Plan, View};
 use atomic_table::{Seat, Shared};
 use cg_cells::Facts;
@@ -71,6 +73,30 @@ pub(crate) fn read<F: Facts>(
     ensures spends { Spends 0 (state_by seat.old.table_id seat.old.me.0) (state_by seat.new.table_id seat.new.me.0) }
 {
     shared.load::<Reads<F>>(seat, 1 + size + cell)
+}
+
+pub(crate) fn probe<F: Facts, K: Sought>(
+    shared: &Shared<(), View<F::Thing>, Plan, Rule<F>>,
+    seat: &mut Seat<(), View<F::Thing>>,
+    key: u64,
+    steps: u64,
+    cell: usize,
+) -> u64
+    requires table { (seat.old.table_id ≡ shared.now.table_id) × (1 + cell < shared.now.table_id.words) }
+    requires small { cell < 67108864 }
+    requires live { seat.old.me.0.gone ≡ false }
+    requires spare { 1 ≤ seat.old.me.0.spare }
+    requires key { key ≢ 0 }
+    requires sought { key ≡ K.key }
+    requires spells { IsSome (F.meaning.spells key (knows seat.old.me.0)) }
+    requires goes { GoesOn seat.old.me.0.probe key steps }
+    requires place { cell ≡ place (cells_of (sizes_of shared.now.key)) (F.meaning.home key (cells_of (sizes_of shared.now.key))) steps }
+    ensures same { (seat.new.table_id ≡ seat.old.table_id) × (seat.new.me.1 ≡ seat.old.me.1) }
+    ensures empty { result ≡ 0 → seat.new.me.0 ≡ seat.old.me.0 }
+    ensures hit { (t : F.Thing) → F.meaning.spells key (knows seat.old.me.0) ≡ Some t → result ≡ key → (seat.new.me.0 ≡ after_claim seat.old.me.0 cell t) × Sure F.meaning seat.new.me.0 }
+    ensures miss { result ≢ 0 → result ≢ key → (seat.new.me.0 ≡ after_pass seat.old.me.0 key) × (searched seat.old.me.0.probe + 1 < cells_of seat.old.me.0.sizes) }
+{
+    shared.load::<Probes<F, K>>(seat, 1 + cell)
 }
 
 pub(crate) fn claim<F: Facts>(
