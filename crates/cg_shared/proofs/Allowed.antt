@@ -140,8 +140,29 @@ module _ {S X : Type 0} (m : Meaning X) (L : IsLawful m) (p : Plan) (slots id : 
     agrees : (cell' : ℕ) (t' : X) → 1 + c ≡ 1 + cell' → m.spells key (knows me.0) ≡ Some t' → after_claim me.0 c t ≡ after_claim me.0 cell' t'
     agrees cell' t' at_word e = let here : c ≡ cell' = omega arith in let same : t ≡ t' = same_Some (sym spelt ∙ e) in λ i. after_claim me.0 (here i) (same i)
 
+    module _ (words : List ℕ) (views : List (ViewOf X)) (W : Whole m (sizes_of p) words views) (live : IsLive views id me.0) where
+      is : key_at (cells_of (sizes_of p)) words c ≡ slice_index words (1 + c)
+      is = key_in (cells_of (sizes_of p)) words c (claim_inside m L (sizes_of p) words views W id me.0 live key steps t is_key spare spelt goes)
+
+      -- the word is as it was
+      again : (w : ViewOf X) → Whole m (sizes_of p) words (set views id w) → Whole m (sizes_of p) (set words (1 + c) (slice_index words (1 + c))) (set views id w)
+      again w W' = subst (λ ws. Whole m (sizes_of p) ws (set views id w)) (sym (word_again words (1 + c))) W'
+
+      -- the key is there
+      met : slice_index words (1 + c) ≡ key → Whole m (sizes_of p) words (set views id (after_claim me.0 c t))
+      met same = found m L (sizes_of p) words views W id me.0 live key steps t is_key spare spelt goes (is ∙ same)
+
+      module _ (full : slice_index words (1 + c) ≢ 0) (other : slice_index words (1 + c) ≢ key) where
+        -- another key is there
+        missed : Whole m (sizes_of p) words (set views id (after_pass me.0 key))
+        missed = passes m L (sizes_of p) words views W id me.0 live key steps t is_key spare spelt goes (λ e. full (sym is ∙ e)) (λ e. other (sym is ∙ e))
+
+        further : searched me.0.probe + 1 < cells_of me.0.sizes
+        further = subst (λ z. searched me.0.probe + 1 < cells_of z) (sym (W.each id me.0 live).sized)
+            (goes_on m L (sizes_of p) words views W id me.0 live key steps t is_key spare spelt goes (λ e. full (sym is ∙ e)) (λ e. other (sym is ∙ e)))
+
     probe_at : Allows (Kept m p) slots id me (1 + c) (λ n. n) (Probed m key (step slots (1 + c) 0 0 none) me)
-    probe_at s W len at fits = dite (ℕ_discrete n 0) vacant (λ full. dite (ℕ_discrete n key) met (λ other. missed full other))
+    probe_at s W len at fits = dite (ℕ_discrete n 0) none_there (λ full. dite (ℕ_discrete n key) key_there (λ other. other_there full other))
       where
         n : ℕ
         n = slice_index s.words (1 + c)
@@ -149,48 +170,40 @@ module _ {S X : Type 0} (m : Meaning X) (L : IsLawful m) (p : Plan) (slots id : 
         Goal : Type 0
         Goal = (w : ViewOf X) × (a : Act S) × Valid s.homes me.1 a × Kept m p (stepped s (1 + c) (slice_index s.words (1 + c)) id me.1 w a) × Probed m key (step slots (1 + c) 0 0 none) me (slice_index s.words (1 + c)) (w, carried_after me.1 a)
 
-        is : key_at (cells_of (sizes_of p)) s.words c ≡ slice_index s.words (1 + c)
-        is = key_in (cells_of (sizes_of p)) s.words c (claim_inside m L (sizes_of p) s.words s.views W id me.0 (at, alive) key steps t is_key spare spelt goes)
-
-        again : (w : ViewOf X) → Whole m (sizes_of p) s.words (set s.views id w) → Whole m (sizes_of p) (set s.words (1 + c) (slice_index s.words (1 + c))) (set s.views id w)
-        again w W' = subst (λ ws. Whole m (sizes_of p) ws (set s.views id w)) (sym (word_again s.words (1 + c))) W'
-
-        vacant : slice_index s.words (1 + c) ≡ 0 → Goal
-        vacant empty = (
+        none_there : slice_index s.words (1 + c) ≡ 0 → Goal
+        none_there empty = (
           me.0,
           keeps,
           tt,
-          again me.0 (subst (λ vs. Whole m (sizes_of p) s.words vs) (sym (set_again s.views id me.0 at)) W),
+          again s.words s.views W (at, alive) me.0 (subst (λ vs. Whole m (sizes_of p) s.words vs) (sym (set_again s.views id me.0 at)) W),
           (refl, λ cell' t' at_word e. ((λ _. refl), (λ same. absurd (is_key (sym same ∙ empty))), λ full. absurd (full empty))),
         )
 
-        met : slice_index s.words (1 + c) ≡ key → Goal
-        met same =
-            let W' = found m L (sizes_of p) s.words s.views W id me.0 (at, alive) key steps t is_key spare spelt goes (is ∙ same) in (
+        key_there : slice_index s.words (1 + c) ≡ key → Goal
+        key_there same =
+            let W' = met s.words s.views W (at, alive) same in (
               after_claim me.0 c t,
               keeps,
               tt,
-              again (after_claim me.0 c t) W',
+              again s.words s.views W (at, alive) (after_claim me.0 c t) W',
               (refl, λ cell' t' at_word e. ((λ empty. absurd (is_key (sym same ∙ empty))), (λ _. (agrees cell' t' at_word e, told s.words s.views (after_claim me.0 c t) W' (at, alive) alive)), λ _ other. absurd (other same))),
             )
 
-        missed : slice_index s.words (1 + c) ≢ 0 → slice_index s.words (1 + c) ≢ key → Goal
-        missed full other =
-            let W' = passes m L (sizes_of p) s.words s.views W id me.0 (at, alive) key steps t is_key spare spelt goes (λ e. full (sym is ∙ e)) (λ e. other (sym is ∙ e)) in
-            let r = goes_on m L (sizes_of p) s.words s.views W id me.0 (at, alive) key steps t is_key spare spelt goes (λ e. full (sym is ∙ e)) (λ e. other (sym is ∙ e)) in (
-              after_pass me.0 key,
-              keeps,
-              tt,
-              again (after_pass me.0 key) W',
-              (refl, λ cell' t' at_word e. ((λ empty. absurd (full empty)), (λ same. absurd (other same)), λ _ _. (refl, subst (λ z. searched me.0.probe + 1 < cells_of z) (sym (W.each id me.0 (at, alive)).sized) r))),
-            )
+        other_there : slice_index s.words (1 + c) ≢ 0 → slice_index s.words (1 + c) ≢ key → Goal
+        other_there full other = (
+          after_pass me.0 key,
+          keeps,
+          tt,
+          again s.words s.views W (at, alive) (after_pass me.0 key) (missed s.words s.views W (at, alive) full other),
+          (refl, λ cell' t' at_word e. ((λ empty. absurd (full empty)), (λ same. absurd (other same)), λ _ _. (refl, further s.words s.views W (at, alive) full other))),
+        )
 
     pub probe_allowed : (cell sought : ℕ) → cell ≡ place (cells_of (sizes_of p)) (m.home key (cells_of (sizes_of p))) steps → key ≡ sought → Allows (Kept m p) slots id me (1 + cell) (λ n. n) (Probed m sought (step slots (1 + cell) 0 0 none) me)
     probe_allowed cell sought is_place same = subst (λ k. Allows (Kept m p) slots id me (1 + cell) (λ n. n) (Probed m k (step slots (1 + cell) 0 0 none) me)) same
         (subst (λ y. Allows (Kept m p) slots id me (1 + y) (λ n. n) (Probed m key (step slots (1 + y) 0 0 none) me)) (sym is_place) probe_at)
 
     claim_at : Allows (Kept m p) slots id me (1 + c) (λ n. either (eqb n 0) key n) (Claimed m (step slots (1 + c) 0 key none) me)
-    claim_at s W len at fits = exchanged (slice_index s.words (1 + c)) 0 key (λ x. Goal x) hit (λ full. dite (ℕ_discrete n key) (λ same. met full same) (λ other. missed full other))
+    claim_at s W len at fits = exchanged (slice_index s.words (1 + c)) 0 key (λ x. Goal x) none_there (λ full. dite (ℕ_discrete n key) (λ same. key_there full same) (λ other. other_there full other))
       where
         n : ℕ
         n = slice_index s.words (1 + c)
@@ -198,12 +211,9 @@ module _ {S X : Type 0} (m : Meaning X) (L : IsLawful m) (p : Plan) (slots id : 
         Goal : ℕ → Type 0
         Goal x = (w : ViewOf X) × (a : Act S) × Valid s.homes me.1 a × Kept m p (stepped s (1 + c) x id me.1 w a) × Claimed m (step slots (1 + c) 0 key none) me (slice_index s.words (1 + c)) (w, carried_after me.1 a)
 
-        is : key_at (cells_of (sizes_of p)) s.words c ≡ slice_index s.words (1 + c)
-        is = key_in (cells_of (sizes_of p)) s.words c (claim_inside m L (sizes_of p) s.words s.views W id me.0 (at, alive) key steps t is_key spare spelt goes)
-
-        hit : slice_index s.words (1 + c) ≡ 0 → Goal key
-        hit empty =
-            let W' = won m L (sizes_of p) s.words s.views W id me.0 (at, alive) key steps t is_key spare spelt goes (is ∙ empty) in (
+        none_there : slice_index s.words (1 + c) ≡ 0 → Goal key
+        none_there empty =
+            let W' = won m L (sizes_of p) s.words s.views W id me.0 (at, alive) key steps t is_key spare spelt goes (is s.words s.views W (at, alive) ∙ empty) in (
               after_claim me.0 c t,
               keeps,
               tt,
@@ -211,26 +221,24 @@ module _ {S X : Type 0} (m : Meaning X) (L : IsLawful m) (p : Plan) (slots id : 
               (refl, λ cell' t' at_word e. ((λ _. (agrees cell' t' at_word e, told (set s.words (1 + c) key) s.views (after_claim me.0 c t) W' (at, alive) alive)), λ full. absurd (full empty))),
             )
 
-        met : slice_index s.words (1 + c) ≢ 0 → slice_index s.words (1 + c) ≡ key → Goal (slice_index s.words (1 + c))
-        met full same =
-            let W' = found m L (sizes_of p) s.words s.views W id me.0 (at, alive) key steps t is_key spare spelt goes (is ∙ same) in (
+        key_there : slice_index s.words (1 + c) ≢ 0 → slice_index s.words (1 + c) ≡ key → Goal (slice_index s.words (1 + c))
+        key_there full same =
+            let W' = met s.words s.views W (at, alive) same in (
               after_claim me.0 c t,
               keeps,
               tt,
-              subst (λ ws. Whole m (sizes_of p) ws (set s.views id (after_claim me.0 c t))) (sym (word_again s.words (1 + c))) W',
+              again s.words s.views W (at, alive) (after_claim me.0 c t) W',
               (refl, λ cell' t' at_word e. ((λ _. (agrees cell' t' at_word e, told s.words s.views (after_claim me.0 c t) W' (at, alive) alive)), λ _ other. absurd (other same))),
             )
 
-        missed : slice_index s.words (1 + c) ≢ 0 → slice_index s.words (1 + c) ≢ key → Goal (slice_index s.words (1 + c))
-        missed full other =
-            let W' = passes m L (sizes_of p) s.words s.views W id me.0 (at, alive) key steps t is_key spare spelt goes (λ e. full (sym is ∙ e)) (λ e. other (sym is ∙ e)) in
-            let r = goes_on m L (sizes_of p) s.words s.views W id me.0 (at, alive) key steps t is_key spare spelt goes (λ e. full (sym is ∙ e)) (λ e. other (sym is ∙ e)) in (
-              after_pass me.0 key,
-              keeps,
-              tt,
-              subst (λ ws. Whole m (sizes_of p) ws (set s.views id (after_pass me.0 key))) (sym (word_again s.words (1 + c))) W',
-              (refl, λ cell' t' at_word e. ((λ w. absurd (⊎_elim full other w)), λ _ _. (refl, subst (λ z. searched me.0.probe + 1 < cells_of z) (sym (W.each id me.0 (at, alive)).sized) r))),
-            )
+        other_there : slice_index s.words (1 + c) ≢ 0 → slice_index s.words (1 + c) ≢ key → Goal (slice_index s.words (1 + c))
+        other_there full other = (
+          after_pass me.0 key,
+          keeps,
+          tt,
+          again s.words s.views W (at, alive) (after_pass me.0 key) (missed s.words s.views W (at, alive) full other),
+          (refl, λ cell' t' at_word e. ((λ w. absurd (⊎_elim full other w)), λ _ _. (refl, further s.words s.views W (at, alive) full other))),
+        )
 
     pub claim_allowed : (cell : ℕ) → cell ≡ place (cells_of (sizes_of p)) (m.home key (cells_of (sizes_of p))) steps → Allows (Kept m p) slots id me (1 + cell) (λ n. either (eqb n 0) key n) (Claimed m (step slots (1 + cell) 0 key none) me)
     claim_allowed cell is_place = subst (λ y. Allows (Kept m p) slots id me (1 + y) (λ n. either (eqb n 0) key n) (Claimed m (step slots (1 + y) 0 key none) me)) (sym is_place) claim_at

@@ -51,7 +51,7 @@ impl<F: Facts> Play<(), View<F::Thing>> for Reads<F> {
     ghost then = { Read F.meaning };
 }
 
-// The key that a probe is for. A probe reads it off its type, since a load tells its play of a word alone.
+// The key that is searched for. A probe reads it off its type, since a load gives its play no key.
 pub(crate) trait Sought {
     ghost key: { ℕ };
 }
