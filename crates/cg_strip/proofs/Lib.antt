@@ -11,3 +11,5 @@ pub mod WholeRules
 pub mod WeightBounds
 pub mod ToadsText
 pub mod BoardLemmas
+pub mod Written
+pub mod Changes

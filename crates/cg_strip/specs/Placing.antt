@@ -3,6 +3,7 @@ use Rattle.std.specs.Prelude.{ℕ, zero, suc, ◌+◌, ◌≡◌, List, [], ◌�
 use Rattle.std.specs.List.{flat_map, starts_with}
 use Rattle.cg_moves.specs.declared.player.Player.{Player}
 use Rattle.cg_moves.specs.declared.player.Player.TheVariants.{Left, Right}
+use Rattle.cg_moves.specs.Grid.{AreCells}
 use Rattle.cg_moves.specs.Rules.{In}
 use Rattle.cg_moves.specs.Rising.{rising}
 use Rattle.cg_strip.specs.declared.rule.Rule.{Rule}
@@ -51,3 +52,13 @@ placements player row r = cond (is_same_player r.player player) (all_placed r.pa
 -- what the player's moves lead to, in rising order of the bytes, each once
 abbrev pub moves_by : List Rule → Player → List ℕ → List (List ℕ)
 moves_by rules player row = rising (flat_map (placements player row) rules)
+
+-- ---- what can be written on a board
+
+-- as many of these symbols as the pattern has
+pub record IsChange (symbols pattern replacement : List ℕ) : Type 0 where
+  pub even : length pattern ≡ length replacement
+  pub cells : AreCells symbols replacement
+
+abbrev pub IsRuleOver : List ℕ → Rule → Type 0
+IsRuleOver symbols r = IsChange symbols r.pattern r.replacement

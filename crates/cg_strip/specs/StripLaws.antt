@@ -1,15 +1,14 @@
 -- Strip games are games: their moves stay on their boards and lower the sum of the weights.
-use Rattle.std.proofs.Common.{◌≡◌, ℕ, zero, suc, ◌<◌, ◌==◌, ◌&&◌, inl, inr, true, List, [], ◌∷◌, ◌++◌, length, refl, ap, sym, subst, ◌∙◌, arith, length-append, eqb-true}
-use Rattle.std.specs.Prelude.{All, Contains}
-use Rattle.std.specs.List.{list_all, AllByRecursion}
+use Rattle.std.proofs.Common.{◌≡◌, ℕ, suc, ◌<◌, ◌==◌, ◌&&◌, inl, inr, true, List, [], ◌∷◌, ◌++◌, length, refl, ap, sym, subst, ◌∙◌, arith, length-append, eqb-true}
+use Rattle.std.specs.Prelude.{All}
+use Rattle.std.specs.List.{list_all}
 use Rattle.std.specs.Str.{bytes_eq}
 use Rattle.std.specs.Cmp.Lexicographic.{bytes_decides}
-use Rattle.std.proofs.lemmas.Bool.{and_parts, and_from, or_cases}
+use Rattle.std.proofs.lemmas.Bool.{and_parts, and_from}
 use Rattle.cg_moves.specs.declared.player.Player.{Player}
-use Rattle.cg_moves.specs.Grid.{Grid, AreCells, with_cells}
+use Rattle.cg_moves.specs.Grid.{Grid, with_cells}
 use Rattle.cg_moves.specs.Rules.{In, IsLawful}
-use Rattle.cg_moves.proofs.Members.{all_from}
-use Rattle.cg_strip.specs.Rulebook.{Rulebook, IsRule, IsRulebook, is_weighted, symbols_of}
+use Rattle.cg_strip.specs.Rulebook.{Rulebook, IsRule, symbols_of}
 use Rattle.cg_strip.specs.Placing.{IsPlacedAt, moves_by}
 use Rattle.cg_strip.specs.Weighing.{row_weight, do_all_lower}
 use Rattle.cg_strip.specs.StripGame.{is_even, is_strip_board, strip_game}
@@ -69,58 +68,9 @@ strip_lawful book = record {
         and_from ((p.rows == 1) && bytes_eq p.symbols (symbols_of book.weights) && list_all is_even book.rules) (do_all_lower book.weights (length cells) book.rules) a.0
         (ap (λ (n : ℕ). do_all_lower book.weights n book.rules) (move_long book player p cells e m) ∙ a.1)
 
--- ---- the cells that moves lead to
-
-pub moves_long : (book : Rulebook) (player : Player) (p : Grid) → is_strip_board book p ≡ true → All (λ cells. length cells ≡ length p.cells) (moves_by book.rules player p.cells)
-moves_long book player p e = all_from (λ cells. length cells ≡ length p.cells) (moves_by book.rules player p.cells) (λ cells m. move_long book player p cells e m)
-
-each_cell : (symbols cells : List ℕ) → AreCells symbols cells → AllByRecursion (Contains symbols) cells
-each_cell symbols [] h = tt
-each_cell symbols (c ∷ cells) h = (h 0 (omega arith), each_cell symbols cells (λ k below. h (suc k) (omega arith)))
-
-all_cells : (symbols cells : List ℕ) → AllByRecursion (Contains symbols) cells → AreCells symbols cells
-all_cells symbols [] h k below = absurd (omega arith)
-all_cells symbols (c ∷ cells) h zero below = h.0
-all_cells symbols (c ∷ cells) h (suc k) below = all_cells symbols cells h.1 k (omega arith)
-
-each_part : (P : ℕ → Type 0) (xs ys : List ℕ) → AllByRecursion P (xs ++ ys) → AllByRecursion P xs × AllByRecursion P ys
-each_part P [] ys h = (tt, h)
-each_part P (x ∷ xs) ys h = let r = each_part P xs ys h.1 in ((h.0, r.0), r.1)
-
-each_joined : (P : ℕ → Type 0) (xs ys : List ℕ) → AllByRecursion P xs → AllByRecursion P ys → AllByRecursion P (xs ++ ys)
-each_joined P [] ys h k = k
-each_joined P (x ∷ xs) ys h k = (h.0, each_joined P xs ys h.1 k)
-
-contained : (weights : List Weight) (s : ℕ) → is_weighted weights s ≡ true → Contains (symbols_of weights) s
-contained [] s e = absurd cc
-contained (w ∷ weights) s e = elim (or_cases (w.symbol == s) (is_weighted weights s) e) [
-  | inl f ↦ (0, omega arith, eqb-true w.symbol s f)
-  | inr f ↦ (let m = contained weights s f in (suc m.0, omega (arith, m.1), m.2))
-]
-
-weighted_cells : (weights : List Weight) (cells : List ℕ) → list_all (is_weighted weights) cells ≡ true → AllByRecursion (Contains (symbols_of weights)) cells
-weighted_cells weights [] e = tt
-weighted_cells weights (c ∷ cells) e = let p = and_parts (is_weighted weights c) (list_all (is_weighted weights) cells) e in (contained weights c p.0, weighted_cells weights cells p.1)
+-- ---- the rules
 
 pub rule_of : (weights : List Weight) (rules : List Rule) (r : Rule) → All (IsRule weights) rules → In r rules → IsRule weights r
 rule_of weights [] r h m = absurd m
 rule_of weights (v ∷ rules) r h (inl e) = subst (λ (z : Rule). IsRule weights z) (sym e) (h 0 v (omega arith))
 rule_of weights (v ∷ rules) r h (inr m) = rule_of weights rules r (λ k d below. h (suc k) d (omega arith)) m
-
--- what is written into cells of the game's symbols is one
-pub written_cells : (symbols : List ℕ) (r : Rule) (i : ℕ) (row after : List ℕ) → AreCells symbols row → AllByRecursion (Contains symbols) r.replacement → IsPlacedAt r i row after → AreCells symbols after
-written_cells symbols r i row after h middle is =
-    let P : ℕ → Type 0 = Contains symbols in
-    let old = each_part P is.before (r.pattern ++ is.behind) (subst (λ (z : List ℕ). AllByRecursion P z) is.stands (each_cell symbols row h)) in
-    let behind = (each_part P r.pattern is.behind old.1).1 in
-    all_cells symbols after (subst (λ (z : List ℕ). AllByRecursion P z) (sym is.written) (each_joined P is.before (r.replacement ++ is.behind) old.0 (each_joined P r.replacement is.behind middle behind)))
-
-pub moves_cells : (book : Rulebook) (player : Player) (p : Grid) → IsRulebook book → is_strip_board book p ≡ true → AreCells p.symbols p.cells → All (AreCells p.symbols) (moves_by book.rules player p.cells)
-moves_cells book player p sound e h = all_from (AreCells p.symbols) (moves_by book.rules player p.cells) each
-  where
-    each : (cells : List ℕ) → In cells (moves_by book.rules player p.cells) → AreCells p.symbols cells
-    each cells m =
-        let b = board_parts book p e in
-        let is = move_is book.rules player p.cells cells m in
-        let r = rule_of book.weights book.rules is.rule sound.rules is.among in
-        written_cells p.symbols is.rule is.cell p.cells cells h (subst (λ (s : List ℕ). AllByRecursion (Contains s) is.rule.replacement) (sym b.symbols) (weighted_cells book.weights is.rule.replacement r.replacement)) is.placed

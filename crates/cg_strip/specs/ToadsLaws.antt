@@ -1,12 +1,8 @@
 -- The listed moves of Toads and Frogs are those of the game, and each lowers the sum of the weights.
-use Rattle.std.proofs.Common.{◌≡◌, ℕ, ◌<◌, ◌==◌, inl, inr, true, List, [], ◌∷◌, length, refl, sym, subst, arith}
-use Rattle.std.specs.Prelude.{All, Contains}
-use Rattle.std.specs.Str.{bytes_eq}
-use Rattle.std.specs.Cmp.Lexicographic.{bytes_decides}
-use Rattle.std.proofs.lemmas.Bool.{and_parts, lt-ltb}
+use Rattle.std.proofs.Common.{◌≡◌, ℕ, ◌<◌, inl, inr, true, List, length, refl, arith}
+use Rattle.std.proofs.lemmas.Bool.{lt-ltb}
 use Rattle.cg_moves.specs.declared.player.Player.{Player}
 use Rattle.cg_moves.specs.declared.player.Player.TheVariants.{Left, Right}
-use Rattle.cg_moves.specs.Grid.{Grid, AreCells}
 use Rattle.cg_moves.specs.Rules.{In, IsLawful}
 use Rattle.cg_moves.proofs.Members.{in-append, in-append_left, in-append_right}
 use Rattle.cg_moves.proofs.RisingLemmas.{rising-in, in-rising}
@@ -14,9 +10,7 @@ use Rattle.cg_strip.specs.Placing.{IsPlacedAt, all_placed}
 use Rattle.cg_strip.specs.Weighing.{row_weight, is_lighter}
 use Rattle.cg_strip.specs.PlacingLemmas.{below_is, below_has, placed_within}
 use Rattle.cg_strip.specs.WeighingLemmas.{lighter_lowers, room_behind}
-use Rattle.cg_moves.proofs.Members.{all_from}
-use Rattle.cg_strip.specs.StripLaws.{placed_long, written_cells}
-use Rattle.cg_strip.specs.Toads.{empty, frog, toad, Become, IsToadsMove, hops, toads_moves, toad_weights, toads_game}
+use Rattle.cg_strip.specs.Toads.{Become, IsToadsMove, hops, toads_moves, toad_weights, toads_game}
 use Rattle.cg_strip.specs.declared.rule.Rule.{Rule}
 
 -- the change as a rule of nobody's
@@ -63,41 +57,3 @@ toads_lawful = record {
   number = omega arith;
   cut = λ e. absurd cc;
 }
-
--- ---- the cells that moves lead to
-
-become_long : (old new row after : List ℕ) → length old ≡ length new → Become old new row after → length after ≡ length row
-become_long old new row after even b = placed_long (change old new) (length b.before) row after even (become_at old new row after b)
-
-move_long : (player : Player) (row after : List ℕ) → IsToadsMove player row after → length after ≡ length row
-move_long Left row after (inl b) = become_long _ _ row after refl b
-move_long Left row after (inr b) = become_long _ _ row after refl b
-move_long Right row after (inl b) = become_long _ _ row after refl b
-move_long Right row after (inr b) = become_long _ _ row after refl b
-
-pub hops_long : (player : Player) (row : List ℕ) → All (λ cells. length cells ≡ length row) (toads_moves player row)
-hops_long player row = all_from (λ cells. length cells ≡ length row) (toads_moves player row) (λ cells m. move_long player row cells (hop_is player row cells m))
-
-abbrev symbols : List ℕ
-symbols = empty ∷ toad ∷ frog ∷ []
-
-is_empty : Contains symbols empty
-is_empty = (0, omega arith, refl)
-
-is_toad : Contains symbols toad
-is_toad = (1, omega arith, refl)
-
-is_frog : Contains symbols frog
-is_frog = (2, omega arith, refl)
-
-move_cells : (player : Player) (row after : List ℕ) → AreCells symbols row → IsToadsMove player row after → AreCells symbols after
-move_cells Left row after h (inl b) = written_cells symbols (change _ _) (length b.before) row after h (is_empty, (is_toad, tt)) (become_at _ _ row after b)
-move_cells Left row after h (inr b) = written_cells symbols (change _ _) (length b.before) row after h (is_empty, (is_frog, (is_toad, tt))) (become_at _ _ row after b)
-move_cells Right row after h (inl b) = written_cells symbols (change _ _) (length b.before) row after h (is_frog, (is_empty, tt)) (become_at _ _ row after b)
-move_cells Right row after h (inr b) = written_cells symbols (change _ _) (length b.before) row after h (is_frog, (is_toad, (is_empty, tt))) (become_at _ _ row after b)
-
-pub hops_cells : (player : Player) (p : Grid) → toads_game.has p ≡ true → AreCells p.symbols p.cells → All (AreCells p.symbols) (toads_moves player p.cells)
-hops_cells player p e h =
-    let s : p.symbols ≡ symbols = (bytes_decides p.symbols symbols).0 (and_parts (p.rows == 1) (bytes_eq p.symbols symbols) e).1 in
-    subst (λ (z : List ℕ). All (AreCells z) (toads_moves player p.cells)) (sym s)
-    (all_from (AreCells symbols) (toads_moves player p.cells) (λ cells m. move_cells player p.cells cells (subst (λ (z : List ℕ). AreCells z p.cells) s h) (hop_is player p.cells cells m)))

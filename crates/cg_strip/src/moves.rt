@@ -1,9 +1,9 @@
 //! The moves of strip games.
 ghost use Rattle.std.specs.Prelude.{◌≡◌};
 
-use crate::placing::outcomes_of;
+use crate::placing::boards_of;
 use crate::strip::Strip;
-use cg_moves::{Board, Boards, Pieces, Player, Rules};
+use cg_moves::{Board, Boards, Pieces, Player, Rules, in_order};
 use std::alloc::{AllocError, Global};
 
 impl Rules for Strip {
@@ -15,11 +15,8 @@ impl Rules for Strip {
     ghost lawful = { strip_lawful };
 
     fn moves(&self, alloc: Global, board: &Board, player: Player) -> Result<Boards, AllocError> {
-        // Read for the proof alone: the board has its symbols in its cells.
-        let _size = board.size();
-        let cells = board.cells(alloc)?;
-        let outcomes = outcomes_of(alloc, self.rules(), player, cells.as_slice())?;
-        outcomes.boards(alloc, board)
+        let boards = boards_of(alloc, board, self.rules(), player)?;
+        in_order(alloc, board, &boards)
     }
 
     fn pieces(&self, _alloc: Global, _board: &Board) -> Result<Pieces, AllocError> {

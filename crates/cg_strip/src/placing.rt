@@ -1,49 +1,86 @@
-//! Rules placed in a row.
-ghost use Rattle.std.specs.Prelude.{◌≡◌, ◌<◌, ◌≤◌, length, IfOk};
-ghost use Rattle.std.specs.List.{flat_map};
-ghost use Rattle.cg_moves.specs.Rising.{with_all, rising};
-ghost use Rattle.cg_strip.specs.Placing.{placed_at, all_placed, is_same_player, placements, moves_by};
+//! Rules placed on a row.
+ghost use Rattle.std.specs.Prelude.{◌≡◌, ◌+◌, ◌++◌, ◌<◌, ◌≤◌, length, map, take, drop, nat_eq, All, IfOk};
+ghost use Rattle.std.specs.List.{flat_map, starts_with};
+ghost use Rattle.cg_moves.specs.Grid.{AreCells, with_cells};
+ghost use Rattle.cg_strip.specs.Placing.{IsChange, IsRuleOver, placed_at, all_placed, is_same_player, placements};
 
 use crate::rule::Rule;
-use cg_moves::{Outcomes, Player};
+use cg_moves::{Board, Player};
 use std::alloc::{AllocError, Global};
 
-/// Takes in the row with the replacement at this cell, if the pattern stands there.
-fn place(
-    alloc: Global,
-    pattern: &[u8],
-    replacement: &[u8],
-    row: &[u8],
-    cell: usize,
-    outcomes: &mut Outcomes,
-) -> Result<(), AllocError>
-    requires { cell ≤ length row.now }
-    ensures { IfOk result (λ _. outcomes.new ≡
-        with_all outcomes.old (placed_at pattern.now replacement.now row.now cell)) }
+/// Whether the pattern stands on the board's row at this cell and those that follow.
+fn stands_at(board: &Board, pattern: &[u8], cell: u8) -> bool
+    requires { cell < length board.now.cells }
+    ensures { result ≡ starts_with nat_eq (drop cell board.now.cells) pattern.now }
 {
-    let rest = &row[cell..];
-    if !rest.starts_with(pattern) {
-        return Ok(());
+    let room = board.size() - cell;
+    if pattern.len() > room as usize {
+        return false;
     }
-    let mut cells = row[..cell].to_vec(alloc)?;
-    cells.extend_from_slice(replacement)?;
-    cells.extend_from_slice(&rest[pattern.len()..])?;
-    outcomes.add(cells)
+    for (offset, symbol) in pattern.iter().enumerate() {
+        if board.cell(cell + offset as u8) != *symbol {
+            return false;
+        }
+    }
+    true
 }
 
-/// Takes in the row with the replacement at each cell where the pattern stands.
-pub fn place_all(
+/// The board with the replacement at this cell and those that follow.
+fn written_at(
     alloc: Global,
+    board: &Board,
+    replacement: &[u8],
+    cell: u8,
+) -> Result<Board, AllocError>
+    requires fits { cell + length replacement.now ≤ length board.now.cells }
+    requires symbols { AreCells board.now.symbols replacement.now }
+    ensures { IfOk result (λ after. after ≡ with_cells board.now
+        (take cell board.now.cells ++ (replacement.now ++ drop (cell + length replacement.now) board.now.cells))) }
+{
+    // Read for the proof alone: the board has at most 64 cells.
+    let _size = board.size();
+    let mut after = board.copy(alloc)?;
+    for (offset, symbol) in replacement.iter().enumerate() {
+        after.set(cell + offset as u8, *symbol);
+    }
+    Ok(after)
+}
+
+/// Puts the board with the replacement at this cell behind the boards, if the pattern stands there.
+fn place(
+    alloc: Global,
+    board: &Board,
     pattern: &[u8],
     replacement: &[u8],
-    row: &[u8],
-    outcomes: &mut Outcomes,
+    cell: u8,
+    boards: &mut Vec<Board>,
 ) -> Result<(), AllocError>
-    ensures { IfOk result (λ _. outcomes.new ≡
-        with_all outcomes.old (all_placed pattern.now replacement.now row.now)) }
+    requires inside { cell < length board.now.cells }
+    requires change { IsChange board.now.symbols pattern.now replacement.now }
+    ensures { IfOk result (λ _. boards.new.items ≡ boards.old.items
+        ++ map (with_cells board.now) (placed_at pattern.now replacement.now board.now.cells cell)) }
 {
-    for cell in 0..row.len() {
-        place(alloc, pattern, replacement, row, cell, outcomes)?;
+    if stands_at(board, pattern, cell) {
+        let after = written_at(alloc, board, replacement, cell)?;
+        boards.push(after)?;
+    }
+    Ok(())
+}
+
+/// Puts the boards with the replacement at each cell where the pattern stands behind the boards.
+pub fn place_all(
+    alloc: Global,
+    board: &Board,
+    pattern: &[u8],
+    replacement: &[u8],
+    boards: &mut Vec<Board>,
+) -> Result<(), AllocError>
+    requires { IsChange board.now.symbols pattern.now replacement.now }
+    ensures { IfOk result (λ _. boards.new.items ≡ boards.old.items
+        ++ map (with_cells board.now) (all_placed pattern.now replacement.now board.now.cells)) }
+{
+    for cell in 0..board.size() {
+        place(alloc, board, pattern, replacement, cell, boards)?;
     }
     Ok(())
 }
@@ -58,23 +95,24 @@ fn is_same(player: Player, other: Player) -> bool
     }
 }
 
-/// What the player's rules make of the row.
-#[tactic(auto, unfolding(cg_moves::specs::Rising::rising))]
-pub fn outcomes_of(
+/// The boards that the player's rules make of the board, rule by rule.
+pub fn boards_of(
     alloc: Global,
+    board: &Board,
     rules: &[Rule],
     player: Player,
-    row: &[u8],
-) -> Result<Outcomes, AllocError>
-    ensures { IfOk result (λ outcomes. outcomes ≡ moves_by rules.now player row.now) }
+) -> Result<Vec<Board>, AllocError>
+    requires { All (IsRuleOver board.now.symbols) rules.now }
+    ensures { IfOk result (λ boards. boards.items ≡
+        map (with_cells board.now) (flat_map (placements player board.now.cells) rules.now)) }
 {
-    let mut outcomes = Outcomes::new(alloc);
+    let mut boards = Vec::new(alloc);
     for rule in rules {
         if is_same(rule.player, player) {
             let pattern = rule.pattern.as_slice();
             let replacement = rule.replacement.as_slice();
-            place_all(alloc, pattern, replacement, row, &mut outcomes)?;
+            place_all(alloc, board, pattern, replacement, &mut boards)?;
         }
     }
-    Ok(outcomes)
+    Ok(boards)
 }

@@ -1,33 +1,35 @@
 //! Toads and Frogs.
-ghost use Rattle.std.specs.Prelude.{◌≡◌, IfOk, IfErr};
-ghost use Rattle.cg_strip.specs.Toads.{toads_moves};
+ghost use Rattle.std.specs.Prelude.{◌≡◌, map, true, IfOk, IfErr};
+ghost use Rattle.cg_moves.specs.Grid.{with_cells};
+ghost use Rattle.cg_strip.specs.Toads.{hops, toads_game};
 ghost use Rattle.cg_strip.specs.ToadsBoards.{IsToadsBoard, IsNoToadsBoard};
 
 use crate::placing::place_all;
-use cg_moves::{Board, BoardFault, Boards, Outcomes, Pieces, Player, Rules, read_grid};
+use cg_moves::{Board, BoardFault, Boards, Pieces, Player, Rules, in_order, read_grid};
 use std::alloc::{AllocError, Global};
 
 /// Toads and Frogs: toads, which are Left's, step and jump to the right, and frogs, which are Right's, to the left.
 #[derive(Clone, Copy, Debug, PartialEq, Eq)]
 pub struct Toads;
 
-/// What the player's moves make of the row.
-#[tactic(auto, unfolding(cg_moves::specs::Rising::rising))]
-fn hops(alloc: Global, player: Player, row: &[u8]) -> Result<Outcomes, AllocError>
-    ensures { IfOk result (λ outcomes. outcomes ≡ toads_moves player row.now) }
+/// The boards after the player's moves, steps first.
+fn hops(alloc: Global, board: &Board, player: Player) -> Result<Vec<Board>, AllocError>
+    requires { toads_game.has board.now ≡ true }
+    ensures { IfOk result (λ boards. boards.items ≡
+        map (with_cells board.now) (hops player board.now.cells)) }
 {
-    let mut outcomes = Outcomes::new(alloc);
+    let mut boards = Vec::new(alloc);
     match player {
         Player::Left => {
-            place_all(alloc, b"T.", b".T", row, &mut outcomes)?;
-            place_all(alloc, b"TF.", b".FT", row, &mut outcomes)?;
+            place_all(alloc, board, b"T.", b".T", &mut boards)?;
+            place_all(alloc, board, b"TF.", b".FT", &mut boards)?;
         }
         Player::Right => {
-            place_all(alloc, b".F", b"F.", row, &mut outcomes)?;
-            place_all(alloc, b".TF", b"FT.", row, &mut outcomes)?;
+            place_all(alloc, board, b".F", b"F.", &mut boards)?;
+            place_all(alloc, board, b".TF", b"FT.", &mut boards)?;
         }
     }
-    Ok(outcomes)
+    Ok(boards)
 }
 
 impl Rules for Toads {
@@ -39,11 +41,8 @@ impl Rules for Toads {
     ghost lawful = { λ _. toads_lawful };
 
     fn moves(&self, alloc: Global, board: &Board, player: Player) -> Result<Boards, AllocError> {
-        // Read for the proof alone: the board has its symbols in its cells.
-        let _size = board.size();
-        let cells = board.cells(alloc)?;
-        let outcomes = hops(alloc, player, cells.as_slice())?;
-        outcomes.boards(alloc, board)
+        let boards = hops(alloc, board, player)?;
+        in_order(alloc, board, &boards)
     }
 
     fn pieces(&self, _alloc: Global, _board: &Board) -> Result<Pieces, AllocError> {

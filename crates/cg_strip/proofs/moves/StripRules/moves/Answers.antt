@@ -1,16 +1,25 @@
-use Rattle.std.proofs.Common.{◌≡◌, List, ℕ, length, ap, sym, subst, ◌∙◌}
-use Rattle.std.specs.Prelude.{All}
-use Rattle.cg_moves.specs.Grid.{AreCells}
-use Rattle.cg_strip.specs.Placing.{moves_by}
-use Rattle.cg_strip.specs.StripLaws.{moves_cells, moves_long}
+use Rattle.std.proofs.Common.{ap, map, ◌∙◌}
+use Rattle.std.specs.List.{flat_map}
+use Rattle.cg_moves.specs.Grid.{with_cells}
+use Rattle.cg_moves.proofs.Carried.{ok_along}
+use Rattle.cg_strip.specs.Placing.{placements}
+use Rattle.cg_strip.proofs.Changes.{all_like, in_their_order, rules_over}
 use Rattle.cg_strip.proofs.moves.StripRules.moves.Goals as goal
 
-pub boards-requires-clause-cells : goal.boards-requires-clause-cells
-boards-requires-clause-cells c =
-    let same : c.in_ok-outcomes.outcomes ≡ moves_by c.args.self.now.rules c.args.player c.args.board.now.cells = c.in_ok-outcomes.ensures ∙ ap (λ rules. moves_by rules c.args.player c.as_slice.result.now) c.rules.ensures.value ∙ ap (λ row. moves_by c.args.self.now.rules c.args.player row) (c.as_slice.ensures ∙ c.in_ok-cells.ensures.value) in
-    subst (λ (xs : List (List ℕ)). All (AreCells c.args.board.now.symbols) xs) (sym same) (moves_cells c.args.self.now c.args.player c.args.board.now c.rules.ensures.sound c.requires c.size-size.ensures.grid.cells)
+pub boards_of-requires : goal.boards_of-requires
+boards_of-requires c =
+    rules_over c.args.self.now c.args.board.now c.rules.result.now c.rules.ensures.value c.rules.ensures.sound c.requires
 
-pub boards-requires-clause-size : goal.boards-requires-clause-size
-boards-requires-clause-size c =
-    let same : c.in_ok-outcomes.outcomes ≡ moves_by c.args.self.now.rules c.args.player c.args.board.now.cells = c.in_ok-outcomes.ensures ∙ ap (λ rules. moves_by rules c.args.player c.as_slice.result.now) c.rules.ensures.value ∙ ap (λ row. moves_by c.args.self.now.rules c.args.player row) (c.as_slice.ensures ∙ c.in_ok-cells.ensures.value) in
-    subst (λ (xs : List (List ℕ)). All (λ cells. length cells ≡ length c.args.board.now.cells) xs) (sym same) (moves_long c.args.self.now c.args.player c.args.board.now c.requires)
+pub in_order-requires : goal.in_order-requires
+in_order-requires c =
+    all_like c.args.board.now _ c.in_ok-boards.boards.items c.deref.result.now c.deref.ensures.value c.in_ok-boards.ensures
+
+pub returns : goal.returns
+returns c =
+    let each = placements c.args.player c.args.board.now.cells in
+    let made = c.in_ok-boards.ensures
+    ∙ ap (λ rules. map (with_cells c.args.board.now) (flat_map each rules)) c.rules.ensures.value in
+    ok_along c.in_order.result _ _
+    (in_their_order c.args.board.now (flat_map each c.args.self.now.rules) c.in_ok-boards.boards.items c.deref.result.now
+    c.deref.ensures.value made)
+    c.in_order.ensures
