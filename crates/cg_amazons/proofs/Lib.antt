@@ -1,4 +1,5 @@
 pub mod CellBits
 pub mod RayLines
 pub mod Taken
+pub mod QueenMoves
 pub mod ReadLemmas

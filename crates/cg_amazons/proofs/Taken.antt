@@ -1,6 +1,6 @@
--- What queens and arrows make of the cells, taken in.
-use Rattle.std.proofs.Common.{◌≡◌, ◌≢◌, ◌↔◌, refl, true, false, ℕ, ◌+◌, ◌*◌, ◌<◌, ◌≤◌, ◌==◌, inl, inr, List, [], ◌∷◌, length, ap, sym, ◌∙◌, subst, arith, get_or-set_other, get_or-set_same, length-set}
-use Rattle.std.specs.Prelude.{Contains, if◌then◌else◌, slice_index, slice_set}
+-- Boards that are put behind others, and what they are in their order.
+use Rattle.std.proofs.Common.{◌≡◌, ◌≢◌, refl, true, ℕ, suc, ◌+◌, ◌≤◌, inl, inr, List, [], ◌∷◌, ◌++◌, length, ap, sym, ◌∙◌, subst, arith}
+use Rattle.std.specs.Prelude.{All, Contains}
 use Rattle.std.specs.Cmp.Lexicographic.{bytes_decides}
 use Rattle.std.specs.Int.{bit_at}
 use Rattle.std.specs.List.{AllByRecursion}
@@ -8,25 +8,19 @@ use Rattle.std.specs.List.Sorted.{IsStrictlySortedBy}
 use Rattle.std.specs.Ordering.{ordering_reverse}
 use Rattle.std.specs.Cmp.{IsTotalOrder}
 use Rattle.std.specs.declared.cmp.Ordering.TheVariants.{Less, Greater}
-use Rattle.std.proofs.lemmas.Bool.{eq-eqb, eqb-true}
 use Rattle.std.proofs.lemmas.Bool.Decides.{eqb_tells}
 use Rattle.std.proofs.lemmas.Cmp.{nat_list_cmp_total}
+use Rattle.std.proofs.lemmas.List.{map-append}
 use Rattle.cg_moves.specs.declared.player.Player.{Player}
 use Rattle.cg_moves.specs.declared.player.Player.TheVariants.{Left, Right}
-use Rattle.cg_moves.specs.Grid.{Grid}
+use Rattle.cg_moves.specs.Grid.{Grid, IsLike, with_cells}
 use Rattle.cg_moves.specs.Rules.{In}
-use Rattle.cg_moves.specs.Rising.{IsRising, bytes_cmp, with_one}
-use Rattle.cg_moves.specs.Words.{IsWithBit, Marks}
-use Rattle.cg_moves.proofs.Members.{carry}
-use Rattle.cg_moves.proofs.RisingLemmas.{in_with_one, in-rising, kept_with_one, rises_with_one, rises-none, rising-in, rising-rises}
-use Rattle.cg_amazons.specs.Amazons.{Reaches, amazons, amazons_moves, blocked, empty, is_empty, moves_below, queen, with_queen}
-use Rattle.cg_amazons.specs.AmazonsLaws.{within}
-use Rattle.cg_amazons.specs.AmazonsMoves.{IsMoveBelow, IsQueenMove, IsShot, below_has, below_is, reach_within}
-use Rattle.cg_amazons.specs.Rays.{AreQueenWords, cells_of}
+use Rattle.cg_moves.specs.Rising.{IsRising, bytes_cmp, cells_of, rising}
+use Rattle.cg_moves.proofs.Members.{all_from, carry, in-append, in-append_left, in-append_right, in_one}
+use Rattle.cg_moves.proofs.RisingLemmas.{in-rising, rising-in, rising-rises}
+use Rattle.cg_amazons.specs.Amazons.{amazons, amazons_moves, blocked, empty, moves_below, queen}
+use Rattle.cg_amazons.specs.AmazonsMoves.{IsMoveBelow, below_has, below_is}
 use Rattle.cg_amazons.specs.Taking.{AnyMarked, IfMarked, Takes}
-use Rattle.cg_amazons.specs.declared.queens.QueenWords.{QueenWords}
-use Rattle.cg_amazons.proofs.CellBits.{mark_has, mark_is}
-use Rattle.cg_amazons.proofs.RayLines.{free_has, free_is, long, reaches_same}
 
 -- ---- lists that rise with the same members
 
@@ -76,58 +70,78 @@ same-list (x ∷ xs) (y ∷ ys) a b f g =
 
 -- ---- what is taken in
 
-pub takes_none : (xs : List (List ℕ)) (word : ℕ) (Kind : ℕ → List ℕ → Type 0) (i : ℕ) → bit_at word i ≡ 0
-    → Takes xs xs (IfMarked word Kind i)
-takes_none xs word Kind i none = record {
-  rises = λ r. r;
+in_all : {X : Type 0} (P : X → Type 0) (x : X) (xs : List X) → All P xs → In x xs → P x
+in_all {X} P x [] all m = absurd m
+in_all {X} P x (y ∷ ys) all (inl e) = subst (λ (z : X). P z) (sym e) (all 0 y (omega arith))
+in_all {X} P x (y ∷ ys) all (inr m) = in_all P x ys (λ k d below. all (suc k) d (omega arith)) m
+
+pub takes_none : (p : Grid) (xs : List Grid) (word : ℕ) (Kind : ℕ → List ℕ → Type 0) (i : ℕ) → bit_at word i ≡ 0
+    → Takes p xs xs (IfMarked word Kind i)
+takes_none p xs word Kind i none = record {
+  like = λ r. r;
   kept = λ z m. m;
   taken = λ z k. absurd (let one = k.0 in omega arith);
   only = λ z m. inl m;
 }
 
-pub takes_if : (old new : List (List ℕ)) (word : ℕ) (Kind : ℕ → List ℕ → Type 0) (i : ℕ) → bit_at word i ≡ 1
-    → Takes old new (Kind i) → Takes old new (IfMarked word Kind i)
-takes_if old new word Kind i one t = record {
-  rises = t.rises;
+pub takes_if : (p : Grid) (old new : List Grid) (word : ℕ) (Kind : ℕ → List ℕ → Type 0) (i : ℕ) → bit_at word i ≡ 1
+    → Takes p old new (Kind i) → Takes p old new (IfMarked word Kind i)
+takes_if p old new word Kind i one t = record {
+  like = t.like;
   kept = t.kept;
   taken = λ z k. t.taken z k.1;
   only = λ z m. elim (t.only z m) [ inl n ↦ inl n | inr k ↦ inr (one, k) ];
 }
 
-pub takes_one : (old new : List (List ℕ)) (x : List ℕ) → new ≡ with_one old x → Takes old new (λ z. z ≡ x)
-takes_one old new x e =
-    let P : List (List ℕ) → Type 0 = λ z. Takes old z (λ z. z ≡ x) in
-    subst P (sym e) (record {
-      rises = rises_with_one old x;
-      kept = λ z m. kept_with_one old x z (inl m);
-      taken = λ z k. kept_with_one old x z (inr k);
-      only = in_with_one old x;
+pub takes_one : (p b : Grid) (old new : List Grid) (x : List ℕ) → b ≡ with_cells p x → new ≡ old ++ (b ∷ [])
+    → Takes p old new (λ z. z ≡ x)
+takes_one p b old new x made put =
+    let P : List Grid → Type 0 = λ z. Takes p old z (λ z. z ≡ x) in
+    subst P (sym (put ∙ ap (λ (q : Grid). old ++ (q ∷ [])) made)) (record {
+      like = λ all. all_from (IsLike p) (old ++ (with_cells p x ∷ [])) (λ q m. elim (in-append q old (with_cells p x ∷ []) m) [
+        | inl n ↦ in_all (IsLike p) q old all n
+        | inr n ↦ (let Q : Grid → Type 0 = λ r. IsLike p r in subst Q (sym (in_one q (with_cells p x) n)) refl)
+      ]);
+      kept = λ z m. carry z (cells_of old ++ (x ∷ [])) (cells_of (old ++ (with_cells p x ∷ []))) (sym cells) (in-append_left z (cells_of old) (x ∷ []) m);
+      taken = λ z k. carry z (cells_of old ++ (x ∷ [])) (cells_of (old ++ (with_cells p x ∷ []))) (sym cells) (in-append_right z (cells_of old) (x ∷ []) (inl k));
+      only = λ z m. elim (in-append z (cells_of old) (x ∷ []) (carry z (cells_of (old ++ (with_cells p x ∷ []))) (cells_of old ++ (x ∷ [])) cells m)) [
+        | inl n ↦ inl n
+        | inr n ↦ inr (in_one z x n)
+      ];
     })
+  where
+    cells : cells_of (old ++ (with_cells p x ∷ [])) ≡ cells_of old ++ (x ∷ [])
+    cells = map-append (λ (q : Grid). q.cells) old (with_cells p x ∷ [])
+
+-- of a board that is like another
+pub takes_like : (p : Grid) (cells : List ℕ) (old new : List Grid) (Kind : List ℕ → Type 0)
+    → Takes (with_cells p cells) old new Kind → Takes p old new Kind
+takes_like p cells old new Kind t = record { like = t.like; kept = t.kept; taken = t.taken; only = t.only }
 
 -- of a kind that is the same
-pub takes_same : (old new : List (List ℕ)) (P Q : List ℕ → Type 0) → ((z : List ℕ) → P z → Q z)
-    → ((z : List ℕ) → Q z → P z) → Takes old new P → Takes old new Q
-takes_same old new P Q f g t = record {
-  rises = t.rises;
+pub takes_same : (p : Grid) (old new : List Grid) (P Q : List ℕ → Type 0) → ((z : List ℕ) → P z → Q z)
+    → ((z : List ℕ) → Q z → P z) → Takes p old new P → Takes p old new Q
+takes_same p old new P Q f g t = record {
+  like = t.like;
   kept = t.kept;
   taken = λ z k. t.taken z (g z k);
   only = λ z m. elim (t.only z m) [ inl n ↦ inl n | inr k ↦ inr (f z k) ];
 }
 
 -- place after place
-pub takes_start : (xs : List (List ℕ)) (word : ℕ) (Kind : ℕ → List ℕ → Type 0) → Takes xs xs (AnyMarked word Kind 0)
-takes_start xs word Kind = record {
-  rises = λ r. r;
+pub takes_start : (p : Grid) (xs : List Grid) (word : ℕ) (Kind : ℕ → List ℕ → Type 0) → Takes p xs xs (AnyMarked word Kind 0)
+takes_start p xs word Kind = record {
+  like = λ r. r;
   kept = λ z m. m;
   taken = λ z k. absurd (let l = k.below in omega arith);
   only = λ z m. inl m;
 }
 
-pub takes_next : (old now new : List (List ℕ)) (word : ℕ) (Kind : ℕ → List ℕ → Type 0) (i : ℕ)
-    → Takes old now (AnyMarked word Kind i) → Takes now new (IfMarked word Kind i)
-    → Takes old new (AnyMarked word Kind (i + 1))
-takes_next old now new word Kind i t s = record {
-  rises = λ r. s.rises (t.rises r);
+pub takes_next : (p : Grid) (old now new : List Grid) (word : ℕ) (Kind : ℕ → List ℕ → Type 0) (i : ℕ)
+    → Takes p old now (AnyMarked word Kind i) → Takes p now new (IfMarked word Kind i)
+    → Takes p old new (AnyMarked word Kind (i + 1))
+takes_next p old now new word Kind i t s = record {
+  like = λ r. s.like (t.like r);
   kept = λ z m. s.kept z (t.kept z m);
   taken = taken;
   only = λ z m. elim (s.only z m) [
@@ -139,133 +153,33 @@ takes_next old now new word Kind i t s = record {
     earlier : (z : List ℕ) → AnyMarked word Kind i z → AnyMarked word Kind (i + 1) z
     earlier z k = record { place = k.place; below = (let l = k.below in omega arith); is = k.is }
 
-    taken : (z : List ℕ) → AnyMarked word Kind (i + 1) z → In z new
+    taken : (z : List ℕ) → AnyMarked word Kind (i + 1) z → In z (cells_of new)
     taken z k = elim (eqb_tells k.place i) [
       | inl h ↦ s.taken z (let P : ℕ → Type 0 = λ n. IfMarked word Kind n z in subst P h.1 k.is)
       | inr h ↦ s.kept z (t.taken z (record { place = k.place; below = (let l = k.below in let n = h.1 in omega arith); is = k.is }))
     ]
 
-pub takes_all : (old new : List (List ℕ)) (word : ℕ) (Kind : ℕ → List ℕ → Type 0) (i n : ℕ) → i ≡ n
-    → Takes old new (AnyMarked word Kind i) → Takes old new (AnyMarked word Kind n)
-takes_all old new word Kind i n e t =
-    let P : ℕ → Type 0 = λ k. Takes old new (AnyMarked word Kind k) in subst P e t
+pub takes_all : (p : Grid) (old new : List Grid) (word : ℕ) (Kind : ℕ → List ℕ → Type 0) (i n : ℕ) → i ≡ n
+    → Takes p old new (AnyMarked word Kind i) → Takes p old new (AnyMarked word Kind n)
+takes_all p old new word Kind i n e t =
+    let P : ℕ → Type 0 = λ k. Takes p old new (AnyMarked word Kind k) in subst P e t
 
--- ---- shots
+-- ---- boards of the game
 
-pub shots_taken : (columns : ℕ) (cells : List ℕ) (free targets n from : ℕ) (old new : List (List ℕ))
-    → length cells ≡ n → Marks free (is_empty cells)
-    → ((to : ℕ) → (bit_at targets to ≡ 1) ↔ Reaches columns (cells_of free n) from to)
-    → Takes old new (AnyMarked targets (λ place after. after ≡ slice_set cells place blocked) (length cells))
-    → Takes old new (IsShot columns cells from)
-shots_taken columns cells free targets n from old new size are reach t =
-    takes_same old new (AnyMarked targets (λ place after. after ≡ slice_set cells place blocked) (length cells))
-    (IsShot columns cells from)
-    (λ z k. record { target = k.place; shot = there k.place ((reach k.place).0 k.is.0); written = k.is.1 })
-    (λ z s. record {
-      place = s.target;
-      below = reach_within columns cells from s.target s.shot;
-      is = ((reach s.target).1 (back s.target s.shot), s.written);
-    }) t
-  where
-    long-of : length (cells_of free n) ≡ length cells
-    long-of = long free n ∙ sym size
+has-symbol : (p : Grid) (q : ℕ) → amazons.has p ≡ true → Contains (empty ∷ queen Left ∷ queen Right ∷ blocked ∷ []) q
+    → Contains p.symbols q
+has-symbol p q has is =
+    let P : List ℕ → Type 0 = λ z. Contains z q in
+    subst P (sym ((bytes_decides p.symbols (empty ∷ queen Left ∷ queen Right ∷ blocked ∷ [])).0 has)) is
 
-    there : (to : ℕ) → Reaches columns (cells_of free n) from to → Reaches columns cells from to
-    there to = reaches_same columns (cells_of free n) cells from to long-of
-        (λ i e. mark_is free (is_empty cells) i are (free_is free n i e).1)
+pub has-empty : (p : Grid) → amazons.has p ≡ true → Contains p.symbols empty
+has-empty p has = has-symbol p empty has (0, omega arith, refl)
 
-    back : (to : ℕ) → Reaches columns cells from to → Reaches columns (cells_of free n) from to
-    back to = reaches_same columns cells (cells_of free n) from to (sym long-of)
-        (λ i e. free_has free n i (let l = within cells i e in omega arith) (mark_has free (is_empty cells) i are e))
-
--- the empty cells after a queen's move
-pub free_moved : (cells : List ℕ) (free left after from to q : ℕ) → from < length cells → to < length cells → q ≢ empty
-    → Marks free (is_empty cells) → IsWithBit free left from 1 → IsWithBit left after to 0
-    → Marks after (is_empty (with_queen cells from to q))
-free_moved cells free left after from to q inside there other are first second i =
-    second i ∙ elim (eqb_tells i to) [
-      | inl h ↦ (let here : is_empty (with_queen cells from to q) i ≡ false = ap (is_empty (with_queen cells from to q)) h.1
-          ∙ ap (λ s. s == empty) (get_or-set_same (slice_set cells from empty) to q 0 (let k = length-set cells from empty in omega arith))
-          ∙ not_empty in
-          ap (λ t. if t then 0 else bit_at left i) h.0 ∙ ap (λ t. if t then 1 else 0) (sym here))
-      | inr h ↦ ap (λ t. if t then 0 else bit_at left i) h.0 ∙ first i
-          ∙ elim (eqb_tells i from) [
-            | inl k ↦ (let here : is_empty (with_queen cells from to q) i ≡ true = ap (λ s. s == empty)
-                (get_or-set_other (slice_set cells from empty) to i q 0 h.1
-                ∙ ap (slice_index (slice_set cells from empty)) k.1 ∙ get_or-set_same cells from empty 0 inside) in
-                ap (λ t. if t then 1 else bit_at free i) k.0 ∙ ap (λ t. if t then 1 else 0) (sym here))
-            | inr k ↦ (let same : is_empty (with_queen cells from to q) i ≡ is_empty cells i = ap (λ s. s == empty)
-                (get_or-set_other (slice_set cells from empty) to i q 0 h.1 ∙ get_or-set_other cells from i empty 0 k.1) in
-                ap (λ t. if t then 1 else bit_at free i) k.0 ∙ are i ∙ ap (λ t. if t then 1 else 0) (sym same))
-          ]
-    ]
-  where
-    not_empty : (q == empty) ≡ false
-    not_empty = elim (eqb_tells q empty) [ inl h ↦ absurd (other h.1) | inr h ↦ h.0 ]
-
--- ---- one queen, and all
-
-pub queen_taken : (cells : List ℕ) (w : QueenWords) (places from : ℕ) (old new : List (List ℕ)) → AreQueenWords cells w
-    → ((to : ℕ) → (bit_at places to ≡ 1) ↔ Reaches w.shape.columns (cells_of w.free (w.shape.rows * w.shape.columns)) from to)
-    → Takes old new (AnyMarked places
-    (λ place. IsShot w.shape.columns (with_queen cells from place w.queen) place) (length cells))
-    → Takes old new (IsQueenMove w.shape.columns w.queen cells from)
-queen_taken cells w places from old new are reach t =
-    takes_same old new
-    (AnyMarked places (λ place. IsShot w.shape.columns (with_queen cells from place w.queen) place) (length cells))
-    (IsQueenMove w.shape.columns w.queen cells from)
-    (λ z k. record { to = k.place; moved = there k.place ((reach k.place).0 k.is.0); shot = k.is.1 })
-    (λ z s. record {
-      place = s.to;
-      below = reach_within w.shape.columns cells from s.to s.moved;
-      is = ((reach s.to).1 (back s.to s.moved), s.shot);
-    }) t
-  where
-    n : ℕ
-    n = w.shape.rows * w.shape.columns
-
-    long-of : length (cells_of w.free (w.shape.rows * w.shape.columns)) ≡ length cells
-    long-of = long w.free (w.shape.rows * w.shape.columns) ∙ sym are.size
-
-    there : (to : ℕ) → Reaches w.shape.columns (cells_of w.free (w.shape.rows * w.shape.columns)) from to
-        → Reaches w.shape.columns cells from to
-    there to = reaches_same w.shape.columns (cells_of w.free (w.shape.rows * w.shape.columns)) cells from to long-of
-        (λ i e. mark_is w.free (is_empty cells) i are.free (free_is w.free (w.shape.rows * w.shape.columns) i e).1)
-
-    below : (i : ℕ) → is_empty cells i ≡ true → i < w.shape.rows * w.shape.columns
-    below i e = let l = within cells i e in let k = are.size in omega arith
-
-    back : (to : ℕ) → Reaches w.shape.columns cells from to
-        → Reaches w.shape.columns (cells_of w.free (w.shape.rows * w.shape.columns)) from to
-    back to = reaches_same w.shape.columns cells (cells_of w.free (w.shape.rows * w.shape.columns)) from to (sym long-of)
-        (λ i e. free_has w.free (w.shape.rows * w.shape.columns) i (below i e) (mark_has w.free (is_empty cells) i are.free e))
-
-pub all_queens_taken : (cells : List ℕ) (w : QueenWords) (old new : List (List ℕ)) → AreQueenWords cells w
-    → Takes old new (AnyMarked w.queens (IsQueenMove w.shape.columns w.queen cells) (length cells))
-    → Takes old new (IsMoveBelow w.shape.columns w.queen cells (length cells))
-all_queens_taken cells w old new are t =
-    takes_same old new (AnyMarked w.queens (IsQueenMove w.shape.columns w.queen cells) (length cells))
-    (IsMoveBelow w.shape.columns w.queen cells (length cells))
-    (λ z k. record {
-      from = k.place;
-      below = k.below;
-      own = eqb-true (slice_index cells k.place) w.queen (mark_is w.queens (λ i. slice_index cells i == w.queen) k.place are.queens k.is.0);
-      moves = k.is.1;
-    })
-    (λ z m. record {
-      place = m.from;
-      below = m.below;
-      is = (
-        mark_has w.queens (λ i. slice_index cells i == w.queen) m.from are.queens
-            (eq-eqb (slice_index cells m.from) w.queen m.own),
-        m.moves,
-      );
-    }) t
+pub has-blocked : (p : Grid) → amazons.has p ≡ true → Contains p.symbols blocked
+has-blocked p has = has-symbol p blocked has (3, omega arith, refl)
 
 pub has-queen : (player : Player) (p : Grid) (q : ℕ) → amazons.has p ≡ true → q ≡ queen player → Contains p.symbols q
-has-queen player p q has e =
-    let P : List ℕ → Type 0 = λ z. Contains z q in
-    subst P (sym ((bytes_decides p.symbols (empty ∷ queen Left ∷ queen Right ∷ blocked ∷ [])).0 has)) (of player e)
+has-queen player p q has e = has-symbol p q has (of player e)
   where
     of : (player : Player) → q ≡ queen player → Contains (empty ∷ queen Left ∷ queen Right ∷ blocked ∷ []) q
     of Left f = (1, omega arith, sym f)
@@ -276,34 +190,28 @@ queen-other Left q e f = omega (arith, e, f)
 queen-other Right q e f = omega (arith, e, f)
 
 -- all that is taken in are the moves
-pub listed : (player : Player) (p : Grid) (columns q : ℕ) (cells : List ℕ) (old new : List (List ℕ)) → 1 ≤ columns
-    → columns ≡ p.columns → q ≡ queen player → cells ≡ p.cells → old ≡ []
-    → Takes old new (IsMoveBelow columns q cells (length cells)) → new ≡ amazons_moves player p
-listed player p columns q cells old new some c k r none t =
-    same-list new (amazons_moves player p) (t.rises (let P : List (List ℕ) → Type 0 = IsRising in subst P (sym none) rises-none))
-    (rising-rises (moves_below p.columns (queen player) p.cells (length p.cells))) onto back
+pub listed : (player : Player) (p : Grid) (boards : List Grid) → 1 ≤ p.columns
+    → Takes p [] boards (IsMoveBelow p.columns (queen player) p.cells (length p.cells))
+    → rising (cells_of boards) ≡ amazons_moves player p
+listed player p boards some t =
+    same-list (rising (cells_of boards)) (amazons_moves player p) (rising-rises (cells_of boards)) (rising-rises moves) onto back
   where
     moves : List (List ℕ)
-    moves = moves_below columns q cells (length cells)
+    moves = moves_below p.columns (queen player) p.cells (length p.cells)
 
-    same : moves_below columns q cells (length cells) ≡ moves_below p.columns (queen player) p.cells (length p.cells)
-    same = ap (λ z. moves_below z q cells (length cells)) c ∙ ap (λ z. moves_below p.columns z cells (length cells)) k
-        ∙ ap (λ z. moves_below p.columns (queen player) z (length z)) r
-
-    no : (xs : List (List ℕ)) (z : List ℕ) → xs ≡ [] → In z xs → ⊥
-    no [] z e m = m
-    no (x ∷ xs) z e m = cc
-
-    onto : (z : List ℕ) → In z new → In z (amazons_moves player p)
-    onto z m = elim (t.only z m) [
-      | inl o ↦ absurd (no old z none o)
-      | inr i ↦ in-rising (moves_below p.columns (queen player) p.cells (length p.cells)) z
-          (carry z (moves_below columns q cells (length cells)) (moves_below p.columns (queen player) p.cells (length p.cells)) same
-          (below_has columns q cells (length cells) z some (omega arith) i))
+    onto : (z : List ℕ) → In z (rising (cells_of boards)) → In z (amazons_moves player p)
+    onto z m = elim (t.only z (rising-in (cells_of boards) z m)) [
+      | inl o ↦ absurd o
+      | inr i ↦ in-rising moves z (below_has p.columns (queen player) p.cells (length p.cells) z some (omega arith) i)
     ]
 
-    back : (z : List ℕ) → In z (amazons_moves player p) → In z new
+    back : (z : List ℕ) → In z (amazons_moves player p) → In z (rising (cells_of boards))
     back z m =
-        t.taken z (below_is columns q cells (length cells) z
-        (carry z (moves_below p.columns (queen player) p.cells (length p.cells)) (moves_below columns q cells (length cells))
-        (sym same) (rising-in (moves_below p.columns (queen player) p.cells (length p.cells)) z m)))
+        in-rising (cells_of boards) z
+        (t.taken z (below_is p.columns (queen player) p.cells (length p.cells) z (rising-in moves z m)))
+
+pub all_like : (player : Player) (p : Grid) (boards slice : List Grid) → slice ≡ boards
+    → Takes p [] boards (IsMoveBelow p.columns (queen player) p.cells (length p.cells)) → All (IsLike p) slice
+all_like player p boards slice same t =
+    let P : List Grid → Type 0 = λ z. All (IsLike p) z in
+    subst P (sym same) (t.like (λ k d below. absurd (omega arith)))

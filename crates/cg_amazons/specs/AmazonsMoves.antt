@@ -1,17 +1,15 @@
 -- All moves of Amazons.
 use Rattle.std.proofs.Common.{◌≡◌, ◌≢◌, ℕ, zero, suc, ◌+◌, ◌<◌, ◌≤◌, ◌==◌, ◌⊎◌, inl, inr, Bool, true, false, cond, leb, List, [], ◌∷◌, length, refl, ap, sym, subst, ◌∙◌, arith, eqb-true, eq-eqb, get_or-set_other}
-use Rattle.std.specs.Prelude.{All, Contains, slice_index, slice_set, if◌then◌else◌}
+use Rattle.std.specs.Prelude.{slice_index, slice_set, if◌then◌else◌}
 use Rattle.std.specs.List.{flat_map}
-use Rattle.std.specs.Cmp.Lexicographic.{bytes_decides}
 use Rattle.std.proofs.lemmas.Bool.{leb-true, leb-false}
 use Rattle.std.proofs.lemmas.List.{length-set}
 use Rattle.std.proofs.lemmas.List.Sums.{sum_by-cons}
 use Rattle.cg_moves.specs.declared.player.Player.{Player}
 use Rattle.cg_moves.specs.declared.player.Player.TheVariants.{Left, Right}
-use Rattle.cg_moves.specs.Grid.{Grid, AreCells}
+use Rattle.cg_moves.specs.Grid.{Grid}
 use Rattle.cg_moves.specs.Rules.{In, IsLawful}
-use Rattle.cg_moves.proofs.GridFacts.{set-cells}
-use Rattle.cg_moves.proofs.Members.{all_from, in-append, in-append_left, in-append_right, in-flat_map, in_flat_mapped, in-map, in_mapped}
+use Rattle.cg_moves.proofs.Members.{in-append, in-append_left, in-append_right, in-flat_map, in_flat_mapped, in-map, in_mapped}
 use Rattle.cg_moves.proofs.RisingLemmas.{rising-in, in-rising}
 use Rattle.cg_amazons.specs.Amazons.{empty, blocked, queen, Reaches, with_queen, IsAmazonsMove, line, ways, shots_that_way, shots, moves_that_way, moves_from, moves_below, amazons_moves, empty_cells, amazons}
 use Rattle.cg_amazons.specs.AmazonsLaws.{within, along_ends, line_is, line_has}
@@ -186,38 +184,3 @@ amazons_lawful = record {
   number = omega arith;
   cut = λ e. absurd cc;
 }
-
--- ---- the cells that moves lead to
-
-move_long : (player : Player) (columns : ℕ) (cells after : List ℕ) → IsAmazonsMove columns player cells after → length after ≡ length cells
-move_long player columns cells after is = ap length is.written ∙ length-set (with_queen cells is.from is.to (queen player)) is.target blocked ∙ queen_long cells is.from is.to (queen player)
-
-pub moves_long : (player : Player) (p : Grid) → All (λ cells. length cells ≡ length p.cells) (amazons_moves player p)
-moves_long player p = all_from (λ cells. length cells ≡ length p.cells) (amazons_moves player p) (λ cells m. move_long player p.columns p.cells cells (move_is player p cells m))
-
-abbrev symbols : List ℕ
-symbols = empty ∷ queen Left ∷ queen Right ∷ blocked ∷ []
-
-is_queen : (player : Player) → Contains symbols (queen player)
-is_queen Left = (1, omega arith, refl)
-is_queen Right = (2, omega arith, refl)
-
-is_empty_symbol : Contains symbols empty
-is_empty_symbol = (0, omega arith, refl)
-
-is_blocked : Contains symbols blocked
-is_blocked = (3, omega arith, refl)
-
-move_cells : (player : Player) (columns : ℕ) (cells after : List ℕ) → AreCells symbols cells → IsAmazonsMove columns player cells after → AreCells symbols after
-move_cells player columns cells after h is =
-    let left = slice_set cells is.from empty in
-    let a = set-cells symbols cells is.from empty h is_empty_symbol in
-    let b = set-cells symbols left is.to (queen player) a (is_queen player) in
-    let c = set-cells symbols (with_queen cells is.from is.to (queen player)) is.target blocked b is_blocked in
-    subst (λ (z : List ℕ). AreCells symbols z) (sym is.written) c
-
-pub moves_cells : (player : Player) (p : Grid) → amazons.has p ≡ true → AreCells p.symbols p.cells → All (AreCells p.symbols) (amazons_moves player p)
-moves_cells player p e h =
-    let s : p.symbols ≡ symbols = (bytes_decides p.symbols symbols).0 e in
-    subst (λ (z : List ℕ). All (AreCells z) (amazons_moves player p)) (sym s)
-    (all_from (AreCells symbols) (amazons_moves player p) (λ cells m. move_cells player p.columns p.cells cells (subst (λ (z : List ℕ). AreCells z p.cells) s h) (move_is player p cells m)))

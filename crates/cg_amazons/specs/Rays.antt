@@ -1,11 +1,12 @@
 -- What queens reach, in words.
-use Rattle.std.specs.Prelude.{◌≡◌, ◌↔◌, ◌≢◌, ℕ, ◌*◌, ◌%◌, ◌<◌, ◌≤◌, ◌==◌, ◌&&◌, Bool, not, nat_lt, if◌then◌else◌, List, length, map, slice_index, Option, Some}
+use Rattle.std.specs.Prelude.{◌≡◌, ◌↔◌, ◌≢◌, ℕ, ◌*◌, ◌%◌, ◌<◌, ◌≤◌, ◌==◌, ◌&&◌, Bool, not, nat_lt, if◌then◌else◌, List, length, map, slice_index, Option, Some, Contains, true}
 use Rattle.std.specs.Int.{bit_at}
 use Rattle.std.specs.List.{range_with_len}
+use Rattle.cg_moves.specs.Grid.{Grid}
 use Rattle.cg_moves.specs.Words.{Marks}
 use Rattle.cg_amazons.specs.declared.queens.QueenWords.{QueenWords}
 use Rattle.cg_amazons.specs.declared.shape.Shape.{Shape}
-use Rattle.cg_amazons.specs.Amazons.{empty, blocked, is_empty}
+use Rattle.cg_amazons.specs.Amazons.{amazons, empty, blocked, is_empty}
 
 -- so many cells: empty where the bit of the word is 1, and blocked elsewhere
 abbrev pub cells_of : ℕ → ℕ → List ℕ
@@ -36,3 +37,9 @@ pub record AreQueenWords (cells : List ℕ) (w : QueenWords) : Type 0 where
   pub free : Marks w.free (is_empty cells)
   pub queens : Marks w.queens (λ i. slice_index cells i == w.queen)
   pub other : w.queen ≢ empty
+
+-- the words are those of a board of the game, and the queens have one of its symbols
+pub record AreWordsOf (p : Grid) (w : QueenWords) : Type 0 where
+  pub has : amazons.has p ≡ true
+  pub queen : Contains p.symbols w.queen
+  pub words : AreQueenWords p.cells w

@@ -1,12 +1,13 @@
 //! Amazons.
-ghost use Rattle.std.specs.Prelude.{◌≡◌, All, IfOk, length, true};
-ghost use Rattle.cg_moves.specs.Grid.{AreCells, IsGrid};
-ghost use Rattle.cg_amazons.specs.Amazons.{amazons, amazons_moves, queen};
-ghost use Rattle.cg_amazons.specs.Rays.{AreQueenWords};
+ghost use Rattle.std.specs.Prelude.{◌≡◌, [], IfOk, length, true};
+ghost use Rattle.cg_amazons.specs.Amazons.{amazons, queen};
+ghost use Rattle.cg_amazons.specs.AmazonsMoves.{IsMoveBelow};
+ghost use Rattle.cg_amazons.specs.Rays.{AreWordsOf};
+ghost use Rattle.cg_amazons.specs.Taking.{Takes};
 
 use crate::queens::{EMPTY, QueenWords, move_all};
 use crate::shape::Shape;
-use cg_moves::{Board, Boards, Outcomes, Pieces, Player, Rules};
+use cg_moves::{Board, Boards, Pieces, Player, Rules, in_order};
 use std::alloc::{AllocError, Global};
 
 /// Amazons: a queen moves along empty cells in one of the eight directions, and then shoots an arrow along empty cells in one
@@ -29,8 +30,7 @@ fn words_of(board: &Board, player: Player) -> QueenWords
     requires { amazons.has board.now ≡ true }
     ensures columns { result.shape.columns ≡ board.now.columns }
     ensures queen { result.queen ≡ queen player }
-    ensures words { AreQueenWords board.now.cells result }
-    ensures grid { IsGrid board.now }
+    ensures words { AreWordsOf board.now result }
 {
     let rows = board.rows();
     let columns = board.columns();
@@ -46,18 +46,16 @@ fn words_of(board: &Board, player: Player) -> QueenWords
     }
 }
 
-/// What the player's queens make of the cells.
-fn outcomes_of(alloc: Global, board: &Board, player: Player) -> Result<Outcomes, AllocError>
+/// The boards after the moves of the player's queens.
+fn boards_of(alloc: Global, board: &Board, player: Player) -> Result<Vec<Board>, AllocError>
     requires { amazons.has board.now ≡ true }
-    ensures value { IfOk result (λ outcomes. outcomes ≡ amazons_moves player board.now) }
-    ensures cells { IfOk result (λ outcomes. All (AreCells board.now.symbols) outcomes) }
-    ensures size { IfOk result (λ outcomes. All (λ cells. length cells ≡ length board.now.cells) outcomes) }
+    ensures { IfOk result (λ boards. Takes board.now [] boards.items
+        (IsMoveBelow board.now.columns (queen player) board.now.cells (length board.now.cells))) }
 {
     let words = words_of(board, player);
-    let cells = board.cells(alloc)?;
-    let mut outcomes = Outcomes::new(alloc);
-    move_all(alloc, &words, cells.as_slice(), &mut outcomes)?;
-    Ok(outcomes)
+    let mut boards = Vec::new(alloc);
+    move_all(alloc, board, &words, &mut boards)?;
+    Ok(boards)
 }
 
 impl Rules for Amazons {
@@ -69,7 +67,10 @@ impl Rules for Amazons {
     ghost lawful = { λ _. amazons_lawful };
 
     fn moves(&self, alloc: Global, board: &Board, player: Player) -> Result<Boards, AllocError> {
-        outcomes_of(alloc, board, player)?.boards(alloc, board)
+        // Read for the proof alone: the board has columns.
+        let _size = board.size();
+        let boards = boards_of(alloc, board, player)?;
+        in_order(alloc, board, &boards)
     }
 
     fn pieces(&self, _alloc: Global, _board: &Board) -> Result<Pieces, AllocError> {

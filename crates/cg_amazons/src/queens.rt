@@ -1,13 +1,14 @@
 //! The moves of queens and their arrows.
-ghost use Rattle.std.specs.Prelude.{◌≡◌, ◌≢◌, ◌<◌, ◌≤◌, length, slice_index, slice_set, IfOk};
-ghost use Rattle.cg_amazons.specs.Amazons.{blocked, empty, with_queen};
+ghost use Rattle.std.specs.Prelude.{◌≡◌, ◌<◌, ◌≤◌, length, slice_set, Contains, IfOk};
+ghost use Rattle.cg_moves.specs.Grid.{with_cells};
+ghost use Rattle.cg_amazons.specs.Amazons.{blocked, with_queen};
 ghost use Rattle.cg_amazons.specs.AmazonsMoves.{IsMoveBelow, IsQueenMove, IsShot};
-ghost use Rattle.cg_amazons.specs.Rays.{AreQueenWords};
+ghost use Rattle.cg_amazons.specs.Rays.{AreWordsOf};
 ghost use Rattle.cg_amazons.specs.Taking.{AnyMarked, IfMarked, Takes};
 
 use crate::reaching::reached;
 use crate::shape::Shape;
-use cg_moves::Outcomes;
+use cg_moves::Board;
 use cg_moves::words::{bit, with_bit};
 use std::alloc::{AllocError, Global};
 
@@ -24,146 +25,167 @@ pub(crate) struct QueenWords {
     pub(crate) queens: u64,
 }
 
-/// Takes in what an arrow onto this cell makes of the cells, if it is a target.
+/// Puts the board after an arrow onto this cell behind the boards, if it is a target.
 fn shoot_at(
     alloc: Global,
-    cells: &[u8],
+    board: &Board,
     targets: u64,
     target: u8,
-    outcomes: &mut Outcomes,
+    boards: &mut Vec<Board>,
 ) -> Result<(), AllocError>
-    requires few { length cells.now ≤ 64 }
-    requires target { target < length cells.now }
-    ensures { IfOk result (λ _. Takes outcomes.old outcomes.new
-        (IfMarked targets (λ place after. after ≡ slice_set cells.now place blocked) target)) }
+    requires symbol { Contains board.now.symbols blocked }
+    requires few { length board.now.cells ≤ 64 }
+    requires target { target < length board.now.cells }
+    ensures { IfOk result (λ _. Takes board.now boards.old.items boards.new.items
+        (IfMarked targets (λ place after. after ≡ slice_set board.now.cells place blocked) target)) }
 {
     if bit(targets, target) == 0 {
         return Ok(());
     }
-    let mut after = cells.to_vec(alloc)?;
-    after[target as usize] = BLOCKED;
-    outcomes.add(after)?;
+    let mut after = board.copy(alloc)?;
+    after.set(target, BLOCKED);
+    boards.push(after)?;
     Ok(())
 }
 
-/// Takes in what arrows onto the targets make of the cells.
+/// Puts the boards after arrows onto the targets behind the boards.
 fn shoot(
     alloc: Global,
-    cells: &[u8],
+    board: &Board,
     targets: u64,
-    outcomes: &mut Outcomes,
+    boards: &mut Vec<Board>,
 ) -> Result<(), AllocError>
-    requires { length cells.now ≤ 64 }
-    ensures { IfOk result (λ _. Takes outcomes.old outcomes.new
-        (AnyMarked targets (λ place after. after ≡ slice_set cells.now place blocked) (length cells.now))) }
+    requires { Contains board.now.symbols blocked }
+    ensures { IfOk result (λ _. Takes board.now boards.old.items boards.new.items
+        (AnyMarked targets (λ place after. after ≡ slice_set board.now.cells place blocked) (length board.now.cells))) }
 {
-    for target in 0..cells.len() as u8 {
-        shoot_at(alloc, cells, targets, target, outcomes)?;
+    for target in 0..board.size() {
+        shoot_at(alloc, board, targets, target, boards)?;
     }
     Ok(())
 }
 
-/// Takes in what the queen on this cell makes of the cells when it moves onto that one and shoots.
-fn move_and_shoot(
+/// The board after the queen on this cell has moved onto that one.
+fn moved(
     alloc: Global,
+    board: &Board,
     words: &QueenWords,
-    cells: &[u8],
     from: u8,
     to: u8,
-    outcomes: &mut Outcomes,
-) -> Result<(), AllocError>
-    requires words { AreQueenWords cells.now words.now }
-    requires from { from < length cells.now }
-    requires to { to < length cells.now }
-    ensures { IfOk result (λ _. Takes outcomes.old outcomes.new
-        (IsShot words.now.shape.columns (with_queen cells.now from to words.now.queen) to)) }
+) -> Result<Board, AllocError>
+    requires words { AreWordsOf board.now words.now }
+    requires from { from < length board.now.cells }
+    requires to { to < length board.now.cells }
+    ensures { IfOk result (λ after. after ≡
+        with_cells board.now (with_queen board.now.cells from to words.now.queen)) }
 {
-    let mut moved = cells.to_vec(alloc)?;
-    moved[from as usize] = EMPTY;
-    moved[to as usize] = words.queen;
+    let mut after = board.copy(alloc)?;
+    after.set(from, EMPTY);
+    after.set(to, words.queen);
+    Ok(after)
+}
+
+/// Puts the boards behind the boards that the queen on this cell leads to when it moves onto that one and shoots.
+fn move_and_shoot(
+    alloc: Global,
+    board: &Board,
+    words: &QueenWords,
+    from: u8,
+    to: u8,
+    boards: &mut Vec<Board>,
+) -> Result<(), AllocError>
+    requires words { AreWordsOf board.now words.now }
+    requires from { from < length board.now.cells }
+    requires to { to < length board.now.cells }
+    ensures { IfOk result (λ _. Takes board.now boards.old.items boards.new.items
+        (IsShot words.now.shape.columns (with_queen board.now.cells from to words.now.queen) to)) }
+{
+    let moved = moved(alloc, board, words, from, to)?;
     let left = with_bit(words.free, from, 1);
     let free = with_bit(left, to, 0);
     let targets = reached(words.shape, free, to);
-    shoot(alloc, &moved, targets, outcomes)?;
+    shoot(alloc, &moved, targets, boards)?;
     Ok(())
 }
 
-/// Takes in what the queen on this cell makes of the cells when it moves onto that one, if it reaches that.
+/// Puts the boards behind the boards that the queen on this cell leads to when it moves onto that one, if it reaches that.
 fn move_onto(
     alloc: Global,
+    board: &Board,
     words: &QueenWords,
-    cells: &[u8],
     from: u8,
     places: u64,
     to: u8,
-    outcomes: &mut Outcomes,
+    boards: &mut Vec<Board>,
 ) -> Result<(), AllocError>
-    requires words { AreQueenWords cells.now words.now }
-    requires from { from < length cells.now }
-    requires to { to < length cells.now }
-    ensures { IfOk result (λ _. Takes outcomes.old outcomes.new
-        (IfMarked places (λ place. IsShot words.now.shape.columns (with_queen cells.now from place words.now.queen) place) to)) }
+    requires words { AreWordsOf board.now words.now }
+    requires from { from < length board.now.cells }
+    requires few { length board.now.cells ≤ 64 }
+    requires to { to < length board.now.cells }
+    ensures { IfOk result (λ _. Takes board.now boards.old.items boards.new.items
+        (IfMarked places (λ place. IsShot words.now.shape.columns (with_queen board.now.cells from place words.now.queen) place) to)) }
 {
     if bit(places, to) == 0 {
         return Ok(());
     }
-    move_and_shoot(alloc, words, cells, from, to, outcomes)?;
+    move_and_shoot(alloc, board, words, from, to, boards)?;
     Ok(())
 }
 
-/// Takes in what the queen on this cell makes of the cells.
+/// Puts the boards behind the boards that the queen on this cell leads to.
 fn move_queen(
     alloc: Global,
+    board: &Board,
     words: &QueenWords,
-    cells: &[u8],
     from: u8,
-    outcomes: &mut Outcomes,
+    boards: &mut Vec<Board>,
 ) -> Result<(), AllocError>
-    requires words { AreQueenWords cells.now words.now }
-    requires from { from < length cells.now }
-    ensures { IfOk result (λ _. Takes outcomes.old outcomes.new
-        (IsQueenMove words.now.shape.columns words.now.queen cells.now from)) }
+    requires words { AreWordsOf board.now words.now }
+    requires from { from < length board.now.cells }
+    ensures { IfOk result (λ _. Takes board.now boards.old.items boards.new.items
+        (IsQueenMove words.now.shape.columns words.now.queen board.now.cells from)) }
 {
     let places = reached(words.shape, words.free, from);
-    for to in 0..cells.len() as u8 {
-        move_onto(alloc, words, cells, from, places, to, outcomes)?;
+    for to in 0..board.size() {
+        move_onto(alloc, board, words, from, places, to, boards)?;
     }
     Ok(())
 }
 
-/// Takes in what the queen on this cell makes of the cells, if there is one.
+/// Puts the boards behind the boards that the queen on this cell leads to, if there is one.
 fn move_from(
     alloc: Global,
+    board: &Board,
     words: &QueenWords,
-    cells: &[u8],
     from: u8,
-    outcomes: &mut Outcomes,
+    boards: &mut Vec<Board>,
 ) -> Result<(), AllocError>
-    requires words { AreQueenWords cells.now words.now }
-    requires from { from < length cells.now }
-    ensures { IfOk result (λ _. Takes outcomes.old outcomes.new
-        (IfMarked words.now.queens (IsQueenMove words.now.shape.columns words.now.queen cells.now) from)) }
+    requires words { AreWordsOf board.now words.now }
+    requires few { length board.now.cells ≤ 64 }
+    requires from { from < length board.now.cells }
+    ensures { IfOk result (λ _. Takes board.now boards.old.items boards.new.items
+        (IfMarked words.now.queens (IsQueenMove words.now.shape.columns words.now.queen board.now.cells) from)) }
 {
     if bit(words.queens, from) == 0 {
         return Ok(());
     }
-    move_queen(alloc, words, cells, from, outcomes)?;
+    move_queen(alloc, board, words, from, boards)?;
     Ok(())
 }
 
-/// Takes in what the player's queens make of the cells.
+/// Puts the boards behind the boards that the player's queens lead to.
 pub(crate) fn move_all(
     alloc: Global,
+    board: &Board,
     words: &QueenWords,
-    cells: &[u8],
-    outcomes: &mut Outcomes,
+    boards: &mut Vec<Board>,
 ) -> Result<(), AllocError>
-    requires { AreQueenWords cells.now words.now }
-    ensures { IfOk result (λ _. Takes outcomes.old outcomes.new
-        (IsMoveBelow words.now.shape.columns words.now.queen cells.now (length cells.now))) }
+    requires { AreWordsOf board.now words.now }
+    ensures { IfOk result (λ _. Takes board.now boards.old.items boards.new.items
+        (IsMoveBelow words.now.shape.columns words.now.queen board.now.cells (length board.now.cells))) }
 {
-    for from in 0..cells.len() as u8 {
-        move_from(alloc, words, cells, from, outcomes)?;
+    for from in 0..board.size() {
+        move_from(alloc, board, words, from, boards)?;
     }
     Ok(())
 }

@@ -1,21 +1,29 @@
-use Rattle.std.proofs.Common.{◌≡◌, ◌*◌, ℕ, List, length, subst, ◌∙◌, rules}
-use Rattle.std.specs.Prelude.{slice_set}
+use Rattle.std.proofs.Common.{◌≡◌, ◌*◌, subst, sym, ap, ◌∙◌, List, ℕ, length}
+use Rattle.std.specs.Prelude.{Contains, slice_set}
+use Rattle.cg_moves.specs.Grid.{Grid}
 use Rattle.cg_amazons.specs.Amazons.{blocked, with_queen}
 use Rattle.cg_amazons.specs.AmazonsMoves.{queen_long}
 use Rattle.cg_amazons.specs.Taking.{AnyMarked, Takes}
-use Rattle.cg_amazons.proofs.Taken.{free_moved, shots_taken}
+use Rattle.cg_amazons.proofs.QueenMoves.{free_moved, shots_taken}
+use Rattle.cg_amazons.proofs.Taken.{has-blocked, takes_like}
 use Rattle.cg_amazons.proofs.queens.move_and_shoot.Goals as goal
+
+pub shoot-requires : goal.shoot-requires
+shoot-requires c =
+    let P : List ℕ → Type 0 = λ z. Contains z blocked in
+    subst P (sym (ap (λ (q : Grid). q.symbols) c.in_ok-moved.ensures)) (has-blocked c.args.board.now c.requires.words.has)
 
 pub returns : goal.returns
 returns c =
     let w = c.args.words.now in
-    let cells = c.args.cells.now in
-    let P : List ℕ → Type 0 = λ z. Takes c.args.outcomes.now c.shoot.new.outcomes
-    (AnyMarked c.reached-targets.result (λ place after. after ≡ slice_set z place blocked) (length z)) in
-    let same : c.deref.result.now ≡ with_queen c.args.cells.now c.args.from c.args.to c.args.words.now.queen = search rules in
-    shots_taken w.shape.columns (with_queen cells c.args.from c.args.to w.queen) c.with_bit-free.result
-    c.reached-targets.result (w.shape.rows * w.shape.columns) c.args.to c.args.outcomes.now c.shoot.new.outcomes
-    (queen_long cells c.args.from c.args.to w.queen ∙ c.requires.words.size)
-    (free_moved cells w.free c.with_bit-left.result c.with_bit-free.result c.args.from c.args.to w.queen c.requires.from
-    c.requires.to c.requires.words.other c.requires.words.free c.with_bit-left.ensures c.with_bit-free.ensures)
-    c.reached-targets.ensures (subst P same c.in_ok-shoot.ensures)
+    let p = c.args.board.now in
+    let after = with_queen p.cells c.args.from c.args.to w.queen in
+    let P : Grid → Type 0 = λ z. Takes z c.args.boards.now.items c.shoot.new.boards.items
+    (AnyMarked c.reached-targets.result (λ place after. after ≡ slice_set z.cells place blocked) (length z.cells)) in
+    shots_taken p w.shape.columns after c.with_bit-free.result
+    c.reached-targets.result (w.shape.rows * w.shape.columns) c.args.to c.args.boards.now.items c.shoot.new.boards.items
+    (queen_long p.cells c.args.from c.args.to w.queen ∙ c.requires.words.words.size)
+    (free_moved p.cells w.free c.with_bit-left.result c.with_bit-free.result c.args.from c.args.to w.queen c.requires.from
+    c.requires.to c.requires.words.words.other c.requires.words.words.free c.with_bit-left.ensures c.with_bit-free.ensures)
+    c.reached-targets.ensures
+    (takes_like p after c.args.boards.now.items c.shoot.new.boards.items _ (subst P c.in_ok-moved.ensures c.in_ok-shoot.ensures))

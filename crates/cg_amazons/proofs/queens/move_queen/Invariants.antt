@@ -5,5 +5,5 @@ use Rattle.cg_amazons.proofs.queens.move_queen.Given as goal
 
 abbrev pub invariant-loop-to : goal.invariant-loop-to
 invariant-loop-to l =
-    Takes l.fn.outcomes l.outcomes
-    (AnyMarked l.places (λ place. IsShot l.words.shape.columns (with_queen l.cells l.from place l.words.queen) place) l.to)
+    Takes l.board l.initial.boards.items l.boards.items
+    (AnyMarked l.places (λ place. IsShot l.words.shape.columns (with_queen l.board.cells l.from place l.words.queen) place) l.to)

@@ -6,4 +6,4 @@ use Rattle.cg_amazons.proofs.queens.shoot.Given as goal
 
 abbrev pub invariant-loop-target : goal.invariant-loop-target
 invariant-loop-target l =
-    Takes l.fn.outcomes l.outcomes (AnyMarked l.targets (λ place after. after ≡ slice_set l.cells place blocked) l.target)
+    Takes l.board l.initial.boards.items l.boards.items (AnyMarked l.targets (λ place after. after ≡ slice_set l.board.cells place blocked) l.target)
