@@ -21,7 +21,7 @@ pub data Step : Type 0 where
   check : ℕ → Step
   look : ℕ → ℕ → Step
   read : ℕ → ℕ → Step
-  -- at the cell that the search for a key has come to: a look at its key word, an exchange of 0 for the key in it
+  -- a look at the key word of the cell that the search for a key has come to, and an exchange of 0 for the key there
   probe : ℕ → ℕ → Step
   claim : ℕ → ℕ → Step
   -- the id and its value
