@@ -80,9 +80,19 @@ pub fn kind<B: BoardForms, S: CellStore<GameFacts<B>>>(store: &mut S, handle: Ha
     ensures in_range { IsInRange (game_at (S.state store.old) handle) }
     ensures spends { Spends 0 (S.state store.old) (S.state store.new) }
 {
-    match read(store, handle) {
-        Reading::Number(x) => Kind::Number(x),
-        Reading::Game(_, _) => Kind::Game,
+    let key = store.look(handle.id());
+    match key.parts() {
+        KeyParts::Number { num, exp } => Kind::Number(number_of(num, exp)),
+        KeyParts::Long {
+            first,
+            exp,
+            negative,
+        } => Kind::Number(read_long(store, first, exp, negative)),
+        KeyParts::Game {
+            lefts: _,
+            rights: _,
+        } => Kind::Game,
+        _ => unreachable!(),
     }
 }
 
