@@ -4,6 +4,7 @@ pub mod Same
 pub mod KeptLemmas
 pub mod Bounds
 pub mod SeenLemmas
+pub mod FindLemmas
 pub mod WalkLemmas
 pub mod ReachLemmas
 pub mod Places

@@ -1,36 +1,20 @@
 -- What each task of a walk leaves to do.
-use Rattle.std.proofs.Common.{◌≡◌, refl, ℕ, ◌+◌, ◌*◌, ◌<◌, ◌≤◌, true, ◌⊎◌, inl, inr, List, [], ◌∷◌, ◌++◌, length, length-append, append_assoc, ap, sym, ◌∙◌, subst, arith}
+use Rattle.std.proofs.Common.{◌≡◌, refl, ℕ, ◌+◌, ◌*◌, ◌<◌, ◌≤◌, true, ◌⊎◌, inl, inr, List, [], ◌∷◌, ◌++◌, length, length-append, map, append_assoc, ap, sym, ◌∙◌, subst, arith}
 use Rattle.std.specs.List.{flat_map}
+use Rattle.std.specs.Prelude.{Err, IfOk, Ok, Result}
 use Rattle.std.proofs.lemmas.List.{append-nil}
+use Rattle.cg_moves.specs.declared.key.BoardKey.{BoardKey}
 use Rattle.cg_moves.specs.declared.walk.Task.{Task}
 use Rattle.cg_moves.specs.declared.walk.Task.TheVariants.{Enter, Leave}
 use Rattle.cg_moves.specs.Grid.{Grid}
 use Rattle.cg_moves.specs.Kept.{kept, one_more}
 use Rattle.cg_moves.specs.Plays.{IsPlay, Play}
 use Rattle.cg_moves.specs.Rules.{In}
-use Rattle.cg_moves.specs.Walks.{AreKnown, AreReady, AreStarts, GoesOn, IsWalk, boards_left, entered, load, task_board, task_boards}
-use Rattle.cg_moves.proofs.KeptLemmas.{kept-append, kept-length, kept-there, one_more-among, one_more-has, one_more-keeps}
-use Rattle.cg_moves.proofs.Members.{carry, in-append, in-append_left, in-append_right, in_one}
-
--- ---- tasks to enter
-
-entered-append : (ps qs : List Grid) → entered (ps ++ qs) ≡ entered qs ++ entered ps
-entered-append [] qs = sym (append-nil (entered qs))
-entered-append (p ∷ ps) qs = ap (λ z. z ++ (Enter p ∷ [])) (entered-append ps qs)
-    ∙ append_assoc (entered qs) (entered ps) (Enter p ∷ [])
-
--- one board more becomes a task
-pub entered-more : (tasks more : List Task) (boards rest : List Grid) (p : Grid) → boards ≡ rest ++ (p ∷ [])
-    → more ≡ tasks ++ (Enter p ∷ []) → more ++ entered rest ≡ tasks ++ entered boards
-entered-more tasks more boards rest p e f =
-    ap (λ z. z ++ entered rest) f ∙ append_assoc tasks (Enter p ∷ []) (entered rest)
-    ∙ ap (λ z. tasks ++ z) (sym (entered-append rest (p ∷ [])) ∙ ap entered (sym e))
-
-pub entered-behind : (tasks first : List Task) (p : Grid) (next boards : List Grid) → first ≡ tasks ++ (Leave p ∷ [])
-    → boards ≡ next → first ++ entered boards ≡ tasks ++ ((Leave p ∷ []) ++ entered next)
-entered-behind tasks first p next boards e f =
-    ap (λ z. z ++ entered boards) e ∙ append_assoc tasks (Leave p ∷ []) (entered boards)
-    ∙ ap (λ z. tasks ++ ((Leave p ∷ []) ++ entered z)) f
+use Rattle.cg_moves.specs.Seen.{AreKeysIn, AreTooMany, FindsOnly, SeenBoards, key_of}
+use Rattle.cg_moves.specs.Walks.{AreKnown, AreReady, AreStarts, Finds, GoesOn, IsWalk, boards_left, entered, load, task_board, task_boards, unseen}
+use Rattle.cg_moves.proofs.FindLemmas.{entered-append, kept-unseen, unseen-all, unseen-among, unseen-fewer, unseen-has}
+use Rattle.cg_moves.proofs.KeptLemmas.{in_or_not, kept-append, kept-has, kept-keeps, kept-length, kept-there, one_more-among, one_more-has, one_more-keeps}
+use Rattle.cg_moves.proofs.Members.{carry, in-append, in-append_left, in-append_right, in-flat_map, in-map, in_equal, in_flat_mapped, in_mapped, in_one}
 
 module _ (r : Play) where
   -- ---- what is left to see
@@ -120,136 +104,244 @@ module _ (r : Play) where
 
   -- ---- the steps
 
-  module _ (lawful : IsPlay r) (limit : ℕ) (seen : List Grid) (tasks : List Task) (p : Grid) where
+  module _ (lawful : IsPlay r) where
     all-own : (q : Grid) → r.has q ≡ true → In q (r.all q)
-    all-own q has = carry q (flat_map r.all (r.next q) ++ (q ∷ [])) (r.all q) (sym (lawful.all q has)) (in-append_right q (flat_map r.all (r.next q)) (q ∷ []) (inl refl))
+    all-own q has = carry q (flat_map r.all (r.next q) ++ (q ∷ [])) (r.all q) (sym (lawful.all q has))
+        (in-append_right q (flat_map r.all (r.next q)) (q ∷ []) (inl refl))
 
+    -- what comes next after a board comes after it
+    all-next : (p q : Grid) → r.has p ≡ true → In q (r.next p) → In q (r.all p)
+    all-next p q has m = carry q (flat_map r.all (r.next p) ++ (p ∷ [])) (r.all p) (sym (lawful.all p has))
+        (in-append_left q (flat_map r.all (r.next p)) (p ∷ [])
+        (in_flat_mapped r.all q q (r.next p) m (all-own q (lawful.has p q has m))))
+
+  module _ (lawful : IsPlay r) (limit : ℕ) (seen : SeenBoards) (tasks : List Task) (p : Grid) where
     some-boards : r.has p ≡ true → length (r.all p) ≡ length (flat_map r.all (r.next p)) + 1
     some-boards has = ap length (lawful.all p has)
         ∙ length-append (flat_map r.all (r.next p)) (p ∷ [])
 
     -- a board that was seen is entered
-    pub enter_seen : IsWalk r limit seen (tasks ++ (Enter p ∷ [])) → In p seen
+    pub enter_seen : IsWalk r limit seen (tasks ++ (Enter p ∷ [])) → In p seen.boards
         → GoesOn r limit seen seen (tasks ++ (Enter p ∷ [])) tasks
     enter_seen w m =
         let known = known-back w.symbols tasks (Enter p ∷ []) w.known in
         let n = some-boards known.1 in
         let l = load-append tasks (Enter p ∷ []) in
-        let P : List Task → Type 0 = λ z. AreReady r seen z in
+        let P : List Task → Type 0 = λ z. AreReady r seen.boards z in
+        let rest : kept seen.boards (boards_left r tasks) ≡ kept seen.boards (boards_left r (tasks ++ (Enter p ∷ [])))
+        = sym (ap (λ z. kept seen.boards z) (boards_left-append tasks (Enter p ∷ []))
+        ∙ kept-append seen.boards (r.all p) (boards_left r tasks)
+        ∙ ap (λ z. kept z (boards_left r tasks)) (kept-there seen.boards (r.all p) (λ k n. w.closed p m k n))) in
+        let F : List Grid → Type 0 = λ z. AreKeysIn seen.found z in
         record {
           walk = record {
             symbols = w.symbols;
             seen_symbols = w.seen_symbols;
             known = known-front w.symbols tasks (Enter p ∷ []) w.known;
             closed = w.closed;
-            ready = subst P (append-nil tasks) (ready-change seen seen (Enter p) tasks [] (λ q k. k) (λ q k. inl (w.closed
-                p m q k)) w.ready tt);
+            ready = subst P (append-nil tasks) (ready-change seen.boards seen.boards (Enter p) tasks [] (λ q k. k)
+                (λ q k. inl (w.closed p m q k)) w.ready tt);
             within = w.within;
+            found = subst F (sym rest) w.found;
           };
-          rest = sym (ap (λ z. kept seen z) (boards_left-append tasks (Enter p ∷ []))
-              ∙ kept-append seen (r.all p) (boards_left r tasks)
-              ∙ ap (λ z. kept z (boards_left r tasks)) (kept-there seen (r.all p) (λ k n. w.closed p m k n)));
+          rest = rest;
           less = omega arith;
         }
 
-    -- another board is entered
-    pub enter_new : IsWalk r limit seen (tasks ++ (Enter p ∷ []))
-        → GoesOn r limit seen seen (tasks ++ (Enter p ∷ [])) (tasks ++ ((Leave p ∷ []) ++ entered (r.next p)))
-    enter_new w =
+    -- what comes next after the last board is seen in the end
+    next-seen : IsWalk r limit seen (tasks ++ (Enter p ∷ [])) → (q : Grid) → In q (r.next p)
+        → In q (kept seen.boards (boards_left r (tasks ++ (Enter p ∷ []))))
+    next-seen w q m =
         let known = known-back w.symbols tasks (Enter p ∷ []) w.known in
-        let us : List Task = (Leave p ∷ []) ++ entered (r.next p) in
-        let shape : tasks ++ ((Leave p ∷ []) ++ entered (r.next p)) ≡ tasks ++ us = refl in
-        let all : boards_left r us ≡ r.all p = ap (λ z. z ++ (p ∷ [])) (boards_left-entered (r.next p))
-        ∙ sym (lawful.all p known.1) in
+        kept-has seen.boards (boards_left r (tasks ++ (Enter p ∷ []))) q
+        (carry q (r.all p ++ boards_left r tasks) (boards_left r (tasks ++ (Enter p ∷ []))) (sym (boards_left-append tasks
+        (Enter p ∷ []))) (in-append_left q (r.all p) (boards_left r tasks) (all-next lawful p q known.1 m)))
+
+    -- what comes after the next boards was seen, or comes after one that wasn't
+    ahead : IsWalk r limit seen (tasks ++ (Enter p ∷ [])) → (q : Grid) → In q (flat_map r.all (r.next p))
+        → In q seen.boards ⊎ In q (flat_map r.all (unseen seen.boards (r.next p)))
+    ahead w q m = let (x, n, k) = in-flat_map r.all q (r.next p) m in elim (in_or_not seen.boards x) [
+      | inl there ↦ inl (w.closed x there q k)
+      | inr out ↦ inr (in_flat_mapped r.all q x (unseen seen.boards (r.next p)) (unseen-has seen.boards (r.next p) x
+          n out) k)
+    ]
+
+    entered_tasks : List Task
+    entered_tasks = (Leave p ∷ []) ++ entered (unseen seen.boards (r.next p))
+
+    -- the boards that are left are those of the board's tasks
+    entered_left : boards_left r entered_tasks ≡ flat_map r.all (unseen seen.boards (r.next p)) ++ (p ∷ [])
+    unfolding entered_tasks
+    entered_left = ap (λ z. z ++ (p ∷ [])) (boards_left-entered (unseen seen.boards (r.next p)))
+
+    entered_rest : IsWalk r limit seen (tasks ++ (Enter p ∷ []))
+        → kept seen.boards (boards_left r (tasks ++ entered_tasks))
+        ≡ kept seen.boards (boards_left r (tasks ++ (Enter p ∷ [])))
+    entered_rest w =
+        let known = known-back w.symbols tasks (Enter p ∷ []) w.known in
+        let some = unseen seen.boards (r.next p) in
+        ap (kept seen.boards) (boards_left-append tasks entered_tasks)
+        ∙ kept-append seen.boards (boards_left r entered_tasks) (boards_left r tasks)
+        ∙ ap (λ z. kept z (boards_left r tasks)) (ap (kept seen.boards) entered_left
+        ∙ kept-append seen.boards (flat_map r.all some) (p ∷ [])
+        ∙ ap (λ z. kept z (p ∷ [])) (kept-unseen r.all seen.boards seen.boards (r.next p) w.closed)
+        ∙ sym (kept-append seen.boards (flat_map r.all (r.next p)) (p ∷ []))
+        ∙ ap (kept seen.boards) (sym (lawful.all p known.1)))
+        ∙ sym (kept-append seen.boards (r.all p) (boards_left r tasks))
+        ∙ ap (kept seen.boards) (sym (boards_left-append tasks (Enter p ∷ [])))
+
+    -- another board is entered
+    entered_new : (found : List BoardKey) → IsWalk r limit seen (tasks ++ (Enter p ∷ []))
+        → FindsOnly seen.found found (r.next p)
+        → GoesOn r limit seen (record { boards = seen.boards; found = found }) (tasks ++ (Enter p ∷ [])) (tasks ++ entered_tasks)
+    unfolding entered_tasks
+    entered_new found w only =
+        let known = known-back w.symbols tasks (Enter p ∷ []) w.known in
+        let some = unseen seen.boards (r.next p) in
         let n = some-boards known.1 in
         let l = load-append tasks (Enter p ∷ []) in
-        let k = load-append tasks us in
-        let e = load-entered (r.next p) in
-        let s = ap (load r) shape in
-        let P : List Task → Type 0 = λ z. AreReady r seen z in
-        let Q : List Task → Type 0 = λ z. AreKnown r w.symbols z in
+        let k = load-append tasks entered_tasks in
+        let e = load-entered some in
+        let fewer = unseen-fewer r.all seen.boards (r.next p) in
+        let rest = entered_rest w in
+        let final = kept seen.boards (boards_left r (tasks ++ (Enter p ∷ []))) in
+        let F : List Grid → Type 0 = λ z. AreKeysIn found z in
         record {
           walk = record {
             symbols = w.symbols;
             seen_symbols = w.seen_symbols;
-            known = subst Q (sym shape) (known-append w.symbols tasks us (known-front w.symbols tasks (Enter p ∷ []) w.known) (
+            known = known-append w.symbols tasks entered_tasks (known-front w.symbols tasks (Enter p ∷ []) w.known) (
               known.0,
               known.1,
-              known-entered w.symbols (r.next p) (λ q m. (
-                lawful.symbols p q known.1 m ∙ known.0,
-                lawful.has p q known.1 m,
+              known-entered w.symbols some (λ q m. (
+                lawful.symbols p q known.1 (unseen-among seen.boards (r.next p) q m) ∙ known.0,
+                lawful.has p q known.1 (unseen-among seen.boards (r.next p) q m),
               )),
-            ));
+            );
             closed = w.closed;
-            ready = subst P (sym shape) (ready-change seen seen (Enter p) tasks us (λ q m. m)
-                (λ q m. inr (carry q (r.all p) (boards_left r us) (sym all) m)) w.ready (
-                  λ q m. inr (carry q (flat_map r.all (r.next p)) (boards_left r (entered (r.next p)))
-                      (sym (boards_left-entered (r.next p))) m),
-                  ready-entered seen (r.next p),
-                ));
+            ready = ready-change seen.boards seen.boards (Enter p) tasks entered_tasks (λ q m. m)
+                (λ q m. elim (in-append q (flat_map r.all (r.next p)) (p ∷ []) (carry q (r.all p)
+                (flat_map r.all (r.next p) ++ (p ∷ [])) (lawful.all p known.1) m)) [
+                  | inl o ↦ elim (ahead w q o) [
+                    | inl there ↦ inl there
+                    | inr far ↦ inr (carry q (flat_map r.all some ++ (p ∷ [])) (boards_left r entered_tasks) (sym entered_left)
+                        (in-append_left q (flat_map r.all some) (p ∷ []) far))
+                  ]
+                  | inr o ↦ inr (carry q (flat_map r.all some ++ (p ∷ [])) (boards_left r entered_tasks) (sym entered_left)
+                      (in-append_right q (flat_map r.all some) (p ∷ []) o))
+                ]) w.ready (
+                  λ q m. elim (ahead w q m) [
+                    | inl there ↦ inl there
+                    | inr far ↦ inr (carry q (flat_map r.all some) (boards_left r (entered some)) (sym
+                        (boards_left-entered some)) far)
+                  ],
+                  ready-entered seen.boards some,
+                );
             within = w.within;
+            found = subst F (sym rest) (λ key m. elim (only key m) [
+              | inl there ↦ w.found key there
+              | inr one ↦ (let (q, o, f) = in-map key_of key (r.next p) one in
+                  in_equal key (key_of q) (map key_of final) f (in_mapped key_of q final (next-seen w q o)))
+            ]);
           };
-          rest = ap (λ z. kept seen z) (ap (boards_left r) shape ∙ boards_left-append tasks us
-              ∙ ap (λ z. z ++ boards_left r tasks) all ∙ sym (boards_left-append tasks (Enter p ∷ [])));
+          rest = rest;
           less = omega arith;
         }
 
+    pub enter_new : (new : SeenBoards) (after : List Task) → IsWalk r limit seen (tasks ++ (Enter p ∷ []))
+        → Finds seen new (tasks ++ (Leave p ∷ [])) after (r.next p)
+        → GoesOn r limit seen new (tasks ++ (Enter p ∷ [])) after
+    unfolding entered_tasks
+    enter_new new after w f =
+        let is : new ≡ record { boards = seen.boards; found = new.found } = λ i. record { boards = f.same i; found = new.found } in
+        let shape : after ≡ tasks ++ entered_tasks = f.tasks
+        ∙ append_assoc tasks (Leave p ∷ []) (entered (unseen seen.boards (r.next p))) in
+        let P : SeenBoards → Type 0 = λ z. GoesOn r limit seen z (tasks ++ (Enter p ∷ [])) after in
+        let Q : List Task → Type 0 = λ z. GoesOn r limit seen (record { boards = seen.boards; found = new.found })
+        (tasks ++ (Enter p ∷ [])) z in
+        subst P (sym is) (subst Q (sym shape) (entered_new new.found w f.found))
+
+    -- the same, where entering it may fail
+    pub enter_goes_on : {W E : Type 0} (t : Task) → t ≡ Enter p → IsWalk r limit seen (tasks ++ (t ∷ []))
+        → (seen_of : W → SeenBoards) (tasks_of : W → List Task) (result : Result W E)
+        → IfOk result (λ w. Finds seen (seen_of w) (tasks ++ (Leave p ∷ [])) (tasks_of w) (r.next p))
+        → IfOk result (λ w. GoesOn r limit seen (seen_of w) (tasks ++ (t ∷ [])) (tasks_of w))
+    enter_goes_on t is walk seen_of tasks_of (Ok w) f =
+        let P : Task → Type 0 = λ z. IsWalk r limit seen (tasks ++ (z ∷ [])) in
+        let Q : Task → Type 0 = λ z. GoesOn r limit seen (seen_of w) (tasks ++ (z ∷ [])) (tasks_of w) in
+        subst Q (sym is) (enter_new (seen_of w) (tasks_of w) (subst P is walk) f)
+    enter_goes_on t is walk seen_of tasks_of (Err e) f = tt
+
+    -- where those that come next are too many
+    pub enter_refused : IsWalk r limit seen (tasks ++ (Enter p ∷ [])) → AreTooMany limit seen.found (r.next p)
+        → limit < length (kept seen.boards (boards_left r (tasks ++ (Enter p ∷ []))))
+    enter_refused w many = many (kept seen.boards (boards_left r (tasks ++ (Enter p ∷ [])))) w.found (next-seen w)
+
     -- a board is left
-    pub leave : (more : List Grid) → IsWalk r limit seen (tasks ++ (Leave p ∷ [])) → more ≡ one_more seen p
-        → length more ≤ limit → GoesOn r limit seen more (tasks ++ (Leave p ∷ [])) tasks
-    leave more w e within =
+    pub leave : (more : SeenBoards) → IsWalk r limit seen (tasks ++ (Leave p ∷ []))
+        → more.boards ≡ one_more seen.boards p → FindsOnly seen.found more.found (p ∷ []) → length more.boards ≤ limit
+        → GoesOn r limit seen more (tasks ++ (Leave p ∷ [])) tasks
+    leave more w e only within =
         let known = known-back w.symbols tasks (Leave p ∷ []) w.known in
         let l = load-append tasks (Leave p ∷ []) in
-        let P : List Task → Type 0 = λ z. AreReady r more z in
-        let has_more : (q : Grid) → In q seen → In q more = λ q m. carry q (one_more seen p) more (sym e) (one_more-keeps
-        seen p q m) in
-        let own : In p more = carry p (one_more seen p) more (sym e) (one_more-has seen p) in
+        let P : List Task → Type 0 = λ z. AreReady r more.boards z in
+        let has_more : (q : Grid) → In q seen.boards → In q more.boards = λ q m.
+        carry q (one_more seen.boards p) more.boards (sym e) (one_more-keeps seen.boards p q m) in
+        let own : In p more.boards = carry p (one_more seen.boards p) more.boards (sym e) (one_more-has seen.boards p) in
         let C : Grid → Type 0 = λ z. z.symbols ≡ w.symbols in
-        let D : Grid → Type 0 = λ z. In z more in
+        let D : Grid → Type 0 = λ z. In z more.boards in
+        let F : List Grid → Type 0 = λ z. AreKeysIn more.found z in
+        let final = kept seen.boards (boards_left r (tasks ++ (Leave p ∷ []))) in
+        let rest : kept more.boards (boards_left r tasks) ≡ final = ap (λ z. kept z (boards_left r tasks)) e
+        ∙ sym (ap (λ z. kept seen.boards z) (boards_left-append tasks (Leave p ∷ []))) in
         record {
           walk = record {
             symbols = w.symbols;
-            seen_symbols = λ q m. elim (one_more-among seen p q (carry q more (one_more seen p) e m)) [
+            seen_symbols = λ q m. elim (one_more-among seen.boards p q (carry q more.boards (one_more seen.boards p) e m)) [
               | inl there ↦ w.seen_symbols q there
               | inr same ↦ subst C (sym same) known.0
             ];
             known = known-front w.symbols tasks (Leave p ∷ []) w.known;
-            closed = λ q m k n. elim (one_more-among seen p q (carry q more (one_more seen p) e m)) [
+            closed = λ q m k n. elim (one_more-among seen.boards p q (carry q more.boards (one_more seen.boards p) e m)) [
               | inl there ↦ has_more k (w.closed q there k n)
-              | inr same ↦ (let F : Grid → Type 0 = λ z. In k (r.all z) in
+              | inr same ↦ (let G : Grid → Type 0 = λ z. In k (r.all z) in
                   elim (in-append k (flat_map r.all (r.next p)) (p ∷ []) (carry k (r.all p)
-                  (flat_map r.all (r.next p) ++ (p ∷ [])) (lawful.all p known.1) (subst F
+                  (flat_map r.all (r.next p) ++ (p ∷ [])) (lawful.all p known.1) (subst G
                   same n))) [
-                    | inl o ↦ has_more k (ready-last seen p tasks w.ready k o)
+                    | inl o ↦ has_more k (ready-last seen.boards p tasks w.ready k o)
                     | inr o ↦ subst D (sym (in_one k p o)) own
                   ])
             ];
-            ready = subst P (append-nil tasks) (ready-change seen more (Leave p) tasks [] has_more (λ q m. inl (subst D
+            ready = subst P (append-nil tasks) (ready-change seen.boards more.boards (Leave p) tasks [] has_more (λ q m. inl (subst D
                 (sym (in_one q p m)) own)) w.ready tt);
             within = within;
+            found = subst F (sym rest) (λ key m. elim (only key m) [
+              | inl there ↦ w.found key there
+              | inr one ↦ in_equal key (key_of p) (map key_of final) (in_one key (key_of p) one) (in_mapped key_of p final
+                  (carry p (kept more.boards (boards_left r tasks)) final rest (kept-keeps more.boards (boards_left r tasks) p own)))
+            ]);
           };
-          rest = ap (λ z. kept z (boards_left r tasks)) e
-              ∙ sym (ap (λ z. kept seen z) (boards_left-append tasks (Leave p ∷ [])));
+          rest = rest;
           less = omega arith;
         }
 
     -- where one board more is too many
-    pub leave_refused : limit < length (one_more seen p)
-        → limit < length (kept seen (boards_left r (tasks ++ (Leave p ∷ []))))
+    pub leave_refused : limit < length (one_more seen.boards p)
+        → limit < length (kept seen.boards (boards_left r (tasks ++ (Leave p ∷ []))))
     leave_refused above =
-        let a = kept-length seen (p ∷ []) (boards_left r tasks) in
-        let b = ap (λ z. length (kept seen z)) (boards_left-append tasks (Leave p ∷ [])) in
+        let a = kept-length seen.boards (p ∷ []) (boards_left r tasks) in
+        let b = ap (λ z. length (kept seen.boards z)) (boards_left-append tasks (Leave p ∷ [])) in
         omega arith
 
   -- ---- the board of the next task
 
-  pub next_symbols : (limit : ℕ) (seen : List Grid) (tasks : List Task) (t : Task) (p : Grid)
-      → IsWalk r limit seen (tasks ++ (t ∷ [])) → p ≡ task_board t → (q : Grid) → In q seen → q.symbols ≡ p.symbols
+  pub next_symbols : (limit : ℕ) (seen : SeenBoards) (tasks : List Task) (t : Task) (p : Grid)
+      → IsWalk r limit seen (tasks ++ (t ∷ [])) → p ≡ task_board t → (q : Grid) → In q seen.boards → q.symbols ≡ p.symbols
   next_symbols limit seen tasks t p w e q m =
       let known = known-back w.symbols tasks (t ∷ []) w.known in
       w.seen_symbols q m ∙ sym known.0 ∙ ap (λ z. z.symbols) (sym e)
 
-  pub next_has : (limit : ℕ) (seen : List Grid) (tasks : List Task) (t : Task) (p : Grid)
+  pub next_has : (limit : ℕ) (seen : SeenBoards) (tasks : List Task) (t : Task) (p : Grid)
       → IsWalk r limit seen (tasks ++ (t ∷ [])) → p ≡ task_board t → r.has p ≡ true
   next_has limit seen tasks t p w e =
       let known = known-back w.symbols tasks (t ∷ []) w.known in
@@ -258,23 +350,45 @@ module _ (r : Play) where
 
   -- ---- the whole walk
 
-  walk_none : (limit : ℕ) (starts : List Grid) → AreStarts r starts → IsWalk r limit [] (entered starts)
-  walk_none limit starts h = record {
-    symbols = h.symbols;
-    seen_symbols = λ p m. absurd m;
-    known = known-entered h.symbols starts h.known;
-    closed = λ p m. absurd m;
-    ready = ready-entered [] starts;
-    within = omega arith;
-  }
+  module _ (lawful : IsPlay r) (limit : ℕ) (none : SeenBoards) (starts : List Grid) (h : AreStarts r starts)
+      (no_boards : none.boards ≡ []) (no_keys : none.found ≡ []) where
+    starts-seen : (p : Grid) → In p starts → In p (kept [] (flat_map r.all starts))
+    starts-seen p m = kept-has [] (flat_map r.all starts) p
+        (in_flat_mapped r.all p p starts m (all-own lawful p (h.known p m).1))
 
-  pub walk_begun : (limit : ℕ) (seen : List Grid) (tasks : List Task) (starts : List Grid) → AreStarts r starts → seen ≡ []
-      → tasks ≡ entered starts
-      → IsWalk r limit seen tasks × (kept seen (boards_left r tasks) ≡ kept [] (flat_map r.all starts))
-  walk_begun limit seen tasks starts h e f =
-      let P : List Task → Type 0 = λ z. IsWalk r limit [] z in
-      let S : List Grid → Type 0 = λ z. IsWalk r limit z tasks in
-      let left : boards_left r tasks ≡ flat_map r.all starts = ap (boards_left r) f ∙ boards_left-entered starts in (
-        subst S (sym e) (subst P (sym f) (walk_none limit starts h)),
-        ap (λ z. kept z (boards_left r tasks)) e ∙ ap (kept []) left,
-      )
+    none-found : (key : BoardKey) → In key none.found → ⊥
+    none-found key m = carry key none.found [] no_keys m
+
+    pub start_refused : AreTooMany limit none.found starts → limit < length (kept [] (flat_map r.all starts))
+    start_refused many = many (kept [] (flat_map r.all starts)) (λ k m. absurd (none-found k m)) starts-seen
+
+    walk_begins : (found : List BoardKey) → FindsOnly none.found found starts
+        → IsWalk r limit (record { boards = []; found = found }) (entered starts)
+    walk_begins found only = record {
+      symbols = h.symbols;
+      seen_symbols = λ p m. absurd m;
+      known = known-entered h.symbols starts h.known;
+      closed = λ p m. absurd m;
+      ready = ready-entered [] starts;
+      within = omega arith;
+      found = λ key m. elim (only key m) [
+        | inl there ↦ absurd (none-found key there)
+        | inr one ↦ (let (q, o, f) = in-map key_of key starts one in
+            let final = kept [] (boards_left r (entered starts)) in
+            in_equal key (key_of q) (map key_of final) f (in_mapped key_of q final (carry q (kept [] (flat_map r.all starts)) final
+            (ap (kept []) (sym (boards_left-entered starts))) (starts-seen q o))))
+      ];
+    }
+
+    pub walk_begun : (new : SeenBoards) (none_left tasks : List Task) → none_left ≡ [] → Finds none new none_left tasks starts
+        → IsWalk r limit new tasks × (kept new.boards (boards_left r tasks) ≡ kept [] (flat_map r.all starts))
+    walk_begun new none_left tasks e f =
+        let same = f.same ∙ no_boards in
+        let is : new ≡ record { boards = []; found = new.found } = λ i. record { boards = same i; found = new.found } in
+        let all : tasks ≡ entered starts = f.tasks ∙ ap (λ z. z ++ entered (unseen none.boards starts)) e
+        ∙ ap (λ z. entered (unseen z starts)) no_boards ∙ ap entered (unseen-all starts) in
+        let P : SeenBoards → Type 0 = λ z. IsWalk r limit z tasks in
+        let Q : List Task → Type 0 = λ z. IsWalk r limit (record { boards = []; found = new.found }) z in (
+          subst P (sym is) (subst Q (sym all) (walk_begins new.found f.found)),
+          ap (λ z. kept z (boards_left r tasks)) same ∙ ap (kept []) (ap (boards_left r) all ∙ boards_left-entered starts),
+        )

@@ -16,5 +16,6 @@ pub mod Connected
 pub mod Cutting
 -- what private contracts cite, and what proofs need here
 pub mod GridCode
+pub mod SeenCode
 pub mod Kept
 pub mod Walks

@@ -1,12 +1,13 @@
 -- A walk over boards: what is left to do, and what it adds to what was seen.
-use Rattle.std.specs.Prelude.{◌≡◌, ◌⊎◌, ℕ, ◌+◌, ◌*◌, ◌<◌, ◌≤◌, true, List, [], ◌∷◌, ◌++◌, length}
+use Rattle.std.specs.Prelude.{◌≡◌, ◌⊎◌, ℕ, ◌+◌, ◌*◌, ◌<◌, ◌≤◌, true, not, filter, List, [], ◌∷◌, ◌++◌, length}
 use Rattle.std.specs.List.{flat_map}
 use Rattle.cg_moves.specs.declared.walk.Task.{Task}
 use Rattle.cg_moves.specs.declared.walk.Task.TheVariants.{Enter, Leave}
 use Rattle.cg_moves.specs.Grid.{Grid}
-use Rattle.cg_moves.specs.Kept.{kept}
+use Rattle.cg_moves.specs.Kept.{is_in, kept}
 use Rattle.cg_moves.specs.Plays.{Play}
 use Rattle.cg_moves.specs.Rules.{In}
+use Rattle.cg_moves.specs.Seen.{AreKeysIn, FindsOnly, SeenBoards}
 
 -- the boards of a task: to enter a board is to see all that come after it and the board itself, and to leave it is to see it alone
 abbrev pub task_boards : Play → Task → List Grid
@@ -22,6 +23,16 @@ boards_left r (t ∷ ts) = boards_left r ts ++ task_boards r t
 abbrev pub entered : List Grid → List Task
 entered [] = []
 entered (p ∷ ps) = entered ps ++ (Enter p ∷ [])
+
+-- the boards that aren't among those that were seen
+abbrev pub unseen : List Grid → List Grid → List Grid
+unseen seen ps = filter (λ p. not (is_in seen p)) ps
+
+-- the walk after the boards were found: those that weren't seen are to be entered
+pub record Finds (old new : SeenBoards) (before after : List Task) (boards : List Grid) : Type 0 where
+  pub same : new.boards ≡ old.boards
+  pub found : FindsOnly old.found new.found boards
+  pub tasks : after ≡ before ++ entered (unseen old.boards boards)
 
 -- with each board all that come after it are in the list
 abbrev pub IsClosed : Play → List Grid → Type 0
@@ -61,17 +72,19 @@ abbrev pub load : Play → List Task → ℕ
 load r [] = 0
 load r (t ∷ ts) = load r ts + task_load r t
 
--- what holds of a walk: the boards that were seen, each with all that come after it, and the tasks that are left
-pub record IsWalk (r : Play) (limit : ℕ) (seen : List Grid) (tasks : List Task) : Type 0 where
+-- what holds of a walk: the boards that were seen, each with all that come after it, and the tasks that are left; all that were
+-- found are seen in the end
+pub record IsWalk (r : Play) (limit : ℕ) (seen : SeenBoards) (tasks : List Task) : Type 0 where
   pub symbols : List ℕ
-  pub seen_symbols : (p : Grid) → In p seen → p.symbols ≡ symbols
+  pub seen_symbols : (p : Grid) → In p seen.boards → p.symbols ≡ symbols
   pub known : AreKnown r symbols tasks
-  pub closed : IsClosed r seen
-  pub ready : AreReady r seen tasks
-  pub within : length seen ≤ limit
+  pub closed : IsClosed r seen.boards
+  pub ready : AreReady r seen.boards tasks
+  pub within : length seen.boards ≤ limit
+  pub found : AreKeysIn seen.found (kept seen.boards (boards_left r tasks))
 
 -- the walk after some task: it sees the same boards in the end, and there is less to do
-pub record GoesOn (r : Play) (limit : ℕ) (old new : List Grid) (before after : List Task) : Type 0 where
+pub record GoesOn (r : Play) (limit : ℕ) (old new : SeenBoards) (before after : List Task) : Type 0 where
   pub walk : IsWalk r limit new after
-  pub rest : kept new (boards_left r after) ≡ kept old (boards_left r before)
+  pub rest : kept new.boards (boards_left r after) ≡ kept old.boards (boards_left r before)
   pub less : load r after < load r before

@@ -1,83 +1,104 @@
-//! Boards that were seen, each once.
-ghost use Rattle.std.specs.Prelude.{◌≡◌, ◌<◌, ◌≤◌, ◌↔◌, [], IfOk, IsTrue, length, Err};
+//! Boards that were seen, each once, and the keys of boards that were found.
+ghost use Rattle.std.specs.Prelude.{◌≡◌, ◌<◌, ◌≤◌, ◌↔◌, ◌∷◌, [], IfOk, IsTrue, length, Err};
 ghost use Rattle.cg_moves.specs.Grid.{Grid};
 ghost use Rattle.cg_moves.specs.Rules.{In};
 ghost use Rattle.cg_moves.specs.Kept.{one_more};
+ghost use Rattle.cg_moves.specs.Seen.{AreTooMany, FindsOnly};
 
 use crate::{Board, BoardKey, Boards, ReachFault};
 use std::alloc::Global;
-use std::collections::HashSet;
+use std::collections::HashMap;
 use std::marker::Model;
 
-/// Boards in the order in which they were seen, with their keys for look-ups. Contracts see the list of boards.
+/// Boards in the order in which they were seen. A board is found before it is seen, and the map tells for the key of each board
+/// that was found whether it was seen. Contracts see the list of boards, and the keys.
 #[derive(Drop)]
 pub(crate) struct Seen {
     boards: Vec<Board>,
-    keys: HashSet<BoardKey>,
+    found: HashMap<BoardKey, bool>,
 }
 
 impl Model for Seen {
-    ghost use Rattle.std.specs.Prelude.{List};
-    ghost use Rattle.std.specs.Coded.{coded_list};
-    ghost use Rattle.cg_moves.specs.Grid.{Grid};
-    ghost use Rattle.cg_moves.specs.GridCode.{grid_code};
-    ghost use Rattle.cg_moves.specs.Seen.{AreGrids, HasKeys};
+    ghost use Rattle.std.specs.HashMap.{keys};
+    ghost use Rattle.cg_moves.specs.Seen.{AreGrids, HasKeys, SeenBoards};
+    ghost use Rattle.cg_moves.specs.SeenCode.{seen_code};
 
-    ghost Value = { List Grid };
+    ghost Value = { SeenBoards };
 
-    ghost coded = { coded_list grid_code };
+    ghost coded = { seen_code };
 
-    ghost view = { λ s. s.boards.items };
+    ghost view = { λ s. record { boards = s.boards.items; found = keys s.found } };
 
-    ghost invariant = { λ s. HasKeys s.keys s.boards.items × AreGrids s.boards.items };
+    ghost invariant = { λ s. HasKeys s.found s.boards.items × AreGrids s.boards.items };
 }
 
 impl Seen {
     /// No boards.
     pub(crate) fn new(alloc: Global) -> Seen
-        ensures { result ≡ [] }
+        ensures boards { result.boards ≡ [] }
+        ensures found { result.found ≡ [] }
     {
         Seen {
             boards: Vec::new(alloc),
-            keys: HashSet::new(alloc),
+            found: HashMap::new(alloc),
         }
     }
 
     /// Whether the board was seen. Those that were have its symbols.
     pub(crate) fn has(&self, board: &Board) -> bool
-        requires { (p : Grid) → In p self.now → p.symbols ≡ board.now.symbols }
-        ensures { IsTrue result ↔ In board.now self.now }
+        requires { (p : Grid) → In p self.now.boards → p.symbols ≡ board.now.symbols }
+        ensures { IsTrue result ↔ In board.now self.now.boards }
     {
-        self.keys.contains(&board.key())
+        self.found.get(&board.key()).copied().unwrap_or(false)
+    }
+
+    /// Notes that the board was found, and tells whether it was seen. There may be so many that were found.
+    pub(crate) fn find(&mut self, board: &Board, limit: u64) -> Result<bool, ReachFault>
+        requires { (p : Grid) → In p self.old.boards → p.symbols ≡ board.now.symbols }
+        ensures told { IfOk result (λ seen. IsTrue seen ↔ In board.now self.old.boards) }
+        ensures boards { IfOk result (λ _. self.new.boards ≡ self.old.boards) }
+        ensures found { IfOk result (λ _. FindsOnly self.old.found self.new.found (board.now ∷ [])) }
+        ensures refused { result ≡ Err ReachFault.Positions → AreTooMany limit self.old.found (board.now ∷ []) }
+    {
+        let key = board.key();
+        if let Some(seen) = self.found.get(&key).copied() {
+            return Ok(seen);
+        }
+        if self.found.len() as u64 >= limit {
+            return Err(ReachFault::Positions);
+        }
+        self.found.insert(key, false)?;
+        Ok(false)
     }
 
     /// The boards with one more behind them, unless it is there; of which there may be so many.
     pub(crate) fn add(self, board: Board, limit: u64) -> Result<Seen, ReachFault>
-        requires within { length self ≤ limit }
-        requires symbols { (p : Grid) → In p self → p.symbols ≡ board.symbols }
-        ensures added { IfOk result (λ more. more ≡ one_more self board) }
-        ensures within { IfOk result (λ more. length more ≤ limit) }
-        ensures refused { result ≡ Err ReachFault.Positions → limit < length (one_more self board) }
+        requires within { length self.boards ≤ limit }
+        requires symbols { (p : Grid) → In p self.boards → p.symbols ≡ board.symbols }
+        ensures added { IfOk result (λ more. more.boards ≡ one_more self.boards board) }
+        ensures found { IfOk result (λ more. FindsOnly self.found more.found (board ∷ [])) }
+        ensures within { IfOk result (λ more. length more.boards ≤ limit) }
+        ensures refused { result ≡ Err ReachFault.Positions → limit < length (one_more self.boards board) }
     {
         let Seen {
             mut boards,
-            mut keys,
+            mut found,
         } = self;
-        if !keys.insert(board.key())? {
-            return Ok(Seen { boards, keys });
+        if found.insert(board.key(), true)?.unwrap_or(false) {
+            return Ok(Seen { boards, found });
         }
         if boards.len() as u64 >= limit {
             return Err(ReachFault::Positions);
         }
         boards.push(board)?;
-        Ok(Seen { boards, keys })
+        Ok(Seen { boards, found })
     }
 
     /// The boards, in their order.
     pub(crate) fn into_boards(self) -> Boards
-        ensures { result ≡ self }
+        ensures { result ≡ self.boards }
     {
-        let Seen { boards, keys: _ } = self;
+        let Seen { boards, found: _ } = self;
         Boards::of(boards)
     }
 }

@@ -1,11 +1,12 @@
+use Rattle.std.proofs.Common.{sym, ◌∙◌}
 use Rattle.cg_moves.specs.Plays.{play_of}
-use Rattle.cg_moves.proofs.SeenLemmas.{ok_items}
-use Rattle.cg_moves.proofs.WalkLemmas.{entered-behind}
+use Rattle.cg_moves.proofs.Members.{carry}
+use Rattle.cg_moves.proofs.PlayLemmas.{plays}
 use Rattle.cg_moves.proofs.walk.expand.Goals as goal
 
-pub returns : goal.returns
-returns g c =
-    ok_items c.enter_all.result _ _ c.enter_all.ensures
-    (entered-behind c.args.tasks.items c.push.new.self.items c.args.board
-    ((play_of (g.R.Rules.game c.args.rules.now) c.args.course).next c.args.board) c.in_ok-next.next.items
-    c.in_ok-push.ensures.items c.in_ok-next.ensures)
+pub find_all-requires : goal.find_all-requires
+find_all-requires g c p q m n =
+    let r = g.R.Rules.game c.args.rules.now in
+    c.requires.symbols p m
+    ∙ sym ((plays r (g.met.R.Rules.lawful c.args.rules.now) c.args.course c.requires.may).symbols c.args.board q c.requires.has
+    (carry q c.in_ok-next.next.items ((play_of r c.args.course).next c.args.board) c.in_ok-next.ensures n))

@@ -8,7 +8,7 @@ use Rattle.cg_moves.proofs.walk.seen_from.Given as goal
 abbrev pub invariant-loop-task : goal.invariant-loop-task
 invariant-loop-task g l = record {
   walk : IsWalk (play_of (g.R.Rules.game l.rules) l.course) l.limit l.left.seen l.left.tasks.items;
-  rest : kept l.left.seen (boards_left (play_of (g.R.Rules.game l.rules) l.course) l.left.tasks.items)
+  rest : kept l.left.seen.boards (boards_left (play_of (g.R.Rules.game l.rules) l.course) l.left.tasks.items)
       ≡ kept [] (flat_map (play_of (g.R.Rules.game l.rules) l.course).all l.fn.starts.items);
 }
 

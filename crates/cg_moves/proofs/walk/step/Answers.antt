@@ -8,7 +8,7 @@ use Rattle.cg_moves.specs.Plays.{play_of}
 use Rattle.cg_moves.specs.Walks.{GoesOn, IsWalk, boards_left, task_board}
 use Rattle.cg_moves.proofs.PlayLemmas.{plays}
 use Rattle.cg_moves.proofs.SeenLemmas.{passed_on}
-use Rattle.cg_moves.proofs.WalkLemmas.{enter_new, enter_seen, leave, leave_refused, next_has, next_symbols}
+use Rattle.cg_moves.proofs.WalkLemmas.{enter_goes_on, enter_refused, enter_seen, leave, leave_refused, next_has, next_symbols}
 use Rattle.cg_moves.proofs.walk.step.Goals as goal
 
 pub has-requires : goal.has-requires
@@ -18,6 +18,10 @@ has-requires g c = next_symbols (play_of (g.R.Rules.game c.args.rules.now) c.arg
 pub expand-requires-clause-has : goal.expand-requires-clause-has
 expand-requires-clause-has g c = next_has (play_of (g.R.Rules.game c.args.rules.now) c.args.course) c.args.limit c.args.walk.seen c.args.walk.tasks.items
     c.args.task c.in-Enter.board c.requires.walk (sym (ap task_board c.in-Enter.is))
+
+pub expand-requires-clause-symbols : goal.expand-requires-clause-symbols
+expand-requires-clause-symbols g c = next_symbols (play_of (g.R.Rules.game c.args.rules.now) c.args.course) c.args.limit c.args.walk.seen
+    c.args.walk.tasks.items c.args.task c.in-Enter.board c.requires.walk (sym (ap task_board c.in-Enter.is))
 
 pub add-requires-clause-symbols : goal.add-requires-clause-symbols
 add-requires-clause-symbols g c = next_symbols (play_of (g.R.Rules.game c.args.rules.now) c.args.course) c.args.limit c.args.walk.seen
@@ -32,16 +36,21 @@ returns-then-has-clause-goes_on g c =
     subst Q (sym c.in-Enter.is) (enter_seen r (plays (g.R.Rules.game c.args.rules.now) (g.met.R.Rules.lawful c.args.rules.now) c.args.course c.requires.may) c.args.limit c.args.walk.seen ts
     c.in-Enter.board (subst P c.in-Enter.is c.requires.walk) (c.has.ensures.0 c.if-has.true))
 
-pub returns-in_ok-tasks-in-Enter-clause-goes_on : goal.returns-in_ok-tasks-in-Enter-clause-goes_on
-returns-in_ok-tasks-in-Enter-clause-goes_on g c =
+pub returns-else-has-clause-goes_on : goal.returns-else-has-clause-goes_on
+returns-else-has-clause-goes_on g c =
+    let r = play_of (g.R.Rules.game c.args.rules.now) c.args.course in
+    enter_goes_on r (plays (g.R.Rules.game c.args.rules.now) (g.met.R.Rules.lawful c.args.rules.now) c.args.course c.requires.may)
+    c.args.limit c.args.walk.seen c.args.walk.tasks.items c.in-Enter.board
+    c.args.task c.in-Enter.is c.requires.walk (λ w. w.seen) (λ w. w.tasks.items) c.expand.result c.expand.ensures.finds
+
+pub returns-else-has-clause-refused : goal.returns-else-has-clause-refused
+returns-else-has-clause-refused g c = λ e.
     let r = play_of (g.R.Rules.game c.args.rules.now) c.args.course in
     let ts = c.args.walk.tasks.items in
-    let p = c.in-Enter.board in
     let P : Task → Type 0 = λ t. IsWalk r c.args.limit c.args.walk.seen (ts ++ (t ∷ [])) in
-    let Q : Task → Type 0 = λ t. GoesOn r c.args.limit c.args.walk.seen c.args.walk.seen (ts ++ (t ∷ []))
-    c.in_ok-tasks-in-Enter.tasks.items in
-    let S : List Task → Type 0 = λ z. GoesOn r c.args.limit c.args.walk.seen c.args.walk.seen (ts ++ (Enter p ∷ [])) z in
-    subst Q (sym c.in-Enter.is) (subst S (sym c.in_ok-tasks-in-Enter.ensures) (enter_new r (plays (g.R.Rules.game c.args.rules.now) (g.met.R.Rules.lawful c.args.rules.now) c.args.course c.requires.may) c.args.limit c.args.walk.seen ts p (subst P c.in-Enter.is c.requires.walk)))
+    let Q : Task → Type 0 = λ t. c.args.limit < length (kept c.args.walk.seen.boards (boards_left r (ts ++ (t ∷ [])))) in
+    subst Q (sym c.in-Enter.is) (enter_refused r (plays (g.R.Rules.game c.args.rules.now) (g.met.R.Rules.lawful c.args.rules.now) c.args.course c.requires.may) c.args.limit
+    c.args.walk.seen ts c.in-Enter.board (subst P c.in-Enter.is c.requires.walk) (c.expand.ensures.refused e))
 
 pub returns-in_ok-seen-in-Leave-clause-goes_on : goal.returns-in_ok-seen-in-Leave-clause-goes_on
 returns-in_ok-seen-in-Leave-clause-goes_on g c =
@@ -51,15 +60,14 @@ returns-in_ok-seen-in-Leave-clause-goes_on g c =
     let Q : Task → Type 0 = λ t. GoesOn r c.args.limit c.args.walk.seen c.in_ok-seen-in-Leave.seen (ts ++ (t ∷ [])) ts in
     subst Q (sym c.in-Leave.is) (leave r (plays (g.R.Rules.game c.args.rules.now) (g.met.R.Rules.lawful c.args.rules.now) c.args.course c.requires.may) c.args.limit c.args.walk.seen ts
     c.in-Leave.board c.in_ok-seen-in-Leave.seen (subst P c.in-Leave.is c.requires.walk) c.in_ok-seen-in-Leave.ensures.added
-    c.in_ok-seen-in-Leave.ensures.within)
+    c.in_ok-seen-in-Leave.ensures.found c.in_ok-seen-in-Leave.ensures.within)
 
 pub returns-in_err-seen-in-Leave-clause-refused : goal.returns-in_err-seen-in-Leave-clause-refused
 returns-in_err-seen-in-Leave-clause-refused g c =
-    let p = err_from_is_err_and c.from_residual-in_err-seen-in-Leave.result
-    c.from_residual-in_err-seen-in-Leave.ensures.1 in λ e.
+    let p = err_from_is_err_and c.from_residual.result c.from_residual.ensures.1 in λ e.
     let r = play_of (g.R.Rules.game c.args.rules.now) c.args.course in
     let ts = c.args.walk.tasks.items in
-    let Q : Task → Type 0 = λ t. c.args.limit < length (kept c.args.walk.seen (boards_left r (ts ++ (t ∷ [])))) in
+    let Q : Task → Type 0 = λ t. c.args.limit < length (kept c.args.walk.seen.boards (boards_left r (ts ++ (t ∷ [])))) in
     subst Q (sym c.in-Leave.is) (leave_refused r (plays (g.R.Rules.game c.args.rules.now) (g.met.R.Rules.lawful c.args.rules.now) c.args.course c.requires.may) c.args.limit c.args.walk.seen
     ts c.in-Leave.board (c.in_err-seen-in-Leave.ensures.refused (ap Err (passed_on p.0 c.in_err-seen-in-Leave.field-0.0
-    c.from_residual-in_err-seen-in-Leave.result p.1 p.2 e))))
+    c.from_residual.result p.1 p.2 e))))
