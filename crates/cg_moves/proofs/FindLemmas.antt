@@ -3,12 +3,13 @@ use Rattle.std.proofs.Common.{◌≡◌, refl, ℕ, ◌+◌, ◌≤◌, Bool, tr
 use Rattle.std.specs.List.{flat_map}
 use Rattle.std.proofs.lemmas.List.{append-nil}
 use Rattle.std.proofs.lemmas.List.Elements.{filter-append}
+use Rattle.cg_moves.specs.declared.key.BoardKey.{BoardKey}
 use Rattle.cg_moves.specs.declared.walk.Task.{Task}
 use Rattle.cg_moves.specs.declared.walk.Task.TheVariants.{Enter}
 use Rattle.cg_moves.specs.Grid.{Grid}
 use Rattle.cg_moves.specs.Kept.{is_in, kept}
 use Rattle.cg_moves.specs.Rules.{In}
-use Rattle.cg_moves.specs.Seen.{AreKeysIn, AreTooMany, FindsOnly, SeenBoards, key_of}
+use Rattle.cg_moves.specs.Seen.{AddsKeys, AreKeysIn, AreTooMany, SeenBoards, key_of}
 use Rattle.cg_moves.specs.Walks.{Finds, entered, unseen}
 use Rattle.cg_moves.proofs.KeptLemmas.{in_or_not, is_in-false, is_in-true, kept-append, kept-keeps, kept-has, kept-there}
 use Rattle.cg_moves.proofs.Members.{carry, in-append, in-append_left, in-append_right, in-map, in_equal, in_mapped, in_one}
@@ -83,38 +84,67 @@ entered-append (p ∷ ps) qs = ap (λ z. z ++ (Enter p ∷ [])) (entered-append 
 -- ---- one board after another
 
 -- where some of the boards are left to find
-pub record Finding (old new : SeenBoards) (before after : List Task) (boards left : List Grid) : Type 0 where
+pub record Finding (limit : ℕ) (old new : SeenBoards) (before after : List Task) (boards left : List Grid) : Type 0 where
   pub same : new.boards ≡ old.boards
-  pub found : FindsOnly old.found new.found boards
+  pub keeps : (key : BoardKey) → In key old.found → In key new.found
+  pub found : (key : BoardKey) → In key new.found → In key old.found ⊎ In key (map key_of boards)
+  pub rest : (q : Grid) → In q boards → In q left ⊎ In (key_of q) new.found
+  pub within : length new.found ≤ limit
   pub tasks : after ++ entered (unseen old.boards left) ≡ before ++ entered (unseen old.boards boards)
   pub among : (p : Grid) → In p left → In p boards
 
-pub finds-seen : (old new : SeenBoards) (tasks : List Task) (p : Grid) → new.boards ≡ old.boards
-    → FindsOnly old.found new.found (p ∷ []) → In p old.boards → Finds old new tasks tasks (p ∷ [])
-finds-seen old new tasks p e f m = record {
+pub finds-seen : (limit : ℕ) (old new : SeenBoards) (tasks : List Task) (p : Grid) → new.boards ≡ old.boards
+    → AddsKeys old.found new.found (p ∷ []) → length new.found ≤ limit → In p old.boards
+    → Finds limit old new tasks tasks (p ∷ [])
+finds-seen limit old new tasks p e f within m = record {
   same = e;
   found = f;
+  within = within;
   tasks = sym (ap (λ z. tasks ++ entered z) (unseen-there old.boards [] p m) ∙ append-nil tasks);
 }
 
-pub finds-new : (old new : SeenBoards) (tasks more : List Task) (p : Grid) → new.boards ≡ old.boards
-    → FindsOnly old.found new.found (p ∷ []) → ¬ In p old.boards → more ≡ tasks ++ (Enter p ∷ [])
-    → Finds old new tasks more (p ∷ [])
-finds-new old new tasks more p e f out g = record {
+pub finds-new : (limit : ℕ) (old new : SeenBoards) (tasks more : List Task) (p : Grid) → new.boards ≡ old.boards
+    → AddsKeys old.found new.found (p ∷ []) → length new.found ≤ limit → ¬ In p old.boards
+    → more ≡ tasks ++ (Enter p ∷ []) → Finds limit old new tasks more (p ∷ [])
+finds-new limit old new tasks more p e f within out g = record {
   same = e;
   found = f;
+  within = within;
   tasks = g ∙ sym (ap (λ z. tasks ++ entered z) (unseen-new old.boards [] p out));
 }
 
-pub finding-begun : (old : SeenBoards) (tasks : List Task) (boards : List Grid) → Finding old old tasks tasks boards boards
-finding-begun old tasks boards = record { same = refl; found = λ k m. inl m; tasks = refl; among = λ p m. m }
+no_boards : (ps : List Grid) → length ps ≡ 0 → ps ≡ []
+no_boards [] e = refl
+no_boards (p ∷ ps) e = absurd (omega arith)
 
-module _ (old new : SeenBoards) (before after : List Task) (boards left : List Grid)
-    (h : Finding old new before after boards left) where
-  pub finding-done : left ≡ [] → Finds old new before after boards
-  finding-done e = record {
+pub finding-begun : (limit : ℕ) (old : SeenBoards) (tasks : List Task) (boards : List Grid) → length old.found ≤ limit
+    → Finding limit old old tasks tasks boards boards
+finding-begun limit old tasks boards within = record {
+  same = refl;
+  keeps = λ k m. m;
+  found = λ k m. inl m;
+  rest = λ q m. inl m;
+  within = within;
+  tasks = refl;
+  among = λ p m. m;
+}
+
+module _ (limit : ℕ) (old new : SeenBoards) (before after : List Task) (boards left : List Grid)
+    (h : Finding limit old new before after boards left) where
+  pub finding-done : length left ≡ 0 → Finds limit old new before after boards
+  finding-done empty = let e = no_boards left empty in record {
     same = h.same;
-    found = h.found;
+    found = λ k. (
+      h.found k,
+      λ m. elim m [
+        | inl there ↦ h.keeps k there
+        | inr one ↦ (let (q, n, f) = in-map key_of k boards one in elim (h.rest q n) [
+          | inl o ↦ absurd (carry q left [] e o)
+          | inr o ↦ in_equal k (key_of q) new.found f o
+        ])
+      ],
+    );
+    within = h.within;
     tasks = sym (append-nil after) ∙ ap (λ z. after ++ entered (unseen old.boards z)) (sym e) ∙ h.tasks;
   }
 
@@ -122,14 +152,23 @@ module _ (old new : SeenBoards) (before after : List Task) (boards left : List G
     pub finding-own : In p boards
     finding-own = h.among p (carry p (rest ++ (p ∷ [])) left (sym cut) (in-append_right p rest (p ∷ []) (inl refl)))
 
-    pub finding-more : (next : SeenBoards) (more : List Task) → Finds new next after more (p ∷ [])
-        → Finding old next before more boards rest
+    pub finding-more : (next : SeenBoards) (more : List Task) → Finds limit new next after more (p ∷ [])
+        → Finding limit old next before more boards rest
     finding-more next more f = record {
       same = f.same ∙ h.same;
-      found = λ k m. elim (f.found k m) [
+      keeps = λ k m. (f.found k).1 (inl (h.keeps k m));
+      found = λ k m. elim ((f.found k).0 m) [
         | inl there ↦ h.found k there
         | inr one ↦ inr (in_equal k (key_of p) (map key_of boards) (in_one k (key_of p) one) (in_mapped key_of p boards finding-own))
       ];
+      rest = λ q m. elim (h.rest q m) [
+        | inl there ↦ elim (in-append q rest (p ∷ []) (carry q left (rest ++ (p ∷ [])) cut there)) [
+          | inl n ↦ inl n
+          | inr n ↦ inr ((f.found (key_of q)).1 (inr (inl (ap key_of (in_one q p n)))))
+        ]
+        | inr there ↦ inr ((f.found (key_of q)).1 (inl there))
+      ];
+      within = f.within;
       tasks =
           ap (λ z. z ++ entered (unseen old.boards rest)) (f.tasks
           ∙ ap (λ z. after ++ entered (unseen z (p ∷ []))) h.same)
@@ -141,8 +180,8 @@ module _ (old new : SeenBoards) (before after : List Task) (boards left : List G
       among = λ q m. h.among q (carry q (rest ++ (p ∷ [])) left (sym cut) (in-append_left q rest (p ∷ []) m));
     }
 
-    pub finding-refused : (limit : ℕ) → AreTooMany limit new.found (p ∷ []) → AreTooMany limit old.found boards
-    finding-refused limit many all found has = many all
+    pub finding-refused : AreTooMany limit new.found (p ∷ []) → AreTooMany limit old.found boards
+    finding-refused many all found has = many all
         (λ k m. elim (h.found k m) [
           | inl there ↦ found k there
           | inr one ↦ (let (q, n, e) = in-map key_of k boards one in

@@ -1,25 +1,24 @@
 -- Boards that were seen, with the keys of those that were found in a map.
-use Rattle.std.proofs.Common.{◌≡◌, refl, ℕ, ◌+◌, ◌<◌, ◌≤◌, Bool, true, false, cond, inl, inr, ⊎_elim, ◌⊎◌, ◌||◌, List, [], ◌∷◌, ◌++◌, length, length-append, map, ap, sym, ◌∙◌, subst, arith}
-use Rattle.std.specs.Prelude.{◌↔◌, IfOk, None, Some, Ok, Err, Option, Result, Vec}
+use Rattle.std.proofs.Common.{◌≡◌, refl, ℕ, ◌+◌, ◌<◌, ◌≤◌, Bool, true, false, cond, inl, inr, ⊎_elim, ◌⊎◌, ◌||◌, if◌then◌else◌, List, [], ◌∷◌, ◌++◌, length, map, ap, sym, ◌∙◌, subst, arith}
+use Rattle.std.specs.Prelude.{◌↔◌, IfOk, OnOk, None, Some, Ok, Err, Option, Result}
 use Rattle.std.specs.Cmp.{IsEquivalence}
 use Rattle.std.specs.HashMap.{HashMap, IsUnique, get, hash_map_len, keys}
-use Rattle.std.specs.List.{AllByRecursion, list_any}
+use Rattle.std.specs.List.{AllByRecursion, IsDistinct, list_any}
 use Rattle.std.specs.Map.{keys_of, lookup}
-use Rattle.std.specs.Option.{unwrap_or}
+use Rattle.std.specs.Option.{IsSome, is_some, unwrap_or}
 use Rattle.std.proofs.lemmas.Bool.{cases_Bool, cond-false, cond-true}
-use Rattle.std.proofs.lemmas.List.{length-map}
-use Rattle.std.proofs.lemmas.Map.Keys.{IsDistinct-cons}
+use Rattle.std.proofs.lemmas.List.{length-map, map-append}
+use Rattle.std.proofs.lemmas.Map.Keys.{IsDistinct-cons, IsDistinct-push}
 use Rattle.std.proofs.lemmas.Map.Made.{length-le_from_is_member}
+use Rattle.std.proofs.lemmas.Map.Steps.{length-le_from_keys}
 use Rattle.cg_moves.specs.declared.key.BoardKey.{BoardKey}
 use Rattle.cg_moves.specs.Grid.{Grid, IsGrid}
 use Rattle.cg_moves.specs.Rules.{In}
-use Rattle.cg_moves.specs.Kept.{one_more}
-use Rattle.cg_moves.specs.Seen.{AreGrids, AreKeysIn, AreTooMany, FindsOnly, HasKeys, key_eq, key_of}
+use Rattle.cg_moves.specs.Seen.{AddsKeys, AreGrids, AreKeysIn, AreTooMany, HasKeys, SeenBoards, key_eq, key_of}
 use Rattle.cg_moves.specs.declared.fault.ReachFault.{ReachFault}
 use Rattle.cg_moves.specs.declared.fault.ReachFault.TheVariants.{Positions}
 use Rattle.cg_moves.proofs.KeyLemmas.{key_eq-back, key_eq-refl, key_eq-same, one-key}
 use Rattle.cg_moves.proofs.Members.{in-append, in-append_left, in-append_right, in-map, in_equal, in_mapped, in_one}
-use Rattle.cg_moves.proofs.KeptLemmas.{one_more-new}
 
 -- ---- a map with a mark at one key
 
@@ -123,12 +122,42 @@ module _ (q : BoardKey) where
       or_true true = refl
       or_true false = refl
 
-pub finds_key : {S : Type 0} (s n : HashMap BoardKey Bool S) (key : BoardKey) (mark : Bool) (p : Grid)
-    → TakesKey s n key mark → key ≡ key_of p → FindsOnly (keys s) (keys n) (p ∷ [])
-finds_key {S} s n key mark p takes is q m = ⊎_elim
-    (λ e. inr (inl (sym (key_eq-back key q e) ∙ is)))
-    (λ e. inl (known-key q s.entries (λ none. key-known q n.entries m (at_others s n key mark q takes e ∙ none))))
-    (cases_Bool (key_eq key q))
+-- the keys with one more
+pub adds_key : {S : Type 0} (s n : HashMap BoardKey Bool S) (key : BoardKey) (mark : Bool) (p : Grid)
+    → TakesKey s n key mark → key ≡ key_of p → AddsKeys (keys s) (keys n) (p ∷ [])
+adds_key {S} s n key mark p takes is q = (
+  λ m. ⊎_elim
+      (λ e. inr (inl (sym (key_eq-back key q e) ∙ is)))
+      (λ e. inl (known-key q s.entries (λ none. key-known q n.entries m (at_others s n key mark q takes e ∙ none))))
+      (cases_Bool (key_eq key q)),
+  λ m. known-key q n.entries (λ none. ⊎_elim
+      (λ e. (let f = at_key s n key mark q takes e in cc))
+      (λ e. elim m [
+        | inl there ↦ key-known q s.entries there (sym (at_others s n key mark q takes e) ∙ none)
+        | inr one ↦ (let f = key_eq-same key q (is ∙ sym (in_one q (key_of p) one)) in cc)
+      ])
+      (cases_Bool (key_eq key q))),
+)
+
+-- a key that was found before
+pub adds_known : {S : Type 0} (s : HashMap BoardKey Bool S) (key : BoardKey) (mark : Bool) (p : Grid)
+    → get key_eq s key ≡ Some mark → key ≡ key_of p → AddsKeys (keys s) (keys s) (p ∷ [])
+adds_known {S} s key mark p there is q = (
+  λ m. inl m,
+  λ m. elim m [
+    | inl known ↦ known
+    | inr one ↦ in_equal q key (keys s) (in_one q (key_of p) one ∙ sym is) (known-key key s.entries (λ none. (let f = there in cc)))
+  ],
+)
+
+-- the map has a mark where the key was found
+pub has_mark : {S : Type 0} (s : HashMap BoardKey Bool S) (key : BoardKey) (mark : Option Bool) → mark ≡ get key_eq s key
+    → In key (keys s) → IsSome mark
+has_mark {S} s key (Some b) e m = refl
+has_mark {S} s key None e m = absurd (key-known key s.entries m (sym e))
+
+pub some_key : (mark : Option Bool) (b : Bool) → mark ≡ Some b → IsSome mark
+some_key mark b e = ap is_some e
 
 key_laws : IsEquivalence key_eq
 key_laws = record {
@@ -154,11 +183,40 @@ too_many {S} s key p limit unique none is full all found has =
     let b = length-map s.entries (λ (e : BoardKey × Bool). e.0) in
     omega arith
 
+pub one_key-more : {S : Type 0} (s n : HashMap BoardKey Bool S) (old : Option Bool) → old ≡ None
+    → hash_map_len n ≡ hash_map_len s + (if is_some old then 0 else 1) → length (keys n) ≡ hash_map_len s + 1
+one_key-more {S} s n (Some b) none e = cc
+one_key-more {S} s n None none e = length-map n.entries (λ (e : BoardKey × Bool). e.0) ∙ e
+
+-- one board more, which was new
+pub distinct-more : (boards : List Grid) (p : Grid) → IsDistinct key_eq (map key_of boards) → ¬ In (key_of p) (map key_of boards)
+    → IsDistinct key_eq (map key_of (boards ++ (p ∷ [])))
+distinct-more boards p distinct new =
+    let P : List BoardKey → Type 0 = λ z. IsDistinct key_eq z in
+    subst P (sym (map-append key_of boards (p ∷ []))) (IsDistinct-push key_laws (map key_of boards) (key_of p) distinct
+    (⊎_elim (λ t. absurd (new (member-in (key_of p) (map key_of boards) t))) (λ f. f)
+    (cases_Bool (list_any (key_eq (key_of p)) (map key_of boards)))))
+
+-- boards that were seen are no more than were found
+pub fewer-seen : {S : Type 0} (found : HashMap BoardKey Bool S) (boards : List Grid) → HasKeys found boards
+    → IsDistinct key_eq (map key_of boards) → length boards ≤ length (keys found)
+fewer-seen {S} found boards h distinct =
+    let a = length-le_from_keys key_laws (map key_of boards) found.entries distinct
+    (λ q t. some_key (lookup (key_eq q) found.entries) true ((h q).1 (member-in q (map key_of boards) t))) in
+    let b = length-map boards key_of in
+    let c = length-map found.entries (λ (e : BoardKey × Bool). e.0) in
+    omega arith
+
 pub grids-more : (boards : List Grid) (p : Grid) → AreGrids boards → IsGrid p → AreGrids (boards ++ (p ∷ []))
 grids-more boards p all g q m = elim (in-append q boards (p ∷ []) m) [
   | inl there ↦ all q there
   | inr last ↦ (let P : Grid → Type 0 = λ z. IsGrid z in subst P (sym (in_one q p last)) g)
 ]
+
+-- what contracts see, part by part
+pub seen_as : (boards : List Grid) (found : List BoardKey) (more : List Grid) (same : List BoardKey) → boards ≡ more
+    → found ≡ same → ◌≡◌ {A = SeenBoards} (record { boards = boards; found = found }) (record { boards = more; found = same })
+seen_as boards found more same e f = λ i. record { boards = e i; found = f i }
 
 -- ---- look-ups
 
@@ -172,12 +230,12 @@ key-in seen p all g like m =
 
 -- the mark tells whether the board was seen
 pub looked_up : {S : Type 0} (found : HashMap BoardKey Bool S) (items seen : List Grid) (key : BoardKey) (p : Grid)
-    → HasKeys found items × AreGrids items → items ≡ seen → key ≡ key_of p → IsGrid p
+    → HasKeys found items → AreGrids items → items ≡ seen → key ≡ key_of p → IsGrid p
     → ((q : Grid) → In q seen → q.symbols ≡ p.symbols) → (get key_eq found key ≡ Some true) ↔ In p seen
-looked_up {S} found items seen key p h view is g like =
+looked_up {S} found items seen key p h all view is g like =
     let P : BoardKey → Type 0 = λ k. (get key_eq found k ≡ Some true) ↔ In p seen in
     let Q : List Grid → Type 0 = λ z. HasKeys found z × AreGrids z in
-    let (keys, grids) = subst Q view h in
+    let (keys, grids) = subst Q view (h, all) in
     subst P (sym is) (
       λ t. key-in seen p grids g like ((keys (key_of p)).0 t),
       λ m. (keys (key_of p)).1 (in_mapped key_of p seen m),
@@ -201,13 +259,13 @@ told_unseen mark e f = cc
 
 -- ---- what an Ok tells
 
-pub one_more-length : (seen : List Grid) (p : Grid) → ¬ In p seen → length (one_more seen p) ≡ length seen + 1
-one_more-length seen p out = let e = ap length (one_more-new seen p out) in let l = length-append seen (p ∷ []) in omega arith
-
-pub ok_items : {X A E : Type 0} (r : Result (Vec X A) E) (xs ys : List X) → IfOk r (λ more. more.items ≡ xs) → xs ≡ ys
-    → IfOk r (λ more. more.items ≡ ys)
-ok_items (Ok more) xs ys e f = e ∙ f
-ok_items (Err e) xs ys i f = tt
+-- boards within the limit that are these
+pub within_as : {E : Type 0} (result : Result (List Grid) E) (ps qs : List Grid) (limit : ℕ)
+    → IfOk result (λ boards. boards ≡ ps) → IfOk result (λ boards. length boards ≤ limit) → qs ≡ ps
+    → OnOk result (length qs ≤ limit)
+within_as (Ok boards) ps qs limit e within f =
+    let P : List Grid → Type 0 = λ z. length z ≤ limit in subst P (e ∙ sym f) within
+within_as (Err x) ps qs limit e within f = tt
 
 -- a fault that is passed on
 pub passed_on : {A : Type 0} (x y : ReachFault) (r : Result A ReachFault) → r ≡ Err x → x ≡ y → r ≡ Err Positions

@@ -10,10 +10,10 @@ use Rattle.cg_moves.specs.Grid.{Grid}
 use Rattle.cg_moves.specs.Kept.{kept, one_more}
 use Rattle.cg_moves.specs.Plays.{IsPlay, Play}
 use Rattle.cg_moves.specs.Rules.{In}
-use Rattle.cg_moves.specs.Seen.{AreKeysIn, AreTooMany, FindsOnly, SeenBoards, key_of}
+use Rattle.cg_moves.specs.Seen.{AddsKeys, AreKeysIn, AreTooMany, SeenBoards, key_of}
 use Rattle.cg_moves.specs.Walks.{AreKnown, AreReady, AreStarts, Finds, GoesOn, IsWalk, boards_left, entered, load, task_board, task_boards, unseen}
 use Rattle.cg_moves.proofs.FindLemmas.{entered-append, kept-unseen, unseen-all, unseen-among, unseen-fewer, unseen-has}
-use Rattle.cg_moves.proofs.KeptLemmas.{in_or_not, kept-append, kept-has, kept-keeps, kept-length, kept-there, one_more-among, one_more-has, one_more-keeps}
+use Rattle.cg_moves.proofs.KeptLemmas.{in_or_not, kept-append, kept-has, kept-there, one_more-among, one_more-has, one_more-keeps}
 use Rattle.cg_moves.proofs.Members.{carry, in-append, in-append_left, in-append_right, in-flat_map, in-map, in_equal, in_flat_mapped, in_mapped, in_one}
 
 module _ (r : Play) where
@@ -102,6 +102,32 @@ module _ (r : Play) where
       known-append symbols (entered ps) (Enter p ∷ []) (known-entered symbols ps (λ q m. h q (inr m)))
       ((h p (inl refl)).0, (h p (inl refl)).1, tt)
 
+  -- ---- tasks whose boards were found
+
+  pub in-entered : (t : Task) (ps : List Grid) → In t (entered ps) → (p : Grid) × In p ps × (t ≡ Enter p)
+  in-entered t [] m = absurd m
+  in-entered t (p ∷ ps) m = elim (in-append t (entered ps) (Enter p ∷ []) m) [
+    | inl n ↦ (let (q, k, e) = in-entered t ps n in (q, inr k, e))
+    | inr n ↦ (p, inl refl, in_one t (Enter p) n)
+  ]
+
+  -- a task whose board was found
+  abbrev IsFound : List BoardKey → Task → Type 0
+  IsFound found t = In (key_of (task_board t)) found
+
+  found_as : (found : List BoardKey) (t u : Task) → t ≡ u → IsFound found u → IsFound found t
+  found_as found t u e m = in_equal (key_of (task_board t)) (key_of (task_board u)) found (ap (λ z. key_of (task_board z)) e) m
+
+  pub found-entered : (found : List BoardKey) (ps qs : List Grid) → ((q : Grid) → In q qs → In q ps)
+      → ((q : Grid) → In q ps → In (key_of q) found) → (t : Task) → In t (entered qs) → IsFound found t
+  found-entered found ps qs among all t m = let (q, k, e) = in-entered t qs m in
+      found_as found t (Enter q) e (all q (among q k))
+
+  -- the last task's board
+  pub found-last : (limit : ℕ) (seen : SeenBoards) (tasks : List Task) (t : Task) → IsWalk r limit seen (tasks ++ (t ∷ []))
+      → IsFound seen.found t
+  found-last limit seen tasks t w = w.waiting t (in-append_right t tasks (t ∷ []) (inl refl))
+
   -- ---- the steps
 
   module _ (lawful : IsPlay r) where
@@ -141,6 +167,7 @@ module _ (r : Play) where
             closed = w.closed;
             ready = subst P (append-nil tasks) (ready-change seen.boards seen.boards (Enter p) tasks [] (λ q k. k)
                 (λ q k. inl (w.closed p m q k)) w.ready tt);
+            waiting = λ t n. w.waiting t (in-append_left t tasks (Enter p ∷ []) n);
             within = w.within;
             found = subst F (sym rest) w.found;
           };
@@ -192,10 +219,10 @@ module _ (r : Play) where
 
     -- another board is entered
     entered_new : (found : List BoardKey) → IsWalk r limit seen (tasks ++ (Enter p ∷ []))
-        → FindsOnly seen.found found (r.next p)
+        → AddsKeys seen.found found (r.next p) → length found ≤ limit
         → GoesOn r limit seen (record { boards = seen.boards; found = found }) (tasks ++ (Enter p ∷ [])) (tasks ++ entered_tasks)
     unfolding entered_tasks
-    entered_new found w only =
+    entered_new found w adds within =
         let known = known-back w.symbols tasks (Enter p ∷ []) w.known in
         let some = unseen seen.boards (r.next p) in
         let n = some-boards known.1 in
@@ -237,8 +264,17 @@ module _ (r : Play) where
                   ],
                   ready-entered seen.boards some,
                 );
-            within = w.within;
-            found = subst F (sym rest) (λ key m. elim (only key m) [
+            waiting = λ t m. elim (in-append t tasks entered_tasks m) [
+              | inl o ↦ (adds (key_of (task_board t))).1 (inl (w.waiting t (in-append_left t tasks (Enter p ∷ []) o)))
+              | inr o ↦ elim (in-append t (Leave p ∷ []) (entered some) o) [
+                | inl l ↦ found_as found t (Leave p) (in_one t (Leave p) l) ((adds (key_of p)).1 (inl (found-last limit seen tasks
+                    (Enter p) w)))
+                | inr l ↦ found-entered found (r.next p) some (unseen-among seen.boards (r.next p)) (λ q n. (adds (key_of q)).1
+                    (inr (in_mapped key_of q (r.next p) n))) t l
+              ]
+            ];
+            within = within;
+            found = subst F (sym rest) (λ key m. elim ((adds key).0 m) [
               | inl there ↦ w.found key there
               | inr one ↦ (let (q, o, f) = in-map key_of key (r.next p) one in
                   in_equal key (key_of q) (map key_of final) f (in_mapped key_of q final (next-seen w q o)))
@@ -249,7 +285,7 @@ module _ (r : Play) where
         }
 
     pub enter_new : (new : SeenBoards) (after : List Task) → IsWalk r limit seen (tasks ++ (Enter p ∷ []))
-        → Finds seen new (tasks ++ (Leave p ∷ [])) after (r.next p)
+        → Finds limit seen new (tasks ++ (Leave p ∷ [])) after (r.next p)
         → GoesOn r limit seen new (tasks ++ (Enter p ∷ [])) after
     unfolding entered_tasks
     enter_new new after w f =
@@ -259,12 +295,12 @@ module _ (r : Play) where
         let P : SeenBoards → Type 0 = λ z. GoesOn r limit seen z (tasks ++ (Enter p ∷ [])) after in
         let Q : List Task → Type 0 = λ z. GoesOn r limit seen (record { boards = seen.boards; found = new.found })
         (tasks ++ (Enter p ∷ [])) z in
-        subst P (sym is) (subst Q (sym shape) (entered_new new.found w f.found))
+        subst P (sym is) (subst Q (sym shape) (entered_new new.found w f.found f.within))
 
     -- the same, where entering it may fail
     pub enter_goes_on : {W E : Type 0} (t : Task) → t ≡ Enter p → IsWalk r limit seen (tasks ++ (t ∷ []))
         → (seen_of : W → SeenBoards) (tasks_of : W → List Task) (result : Result W E)
-        → IfOk result (λ w. Finds seen (seen_of w) (tasks ++ (Leave p ∷ [])) (tasks_of w) (r.next p))
+        → IfOk result (λ w. Finds limit seen (seen_of w) (tasks ++ (Leave p ∷ [])) (tasks_of w) (r.next p))
         → IfOk result (λ w. GoesOn r limit seen (seen_of w) (tasks ++ (t ∷ [])) (tasks_of w))
     enter_goes_on t is walk seen_of tasks_of (Ok w) f =
         let P : Task → Type 0 = λ z. IsWalk r limit seen (tasks ++ (z ∷ [])) in
@@ -279,9 +315,14 @@ module _ (r : Play) where
 
     -- a board is left
     pub leave : (more : SeenBoards) → IsWalk r limit seen (tasks ++ (Leave p ∷ []))
-        → more.boards ≡ one_more seen.boards p → FindsOnly seen.found more.found (p ∷ []) → length more.boards ≤ limit
+        → more ≡ record { boards = one_more seen.boards p; found = seen.found }
         → GoesOn r limit seen more (tasks ++ (Leave p ∷ [])) tasks
-    leave more w e only within =
+    leave more w is =
+        let e = ap (λ (s : SeenBoards). s.boards) is in
+        let same = ap (λ (s : SeenBoards). s.found) is in
+        let G : List BoardKey → Type 0 = λ z. AreKeysIn z (kept more.boards (boards_left r tasks)) in
+        let W : List BoardKey → Type 0 = λ z. (t : Task) → In t tasks → In (key_of (task_board t)) z in
+        let K : List BoardKey → Type 0 = λ z. length z ≤ limit in
         let known = known-back w.symbols tasks (Leave p ∷ []) w.known in
         let l = load-append tasks (Leave p ∷ []) in
         let P : List Task → Type 0 = λ z. AreReady r more.boards z in
@@ -290,7 +331,7 @@ module _ (r : Play) where
         let own : In p more.boards = carry p (one_more seen.boards p) more.boards (sym e) (one_more-has seen.boards p) in
         let C : Grid → Type 0 = λ z. z.symbols ≡ w.symbols in
         let D : Grid → Type 0 = λ z. In z more.boards in
-        let F : List Grid → Type 0 = λ z. AreKeysIn more.found z in
+        let F : List Grid → Type 0 = λ z. AreKeysIn seen.found z in
         let final = kept seen.boards (boards_left r (tasks ++ (Leave p ∷ []))) in
         let rest : kept more.boards (boards_left r tasks) ≡ final = ap (λ z. kept z (boards_left r tasks)) e
         ∙ sym (ap (λ z. kept seen.boards z) (boards_left-append tasks (Leave p ∷ []))) in
@@ -304,9 +345,9 @@ module _ (r : Play) where
             known = known-front w.symbols tasks (Leave p ∷ []) w.known;
             closed = λ q m k n. elim (one_more-among seen.boards p q (carry q more.boards (one_more seen.boards p) e m)) [
               | inl there ↦ has_more k (w.closed q there k n)
-              | inr same ↦ (let G : Grid → Type 0 = λ z. In k (r.all z) in
+              | inr same ↦ (let H : Grid → Type 0 = λ z. In k (r.all z) in
                   elim (in-append k (flat_map r.all (r.next p)) (p ∷ []) (carry k (r.all p)
-                  (flat_map r.all (r.next p) ++ (p ∷ [])) (lawful.all p known.1) (subst G
+                  (flat_map r.all (r.next p) ++ (p ∷ [])) (lawful.all p known.1) (subst H
                   same n))) [
                     | inl o ↦ has_more k (ready-last seen.boards p tasks w.ready k o)
                     | inr o ↦ subst D (sym (in_one k p o)) own
@@ -314,24 +355,13 @@ module _ (r : Play) where
             ];
             ready = subst P (append-nil tasks) (ready-change seen.boards more.boards (Leave p) tasks [] has_more (λ q m. inl (subst D
                 (sym (in_one q p m)) own)) w.ready tt);
-            within = within;
-            found = subst F (sym rest) (λ key m. elim (only key m) [
-              | inl there ↦ w.found key there
-              | inr one ↦ in_equal key (key_of p) (map key_of final) (in_one key (key_of p) one) (in_mapped key_of p final
-                  (carry p (kept more.boards (boards_left r tasks)) final rest (kept-keeps more.boards (boards_left r tasks) p own)))
-            ]);
+            waiting = subst W (sym same) (λ t m. w.waiting t (in-append_left t tasks (Leave p ∷ []) m));
+            within = subst K (sym same) w.within;
+            found = subst G (sym same) (subst F (sym rest) w.found);
           };
           rest = rest;
           less = omega arith;
         }
-
-    -- where one board more is too many
-    pub leave_refused : limit < length (one_more seen.boards p)
-        → limit < length (kept seen.boards (boards_left r (tasks ++ (Leave p ∷ []))))
-    leave_refused above =
-        let a = kept-length seen.boards (p ∷ []) (boards_left r tasks) in
-        let b = ap (λ z. length (kept seen.boards z)) (boards_left-append tasks (Leave p ∷ [])) in
-        omega arith
 
   -- ---- the board of the next task
 
@@ -362,16 +392,17 @@ module _ (r : Play) where
     pub start_refused : AreTooMany limit none.found starts → limit < length (kept [] (flat_map r.all starts))
     start_refused many = many (kept [] (flat_map r.all starts)) (λ k m. absurd (none-found k m)) starts-seen
 
-    walk_begins : (found : List BoardKey) → FindsOnly none.found found starts
+    walk_begins : (found : List BoardKey) → AddsKeys none.found found starts → length found ≤ limit
         → IsWalk r limit (record { boards = []; found = found }) (entered starts)
-    walk_begins found only = record {
+    walk_begins found adds within = record {
       symbols = h.symbols;
       seen_symbols = λ p m. absurd m;
       known = known-entered h.symbols starts h.known;
       closed = λ p m. absurd m;
       ready = ready-entered [] starts;
-      within = omega arith;
-      found = λ key m. elim (only key m) [
+      waiting = found-entered found starts starts (λ q m. m) (λ q m. (adds (key_of q)).1 (inr (in_mapped key_of q starts m)));
+      within = within;
+      found = λ key m. elim ((adds key).0 m) [
         | inl there ↦ absurd (none-found key there)
         | inr one ↦ (let (q, o, f) = in-map key_of key starts one in
             let final = kept [] (boards_left r (entered starts)) in
@@ -380,7 +411,7 @@ module _ (r : Play) where
       ];
     }
 
-    pub walk_begun : (new : SeenBoards) (none_left tasks : List Task) → none_left ≡ [] → Finds none new none_left tasks starts
+    pub walk_begun : (new : SeenBoards) (none_left tasks : List Task) → none_left ≡ [] → Finds limit none new none_left tasks starts
         → IsWalk r limit new tasks × (kept new.boards (boards_left r tasks) ≡ kept [] (flat_map r.all starts))
     walk_begun new none_left tasks e f =
         let same = f.same ∙ no_boards in
@@ -389,6 +420,6 @@ module _ (r : Play) where
         ∙ ap (λ z. entered (unseen z starts)) no_boards ∙ ap entered (unseen-all starts) in
         let P : SeenBoards → Type 0 = λ z. IsWalk r limit z tasks in
         let Q : List Task → Type 0 = λ z. IsWalk r limit (record { boards = []; found = new.found }) z in (
-          subst P (sym is) (subst Q (sym all) (walk_begins new.found f.found)),
+          subst P (sym is) (subst Q (sym all) (walk_begins new.found f.found f.within)),
           ap (λ z. kept z (boards_left r tasks)) same ∙ ap (kept []) (ap (boards_left r) all ∙ boards_left-entered starts),
         )

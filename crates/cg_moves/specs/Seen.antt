@@ -48,9 +48,9 @@ pub record SeenBoards : Type 0 where
 abbrev pub AreKeysIn : List BoardKey → List Grid → Type 0
 AreKeysIn keys boards = (key : BoardKey) → In key keys → In key (map key_of boards)
 
--- no keys were found but those before, and those of the boards
-abbrev pub FindsOnly : List BoardKey → List BoardKey → List Grid → Type 0
-FindsOnly old new boards = (key : BoardKey) → In key new → In key old ⊎ In key (map key_of boards)
+-- the keys that were found before, and those of the boards
+abbrev pub AddsKeys : List BoardKey → List BoardKey → List Grid → Type 0
+AddsKeys old new boards = (key : BoardKey) → In key new ↔ (In key old ⊎ In key (map key_of boards))
 
 -- where these keys were found, each list that has their boards, and these boards, has more than so many
 abbrev pub AreTooMany : ℕ → List BoardKey → List Grid → Type 0

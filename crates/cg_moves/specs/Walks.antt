@@ -7,7 +7,7 @@ use Rattle.cg_moves.specs.Grid.{Grid}
 use Rattle.cg_moves.specs.Kept.{is_in, kept}
 use Rattle.cg_moves.specs.Plays.{Play}
 use Rattle.cg_moves.specs.Rules.{In}
-use Rattle.cg_moves.specs.Seen.{AreKeysIn, FindsOnly, SeenBoards}
+use Rattle.cg_moves.specs.Seen.{AddsKeys, AreKeysIn, SeenBoards, key_of}
 
 -- the boards of a task: to enter a board is to see all that come after it and the board itself, and to leave it is to see it alone
 abbrev pub task_boards : Play → Task → List Grid
@@ -29,9 +29,10 @@ abbrev pub unseen : List Grid → List Grid → List Grid
 unseen seen ps = filter (λ p. not (is_in seen p)) ps
 
 -- the walk after the boards were found: those that weren't seen are to be entered
-pub record Finds (old new : SeenBoards) (before after : List Task) (boards : List Grid) : Type 0 where
+pub record Finds (limit : ℕ) (old new : SeenBoards) (before after : List Task) (boards : List Grid) : Type 0 where
   pub same : new.boards ≡ old.boards
-  pub found : FindsOnly old.found new.found boards
+  pub found : AddsKeys old.found new.found boards
+  pub within : length new.found ≤ limit
   pub tasks : after ≡ before ++ entered (unseen old.boards boards)
 
 -- with each board all that come after it are in the list
@@ -72,15 +73,16 @@ abbrev pub load : Play → List Task → ℕ
 load r [] = 0
 load r (t ∷ ts) = load r ts + task_load r t
 
--- what holds of a walk: the boards that were seen, each with all that come after it, and the tasks that are left; all that were
--- found are seen in the end
+-- what holds of a walk: the boards that were seen, each with all that come after it, and the tasks that are left; the boards of
+-- the tasks were found, all that were found are seen in the end, and they are no more than the limit
 pub record IsWalk (r : Play) (limit : ℕ) (seen : SeenBoards) (tasks : List Task) : Type 0 where
   pub symbols : List ℕ
   pub seen_symbols : (p : Grid) → In p seen.boards → p.symbols ≡ symbols
   pub known : AreKnown r symbols tasks
   pub closed : IsClosed r seen.boards
   pub ready : AreReady r seen.boards tasks
-  pub within : length seen.boards ≤ limit
+  pub waiting : (t : Task) → In t tasks → In (key_of (task_board t)) seen.found
+  pub within : length seen.found ≤ limit
   pub found : AreKeysIn seen.found (kept seen.boards (boards_left r tasks))
 
 -- the walk after some task: it sees the same boards in the end, and there is less to do

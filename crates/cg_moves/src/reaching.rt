@@ -23,8 +23,7 @@ pub fn reach<R: Rules>(
     ensures refused { result ≡ Err ReachFault.Positions → limit < length (reach_of (R.game rules.now) start.now) }
 {
     let starts = alone(alloc, start)?;
-    let seen = seen_from(alloc, rules, Course::Moves, starts, limit)?;
-    Ok(seen.into_boards())
+    seen_from(alloc, rules, Course::Moves, starts, limit)
 }
 
 /// The boards that play can come to from the pieces of the start, which must be a board of the game; the rules must cut. For
@@ -45,6 +44,5 @@ pub fn reach_pieces<R: Rules>(
         → limit < length (piece_reach_of (R.game rules.now) start.now) }
 {
     let starts = pieces_in(alloc, rules, start)?;
-    let seen = seen_from(alloc, rules, Course::Pieces, starts, limit)?;
-    Ok(seen.into_boards())
+    seen_from(alloc, rules, Course::Pieces, starts, limit)
 }

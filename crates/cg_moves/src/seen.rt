@@ -1,12 +1,12 @@
 //! Boards that were seen, each once, and the keys of boards that were found.
-ghost use Rattle.std.specs.Prelude.{◌≡◌, ◌<◌, ◌≤◌, ◌↔◌, ◌∷◌, [], IfOk, IsTrue, length, Err};
+ghost use Rattle.std.specs.Prelude.{◌≡◌, ◌≤◌, ◌↔◌, ◌∷◌, [], IfOk, IsTrue, length, map, Err};
 ghost use Rattle.cg_moves.specs.Grid.{Grid};
 ghost use Rattle.cg_moves.specs.Rules.{In};
 ghost use Rattle.cg_moves.specs.Kept.{one_more};
-ghost use Rattle.cg_moves.specs.Seen.{AreTooMany, FindsOnly};
+ghost use Rattle.cg_moves.specs.Seen.{AddsKeys, AreTooMany, key_of};
 
 use crate::{Board, BoardKey, Boards, ReachFault};
-use std::alloc::Global;
+use std::alloc::{AllocError, Global};
 use std::collections::HashMap;
 use std::marker::Model;
 
@@ -20,7 +20,9 @@ pub(crate) struct Seen {
 
 impl Model for Seen {
     ghost use Rattle.std.specs.HashMap.{keys};
-    ghost use Rattle.cg_moves.specs.Seen.{AreGrids, HasKeys, SeenBoards};
+    ghost use Rattle.std.specs.List.{IsDistinct};
+    ghost use Rattle.std.specs.Prelude.{map};
+    ghost use Rattle.cg_moves.specs.Seen.{AreGrids, HasKeys, SeenBoards, key_eq, key_of};
     ghost use Rattle.cg_moves.specs.SeenCode.{seen_code};
 
     ghost Value = { SeenBoards };
@@ -29,7 +31,8 @@ impl Model for Seen {
 
     ghost view = { λ s. record { boards = s.boards.items; found = keys s.found } };
 
-    ghost invariant = { λ s. HasKeys s.found s.boards.items × AreGrids s.boards.items };
+    ghost invariant = { λ s. HasKeys s.found s.boards.items × AreGrids s.boards.items
+        × IsDistinct key_eq (map key_of s.boards.items) };
 }
 
 impl Seen {
@@ -54,10 +57,12 @@ impl Seen {
 
     /// Notes that the board was found, and tells whether it was seen. There may be so many that were found.
     pub(crate) fn find(&mut self, board: &Board, limit: u64) -> Result<bool, ReachFault>
-        requires { (p : Grid) → In p self.old.boards → p.symbols ≡ board.now.symbols }
+        requires within { length self.old.found ≤ limit }
+        requires symbols { (p : Grid) → In p self.old.boards → p.symbols ≡ board.now.symbols }
         ensures told { IfOk result (λ seen. IsTrue seen ↔ In board.now self.old.boards) }
         ensures boards { IfOk result (λ _. self.new.boards ≡ self.old.boards) }
-        ensures found { IfOk result (λ _. FindsOnly self.old.found self.new.found (board.now ∷ [])) }
+        ensures found { IfOk result (λ _. AddsKeys self.old.found self.new.found (board.now ∷ [])) }
+        ensures within { IfOk result (λ _. length self.new.found ≤ limit) }
         ensures refused { result ≡ Err ReachFault.Positions → AreTooMany limit self.old.found (board.now ∷ []) }
     {
         let key = board.key();
@@ -71,14 +76,11 @@ impl Seen {
         Ok(false)
     }
 
-    /// The boards with one more behind them, unless it is there; of which there may be so many.
-    pub(crate) fn add(self, board: Board, limit: u64) -> Result<Seen, ReachFault>
-        requires within { length self.boards ≤ limit }
+    /// The boards with one more behind them, unless it is there. It must have been found.
+    pub(crate) fn add(self, board: Board) -> Result<Seen, AllocError>
+        requires found { In (key_of board) self.found }
         requires symbols { (p : Grid) → In p self.boards → p.symbols ≡ board.symbols }
-        ensures added { IfOk result (λ more. more.boards ≡ one_more self.boards board) }
-        ensures found { IfOk result (λ more. FindsOnly self.found more.found (board ∷ [])) }
-        ensures within { IfOk result (λ more. length more.boards ≤ limit) }
-        ensures refused { result ≡ Err ReachFault.Positions → limit < length (one_more self.boards board) }
+        ensures { IfOk result (λ more. more ≡ record self { boards = one_more self.boards board }) }
     {
         let Seen {
             mut boards,
@@ -87,16 +89,14 @@ impl Seen {
         if found.insert(board.key(), true)?.unwrap_or(false) {
             return Ok(Seen { boards, found });
         }
-        if boards.len() as u64 >= limit {
-            return Err(ReachFault::Positions);
-        }
         boards.push(board)?;
         Ok(Seen { boards, found })
     }
 
-    /// The boards, in their order.
+    /// The boards, in their order. Each of them was found.
     pub(crate) fn into_boards(self) -> Boards
-        ensures { result ≡ self.boards }
+        ensures boards { result ≡ self.boards }
+        ensures found { length self.boards ≤ length self.found }
     {
         let Seen { boards, found: _ } = self;
         Boards::of(boards)

@@ -11,7 +11,7 @@ ghost use Rattle.cg_moves.specs.declared.walk.Task.TheVariants.{Leave};
 
 use crate::course::{Course, next_boards};
 use crate::seen::Seen;
-use crate::{Board, ReachFault, Rules};
+use crate::{Board, Boards, ReachFault, Rules};
 use std::alloc::Global;
 
 /// What is left to do in a walk: to see all boards that come after a board, or to see the board itself, where the others were
@@ -31,8 +31,9 @@ struct Walk {
 
 /// The walk after the board was found. It is to be entered next, unless it was seen.
 fn find(walk: Walk, board: Board, limit: u64) -> Result<Walk, ReachFault>
-    requires { (p : Grid) → In p walk.seen.boards → p.symbols ≡ board.symbols }
-    ensures finds { IfOk result (λ w. Finds walk.seen w.seen walk.tasks.items w.tasks.items (board ∷ [])) }
+    requires within { length walk.seen.found ≤ limit }
+    requires symbols { (p : Grid) → In p walk.seen.boards → p.symbols ≡ board.symbols }
+    ensures finds { IfOk result (λ w. Finds limit walk.seen w.seen walk.tasks.items w.tasks.items (board ∷ [])) }
     ensures refused { result ≡ Err ReachFault.Positions → AreTooMany limit walk.seen.found (board ∷ []) }
 {
     let Walk {
@@ -48,8 +49,9 @@ fn find(walk: Walk, board: Board, limit: u64) -> Result<Walk, ReachFault>
 
 /// The walk after the boards were found. Those that weren't seen are to be entered, the first board first.
 fn find_all(walk: Walk, boards: Vec<Board>, limit: u64) -> Result<Walk, ReachFault>
-    requires { (p q : Grid) → In p walk.seen.boards → In q boards.items → p.symbols ≡ q.symbols }
-    ensures finds { IfOk result (λ w. Finds walk.seen w.seen walk.tasks.items w.tasks.items boards.items) }
+    requires within { length walk.seen.found ≤ limit }
+    requires symbols { (p q : Grid) → In p walk.seen.boards → In q boards.items → p.symbols ≡ q.symbols }
+    ensures finds { IfOk result (λ w. Finds limit walk.seen w.seen walk.tasks.items w.tasks.items boards.items) }
     ensures refused { result ≡ Err ReachFault.Positions → AreTooMany limit walk.seen.found boards.items }
 {
     let mut walk = walk;
@@ -71,8 +73,9 @@ fn expand<R: Rules>(
 ) -> Result<Walk, ReachFault>
     requires has { (R.game rules.now).has board ≡ true }
     requires may { MayGo (R.game rules.now) course }
+    requires within { length walk.seen.found ≤ limit }
     requires symbols { (p : Grid) → In p walk.seen.boards → p.symbols ≡ board.symbols }
-    ensures finds { IfOk result (λ w. Finds walk.seen w.seen (walk.tasks.items ++ (Leave board ∷ [])) w.tasks.items
+    ensures finds { IfOk result (λ w. Finds limit walk.seen w.seen (walk.tasks.items ++ (Leave board ∷ [])) w.tasks.items
         ((play_of (R.game rules.now) course).next board)) }
     ensures refused { result ≡ Err ReachFault.Positions
         → AreTooMany limit walk.seen.found ((play_of (R.game rules.now) course).next board) }
@@ -108,7 +111,7 @@ fn step<R: Rules>(
         }
         Task::Leave(board) => {
             let Walk { seen, tasks } = walk;
-            let seen = seen.add(board, limit)?;
+            let seen = seen.add(board)?;
             Ok(Walk { seen, tasks })
         }
     }
@@ -121,12 +124,12 @@ pub(crate) fn seen_from<R: Rules>(
     course: Course,
     starts: Vec<Board>,
     limit: u64,
-) -> Result<Seen, ReachFault>
+) -> Result<Boards, ReachFault>
     requires may { MayGo (R.game rules.now) course }
     requires starts { AreStarts (play_of (R.game rules.now) course) starts.items }
-    ensures seen { IfOk result (λ seen. seen.boards
+    ensures boards { IfOk result (λ boards. boards
         ≡ kept [] (flat_map (play_of (R.game rules.now) course).all starts.items)) }
-    ensures within { IfOk result (λ seen. length seen.boards ≤ limit) }
+    ensures within { IfOk result (λ boards. length boards ≤ limit) }
     ensures refused { result ≡ Err ReachFault.Positions
         → limit < length (kept [] (flat_map (play_of (R.game rules.now) course).all starts.items)) }
 {
@@ -139,5 +142,5 @@ pub(crate) fn seen_from<R: Rules>(
         left = step(alloc, rules, course, left, task, limit)?;
     }
     let Walk { seen, tasks: _ } = left;
-    Ok(seen)
+    Ok(seen.into_boards())
 }

@@ -1,12 +1,11 @@
-use Rattle.std.proofs.Common.{List, ap, length, subst, sym, ◌∙◌, arith}
-use Rattle.std.specs.Prelude.{Err}
-use Rattle.std.proofs.lemmas.Result.{err_from_is_err_and}
+use Rattle.std.proofs.Common.{◌<◌, ◌≡◌, List, length, subst, sym}
+use Rattle.std.specs.Prelude.{IfOk}
 use Rattle.cg_moves.specs.declared.course.Course.TheVariants.{Pieces}
 use Rattle.cg_moves.specs.Grid.{Grid}
 use Rattle.cg_moves.specs.Plays.{play_of}
 use Rattle.cg_moves.specs.Walks.{AreStarts}
 use Rattle.cg_moves.proofs.PlayLemmas.{piece_reach-all, piece_starts}
-use Rattle.cg_moves.proofs.SeenLemmas.{passed_on}
+use Rattle.cg_moves.proofs.SeenLemmas.{within_as}
 use Rattle.cg_moves.proofs.reaching.reach_pieces.Goals as goal
 
 pub seen_from-requires-clause-starts : goal.seen_from-requires-clause-starts
@@ -16,30 +15,26 @@ seen_from-requires-clause-starts g c =
     let P : List Grid → Type 0 = λ z. AreStarts (play_of r Pieces) z in
     subst P (sym c.in_ok-starts.ensures) (piece_starts r lawful (lawful.cut c.requires.cuts) c.args.start.now c.requires.has)
 
-pub returns-in_err-seen-clause-refused : goal.returns-in_err-seen-clause-refused
-returns-in_err-seen-clause-refused g c =
-    let p = err_from_is_err_and c.from_residual-in_err-seen.result c.from_residual-in_err-seen.ensures.1 in λ e.
-    let r = g.R.Rules.game c.args.rules.now in
-    let lawful = g.met.R.Rules.lawful c.args.rules.now in
-    let l = ap length (piece_reach-all r lawful (lawful.cut c.requires.cuts) c.args.start.now c.in_ok-starts.starts.items
-    c.requires.has c.in_ok-starts.ensures) in
-    let m = c.in_err-seen.ensures.refused (ap Err (passed_on p.0 c.in_err-seen.field-0.0 c.from_residual-in_err-seen.result p.1 p.2 e)) in
-    omega arith
-
 pub returns-clause-boards : goal.returns-clause-boards
 returns-clause-boards g c =
     let r = g.R.Rules.game c.args.rules.now in
     let lawful = g.met.R.Rules.lawful c.args.rules.now in
-    c.into_boards.ensures ∙ c.in_ok-seen.ensures.seen
-    ∙ sym (piece_reach-all r lawful (lawful.cut c.requires.cuts) c.args.start.now c.in_ok-starts.starts.items c.requires.has
-    c.in_ok-starts.ensures)
+    let P : List Grid → Type 0 = λ z. IfOk c.seen_from.result (λ boards. boards ≡ z) in
+    subst P (sym (piece_reach-all r lawful (lawful.cut c.requires.cuts) c.args.start.now c.in_ok-starts.starts.items
+    c.requires.has c.in_ok-starts.ensures)) c.seen_from.ensures.boards
 
 pub returns-clause-within : goal.returns-clause-within
 returns-clause-within g c =
     let r = g.R.Rules.game c.args.rules.now in
     let lawful = g.met.R.Rules.lawful c.args.rules.now in
-    let l = ap length (piece_reach-all r lawful (lawful.cut c.requires.cuts) c.args.start.now c.in_ok-starts.starts.items
-    c.requires.has c.in_ok-starts.ensures) in
-    let m = ap length c.in_ok-seen.ensures.seen in
-    let w = c.in_ok-seen.ensures.within in
-    omega arith
+    within_as c.seen_from.result _ _ c.args.limit c.seen_from.ensures.boards c.seen_from.ensures.within
+    (piece_reach-all r lawful (lawful.cut c.requires.cuts) c.args.start.now c.in_ok-starts.starts.items c.requires.has
+    c.in_ok-starts.ensures)
+
+pub returns-clause-refused : goal.returns-clause-refused
+returns-clause-refused g c = λ e.
+    let r = g.R.Rules.game c.args.rules.now in
+    let lawful = g.met.R.Rules.lawful c.args.rules.now in
+    let P : List Grid → Type 0 = λ z. c.args.limit < length z in
+    subst P (sym (piece_reach-all r lawful (lawful.cut c.requires.cuts) c.args.start.now c.in_ok-starts.starts.items
+    c.requires.has c.in_ok-starts.ensures)) (c.seen_from.ensures.refused e)

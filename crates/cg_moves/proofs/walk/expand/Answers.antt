@@ -4,8 +4,8 @@ use Rattle.cg_moves.proofs.Members.{carry}
 use Rattle.cg_moves.proofs.PlayLemmas.{plays}
 use Rattle.cg_moves.proofs.walk.expand.Goals as goal
 
-pub find_all-requires : goal.find_all-requires
-find_all-requires g c p q m n =
+pub find_all-requires-clause-symbols : goal.find_all-requires-clause-symbols
+find_all-requires-clause-symbols g c p q m n =
     let r = g.R.Rules.game c.args.rules.now in
     c.requires.symbols p m
     ∙ sym ((plays r (g.met.R.Rules.lawful c.args.rules.now) c.args.course c.requires.may).symbols c.args.board q c.requires.has

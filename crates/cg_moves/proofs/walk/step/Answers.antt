@@ -1,14 +1,13 @@
 use Rattle.std.proofs.Common.{◌<◌, List, [], ◌∷◌, ◌++◌, length, ap, sym, subst}
-use Rattle.std.specs.Prelude.{Err}
-use Rattle.std.proofs.lemmas.Result.{err_from_is_err_and}
 use Rattle.cg_moves.specs.declared.walk.Task.{Task}
 use Rattle.cg_moves.specs.declared.walk.Task.TheVariants.{Enter}
 use Rattle.cg_moves.specs.Kept.{kept}
 use Rattle.cg_moves.specs.Plays.{play_of}
+use Rattle.cg_moves.specs.Rules.{In}
+use Rattle.cg_moves.specs.Seen.{key_of}
 use Rattle.cg_moves.specs.Walks.{GoesOn, IsWalk, boards_left, task_board}
 use Rattle.cg_moves.proofs.PlayLemmas.{plays}
-use Rattle.cg_moves.proofs.SeenLemmas.{passed_on}
-use Rattle.cg_moves.proofs.WalkLemmas.{enter_goes_on, enter_refused, enter_seen, leave, leave_refused, next_has, next_symbols}
+use Rattle.cg_moves.proofs.WalkLemmas.{enter_goes_on, enter_refused, enter_seen, found-last, leave, next_has, next_symbols}
 use Rattle.cg_moves.proofs.walk.step.Goals as goal
 
 pub has-requires : goal.has-requires
@@ -52,6 +51,12 @@ returns-else-has-clause-refused g c = λ e.
     subst Q (sym c.in-Enter.is) (enter_refused r (plays (g.R.Rules.game c.args.rules.now) (g.met.R.Rules.lawful c.args.rules.now) c.args.course c.requires.may) c.args.limit
     c.args.walk.seen ts c.in-Enter.board (subst P c.in-Enter.is c.requires.walk) (c.expand.ensures.refused e))
 
+pub add-requires-clause-found : goal.add-requires-clause-found
+add-requires-clause-found g c =
+    let r = play_of (g.R.Rules.game c.args.rules.now) c.args.course in
+    let P : Task → Type 0 = λ t. In (key_of (task_board t)) c.args.walk.seen.found in
+    subst P c.in-Leave.is (found-last r c.args.limit c.args.walk.seen c.args.walk.tasks.items c.args.task c.requires.walk)
+
 pub returns-in_ok-seen-in-Leave-clause-goes_on : goal.returns-in_ok-seen-in-Leave-clause-goes_on
 returns-in_ok-seen-in-Leave-clause-goes_on g c =
     let r = play_of (g.R.Rules.game c.args.rules.now) c.args.course in
@@ -59,15 +64,4 @@ returns-in_ok-seen-in-Leave-clause-goes_on g c =
     let P : Task → Type 0 = λ t. IsWalk r c.args.limit c.args.walk.seen (ts ++ (t ∷ [])) in
     let Q : Task → Type 0 = λ t. GoesOn r c.args.limit c.args.walk.seen c.in_ok-seen-in-Leave.seen (ts ++ (t ∷ [])) ts in
     subst Q (sym c.in-Leave.is) (leave r (plays (g.R.Rules.game c.args.rules.now) (g.met.R.Rules.lawful c.args.rules.now) c.args.course c.requires.may) c.args.limit c.args.walk.seen ts
-    c.in-Leave.board c.in_ok-seen-in-Leave.seen (subst P c.in-Leave.is c.requires.walk) c.in_ok-seen-in-Leave.ensures.added
-    c.in_ok-seen-in-Leave.ensures.found c.in_ok-seen-in-Leave.ensures.within)
-
-pub returns-in_err-seen-in-Leave-clause-refused : goal.returns-in_err-seen-in-Leave-clause-refused
-returns-in_err-seen-in-Leave-clause-refused g c =
-    let p = err_from_is_err_and c.from_residual.result c.from_residual.ensures.1 in λ e.
-    let r = play_of (g.R.Rules.game c.args.rules.now) c.args.course in
-    let ts = c.args.walk.tasks.items in
-    let Q : Task → Type 0 = λ t. c.args.limit < length (kept c.args.walk.seen.boards (boards_left r (ts ++ (t ∷ [])))) in
-    subst Q (sym c.in-Leave.is) (leave_refused r (plays (g.R.Rules.game c.args.rules.now) (g.met.R.Rules.lawful c.args.rules.now) c.args.course c.requires.may) c.args.limit c.args.walk.seen
-    ts c.in-Leave.board (c.in_err-seen-in-Leave.ensures.refused (ap Err (passed_on p.0 c.in_err-seen-in-Leave.field-0.0
-    c.from_residual.result p.1 p.2 e))))
+    c.in-Leave.board c.in_ok-seen-in-Leave.seen (subst P c.in-Leave.is c.requires.walk) c.in_ok-seen-in-Leave.ensures)
