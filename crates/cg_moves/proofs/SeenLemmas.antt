@@ -1,5 +1,5 @@
 -- Boards that were seen, with the keys of those that were found in a map.
-use Rattle.std.proofs.Common.{◌≡◌, refl, ℕ, ◌+◌, ◌<◌, ◌≤◌, Bool, true, false, cond, inl, inr, ⊎_elim, ◌⊎◌, ◌||◌, if◌then◌else◌, List, [], ◌∷◌, ◌++◌, length, map, ap, sym, ◌∙◌, subst, arith}
+use Rattle.std.proofs.Common.{◌≡◌, refl, ℕ, ◌+◌, ◌≤◌, Bool, true, false, cond, inl, inr, ⊎_elim, ◌||◌, if◌then◌else◌, List, [], ◌∷◌, ◌++◌, length, map, ap, sym, ◌∙◌, subst, arith}
 use Rattle.std.specs.Prelude.{◌↔◌, IfOk, OnOk, None, Some, Ok, Err, Option, Result}
 use Rattle.std.specs.Cmp.{IsEquivalence}
 use Rattle.std.specs.HashMap.{HashMap, IsUnique, get, hash_map_len, keys}
@@ -14,7 +14,7 @@ use Rattle.std.proofs.lemmas.Map.Steps.{length-le_from_keys}
 use Rattle.cg_moves.specs.declared.key.BoardKey.{BoardKey}
 use Rattle.cg_moves.specs.Grid.{Grid, IsGrid}
 use Rattle.cg_moves.specs.Rules.{In}
-use Rattle.cg_moves.specs.Seen.{AddsKeys, AreGrids, AreKeysIn, AreTooMany, HasKeys, SeenBoards, key_eq, key_of}
+use Rattle.cg_moves.specs.Seen.{AddsKeys, AreGrids, AreTooMany, HasKeys, SeenBoards, key_eq, key_of}
 use Rattle.cg_moves.specs.declared.fault.ReachFault.{ReachFault}
 use Rattle.cg_moves.specs.declared.fault.ReachFault.TheVariants.{Positions}
 use Rattle.cg_moves.proofs.KeyLemmas.{key_eq-back, key_eq-refl, key_eq-same, one-key}

@@ -12,7 +12,7 @@ use Rattle.cg_moves.specs.Plays.{IsPlay, Play}
 use Rattle.cg_moves.specs.Rules.{In}
 use Rattle.cg_moves.specs.Seen.{AddsKeys, AreKeysIn, AreTooMany, SeenBoards, key_of}
 use Rattle.cg_moves.specs.Walks.{AreKnown, AreReady, AreStarts, Finds, GoesOn, IsWalk, boards_left, entered, load, task_board, task_boards, unseen}
-use Rattle.cg_moves.proofs.FindLemmas.{entered-append, kept-unseen, unseen-all, unseen-among, unseen-fewer, unseen-has}
+use Rattle.cg_moves.proofs.FindLemmas.{kept-unseen, unseen-all, unseen-among, unseen-fewer, unseen-has}
 use Rattle.cg_moves.proofs.KeptLemmas.{in_or_not, kept-append, kept-has, kept-there, one_more-among, one_more-has, one_more-keeps}
 use Rattle.cg_moves.proofs.Members.{carry, in-append, in-append_left, in-append_right, in-flat_map, in-map, in_equal, in_flat_mapped, in_mapped, in_one}
 

@@ -1,6 +1,5 @@
-use Rattle.std.proofs.Common.{◌<◌, List, [], ◌∷◌, ◌++◌, length, ap, sym, subst}
+use Rattle.std.proofs.Common.{◌<◌, [], ◌∷◌, ◌++◌, length, ap, sym, subst}
 use Rattle.cg_moves.specs.declared.walk.Task.{Task}
-use Rattle.cg_moves.specs.declared.walk.Task.TheVariants.{Enter}
 use Rattle.cg_moves.specs.Kept.{kept}
 use Rattle.cg_moves.specs.Plays.{play_of}
 use Rattle.cg_moves.specs.Rules.{In}

@@ -1,4 +1,4 @@
-use Rattle.std.proofs.Common.{◌≡◌, [], ◌∷◌, ◌++◌, List, ap, subst, sym, ◌∙◌}
+use Rattle.std.proofs.Common.{[], ◌∷◌, ◌++◌, List, ap, subst, sym, ◌∙◌}
 use Rattle.std.specs.HashMap.{keys}
 use Rattle.std.specs.List.{IsDistinct}
 use Rattle.std.specs.Prelude.{map}

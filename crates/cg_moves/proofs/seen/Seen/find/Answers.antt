@@ -1,4 +1,4 @@
-use Rattle.std.proofs.Common.{◌≡◌, List, [], ◌∷◌, length, ap, subst, sym, ◌∙◌, arith}
+use Rattle.std.proofs.Common.{List, [], ◌∷◌, ap, subst, sym, ◌∙◌, arith}
 use Rattle.std.specs.Prelude.{Some, false}
 use Rattle.std.specs.HashMap.{keys}
 use Rattle.cg_moves.specs.declared.key.BoardKey.{BoardKey}

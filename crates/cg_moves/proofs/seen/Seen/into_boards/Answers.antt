@@ -1,4 +1,4 @@
-use Rattle.std.proofs.Common.{◌≡◌, ap, length, arith}
+use Rattle.std.proofs.Common.{ap, length, arith}
 use Rattle.cg_moves.specs.Seen.{SeenBoards}
 use Rattle.cg_moves.proofs.SeenLemmas.{fewer-seen}
 use Rattle.cg_moves.proofs.seen.Seen.into_boards.Goals as goal
