@@ -18,6 +18,7 @@ use Rattle.cg_canon.specs.declared.whole.Whole.{Whole}
 use Rattle.cg_canon.specs.Profiles.{IsProfile}
 use Rattle.cg_canon.specs.Verdict.{verdict}
 use Rattle.cg_canon.specs.Wholes.{WholeHolds, whole_game}
+use Rattle.cg_canon.proofs.CandidateLaws.{terms_later}
 use Rattle.cg_canon.proofs.Outlining.{games_take_suc}
 use Rattle.cg_canon.proofs.Profiling.{no_one-last}
 
@@ -75,6 +76,7 @@ module _ {R : Type 0} where
         rights = are_games_later s t k.known w.rights.now h.rights;
         no_number = (let P : Game → Type 0 = λ z. NoNumber z in subst P (sym e) h.no_number);
         profile = (let P : Game → Type 0 = λ z. IsProfile z w.profile in subst P (sym e) h.profile);
+        terms = terms_later n s t w.first_term w.lefts.now w.rights.now h.lefts h.rights k h.terms;
         verdicts = λ left a answer r.
             let o = h.verdicts left a answer r in
             let x = game_later s t k.known a o.0 in (
@@ -96,6 +98,7 @@ module _ {R : Type 0} where
     rights = later.rights;
     no_number = later.no_number;
     profile = later.profile;
+    terms = later.terms;
     verdicts = λ l c r e. elim (more l c r e) [
       | inl q ↦ later.verdicts l c r q
       | inr q ↦

@@ -1,7 +1,9 @@
 -- Bypassing reversible options, one after the other.
 use Rattle.std.proofs.Common.{◌≡◌, refl, ℕ, zero, suc, ◌+◌, ◌<◌, arith, inl, inr, ap, sym, ◌∙◌, subst, Option, Some, List, [], ◌∷◌, ◌++◌, take, get_or, length, Bool, true, false, true≢false, ◌==◌, cond, IsTrue}
+use Rattle.std.specs.List.{All}
 use Rattle.std.specs.Prelude.{if◌then◌else◌}
 use Rattle.std.proofs.lemmas.Bool.Decides.{eqb_tells}
+use Rattle.std.proofs.lemmas.List.Elements.{All-nil, All-push}
 use Rattle.cg_dyadic.specs.Number.{Number}
 use Rattle.cg_dyadic.proofs.Truth.{differ}
 use Rattle.cg_form.specs.Bypass.{AllCovered, Covered, Fine, Grown, bypassed, kept, under}
@@ -22,12 +24,15 @@ use Rattle.cg_nodes.specs.Games.{AreGames, IsGame, IsHead, IsList, game_at, game
 use Rattle.cg_nodes.specs.Meant.{Meant}
 use Rattle.cg_nodes.proofs.Later.{are_games_later, game_later, games_later, is_game_later, nothing_spent, spends_then}
 use Rattle.cg_nodes.proofs.Lists.{are_games-append, games_at-append}
+use Rattle.cg_canon.specs.declared.candidate.Candidate.{Candidate}
 use Rattle.cg_canon.specs.declared.whole.Verdicts.{Verdicts}
 use Rattle.cg_canon.specs.declared.whole.Whole.{Whole}
 use Rattle.cg_canon.specs.declared.substitutes.Substitutes.{Substitutes}
-use Rattle.cg_canon.specs.Passed.{AreSubstitutes, was_passed}
+use Rattle.cg_canon.specs.Candidates.{handles_of}
+use Rattle.cg_canon.specs.Passed.{AreSubstitutes, IsOwn, was_passed}
 use Rattle.cg_canon.specs.Wholes.{WholeHolds, whole_game}
 use Rattle.cg_canon.proofs.Against.{whole_same}
+use Rattle.cg_canon.proofs.CandidateLaws.{handles_pushed}
 use Rattle.cg_canon.proofs.Outlining.{Done, done_all, done_more, done_none, game_of_item, games_take_suc}
 
 -- ---- games that may stand as options
@@ -91,22 +96,24 @@ pub record Pushed {R : Type 0} (t : State Meant R) (left : Bool) (g x : Game) (g
   pub grown : Grown left g gs (games_at t rs)
   pub last : Among x (games_at t rs)
 
-pub pushed_one : {R : Type 0} (s t : State Meant R) (left : Bool) (g : Game) (os rs : List ℕ) (h : ℕ) → Spends 0 s t
-    → AreGames s os → IsGame s h → rs ≡ os ++ h ∷ [] → Fine left g (game_at s h)
-    → Pushed t left g (game_at s h) (games_at s os) rs
+pub pushed_one : {R : Type 0} (s t : State Meant R) (left : Bool) (g : Game) (os rs : List Candidate) (h : Candidate) → Spends 0 s t
+    → AreGames s (handles_of os) → IsGame s h.handle → rs ≡ os ++ h ∷ [] → Fine left g (game_at s h.handle)
+    → Pushed t left g (game_at s h.handle) (games_at s (handles_of os)) (handles_of rs)
 pushed_one s t left g os rs h k a b e f =
-    let same : games_at t rs ≡ games_at s os ++ game_at s h ∷ [] =
-    ap (games_at t) e ∙ games_at-append t os (h ∷ [])
-    ∙ ap (λ z. z ++ game_at t h ∷ []) (games_later s t k.known os a)
-    ∙ ap (λ z. games_at s os ++ z ∷ []) (game_later s t k.known h b) in
+    let us = handles_of os in
+    let last = handles_pushed os rs h e in
+    let same : games_at t (handles_of rs) ≡ games_at s us ++ game_at s h.handle ∷ [] =
+    ap (games_at t) last ∙ games_at-append t us (h.handle ∷ [])
+    ∙ ap (λ z. z ++ game_at t h.handle ∷ []) (games_later s t k.known us a)
+    ∙ ap (λ z. games_at s us ++ z ∷ []) (game_later s t k.known h.handle b) in
     let P : List ℕ → Type 0 = λ z. AreGames t z in
-    let Q : List Game → Type 0 = λ z. Grown left g (games_at s os) z in
+    let Q : List Game → Type 0 = λ z. Grown left g (games_at s us) z in
     record {
-      games = subst P (sym e) (are_games-append t os (h ∷ []) (are_games_later s t k.known os a)
-          (is_game_later s t k.known h b, tt));
-      grown = subst Q (sym same) (grown_last left g (game_at s h) (games_at s os) f);
-      last = carry (game_at s h) (games_at s os ++ game_at s h ∷ []) (games_at t rs) (sym same)
-          (among-append_right (game_at s h) (games_at s os) (game_at s h ∷ []) (inl refl));
+      games = subst P (sym last) (are_games-append t us (h.handle ∷ []) (are_games_later s t k.known us a)
+          (is_game_later s t k.known h.handle b, tt));
+      grown = subst Q (sym same) (grown_last left g (game_at s h.handle) (games_at s us) f);
+      last = carry (game_at s h.handle) (games_at s us ++ game_at s h.handle ∷ []) (games_at t (handles_of rs)) (sym same)
+          (among-append_right (game_at s h.handle) (games_at s us) (game_at s h.handle ∷ []) (inl refl));
     }
 
 pub last_covered : (s : Bool) (g x : Game) (us : List Game) → Among x us → Covered s g us x
@@ -114,26 +121,32 @@ last_covered s g x us m = kept m
 
 -- ---- options in whose places others stand
 
-pub no_substitutes : {R : Type 0} (s : State Meant R) (left : Bool) (g : Game) (o : Substitutes) → o.items.items ≡ []
-    → ((id : ℕ) → was_passed o id ≡ false) → AreSubstitutes s left g o
-no_substitutes s left g o e none =
-    let P : List ℕ → Type 0 = λ z. AreGames s z in
-    record { games = subst P (sym e) tt; passed = λ id p. absurd (true≢false (sym p ∙ none id)) }
+pub no_substitutes : {R : Type 0} (s : State Meant R) (left : Bool) (w : Whole) (o : Substitutes) → o.items.items ≡ []
+    → ((id : ℕ) → was_passed o id ≡ false) → AreSubstitutes s left w o
+no_substitutes s left w o e none =
+    let P : List Candidate → Type 0 = λ z. AreGames s (handles_of z) in
+    let Q : List Candidate → Type 0 = λ z. All (IsOwn left w) z in
+    record {
+      games = subst P (sym e) tt;
+      passed = λ id p. absurd (true≢false (sym p ∙ none id));
+      own = subst Q (sym e) (All-nil (IsOwn left w));
+    }
 
-passed_one : {R : Type 0} (s : State Meant R) (left : Bool) (g : Game) (o r : Substitutes) (x : ℕ) → AreSubstitutes s left g o
-    → IsGame s x → Covered left g (games_at s o.items.items) (game_at s x) → r.items.items ≡ o.items.items
-    → ((id : ℕ) → was_passed r id ≡ (if x == id then true else was_passed o id)) → AreSubstitutes s left g r
-passed_one s left g o r x h known c e updates =
-    let P : List ℕ → Type 0 = λ z. AreGames s z in
-    record { games = subst P (sym e) h.games; passed = one }
+passed_one : {R : Type 0} (s : State Meant R) (left : Bool) (w : Whole) (o r : Substitutes) (x : ℕ) → AreSubstitutes s left w o
+    → IsGame s x → Covered left (whole_game s w) (games_at s (handles_of o.items.items)) (game_at s x) → r.items.items ≡ o.items.items
+    → ((id : ℕ) → was_passed r id ≡ (if x == id then true else was_passed o id)) → AreSubstitutes s left w r
+passed_one s left w o r x h known c e updates =
+    let P : List Candidate → Type 0 = λ z. AreGames s (handles_of z) in
+    let Q : List Candidate → Type 0 = λ z. All (IsOwn left w) z in
+    record { games = subst P (sym e) h.games; passed = one; own = subst Q (sym e) h.own }
   where
-    one : (id : ℕ) → was_passed r id ≡ true → IsGame s id × Covered left g (games_at s r.items.items) (game_at s id)
+    one : (id : ℕ) → was_passed r id ≡ true → IsGame s id × Covered left (whole_game s w) (games_at s (handles_of r.items.items)) (game_at s id)
     one id p =
-        let Q : List ℕ → Type 0 = λ z. Covered left g (games_at s z) (game_at s id) in
+        let Q : List Candidate → Type 0 = λ z. Covered left (whole_game s w) (games_at s (handles_of z)) (game_at s id) in
         elim (eqb_tells x id) [
           | inl there ↦ (
               let V : ℕ → Type 0 = λ z. IsGame s z in
-              let U : ℕ → Type 0 = λ z. Covered left g (games_at s o.items.items) (game_at s z) in
+              let U : ℕ → Type 0 = λ z. Covered left (whole_game s w) (games_at s (handles_of o.items.items)) (game_at s z) in
               (subst V there.1 known, subst Q (sym e) (subst U there.1 c)))
           | inr other ↦ (
               let off : (if x == id then true else was_passed o id) ≡ was_passed o id =
@@ -186,45 +199,49 @@ module _ {R : Type 0} (s t : State Meant R) (w : Whole) (v : Verdicts) (holds : 
       let P : Game → Type 0 = λ z. Covered left z us a in subst P (sym (whole_same 0 s t w v holds k)) h
 
   -- more items cover what the items covered
-  substitutes_later : (left : Bool) (o r : Substitutes) → AreSubstitutes s left (whole_game s w) o
-      → AreGames t r.items.items
-      → ((x : Game) → Among x (games_at s o.items.items) → Among x (games_at t r.items.items))
-      → ((id : ℕ) → was_passed r id ≡ true → was_passed o id ≡ true) → AreSubstitutes t left (whole_game t w) r
-  substitutes_later left o r h games keeps back = record {
+  substitutes_later : (left : Bool) (o r : Substitutes) → AreSubstitutes s left w o
+      → AreGames t (handles_of r.items.items)
+      → ((x : Game) → Among x (games_at s (handles_of o.items.items)) → Among x (games_at t (handles_of r.items.items)))
+      → ((id : ℕ) → was_passed r id ≡ true → was_passed o id ≡ true) → All (IsOwn left w) r.items.items
+      → AreSubstitutes t left w r
+  substitutes_later left o r h games keeps back own = record {
     games = games;
+    own = own;
     passed = λ id p.
         let (known, c) = h.passed id (back id p) in
-        let more = covered_more left (whole_game s w) (games_at s o.items.items) (games_at t r.items.items) (game_at s id) keeps c in
-        let P : Game → Type 0 = λ z. Covered left (whole_game t w) (games_at t r.items.items) z in (
+        let more = covered_more left (whole_game s w) (games_at s (handles_of o.items.items)) (games_at t (handles_of r.items.items)) (game_at s id) keeps c in
+        let P : Game → Type 0 = λ z. Covered left (whole_game t w) (games_at t (handles_of r.items.items)) z in (
           is_game_later s t k.known id known,
-          subst P (sym (game_later s t k.known id known)) (covered_later left (games_at t r.items.items) (game_at s id) more),
+          subst P (sym (game_later s t k.known id known)) (covered_later left (games_at t (handles_of r.items.items)) (game_at s id) more),
         );
   }
 
-  pub still_substitutes : (left : Bool) (o : Substitutes) → AreSubstitutes s left (whole_game s w) o
-      → AreSubstitutes t left (whole_game t w) o
+  pub still_substitutes : (left : Bool) (o : Substitutes) → AreSubstitutes s left w o
+      → AreSubstitutes t left w o
   still_substitutes left o h =
-      substitutes_later left o o h (are_games_later s t k.known o.items.items h.games)
-      (λ x m. carry x (games_at s o.items.items) (games_at t o.items.items) (sym (games_later s t k.known o.items.items h.games)) m)
-      (λ id p. p)
+      substitutes_later left o o h (are_games_later s t k.known (handles_of o.items.items) h.games)
+      (λ x m. carry x (games_at s (handles_of o.items.items)) (games_at t (handles_of o.items.items)) (sym (games_later s t k.known (handles_of o.items.items) h.games)) m)
+      (λ id p. p) h.own
 
-  -- with one handle more
-  pub more_substitutes : (left : Bool) (o r : Substitutes) (x : ℕ) → AreSubstitutes s left (whole_game s w) o
-      → IsGame s x → r.items.items ≡ o.items.items ++ x ∷ [] → ((id : ℕ) → was_passed r id ≡ was_passed o id)
-      → Fine left (whole_game s w) (game_at s x) → AreSubstitutes t left (whole_game t w) r
-  more_substitutes left o r x h known e same fine =
+  -- with one candidate more
+  pub more_substitutes : (left : Bool) (o r : Substitutes) (x : Candidate) → AreSubstitutes s left w o → IsGame s x.handle
+      → r.items.items ≡ o.items.items ++ x ∷ [] → ((id : ℕ) → was_passed r id ≡ was_passed o id)
+      → Fine left (whole_game s w) (game_at s x.handle) → IsOwn left w x → AreSubstitutes t left w r
+  more_substitutes left o r x h known e same fine own =
       let p = pushed_one s t left (whole_game s w) o.items.items r.items.items x k h.games known e fine in
+      let P : List Candidate → Type 0 = λ z. All (IsOwn left w) z in
       substitutes_later left o r h p.games p.grown.keeps (λ id q. sym (same id) ∙ q)
+      (subst P (sym e) (All-push (IsOwn left w) o.items.items x h.own own))
 
   -- which cover an option that is passed now
-  pub passing_substitutes : (left : Bool) (o r : Substitutes) (x : ℕ) → AreSubstitutes t left (whole_game t w) o → IsGame s x
-      → Covered left (whole_game s w) (games_at t o.items.items) (game_at s x) → r.items.items ≡ o.items.items
+  pub passing_substitutes : (left : Bool) (o r : Substitutes) (x : ℕ) → AreSubstitutes t left w o → IsGame s x
+      → Covered left (whole_game s w) (games_at t (handles_of o.items.items)) (game_at s x) → r.items.items ≡ o.items.items
       → ((id : ℕ) → was_passed r id ≡ (if x == id then true else was_passed o id))
-      → AreSubstitutes t left (whole_game t w) r
+      → AreSubstitutes t left w r
   passing_substitutes left o r x h known c e updates =
-      let P : Game → Type 0 = λ z. Covered left (whole_game t w) (games_at t o.items.items) z in
-      passed_one t left (whole_game t w) o r x h (is_game_later s t k.known x known)
-      (subst P (sym (game_later s t k.known x known)) (covered_later left (games_at t o.items.items) (game_at s x) c)) e updates
+      let P : Game → Type 0 = λ z. Covered left (whole_game t w) (games_at t (handles_of o.items.items)) z in
+      passed_one t left w o r x h (is_game_later s t k.known x known)
+      (subst P (sym (game_later s t k.known x known)) (covered_later left (games_at t (handles_of o.items.items)) (game_at s x) c)) e updates
 
 -- ---- over a list in cells
 

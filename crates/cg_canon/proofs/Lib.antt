@@ -7,6 +7,7 @@ pub mod Searching
 pub mod Comparing
 pub mod Outlining
 pub mod Results
+pub mod CandidateLaws
 pub mod Charging
 pub mod Keeping
 pub mod MadeSteps

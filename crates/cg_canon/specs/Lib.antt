@@ -7,6 +7,7 @@ pub mod Works
 pub mod Made
 pub mod NumberItems
 pub mod SumItems
+pub mod Terms
 -- what private contracts cite, and what proofs need here
 pub mod Verdict
 pub mod Wholes
@@ -14,3 +15,4 @@ pub mod Passed
 pub mod Told
 pub mod Reach
 pub mod Ranked
+pub mod Candidates

@@ -4,18 +4,22 @@
 //! the bypass would bring in, and adds nothing, since another option is at least as good as the number. So no number is
 //! counted down. Each option is bypassed once, however many ways lead to it; only the own options of the whole, where they are
 //! few, may be met a second time.
+//!
+//! An option of the whole that stays as it is keeps the term that it comes from. What a bypass brings in has none.
 ghost use Rattle.std.specs.Prelude.{[], IfOk, cond};
 ghost use Rattle.cg_form.specs.Bypass.{AllCovered, Covered, Grown};
 ghost use Rattle.cg_form.specs.Game.{Among, Game};
 ghost use Rattle.cg_form.specs.Known.{EachLess};
 ghost use Rattle.cg_form.specs.Side.{AtMost, far};
 ghost use Rattle.cg_cells.specs.Store.{Spends};
-ghost use Rattle.cg_nodes.specs.Games.{AreGames, IsGame, IsList, game_at, games_at, listed};
-ghost use Rattle.cg_canon.specs.Passed.{AreSubstitutes};
+ghost use Rattle.cg_nodes.specs.Games.{IsGame, IsList, game_at, games_at, listed};
+ghost use Rattle.cg_canon.specs.Candidates.{AreCandidates, handles_of};
+ghost use Rattle.cg_canon.specs.Passed.{AreSubstitutes, IsOwn};
 ghost use Rattle.cg_canon.specs.Wholes.{WholeHolds, whole_game};
 ghost use Rattle.cg_canon.specs.Works.{work_state};
 
-use crate::substitutes::{FEW, Options, Substitutes};
+use crate::candidate::{Candidate, Candidates};
+use crate::substitutes::{FEW, Substitutes};
 use crate::whole::{Verdicts, Whole, chosen, first_at_most};
 use crate::work::Work;
 use cg_cells::CellStore;
@@ -36,17 +40,17 @@ fn bypass_through<B: BoardForms, S: CellStore<GameFacts<B>>>(
     requires holds { WholeHolds (work_state S.state work.old) whole.now verdicts.old }
     requires answer { IsGame (work_state S.state work.old) answer }
     requires back { AtMost left (game_at (work_state S.state work.old) answer) (whole_game (work_state S.state work.old) whole.now) }
-    requires out { let W = work_state S.state work.old in AreSubstitutes W left (whole_game W whole.now) out }
-    ensures out { let W = work_state S.state work.new in IfOk result (λ r. AreSubstitutes W left (whole_game W whole.now) r) }
+    requires out { let W = work_state S.state work.old in AreSubstitutes W left whole.now out }
+    ensures out { let W = work_state S.state work.new in IfOk result (λ r. AreSubstitutes W left whole.now r) }
     ensures grown { IfOk result (λ r. Grown left (whole_game (work_state S.state work.old) whole.now)
-        (games_at (work_state S.state work.old) out.items.items) (games_at (work_state S.state work.new) r.items.items)) }
+        (games_at (work_state S.state work.old) (handles_of out.items.items)) (games_at (work_state S.state work.new) (handles_of r.items.items))) }
     ensures covered { IfOk result (λ r. (a : Game) → Among (game_at (work_state S.state work.old) answer) (far left a)
-        → Covered left (whole_game (work_state S.state work.old) whole.now) (games_at (work_state S.state work.new) r.items.items) a) }
+        → Covered left (whole_game (work_state S.state work.old) whole.now) (games_at (work_state S.state work.new) (handles_of r.items.items)) a) }
     ensures holds { WholeHolds (work_state S.state work.new) whole.now verdicts.new }
     ensures spends { Spends 0 (work_state S.state work.old) (work_state S.state work.new) }
 {
     match read(work, answer) {
-        Reading::Number(_) => out.with(answer),
+        Reading::Number(_) => out.with(&Candidate::alone(answer)),
         Reading::Game(lefts, rights) => {
             let near = chosen(left, lefts, rights);
             bypass_list(alloc, work, whole, verdicts, left, near, out)
@@ -62,22 +66,23 @@ fn bypass<B: BoardForms, S: CellStore<GameFacts<B>>>(
     whole: &Whole,
     verdicts: &mut Verdicts,
     left: bool,
-    option: Handle,
+    option: &Candidate,
     out: Substitutes,
 ) -> Result<Substitutes, AllocError>
     requires holds { WholeHolds (work_state S.state work.old) whole.now verdicts.old }
-    requires option { IsGame (work_state S.state work.old) option }
-    requires less { ¬ AtMost left (whole_game (work_state S.state work.old) whole.now) (game_at (work_state S.state work.old) option) }
-    requires out { let W = work_state S.state work.old in AreSubstitutes W left (whole_game W whole.now) out }
-    ensures out { let W = work_state S.state work.new in IfOk result (λ r. AreSubstitutes W left (whole_game W whole.now) r) }
+    requires option { IsGame (work_state S.state work.old) option.now.handle }
+    requires own { IsOwn left whole.now option.now }
+    requires less { ¬ AtMost left (whole_game (work_state S.state work.old) whole.now) (game_at (work_state S.state work.old) option.now.handle) }
+    requires out { let W = work_state S.state work.old in AreSubstitutes W left whole.now out }
+    ensures out { let W = work_state S.state work.new in IfOk result (λ r. AreSubstitutes W left whole.now r) }
     ensures grown { IfOk result (λ r. Grown left (whole_game (work_state S.state work.old) whole.now)
-        (games_at (work_state S.state work.old) out.items.items) (games_at (work_state S.state work.new) r.items.items)) }
+        (games_at (work_state S.state work.old) (handles_of out.items.items)) (games_at (work_state S.state work.new) (handles_of r.items.items))) }
     ensures covered { IfOk result (λ r. Covered left (whole_game (work_state S.state work.old) whole.now)
-        (games_at (work_state S.state work.new) r.items.items) (game_at (work_state S.state work.old) option)) }
+        (games_at (work_state S.state work.new) (handles_of r.items.items)) (game_at (work_state S.state work.old) option.now.handle)) }
     ensures holds { WholeHolds (work_state S.state work.new) whole.now verdicts.new }
     ensures spends { Spends 0 (work_state S.state work.old) (work_state S.state work.new) }
 {
-    match read(work, option) {
+    match read(work, option.handle) {
         Reading::Number(_) => out.with(option),
         Reading::Game(lefts, rights) => {
             let far = chosen(left, rights, lefts);
@@ -97,26 +102,27 @@ fn bypass_once<B: BoardForms, S: CellStore<GameFacts<B>>>(
     whole: &Whole,
     verdicts: &mut Verdicts,
     left: bool,
-    option: Handle,
+    option: &Candidate,
     out: Substitutes,
 ) -> Result<Substitutes, AllocError>
     requires holds { WholeHolds (work_state S.state work.old) whole.now verdicts.old }
-    requires option { IsGame (work_state S.state work.old) option }
-    requires less { ¬ AtMost left (whole_game (work_state S.state work.old) whole.now) (game_at (work_state S.state work.old) option) }
-    requires out { let W = work_state S.state work.old in AreSubstitutes W left (whole_game W whole.now) out }
-    ensures out { let W = work_state S.state work.new in IfOk result (λ r. AreSubstitutes W left (whole_game W whole.now) r) }
+    requires option { IsGame (work_state S.state work.old) option.now.handle }
+    requires own { IsOwn left whole.now option.now }
+    requires less { ¬ AtMost left (whole_game (work_state S.state work.old) whole.now) (game_at (work_state S.state work.old) option.now.handle) }
+    requires out { let W = work_state S.state work.old in AreSubstitutes W left whole.now out }
+    ensures out { let W = work_state S.state work.new in IfOk result (λ r. AreSubstitutes W left whole.now r) }
     ensures grown { IfOk result (λ r. Grown left (whole_game (work_state S.state work.old) whole.now)
-        (games_at (work_state S.state work.old) out.items.items) (games_at (work_state S.state work.new) r.items.items)) }
+        (games_at (work_state S.state work.old) (handles_of out.items.items)) (games_at (work_state S.state work.new) (handles_of r.items.items))) }
     ensures covered { IfOk result (λ r. Covered left (whole_game (work_state S.state work.old) whole.now)
-        (games_at (work_state S.state work.new) r.items.items) (game_at (work_state S.state work.old) option)) }
+        (games_at (work_state S.state work.new) (handles_of r.items.items)) (game_at (work_state S.state work.old) option.now.handle)) }
     ensures holds { WholeHolds (work_state S.state work.new) whole.now verdicts.new }
     ensures spends { Spends 0 (work_state S.state work.old) (work_state S.state work.new) }
 {
-    if out.has_passed(option) {
+    if out.has_passed(option.handle) {
         return Ok(out);
     }
     let all = bypass(alloc, work, whole, verdicts, left, option, out)?;
-    all.passing(option)
+    all.passing(option.handle)
 }
 
 /// The list with what stands in the places of the options in the list.
@@ -133,19 +139,20 @@ fn bypass_list<B: BoardForms, S: CellStore<GameFacts<B>>>(
     requires holds { WholeHolds (work_state S.state work.old) whole.now verdicts.old }
     requires list { IsList (work_state S.state work.old) list }
     requires less { EachLess left (whole_game (work_state S.state work.old) whole.now) (listed (work_state S.state work.old) list) }
-    requires out { let W = work_state S.state work.old in AreSubstitutes W left (whole_game W whole.now) out }
-    ensures out { let W = work_state S.state work.new in IfOk result (λ r. AreSubstitutes W left (whole_game W whole.now) r) }
+    requires out { let W = work_state S.state work.old in AreSubstitutes W left whole.now out }
+    ensures out { let W = work_state S.state work.new in IfOk result (λ r. AreSubstitutes W left whole.now r) }
     ensures grown { IfOk result (λ r. Grown left (whole_game (work_state S.state work.old) whole.now)
-        (games_at (work_state S.state work.old) out.items.items) (games_at (work_state S.state work.new) r.items.items)) }
+        (games_at (work_state S.state work.old) (handles_of out.items.items)) (games_at (work_state S.state work.new) (handles_of r.items.items))) }
     ensures covered { IfOk result (λ r. AllCovered left (whole_game (work_state S.state work.old) whole.now)
-        (games_at (work_state S.state work.new) r.items.items) (listed (work_state S.state work.old) list)) }
+        (games_at (work_state S.state work.new) (handles_of r.items.items)) (listed (work_state S.state work.old) list)) }
     ensures holds { WholeHolds (work_state S.state work.new) whole.now verdicts.new }
     ensures spends { Spends 0 (work_state S.state work.old) (work_state S.state work.new) }
 {
     let mut all = out;
     let mut rest = list;
     while let Some(top) = head(work, rest) {
-        all = bypass_once(alloc, work, whole, verdicts, left, top.first, all)?;
+        let option = Candidate::alone(top.first);
+        all = bypass_once(alloc, work, whole, verdicts, left, &option, all)?;
         rest = top.rest;
     }
     Ok(all)
@@ -159,18 +166,19 @@ fn bypass_own<B: BoardForms, S: CellStore<GameFacts<B>>>(
     whole: &Whole,
     verdicts: &mut Verdicts,
     left: bool,
-    option: Handle,
+    option: &Candidate,
     out: Substitutes,
 ) -> Result<Substitutes, AllocError>
     requires holds { WholeHolds (work_state S.state work.old) whole.now verdicts.old }
-    requires option { IsGame (work_state S.state work.old) option }
-    requires less { ¬ AtMost left (whole_game (work_state S.state work.old) whole.now) (game_at (work_state S.state work.old) option) }
-    requires out { let W = work_state S.state work.old in AreSubstitutes W left (whole_game W whole.now) out }
-    ensures out { let W = work_state S.state work.new in IfOk result (λ r. AreSubstitutes W left (whole_game W whole.now) r) }
+    requires option { IsGame (work_state S.state work.old) option.now.handle }
+    requires own { IsOwn left whole.now option.now }
+    requires less { ¬ AtMost left (whole_game (work_state S.state work.old) whole.now) (game_at (work_state S.state work.old) option.now.handle) }
+    requires out { let W = work_state S.state work.old in AreSubstitutes W left whole.now out }
+    ensures out { let W = work_state S.state work.new in IfOk result (λ r. AreSubstitutes W left whole.now r) }
     ensures grown { IfOk result (λ r. Grown left (whole_game (work_state S.state work.old) whole.now)
-        (games_at (work_state S.state work.old) out.items.items) (games_at (work_state S.state work.new) r.items.items)) }
+        (games_at (work_state S.state work.old) (handles_of out.items.items)) (games_at (work_state S.state work.new) (handles_of r.items.items))) }
     ensures covered { IfOk result (λ r. Covered left (whole_game (work_state S.state work.old) whole.now)
-        (games_at (work_state S.state work.new) r.items.items) (game_at (work_state S.state work.old) option)) }
+        (games_at (work_state S.state work.new) (handles_of r.items.items)) (game_at (work_state S.state work.old) option.now.handle)) }
     ensures holds { WholeHolds (work_state S.state work.new) whole.now verdicts.new }
     ensures spends { Spends 0 (work_state S.state work.old) (work_state S.state work.new) }
 {
@@ -187,20 +195,24 @@ pub(crate) fn candidates<B: BoardForms, S: CellStore<GameFacts<B>>>(
     whole: &Whole,
     verdicts: &mut Verdicts,
     left: bool,
-) -> Result<Options, AllocError>
+) -> Result<Candidates, AllocError>
     requires holds { WholeHolds (work_state S.state work.old) whole.now verdicts.old }
-    ensures games { IfOk result (λ r. AreGames (work_state S.state work.new) r.items) }
+    ensures candidates { IfOk result (λ r. AreCandidates (work_state S.state work.new) r.items) }
     ensures grown { IfOk result (λ r. Grown left (whole_game (work_state S.state work.old) whole.now)
-        [] (games_at (work_state S.state work.new) r.items)) }
+        [] (games_at (work_state S.state work.new) (handles_of r.items))) }
     ensures covered { IfOk result (λ r. AllCovered left (whole_game (work_state S.state work.old) whole.now)
-        (games_at (work_state S.state work.new) r.items)
+        (games_at (work_state S.state work.new) (handles_of r.items))
         (games_at (work_state S.state work.old) (cond left whole.now.lefts.now whole.now.rights.now))) }
     ensures holds { WholeHolds (work_state S.state work.new) whole.now verdicts.new }
     ensures spends { Spends 0 (work_state S.state work.old) (work_state S.state work.new) }
 {
     let mut all = Substitutes::new(alloc);
-    for option in whole.own(left) {
-        all = bypass_own(alloc, work, whole, verdicts, left, *option, all)?;
+    for (place, own) in whole.own(left).iter().enumerate() {
+        let option = Candidate {
+            handle: *own,
+            term: whole.term_at(left, place),
+        };
+        all = bypass_own(alloc, work, whole, verdicts, left, &option, all)?;
     }
     Ok(all.into_items())
 }

@@ -5,8 +5,10 @@ ghost use Rattle.cg_form.specs.Simple.{NoNumber};
 ghost use Rattle.cg_cells.specs.Store.{Spends};
 ghost use Rattle.cg_nodes.specs.Games.{AreGames, StandsFor, games_at};
 ghost use Rattle.cg_nodes.specs.Spelled.{can};
+ghost use Rattle.cg_canon.specs.Candidates.{AreApartByTerm};
 ghost use Rattle.cg_canon.specs.Items.{AllPass, WasRefused, made};
 ghost use Rattle.cg_canon.specs.Profiles.{IsProfile};
+ghost use Rattle.cg_canon.specs.Terms.{NoneComparableByTerm};
 ghost use Rattle.cg_canon.specs.Wholes.{whole_game};
 ghost use Rattle.cg_canon.specs.Works.{IsUnspent, Keeps, work_state};
 
@@ -15,6 +17,7 @@ use crate::item::{item_of_number, listed_item};
 use crate::profile::Profile;
 use crate::profiles::outline_of;
 use crate::reduce::reduced;
+use crate::terms::FirstTerm;
 use crate::whole::Whole;
 use crate::work::Work;
 use cg_cells::CellStore;
@@ -35,6 +38,7 @@ fn whole_item<B: BoardForms, S: CellStore<GameFacts<B>>>(
     requires rights { AreGames (work_state S.state work.old) whole.now.rights.now }
     requires no_number { NoNumber (whole_game (work_state S.state work.old) whole.now) }
     requires profile { IsProfile (whole_game (work_state S.state work.old) whole.now) whole.now.profile }
+    requires terms { AreApartByTerm (work_state S.state work.old) whole.now.first_term whole.now.lefts.now whole.now.rights.now }
     ensures game { IfOk result (λ h. StandsFor (work_state S.state work.new) h
         (can (whole_game (work_state S.state work.old) whole.now))) }
     ensures charged { OnOk result (AllPass work.old.share work.old.spent
@@ -61,11 +65,13 @@ fn form_item<B: BoardForms, S: CellStore<GameFacts<B>>>(
     work: &mut Work<B, S>,
     lefts: &[Handle],
     rights: &[Handle],
+    first_term: Option<FirstTerm>,
     extra: u64,
 ) -> Result<Handle, ValueFault>
     requires extra { extra ≤ 8 }
     requires lefts { AreGames (work_state S.state work.old) lefts.now }
     requires rights { AreGames (work_state S.state work.old) rights.now }
+    requires terms { AreApartByTerm (work_state S.state work.old) first_term lefts.now rights.now }
     ensures game { let W = work_state S.state work.old in IfOk result (λ h. StandsFor (work_state S.state work.new) h
         (can (node (games_at W lefts.now) (games_at W rights.now)))) }
     ensures charged { let W = work_state S.state work.old in OnOk result (AllPass work.old.share work.old.spent
@@ -88,6 +94,7 @@ fn form_item<B: BoardForms, S: CellStore<GameFacts<B>>>(
                 lefts,
                 rights,
                 profile,
+                first_term,
             };
             whole_item(alloc, work, &whole, extra)
         }
@@ -124,7 +131,42 @@ pub fn canonical<B: BoardForms, S: CellStore<GameFacts<B>>>(
 {
     // Read for the proof alone: the meter tells what the store has to spare.
     let _before = work.spent();
-    let outcome = form_item(alloc, work, lefts, rights, extra);
+    let outcome = form_item(alloc, work, lefts, rights, None, extra);
+    let _after = work.spent();
+    outcome
+}
+
+/// Makes the item of the canonical form of the game with these Left and Right options, as [`canonical`] does, where the options
+/// are those of a sum: on each side, first those that come from one term, and then those that come from the other. No two
+/// options that come from the same term may be comparable.
+pub fn canonical_of_terms<B: BoardForms, S: CellStore<GameFacts<B>>>(
+    alloc: Global,
+    work: &mut Work<B, S>,
+    lefts: &[Handle],
+    rights: &[Handle],
+    first_term: FirstTerm,
+    extra: u64,
+) -> Result<Handle, ValueFault>
+    requires extra { extra ≤ 8 }
+    requires lefts { AreGames (work_state S.state work.old) lefts.now }
+    requires rights { AreGames (work_state S.state work.old) rights.now }
+    requires lefts_apart { NoneComparableByTerm first_term.lefts (games_at (work_state S.state work.old) lefts.now) }
+    requires rights_apart { NoneComparableByTerm first_term.rights (games_at (work_state S.state work.old) rights.now) }
+    ensures game { let W = work_state S.state work.old in IfOk result (λ h. StandsFor (work_state S.state work.new) h
+        (can (node (games_at W lefts.now) (games_at W rights.now)))) }
+    ensures charged { let W = work_state S.state work.old in OnOk result (AllPass work.old.share work.old.spent
+        (made (can (node (games_at W lefts.now) (games_at W rights.now))) extra ∷ []) work.new.spent) }
+    ensures refused { let W = work_state S.state work.old in IfErr result (λ fault.
+        WasRefused fault work.old.share work.old.spent
+        (made (can (node (games_at W lefts.now) (games_at W rights.now))) extra ∷ []) work.new.spent) }
+    ensures same { OnErr result (IsUnspent S.state work.old work.new) }
+    ensures spare { OnOk result ((work_state S.state work.old).spare + extra ≤ (work_state S.state work.new).spare) }
+    ensures more { (work_state S.state work.old).spare ≤ (work_state S.state work.new).spare }
+    ensures keeps { Keeps (work_state S.state work.old) (work_state S.state work.new) }
+{
+    // Read for the proof alone: the meter tells what the store has to spare.
+    let _before = work.spent();
+    let outcome = form_item(alloc, work, lefts, rights, Some(first_term), extra);
     let _after = work.spent();
     outcome
 }

@@ -1,27 +1,29 @@
-//! Options with their profiles, the furthest first.
+//! Candidates with their profiles, the furthest first.
 //!
-//! Of options that the numbers tell apart, each goes further than all before it to one side and less far to the other, so it
+//! Of games that the numbers tell apart, each goes further than all before it to one side and less far to the other, so it
 //! is enough to look at how far those before it go together.
 ghost use Rattle.std.specs.Prelude.{◌≡◌, IfOk};
 ghost use Rattle.std.specs.List.Sorted.{IsPermutation};
 ghost use Rattle.cg_cells.specs.Store.{Spends};
 ghost use Rattle.cg_nodes.specs.Games.{AreGames};
-ghost use Rattle.cg_canon.specs.Ranked.{AreRanked, handles_of};
+ghost use Rattle.cg_canon.specs.Candidates.{handles_of};
+ghost use Rattle.cg_canon.specs.Ranked.{AreRanked, candidates_of};
 ghost use Rattle.cg_canon.specs.Works.{work_state};
 
+use crate::candidate::Candidate;
 use crate::profile::Profile;
 use crate::profiles::profile_of;
 use crate::work::Work;
 use cg_cells::CellStore;
 use cg_dyadic::cut::Cut;
-use cg_nodes::{BoardForms, GameFacts, Handle};
+use cg_nodes::{BoardForms, GameFacts};
 use std::alloc::{AllocError, Global};
 use std::cmp::Ordering;
 
-/// The handle of a game and the game's profile.
+/// A candidate and the profile of its game.
 #[derive(Clone, Copy)]
 pub(crate) struct Ranked {
-    pub handle: Handle,
+    pub candidate: Candidate,
     pub profile: Profile,
 }
 
@@ -43,18 +45,18 @@ fn compare_profiles(left: bool, a: &Profile, b: &Profile) -> Ordering {
 fn profiled<B: BoardForms, S: CellStore<GameFacts<B>>>(
     alloc: Global,
     work: &mut Work<B, S>,
-    items: &[Handle],
+    items: &[Candidate],
 ) -> Result<Vec<Ranked>, AllocError>
-    requires { AreGames (work_state S.state work.old) items.now }
+    requires { AreGames (work_state S.state work.old) (handles_of items.now) }
     ensures ranked { IfOk result (λ r. AreRanked (work_state S.state work.new) r.items) }
-    ensures handles { IfOk result (λ r. handles_of r.items ≡ items.now) }
+    ensures candidates { IfOk result (λ r. candidates_of r.items ≡ items.now) }
     ensures spends { Spends 0 (work_state S.state work.old) (work_state S.state work.new) }
 {
     let mut all = Vec::new(alloc);
     for item in items {
-        let profile = profile_of(alloc, work, *item)?;
+        let profile = profile_of(alloc, work, item.handle)?;
         all.push(Ranked {
-            handle: *item,
+            candidate: *item,
             profile,
         })?;
     }
@@ -66,11 +68,11 @@ pub(crate) fn furthest_first<B: BoardForms, S: CellStore<GameFacts<B>>>(
     alloc: Global,
     work: &mut Work<B, S>,
     left: bool,
-    items: &[Handle],
+    items: &[Candidate],
 ) -> Result<Vec<Ranked>, AllocError>
-    requires { AreGames (work_state S.state work.old) items.now }
+    requires { AreGames (work_state S.state work.old) (handles_of items.now) }
     ensures ranked { IfOk result (λ r. AreRanked (work_state S.state work.new) r.items) }
-    ensures handles { IfOk result (λ r. IsPermutation items.now (handles_of r.items)) }
+    ensures candidates { IfOk result (λ r. IsPermutation items.now (candidates_of r.items)) }
     ensures spends { Spends 0 (work_state S.state work.old) (work_state S.state work.new) }
 {
     let mut all = profiled(alloc, work, items)?;

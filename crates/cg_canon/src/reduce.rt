@@ -6,6 +6,7 @@ ghost use Rattle.cg_form.specs.Simple.{NoNumber};
 ghost use Rattle.cg_cells.specs.Store.{Spends};
 ghost use Rattle.cg_nodes.specs.Games.{AreGames, games_at};
 ghost use Rattle.cg_nodes.specs.Spelled.{can};
+ghost use Rattle.cg_canon.specs.Candidates.{AreApartByTerm};
 ghost use Rattle.cg_canon.specs.Profiles.{IsProfile};
 ghost use Rattle.cg_canon.specs.Wholes.{WholeHolds, whole_game};
 ghost use Rattle.cg_canon.specs.Works.{work_state};
@@ -56,6 +57,7 @@ pub(crate) fn reduced<B: BoardForms, S: CellStore<GameFacts<B>>>(
     requires rights { AreGames (work_state S.state work.old) whole.now.rights.now }
     requires no_number { NoNumber (whole_game (work_state S.state work.old) whole.now) }
     requires profile { IsProfile (whole_game (work_state S.state work.old) whole.now) whole.now.profile }
+    requires terms { AreApartByTerm (work_state S.state work.old) whole.now.first_term whole.now.lefts.now whole.now.rights.now }
     ensures lefts { IfOk result (λ r. AreGames (work_state S.state work.new) r.lefts.items) }
     ensures rights { IfOk result (λ r. AreGames (work_state S.state work.new) r.rights.items) }
     ensures form { let W = work_state S.state work.new in IfOk result (λ r.

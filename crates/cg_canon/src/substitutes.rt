@@ -2,6 +2,7 @@
 ghost use Rattle.std.specs.Prelude.{◌≡◌, ◌++◌, ◌∷◌, ◌==◌, [], ℕ, false, true, IfOk, if◌then◌else◌};
 ghost use Rattle.cg_canon.specs.Passed.{was_passed};
 
+use crate::candidate::{Candidate, Candidates};
 use cg_nodes::Handle;
 use smallvec::SmallVec;
 use std::alloc::{AllocError, Global};
@@ -10,14 +11,14 @@ use std::collections::HashSet;
 /// Up to so many options are dealt with as they come, and nothing is kept beside them.
 pub(crate) const FEW: usize = 8;
 
-/// A list of options while a form is computed: up to 8 of them take no memory.
+/// A list of options: up to 8 of them take no memory.
 pub(crate) type Options = SmallVec<Handle, 8>;
 
 /// What stands in the places of some options, and the ids of these options. An option that is met again, as one of many that
 /// share their own options, is not bypassed again.
 #[derive(Drop)]
 pub(crate) struct Substitutes {
-    pub(crate) items: Options,
+    pub(crate) items: Candidates,
     passed: HashSet<u32>,
 }
 
@@ -40,13 +41,13 @@ impl Substitutes {
         self.passed.contains(&option.id().number())
     }
 
-    /// With one handle more.
-    pub(crate) fn with(self, handle: Handle) -> Result<Substitutes, AllocError>
-        ensures { IfOk result (λ r. (r.items.items ≡ self.items.items ++ (handle ∷ []))
+    /// With one candidate more.
+    pub(crate) fn with(self, candidate: &Candidate) -> Result<Substitutes, AllocError>
+        ensures { IfOk result (λ r. (r.items.items ≡ self.items.items ++ (candidate.now ∷ []))
             × ((h : ℕ) → was_passed r h ≡ was_passed self h)) }
     {
         let Substitutes { mut items, passed } = self;
-        items.push(handle)?;
+        items.push(*candidate)?;
         Ok(Substitutes { items, passed })
     }
 
@@ -60,7 +61,7 @@ impl Substitutes {
         Ok(Substitutes { items, passed })
     }
     /// The items.
-    pub(crate) fn into_items(self) -> Options
+    pub(crate) fn into_items(self) -> Candidates
         ensures { result.items ≡ self.items.items }
     {
         let Substitutes { items, passed: _ } = self;

@@ -1,10 +1,11 @@
 //! A game of two lists of handles, compared with the games of handles.
-ghost use Rattle.std.specs.Prelude.{◌≡◌, ◌⊎◌, ℕ, Bool, not, cond, IfOk, IfSome, IfNone, IsTrue, None, Some};
+ghost use Rattle.std.specs.Prelude.{◌≡◌, ◌<◌, ◌⊎◌, ℕ, Bool, not, cond, length, slice_index_or, IfOk, IfSome, IfNone, IsTrue, None, Some};
 ghost use Rattle.cg_form.specs.Game.{Among};
 ghost use Rattle.cg_form.specs.Order.{no_one};
 ghost use Rattle.cg_form.specs.Side.{AtMost, at_most};
 ghost use Rattle.cg_cells.specs.Store.{Spends};
 ghost use Rattle.cg_nodes.specs.Games.{AreGames, IsGame, IsList, game_at, games_at, listed};
+ghost use Rattle.cg_canon.specs.Candidates.{ComesFrom};
 ghost use Rattle.cg_canon.specs.Verdict.{answer_for, verdict};
 ghost use Rattle.cg_canon.specs.Wholes.{WholeHolds, whole_game};
 ghost use Rattle.cg_canon.specs.Works.{work_state};
@@ -12,6 +13,7 @@ ghost use Rattle.cg_canon.specs.Works.{work_state};
 use crate::order::at_most_beside;
 use crate::profile::Profile;
 use crate::profiles::profile_of;
+use crate::terms::{FirstTerm, Term};
 use crate::told::told_beside;
 use crate::work::Work;
 use cg_cells::CellStore;
@@ -29,6 +31,8 @@ pub(crate) struct Whole<'a> {
     pub rights: &'a [Handle],
     /// The profile of the game of these options.
     pub profile: Profile,
+    /// How many of the options come from the first of two terms, where the game is a sum of two.
+    pub first_term: Option<FirstTerm>,
 }
 
 impl<'a> Whole<'a> {
@@ -37,6 +41,19 @@ impl<'a> Whole<'a> {
         ensures { result.now ≡ cond left self.now.lefts.now self.now.rights.now }
     {
         if left { self.lefts } else { self.rights }
+    }
+
+    /// The term that the player's own option at this place comes from, where the game is a sum of two.
+    pub(crate) fn term_at(&self, left: bool, place: usize) -> Option<Term>
+        ensures { let own = cond left self.now.lefts.now self.now.rights.now in
+            (h : ℕ) → place < length own → h ≡ slice_index_or own place h
+            → ComesFrom self.now.first_term left own (record { handle = h; term = result }) }
+    {
+        let first = self.first_term?;
+        if place < first.own(left) {
+            return Some(Term::First);
+        }
+        Some(Term::Second)
     }
 }
 

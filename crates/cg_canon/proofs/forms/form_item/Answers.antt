@@ -8,6 +8,7 @@ use Rattle.cg_nodes.proofs.Later.{are_games_later, spends_then}
 use Rattle.cg_canon.specs.declared.rest.WorkRest.{WorkRest}
 use Rattle.cg_canon.specs.Profiles.{IsProfile}
 use Rattle.cg_canon.specs.Works.{WorkOf, work_state}
+use Rattle.cg_canon.proofs.CandidateLaws.{terms_later}
 use Rattle.cg_canon.proofs.Charging.{charged_before, outside_refused, refused_before}
 use Rattle.cg_canon.proofs.Forming.{list_cuts, node_later, nothing_case, number_case}
 use Rattle.cg_canon.proofs.Results.{always_on_err, if_ok, on_err}
@@ -91,6 +92,12 @@ whole_item-requires-clause-lefts g c =
     let W = work_state g.S.CellStore.state in
     let all = spends_then 0 0 (W c.args.work.now) (W c.outline_of.new.work) (W c.outline_of-2.new.work) c.outline_of.ensures.spends c.outline_of-2.ensures.spends in
     are_games_later (W c.args.work.now) (W c.outline_of-2.new.work) all.known c.args.lefts.now c.requires.lefts
+
+pub whole_item-requires-clause-terms : goal.whole_item-requires-clause-terms
+whole_item-requires-clause-terms g c =
+    let W = work_state g.S.CellStore.state in
+    let all = spends_then 0 0 (W c.args.work.now) (W c.outline_of.new.work) (W c.outline_of-2.new.work) c.outline_of.ensures.spends c.outline_of-2.ensures.spends in
+    terms_later 0 (W c.args.work.now) (W c.outline_of-2.new.work) c.args.first_term c.args.lefts.now c.args.rights.now c.requires.lefts c.requires.rights all c.requires.terms
 
 pub whole_item-requires-clause-rights : goal.whole_item-requires-clause-rights
 whole_item-requires-clause-rights g c =

@@ -11,7 +11,7 @@ returns-in_err-rights-clause-spends g c =
 pub returns-clause-lefts : goal.returns-clause-lefts
 returns-clause-lefts g c =
     let W = work_state g.S.CellStore.state in
-    let begins = whole_begins (W c.args.work.now) c.args.whole.now c.new-verdicts.result c.requires.lefts c.requires.rights c.requires.no_number c.requires.profile c.new-verdicts.ensures in
+    let begins = whole_begins (W c.args.work.now) c.args.whole.now c.new-verdicts.result c.requires.lefts c.requires.rights c.requires.no_number c.requires.profile c.requires.terms c.new-verdicts.ensures in
     let f = formed (W c.args.work.now) (W c.replaced.new.work) (W c.replaced-2.new.work) c.args.whole.now c.new-verdicts.result c.in_ok-lefts.lefts.items c.in_ok-rights.rights.items begins c.replaced.ensures.spends c.replaced-2.ensures.spends
     c.in_ok-lefts.ensures.games c.in_ok-rights.ensures.games c.in_ok-lefts.ensures.replaces c.in_ok-rights.ensures.replaces in
     f.lefts
@@ -19,7 +19,7 @@ returns-clause-lefts g c =
 pub returns-clause-rights : goal.returns-clause-rights
 returns-clause-rights g c =
     let W = work_state g.S.CellStore.state in
-    let begins = whole_begins (W c.args.work.now) c.args.whole.now c.new-verdicts.result c.requires.lefts c.requires.rights c.requires.no_number c.requires.profile c.new-verdicts.ensures in
+    let begins = whole_begins (W c.args.work.now) c.args.whole.now c.new-verdicts.result c.requires.lefts c.requires.rights c.requires.no_number c.requires.profile c.requires.terms c.new-verdicts.ensures in
     let f = formed (W c.args.work.now) (W c.replaced.new.work) (W c.replaced-2.new.work) c.args.whole.now c.new-verdicts.result c.in_ok-lefts.lefts.items c.in_ok-rights.rights.items begins c.replaced.ensures.spends c.replaced-2.ensures.spends
     c.in_ok-lefts.ensures.games c.in_ok-rights.ensures.games c.in_ok-lefts.ensures.replaces c.in_ok-rights.ensures.replaces in
     f.rights
@@ -27,7 +27,7 @@ returns-clause-rights g c =
 pub returns-clause-form : goal.returns-clause-form
 returns-clause-form g c =
     let W = work_state g.S.CellStore.state in
-    let begins = whole_begins (W c.args.work.now) c.args.whole.now c.new-verdicts.result c.requires.lefts c.requires.rights c.requires.no_number c.requires.profile c.new-verdicts.ensures in
+    let begins = whole_begins (W c.args.work.now) c.args.whole.now c.new-verdicts.result c.requires.lefts c.requires.rights c.requires.no_number c.requires.profile c.requires.terms c.new-verdicts.ensures in
     let f = formed (W c.args.work.now) (W c.replaced.new.work) (W c.replaced-2.new.work) c.args.whole.now c.new-verdicts.result c.in_ok-lefts.lefts.items c.in_ok-rights.rights.items begins c.replaced.ensures.spends c.replaced-2.ensures.spends
     c.in_ok-lefts.ensures.games c.in_ok-rights.ensures.games c.in_ok-lefts.ensures.replaces c.in_ok-rights.ensures.replaces in
     f.form
