@@ -1,6 +1,6 @@
 -- What a work keeps, as its store and its memo change.
-use Rattle.std.proofs.Common.{◌≡◌, refl, ℕ, ◌+◌, ◌≤◌, arith, inl, inr, sym, ◌∙◌, subst, Bool, Some}
-use Rattle.std.specs.Prelude.{◌==◌, ◌&&◌, if◌then◌else◌}
+use Rattle.std.proofs.Common.{◌≡◌, refl, ℕ, ◌+◌, ◌≤◌, arith, inl, inr, sym, ◌∙◌, subst, Option, Some, None}
+use Rattle.std.specs.Prelude.{◌⊎◌, ◌==◌, ◌&&◌, if◌then◌else◌}
 use Rattle.std.proofs.lemmas.Bool.Decides.{eqb_tells}
 use Rattle.cg_form.specs.Game.{Game}
 use Rattle.cg_form.specs.Order.{le}
@@ -17,10 +17,11 @@ use Rattle.cg_nodes.proofs.Later.{game_later, is_game_later, stands_later}
 use Rattle.cg_canon.specs.declared.memo.KnownSum.{KnownSum}
 use Rattle.cg_canon.specs.declared.memo.Memo.{Memo}
 use Rattle.cg_canon.specs.declared.profile.Profile.{Profile}
+use Rattle.cg_canon.specs.declared.recent.Answer.{Answer}
 use Rattle.cg_canon.specs.Added.{IsKnownSum}
-use Rattle.cg_canon.specs.Memos.{profiled, recalled, summed}
+use Rattle.cg_canon.specs.Memos.{Recalls, profiled, summed}
 use Rattle.cg_canon.specs.Profiles.{IsProfile}
-use Rattle.cg_canon.specs.Works.{WorkHolds}
+use Rattle.cg_canon.specs.Works.{IsRight, WorkHolds}
 
 -- a known sum stays one
 known_sum_later : {R Q : Type 0} (s : State Meant R) (t : State Meant Q) → Grows (thing_at s) (thing_at t)
@@ -37,6 +38,14 @@ known_sum_later s t grows a b known h =
       items = subst (λ p. Q p (game_at t b)) (sym x) (subst (Q (game_at s a)) (sym y) h.items);
     }
 
+-- a right answer stays right
+right_later : {R Q : Type 0} (s : State Meant R) (t : State Meant Q) → Grows (thing_at s) (thing_at t) → (x : Answer)
+    → IsRight s x → IsRight t x
+right_later s t grows x h =
+    let a = game_later s t grows x.low h.low in
+    let b = game_later s t grows x.high h.high in
+    record { low = is_game_later s t grows x.low h.low; high = is_game_later s t grows x.high h.high; order = rw (a, b) h.order }
+
 -- when the store has grown
 pub holds_later : {R : Type 0} (n : ℕ) (s t : State Meant R) (spent share start : ℕ) (m : Memo)
     → WorkHolds s spent share start m → Spends n s t → start + n ≤ s.spare + spent → WorkHolds t spent share start m
@@ -48,11 +57,7 @@ holds_later n s t spent share start m h k room =
       small = h.small;
       fallen = (let f = h.fallen in omega arith);
       enough = omega arith;
-      answers = λ a b answer r.
-          let o = h.answers a b answer r in
-          let x = game_later s t k.known a o.0 in
-          let y = game_later s t k.known b o.1 in
-          (is_game_later s t k.known a o.0, is_game_later s t k.known b o.1, rw (x, y) o.2);
+      answers = λ x r. right_later s t k.known x (h.answers x r);
       profiles = λ a p r.
           let o = h.profiles a p r in
           let P : Game → Type 0 = λ z. IsProfile z p in
@@ -62,7 +67,7 @@ holds_later n s t spent share start m h k room =
 
 -- when the memo has the same
 pub holds_same : {R : Type 0} (s : State Meant R) (spent share start : ℕ) (m n : Memo) → WorkHolds s spent share start m
-    → ((a b : ℕ) → recalled n a b ≡ recalled m a b) → ((a : ℕ) → profiled n a ≡ profiled m a)
+    → ((x : Answer) → Recalls n x → Recalls m x) → ((a : ℕ) → profiled n a ≡ profiled m a)
     → ((a b : ℕ) → summed n a b ≡ summed m a b) → WorkHolds s spent share start n
 holds_same s spent share start m n h e f g = record {
   within = h.within;
@@ -70,7 +75,7 @@ holds_same s spent share start m n h e f g = record {
   small = h.small;
   fallen = h.fallen;
   enough = h.enough;
-  answers = λ a b answer r. h.answers a b answer (sym (e a b) ∙ r);
+  answers = λ x r. h.answers x (e x r);
   profiles = λ a p r. h.profiles a p (sym (f a) ∙ r);
   sums = λ a b known r. h.sums a b known (sym (g a b) ∙ r);
 }
@@ -78,47 +83,31 @@ holds_same s spent share start m n h e f g = record {
 some_same : {A : Type 0} (x y : A) → Some x ≡ Some y → x ≡ y
 some_same x y e = cc
 
--- when the memo has one answer more
-pub holds_answer : {R : Type 0} (s : State Meant R) (spent share start : ℕ) (m n : Memo) (a b : ℕ) (answer : Bool)
+-- when the memo has one answer more, and may have forgotten others
+pub holds_answer : {R : Type 0} (s : State Meant R) (spent share start : ℕ) (m n : Memo) (answer : Answer)
     → WorkHolds s spent share start m
-    → ((c d : ℕ) → recalled n c d ≡ (if (a == c) && (b == d) then Some answer else recalled m c d))
+    → ((x : Answer) → Recalls n x → (x ≡ answer) ⊎ Recalls m x)
     → ((c : ℕ) → profiled n c ≡ profiled m c) → ((c d : ℕ) → summed n c d ≡ summed m c d)
-    → IsGame s a → IsGame s b → answer ≡ le (game_at s a) (game_at s b) → WorkHolds s spent share start n
-holds_answer {R} s spent share start m n a b answer h e f g ga gb o = record {
+    → IsRight s answer → WorkHolds s spent share start n
+holds_answer s spent share start m n answer h e f g o = record {
   within = h.within;
   room = h.room;
   small = h.small;
   fallen = h.fallen;
   enough = h.enough;
-  answers = λ c d v r. by c d v (sym (e c d) ∙ r);
+  answers = λ x r. elim (e x r) [
+    | inl same ↦ let P : Answer → Type 0 = λ z. IsRight s z in subst P (sym same) o
+    | inr old ↦ h.answers x old
+  ];
   profiles = λ c p r. h.profiles c p (sym (f c) ∙ r);
   sums = λ c d known r. h.sums c d known (sym (g c d) ∙ r);
 }
-  where
-    by : (c d : ℕ) (v : Bool) → (if (a == c) && (b == d) then Some answer else recalled m c d) ≡ Some v
-        → IsGame s c × IsGame s d × (v ≡ le (game_at s c) (game_at s d))
-    by c d v r = elim (eqb_tells a c) [
-      | inl p ↦ elim (eqb_tells b d) [
-        | inl q ↦
-            let t : (if (a == c) && (b == d) then Some answer else recalled m c d) ≡ Some answer = rw (p.0, q.0) refl in
-            let k : answer ≡ v = some_same answer v (sym t ∙ r) in
-            let P : ℕ → Type 0 = λ z. IsGame s z × IsGame s d × (v ≡ le (game_at s z) (game_at s d)) in
-            let Q : ℕ → Type 0 = λ z. IsGame s a × IsGame s z × (v ≡ le (game_at s a) (game_at s z)) in
-            subst P p.1 (subst Q q.1 (ga, gb, sym k ∙ o))
-        | inr q ↦
-            let t : (if (a == c) && (b == d) then Some answer else recalled m c d) ≡ recalled m c d = rw (p.0, q.0) refl in
-            h.answers c d v (sym t ∙ r)
-      ]
-      | inr p ↦
-          let t : (if (a == c) && (b == d) then Some answer else recalled m c d) ≡ recalled m c d = rw p.0 refl in
-          h.answers c d v (sym t ∙ r)
-    ]
 
 -- when the memo has one profile more
 pub holds_profile : {R : Type 0} (s : State Meant R) (spent share start : ℕ) (m n : Memo) (a : ℕ) (p : Profile)
     → WorkHolds s spent share start m
     → ((c : ℕ) → profiled n c ≡ (if a == c then Some p else profiled m c))
-    → ((c d : ℕ) → recalled n c d ≡ recalled m c d) → ((c d : ℕ) → summed n c d ≡ summed m c d)
+    → ((x : Answer) → Recalls n x → Recalls m x) → ((c d : ℕ) → summed n c d ≡ summed m c d)
     → IsGame s a → IsProfile (game_at s a) p → WorkHolds s spent share start n
 holds_profile {R} s spent share start m n a p h e f k g o = record {
   within = h.within;
@@ -126,7 +115,7 @@ holds_profile {R} s spent share start m n a p h e f k g o = record {
   small = h.small;
   fallen = h.fallen;
   enough = h.enough;
-  answers = λ c d v r. h.answers c d v (sym (f c d) ∙ r);
+  answers = λ x r. h.answers x (f x r);
   profiles = λ c q r. by c q (sym (e c) ∙ r);
   sums = λ c d known r. h.sums c d known (sym (k c d) ∙ r);
 }
@@ -147,7 +136,7 @@ holds_profile {R} s spent share start m n a p h e f k g o = record {
 pub holds_sum : {R : Type 0} (s : State Meant R) (spent share start : ℕ) (m n : Memo) (a b : ℕ) (known : KnownSum)
     → WorkHolds s spent share start m
     → ((c d : ℕ) → summed n c d ≡ (if (a == c) && (b == d) then Some known else summed m c d))
-    → ((c d : ℕ) → recalled n c d ≡ recalled m c d) → ((c : ℕ) → profiled n c ≡ profiled m c)
+    → ((x : Answer) → Recalls n x → Recalls m x) → ((c : ℕ) → profiled n c ≡ profiled m c)
     → IsKnownSum s a b known → WorkHolds s spent share start n
 holds_sum {R} s spent share start m n a b known h e f g o = record {
   within = h.within;
@@ -155,7 +144,7 @@ holds_sum {R} s spent share start m n a b known h e f g o = record {
   small = h.small;
   fallen = h.fallen;
   enough = h.enough;
-  answers = λ c d v r. h.answers c d v (sym (f c d) ∙ r);
+  answers = λ x r. h.answers x (f x r);
   profiles = λ c p r. h.profiles c p (sym (g c) ∙ r);
   sums = λ c d v r. by c d v (sym (e c d) ∙ r);
 }
@@ -177,3 +166,21 @@ holds_sum {R} s spent share start m n a b known h e f g o = record {
           let t : (if (a == c) && (b == d) then Some known else summed m c d) ≡ summed m c d = rw p.0 refl in
           h.sums c d v (sym t ∙ r)
     ]
+
+none_some : {A : Type 0} (o : Option A) (x : A) → o ≡ None → o ≡ Some x → ⊥
+none_some o x e f = cc
+
+-- when the memo is empty
+pub holds_nothing : {R : Type 0} (s : State Meant R) (spent share start : ℕ) (m : Memo) → spent ≤ share → share ≤ start
+    → start ≤ 67108864 → s.spare ≤ start → start ≤ s.spare + spent → ((x : Answer) → Recalls m x → ⊥)
+    → ((a : ℕ) → profiled m a ≡ None) → ((a b : ℕ) → summed m a b ≡ None) → WorkHolds s spent share start m
+holds_nothing s spent share start m within room small fallen enough e f g = record {
+  within = within;
+  room = room;
+  small = small;
+  fallen = fallen;
+  enough = enough;
+  answers = λ x r. absurd (e x r);
+  profiles = λ a p r. absurd (none_some (profiled m a) p (f a) r);
+  sums = λ a b known r. absurd (none_some (summed m a b) known (g a b) r);
+}

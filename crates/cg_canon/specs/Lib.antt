@@ -1,6 +1,7 @@
 -- what public contracts cite
 pub mod Items
 pub mod Profiles
+pub mod Recents
 pub mod Memos
 pub mod Added
 pub mod Works

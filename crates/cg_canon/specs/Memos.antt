@@ -4,13 +4,15 @@ use Rattle.std.specs.HashMap.{get}
 use Rattle.cg_canon.specs.declared.memo.KnownSum.{KnownSum}
 use Rattle.cg_canon.specs.declared.memo.Memo.{Memo}
 use Rattle.cg_canon.specs.declared.profile.Profile.{Profile}
+use Rattle.cg_canon.specs.declared.recent.Answer.{Answer}
+use Rattle.cg_canon.specs.Recents.{IsKept}
 
 abbrev pub pair_eq : ℕ × ℕ → ℕ × ℕ → Bool
 pair_eq p q = (p.0 == q.0) && (p.1 == q.1)
 
--- the answer for a pair of ids
-abbrev pub recalled : Memo → ℕ → ℕ → Option Bool
-recalled m a b = get pair_eq m.answers (a, b)
+-- an answer for a pair of games is kept
+abbrev pub Recalls : Memo → Answer → Type 0
+Recalls m answer = IsKept m.answers answer
 
 -- the profile for an id
 abbrev pub profiled : Memo → ℕ → Option Profile

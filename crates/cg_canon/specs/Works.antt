@@ -1,5 +1,5 @@
 -- What a work is, as contracts see it.
-use Rattle.std.specs.Prelude.{◌≡◌, ℕ, ◌+◌, ◌-◌, ◌≤◌, Some, Bool, refl}
+use Rattle.std.specs.Prelude.{◌≡◌, ℕ, ◌+◌, ◌-◌, ◌≤◌, Some, refl}
 use Rattle.std.specs.Coded.{Coded, code_by, coded×, coded_ℕ}
 use Rattle.std.specs.Borrow.{MutBor}
 use denote.MutBor.{mut_coded}
@@ -11,9 +11,10 @@ use Rattle.cg_nodes.specs.Meant.{Meant}
 use Rattle.cg_canon.specs.declared.memo.KnownSum.{KnownSum}
 use Rattle.cg_canon.specs.declared.memo.Memo.{Memo}
 use Rattle.cg_canon.specs.declared.profile.Profile.{Profile}
+use Rattle.cg_canon.specs.declared.recent.Answer.{Answer}
 use Rattle.cg_canon.specs.declared.rest.WorkRest.{WorkRest}
 use Rattle.cg_canon.specs.Added.{IsKnownSum}
-use Rattle.cg_canon.specs.Memos.{profiled, recalled, summed}
+use Rattle.cg_canon.specs.Memos.{Recalls, profiled, summed}
 use Rattle.cg_canon.specs.Profiles.{IsProfile}
 
 -- the store that is borrowed, the cost so far, the greatest cost, what the store had to spare at first, and the limit on
@@ -31,10 +32,15 @@ work_code {S} c =
     (λ (w : WorkOf S). (w.store, (w.spent, (w.share, (w.start, w.limit)))))
     (λ p. record { store = p.0; spent = p.1.0; share = p.1.1.0; start = p.1.1.1.0; limit = p.1.1.1.1 }) (λ _. refl)
 
--- each answer of the memo is the order of the two games
+-- the answer is the order of its two games
+pub record IsRight {R : Type 0} (s : State Meant R) (x : Answer) : Type 0 where
+  pub low : IsGame s x.low
+  pub high : IsGame s x.high
+  pub order : x.at_most ≡ le (game_at s x.low) (game_at s x.high)
+
+-- each answer of the memo is right
 abbrev pub AnswersHold : {R : Type 0} → State Meant R → Memo → Type 0
-AnswersHold {R} s m = (a b : ℕ) (answer : Bool) → recalled m a b ≡ Some answer
-    → IsGame s a × IsGame s b × (answer ≡ le (game_at s a) (game_at s b))
+AnswersHold {R} s m = (x : Answer) → Recalls m x → IsRight s x
 
 -- each profile of the memo is that of its game
 abbrev pub ProfilesHold : {R : Type 0} → State Meant R → Memo → Type 0

@@ -16,6 +16,7 @@ mod profile;
 mod profiles;
 mod ranked;
 mod reach;
+mod recent;
 mod reduce;
 mod rest;
 mod substitutes;

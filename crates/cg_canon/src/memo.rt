@@ -1,8 +1,10 @@
 //! What was found out of the games of a work.
-ghost use Rattle.std.specs.Prelude.{◌≡◌, ℕ, ◌==◌, ◌&&◌, IfOk, OnErr, None, Some, option_copied, if◌then◌else◌};
-ghost use Rattle.cg_canon.specs.Memos.{profiled, recalled, summed};
+ghost use Rattle.std.specs.Prelude.{◌≡◌, ◌⊎◌, ℕ, ◌==◌, ◌&&◌, IfOk, IfSome, OnErr, None, Some, option_copied, if◌then◌else◌};
+ghost use Rattle.cg_canon.specs.declared.recent.Answer.{Answer as Known};
+ghost use Rattle.cg_canon.specs.Memos.{Recalls, profiled, summed};
 
 use crate::profile::Profile;
+use crate::recent::{Answer, Recent};
 use cg_nodes::Handle;
 use std::alloc::{AllocError, Global};
 use std::collections::HashMap;
@@ -18,10 +20,10 @@ pub(crate) struct KnownSum {
     pub limit: u64,
 }
 
-/// Answers to comparisons and sums, by pairs of ids, and profiles, by ids.
+/// Answers to comparisons, sums, by pairs of ids, and profiles, by ids.
 #[derive(Drop)]
 pub(crate) struct Memo {
-    answers: HashMap<(u32, u32), bool>,
+    answers: Recent,
     profiles: HashMap<u32, Profile>,
     sums: HashMap<(u32, u32), KnownSum>,
 }
@@ -29,34 +31,32 @@ pub(crate) struct Memo {
 impl Memo {
     /// Of nothing.
     pub fn new(alloc: Global) -> Memo
-        ensures answers { (a b : ℕ) → recalled result a b ≡ None }
+        ensures answers { (x : Known) → Recalls result x → ⊥ }
         ensures profiles { (a : ℕ) → profiled result a ≡ None }
         ensures sums { (a b : ℕ) → summed result a b ≡ None }
     {
         Memo {
-            answers: HashMap::new(alloc),
+            answers: Recent::new(alloc),
             profiles: HashMap::new(alloc),
             sums: HashMap::new(alloc),
         }
     }
 
-    /// The answer for the first id and the second, if there is one.
-    pub fn recall(&self, a: u32, b: u32) -> Option<bool>
-        ensures { result ≡ recalled self.now a b }
+    /// Whether the first game is at most the second, if that is kept.
+    pub fn recall(&self, low: Handle, high: Handle) -> Option<bool>
+        ensures { IfSome result (λ yes. Recalls self.now (record { low = low; high = high; at_most = yes })) }
     {
-        self.answers.get(&(a, b)).copied()
+        self.answers.recall(low, high)
     }
 
-    /// Keeps the answer for the first id and the second. Nothing changes where there is no memory.
-    pub fn remember(&mut self, a: u32, b: u32, answer: bool) -> Result<(), AllocError>
-        ensures ok { IfOk result (λ _. (c d : ℕ) → recalled self.new c d
-            ≡ (if (a == c) && (b == d) then Some answer else recalled self.old c d)) }
-        ensures err { OnErr result ((c d : ℕ) → recalled self.new c d ≡ recalled self.old c d) }
+    /// Keeps the answer. Some other one may be forgotten for it.
+    pub fn remember(&mut self, answer: Answer) -> Result<(), AllocError>
+        ensures ok { IfOk result (λ _. (x : Known) → Recalls self.new x → (x ≡ answer) ⊎ Recalls self.old x) }
+        ensures err { OnErr result ((x : Known) → Recalls self.new x → Recalls self.old x) }
         ensures profiles { (c : ℕ) → profiled self.new c ≡ profiled self.old c }
         ensures sums { (c d : ℕ) → summed self.new c d ≡ summed self.old c d }
     {
-        self.answers.insert((a, b), answer)?;
-        Ok(())
+        self.answers.remember(answer)
     }
 
     /// The profile for the id, if there is one. It is lent.
@@ -71,7 +71,7 @@ impl Memo {
         ensures ok { IfOk result (λ _. (c : ℕ) → profiled self.new c
             ≡ (if a == c then Some profile.now else profiled self.old c)) }
         ensures err { OnErr result ((c : ℕ) → profiled self.new c ≡ profiled self.old c) }
-        ensures answers { (c d : ℕ) → recalled self.new c d ≡ recalled self.old c d }
+        ensures answers { (x : Known) → Recalls self.new x → Recalls self.old x }
         ensures sums { (c d : ℕ) → summed self.new c d ≡ summed self.old c d }
     {
         self.profiles.insert(a, *profile)?;
@@ -90,7 +90,7 @@ impl Memo {
         ensures ok { IfOk result (λ _. (c d : ℕ) → summed self.new c d
             ≡ (if (a == c) && (b == d) then Some known else summed self.old c d)) }
         ensures err { OnErr result ((c d : ℕ) → summed self.new c d ≡ summed self.old c d) }
-        ensures answers { (c d : ℕ) → recalled self.new c d ≡ recalled self.old c d }
+        ensures answers { (x : Known) → Recalls self.new x → Recalls self.old x }
         ensures profiles { (c : ℕ) → profiled self.new c ≡ profiled self.old c }
     {
         self.sums.insert((a, b), known)?;

@@ -9,6 +9,7 @@ ghost use Rattle.cg_canon.specs.Works.{IsUnspent, WorkHolds, WorkOf, work_code, 
 use crate::fault::ValueFault;
 use crate::memo::{KnownSum, Memo};
 use crate::profile::Profile;
+use crate::recent::Answer;
 use crate::rest::WorkRest;
 use cg_cells::{CellStore, Id, Key};
 use cg_nodes::{BoardForms, GameFacts, Handle};
@@ -123,7 +124,7 @@ impl<'a, B: BoardForms, S: CellStore<GameFacts<B>>> Work<'a, B, S> {
         ensures { IfSome result (λ answer. answer
             ≡ le (game_at (S.state self.now.store.now) a) (game_at (S.state self.now.store.now) b)) }
     {
-        self.memo.recall(a.id().number(), b.id().number())
+        self.memo.recall(a, b)
     }
 
     /// Keeps the answer for the two.
@@ -133,8 +134,11 @@ impl<'a, B: BoardForms, S: CellStore<GameFacts<B>>> Work<'a, B, S> {
         requires order { answer ≡ le (game_at (S.state self.old.store.now) a) (game_at (S.state self.old.store.now) b) }
         ensures { self.new ≡ self.old }
     {
-        self.memo
-            .remember(a.id().number(), b.id().number(), answer)?;
+        self.memo.remember(Answer {
+            low: a,
+            high: b,
+            at_most: answer,
+        })?;
         Ok(())
     }
 

@@ -1,4 +1,4 @@
-use Rattle.std.proofs.Common.{◌≡◌, ℕ, sym, ◌∙◌, subst}
+use Rattle.std.proofs.Common.{◌≡◌, ℕ, sym, subst}
 use Rattle.cg_form.specs.Order.{le}
 use Rattle.cg_nodes.specs.Games.{IsGame, game_at}
 use Rattle.cg_canon.specs.Works.{WorkOf}
@@ -12,14 +12,10 @@ invariant_of-self g c =
 
 pub invariant_of-self-2 : goal.invariant_of-self-2
 invariant_of-self-2 g c =
-    let first : c.number.result ≡ c.args.a = c.number.ensures.value ∙ c.id.ensures in
-    let second : c.number-2.result ≡ c.args.b = c.number-2.ensures.value ∙ c.id-2.ensures in
     let P : WorkOf _ → Type 0 = λ w. IsGame (g.S.CellStore.state w.store.now) c.args.a × IsGame (g.S.CellStore.state w.store.now) c.args.b
     × (c.args.answer ≡ le (game_at (g.S.CellStore.state w.store.now) c.args.a) (game_at (g.S.CellStore.state w.store.now) c.args.b)) in
-    let Q : ℕ → ℕ → Type 0 = λ i j. IsGame (g.S.CellStore.state c.self.inside.store.now) i × IsGame (g.S.CellStore.state c.self.inside.store.now) j
-    × (c.args.answer ≡ le (game_at (g.S.CellStore.state c.self.inside.store.now) i) (game_at (g.S.CellStore.state c.self.inside.store.now) j)) in
     let h = subst P (sym c.self.view_is) (c.requires.a, c.requires.b, c.requires.order) in
-    let k = subst (λ i. Q i c.number-2.result) (sym first) (subst (λ j. Q c.args.a j) (sym second) h) in
     holds_answer (g.S.CellStore.state c.self.inside.store.now) c.self.inside.spent c.self.inside.share c.self.inside.start c.self.inside.memo c.remember.new.self
-    c.number.result c.number-2.result c.args.answer
-    c.self.invariant c.in_ok-remember.ensures.ok c.in_ok-remember.ensures.profiles c.in_ok-remember.ensures.sums k.0 k.1 k.2
+    (record { low = c.args.a; high = c.args.b; at_most = c.args.answer })
+    c.self.invariant c.in_ok-remember.ensures.ok c.in_ok-remember.ensures.profiles c.in_ok-remember.ensures.sums
+    (record { low = h.0; high = h.1; order = h.2 })
