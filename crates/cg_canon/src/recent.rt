@@ -65,7 +65,11 @@ fn put_all(old: &[Option<Answer>], places: &mut [Option<Answer>])
 }
 
 /// A table of so many places, with the answers of the old one.
-fn moved(alloc: Global, old: &[Option<Answer>], size: usize) -> Result<Vec<Option<Answer>>, AllocError>
+fn moved(
+    alloc: Global,
+    old: &[Option<Answer>],
+    size: usize,
+) -> Result<Vec<Option<Answer>>, AllocError>
     ensures { IfOk result (λ v. (x : Known) → IsPlaced v.items x → IsPlaced old.now x) }
 {
     let mut places = vec![in alloc; None; size]?;
