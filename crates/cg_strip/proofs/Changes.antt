@@ -44,10 +44,13 @@ rules_over book p rules same sound has =
     subst P (sym same) (λ k d below.
     let r = get_or book.rules k d in
     let is = sound.rules k d below in
-    let written = all_cells (symbols_of book.weights) r.replacement
-    (weighted_cells book.weights r.replacement is.replacement) in
-    let Q : List ℕ → Type 0 = λ s. AreCells s r.replacement in
-    record { even = is.even; cells = subst Q (sym (board_parts book p has).symbols) written })
+    let symbols = sym (board_parts book p has).symbols in
+    let Q : List ℕ → List ℕ → Type 0 = λ cells s. AreCells s cells in
+    record {
+      even = is.even;
+      old = subst (Q r.pattern) symbols (all_cells _ r.pattern (weighted_cells book.weights r.pattern is.pattern));
+      new = subst (Q r.replacement) symbols (all_cells _ r.replacement (weighted_cells book.weights r.replacement is.replacement));
+    })
 
 -- ---- toads and frogs
 
@@ -65,24 +68,28 @@ is_frog = (2, omega arith, refl)
 
 -- a change to these symbols
 change : (p : Grid) (old new : List ℕ) → toads_game.has p ≡ true → length old ≡ length new
-    → AllByRecursion (Contains symbols) new → IsChange p.symbols old new
-change p old new has even written =
+    → AllByRecursion (Contains symbols) old → AllByRecursion (Contains symbols) new → IsChange p.symbols old new
+change p old new has even before after =
     let s : p.symbols ≡ symbols = (bytes_decides p.symbols symbols).0 (and_parts (p.rows == 1) (bytes_eq p.symbols symbols) has).1 in
-    let P : List ℕ → Type 0 = λ z. AreCells z new in
-    record { even = even; cells = subst P (sym s) (all_cells symbols new written) }
+    let Q : List ℕ → List ℕ → Type 0 = λ cells z. AreCells z cells in
+    record {
+      even = even;
+      old = subst (Q old) (sym s) (all_cells symbols old before);
+      new = subst (Q new) (sym s) (all_cells symbols new after);
+    }
 
 module _ (p : Grid) (has : toads_game.has p ≡ true) where
   pub toad_steps : IsChange p.symbols (toad ∷ empty ∷ []) (empty ∷ toad ∷ [])
-  toad_steps = change p _ _ has refl (is_empty, (is_toad, tt))
+  toad_steps = change p _ _ has refl (is_toad, (is_empty, tt)) (is_empty, (is_toad, tt))
 
   pub toad_jumps : IsChange p.symbols (toad ∷ frog ∷ empty ∷ []) (empty ∷ frog ∷ toad ∷ [])
-  toad_jumps = change p _ _ has refl (is_empty, (is_frog, (is_toad, tt)))
+  toad_jumps = change p _ _ has refl (is_toad, (is_frog, (is_empty, tt))) (is_empty, (is_frog, (is_toad, tt)))
 
   pub frog_steps : IsChange p.symbols (empty ∷ frog ∷ []) (frog ∷ empty ∷ [])
-  frog_steps = change p _ _ has refl (is_frog, (is_empty, tt))
+  frog_steps = change p _ _ has refl (is_empty, (is_frog, tt)) (is_frog, (is_empty, tt))
 
   pub frog_jumps : IsChange p.symbols (empty ∷ toad ∷ frog ∷ []) (frog ∷ toad ∷ empty ∷ [])
-  frog_jumps = change p _ _ has refl (is_frog, (is_toad, (is_empty, tt)))
+  frog_jumps = change p _ _ has refl (is_empty, (is_toad, (is_frog, tt))) (is_frog, (is_toad, (is_empty, tt)))
 
 -- ---- boards that are put in order
 

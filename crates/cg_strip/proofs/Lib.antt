@@ -13,3 +13,4 @@ pub mod ToadsText
 pub mod BoardLemmas
 pub mod Written
 pub mod Changes
+pub mod Standing

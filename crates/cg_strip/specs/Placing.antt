@@ -1,5 +1,5 @@
 -- Rules placed in a row of cells.
-use Rattle.std.specs.Prelude.{ℕ, zero, suc, ◌+◌, ◌≡◌, List, [], ◌∷◌, ◌++◌, length, take, drop, Bool, true, false, cond, nat_eq}
+use Rattle.std.specs.Prelude.{ℕ, zero, suc, ◌+◌, ◌≡◌, List, [], ◌∷◌, ◌++◌, length, take, drop, ◌&&◌, Bool, true, false, cond, nat_eq, nat_lt}
 use Rattle.std.specs.List.{flat_map, starts_with}
 use Rattle.cg_moves.specs.declared.player.Player.{Player}
 use Rattle.cg_moves.specs.declared.player.Player.TheVariants.{Left, Right}
@@ -53,12 +53,21 @@ placements player row r = cond (is_same_player r.player player) (all_placed r.pa
 abbrev pub moves_by : List Rule → Player → List ℕ → List (List ℕ)
 moves_by rules player row = rising (flat_map (placements player row) rules)
 
--- ---- what can be written on a board
+-- ---- on a board
 
--- as many of these symbols as the pattern has
+-- the pattern stands in the row at this cell and those that follow
+abbrev pub stands_at : List ℕ → List ℕ → ℕ → Bool
+stands_at row pattern i = nat_lt i (length row) && starts_with nat_eq (drop i row) pattern
+
+-- the row with the replacement at this cell and those that follow
+abbrev pub written : List ℕ → List ℕ → ℕ → List ℕ
+written row replacement i = take i row ++ (replacement ++ drop (i + length replacement) row)
+
+-- as many of these symbols in the place of some of them
 pub record IsChange (symbols pattern replacement : List ℕ) : Type 0 where
   pub even : length pattern ≡ length replacement
-  pub cells : AreCells symbols replacement
+  pub old : AreCells symbols pattern
+  pub new : AreCells symbols replacement
 
 abbrev pub IsRuleOver : List ℕ → Rule → Type 0
 IsRuleOver symbols r = IsChange symbols r.pattern r.replacement

@@ -1,28 +1,32 @@
 //! Rules placed on a row.
-ghost use Rattle.std.specs.Prelude.{◌≡◌, ◌+◌, ◌++◌, ◌<◌, ◌≤◌, length, map, take, drop, nat_eq, All, IfOk};
-ghost use Rattle.std.specs.List.{flat_map, starts_with};
+ghost use Rattle.std.specs.Prelude.{◌≡◌, ◌+◌, ◌++◌, ◌<◌, ◌≤◌, ◌==◌, [], ◌∷◌, cond, length, map, All, IfOk};
+ghost use Rattle.std.specs.Int.{bit_at};
+ghost use Rattle.std.specs.List.{flat_map};
 ghost use Rattle.cg_moves.specs.Grid.{AreCells, with_cells};
-ghost use Rattle.cg_strip.specs.Placing.{IsChange, IsRuleOver, placed_at, all_placed, is_same_player, placements};
+ghost use Rattle.cg_moves.specs.Words.{Marks};
+ghost use Rattle.cg_strip.specs.Placing.{IsChange, IsRuleOver, all_placed, is_same_player, placements, stands_at, written};
 
 use crate::rule::Rule;
+use cg_moves::words::{all_cells, bit, moved_back};
 use cg_moves::{Board, Player};
 use std::alloc::{AllocError, Global};
 
-/// Whether the pattern stands on the board's row at this cell and those that follow.
-fn stands_at(board: &Board, pattern: &[u8], cell: u8) -> bool
-    requires { cell < length board.now.cells }
-    ensures { result ≡ starts_with nat_eq (drop cell board.now.cells) pattern.now }
+/// The cells at which the pattern stands on the board: bit i is 1 exactly where it stands at cell i and those that follow.
+fn standing(board: &Board, pattern: &[u8]) -> u64
+    requires { AreCells board.now.symbols pattern.now }
+    ensures { Marks result (stands_at board.now.cells pattern.now) }
 {
-    let room = board.size() - cell;
-    if pattern.len() > room as usize {
-        return false;
+    let size = board.size();
+    if pattern.len() > size as usize {
+        return 0;
     }
+    let mut places = all_cells(size);
     for (offset, symbol) in pattern.iter().enumerate() {
-        if board.cell(cell + offset as u8) != *symbol {
-            return false;
-        }
+        let next = board.places(*symbol);
+        let moved = moved_back(next, offset as u8);
+        places &= moved;
     }
-    true
+    places
 }
 
 /// The board with the replacement at this cell and those that follow.
@@ -34,8 +38,7 @@ fn written_at(
 ) -> Result<Board, AllocError>
     requires fits { cell + length replacement.now ≤ length board.now.cells }
     requires symbols { AreCells board.now.symbols replacement.now }
-    ensures { IfOk result (λ after. after ≡ with_cells board.now
-        (take cell board.now.cells ++ (replacement.now ++ drop (cell + length replacement.now) board.now.cells))) }
+    ensures { IfOk result (λ after. after ≡ with_cells board.now (written board.now.cells replacement.now cell)) }
 {
     // Read for the proof alone: the board has at most 64 cells.
     let _size = board.size();
@@ -46,21 +49,22 @@ fn written_at(
     Ok(after)
 }
 
-/// Puts the board with the replacement at this cell behind the boards, if the pattern stands there.
+/// Puts the board with the replacement at this cell behind the boards, if the cell is one of the places.
 fn place(
     alloc: Global,
     board: &Board,
-    pattern: &[u8],
+    places: u64,
     replacement: &[u8],
     cell: u8,
     boards: &mut Vec<Board>,
 ) -> Result<(), AllocError>
-    requires inside { cell < length board.now.cells }
-    requires change { IsChange board.now.symbols pattern.now replacement.now }
-    ensures { IfOk result (λ _. boards.new.items ≡ boards.old.items
-        ++ map (with_cells board.now) (placed_at pattern.now replacement.now board.now.cells cell)) }
+    requires few { cell < 64 }
+    requires fits { bit_at places cell ≡ 1 → cell + length replacement.now ≤ length board.now.cells }
+    requires symbols { AreCells board.now.symbols replacement.now }
+    ensures { IfOk result (λ _. boards.new.items ≡ boards.old.items ++ map (with_cells board.now)
+        (cond (bit_at places cell == 1) (written board.now.cells replacement.now cell ∷ []) [])) }
 {
-    if stands_at(board, pattern, cell) {
+    if bit(places, cell) == 1 {
         let after = written_at(alloc, board, replacement, cell)?;
         boards.push(after)?;
     }
@@ -79,8 +83,9 @@ pub fn place_all(
     ensures { IfOk result (λ _. boards.new.items ≡ boards.old.items
         ++ map (with_cells board.now) (all_placed pattern.now replacement.now board.now.cells)) }
 {
+    let places = standing(board, pattern);
     for cell in 0..board.size() {
-        place(alloc, board, pattern, replacement, cell, boards)?;
+        place(alloc, board, places, replacement, cell, boards)?;
     }
     Ok(())
 }
