@@ -1,6 +1,5 @@
 -- Candidates for the options of a canonical form.
-use Rattle.std.specs.Prelude.{◌≡◌, ℕ, Bool, true, false, cond, IsTrue, Option, Some, None, List, [], map, take, drop, All, Contains}
-use Rattle.cg_form.specs.Game.{Game}
+use Rattle.std.specs.Prelude.{◌≡◌, ℕ, Bool, true, false, cond, Option, Some, None, List, [], map, take, drop, All, Contains}
 use Rattle.cg_form.specs.Order.{Le}
 use Rattle.cg_cells.specs.Store.{State}
 use Rattle.cg_nodes.specs.Games.{AreGames, game_at, games_at}

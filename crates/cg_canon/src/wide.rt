@@ -98,7 +98,14 @@ fn others_bounded<B: BoardForms, S: CellStore<GameFacts<B>>>(
     if bounds.are_passed(!left, &x.profile) {
         return Ok(items);
     }
-    others(alloc, work, left, items.as_slice(), &x.candidate, &x.profile)
+    others(
+        alloc,
+        work,
+        left,
+        items.as_slice(),
+        &x.candidate,
+        &x.profile,
+    )
 }
 
 /// The best of some options and x, from the best of the options.

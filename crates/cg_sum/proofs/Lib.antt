@@ -1,4 +1,5 @@
 pub mod Sums
+pub mod Incomparable
 pub mod Positions
 pub mod OptionSteps
 pub mod Members

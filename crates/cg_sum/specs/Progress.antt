@@ -1,5 +1,6 @@
 -- How far a sum or a negative has come.
 use Rattle.std.specs.Prelude.{◌≡◌, ◌⊎◌, ◌<◌, ℕ, List, Some, IsSome, get_or, length, map}
+use Rattle.cg_canon.specs.Terms.{NoneComparableByTerm}
 use Rattle.cg_cells.specs.Meaning.{Has, Meaning, note_for}
 use Rattle.cg_cells.specs.Store.{Known, State, thing_at}
 use Rattle.cg_form.specs.Canonical.{Canonical}
@@ -12,6 +13,7 @@ use Rattle.cg_nodes.specs.Meant.{Meant, form}
 use Rattle.cg_nodes.specs.Spelled.{can}
 use Rattle.cg_sum.specs.Finds.{negative_found, nimber_found, sum_found, value_found}
 use Rattle.cg_sum.specs.Written.{written, written_lefts, written_rights}
+use Rattle.cg_sum.specs.declared.form.Draft.{Draft}
 use Rattle.cg_sum.specs.declared.found.Negatives.{Negatives}
 use Rattle.cg_sum.specs.declared.found.Sums.{Sums}
 use Rattle.cg_sum.specs.declared.nimbers.Nimbers.{Nimbers}
@@ -101,6 +103,11 @@ pub record IsSides {R : Type 0} (s : State Meant R) (sides : Sides) (g : Game) :
   pub lefts : AreGames s sides.lefts
   pub rights : AreGames s sides.rights
   pub form : can (node (games_at s sides.lefts) (games_at s sides.rights)) ≡ can g
+
+-- no two of the options on one side that come from one term are comparable
+pub record TermsApart {R : Type 0} (s : State Meant R) (draft : Draft) : Type 0 where
+  pub lefts : NoneComparableByTerm draft.first_term.lefts (games_at s draft.sides.lefts)
+  pub rights : NoneComparableByTerm draft.first_term.rights (games_at s draft.sides.rights)
 
 -- ---- a pair
 

@@ -6,35 +6,46 @@ ghost use Rattle.cg_canon.specs.Works.{work_state};
 ghost use Rattle.cg_form.specs.Game.{Game};
 ghost use Rattle.cg_nodes.specs.Games.{AreGames, StandsFor};
 ghost use Rattle.cg_nodes.specs.Spelled.{can};
-ghost use Rattle.cg_sum.specs.Progress.{IsSides};
+ghost use Rattle.cg_sum.specs.Progress.{IsSides, TermsApart};
 
-use cg_canon::{ValueFault, Work, canonical};
+use cg_canon::{FirstTerm, ValueFault, Work, canonical_of_terms};
 use cg_cells::CellStore;
 use cg_nodes::{BoardForms, GameFacts, Handle, Sides};
 use std::alloc::Global;
 
-/// Makes the item of the canonical form of the game of these lists, at a cost of `extra` more, which is at most 8.
+/// A game by its lists of options, which is to be made canonical.
+#[derive(Drop)]
+pub(crate) struct Draft {
+    /// The options.
+    pub(crate) sides: Sides,
+    /// How many of them come from the first of two terms.
+    pub(crate) first_term: FirstTerm,
+}
+
+/// Makes the item of the canonical form of the game of the draft, at a cost of `extra` more, which is at most 8.
 pub(crate) fn form_item<B: BoardForms, S: CellStore<GameFacts<B>>>(
     alloc: Global,
     work: &mut Work<B, S>,
-    sides: &Sides,
+    draft: &Draft,
     extra: u64,
 ) -> Result<Handle, ValueFault>
     requires extra { extra ≤ 8 }
-    requires lefts { AreGames (work_state S.state work.old) sides.now.lefts }
-    requires rights { AreGames (work_state S.state work.old) sides.now.rights }
-    ensures game { (g : Game) → IsSides (work_state S.state work.old) sides.now g
+    requires lefts { AreGames (work_state S.state work.old) draft.now.sides.lefts }
+    requires rights { AreGames (work_state S.state work.old) draft.now.sides.rights }
+    requires terms { TermsApart (work_state S.state work.old) draft.now }
+    ensures game { (g : Game) → IsSides (work_state S.state work.old) draft.now.sides g
         → IfOk result (λ h. StandsFor (work_state S.state work.new) h (can g)) }
-    ensures made { let W = work_state S.state work.old in (g : Game) → IsSides W sides.now g
+    ensures made { let W = work_state S.state work.old in (g : Game) → IsSides W draft.now.sides g
         → ItemsMade W (work_state S.state work.new) (made (can g) extra ∷ []) result }
     ensures spare { OnOk result ((work_state S.state work.old).spare + extra ≤ (work_state S.state work.new).spare) }
     ensures more { (work_state S.state work.old).spare ≤ (work_state S.state work.new).spare }
 {
-    canonical(
+    canonical_of_terms(
         alloc,
         work,
-        sides.lefts.as_slice(),
-        sides.rights.as_slice(),
+        draft.sides.lefts.as_slice(),
+        draft.sides.rights.as_slice(),
+        draft.first_term,
         extra,
     )
 }

@@ -5,10 +5,12 @@ ghost use Rattle.cg_cells.specs.Store.{Spends};
 ghost use Rattle.cg_form.specs.Sum.{sum};
 ghost use Rattle.cg_nodes.specs.Games.{game_at};
 ghost use Rattle.cg_sum.specs.Finds.{sum_found, sum_handle};
-ghost use Rattle.cg_sum.specs.Progress.{IsOneNode, IsSides, IsSumReady};
+ghost use Rattle.cg_sum.specs.Progress.{IsOneNode, IsSides, IsSumReady, TermsApart};
 
+use crate::form::Draft;
 use crate::found::Sums;
 use crate::written::both_options;
+use cg_canon::FirstTerm;
 use cg_cells::CellStore;
 use cg_nodes::{BoardForms, GameFacts, Handle, Handles, Sides};
 use std::alloc::{AllocError, Global};
@@ -16,22 +18,28 @@ use std::alloc::{AllocError, Global};
 /// Games whose canonical form is that of f + k, as Left and Right options: the sums of the written options
 /// of the two, which were made before. One of the two must be no number, so x + G is made of the sums of x
 /// and the options of G alone (Siegel, Combinatorial Game Theory (2013), II.3: the Number Translation
-/// Theorem). The only error is want of memory.
-pub(crate) fn sides_of_sum<B: BoardForms, S: CellStore<GameFacts<B>>>(
+/// Theorem). No two of those that come from one of the two are comparable, since sums keep the order. The
+/// only error is want of memory.
+pub(crate) fn draft_of_sum<B: BoardForms, S: CellStore<GameFacts<B>>>(
     alloc: Global,
     store: &mut S,
     f: Handle,
     k: Handle,
     sums: &Sums,
-) -> Result<Sides, AllocError>
+) -> Result<Draft, AllocError>
     requires ready { IsSumReady (S.state store.old) sums.now f k }
     requires node { IsOneNode (S.state store.old) f k }
-    ensures sides { IfOk result (λ sides. IsSides (S.state store.new) sides
+    ensures sides { IfOk result (λ draft. IsSides (S.state store.new) draft.sides
         (sum (game_at (S.state store.old) f) (game_at (S.state store.old) k))) }
+    ensures terms { IfOk result (λ draft. TermsApart (S.state store.new) draft) }
     ensures spends { Spends 0 (S.state store.old) (S.state store.new) }
 {
     let both = both_options(alloc, store, f, k)?;
     store.apart();
+    let first_term = FirstTerm {
+        lefts: both.first.lefts.len(),
+        rights: both.first.rights.len(),
+    };
     let lefts = option_sums(
         alloc,
         sums,
@@ -48,9 +56,12 @@ pub(crate) fn sides_of_sum<B: BoardForms, S: CellStore<GameFacts<B>>>(
         f,
         both.second.rights.as_slice(),
     )?;
-    Ok(Sides {
-        lefts: Handles::of(lefts),
-        rights: Handles::of(rights),
+    Ok(Draft {
+        sides: Sides {
+            lefts: Handles::of(lefts),
+            rights: Handles::of(rights),
+        },
+        first_term,
     })
 }
 

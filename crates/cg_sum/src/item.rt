@@ -13,7 +13,7 @@ ghost use Rattle.cg_sum.specs.Progress.{IsNoteOf, IsOneNode, IsSumReady};
 
 use crate::form::form_item;
 use crate::found::Sums;
-use crate::gather::sides_of_sum;
+use crate::gather::draft_of_sum;
 use crate::pairs::pair;
 use cg_canon::{ValueFault, Work, item_of, number_item};
 use cg_cells::{CellStore, Id};
@@ -221,6 +221,6 @@ fn made_item<B: BoardForms, S: CellStore<GameFacts<B>>>(
     ensures spare { OnOk result ((work_state S.state work.old).spare + 1 ≤ (work_state S.state work.new).spare) }
     ensures more { (work_state S.state work.old).spare ≤ (work_state S.state work.new).spare }
 {
-    let sides = sides_of_sum(alloc, work, f, k, sums)?;
-    form_item(alloc, work, &sides, 1)
+    let draft = draft_of_sum(alloc, work, f, k, sums)?;
+    form_item(alloc, work, &draft, 1)
 }

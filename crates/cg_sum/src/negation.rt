@@ -10,14 +10,14 @@ ghost use Rattle.cg_nodes.specs.Spelled.{can};
 ghost use Rattle.cg_sum.specs.Finds.{negative_found, negative_handle};
 ghost use Rattle.cg_sum.specs.Lists.{minus_item, minus_items, negative_items};
 ghost use Rattle.cg_canon.specs.Made.{ItemsMade};
-ghost use Rattle.cg_sum.specs.Progress.{HoldsNegatives, IsNegativeReady, IsSides};
+ghost use Rattle.cg_sum.specs.Progress.{HoldsNegatives, IsNegativeReady, IsSides, TermsApart};
 ghost use Rattle.cg_sum.specs.Written.{IsClosed};
 
-use crate::form::form_item;
+use crate::form::{Draft, form_item};
 use crate::found::Negatives;
 use crate::limits::positions_within;
 use crate::written::written_options;
-use cg_canon::{ValueFault, Work, number_item};
+use cg_canon::{FirstTerm, ValueFault, Work, number_item};
 use cg_cells::CellStore;
 use cg_nodes::{BoardForms, GameFacts, Handle, Handles, Kind, Sides, kind};
 use std::alloc::{AllocError, Global};
@@ -145,29 +145,38 @@ fn game_item<B: BoardForms, S: CellStore<GameFacts<B>>>(
         (minus_item (game_at W f) ∷ []) result }
     ensures spare { (work_state S.state work.old).spare ≤ (work_state S.state work.new).spare }
 {
-    let sides = sides_of_negative(alloc, work, f, negatives)?;
-    form_item(alloc, work, &sides, 0)
+    let draft = draft_of_negative(alloc, work, f, negatives)?;
+    form_item(alloc, work, &draft, 0)
 }
 
-// The Left and Right options of -f, where f is no number and the negatives of its options were made before.
-fn sides_of_negative<B: BoardForms, S: CellStore<GameFacts<B>>>(
+// The Left and Right options of -f, where f is no number and the negatives of its options were made before. On
+// each side, all of them come from one term, since negatives turn the order.
+fn draft_of_negative<B: BoardForms, S: CellStore<GameFacts<B>>>(
     alloc: Global,
     store: &mut S,
     f: Handle,
     negatives: &Negatives,
-) -> Result<Sides, AllocError>
+) -> Result<Draft, AllocError>
     requires ready { IsNegativeReady (S.state store.old) negatives.now f }
     requires node { IsNode (game_at (S.state store.old) f) }
-    ensures sides { IfOk result (λ sides. IsSides (S.state store.new) sides (minus (game_at (S.state store.old) f))) }
+    ensures sides { IfOk result (λ draft. IsSides (S.state store.new) draft.sides (minus (game_at (S.state store.old) f))) }
+    ensures terms { IfOk result (λ draft. TermsApart (S.state store.new) draft) }
     ensures spends { Spends 0 (S.state store.old) (S.state store.new) }
 {
     let sides = written_options(alloc, store, f)?;
     store.apart();
+    let first_term = FirstTerm {
+        lefts: sides.rights.len(),
+        rights: sides.lefts.len(),
+    };
     let lefts = negatives_of(alloc, negatives, sides.rights.as_slice())?;
     let rights = negatives_of(alloc, negatives, sides.lefts.as_slice())?;
-    Ok(Sides {
-        lefts: Handles::of(lefts),
-        rights: Handles::of(rights),
+    Ok(Draft {
+        sides: Sides {
+            lefts: Handles::of(lefts),
+            rights: Handles::of(rights),
+        },
+        first_term,
     })
 }
 

@@ -1,4 +1,4 @@
-use Rattle.std.proofs.Common.{List, ap, subst, sym}
+use Rattle.std.proofs.Common.{List, subst, sym}
 use Rattle.cg_form.specs.Best.{Best}
 use Rattle.cg_nodes.specs.Games.{games_at}
 use Rattle.cg_canon.specs.declared.ranked.Ranked.{Ranked}

@@ -1,5 +1,3 @@
-use Rattle.std.proofs.Common.{◌∷◌}
-use Rattle.cg_canon.specs.Candidates.{handles_of}
 use Rattle.cg_canon.specs.Ranked.{candidates_of}
 use Rattle.cg_canon.specs.Works.{work_state}
 use Rattle.cg_canon.proofs.CandidateLaws.{next_later}

@@ -1,8 +1,9 @@
 -- The options of both are read, and the sums that were found make the sum.
 use Rattle.std.proofs.Common.{sym, ◌∙◌}
 use Rattle.cg_nodes.proofs.Later.{game_later}
+use Rattle.cg_sum.proofs.Incomparable.{lefts_apart, rights_apart, sum_apart}
 use Rattle.cg_sum.proofs.SumSteps.{firsts_found, left_written, node_later, ready_later, right_written, seconds_found, side_stands, sides_sum}
-use Rattle.cg_sum.proofs.gather.sides_of_sum.Goals as goal
+use Rattle.cg_sum.proofs.gather.draft_of_sum.Goals as goal
 
 pub option_sums-requires-clause-firsts : goal.option_sums-requires-clause-firsts
 option_sums-requires-clause-firsts g c =
@@ -48,3 +49,21 @@ returns-clause-sides g c =
     (c.of.ensures ∙ c.in_ok-lefts.ensures) first.lefts second.lefts (left_written _) (left_written _))
     (side_stands _ _ _ _ ready c.apart.ensures _ _ _ _ _ _ _ c.as_slice-3.ensures c.as_slice-4.ensures
     (c.of-2.ensures ∙ c.in_ok-rights.ensures) first.rights second.rights (right_written _) (right_written _))
+
+pub returns-clause-terms : goal.returns-clause-terms
+returns-clause-terms g c =
+    let W = g.S.CellStore.state in
+    let grows = c.both_options.ensures.spends.known in
+    let ready = ready_later (W c.args.store.now) (W c.both_options.new.store) grows _ _ _ c.requires.ready in
+    let first = c.in_ok-both.ensures.first in
+    let second = c.in_ok-both.ensures.second in
+    record {
+      lefts = sum_apart (W c.both_options.new.store) _ _ _ _ _ _ _
+          (side_stands _ _ _ _ ready c.apart.ensures _ _ _ _ _ _ _ c.as_slice.ensures c.as_slice-2.ensures
+          (c.of.ensures ∙ c.in_ok-lefts.ensures) first.lefts second.lefts (left_written _) (left_written _))
+          first.lefts c.len.ensures (lefts_apart _ first.canonical) (lefts_apart _ second.canonical);
+      rights = sum_apart (W c.both_options.new.store) _ _ _ _ _ _ _
+          (side_stands _ _ _ _ ready c.apart.ensures _ _ _ _ _ _ _ c.as_slice-3.ensures c.as_slice-4.ensures
+          (c.of-2.ensures ∙ c.in_ok-rights.ensures) first.rights second.rights (right_written _) (right_written _))
+          first.rights c.len-2.ensures (rights_apart _ first.canonical) (rights_apart _ second.canonical);
+    }

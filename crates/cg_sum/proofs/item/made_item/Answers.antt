@@ -5,17 +5,17 @@ use Rattle.cg_canon.proofs.MadeSteps.{made_memory, read_then}
 use Rattle.cg_sum.proofs.ItemSteps.{spare_read}
 use Rattle.cg_sum.proofs.item.made_item.Goals as goal
 
-pub returns-in_err-sides-clause-made : goal.returns-in_err-sides-clause-made
-returns-in_err-sides-clause-made g c =
+pub returns-in_err-draft-clause-made : goal.returns-in_err-draft-clause-made
+returns-in_err-draft-clause-made g c =
     let p = err_from_is_err_and c.from_residual.result c.from_residual.ensures.1 in
-    made_memory _ _ _ _ (p.1 ∙ ap Err p.2) (spends_keeps 0 _ _ c.sides_of_sum.ensures.spends)
+    made_memory _ _ _ _ (p.1 ∙ ap Err p.2) (spends_keeps 0 _ _ c.draft_of_sum.ensures.spends)
 
 pub returns-clause-game : goal.returns-clause-game
-returns-clause-game g c = c.form_item.ensures.game _ c.in_ok-sides.ensures.sides
+returns-clause-game g c = c.form_item.ensures.game _ c.in_ok-draft.ensures.sides
 
 pub returns-clause-made : goal.returns-clause-made
 returns-clause-made g c =
-    read_then 0 _ _ _ _ _ c.sides_of_sum.ensures.spends (c.form_item.ensures.made _ c.in_ok-sides.ensures.sides)
+    read_then 0 _ _ _ _ _ c.draft_of_sum.ensures.spends (c.form_item.ensures.made _ c.in_ok-draft.ensures.sides)
 
 pub returns-clause-spare : goal.returns-clause-spare
-returns-clause-spare g c = spare_read _ _ _ _ c.sides_of_sum.ensures.spends.spare c.form_item.ensures.spare
+returns-clause-spare g c = spare_read _ _ _ _ c.draft_of_sum.ensures.spends.spare c.form_item.ensures.spare

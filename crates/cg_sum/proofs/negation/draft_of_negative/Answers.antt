@@ -2,9 +2,10 @@ use Rattle.std.proofs.Common.{sym, subst, ◌∙◌}
 use Rattle.cg_form.specs.Game.{Game}
 use Rattle.cg_nodes.proofs.Later.{game_later}
 use Rattle.cg_nodes.specs.Games.{IsNode}
+use Rattle.cg_sum.proofs.Incomparable.{lefts_apart, negative_apart, rights_apart}
 use Rattle.cg_sum.proofs.NegativeOptions.{negated_found, negative_ready_later, side_negated, sides_negative}
 use Rattle.cg_sum.proofs.SumSteps.{left_written, right_written}
-use Rattle.cg_sum.proofs.negation.sides_of_negative.Goals as goal
+use Rattle.cg_sum.proofs.negation.draft_of_negative.Goals as goal
 
 pub negatives_of-requires : goal.negatives_of-requires
 negatives_of-requires g c =
@@ -32,3 +33,19 @@ returns-clause-sides g c =
     c.in_ok-sides.ensures.written.rights (right_written _))
     (side_negated _ _ _ ready c.apart.ensures _ _ _ _ c.as_slice-2.ensures (c.of-2.ensures ∙ c.in_ok-rights.ensures)
     c.in_ok-sides.ensures.written.lefts (left_written _))
+
+pub returns-clause-terms : goal.returns-clause-terms
+returns-clause-terms g c =
+    let W = g.S.CellStore.state in
+    let ready = negative_ready_later (W c.args.store.now) (W c.written_options.new.store) c.written_options.ensures.spends.known _ _ c.requires.ready in
+    let sides = c.in_ok-sides.ensures.written in
+    record {
+      lefts = negative_apart (W c.written_options.new.store) _ _ _ _
+          (side_negated _ _ _ ready c.apart.ensures _ _ _ _ c.as_slice.ensures (c.of.ensures ∙ c.in_ok-lefts.ensures)
+          sides.rights (right_written _))
+          sides.rights c.len.ensures (rights_apart _ sides.canonical);
+      rights = negative_apart (W c.written_options.new.store) _ _ _ _
+          (side_negated _ _ _ ready c.apart.ensures _ _ _ _ c.as_slice-2.ensures (c.of-2.ensures ∙ c.in_ok-rights.ensures)
+          sides.lefts (left_written _))
+          sides.lefts c.len-2.ensures (lefts_apart _ sides.canonical);
+    }
