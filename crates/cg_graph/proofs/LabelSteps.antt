@@ -216,9 +216,6 @@ pub record IsKeptBelow (test : ℕ → Bool) (start cells : List ℕ) (i : ℕ) 
   pub done : (k : ℕ) → k < i → slice_index cells k ≡ (if test k then slice_index start k else gone)
   pub left : (k : ℕ) → i ≤ k → slice_index cells k ≡ slice_index start k
 
-pub kept_none : (test : ℕ → Bool) (start : List ℕ) → IsKeptBelow test start start 0
-kept_none test start = record { long = refl; done = λ k below. absurd (omega arith); left = λ k above. refl }
-
 pub kept_stays : (test : ℕ → Bool) (start cells next : List ℕ) (i : ℕ) → IsKeptBelow test start cells i → test i ≡ true
     → next ≡ cells → IsKeptBelow test start next (i + 1)
 kept_stays test start cells next i is passes same =

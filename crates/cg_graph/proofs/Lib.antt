@@ -15,3 +15,4 @@ pub mod ChartReadings
 pub mod ChartSound
 pub mod Starts
 pub mod ColouringMoves
+pub mod Ordered

@@ -1,9 +1,10 @@
 -- The start of a drawing without green edges.
-use Rattle.std.proofs.Common.{◌≡◌, ◌≢◌, ℕ, ◌==◌, true, List, length, inl, inr, sym, ◌∙◌, arith}
+use Rattle.std.proofs.Common.{◌≡◌, ◌≢◌, ℕ, ◌==◌, true, List, length, inl, inr, ap, sym, ◌∙◌, arith}
 use Rattle.std.specs.Prelude.{codes}
 use Rattle.std.specs.Str.{bytes_eq}
 use Rattle.std.proofs.lemmas.Bool.{eq-eqb}
 use Rattle.std.proofs.lemmas.List.{length-map}
+use Rattle.cg_moves.specs.Grid.{Grid, with_cells}
 use Rattle.cg_moves.proofs.Same.{both-true, bytes_eq-refl}
 use Rattle.cg_graph.specs.Drawings.{colours_of, drawing_rules, drawing_start, graph_of}
 use Rattle.cg_graph.specs.Hackenbush.{IsRedBlue, green}
@@ -20,6 +21,19 @@ pub start-long : (drawing : List ColouredEdge) → length (settled (graph_of dra
 start-long drawing =
     length-kept (is_joined (graph_of drawing) (colours_of drawing)) (colours_of drawing)
     ∙ length-map drawing (λ (e : ColouredEdge). e.colour)
+
+-- the board that is made of the colours and settled
+pub start-is : (drawing edges : List ColouredEdge) (columns : ℕ) (cells : List ℕ) (whole board : Grid) → edges ≡ drawing
+    → cells ≡ colours_of drawing → columns ≡ length cells
+    → whole ≡ (let g : Grid = record { rows = 1; columns = columns; symbols = codes ".brg"; cells = cells } in g)
+    → board ≡ with_cells whole (settled (graph_of edges) whole.cells) → board ≡ drawing_start drawing
+start-is drawing edges columns cells whole board same colours long made put =
+    let settled-of : List ColouredEdge → Grid → Grid = λ z q. with_cells q (settled (graph_of z) q.cells) in
+    let row : ℕ → List ℕ → Grid = λ n z. record { rows = 1; columns = n; symbols = codes ".brg"; cells = z } in
+    let wide = long ∙ ap length colours ∙ length-map drawing (λ (e : ColouredEdge). e.colour) in
+    put ∙ ap (λ z. settled-of z whole) same ∙ ap (settled-of drawing) made
+    ∙ ap (λ n. settled-of drawing (row n cells)) wide
+    ∙ ap (λ z. settled-of drawing (row (length drawing) z)) colours
 
 pub start-has : (drawing : List ColouredEdge) → (drawing_rules drawing).has (drawing_start drawing) ≡ true
 start-has drawing =

@@ -1,13 +1,14 @@
 //! The moves of Col and Snort.
-ghost use Rattle.std.specs.Prelude.{◌≡◌, ◌<◌, ◌≤◌, All, IfOk, length, true};
-ghost use Rattle.cg_moves.specs.Grid.{AreCells};
-ghost use Rattle.cg_moves.specs.Rising.{with_all};
+ghost use Rattle.std.specs.Prelude.{◌≡◌, ◌++◌, ◌<◌, IfOk, length, map, true};
+ghost use Rattle.std.specs.List.{flat_map};
+ghost use Rattle.cg_moves.specs.Grid.{with_cells};
+ghost use Rattle.cg_moves.specs.Rising.{counted};
 ghost use Rattle.cg_graph.specs.Charts.{chart_rules, edges_of};
-ghost use Rattle.cg_graph.specs.Colouring.{colourings_at, colourings_of, forbidden, may_colour, other, own};
+ghost use Rattle.cg_graph.specs.Colouring.{colourings_at, forbidden, may_colour, other, own};
 
 use crate::chart::Colouring;
 use crate::neighbours::has_neighbour;
-use cg_moves::{Board, Boards, Outcomes, Pieces, Player, Rules};
+use cg_moves::{Board, Boards, Pieces, Player, Rules, in_order};
 use std::alloc::{AllocError, Global};
 
 const FREE: u8 = b'.';
@@ -40,54 +41,54 @@ fn forbidden(snort: bool, player: Player) -> u8
 }
 
 /// Whether the player may give the vertex the own colour.
-fn may_colour(chart: &Colouring, player: Player, cells: &[u8], vertex: u8) -> bool
-    requires vertex { vertex < length cells.now }
-    requires few { length cells.now ≤ 64 }
-    ensures { result ≡ may_colour chart.now.snort (edges_of chart.now.edges) player cells.now vertex }
+fn may_colour(chart: &Colouring, board: &Board, player: Player, vertex: u8) -> bool
+    requires { vertex < length board.now.cells }
+    ensures { result ≡ may_colour chart.now.snort (edges_of chart.now.edges) player board.now.cells vertex }
 {
     let taboo = forbidden(chart.is_snort(), player);
-    cells[vertex as usize] == FREE && !has_neighbour(chart.pairs(), cells, vertex, taboo)
+    board.cell(vertex) == FREE && !has_neighbour(chart.pairs(), board, vertex, taboo)
 }
 
-/// Takes in the cells after the player gives this vertex the own colour, if the player may.
+/// Puts the board after the player gives this vertex the own colour behind the boards, if the player may.
 fn put_colour(
     alloc: Global,
     chart: &Colouring,
     board: &Board,
     player: Player,
     vertex: u8,
-    outcomes: &mut Outcomes,
+    boards: &mut Vec<Board>,
 ) -> Result<(), AllocError>
-    requires { vertex < length board.now.cells }
-    ensures { IfOk result (λ _. outcomes.new ≡ with_all outcomes.old
+    requires has { (chart_rules chart.now).has board.now ≡ true }
+    requires vertex { vertex < length board.now.cells }
+    ensures { IfOk result (λ _. boards.new.items ≡ boards.old.items ++ map (with_cells board.now)
         (colourings_at chart.now.snort (edges_of chart.now.edges) player board.now.cells vertex)) }
 {
-    let mut cells = board.cells(alloc)?.into_vec();
-    if !may_colour(chart, player, &cells, vertex) {
+    if !may_colour(chart, board, player, vertex) {
         return Ok(());
     }
-    cells[vertex as usize] = own(player);
-    outcomes.add(cells)
+    let mut after = board.copy(alloc)?;
+    after.set(vertex, own(player));
+    boards.push(after)?;
+    Ok(())
 }
 
-/// What the player's moves lead to.
-fn outcomes_of(
+/// The boards after the player's moves, vertex by vertex.
+fn boards_of(
     alloc: Global,
     chart: &Colouring,
     board: &Board,
     player: Player,
-) -> Result<Outcomes, AllocError>
+) -> Result<Vec<Board>, AllocError>
     requires { (chart_rules chart.now).has board.now ≡ true }
-    ensures value { IfOk result (λ outcomes. outcomes ≡
-        colourings_of chart.now.snort (edges_of chart.now.edges) player board.now.cells) }
-    ensures cells { IfOk result (λ outcomes. All (AreCells board.now.symbols) outcomes) }
-    ensures size { IfOk result (λ outcomes. All (λ cells. length cells ≡ length board.now.cells) outcomes) }
+    ensures { IfOk result (λ boards. boards.items ≡ map (with_cells board.now)
+        (flat_map (colourings_at chart.now.snort (edges_of chart.now.edges) player board.now.cells)
+        (counted 0 (length board.now.cells)))) }
 {
-    let mut outcomes = Outcomes::new(alloc);
+    let mut boards = Vec::new(alloc);
     for vertex in 0..board.size() {
-        put_colour(alloc, chart, board, player, vertex, &mut outcomes)?;
+        put_colour(alloc, chart, board, player, vertex, &mut boards)?;
     }
-    Ok(outcomes)
+    Ok(boards)
 }
 
 impl Rules for Colouring {
@@ -98,7 +99,8 @@ impl Rules for Colouring {
     ghost lawful = { λ chart. colouring_lawful chart.snort (length chart.vertices) (edges_of chart.edges) };
 
     fn moves(&self, alloc: Global, board: &Board, player: Player) -> Result<Boards, AllocError> {
-        outcomes_of(alloc, self, board, player)?.boards(alloc, board)
+        let boards = boards_of(alloc, self, board, player)?;
+        in_order(alloc, board, &boards)
     }
 
     fn pieces(&self, _alloc: Global, _board: &Board) -> Result<Pieces, AllocError> {

@@ -1,8 +1,7 @@
 //! Drawings of Hackenbush.
-ghost use Rattle.std.specs.Prelude.{◌≡◌, ◌≤◌, ◌⊎◌, All, Ok, Err, IfOk, IfErr, codes, length, slice_get, true};
-ghost use Rattle.cg_moves.specs.Grid.{AreCells, IsGrid};
-ghost use Rattle.cg_graph.specs.Drawings.{IsDrawing, IsDrawnAs, IsEdge, IsNotDrawn, colours_of, drawing_of, drawing_read, drawing_rules, drawing_start, few_drawn, graph_of};
-ghost use Rattle.cg_graph.specs.Paths.{settled};
+ghost use Rattle.std.specs.Prelude.{◌≡◌, ◌≤◌, ◌⊎◌, All, Ok, Err, IfOk, IfErr, length, slice_get, true};
+ghost use Rattle.cg_moves.specs.Grid.{IsGrid};
+ghost use Rattle.cg_graph.specs.Drawings.{IsDrawing, IsDrawnAs, IsEdge, IsNotDrawn, colours_of, drawing_of, drawing_read, drawing_rules, drawing_start, few_drawn};
 
 use crate::edge::ColouredEdge;
 use crate::fault::GraphFault;
@@ -65,9 +64,10 @@ impl Hackenbush {
         ensures has { IfOk result (λ board. (drawing_rules self.now).has board ≡ true) }
         ensures grid { IfOk result IsGrid }
     {
-        let cells = self.start(alloc)?;
-        let columns = cells.len() as u8;
-        let board = Board::make(alloc, 1, columns, b".brg", &cells)?;
+        let colours = self.colours(alloc)?;
+        let columns = colours.len() as u8;
+        let whole = Board::make(alloc, 1, columns, b".brg", &colours)?;
+        let board = settled(self.edges(), whole);
         // Read for the proof alone: each board is one.
         let _size = board.size();
         Ok(board)
@@ -79,17 +79,6 @@ impl Hackenbush {
         ensures sound { IsDrawing self.now }
     {
         &self.edges
-    }
-
-    /// The cells at the start.
-    fn start(&self, alloc: Global) -> Result<Vec<u8>, AllocError>
-        ensures value { IfOk result (λ cells. cells.items ≡ settled (graph_of self.now) (colours_of self.now)) }
-        ensures long { IfOk result (λ cells. length cells.items ≡ length self.now) }
-        ensures cells { IfOk result (λ cells. AreCells (codes ".brg") cells.items) }
-        ensures sound { IsDrawing self.now }
-    {
-        let colours = self.colours(alloc)?;
-        Ok(settled(self.edges(), colours))
     }
 
     /// The colours of the edges, in the order of the text.

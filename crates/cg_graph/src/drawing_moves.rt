@@ -1,14 +1,15 @@
 //! The moves of Hackenbush.
-ghost use Rattle.std.specs.Prelude.{◌≡◌, ◌<◌, All, IfOk, length, true};
-ghost use Rattle.cg_moves.specs.Grid.{AreCells};
-ghost use Rattle.cg_moves.specs.Rising.{with_all};
+ghost use Rattle.std.specs.Prelude.{◌≡◌, ◌++◌, ◌<◌, All, IfOk, length, map, true};
+ghost use Rattle.std.specs.List.{flat_map};
+ghost use Rattle.cg_moves.specs.Grid.{with_cells};
+ghost use Rattle.cg_moves.specs.Rising.{counted};
 ghost use Rattle.cg_graph.specs.Drawings.{IsEdge, drawing_rules, graph_of};
-ghost use Rattle.cg_graph.specs.Hackenbush.{cuts_at, cuts_of, may_cut};
+ghost use Rattle.cg_graph.specs.Hackenbush.{cuts_at, may_cut};
 
 use crate::drawing::Hackenbush;
 use crate::edge::ColouredEdge;
 use crate::labels::{GONE, settled};
-use cg_moves::{Board, Boards, Outcomes, Pieces, Player, Rules};
+use cg_moves::{Board, Boards, Pieces, Player, Rules, in_order};
 use std::alloc::{AllocError, Global};
 
 /// Whether the player may cut an edge of this colour.
@@ -21,47 +22,47 @@ fn may_cut(player: Player, colour: u8) -> bool
     }
 }
 
-/// Takes in what is left after the player cuts this edge, if the player may.
+/// Puts the board that is left after the player cuts this edge behind the boards, if the player may.
 fn put_cut(
     alloc: Global,
     edges: &[ColouredEdge],
     board: &Board,
     player: Player,
     index: u8,
-    outcomes: &mut Outcomes,
+    boards: &mut Vec<Board>,
 ) -> Result<(), AllocError>
     requires edges { All IsEdge edges.now }
-    requires size { length edges.now ≡ length board.now.cells }
+    requires has { (drawing_rules edges.now).has board.now ≡ true }
     requires index { index < length board.now.cells }
-    ensures { IfOk result (λ _. outcomes.new ≡
-        with_all outcomes.old (cuts_at (graph_of edges.now) player board.now.cells index)) }
+    ensures { IfOk result (λ _. boards.new.items ≡ boards.old.items
+        ++ map (with_cells board.now) (cuts_at (graph_of edges.now) player board.now.cells index)) }
 {
     if !may_cut(player, board.cell(index)) {
         return Ok(());
     }
-    let mut cells = board.cells(alloc)?.into_vec();
-    cells[index as usize] = GONE;
-    outcomes.add(settled(edges, cells))
+    let mut cut = board.copy(alloc)?;
+    cut.set(index, GONE);
+    boards.push(settled(edges, cut))?;
+    Ok(())
 }
 
-/// What the player's cuts leave.
-fn outcomes_of(
+/// The boards that the player's cuts leave, edge by edge.
+fn boards_of(
     alloc: Global,
     edges: &[ColouredEdge],
     board: &Board,
     player: Player,
-) -> Result<Outcomes, AllocError>
+) -> Result<Vec<Board>, AllocError>
     requires edges { All IsEdge edges.now }
     requires has { (drawing_rules edges.now).has board.now ≡ true }
-    ensures value { IfOk result (λ outcomes. outcomes ≡ cuts_of (graph_of edges.now) player board.now.cells) }
-    ensures cells { IfOk result (λ outcomes. All (AreCells board.now.symbols) outcomes) }
-    ensures size { IfOk result (λ outcomes. All (λ cells. length cells ≡ length board.now.cells) outcomes) }
+    ensures { IfOk result (λ boards. boards.items ≡ map (with_cells board.now)
+        (flat_map (cuts_at (graph_of edges.now) player board.now.cells) (counted 0 (length board.now.cells)))) }
 {
-    let mut outcomes = Outcomes::new(alloc);
+    let mut boards = Vec::new(alloc);
     for index in 0..board.size() {
-        put_cut(alloc, edges, board, player, index, &mut outcomes)?;
+        put_cut(alloc, edges, board, player, index, &mut boards)?;
     }
-    Ok(outcomes)
+    Ok(boards)
 }
 
 impl Rules for Hackenbush {
@@ -72,7 +73,8 @@ impl Rules for Hackenbush {
     ghost lawful = { λ drawing. hackenbush_lawful (graph_of drawing) };
 
     fn moves(&self, alloc: Global, board: &Board, player: Player) -> Result<Boards, AllocError> {
-        outcomes_of(alloc, self.edges(), board, player)?.boards(alloc, board)
+        let boards = boards_of(alloc, self.edges(), board, player)?;
+        in_order(alloc, board, &boards)
     }
 
     fn pieces(&self, _alloc: Global, _board: &Board) -> Result<Pieces, AllocError> {

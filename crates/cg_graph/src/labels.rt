@@ -1,10 +1,12 @@
 //! Which edges are joined to the ground: vertices get labels, one label to all that edges connect.
-ghost use Rattle.std.specs.Prelude.{◌≡◌, ◌<◌, ◌==◌, ℕ, [], ◌||◌, All, length, slice_index};
+ghost use Rattle.std.specs.Prelude.{◌≡◌, ◌<◌, ◌==◌, ℕ, [], ◌||◌, All, Contains, length, slice_index};
+ghost use Rattle.cg_moves.specs.Grid.{with_cells};
 ghost use Rattle.cg_graph.specs.Drawings.{IsEdge, graph_of};
 ghost use Rattle.cg_graph.specs.Labels.{AreLabels, relabelled};
 ghost use Rattle.cg_graph.specs.Paths.{connected, gone, ground, present, settled};
 
 use crate::edge::ColouredEdge;
+use cg_moves::Board;
 
 /// How many bytes there are up to `Z`.
 const BYTES: usize = 91;
@@ -40,17 +42,19 @@ fn relabel(labels: &mut [u8], old: u8, new: u8)
 }
 
 /// The labels after all edges that are there: from the last to the first, the two ends get one label.
-fn labels(edges: &[ColouredEdge], cells: &[u8]) -> [u8; BYTES]
+fn labels(edges: &[ColouredEdge], board: &Board) -> [u8; BYTES]
     requires edges { All IsEdge edges.now }
-    requires size { length edges.now ≡ length cells.now }
-    ensures { AreLabels result (present (graph_of edges.now) cells.now) }
+    requires size { length edges.now ≡ length board.now.cells }
+    ensures { AreLabels result (present (graph_of edges.now) board.now.cells) }
 {
+    // Read for the proof alone: the board has at most 64 cells.
+    let _size = board.size();
     let mut labels = own_labels();
     let mut left = edges.len();
     while left > 0 {
         left -= 1;
         let edge = edges[left];
-        if cells[left] != GONE {
+        if board.cell(left as u8) != GONE {
             let old = labels[edge.other as usize];
             let new = labels[edge.one as usize];
             relabel(&mut labels, old, new);
@@ -70,17 +74,20 @@ fn is_joined(labels: &[u8; BYTES], edge: &ColouredEdge) -> bool
     label == labels[edge.one as usize] || label == labels[edge.other as usize]
 }
 
-/// The cells without the edges that aren't joined to the ground.
-pub fn settled(edges: &[ColouredEdge], cells: Vec<u8>) -> Vec<u8>
+/// The board without the edges that aren't joined to the ground.
+pub fn settled(edges: &[ColouredEdge], board: Board) -> Board
     requires edges { All IsEdge edges.now }
-    requires size { length edges.now ≡ length cells.items }
-    ensures { result.items ≡ settled (graph_of edges.now) cells.items }
+    requires size { length edges.now ≡ length board.cells }
+    requires gone { Contains board.symbols gone }
+    ensures { result ≡ with_cells board (settled (graph_of edges.now) board.cells) }
 {
-    let labels = labels(edges, &cells);
-    let mut kept = cells;
+    // Read for the proof alone: the board has at most 64 cells.
+    let _size = board.size();
+    let labels = labels(edges, &board);
+    let mut kept = board;
     for (i, edge) in edges.iter().enumerate() {
         if !is_joined(&labels, edge) {
-            kept[i] = GONE;
+            kept.set(i as u8, GONE);
         }
     }
     kept

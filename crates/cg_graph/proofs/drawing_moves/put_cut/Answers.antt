@@ -1,18 +1,26 @@
-use Rattle.std.proofs.Common.{◌≡◌, true, ap, sym, ◌∙◌}
-use Rattle.std.specs.Prelude.{slice_index, slice_set}
+use Rattle.std.proofs.Common.{◌≡◌, true, ap, subst, sym, ◌∙◌, rules}
+use Rattle.std.specs.Prelude.{Contains, slice_index, slice_set}
+use Rattle.cg_moves.specs.Grid.{Grid, with_cells}
+use Rattle.cg_moves.proofs.Carried.{ok_is}
 use Rattle.cg_graph.specs.Drawings.{graph_of}
 use Rattle.cg_graph.specs.Hackenbush.{may_cut}
-use Rattle.cg_graph.specs.Paths.{gone, settled}
-use Rattle.cg_graph.proofs.Taken.{if_cut_taken}
+use Rattle.cg_graph.specs.Paths.{gone}
+use Rattle.cg_graph.proofs.Symbols.{has-gone}
+use Rattle.cg_graph.proofs.Taken.{cut_put}
 use Rattle.cg_graph.proofs.drawing_moves.put_cut.Goals as goal
+
+pub set-requires-clause-symbol : goal.set-requires-clause-symbol
+set-requires-clause-symbol c =
+    let P : Grid → Type 0 = λ q. Contains q.symbols gone in
+    subst P (sym (ok_is c.in_ok-cut.cut c.args.board.now c.in_ok-cut.ensures))
+    (has-gone c.args.edges.now c.args.board.now c.requires.has)
 
 pub returns : goal.returns
 returns c =
-    let cells = c.args.board.now.cells in
-    let edges = graph_of c.args.edges.now in
-    let may : may_cut c.args.player (slice_index cells c.args.index) ≡ true =
+    let p = c.args.board.now in
+    let may : may_cut c.args.player (slice_index c.args.board.now.cells c.args.index) ≡ true =
     ap (may_cut c.args.player) (sym c.cell.ensures) ∙ sym c.may_cut.ensures ∙ c.if-not-may_cut.false in
-    let same = c.settled.ensures ∙ ap (λ z. settled edges (slice_set z c.args.index gone))
-    (c.into_vec-cells.ensures ∙ c.in_ok-cells.ensures.value) in
-    if_cut_taken c.add.result edges c.args.player cells c.settled.result.items c.args.index c.args.outcomes.now
-    c.add.new.self c.requires.index may same c.add.ensures
+    let made = c.set.ensures ∙ ap (λ (q : Grid). with_cells q (slice_set q.cells c.args.index gone))
+    (ok_is c.in_ok-cut.cut c.args.board.now c.in_ok-cut.ensures) in
+    cut_put (graph_of c.args.edges.now) c.args.player p c.set.new.self c.settled.result c.args.index c.args.boards.now.items
+    c.push.new.self.items c.requires.index may made c.settled.ensures (search rules)
