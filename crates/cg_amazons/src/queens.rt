@@ -85,7 +85,7 @@ fn moved(
     Ok(after)
 }
 
-/// Puts the boards behind the boards that the queen on this cell leads to when it moves onto that one and shoots.
+/// Puts the boards that the queen on this cell leads to, when it moves onto that one and shoots, behind the boards.
 fn move_and_shoot(
     alloc: Global,
     board: &Board,
@@ -108,7 +108,7 @@ fn move_and_shoot(
     Ok(())
 }
 
-/// Puts the boards behind the boards that the queen on this cell leads to when it moves onto that one, if it reaches that.
+/// Puts the boards that the queen on this cell leads to, when it moves onto that one, behind the boards, if it reaches that.
 fn move_onto(
     alloc: Global,
     board: &Board,
@@ -132,7 +132,7 @@ fn move_onto(
     Ok(())
 }
 
-/// Puts the boards behind the boards that the queen on this cell leads to.
+/// Puts the boards that the queen on this cell leads to behind the boards.
 fn move_queen(
     alloc: Global,
     board: &Board,
@@ -152,7 +152,7 @@ fn move_queen(
     Ok(())
 }
 
-/// Puts the boards behind the boards that the queen on this cell leads to, if there is one.
+/// Puts the boards that the queen on this cell leads to behind the boards, if there is one.
 fn move_from(
     alloc: Global,
     board: &Board,
@@ -173,7 +173,7 @@ fn move_from(
     Ok(())
 }
 
-/// Puts the boards behind the boards that the player's queens lead to.
+/// Puts the boards that the player's queens lead to behind the boards.
 pub(crate) fn move_all(
     alloc: Global,
     board: &Board,
