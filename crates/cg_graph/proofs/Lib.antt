@@ -15,4 +15,3 @@ pub mod ChartReadings
 pub mod ChartSound
 pub mod Starts
 pub mod ColouringMoves
-pub mod Ordered

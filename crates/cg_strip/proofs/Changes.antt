@@ -1,13 +1,11 @@
 -- What the rules of strip games, and toads and frogs, write on boards.
-use Rattle.std.proofs.Common.{◌≡◌, ℕ, zero, suc, ◌==◌, inl, inr, true, List, [], ◌∷◌, get_or, length, map, refl, ap, sym, subst, ◌∙◌, arith, eqb-true}
+use Rattle.std.proofs.Common.{◌≡◌, ℕ, zero, suc, ◌==◌, inl, inr, true, List, [], ◌∷◌, get_or, length, refl, ap, sym, subst, ◌∙◌, arith, eqb-true}
 use Rattle.std.specs.Prelude.{All, Contains}
 use Rattle.std.specs.List.{list_all, AllByRecursion}
 use Rattle.std.specs.Str.{bytes_eq}
 use Rattle.std.specs.Cmp.Lexicographic.{bytes_decides}
 use Rattle.std.proofs.lemmas.Bool.{and_parts, or_cases}
-use Rattle.cg_moves.specs.Grid.{AreCells, Grid, IsLike, with_cells}
-use Rattle.cg_moves.specs.Rising.{cells_of, rising}
-use Rattle.cg_moves.proofs.Sorting.{cells-back, sorted_like}
+use Rattle.cg_moves.specs.Grid.{AreCells, Grid}
 use Rattle.cg_strip.specs.Placing.{IsChange, IsRuleOver}
 use Rattle.cg_strip.specs.Rulebook.{Rulebook, IsRulebook, is_weighted, symbols_of}
 use Rattle.cg_strip.specs.StripGame.{is_strip_board}
@@ -90,14 +88,3 @@ module _ (p : Grid) (has : toads_game.has p ≡ true) where
 
   pub frog_jumps : IsChange p.symbols (empty ∷ toad ∷ frog ∷ []) (frog ∷ toad ∷ empty ∷ [])
   frog_jumps = change p _ _ has refl (is_empty, (is_toad, (is_frog, tt))) (is_frog, (is_toad, (is_empty, tt)))
-
--- ---- boards that are put in order
-
-pub all_like : (p : Grid) (ks : List (List ℕ)) (boards slice : List Grid) → slice ≡ boards → boards ≡ map (with_cells p) ks
-    → All (IsLike p) slice
-all_like p ks boards slice same made = sorted_like p p ks slice (same ∙ made) refl
-
-pub in_their_order : (p : Grid) (ks : List (List ℕ)) (boards slice : List Grid) → slice ≡ boards
-    → boards ≡ map (with_cells p) ks → map (with_cells p) (rising (cells_of slice)) ≡ map (with_cells p) (rising ks)
-in_their_order p ks boards slice same made =
-    ap (λ z. map (with_cells p) (rising (cells_of z))) (same ∙ made) ∙ ap (λ z. map (with_cells p) (rising z)) (cells-back p ks)

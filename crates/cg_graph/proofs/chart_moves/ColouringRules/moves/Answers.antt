@@ -2,9 +2,9 @@ use Rattle.std.proofs.Common.{length}
 use Rattle.std.specs.List.{flat_map}
 use Rattle.cg_moves.specs.Rising.{counted}
 use Rattle.cg_moves.proofs.Carried.{ok_along}
+use Rattle.cg_moves.proofs.Sorting.{all_like, in_their_order}
 use Rattle.cg_graph.specs.Charts.{edges_of}
 use Rattle.cg_graph.specs.Colouring.{colourings_at}
-use Rattle.cg_graph.proofs.Ordered.{all_like, in_their_order}
 use Rattle.cg_graph.proofs.chart_moves.ColouringRules.moves.Goals as goal
 
 pub in_order-requires : goal.in_order-requires

@@ -3,9 +3,9 @@ use Rattle.std.specs.List.{flat_map}
 use Rattle.cg_moves.specs.Grid.{with_cells}
 use Rattle.cg_moves.specs.Rising.{counted}
 use Rattle.cg_moves.proofs.Carried.{ok_along}
+use Rattle.cg_moves.proofs.Sorting.{all_like, in_their_order}
 use Rattle.cg_graph.specs.Drawings.{graph_of}
 use Rattle.cg_graph.specs.Hackenbush.{cuts_at}
-use Rattle.cg_graph.proofs.Ordered.{all_like, in_their_order}
 use Rattle.cg_graph.proofs.drawing_moves.HackenbushRules.moves.Goals as goal
 
 pub in_order-requires : goal.in_order-requires

@@ -2,8 +2,9 @@ use Rattle.std.proofs.Common.{ap, map, ◌∙◌}
 use Rattle.std.specs.List.{flat_map}
 use Rattle.cg_moves.specs.Grid.{with_cells}
 use Rattle.cg_moves.proofs.Carried.{ok_along}
+use Rattle.cg_moves.proofs.Sorting.{all_like, in_their_order}
 use Rattle.cg_strip.specs.Placing.{placements}
-use Rattle.cg_strip.proofs.Changes.{all_like, in_their_order, rules_over}
+use Rattle.cg_strip.proofs.Changes.{rules_over}
 use Rattle.cg_strip.proofs.moves.StripRules.moves.Goals as goal
 
 pub boards_of-requires : goal.boards_of-requires

@@ -1,6 +1,6 @@
 use Rattle.cg_moves.proofs.Carried.{ok_along}
+use Rattle.cg_moves.proofs.Sorting.{all_like, in_their_order}
 use Rattle.cg_strip.specs.Toads.{hops}
-use Rattle.cg_strip.proofs.Changes.{all_like, in_their_order}
 use Rattle.cg_strip.proofs.toads.ToadsRules.moves.Goals as goal
 
 pub in_order-requires : goal.in_order-requires
