@@ -107,6 +107,7 @@ fn form_item<B: BoardForms, S: CellStore<GameFacts<B>>>(
 /// `Range` comes exactly where the game equals a number out of range; else `Depth` exactly where the depth of the canonical
 /// form is above 512; else `Full` exactly where its cost and `extra` together bring the total cost above the share. After a
 /// refusal nothing was spent. (Siegel, Combinatorial Game Theory (2013), II.2 and II.3.)
+#[tactic(auto, using(crate::proofs::CandidateLaws::no_terms))]
 pub fn canonical<B: BoardForms, S: CellStore<GameFacts<B>>>(
     alloc: Global,
     work: &mut Work<B, S>,
@@ -139,6 +140,7 @@ pub fn canonical<B: BoardForms, S: CellStore<GameFacts<B>>>(
 /// Makes the item of the canonical form of the game with these Left and Right options, as [`canonical`] does, where the options
 /// are those of a sum: on each side, first those that come from one term, and then those that come from the other. No two
 /// options that come from the same term may be comparable.
+#[tactic(auto, using(crate::proofs::CandidateLaws::two_terms))]
 pub fn canonical_of_terms<B: BoardForms, S: CellStore<GameFacts<B>>>(
     alloc: Global,
     work: &mut Work<B, S>,
