@@ -26,10 +26,12 @@ pub(crate) struct Recent {
     room: usize,
 }
 
-/// The first size of a table, and the greatest.
+/// The first size of a table.
 const FIRST: usize = 256;
 
-const MOST: usize = 2_097_152;
+/// The greatest size of a table. It is far above the pairs that one comparison asks for, so that hardly one of these is compared
+/// twice.
+const MOST: usize = 4_194_304;
 
 /// Where the pair stands in a table of so many places.
 fn place_of(a: Handle, b: Handle, places: usize) -> usize
