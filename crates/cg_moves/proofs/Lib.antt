@@ -5,6 +5,7 @@ pub mod KeptLemmas
 pub mod Bounds
 pub mod SeenLemmas
 pub mod FindLemmas
+pub mod AheadLemmas
 pub mod WalkLemmas
 pub mod ReachLemmas
 pub mod Places

@@ -381,16 +381,18 @@ module _ (r : Play) where
   -- ---- the whole walk
 
   module _ (lawful : IsPlay r) (limit : ℕ) (none : SeenBoards) (starts : List Grid) (h : AreStarts r starts)
-      (no_boards : none.boards ≡ []) (no_keys : none.found ≡ []) where
+      (no_boards : none.boards ≡ []) (ahead : AreKeysIn none.found (flat_map r.all starts)) where
     starts-seen : (p : Grid) → In p starts → In p (kept [] (flat_map r.all starts))
     starts-seen p m = kept-has [] (flat_map r.all starts) p
         (in_flat_mapped r.all p p starts m (all-own lawful p (h.known p m).1))
 
-    none-found : (key : BoardKey) → In key none.found → ⊥
-    none-found key m = carry key none.found [] no_keys m
+    ahead-seen : AreKeysIn none.found (kept [] (flat_map r.all starts))
+    ahead-seen key m = let (q, o, f) = in-map key_of key (flat_map r.all starts) (ahead key m) in
+        let final = kept [] (flat_map r.all starts) in
+        in_equal key (key_of q) (map key_of final) f (in_mapped key_of q final (kept-has [] (flat_map r.all starts) q o))
 
     pub start_refused : AreTooMany limit none.found starts → limit < length (kept [] (flat_map r.all starts))
-    start_refused many = many (kept [] (flat_map r.all starts)) (λ k m. absurd (none-found k m)) starts-seen
+    start_refused many = many (kept [] (flat_map r.all starts)) ahead-seen starts-seen
 
     walk_begins : (found : List BoardKey) → AddsKeys none.found found starts → length found ≤ limit
         → IsWalk r limit (record { boards = []; found = found }) (entered starts)
@@ -402,13 +404,14 @@ module _ (r : Play) where
       ready = ready-entered [] starts;
       waiting = found-entered found starts starts (λ q m. m) (λ q m. (adds (key_of q)).1 (inr (in_mapped key_of q starts m)));
       within = within;
-      found = λ key m. elim ((adds key).0 m) [
-        | inl there ↦ absurd (none-found key there)
-        | inr one ↦ (let (q, o, f) = in-map key_of key starts one in
-            let final = kept [] (boards_left r (entered starts)) in
-            in_equal key (key_of q) (map key_of final) f (in_mapped key_of q final (carry q (kept [] (flat_map r.all starts)) final
-            (ap (kept []) (sym (boards_left-entered starts))) (starts-seen q o))))
-      ];
+      found =
+          let final = kept [] (flat_map r.all starts) in
+          let F : List Grid → Type 0 = λ z. AreKeysIn found (kept [] z) in
+          subst F (sym (boards_left-entered starts)) (λ key m. elim ((adds key).0 m) [
+            | inl there ↦ ahead-seen key there
+            | inr one ↦ (let (q, o, f) = in-map key_of key starts one in
+                in_equal key (key_of q) (map key_of final) f (in_mapped key_of q final (starts-seen q o)))
+          ]);
     }
 
     pub walk_begun : (new : SeenBoards) (none_left tasks : List Task) → none_left ≡ [] → Finds limit none new none_left tasks starts

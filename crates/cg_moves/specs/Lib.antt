@@ -19,3 +19,4 @@ pub mod GridCode
 pub mod SeenCode
 pub mod Kept
 pub mod Walks
+pub mod Ahead

@@ -1,6 +1,7 @@
 //! Boards of games, and the rules of games on them.
 #![tactic(auto)]
 
+mod ahead;
 mod board;
 mod boards;
 mod course;

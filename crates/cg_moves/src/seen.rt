@@ -76,6 +76,13 @@ impl Seen {
         Ok(false)
     }
 
+    /// How many boards were found.
+    pub(crate) fn count(&self) -> usize
+        ensures { result ≡ length self.now.found }
+    {
+        self.found.len()
+    }
+
     /// The boards with one more behind them, unless it is there. It must have been found.
     pub(crate) fn add(self, board: Board) -> Result<Seen, AllocError>
         requires found { In (key_of board) self.found }

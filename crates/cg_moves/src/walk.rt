@@ -9,6 +9,7 @@ ghost use Rattle.cg_moves.specs.Seen.{AreTooMany};
 ghost use Rattle.cg_moves.specs.Walks.{AreStarts, Finds, GoesOn, IsWalk, boards_left};
 ghost use Rattle.cg_moves.specs.declared.walk.Task.TheVariants.{Leave};
 
+use crate::ahead::look_ahead;
 use crate::course::{Course, next_boards};
 use crate::seen::Seen;
 use crate::{Board, Boards, ReachFault, Rules};
@@ -133,8 +134,9 @@ pub(crate) fn seen_from<R: Rules>(
     ensures refused { result ≡ Err ReachFault.Positions
         → limit < length (kept [] (flat_map (play_of (R.game rules.now) course).all starts.items)) }
 {
+    let ahead = look_ahead(alloc, rules, course, &starts, limit)?;
     let none = Walk {
-        seen: Seen::new(alloc),
+        seen: ahead,
         tasks: Vec::new(alloc),
     };
     let mut left = find_all(none, starts, limit)?;
