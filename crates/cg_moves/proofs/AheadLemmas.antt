@@ -1,5 +1,5 @@
 -- Boards that are found ahead of a walk.
-use Rattle.std.proofs.Common.{◌≡◌, refl, ℕ, zero, suc, ◌≤◌, ◌<◌, true, inl, inr, List, [], ◌∷◌, ◌++◌, length, map, ap, sym, ◌∙◌, subst, arith}
+use Rattle.std.proofs.Common.{◌≡◌, refl, ℕ, ◌≤◌, ◌<◌, inl, inr, List, [], ◌∷◌, ◌++◌, length, map, ap, sym, ◌∙◌, arith}
 use Rattle.std.specs.Prelude.{Err, IfOk, Ok, Result}
 use Rattle.std.specs.List.{flat_map}
 use Rattle.cg_moves.specs.Ahead.{IsAhead, Notices}
@@ -9,8 +9,9 @@ use Rattle.cg_moves.specs.Plays.{IsPlay, Play}
 use Rattle.cg_moves.specs.Rules.{In}
 use Rattle.cg_moves.specs.Seen.{AddsKeys, AreTooMany, SeenBoards, key_of}
 use Rattle.cg_moves.specs.Walks.{AreStarts}
+use Rattle.cg_moves.proofs.ComesAfter.{reached-next}
 use Rattle.cg_moves.proofs.KeptLemmas.{kept-has}
-use Rattle.cg_moves.proofs.Members.{carry, in-append, in-append_left, in-append_right, in-flat_map, in-map, in_equal, in_flat_mapped, in_mapped, in_one}
+use Rattle.cg_moves.proofs.Members.{carry, in-append, in-append_left, in-append_right, in-map, in_equal, in_mapped, in_one}
 
 -- ---- one board after another
 
@@ -73,48 +74,10 @@ module _ (limit : ℕ) (old new : SeenBoards) (before after boards left : List G
       ])
       (λ q m. in_equal q p all (in_one q p m) (has p own))
 
--- ---- boards that come after others
+-- ---- the boards that come next after one
 
 module _ (r : Play) (lawful : IsPlay r) where
-  -- a board that comes after another is such a board, and what comes next after it comes after the other, too
-  record Inside (p q : Grid) : Type 0 where
-    has : r.has q ≡ true
-    next : (x : Grid) → In x (r.next q) → In x (r.all p)
-
-  own-all : (p : Grid) → r.has p ≡ true → In p (r.all p)
-  own-all p has = carry p (flat_map r.all (r.next p) ++ (p ∷ [])) (r.all p) (sym (lawful.all p has))
-      (in-append_right p (flat_map r.all (r.next p)) (p ∷ []) (inl refl))
-
-  later-all : (p s q : Grid) → r.has p ≡ true → In s (r.next p) → In q (r.all s) → In q (r.all p)
-  later-all p s q has m k = carry q (flat_map r.all (r.next p) ++ (p ∷ [])) (r.all p) (sym (lawful.all p has))
-      (in-append_left q (flat_map r.all (r.next p)) (p ∷ []) (in_flat_mapped r.all q s (r.next p) m k))
-
-  inside : (n : ℕ) (p q : Grid) → r.has p ≡ true → r.measure p < n → In q (r.all p) → Inside p q
-  inside zero p q has low m = absurd (omega arith)
-  inside (suc n) p q has low m = elim (in-append q (flat_map r.all (r.next p)) (p ∷ []) (carry q (r.all p)
-      (flat_map r.all (r.next p) ++ (p ∷ [])) (lawful.all p has) m)) [
-        | inl o ↦ (let (s, k, l) = in-flat_map r.all q (r.next p) o in
-            let has_s = lawful.has p s has k in
-            let lower = lawful.lowers p s has k in
-            let i = inside n s q has_s (omega arith) l in
-            record { has = i.has; next = λ x j. later-all p s x has k (i.next x j) })
-        | inr o ↦ (let e = in_one q p o in
-            let P : Grid → Type 0 = λ z. Inside p z in
-            subst P (sym e) (record { has = has; next = λ x j. later-all p x x has j (own-all x (lawful.has p x has j)) }))
-      ]
-
   module _ (starts : List Grid) (h : AreStarts r starts) where
-    pub reached-has : (q : Grid) → In q (flat_map r.all starts) → r.has q ≡ true
-    reached-has q m = let (s, k, l) = in-flat_map r.all q starts m in
-        (inside (suc (r.measure s)) s q (h.known s k).1 (omega arith) l).has
-
-    reached-next : (q x : Grid) → In q (flat_map r.all starts) → In x (r.next q) → In x (flat_map r.all starts)
-    reached-next q x m j = let (s, k, l) = in-flat_map r.all q starts m in
-        in_flat_mapped r.all x s starts k ((inside (suc (r.measure s)) s q (h.known s k).1 (omega arith) l).next x j)
-
-    pub start-reached : (p : Grid) → In p starts → In p (flat_map r.all starts)
-    start-reached p m = in_flat_mapped r.all p p starts m (own-all p (h.known p m).1)
-
     pub ahead-begun : (limit : ℕ) (seen : SeenBoards) (queue : List Grid) → seen.boards ≡ [] → seen.found ≡ [] → queue ≡ []
         → IsAhead r limit starts seen queue
     ahead-begun limit seen queue e f g =
@@ -129,7 +92,7 @@ module _ (r : Play) (lawful : IsPlay r) where
     module _ (limit : ℕ) (old : SeenBoards) (before : List Grid) (a : IsAhead r limit starts old before) (p : Grid)
         (m : In p (flat_map r.all starts)) (boards : List Grid) (e : boards ≡ r.next p) where
       after-it : (q : Grid) → In q boards → In q (flat_map r.all starts)
-      after-it q k = reached-next p q m (carry q boards (r.next p) e k)
+      after-it q k = reached-next r lawful starts h p q m (carry q boards (r.next p) e k)
 
       ahead-more : (new : SeenBoards) (after : List Grid) → Notices limit old new before after boards
           → IsAhead r limit starts new after

@@ -5,8 +5,11 @@ pub mod KeptLemmas
 pub mod Bounds
 pub mod SeenLemmas
 pub mod FindLemmas
+pub mod ComesAfter
 pub mod AheadLemmas
+pub mod TaskLemmas
 pub mod WalkLemmas
+pub mod StartLemmas
 pub mod ReachLemmas
 pub mod Places
 pub mod RisingLemmas

@@ -1,5 +1,6 @@
 use Rattle.cg_moves.specs.Plays.{play_of}
-use Rattle.cg_moves.proofs.AheadLemmas.{ahead_goes_on, ahead_refused, reached-has}
+use Rattle.cg_moves.proofs.AheadLemmas.{ahead_goes_on, ahead_refused}
+use Rattle.cg_moves.proofs.ComesAfter.{reached-has}
 use Rattle.cg_moves.proofs.PlayLemmas.{plays}
 use Rattle.cg_moves.proofs.ahead.look_at.Goals as goal
 

@@ -1,5 +1,5 @@
 use Rattle.cg_moves.specs.Plays.{play_of}
-use Rattle.cg_moves.proofs.AheadLemmas.{start-reached}
+use Rattle.cg_moves.proofs.ComesAfter.{start-reached}
 use Rattle.cg_moves.proofs.Places.{in_read}
 use Rattle.cg_moves.proofs.PlayLemmas.{plays}
 use Rattle.cg_moves.proofs.ahead.look_at_starts.Goals as goal

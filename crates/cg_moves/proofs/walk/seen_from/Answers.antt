@@ -7,7 +7,7 @@ use Rattle.cg_moves.specs.Plays.{play_of}
 use Rattle.cg_moves.specs.Seen.{AreKeysIn}
 use Rattle.cg_moves.proofs.PlayLemmas.{plays}
 use Rattle.cg_moves.proofs.SeenLemmas.{passed_on}
-use Rattle.cg_moves.proofs.WalkLemmas.{start_refused, walk_begun}
+use Rattle.cg_moves.proofs.StartLemmas.{start_refused, walk_begun}
 use Rattle.cg_moves.proofs.walk.seen_from.Goals as goal
 
 pub returns-in_err-left-clause-refused : goal.returns-in_err-left-clause-refused

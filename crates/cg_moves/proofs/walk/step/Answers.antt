@@ -6,7 +6,8 @@ use Rattle.cg_moves.specs.Rules.{In}
 use Rattle.cg_moves.specs.Seen.{key_of}
 use Rattle.cg_moves.specs.Walks.{GoesOn, IsWalk, boards_left, task_board}
 use Rattle.cg_moves.proofs.PlayLemmas.{plays}
-use Rattle.cg_moves.proofs.WalkLemmas.{enter_goes_on, enter_refused, enter_seen, found-last, leave, next_has, next_symbols}
+use Rattle.cg_moves.proofs.TaskLemmas.{found-last}
+use Rattle.cg_moves.proofs.WalkLemmas.{enter_goes_on, enter_refused, enter_seen, leave, next_has, next_symbols}
 use Rattle.cg_moves.proofs.walk.step.Goals as goal
 
 pub has-requires : goal.has-requires
