@@ -16,6 +16,9 @@ use std::alloc::Global;
 /// How many boards, on the average, each board that is looked at must bring.
 const MANY: u64 = 16;
 
+/// How many cells a board has at most that isn't looked at, since it would bring few.
+const SMALL: u8 = 16;
+
 /// Boards that were found ahead of a walk, in the order in which they were found, with what the walk is to know of them.
 #[derive(Drop)]
 struct Ahead {
@@ -58,7 +61,7 @@ fn notice_all(ahead: Ahead, boards: Vec<Board>, limit: u64) -> Result<Ahead, Rea
     Ok(ahead)
 }
 
-/// Notes that the boards were found that come next after the board.
+/// Notes that the boards were found that come next after the board, unless it is small.
 fn look_at<R: Rules>(
     alloc: Global,
     rules: &R,
@@ -76,6 +79,9 @@ fn look_at<R: Rules>(
     ensures refused { result ≡ Err ReachFault.Positions
         → limit < length (kept [] (flat_map (play_of (R.game rules.now) course).all starts.now)) }
 {
+    if board.size() <= SMALL {
+        return Ok(ahead);
+    }
     let next = next_boards(alloc, rules, course, board)?;
     notice_all(ahead, next, limit)
 }
