@@ -31,7 +31,7 @@ const FIRST: usize = 256;
 
 /// The greatest size of a table. It is far above the pairs that one comparison asks for, so that hardly one of these is compared
 /// twice.
-const MOST: usize = 4_194_304;
+const MOST: usize = 16_777_216;
 
 /// Where the pair stands in a table of so many places.
 fn place_of(a: Handle, b: Handle, places: usize) -> usize
