@@ -1,5 +1,5 @@
 -- Numbers in units of a common scale, where their order and sums are those of whole numbers.
-use Rattle.std.proofs.Common.{◌≡◌, refl, ℕ, ◌+◌, ◌-◌, ◌^◌, ◌≤◌, arith, zero, suc, true, false, ap, sym, ◌∙◌, ℤ, pos, ◌+ℤ◌, ◌*ℤ◌, ◌≤ℤ◌, ◌<ℤ◌, inl, inr}
+use Rattle.std.proofs.Common.{◌≡◌, refl, Bool, ℕ, ◌+◌, ◌-◌, ◌^◌, ◌≤◌, arith, zero, suc, true, false, ap, sym, ◌∙◌, ℤ, pos, ◌+ℤ◌, ◌*ℤ◌, ◌≤ℤ◌, ◌<ℤ◌, inl, inr}
 use Rattle.std.proofs.lemmas.Int.{ints}
 use Rattle.std.proofs.Math.Nat.{pow-suc}
 use Rattle.std.specs.Prelude.{if◌then◌else◌}
@@ -7,6 +7,7 @@ use lib.Signed.{le_z}
 use Rattle.cg_dyadic.specs.Number.{Number, NumberLe, between, exp_of, half, is_even, num_of, number_le, ratio}
 use Rattle.cg_dyadic.specs.Units.{doubled, units}
 use Rattle.cg_dyadic.proofs.Integers.{even_half, from_le_z, le_or_lt, odd_half, to_le_z}
+use Rattle.cg_dyadic.proofs.Truth.{differ, false-from}
 
 -- ---- doubling
 
@@ -103,6 +104,20 @@ cross x y =
     let e = doubled-mul (exp_of y) (num_of x) in
     let f = doubled-mul (exp_of x) (num_of y) in
     cc
+
+-- numbers over the same denominator have the order of their numerators
+pub same-scale : (x y : Number) → exp_of x ≡ exp_of y → le_z (num_of x) (num_of y) ≡ number_le x y
+same-scale x y h = by (le_z (num_of x) (num_of y)) refl ∙ sym (cross x y)
+  where
+    d : ℕ
+    d = exp_of y
+
+    both : doubled (exp_of x) (num_of y) ≡ doubled d (num_of y)
+    both = doubled-at (exp_of x) d (num_of y) h
+
+    by : (t : Bool) → le_z (num_of x) (num_of y) ≡ t → le_z (num_of x) (num_of y) ≡ le_z (doubled d (num_of x)) (doubled (exp_of x) (num_of y))
+    by true e = e ∙ sym (rw both (to_le_z _ _ (doubled-le d _ _ (from_le_z (num_of x) (num_of y) e))))
+    by false e = e ∙ sym (rw both (false-from _ (λ k. differ (le_z (num_of x) (num_of y)) (to_le_z _ _ (doubled-back d (num_of x) (num_of y) (from_le_z _ _ k))) e)))
 
 pub le-units : (s : ℕ) (x y : Number) → exp_of x ≤ s → exp_of y ≤ s → NumberLe x y → units s x ≤ℤ units s y
 le-units s x y p q h =

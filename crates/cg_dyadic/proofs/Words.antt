@@ -7,6 +7,7 @@ use lib.Signed.{le_z}
 use mir.Syntax.{w128}
 use mir.Val.{to_z, of_z}
 use Rattle.cg_dyadic.specs.Number.{Number, exp_of, num_of, number_le}
+use Rattle.cg_dyadic.proofs.Scale.{same-scale}
 
 pub power_bound : (e : ℕ) → e ≤ 41 → 2 ^ e ≤ 2 ^ 41
 power_bound e h = pow_mono h
@@ -48,3 +49,8 @@ pub le-through : (x y : Number) (a b : ℤ) (e f : ℕ) → exp_of x ≡ e → e
     → unsigned_abs a < 2 ^ 105 → unsigned_abs b < 2 ^ 105 → le_z (to_z w128 (of_z w128 a)) (to_z w128 (of_z w128 b)) ≡ number_le x y
 unfolding number_le
 le-through x y a b e f p q r s small_a small_b = rw (through_128 a small_a, through_128 b small_b, r, s, p, q) refl
+
+-- numerators alone, over the same denominator
+pub le-alike : (x y : Number) (a b : ℤ) (e f : ℕ) → exp_of x ≡ e → exp_of y ≡ f → e ≡ f → num_of x ≡ a → num_of y ≡ b
+    → unsigned_abs a < 2 ^ 64 → unsigned_abs b < 2 ^ 64 → le_z (to_z w128 (of_z w128 a)) (to_z w128 (of_z w128 b)) ≡ number_le x y
+le-alike x y a b e f p q h r s small_a small_b = rw (held a small_a, held b small_b, ← r, ← s) (same-scale x y (p ∙ h ∙ sym q))

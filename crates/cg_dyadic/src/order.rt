@@ -1,4 +1,4 @@
-//! Comparison by cross multiplication.
+//! Comparison by cross multiplication, or by numerators alone where the denominators are the same.
 ghost use Rattle.std.specs.Prelude.{◌≡◌, ◌↔◌, ◌≤◌, ◌^◌, ◌*ℤ◌, ◌<◌, pos, negsuc, unsigned_abs};
 ghost use Rattle.cg_dyadic.specs.Number.{number_le, number_cmp, num_of, exp_of, InRange, whole};
 
@@ -29,6 +29,9 @@ impl Dyadic {
         ensures value { result ≡ number_le self other }
         ensures in_range { InRange self × InRange other }
     {
+        if self.exp == other.exp {
+            return self.num <= other.num;
+        }
         scaled(self, other.exp) <= scaled(other, self.exp)
     }
 
