@@ -1,5 +1,5 @@
 -- Boards that come after others in a walk.
-use Rattle.std.proofs.Common.{◌≡◌, refl, ℕ, zero, suc, ◌<◌, true, inl, inr, List, [], ◌∷◌, ◌++◌, sym, subst, arith}
+use Rattle.std.proofs.Common.{◌≡◌, refl, ℕ, zero, suc, ◌<◌, true, inl, inr, List, [], ◌∷◌, ◌++◌, sym, ◌∙◌, subst, arith}
 use Rattle.std.specs.List.{flat_map}
 use Rattle.cg_moves.specs.Grid.{Grid}
 use Rattle.cg_moves.specs.Plays.{IsPlay, Play}
@@ -8,9 +8,11 @@ use Rattle.cg_moves.specs.Walks.{AreStarts}
 use Rattle.cg_moves.proofs.Members.{carry, in-append, in-append_left, in-append_right, in-flat_map, in_flat_mapped, in_one}
 
 module _ (r : Play) (lawful : IsPlay r) where
-  -- a board that comes after another is such a board, and what comes next after it comes after the other, too
+  -- a board that comes after another is such a board with the same symbols, and what comes next after it comes after the other,
+  -- too
   record Inside (p q : Grid) : Type 0 where
     has : r.has q ≡ true
+    symbols : q.symbols ≡ p.symbols
     next : (x : Grid) → In x (r.next q) → In x (r.all p)
 
   pub own-all : (p : Grid) → r.has p ≡ true → In p (r.all p)
@@ -33,16 +35,24 @@ module _ (r : Play) (lawful : IsPlay r) where
             let has_s = lawful.has p s has k in
             let lower = lawful.lowers p s has k in
             let i = inside n s q has_s (omega arith) l in
-            record { has = i.has; next = λ x j. later-all p s x has k (i.next x j) })
+            record {
+              has = i.has;
+              symbols = i.symbols ∙ lawful.symbols p s has k;
+              next = λ x j. later-all p s x has k (i.next x j);
+            })
         | inr o ↦ (let e = in_one q p o in
             let P : Grid → Type 0 = λ z. Inside p z in
-            subst P (sym e) (record { has = has; next = λ x j. next-all p x has j }))
+            subst P (sym e) (record { has = has; symbols = refl; next = λ x j. next-all p x has j }))
       ]
 
   module _ (starts : List Grid) (h : AreStarts r starts) where
     pub reached-has : (q : Grid) → In q (flat_map r.all starts) → r.has q ≡ true
     reached-has q m = let (s, k, l) = in-flat_map r.all q starts m in
         (inside (suc (r.measure s)) s q (h.known s k).1 (omega arith) l).has
+
+    pub reached-symbols : (q : Grid) → In q (flat_map r.all starts) → q.symbols ≡ h.symbols
+    reached-symbols q m = let (s, k, l) = in-flat_map r.all q starts m in
+        (inside (suc (r.measure s)) s q (h.known s k).1 (omega arith) l).symbols ∙ (h.known s k).0
 
     pub reached-next : (q x : Grid) → In q (flat_map r.all starts) → In x (r.next q) → In x (flat_map r.all starts)
     reached-next q x m j = let (s, k, l) = in-flat_map r.all q starts m in

@@ -3,13 +3,15 @@ pub mod GridFacts
 pub mod Same
 pub mod KeptLemmas
 pub mod Bounds
+pub mod PlaceLemmas
 pub mod SeenLemmas
+pub mod NumberLemmas
+pub mod KeptOnce
 pub mod FindLemmas
 pub mod ComesAfter
-pub mod AheadLemmas
+pub mod ExploreLemmas
 pub mod TaskLemmas
 pub mod WalkLemmas
-pub mod StartLemmas
 pub mod ReachLemmas
 pub mod Places
 pub mod RisingLemmas

@@ -13,10 +13,11 @@ pub mod Texts
 pub mod PieceReach
 pub mod Plays
 pub mod Connected
+pub mod Opened
 pub mod Cutting
 -- what private contracts cite, and what proofs need here
 pub mod GridCode
-pub mod SeenCode
 pub mod Kept
 pub mod Walks
-pub mod Ahead
+pub mod Found
+pub mod Explored

@@ -4,6 +4,7 @@ use Rattle.std.specs.List.{flat_map}
 use Rattle.cg_moves.specs.declared.course.Course.{Course}
 use Rattle.cg_moves.specs.declared.course.Course.TheVariants.{Moves, Pieces}
 use Rattle.cg_moves.specs.Grid.{Grid}
+use Rattle.cg_moves.specs.Opened.{uncut}
 use Rattle.cg_moves.specs.PieceReach.{all_piece_reached}
 use Rattle.cg_moves.specs.Reach.{all_reached}
 use Rattle.cg_moves.specs.Rules.{GameRules, In, followers}
@@ -49,6 +50,11 @@ play_of r course = record {
   measure = r.measure;
   all = all_of r course;
 }
+
+-- the parts of a board: the board alone, or its pieces
+abbrev pub parts_of : GameRules → Course → Grid → List Grid
+parts_of r Moves = uncut
+parts_of r Pieces = r.pieces
 
 -- the rules cut where pieces are asked for
 abbrev pub MayGo : GameRules → Course → Type 0

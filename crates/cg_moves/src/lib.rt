@@ -1,21 +1,22 @@
 //! Boards of games, and the rules of games on them.
 #![tactic(auto)]
 
-mod ahead;
 mod board;
 mod boards;
 mod course;
+mod exploring;
 mod fault;
+mod found;
 mod grid;
 mod key;
 pub mod laws;
+mod opened;
 mod ordering;
 mod pieces;
 mod planes;
 mod player;
 mod reaching;
 mod rules;
-mod seen;
 mod walk;
 pub mod words;
 mod writing;
@@ -26,10 +27,11 @@ pub use course::pieces_in;
 pub use fault::{BoardFault, ReachFault};
 pub use grid::read_grid;
 pub use key::BoardKey;
+pub use opened::{NextPlaces, Opened};
 pub use ordering::in_order;
 pub use pieces::Pieces;
 pub use planes::Planes;
 pub use player::Player;
-pub use reaching::{reach, reach_pieces};
+pub use reaching::{open, open_pieces, reach, reach_pieces};
 pub use rules::Rules;
 pub use writing::text;

@@ -1,12 +1,82 @@
 //! The boards that play can come to from a board.
-ghost use Rattle.std.specs.Prelude.{◌≡◌, ◌<◌, ◌≤◌, true, IfOk, OnOk, length, Err};
+ghost use Rattle.std.specs.Prelude.{◌≡◌, ◌<◌, ◌≤◌, ◌∷◌, [], true, IfOk, OnOk, length, Err};
+ghost use Rattle.cg_moves.specs.Explored.{Way, parts, reached};
+ghost use Rattle.cg_moves.specs.Opened.{AreNext, StandAt, uncut};
 ghost use Rattle.cg_moves.specs.PieceReach.{piece_reach_of};
+ghost use Rattle.cg_moves.specs.Plays.{MayGo, play_of};
 ghost use Rattle.cg_moves.specs.Reach.{reach_of};
+ghost use Rattle.cg_moves.specs.Walks.{AreStarts};
 
 use crate::course::{Course, alone, pieces_in};
-use crate::walk::seen_from;
-use crate::{Board, Boards, ReachFault, Rules};
+use crate::exploring::explore;
+use crate::walk::in_their_order;
+use crate::{Board, Boards, Opened, ReachFault, Rules};
 use std::alloc::Global;
+
+/// The boards that play can come to from the starts, and what comes next after each of them.
+fn open_all<R: Rules>(
+    alloc: Global,
+    rules: &R,
+    course: Course,
+    starts: Vec<Board>,
+    limit: u64,
+) -> Result<Opened, ReachFault>
+    ghost way: { Way }
+    requires way { way ≡ record { game = R.game rules.now; course = course; starts = starts.items } }
+    requires may { MayGo (R.game rules.now) course }
+    requires starts { AreStarts (play_of (R.game rules.now) course) starts.items }
+    ensures boards { IfOk result (λ opened. opened.boards ≡ reached way) }
+    ensures next { IfOk result (λ opened. AreNext way.game (parts way) [] opened.boards opened.next.items) }
+    ensures starts { IfOk result (λ opened. StandAt opened.boards opened.starts.items way.starts) }
+    ensures within { OnOk result (length (reached way) ≤ limit) }
+    ensures refused { result ≡ Err ReachFault.Positions → limit < length (reached way) }
+{
+    let explored = explore(alloc, rules, course, starts, limit)?;
+    Ok(in_their_order(alloc, &explored)?)
+}
+
+/// The boards that play can come to from the start, which must be a board of the game, as [`reach`] lists them, and for each
+/// board what comes next after it: how many boards Left's moves lead to, that each is its own only part, and the places of
+/// the boards that moves lead to. `Positions` comes exactly where there are more boards than `limit`. `Memory` is the other
+/// error.
+pub fn open<R: Rules>(
+    alloc: Global,
+    rules: &R,
+    start: &Board,
+    limit: u64,
+) -> Result<Opened, ReachFault>
+    requires { (R.game rules.now).has start.now ≡ true }
+    ensures boards { IfOk result (λ opened. opened.boards ≡ reach_of (R.game rules.now) start.now) }
+    ensures next { IfOk result (λ opened. AreNext (R.game rules.now) uncut [] opened.boards opened.next.items) }
+    ensures starts { IfOk result (λ opened. StandAt opened.boards opened.starts.items (start.now ∷ [])) }
+    ensures within { OnOk result (length (reach_of (R.game rules.now) start.now) ≤ limit) }
+    ensures refused { result ≡ Err ReachFault.Positions → limit < length (reach_of (R.game rules.now) start.now) }
+{
+    let starts = alone(alloc, start)?;
+    open_all(alloc, rules, Course::Moves, starts, limit)
+}
+
+/// The boards that play can come to from the pieces of the start, which must be a board of the game, as [`reach_pieces`] lists
+/// them, and for each board what comes next after it: how many boards Left's moves lead to, how many pieces each board has
+/// that a move leads to, and the places of these pieces. The rules must cut. `Positions` comes exactly where there are more
+/// boards than `limit`. `Memory` is the other error.
+pub fn open_pieces<R: Rules>(
+    alloc: Global,
+    rules: &R,
+    start: &Board,
+    limit: u64,
+) -> Result<Opened, ReachFault>
+    requires has { (R.game rules.now).has start.now ≡ true }
+    requires cuts { (R.game rules.now).cuts ≡ true }
+    ensures boards { IfOk result (λ opened. opened.boards ≡ piece_reach_of (R.game rules.now) start.now) }
+    ensures next { IfOk result (λ opened. AreNext (R.game rules.now) (R.game rules.now).pieces [] opened.boards opened.next.items) }
+    ensures starts { IfOk result (λ opened. StandAt opened.boards opened.starts.items ((R.game rules.now).pieces start.now)) }
+    ensures within { OnOk result (length (piece_reach_of (R.game rules.now) start.now) ≤ limit) }
+    ensures refused { result ≡ Err ReachFault.Positions → limit < length (piece_reach_of (R.game rules.now) start.now) }
+{
+    let starts = pieces_in(alloc, rules, start)?;
+    open_all(alloc, rules, Course::Pieces, starts, limit)
+}
 
 /// The boards that play can come to from the start, which must be a board of the game: those of each Left move in order,
 /// those of each Right move in order, then the start itself, each only where it comes first. `Positions` comes exactly
@@ -22,8 +92,7 @@ pub fn reach<R: Rules>(
     ensures within { OnOk result (length (reach_of (R.game rules.now) start.now) ≤ limit) }
     ensures refused { result ≡ Err ReachFault.Positions → limit < length (reach_of (R.game rules.now) start.now) }
 {
-    let starts = alone(alloc, start)?;
-    seen_from(alloc, rules, Course::Moves, starts, limit)
+    Ok(open(alloc, rules, start, limit)?.boards)
 }
 
 /// The boards that play can come to from the pieces of the start, which must be a board of the game; the rules must cut. For
@@ -43,6 +112,5 @@ pub fn reach_pieces<R: Rules>(
     ensures refused { result ≡ Err ReachFault.Positions
         → limit < length (piece_reach_of (R.game rules.now) start.now) }
 {
-    let starts = pieces_in(alloc, rules, start)?;
-    seen_from(alloc, rules, Course::Pieces, starts, limit)
+    Ok(open_pieces(alloc, rules, start, limit)?.boards)
 }

@@ -1,148 +1,164 @@
-//! A walk over boards.
-ghost use Rattle.std.specs.Prelude.{◌≡◌, ◌<◌, ◌≤◌, ◌∷◌, ◌++◌, [], true, IfOk, length, Err};
+//! A walk over the numbers of boards.
+ghost use Rattle.std.specs.Prelude.{◌≡◌, ◌<◌, ◌≤◌, ◌∷◌, ◌++◌, [], IfOk, Some, length, map, reverse};
 ghost use Rattle.std.specs.List.{flat_map};
+ghost use Rattle.cg_moves.specs.Explored.{AreBelow, IsExplored, IsSeen, Way, board_at, number_of, parts, place_of, play, reached, unplaced, visit};
 ghost use Rattle.cg_moves.specs.Grid.{Grid};
-ghost use Rattle.cg_moves.specs.Kept.{kept};
-ghost use Rattle.cg_moves.specs.Plays.{MayGo, play_of};
-ghost use Rattle.cg_moves.specs.Rules.{In};
-ghost use Rattle.cg_moves.specs.Seen.{AreTooMany};
-ghost use Rattle.cg_moves.specs.Walks.{AreStarts, Finds, GoesOn, IsWalk, boards_left};
-ghost use Rattle.cg_moves.specs.declared.walk.Task.TheVariants.{Leave};
+ghost use Rattle.cg_moves.specs.Kept.{one_more};
+ghost use Rattle.cg_moves.specs.Opened.{AreNext, StandAt};
+ghost use Rattle.cg_moves.specs.Rules.{In, followers};
+ghost use Rattle.cg_moves.specs.Walks.{GoesOn, IsWalk};
+ghost use Rattle.cg_moves.specs.declared.walk.Task.TheVariants.{Enter};
 
-use crate::ahead::look_ahead;
-use crate::course::{Course, next_boards};
-use crate::seen::Seen;
-use crate::{Board, Boards, ReachFault, Rules};
-use std::alloc::Global;
+use crate::exploring::Explored;
+use crate::{Board, Boards, NextPlaces, Opened};
+use std::alloc::{AllocError, Global};
 
-/// What is left to do in a walk: to see all boards that come after a board, or to see the board itself, where the others were
-/// seen.
-#[derive(Drop)]
+/// What is left to do in a walk: to see all boards that come after the board with the number, or to see the board itself,
+/// where the others were seen.
+#[derive(Clone, Copy)]
 pub(crate) enum Task {
-    Enter(Board),
-    Leave(Board),
+    Enter(usize),
+    Leave(usize),
 }
 
-/// A walk: the boards that were seen and found, and the tasks that are left, of which the last comes first.
+/// The boards that were seen, with what comes next after each of them, by places among them; and the places that numbers got.
 #[derive(Drop)]
-struct Walk {
-    seen: Seen,
-    tasks: Vec<Task>,
+struct Seen {
+    boards: Vec<Board>,
+    next: Vec<NextPlaces>,
+    places: Vec<Option<usize>>,
 }
 
-/// The walk after the board was found. It is to be entered next, unless it was seen.
-fn find(walk: Walk, board: Board, limit: u64) -> Result<Walk, ReachFault>
-    requires within { length walk.seen.found ≤ limit }
-    requires symbols { (p : Grid) → In p walk.seen.boards → p.symbols ≡ board.symbols }
-    ensures finds { IfOk result (λ w. Finds limit walk.seen w.seen walk.tasks.items w.tasks.items (board ∷ [])) }
-    ensures refused { result ≡ Err ReachFault.Positions → AreTooMany limit walk.seen.found (board ∷ []) }
-{
-    let Walk {
-        mut seen,
-        mut tasks,
-    } = walk;
-    if seen.find(&board, limit)? {
-        return Ok(Walk { seen, tasks });
-    }
-    tasks.push(Task::Enter(board))?;
-    Ok(Walk { seen, tasks })
-}
-
-/// The walk after the boards were found. Those that weren't seen are to be entered, the first board first.
-fn find_all(walk: Walk, boards: Vec<Board>, limit: u64) -> Result<Walk, ReachFault>
-    requires within { length walk.seen.found ≤ limit }
-    requires symbols { (p q : Grid) → In p walk.seen.boards → In q boards.items → p.symbols ≡ q.symbols }
-    ensures finds { IfOk result (λ w. Finds limit walk.seen w.seen walk.tasks.items w.tasks.items boards.items) }
-    ensures refused { result ≡ Err ReachFault.Positions → AreTooMany limit walk.seen.found boards.items }
-{
-    let mut walk = walk;
-    let mut left = boards;
-    while let Some(board) = left.pop() {
-        walk = find(walk, board, limit)?;
-    }
-    Ok(walk)
-}
-
-/// The walk after the board is entered: the boards that come next after it were found, and then it is to be left.
-fn expand<R: Rules>(
+/// The places of these numbers, which all have one.
+fn places_of(
     alloc: Global,
-    rules: &R,
-    course: Course,
-    walk: Walk,
-    board: Board,
-    limit: u64,
-) -> Result<Walk, ReachFault>
-    requires has { (R.game rules.now).has board ≡ true }
-    requires may { MayGo (R.game rules.now) course }
-    requires within { length walk.seen.found ≤ limit }
-    requires symbols { (p : Grid) → In p walk.seen.boards → p.symbols ≡ board.symbols }
-    ensures finds { IfOk result (λ w. Finds limit walk.seen w.seen (walk.tasks.items ++ (Leave board ∷ [])) w.tasks.items
-        ((play_of (R.game rules.now) course).next board)) }
-    ensures refused { result ≡ Err ReachFault.Positions
-        → AreTooMany limit walk.seen.found ((play_of (R.game rules.now) course).next board) }
+    places: &[Option<usize>],
+    numbers: &[usize],
+) -> Result<Vec<usize>, AllocError>
+    requires below { AreBelow (length places.now) numbers.now }
+    requires placed { unplaced places.now numbers.now ≡ [] }
+    ensures { IfOk result (λ all. map (place_of places.now) numbers.now ≡ map Some all.items) }
 {
-    let next = next_boards(alloc, rules, course, &board)?;
-    let Walk { seen, mut tasks } = walk;
-    tasks.push(Task::Leave(board))?;
-    find_all(Walk { seen, tasks }, next, limit)
+    let mut all = Vec::with_capacity(alloc, numbers.len())?;
+    for number in numbers {
+        match places[*number] {
+            Some(place) => all.push(place)?,
+            None => unreachable!(),
+        }
+    }
+    Ok(all)
 }
 
-/// The walk after the task. A board that was seen has all that come after it there.
-fn step<R: Rules>(
+/// Puts the board with the number behind those that were seen, unless it is there.
+fn see(
     alloc: Global,
-    rules: &R,
-    course: Course,
-    walk: Walk,
+    explored: &Explored,
+    seen: &mut Seen,
+    number: usize,
+) -> Result<(), AllocError>
+    ghost way: { Way }
+    requires explored { IsExplored way explored.now.boards.items explored.now.next.items explored.now.starts.items }
+    requires seen { IsSeen way explored.now.boards.items seen.old.boards.items seen.old.next.items seen.old.places.items }
+    requires number { number < length explored.now.boards.items }
+    requires ready { (p : Grid) → In p ((play way).next (board_at explored.now.boards.items number)) → In p seen.old.boards.items }
+    ensures boards { IfOk result (λ _. seen.new.boards.items
+        ≡ one_more seen.old.boards.items (board_at explored.now.boards.items number)) }
+    ensures seen { IfOk result (λ _. IsSeen way explored.now.boards.items seen.new.boards.items seen.new.next.items
+        seen.new.places.items) }
+{
+    if seen.places[number].is_some() {
+        return Ok(());
+    }
+    let next = &explored.next[number];
+    let places = places_of(alloc, &seen.places, &next.places)?;
+    seen.next.push(NextPlaces {
+        lefts: next.lefts,
+        counts: next.counts.clone()?,
+        places,
+    })?;
+    seen.places[number] = Some(seen.boards.len());
+    seen.boards.push(explored.boards[number].copy(alloc)?)?;
+    Ok(())
+}
+
+/// Puts tasks to enter the boards with these numbers behind the tasks, the first board last, but for those that were seen.
+fn enter_all(
+    places: &[Option<usize>],
+    tasks: &mut Vec<Task>,
+    numbers: &[usize],
+) -> Result<(), AllocError>
+    requires { AreBelow (length places.now) numbers.now }
+    ensures { IfOk result (λ _. tasks.new.items ≡ tasks.old.items ++ map Enter (unplaced places.now (reverse numbers.now))) }
+{
+    for number in numbers.iter().rev() {
+        if places[*number].is_none() {
+            tasks.push(Task::Enter(*number))?;
+        }
+    }
+    Ok(())
+}
+
+/// Does the task.
+fn step(
+    alloc: Global,
+    explored: &Explored,
+    seen: &mut Seen,
+    tasks: &mut Vec<Task>,
     task: Task,
-    limit: u64,
-) -> Result<Walk, ReachFault>
-    requires may { MayGo (R.game rules.now) course }
-    requires walk { IsWalk (play_of (R.game rules.now) course) limit walk.seen (walk.tasks.items ++ (task ∷ [])) }
-    ensures goes_on { IfOk result (λ w. GoesOn (play_of (R.game rules.now) course) limit walk.seen w.seen
-        (walk.tasks.items ++ (task ∷ [])) w.tasks.items) }
-    ensures refused { result ≡ Err ReachFault.Positions → limit < length (kept walk.seen.boards (boards_left
-        (play_of (R.game rules.now) course) (walk.tasks.items ++ (task ∷ [])))) }
+) -> Result<(), AllocError>
+    ghost way: { Way }
+    requires explored { IsExplored way explored.now.boards.items explored.now.next.items explored.now.starts.items }
+    requires seen { IsSeen way explored.now.boards.items seen.old.boards.items seen.old.next.items seen.old.places.items }
+    requires walk { IsWalk (play way) seen.old.boards.items
+        (map (visit explored.now.boards.items) (tasks.old.items ++ (task ∷ []))) }
+    requires below { AreBelow (length explored.now.boards.items) (map number_of (tasks.old.items ++ (task ∷ []))) }
+    ensures seen { IfOk result (λ _. IsSeen way explored.now.boards.items seen.new.boards.items seen.new.next.items
+        seen.new.places.items) }
+    ensures walk { IfOk result (λ _. GoesOn (play way) seen.old.boards.items seen.new.boards.items
+        (map (visit explored.now.boards.items) (tasks.old.items ++ (task ∷ [])))
+        (map (visit explored.now.boards.items) tasks.new.items)) }
+    ensures below { IfOk result (λ _. AreBelow (length explored.now.boards.items) (map number_of tasks.new.items)) }
 {
     match task {
-        Task::Enter(board) => {
-            if walk.seen.has(&board) {
-                return Ok(walk);
+        Task::Enter(number) => {
+            if seen.places[number].is_some() {
+                return Ok(());
             }
-            expand(alloc, rules, course, walk, board, limit)
+            tasks.push(Task::Leave(number))?;
+            enter_all(&seen.places, tasks, &explored.next[number].places)
         }
-        Task::Leave(board) => {
-            let Walk { seen, tasks } = walk;
-            let seen = seen.add(board)?;
-            Ok(Walk { seen, tasks })
-        }
+        Task::Leave(number) => see(alloc, explored, seen, number),
     }
 }
 
-/// The boards that come after the starts, and the starts themselves. `Positions` comes as soon as more than the limit were found.
-pub(crate) fn seen_from<R: Rules>(
-    alloc: Global,
-    rules: &R,
-    course: Course,
-    starts: Vec<Board>,
-    limit: u64,
-) -> Result<Boards, ReachFault>
-    requires may { MayGo (R.game rules.now) course }
-    requires starts { AreStarts (play_of (R.game rules.now) course) starts.items }
-    ensures boards { IfOk result (λ boards. boards
-        ≡ kept [] (flat_map (play_of (R.game rules.now) course).all starts.items)) }
-    ensures within { IfOk result (λ boards. length boards ≤ limit) }
-    ensures refused { result ≡ Err ReachFault.Positions
-        → limit < length (kept [] (flat_map (play_of (R.game rules.now) course).all starts.items)) }
+/// The boards that were explored in their order, with what comes next after each by places.
+pub(crate) fn in_their_order(alloc: Global, explored: &Explored) -> Result<Opened, AllocError>
+    ghost way: { Way }
+    requires { IsExplored way explored.now.boards.items explored.now.next.items explored.now.starts.items }
+    ensures boards { IfOk result (λ opened. opened.boards ≡ reached way) }
+    ensures among { IfOk result (λ opened. (p : Grid) → In p opened.boards → In p explored.now.boards.items) }
+    ensures next { IfOk result (λ opened. AreNext way.game (parts way) [] opened.boards opened.next.items) }
+    ensures starts { IfOk result (λ opened. StandAt opened.boards opened.starts.items way.starts) }
 {
-    let ahead = look_ahead(alloc, rules, course, &starts, limit)?;
-    let none = Walk {
-        seen: ahead,
-        tasks: Vec::new(alloc),
+    let mut seen = Seen {
+        boards: Vec::new(alloc),
+        next: Vec::new(alloc),
+        places: Vec::from_elem(alloc, None, explored.boards.len())?,
     };
-    let mut left = find_all(none, starts, limit)?;
-    while let Some(task) = left.tasks.pop() {
-        left = step(alloc, rules, course, left, task, limit)?;
+    let mut tasks = Vec::new(alloc);
+    enter_all(&seen.places, &mut tasks, &explored.starts)?;
+    while let Some(task) = tasks.pop() {
+        step(alloc, explored, &mut seen, &mut tasks, task)?;
     }
-    let Walk { seen, tasks: _ } = left;
-    Ok(seen.into_boards())
+    let starts = places_of(alloc, &seen.places, &explored.starts)?;
+    let Seen {
+        boards,
+        next,
+        places: _,
+    } = seen;
+    Ok(Opened {
+        boards: Boards::of(boards),
+        next,
+        starts,
+    })
 }

@@ -1,0 +1,95 @@
+-- Boards by their places in lists.
+use Rattle.std.proofs.Common.{◌≡◌, refl, ℕ, zero, suc, ◌<◌, ◌⊎◌, inl, inr, List, [], ◌∷◌, ◌++◌, length, map, get_or, ap, sym, ◌∙◌, subst, arith}
+use Rattle.cg_moves.specs.Explored.{AreBelow, board_at}
+use Rattle.cg_moves.specs.Grid.{Grid}
+use Rattle.cg_moves.specs.Kept.{kept, one_more}
+use Rattle.cg_moves.specs.Opened.{IsAt, StandAt}
+use Rattle.cg_moves.specs.Rules.{In}
+use Rattle.cg_moves.proofs.KeptLemmas.{in_or_not, one_more-new, one_more-there}
+
+-- ---- one board
+
+pub at-append : (ps qs : List Grid) (n : ℕ) (p : Grid) → IsAt ps n p → IsAt (ps ++ qs) n p
+at-append [] qs n p m = absurd m
+at-append (x ∷ ps) qs zero p m = m
+at-append (x ∷ ps) qs (suc n) p m = at-append ps qs n p m
+
+pub at-last : (ps : List Grid) (p : Grid) → IsAt (ps ++ (p ∷ [])) (length ps) p
+at-last [] p = refl
+at-last (x ∷ ps) p = at-last ps p
+
+pub at-back : (ps : List Grid) (q : Grid) (n : ℕ) (p : Grid) → IsAt (ps ++ (q ∷ [])) n p → IsAt ps n p ⊎ ((n ≡ length ps) × (q ≡ p))
+at-back [] q zero p m = inr (refl, m)
+at-back [] q (suc n) p m = absurd m
+at-back (x ∷ ps) q zero p m = inl m
+at-back (x ∷ ps) q (suc n) p m = elim (at-back ps q n p m) [ inl k ↦ inl k | inr k ↦ inr (ap suc k.0, k.1) ]
+
+pub at-in : (ps : List Grid) (n : ℕ) (p : Grid) → IsAt ps n p → In p ps
+at-in [] n p m = absurd m
+at-in (x ∷ ps) zero p m = inl (sym m)
+at-in (x ∷ ps) (suc n) p m = inr (at-in ps n p m)
+
+pub in-at : (ps : List Grid) (p : Grid) → In p ps → (n : ℕ) × IsAt ps n p
+in-at [] p m = absurd m
+in-at (x ∷ ps) p (inl e) = (0, sym e)
+in-at (x ∷ ps) p (inr m) = let (n, k) = in-at ps p m in (suc n, k)
+
+pub at-below : (ps : List Grid) (n : ℕ) (p : Grid) → IsAt ps n p → n < length ps
+at-below [] n p m = absurd m
+at-below (x ∷ ps) zero p m = omega arith
+at-below (x ∷ ps) (suc n) p m = let h = at-below ps n p m in omega arith
+
+pub at-board : (ps : List Grid) (n : ℕ) → n < length ps → IsAt ps n (board_at ps n)
+at-board [] n l = absurd (omega arith)
+at-board (x ∷ ps) zero l = refl
+at-board (x ∷ ps) (suc n) l = at-board ps n (omega arith)
+
+pub board-at : (ps : List Grid) (n : ℕ) (p : Grid) → IsAt ps n p → board_at ps n ≡ p
+board-at [] n p m = absurd m
+board-at (x ∷ ps) zero p m = m
+board-at (x ∷ ps) (suc n) p m = board-at ps n p m
+
+pub board-read : (ps : List Grid) (n : ℕ) (p : Grid) → n < length ps → p ≡ get_or ps n p → IsAt ps n p
+board-read [] n p l e = absurd (omega arith)
+board-read (x ∷ ps) zero p l e = sym e
+board-read (x ∷ ps) (suc n) p l e = board-read ps n p (omega arith) e
+
+pub at-one_more : (ps : List Grid) (q : Grid) (n : ℕ) (p : Grid) → IsAt ps n p → IsAt (one_more ps q) n p
+at-one_more ps q n p m = let P : List Grid → Type 0 = λ z. IsAt z n p in elim (in_or_not ps q) [
+  | inl there ↦ subst P (sym (one_more-there ps q there)) m
+  | inr out ↦ subst P (sym (one_more-new ps q out)) (at-append ps (q ∷ []) n p m)
+]
+
+pub at-kept : (ps qs : List Grid) (n : ℕ) (p : Grid) → IsAt ps n p → IsAt (kept ps qs) n p
+at-kept ps [] n p m = m
+at-kept ps (q ∷ qs) n p m = at-kept (one_more ps q) qs n p (at-one_more ps q n p m)
+
+-- ---- many
+
+-- the places in a list that has each board where the other has it
+pub stand-wider : (ps wider : List Grid) → ((n : ℕ) (p : Grid) → IsAt ps n p → IsAt wider n p) → (ns : List ℕ) (qs : List Grid)
+    → StandAt ps ns qs → StandAt wider ns qs
+stand-wider ps wider w [] [] h = tt
+stand-wider ps wider w [] (q ∷ qs) h = absurd h
+stand-wider ps wider w (n ∷ ns) [] h = absurd h
+stand-wider ps wider w (n ∷ ns) (q ∷ qs) h = (w n q h.0, stand-wider ps wider w ns qs h.1)
+
+pub stand-append : (ps : List Grid) (ns : List ℕ) (qs : List Grid) (ms : List ℕ) (rs : List Grid) → StandAt ps ns qs
+    → StandAt ps ms rs → StandAt ps (ns ++ ms) (qs ++ rs)
+stand-append ps [] [] ms rs h k = k
+stand-append ps [] (q ∷ qs) ms rs h k = absurd h
+stand-append ps (n ∷ ns) [] ms rs h k = absurd h
+stand-append ps (n ∷ ns) (q ∷ qs) ms rs h k = (h.0, stand-append ps ns qs ms rs h.1 k)
+
+pub stand-boards : (ps : List Grid) (ns : List ℕ) (qs : List Grid) → StandAt ps ns qs → map (board_at ps) ns ≡ qs
+stand-boards ps [] [] h = refl
+stand-boards ps [] (q ∷ qs) h = absurd h
+stand-boards ps (n ∷ ns) [] h = absurd h
+stand-boards ps (n ∷ ns) (q ∷ qs) h =
+    ap (λ z. z ∷ map (board_at ps) ns) (board-at ps n q h.0) ∙ ap (λ z. q ∷ z) (stand-boards ps ns qs h.1)
+
+pub stand-below : (ps : List Grid) (ns : List ℕ) (qs : List Grid) → StandAt ps ns qs → AreBelow (length ps) ns
+stand-below ps [] qs h n m = absurd m
+stand-below ps (k ∷ ns) [] h n m = absurd h
+stand-below ps (k ∷ ns) (q ∷ qs) h n (inl e) = let l = at-below ps k q h.0 in omega (arith, l, e)
+stand-below ps (k ∷ ns) (q ∷ qs) h n (inr m) = stand-below ps ns qs h.1 n m

@@ -1,0 +1,189 @@
+//! Finding boards from board to board, in the order in which they are found.
+ghost use Rattle.std.specs.Prelude.{◌≡◌, ◌<◌, ◌≤◌, ◌∷◌, ◌++◌, [], true, IfOk, length, Err};
+ghost use Rattle.std.specs.List.{flat_map};
+ghost use Rattle.cg_moves.specs.Explored.{IsExplored, Numbers, NumbersParts, board_at, reached};
+ghost use Rattle.cg_moves.specs.Found.{AreAlike};
+ghost use Rattle.cg_moves.specs.Grid.{Grid};
+ghost use Rattle.cg_moves.specs.Kept.{kept};
+ghost use Rattle.cg_moves.specs.Opened.{IsNext};
+ghost use Rattle.cg_moves.specs.Plays.{MayGo, parts_of, play_of};
+ghost use Rattle.cg_moves.specs.Rules.{In, boards_after, followers};
+ghost use Rattle.cg_moves.specs.declared.player.Player.TheVariants.{Left};
+ghost use Rattle.cg_moves.specs.Walks.{AreStarts};
+
+use crate::course::{Course, pieces_in};
+use crate::found::Found;
+use crate::{Board, NextPlaces, Player, ReachFault, Rules};
+use std::alloc::{AllocError, Global};
+
+/// The boards that were found, with what comes next after each of them, by numbers.
+#[derive(Drop)]
+pub(crate) struct Explored {
+    /// The boards.
+    pub(crate) boards: Vec<Board>,
+    /// What comes next after each.
+    pub(crate) next: Vec<NextPlaces>,
+    /// The numbers of the boards that were found first.
+    pub(crate) starts: Vec<usize>,
+}
+
+/// Puts the numbers of the boards behind the places.
+fn number_all(
+    found: &mut Found,
+    places: &mut Vec<usize>,
+    boards: Vec<Board>,
+    limit: u64,
+) -> Result<(), ReachFault>
+    requires alike { AreAlike (found.old ++ boards.items) }
+    requires within { length found.old ≤ limit }
+    ensures numbers { IfOk result (λ _. Numbers limit found.old found.new places.old.items places.new.items boards.items) }
+    ensures refused { result ≡ Err ReachFault.Positions → limit < length (kept found.old boards.items) }
+{
+    for board in boards {
+        let number = found.number(board, limit)?;
+        places.push(number)?;
+    }
+    Ok(())
+}
+
+/// Puts the board that a move leads to behind what comes next: how many parts it has, and their numbers.
+fn number_parts<R: Rules>(
+    alloc: Global,
+    rules: &R,
+    course: Course,
+    found: &mut Found,
+    next: &mut NextPlaces,
+    board: Board,
+    limit: u64,
+) -> Result<(), ReachFault>
+    requires has { (R.game rules.now).has board ≡ true }
+    requires may { MayGo (R.game rules.now) course }
+    requires alike { AreAlike (found.old ++ parts_of (R.game rules.now) course board) }
+    requires within { length found.old ≤ limit }
+    ensures numbers { IfOk result (λ _. NumbersParts limit (parts_of (R.game rules.now) course) found.old found.new next.old next.new
+        (board ∷ [])) }
+    ensures refused { result ≡ Err ReachFault.Positions
+        → limit < length (kept found.old (parts_of (R.game rules.now) course board)) }
+{
+    match course {
+        Course::Moves => {
+            next.counts.push(1)?;
+            let number = found.number(board, limit)?;
+            next.places.push(number)?;
+            Ok(())
+        }
+        Course::Pieces => {
+            let pieces = pieces_in(alloc, rules, &board)?;
+            next.counts.push(pieces.len())?;
+            number_all(found, &mut next.places, pieces, limit)
+        }
+    }
+}
+
+/// Puts the boards that moves lead to behind what comes next.
+fn number_moves<R: Rules>(
+    alloc: Global,
+    rules: &R,
+    course: Course,
+    found: &mut Found,
+    next: &mut NextPlaces,
+    boards: Vec<Board>,
+    limit: u64,
+) -> Result<(), ReachFault>
+    requires has { (p : Grid) → In p boards.items → (R.game rules.now).has p ≡ true }
+    requires may { MayGo (R.game rules.now) course }
+    requires alike { AreAlike (found.old ++ flat_map (parts_of (R.game rules.now) course) boards.items) }
+    requires within { length found.old ≤ limit }
+    ensures numbers { IfOk result (λ _. NumbersParts limit (parts_of (R.game rules.now) course) found.old found.new next.old next.new
+        boards.items) }
+    ensures refused { result ≡ Err ReachFault.Positions
+        → limit < length (kept found.old (flat_map (parts_of (R.game rules.now) course) boards.items)) }
+{
+    for board in boards {
+        number_parts(alloc, rules, course, found, next, board, limit)?;
+    }
+    Ok(())
+}
+
+/// How many boards Left's moves lead to; and the boards that moves lead to, Left's first.
+fn followers<R: Rules>(
+    alloc: Global,
+    rules: &R,
+    board: &Board,
+) -> Result<(usize, Vec<Board>), AllocError>
+    requires { (R.game rules.now).has board.now ≡ true }
+    ensures lefts { IfOk result (λ all. all.0 ≡ length (boards_after (R.game rules.now) Left board.now)) }
+    ensures boards { IfOk result (λ all. all.1.items ≡ followers (R.game rules.now) board.now) }
+{
+    let mut boards = rules.moves(alloc, board, Player::Left)?.into_vec();
+    let lefts = boards.len();
+    let mut rights = rules.moves(alloc, board, Player::Right)?.into_vec();
+    boards.append(&mut rights)?;
+    Ok((lefts, boards))
+}
+
+/// What comes next after the board with the number.
+fn next_after<R: Rules>(
+    alloc: Global,
+    rules: &R,
+    course: Course,
+    found: &mut Found,
+    number: usize,
+    limit: u64,
+) -> Result<NextPlaces, ReachFault>
+    requires number { number < length found.old }
+    requires has { (R.game rules.now).has (board_at found.old number) ≡ true }
+    requires may { MayGo (R.game rules.now) course }
+    requires alike { AreAlike (found.old ++ flat_map (parts_of (R.game rules.now) course)
+        (followers (R.game rules.now) (board_at found.old number))) }
+    requires within { length found.old ≤ limit }
+    ensures found { IfOk result (λ _. found.new ≡ kept found.old (flat_map (parts_of (R.game rules.now) course)
+        (followers (R.game rules.now) (board_at found.old number)))) }
+    ensures within { IfOk result (λ _. length found.new ≤ limit) }
+    ensures next { IfOk result (λ next. IsNext (R.game rules.now) (parts_of (R.game rules.now) course) found.new
+        (board_at found.old number) next) }
+    ensures refused { result ≡ Err ReachFault.Positions → limit < length (kept found.old (flat_map
+        (parts_of (R.game rules.now) course) (followers (R.game rules.now) (board_at found.old number)))) }
+{
+    let (lefts, boards) = followers(alloc, rules, found.board(number))?;
+    let mut next = NextPlaces {
+        lefts,
+        counts: Vec::with_capacity(alloc, boards.len())?,
+        places: Vec::with_capacity(alloc, boards.len())?,
+    };
+    number_moves(alloc, rules, course, found, &mut next, boards, limit)?;
+    Ok(next)
+}
+
+/// Finds the boards that come after the starts, and the starts themselves. `Positions` comes as soon as more than the limit
+/// were found.
+pub(crate) fn explore<R: Rules>(
+    alloc: Global,
+    rules: &R,
+    course: Course,
+    starts: Vec<Board>,
+    limit: u64,
+) -> Result<Explored, ReachFault>
+    requires may { MayGo (R.game rules.now) course }
+    requires starts { AreStarts (play_of (R.game rules.now) course) starts.items }
+    ensures explored { IfOk result (λ explored. IsExplored
+        (record { game = R.game rules.now; course = course; starts = starts.items })
+        explored.boards.items explored.next.items explored.starts.items) }
+    ensures within { IfOk result (λ explored. length explored.boards.items ≤ limit) }
+    ensures refused { result ≡ Err ReachFault.Positions
+        → limit < length (reached (record { game = R.game rules.now; course = course; starts = starts.items })) }
+{
+    let mut found = Found::new(alloc);
+    let mut places = Vec::new(alloc);
+    number_all(&mut found, &mut places, starts, limit)?;
+    let mut next = Vec::new(alloc);
+    'boards: while next.len() < found.len() {
+        let more = next_after(alloc, rules, course, &mut found, next.len(), limit)?;
+        next.push(more)?;
+    }
+    Ok(Explored {
+        boards: found.into_boards(),
+        next,
+        starts: places,
+    })
+}

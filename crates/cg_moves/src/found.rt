@@ -1,0 +1,94 @@
+//! Boards that were found, each with a number.
+ghost use Rattle.std.specs.Prelude.{◌≡◌, ◌<◌, ◌≤◌, ◌∷◌, ◌++◌, [], IfOk, length, Err};
+ghost use Rattle.cg_moves.specs.Found.{AreAlike};
+ghost use Rattle.cg_moves.specs.Kept.{one_more};
+ghost use Rattle.cg_moves.specs.Opened.{IsAt};
+
+use crate::{Board, BoardKey, ReachFault};
+use std::alloc::Global;
+use std::collections::HashMap;
+use std::marker::Model;
+
+/// Boards in the order in which they were found, each once. A board's number is its place in this order, counted from 0, and
+/// the map has it by the board's key. Contracts see the list of boards.
+#[derive(Drop)]
+pub(crate) struct Found {
+    boards: Vec<Board>,
+    numbers: HashMap<BoardKey, usize>,
+}
+
+impl Model for Found {
+    ghost use Rattle.std.specs.Prelude.{List};
+    ghost use Rattle.std.specs.Coded.{coded_list};
+    ghost use Rattle.cg_moves.specs.Found.{AreNumbers};
+    ghost use Rattle.cg_moves.specs.Grid.{Grid};
+    ghost use Rattle.cg_moves.specs.GridCode.{grid_code};
+    ghost use Rattle.cg_moves.specs.Seen.{AreGrids};
+
+    ghost Value = { List Grid };
+
+    ghost coded = { coded_list grid_code };
+
+    ghost view = { λ s. s.boards.items };
+
+    ghost invariant = { λ s. AreNumbers s.numbers s.boards.items × AreGrids s.boards.items };
+}
+
+impl Found {
+    /// No boards.
+    pub(crate) fn new(alloc: Global) -> Found
+        ensures { result ≡ [] }
+    {
+        Found {
+            boards: Vec::new(alloc),
+            numbers: HashMap::new(alloc),
+        }
+    }
+
+    /// How many there are.
+    pub(crate) fn len(&self) -> usize
+        ensures { result ≡ length self.now }
+    {
+        self.boards.len()
+    }
+
+    /// The board with the number.
+    pub(crate) fn board(&self, number: usize) -> &Board
+        requires { number < length self.now }
+        ensures { IsAt self.now number result.now }
+    {
+        &self.boards[number]
+    }
+
+    /// The number of the board, which is put behind the others where it is new. All have the same symbols. `Positions` comes
+    /// where that would make more boards than the limit.
+    pub(crate) fn number(&mut self, board: Board, limit: u64) -> Result<usize, ReachFault>
+        requires alike { AreAlike (self.old ++ (board ∷ [])) }
+        requires within { length self.old ≤ limit }
+        ensures boards { IfOk result (λ _. self.new ≡ one_more self.old board) }
+        ensures number { IfOk result (λ number. IsAt self.new number board) }
+        ensures within { IfOk result (λ _. length self.new ≤ limit) }
+        ensures refused { result ≡ Err ReachFault.Positions → limit < length (one_more self.old board) }
+    {
+        let key = board.key();
+        if let Some(number) = self.numbers.get(&key).copied() {
+            return Ok(number);
+        }
+        let number = self.boards.len();
+        if number as u64 >= limit {
+            return Err(ReachFault::Positions);
+        }
+        self.boards.reserve(1)?;
+        self.numbers.insert(key, number)?;
+        self.boards.push(board)?;
+        Ok(number)
+    }
+
+    /// The boards, by their numbers.
+    pub(crate) fn into_boards(self) -> Vec<Board>
+        ensures { result.items ≡ self }
+    {
+        let Found { boards, numbers: _ } = self;
+        boards
+    }
+}
