@@ -10,10 +10,14 @@ pub mod KeptOnce
 pub mod FindLemmas
 pub mod ComesAfter
 pub mod ExploreLemmas
+pub mod SeeLemmas
 pub mod TaskLemmas
+pub mod StepLemmas
+pub mod StartLemmas
 pub mod WalkLemmas
 pub mod ReachLemmas
 pub mod Places
+pub mod ReadLemmas
 pub mod RisingLemmas
 pub mod Counted
 pub mod MoveLemmas

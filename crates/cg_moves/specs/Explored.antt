@@ -1,5 +1,5 @@
 -- Boards by their numbers: their places, counted from 0, in the order in which they were found.
-use Rattle.std.specs.Prelude.{◌≡◌, ◌↔◌, ℕ, zero, suc, ◌<◌, ◌≤◌, true, Option, Some, None, not, List, [], ◌∷◌, ◌++◌, map, filter, length}
+use Rattle.std.specs.Prelude.{◌≡◌, ◌↔◌, ℕ, zero, suc, ◌<◌, ◌≤◌, true, Option, Some, None, not, List, [], ◌∷◌, ◌++◌, map, filter, length, slice_index_or}
 use Rattle.std.specs.List.{flat_map}
 use Rattle.std.specs.Option.{is_some}
 use Rattle.cg_moves.specs.declared.course.Course.{Course}
@@ -82,9 +82,7 @@ AreBelow limit ns = (n : ℕ) → In n ns → n < limit
 
 -- the place that a number got, if it got one
 abbrev pub place_of : List (Option ℕ) → ℕ → Option ℕ
-place_of [] n = None
-place_of (place ∷ places) zero = place
-place_of (place ∷ places) (suc n) = place_of places n
+place_of places n = slice_index_or places n None
 
 -- the numbers that got no place
 abbrev pub unplaced : List (Option ℕ) → List ℕ → List ℕ
