@@ -1,14 +1,12 @@
 -- Boards that weren't seen in a walk.
-use Rattle.std.proofs.Common.{◌≡◌, refl, ℕ, ◌≤◌, not, cond, ◌⊎◌, inl, inr, List, [], ◌∷◌, ◌++◌, length, length-append, append_assoc, map, ap, sym, ◌∙◌, subst, arith}
+use Rattle.std.proofs.Common.{◌≡◌, refl, ◌≤◌, not, cond, inl, inr, List, [], ◌∷◌, length, length-append, ap, sym, ◌∙◌, subst, arith}
 use Rattle.std.specs.List.{flat_map}
-use Rattle.std.proofs.lemmas.List.{append-nil}
-use Rattle.std.proofs.lemmas.List.Elements.{filter-append}
 use Rattle.cg_moves.specs.Grid.{Grid}
-use Rattle.cg_moves.specs.Kept.{is_in, kept}
+use Rattle.cg_moves.specs.Kept.{kept}
 use Rattle.cg_moves.specs.Rules.{In}
 use Rattle.cg_moves.specs.Walks.{unseen}
 use Rattle.cg_moves.proofs.KeptLemmas.{in_or_not, is_in-false, is_in-true, kept-append, kept-keeps, kept-there}
-use Rattle.cg_moves.proofs.Members.{carry, in-append, in-append_left, in-append_right, in-map, in_equal, in_mapped, in_one}
+use Rattle.cg_moves.proofs.Members.{in-append, in_equal, in_one}
 
 -- ---- boards that weren't seen
 

@@ -1,5 +1,5 @@
 -- Boards that are seen, with their places by number.
-use Rattle.std.proofs.Common.{◌≡◌, refl, ℕ, zero, suc, ◌<◌, ◌+◌, true, false, ◌⊎◌, inl, inr, Option, Some, List, [], ◌∷◌, ◌++◌, length, map, get_or, slice_set, append_assoc, ap, sym, ◌∙◌, subst, arith}
+use Rattle.std.proofs.Common.{◌≡◌, refl, ℕ, zero, suc, ◌<◌, true, false, inl, inr, Option, Some, List, [], ◌∷◌, ◌++◌, length, map, get_or, slice_set, append_assoc, ap, sym, ◌∙◌, subst, arith}
 use Rattle.std.specs.List.{flat_map}
 use Rattle.std.specs.Option.{IsSome, is_some}
 use Rattle.std.specs.Prelude.{◌↔◌, None}
@@ -7,12 +7,10 @@ use Rattle.std.proofs.lemmas.List.{append-nil, get_or-set_other, get_or-set_same
 use Rattle.cg_moves.specs.declared.opened.NextPlaces.{NextPlaces}
 use Rattle.cg_moves.specs.Explored.{AreBelow, IsExplored, IsSeen, Way, board_at, parts, place_of, play}
 use Rattle.cg_moves.specs.Grid.{Grid}
-use Rattle.cg_moves.specs.Kept.{one_more}
 use Rattle.cg_moves.specs.Opened.{AreNext, IsAt, IsNext, StandAt}
 use Rattle.cg_moves.specs.Rules.{GameRules, In, followers}
 use Rattle.cg_moves.proofs.Counted.{same-or-not}
 use Rattle.cg_moves.proofs.ExploreLemmas.{link-at, next-parts}
-use Rattle.cg_moves.proofs.KeptLemmas.{one_more-new, one_more-there}
 use Rattle.cg_moves.proofs.Members.{carry, in-append, in_one}
 use Rattle.cg_moves.proofs.PlaceLemmas.{at-append, at-back, at-board, at-in, at-last, board-at, in-at, stand-below}
 

@@ -1,6 +1,6 @@
 -- Boards that were found, with their numbers in a map by their keys.
 use Rattle.std.proofs.Common.{◌≡◌, refl, ℕ, zero, suc, cond, ◌⊎◌, inl, inr, ⊎_elim, true, false, List, [], ◌∷◌, ◌++◌, length, ap, sym, ◌∙◌, subst}
-use Rattle.std.specs.Prelude.{None, Some, Option}
+use Rattle.std.specs.Prelude.{None, Some}
 use Rattle.std.specs.HashMap.{HashMap, get}
 use Rattle.std.proofs.lemmas.Bool.{cases_Bool, cond-false, cond-true}
 use Rattle.cg_moves.specs.declared.key.BoardKey.{BoardKey}

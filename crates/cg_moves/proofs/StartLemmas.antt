@@ -1,18 +1,18 @@
 -- Where a walk begins, and where it ends.
-use Rattle.std.proofs.Common.{◌≡◌, refl, ℕ, ◌<◌, true, inl, inr, Option, List, [], ◌∷◌, ◌++◌, length, map, replicate, reverse, append_assoc, ap, sym, ◌∙◌, subst}
+use Rattle.std.proofs.Common.{◌≡◌, ℕ, inl, inr, Option, List, [], ◌∷◌, ◌++◌, length, map, replicate, reverse, ap, sym, ◌∙◌, subst}
 use Rattle.std.specs.List.{flat_map}
 use Rattle.std.specs.Option.{IsSome}
-use Rattle.std.specs.Prelude.{◌↔◌, None, Some}
-use Rattle.std.proofs.lemmas.List.{get_or-replicate, length-replicate, map-append}
+use Rattle.std.specs.Prelude.{None, Some}
+use Rattle.std.proofs.lemmas.List.{get_or-replicate, length-replicate}
 use Rattle.cg_moves.specs.declared.opened.NextPlaces.{NextPlaces}
 use Rattle.cg_moves.specs.declared.walk.Task.{Task}
 use Rattle.cg_moves.specs.declared.walk.Task.TheVariants.{Enter}
 use Rattle.cg_moves.specs.Explored.{AreBelow, IsExplored, IsSeen, Way, board_at, number_of, place_of, play, reached, unplaced, visit}
 use Rattle.cg_moves.specs.Grid.{Grid}
 use Rattle.cg_moves.specs.Kept.{kept}
-use Rattle.cg_moves.specs.Opened.{AreNext, IsAt, StandAt}
+use Rattle.cg_moves.specs.Opened.{StandAt}
 use Rattle.cg_moves.specs.Rules.{In}
-use Rattle.cg_moves.specs.Walks.{IsWalk, Visit, boards_left, entered, unseen}
+use Rattle.cg_moves.specs.Walks.{IsWalk, Visit, boards_left, entered}
 use Rattle.cg_moves.proofs.ComesAfter.{own-all}
 use Rattle.cg_moves.proofs.FindLemmas.{unseen-all}
 use Rattle.cg_moves.proofs.KeptLemmas.{kept-has}

@@ -1,5 +1,5 @@
 -- Tasks by numbers, and what each leaves to do.
-use Rattle.std.proofs.Common.{◌≡◌, refl, ℕ, Bool, cond, not, true, false, inl, inr, ⊎_elim, List, [], ◌∷◌, ◌++◌, length, map, reverse, ap, sym, ◌∙◌, subst, arith, ◌<◌, get_or, Option}
+use Rattle.std.proofs.Common.{◌≡◌, refl, ℕ, Bool, cond, not, inl, inr, ⊎_elim, List, [], ◌∷◌, ◌++◌, length, map, reverse, ap, sym, ◌∙◌, subst, arith, ◌<◌, get_or, Option}
 use Rattle.std.specs.Prelude.{Err, IfOk, Ok, Result}
 use Rattle.std.specs.List.{flat_map}
 use Rattle.std.specs.Option.{is_some}

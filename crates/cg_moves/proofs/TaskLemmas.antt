@@ -1,11 +1,11 @@
 -- The tasks of a walk.
-use Rattle.std.proofs.Common.{◌≡◌, refl, ℕ, ◌+◌, ◌*◌, true, ◌⊎◌, inl, inr, List, [], ◌∷◌, ◌++◌, length, length-append, append_assoc, ap, sym, ◌∙◌, subst, arith}
+use Rattle.std.proofs.Common.{◌≡◌, refl, ◌+◌, ◌*◌, true, ◌⊎◌, inl, inr, List, [], ◌∷◌, ◌++◌, length, length-append, append_assoc, ap, sym, ◌∙◌, subst, arith}
 use Rattle.std.specs.List.{flat_map}
 use Rattle.std.proofs.lemmas.List.{append-nil}
 use Rattle.cg_moves.specs.Grid.{Grid}
 use Rattle.cg_moves.specs.Plays.{Play}
 use Rattle.cg_moves.specs.Rules.{In}
-use Rattle.cg_moves.specs.Walks.{AreKnown, AreReady, Visit, Enters, Leaves, boards_left, entered, load, visit_board, visit_boards}
+use Rattle.cg_moves.specs.Walks.{AreKnown, AreReady, Visit, Enters, Leaves, boards_left, entered, load, visit_boards}
 use Rattle.cg_moves.proofs.Members.{carry, in-append, in-append_left, in-append_right}
 
 module _ (r : Play) where

@@ -1,5 +1,5 @@
 -- Boards that were found, each with a number.
-use Rattle.std.specs.Prelude.{◌≡◌, ◌↔◌, ℕ, zero, suc, Some, List, [], ◌∷◌, ◌++◌, length}
+use Rattle.std.specs.Prelude.{◌≡◌, ◌↔◌, ℕ, zero, suc, Some, List, [], ◌∷◌}
 use Rattle.std.specs.HashMap.{HashMap, get}
 use Rattle.cg_moves.specs.declared.key.BoardKey.{BoardKey}
 use Rattle.cg_moves.specs.Grid.{Grid}

@@ -1,4 +1,4 @@
-use Rattle.std.proofs.Common.{List, ◌∷◌, [], ◌++◌, refl, sym, ◌∙◌, subst}
+use Rattle.std.proofs.Common.{List, ◌∷◌, [], ◌++◌, refl, sym, subst}
 use Rattle.cg_moves.specs.declared.course.Course.{Course}
 use Rattle.cg_moves.specs.Explored.{NumbersParts}
 use Rattle.cg_moves.specs.Found.{AreAlike}

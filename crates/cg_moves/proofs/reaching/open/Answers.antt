@@ -1,4 +1,4 @@
-use Rattle.std.proofs.Common.{◌≡◌, ◌<◌, ◌≤◌, refl, List, ◌∷◌, [], length, subst, sym}
+use Rattle.std.proofs.Common.{◌≡◌, ◌<◌, ◌≤◌, refl, List, length, subst, sym}
 use Rattle.std.specs.Prelude.{IfOk, OnOk}
 use Rattle.cg_moves.specs.Grid.{Grid}
 use Rattle.cg_moves.proofs.PlayLemmas.{one_start, reach-kept_all}

@@ -1,5 +1,5 @@
-use Rattle.std.proofs.Common.{◌<◌, length, slice_index_or, arith, rules}
-use Rattle.cg_moves.proofs.ReadLemmas.{read-in, read-next}
+use Rattle.std.proofs.Common.{◌<◌, length, slice_index_or, rules}
+use Rattle.cg_moves.proofs.ReadLemmas.{read-in}
 use Rattle.cg_moves.proofs.walk.places_of.Goals as goal
 
 pub offset_bounds-places-number : goal.offset_bounds-places-number

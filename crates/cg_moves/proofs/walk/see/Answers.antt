@@ -1,8 +1,7 @@
 use Rattle.std.proofs.Common.{◌≡◌, refl, ℕ, List, ◌∷◌, [], ◌++◌, length, map, Some, slice_set, ap, sym, ◌∙◌, subst, arith}
 use Rattle.std.specs.Prelude.{None, Option}
 use Rattle.std.specs.Option.{IsSome, is_some}
-use Rattle.cg_moves.specs.Explored.{AreBelow, IsSeen, board_at, place_of}
-use Rattle.cg_moves.specs.Rules.{In}
+use Rattle.cg_moves.specs.Explored.{IsSeen, board_at, place_of}
 use Rattle.cg_moves.proofs.Carried.{ok_is}
 use Rattle.cg_moves.proofs.KeptLemmas.{one_more-new, one_more-there}
 use Rattle.cg_moves.proofs.Members.{carry}

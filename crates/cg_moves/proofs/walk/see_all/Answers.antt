@@ -1,10 +1,7 @@
-use Rattle.std.proofs.Common.{◌≡◌, refl, ℕ, ◌<◌, List, ◌∷◌, [], ◌++◌, length, map, replicate, ap, sym, ◌∙◌, subst, arith, rules}
-use Rattle.std.specs.Prelude.{None, Option}
-use Rattle.std.proofs.lemmas.List.{map-append}
-use Rattle.cg_moves.specs.declared.walk.Task.{Task}
-use Rattle.cg_moves.specs.Explored.{AreBelow, number_of, play, visit}
-use Rattle.cg_moves.specs.Walks.{IsWalk, Visit}
-use Rattle.cg_moves.proofs.Members.{carry, in-append_left, in-append_right}
+use Rattle.std.proofs.Common.{◌≡◌, refl, length, replicate, ap, ◌∙◌, arith, rules}
+use Rattle.std.specs.Prelude.{None}
+use Rattle.cg_moves.specs.Explored.{play}
+use Rattle.cg_moves.proofs.Members.{carry}
 use Rattle.cg_moves.proofs.PlaceLemmas.{stand-below}
 use Rattle.cg_moves.proofs.StartLemmas.{begins}
 use Rattle.cg_moves.proofs.StepLemmas.{entered-as, last-task}
