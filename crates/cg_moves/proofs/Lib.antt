@@ -7,7 +7,7 @@ pub mod PlaceLemmas
 pub mod SeenLemmas
 pub mod NumberLemmas
 pub mod KeptOnce
-pub mod FindLemmas
+pub mod UnseenLemmas
 pub mod ComesAfter
 pub mod ExploreLemmas
 pub mod SeeLemmas

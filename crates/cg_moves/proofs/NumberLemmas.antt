@@ -1,9 +1,9 @@
 -- Boards that are numbered, one after another.
-use Rattle.std.proofs.Common.{◌≡◌, refl, ℕ, suc, ◌<◌, ◌≤◌, ◌+◌, inl, inr, List, [], ◌∷◌, ◌++◌, length, map, take, drop, get_or, append_assoc, ap, sym, ◌∙◌, subst, arith}
+use Rattle.std.proofs.Common.{◌≡◌, ℕ, suc, ◌<◌, ◌≤◌, ◌+◌, inl, inr, List, [], ◌∷◌, ◌++◌, length, map, take, drop, get_or, append_assoc, ap, sym, ◌∙◌, subst, arith}
 use Rattle.std.specs.List.{flat_map}
 use Rattle.std.specs.Prelude.{Err, Result}
 use Rattle.std.proofs.lemmas.Grind.{flat_map-append}
-use Rattle.std.proofs.lemmas.List.{append-nil, map-append}
+use Rattle.std.proofs.lemmas.List.{map-append}
 use Rattle.cg_moves.specs.declared.fault.ReachFault.{ReachFault}
 use Rattle.cg_moves.specs.declared.fault.ReachFault.TheVariants.{Positions}
 use Rattle.cg_moves.specs.declared.opened.NextPlaces.{NextPlaces}
@@ -20,13 +20,6 @@ use Rattle.cg_moves.proofs.PlaceLemmas.{at-one_more, board-at, stand-append, sta
 use Rattle.cg_moves.proofs.Places.{in-take, in_read, split_read, take_next}
 
 -- ---- some boards, and then others
-
-pub numbers-none : (limit : ℕ) (old : List Grid) (places : List ℕ) → length old ≤ limit → Numbers limit old old places places []
-numbers-none limit old places within = record {
-  found = refl;
-  within = within;
-  places = λ ps h. let P : List Grid → Type 0 = λ z. StandAt old places z in subst P (sym (append-nil ps)) h;
-}
 
 pub numbers-one : (limit : ℕ) (old new : List Grid) (before after : List ℕ) (p : Grid) (number : ℕ) → new ≡ one_more old p
     → IsAt new number p → length new ≤ limit → after ≡ before ++ (number ∷ []) → Numbers limit old new before after (p ∷ [])
@@ -109,13 +102,6 @@ passed_on x y r e f g = cc
 -- ---- all parts of boards, one board after another
 
 module _ (cut : Grid → List Grid) where
-  pub parts-none : (limit : ℕ) (old : List Grid) (next : NextPlaces) → length old ≤ limit → NumbersParts limit cut old old next next []
-  parts-none limit old next within = record {
-    lefts = refl;
-    counts = sym (append-nil next.counts.items);
-    numbers = numbers-none limit old next.places.items within;
-  }
-
   pub parts-then : (limit : ℕ) (a b c : List Grid) (x y z : NextPlaces) (ps qs : List Grid) → NumbersParts limit cut a b x y ps
       → NumbersParts limit cut b c y z qs → NumbersParts limit cut a c x z (ps ++ qs)
   parts-then limit a b c x y z ps qs f g = record {

@@ -1,5 +1,5 @@
 -- Boards by their places in lists.
-use Rattle.std.proofs.Common.{◌≡◌, refl, ℕ, zero, suc, ◌<◌, ◌⊎◌, inl, inr, List, [], ◌∷◌, ◌++◌, length, map, get_or, ap, sym, ◌∙◌, subst, arith}
+use Rattle.std.proofs.Common.{◌≡◌, refl, ℕ, zero, suc, ◌<◌, ◌⊎◌, inl, inr, List, [], ◌∷◌, ◌++◌, length, get_or, ap, sym, subst, arith}
 use Rattle.cg_moves.specs.Explored.{AreBelow, board_at}
 use Rattle.cg_moves.specs.Grid.{Grid}
 use Rattle.cg_moves.specs.Kept.{kept, one_more}
@@ -80,13 +80,6 @@ stand-append ps [] [] ms rs h k = k
 stand-append ps [] (q ∷ qs) ms rs h k = absurd h
 stand-append ps (n ∷ ns) [] ms rs h k = absurd h
 stand-append ps (n ∷ ns) (q ∷ qs) ms rs h k = (h.0, stand-append ps ns qs ms rs h.1 k)
-
-pub stand-boards : (ps : List Grid) (ns : List ℕ) (qs : List Grid) → StandAt ps ns qs → map (board_at ps) ns ≡ qs
-stand-boards ps [] [] h = refl
-stand-boards ps [] (q ∷ qs) h = absurd h
-stand-boards ps (n ∷ ns) [] h = absurd h
-stand-boards ps (n ∷ ns) (q ∷ qs) h =
-    ap (λ z. z ∷ map (board_at ps) ns) (board-at ps n q h.0) ∙ ap (λ z. q ∷ z) (stand-boards ps ns qs h.1)
 
 pub stand-below : (ps : List Grid) (ns : List ℕ) (qs : List Grid) → StandAt ps ns qs → AreBelow (length ps) ns
 stand-below ps [] qs h n m = absurd m

@@ -16,15 +16,6 @@ read-in [] k l = absurd (omega arith)
 read-in (n ∷ ns) zero l = inl refl
 read-in (n ∷ ns) (suc k) l = inr (read-in ns k (omega arith))
 
-pub read-next : (ns : List ℕ) (k : ℕ) → k < length ns → take (k + 1) ns ≡ take k ns ++ (slice_index_or ns k 0 ∷ [])
-read-next ns k l = go ns k l
-  where
-    go : (ms : List ℕ) (i : ℕ) → i < length ms → take (i + 1) ms ≡ take i ms ++ (slice_index_or ms i 0 ∷ [])
-    go [] i l = absurd (omega arith)
-    go (m ∷ ms) zero l = refl
-    go (m ∷ ms) (suc i) l = let s : suc i + 1 ≡ suc (i + 1) = omega arith in
-        ap (λ n. take n (m ∷ ms)) s ∙ ap (λ z. m ∷ z) (go ms i (omega arith))
-
 pub in-reverse : (ns : List ℕ) (n : ℕ) → In n (reverse ns) → In n ns
 in-reverse [] n m = absurd m
 in-reverse (k ∷ ns) n m = elim (in-append n (reverse ns) (k ∷ []) (carry n (reverse (k ∷ ns)) (reverse ns ++ (k ∷ []))

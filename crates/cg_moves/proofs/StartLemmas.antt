@@ -14,7 +14,7 @@ use Rattle.cg_moves.specs.Opened.{StandAt}
 use Rattle.cg_moves.specs.Rules.{In}
 use Rattle.cg_moves.specs.Walks.{IsWalk, Visit, boards_left, entered}
 use Rattle.cg_moves.proofs.ComesAfter.{own-all}
-use Rattle.cg_moves.proofs.FindLemmas.{unseen-all}
+use Rattle.cg_moves.proofs.UnseenLemmas.{unseen-all}
 use Rattle.cg_moves.proofs.KeptLemmas.{kept-has}
 use Rattle.cg_moves.proofs.Members.{carry, in_flat_mapped}
 use Rattle.cg_moves.proofs.PlaceLemmas.{at-in, stand-below}

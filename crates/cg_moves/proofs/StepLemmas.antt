@@ -16,7 +16,7 @@ use Rattle.cg_moves.specs.Plays.{Play}
 use Rattle.cg_moves.specs.Rules.{In, followers}
 use Rattle.cg_moves.specs.Walks.{IsWalk, Visit, Enters, Leaves, entered, unseen}
 use Rattle.cg_moves.proofs.ExploreLemmas.{link-at, next-parts}
-use Rattle.cg_moves.proofs.FindLemmas.{unseen-new, unseen-there}
+use Rattle.cg_moves.proofs.UnseenLemmas.{unseen-new, unseen-there}
 use Rattle.cg_moves.proofs.Members.{carry, in-append, in-append_left, in-append_right, in_one}
 use Rattle.cg_moves.proofs.PlaceLemmas.{board-at, stand-below}
 use Rattle.cg_moves.proofs.ReadLemmas.{in-reverse, unplaced-none, unplaced-some}

@@ -9,7 +9,7 @@ use Rattle.cg_moves.specs.Rules.{In}
 use Rattle.cg_moves.specs.Walks.{AreReady, GoesOn, IsWalk, Visit, Enters, Leaves, boards_left, entered, unseen}
 use Rattle.cg_moves.proofs.ComesAfter.{own-all}
 use Rattle.cg_moves.proofs.TaskLemmas.{boards_left-append, boards_left-entered, known-append, known-back, known-entered, known-front, load-append, load-entered, ready-change, ready-entered, ready-last}
-use Rattle.cg_moves.proofs.FindLemmas.{kept-unseen, unseen-among, unseen-fewer, unseen-has}
+use Rattle.cg_moves.proofs.UnseenLemmas.{kept-unseen, unseen-among, unseen-fewer, unseen-has}
 use Rattle.cg_moves.proofs.KeptLemmas.{in_or_not, kept-append, kept-there, one_more-among, one_more-has, one_more-keeps}
 use Rattle.cg_moves.proofs.Members.{carry, in-append, in-append_left, in-append_right, in-flat_map, in_flat_mapped, in_one}
 

@@ -1,6 +1,5 @@
 -- The keys of boards, for look-ups.
-use Rattle.std.specs.Prelude.{◌≡◌, ◌↔◌, ◌⊎◌, ℕ, ◌+◌, ◌*◌, ◌<◌, ◌==◌, ◌&&◌, Bool, true, Some, List, [], ◌∷◌, length, map}
-use Rattle.std.specs.HashMap.{HashMap, get}
+use Rattle.std.specs.Prelude.{ℕ, ◌+◌, ◌*◌, ◌==◌, ◌&&◌, Bool, List, [], ◌∷◌}
 use Rattle.std.specs.Int.{bit_at}
 use Rattle.cg_moves.specs.declared.key.BoardKey.{BoardKey}
 use Rattle.cg_moves.specs.declared.planes.Planes.{Planes}
@@ -31,28 +30,6 @@ abbrev pub key_eq : BoardKey → BoardKey → Bool
 key_eq j k = (j.rows == k.rows) && ((j.columns == k.columns) && ((j.planes.a == k.planes.a) && ((j.planes.b == k.planes.b)
     && ((j.planes.c == k.planes.c) && (j.planes.d == k.planes.d)))))
 
--- the map has the mark `true` at exactly the keys of the boards
-abbrev pub HasKeys : {S : Type 0} → HashMap BoardKey Bool S → List Grid → Type 0
-HasKeys {S} found boards = (key : BoardKey) → (get key_eq found key ≡ Some true) ↔ In key (map key_of boards)
-
 -- each of the list is a board
 abbrev pub AreGrids : List Grid → Type 0
 AreGrids ps = (p : Grid) → In p ps → IsGrid p
-
--- the boards that were seen, in their order, and the keys of those that were found
-pub record SeenBoards : Type 0 where
-  pub boards : List Grid
-  pub found : List BoardKey
-
--- each of the keys is that of a board of the list
-abbrev pub AreKeysIn : List BoardKey → List Grid → Type 0
-AreKeysIn keys boards = (key : BoardKey) → In key keys → In key (map key_of boards)
-
--- the keys that were found before, and those of the boards
-abbrev pub AddsKeys : List BoardKey → List BoardKey → List Grid → Type 0
-AddsKeys old new boards = (key : BoardKey) → In key new ↔ (In key old ⊎ In key (map key_of boards))
-
--- where these keys were found, each list that has their boards, and these boards, has more than so many
-abbrev pub AreTooMany : ℕ → List BoardKey → List Grid → Type 0
-AreTooMany limit found boards =
-    (all : List Grid) → AreKeysIn found all → ((p : Grid) → In p boards → In p all) → limit < length all
