@@ -1,7 +1,7 @@
 -- Games that are added to a game, one after another.
-use Rattle.std.proofs.Common.{◌≡◌, refl, ℕ, zero, suc, ◌+◌, ◌≤◌, ◌<◌, arith, ap, sym, ◌∙◌, subst, List, [], ◌∷◌, ◌++◌, append_assoc, drop, get_or, length, map, take, Some, Result, Ok, Err}
+use Rattle.std.proofs.Common.{◌≡◌, refl, ℕ, zero, suc, ◌+◌, ◌≤◌, ◌<◌, arith, ap, sym, ◌∙◌, subst, List, [], ◌∷◌, ◌++◌, append_assoc, drop, get_or, length, map, take, Result, Ok, Err}
 use Rattle.std.specs.Prelude.{IfOk}
-use Rattle.std.proofs.lemmas.List.{append-nil, take_all}
+use Rattle.std.proofs.lemmas.List.{append-nil, length-map, take_all}
 use Rattle.cg_cells.specs.Store.{State}
 use Rattle.cg_canon.proofs.ItemLaws.{all_pass-none}
 use Rattle.cg_canon.proofs.Keeping.{keeps_all, keeps_then}
@@ -15,13 +15,14 @@ use Rattle.cg_canon.specs.declared.rest.WorkRest.{WorkRest}
 use Rattle.cg_form.specs.Game.{Game}
 use Rattle.cg_form.specs.Sum.{sum}
 use Rattle.cg_nodes.proofs.Later.{are_games_later, stands_game, stands_is_game, stands_later}
-use Rattle.cg_nodes.specs.Games.{AreGames, IsGame, StandFor, StandsFor, game_at, games_at}
-use Rattle.cg_nodes.specs.Meant.{Meant, form}
+use Rattle.cg_nodes.specs.Games.{AreGames, IsGame, StandFor, StandsFor, game_at}
+use Rattle.cg_nodes.specs.Meant.{Meant}
 use Rattle.cg_nodes.specs.Spelled.{can}
 use Rattle.cg_moves.proofs.Places.{split_read, take_next}
 use Rattle.cg_values.specs.Gives.{Gives}
 use Rattle.cg_values.specs.Items.{added, added_items}
 use Rattle.cg_values.proofs.GiveSteps.{can-sum_forms}
+use Rattle.cg_values.proofs.HandleSteps.{stand-first, stand-length, stand-rest}
 
 -- ---- the games and items of two lists
 
@@ -47,15 +48,6 @@ module _ {R : Type 0} (s : State Meant R) where
     pub read : game ≡ get_or hs i game
     pub stands : StandsFor s other (can game)
 
-  first-stands : (k : ℕ) (ks : List ℕ) (h : Game) (hs : List Game) → StandFor s (k ∷ ks) (map can (h ∷ hs))
-      → StandsFor s k (can h)
-  first-stands k ks h hs all =
-      let e = all.1 in let a : game_at s k ≡ can h = cc in all.0.0 ∙ ap (λ z. Some (form z)) a
-
-  rest-stand : (k : ℕ) (ks : List ℕ) (h : Game) (hs : List Game) → StandFor s (k ∷ ks) (map can (h ∷ hs))
-      → StandFor s ks (map can hs)
-  rest-stand k ks h hs all = let e = all.1 in let b : games_at s ks ≡ map can hs = cc in (all.0.1, b)
-
   pub game-at_place : (others : List ℕ) (hs : List Game) (i other : ℕ) → StandFor s others (map can hs) → i < length others
       → other ≡ get_or others i other → At hs i other
   game-at_place [] hs i other all within read = absurd (omega arith)
@@ -65,22 +57,16 @@ module _ {R : Type 0} (s : State Meant R) where
         game = h;
         within = omega arith;
         read = refl;
-        stands = subst P (sym read) (first-stands k ks h hs all);
+        stands = subst P (sym read) (stand-first s k ks (can h) (map can hs) all);
       }
   game-at_place (k ∷ ks) (h ∷ hs) (suc i) other all within read =
-      let rest = game-at_place ks hs i other (rest-stand k ks h hs all) (omega arith) read in
+      let rest = game-at_place ks hs i other (stand-rest s k ks (can h) (map can hs) all) (omega arith) read in
       let w = rest.within in record {
         game = rest.game;
         within = omega (arith, w);
         read = rest.read;
         stands = rest.stands;
       }
-
-  games-length : (others : List ℕ) (hs : List Game) → StandFor s others (map can hs) → length hs ≡ length others
-  games-length [] [] all = refl
-  games-length [] (h ∷ hs) all = let e = all.1 in absurd (cc)
-  games-length (k ∷ ks) [] all = let e = all.1 in absurd (cc)
-  games-length (k ∷ ks) (h ∷ hs) all = ap suc (games-length ks hs (rest-stand k ks h hs all))
 
   game-other : (others : List ℕ) (i other : ℕ) → AreGames s others → i < length others → other ≡ get_or others i other
       → IsGame s other
@@ -117,9 +103,10 @@ module _ {R : Type 0} (s : State Meant (WorkRest R)) (first : ℕ) (others : Lis
       → Adding s t first others i sum_handle → (g : Game) (hs : List Game) → StandsFor s first (can g)
       → StandFor s others (map can hs) → Gives s t (added_items s.rest.limit g hs) (added g hs) (Ok sum_handle)
   adding_done t i sum_handle end so_far g hs st all =
-      let n = games-length s others hs all in
+      let n = stand-length s others (map can hs) all in
+      let m = length-map hs can in
       let P : List Game → Type 0 = λ z. AddedTo s t g z sum_handle in
-      let done = subst P (take_all i hs (omega (arith, n, end))) (so_far.adds g hs st all) in record {
+      let done = subst P (take_all i hs (omega (arith, n, m, end))) (so_far.adds g hs st all) in record {
         game = done.stands;
         made = record { charged = done.passed; refused = tt; keeps = so_far.keeps };
         more = so_far.more;

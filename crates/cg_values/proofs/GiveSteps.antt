@@ -1,11 +1,12 @@
 -- Calls that make the items of games, one after another.
-use Rattle.std.proofs.Common.{◌≡◌, refl, ℕ, ◌≤◌, ◌<◌, ◌⊎◌, arith, ap, sym, ◌∙◌, subst, List, [], ◌∷◌, ◌++◌, map, length, Some, Bool, true, false, if◌then◌else◌, Result, Ok, Err}
+use Rattle.std.proofs.Common.{◌≡◌, refl, ℕ, ◌≤◌, ◌<◌, ◌⊎◌, inl, inr, arith, ap, sym, ◌∙◌, subst, List, [], ◌∷◌, ◌++◌, map, length, Result, Ok, Err}
 use Rattle.std.specs.Prelude.{IfOk}
+use Rattle.std.specs.List.{flat_map}
 use Rattle.cg_cells.specs.Store.{State}
-use Rattle.cg_canon.proofs.ItemLaws.{all_pass-none}
+use Rattle.cg_canon.proofs.ItemLaws.{refused-one}
 use Rattle.cg_canon.proofs.Keeping.{keeps_all}
 use Rattle.cg_canon.proofs.MadeSteps.{made_as, made_then, passed, stopped}
-use Rattle.cg_canon.specs.Items.{Item, made as made_item}
+use Rattle.cg_canon.specs.Items.{Item, WasRefused, made as made_item, too_many}
 use Rattle.cg_canon.specs.Made.{ItemsMade}
 use Rattle.cg_canon.specs.declared.fault.ValueFault.{ValueFault}
 use Rattle.cg_canon.specs.declared.fault.ValueFault.TheVariants.{Memory, Positions}
@@ -16,18 +17,17 @@ use Rattle.cg_form.specs.Game.{Game}
 use Rattle.cg_form.specs.Sum.{nothing, sum}
 use Rattle.cg_nodes.proofs.Forms.{can-same}
 use Rattle.cg_nodes.specs.CanForms.{can-equal}
-use Rattle.cg_nodes.specs.Games.{StandFor, StandsFor, game_at, games_at}
-use Rattle.cg_nodes.specs.Meant.{Meant, form}
+use Rattle.cg_nodes.specs.Games.{StandFor, StandsFor, games_at}
+use Rattle.cg_nodes.specs.Meant.{Meant}
 use Rattle.cg_nodes.specs.Spelled.{can}
-use Rattle.cg_moves.specs.Cutting.{cutting}
-use Rattle.cg_moves.specs.declared.pieces.Pieces.TheVariants.{Whole, Cut}
 use Rattle.cg_moves.specs.Grid.{Grid}
 use Rattle.cg_moves.specs.Raw.{raw}
-use Rattle.cg_moves.specs.Reach.{reach_of}
 use Rattle.cg_moves.specs.Rules.{GameRules}
 use Rattle.cg_values.specs.Gives.{Gives}
-use Rattle.cg_values.specs.Items.{added, added_items, board_items, cut_items, sum_up, sum_up_items, value_items, whole_items}
-use Rattle.cg_values.proofs.ValueSteps.{all_within, limit_refused}
+use Rattle.cg_values.specs.Items.{added, added_items, board_items, sum_up, sum_up_items}
+use Rattle.cg_values.specs.Parts.{joins, part_items, parts_reach}
+use Rattle.cg_values.proofs.HandleSteps.{stand-first, stand-rest}
+use Rattle.cg_values.proofs.PartLemmas.{items-many, items-within}
 
 -- the forms of two games may stand for them in a sum
 pub can-sum_forms : (g h : Game) → can (sum (can g) (can h)) ≡ can (sum g h)
@@ -46,14 +46,6 @@ module _ {R : Type 0} where
         made = made_as s t xs ys r e v.made;
         more = v.more;
       }
-
-  -- a game that was found, with nothing to make
-  pub gives_found : (s : State Meant (WorkRest R)) (g : Game) (h : ℕ) → StandsFor s h (can g) → Gives s s [] g (Ok h)
-  gives_found s g h st = record {
-    game = st;
-    made = record { charged = all_pass-none s.rest.share s.rest.spent; refused = tt; keeps = keeps_all s };
-    more = omega arith;
-  }
 
   -- items that were made, and then those of a game
   pub gives_then : {T : Type 0} (s t u : State Meant (WorkRest R)) (xs ys : List Item) (g : Game) (q : Result T ValueFault) (x : T)
@@ -94,15 +86,12 @@ module _ {R : Type 0} where
       let both = subst P is all in let e = both.1 in absurd (cc)
   first-of s others other rest (h ∷ hs) is all =
       let P : List ℕ → Type 0 = λ z. StandFor s z (can h ∷ map can hs) in
-      let both = subst P is all in
-      let e = both.1 in
-      let a : game_at s other ≡ can h = cc in
-      let b : games_at s rest ≡ map can hs = cc in record {
+      let both = subst P is all in record {
         game = h;
         games = hs;
         split = refl;
-        stands = both.0.0 ∙ ap (λ z. Some (form z)) a;
-        others = (both.0.1, b);
+        stands = stand-first s other rest (can h) (map can hs) both;
+        others = stand-rest s other rest (can h) (map can hs) both;
       }
 
   -- ---- games that are added up
@@ -129,58 +118,57 @@ module _ {R : Type 0} where
       let P : List Game → Type 0 = λ z. Gives s t (sum_up_items s.rest.limit z) (sum_up z) r in
       subst P (sym f.split) (add f.game f.games f.stands f.others)
 
--- ---- boards by rules that don't cut
+-- ---- more parts than the limit, and want of memory
 
-pub whole_gives : {R : Type 0} (s t : State Meant (WorkRest R)) (r : GameRules) (p : Grid) (ps : List Grid) (limit : ℕ)
-    (result : Result ℕ ValueFault) → limit ≡ s.rest.limit → ps ≡ reach_of r p
-    → length (reach_of r p) ≤ limit → IfOk result (λ h. StandsFor t h (can (raw r p)))
-    → ItemsMade s t (value_items r ps) result → s.spare ≤ t.spare
-    → Gives s t (whole_items s.rest.limit r p) (raw r p) result
-whole_gives s t r p ps limit result is all within game made more =
-    let within_s : length (reach_of r p) ≤ s.rest.limit = omega (arith, within, is) in record {
-      game = game;
-      made = made_as s t (value_items r ps) (whole_items s.rest.limit r p) result
-          (ap (value_items r) all ∙ sym (all_within s.rest.limit r p within_s)) made;
-      more = more;
-    }
+fault-refused : (fault : ValueFault) (share spent limit : ℕ) (r : GameRules) (p : Grid)
+    → (fault ≡ Memory) ⊎ ((fault ≡ Positions) × (limit < length (parts_reach r p)))
+    → WasRefused fault share spent (board_items limit r p) spent
+fault-refused fault share spent limit r p (inl memory) =
+    let P : ValueFault → Type 0 = λ z. WasRefused z share spent (board_items limit r p) spent in subst P (sym memory) tt
+fault-refused fault share spent limit r p (inr (positions, above)) =
+    let P : ValueFault → Type 0 = λ z. WasRefused z share spent (board_items limit r p) spent in
+    let Q : List Item → Type 0 = λ z. WasRefused Positions share spent z spent in
+    subst P (sym positions) (subst Q (sym (items-many limit r p above)) (refused-one Positions share spent too_many [] tt))
 
-pub whole_refused : {R : Type 0} (s : State Meant (WorkRest R)) (r : GameRules) (p : Grid) (fault : ValueFault) (limit : ℕ)
+pub board_refused : {R : Type 0} (s : State Meant (WorkRest R)) (r : GameRules) (p : Grid) (fault : ValueFault) (limit : ℕ)
     (result : Result ℕ ValueFault) → limit ≡ s.rest.limit → result ≡ Err fault
-    → (fault ≡ Memory) ⊎ ((fault ≡ Positions) × (limit < length (reach_of r p)))
-    → Gives s s (whole_items s.rest.limit r p) (raw r p) result
-whole_refused s r p fault limit result is e cause =
-    let P : Result ℕ ValueFault → Type 0 = λ z. Gives s s (whole_items s.rest.limit r p) (raw r p) z in
-    let Q : ℕ → Type 0 = λ z. (fault ≡ Memory) ⊎ ((fault ≡ Positions) × (z < length (reach_of r p))) in
+    → (fault ≡ Memory) ⊎ ((fault ≡ Positions) × (limit < length (parts_reach r p)))
+    → Gives s s (board_items s.rest.limit r p) (raw r p) result
+board_refused s r p fault limit result is e cause =
+    let P : Result ℕ ValueFault → Type 0 = λ z. Gives s s (board_items s.rest.limit r p) (raw r p) z in
+    let Q : ℕ → Type 0 = λ z. (fault ≡ Memory) ⊎ ((fault ≡ Positions) × (z < length (parts_reach r p))) in
     subst P (sym e) (record {
       game = tt;
       made = record {
         charged = tt;
-        refused = limit_refused fault s.rest.share s.rest.spent s.rest.limit r p (subst Q is cause);
+        refused = fault-refused fault s.rest.share s.rest.spent s.rest.limit r p (subst Q is cause);
         keeps = keeps_all s;
       };
       more = omega arith;
     })
 
--- ---- whether the rules cut
+-- ---- the parts, and then the board's own joined
 
-whole_cuts : (b : Bool) (qs : List Grid) → Whole ≡ (if b then Cut qs else Whole) → b ≡ false
-whole_cuts true qs e = absurd (cc)
-whole_cuts false qs e = refl
+module _ {R X : Type 0} (s t : State Meant (WorkRest R)) (r : GameRules) (p : Grid) (ps : List Grid) (limit : ℕ)
+    (is : limit ≡ s.rest.limit) (all : ps ≡ parts_reach r p) (within : length (parts_reach r p) ≤ limit)
+    (q : Result X ValueFault) (first : ItemsMade s t (flat_map (part_items s.rest.limit r) ps) q) (more : s.spare ≤ t.spare) where
+  items_are : flat_map (part_items s.rest.limit r) ps ++ joins s.rest.limit r p ≡ board_items s.rest.limit r p
+  items_are =
+      let w : length (parts_reach r p) ≤ s.rest.limit = omega (arith, within, is) in
+      ap (λ z. flat_map (part_items s.rest.limit r) z ++ joins s.rest.limit r p) all ∙ items-within s.rest.limit r p w
 
-cut_cuts : (b : Bool) (ps qs : List Grid) → Cut ps ≡ (if b then Cut qs else Whole) → b ≡ true
-cut_cuts true ps qs e = refl
-cut_cuts false ps qs e = absurd (cc)
+  pub board_stopped : (v : Result ℕ ValueFault) (e : ValueFault) → q ≡ Err e → v ≡ Err e
+      → Gives s t (board_items s.rest.limit r p) (raw r p) v
+  board_stopped v e a b =
+      gives_as s t (flat_map (part_items s.rest.limit r) ps ++ joins s.rest.limit r p) (board_items s.rest.limit r p)
+      (raw r p) (raw r p) v items_are refl
+      (gives_stopped s t (flat_map (part_items s.rest.limit r) ps) (joins s.rest.limit r p) (raw r p) q v e a b first more)
 
-pub whole_board : (limit : ℕ) (r : GameRules) (p : Grid) → Whole ≡ cutting r p → whole_items limit r p ≡ board_items limit r p
-unfolding board_items
-whole_board limit r p e =
-    sym (ap (λ b. if b then cut_items limit r p else whole_items limit r p) (whole_cuts r.cuts (r.pieces p) e))
-
-pub cut_board : (limit : ℕ) (r : GameRules) (p : Grid) (ps : List Grid) → Cut ps ≡ cutting r p
-    → cut_items limit r p ≡ board_items limit r p
-unfolding board_items
-cut_board limit r p ps e =
-    sym (ap (λ b. if b then cut_items limit r p else whole_items limit r p) (cut_cuts r.cuts ps (r.pieces p) e))
-
-pub rules_cut : (r : GameRules) (p : Grid) (ps : List Grid) → Cut ps ≡ cutting r p → r.cuts ≡ true
-rules_cut r p ps e = cut_cuts r.cuts ps (r.pieces p) e
+  pub board_gives : (u : State Meant (WorkRest R)) (x : X) → q ≡ Ok x → (v : Result ℕ ValueFault)
+      → Gives t u (joins t.rest.limit r p) (raw r p) v → Gives s u (board_items s.rest.limit r p) (raw r p) v
+  board_gives u x ok v last =
+      let N : ℕ → Type 0 = λ n. Gives t u (joins n r p) (raw r p) v in
+      gives_as s u (flat_map (part_items s.rest.limit r) ps ++ joins s.rest.limit r p) (board_items s.rest.limit r p)
+      (raw r p) (raw r p) v items_are refl
+      (gives_then s t u (flat_map (part_items s.rest.limit r) ps) (joins s.rest.limit r p) (raw r p) q x v ok first more
+      (subst N first.keeps.limit last))

@@ -1,109 +1,69 @@
 -- Values of boards, found one after another.
-use Rattle.std.proofs.Common.{◌≡◌, refl, ℕ, ◌*◌, ◌≤◌, ◌==◌, Bool, true, false, if◌then◌else◌, Option, Some, None, List, [], ◌∷◌, length, map, ap, sym, ◌∙◌, subst, arith, inl, inr}
-use Rattle.std.specs.Prelude.{IsSome, codes, unwrap_or}
+use Rattle.std.proofs.Common.{◌≡◌, refl, ℕ, ◌*◌, ◌≤◌, ◌==◌, Bool, true, false, if◌then◌else◌, List, [], ◌∷◌, ◌++◌, drop, length, map, take, ap, sym, ◌∙◌, subst, arith}
+use Rattle.std.specs.Prelude.{codes}
+use Rattle.std.proofs.lemmas.List.{length-append, length-map, map-append}
 use Rattle.cg_cells.specs.Meaning.{Grows}
 use Rattle.cg_cells.specs.Store.{State, thing_at}
-use Rattle.cg_form.specs.Game.{node}
+use Rattle.cg_form.specs.Game.{Game, node}
 use Rattle.cg_nodes.specs.Boards.{AreWritten, are_contents, are_of_board, symbols}
-use Rattle.cg_nodes.specs.Games.{StandFor, StandsFor, games_at}
+use Rattle.cg_nodes.specs.Games.{StandFor, games_at}
 use Rattle.cg_nodes.specs.Meant.{Meant}
 use Rattle.cg_nodes.specs.Spelled.{can}
 use Rattle.cg_nodes.proofs.BoardContents.{contents-written, is-of_board}
 use Rattle.cg_nodes.proofs.Forms.{can-node}
-use Rattle.cg_nodes.proofs.Later.{stand_later, stands_game, stands_is_game, stands_later}
+use Rattle.cg_nodes.proofs.Later.{stand_later}
 use Rattle.cg_moves.specs.declared.player.Player.TheVariants.{Left, Right}
 use Rattle.cg_moves.specs.Grid.{Grid, IsGrid}
 use Rattle.cg_moves.specs.Raw.{raw}
-use Rattle.cg_moves.specs.Rules.{GameRules, In, IsLawful, boards_after, followers}
+use Rattle.cg_moves.specs.Rules.{GameRules, IsLawful, boards_after, followers}
 use Rattle.cg_moves.proofs.Bounds.{raw-moves}
-use Rattle.cg_moves.proofs.Members.{carry, in-append_left, in-append_right}
-use Rattle.cg_moves.proofs.PlayLemmas.{follower-symbols}
-use Rattle.cg_moves.specs.Seen.{AreGrids, key_of}
 use Rattle.cg_values.specs.Notes.{places, symbol_row}
-use Rattle.cg_values.specs.Options.{AreOptions, values_after}
+use Rattle.cg_values.specs.Options.{AreOptions}
+use Rattle.cg_values.specs.Parts.{values_of}
 use Rattle.cg_values.specs.declared.options.Options.{Options}
-use Rattle.cg_values.specs.Values.{AreFound, HoldValues, value_found, value_handle}
-use Rattle.cg_values.specs.declared.values.Values.{Values}
+use Rattle.cg_values.proofs.HandleSteps.{stand-length, stand-split}
 use Rattle.cg_values.proofs.PlaceLemmas.{places-below}
-
-pub not_none : (o : Option ℕ) → IsSome o → o ≡ None → ⊥
-not_none None s e = cc
-not_none (Some x) s e = cc
-
-pub some_of : (o : Option ℕ) → IsSome o → (x : ℕ) × (o ≡ Some x)
-some_of None s = absurd cc
-some_of (Some x) s = (x, refl)
-
-pub hold_later : {R Q : Type 0} (s : State Meant R) (t : State Meant Q) (r : GameRules) (symbols : List ℕ) (m : Values)
-    → Grows (thing_at s) (thing_at t) → HoldValues s r symbols m → HoldValues t r symbols m
-hold_later s t r symbols m grows holds = record {
-  values = λ p h g same e. stands_later s t grows h (can (raw r p)) (holds.values p h g same e);
-}
-
--- for boards with the same symbols
-pub hold_same : {R : Type 0} (s : State Meant R) (r : GameRules) (a b : List ℕ) (m : Values) → a ≡ b
-    → HoldValues s r a m → HoldValues s r b m
-hold_same s r a b m e holds = let P : List ℕ → Type 0 = λ z. HoldValues s r z m in subst P e holds
 
 pub options_later : {R Q : Type 0} (s : State Meant R) (t : State Meant Q) (r : GameRules) (p : Grid) (opts : Options)
     → Grows (thing_at s) (thing_at t) → AreOptions s r p opts → AreOptions t r p opts
 options_later s t r p opts grows are = record {
-  lefts = stand_later s t grows opts.lefts.items (values_after r Left p) are.lefts;
-  rights = stand_later s t grows opts.rights.items (values_after r Right p) are.rights;
+  lefts = are.lefts;
+  values = stand_later s t grows opts.handles.items (values_of r (followers r p)) are.values;
 }
 
 -- ---- the options of a board
 
-pub left_found : (r : GameRules) (p : Grid) (m : Values) (qs ps : List Grid) → AreFound m (followers r p) → qs ≡ ps
-    → ps ≡ boards_after r Left p → AreFound m qs
-left_found r p m qs ps found e f = record {
-  each = λ q k. found.each q (in-append_left q (boards_after r Left p) (boards_after r Right p) (carry q qs (boards_after
-      r Left p) (e ∙ f) k));
-}
+module _ {R : Type 0} (s : State Meant R) (r : GameRules) (p : Grid) (opts : Options) (are : AreOptions s r p opts) where
+  values-both : values_of r (followers r p) ≡ values_of r (boards_after r Left p) ++ values_of r (boards_after r Right p)
+  values-both =
+      ap (map can) (map-append (raw r) (boards_after r Left p) (boards_after r Right p))
+      ∙ map-append can (map (raw r) (boards_after r Left p)) (map (raw r) (boards_after r Right p))
 
-pub right_found : (r : GameRules) (p : Grid) (m : Values) (qs ps : List Grid) → AreFound m (followers r p) → qs ≡ ps
-    → ps ≡ boards_after r Right p → AreFound m qs
-right_found r p m qs ps found e f = record {
-  each = λ q k. found.each q (in-append_right q (boards_after r Left p) (boards_after r Right p) (carry q qs (boards_after
-      r Right p) (e ∙ f) k));
-}
+  values-many : length (values_of r (boards_after r Left p)) ≡ length (boards_after r Left p)
+  values-many = length-map (map (raw r) (boards_after r Left p)) can ∙ length-map (boards_after r Left p) (raw r)
 
-module _ {R : Type 0} (s : State Meant R) (r : GameRules) (symbols : List ℕ) (m : Values)
-    (holds : HoldValues s r symbols m) where
-  stands_found : (q : Grid) → IsGrid q → q.symbols ≡ symbols → IsSome (value_found m (key_of q))
-      → StandsFor s (value_handle m (key_of q)) (can (raw r q))
-  stands_found q g same some =
-      let (h, e) = some_of (value_found m (key_of q)) some in
-      let Q : ℕ → Type 0 = λ z. StandsFor s z (can (raw r q)) in
-      subst Q (sym (ap (λ o. unwrap_or o 0) e)) (holds.values q h g same e)
+  -- the first handles stand for the values after Left's moves, and the others for those after Right's
+  pub options-split : (hs ls ks : List ℕ) → hs ≡ opts.handles.items → ls ≡ take opts.lefts hs → ks ≡ drop opts.lefts hs
+      → StandFor s ls (values_of r (boards_after r Left p)) × StandFor s ks (values_of r (boards_after r Right p))
+  options-split hs ls ks is first others =
+      let lefts = values_of r (boards_after r Left p) in
+      let rights = values_of r (boards_after r Right p) in
+      let V : List Game → Type 0 = λ z. StandFor s opts.handles.items z in
+      let H : List ℕ → Type 0 = λ z. StandFor s z (lefts ++ rights) in
+      let L : List ℕ → Type 0 = λ z. StandFor s z lefts in
+      let K : List ℕ → Type 0 = λ z. StandFor s z rights in
+      let both = stand-split s hs lefts rights opts.lefts (are.lefts ∙ sym values-many)
+      (subst H (sym is) (subst V values-both are.values)) in
+      (subst L (sym first) both.0, subst K (sym others) both.1)
 
-  pub values_stand : (qs : List Grid) → AreGrids qs → ((q : Grid) → In q qs → q.symbols ≡ symbols) → AreFound m qs
-      → StandFor s (map (λ (q : Grid). value_handle m (key_of q)) qs) (map can (map (raw r) qs))
-  values_stand [] grids same found = (tt, refl)
-  values_stand (q ∷ qs) grids same found =
-      let st = stands_found q (grids q (inl refl)) (same q (inl refl)) (found.each q (inl refl)) in
-      let rest = values_stand qs (λ k n. grids k (inr n)) (λ k n. same k (inr n)) (record { each = λ k n. found.each k (inr n) }) in (
-        (stands_is_game s (value_handle m (key_of q)) (can (raw r q)) st, rest.0),
-        ap (λ z. z ∷ games_at s (map (λ (q : Grid). value_handle m (key_of q)) qs)) (stands_game s (value_handle m (key_of q))
-            (can (raw r q)) st) ∙ ap (λ z. can (raw r q) ∷ z) rest.1,
-      )
-
-  -- the handles that were looked up for boards
-  pub looked_stand : (hs : List ℕ) (qs ps : List Grid) → hs ≡ map (λ (q : Grid). value_handle m (key_of q)) qs → qs ≡ ps
-      → AreGrids qs → ((q : Grid) → In q ps → q.symbols ≡ symbols) → AreFound m qs
-      → StandFor s hs (map can (map (raw r) ps))
-  looked_stand hs qs ps e f grids same found =
-      let P : List ℕ → Type 0 = λ z. StandFor s z (map can (map (raw r) ps)) in
-      let Q : List Grid → Type 0 = λ z. StandFor s (map (λ (q : Grid). value_handle m (key_of q)) qs) (map can (map (raw r) z)) in
-      subst P (sym e) (subst Q f (values_stand qs grids (λ q k. same q (carry q qs ps f k)) found))
-
-pub left-symbols : (r : GameRules) (lawful : IsLawful r) (p q : Grid) → In q (boards_after r Left p) → q.symbols ≡ p.symbols
-left-symbols r lawful p q k =
-    follower-symbols r lawful p q (in-append_left q (boards_after r Left p) (boards_after r Right p) k)
-
-pub right-symbols : (r : GameRules) (lawful : IsLawful r) (p q : Grid) → In q (boards_after r Right p) → q.symbols ≡ p.symbols
-right-symbols r lawful p q k =
-    follower-symbols r lawful p q (in-append_right q (boards_after r Left p) (boards_after r Right p) k)
+  pub options-fit : opts.lefts ≤ length opts.handles.items
+  options-fit =
+      let l = are.lefts in
+      let n = values-many in
+      let all = stand-length s opts.handles.items (values_of r (followers r p)) are.values in
+      let both = ap length values-both in
+      let sum = length-append (values_of r (boards_after r Left p)) (values_of r (boards_after r Right p)) in
+      omega (arith, l, n, all, both, sum)
 
 -- the value of a board is made of those of its options
 pub value-options : {R : Type 0} (s : State Meant R) (r : GameRules) (lawful : IsLawful r) (p : Grid) (ls rs : List ℕ)

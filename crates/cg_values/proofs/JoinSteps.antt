@@ -1,9 +1,9 @@
--- The pieces of boards joined, one board after another.
-use Rattle.std.proofs.Common.{◌≡◌, refl, ℕ, suc, ◌+◌, ◌≤◌, ◌<◌, arith, ap, sym, ◌∙◌, subst, List, [], ◌∷◌, ◌++◌, append_assoc, drop, get_or, length, map, take, Result, Ok, Err}
-use Rattle.std.specs.Prelude.{IfOk, Vec}
+-- The parts of boards joined, one board after another.
+use Rattle.std.proofs.Common.{◌≡◌, refl, ℕ, zero, suc, ◌+◌, ◌≤◌, ◌<◌, true, arith, ap, sym, ◌∙◌, subst, List, [], ◌∷◌, ◌++◌, append_assoc, drop, get_or, length, map, take, Result, Ok, Err}
+use Rattle.std.specs.Prelude.{IfOk, slice_index}
 use Rattle.std.specs.List.{flat_map}
 use Rattle.std.proofs.lemmas.Grind.{flat_map-append}
-use Rattle.std.proofs.lemmas.List.{append-nil, map-append, take_all}
+use Rattle.std.proofs.lemmas.List.{append-nil, drop_more, length-map, map-append, take_all}
 use Rattle.cg_cells.specs.Store.{State}
 use Rattle.cg_canon.proofs.ItemLaws.{all_pass-none}
 use Rattle.cg_canon.proofs.Keeping.{keeps_all, keeps_then}
@@ -14,160 +14,178 @@ use Rattle.cg_canon.specs.Works.{Keeps}
 use Rattle.cg_canon.specs.declared.fault.ValueFault.{ValueFault}
 use Rattle.cg_canon.specs.declared.rest.WorkRest.{WorkRest}
 use Rattle.cg_form.specs.Game.{Game}
-use Rattle.cg_nodes.proofs.Later.{stand_later, stands_game, stands_is_game}
-use Rattle.cg_nodes.specs.Games.{AreGames, StandFor, StandsFor, game_at, games_at}
+use Rattle.cg_nodes.proofs.Later.{stand_later}
+use Rattle.cg_nodes.specs.Games.{StandFor, StandsFor}
 use Rattle.cg_nodes.specs.Meant.{Meant}
 use Rattle.cg_nodes.specs.Spelled.{can}
-use Rattle.cg_moves.proofs.Places.{split_read, take_next}
+use Rattle.cg_moves.proofs.Bounds.{follower-has}
+use Rattle.cg_moves.proofs.Places.{in_read, split_read, take_next}
 use Rattle.cg_moves.specs.Grid.{Grid}
 use Rattle.cg_moves.specs.Raw.{raw}
-use Rattle.cg_moves.specs.Rules.{GameRules}
-use Rattle.cg_values.specs.Gives.{Gives, GivesAll}
-use Rattle.cg_values.specs.Items.{joining_items}
-
--- ---- handles, put together
-
-are_games-append : {R : Type 0} (s : State Meant R) (hs ks : List ℕ) → AreGames s hs → AreGames s ks
-    → AreGames s (hs ++ ks)
-are_games-append s [] ks a b = b
-are_games-append s (h ∷ hs) ks a b = (a.0, are_games-append s hs ks a.1 b)
-
-games_at-append : {R : Type 0} (s : State Meant R) (hs ks : List ℕ)
-    → games_at s (hs ++ ks) ≡ games_at s hs ++ games_at s ks
-games_at-append s [] ks = refl
-games_at-append s (h ∷ hs) ks = ap (λ z. game_at s h ∷ z) (games_at-append s hs ks)
-
-stand-more : {R : Type 0} (s : State Meant R) (hs : List ℕ) (gs : List Game) (h : ℕ) (g : Game) → StandFor s hs gs
-    → StandsFor s h g → StandFor s (hs ++ (h ∷ [])) (gs ++ (g ∷ []))
-stand-more s hs gs h g a b = (
-  are_games-append s hs (h ∷ []) a.0 (stands_is_game s h g b, tt),
-  games_at-append s hs (h ∷ []) ∙ ap (λ z. z ++ games_at s (h ∷ [])) a.1 ∙ ap (λ z. gs ++ (z ∷ [])) (stands_game s h g b),
-)
+use Rattle.cg_moves.specs.Rules.{GameRules, IsLawful, followers}
+use Rattle.cg_values.specs.Gives.{Gives}
+use Rattle.cg_values.specs.Items.{sum_up, sum_up_items, value_item}
+use Rattle.cg_values.specs.Parts.{HoldAt, handles_at, joins, part_items, parts_of, values_of}
+use Rattle.cg_values.proofs.GiveSteps.{gives_as}
+use Rattle.cg_values.proofs.HandleSteps.{HeldApart, held-apart, hold-later, stand-more}
+use Rattle.cg_values.proofs.PartLemmas.{parts-sum}
 
 -- one board more in a list of lists of items
 pub flat-next : (f : Grid → List Item) (qs : List Grid) (p : Grid) → flat_map f (qs ++ (p ∷ [])) ≡ flat_map f qs ++ f p
 flat-next f qs p = flat_map-append f qs (p ∷ []) ∙ ap (λ z. flat_map f qs ++ z) (append-nil (f p))
 
--- ---- boards whose pieces are joined
+-- one board more in a list of values
+pub values-next : (r : GameRules) (qs : List Grid) (p : Grid) → values_of r (qs ++ (p ∷ [])) ≡ values_of r qs ++ (can (raw r p) ∷ [])
+values-next r qs p = ap (map can) (map-append (raw r) qs (p ∷ [])) ∙ map-append can (map (raw r) qs) (raw r p ∷ [])
 
--- those so far have these handles, with their items made
-pub record JoinedTo {R : Type 0} (s t : State Meant (WorkRest R)) (r : GameRules) (qs : List Grid) (hs : List ℕ) : Type 0 where
-  pub games : StandFor t hs (map can (map (raw r) qs))
-  pub passed : AllPass s.rest.share s.rest.spent (flat_map (joining_items s.rest.limit r) qs) t.rest.spent
+-- handles of a board's parts, added up, give the board's value
+pub parts_give : {R : Type 0} (t u : State Meant (WorkRest R)) (r : GameRules) (lawful : IsLawful r) (p : Grid)
+    → r.has p ≡ true → (handles places : List ℕ) → HoldAt t r handles places (parts_of r p) → (result : Result ℕ ValueFault)
+    → ((gs : List Game) → StandFor t (handles_at handles places) (map can gs)
+    → Gives t u (sum_up_items t.rest.limit gs) (sum_up gs) result)
+    → Gives t u (joins t.rest.limit r p) (raw r p) result
+parts_give t u r lawful p has handles places own result sums =
+    let gs = map (raw r) (parts_of r p) in
+    gives_as t u (joins t.rest.limit r p) (joins t.rest.limit r p) (sum_up gs) (raw r p) result refl (parts-sum r lawful p has)
+    (sums gs own.values)
+
+-- the board of the list at this place, which has so many parts
+pub record Counted (parts : Grid → List Grid) (qs : List Grid) (i count : ℕ) : Type 0 where
+  pub board : Grid
+  pub within : i < length qs
+  pub read : board ≡ get_or qs i board
+  pub many : count ≡ length (parts board)
+
+counted-at : (parts : Grid → List Grid) (qs : List Grid) (i : ℕ) → i < length qs
+    → Counted parts qs i (slice_index (map (λ q. length (parts q)) qs) i)
+counted-at parts [] i l = absurd (omega arith)
+counted-at parts (q ∷ qs) zero l = record { board = q; within = l; read = refl; many = refl }
+counted-at parts (q ∷ qs) (suc i) l =
+    let rest = counted-at parts qs i (omega arith) in record {
+      board = rest.board;
+      within = l;
+      read = rest.read;
+      many = rest.many;
+    }
+
+-- so many of the boards that moves lead to have these handles, with their items made, and the places that are left hold the
+-- parts of the others
+pub record Joining {R : Type 0} (s t : State Meant (WorkRest R)) (r : GameRules) (p : Grid) (handles : List ℕ) (i : ℕ)
+    (left options : List ℕ) : Type 0 where
+  pub values : StandFor t options (values_of r (take i (followers r p)))
+  pub passed : AllPass s.rest.share s.rest.spent (flat_map (joins s.rest.limit r) (take i (followers r p))) t.rest.spent
   pub keeps : Keeps s t
   pub more : s.spare ≤ t.spare
+  pub others : HoldAt t r handles left (flat_map (parts_of r) (drop i (followers r p)))
 
-module _ {R : Type 0} (s : State Meant (WorkRest R)) (r : GameRules) where
-  abbrev pub joins : List Grid → List Item
-  joins qs = flat_map (joining_items s.rest.limit r) qs
+module _ {R : Type 0} (s : State Meant (WorkRest R)) (r : GameRules) (lawful : IsLawful r) (p : Grid) (has : r.has p ≡ true)
+    (handles counts : List ℕ) (are : counts ≡ map (λ q. length (parts_of r q)) (followers r p)) where
+  abbrev joins_of : List Grid → List Item
+  joins_of qs = flat_map (joins s.rest.limit r) qs
 
-  abbrev pub forms : List Grid → List Game
-  forms qs = map can (map (raw r) qs)
-
-  pub joined_none : (hs : List ℕ) → hs ≡ [] → JoinedTo s s r [] hs
-  joined_none hs e =
+  pub joining_none : (places options : List ℕ) → HoldAt s r handles places (flat_map (parts_of r) (followers r p)) → options ≡ []
+      → Joining s s r p handles 0 places options
+  joining_none places options all e =
       let P : List ℕ → Type 0 = λ z. StandFor s z [] in record {
-        games = subst P (sym e) (tt, refl);
+        values = subst P (sym e) (tt, refl);
         passed = all_pass-none s.rest.share s.rest.spent;
         keeps = keeps_all s;
         more = omega arith;
+        others = all;
       }
 
-  module _ (t : State Meant (WorkRest R)) (ps : List Grid) (i : ℕ) (p : Grid) (within : i < length ps)
-      (read : p ≡ get_or ps i p) (hs : List ℕ) (so_far : JoinedTo s t r (take i ps) hs) (u : State Meant (WorkRest R))
-      (q : Result ℕ ValueFault) (next : Gives t u (joining_items t.rest.limit r p) (raw r p) q) where
-    items_made : ItemsMade s u (joins (take i ps) ++ joining_items s.rest.limit r p) q
-    items_made =
-        made_then s t u (joins (take i ps)) (joining_items s.rest.limit r p) q so_far.passed so_far.keeps
-        (made_as t u (joining_items t.rest.limit r p) (joining_items s.rest.limit r p) q
-        (ap (λ n. joining_items n r p) so_far.keeps.limit) next.made)
+  counts-many : length counts ≡ length (followers r p)
+  counts-many = ap length are ∙ length-map (followers r p) (λ q. length (parts_of r q))
 
-    forms-next : forms (take i ps ++ (p ∷ [])) ≡ forms (take i ps) ++ (can (raw r p) ∷ [])
-    forms-next = ap (map can) (map-append (raw r) (take i ps) (p ∷ [])) ∙ map-append can (map (raw r) (take i ps)) (raw r p ∷ [])
+  module _ (i count : ℕ) (within : i < length counts) (read : count ≡ slice_index counts i) where
+    pub counted : Counted (parts_of r) (followers r p) i count
+    counted =
+        let n = counts-many in
+        let P : ℕ → Type 0 = λ z. Counted (parts_of r) (followers r p) i z in
+        subst P (sym (read ∙ ap (λ z. slice_index z i) are)) (counted-at (parts_of r) (followers r p) i (omega (arith, within, n)))
 
-    pub joined_more : (h : ℕ) (ks : List ℕ) → q ≡ Ok h → ks ≡ hs ++ (h ∷ []) → JoinedTo s u r (take (i + 1) ps) ks
-    joined_more h ks ok e =
-        let P : List ℕ → Type 0 = λ z. StandFor u z (forms (take i ps ++ (p ∷ []))) in
-        let Q : List Game → Type 0 = λ z. StandFor u (hs ++ (h ∷ [])) z in
-        let G : Result ℕ ValueFault → Type 0 = λ z. IfOk z (λ k. StandsFor u k (can (raw r p))) in
-        let L : List Item → Type 0 = λ z. AllPass s.rest.share s.rest.spent z u.rest.spent in
-        let T : List Grid → Type 0 = λ z. JoinedTo s u r z ks in
-        let a = so_far.more in
-        let b = next.more in
-        subst T (sym (take_next ps i p within read)) (record {
-          games = subst P (sym e) (subst Q (sym forms-next) (stand-more u hs (forms (take i ps)) h (can (raw r p))
-              (stand_later t u next.made.keeps.known hs (forms (take i ps)) so_far.games) (subst G ok next.game)));
-          passed = subst L (sym (flat-next (joining_items s.rest.limit r) (take i ps) p))
-              (passed s u (joins (take i ps) ++ joining_items s.rest.limit r p) q h ok items_made);
-          keeps = keeps_then s t u so_far.keeps next.made.keeps;
-          more = omega (arith, a, b);
-        })
+    abbrev pub q : Grid
+    q = counted.board
 
-    all_joins : (joins (take i ps) ++ joining_items s.rest.limit r p) ++ joins (drop (suc i) ps) ≡ joins ps
-    all_joins =
-        append_assoc (joins (take i ps)) (joining_items s.rest.limit r p) (joins (drop (suc i) ps))
-        ∙ sym (flat_map-append (joining_items s.rest.limit r) (take i ps) (p ∷ drop (suc i) ps))
-        ∙ ap joins (sym (split_read ps i p within read))
+    next-has : r.has q ≡ true
+    next-has = follower-has r lawful p q has (in_read (followers r p) i q counted.within counted.read)
 
-    pub joined_stopped : {A : Type 0} (result : Result (Vec ℕ A) ValueFault) (e : ValueFault) (gs : List Game) → q ≡ Err e
-        → result ≡ Err e → GivesAll s u (joins ps) gs result
-    joined_stopped {A} result e gs a b =
-        let P : Result (Vec ℕ A) ValueFault → Type 0 = λ z. IfOk z (λ ks. StandFor u ks.items gs) in
-        let x = so_far.more in
-        let y = next.more in record {
-          games = subst P (sym b) tt;
-          made = made_as s u ((joins (take i ps) ++ joining_items s.rest.limit r p) ++ joins (drop (suc i) ps)) (joins ps) result
-              all_joins (stopped s u (joins (take i ps) ++ joining_items s.rest.limit r p) (joins (drop (suc i) ps)) q result e a b
-              items_made);
-          more = omega (arith, x, y);
-        }
+    left-split : drop i (followers r p) ≡ q ∷ drop (i + 1) (followers r p)
+    left-split = drop_more (followers r p) i q counted.within ∙ ap (λ z. z ∷ drop (i + 1) (followers r p)) (sym counted.read)
 
-  pub joined_done : {A : Type 0} (t : State Meant (WorkRest R)) (ps : List Grid) (i : ℕ) (v : Vec ℕ A) → length ps ≤ i
-      → JoinedTo s t r (take i ps) v.items → GivesAll s t (joins ps) (forms ps) (Ok v)
-  joined_done {A} t ps i v end j =
-      let P : List Grid → Type 0 = λ z. JoinedTo s t r z v.items in
-      let k = subst P (take_all i ps end) j in record {
-        games = k.games;
-        made = record { charged = k.passed; refused = tt; keeps = k.keeps };
-        more = k.more;
-      }
+    module _ (t : State Meant (WorkRest R)) (left options : List ℕ) (so_far : Joining s t r p handles i left options) where
+      -- the places of the board's own parts, and those of the others
+      pub parts_apart : HeldApart t r handles left (parts_of r q) (flat_map (parts_of r) (drop (i + 1) (followers r p))) count
+      parts_apart =
+          let P : List Grid → Type 0 = λ z. HoldAt t r handles left (flat_map (parts_of r) z) in
+          held-apart t r handles left (parts_of r q) (flat_map (parts_of r) (drop (i + 1) (followers r p))) count counted.many
+          (subst P left-split so_far.others)
 
--- ---- two lists of boards, one after the other
+      module _ (own : List ℕ) (is_own : own ≡ take count left) (u : State Meant (WorkRest R)) (result : Result ℕ ValueFault)
+          (sums : (gs : List Game) → StandFor t (handles_at handles own) (map can gs)
+          → Gives t u (sum_up_items t.rest.limit gs) (sum_up gs) result) where
+        pub own_gives : Gives t u (joins t.rest.limit r q) (raw r q) result
+        own_gives =
+            let P : List ℕ → Type 0 = λ z. HoldAt t r handles z (parts_of r q) in
+            parts_give t u r lawful q next-has handles own (subst P (sym is_own) parts_apart.own) result sums
 
-module _ {R X : Type 0} (s t : State Meant (WorkRest R)) (r : GameRules) (ls rs : List Grid) (q : Result X ValueFault)
-    (first : ItemsMade s t (flat_map (joining_items s.rest.limit r) ls) q) where
-  both : flat_map (joining_items s.rest.limit r) ls ++ flat_map (joining_items s.rest.limit r) rs
-      ≡ flat_map (joining_items s.rest.limit r) (ls ++ rs)
-  both = sym (flat_map-append (joining_items s.rest.limit r) ls rs)
+        both_made : ItemsMade s u (joins_of (take i (followers r p)) ++ joins s.rest.limit r q) result
+        both_made =
+            made_then s t u (joins_of (take i (followers r p))) (joins s.rest.limit r q) result so_far.passed so_far.keeps
+            (made_as t u (joins t.rest.limit r q) (joins s.rest.limit r q) result
+            (ap (λ n. joins n r q) so_far.keeps.limit) own_gives.made)
 
-  pub first_stopped : {Z : Type 0} (v : Result Z ValueFault) (e : ValueFault) → q ≡ Err e → v ≡ Err e
-      → ItemsMade s t (flat_map (joining_items s.rest.limit r) (ls ++ rs)) v
-  first_stopped {Z} v e a b =
-      made_as s t (flat_map (joining_items s.rest.limit r) ls ++ flat_map (joining_items s.rest.limit r) rs)
-      (flat_map (joining_items s.rest.limit r) (ls ++ rs)) v both
-      (stopped s t (flat_map (joining_items s.rest.limit r) ls) (flat_map (joining_items s.rest.limit r) rs) q v e a b first)
+        pub joining_more : (h : ℕ) (ks others : List ℕ) → result ≡ Ok h → ks ≡ options ++ (h ∷ []) → others ≡ drop count left
+            → Joining s u r p handles (i + 1) others ks
+        joining_more h ks others ok e f =
+            let front = take i (followers r p) in
+            let P : List ℕ → Type 0 = λ z. StandFor u z (values_of r (take (i + 1) (followers r p))) in
+            let V : List Game → Type 0 = λ z. StandFor u (options ++ (h ∷ [])) z in
+            let G : Result ℕ ValueFault → Type 0 = λ z. IfOk z (λ k. StandsFor u k (can (raw r q))) in
+            let L : List Item → Type 0 = λ z. AllPass s.rest.share s.rest.spent z u.rest.spent in
+            let H : List ℕ → Type 0 = λ z. HoldAt u r handles z (flat_map (parts_of r) (drop (i + 1) (followers r p))) in
+            let next = take_next (followers r p) i q counted.within counted.read in
+            let a = so_far.more in
+            let b = own_gives.more in record {
+              values = subst P (sym e) (subst V (sym (ap (values_of r) next ∙ values-next r front q))
+                  (stand-more u options (values_of r front) h (can (raw r q))
+                  (stand_later t u own_gives.made.keeps.known options (values_of r front) so_far.values) (subst G ok own_gives.game)));
+              passed = subst L (sym (ap joins_of next ∙ flat-next (joins s.rest.limit r) front q))
+                  (passed s u (joins_of front ++ joins s.rest.limit r q) result h ok both_made);
+              keeps = keeps_then s t u so_far.keeps own_gives.made.keeps;
+              more = omega (arith, a, b);
+              others = subst H (sym f) (hold-later t u r handles (drop count left)
+                  (flat_map (parts_of r) (drop (i + 1) (followers r p))) own_gives.made.keeps.known parts_apart.others);
+            }
 
-  module _ {Y : Type 0} (u : State Meant (WorkRest R)) (x : X) (ok : q ≡ Ok x) (p : Result Y ValueFault)
-      (second : ItemsMade t u (flat_map (joining_items t.rest.limit r) rs) p) where
-    both_items : ItemsMade s u (flat_map (joining_items s.rest.limit r) (ls ++ rs)) p
-    both_items =
-        made_as s u (flat_map (joining_items s.rest.limit r) ls ++ flat_map (joining_items s.rest.limit r) rs)
-        (flat_map (joining_items s.rest.limit r) (ls ++ rs)) p both
-        (made_then s t u (flat_map (joining_items s.rest.limit r) ls) (flat_map (joining_items s.rest.limit r) rs) p
-        (passed s t (flat_map (joining_items s.rest.limit r) ls) q x ok first) first.keeps
-        (made_as t u (flat_map (joining_items t.rest.limit r) rs) (flat_map (joining_items s.rest.limit r) rs) p
-        (ap (λ n. flat_map (joining_items n r) rs) first.keeps.limit) second))
+        all_joins : (joins_of (take i (followers r p)) ++ joins s.rest.limit r q) ++ joins_of (drop (suc i) (followers r p))
+            ≡ joins_of (followers r p)
+        all_joins =
+            append_assoc (joins_of (take i (followers r p))) (joins s.rest.limit r q) (joins_of (drop (suc i) (followers r p)))
+            ∙ sym (flat_map-append (joins s.rest.limit r) (take i (followers r p)) (q ∷ drop (suc i) (followers r p)))
+            ∙ ap joins_of (sym (split_read (followers r p) i q counted.within counted.read))
 
-    pub both_made : {Z : Type 0} (y : Y) (z : Z) → p ≡ Ok y
-        → ItemsMade s u (flat_map (joining_items s.rest.limit r) (ls ++ rs)) (Ok z)
-    both_made {Z} y z fine = record {
-      charged = passed s u (flat_map (joining_items s.rest.limit r) (ls ++ rs)) p y fine both_items;
-      refused = tt;
-      keeps = both_items.keeps;
-    }
+        pub joining_stopped : {X : Type 0} (v : Result X ValueFault) (e : ValueFault) → result ≡ Err e → v ≡ Err e
+            → ItemsMade s u (part_items s.rest.limit r p) v
+        joining_stopped {X} v e a b =
+            let front = joins_of (take i (followers r p)) ++ joins s.rest.limit r q in
+            let back = joins_of (drop (suc i) (followers r p)) in
+            made_as s u ((front ++ back) ++ (value_item r p ∷ [])) (part_items s.rest.limit r p) v
+            (ap (λ z. z ++ (value_item r p ∷ [])) all_joins)
+            (made_as s u (front ++ (back ++ (value_item r p ∷ []))) ((front ++ back) ++ (value_item r p ∷ [])) v
+            (sym (append_assoc front back (value_item r p ∷ [])))
+            (stopped s u front (back ++ (value_item r p ∷ [])) result v e a b both_made))
 
-    pub second_stopped : {Z : Type 0} (v : Result Z ValueFault) (e : ValueFault) → p ≡ Err e → v ≡ Err e
-        → ItemsMade s u (flat_map (joining_items s.rest.limit r) (ls ++ rs)) v
-    second_stopped {Z} v e a b =
-        let all : List Item = flat_map (joining_items s.rest.limit r) (ls ++ rs) in
-        made_as s u (all ++ []) all v (append-nil all) (stopped s u all [] p v e a b both_items)
+  module _ (t : State Meant (WorkRest R)) (i : ℕ) (end : length counts ≤ i) (left options : List ℕ)
+      (done : Joining s t r p handles i left options) where
+    all-taken : take i (followers r p) ≡ followers r p
+    all-taken = let n = counts-many in take_all i (followers r p) (omega (arith, n, end))
+
+    pub joining_values : StandFor t options (values_of r (followers r p))
+    joining_values = let P : List Grid → Type 0 = λ z. StandFor t options (values_of r z) in subst P all-taken done.values
+
+    pub joining_made : {X : Type 0} (u : State Meant (WorkRest R)) (v : Result X ValueFault)
+        → ItemsMade t u (value_item r p ∷ []) v → ItemsMade s u (part_items s.rest.limit r p) v
+    joining_made {X} u v item =
+        let L : List Grid → Type 0 = λ z. AllPass s.rest.share s.rest.spent (joins_of z) t.rest.spent in
+        made_then s t u (joins_of (followers r p)) (value_item r p ∷ []) v (subst L all-taken done.passed) done.keeps item

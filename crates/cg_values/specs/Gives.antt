@@ -1,8 +1,8 @@
 -- What a call that makes the items of a game has done.
-use Rattle.std.specs.Prelude.{ℕ, ◌≤◌, List, Result, IfOk, Vec}
+use Rattle.std.specs.Prelude.{ℕ, ◌≤◌, List, Result, IfOk}
 use Rattle.cg_form.specs.Game.{Game}
 use Rattle.cg_cells.specs.Store.{State}
-use Rattle.cg_nodes.specs.Games.{StandFor, StandsFor}
+use Rattle.cg_nodes.specs.Games.{StandsFor}
 use Rattle.cg_nodes.specs.Meant.{Meant}
 use Rattle.cg_nodes.specs.Spelled.{can}
 use Rattle.cg_canon.specs.declared.fault.ValueFault.{ValueFault}
@@ -14,12 +14,5 @@ use Rattle.cg_canon.specs.Made.{ItemsMade}
 pub record Gives {R : Type 0} (s t : State Meant (WorkRest R)) (items : List Item) (g : Game) (result : Result ℕ ValueFault)
     : Type 0 where
   pub game : IfOk result (λ h. StandsFor t h (can g))
-  pub made : ItemsMade s t items result
-  pub more : s.spare ≤ t.spare
-
--- the same for several games, in order
-pub record GivesAll {R A : Type 0} (s t : State Meant (WorkRest R)) (items : List Item) (gs : List Game)
-    (result : Result (Vec ℕ A) ValueFault) : Type 0 where
-  pub games : IfOk result (λ hs. StandFor t hs.items gs)
   pub made : ItemsMade s t items result
   pub more : s.spare ≤ t.spare

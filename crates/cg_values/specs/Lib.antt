@@ -3,7 +3,7 @@ pub mod Items
 pub mod Notes
 pub mod Forms
 -- what private contracts cite, and what proofs need here
-pub mod Values
+pub mod Parts
 pub mod Options
 pub mod Gives
 pub mod Chunks

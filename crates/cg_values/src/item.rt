@@ -38,7 +38,8 @@ fn made_item<B: BoardForms, S: CellStore<GameFacts<B>>, R: Rules>(
     ensures spare { OnOk result ((work_state S.state work.old).spare + 8 ≤ (work_state S.state work.new).spare) }
     ensures more { (work_state S.state work.old).spare ≤ (work_state S.state work.new).spare }
 {
-    canonical(alloc, work, &options.lefts, &options.rights, 8)
+    let (lefts, rights) = options.handles.split_at(options.lefts);
+    canonical(alloc, work, lefts, rights, 8)
 }
 
 /// Makes the item of the value of the board, which is noted on the cell.

@@ -4,14 +4,13 @@
 mod adder;
 mod cells;
 mod contents;
-mod cut;
 mod forms;
 mod item;
 mod joining;
 mod options;
+mod parts;
 mod reached;
 mod values;
-mod whole;
 
 pub use adder::Adder;
 pub use forms::{CgBoards, may_note};

@@ -5,17 +5,38 @@ ghost use Rattle.cg_canon.specs.Works.{Keeps, work_state};
 ghost use Rattle.cg_nodes.specs.Games.{StandsFor};
 ghost use Rattle.cg_nodes.specs.Spelled.{can};
 ghost use Rattle.cg_moves.specs.Raw.{raw};
+ghost use Rattle.cg_values.specs.Gives.{Gives};
 ghost use Rattle.cg_values.specs.Items.{board_items};
 ghost use Rattle.cg_values.specs.Notes.{MayNote};
 
 use crate::Adder;
-use crate::cut::cut_value;
-use crate::whole::whole_value;
+use crate::joining::joined;
+use crate::parts::parts_within;
+use crate::values::part_values;
 use cg_canon::{ValueFault, Work};
 use cg_cells::CellStore;
-use cg_moves::{Board, Pieces, Rules};
+use cg_moves::{Board, Rules};
 use cg_nodes::{BoardForms, GameFacts, Handle};
 use std::alloc::Global;
+
+/// Makes the items of the board: those of the parts that play can come to, and those of joining its own parts.
+fn board_value<B: BoardForms, S: CellStore<GameFacts<B>>, R: Rules, A: Adder>(
+    alloc: Global,
+    work: &mut Work<B, S>,
+    rules: &R,
+    adder: &A,
+    start: &Board,
+) -> Result<Handle, ValueFault>
+    requires has { (R.game rules.now).has start.now ≡ true }
+    requires notes { MayNote B.form (R.game rules.now) }
+    ensures { Gives (work_state S.state work.old) (work_state S.state work.new)
+        (board_items work.old.limit (R.game rules.now) start.now) (raw (R.game rules.now) start.now) result }
+{
+    let limit = work.limit();
+    let opened = parts_within(alloc, rules, start, limit)?;
+    let handles = part_values(alloc, work, rules, adder, &opened)?;
+    joined(alloc, work, adder, &handles, &opened.starts)
+}
 
 /// The handle of the canonical form of the tree of all moves from the start, which must be a board of the game.
 ///
@@ -46,9 +67,5 @@ pub fn value_of<B: BoardForms, S: CellStore<GameFacts<B>>, R: Rules, A: Adder>(
     ensures spare { (work_state S.state work.old).spare ≤ (work_state S.state work.new).spare }
     ensures keeps { Keeps (work_state S.state work.old) (work_state S.state work.new) }
 {
-    let pieces = rules.pieces(alloc, start)?;
-    match pieces {
-        Pieces::Whole => whole_value(alloc, work, rules, start),
-        Pieces::Cut(_own) => cut_value(alloc, work, rules, adder, start),
-    }
+    board_value(alloc, work, rules, adder, start)
 }

@@ -1,66 +1,89 @@
-//! The values of boards that were found so far.
-ghost use Rattle.std.specs.Prelude.{◌≡◌, IfOk, None, Some, Option, map, if◌then◌else◌};
-ghost use Rattle.cg_moves.specs.Grid.{Grid, IsGrid};
-ghost use Rattle.cg_moves.specs.Seen.{AreGrids, key_eq, key_of};
-ghost use Rattle.cg_moves.specs.declared.key.BoardKey.{BoardKey};
-ghost use Rattle.cg_values.specs.Values.{AreFound, value_found, value_handle};
+//! The values of the parts that play can come to, one after another.
+ghost use Rattle.std.specs.Prelude.{◌≡◌, ◌≤◌, [], true, All, IfOk, length, map};
+ghost use Rattle.std.specs.List.{flat_map};
+ghost use Rattle.cg_canon.specs.Made.{ItemsMade};
+ghost use Rattle.cg_canon.specs.Works.{work_state};
+ghost use Rattle.cg_nodes.specs.Games.{StandFor, StandsFor};
+ghost use Rattle.cg_nodes.specs.Spelled.{can};
+ghost use Rattle.cg_moves.specs.declared.player.Player.TheVariants.{Left};
+ghost use Rattle.cg_moves.specs.Opened.{AreNext};
+ghost use Rattle.cg_moves.specs.Raw.{raw};
+ghost use Rattle.cg_moves.specs.Rules.{boards_after, followers};
+ghost use Rattle.cg_values.specs.Notes.{MayNote};
+ghost use Rattle.cg_values.specs.Parts.{HoldAt, part_items, parts_of, values_of};
 
-use cg_moves::{Board, BoardKey};
-use cg_nodes::Handle;
-use std::alloc::{AllocError, Global};
-use std::collections::HashMap;
+use crate::Adder;
+use crate::item::board_item;
+use crate::joining::joined;
+use crate::options::Options;
+use cg_canon::{ValueFault, Work};
+use cg_cells::CellStore;
+use cg_moves::{Board, NextPlaces, Opened, Rules};
+use cg_nodes::{BoardForms, GameFacts, Handle};
+use std::alloc::Global;
 
-/// Handles of values of boards with the same symbols, by the boards' keys.
-#[derive(Drop)]
-pub(crate) struct Values {
-    handles: HashMap<BoardKey, Handle>,
-}
-
-impl Values {
-    /// None.
-    pub(crate) fn new(alloc: Global) -> Values
-        ensures { (key : BoardKey) → value_found result key ≡ None }
-    {
-        Values {
-            handles: HashMap::new(alloc),
-        }
-    }
-
-    /// The value of the board, if it was found.
-    pub(crate) fn get(&self, board: &Board) -> Option<Handle>
-        ensures value { result ≡ value_found self.now (key_of board.now) }
-        ensures grid { IsGrid board.now }
-    {
-        self.handles.get(&board.key()).copied()
-    }
-
-    /// Keeps the value of the board.
-    pub(crate) fn keep(&mut self, board: &Board, value: Handle) -> Result<(), AllocError>
-        ensures found { IfOk result (λ _. (key : BoardKey) → value_found self.new key
-            ≡ (if key_eq (key_of board.now) key then Some value else value_found self.old key)) }
-        ensures grid { IsGrid board.now }
-    {
-        self.handles.insert(board.key(), value)?;
-        Ok(())
-    }
-}
-
-/// The handles of the values of the boards, all of which must have been found.
-pub(crate) fn values_of(
+/// Makes the items of the part, from the handles of the values of those before it.
+fn part_value<B: BoardForms, S: CellStore<GameFacts<B>>, R: Rules, A: Adder>(
     alloc: Global,
-    values: &Values,
-    boards: &[Board],
-) -> Result<Vec<Handle>, AllocError>
-    requires { AreFound values.now boards.now }
-    ensures handles { IfOk result (λ all. all.items ≡ map (λ (p : Grid). value_handle values.now (key_of p)) boards.now) }
-    ensures grids { IfOk result (λ _. AreGrids boards.now) }
+    work: &mut Work<B, S>,
+    rules: &R,
+    adder: &A,
+    board: &Board,
+    next: &NextPlaces,
+    handles: &[Handle],
+    start: u64,
+) -> Result<Handle, ValueFault>
+    requires has { (R.game rules.now).has board.now ≡ true }
+    requires notes { MayNote B.form (R.game rules.now) }
+    requires lefts { next.now.lefts ≡ length (boards_after (R.game rules.now) Left board.now) }
+    requires counts { next.now.counts.items
+        ≡ map (λ q. length (parts_of (R.game rules.now) q)) (followers (R.game rules.now) board.now) }
+    requires values { HoldAt (work_state S.state work.old) (R.game rules.now) handles.now next.now.places.items
+        (flat_map (parts_of (R.game rules.now)) (followers (R.game rules.now) board.now)) }
+    requires spare { start ≤ (work_state S.state work.old).spare }
+    ensures game { IfOk result (λ h. StandsFor (work_state S.state work.new) h (can (raw (R.game rules.now) board.now))) }
+    ensures made { ItemsMade (work_state S.state work.old) (work_state S.state work.new)
+        (part_items work.old.limit (R.game rules.now) board.now) result }
+    ensures spare { start ≤ (work_state S.state work.new).spare }
 {
-    let mut all = Vec::new(alloc);
-    for board in boards {
-        let Some(value) = values.get(board) else {
-            unreachable!()
-        };
-        all.push(value)?;
+    let mut places: &[usize] = &next.places;
+    let mut options = Vec::new(alloc);
+    for count in &next.counts {
+        let (own, others) = places.split_at(*count);
+        let option = joined(alloc, work, adder, handles, own)?;
+        options.push(option)?;
+        places = others;
     }
-    Ok(all)
+    let options = Options {
+        lefts: next.lefts,
+        handles: options,
+    };
+    board_item(alloc, work, rules, board, &options, start)
+}
+
+/// Makes the items of the parts, in order, and gives the handles of their values.
+pub(crate) fn part_values<B: BoardForms, S: CellStore<GameFacts<B>>, R: Rules, A: Adder>(
+    alloc: Global,
+    work: &mut Work<B, S>,
+    rules: &R,
+    adder: &A,
+    opened: &Opened,
+) -> Result<Vec<Handle>, ValueFault>
+    requires has { All (λ p. (R.game rules.now).has p ≡ true) opened.now.boards }
+    requires notes { MayNote B.form (R.game rules.now) }
+    requires next { AreNext (R.game rules.now) (parts_of (R.game rules.now)) [] opened.now.boards opened.now.next.items }
+    ensures values { IfOk result (λ handles. StandFor (work_state S.state work.new) handles.items
+        (values_of (R.game rules.now) opened.now.boards)) }
+    ensures made { ItemsMade (work_state S.state work.old) (work_state S.state work.new)
+        (flat_map (part_items work.old.limit (R.game rules.now)) opened.now.boards) result }
+    ensures more { (work_state S.state work.old).spare ≤ (work_state S.state work.new).spare }
+{
+    let spare = work.spare();
+    let mut handles = Vec::new(alloc);
+    for (place, board) in opened.boards.as_slice().iter().enumerate() {
+        let next = &opened.next[place];
+        let value = part_value(alloc, work, rules, adder, board, next, &handles, spare)?;
+        handles.push(value)?;
+    }
+    Ok(handles)
 }
