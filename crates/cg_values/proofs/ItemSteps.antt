@@ -1,7 +1,7 @@
 -- Values of boards, found one after another.
 use Rattle.std.proofs.Common.{◌≡◌, refl, ℕ, ◌*◌, ◌≤◌, ◌==◌, Bool, true, false, if◌then◌else◌, List, [], ◌∷◌, ◌++◌, drop, length, map, take, ap, sym, ◌∙◌, subst, arith}
 use Rattle.std.specs.Prelude.{codes}
-use Rattle.std.proofs.lemmas.List.{length-append, length-map, map-append}
+use Rattle.std.proofs.lemmas.List.{length-map, map-append}
 use Rattle.cg_cells.specs.Meaning.{Grows}
 use Rattle.cg_cells.specs.Store.{State, thing_at}
 use Rattle.cg_form.specs.Game.{Game, node}
@@ -21,7 +21,7 @@ use Rattle.cg_values.specs.Notes.{places, symbol_row}
 use Rattle.cg_values.specs.Options.{AreOptions}
 use Rattle.cg_values.specs.Parts.{values_of}
 use Rattle.cg_values.specs.declared.options.Options.{Options}
-use Rattle.cg_values.proofs.HandleSteps.{stand-length, stand-split}
+use Rattle.cg_values.proofs.HandleSteps.{stand-split}
 use Rattle.cg_values.proofs.PlaceLemmas.{places-below}
 
 pub options_later : {R Q : Type 0} (s : State Meant R) (t : State Meant Q) (r : GameRules) (p : Grid) (opts : Options)
@@ -55,15 +55,6 @@ module _ {R : Type 0} (s : State Meant R) (r : GameRules) (p : Grid) (opts : Opt
       let both = stand-split s hs lefts rights opts.lefts (are.lefts ∙ sym values-many)
       (subst H (sym is) (subst V values-both are.values)) in
       (subst L (sym first) both.0, subst K (sym others) both.1)
-
-  pub options-fit : opts.lefts ≤ length opts.handles.items
-  options-fit =
-      let l = are.lefts in
-      let n = values-many in
-      let all = stand-length s opts.handles.items (values_of r (followers r p)) are.values in
-      let both = ap length values-both in
-      let sum = length-append (values_of r (boards_after r Left p)) (values_of r (boards_after r Right p)) in
-      omega (arith, l, n, all, both, sum)
 
 -- the value of a board is made of those of its options
 pub value-options : {R : Type 0} (s : State Meant R) (r : GameRules) (lawful : IsLawful r) (p : Grid) (ls rs : List ℕ)

@@ -5,8 +5,7 @@ use Rattle.std.specs.List.{flat_map}
 use Rattle.std.proofs.lemmas.Grind.{flat_map-append}
 use Rattle.std.proofs.lemmas.List.{append-nil, drop_more, length-map, map-append, take_all}
 use Rattle.cg_cells.specs.Store.{State}
-use Rattle.cg_canon.proofs.ItemLaws.{all_pass-none}
-use Rattle.cg_canon.proofs.Keeping.{keeps_all, keeps_then}
+use Rattle.cg_canon.proofs.Keeping.{keeps_then}
 use Rattle.cg_canon.proofs.MadeSteps.{made_as, made_then, passed, stopped}
 use Rattle.cg_canon.specs.Items.{AllPass, Item}
 use Rattle.cg_canon.specs.Made.{ItemsMade}
@@ -83,17 +82,6 @@ module _ {R : Type 0} (s : State Meant (WorkRest R)) (r : GameRules) (lawful : I
   abbrev joins_of : List Grid → List Item
   joins_of qs = flat_map (joins s.rest.limit r) qs
 
-  pub joining_none : (places options : List ℕ) → HoldAt s r handles places (flat_map (parts_of r) (followers r p)) → options ≡ []
-      → Joining s s r p handles 0 places options
-  joining_none places options all e =
-      let P : List ℕ → Type 0 = λ z. StandFor s z [] in record {
-        values = subst P (sym e) (tt, refl);
-        passed = all_pass-none s.rest.share s.rest.spent;
-        keeps = keeps_all s;
-        more = omega arith;
-        others = all;
-      }
-
   counts-many : length counts ≡ length (followers r p)
   counts-many = ap length are ∙ length-map (followers r p) (λ q. length (parts_of r q))
 
@@ -121,60 +109,62 @@ module _ {R : Type 0} (s : State Meant (WorkRest R)) (r : GameRules) (lawful : I
           held-apart t r handles left (parts_of r q) (flat_map (parts_of r) (drop (i + 1) (followers r p))) count counted.many
           (subst P left-split so_far.others)
 
-      module _ (own : List ℕ) (is_own : own ≡ take count left) (u : State Meant (WorkRest R)) (result : Result ℕ ValueFault)
-          (sums : (gs : List Game) → StandFor t (handles_at handles own) (map can gs)
-          → Gives t u (sum_up_items t.rest.limit gs) (sum_up gs) result) where
-        pub own_gives : Gives t u (joins t.rest.limit r q) (raw r q) result
-        own_gives =
-            let P : List ℕ → Type 0 = λ z. HoldAt t r handles z (parts_of r q) in
-            parts_give t u r lawful q next-has handles own (subst P (sym is_own) parts_apart.own) result sums
+      module _ (own : List ℕ) (is_own : own ≡ take count left) where
+        pub own_held : HoldAt t r handles own (parts_of r q)
+        own_held = let P : List ℕ → Type 0 = λ z. HoldAt t r handles z (parts_of r q) in subst P (sym is_own) parts_apart.own
 
-        both_made : ItemsMade s u (joins_of (take i (followers r p)) ++ joins s.rest.limit r q) result
-        both_made =
-            made_then s t u (joins_of (take i (followers r p))) (joins s.rest.limit r q) result so_far.passed so_far.keeps
-            (made_as t u (joins t.rest.limit r q) (joins s.rest.limit r q) result
-            (ap (λ n. joins n r q) so_far.keeps.limit) own_gives.made)
+        module _ (u : State Meant (WorkRest R)) (result : Result ℕ ValueFault)
+            (sums : (gs : List Game) → StandFor t (handles_at handles own) (map can gs)
+            → Gives t u (sum_up_items t.rest.limit gs) (sum_up gs) result) where
+          pub own_gives : Gives t u (joins t.rest.limit r q) (raw r q) result
+          own_gives = parts_give t u r lawful q next-has handles own own_held result sums
 
-        pub joining_more : (h : ℕ) (ks others : List ℕ) → result ≡ Ok h → ks ≡ options ++ (h ∷ []) → others ≡ drop count left
-            → Joining s u r p handles (i + 1) others ks
-        joining_more h ks others ok e f =
-            let front = take i (followers r p) in
-            let P : List ℕ → Type 0 = λ z. StandFor u z (values_of r (take (i + 1) (followers r p))) in
-            let V : List Game → Type 0 = λ z. StandFor u (options ++ (h ∷ [])) z in
-            let G : Result ℕ ValueFault → Type 0 = λ z. IfOk z (λ k. StandsFor u k (can (raw r q))) in
-            let L : List Item → Type 0 = λ z. AllPass s.rest.share s.rest.spent z u.rest.spent in
-            let H : List ℕ → Type 0 = λ z. HoldAt u r handles z (flat_map (parts_of r) (drop (i + 1) (followers r p))) in
-            let next = take_next (followers r p) i q counted.within counted.read in
-            let a = so_far.more in
-            let b = own_gives.more in record {
-              values = subst P (sym e) (subst V (sym (ap (values_of r) next ∙ values-next r front q))
-                  (stand-more u options (values_of r front) h (can (raw r q))
-                  (stand_later t u own_gives.made.keeps.known options (values_of r front) so_far.values) (subst G ok own_gives.game)));
-              passed = subst L (sym (ap joins_of next ∙ flat-next (joins s.rest.limit r) front q))
-                  (passed s u (joins_of front ++ joins s.rest.limit r q) result h ok both_made);
-              keeps = keeps_then s t u so_far.keeps own_gives.made.keeps;
-              more = omega (arith, a, b);
-              others = subst H (sym f) (hold-later t u r handles (drop count left)
-                  (flat_map (parts_of r) (drop (i + 1) (followers r p))) own_gives.made.keeps.known parts_apart.others);
-            }
+          both_made : ItemsMade s u (joins_of (take i (followers r p)) ++ joins s.rest.limit r q) result
+          both_made =
+              made_then s t u (joins_of (take i (followers r p))) (joins s.rest.limit r q) result so_far.passed so_far.keeps
+              (made_as t u (joins t.rest.limit r q) (joins s.rest.limit r q) result
+              (ap (λ n. joins n r q) so_far.keeps.limit) own_gives.made)
 
-        all_joins : (joins_of (take i (followers r p)) ++ joins s.rest.limit r q) ++ joins_of (drop (suc i) (followers r p))
-            ≡ joins_of (followers r p)
-        all_joins =
-            append_assoc (joins_of (take i (followers r p))) (joins s.rest.limit r q) (joins_of (drop (suc i) (followers r p)))
-            ∙ sym (flat_map-append (joins s.rest.limit r) (take i (followers r p)) (q ∷ drop (suc i) (followers r p)))
-            ∙ ap joins_of (sym (split_read (followers r p) i q counted.within counted.read))
+          pub joining_more : (h : ℕ) (ks others : List ℕ) → result ≡ Ok h → ks ≡ options ++ (h ∷ []) → others ≡ drop count left
+              → Joining s u r p handles (i + 1) others ks
+          joining_more h ks others ok e f =
+              let front = take i (followers r p) in
+              let P : List ℕ → Type 0 = λ z. StandFor u z (values_of r (take (i + 1) (followers r p))) in
+              let V : List Game → Type 0 = λ z. StandFor u (options ++ (h ∷ [])) z in
+              let G : Result ℕ ValueFault → Type 0 = λ z. IfOk z (λ k. StandsFor u k (can (raw r q))) in
+              let L : List Item → Type 0 = λ z. AllPass s.rest.share s.rest.spent z u.rest.spent in
+              let H : List ℕ → Type 0 = λ z. HoldAt u r handles z (flat_map (parts_of r) (drop (i + 1) (followers r p))) in
+              let next = take_next (followers r p) i q counted.within counted.read in
+              let a = so_far.more in
+              let b = own_gives.more in record {
+                values = subst P (sym e) (subst V (sym (ap (values_of r) next ∙ values-next r front q))
+                    (stand-more u options (values_of r front) h (can (raw r q))
+                    (stand_later t u own_gives.made.keeps.known options (values_of r front) so_far.values) (subst G ok own_gives.game)));
+                passed = subst L (sym (ap joins_of next ∙ flat-next (joins s.rest.limit r) front q))
+                    (passed s u (joins_of front ++ joins s.rest.limit r q) result h ok both_made);
+                keeps = keeps_then s t u so_far.keeps own_gives.made.keeps;
+                more = omega (arith, a, b);
+                others = subst H (sym f) (hold-later t u r handles (drop count left)
+                    (flat_map (parts_of r) (drop (i + 1) (followers r p))) own_gives.made.keeps.known parts_apart.others);
+              }
 
-        pub joining_stopped : {X : Type 0} (v : Result X ValueFault) (e : ValueFault) → result ≡ Err e → v ≡ Err e
-            → ItemsMade s u (part_items s.rest.limit r p) v
-        joining_stopped {X} v e a b =
-            let front = joins_of (take i (followers r p)) ++ joins s.rest.limit r q in
-            let back = joins_of (drop (suc i) (followers r p)) in
-            made_as s u ((front ++ back) ++ (value_item r p ∷ [])) (part_items s.rest.limit r p) v
-            (ap (λ z. z ++ (value_item r p ∷ [])) all_joins)
-            (made_as s u (front ++ (back ++ (value_item r p ∷ []))) ((front ++ back) ++ (value_item r p ∷ [])) v
-            (sym (append_assoc front back (value_item r p ∷ [])))
-            (stopped s u front (back ++ (value_item r p ∷ [])) result v e a b both_made))
+          all_joins : (joins_of (take i (followers r p)) ++ joins s.rest.limit r q) ++ joins_of (drop (suc i) (followers r p))
+              ≡ joins_of (followers r p)
+          all_joins =
+              append_assoc (joins_of (take i (followers r p))) (joins s.rest.limit r q) (joins_of (drop (suc i) (followers r p)))
+              ∙ sym (flat_map-append (joins s.rest.limit r) (take i (followers r p)) (q ∷ drop (suc i) (followers r p)))
+              ∙ ap joins_of (sym (split_read (followers r p) i q counted.within counted.read))
+
+          pub joining_stopped : {X : Type 0} (v : Result X ValueFault) (e : ValueFault) → result ≡ Err e → v ≡ Err e
+              → ItemsMade s u (part_items s.rest.limit r p) v
+          joining_stopped {X} v e a b =
+              let front = joins_of (take i (followers r p)) ++ joins s.rest.limit r q in
+              let back = joins_of (drop (suc i) (followers r p)) in
+              made_as s u ((front ++ back) ++ (value_item r p ∷ [])) (part_items s.rest.limit r p) v
+              (ap (λ z. z ++ (value_item r p ∷ [])) all_joins)
+              (made_as s u (front ++ (back ++ (value_item r p ∷ []))) ((front ++ back) ++ (value_item r p ∷ [])) v
+              (sym (append_assoc front back (value_item r p ∷ [])))
+              (stopped s u front (back ++ (value_item r p ∷ [])) result v e a b both_made))
 
   module _ (t : State Meant (WorkRest R)) (i : ℕ) (end : length counts ≤ i) (left options : List ℕ)
       (done : Joining s t r p handles i left options) where

@@ -1,13 +1,12 @@
 -- The values of the parts that play can come to, made one after another.
-use Rattle.std.proofs.Common.{◌≡◌, refl, ℕ, suc, ◌+◌, ◌≤◌, ◌<◌, arith, ap, sym, ◌∙◌, subst, true, List, [], ◌∷◌, ◌++◌, append_assoc, Result, Ok, Err, take, drop, get_or, length}
+use Rattle.std.proofs.Common.{◌≡◌, ℕ, suc, ◌+◌, ◌≤◌, ◌<◌, arith, ap, sym, ◌∙◌, subst, true, List, [], ◌∷◌, ◌++◌, append_assoc, Result, Ok, Err, take, drop, get_or, length}
 use Rattle.std.specs.Prelude.{All}
 use Rattle.std.specs.List.{flat_map}
 use Rattle.std.proofs.lemmas.Grind.{flat_map-append}
 use Rattle.std.proofs.lemmas.List.{take_all}
 use Rattle.std.proofs.lemmas.List.Elements.{All-get_or}
 use Rattle.cg_cells.specs.Store.{State}
-use Rattle.cg_canon.proofs.ItemLaws.{all_pass-none}
-use Rattle.cg_canon.proofs.Keeping.{keeps_all, keeps_then}
+use Rattle.cg_canon.proofs.Keeping.{keeps_then}
 use Rattle.cg_canon.proofs.MadeSteps.{made_as, made_then, passed, stopped}
 use Rattle.cg_canon.specs.Items.{AllPass, Item}
 use Rattle.cg_canon.specs.Made.{ItemsMade}
@@ -42,15 +41,6 @@ module _ {R : Type 0} (s : State Meant (WorkRest R)) (r : GameRules) (spare : �
     (ns : List NextPlaces) (next_are : AreNext r (parts_of r) [] boards ns) where
   abbrev items_of : List Grid → List Item
   items_of qs = flat_map (part_items s.rest.limit r) qs
-
-  pub parts_none : (handles : List ℕ) → handles ≡ [] → spare ≤ s.spare → PartsMade s s r [] handles spare
-  parts_none handles e kept =
-      let P : List ℕ → Type 0 = λ z. StandFor s z [] in record {
-        keeps = keeps_all s;
-        passed = all_pass-none s.rest.share s.rest.spent;
-        values = subst P (sym e) (tt, refl);
-        spare_kept = kept;
-      }
 
   pub parts_done : (t : State Meant (WorkRest R)) (handles : List ℕ) (i : ℕ) → length ps ≤ i
       → PartsMade s t r (take i ps) handles spare → PartsMade s t r boards handles spare
@@ -115,9 +105,9 @@ module _ {R : Type 0} (s : State Meant (WorkRest R)) (r : GameRules) (spare : �
           })
 
 -- the handles of all parts hold at the places of the board's own
-pub own_held : {R : Type 0} (t : State Meant R) (r : GameRules) (p : Grid) (opened : Opened) (handles hs ns : List ℕ)
+pub starts_held : {R : Type 0} (t : State Meant R) (r : GameRules) (p : Grid) (opened : Opened) (handles hs ns : List ℕ)
     → IsOpened r p opened → StandFor t handles (values_of r opened.boards) → hs ≡ handles → ns ≡ opened.starts.items
     → HoldAt t r hs ns (parts_of r p)
-own_held t r p opened handles hs ns are all e f =
+starts_held t r p opened handles hs ns are all e f =
     hold-as t r hs handles ns opened.starts.items (parts_of r p) e f
     (held t r opened.boards handles opened.starts.items (parts_of r p) are.starts all)

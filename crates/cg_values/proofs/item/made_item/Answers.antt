@@ -6,7 +6,7 @@ use Rattle.cg_form.specs.Game.{Game, node}
 use Rattle.cg_nodes.specs.Games.{StandsFor, games_at}
 use Rattle.cg_nodes.specs.Spelled.{can}
 use Rattle.cg_values.specs.Items.{value_item}
-use Rattle.cg_values.proofs.ItemSteps.{options-fit, options-split, value-options}
+use Rattle.cg_values.proofs.ItemSteps.{options-split, value-options}
 use Rattle.cg_canon.proofs.MadeSteps.{made_as}
 use Rattle.cg_values.proofs.item.made_item.Goals as goal
 

@@ -4,7 +4,7 @@ use Rattle.cg_canon.specs.Works.{work_state}
 use Rattle.cg_values.proofs.GiveSteps.{board_gives, board_refused, board_stopped}
 use Rattle.cg_values.proofs.PartLemmas.{all-has}
 use Rattle.cg_values.proofs.JoinSteps.{parts_give}
-use Rattle.cg_values.proofs.ValueSteps.{own_held}
+use Rattle.cg_values.proofs.ValueSteps.{starts_held}
 use Rattle.cg_values.proofs.reached.board_value.Goals as goal
 
 pub returns-in_err-opened : goal.returns-in_err-opened
@@ -30,14 +30,14 @@ returns-in_err-handles g c =
 
 pub joined-requires-clause-within : goal.joined-requires-clause-within
 joined-requires-clause-within g c =
-    let own = own_held (work_state g.S.CellStore.state c.part_values.new.work) (g.R.Rules.game c.args.rules.now) c.args.start.now
+    let own = starts_held (work_state g.S.CellStore.state c.part_values.new.work) (g.R.Rules.game c.args.rules.now) c.args.start.now
     c.in_ok-opened.opened c.in_ok-handles.handles.items c.deref.result.now c.deref-2.result.now c.in_ok-opened.ensures.opened
     c.in_ok-handles.ensures.values c.deref.ensures.value c.deref-2.ensures.value in
     own.within
 
 pub joined-requires-clause-games : goal.joined-requires-clause-games
 joined-requires-clause-games g c =
-    let own = own_held (work_state g.S.CellStore.state c.part_values.new.work) (g.R.Rules.game c.args.rules.now) c.args.start.now
+    let own = starts_held (work_state g.S.CellStore.state c.part_values.new.work) (g.R.Rules.game c.args.rules.now) c.args.start.now
     c.in_ok-opened.opened c.in_ok-handles.handles.items c.deref.result.now c.deref-2.result.now c.in_ok-opened.ensures.opened
     c.in_ok-handles.ensures.values c.deref.ensures.value c.deref-2.ensures.value in
     own.values.0
@@ -47,7 +47,7 @@ returns g c =
     let t = work_state g.S.CellStore.state c.part_values.new.work in
     let u = work_state g.S.CellStore.state c.joined.new.work in
     let r = g.R.Rules.game c.args.rules.now in
-    let own = own_held t r c.args.start.now
+    let own = starts_held t r c.args.start.now
     c.in_ok-opened.opened c.in_ok-handles.handles.items c.deref.result.now c.deref-2.result.now c.in_ok-opened.ensures.opened
     c.in_ok-handles.ensures.values c.deref.ensures.value c.deref-2.ensures.value in
     board_gives (work_state g.S.CellStore.state c.args.work.now) t r c.args.start.now c.in_ok-opened.opened.boards

@@ -1,13 +1,10 @@
-use Rattle.std.proofs.Common.{refl, List, ℕ, length, ap, sym, ◌∙◌, subst, Err, arith}
+use Rattle.std.proofs.Common.{refl, ap, ◌∙◌, Err, arith}
 use Rattle.std.specs.Prelude.{slice_index}
 use Rattle.std.proofs.lemmas.Result.{err_from_is_err_and}
 use Rattle.cg_canon.proofs.Keeping.{keeps_then}
 use Rattle.cg_canon.proofs.MadeSteps.{made_memory}
 use Rattle.cg_canon.specs.Works.{work_state}
-use Rattle.cg_nodes.specs.Boards.{AreBelow}
-use Rattle.cg_nodes.specs.Games.{AreGames}
-use Rattle.cg_values.specs.Parts.{handles_at}
-use Rattle.cg_values.proofs.JoinSteps.{joining_made, joining_more, joining_stopped, joining_values, own_gives, parts_apart}
+use Rattle.cg_values.proofs.JoinSteps.{joining_made, joining_more, joining_stopped, joining_values, own_gives, own_held, parts_apart}
 use Rattle.cg_values.proofs.values.part_value.Goals as goal
 
 pub split_at-requires : goal.split_at-requires
@@ -20,21 +17,21 @@ split_at-requires g c =
 
 pub joined-requires-clause-within : goal.joined-requires-clause-within
 joined-requires-clause-within g c =
-    let apart = parts_apart (work_state g.S.CellStore.state c.args.work.now) (g.R.Rules.game c.args.rules.now) (g.met.R.Rules.lawful c.args.rules.now)
+    let own = own_held (work_state g.S.CellStore.state c.args.work.now) (g.R.Rules.game c.args.rules.now) (g.met.R.Rules.lawful c.args.rules.now)
     c.args.board.now c.requires.has c.args.handles.now c.deref-count-items.result.now (c.deref-count-items.ensures.value ∙ c.requires.counts) c.loop-count.count-index
     (slice_index c.deref-count-items.result.now c.loop-count.count-index) c.loop-count-test.true refl
-    (work_state g.S.CellStore.state c.loop-count.work) c.loop-count.places.now c.loop-count.options.items c.loop-count.invariant in
-    let P : List ℕ → Type 0 = λ z. AreBelow (length c.args.handles.now) z in
-    subst P (sym c.split_at.ensures.front) apart.own.within
+    (work_state g.S.CellStore.state c.loop-count.work) c.loop-count.places.now c.loop-count.options.items c.loop-count.invariant
+    c.split_at.result.0.now c.split_at.ensures.front in
+    own.within
 
 pub joined-requires-clause-games : goal.joined-requires-clause-games
 joined-requires-clause-games g c =
-    let apart = parts_apart (work_state g.S.CellStore.state c.args.work.now) (g.R.Rules.game c.args.rules.now) (g.met.R.Rules.lawful c.args.rules.now)
+    let own = own_held (work_state g.S.CellStore.state c.args.work.now) (g.R.Rules.game c.args.rules.now) (g.met.R.Rules.lawful c.args.rules.now)
     c.args.board.now c.requires.has c.args.handles.now c.deref-count-items.result.now (c.deref-count-items.ensures.value ∙ c.requires.counts) c.loop-count.count-index
     (slice_index c.deref-count-items.result.now c.loop-count.count-index) c.loop-count-test.true refl
-    (work_state g.S.CellStore.state c.loop-count.work) c.loop-count.places.now c.loop-count.options.items c.loop-count.invariant in
-    let P : List ℕ → Type 0 = λ z. AreGames (work_state g.S.CellStore.state c.loop-count.work) (handles_at c.args.handles.now z) in
-    subst P (sym c.split_at.ensures.front) apart.own.values.0
+    (work_state g.S.CellStore.state c.loop-count.work) c.loop-count.places.now c.loop-count.options.items c.loop-count.invariant
+    c.split_at.result.0.now c.split_at.ensures.front in
+    own.values.0
 
 pub returns-in_err-option-clause-made : goal.returns-in_err-option-clause-made
 returns-in_err-option-clause-made g c =
