@@ -135,8 +135,8 @@ module _ (limit : ℕ) (r : GameRules) where
   items-within p h = elim (cases_Bool r.cuts) [
     | inl t ↦ (let n = ap length (reach-cut r p t) in
         let within : length (piece_reach_of r p) ≤ limit = omega (arith, n, h) in
-        items-cut t p
-        ∙ sym (cut-board p t ∙ few (too_many ∷ []) (flat_map (piece_items limit r) (piece_reach_of r p) ++ joining_items limit r p) (piece_reach_of r p) within))
+        items-cut t p ∙ sym (cut-board p t
+        ∙ few (too_many ∷ []) (flat_map (piece_items limit r) (piece_reach_of r p) ++ joining_items limit r p) (piece_reach_of r p) within))
     | inr f ↦ (let n = ap length (reach-whole r p f) in
         let within : length (reach_of r p) ≤ limit = omega (arith, n, h) in
         items-whole f p ∙ sym (whole-board p f ∙ few (too_many ∷ []) (value_items r (reach_of r p)) (reach_of r p) within))
@@ -146,7 +146,8 @@ module _ (limit : ℕ) (r : GameRules) where
   items-many p h = elim (cases_Bool r.cuts) [
     | inl t ↦ (let n = ap length (reach-cut r p t) in
         let above : limit < length (piece_reach_of r p) = omega (arith, n, h) in
-        cut-board p t ∙ many (too_many ∷ []) (flat_map (piece_items limit r) (piece_reach_of r p) ++ joining_items limit r p) (piece_reach_of r p) above)
+        cut-board p t
+        ∙ many (too_many ∷ []) (flat_map (piece_items limit r) (piece_reach_of r p) ++ joining_items limit r p) (piece_reach_of r p) above)
     | inr f ↦ (let n = ap length (reach-whole r p f) in
         let above : limit < length (reach_of r p) = omega (arith, n, h) in
         whole-board p f ∙ many (too_many ∷ []) (value_items r (reach_of r p)) (reach_of r p) above)

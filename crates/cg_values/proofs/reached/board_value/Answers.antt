@@ -2,57 +2,43 @@ use Rattle.std.proofs.Common.{ap, ◌∙◌, Err}
 use Rattle.std.proofs.lemmas.Result.{err_from_is_err_and}
 use Rattle.cg_canon.specs.Works.{work_state}
 use Rattle.cg_values.proofs.GiveSteps.{board_gives, board_refused, board_stopped}
-use Rattle.cg_values.proofs.PartLemmas.{all-has}
 use Rattle.cg_values.proofs.JoinSteps.{parts_give}
+use Rattle.cg_values.proofs.PartLemmas.{all-has}
 use Rattle.cg_values.proofs.ValueSteps.{starts_held}
 use Rattle.cg_values.proofs.reached.board_value.Goals as goal
 
 pub returns-in_err-opened : goal.returns-in_err-opened
 returns-in_err-opened g c =
     let p = err_from_is_err_and c.from_residual.result c.from_residual.ensures.1 in
-    board_refused (work_state g.S.CellStore.state c.args.work.now) (g.R.Rules.game c.args.rules.now) c.args.start.now
-    c.in_err-opened.field-0.0 c.limit-limit.result c.from_residual.result c.limit-limit.ensures (p.1 ∙ ap Err p.2)
-    c.in_err-opened.ensures.refused
+    board_refused (work_state g.S.CellStore.state c.args.work.now) (g.R.Rules.game c.args.rules.now) c.args.start.now _ _ _
+    c.limit-limit.ensures (p.1 ∙ ap Err p.2) c.in_err-opened.ensures.refused
 
 pub part_values-requires-clause-has : goal.part_values-requires-clause-has
 part_values-requires-clause-has g c =
-    all-has (g.R.Rules.game c.args.rules.now) (g.met.R.Rules.lawful c.args.rules.now) c.args.start.now c.requires.has
-    c.in_ok-opened.opened.boards c.in_ok-opened.ensures.opened.boards
+    all-has _ (g.met.R.Rules.lawful c.args.rules.now) _ c.requires.has _ c.in_ok-opened.ensures.opened.boards
 
 pub returns-in_err-handles : goal.returns-in_err-handles
 returns-in_err-handles g c =
     let p = err_from_is_err_and c.from_residual-in_err-handles.result c.from_residual-in_err-handles.ensures.1 in
-    board_stopped (work_state g.S.CellStore.state c.args.work.now) (work_state g.S.CellStore.state c.part_values.new.work)
-    (g.R.Rules.game c.args.rules.now) c.args.start.now c.in_ok-opened.opened.boards c.limit-limit.result c.limit-limit.ensures
-    c.in_ok-opened.ensures.opened.boards c.in_ok-opened.ensures.within c.part_values.result c.part_values.ensures.made
-    c.part_values.ensures.more c.from_residual-in_err-handles.result c.in_err-handles.field-0.0 c.in_err-handles.was
-    (p.1 ∙ ap Err p.2)
+    board_stopped _ _ _ _ _ _ c.limit-limit.ensures c.in_ok-opened.ensures.opened.boards c.in_ok-opened.ensures.within _
+    c.part_values.ensures.made c.part_values.ensures.more _ _ c.in_err-handles.was (p.1 ∙ ap Err p.2)
 
 pub joined-requires-clause-within : goal.joined-requires-clause-within
 joined-requires-clause-within g c =
-    let own = starts_held (work_state g.S.CellStore.state c.part_values.new.work) (g.R.Rules.game c.args.rules.now) c.args.start.now
-    c.in_ok-opened.opened c.in_ok-handles.handles.items c.deref.result.now c.deref-2.result.now c.in_ok-opened.ensures.opened
+    let own = starts_held (work_state g.S.CellStore.state c.part_values.new.work) _ _ _ _ _ _ c.in_ok-opened.ensures.opened
     c.in_ok-handles.ensures.values c.deref.ensures.value c.deref-2.ensures.value in
     own.within
 
 pub joined-requires-clause-games : goal.joined-requires-clause-games
 joined-requires-clause-games g c =
-    let own = starts_held (work_state g.S.CellStore.state c.part_values.new.work) (g.R.Rules.game c.args.rules.now) c.args.start.now
-    c.in_ok-opened.opened c.in_ok-handles.handles.items c.deref.result.now c.deref-2.result.now c.in_ok-opened.ensures.opened
+    let own = starts_held (work_state g.S.CellStore.state c.part_values.new.work) _ _ _ _ _ _ c.in_ok-opened.ensures.opened
     c.in_ok-handles.ensures.values c.deref.ensures.value c.deref-2.ensures.value in
     own.values.0
 
 pub returns : goal.returns
 returns g c =
-    let t = work_state g.S.CellStore.state c.part_values.new.work in
-    let u = work_state g.S.CellStore.state c.joined.new.work in
-    let r = g.R.Rules.game c.args.rules.now in
-    let own = starts_held t r c.args.start.now
-    c.in_ok-opened.opened c.in_ok-handles.handles.items c.deref.result.now c.deref-2.result.now c.in_ok-opened.ensures.opened
+    let own = starts_held (work_state g.S.CellStore.state c.part_values.new.work) _ _ _ _ _ _ c.in_ok-opened.ensures.opened
     c.in_ok-handles.ensures.values c.deref.ensures.value c.deref-2.ensures.value in
-    board_gives (work_state g.S.CellStore.state c.args.work.now) t r c.args.start.now c.in_ok-opened.opened.boards
-    c.limit-limit.result c.limit-limit.ensures c.in_ok-opened.ensures.opened.boards c.in_ok-opened.ensures.within
-    c.part_values.result c.part_values.ensures.made c.part_values.ensures.more u c.in_ok-handles.handles c.in_ok-handles.was
-    c.joined.result
-    (parts_give t u r (g.met.R.Rules.lawful c.args.rules.now) c.args.start.now c.requires.has c.deref.result.now c.deref-2.result.now
-    own c.joined.result c.joined.ensures)
+    board_gives _ _ _ _ _ _ c.limit-limit.ensures c.in_ok-opened.ensures.opened.boards c.in_ok-opened.ensures.within _
+    c.part_values.ensures.made c.part_values.ensures.more _ _ c.in_ok-handles.was _
+    (parts_give _ _ _ (g.met.R.Rules.lawful c.args.rules.now) _ c.requires.has _ _ own _ c.joined.ensures)

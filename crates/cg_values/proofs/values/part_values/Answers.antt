@@ -1,84 +1,60 @@
-use Rattle.std.proofs.Common.{rules, ◌<◌, length, refl, ap, ◌∙◌, Err}
+use Rattle.std.proofs.Common.{rules, refl, ◌<◌, length, ap, ◌∙◌, Err}
 use Rattle.std.proofs.lemmas.Result.{err_from_is_err_and}
 use Rattle.cg_canon.specs.Works.{work_state}
-use Rattle.cg_moves.specs.Rules.{followers}
-use Rattle.std.specs.List.{flat_map}
-use Rattle.cg_values.specs.Parts.{parts_of}
 use Rattle.cg_values.proofs.HandleSteps.{hold-as}
 use Rattle.cg_values.proofs.ValueSteps.{next-within, part-has, part-held, part-next, parts_done, parts_more, parts_stopped}
 use Rattle.cg_values.proofs.values.part_values.Goals as goal
 
 pub index-next-requires : goal.index-next-requires
 index-next-requires g c =
-    let within : c.loop-place.place < length c.args.opened.now.next.items = next-within (work_state g.S.CellStore.state c.args.work.now) (g.R.Rules.game c.args.rules.now) c.spare-spare.result c.as_slice-board-items.result.now
-    c.args.opened.now.boards c.as_slice-board-items.ensures c.args.opened.now.next.items c.requires.next
-    c.loop-place.place c.loop-place-test.true in
+    let within : c.loop-place.place < length c.args.opened.now.next.items =
+    next-within (work_state g.S.CellStore.state c.args.work.now) (g.R.Rules.game c.args.rules.now) c.spare-spare.result _ _
+    c.as_slice-board-items.ensures _ c.requires.next c.loop-place.place c.loop-place-test.true in
     search rules
 
 pub part_value-requires-clause-has : goal.part_value-requires-clause-has
 part_value-requires-clause-has g c =
-    part-has (work_state g.S.CellStore.state c.args.work.now) (g.R.Rules.game c.args.rules.now) c.spare-spare.result c.as_slice-board-items.result.now
-    c.args.opened.now.boards c.as_slice-board-items.ensures c.args.opened.now.next.items c.requires.next
-    c.loop-place.place c.board-item.result c.loop-place-test.true c.board-item.is (work_state g.S.CellStore.state c.loop-place.work)
-    c.loop-place.handles.items c.loop-place.invariant c.requires.has
+    part-has _ _ _ _ _ c.as_slice-board-items.ensures _ c.requires.next _ _ c.loop-place-test.true c.board-item.is _ _
+    c.loop-place.invariant c.requires.has
 
 pub part_value-requires-clause-lefts : goal.part_value-requires-clause-lefts
 part_value-requires-clause-lefts g c =
-    let next = part-next (work_state g.S.CellStore.state c.args.work.now) (g.R.Rules.game c.args.rules.now) c.spare-spare.result c.as_slice-board-items.result.now
-    c.args.opened.now.boards c.as_slice-board-items.ensures c.args.opened.now.next.items c.requires.next
-    c.loop-place.place c.board-item.result c.loop-place-test.true c.board-item.is (work_state g.S.CellStore.state c.loop-place.work)
-    c.loop-place.handles.items c.loop-place.invariant c.index-next.result.now c.index-next.ensures in
+    let next = part-next _ _ _ _ _ c.as_slice-board-items.ensures _ c.requires.next _ _ c.loop-place-test.true c.board-item.is _ _
+    c.loop-place.invariant _ c.index-next.ensures in
     next.lefts
 
 pub part_value-requires-clause-counts : goal.part_value-requires-clause-counts
 part_value-requires-clause-counts g c =
-    let next = part-next (work_state g.S.CellStore.state c.args.work.now) (g.R.Rules.game c.args.rules.now) c.spare-spare.result c.as_slice-board-items.result.now
-    c.args.opened.now.boards c.as_slice-board-items.ensures c.args.opened.now.next.items c.requires.next
-    c.loop-place.place c.board-item.result c.loop-place-test.true c.board-item.is (work_state g.S.CellStore.state c.loop-place.work)
-    c.loop-place.handles.items c.loop-place.invariant c.index-next.result.now c.index-next.ensures in
+    let next = part-next _ _ _ _ _ c.as_slice-board-items.ensures _ c.requires.next _ _ c.loop-place-test.true c.board-item.is _ _
+    c.loop-place.invariant _ c.index-next.ensures in
     next.counts
 
 pub part_value-requires-clause-values : goal.part_value-requires-clause-values
 part_value-requires-clause-values g c =
-    let r = g.R.Rules.game c.args.rules.now in
-    let ns = c.index-next.result.now.places.items in
-    hold-as (work_state g.S.CellStore.state c.loop-place.work) r c.deref.result.now c.loop-place.handles.items ns ns
-    (flat_map (parts_of r) (followers r c.board-item.result)) c.deref.ensures.value refl
-    (part-held (work_state g.S.CellStore.state c.args.work.now) (g.R.Rules.game c.args.rules.now) c.spare-spare.result c.as_slice-board-items.result.now
-    c.args.opened.now.boards c.as_slice-board-items.ensures c.args.opened.now.next.items c.requires.next
-    c.loop-place.place c.board-item.result c.loop-place-test.true c.board-item.is (work_state g.S.CellStore.state c.loop-place.work)
-    c.loop-place.handles.items c.loop-place.invariant c.index-next.result.now c.index-next.ensures)
+    hold-as _ _ _ _ _ _ _ c.deref.ensures.value refl
+    (part-held _ _ _ _ _ c.as_slice-board-items.ensures _ c.requires.next _ _ c.loop-place-test.true c.board-item.is _ _
+    c.loop-place.invariant _ c.index-next.ensures)
 
 pub returns-in_err-value-clause-made : goal.returns-in_err-value-clause-made
 returns-in_err-value-clause-made g c =
     let p = err_from_is_err_and c.from_residual.result c.from_residual.ensures.1 in
-    parts_stopped (work_state g.S.CellStore.state c.args.work.now) (g.R.Rules.game c.args.rules.now) c.spare-spare.result c.as_slice-board-items.result.now
-    c.args.opened.now.boards c.as_slice-board-items.ensures c.args.opened.now.next.items c.requires.next
-    c.loop-place.place c.board-item.result c.loop-place-test.true c.board-item.is (work_state g.S.CellStore.state c.loop-place.work)
-    c.loop-place.handles.items c.loop-place.invariant (work_state g.S.CellStore.state c.part_value.new.work) c.part_value.result c.part_value.ensures.made
-    c.from_residual.result c.in_err-value.field-0.0 c.in_err-value.was (p.1 ∙ ap Err p.2)
+    parts_stopped _ _ _ _ _ c.as_slice-board-items.ensures _ c.requires.next _ _ c.loop-place-test.true c.board-item.is _ _
+    c.loop-place.invariant _ _ c.part_value.ensures.made _ _ c.in_err-value.was (p.1 ∙ ap Err p.2)
 
 pub loop-place-preserved : goal.loop-place-preserved
 loop-place-preserved g c =
-    parts_more (work_state g.S.CellStore.state c.args.work.now) (g.R.Rules.game c.args.rules.now) c.spare-spare.result c.as_slice-board-items.result.now
-    c.args.opened.now.boards c.as_slice-board-items.ensures c.args.opened.now.next.items c.requires.next
-    c.loop-place.place c.board-item.result c.loop-place-test.true c.board-item.is (work_state g.S.CellStore.state c.loop-place.work)
-    c.loop-place.handles.items c.loop-place.invariant (work_state g.S.CellStore.state c.part_value.new.work) c.part_value.result c.part_value.ensures.made
-    c.push.new.self.items c.in_ok-value.value c.in_ok-value.value c.in_ok-value.was c.in_ok-value.ensures.game
+    parts_more _ _ _ _ _ c.as_slice-board-items.ensures _ c.requires.next _ _ c.loop-place-test.true c.board-item.is _ _
+    c.loop-place.invariant _ _ c.part_value.ensures.made _ _ _ c.in_ok-value.was c.in_ok-value.ensures.game
     c.part_value.ensures.spare c.in_ok-push.ensures.items
 
 pub returns-clause-values : goal.returns-clause-values
 returns-clause-values g c =
-    let done = parts_done (work_state g.S.CellStore.state c.args.work.now) (g.R.Rules.game c.args.rules.now) c.spare-spare.result c.as_slice-board-items.result.now
-    c.args.opened.now.boards c.as_slice-board-items.ensures c.args.opened.now.next.items c.requires.next
-    (work_state g.S.CellStore.state c.loop-place.work) c.loop-place.handles.items c.loop-place.place c.loop-place-test.false
+    let done = parts_done _ _ _ _ _ c.as_slice-board-items.ensures _ c.requires.next _ _ _ c.loop-place-test.false
     c.loop-place.invariant in
     done.values
 
 pub returns-clause-made : goal.returns-clause-made
 returns-clause-made g c =
-    let done = parts_done (work_state g.S.CellStore.state c.args.work.now) (g.R.Rules.game c.args.rules.now) c.spare-spare.result c.as_slice-board-items.result.now
-    c.args.opened.now.boards c.as_slice-board-items.ensures c.args.opened.now.next.items c.requires.next
-    (work_state g.S.CellStore.state c.loop-place.work) c.loop-place.handles.items c.loop-place.place c.loop-place-test.false
+    let done = parts_done _ _ _ _ _ c.as_slice-board-items.ensures _ c.requires.next _ _ _ c.loop-place-test.false
     c.loop-place.invariant in
     record { charged = done.passed; refused = tt; keeps = done.keeps }
