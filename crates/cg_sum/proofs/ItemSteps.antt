@@ -1,5 +1,5 @@
 -- The item of a sum, as it is made, found or counted.
-use Rattle.std.proofs.Common.{◌≡◌, ℕ, ◌+◌, ◌≤◌, arith, refl, ap, sym, ◌∙◌, subst, List, [], ◌∷◌, Option, Some, None, IsSome, Result, Ok, Err}
+use Rattle.std.proofs.Common.{◌≡◌, ℕ, ◌+◌, refl, ap, sym, ◌∙◌, subst, List, [], ◌∷◌, Option, Some, None, IsSome, Result, Ok, Err}
 use Rattle.std.specs.Prelude.{IfErr, IfOk, OnOk}
 use Rattle.std.specs.Result.{result_ok}
 use Rattle.cg_canon.specs.Items.{AllPass, Item, WasRefused, made}
@@ -33,12 +33,6 @@ pub sides_as : {R : Type 0} (s : State Meant R) (sides : Sides) (hl hr : List �
 sides_as s sides hl hr g e d is =
     ap (λ z. can (node (games_at s z) (games_at s hr))) e ∙ ap (λ z. can (node (games_at s sides.lefts) (games_at s z))) d
     ∙ is.form
-
--- ---- the own spare
-
-pub spare_read : {T : Type 0} (r : Result T ValueFault) (a b c : ℕ) → a + 0 ≡ b → OnOk r (a + 1 ≤ c) → OnOk r (b + 1 ≤ c)
-spare_read (Ok h) a b c e p = omega arith
-spare_read (Err x) a b c e p = tt
 
 -- ---- a later state
 
@@ -97,7 +91,7 @@ module _ (a b : Number) where
         refused_number r share before after (can (sum (number a) (number b))) 1
         (subst P (sym (can-sum_numbers a b z is)) outside) p
 
-module _ {R : Type 0} (w v x : State Meant (WorkRest R)) (f k : ℕ) (a b : Number) (o : Option Number)
+module _ {R : Type 0} (w x : State Meant (WorkRest R)) (f k : ℕ) (a b : Number) (o : Option Number)
     (q : Result Number RangeFault) (r : Result ℕ ValueFault) (isf : game_at w f ≡ number a)
     (isk : game_at w k ≡ number b) (is : o ≡ result_ok q) (exact : IsExact (sum_num a b) (exp_of a + exp_of b) q) where
   both_numbers : sum (number a) (number b) ≡ sum (game_at w f) (game_at w k)
@@ -110,19 +104,17 @@ module _ {R : Type 0} (w v x : State Meant (WorkRest R)) (f k : ℕ) (a b : Numb
       let Q : Game → Type 0 = λ z. IfOk r (λ h. StandsFor x h (can z)) in
       subst Q both_numbers (exact_game a b x q r exact (subst P is p))
 
-  pub number_items : Spends 0 w v → ItemsMade v x (number_made o 1 ∷ []) r
-      → ItemsMade w x (sum_item (game_at w f) (game_at w k) ∷ []) r
-  number_items wv m =
-      let P : Option Number → Type 0 = λ z. OnOk r (AllPass v.rest.share v.rest.spent (number_made z 1 ∷ []) x.rest.spent) in
-      let Q : Option Number → Type 0 = λ z. IfErr r (λ fault. WasRefused fault v.rest.share v.rest.spent (number_made z 1 ∷ []) x.rest.spent) in
+  pub number_items : ItemsMade w x (number_made o 1 ∷ []) r → ItemsMade w x (sum_item (game_at w f) (game_at w k) ∷ []) r
+  number_items m =
+      let P : Option Number → Type 0 = λ z. OnOk r (AllPass w.rest.share w.rest.spent (number_made z 1 ∷ []) x.rest.spent) in
+      let Q : Option Number → Type 0 = λ z. IfErr r (λ fault. WasRefused fault w.rest.share w.rest.spent (number_made z 1 ∷ []) x.rest.spent) in
       let item : Game → Item = λ z. made (can z) 1 in
       made_as w x (sum_item (number a) (number b) ∷ []) (sum_item (game_at w f) (game_at w k) ∷ []) r
-      (ap (λ z. item z ∷ []) both_numbers)
-      (read_then 0 w v x (sum_item (number a) (number b) ∷ []) r wv (record {
-        charged = exact_charged a b v.rest.share v.rest.spent x.rest.spent q r exact (subst P is m.charged);
-        refused = exact_refused a b v.rest.share v.rest.spent x.rest.spent q r exact (subst Q is m.refused);
+      (ap (λ z. item z ∷ []) both_numbers) (record {
+        charged = exact_charged a b w.rest.share w.rest.spent x.rest.spent q r exact (subst P is m.charged);
+        refused = exact_refused a b w.rest.share w.rest.spent x.rest.spent q r exact (subst Q is m.refused);
         keeps = m.keeps;
-      }))
+      })
 
 -- ---- the sum that was noted, or is noted
 

@@ -8,6 +8,8 @@ pub mod NimberSteps
 pub mod SumSteps
 pub mod OutsideItems
 pub mod ItemLoops
+pub mod PositionSteps
+pub mod DraftSteps
 pub mod ItemSteps
 pub mod KeptSums
 pub mod RowSteps

@@ -169,19 +169,15 @@ can-nimbers g h i j e d =
     ∙ can-same (sum a b) (nimber_form (bit_xor i j)) (nimber_sum i j)
 
 -- the sum of two that are known
-pub sum_is_nimber : {R : Type 0} (s : State Meant R) (m : Nimbers) (f k : ℕ) (o q : Option ℕ) → HoldsNimbers s m
-    → ForSome o (λ n. IsNimber s f n) → q ≡ sum_value o (value_found m k) → ForSome q (λ n. IsNimberSum s f k n)
-sum_is_nimber s m f k o q holds first e n is = by o (value_found m k) refl (sym e ∙ is) first
-  where
-    by : (o p : Option ℕ) → value_found m k ≡ p → sum_value o p ≡ Some n → ForSome o (λ i. IsNimber s f i)
-        → IsNimberSum s f k n
-    by (Some i) (Some j) d v first =
-        can-nimbers (game_at s f) (game_at s k) i j (stands_game s f (can (nimber_form i)) (first i refl))
-        (stands_game s k (can (nimber_form j)) (holds.values k j d))
-        ∙ ap (λ z. can (nimber_form z)) (some_same (bit_xor i j) n v)
-    by (Some i) None d v first = cc
-    by None (Some j) d v first = cc
-    by None None d v first = cc
+pub sum_is_nimber : {R : Type 0} (s : State Meant R) (f k : ℕ) (o p q : Option ℕ) → ForSome o (λ n. IsNimber s f n)
+    → ForSome p (λ n. IsNimber s k n) → q ≡ sum_value o p → ForSome q (λ n. IsNimberSum s f k n)
+sum_is_nimber s f k (Some i) (Some j) q first second e n is =
+    can-nimbers (game_at s f) (game_at s k) i j (stands_game s f (can (nimber_form i)) (first i refl))
+    (stands_game s k (can (nimber_form j)) (second j refl))
+    ∙ ap (λ z. can (nimber_form z)) (some_same (bit_xor i j) n (sym e ∙ is))
+sum_is_nimber s f k (Some i) None q first second e n is = cc
+sum_is_nimber s f k None (Some j) q first second e n is = cc
+sum_is_nimber s f k None None q first second e n is = cc
 
 -- what was known stays so
 pub known_later : {R Q : Type 0} (s : State Meant R) (t : State Meant Q) → Grows (thing_at s) (thing_at t) → (m : Nimbers)

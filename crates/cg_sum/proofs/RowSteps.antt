@@ -1,7 +1,7 @@
 -- The sums of one position and a list, and of two lists, made one after another.
-use Rattle.std.proofs.Common.{◌≡◌, inl, inr, ℕ, suc, ◌+◌, ◌≤◌, ◌<◌, sym, subst, List, [], ◌∷◌, IsSome, Result, Ok, Err, take, drop, get_or, length}
+use Rattle.std.proofs.Common.{◌≡◌, inl, inr, ℕ, ◌+◌, ◌≤◌, ◌<◌, arith, sym, subst, List, [], ◌∷◌, IsSome, Result, Ok, Err, take, get_or, length}
 use Rattle.std.specs.List.{flat_map}
-use Rattle.std.proofs.lemmas.List.{take_all}
+use Rattle.std.proofs.lemmas.List.{length-map, take_all}
 use Rattle.cg_canon.proofs.Keeping.{keeps_all, keeps_then}
 use Rattle.cg_canon.proofs.ItemLaws.{all_pass-none}
 use Rattle.cg_canon.specs.Items.{AllPass, Item}
@@ -9,19 +9,19 @@ use Rattle.cg_canon.specs.Works.{Keeps}
 use Rattle.cg_canon.specs.declared.fault.ValueFault.{ValueFault}
 use Rattle.cg_canon.specs.declared.rest.WorkRest.{WorkRest}
 use Rattle.cg_cells.specs.Store.{State}
-use Rattle.cg_form.specs.Game.{Among, Game}
-use Rattle.cg_nodes.proofs.Later.{are_games_later, game_later, games_later, is_game_later, stands_later}
-use Rattle.cg_nodes.specs.Games.{AreGames, IsGame, game_at, games_at}
+use Rattle.cg_form.specs.Game.{Game}
+use Rattle.cg_nodes.proofs.Later.{game_later, games_later}
+use Rattle.cg_nodes.specs.Games.{game_at, games_at}
 use Rattle.cg_nodes.specs.Meant.{Meant}
 use Rattle.cg_sum.specs.Finds.{sum_found}
 use Rattle.cg_canon.specs.SumItems.{pair_items, row_items, sum_item}
 use Rattle.cg_canon.specs.Made.{ItemsMade}
-use Rattle.cg_sum.specs.Progress.{FindsMore, HoldsSums, IsSumReady, OptionsFound, RowFound, RowReady, RowsFound}
-use Rattle.cg_sum.specs.Written.{IsClosed, written}
+use Rattle.cg_sum.specs.Progress.{AreInTurn, ArePositions, FindsMore, HoldsSums, IsPosition, IsSumReady, RowFound, RowReady, RowsFound, handles_of}
 use Rattle.cg_sum.specs.declared.found.Sums.{Sums}
-use Rattle.cg_sum.proofs.ItemLoops.{flat-map, games_split, loop_passed, loop_stopped}
-use Rattle.cg_nodes.proofs.Members.{among_has, has_game}
-use Rattle.cg_sum.proofs.Members.{are_games-take, has-append, has_read, take_next}
+use Rattle.cg_sum.specs.declared.position.Position.{Position}
+use Rattle.cg_sum.proofs.ItemLoops.{flat-map, loop_passed, loop_stopped}
+use Rattle.cg_sum.proofs.Members.{has-append, take_next}
+use Rattle.cg_sum.proofs.PositionSteps.{handle_has, handle_read, handle_within, position_games, position_later, position_read, positions_later}
 use Rattle.cg_sum.proofs.KeptSums.{more_then}
 
 -- ---- a row
@@ -40,8 +40,8 @@ pub record RowMade {R : Type 0} (w v : State Meant (WorkRest R)) (m n : Sums) (f
   pub found : RowFound n f ks
   pub spare : start ≤ v.spare
 
-module _ {R : Type 0} (w : State Meant (WorkRest R)) (m : Sums) (f : ℕ) (ks : List ℕ) (start : ℕ) where
-  pub row_none : HoldsSums w m → start ≤ w.spare → RowMade w w m m f [] start
+module _ {R : Type 0} (w : State Meant (WorkRest R)) (m : Sums) (f : Position) (ps : List Position) (start : ℕ) where
+  pub row_none : HoldsSums w m → start ≤ w.spare → RowMade w w m m f.handle [] start
   row_none holds spare = record {
     keeps = keeps_all w;
     passed = all_pass-none w.rest.share w.rest.spent;
@@ -51,75 +51,61 @@ module _ {R : Type 0} (w : State Meant (WorkRest R)) (m : Sums) (f : ℕ) (ks : 
     spare = spare;
   }
 
-  module _ (i k : ℕ) (within : i < length ks) (read : k ≡ get_or ks i k) (gf : IsGame w f)
-      (gks : AreGames w ks) (v : State Meant (WorkRest R)) (n : Sums) (made : RowMade w v m n f (take i ks) start) where
-    game_k : IsGame w k
-    game_k = has_game w ks k gks (has_read ks i k within read)
+  module _ (i : ℕ) (k : Position) (within : i < length ps) (read : k ≡ get_or ps i k) (isf : IsPosition w f)
+      (are : ArePositions w ps) (v : State Meant (WorkRest R)) (n : Sums)
+      (made : RowMade w v m n f.handle (take i (handles_of ps)) start) where
+    isk : IsPosition w k
+    isk = position_read ps i k within read w are
 
-    same_k : game_at v k ≡ game_at w k
-    same_k = game_later w v made.keeps.known k game_k
+    inside : i < length (handles_of ps)
+    inside = handle_within ps i k within read
 
-    row_game_f : IsGame v f
-    row_game_f = is_game_later w v made.keeps.known f gf
+    place : k.handle ≡ get_or (handles_of ps) i k.handle
+    place = handle_read ps i k within read
 
-    row_game_k : IsGame v k
-    row_game_k = is_game_later w v made.keeps.known k game_k
-
-    row_options : IsClosed (games_at w ks) → RowReady w m f ks → OptionsFound v n f k
-    row_options closed ready = record {
-      first = λ a j.
-          let P : Game → Type 0 = λ z. Among a (written z) in
-          let (p, e, found) = ready.each a (subst P (game_later w v made.keeps.known f gf) j) in (
-            p,
-            stands_later w v made.keeps.known p a e,
-            made.more.stays p k (found.each k (has_read ks i k within read)),
-          );
-      second = λ c j.
-          let P : Game → Type 0 = λ z. Among c (written z) in
-          let before = closed.each (games_at w (take i ks)) (game_at w k) (games_at w (drop (suc i) ks))
-          (games_split w ks i k within read) c (subst P same_k j) in
-          let (q, here, e) = among_has w (take i ks) c (are_games-take w ks i k within read gks) before in
-          (q, stands_later w v made.keeps.known q c e, made.found.each q here);
-    }
-
-    pub row_ready : IsClosed (games_at w ks) → RowReady w m f ks → IsSumReady v n f k
-    row_ready closed ready = record {
-      first = row_game_f;
-      second = row_game_k;
+    pub row_ready : AreInTurn ps → RowReady m f (handles_of ps) → IsSumReady v n f k
+    row_ready turns ready = record {
+      first = position_later w v made.keeps.known f isf;
+      second = position_later w v made.keeps.known k isk;
       holds = made.holds;
-      found = row_options closed ready;
+      found = record {
+        first = λ p o. made.more.stays p k.handle ((ready.each p o).each k.handle (handle_has ps i k within read));
+        second = λ q o. made.found.each q (turns.each i k within read q o);
+      };
     }
 
     -- the item of f and k, as the work was when the row began
     module _ {T : Type 0} (x : State Meant (WorkRest R)) (r : Result T ValueFault)
-        (item : ItemsMade v x (sum_item (game_at v f) (game_at v k) ∷ []) r) where
-      row_item_made : ItemsMade v x (row_item (game_at w f) (game_at w k)) r
+        (item : ItemsMade v x (sum_item (game_at v f.handle) (game_at v k.handle) ∷ []) r) where
+      row_item_made : ItemsMade v x (row_item (game_at w f.handle) (game_at w k.handle)) r
       row_item_made =
-          let P : Game → Type 0 = λ z. ItemsMade v x (sum_item z (game_at w k) ∷ []) r in
-          let Q : Game → Type 0 = λ z. ItemsMade v x (sum_item (game_at v f) z ∷ []) r in
-          subst P (game_later w v made.keeps.known f gf) (subst Q same_k item)
+          let P : Game → Type 0 = λ z. ItemsMade v x (sum_item z (game_at w k.handle) ∷ []) r in
+          let Q : Game → Type 0 = λ z. ItemsMade v x (sum_item (game_at v f.handle) z ∷ []) r in
+          subst P (game_later w v made.keeps.known f.handle isf.game)
+          (subst Q (game_later w v made.keeps.known k.handle isk.game) item)
 
       pub row_stopped : {U : Type 0} (q : Result U ValueFault) (e : ValueFault) → r ≡ Err e → q ≡ Err e
-          → ItemsMade w x (row_items (games_at w ks) (game_at w f)) q
+          → ItemsMade w x (row_items (games_at w (handles_of ps)) (game_at w f.handle)) q
       row_stopped q e a b =
           let P : List Item → Type 0 = λ z. ItemsMade w x z q in
-          subst P (flat-map (sum_item (game_at w f)) (games_at w ks))
-          (loop_stopped w v x (row_item (game_at w f)) ks i k within read made.keeps made.passed r row_item_made q e a b)
+          subst P (flat-map (sum_item (game_at w f.handle)) (games_at w (handles_of ps)))
+          (loop_stopped w v x (row_item (game_at w f.handle)) (handles_of ps) i k.handle inside place made.keeps
+          made.passed r row_item_made q e a b)
 
-      pub row_more : (o : Sums) (t : T) → r ≡ Ok t → HoldsSums x o → FindsMore n o → IsSome (sum_found o f k)
-          → start ≤ x.spare → RowMade w x m o f (take (i + 1) ks) start
+      pub row_more : (o : Sums) (t : T) → r ≡ Ok t → HoldsSums x o → FindsMore n o → IsSome (sum_found o f.handle k.handle)
+          → start ≤ x.spare → RowMade w x m o f.handle (take (i + 1) (handles_of ps)) start
       row_more o t ok holds more found spare =
-          let V : List ℕ → Type 0 = λ z. RowFound o f z in
+          let V : List ℕ → Type 0 = λ z. RowFound o f.handle z in
           record {
             keeps = keeps_then w v x made.keeps item.keeps;
-            passed = loop_passed w v x (row_item (game_at w f)) ks i k within read made.keeps made.passed r row_item_made
-                t ok;
+            passed = loop_passed w v x (row_item (game_at w f.handle)) (handles_of ps) i k.handle inside place made.keeps
+                made.passed r row_item_made t ok;
             holds = holds;
             more = more_then m n o made.more more;
-            found = subst V (sym (take_next ks i k within read)) (record {
-              each = λ c j. elim (has-append (take i ks) (k ∷ []) c j) [
-                | inl before ↦ more.stays f c (made.found.each c before)
-                | inr (inl e) ↦ (let U : ℕ → Type 0 = λ z. IsSome (sum_found o f z) in subst U e found)
+            found = subst V (sym (take_next (handles_of ps) i k.handle inside place)) (record {
+              each = λ c j. elim (has-append (take i (handles_of ps)) (k.handle ∷ []) c j) [
+                | inl before ↦ more.stays f.handle c (made.found.each c before)
+                | inr (inl e) ↦ (let U : ℕ → Type 0 = λ z. IsSome (sum_found o f.handle z) in subst U e found)
                 | inr (inr none_left) ↦ absurd none_left
               ];
             });
@@ -137,9 +123,9 @@ pub record RowsMade {R : Type 0} (w v : State Meant (WorkRest R)) (n : Sums) (fs
   pub found : RowsFound n fs ks
   pub spare : start ≤ v.spare
 
-module _ {R : Type 0} (w : State Meant (WorkRest R)) (fs ks : List ℕ) (start : ℕ) where
+module _ {R : Type 0} (w : State Meant (WorkRest R)) (fs ps : List Position) (start : ℕ) where
   pub rows_none : (m : Sums) → HoldsSums w m → start ≤ w.spare
-      → RowsMade w w m [] ks start
+      → RowsMade w w m [] (handles_of ps) start
   rows_none m holds spare = record {
     keeps = keeps_all w;
     passed = all_pass-none w.rest.share w.rest.spent;
@@ -148,62 +134,56 @@ module _ {R : Type 0} (w : State Meant (WorkRest R)) (fs ks : List ℕ) (start :
     spare = spare;
   }
 
-  module _ (i f : ℕ) (within : i < length fs) (read : f ≡ get_or fs i f) (gfs : AreGames w fs)
-      (gks : AreGames w ks) (v : State Meant (WorkRest R)) (n : Sums)
-      (made : RowsMade w v n (take i fs) ks start) where
-    game_f : IsGame w f
-    game_f = has_game w fs f gfs (has_read fs i f within read)
+  module _ (i : ℕ) (f : Position) (within : i < length fs) (read : f ≡ get_or fs i f) (firsts : ArePositions w fs)
+      (seconds : ArePositions w ps) (v : State Meant (WorkRest R)) (n : Sums)
+      (made : RowsMade w v n (take i (handles_of fs)) (handles_of ps) start) where
+    row_first : IsPosition w f
+    row_first = position_read fs i f within read w firsts
 
-    same_first : game_at v f ≡ game_at w f
-    same_first = game_later w v made.keeps.known f game_f
+    row_inside : i < length (handles_of fs)
+    row_inside = handle_within fs i f within read
 
-    same_seconds : games_at v ks ≡ games_at w ks
-    same_seconds = games_later w v made.keeps.known ks gks
+    row_place : f.handle ≡ get_or (handles_of fs) i f.handle
+    row_place = handle_read fs i f within read
 
-    pub rows_game_f : IsGame v f
-    rows_game_f = is_game_later w v made.keeps.known f game_f
+    pub rows_first : IsPosition v f
+    rows_first = position_later w v made.keeps.known f row_first
 
-    pub rows_games_k : AreGames v ks
-    rows_games_k = are_games_later w v made.keeps.known ks gks
+    pub rows_seconds : ArePositions v ps
+    rows_seconds = positions_later w v made.keeps.known ps seconds
 
-    pub rows_closed : IsClosed (games_at w ks) → IsClosed (games_at v ks)
-    rows_closed closed = let P : List Game → Type 0 = λ z. IsClosed z in subst P (sym same_seconds) closed
-
-    pub rows_ready : IsClosed (games_at w fs) → RowReady v n f ks
-    rows_ready closed = record {
-      each = λ a j.
-          let P : Game → Type 0 = λ z. Among a (written z) in
-          let before = closed.each (games_at w (take i fs)) (game_at w f) (games_at w (drop (suc i) fs))
-          (games_split w fs i f within read) a (subst P same_first j) in
-          let (p, here, e) = among_has w (take i fs) a (are_games-take w fs i f within read gfs) before in
-          (p, stands_later w v made.keeps.known p a e, record { each = λ k m. made.found.each p k here m });
+    pub rows_ready : AreInTurn fs → RowReady n f (handles_of ps)
+    rows_ready turns = record {
+      each = λ p o. record { each = λ k j. made.found.each p k (turns.each i f within read p o) j };
     }
 
     -- the row of f, as the work was at first
     module _ {T : Type 0} (x : State Meant (WorkRest R)) (r : Result T ValueFault)
-        (row : ItemsMade v x (row_items (games_at v ks) (game_at v f)) r) where
-      row_made_at : ItemsMade v x (row_items (games_at w ks) (game_at w f)) r
+        (row : ItemsMade v x (row_items (games_at v (handles_of ps)) (game_at v f.handle)) r) where
+      row_made_at : ItemsMade v x (row_items (games_at w (handles_of ps)) (game_at w f.handle)) r
       row_made_at =
-          let P : Game → Type 0 = λ z. ItemsMade v x (row_items (games_at w ks) z) r in
-          let Q : List Game → Type 0 = λ z. ItemsMade v x (row_items z (game_at v f)) r in
-          subst P same_first (subst Q same_seconds row)
+          let P : Game → Type 0 = λ z. ItemsMade v x (row_items (games_at w (handles_of ps)) z) r in
+          let Q : List Game → Type 0 = λ z. ItemsMade v x (row_items z (game_at v f.handle)) r in
+          subst P (game_later w v made.keeps.known f.handle row_first.game)
+          (subst Q (games_later w v made.keeps.known (handles_of ps) (position_games w ps seconds)) row)
 
       pub rows_stopped : {U : Type 0} (q : Result U ValueFault) (e : ValueFault) → r ≡ Err e → q ≡ Err e
-          → ItemsMade w x (pair_items (games_at w fs) (games_at w ks)) q
+          → ItemsMade w x (pair_items (games_at w (handles_of fs)) (games_at w (handles_of ps))) q
       rows_stopped q e a b =
-          loop_stopped w v x (row_items (games_at w ks)) fs i f within read made.keeps made.passed r row_made_at q e a b
+          loop_stopped w v x (row_items (games_at w (handles_of ps))) (handles_of fs) i f.handle row_inside row_place made.keeps
+          made.passed r row_made_at q e a b
 
-      pub rows_more : (o : Sums) (t : T) → r ≡ Ok t → HoldsSums x o → FindsMore n o → RowFound o f ks → start ≤ x.spare
-          → RowsMade w x o (take (i + 1) fs) ks start
+      pub rows_more : (o : Sums) (t : T) → r ≡ Ok t → HoldsSums x o → FindsMore n o → RowFound o f.handle (handles_of ps)
+          → start ≤ x.spare → RowsMade w x o (take (i + 1) (handles_of fs)) (handles_of ps) start
       rows_more o t ok holds more found spare =
-          let V : List ℕ → Type 0 = λ z. RowsFound o z ks in
+          let V : List ℕ → Type 0 = λ z. RowsFound o z (handles_of ps) in
           record {
             keeps = keeps_then w v x made.keeps row.keeps;
-            passed = loop_passed w v x (row_items (games_at w ks)) fs i f within read made.keeps made.passed r row_made_at
-                t ok;
+            passed = loop_passed w v x (row_items (games_at w (handles_of ps))) (handles_of fs) i f.handle row_inside row_place
+                made.keeps made.passed r row_made_at t ok;
             holds = holds;
-            found = subst V (sym (take_next fs i f within read)) (record {
-              each = λ c k j l. elim (has-append (take i fs) (f ∷ []) c j) [
+            found = subst V (sym (take_next (handles_of fs) i f.handle row_inside row_place)) (record {
+              each = λ c k j l. elim (has-append (take i (handles_of fs)) (f.handle ∷ []) c j) [
                 | inl before ↦ more.stays c k (made.found.each c k before l)
                 | inr (inl e) ↦ (let U : ℕ → Type 0 = λ z. IsSome (sum_found o z k) in subst U e (found.each k l))
                 | inr (inr none_left) ↦ absurd none_left
@@ -214,16 +194,19 @@ module _ {R : Type 0} (w : State Meant (WorkRest R)) (fs ks : List ℕ) (start :
 
 -- ---- the ends of the loops
 
-module _ {R : Type 0} (w v : State Meant (WorkRest R)) where
-  pub row_done : (m n : Sums) (f i : ℕ) (ks : List ℕ) (start : ℕ) → length ks ≤ i
-      → RowMade w v m n f (take i ks) start → RowMade w v m n f ks start
-  row_done m n f i ks start l made =
-      let P : List ℕ → Type 0 = λ z. RowMade w v m n f z start in subst P (take_all i ks l) made
+all_handles : (i : ℕ) (ps : List Position) → length ps ≤ i → take i (handles_of ps) ≡ handles_of ps
+all_handles i ps l = let n = length-map ps (λ p. p.handle) in take_all i (handles_of ps) (omega arith)
 
-  pub rows_done : (n : Sums) (fs ks : List ℕ) (i start : ℕ) → length fs ≤ i → RowsMade w v n (take i fs) ks start
-      → RowsMade w v n fs ks start
+module _ {R : Type 0} (w v : State Meant (WorkRest R)) where
+  pub row_done : (m n : Sums) (f i : ℕ) (ps : List Position) (start : ℕ) → length ps ≤ i
+      → RowMade w v m n f (take i (handles_of ps)) start → RowMade w v m n f (handles_of ps) start
+  row_done m n f i ps start l made =
+      let P : List ℕ → Type 0 = λ z. RowMade w v m n f z start in subst P (all_handles i ps l) made
+
+  pub rows_done : (n : Sums) (fs : List Position) (ks : List ℕ) (i start : ℕ) → length fs ≤ i
+      → RowsMade w v n (take i (handles_of fs)) ks start → RowsMade w v n (handles_of fs) ks start
   rows_done n fs ks i start l made =
-      let P : List ℕ → Type 0 = λ z. RowsMade w v n z ks start in subst P (take_all i fs l) made
+      let P : List ℕ → Type 0 = λ z. RowsMade w v n z ks start in subst P (all_handles i fs l) made
 
   pub row_made : {T : Type 0} (m n : Sums) (f : ℕ) (ks : List ℕ) (start : ℕ) (t : T) → RowMade w v m n f ks start
       → ItemsMade w v (row_items (games_at w ks) (game_at w f)) (Ok t)

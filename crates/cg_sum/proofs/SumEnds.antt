@@ -21,15 +21,17 @@ use Rattle.cg_sum.specs.Finds.{nimber_found, sum_found, value_found}
 use Rattle.cg_canon.specs.SumItems.{pair_items, sum_items, within_limit}
 use Rattle.cg_canon.specs.Made.{ItemsMade}
 use Rattle.cg_canon.specs.Works.{Keeps}
-use Rattle.cg_sum.specs.Progress.{HoldsSums}
+use Rattle.cg_sum.specs.Progress.{ArePositions, ArePositionsOf, HoldsSums, handles_of}
 use Rattle.cg_sum.specs.Written.{IsClosed}
 use Rattle.cg_sum.specs.declared.found.Sums.{Sums}
+use Rattle.cg_sum.specs.declared.position.Position.{Position}
 use Rattle.cg_canon.proofs.MadeSteps.{made_as, read_then, was_refused}
 use Rattle.cg_dyadic.proofs.Truth.{less-nat_lt}
 use Rattle.cg_nodes.proofs.Members.{among_has, length_games}
 use Rattle.cg_sum.proofs.Tables.{none_some}
 use Rattle.cg_sum.proofs.NimberSteps.{nimbers_none}
 use Rattle.cg_sum.proofs.Positions.{positions-closed, positions-own}
+use Rattle.cg_sum.proofs.PositionSteps.{in_turn}
 
 -- ---- within the limit or not
 
@@ -139,6 +141,22 @@ module _ {R : Type 0} (s : State Meant R) (hs ps : List ℕ) (g : Game) (is : hs
       let (p, here, st) = among_has s hs g slice_stands.0 (subst P (sym slice_stands.1) (positions-own g)) in
       let Q : ℕ → Type 0 = λ z. Has hs z in
       subst Q (apart p a (form g) (stands_later s t grows p g st) e) here
+
+-- the positions of the handles that stand for those of g, as they were read
+pub positions_of_game : {R : Type 0} (s : State Meant R) (ps : List Position) (hs : List ℕ) (h : ℕ) (g : Game)
+    → ArePositions s ps → handles_of ps ≡ hs → StandFor s hs (positions_of g) → IsInjective (thing_at s) → StandsFor s h g
+    → ArePositionsOf s ps h g
+positions_of_game s ps hs h g are is stand apart st = record {
+  positions = are;
+  games = (slice_stands s (handles_of ps) hs g is stand).1;
+  turns = in_turn s ps are (slice_closed s (handles_of ps) hs g is stand) apart;
+  own = slice_has s (handles_of ps) hs g is stand s (λ i x e. e) apart h st;
+}
+
+-- and as they are lent
+pub lent_positions : {R : Type 0} (s : State Meant R) (ps qs : List Position) (h : ℕ) (g : Game) → ps ≡ qs
+    → ArePositionsOf s qs h g → ArePositionsOf s ps h g
+lent_positions s ps qs h g e are = let P : List Position → Type 0 = λ z. ArePositionsOf s z h g in subst P (sym e) are
 
 -- ---- the end
 

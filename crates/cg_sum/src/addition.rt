@@ -10,12 +10,13 @@ ghost use Rattle.cg_nodes.specs.Positions.{positions_of};
 ghost use Rattle.cg_nodes.specs.Spelled.{can};
 ghost use Rattle.cg_sum.specs.Finds.{sum_found};
 ghost use Rattle.cg_canon.specs.SumItems.{sum_items};
-ghost use Rattle.cg_sum.specs.Progress.{HoldsNimbers, HoldsSums};
+ghost use Rattle.cg_sum.specs.Progress.{ArePositionsOf, HoldsNimbers, HoldsSums};
 
 use crate::found::Sums;
 use crate::item::LookUp;
 use crate::limits::positions_within;
-use crate::nimbers::{Nimbers, learn};
+use crate::nimbers::Nimbers;
+use crate::position::{Position, learned};
 use crate::rows::add_rows;
 use cg_canon::{ValueFault, Work, keep_sum, sum_again};
 use cg_cells::CellStore;
@@ -120,26 +121,24 @@ fn add_sums<B: BoardForms, S: CellStore<GameFacts<B>>>(
         (sum_items work.old.limit (game_at W a) (game_at W b)) result }
     ensures spare { (work_state S.state work.old).spare ≤ (work_state S.state work.new).spare }
 {
-    let both = known_positions(alloc, work, a, b, &mut sums.nimbers)?;
+    let terms = known_positions(alloc, work, a, b, &mut sums.nimbers)?;
     let start = work.spare();
     add_rows(
         alloc,
         work,
-        both.firsts.as_slice(),
-        both.seconds.as_slice(),
+        &terms.firsts,
+        &terms.seconds,
         sums,
         look_up,
         start,
-    )?;
-    work.apart();
-    Ok(())
+    )
 }
 
-// The positions of two games.
+// The positions of two games, as they were read.
 #[derive(Drop)]
-struct Both {
-    firsts: Handles,
-    seconds: Handles,
+struct Terms {
+    firsts: Vec<Position>,
+    seconds: Vec<Position>,
 }
 
 // The positions of both games, unless there are more pairs of them than the limit. Those of nimbers are known then.
@@ -149,14 +148,14 @@ fn known_positions<B: BoardForms, S: CellStore<GameFacts<B>>>(
     a: Handle,
     b: Handle,
     nimbers: &mut Nimbers,
-) -> Result<Both, ValueFault>
+) -> Result<Terms, ValueFault>
     requires a { IsGame (work_state S.state work.old) a }
     requires b { IsGame (work_state S.state work.old) b }
     requires holds { HoldsNimbers (work_state S.state work.old) nimbers.old }
-    ensures firsts { IfOk result (λ both. StandFor (work_state S.state work.new) both.firsts
-        (positions_of (game_at (work_state S.state work.old) a))) }
-    ensures seconds { IfOk result (λ both. StandFor (work_state S.state work.new) both.seconds
-        (positions_of (game_at (work_state S.state work.old) b))) }
+    ensures firsts { IfOk result (λ terms. ArePositionsOf (work_state S.state work.new) terms.firsts.items a
+        (game_at (work_state S.state work.old) a)) }
+    ensures seconds { IfOk result (λ terms. ArePositionsOf (work_state S.state work.new) terms.seconds.items b
+        (game_at (work_state S.state work.old) b)) }
     ensures within { OnOk result (length (positions_of (game_at (work_state S.state work.old) a))
         * length (positions_of (game_at (work_state S.state work.old) b)) ≤ work.old.limit) }
     ensures holds { OnOk result (HoldsNimbers (work_state S.state work.new) nimbers.new) }
@@ -165,12 +164,20 @@ fn known_positions<B: BoardForms, S: CellStore<GameFacts<B>>>(
     ensures spends { Spends 0 (work_state S.state work.old) (work_state S.state work.new) }
 {
     let both = both_positions(alloc, work, a, b)?;
-    learn(alloc, work, both.firsts.as_slice(), nimbers)?;
-    learn(alloc, work, both.seconds.as_slice(), nimbers)?;
-    Ok(both)
+    let firsts = learned(alloc, work, both.firsts.as_slice(), nimbers)?;
+    let seconds = learned(alloc, work, both.seconds.as_slice(), nimbers)?;
+    work.apart();
+    Ok(Terms { firsts, seconds })
 }
 
-// The positions of both games, unless there are more pairs of them than the limit.
+// The handles of the positions of two games.
+#[derive(Drop)]
+struct Both {
+    firsts: Handles,
+    seconds: Handles,
+}
+
+// The handles of the positions of both games, unless there are more pairs of them than the limit.
 fn both_positions<B: BoardForms, S: CellStore<GameFacts<B>>>(
     alloc: Global,
     work: &mut Work<B, S>,

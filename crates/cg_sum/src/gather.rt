@@ -1,18 +1,14 @@
 //! The options of a sum, which are sums that were made before.
 ghost use Rattle.std.specs.Prelude.{◌≡◌, ℕ, ◌++◌, IfOk, IsSome, map};
 ghost use Rattle.cg_cells.specs.Meaning.{Has};
-ghost use Rattle.cg_cells.specs.Store.{Spends};
-ghost use Rattle.cg_form.specs.Sum.{sum};
-ghost use Rattle.cg_nodes.specs.Games.{game_at};
 ghost use Rattle.cg_sum.specs.Finds.{sum_found, sum_handle};
-ghost use Rattle.cg_sum.specs.Progress.{IsOneNode, IsSides, IsSumReady, TermsApart};
+ghost use Rattle.cg_sum.specs.Progress.{AreOptionsFound, IsDraftOf};
 
 use crate::form::Draft;
 use crate::found::Sums;
-use crate::written::both_options;
+use crate::position::Position;
 use cg_canon::FirstTerm;
-use cg_cells::CellStore;
-use cg_nodes::{BoardForms, GameFacts, Handle, Handles, Sides};
+use cg_nodes::{Handle, Handles, Sides};
 use std::alloc::{AllocError, Global};
 
 /// Games whose canonical form is that of f + k, as Left and Right options: the sums of the written options
@@ -20,41 +16,34 @@ use std::alloc::{AllocError, Global};
 /// and the options of G alone (Siegel, Combinatorial Game Theory (2013), II.3: the Number Translation
 /// Theorem). No two of those that come from one of the two are comparable, since sums keep the order. The
 /// only error is want of memory.
-pub(crate) fn draft_of_sum<B: BoardForms, S: CellStore<GameFacts<B>>>(
+pub(crate) fn draft_of_sum(
     alloc: Global,
-    store: &mut S,
-    f: Handle,
-    k: Handle,
+    f: &Position,
+    k: &Position,
     sums: &Sums,
 ) -> Result<Draft, AllocError>
-    requires ready { IsSumReady (S.state store.old) sums.now f k }
-    requires node { IsOneNode (S.state store.old) f k }
-    ensures sides { IfOk result (λ draft. IsSides (S.state store.new) draft.sides
-        (sum (game_at (S.state store.old) f) (game_at (S.state store.old) k))) }
-    ensures terms { IfOk result (λ draft. TermsApart (S.state store.new) draft) }
-    ensures spends { Spends 0 (S.state store.old) (S.state store.new) }
+    requires { AreOptionsFound sums.now f.now k.now }
+    ensures { IfOk result (λ draft. IsDraftOf sums.now f.now k.now draft) }
 {
-    let both = both_options(alloc, store, f, k)?;
-    store.apart();
     let first_term = FirstTerm {
-        lefts: both.first.lefts.len(),
-        rights: both.first.rights.len(),
+        lefts: f.options.lefts.len(),
+        rights: f.options.rights.len(),
     };
     let lefts = option_sums(
         alloc,
         sums,
-        both.first.lefts.as_slice(),
-        k,
-        f,
-        both.second.lefts.as_slice(),
+        f.options.lefts.as_slice(),
+        k.handle,
+        f.handle,
+        k.options.lefts.as_slice(),
     )?;
     let rights = option_sums(
         alloc,
         sums,
-        both.first.rights.as_slice(),
-        k,
-        f,
-        both.second.rights.as_slice(),
+        f.options.rights.as_slice(),
+        k.handle,
+        f.handle,
+        k.options.rights.as_slice(),
     )?;
     Ok(Draft {
         sides: Sides {

@@ -1,10 +1,8 @@
 //! The item of the sum of two positions.
-ghost use Rattle.std.specs.Prelude.{◌≡◌, ◌+◌, ◌≤◌, MatchOption, IfOk, OnOk, [], ◌∷◌};
+ghost use Rattle.std.specs.Prelude.{◌≡◌, ◌⊎◌, ◌+◌, ◌≤◌, MatchOption, IfOk, None, OnOk, Some, [], ◌∷◌};
 ghost use Rattle.cg_canon.specs.Items.{made as made_at};
 ghost use Rattle.cg_canon.specs.Made.{ItemsMade};
 ghost use Rattle.cg_canon.specs.Works.{work_state};
-ghost use Rattle.cg_cells.specs.Store.{Spends};
-ghost use Rattle.cg_form.specs.Game.{number};
 ghost use Rattle.cg_form.specs.Sum.{sum};
 ghost use Rattle.cg_nodes.specs.Games.{IsGame, StandsFor, game_at};
 ghost use Rattle.cg_nodes.specs.Spelled.{can, game_meaning};
@@ -15,10 +13,11 @@ use crate::form::form_item;
 use crate::found::Sums;
 use crate::gather::draft_of_sum;
 use crate::pairs::pair;
+use crate::position::Position;
 use cg_canon::{ValueFault, Work, item_of, number_item};
 use cg_cells::{CellStore, Id};
 use cg_dyadic::Dyadic;
-use cg_nodes::{BoardForms, GameFacts, Handle, Kind, kind};
+use cg_nodes::{BoardForms, GameFacts, Handle};
 use std::alloc::Global;
 
 /// Where a sum that was made before is found.
@@ -36,21 +35,21 @@ pub(crate) enum LookUp {
 pub(crate) fn sum_item<B: BoardForms, S: CellStore<GameFacts<B>>>(
     alloc: Global,
     work: &mut Work<B, S>,
-    f: Handle,
-    k: Handle,
+    f: &Position,
+    k: &Position,
     sums: &Sums,
     look_up: LookUp,
     start: u64,
 ) -> Result<Handle, ValueFault>
-    requires ready { IsSumReady (work_state S.state work.old) sums.now f k }
+    requires ready { IsSumReady (work_state S.state work.old) sums.now f.now k.now }
     requires spare { start ≤ (work_state S.state work.old).spare }
     ensures game { let W = work_state S.state work.old in IfOk result (λ h. StandsFor (work_state S.state work.new) h
-        (can (sum (game_at W f) (game_at W k)))) }
+        (can (sum (game_at W f.now.handle) (game_at W k.now.handle)))) }
     ensures made { let W = work_state S.state work.old in ItemsMade W (work_state S.state work.new)
-        (item_of_sum (game_at W f) (game_at W k) ∷ []) result }
+        (item_of_sum (game_at W f.now.handle) (game_at W k.now.handle) ∷ []) result }
     ensures spare { start ≤ (work_state S.state work.new).spare }
 {
-    match numbers(work, f, k) {
+    match numbers(f, k) {
         Some(pair) => number_item(work, pair.first.add(pair.second).ok(), 1),
         None => game_item(alloc, work, f, k, sums, look_up, start),
     }
@@ -63,24 +62,17 @@ struct Addends {
     second: Dyadic,
 }
 
-// The numbers that the two handles stand for, where both stand for one.
-fn numbers<B: BoardForms, S: CellStore<GameFacts<B>>>(
-    store: &mut S,
-    f: Handle,
-    k: Handle,
-) -> Option<Addends>
-    requires f { IsGame (S.state store.old) f }
-    requires k { IsGame (S.state store.old) k }
-    ensures numbers { let W = S.state store.old in MatchOption result (IsOneNode W f k)
-        (λ pair. (game_at W f ≡ number pair.first) × (game_at W k ≡ number pair.second)) }
-    ensures spends { Spends 0 (S.state store.old) (S.state store.new) }
+// The numbers that the two stand for, where both stand for one.
+fn numbers(f: &Position, k: &Position) -> Option<Addends>
+    ensures { MatchOption result ((f.now.number ≡ None) ⊎ (k.now.number ≡ None))
+        (λ pair. (f.now.number ≡ Some pair.first) × (k.now.number ≡ Some pair.second)) }
 {
-    match kind(store, f) {
-        Kind::Number(first) => match kind(store, k) {
-            Kind::Number(second) => Some(Addends { first, second }),
-            Kind::Game => None,
+    match f.number {
+        Some(first) => match k.number {
+            Some(second) => Some(Addends { first, second }),
+            None => None,
         },
-        Kind::Game => None,
+        None => None,
     }
 }
 
@@ -88,19 +80,19 @@ fn numbers<B: BoardForms, S: CellStore<GameFacts<B>>>(
 fn game_item<B: BoardForms, S: CellStore<GameFacts<B>>>(
     alloc: Global,
     work: &mut Work<B, S>,
-    f: Handle,
-    k: Handle,
+    f: &Position,
+    k: &Position,
     sums: &Sums,
     look_up: LookUp,
     start: u64,
 ) -> Result<Handle, ValueFault>
-    requires ready { IsSumReady (work_state S.state work.old) sums.now f k }
-    requires node { IsOneNode (work_state S.state work.old) f k }
+    requires ready { IsSumReady (work_state S.state work.old) sums.now f.now k.now }
+    requires node { IsOneNode (work_state S.state work.old) f.now.handle k.now.handle }
     requires spare { start ≤ (work_state S.state work.old).spare }
     ensures game { let W = work_state S.state work.old in IfOk result (λ h. StandsFor (work_state S.state work.new) h
-        (can (sum (game_at W f) (game_at W k)))) }
+        (can (sum (game_at W f.now.handle) (game_at W k.now.handle)))) }
     ensures made { let W = work_state S.state work.old in ItemsMade W (work_state S.state work.new)
-        (item_of_sum (game_at W f) (game_at W k) ∷ []) result }
+        (item_of_sum (game_at W f.now.handle) (game_at W k.now.handle) ∷ []) result }
     ensures spare { start ≤ (work_state S.state work.new).spare }
 {
     match look_up {
@@ -116,24 +108,24 @@ fn game_item<B: BoardForms, S: CellStore<GameFacts<B>>>(
 fn cell_item<B: BoardForms, S: CellStore<GameFacts<B>>>(
     alloc: Global,
     work: &mut Work<B, S>,
-    f: Handle,
-    k: Handle,
+    f: &Position,
+    k: &Position,
     sums: &Sums,
     start: u64,
 ) -> Result<Handle, ValueFault>
-    requires ready { IsSumReady (work_state S.state work.old) sums.now f k }
-    requires node { IsOneNode (work_state S.state work.old) f k }
+    requires ready { IsSumReady (work_state S.state work.old) sums.now f.now k.now }
+    requires node { IsOneNode (work_state S.state work.old) f.now.handle k.now.handle }
     requires spare { start ≤ (work_state S.state work.old).spare }
     ensures game { let W = work_state S.state work.old in IfOk result (λ h. StandsFor (work_state S.state work.new) h
-        (can (sum (game_at W f) (game_at W k)))) }
+        (can (sum (game_at W f.now.handle) (game_at W k.now.handle)))) }
     ensures made { let W = work_state S.state work.old in ItemsMade W (work_state S.state work.new)
-        (item_of_sum (game_at W f) (game_at W k) ∷ []) result }
+        (item_of_sum (game_at W f.now.handle) (game_at W k.now.handle) ∷ []) result }
     ensures spare { start ≤ (work_state S.state work.new).spare }
 {
     if work.spare() == start {
         return made_item(alloc, work, f, k, sums);
     }
-    let pair = pair(work, f, k);
+    let pair = pair(work, f.handle, k.handle);
     match work.noted(pair) {
         Some(value) => charged_item(alloc, work, Handle::of(value)),
         None => noted_item(alloc, work, pair, f, k, sums),
@@ -144,19 +136,19 @@ fn cell_item<B: BoardForms, S: CellStore<GameFacts<B>>>(
 fn kept_item<B: BoardForms, S: CellStore<GameFacts<B>>>(
     alloc: Global,
     work: &mut Work<B, S>,
-    f: Handle,
-    k: Handle,
+    f: &Position,
+    k: &Position,
     sums: &Sums,
 ) -> Result<Handle, ValueFault>
-    requires ready { IsSumReady (work_state S.state work.old) sums.now f k }
-    requires node { IsOneNode (work_state S.state work.old) f k }
+    requires ready { IsSumReady (work_state S.state work.old) sums.now f.now k.now }
+    requires node { IsOneNode (work_state S.state work.old) f.now.handle k.now.handle }
     ensures game { let W = work_state S.state work.old in IfOk result (λ h. StandsFor (work_state S.state work.new) h
-        (can (sum (game_at W f) (game_at W k)))) }
+        (can (sum (game_at W f.now.handle) (game_at W k.now.handle)))) }
     ensures made { let W = work_state S.state work.old in ItemsMade W (work_state S.state work.new)
-        (item_of_sum (game_at W f) (game_at W k) ∷ []) result }
+        (item_of_sum (game_at W f.now.handle) (game_at W k.now.handle) ∷ []) result }
     ensures more { (work_state S.state work.old).spare ≤ (work_state S.state work.new).spare }
 {
-    match sums.get(f, k) {
+    match sums.get(f.handle, k.handle) {
         Some(sum) => charged_item(alloc, work, sum),
         None => made_item(alloc, work, f, k, sums),
     }
@@ -184,18 +176,18 @@ fn noted_item<B: BoardForms, S: CellStore<GameFacts<B>>>(
     alloc: Global,
     work: &mut Work<B, S>,
     pair: Id,
-    f: Handle,
-    k: Handle,
+    f: &Position,
+    k: &Position,
     sums: &Sums,
 ) -> Result<Handle, ValueFault>
-    requires ready { IsSumReady (work_state S.state work.old) sums.now f k }
-    requires node { IsOneNode (work_state S.state work.old) f k }
+    requires ready { IsSumReady (work_state S.state work.old) sums.now f.now k.now }
+    requires node { IsOneNode (work_state S.state work.old) f.now.handle k.now.handle }
     requires pair { let W = work_state S.state work.old in
-        IsNoteOf (game_meaning B.form) W pair (sum (game_at W f) (game_at W k)) }
+        IsNoteOf (game_meaning B.form) W pair (sum (game_at W f.now.handle) (game_at W k.now.handle)) }
     ensures game { let W = work_state S.state work.old in IfOk result (λ h. StandsFor (work_state S.state work.new) h
-        (can (sum (game_at W f) (game_at W k)))) }
+        (can (sum (game_at W f.now.handle) (game_at W k.now.handle)))) }
     ensures made { let W = work_state S.state work.old in ItemsMade W (work_state S.state work.new)
-        (item_of_sum (game_at W f) (game_at W k) ∷ []) result }
+        (item_of_sum (game_at W f.now.handle) (game_at W k.now.handle) ∷ []) result }
     ensures spare { OnOk result ((work_state S.state work.old).spare + 1 ≤ (work_state S.state work.new).spare) }
     ensures more { (work_state S.state work.old).spare ≤ (work_state S.state work.new).spare }
 {
@@ -208,19 +200,19 @@ fn noted_item<B: BoardForms, S: CellStore<GameFacts<B>>>(
 fn made_item<B: BoardForms, S: CellStore<GameFacts<B>>>(
     alloc: Global,
     work: &mut Work<B, S>,
-    f: Handle,
-    k: Handle,
+    f: &Position,
+    k: &Position,
     sums: &Sums,
 ) -> Result<Handle, ValueFault>
-    requires ready { IsSumReady (work_state S.state work.old) sums.now f k }
-    requires node { IsOneNode (work_state S.state work.old) f k }
+    requires ready { IsSumReady (work_state S.state work.old) sums.now f.now k.now }
+    requires node { IsOneNode (work_state S.state work.old) f.now.handle k.now.handle }
     ensures game { let W = work_state S.state work.old in IfOk result (λ h. StandsFor (work_state S.state work.new) h
-        (can (sum (game_at W f) (game_at W k)))) }
+        (can (sum (game_at W f.now.handle) (game_at W k.now.handle)))) }
     ensures made { let W = work_state S.state work.old in ItemsMade W (work_state S.state work.new)
-        (item_of_sum (game_at W f) (game_at W k) ∷ []) result }
+        (item_of_sum (game_at W f.now.handle) (game_at W k.now.handle) ∷ []) result }
     ensures spare { OnOk result ((work_state S.state work.old).spare + 1 ≤ (work_state S.state work.new).spare) }
     ensures more { (work_state S.state work.old).spare ≤ (work_state S.state work.new).spare }
 {
-    let draft = draft_of_sum(alloc, work, f, k, sums)?;
+    let draft = draft_of_sum(alloc, f, k, sums)?;
     form_item(alloc, work, &draft, 1)
 }

@@ -18,6 +18,7 @@ mod multiples;
 mod negation;
 mod nimbers;
 mod pairs;
+mod position;
 mod rows;
 mod written;
 

@@ -4,7 +4,7 @@ ghost use Rattle.std.specs.Option.{ForSome};
 ghost use Rattle.cg_cells.specs.Store.{Spends};
 ghost use Rattle.cg_dyadic.specs.Number.{whole};
 ghost use Rattle.cg_nodes.specs.Games.{AreGames, IsGame, IsList, listed};
-ghost use Rattle.cg_sum.specs.Finds.{nimber_found, sum_value, value_found};
+ghost use Rattle.cg_sum.specs.Finds.{nimber_found, sum_value as sum_of_values, value_found};
 ghost use Rattle.cg_sum.specs.Progress.{AreInOrder, AreNimbers, HoldsNimbers, IsNimber};
 
 use cg_cells::CellStore;
@@ -54,19 +54,6 @@ impl Nimbers {
         Ok(())
     }
 
-    /// The number of the sum of the nimber of `first` and k, where k is known as a nimber, too.
-    pub(crate) fn sum_value(&self, first: Option<usize>, k: Handle) -> Option<usize>
-        ensures { result ≡ sum_value first (value_found self.now k) }
-    {
-        match first {
-            None => None,
-            Some(first) => match self.value_of(k) {
-                None => None,
-                Some(second) => Some(first ^ second),
-            },
-        }
-    }
-
     /// The handle that is known of the nimber of this number, if there is a number.
     pub(crate) fn known(&self, value: Option<usize>) -> Option<Handle>
         ensures found { IfSome result (λ h. ForSome value (λ n. nimber_found self.now n ≡ Some h)) }
@@ -76,6 +63,19 @@ impl Nimbers {
             None => None,
             Some(value) => self.handle_of(value),
         }
+    }
+}
+
+/// The number of the sum of two nimbers, where the number of both is known.
+pub(crate) fn sum_value(first: Option<usize>, second: Option<usize>) -> Option<usize>
+    ensures { result ≡ sum_of_values first second }
+{
+    match first {
+        None => None,
+        Some(first) => match second {
+            None => None,
+            Some(second) => Some(first ^ second),
+        },
     }
 }
 

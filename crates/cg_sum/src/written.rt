@@ -31,28 +31,3 @@ pub(crate) fn written_options<B: BoardForms, S: CellStore<GameFacts<B>>>(
         }
     }
 }
-
-/// The written options of two handles.
-#[derive(Drop)]
-pub(crate) struct Both {
-    pub(crate) first: Sides,
-    pub(crate) second: Sides,
-}
-
-/// The handles of the options that are written in the forms of the two handles. The only error is want of memory.
-pub(crate) fn both_options<B: BoardForms, S: CellStore<GameFacts<B>>>(
-    alloc: Global,
-    store: &mut S,
-    f: Handle,
-    k: Handle,
-) -> Result<Both, AllocError>
-    requires f { IsGame (S.state store.old) f }
-    requires k { IsGame (S.state store.old) k }
-    ensures first { IfOk result (λ both. IsWritten (S.state store.new) both.first f) }
-    ensures second { IfOk result (λ both. IsWritten (S.state store.new) both.second k) }
-    ensures spends { Spends 0 (S.state store.old) (S.state store.new) }
-{
-    let first = written_options(alloc, store, f)?;
-    let second = written_options(alloc, store, k)?;
-    Ok(Both { first, second })
-}

@@ -19,5 +19,5 @@ returns-in-Some-clause-game g c =
 pub returns-in-Some-clause-made : goal.returns-in-Some-clause-made
 returns-in-Some-clause-made g c =
     let w = work_state g.S.CellStore.state c.args.work.now in
-    known_items w w 0 (nothing_spent w) _ _ c.requires.ready.first c.requires.ready.second _ _ _
+    known_items w w 0 (nothing_spent w) _ _ c.requires.ready.first.game c.requires.ready.second.game _ _ _
     (c.requires.ready.holds.sums _ _ _ (sym c.get.ensures ∙ c.in-Some.is)) c.charged_item.ensures.made

@@ -1,21 +1,34 @@
-use Rattle.std.proofs.Common.{ap, ◌∙◌, Err}
+-- The sums of the options, which were found, make the sum.
+use Rattle.std.proofs.Common.{ap, arith, ◌∙◌, Err}
 use Rattle.std.proofs.lemmas.Result.{err_from_is_err_and}
-use Rattle.cg_canon.proofs.Keeping.{spends_keeps}
-use Rattle.cg_canon.proofs.MadeSteps.{made_memory, read_then}
-use Rattle.cg_sum.proofs.ItemSteps.{spare_read}
+use Rattle.cg_canon.proofs.Keeping.{keeps_all}
+use Rattle.cg_canon.proofs.MadeSteps.{made_memory}
+use Rattle.cg_canon.specs.Works.{work_state}
+use Rattle.cg_sum.proofs.DraftSteps.{draft_apart, draft_sides}
 use Rattle.cg_sum.proofs.item.made_item.Goals as goal
 
 pub returns-in_err-draft-clause-made : goal.returns-in_err-draft-clause-made
 returns-in_err-draft-clause-made g c =
     let p = err_from_is_err_and c.from_residual.result c.from_residual.ensures.1 in
-    made_memory _ _ _ _ (p.1 ∙ ap Err p.2) (spends_keeps 0 _ _ c.draft_of_sum.ensures.spends)
+    made_memory _ _ _ _ (p.1 ∙ ap Err p.2) (keeps_all _)
+
+pub form_item-requires : goal.form_item-requires
+form_item-requires g c =
+    let w = work_state g.S.CellStore.state c.args.work.now in
+    let sides = draft_sides w _ _ _ c.requires.ready _ c.in_ok-draft.ensures c.requires.node in
+    record {
+      extra = omega arith;
+      lefts = sides.lefts;
+      rights = sides.rights;
+      terms = draft_apart w _ _ _ c.requires.ready _ c.in_ok-draft.ensures;
+    }
 
 pub returns-clause-game : goal.returns-clause-game
-returns-clause-game g c = c.form_item.ensures.game _ c.in_ok-draft.ensures.sides
+returns-clause-game g c =
+    let w = work_state g.S.CellStore.state c.args.work.now in
+    c.form_item.ensures.game _ (draft_sides w _ _ _ c.requires.ready _ c.in_ok-draft.ensures c.requires.node)
 
 pub returns-clause-made : goal.returns-clause-made
 returns-clause-made g c =
-    read_then 0 _ _ _ _ _ c.draft_of_sum.ensures.spends (c.form_item.ensures.made _ c.in_ok-draft.ensures.sides)
-
-pub returns-clause-spare : goal.returns-clause-spare
-returns-clause-spare g c = spare_read _ _ _ _ c.draft_of_sum.ensures.spends.spare c.form_item.ensures.spare
+    let w = work_state g.S.CellStore.state c.args.work.now in
+    c.form_item.ensures.made _ (draft_sides w _ _ _ c.requires.ready _ c.in_ok-draft.ensures c.requires.node)

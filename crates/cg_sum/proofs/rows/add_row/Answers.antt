@@ -1,28 +1,20 @@
 use Rattle.std.proofs.Common.{ap, ◌∙◌, Err}
 use Rattle.std.proofs.lemmas.Result.{err_from_is_err_and}
 use Rattle.cg_canon.specs.Works.{work_state}
-use Rattle.cg_sum.proofs.NimberSteps.{known_later, sum_is_nimber}
 use Rattle.cg_sum.proofs.RowSteps.{row_done, row_made, row_more, row_none, row_ready, row_stopped}
 use Rattle.cg_sum.proofs.rows.add_row.Goals as goal
 
 pub loop-k-init : goal.loop-k-init
 loop-k-init g c =
-    row_none (work_state g.S.CellStore.state c.args.work.now) c.args.sums.now c.args.f c.args.seconds.now c.args.start
+    row_none (work_state g.S.CellStore.state c.args.work.now) c.args.sums.now c.args.f.now c.args.seconds.now c.args.start
     c.requires.holds c.requires.spare
 
 pub add_pair-requires : goal.add_pair-requires
-add_pair-requires g c =
-    let W = work_state g.S.CellStore.state in
-    let w = W c.args.work.now in
-    let v = W c.loop-k.work in
-    record {
-      ready = row_ready _ _ _ _ _ _ _ c.loop-k-test.true c.k-item.is c.requires.f c.requires.seconds
-          _ _ c.loop-k.invariant c.requires.closed c.requires.ready;
-      nimber = sum_is_nimber v _ _ _ _ _ c.loop-k.invariant.holds.nimbers
-          (known_later w v c.loop-k.invariant.keeps.known _ _ _ c.requires.holds.nimbers c.value_of-nimber.ensures)
-          c.sum_value.ensures;
-      spare = c.loop-k.invariant.spare;
-    }
+add_pair-requires g c = record {
+  ready = row_ready _ _ _ _ _ _ _ c.loop-k-test.true c.k-item.is c.requires.f c.requires.seconds _ _ c.loop-k.invariant
+      c.requires.turns c.requires.ready;
+  spare = c.loop-k.invariant.spare;
+}
 
 pub returns-in_err-add_pair-clause-made : goal.returns-in_err-add_pair-clause-made
 returns-in_err-add_pair-clause-made g c =

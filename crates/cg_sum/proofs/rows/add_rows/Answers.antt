@@ -1,7 +1,7 @@
 use Rattle.std.proofs.Common.{ap, ◌∙◌, Err}
 use Rattle.std.proofs.lemmas.Result.{err_from_is_err_and}
 use Rattle.cg_canon.specs.Works.{work_state}
-use Rattle.cg_sum.proofs.RowSteps.{rows_closed, rows_done, rows_game_f, rows_games_k, rows_made, rows_more, rows_none, rows_ready, rows_stopped}
+use Rattle.cg_sum.proofs.RowSteps.{rows_done, rows_first, rows_made, rows_more, rows_none, rows_ready, rows_seconds, rows_stopped}
 use Rattle.cg_sum.proofs.rows.add_rows.Goals as goal
 
 pub loop-f-init : goal.loop-f-init
@@ -11,15 +11,13 @@ loop-f-init g c =
 
 pub add_row-requires : goal.add_row-requires
 add_row-requires g c = record {
-  f = rows_game_f _ _ _ _ _ _ c.loop-f-test.true c.f-item.is c.requires.firsts c.requires.seconds _ _
+  f = rows_first _ _ _ _ _ _ c.loop-f-test.true c.f-item.is c.requires.firsts c.requires.seconds _ _ c.loop-f.invariant;
+  seconds = rows_seconds _ _ _ _ _ _ c.loop-f-test.true c.f-item.is c.requires.firsts c.requires.seconds _ _
       c.loop-f.invariant;
-  seconds = rows_games_k _ _ _ _ _ _ c.loop-f-test.true c.f-item.is c.requires.firsts c.requires.seconds _ _
-      c.loop-f.invariant;
-  closed = rows_closed _ _ _ _ _ _ c.loop-f-test.true c.f-item.is c.requires.firsts c.requires.seconds _ _
-      c.loop-f.invariant c.requires.closed_seconds;
+  turns = c.requires.second_turns;
   holds = c.loop-f.invariant.holds;
   ready = rows_ready _ _ _ _ _ _ c.loop-f-test.true c.f-item.is c.requires.firsts c.requires.seconds _ _
-      c.loop-f.invariant c.requires.closed_firsts;
+      c.loop-f.invariant c.requires.first_turns;
   spare = c.loop-f.invariant.spare;
 }
 

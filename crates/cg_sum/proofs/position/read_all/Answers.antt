@@ -1,0 +1,31 @@
+use Rattle.cg_nodes.proofs.Later.{is_game_later, spends_then}
+use Rattle.cg_nodes.proofs.Members.{has_game}
+use Rattle.cg_sum.proofs.Members.{has_read}
+use Rattle.cg_sum.proofs.NimberSteps.{nimbers_later}
+use Rattle.cg_sum.proofs.PositionSteps.{handles_more, positions_later, positions_more}
+use Rattle.cg_sum.proofs.position.read_all.Goals as goal
+
+pub read_one-requires-clause-handle : goal.read_one-requires-clause-handle
+read_one-requires-clause-handle g c =
+    let w = g.S.CellStore.state c.args.store.now in
+    is_game_later w (g.S.CellStore.state c.loop-handle.store) c.loop-handle.invariant.spends.known _
+    (has_game w _ _ c.requires.handles (has_read _ _ _ c.loop-handle-test.true c.handle-item.is))
+
+pub read_one-requires-clause-holds : goal.read_one-requires-clause-holds
+read_one-requires-clause-holds g c =
+    let W = g.S.CellStore.state in
+    nimbers_later (W c.args.store.now) (W c.loop-handle.store) c.loop-handle.invariant.spends.known _ c.requires.holds
+
+pub loop-handle-preserved : goal.loop-handle-preserved
+loop-handle-preserved g c =
+    let W = g.S.CellStore.state in
+    let v = W c.loop-handle.store in
+    let x = W c.read_one.new.store in
+    record {
+      positions = positions_more x _ _ _ c.in_ok-push.ensures.items
+          (positions_later v x c.read_one.ensures.spends.known _ c.loop-handle.invariant.positions)
+          c.in_ok-position.ensures.position;
+      handles = handles_more _ _ _ _ _ _ c.in_ok-push.ensures.items c.loop-handle.invariant.handles
+          c.in_ok-position.ensures.handle c.loop-handle-test.true c.handle-item.is;
+      spends = spends_then 0 0 (W c.args.store.now) v x c.loop-handle.invariant.spends c.read_one.ensures.spends;
+    }
