@@ -1,6 +1,6 @@
 -- The nimbers that a call knows.
-use Rattle.std.proofs.Common.{◌≡◌, inl, inr, ℕ, zero, suc, ◌<◌, ◌≤◌, pos, arith, refl, ap, sym, ◌∙◌, subst, List, [], ◌∷◌, ◌++◌, Option, Some, None, IsSome, ℤ, Result, Ok, Err, map, length, take, get_or}
-use Rattle.std.specs.Prelude.{◌==◌, IfOk, bit_xor, if◌then◌else◌}
+use Rattle.std.proofs.Common.{◌≡◌, inl, inr, ℕ, zero, suc, ◌<◌, ◌≤◌, pos, arith, refl, ap, sym, ◌∙◌, subst, List, [], ◌∷◌, ◌++◌, Option, Some, None, IsSome, ℤ, map, length, take, get_or}
+use Rattle.std.specs.Prelude.{◌==◌, bit_xor, if◌then◌else◌}
 use Rattle.std.specs.Option.{ForSome}
 use Rattle.std.proofs.lemmas.Int.{ints}
 use Rattle.std.proofs.lemmas.List.{map-append, take_all}
@@ -19,7 +19,7 @@ use Rattle.cg_nodes.proofs.Forms.{can-node, can-same}
 use Rattle.cg_nodes.specs.CanForms.{can-fixed}
 use Rattle.cg_nodes.proofs.Later.{stands_game, stands_later}
 use Rattle.cg_nodes.proofs.Lists.{games_at-append}
-use Rattle.cg_nodes.specs.Games.{IsGame, StandsFor, game_at, games_at, listed}
+use Rattle.cg_nodes.specs.Games.{IsGame, StandFor, StandsFor, game_at, games_at, listed}
 use Rattle.cg_nodes.specs.Meant.{Meant}
 use Rattle.cg_nodes.specs.Spelled.{can}
 use Rattle.cg_sum.specs.Finds.{nimber_found, sum_value, value_found}
@@ -69,13 +69,6 @@ nimbers_more s m n h k v w is holds = record {
   ];
 }
 
-pub more_known : {R T E : Type 0} (s : State Meant R) (m n : Nimbers) (h k : ℕ) (r : Result T E)
-    → IfOk r (λ _. (c : ℕ) → value_found n c ≡ (if h == c then Some k else value_found m c))
-    → IfOk r (λ _. (c : ℕ) → nimber_found n c ≡ (if k == c then Some h else nimber_found m c))
-    → IsNimber s h k → HoldsNimbers s m → IfOk r (λ _. HoldsNimbers s n)
-more_known s m n h k (Ok t) v w is holds = nimbers_more s m n h k v w is holds
-more_known s m n h k (Err e) v w is holds = tt
-
 -- ---- which games are nimbers
 
 -- a numerator that is 0 as a word
@@ -96,10 +89,12 @@ is_zero s h x is e z =
     subst P (e ∙ ap number z ∙ sym (can-fixed zero_form tt)) is
 
 pub first_zero : {R Q : Type 0} (s : State Meant R) (t : State Meant Q) → Grows (thing_at s) (thing_at t) → (h : ℕ) (x : Number)
-    → IsGame s h → game_at s h ≡ number x → x ≡ whole (pos 0) → (n : ℕ) → Some 0 ≡ Some n → IsNimber t h n
-first_zero s t grows h x is e z n same =
+    → IsGame s h → game_at s h ≡ number x → (o : Option ℕ) → ForSome o (λ n. (n ≡ 0) × (x ≡ whole (pos 0)))
+    → ForSome o (λ n. IsNimber t h n)
+first_zero s t grows h x is e o told n some =
+    let z = told n some in
     let P : ℕ → Type 0 = λ k. IsNimber t h k in
-    subst P (some_same 0 n same) (stands_later s t grows h (can (nimber_form 0)) (is_zero s h x is e z))
+    subst P (sym z.0) (stands_later s t grows h (can (nimber_form 0)) (is_zero s h x is e z.1))
 
 can-over : (gs : List Game) → can (node gs gs) ≡ can (nimber_over gs)
 can-over [] = can-same (node [] []) zero_form (zero_is.1, zero_is.0)
@@ -115,15 +110,6 @@ pub is_over : {R : Type 0} (s : State Meant R) (h : ℕ) (ls rs : List Game) (n 
 is_over s h ls rs n is c e same are =
     let P : Game → Type 0 = λ g. StandsFor s h g in
     subst P (sym (can-fixed (game_at s h) c) ∙ ap can e ∙ ap (λ z. can (node ls z)) (sym same) ∙ can-nimber ls n are) is
-
-pub over_later : {R Q V T : Type 0} (s : State Meant R) (t : State Meant Q) (u : State Meant V) → Grows (thing_at s) (thing_at t)
-    → Grows (thing_at t) (thing_at u) → (h : ℕ) (lo ro : Option ℕ) → IsGame s h → Canonical (game_at s h)
-    → game_at s h ≡ node (listed t lo) (listed t ro) → lo ≡ ro → (r : Result (Option ℕ) T)
-    → IfOk r (λ o. ForSome o (λ n. AreNimbers (listed t lo) n)) → IfOk r (λ o. ForSome o (λ n. IsNimber u h n))
-over_later s t u st tu h lo ro is c e same (Ok o) are = λ n some.
-    stands_later t u tu h (can (nimber_form n)) (stands_later s t st h (can (nimber_form n))
-    (is_over s h (listed t lo) (listed t ro) n is c e (ap (listed t) same) (are n some)))
-over_later s t u st tu h lo ro is c e same (Err x) are = tt
 
 -- ---- known in their order
 
@@ -156,6 +142,18 @@ all_in_order s m hs n holds are =
     let P : List ℕ → Type 0 = λ z. AreNimbers (games_at s z) n in
     let whole_list : length hs ≤ n = (let e = are.count in omega arith) in
     subst P (take_all n hs whole_list) (in_order s m hs n holds (let e = are.count in omega arith) are.each)
+
+-- a game with one list of nimbers, which was read
+pub over_later : {R Q V : Type 0} (s : State Meant R) (t : State Meant Q) (u : State Meant V) → Grows (thing_at s) (thing_at t)
+    → Grows (thing_at t) (thing_at u) → (m : Nimbers) (h : ℕ) (lo ro : Option ℕ) (hs ls : List ℕ) → HoldsNimbers s m
+    → IsGame s h → Canonical (game_at s h) → game_at s h ≡ node (listed t lo) (listed t ro) → StandFor u ls (listed t lo)
+    → hs ≡ ls → (o : Option ℕ) → ForSome o (λ n. (lo ≡ ro) × AreInOrder m hs n) → ForSome o (λ n. IsNimber u h n)
+over_later s t u st tu m h lo ro hs ls holds is c e stand same o order n some =
+    let d = order n some in
+    let su : Grows (thing_at s) (thing_at u) = λ i x k. tu i x (st i x k) in
+    let games : games_at u hs ≡ listed t lo = ap (games_at u) same ∙ stand.1 in
+    stands_later s u su h (can (nimber_form n)) (is_over s h (listed t lo) (listed t ro) n is c e (ap (listed t) d.0)
+    (sym games ∙ all_in_order u m hs n (nimbers_later s u su m holds) d.1))
 
 -- ---- sums
 

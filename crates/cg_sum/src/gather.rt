@@ -69,7 +69,7 @@ fn option_sums(
     ensures { IfOk result (λ all. all.items ≡ map (λ p. sum_handle sums.now p k) firsts.now
         ++ map (λ q. sum_handle sums.now f q) seconds.now) }
 {
-    let mut all = Vec::new(alloc);
+    let mut all = Vec::with_capacity(alloc, firsts.len() + seconds.len())?;
     add_firsts(sums, firsts, k, &mut all)?;
     add_seconds(sums, f, seconds, &mut all)?;
     Ok(all)

@@ -1,15 +1,12 @@
 //! The nimbers that a call knows.
 ghost use Rattle.std.specs.Prelude.{◌≡◌, ℕ, ◌==◌, ◌<◌, IfOk, IfSome, IsSome, IsTrue, None, Some, Option, if◌then◌else◌, length, pos, slice_index};
 ghost use Rattle.std.specs.Option.{ForSome};
-ghost use Rattle.cg_cells.specs.Store.{Spends};
 ghost use Rattle.cg_dyadic.specs.Number.{whole};
-ghost use Rattle.cg_nodes.specs.Games.{AreGames, IsGame, IsList, listed};
 ghost use Rattle.cg_sum.specs.Finds.{nimber_found, sum_value as sum_of_values, value_found};
-ghost use Rattle.cg_sum.specs.Progress.{AreInOrder, AreNimbers, HoldsNimbers, IsNimber};
+ghost use Rattle.cg_sum.specs.Progress.{AreInOrder};
 
-use cg_cells::CellStore;
 use cg_dyadic::Dyadic;
-use cg_nodes::{BoardForms, GameFacts, Handle, ListId, Reading, handles, read};
+use cg_nodes::{Handle, ListId};
 use std::alloc::{AllocError, Global};
 use std::collections::HashMap;
 
@@ -79,66 +76,26 @@ pub(crate) fn sum_value(first: Option<usize>, second: Option<usize>) -> Option<u
     }
 }
 
-/// Keeps those of the handles that stand for nimbers, where the options of a game stand before it.
-pub(crate) fn learn<B: BoardForms, S: CellStore<GameFacts<B>>>(
-    alloc: Global,
-    store: &mut S,
-    positions: &[Handle],
-    nimbers: &mut Nimbers,
-) -> Result<(), AllocError>
-    requires positions { AreGames (S.state store.old) positions.now }
-    requires holds { HoldsNimbers (S.state store.old) nimbers.old }
-    ensures holds { IfOk result (λ _. HoldsNimbers (S.state store.new) nimbers.new) }
-    ensures spends { Spends 0 (S.state store.old) (S.state store.new) }
+/// The number of the nimber that the number is: 0 for the number 0, and none for another.
+pub(crate) fn value_of_number(x: Dyadic) -> Option<usize>
+    ensures { ForSome result (λ n. (n ≡ 0) × (x ≡ whole (pos 0))) }
 {
-    for position in positions {
-        learn_one(alloc, store, *position, nimbers)?;
-    }
-    Ok(())
+    if is_zero(x) { Some(0) } else { None }
 }
 
-// Keeps the handle if it stands for a nimber whose options are known.
-fn learn_one<B: BoardForms, S: CellStore<GameFacts<B>>>(
-    alloc: Global,
-    store: &mut S,
-    handle: Handle,
-    nimbers: &mut Nimbers,
-) -> Result<(), AllocError>
-    requires handle { IsGame (S.state store.old) handle }
-    requires holds { HoldsNimbers (S.state store.old) nimbers.old }
-    ensures holds { IfOk result (λ _. HoldsNimbers (S.state store.new) nimbers.new) }
-    ensures spends { Spends 0 (S.state store.old) (S.state store.new) }
-{
-    if nimbers.value_of(handle).is_some() {
-        return Ok(());
-    }
-    match value_at(alloc, store, handle, nimbers)? {
-        Some(value) => nimbers.keep(handle, value),
-        None => Ok(()),
-    }
-}
-
-// The number of the nimber that the handle stands for, where its options are known as nimbers.
-fn value_at<B: BoardForms, S: CellStore<GameFacts<B>>>(
-    alloc: Global,
-    store: &mut S,
-    handle: Handle,
+/// The number of the nimber with these lists, whose Left options are given, where they are known as nimbers.
+pub(crate) fn value_over(
+    left_list: ListId,
+    right_list: ListId,
+    lefts: &[Handle],
     nimbers: &Nimbers,
-) -> Result<Option<usize>, AllocError>
-    requires handle { IsGame (S.state store.old) handle }
-    requires holds { HoldsNimbers (S.state store.old) nimbers.now }
-    ensures value { IfOk result (λ value. ForSome value (λ n. IsNimber (S.state store.new) handle n)) }
-    ensures spends { Spends 0 (S.state store.old) (S.state store.new) }
+) -> Option<usize>
+    ensures { ForSome result (λ n. (left_list ≡ right_list) × AreInOrder nimbers.now lefts.now n) }
 {
-    match read(store, handle) {
-        Reading::Number(x) => Ok(if is_zero(x) { Some(0) } else { None }),
-        Reading::Game(lefts, rights) => {
-            if is_same(lefts, rights) {
-                count_of(alloc, store, lefts, nimbers)
-            } else {
-                Ok(None)
-            }
-        }
+    if is_same(left_list, right_list) {
+        in_order(lefts, nimbers)
+    } else {
+        None
     }
 }
 
@@ -154,22 +111,6 @@ fn is_same(a: ListId, b: ListId) -> bool
     ensures { IsTrue result → a ≡ b }
 {
     a == b
-}
-
-// How many options the list has, where they are known as 0, *1, *2 and so on in this order.
-fn count_of<B: BoardForms, S: CellStore<GameFacts<B>>>(
-    alloc: Global,
-    store: &mut S,
-    list: ListId,
-    nimbers: &Nimbers,
-) -> Result<Option<usize>, AllocError>
-    requires list { IsList (S.state store.old) list }
-    requires holds { HoldsNimbers (S.state store.old) nimbers.now }
-    ensures count { IfOk result (λ count. ForSome count (λ n. AreNimbers (listed (S.state store.old) list) n)) }
-    ensures spends { Spends 0 (S.state store.old) (S.state store.new) }
-{
-    let options = handles(alloc, store, list)?;
-    Ok(in_order(options.as_slice(), nimbers))
 }
 
 // How many options there are, where they are known as 0, *1, *2 and so on in this order.

@@ -1,15 +1,26 @@
-use Rattle.std.proofs.lemmas.Result.{IfOk-weaker}
-use Rattle.cg_nodes.proofs.Later.{are_games_later}
-use Rattle.cg_sum.proofs.NimberSteps.{nimbers_later}
+use Rattle.cg_nodes.proofs.Later.{is_game_later, spends_then}
+use Rattle.cg_nodes.proofs.Members.{has_game}
+use Rattle.cg_sum.proofs.Members.{has_read}
+use Rattle.cg_sum.proofs.PositionSteps.{handles_more, positions_later, positions_more}
 use Rattle.cg_sum.proofs.position.learned.Goals as goal
 
-pub read_all-requires-clause-handles : goal.read_all-requires-clause-handles
-read_all-requires-clause-handles g c =
-    let W = g.S.CellStore.state in
-    are_games_later (W c.args.store.now) (W c.learn.new.store) c.learn.ensures.spends.known _ c.requires.handles
+pub learned_one-requires-clause-handle : goal.learned_one-requires-clause-handle
+learned_one-requires-clause-handle g c =
+    let w = g.S.CellStore.state c.args.store.now in
+    is_game_later w (g.S.CellStore.state c.loop-handle.store) c.loop-handle.invariant.spends.known _
+    (has_game w _ _ c.requires.handles (has_read _ _ _ c.loop-handle-test.true c.handle-item.is))
 
-pub returns-clause-holds : goal.returns-clause-holds
-returns-clause-holds g c =
+pub loop-handle-preserved : goal.loop-handle-preserved
+loop-handle-preserved g c =
     let W = g.S.CellStore.state in
-    IfOk-weaker c.read_all.result _ _ (λ all is. nimbers_later (W c.learn.new.store) (W c.read_all.new.store)
-    c.read_all.ensures.spends.known _ c.in_ok-learn.ensures.holds) c.read_all.ensures.positions
+    let v = W c.loop-handle.store in
+    let x = W c.learned_one.new.store in
+    record {
+      positions = positions_more x _ _ _ c.in_ok-push.ensures.items
+          (positions_later v x c.learned_one.ensures.spends.known _ c.loop-handle.invariant.positions)
+          c.in_ok-position.ensures.position;
+      handles = handles_more _ _ _ _ _ _ c.in_ok-push.ensures.items c.loop-handle.invariant.handles
+          c.in_ok-position.ensures.handle c.loop-handle-test.true c.handle-item.is;
+      holds = c.in_ok-position.ensures.holds;
+      spends = spends_then 0 0 (W c.args.store.now) v x c.loop-handle.invariant.spends c.learned_one.ensures.spends;
+    }
