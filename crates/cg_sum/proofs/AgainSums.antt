@@ -1,25 +1,15 @@
 -- A sum that is kept with what its items cost.
-use Rattle.std.proofs.Common.{◌≡◌, ℕ, sym, subst}
+use Rattle.std.proofs.Common.{◌≡◌, ℕ}
 use Rattle.cg_cells.specs.Store.{State}
-use Rattle.cg_form.specs.Game.{Game}
-use Rattle.cg_form.specs.Sum.{sum}
 use Rattle.cg_nodes.proofs.Later.{game_later}
-use Rattle.cg_nodes.specs.Games.{IsGame, StandsFor, game_at}
+use Rattle.cg_nodes.specs.Games.{IsGame, game_at}
 use Rattle.cg_nodes.specs.Meant.{Meant}
-use Rattle.cg_nodes.specs.Spelled.{can}
 use Rattle.cg_canon.specs.Items.{AllPass}
 use Rattle.cg_canon.specs.SumItems.{sum_items}
 use Rattle.cg_canon.specs.Works.{Keeps}
 use Rattle.cg_canon.specs.declared.rest.WorkRest.{WorkRest}
 
--- the sum of two games of an earlier state is that of the games of the same handles later
-pub kept_sum : {R : Type 0} (s t : State Meant (WorkRest R)) → Keeps s t → (a b h : ℕ) → IsGame s a → IsGame s b
-    → StandsFor t h (can (sum (game_at s a) (game_at s b))) → StandsFor t h (can (sum (game_at t a) (game_at t b)))
-kept_sum s t k a b h ga gb e =
-    let P : Game → Game → Type 0 = λ x y. StandsFor t h (can (sum x y)) in
-    subst (λ x. P x (game_at t b)) (sym (game_later s t k.known a ga)) (subst (P (game_at s a)) (sym (game_later s t k.known b gb)) e)
-
--- and its items are the same
+-- the items of the sum of two games of an earlier state are those of the games of the same handles later
 pub kept_items : {R : Type 0} (s t : State Meant (WorkRest R)) → Keeps s t → (a b before : ℕ) → IsGame s a → IsGame s b
     → before ≡ s.rest.spent
     → AllPass s.rest.share s.rest.spent (sum_items s.rest.limit (game_at s a) (game_at s b)) t.rest.spent

@@ -36,9 +36,6 @@ map-append f [] hs = refl
 map-append f (g ∷ gs) hs = ap (λ z. f g ∷ z) (map-append f gs hs)
 
 -- the forms of the options of a sum, on one side
-forms_of : Game → Game → List Game → List Game → List Game
-forms_of g h gs hs = map (λ a. can (sum a h)) gs ++ map (λ c. can (sum g c)) hs
-
 forms_of-map : (g h : Game) (gs hs : List Game)
     → map can (map (λ a. sum a h) gs ++ map (λ c. sum g c) hs) ≡ map (λ a. can (sum a h)) gs ++ map (λ c. can (sum g c)) hs
 forms_of-map g h gs hs =
