@@ -7,7 +7,7 @@ use Rattle.cg_syntax.specs.Found.{Found}
 use Rattle.cg_reading.specs.Tokens.{only, digit}
 use Rattle.cg_reading.specs.TokenReaders.{digits_at}
 use Rattle.cg_syntax.specs.Values.{with_tail, clean, counted_of, times_of, Arrows, ups_tree, Last, In_none, In_arrows, In_name}
-use Rattle.cg_syntax.specs.Reading.{Behind, Over, Times, counted_from, count_at, plain_count_at, arrows_at, ups_at, ups_tree_at, nim_at, tail_at, primary_at, plain_primary_at, behind_at, behind_number_at, counted_at, number_or_multiple_at, counted_term_at, plain_counted_term_at, whole_term_at, special_term_at, use_at, whole_use_at, name_at, special_at, bare_special_at, whole_special_at, arrow, star}
+use Rattle.cg_syntax.specs.Reading.{Behind, Over, Times, counted_from, count_at, plain_count_at, arrows_at, ups_at, ups_tree_at, nim_at, tail_at, primary_at, plain_primary_at, behind_at, behind_number_at, times_at, counted_at, number_or_multiple_at, counted_term_at, plain_counted_term_at, whole_term_at, special_term_at, use_at, whole_use_at, name_at, special_at, bare_special_at, whole_special_at, arrow, star}
 use Rattle.cg_syntax.specs.Grammar.{letter}
 use Rattle.cg_syntax.specs.declared.format.Format.{Format}
 use Rattle.cg_syntax.specs.declared.format.Format.TheVariants as formats
@@ -80,7 +80,7 @@ module _ (s : Reader Found) (w : Reader (Found × Last)) (bare : (end : ℕ) (by
   over_is negative n (Err m) = refl
 
   behind_is : (negative : Bool) (n end : ℕ) (bytes : List ℕ) → under (λ b. counted_of negative (counted_from (n, b))) (behind_at w end bytes) ≡ behind_number_at s negative n end bytes
-  unfolding behind_at behind_number_at
+  unfolding behind_at behind_number_at times_at
   behind_is negative n end [] = refl
   behind_is negative n end (c ∷ bytes) =
       chosen_same (under (λ b. counted_of negative (counted_from (n, b)))) (has (only 47) c) (made_at (λ v. Over v.1) (then_at (one_at (only 47)) digits_at) end (c ∷ bytes)) _ _ _ (over_is negative n (then_at (one_at (only 47)) digits_at end (c ∷ bytes)))

@@ -193,6 +193,10 @@ abbrev pub behind_goes_on : Behind → Class
 behind_goes_on (Over d) = []
 behind_goes_on (Times e last) = goes_on last
 
+-- an operand that was read, with the ups and the nimber that may stand together behind it
+unfoldable pub tail_of_at : Found → Reader Found
+tail_of_at operand = made_at (λ v. with_tail v.0 v.1) (then_at (nothing_at operand) tail_at)
+
 -- operands with what they end in
 module _ (special : Reader (Found × Last)) where
   unfoldable pub primary_at : Reader (Found × Last)
@@ -215,8 +219,11 @@ module _ (special : Reader Found) where
   unfoldable pub plain_primary_at : Reader Found
   plain_primary_at = or_at arrow (made_at clean ups_tree_at) (or_at star (made_at clean nim_at) special)
 
+  unfoldable pub times_at : Bool → ℕ → Reader Found
+  times_at negative n = made_at (λ v. times_of negative n v.1) (then_at (one_at (only 46)) plain_primary_at)
+
   unfoldable pub behind_number_at : Bool → ℕ → Reader Found
-  behind_number_at negative n = or_at (only 47) (made_at (λ v. clean (number negative n v.1)) (then_at (one_at (only 47)) digits_at)) (or_at (only 46) (made_at (λ v. times_of negative n v.1) (then_at (one_at (only 46)) plain_primary_at)) (nothing_at (clean (number negative n 1))))
+  behind_number_at negative n = or_at (only 47) (made_at (λ v. clean (number negative n v.1)) (then_at (one_at (only 47)) digits_at)) (or_at (only 46) (times_at negative n) (nothing_at (clean (number negative n 1))))
 
   unfoldable pub number_or_multiple_at : Bool → Reader Found
   number_or_multiple_at negative end bytes = digits_at end bytes >>= λ x. behind_number_at negative x.0 end x.1

@@ -1,6 +1,6 @@
 -- What the values stand for that the code hands on while it reads.
-use Rattle.std.specs.Prelude.{ℕ, List, map, Option, Some, None}
-use Rattle.cg_syntax.specs.Tree.{Tree}
+use Rattle.std.specs.Prelude.{ℕ, List, [], ◌∷◌, map, Option, Some, None}
+use Rattle.cg_syntax.specs.Tree.{Tree, braces}
 use Rattle.cg_syntax.specs.Found.{Found}
 use Rattle.cg_syntax.specs.Braces.{Run_side, Cut, Whole, Parts}
 use Rattle.cg_syntax.specs.Values.{run_side}
@@ -10,6 +10,8 @@ use Rattle.cg_syntax.specs.declared.found.Found as code
 use Rattle.cg_syntax.specs.declared.found.Row as code_row
 use Rattle.cg_syntax.specs.declared.split.Cut as code_cut
 use Rattle.cg_syntax.specs.declared.split.Cut.TheVariants as cuts
+use Rattle.cg_syntax.specs.declared.split.Halves as code_halves
+use Rattle.cg_syntax.specs.declared.split.Halves.TheVariants as halves
 
 -- a tree that was found, with the first fault in it
 abbrev pub found_of : code.Found → Found
@@ -30,3 +32,8 @@ rows_of rows = map run_side (map row_of rows)
 abbrev pub cut_of : code_cut.Cut → Cut
 cut_of (cuts.Whole rows) = Whole (rows_of rows.items)
 cut_of (cuts.Parts before middle behind) = Parts (rows_of before.items) (map found_of middle.items) (rows_of behind.items)
+
+-- the options that a part comes to: two sides are one option, their brace
+abbrev pub halves_of : code_halves.Halves → List Tree
+halves_of (halves.Options exprs) = map tree_of exprs.items
+halves_of (halves.Sides lefts rights) = braces (map tree_of lefts.items) (map tree_of rights.items) ∷ []

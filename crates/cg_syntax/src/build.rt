@@ -1,17 +1,19 @@
 //! Expressions from their parts.
-ghost use Rattle.std.specs.Prelude.{map, ◌≡◌, Ok, ◌∷◌, [], false};
+ghost use Rattle.std.specs.Prelude.{map, ◌≡◌, ◌≤◌, ℕ, Ok, ◌∷◌, [], false, length, IfOk};
 ghost use Rattle.cg_reading.specs.Gives.{Gives};
 ghost use Rattle.cg_syntax.specs.Braces.{only_tree};
+ghost use Rattle.cg_syntax.specs.Reading.{tail_of_at};
 ghost use Rattle.cg_syntax.specs.Tree.{sum, terms_from};
 ghost use Rattle.cg_syntax.specs.Trees.{tree_of, terms_of};
 ghost use Rattle.cg_syntax.specs.Values.{with_tail, negated, times_of, together, braces_of as braces_value};
-ghost use Rattle.cg_syntax.specs.Views.{found_of, tree_option, rows_of};
+ghost use Rattle.cg_syntax.specs.Views.{found_of, halves_of, tree_option, rows_of};
 
+use crate::arrows::{is_arrow, tail};
 use crate::expr::{Expr, Exprs, Term, Terms};
 use crate::faults::{earlier, rows_fault, side_fault};
 use crate::found::{Found, Row};
-use crate::split::part;
-use cg_reading::ReadFault;
+use crate::split::{Halves, split_part};
+use cg_reading::{ReadFault, is_byte};
 use std::alloc::Global;
 
 /// An operand with what stands together behind it.
@@ -39,6 +41,38 @@ pub fn joined(
     Ok(Found { expr, fault })
 }
 
+/// An operand that was read, with the ups and the nimber that may stand together behind it.
+#[inline(always)]
+#[tactic(auto, unfolding(crate::specs::Reading::tail_of_at, crate::specs::Reading::tail_at, crate::specs::Reading::ups_option_at, crate::specs::Reading::nim_option_at))]
+pub fn behind_operand(
+    alloc: Global,
+    operand: Found,
+    bytes: &[u8],
+) -> Result<(Found, &[u8]), ReadFault>
+    ensures read { (end : ℕ) → Gives (λ x. (found_of x.0, x.1.now)) result
+        (tail_of_at (found_of operand) end bytes.now) }
+    ensures shorter { IfOk result (λ x. length x.1.now ≤ length bytes.now) }
+{
+    match bytes.split_first() {
+        Some((first, _)) if is_arrow(*first) => with_tail(alloc, operand, bytes),
+        Some((first, _)) if is_byte(b'*', *first) => with_tail(alloc, operand, bytes),
+        _ => Ok((operand, bytes)),
+    }
+}
+
+/// The same, read and joined also where none stands there.
+#[inline(never)]
+#[tactic(auto, unfolding(crate::specs::Reading::tail_of_at))]
+fn with_tail(alloc: Global, operand: Found, bytes: &[u8]) -> Result<(Found, &[u8]), ReadFault>
+    ensures read { (end : ℕ) → Gives (λ x. (found_of x.0, x.1.now)) result
+        (tail_of_at (found_of operand) end bytes.now) }
+    ensures shorter { IfOk result (λ x. length x.1.now ≤ length bytes.now) }
+{
+    let ((ups, nim), rest) = tail(bytes)?;
+    let found = joined(alloc, operand, ups, nim)?;
+    Ok((found, rest))
+}
+
 /// The sum of these terms.
 #[tactic(auto, using(crate::proofs::TreeOf::sum_tree))]
 pub fn sum_of_terms(terms: Vec<Term>) -> Expr
@@ -48,6 +82,7 @@ pub fn sum_of_terms(terms: Vec<Term>) -> Expr
 }
 
 /// The sum of two.
+#[inline(never)]
 #[tactic(auto, using(crate::proofs::TreeOf::two_terms))]
 fn of_two(alloc: Global, first: Expr, second: Expr) -> Result<Expr, ReadFault>
     ensures { Gives tree_of result (Ok (together (tree_of first) ((false, tree_of second) ∷ []))) }
@@ -65,6 +100,7 @@ fn of_two(alloc: Global, first: Expr, second: Expr) -> Result<Expr, ReadFault>
 }
 
 /// The sum of three.
+#[inline(never)]
 #[tactic(auto, using(crate::proofs::TreeOf::three_terms))]
 fn of_three(alloc: Global, first: Expr, second: Expr, third: Expr) -> Result<Expr, ReadFault>
     ensures { Gives tree_of result
@@ -122,9 +158,20 @@ pub fn braces_of(alloc: Global, side: Vec<Found>, rows: Vec<Row>) -> Result<Foun
         (Ok (braces_value (map found_of side.items) (rows_of rows.items))) }
 {
     let fault = earlier(side_fault(&side), rows_fault(alloc, &rows)?);
-    let parts = part(alloc, 8, side, rows)?;
-    let expr = only(alloc, parts);
+    let halves = split_part(alloc, 8, side, rows)?;
+    let expr = brace(alloc, halves);
     Ok(Found { expr, fault })
+}
+
+/// The brace of two sides, or the only one of these options.
+#[tactic(auto, using(crate::proofs::TreeOf::braces_tree))]
+fn brace(alloc: Global, halves: Halves) -> Expr
+    ensures { tree_of result ≡ only_tree (halves_of halves) }
+{
+    match halves {
+        Halves::Options(exprs) => only(alloc, exprs),
+        Halves::Sides(lefts, rights) => Expr::Braces(Exprs::of(lefts), Exprs::of(rights)),
+    }
 }
 
 /// The only one of these, or braces of nothing.

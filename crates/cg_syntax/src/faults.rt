@@ -59,7 +59,9 @@ pub fn rows_fault(alloc: Global, rows: &[Row]) -> Result<Option<u64>, ReadFault>
         if let Some(column) = side_fault(&row.side) {
             return Ok(Some(column));
         }
-        runs.push(row.bars)?;
+        if !others.is_empty() {
+            runs.push(row.bars)?;
+        }
         rest = others;
     }
     Ok(None)

@@ -106,6 +106,7 @@ fn name(bytes: &[u8]) -> Result<(&[u8], &[u8]), ReadFault>
 }
 
 /// A use of a name.
+#[inline(never)]
 #[tactic(auto, using(crate::proofs::TreeOf::used_tree), unfolding(crate::specs::Reading::use_at))]
 pub fn use_of_name(alloc: Global, line_end: u64, bytes: &[u8]) -> Result<(Found, &[u8]), ReadFault>
     requires { length bytes.now ≤ line_end }

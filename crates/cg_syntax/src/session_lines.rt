@@ -3,6 +3,7 @@ ghost use Rattle.std.specs.Prelude.{◌≡◌, ◌≢◌, ◌∷◌, ◌<◌, �
 ghost use Rattle.cg_syntax.specs.SessionLines.{lines_of, is_answered};
 
 use cg_reading::after_blanks;
+use memchr::memchr;
 
 /// The first line of a text that isn't empty, and what follows its LF.
 pub fn first_line(text: &[u8]) -> (&[u8], &[u8])
@@ -24,12 +25,7 @@ fn line_length(text: &[u8]) -> usize
     ensures before { (k : ℕ) → k < result → slice_index text.now k ≢ 10 }
     ensures found { result < length text.now → slice_index text.now result ≡ 10 }
 {
-    for (i, byte) in text.iter().enumerate() {
-        if *byte == b'\n' {
-            return i;
-        }
-    }
-    text.len()
+    memchr(b'\n', text).unwrap_or(text.len())
 }
 
 /// Whether the line gets an answer: it is neither blank nor a comment.

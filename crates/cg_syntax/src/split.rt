@@ -1,9 +1,10 @@
 //! Rows of sides with runs of bars between them, split into Left and Right sides at their longest runs.
-ghost use Rattle.std.specs.Prelude.{◌≡◌, ◌≤◌, map, Ok, [], IfNone, IfSome};
+ghost use Rattle.std.specs.Prelude.{◌≡◌, ◌≤◌, List, map, Ok, [], IfNone, IfSome};
 ghost use Rattle.cg_reading.specs.Gives.{Gives};
 ghost use Rattle.cg_syntax.specs.Braces.{cut_from, part_of, side_trees, Whole};
 ghost use Rattle.cg_syntax.specs.Trees.{tree_of};
-ghost use Rattle.cg_syntax.specs.Views.{found_of, rows_of, cut_of};
+ghost use Rattle.cg_syntax.specs.Found.{Found as found};
+ghost use Rattle.cg_syntax.specs.Views.{found_of, rows_of, cut_of, halves_of};
 ghost use Rattle.cg_syntax.specs.Cuts.{IsFirstRun};
 
 use crate::expr::{Expr, Exprs};
@@ -16,6 +17,13 @@ use std::alloc::Global;
 pub enum Cut {
     Whole(Vec<Row>),
     Parts(Vec<Row>, Vec<Found>, Vec<Row>),
+}
+
+/// What a part comes to: the options of one without a run, or those of both sides of its longest run.
+#[derive(Debug, Drop)]
+pub enum Halves {
+    Options(Vec<Expr>),
+    Sides(Vec<Expr>, Vec<Expr>),
 }
 
 /// The place of the first run of this length.
@@ -52,33 +60,69 @@ fn cut_at(bars: u64, rows: Vec<Row>) -> Result<Cut, ReadFault>
 fn exprs(alloc: Global, side: Vec<Found>) -> Result<Vec<Expr>, ReadFault>
     ensures { Gives (λ v. map tree_of v.items) result (Ok (side_trees (map found_of side.items))) }
 {
-    let mut exprs = Vec::new(alloc);
+    let mut exprs = Vec::with_capacity(alloc, side.len())?;
     for found in side {
         exprs.push(found.expr)?;
     }
     Ok(exprs)
 }
 
-/// The options of a part whose runs have so many bars at most.
-#[tactic(auto, using(crate::proofs::Parts::part_step, crate::proofs::Parts::part_none, crate::proofs::TreeOf::braces_tree))]
-pub fn part(
+/// The length of the longest run of at most so many bars, or 0 where there is none.
+fn longest(most: u64, rows: &[Row]) -> u64
+    ensures within { result ≤ most }
+    ensures same { (side : List found) → part_of most side (rows_of rows.now) ≡ part_of result side (rows_of rows.now) }
+{
+    let mut bars = most;
+    while bars > 0 && first_run(bars, rows).is_none() {
+        bars -= 1;
+    }
+    bars
+}
+
+/// What a part comes to whose runs have so many bars at most.
+#[cycle(part)]
+#[tactic(auto, using(crate::proofs::Parts::part_step, crate::proofs::Parts::part_none))]
+pub fn split_part(
     alloc: Global,
     most: u64,
     side: Vec<Found>,
     rows: Vec<Row>,
-) -> Result<Vec<Expr>, ReadFault>
+) -> Result<Halves, ReadFault>
+    ensures { Gives halves_of result
+        (Ok (part_of most (map found_of side.items) (rows_of rows.items))) }
+{
+    let bars = longest(most, &rows);
+    if bars == 0 {
+        return Ok(Halves::Options(exprs(alloc, side)?));
+    }
+    match cut_at(bars, rows)? {
+        Cut::Whole(rows) => split_part(alloc, bars - 1, side, rows),
+        Cut::Parts(before, middle, behind) => {
+            let lefts = part(alloc, bars - 1, side, before)?;
+            let rights = part(alloc, bars - 1, middle, behind)?;
+            Ok(Halves::Sides(lefts, rights))
+        }
+    }
+}
+
+/// The options of a part whose runs have so many bars at most.
+#[cycle(part)]
+fn part(alloc: Global, most: u64, side: Vec<Found>, rows: Vec<Row>) -> Result<Vec<Expr>, ReadFault>
     ensures { Gives (λ v. map tree_of v.items) result
         (Ok (part_of most (map found_of side.items) (rows_of rows.items))) }
 {
-    if most == 0 {
-        return exprs(alloc, side);
-    }
-    match cut_at(most, rows)? {
-        Cut::Whole(rows) => part(alloc, most - 1, side, rows),
-        Cut::Parts(before, middle, behind) => {
-            let lefts = part(alloc, most - 1, side, before)?;
-            let rights = part(alloc, most - 1, middle, behind)?;
-            let mut one = Vec::new(alloc);
+    options(alloc, split_part(alloc, most, side, rows)?)
+}
+
+/// The options of a part that comes to these. Two sides are one option, their brace.
+#[tactic(auto, using(crate::proofs::TreeOf::braces_tree))]
+fn options(alloc: Global, halves: Halves) -> Result<Vec<Expr>, ReadFault>
+    ensures { Gives (λ v. map tree_of v.items) result (Ok (halves_of halves)) }
+{
+    match halves {
+        Halves::Options(exprs) => Ok(exprs),
+        Halves::Sides(lefts, rights) => {
+            let mut one = Vec::with_capacity(alloc, 1)?;
             one.push(Expr::Braces(Exprs::of(lefts), Exprs::of(rights)))?;
             Ok(one)
         }

@@ -7,7 +7,7 @@ ghost use Rattle.cg_reading.specs.Gives.{Gives};
 ghost use Rattle.cg_reading.specs.Readers.{made_at, many_at, behind_these, or_at};
 ghost use Rattle.cg_reading.specs.Tokens.{only};
 ghost use Rattle.cg_syntax.specs.Grammar.{bar, letter};
-ghost use Rattle.cg_syntax.specs.Reading.{special_at, bare_special_at, use_at, plain_primary_at};
+ghost use Rattle.cg_syntax.specs.Reading.{special_at, bare_special_at, use_at, plain_primary_at, times_at};
 ghost use Rattle.cg_syntax.specs.Reading.{behind_number_at};
 ghost use Rattle.cg_syntax.specs.Reading.{number_or_multiple_at, plain_counted_term_at, ups_term_at};
 ghost use Rattle.cg_syntax.specs.Reading.{special_term_at, uncounted_term_at, unsigned_term_at};
@@ -20,10 +20,10 @@ ghost use Rattle.cg_syntax.specs.declared.format.Format.TheVariants as formats;
 ghost use Rattle.cg_syntax.specs.Values.{sum_of};
 ghost use Rattle.cg_syntax.specs.Views.{found_of, row_of};
 
-use crate::arrows::{is_arrow, nim, some_nim, tail, ups};
+use crate::arrows::{is_arrow, nim, some_nim, ups};
 use crate::bars::bars;
 use crate::boards::plain_special;
-use crate::build::{braces_of, joined, multiple, negative, sum_of_terms};
+use crate::build::{behind_operand, braces_of, joined, multiple, negative, sum_of_terms};
 use crate::expr::{Expr, Term};
 use crate::faults::earlier;
 use crate::format::Format;
@@ -35,6 +35,7 @@ use cg_reading::{
 use std::alloc::Global;
 
 /// Ups or downs, and a nimber if one stands together with them.
+#[inline(never)]
 #[tactic(auto, unfolding(crate::specs::Reading::ups_term_at))]
 fn ups_term(alloc: Global, bytes: &[u8]) -> Result<(Found, &[u8]), ReadFault>
     ensures read { (end : ℕ) → Gives (λ x. (found_of x.0, x.1.now)) result
@@ -153,6 +154,34 @@ fn bare_special(
     }
 }
 
+/// The point and the operand of a multiple.
+#[cycle(items)]
+#[inline(never)]
+#[tactic(auto, unfolding(crate::specs::Reading::times_at))]
+fn times(
+    alloc: Global,
+    format: Format,
+    brackets: u8,
+    line_end: u64,
+    negative: bool,
+    num: u128,
+    bytes: &[u8],
+) -> Result<(Found, &[u8]), ReadFault>
+    requires { length bytes.now ≤ line_end }
+    ensures read { Gives (λ x. (found_of x.0, x.1.now)) result
+        (times_at (special_at format brackets) negative num line_end bytes.now) }
+    ensures shorter { IfOk result (λ x. length x.1.now < length bytes.now) }
+{
+    match bytes.split_first() {
+        Some((first, rest)) if is_byte(b'.', *first) => {
+            let (operand, rest) = primary(alloc, format, brackets, line_end, rest)?;
+            let found = multiple(alloc, negative, num, operand)?;
+            Ok((found, rest))
+        }
+        _ => Err(ReadFault::Stuck(bytes.len())),
+    }
+}
+
 /// What stands behind the digits of a number or a multiple.
 #[cycle(items)]
 #[tactic(auto, using(crate::proofs::TreeOf::number_tree), unfolding(crate::specs::Reading::behind_number_at))]
@@ -176,10 +205,8 @@ fn behind_number(
             let expr = Expr::Number { negative, num, den };
             Ok((Found { expr, fault: None }, rest))
         }
-        Some((first, rest)) if is_byte(b'.', *first) => {
-            let (operand, rest) = primary(alloc, format, brackets, line_end, rest)?;
-            let found = multiple(alloc, negative, num, operand)?;
-            Ok((found, rest))
+        Some((first, _)) if is_byte(b'.', *first) => {
+            times(alloc, format, brackets, line_end, negative, num, bytes)
         }
         _ => {
             let expr = Expr::Number {
@@ -214,7 +241,7 @@ fn number_or_multiple(
 
 /// A number or a multiple, and what stands together with it.
 #[cycle(items)]
-#[tactic(auto, unfolding(crate::specs::Reading::plain_counted_term_at))]
+#[tactic(auto, unfolding(crate::specs::Reading::plain_counted_term_at, crate::specs::Reading::tail_of_at))]
 fn counted_term(
     alloc: Global,
     format: Format,
@@ -229,14 +256,12 @@ fn counted_term(
     ensures shorter { IfOk result (λ x. length x.1.now < length bytes.now) }
 {
     let (operand, rest) = number_or_multiple(alloc, format, brackets, line_end, negative, bytes)?;
-    let ((ups, nim), rest) = tail(rest)?;
-    let found = joined(alloc, operand, ups, nim)?;
-    Ok((found, rest))
+    behind_operand(alloc, operand, rest)
 }
 
 /// A special, and what stands together with it.
 #[cycle(items)]
-#[tactic(auto, unfolding(crate::specs::Reading::special_term_at))]
+#[tactic(auto, unfolding(crate::specs::Reading::special_term_at, crate::specs::Reading::tail_of_at))]
 fn special_term(
     alloc: Global,
     format: Format,
@@ -250,9 +275,7 @@ fn special_term(
     ensures shorter { IfOk result (λ x. length x.1.now < length bytes.now) }
 {
     let (operand, rest) = special(alloc, format, brackets, line_end, bytes)?;
-    let ((ups, nim), rest) = tail(rest)?;
-    let found = joined(alloc, operand, ups, nim)?;
-    Ok((found, rest))
+    behind_operand(alloc, operand, rest)
 }
 
 /// A term that begins with no digit and no minus.

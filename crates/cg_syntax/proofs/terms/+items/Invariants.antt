@@ -10,64 +10,67 @@ use Rattle.cg_syntax.proofs.terms.+items.Given as goal
 -- each call opens a bracket, or goes down this order
 
 abbrev pub decreases-bracket : goal.decreases-bracket
-decreases-bracket l = 32 * l.brackets + 22
+decreases-bracket l = 32 * l.brackets + 23
 
 abbrev pub decreases-braces : goal.decreases-braces
-decreases-braces l = 32 * l.brackets + 21
+decreases-braces l = 32 * l.brackets + 22
 
 abbrev pub decreases-rows : goal.decreases-rows
-decreases-rows l = 32 * l.brackets + 20
+decreases-rows l = 32 * l.brackets + 21
 
 abbrev pub decreases-more_rows : goal.decreases-more_rows
-decreases-more_rows l = 32 * l.brackets + 19
+decreases-more_rows l = 32 * l.brackets + 20
 
 abbrev pub decreases-row : goal.decreases-row
-decreases-row l = 32 * l.brackets + 18
+decreases-row l = 32 * l.brackets + 19
 
 abbrev pub decreases-side : goal.decreases-side
-decreases-side l = 32 * l.brackets + 17
+decreases-side l = 32 * l.brackets + 18
 
 abbrev pub decreases-items : goal.decreases-items
-decreases-items l = 32 * l.brackets + 16
+decreases-items l = 32 * l.brackets + 17
 
 abbrev pub decreases-more_items : goal.decreases-more_items
-decreases-more_items l = 32 * l.brackets + 15
+decreases-more_items l = 32 * l.brackets + 16
 
 abbrev pub decreases-next_item : goal.decreases-next_item
-decreases-next_item l = 32 * l.brackets + 14
+decreases-next_item l = 32 * l.brackets + 15
 
 abbrev pub decreases-paren : goal.decreases-paren
-decreases-paren l = 32 * l.brackets + 14
+decreases-paren l = 32 * l.brackets + 15
 
 abbrev pub decreases-sum : goal.decreases-sum
-decreases-sum l = 32 * l.brackets + 13
+decreases-sum l = 32 * l.brackets + 14
 
 abbrev pub decreases-rest_of_sum : goal.decreases-rest_of_sum
-decreases-rest_of_sum l = 32 * l.brackets + 12
+decreases-rest_of_sum l = 32 * l.brackets + 13
 
 abbrev pub decreases-more_terms : goal.decreases-more_terms
-decreases-more_terms l = 32 * l.brackets + 11
+decreases-more_terms l = 32 * l.brackets + 12
 
 abbrev pub decreases-next_term : goal.decreases-next_term
-decreases-next_term l = 32 * l.brackets + 10
+decreases-next_term l = 32 * l.brackets + 11
 
 abbrev pub decreases-term : goal.decreases-term
-decreases-term l = 32 * l.brackets + 9
+decreases-term l = 32 * l.brackets + 10
 
 abbrev pub decreases-minus_body : goal.decreases-minus_body
-decreases-minus_body l = 32 * l.brackets + 8
+decreases-minus_body l = 32 * l.brackets + 9
 
 abbrev pub decreases-unsigned_term : goal.decreases-unsigned_term
-decreases-unsigned_term l = 32 * l.brackets + 7
+decreases-unsigned_term l = 32 * l.brackets + 8
 
 abbrev pub decreases-counted_term : goal.decreases-counted_term
-decreases-counted_term l = 32 * l.brackets + 6
+decreases-counted_term l = 32 * l.brackets + 7
 
 abbrev pub decreases-number_or_multiple : goal.decreases-number_or_multiple
-decreases-number_or_multiple l = 32 * l.brackets + 5
+decreases-number_or_multiple l = 32 * l.brackets + 6
 
 abbrev pub decreases-behind_number : goal.decreases-behind_number
-decreases-behind_number l = 32 * l.brackets + 4
+decreases-behind_number l = 32 * l.brackets + 5
+
+abbrev pub decreases-times : goal.decreases-times
+decreases-times l = 32 * l.brackets + 4
 
 abbrev pub decreases-uncounted_term : goal.decreases-uncounted_term
 decreases-uncounted_term l = 32 * l.brackets + 4
