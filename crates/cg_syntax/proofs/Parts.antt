@@ -1,6 +1,8 @@
 -- The equations of splitting.
-use Rattle.std.proofs.Common.{◌≡◌, ℕ, suc, ◌-◌, ◌<◌, List, [], refl, sym, ap, ◌∙◌, arith}
+use Rattle.std.proofs.Common.{◌≡◌, ℕ, zero, suc, ◌-◌, ◌<◌, List, [], ◌∷◌, length, refl, sym, ap, ◌∙◌, arith}
 use Rattle.cg_syntax.specs.Found.{Found}
+use Rattle.cg_syntax.specs.declared.found.Row.{Row}
+use Rattle.cg_syntax.specs.Views.{rows_of}
 use Rattle.cg_syntax.specs.Braces.{Run_side, Cut, Whole, part_of, split_by, cut_from, side_trees}
 
 pub part_here : (n : ℕ) (side : List Found) (rows : List Run_side) → part_of (suc n) side rows ≡ split_by (part_of n) side (cut_from [] (suc n) rows)
@@ -19,3 +21,9 @@ part_none side rows = refl
 -- where no run has this length, runs of one bar less split first
 pub part_lower : (k : ℕ) (side : List Found) (rows : List Run_side) → 0 < k → cut_from [] k rows ≡ Whole rows → part_of k side rows ≡ part_of (k - 1) side rows
 part_lower k side rows some whole = part_step k side rows some ∙ ap (λ (c : Cut). split_by (part_of (k - 1)) side c) whole
+
+-- a part without runs is its options, whatever is the longest run that it might have
+pub part_alone : (k : ℕ) (side : List Found) (rows : List Row) → length rows ≡ 0 → part_of k side (rows_of rows) ≡ side_trees side
+part_alone zero side rows none = part_none side (rows_of rows)
+part_alone (suc k) side [] none = part_here k side [] ∙ part_alone k side [] none
+part_alone (suc k) side (r ∷ rows) none = absurd (omega (arith, none))

@@ -3,6 +3,7 @@ ghost use Rattle.std.specs.Prelude.{◌≡◌, ◌↔◌, IfOk, IfErr, Ok, true}
 ghost use Rattle.cg_syntax.specs.Answered.{IsAnswer};
 ghost use Rattle.cg_syntax.specs.Lines.{is_blank_line, IsComment, IsReadAs, IsRefused};
 ghost use Rattle.cg_syntax.specs.Trees.{question_of};
+ghost use Rattle.cg_syntax.specs.declared.query.SyntaxFault.TheVariants as faults;
 
 use crate::found::Asked;
 use crate::query::{Line, SyntaxFault};
@@ -42,9 +43,16 @@ pub fn read_line(alloc: Global, line: &[u8]) -> Result<Line, SyntaxFault>
 fn answered(asked: Asked) -> Result<Line, SyntaxFault>
     ensures { IsAnswer (question_of asked.query) asked.fault result }
 {
-    let Asked { query, fault } = asked;
-    match fault {
-        None => Ok(Line::Ask(query)),
-        Some(column) => Err(SyntaxFault::Syntax(column)),
+    match asked.fault {
+        None => Ok(Line::Ask(asked.query)),
+        Some(column) => Err(refused(asked, column)),
     }
+}
+
+/// The refusal of what was asked, at this column.
+#[inline(never)]
+fn refused(_asked: Asked, column: u64) -> SyntaxFault
+    ensures { result ≡ faults.Syntax column }
+{
+    SyntaxFault::Syntax(column)
 }

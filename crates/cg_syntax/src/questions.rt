@@ -10,6 +10,7 @@ ghost use Rattle.cg_syntax.specs.Reading.{question_at, read_at};
 ghost use Rattle.cg_syntax.specs.Trees.{tree_of, question_of};
 ghost use Rattle.cg_syntax.specs.Views.{found_of};
 ghost use Rattle.cg_syntax.specs.Questions.{asking_of, asking_both_of, asked_in};
+ghost use Rattle.cg_reading.specs.declared.fault.ReadFault.TheVariants.{Stuck};
 
 use crate::expr::Expr;
 use crate::faults::earlier;
@@ -234,6 +235,14 @@ pub fn whole_line(alloc: Global, line: &[u8]) -> Result<Asked, ReadFault>
     if rest.is_empty() {
         Ok(asked)
     } else {
-        Err(ReadFault::Stuck(rest.len()))
+        Err(unfinished(asked, rest.len()))
     }
+}
+
+/// The fault where so many bytes are left behind a question.
+#[inline(never)]
+fn unfinished(_asked: Asked, left: usize) -> ReadFault
+    ensures { result ≡ Stuck left }
+{
+    ReadFault::Stuck(left)
 }

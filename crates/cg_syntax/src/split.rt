@@ -107,10 +107,14 @@ pub fn split_part(
 
 /// The options of a part whose runs have so many bars at most.
 #[cycle(part)]
+#[tactic(auto, using(crate::proofs::Parts::part_alone))]
 fn part(alloc: Global, most: u64, side: Vec<Found>, rows: Vec<Row>) -> Result<Vec<Expr>, ReadFault>
     ensures { Gives (λ v. map tree_of v.items) result
         (Ok (part_of most (map found_of side.items) (rows_of rows.items))) }
 {
+    if rows.is_empty() {
+        return exprs(alloc, side);
+    }
     options(alloc, split_part(alloc, most, side, rows)?)
 }
 

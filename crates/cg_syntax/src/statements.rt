@@ -8,6 +8,8 @@ ghost use Rattle.cg_syntax.specs.Reading.{statement_at, statement_word_at, value
 ghost use Rattle.cg_syntax.specs.Statements.{kind_view, stated_view, statement_of};
 ghost use Rattle.cg_syntax.specs.declared.format.Format.TheVariants as formats;
 ghost use Rattle.cg_syntax.specs.declared.statements.Kind.TheVariants as kinds;
+ghost use Rattle.cg_syntax.specs.declared.query.SyntaxFault.TheVariants as faults;
+ghost use Rattle.cg_reading.specs.declared.fault.ReadFault.TheVariants.{Stuck};
 
 use crate::faults::earlier;
 use crate::format::Format;
@@ -195,8 +197,16 @@ pub fn whole_line_two(alloc: Global, line: &[u8]) -> Result<Stated, ReadFault>
     if rest.is_empty() {
         Ok(stated)
     } else {
-        Err(ReadFault::Stuck(rest.len()))
+        Err(unfinished(stated, rest.len()))
     }
+}
+
+/// The fault where so many bytes are left behind what a line states.
+#[inline(never)]
+fn unfinished(_stated: Stated, left: usize) -> ReadFault
+    ensures { result ≡ Stuck left }
+{
+    ReadFault::Stuck(left)
 }
 
 /// What a line of format 2 states, which is given without its LF.
@@ -223,9 +233,16 @@ pub fn read_statement(alloc: Global, line: &[u8]) -> Result<Statement, SyntaxFau
 fn faultless(stated: Stated) -> Result<Statement, SyntaxFault>
     ensures { IsFaultless (statement_of stated.statement) stated.fault result }
 {
-    let Stated { statement, fault } = stated;
-    match fault {
-        None => Ok(statement),
-        Some(column) => Err(SyntaxFault::Syntax(column)),
+    match stated.fault {
+        None => Ok(stated.statement),
+        Some(column) => Err(refused(stated, column)),
     }
+}
+
+/// The refusal of what was stated, at this column.
+#[inline(never)]
+fn refused(_stated: Stated, column: u64) -> SyntaxFault
+    ensures { result ≡ faults.Syntax column }
+{
+    SyntaxFault::Syntax(column)
 }
