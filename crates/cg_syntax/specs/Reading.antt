@@ -231,6 +231,10 @@ module _ (special : Reader Found) where
   unfoldable pub plain_counted_term_at : Bool → Reader Found
   plain_counted_term_at negative = made_at (λ v. with_tail v.0 v.1) (then_at (number_or_multiple_at negative) tail_at)
 
+  -- the point and the operand of a multiple, and what stands together with it
+  unfoldable pub counted_multiple_at : Bool → ℕ → Reader Found
+  counted_multiple_at negative n = made_at (λ v. with_tail v.0 v.1) (then_at (times_at negative n) tail_at)
+
   unfoldable pub special_term_at : Reader Found
   special_term_at = made_at (λ v. with_tail v.0 v.1) (then_at special tail_at)
 

@@ -6,6 +6,7 @@ use cg_reading::after_blanks;
 use memchr::memchr;
 
 /// The first line of a text that isn't empty, and what follows its LF.
+#[inline(always)]
 pub fn first_line(text: &[u8]) -> (&[u8], &[u8])
     requires { 0 < length text.now }
     ensures lines { lines_of text.now ≡ result.0.now ∷ lines_of result.1.now }
@@ -20,6 +21,7 @@ pub fn first_line(text: &[u8]) -> (&[u8], &[u8])
 }
 
 /// How many bytes stand before the first LF, or in all.
+#[inline(always)]
 fn line_length(text: &[u8]) -> usize
     ensures within { result ≤ length text.now }
     ensures before { (k : ℕ) → k < result → slice_index text.now k ≢ 10 }

@@ -8,8 +8,7 @@ ghost use Rattle.cg_reading.specs.Readers.{made_at, many_at, behind_these, or_at
 ghost use Rattle.cg_reading.specs.Tokens.{only};
 ghost use Rattle.cg_syntax.specs.Grammar.{bar, letter};
 ghost use Rattle.cg_syntax.specs.Reading.{special_at, bare_special_at, use_at, plain_primary_at, times_at};
-ghost use Rattle.cg_syntax.specs.Reading.{behind_number_at};
-ghost use Rattle.cg_syntax.specs.Reading.{number_or_multiple_at, plain_counted_term_at, ups_term_at};
+ghost use Rattle.cg_syntax.specs.Reading.{counted_multiple_at, plain_counted_term_at, ups_term_at};
 ghost use Rattle.cg_syntax.specs.Reading.{special_term_at, uncounted_term_at, unsigned_term_at};
 ghost use Rattle.cg_syntax.specs.Reading.{minus_body_at, term_at, bracket_at, braces_at, side_at};
 ghost use Rattle.cg_syntax.specs.Reading.{item_list_at, row_list_at, row_at, next_item_at, plain_begin};
@@ -156,7 +155,6 @@ fn bare_special(
 
 /// The point and the operand of a multiple.
 #[cycle(items)]
-#[inline(never)]
 #[tactic(auto, unfolding(crate::specs::Reading::times_at))]
 fn times(
     alloc: Global,
@@ -182,10 +180,11 @@ fn times(
     }
 }
 
-/// What stands behind the digits of a number or a multiple.
+/// The point and the operand of a multiple, and what stands together with it.
 #[cycle(items)]
-#[tactic(auto, using(crate::proofs::TreeOf::number_tree), unfolding(crate::specs::Reading::behind_number_at))]
-fn behind_number(
+#[inline(never)]
+#[tactic(auto, unfolding(crate::specs::Reading::counted_multiple_at, crate::specs::Reading::tail_of_at))]
+fn counted_multiple(
     alloc: Global,
     format: Format,
     brackets: u8,
@@ -196,52 +195,16 @@ fn behind_number(
 ) -> Result<(Found, &[u8]), ReadFault>
     requires { length bytes.now ≤ line_end }
     ensures read { Gives (λ x. (found_of x.0, x.1.now)) result
-        (behind_number_at (special_at format brackets) negative num line_end bytes.now) }
-    ensures shorter { IfOk result (λ x. length x.1.now ≤ length bytes.now) }
-{
-    match bytes.split_first() {
-        Some((first, rest)) if is_byte(b'/', *first) => {
-            let (den, rest) = digits(rest)?;
-            let expr = Expr::Number { negative, num, den };
-            Ok((Found { expr, fault: None }, rest))
-        }
-        Some((first, _)) if is_byte(b'.', *first) => {
-            times(alloc, format, brackets, line_end, negative, num, bytes)
-        }
-        _ => {
-            let expr = Expr::Number {
-                negative,
-                num,
-                den: 1,
-            };
-            Ok((Found { expr, fault: None }, bytes))
-        }
-    }
-}
-
-/// A number or a multiple.
-#[cycle(items)]
-#[tactic(auto, unfolding(crate::specs::Reading::number_or_multiple_at))]
-fn number_or_multiple(
-    alloc: Global,
-    format: Format,
-    brackets: u8,
-    line_end: u64,
-    negative: bool,
-    bytes: &[u8],
-) -> Result<(Found, &[u8]), ReadFault>
-    requires { length bytes.now ≤ line_end }
-    ensures read { Gives (λ x. (found_of x.0, x.1.now)) result
-        (number_or_multiple_at (special_at format brackets) negative line_end bytes.now) }
+        (counted_multiple_at (special_at format brackets) negative num line_end bytes.now) }
     ensures shorter { IfOk result (λ x. length x.1.now < length bytes.now) }
 {
-    let (num, rest) = digits(bytes)?;
-    behind_number(alloc, format, brackets, line_end, negative, num, rest)
+    let (operand, rest) = times(alloc, format, brackets, line_end, negative, num, bytes)?;
+    behind_operand(alloc, operand, rest)
 }
 
 /// A number or a multiple, and what stands together with it.
 #[cycle(items)]
-#[tactic(auto, unfolding(crate::specs::Reading::plain_counted_term_at, crate::specs::Reading::tail_of_at))]
+#[tactic(auto, using(crate::proofs::TreeOf::number_tree), unfolding(crate::specs::Reading::plain_counted_term_at, crate::specs::Reading::number_or_multiple_at, crate::specs::Reading::behind_number_at, crate::specs::Reading::counted_multiple_at, crate::specs::Reading::tail_of_at))]
 fn counted_term(
     alloc: Global,
     format: Format,
@@ -255,8 +218,25 @@ fn counted_term(
         (plain_counted_term_at (special_at format brackets) negative line_end bytes.now) }
     ensures shorter { IfOk result (λ x. length x.1.now < length bytes.now) }
 {
-    let (operand, rest) = number_or_multiple(alloc, format, brackets, line_end, negative, bytes)?;
-    behind_operand(alloc, operand, rest)
+    let (num, rest) = digits(bytes)?;
+    match rest.split_first() {
+        Some((first, behind)) if is_byte(b'/', *first) => {
+            let (den, rest) = digits(behind)?;
+            let expr = Expr::Number { negative, num, den };
+            behind_operand(alloc, Found { expr, fault: None }, rest)
+        }
+        Some((first, _)) if is_byte(b'.', *first) => {
+            counted_multiple(alloc, format, brackets, line_end, negative, num, rest)
+        }
+        _ => {
+            let expr = Expr::Number {
+                negative,
+                num,
+                den: 1,
+            };
+            behind_operand(alloc, Found { expr, fault: None }, rest)
+        }
+    }
 }
 
 /// A special, and what stands together with it.
@@ -380,7 +360,7 @@ fn minus_body(
 
 /// A term.
 #[cycle(items)]
-#[tactic(auto, unfolding(crate::specs::Reading::term_at, crate::specs::Reading::minus_term_at))]
+#[tactic(auto, unfolding(crate::specs::Reading::term_at, crate::specs::Reading::minus_term_at, crate::specs::Reading::unsigned_term_at))]
 fn term(
     alloc: Global,
     format: Format,
@@ -397,7 +377,10 @@ fn term(
         Some((first, rest)) if is_byte(b'-', *first) => minus_body(
             alloc, format, brackets, line_end, rest,
         ),
-        _ => unsigned_term(alloc, format, brackets, line_end, bytes),
+        Some((first, _)) if is_digit(*first) => {
+            counted_term(alloc, format, brackets, line_end, false, bytes)
+        }
+        _ => uncounted_term(alloc, format, brackets, line_end, bytes),
     }
 }
 

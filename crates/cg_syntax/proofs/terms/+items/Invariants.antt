@@ -63,11 +63,8 @@ decreases-unsigned_term l = 32 * l.brackets + 8
 abbrev pub decreases-counted_term : goal.decreases-counted_term
 decreases-counted_term l = 32 * l.brackets + 7
 
-abbrev pub decreases-number_or_multiple : goal.decreases-number_or_multiple
-decreases-number_or_multiple l = 32 * l.brackets + 6
-
-abbrev pub decreases-behind_number : goal.decreases-behind_number
-decreases-behind_number l = 32 * l.brackets + 5
+abbrev pub decreases-counted_multiple : goal.decreases-counted_multiple
+decreases-counted_multiple l = 32 * l.brackets + 5
 
 abbrev pub decreases-times : goal.decreases-times
 decreases-times l = 32 * l.brackets + 4
