@@ -1,7 +1,7 @@
 -- Rows of cells in words: put over each other, and cut out.
-use Rattle.std.proofs.Common.{◌≡◌, ℕ, ◌+◌, ◌-◌, ◌*◌, ◌<◌, ◌≤◌, ◌^◌, inl, inr, nat_lt, if◌then◌else◌, ap, sym, ◌∙◌, subst, arith, bit_and, bit_or}
+use Rattle.std.proofs.Common.{◌≡◌, ℕ, ◌+◌, ◌-◌, ◌*◌, ◌<◌, ◌≤◌, ◌^◌, ◌⊎◌, inl, inr, nat_lt, if◌then◌else◌, ap, sym, ◌∙◌, subst, arith, bit_and, bit_or}
 use Rattle.std.specs.Int.{bit_at}
-use Rattle.std.proofs.Math.Nat.{mul-le-mul_left, mul-le-mul_right}
+use Rattle.std.proofs.Math.Nat.{mod-lt, mul-le-mul_left, mul-le-mul_right}
 use Rattle.std.proofs.lemmas.Bool.{le-ltb, lt-ltb, ltb-true}
 use Rattle.std.proofs.lemmas.Bool.Decides.{leb_tells}
 use Rattle.std.proofs.lemmas.Nat.Bits.{bit_at-lt, bit_at-zero, bit_at_above, bit_at_and, bit_at_or}
@@ -10,7 +10,7 @@ use Rattle.cg_pieces.specs.declared.frame.Frame.{Frame}
 use Rattle.cg_pieces.specs.Boxes.{cell_at, column_of, row_of, unboxed}
 use Rattle.cg_pieces.specs.Frames.{IsBoxIn, box_from}
 use Rattle.cg_pieces.specs.Words.{IsInOneRow}
-use Rattle.cg_pieces.proofs.Bounds.{column-cell, row-cell}
+use Rattle.cg_pieces.proofs.Bounds.{cell-of, column-cell, row-cell}
 use Rattle.cg_pieces.proofs.GrowingSets.{and-one, and-parts, or-left, or-parts, or-right}
 use Rattle.cg_pieces.proofs.OpenWords.{marks-test, test-marks}
 
@@ -53,6 +53,42 @@ row-more width row set line moved mask old moved_is mask_is = record {
   ];
 }
 
+-- what is left of the word of a set behind so many rows
+abbrev pub IsRest : ℕ → ℕ → ℕ → ℕ → Type 0
+IsRest width row set rest = (i : ℕ) → bit_at rest i ≡ bit_at set (i + row * width)
+
+pub rest-start : (width set : ℕ) → IsRest width 0 set set
+rest-start width set i = let e : i ≡ i + 0 * width = omega arith in ap (bit_at set) e
+
+pub rest-more : (width row set rest moved : ℕ) → IsRest width row set rest
+    → ((i : ℕ) → bit_at moved i ≡ bit_at rest (i + width)) → IsRest width (row + 1) set moved
+rest-more width row set rest moved old moved_is i =
+    let e : (i + width) + row * width ≡ i + (row + 1) * width = omega arith in
+    moved_is i ∙ old (i + width) ∙ ap (bit_at set) e
+
+-- all rows are put over each other where none is left, or where there are cells in all columns
+pub rows-done : (width size row set line rest mask : ℕ) → 1 ≤ width → IsInOneRow width (row * width) set line
+    → IsRest width row set rest → Marks mask (λ i. nat_lt i width) → (rest ≡ 0) ⊎ (line ≡ mask)
+    → IsInOneRow width size set line
+rows-done width size row set line rest mask wide old rest_is mask_is done = record {
+  all = λ k h t. elim done [
+    | inl none ↦ elim (leb_tells (row * width) k) [
+      | inl low ↦
+          let d : ℕ = k - row * width in
+          let e : d + row * width ≡ k = (let a = low.1 in omega (arith, a)) in
+          let is = ap (λ z. bit_at z d) (sym none) ∙ rest_is d ∙ ap (bit_at set) e in
+          let zero = bit_at-zero d in
+          absurd (omega (arith, is, zero, t))
+      | inr high ↦ old.all k high.1 t
+    ]
+    | inr full ↦
+        let few = mod-lt k wide in
+        ap (λ z. bit_at z (column_of width k)) full
+        ∙ test-marks mask (λ i. nat_lt i width) mask_is (column_of width k) (lt-ltb (column_of width k) width few)
+  ];
+  only = old.only;
+}
+
 -- ---- the rows of a box, one after another
 
 module _ (word columns : ℕ) (f : Frame) where
@@ -67,6 +103,17 @@ module _ (word columns : ℕ) (f : Frame) where
   cut-outside : (rows m : ℕ) → rows * f.columns ≤ m → cut rows m ≡ 0
   cut-outside rows m h =
       ap (λ t. if t then bit_at word (unboxed (box_from f) columns m) else 0) (le-ltb m (rows * f.columns) h)
+
+  -- the word of a box from its first cell on, so many rows later
+  abbrev pub IsLater : ℕ → ℕ → Type 0
+  IsLater row rest = (i : ℕ) → bit_at rest i ≡ bit_at word ((i + (f.top * columns + f.left)) + row * columns)
+
+  pub rest-later : (row rest moved : ℕ) → IsLater row rest → ((i : ℕ) → bit_at moved i ≡ bit_at rest (i + columns))
+      → IsLater (row + 1) moved
+  rest-later row rest moved old moved_is i =
+      let e : ((i + columns) + (f.top * columns + f.left)) + row * columns
+      ≡ (i + (f.top * columns + f.left)) + (row + 1) * columns = omega arith in
+      moved_is i ∙ old (i + columns) ∙ ap (bit_at word) e
 
   pub cut-none : (m : ℕ) → bit_at 0 m ≡ cut 0 m
   cut-none m = bit_at-zero m ∙ sym (cut-outside 0 m (omega arith))
@@ -91,7 +138,7 @@ module _ (word columns : ℕ) (f : Frame) where
 
     module _ (row found moved mask on : ℕ) (below : row < f.rows) (fits : on < 2 ^ 64)
         (found_is : (m : ℕ) → bit_at found m ≡ cut row m)
-        (moved_is : (i : ℕ) → bit_at moved i ≡ bit_at word (i + ((f.top + row) * columns + f.left)))
+        (moved_is : IsLater row moved)
         (mask_is : Marks mask (λ i. nat_lt i f.columns))
         (on_first : (i : ℕ) → i < row * f.columns → bit_at on i ≡ 0)
         (on_others : (i : ℕ) → row * f.columns ≤ i → i < 64 → bit_at on i ≡ bit_at (bit_and moved mask) (i - row * f.columns))
@@ -110,7 +157,7 @@ module _ (word columns : ℕ) (f : Frame) where
             let e = row-cells f.columns row m low in
             let r : row_of f.columns m ≡ row = ap (row_of f.columns) e ∙ row-cell f.columns row d few in
             let c : column_of f.columns m ≡ d = ap (column_of f.columns) e ∙ column-cell f.columns row d few in
-            let place : d + ((f.top + row) * columns + f.left) ≡ cell_at columns (f.top + row) (f.left + d) = omega arith in
+            let place : (d + (f.top * columns + f.left)) + row * columns ≡ cell_at columns (f.top + row) (f.left + d) = omega arith in
             let all = few-row in
             let one : bit_at mask d ≡ 1 = test-marks mask (λ i. nat_lt i f.columns) mask_is d (lt-ltb d f.columns few) in
             let both = bit_at_and moved mask d in
@@ -149,3 +196,31 @@ module _ (word columns : ℕ) (f : Frame) where
                   let is : bit_at (bit_or found on) m ≡ bit_at found m = omega (arith, either, none) in
                   is ∙ found_is m ∙ cut-inside row m before ∙ sym (cut-inside (row + 1) m (omega (arith, before)))
             ]
+
+    -- the rows of a box with all columns
+    pub cut-whole : f.columns ≡ columns → (moved mask : ℕ) → ((i : ℕ) → bit_at moved i ≡ bit_at word (i + f.top * columns))
+        → Marks mask (λ i. nat_lt i (f.rows * columns)) → (m : ℕ) → bit_at (bit_and moved mask) m ≡ cut f.rows m
+    cut-whole whole moved mask moved_is mask_is m =
+        let both = bit_at_and moved mask m in
+        let same : f.rows * f.columns ≡ f.rows * columns = ap (λ w. f.rows * w) whole in
+        elim (leb_tells (f.rows * f.columns) m) [
+          | inl high ↦
+              let none : bit_at mask m ≡ 0 =
+              mask_is m ∙ ap (λ t. if t then 1 else 0) (le-ltb m (f.rows * columns) (let a = high.1 in omega (arith, a, same))) in
+              let is : bit_at (bit_and moved mask) m ≡ 0 = omega (arith, none, both) in
+              is ∙ sym (cut-outside f.rows m high.1)
+          | inr low ↦
+              let one : bit_at mask m ≡ 1 =
+              test-marks mask (λ i. nat_lt i (f.rows * columns)) mask_is m
+              (lt-ltb m (f.rows * columns) (let a = low.1 in omega (arith, a, same))) in
+              let bit = bit_at-lt moved m in
+              let is : bit_at (bit_and moved mask) m ≡ bit_at moved m = omega (arith, one, both, bit) in
+              let w = inside.wide in
+              let left : f.left ≡ 0 = omega (arith, w, whole) in
+              let cell = cell-of columns m in
+              let place : m + f.top * columns ≡ cell_at columns (f.top + row_of columns m) (f.left + column_of columns m) =
+              omega (arith, left, cell) in
+              is ∙ moved_is m ∙ ap (bit_at word) place
+              ∙ ap (λ w. bit_at word (cell_at columns (f.top + row_of w m) (f.left + column_of w m))) (sym whole)
+              ∙ sym (cut-inside f.rows m low.1)
+        ]

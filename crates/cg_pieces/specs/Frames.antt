@@ -1,7 +1,8 @@
 -- Rows and columns of a board, from a first row and column on.
-use Rattle.std.specs.Prelude.{ℕ, ◌+◌, ◌*◌, ◌≤◌}
+use Rattle.std.specs.Prelude.{◌≡◌, ℕ, ◌+◌, ◌*◌, ◌≤◌, nat_lt, if◌then◌else◌}
+use Rattle.std.specs.Int.{bit_at}
 use Rattle.cg_pieces.specs.declared.frame.Frame.{Frame}
-use Rattle.cg_pieces.specs.Boxes.{Box}
+use Rattle.cg_pieces.specs.Boxes.{Box, unboxed}
 
 abbrev pub box_from : Frame → Box
 box_from b = record {
@@ -17,3 +18,8 @@ pub record IsBoxIn (width : ℕ) (b : Box) : Type 0 where
   pub some_columns : 1 ≤ b.columns
   pub wide : b.left + b.columns ≤ width
   pub few : (b.top + b.rows) * width ≤ 64
+
+-- the bits of the word at the places of the box, one row behind the other, and no others
+abbrev pub IsCutOut : ℕ → ℕ → Frame → ℕ → Type 0
+IsCutOut word width f cut = (m : ℕ) → bit_at cut m
+    ≡ (if nat_lt m (f.rows * f.columns) then bit_at word (unboxed (box_from f) width m) else 0)

@@ -1,9 +1,9 @@
 //! The board of the rows and columns that bound a set of cells, in words.
-ghost use Rattle.std.specs.Prelude.{◌≡◌, ℕ, ◌+◌, ◌*◌, ◌<◌, ◌≤◌, ◌==◌, ◌&&◌, nat_lt, if◌then◌else◌, Contains};
+ghost use Rattle.std.specs.Prelude.{◌≡◌, ℕ, ◌*◌, ◌<◌, ◌≤◌, if◌then◌else◌, Contains};
 ghost use Rattle.std.specs.Int.{bit_at};
 ghost use Rattle.cg_moves.specs.PlaneBits.{ArePlanes};
-ghost use Rattle.cg_pieces.specs.Boxes.{cropped, set_box, unboxed};
-ghost use Rattle.cg_pieces.specs.Frames.{IsBoxIn, box_from};
+ghost use Rattle.cg_pieces.specs.Boxes.{cropped, set_box};
+ghost use Rattle.cg_pieces.specs.Frames.{IsBoxIn, IsCutOut, box_from};
 ghost use Rattle.cg_pieces.specs.Words.{IsInOneRow, IsSet, IsSetFrom, in_word};
 
 use cg_moves::words::{all_cells, bit, moved_back, moved_on};
@@ -27,8 +27,13 @@ fn in_one_row(set: u64, rows: u8, columns: u8) -> u64
 {
     let row_cells = all_cells(columns);
     let mut found = 0;
+    let mut rest = set;
     for row in 0..rows {
-        found |= moved_back(set, row * columns) & row_cells;
+        found |= rest & row_cells;
+        rest = moved_back(rest, columns);
+        if rest == 0 || found == row_cells {
+            return found;
+        }
     }
     found
 }
@@ -61,22 +66,42 @@ fn frame_of(board: &Board, set: u64, first: u8) -> Frame
     }
 }
 
-/// The bits of the word within the frame, row by row.
-fn cut_out(word: u64, columns: u8, frame: Frame) -> u64
-    requires { IsBoxIn columns (box_from frame) }
-    ensures { (m : ℕ) → bit_at result m
-        ≡ (if nat_lt m (frame.rows * frame.columns) then bit_at word (unboxed (box_from frame) columns m) else 0) }
+/// The bits of the word within the frame, which has all columns.
+fn cut_rows(word: u64, columns: u8, frame: Frame) -> u64
+    requires inside { IsBoxIn columns (box_from frame) }
+    requires whole { frame.columns ≡ columns }
+    ensures { IsCutOut word columns frame result }
 {
-    if word == 0 {
-        return 0;
-    }
+    moved_back(word, frame.top * columns) & all_cells(frame.rows * columns)
+}
+
+/// The bits of the word within the frame, row by row.
+fn cut_columns(word: u64, columns: u8, frame: Frame) -> u64
+    requires { IsBoxIn columns (box_from frame) }
+    ensures { IsCutOut word columns frame result }
+{
     let row_cells = all_cells(frame.columns);
     let mut found = 0;
+    let mut rest = moved_back(word, frame.top * columns + frame.left);
     for row in 0..frame.rows {
-        let line = moved_back(word, (frame.top + row) * columns + frame.left) & row_cells;
-        found |= moved_on(line, row * frame.columns);
+        found |= moved_on(rest & row_cells, row * frame.columns);
+        rest = moved_back(rest, columns);
     }
     found
+}
+
+/// The bits of the word within the frame.
+fn cut_out(word: u64, columns: u8, frame: Frame) -> u64
+    requires { IsBoxIn columns (box_from frame) }
+    ensures { IsCutOut word columns frame result }
+{
+    if word == 0 {
+        0
+    } else if frame.columns == columns {
+        cut_rows(word, columns, frame)
+    } else {
+        cut_columns(word, columns, frame)
+    }
 }
 
 /// The word in the set, and this bit, 0 or 1, at all other places.
