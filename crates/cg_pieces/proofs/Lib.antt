@@ -18,6 +18,7 @@ pub mod GrowingSets
 pub mod GrownSets
 pub mod OpenWords
 pub mod TakenSets
+pub mod Taking
 pub mod ShownWords
 pub mod LastBits
 pub mod MovingWords

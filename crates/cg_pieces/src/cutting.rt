@@ -9,7 +9,6 @@ use crate::NeighbourRules;
 use crate::field::field_of;
 use crate::frame::crop;
 use crate::moving::moving_cells;
-use cg_moves::words::bit;
 use cg_moves::{Board, Boards};
 use std::alloc::{AllocError, Global};
 
@@ -50,10 +49,8 @@ pub fn pieces<N: NeighbourRules>(
     let moving = moving_cells(rules, board, field);
     let mut boards = Vec::new(alloc);
     let mut left = field.cells;
-    for cell in 0..board.size() {
-        if bit(left, cell) == 0 {
-            continue;
-        }
+    while left != 0 {
+        let cell = left.trailing_zeros() as u8;
         let set = field.joined(cell);
         boards = with_piece(rules, board, moving, set, cell, boards)?;
         left &= !set;
