@@ -1,9 +1,9 @@
 -- The cells with which some player has a move, by the symbols of two cells one of which is below the other or beside it.
-use Rattle.std.proofs.Common.{◌≡◌, ℕ, ◌+◌, ◌-◌, ◌<◌, ◌^◌, ◌==◌, ◌&&◌, ◌||◌, inl, inr, Bool, false, true, slice_index, ap, sym, ◌∙◌, subst, arith, bit_and, bit_or}
+use Rattle.std.proofs.Common.{◌≡◌, ◌≢◌, ℕ, ◌+◌, ◌-◌, ◌<◌, ◌^◌, ◌==◌, ◌&&◌, ◌||◌, inl, inr, Bool, false, true, slice_index, ap, sym, ◌∙◌, subst, arith, bit_and, bit_or}
 use Rattle.std.specs.Int.{bit_at}
 use Rattle.std.proofs.lemmas.Bool.{eq-eqb, eqb-true}
 use Rattle.std.proofs.lemmas.Nat.Bits.{bit_at-zero}
-use Rattle.cg_dyadic.proofs.Truth.{and-split, differ, false-from}
+use Rattle.cg_dyadic.proofs.Truth.{and-split, differ, false-from, true-or-not}
 use Rattle.cg_moves.specs.declared.player.Player.{Player}
 use Rattle.cg_moves.specs.declared.player.Player.TheVariants.{Left, Right}
 use Rattle.cg_moves.specs.Grid.{Grid}
@@ -13,7 +13,7 @@ use Rattle.cg_pieces.specs.declared.field.Field.{Field}
 use Rattle.cg_pieces.specs.Boxes.{column_of, row_of}
 use Rattle.cg_pieces.specs.Moving.{is_behind, moves_between}
 use Rattle.cg_pieces.specs.Neighbours.{IsNeighbours, Neighbours, is_below, is_beside, is_next, is_piece_cell, may_move}
-use Rattle.cg_pieces.specs.Words.{AreMovingBy, IsFieldOf, some_allowed}
+use Rattle.cg_pieces.specs.Words.{AreMovingBy, AreMovingFrom, IsFieldOf, IsPlaces, some_allowed}
 use Rattle.cg_pieces.proofs.FirstCells.{moves-open}
 use Rattle.cg_pieces.proofs.GrowingSets.{and-one, and-parts, bit-below, down-next, forth-next, not-one, not-zero, or-left, or-parts, or-right, other_bits}
 use Rattle.cg_pieces.proofs.Lines.{before-beside, below-is, beside-is, is-below, second-column}
@@ -135,8 +135,13 @@ module _ (n : Neighbours) (laws : IsNeighbours n) (p : Grid) where
     pub none-beside : some_allowed n false true one other ≡ false → AreMovingBy n p (is_beside p.columns) one other 0
     none-beside = moving-none (is_beside p.columns) false true one other one_forms other_forms (beside-stand p.columns)
 
-    module _ (ones others moved : ℕ) (ones_are : Marks ones (λ i. slice_index p.cells i == one))
-        (others_are : Marks others (λ i. slice_index p.cells i == other)) where
+    module _ (ones others moved : ℕ) (ones_of : IsPlaces n p one ones) (others_of : IsPlaces n p other others) where
+      ones_are : Marks ones (λ i. slice_index p.cells i == one)
+      ones_are = ones_of.some one_forms
+
+      others_are : Marks others (λ i. slice_index p.cells i == other)
+      others_are = others_of.some other_forms
+
       has-one : (k : ℕ) → bit_at ones k ≡ 1 → slice_index p.cells k ≡ one
       has-one k t = eqb-true (slice_index p.cells k) one (marks-test ones (λ i. slice_index p.cells i == one) ones_are k t)
 
@@ -219,11 +224,32 @@ module _ (n : Neighbours) (laws : IsNeighbours n) (p : Grid) where
 
   -- ---- both
 
-  pub pair-none : (one other : ℕ) → n.forms_pieces other ≡ false → AreMovingBy n p (is_behind p) one other 0
-  pair-none one other none = record {
+  -- where there are cells with the symbol, it forms pieces
+  pub forms-so : (symbol word : ℕ) → IsPlaces n p symbol word → word ≢ 0 → n.forms_pieces symbol ≡ true
+  forms-so symbol word are some = elim (true-or-not (n.forms_pieces symbol)) [
+    | inl t ↦ t
+    | inr f ↦ absurd (some (are.none (false-from (n.forms_pieces symbol) f)))
+  ]
+
+  -- and else no cell with it forms pieces
+  none-so : (symbol word k : ℕ) → IsPlaces n p symbol word → word ≡ 0 → slice_index p.cells k ≡ symbol
+      → is_piece_cell n p k ≡ true → ⊥
+  none-so symbol word k are none e t =
+      let marks = are.some (ap n.forms_pieces (sym e) ∙ t) in
+      let one = test-marks word (λ i. slice_index p.cells i == symbol) marks k (eq-eqb (slice_index p.cells k) symbol e) in
+      let zero = ap (λ w. bit_at w k) none ∙ bit_at-zero k in
+      omega (arith, one, zero)
+
+  pub pair-none : (one other word : ℕ) → IsPlaces n p other word → word ≡ 0 → AreMovingBy n p (is_behind p) one other 0
+  pair-none one other word are none = record {
     only = λ k t. let z = bit_at-zero k in absurd (omega (arith, z, t));
-    all = λ k l x y b m.
-        absurd (differ (n.forms_pieces other) (ap n.forms_pieces (sym y) ∙ (moves-open n laws p k l m).1) none);
+    all = λ k l x y b m. absurd (none-so other word l are none y (moves-open n laws p k l m).1);
+  }
+
+  pub from-none : (one word : ℕ) → IsPlaces n p one word → word ≡ 0 → AreMovingFrom n p one 0
+  from-none one word are none = record {
+    only = λ k t. let z = bit_at-zero k in absurd (omega (arith, z, t));
+    all = λ k l x b m. absurd (none-so one word k are none x (moves-open n laws p k l m).0);
   }
 
   pub pair-either : (one other below beside : ℕ) → AreMovingBy n p (is_below p.columns) one other below

@@ -1,8 +1,8 @@
 -- The cells that form pieces, in a word.
-use Rattle.std.proofs.Common.{◌≡◌, refl, ℕ, ◌+◌, ◌%◌, ◌≤◌, ◌==◌, ◌&&◌, inl, inr, Bool, true, false, nat_lt, if◌then◌else◌, length, slice_index, ap, sym, ◌∙◌, arith, bit_or}
+use Rattle.std.proofs.Common.{◌≡◌, refl, ℕ, ◌+◌, ◌%◌, ◌<◌, ◌≤◌, ◌==◌, ◌&&◌, inl, inr, Bool, true, false, nat_lt, if◌then◌else◌, List, length, slice_index, slice_set, ap, sym, ◌∙◌, subst, arith, bit_or, get_or-set_other, get_or-set_same}
 use Rattle.std.specs.Int.{bit_at}
 use Rattle.std.proofs.lemmas.Bool.{eq-eqb, eqb-true, lt-ltb}
-use Rattle.std.proofs.lemmas.Nat.Bits.{bit_at-lt}
+use Rattle.std.proofs.lemmas.Nat.Bits.{bit_at-lt, bit_at-zero}
 use Rattle.cg_dyadic.proofs.Truth.{and-both, and-split, false-from, true-or-not}
 use Rattle.cg_moves.specs.Grid.{Grid, IsGrid}
 use Rattle.cg_moves.specs.PlaneBits.{index_of}
@@ -11,7 +11,7 @@ use Rattle.cg_moves.proofs.Counted.{same-or-not}
 use Rattle.cg_moves.proofs.PlaneLemmas.{index-below, index-reads}
 use Rattle.cg_pieces.specs.declared.field.Field.{Field}
 use Rattle.cg_pieces.specs.Neighbours.{IsNeighbours, Neighbours, is_piece_cell}
-use Rattle.cg_pieces.specs.Words.{IsFieldOf, IsOpenTo}
+use Rattle.cg_pieces.specs.Words.{ArePlacesTo, IsFieldOf, IsOpenTo, IsPlaces}
 use Rattle.cg_pieces.proofs.Frames.{wide-grid}
 use Rattle.cg_pieces.proofs.GrowingSets.{or-left, or-parts, or-right}
 use Rattle.cg_pieces.proofs.NeighbourSets.{piece-cell-below}
@@ -33,10 +33,10 @@ pub test-off : (word : ℕ) (test : ℕ → Bool) → Marks word test → (k : �
 test-off word test are k f = are k ∙ ap one (false-from (test k) f)
 
 module _ (n : Neighbours) (laws : IsNeighbours n) (p : Grid) where
-  pub open-more : (end symbol word places : ℕ) → symbol ≡ slice_index p.symbols end → n.forms_pieces symbol ≡ true
+  open-with : (end symbol word places : ℕ) → symbol ≡ slice_index p.symbols end → n.forms_pieces symbol ≡ true
       → Marks places (λ i. slice_index p.cells i == symbol) → IsOpenTo n p end word
       → IsOpenTo n p (end + 1) (bit_or word places)
-  open-more end symbol word places is forms are old = record {
+  open-with end symbol word places is forms are old = record {
     only = λ k t. elim (or-parts word places k t) [
       | inl x ↦ old.only k x
       | inr x ↦ ap n.forms_pieces (eqb-true (slice_index p.cells k) symbol
@@ -49,7 +49,7 @@ module _ (n : Neighbours) (laws : IsNeighbours n) (p : Grid) where
     ];
   }
 
-  pub open-same : (end symbol word : ℕ) → symbol ≡ slice_index p.symbols end → ¬ (n.forms_pieces symbol ≡ true)
+  open-same : (end symbol word : ℕ) → symbol ≡ slice_index p.symbols end → ¬ (n.forms_pieces symbol ≡ true)
       → IsOpenTo n p end word → IsOpenTo n p (end + 1) word
   open-same end symbol word is not_forms old = record {
     only = old.only;
@@ -58,6 +58,40 @@ module _ (n : Neighbours) (laws : IsNeighbours n) (p : Grid) where
       | inr other ↦ old.done k j (omega (arith, h, other)) e t
     ];
   }
+
+  pub open-more : (end symbol word places : ℕ) → symbol ≡ slice_index p.symbols end → IsPlaces n p symbol places
+      → IsOpenTo n p end word → IsOpenTo n p (end + 1) (bit_or word places)
+  open-more end symbol word places is are old = elim (true-or-not (n.forms_pieces symbol)) [
+    | inl forms ↦ open-with end symbol word places is forms (are.some forms) old
+    | inr other ↦
+        let none = are.none (false-from (n.forms_pieces symbol) other) in
+        let same = open-same end symbol word is other old in
+        record {
+          only = λ k t. elim (or-parts word places k t) [
+            | inl x ↦ same.only k x
+            | inr x ↦ let z = ap (λ w. bit_at w k) none ∙ bit_at-zero k in absurd (omega (arith, z, x))
+          ];
+          done = λ k j h e t. or-left word places k (same.done k j h e t);
+        }
+  ]
+
+  -- ---- the words of the symbols
+
+  pub no-places : (words : List ℕ) → ArePlacesTo n p 0 words
+  no-places words j h = absurd (omega (arith, h))
+
+  pub places-more : (end symbol place : ℕ) (words : List ℕ) → symbol ≡ slice_index p.symbols end → end < length words
+      → IsPlaces n p symbol place → ArePlacesTo n p end words → ArePlacesTo n p (end + 1) (slice_set words end place)
+  places-more end symbol place words is inside are old j h = elim (same-or-not j end) [
+    | inl same ↦
+        let P : ℕ → Type 0 = λ z. IsPlaces n p (slice_index p.symbols z) (slice_index (slice_set words end place) z) in
+        let Q : ℕ → Type 0 = λ z. IsPlaces n p z (slice_index (slice_set words end place) end) in
+        let R : ℕ → Type 0 = λ z. IsPlaces n p symbol z in
+        subst P (sym same) (subst Q is (subst R (sym (get_or-set_same words end place 0 inside)) are))
+    | inr other ↦
+        let R : ℕ → Type 0 = λ z. IsPlaces n p (slice_index p.symbols j) z in
+        subst R (sym (get_or-set_other words end j place 0 other)) (old j (omega (arith, h, other)))
+  ]
 
   pub open-all : (end word : ℕ) → IsGrid p → length p.symbols ≤ end → IsOpenTo n p end word → Marks word (is_piece_cell n p)
   open-all end word grid all is k = elim (true-or-not (is_piece_cell n p k)) [

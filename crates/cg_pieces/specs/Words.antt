@@ -1,5 +1,5 @@
 -- Sets of cells in words: bit i is 1 exactly where cell i is in the set.
-use Rattle.std.specs.Prelude.{◌≡◌, ◌⊎◌, ℕ, ◌<◌, ◌≤◌, ◌==◌, ◌||◌, Bool, false, true, length, slice_index}
+use Rattle.std.specs.Prelude.{◌≡◌, ◌⊎◌, ℕ, ◌<◌, ◌≤◌, ◌==◌, ◌||◌, Bool, false, true, List, length, slice_index}
 use Rattle.std.specs.Int.{bit_at}
 use Rattle.cg_moves.specs.declared.player.Player.TheVariants.{Left, Right}
 use Rattle.cg_moves.specs.Grid.{Grid}
@@ -54,6 +54,18 @@ pub record IsOpenTo (n : Neighbours) (p : Grid) (end word : ℕ) : Type 0 where
   pub only : (k : ℕ) → bit_at word k ≡ 1 → is_piece_cell n p k ≡ true
   pub done : (k j : ℕ) → j < end → slice_index p.cells k ≡ slice_index p.symbols j → is_piece_cell n p k ≡ true
       → bit_at word k ≡ 1
+
+-- the cells with this symbol if they form pieces, and else none
+pub record IsPlaces (n : Neighbours) (p : Grid) (symbol word : ℕ) : Type 0 where
+  pub some : n.forms_pieces symbol ≡ true → Marks word (λ i. slice_index p.cells i == symbol)
+  pub none : n.forms_pieces symbol ≡ false → word ≡ 0
+
+-- the words are those of the first so many symbols
+abbrev pub ArePlacesTo : Neighbours → Grid → ℕ → List ℕ → Type 0
+ArePlacesTo n p end words = (j : ℕ) → j < end → IsPlaces n p (slice_index p.symbols j) (slice_index words j)
+
+abbrev pub ArePlaces : Neighbours → Grid → List ℕ → Type 0
+ArePlaces n p words = ArePlacesTo n p (length p.symbols) words
 
 -- the cells on which some player has a move together with the cell below or the next one in the row
 pub record AreMoving (n : Neighbours) (p : Grid) (word : ℕ) : Type 0 where

@@ -9,6 +9,7 @@ use crate::NeighbourRules;
 use crate::field::field_of;
 use crate::frame::crop;
 use crate::moving::moving_cells;
+use crate::places::places_of;
 use cg_moves::{Board, Boards};
 use std::alloc::{AllocError, Global};
 
@@ -45,8 +46,9 @@ pub fn pieces<N: NeighbourRules>(
     requires { Contains board.now.symbols (N.neighbours rules.now).blank }
     ensures { IfOk result (λ boards. boards ≡ pieces_of (cell_game (N.neighbours rules.now)) board.now) }
 {
-    let field = field_of(rules, board);
-    let moving = moving_cells(rules, board, field);
+    let places = places_of(rules, board);
+    let field = field_of(rules, board, &places);
+    let moving = moving_cells(rules, board, field, &places);
     let mut boards = Vec::new(alloc);
     let mut left = field.cells;
     while left != 0 {

@@ -6,6 +6,7 @@ ghost use Rattle.cg_pieces.specs.Neighbours.{is_piece_cell};
 ghost use Rattle.cg_pieces.specs.Words.{IsFieldOf, IsField, IsNextSet, IsWithin, JoinedIn};
 
 use crate::NeighbourRules;
+use crate::places::Places;
 use cg_moves::Board;
 use cg_moves::words::{moved_back, moved_on, with_bit};
 
@@ -20,27 +21,17 @@ pub(crate) struct Field {
     pub(crate) cells: u64,
 }
 
-/// The cells that form pieces.
-fn open_cells<N: NeighbourRules>(rules: &N, board: &Board) -> u64
-    ensures { Marks result (is_piece_cell (N.neighbours rules.now) board.now) }
-{
-    let mut found = 0;
-    for symbol in board.symbols() {
-        if rules.forms_pieces(*symbol) {
-            found |= board.places(*symbol);
-        }
-    }
-    found
-}
-
-/// The cells of the board that form pieces.
-pub(crate) fn field_of<N: NeighbourRules>(rules: &N, board: &Board) -> Field
+/// The cells of the board that form pieces, of which these are the places.
+pub(crate) fn field_of<N: NeighbourRules>(rules: &N, board: &Board, places: &Places) -> Field
+    requires { Marks places.now.all (is_piece_cell (N.neighbours rules.now) board.now) }
     ensures { IsFieldOf (N.neighbours rules.now) board.now result }
 {
+    // Read for the proof alone: the places are those of these rules.
+    let _ = rules;
     Field {
         columns: board.columns(),
         first_column: board.first_column(),
-        cells: open_cells(rules, board),
+        cells: places.all,
     }
 }
 

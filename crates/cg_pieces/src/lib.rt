@@ -6,6 +6,7 @@ mod field;
 mod frame;
 pub mod laws;
 mod moving;
+mod places;
 mod rules;
 
 pub use cutting::pieces;

@@ -1,13 +1,20 @@
 //! The cells with which some player has a move, in words.
-ghost use Rattle.std.specs.Prelude.{◌≡◌, ℕ, ◌||◌, false, true, Contains};
-ghost use Rattle.cg_moves.specs.declared.player.Player.TheVariants.{Left, Right};
+ghost use Rattle.std.specs.Prelude.{◌≡◌, true};
 ghost use Rattle.cg_pieces.specs.Neighbours.{is_below, is_beside};
-ghost use Rattle.cg_pieces.specs.Words.{AreMoving, AreMovingBy, AreMovingFrom, AreMovingPair, IsFieldOf, some_allowed};
+ghost use Rattle.cg_pieces.specs.Words.{AreMoving, AreMovingBy, AreMovingFrom, AreMovingPair, ArePlaces, IsFieldOf, IsPlaces, some_allowed};
 
 use crate::NeighbourRules;
 use crate::field::Field;
+use crate::places::Places;
 use cg_moves::words::moved_back;
 use cg_moves::{Board, Player};
+
+/// A symbol, and the cells with it if they form pieces.
+#[derive(Clone, Copy)]
+struct Symbol {
+    byte: u8,
+    places: u64,
+}
 
 /// Whether some player has a move on two adjacent cells with these symbols that form pieces, whichever is the first. The second
 /// is below the first, or next in its row.
@@ -20,59 +27,70 @@ fn some_allowed<N: NeighbourRules>(rules: &N, below: bool, beside: bool, one: u8
         || rules.allows(Player::Right, false, false, other, one)
 }
 
-/// The cells with the one symbol on which some player has a move together with the cell below, which has the other symbol.
+/// Of the cells with the one symbol, those on which some player has a move together with the cell below, which has the other
+/// symbol.
 fn moving_below<N: NeighbourRules>(
     rules: &N,
     board: &Board,
     field: Field,
-    one: u8,
-    other: u8,
+    one: Symbol,
+    other: Symbol,
 ) -> u64
     requires field { IsFieldOf (N.neighbours rules.now) board.now field }
-    requires one { Contains board.now.symbols one }
-    requires other { Contains board.now.symbols other }
-    requires one_forms { (N.neighbours rules.now).forms_pieces one ≡ true }
-    requires other_forms { (N.neighbours rules.now).forms_pieces other ≡ true }
-    ensures { AreMovingBy (N.neighbours rules.now) board.now (is_below board.now.columns) one other result }
+    requires one { IsPlaces (N.neighbours rules.now) board.now one.byte one.places }
+    requires other { IsPlaces (N.neighbours rules.now) board.now other.byte other.places }
+    requires one_forms { (N.neighbours rules.now).forms_pieces one.byte ≡ true }
+    requires other_forms { (N.neighbours rules.now).forms_pieces other.byte ≡ true }
+    ensures { AreMovingBy (N.neighbours rules.now) board.now (is_below board.now.columns) one.byte other.byte result }
 {
-    if !some_allowed(rules, true, false, one, other) {
+    // Read for the proof alone: the field and the places are those of the board.
+    let _ = board;
+    if !some_allowed(rules, true, false, one.byte, other.byte) {
         return 0;
     }
-    moved_back(board.places(other), field.columns) & board.places(one)
+    moved_back(other.places, field.columns) & one.places
 }
 
-/// The cells with the one symbol on which some player has a move together with the next cell in the row, which has the other
-/// symbol.
+/// Of the cells with the one symbol, those on which some player has a move together with the next cell in the row, which has
+/// the other symbol.
 fn moving_beside<N: NeighbourRules>(
     rules: &N,
     board: &Board,
     field: Field,
-    one: u8,
-    other: u8,
+    one: Symbol,
+    other: Symbol,
 ) -> u64
     requires field { IsFieldOf (N.neighbours rules.now) board.now field }
-    requires one { Contains board.now.symbols one }
-    requires other { Contains board.now.symbols other }
-    requires one_forms { (N.neighbours rules.now).forms_pieces one ≡ true }
-    requires other_forms { (N.neighbours rules.now).forms_pieces other ≡ true }
-    ensures { AreMovingBy (N.neighbours rules.now) board.now (is_beside board.now.columns) one other result }
+    requires one { IsPlaces (N.neighbours rules.now) board.now one.byte one.places }
+    requires other { IsPlaces (N.neighbours rules.now) board.now other.byte other.places }
+    requires one_forms { (N.neighbours rules.now).forms_pieces one.byte ≡ true }
+    requires other_forms { (N.neighbours rules.now).forms_pieces other.byte ≡ true }
+    ensures { AreMovingBy (N.neighbours rules.now) board.now (is_beside board.now.columns) one.byte other.byte result }
 {
-    if !some_allowed(rules, false, true, one, other) {
+    // Read for the proof alone: the field and the places are those of the board.
+    let _ = board;
+    if !some_allowed(rules, false, true, one.byte, other.byte) {
         return 0;
     }
-    moved_back(board.places(other) & !field.first_column, 1) & board.places(one)
+    moved_back(other.places & !field.first_column, 1) & one.places
 }
 
-/// The cells with the one symbol on which some player has a move together with a cell of the other symbol that is below or
-/// next in the row.
-fn moving_pair<N: NeighbourRules>(rules: &N, board: &Board, field: Field, one: u8, other: u8) -> u64
+/// Of the cells with the one symbol, those on which some player has a move together with a cell of the other symbol that is
+/// below or next in the row.
+fn moving_pair<N: NeighbourRules>(
+    rules: &N,
+    board: &Board,
+    field: Field,
+    one: Symbol,
+    other: Symbol,
+) -> u64
     requires field { IsFieldOf (N.neighbours rules.now) board.now field }
-    requires one { Contains board.now.symbols one }
-    requires other { Contains board.now.symbols other }
-    requires forms { (N.neighbours rules.now).forms_pieces one ≡ true }
-    ensures { AreMovingPair (N.neighbours rules.now) board.now one other result }
+    requires one { IsPlaces (N.neighbours rules.now) board.now one.byte one.places }
+    requires other { IsPlaces (N.neighbours rules.now) board.now other.byte other.places }
+    requires forms { (N.neighbours rules.now).forms_pieces one.byte ≡ true }
+    ensures { AreMovingPair (N.neighbours rules.now) board.now one.byte other.byte result }
 {
-    if !rules.forms_pieces(other) {
+    if other.places == 0 {
         return 0;
     }
     let below = moving_below(rules, board, field, one, other);
@@ -80,29 +98,51 @@ fn moving_pair<N: NeighbourRules>(rules: &N, board: &Board, field: Field, one: u
     below | beside
 }
 
-/// The cells with this symbol on which some player has a move together with a cell that is below or next in the row.
-fn moving_with<N: NeighbourRules>(rules: &N, board: &Board, field: Field, one: u8) -> u64
+/// Of the cells with this symbol, those on which some player has a move together with a cell that is below or next in the row.
+fn moving_with<N: NeighbourRules>(
+    rules: &N,
+    board: &Board,
+    field: Field,
+    places: &Places,
+    one: Symbol,
+) -> u64
     requires field { IsFieldOf (N.neighbours rules.now) board.now field }
-    requires one { Contains board.now.symbols one }
-    ensures { AreMovingFrom (N.neighbours rules.now) board.now one result }
+    requires places { ArePlaces (N.neighbours rules.now) board.now places.now.words }
+    requires one { IsPlaces (N.neighbours rules.now) board.now one.byte one.places }
+    ensures { AreMovingFrom (N.neighbours rules.now) board.now one.byte result }
 {
     let mut moving = 0;
-    if rules.forms_pieces(one) {
-        for other in board.symbols() {
-            moving |= moving_pair(rules, board, field, one, *other);
-        }
+    if one.places == 0 {
+        return moving;
+    }
+    for (index, byte) in board.symbols().iter().enumerate() {
+        let other = Symbol {
+            byte: *byte,
+            places: places.words[index],
+        };
+        moving |= moving_pair(rules, board, field, one, other);
     }
     moving
 }
 
 /// The cells on which some player has a move together with the cell below or the next one in the row.
-pub(crate) fn moving_cells<N: NeighbourRules>(rules: &N, board: &Board, field: Field) -> u64
-    requires { IsFieldOf (N.neighbours rules.now) board.now field }
+pub(crate) fn moving_cells<N: NeighbourRules>(
+    rules: &N,
+    board: &Board,
+    field: Field,
+    places: &Places,
+) -> u64
+    requires field { IsFieldOf (N.neighbours rules.now) board.now field }
+    requires places { ArePlaces (N.neighbours rules.now) board.now places.now.words }
     ensures { AreMoving (N.neighbours rules.now) board.now result }
 {
     let mut moving = 0;
-    for one in board.symbols() {
-        moving |= moving_with(rules, board, field, *one);
+    for (index, byte) in board.symbols().iter().enumerate() {
+        let one = Symbol {
+            byte: *byte,
+            places: places.words[index],
+        };
+        moving |= moving_with(rules, board, field, places, one);
     }
     moving
 }

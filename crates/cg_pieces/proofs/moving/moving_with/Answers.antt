@@ -2,17 +2,17 @@ use Rattle.std.proofs.Common.{ap, arith, length, slice_index}
 use Rattle.cg_pieces.proofs.MovingWords.{moving-from, moving-to}
 use Rattle.cg_pieces.proofs.moving.moving_with.Goals as goal
 
-pub loop-other-preserved : goal.loop-other-preserved
-loop-other-preserved g c =
+pub loop-index-preserved : goal.loop-index-preserved
+loop-index-preserved g c =
     moving-to (g.N.NeighbourRules.neighbours c.args.rules.now) (g.met.N.NeighbourRules.lawful c.args.rules.now)
-    c.args.board.now c.args.one c.loop-other.other-index _ c.loop-other.moving c.moving_pair-moving.result
-    (ap (λ z. slice_index z c.loop-other.other-index) c.symbols-other-items.ensures.value) c.loop-other.invariant
+    c.args.board.now c.args.one.byte c.loop-index.index _ c.loop-index.moving c.moving_pair-moving.result
+    (ap (λ z. slice_index z c.loop-index.index) c.symbols-byte-items.ensures.value) c.loop-index.invariant
     c.moving_pair-moving.ensures
 
-pub returns-after-loop-other : goal.returns-after-loop-other
-returns-after-loop-other g c =
-    let e = ap length c.symbols-other-items.ensures.value in
-    let t = c.loop-other-test.false in
+pub returns : goal.returns
+returns g c =
+    let e = ap length c.symbols-byte-items.ensures.value in
+    let t = c.loop-index-test.false in
     moving-from (g.N.NeighbourRules.neighbours c.args.rules.now) (g.met.N.NeighbourRules.lawful c.args.rules.now)
-    c.args.board.now c.args.one c.loop-other.other-index c.loop-other.moving c.symbols-other-items.ensures.grid
-    (omega (arith, e, t)) c.loop-other.invariant
+    c.args.board.now c.args.one.byte c.loop-index.index c.loop-index.moving c.symbols-byte-items.ensures.grid
+    (omega (arith, e, t)) c.loop-index.invariant
