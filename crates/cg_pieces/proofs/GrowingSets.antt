@@ -1,13 +1,15 @@
 -- Sets of cells in words that grow by the cells adjacent to them.
-use Rattle.std.proofs.Common.{◌≡◌, ℕ, ◌+◌, ◌-◌, ◌<◌, ◌≤◌, ◌^◌, ◌||◌, ◌⊎◌, inl, inr, true, ap, sym, ◌∙◌, subst, arith, bit_and, bit_or, w64}
+use Rattle.std.proofs.Common.{◌≡◌, ℕ, ◌+◌, ◌-◌, ◌<◌, ◌≤◌, ◌^◌, ◌||◌, ◌⊎◌, inl, inr, Bool, true, refl, ap, sym, ◌∙◌, subst, arith, bit_and, bit_or, w64}
 use Rattle.std.specs.Int.{bit_at}
+use Rattle.std.proofs.lemmas.Bool.{eq-eqb}
 use Rattle.std.proofs.lemmas.Bool.Decides.{eqb_tells, leb_tells}
 use Rattle.std.proofs.lemmas.Nat.Bits.{bit_at-lt, bit_at_above, bit_at_and, bit_at_not, bit_at_or}
 use Rattle.cg_moves.proofs.ConnectedLemmas.{or-cases, or-first, or-second}
 use Rattle.cg_pieces.specs.declared.field.Field.{Field}
 use Rattle.cg_pieces.specs.Boxes.{column_of}
+use Rattle.cg_pieces.specs.Cells.Linked.{here, step}
 use Rattle.cg_pieces.specs.Neighbours.{is_below, is_beside, is_next}
-use Rattle.cg_pieces.specs.Words.{IsField, IsNextSet, IsWithin, NextIn}
+use Rattle.cg_pieces.specs.Words.{IsField, IsNextBy, IsNextSet, IsWithin, JoinedIn, NextIn, is_in_column, is_in_row}
 use Rattle.cg_pieces.proofs.Lines.{before-beside, below-is, beside-is, is-below, second-column}
 
 -- ---- single bits
@@ -77,147 +79,162 @@ back-next w k l t =
 
 -- ---- the set and what is adjacent to it
 
-module _ (f : Field) (set down up on back : ℕ) (is : IsField f) (within : IsWithin set f.cells) (open_fits : f.cells < 2 ^ 64)
-    (first_fits : f.first_column < 2 ^ 64)
-    (down_first : (i : ℕ) → i < f.columns → bit_at down i ≡ 0)
-    (down_others : (i : ℕ) → f.columns ≤ i → i < 64 → bit_at down i ≡ bit_at set (i - f.columns))
-    (up_is : (i : ℕ) → bit_at up i ≡ bit_at set (i + f.columns))
-    (on_first : (i : ℕ) → i < 1 → bit_at on i ≡ 0)
-    (on_others : (i : ℕ) → 1 ≤ i → i < 64 → bit_at on i ≡ bit_at set (i - 1))
-    (back_is : (i : ℕ) → bit_at back i ≡ bit_at (bit_and set (other_bits f.first_column)) (i + 1)) where
-  -- the words of cells below, above, behind and before
-  abbrev forth : ℕ
-  forth = bit_and on (other_bits f.first_column)
+module _ (f : Field) (set : ℕ) (is : IsField f) (within : IsWithin set f.cells) (open_fits : f.cells < 2 ^ 64) where
+  -- the open cells of the set, and of one that is put to it
+  module _ (stands : ℕ → ℕ → Bool) (beside : ℕ)
+      (beside_only : (k : ℕ) → k < 64 → bit_at f.cells k ≡ 1 → bit_at beside k ≡ 1 → NextIn f set k)
+      (beside_all : (k l : ℕ) → bit_at set k ≡ 1 → bit_at f.cells l ≡ 1 → stands k l ≡ true → bit_at beside l ≡ 1) where
+    next-by : IsNextBy f stands set (bit_and (bit_or set beside) f.cells)
+    next-by = record {
+      within = λ k t. (and-parts (bit_or set beside) f.cells k t).1;
+      grows = λ k t. and-one (bit_or set beside) f.cells k (or-left set beside k t) (within k t);
+      only = λ k t.
+          let both = and-parts (bit_or set beside) f.cells k t in
+          elim (or-parts set beside k both.0) [
+            | inl x ↦ inl x
+            | inr x ↦ inr (beside_only k (bit-below f.cells k open_fits both.1) both.1 x)
+          ];
+      all = λ k l s o t. and-one (bit_or set beside) f.cells l (or-right set beside l (beside_all k l s o t)) o;
+    }
 
-  abbrev beside : ℕ
-  beside = bit_or (bit_or down up) (bit_or forth back)
+  module _ (down up : ℕ) (down_first : (i : ℕ) → i < f.columns → bit_at down i ≡ 0)
+      (down_others : (i : ℕ) → f.columns ≤ i → i < 64 → bit_at down i ≡ bit_at set (i - f.columns))
+      (up_is : (i : ℕ) → bit_at up i ≡ bit_at set (i + f.columns)) where
+    next-down : (k : ℕ) → k < 64 → bit_at down k ≡ 1 → NextIn f set k
+    next-down k few t = elim (leb_tells f.columns k) [
+      | inl h ↦ (let e : (k - f.columns) + f.columns ≡ k = let x = h.1 in omega (arith, x) in
+          let P : ℕ → Type 0 = λ z. is_below f.columns (k - f.columns) z ≡ true in
+          record {
+            other = k - f.columns;
+            in_set = sym (down_others k h.1 few) ∙ t;
+            next = down-next f.columns (k - f.columns) k (subst P e (is-below f.columns (k - f.columns) is.wide));
+          })
+      | inr h ↦ let none = down_first k h.1 in absurd (omega (arith, none, t))
+    ]
 
-  abbrev pub next_set : ℕ
-  next_set = bit_and (bit_or set beside) f.cells
+    next-up : (k : ℕ) → bit_at up k ≡ 1 → NextIn f set k
+    next-up k t = record {
+      other = k + f.columns;
+      in_set = sym (up_is k) ∙ t;
+      next = up-next f.columns (k + f.columns) k (is-below f.columns k is.wide);
+    }
 
-  next-down : (k : ℕ) → k < 64 → bit_at down k ≡ 1 → NextIn f set k
-  next-down k few t = elim (leb_tells f.columns k) [
-    | inl h ↦ (let e : (k - f.columns) + f.columns ≡ k = let x = h.1 in omega (arith, x) in
-        let P : ℕ → Type 0 = λ z. is_below f.columns (k - f.columns) z ≡ true in
-        record {
-          other = k - f.columns;
-          in_set = sym (down_others k h.1 few) ∙ t;
-          next = down-next f.columns (k - f.columns) k (subst P e (is-below f.columns (k - f.columns) is.wide));
-        })
-    | inr h ↦ let none = down_first k h.1 in absurd (omega (arith, none, t))
-  ]
+    all-down : (k l : ℕ) → bit_at set k ≡ 1 → bit_at f.cells l ≡ 1 → is_below f.columns k l ≡ true → bit_at down l ≡ 1
+    all-down k l s o b =
+        let e = below-is f.columns k l b in
+        let few = bit-below f.cells l open_fits o in
+        let same : l - f.columns ≡ k = omega (arith, e) in
+        down_others l (omega (arith, e)) few ∙ ap (bit_at set) same ∙ s
 
-  next-up : (k : ℕ) → bit_at up k ≡ 1 → NextIn f set k
-  next-up k t = record {
-    other = k + f.columns;
-    in_set = sym (up_is k) ∙ t;
-    next = up-next f.columns (k + f.columns) k (is-below f.columns k is.wide);
-  }
+    all-up : (k l : ℕ) → bit_at set k ≡ 1 → is_below f.columns l k ≡ true → bit_at up l ≡ 1
+    all-up k l s b = let e = below-is f.columns l k b in up_is l ∙ ap (bit_at set) (sym e) ∙ s
 
-  next-forth : (k : ℕ) → k < 64 → bit_at f.cells k ≡ 1 → bit_at forth k ≡ 1 → NextIn f set k
-  next-forth k few o t =
-      let both = and-parts on (other_bits f.first_column) k t in
-      let some : ¬ (column_of f.columns k ≡ 0) = λ z. not-zero f.first_column k first_fits few both.1 (is.starts k o z) in
-      elim (leb_tells 1 k) [
-        | inl h ↦ record {
-          other = k - 1;
-          in_set = sym (on_others k h.1 few) ∙ both.0;
-          next = forth-next f.columns (k - 1) k (before-beside f.columns k is.wide some);
-        }
-        | inr h ↦ let none = on_first k h.1 in let one = both.0 in absurd (omega (arith, none, one))
-      ]
-
-  next-back : (k : ℕ) → bit_at back k ≡ 1 → NextIn f set k
-  next-back k t =
-      let both = and-parts set (other_bits f.first_column) (k + 1) (sym (back_is k) ∙ t) in
-      let o = within (k + 1) both.0 in
-      let few = bit-below f.cells (k + 1) open_fits o in
-      let some : ¬ (column_of f.columns (k + 1) ≡ 0) =
-      λ z. not-zero f.first_column (k + 1) first_fits few both.1 (is.starts (k + 1) o z) in
-      let e : (k + 1) - 1 ≡ k = omega arith in
-      let P : ℕ → Type 0 = λ z. is_beside f.columns z (k + 1) ≡ true in
-      record {
-        other = k + 1;
-        in_set = both.0;
-        next = back-next f.columns (k + 1) k (subst P e (before-beside f.columns (k + 1) is.wide some));
-      }
-
-  next-only : (k : ℕ) → bit_at next_set k ≡ 1 → (bit_at set k ≡ 1) ⊎ NextIn f set k
-  next-only k t =
-      let both = and-parts (bit_or set beside) f.cells k t in
-      let few = bit-below f.cells k open_fits both.1 in
-      elim (or-parts set beside k both.0) [
-        | inl x ↦ inl x
-        | inr x ↦ inr (elim (or-parts (bit_or down up) (bit_or forth back) k x) [
-          | inl y ↦ elim (or-parts down up k y) [
-            | inl z ↦ next-down k few z
-            | inr z ↦ next-up k z
-          ]
-          | inr y ↦ elim (or-parts forth back k y) [
-            | inl z ↦ next-forth k few both.1 z
-            | inr z ↦ next-back k z
-          ]
+    pub column-set : IsNextBy f (is_in_column f.columns) set (bit_and (bit_or set (bit_or down up)) f.cells)
+    column-set = next-by (is_in_column f.columns) (bit_or down up)
+        (λ k few o t. elim (or-parts down up k t) [
+          | inl x ↦ next-down k few x
+          | inr x ↦ next-up k x
         ])
-      ]
+        (λ k l s o t. elim (or-cases (is_below f.columns k l) (is_below f.columns l k) t) [
+          | inl a ↦ or-left down up l (all-down k l s o a)
+          | inr a ↦ or-right down up l (all-up k l s a)
+        ])
 
-  in-beside : (l : ℕ) → bit_at f.cells l ≡ 1 → bit_at beside l ≡ 1 → bit_at next_set l ≡ 1
-  in-beside l o t = and-one (bit_or set beside) f.cells l (or-right set beside l t) o
+  module _ (on back : ℕ) (first_fits : f.first_column < 2 ^ 64) (on_first : (i : ℕ) → i < 1 → bit_at on i ≡ 0)
+      (on_others : (i : ℕ) → 1 ≤ i → i < 64 → bit_at on i ≡ bit_at set (i - 1))
+      (back_is : (i : ℕ) → bit_at back i ≡ bit_at (bit_and set (other_bits f.first_column)) (i + 1)) where
+    abbrev forth : ℕ
+    forth = bit_and on (other_bits f.first_column)
 
-  in-lines : (l : ℕ) → bit_at f.cells l ≡ 1 → bit_at (bit_or down up) l ≡ 1 → bit_at next_set l ≡ 1
-  in-lines l o t = in-beside l o (or-left (bit_or down up) (bit_or forth back) l t)
-
-  in-rows : (l : ℕ) → bit_at f.cells l ≡ 1 → bit_at (bit_or forth back) l ≡ 1 → bit_at next_set l ≡ 1
-  in-rows l o t = in-beside l o (or-right (bit_or down up) (bit_or forth back) l t)
-
-  all-down : (k l : ℕ) → bit_at set k ≡ 1 → bit_at f.cells l ≡ 1 → is_below f.columns k l ≡ true → bit_at next_set l ≡ 1
-  all-down k l s o b =
-      let e = below-is f.columns k l b in
-      let few = bit-below f.cells l open_fits o in
-      let same : l - f.columns ≡ k = omega (arith, e) in
-      in-lines l o (or-left down up l (down_others l (omega (arith, e)) few ∙ ap (bit_at set) same ∙ s))
-
-  all-up : (k l : ℕ) → bit_at set k ≡ 1 → bit_at f.cells l ≡ 1 → is_below f.columns l k ≡ true → bit_at next_set l ≡ 1
-  all-up k l s o b =
-      let e = below-is f.columns l k b in
-      in-lines l o (or-right down up l (up_is l ∙ ap (bit_at set) (sym e) ∙ s))
-
-  all-forth : (k l : ℕ) → bit_at set k ≡ 1 → bit_at f.cells l ≡ 1 → is_beside f.columns k l ≡ true → bit_at next_set l ≡ 1
-  all-forth k l s o b =
-      let e = beside-is f.columns k l b in
-      let c = second-column f.columns k l b in
-      let few = bit-below f.cells l open_fits o in
-      let same : l - 1 ≡ k = omega (arith, e) in
-      let none = is.others l o (λ z. omega (arith, c, z)) in
-      in-rows l o (or-left forth back l (and-one on (other_bits f.first_column) l
-      (on_others l (omega (arith, e)) few ∙ ap (bit_at set) same ∙ s) (not-one f.first_column l first_fits few none)))
-
-  all-back : (k l : ℕ) → bit_at set k ≡ 1 → bit_at f.cells l ≡ 1 → is_beside f.columns l k ≡ true → bit_at next_set l ≡ 1
-  all-back k l s o b =
-      let e = beside-is f.columns l k b in
-      let c = second-column f.columns l k b in
-      let open_k = within k s in
-      let few = bit-below f.cells k open_fits open_k in
-      let none = is.others k open_k (λ z. omega (arith, c, z)) in
-      in-rows l o (or-right forth back l (back_is l ∙ ap (bit_at (bit_and set (other_bits f.first_column))) (sym e)
-      ∙ and-one set (other_bits f.first_column) k s (not-one f.first_column k first_fits few none)))
-
-  next-all : (k l : ℕ) → bit_at set k ≡ 1 → bit_at f.cells l ≡ 1 → is_next f.columns k l ≡ true → bit_at next_set l ≡ 1
-  next-all k l s o t =
-      elim (or-cases (is_below f.columns k l || is_below f.columns l k) (is_beside f.columns k l || is_beside f.columns l k) t) [
-        | inl x ↦ elim (or-cases (is_below f.columns k l) (is_below f.columns l k) x) [
-          | inl a ↦ all-down k l s o a
-          | inr a ↦ all-up k l s o a
+    next-forth : (k : ℕ) → k < 64 → bit_at f.cells k ≡ 1 → bit_at forth k ≡ 1 → NextIn f set k
+    next-forth k few o t =
+        let both = and-parts on (other_bits f.first_column) k t in
+        let some : ¬ (column_of f.columns k ≡ 0) = λ z. not-zero f.first_column k first_fits few both.1 (is.starts k o z) in
+        elim (leb_tells 1 k) [
+          | inl h ↦ record {
+            other = k - 1;
+            in_set = sym (on_others k h.1 few) ∙ both.0;
+            next = forth-next f.columns (k - 1) k (before-beside f.columns k is.wide some);
+          }
+          | inr h ↦ let none = on_first k h.1 in let one = both.0 in absurd (omega (arith, none, one))
         ]
-        | inr y ↦ elim (or-cases (is_beside f.columns k l) (is_beside f.columns l k) y) [
-          | inl a ↦ all-forth k l s o a
-          | inr a ↦ all-back k l s o a
-        ]
-      ]
 
-  pub next-set : IsNextSet f set next_set
-  next-set = record {
-    within = λ k t. (and-parts (bit_or set beside) f.cells k t).1;
-    grows = λ k t. and-one (bit_or set beside) f.cells k (or-left set beside k t) (within k t);
-    only = next-only;
-    all = next-all;
-  }
+    next-back : (k : ℕ) → bit_at back k ≡ 1 → NextIn f set k
+    next-back k t =
+        let both = and-parts set (other_bits f.first_column) (k + 1) (sym (back_is k) ∙ t) in
+        let o = within (k + 1) both.0 in
+        let few = bit-below f.cells (k + 1) open_fits o in
+        let some : ¬ (column_of f.columns (k + 1) ≡ 0) =
+        λ z. not-zero f.first_column (k + 1) first_fits few both.1 (is.starts (k + 1) o z) in
+        let e : (k + 1) - 1 ≡ k = omega arith in
+        let P : ℕ → Type 0 = λ z. is_beside f.columns z (k + 1) ≡ true in
+        record {
+          other = k + 1;
+          in_set = both.0;
+          next = back-next f.columns (k + 1) k (subst P e (before-beside f.columns (k + 1) is.wide some));
+        }
+
+    all-forth : (k l : ℕ) → bit_at set k ≡ 1 → bit_at f.cells l ≡ 1 → is_beside f.columns k l ≡ true → bit_at forth l ≡ 1
+    all-forth k l s o b =
+        let e = beside-is f.columns k l b in
+        let c = second-column f.columns k l b in
+        let few = bit-below f.cells l open_fits o in
+        let same : l - 1 ≡ k = omega (arith, e) in
+        let none = is.others l o (λ z. omega (arith, c, z)) in
+        and-one on (other_bits f.first_column) l
+        (on_others l (omega (arith, e)) few ∙ ap (bit_at set) same ∙ s) (not-one f.first_column l first_fits few none)
+
+    all-back : (k l : ℕ) → bit_at set k ≡ 1 → is_beside f.columns l k ≡ true → bit_at back l ≡ 1
+    all-back k l s b =
+        let e = beside-is f.columns l k b in
+        let c = second-column f.columns l k b in
+        let open_k = within k s in
+        let few = bit-below f.cells k open_fits open_k in
+        let none = is.others k open_k (λ z. omega (arith, c, z)) in
+        back_is l ∙ ap (bit_at (bit_and set (other_bits f.first_column))) (sym e)
+        ∙ and-one set (other_bits f.first_column) k s (not-one f.first_column k first_fits few none)
+
+    pub row-set : IsNextBy f (is_in_row f.columns) set (bit_and (bit_or set (bit_or forth back)) f.cells)
+    row-set = next-by (is_in_row f.columns) (bit_or forth back)
+        (λ k few o t. elim (or-parts forth back k t) [
+          | inl x ↦ next-forth k few o x
+          | inr x ↦ next-back k x
+        ])
+        (λ k l s o t. elim (or-cases (is_beside f.columns k l) (is_beside f.columns l k) t) [
+          | inl a ↦ or-left forth back l (all-forth k l s o a)
+          | inr a ↦ or-right forth back l (all-back k l s a)
+        ])
+
+-- first by columns, then by rows
+pub next-set : (f : Field) (set tall more : ℕ) → IsNextBy f (is_in_column f.columns) set tall
+    → IsNextBy f (is_in_row f.columns) tall more → IsNextSet f set more
+next-set f set tall more a b = record {
+  within = b.within;
+  grows = λ k t. b.grows k (a.grows k t);
+  only = λ k t. elim (b.only k t) [
+    | inl x ↦ from k x
+    | inr x ↦
+        let (l, s, j) = from x.other x.in_set in (
+          l,
+          s,
+          step x.other k j (eq-eqb (bit_at f.cells x.other) 1 (a.within x.other x.in_set))
+              (eq-eqb (bit_at f.cells k) 1 (b.within k t)) x.next,
+        )
+  ];
+  all = λ k l s o t. elim (or-cases (is_in_column f.columns k l) (is_in_row f.columns k l) t) [
+    | inl x ↦ b.grows l (a.all k l s o x)
+    | inr x ↦ b.all k l (a.grows k s) o x
+  ];
+}
+  where
+    from : (k : ℕ) → bit_at tall k ≡ 1 → (l : ℕ) × (bit_at set l ≡ 1) × JoinedIn f l k
+    from k t = elim (a.only k t) [
+      | inl x ↦ (k, x, here k refl)
+      | inr x ↦ (
+        x.other,
+        x.in_set,
+        step x.other k (here x.other refl)
+            (eq-eqb (bit_at f.cells x.other) 1 (a.within x.other (a.grows x.other x.in_set)))
+            (eq-eqb (bit_at f.cells k) 1 (a.within k t)) x.next,
+      )
+    ]

@@ -1,7 +1,7 @@
 -- Sets of cells in words that have grown to all joined cells.
 use Rattle.std.proofs.Common.{◌≡◌, ◌≢◌, ◌↔◌, refl, ℕ, ◌<◌, ◌≤◌, ◌-◌, inl, inr, if◌then◌else◌, ap, sym, ◌∙◌, subst, arith, bit_or}
 use Rattle.std.specs.Int.{bit_at}
-use Rattle.std.proofs.lemmas.Bool.{eq-eqb, eqb-true}
+use Rattle.std.proofs.lemmas.Bool.{eqb-true}
 use Rattle.std.proofs.lemmas.Bool.Decides.{eqb_tells}
 use Rattle.std.proofs.lemmas.Nat.{le_or_l}
 use Rattle.std.proofs.lemmas.Nat.Bits.{bit_at-lt, bit_at-zero, bit_at_or, same_from_bits}
@@ -46,15 +46,15 @@ growing-start f cell set is inside = record {
       | inr h ↦ let none = is k ∙ ap (λ b. if b then 1 else bit_at 0 k) h.0 ∙ bit_at-zero k in absurd (omega (arith, none, t))
     ]
 
+linked-on : (f : Field) (k l m : ℕ) → JoinedIn f k l → JoinedIn f l m → JoinedIn f k m
+linked-on f k l m j (here x e) = let P : ℕ → Type 0 = λ z. JoinedIn f k z in subst P e j
+linked-on f k l m j (step x y r x_open y_open next) = step x m (linked-on f k l x j r) x_open y_open next
+
 pub growing-more : (f : Field) (cell set more : ℕ) → IsGrowing f cell set → IsNextSet f set more → IsGrowing f cell more
 growing-more f cell set more g next = record {
   here = next.grows cell g.here;
   within = next.within;
-  joined = λ k t. elim (next.only k t) [
-    | inl x ↦ g.joined k x
-    | inr x ↦ step x.other k (g.joined x.other x.in_set) (eq-eqb (bit_at f.cells x.other) 1 (g.within x.other x.in_set))
-        (eq-eqb (bit_at f.cells k) 1 (next.within k t)) x.next
-  ];
+  joined = λ k t. let (l, s, j) = next.only k t in linked-on f cell l k (g.joined l s) j;
 }
 
 -- a set that grows no more has all joined cells

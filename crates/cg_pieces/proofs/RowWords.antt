@@ -1,5 +1,5 @@
 -- Rows of cells in words: put over each other, and cut out.
-use Rattle.std.proofs.Common.{◌≡◌, ℕ, ◌+◌, ◌-◌, ◌*◌, ◌<◌, ◌≤◌, ◌^◌, ◌⊎◌, inl, inr, nat_lt, if◌then◌else◌, ap, sym, ◌∙◌, subst, arith, bit_and, bit_or}
+use Rattle.std.proofs.Common.{◌≡◌, ℕ, ◌+◌, ◌-◌, ◌*◌, ◌<◌, ◌≤◌, ◌^◌, inl, inr, nat_lt, if◌then◌else◌, ap, sym, ◌∙◌, arith, bit_and, bit_or}
 use Rattle.std.specs.Int.{bit_at}
 use Rattle.std.proofs.Math.Nat.{mod-lt, mul-le-mul_left, mul-le-mul_right}
 use Rattle.std.proofs.lemmas.Bool.{le-ltb, lt-ltb, ltb-true}
@@ -20,74 +20,78 @@ row-cells width row k low = omega arith
 
 -- ---- all rows as one
 
-pub no-row : (width set : ℕ) → IsInOneRow width (0 * width) set 0
-no-row width set = record {
-  all = λ k h t. absurd (omega (arith, h));
-  only = λ c t. let z = bit_at-zero c in absurd (omega (arith, z, t));
+-- the rows from each on are put over each other, so many of them
+pub record AreOver (width set found height : ℕ) : Type 0 where
+  pub many : ℕ
+  pub height_is : height ≡ many * width
+  pub all : (k j : ℕ) → j < many → bit_at set (k + j * width) ≡ 1 → bit_at found k ≡ 1
+  pub only : (k : ℕ) → bit_at found k ≡ 1 → (j : ℕ) × (bit_at set (k + j * width) ≡ 1)
+
+pub one-over : (width set : ℕ) → AreOver width set set width
+one-over width set = record {
+  many = 1;
+  height_is = omega arith;
+  all = λ k j h t.
+      let e : k + j * width ≡ k = (let z : j ≡ 0 = omega (arith, h) in
+      ap (λ x. k + x * width) z ∙ (let f : k + 0 * width ≡ k = omega arith in f)) in
+      ap (bit_at set) (sym e) ∙ t;
+  only = λ k t. let e : k + 0 * width ≡ k = omega arith in (0, ap (bit_at set) e ∙ t);
 }
 
-pub row-more : (width row set line moved mask : ℕ) → IsInOneRow width (row * width) set line
-    → ((i : ℕ) → bit_at moved i ≡ bit_at set (i + row * width)) → Marks mask (λ i. nat_lt i width)
-    → IsInOneRow width ((row + 1) * width) set (bit_or line (bit_and moved mask))
-row-more width row set line moved mask old moved_is mask_is = record {
-  all = λ k h t. elim (leb_tells (row * width) k) [
+pub twice-over : (width set found height moved : ℕ) → AreOver width set found height
+    → ((i : ℕ) → bit_at moved i ≡ bit_at found (i + height)) → AreOver width set (bit_or found moved) (height * 2)
+twice-over width set found height moved old moved_is = record {
+  many = old.many * 2;
+  height_is = let e = old.height_is in omega (arith, e);
+  all = λ k j h t. elim (leb_tells old.many j) [
     | inl low ↦
-        let d : ℕ = k - row * width in
-        let few : d < width = (let a = low.1 in omega (arith, a, h)) in
-        let e : d + row * width ≡ k = (let a = low.1 in omega (arith, a)) in
-        let column : column_of width k ≡ d =
-        ap (column_of width) (row-cells width row k low.1) ∙ column-cell width row d few in
-        let P : ℕ → Type 0 = λ z. bit_at (bit_or line (bit_and moved mask)) z ≡ 1 in
-        subst P (sym column) (or-right line (bit_and moved mask) d (and-one moved mask d
-        (moved_is d ∙ ap (bit_at set) e ∙ t)
-        (test-marks mask (λ i. nat_lt i width) mask_is d (lt-ltb d width few))))
-    | inr high ↦ or-left line (bit_and moved mask) (column_of width k) (old.all k high.1 t)
+        let far = low.1 in
+        let d : ℕ = j - old.many in
+        let j_is : j ≡ old.many + d = omega (arith, far) in
+        let e : k + j * width ≡ (k + height) + d * width =
+        (let h = old.height_is in let f : k + (old.many + d) * width ≡ (k + old.many * width) + d * width = omega arith in
+        ap (λ x. k + x * width) j_is ∙ f ∙ ap (λ x. (k + x) + d * width) (sym h)) in
+        or-right found moved k (moved_is k
+        ∙ old.all (k + height) d (omega (arith, h, far)) (ap (bit_at set) (sym e) ∙ t))
+    | inr near ↦ or-left found moved k (old.all k j near.1 t)
   ];
-  only = λ c t. elim (or-parts line (bit_and moved mask) c t) [
-    | inl x ↦ old.only c x
+  only = λ k t. elim (or-parts found moved k t) [
+    | inl x ↦ old.only k x
     | inr x ↦
-        let both = and-parts moved mask c x in
-        let few = ltb-true c width (marks-test mask (λ i. nat_lt i width) mask_is c both.1) in
-        let e : c + row * width ≡ cell_at width row c = omega arith in
-        (c + row * width, sym (moved_is c) ∙ both.0, ap (column_of width) e ∙ column-cell width row c few)
+        let (j, s) = old.only (k + height) (sym (moved_is k) ∙ x) in
+        let e : k + (old.many + j) * width ≡ (k + height) + j * width =
+        (let h = old.height_is in let f : k + (old.many + j) * width ≡ (k + old.many * width) + j * width = omega arith in
+        f ∙ ap (λ x. (k + x) + j * width) (sym h)) in
+        (old.many + j, ap (bit_at set) e ∙ s)
   ];
 }
 
--- what is left of the word of a set behind so many rows
-abbrev pub IsRest : ℕ → ℕ → ℕ → ℕ → Type 0
-IsRest width row set rest = (i : ℕ) → bit_at rest i ≡ bit_at set (i + row * width)
-
-pub rest-start : (width set : ℕ) → IsRest width 0 set set
-rest-start width set i = let e : i ≡ i + 0 * width = omega arith in ap (bit_at set) e
-
-pub rest-more : (width row set rest moved : ℕ) → IsRest width row set rest
-    → ((i : ℕ) → bit_at moved i ≡ bit_at rest (i + width)) → IsRest width (row + 1) set moved
-rest-more width row set rest moved old moved_is i =
-    let e : (i + width) + row * width ≡ i + (row + 1) * width = omega arith in
-    moved_is i ∙ old (i + width) ∙ ap (bit_at set) e
-
--- all rows are put over each other where none is left, or where there are cells in all columns
-pub rows-done : (width size row set line rest mask : ℕ) → 1 ≤ width → IsInOneRow width (row * width) set line
-    → IsRest width row set rest → Marks mask (λ i. nat_lt i width) → (rest ≡ 0) ⊎ (line ≡ mask)
-    → IsInOneRow width size set line
-rows-done width size row set line rest mask wide old rest_is mask_is done = record {
-  all = λ k h t. elim done [
-    | inl none ↦ elim (leb_tells (row * width) k) [
-      | inl low ↦
-          let d : ℕ = k - row * width in
-          let e : d + row * width ≡ k = (let a = low.1 in omega (arith, a)) in
-          let is = ap (λ z. bit_at z d) (sym none) ∙ rest_is d ∙ ap (bit_at set) e in
-          let zero = bit_at-zero d in
-          absurd (omega (arith, is, zero, t))
-      | inr high ↦ old.all k high.1 t
+pub all-over : (width set size found height mask : ℕ) → 1 ≤ width → AreOver width set found height → size ≤ height
+    → Marks mask (λ i. nat_lt i width) → IsInOneRow width size set (bit_and found mask)
+all-over width set size found height mask wide over enough mask_is = record {
+  all = λ k h t.
+      let c : ℕ = column_of width k in
+      let r : ℕ = row_of width k in
+      let few : c < width = mod-lt k wide in
+      let cell : c + r * width ≡ k = (let e = cell-of width k in omega (arith, e)) in
+      let is = over.height_is in
+      let low : r * width < over.many * width = omega (arith, cell, h, enough, is) in
+      let below : r < over.many = rows-below r over.many width low in
+      and-one found mask c (over.all c r below (ap (bit_at set) cell ∙ t))
+      (test-marks mask (λ i. nat_lt i width) mask_is c (lt-ltb c width few));
+  only = λ c t.
+      let both = and-parts found mask c t in
+      let few = ltb-true c width (marks-test mask (λ i. nat_lt i width) mask_is c both.1) in
+      let (j, s) = over.only c both.0 in
+      let e : c + j * width ≡ cell_at width j c = omega arith in
+      (c + j * width, s, ap (column_of width) e ∙ column-cell width j c few);
+}
+  where
+    rows-below : (r many width : ℕ) → r * width < many * width → r < many
+    rows-below r many width h = elim (leb_tells many r) [
+      | inl above ↦ (let more : many * width ≤ r * width = mul-le-mul_right width above.1 in absurd (omega (arith, h, more)))
+      | inr below ↦ below.1
     ]
-    | inr full ↦
-        let few = mod-lt k wide in
-        ap (λ z. bit_at z (column_of width k)) full
-        ∙ test-marks mask (λ i. nat_lt i width) mask_is (column_of width k) (lt-ltb (column_of width k) width few)
-  ];
-  only = old.only;
-}
 
 -- ---- the rows of a box, one after another
 

@@ -8,7 +8,7 @@ use Rattle.cg_pieces.specs.declared.field.Field.{Field}
 use Rattle.cg_pieces.specs.Boxes.{column_of}
 use Rattle.cg_pieces.specs.Cells.{Linked}
 use Rattle.cg_pieces.specs.Moving.{MovesWith, is_behind, moves_between}
-use Rattle.cg_pieces.specs.Neighbours.{Neighbours, are_joined, is_least, is_next, is_piece_cell}
+use Rattle.cg_pieces.specs.Neighbours.{Neighbours, are_joined, is_below, is_beside, is_least, is_next, is_piece_cell}
 
 -- the bits of the first word are bits of the second
 abbrev pub IsWithin : ℕ → ℕ → Type 0
@@ -32,16 +32,31 @@ pub record NextIn (f : Field) (set k : ℕ) : Type 0 where
   pub in_set : bit_at set other ≡ 1
   pub next : is_next f.columns other k ≡ true
 
--- the set with the open cells that are adjacent to one of it
-pub record IsNextSet (f : Field) (set more : ℕ) : Type 0 where
+-- the one cell is directly above the other, or the other above it
+abbrev pub is_in_column : ℕ → ℕ → ℕ → Bool
+is_in_column width k l = is_below width k l || is_below width l k
+
+-- the cells are next to each other in a row
+abbrev pub is_in_row : ℕ → ℕ → ℕ → Bool
+is_in_row width k l = is_beside width k l || is_beside width l k
+
+-- the set with the open cells that stand so to one of it
+pub record IsNextBy (f : Field) (stands : ℕ → ℕ → Bool) (set more : ℕ) : Type 0 where
   pub within : IsWithin more f.cells
   pub grows : IsWithin set more
   pub only : (k : ℕ) → bit_at more k ≡ 1 → (bit_at set k ≡ 1) ⊎ NextIn f set k
-  pub all : (k l : ℕ) → bit_at set k ≡ 1 → bit_at f.cells l ≡ 1 → is_next f.columns k l ≡ true → bit_at more l ≡ 1
+  pub all : (k l : ℕ) → bit_at set k ≡ 1 → bit_at f.cells l ≡ 1 → stands k l ≡ true → bit_at more l ≡ 1
 
 -- a row of open cells, each adjacent to the next, leads from one to the other
 abbrev pub JoinedIn : Field → ℕ → ℕ → Type 0
 JoinedIn f k l = Linked (λ m. bit_at f.cells m == 1) (is_next f.columns) k l
+
+-- the set with the open cells that are adjacent to one of it, and maybe others that are joined with it
+pub record IsNextSet (f : Field) (set more : ℕ) : Type 0 where
+  pub within : IsWithin more f.cells
+  pub grows : IsWithin set more
+  pub only : (k : ℕ) → bit_at more k ≡ 1 → (l : ℕ) × (bit_at set l ≡ 1) × JoinedIn f l k
+  pub all : (k l : ℕ) → bit_at set k ≡ 1 → bit_at f.cells l ≡ 1 → is_next f.columns k l ≡ true → bit_at more l ≡ 1
 
 -- a set on its way from one cell to all that are joined with it
 pub record IsGrowing (f : Field) (cell set : ℕ) : Type 0 where

@@ -3,7 +3,7 @@ ghost use Rattle.std.specs.Prelude.{◌≡◌, ◌↔◌, ℕ, ◌<◌};
 ghost use Rattle.std.specs.Int.{bit_at};
 ghost use Rattle.cg_moves.specs.Words.{Marks};
 ghost use Rattle.cg_pieces.specs.Neighbours.{is_piece_cell};
-ghost use Rattle.cg_pieces.specs.Words.{IsFieldOf, IsField, IsNextSet, IsWithin, JoinedIn};
+ghost use Rattle.cg_pieces.specs.Words.{IsFieldOf, IsField, IsNextBy, IsNextSet, IsWithin, JoinedIn, is_in_column, is_in_row};
 
 use crate::NeighbourRules;
 use crate::places::Places;
@@ -36,17 +36,36 @@ pub(crate) fn field_of<N: NeighbourRules>(rules: &N, board: &Board, places: &Pla
 }
 
 impl Field {
-    /// The set with the cells that form pieces and are adjacent to one of it.
+    /// The set with the cells that form pieces and are above or below one of it.
+    fn with_column(self, set: u64) -> u64
+        requires field { IsField self }
+        requires set { IsWithin set self.cells }
+        ensures { IsNextBy self (is_in_column self.columns) set result }
+    {
+        let down = moved_on(set, self.columns);
+        let up = moved_back(set, self.columns);
+        (set | (down | up)) & self.cells
+    }
+
+    /// The set with the cells that form pieces and are next to one of it in a row.
+    fn with_row(self, set: u64) -> u64
+        requires field { IsField self }
+        requires set { IsWithin set self.cells }
+        ensures { IsNextBy self (is_in_row self.columns) set result }
+    {
+        let on = moved_on(set, 1);
+        let back = moved_back(set & !self.first_column, 1);
+        (set | (on & !self.first_column | back)) & self.cells
+    }
+
+    /// The set with the cells that form pieces and are adjacent to one of it, and those that are next to these in a row.
     fn with_next(self, set: u64) -> u64
         requires field { IsField self }
         requires set { IsWithin set self.cells }
         ensures { IsNextSet self set result }
     {
-        let down = moved_on(set, self.columns);
-        let up = moved_back(set, self.columns);
-        let on = moved_on(set, 1);
-        let back = moved_back(set & !self.first_column, 1);
-        (set | ((down | up) | (on & !self.first_column | back))) & self.cells
+        let more = self.with_column(set);
+        self.with_row(more)
     }
 
     /// The set of cells that are joined with this one, which forms pieces.

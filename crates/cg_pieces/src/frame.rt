@@ -18,24 +18,21 @@ struct Frame {
     columns: u8,
 }
 
-/// The cells of a set in all rows, as if they stood in one row.
+/// The cells of a set in all rows, as if they stood in one row. Twice as many rows are put over each other at each step.
 fn in_one_row(set: u64, rows: u8, columns: u8) -> u64
     requires some { 1 ≤ columns }
     requires few { rows * columns ≤ 64 }
     requires columns { columns ≤ 64 }
     ensures { IsInOneRow columns (rows * columns) set result }
 {
-    let row_cells = all_cells(columns);
-    let mut found = 0;
-    let mut rest = set;
-    for row in 0..rows {
-        found |= rest & row_cells;
-        rest = moved_back(rest, columns);
-        if rest == 0 || found == row_cells {
-            return found;
-        }
+    let size = rows * columns;
+    let mut found = set;
+    let mut height = columns;
+    while height < size {
+        found |= moved_back(found, height);
+        height *= 2;
     }
-    found
+    found & all_cells(columns)
 }
 
 /// The place of the last bit that is 1.

@@ -1,10 +1,12 @@
-use Rattle.std.proofs.Common.{◌*◌}
-use Rattle.cg_pieces.specs.Words.{IsInOneRow}
-use Rattle.cg_pieces.proofs.RowWords.{IsRest}
+use Rattle.std.proofs.Common.{◌-◌, ◌*◌, ◌≤◌}
+use Rattle.cg_pieces.proofs.RowWords.{AreOver}
 use Rattle.cg_pieces.proofs.frame.in_one_row.Given as goal
 
-abbrev pub invariant-loop-row : goal.invariant-loop-row
-invariant-loop-row l = record {
-  found : IsInOneRow l.columns (l.row * l.columns) l.set l.found;
-  rest : IsRest l.columns l.row l.set l.rest;
+abbrev pub invariant-loop-height : goal.invariant-loop-height
+invariant-loop-height l = record {
+  over : AreOver l.columns l.set l.found l.height;
+  some : 1 ≤ l.height;
 }
+
+abbrev pub decreases-loop-height : goal.decreases-loop-height
+decreases-loop-height l = l.rows * l.columns - l.height
