@@ -39,3 +39,4 @@ pub mod KeyLemmas
 pub mod Halves
 pub mod Differing
 pub mod Sorting
+pub mod SameMembers

@@ -1,0 +1,62 @@
+-- Lists of cells with the same members have the same rising order.
+use Rattle.std.proofs.Common.{◌≡◌, refl, ℕ, inl, inr, List, [], ◌∷◌, ap, sym, subst, ◌∙◌}
+use Rattle.std.specs.List.{AllByRecursion}
+use Rattle.std.specs.List.Sorted.{IsStrictlySortedBy}
+use Rattle.std.specs.Ordering.{ordering_reverse}
+use Rattle.std.specs.declared.cmp.Ordering.TheVariants.{Less, Greater}
+use Rattle.std.specs.Cmp.{IsTotalOrder}
+use Rattle.std.proofs.lemmas.Cmp.{nat_list_cmp_total}
+use Rattle.cg_moves.specs.Rising.{IsRising, bytes_cmp, rising}
+use Rattle.cg_moves.specs.Rules.{In}
+use Rattle.cg_moves.proofs.RisingLemmas.{in-rising, rising-in, rising-rises}
+
+-- each member of the one list is one of the other
+abbrev pub HasAll : List (List ℕ) → List (List ℕ) → Type 0
+HasAll xs ys = (z : List ℕ) → In z xs → In z ys
+
+each-in : (P : List ℕ → Type 0) (xs : List (List ℕ)) (z : List ℕ) → AllByRecursion P xs → In z xs → P z
+each-in P [] z a m = absurd m
+each-in P (x ∷ xs) z a (inl e) = subst P (sym e) a.0
+each-in P (x ∷ xs) z a (inr m) = each-in P xs z a.1 m
+
+not-before : (x y : List ℕ) → bytes_cmp x y ≡ Less → bytes_cmp y x ≡ Less → ⊥
+not-before x y a b =
+    let t : IsTotalOrder bytes_cmp = nat_list_cmp_total in
+    let more : bytes_cmp x y ≡ Greater = t.antisymm x y ∙ ap ordering_reverse b in
+    let e : Less ≡ Greater = sym a ∙ more in
+    cc
+
+not-itself : (x : List ℕ) → bytes_cmp x x ≡ Less → ⊥
+not-itself x a = not-before x x a a
+
+unique : (xs ys : List (List ℕ)) → IsRising xs → IsRising ys → HasAll xs ys → HasAll ys xs → xs ≡ ys
+unfolding IsStrictlySortedBy
+unique [] [] r s forth back = refl
+unique [] (y ∷ ys) r s forth back = absurd (back y (inl refl))
+unique (x ∷ xs) [] r s forth back = absurd (forth x (inl refl))
+unique (x ∷ xs) (y ∷ ys) r s forth back =
+    let e : x ≡ y = heads (forth x (inl refl)) (back y (inl refl)) in
+    let tails = unique xs ys r.1 s.1
+    (λ z m. elim (forth z (inr m)) [
+      | inl f ↦ (let P : List ℕ → Type 0 = λ w. bytes_cmp x w ≡ Less in
+          absurd (not-itself x (subst P (f ∙ sym e) (each-in (λ w. bytes_cmp x w ≡ Less) xs z r.0 m))))
+      | inr n ↦ n
+    ])
+    (λ z m. elim (back z (inr m)) [
+      | inl f ↦ (let P : List ℕ → Type 0 = λ w. bytes_cmp y w ≡ Less in
+          absurd (not-itself y (subst P (f ∙ e) (each-in (λ w. bytes_cmp y w ≡ Less) ys z s.0 m))))
+      | inr n ↦ n
+    ]) in
+    ap (λ w. w ∷ xs) e ∙ ap (λ w. y ∷ w) tails
+  where
+    heads : In x (y ∷ ys) → In y (x ∷ xs) → x ≡ y
+    heads (inl e) m = e
+    heads (inr n) (inl e) = sym e
+    heads (inr n) (inr m) =
+        absurd (not-before x y (each-in (λ w. bytes_cmp x w ≡ Less) xs y r.0 m)
+        (each-in (λ w. bytes_cmp y w ≡ Less) ys x s.0 n))
+
+pub rising-same : (xs ys : List (List ℕ)) → HasAll xs ys → HasAll ys xs → rising xs ≡ rising ys
+rising-same xs ys forth back =
+    unique (rising xs) (rising ys) (rising-rises xs) (rising-rises ys)
+    (λ z m. in-rising ys z (forth z (rising-in xs z m))) (λ z m. in-rising xs z (back z (rising-in ys z m)))
