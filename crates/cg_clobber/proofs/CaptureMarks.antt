@@ -56,6 +56,9 @@ own-some : (player : Player) → 0 < own player
 own-some Left = omega arith
 own-some Right = omega arith
 
+pub own-stone-inside : (player : Player) (p : Grid) (i : ℕ) → has_stone p.cells i (own player) ≡ true → i < length p.cells
+own-stone-inside player p i e = stone-inside p.cells i (own player) (own-some player) e
+
 other-some : (player : Player) → 0 < other player
 other-some Left = omega arith
 other-some Right = omega arith

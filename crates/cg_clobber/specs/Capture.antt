@@ -11,7 +11,7 @@ use Rattle.cg_clobber.specs.declared.way.Way.TheVariants.{Up, Down, Back, Forth}
 use Rattle.cg_clobber.specs.Moves.{captures, moves_at, moves_of, moves_onto, moves_that_way, next_cell, with_capture}
 
 -- a move takes a stone of the other player
-onto : (player : Player) (p : Grid) (i : ℕ) (o : Option ℕ) (cells : List ℕ) → In cells (moves_onto player p i o)
+pub onto : (player : Player) (p : Grid) (i : ℕ) (o : Option ℕ) (cells : List ℕ) → In cells (moves_onto player p i o)
     → (j : ℕ) × (o ≡ Some j) × (captures player p i j ≡ true) × (cells ≡ with_capture player p i j)
 onto player p i None cells m = absurd m
 onto player p i (Some j) cells m =

@@ -6,3 +6,4 @@ pub mod CaptureWords
 pub mod Capture
 pub mod Cuts
 pub mod Lawful
+pub mod Pairs

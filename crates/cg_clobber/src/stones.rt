@@ -7,7 +7,8 @@ ghost use Rattle.cg_moves.specs.Words.{Marks};
 ghost use Rattle.cg_clobber.specs.CaptureWords.{AreCaptureWords};
 ghost use Rattle.cg_clobber.specs.Cuts.{stones-are};
 ghost use Rattle.cg_clobber.specs.Lawful.{clobber_lawful};
-ghost use Rattle.cg_clobber.specs.Moves.{captures_that_way, clobber, moves_at, moves_that_way, next_cell, stones, with_capture};
+ghost use Rattle.cg_clobber.specs.Moves.{captures_that_way, clobber, moves_that_way, next_cell, stones, with_capture};
+ghost use Rattle.cg_clobber.specs.Pairs.{by_pairs, onward, paired, toward, toward_back};
 
 use crate::Way;
 use crate::capturing::captures;
@@ -133,44 +134,157 @@ fn put_move(
     Ok(())
 }
 
-/// Puts the boards after the moves of the player's stone on this cell behind the boards.
-fn put_moves(
+/// Puts the boards after the player's moves from this cell onto the one below it and the next one in its row behind the
+/// boards, in rising order.
+fn put_onward(
     alloc: Global,
     board: &Board,
     player: Player,
-    from: u8,
+    cell: u8,
     words: &CaptureWords,
     boards: &mut Vec<Board>,
 ) -> Result<(), AllocError>
     requires has { clobber.has board.now ≡ true }
-    requires from { from < length board.now.cells }
+    requires cell { cell < length board.now.cells }
     requires few { length board.now.cells ≤ 64 }
     requires words { AreCaptureWords player board.now words.now }
     ensures { IfOk result (λ _. boards.new.items ≡
-        boards.old.items ++ map (with_cells board.now) (moves_at player board.now from)) }
+        boards.old.items ++ map (with_cells board.now) (onward player board.now cell)) }
 {
-    let captures = words.up | words.down | words.back | words.forth;
-    if bit(captures, from) == 0 {
-        return Ok(());
+    match player {
+        Player::Left => {
+            put_move(alloc, board, player, cell, Way::Down, words.down, boards)?;
+            put_move(alloc, board, player, cell, Way::Forth, words.forth, boards)
+        }
+        Player::Right => {
+            put_move(alloc, board, player, cell, Way::Forth, words.forth, boards)?;
+            put_move(alloc, board, player, cell, Way::Down, words.down, boards)
+        }
     }
-    put_move(alloc, board, player, from, Way::Up, words.up, boards)?;
-    put_move(alloc, board, player, from, Way::Down, words.down, boards)?;
-    put_move(alloc, board, player, from, Way::Back, words.back, boards)?;
-    put_move(alloc, board, player, from, Way::Forth, words.forth, boards)
 }
 
-/// The boards after the player's moves, cell by cell.
-fn boards_of(alloc: Global, board: &Board, player: Player) -> Result<Vec<Board>, AllocError>
-    requires { clobber.has board.now ≡ true }
-    ensures { IfOk result (λ boards. boards.items ≡
-        map (with_cells board.now) (flat_map (moves_at player board.now) (counted 0 (length board.now.cells)))) }
+/// Puts the board after the move of the player's stone on this cell that way behind the boards, if there is such a cell and
+/// it captures.
+fn put_move_from(
+    alloc: Global,
+    board: &Board,
+    player: Player,
+    from: u8,
+    way: Way,
+    word: u64,
+    boards: &mut Vec<Board>,
+) -> Result<(), AllocError>
+    requires has { clobber.has board.now ≡ true }
+    requires few { length board.now.cells ≤ 64 }
+    requires word { Marks word (captures_that_way player board.now way) }
+    ensures { IfOk result (λ _. boards.new.items ≡
+        boards.old.items ++ map (with_cells board.now) (moves_that_way player board.now from way)) }
 {
-    let words = captures_of(board, player);
+    if from >= board.size() {
+        return Ok(());
+    }
+    put_move(alloc, board, player, from, way, word, boards)
+}
+
+/// Puts the boards after the player's moves onto this cell from the next one in its row and from the one below it behind the
+/// boards, in rising order.
+fn put_toward(
+    alloc: Global,
+    board: &Board,
+    player: Player,
+    cell: u8,
+    words: &CaptureWords,
+    boards: &mut Vec<Board>,
+) -> Result<(), AllocError>
+    requires has { clobber.has board.now ≡ true }
+    requires cell { cell < length board.now.cells }
+    requires few { length board.now.cells ≤ 64 }
+    requires words { AreCaptureWords player board.now words.now }
+    ensures { IfOk result (λ _. boards.new.items ≡
+        boards.old.items ++ map (with_cells board.now) (toward player board.now cell)) }
+{
+    // Read for the proof alone: the board has its cells in rows and columns.
+    let _size = board.size();
+    let next = cell + 1;
+    let below = cell + board.columns();
+    put_move_from(alloc, board, player, next, Way::Back, words.back, boards)?;
+    put_move_from(alloc, board, player, below, Way::Up, words.up, boards)
+}
+
+/// The boards after the player's moves from each cell onto later ones, from the first cell on.
+fn onward_boards(
+    alloc: Global,
+    board: &Board,
+    player: Player,
+    words: &CaptureWords,
+) -> Result<Vec<Board>, AllocError>
+    requires has { clobber.has board.now ≡ true }
+    requires words { AreCaptureWords player board.now words.now }
+    ensures { IfOk result (λ boards. boards.items ≡
+        map (with_cells board.now) (flat_map (onward player board.now) (counted 0 (length board.now.cells)))) }
+{
     let mut boards = Vec::new(alloc);
-    for from in 0..board.size() {
-        put_moves(alloc, board, player, from, &words, &mut boards)?;
+    for cell in 0..board.size() {
+        put_onward(alloc, board, player, cell, words, &mut boards)?;
     }
     Ok(boards)
+}
+
+/// Puts the boards after the player's moves onto each cell from later ones behind the boards, from the last cell on.
+fn put_all_toward(
+    alloc: Global,
+    board: &Board,
+    player: Player,
+    words: &CaptureWords,
+    boards: &mut Vec<Board>,
+) -> Result<(), AllocError>
+    requires has { clobber.has board.now ≡ true }
+    requires words { AreCaptureWords player board.now words.now }
+    ensures { IfOk result (λ _. boards.new.items ≡ boards.old.items
+        ++ map (with_cells board.now) (flat_map (toward_back player board.now) (counted 0 (length board.now.cells)))) }
+{
+    let last = board.size() - 1;
+    for later in 0..board.size() {
+        put_toward(alloc, board, player, last - later, words, boards)?;
+    }
+    Ok(())
+}
+
+/// The boards after the player's moves between each cell and later ones, from the first cell on.
+fn paired_boards(
+    alloc: Global,
+    board: &Board,
+    player: Player,
+    words: &CaptureWords,
+) -> Result<Vec<Board>, AllocError>
+    requires has { clobber.has board.now ≡ true }
+    requires words { AreCaptureWords player board.now words.now }
+    ensures { IfOk result (λ boards. boards.items ≡
+        map (with_cells board.now) (flat_map (paired player board.now) (counted 0 (length board.now.cells)))) }
+{
+    let mut boards = Vec::new(alloc);
+    for cell in 0..board.size() {
+        put_onward(alloc, board, player, cell, words, &mut boards)?;
+        put_toward(alloc, board, player, cell, words, &mut boards)?;
+    }
+    Ok(boards)
+}
+
+/// The boards after the player's moves, by the first of the two cells that a move changes, so that they come in rising order.
+/// A move of Left lowers this cell or raises it, and one of Right lowers it.
+fn boards_of(alloc: Global, board: &Board, player: Player) -> Result<Vec<Board>, AllocError>
+    requires { clobber.has board.now ≡ true }
+    ensures { IfOk result (λ boards. boards.items ≡ map (with_cells board.now) (by_pairs player board.now)) }
+{
+    let words = captures_of(board, player);
+    match player {
+        Player::Left => {
+            let mut boards = onward_boards(alloc, board, player, &words)?;
+            put_all_toward(alloc, board, player, &words, &mut boards)?;
+            Ok(boards)
+        }
+        Player::Right => paired_boards(alloc, board, player, &words),
+    }
 }
 
 impl NeighbourRules for Clobber {

@@ -3,19 +3,19 @@ use Rattle.std.specs.List.{flat_map}
 use Rattle.cg_moves.specs.Grid.{with_cells}
 use Rattle.cg_moves.specs.Rising.{counted}
 use Rattle.cg_moves.proofs.MoveLemmas.{listed_next}
-use Rattle.cg_clobber.specs.Moves.{moves_at}
-use Rattle.cg_clobber.proofs.stones.boards_of.Goals as goal
+use Rattle.cg_clobber.specs.Pairs.{onward}
+use Rattle.cg_clobber.proofs.stones.onward_boards.Goals as goal
 
-pub loop-from-preserved : goal.loop-from-preserved
-loop-from-preserved c =
-    listed_next (with_cells c.args.board.now) (moves_at c.args.player c.args.board.now) c.loop-from.from
-    c.loop-from.boards.items c.put_moves.new.boards.items c.loop-from.invariant c.in_ok-put_moves.ensures
+pub loop-cell-preserved : goal.loop-cell-preserved
+loop-cell-preserved c =
+    listed_next (with_cells c.args.board.now) (onward c.args.player c.args.board.now) c.loop-cell.cell
+    c.loop-cell.boards.items c.put_onward.new.boards.items c.loop-cell.invariant c.in_ok-put_onward.ensures
 
 pub returns : goal.returns
 returns c =
-    let e = c.size-from-end.ensures.value in
-    let a = c.loop-from.auto.from-end in
-    let t = c.loop-from-test.false in
-    c.loop-from.invariant
-    ∙ ap (λ k. map (with_cells c.args.board.now) (flat_map (moves_at c.args.player c.args.board.now) (counted 0 k)))
+    let e = c.size-cell-end.ensures.value in
+    let a = c.loop-cell.auto.cell-end in
+    let t = c.loop-cell-test.false in
+    c.loop-cell.invariant
+    ∙ ap (λ k. map (with_cells c.args.board.now) (flat_map (onward c.args.player c.args.board.now) (counted 0 k)))
     (omega (arith, e, a, t))
