@@ -2,7 +2,7 @@
 use Rattle.cg_moves.specs.declared.player.Player.{Player}
 use Rattle.cg_moves.specs.Grid.{Grid}
 use Rattle.cg_moves.specs.Words.{Marks}
-use Rattle.cg_clobber.specs.declared.stones.CaptureWords.{CaptureWords}
+use Rattle.cg_clobber.specs.declared.putting.CaptureWords.{CaptureWords}
 use Rattle.cg_clobber.specs.declared.way.Way.TheVariants.{Up, Down, Back, Forth}
 use Rattle.cg_clobber.specs.Moves.{captures_that_way}
 

@@ -3,6 +3,7 @@
 
 mod capturing;
 pub mod laws;
+mod putting;
 mod reading;
 mod stones;
 mod symbols;

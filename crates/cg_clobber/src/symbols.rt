@@ -4,6 +4,9 @@ ghost use Rattle.cg_clobber.specs.Moves.{other, own};
 
 use cg_moves::Player;
 
+/// The symbol of an empty cell.
+pub(crate) const EMPTY: u8 = b'.';
+
 /// The player's stone.
 pub(crate) fn own(player: Player) -> u8
     ensures { result ≡ own player }

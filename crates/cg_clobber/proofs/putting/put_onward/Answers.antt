@@ -3,7 +3,7 @@ use Rattle.cg_clobber.specs.declared.way.Way.TheVariants.{Down, Forth}
 use Rattle.cg_clobber.specs.Moves.{moves_that_way}
 use Rattle.cg_clobber.proofs.PairMoves.{left-onward, right-onward}
 use Rattle.cg_clobber.proofs.Placing.{two_listed}
-use Rattle.cg_clobber.proofs.stones.put_onward.Goals as goal
+use Rattle.cg_clobber.proofs.putting.put_onward.Goals as goal
 
 pub returns-in_ok-put_move-in-Left : goal.returns-in_ok-put_move-in-Left
 returns-in_ok-put_move-in-Left c =

@@ -3,7 +3,7 @@ use Rattle.cg_moves.specs.Grid.{with_cells}
 use Rattle.cg_clobber.specs.declared.way.Way.TheVariants.{Back, Up}
 use Rattle.cg_clobber.specs.Moves.{moves_that_way}
 use Rattle.cg_clobber.proofs.Placing.{two_listed}
-use Rattle.cg_clobber.proofs.stones.put_toward.Goals as goal
+use Rattle.cg_clobber.proofs.putting.put_toward.Goals as goal
 
 pub returns : goal.returns
 returns c =

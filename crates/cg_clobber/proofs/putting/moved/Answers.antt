@@ -4,7 +4,7 @@ use Rattle.cg_moves.specs.Grid.{Grid}
 use Rattle.cg_moves.proofs.Carried.{ok_is}
 use Rattle.cg_clobber.specs.Moves.{empty, own}
 use Rattle.cg_clobber.proofs.Placing.{has-empty, has-own}
-use Rattle.cg_clobber.proofs.stones.moved.Goals as goal
+use Rattle.cg_clobber.proofs.putting.moved.Goals as goal
 
 pub set-requires-clause-symbol : goal.set-requires-clause-symbol
 set-requires-clause-symbol c =
