@@ -85,6 +85,29 @@ fn moved(
     Ok(after)
 }
 
+/// Puts the board after the move of the player's stone on this cell that way, which captures, behind the boards.
+fn put_capture(
+    alloc: Global,
+    board: &Board,
+    player: Player,
+    from: u8,
+    way: Way,
+    boards: &mut Vec<Board>,
+) -> Result<(), AllocError>
+    requires has { clobber.has board.now ≡ true }
+    requires from { from < length board.now.cells }
+    requires captures { captures_that_way player board.now way from ≡ true }
+    ensures { IfOk result (λ _. boards.new.items ≡
+        boards.old.items ++ map (with_cells board.now) (moves_that_way player board.now from way)) }
+{
+    let Some(onto) = next_cell(board, from, way) else {
+        return Ok(());
+    };
+    let after = moved(alloc, board, player, from, onto)?;
+    boards.push(after)?;
+    Ok(())
+}
+
 /// Puts the board after the move of the player's stone on this cell that way behind the boards, if it captures.
 fn put_move(
     alloc: Global,
@@ -103,14 +126,10 @@ fn put_move(
         boards.old.items ++ map (with_cells board.now) (moves_that_way player board.now from way)) }
 {
     if bit(word, from) == 0 {
-        return Ok(());
+        Ok(())
+    } else {
+        put_capture(alloc, board, player, from, way, boards)
     }
-    let Some(onto) = next_cell(board, from, way) else {
-        return Ok(());
-    };
-    let after = moved(alloc, board, player, from, onto)?;
-    boards.push(after)?;
-    Ok(())
 }
 
 /// Puts the boards after the player's moves from this cell onto the one below it and the next one in its row behind the
