@@ -157,6 +157,7 @@ impl KeyParts {
 }
 
 // The parts that the word has, where it is the word of some: each field is read where it stands, and nothing is tested.
+#[inline(always)]
 fn candidate(word: u64) -> Option<KeyParts>
     ensures { (p : KeyParts) → FieldsFit p → TypesFit p → word_of p ≡ word → result ≡ Some p }
 {
@@ -248,6 +249,7 @@ impl Key {
 
     /// The parts of a key that is the key of some, as each key that spells a thing is. They are read where they stand and
     /// not spelled again, as `unpack` does to see whether there are any.
+    #[inline(always)]
     pub fn parts(&self) -> KeyParts
         requires { IsSome (parts_of self.now) }
         ensures parts { parts_of self.now ≡ Some result }
