@@ -65,16 +65,16 @@ module _ (w : Way) (found bs : List Grid) (ns : List NextPlaces) (places : List 
       let Q : Grid → Type 0 = λ z. ¬ In z bs in
       let turned = ap (λ z. map (visit found) (map Enter (unplaced places z))) (reverse_onto ms m []) in
       turned ∙ ⊎_elim
-          (λ t. ap (λ z. map (visit found) (map Enter z)) (unplaced-some places (reverse ms) m t)
-          ∙ visits-entered ms qs h.1
-          ∙ sym (ap entered (unseen-there bs qs q (subst P same (placed-in w found bs ns places s m l t)))))
-          (λ f. ap (λ z. map (visit found) (map Enter z)) (unplaced-none places (reverse ms) m f)
-          ∙ ap (map (visit found)) (map-append Enter (unplaced places (reverse ms)) (m ∷ []))
-          ∙ map-append (visit found) (map Enter (unplaced places (reverse ms))) (Enter m ∷ [])
-          ∙ ap (λ z. z ++ (Enters (board_at found m) ∷ [])) (visits-entered ms qs h.1)
-          ∙ ap (λ z. entered (unseen bs qs) ++ (Enters z ∷ [])) same
-          ∙ sym (ap entered (unseen-new bs qs q (subst Q same (unplaced-out w found bs ns places s m l f)))))
-          (cases_Bool (is_some (place_of places m)))
+      (λ t. ap (λ z. map (visit found) (map Enter z)) (unplaced-some places (reverse ms) m t)
+      ∙ visits-entered ms qs h.1
+      ∙ sym (ap entered (unseen-there bs qs q (subst P same (placed-in w found bs ns places s m l t)))))
+      (λ f. ap (λ z. map (visit found) (map Enter z)) (unplaced-none places (reverse ms) m f)
+      ∙ ap (map (visit found)) (map-append Enter (unplaced places (reverse ms)) (m ∷ []))
+      ∙ map-append (visit found) (map Enter (unplaced places (reverse ms))) (Enter m ∷ [])
+      ∙ ap (λ z. z ++ (Enters (board_at found m) ∷ [])) (visits-entered ms qs h.1)
+      ∙ ap (λ z. entered (unseen bs qs) ++ (Enters z ∷ [])) same
+      ∙ sym (ap entered (unseen-new bs qs q (subst Q same (unplaced-out w found bs ns places s m l f)))))
+      (cases_Bool (is_some (place_of places m)))
 
   module _ (next : List NextPlaces) (starts : List ℕ) (e : IsExplored w found next starts) (tasks after : List Task) (n : ℕ)
       (below : n < length found) where

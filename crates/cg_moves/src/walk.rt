@@ -48,12 +48,7 @@ fn places_of(
 }
 
 /// Puts the board with the number behind those that were seen, unless it is there.
-fn see(
-    alloc: Global,
-    explored: &Explored,
-    seen: &mut Seen,
-    number: usize,
-) -> Result<(), AllocError>
+fn see(alloc: Global, explored: &Explored, seen: &mut Seen, number: usize) -> Result<(), AllocError>
     ghost way: { Way }
     requires explored { IsExplored way explored.now.boards.items explored.now.next.items explored.now.starts.items }
     requires seen { IsSeen way explored.now.boards.items seen.old.boards.items seen.old.next.items seen.old.places.items }

@@ -5,8 +5,17 @@ use Rattle.cg_moves.proofs.PlayLemmas.{one_start, reach-kept_all}
 use Rattle.cg_moves.proofs.reaching.open.Goals as goal
 
 pub open_all-requires : goal.open_all-requires
-open_all-requires g c κs within = (within, (refl, (tt, one_start (g.R.Rules.game c.args.rules.now) (g.met.R.Rules.lawful c.args.rules.now)
-    c.args.start.now c.in_ok-starts.starts.items c.requires c.in_ok-starts.ensures)))
+open_all-requires g c κs within = (
+  within,
+  (
+    refl,
+    (
+      tt,
+      one_start (g.R.Rules.game c.args.rules.now) (g.met.R.Rules.lawful c.args.rules.now)
+          c.args.start.now c.in_ok-starts.starts.items c.requires c.in_ok-starts.ensures,
+    ),
+  ),
+)
 
 pub returns-clause-boards : goal.returns-clause-boards
 returns-clause-boards g c =

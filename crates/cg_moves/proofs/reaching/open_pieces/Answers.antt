@@ -11,9 +11,17 @@ pub open_all-requires : goal.open_all-requires
 open_all-requires g c κs within =
     let r = g.R.Rules.game c.args.rules.now in
     let lawful = g.met.R.Rules.lawful c.args.rules.now in
-    let P : List Grid → Type 0 = λ z. AreStarts (play_of r Pieces) z in
-    (within, (refl, (c.requires.cuts, subst P (sym c.in_ok-starts.ensures) (piece_starts r lawful (lawful.cut c.requires.cuts)
-    c.args.start.now c.requires.has))))
+    let P : List Grid → Type 0 = λ z. AreStarts (play_of r Pieces) z in (
+      within,
+      (
+        refl,
+        (
+          c.requires.cuts,
+          subst P (sym c.in_ok-starts.ensures) (piece_starts r lawful (lawful.cut c.requires.cuts)
+              c.args.start.now c.requires.has),
+        ),
+      ),
+    )
 
 pub returns-clause-boards : goal.returns-clause-boards
 returns-clause-boards g c =

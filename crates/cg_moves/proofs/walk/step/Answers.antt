@@ -14,9 +14,15 @@ see-requires g c =
     let W : Task → Type 0 = λ t. IsWalk (play g.way) c.args.seen.now.boards.items (map (visit found) c.args.tasks.now.items
     ++ (visit found t ∷ [])) in (
       c.requires.0,
-      (c.requires.1.0, (subst N c.in-Leave.is c.requires.1.1.1.0, next-seen (play g.way) c.requires.0.lawful
-          c.args.seen.now.boards.items (map (visit found) c.args.tasks.now.items) (board_at found c.in-Leave.number)
-          (subst W c.in-Leave.is c.requires.1.1.0))),
+      (
+        c.requires.1.0,
+        (
+          subst N c.in-Leave.is c.requires.1.1.1.0,
+          next-seen (play g.way) c.requires.0.lawful
+              c.args.seen.now.boards.items (map (visit found) c.args.tasks.now.items) (board_at found c.in-Leave.number)
+              (subst W c.in-Leave.is c.requires.1.1.0),
+        ),
+      ),
     )
 
 pub returns-in-Leave-clause-walk : goal.returns-in-Leave-clause-walk
