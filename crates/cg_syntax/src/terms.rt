@@ -360,6 +360,7 @@ fn minus_body(
 
 /// A term.
 #[cycle(items)]
+#[inline(always)]
 #[tactic(auto, unfolding(crate::specs::Reading::term_at, crate::specs::Reading::minus_term_at, crate::specs::Reading::unsigned_term_at))]
 fn term(
     alloc: Global,
