@@ -204,6 +204,7 @@ fn counted_multiple(
 
 /// A number or a multiple, and what stands together with it.
 #[cycle(items)]
+#[inline(always)]
 #[tactic(auto, using(crate::proofs::TreeOf::number_tree), unfolding(crate::specs::Reading::plain_counted_term_at, crate::specs::Reading::number_or_multiple_at, crate::specs::Reading::behind_number_at, crate::specs::Reading::counted_multiple_at, crate::specs::Reading::tail_of_at))]
 fn counted_term(
     alloc: Global,
@@ -260,6 +261,7 @@ fn special_term(
 
 /// A term that begins with no digit and no minus.
 #[cycle(items)]
+#[inline(always)]
 #[tactic(auto, unfolding(crate::specs::Reading::uncounted_term_at))]
 fn uncounted_term(
     alloc: Global,
