@@ -33,6 +33,7 @@ pub mod PlayOrder
 pub mod Inserted
 pub mod Carried
 pub mod WordBits
+pub mod ColumnWords
 pub mod Copied
 pub mod PlaneLemmas
 pub mod KeyLemmas

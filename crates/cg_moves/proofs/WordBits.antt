@@ -1,8 +1,8 @@
 -- Words by their bits.
-use Rattle.std.proofs.Common.{◌≡◌, ◌≢◌, refl, Bool, true, false, not, ◌&&◌, ◌||◌, ℕ, zero, suc, ◌+◌, ◌-◌, ◌*◌, ◌/◌, ◌%◌, ◌^◌, ◌<◌, ◌≤◌, ◌==◌, ◌⊎◌, inl, inr, if◌then◌else◌, ap, sym, ◌∙◌, arith, bit_and, bit_or, max, min, nat_lt, w64}
+use Rattle.std.proofs.Common.{◌≡◌, ◌≢◌, refl, Bool, true, false, not, ◌&&◌, ◌||◌, ℕ, suc, ◌+◌, ◌-◌, ◌*◌, ◌/◌, ◌%◌, ◌^◌, ◌<◌, ◌≤◌, ◌==◌, ◌⊎◌, inl, inr, if◌then◌else◌, ap, sym, ◌∙◌, arith, bit_and, bit_or, max, min, nat_lt, w64}
 use Rattle.std.specs.Int.{bit_at}
 use Rattle.std.proofs.lemmas.Bool.Decides.{eqb_tells, leb_tells}
-use Rattle.std.proofs.Math.Nat.{lt_of_mul-lt-mul_right, mod-eq_of_lt, mod-lt, mod_self, mul-mod_left, mul_comm, suc-mod}
+use Rattle.std.proofs.Math.Nat.{mod-eq_of_lt, mod-lt, mod_self, suc-mod}
 use Rattle.std.proofs.lemmas.Bool.{eq-eqb, le-ltb, lt-ltb}
 use Rattle.std.proofs.lemmas.Nat.{pow_pos, shr-shr}
 use Rattle.std.proofs.lemmas.Nat.Bits.{bit_at-lt, bit_at-zero, bit_at_above, bit_at_and, bit_at_cat_high, bit_at_cat_low, bit_at_clear_other, bit_at_clear_same, bit_at_not, bit_at_ones, bit_at_ones_above, bit_at_or, bit_at_set_other, bit_at_set_same, ones_shr}
@@ -209,64 +209,6 @@ four_alike a b c d p q r s la lb lc ld lp lq lr ls = elim (eqb_tells (a + 2 * b 
     differ (inl x) (inl y) (inl z) (inl w) n = absurd (n (omega (arith, x.1, y.1, z.1, w.1)))
 
 -- ---- the cells of the first column
-
--- where a place of one row more is in the first column, it is its row's first
-row-first : (columns row i : ℕ) → i < (row + 1) * columns → i % columns ≡ 0 → row * columns ≤ i → i ≡ row * columns
-row-first columns row i below first least =
-    let q : ℕ = i / columns in
-    let split : q * columns ≡ i = (let s : columns * q + i % columns ≡ i = omega arith in let c = mul_comm columns q in omega arith) in
-    let few : q < row + 1 = lt_of_mul-lt-mul_right columns (omega arith) in
-    let next : (q + 1) * columns ≡ q * columns + columns = omega arith in
-    let many : row < q + 1 = lt_of_mul-lt-mul_right columns (let n = next in let b : 0 < columns = wide columns row i below least in omega arith) in
-    let e : q ≡ row = omega arith in
-    sym split ∙ ap (λ k. k * columns) e
-  where
-    wide : (columns row i : ℕ) → i < (row + 1) * columns → row * columns ≤ i → 0 < columns
-    wide zero row i b l = (let z : (row + 1) * 0 ≡ 0 = omega arith in omega arith)
-    wide (suc n) row i b l = omega arith
-
--- a place of the first rows, and its column is the first
-abbrev in_first : ℕ → ℕ → ℕ → Bool
-in_first columns row i = nat_lt i (row * columns) && (i % columns == 0)
-
-pub marks_no_row : (columns : ℕ) → Marks 0 (in_first columns 0)
-marks_no_row columns i =
-    let z : 0 * columns ≡ 0 = omega arith in
-    bit_at-zero i ∙ ap (λ t. if t && (i % columns == 0) then 1 else 0) (sym (le-ltb i (0 * columns) (omega arith)))
-
--- one row more
-pub marks_row : (columns row word new : ℕ) → 1 ≤ columns → Marks word (in_first columns row)
-    → IsWithBit word new (row * columns) 1 → Marks new (in_first columns (row + 1))
-marks_row columns row word new some are put i = put i ∙ elim (eqb_tells i (row * columns)) [
-  | inl h ↦ (let below : i < (row + 1) * columns = (let n : (row + 1) * columns ≡ row * columns + columns = omega arith in omega (arith, h.1)) in
-      let first : i % columns ≡ 0 = ap (λ k. k % columns) h.1 ∙ mul-mod_left row columns in
-      let t : in_first columns (row + 1) i ≡ true = both_true (nat_lt i ((row + 1) * columns)) (i % columns == 0) (lt-ltb i ((row + 1) * columns) below) (eq-eqb (i % columns) 0 first) in
-      ap (λ t. if t then 1 else bit_at word i) h.0 ∙ ap (λ t. if t then 1 else 0) (sym t))
-  | inr h ↦ ap (λ t. if t then 1 else bit_at word i) h.0 ∙ are i
-      ∙ ap (λ t. if t then 1 else 0) (elsewhere h.1)
-]
-  where
-    both_true : (s t : Bool) → s ≡ true → t ≡ true → (s && t) ≡ true
-    both_true s t e f = ap (λ z. z && t) e ∙ f
-
-    and_false : (t : Bool) → (t && false) ≡ false
-    and_false true = refl
-    and_false false = refl
-
-    elsewhere : i ≢ row * columns → in_first columns row i ≡ in_first columns (row + 1) i
-    elsewhere other =
-        let n : (row + 1) * columns ≡ row * columns + columns = omega arith in
-        elim (leb_tells (suc i) (row * columns)) [
-          | inl h ↦ ap (λ t. t && (i % columns == 0)) (h.0 ∙ sym (lt-ltb i ((row + 1) * columns) (omega (arith, h.1))))
-          | inr h ↦ elim (eqb_tells (i % columns) 0) [
-            | inl f ↦ elim (leb_tells (suc i) ((row + 1) * columns)) [
-              | inl b ↦ absurd (other (row-first columns row i (omega (arith, b.1)) f.1 (omega (arith, h.1))))
-              | inr b ↦ ap (λ t. t && (i % columns == 0)) (h.0 ∙ sym b.0)
-            ]
-            | inr f ↦ ap (λ t. nat_lt i (row * columns) && t) f.0 ∙ and_false (nat_lt i (row * columns))
-                ∙ sym (ap (λ t. nat_lt i ((row + 1) * columns) && t) f.0 ∙ and_false (nat_lt i ((row + 1) * columns)))
-          ]
-        ]
 
 -- the next place isn't in the first column where this one isn't in the last
 pub row_end : (columns i : ℕ) → 1 ≤ columns → ((i + 1) % columns == 0) ≡ not (nat_lt (i % columns + 1) columns)

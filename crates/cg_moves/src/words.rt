@@ -42,17 +42,23 @@ pub fn all_cells(size: u8) -> u64
     u64::MAX >> (64 - size)
 }
 
-/// The word of the cells of the first column.
+/// The word of the cells of the first column. Twice as many rows are marked at each step.
 pub fn first_column(rows: u8, columns: u8) -> u64
     requires some { 1 ≤ columns }
     requires few { rows * columns ≤ 64 }
     ensures { Marks result (λ i. nat_lt i (rows * columns) && (i % columns == 0)) }
 {
-    let mut cells = 0;
-    for row in 0..rows {
-        cells = with_bit(cells, row * columns, 1);
+    let size = rows * columns;
+    if size == 0 {
+        return 0;
     }
-    cells
+    let mut cells = 1;
+    let mut height = columns;
+    while height < size {
+        cells |= moved_on(cells, height);
+        height *= 2;
+    }
+    cells & all_cells(size)
 }
 
 /// The word with each bit so many places on. Bits past the last place are gone.

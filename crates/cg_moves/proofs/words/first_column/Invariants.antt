@@ -1,6 +1,12 @@
-use Rattle.std.proofs.Common.{◌*◌, ◌%◌, ◌==◌, ◌&&◌, nat_lt}
-use Rattle.cg_moves.specs.Words.{Marks}
+use Rattle.std.proofs.Common.{◌-◌, ◌*◌, ◌≤◌}
+use Rattle.cg_moves.proofs.ColumnWords.{IsColumn}
 use Rattle.cg_moves.proofs.words.first_column.Given as goal
 
-abbrev pub invariant-loop-row : goal.invariant-loop-row
-invariant-loop-row l = Marks l.cells (λ i. nat_lt i (l.row * l.columns) && (i % l.columns == 0))
+abbrev pub invariant-loop-height : goal.invariant-loop-height
+invariant-loop-height l = record {
+  column : IsColumn l.columns l.cells l.height;
+  some : 1 ≤ l.height;
+}
+
+abbrev pub decreases-loop-height : goal.decreases-loop-height
+decreases-loop-height l = l.rows * l.columns - l.height
