@@ -86,6 +86,7 @@ fn moved(
 }
 
 /// Puts the board after the move of the player's stone on this cell that way, which captures, behind the boards.
+#[inline(never)]
 fn put_capture(
     alloc: Global,
     board: &Board,
@@ -109,6 +110,7 @@ fn put_capture(
 }
 
 /// Puts the board after the move of the player's stone on this cell that way behind the boards, if it captures.
+#[inline(always)]
 fn put_move(
     alloc: Global,
     board: &Board,
@@ -163,6 +165,7 @@ pub(crate) fn put_onward(
 
 /// Puts the board after the move of the player's stone on this cell that way behind the boards, if there is such a cell and
 /// it captures.
+#[inline(always)]
 fn put_move_from(
     alloc: Global,
     board: &Board,

@@ -112,6 +112,19 @@ module _ (n : Neighbours) (laws : IsNeighbours n) (p : Grid) where
       other (are.all cell a.0 (λ l h j.
       let low = of-least cell a.0 b.0 l (flipped l cell j) in omega (arith, low, h))))
 
+  -- where no cell with a move is left, none is the first of a set with a move
+  pub none-first : (end cell left moving : ℕ) → AreLeft n p end left → AreMoving n p moving → bit_and left moving ≡ 0
+      → end ≤ cell → is_first n p cell ≡ false
+  none-first end cell left moving are moves none late = false-from (is_first n p cell) (λ t.
+      let a = and-split (is_piece_cell n p cell) (is_least n p cell && has_move n p cell) t in
+      let b = and-split (is_least n p cell) (has_move n p cell) a.1 in
+      move-joined n laws p cell b.1 (λ k l j behind m.
+      let to_k = so-joined n laws p cell k j in
+      let here = are.all k (open-too cell k to_k a.0) (λ l h s.
+      let low = of-least cell a.0 b.0 l (flipped l cell (over l k cell s (flipped cell k to_k))) in omega (arith, low, h, late)) in
+      let one = and-one left moving k here (moves.all k l behind m) in
+      let zero = ap (λ z. bit_at z k) none ∙ bit_at-zero k in omega (arith, one, zero)))
+
   -- ---- the set of a cell
 
   module _ (f : Field) (is : IsFieldOf n p f) where

@@ -4,7 +4,6 @@ use Rattle.std.specs.Int.{bit_at}
 use Rattle.std.specs.Int.Count.{count_trailing_zeros}
 use Rattle.std.proofs.lemmas.Bool.Decides.{leb_tells}
 use Rattle.std.proofs.lemmas.Nat.{and_le_l}
-use Rattle.std.proofs.lemmas.Nat.Bits.{bit_at-zero}
 use Rattle.cg_moves.specs.Grid.{Grid}
 use Rattle.cg_moves.specs.Rising.{counted}
 use Rattle.cg_moves.specs.Words.{Marks}
@@ -13,12 +12,12 @@ use Rattle.cg_pieces.specs.Boxes.{cropped}
 use Rattle.cg_pieces.specs.Cells.Linked.{here}
 use Rattle.cg_pieces.specs.Moving.{piece_at}
 use Rattle.cg_pieces.specs.Neighbours.{IsNeighbours, Neighbours, are_joined, is_first, is_piece_cell}
-use Rattle.cg_pieces.specs.Words.{AreLeft, IsFieldOf, IsTaken, JoinedIn}
+use Rattle.cg_pieces.specs.Words.{AreLeft, AreMoving, IsFieldOf, IsTaken, JoinedIn}
 use Rattle.cg_pieces.proofs.FirstCells.{none-more, one-more}
 use Rattle.cg_pieces.proofs.GrowingSets.{and-parts, bit-below, not-zero, other_bits}
 use Rattle.cg_pieces.proofs.LastBits.{first-first, first-one}
 use Rattle.cg_pieces.proofs.NeighbourSets.{piece-cell-below, so-joined}
-use Rattle.cg_pieces.proofs.TakenSets.{left-next, left-same, left-start, not-first, open-left, taken-set}
+use Rattle.cg_pieces.proofs.TakenSets.{left-next, left-same, left-start, none-first, not-first, open-left, taken-set}
 
 module _ (n : Neighbours) (p : Grid) where
   -- the pieces of the sets whose first cells come before this one
@@ -118,12 +117,22 @@ module _ (n : Neighbours) (laws : IsNeighbours n) (p : Grid) where
           };
         }
 
-  -- where no cell is left, all pieces are taken
-  pub taken-all : (boards : List Grid) (left : ℕ) → left ≡ 0 → AreTaken n p boards left
-      → boards ≡ pieces_before n p (length p.cells)
-  taken-all boards left none taken =
+  -- cells are left where there are some with a move
+  pub some-left : (left moving : ℕ) → bit_and left moving ≢ 0 → 0 < left
+  some-left left moving some = let most = and_le_l left moving in omega (arith, some, most)
+
+  -- where no cell with a move is left, all pieces are taken
+  pub taken-all : (boards : List Grid) (left moving : ℕ) → bit_and left moving ≡ 0 → AreMoving n p moving
+      → AreTaken n p boards left → boards ≡ pieces_before n p (length p.cells)
+  taken-all boards left moving none are taken =
       let inside = taken.inside in
       let e : taken.end + (length p.cells - taken.end) ≡ length p.cells = omega (arith, inside) in
-      let P : ℕ → Type 0 = λ z. IsTakenTo n p boards left z in
-      (subst P e (passed-all boards left taken.end (length p.cells - taken.end) taken.to
-      (λ k below t. let z = ap (λ w. bit_at w k) none ∙ bit_at-zero k in omega (arith, z, t)))).boards_are
+      more (length p.cells - taken.end) ∙ ap (pieces_before n p) e
+    where
+      more : (gap : ℕ) → boards ≡ pieces_before n p (taken.end + gap)
+      more zero = let e : taken.end ≡ taken.end + 0 = omega arith in taken.to.boards_are ∙ ap (pieces_before n p) e
+      more (suc gap) =
+          let e : (taken.end + gap) + 1 ≡ taken.end + suc gap = omega arith in
+          none-more (is_first n p) (λ k. cropped n.blank (are_joined n p k) p) (taken.end + gap) boards
+          (none-first n laws p taken.end (taken.end + gap) left moving taken.to.left_are are none (omega arith)) (more gap)
+          ∙ ap (pieces_before n p) e

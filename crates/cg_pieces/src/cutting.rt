@@ -51,7 +51,7 @@ pub fn pieces<N: NeighbourRules>(
     let moving = moving_cells(rules, board, field, &places);
     let mut boards = Vec::new(alloc);
     let mut left = field.cells;
-    while left != 0 {
+    while left & moving != 0 {
         let cell = left.trailing_zeros() as u8;
         let set = field.joined(cell);
         boards = with_piece(rules, board, moving, set, cell, boards)?;
