@@ -1,5 +1,5 @@
 -- Captures in words.
-use Rattle.std.proofs.Common.{◌≡◌, refl, ℕ, suc, ◌+◌, ◌-◌, ◌*◌, ◌%◌, ◌^◌, ◌<◌, ◌≤◌, ◌==◌, ◌&&◌, not, nat_lt, inl, inr, Bool, true, false, if◌then◌else◌, Option, Some, None, List, [], ◌∷◌, ◌++◌, length, ap, sym, ◌∙◌, subst, arith, bit_and, append-nil}
+use Rattle.std.proofs.Common.{◌≡◌, refl, ℕ, suc, ◌+◌, ◌-◌, ◌*◌, ◌%◌, ◌^◌, ◌<◌, ◌≤◌, ◌==◌, ◌&&◌, not, nat_lt, inl, inr, Bool, true, false, if◌then◌else◌, Some, None, List, length, ap, sym, ◌∙◌, subst, arith, bit_and}
 use Rattle.std.specs.Prelude.{Contains, codes, slice_index}
 use Rattle.std.specs.Int.{bit_at}
 use Rattle.std.specs.Str.{bytes_eq}
@@ -7,17 +7,14 @@ use Rattle.std.proofs.lemmas.Bool.{eqb-true, eq-eqb, lt-ltb, ltb-true}
 use Rattle.std.proofs.lemmas.Bool.Decides.{leb_tells}
 use Rattle.std.proofs.lemmas.List.{get_or_past}
 use Rattle.std.proofs.lemmas.Nat.{and_le_l}
-use Rattle.std.proofs.lemmas.List.Sums.{fold-append}
 use Rattle.cg_moves.specs.declared.player.Player.{Player}
 use Rattle.cg_moves.specs.declared.player.Player.TheVariants.{Left, Right}
 use Rattle.cg_moves.specs.Grid.{Grid, is_in_rows}
-use Rattle.cg_moves.specs.Rising.{with_all, with_one}
 use Rattle.cg_moves.specs.Words.{Marks}
 use Rattle.cg_moves.proofs.Same.{and-true, bytes_eq-back}
 use Rattle.cg_moves.proofs.WordBits.{marks_both, marks_moved_on, marks_same, marks_without, row_end}
-use Rattle.cg_clobber.specs.declared.way.Way.{Way}
 use Rattle.cg_clobber.specs.declared.way.Way.TheVariants.{Up, Down, Back, Forth}
-use Rattle.cg_clobber.specs.Moves.{captures_onto, captures_that_way, clobber, has_stone, moves_at, moves_onto, moves_that_way, next_cell, other, own, with_capture}
+use Rattle.cg_clobber.specs.Moves.{captures_onto, captures_that_way, clobber, has_stone, other, own}
 
 -- ---- what boards of the game have
 
@@ -216,40 +213,3 @@ module _ (player : Player) (p : Grid) where
       (marks_both stones moved stone_at
       (λ i. other_at (i + 1) && not (nat_lt (i + 1) (length p.cells) && ((i + 1) % p.columns == 0))) are
       (λ i. rest i ∙ inner (i + 1)))
-
--- ---- what is taken in by a bit of a word
-
-module _ (player : Player) (p : Grid) (way : Way) (word i : ℕ) (are : Marks word (captures_that_way player p way)) where
-  pub bit-captures : (j : ℕ) → (bit_at word i ≡ 0 → ⊥) → next_cell way p i ≡ Some j
-      → captures_onto player p i (Some j) ≡ true
-  bit-captures j some is = ap (captures_onto player p i) (sym is) ∙ go (captures_that_way player p way i) refl
-    where
-      go : (b : Bool) → captures_that_way player p way i ≡ b → captures_that_way player p way i ≡ true
-      go true e = e
-      go false e = absurd (some (are i ∙ ap (λ t. if t then 1 else 0) e))
-
-  nothing : (o : Option ℕ) → captures_onto player p i o ≡ false → moves_onto player p i o ≡ []
-  nothing None e = refl
-  nothing (Some j) e = ap (λ b. if b then with_capture player p i j ∷ [] else []) e
-
-  pub no-capture : (old : List (List ℕ)) → bit_at word i ≡ 0 → old ≡ with_all old (moves_that_way player p i way)
-  no-capture old none = ap (with_all old) (sym (nothing (next_cell way p i) (go (captures_that_way player p way i) refl)))
-    where
-      go : (b : Bool) → captures_that_way player p way i ≡ b → captures_that_way player p way i ≡ false
-      go true e = absurd (let one : bit_at word i ≡ 1 = are i ∙ ap (λ t. if t then 1 else 0) e in omega arith)
-      go false e = e
-
--- the four ways, one after the other
-pub four_taken : (player : Player) (p : Grid) (i : ℕ) (old a b c d : List (List ℕ))
-    → a ≡ with_all old (moves_that_way player p i Up) → b ≡ with_all a (moves_that_way player p i Down)
-    → c ≡ with_all b (moves_that_way player p i Back) → d ≡ with_all c (moves_that_way player p i Forth)
-    → d ≡ with_all old (moves_at player p i)
-four_taken player p i old a b c d ea eb ec ed =
-    let u = moves_that_way player p i Up in
-    let v = moves_that_way player p i Down in
-    let w = moves_that_way player p i Back in
-    let x = moves_that_way player p i Forth in
-    ed ∙ ap (λ z. with_all z x) ec ∙ sym (fold-append with_one b w x) ∙ ap (λ z. with_all z (w ++ x)) eb
-    ∙ sym (fold-append with_one a v (w ++ x)) ∙ ap (λ z. with_all z (v ++ (w ++ x))) ea
-    ∙ sym (fold-append with_one old u (v ++ (w ++ x)))
-    ∙ ap (λ z. with_all old (u ++ (v ++ (w ++ z)))) (sym (append-nil x))

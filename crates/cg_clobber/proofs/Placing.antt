@@ -1,7 +1,6 @@
--- Stones that capture others, and boards that are put behind others.
-use Rattle.std.proofs.Common.{◌≡◌, refl, ℕ, ◌+◌, Bool, true, false, if◌then◌else◌, Option, Some, None, List, [], ◌∷◌, ◌++◌, Result, Ok, Err, map, ap, sym, ◌∙◌, subst, arith, append_assoc}
+-- The symbols of the stones, and boards that are put behind others.
+use Rattle.std.proofs.Common.{◌≡◌, refl, ℕ, ◌+◌, true, List, ◌++◌, Result, Ok, Err, map, ap, sym, ◌∙◌, subst, arith, append_assoc}
 use Rattle.std.specs.Prelude.{Contains, IfOk, codes}
-use Rattle.std.specs.Int.{bit_at}
 use Rattle.std.specs.List.{flat_map}
 use Rattle.std.specs.Str.{bytes_eq}
 use Rattle.std.proofs.lemmas.List.{map-append}
@@ -9,11 +8,9 @@ use Rattle.cg_moves.specs.declared.player.Player.{Player}
 use Rattle.cg_moves.specs.declared.player.Player.TheVariants.{Left, Right}
 use Rattle.cg_moves.specs.Grid.{Grid, is_in_rows}
 use Rattle.cg_moves.specs.Rising.{counted}
-use Rattle.cg_moves.specs.Words.{Marks}
 use Rattle.cg_moves.proofs.MoveLemmas.{listed_next}
 use Rattle.cg_moves.proofs.Same.{and-true, bytes_eq-back}
-use Rattle.cg_clobber.specs.declared.way.Way.{Way}
-use Rattle.cg_clobber.specs.Moves.{captures_onto, captures_that_way, clobber, empty, moves_onto, moves_that_way, next_cell, own, with_capture}
+use Rattle.cg_clobber.specs.Moves.{clobber, empty, own}
 
 own-contained : (player : Player) → Contains (codes ".xo") (own player)
 own-contained Left = (1, omega arith, refl)
@@ -57,18 +54,3 @@ module _ (f : List ℕ → Grid) where
       put ∙ ap (λ z. z ++ map f (g i)) so_far ∙ append_assoc before (map f (flat_map g (counted 0 i))) (map f (g i))
       ∙ ap (λ z. before ++ z) (listed_next f g i (map f (flat_map g (counted 0 i)))
       (map f (flat_map g (counted 0 i)) ++ map f (g i)) refl refl)
-
--- ---- where no stone captures
-
-module _ (player : Player) (p : Grid) (i : ℕ) where
-  no-move : (o : Option ℕ) → captures_onto player p i o ≡ false → moves_onto player p i o ≡ []
-  no-move None e = refl
-  no-move (Some j) e = ap (λ b. if b then with_capture player p i j ∷ [] else []) e
-
-  no-move_that_way : (way : Way) (word : ℕ) → Marks word (captures_that_way player p way) → bit_at word i ≡ 0
-      → moves_that_way player p i way ≡ []
-  no-move_that_way way word marks none = no-move (next_cell way p i) (go (captures_that_way player p way i) refl)
-    where
-      go : (b : Bool) → captures_that_way player p way i ≡ b → captures_that_way player p way i ≡ false
-      go true e = absurd (let one : bit_at word i ≡ 1 = marks i ∙ ap (λ t. if t then 1 else 0) e in omega arith)
-      go false e = e
