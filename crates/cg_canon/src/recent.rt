@@ -1,8 +1,9 @@
 //! Answers to comparisons that were found of late.
 //!
-//! Each pair of games has one place in a table, and an answer takes over the place of another pair's. The table grows with the
-//! answers up to a fixed size, so they take little memory, however many are found.
-ghost use Rattle.std.specs.Prelude.{◌≡◌, ◌⊎◌, ◌<◌, length, IfOk, IfSome, OnErr};
+//! Each pair of games has eight places in a table, which it shares with other pairs. An answer stands at the first of them that
+//! was free, and takes over one from another pair only where none is. The table grows with the answers, before many of its
+//! places are filled, up to a fixed size; so they take a bounded memory, however many are found.
+ghost use Rattle.std.specs.Prelude.{◌≡◌, ◌⊎◌, IfOk, IfSome, OnErr};
 ghost use Rattle.cg_canon.specs.declared.recent.Answer.{Answer as Known};
 ghost use Rattle.cg_canon.specs.Recents.{IsPlaced, IsKept};
 
@@ -29,24 +30,49 @@ pub(crate) struct Recent {
 /// The first size of a table.
 const FIRST: usize = 256;
 
-/// The greatest size of a table. It is far above the pairs that one comparison asks for, so that hardly one of these is compared
-/// twice.
+/// The greatest size of a table.
 const MOST: usize = 16_777_216;
 
-/// Where the pair stands in a table of so many places.
-fn place_of(a: Handle, b: Handle, places: usize) -> usize
-    ensures { 0 < places → result < places }
-{
+/// How many places a pair has.
+const WAYS: usize = 8;
+
+/// The first place of the pair, in a table of the greatest size.
+fn home_of(a: Handle, b: Handle) -> usize {
     let pair = b.id().number() as u64 * 4_294_967_296 + a.id().number() as u64;
-    let mixed = pair.wrapping_mul(0x9E37_79B9_7F4A_7C15) >> 40;
-    mixed as usize & places.saturating_sub(1)
+    (pair.wrapping_mul(0x9E37_79B9_7F4A_7C15) >> 40) as usize
 }
 
-/// Puts the answer into its place. Tells whether the place was free.
+/// The place of this way, 0 to 7, in a table of so many places.
+fn place_at(home: usize, way: usize, places: usize) -> usize {
+    (home ^ way) & places.saturating_sub(1)
+}
+
+/// The answer at this place of the pair with this first place, if there is one.
+fn answer_at(places: &[Option<Answer>], home: usize, way: usize) -> Option<Answer>
+    ensures { IfSome result (λ x. IsPlaced places.now x) }
+{
+    let at = place_at(home, way, places.len());
+    if at >= places.len() {
+        return None;
+    }
+    places[at]
+}
+
+/// The place that the answer takes: the first of the pair's own that is free, or else the first.
+fn place_for(places: &[Option<Answer>], home: usize) -> usize {
+    for way in 0..WAYS {
+        if answer_at(places, home, way).is_none() {
+            return place_at(home, way, places.len());
+        }
+    }
+    place_at(home, 0, places.len())
+}
+
+/// Puts the answer into one of its places. Tells whether the place was free.
 fn put(places: &mut [Option<Answer>], answer: Answer) -> bool
     ensures { (x : Known) → IsPlaced places.new x → (x ≡ answer) ⊎ IsPlaced places.old x }
 {
-    let at = place_of(answer.low, answer.high, places.len());
+    let at = place_for(places, home_of(answer.low, answer.high));
     if at >= places.len() {
         return false;
     }
@@ -95,22 +121,18 @@ impl Recent {
     pub fn recall(&self, low: Handle, high: Handle) -> Option<bool>
         ensures { IfSome result (λ yes. IsKept self.now (record { low = low; high = high; at_most = yes })) }
     {
-        let at = place_of(low, high, self.places.len());
-        if at >= self.places.len() {
-            return None;
-        }
-        match self.places[at] {
-            None => None,
-            Some(answer) => {
-                if answer.low == low && answer.high == high {
-                    return Some(answer.at_most);
-                }
-                None
+        let home = home_of(low, high);
+        for way in 0..WAYS {
+            let answer = answer_at(&self.places, home, way)?;
+            if answer.low == low && answer.high == high {
+                return Some(answer.at_most);
             }
         }
+        None
     }
 
-    /// Makes the table larger, where it is full and not yet of the greatest size. Nothing changes where there is no memory.
+    /// Makes the table larger, where an eighth of it was filled since it grew and it isn't yet of the greatest size. Nothing
+    /// changes where there is no memory.
     fn grow(&mut self) -> Result<(), AllocError>
         ensures { (x : Known) → IsKept self.new x → IsKept self.old x }
     {
@@ -120,7 +142,7 @@ impl Recent {
         }
         let next = (2 * size).max(FIRST);
         self.places = moved(self.alloc, &self.places, next)?;
-        self.room = next / 4;
+        self.room = next / 8;
         Ok(())
     }
 
