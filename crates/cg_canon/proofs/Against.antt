@@ -15,7 +15,7 @@ use Rattle.cg_nodes.specs.Meant.{Meant}
 use Rattle.cg_nodes.proofs.Later.{are_games_later, game_later, games_later, is_game_later, is_list_later, listed_later}
 use Rattle.cg_canon.specs.declared.whole.Verdicts.{Verdicts}
 use Rattle.cg_canon.specs.declared.whole.Whole.{Whole}
-use Rattle.cg_canon.specs.Profiles.{IsProfile}
+use Rattle.cg_canon.specs.Profiles.{HasCuts}
 use Rattle.cg_canon.specs.Verdict.{verdict}
 use Rattle.cg_canon.specs.Wholes.{WholeHolds, whole_game}
 use Rattle.cg_canon.proofs.CandidateLaws.{terms_later}
@@ -75,7 +75,7 @@ module _ {R : Type 0} where
         lefts = are_games_later s t k.known w.lefts.now h.lefts;
         rights = are_games_later s t k.known w.rights.now h.rights;
         no_number = (let P : Game → Type 0 = λ z. NoNumber z in subst P (sym e) h.no_number);
-        profile = (let P : Game → Type 0 = λ z. IsProfile z w.profile in subst P (sym e) h.profile);
+        cuts = (let P : Game → Type 0 = λ z. HasCuts z w.profile in subst P (sym e) h.cuts);
         terms = terms_later n s t w.first_term w.lefts.now w.rights.now h.lefts h.rights k h.terms;
         verdicts = λ left a answer r.
             let o = h.verdicts left a answer r in
@@ -97,7 +97,7 @@ module _ {R : Type 0} where
     lefts = later.lefts;
     rights = later.rights;
     no_number = later.no_number;
-    profile = later.profile;
+    cuts = later.cuts;
     terms = later.terms;
     verdicts = λ l c r e. elim (more l c r e) [
       | inl q ↦ later.verdicts l c r q

@@ -17,12 +17,10 @@ use Rattle.cg_canon.specs.declared.candidate.Candidate.{Candidate}
 use Rattle.cg_canon.specs.declared.terms.FirstTerm.{FirstTerm}
 use Rattle.cg_canon.specs.declared.terms.Term.{Term}
 use Rattle.cg_canon.specs.declared.terms.Term.TheVariants.{First, Second}
-use Rattle.cg_canon.specs.declared.whole.Verdicts.{Verdicts}
 use Rattle.cg_canon.specs.declared.whole.Whole.{Whole}
 use Rattle.cg_canon.specs.Candidates.{AreAmong, AreApartByTerm, AreCandidates, ComesFrom, alone, count_for, handles_of, of_term, same_term}
 use Rattle.cg_canon.specs.Passed.{IsOwn}
 use Rattle.cg_canon.specs.Terms.{NoneComparable, NoneComparableByTerm}
-use Rattle.cg_canon.specs.Wholes.{WholeHolds}
 use Rattle.cg_canon.proofs.Outlining.{game_of_item}
 
 -- ---- a candidate of a list
@@ -204,18 +202,19 @@ pub alone_own : (left : Bool) (w : Whole) (h : ℕ) → IsOwn left w (alone h)
 alone_own left w h t e = cc
 
 -- what stands in the places of the whole's own options
-pub own_candidates : {R : Type 0} (s : State Meant R) (w : Whole) (v : Verdicts) (left : Bool) (cs : List Candidate)
-    → WholeHolds s w v → AreGames s (handles_of cs) → All (IsOwn left w) cs → AreCandidates s cs
-own_candidates s w v left cs h games own = record {
+pub own_candidates : {R : Type 0} (s : State Meant R) (w : Whole) (left : Bool) (cs : List Candidate)
+    → AreApartByTerm s w.first_term w.lefts.now w.rights.now → AreGames s (handles_of cs) → All (IsOwn left w) cs
+    → AreCandidates s cs
+own_candidates s w left cs terms games own = record {
   games = games;
   apart = λ a b m n e l.
       let t = shared a.term b.term e in
       same_place s (of_term w.first_term left (cond left w.lefts.now w.rights.now) t.term) a.handle b.handle
-      (h.terms.each left t.term) (All-contains (IsOwn left w) cs a own m t.term t.first)
+      (terms.each left t.term) (All-contains (IsOwn left w) cs a own m t.term t.first)
       (All-contains (IsOwn left w) cs b own n t.term t.second) l;
 }
 
-none_of_none : NoneComparable []
+pub none_of_none : NoneComparable []
 none_of_none = record { each = λ i j d l k n o. absurd (omega (arith, l)) }
 
 -- a game that is no sum of two terms

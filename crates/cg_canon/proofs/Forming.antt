@@ -26,7 +26,7 @@ use Rattle.cg_canon.specs.declared.profile.Outline.{Outline}
 use Rattle.cg_canon.specs.declared.whole.Verdicts.{Verdicts}
 use Rattle.cg_canon.specs.declared.whole.Whole.{Whole}
 use Rattle.cg_canon.specs.Candidates.{AreApartByTerm}
-use Rattle.cg_canon.specs.Profiles.{IsOutline, IsProfile}
+use Rattle.cg_canon.specs.Profiles.{HasCuts, IsOutline}
 use Rattle.cg_canon.specs.Verdict.{verdict}
 use Rattle.cg_canon.specs.Wholes.{WholeHolds, whole_game}
 use Rattle.cg_canon.proofs.Against.{whole_same}
@@ -37,14 +37,14 @@ none_some o x e f = cc
 
 -- a whole with no verdicts yet
 pub whole_begins : {R : Type 0} (s : State Meant R) (w : Whole) (v : Verdicts) → AreGames s w.lefts.now → AreGames s w.rights.now
-    → NoNumber (whole_game s w) → IsProfile (whole_game s w) w.profile
+    → NoNumber (whole_game s w) → HasCuts (whole_game s w) w.profile
     → AreApartByTerm s w.first_term w.lefts.now w.rights.now → ((l : Bool) (a : ℕ) → verdict v l a ≡ None)
     → WholeHolds s w v
 whole_begins s w v l r n p terms none = record {
   lefts = l;
   rights = r;
   no_number = n;
-  profile = p;
+  cuts = p;
   terms = terms;
   verdicts = λ left a answer e. absurd (none_some (verdict v left a) answer (none left a) e);
 }

@@ -18,4 +18,5 @@ pub mod Halving
 pub mod Reaching
 pub mod Ranking
 pub mod Forming
+pub mod Dominating
 pub mod Telling

@@ -28,8 +28,10 @@ use Rattle.cg_canon.specs.Profiles.{IsOutline, IsProfile, chosen_cut}
 pub number_profile : (x : Number) (c d : Cut) (n : ℕ) → c.at ≡ x → c.closed ≡ true → d.at ≡ x → d.closed ≡ true
     → n ≡ cells_of x → InRange x → IsProfile (number x) (record { low = c; high = d; depth = 0; cost = n })
 number_profile x c d n at shut at' shut' cells range = record {
-  low = cut-number AnyNumber true c x (number x) at shut (equal_refl (number x));
-  high = cut-number AnyNumber false d x (number x) at' shut' (equal_refl (number x));
+  cuts = record {
+    low = cut-number AnyNumber true c x (number x) at shut (equal_refl (number x));
+    high = cut-number AnyNumber false d x (number x) at' shut' (equal_refl (number x));
+  };
   depth = refl;
   cost = cells;
   small = omega (arith, few_cells x);
@@ -55,8 +57,8 @@ deepest-last [] g = omega arith
 deepest-last (h ∷ gs) g = omega (arith, deepest-last gs g)
 
 pub profile_cut : (s : Bool) (g : Game) (p : Profile) → IsProfile g p → CutIs AnyNumber s (chosen_cut s p.low p.high) g
-profile_cut true g p h = h.low
-profile_cut false g p h = h.high
+profile_cut true g p h = h.cuts.low
+profile_cut false g p h = h.cuts.high
 
 pub outline_none : (s : Bool) → IsOutline s [] (record { cut = None; deepest = 0; count = 0 })
 outline_none s = record { cut = record { tells = λ x r. refl }; deepest = refl; count = refl; few = omega arith }
@@ -121,8 +123,10 @@ between_profile ls rs a b low high c d depth first second e f t u deep one two f
     let nl : length (lefts (node ls rs)) ≡ length ls = ap length (lefts-node ls rs) in
     let nr : length (rights (node ls rs)) ≡ length rs = ap length (rights-node ls rs) in
     record {
-      low = cut_of_none AnyNumber any-closed true ls rs low high c kl kr (λ x p. none x) t;
-      high = cut_of_none AnyNumber any-closed false ls rs low high d kl kr (λ x p. none x) u;
+      cuts = record {
+        low = cut_of_none AnyNumber any-closed true ls rs low high c kl kr (λ x p. none x) t;
+        high = cut_of_none AnyNumber any-closed false ls rs low high d kl kr (λ x p. none x) u;
+      };
       depth = omega (arith, l.deepest, r.deepest);
       cost = omega (arith, nl, nr, l.count, r.count);
       small = omega arith;

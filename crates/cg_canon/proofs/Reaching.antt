@@ -39,8 +39,8 @@ turned_in s a c x t =
 
 beyond_in : (s : Bool) (g : Game) (p : Profile) (c : Cut) (x : Number) → IsProfile g p → Turned (other_cut s p.low p.high) c
     → in_cut s c x ≡ not (at_most s g (number x))
-beyond_in true g p c x h t = turned_in true p.high c x t ∙ ap not (sym (h.high.tells x tt))
-beyond_in false g p c x h t = turned_in false p.low c x t ∙ ap not (sym (h.low.tells x tt))
+beyond_in true g p c x h t = turned_in true p.high c x t ∙ ap not (sym (h.cuts.high.tells x tt))
+beyond_in false g p c x h t = turned_in false p.low c x t ∙ ap not (sym (h.cuts.low.tells x tt))
 
 -- ---- one game more
 

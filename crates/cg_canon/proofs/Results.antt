@@ -1,6 +1,7 @@
 -- Facts of results, carried over.
-use Rattle.std.proofs.Common.{◌≡◌, subst}
-use Rattle.std.specs.Prelude.{Result, Ok, Err, OnOk, OnErr, IfOk, IfErr, Option, Some, None, IfNone, IfSome}
+use Rattle.std.proofs.Common.{◌≡◌, subst, sym}
+use Rattle.std.specs.Prelude.{Result, Ok, Err, OnOk, OnErr, IfOk, IfErr, Option, Some, None, IfNone, IfSome, option_copied}
+use Rattle.std.specs.Borrow.{Bor}
 
 pub on_ok : {T E : Type 0} (r : Result T E) (P Q : Type 0) → OnOk r P → (P → Q) → OnOk r Q
 on_ok (Ok x) P Q h f = f h
@@ -29,3 +30,9 @@ at_some (Some y) P x e h = (let same : y ≡ x = cc in subst P same h)
 pub always_on_err : {T E : Type 0} (r : Result T E) (P : Type 0) → P → OnErr r P
 always_on_err (Ok x) P h = tt
 always_on_err (Err e) P h = h
+
+-- what is lent, where a copy of it is known
+pub if_lent : {T : Type 0} (o : Option (Bor T)) (m : Option T) (P : T → Type 0) → option_copied o ≡ m
+    → ((x : T) → m ≡ Some x → P x) → IfSome o (λ b. P b.now)
+if_lent None m P e f = tt
+if_lent (Some b) m P e f = f b.now (sym e)

@@ -13,10 +13,13 @@ use Rattle.cg_canon.specs.Items.{cost_of}
 abbrev pub chosen_cut : Bool → Cut → Cut → Cut
 chosen_cut s low high = cond s low high
 
-pub record IsProfile (g : Game) (p : Profile) : Type 0 where
-  -- the numbers that are at most the game, and those that are at least the game
+-- the numbers that are at most the game, and those that are at least the game
+pub record HasCuts (g : Game) (p : Profile) : Type 0 where
   pub low : CutIs AnyNumber true p.low g
   pub high : CutIs AnyNumber false p.high g
+
+pub record IsProfile (g : Game) (p : Profile) : Type 0 where
+  pub cuts : HasCuts g p
   pub depth : p.depth ≡ depth_of g
   pub cost : p.cost ≡ cost_of g
   pub small : p.cost ≤ 2 ^ 34

@@ -5,6 +5,7 @@ mod again;
 mod best;
 mod bypass;
 mod candidate;
+mod dominated;
 mod equality;
 mod fault;
 mod forms;

@@ -31,12 +31,12 @@ pub(crate) struct Recent {
 const FIRST: usize = 256;
 
 /// The greatest size of a table.
-const MOST: usize = 16_777_216;
+const MOST: usize = 1_048_576;
 
 /// How many places a pair has.
 const WAYS: usize = 8;
 
-/// The first place of the pair, in a table of the greatest size.
+/// The first place of the pair, in a table of 16,777,216 places.
 fn home_of(a: Handle, b: Handle) -> usize {
     let pair = b.id().number() as u64 * 4_294_967_296 + a.id().number() as u64;
     (pair.wrapping_mul(0x9E37_79B9_7F4A_7C15) >> 40) as usize

@@ -9,7 +9,7 @@ ghost use Rattle.cg_form.specs.Order.{le};
 ghost use Rattle.cg_form.specs.Side.{at_most};
 ghost use Rattle.cg_cells.specs.Store.{Spends};
 ghost use Rattle.cg_nodes.specs.Games.{IsGame, game_at};
-ghost use Rattle.cg_canon.specs.Profiles.{IsProfile};
+ghost use Rattle.cg_canon.specs.Profiles.{HasCuts};
 ghost use Rattle.cg_canon.specs.Told.{GoesPast, Meet};
 ghost use Rattle.cg_canon.specs.Works.{work_state};
 
@@ -47,7 +47,7 @@ fn meets(high: &Cut, low: &Cut) -> bool
 
 /// Whether some number shows that the first game isn't at most the second.
 fn stands_out(a: &Profile, b: &Profile) -> bool
-    ensures { (g h : Game) → IsProfile g a.now → IsProfile h b.now → IsTrue result → le g h ≡ false }
+    ensures { (g h : Game) → HasCuts g a.now → HasCuts h b.now → IsTrue result → le g h ≡ false }
 {
     if goes_past(true, &a.low, &b.low) {
         return true;
@@ -63,7 +63,7 @@ fn alike(a: &Profile, b: &Profile) -> bool {
 
 /// Whether the first game is at most the second, where the numbers tell.
 fn told_of(a: &Profile, b: &Profile) -> Option<bool>
-    ensures { (g h : Game) → IsProfile g a.now → IsProfile h b.now → IfSome result (λ answer. answer ≡ le g h) }
+    ensures { (g h : Game) → HasCuts g a.now → HasCuts h b.now → IfSome result (λ answer. answer ≡ le g h) }
 {
     if alike(a, b) {
         return None;
@@ -80,7 +80,7 @@ fn told_of(a: &Profile, b: &Profile) -> Option<bool>
 /// Whether the first game is no better for the player than the second, where the numbers tell; with `left` the player is
 /// Left, and else Right.
 fn told_for(left: bool, a: &Profile, b: &Profile) -> Option<bool>
-    ensures { (g h : Game) → IsProfile g a.now → IsProfile h b.now → IfSome result (λ answer. answer ≡ at_most left g h) }
+    ensures { (g h : Game) → HasCuts g a.now → HasCuts h b.now → IfSome result (λ answer. answer ≡ at_most left g h) }
 {
     if left {
         return told_of(a, b);
@@ -113,7 +113,7 @@ fn told_lent<B: BoardForms, S: CellStore<GameFacts<B>>>(
     a: Handle,
     profile: &Profile,
 ) -> Option<Option<bool>>
-    ensures { (h : Game) → IsProfile h profile.now → IfSome result (λ answer. IfSome answer (λ yes. yes
+    ensures { (h : Game) → HasCuts h profile.now → IfSome result (λ answer. IfSome answer (λ yes. yes
         ≡ at_most left (game_at (S.state work.now.store.now) a) h)) }
 {
     match work.profile(a) {
@@ -131,7 +131,7 @@ pub(crate) fn told_beside<B: BoardForms, S: CellStore<GameFacts<B>>>(
     profile: &Profile,
 ) -> Result<Option<bool>, AllocError>
     requires { IsGame (work_state S.state work.old) a }
-    ensures order { (h : Game) → IsProfile h profile.now → IfOk result (λ answer. IfSome answer (λ yes. yes
+    ensures order { (h : Game) → HasCuts h profile.now → IfOk result (λ answer. IfSome answer (λ yes. yes
         ≡ at_most left (game_at (work_state S.state work.old) a) h)) }
     ensures spends { Spends 0 (work_state S.state work.old) (work_state S.state work.new) }
 {

@@ -29,7 +29,7 @@ pub(crate) struct Whole<'a> {
     pub lefts: &'a [Handle],
     /// The Right options.
     pub rights: &'a [Handle],
-    /// The profile of the game of these options.
+    /// The profile of a game of the same value.
     pub profile: Profile,
     /// How many of the options come from the first of two terms, where the game is a sum of two.
     pub first_term: Option<FirstTerm>,

@@ -61,8 +61,8 @@ pub returns-clause-candidates : goal.returns-clause-candidates
 returns-clause-candidates g c =
     let W = work_state g.S.CellStore.state in
     let P : List Candidate → Type 0 = λ z. AreCandidates (W c.loop-place.work) z in
-    subst P (sym c.into_items.ensures) (own_candidates (W c.loop-place.work) c.args.whole.now c.loop-place.verdicts c.args.left c.loop-place.all.items.items
-    c.loop-place.invariant.holds c.loop-place.invariant.out.games c.loop-place.invariant.out.own)
+    subst P (sym c.into_items.ensures) (own_candidates (W c.loop-place.work) c.args.whole.now c.args.left c.loop-place.all.items.items
+    c.loop-place.invariant.holds.terms c.loop-place.invariant.out.games c.loop-place.invariant.out.own)
 
 pub returns-in_err-all-clause-spends : goal.returns-in_err-all-clause-spends
 returns-in_err-all-clause-spends g c =
