@@ -5,9 +5,11 @@ use Rattle.std.proofs.lemmas.Bool.Decides.{eqb_tells}
 use Rattle.std.proofs.lemmas.List.{drop-map, get_or-map, get_or_default, length-map, map-append, take-map}
 use Rattle.std.proofs.lemmas.List.Elements.{All-append, All-cons, All-contains, All-contains_itself, All-drop, All-head, All-nil, All-tail, All-take, All-weaker, Contains-append_right, Contains-get_or}
 use Rattle.cg_dyadic.proofs.Truth.{false-from}
-use Rattle.cg_form.specs.Game.{Game}
+use Rattle.cg_form.specs.Best.{place, with_one}
+use Rattle.cg_form.specs.Game.{Among, Game}
 use Rattle.cg_form.specs.Order.{Le}
 use Rattle.cg_form.specs.Side.{AtMost, at_most}
+use Rattle.cg_form.specs.Structure.{Rises}
 use Rattle.cg_form.proofs.Sides.{side_refl}
 use Rattle.cg_cells.specs.Store.{Spends, State}
 use Rattle.cg_nodes.specs.Games.{AreGames, IsGame, game_at, games_at}
@@ -18,9 +20,10 @@ use Rattle.cg_canon.specs.declared.terms.FirstTerm.{FirstTerm}
 use Rattle.cg_canon.specs.declared.terms.Term.{Term}
 use Rattle.cg_canon.specs.declared.terms.Term.TheVariants.{First, Second}
 use Rattle.cg_canon.specs.declared.whole.Whole.{Whole}
-use Rattle.cg_canon.specs.Candidates.{AreAmong, AreApartByTerm, AreCandidates, ComesFrom, alone, count_for, handles_of, of_term, same_term}
+use Rattle.cg_canon.specs.Candidates.{AreAmong, AreApartByTerm, AreCandidates, ComesFrom, SharesTerm, alone, count_for, handles_of, of_term, same_term}
 use Rattle.cg_canon.specs.Passed.{IsOwn}
 use Rattle.cg_canon.specs.Terms.{NoneComparable, NoneComparableByTerm}
+use Rattle.cg_canon.proofs.Besting.{with_one_apart}
 use Rattle.cg_canon.proofs.Outlining.{game_of_item}
 
 -- ---- a candidate of a list
@@ -164,6 +167,43 @@ told_by_term s left a b h e = elim (eqb_tells a.handle b.handle) [
     by : (l : Bool) → AtMost l (game_at s a.handle) (game_at s b.handle) → a.handle ≡ b.handle
     by true l = h.apart a b (first_of a (b ∷ [])) second e l
     by false l = sym (h.apart b a second (first_of a (b ∷ [])) (turned a.term b.term e) l)
+
+-- among the games of the candidates
+member_of : {R : Type 0} (s : State Meant R) (cs : List Candidate) (g : Game) → Among g (games_at s (handles_of cs))
+    → (c : Candidate) × Contains cs c × (g ≡ game_at s c.handle)
+member_of s [] g m = absurd m
+member_of s (c ∷ cs) g (inl e) = (c, first_of c cs, e)
+member_of s (c ∷ cs) g (inr m) = let (d, k, e) = member_of s cs g m in (d, behind_first c cs d k, e)
+
+-- where x is put among candidates of its own term, it is comparable with none but itself
+pub of_its_term : {R : Type 0} (s : State Meant R) (left : Bool) (x : Candidate) (cs : List Candidate) → AreCandidates s (x ∷ cs)
+    → Rises (games_at s (handles_of cs)) → All (SharesTerm x) cs
+    → place (game_at s x.handle) (games_at s (handles_of cs)) ≡ with_one left (games_at s (handles_of cs)) (game_at s x.handle)
+of_its_term s left x cs h r all =
+    with_one_apart left (games_at s (handles_of cs)) (game_at s x.handle) r
+    (λ g m l. let (c, k, e) = member_of s cs g m in
+    let P : Game → Type 0 = λ z. AtMost left (game_at s x.handle) z in
+    ap (game_at s) (under left c k (subst P e l)) ∙ sym e)
+    (λ g m l. let (c, k, e) = member_of s cs g m in
+    let P : Game → Type 0 = λ z. AtMost left z (game_at s x.handle) in
+    ap (game_at s) (over left c k (subst P e l)) ∙ sym e)
+  where
+    term : (c : Candidate) → Contains cs c → same_term x.term c.term ≡ true
+    term c k = All-contains (SharesTerm x) cs c all k
+
+    below : (c : Candidate) → Contains cs c → Le (game_at s x.handle) (game_at s c.handle) → x.handle ≡ c.handle
+    below c k l = h.apart x c (first_of x cs) (behind_first x cs c k) (term c k) l
+
+    above : (c : Candidate) → Contains cs c → Le (game_at s c.handle) (game_at s x.handle) → x.handle ≡ c.handle
+    above c k l = sym (h.apart c x (behind_first x cs c k) (first_of x cs) (turned x.term c.term (term c k)) l)
+
+    under : (b : Bool) (c : Candidate) → Contains cs c → AtMost b (game_at s x.handle) (game_at s c.handle) → x.handle ≡ c.handle
+    under true c k l = below c k l
+    under false c k l = above c k l
+
+    over : (b : Bool) (c : Candidate) → Contains cs c → AtMost b (game_at s c.handle) (game_at s x.handle) → x.handle ≡ c.handle
+    over true c k l = above c k l
+    over false c k l = below c k l
 
 -- ---- the options of a sum
 

@@ -22,6 +22,10 @@ same_term (Some First) (Some First) = true
 same_term (Some Second) (Some Second) = true
 same_term _ _ = false
 
+-- both candidates come from the same term
+abbrev pub SharesTerm : Candidate → Candidate → Type 0
+SharesTerm a b = same_term a.term b.term ≡ true
+
 -- the handles are those of games, and of two candidates of one term, neither is at most the other unless they are the same
 pub record AreCandidates {R : Type 0} (s : State Meant R) (cs : List Candidate) : Type 0 where
   pub games : AreGames s (handles_of cs)

@@ -41,7 +41,7 @@ impl Candidate {
     }
 
     /// Whether both come from the same term.
-    fn shares_term(&self, other: &Candidate) -> bool
+    pub(crate) fn shares_term(&self, other: &Candidate) -> bool
         ensures { result ≡ same_term self.now.term other.now.term }
     {
         match (self.term, other.term) {
