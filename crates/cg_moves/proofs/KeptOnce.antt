@@ -5,9 +5,9 @@ use Rattle.std.specs.List.{IsDistinct, list_any}
 use Rattle.std.proofs.lemmas.Bool.{cases_Bool}
 use Rattle.std.proofs.lemmas.Map.Keys.{IsDistinct-push}
 use Rattle.std.proofs.lemmas.Map.Made.{length-le_from_is_member}
+use Rattle.cg_moves.specs.Explored.{StandOnce}
 use Rattle.cg_moves.specs.Grid.{Grid, is_same}
 use Rattle.cg_moves.specs.Kept.{kept, one_more}
-use Rattle.cg_moves.specs.Opened.{IsAt}
 use Rattle.cg_moves.specs.Rules.{In}
 use Rattle.cg_moves.proofs.KeptLemmas.{in_or_not, kept-among, kept-has, one_more-new, one_more-there}
 use Rattle.cg_moves.proofs.PlaceLemmas.{at-back, at-in}
@@ -67,10 +67,7 @@ kept-fewer_kept xs ys among = kept-fewer xs (kept [] ys) (λ q m. elim (kept-amo
 
 -- ---- their places
 
-abbrev IsOnce : List Grid → Type 0
-IsOnce ps = (i j : ℕ) (p : Grid) → IsAt ps i p → IsAt ps j p → i ≡ j
-
-once-more : (seen : List Grid) (x : Grid) → IsOnce seen → ¬ In x seen → IsOnce (seen ++ (x ∷ []))
+once-more : (seen : List Grid) (x : Grid) → StandOnce seen → ¬ In x seen → StandOnce (seen ++ (x ∷ []))
 once-more seen x h out i j p m n =
     let P : Grid → Type 0 = λ z. In z seen in
     elim (at-back seen x i p m) [
@@ -84,10 +81,10 @@ once-more seen x h out i j p m n =
       ]
     ]
 
-pub kept-once : (seen xs : List Grid) → IsOnce seen → IsOnce (kept seen xs)
+pub kept-once : (seen xs : List Grid) → StandOnce seen → StandOnce (kept seen xs)
 kept-once seen [] h = h
 kept-once seen (x ∷ xs) h =
-    let P : List Grid → Type 0 = λ z. IsOnce z in
+    let P : List Grid → Type 0 = λ z. StandOnce z in
     kept-once (one_more seen x) xs (elim (in_or_not seen x) [
       | inl there ↦ subst P (sym (one_more-there seen x there)) h
       | inr out ↦ subst P (sym (one_more-new seen x out)) (once-more seen x h out)

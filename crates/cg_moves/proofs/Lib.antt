@@ -17,6 +17,7 @@ pub mod StartLemmas
 pub mod WalkLemmas
 pub mod ReachLemmas
 pub mod Places
+pub mod Placing
 pub mod ReadLemmas
 pub mod RisingLemmas
 pub mod Counted

@@ -7,7 +7,7 @@ use Rattle.std.proofs.lemmas.List.{map-append}
 use Rattle.cg_moves.specs.declared.fault.ReachFault.{ReachFault}
 use Rattle.cg_moves.specs.declared.fault.ReachFault.TheVariants.{Positions}
 use Rattle.cg_moves.specs.declared.opened.NextPlaces.{NextPlaces}
-use Rattle.cg_moves.specs.declared.player.Player.TheVariants.{Left}
+use Rattle.cg_moves.specs.declared.player.Player.TheVariants.{Left, Right}
 use Rattle.cg_moves.specs.Explored.{Numbers, NumbersParts, board_at}
 use Rattle.cg_moves.specs.Found.{AreAlike}
 use Rattle.cg_moves.specs.Grid.{Grid}
@@ -135,21 +135,74 @@ module _ (cut : Grid → List Grid) where
         (ap (flat_map cut) (split_read boards k p below read) ∙ flat_map-append cut (take k boards) (p ∷ drop (suc k) boards)
         ∙ sym (append_assoc (flat_map cut (take k boards)) (cut p) (flat_map cut (drop (suc k) boards)))) many
 
--- the boards that come next after the board at a place
-pub followers-at : (r : GameRules) (found : List Grid) (number : ℕ) (p : Grid) (boards : List Grid) → IsAt found number p
-    → boards ≡ followers r p → boards ≡ followers r (board_at found number)
-followers-at r found number p boards m e = e ∙ ap (followers r) (sym (board-at found number p m))
+-- ---- what comes next after a board at a place, where the parts of the boards after Left's moves and then those of the boards
+-- after Right's moves are numbered
 
--- what comes next after a board, where its parts were numbered
-pub next-numbered : (r : GameRules) (cut : Grid → List Grid) (limit : ℕ) (old new : List Grid) (before after : NextPlaces) (p : Grid)
-    (boards : List Grid) → NumbersParts limit cut old new before after boards → boards ≡ followers r p
-    → before.lefts ≡ length (boards_after r Left p) → before.counts.items ≡ [] → before.places.items ≡ []
-    → IsNext r cut new p after
-next-numbered r cut limit old new before after p boards f same lefts none empty =
-    let P : List ℕ → Type 0 = λ z. StandAt old z [] in
-    let Q : List Grid → Type 0 = λ z. StandAt new after.places.items (flat_map cut z) in
-    record {
-      lefts = f.lefts ∙ lefts;
-      counts = f.counts ∙ ap (λ z. z ++ map (λ q. length (cut q)) boards) none ∙ ap (map (λ q. length (cut q))) same;
-      places = subst Q same (f.numbers.places [] (subst P (sym empty) tt));
-    }
+module _ (r : GameRules) (cut : Grid → List Grid) (found : List Grid) (number : ℕ) (p : Grid) (lefts rights : List Grid)
+    (at : IsAt found number p) (are_left : lefts ≡ boards_after r Left p) (are_right : rights ≡ boards_after r Right p) where
+  abbrev all_next : List Grid
+  all_next = followers r (board_at found number)
+
+  both : lefts ++ rights ≡ all_next
+  both = ap (λ z. z ++ rights) are_left ∙ ap (λ z. boards_after r Left p ++ z) are_right
+      ∙ ap (followers r) (sym (board-at found number p at))
+
+  pub left-among : (q : Grid) → In q lefts → In q all_next
+  left-among q m = carry q (lefts ++ rights) all_next both (in-append_left q lefts rights m)
+
+  pub right-among : (q : Grid) → In q rights → In q all_next
+  right-among q m = carry q (lefts ++ rights) all_next both (in-append_right q lefts rights m)
+
+  parts-among : (some : List Grid) → ((q : Grid) → In q some → In q all_next) → (q : Grid) → In q (flat_map cut some)
+      → In q (flat_map cut all_next)
+  parts-among some among q m = let (s, n, o) = in-flat_map cut q some m in in_flat_mapped cut q s all_next (among s n) o
+
+  all-parts : flat_map cut all_next ≡ flat_map cut lefts ++ flat_map cut rights
+  all-parts = ap (flat_map cut) (sym both) ∙ flat_map-append cut lefts rights
+
+  pub left-alike : AreAlike (found ++ flat_map cut all_next) → AreAlike (found ++ flat_map cut lefts)
+  left-alike h = alike-more found found (flat_map cut all_next) (flat_map cut lefts) h
+      (λ q m. in-append_left q found (flat_map cut all_next) m) (parts-among lefts left-among)
+
+  pub left-refused : (limit : ℕ) → limit < length (kept found (flat_map cut lefts))
+      → limit < length (kept found (flat_map cut all_next))
+  left-refused limit many =
+      let a = kept-length found (flat_map cut lefts) (flat_map cut rights) in
+      let c = ap (λ z. length (kept found z)) all-parts in
+      omega arith
+
+  module _ (limit : ℕ) (new : List Grid) (x y : NextPlaces) (f : NumbersParts limit cut found new x y lefts) where
+    pub right-alike : AreAlike (found ++ flat_map cut all_next) → AreAlike (new ++ flat_map cut rights)
+    right-alike h = alike-more found new (flat_map cut all_next) (flat_map cut rights) h
+        (found-among found new (flat_map cut all_next) (flat_map cut lefts) f.numbers.found (parts-among lefts left-among))
+        (parts-among rights right-among)
+
+    pub right-refused : limit < length (kept new (flat_map cut rights)) → limit < length (kept found (flat_map cut all_next))
+    right-refused many =
+        let b = ap length (kept-append found (flat_map cut lefts) (flat_map cut rights)
+        ∙ ap (λ z. kept z (flat_map cut rights)) (sym f.numbers.found)) in
+        let c = ap (λ z. length (kept found z)) all-parts in
+        omega arith
+
+    both-numbered : (after : List Grid) (z : NextPlaces) → NumbersParts limit cut new after y z rights
+        → NumbersParts limit cut found after x z all_next
+    both-numbered after z g =
+        let P : List Grid → Type 0 = λ v. NumbersParts limit cut found after x z v in
+        subst P both (parts-then cut limit found new after x y z lefts rights f g)
+
+    pub both-found : (after : List Grid) (z : NextPlaces) → NumbersParts limit cut new after y z rights
+        → after ≡ kept found (flat_map cut all_next)
+    both-found after z g = let all = both-numbered after z g in all.numbers.found
+
+    pub both-next : (after : List Grid) (z : NextPlaces) → NumbersParts limit cut new after y z rights
+        → x.lefts ≡ length lefts → x.counts.items ≡ [] → x.places.items ≡ []
+        → IsNext r cut after (board_at found number) z
+    both-next after z g count none empty =
+        let all = both-numbered after z g in
+        let P : List ℕ → Type 0 = λ v. StandAt found v [] in
+        record {
+          lefts = all.lefts ∙ count ∙ ap length are_left
+              ∙ ap (λ v. length (boards_after r Left v)) (sym (board-at found number p at));
+          counts = all.counts ∙ ap (λ v. v ++ map (λ q. length (cut q)) all_next) none;
+          places = all.numbers.places [] (subst P (sym empty) tt);
+        }

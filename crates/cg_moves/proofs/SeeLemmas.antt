@@ -5,12 +5,12 @@ use Rattle.std.specs.Option.{IsSome, is_some}
 use Rattle.std.specs.Prelude.{◌↔◌, None}
 use Rattle.std.proofs.lemmas.List.{append-nil, get_or-set_other, get_or-set_same, length-set}
 use Rattle.cg_moves.specs.declared.opened.NextPlaces.{NextPlaces}
-use Rattle.cg_moves.specs.Explored.{AreBelow, IsExplored, IsSeen, Way, board_at, parts, place_of, play}
+use Rattle.cg_moves.specs.Explored.{AreBelow, IsSeen, StandOnce, Way, board_at, parts, place_of, play}
 use Rattle.cg_moves.specs.Grid.{Grid}
 use Rattle.cg_moves.specs.Opened.{AreNext, IsAt, IsNext, StandAt}
 use Rattle.cg_moves.specs.Rules.{GameRules, In, followers}
 use Rattle.cg_moves.proofs.Counted.{same-or-not}
-use Rattle.cg_moves.proofs.ExploreLemmas.{link-at, next-parts}
+use Rattle.cg_moves.proofs.ExploreLemmas.{next-parts}
 use Rattle.cg_moves.proofs.Members.{carry, in-append, in_one}
 use Rattle.cg_moves.proofs.PlaceLemmas.{at-append, at-back, at-board, at-in, at-last, board-at, in-at, stand-below}
 
@@ -21,11 +21,19 @@ read-as [] k x d l e = absurd (omega arith)
 read-as (y ∷ xs) zero x d l e = sym e
 read-as (y ∷ xs) (suc k) x d l e = read-as xs k x d (omega arith) e
 
+-- the member that is taken from its place
+pub taken : {X : Type 0} (xs : List X) (k : ℕ) (x y : X) → x ≡ get_or xs k x → y ≡ x → y ≡ get_or xs k y
+taken {X} xs k x y e f = let P : X → Type 0 = λ z. z ≡ get_or xs k z in subst P (sym f) e
+
 pub stand-in : (ps : List Grid) (ns : List ℕ) (qs : List Grid) → StandAt ps ns qs → (n : ℕ) → In n ns → In (board_at ps n) qs
 stand-in ps [] qs h n m = absurd m
 stand-in ps (k ∷ ns) [] h n m = absurd h
 stand-in ps (k ∷ ns) (q ∷ qs) h n (inl e) = inl (ap (board_at ps) e ∙ board-at ps k q h.0)
 stand-in ps (k ∷ ns) (q ∷ qs) h n (inr m) = inr (stand-in ps ns qs h.1 n m)
+
+no-place : (o : Option ℕ) → is_some o ≡ false → o ≡ None
+no-place (Some k) e = cc
+no-place None e = refl
 
 -- ---- one more of what comes next
 
@@ -40,7 +48,12 @@ next-append r cut before (q ∷ ps) (m ∷ ns) p n h i =
 
 -- ---- a board that is seen
 
-module _ (w : Way) (found bs : List Grid) (ns : List NextPlaces) (places : List (Option ℕ)) (s : IsSeen w found bs ns places) where
+pub seen-as : (w : Way) (found boards bs : List Grid) (ns left : List NextPlaces) (places : List (Option ℕ)) → found ≡ boards
+    → IsSeen w found bs ns left places → IsSeen w boards bs ns left places
+seen-as w found boards bs ns left places e s = let P : List Grid → Type 0 = λ z. IsSeen w z bs ns left places in subst P e s
+
+module _ (w : Way) (found bs : List Grid) (ns left : List NextPlaces) (places : List (Option ℕ))
+    (s : IsSeen w found bs ns left places) where
   -- a number has a place exactly where its board was seen
   pub placed-in : (n : ℕ) → n < length found → is_some (place_of places n) ≡ true → In (board_at found n) bs
   placed-in n l t = go (place_of places n) refl t
@@ -69,17 +82,17 @@ module _ (w : Way) (found bs : List Grid) (ns : List NextPlaces) (places : List 
       let P : Grid → Type 0 = λ z. IsAt bs k z in
       (subst P (board-at found m q h.0) ((s.placed m k l).0 a), places-stand ms ks qs b h.1)
 
-  module _ (next : List NextPlaces) (starts : List ℕ) (e : IsExplored w found next starts) (number : ℕ)
-      (below : number < length found) where
+  -- a number that got no place
+  module _ (number : ℕ) (below : number < length found) (new : is_some (place_of places number) ≡ false) where
     -- what comes next after the board, by numbers
-    this-next : (n : NextPlaces) → n ≡ get_or next number n → IsNext w.game (parts w) found (board_at found number) n
-    this-next n f = let l = e.all in link-at w found found next number n e.links (omega arith) f
+    pub this-next : (n : NextPlaces) → n ≡ get_or left number n → IsNext w.game (parts w) found (board_at found number) n
+    this-next n f = s.rest.next number n below (no-place (place_of places number) new) f
 
-    pub next-below : (n : NextPlaces) → n ≡ get_or next number n → AreBelow (length found) n.places.items
+    pub next-below : (n : NextPlaces) → n ≡ get_or left number n → AreBelow (length found) n.places.items
     next-below n f = stand-below found n.places.items (flat_map (parts w) (followers w.game (board_at found number)))
         (this-next n f).places
 
-    pub next-placed : (n : NextPlaces) → n ≡ get_or next number n
+    pub next-placed : (n : NextPlaces) → n ≡ get_or left number n
         → ((q : Grid) → In q ((play w).next (board_at found number)) → In q bs) → (m : ℕ) → In m n.places.items
         → IsSome (place_of places m)
     next-placed n f ready m o =
@@ -89,18 +102,17 @@ module _ (w : Way) (found bs : List Grid) (ns : List NextPlaces) (places : List 
         (stand-in found n.places.items (flat_map (parts w) (followers w.game p)) (this-next n f).places m o)))
 
     -- one more board is seen
-    pub see-new : (n more : NextPlaces) (boards : List Grid) (after : List NextPlaces) → n ≡ get_or next number n
-        → is_some (place_of places number) ≡ false → boards ≡ bs ++ (board_at found number ∷ []) → after ≡ ns ++ (more ∷ [])
-        → more.lefts ≡ n.lefts → more.counts.items ≡ n.counts.items
+    pub see-new : StandOnce found → (n blank more : NextPlaces) (boards : List Grid) (after later : List NextPlaces)
+        → n ≡ get_or left number n → boards ≡ bs ++ (board_at found number ∷ []) → after ≡ ns ++ (more ∷ [])
+        → later ≡ slice_set left number blank → more.lefts ≡ n.lefts → more.counts.items ≡ n.counts.items
         → map (place_of places) n.places.items ≡ map Some more.places.items
-        → IsSeen w found boards after (slice_set places number (Some (length bs)))
-    see-new n more boards after f new is_boards is_after lefts counts ks =
+        → IsSeen w found boards after later (slice_set places number (Some (length bs)))
+    see-new once n blank more boards after later f is_boards is_after is_later lefts counts ks =
         let p = board_at found number in
-        let out = unplaced-out number below new in
         let i = this-next n f in
-        let size = s.size in
-        let P : List Grid → Type 0 = λ z. IsSeen w found z after (slice_set places number (Some (length bs))) in
-        let Q : List NextPlaces → Type 0 = λ z. IsSeen w found (bs ++ (p ∷ [])) z (slice_set places number (Some (length bs))) in
+        let P : List Grid → Type 0 = λ z. IsSeen w found z after later (slice_set places number (Some (length bs))) in
+        let Q : List NextPlaces → Type 0 = λ z. IsSeen w found (bs ++ (p ∷ [])) z later
+        (slice_set places number (Some (length bs))) in
         subst P (sym is_boards) (subst Q (sym is_after) (record {
           size = length-set places number (Some (length bs)) ∙ s.size;
           placed = λ m k l. elim (same-or-not m number) [
@@ -117,14 +129,30 @@ module _ (w : Way) (found bs : List Grid) (ns : List NextPlaces) (places : List 
             counts = counts ∙ i.counts;
             places = places-stand n.places.items more.places.items (flat_map (parts w) (followers w.game p)) ks i.places;
           });
+          rest = record {
+            size = ap length is_later ∙ length-set left number blank ∙ s.rest.size;
+            next = λ m k l free read. elim (same-or-not m number) [
+              | inl same ↦ absurd (some_none (length bs) (sym (set_same m same) ∙ free))
+              | inr other ↦ s.rest.next m k l
+                  (sym (get_or-set_other places number m (Some (length bs)) None other) ∙ free)
+                  (read ∙ ap (λ z. get_or z m k) is_later ∙ get_or-set_other left number m blank k other)
+            ];
+          };
         }))
       where
+        some_none : (k : ℕ) → ¬ (◌≡◌ {A = Option ℕ} (Some k) None)
+        some_none k e = cc
+
+        set_same : (m : ℕ) → m ≡ number → place_of (slice_set places number (Some (length bs))) m ≡ Some (length bs)
+        set_same m same =
+            let size = s.size in
+            ap (place_of (slice_set places number (Some (length bs)))) same
+            ∙ get_or-set_same places number (Some (length bs)) None (omega arith)
+
         same_place : (m k : ℕ) → m < length found → m ≡ number → (place_of (slice_set places number (Some (length bs))) m ≡ Some k)
             ↔ IsAt (bs ++ (board_at found number ∷ [])) k (board_at found m)
         same_place m k l same =
-            let size = s.size in
-            let set = ap (place_of (slice_set places number (Some (length bs)))) same
-            ∙ get_or-set_same places number (Some (length bs)) None (omega arith) in
+            let set = set_same m same in
             let p = board_at found number in
             let out = unplaced-out number below new in
             let K : ℕ → Type 0 = λ z. IsAt (bs ++ (p ∷ [])) z p in
@@ -146,7 +174,7 @@ module _ (w : Way) (found bs : List Grid) (ns : List NextPlaces) (places : List 
               λ t. elim (at-back bs p k (board_at found m) t) [
                 | inl o ↦ set ∙ (s.placed m k l).1 o
                 | inr o ↦ (let A : Grid → Type 0 = λ z. IsAt found number z in
-                    absurd (other (sym (e.once number m (board_at found m) (subst A o.1 (at-board found number below))
+                    absurd (other (sym (once number m (board_at found m) (subst A o.1 (at-board found number below))
                     (at-board found m l)))))
               ],
             )

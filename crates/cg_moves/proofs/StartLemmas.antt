@@ -1,5 +1,5 @@
 -- Where a walk begins, and where it ends.
-use Rattle.std.proofs.Common.{◌≡◌, ℕ, inl, inr, Option, List, [], ◌∷◌, ◌++◌, length, map, replicate, reverse, ap, sym, ◌∙◌, subst}
+use Rattle.std.proofs.Common.{◌≡◌, ℕ, inl, inr, Option, List, [], ◌∷◌, ◌++◌, length, map, replicate, reverse, ap, sym, ◌∙◌, subst, arith}
 use Rattle.std.specs.List.{flat_map}
 use Rattle.std.specs.Option.{IsSome}
 use Rattle.std.specs.Prelude.{None, Some}
@@ -14,6 +14,7 @@ use Rattle.cg_moves.specs.Opened.{StandAt}
 use Rattle.cg_moves.specs.Rules.{In}
 use Rattle.cg_moves.specs.Walks.{IsWalk, Visit, boards_left, entered}
 use Rattle.cg_moves.proofs.ComesAfter.{own-all}
+use Rattle.cg_moves.proofs.ExploreLemmas.{link-at}
 use Rattle.cg_moves.proofs.UnseenLemmas.{unseen-all}
 use Rattle.cg_moves.proofs.KeptLemmas.{kept-has}
 use Rattle.cg_moves.proofs.Members.{carry, in_flat_mapped}
@@ -33,18 +34,22 @@ none_some : (k : ℕ) → ¬ (◌≡◌ {A = Option ℕ} None (Some k))
 none_some k e = cc
 
 module _ (w : Way) (found : List Grid) (next : List NextPlaces) (starts : List ℕ) (e : IsExplored w found next starts) where
-  seen-none : IsSeen w found [] [] (replicate (length found) None)
+  seen-none : IsSeen w found [] [] next (replicate (length found) None)
   seen-none = record {
     size = length-replicate (length found) None;
     placed = λ n k l. let none : place_of (replicate (length found) None) n ≡ None = get_or-replicate (length found) n None None l in
         (λ t. absurd (none_some k (sym none ∙ t)), λ m. absurd m);
     among = λ p m. absurd m;
     links = tt;
+    rest = record {
+      size = e.all;
+      next = λ n k l free read. (let long = e.all in link-at w found found next n k e.links (omega arith) read);
+    };
   }
 
   -- the walk begins with the starts
   pub record Begun (bs : List Grid) (ns : List NextPlaces) (places : List (Option ℕ)) (tasks : List Task) : Type 0 where
-    pub seen : IsSeen w found bs ns places
+    pub seen : IsSeen w found bs ns next places
     pub walk : IsWalk (play w) bs (map (visit found) tasks)
     pub rest : kept bs (boards_left (play w) (map (visit found) tasks)) ≡ reached w
     pub below : AreBelow (length found) (map number_of tasks)
@@ -54,7 +59,7 @@ module _ (w : Way) (found : List Grid) (next : List NextPlaces) (starts : List �
   begins_none tasks f =
       let places = replicate (length found) None in
       let visits : map (visit found) tasks ≡ entered w.starts = ap (map (visit found)) f
-      ∙ visits-entered w found [] [] places seen-none starts w.starts e.begins ∙ ap entered (unseen-all w.starts) in
+      ∙ visits-entered w found [] [] next places seen-none starts w.starts e.begins ∙ ap entered (unseen-all w.starts) in
       let P : List Visit → Type 0 = λ z. IsWalk (play w) [] z in
       let B : List Task → Type 0 = λ z. AreBelow (length found) (map number_of z) in
       record {
@@ -80,11 +85,11 @@ module _ (w : Way) (found : List Grid) (next : List NextPlaces) (starts : List �
       ∙ ap (λ z. map Enter (unplaced z (reverse starts))) p))))
 
   -- the starts were seen in the end
-  pub starts-placed : (bs : List Grid) (ns : List NextPlaces) (places : List (Option ℕ)) → IsSeen w found bs ns places
+  pub starts-placed : (bs : List Grid) (ns left : List NextPlaces) (places : List (Option ℕ)) → IsSeen w found bs ns left places
       → bs ≡ reached w → (n : ℕ) → In n starts → IsSome (place_of places n)
-  starts-placed bs ns places s b n m =
+  starts-placed bs ns left places s b n m =
       let p = board_at found n in
       let start = stand-in found starts w.starts e.begins n m in
-      in-placed w found bs ns places s n (stand-below found starts w.starts e.begins n m) (carry p (reached w) bs (sym b)
+      in-placed w found bs ns left places s n (stand-below found starts w.starts e.begins n m) (carry p (reached w) bs (sym b)
       (kept-has [] (flat_map (play w).all w.starts) p (in_flat_mapped (play w).all p p w.starts start
       (own-all (play w) e.lawful p (e.has p (stand-among found starts w.starts e.begins p start))))))

@@ -1,5 +1,5 @@
 -- Tasks by numbers, and what each leaves to do.
-use Rattle.std.proofs.Common.{◌≡◌, refl, ℕ, Bool, cond, not, inl, inr, ⊎_elim, List, [], ◌∷◌, ◌++◌, length, map, reverse, ap, sym, ◌∙◌, subst, arith, ◌<◌, get_or, Option}
+use Rattle.std.proofs.Common.{◌≡◌, refl, ℕ, Bool, false, cond, not, inl, inr, ⊎_elim, List, [], ◌∷◌, ◌++◌, length, map, reverse, ap, sym, ◌∙◌, subst, arith, ◌<◌, get_or, Option}
 use Rattle.std.specs.Prelude.{Err, IfOk, Ok, Result}
 use Rattle.std.specs.List.{flat_map}
 use Rattle.std.specs.Option.{is_some}
@@ -9,18 +9,18 @@ use Rattle.std.proofs.lemmas.List.{map-append}
 use Rattle.cg_moves.specs.declared.opened.NextPlaces.{NextPlaces}
 use Rattle.cg_moves.specs.declared.walk.Task.{Task}
 use Rattle.cg_moves.specs.declared.walk.Task.TheVariants.{Enter, Leave}
-use Rattle.cg_moves.specs.Explored.{AreBelow, IsExplored, IsSeen, Way, board_at, number_of, parts, place_of, play, unplaced, visit}
+use Rattle.cg_moves.specs.Explored.{AreBelow, IsSeen, Way, board_at, number_of, parts, place_of, play, unplaced, visit}
 use Rattle.cg_moves.specs.Grid.{Grid}
 use Rattle.cg_moves.specs.Opened.{StandAt}
 use Rattle.cg_moves.specs.Plays.{Play}
 use Rattle.cg_moves.specs.Rules.{In, followers}
 use Rattle.cg_moves.specs.Walks.{IsWalk, Visit, Enters, Leaves, entered, unseen}
-use Rattle.cg_moves.proofs.ExploreLemmas.{link-at, next-parts}
+use Rattle.cg_moves.proofs.ExploreLemmas.{next-parts}
 use Rattle.cg_moves.proofs.UnseenLemmas.{unseen-new, unseen-there}
 use Rattle.cg_moves.proofs.Members.{carry, in-append, in-append_left, in-append_right, in_one}
 use Rattle.cg_moves.proofs.PlaceLemmas.{board-at, stand-below}
 use Rattle.cg_moves.proofs.ReadLemmas.{in-reverse, unplaced-none, unplaced-some}
-use Rattle.cg_moves.proofs.SeeLemmas.{next-below, placed-in, unplaced-out}
+use Rattle.cg_moves.proofs.SeeLemmas.{next-below, placed-in, this-next, unplaced-out}
 
 -- ---- numbers below a limit
 
@@ -52,7 +52,8 @@ below-entered limit places ns h n m = h n (in-reverse ns n (unplaced-among place
 
 -- ---- the tasks to enter boards
 
-module _ (w : Way) (found bs : List Grid) (ns : List NextPlaces) (places : List (Option ℕ)) (s : IsSeen w found bs ns places) where
+module _ (w : Way) (found bs : List Grid) (ns left : List NextPlaces) (places : List (Option ℕ))
+    (s : IsSeen w found bs ns left places) where
   pub visits-entered : (ms : List ℕ) (qs : List Grid) → StandAt found ms qs
       → map (visit found) (map Enter (unplaced places (reverse ms))) ≡ entered (unseen bs qs)
   visits-entered [] [] h = refl
@@ -67,34 +68,32 @@ module _ (w : Way) (found bs : List Grid) (ns : List NextPlaces) (places : List 
       turned ∙ ⊎_elim
       (λ t. ap (λ z. map (visit found) (map Enter z)) (unplaced-some places (reverse ms) m t)
       ∙ visits-entered ms qs h.1
-      ∙ sym (ap entered (unseen-there bs qs q (subst P same (placed-in w found bs ns places s m l t)))))
+      ∙ sym (ap entered (unseen-there bs qs q (subst P same (placed-in w found bs ns left places s m l t)))))
       (λ f. ap (λ z. map (visit found) (map Enter z)) (unplaced-none places (reverse ms) m f)
       ∙ ap (map (visit found)) (map-append Enter (unplaced places (reverse ms)) (m ∷ []))
       ∙ map-append (visit found) (map Enter (unplaced places (reverse ms))) (Enter m ∷ [])
       ∙ ap (λ z. z ++ (Enters (board_at found m) ∷ [])) (visits-entered ms qs h.1)
       ∙ ap (λ z. entered (unseen bs qs) ++ (Enters z ∷ [])) same
-      ∙ sym (ap entered (unseen-new bs qs q (subst Q same (unplaced-out w found bs ns places s m l f)))))
+      ∙ sym (ap entered (unseen-new bs qs q (subst Q same (unplaced-out w found bs ns left places s m l f)))))
       (cases_Bool (is_some (place_of places m)))
 
-  module _ (next : List NextPlaces) (starts : List ℕ) (e : IsExplored w found next starts) (tasks after : List Task) (n : ℕ)
-      (below : n < length found) where
+  module _ (tasks after : List Task) (n : ℕ) (below : n < length found) (new : is_some (place_of places n) ≡ false) where
     -- the tasks after another board is entered
-    pub visits-after : (k : NextPlaces) → k ≡ get_or next n k
+    pub visits-after : (k : NextPlaces) → k ≡ get_or left n k
         → after ≡ (tasks ++ (Leave n ∷ [])) ++ map Enter (unplaced places (reverse k.places.items))
         → map (visit found) after ≡ (map (visit found) tasks ++ (Leaves (board_at found n) ∷ []))
         ++ entered (unseen bs ((play w).next (board_at found n)))
     visits-after k f shape =
-        let l = e.all in
         let p = board_at found n in
         let rest = map Enter (unplaced places (reverse k.places.items)) in
-        let i = link-at w found found next n k e.links (omega arith) f in
+        let i = this-next w found bs ns left places s n below new k f in
         ap (map (visit found)) shape ∙ map-append (visit found) (tasks ++ (Leave n ∷ [])) rest
         ∙ ap (λ z. z ++ map (visit found) rest) (map-append (visit found) tasks (Leave n ∷ []))
         ∙ ap (λ z. (map (visit found) tasks ++ (Leaves p ∷ [])) ++ z) (visits-entered k.places.items
         (flat_map (parts w) (followers w.game p)) i.places
         ∙ ap (λ z. entered (unseen bs z)) (sym (next-parts w.game w.course p)))
 
-    pub below-after : (k : NextPlaces) → k ≡ get_or next n k → AreBelow (length found) (map number_of tasks)
+    pub below-after : (k : NextPlaces) → k ≡ get_or left n k → AreBelow (length found) (map number_of tasks)
         → after ≡ (tasks ++ (Leave n ∷ [])) ++ map Enter (unplaced places (reverse k.places.items))
         → AreBelow (length found) (map number_of after)
     below-after k f h shape =
@@ -104,7 +103,7 @@ module _ (w : Way) (found bs : List Grid) (ns : List NextPlaces) (places : List 
         ∙ ap (λ z. z ++ map number_of rest) (map-append number_of tasks (Leave n ∷ []))))
         (below-append (length found) (map number_of tasks ++ (n ∷ [])) (map number_of rest)
         (below-append (length found) (map number_of tasks) (n ∷ []) h (λ m o. let same = in_one m n o in omega (arith, below, same)))
-        (below-entered (length found) places k.places.items (next-below w found bs ns places s next starts e n below k f)))
+        (below-entered (length found) places k.places.items (next-below w found bs ns left places s n below new k f)))
 
 -- the tasks behind others, by what they were read as
 pub entered-as : (before pushed after : List Task) (ps qs : List (Option ℕ)) (xs ys : List ℕ)

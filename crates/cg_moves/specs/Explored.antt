@@ -50,11 +50,15 @@ AreNextIn w boards ps [] = Unit {0}
 AreNextIn w boards [] (n ∷ ns) = ⊥
 AreNextIn w boards (p ∷ ps) (n ∷ ns) = IsNext w.game (parts w) boards p n × AreNextIn w boards ps ns
 
+-- each board of the list stands there once
+abbrev pub StandOnce : List Grid → Type 0
+StandOnce boards = (i j : ℕ) (p : Grid) → IsAt boards i p → IsAt boards j p → i ≡ j
+
 -- the boards that were explored: each is one of the game and stands there once, and what comes next after each stands there
 pub record IsExplored (w : Way) (boards : List Grid) (next : List NextPlaces) (starts : List ℕ) : Type 0 where
   pub lawful : IsPlay (play w)
   pub has : (p : Grid) → In p boards → w.game.has p ≡ true
-  pub once : (i j : ℕ) (p : Grid) → IsAt boards i p → IsAt boards j p → i ≡ j
+  pub once : StandOnce boards
   pub all : length next ≡ length boards
   pub links : AreNextIn w boards boards next
   pub begins : StandAt boards starts w.starts
@@ -88,10 +92,17 @@ place_of places n = slice_index_or places n None
 abbrev pub unplaced : List (Option ℕ) → List ℕ → List ℕ
 unplaced places ns = filter (λ n. not (is_some (place_of places n))) ns
 
+-- what comes next after each board whose number got no place is left, by numbers
+pub record AreLeft (w : Way) (found : List Grid) (left : List NextPlaces) (places : List (Option ℕ)) : Type 0 where
+  pub size : length left ≡ length found
+  pub next : (n : ℕ) (k : NextPlaces) → n < length found → place_of places n ≡ None → k ≡ slice_index_or left n k
+      → IsNext w.game (parts w) found (board_at found n) k
+
 -- boards that were seen: each is one of those that were found, the numbers of exactly those got a place, which is the board's, and
--- what comes next after each stands there by places before it
-pub record IsSeen (w : Way) (found boards : List Grid) (next : List NextPlaces) (places : List (Option ℕ)) : Type 0 where
+-- what comes next after each stands there by places before it; what comes next after the others is left
+pub record IsSeen (w : Way) (found boards : List Grid) (next left : List NextPlaces) (places : List (Option ℕ)) : Type 0 where
   pub size : length places ≡ length found
   pub placed : (n k : ℕ) → n < length found → (place_of places n ≡ Some k) ↔ IsAt boards k (board_at found n)
   pub among : (p : Grid) → In p boards → In p found
   pub links : AreNext w.game (parts w) [] boards next
+  pub rest : AreLeft w found left places

@@ -8,7 +8,7 @@ ghost use Rattle.cg_moves.specs.Kept.{kept};
 ghost use Rattle.cg_moves.specs.Opened.{IsNext};
 ghost use Rattle.cg_moves.specs.Plays.{MayGo, parts_of, play_of};
 ghost use Rattle.cg_moves.specs.Rules.{In, boards_after, followers};
-ghost use Rattle.cg_moves.specs.declared.player.Player.TheVariants.{Left};
+ghost use Rattle.cg_moves.specs.declared.player.Player.TheVariants.{Left, Right};
 ghost use Rattle.cg_moves.specs.Walks.{AreStarts};
 
 use crate::course::{Course, pieces_in};
@@ -105,21 +105,19 @@ fn number_moves<R: Rules>(
     Ok(())
 }
 
-/// How many boards Left's moves lead to; and the boards that moves lead to, Left's first.
+/// The boards that Left's moves lead to, and those that Right's moves lead to.
 fn followers<R: Rules>(
     alloc: Global,
     rules: &R,
     board: &Board,
-) -> Result<(usize, Vec<Board>), AllocError>
+) -> Result<(Vec<Board>, Vec<Board>), AllocError>
     requires { (R.game rules.now).has board.now ≡ true }
-    ensures lefts { IfOk result (λ all. all.0 ≡ length (boards_after (R.game rules.now) Left board.now)) }
-    ensures boards { IfOk result (λ all. all.1.items ≡ followers (R.game rules.now) board.now) }
+    ensures lefts { IfOk result (λ all. all.0.items ≡ boards_after (R.game rules.now) Left board.now) }
+    ensures rights { IfOk result (λ all. all.1.items ≡ boards_after (R.game rules.now) Right board.now) }
 {
-    let mut boards = rules.moves(alloc, board, Player::Left)?.into_vec();
-    let lefts = boards.len();
-    let mut rights = rules.moves(alloc, board, Player::Right)?.into_vec();
-    boards.append(&mut rights)?;
-    Ok((lefts, boards))
+    let lefts = rules.moves(alloc, board, Player::Left)?.into_vec();
+    let rights = rules.moves(alloc, board, Player::Right)?.into_vec();
+    Ok((lefts, rights))
 }
 
 /// What comes next after the board with the number.
@@ -145,13 +143,15 @@ fn next_after<R: Rules>(
     ensures refused { result ≡ Err ReachFault.Positions → limit < length (kept found.old (flat_map
         (parts_of (R.game rules.now) course) (followers (R.game rules.now) (board_at found.old number)))) }
 {
-    let (lefts, boards) = followers(alloc, rules, found.board(number))?;
+    let (lefts, rights) = followers(alloc, rules, found.board(number))?;
+    let moves = lefts.len() + rights.len();
     let mut next = NextPlaces {
-        lefts,
-        counts: Vec::with_capacity(alloc, boards.len())?,
-        places: Vec::with_capacity(alloc, boards.len())?,
+        lefts: lefts.len(),
+        counts: Vec::with_capacity(alloc, moves)?,
+        places: Vec::with_capacity(alloc, moves)?,
     };
-    number_moves(alloc, rules, course, found, &mut next, boards, limit)?;
+    number_moves(alloc, rules, course, found, &mut next, lefts, limit)?;
+    number_moves(alloc, rules, course, found, &mut next, rights, limit)?;
     Ok(next)
 }
 

@@ -32,7 +32,7 @@ fn open_all<R: Rules>(
     ensures refused { result ≡ Err ReachFault.Positions → limit < length (reached way) }
 {
     let explored = explore(alloc, rules, course, starts, limit)?;
-    Ok(in_their_order(alloc, &explored)?)
+    Ok(in_their_order(alloc, explored)?)
 }
 
 /// The boards that play can come to from the start, which must be a board of the game, as [`reach`] lists them, and for each

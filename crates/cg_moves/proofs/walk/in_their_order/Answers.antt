@@ -1,39 +1,52 @@
 use Rattle.std.proofs.Common.{ℕ, List, length, map, ap, sym, ◌∙◌, subst, arith}
 use Rattle.std.specs.Option.{IsSome}
 use Rattle.std.specs.Prelude.{Option}
-use Rattle.cg_moves.specs.Explored.{place_of}
+use Rattle.cg_moves.specs.Explored.{IsExplored, place_of}
 use Rattle.cg_moves.specs.Grid.{Grid}
 use Rattle.cg_moves.specs.Opened.{StandAt}
 use Rattle.cg_moves.proofs.Members.{carry}
 use Rattle.cg_moves.proofs.PlaceLemmas.{stand-below}
-use Rattle.cg_moves.proofs.SeeLemmas.{places-stand}
+use Rattle.cg_moves.proofs.SeeLemmas.{places-stand, seen-as}
 use Rattle.cg_moves.proofs.StartLemmas.{starts-placed}
 use Rattle.cg_moves.proofs.walk.in_their_order.Goals as goal
 
-pub places_of-requires-clause-below : goal.places_of-requires-clause-below
-places_of-requires-clause-below g c n m =
+pub see_all-requires : goal.see_all-requires
+see_all-requires g c =
+    let P : List Grid → Type 0 = λ z. IsExplored g.way z c.args.explored.next.items c.deref-2.result.now in
+    let Q : List ℕ → Type 0 = λ z. IsExplored g.way c.args.explored.boards.items c.args.explored.next.items z in
+    subst P (sym c.deref.ensures.value) (subst Q (sym c.deref-2.ensures.value) c.requires)
+
+pub places_of-starts-requires-clause-below : goal.places_of-starts-requires-clause-below
+places_of-starts-requires-clause-below g c n m =
+    let seen = c.in_ok-seen.ensures.seen in
+    let size = seen.size in
     let same = ap length c.deref.ensures.value in
-    let size = c.in_ok-seen.ensures.seen.size in
-    let l = stand-below c.args.explored.now.boards.items c.args.explored.now.starts.items g.way.starts c.requires.begins n
-    (carry n c.deref-2.result.now c.args.explored.now.starts.items c.deref-2.ensures.value m) in
+    let long = ap length c.deref-3.ensures.value in
+    let l = stand-below c.args.explored.boards.items c.args.explored.starts.items g.way.starts c.requires.begins n m in
     omega arith
 
-pub places_of-requires-clause-placed : goal.places_of-requires-clause-placed
-places_of-requires-clause-placed g c n m =
+pub places_of-starts-requires-clause-placed : goal.places_of-starts-requires-clause-placed
+places_of-starts-requires-clause-placed g c n m =
     let P : List (Option ℕ) → Type 0 = λ z. IsSome (place_of z n) in
-    subst P (sym c.deref.ensures.value) (starts-placed g.way c.args.explored.now.boards.items c.args.explored.now.next.items
-    c.args.explored.now.starts.items c.requires c.in_ok-seen.seen.boards.items c.in_ok-seen.seen.next.items
-    c.in_ok-seen.seen.places.items c.in_ok-seen.ensures.seen c.in_ok-seen.ensures.boards n
-    (carry n c.deref-2.result.now c.args.explored.now.starts.items c.deref-2.ensures.value m))
+    subst P (sym c.deref-3.ensures.value) (starts-placed g.way c.args.explored.boards.items c.args.explored.next.items
+    c.args.explored.starts.items c.requires c.in_ok-seen.seen.boards.items c.in_ok-seen.seen.next.items
+    c.in_ok-seen.seen.left.items c.in_ok-seen.seen.places.items (seen-as g.way c.deref.result.now c.args.explored.boards.items
+    c.in_ok-seen.seen.boards.items c.in_ok-seen.seen.next.items c.in_ok-seen.seen.left.items c.in_ok-seen.seen.places.items
+    c.deref.ensures.value c.in_ok-seen.ensures.seen) c.in_ok-seen.ensures.boards n m)
 
 pub returns-clause-among : goal.returns-clause-among
-returns-clause-among g c p m = c.in_ok-seen.ensures.seen.among p (carry p c.of.result c.in_ok-seen.seen.boards.items c.of.ensures m)
+returns-clause-among g c p m =
+    let seen = c.in_ok-seen.ensures.seen in
+    carry p c.deref.result.now c.args.explored.boards.items c.deref.ensures.value
+    (seen.among p (carry p c.of.result c.in_ok-seen.seen.boards.items c.of.ensures m))
 
 pub returns-clause-starts : goal.returns-clause-starts
 returns-clause-starts g c =
-    let P : List Grid → Type 0 = λ z. StandAt z c.in_ok-starts.starts.items g.way.starts in
-    subst P (sym c.of.ensures) (places-stand g.way c.args.explored.now.boards.items c.in_ok-seen.seen.boards.items
-    c.in_ok-seen.seen.next.items c.in_ok-seen.seen.places.items c.in_ok-seen.ensures.seen c.args.explored.now.starts.items
-    c.in_ok-starts.starts.items g.way.starts
-    (sym (ap (λ z. map (place_of z) c.args.explored.now.starts.items) c.deref.ensures.value)
-    ∙ sym (ap (map (place_of c.deref.result.now)) c.deref-2.ensures.value) ∙ c.in_ok-starts.ensures) c.requires.begins)
+    let P : List Grid → Type 0 = λ z. StandAt z c.places_of-starts.result.items g.way.starts in
+    subst P (sym c.of.ensures) (places-stand g.way c.args.explored.boards.items c.in_ok-seen.seen.boards.items
+    c.in_ok-seen.seen.next.items c.in_ok-seen.seen.left.items c.in_ok-seen.seen.places.items
+    (seen-as g.way c.deref.result.now c.args.explored.boards.items
+    c.in_ok-seen.seen.boards.items c.in_ok-seen.seen.next.items c.in_ok-seen.seen.left.items c.in_ok-seen.seen.places.items
+    c.deref.ensures.value c.in_ok-seen.ensures.seen) c.args.explored.starts.items c.places_of-starts.result.items g.way.starts
+    (sym (ap (λ z. map (place_of z) c.args.explored.starts.items) c.deref-3.ensures.value) ∙ c.places_of-starts.ensures)
+    c.requires.begins)

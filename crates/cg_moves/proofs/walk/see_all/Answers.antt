@@ -1,7 +1,6 @@
 use Rattle.std.proofs.Common.{◌≡◌, refl, length, replicate, ap, ◌∙◌, arith, rules}
 use Rattle.std.specs.Prelude.{None}
 use Rattle.cg_moves.specs.Explored.{play}
-use Rattle.cg_moves.proofs.Members.{carry}
 use Rattle.cg_moves.proofs.PlaceLemmas.{stand-below}
 use Rattle.cg_moves.proofs.StartLemmas.{begins}
 use Rattle.cg_moves.proofs.StepLemmas.{entered-as, last-task}
@@ -11,24 +10,23 @@ pub enter_all-requires : goal.enter_all-requires
 enter_all-requires g c n m =
     let same = ap length c.deref.ensures.value in
     let size = c.in_ok-from_elem.ensures.len in
-    let l = stand-below c.args.explored.now.boards.items c.args.explored.now.starts.items g.way.starts c.requires.begins n
-    (carry n c.deref-2.result.now c.args.explored.now.starts.items c.deref-2.ensures.value m) in
+    let l = stand-below c.args.boards.now c.args.starts.now g.way.starts c.requires.begins n
+    m in
     omega arith
 
 pub loop-task-init : goal.loop-task-init
 loop-task-init g c =
-    let counted : c.len.result ≡ length c.args.explored.now.boards.items = omega arith in
-    let from = c.in_ok-from_elem.ensures.items_if_clones_equal (search rules) ∙ ap (λ z. replicate z None) counted in
-    let b = begins g.way c.args.explored.now.boards.items c.args.explored.now.next.items c.args.explored.now.starts.items
-    c.requires c.new.result.items c.new-2.result.items c.in_ok-from_elem.field-0.items c.new-tasks.result.items
-    c.enter_all.new.tasks.items c.new.ensures.items c.new-2.ensures.items from c.new-tasks.ensures.items
+    let from = c.in_ok-from_elem.ensures.items_if_clones_equal (search rules) in
+    let b = begins g.way c.args.boards.now c.args.next.items c.args.starts.now
+    c.requires c.in_ok-with_capacity.field-0.items c.in_ok-with_capacity-2.field-0.items c.in_ok-from_elem.field-0.items c.new-tasks.result.items
+    c.enter_all.new.tasks.items c.in_ok-with_capacity.ensures.items c.in_ok-with_capacity-2.ensures.items from c.new-tasks.ensures.items
     (entered-as c.new-tasks.result.items c.new-tasks.result.items c.enter_all.new.tasks.items c.deref.result.now
-    c.in_ok-from_elem.field-0.items c.deref-2.result.now c.args.explored.now.starts.items c.in_ok-enter_all.ensures refl
-    c.deref.ensures.value c.deref-2.ensures.value) in
+    c.in_ok-from_elem.field-0.items c.args.starts.now c.args.starts.now c.in_ok-enter_all.ensures refl
+    c.deref.ensures.value refl) in
     record { seen = b.seen; walk = b.walk; rest = b.rest; below = b.below }
 
 pub step-requires : goal.step-requires
 step-requires g c =
-    let t = last-task (play g.way) c.args.explored.now.boards.items c.loop-task.seen.boards.items c.loop-task.tasks.items
+    let t = last-task (play g.way) c.args.boards.now c.loop-task.seen.boards.items c.loop-task.tasks.items
     c.pop.new.self.items c.in-Some.task c.in-Some.ensures.items c.loop-task.invariant.walk c.loop-task.invariant.below in
-    (c.requires, (c.loop-task.invariant.seen, (t.walk, (t.number, t.below))))
+    (c.requires.lawful, (c.requires.once, (c.loop-task.invariant.seen, (t.walk, (t.number, t.below)))))

@@ -9,11 +9,11 @@ ghost-step g a = g.way
 
 abbrev pub invariant-loop-task : goal.invariant-loop-task
 invariant-loop-task g l = record {
-  seen : IsSeen g.way l.explored.boards.items l.seen.boards.items l.seen.next.items l.seen.places.items;
-  walk : IsWalk (play g.way) l.seen.boards.items (map (visit l.explored.boards.items) l.tasks.items);
-  rest : kept l.seen.boards.items (boards_left (play g.way) (map (visit l.explored.boards.items) l.tasks.items)) ≡ reached g.way;
-  below : AreBelow (length l.explored.boards.items) (map number_of l.tasks.items);
+  seen : IsSeen g.way l.boards l.seen.boards.items l.seen.next.items l.seen.left.items l.seen.places.items;
+  walk : IsWalk (play g.way) l.seen.boards.items (map (visit l.boards) l.tasks.items);
+  rest : kept l.seen.boards.items (boards_left (play g.way) (map (visit l.boards) l.tasks.items)) ≡ reached g.way;
+  below : AreBelow (length l.boards) (map number_of l.tasks.items);
 }
 
 abbrev pub decreases-loop-task : goal.decreases-loop-task
-decreases-loop-task g l = load (play g.way) (map (visit l.explored.boards.items) l.tasks.items)
+decreases-loop-task g l = load (play g.way) (map (visit l.boards) l.tasks.items)
