@@ -60,6 +60,10 @@ other-some : (player : Player) → 0 < other player
 other-some Left = omega arith
 other-some Right = omega arith
 
+pub other-stone-inside : (player : Player) (p : Grid) (i : ℕ) → has_stone p.cells i (other player) ≡ true
+    → i < length p.cells
+other-stone-inside player p i e = stone-inside p.cells i (other player) (other-some player) e
+
 -- ---- the four ways
 
 module _ (player : Player) (p : Grid) where
