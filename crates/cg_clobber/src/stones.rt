@@ -9,8 +9,7 @@ ghost use Rattle.cg_clobber.specs.Lawful.{clobber_lawful};
 ghost use Rattle.cg_clobber.specs.Moves.{clobber, stones};
 ghost use Rattle.cg_clobber.specs.Pairs.{by_pairs, onward, paired, toward_back};
 
-use crate::Way;
-use crate::capturing::captures;
+use crate::capturing::captures_of;
 use crate::putting::{CaptureWords, put_onward, put_toward};
 use crate::symbols::{EMPTY, other, own};
 use cg_moves::{Board, Boards, Pieces, Player, Rules};
@@ -20,19 +19,6 @@ use std::alloc::{AllocError, Global};
 /// The rules of Clobber. The symbols are `.` for an empty cell, `x` for a stone of Left and `o` for one of Right. A player
 /// moves a stone onto a neighbouring one of the other player, which is removed.
 pub struct Clobber;
-
-/// The player's captures.
-fn captures_of(board: &Board, player: Player) -> CaptureWords
-    requires { clobber.has board.now ≡ true }
-    ensures { AreCaptureWords player board.now result }
-{
-    CaptureWords {
-        up: captures(board, player, Way::Up),
-        down: captures(board, player, Way::Down),
-        back: captures(board, player, Way::Back),
-        forth: captures(board, player, Way::Forth),
-    }
-}
 
 /// The boards after the player's moves from each cell onto later ones, from the first cell on.
 fn onward_boards(
