@@ -4,6 +4,7 @@
 mod amazons;
 pub mod laws;
 mod queens;
+mod ranking;
 mod reaching;
 mod reading;
 mod shape;
