@@ -3,3 +3,4 @@ pub mod RayLines
 pub mod Taken
 pub mod QueenMoves
 pub mod ReadLemmas
+pub mod Shooting
