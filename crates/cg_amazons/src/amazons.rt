@@ -7,6 +7,7 @@ ghost use Rattle.cg_amazons.specs.Taking.{Takes};
 
 use crate::queens::{EMPTY, QueenWords, move_all};
 use crate::ranking::rank;
+use crate::rising::rise;
 use crate::shape::Shape;
 use cg_moves::{Board, Boards, Pieces, Player, Rules, in_order};
 use std::alloc::{AllocError, Global};
@@ -82,7 +83,11 @@ impl Rules for Amazons {
         // Read for the proof alone: the board has columns.
         let _size = board.size();
         let boards = sorted_boards_of(alloc, board, player)?;
-        in_order(alloc, board, &boards)
+        if rise(board, &boards) {
+            Ok(Boards::of(boards))
+        } else {
+            in_order(alloc, board, &boards)
+        }
     }
 
     fn pieces(&self, _alloc: Global, _board: &Board) -> Result<Pieces, AllocError> {

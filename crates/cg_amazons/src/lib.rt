@@ -7,6 +7,7 @@ mod queens;
 mod ranking;
 mod reaching;
 mod reading;
+mod rising;
 mod shape;
 mod way;
 
