@@ -4,3 +4,4 @@ pub mod PairMoves
 pub mod PairOrder
 pub mod PairRise
 pub mod CaptureBoards
+pub mod StoneWords

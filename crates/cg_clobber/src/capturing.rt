@@ -7,7 +7,6 @@ ghost use Rattle.cg_clobber.specs.Moves.{captures_that_way, clobber};
 
 use crate::Way;
 use crate::putting::CaptureWords;
-use crate::symbols::{other, own};
 use cg_moves::words::{moved_back, moved_on};
 use cg_moves::{Board, Player};
 
@@ -24,22 +23,27 @@ pub(crate) struct Stones {
     columns: u8,
 }
 
-/// The stones on the board, as the player sees them.
+/// The stones on the board, as the player sees them. The index of `x` is 1, and that of `o` is 2, so each has a word of its own.
 fn stones_of(board: &Board, player: Player) -> Stones
     requires { clobber.has board.now ≡ true }
     ensures { AreStones player board.now result }
 {
-    let stone = own(player);
-    let stones = board.places(stone);
-    let opposing = other(player);
-    let others = board.places(opposing);
+    let planes = board.planes();
     let first = board.first_column();
     let columns = board.columns();
-    Stones {
-        own: stones,
-        others,
-        first_column: first,
-        columns,
+    match player {
+        Player::Left => Stones {
+            own: planes.a,
+            others: planes.b,
+            first_column: first,
+            columns,
+        },
+        Player::Right => Stones {
+            own: planes.b,
+            others: planes.a,
+            first_column: first,
+            columns,
+        },
     }
 }
 
