@@ -1,5 +1,5 @@
 -- Captures in words.
-use Rattle.std.proofs.Common.{◌≡◌, refl, ℕ, suc, ◌+◌, ◌-◌, ◌*◌, ◌%◌, ◌^◌, ◌<◌, ◌≤◌, ◌==◌, ◌&&◌, not, nat_lt, inl, inr, Bool, true, false, if◌then◌else◌, Some, None, List, length, ap, sym, ◌∙◌, arith, bit_and}
+use Rattle.std.proofs.Common.{◌≡◌, refl, ℕ, suc, ◌+◌, ◌-◌, ◌*◌, ◌%◌, ◌^◌, ◌<◌, ◌≤◌, ◌==◌, ◌&&◌, not, nat_lt, inl, inr, Bool, true, false, if◌then◌else◌, Option, Some, None, List, length, ap, sym, ◌∙◌, arith, bit_and}
 use Rattle.std.specs.Prelude.{codes, slice_index}
 use Rattle.std.specs.Int.{bit_at}
 use Rattle.std.specs.Str.{bytes_eq}
@@ -50,6 +50,13 @@ other-some Right = omega arith
 pub other-stone-inside : (player : Player) (p : Grid) (i : ℕ) → has_stone p.cells i (other player) ≡ true
     → i < length p.cells
 other-stone-inside player p i e = stone-inside p.cells i (other player) (other-some player) e
+
+-- a stone that captures stands inside
+pub captures-inside : (player : Player) (p : Grid) (i : ℕ) (o : Option ℕ) → captures_onto player p i o ≡ true
+    → i < length p.cells
+captures-inside player p i None e = cc
+captures-inside player p i (Some j) e =
+    own-stone-inside player p i (and-true (has_stone p.cells i (own player)) (has_stone p.cells j (other player)) e).0
 
 -- ---- the four ways
 

@@ -95,17 +95,19 @@ fn captures_forth(board: &Board, player: Player, stones: Stones) -> u64
     stones.own & moved
 }
 
-/// The player's captures in each way.
+/// The player's captures, by the first of the two cells that a move changes.
 pub(crate) fn captures_of(board: &Board, player: Player) -> CaptureWords
     requires { clobber.has board.now ≡ true }
     ensures { AreCaptureWords player board.now result }
 {
     let stones = stones_of(board, player);
+    let up = captures_up(board, player, stones);
+    let back = captures_back(board, player, stones);
     CaptureWords {
-        up: captures_up(board, player, stones),
         down: captures_down(board, player, stones),
-        back: captures_back(board, player, stones),
         forth: captures_forth(board, player, stones),
+        from_below: moved_back(up, stones.columns),
+        from_next: moved_back(back, 1),
     }
 }
 

@@ -1,5 +1,5 @@
 //! Boards after captures, put behind other boards.
-ghost use Rattle.std.specs.Prelude.{◌≡◌, ◌++◌, ◌<◌, ◌≤◌, IfOk, Some, codes, length, map, true};
+ghost use Rattle.std.specs.Prelude.{◌≡◌, ◌+◌, ◌++◌, ◌<◌, ◌≤◌, IfOk, Some, codes, length, map, true};
 ghost use Rattle.cg_moves.specs.Grid.{with_cells};
 ghost use Rattle.cg_moves.specs.PlaneBits.{IsWithIndex, index_of};
 ghost use Rattle.cg_moves.specs.Words.{Marks};
@@ -15,22 +15,22 @@ use std::alloc::AllocError;
 /// The player's captures in each way, as words.
 #[derive(Drop)]
 pub(crate) struct CaptureWords {
-    /// The stones that capture on the cell above.
-    pub(crate) up: u64,
-    /// On the cell below.
+    /// The stones that capture on the cell below.
     pub(crate) down: u64,
-    /// On the cell before in the row.
-    pub(crate) back: u64,
     /// On the next cell in the row.
     pub(crate) forth: u64,
+    /// The cells on which the stone below captures.
+    pub(crate) from_below: u64,
+    /// On which the stone on the next cell in the row captures.
+    pub(crate) from_next: u64,
 }
 
 impl CaptureWords {
     /// How many captures there are.
     pub(crate) fn count(&self) -> usize {
-        let columns = self.up.count_ones() as usize + self.down.count_ones() as usize;
-        let rows = self.back.count_ones() as usize + self.forth.count_ones() as usize;
-        columns + rows
+        let onward = self.down.count_ones() as usize + self.forth.count_ones() as usize;
+        let toward = self.from_below.count_ones() as usize + self.from_next.count_ones() as usize;
+        onward + toward
     }
 }
 
@@ -176,27 +176,30 @@ pub(crate) fn put_onward(
     }
 }
 
-/// Puts the board after the move of the player's stone on this cell that way behind the boards, if there is such a cell and
+/// Puts the board after the move of the player's stone that stands so many cells behind this one that way behind the boards, if
 /// it captures.
 #[inline(always)]
 fn put_move_from(
     board: &Board,
     player: Player,
-    from: u8,
+    cell: u8,
+    by: u8,
     way: Way,
     word: u64,
     boards: &mut Vec<Board>,
 ) -> Result<(), AllocError>
     requires has { clobber.has board.now ≡ true }
-    requires few { length board.now.cells ≤ 64 }
-    requires word { Marks word (captures_that_way player board.now way) }
+    requires cell { cell < 64 }
+    requires by { by ≤ 64 }
+    requires word { Marks word (λ c. captures_that_way player board.now way (c + by)) }
     ensures { IfOk result (λ _. boards.new.items ≡
-        boards.old.items ++ map (with_cells board.now) (moves_that_way player board.now from way)) }
+        boards.old.items ++ map (with_cells board.now) (moves_that_way player board.now (cell + by) way)) }
 {
-    if from >= board.size() {
-        return Ok(());
+    if bit(word, cell) == 0 {
+        Ok(())
+    } else {
+        put_capture(board, player, cell + by, way, boards)
     }
-    put_move(board, player, from, way, word, boards)
 }
 
 /// Puts the boards after the player's moves onto this cell from the next one in its row and from the one below it behind the
@@ -217,8 +220,15 @@ pub(crate) fn put_toward(
 {
     // Read for the proof alone: the board has its cells in rows and columns.
     let _size = board.size();
-    let next = cell + 1;
-    let below = cell + board.columns();
-    put_move_from(board, player, next, Way::Back, words.back, boards)?;
-    put_move_from(board, player, below, Way::Up, words.up, boards)
+    let columns = board.columns();
+    put_move_from(board, player, cell, 1, Way::Back, words.from_next, boards)?;
+    put_move_from(
+        board,
+        player,
+        cell,
+        columns,
+        Way::Up,
+        words.from_below,
+        boards,
+    )
 }
