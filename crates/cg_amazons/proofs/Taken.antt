@@ -4,13 +4,14 @@ use Rattle.std.specs.Prelude.{All, Contains}
 use Rattle.std.specs.Cmp.Lexicographic.{bytes_decides}
 use Rattle.std.specs.Int.{bit_at}
 use Rattle.std.specs.List.{AllByRecursion}
-use Rattle.std.specs.List.Sorted.{IsStrictlySortedBy}
+use Rattle.std.specs.List.Sorted.{IsPermutation, IsStrictlySortedBy}
 use Rattle.std.specs.Ordering.{ordering_reverse}
 use Rattle.std.specs.Cmp.{IsTotalOrder}
 use Rattle.std.specs.declared.cmp.Ordering.TheVariants.{Less, Greater}
 use Rattle.std.proofs.lemmas.Bool.Decides.{eqb_tells}
 use Rattle.std.proofs.lemmas.Cmp.{nat_list_cmp_total}
 use Rattle.std.proofs.lemmas.List.{map-append}
+use Rattle.std.proofs.lemmas.List.Sorted.{All-permutation, IsPermutation-map, IsPermutation-sym}
 use Rattle.cg_moves.specs.declared.player.Player.{Player}
 use Rattle.cg_moves.specs.declared.player.Player.TheVariants.{Left, Right}
 use Rattle.cg_moves.specs.Grid.{Grid, IsLike, with_cells}
@@ -112,6 +113,22 @@ takes_one p b old new x made put =
   where
     cells : cells_of (old ++ (with_cells p x ∷ [])) ≡ cells_of old ++ (x ∷ [])
     cells = map-append (λ (q : Grid). q.cells) old (with_cells p x ∷ [])
+
+-- in another order
+permuted : {X : Type 0} (xs ys : List X) (x : X) → IsPermutation xs ys → In x xs → In x ys
+permuted {X} xs ys x p m =
+    let P : X → Type 0 = λ z. In z ys in
+    in_all P x xs (All-permutation P ys xs (IsPermutation-sym xs ys p) (all_from P ys (λ z k. k))) m
+
+pub takes_permuted : (p : Grid) (new sorted : List Grid) (Kind : List ℕ → Type 0) → IsPermutation new sorted
+    → Takes p [] new Kind → Takes p [] sorted Kind
+takes_permuted p new sorted Kind q t =
+    let cells : IsPermutation (cells_of new) (cells_of sorted) = IsPermutation-map (λ (g : Grid). g.cells) new sorted q in record {
+      like = λ none. All-permutation (IsLike p) new sorted q (t.like none);
+      kept = λ z m. absurd m;
+      taken = λ z k. permuted (cells_of new) (cells_of sorted) z cells (t.taken z k);
+      only = λ z m. t.only z (permuted (cells_of sorted) (cells_of new) z (IsPermutation-sym (cells_of new) (cells_of sorted) cells) m);
+    }
 
 -- of a board that is like another
 pub takes_like : (p : Grid) (cells : List ℕ) (old new : List Grid) (Kind : List ℕ → Type 0)

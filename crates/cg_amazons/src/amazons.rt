@@ -6,6 +6,8 @@ ghost use Rattle.cg_amazons.specs.Rays.{AreWordsOf};
 ghost use Rattle.cg_amazons.specs.Taking.{Takes};
 
 use crate::queens::{EMPTY, QueenWords, move_all};
+use crate::ranking::rank;
+use crate::rising::rise;
 use crate::shape::Shape;
 use cg_moves::{Board, Boards, Pieces, Player, Rules, in_order};
 use std::alloc::{AllocError, Global};
@@ -58,6 +60,17 @@ fn boards_of(alloc: Global, board: &Board, player: Player) -> Result<Vec<Board>,
     Ok(boards)
 }
 
+/// These boards, sorted so that few steps put them in order.
+fn sorted_boards_of(alloc: Global, board: &Board, player: Player) -> Result<Vec<Board>, AllocError>
+    requires { amazons.has board.now ≡ true }
+    ensures { IfOk result (λ boards. Takes board.now [] boards.items
+        (IsMoveBelow board.now.columns (queen player) board.now.cells (length board.now.cells))) }
+{
+    let mut boards = boards_of(alloc, board, player)?;
+    boards.sort_by_cached_key(|after| rank(board, after))?;
+    Ok(boards)
+}
+
 impl Rules for Amazons {
     ghost use Rattle.cg_amazons.specs.Amazons.{amazons};
     ghost use Rattle.cg_amazons.specs.AmazonsMoves.{amazons_lawful};
@@ -69,8 +82,12 @@ impl Rules for Amazons {
     fn moves(&self, alloc: Global, board: &Board, player: Player) -> Result<Boards, AllocError> {
         // Read for the proof alone: the board has columns.
         let _size = board.size();
-        let boards = boards_of(alloc, board, player)?;
-        in_order(alloc, board, &boards)
+        let boards = sorted_boards_of(alloc, board, player)?;
+        if rise(board, &boards) {
+            Ok(Boards::of(boards))
+        } else {
+            in_order(alloc, board, &boards)
+        }
     }
 
     fn pieces(&self, _alloc: Global, _board: &Board) -> Result<Pieces, AllocError> {

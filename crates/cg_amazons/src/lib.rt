@@ -4,8 +4,10 @@
 mod amazons;
 pub mod laws;
 mod queens;
+mod ranking;
 mod reaching;
 mod reading;
+mod rising;
 mod shape;
 mod way;
 

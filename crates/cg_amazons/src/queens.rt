@@ -1,20 +1,19 @@
 //! The moves of queens and their arrows.
-ghost use Rattle.std.specs.Prelude.{◌≡◌, ◌<◌, ◌≤◌, length, slice_set, Contains, IfOk};
+ghost use Rattle.std.specs.Prelude.{◌≡◌, ◌<◌, ◌≤◌, length, slice_set, IfOk, true};
 ghost use Rattle.cg_moves.specs.Grid.{with_cells};
-ghost use Rattle.cg_amazons.specs.Amazons.{blocked, with_queen};
+ghost use Rattle.cg_moves.specs.PlaneBits.{IsWithIndex};
+ghost use Rattle.cg_amazons.specs.Amazons.{amazons, blocked, with_queen};
 ghost use Rattle.cg_amazons.specs.AmazonsMoves.{IsMoveBelow, IsQueenMove, IsShot};
 ghost use Rattle.cg_amazons.specs.Rays.{AreWordsOf};
 ghost use Rattle.cg_amazons.specs.Taking.{AnyMarked, IfMarked, Takes};
 
 use crate::reaching::reached;
 use crate::shape::Shape;
-use cg_moves::Board;
 use cg_moves::words::{bit, with_bit};
+use cg_moves::{Board, Planes};
 use std::alloc::{AllocError, Global};
 
 pub(crate) const EMPTY: u8 = b'.';
-
-const BLOCKED: u8 = b'#';
 
 /// A board in words: its shape, its empty cells, a player's symbol, and the cells with it.
 #[derive(Clone, Copy)]
@@ -25,15 +24,40 @@ pub(crate) struct QueenWords {
     pub(crate) queens: u64,
 }
 
+/// The words with the cell blocked: its index is 3.
+#[inline(always)]
+fn with_blocked(planes: Planes, cell: u8) -> Planes
+    requires { cell < 64 }
+    ensures { IsWithIndex planes result cell 3 }
+{
+    Planes {
+        a: with_bit(planes.a, cell, 1),
+        b: with_bit(planes.b, cell, 1),
+        c: with_bit(planes.c, cell, 0),
+        d: with_bit(planes.d, cell, 0),
+    }
+}
+
+/// The board after an arrow onto this cell.
+#[inline(always)]
+fn shot(board: &Board, target: u8) -> Board
+    requires has { amazons.has board.now ≡ true }
+    requires target { target < length board.now.cells }
+    ensures { result ≡ with_cells board.now (slice_set board.now.cells target blocked) }
+{
+    let planes = board.planes();
+    let after = with_blocked(planes, target);
+    board.with_planes(board.rows(), board.columns(), after)
+}
+
 /// Puts the board after an arrow onto this cell behind the boards, if it is a target.
 fn shoot_at(
-    alloc: Global,
     board: &Board,
     targets: u64,
     target: u8,
     boards: &mut Vec<Board>,
 ) -> Result<(), AllocError>
-    requires symbol { Contains board.now.symbols blocked }
+    requires has { amazons.has board.now ≡ true }
     requires few { length board.now.cells ≤ 64 }
     requires target { target < length board.now.cells }
     ensures { IfOk result (λ _. Takes board.now boards.old.items boards.new.items
@@ -42,25 +66,18 @@ fn shoot_at(
     if bit(targets, target) == 0 {
         return Ok(());
     }
-    let mut after = board.copy(alloc)?;
-    after.set(target, BLOCKED);
-    boards.push(after)?;
+    boards.push(shot(board, target))?;
     Ok(())
 }
 
 /// Puts the boards after arrows onto the targets behind the boards.
-fn shoot(
-    alloc: Global,
-    board: &Board,
-    targets: u64,
-    boards: &mut Vec<Board>,
-) -> Result<(), AllocError>
-    requires { Contains board.now.symbols blocked }
+fn shoot(board: &Board, targets: u64, boards: &mut Vec<Board>) -> Result<(), AllocError>
+    requires { amazons.has board.now ≡ true }
     ensures { IfOk result (λ _. Takes board.now boards.old.items boards.new.items
         (AnyMarked targets (λ place after. after ≡ slice_set board.now.cells place blocked) (length board.now.cells))) }
 {
     for target in 0..board.size() {
-        shoot_at(alloc, board, targets, target, boards)?;
+        shoot_at(board, targets, target, boards)?;
     }
     Ok(())
 }
@@ -104,7 +121,7 @@ fn move_and_shoot(
     let left = with_bit(words.free, from, 1);
     let free = with_bit(left, to, 0);
     let targets = reached(words.shape, free, to);
-    shoot(alloc, &moved, targets, boards)?;
+    shoot(&moved, targets, boards)?;
     Ok(())
 }
 

@@ -1,6 +1,6 @@
 -- Captures in words.
-use Rattle.std.proofs.Common.{◌≡◌, refl, ℕ, suc, ◌+◌, ◌-◌, ◌*◌, ◌%◌, ◌^◌, ◌<◌, ◌≤◌, ◌==◌, ◌&&◌, not, nat_lt, inl, inr, Bool, true, false, if◌then◌else◌, Some, None, List, length, ap, sym, ◌∙◌, subst, arith, bit_and}
-use Rattle.std.specs.Prelude.{Contains, codes, slice_index}
+use Rattle.std.proofs.Common.{◌≡◌, refl, ℕ, suc, ◌+◌, ◌-◌, ◌*◌, ◌%◌, ◌^◌, ◌<◌, ◌≤◌, ◌==◌, ◌&&◌, not, nat_lt, inl, inr, Bool, true, false, if◌then◌else◌, Option, Some, None, List, length, ap, sym, ◌∙◌, arith, bit_and}
+use Rattle.std.specs.Prelude.{codes, slice_index}
 use Rattle.std.specs.Int.{bit_at}
 use Rattle.std.specs.Str.{bytes_eq}
 use Rattle.std.proofs.lemmas.Bool.{eqb-true, eq-eqb, lt-ltb, ltb-true}
@@ -11,7 +11,7 @@ use Rattle.cg_moves.specs.declared.player.Player.{Player}
 use Rattle.cg_moves.specs.declared.player.Player.TheVariants.{Left, Right}
 use Rattle.cg_moves.specs.Grid.{Grid, is_in_rows}
 use Rattle.cg_moves.specs.Words.{Marks}
-use Rattle.cg_moves.proofs.Same.{and-true, bytes_eq-back}
+use Rattle.cg_moves.proofs.Same.{and-true}
 use Rattle.cg_moves.proofs.WordBits.{marks_both, marks_moved_on, marks_same, marks_without, row_end}
 use Rattle.cg_clobber.specs.declared.way.Way.TheVariants.{Up, Down, Back, Forth}
 use Rattle.cg_clobber.specs.Moves.{captures_onto, captures_that_way, clobber, has_stone, other, own}
@@ -22,19 +22,6 @@ pub wide : (p : Grid) → clobber.has p ≡ true → 0 < p.columns
 wide p has =
     let a = and-true (is_in_rows p) (bytes_eq p.symbols (codes ".xo")) has in
     ltb-true 0 p.columns (and-true (nat_lt 0 p.columns) (length p.cells == p.rows * p.columns) a.0).0
-
-has-symbol : (p : Grid) (s : ℕ) → clobber.has p ≡ true → Contains (codes ".xo") s → Contains p.symbols s
-has-symbol p s has is =
-    let P : List ℕ → Type 0 = λ z. Contains z s in
-    subst P (sym (bytes_eq-back p.symbols (codes ".xo") (and-true (is_in_rows p) (bytes_eq p.symbols (codes ".xo")) has).1)) is
-
-pub has-stone : (player : Player) (p : Grid) (s : ℕ) → clobber.has p ≡ true → s ≡ own player → Contains p.symbols s
-has-stone Left p s has e = has-symbol p s has (1, omega arith, sym e)
-has-stone Right p s has e = has-symbol p s has (2, omega arith, sym e)
-
-pub has-other : (player : Player) (p : Grid) (s : ℕ) → clobber.has p ≡ true → s ≡ other player → Contains p.symbols s
-has-other Left p s has e = has-symbol p s has (2, omega arith, sym e)
-has-other Right p s has e = has-symbol p s has (1, omega arith, sym e)
 
 pub bit_and-below : (a b : ℕ) → a < 2 ^ 64 → bit_and a b < 2 ^ 64
 bit_and-below a b l = let k = and_le_l a b in omega arith
@@ -59,6 +46,17 @@ own-stone-inside player p i e = stone-inside p.cells i (own player) (own-some pl
 other-some : (player : Player) → 0 < other player
 other-some Left = omega arith
 other-some Right = omega arith
+
+pub other-stone-inside : (player : Player) (p : Grid) (i : ℕ) → has_stone p.cells i (other player) ≡ true
+    → i < length p.cells
+other-stone-inside player p i e = stone-inside p.cells i (other player) (other-some player) e
+
+-- a stone that captures stands inside
+pub captures-inside : (player : Player) (p : Grid) (i : ℕ) (o : Option ℕ) → captures_onto player p i o ≡ true
+    → i < length p.cells
+captures-inside player p i None e = cc
+captures-inside player p i (Some j) e =
+    own-stone-inside player p i (and-true (has_stone p.cells i (own player)) (has_stone p.cells j (other player)) e).0
 
 -- ---- the four ways
 

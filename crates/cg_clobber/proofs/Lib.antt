@@ -1,3 +1,7 @@
 pub mod Placing
 pub mod CaptureMarks
 pub mod PairMoves
+pub mod PairOrder
+pub mod PairRise
+pub mod CaptureBoards
+pub mod StoneWords

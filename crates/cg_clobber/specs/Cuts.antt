@@ -39,11 +39,11 @@ other-is Right c e = ap is_stone e
 
 -- ---- the next cell is adjacent, and each adjacent cell is the next one some way
 
-unless-none : (b : Bool) (x j : ℕ) → (if b then None else Some x) ≡ Some j → (b ≡ false) × (x ≡ j)
+pub unless-none : (b : Bool) (x j : ℕ) → (if b then None else Some x) ≡ Some j → (b ≡ false) × (x ≡ j)
 unless-none true x j e = absurd (cc)
 unless-none false x j e = (refl, cc)
 
-if-some : (b : Bool) (x j : ℕ) → (if b then Some x else None) ≡ Some j → (b ≡ true) × (x ≡ j)
+pub if-some : (b : Bool) (x j : ℕ) → (if b then Some x else None) ≡ Some j → (b ≡ true) × (x ≡ j)
 if-some true x j e = (refl, cc)
 if-some false x j e = absurd (cc)
 

@@ -2,67 +2,113 @@
 ghost use Rattle.std.specs.Prelude.{◌≡◌, true};
 ghost use Rattle.cg_moves.specs.Words.{Marks};
 ghost use Rattle.cg_clobber.specs.declared.way.Way.TheVariants.{Up, Down, Back, Forth};
+ghost use Rattle.cg_clobber.specs.CaptureWords.{AreCaptureWords, AreStones};
 ghost use Rattle.cg_clobber.specs.Moves.{captures_that_way, clobber};
 
 use crate::Way;
-use crate::symbols::{other, own};
+use crate::putting::CaptureWords;
 use cg_moves::words::{moved_back, moved_on};
 use cg_moves::{Board, Player};
 
-/// The player's stones that capture on the cell above.
-fn captures_up(board: &Board, player: Player) -> u64
+/// The stones on a board, by whose they are, with what tells which of them are adjacent.
+#[derive(Clone, Copy)]
+pub(crate) struct Stones {
+    /// The player's stones.
+    own: u64,
+    /// The other player's stones.
+    others: u64,
+    /// The cells of the first column.
+    first_column: u64,
+    /// How many columns the board has.
+    columns: u8,
+}
+
+/// The stones on the board, as the player sees them. The index of `x` is 1, and that of `o` is 2, so each has a word of its own.
+fn stones_of(board: &Board, player: Player) -> Stones
     requires { clobber.has board.now ≡ true }
+    ensures { AreStones player board.now result }
+{
+    let planes = board.planes();
+    let first = board.first_column();
+    let columns = board.columns();
+    match player {
+        Player::Left => Stones {
+            own: planes.a,
+            others: planes.b,
+            first_column: first,
+            columns,
+        },
+        Player::Right => Stones {
+            own: planes.b,
+            others: planes.a,
+            first_column: first,
+            columns,
+        },
+    }
+}
+
+/// The player's stones that capture on the cell above.
+fn captures_up(board: &Board, player: Player, stones: Stones) -> u64
+    requires { AreStones player board.now stones }
     ensures { Marks result (captures_that_way player board.now Up) }
 {
-    let stone = own(player);
-    let stones = board.places(stone);
-    let opposing = other(player);
-    let others = board.places(opposing);
-    let columns = board.columns();
-    let moved = moved_on(others, columns);
-    stones & moved
+    // Read for the proof alone: the stones are the player's, and the board has few cells.
+    let _ = player;
+    let _size = board.size();
+    let moved = moved_on(stones.others, stones.columns);
+    stones.own & moved
 }
 
 /// The player's stones that capture on the cell below.
-fn captures_down(board: &Board, player: Player) -> u64
-    requires { clobber.has board.now ≡ true }
+fn captures_down(board: &Board, player: Player, stones: Stones) -> u64
+    requires { AreStones player board.now stones }
     ensures { Marks result (captures_that_way player board.now Down) }
 {
-    let stone = own(player);
-    let stones = board.places(stone);
-    let opposing = other(player);
-    let others = board.places(opposing);
-    let columns = board.columns();
-    let moved = moved_back(others, columns);
-    stones & moved
+    // Read for the proof alone: the stones are the player's, and on this board.
+    let _ = player;
+    let _ = board;
+    let moved = moved_back(stones.others, stones.columns);
+    stones.own & moved
 }
 
 /// The player's stones that capture on the cell before, in their row.
-fn captures_back(board: &Board, player: Player) -> u64
-    requires { clobber.has board.now ≡ true }
+fn captures_back(board: &Board, player: Player, stones: Stones) -> u64
+    requires { AreStones player board.now stones }
     ensures { Marks result (captures_that_way player board.now Back) }
 {
-    let stone = own(player);
-    let stones = board.places(stone);
-    let opposing = other(player);
-    let others = board.places(opposing);
-    let first = board.first_column();
-    let moved = moved_on(others, 1);
-    stones & moved & !first
+    // Read for the proof alone: the stones are the player's, and the board has few cells.
+    let _ = player;
+    let _size = board.size();
+    let moved = moved_on(stones.others, 1);
+    stones.own & moved & !stones.first_column
 }
 
 /// The player's stones that capture on the next cell of their row.
-fn captures_forth(board: &Board, player: Player) -> u64
-    requires { clobber.has board.now ≡ true }
+fn captures_forth(board: &Board, player: Player, stones: Stones) -> u64
+    requires { AreStones player board.now stones }
     ensures { Marks result (captures_that_way player board.now Forth) }
 {
-    let stone = own(player);
-    let stones = board.places(stone);
-    let opposing = other(player);
-    let others = board.places(opposing);
-    let first = board.first_column();
-    let moved = moved_back(others & !first, 1);
-    stones & moved
+    // Read for the proof alone: the stones are the player's, and on this board.
+    let _ = player;
+    let _ = board;
+    let moved = moved_back(stones.others & !stones.first_column, 1);
+    stones.own & moved
+}
+
+/// The player's captures, by the first of the two cells that a move changes.
+pub(crate) fn captures_of(board: &Board, player: Player) -> CaptureWords
+    requires { clobber.has board.now ≡ true }
+    ensures { AreCaptureWords player board.now result }
+{
+    let stones = stones_of(board, player);
+    let up = captures_up(board, player, stones);
+    let back = captures_back(board, player, stones);
+    CaptureWords {
+        down: captures_down(board, player, stones),
+        forth: captures_forth(board, player, stones),
+        from_below: moved_back(up, stones.columns),
+        from_next: moved_back(back, 1),
+    }
 }
 
 /// The player's captures that way: bit i is 1 exactly where a stone of the player stands on cell i and one of the other
@@ -71,10 +117,11 @@ pub fn captures(board: &Board, player: Player, way: Way) -> u64
     requires { clobber.has board.now ≡ true }
     ensures { Marks result (captures_that_way player board.now way) }
 {
+    let stones = stones_of(board, player);
     match way {
-        Way::Up => captures_up(board, player),
-        Way::Down => captures_down(board, player),
-        Way::Back => captures_back(board, player),
-        Way::Forth => captures_forth(board, player),
+        Way::Up => captures_up(board, player, stones),
+        Way::Down => captures_down(board, player, stones),
+        Way::Back => captures_back(board, player, stones),
+        Way::Forth => captures_forth(board, player, stones),
     }
 }

@@ -1,94 +1,112 @@
 //! Boards after captures, put behind other boards.
-ghost use Rattle.std.specs.Prelude.{◌≡◌, ◌++◌, ◌<◌, ◌≤◌, IfOk, IfSome, length, map, true};
+ghost use Rattle.std.specs.Prelude.{◌≡◌, ◌+◌, ◌++◌, ◌<◌, ◌≤◌, IfOk, Some, codes, length, map, true};
 ghost use Rattle.cg_moves.specs.Grid.{with_cells};
+ghost use Rattle.cg_moves.specs.PlaneBits.{IsWithIndex, index_of};
 ghost use Rattle.cg_moves.specs.Words.{Marks};
 ghost use Rattle.cg_clobber.specs.CaptureWords.{AreCaptureWords};
-ghost use Rattle.cg_clobber.specs.Moves.{captures_that_way, clobber, moves_that_way, next_cell, with_capture};
+ghost use Rattle.cg_clobber.specs.Moves.{captures_that_way, clobber, moves_that_way, next_cell, own, with_capture};
 ghost use Rattle.cg_clobber.specs.Pairs.{onward, toward};
 
 use crate::Way;
-use crate::symbols::{EMPTY, own};
-use cg_moves::words::bit;
-use cg_moves::{Board, Player};
-use std::alloc::{AllocError, Global};
+use cg_moves::words::{bit, with_bit};
+use cg_moves::{Board, Planes, Player};
+use std::alloc::AllocError;
 
 /// The player's captures in each way, as words.
 #[derive(Drop)]
 pub(crate) struct CaptureWords {
-    /// The stones that capture on the cell above.
-    pub(crate) up: u64,
-    /// On the cell below.
+    /// The stones that capture on the cell below.
     pub(crate) down: u64,
-    /// On the cell before in the row.
-    pub(crate) back: u64,
     /// On the next cell in the row.
     pub(crate) forth: u64,
+    /// The cells on which the stone below captures.
+    pub(crate) from_below: u64,
+    /// On which the stone on the next cell in the row captures.
+    pub(crate) from_next: u64,
 }
 
-/// The next cell that way, if there is one.
-fn next_cell(board: &Board, from: u8, way: Way) -> Option<u8>
-    requires { from < length board.now.cells }
-    ensures value { result ≡ next_cell way board.now from }
-    ensures inside { IfSome result (λ cell. cell < length board.now.cells) }
+impl CaptureWords {
+    /// How many captures there are.
+    pub(crate) fn count(&self) -> usize {
+        let onward = self.down.count_ones() as usize + self.forth.count_ones() as usize;
+        let toward = self.from_below.count_ones() as usize + self.from_next.count_ones() as usize;
+        onward + toward
+    }
+}
+
+/// The cell onto which the player's stone on this cell captures that way.
+#[inline(always)]
+fn captured(board: &Board, player: Player, from: u8, way: Way) -> u8
+    requires from { from < length board.now.cells }
+    requires captures { captures_that_way player board.now way from ≡ true }
+    ensures value { next_cell way board.now from ≡ Some result }
+    ensures inside { result < length board.now.cells }
 {
-    // Read for the proof alone: the board has its cells in rows and columns.
+    // Read for the proof alone: the stone is the player's, and the board has few cells.
+    let _ = player;
     let _size = board.size();
     match way {
-        Way::Up => {
-            if from < board.columns() {
-                None
-            } else {
-                Some(from - board.columns())
-            }
-        }
-        Way::Down => {
-            let below = from as u16 + board.columns() as u16;
-            if below < board.size() as u16 {
-                Some(below as u8)
-            } else {
-                None
-            }
-        }
-        Way::Back => {
-            if from % board.columns() == 0 {
-                None
-            } else {
-                Some(from - 1)
-            }
-        }
-        Way::Forth => {
-            if from % board.columns() + 1 < board.columns() {
-                Some(from + 1)
-            } else {
-                None
-            }
-        }
+        Way::Up => from - board.columns(),
+        Way::Down => from + board.columns(),
+        Way::Back => from - 1,
+        Way::Forth => from + 1,
+    }
+}
+
+/// The words with the cell empty: its index is 0.
+#[inline(always)]
+fn emptied(planes: Planes, cell: u8) -> Planes
+    requires { cell < 64 }
+    ensures { IsWithIndex planes result cell 0 }
+{
+    Planes {
+        a: with_bit(planes.a, cell, 0),
+        b: with_bit(planes.b, cell, 0),
+        c: with_bit(planes.c, cell, 0),
+        d: with_bit(planes.d, cell, 0),
+    }
+}
+
+/// The words with the player's stone on the cell: the index of `x` is 1, and that of `o` is 2.
+#[inline(always)]
+fn with_stone(planes: Planes, cell: u8, player: Player) -> Planes
+    requires { cell < 64 }
+    ensures { IsWithIndex planes result cell (index_of (codes ".xo") (own player)) }
+{
+    let clear = emptied(planes, cell);
+    match player {
+        Player::Left => Planes {
+            a: with_bit(clear.a, cell, 1),
+            b: clear.b,
+            c: clear.c,
+            d: clear.d,
+        },
+        Player::Right => Planes {
+            a: clear.a,
+            b: with_bit(clear.b, cell, 1),
+            c: clear.c,
+            d: clear.d,
+        },
     }
 }
 
 /// The board after the player's stone on the one cell has moved onto the other.
-fn moved(
-    alloc: Global,
-    board: &Board,
-    player: Player,
-    from: u8,
-    onto: u8,
-) -> Result<Board, AllocError>
+#[inline(always)]
+fn moved(board: &Board, player: Player, from: u8, onto: u8) -> Board
     requires has { clobber.has board.now ≡ true }
     requires from { from < length board.now.cells }
     requires onto { onto < length board.now.cells }
-    ensures { IfOk result (λ after. after ≡ with_cells board.now (with_capture player board.now from onto)) }
+    ensures { result ≡ with_cells board.now (with_capture player board.now from onto) }
 {
-    let mut after = board.copy(alloc)?;
-    after.set(from, EMPTY);
-    after.set(onto, own(player));
-    Ok(after)
+    let planes = board.planes();
+    let left = emptied(planes, from);
+    let both = with_stone(left, onto, player);
+    board.with_planes(board.rows(), board.columns(), both)
 }
 
 /// Puts the board after the move of the player's stone on this cell that way, which captures, behind the boards.
 #[inline(never)]
 fn put_capture(
-    alloc: Global,
     board: &Board,
     player: Player,
     from: u8,
@@ -101,18 +119,14 @@ fn put_capture(
     ensures { IfOk result (λ _. boards.new.items ≡
         boards.old.items ++ map (with_cells board.now) (moves_that_way player board.now from way)) }
 {
-    let Some(onto) = next_cell(board, from, way) else {
-        return Ok(());
-    };
-    let after = moved(alloc, board, player, from, onto)?;
-    boards.push(after)?;
+    let onto = captured(board, player, from, way);
+    boards.push(moved(board, player, from, onto))?;
     Ok(())
 }
 
 /// Puts the board after the move of the player's stone on this cell that way behind the boards, if it captures.
 #[inline(always)]
 fn put_move(
-    alloc: Global,
     board: &Board,
     player: Player,
     from: u8,
@@ -130,14 +144,13 @@ fn put_move(
     if bit(word, from) == 0 {
         Ok(())
     } else {
-        put_capture(alloc, board, player, from, way, boards)
+        put_capture(board, player, from, way, boards)
     }
 }
 
 /// Puts the boards after the player's moves from this cell onto the one below it and the next one in its row behind the
 /// boards, in rising order.
 pub(crate) fn put_onward(
-    alloc: Global,
     board: &Board,
     player: Player,
     cell: u8,
@@ -153,44 +166,45 @@ pub(crate) fn put_onward(
 {
     match player {
         Player::Left => {
-            put_move(alloc, board, player, cell, Way::Down, words.down, boards)?;
-            put_move(alloc, board, player, cell, Way::Forth, words.forth, boards)
+            put_move(board, player, cell, Way::Down, words.down, boards)?;
+            put_move(board, player, cell, Way::Forth, words.forth, boards)
         }
         Player::Right => {
-            put_move(alloc, board, player, cell, Way::Forth, words.forth, boards)?;
-            put_move(alloc, board, player, cell, Way::Down, words.down, boards)
+            put_move(board, player, cell, Way::Forth, words.forth, boards)?;
+            put_move(board, player, cell, Way::Down, words.down, boards)
         }
     }
 }
 
-/// Puts the board after the move of the player's stone on this cell that way behind the boards, if there is such a cell and
+/// Puts the board after the move of the player's stone that stands so many cells behind this one that way behind the boards, if
 /// it captures.
 #[inline(always)]
 fn put_move_from(
-    alloc: Global,
     board: &Board,
     player: Player,
-    from: u8,
+    cell: u8,
+    by: u8,
     way: Way,
     word: u64,
     boards: &mut Vec<Board>,
 ) -> Result<(), AllocError>
     requires has { clobber.has board.now ≡ true }
-    requires few { length board.now.cells ≤ 64 }
-    requires word { Marks word (captures_that_way player board.now way) }
+    requires cell { cell < 64 }
+    requires by { by ≤ 64 }
+    requires word { Marks word (λ c. captures_that_way player board.now way (c + by)) }
     ensures { IfOk result (λ _. boards.new.items ≡
-        boards.old.items ++ map (with_cells board.now) (moves_that_way player board.now from way)) }
+        boards.old.items ++ map (with_cells board.now) (moves_that_way player board.now (cell + by) way)) }
 {
-    if from >= board.size() {
-        return Ok(());
+    if bit(word, cell) == 0 {
+        Ok(())
+    } else {
+        put_capture(board, player, cell + by, way, boards)
     }
-    put_move(alloc, board, player, from, way, word, boards)
 }
 
 /// Puts the boards after the player's moves onto this cell from the next one in its row and from the one below it behind the
 /// boards, in rising order.
 pub(crate) fn put_toward(
-    alloc: Global,
     board: &Board,
     player: Player,
     cell: u8,
@@ -206,8 +220,15 @@ pub(crate) fn put_toward(
 {
     // Read for the proof alone: the board has its cells in rows and columns.
     let _size = board.size();
-    let next = cell + 1;
-    let below = cell + board.columns();
-    put_move_from(alloc, board, player, next, Way::Back, words.back, boards)?;
-    put_move_from(alloc, board, player, below, Way::Up, words.up, boards)
+    let columns = board.columns();
+    put_move_from(board, player, cell, 1, Way::Back, words.from_next, boards)?;
+    put_move_from(
+        board,
+        player,
+        cell,
+        columns,
+        Way::Up,
+        words.from_below,
+        boards,
+    )
 }

@@ -9,30 +9,16 @@ ghost use Rattle.cg_clobber.specs.Lawful.{clobber_lawful};
 ghost use Rattle.cg_clobber.specs.Moves.{clobber, stones};
 ghost use Rattle.cg_clobber.specs.Pairs.{by_pairs, onward, paired, toward_back};
 
-use crate::Way;
-use crate::capturing::captures;
+use crate::capturing::captures_of;
 use crate::putting::{CaptureWords, put_onward, put_toward};
 use crate::symbols::{EMPTY, other, own};
-use cg_moves::{Board, Boards, Pieces, Player, Rules, in_order};
+use cg_moves::{Board, Boards, Pieces, Player, Rules};
 use cg_pieces::{NeighbourRules, pieces};
 use std::alloc::{AllocError, Global};
 
 /// The rules of Clobber. The symbols are `.` for an empty cell, `x` for a stone of Left and `o` for one of Right. A player
 /// moves a stone onto a neighbouring one of the other player, which is removed.
 pub struct Clobber;
-
-/// The player's captures.
-fn captures_of(board: &Board, player: Player) -> CaptureWords
-    requires { clobber.has board.now ≡ true }
-    ensures { AreCaptureWords player board.now result }
-{
-    CaptureWords {
-        up: captures(board, player, Way::Up),
-        down: captures(board, player, Way::Down),
-        back: captures(board, player, Way::Back),
-        forth: captures(board, player, Way::Forth),
-    }
-}
 
 /// The boards after the player's moves from each cell onto later ones, from the first cell on.
 fn onward_boards(
@@ -46,16 +32,15 @@ fn onward_boards(
     ensures { IfOk result (λ boards. boards.items ≡
         map (with_cells board.now) (flat_map (onward player board.now) (counted 0 (length board.now.cells)))) }
 {
-    let mut boards = Vec::new(alloc);
+    let mut boards = Vec::with_capacity(alloc, words.count())?;
     for cell in 0..board.size() {
-        put_onward(alloc, board, player, cell, words, &mut boards)?;
+        put_onward(board, player, cell, words, &mut boards)?;
     }
     Ok(boards)
 }
 
 /// Puts the boards after the player's moves onto each cell from later ones behind the boards, from the last cell on.
 fn put_all_toward(
-    alloc: Global,
     board: &Board,
     player: Player,
     words: &CaptureWords,
@@ -68,7 +53,7 @@ fn put_all_toward(
 {
     let last = board.size() - 1;
     for later in 0..board.size() {
-        put_toward(alloc, board, player, last - later, words, boards)?;
+        put_toward(board, player, last - later, words, boards)?;
     }
     Ok(())
 }
@@ -85,16 +70,16 @@ fn paired_boards(
     ensures { IfOk result (λ boards. boards.items ≡
         map (with_cells board.now) (flat_map (paired player board.now) (counted 0 (length board.now.cells)))) }
 {
-    let mut boards = Vec::new(alloc);
+    let mut boards = Vec::with_capacity(alloc, words.count())?;
     for cell in 0..board.size() {
-        put_onward(alloc, board, player, cell, words, &mut boards)?;
-        put_toward(alloc, board, player, cell, words, &mut boards)?;
+        put_onward(board, player, cell, words, &mut boards)?;
+        put_toward(board, player, cell, words, &mut boards)?;
     }
     Ok(boards)
 }
 
-/// The boards after the player's moves, by the first of the two cells that a move changes, so that they come in rising order.
-/// A move of Left lowers this cell or raises it, and one of Right lowers it.
+/// The boards after the player's moves, by the first of the two cells that a move changes. They are in rising order: a move of
+/// Left lowers this cell or raises it, and one of Right lowers it.
 fn boards_of(alloc: Global, board: &Board, player: Player) -> Result<Vec<Board>, AllocError>
     requires { clobber.has board.now ≡ true }
     ensures { IfOk result (λ boards. boards.items ≡ map (with_cells board.now) (by_pairs player board.now)) }
@@ -103,7 +88,7 @@ fn boards_of(alloc: Global, board: &Board, player: Player) -> Result<Vec<Board>,
     match player {
         Player::Left => {
             let mut boards = onward_boards(alloc, board, player, &words)?;
-            put_all_toward(alloc, board, player, &words, &mut boards)?;
+            put_all_toward(board, player, &words, &mut boards)?;
             Ok(boards)
         }
         Player::Right => paired_boards(alloc, board, player, &words),
@@ -133,7 +118,7 @@ impl Rules for Clobber {
 
     fn moves(&self, alloc: Global, board: &Board, player: Player) -> Result<Boards, AllocError> {
         let boards = boards_of(alloc, board, player)?;
-        in_order(alloc, board, &boards)
+        Ok(Boards::of(boards))
     }
 
     fn pieces(&self, alloc: Global, board: &Board) -> Result<Pieces, AllocError> {

@@ -1,14 +1,15 @@
 //! The moves of Domineering.
 ghost use Rattle.std.specs.Prelude.{◌≡◌, ◌++◌, ◌<◌, IfOk, length, map, true};
 ghost use Rattle.cg_moves.specs.Grid.{with_cells};
+ghost use Rattle.cg_moves.specs.PlaneBits.{IsWithIndex};
 ghost use Rattle.cg_moves.specs.Words.{Marks};
 ghost use Rattle.cg_domineering.specs.Cuts.{dominoes-are};
 ghost use Rattle.cg_domineering.specs.Lawful.{domineering_lawful};
 ghost use Rattle.cg_domineering.specs.Moves.{domineering, dominoes, fits, moves_at, moves_of, other_cell, with_domino};
 
 use crate::fitting::{EMPTY, spots};
-use cg_moves::words::bit;
-use cg_moves::{Board, Boards, Pieces, Player, Rules};
+use cg_moves::words::{bit, with_bit};
+use cg_moves::{Board, Boards, Pieces, Planes, Player, Rules};
 use cg_pieces::{NeighbourRules, pieces};
 use std::alloc::{AllocError, Global};
 
@@ -32,22 +33,36 @@ fn other_cell(board: &Board, player: Player, first: u8) -> u8
     }
 }
 
+/// The words with the cell filled: its index is 1.
+#[inline(always)]
+fn filled(planes: Planes, cell: u8) -> Planes
+    requires { cell < 64 }
+    ensures { IsWithIndex planes result cell 1 }
+{
+    Planes {
+        a: with_bit(planes.a, cell, 1),
+        b: with_bit(planes.b, cell, 0),
+        c: with_bit(planes.c, cell, 0),
+        d: with_bit(planes.d, cell, 0),
+    }
+}
+
 /// The board after the player's domino with this first cell, which fits.
-fn placed(alloc: Global, board: &Board, player: Player, first: u8) -> Result<Board, AllocError>
+fn placed(board: &Board, player: Player, first: u8) -> Board
     requires has { domineering.has board.now ≡ true }
     requires fits { fits player board.now first ≡ true }
-    ensures { IfOk result (λ after. after ≡ with_cells board.now (with_domino player board.now first)) }
+    ensures { result ≡ with_cells board.now (with_domino player board.now first) }
 {
     let other = other_cell(board, player, first);
-    let mut after = board.copy(alloc)?;
-    after.set(first, FILLED);
-    after.set(other, FILLED);
-    Ok(after)
+    let planes = board.planes();
+    let one = filled(planes, first);
+    let both = filled(one, other);
+    board.with_planes(board.rows(), board.columns(), both)
 }
 
 /// Puts the board after the player's domino with this first cell behind the boards, if one fits.
+#[inline(always)]
 fn put_move(
-    alloc: Global,
     board: &Board,
     player: Player,
     spots: u64,
@@ -63,7 +78,7 @@ fn put_move(
     if bit(spots, first) == 0 {
         return Ok(());
     }
-    let after = placed(alloc, board, player, first)?;
+    let after = placed(board, player, first);
     boards.push(after)?;
     Ok(())
 }
@@ -75,9 +90,9 @@ fn boards_of(alloc: Global, board: &Board, player: Player) -> Result<Vec<Board>,
     ensures { IfOk result (λ boards. boards.items ≡ map (with_cells board.now) (moves_of player board.now)) }
 {
     let spots = spots(board, player);
-    let mut boards = Vec::new(alloc);
+    let mut boards = Vec::with_capacity(alloc, spots.count_ones() as usize)?;
     for first in 0..board.size() {
-        put_move(alloc, board, player, spots, first, &mut boards)?;
+        put_move(board, player, spots, first, &mut boards)?;
     }
     Ok(boards)
 }

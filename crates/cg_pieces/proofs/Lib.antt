@@ -26,3 +26,4 @@ pub mod MovingPairs
 pub mod RowWords
 pub mod FrameWords
 pub mod CropWords
+pub mod TwoSet

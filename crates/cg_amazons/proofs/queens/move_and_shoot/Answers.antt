@@ -1,17 +1,17 @@
-use Rattle.std.proofs.Common.{◌≡◌, ◌*◌, subst, sym, ap, ◌∙◌, List, ℕ, length}
-use Rattle.std.specs.Prelude.{Contains, slice_set}
+use Rattle.std.proofs.Common.{◌≡◌, ◌*◌, subst, sym, true, ◌∙◌, length}
+use Rattle.std.specs.Prelude.{slice_set}
 use Rattle.cg_moves.specs.Grid.{Grid}
-use Rattle.cg_amazons.specs.Amazons.{blocked, with_queen}
+use Rattle.cg_amazons.specs.Amazons.{amazons, blocked, with_queen}
 use Rattle.cg_amazons.specs.AmazonsMoves.{queen_long}
 use Rattle.cg_amazons.specs.Taking.{AnyMarked, Takes}
 use Rattle.cg_amazons.proofs.QueenMoves.{free_moved, shots_taken}
-use Rattle.cg_amazons.proofs.Taken.{has-blocked, takes_like}
+use Rattle.cg_amazons.proofs.Taken.{takes_like}
 use Rattle.cg_amazons.proofs.queens.move_and_shoot.Goals as goal
 
 pub shoot-requires : goal.shoot-requires
 shoot-requires c =
-    let P : List ℕ → Type 0 = λ z. Contains z blocked in
-    subst P (sym (ap (λ (q : Grid). q.symbols) c.in_ok-moved.ensures)) (has-blocked c.args.board.now c.requires.words.has)
+    let P : Grid → Type 0 = λ q. amazons.has q ≡ true in
+    subst P (sym c.in_ok-moved.ensures) c.requires.words.has
 
 pub returns : goal.returns
 returns c =

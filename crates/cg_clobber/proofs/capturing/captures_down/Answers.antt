@@ -1,23 +1,10 @@
-use Rattle.std.proofs.Common.{ℕ, ◌+◌, ◌==◌, ◌∙◌, ap, subst}
-use Rattle.std.specs.Prelude.{slice_index}
+use Rattle.std.proofs.Common.{◌+◌, ◌∙◌, ap}
 use Rattle.std.specs.Int.{bit_at}
-use Rattle.cg_moves.specs.Words.{Marks}
-use Rattle.cg_clobber.proofs.CaptureMarks.{has-other, has-stone, down_marks}
+use Rattle.cg_clobber.proofs.CaptureMarks.{down_marks}
 use Rattle.cg_clobber.proofs.capturing.captures_down.Goals as goal
-
-pub places-stones-requires : goal.places-stones-requires
-places-stones-requires c =
-    has-stone c.args.player c.args.board.now c.own-stone.result c.requires c.own-stone.ensures
-
-pub places-others-requires : goal.places-others-requires
-places-others-requires c =
-    has-other c.args.player c.args.board.now c.other-opposing.result c.requires c.other-opposing.ensures
 
 pub returns : goal.returns
 returns c =
-    let P : ℕ → Type 0 = λ s. Marks c.places-stones.result (λ i. slice_index c.args.board.now.cells i == s) in
-    let Q : ℕ → Type 0 = λ s. Marks c.places-others.result (λ i. slice_index c.args.board.now.cells i == s) in
-    let col = c.columns-columns.ensures.value in
-    down_marks c.args.player c.args.board.now c.places-stones.result c.places-others.result c.moved_back-moved.result
-    (subst P c.own-stone.ensures c.places-stones.ensures.places) (subst Q c.other-opposing.ensures c.places-others.ensures.places)
-    (λ i. c.moved_back-moved.ensures i ∙ ap (λ n. bit_at c.places-others.result (i + n)) col)
+    let s = c.requires in
+    down_marks c.args.player c.args.board.now c.args.stones.own c.args.stones.others c.moved_back-moved.result s.own s.others
+    (λ i. c.moved_back-moved.ensures i ∙ ap (λ n. bit_at c.args.stones.others (i + n)) s.columns)

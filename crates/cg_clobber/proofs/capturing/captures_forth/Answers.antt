@@ -1,23 +1,8 @@
-use Rattle.std.proofs.Common.{ℕ, ◌==◌, arith, subst}
-use Rattle.std.specs.Prelude.{slice_index}
-use Rattle.cg_moves.specs.Words.{Marks}
-use Rattle.cg_clobber.proofs.CaptureMarks.{has-other, has-stone, forth_marks, wide}
+use Rattle.cg_clobber.proofs.CaptureMarks.{forth_marks}
 use Rattle.cg_clobber.proofs.capturing.captures_forth.Goals as goal
-
-pub places-stones-requires : goal.places-stones-requires
-places-stones-requires c =
-    has-stone c.args.player c.args.board.now c.own-stone.result c.requires c.own-stone.ensures
-
-pub places-others-requires : goal.places-others-requires
-places-others-requires c =
-    has-other c.args.player c.args.board.now c.other-opposing.result c.requires c.other-opposing.ensures
 
 pub returns : goal.returns
 returns c =
-    let P : ℕ → Type 0 = λ s. Marks c.places-stones.result (λ i. slice_index c.args.board.now.cells i == s) in
-    let Q : ℕ → Type 0 = λ s. Marks c.places-others.result (λ i. slice_index c.args.board.now.cells i == s) in
-    forth_marks c.args.player c.args.board.now c.places-stones.result c.places-others.result c.moved_back-moved.result
-    c.first_column-first.result (wide c.args.board.now c.requires) (omega (arith, c.places-others.type_inv))
-    (omega (arith, c.first_column-first.type_inv))
-    (subst P c.own-stone.ensures c.places-stones.ensures.places) (subst Q c.other-opposing.ensures c.places-others.ensures.places)
-    c.first_column-first.ensures.column c.moved_back-moved.ensures
+    let s = c.requires in
+    forth_marks c.args.player c.args.board.now c.args.stones.own c.args.stones.others c.moved_back-moved.result
+    c.args.stones.first_column s.wide s.others_fit s.first_fits s.own s.others s.first c.moved_back-moved.ensures

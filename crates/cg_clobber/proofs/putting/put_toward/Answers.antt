@@ -11,6 +11,6 @@ returns c =
     let moves = moves_that_way c.args.player p in
     let back = moves (c.args.cell + 1) Back in
     two_listed (with_cells p) c.put_move_from-2.result c.args.boards.now.items c.put_move_from.new.boards.items
-    c.put_move_from-2.new.boards.items back (moves (c.args.cell + c.columns.result) Up) _
-    (ap (λ w. back ++ moves (c.args.cell + w) Up) (sym c.columns.ensures.value)) c.in_ok-put_move_from.ensures
+    c.put_move_from-2.new.boards.items back (moves (c.args.cell + c.columns-columns.result) Up) _
+    (ap (λ w. back ++ moves (c.args.cell + w) Up) (sym c.columns-columns.ensures.value)) c.in_ok-put_move_from.ensures
     c.put_move_from-2.ensures

@@ -1,18 +1,19 @@
-use Rattle.std.proofs.Common.{List, ℕ, ap, subst, sym}
-use Rattle.std.specs.Prelude.{Contains}
-use Rattle.cg_moves.specs.Grid.{Grid}
-use Rattle.cg_domineering.specs.Moves.{filled}
-use Rattle.cg_domineering.proofs.Placing.{has-filled, ok-is}
+use Rattle.std.proofs.Common.{◌∙◌}
+use Rattle.cg_domineering.proofs.Filling.{domino_by}
 use Rattle.cg_domineering.proofs.dominoes.placed.Goals as goal
 
-pub set-requires-clause-symbol : goal.set-requires-clause-symbol
-set-requires-clause-symbol c =
-    let P : Grid → Type 0 = λ q. Contains q.symbols filled in
-    subst P (sym (ok-is c.in_ok-after.after c.args.board.now c.in_ok-after.ensures)) (has-filled c.args.board.now c.requires.has)
+pub with_planes-requires : goal.with_planes-requires
+with_planes-requires c =
+    let h = domino_by c.rows.result c.columns.result c.args.player c.args.board.now c.planes-planes.result c.filled-one.result
+    c.filled-both.result c.args.first c.other_cell-other.result c.rows.ensures.value c.columns.ensures.value c.requires.has
+    c.requires.fits c.other_cell-other.ensures.value c.planes-planes.ensures.grid c.planes-planes.ensures.planes
+    c.filled-one.ensures c.filled-both.ensures in
+    h.grid
 
-pub set-requires-2-clause-symbol : goal.set-requires-2-clause-symbol
-set-requires-2-clause-symbol c =
-    let P : Grid → Type 0 = λ q. Contains q.symbols filled in
-    let Q : List ℕ → Type 0 = λ z. Contains z filled in
-    subst Q (sym (ap (λ (q : Grid). q.symbols) c.set.ensures))
-    (subst P (sym (ok-is c.in_ok-after.after c.args.board.now c.in_ok-after.ensures)) (has-filled c.args.board.now c.requires.has))
+pub returns : goal.returns
+returns c =
+    let h = domino_by c.rows.result c.columns.result c.args.player c.args.board.now c.planes-planes.result c.filled-one.result
+    c.filled-both.result c.args.first c.other_cell-other.result c.rows.ensures.value c.columns.ensures.value c.requires.has
+    c.requires.fits c.other_cell-other.ensures.value c.planes-planes.ensures.grid c.planes-planes.ensures.planes
+    c.filled-one.ensures c.filled-both.ensures in
+    c.with_planes.ensures ∙ h.view

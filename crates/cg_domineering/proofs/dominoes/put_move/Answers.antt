@@ -4,7 +4,7 @@ use Rattle.cg_domineering.proofs.dominoes.put_move.Goals as goal
 
 pub returns : goal.returns
 returns c =
-    one_listed c.args.player c.args.board.now c.in_ok-after.after c.args.first c.args.boards.now.items c.push.new.self.items
+    one_listed c.args.player c.args.board.now c.placed-after.result c.args.first c.args.boards.now.items c.push.new.self.items
     (bit-fits c.args.player c.args.board.now c.args.spots c.args.first c.requires.spots
     (λ e. c.if-bit-eq0.false (c.bit.ensures.value ∙ e)))
-    c.in_ok-after.ensures c.in_ok-push.ensures.items
+    c.placed-after.ensures c.in_ok-push.ensures.items
