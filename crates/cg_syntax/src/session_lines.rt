@@ -3,7 +3,7 @@ ghost use Rattle.std.specs.Prelude.{◌≡◌, ◌≢◌, ◌∷◌, ◌<◌, �
 ghost use Rattle.cg_syntax.specs.SessionLines.{lines_of, is_answered};
 
 use cg_reading::after_blanks;
-use memchr::memchr;
+use memchr::memchr_iter;
 
 /// The first line of a text that isn't empty, and what follows its LF.
 #[inline(always)]
@@ -20,18 +20,33 @@ pub fn first_line(text: &[u8]) -> (&[u8], &[u8])
     }
 }
 
-/// How many bytes stand before the first LF, or in all.
+/// How many bytes stand before the first LF, or in all. An LF among the next 32 bytes is found first.
 #[inline(always)]
 fn line_length(text: &[u8]) -> usize
     ensures within { result ≤ length text.now }
     ensures before { (k : ℕ) → k < result → slice_index text.now k ≢ 10 }
     ensures found { result < length text.now → slice_index text.now result ≡ 10 }
 {
-    memchr(b'\n', text).unwrap_or(text.len())
+    match memchr_iter(b'\n', text).next() {
+        Some(end) => end,
+        None => text.len(),
+    }
 }
 
 /// Whether the line gets an answer: it is neither blank nor a comment.
+#[inline(always)]
 pub fn is_answered(line: &[u8]) -> bool
+    ensures { result ≡ is_answered line.now }
+{
+    match line.split_first() {
+        Some((b'#', _)) => false,
+        _ => is_answered_behind_blanks(line),
+    }
+}
+
+/// Whether the line gets an answer, where blanks may stand in front.
+#[inline(never)]
+fn is_answered_behind_blanks(line: &[u8]) -> bool
     ensures { result ≡ is_answered line.now }
 {
     match after_blanks(line).split_first() {
