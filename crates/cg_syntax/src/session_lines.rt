@@ -1,5 +1,5 @@
 //! The lines of a session.
-ghost use Rattle.std.specs.Prelude.{◌≡◌, ◌≢◌, ◌∷◌, ◌<◌, ◌≤◌, ℕ, length, slice_index};
+ghost use Rattle.std.specs.Prelude.{◌≡◌, ◌≢◌, ◌∷◌, ◌<◌, ◌≤◌, ℕ, List, length, slice_index};
 ghost use Rattle.cg_syntax.specs.SessionLines.{lines_of, is_answered};
 
 use cg_reading::after_blanks;
@@ -20,8 +20,9 @@ pub fn first_line(text: &[u8]) -> (&[u8], &[u8])
     }
 }
 
-/// How many bytes stand before the first LF, or in all. An LF among the next 32 bytes is found first.
-#[inline(always)]
+/// How many bytes stand before the first LF, or in all. An LF among the first 32 bytes is looked for first. This is the
+/// one place that searches, so that the search is inlined here.
+#[inline(never)]
 fn line_length(text: &[u8]) -> usize
     ensures within { result ≤ length text.now }
     ensures before { (k : ℕ) → k < result → slice_index text.now k ≢ 10 }
@@ -33,20 +34,21 @@ fn line_length(text: &[u8]) -> usize
     }
 }
 
-/// Whether the line gets an answer: it is neither blank nor a comment.
+/// Whether the first line of a text gets an answer, which is mostly told by its first byte.
 #[inline(always)]
-pub fn is_answered(line: &[u8]) -> bool
+pub fn is_first_answered(text: &[u8], line: &[u8]) -> bool
+    requires { (lines : List (List ℕ)) × (lines_of text.now ≡ line.now ∷ lines) }
     ensures { result ≡ is_answered line.now }
 {
-    match line.split_first() {
+    match text.split_first() {
         Some((b'#', _)) => false,
-        _ => is_answered_behind_blanks(line),
+        _ => is_answered(line),
     }
 }
 
-/// Whether the line gets an answer, where blanks may stand in front.
+/// Whether the line gets an answer: it is neither blank nor a comment.
 #[inline(never)]
-fn is_answered_behind_blanks(line: &[u8]) -> bool
+fn is_answered(line: &[u8]) -> bool
     ensures { result ≡ is_answered line.now }
 {
     match after_blanks(line).split_first() {
