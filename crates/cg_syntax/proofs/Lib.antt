@@ -28,6 +28,7 @@ pub mod Sheets
 pub mod Resolving
 pub mod SessionSteps
 pub mod LineCuts
+pub mod FirstPlace
 pub mod Trimming
 pub mod OtherLines
 pub mod Counting

@@ -1,5 +1,5 @@
 -- A session line after line.
-use Rattle.std.proofs.Common.{◌≡◌, ℕ, ◌+◌, Bool, true, false, cond, List, [], ◌∷◌, ◌++◌, map, refl, ap, sym, subst, ◌∙◌, append-nil, inl, inr, Result, Ok, Err}
+use Rattle.std.proofs.Common.{◌≡◌, ℕ, ◌+◌, Bool, true, false, cond, List, [], ◌∷◌, ◌++◌, map, refl, ap, sym, subst, ◌∙◌, append-nil, Result, Ok, Err}
 use Rattle.std.specs.Prelude.{OnOk, not}
 use Rattle.cg_syntax.specs.Tree.{Question, Statement, asks}
 use Rattle.cg_syntax.specs.Naming.{Bindings, question_asked}
@@ -7,7 +7,7 @@ use Rattle.cg_syntax.specs.Lines.{Reads}
 use Rattle.cg_syntax.specs.Formats.{ReadsIn, IsColumnIn}
 use Rattle.cg_syntax.specs.Session.{Resolved, Asked_of, Syntax_at, AreLines, IsLine, IsSession, after, answered_in, format_of, none, next, refused, resolved, stated}
 use Rattle.cg_syntax.specs.SessionLines.{lines_of, is_answered, answered_from}
-use Rattle.cg_syntax.specs.SessionViews.{IsPut, Puts, PutsStatement, Steps, line_of, resolved_of}
+use Rattle.cg_syntax.specs.SessionViews.{IsPut, Puts, PutsStatement, line_of, resolved_of}
 use Rattle.cg_syntax.specs.Bound.{bindings_in}
 use Rattle.cg_syntax.specs.declared.format.Format.{Format}
 use Rattle.cg_syntax.specs.declared.format.Format.TheVariants as formats
@@ -110,14 +110,6 @@ goes_on format all number text left old new h puts g rs a =
     ∙ ap (λ (m : ℕ). map line_of old.lines.items ++ (m, resolved_of p.line.asked) ∷ rs) p.number_is
     ∙ ap (λ (r : Resolved). map line_of old.lines.items ++ (number, r) ∷ rs) p.is in
     subst (λ (z : Made). AreLines format [] all z) (sym same) all_of
-
-pub goes_over : (format : Format) (all : List (ℕ × List ℕ)) (number : ℕ) (text : List ℕ) (rest left : List (List ℕ)) (old new : Sheet)
-    → rest ≡ text ∷ left → Steps format number text old new → GoesOn format all number rest old → GoesOn format all (number + 1) left new
-goes_over format all number text rest left old new cut (inl (h, e)) g =
-    subst (λ (z : Sheet). GoesOn format all (number + 1) left z) (sym e)
-    (goes_past format all number text left old h (subst (λ (z : List (List ℕ)). GoesOn format all number z old) cut g))
-goes_over format all number text rest left old new cut (inr (h, puts)) g =
-    goes_on format all number text left old new h puts (subst (λ (z : List (List ℕ)). GoesOn format all number z old) cut g)
 
 -- ---- the format
 

@@ -1,7 +1,6 @@
 -- What sessions of the code stand for.
-use Rattle.std.specs.Prelude.{ℕ, ◌≡◌, ◌⊎◌, true, false, List, [], ◌∷◌, ◌++◌, map}
+use Rattle.std.specs.Prelude.{ℕ, ◌≡◌, List, [], ◌∷◌, ◌++◌, map}
 use Rattle.cg_syntax.specs.Session.{Resolved, Asked_of, Syntax_at, Unknown_at, Too_large, IsLine, resolved, after}
-use Rattle.cg_syntax.specs.SessionLines.{is_answered}
 use Rattle.cg_syntax.specs.Naming.{question_asked}
 use Rattle.cg_syntax.specs.Tree.{Statement}
 use Rattle.cg_syntax.specs.Trees.{question_of}
@@ -44,8 +43,3 @@ pub record Puts (format : Format) (number : ℕ) (text : List ℕ) (old new : Sh
 pub record PutsStatement (number : ℕ) (s : Statement) (old new : Sheet) : Type 0 where
   pub put : IsPut number (resolved (bindings_in old) (question_asked s)) old new
   pub bindings : bindings_in new ≡ after (bindings_in old) s
-
--- a line that gets an answer was put at the end, and one that gets none left the sheet as it was
-abbrev pub Steps : Format → ℕ → List ℕ → Sheet → Sheet → Type 0
-Steps format number text old new =
-    ((is_answered text ≡ false) × (new ≡ old)) ⊎ ((is_answered text ≡ true) × Puts format number text old new)

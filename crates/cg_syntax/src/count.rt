@@ -4,7 +4,7 @@ ghost use Rattle.cg_syntax.specs.Session.{answered_lines};
 ghost use Rattle.cg_syntax.specs.SessionLines.{answered_from, lines_of};
 
 use crate::marks::behind_mark;
-use crate::session_lines::{first_line, is_answered};
+use crate::session_lines::{first_line, is_first_answered};
 
 /// How many lines of the text get an answer, found before any of them is read.
 pub fn answered_count(text: &[u8]) -> u64
@@ -24,7 +24,7 @@ fn count_all(text: &[u8]) -> u64
     let mut rest = text;
     while !rest.is_empty() {
         let (line, behind) = first_line(rest);
-        count += u64::from(is_answered(line));
+        count += u64::from(is_first_answered(rest, line));
         rest = behind;
     }
     count

@@ -4,7 +4,7 @@ ghost use Rattle.cg_syntax.specs.Bound.{IsMeasured, IsSound, bindings_in};
 ghost use Rattle.cg_syntax.specs.Naming.{question_expanded, trees_of_question};
 ghost use Rattle.cg_syntax.specs.Session.{AreLines};
 ghost use Rattle.cg_syntax.specs.SessionLines.{answered_from, is_answered, lines_of};
-ghost use Rattle.cg_syntax.specs.SessionViews.{Puts, PutsStatement, Steps, lines_in};
+ghost use Rattle.cg_syntax.specs.SessionViews.{Puts, PutsStatement, lines_in};
 ghost use Rattle.cg_syntax.specs.Tree.{asks, defines};
 ghost use Rattle.cg_syntax.specs.Trees.{question_of, tree_of};
 ghost use Rattle.cg_syntax.specs.declared.format.Format.TheVariants as formats;
@@ -16,7 +16,7 @@ use crate::found::Statement;
 use crate::line::read_line;
 use crate::query::{Line, Query, SyntaxFault};
 use crate::session::{Asked, SessionLines};
-use crate::session_lines::{first_line, is_answered};
+use crate::session_lines::{first_line, is_first_answered};
 use crate::sheet::Sheet;
 use crate::sizes::{Size, beside, measured};
 use crate::statements::read_statement;
@@ -44,14 +44,16 @@ pub fn read_lines(
     let mut rest = text;
     while !rest.is_empty() {
         let (line, behind) = first_line(rest);
-        put_line(alloc, format, &mut sheet, number, line)?;
+        if is_first_answered(rest, line) {
+            put_line(alloc, format, &mut sheet, number, line)?;
+        }
         number += 1;
         rest = behind;
     }
     Ok(sheet.into_lines())
 }
 
-/// Puts what a line asks at the end of the sheet, if it gets an answer.
+/// Puts what a line that gets an answer asks at the end of the sheet.
 fn put_line(
     alloc: Global,
     format: Format,
@@ -59,13 +61,11 @@ fn put_line(
     number: u64,
     line: &[u8],
 ) -> Result<(), AllocError>
-    requires { IsSound sheet.old }
-    ensures steps { OnOk result (Steps format number line.now sheet.old sheet.new) }
+    requires answered { is_answered line.now ≡ true }
+    requires sound { IsSound sheet.old }
+    ensures puts { OnOk result (Puts format number line.now sheet.old sheet.new) }
     ensures sound { OnOk result (IsSound sheet.new) }
 {
-    if !is_answered(line) {
-        return Ok(());
-    }
     match format {
         Format::One => put_question(alloc, sheet, number, line),
         Format::Two => put_statement(alloc, sheet, number, line),

@@ -1,9 +1,9 @@
 //! The lines of a session.
-ghost use Rattle.std.specs.Prelude.{◌≡◌, ◌≢◌, ◌∷◌, ◌<◌, ◌≤◌, ℕ, length, slice_index};
+ghost use Rattle.std.specs.Prelude.{◌≡◌, ◌≢◌, ◌∷◌, ◌<◌, ◌≤◌, ℕ, List, length, slice_index};
 ghost use Rattle.cg_syntax.specs.SessionLines.{lines_of, is_answered};
 
 use cg_reading::after_blanks;
-use memchr::memchr;
+use memchr::memchr_iter;
 
 /// The first line of a text that isn't empty, and what follows its LF.
 #[inline(always)]
@@ -20,18 +20,35 @@ pub fn first_line(text: &[u8]) -> (&[u8], &[u8])
     }
 }
 
-/// How many bytes stand before the first LF, or in all.
-#[inline(always)]
+/// How many bytes stand before the first LF, or in all. An LF among the first 32 bytes is looked for first. This is the
+/// one place that searches, so that the search is inlined here.
+#[inline(never)]
 fn line_length(text: &[u8]) -> usize
     ensures within { result ≤ length text.now }
     ensures before { (k : ℕ) → k < result → slice_index text.now k ≢ 10 }
     ensures found { result < length text.now → slice_index text.now result ≡ 10 }
 {
-    memchr(b'\n', text).unwrap_or(text.len())
+    match memchr_iter(b'\n', text).next() {
+        Some(end) => end,
+        None => text.len(),
+    }
+}
+
+/// Whether the first line of a text gets an answer, which is mostly told by its first byte.
+#[inline(always)]
+pub fn is_first_answered(text: &[u8], line: &[u8]) -> bool
+    requires { (lines : List (List ℕ)) × (lines_of text.now ≡ line.now ∷ lines) }
+    ensures { result ≡ is_answered line.now }
+{
+    match text.split_first() {
+        Some((b'#', _)) => false,
+        _ => is_answered(line),
+    }
 }
 
 /// Whether the line gets an answer: it is neither blank nor a comment.
-pub fn is_answered(line: &[u8]) -> bool
+#[inline(never)]
+fn is_answered(line: &[u8]) -> bool
     ensures { result ≡ is_answered line.now }
 {
     match after_blanks(line).split_first() {

@@ -1,9 +1,12 @@
-use Rattle.std.proofs.Common.{◌∙◌, arith, sym, subst, ℕ, List, length}
+use Rattle.std.proofs.Common.{◌+◌, ◌∙◌, arith, sym, subst, ℕ, List, ◌∷◌, length}
 use Rattle.std.proofs.lemmas.Bool.{eqb-true}
 use Rattle.std.proofs.lemmas.List.{nil_from_length}
+use Rattle.cg_syntax.specs.Bound.{IsSound}
 use Rattle.cg_syntax.specs.SessionLines.{answered_from, lines_of}
-use Rattle.cg_syntax.proofs.SessionSteps.{GoesOn, goes_first, goes_last, goes_over}
+use Rattle.cg_syntax.specs.declared.sheet.Sheet.{Sheet}
+use Rattle.cg_syntax.proofs.SessionSteps.{GoesOn, goes_first, goes_last, goes_on, goes_past}
 use Rattle.cg_syntax.proofs.resolve.read_lines.Goals as goal
+use Rattle.cg_syntax.proofs.resolve.read_lines.Goals.{then-is_first_answered+in_ok-put_line, else-is_first_answered}
 
 pub loop-rest-init : goal.loop-rest-init
 loop-rest-init c = record {
@@ -13,13 +16,30 @@ loop-rest-init c = record {
 }
 
 pub loop-rest-preserved : goal.loop-rest-preserved
-loop-rest-preserved c = record {
-  bound = omega (arith, c.loop-rest.invariant.bound, c.first_line.ensures.shorter);
-  sound = c.in_ok-put_line.ensures.sound;
-  goes_on = goes_over c.args.format (answered_from c.args.first (lines_of c.args.text.now)) c.loop-rest.number c.first_line.result.0.now
-      (lines_of c.loop-rest.rest.now) (lines_of c.first_line.result.1.now) c.loop-rest.sheet c.put_line.new.sheet
-      c.first_line.ensures.lines c.in_ok-put_line.ensures.steps c.loop-rest.invariant.goes_on;
-}
+loop-rest-preserved c =
+    let all = answered_from c.args.first (lines_of c.args.text.now) in
+    let number = c.loop-rest.number in
+    let old = c.loop-rest.sheet in
+    let line = c.first_line.result.0.now in
+    let left = lines_of c.first_line.result.1.now in
+    let before : GoesOn c.args.format all number (line ∷ left) old =
+    subst (λ (z : List (List ℕ)). GoesOn c.args.format all number z old) c.first_line.ensures.lines c.loop-rest.invariant.goes_on in
+    let sound : IsSound c.if-is_first_answered.sheet = elim c.if-is_first_answered.branch [
+      | then-is_first_answered+in_ok-put_line w ↦ subst IsSound (sym w.sheet-is) w.in_ok-put_line.ensures.sound
+      | else-is_first_answered w ↦ subst IsSound (sym w.sheet-is) c.loop-rest.invariant.sound
+    ] in
+    let behind : GoesOn c.args.format all (number + 1) left c.if-is_first_answered.sheet = elim c.if-is_first_answered.branch [
+      | then-is_first_answered+in_ok-put_line w ↦ subst (λ (z : Sheet). GoesOn c.args.format all (number + 1) left z) (sym w.sheet-is)
+          (goes_on c.args.format all number line left old w.put_line.new.sheet
+          (sym c.is_first_answered.ensures ∙ w.if-is_first_answered.true) w.in_ok-put_line.ensures.puts before)
+      | else-is_first_answered w ↦ subst (λ (z : Sheet). GoesOn c.args.format all (number + 1) left z) (sym w.sheet-is)
+          (goes_past c.args.format all number line left old (sym c.is_first_answered.ensures ∙ w.if-is_first_answered.false) before)
+    ] in
+    record {
+      bound = omega (arith, c.loop-rest.invariant.bound, c.first_line.ensures.shorter);
+      sound = sound;
+      goes_on = behind;
+    }
 
 pub returns : goal.returns
 returns c =
