@@ -14,7 +14,6 @@ pub mod PairSteps
 pub mod SameNumbers
 pub mod Literals
 pub mod Mirrored
-pub mod Translated
 pub mod SignForms
 pub mod Guessing
 pub mod NameRule

@@ -1,8 +1,9 @@
 -- The sums of the options that were found make the sum.
-use Rattle.std.proofs.Common.{inl, inr, ℕ, ap, sym, ◌∙◌, subst, List}
+use Rattle.std.proofs.Common.{◌⊎◌, inl, inr, IsSome, ℕ, ap, sym, ◌∙◌, subst, List}
 use Rattle.cg_cells.specs.Meaning.{Grows}
 use Rattle.cg_cells.specs.Store.{State, thing_at}
-use Rattle.cg_form.specs.Game.{node}
+use Rattle.cg_form.specs.Canonical.{Canonical}
+use Rattle.cg_form.specs.Game.{Game, node}
 use Rattle.cg_form.specs.Sum.{sum}
 use Rattle.cg_nodes.specs.Games.{StandFor, game_at, games_at}
 use Rattle.cg_nodes.specs.Meant.{Meant}
@@ -13,8 +14,8 @@ use Rattle.cg_sum.specs.declared.form.Draft.{Draft}
 use Rattle.cg_sum.specs.declared.found.Sums.{Sums}
 use Rattle.cg_sum.specs.declared.position.Position.{Position}
 use Rattle.cg_sum.proofs.Incomparable.{lefts_apart, rights_apart, sum_apart}
-use Rattle.cg_sum.proofs.PositionSteps.{position_later}
-use Rattle.cg_sum.proofs.Sums.{can-sum_written, option_forms}
+use Rattle.cg_sum.proofs.PositionSteps.{one_number, position_later}
+use Rattle.cg_sum.proofs.Sums.{can-sum_written, option_forms, sum_written-canonical}
 use Rattle.cg_sum.proofs.SumSteps.{holds_later, options_stand}
 
 pub ready_later : {R Q : Type 0} (s : State Meant R) (t : State Meant Q) → Grows (thing_at s) (thing_at t) → (m : Sums)
@@ -57,6 +58,18 @@ module _ {R : Type 0} (s : State Meant R) (m : Sums) (f k : Position) (ready : I
             ∙ ap (λ z. can (node (option_forms g h (written_lefts g) (written_lefts h)) z)) rights_stand.1
             ∙ can-sum_written g h ready.first.written.canonical ready.second.written.canonical n;
       }
+
+  -- where one of the two is a number, the sums of the options are canonical as they stand
+  pub draft_canonical : IsOneNode s f.handle k.handle → IsSome f.number ⊎ IsSome k.number
+      → Canonical (node (games_at s draft.sides.lefts) (games_at s draft.sides.rights))
+  draft_canonical n e =
+      let g = game_at s f.handle in
+      let h = game_at s k.handle in
+      let P : Game → Type 0 = λ z. Canonical z in
+      subst P (sym (ap (λ z. node z (games_at s draft.sides.rights)) lefts_stand.1
+      ∙ ap (λ z. node (option_forms g h (written_lefts g) (written_lefts h)) z) rights_stand.1))
+      (sum_written-canonical g h ready.first.written.canonical ready.second.written.canonical n
+      (one_number s f k ready.first ready.second e))
 
   pub draft_apart : TermsApart s draft
   draft_apart =

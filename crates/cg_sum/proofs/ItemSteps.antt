@@ -11,9 +11,11 @@ use Rattle.cg_cells.specs.Store.{Known, Spends, State, thing_at}
 use Rattle.cg_dyadic.specs.Exact.{IsExact, sum_num}
 use Rattle.cg_dyadic.specs.Number.{Number, exp_of}
 use Rattle.cg_dyadic.specs.declared.fault.RangeFault.{RangeFault}
+use Rattle.cg_form.specs.Canonical.{Canonical}
 use Rattle.cg_form.specs.Game.{Game, node, number}
 use Rattle.cg_form.specs.Sum.{sum}
 use Rattle.cg_nodes.proofs.Later.{stands_game, stands_later}
+use Rattle.cg_nodes.specs.CanForms.{can-fixed}
 use Rattle.cg_nodes.specs.declared.reading.Sides.{Sides}
 use Rattle.cg_nodes.specs.Games.{IsGame, IsInRange, StandsFor, game_at, games_at}
 use Rattle.cg_nodes.specs.Meant.{Meant, form}
@@ -33,6 +35,20 @@ pub sides_as : {R : Type 0} (s : State Meant R) (sides : Sides) (hl hr : List �
 sides_as s sides hl hr g e d is =
     ap (λ z. can (node (games_at s z) (games_at s hr))) e ∙ ap (λ z. can (node (games_at s sides.lefts) (games_at s z))) d
     ∙ is.form
+
+-- sides that are canonical as they stand
+pub written_canonical : {R : Type 0} (s : State Meant R) (sides : Sides) (hl hr : List ℕ) → hl ≡ sides.lefts → hr ≡ sides.rights
+    → Canonical (node (games_at s sides.lefts) (games_at s sides.rights)) → Canonical (node (games_at s hl) (games_at s hr))
+written_canonical s sides hl hr e d c =
+    let P : List ℕ → Type 0 = λ z. Canonical (node (games_at s z) (games_at s hr)) in
+    let Q : List ℕ → Type 0 = λ z. Canonical (node (games_at s sides.lefts) (games_at s z)) in
+    subst P (sym e) (subst Q (sym d) c)
+
+pub written_as : {R : Type 0} (s : State Meant R) (sides : Sides) (hl hr : List ℕ) (g : Game) → hl ≡ sides.lefts
+    → hr ≡ sides.rights → Canonical (node (games_at s sides.lefts) (games_at s sides.rights)) → IsSides s sides g
+    → node (games_at s hl) (games_at s hr) ≡ can g
+written_as s sides hl hr g e d c is =
+    sym (can-fixed (node (games_at s hl) (games_at s hr)) (written_canonical s sides hl hr e d c)) ∙ sides_as s sides hl hr g e d is
 
 -- ---- a later state
 

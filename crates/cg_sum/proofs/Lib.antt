@@ -1,3 +1,4 @@
+pub mod Translated
 pub mod Sums
 pub mod Incomparable
 pub mod Positions

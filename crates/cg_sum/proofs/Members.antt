@@ -20,7 +20,7 @@ pub not_none : (o : Option ℕ) → IsSome o → o ≡ None → ⊥
 not_none None s e = cc
 not_none (Some x) s e = cc
 
-pub some_of : (o : Option ℕ) → IsSome o → (x : ℕ) × (o ≡ Some x)
+pub some_of : {A : Type 0} (o : Option A) → IsSome o → (x : A) × (o ≡ Some x)
 some_of None s = absurd cc
 some_of (Some x) s = (x, refl)
 

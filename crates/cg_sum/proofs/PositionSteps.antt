@@ -1,5 +1,5 @@
 -- The positions of a game, as they were read.
-use Rattle.std.proofs.Common.{◌≡◌, ◌⊎◌, inl, inr, ℕ, suc, ◌+◌, ◌<◌, arith, ap, sym, ◌∙◌, subst, List, [], ◌∷◌, ◌++◌, Option, Some, None, get_or, length, take, drop}
+use Rattle.std.proofs.Common.{◌≡◌, ◌⊎◌, inl, inr, ℕ, suc, ◌+◌, ◌<◌, arith, ap, sym, ◌∙◌, subst, List, [], ◌∷◌, ◌++◌, Option, IsSome, Some, None, get_or, length, take, drop}
 use Rattle.std.specs.Prelude.{MatchOption}
 use Rattle.std.proofs.lemmas.List.{get_or-map, length-map, map-append}
 use Rattle.std.proofs.lemmas.List.Elements.{All-get_or, All-push}
@@ -18,7 +18,8 @@ use Rattle.cg_sum.specs.Progress.{ArePositions, AreInTurn, HasOption, IsOneNode,
 use Rattle.cg_sum.specs.Written.{IsClosed, written, written_lefts, written_rights}
 use Rattle.cg_sum.specs.declared.position.Position.{Position}
 use Rattle.cg_sum.proofs.ItemLoops.{games_split}
-use Rattle.cg_sum.proofs.Members.{are_games-take, has_read, take_next}
+use Rattle.cg_sum.proofs.Members.{are_games-take, has_read, some_of, take_next}
+use Rattle.cg_sum.proofs.Sums.{IsNumber}
 use Rattle.cg_sum.proofs.SumSteps.{left_written, right_written, written_later}
 
 -- ---- a list that is read up to some place
@@ -94,6 +95,17 @@ pub one_node : {R : Type 0} (s : State Meant R) (f k : Position) → IsPosition 
     → (f.number ≡ None) ⊎ (k.number ≡ None) → IsOneNode s f.handle k.handle
 one_node s f k isf isk (inl e) = inl (node_is s f isf e)
 one_node s f k isf isk (inr e) = inr (node_is s k isk e)
+
+number_at : {R : Type 0} (s : State Meant R) (p : Position) → IsPosition s p → IsSome p.number → IsNumber (game_at s p.handle)
+number_at s p is some =
+    let (x, e) = some_of p.number some in
+    let P : Game → Type 0 = λ z. IsNumber z in
+    subst P (sym (number_is s p is x e)) tt
+
+pub one_number : {R : Type 0} (s : State Meant R) (f k : Position) → IsPosition s f → IsPosition s k
+    → IsSome f.number ⊎ IsSome k.number → IsNumber (game_at s f.handle) ⊎ IsNumber (game_at s k.handle)
+one_number s f k isf isk (inl e) = inl (number_at s f isf e)
+one_number s f k isf isk (inr e) = inr (number_at s k isk e)
 
 -- ---- options
 

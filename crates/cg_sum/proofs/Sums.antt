@@ -1,5 +1,5 @@
 -- Canonical forms of sums, negatives and multiples, from those of the options.
-use Rattle.std.proofs.Common.{◌≡◌, ◌⊎◌, inl, inr, refl, ap, sym, ◌∙◌, arith, ℕ, ◌+◌, suc, pos, List, [], ◌∷◌, ◌++◌, map}
+use Rattle.std.proofs.Common.{◌≡◌, ◌⊎◌, inl, inr, refl, ap, sym, ◌∙◌, arith, ℕ, ◌+◌, suc, pos, subst, List, [], ◌∷◌, ◌++◌, map}
 use Rattle.std.proofs.lemmas.Int.{ints}
 use Rattle.cg_dyadic.specs.Exact.{IsNegative, IsSum}
 use Rattle.cg_dyadic.specs.Number.{Number, exp_of, whole}
@@ -14,6 +14,7 @@ use Rattle.cg_form.specs.Translate.{translated}
 use Rattle.cg_nodes.specs.Spelled.{can}
 use Rattle.cg_form.proofs.Negative.{negative-options, sum-negative}
 use Rattle.cg_form.proofs.Order.{le-fold}
+use Rattle.cg_form.proofs.Shifted.{canonical-shifted}
 use Rattle.cg_form.proofs.Preorder.{equal_trans, le_trans}
 use Rattle.cg_form.proofs.Sum.{sum-options}
 use Rattle.cg_form.proofs.SumLaws.{le-sum_second, sum_comm, sum_nothing}
@@ -23,6 +24,7 @@ use Rattle.cg_form.proofs.Translation.{translation}
 use Rattle.cg_nodes.specs.Games.{IsNode}
 use Rattle.cg_sum.specs.Written.{written_lefts, written_rights}
 use Rattle.cg_nodes.proofs.Forms.{can-node, can-same}
+use Rattle.cg_sum.proofs.Translated.{node_shifted}
 use Rattle.cg_nodes.specs.CanForms.{can-equal, can-fixed}
 
 -- ---- lists
@@ -173,3 +175,24 @@ can-sum_written (options ls rs) (number y) c d n =
     ap (λ z. can (node z (option_forms (options ls rs) (number y) (to_list rs) []))) (commuted y (to_list ls))
     ∙ (ap (λ z. can (node (map (λ a. can (sum (number y) a)) (to_list ls)) z)) (commuted y (to_list rs))
     ∙ (can-translated y (options ls rs) c.0.no_number ∙ can-sum_comm (number y) (options ls rs)))
+
+-- the game is a number
+abbrev pub IsNumber : Game → Type 0
+IsNumber (number x) = Unit {0}
+IsNumber (options ls rs) = ⊥
+
+-- where one of the two is a number and the other is none, the forms of the sums of the written options are canonical as they stand
+pub sum_written-canonical : (g h : Game) → Canonical g → Canonical h → IsNode g ⊎ IsNode h → IsNumber g ⊎ IsNumber h
+    → Canonical (node (option_forms g h (written_lefts g) (written_lefts h)) (option_forms g h (written_rights g) (written_rights h)))
+sum_written-canonical (number x) (number y) c d (inl n) e = absurd n
+sum_written-canonical (number x) (number y) c d (inr n) e = absurd n
+sum_written-canonical (options ls rs) (options cs ds) c d n (inl e) = absurd e
+sum_written-canonical (options ls rs) (options cs ds) c d n (inr e) = absurd e
+sum_written-canonical (number x) (options cs ds) c d n e =
+    let P : Game → Type 0 = λ z. Canonical z in
+    subst P (sym (node_shifted x cs ds d)) (canonical-shifted x (options cs ds) d)
+sum_written-canonical (options ls rs) (number y) c d n e =
+    let P : Game → Type 0 = λ z. Canonical z in
+    subst P (sym (ap (λ z. node z (option_forms (options ls rs) (number y) (to_list rs) [])) (commuted y (to_list ls))
+    ∙ (ap (λ z. node (map (λ a. can (sum (number y) a)) (to_list ls)) z) (commuted y (to_list rs))
+    ∙ node_shifted y ls rs c))) (canonical-shifted y (options ls rs) c)

@@ -1,5 +1,5 @@
 //! The item of the sum of two positions.
-ghost use Rattle.std.specs.Prelude.{◌≡◌, ◌⊎◌, ◌+◌, ◌≤◌, MatchOption, IfOk, None, OnOk, Some, [], ◌∷◌};
+ghost use Rattle.std.specs.Prelude.{◌≡◌, ◌⊎◌, ◌+◌, ◌≤◌, MatchOption, IfOk, IsSome, IsTrue, None, OnOk, Some, [], ◌∷◌};
 ghost use Rattle.cg_canon.specs.Items.{made as made_at};
 ghost use Rattle.cg_canon.specs.Made.{ItemsMade};
 ghost use Rattle.cg_canon.specs.Works.{work_state};
@@ -9,7 +9,7 @@ ghost use Rattle.cg_nodes.specs.Spelled.{can, game_meaning};
 ghost use Rattle.cg_canon.specs.SumItems.{sum_item as item_of_sum};
 ghost use Rattle.cg_sum.specs.Progress.{IsNoteOf, IsOneNode, IsSumReady};
 
-use crate::form::form_item;
+use crate::form::{form_item, written_item};
 use crate::found::Sums;
 use crate::gather::draft_of_sum;
 use crate::pairs::pair;
@@ -196,7 +196,15 @@ fn noted_item<B: BoardForms, S: CellStore<GameFacts<B>>>(
     Ok(sum)
 }
 
-// Makes the item of f + k from the sums of their options, where one of the two is no number.
+// Whether one of the two is a number.
+fn has_number(f: &Position, k: &Position) -> bool
+    ensures { IsTrue result → IsSome f.now.number ⊎ IsSome k.now.number }
+{
+    f.number.is_some() || k.number.is_some()
+}
+
+// Makes the item of f + k from the sums of their options, where one of the two is no number. The sum of a number and a game
+// that is none is canonical as it stands, with the sums of the number and the options in the order of these options.
 fn made_item<B: BoardForms, S: CellStore<GameFacts<B>>>(
     alloc: Global,
     work: &mut Work<B, S>,
@@ -214,5 +222,8 @@ fn made_item<B: BoardForms, S: CellStore<GameFacts<B>>>(
     ensures more { (work_state S.state work.old).spare ≤ (work_state S.state work.new).spare }
 {
     let draft = draft_of_sum(alloc, f, k, sums)?;
+    if has_number(f, k) {
+        return written_item(alloc, work, &draft, 1);
+    }
     form_item(alloc, work, &draft, 1)
 }

@@ -1,6 +1,6 @@
 use Rattle.cg_names.proofs.NameRule.{name-is, one_name, one_sign}
 use Rattle.cg_names.proofs.StarredUps.{ups-plus_star}
-use Rattle.cg_names.proofs.Translated.{can-shifted}
+use Rattle.cg_canon.proofs.Translated.{can-shifted}
 use Rattle.cg_names.proofs.laws.names.Goals as goal
 
 pub returns : goal.returns
