@@ -20,3 +20,4 @@ pub mod Ranking
 pub mod Forming
 pub mod Dominating
 pub mod Telling
+pub mod Translated

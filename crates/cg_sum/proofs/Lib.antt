@@ -1,4 +1,3 @@
-pub mod Translated
 pub mod Sums
 pub mod Incomparable
 pub mod Positions

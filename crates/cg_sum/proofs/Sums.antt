@@ -24,7 +24,7 @@ use Rattle.cg_form.proofs.Translation.{translation}
 use Rattle.cg_nodes.specs.Games.{IsNode}
 use Rattle.cg_sum.specs.Written.{written_lefts, written_rights}
 use Rattle.cg_nodes.proofs.Forms.{can-node, can-same}
-use Rattle.cg_sum.proofs.Translated.{node_shifted}
+use Rattle.cg_canon.proofs.Translated.{node_shifted}
 use Rattle.cg_nodes.specs.CanForms.{can-equal, can-fixed}
 
 -- ---- lists
