@@ -1,26 +1,23 @@
 -- A whole less the dominated options: its value, its canonical form, and its terms.
-use Rattle.std.proofs.Common.{◌≡◌, refl, ℕ, zero, suc, ◌<◌, arith, inl, inr, ap, sym, ◌∙◌, subst, Some, List, [], ◌∷◌, take, drop, get_or, length, nat_eq, Bool, true, false, cond}
-use Rattle.std.specs.Cmp.Lexicographic.{pointwise}
+use Rattle.std.proofs.Common.{◌≡◌, refl, ℕ, zero, suc, ◌<◌, arith, inl, inr, ap, sym, ◌∙◌, subst, Some, List, [], ◌∷◌, ◌++◌, ◌+◌, take, drop, get_or, length, Bool, true, false, cond}
 use Rattle.std.proofs.lemmas.Bool.{cases_lt}
-use Rattle.std.proofs.lemmas.Bool.Decides.{Decides-eqb}
-use Rattle.std.proofs.lemmas.Slice.Eq.{slice_eq-Decides}
 use Rattle.cg_form.specs.Best.{Best}
-use Rattle.cg_form.specs.Bypass.{AllCovered, Grown, Replaces}
+use Rattle.cg_form.specs.Bypass.{Fine, Replaces, kept}
 use Rattle.cg_form.specs.Game.{Among, Game, lefts, node, number, rights}
 use Rattle.cg_form.specs.Order.{Equal}
 use Rattle.cg_form.specs.Simple.{NoNumber}
 use Rattle.cg_form.specs.Structure.{Before, Rises}
-use Rattle.cg_form.proofs.Among.{carry, lefts-node, rights-node}
+use Rattle.cg_form.proofs.Among.{among-append, carry, lefts-node, rights-node}
 use Rattle.cg_form.proofs.EqualGames.{le-equal}
 use Rattle.cg_form.proofs.Preorder.{equal_back, equal_refl, equal_trans, le-cofinal, le_refl}
 use Rattle.cg_form.proofs.Sides.{side_refl}
 use Rattle.cg_form.proofs.Structure.{before_not_same}
 use Rattle.cg_cells.specs.Store.{Spends, State}
 use Rattle.cg_nodes.specs.CanForms.{can-canonical, can-equal, can-unique}
-use Rattle.cg_nodes.specs.Games.{AreGames, games_at}
+use Rattle.cg_nodes.specs.Games.{AreGames, IsGame, game_at, games_at}
 use Rattle.cg_nodes.specs.Meant.{Meant}
 use Rattle.cg_nodes.specs.Spelled.{can}
-use Rattle.cg_nodes.proofs.Later.{are_games_later, games_later, nothing_spent}
+use Rattle.cg_nodes.proofs.Later.{are_games_later, game_later, games_later, nothing_spent, spends_then}
 use Rattle.cg_canon.specs.declared.profile.Profile.{Profile}
 use Rattle.cg_canon.specs.declared.terms.FirstTerm.{FirstTerm}
 use Rattle.cg_canon.specs.declared.terms.Term.{Term}
@@ -31,9 +28,9 @@ use Rattle.cg_canon.specs.Candidates.{AreApartByTerm, of_term}
 use Rattle.cg_canon.specs.Profiles.{HasCuts}
 use Rattle.cg_canon.specs.Terms.{NoneComparable}
 use Rattle.cg_canon.specs.Wholes.{WholeHolds, whole_game}
-use Rattle.cg_canon.proofs.Against.{own_games}
+use Rattle.cg_canon.proofs.Against.{own_games, whole_same}
 use Rattle.cg_canon.proofs.CandidateLaws.{none_of_none}
-use Rattle.cg_canon.proofs.Forming.{candidates_replace}
+use Rattle.cg_canon.proofs.Outlining.{game_of_item, games_take_suc}
 
 -- ---- the value
 
@@ -179,23 +176,53 @@ undominated s t u ls rs us vs xs ys p f a b gr gu gv l r never cuts nl nr ex ey 
       same = can_equal g h equal;
     }))
 
--- ---- where nothing was bypassed
+-- ---- where nothing is bypassed
+
+-- the options of the whole at s may stand as they are; t is later
+pub record AllFine {R : Type 0} (s t : State Meant R) (w : Whole) (left : Bool) (hs : List ℕ) : Type 0 where
+  pub spends : Spends 0 s t
+  pub fine : (x : Game) → Among x (games_at s hs) → Fine left (whole_game s w) x
+
+pub fine_none : {R : Type 0} (s : State Meant R) (w : Whole) (left : Bool) → AllFine s s w left []
+fine_none s w left = record { spends = nothing_spent s; fine = λ x m. absurd m }
+
+pub fine_more : {R : Type 0} (s t u : State Meant R) (w : Whole) (v : Verdicts) (left : Bool) (hs : List ℕ) (i k : ℕ)
+    → WholeHolds s w v → AllFine s t w left (take i hs) → AreGames s hs → i < length hs → k ≡ get_or hs i k → Spends 0 t u
+    → Fine left (whole_game t w) (game_at t k) → AllFine s u w left (take (i + 1) hs)
+fine_more s t u w v left hs i k h a games l e b f =
+    let V : ℕ → Type 0 = λ z. IsGame s z in
+    let known : IsGame s k = subst V (sym e) (game_of_item s hs i k games l) in
+    let P : Game → Type 0 = λ z. Fine left z (game_at t k) in
+    let Q : Game → Type 0 = λ z. Fine left (whole_game s w) z in
+    let one = subst Q (game_later s t a.spends.known k known) (subst P (whole_same 0 s t w v h a.spends) f) in
+    let next : i + 1 ≡ suc i = omega arith in
+    let list : games_at s (take (i + 1) hs) ≡ games_at s (take i hs) ++ game_at s k ∷ [] =
+    ap (λ n. games_at s (take n hs)) next ∙ games_take_suc s hs i k l ∙ ap (λ z. games_at s (take i hs) ++ game_at s z ∷ []) (sym e) in
+    record {
+      spends = spends_then 0 0 s t u a.spends b;
+      fine = λ x m. elim (among-append x (games_at s (take i hs)) (game_at s k ∷ []) (carry x (games_at s (take (i + 1) hs)) (games_at s (take i hs) ++ game_at s k ∷ []) list m)) [
+        | inl j ↦ a.fine x j
+        | inr j ↦ elim j [
+          | inl q ↦ subst Q (sym q) one
+          | inr n ↦ absurd n
+        ]
+      ];
+    }
 
 -- the own options of the whole at s, which are their own best, stand in their own place
-pub replace_themselves : {R : Type 0} (s t : State Meant R) (w : Whole) (v : Verdicts) (left : Bool) (hs us : List ℕ)
-    → WholeHolds s w v → Spends 0 s t → hs ≡ us → us ≡ cond left w.lefts.now w.rights.now
-    → Grown left (whole_game s w) [] (games_at t hs)
-    → AllCovered left (whole_game s w) (games_at t hs) (games_at s (cond left w.lefts.now w.rights.now))
+pub replace_themselves : {R : Type 0} (s t : State Meant R) (w : Whole) (v : Verdicts) (left : Bool) (us : List ℕ)
+    → WholeHolds s w v → Spends 0 s t → us ≡ cond left w.lefts.now w.rights.now
+    → ((x : Game) → Among x (games_at s (cond left w.lefts.now w.rights.now)) → Fine left (whole_game s w) x)
     → Best left (games_at s (cond left w.lefts.now w.rights.now)) (games_at s (cond left w.lefts.now w.rights.now))
     → Replaces left (whole_game s w) (games_at s (cond left w.lefts.now w.rights.now)) (games_at t us)
-replace_themselves s t w v left hs us h k e f grown covered best =
+replace_themselves s t w v left us h k e fine best =
     let own : List ℕ = cond left w.lefts.now w.rights.now in
     let games = own_games s s w v left own h (nothing_spent s) refl in
-    let stay : games_at t us ≡ games_at s own = ap (games_at t) f ∙ games_later s t k.known own games in
-    let P : List Game → Type 0 = λ z. Best left z z in
-    candidates_replace left (whole_game s w) (games_at s own) (games_at t hs) (games_at t us) (games_at t us) grown covered
-    (ap (games_at t) (sym e)) (subst P (sym stay) best)
-
--- what `==` says of two lists of handles
-pub same_handles : (xs ys : List ℕ) (r : Bool) → r ≡ pointwise nat_eq xs ys → r ≡ true → xs ≡ ys
-same_handles xs ys r e t = (slice_eq-Decides Decides-eqb xs ys r e).0 t
+    let stay : games_at t us ≡ games_at s own = ap (games_at t) e ∙ games_later s t k.known own games in
+    let P : List Game → Type 0 = λ z. Best left (games_at s own) z in
+    record {
+      candidates = games_at s own;
+      covered = record { each = λ c m. kept m };
+      fine = fine;
+      best = subst P (sym stay) best;
+    }

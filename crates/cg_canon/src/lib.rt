@@ -20,6 +20,7 @@ mod reach;
 mod recent;
 mod reduce;
 mod rest;
+mod staying;
 mod substitutes;
 mod terms;
 mod told;

@@ -1,7 +1,7 @@
 //! The canonical form of a whole, found but not yet made.
 //!
 //! First the dominated options of the whole are left out, and then the reversible ones are bypassed. What a bypass brings in may
-//! dominate others, or be dominated; where there is nothing of the kind, the options are the best already.
+//! dominate others, or be dominated; where no option is reversible, the options are the best already.
 ghost use Rattle.std.specs.Prelude.{◌≡◌, IfOk, cond, false, true};
 ghost use Rattle.cg_form.specs.Best.{Best};
 ghost use Rattle.cg_form.specs.Bypass.{Replaces};
@@ -17,14 +17,15 @@ ghost use Rattle.cg_canon.specs.Works.{work_state};
 
 use crate::best::best_of;
 use crate::bypass::candidates;
-use crate::candidate::handles;
 use crate::dominated::best_own;
+use crate::staying::all_stay;
 use crate::substitutes::Options;
 use crate::terms::FirstTerm;
 use crate::whole::{Verdicts, Whole};
 use crate::work::Work;
 use cg_cells::CellStore;
 use cg_nodes::{BoardForms, GameFacts};
+use smallvec::SmallVec;
 use std::alloc::{AllocError, Global};
 
 /// The options of a canonical form.
@@ -51,11 +52,10 @@ fn replaced<B: BoardForms, S: CellStore<GameFacts<B>>>(
     ensures holds { WholeHolds (work_state S.state work.new) whole.now verdicts.new }
     ensures spends { Spends 0 (work_state S.state work.old) (work_state S.state work.new) }
 {
-    let all = candidates(alloc, work, whole, verdicts, left)?;
-    let options = handles(alloc, all.as_slice())?;
-    if options.as_slice() == whole.own(left) {
-        return Ok(options);
+    if all_stay(alloc, work, whole, verdicts, left)? {
+        return SmallVec::from_slice(alloc, whole.own(left));
     }
+    let all = candidates(alloc, work, whole, verdicts, left)?;
     best_of(alloc, work, left, all.as_slice())
 }
 
