@@ -4,7 +4,7 @@ use Rattle.std.specs.List.{flat_map}
 use Rattle.cg_moves.specs.declared.course.Course.{Course}
 use Rattle.cg_moves.specs.declared.course.Course.TheVariants.{Moves, Pieces}
 use Rattle.cg_moves.specs.declared.opened.NextPlaces.{NextPlaces}
-use Rattle.cg_moves.specs.Explored.{AreNextIn, IsExplored, Numbers, Way, board_at, parts, play, reached}
+use Rattle.cg_moves.specs.Explored.{AreAlone, AreNextIn, IsExplored, Numbers, Way, board_at, parts, play, reached, with_parts}
 use Rattle.cg_moves.specs.Found.{AreAlike}
 use Rattle.cg_moves.specs.Grid.{Grid}
 use Rattle.cg_moves.specs.Kept.{kept}
@@ -15,7 +15,8 @@ use Rattle.cg_moves.specs.Walks.{AreStarts}
 use Rattle.cg_moves.proofs.ComesAfter.{reached-has, reached-next, reached-symbols, start-reached}
 use Rattle.cg_moves.proofs.KeptLemmas.{kept-among, kept-append, kept-longer}
 use Rattle.cg_moves.proofs.KeptOnce.{kept-fewer_kept, kept-once}
-use Rattle.cg_moves.proofs.Members.{carry, in-append}
+use Rattle.cg_moves.proofs.Members.{carry, in-append, in-flat_map, in_flat_mapped}
+use Rattle.cg_moves.proofs.NumberLemmas.{kept-alone}
 use Rattle.cg_moves.proofs.PlaceLemmas.{at-board, at-in, at-kept, stand-wider}
 
 -- ---- what comes next
@@ -79,11 +80,13 @@ module _ (w : Way) where
     pub some : length next ≤ length found
     pub links : AreNextIn w found found next
     pub begins : StandAt found starts w.starts
+    pub alone : AreAlone (parts w) found
 
   module _ (lawful : IsPlay (play w)) (h : AreStarts (play w) w.starts) (limit : ℕ) where
     pub exploring-begun : (none found : List Grid) (empty starts : List ℕ) (next : List NextPlaces) → none ≡ [] → empty ≡ []
-        → next ≡ [] → Numbers limit none found empty starts w.starts → Exploring limit found next starts
-    exploring-begun none found empty starts next e f k n =
+        → next ≡ [] → Numbers limit none found empty starts w.starts → AreAlone (parts w) w.starts
+        → Exploring limit found next starts
+    exploring-begun none found empty starts next e f k n alone =
         let P : List NextPlaces → Type 0 = λ z. AreNextIn w found found z in
         let Q : List Grid → Type 0 = λ z. StandAt z [] [] in
         let R : List ℕ → Type 0 = λ z. StandAt none z [] in
@@ -96,6 +99,11 @@ module _ (w : Way) where
           some = omega arith;
           links = subst P (sym k) tt;
           begins = n.places [] (subst R (sym f) tt);
+          alone = λ q m. elim (kept-among [] w.starts q (carry q found (kept [] w.starts)
+              (n.found ∙ ap (λ z. kept z w.starts) e) m)) [
+                | inl nothing ↦ absurd nothing
+                | inr one ↦ alone q one
+              ];
         }
 
     pub starts-alike : (none : List Grid) → none ≡ [] → AreAlike (none ++ w.starts)
@@ -147,11 +155,23 @@ module _ (w : Way) where
         new-reached p m = reached-next (play w) lawful w.starts h this p (found-reached this this-found)
             (carry p (flat_map (parts w) (followers w.game this)) ((play w).next this) (sym (next-parts w.game w.course this)) m)
 
-        pub exploring-alike : AreAlike (found ++ flat_map (parts w) (followers w.game (board_at found number)))
-        exploring-alike p q m n =
-            let xs = flat_map (parts w) (followers w.game (board_at found number)) in
-            let go : (y : Grid) → In y (found ++ xs) → y.symbols ≡ h.symbols = λ y k. reached-symbols (play w) lawful w.starts h y
-            (elim (in-append y found xs k) [ inl o ↦ found-reached y o | inr o ↦ new-reached y o ]) in
+        pub exploring-alike : ((q : Grid) → In q (followers w.game (board_at found number))
+            → q.symbols ≡ (board_at found number).symbols)
+            → AreAlike (found ++ flat_map (with_parts (parts w)) (followers w.game (board_at found number)))
+        exploring-alike same p q m n =
+            let after = followers w.game (board_at found number) in
+            let xs = flat_map (with_parts (parts w)) after in
+            let here = reached-symbols (play w) lawful w.starts h (board_at found number)
+            (found-reached (board_at found number) (at-in found number (board_at found number) (at-board found number left))) in
+            let next : (y : Grid) → In y xs → y.symbols ≡ h.symbols = λ y k.
+            (let (s, o, e) = in-flat_map (with_parts (parts w)) y after k in elim e [
+              | inl e ↦ ap (λ z. z.symbols) e ∙ same s o ∙ here
+              | inr part ↦ reached-symbols (play w) lawful w.starts h y (new-reached y (in_flat_mapped (parts w) y s after o part))
+            ]) in
+            let go : (y : Grid) → In y (found ++ xs) → y.symbols ≡ h.symbols = λ y k. elim (in-append y found xs k) [
+              | inl o ↦ reached-symbols (play w) lawful w.starts h y (found-reached y o)
+              | inr o ↦ next y o
+            ] in
             go p m ∙ sym (go q n)
 
         pub exploring-refused : limit < length (kept found (flat_map (parts w) (followers w.game (board_at found number))))
@@ -166,8 +186,9 @@ module _ (w : Way) where
         pub exploring-more : (new : List Grid) (more : NextPlaces) (after : List NextPlaces)
             → new ≡ kept found (flat_map (parts w) (followers w.game (board_at found number))) → length new ≤ limit
             → IsNext w.game (parts w) new (board_at found number) more → after ≡ next ++ (more ∷ [])
+            → ((s q : Grid) → In s (followers w.game (board_at found number)) → In q (parts w s) → parts w q ≡ q ∷ [])
             → Exploring limit new after starts
-        exploring-more new more after is within i e =
+        exploring-more new more after is within i e each =
             let xs = flat_map (parts w) (followers w.game (board_at found number)) in
             let wider : (n : ℕ) (p : Grid) → IsAt found n p → IsAt new n p = λ n p m.
             (let P : List Grid → Type 0 = λ z. IsAt z n p in subst P (sym is) (at-kept found xs n p m)) in
@@ -187,4 +208,6 @@ module _ (w : Way) where
                   (links-front new found new next wider (links-wider found new wider found next x.links))
                   (subst K is_next (wider number (board_at found number) (at-board found number left))) i);
               begins = stand-wider found new wider starts w.starts x.begins;
+              alone = kept-alone (parts w) found new (followers w.game (board_at found number))
+                  (followers w.game (board_at found number)) is x.alone (λ s m. m) each;
             }

@@ -8,15 +8,15 @@ use Rattle.cg_moves.specs.declared.fault.ReachFault.{ReachFault}
 use Rattle.cg_moves.specs.declared.fault.ReachFault.TheVariants.{Positions}
 use Rattle.cg_moves.specs.declared.opened.NextPlaces.{NextPlaces}
 use Rattle.cg_moves.specs.declared.player.Player.TheVariants.{Left, Right}
-use Rattle.cg_moves.specs.Explored.{Numbers, NumbersParts, board_at}
+use Rattle.cg_moves.specs.Explored.{AreAlone, Numbers, NumbersParts, board_at, with_parts}
 use Rattle.cg_moves.specs.Found.{AreAlike}
 use Rattle.cg_moves.specs.Grid.{Grid}
 use Rattle.cg_moves.specs.Kept.{kept, one_more}
 use Rattle.cg_moves.specs.Opened.{IsAt, IsNext, StandAt}
 use Rattle.cg_moves.specs.Rules.{GameRules, In, boards_after, followers}
-use Rattle.cg_moves.proofs.KeptLemmas.{kept-among, kept-append, kept-length}
+use Rattle.cg_moves.proofs.KeptLemmas.{kept-among, kept-append, kept-length, one_more-there}
 use Rattle.cg_moves.proofs.Members.{carry, in-append, in-append_left, in-append_right, in-flat_map, in_flat_mapped, in_one}
-use Rattle.cg_moves.proofs.PlaceLemmas.{at-one_more, board-at, stand-append, stand-wider}
+use Rattle.cg_moves.proofs.PlaceLemmas.{at-in, at-one_more, board-at, stand-append, stand-wider}
 use Rattle.cg_moves.proofs.Places.{in-take, in_read, split_read, take_next}
 
 -- ---- some boards, and then others
@@ -48,6 +48,14 @@ pub numbers-as : (limit : ℕ) (a b : List Grid) (xs ys : List ℕ) (ps qs : Lis
 numbers-as limit a b xs ys ps qs e f = let P : List Grid → Type 0 = λ z. Numbers limit a b xs ys z in subst P e f
 
 -- ---- boards one after another, of which some were numbered
+
+-- fewer boards
+pub alike-less : (old some all : List Grid) → AreAlike (old ++ all) → ((q : Grid) → In q some → In q all) → AreAlike (old ++ some)
+alike-less old some all h s p q m n =
+    let go : (x : Grid) → In x (old ++ some) → In x (old ++ all) = λ x k. elim (in-append x old some k) [
+      | inl o ↦ in-append_left x old all o
+      | inr o ↦ in-append_right x old all (s x o)
+    ] in h p q (go p m) (go q n)
 
 -- those that were found, and others of a list, are among those that were there and the list
 pub alike-more : (old found all some : List Grid) → AreAlike (old ++ all)
@@ -101,6 +109,29 @@ passed_on x y r e f g = cc
 
 -- ---- all parts of boards, one board after another
 
+pub kept-alone : (cut : Grid → List Grid) (a b boards some : List Grid) → b ≡ kept a (flat_map cut some) → AreAlone cut a
+    → ((s : Grid) → In s some → In s boards) → ((s q : Grid) → In s boards → In q (cut s) → cut q ≡ q ∷ []) → AreAlone cut b
+kept-alone cut a b boards some is h among each q m =
+    elim (kept-among a (flat_map cut some) q (carry q b (kept a (flat_map cut some)) is m)) [
+      | inl there ↦ h q there
+      | inr one ↦ (let (s, n, o) = in-flat_map cut q some one in each s q (among s n) o)
+    ]
+
+-- a board that was found and is its own only part
+pub known-alone : (cut : Grid → List Grid) (limit : ℕ) (found : List Grid) (before after : NextPlaces) (number : ℕ) (p : Grid)
+    → IsAt found number p → length found ≤ limit → cut p ≡ p ∷ [] → after.lefts ≡ before.lefts
+    → after.counts.items ≡ before.counts.items ++ (1 ∷ []) → after.places.items ≡ before.places.items ++ (number ∷ [])
+    → NumbersParts limit cut found found before after (p ∷ [])
+known-alone cut limit found before after number p m within alone lefts counts places =
+    let same : p ∷ [] ≡ flat_map cut (p ∷ []) = ap (λ z. z ++ []) (sym alone) in
+    record {
+      lefts = lefts;
+      counts = counts ∙ ap (λ z. before.counts.items ++ (length z ∷ [])) (sym alone);
+      numbers = numbers-as limit found found before.places.items after.places.items (p ∷ []) (flat_map cut (p ∷ [])) same
+          (numbers-one limit found found before.places.items after.places.items p number
+          (sym (one_more-there found p (at-in found number p m))) m within places);
+    }
+
 module _ (cut : Grid → List Grid) where
   pub parts-then : (limit : ℕ) (a b c : List Grid) (x y z : NextPlaces) (ps qs : List Grid) → NumbersParts limit cut a b x y ps
       → NumbersParts limit cut b c y z qs → NumbersParts limit cut a c x z (ps ++ qs)
@@ -122,11 +153,17 @@ module _ (cut : Grid → List Grid) where
         subst P (sym (take_next boards k p below read)) (parts-then limit a b c x y z (take k boards) (p ∷ []) f g)
 
     pub parts-alike : (limit : ℕ) (a b : List Grid) (x y : NextPlaces) → NumbersParts limit cut a b x y (take k boards)
-        → AreAlike (a ++ flat_map cut boards) → AreAlike (b ++ cut p)
-    parts-alike limit a b x y f h = alike-more a b (flat_map cut boards) (cut p) h
-        (found-among a b (flat_map cut boards) (flat_map cut (take k boards)) f.numbers.found
-        (λ q m. let (s, n, o) = in-flat_map cut q (take k boards) m in in_flat_mapped cut q s boards (in-take boards k s n) o))
-        (λ q m. in_flat_mapped cut q p boards (in_read boards k p below read) m)
+        → AreAlike (a ++ flat_map (with_parts cut) boards) → AreAlike (b ++ with_parts cut p)
+    parts-alike limit a b x y f h = alike-more a b (flat_map (with_parts cut) boards) (with_parts cut p) h
+        (found-among a b (flat_map (with_parts cut) boards) (flat_map cut (take k boards)) f.numbers.found
+        (λ q m. let (s, n, o) = in-flat_map cut q (take k boards) m in
+        in_flat_mapped (with_parts cut) q s boards (in-take boards k s n) (inr o)))
+        (λ q m. in_flat_mapped (with_parts cut) q p boards (in_read boards k p below read) m)
+
+    -- those that were found are each its own only part, where the parts of boards are
+    pub parts-alone : (limit : ℕ) (a b : List Grid) (x y : NextPlaces) → NumbersParts limit cut a b x y (take k boards)
+        → AreAlone cut a → ((s q : Grid) → In s boards → In q (cut s) → cut q ≡ q ∷ []) → AreAlone cut b
+    parts-alone limit a b x y f h each = kept-alone cut a b boards (take k boards) f.numbers.found h (in-take boards k) each
 
     pub parts-refused : (limit : ℕ) (a b : List Grid) (x y : NextPlaces) → NumbersParts limit cut a b x y (take k boards)
         → limit < length (kept b (cut p)) → limit < length (kept a (flat_map cut boards))
@@ -153,16 +190,17 @@ module _ (r : GameRules) (cut : Grid → List Grid) (found : List Grid) (number 
   pub right-among : (q : Grid) → In q rights → In q all_next
   right-among q m = carry q (lefts ++ rights) all_next both (in-append_right q lefts rights m)
 
-  parts-among : (some : List Grid) → ((q : Grid) → In q some → In q all_next) → (q : Grid) → In q (flat_map cut some)
-      → In q (flat_map cut all_next)
-  parts-among some among q m = let (s, n, o) = in-flat_map cut q some m in in_flat_mapped cut q s all_next (among s n) o
-
   all-parts : flat_map cut all_next ≡ flat_map cut lefts ++ flat_map cut rights
   all-parts = ap (flat_map cut) (sym both) ∙ flat_map-append cut lefts rights
 
-  pub left-alike : AreAlike (found ++ flat_map cut all_next) → AreAlike (found ++ flat_map cut lefts)
-  left-alike h = alike-more found found (flat_map cut all_next) (flat_map cut lefts) h
-      (λ q m. in-append_left q found (flat_map cut all_next) m) (parts-among lefts left-among)
+  all-among : (some : List Grid) → ((q : Grid) → In q some → In q all_next) → (q : Grid) → In q (flat_map (with_parts cut) some)
+      → In q (flat_map (with_parts cut) all_next)
+  all-among some among q m =
+      let (s, n, o) = in-flat_map (with_parts cut) q some m in in_flat_mapped (with_parts cut) q s all_next (among s n) o
+
+  pub left-alike : AreAlike (found ++ flat_map (with_parts cut) all_next) → AreAlike (found ++ flat_map (with_parts cut) lefts)
+  left-alike h = alike-less found (flat_map (with_parts cut) lefts) (flat_map (with_parts cut) all_next) h
+      (all-among lefts left-among)
 
   pub left-refused : (limit : ℕ) → limit < length (kept found (flat_map cut lefts))
       → limit < length (kept found (flat_map cut all_next))
@@ -172,10 +210,16 @@ module _ (r : GameRules) (cut : Grid → List Grid) (found : List Grid) (number 
       omega arith
 
   module _ (limit : ℕ) (new : List Grid) (x y : NextPlaces) (f : NumbersParts limit cut found new x y lefts) where
-    pub right-alike : AreAlike (found ++ flat_map cut all_next) → AreAlike (new ++ flat_map cut rights)
-    right-alike h = alike-more found new (flat_map cut all_next) (flat_map cut rights) h
-        (found-among found new (flat_map cut all_next) (flat_map cut lefts) f.numbers.found (parts-among lefts left-among))
-        (parts-among rights right-among)
+    pub right-alike : AreAlike (found ++ flat_map (with_parts cut) all_next)
+        → AreAlike (new ++ flat_map (with_parts cut) rights)
+    right-alike h = alike-more found new (flat_map (with_parts cut) all_next) (flat_map (with_parts cut) rights) h
+        (found-among found new (flat_map (with_parts cut) all_next) (flat_map cut lefts) f.numbers.found
+        (λ q m. let (s, n, o) = in-flat_map cut q lefts m in
+        in_flat_mapped (with_parts cut) q s all_next (left-among s n) (inr o)))
+        (all-among rights right-among)
+
+    pub right-alone : AreAlone cut found → ((s q : Grid) → In s all_next → In q (cut s) → cut q ≡ q ∷ []) → AreAlone cut new
+    right-alone h each = kept-alone cut found new all_next lefts f.numbers.found h left-among each
 
     pub right-refused : limit < length (kept new (flat_map cut rights)) → limit < length (kept found (flat_map cut all_next))
     right-refused many =

@@ -10,7 +10,7 @@ use Rattle.cg_moves.specs.declared.player.Player.TheVariants.{Left, Right}
 use Rattle.cg_moves.specs.Grid.{Grid, with_cells}
 use Rattle.cg_moves.specs.Kept.{kept}
 use Rattle.cg_moves.specs.PieceReach.{all_piece_reached, piece_reach_of}
-use Rattle.cg_moves.specs.Plays.{IsPlay, MayGo, next_pieces, pieces_after, play_of}
+use Rattle.cg_moves.specs.Plays.{IsPlay, MayGo, next_pieces, parts_of, pieces_after, play_of}
 use Rattle.cg_moves.specs.Reach.{all_reached, reach_of}
 use Rattle.cg_moves.specs.Rules.{GameRules, In, IsCut, IsLawful, boards_after, followers}
 use Rattle.cg_moves.specs.Walks.{AreStarts}
@@ -32,6 +32,12 @@ module _ (r : GameRules) (lawful : IsLawful r) where
       let go : (player : Player) → In q (boards_after r player p) → q.symbols ≡ p.symbols = λ player k.
       (let (cells, n, e) = in-map (with_cells p) q (r.moves player p) k in ap (λ z. z.symbols) e) in
       elim (in-append q (boards_after r Left p) (boards_after r Right p) m) [ inl k ↦ go Left k | inr k ↦ go Right k ]
+
+  -- each part of a board is its own only part
+  pub part-alone : (course : Course) → MayGo r course → (p q : Grid) → r.has p ≡ true → In q (parts_of r course p)
+      → parts_of r course q ≡ q ∷ []
+  part-alone Moves may p q has m = refl
+  part-alone Pieces may p q has m = (let cut = lawful.cut may in cut.alone p q has m)
 
   pub by-moves : IsPlay (play_of r Moves)
   by-moves = record {

@@ -1,6 +1,6 @@
 -- Boards that were found, with their numbers in a map by their keys.
 use Rattle.std.proofs.Common.{◌≡◌, refl, ℕ, zero, suc, cond, ◌⊎◌, inl, inr, ⊎_elim, true, false, List, [], ◌∷◌, ◌++◌, length, ap, sym, ◌∙◌, subst}
-use Rattle.std.specs.Prelude.{None, Some}
+use Rattle.std.specs.Prelude.{IfSome, None, Option, Some}
 use Rattle.std.specs.HashMap.{HashMap, get}
 use Rattle.std.proofs.lemmas.Bool.{cases_Bool, cond-false, cond-true}
 use Rattle.cg_moves.specs.declared.key.BoardKey.{BoardKey}
@@ -101,3 +101,8 @@ grids-more boards p all g q m = elim (in-append q boards (p ∷ []) m) [
   | inl there ↦ all q there
   | inr last ↦ (let P : Grid → Type 0 = λ z. IsGrid z in subst P (sym (in_one q p last)) g)
 ]
+
+-- what holds of each value that an option can have
+pub if_some : {X : Type 0} (P : X → Type 0) (o : Option X) → ((x : X) → o ≡ Some x → P x) → IfSome o P
+if_some P (Some x) h = h x refl
+if_some P None h = tt

@@ -31,10 +31,6 @@ front-length : (c : ℕ) (rows : List (List ℕ)) → length (first_row (in_fron
 front-length c [] = omega arith
 front-length c (row ∷ rows) = omega arith
 
-front-behind : (c : ℕ) (rows : List (List ℕ)) → rows_behind (in_front c rows) ≡ rows_behind rows
-front-behind c [] = refl
-front-behind c (row ∷ rows) = refl
-
 front-cells : (c : ℕ) (rows : List (List ℕ)) → cells_of (in_front c rows) ≡ c ∷ cells_of rows
 front-cells c [] = refl
 front-cells c (row ∷ rows) = refl
@@ -68,10 +64,6 @@ drop-end (x ∷ xs) (suc i) h = drop-end xs i (omega arith)
 -- ---- the length of the first row
 
 module _ (text : List ℕ) (i c : ℕ) (within : i < length text) (read : c ≡ get_or text i 0) where
-  pub first-bar : c ≡ bar → length (first_row (cut (drop i text))) ≡ 0
-  first-bar e = ap (λ z. length (first_row (cut z))) (drop-next text i c within read)
-      ∙ ap (λ z. length (first_row z)) (cut-bar c (drop (i + 1) text) e)
-
   pub first-more : (c ≡ bar → ⊥) → length (first_row (cut (drop i text))) ≡ length (first_row (cut (drop (i + 1) text))) + 1
   first-more n = ap (λ z. length (first_row (cut z))) (drop-next text i c within read)
       ∙ ap (λ z. length (first_row z)) (cut-front c (drop (i + 1) text) n) ∙ front-length c (cut (drop (i + 1) text))
@@ -143,9 +135,6 @@ taken n all cells e same = ap (λ k. take k all) e ∙ same
 pub first-end : (text : List ℕ) (i : ℕ) → length text ≤ i → length (first_row (cut (drop i text))) ≡ 0
 first-end text i h = ap (λ z. length (first_row (cut z))) (drop-end text i h)
 
-pub rows-end : (text : List ℕ) (i : ℕ) → length text ≤ i → length (cut (drop i text)) ≡ 1
-rows-end text i h = ap (λ z. length (cut z)) (drop-end text i h)
-
 pub cells-end : (one_row : Bool) (text all cells : List ℕ) (i : ℕ) → length text ≤ i
     → all ≡ cells ++ cells_of (rows_of one_row (drop i text)) → cells ≡ all
 cells-end true text all cells i h e = sym (e ∙ ap (λ z. cells ++ (z ++ [])) (drop-end text i h) ∙ append-nil cells)
@@ -166,33 +155,11 @@ pub record RaggedFrom (columns : ℕ) (text : List ℕ) (start row : ℕ) (later
   pub long : row ≡ length (first_row (cut (drop start text)))
   pub behind : later ≡ ragged columns (start + row + 2) (rows_behind (cut (drop start text)))
 
-pub ragged_none : (columns : ℕ) (text : List ℕ) (start : ℕ) → start ≡ length text → RaggedFrom columns text start 0 None
-ragged_none columns text start e = record {
-  inside = omega arith;
-  long = sym (first-end text start (omega arith));
-  behind = sym (ap (λ z. ragged columns (start + 0 + 2) (rows_behind (cut z))) (drop-end text start (omega arith)));
-}
-
 module _ (columns : ℕ) (text : List ℕ) (start row : ℕ) (later : Option ℕ) (some : 0 < start)
     (so_far : RaggedFrom columns text start row later) where
   at : drop (start - 1) text ≡ get_or text (start - 1) 0 ∷ drop start text
   at = let s : suc (start - 1) ≡ start = omega arith in let l = so_far.inside in
       drop-read text (start - 1) (omega arith) ∙ ap (λ n. get_or text (start - 1) 0 ∷ drop n text) s
-
-  pub ragged_more : (get_or text (start - 1) 0 ≡ bar → ⊥) → RaggedFrom columns text (start - 1) (row + 1) later
-  ragged_more n =
-      let l = so_far.inside in
-      let s : start - 1 + (row + 1) + 2 ≡ start + row + 2 = omega arith in
-      let e : cut (drop (start - 1) text) ≡ in_front (get_or text (start - 1) 0) (cut (drop start text)) = ap cut at
-      ∙ cut-front (get_or text (start - 1) 0) (drop start text) n in
-      record {
-        inside = omega arith;
-        long = ap (λ z. z + 1) so_far.long ∙ sym (ap (λ z. length (first_row z)) e ∙ front-length (get_or text (start - 1)
-            0) (cut (drop start text)));
-        behind = so_far.behind ∙ ap (λ k. ragged columns k (rows_behind (cut (drop start text)))) (sym s)
-            ∙ ap (λ z. ragged columns (start - 1 + (row + 1) + 2) z) (sym (ap rows_behind e ∙ front-behind (get_or text
-            (start - 1) 0) (cut (drop start text))));
-      }
 
   module _ (b : get_or text (start - 1) 0 ≡ bar) where
     here : cut (drop (start - 1) text) ≡ [] ∷ cut (drop start text)
@@ -225,27 +192,6 @@ module _ (columns : ℕ) (text : List ℕ) (start row : ℕ) (later : Option ℕ
           | inr p ↦ there (Some (start - 1 + 2)) (ap (λ z. Some z) s ∙ ap (λ t. if t then later else Some (start + 1)) (sym
               p.0))
         ]
-
-    pub not_ragged : row ≡ columns → RaggedFrom columns text (start - 1) 0 later
-    not_ragged e = elim (eqb_tells row columns) [
-      | inl p ↦ there later (ap (λ t. if t then later else Some (start + 1)) (sym p.0))
-      | inr p ↦ absurd (p.1 e)
-    ]
-
-pub ragged_all : (columns : ℕ) (text : List ℕ) (start row : ℕ) (later : Option ℕ) → start ≤ 0
-    → RaggedFrom columns text start row later → columns ≡ length (first_row (cut text)) → later ≡ ragged columns 1 (cut text)
-ragged_all columns text start row later end r e =
-    let z : start ≡ 0 = omega arith in
-    let long : row ≡ length (first_row (cut text)) = r.long ∙ ap (λ k. length (first_row (cut (drop k text)))) z in
-    let s : start + row + 2 ≡ 1 + length (first_row (cut text)) + 1 = omega arith in
-    r.behind ∙ ap (λ k. ragged columns (start + row + 2) (rows_behind (cut (drop k text)))) z
-    ∙ ap (λ k. ragged columns k (rows_behind (cut text))) s
-    ∙ sym (ragged-first columns 1 (cut text) (some-row text)
-    ∙ ap (λ t. if t then ragged columns (1 + length (first_row (cut text)) + 1) (rows_behind (cut text)) else Some 1)
-    (same (length (first_row (cut text))) columns (sym e)))
-  where
-    same : (a b : ℕ) → a ≡ b → (a == b) ≡ true
-    same a b h = elim (eqb_tells a b) [ inl p ↦ p.0 | inr p ↦ absurd (p.1 h) ]
 
 -- ---- the size of a board
 

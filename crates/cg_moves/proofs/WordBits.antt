@@ -1,11 +1,11 @@
 -- Words by their bits.
-use Rattle.std.proofs.Common.{◌≡◌, ◌≢◌, refl, Bool, true, false, not, ◌&&◌, ◌||◌, ℕ, suc, ◌+◌, ◌-◌, ◌*◌, ◌/◌, ◌%◌, ◌^◌, ◌<◌, ◌≤◌, ◌==◌, ◌⊎◌, inl, inr, if◌then◌else◌, ap, sym, ◌∙◌, arith, bit_and, bit_or, max, min, nat_lt, w64}
+use Rattle.std.proofs.Common.{◌≡◌, ◌≢◌, refl, Bool, true, false, not, ◌&&◌, ℕ, suc, ◌+◌, ◌-◌, ◌*◌, ◌/◌, ◌%◌, ◌^◌, ◌<◌, ◌≤◌, ◌==◌, ◌⊎◌, inl, inr, if◌then◌else◌, ap, sym, ◌∙◌, arith, bit_and, bit_or, min, nat_lt, w64}
 use Rattle.std.specs.Int.{bit_at}
 use Rattle.std.proofs.lemmas.Bool.Decides.{eqb_tells, leb_tells}
 use Rattle.std.proofs.Math.Nat.{mod-eq_of_lt, mod-lt, mod_self, suc-mod}
 use Rattle.std.proofs.lemmas.Bool.{eq-eqb, le-ltb, lt-ltb}
 use Rattle.std.proofs.lemmas.Nat.{pow_pos, shr-shr}
-use Rattle.std.proofs.lemmas.Nat.Bits.{bit_at-lt, bit_at-zero, bit_at_above, bit_at_and, bit_at_cat_high, bit_at_cat_low, bit_at_clear_other, bit_at_clear_same, bit_at_not, bit_at_ones, bit_at_ones_above, bit_at_or, bit_at_set_other, bit_at_set_same, ones_shr}
+use Rattle.std.proofs.lemmas.Nat.Bits.{bit_at-lt, bit_at-zero, bit_at_above, bit_at_and, bit_at_cat_high, bit_at_cat_low, bit_at_clear_other, bit_at_clear_same, bit_at_not, bit_at_ones, bit_at_ones_above, bit_at_set_other, bit_at_set_same, ones_shr}
 use Rattle.cg_moves.specs.Words.{IsWithBit, Marks}
 
 -- what a word is with a bit, where it has that bit at the place and its own elsewhere
@@ -53,12 +53,6 @@ both true false = refl
 both false true = refl
 both false false = refl
 
-either : (s t : Bool) → max (if s then 1 else 0) (if t then 1 else 0) ≡ (if s || t then 1 else 0)
-either true true = refl
-either true false = refl
-either false true = refl
-either false false = refl
-
 without : (s t : Bool) → min (if s then 1 else 0) (1 - (if t then 1 else 0)) ≡ (if s && not t then 1 else 0)
 without true true = refl
 without true false = refl
@@ -69,10 +63,6 @@ module _ (a b : ℕ) (p q : ℕ → Bool) (are : Marks a p) (others : Marks b q)
   pub marks_both : Marks (bit_and a b) (λ i. p i && q i)
   marks_both i = bit_at_and a b i ∙ ap (λ z. min z (bit_at b i)) (are i) ∙ ap (min (if p i then 1 else 0)) (others i)
       ∙ both (p i) (q i)
-
-  pub marks_either : Marks (bit_or a b) (λ i. p i || q i)
-  marks_either i = bit_at_or a b i ∙ ap (λ z. max z (bit_at b i)) (are i) ∙ ap (max (if p i then 1 else 0)) (others i)
-      ∙ either (p i) (q i)
 
   -- the word `a & !b`
   pub marks_without : a < 2 ^ 64 → b < 2 ^ 64 → Marks (bit_and a (18446744073709551615 - b)) (λ i. p i && not (q i))
@@ -160,14 +150,6 @@ alike_not word bit i fits e l =
           one ∙ ap (λ t. if t then 1 else 0) (sym s.0))
       | inr s ↦ (let none : bit_at (18446744073709551615 - word) i ≡ 0 = omega (arith, s.1) in
           none ∙ ap (λ t. if t then 1 else 0) (sym s.0))
-    ]
-
-pub alike_itself : (word bit i : ℕ) → bit ≡ 1 → bit_at word i ≡ (if bit_at word i == bit then 1 else 0)
-alike_itself word bit i e =
-    let k = bit_at-lt word i in
-    elim (eqb_tells (bit_at word i) bit) [
-      | inl s ↦ (let one : bit_at word i ≡ 1 = omega (arith, s.1) in one ∙ ap (λ t. if t then 1 else 0) (sym s.0))
-      | inr s ↦ (let none : bit_at word i ≡ 0 = omega (arith, s.1) in none ∙ ap (λ t. if t then 1 else 0) (sym s.0))
     ]
 
 -- ---- the places whose four bits are these

@@ -31,6 +31,14 @@ reached w = kept [] (flat_map (play w).all w.starts)
 
 -- ---- what is found
 
+-- a board, and its parts
+abbrev pub with_parts : (Grid → List Grid) → Grid → List Grid
+with_parts cut p = p ∷ cut p
+
+-- each of the boards is its own only part
+abbrev pub AreAlone : (Grid → List Grid) → List Grid → Type 0
+AreAlone cut ps = (p : Grid) → In p ps → cut p ≡ p ∷ []
+
 -- after the boards were numbered, they stand behind those that were found before, each once, and their places behind the places
 pub record Numbers (limit : ℕ) (old new : List Grid) (before after : List ℕ) (boards : List Grid) : Type 0 where
   pub found : new ≡ kept old boards

@@ -1,7 +1,7 @@
 //! Finding boards from board to board, in the order in which they are found.
 ghost use Rattle.std.specs.Prelude.{◌≡◌, ◌<◌, ◌≤◌, ◌∷◌, ◌++◌, [], true, IfOk, length, Err};
 ghost use Rattle.std.specs.List.{flat_map};
-ghost use Rattle.cg_moves.specs.Explored.{IsExplored, Numbers, NumbersParts, board_at, reached};
+ghost use Rattle.cg_moves.specs.Explored.{AreAlone, IsExplored, Numbers, NumbersParts, board_at, reached, with_parts};
 ghost use Rattle.cg_moves.specs.Found.{AreAlike};
 ghost use Rattle.cg_moves.specs.Grid.{Grid};
 ghost use Rattle.cg_moves.specs.Kept.{kept};
@@ -46,7 +46,42 @@ fn number_all(
     Ok(())
 }
 
-/// Puts the board that a move leads to behind what comes next: how many parts it has, and their numbers.
+/// Puts the number of a board that is its own only part behind what comes next.
+fn put_alone(next: &mut NextPlaces, number: usize) -> Result<(), AllocError>
+    ensures lefts { IfOk result (λ _. next.new.lefts ≡ next.old.lefts) }
+    ensures counts { IfOk result (λ _. next.new.counts.items ≡ next.old.counts.items ++ (1 ∷ [])) }
+    ensures places { IfOk result (λ _. next.new.places.items ≡ next.old.places.items ++ (number ∷ [])) }
+{
+    next.counts.push(1)?;
+    next.places.push(number)?;
+    Ok(())
+}
+
+/// Puts the pieces of the board that a move leads to behind what comes next: how many there are, and their numbers.
+fn number_pieces<R: Rules>(
+    alloc: Global,
+    rules: &R,
+    found: &mut Found,
+    next: &mut NextPlaces,
+    board: &Board,
+    limit: u64,
+) -> Result<(), ReachFault>
+    requires has { (R.game rules.now).has board.now ≡ true }
+    requires cuts { (R.game rules.now).cuts ≡ true }
+    requires alike { AreAlike (found.old ++ (R.game rules.now).pieces board.now) }
+    requires within { length found.old ≤ limit }
+    ensures numbers { IfOk result (λ _. NumbersParts limit (R.game rules.now).pieces found.old found.new next.old next.new
+        (board.now ∷ [])) }
+    ensures refused { result ≡ Err ReachFault.Positions
+        → limit < length (kept found.old ((R.game rules.now).pieces board.now)) }
+{
+    let pieces = pieces_in(alloc, rules, board)?;
+    next.counts.push(pieces.len())?;
+    number_all(found, &mut next.places, pieces, limit)
+}
+
+/// Puts the board that a move leads to behind what comes next: how many parts it has, and their numbers. A board that was found is
+/// its own only part.
 fn number_parts<R: Rules>(
     alloc: Global,
     rules: &R,
@@ -58,7 +93,8 @@ fn number_parts<R: Rules>(
 ) -> Result<(), ReachFault>
     requires has { (R.game rules.now).has board ≡ true }
     requires may { MayGo (R.game rules.now) course }
-    requires alike { AreAlike (found.old ++ parts_of (R.game rules.now) course board) }
+    requires alone { AreAlone (parts_of (R.game rules.now) course) found.old }
+    requires alike { AreAlike (found.old ++ with_parts (parts_of (R.game rules.now) course) board) }
     requires within { length found.old ≤ limit }
     ensures numbers { IfOk result (λ _. NumbersParts limit (parts_of (R.game rules.now) course) found.old found.new next.old next.new
         (board ∷ [])) }
@@ -67,16 +103,13 @@ fn number_parts<R: Rules>(
 {
     match course {
         Course::Moves => {
-            next.counts.push(1)?;
             let number = found.number(board, limit)?;
-            next.places.push(number)?;
-            Ok(())
+            Ok(put_alone(next, number)?)
         }
-        Course::Pieces => {
-            let pieces = pieces_in(alloc, rules, &board)?;
-            next.counts.push(pieces.len())?;
-            number_all(found, &mut next.places, pieces, limit)
-        }
+        Course::Pieces => match found.known(&board) {
+            Some(number) => Ok(put_alone(next, number)?),
+            None => number_pieces(alloc, rules, found, next, &board, limit),
+        },
     }
 }
 
@@ -92,7 +125,8 @@ fn number_moves<R: Rules>(
 ) -> Result<(), ReachFault>
     requires has { (p : Grid) → In p boards.items → (R.game rules.now).has p ≡ true }
     requires may { MayGo (R.game rules.now) course }
-    requires alike { AreAlike (found.old ++ flat_map (parts_of (R.game rules.now) course) boards.items) }
+    requires alone { AreAlone (parts_of (R.game rules.now) course) found.old }
+    requires alike { AreAlike (found.old ++ flat_map (with_parts (parts_of (R.game rules.now) course)) boards.items) }
     requires within { length found.old ≤ limit }
     ensures numbers { IfOk result (λ _. NumbersParts limit (parts_of (R.game rules.now) course) found.old found.new next.old next.new
         boards.items) }
@@ -132,7 +166,8 @@ fn next_after<R: Rules>(
     requires number { number < length found.old }
     requires has { (R.game rules.now).has (board_at found.old number) ≡ true }
     requires may { MayGo (R.game rules.now) course }
-    requires alike { AreAlike (found.old ++ flat_map (parts_of (R.game rules.now) course)
+    requires alone { AreAlone (parts_of (R.game rules.now) course) found.old }
+    requires alike { AreAlike (found.old ++ flat_map (with_parts (parts_of (R.game rules.now) course))
         (followers (R.game rules.now) (board_at found.old number))) }
     requires within { length found.old ≤ limit }
     ensures found { IfOk result (λ _. found.new ≡ kept found.old (flat_map (parts_of (R.game rules.now) course)
@@ -166,6 +201,7 @@ pub(crate) fn explore<R: Rules>(
 ) -> Result<Explored, ReachFault>
     requires may { MayGo (R.game rules.now) course }
     requires starts { AreStarts (play_of (R.game rules.now) course) starts.items }
+    requires alone { AreAlone (parts_of (R.game rules.now) course) starts.items }
     ensures explored { IfOk result (λ explored. IsExplored
         (record { game = R.game rules.now; course = course; starts = starts.items })
         explored.boards.items explored.next.items explored.starts.items) }

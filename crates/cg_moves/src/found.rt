@@ -1,5 +1,5 @@
 //! Boards that were found, each with a number.
-ghost use Rattle.std.specs.Prelude.{◌≡◌, ◌<◌, ◌≤◌, ◌∷◌, ◌++◌, [], IfOk, length, Err};
+ghost use Rattle.std.specs.Prelude.{◌≡◌, ◌<◌, ◌≤◌, ◌∷◌, ◌++◌, [], IfOk, IfSome, length, Err};
 ghost use Rattle.cg_moves.specs.Found.{AreAlike};
 ghost use Rattle.cg_moves.specs.Kept.{one_more};
 ghost use Rattle.cg_moves.specs.Opened.{IsAt};
@@ -58,6 +58,14 @@ impl Found {
         ensures { IsAt self.now number result.now }
     {
         &self.boards[number]
+    }
+
+    /// The number of the board, if it was found. All have the same symbols.
+    pub(crate) fn known(&self, board: &Board) -> Option<usize>
+        requires { AreAlike (self.now ++ (board.now ∷ [])) }
+        ensures { IfSome result (λ number. IsAt self.now number board.now) }
+    {
+        self.numbers.get(&board.key()).copied()
     }
 
     /// The number of the board, which is put behind the others where it is new. All have the same symbols. `Positions` comes

@@ -1,9 +1,9 @@
 //! The boards that play can come to from a board.
 ghost use Rattle.std.specs.Prelude.{◌≡◌, ◌<◌, ◌≤◌, ◌∷◌, [], true, IfOk, OnOk, length, Err};
-ghost use Rattle.cg_moves.specs.Explored.{Way, parts, reached};
+ghost use Rattle.cg_moves.specs.Explored.{AreAlone, Way, parts, reached};
 ghost use Rattle.cg_moves.specs.Opened.{AreNext, StandAt, uncut};
 ghost use Rattle.cg_moves.specs.PieceReach.{piece_reach_of};
-ghost use Rattle.cg_moves.specs.Plays.{MayGo, play_of};
+ghost use Rattle.cg_moves.specs.Plays.{MayGo, parts_of, play_of};
 ghost use Rattle.cg_moves.specs.Reach.{reach_of};
 ghost use Rattle.cg_moves.specs.Walks.{AreStarts};
 
@@ -25,6 +25,7 @@ fn open_all<R: Rules>(
     requires way { way ≡ record { game = R.game rules.now; course = course; starts = starts.items } }
     requires may { MayGo (R.game rules.now) course }
     requires starts { AreStarts (play_of (R.game rules.now) course) starts.items }
+    requires alone { AreAlone (parts_of (R.game rules.now) course) starts.items }
     ensures boards { IfOk result (λ opened. opened.boards ≡ reached way) }
     ensures next { IfOk result (λ opened. AreNext way.game (parts way) [] opened.boards opened.next.items) }
     ensures starts { IfOk result (λ opened. StandAt opened.boards opened.starts.items way.starts) }

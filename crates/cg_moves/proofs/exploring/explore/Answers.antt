@@ -1,11 +1,12 @@
 use Rattle.std.proofs.Common.{List, ap, subst, sym, arith}
 use Rattle.std.specs.Prelude.{Err}
 use Rattle.std.proofs.lemmas.Result.{err_from_is_err_and}
-use Rattle.cg_moves.specs.Explored.{IsExplored, Way}
+use Rattle.cg_moves.specs.Explored.{IsExplored, Way, board_at}
 use Rattle.cg_moves.specs.Grid.{Grid}
+use Rattle.cg_moves.proofs.Bounds.{follower-has}
 use Rattle.cg_moves.proofs.ExploreLemmas.{exploring-alike, exploring-begun, exploring-done, exploring-has, exploring-more, exploring-refused, starts-alike, starts-refused}
 use Rattle.cg_moves.proofs.NumberLemmas.{passed_on}
-use Rattle.cg_moves.proofs.PlayLemmas.{plays}
+use Rattle.cg_moves.proofs.PlayLemmas.{follower-symbols, part-alone, plays}
 use Rattle.cg_moves.proofs.exploring.explore.Goals as goal
 
 pub number_all-requires-clause-alike : goal.number_all-requires-clause-alike
@@ -31,7 +32,7 @@ boards-init g c =
       exploring = exploring-begun (record { game = r; course = c.args.course; starts = c.args.starts.items })
           (plays r (g.met.R.Rules.lawful c.args.rules.now) c.args.course c.requires.may) c.requires.starts c.args.limit
           c.new-found.result c.number_all.new.found c.new-places.result.items c.number_all.new.places.items c.new-next.result.items
-          c.new-found.ensures c.new-places.ensures.items c.new-next.ensures.items c.in_ok-number_all.ensures.numbers;
+          c.new-found.ensures c.new-places.ensures.items c.new-next.ensures.items c.in_ok-number_all.ensures.numbers c.requires.alone;
     }
 
 pub next_after-requires-clause-has : goal.next_after-requires-clause-has
@@ -49,6 +50,7 @@ next_after-requires-clause-alike g c =
     (plays r (g.met.R.Rules.lawful c.args.rules.now) c.args.course c.requires.may) c.requires.starts c.args.limit
     c.boards.found c.boards.next.items c.number_all.new.places.items c.boards.invariant.exploring c.len-in-boards-2.result
     (omega arith) (omega arith)
+    (follower-symbols r (g.met.R.Rules.lawful c.args.rules.now) (board_at c.boards.found c.len-in-boards-2.result))
 
 pub returns-in_err-more-clause-refused : goal.returns-in_err-more-clause-refused
 returns-in_err-more-clause-refused g c =
@@ -63,12 +65,18 @@ returns-in_err-more-clause-refused g c =
 pub boards-preserved : goal.boards-preserved
 boards-preserved g c =
     let r = g.R.Rules.game c.args.rules.now in
+    let has = exploring-has (record { game = r; course = c.args.course; starts = c.args.starts.items })
+    (plays r (g.met.R.Rules.lawful c.args.rules.now) c.args.course c.requires.may) c.requires.starts c.args.limit
+    c.boards.found c.boards.next.items c.number_all.new.places.items c.boards.invariant.exploring c.len-in-boards-2.result
+    (omega arith) (omega arith) in
     record {
       exploring = exploring-more (record { game = r; course = c.args.course; starts = c.args.starts.items })
           (plays r (g.met.R.Rules.lawful c.args.rules.now) c.args.course c.requires.may) c.requires.starts c.args.limit
           c.boards.found c.boards.next.items c.number_all.new.places.items c.boards.invariant.exploring c.len-in-boards-2.result
           (omega arith) (omega arith) c.next_after.new.found c.in_ok-more.more c.push.new.self.items c.in_ok-more.ensures.found
-          c.in_ok-more.ensures.within c.in_ok-more.ensures.next c.in_ok-push.ensures.items;
+          c.in_ok-more.ensures.within c.in_ok-more.ensures.next c.in_ok-push.ensures.items
+          (λ s q m n. part-alone r (g.met.R.Rules.lawful c.args.rules.now) c.args.course c.requires.may s q
+          (follower-has r (g.met.R.Rules.lawful c.args.rules.now) (board_at c.boards.found c.len-in-boards-2.result) s has m) n);
     }
 
 pub returns-clause-explored : goal.returns-clause-explored

@@ -5,8 +5,9 @@ use Rattle.cg_moves.specs.Explored.{board_at}
 use Rattle.cg_moves.specs.Grid.{Grid}
 use Rattle.cg_moves.specs.Plays.{parts_of}
 use Rattle.cg_moves.proofs.Bounds.{follower-has}
-use Rattle.cg_moves.proofs.NumberLemmas.{both-found, both-next, left-alike, left-among, left-refused, passed_on, right-alike, right-among, right-refused}
+use Rattle.cg_moves.proofs.NumberLemmas.{both-found, both-next, left-alike, left-among, left-refused, passed_on, right-alike, right-alone, right-among, right-refused}
 use Rattle.cg_moves.proofs.PlaceLemmas.{board-at}
+use Rattle.cg_moves.proofs.PlayLemmas.{part-alone}
 use Rattle.cg_moves.proofs.exploring.next_after.Goals as goal
 
 pub followers-requires : goal.followers-requires
@@ -49,6 +50,16 @@ number_moves-requires-2-clause-alike g c =
     right-alike r (parts_of r c.args.course) c.args.found.now c.args.number c.board.result.now
     c.in_ok-lefts.lefts.items c.in_ok-lefts.rights.items c.board.ensures c.in_ok-lefts.ensures.lefts c.in_ok-lefts.ensures.rights
     c.args.limit c.number_moves.new.found _ c.number_moves.new.next c.in_ok-number_moves.ensures.numbers c.requires.alike
+
+pub number_moves-requires-2-clause-alone : goal.number_moves-requires-2-clause-alone
+number_moves-requires-2-clause-alone g c =
+    let r = g.R.Rules.game c.args.rules.now in
+    let lawful = g.met.R.Rules.lawful c.args.rules.now in
+    right-alone r (parts_of r c.args.course) c.args.found.now c.args.number c.board.result.now
+    c.in_ok-lefts.lefts.items c.in_ok-lefts.rights.items c.board.ensures c.in_ok-lefts.ensures.lefts c.in_ok-lefts.ensures.rights
+    c.args.limit c.number_moves.new.found _ c.number_moves.new.next c.in_ok-number_moves.ensures.numbers c.requires.alone
+    (λ s q m n. part-alone r lawful c.args.course c.requires.may s q
+    (follower-has r lawful (board_at c.args.found.now c.args.number) s c.requires.has m) n)
 
 pub returns-in_err-number_moves-2-clause-refused : goal.returns-in_err-number_moves-2-clause-refused
 returns-in_err-number_moves-2-clause-refused g c =

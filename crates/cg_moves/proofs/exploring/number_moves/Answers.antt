@@ -6,8 +6,9 @@ use Rattle.std.proofs.lemmas.List.{length_push}
 use Rattle.std.proofs.lemmas.Result.{err_from_is_err_and}
 use Rattle.cg_moves.specs.Explored.{NumbersParts}
 use Rattle.cg_moves.specs.Plays.{parts_of}
-use Rattle.cg_moves.proofs.NumberLemmas.{parts-alike, parts-next, parts-refused, passed_on}
+use Rattle.cg_moves.proofs.NumberLemmas.{parts-alike, parts-alone, parts-next, parts-refused, passed_on}
 use Rattle.cg_moves.proofs.Places.{in_read}
+use Rattle.cg_moves.proofs.PlayLemmas.{part-alone}
 use Rattle.cg_moves.proofs.exploring.number_moves.Goals as goal
 
 pub number_parts-requires-clause-has : goal.number_parts-requires-clause-has
@@ -27,6 +28,18 @@ number_parts-requires-clause-alike g c =
     parts-alike (parts_of (g.R.Rules.game c.args.rules.now) c.args.course) c.args.boards.items (length c.loop-board.yielded)
     c.in-Some.board t.0 t.1 c.args.limit c.args.found.now c.loop-board.found c.args.next.now c.loop-board.next
     c.loop-board.invariant.numbers c.requires.alike
+
+pub number_parts-requires-clause-alone : goal.number_parts-requires-clause-alone
+number_parts-requires-clause-alone g c =
+    let r = g.R.Rules.game c.args.rules.now in
+    let given = c.into_iter-board-iterator.ensures.into_iter_gives in
+    let t = YieldsList-turn (YieldsList-from_vec {s = c.into_iter-board-iterator.result} c.args.boards.items given.0
+    (given.1 ∙ c.args.boards.ok.0)) c.loop-board.yielded c.loop-board.board-iterator c.loop-board.yielded_by c.next.result
+    c.next.new.self c.in-Some.board c.in-Some.is c.next.ensures.steps in
+    parts-alone (parts_of r c.args.course) c.args.boards.items (length c.loop-board.yielded)
+    c.in-Some.board t.0 t.1 c.args.limit c.args.found.now c.loop-board.found c.args.next.now c.loop-board.next
+    c.loop-board.invariant.numbers c.requires.alone (λ s q m n. part-alone r (g.met.R.Rules.lawful c.args.rules.now)
+    c.args.course c.requires.may s q (c.requires.has s m) n)
 
 pub loop-board-preserved : goal.loop-board-preserved
 loop-board-preserved g c =

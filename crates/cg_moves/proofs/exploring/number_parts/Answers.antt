@@ -1,36 +1,52 @@
-use Rattle.std.proofs.Common.{List, ◌∷◌, [], ◌++◌, refl, sym, subst}
+use Rattle.std.proofs.Common.{◌∷◌, [], ◌++◌, inl, inr, sym, subst}
 use Rattle.cg_moves.specs.declared.course.Course.{Course}
-use Rattle.cg_moves.specs.Explored.{NumbersParts}
+use Rattle.cg_moves.specs.Explored.{NumbersParts, with_parts}
 use Rattle.cg_moves.specs.Found.{AreAlike}
-use Rattle.cg_moves.specs.Grid.{Grid}
 use Rattle.cg_moves.specs.Plays.{parts_of}
-use Rattle.cg_moves.proofs.NumberLemmas.{numbers-one}
+use Rattle.cg_moves.proofs.Members.{in_one}
+use Rattle.cg_moves.proofs.NumberLemmas.{alike-less, known-alone, numbers-one}
+use Rattle.cg_moves.proofs.PlaceLemmas.{at-in}
 use Rattle.cg_moves.proofs.exploring.number_parts.Goals as goal
 
 pub number-requires-clause-alike : goal.number-requires-clause-alike
 number-requires-clause-alike g c =
-    let P : Course → Type 0 = λ z. AreAlike (c.args.found.now ++ parts_of (g.R.Rules.game c.args.rules.now) z c.args.board) in
-    subst P c.in-Moves.is c.requires.alike
+    let r = g.R.Rules.game c.args.rules.now in
+    alike-less c.args.found.now (c.args.board ∷ []) (with_parts (parts_of r c.args.course) c.args.board) c.requires.alike
+    (λ q m. inl (in_one q c.args.board m))
 
-pub number_all-requires-clause-alike : goal.number_all-requires-clause-alike
-number_all-requires-clause-alike g c =
-    let P : Course → Type 0 = λ z. AreAlike (c.args.found.now ++ parts_of (g.R.Rules.game c.args.rules.now) z c.args.board) in
-    let Q : List Grid → Type 0 = λ z. AreAlike (c.args.found.now ++ z) in
-    subst Q (sym c.in_ok-pieces-in-Pieces.ensures) (subst P c.in-Pieces.is c.requires.alike)
+pub known-requires : goal.known-requires
+known-requires g c =
+    let r = g.R.Rules.game c.args.rules.now in
+    alike-less c.args.found.now (c.args.board ∷ []) (with_parts (parts_of r c.args.course) c.args.board) c.requires.alike
+    (λ q m. inl (in_one q c.args.board m))
 
-pub returns-in_ok-push-in-Moves-2-clause-numbers : goal.returns-in_ok-push-in-Moves-2-clause-numbers
-returns-in_ok-push-in-Moves-2-clause-numbers g c =
-    let P : Course → Type 0 = λ z. NumbersParts c.args.limit (parts_of (g.R.Rules.game c.args.rules.now) z) c.args.found.now
-    c.number.new.self c.args.next.now (record {
-      lefts = c.args.next.now.lefts;
-      counts = c.push.new.self;
-      places = c.push-in-Moves.new.self;
-    }) (c.args.board ∷ []) in
+pub number_pieces-requires-clause-alike : goal.number_pieces-requires-clause-alike
+number_pieces-requires-clause-alike g c =
+    let r = g.R.Rules.game c.args.rules.now in
+    let P : Course → Type 0 = λ z. AreAlike (c.args.found.now ++ with_parts (parts_of r z) c.args.board) in
+    alike-less c.args.found.now (r.pieces c.args.board) (with_parts r.pieces c.args.board) (subst P c.in-Pieces.is c.requires.alike)
+    (λ q m. inr m)
+
+pub returns-in_ok-put_alone-in-Moves-clause-numbers : goal.returns-in_ok-put_alone-in-Moves-clause-numbers
+returns-in_ok-put_alone-in-Moves-clause-numbers g c =
+    let r = g.R.Rules.game c.args.rules.now in
     let one = c.in_ok-number-in-Moves.ensures in
+    let put = c.in_ok-put_alone-in-Moves.ensures in
+    let P : Course → Type 0 = λ z. NumbersParts c.args.limit (parts_of r z) c.args.found.now c.number.new.self c.args.next.now
+    c.put_alone.new.next (c.args.board ∷ []) in
     subst P (sym c.in-Moves.is) (record {
-      lefts = refl;
-      counts = c.in_ok-push-in-Moves.ensures.items;
+      lefts = put.lefts;
+      counts = put.counts;
       numbers = numbers-one c.args.limit c.args.found.now c.number.new.self c.args.next.now.places.items
-          c.push-in-Moves.new.self.items c.args.board c.in_ok-number-in-Moves.number one.boards one.number one.within
-          c.in_ok-push-in-Moves-2.ensures.items;
+          c.put_alone.new.next.places.items c.args.board c.in_ok-number-in-Moves.number one.boards one.number one.within
+          put.places;
     })
+
+pub returns-in_ok-put_alone-in-Some-clause-numbers : goal.returns-in_ok-put_alone-in-Some-clause-numbers
+returns-in_ok-put_alone-in-Some-clause-numbers g c =
+    let r = g.R.Rules.game c.args.rules.now in
+    let there = c.in-Some.ensures in
+    let put = c.in_ok-put_alone-in-Some.ensures in
+    known-alone (parts_of r c.args.course) c.args.limit c.args.found.now c.args.next.now c.put_alone-in-Some.new.next
+    c.in-Some.number c.args.board there c.requires.within
+    (c.requires.alone c.args.board (at-in c.args.found.now c.in-Some.number c.args.board there)) put.lefts put.counts put.places

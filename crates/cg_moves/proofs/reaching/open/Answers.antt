@@ -11,8 +11,11 @@ open_all-requires g c κs within = (
     refl,
     (
       tt,
-      one_start (g.R.Rules.game c.args.rules.now) (g.met.R.Rules.lawful c.args.rules.now)
-          c.args.start.now c.in_ok-starts.starts.items c.requires c.in_ok-starts.ensures,
+      (
+        one_start (g.R.Rules.game c.args.rules.now) (g.met.R.Rules.lawful c.args.rules.now)
+            c.args.start.now c.in_ok-starts.starts.items c.requires c.in_ok-starts.ensures,
+        λ p m. refl,
+      ),
     ),
   ),
 )

@@ -4,7 +4,8 @@ use Rattle.cg_moves.specs.declared.course.Course.TheVariants.{Pieces}
 use Rattle.cg_moves.specs.Grid.{Grid}
 use Rattle.cg_moves.specs.Plays.{play_of}
 use Rattle.cg_moves.specs.Walks.{AreStarts}
-use Rattle.cg_moves.proofs.PlayLemmas.{piece_reach-all, piece_starts}
+use Rattle.cg_moves.proofs.Members.{carry}
+use Rattle.cg_moves.proofs.PlayLemmas.{part-alone, piece_reach-all, piece_starts}
 use Rattle.cg_moves.proofs.reaching.open_pieces.Goals as goal
 
 pub open_all-requires : goal.open_all-requires
@@ -17,8 +18,12 @@ open_all-requires g c κs within =
         refl,
         (
           c.requires.cuts,
-          subst P (sym c.in_ok-starts.ensures) (piece_starts r lawful (lawful.cut c.requires.cuts)
-              c.args.start.now c.requires.has),
+          (
+            subst P (sym c.in_ok-starts.ensures) (piece_starts r lawful (lawful.cut c.requires.cuts)
+                c.args.start.now c.requires.has),
+            λ p m. part-alone r lawful Pieces c.requires.cuts c.args.start.now p c.requires.has
+                (carry p c.in_ok-starts.starts.items (r.pieces c.args.start.now) c.in_ok-starts.ensures m),
+          ),
         ),
       ),
     )

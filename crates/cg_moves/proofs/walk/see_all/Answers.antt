@@ -1,5 +1,4 @@
-use Rattle.std.proofs.Common.{◌≡◌, refl, length, replicate, ap, ◌∙◌, arith, rules}
-use Rattle.std.specs.Prelude.{None}
+use Rattle.std.proofs.Common.{refl, length, ap, arith, rules}
 use Rattle.cg_moves.specs.Explored.{play}
 use Rattle.cg_moves.proofs.PlaceLemmas.{stand-below}
 use Rattle.cg_moves.proofs.StartLemmas.{begins}
