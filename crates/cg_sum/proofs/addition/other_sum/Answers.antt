@@ -4,7 +4,7 @@ use Rattle.cg_canon.specs.Works.{work_state}
 use Rattle.cg_canon.proofs.MadeSteps.{made_with}
 use Rattle.cg_sum.proofs.Members.{not_none}
 use Rattle.cg_sum.proofs.SumEnds.{same_refusal, sum_stands}
-use Rattle.cg_sum.proofs.addition.found_sum.Goals as goal
+use Rattle.cg_sum.proofs.addition.other_sum.Goals as goal
 
 pub returns-in_err-add_sums-clause-made : goal.returns-in_err-add_sums-clause-made
 returns-in_err-add_sums-clause-made g c =
