@@ -2,6 +2,7 @@
 #![tactic(auto)]
 
 mod again;
+mod at_once;
 mod best;
 mod bypass;
 mod candidate;
@@ -29,6 +30,7 @@ mod wide;
 mod work;
 
 pub use again::{keep_sum, sum_again};
+pub use at_once::charge_again;
 pub use equality::equal;
 pub use fault::ValueFault;
 pub use forms::{canonical, canonical_of_terms};

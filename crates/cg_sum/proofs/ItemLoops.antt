@@ -14,7 +14,7 @@ use Rattle.cg_nodes.specs.Games.{game_at, games_at}
 use Rattle.cg_nodes.specs.Meant.{Meant}
 use Rattle.cg_sum.proofs.Members.{split_read, take_next}
 
-flat-append : (f : Game → List Item) (gs hs : List Game) → flat_map f (gs ++ hs) ≡ flat_map f gs ++ flat_map f hs
+pub flat-append : (f : Game → List Item) (gs hs : List Game) → flat_map f (gs ++ hs) ≡ flat_map f gs ++ flat_map f hs
 flat-append f [] hs = refl
 flat-append f (g ∷ gs) hs = ap (λ z. f g ++ z) (flat-append f gs hs) ∙ sym (append_assoc (f g) (flat_map f gs) (flat_map f hs))
 

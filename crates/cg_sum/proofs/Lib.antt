@@ -15,6 +15,12 @@ pub mod KeptSums
 pub mod RowSteps
 pub mod SumEnds
 pub mod AgainSums
+pub mod Slight
+pub mod CanonicalNimbers
+pub mod NimberPositions
+pub mod FirstSteps
+pub mod NimberRows
+pub mod PairSteps
 pub mod NegativeOptions
 pub mod NegativeSteps
 pub mod MultipleSteps

@@ -4,3 +4,4 @@ pub mod Lists
 pub mod Written
 pub mod Finds
 pub mod Progress
+pub mod Firsts

@@ -1,5 +1,5 @@
 //! The sum of the games of two handles.
-ghost use Rattle.std.specs.Prelude.{◌≡◌, ◌*◌, ◌≤◌, ◌<◌, ◌↔◌, IfErr, IfOk, IsSome, IsTrue, OnOk, length};
+ghost use Rattle.std.specs.Prelude.{◌≡◌, ◌*◌, ◌≤◌, IfErr, IfOk, IsSome, OnOk, length};
 ghost use Rattle.cg_canon.specs.Items.{AllPass, WasRefused};
 ghost use Rattle.cg_canon.specs.Made.{ItemsMade};
 ghost use Rattle.cg_canon.specs.Works.{Keeps, work_state};
@@ -14,8 +14,10 @@ ghost use Rattle.cg_sum.specs.Progress.{ArePositionsOf, HoldsNimbers, HoldsSums}
 
 use crate::found::Sums;
 use crate::item::LookUp;
-use crate::limits::positions_within;
+use crate::limits::{is_product_above, positions_within};
+use crate::nimber_sums::nimber_sum;
 use crate::nimbers::Nimbers;
+use crate::pair::nimber_pair;
 use crate::position::{Position, learned};
 use crate::rows::add_rows;
 use cg_canon::{ValueFault, Work, keep_sum, sum_again};
@@ -77,8 +79,33 @@ fn new_sum<B: BoardForms, S: CellStore<GameFacts<B>>>(
     Ok(sum)
 }
 
-/// Makes the items of the sum's own list, of which the last is the sum, and keeps the sums.
+/// Makes the items of the sum's own list, of which the last is the sum. Those of two nimbers are nimbers; others are kept.
 pub(crate) fn found_sum<B: BoardForms, S: CellStore<GameFacts<B>>>(
+    alloc: Global,
+    work: &mut Work<B, S>,
+    a: Handle,
+    b: Handle,
+    sums: &mut Sums,
+    look_up: LookUp,
+) -> Result<Handle, ValueFault>
+    requires a { IsGame (work_state S.state work.old) a }
+    requires b { IsGame (work_state S.state work.old) b }
+    requires holds { HoldsSums (work_state S.state work.old) sums.old }
+    ensures game { let W = work_state S.state work.old in IfOk result (λ h. StandsFor (work_state S.state work.new) h
+        (can (sum_of (game_at W a) (game_at W b)))) }
+    ensures holds { OnOk result (HoldsSums (work_state S.state work.new) sums.new) }
+    ensures made { let W = work_state S.state work.old in ItemsMade W (work_state S.state work.new)
+        (sum_items work.old.limit (game_at W a) (game_at W b)) result }
+    ensures spare { (work_state S.state work.old).spare ≤ (work_state S.state work.new).spare }
+{
+    match nimber_pair(alloc, work, a, b)? {
+        Some(pair) => nimber_sum(alloc, work, a, b, pair),
+        None => other_sum(alloc, work, a, b, sums, look_up),
+    }
+}
+
+// Makes the items of the sum's own list, of which the last is the sum, and keeps the sums.
+fn other_sum<B: BoardForms, S: CellStore<GameFacts<B>>>(
     alloc: Global,
     work: &mut Work<B, S>,
     a: Handle,
@@ -202,11 +229,4 @@ fn both_positions<B: BoardForms, S: CellStore<GameFacts<B>>>(
         return Err(ValueFault::Positions);
     }
     Ok(Both { firsts, seconds })
-}
-
-// Whether m * n is above the limit.
-fn is_product_above(m: usize, n: usize, limit: u64) -> bool
-    ensures { IsTrue result ↔ (limit < m * n) }
-{
-    (m as u128) * (n as u128) > limit as u128
 }

@@ -4,11 +4,13 @@
 //! refused: [`sum`] the sums of all pairs of positions, [`negative`] the negatives of all positions,
 //! [`multiple`] the sums of its steps. A sum is noted on the cell of its pair, so that a second sum of the
 //! same two positions takes the note; the steps of a multiple keep their sums instead. The sum of two
-//! nimbers is the nimber of the exclusive or of their numbers, which is made once in a call. The charge is
-//! the same.
+//! nimbers is the nimber of the exclusive or of their numbers, which is made once in a call. Where both games
+//! are nimbers, all sums of their positions are, and each is charged by what the first that is equal cost. The
+//! charge is the same.
 #![tactic(auto)]
 
 mod addition;
+mod firsts;
 mod form;
 mod found;
 mod gather;
@@ -16,7 +18,9 @@ mod item;
 mod limits;
 mod multiples;
 mod negation;
+mod nimber_sums;
 mod nimbers;
+mod pair;
 mod pairs;
 mod position;
 mod rows;

@@ -1,5 +1,5 @@
 //! Positions, within the limit of a work.
-ghost use Rattle.std.specs.Prelude.{◌≡◌, ◌⊎◌, ◌≤◌, ◌<◌, IfErr, IfOk, OnOk, length};
+ghost use Rattle.std.specs.Prelude.{◌≡◌, ◌⊎◌, ◌*◌, ◌≤◌, ◌<◌, ◌↔◌, IfErr, IfOk, IsTrue, OnOk, length};
 ghost use Rattle.cg_canon.specs.Works.{work_state};
 ghost use Rattle.cg_cells.specs.Store.{Spends};
 ghost use Rattle.cg_nodes.specs.Games.{IsGame, StandFor, game_at};
@@ -32,4 +32,11 @@ pub(crate) fn positions_within<B: BoardForms, S: CellStore<GameFacts<B>>>(
         Err(PositionsFault::Positions) => Err(ValueFault::Positions),
         Err(PositionsFault::Memory) => Err(ValueFault::Memory),
     }
+}
+
+/// Whether m * n is above the limit.
+pub(crate) fn is_product_above(m: usize, n: usize, limit: u64) -> bool
+    ensures { IsTrue result ↔ (limit < m * n) }
+{
+    (m as u128) * (n as u128) > limit as u128
 }

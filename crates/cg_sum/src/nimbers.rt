@@ -99,15 +99,15 @@ pub(crate) fn value_over(
     }
 }
 
-// Whether the number is 0.
-fn is_zero(x: Dyadic) -> bool
+/// Whether the number is 0.
+pub(crate) fn is_zero(x: Dyadic) -> bool
     ensures { IsTrue result → x ≡ whole (pos 0) }
 {
     x.num() == 0
 }
 
-// Whether the two are one list.
-fn is_same(a: ListId, b: ListId) -> bool
+/// Whether the two are one list.
+pub(crate) fn is_same(a: ListId, b: ListId) -> bool
     ensures { IsTrue result → a ≡ b }
 {
     a == b

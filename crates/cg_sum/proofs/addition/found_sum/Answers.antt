@@ -1,25 +1,29 @@
-use Rattle.std.proofs.Common.{refl, sym, ◌∙◌, ap, Err, Ok}
-use Rattle.std.proofs.lemmas.Result.{err_from_is_err_and}
+-- Two nimbers, or other games: what was read before has made nothing.
 use Rattle.cg_canon.specs.Works.{work_state}
-use Rattle.cg_canon.proofs.MadeSteps.{made_with}
-use Rattle.cg_sum.proofs.Members.{not_none}
-use Rattle.cg_sum.proofs.SumEnds.{same_refusal, sum_stands}
+use Rattle.cg_sum.proofs.FirstSteps.{ok_anyway}
+use Rattle.cg_sum.proofs.PairSteps.{read_items}
+use Rattle.cg_sum.proofs.SumSteps.{holds_later}
 use Rattle.cg_sum.proofs.addition.found_sum.Goals as goal
 
-pub returns-in_err-add_sums-clause-made : goal.returns-in_err-add_sums-clause-made
-returns-in_err-add_sums-clause-made g c =
-    let p = err_from_is_err_and c.from_residual.result c.from_residual.ensures.1 in
-    same_refusal _ _ _ c.add_sums.result _ _ c.in_err-add_sums.was (p.1 ∙ ap Err p.2) c.add_sums.ensures.made
-
-pub unreachable-requires : goal.unreachable-requires
-unreachable-requires g c = not_none _ c.in_ok-add_sums.ensures.found (sym c.get.ensures ∙ c.in-None.is)
-
-pub returns-clause-game : goal.returns-clause-game
-returns-clause-game g c =
+pub other_sum-requires-clause-holds : goal.other_sum-requires-clause-holds
+other_sum-requires-clause-holds g c =
     let W = work_state g.S.CellStore.state in
-    sum_stands (W c.args.work.now) (W c.add_sums.new.work) c.add_sums.ensures.made.keeps.known _ c.in_ok-add_sums.ensures.holds _ _ _ c.requires.a c.requires.b
-    (sym c.get.ensures ∙ c.in-Some.is)
+    holds_later (W c.args.work.now) (W c.nimber_pair.new.store) c.nimber_pair.ensures.spends.known _ c.requires.holds
 
-pub returns-clause-made : goal.returns-clause-made
-returns-clause-made g c =
-    made_with _ _ _ c.add_sums.result (Ok _) _ _ c.in_ok-add_sums.was refl c.add_sums.ensures.made
+pub returns-in-Some-clause-holds : goal.returns-in-Some-clause-holds
+returns-in-Some-clause-holds g c =
+    let W = work_state g.S.CellStore.state in
+    ok_anyway c.nimber_sum.result _ (holds_later (W c.args.work.now) (W c.nimber_sum.new.work)
+    (λ i x k. c.nimber_sum.ensures.made.keeps.known i x (c.nimber_pair.ensures.spends.known i x k)) _ c.requires.holds)
+
+pub returns-in-Some-clause-made : goal.returns-in-Some-clause-made
+returns-in-Some-clause-made g c =
+    let W = work_state g.S.CellStore.state in
+    read_items (W c.args.work.now) (W c.nimber_pair.new.store) c.nimber_pair.ensures.spends c.args.a c.args.b c.requires.a
+    c.requires.b _ c.nimber_sum.result c.nimber_sum.ensures.made
+
+pub returns-in-None-clause-made : goal.returns-in-None-clause-made
+returns-in-None-clause-made g c =
+    let W = work_state g.S.CellStore.state in
+    read_items (W c.args.work.now) (W c.nimber_pair.new.store) c.nimber_pair.ensures.spends c.args.a c.args.b c.requires.a
+    c.requires.b _ c.other_sum.result c.other_sum.ensures.made
