@@ -19,3 +19,5 @@ pub mod Reaching
 pub mod Ranking
 pub mod Forming
 pub mod Telling
+pub mod FormTables
+pub mod DistinctSteps
