@@ -21,3 +21,5 @@ pub mod Forming
 pub mod Dominating
 pub mod Telling
 pub mod Translated
+pub mod FormTables
+pub mod DistinctSteps

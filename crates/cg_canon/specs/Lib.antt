@@ -4,6 +4,7 @@ pub mod Profiles
 pub mod Recents
 pub mod Memos
 pub mod Added
+pub mod MadeForms
 pub mod Works
 pub mod Made
 pub mod NumberItems
@@ -17,3 +18,4 @@ pub mod Told
 pub mod Reach
 pub mod Ranked
 pub mod Candidates
+pub mod Distinct

@@ -7,13 +7,15 @@ ghost use Rattle.cg_nodes.specs.Games.{AreGames, StandsFor, games_at};
 ghost use Rattle.cg_nodes.specs.Spelled.{can};
 ghost use Rattle.cg_canon.specs.Candidates.{AreApartByTerm};
 ghost use Rattle.cg_canon.specs.Items.{AllPass, WasRefused, made};
+ghost use Rattle.cg_canon.specs.Made.{ItemsMade};
 ghost use Rattle.cg_canon.specs.Profiles.{IsProfile};
 ghost use Rattle.cg_canon.specs.Terms.{NoneComparableByTerm};
 ghost use Rattle.cg_canon.specs.Wholes.{whole_game};
 ghost use Rattle.cg_canon.specs.Works.{IsUnspent, Keeps, work_state};
 
+use crate::distinct::distinct;
 use crate::fault::ValueFault;
-use crate::item::{item_of_number, listed_item};
+use crate::item::{item_of_number, known_item, listed_item};
 use crate::profile::Profile;
 use crate::profiles::outline_of;
 use crate::reduce::reduced;
@@ -101,13 +103,116 @@ fn form_item<B: BoardForms, S: CellStore<GameFacts<B>>>(
     }
 }
 
+/// Up to so many options of a side are looked up among those that a form was made from.
+const MANY: usize = 32;
+
+/// Makes the item of the canonical form of the game with these options, and keeps the form with them.
+#[tactic(auto, using(crate::proofs::CandidateLaws::no_terms))]
+fn kept_item<B: BoardForms, S: CellStore<GameFacts<B>>>(
+    alloc: Global,
+    work: &mut Work<B, S>,
+    lefts: &[Handle],
+    rights: &[Handle],
+    extra: u64,
+) -> Result<Handle, ValueFault>
+    requires extra { extra ≤ 8 }
+    requires lefts { AreGames (work_state S.state work.old) lefts.now }
+    requires rights { AreGames (work_state S.state work.old) rights.now }
+    ensures game { let W = work_state S.state work.old in IfOk result (λ h. StandsFor (work_state S.state work.new) h
+        (can (node (games_at W lefts.now) (games_at W rights.now)))) }
+    ensures made { let W = work_state S.state work.old in ItemsMade W (work_state S.state work.new)
+        (made (can (node (games_at W lefts.now) (games_at W rights.now))) extra ∷ []) result }
+    ensures same { OnErr result (Spends 0 (work_state S.state work.old) (work_state S.state work.new)) }
+    ensures spare { OnOk result ((work_state S.state work.old).spare + extra ≤ (work_state S.state work.new).spare) }
+{
+    let form = form_item(alloc, work, lefts, rights, None, extra)?;
+    // Where there is no memory for it, it is made anew the next time.
+    let _kept = work.keep_made(lefts, rights, form);
+    Ok(form)
+}
+
+/// Makes the item of the canonical form of the game with these options, by the form that was made from them where it is kept.
+fn found_item<B: BoardForms, S: CellStore<GameFacts<B>>>(
+    alloc: Global,
+    work: &mut Work<B, S>,
+    lefts: &[Handle],
+    rights: &[Handle],
+    extra: u64,
+) -> Result<Handle, ValueFault>
+    requires extra { extra ≤ 8 }
+    requires lefts { AreGames (work_state S.state work.old) lefts.now }
+    requires rights { AreGames (work_state S.state work.old) rights.now }
+    ensures game { let W = work_state S.state work.old in IfOk result (λ h. StandsFor (work_state S.state work.new) h
+        (can (node (games_at W lefts.now) (games_at W rights.now)))) }
+    ensures made { let W = work_state S.state work.old in ItemsMade W (work_state S.state work.new)
+        (made (can (node (games_at W lefts.now) (games_at W rights.now))) extra ∷ []) result }
+    ensures same { OnErr result (Spends 0 (work_state S.state work.old) (work_state S.state work.new)) }
+    ensures spare { OnOk result ((work_state S.state work.old).spare + extra ≤ (work_state S.state work.new).spare) }
+{
+    match work.made_from(lefts, rights) {
+        Some(form) => {
+            known_item(alloc, work, form, extra)?;
+            Ok(form)
+        }
+        None => kept_item(alloc, work, lefts, rights, extra),
+    }
+}
+
+/// Makes the item of the canonical form of the game with these options, of which each counts once and in any order.
+fn distinct_item<B: BoardForms, S: CellStore<GameFacts<B>>>(
+    alloc: Global,
+    work: &mut Work<B, S>,
+    lefts: &[Handle],
+    rights: &[Handle],
+    extra: u64,
+) -> Result<Handle, ValueFault>
+    requires extra { extra ≤ 8 }
+    requires lefts { AreGames (work_state S.state work.old) lefts.now }
+    requires rights { AreGames (work_state S.state work.old) rights.now }
+    ensures game { let W = work_state S.state work.old in IfOk result (λ h. StandsFor (work_state S.state work.new) h
+        (can (node (games_at W lefts.now) (games_at W rights.now)))) }
+    ensures made { let W = work_state S.state work.old in ItemsMade W (work_state S.state work.new)
+        (made (can (node (games_at W lefts.now) (games_at W rights.now))) extra ∷ []) result }
+    ensures same { OnErr result (Spends 0 (work_state S.state work.old) (work_state S.state work.new)) }
+    ensures spare { OnOk result ((work_state S.state work.old).spare + extra ≤ (work_state S.state work.new).spare) }
+{
+    let own = distinct(alloc, lefts)?;
+    let others = distinct(alloc, rights)?;
+    found_item(alloc, work, own.as_slice(), others.as_slice(), extra)
+}
+
+/// Makes the item of the canonical form of the game with these options. Where they are few, it is looked for among those that
+/// were made.
+#[tactic(auto, using(crate::proofs::CandidateLaws::no_terms))]
+fn any_item<B: BoardForms, S: CellStore<GameFacts<B>>>(
+    alloc: Global,
+    work: &mut Work<B, S>,
+    lefts: &[Handle],
+    rights: &[Handle],
+    extra: u64,
+) -> Result<Handle, ValueFault>
+    requires extra { extra ≤ 8 }
+    requires lefts { AreGames (work_state S.state work.old) lefts.now }
+    requires rights { AreGames (work_state S.state work.old) rights.now }
+    ensures game { let W = work_state S.state work.old in IfOk result (λ h. StandsFor (work_state S.state work.new) h
+        (can (node (games_at W lefts.now) (games_at W rights.now)))) }
+    ensures made { let W = work_state S.state work.old in ItemsMade W (work_state S.state work.new)
+        (made (can (node (games_at W lefts.now) (games_at W rights.now))) extra ∷ []) result }
+    ensures same { OnErr result (Spends 0 (work_state S.state work.old) (work_state S.state work.new)) }
+    ensures spare { OnOk result ((work_state S.state work.old).spare + extra ≤ (work_state S.state work.new).spare) }
+{
+    if lefts.len() > MANY || rights.len() > MANY {
+        return form_item(alloc, work, lefts, rights, None, extra);
+    }
+    distinct_item(alloc, work, lefts, rights, extra)
+}
+
 /// Makes the item of the canonical form of the game with these Left and Right options, with a cost of `extra` more, where
 /// `extra` is at most 8. The lists may have any order and repetitions.
 ///
 /// `Range` comes exactly where the game equals a number out of range; else `Depth` exactly where the depth of the canonical
 /// form is above 512; else `Full` exactly where its cost and `extra` together bring the total cost above the share. After a
 /// refusal nothing was spent. (Siegel, Combinatorial Game Theory (2013), II.2 and II.3.)
-#[tactic(auto, using(crate::proofs::CandidateLaws::no_terms))]
 pub fn canonical<B: BoardForms, S: CellStore<GameFacts<B>>>(
     alloc: Global,
     work: &mut Work<B, S>,
@@ -132,7 +237,7 @@ pub fn canonical<B: BoardForms, S: CellStore<GameFacts<B>>>(
 {
     // Read for the proof alone: the meter tells what the store has to spare.
     let _before = work.spent();
-    let outcome = form_item(alloc, work, lefts, rights, None, extra);
+    let outcome = any_item(alloc, work, lefts, rights, extra);
     let _after = work.spent();
     outcome
 }

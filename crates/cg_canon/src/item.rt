@@ -184,7 +184,7 @@ pub fn number_item<B: BoardForms, S: CellStore<GameFacts<B>>>(
 }
 
 /// Charges the item of a form that is known already.
-fn known_item<B: BoardForms, S: CellStore<GameFacts<B>>>(
+pub(crate) fn known_item<B: BoardForms, S: CellStore<GameFacts<B>>>(
     alloc: Global,
     work: &mut Work<B, S>,
     handle: Handle,

@@ -4,9 +4,11 @@ ghost use Rattle.cg_form.specs.Order.{le};
 ghost use Rattle.cg_nodes.specs.Games.{IsGame, game_at};
 ghost use Rattle.cg_canon.specs.Profiles.{IsProfile};
 ghost use Rattle.cg_canon.specs.Added.{IsKnownSum};
+ghost use Rattle.cg_canon.specs.MadeForms.{FormsHold, IsFormOf};
 ghost use Rattle.cg_canon.specs.Works.{IsUnspent, WorkHolds, WorkOf, work_code, work_state};
 
 use crate::fault::ValueFault;
+use crate::made::MadeForms;
 use crate::memo::{KnownSum, Memo};
 use crate::profile::Profile;
 use crate::recent::Answer;
@@ -29,6 +31,7 @@ pub struct Work<'a, B: BoardForms, S: CellStore<GameFacts<B>>> {
     start: u64,
     limit: u64,
     memo: Memo,
+    made: MadeForms,
     of: PhantomData<B>,
 }
 
@@ -39,7 +42,7 @@ impl<'a, B: BoardForms, S: CellStore<GameFacts<B>>> Model for Work<'a, B, S> {
 
     ghost view = { λ w. record { store = w.store; spent = w.spent; share = w.share; start = w.start; limit = w.limit } };
 
-    ghost invariant = { λ w. WorkHolds (S.state w.store.now) w.spent w.share w.start w.memo };
+    ghost invariant = { λ w. WorkHolds (S.state w.store.now) w.spent w.share w.start w.memo × FormsHold (S.state w.store.now) w.made };
 }
 
 impl<'a, B: BoardForms, S: CellStore<GameFacts<B>>> Work<'a, B, S> {
@@ -62,6 +65,7 @@ impl<'a, B: BoardForms, S: CellStore<GameFacts<B>>> Work<'a, B, S> {
             start,
             limit: positions,
             memo: Memo::new(alloc),
+            made: MadeForms::new(alloc),
             of: PhantomData,
         }
     }
@@ -96,6 +100,7 @@ impl<'a, B: BoardForms, S: CellStore<GameFacts<B>>> Work<'a, B, S> {
             start: _,
             limit: _,
             memo: _,
+            made: _,
             of: _,
         } = self;
         store
@@ -178,6 +183,27 @@ impl<'a, B: BoardForms, S: CellStore<GameFacts<B>>> Work<'a, B, S> {
     {
         self.memo
             .keep_added(a.id().number(), b.id().number(), known)?;
+        Ok(())
+    }
+
+    /// The form that was made from these options, if it is kept.
+    pub(crate) fn made_from(&self, lefts: &[Handle], rights: &[Handle]) -> Option<Handle>
+        ensures { IfSome result (IsFormOf (S.state self.now.store.now) lefts.now rights.now) }
+    {
+        self.made.find(lefts, rights)
+    }
+
+    /// Keeps the form that was made from these options.
+    pub(crate) fn keep_made(
+        &mut self,
+        lefts: &[Handle],
+        rights: &[Handle],
+        form: Handle,
+    ) -> Result<(), AllocError>
+        requires { IsFormOf (S.state self.old.store.now) lefts.now rights.now form }
+        ensures { self.new ≡ self.old }
+    {
+        self.made.keep(lefts, rights, form)?;
         Ok(())
     }
 }

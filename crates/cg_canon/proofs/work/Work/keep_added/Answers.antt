@@ -5,9 +5,11 @@ use Rattle.cg_canon.proofs.Holding.{holds_same, holds_sum}
 use Rattle.cg_canon.proofs.work.Work.keep_added.Goals as goal
 
 pub invariant_of-self : goal.invariant_of-self
-invariant_of-self g c =
-    holds_same (g.S.CellStore.state c.self.inside.store.now) c.self.inside.spent c.self.inside.share c.self.inside.start c.self.inside.memo c.keep_added.new.self
-    c.self.invariant c.in_err-keep_added.ensures.answers c.in_err-keep_added.ensures.profiles c.in_err-keep_added.ensures.err
+invariant_of-self g c = (
+  holds_same (g.S.CellStore.state c.self.inside.store.now) c.self.inside.spent c.self.inside.share c.self.inside.start c.self.inside.memo c.keep_added.new.self
+      c.self.invariant.0 c.in_err-keep_added.ensures.answers c.in_err-keep_added.ensures.profiles c.in_err-keep_added.ensures.err,
+  c.self.invariant.1,
+)
 
 pub invariant_of-self-2 : goal.invariant_of-self-2
 invariant_of-self-2 g c =
@@ -16,7 +18,9 @@ invariant_of-self-2 g c =
     let P : WorkOf _ → Type 0 = λ w. IsKnownSum (g.S.CellStore.state w.store.now) c.args.a c.args.b c.args.known in
     let Q : ℕ → ℕ → Type 0 = λ i j. IsKnownSum (g.S.CellStore.state c.self.inside.store.now) i j c.args.known in
     let h = subst P (sym c.self.view_is) c.requires in
-    let k = subst (λ i. Q i c.number-2.result) (sym first) (subst (λ j. Q c.args.a j) (sym second) h) in
-    holds_sum (g.S.CellStore.state c.self.inside.store.now) c.self.inside.spent c.self.inside.share c.self.inside.start c.self.inside.memo c.keep_added.new.self
-    c.number.result c.number-2.result c.args.known
-    c.self.invariant c.in_ok-keep_added.ensures.ok c.in_ok-keep_added.ensures.answers c.in_ok-keep_added.ensures.profiles k
+    let k = subst (λ i. Q i c.number-2.result) (sym first) (subst (λ j. Q c.args.a j) (sym second) h) in (
+      holds_sum (g.S.CellStore.state c.self.inside.store.now) c.self.inside.spent c.self.inside.share c.self.inside.start c.self.inside.memo c.keep_added.new.self
+          c.number.result c.number-2.result c.args.known
+          c.self.invariant.0 c.in_ok-keep_added.ensures.ok c.in_ok-keep_added.ensures.answers c.in_ok-keep_added.ensures.profiles k,
+      c.self.invariant.1,
+    )

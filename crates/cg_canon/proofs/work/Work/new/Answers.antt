@@ -5,7 +5,9 @@ use Rattle.cg_canon.proofs.work.Work.new.Goals as goal
 pub invariant_of-result : goal.invariant_of-result
 invariant_of-result g c =
     let few = c.spare-start.ensures.few in
-    let same = c.spare-start.ensures.value in
-    holds_nothing (g.S.CellStore.state c.args.store.now) 0 c.args.share c.spare-start.result c.new.result
-    (omega arith) (omega (arith, c.requires)) (omega arith) (omega arith) (omega arith)
-    c.new.ensures.answers c.new.ensures.profiles c.new.ensures.sums
+    let same = c.spare-start.ensures.value in (
+      holds_nothing (g.S.CellStore.state c.args.store.now) 0 c.args.share c.spare-start.result c.new.result
+          (omega arith) (omega (arith, c.requires)) (omega arith) (omega arith) (omega arith)
+          c.new.ensures.answers c.new.ensures.profiles c.new.ensures.sums,
+      record { each = λ ls rs form k. absurd (c.new-2.ensures ls rs form k) },
+    )
