@@ -12,7 +12,7 @@ use Rattle.cg_form.proofs.Among.{among-append, carry}
 use Rattle.cg_form.proofs.Structure.{game_cmp-refl}
 use Rattle.cg_nimbers.specs.Nimbers.{nimber_form, nimber_over, nimbers_below, zero_form, zero_number}
 use Rattle.cg_sum.proofs.Slight.{SideReduced, canonical_node, slight-no_number, slight-number}
-use Rattle.cg_nimbers.proofs.NimberLists.{among_nimbers, far-nimber, near-nimber, nimber_among, nimber_far, nimber_near, nimbers_apart, nimbers_below-next}
+use Rattle.cg_nimbers.proofs.NimberLists.{among_nimbers, far-nimber, near-nimber, nimber_far, nimber_near, nimbers_apart, nimbers_below-next}
 
 -- ---- the structural order
 

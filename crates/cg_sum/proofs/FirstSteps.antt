@@ -1,12 +1,11 @@
 -- The first nimbers, and the items of sums that are nimbers.
-use Rattle.std.proofs.Common.{◌≡◌, ◌⊎◌, inl, inr, refl, ap, sym, ◌∙◌, subst, ℕ, zero, suc, ◌+◌, ◌-◌, ◌<◌, ◌≤◌, arith, List, [], ◌∷◌, ◌++◌, length, length-append, get_or, Result, Ok, Err}
+use Rattle.std.proofs.Common.{◌≡◌, inl, inr, refl, ap, sym, ◌∙◌, subst, ℕ, suc, ◌+◌, ◌-◌, ◌<◌, arith, List, [], ◌∷◌, ◌++◌, length, length-append, get_or, Result, Ok, Err}
 use Rattle.std.proofs.Math.Seq.{get_or-append_seam}
 use Rattle.std.proofs.lemmas.List.{get_or-map, get_or_append_left}
-use Rattle.std.proofs.lemmas.Nat.{xor_comm}
-use Rattle.std.specs.Prelude.{bit_xor, slice_index, OnOk}
+use Rattle.std.specs.Prelude.{bit_xor, OnOk}
 use Rattle.cg_canon.proofs.AgainItems.{pass_alone}
 use Rattle.cg_canon.proofs.MadeSteps.{made_as}
-use Rattle.cg_canon.specs.Items.{AllPass, Item, made}
+use Rattle.cg_canon.specs.Items.{AllPass, made}
 use Rattle.cg_canon.specs.Made.{ItemsMade}
 use Rattle.cg_canon.specs.SumItems.{sum_item}
 use Rattle.cg_canon.specs.Works.{WorkOf, work_state}
@@ -16,7 +15,7 @@ use Rattle.cg_cells.specs.Meaning.{Grows}
 use Rattle.cg_cells.specs.Store.{State, thing_at}
 use Rattle.cg_dyadic.proofs.Integers.{le_or_gt}
 use Rattle.cg_form.specs.Canonical.{Canonical}
-use Rattle.cg_form.specs.Game.{Game, node, number}
+use Rattle.cg_form.specs.Game.{Game, node}
 use Rattle.cg_form.specs.Sum.{sum}
 use Rattle.cg_nimbers.proofs.NimberLists.{nimbers_below-next}
 use Rattle.cg_nimbers.proofs.NimberSums.{nimber_sum}
@@ -25,7 +24,7 @@ use Rattle.cg_nodes.proofs.Forms.{can-same}
 use Rattle.cg_nodes.proofs.Later.{stand_later, stands_game, stands_is_game}
 use Rattle.cg_nodes.proofs.Members.{has_game}
 use Rattle.cg_nodes.specs.CanForms.{can-fixed}
-use Rattle.cg_nodes.specs.Games.{AreGames, IsGame, StandFor, StandsFor, game_at, games_at}
+use Rattle.cg_nodes.specs.Games.{AreGames, StandFor, StandsFor, game_at, games_at}
 use Rattle.cg_nodes.specs.Meant.{Meant}
 use Rattle.cg_nodes.specs.Spelled.{can}
 use Rattle.cg_sum.specs.Firsts.{AreFirst, HoldsCosts, HoldsFirst, nimber_item}

@@ -1,12 +1,12 @@
 -- Two games that are found to be nimbers, and their own list of items.
-use Rattle.std.proofs.Common.{◌≡◌, inl, inr, refl, ap, sym, ◌∙◌, subst, ℕ, zero, suc, ◌+◌, ◌*◌, ◌<◌, ◌≤◌, arith, List, [], ◌∷◌, ◌++◌, length, get_or, pos, Option, Result, Ok, Err, Bool, false}
+use Rattle.std.proofs.Common.{◌≡◌, inl, inr, refl, ap, sym, ◌∙◌, subst, ℕ, zero, suc, ◌+◌, ◌*◌, ◌<◌, ◌≤◌, arith, List, length, get_or, pos, Option, Result, Err, Bool, false}
 use Rattle.std.proofs.lemmas.List.{same_lists}
 use Rattle.std.proofs.lemmas.Grind.{get_or_default_zero}
 use Rattle.std.proofs.lemmas.Bool.Decides.{eqb_tells}
-use Rattle.std.specs.Prelude.{◌==◌, bit_xor, not, IfOk}
+use Rattle.std.specs.Prelude.{◌==◌, bit_xor, not}
 use Rattle.cg_dyadic.proofs.Integers.{le_or_gt}
-use Rattle.cg_canon.proofs.Keeping.{keeps_all, spends_keeps}
-use Rattle.cg_canon.proofs.MadeSteps.{made_as, made_with, read_then}
+use Rattle.cg_canon.proofs.Keeping.{keeps_all}
+use Rattle.cg_canon.proofs.MadeSteps.{made_as, read_then}
 use Rattle.cg_canon.specs.Items.{Item}
 use Rattle.cg_canon.specs.Made.{ItemsMade}
 use Rattle.cg_canon.specs.SumItems.{pair_items, sum_items, within_limit}
@@ -20,11 +20,11 @@ use Rattle.cg_form.specs.Game.{Game, node, number}
 use Rattle.cg_form.specs.Sum.{sum}
 use Rattle.cg_nimbers.specs.Nimbers.{nimber_form, nimbers_below}
 use Rattle.cg_nodes.proofs.Later.{game_later, stands_game, stands_later}
-use Rattle.cg_nodes.specs.Games.{AreGames, IsGame, StandFor, StandsFor, game_at, games_at, listed}
+use Rattle.cg_nodes.specs.Games.{IsGame, StandFor, StandsFor, game_at, games_at, listed}
 use Rattle.cg_nodes.specs.Meant.{Meant}
 use Rattle.cg_nodes.specs.Positions.{positions_of}
 use Rattle.cg_nodes.specs.Spelled.{can}
-use Rattle.cg_sum.specs.Firsts.{AreFirst, HoldsFirst, IsPair, RowsKnown}
+use Rattle.cg_sum.specs.Firsts.{AreFirst, HoldsFirst, IsPair}
 use Rattle.cg_sum.specs.declared.firsts.FirstNimbers.{FirstNimbers}
 use Rattle.cg_sum.specs.declared.pair.NimberPair.{NimberPair}
 use Rattle.cg_sum.proofs.FirstSteps.{can-nimber_sum, first_later, first_stands, next_games}

@@ -1,5 +1,5 @@
 -- Canonical games from what either side sees of them, and games with the option 0 that equal no number.
-use Rattle.std.proofs.Common.{◌≡◌, inl, inr, subst, List, Bool, true, false, IsTrue}
+use Rattle.std.proofs.Common.{◌≡◌, inl, inr, List, Bool, true, false, IsTrue}
 use Rattle.cg_dyadic.specs.Number.{Number}
 use Rattle.cg_dyadic.proofs.Truth.{true-or-not}
 use Rattle.cg_form.specs.Canonical.{Canonical, Reduced}
@@ -8,7 +8,7 @@ use Rattle.cg_form.specs.Side.{AtMost, far, near, number_at_most}
 use Rattle.cg_form.specs.Simple.{NoNumber}
 use Rattle.cg_form.specs.Structure.{Rises}
 use Rattle.cg_form.proofs.Reduced.{all_canonical}
-use Rattle.cg_form.proofs.Sides.{not_far, not_near, number_side-less, number_side-trans, numbers-side, side-numbers, side_equal, side_trans}
+use Rattle.cg_form.proofs.Sides.{not_far, not_near, number_side-less, number_side-trans, side-numbers, side_equal, side_trans}
 use Rattle.cg_nimbers.specs.Nimbers.{zero_form, zero_number}
 
 -- of the options of a side none is no better than another or reversible, and they rise

@@ -1,5 +1,5 @@
 -- The first nimbers, which a call knows by their numbers, and the sums that are nimbers.
-use Rattle.std.specs.Prelude.{◌≡◌, ℕ, ◌+◌, ◌<◌, ◌≤◌, bit_xor, List, [], ◌∷◌, length, slice_index}
+use Rattle.std.specs.Prelude.{ℕ, ◌<◌, ◌≤◌, bit_xor, List, [], ◌∷◌, length, slice_index}
 use Rattle.cg_canon.specs.Items.{AllPass, Item, made}
 use Rattle.cg_cells.specs.Store.{State}
 use Rattle.cg_nimbers.specs.Nimbers.{nimber_form, nimbers_below}

@@ -1,5 +1,5 @@
 //! The sum of the games of two handles.
-ghost use Rattle.std.specs.Prelude.{◌≡◌, ◌*◌, ◌≤◌, IfErr, IfOk, IsSome, OnOk, length};
+ghost use Rattle.std.specs.Prelude.{◌*◌, ◌≤◌, IfErr, IfOk, IsSome, OnOk, length};
 ghost use Rattle.cg_canon.specs.Items.{AllPass, WasRefused};
 ghost use Rattle.cg_canon.specs.Made.{ItemsMade};
 ghost use Rattle.cg_canon.specs.Works.{Keeps, work_state};

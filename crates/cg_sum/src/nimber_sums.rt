@@ -1,11 +1,11 @@
 //! The sums of two nimbers and of all their positions, which are nimbers.
-ghost use Rattle.std.specs.Prelude.{◌≡◌, ◌+◌, ◌≤◌, ◌<◌, bit_xor, IfOk, OnOk, length};
+ghost use Rattle.std.specs.Prelude.{◌+◌, ◌≤◌, ◌<◌, IfOk, OnOk};
 ghost use Rattle.cg_canon.specs.Made.{ItemsMade};
 ghost use Rattle.cg_canon.specs.SumItems.{pair_items, row_items, sum_items};
 ghost use Rattle.cg_canon.specs.Works.{work_state};
 ghost use Rattle.cg_form.specs.Sum.{sum};
 ghost use Rattle.cg_nimbers.specs.Nimbers.{nimber_form, nimbers_below};
-ghost use Rattle.cg_nodes.specs.Games.{IsGame, StandsFor, game_at};
+ghost use Rattle.cg_nodes.specs.Games.{StandsFor, game_at};
 ghost use Rattle.cg_nodes.specs.Spelled.{can};
 ghost use Rattle.cg_sum.specs.Firsts.{HoldsFirst, IsPair, RowsKnown};
 

@@ -6,7 +6,7 @@ ghost use Rattle.std.specs.Prelude.{◌≡◌, ◌≤◌, ◌<◌, IfOk, length,
 ghost use Rattle.std.specs.Option.{ForSome};
 ghost use Rattle.cg_cells.specs.Store.{Spends};
 ghost use Rattle.cg_nimbers.specs.Nimbers.{nimber_form};
-ghost use Rattle.cg_nodes.specs.Games.{AreGames, IsGame, StandsFor, games_at};
+ghost use Rattle.cg_nodes.specs.Games.{AreGames, IsGame, StandsFor};
 ghost use Rattle.cg_sum.specs.Firsts.{AreFirst, IsPair};
 
 use crate::firsts::FirstNimbers;
