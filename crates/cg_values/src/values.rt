@@ -53,7 +53,7 @@ fn part_value<B: BoardForms, S: CellStore<GameFacts<B>>, R: Rules, A: Adder>(
     ensures spare { start ≤ (work_state S.state work.new).spare }
 {
     let mut places: &[usize] = &part.next.places;
-    let mut options = Vec::new(alloc);
+    let mut options = Vec::with_capacity(alloc, part.next.counts.len())?;
     for count in &part.next.counts {
         let (own, others) = places.split_at(*count);
         let option = joined(alloc, work, adder, part.handles, own)?;
