@@ -5,7 +5,8 @@ use Rattle.std.specs.List.{flat_map}
 use Rattle.std.proofs.lemmas.Grind.{flat_map-append}
 use Rattle.std.proofs.lemmas.List.{append-nil, drop_more, length-map, map-append, take_all}
 use Rattle.cg_cells.specs.Store.{State}
-use Rattle.cg_canon.proofs.Keeping.{keeps_then}
+use Rattle.cg_canon.proofs.ItemLaws.{all_pass-none}
+use Rattle.cg_canon.proofs.Keeping.{keeps_all, keeps_then}
 use Rattle.cg_canon.proofs.MadeSteps.{made_as, made_then, passed, stopped}
 use Rattle.cg_canon.specs.Items.{AllPass, Item}
 use Rattle.cg_canon.specs.Made.{ItemsMade}
@@ -76,6 +77,19 @@ pub record Joining {R : Type 0} (s t : State Meant (WorkRest R)) (r : GameRules)
   pub keeps : Keeps s t
   pub more : s.spare ≤ t.spare
   pub others : HoldAt t r handles left (flat_map (parts_of r) (drop i (followers r p)))
+
+-- none of the boards so far
+pub joining_begun : {R : Type 0} (s : State Meant (WorkRest R)) (r : GameRules) (p : Grid) (handles places options : List ℕ)
+    → options ≡ [] → HoldAt s r handles places (flat_map (parts_of r) (followers r p)) → Joining s s r p handles 0 places options
+joining_begun s r p handles places options e held =
+    let P : List ℕ → Type 0 = λ z. StandFor s z [] in
+    record {
+      values = subst P (sym e) (tt, refl);
+      passed = all_pass-none s.rest.share s.rest.spent;
+      keeps = keeps_all s;
+      more = omega arith;
+      others = held;
+    }
 
 module _ {R : Type 0} (s : State Meant (WorkRest R)) (r : GameRules) (lawful : IsLawful r) (p : Grid) (has : r.has p ≡ true)
     (handles counts : List ℕ) (are : counts ≡ map (λ q. length (parts_of r q)) (followers r p)) where

@@ -22,43 +22,49 @@ use cg_moves::{Board, NextPlaces, Opened, Rules};
 use cg_nodes::{BoardForms, GameFacts, Handle};
 use std::alloc::Global;
 
+/// A part that play can come to, what comes next after it, and the handles of the values of the parts before it.
+#[derive(Clone, Copy)]
+struct Part<'a> {
+    board: &'a Board,
+    next: &'a NextPlaces,
+    handles: &'a [Handle],
+}
+
 /// Makes the items of the part, from the handles of the values of those before it.
 fn part_value<B: BoardForms, S: CellStore<GameFacts<B>>, R: Rules, A: Adder>(
     alloc: Global,
     work: &mut Work<B, S>,
     rules: &R,
     adder: &A,
-    board: &Board,
-    next: &NextPlaces,
-    handles: &[Handle],
+    part: Part<'_>,
     start: u64,
 ) -> Result<Handle, ValueFault>
-    requires has { (R.game rules.now).has board.now ≡ true }
+    requires has { (R.game rules.now).has part.board.now ≡ true }
     requires notes { MayNote B.form (R.game rules.now) }
-    requires lefts { next.now.lefts ≡ length (boards_after (R.game rules.now) Left board.now) }
-    requires counts { next.now.counts.items
-        ≡ map (λ q. length (parts_of (R.game rules.now) q)) (followers (R.game rules.now) board.now) }
-    requires values { HoldAt (work_state S.state work.old) (R.game rules.now) handles.now next.now.places.items
-        (flat_map (parts_of (R.game rules.now)) (followers (R.game rules.now) board.now)) }
+    requires lefts { part.next.now.lefts ≡ length (boards_after (R.game rules.now) Left part.board.now) }
+    requires counts { part.next.now.counts.items
+        ≡ map (λ q. length (parts_of (R.game rules.now) q)) (followers (R.game rules.now) part.board.now) }
+    requires values { HoldAt (work_state S.state work.old) (R.game rules.now) part.handles.now part.next.now.places.items
+        (flat_map (parts_of (R.game rules.now)) (followers (R.game rules.now) part.board.now)) }
     requires spare { start ≤ (work_state S.state work.old).spare }
-    ensures game { IfOk result (λ h. StandsFor (work_state S.state work.new) h (can (raw (R.game rules.now) board.now))) }
+    ensures game { IfOk result (λ h. StandsFor (work_state S.state work.new) h (can (raw (R.game rules.now) part.entry.board.now))) }
     ensures made { ItemsMade (work_state S.state work.old) (work_state S.state work.new)
-        (part_items work.old.limit (R.game rules.now) board.now) result }
+        (part_items work.old.limit (R.game rules.now) part.entry.board.now) result }
     ensures spare { start ≤ (work_state S.state work.new).spare }
 {
-    let mut places: &[usize] = &next.places;
-    let mut options = Vec::new(alloc);
-    for count in &next.counts {
+    let mut places: &[usize] = &part.next.places;
+    let mut options = Vec::with_capacity(alloc, part.next.counts.len())?;
+    for count in &part.next.counts {
         let (own, others) = places.split_at(*count);
-        let option = joined(alloc, work, adder, handles, own)?;
+        let option = joined(alloc, work, adder, part.handles, own)?;
         options.push(option)?;
         places = others;
     }
     let options = Options {
-        lefts: next.lefts,
+        lefts: part.next.lefts,
         handles: options,
     };
-    board_item(alloc, work, rules, board, &options, start)
+    board_item(alloc, work, rules, part.board, &options, start)
 }
 
 /// Makes the items of the parts, in order, and gives the handles of their values.
@@ -79,10 +85,15 @@ pub(crate) fn part_values<B: BoardForms, S: CellStore<GameFacts<B>>, R: Rules, A
     ensures more { (work_state S.state work.old).spare ≤ (work_state S.state work.new).spare }
 {
     let spare = work.spare();
-    let mut handles = Vec::new(alloc);
+    let mut handles = Vec::with_capacity(alloc, opened.boards.len())?;
     for (place, board) in opened.boards.as_slice().iter().enumerate() {
         let next = &opened.next[place];
-        let value = part_value(alloc, work, rules, adder, board, next, &handles, spare)?;
+        let part = Part {
+            board,
+            next,
+            handles: &handles,
+        };
+        let value = part_value(alloc, work, rules, adder, part, spare)?;
         handles.push(value)?;
     }
     Ok(handles)

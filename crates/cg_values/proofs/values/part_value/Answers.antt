@@ -2,8 +2,14 @@ use Rattle.std.proofs.Common.{refl, ap, ◌∙◌, Err, arith}
 use Rattle.std.proofs.lemmas.Result.{err_from_is_err_and}
 use Rattle.cg_canon.proofs.Keeping.{keeps_then}
 use Rattle.cg_canon.proofs.MadeSteps.{made_memory}
-use Rattle.cg_values.proofs.JoinSteps.{joining_made, joining_more, joining_stopped, joining_values, own_gives, own_held, parts_apart}
+use Rattle.cg_values.proofs.HandleSteps.{hold-as}
+use Rattle.cg_values.proofs.JoinSteps.{joining_begun, joining_made, joining_more, joining_stopped, joining_values, own_gives, own_held, parts_apart}
 use Rattle.cg_values.proofs.values.part_value.Goals as goal
+
+pub loop-count-init : goal.loop-count-init
+loop-count-init g c =
+    joining_begun _ _ _ _ _ _ c.in_ok-options.ensures.items
+    (hold-as _ _ _ _ _ _ _ refl c.deref-places.ensures.value c.requires.values)
 
 pub split_at-requires : goal.split_at-requires
 split_at-requires g c =
@@ -29,7 +35,7 @@ joined-requires-clause-games g c =
 pub returns-in_err-option-clause-made : goal.returns-in_err-option-clause-made
 returns-in_err-option-clause-made g c =
     let are = c.deref-count-items.ensures.value ∙ c.requires.counts in
-    let p = err_from_is_err_and c.from_residual.result c.from_residual.ensures.1 in
+    let p = err_from_is_err_and c.from_residual-in_err-option.result c.from_residual-in_err-option.ensures.1 in
     joining_stopped _ _ (g.met.R.Rules.lawful c.args.rules.now) _ c.requires.has _ _ are _ _ c.loop-count-test.true refl
     _ _ _ c.loop-count.invariant _ c.split_at.ensures.front _ _ c.joined.ensures _ _ c.in_err-option.was (p.1 ∙ ap Err p.2)
 

@@ -4,4 +4,4 @@ use Rattle.cg_values.proofs.values.part_value.Given as goal
 
 abbrev pub invariant-loop-count : goal.invariant-loop-count
 invariant-loop-count g l = Joining (work_state g.S.CellStore.state l.initial.work) (work_state g.S.CellStore.state l.work)
-    (g.R.Rules.game l.rules) l.board l.handles l.count-index l.places l.options.items
+    (g.R.Rules.game l.rules) l.part.board.now l.part.handles.now l.count-index l.places l.options.items

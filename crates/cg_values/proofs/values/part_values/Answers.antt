@@ -37,7 +37,7 @@ part_value-requires-clause-values g c =
 
 pub returns-in_err-value-clause-made : goal.returns-in_err-value-clause-made
 returns-in_err-value-clause-made g c =
-    let p = err_from_is_err_and c.from_residual.result c.from_residual.ensures.1 in
+    let p = err_from_is_err_and c.from_residual-in_err-value.result c.from_residual-in_err-value.ensures.1 in
     parts_stopped _ _ _ _ _ c.as_slice-board-items.ensures _ c.requires.next _ _ c.loop-place-test.true c.board-item.is _ _
     c.loop-place.invariant _ _ c.part_value.ensures.made _ _ c.in_err-value.was (p.1 ∙ ap Err p.2)
 
