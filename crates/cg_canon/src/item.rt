@@ -99,7 +99,27 @@ pub(crate) fn listed_item<B: BoardForms, S: CellStore<GameFacts<B>>>(
     ensures keeps { Keeps (work_state S.state work.old) (work_state S.state work.new) }
 {
     let profile = profile_of_lists(alloc, work, lefts, rights)?;
-    game_item(work, lefts, rights, &profile, extra)
+    let outcome = game_item(work, lefts, rights, &profile, extra);
+    keep_profile(work, &outcome, &profile);
+    outcome
+}
+
+/// Keeps the profile of the form that was made, where one was and there is memory for it.
+fn keep_profile<B: BoardForms, S: CellStore<GameFacts<B>>>(
+    work: &mut Work<B, S>,
+    outcome: &Result<Handle, ValueFault>,
+    profile: &Profile,
+)
+    requires game { IfOk outcome.now (λ h. IsGame (work_state S.state work.old) h) }
+    requires profile { IfOk outcome.now (λ h. IsProfile (game_at (work_state S.state work.old) h) profile.now) }
+    ensures { work.new ≡ work.old }
+{
+    if let Ok(handle) = outcome {
+        match work.keep(*handle, profile) {
+            Ok(()) => (),
+            Err(_) => (),
+        }
+    }
 }
 
 /// Makes the item of a game that is canonical as it is given, with a cost of `extra` more, where `extra` is at most 8. It
