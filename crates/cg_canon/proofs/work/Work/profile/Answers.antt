@@ -12,4 +12,4 @@ returns g c =
     if_lent c.profile.result (profiled c.self.inside.memo c.number.result) (λ p. IsProfile (game_at (g.S.CellStore.state c.args.self.now.store.now) c.args.a) p) c.profile.ensures
     (λ p e. (let P : WorkOf _ → Type 0 = λ w. IsProfile (game_at (g.S.CellStore.state w.store.now) c.args.a) p in
     let Q : ℕ → Type 0 = λ i. IsProfile (game_at (g.S.CellStore.state c.self.inside.store.now) i) p in
-    subst P c.self.view_is (subst Q id (c.self.invariant.profiles c.number.result p e).1)))
+    subst P c.self.view_is (subst Q id (c.self.invariant.0.profiles c.number.result p e).1)))
