@@ -1,0 +1,2 @@
+pub mod Profiling
+pub mod Telling

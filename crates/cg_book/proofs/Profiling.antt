@@ -1,0 +1,134 @@
+-- Profiles from those of the options.
+use Rattle.std.proofs.Common.{◌≡◌, refl, ℕ, ◌+◌, ◌-◌, ◌≤◌, ◌^◌, arith, ap, sym, ◌∙◌, subst, List, [], ◌∷◌, ◌++◌, length, length-append, Bool, true, false, not, ◌&&◌, max, rules}
+use Rattle.std.specs.Prelude.{Option, Some, None, IsSome}
+use Rattle.cg_dyadic.specs.declared.cut.Cut.{Cut}
+use Rattle.cg_dyadic.specs.Cut.{in_gap}
+use Rattle.cg_dyadic.specs.Number.{InRange, Number}
+use Rattle.cg_dyadic.proofs.Strict.{gap_ends}
+use Rattle.cg_dyadic.proofs.Truth.{false-from}
+use Rattle.cg_form.specs.Cut.{AnyNumber, CutIs, CutOf, Joined, Turned, other_cut}
+use Rattle.cg_form.specs.Depth.{deepest, depth_of}
+use Rattle.cg_form.specs.Game.{Game, lefts, node, number, rights}
+use Rattle.cg_form.specs.Order.{no_one}
+use Rattle.cg_form.specs.Side.{at_most}
+use Rattle.cg_form.specs.Simple.{NoNumber}
+use Rattle.cg_form.proofs.Among.{lefts-node, rights-node}
+use Rattle.cg_form.proofs.Cut.{any-closed, cut-number, gap-fits, joined_more}
+use Rattle.cg_form.proofs.CutSteps.{cut_of_none}
+use Rattle.cg_form.proofs.Preorder.{equal_refl}
+use Rattle.cg_form.proofs.Simplicity.{none_fits}
+use Rattle.cg_nodes.specs.Longs.{cells_of}
+use Rattle.cg_nodes.proofs.LongSteps.{few_cells}
+use Rattle.cg_book.specs.declared.profile.Outline.{Outline}
+use Rattle.cg_book.specs.declared.profile.Profile.{Profile}
+use Rattle.cg_book.specs.Profiles.{IsOutline, IsProfile, chosen_cut}
+
+-- ---- a number
+
+pub number_profile : (x : Number) (c d : Cut) (n : ℕ) → c.at ≡ x → c.closed ≡ true → d.at ≡ x → d.closed ≡ true
+    → n ≡ cells_of x → InRange x → IsProfile (number x) (record { low = c; high = d; depth = 0; cost = n })
+number_profile x c d n at shut at' shut' cells range = record {
+  cuts = record {
+    low = cut-number AnyNumber true c x (number x) at shut (equal_refl (number x));
+    high = cut-number AnyNumber false d x (number x) at' shut' (equal_refl (number x));
+  };
+  depth = refl;
+  cost = cells;
+  small = omega (arith, few_cells x);
+  in_range = range;
+}
+
+-- ---- one option more
+
+pub no_one-last : (p : Game → Bool) (gs : List Game) (g : Game) → no_one p (gs ++ g ∷ []) ≡ (no_one p gs && not (p g))
+no_one-last p [] g = one (p g)
+  where
+    one : (b : Bool) → (not b && true) ≡ (true && not b)
+    one true = refl
+    one false = refl
+no_one-last p (h ∷ gs) g = ap (λ b. not (p h) && b) (no_one-last p gs g) ∙ join (not (p h)) (no_one p gs) (not (p g))
+  where
+    join : (a b c : Bool) → (a && (b && c)) ≡ ((a && b) && c)
+    join true b c = refl
+    join false b c = refl
+
+deepest-last : (gs : List Game) (g : Game) → deepest (gs ++ g ∷ []) ≡ max (deepest gs) (depth_of g)
+deepest-last [] g = omega arith
+deepest-last (h ∷ gs) g = omega (arith, deepest-last gs g)
+
+pub profile_cut : (s : Bool) (g : Game) (p : Profile) → IsProfile g p → CutIs AnyNumber s (chosen_cut s p.low p.high) g
+profile_cut true g p h = h.cuts.low
+profile_cut false g p h = h.cuts.high
+
+pub outline_none : (s : Bool) → IsOutline s [] (record { cut = None; deepest = 0; count = 0 })
+outline_none s = record { cut = record { tells = λ x r. refl }; deepest = refl; count = refl; few = omega arith }
+
+pub outline_more : (s : Bool) (gs : List Game) (g : Game) (o : Outline) (p : Profile) (c r : Cut) (d n : ℕ)
+    → c ≡ chosen_cut s p.low p.high → Joined s o.cut c r → d ≡ max o.deepest p.depth → n ≡ o.count + 1 → n ≤ 2 ^ 32
+    → IsOutline s gs o → IsProfile g p → IsOutline s (gs ++ g ∷ []) (record { cut = Some r; deepest = d; count = n })
+outline_more s gs g o p c r d n e j deep more few a b =
+    let P : Cut → Type 0 = λ z. CutIs AnyNumber s z g in
+    let one : CutIs AnyNumber s c g = subst P (sym e) (profile_cut s g p b) in
+    record {
+      cut = record {
+        tells = λ x k.
+            no_one-last (λ a. at_most s (number x) a) gs g
+            ∙ joined_more s x o.cut c r (no_one (λ a. at_most s (number x) a) gs) (at_most s (number x) g) (a.cut.tells x k)
+            (one.tells x k) j;
+      };
+      deepest = omega (arith, deepest-last gs g, a.deepest, b.depth);
+      count = omega (arith, length-append gs (g ∷ []), a.count);
+      few = few;
+    }
+
+-- ---- a game that equals no number
+
+pub record TwoCuts (o q : Option Cut) : Type 0 where
+  pub low : IsSome o
+  pub high : IsSome q
+
+some_is : (o : Option Cut) (c : Cut) → o ≡ Some c → IsSome o
+some_is o c e = let P : Option Cut → Type 0 = λ z. IsSome z in subst P (sym e) (search rules)
+
+-- neither of its lists is empty
+pub two_cuts : (ls rs : List Game) (o q : Option Cut) → NoNumber (node ls rs) → CutOf AnyNumber true o ls
+    → CutOf AnyNumber false q rs → TwoCuts o q
+two_cuts ls rs o q never l h =
+    let P : List Game → Type 0 = λ z. CutOf AnyNumber true o z in
+    let Q : List Game → Type 0 = λ z. CutOf AnyNumber false q z in
+    let ends = gap_ends o q (λ x. false-from (in_gap o q x) (λ t. none_fits (node ls rs) never x
+    (gap-fits AnyNumber (node ls rs) o q (subst P (sym (lefts-node ls rs)) l) (subst Q (sym (rights-node ls rs)) h) x tt t))) in
+    record { low = some_is o ends.first ends.low_is; high = some_is q ends.last ends.high_is }
+
+-- no number lies in its gap
+none_passes : (ls rs : List Game) (o q : Option Cut) → NoNumber (node ls rs) → CutOf AnyNumber true o ls
+    → CutOf AnyNumber false q rs → (x : Number) → in_gap o q x ≡ false
+none_passes ls rs o q never l h x =
+    let P : List Game → Type 0 = λ z. CutOf AnyNumber true o z in
+    let Q : List Game → Type 0 = λ z. CutOf AnyNumber false q z in
+    false-from (in_gap o q x) (λ t. none_fits (node ls rs) never x
+    (gap-fits AnyNumber (node ls rs) o q (subst P (sym (lefts-node ls rs)) l) (subst Q (sym (rights-node ls rs)) h) x tt t))
+
+pub between_profile : (ls rs : List Game) (a b : Outline) (low high c d : Cut) (depth first second : ℕ)
+    → a.cut ≡ Some low → b.cut ≡ Some high → Turned (other_cut true low high) c → Turned (other_cut false low high) d
+    → depth ≡ max a.deepest b.deepest + 1 → first ≡ a.count + 1 → second ≡ b.count + 1 → first ≤ 2 ^ 32 → second ≤ 2 ^ 32
+    → NoNumber (node ls rs) → IsOutline true ls a → IsOutline false rs b
+    → IsProfile (node ls rs) (record { low = c; high = d; depth = depth; cost = first + second - 1 })
+between_profile ls rs a b low high c d depth first second e f t u deep one two few less never l r =
+    let P : Option Cut → Type 0 = λ z. CutOf AnyNumber true z ls in
+    let Q : Option Cut → Type 0 = λ z. CutOf AnyNumber false z rs in
+    let kl : CutOf AnyNumber true (Some low) ls = subst P e l.cut in
+    let kr : CutOf AnyNumber false (Some high) rs = subst Q f r.cut in
+    let none = none_passes ls rs (Some low) (Some high) never kl kr in
+    let nl : length (lefts (node ls rs)) ≡ length ls = ap length (lefts-node ls rs) in
+    let nr : length (rights (node ls rs)) ≡ length rs = ap length (rights-node ls rs) in
+    record {
+      cuts = record {
+        low = cut_of_none AnyNumber any-closed true ls rs low high c kl kr (λ x p. none x) t;
+        high = cut_of_none AnyNumber any-closed false ls rs low high d kl kr (λ x p. none x) u;
+      };
+      depth = omega (arith, l.deepest, r.deepest);
+      cost = omega (arith, nl, nr, l.count, r.count);
+      small = omega arith;
+      in_range = tt;
+    }

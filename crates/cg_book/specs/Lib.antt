@@ -1,0 +1,6 @@
+-- what contracts cite
+pub mod Costs
+pub mod Profiles
+pub mod Pages
+pub mod Recents
+pub mod Told

@@ -1,0 +1,161 @@
+//! The pages of a book.
+ghost use Rattle.std.specs.Prelude.{◌≡◌, ◌+◌, ◌<◌, ◌++◌, ◌∷◌, [], ℕ, length, IfOk, OnErr};
+ghost use Rattle.cg_dyadic.specs.Number.{InRange};
+ghost use Rattle.cg_form.specs.Canonical.{Canonical};
+ghost use Rattle.cg_form.specs.Game.{node, number};
+ghost use Rattle.cg_form.specs.Side.{near};
+ghost use Rattle.cg_nodes.specs.Games.{IsNode};
+ghost use Rattle.cg_book.specs.Pages.{ArePages, IsPage, IsRead, game_of, games_of};
+ghost use Rattle.cg_book.specs.Profiles.{IsProfile};
+
+use crate::profile::Profile;
+use cg_dyadic::Dyadic;
+use std::alloc::{AllocError, Global};
+use std::marker::Model;
+
+/// What a page says of its game.
+#[derive(Clone, Copy)]
+pub(crate) struct Page {
+    /// What is known of it besides its options.
+    profile: Profile,
+    /// Whether it is a number, which is then where the cuts of its profile are.
+    is_number: bool,
+    /// Where its Left options begin among the options of all pages.
+    lefts: usize,
+    /// Where its Right options begin.
+    rights: usize,
+    /// Where its Right options end.
+    end: usize,
+}
+
+/// A number, or the pages of the Left and of the Right options of another game.
+#[derive(Clone, Copy)]
+pub enum Read<'a> {
+    Number(Dyadic),
+    Game(&'a [u32], &'a [u32]),
+}
+
+/// Games in canonical form, each on a page. The pages are counted from 0, and those of the options of a game come before its
+/// own. Contracts see the list of games.
+#[derive(Drop)]
+pub struct Pages {
+    pages: Vec<Page>,
+    options: Vec<u32>,
+}
+
+/// The greatest number of pages.
+const MOST: usize = 4_294_967_296;
+
+impl Model for Pages {
+    ghost use Rattle.std.specs.Prelude.{List, []};
+    ghost use Rattle.std.specs.Coded.{coded_list};
+    ghost use Rattle.cg_form.specs.Game.{Game};
+    ghost use Rattle.cg_form.specs.GameCode.{game_code};
+    ghost use Rattle.cg_book.specs.Pages.{AreWritten, said_by};
+
+    ghost Value = { List Game };
+
+    ghost coded = { coded_list game_code };
+
+    ghost view = { λ b. said_by b.options.items [] b.pages.items };
+
+    ghost invariant = { λ b. AreWritten b.options.items [] b.pages.items };
+}
+
+impl Pages {
+    /// No pages.
+    pub fn new(alloc: Global) -> Pages
+        ensures { result ≡ [] }
+    {
+        Pages {
+            pages: Vec::new(alloc),
+            options: Vec::new(alloc),
+        }
+    }
+
+    /// Adds a number, on the next page.
+    pub fn add_number(&mut self, x: Dyadic) -> Result<u32, AllocError>
+        ensures page { IfOk result (λ p. p ≡ length self.old) }
+        ensures games { IfOk result (λ _. self.new ≡ self.old ++ (number x ∷ [])) }
+        ensures same { OnErr result (self.new ≡ self.old) }
+    {
+        let count = self.pages.len();
+        if count >= MOST {
+            return Err(AllocError);
+        }
+        let end = self.options.len();
+        self.pages.push(Page {
+            profile: Profile::number(x),
+            is_number: true,
+            lefts: end,
+            rights: end,
+            end,
+        })?;
+        Ok(count as u32)
+    }
+
+    /// Adds the game with these options and this profile, on the next page.
+    pub fn add_game(
+        &mut self,
+        lefts: &[u32],
+        rights: &[u32],
+        profile: &Profile,
+    ) -> Result<u32, AllocError>
+        requires lefts { ArePages self.old lefts.now }
+        requires rights { ArePages self.old rights.now }
+        requires canonical { Canonical (node (games_of self.old lefts.now) (games_of self.old rights.now)) }
+        requires profile { IsProfile (node (games_of self.old lefts.now) (games_of self.old rights.now)) profile.now }
+        ensures page { IfOk result (λ p. p ≡ length self.old) }
+        ensures games { IfOk result (λ _. self.new
+            ≡ self.old ++ (node (games_of self.old lefts.now) (games_of self.old rights.now) ∷ [])) }
+        ensures same { OnErr result (self.new ≡ self.old) }
+    {
+        let count = self.pages.len();
+        if count >= MOST {
+            return Err(AllocError);
+        }
+        let first = self.options.len();
+        self.options.extend_from_slice(lefts)?;
+        let middle = self.options.len();
+        self.options.extend_from_slice(rights)?;
+        let end = self.options.len();
+        self.pages.push(Page {
+            profile: *profile,
+            is_number: false,
+            lefts: first,
+            rights: middle,
+            end,
+        })?;
+        Ok(count as u32)
+    }
+
+    /// How many there are.
+    pub fn count(&self) -> usize
+        ensures { result ≡ length self.now }
+    {
+        self.pages.len()
+    }
+
+    /// What the page says.
+    pub fn read(&self, page: u32) -> Read<'_>
+        requires { IsPage self.now page }
+        ensures read { IsRead self.now result (game_of self.now page) }
+        ensures canonical { Canonical (game_of self.now page) }
+    {
+        let found = &self.pages[page as usize];
+        if found.is_number {
+            return Read::Number(found.profile.low.at);
+        }
+        let lefts = &self.options[found.lefts..found.rights];
+        let rights = &self.options[found.rights..found.end];
+        Read::Game(lefts, rights)
+    }
+
+    /// What is known of the game of the page besides its options.
+    pub fn profile(&self, page: u32) -> &Profile
+        requires { IsPage self.now page }
+        ensures { IsProfile (game_of self.now page) result.now }
+    {
+        &self.pages[page as usize].profile
+    }
+}
