@@ -1,2 +1,4 @@
 pub mod Profiling
 pub mod Telling
+pub mod Results
+pub mod Paging

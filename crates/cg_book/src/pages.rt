@@ -1,10 +1,8 @@
 //! The pages of a book.
-ghost use Rattle.std.specs.Prelude.{◌≡◌, ◌+◌, ◌<◌, ◌++◌, ◌∷◌, [], ℕ, length, IfOk, OnErr};
-ghost use Rattle.cg_dyadic.specs.Number.{InRange};
+ghost use Rattle.std.specs.Prelude.{◌≡◌, ◌≤◌, ◌++◌, ◌∷◌, [], length, IfOk, OnErr};
+ghost use Rattle.std.specs.List.{slice_range};
 ghost use Rattle.cg_form.specs.Canonical.{Canonical};
 ghost use Rattle.cg_form.specs.Game.{node, number};
-ghost use Rattle.cg_form.specs.Side.{near};
-ghost use Rattle.cg_nodes.specs.Games.{IsNode};
 ghost use Rattle.cg_book.specs.Pages.{ArePages, IsPage, IsRead, game_of, games_of};
 ghost use Rattle.cg_book.specs.Profiles.{IsProfile};
 
@@ -60,6 +58,15 @@ impl Model for Pages {
     ghost view = { λ b. said_by b.options.items [] b.pages.items };
 
     ghost invariant = { λ b. AreWritten b.options.items [] b.pages.items };
+}
+
+/// The part of the list from one place up to another.
+fn part(list: &[u32], from: usize, to: usize) -> &[u32]
+    requires from { from ≤ to }
+    requires to { to ≤ length list.now }
+    ensures { result.now ≡ slice_range list.now from to }
+{
+    &list[from..to]
 }
 
 impl Pages {
@@ -146,8 +153,8 @@ impl Pages {
         if found.is_number {
             return Read::Number(found.profile.low.at);
         }
-        let lefts = &self.options[found.lefts..found.rights];
-        let rights = &self.options[found.rights..found.end];
+        let lefts = part(&self.options, found.lefts, found.rights);
+        let rights = part(&self.options, found.rights, found.end);
         Read::Game(lefts, rights)
     }
 

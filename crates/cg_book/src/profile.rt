@@ -100,6 +100,7 @@ impl Profile {
     pub fn number(x: Dyadic) -> Profile
         ensures profile { IsProfile (number x) result }
         ensures in_range { InRange x }
+        ensures at { result.low.at ≡ x }
     {
         Profile {
             low: Cut::closed(x),
