@@ -2,3 +2,5 @@ pub mod Profiling
 pub mod Telling
 pub mod Results
 pub mod Paging
+pub mod Slices
+pub mod Comparing
