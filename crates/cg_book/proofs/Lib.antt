@@ -4,3 +4,4 @@ pub mod Results
 pub mod Paging
 pub mod Slices
 pub mod Comparing
+pub mod Against

@@ -4,3 +4,9 @@ pub mod Profiles
 pub mod Pages
 pub mod Recents
 pub mod Told
+pub mod Terms
+pub mod Candidates
+pub mod Tops
+pub mod Verdict
+pub mod Wholes
+pub mod Passed

@@ -1,11 +1,18 @@
 //! A book of games in canonical form: their order and the reduction of games of two lists of them, by their pages.
 #![tactic(auto)]
 
+mod bypass;
+mod candidate;
 mod order;
 mod pages;
 mod profile;
 mod recent;
+mod staying;
+mod substitutes;
+mod terms;
 mod told;
+mod verdicts;
+mod whole;
 
 pub use order::at_most;
 pub use pages::{Pages, Read};

@@ -1,0 +1,108 @@
+-- The whole compared with the games of pages.
+use Rattle.std.proofs.Common.{◌≡◌, refl, ℕ, ◌+◌, ◌*◌, ◌<◌, ◌⊎◌, inl, inr, arith, ap, sym, ◌∙◌, subst, List, Bool, Some, true, false, not, ◌&&◌, cond}
+use Rattle.cg_dyadic.proofs.Truth.{and_swap}
+use Rattle.cg_form.specs.Game.{Game, lefts, node, rights}
+use Rattle.cg_form.specs.Order.{no_one}
+use Rattle.cg_form.specs.Side.{at_most, chosen, far, near}
+use Rattle.cg_form.specs.Size.{list_size, size}
+use Rattle.cg_form.proofs.Among.{lefts-node, rights-node}
+use Rattle.cg_form.proofs.Order.{le-options}
+use Rattle.cg_form.proofs.Sides.{far-node, near-node}
+use Rattle.cg_book.specs.declared.verdicts.Verdicts.{Verdicts}
+use Rattle.cg_book.specs.declared.whole.Whole.{Whole}
+use Rattle.cg_book.specs.Pages.{ArePages, IsPage, game_of, games_of}
+use Rattle.cg_book.specs.Verdict.{verdict}
+use Rattle.cg_book.specs.Wholes.{AreVerdicts, WholeHolds, whole_game}
+
+-- ---- verdicts
+
+pub verdict_more : (gs : List Game) (w : Whole) (v x : Verdicts) (left : Bool) (page : ℕ) (answer : Bool) → AreVerdicts gs w v
+    → IsPage gs page → answer ≡ at_most left (game_of gs page) (whole_game gs w)
+    → ((l : Bool) (c : ℕ) (r : Bool) → verdict x l c ≡ Some r → (verdict v l c ≡ Some r) ⊎ ((l ≡ left) × (c ≡ page) × (r ≡ answer)))
+    → AreVerdicts gs w x
+verdict_more gs w v x left page answer h here o more = record {
+  each = λ l c r e. elim (more l c r e) [
+    | inl q ↦ h.each l c r q
+    | inr q ↦
+        let P : ℕ → Type 0 = λ z. IsPage gs z × (r ≡ at_most l (game_of gs z) (whole_game gs w)) in
+        let Q : Bool → Type 0 = λ z. IsPage gs page × (r ≡ at_most z (game_of gs page) (whole_game gs w)) in
+        subst P (sym q.1) (subst Q (sym q.0) (here, q.2 ∙ o))
+  ];
+}
+
+-- ---- the lists of one side
+
+swapped : (left : Bool) (ls rs : List ℕ) → cond left rs ls ≡ cond (not left) ls rs
+swapped true ls rs = refl
+swapped false ls rs = refl
+
+pub own_pages : (gs : List Game) (ls rs own : List ℕ) (left : Bool) → ArePages gs ls → ArePages gs rs → own ≡ cond left ls rs
+    → ArePages gs own
+own_pages gs ls rs own true l r e = let P : List ℕ → Type 0 = λ z. ArePages gs z in subst P (sym e) l
+own_pages gs ls rs own false l r e = let P : List ℕ → Type 0 = λ z. ArePages gs z in subst P (sym e) r
+
+-- the options of a game on one side, as they were read
+pub record OneSide (gs : List Game) (h : Game) (hs : List Game) (own : List ℕ) : Type 0 where
+  pub pages : ArePages gs own
+  pub size : 3 * list_size (games_of gs own) + 2 < 3 * size h
+  pub same : games_of gs own ≡ hs
+
+one_side : (gs : List Game) (h : Game) (ls rs : List ℕ) (left : Bool)
+    → ArePages gs ls × ArePages gs rs × (h ≡ node (games_of gs ls) (games_of gs rs))
+    → OneSide gs h (chosen left (games_of gs ls) (games_of gs rs)) (cond left ls rs)
+one_side gs h ls rs true r = let m = ap size r.2 in record { pages = r.0; size = omega arith; same = refl }
+one_side gs h ls rs false r = let m = ap size r.2 in record { pages = r.1; size = omega arith; same = refl }
+
+pub near_side : (gs : List Game) (h : Game) (ls rs own : List ℕ) (left : Bool)
+    → ArePages gs ls × ArePages gs rs × (h ≡ node (games_of gs ls) (games_of gs rs)) → own ≡ cond left ls rs
+    → OneSide gs h (near left h) own
+near_side gs h ls rs own left r c =
+    let P : List ℕ → Type 0 = λ z. OneSide gs h (near left h) z in
+    let Q : List Game → Type 0 = λ z. OneSide gs h z (cond left ls rs) in
+    subst P (sym c) (subst Q (sym (ap (near left) r.2 ∙ near-node left (games_of gs ls) (games_of gs rs))) (one_side gs h ls rs left r))
+
+swapped_lists : (left : Bool) (ls rs : List Game) → chosen (not left) ls rs ≡ chosen left rs ls
+swapped_lists true ls rs = refl
+swapped_lists false ls rs = refl
+
+pub far_side : (gs : List Game) (h : Game) (ls rs own : List ℕ) (left : Bool)
+    → ArePages gs ls × ArePages gs rs × (h ≡ node (games_of gs ls) (games_of gs rs)) → own ≡ cond left rs ls
+    → OneSide gs h (far left h) own
+far_side gs h ls rs own left r c =
+    let P : List ℕ → Type 0 = λ z. OneSide gs h (far left h) z in
+    let Q : List Game → Type 0 = λ z. OneSide gs h z (cond (not left) ls rs) in
+    subst P (sym (c ∙ swapped left ls rs))
+    (subst Q (swapped_lists left (games_of gs ls) (games_of gs rs) ∙ sym (ap (far left) r.2 ∙ far-node left (games_of gs ls) (games_of gs rs)))
+    (one_side gs h ls rs (not left) r))
+
+-- the other side's options of the whole
+far_games : (gs : List Game) (w : Whole) (left : Bool) → games_of gs (cond (not left) w.lefts.now w.rights.now) ≡ far left (whole_game gs w)
+far_games gs w true = sym (rights-node (games_of gs w.lefts.now) (games_of gs w.rights.now))
+far_games gs w false = sym (lefts-node (games_of gs w.lefts.now) (games_of gs w.rights.now))
+
+pub far_own : (gs : List Game) (w : Whole) (left : Bool) (own : List ℕ) → own ≡ cond (not left) w.lefts.now w.rights.now
+    → games_of gs own ≡ far left (whole_game gs w)
+far_own gs w left own e = ap (games_of gs) e ∙ far_games gs w left
+
+-- ---- the order by sides
+
+side_options : (left : Bool) (h g : Game)
+    → at_most left h g ≡ (no_one (λ b. at_most left b h) (far left g) && no_one (λ a. at_most (not left) a g) (near left h))
+side_options true h g =
+    le-options h g ∙ and_swap (no_one (λ a. at_most false a g) (lefts h)) (no_one (λ b. at_most true b h) (rights g))
+side_options false h g = le-options g h
+
+-- some option of the other side is in the way
+pub hindered : (left : Bool) (h g : Game) (xs : List Game) (u : Bool) → xs ≡ far left g
+    → u ≡ no_one (λ b. at_most left b h) xs → u ≡ false → false ≡ at_most left h g
+hindered left h g xs u b e q =
+    sym (side_options left h g ∙ ap (λ z. z && no_one (λ a. at_most (not left) a g) (near left h))
+    (ap (no_one (λ b. at_most left b h)) (sym b) ∙ sym e ∙ q))
+
+-- no option of the other side is in the way, and the second list decides
+pub unhindered : (left : Bool) (h g : Game) (xs ys : List Game) (u : Bool) → xs ≡ far left g → ys ≡ near left h
+    → u ≡ no_one (λ b. at_most left b h) xs → u ≡ true → no_one (λ a. at_most (not left) a g) ys ≡ at_most left h g
+unhindered left h g xs ys u b d e q =
+    sym (side_options left h g ∙ ap (λ z. z && no_one (λ a. at_most (not left) a g) (near left h))
+    (ap (no_one (λ b. at_most left b h)) (sym b) ∙ sym e ∙ q)
+    ∙ ap (no_one (λ a. at_most (not left) a g)) (sym d))

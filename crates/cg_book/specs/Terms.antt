@@ -1,0 +1,14 @@
+-- Lists of games of which no two are comparable.
+use Rattle.std.specs.Prelude.{◌≡◌, ℕ, ◌<◌, List, length, slice_index_or, take, drop}
+use Rattle.cg_form.specs.Game.{Game}
+use Rattle.cg_form.specs.Order.{Le}
+
+-- of any two games at different places, neither is at most the other
+pub record NoneComparable (gs : List Game) : Type 0 where
+  pub each : (i j : ℕ) (d : Game) → i < length gs → j < length gs → ¬ (i ≡ j)
+      → ¬ Le (slice_index_or gs i d) (slice_index_or gs j d)
+
+-- no two of the first n games are comparable, and no two of the others
+pub record NoneComparableByTerm (n : ℕ) (gs : List Game) : Type 0 where
+  pub first : NoneComparable (take n gs)
+  pub second : NoneComparable (drop n gs)

@@ -1,0 +1,227 @@
+//! Bypassing the reversible options of a game that equals no number.
+//!
+//! An option that is reversible through a number is replaced by that number itself: the number is at least as good as what
+//! the bypass would bring in, and adds nothing, since another option is at least as good as the number. So no number is
+//! counted down. Each option is bypassed once, however many ways lead to it; only the own options of the whole, where they are
+//! few, may be met a second time.
+//!
+//! No two of the own options of the whole are comparable: those that stay count as options that come from one term. What a bypass
+//! brings in has none.
+ghost use Rattle.std.specs.Prelude.{[], IfOk, cond};
+ghost use Rattle.cg_form.specs.Bypass.{AllCovered, Covered, Grown};
+ghost use Rattle.cg_form.specs.Game.{Among, Game};
+ghost use Rattle.cg_form.specs.Known.{EachLess};
+ghost use Rattle.cg_form.specs.Side.{AtMost, far};
+ghost use Rattle.cg_book.specs.Candidates.{AreCandidates, pages_of};
+ghost use Rattle.cg_book.specs.Passed.{AreSubstitutes, IsOwn};
+ghost use Rattle.cg_book.specs.Pages.{ArePages, IsPage, game_of, games_of};
+ghost use Rattle.cg_book.specs.Recents.{AreRight};
+ghost use Rattle.cg_book.specs.Wholes.{AreVerdicts, WholeHolds, whole_game};
+
+use crate::candidate::{Candidate, Candidates};
+use crate::pages::{Pages, Read};
+use crate::recent::Recent;
+use crate::substitutes::{FEW, Substitutes};
+use crate::terms::Term;
+use crate::verdicts::Verdicts;
+use crate::whole::{Whole, chosen, first_at_most};
+use std::alloc::{AllocError, Global};
+
+/// The list with what stands in the place of an option that is reversible through this answer.
+#[cycle(bypass)]
+fn bypass_through(
+    pages: &Pages,
+    answers: &mut Recent,
+    whole: &Whole,
+    verdicts: &mut Verdicts,
+    left: bool,
+    answer: u32,
+    out: &mut Substitutes,
+) -> Result<(), AllocError>
+    requires whole { WholeHolds pages.now whole.now }
+    requires verdicts { AreVerdicts pages.now whole.now verdicts.old }
+    requires answer { IsPage pages.now answer }
+    requires back { AtMost left (game_of pages.now answer) (whole_game pages.now whole.now) }
+    requires out { AreSubstitutes pages.now left whole.now out.old }
+    requires right { AreRight pages.now answers.old }
+    ensures out { IfOk result (λ _. AreSubstitutes pages.now left whole.now out.new) }
+    ensures grown { IfOk result (λ _. Grown left (whole_game pages.now whole.now)
+        (games_of pages.now (pages_of out.old.items.items)) (games_of pages.now (pages_of out.new.items.items))) }
+    ensures covered { IfOk result (λ _. (a : Game) → Among (game_of pages.now answer) (far left a)
+        → Covered left (whole_game pages.now whole.now) (games_of pages.now (pages_of out.new.items.items)) a) }
+    ensures verdicts { AreVerdicts pages.now whole.now verdicts.new }
+    ensures right { AreRight pages.now answers.new }
+{
+    match pages.read(answer) {
+        Read::Number(_) => out.push(&Candidate::alone(answer)),
+        Read::Game(lefts, rights) => {
+            let near = chosen(left, lefts, rights);
+            bypass_list(pages, answers, whole, verdicts, left, near, out)
+        }
+    }
+}
+
+/// The list with what stands in the place of the option.
+#[cycle(bypass)]
+fn bypass(
+    pages: &Pages,
+    answers: &mut Recent,
+    whole: &Whole,
+    verdicts: &mut Verdicts,
+    left: bool,
+    option: &Candidate,
+    out: &mut Substitutes,
+) -> Result<(), AllocError>
+    requires whole { WholeHolds pages.now whole.now }
+    requires verdicts { AreVerdicts pages.now whole.now verdicts.old }
+    requires option { IsPage pages.now option.now.page }
+    requires own { IsOwn left whole.now option.now }
+    requires less { ¬ AtMost left (whole_game pages.now whole.now) (game_of pages.now option.now.page) }
+    requires out { AreSubstitutes pages.now left whole.now out.old }
+    requires right { AreRight pages.now answers.old }
+    ensures out { IfOk result (λ _. AreSubstitutes pages.now left whole.now out.new) }
+    ensures grown { IfOk result (λ _. Grown left (whole_game pages.now whole.now)
+        (games_of pages.now (pages_of out.old.items.items)) (games_of pages.now (pages_of out.new.items.items))) }
+    ensures covered { IfOk result (λ _. Covered left (whole_game pages.now whole.now)
+        (games_of pages.now (pages_of out.new.items.items)) (game_of pages.now option.now.page)) }
+    ensures verdicts { AreVerdicts pages.now whole.now verdicts.new }
+    ensures right { AreRight pages.now answers.new }
+{
+    match pages.read(option.page) {
+        Read::Number(_) => out.push(option),
+        Read::Game(lefts, rights) => {
+            let far = chosen(left, rights, lefts);
+            match first_at_most(pages, answers, whole, verdicts, left, far)? {
+                None => out.push(option),
+                Some(answer) => bypass_through(pages, answers, whole, verdicts, left, answer, out),
+            }
+        }
+    }
+}
+
+/// The list with what stands in the place of the option, which is looked for where the option wasn't passed before.
+#[cycle(bypass)]
+fn bypass_once(
+    pages: &Pages,
+    answers: &mut Recent,
+    whole: &Whole,
+    verdicts: &mut Verdicts,
+    left: bool,
+    option: &Candidate,
+    out: &mut Substitutes,
+) -> Result<(), AllocError>
+    requires whole { WholeHolds pages.now whole.now }
+    requires verdicts { AreVerdicts pages.now whole.now verdicts.old }
+    requires option { IsPage pages.now option.now.page }
+    requires own { IsOwn left whole.now option.now }
+    requires less { ¬ AtMost left (whole_game pages.now whole.now) (game_of pages.now option.now.page) }
+    requires out { AreSubstitutes pages.now left whole.now out.old }
+    requires right { AreRight pages.now answers.old }
+    ensures out { IfOk result (λ _. AreSubstitutes pages.now left whole.now out.new) }
+    ensures grown { IfOk result (λ _. Grown left (whole_game pages.now whole.now)
+        (games_of pages.now (pages_of out.old.items.items)) (games_of pages.now (pages_of out.new.items.items))) }
+    ensures covered { IfOk result (λ _. Covered left (whole_game pages.now whole.now)
+        (games_of pages.now (pages_of out.new.items.items)) (game_of pages.now option.now.page)) }
+    ensures verdicts { AreVerdicts pages.now whole.now verdicts.new }
+    ensures right { AreRight pages.now answers.new }
+{
+    if out.has_passed(option.page) {
+        return Ok(());
+    }
+    bypass(pages, answers, whole, verdicts, left, option, out)?;
+    out.pass(option.page)
+}
+
+/// The list with what stands in the places of the options in the list.
+#[cycle(bypass)]
+fn bypass_list(
+    pages: &Pages,
+    answers: &mut Recent,
+    whole: &Whole,
+    verdicts: &mut Verdicts,
+    left: bool,
+    list: &[u32],
+    out: &mut Substitutes,
+) -> Result<(), AllocError>
+    requires whole { WholeHolds pages.now whole.now }
+    requires verdicts { AreVerdicts pages.now whole.now verdicts.old }
+    requires list { ArePages pages.now list.now }
+    requires less { EachLess left (whole_game pages.now whole.now) (games_of pages.now list.now) }
+    requires out { AreSubstitutes pages.now left whole.now out.old }
+    requires right { AreRight pages.now answers.old }
+    ensures out { IfOk result (λ _. AreSubstitutes pages.now left whole.now out.new) }
+    ensures grown { IfOk result (λ _. Grown left (whole_game pages.now whole.now)
+        (games_of pages.now (pages_of out.old.items.items)) (games_of pages.now (pages_of out.new.items.items))) }
+    ensures covered { IfOk result (λ _. AllCovered left (whole_game pages.now whole.now)
+        (games_of pages.now (pages_of out.new.items.items)) (games_of pages.now list.now)) }
+    ensures verdicts { AreVerdicts pages.now whole.now verdicts.new }
+    ensures right { AreRight pages.now answers.new }
+{
+    for option in list {
+        let candidate = Candidate::alone(*option);
+        bypass_once(pages, answers, whole, verdicts, left, &candidate, out)?;
+    }
+    Ok(())
+}
+
+/// The list with what stands in the place of one of the player's own options of the whole. Where these are few, it is neither
+/// looked for among those that were passed nor kept with them.
+fn bypass_own(
+    pages: &Pages,
+    answers: &mut Recent,
+    whole: &Whole,
+    verdicts: &mut Verdicts,
+    left: bool,
+    option: &Candidate,
+    out: &mut Substitutes,
+) -> Result<(), AllocError>
+    requires whole { WholeHolds pages.now whole.now }
+    requires verdicts { AreVerdicts pages.now whole.now verdicts.old }
+    requires option { IsPage pages.now option.now.page }
+    requires own { IsOwn left whole.now option.now }
+    requires less { ¬ AtMost left (whole_game pages.now whole.now) (game_of pages.now option.now.page) }
+    requires out { AreSubstitutes pages.now left whole.now out.old }
+    requires right { AreRight pages.now answers.old }
+    ensures out { IfOk result (λ _. AreSubstitutes pages.now left whole.now out.new) }
+    ensures grown { IfOk result (λ _. Grown left (whole_game pages.now whole.now)
+        (games_of pages.now (pages_of out.old.items.items)) (games_of pages.now (pages_of out.new.items.items))) }
+    ensures covered { IfOk result (λ _. Covered left (whole_game pages.now whole.now)
+        (games_of pages.now (pages_of out.new.items.items)) (game_of pages.now option.now.page)) }
+    ensures verdicts { AreVerdicts pages.now whole.now verdicts.new }
+    ensures right { AreRight pages.now answers.new }
+{
+    if whole.own(left).len() <= FEW {
+        return bypass(pages, answers, whole, verdicts, left, option, out);
+    }
+    bypass_once(pages, answers, whole, verdicts, left, option, out)
+}
+
+/// What stands in the places of the player's own options of the whole.
+pub(crate) fn candidates(
+    alloc: Global,
+    pages: &Pages,
+    answers: &mut Recent,
+    whole: &Whole,
+    verdicts: &mut Verdicts,
+    left: bool,
+) -> Result<Candidates, AllocError>
+    requires whole { WholeHolds pages.now whole.now }
+    requires verdicts { AreVerdicts pages.now whole.now verdicts.old }
+    requires right { AreRight pages.now answers.old }
+    ensures candidates { IfOk result (λ r. AreCandidates pages.now r.items) }
+    ensures grown { IfOk result (λ r. Grown left (whole_game pages.now whole.now) [] (games_of pages.now (pages_of r.items))) }
+    ensures covered { IfOk result (λ r. AllCovered left (whole_game pages.now whole.now) (games_of pages.now (pages_of r.items))
+        (games_of pages.now (cond left whole.now.lefts.now whole.now.rights.now))) }
+    ensures verdicts { AreVerdicts pages.now whole.now verdicts.new }
+    ensures right { AreRight pages.now answers.new }
+{
+    let mut all = Substitutes::new(alloc);
+    for own in whole.own(left) {
+        let option = Candidate {
+            page: *own,
+            term: Some(Term::First),
+        };
+        bypass_own(pages, answers, whole, verdicts, left, &option, &mut all)?;
+    }
+    Ok(all.into_items())
+}

@@ -1,0 +1,76 @@
+//! Which games are no better than a whole, as far as it was found.
+ghost use Rattle.std.specs.Prelude.{◌≡◌, ◌⊎◌, ℕ, Bool, None, Some};
+ghost use Rattle.cg_book.specs.Verdict.{answer_for, verdict};
+
+use std::alloc::{AllocError, Global};
+use std::collections::HashMap;
+
+/// Answers by pages.
+#[derive(Drop)]
+pub(crate) struct ByPage {
+    answers: HashMap<u32, bool>,
+}
+
+impl ByPage {
+    fn new(alloc: Global) -> ByPage
+        ensures { (a : ℕ) → answer_for result a ≡ None }
+    {
+        ByPage {
+            answers: HashMap::new(alloc),
+        }
+    }
+
+    fn recall(&self, a: u32) -> Option<bool>
+        ensures { result ≡ answer_for self.now a }
+    {
+        self.answers.get(&a).copied()
+    }
+
+    fn remember(&mut self, a: u32, answer: bool) -> Result<(), AllocError>
+        ensures { (c : ℕ) (b : Bool) → answer_for self.new c ≡ Some b
+            → (answer_for self.old c ≡ Some b) ⊎ ((c ≡ a) × (b ≡ answer)) }
+    {
+        self.answers.insert(a, answer)?;
+        Ok(())
+    }
+}
+
+/// For each player and each page, the answer to whether the game of the page is no better for the player than a whole.
+#[derive(Drop)]
+pub(crate) struct Verdicts {
+    for_left: ByPage,
+    for_right: ByPage,
+}
+
+impl Verdicts {
+    /// No answers.
+    pub(crate) fn new(alloc: Global) -> Verdicts
+        ensures { (s : Bool) (a : ℕ) → verdict result s a ≡ None }
+    {
+        Verdicts {
+            for_left: ByPage::new(alloc),
+            for_right: ByPage::new(alloc),
+        }
+    }
+
+    /// The answer for the player, who is Left with `left`, and the page, if there is one.
+    pub(crate) fn recall(&self, left: bool, a: u32) -> Option<bool>
+        ensures { result ≡ verdict self.now left a }
+    {
+        if left {
+            return self.for_left.recall(a);
+        }
+        self.for_right.recall(a)
+    }
+
+    /// Keeps the answer for the player and the page. Nothing changes where there is no memory.
+    pub(crate) fn remember(&mut self, left: bool, a: u32, answer: bool) -> Result<(), AllocError>
+        ensures { (s : Bool) (c : ℕ) (b : Bool) → verdict self.new s c ≡ Some b
+            → (verdict self.old s c ≡ Some b) ⊎ ((s ≡ left) × (c ≡ a) × (b ≡ answer)) }
+    {
+        if left {
+            return self.for_left.remember(a, answer);
+        }
+        self.for_right.remember(a, answer)
+    }
+}
