@@ -5,3 +5,4 @@ pub mod Paging
 pub mod Slices
 pub mod Comparing
 pub mod Against
+pub mod Bypassing

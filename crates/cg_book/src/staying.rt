@@ -38,8 +38,10 @@ fn stays(
         Read::Number(_) => Ok(true),
         Read::Game(lefts, rights) => {
             let far = chosen(left, rights, lefts);
-            let through = first_at_most(pages, answers, whole, verdicts, left, far)?;
-            Ok(through.is_none())
+            match first_at_most(pages, answers, whole, verdicts, left, far)? {
+                None => Ok(true),
+                Some(_) => Ok(false),
+            }
         }
     }
 }

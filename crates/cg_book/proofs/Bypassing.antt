@@ -1,0 +1,295 @@
+-- What stands in the places of options.
+use Rattle.std.proofs.Common.{◌≡◌, refl, ℕ, zero, suc, ◌+◌, ◌*◌, ◌<◌, ◌==◌, ◌⊎◌, inl, inr, arith, ap, sym, ◌∙◌, subst, Option, Some, None, List, [], ◌∷◌, ◌++◌, map, take, get_or, length, Bool, true, false, cond, true≢false, IsTrue}
+use Rattle.std.specs.List.{All, Contains}
+use Rattle.std.specs.Prelude.{if◌then◌else◌}
+use Rattle.std.proofs.lemmas.Bool.Decides.{eqb_tells}
+use Rattle.std.proofs.lemmas.List.{get_or-map, get_or_default, length-map, map-append}
+use Rattle.std.proofs.lemmas.List.Elements.{All-contains, All-nil, All-push}
+use Rattle.cg_dyadic.specs.Number.{Number}
+use Rattle.cg_dyadic.proofs.Truth.{differ}
+use Rattle.cg_form.specs.Bypass.{AllCovered, Covered, Fine, Grown, bypassed, kept, under}
+use Rattle.cg_form.specs.Canonical.{Canonical}
+use Rattle.cg_form.specs.Game.{Among, Game, node, number}
+use Rattle.cg_form.specs.Known.{EachLess}
+use Rattle.cg_form.specs.Order.{Le, no_one}
+use Rattle.cg_form.specs.Side.{AtMost, at_most, far, near}
+use Rattle.cg_form.specs.Simple.{NoNumber}
+use Rattle.cg_form.proofs.Among.{among-append, among-append_left, among-append_right, carry, lefts-node, rights-node}
+use Rattle.cg_form.proofs.Bypass.{covered_more}
+use Rattle.cg_form.proofs.BypassSteps.{grown_trans}
+use Rattle.cg_form.proofs.Order.{no_one-each}
+use Rattle.cg_form.proofs.Sides.{near_number, not_both, not_near, side_trans}
+use Rattle.cg_book.specs.declared.candidate.Candidate.{Candidate}
+use Rattle.cg_book.specs.declared.substitutes.Substitutes.{Substitutes}
+use Rattle.cg_book.specs.declared.terms.Term.{Term}
+use Rattle.cg_book.specs.declared.terms.Term.TheVariants.{First, Second}
+use Rattle.cg_book.specs.declared.whole.Whole.{Whole}
+use Rattle.cg_book.specs.Candidates.{AreCandidates, alone, pages_of, same_term}
+use Rattle.cg_book.specs.Pages.{ArePages, IsPage, game_of, games_of}
+use Rattle.cg_book.specs.Passed.{AreSubstitutes, IsOwn, was_passed}
+use Rattle.cg_book.specs.Terms.{NoneComparable}
+use Rattle.cg_book.specs.Wholes.{WholeHolds, whole_game}
+use Rattle.cg_book.proofs.Slices.{games_take_suc, item_among, page_of_item}
+-- ---- games that may stand as options
+
+pub number_fine : (s : Bool) (g h : Game) (x : Number) → h ≡ number x → ¬ AtMost s g h → Fine s g h
+number_fine s g h x e n =
+    let P : Game → Type 0 = λ z. Canonical z in
+    record { canonical = subst P (sym e) tt; less = n; way = inl (x, e) }
+
+pub stays_fine : (s : Bool) (g h : Game) → Canonical h → ¬ AtMost s g h
+    → IsTrue (no_one (λ b. at_most s b g) (far s h)) → Fine s g h
+stays_fine s g h c n never = record {
+  canonical = c;
+  less = n;
+  way = inr (λ b m t. differ (at_most s b g) t (no_one-each (λ b. at_most s b g) (far s h) never b m));
+}
+
+-- a number through which an option is reversible
+pub through_fine : (s : Bool) (g h : Game) (x : Number) → h ≡ number x → NoNumber g → AtMost s h g → Fine s g h
+through_fine s g h x e never l =
+    let P : Game → Type 0 = λ z. AtMost s z g in
+    let Q : Game → Type 0 = λ z. ¬ AtMost s g z in
+    number_fine s g h x e (subst Q (sym e) (not_both s g x never (subst P e l)))
+
+pub through_number : (s : Bool) (g h : Game) (x : Number) (us : List Game) → h ≡ number x → AtMost s h g → Among h us
+    → (a : Game) → Among h (far s a) → Covered s g us a
+through_number s g h x us e l m a k =
+    let P : Game → Type 0 = λ z. (c : Game) → Among c (near s z) → AtMost s c z in
+    bypassed h k l (λ c w. under h m (subst P (sym e) (near_number s x) c w))
+
+-- another game through which an option is reversible
+pub through_less : (s : Bool) (g b : Game) (gs : List Game) → gs ≡ near s b → AtMost s b g → EachLess s g gs
+through_less s g b gs e l = record {
+  each = λ c w q. not_near s b c (carry c gs (near s b) e w) (side_trans s b g c l q);
+}
+
+pub through_node : (s : Bool) (g b : Game) (gs us : List Game) → gs ≡ near s b → AtMost s b g → AllCovered s g us gs
+    → (a : Game) → Among b (far s a) → Covered s g us a
+through_node s g b gs us e l all a m = bypassed b m l (λ c w. all.each c (carry c (near s b) gs (sym e) w))
+
+-- ---- lists that grow
+
+grown_last : (s : Bool) (g x : Game) (gs : List Game) → Fine s g x → Grown s g gs (gs ++ x ∷ [])
+grown_last s g x gs f = record {
+  keeps = λ y m. among-append_left y gs (x ∷ []) m;
+  fine = λ y m. elim (among-append y gs (x ∷ []) m) [
+    | inl k ↦ inl k
+    | inr k ↦ elim k [
+      | inl q ↦ (let Q : Game → Type 0 = λ z. Fine s g z in inr (subst Q (sym q) f))
+      | inr j ↦ absurd j
+    ]
+  ];
+}
+
+pub grown_same : (s : Bool) (g : Game) (gs : List Game) → Grown s g gs gs
+grown_same s g gs = record { keeps = λ x m. m; fine = λ x m. inl m }
+
+pub last_covered : (s : Bool) (g x : Game) (us : List Game) → Among x us → Covered s g us x
+last_covered s g x us m = kept m
+
+-- ---- a candidate that is put at the end of others
+
+pages_pushed : (cs ds : List Candidate) (c : Candidate) → ds ≡ cs ++ c ∷ [] → pages_of ds ≡ pages_of cs ++ c.page ∷ []
+pages_pushed cs ds c e = ap pages_of e ∙ map-append (λ (c : Candidate). c.page) cs (c ∷ [])
+
+pub record Pushed (gs : List Game) (left : Bool) (g x : Game) (os rs : List ℕ) : Type 0 where
+  pub pages : ArePages gs rs
+  pub grown : Grown left g (games_of gs os) (games_of gs rs)
+  pub last : Among x (games_of gs rs)
+
+pub pushed_one : (gs : List Game) (left : Bool) (g : Game) (os rs : List Candidate) (h : Candidate)
+    → ArePages gs (pages_of os) → IsPage gs h.page → rs ≡ os ++ h ∷ [] → Fine left g (game_of gs h.page)
+    → Pushed gs left g (game_of gs h.page) (pages_of os) (pages_of rs)
+pushed_one gs left g os rs h a b e f =
+    let us = pages_of os in
+    let last = pages_pushed os rs h e in
+    let x = game_of gs h.page in
+    let same : games_of gs (pages_of rs) ≡ games_of gs us ++ x ∷ [] = ap (games_of gs) last ∙ map-append (game_of gs) us (h.page ∷ []) in
+    let P : List ℕ → Type 0 = λ z. ArePages gs z in
+    let Q : List Game → Type 0 = λ z. Grown left g (games_of gs us) z in
+    record {
+      pages = subst P (sym last) (All-push (IsPage gs) us h.page a b);
+      grown = subst Q (sym same) (grown_last left g x (games_of gs us) f);
+      last = carry x (games_of gs us ++ x ∷ []) (games_of gs (pages_of rs)) (sym same)
+          (among-append_right x (games_of gs us) (x ∷ []) (inl refl));
+    }
+
+-- ---- options in whose places others stand
+
+pub no_substitutes : (gs : List Game) (left : Bool) (w : Whole) (o : Substitutes) → o.items.items ≡ []
+    → ((page : ℕ) → was_passed o page ≡ false) → AreSubstitutes gs left w o
+no_substitutes gs left w o e none =
+    let P : List Candidate → Type 0 = λ z. ArePages gs (pages_of z) in
+    let Q : List Candidate → Type 0 = λ z. All (IsOwn left w) z in
+    record {
+      pages = subst P (sym e) (All-nil (IsPage gs));
+      passed = λ page p. absurd (true≢false (sym p ∙ none page));
+      own = subst Q (sym e) (All-nil (IsOwn left w));
+    }
+
+-- with one candidate more, which cover what was covered
+pub more_substitutes : (gs : List Game) (left : Bool) (w : Whole) (o r : Substitutes) (x : Candidate) → AreSubstitutes gs left w o
+    → IsPage gs x.page → r.items.items ≡ o.items.items ++ x ∷ [] → ((page : ℕ) → was_passed r page ≡ was_passed o page)
+    → Fine left (whole_game gs w) (game_of gs x.page) → IsOwn left w x → AreSubstitutes gs left w r
+more_substitutes gs left w o r x h known e same fine own =
+    let p = pushed_one gs left (whole_game gs w) o.items.items r.items.items x h.pages known e fine in
+    let P : List Candidate → Type 0 = λ z. All (IsOwn left w) z in
+    record {
+      pages = p.pages;
+      passed = λ page q.
+          let before = h.passed page (sym (same page) ∙ q) in
+          (before.0, covered_more left (whole_game gs w) (games_of gs (pages_of o.items.items)) (games_of gs (pages_of r.items.items))
+          (game_of gs page) p.grown.keeps before.1);
+      own = subst P (sym e) (All-push (IsOwn left w) o.items.items x h.own own);
+    }
+
+-- which cover an option that is passed now
+pub passing_substitutes : (gs : List Game) (left : Bool) (w : Whole) (o r : Substitutes) (x : ℕ) → AreSubstitutes gs left w o
+    → IsPage gs x → Covered left (whole_game gs w) (games_of gs (pages_of o.items.items)) (game_of gs x) → r.items.items ≡ o.items.items
+    → ((page : ℕ) → was_passed r page ≡ (if x == page then true else was_passed o page)) → AreSubstitutes gs left w r
+passing_substitutes gs left w o r x h known c e updates =
+    let P : List Candidate → Type 0 = λ z. ArePages gs (pages_of z) in
+    let Q : List Candidate → Type 0 = λ z. All (IsOwn left w) z in
+    record { pages = subst P (sym e) h.pages; passed = one; own = subst Q (sym e) h.own }
+  where
+    one : (page : ℕ) → was_passed r page ≡ true
+        → IsPage gs page × Covered left (whole_game gs w) (games_of gs (pages_of r.items.items)) (game_of gs page)
+    one page p =
+        let Q : List Candidate → Type 0 = λ z. Covered left (whole_game gs w) (games_of gs (pages_of z)) (game_of gs page) in
+        elim (eqb_tells x page) [
+          | inl there ↦ (
+              let V : ℕ → Type 0 = λ z. IsPage gs z in
+              let U : ℕ → Type 0 = λ z. Covered left (whole_game gs w) (games_of gs (pages_of o.items.items)) (game_of gs z) in
+              (subst V there.1 known, subst Q (sym e) (subst U there.1 c)))
+          | inr other ↦ (
+              let off : (if x == page then true else was_passed o page) ≡ was_passed o page =
+              ap (λ (b : Bool). if b then true else was_passed o page) other.0 in
+              let before = h.passed page (sym off ∙ sym (updates page) ∙ p) in
+              (before.0, subst Q (sym e) before.1))
+        ]
+
+-- ---- over a list of options
+
+covered_last : (s : Bool) (g x : Game) (us vs gs : List Game) → AllCovered s g us gs → Grown s g us vs → Covered s g vs x
+    → AllCovered s g vs (gs ++ x ∷ [])
+covered_last s g x us vs gs all grown c = record {
+  each = λ y m. elim (among-append y gs (x ∷ []) m) [
+    | inl k ↦ covered_more s g us vs y grown.keeps (all.each y k)
+    | inr k ↦ elim k [
+      | inl e ↦ (let P : Game → Type 0 = λ z. Covered s g vs z in subst P (sym e) c)
+      | inr j ↦ absurd j
+    ]
+  ];
+}
+
+-- the items us, which began as os, cover the options so far
+pub record Bypassed (gs : List Game) (left : Bool) (g : Game) (options os us : List ℕ) : Type 0 where
+  pub grown : Grown left g (games_of gs os) (games_of gs us)
+  pub covered : AllCovered left g (games_of gs us) (games_of gs options)
+
+pub bypassed_none : (gs : List Game) (left : Bool) (g : Game) (os : List ℕ) → Bypassed gs left g [] os os
+bypassed_none gs left g os = record { grown = grown_same left g (games_of gs os); covered = record { each = λ c m. absurd m } }
+
+pub bypassed_more : (gs : List Game) (left : Bool) (g : Game) (options os us ws : List ℕ) (i k : ℕ)
+    → Bypassed gs left g (take i options) os us → i < length options → k ≡ get_or options i 0
+    → Grown left g (games_of gs us) (games_of gs ws) → Covered left g (games_of gs ws) (game_of gs k)
+    → Bypassed gs left g (take (i + 1) options) os ws
+bypassed_more gs left g options os us ws i k h l e grown covered =
+    let one : i + 1 ≡ suc i = omega arith in
+    let Q : List Game → Type 0 = λ z. AllCovered left g (games_of gs ws) z in
+    record {
+      grown = grown_trans left g (games_of gs os) (games_of gs us) (games_of gs ws) h.grown grown;
+      covered = subst Q (sym (ap (λ n. games_of gs (take n options)) one ∙ games_take_suc gs options i 0 l
+          ∙ ap (λ z. games_of gs (take i options) ++ game_of gs z ∷ []) (sym e)))
+          (covered_last left g (game_of gs k) (games_of gs us) (games_of gs ws) (games_of gs (take i options)) h.covered grown covered);
+    }
+
+-- ---- the options of the whole
+
+near_own : (gs : List Game) (w : Whole) (left : Bool) (own : List ℕ) → own ≡ cond left w.lefts.now w.rights.now
+    → games_of gs own ≡ near left (whole_game gs w)
+near_own gs w left own e = ap (games_of gs) e ∙ by left
+  where
+    by : (l : Bool) → games_of gs (cond l w.lefts.now w.rights.now) ≡ near l (whole_game gs w)
+    by true = sym (lefts-node (games_of gs w.lefts.now) (games_of gs w.rights.now))
+    by false = sym (rights-node (games_of gs w.lefts.now) (games_of gs w.rights.now))
+
+-- an own option isn't as good as the whole
+pub own_less : (gs : List Game) (w : Whole) (left : Bool) (own : List ℕ) (i k : ℕ) → own ≡ cond left w.lefts.now w.rights.now
+    → i < length own → k ≡ get_or own i 0 → ¬ AtMost left (whole_game gs w) (game_of gs k)
+own_less gs w left own i k e h q =
+    not_near left (whole_game gs w) (game_of gs k)
+    (carry (game_of gs k) (games_of gs own) (near left (whole_game gs w)) (near_own gs w left own e) (item_among gs own i k h q))
+
+pub whole_pages : (gs : List Game) (w : Whole) (left : Bool) (own : List ℕ) → WholeHolds gs w → own ≡ cond left w.lefts.now w.rights.now
+    → ArePages gs own
+whole_pages gs w true own h e = let P : List ℕ → Type 0 = λ z. ArePages gs z in subst P (sym e) h.lefts
+whole_pages gs w false own h e = let P : List ℕ → Type 0 = λ z. ArePages gs z in subst P (sym e) h.rights
+
+pub alone_own : (left : Bool) (w : Whole) (page : ℕ) → IsOwn left w (alone page)
+alone_own left w page = λ t e. cc
+
+-- ---- where nothing is bypassed
+
+pub fine_more : (gs : List Game) (left : Bool) (g : Game) (ps : List ℕ) (i k : ℕ)
+    → ((x : Game) → Among x (games_of gs (take i ps)) → Fine left g x) → i < length ps → k ≡ get_or ps i 0
+    → Fine left g (game_of gs k) → (x : Game) → Among x (games_of gs (take (i + 1) ps)) → Fine left g x
+fine_more gs left g ps i k h l e f = λ x m.
+    let next : i + 1 ≡ suc i = omega arith in
+    let list : games_of gs (take (i + 1) ps) ≡ games_of gs (take i ps) ++ game_of gs k ∷ [] =
+    ap (λ n. games_of gs (take n ps)) next ∙ games_take_suc gs ps i 0 l ∙ ap (λ z. games_of gs (take i ps) ++ game_of gs z ∷ []) (sym e) in
+    elim (among-append x (games_of gs (take i ps)) (game_of gs k ∷ []) (carry x (games_of gs (take (i + 1) ps)) (games_of gs (take i ps) ++ game_of gs k ∷ []) list m)) [
+      | inl j ↦ h x j
+      | inr j ↦ elim j [
+        | inl q ↦ (let P : Game → Type 0 = λ z. Fine left g z in subst P (sym q) f)
+        | inr n ↦ absurd n
+      ]
+    ]
+
+-- ---- the candidates for a whole
+
+record Shared (x y : Option Term) : Type 0 where
+  term : Term
+  first : x ≡ Some term
+  second : y ≡ Some term
+
+shared : (x y : Option Term) → same_term x y ≡ true → Shared x y
+shared None y e = cc
+shared (Some First) None e = cc
+shared (Some Second) None e = cc
+shared (Some First) (Some First) e = record { term = First; first = refl; second = refl }
+shared (Some First) (Some Second) e = cc
+shared (Some Second) (Some First) e = cc
+shared (Some Second) (Some Second) e = record { term = Second; first = refl; second = refl }
+
+-- two pages of a list whose games aren't comparable are the same where the game of the one is at most that of the other
+same_place : (gs : List Game) (ps : List ℕ) (a b : ℕ) → NoneComparable (games_of gs ps) → Contains ps a → Contains ps b
+    → Le (game_of gs a) (game_of gs b) → a ≡ b
+same_place gs ps a b none m n l = elim (eqb_tells m.0 n.0) [
+  | inl same ↦
+      let P : ℕ → Type 0 = λ z. get_or ps z b ≡ b in
+      sym m.2 ∙ get_or_default ps m.0 a b m.1 ∙ subst P (sym same.1) n.2
+  | inr other ↦
+      let count = length-map ps (game_of gs) in
+      let d : Game = game_of gs a in
+      let at : get_or (games_of gs ps) m.0 d ≡ game_of gs a = get_or-map (game_of gs) ps m.0 a d m.1 ∙ ap (game_of gs) m.2 in
+      let to : get_or (games_of gs ps) n.0 d ≡ game_of gs b = get_or-map (game_of gs) ps n.0 b d n.1 ∙ ap (game_of gs) n.2 in
+      let P : Game → Type 0 = λ z. Le z (game_of gs b) in
+      let Q : Game → Type 0 = λ z. Le (get_or (games_of gs ps) m.0 d) z in
+      absurd (none.each m.0 n.0 d (omega (arith, m.1)) (omega (arith, n.1)) other.1 (subst Q (sym to) (subst P (sym at) l)))
+]
+
+-- of candidates that are the whole's own or have no term, none with a term is at most another such one
+pub own_candidates : (gs : List Game) (left : Bool) (w : Whole) (cs : List Candidate) → WholeHolds gs w → ArePages gs (pages_of cs)
+    → All (IsOwn left w) cs → AreCandidates gs cs
+own_candidates gs left w cs h pages own = record {
+  pages = pages;
+  apart = λ a b m n e l.
+      let t = shared a.term b.term e in
+      same_place gs (cond left w.lefts.now w.rights.now) a.page b.page (h.apart left)
+      (All-contains (IsOwn left w) cs a own m t.term t.first) (All-contains (IsOwn left w) cs b own n t.term t.second) l;
+}
+
+pub no_items : (gs : List Game) (left : Bool) (g : Game) (us : List ℕ) → us ≡ [] → Bypassed gs left g [] [] us
+no_items gs left g us e = let P : List ℕ → Type 0 = λ z. Bypassed gs left g [] [] z in subst P (sym e) (bypassed_none gs left g [])

@@ -1,0 +1,43 @@
+use Rattle.std.proofs.Common.{List, ap, refl, subst, sym}
+use Rattle.cg_book.specs.declared.candidate.Candidate.{Candidate}
+use Rattle.cg_book.specs.Candidates.{AreCandidates, pages_of}
+use Rattle.cg_book.specs.Wholes.{whole_game}
+use Rattle.cg_book.proofs.Bypassing.{bypassed_more, no_items, no_substitutes, own_candidates, own_less, whole_pages}
+use Rattle.cg_book.proofs.Slices.{page_of_item}
+use Rattle.cg_book.proofs.bypass.candidates.Goals as goal
+
+pub bypass_own-requires-clause-option : goal.bypass_own-requires-clause-option
+bypass_own-requires-clause-option c =
+    page_of_item c.args.pages.now c.own-own-items.result.now c.loop-own.own-index _
+    (whole_pages c.args.pages.now c.args.whole.now c.args.left c.own-own-items.result.now c.requires.whole c.own-own-items.ensures)
+    c.loop-own-test.true refl
+
+pub bypass_own-requires-clause-less : goal.bypass_own-requires-clause-less
+bypass_own-requires-clause-less c =
+    own_less c.args.pages.now c.args.whole.now c.args.left c.own-own-items.result.now c.loop-own.own-index _
+    c.own-own-items.ensures c.loop-own-test.true refl
+
+pub loop-own-init : goal.loop-own-init
+loop-own-init c = record {
+  right = c.requires.right;
+  verdicts = c.requires.verdicts;
+  out = no_substitutes c.args.pages.now c.args.left c.args.whole.now c.new-all.result c.new-all.ensures.items c.new-all.ensures.passed;
+  so_far = no_items c.args.pages.now c.args.left (whole_game c.args.pages.now c.args.whole.now) (pages_of c.new-all.result.items.items)
+      (ap pages_of c.new-all.ensures.items);
+}
+
+pub loop-own-preserved : goal.loop-own-preserved
+loop-own-preserved c = record {
+  right = c.bypass_own.ensures.right;
+  verdicts = c.bypass_own.ensures.verdicts;
+  out = c.in_ok-bypass_own.ensures.out;
+  so_far = bypassed_more c.args.pages.now c.args.left (whole_game c.args.pages.now c.args.whole.now) c.own-own-items.result.now _
+      (pages_of c.loop-own.all.items.items) (pages_of c.bypass_own.new.out.items.items) c.loop-own.own-index _
+      c.loop-own.invariant.so_far c.loop-own-test.true refl c.in_ok-bypass_own.ensures.grown c.in_ok-bypass_own.ensures.covered;
+}
+
+pub returns-clause-candidates : goal.returns-clause-candidates
+returns-clause-candidates c =
+    let P : List Candidate → Type 0 = λ z. AreCandidates c.args.pages.now z in
+    subst P (sym c.into_items.ensures) (own_candidates c.args.pages.now c.args.left c.args.whole.now c.loop-own.all.items.items
+    c.requires.whole c.loop-own.invariant.out.pages c.loop-own.invariant.out.own)
