@@ -5,3 +5,10 @@ pub mod Paging
 pub mod Slices
 pub mod Comparing
 pub mod Against
+pub mod Topping
+pub mod CandidateLaws
+pub mod TermLaws
+pub mod Keeping
+pub mod Halving
+pub mod ListOrder
+pub mod Reaching
