@@ -6,3 +6,10 @@ pub mod Slices
 pub mod Comparing
 pub mod Against
 pub mod Bypassing
+pub mod Topping
+pub mod CandidateLaws
+pub mod TermLaws
+pub mod Keeping
+pub mod Halving
+pub mod ListOrder
+pub mod Reaching

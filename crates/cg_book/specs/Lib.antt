@@ -10,3 +10,4 @@ pub mod Tops
 pub mod Verdict
 pub mod Wholes
 pub mod Passed
+pub mod Reach

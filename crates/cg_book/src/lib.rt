@@ -1,20 +1,26 @@
 //! A book of games in canonical form: their order and the reduction of games of two lists of them, by their pages.
 #![tactic(auto)]
 
+mod best;
 mod bypass;
 mod candidate;
 mod order;
 mod pages;
 mod profile;
+mod ranked;
+mod reach;
 mod recent;
 mod staying;
+mod structure;
 mod substitutes;
 mod terms;
 mod told;
 mod verdicts;
 mod whole;
+mod wide;
 
 pub use order::at_most;
 pub use pages::{Pages, Read};
 pub use profile::{Outline, Profile};
 pub use recent::Recent;
+pub use terms::FirstTerm;

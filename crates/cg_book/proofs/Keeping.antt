@@ -1,0 +1,46 @@
+-- The games of a list of pages that are kept, and the best of them.
+use Rattle.std.proofs.Common.{◌≡◌, ℕ, suc, ◌+◌, ◌<◌, arith, ap, sym, ◌∙◌, subst, List, [], ◌∷◌, ◌++◌, take, get_or, length, Bool, true, false, cond}
+use Rattle.cg_form.specs.Best.{keep}
+use Rattle.cg_form.specs.Game.{Game}
+use Rattle.cg_form.proofs.Best.{append_nil}
+use Rattle.cg_book.specs.Pages.{game_of, games_of}
+use Rattle.cg_book.specs.Tops.{Tops, with_last}
+use Rattle.cg_book.proofs.Slices.{games_take_suc}
+use Rattle.cg_book.proofs.Topping.{keep-last, tops_step}
+
+pub games_take_more : (gs : List Game) (ps : List ℕ) (i k : ℕ) → i < length ps → k ≡ get_or ps i 0
+    → games_of gs (take (i + 1) ps) ≡ games_of gs (take i ps) ++ game_of gs k ∷ []
+games_take_more gs ps i k l e =
+    let one : i + 1 ≡ suc i = omega arith in
+    ap (λ n. games_of gs (take n ps)) one ∙ games_take_suc gs ps i 0 l ∙ ap (λ z. games_of gs (take i ps) ++ game_of gs z ∷ []) (sym e)
+
+-- ---- the games that are kept
+
+keep_more : (gs : List Game) (p : Game → Bool) (ps : List ℕ) (i k : ℕ) → i < length ps → k ≡ get_or ps i 0
+    → keep p (games_of gs (take (i + 1) ps)) ≡ keep p (games_of gs (take i ps)) ++ cond (p (game_of gs k)) (game_of gs k ∷ []) []
+keep_more gs p ps i k l e =
+    ap (keep p) (games_take_more gs ps i k l e) ∙ keep-last p (games_of gs (take i ps)) (game_of gs k)
+
+pub keep_left : (gs : List Game) (p : Game → Bool) (ps : List ℕ) (us : List Game) (i k : ℕ)
+    → us ≡ keep p (games_of gs (take i ps)) → i < length ps → k ≡ get_or ps i 0 → p (game_of gs k) ≡ false
+    → us ≡ keep p (games_of gs (take (i + 1) ps))
+keep_left gs p ps us i k h l e f =
+    h ∙ sym (keep_more gs p ps i k l e ∙ ap (λ z. keep p (games_of gs (take i ps)) ++ cond z (game_of gs k ∷ []) []) f
+    ∙ append_nil (keep p (games_of gs (take i ps))))
+
+pub keep_taken : (gs : List Game) (p : Game → Bool) (ps : List ℕ) (us ws : List Game) (i k : ℕ)
+    → us ≡ keep p (games_of gs (take i ps)) → i < length ps → k ≡ get_or ps i 0 → p (game_of gs k) ≡ true
+    → ws ≡ us ++ game_of gs k ∷ [] → ws ≡ keep p (games_of gs (take (i + 1) ps))
+keep_taken gs p ps us ws i k h l e f q =
+    q ∙ ap (λ z. z ++ game_of gs k ∷ []) h
+    ∙ sym (keep_more gs p ps i k l e ∙ ap (λ z. keep p (games_of gs (take i ps)) ++ cond z (game_of gs k ∷ []) []) f)
+
+-- ---- the best
+
+pub tops_next : (gs : List Game) (left : Bool) (ps : List ℕ) (us ws : List Game) (i k : ℕ)
+    → Tops left (games_of gs (take i ps)) us → i < length ps → k ≡ get_or ps i 0 → ws ≡ with_last left us (game_of gs k)
+    → Tops left (games_of gs (take (i + 1) ps)) ws
+tops_next gs left ps us ws i k h l e q =
+    let P : List Game → Type 0 = λ z. Tops left z ws in
+    let Q : List Game → Type 0 = λ z. Tops left (games_of gs (take i ps) ++ game_of gs k ∷ []) z in
+    subst P (sym (games_take_more gs ps i k l e)) (subst Q (sym q) (tops_step left (games_of gs (take i ps)) us (game_of gs k) h))

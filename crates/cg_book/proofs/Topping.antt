@@ -1,0 +1,148 @@
+-- The best games of a list, in no order: one game more at a time.
+use Rattle.std.proofs.Common.{◌≡◌, refl, ◌⊎◌, inl, inr, ap, sym, ◌∙◌, subst, List, [], ◌∷◌, ◌++◌, Bool, true, false, not, cond}
+use Rattle.cg_dyadic.proofs.Truth.{differ, false-from, not_true, true-or-not}
+use Rattle.cg_form.specs.Best.{Best, keep}
+use Rattle.cg_form.specs.Game.{Among, Game}
+use Rattle.cg_form.specs.Order.{no_one}
+use Rattle.cg_form.specs.Side.{AtMost, at_most}
+use Rattle.cg_form.specs.Structure.{Rises}
+use Rattle.cg_form.proofs.Among.{among-append, among-append_left, among-append_right}
+use Rattle.cg_form.proofs.Best.{in-keep, keep-in}
+use Rattle.cg_form.proofs.Order.{all-or-some, no_one-all, no_one-each}
+use Rattle.cg_form.proofs.Sides.{side_refl, side_trans}
+use Rattle.cg_book.specs.Tops.{Tops, with_last}
+
+-- ---- a game at the end
+
+pub among_last : (y x : Game) (gs : List Game) → Among y (gs ++ x ∷ []) → Among y gs ⊎ (y ≡ x)
+among_last y x gs m = elim (among-append y gs (x ∷ []) m) [
+  | inl k ↦ inl k
+  | inr k ↦ elim k [ inl e ↦ inr e | inr j ↦ absurd j ]
+]
+
+pub keep-last : (p : Game → Bool) (gs : List Game) (g : Game) → keep p (gs ++ g ∷ []) ≡ keep p gs ++ cond (p g) (g ∷ []) []
+keep-last p [] g = one (p g)
+  where
+    one : (b : Bool) → cond b (g ∷ []) [] ≡ [] ++ cond b (g ∷ []) []
+    one true = refl
+    one false = refl
+keep-last p (h ∷ gs) g =
+    ap (λ z. cond (p h) (h ∷ z) z) (keep-last p gs g) ∙ pull (p h) (keep p gs) (cond (p g) (g ∷ []) [])
+  where
+    pull : (b : Bool) (us vs : List Game) → cond b (h ∷ (us ++ vs)) (us ++ vs) ≡ cond b (h ∷ us) us ++ vs
+    pull true us vs = refl
+    pull false us vs = refl
+
+-- ---- the best
+
+pub tops_none : (s : Bool) → Tops s [] []
+tops_none s = record { inside = λ x m. m; top = λ x m. absurd m; apart = λ a b m w k. absurd m }
+
+tops_same : (s : Bool) (all tops : List Game) (x c : Game) → Tops s all tops → Among c tops → AtMost s x c
+    → Tops s (all ++ x ∷ []) tops
+tops_same s all tops x c b m l = record {
+  inside = λ y w. among-append_left y all (x ∷ []) (b.inside y w);
+  top = λ y w. elim (among_last y x all w) [
+    | inl k ↦ b.top y k
+    | inr e ↦ (let P : Game → Type 0 = λ z. AtMost s z c in (c, m, subst P (sym e) l))
+  ];
+  apart = b.apart;
+}
+
+tops_more : (s : Bool) (all tops : List Game) (x : Game) → Tops s all tops → ((c : Game) → Among c tops → ¬ AtMost s x c)
+    → Tops s (all ++ x ∷ []) (keep (λ c. not (at_most s c x)) tops ++ x ∷ [])
+tops_more s all tops x b n =
+    let p : Game → Bool = λ c. not (at_most s c x) in
+    let last : Among x (keep p tops ++ x ∷ []) = among-append_right x (keep p tops) (x ∷ []) (inl refl) in
+    record {
+      inside = λ y w. elim (among_last y x (keep p tops) w) [
+        | inl k ↦ among-append_left y all (x ∷ []) (b.inside y ((keep-in p y tops k).0))
+        | inr e ↦ among-append_right y all (x ∷ []) (inl e)
+      ];
+      top = λ y w. elim (among_last y x all w) [
+        | inl k ↦ (let (c, i, l) = b.top y k in elim (true-or-not (at_most s c x)) [
+          | inl t ↦ (x, last, side_trans s y c x l t)
+          | inr t ↦ (
+            c,
+            among-append_left c (keep p tops) (x ∷ []) (in-keep p c tops i (ap not (false-from (at_most s c x) t))),
+            l,
+          )
+        ])
+        | inr e ↦ (let P : Game → Type 0 = λ z. AtMost s z x in (x, last, subst P (sym e) (side_refl s x)))
+      ];
+      apart = λ u v i j k. elim (among_last u x (keep p tops) i) [
+        | inl e ↦ elim (among_last v x (keep p tops) j) [
+          | inl f ↦ b.apart u v ((keep-in p u tops e).0) ((keep-in p v tops f).0) k
+          | inr f ↦ (let P : Game → Type 0 = λ z. AtMost s u z in
+              absurd (not_true (at_most s u x) ((keep-in p u tops e).1) (subst P f k)))
+        ]
+        | inr e ↦ elim (among_last v x (keep p tops) j) [
+          | inl f ↦ (let P : Game → Type 0 = λ z. AtMost s z v in absurd (n v ((keep-in p v tops f).0) (subst P e k)))
+          | inr f ↦ e ∙ sym f
+        ]
+      ];
+    }
+
+pub tops_step : (s : Bool) (all tops : List Game) (x : Game) → Tops s all tops → Tops s (all ++ x ∷ []) (with_last s tops x)
+tops_step s all tops x b =
+    let P : Bool → Type 0 = λ t. Tops s (all ++ x ∷ []) (cond t (keep (λ c. not (at_most s c x)) tops ++ x ∷ []) tops) in
+    elim (all-or-some (λ c. at_most s x c) tops) [
+      | inl each ↦ subst P (sym (no_one-all (at_most s x) tops each))
+          (tops_more s all tops x b (λ c m k. differ (at_most s x c) k (each c m)))
+      | inr (c, m, t) ↦ subst P (sym (false-from (no_one (at_most s x) tops)
+          (λ k. differ (at_most s x c) t (no_one-each (at_most s x) tops k c m)))) (tops_same s all tops x c b m t)
+    ]
+
+-- ---- the list with one game more
+
+pub with_last_not : (s : Bool) (gs : List Game) (x : Game) (r : Bool) → r ≡ no_one (at_most s x) gs → r ≡ false
+    → gs ≡ with_last s gs x
+with_last_not s gs x r e f = sym (ap (λ z. cond z (keep (λ c. not (at_most s c x)) gs ++ x ∷ []) gs) (sym e ∙ f))
+
+pub with_last_put : (s : Bool) (gs : List Game) (x : Game) (r : Bool) → r ≡ no_one (at_most s x) gs → r ≡ true
+    → keep (λ c. not (at_most s c x)) gs ++ x ∷ [] ≡ with_last s gs x
+with_last_put s gs x r e t = sym (ap (λ z. cond z (keep (λ c. not (at_most s c x)) gs ++ x ∷ []) gs) (sym e ∙ t))
+
+keep-all : (p : Game → Bool) (gs : List Game) → ((c : Game) → Among c gs → p c ≡ true) → keep p gs ≡ gs
+keep-all p [] h = refl
+keep-all p (g ∷ gs) h =
+    ap (λ z. cond z (g ∷ keep p gs) (keep p gs)) (h g (inl refl)) ∙ ap (λ z. g ∷ z) (keep-all p gs (λ c m. h c (inr m)))
+
+-- a game that is there
+pub with_last_there : (s : Bool) (gs : List Game) (x : Game) → Among x gs → gs ≡ with_last s gs x
+with_last_there s gs x m =
+    with_last_not s gs x (no_one (at_most s x) gs) refl (false-from (no_one (at_most s x) gs)
+    (λ k. differ (at_most s x x) (side_refl s x) (no_one-each (at_most s x) gs k x m)))
+
+-- a game that is comparable with none
+pub with_last_apart : (s : Bool) (gs : List Game) (x : Game) → ((c : Game) → Among c gs → ¬ AtMost s x c)
+    → ((c : Game) → Among c gs → ¬ AtMost s c x) → gs ++ x ∷ [] ≡ with_last s gs x
+with_last_apart s gs x under over =
+    ap (λ z. z ++ x ∷ []) (sym (keep-all (λ c. not (at_most s c x)) gs (λ c m. ap not (false-from (at_most s c x) (over c m)))))
+    ∙ with_last_put s gs x (no_one (at_most s x) gs) refl
+    (no_one-all (at_most s x) gs (λ c m. false-from (at_most s x c) (under c m)))
+
+-- ---- of other lists
+
+-- of another list of the same games
+pub tops_same_games : (s : Bool) (all other tops : List Game) → ((x : Game) → Among x all → Among x other)
+    → ((x : Game) → Among x other → Among x all) → Tops s all tops → Tops s other tops
+tops_same_games s all other tops f g t = record {
+  inside = λ x m. f x (t.inside x m);
+  top = λ x m. t.top x (g x m);
+  apart = t.apart;
+}
+
+-- games of which none is at most another
+pub tops_apart : (s : Bool) (gs : List Game) → ((a b : Game) → Among a gs → Among b gs → AtMost s a b → a ≡ b) → Tops s gs gs
+tops_apart s gs f = record { inside = λ x m. m; top = λ x m. (x, m, side_refl s x); apart = f }
+
+-- the same games in order
+pub best_of_tops : (s : Bool) (all tops gs : List Game) → ((x : Game) → Among x tops → Among x gs)
+    → ((x : Game) → Among x gs → Among x tops) → Rises gs → Tops s all tops → Best s all gs
+best_of_tops s all tops gs f g r t = record {
+  inside = λ x m. t.inside x (g x m);
+  top = λ x m. (let (c, k, l) = t.top x m in (c, f c k, l));
+  apart = λ a b m n l. t.apart a b (g a m) (g b n) l;
+  rises = r;
+}

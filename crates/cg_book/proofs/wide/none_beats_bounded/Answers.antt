@@ -1,0 +1,10 @@
+use Rattle.cg_book.specs.Candidates.{pages_of}
+use Rattle.cg_book.specs.Pages.{game_of, games_of}
+use Rattle.cg_book.proofs.Reaching.{none_beats_all}
+use Rattle.cg_book.proofs.wide.none_beats_bounded.Goals as goal
+
+pub returns-then-are_passed-clause-order : goal.returns-then-are_passed-clause-order
+returns-then-are_passed-clause-order c =
+    let x = game_of c.args.pages.now c.args.x.now.page in
+    let all = games_of c.args.pages.now (pages_of c.args.items.now) in
+    none_beats_all c.args.left x all (c.are_passed.ensures all x c.requires.bounds c.profile.ensures c.if-are_passed.true)

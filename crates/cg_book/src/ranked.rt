@@ -1,0 +1,50 @@
+//! Candidates in order, those first that go furthest.
+//!
+//! Of games that the numbers tell apart, each goes further than all before it to one side and less far to the other, so it
+//! is enough to look at how far those before it go together.
+ghost use Rattle.std.specs.Prelude.{IfOk};
+ghost use Rattle.std.specs.List.Sorted.{IsPermutation};
+
+use crate::candidate::Candidate;
+use crate::pages::Pages;
+use crate::profile::Profile;
+use cg_dyadic::cut::Cut;
+use std::alloc::{AllocError, Global};
+use std::cmp::Ordering;
+
+/// Which of two cuts has fewer numbers; the player sees them.
+fn compare_cuts(left: bool, a: &Cut, b: &Cut) -> Ordering {
+    let values = a.at.compare(b.at);
+    let places = if left { values } else { values.reverse() };
+    places.then(a.closed.cmp(&b.closed))
+}
+
+/// Which of two games comes first for the player: the one with more numbers that are no better, and where these are the same,
+/// the one with fewer numbers that are as good.
+fn compare_profiles(left: bool, a: &Profile, b: &Profile) -> Ordering {
+    let no_better = compare_cuts(left, &b.cut(left), &a.cut(left));
+    no_better.then(compare_cuts(!left, &a.cut(!left), &b.cut(!left)))
+}
+
+/// Which of the games of two pages comes first for the player, where both pages are there.
+fn compare_reach(pages: &Pages, left: bool, a: u32, b: u32) -> Ordering {
+    let count = pages.count();
+    if a as usize >= count || b as usize >= count {
+        return Ordering::Equal;
+    }
+    compare_profiles(left, pages.profile(a), pages.profile(b))
+}
+
+/// The items, those first that go furthest for the player.
+pub(crate) fn furthest_first(
+    alloc: Global,
+    pages: &Pages,
+    left: bool,
+    items: &[Candidate],
+) -> Result<Vec<Candidate>, AllocError>
+    ensures { IfOk result (λ r. IsPermutation items.now r.items) }
+{
+    let mut all = items.to_vec(alloc)?;
+    all.sort_unstable_by(|a, b| compare_reach(pages, left, a.page, b.page));
+    Ok(all)
+}
