@@ -32,7 +32,8 @@ fn compare_lists(pages: &Pages, a: &[u32], b: &[u32]) -> Ordering
     }
 }
 
-/// The structural order of two games. Games of one page are equal at once. It takes no memory.
+/// The structural order of two games. Games of one page are equal at once. It allocates nothing, and calls itself at most as deep as
+/// the games are.
 #[cycle(compare)]
 pub(crate) fn compare(pages: &Pages, a: u32, b: u32) -> Ordering
     requires a { IsPage pages.now a }
