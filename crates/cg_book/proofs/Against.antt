@@ -12,7 +12,7 @@ use Rattle.cg_book.specs.declared.verdicts.Verdicts.{Verdicts}
 use Rattle.cg_book.specs.declared.whole.Whole.{Whole}
 use Rattle.cg_book.specs.Pages.{ArePages, IsPage, game_of, games_of}
 use Rattle.cg_book.specs.Verdict.{verdict}
-use Rattle.cg_book.specs.Wholes.{AreVerdicts, WholeHolds, whole_game}
+use Rattle.cg_book.specs.Wholes.{AreVerdicts, whole_game}
 
 -- ---- verdicts
 

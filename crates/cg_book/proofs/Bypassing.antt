@@ -1,5 +1,5 @@
 -- What stands in the places of options.
-use Rattle.std.proofs.Common.{◌≡◌, refl, ℕ, zero, suc, ◌+◌, ◌*◌, ◌<◌, ◌==◌, ◌⊎◌, inl, inr, arith, ap, sym, ◌∙◌, subst, Option, Some, None, List, [], ◌∷◌, ◌++◌, map, take, get_or, length, Bool, true, false, cond, true≢false, IsTrue}
+use Rattle.std.proofs.Common.{◌≡◌, refl, ℕ, suc, ◌+◌, ◌<◌, ◌==◌, inl, inr, arith, ap, sym, ◌∙◌, subst, Option, Some, None, List, [], ◌∷◌, ◌++◌, take, get_or, length, Bool, true, false, cond, true≢false, IsTrue}
 use Rattle.std.specs.List.{All, Contains}
 use Rattle.std.specs.Prelude.{if◌then◌else◌}
 use Rattle.std.proofs.lemmas.Bool.Decides.{eqb_tells}
@@ -9,7 +9,7 @@ use Rattle.cg_dyadic.specs.Number.{Number}
 use Rattle.cg_dyadic.proofs.Truth.{differ}
 use Rattle.cg_form.specs.Bypass.{AllCovered, Covered, Fine, Grown, bypassed, kept, under}
 use Rattle.cg_form.specs.Canonical.{Canonical}
-use Rattle.cg_form.specs.Game.{Among, Game, node, number}
+use Rattle.cg_form.specs.Game.{Among, Game, number}
 use Rattle.cg_form.specs.Known.{EachLess}
 use Rattle.cg_form.specs.Order.{Le, no_one}
 use Rattle.cg_form.specs.Side.{AtMost, at_most, far, near}
@@ -29,7 +29,8 @@ use Rattle.cg_book.specs.Pages.{ArePages, IsPage, game_of, games_of}
 use Rattle.cg_book.specs.Passed.{AreSubstitutes, IsOwn, was_passed}
 use Rattle.cg_book.specs.Terms.{NoneComparable}
 use Rattle.cg_book.specs.Wholes.{WholeHolds, whole_game}
-use Rattle.cg_book.proofs.Slices.{games_take_suc, item_among, page_of_item}
+use Rattle.cg_book.proofs.Slices.{games_take_suc, item_among}
+
 -- ---- games that may stand as options
 
 pub number_fine : (s : Bool) (g h : Game) (x : Number) → h ≡ number x → ¬ AtMost s g h → Fine s g h
@@ -138,9 +139,11 @@ more_substitutes gs left w o r x h known e same fine own =
     record {
       pages = p.pages;
       passed = λ page q.
-          let before = h.passed page (sym (same page) ∙ q) in
-          (before.0, covered_more left (whole_game gs w) (games_of gs (pages_of o.items.items)) (games_of gs (pages_of r.items.items))
-          (game_of gs page) p.grown.keeps before.1);
+          let before = h.passed page (sym (same page) ∙ q) in (
+            before.0,
+            covered_more left (whole_game gs w) (games_of gs (pages_of o.items.items)) (games_of gs (pages_of r.items.items))
+                (game_of gs page) p.grown.keeps before.1,
+          );
       own = subst P (sym e) (All-push (IsOwn left w) o.items.items x h.own own);
     }
 

@@ -17,7 +17,7 @@ use Rattle.cg_book.specs.Candidates.{AreAmong, AreCandidates, SharesTerm, pages_
 use Rattle.cg_book.specs.Pages.{ArePages, IsPage, game_of, games_of}
 use Rattle.cg_book.specs.Tops.{Tops, with_last}
 use Rattle.cg_book.proofs.Slices.{item_among}
-use Rattle.cg_book.proofs.Topping.{tops_apart, tops_same_games, with_last_apart}
+use Rattle.cg_book.proofs.Topping.{tops_same_games, with_last_apart}
 
 -- ---- a candidate of a list
 
@@ -195,17 +195,6 @@ new_of_term gs left x cs ds h all other e =
     All-contains (λ (c : Candidate). c.page ≢ x.page) cs c other k
     (same_by_term gs left (x ∷ cs) c x h (behind_first x cs c k) (first_of x cs)
     (turned x.term c.term (All-contains (SharesTerm x) cs c all k)) (subst P q l)))
-
--- all come from one term
-pub tops_of_term : (gs : List Game) (left : Bool) (cs : List Candidate) → AreCandidates gs cs
-    → ((a b : Candidate) → Contains cs a → Contains cs b → SharesTerm a b)
-    → Tops left (games_of gs (pages_of cs)) (games_of gs (pages_of cs))
-tops_of_term gs left cs h one = tops_apart left (games_of gs (pages_of cs)) (λ a b m n l.
-    let (c, k, e) = member_of gs cs a m in
-    let (d, j, f) = member_of gs cs b n in
-    let P : Game → Type 0 = λ z. AtMost left z b in
-    let Q : Game → Type 0 = λ z. AtMost left (game_of gs c.page) z in
-    e ∙ ap (game_of gs) (same_by_term gs left cs c d h k j (one c d k j) (subst Q f (subst P e l))) ∙ sym f)
 
 -- ---- fewer games
 

@@ -1,5 +1,5 @@
 -- The steps of a comparison.
-use Rattle.std.proofs.Common.{◌≡◌, ℕ, ap, sym, ◌∙◌, subst, List, Bool, true, false, not, ◌&&◌, ◌⊎◌, inl, inr, IfOk}
+use Rattle.std.proofs.Common.{◌≡◌, ap, sym, ◌∙◌, subst, List, Bool, true, false, ◌&&◌, ◌⊎◌, inl, inr, IfOk}
 use Rattle.std.specs.Prelude.{Result, Ok, Err}
 use Rattle.cg_dyadic.specs.Number.{Number, number_le}
 use Rattle.cg_dyadic.proofs.Truth.{differ, false-from}
@@ -96,6 +96,6 @@ ok_same (Err x) u v h e = h
 pub remembered : (gs : List Game) (old new : Recent) (answer : Answer) → AreRight gs old
     → ((x : Answer) → IsKept new x → (x ≡ answer) ⊎ IsKept old x) → IsRight gs answer → AreRight gs new
 remembered gs old new answer h k r = λ x m. elim (k x m) [
-    | inl e ↦ (let P : Answer → Type 0 = λ z. IsRight gs z in subst P (sym e) r)
-    | inr o ↦ h x o
-  ]
+  | inl e ↦ (let P : Answer → Type 0 = λ z. IsRight gs z in subst P (sym e) r)
+  | inr o ↦ h x o
+]

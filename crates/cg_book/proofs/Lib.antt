@@ -13,3 +13,4 @@ pub mod Keeping
 pub mod Halving
 pub mod ListOrder
 pub mod Reaching
+pub mod Reducing

@@ -1,5 +1,5 @@
 -- The games that pages say, one after the other.
-use Rattle.std.proofs.Common.{◌≡◌, refl, ℕ, zero, suc, ◌+◌, ◌-◌, ◌<◌, ◌≤◌, ◌^◌, arith, ap, sym, ◌∙◌, subst, List, [], ◌∷◌, ◌++◌, length, length-append, take, drop, get_or, Bool, true, false, cond, All}
+use Rattle.std.proofs.Common.{◌≡◌, refl, ℕ, zero, suc, ◌+◌, ◌-◌, ◌<◌, ◌≤◌, ◌^◌, arith, ap, sym, ◌∙◌, subst, List, [], ◌∷◌, ◌++◌, length, length-append, take, drop, get_or, true, false, cond}
 use Rattle.std.proofs.Math.Seq.{drop-append_seam, take-append_seam}
 use Rattle.std.proofs.lemmas.List.{drop-append-le, take-append-le, length-drop, get_or_append_left, get_or-append_right, append_assoc, append-nil}
 use Rattle.std.specs.List.{slice_range}
@@ -143,16 +143,18 @@ written_longer_page opts more gs p w =
     let P : List ℕ → Type 0 = λ z. ArePages gs z in
     let V : Game → Type 0 = λ k. Canonical k in
     let U : Game → Type 0 = λ k. IsProfile k p.profile in
-    let n = length-append opts more in
-    (e, record {
-      lefts = subst P (sym l) w.lefts;
-      rights = subst P (sym r) w.rights;
-      first = w.first;
-      second = w.second;
-      end = (let a = w.end in omega arith);
-      canonical = subst V (sym e) w.canonical;
-      profile = subst U (sym e) w.profile;
-    })
+    let n = length-append opts more in (
+      e,
+      record {
+        lefts = subst P (sym l) w.lefts;
+        rights = subst P (sym r) w.rights;
+        first = w.first;
+        second = w.second;
+        end = (let a = w.end in omega arith);
+        canonical = subst V (sym e) w.canonical;
+        profile = subst U (sym e) w.profile;
+      },
+    )
 
 pub said_longer : (opts more : List ℕ) (gs : List Game) (ps : List Page) → AreWritten opts gs ps
     → (said_by (opts ++ more) gs ps ≡ said_by opts gs ps) × AreWritten (opts ++ more) gs ps
@@ -188,11 +190,13 @@ pub says_game : (opts : List ℕ) (gs : List Game) (p : Page) (g : Game) (ls rs 
     → ls ≡ left_pages opts p → rs ≡ right_pages opts p
     → ArePages gs ls × ArePages gs rs × (g ≡ node (games_of gs ls) (games_of gs rs))
 says_game opts gs p g ls rs s e l r =
-    let P : List ℕ → Type 0 = λ z. ArePages gs z in
-    (subst P (sym l) s.lefts, subst P (sym r) s.rights,
-    s.says ∙ ap (λ z. cond z (number p.profile.low.at) (node (games_of gs (left_pages opts p)) (games_of gs (right_pages opts p)))) e
-    ∙ ap (λ z. node (games_of gs z) (games_of gs (right_pages opts p))) (sym l)
-    ∙ ap (λ z. node (games_of gs ls) (games_of gs z)) (sym r))
+    let P : List ℕ → Type 0 = λ z. ArePages gs z in (
+      subst P (sym l) s.lefts,
+      subst P (sym r) s.rights,
+      s.says ∙ ap (λ z. cond z (number p.profile.low.at) (node (games_of gs (left_pages opts p)) (games_of gs (right_pages opts p)))) e
+          ∙ ap (λ z. node (games_of gs z) (games_of gs (right_pages opts p))) (sym l)
+          ∙ ap (λ z. node (games_of gs ls) (games_of gs z)) (sym r),
+    )
 
 -- ---- a page that is added
 
@@ -268,9 +272,10 @@ pub one_page : (opts : List ℕ) (ps qs : List Page) (gs : List Game) (p : Page)
 one_page opts ps qs gs p g w e a q n =
     let P : List Game → Type 0 = λ z. IsWritten opts z p in
     let Q : List Page → Type 0 = λ z. AreWritten opts [] z in
-    let R : List Game → Type 0 = λ z. length z < 2 ^ 32 in
-    (subst Q (sym q) (written_one_more opts [] ps p w (subst P (sym e) a.written) (subst R (sym e) n)),
-    ap (said_by opts []) q ∙ said_one_more opts [] ps p ∙ ap (λ z. z ++ (said opts z p ∷ [])) e ∙ ap (λ z. gs ++ (z ∷ [])) a.says)
+    let R : List Game → Type 0 = λ z. length z < 2 ^ 32 in (
+      subst Q (sym q) (written_one_more opts [] ps p w (subst P (sym e) a.written) (subst R (sym e) n)),
+      ap (said_by opts []) q ∙ said_one_more opts [] ps p ∙ ap (λ z. z ++ (said opts z p ∷ [])) e ∙ ap (λ z. gs ++ (z ∷ [])) a.says,
+    )
 
 -- the options of pages to come change nothing
 pub same_pages : (opts more new : List ℕ) (ps : List Page) (gs : List Game) → new ≡ opts ++ more → AreWritten opts [] ps

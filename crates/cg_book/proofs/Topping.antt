@@ -1,16 +1,17 @@
 -- The best games of a list, in no order: one game more at a time.
-use Rattle.std.proofs.Common.{◌≡◌, refl, ◌⊎◌, inl, inr, ap, sym, ◌∙◌, subst, List, [], ◌∷◌, ◌++◌, Bool, true, false, not, cond}
+use Rattle.std.proofs.Common.{◌≡◌, refl, ℕ, zero, suc, ◌<◌, ◌⊎◌, inl, inr, arith, ap, sym, ◌∙◌, subst, List, [], ◌∷◌, ◌++◌, get_or, length, Bool, true, false, not, cond}
 use Rattle.cg_dyadic.proofs.Truth.{differ, false-from, not_true, true-or-not}
 use Rattle.cg_form.specs.Best.{Best, keep}
 use Rattle.cg_form.specs.Game.{Among, Game}
-use Rattle.cg_form.specs.Order.{no_one}
+use Rattle.cg_form.specs.Order.{Le, no_one}
 use Rattle.cg_form.specs.Side.{AtMost, at_most}
 use Rattle.cg_form.specs.Structure.{Rises}
 use Rattle.cg_form.proofs.Among.{among-append, among-append_left, among-append_right}
 use Rattle.cg_form.proofs.Best.{in-keep, keep-in}
 use Rattle.cg_form.proofs.Order.{all-or-some, no_one-all, no_one-each}
 use Rattle.cg_form.proofs.Sides.{side_refl, side_trans}
-use Rattle.cg_book.specs.Tops.{Tops, with_last}
+use Rattle.cg_book.specs.Terms.{NoneComparable}
+use Rattle.cg_book.specs.Tops.{AreApart, Tops, with_last}
 
 -- ---- a game at the end
 
@@ -33,10 +34,73 @@ keep-last p (h ∷ gs) g =
     pull true us vs = refl
     pull false us vs = refl
 
+-- ---- games of which no two are comparable
+
+apart-keep : (p : Game → Bool) (gs : List Game) → AreApart gs → AreApart (keep p gs)
+apart-keep p [] h = tt
+apart-keep p (g ∷ gs) h = by (p g) (apart-keep p gs h.1)
+  where
+    by : (b : Bool) → AreApart (keep p gs) → AreApart (cond b (g ∷ keep p gs) (keep p gs))
+    by true rest = (λ c m. h.0 c ((keep-in p c gs m).0), rest)
+    by false rest = rest
+
+apart-last : (gs : List Game) (x : Game) → AreApart gs → ((c : Game) → Among c gs → (¬ Le c x) × (¬ Le x c))
+    → AreApart (gs ++ x ∷ [])
+apart-last [] x h n = (λ c m. absurd m, tt)
+apart-last (g ∷ gs) x h n = (
+  λ c m. elim (among_last c x gs m) [
+    | inl k ↦ h.0 c k
+    | inr e ↦ (let P : Game → Type 0 = λ z. (¬ Le g z) × (¬ Le z g) in subst P (sym e) (n g (inl refl)))
+  ],
+  apart-last gs x h.1 (λ c m. n c (inr m)),
+)
+
+sides_apart : (s : Bool) (g h : Game) → ¬ AtMost s g h → ¬ AtMost s h g → (¬ Le g h) × (¬ Le h g)
+sides_apart true g h a b = (a, b)
+sides_apart false g h a b = (b, a)
+
+apart_sides : (s : Bool) (g h : Game) → (¬ Le g h) × (¬ Le h g) → ¬ AtMost s g h
+apart_sides true g h a = a.0
+apart_sides false g h a = a.1
+
+-- so one of them that is at most another is the same
+apart-same : (s : Bool) (gs : List Game) (a b : Game) → AreApart gs → Among a gs → Among b gs → AtMost s a b → a ≡ b
+apart-same s [] a b h m n l = absurd m
+apart-same s (g ∷ gs) a b h m n l = elim m [
+  | inl e ↦ elim n [
+    | inl f ↦ e ∙ sym f
+    | inr j ↦ (let P : Game → Type 0 = λ z. AtMost s z b in absurd (apart_sides s g b (h.0 b j) (subst P e l)))
+  ]
+  | inr k ↦ elim n [
+    | inl f ↦
+        let P : Game → Type 0 = λ z. AtMost s a z in
+        let q = h.0 a k in
+        absurd (apart_sides s a g (q.1, q.0) (subst P f l))
+    | inr j ↦ apart-same s gs a b h.1 k j l
+  ]
+]
+
+game_there : (gs : List Game) (i : ℕ) (d : Game) → i < length gs → Among (get_or gs i d) gs
+game_there [] i d l = absurd (omega arith)
+game_there (g ∷ gs) zero d l = inl refl
+game_there (g ∷ gs) (suc i) d l = inr (game_there gs i d (omega arith))
+
+apart-places : (gs : List Game) (i j : ℕ) (d : Game) → AreApart gs → i < length gs → j < length gs → ¬ (i ≡ j)
+    → ¬ Le (get_or gs i d) (get_or gs j d)
+apart-places [] i j d h l n o = absurd (omega arith)
+apart-places (g ∷ gs) zero zero d h l n o = absurd (o refl)
+apart-places (g ∷ gs) zero (suc j) d h l n o = (h.0 (get_or gs j d) (game_there gs j d (omega arith))).0
+apart-places (g ∷ gs) (suc i) zero d h l n o = (h.0 (get_or gs i d) (game_there gs i d (omega arith))).1
+apart-places (g ∷ gs) (suc i) (suc j) d h l n o =
+    apart-places gs i j d h.1 (omega arith) (omega arith) (λ e. o (ap suc e))
+
+pub none_comparable : (gs : List Game) → AreApart gs → NoneComparable gs
+none_comparable gs h = record { each = λ i j d l n o. apart-places gs i j d h l n o }
+
 -- ---- the best
 
 pub tops_none : (s : Bool) → Tops s [] []
-tops_none s = record { inside = λ x m. m; top = λ x m. absurd m; apart = λ a b m w k. absurd m }
+tops_none s = record { inside = λ x m. m; top = λ x m. absurd m; apart = tt }
 
 tops_same : (s : Bool) (all tops : List Game) (x c : Game) → Tops s all tops → Among c tops → AtMost s x c
     → Tops s (all ++ x ∷ []) tops
@@ -70,17 +134,8 @@ tops_more s all tops x b n =
         ])
         | inr e ↦ (let P : Game → Type 0 = λ z. AtMost s z x in (x, last, subst P (sym e) (side_refl s x)))
       ];
-      apart = λ u v i j k. elim (among_last u x (keep p tops) i) [
-        | inl e ↦ elim (among_last v x (keep p tops) j) [
-          | inl f ↦ b.apart u v ((keep-in p u tops e).0) ((keep-in p v tops f).0) k
-          | inr f ↦ (let P : Game → Type 0 = λ z. AtMost s u z in
-              absurd (not_true (at_most s u x) ((keep-in p u tops e).1) (subst P f k)))
-        ]
-        | inr e ↦ elim (among_last v x (keep p tops) j) [
-          | inl f ↦ (let P : Game → Type 0 = λ z. AtMost s z v in absurd (n v ((keep-in p v tops f).0) (subst P e k)))
-          | inr f ↦ e ∙ sym f
-        ]
-      ];
+      apart = apart-last (keep p tops) x (apart-keep p tops b.apart)
+          (λ c m. sides_apart s c x (not_true (at_most s c x) ((keep-in p c tops m).1)) (n c ((keep-in p c tops m).0)));
     }
 
 pub tops_step : (s : Bool) (all tops : List Game) (x : Game) → Tops s all tops → Tops s (all ++ x ∷ []) (with_last s tops x)
@@ -133,16 +188,12 @@ tops_same_games s all other tops f g t = record {
   apart = t.apart;
 }
 
--- games of which none is at most another
-pub tops_apart : (s : Bool) (gs : List Game) → ((a b : Game) → Among a gs → Among b gs → AtMost s a b → a ≡ b) → Tops s gs gs
-tops_apart s gs f = record { inside = λ x m. m; top = λ x m. (x, m, side_refl s x); apart = f }
-
 -- the same games in order
 pub best_of_tops : (s : Bool) (all tops gs : List Game) → ((x : Game) → Among x tops → Among x gs)
     → ((x : Game) → Among x gs → Among x tops) → Rises gs → Tops s all tops → Best s all gs
 best_of_tops s all tops gs f g r t = record {
   inside = λ x m. t.inside x (g x m);
   top = λ x m. (let (c, k, l) = t.top x m in (c, f c k, l));
-  apart = λ a b m n l. t.apart a b (g a m) (g b n) l;
+  apart = λ a b m n l. apart-same s tops a b t.apart (g a m) (g b n) l;
   rises = r;
 }

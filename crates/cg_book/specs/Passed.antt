@@ -1,5 +1,5 @@
 -- Options in whose places others stand.
-use Rattle.std.specs.Prelude.{◌≡◌, ℕ, Bool, true, All, cond, Contains, Option, Some, List, nat_eq}
+use Rattle.std.specs.Prelude.{◌≡◌, ℕ, Bool, true, All, cond, Contains, Some, List, nat_eq}
 use Rattle.std.specs.HashSet.{contains}
 use Rattle.cg_form.specs.Bypass.{Covered}
 use Rattle.cg_form.specs.Game.{Game}

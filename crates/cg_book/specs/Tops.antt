@@ -1,15 +1,20 @@
 -- The best of a list of games, in no order.
-use Rattle.std.specs.Prelude.{◌≡◌, ◌++◌, Bool, not, cond, List, [], ◌∷◌}
+use Rattle.std.specs.Prelude.{◌++◌, Bool, not, cond, List, [], ◌∷◌}
 use Rattle.cg_form.specs.Best.{keep}
 use Rattle.cg_form.specs.Game.{Among, Game}
-use Rattle.cg_form.specs.Order.{no_one}
+use Rattle.cg_form.specs.Order.{Le, no_one}
 use Rattle.cg_form.specs.Side.{AtMost, at_most}
 
--- each is in the list, each of the list is no better than some, and none is no better than another
+-- no two games of the list are comparable
+abbrev pub AreApart : List Game → Type 0
+AreApart [] = Unit {0}
+AreApart (g ∷ gs) = ((h : Game) → Among h gs → (¬ Le g h) × (¬ Le h g)) × AreApart gs
+
+-- each is in the list, each of the list is no better than some, and no two are comparable
 pub record Tops (s : Bool) (all tops : List Game) : Type 0 where
   pub inside : (x : Game) → Among x tops → Among x all
   pub top : (x : Game) → Among x all → (c : Game) × Among c tops × AtMost s x c
-  pub apart : (a b : Game) → Among a tops → Among b tops → AtMost s a b → a ≡ b
+  pub apart : AreApart tops
 
 -- the list less what is no better than x, and x at its end; or the list, if x is no better than one of it
 abbrev pub with_last : Bool → List Game → Game → List Game

@@ -13,7 +13,7 @@ ghost use Rattle.cg_book.specs.Reach.{AreBounds};
 ghost use Rattle.cg_book.specs.Recents.{AreRight};
 ghost use Rattle.cg_book.specs.Tops.{Tops, with_last};
 
-use crate::best::{are_of_its_term, none_beats, others};
+use crate::best::{none_beats, others};
 use crate::candidate::{Candidate, Candidates, candidate_at_most};
 use crate::pages::Pages;
 use crate::ranked::furthest_first;
@@ -154,17 +154,7 @@ fn tops_in_turn(
     Ok(items)
 }
 
-/// Whether all of the items come from one term.
-fn are_of_one_term(items: &[Candidate]) -> bool
-    ensures { IsTrue result → (a b : Declared) → Contains items.now a → Contains items.now b → SharesTerm a b }
-{
-    if items.is_empty() {
-        return false;
-    }
-    are_of_its_term(&items[0], items)
-}
-
-/// The best of the items for the player, in no order. Where all come from one term, they are the best.
+/// The best of the items for the player, in no order.
 pub(crate) fn tops_of_many(
     alloc: Global,
     pages: &Pages,
@@ -178,9 +168,6 @@ pub(crate) fn tops_of_many(
     ensures among { IfOk result (λ r. AreAmong r.items items.now) }
     ensures right { AreRight pages.now answers.new }
 {
-    if are_of_one_term(items) {
-        return SmallVec::from_slice(alloc, items);
-    }
     let all = furthest_first(alloc, pages, left, items)?;
     tops_in_turn(alloc, pages, answers, left, all.as_slice())
 }

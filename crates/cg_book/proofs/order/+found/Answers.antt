@@ -1,8 +1,5 @@
-use Rattle.std.proofs.Common.{◌≡◌, ap, arith, false, get_or, inl, inr, refl, rules, sym, true, ◌∙◌}
-use Rattle.cg_form.specs.Order.{le}
+use Rattle.std.proofs.Common.{◌≡◌, ap, get_or, refl, rules, sym, true, ◌∙◌}
 use Rattle.cg_form.specs.Side.{at_most}
-use Rattle.cg_form.specs.Size.{list_size, size}
-use Rattle.cg_book.specs.declared.recent.Answer.{Answer}
 use Rattle.cg_form.proofs.Sides.{side_refl, side_turned}
 use Rattle.cg_book.specs.Pages.{game_of, games_of}
 use Rattle.cg_book.proofs.Comparing.{game_case, games_case, hindered, number_case, numbers_case, ok_same, remembered}

@@ -1,4 +1,4 @@
-use Rattle.std.proofs.Common.{◌≡◌, false, not, refl, rules, sym, true, ◌∙◌}
+use Rattle.std.proofs.Common.{◌≡◌, false, refl, rules, sym, true, ◌∙◌}
 use Rattle.cg_form.specs.Side.{at_most}
 use Rattle.cg_book.specs.Pages.{game_of, games_of}
 use Rattle.cg_book.specs.Wholes.{whole_game}

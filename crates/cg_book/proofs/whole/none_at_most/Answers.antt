@@ -1,4 +1,4 @@
-use Rattle.std.proofs.Common.{get_or, refl, sym, ◌∙◌}
+use Rattle.std.proofs.Common.{refl, sym, ◌∙◌}
 use Rattle.cg_form.specs.Side.{at_most}
 use Rattle.cg_book.specs.Pages.{game_of}
 use Rattle.cg_book.proofs.Slices.{slice_hit, slice_miss}

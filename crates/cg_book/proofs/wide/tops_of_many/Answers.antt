@@ -3,21 +3,9 @@ use Rattle.cg_book.specs.declared.candidate.Candidate.{Candidate}
 use Rattle.cg_book.specs.Candidates.{AreAmong, AreCandidates, pages_of}
 use Rattle.cg_book.specs.Pages.{games_of}
 use Rattle.cg_book.specs.Tops.{Tops}
-use Rattle.cg_book.proofs.CandidateLaws.{among_itself, among_moved, among_then, candidates_moved, tops_moved, tops_of_term}
+use Rattle.cg_book.proofs.CandidateLaws.{among_moved, among_then, candidates_moved, tops_moved}
 use Rattle.cg_book.proofs.Results.{if_ok}
 use Rattle.cg_book.proofs.wide.tops_of_many.Goals as goal
-
-pub returns-then-are_of_one_term-clause-tops : goal.returns-then-are_of_one_term-clause-tops
-returns-then-are_of_one_term-clause-tops c =
-    let gs = c.args.pages.now in
-    if_ok c.from_slice.result _ _ c.from_slice.ensures.ok
-    (λ r h. (let P : List Candidate → Type 0 = λ z. Tops c.args.left (games_of gs (pages_of c.args.items.now)) (games_of gs (pages_of z)) in
-    subst P (sym h) (tops_of_term gs c.args.left c.args.items.now c.requires.candidates (c.are_of_one_term.ensures c.if-are_of_one_term.true))))
-
-pub returns-then-are_of_one_term-clause-among : goal.returns-then-are_of_one_term-clause-among
-returns-then-are_of_one_term-clause-among c =
-    if_ok c.from_slice.result _ _ c.from_slice.ensures.ok
-    (λ r h. (let P : List Candidate → Type 0 = λ z. AreAmong z c.args.items.now in subst P (sym h) (among_itself c.args.items.now)))
 
 pub tops_in_turn-requires-clause-candidates : goal.tops_in_turn-requires-clause-candidates
 tops_in_turn-requires-clause-candidates c =

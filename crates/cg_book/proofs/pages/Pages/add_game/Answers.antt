@@ -1,5 +1,5 @@
 use Rattle.std.proofs.Common.{◌≡◌, ◌<◌, ◌^◌, ◌++◌, ◌∷◌, [], ℕ, List, ap, append_assoc, false, length, refl, rules, subst, sym, ◌∙◌}
-use Rattle.cg_form.specs.Game.{Game, node}
+use Rattle.cg_form.specs.Game.{node}
 use Rattle.cg_book.specs.declared.pages.Page.{Page}
 use Rattle.cg_book.specs.Pages.{AreWritten, games_of, said_by}
 use Rattle.cg_book.proofs.Results.{always_on_err}

@@ -1,4 +1,4 @@
-use Rattle.std.proofs.Common.{◌≡◌, ◌<◌, ◌^◌, [], length, refl, rules, sym, true, ◌∙◌}
+use Rattle.std.proofs.Common.{◌≡◌, ◌<◌, ◌^◌, length, refl, rules, true}
 use Rattle.cg_form.specs.Game.{number}
 use Rattle.cg_book.specs.declared.pages.Page.{Page}
 use Rattle.cg_book.proofs.Paging.{Adds, adds_number, counted, one_page}

@@ -1,0 +1,133 @@
+-- The canonical form of a whole: what stays of its value where dominated options are left out, and what replaces the others.
+use Rattle.std.proofs.Common.{◌≡◌, ℕ, inl, inr, sym, ◌∙◌, subst, None, Option, Some, List, [], Bool, true, false, cond}
+use Rattle.cg_form.specs.Best.{Best}
+use Rattle.cg_form.specs.Bypass.{AllCovered, Fine, Grown, Replaces, kept}
+use Rattle.cg_form.specs.Game.{Among, Game, lefts, node, number, rights}
+use Rattle.cg_form.specs.Order.{Equal}
+use Rattle.cg_form.specs.Simple.{NoNumber}
+use Rattle.cg_form.proofs.Among.{carry, lefts-node, rights-node}
+use Rattle.cg_form.proofs.EqualGames.{le-equal}
+use Rattle.cg_form.proofs.Exists.{can-is, node_settled}
+use Rattle.cg_form.proofs.Preorder.{equal_back, equal_refl, equal_trans, le-cofinal, le_refl}
+use Rattle.cg_form.proofs.Sides.{side_refl}
+use Rattle.cg_form.proofs.Unique.{canonical_form-same}
+use Rattle.cg_nodes.specs.CanForms.{can-canonical, can-equal, can-unique}
+use Rattle.cg_nodes.specs.Spelled.{can}
+use Rattle.cg_book.specs.declared.profile.Profile.{Profile}
+use Rattle.cg_book.specs.declared.verdicts.Verdicts.{Verdicts}
+use Rattle.cg_book.specs.declared.whole.Whole.{Whole}
+use Rattle.cg_book.specs.Pages.{ArePages, games_of}
+use Rattle.cg_book.specs.Profiles.{HasCuts}
+use Rattle.cg_book.specs.Terms.{NoneComparable}
+use Rattle.cg_book.specs.Tops.{Tops}
+use Rattle.cg_book.specs.Verdict.{verdict}
+use Rattle.cg_book.specs.Wholes.{AreVerdicts, WholeHolds, whole_game}
+use Rattle.cg_book.proofs.Topping.{none_comparable}
+
+-- ---- the value without dominated options
+
+-- what dominates stays, so the game stays equal
+tops_equal : (ls rs us vs : List Game) → Tops true ls us → Tops false rs vs → Equal (node us vs) (node ls rs)
+tops_equal ls rs us vs l r =
+    let g : Game = node us vs in let h : Game = node ls rs in (
+      le-cofinal g h
+          (λ a m. (a, carry a ls (lefts h) (sym (lefts-node ls rs)) (l.inside a (carry a (lefts g) us (lefts-node us vs) m)), le_refl a))
+          (λ b m. let (d, i, e) = r.top b (carry b (rights h) rs (rights-node ls rs) m) in
+          (d, carry d vs (rights g) (sym (rights-node us vs)) i, e)),
+      le-cofinal h g
+          (λ a m. let (c, i, e) = l.top a (carry a (lefts h) ls (lefts-node ls rs) m) in
+          (c, carry c us (lefts g) (sym (lefts-node us vs)) i, e))
+          (λ b m. (b, carry b rs (rights h) (sym (rights-node ls rs)) (r.inside b (carry b (rights g) vs (rights-node us vs) m)), le_refl b)),
+    )
+
+no_number_equal : (g h : Game) → Equal g h → NoNumber h → NoNumber g
+no_number_equal g h e n x f = n x (equal_trans (number x) g h f e)
+
+cuts_equal : (g h : Game) (p : Profile) → Equal g h → HasCuts h p → HasCuts g p
+cuts_equal g h p e k = record {
+  low = record { tells = λ x a. le-equal (number x) g (number x) h (equal_refl (number x)) e ∙ k.low.tells x a };
+  high = record { tells = λ x a. le-equal g (number x) h (number x) e (equal_refl (number x)) ∙ k.high.tells x a };
+}
+
+can_equal : (g h : Game) → Equal g h → can h ≡ can g
+can_equal g h e =
+    can-unique h (can g) (can-canonical g)
+    (equal_trans (can h) h (can g) (can-equal h) (equal_trans h g (can g) (equal_back g h e) (equal_back (can g) g (can-equal g))))
+
+tops_again : (s : Bool) (all tops : List Game) → Tops s all tops → Tops s tops tops
+tops_again s all tops h = record { inside = λ x m. m; top = λ x m. (x, m, side_refl s x); apart = h.apart }
+
+-- the game of the options ls and rs, and the whole of their best
+pub record Undominated (gs : List Game) (ls rs : List ℕ) (w : Whole) : Type 0 where
+  pub holds : WholeHolds gs w
+  pub lefts : Tops true (games_of gs w.lefts.now) (games_of gs w.lefts.now)
+  pub rights : Tops false (games_of gs w.rights.now) (games_of gs w.rights.now)
+  pub same : can (node (games_of gs ls) (games_of gs rs)) ≡ can (whole_game gs w)
+
+pub undominated : (gs : List Game) (ls rs us vs : List ℕ) (w : Whole) → w.lefts.now ≡ us → w.rights.now ≡ vs → ArePages gs us
+    → ArePages gs vs → Tops true (games_of gs ls) (games_of gs us) → Tops false (games_of gs rs) (games_of gs vs)
+    → NoNumber (node (games_of gs ls) (games_of gs rs)) → HasCuts (node (games_of gs ls) (games_of gs rs)) w.profile
+    → Undominated gs ls rs w
+undominated gs ls rs us vs w e f a b l r never cuts =
+    let P : List ℕ → Type 0 = λ z. ArePages gs z in
+    let U : List ℕ → Type 0 = λ z. Tops true (games_of gs ls) (games_of gs z) in
+    let V : List ℕ → Type 0 = λ z. Tops false (games_of gs rs) (games_of gs z) in
+    let left = subst U (sym e) l in
+    let right = subst V (sym f) r in
+    let h : Game = node (games_of gs ls) (games_of gs rs) in
+    let equal = tops_equal (games_of gs ls) (games_of gs rs) (games_of gs w.lefts.now) (games_of gs w.rights.now) left right in
+    record {
+      holds = record {
+        lefts = subst P (sym e) a;
+        rights = subst P (sym f) b;
+        no_number = no_number_equal (whole_game gs w) h equal never;
+        cuts = cuts_equal (whole_game gs w) h w.profile equal cuts;
+        apart = λ s. by s left right;
+      };
+      lefts = tops_again true (games_of gs ls) (games_of gs w.lefts.now) left;
+      rights = tops_again false (games_of gs rs) (games_of gs w.rights.now) right;
+      same = can_equal (whole_game gs w) h equal;
+    }
+  where
+    by : (s : Bool) → Tops true (games_of gs ls) (games_of gs w.lefts.now) → Tops false (games_of gs rs) (games_of gs w.rights.now)
+        → NoneComparable (games_of gs (cond s w.lefts.now w.rights.now))
+    by true l r = none_comparable (games_of gs w.lefts.now) l.apart
+    by false l r = none_comparable (games_of gs w.rights.now) r.apart
+
+-- ---- the options of one side
+
+-- no verdicts yet
+pub no_verdicts : (gs : List Game) (w : Whole) (v : Verdicts) → ((l : Bool) (a : ℕ) → verdict v l a ≡ None) → AreVerdicts gs w v
+no_verdicts gs w v none = record { each = λ left page answer e. absurd (none_some (verdict v left page) answer (none left page) e) }
+  where
+    none_some : (o : Option Bool) (x : Bool) → o ≡ None → o ≡ Some x → ⊥
+    none_some o x e f = cc
+
+pub candidates_replace : (s : Bool) (g : Game) (old us new : List Game) → Grown s g [] us → AllCovered s g us old
+    → Best s us new → Replaces s g old new
+candidates_replace s g old us new grown covered best = record {
+  candidates = us;
+  covered = covered;
+  fine = λ x m. elim (grown.fine x m) [ inl k ↦ absurd k | inr f ↦ f ];
+  best = best;
+}
+
+-- where all may stay, they stand in their own place
+pub replace_themselves : (s : Bool) (g : Game) (own new : List Game) → ((x : Game) → Among x own → Fine s g x) → Best s own new
+    → Replaces s g own new
+replace_themselves s g own new fine best = record {
+  candidates = own;
+  covered = record { each = λ c m. kept m };
+  fine = fine;
+  best = best;
+}
+
+-- ---- both sides
+
+pub formed : (gs : List Game) (w : Whole) (ls rs : List ℕ) → NoNumber (whole_game gs w)
+    → Replaces true (whole_game gs w) (games_of gs w.lefts.now) (games_of gs ls)
+    → Replaces false (whole_game gs w) (games_of gs w.rights.now) (games_of gs rs)
+    → can (whole_game gs w) ≡ node (games_of gs ls) (games_of gs rs)
+formed gs w ls rs never l r =
+    canonical_form-same (whole_game gs w) (can (whole_game gs w)) (node (games_of gs ls) (games_of gs rs)) (can-is (whole_game gs w))
+    (node_settled (games_of gs w.lefts.now) (games_of gs w.rights.now) (games_of gs ls) (games_of gs rs) never l r)

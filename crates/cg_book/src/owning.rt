@@ -1,0 +1,70 @@
+//! The best of the options of a game that may be a sum of two terms.
+ghost use Rattle.std.specs.Prelude.{◌≡◌, ◌<◌, ℕ, List, All, IfOk, cond, length, slice_index_or};
+ghost use Rattle.cg_book.specs.Candidates.{AreApartByTerm, ComesFrom, pages_of};
+ghost use Rattle.cg_book.specs.Pages.{ArePages, games_of};
+ghost use Rattle.cg_book.specs.Recents.{AreRight};
+ghost use Rattle.cg_book.specs.Tops.{Tops};
+
+use crate::best::tops_of;
+use crate::candidate::{Candidate, Candidates};
+use crate::pages::Pages;
+use crate::recent::Recent;
+use crate::substitutes::Options;
+use crate::terms::{FirstTerm, Term};
+use crate::whole::chosen;
+use smallvec::SmallVec;
+use std::alloc::{AllocError, Global};
+
+/// The term that the player's option at this place comes from, where the game is a sum of two.
+fn term_at(first_term: Option<FirstTerm>, left: bool, place: usize) -> Option<Term>
+    ensures { (options : List ℕ) (p : ℕ) → place < length options → p ≡ slice_index_or options place p
+        → ComesFrom first_term left options (record { page = p; term = result }) }
+{
+    let first = first_term?;
+    if place < first.own(left) {
+        return Some(Term::First);
+    }
+    Some(Term::Second)
+}
+
+/// The player's options, with the terms that they come from.
+fn with_terms(
+    alloc: Global,
+    left: bool,
+    options: &[u32],
+    first_term: Option<FirstTerm>,
+) -> Result<Candidates, AllocError>
+    ensures pages { IfOk result (λ r. pages_of r.items ≡ options.now) }
+    ensures own { IfOk result (λ r. All (ComesFrom first_term left options.now) r.items) }
+{
+    let mut all = SmallVec::new(alloc);
+    for (place, option) in options.iter().enumerate() {
+        all.push(Candidate {
+            page: *option,
+            term: term_at(first_term, left, place),
+        })?;
+    }
+    Ok(all)
+}
+
+/// The best of the player's own options of a game with these options, in no order.
+pub(crate) fn own_tops(
+    alloc: Global,
+    pages: &Pages,
+    answers: &mut Recent,
+    left: bool,
+    lefts: &[u32],
+    rights: &[u32],
+    first_term: Option<FirstTerm>,
+) -> Result<Options, AllocError>
+    requires lefts { ArePages pages.now lefts.now }
+    requires rights { ArePages pages.now rights.now }
+    requires terms { AreApartByTerm pages.now first_term lefts.now rights.now }
+    requires right { AreRight pages.now answers.old }
+    ensures pages { IfOk result (λ r. ArePages pages.now r.items) }
+    ensures tops { IfOk result (λ r. Tops left (games_of pages.now (cond left lefts.now rights.now)) (games_of pages.now r.items)) }
+    ensures right { AreRight pages.now answers.new }
+{
+    let own = with_terms(alloc, left, chosen(left, lefts, rights), first_term)?;
+    tops_of(alloc, pages, answers, left, own.as_slice())
+}
