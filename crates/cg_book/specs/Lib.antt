@@ -7,6 +7,7 @@ pub mod Told
 pub mod Terms
 pub mod Candidates
 pub mod Tops
+pub mod Settled
 pub mod Verdict
 pub mod Wholes
 pub mod Passed

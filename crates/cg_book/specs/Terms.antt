@@ -1,5 +1,6 @@
 -- Lists of games of which no two are comparable.
-use Rattle.std.specs.Prelude.{◌≡◌, ℕ, ◌<◌, List, length, slice_index_or, take, drop}
+use Rattle.std.specs.Prelude.{◌≡◌, ℕ, Option, Some, None, ◌<◌, List, length, slice_index_or, take, drop}
+use Rattle.cg_book.specs.declared.terms.FirstTerm.{FirstTerm}
 use Rattle.cg_form.specs.Game.{Game}
 use Rattle.cg_form.specs.Order.{Le}
 
@@ -12,3 +13,8 @@ pub record NoneComparable (gs : List Game) : Type 0 where
 pub record NoneComparableByTerm (n : ℕ) (gs : List Game) : Type 0 where
   pub first : NoneComparable (take n gs)
   pub second : NoneComparable (drop n gs)
+
+-- where a game is a sum of two terms, no two of its options on one side that come from one term are comparable
+abbrev pub ApartByTerm : Option FirstTerm → List Game → List Game → Type 0
+ApartByTerm None ls rs = Unit {0}
+ApartByTerm (Some f) ls rs = NoneComparableByTerm f.lefts ls × NoneComparableByTerm f.rights rs

@@ -90,7 +90,7 @@ fn bypassed(
 /// The options of the canonical form of the game with these options, which equals no number, and which has the same cuts of the
 /// numbers as the profile. Where it is a sum of two terms, `first_term` says which options come from the first. The only error is
 /// want of memory. (Siegel, Combinatorial Game Theory (2013), II.2.)
-pub fn reduced(
+pub(crate) fn reduced(
     alloc: Global,
     pages: &Pages,
     answers: &mut Recent,

@@ -1,0 +1,114 @@
+//! What the game of two lists of pages is: a number, or the canonical form of a game that equals none.
+ghost use Rattle.std.specs.Prelude.{IfOk, ◌≡◌};
+ghost use Rattle.cg_form.specs.Game.{node};
+ghost use Rattle.cg_form.specs.Simple.{NoNumber};
+ghost use Rattle.cg_nodes.specs.Spelled.{can};
+ghost use Rattle.cg_book.specs.Candidates.{AreApartByTerm};
+ghost use Rattle.cg_book.specs.Pages.{ArePages, games_of};
+ghost use Rattle.cg_book.specs.Profiles.{HasCuts, IsProfile};
+ghost use Rattle.cg_book.specs.Recents.{AreRight};
+ghost use Rattle.cg_book.specs.Settled.{IsNewForm, IsSettled};
+ghost use Rattle.cg_book.specs.Terms.{ApartByTerm};
+
+use crate::outlining::outline_of;
+use crate::pages::Pages;
+use crate::profile::Profile;
+use crate::recent::Recent;
+use crate::reduce::{Form, reduced};
+use crate::terms::FirstTerm;
+use cg_dyadic::Dyadic;
+use cg_dyadic::cut::Found;
+use cg_dyadic::search::simplest_in;
+use std::alloc::{AllocError, Global};
+
+/// A canonical form that equals no number, with its profile.
+#[derive(Drop)]
+pub struct NewForm {
+    /// Its options.
+    pub form: Form,
+    /// What is known of it besides.
+    pub profile: Profile,
+}
+
+/// What a game is.
+#[derive(Drop)]
+pub enum Settled {
+    /// It equals this number.
+    Number(Dyadic),
+    /// It equals a number out of range.
+    Outside,
+    /// It equals no number, and this is its canonical form.
+    Game(NewForm),
+}
+
+/// The profile of the game with these options, which equals no number. The only error is want of memory.
+pub fn profile_of_lists(pages: &Pages, lefts: &[u32], rights: &[u32]) -> Result<Profile, AllocError>
+    requires lefts { ArePages pages.now lefts.now }
+    requires rights { ArePages pages.now rights.now }
+    requires no_number { NoNumber (node (games_of pages.now lefts.now) (games_of pages.now rights.now)) }
+    ensures { IfOk result (λ p. IsProfile (node (games_of pages.now lefts.now) (games_of pages.now rights.now)) p) }
+{
+    // Not by `?`, for which rattle makes no plan here.
+    match outline_of(pages, true, lefts) {
+        Ok(low) => match outline_of(pages, false, rights) {
+            Ok(high) => Profile::between(&low, &high),
+            Err(fault) => Err(fault),
+        },
+        Err(fault) => Err(fault),
+    }
+}
+
+/// The canonical form of the game with these options, which equals no number, and has this profile.
+fn form_of(
+    alloc: Global,
+    pages: &Pages,
+    answers: &mut Recent,
+    lefts: &[u32],
+    rights: &[u32],
+    profile: &Profile,
+    first_term: Option<FirstTerm>,
+) -> Result<NewForm, AllocError>
+    requires lefts { ArePages pages.now lefts.now }
+    requires rights { ArePages pages.now rights.now }
+    requires no_number { NoNumber (node (games_of pages.now lefts.now) (games_of pages.now rights.now)) }
+    requires cuts { HasCuts (node (games_of pages.now lefts.now) (games_of pages.now rights.now)) profile.now }
+    requires terms { AreApartByTerm pages.now first_term lefts.now rights.now }
+    requires right { AreRight pages.now answers.old }
+    ensures form { IfOk result (λ r. IsNewForm pages.now (can (node (games_of pages.now lefts.now) (games_of pages.now rights.now))) r) }
+    ensures right { AreRight pages.now answers.new }
+{
+    let form = reduced(alloc, pages, answers, lefts, rights, profile, first_term)?;
+    let own = profile_of_lists(pages, form.lefts.as_slice(), form.rights.as_slice())?;
+    Ok(NewForm { form, profile: own })
+}
+
+/// What the game with these options is. Where it is a sum of two terms, `first_term` says which of its options come from the first
+/// one: on each side these come first. The only error is want of memory. (Siegel, Combinatorial Game Theory (2013), II.2 and
+/// II.3.)
+pub fn settle(
+    alloc: Global,
+    pages: &Pages,
+    answers: &mut Recent,
+    lefts: &[u32],
+    rights: &[u32],
+    first_term: Option<FirstTerm>,
+) -> Result<Settled, AllocError>
+    requires lefts { ArePages pages.now lefts.now }
+    requires rights { ArePages pages.now rights.now }
+    requires terms { ApartByTerm first_term (games_of pages.now lefts.now) (games_of pages.now rights.now) }
+    requires right { AreRight pages.now answers.old }
+    ensures settled { IfOk result (λ r. IsSettled pages.now (can (node (games_of pages.now lefts.now) (games_of pages.now rights.now))) r) }
+    ensures right { AreRight pages.now answers.new }
+{
+    let low = outline_of(pages, true, lefts)?;
+    let high = outline_of(pages, false, rights)?;
+    match simplest_in(low.numbers(), high.numbers()) {
+        Found::Number(x) => Ok(Settled::Number(x)),
+        Found::Outside(_) => Ok(Settled::Outside),
+        Found::Nothing => {
+            let profile = Profile::between(&low, &high)?;
+            let new = form_of(alloc, pages, answers, lefts, rights, &profile, first_term)?;
+            Ok(Settled::Game(new))
+        }
+    }
+}
