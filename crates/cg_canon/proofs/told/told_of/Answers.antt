@@ -1,5 +1,0 @@
-use Rattle.cg_canon.proofs.Telling.{between}
-use Rattle.cg_canon.proofs.told.told_of.Goals as goal
-
-pub returns-then-meets : goal.returns-then-meets
-returns-then-meets c = λ g h p q. between c.args.a.now c.args.b.now g h p q (c.meets.ensures c.if-meets.true)
