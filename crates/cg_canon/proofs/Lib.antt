@@ -23,3 +23,4 @@ pub mod Telling
 pub mod Translated
 pub mod FormTables
 pub mod DistinctSteps
+pub mod Booking

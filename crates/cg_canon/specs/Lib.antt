@@ -19,3 +19,4 @@ pub mod Reach
 pub mod Ranked
 pub mod Candidates
 pub mod Distinct
+pub mod Books

@@ -1,0 +1,264 @@
+-- What a book keeps, as its store and its pages grow.
+use Rattle.std.proofs.Common.{◌≡◌, refl, ℕ, zero, suc, ◌+◌, ◌-◌, ◌<◌, ◌≤◌, arith, ap, sym, ◌∙◌, subst, inl, inr, Option, Some, None, List, [], ◌∷◌, ◌++◌, length, length-append, take, get_or}
+use Rattle.std.specs.Prelude.{◌==◌, if◌then◌else◌}
+use Rattle.std.proofs.lemmas.Bool.Decides.{eqb_tells}
+use Rattle.std.proofs.lemmas.List.{get_or_append_left, get_or-append_right, append_assoc, append-nil}
+use Rattle.cg_form.specs.Game.{Game}
+use Rattle.cg_cells.specs.Meaning.{Grows}
+use Rattle.cg_cells.specs.Store.{State, thing_at}
+use Rattle.cg_nodes.specs.Games.{AreGames, IsGame, game_at, games_at}
+use Rattle.cg_nodes.specs.Meant.{Meant}
+use Rattle.cg_nodes.proofs.Later.{game_later, is_game_later}
+use Rattle.cg_book.specs.declared.recent.Answer.{Answer}
+use Rattle.cg_book.specs.declared.recent.Recent.{Recent}
+use Rattle.cg_book.specs.Pages.{ArePages, IsPage, StandFor, game_of, games_of}
+use Rattle.cg_book.specs.Recents.{AreRight, IsKept, IsRight}
+use Rattle.cg_book.proofs.Paging.{game_before, games_before, page_before, pages_before}
+use Rattle.cg_book.proofs.Slices.{games_take_all, games_take_suc}
+use Rattle.cg_canon.specs.declared.book.Book.{Book}
+use Rattle.cg_canon.specs.Books.{Begins, BookHolds, HasHandle, IsNamed, handle_of, page_for}
+
+-- ---- more games behind
+
+pub begins_none : (gs : List Game) → Begins gs gs
+begins_none gs = record { more = []; is = sym (append-nil gs) }
+
+pub begins_same : (gs hs : List Game) → hs ≡ gs → Begins gs hs
+begins_same gs hs e = record { more = []; is = e ∙ sym (append-nil gs) }
+
+pub begins_one : (gs hs : List Game) (g : Game) → hs ≡ gs ++ (g ∷ []) → Begins gs hs
+begins_one gs hs g e = record { more = g ∷ []; is = e }
+
+pub begins_then : (fs gs hs : List Game) → Begins fs gs → Begins gs hs → Begins fs hs
+begins_then fs gs hs a b = record {
+  more = a.more ++ b.more;
+  is = b.is ∙ ap (λ z. z ++ b.more) a.is ∙ append_assoc fs a.more b.more;
+}
+
+pub page_begins : (gs hs : List Game) (p : ℕ) → Begins gs hs → IsPage gs p → IsPage hs p
+page_begins gs hs p b h = let P : List Game → Type 0 = λ z. IsPage z p in subst P (sym b.is) (page_before gs b.more p h)
+
+pub game_begins : (gs hs : List Game) (p : ℕ) → Begins gs hs → IsPage gs p → game_of hs p ≡ game_of gs p
+game_begins gs hs p b h = ap (λ z. game_of z p) b.is ∙ game_before gs b.more p h
+
+pub pages_begin : (gs hs : List Game) (ps : List ℕ) → Begins gs hs → ArePages gs ps → ArePages hs ps
+pages_begin gs hs ps b h = let P : List Game → Type 0 = λ z. ArePages z ps in subst P (sym b.is) (pages_before gs b.more ps h)
+
+pub games_begin : (gs hs : List Game) (ps : List ℕ) → Begins gs hs → ArePages gs ps → games_of hs ps ≡ games_of gs ps
+games_begin gs hs ps b h = ap (λ z. games_of z ps) b.is ∙ games_before gs b.more ps h
+
+pub stand_begins : (gs hs : List Game) (ps : List ℕ) (all : List Game) → Begins gs hs → StandFor gs ps all → StandFor hs ps all
+stand_begins gs hs ps all b h = (pages_begin gs hs ps b h.0, games_begin gs hs ps b h.0 ∙ h.1)
+
+pub length_begins : (gs hs : List Game) → Begins gs hs → length gs ≤ length hs
+length_begins gs hs b = let e = ap length b.is in let n = length-append gs b.more in omega arith
+
+pub right_begins : (gs hs : List Game) (r : Recent) → Begins gs hs → AreRight gs r → AreRight hs r
+right_begins gs hs r b h = λ x k.
+    let i = h x k in
+    let low = game_begins gs hs x.low b i.low in
+    let high = game_begins gs hs x.high b i.high in
+    record {
+      low = page_begins gs hs x.low b i.low;
+      high = page_begins gs hs x.high b i.high;
+      order = rw (low, high) i.order;
+    }
+
+-- ---- a book
+
+-- when the store has grown
+pub book_later : {R Q : Type 0} (s : State Meant R) (t : State Meant Q) (b : Book) → Grows (thing_at s) (thing_at t)
+    → BookHolds s b → BookHolds t b
+book_later s t b grows h = record {
+  fewer = h.fewer;
+  each = λ page k.
+      let i = h.each page k in
+      record {
+        game = is_game_later s t grows (handle_of b page) i.game;
+        same = game_later s t grows (handle_of b page) i.game ∙ i.same;
+      };
+  known = h.known;
+  right = h.right;
+}
+
+none_some : {A : Type 0} (o : Option A) (x : A) → o ≡ None → o ≡ Some x → ⊥
+none_some o x e f = cc
+
+some_same : {A : Type 0} (x y : A) → Some x ≡ Some y → x ≡ y
+some_same x y e = cc
+
+-- of no games
+pub new_holds : {R : Type 0} (s : State Meant R) (b : Book) → b.handles.items ≡ [] → ((id : ℕ) → page_for b id ≡ None)
+    → ((x : Answer) → IsKept b.answers x → ⊥) → BookHolds s b
+new_holds s b e none empty =
+    let n = ap length e in
+    record {
+      fewer = omega arith;
+      each = λ page k. absurd (omega arith);
+      known = λ id page k. absurd (none_some (page_for b id) page (none id) k);
+      right = λ x k. absurd (empty x k);
+    }
+
+-- with more games behind, and the same handles
+pub holds_begins : {R : Type 0} (s : State Meant R) (b c : Book) → BookHolds s b → Begins b.pages c.pages
+    → c.handles.items ≡ b.handles.items → ((id : ℕ) → page_for c id ≡ page_for b id) → c.answers ≡ b.answers → BookHolds s c
+holds_begins s b c h begins e f r =
+    let n = ap length e in
+    let m = length_begins b.pages c.pages begins in
+    let few = h.fewer in
+    let same : (page : ℕ) → handle_of c page ≡ handle_of b page = λ page. ap (λ z. get_or z page 0) e in
+    let A : Recent → Type 0 = λ z. AreRight c.pages z in
+    record {
+      fewer = omega arith;
+      each = λ page k.
+          let i = h.each page (omega arith) in
+          let P : ℕ → Type 0 = λ z. IsGame s z in
+          record {
+            game = subst P (sym (same page)) i.game;
+            same = ap (game_at s) (same page) ∙ i.same ∙ sym (game_begins b.pages c.pages page begins (omega arith));
+          };
+      known = λ id page k.
+          let i = h.known id page (sym (f id) ∙ k) in
+          let p = i.within in
+          record { within = omega arith; is = same page ∙ i.is };
+      right = subst A (sym r) (right_begins b.pages c.pages b.answers begins h.right);
+    }
+
+pub last_handle : (b c : Book) (handle page : ℕ) → c.handles.items ≡ b.handles.items ++ (handle ∷ [])
+    → page ≡ length b.handles.items → HasHandle c page handle
+last_handle b c handle page e at =
+    let none : page - length b.handles.items ≡ 0 = omega arith in
+    let n = ap length e in
+    let m = length-append b.handles.items (handle ∷ []) in
+    record {
+      within = omega arith;
+      is = ap (λ z. get_or z page 0) e
+          ∙ get_or-append_right b.handles.items (handle ∷ []) (length b.handles.items) page 0 refl (omega arith)
+          ∙ ap (λ z. get_or (handle ∷ []) z 0) none;
+    }
+
+-- with one handle more
+pub holds_pushed : {R : Type 0} (s : State Meant R) (b c : Book) (handle page : ℕ) → BookHolds s b → c.pages ≡ b.pages
+    → c.handles.items ≡ b.handles.items ++ (handle ∷ []) → ((id : ℕ) → page_for c id ≡ page_for b id) → c.answers ≡ b.answers
+    → IsGame s handle → page ≡ length b.handles.items → IsPage b.pages page → game_of b.pages page ≡ game_at s handle
+    → BookHolds s c
+holds_pushed {R} s b c handle page h p e f r game next is_page is =
+    let P : List Game → Type 0 = λ z. AreRight z c.answers in
+    let A : Recent → Type 0 = λ z. AreRight b.pages z in
+    let n = ap length e in
+    let m = length-append b.handles.items (handle ∷ []) in
+    let k = ap length p in
+    record {
+      fewer = omega arith;
+      each = λ q less. named q (omega arith);
+      known = λ id q there.
+          let i = h.known id q (sym (f id) ∙ there) in
+          let w = i.within in
+          record { within = omega arith; is = old q i.within ∙ i.is };
+      right = subst P (sym p) (subst A (sym r) h.right);
+    }
+  where
+    old : (q : ℕ) → q < length b.handles.items → handle_of c q ≡ handle_of b q
+    old q less = ap (λ z. get_or z q 0) e ∙ get_or_append_left b.handles.items (handle ∷ []) 0 q less
+
+    named : (q : ℕ) → q < length b.handles.items + 1 → IsNamed s c q
+    named q less = elim (eqb_tells q page) [
+      | inl t ↦
+          let own = (last_handle b c handle q e (t.1 ∙ next)).is in
+          let G : ℕ → Type 0 = λ z. IsGame s z in
+          record {
+            game = subst G (sym own) game;
+            same = ap (game_at s) own ∙ sym is ∙ ap (game_of b.pages) (sym t.1) ∙ ap (λ z. game_of z q) (sym p);
+          }
+      | inr t ↦
+          let d = t.1 in
+          let below : q < length b.handles.items = omega arith in
+          let i = h.each q below in
+          let G : ℕ → Type 0 = λ z. IsGame s z in
+          record {
+            game = subst G (sym (old q below)) i.game;
+            same = ap (game_at s) (old q below) ∙ i.same ∙ ap (λ z. game_of z q) (sym p);
+          }
+    ]
+
+-- with a page known for an id
+pub holds_known : {R : Type 0} (s : State Meant R) (b c : Book) (id page : ℕ) → BookHolds s b → c.pages ≡ b.pages
+    → c.handles.items ≡ b.handles.items → c.answers ≡ b.answers
+    → ((other : ℕ) → page_for c other ≡ (if id == other then Some page else page_for b other)) → HasHandle b page id
+    → BookHolds s c
+holds_known {R} s b c id page h p e r f has =
+    let P : List Game → Type 0 = λ z. AreRight z c.answers in
+    let A : Recent → Type 0 = λ z. AreRight b.pages z in
+    let n = ap length e in
+    let k = ap length p in
+    let few = h.fewer in
+    record {
+      fewer = omega arith;
+      each = λ q less.
+          let i = h.each q (omega arith) in
+          let G : ℕ → Type 0 = λ z. IsGame s z in
+          record {
+            game = subst G (sym (same q)) i.game;
+            same = ap (game_at s) (same q) ∙ i.same ∙ ap (λ z. game_of z q) (sym p);
+          };
+      known = λ other q there. moved q other (by other q (sym (f other) ∙ there));
+      right = subst P (sym p) (subst A (sym r) h.right);
+    }
+  where
+    same : (q : ℕ) → handle_of c q ≡ handle_of b q
+    same q = ap (λ z. get_or z q 0) e
+
+    moved : (q other : ℕ) → HasHandle b q other → HasHandle c q other
+    moved q other i =
+        let n = ap length e in
+        let w = i.within in
+        record { within = omega arith; is = same q ∙ i.is }
+
+    by : (other q : ℕ) → (if id == other then Some page else page_for b other) ≡ Some q → HasHandle b q other
+    by other q there = elim (eqb_tells id other) [
+      | inl t ↦
+          let k : page ≡ q = some_same page q (sym (rw t.0 refl) ∙ there) in
+          subst (λ z. HasHandle b q z) t.1 (subst (λ z. HasHandle b z id) k has)
+      | inr t ↦
+          let k : (if id == other then Some page else page_for b other) ≡ page_for b other = rw t.0 refl in
+          h.known other q (sym k ∙ there)
+    ]
+
+-- the page that is known for a handle
+pub known_page : {R : Type 0} (s : State Meant R) (b : Book) (handle page : ℕ) → BookHolds s b → page_for b handle ≡ Some page
+    → IsPage b.pages page × (game_of b.pages page ≡ game_at s handle)
+known_page s b handle page h e =
+    let i = h.known handle page e in
+    let few = h.fewer in
+    let w = i.within in
+    (omega arith, sym (h.each page i.within).same ∙ ap (game_at s) i.is)
+
+-- ---- the handles of pages
+
+pub record Handled {R : Type 0} (s : State Meant R) (gs : List Game) (hs ps : List ℕ) : Type 0 where
+  pub games : AreGames s hs
+  pub same : games_at s hs ≡ games_of gs ps
+
+are_games_pushed : {R : Type 0} (s : State Meant R) (hs : List ℕ) (h : ℕ) → AreGames s hs → IsGame s h → AreGames s (hs ++ (h ∷ []))
+are_games_pushed s [] h a g = (g, tt)
+are_games_pushed s (k ∷ hs) h a g = (a.0, are_games_pushed s hs h a.1 g)
+
+games_at_pushed : {R : Type 0} (s : State Meant R) (hs : List ℕ) (h : ℕ) → games_at s (hs ++ (h ∷ [])) ≡ games_at s hs ++ (game_at s h ∷ [])
+games_at_pushed s [] h = refl
+games_at_pushed s (k ∷ hs) h = ap (λ z. game_at s k ∷ z) (games_at_pushed s hs h)
+
+pub handled_next : {R : Type 0} (s : State Meant R) (b : Book) (hs more ps : List ℕ) (i handle : ℕ) → BookHolds s b
+    → Handled s b.pages hs (take i ps) → i < length ps → HasHandle b (get_or ps i 0) handle
+    → more ≡ hs ++ (handle ∷ []) → Handled s b.pages more (take (i + 1) ps)
+handled_next s b hs more ps i handle h d less has e =
+    let one : i + 1 ≡ suc i = omega arith in
+    let n = h.each (get_or ps i 0) has.within in
+    let G : ℕ → Type 0 = λ z. IsGame s z in
+    let P : List ℕ → Type 0 = λ z. AreGames s z in
+    let own : game_at s handle ≡ game_of b.pages (get_or ps i 0) = ap (game_at s) (sym has.is) ∙ n.same in
+    record {
+      games = subst P (sym e) (are_games_pushed s hs handle d.games (subst G has.is n.game));
+      same = ap (games_at s) e ∙ games_at_pushed s hs handle ∙ ap (λ z. z ++ (game_at s handle ∷ [])) d.same
+          ∙ ap (λ z. games_of b.pages (take i ps) ++ (z ∷ [])) own
+          ∙ sym (games_take_suc b.pages ps i 0 less) ∙ ap (λ z. games_of b.pages (take z ps)) (sym one);
+    }

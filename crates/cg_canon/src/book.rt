@@ -1,0 +1,113 @@
+//! The games that a work has met, each on a page of a book.
+ghost use Rattle.std.specs.Prelude.{◌≡◌, [], ℕ, None, length, IfOk, IsTrue};
+ghost use Rattle.cg_nodes.specs.Games.{IsGame, AreGames, game_at, games_at};
+ghost use Rattle.cg_book.specs.declared.recent.Answer.{Answer as Known};
+ghost use Rattle.cg_book.specs.Pages.{IsPage, game_of, games_of};
+ghost use Rattle.cg_book.specs.Recents.{IsKept};
+ghost use Rattle.cg_canon.specs.Books.{BookHolds, HasHandle, page_for};
+
+use cg_book::{Pages, Recent};
+use cg_cells::CellStore;
+use cg_nodes::{BoardForms, GameFacts, Handle};
+use smallvec::SmallVec;
+use std::alloc::{AllocError, Global};
+use std::collections::HashMap;
+
+/// A list of pages: up to 8 of them take no memory.
+pub(crate) type PageList = SmallVec<u32, 8>;
+
+/// A list of handles: up to 8 of them take no memory.
+pub(crate) type HandleList = SmallVec<Handle, 8>;
+
+/// The games that a work has met, each on a page, and the answers to comparisons of them. A page has no handle only after want
+/// of memory.
+#[derive(Drop)]
+pub(crate) struct Book {
+    pub(crate) pages: Pages,
+    pub(crate) answers: Recent,
+    /// The handles of the first pages.
+    handles: Vec<Handle>,
+    /// The page of each handle's game, by the handle's id.
+    by_id: HashMap<u32, u32>,
+}
+
+impl Book {
+    /// Of no games.
+    pub(crate) fn new(alloc: Global) -> Book
+        ensures pages { result.pages ≡ [] }
+        ensures handles { result.handles.items ≡ [] }
+        ensures by_id { (id : ℕ) → page_for result id ≡ None }
+        ensures answers { (x : Known) → IsKept result.answers x → ⊥ }
+    {
+        Book {
+            pages: Pages::new(alloc),
+            answers: Recent::new(alloc),
+            handles: Vec::new(alloc),
+            by_id: HashMap::new(alloc),
+        }
+    }
+
+    /// The page of the handle's game, if it has one.
+    pub(crate) fn page(&self, handle: Handle) -> Option<u32>
+        ensures { result ≡ page_for self.now handle }
+    {
+        self.by_id.get(&handle.id().number()).copied()
+    }
+
+    /// The handle of the page. An error comes only after want of memory.
+    pub(crate) fn handle(&self, page: u32) -> Result<Handle, AllocError>
+        ensures { IfOk result (λ h. HasHandle self.now page h) }
+    {
+        let place = page as usize;
+        if place < self.handles.len() {
+            return Ok(self.handles[place]);
+        }
+        Err(AllocError)
+    }
+
+    /// Whether each page has a handle. It has, unless there was want of memory.
+    pub(crate) fn is_whole(&self) -> bool
+        ensures { IsTrue result → length self.now.handles.items ≡ length self.now.pages }
+    {
+        self.handles.len() == self.pages.count()
+    }
+
+    /// Gives the first page without a handle this one.
+    pub(crate) fn name<B: BoardForms, S: CellStore<GameFacts<B>>>(
+        &mut self,
+        store: &S,
+        handle: Handle,
+        page: u32,
+    ) -> Result<u32, AllocError>
+        requires holds { BookHolds (S.state store.now) self.old }
+        requires game { IsGame (S.state store.now) handle }
+        requires next { page ≡ length self.old.handles.items }
+        requires page { IsPage self.old.pages page }
+        requires is { game_of self.old.pages page ≡ game_at (S.state store.now) handle }
+        ensures holds { BookHolds (S.state store.now) self.new }
+        ensures pages { self.new.pages ≡ self.old.pages }
+        ensures page { IfOk result (λ p. p ≡ page) }
+    {
+        self.handles.push(handle)?;
+        self.by_id.insert(handle.id().number(), page)?;
+        Ok(page)
+    }
+}
+
+/// The handles of the pages, in their order. An error comes only after want of memory.
+pub(crate) fn handles_of<B: BoardForms, S: CellStore<GameFacts<B>>>(
+    alloc: Global,
+    store: &S,
+    book: &Book,
+    pages: &[u32],
+) -> Result<HandleList, AllocError>
+    requires holds { BookHolds (S.state store.now) book.now }
+    ensures handles { IfOk result (λ r. AreGames (S.state store.now) r.items
+        × (games_at (S.state store.now) r.items ≡ games_of book.now.pages pages.now)) }
+{
+    let mut all = SmallVec::new(alloc);
+    for page in pages {
+        all.push(book.handle(*page)?)?;
+    }
+    Ok(all)
+}
