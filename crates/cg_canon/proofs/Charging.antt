@@ -13,10 +13,10 @@ use Rattle.cg_nodes.proofs.Members.{length_games}
 use Rattle.cg_nodes.proofs.Later.{are_games_later, games_later, listed_as, lists_later}
 use Rattle.cg_canon.specs.declared.fault.ValueFault.{ValueFault}
 use Rattle.cg_canon.specs.declared.fault.ValueFault.TheVariants.{Depth, Full, Range}
-use Rattle.cg_canon.specs.declared.profile.Profile.{Profile}
+use Rattle.cg_book.specs.declared.profile.Profile.{Profile}
 use Rattle.cg_canon.specs.Items.{AllPass, IsStopped, WasRefused, item_cost, made}
 use Rattle.cg_canon.specs.NumberItems.{number_made}
-use Rattle.cg_canon.specs.Profiles.{IsProfile}
+use Rattle.cg_book.specs.Profiles.{IsProfile}
 use Rattle.cg_canon.proofs.ItemLaws.{all_pass-after, refused-one, stopped-one}
 
 -- ---- one form

@@ -3,7 +3,6 @@ use Rattle.std.proofs.Common.{◌≡◌, refl, ℕ, ◌+◌, ◌≤◌, arith, i
 use Rattle.std.specs.Prelude.{◌⊎◌, ◌==◌, ◌&&◌, if◌then◌else◌}
 use Rattle.std.proofs.lemmas.Bool.Decides.{eqb_tells}
 use Rattle.cg_form.specs.Game.{Game}
-use Rattle.cg_form.specs.Order.{le}
 use Rattle.cg_cells.specs.Store.{Spends, State}
 use Rattle.cg_form.specs.Sum.{sum}
 use Rattle.cg_cells.specs.Meaning.{Grows}
@@ -16,12 +15,12 @@ use Rattle.cg_nodes.specs.Meant.{Meant}
 use Rattle.cg_nodes.proofs.Later.{game_later, is_game_later, stands_later}
 use Rattle.cg_canon.specs.declared.memo.KnownSum.{KnownSum}
 use Rattle.cg_canon.specs.declared.memo.Memo.{Memo}
-use Rattle.cg_canon.specs.declared.profile.Profile.{Profile}
-use Rattle.cg_canon.specs.declared.recent.Answer.{Answer}
 use Rattle.cg_canon.specs.Added.{IsKnownSum}
-use Rattle.cg_canon.specs.Memos.{Recalls, profiled, summed}
-use Rattle.cg_canon.specs.Profiles.{IsProfile}
-use Rattle.cg_canon.specs.Works.{IsRight, WorkHolds}
+use Rattle.cg_canon.specs.declared.book.Book.{Book}
+use Rattle.cg_canon.specs.Books.{BookHolds}
+use Rattle.cg_canon.specs.Memos.{summed}
+use Rattle.cg_canon.proofs.Booking.{book_later}
+use Rattle.cg_canon.specs.Works.{WorkHolds}
 
 -- a known sum stays one
 known_sum_later : {R Q : Type 0} (s : State Meant R) (t : State Meant Q) → Grows (thing_at s) (thing_at t)
@@ -38,14 +37,6 @@ known_sum_later s t grows a b known h =
       items = subst (λ p. Q p (game_at t b)) (sym x) (subst (Q (game_at s a)) (sym y) h.items);
     }
 
--- a right answer stays right
-right_later : {R Q : Type 0} (s : State Meant R) (t : State Meant Q) → Grows (thing_at s) (thing_at t) → (x : Answer)
-    → IsRight s x → IsRight t x
-right_later s t grows x h =
-    let a = game_later s t grows x.low h.low in
-    let b = game_later s t grows x.high h.high in
-    record { low = is_game_later s t grows x.low h.low; high = is_game_later s t grows x.high h.high; order = rw (a, b) h.order }
-
 -- when the store has grown
 pub holds_later : {R : Type 0} (n : ℕ) (s t : State Meant R) (spent share start : ℕ) (m : Memo)
     → WorkHolds s spent share start m → Spends n s t → start + n ≤ s.spare + spent → WorkHolds t spent share start m
@@ -57,95 +48,38 @@ holds_later n s t spent share start m h k room =
       small = h.small;
       fallen = (let f = h.fallen in omega arith);
       enough = omega arith;
-      answers = λ x r. right_later s t k.known x (h.answers x r);
-      profiles = λ a p r.
-          let o = h.profiles a p r in
-          let P : Game → Type 0 = λ z. IsProfile z p in
-          (is_game_later s t k.known a o.0, subst P (sym (game_later s t k.known a o.0)) o.1);
+      book = book_later s t m.book k.known h.book;
       sums = λ a b known r. known_sum_later s t k.known a b known (h.sums a b known r);
     }
 
--- when the memo has the same
-pub holds_same : {R : Type 0} (s : State Meant R) (spent share start : ℕ) (m n : Memo) → WorkHolds s spent share start m
-    → ((x : Answer) → Recalls n x → Recalls m x) → ((a : ℕ) → profiled n a ≡ profiled m a)
-    → ((a b : ℕ) → summed n a b ≡ summed m a b) → WorkHolds s spent share start n
-holds_same s spent share start m n h e f g = record {
+-- when the memo has another book
+pub holds_book : {R : Type 0} (s : State Meant R) (spent share start : ℕ) (m n : Memo) → WorkHolds s spent share start m
+    → BookHolds s n.book → ((a b : ℕ) → summed n a b ≡ summed m a b) → WorkHolds s spent share start n
+holds_book s spent share start m n h b g = record {
   within = h.within;
   room = h.room;
   small = h.small;
   fallen = h.fallen;
   enough = h.enough;
-  answers = λ x r. h.answers x (e x r);
-  profiles = λ a p r. h.profiles a p (sym (f a) ∙ r);
-  sums = λ a b known r. h.sums a b known (sym (g a b) ∙ r);
+  book = b;
+  sums = λ c d known r. h.sums c d known (sym (g c d) ∙ r);
 }
 
 some_same : {A : Type 0} (x y : A) → Some x ≡ Some y → x ≡ y
 some_same x y e = cc
 
--- when the memo has one answer more, and may have forgotten others
-pub holds_answer : {R : Type 0} (s : State Meant R) (spent share start : ℕ) (m n : Memo) (answer : Answer)
-    → WorkHolds s spent share start m
-    → ((x : Answer) → Recalls n x → (x ≡ answer) ⊎ Recalls m x)
-    → ((c : ℕ) → profiled n c ≡ profiled m c) → ((c d : ℕ) → summed n c d ≡ summed m c d)
-    → IsRight s answer → WorkHolds s spent share start n
-holds_answer s spent share start m n answer h e f g o = record {
-  within = h.within;
-  room = h.room;
-  small = h.small;
-  fallen = h.fallen;
-  enough = h.enough;
-  answers = λ x r. elim (e x r) [
-    | inl same ↦ let P : Answer → Type 0 = λ z. IsRight s z in subst P (sym same) o
-    | inr old ↦ h.answers x old
-  ];
-  profiles = λ c p r. h.profiles c p (sym (f c) ∙ r);
-  sums = λ c d known r. h.sums c d known (sym (g c d) ∙ r);
-}
-
--- when the memo has one profile more
-pub holds_profile : {R : Type 0} (s : State Meant R) (spent share start : ℕ) (m n : Memo) (a : ℕ) (p : Profile)
-    → WorkHolds s spent share start m
-    → ((c : ℕ) → profiled n c ≡ (if a == c then Some p else profiled m c))
-    → ((x : Answer) → Recalls n x → Recalls m x) → ((c d : ℕ) → summed n c d ≡ summed m c d)
-    → IsGame s a → IsProfile (game_at s a) p → WorkHolds s spent share start n
-holds_profile {R} s spent share start m n a p h e f k g o = record {
-  within = h.within;
-  room = h.room;
-  small = h.small;
-  fallen = h.fallen;
-  enough = h.enough;
-  answers = λ x r. h.answers x (f x r);
-  profiles = λ c q r. by c q (sym (e c) ∙ r);
-  sums = λ c d known r. h.sums c d known (sym (k c d) ∙ r);
-}
-  where
-    by : (c : ℕ) (q : Profile) → (if a == c then Some p else profiled m c) ≡ Some q → IsGame s c × IsProfile (game_at s c) q
-    by c q r = elim (eqb_tells a c) [
-      | inl t ↦
-          let k : p ≡ q = some_same p q (sym (rw t.0 refl) ∙ r) in
-          let P : ℕ → Type 0 = λ z. IsGame s z × IsProfile (game_at s z) q in
-          let Q : Profile → Type 0 = λ z. IsProfile (game_at s a) z in
-          subst P t.1 (g, subst Q k o)
-      | inr t ↦
-          let k : (if a == c then Some p else profiled m c) ≡ profiled m c = rw t.0 refl in
-          h.profiles c q (sym k ∙ r)
-    ]
-
 -- when the memo has one sum more
 pub holds_sum : {R : Type 0} (s : State Meant R) (spent share start : ℕ) (m n : Memo) (a b : ℕ) (known : KnownSum)
     → WorkHolds s spent share start m
     → ((c d : ℕ) → summed n c d ≡ (if (a == c) && (b == d) then Some known else summed m c d))
-    → ((x : Answer) → Recalls n x → Recalls m x) → ((c : ℕ) → profiled n c ≡ profiled m c)
-    → IsKnownSum s a b known → WorkHolds s spent share start n
-holds_sum {R} s spent share start m n a b known h e f g o = record {
+    → n.book ≡ m.book → IsKnownSum s a b known → WorkHolds s spent share start n
+holds_sum {R} s spent share start m n a b known h e f o = record {
   within = h.within;
   room = h.room;
   small = h.small;
   fallen = h.fallen;
   enough = h.enough;
-  answers = λ x r. h.answers x (f x r);
-  profiles = λ c p r. h.profiles c p (sym (g c) ∙ r);
+  book = (let P : Book → Type 0 = λ z. BookHolds s z in subst P (sym f) h.book);
   sums = λ c d v r. by c d v (sym (e c d) ∙ r);
 }
   where
@@ -172,15 +106,14 @@ none_some o x e f = cc
 
 -- when the memo is empty
 pub holds_nothing : {R : Type 0} (s : State Meant R) (spent share start : ℕ) (m : Memo) → spent ≤ share → share ≤ start
-    → start ≤ 67108864 → s.spare ≤ start → start ≤ s.spare + spent → ((x : Answer) → Recalls m x → ⊥)
-    → ((a : ℕ) → profiled m a ≡ None) → ((a b : ℕ) → summed m a b ≡ None) → WorkHolds s spent share start m
-holds_nothing s spent share start m within room small fallen enough e f g = record {
+    → start ≤ 67108864 → s.spare ≤ start → start ≤ s.spare + spent → BookHolds s m.book
+    → ((a b : ℕ) → summed m a b ≡ None) → WorkHolds s spent share start m
+holds_nothing s spent share start m within room small fallen enough e g = record {
   within = within;
   room = room;
   small = small;
   fallen = fallen;
   enough = enough;
-  answers = λ x r. absurd (e x r);
-  profiles = λ a p r. absurd (none_some (profiled m a) p (f a) r);
+  book = e;
   sums = λ a b known r. absurd (none_some (summed m a b) known (g a b) r);
 }

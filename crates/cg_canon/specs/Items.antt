@@ -1,9 +1,9 @@
 -- What a computation makes, at what cost, and which of its items is refused first.
-use Rattle.std.specs.Prelude.{◌≡◌, ℕ, ◌+◌, ◌<◌, ◌≤◌, List, [], ◌∷◌, ◌++◌, length}
+use Rattle.std.specs.Prelude.{◌≡◌, ℕ, ◌+◌, ◌<◌, ◌≤◌, List, [], ◌∷◌, ◌++◌}
 use Rattle.cg_form.specs.Depth.{depth_of}
-use Rattle.cg_form.specs.Game.{Game, lefts, number, options, rights}
+use Rattle.cg_form.specs.Game.{Game}
 use Rattle.cg_nodes.specs.Games.{IsInRange}
-use Rattle.cg_nodes.specs.Longs.{cells_of}
+use Rattle.cg_book.specs.Costs.{cost_of}
 use Rattle.cg_canon.specs.declared.fault.ValueFault.{ValueFault}
 use Rattle.cg_canon.specs.declared.fault.ValueFault.TheVariants.{Depth, Full, Memory, Positions, Range}
 
@@ -12,11 +12,6 @@ pub data Item : Type 0 where
   made : Game → ℕ → Item
   outside : Item
   too_many : Item
-
--- the cells that a number takes, 1 for a narrow and 3 for a long one, and 1 more than the lengths of both lists for another form
-abbrev pub cost_of : Game → ℕ
-cost_of (number x) = cells_of x
-cost_of (options ls rs) = 1 + length (lefts (options ls rs)) + length (rights (options ls rs))
 
 abbrev pub item_cost : Item → ℕ
 item_cost (made g extra) = cost_of g + extra

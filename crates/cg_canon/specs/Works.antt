@@ -3,19 +3,16 @@ use Rattle.std.specs.Prelude.{◌≡◌, ℕ, ◌+◌, ◌-◌, ◌≤◌, Some,
 use Rattle.std.specs.Coded.{Coded, code_by, coded×, coded_ℕ}
 use Rattle.std.specs.Borrow.{MutBor}
 use denote.MutBor.{mut_coded}
-use Rattle.cg_form.specs.Order.{le}
 use Rattle.cg_cells.specs.Meaning.{Grows}
 use Rattle.cg_cells.specs.Store.{IsSublist, State, thing_at}
 use Rattle.cg_nodes.specs.Games.{IsGame, game_at}
 use Rattle.cg_nodes.specs.Meant.{Meant}
 use Rattle.cg_canon.specs.declared.memo.KnownSum.{KnownSum}
 use Rattle.cg_canon.specs.declared.memo.Memo.{Memo}
-use Rattle.cg_canon.specs.declared.profile.Profile.{Profile}
-use Rattle.cg_canon.specs.declared.recent.Answer.{Answer}
 use Rattle.cg_canon.specs.declared.rest.WorkRest.{WorkRest}
 use Rattle.cg_canon.specs.Added.{IsKnownSum}
-use Rattle.cg_canon.specs.Memos.{Recalls, profiled, summed}
-use Rattle.cg_canon.specs.Profiles.{IsProfile}
+use Rattle.cg_canon.specs.Books.{BookHolds}
+use Rattle.cg_canon.specs.Memos.{summed}
 
 -- the store that is borrowed, the cost so far, the greatest cost, what the store had to spare at first, and the limit on
 -- positions
@@ -32,20 +29,6 @@ work_code {S} c =
     (λ (w : WorkOf S). (w.store, (w.spent, (w.share, (w.start, w.limit)))))
     (λ p. record { store = p.0; spent = p.1.0; share = p.1.1.0; start = p.1.1.1.0; limit = p.1.1.1.1 }) (λ _. refl)
 
--- the answer is the order of its two games
-pub record IsRight {R : Type 0} (s : State Meant R) (x : Answer) : Type 0 where
-  pub low : IsGame s x.low
-  pub high : IsGame s x.high
-  pub order : x.at_most ≡ le (game_at s x.low) (game_at s x.high)
-
--- each answer of the memo is right
-abbrev pub AnswersHold : {R : Type 0} → State Meant R → Memo → Type 0
-AnswersHold {R} s m = (x : Answer) → Recalls m x → IsRight s x
-
--- each profile of the memo is that of its game
-abbrev pub ProfilesHold : {R : Type 0} → State Meant R → Memo → Type 0
-ProfilesHold {R} s m = (a : ℕ) (p : Profile) → profiled m a ≡ Some p → IsGame s a × IsProfile (game_at s a) p
-
 -- each sum of the memo is that of its two games
 abbrev pub SumsHold : {R : Type 0} → State Meant R → Memo → Type 0
 SumsHold {R} s m = (a b : ℕ) (known : KnownSum) → summed m a b ≡ Some known → IsKnownSum s a b known
@@ -56,8 +39,7 @@ pub record WorkHolds {R : Type 0} (s : State Meant R) (spent share start : ℕ) 
   pub small : start ≤ 67108864
   pub fallen : s.spare ≤ start
   pub enough : start ≤ s.spare + spent
-  pub answers : AnswersHold s m
-  pub profiles : ProfilesHold s m
+  pub book : BookHolds s m.book
   pub sums : SumsHold s m
 
 abbrev pub work_rest : {S R : Type 0} → WorkOf S → R → WorkRest R

@@ -1,65 +1,23 @@
 //! The canonical form of the game of two lists of handles.
 ghost use Rattle.std.specs.Prelude.{◌≡◌, ◌+◌, ◌≤◌, IfOk, IfErr, OnOk, OnErr, [], ◌∷◌};
 ghost use Rattle.cg_form.specs.Game.{node};
-ghost use Rattle.cg_form.specs.Simple.{NoNumber};
 ghost use Rattle.cg_cells.specs.Store.{Spends};
 ghost use Rattle.cg_nodes.specs.Games.{AreGames, StandsFor, games_at};
 ghost use Rattle.cg_nodes.specs.Spelled.{can};
-ghost use Rattle.cg_canon.specs.Candidates.{AreApartByTerm};
 ghost use Rattle.cg_canon.specs.Items.{AllPass, WasRefused, made};
 ghost use Rattle.cg_canon.specs.Made.{ItemsMade};
-ghost use Rattle.cg_canon.specs.Profiles.{IsProfile};
-ghost use Rattle.cg_canon.specs.Terms.{NoneComparableByTerm};
-ghost use Rattle.cg_canon.specs.Wholes.{whole_game};
+ghost use Rattle.cg_book.specs.Terms.{ApartByTerm, NoneComparableByTerm};
 ghost use Rattle.cg_canon.specs.Works.{IsUnspent, Keeps, work_state};
 
 use crate::distinct::distinct;
 use crate::fault::ValueFault;
 use crate::item::{item_of_number, known_item, listed_item};
-use crate::profile::Profile;
-use crate::profiles::outline_of;
-use crate::reduce::reduced;
-use crate::terms::FirstTerm;
-use crate::whole::Whole;
+use crate::value::Value;
 use crate::work::Work;
+use cg_book::FirstTerm;
 use cg_cells::CellStore;
-use cg_dyadic::cut::Found;
-use cg_dyadic::search::simplest_in;
 use cg_nodes::{BoardForms, GameFacts, Handle};
 use std::alloc::Global;
-
-/// Makes the item of the canonical form of the whole, with a cost of `extra` more.
-fn whole_item<B: BoardForms, S: CellStore<GameFacts<B>>>(
-    alloc: Global,
-    work: &mut Work<B, S>,
-    whole: &Whole,
-    extra: u64,
-) -> Result<Handle, ValueFault>
-    requires extra { extra ≤ 8 }
-    requires lefts { AreGames (work_state S.state work.old) whole.now.lefts.now }
-    requires rights { AreGames (work_state S.state work.old) whole.now.rights.now }
-    requires no_number { NoNumber (whole_game (work_state S.state work.old) whole.now) }
-    requires profile { IsProfile (whole_game (work_state S.state work.old) whole.now) whole.now.profile }
-    requires terms { AreApartByTerm (work_state S.state work.old) whole.now.first_term whole.now.lefts.now whole.now.rights.now }
-    ensures game { IfOk result (λ h. StandsFor (work_state S.state work.new) h
-        (can (whole_game (work_state S.state work.old) whole.now))) }
-    ensures charged { OnOk result (AllPass work.old.share work.old.spent
-        (made (can (whole_game (work_state S.state work.old) whole.now)) extra ∷ []) work.new.spent) }
-    ensures refused { IfErr result (λ fault. WasRefused fault work.old.share work.old.spent
-        (made (can (whole_game (work_state S.state work.old) whole.now)) extra ∷ []) work.new.spent) }
-    ensures same { OnErr result (Spends 0 (work_state S.state work.old) (work_state S.state work.new)) }
-    ensures spare { OnOk result ((work_state S.state work.old).spare + extra ≤ (work_state S.state work.new).spare) }
-    ensures keeps { Keeps (work_state S.state work.old) (work_state S.state work.new) }
-{
-    let form = reduced(alloc, work, whole)?;
-    listed_item(
-        alloc,
-        work,
-        form.lefts.as_slice(),
-        form.rights.as_slice(),
-        extra,
-    )
-}
 
 /// Makes the item of the canonical form of the game with these options, with a cost of `extra` more.
 fn form_item<B: BoardForms, S: CellStore<GameFacts<B>>>(
@@ -73,7 +31,7 @@ fn form_item<B: BoardForms, S: CellStore<GameFacts<B>>>(
     requires extra { extra ≤ 8 }
     requires lefts { AreGames (work_state S.state work.old) lefts.now }
     requires rights { AreGames (work_state S.state work.old) rights.now }
-    requires terms { AreApartByTerm (work_state S.state work.old) first_term lefts.now rights.now }
+    requires terms { ApartByTerm first_term (games_at (work_state S.state work.old) lefts.now) (games_at (work_state S.state work.old) rights.now) }
     ensures game { let W = work_state S.state work.old in IfOk result (λ h. StandsFor (work_state S.state work.new) h
         (can (node (games_at W lefts.now) (games_at W rights.now)))) }
     ensures charged { let W = work_state S.state work.old in OnOk result (AllPass work.old.share work.old.spent
@@ -85,21 +43,10 @@ fn form_item<B: BoardForms, S: CellStore<GameFacts<B>>>(
     ensures spare { OnOk result ((work_state S.state work.old).spare + extra ≤ (work_state S.state work.new).spare) }
     ensures keeps { Keeps (work_state S.state work.old) (work_state S.state work.new) }
 {
-    let low = outline_of(alloc, work, true, lefts)?;
-    let high = outline_of(alloc, work, false, rights)?;
-    match simplest_in(low.numbers(), high.numbers()) {
-        Found::Number(x) => item_of_number(work, x, extra),
-        Found::Outside(_) => Err(ValueFault::Range),
-        Found::Nothing => {
-            let profile = Profile::between(&low, &high)?;
-            let whole = Whole {
-                lefts,
-                rights,
-                profile,
-                first_term,
-            };
-            whole_item(alloc, work, &whole, extra)
-        }
+    match work.value_of(alloc, lefts, rights, first_term)? {
+        Value::Number(x) => item_of_number(work, x, extra),
+        Value::Outside => Err(ValueFault::Range),
+        Value::Game(form) => listed_item(work, &form, extra),
     }
 }
 
@@ -107,7 +54,6 @@ fn form_item<B: BoardForms, S: CellStore<GameFacts<B>>>(
 const MANY: usize = 32;
 
 /// Makes the item of the canonical form of the game with these options, and keeps the form with them.
-#[tactic(auto, using(crate::proofs::CandidateLaws::no_terms))]
 fn kept_item<B: BoardForms, S: CellStore<GameFacts<B>>>(
     alloc: Global,
     work: &mut Work<B, S>,
@@ -183,7 +129,6 @@ fn distinct_item<B: BoardForms, S: CellStore<GameFacts<B>>>(
 
 /// Makes the item of the canonical form of the game with these options. Where they are few, it is looked for among those that
 /// were made.
-#[tactic(auto, using(crate::proofs::CandidateLaws::no_terms))]
 fn any_item<B: BoardForms, S: CellStore<GameFacts<B>>>(
     alloc: Global,
     work: &mut Work<B, S>,
@@ -245,7 +190,6 @@ pub fn canonical<B: BoardForms, S: CellStore<GameFacts<B>>>(
 /// Makes the item of the canonical form of the game with these Left and Right options, as [`canonical`] does, where the options
 /// are those of a sum: on each side, first those that come from one term, and then those that come from the other. No two
 /// options that come from the same term may be comparable.
-#[tactic(auto, using(crate::proofs::CandidateLaws::two_terms))]
 pub fn canonical_of_terms<B: BoardForms, S: CellStore<GameFacts<B>>>(
     alloc: Global,
     work: &mut Work<B, S>,

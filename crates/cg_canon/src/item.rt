@@ -5,14 +5,16 @@ ghost use Rattle.cg_form.specs.Game.{Game, node, number};
 ghost use Rattle.cg_cells.specs.Store.{Spends};
 ghost use Rattle.cg_nodes.specs.Games.{AreGames, IsGame, StandsFor, game_at, games_at};
 ghost use Rattle.cg_canon.specs.Items.{AllPass, WasRefused, made};
-ghost use Rattle.cg_canon.specs.Profiles.{IsProfile};
+ghost use Rattle.cg_book.specs.Profiles.{IsProfile};
+ghost use Rattle.cg_form.specs.Simple.{NoNumber};
+ghost use Rattle.cg_canon.specs.Values.{IsListed};
 ghost use Rattle.cg_canon.specs.NumberItems.{IsForm, number_made};
 ghost use Rattle.cg_canon.specs.Works.{IsUnspent, Keeps, work_state};
 
 use crate::fault::ValueFault;
-use crate::profile::Profile;
-use crate::profiles::{profile_of, profile_of_lists};
+use crate::value::ListedForm;
 use crate::work::Work;
+use cg_book::Profile;
 use cg_cells::CellStore;
 use cg_dyadic::Dyadic;
 use cg_nodes::{BoardForms, GameFacts, Handle, game, list, number};
@@ -44,39 +46,63 @@ fn charge_form<B: BoardForms, S: CellStore<GameFacts<B>>>(
     work.charge(profile.cost + extra)
 }
 
-/// Makes the item of the canonical game with these options and this profile, with a cost of `extra` more.
+/// Makes the item of the canonical game of this form, with a cost of `extra` more.
 fn game_item<B: BoardForms, S: CellStore<GameFacts<B>>>(
     work: &mut Work<B, S>,
-    lefts: &[Handle],
-    rights: &[Handle],
-    profile: &Profile,
+    form: &ListedForm,
     extra: u64,
 ) -> Result<Handle, ValueFault>
     requires extra { extra ≤ 8 }
-    requires lefts { AreGames (work_state S.state work.old) lefts.now }
-    requires rights { AreGames (work_state S.state work.old) rights.now }
-    requires canonical { let W = work_state S.state work.old in Canonical (node (games_at W lefts.now) (games_at W rights.now)) }
-    requires profile { let W = work_state S.state work.old in
-        IsProfile (node (games_at W lefts.now) (games_at W rights.now)) profile.now }
-    ensures game { let W = work_state S.state work.old in
-        IfOk result (λ h. StandsFor (work_state S.state work.new) h (node (games_at W lefts.now) (games_at W rights.now))) }
+    requires form { let W = work_state S.state work.old in
+        IsListed W (node (games_at W form.now.lefts.items) (games_at W form.now.rights.items)) form.now }
+    requires canonical { let W = work_state S.state work.old in
+        Canonical (node (games_at W form.now.lefts.items) (games_at W form.now.rights.items)) }
+    ensures game { let W = work_state S.state work.old in IfOk result (λ h.
+        StandsFor (work_state S.state work.new) h (node (games_at W form.now.lefts.items) (games_at W form.now.rights.items))) }
     ensures charged { let W = work_state S.state work.old in OnOk result (AllPass work.old.share work.old.spent
-        (made (node (games_at W lefts.now) (games_at W rights.now)) extra ∷ []) work.new.spent) }
+        (made (node (games_at W form.now.lefts.items) (games_at W form.now.rights.items)) extra ∷ []) work.new.spent) }
     ensures refused { let W = work_state S.state work.old in IfErr result (λ fault.
         WasRefused fault work.old.share work.old.spent
-        (made (node (games_at W lefts.now) (games_at W rights.now)) extra ∷ []) work.new.spent) }
+        (made (node (games_at W form.now.lefts.items) (games_at W form.now.rights.items)) extra ∷ []) work.new.spent) }
     ensures same { OnErr result (work.new ≡ work.old) }
     ensures spare { OnOk result ((work_state S.state work.new).spare ≡ (work_state S.state work.old).spare + extra) }
     ensures keeps { Keeps (work_state S.state work.old) (work_state S.state work.new) }
 {
-    charge_form(work, profile, extra)?;
-    let left_list = list(work, lefts);
-    let right_list = list(work, rights);
+    charge_form(work, &form.new.profile, extra)?;
+    let left_list = list(work, form.lefts.as_slice());
+    let right_list = list(work, form.rights.as_slice());
     Ok(game(work, left_list, right_list))
 }
 
-/// Makes the item of the canonical game with these options, with a cost of `extra` more.
+/// Makes the item of the canonical form that was found, with a cost of `extra` more, and enters it in the work's book.
 pub(crate) fn listed_item<B: BoardForms, S: CellStore<GameFacts<B>>>(
+    work: &mut Work<B, S>,
+    form: &ListedForm,
+    extra: u64,
+) -> Result<Handle, ValueFault>
+    requires extra { extra ≤ 8 }
+    requires form { let W = work_state S.state work.old in
+        IsListed W (node (games_at W form.now.lefts.items) (games_at W form.now.rights.items)) form.now }
+    requires canonical { let W = work_state S.state work.old in
+        Canonical (node (games_at W form.now.lefts.items) (games_at W form.now.rights.items)) }
+    ensures game { let W = work_state S.state work.old in IfOk result (λ h.
+        StandsFor (work_state S.state work.new) h (node (games_at W form.now.lefts.items) (games_at W form.now.rights.items))) }
+    ensures charged { let W = work_state S.state work.old in OnOk result (AllPass work.old.share work.old.spent
+        (made (node (games_at W form.now.lefts.items) (games_at W form.now.rights.items)) extra ∷ []) work.new.spent) }
+    ensures refused { let W = work_state S.state work.old in IfErr result (λ fault.
+        WasRefused fault work.old.share work.old.spent
+        (made (node (games_at W form.now.lefts.items) (games_at W form.now.rights.items)) extra ∷ []) work.new.spent) }
+    ensures same { OnErr result (work.new ≡ work.old) }
+    ensures spare { OnOk result ((work_state S.state work.new).spare ≡ (work_state S.state work.old).spare + extra) }
+    ensures keeps { Keeps (work_state S.state work.old) (work_state S.state work.new) }
+{
+    let handle = game_item(work, form, extra)?;
+    work.enter(handle, form);
+    Ok(handle)
+}
+
+/// Makes the item of a game that is canonical as it is given, with a cost of `extra` more.
+fn given_item<B: BoardForms, S: CellStore<GameFacts<B>>>(
     alloc: Global,
     work: &mut Work<B, S>,
     lefts: &[Handle],
@@ -87,6 +113,7 @@ pub(crate) fn listed_item<B: BoardForms, S: CellStore<GameFacts<B>>>(
     requires lefts { AreGames (work_state S.state work.old) lefts.now }
     requires rights { AreGames (work_state S.state work.old) rights.now }
     requires canonical { let W = work_state S.state work.old in Canonical (node (games_at W lefts.now) (games_at W rights.now)) }
+    requires no_number { let W = work_state S.state work.old in NoNumber (node (games_at W lefts.now) (games_at W rights.now)) }
     ensures game { let W = work_state S.state work.old in
         IfOk result (λ h. StandsFor (work_state S.state work.new) h (node (games_at W lefts.now) (games_at W rights.now))) }
     ensures charged { let W = work_state S.state work.old in OnOk result (AllPass work.old.share work.old.spent
@@ -98,28 +125,8 @@ pub(crate) fn listed_item<B: BoardForms, S: CellStore<GameFacts<B>>>(
     ensures spare { OnOk result ((work_state S.state work.new).spare ≡ (work_state S.state work.old).spare + extra) }
     ensures keeps { Keeps (work_state S.state work.old) (work_state S.state work.new) }
 {
-    let profile = profile_of_lists(alloc, work, lefts, rights)?;
-    let outcome = game_item(work, lefts, rights, &profile, extra);
-    keep_profile(work, &outcome, &profile);
-    outcome
-}
-
-/// Keeps the profile of the form that was made, where one was and there is memory for it.
-fn keep_profile<B: BoardForms, S: CellStore<GameFacts<B>>>(
-    work: &mut Work<B, S>,
-    outcome: &Result<Handle, ValueFault>,
-    profile: &Profile,
-)
-    requires game { IfOk outcome.now (λ h. IsGame (work_state S.state work.old) h) }
-    requires profile { IfOk outcome.now (λ h. IsProfile (game_at (work_state S.state work.old) h) profile.now) }
-    ensures { work.new ≡ work.old }
-{
-    if let Ok(handle) = outcome {
-        match work.keep(*handle, profile) {
-            Ok(()) => (),
-            Err(_) => (),
-        }
-    }
+    let form = work.form_of(alloc, lefts, rights)?;
+    listed_item(work, &form, extra)
 }
 
 /// Makes the item of a game that is canonical as it is given, with a cost of `extra` more, where `extra` is at most 8. It
@@ -153,7 +160,7 @@ pub fn canonical_item<B: BoardForms, S: CellStore<GameFacts<B>>>(
 {
     // Read for the proof alone: the meter tells what the store has to spare.
     let _before = work.spent();
-    let outcome = listed_item(alloc, work, lefts, rights, extra);
+    let outcome = given_item(alloc, work, lefts, rights, extra);
     let _after = work.spent();
     outcome
 }
@@ -221,7 +228,7 @@ pub(crate) fn known_item<B: BoardForms, S: CellStore<GameFacts<B>>>(
     ensures more { (work_state S.state work.old).spare ≤ (work_state S.state work.new).spare }
     ensures keeps { Keeps (work_state S.state work.old) (work_state S.state work.new) }
 {
-    let profile = profile_of(alloc, work, handle)?;
+    let profile = work.profile_of(alloc, handle)?;
     charge_form(work, &profile, extra)
 }
 

@@ -8,7 +8,6 @@ ghost use Rattle.cg_cells.specs.Store.{Spends};
 ghost use Rattle.cg_nodes.specs.Games.{IsGame, game_at};
 ghost use Rattle.cg_canon.specs.Works.{work_state};
 
-use crate::profiles::profile_of;
 use crate::work::Work;
 use cg_cells::CellStore;
 use cg_dyadic::Dyadic;
@@ -27,7 +26,7 @@ pub fn number_le<B: BoardForms, S: CellStore<GameFacts<B>>>(
     ensures order { IfOk result (λ answer. answer ≡ le (number x) (game_at (work_state S.state work.old) a)) }
     ensures spends { Spends 0 (work_state S.state work.old) (work_state S.state work.new) }
 {
-    let profile = profile_of(alloc, work, a)?;
+    let profile = work.profile_of(alloc, a)?;
     Ok(in_cut(true, &profile.low, x))
 }
 
@@ -42,6 +41,6 @@ pub fn le_number<B: BoardForms, S: CellStore<GameFacts<B>>>(
     ensures order { IfOk result (λ answer. answer ≡ le (game_at (work_state S.state work.old) a) (number x)) }
     ensures spends { Spends 0 (work_state S.state work.old) (work_state S.state work.new) }
 {
-    let profile = profile_of(alloc, work, a)?;
+    let profile = work.profile_of(alloc, a)?;
     Ok(in_cut(false, &profile.high, x))
 }

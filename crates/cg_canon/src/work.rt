@@ -1,8 +1,15 @@
 //! A store with a meter and a memo.
 ghost use Rattle.std.specs.Prelude.{◌≡◌, ℕ, ◌+◌, ◌-◌, ◌≤◌, ◌<◌, ◌^◌, Some, Option, Bool, IfSome, IfOk, IfErr, OnErr};
+ghost use Rattle.cg_form.specs.Canonical.{Canonical};
+ghost use Rattle.cg_form.specs.Game.{node};
 ghost use Rattle.cg_form.specs.Order.{le};
-ghost use Rattle.cg_nodes.specs.Games.{IsGame, game_at};
-ghost use Rattle.cg_canon.specs.Profiles.{IsProfile};
+ghost use Rattle.cg_form.specs.Simple.{NoNumber};
+ghost use Rattle.cg_cells.specs.Store.{Spends};
+ghost use Rattle.cg_nodes.specs.Games.{AreGames, IsGame, game_at, games_at};
+ghost use Rattle.cg_nodes.specs.Spelled.{can};
+ghost use Rattle.cg_book.specs.Profiles.{IsProfile};
+ghost use Rattle.cg_book.specs.Terms.{ApartByTerm};
+ghost use Rattle.cg_canon.specs.Values.{IsListed, IsValue};
 ghost use Rattle.cg_canon.specs.Added.{IsKnownSum};
 ghost use Rattle.cg_canon.specs.MadeForms.{FormsHold, IsFormOf};
 ghost use Rattle.cg_canon.specs.Works.{IsUnspent, WorkHolds, WorkOf, work_code, work_state};
@@ -10,9 +17,10 @@ ghost use Rattle.cg_canon.specs.Works.{IsUnspent, WorkHolds, WorkOf, work_code, 
 use crate::fault::ValueFault;
 use crate::made::MadeForms;
 use crate::memo::{KnownSum, Memo};
-use crate::profile::Profile;
-use crate::recent::Answer;
+use crate::paging::page_of;
 use crate::rest::WorkRest;
+use crate::value::{ListedForm, Value, compare, enter_form, form_of_lists, value_of_lists};
+use cg_book::{FirstTerm, Profile};
 use cg_cells::{CellStore, Id, Key};
 use cg_nodes::{BoardForms, GameFacts, Handle};
 use std::alloc::{AllocError, Global};
@@ -124,44 +132,83 @@ impl<'a, B: BoardForms, S: CellStore<GameFacts<B>>> Work<'a, B, S> {
         Ok(())
     }
 
-    /// The answer that was found for the two, if one was.
-    pub(crate) fn recall(&self, a: Handle, b: Handle) -> Option<bool>
-        ensures { IfSome result (λ answer. answer
-            ≡ le (game_at (S.state self.now.store.now) a) (game_at (S.state self.now.store.now) b)) }
+    /// The profile of the game. The only error is want of memory.
+    pub(crate) fn profile_of(&mut self, alloc: Global, a: Handle) -> Result<Profile, AllocError>
+        requires { IsGame (work_state S.state self.old) a }
+        ensures profile { IfOk result (λ p. IsProfile (game_at (work_state S.state self.old) a) p) }
+        ensures spends { Spends 0 (work_state S.state self.old) (work_state S.state self.new) }
     {
-        self.memo.recall(a, b)
+        let page = page_of(alloc, self.store, &mut self.memo.book, a)?;
+        Ok(*self.memo.book.pages.profile(page))
     }
 
-    /// Keeps the answer for the two.
-    pub(crate) fn remember(&mut self, a: Handle, b: Handle, answer: bool) -> Result<(), AllocError>
-        requires a { IsGame (S.state self.old.store.now) a }
-        requires b { IsGame (S.state self.old.store.now) b }
-        requires order { answer ≡ le (game_at (S.state self.old.store.now) a) (game_at (S.state self.old.store.now) b) }
+    /// Whether a <= b. The only error is want of memory.
+    pub(crate) fn is_at_most(
+        &mut self,
+        alloc: Global,
+        a: Handle,
+        b: Handle,
+    ) -> Result<bool, AllocError>
+        requires a { IsGame (work_state S.state self.old) a }
+        requires b { IsGame (work_state S.state self.old) b }
+        ensures order { IfOk result (λ answer. answer
+            ≡ le (game_at (work_state S.state self.old) a) (game_at (work_state S.state self.old) b)) }
+        ensures spends { Spends 0 (work_state S.state self.old) (work_state S.state self.new) }
+    {
+        compare(alloc, self.store, &mut self.memo.book, a, b)
+    }
+
+    /// What the game with these options is. The only error is want of memory.
+    pub(crate) fn value_of(
+        &mut self,
+        alloc: Global,
+        lefts: &[Handle],
+        rights: &[Handle],
+        first_term: Option<FirstTerm>,
+    ) -> Result<Value, AllocError>
+        requires lefts { AreGames (work_state S.state self.old) lefts.now }
+        requires rights { AreGames (work_state S.state self.old) rights.now }
+        requires terms { ApartByTerm first_term (games_at (work_state S.state self.old) lefts.now)
+            (games_at (work_state S.state self.old) rights.now) }
+        ensures value { let W = work_state S.state self.old in
+            IfOk result (IsValue (work_state S.state self.new) (can (node (games_at W lefts.now) (games_at W rights.now)))) }
+        ensures spends { Spends 0 (work_state S.state self.old) (work_state S.state self.new) }
+    {
+        value_of_lists(
+            alloc,
+            self.store,
+            &mut self.memo.book,
+            lefts,
+            rights,
+            first_term,
+        )
+    }
+
+    /// The form with these options, which is canonical as it stands and equals no number. The only error is want of memory.
+    pub(crate) fn form_of(
+        &mut self,
+        alloc: Global,
+        lefts: &[Handle],
+        rights: &[Handle],
+    ) -> Result<ListedForm, AllocError>
+        requires lefts { AreGames (work_state S.state self.old) lefts.now }
+        requires rights { AreGames (work_state S.state self.old) rights.now }
+        requires no_number { let W = work_state S.state self.old in NoNumber (node (games_at W lefts.now) (games_at W rights.now)) }
+        ensures form { let W = work_state S.state self.old in
+            IfOk result (IsListed (work_state S.state self.new) (node (games_at W lefts.now) (games_at W rights.now))) }
+        ensures spends { Spends 0 (work_state S.state self.old) (work_state S.state self.new) }
+    {
+        form_of_lists(alloc, self.store, &mut self.memo.book, lefts, rights)
+    }
+
+    /// Enters the form that was made, with this handle. Where there is no memory for it, it is read anew the next time.
+    pub(crate) fn enter(&mut self, handle: Handle, form: &ListedForm)
+        requires form { IsListed (work_state S.state self.old) (game_at (work_state S.state self.old) handle) form.now }
+        requires game { IsGame (work_state S.state self.old) handle }
+        requires canonical { Canonical (game_at (work_state S.state self.old) handle) }
         ensures { self.new ≡ self.old }
     {
-        self.memo.remember(Answer {
-            low: a,
-            high: b,
-            at_most: answer,
-        })?;
-        Ok(())
-    }
-
-    /// The profile that was found for the game, if one was. It is lent.
-    pub(crate) fn profile(&self, a: Handle) -> Option<&Profile>
-        ensures { IfSome result (λ p. IsProfile (game_at (S.state self.now.store.now) a) p.now) }
-    {
-        self.memo.profile(a.id().number())
-    }
-
-    /// Keeps the profile for the game.
-    pub(crate) fn keep(&mut self, a: Handle, profile: &Profile) -> Result<(), AllocError>
-        requires game { IsGame (S.state self.old.store.now) a }
-        requires profile { IsProfile (game_at (S.state self.old.store.now) a) profile.now }
-        ensures { self.new ≡ self.old }
-    {
-        self.memo.keep(a.id().number(), profile)?;
-        Ok(())
+        enter_form(&*self.store, &mut self.memo.book, handle, form);
     }
 
     /// The sum of the two that was found, if one was.

@@ -7,7 +7,7 @@ use Rattle.cg_nodes.proofs.Later.{are_games_later, stands_game, stands_is_game}
 use Rattle.cg_canon.specs.Items.{AllPass, WasRefused, made}
 use Rattle.cg_canon.specs.Works.{WorkOf}
 use Rattle.cg_canon.specs.declared.rest.WorkRest.{WorkRest}
-use Rattle.cg_canon.specs.Profiles.{IsProfile}
+use Rattle.cg_book.specs.Profiles.{IsProfile}
 use Rattle.cg_canon.specs.Works.{work_state}
 use Rattle.cg_canon.proofs.Charging.{charged_before, refused_before}
 use Rattle.cg_canon.proofs.Forming.{node_later}
