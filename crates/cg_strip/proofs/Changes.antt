@@ -1,5 +1,5 @@
 -- What the rules of strip games, and toads and frogs, write on boards.
-use Rattle.std.proofs.Common.{◌≡◌, ℕ, zero, suc, ◌==◌, inl, inr, true, List, [], ◌∷◌, get_or, length, refl, ap, sym, subst, ◌∙◌, arith, eqb-true}
+use Rattle.std.proofs.Common.{◌≡◌, ℕ, zero, suc, ◌==◌, inl, inr, true, List, [], ◌∷◌, get_or, length, refl, sym, subst, arith, eqb-true}
 use Rattle.std.specs.Prelude.{All, Contains}
 use Rattle.std.specs.List.{list_all, AllByRecursion}
 use Rattle.std.specs.Str.{bytes_eq}
