@@ -64,11 +64,14 @@ is_toad = (1, omega arith, refl)
 is_frog : Contains symbols frog
 is_frog = (2, omega arith, refl)
 
+pub symbols_are : (p : Grid) → toads_game.has p ≡ true → p.symbols ≡ symbols
+symbols_are p has = (bytes_decides p.symbols symbols).0 (and_parts (p.rows == 1) (bytes_eq p.symbols symbols) has).1
+
 -- a change to these symbols
 change : (p : Grid) (old new : List ℕ) → toads_game.has p ≡ true → length old ≡ length new
     → AllByRecursion (Contains symbols) old → AllByRecursion (Contains symbols) new → IsChange p.symbols old new
 change p old new has even before after =
-    let s : p.symbols ≡ symbols = (bytes_decides p.symbols symbols).0 (and_parts (p.rows == 1) (bytes_eq p.symbols symbols) has).1 in
+    let s = symbols_are p has in
     let Q : List ℕ → List ℕ → Type 0 = λ cells z. AreCells z cells in
     record {
       even = even;

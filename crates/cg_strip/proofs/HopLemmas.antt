@@ -1,15 +1,17 @@
 -- The hops of toads and frogs, cell by cell.
-use Rattle.std.proofs.Common.{◌≡◌, refl, ℕ, zero, suc, ◌+◌, ◌<◌, ◌==◌, ◌&&◌, inl, inr, cond, List, [], ◌∷◌, ◌++◌, length, map, drop, get_or, reverse, Result, Ok, Err, ap, sym, ◌∙◌, arith, append_assoc, bit_and}
-use Rattle.std.specs.Prelude.{IfOk, nat_eq, slice_index}
-use Rattle.std.specs.Int.{bit_at}
+use Rattle.std.proofs.Common.{◌≡◌, refl, ℕ, zero, suc, ◌+◌, ◌<◌, ◌==◌, ◌&&◌, inl, inr, cond, List, [], ◌∷◌, ◌++◌, length, map, drop, get_or, reverse, Result, Ok, Err, ap, sym, subst, ◌∙◌, arith, append_assoc, bit_and, bit_or, max, w64, ◌≤◌, if◌then◌else◌, true, ◌-◌, ◌^◌}
+use Rattle.std.specs.Prelude.{Contains, IfOk, nat_eq, slice_index}
+use Rattle.std.specs.Int.{bit_at, trailing_zeros}
 use Rattle.std.specs.List.{starts_with}
 use Rattle.std.proofs.lemmas.Bool.{le-ltb, lt-ltb}
 use Rattle.std.proofs.lemmas.Bool.Decides.{leb_tells}
 use Rattle.std.proofs.lemmas.Grind.{reverse_onto}
-use Rattle.std.proofs.lemmas.List.{get_or-drop, get_or_past, map-append, reverse-reverse}
+use Rattle.std.proofs.lemmas.List.{append-nil, get_or-drop, get_or_past, map-append, reverse-reverse}
+use Rattle.std.proofs.lemmas.Nat.Bits.{bit_at-trailing_zeros, bit_at-zero, bit_at_or}
 use Rattle.cg_moves.specs.declared.player.Player.{Player}
 use Rattle.cg_moves.specs.declared.player.Player.TheVariants.{Left, Right}
-use Rattle.cg_moves.specs.Grid.{Grid}
+use Rattle.cg_moves.specs.Grid.{Grid, with_cells}
+use Rattle.cg_moves.specs.PlaneBits.{index_of}
 use Rattle.cg_moves.specs.Rising.{rising}
 use Rattle.cg_moves.specs.Rules.{In}
 use Rattle.cg_moves.specs.Words.{Marks}
@@ -19,7 +21,8 @@ use Rattle.cg_moves.proofs.WordBits.{marks_same}
 use Rattle.cg_strip.specs.declared.hopping.HopWords.{HopWords}
 use Rattle.cg_strip.specs.Hops.{AreHopWords, hops_at, hops_below, hops_made, jumped, jumping, stepped, stepping}
 use Rattle.cg_strip.specs.Placing.{placed_at, placed_below, stands_at, written}
-use Rattle.cg_strip.specs.Toads.{empty, frog, hops, toad, toads_moves}
+use Rattle.cg_strip.specs.Toads.{empty, frog, hops, toad, toads_game, toads_moves}
+use Rattle.cg_strip.proofs.Changes.{symbols_are}
 use Rattle.cg_strip.proofs.Standing.{apart, either_way, placed_marked, standing_more}
 
 -- ---- two symbols and three, in words
@@ -112,6 +115,84 @@ hops_next f player cells i now new so_far put =
     let up : suc i ≡ i + 1 = omega arith in
     put ∙ ap (λ z. z ++ map f (hops_at player cells i)) so_far
     ∙ sym (map-append f (hops_below player cells i) (hops_at player cells i)) ∙ ap (λ n. map f (hops_below player cells n)) up
+
+-- ---- from hop to hop
+
+module _ (player : Player) (cells : List ℕ) (words : HopWords) (are : AreHopWords player cells words) where
+  hop_bits : (k : ℕ) → bit_at (bit_or words.steps words.jumps) k ≡ max (bit_at words.steps k) (bit_at words.jumps k)
+  hop_bits k = bit_at_or words.steps words.jumps k
+
+  -- a hop begins within the row
+  pub hop_within : (k : ℕ) → bit_at (bit_or words.steps words.jumps) k ≡ 1 → k < length cells
+  hop_within k one = elim (leb_tells (length cells) k) [
+    | inl h ↦ (let past = le-ltb k (length cells) h.1 in
+        let s = are.steps k ∙ ap (λ t. if t && starts_with nat_eq (drop k cells) (stepping player) then 1 else 0) past in
+        let j = are.jumps k ∙ ap (λ t. if t && starts_with nat_eq (drop k cells) (jumping player) then 1 else 0) past in
+        let m = hop_bits k in absurd (omega (arith, one, s, j, m)))
+    | inr h ↦ h.1
+  ]
+
+  no_hops : (k : ℕ) → k < length cells → bit_at (bit_or words.steps words.jumps) k ≡ 0 → hops_at player cells k ≡ []
+  no_hops k below none =
+      let m = hop_bits k in
+      let s : bit_at words.steps k ≡ 0 = omega (arith, none, m) in
+      let j : bit_at words.jumps k ≡ 0 = omega (arith, none, m) in
+      let one = placed_marked cells (stepping player) (stepped player) words.steps k below (even_steps player) are.steps in
+      let two = placed_marked cells (jumping player) (jumped player) words.jumps k below (even_jumps player) are.jumps in
+      ap (λ z. z ++ placed_at (jumping player) (jumped player) cells k)
+      (sym one ∙ ap (λ b. cond (b == 1) (written cells (stepped player) k ∷ []) []) s)
+      ∙ sym two ∙ ap (λ b. cond (b == 1) (written cells (jumped player) k ∷ []) []) j
+
+  -- where no hop begins between two cells
+  pub hops_skip : (n m : ℕ) → n ≤ m → m ≤ length cells
+      → ((k : ℕ) → n ≤ k → k < m → bit_at (bit_or words.steps words.jumps) k ≡ 0)
+      → hops_below player cells n ≡ hops_below player cells m
+  hops_skip n zero l fits none = ap (hops_below player cells) (let e : n ≡ zero = omega arith in e)
+  hops_skip n (suc m) l fits none = elim (leb_tells n m) [
+    | inl h ↦ (let done = hops_below player cells m in
+        hops_skip n m h.1 (omega (arith, fits)) (λ k a b. none k a (omega (arith, b)))
+        ∙ sym (append-nil done) ∙ ap (λ z. done ++ z) (sym (no_hops m (omega (arith, fits)) (none m h.1 (omega arith)))))
+    | inr h ↦ ap (hops_below player cells) (let e : n ≡ suc m = omega (arith, h.1, l) in e)
+  ]
+
+  module _ (f : List ℕ → Grid) (next left : ℕ) (fits : next ≤ length cells)
+      (rest : (i : ℕ) → bit_at left i ≡ bit_at (bit_or words.steps words.jumps) (i + next)) where
+    -- the first of the hops that are left
+    pub next_within : 0 < left → left < 2 ^ 64 → next + trailing_zeros w64 left < length cells
+    next_within some small =
+        let h = bit_at-trailing_zeros w64 left some small in
+        let up : trailing_zeros w64 left + next ≡ next + trailing_zeros w64 left = omega arith in
+        hop_within (next + trailing_zeros w64 left)
+        (ap (bit_at (bit_or words.steps words.jumps)) (sym up) ∙ sym (rest (trailing_zeros w64 left)) ∙ h.1)
+
+    pub hops_up_to : (now new : List Grid) → 0 < left → left < 2 ^ 64 → now ≡ map f (hops_below player cells next)
+        → new ≡ now ++ map f (hops_at player cells (next + trailing_zeros w64 left))
+        → new ≡ map f (hops_below player cells (next + trailing_zeros w64 left + 1))
+    hops_up_to now new some small so_far put =
+        let h = bit_at-trailing_zeros w64 left some small in
+        let cell = next + trailing_zeros w64 left in
+        let below = next_within some small in
+        hops_next f player cells cell now new (so_far ∙ ap (map f) (hops_skip next cell (omega arith) (omega (arith, below))
+        (λ k a b. let back : k - next + next ≡ k = omega (arith, a) in
+        ap (bit_at (bit_or words.steps words.jumps)) (sym back) ∙ sym (rest (k - next)) ∙ h.2 (k - next) (omega (arith, a, b))))) put
+
+    pub hops_end : (now : List Grid) → left ≡ 0 → now ≡ map f (hops_below player cells next)
+        → now ≡ map f (hops_below player cells (length cells))
+    hops_end now none so_far =
+        so_far ∙ ap (map f) (hops_skip next (length cells) fits (omega arith)
+        (λ k a b. let back : k - next + next ≡ k = omega (arith, a) in
+        ap (bit_at (bit_or words.steps words.jumps)) (sym back) ∙ sym (rest (k - next)) ∙ ap (λ z. bit_at z (k - next)) none
+        ∙ bit_at-zero (k - next)))
+
+-- ---- symbols of toads and frogs
+
+pub known_symbol : (p : Grid) (s : ℕ) → toads_game.has p ≡ true → Contains p.symbols s → Contains (empty ∷ toad ∷ frog ∷ []) s
+known_symbol p s has is = let P : List ℕ → Type 0 = λ z. Contains z s in subst P (symbols_are p has) is
+
+pub known_index : (p after : Grid) (cells : List ℕ) (s index : ℕ) → toads_game.has p ≡ true → after ≡ with_cells p cells
+    → index ≡ index_of (empty ∷ toad ∷ frog ∷ []) s → index ≡ index_of after.symbols s
+known_index p after cells s index has same e =
+    e ∙ ap (λ z. index_of z s) (sym (symbols_are p has)) ∙ sym (ap (λ (q : Grid). index_of q.symbols s) same)
 
 pub map_reversed : (f : List ℕ → Grid) (xs : List (List ℕ)) → reverse (map f xs) ≡ map f (reverse xs)
 map_reversed f [] = refl

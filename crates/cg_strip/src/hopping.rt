@@ -1,11 +1,13 @@
 //! The hops of toads and frogs.
-ghost use Rattle.std.specs.Prelude.{◌≡◌, ◌++◌, ◌<◌, IfOk, length, map, true};
-ghost use Rattle.cg_moves.specs.Grid.{with_cells};
+ghost use Rattle.std.specs.Prelude.{◌≡◌, ◌+◌, ◌++◌, ◌<◌, ◌≤◌, ◌==◌, ◌∷◌, [], Contains, IfOk, codes, cond, length, map, true};
+ghost use Rattle.std.specs.Int.{bit_at};
+ghost use Rattle.cg_moves.specs.Grid.{AreCells, with_cells};
+ghost use Rattle.cg_moves.specs.PlaneBits.{index_of};
+ghost use Rattle.cg_strip.specs.Placing.{written};
 ghost use Rattle.cg_strip.specs.Hops.{AreHopWords, hops_at, hops_below, hops_made};
 ghost use Rattle.cg_strip.specs.Toads.{toads_game};
 
-use crate::placing::place;
-use cg_moves::words::moved_back;
+use cg_moves::words::{bit, moved_back};
 use cg_moves::{Board, Player};
 use std::alloc::{AllocError, Global};
 
@@ -55,6 +57,61 @@ fn hop_words(board: &Board, player: Player) -> HopWords
     }
 }
 
+/// The index of the symbol on a board of toads and frogs.
+#[inline(always)]
+fn index_of(symbol: u8) -> u8
+    requires { Contains (codes ".TF") symbol }
+    ensures value { result ≡ index_of (codes ".TF") symbol }
+    ensures few { result < 16 }
+{
+    match symbol {
+        b'.' => 0,
+        b'T' => 1,
+        _ => 2,
+    }
+}
+
+/// The board with the replacement at this cell and those that follow.
+#[inline(always)]
+fn hopped(alloc: Global, board: &Board, replacement: &[u8], cell: u8) -> Result<Board, AllocError>
+    requires has { toads_game.has board.now ≡ true }
+    requires fits { cell + length replacement.now ≤ length board.now.cells }
+    requires symbols { AreCells board.now.symbols replacement.now }
+    ensures { IfOk result (λ after. after ≡ with_cells board.now (written board.now.cells replacement.now cell)) }
+{
+    // Read for the proof alone: the board has at most 64 cells.
+    let _size = board.size();
+    let mut after = board.copy(alloc)?;
+    for (offset, symbol) in replacement.iter().enumerate() {
+        after.set_known(cell + offset as u8, *symbol, index_of(*symbol));
+    }
+    Ok(after)
+}
+
+/// Puts the board with the replacement at this cell behind the boards, if the cell is one of the places.
+#[inline(always)]
+fn put_hop(
+    alloc: Global,
+    board: &Board,
+    places: u64,
+    replacement: &[u8],
+    cell: u8,
+    boards: &mut Vec<Board>,
+) -> Result<(), AllocError>
+    requires has { toads_game.has board.now ≡ true }
+    requires few { cell < 64 }
+    requires fits { bit_at places cell ≡ 1 → cell + length replacement.now ≤ length board.now.cells }
+    requires symbols { AreCells board.now.symbols replacement.now }
+    ensures { IfOk result (λ _. boards.new.items ≡ boards.old.items ++ map (with_cells board.now)
+        (cond (bit_at places cell == 1) (written board.now.cells replacement.now cell ∷ []) [])) }
+{
+    if bit(places, cell) == 1 {
+        let after = hopped(alloc, board, replacement, cell)?;
+        boards.push(after)?;
+    }
+    Ok(())
+}
+
 /// Puts the boards after the player's hops at this cell behind the boards.
 fn put_hops_at(
     alloc: Global,
@@ -74,12 +131,12 @@ fn put_hops_at(
     let _size = board.size();
     match player {
         Player::Left => {
-            place(alloc, board, words.steps, b".T", cell, boards)?;
-            place(alloc, board, words.jumps, b".FT", cell, boards)
+            put_hop(alloc, board, words.steps, b".T", cell, boards)?;
+            put_hop(alloc, board, words.jumps, b".FT", cell, boards)
         }
         Player::Right => {
-            place(alloc, board, words.steps, b"F.", cell, boards)?;
-            place(alloc, board, words.jumps, b"FT.", cell, boards)
+            put_hop(alloc, board, words.steps, b"F.", cell, boards)?;
+            put_hop(alloc, board, words.jumps, b"FT.", cell, boards)
         }
     }
 }
@@ -90,10 +147,18 @@ fn hops_on(alloc: Global, board: &Board, player: Player) -> Result<Vec<Board>, A
     ensures { IfOk result (λ boards. boards.items ≡
         map (with_cells board.now) (hops_below player board.now.cells (length board.now.cells))) }
 {
+    // Read for the proof alone: the board has at most 64 cells.
+    let _size = board.size();
     let words = hop_words(board, player);
     let mut boards = Vec::with_capacity(alloc, words.count())?;
-    for cell in 0..board.size() {
+    let all = words.steps | words.jumps;
+    let mut next = 0;
+    let mut left = moved_back(all, next);
+    while left != 0 {
+        let cell = next + left.trailing_zeros() as u8;
         put_hops_at(alloc, board, player, words, cell, &mut boards)?;
+        next = cell + 1;
+        left = moved_back(all, next);
     }
     Ok(boards)
 }

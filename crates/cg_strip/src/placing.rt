@@ -50,7 +50,7 @@ fn written_at(
 }
 
 /// Puts the board with the replacement at this cell behind the boards, if the cell is one of the places.
-pub(crate) fn place(
+fn place(
     alloc: Global,
     board: &Board,
     places: u64,
