@@ -4,4 +4,3 @@ pub mod Taken
 pub mod QueenMoves
 pub mod ReadLemmas
 pub mod Shooting
-pub mod RisingBoards

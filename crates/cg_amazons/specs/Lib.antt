@@ -6,4 +6,3 @@ pub mod Boards
 pub mod Rays
 -- what private contracts cite, and what proofs need here
 pub mod Taking
-pub mod Rises

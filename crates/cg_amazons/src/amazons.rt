@@ -7,9 +7,8 @@ ghost use Rattle.cg_amazons.specs.Taking.{Takes};
 
 use crate::queens::{EMPTY, QueenWords, move_all};
 use crate::ranking::rank;
-use crate::rising::rise;
 use crate::shape::Shape;
-use cg_moves::{Board, Boards, Pieces, Player, Rules, in_order};
+use cg_moves::{Board, Boards, Pieces, Player, Rules, risen};
 use std::alloc::{AllocError, Global};
 
 /// Amazons: a queen moves along empty cells in one of the eight directions, and then shoots an arrow along empty cells in one
@@ -83,11 +82,7 @@ impl Rules for Amazons {
         // Read for the proof alone: the board has columns.
         let _size = board.size();
         let boards = sorted_boards_of(alloc, board, player)?;
-        if rise(board, &boards) {
-            Ok(Boards::of(boards))
-        } else {
-            in_order(alloc, board, &boards)
-        }
+        risen(alloc, board, boards)
     }
 
     fn pieces(&self, _alloc: Global, _board: &Board) -> Result<Pieces, AllocError> {

@@ -7,7 +7,6 @@ mod queens;
 mod ranking;
 mod reaching;
 mod reading;
-mod rising;
 mod shape;
 mod way;
 

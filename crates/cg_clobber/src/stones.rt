@@ -13,7 +13,7 @@ use crate::capturing::captures_of;
 use crate::putting::{CaptureWords, put_onward, put_toward};
 use crate::symbols::{EMPTY, other, own};
 use cg_moves::{Board, Boards, Pieces, Player, Rules};
-use cg_pieces::{NeighbourRules, pieces};
+use cg_pieces::{NeighbourRules, pieces, pieces_into};
 use std::alloc::{AllocError, Global};
 
 /// The rules of Clobber. The symbols are `.` for an empty cell, `x` for a stone of Left and `o` for one of Right. A player
@@ -123,6 +123,15 @@ impl Rules for Clobber {
 
     fn pieces(&self, alloc: Global, board: &Board) -> Result<Pieces, AllocError> {
         Ok(Pieces::Cut(pieces(alloc, self, board)?))
+    }
+
+    fn pieces_into(
+        &self,
+        _alloc: Global,
+        board: &Board,
+        room: Vec<Board>,
+    ) -> Result<Vec<Board>, AllocError> {
+        pieces_into(self, board, room)
     }
 
     fn number(&self) -> u8 {

@@ -10,7 +10,7 @@ ghost use Rattle.cg_domineering.specs.Moves.{domineering, dominoes, fits, moves_
 use crate::fitting::{EMPTY, spots};
 use cg_moves::words::{bit, with_bit};
 use cg_moves::{Board, Boards, Pieces, Planes, Player, Rules};
-use cg_pieces::{NeighbourRules, pieces};
+use cg_pieces::{NeighbourRules, pieces, pieces_into};
 use std::alloc::{AllocError, Global};
 
 const FILLED: u8 = b'#';
@@ -128,6 +128,15 @@ impl Rules for Domineering {
 
     fn pieces(&self, alloc: Global, board: &Board) -> Result<Pieces, AllocError> {
         Ok(Pieces::Cut(pieces(alloc, self, board)?))
+    }
+
+    fn pieces_into(
+        &self,
+        _alloc: Global,
+        board: &Board,
+        room: Vec<Board>,
+    ) -> Result<Vec<Board>, AllocError> {
+        pieces_into(self, board, room)
     }
 
     fn number(&self) -> u8 {

@@ -42,3 +42,4 @@ pub mod Halves
 pub mod Differing
 pub mod Sorting
 pub mod SameMembers
+pub mod RisingBoards

@@ -21,3 +21,4 @@ pub mod Kept
 pub mod Walks
 pub mod Found
 pub mod Explored
+pub mod Rises

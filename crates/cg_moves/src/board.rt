@@ -210,6 +210,19 @@ impl Board {
         self.planes = self.planes.with_symbol(symbols, index, symbol);
     }
 
+    /// Gives the cell another symbol, which has this index in the row of symbols. It is [`Board::set`] where the index is known.
+    pub fn set_known(&mut self, cell: u8, symbol: u8, index: u8)
+        requires cell { cell < length self.old.cells }
+        requires symbol { Contains self.old.symbols symbol }
+        requires index { index ≡ index_of self.old.symbols symbol }
+        requires few { index < 16 }
+        ensures { self.new ≡ with_cells self.old (slice_set self.old.cells cell symbol) }
+    {
+        // Read for the proof alone: the index is that of the symbol.
+        let _ = symbol;
+        self.planes = self.planes.with_index(cell, index);
+    }
+
     /// The cells that have another symbol on the other board, which is like this one.
     fn differing(&self, other: &Board) -> u64
         requires { IsLike self.now other.now }

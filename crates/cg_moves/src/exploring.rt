@@ -11,7 +11,7 @@ ghost use Rattle.cg_moves.specs.Rules.{In, boards_after, followers};
 ghost use Rattle.cg_moves.specs.declared.player.Player.TheVariants.{Left, Right};
 ghost use Rattle.cg_moves.specs.Walks.{AreStarts};
 
-use crate::course::{Course, pieces_in};
+use crate::course::Course;
 use crate::found::Found;
 use crate::{Board, NextPlaces, Player, ReachFault, Rules};
 use std::alloc::{AllocError, Global};
@@ -29,18 +29,20 @@ pub(crate) struct Explored {
 
 /// Puts the numbers of the boards behind the places.
 fn number_all(
+    alloc: Global,
     found: &mut Found,
     places: &mut Vec<usize>,
-    boards: Vec<Board>,
+    boards: &[Board],
     limit: u64,
 ) -> Result<(), ReachFault>
-    requires alike { AreAlike (found.old ++ boards.items) }
+    requires alike { AreAlike (found.old ++ boards.now) }
     requires within { length found.old ≤ limit }
-    ensures numbers { IfOk result (λ _. Numbers limit found.old found.new places.old.items places.new.items boards.items) }
-    ensures refused { result ≡ Err ReachFault.Positions → limit < length (kept found.old boards.items) }
+    ensures numbers { IfOk result (λ _. Numbers limit found.old found.new places.old.items places.new.items boards.now) }
+    ensures refused { result ≡ Err ReachFault.Positions → limit < length (kept found.old boards.now) }
 {
     for board in boards {
-        let number = found.number(board, limit)?;
+        let copy = board.copy(alloc)?;
+        let number = found.number(copy, limit)?;
         places.push(number)?;
     }
     Ok(())
@@ -75,9 +77,12 @@ fn number_pieces<R: Rules>(
     ensures refused { result ≡ Err ReachFault.Positions
         → limit < length (kept found.old ((R.game rules.now).pieces board.now)) }
 {
-    let pieces = pieces_in(alloc, rules, board)?;
+    let room = found.take_room(alloc);
+    let pieces = rules.pieces_into(alloc, board, room)?;
     next.counts.push(pieces.len())?;
-    number_all(found, &mut next.places, pieces, limit)
+    number_all(alloc, found, &mut next.places, &pieces, limit)?;
+    found.give_room(pieces);
+    Ok(())
 }
 
 /// Puts the board that a move leads to behind what comes next: how many parts it has, and their numbers. A board that was found is
@@ -211,7 +216,7 @@ pub(crate) fn explore<R: Rules>(
 {
     let mut found = Found::new(alloc);
     let mut places = Vec::new(alloc);
-    number_all(&mut found, &mut places, starts, limit)?;
+    number_all(alloc, &mut found, &mut places, &starts, limit)?;
     let mut next = Vec::new(alloc);
     'boards: while next.len() < found.len() {
         let more = next_after(alloc, rules, course, &mut found, next.len(), limit)?;

@@ -8,13 +8,15 @@ use crate::{Board, BoardKey, ReachFault};
 use std::alloc::Global;
 use std::collections::HashMap;
 use std::marker::Model;
+use std::mem;
 
 /// Boards in the order in which they were found, each once. A board's number is its place in this order, counted from 0, and
-/// the map has it by the board's key. Contracts see the list of boards.
+/// the map has it by the board's key. Contracts see the list of boards. The room is for boards that are yet to be looked for.
 #[derive(Drop)]
 pub(crate) struct Found {
     boards: Vec<Board>,
     numbers: HashMap<BoardKey, usize>,
+    room: Vec<Board>,
 }
 
 impl Model for Found {
@@ -42,7 +44,25 @@ impl Found {
         Found {
             boards: Vec::new(alloc),
             numbers: HashMap::new(alloc),
+            room: Vec::new(alloc),
         }
+    }
+
+    /// The room for boards, without boards. Until it comes back, it is taken anew.
+    pub(crate) fn take_room(&mut self, alloc: Global) -> Vec<Board>
+        ensures room { result.items ≡ [] }
+        ensures boards { self.new ≡ self.old }
+    {
+        let mut room = mem::replace(&mut self.room, Vec::new(alloc));
+        room.clear();
+        room
+    }
+
+    /// Gives the room back.
+    pub(crate) fn give_room(&mut self, room: Vec<Board>)
+        ensures { self.new ≡ self.old }
+    {
+        self.room = room;
     }
 
     /// How many there are.
@@ -96,7 +116,11 @@ impl Found {
     pub(crate) fn into_boards(self) -> Vec<Board>
         ensures { result.items ≡ self }
     {
-        let Found { boards, numbers: _ } = self;
+        let Found {
+            boards,
+            numbers: _,
+            room: _,
+        } = self;
         boards
     }
 }

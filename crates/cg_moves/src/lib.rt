@@ -28,7 +28,7 @@ pub use fault::{BoardFault, ReachFault};
 pub use grid::read_grid;
 pub use key::BoardKey;
 pub use opened::{NextPlaces, Opened};
-pub use ordering::in_order;
+pub use ordering::{in_order, risen};
 pub use pieces::Pieces;
 pub use planes::Planes;
 pub use player::Player;

@@ -1,5 +1,5 @@
 //! The rules of games on boards.
-ghost use Rattle.std.specs.Prelude.{◌≡◌, ◌<◌, true, IfOk};
+ghost use Rattle.std.specs.Prelude.{◌≡◌, ◌<◌, [], true, IfOk};
 ghost use Rattle.cg_moves.specs.Cutting.{cutting};
 ghost use Rattle.cg_moves.specs.Rules.{GameRules, IsLawful, boards_after};
 
@@ -26,6 +26,26 @@ pub trait Rules {
     fn pieces(&self, alloc: Global, board: &Board) -> Result<Pieces, AllocError>
         requires { (game self.now).has board.now ≡ true }
         ensures { IfOk result (λ pieces. pieces ≡ cutting (game self.now) board.now) };
+
+    /// The pieces of the board, in order, in the room of these boards, of which there are none; the rules must cut. The board
+    /// must be one of the game.
+    fn pieces_into(
+        &self,
+        alloc: Global,
+        board: &Board,
+        room: Vec<Board>,
+    ) -> Result<Vec<Board>, AllocError>
+        requires has { (game self.now).has board.now ≡ true }
+        requires cuts { (game self.now).cuts ≡ true }
+        requires room { room.items ≡ [] }
+        ensures { IfOk result (λ boards. boards.items ≡ (game self.now).pieces board.now) }
+    {
+        drop(room);
+        match self.pieces(alloc, board)? {
+            Pieces::Cut(boards) => Ok(boards.into_vec()),
+            Pieces::Whole => unreachable!(),
+        }
+    }
 
     /// The game's number.
     fn number(&self) -> u8

@@ -1,5 +1,5 @@
 //! The pieces of a board.
-ghost use Rattle.std.specs.Prelude.{◌≡◌, ◌++◌, Contains, IfOk};
+ghost use Rattle.std.specs.Prelude.{◌≡◌, ◌++◌, [], Contains, IfOk};
 ghost use Rattle.cg_pieces.specs.Cells.{pieces_of};
 ghost use Rattle.cg_pieces.specs.Moving.{piece_at};
 ghost use Rattle.cg_pieces.specs.Neighbours.{cell_game};
@@ -36,6 +36,30 @@ fn with_piece<N: NeighbourRules>(
     Ok(boards)
 }
 
+/// The pieces of the board, as [`pieces`] lists them, in the room of these boards, of which there are none.
+pub fn pieces_into<N: NeighbourRules>(
+    rules: &N,
+    board: &Board,
+    room: Vec<Board>,
+) -> Result<Vec<Board>, AllocError>
+    requires blank { Contains board.now.symbols (N.neighbours rules.now).blank }
+    requires room { room.items ≡ [] }
+    ensures { IfOk result (λ boards. boards.items ≡ pieces_of (cell_game (N.neighbours rules.now)) board.now) }
+{
+    let places = places_of(rules, board);
+    let field = field_of(rules, board, &places);
+    let moving = moving_cells(rules, board, field, &places);
+    let mut found = room;
+    let mut left = field.cells;
+    while left & moving != 0 {
+        let cell = left.trailing_zeros() as u8;
+        let set = field.joined(cell);
+        found = with_piece(rules, board, moving, set, cell, found)?;
+        left &= !set;
+    }
+    Ok(found)
+}
+
 /// The pieces of the board: for each joined set of cells that form pieces in which some player has a move, the board of the
 /// rows and columns that bound it, with all other cells blank. They stand in the order of their first cells.
 pub fn pieces<N: NeighbourRules>(
@@ -46,16 +70,6 @@ pub fn pieces<N: NeighbourRules>(
     requires { Contains board.now.symbols (N.neighbours rules.now).blank }
     ensures { IfOk result (λ boards. boards ≡ pieces_of (cell_game (N.neighbours rules.now)) board.now) }
 {
-    let places = places_of(rules, board);
-    let field = field_of(rules, board, &places);
-    let moving = moving_cells(rules, board, field, &places);
-    let mut boards = Vec::new(alloc);
-    let mut left = field.cells;
-    while left & moving != 0 {
-        let cell = left.trailing_zeros() as u8;
-        let set = field.joined(cell);
-        boards = with_piece(rules, board, moving, set, cell, boards)?;
-        left &= !set;
-    }
+    let boards = pieces_into(rules, board, Vec::new(alloc))?;
     Ok(Boards::of(boards))
 }

@@ -9,5 +9,5 @@ mod moving;
 mod places;
 mod rules;
 
-pub use cutting::pieces;
+pub use cutting::{pieces, pieces_into};
 pub use rules::NeighbourRules;

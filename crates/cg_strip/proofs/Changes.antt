@@ -1,5 +1,5 @@
 -- What the rules of strip games, and toads and frogs, write on boards.
-use Rattle.std.proofs.Common.{◌≡◌, ℕ, zero, suc, ◌==◌, inl, inr, true, List, [], ◌∷◌, get_or, length, refl, ap, sym, subst, ◌∙◌, arith, eqb-true}
+use Rattle.std.proofs.Common.{◌≡◌, ℕ, zero, suc, ◌==◌, inl, inr, true, List, [], ◌∷◌, get_or, length, refl, sym, subst, arith, eqb-true}
 use Rattle.std.specs.Prelude.{All, Contains}
 use Rattle.std.specs.List.{list_all, AllByRecursion}
 use Rattle.std.specs.Str.{bytes_eq}
@@ -64,11 +64,14 @@ is_toad = (1, omega arith, refl)
 is_frog : Contains symbols frog
 is_frog = (2, omega arith, refl)
 
+pub symbols_are : (p : Grid) → toads_game.has p ≡ true → p.symbols ≡ symbols
+symbols_are p has = (bytes_decides p.symbols symbols).0 (and_parts (p.rows == 1) (bytes_eq p.symbols symbols) has).1
+
 -- a change to these symbols
 change : (p : Grid) (old new : List ℕ) → toads_game.has p ≡ true → length old ≡ length new
     → AllByRecursion (Contains symbols) old → AllByRecursion (Contains symbols) new → IsChange p.symbols old new
 change p old new has even before after =
-    let s : p.symbols ≡ symbols = (bytes_decides p.symbols symbols).0 (and_parts (p.rows == 1) (bytes_eq p.symbols symbols) has).1 in
+    let s = symbols_are p has in
     let Q : List ℕ → List ℕ → Type 0 = λ cells z. AreCells z cells in
     record {
       even = even;

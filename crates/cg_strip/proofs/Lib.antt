@@ -14,3 +14,4 @@ pub mod BoardLemmas
 pub mod Written
 pub mod Changes
 pub mod Standing
+pub mod HopLemmas

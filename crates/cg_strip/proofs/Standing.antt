@@ -15,13 +15,13 @@ use Rattle.cg_strip.specs.Placing.{placed_at, placed_below, stands_at, written}
 
 -- ---- one symbol more
 
-either_way : (x p : ℕ) → (nat_eq p x && true) ≡ (x == p)
+pub either_way : (x p : ℕ) → (nat_eq p x && true) ≡ (x == p)
 either_way x p = elim (eqb_tells x p) [
   | inl h ↦ grind (arith, h.0, h.1)
   | inr h ↦ grind (arith, h.0, h.1)
 ]
 
-apart : (p : ℕ) → 0 < p → (0 == p) ≡ false
+pub apart : (p : ℕ) → 0 < p → (0 == p) ≡ false
 apart p some = elim (eqb_tells 0 p) [ inl h ↦ absurd (omega (arith, h.1)) | inr h ↦ h.0 ]
 
 and_assoc : (a b c : Bool) → (a && (b && c)) ≡ ((a && b) && c)

@@ -12,6 +12,8 @@ pub mod Toads
 pub mod Laws
 pub mod Boards
 pub mod ToadsBoards
+-- what private contracts cite
+pub mod Hops
 -- proofs that the traits of games want here
 pub mod PlacingLemmas
 pub mod LoweringSteps

@@ -2,6 +2,7 @@
 #![tactic(auto)]
 
 mod faults;
+mod hopping;
 mod items;
 pub mod laws;
 mod moves;

@@ -3,7 +3,7 @@ ghost use Rattle.std.specs.Prelude.{◌≡◌};
 
 use crate::placing::boards_of;
 use crate::strip::Strip;
-use cg_moves::{Board, Boards, Pieces, Player, Rules, in_order};
+use cg_moves::{Board, Boards, Pieces, Player, Rules, risen};
 use std::alloc::{AllocError, Global};
 
 impl Rules for Strip {
@@ -16,7 +16,7 @@ impl Rules for Strip {
 
     fn moves(&self, alloc: Global, board: &Board, player: Player) -> Result<Boards, AllocError> {
         let boards = boards_of(alloc, board, self.rules(), player)?;
-        in_order(alloc, board, &boards)
+        risen(alloc, board, boards)
     }
 
     fn pieces(&self, _alloc: Global, _board: &Board) -> Result<Pieces, AllocError> {

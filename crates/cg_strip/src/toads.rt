@@ -1,36 +1,14 @@
 //! Toads and Frogs.
-ghost use Rattle.std.specs.Prelude.{◌≡◌, map, true, IfOk, IfErr};
-ghost use Rattle.cg_moves.specs.Grid.{with_cells};
-ghost use Rattle.cg_strip.specs.Toads.{hops, toads_game};
+ghost use Rattle.std.specs.Prelude.{IfOk, IfErr};
 ghost use Rattle.cg_strip.specs.ToadsBoards.{IsToadsBoard, IsNoToadsBoard};
 
-use crate::placing::place_all;
-use cg_moves::{Board, BoardFault, Boards, Pieces, Player, Rules, in_order, read_grid};
+use crate::hopping::hops;
+use cg_moves::{Board, BoardFault, Boards, Pieces, Player, Rules, read_grid, risen};
 use std::alloc::{AllocError, Global};
 
 /// Toads and Frogs: toads, which are Left's, step and jump to the right, and frogs, which are Right's, to the left.
 #[derive(Clone, Copy, Debug, PartialEq, Eq)]
 pub struct Toads;
-
-/// The boards after the player's moves, steps first.
-fn hops(alloc: Global, board: &Board, player: Player) -> Result<Vec<Board>, AllocError>
-    requires { toads_game.has board.now ≡ true }
-    ensures { IfOk result (λ boards. boards.items ≡
-        map (with_cells board.now) (hops player board.now.cells)) }
-{
-    let mut boards = Vec::new(alloc);
-    match player {
-        Player::Left => {
-            place_all(alloc, board, b"T.", b".T", &mut boards)?;
-            place_all(alloc, board, b"TF.", b".FT", &mut boards)?;
-        }
-        Player::Right => {
-            place_all(alloc, board, b".F", b"F.", &mut boards)?;
-            place_all(alloc, board, b".TF", b"FT.", &mut boards)?;
-        }
-    }
-    Ok(boards)
-}
 
 impl Rules for Toads {
     ghost use Rattle.cg_strip.specs.Toads.{toads_game};
@@ -42,7 +20,7 @@ impl Rules for Toads {
 
     fn moves(&self, alloc: Global, board: &Board, player: Player) -> Result<Boards, AllocError> {
         let boards = hops(alloc, board, player)?;
-        in_order(alloc, board, &boards)
+        risen(alloc, board, boards)
     }
 
     fn pieces(&self, _alloc: Global, _board: &Board) -> Result<Pieces, AllocError> {

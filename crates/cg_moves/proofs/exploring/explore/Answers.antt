@@ -1,8 +1,10 @@
-use Rattle.std.proofs.Common.{List, ap, subst, sym, arith}
+use Rattle.std.proofs.Common.{List, ◌++◌, ◌<◌, length, ap, subst, sym, arith}
 use Rattle.std.specs.Prelude.{Err}
 use Rattle.std.proofs.lemmas.Result.{err_from_is_err_and}
-use Rattle.cg_moves.specs.Explored.{IsExplored, Way, board_at}
+use Rattle.cg_moves.specs.Explored.{IsExplored, Numbers, Way, board_at}
+use Rattle.cg_moves.specs.Found.{AreAlike}
 use Rattle.cg_moves.specs.Grid.{Grid}
+use Rattle.cg_moves.specs.Kept.{kept}
 use Rattle.cg_moves.proofs.Bounds.{follower-has}
 use Rattle.cg_moves.proofs.ExploreLemmas.{exploring-alike, exploring-begun, exploring-done, exploring-has, exploring-more, exploring-refused, starts-alike, starts-refused}
 use Rattle.cg_moves.proofs.NumberLemmas.{passed_on}
@@ -12,27 +14,32 @@ use Rattle.cg_moves.proofs.exploring.explore.Goals as goal
 pub number_all-requires-clause-alike : goal.number_all-requires-clause-alike
 number_all-requires-clause-alike g c =
     let r = g.R.Rules.game c.args.rules.now in
-    starts-alike (record { game = r; course = c.args.course; starts = c.args.starts.items })
+    let P : List Grid → Type 0 = λ z. AreAlike (c.new-found.result ++ z) in
+    subst P (sym c.deref.ensures.value) (starts-alike (record { game = r; course = c.args.course; starts = c.args.starts.items })
     (plays r (g.met.R.Rules.lawful c.args.rules.now) c.args.course c.requires.may) c.requires.starts c.args.limit
-    c.new-found.result c.new-found.ensures
+    c.new-found.result c.new-found.ensures)
 
 pub returns-in_err-number_all-clause-refused : goal.returns-in_err-number_all-clause-refused
 returns-in_err-number_all-clause-refused g c =
     let p = err_from_is_err_and c.from_residual.result c.from_residual.ensures.1 in λ e.
     let r = g.R.Rules.game c.args.rules.now in
+    let P : List Grid → Type 0 = λ z. c.args.limit < length (kept c.new-found.result z) in
     starts-refused (record { game = r; course = c.args.course; starts = c.args.starts.items })
     (plays r (g.met.R.Rules.lawful c.args.rules.now) c.args.course c.requires.may) c.requires.starts c.args.limit
-    c.new-found.result c.new-found.ensures (c.in_err-number_all.ensures.refused (ap Err (passed_on p.0
-    c.in_err-number_all.field-0.0 c.from_residual.result p.1 p.2 e)))
+    c.new-found.result c.new-found.ensures (subst P c.deref.ensures.value (c.in_err-number_all.ensures.refused
+    (ap Err (passed_on p.0 c.in_err-number_all.field-0.0 c.from_residual.result p.1 p.2 e))))
 
 pub boards-init : goal.boards-init
 boards-init g c =
     let r = g.R.Rules.game c.args.rules.now in
+    let P : List Grid → Type 0 = λ z. Numbers c.args.limit c.new-found.result c.number_all.new.found c.new-places.result.items
+    c.number_all.new.places.items z in
     record {
       exploring = exploring-begun (record { game = r; course = c.args.course; starts = c.args.starts.items })
           (plays r (g.met.R.Rules.lawful c.args.rules.now) c.args.course c.requires.may) c.requires.starts c.args.limit
           c.new-found.result c.number_all.new.found c.new-places.result.items c.number_all.new.places.items c.new-next.result.items
-          c.new-found.ensures c.new-places.ensures.items c.new-next.ensures.items c.in_ok-number_all.ensures.numbers c.requires.alone;
+          c.new-found.ensures c.new-places.ensures.items c.new-next.ensures.items
+          (subst P c.deref.ensures.value c.in_ok-number_all.ensures.numbers) c.requires.alone;
     }
 
 pub next_after-requires-clause-has : goal.next_after-requires-clause-has

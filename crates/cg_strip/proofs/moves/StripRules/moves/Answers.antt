@@ -1,4 +1,4 @@
-use Rattle.std.proofs.Common.{ap, map, ◌∙◌}
+use Rattle.std.proofs.Common.{refl, ap, map, ◌∙◌}
 use Rattle.std.specs.List.{flat_map}
 use Rattle.cg_moves.specs.Grid.{with_cells}
 use Rattle.cg_moves.proofs.Carried.{ok_along}
@@ -11,16 +11,16 @@ pub boards_of-requires : goal.boards_of-requires
 boards_of-requires c =
     rules_over c.args.self.now c.args.board.now c.rules.result.now c.rules.ensures.value c.rules.ensures.sound c.requires
 
-pub in_order-requires : goal.in_order-requires
-in_order-requires c =
-    all_like c.args.board.now _ c.in_ok-boards.boards.items c.deref.result.now c.deref.ensures.value c.in_ok-boards.ensures
+pub risen-requires : goal.risen-requires
+risen-requires c =
+    all_like c.args.board.now _ c.in_ok-boards.boards.items c.in_ok-boards.boards.items refl c.in_ok-boards.ensures
 
 pub returns : goal.returns
 returns c =
     let each = placements c.args.player c.args.board.now.cells in
     let made = c.in_ok-boards.ensures
     ∙ ap (λ rules. map (with_cells c.args.board.now) (flat_map each rules)) c.rules.ensures.value in
-    ok_along c.in_order.result _ _
-    (in_their_order c.args.board.now (flat_map each c.args.self.now.rules) c.in_ok-boards.boards.items c.deref.result.now
-    c.deref.ensures.value made)
-    c.in_order.ensures
+    ok_along c.risen.result _ _
+    (in_their_order c.args.board.now (flat_map each c.args.self.now.rules) c.in_ok-boards.boards.items c.in_ok-boards.boards.items
+    refl made)
+    c.risen.ensures
