@@ -1,5 +1,5 @@
 -- What a book keeps, as its store and its pages grow.
-use Rattle.std.proofs.Common.{◌≡◌, refl, ℕ, zero, suc, ◌+◌, ◌-◌, ◌<◌, ◌≤◌, arith, ap, sym, ◌∙◌, subst, inl, inr, Bool, Option, Some, None, List, [], ◌∷◌, ◌++◌, length, length-append, take, get_or}
+use Rattle.std.proofs.Common.{◌≡◌, refl, ℕ, zero, suc, ◌+◌, ◌-◌, ◌<◌, ◌≤◌, arith, ap, sym, ◌∙◌, subst, inl, inr, Bool, false, IsSome, is_some, Option, Some, None, List, [], ◌∷◌, ◌++◌, length, length-append, take, get_or}
 use Rattle.std.specs.Prelude.{◌==◌, if◌then◌else◌}
 use Rattle.std.proofs.lemmas.Bool.Decides.{eqb_tells}
 use Rattle.std.proofs.lemmas.List.{get_or_append_left, get_or-append_right, append_assoc, append-nil}
@@ -267,6 +267,9 @@ handled_next s b hs more ps i handle h d less has e =
     }
 
 -- ---- the outline of a list of pages
+
+pub not_none : {A : Type 0} (o : Option A) (b : Bool) → IsSome o → b ≡ is_some o → b ≡ false → ⊥
+not_none o b h e f = cc
 
 pub outline_next : (gs : List Game) (left : Bool) (ps : List ℕ) (i : ℕ) (o q : Outline) (p : Profile) → i < length ps
     → IsOutline left (games_of gs (take i ps)) o → IsProfile (game_of gs (get_or ps i 0)) p
