@@ -10,3 +10,4 @@ pub mod Translated
 pub mod FormTables
 pub mod DistinctSteps
 pub mod Booking
+pub mod Turning

@@ -40,6 +40,7 @@ pub(crate) fn profile_between(
 {
     let low = outline_of(pages, true, lefts)?;
     let high = outline_of(pages, false, rights)?;
+    prove!(low.cut.is_some());
     Profile::between(&low, &high)
 }
 

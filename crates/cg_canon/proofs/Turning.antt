@@ -1,0 +1,102 @@
+-- Pages of the games of lists, one game after the other.
+use Rattle.std.proofs.Common.{◌≡◌, refl, ℕ, zero, suc, ◌+◌, ◌<◌, ◌≤◌, arith, ap, sym, ◌∙◌, subst, Option, Some, None, List, [], ◌∷◌, ◌++◌, length, take, get_or, All}
+use Rattle.std.proofs.lemmas.List.Elements.{All-push}
+use Rattle.cg_form.specs.Canonical.{Canonical}
+use Rattle.cg_form.specs.Game.{Game, node}
+use Rattle.cg_form.specs.Simple.{NoNumber}
+use Rattle.cg_form.specs.Size.{list_size}
+use Rattle.cg_form.proofs.Best.{append_nil, append_one}
+use Rattle.cg_cells.specs.Store.{Spends, State}
+use Rattle.cg_nodes.specs.declared.reading.Split.{Split}
+use Rattle.cg_nodes.specs.Games.{AreGames, IsGame, IsHead, IsList, game_at, games_at, listed}
+use Rattle.cg_nodes.specs.Meant.{Meant}
+use Rattle.cg_nodes.proofs.Later.{game_later, is_game_later, is_list_later, listed_later, nothing_spent, spends_then}
+use Rattle.cg_book.specs.Pages.{ArePages, IsPage, StandFor, game_of, games_of}
+use Rattle.cg_canon.specs.declared.book.Book.{Book}
+use Rattle.cg_canon.specs.Books.{Begins, BookHolds}
+use Rattle.cg_canon.proofs.Booking.{begins_none, begins_then, book_later, games_begin, pages_begin, stand_begins}
+
+-- ---- a page more
+
+games_pushed : (gs : List Game) (ps : List ℕ) (p : ℕ) → games_of gs (ps ++ (p ∷ [])) ≡ games_of gs ps ++ (game_of gs p ∷ [])
+games_pushed gs [] p = refl
+games_pushed gs (q ∷ ps) p = ap (λ z. game_of gs q ∷ z) (games_pushed gs ps p)
+
+pub stand_pushed : (gs : List Game) (ps more : List ℕ) (p : ℕ) (hs : List Game) (g : Game) → StandFor gs ps hs → IsPage gs p
+    → game_of gs p ≡ g → more ≡ ps ++ (p ∷ []) → StandFor gs more (hs ++ (g ∷ []))
+stand_pushed gs ps more p hs g h is e m =
+    let P : List ℕ → Type 0 = λ z. ArePages gs z in
+    (subst P (sym m) (All-push (IsPage gs) ps p h.0 is),
+    ap (games_of gs) m ∙ games_pushed gs ps p ∙ ap (λ z. z ++ (game_of gs p ∷ [])) h.1 ∙ ap (λ z. hs ++ (z ∷ [])) e)
+
+stand_none : (gs : List Game) → StandFor gs [] []
+stand_none gs = ((λ k d h. absurd (omega arith)), refl)
+
+-- ---- over a list in cells: what is done, and the rest
+
+pub record Done {R : Type 0} (s t : State Meant R) (list rest : Option ℕ) : Type 0 where
+  pub spends : Spends 0 s t
+  pub left : IsList t rest
+  pub size : list_size (listed t rest) ≤ list_size (listed s list)
+  pub games : List Game
+  pub all : games ++ listed t rest ≡ listed s list
+
+unfoldable done_none : {R : Type 0} (s : State Meant R) (list : Option ℕ) → IsList s list → Done s s list list
+done_none s list l = record { spends = nothing_spent s; left = l; size = omega arith; games = []; all = refl }
+
+-- t before the first is read, u after, and v after it was worked on
+unfoldable done_more : {R : Type 0} (s t u v : State Meant R) (list rest : Option ℕ) (top : Split) → Done s t list rest
+    → Spends 0 t u → IsHead u (Some top) (listed t rest) → Spends 0 u v → Done s v list top.rest
+done_more s t u v list rest top h a i b =
+    let same : listed v top.rest ≡ listed u top.rest = listed_later u v b.known top.rest i.1 in
+    let n = ap list_size (i.2) in
+    let m = ap list_size same in
+    let k = h.size in
+    record {
+      spends = spends_then 0 0 s u v (spends_then 0 0 s t u h.spends a) b;
+      left = is_list_later u v b.known top.rest i.1;
+      size = omega arith;
+      games = h.games ++ game_at u top.first ∷ [];
+      all =
+          ap (λ z. (h.games ++ game_at u top.first ∷ []) ++ z) same
+          ∙ append_one h.games (listed u top.rest) (game_at u top.first)
+          ∙ ap (λ z. h.games ++ z) (sym i.2) ∙ h.all;
+    }
+
+done_all : {R : Type 0} (s t u : State Meant R) (list rest : Option ℕ) (o : Option Split) (h : Done s t list rest)
+    → IsHead u o (listed t rest) → ((top : Split) → o ≡ Some top → ⊥) → h.games ≡ listed s list
+done_all s t u list rest None h i n = sym (append_nil h.games) ∙ ap (λ z. h.games ++ z) (sym i) ∙ h.all
+done_all s t u list rest (Some top) h i n = absurd (n top refl)
+
+-- the pages of the games so far; the book was a before and is b
+pub record Paged {R : Type 0} (s t : State Meant R) (a b : Book) (list rest : Option ℕ) (ps : List ℕ) : Type 0 where
+  pub done : Done s t list rest
+  pub holds : BookHolds t b
+  pub begins : Begins a.pages b.pages
+  pub pages : StandFor b.pages ps done.games
+
+pub paged_none : {R : Type 0} (s : State Meant R) (a : Book) (list : Option ℕ) (ps : List ℕ) → BookHolds s a → IsList s list → ps ≡ []
+    → Paged s s a a list list ps
+unfolding done_none
+paged_none s a list ps h l e =
+    let P : List ℕ → Type 0 = λ z. StandFor a.pages z [] in
+    record { done = done_none s list l; holds = h; begins = begins_none a.pages; pages = subst P (sym e) (stand_none a.pages) }
+
+pub paged_more : {R : Type 0} (s t u v : State Meant R) (a b c : Book) (list rest : Option ℕ) (top : Split) (ps more : List ℕ) (page : ℕ)
+    → Paged s t a b list rest ps → Spends 0 t u → IsHead u (Some top) (listed t rest) → Spends 0 u v → BookHolds v c
+    → Begins b.pages c.pages → IsPage c.pages page × (game_of c.pages page ≡ game_at u top.first) → more ≡ ps ++ (page ∷ [])
+    → Paged s v a c list top.rest more
+unfolding done_more
+paged_more s t u v a b c list rest top ps more page h x i y holds begins is e = record {
+  done = done_more s t u v list rest top h.done x i y;
+  holds = holds;
+  begins = begins_then a.pages b.pages c.pages h.begins begins;
+  pages = stand_pushed c.pages ps more page h.done.games (game_at u top.first) (stand_begins b.pages c.pages ps h.done.games begins h.pages) is.0 is.1 e;
+}
+
+pub paged_all : {R : Type 0} (s t u : State Meant R) (a b : Book) (list rest : Option ℕ) (ps : List ℕ) (o : Option Split)
+    → Paged s t a b list rest ps → IsHead u o (listed t rest) → ((top : Split) → o ≡ Some top → ⊥)
+    → StandFor b.pages ps (listed s list)
+paged_all s t u a b list rest ps o h i n =
+    let P : List Game → Type 0 = λ z. StandFor b.pages ps z in
+    subst P (done_all s t u list rest o h.done i n) h.pages
