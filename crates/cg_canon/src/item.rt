@@ -46,31 +46,34 @@ fn charge_form<B: BoardForms, S: CellStore<GameFacts<B>>>(
     work.charge(profile.cost + extra)
 }
 
-/// Makes the item of the canonical game of this form, with a cost of `extra` more.
+/// Makes the item of the canonical game with these options and this profile, with a cost of `extra` more.
 fn game_item<B: BoardForms, S: CellStore<GameFacts<B>>>(
     work: &mut Work<B, S>,
-    form: &ListedForm,
+    lefts: &[Handle],
+    rights: &[Handle],
+    profile: &Profile,
     extra: u64,
 ) -> Result<Handle, ValueFault>
     requires extra { extra ≤ 8 }
-    requires form { let W = work_state S.state work.old in
-        IsListed W (node (games_at W form.now.lefts.items) (games_at W form.now.rights.items)) form.now }
-    requires canonical { let W = work_state S.state work.old in
-        Canonical (node (games_at W form.now.lefts.items) (games_at W form.now.rights.items)) }
-    ensures game { let W = work_state S.state work.old in IfOk result (λ h.
-        StandsFor (work_state S.state work.new) h (node (games_at W form.now.lefts.items) (games_at W form.now.rights.items))) }
+    requires lefts { AreGames (work_state S.state work.old) lefts.now }
+    requires rights { AreGames (work_state S.state work.old) rights.now }
+    requires canonical { let W = work_state S.state work.old in Canonical (node (games_at W lefts.now) (games_at W rights.now)) }
+    requires profile { let W = work_state S.state work.old in
+        IsProfile (node (games_at W lefts.now) (games_at W rights.now)) profile.now }
+    ensures game { let W = work_state S.state work.old in
+        IfOk result (λ h. StandsFor (work_state S.state work.new) h (node (games_at W lefts.now) (games_at W rights.now))) }
     ensures charged { let W = work_state S.state work.old in OnOk result (AllPass work.old.share work.old.spent
-        (made (node (games_at W form.now.lefts.items) (games_at W form.now.rights.items)) extra ∷ []) work.new.spent) }
+        (made (node (games_at W lefts.now) (games_at W rights.now)) extra ∷ []) work.new.spent) }
     ensures refused { let W = work_state S.state work.old in IfErr result (λ fault.
         WasRefused fault work.old.share work.old.spent
-        (made (node (games_at W form.now.lefts.items) (games_at W form.now.rights.items)) extra ∷ []) work.new.spent) }
+        (made (node (games_at W lefts.now) (games_at W rights.now)) extra ∷ []) work.new.spent) }
     ensures same { OnErr result (work.new ≡ work.old) }
     ensures spare { OnOk result ((work_state S.state work.new).spare ≡ (work_state S.state work.old).spare + extra) }
     ensures keeps { Keeps (work_state S.state work.old) (work_state S.state work.new) }
 {
-    charge_form(work, &form.new.profile, extra)?;
-    let left_list = list(work, form.lefts.as_slice());
-    let right_list = list(work, form.rights.as_slice());
+    charge_form(work, profile, extra)?;
+    let left_list = list(work, lefts);
+    let right_list = list(work, rights);
     Ok(game(work, left_list, right_list))
 }
 
@@ -96,7 +99,9 @@ pub(crate) fn listed_item<B: BoardForms, S: CellStore<GameFacts<B>>>(
     ensures spare { OnOk result ((work_state S.state work.new).spare ≡ (work_state S.state work.old).spare + extra) }
     ensures keeps { Keeps (work_state S.state work.old) (work_state S.state work.new) }
 {
-    let handle = game_item(work, form, extra)?;
+    let lefts = form.lefts.as_slice();
+    let rights = form.rights.as_slice();
+    let handle = game_item(work, lefts, rights, &form.new.profile, extra)?;
     work.enter(handle, form);
     Ok(handle)
 }

@@ -1,15 +1,18 @@
 use Rattle.std.proofs.Common.{◌≡◌, ℕ, sym, ◌∙◌, subst}
+use Rattle.cg_canon.specs.declared.book.Book.{Book}
 use Rattle.cg_canon.specs.Added.{IsKnownSum}
+use Rattle.cg_canon.specs.Books.{BookHolds}
 use Rattle.cg_canon.specs.Works.{WorkOf}
-use Rattle.cg_canon.proofs.Holding.{holds_same, holds_sum}
+use Rattle.cg_canon.proofs.Holding.{holds_book, holds_sum}
 use Rattle.cg_canon.proofs.work.Work.keep_added.Goals as goal
 
 pub invariant_of-self : goal.invariant_of-self
-invariant_of-self g c = (
-  holds_same (g.S.CellStore.state c.self.inside.store.now) c.self.inside.spent c.self.inside.share c.self.inside.start c.self.inside.memo c.keep_added.new.self
-      c.self.invariant.0 c.in_err-keep_added.ensures.answers c.in_err-keep_added.ensures.profiles c.in_err-keep_added.ensures.err,
-  c.self.invariant.1,
-)
+invariant_of-self g c =
+    let P : Book → Type 0 = λ z. BookHolds (g.S.CellStore.state c.self.inside.store.now) z in (
+      holds_book (g.S.CellStore.state c.self.inside.store.now) c.self.inside.spent c.self.inside.share c.self.inside.start c.self.inside.memo c.keep_added.new.self
+          c.self.invariant.0 (subst P (sym c.in_err-keep_added.ensures.book) c.self.invariant.0.book) c.in_err-keep_added.ensures.err,
+      c.self.invariant.1,
+    )
 
 pub invariant_of-self-2 : goal.invariant_of-self-2
 invariant_of-self-2 g c =
@@ -21,6 +24,6 @@ invariant_of-self-2 g c =
     let k = subst (λ i. Q i c.number-2.result) (sym first) (subst (λ j. Q c.args.a j) (sym second) h) in (
       holds_sum (g.S.CellStore.state c.self.inside.store.now) c.self.inside.spent c.self.inside.share c.self.inside.start c.self.inside.memo c.keep_added.new.self
           c.number.result c.number-2.result c.args.known
-          c.self.invariant.0 c.in_ok-keep_added.ensures.ok c.in_ok-keep_added.ensures.answers c.in_ok-keep_added.ensures.profiles k,
+          c.self.invariant.0 c.in_ok-keep_added.ensures.ok c.in_ok-keep_added.ensures.book k,
       c.self.invariant.1,
     )
