@@ -11,3 +11,4 @@ pub mod FormTables
 pub mod DistinctSteps
 pub mod Booking
 pub mod Turning
+pub mod Valuing
