@@ -100,3 +100,24 @@ pub paged_all : {R : Type 0} (s t u : State Meant R) (a b : Book) (list rest : O
 paged_all s t u a b list rest ps o h i n =
     let P : List Game → Type 0 = λ z. StandFor b.pages ps z in
     subst P (done_all s t u list rest o h.done i n) h.pages
+
+-- ---- a game with the pages of both its lists
+
+-- the handle's game has the options of these pages
+pub record HasOptions {R : Type 0} (s : State Meant R) (handle : ℕ) (hs : List Game) (xs ys : List ℕ) : Type 0 where
+  pub is : game_at s handle ≡ node (games_of hs xs) (games_of hs ys)
+  pub no_number : NoNumber (node (games_of hs xs) (games_of hs ys))
+
+-- s before the game is read, t after, u with the pages of its Left options, and v with those of its Right ones too
+pub has_options : {R : Type 0} (s t u v : State Meant R) (handle : ℕ) (ls rs : Option ℕ) (gs hs : List Game) (ps qs xs ys : List ℕ)
+    → IsGame s handle → Spends 0 s t → Spends 0 t u → Spends 0 u v → IsList t rs
+    → game_at s handle ≡ node (listed t ls) (listed t rs) → Canonical (game_at s handle) → StandFor gs ps (listed t ls)
+    → Begins gs hs → StandFor hs qs (listed u rs) → xs ≡ ps → ys ≡ qs → HasOptions v handle hs xs ys
+has_options s t u v handle ls rs gs hs ps qs xs ys game a b c right e canonical l begins r x y =
+    let low : games_of hs xs ≡ listed t ls = ap (games_of hs) x ∙ (stand_begins gs hs ps (listed t ls) begins l).1 in
+    let high : games_of hs ys ≡ listed t rs = ap (games_of hs) y ∙ r.1 ∙ listed_later t u b.known rs right in
+    let all = spends_then 0 0 s u v (spends_then 0 0 s t u a b) c in
+    let same : game_at s handle ≡ node (games_of hs xs) (games_of hs ys) =
+    e ∙ ap (λ z. node z (listed t rs)) (sym low) ∙ ap (λ z. node (games_of hs xs) z) (sym high) in
+    let P : Game → Type 0 = λ z. Canonical z in
+    record { is = game_later s v all.known handle game ∙ same; no_number = (subst P same canonical).0.no_number }
