@@ -1,5 +1,5 @@
 -- Pages of the games of lists, one game after the other.
-use Rattle.std.proofs.Common.{◌≡◌, refl, ℕ, zero, suc, ◌+◌, ◌<◌, ◌≤◌, arith, ap, sym, ◌∙◌, subst, Option, Some, None, List, [], ◌∷◌, ◌++◌, length, take, get_or, All}
+use Rattle.std.proofs.Common.{◌≡◌, refl, ℕ, zero, suc, ◌+◌, ◌<◌, ◌≤◌, arith, ap, sym, ◌∙◌, subst, Option, Some, None, List, [], ◌∷◌, ◌++◌, length, take, get_or}
 use Rattle.std.proofs.lemmas.List.Elements.{All-push}
 use Rattle.cg_form.specs.Canonical.{Canonical}
 use Rattle.cg_form.specs.Game.{Game, node}
@@ -14,7 +14,7 @@ use Rattle.cg_nodes.proofs.Later.{game_later, is_game_later, is_list_later, list
 use Rattle.cg_book.specs.Pages.{ArePages, IsPage, StandFor, game_of, games_of}
 use Rattle.cg_canon.specs.declared.book.Book.{Book}
 use Rattle.cg_canon.specs.Books.{Begins, BookHolds}
-use Rattle.cg_canon.proofs.Booking.{begins_none, begins_then, book_later, games_begin, pages_begin, stand_begins}
+use Rattle.cg_canon.proofs.Booking.{begins_none, begins_then, stand_begins}
 
 -- ---- a page more
 
@@ -25,9 +25,10 @@ games_pushed gs (q ∷ ps) p = ap (λ z. game_of gs q ∷ z) (games_pushed gs ps
 pub stand_pushed : (gs : List Game) (ps more : List ℕ) (p : ℕ) (hs : List Game) (g : Game) → StandFor gs ps hs → IsPage gs p
     → game_of gs p ≡ g → more ≡ ps ++ (p ∷ []) → StandFor gs more (hs ++ (g ∷ []))
 stand_pushed gs ps more p hs g h is e m =
-    let P : List ℕ → Type 0 = λ z. ArePages gs z in
-    (subst P (sym m) (All-push (IsPage gs) ps p h.0 is),
-    ap (games_of gs) m ∙ games_pushed gs ps p ∙ ap (λ z. z ++ (game_of gs p ∷ [])) h.1 ∙ ap (λ z. hs ++ (z ∷ [])) e)
+    let P : List ℕ → Type 0 = λ z. ArePages gs z in (
+      subst P (sym m) (All-push (IsPage gs) ps p h.0 is),
+      ap (games_of gs) m ∙ games_pushed gs ps p ∙ ap (λ z. z ++ (game_of gs p ∷ [])) h.1 ∙ ap (λ z. hs ++ (z ∷ [])) e,
+    )
 
 stand_none : (gs : List Game) → StandFor gs [] []
 stand_none gs = ((λ k d h. absurd (omega arith)), refl)
