@@ -1,5 +1,5 @@
 -- What a book keeps, as its store and its pages grow.
-use Rattle.std.proofs.Common.{◌≡◌, refl, ℕ, zero, suc, ◌+◌, ◌-◌, ◌<◌, ◌≤◌, arith, ap, sym, ◌∙◌, subst, inl, inr, Bool, false, IsSome, is_some, Option, Some, None, List, [], ◌∷◌, ◌++◌, length, length-append, take, get_or}
+use Rattle.std.proofs.Common.{◌≡◌, refl, ℕ, suc, ◌+◌, ◌-◌, ◌<◌, ◌≤◌, arith, ap, sym, ◌∙◌, subst, inl, inr, Bool, false, IsSome, is_some, Option, Some, None, List, [], ◌∷◌, ◌++◌, length, length-append, take, get_or}
 use Rattle.std.specs.Prelude.{◌==◌, if◌then◌else◌}
 use Rattle.std.proofs.lemmas.Bool.Decides.{eqb_tells}
 use Rattle.std.proofs.lemmas.List.{get_or_append_left, get_or-append_right, append_assoc, append-nil}
@@ -15,9 +15,9 @@ use Rattle.cg_book.specs.declared.recent.Answer.{Answer}
 use Rattle.cg_book.specs.declared.recent.Recent.{Recent}
 use Rattle.cg_book.specs.Pages.{ArePages, IsPage, StandFor, game_of, games_of}
 use Rattle.cg_book.specs.Profiles.{IsOutline, IsProfile}
-use Rattle.cg_book.specs.Recents.{AreRight, IsKept, IsRight}
+use Rattle.cg_book.specs.Recents.{AreRight, IsKept}
 use Rattle.cg_book.proofs.Paging.{game_before, games_before, page_before, pages_before}
-use Rattle.cg_book.proofs.Slices.{games_take_all, games_take_suc}
+use Rattle.cg_book.proofs.Slices.{games_take_suc}
 use Rattle.cg_canon.specs.declared.book.Book.{Book}
 use Rattle.cg_canon.specs.Books.{Begins, BookHolds, HasHandle, IsNamed, handle_of, page_for}
 
@@ -226,6 +226,16 @@ holds_known {R} s b c id page h p e r f has =
           let k : (if id == other then Some page else page_for b other) ≡ page_for b other = rw t.0 refl in
           h.known other q (sym k ∙ there)
     ]
+
+-- with other answers
+pub holds_answers : {R : Type 0} (s : State Meant R) (b : Book) (r : Recent) → BookHolds s b → AreRight b.pages r
+    → BookHolds s (record b { answers = r })
+holds_answers s b r h right = record {
+  fewer = h.fewer;
+  each = λ page k. let i = h.each page k in record { game = i.game; same = i.same };
+  known = λ id page k. let i = h.known id page k in record { within = i.within; is = i.is };
+  right = right;
+}
 
 -- the page that is known for a handle
 pub known_page : {R : Type 0} (s : State Meant R) (b : Book) (handle page : ℕ) → BookHolds s b → page_for b handle ≡ Some page

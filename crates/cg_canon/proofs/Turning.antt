@@ -1,5 +1,5 @@
 -- Pages of the games of lists, one game after the other.
-use Rattle.std.proofs.Common.{◌≡◌, refl, ℕ, zero, suc, ◌+◌, ◌<◌, ◌≤◌, arith, ap, sym, ◌∙◌, subst, Option, Some, None, List, [], ◌∷◌, ◌++◌, length, take, get_or, All}
+use Rattle.std.proofs.Common.{◌≡◌, refl, ℕ, zero, suc, ◌+◌, ◌<◌, ◌≤◌, arith, ap, sym, ◌∙◌, subst, Option, Some, None, List, [], ◌∷◌, ◌++◌, length, take, get_or}
 use Rattle.std.proofs.lemmas.List.Elements.{All-push}
 use Rattle.cg_form.specs.Canonical.{Canonical}
 use Rattle.cg_form.specs.Game.{Game, node}
@@ -14,7 +14,7 @@ use Rattle.cg_nodes.proofs.Later.{game_later, is_game_later, is_list_later, list
 use Rattle.cg_book.specs.Pages.{ArePages, IsPage, StandFor, game_of, games_of}
 use Rattle.cg_canon.specs.declared.book.Book.{Book}
 use Rattle.cg_canon.specs.Books.{Begins, BookHolds}
-use Rattle.cg_canon.proofs.Booking.{begins_none, begins_then, book_later, games_begin, pages_begin, stand_begins}
+use Rattle.cg_canon.proofs.Booking.{begins_none, begins_then, stand_begins}
 
 -- ---- a page more
 
@@ -25,9 +25,10 @@ games_pushed gs (q ∷ ps) p = ap (λ z. game_of gs q ∷ z) (games_pushed gs ps
 pub stand_pushed : (gs : List Game) (ps more : List ℕ) (p : ℕ) (hs : List Game) (g : Game) → StandFor gs ps hs → IsPage gs p
     → game_of gs p ≡ g → more ≡ ps ++ (p ∷ []) → StandFor gs more (hs ++ (g ∷ []))
 stand_pushed gs ps more p hs g h is e m =
-    let P : List ℕ → Type 0 = λ z. ArePages gs z in
-    (subst P (sym m) (All-push (IsPage gs) ps p h.0 is),
-    ap (games_of gs) m ∙ games_pushed gs ps p ∙ ap (λ z. z ++ (game_of gs p ∷ [])) h.1 ∙ ap (λ z. hs ++ (z ∷ [])) e)
+    let P : List ℕ → Type 0 = λ z. ArePages gs z in (
+      subst P (sym m) (All-push (IsPage gs) ps p h.0 is),
+      ap (games_of gs) m ∙ games_pushed gs ps p ∙ ap (λ z. z ++ (game_of gs p ∷ [])) h.1 ∙ ap (λ z. hs ++ (z ∷ [])) e,
+    )
 
 stand_none : (gs : List Game) → StandFor gs [] []
 stand_none gs = ((λ k d h. absurd (omega arith)), refl)
@@ -100,3 +101,63 @@ pub paged_all : {R : Type 0} (s t u : State Meant R) (a b : Book) (list rest : O
 paged_all s t u a b list rest ps o h i n =
     let P : List Game → Type 0 = λ z. StandFor b.pages ps z in
     subst P (done_all s t u list rest o h.done i n) h.pages
+
+-- ---- a game with the pages of both its lists
+
+-- the handle's game has the options of these pages
+pub record HasOptions {R : Type 0} (s : State Meant R) (handle : ℕ) (hs : List Game) (xs ys : List ℕ) : Type 0 where
+  pub is : game_at s handle ≡ node (games_of hs xs) (games_of hs ys)
+  pub no_number : NoNumber (node (games_of hs xs) (games_of hs ys))
+
+-- s before the game is read, t after, u with the pages of its Left options, and v with those of its Right ones too
+pub has_options : {R : Type 0} (s t u v : State Meant R) (handle : ℕ) (ls rs : Option ℕ) (gs hs : List Game) (ps qs xs ys : List ℕ)
+    → IsGame s handle → Spends 0 s t → Spends 0 t u → Spends 0 u v → IsList t rs
+    → game_at s handle ≡ node (listed t ls) (listed t rs) → Canonical (game_at s handle) → StandFor gs ps (listed t ls)
+    → Begins gs hs → StandFor hs qs (listed u rs) → xs ≡ ps → ys ≡ qs → HasOptions v handle hs xs ys
+has_options s t u v handle ls rs gs hs ps qs xs ys game a b c right e canonical l begins r x y =
+    let low : games_of hs xs ≡ listed t ls = ap (games_of hs) x ∙ (stand_begins gs hs ps (listed t ls) begins l).1 in
+    let high : games_of hs ys ≡ listed t rs = ap (games_of hs) y ∙ r.1 ∙ listed_later t u b.known rs right in
+    let all = spends_then 0 0 s u v (spends_then 0 0 s t u a b) c in
+    let same : game_at s handle ≡ node (games_of hs xs) (games_of hs ys) =
+    e ∙ ap (λ z. node z (listed t rs)) (sym low) ∙ ap (λ z. node (games_of hs xs) z) (sym high) in
+    let P : Game → Type 0 = λ z. Canonical z in
+    record { is = game_later s v all.known handle game ∙ same; no_number = (subst P same canonical).0.no_number }
+
+-- ---- over a slice of handles
+
+handle_game : {R : Type 0} (s : State Meant R) (hs : List ℕ) (i d : ℕ) → AreGames s hs → i < length hs → IsGame s (get_or hs i d)
+handle_game s [] i d a h = absurd (omega arith)
+handle_game s (k ∷ hs) zero d a h = a.0
+handle_game s (k ∷ hs) (suc i) d a h = handle_game s hs i d a.1 (omega arith)
+
+handles_take_suc : {R : Type 0} (s : State Meant R) (hs : List ℕ) (i d : ℕ) → i < length hs
+    → games_at s (take (suc i) hs) ≡ games_at s (take i hs) ++ game_at s (get_or hs i d) ∷ []
+handles_take_suc s [] i d h = absurd (omega arith)
+handles_take_suc s (k ∷ hs) zero d h = refl
+handles_take_suc s (k ∷ hs) (suc i) d h = ap (λ z. game_at s k ∷ z) (handles_take_suc s hs i d (omega arith))
+
+-- the next handle stands for a game
+pub next_game : {R : Type 0} (s t : State Meant R) (hs : List ℕ) (i k : ℕ) → AreGames s hs → i < length hs → k ≡ get_or hs i k
+    → Spends 0 s t → IsGame t k × (game_at t k ≡ game_at s k)
+next_game s t hs i k a h e b =
+    let V : ℕ → Type 0 = λ z. IsGame s z in
+    let known : IsGame s k = subst V (sym e) (handle_game s hs i k a h) in
+    (is_game_later s t b.known k known, game_later s t b.known k known)
+
+-- the pages of the handles up to this one; the book was b before its page was found, and is c
+pub paged_next : {R : Type 0} (s t : State Meant R) (b c : Book) (hs : List ℕ) (i k : ℕ) (ps more : List ℕ) (page : ℕ) → AreGames s hs
+    → i < length hs → k ≡ get_or hs i k → Spends 0 s t → StandFor b.pages ps (games_at s (take i hs)) → Begins b.pages c.pages
+    → IsPage c.pages page × (game_of c.pages page ≡ game_at t k) → more ≡ ps ++ (page ∷ [])
+    → StandFor c.pages more (games_at s (take (i + 1) hs))
+paged_next s t b c hs i k ps more page a less at spends so_far begins is e =
+    let P : List Game → Type 0 = λ z. StandFor c.pages more z in
+    let one : i + 1 ≡ suc i = omega arith in
+    let next = next_game s t hs i k a less at spends in
+    subst P (sym (ap (λ z. games_at s (take z hs)) one ∙ handles_take_suc s hs i k less
+    ∙ ap (λ z. games_at s (take i hs) ++ (game_at s z ∷ [])) (sym at)))
+    (stand_pushed c.pages ps more page (games_at s (take i hs)) (game_at s k)
+    (stand_begins b.pages c.pages ps (games_at s (take i hs)) begins so_far) is.0 (is.1 ∙ next.1) e)
+
+pub paged_nothing : {R : Type 0} (s : State Meant R) (gs : List Game) (hs ps : List ℕ) → ps ≡ []
+    → StandFor gs ps (games_at s (take 0 hs))
+paged_nothing s gs hs ps e = let P : List ℕ → Type 0 = λ z. StandFor gs z [] in subst P (sym e) (stand_none gs)

@@ -1,5 +1,5 @@
 //! The games that a work has met, each on a page of a book.
-ghost use Rattle.std.specs.Prelude.{◌≡◌, [], ℕ, None, length, IfOk, IsTrue};
+ghost use Rattle.std.specs.Prelude.{◌≡◌, ◌≤◌, ◌↔◌, [], ℕ, None, length, IfOk, OnErr, IsTrue};
 ghost use Rattle.cg_nodes.specs.Games.{IsGame, AreGames, game_at, games_at};
 ghost use Rattle.cg_book.specs.declared.recent.Answer.{Answer as Known};
 ghost use Rattle.cg_book.specs.Pages.{IsPage, game_of, games_of};
@@ -19,11 +19,13 @@ pub(crate) type PageList = SmallVec<u32, 8>;
 /// A list of handles: up to 8 of them take no memory.
 pub(crate) type HandleList = SmallVec<Handle, 8>;
 
-/// The games that a work has met, each on a page, and the answers to comparisons of them. A page has no handle only after want
-/// of memory.
+/// The games that a work has met, each on a page, and the answers to comparisons of them. Each page has a handle, unless
+/// there was want of memory.
 #[derive(Drop)]
 pub(crate) struct Book {
+    /// The games.
     pub(crate) pages: Pages,
+    /// The answers to comparisons of them.
     pub(crate) answers: Recent,
     /// The handles of the first pages.
     handles: Vec<Handle>,
@@ -56,7 +58,8 @@ impl Book {
 
     /// The handle of the page. An error comes only after want of memory.
     pub(crate) fn handle(&self, page: u32) -> Result<Handle, AllocError>
-        ensures { IfOk result (λ h. HasHandle self.now page h) }
+        ensures handle { IfOk result (λ h. HasHandle self.now page h) }
+        ensures none { OnErr result (length self.now.handles.items ≤ page) }
     {
         let place = page as usize;
         if place < self.handles.len() {
@@ -67,7 +70,7 @@ impl Book {
 
     /// Whether each page has a handle. It has, unless there was want of memory.
     pub(crate) fn is_whole(&self) -> bool
-        ensures { IsTrue result → length self.now.handles.items ≡ length self.now.pages }
+        ensures { IsTrue result ↔ (length self.now.handles.items ≡ length self.now.pages) }
     {
         self.handles.len() == self.pages.count()
     }
