@@ -12,3 +12,4 @@ pub mod DistinctSteps
 pub mod Booking
 pub mod Turning
 pub mod Valuing
+pub mod HandleLists

@@ -14,6 +14,7 @@ use Rattle.cg_nodes.proofs.Later.{game_later, is_game_later, is_list_later, list
 use Rattle.cg_book.specs.Pages.{ArePages, IsPage, StandFor, game_of, games_of}
 use Rattle.cg_canon.specs.declared.book.Book.{Book}
 use Rattle.cg_canon.specs.Books.{Begins, BookHolds}
+use Rattle.cg_canon.proofs.HandleLists.{game_of_item, games_take_suc}
 use Rattle.cg_canon.proofs.Booking.{begins_none, begins_then, stand_begins}
 
 -- ---- a page more
@@ -125,23 +126,12 @@ has_options s t u v handle ls rs gs hs ps qs xs ys game a b c right e canonical 
 
 -- ---- over a slice of handles
 
-handle_game : {R : Type 0} (s : State Meant R) (hs : List ℕ) (i d : ℕ) → AreGames s hs → i < length hs → IsGame s (get_or hs i d)
-handle_game s [] i d a h = absurd (omega arith)
-handle_game s (k ∷ hs) zero d a h = a.0
-handle_game s (k ∷ hs) (suc i) d a h = handle_game s hs i d a.1 (omega arith)
-
-handles_take_suc : {R : Type 0} (s : State Meant R) (hs : List ℕ) (i d : ℕ) → i < length hs
-    → games_at s (take (suc i) hs) ≡ games_at s (take i hs) ++ game_at s (get_or hs i d) ∷ []
-handles_take_suc s [] i d h = absurd (omega arith)
-handles_take_suc s (k ∷ hs) zero d h = refl
-handles_take_suc s (k ∷ hs) (suc i) d h = ap (λ z. game_at s k ∷ z) (handles_take_suc s hs i d (omega arith))
-
 -- the next handle stands for a game
 pub next_game : {R : Type 0} (s t : State Meant R) (hs : List ℕ) (i k : ℕ) → AreGames s hs → i < length hs → k ≡ get_or hs i k
     → Spends 0 s t → IsGame t k × (game_at t k ≡ game_at s k)
 next_game s t hs i k a h e b =
     let V : ℕ → Type 0 = λ z. IsGame s z in
-    let known : IsGame s k = subst V (sym e) (handle_game s hs i k a h) in
+    let known : IsGame s k = subst V (sym e) (game_of_item s hs i k a h) in
     (is_game_later s t b.known k known, game_later s t b.known k known)
 
 -- the pages of the handles up to this one; the book was b before its page was found, and is c
@@ -153,7 +143,7 @@ paged_next s t b c hs i k ps more page a less at spends so_far begins is e =
     let P : List Game → Type 0 = λ z. StandFor c.pages more z in
     let one : i + 1 ≡ suc i = omega arith in
     let next = next_game s t hs i k a less at spends in
-    subst P (sym (ap (λ z. games_at s (take z hs)) one ∙ handles_take_suc s hs i k less
+    subst P (sym (ap (λ z. games_at s (take z hs)) one ∙ games_take_suc s hs i k less
     ∙ ap (λ z. games_at s (take i hs) ++ (game_at s z ∷ [])) (sym at)))
     (stand_pushed c.pages ps more page (games_at s (take i hs)) (game_at s k)
     (stand_begins b.pages c.pages ps (games_at s (take i hs)) begins so_far) is.0 (is.1 ∙ next.1) e)

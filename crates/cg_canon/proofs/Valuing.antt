@@ -1,31 +1,24 @@
 -- What games of lists of handles are, from the pages of a book.
-use Rattle.std.proofs.Common.{◌≡◌, refl, ℕ, zero, suc, ◌<◌, arith, ap, sym, ◌∙◌, subst, List, [], ◌∷◌, get_or, length}
-use Rattle.cg_form.specs.Canonical.{Canonical}
+use Rattle.std.proofs.Common.{◌≡◌, refl, ℕ, zero, suc, ◌+◌, ◌≤◌, ◌<◌, arith, ap, sym, ◌∙◌, subst, List, [], ◌∷◌, get_or, length}
+use Rattle.cg_book.specs.Profiles.{IsProfile}
 use Rattle.cg_form.specs.Game.{Game, node}
-use Rattle.cg_cells.specs.Store.{Spends, State}
-use Rattle.cg_nodes.specs.Games.{AreGames, IsGame, game_at, games_at}
+use Rattle.cg_cells.specs.Meaning.{Grows}
+use Rattle.cg_cells.specs.Store.{Spends, State, thing_at}
+use Rattle.cg_nodes.specs.Games.{StandsFor, game_at, games_at}
 use Rattle.cg_nodes.specs.Meant.{Meant}
-use Rattle.cg_nodes.proofs.Later.{are_games_later, games_later}
-use Rattle.cg_book.specs.declared.recent.Recent.{Recent}
-use Rattle.cg_book.specs.declared.settling.NewForm.{NewForm}
-use Rattle.cg_book.specs.declared.settling.Settled.{Settled}
-use Rattle.cg_book.specs.declared.settling.Settled.TheVariants as settled
+use Rattle.cg_nodes.proofs.Later.{are_games_later, games_later, stands_game}
 use Rattle.cg_book.specs.Pages.{ArePages, game_of, games_of}
-use Rattle.cg_book.specs.Recents.{AreRight}
 use Rattle.cg_canon.specs.declared.book.Book.{Book}
 use Rattle.cg_canon.specs.declared.value.ListedForm.{ListedForm}
-use Rattle.cg_canon.specs.Books.{BookHolds, HasHandle, IsNamed}
+use Rattle.cg_canon.specs.declared.made.MadeForms.{MadeForms}
+use Rattle.cg_canon.specs.declared.memo.Memo.{Memo}
+use Rattle.cg_canon.specs.Books.{BookHolds, HasHandle}
+use Rattle.cg_canon.specs.MadeForms.{FormsHold}
+use Rattle.cg_canon.specs.Memos.{summed}
+use Rattle.cg_canon.specs.Works.{WorkHolds}
+use Rattle.cg_canon.proofs.FormTables.{forms_later}
+use Rattle.cg_canon.proofs.Holding.{holds_book, holds_later}
 use Rattle.cg_canon.specs.Values.{AreNamed, IsListed}
-
--- the book with other answers
-pub other_answers : {R : Type 0} (s : State Meant R) (b : Book) (answers : Recent) → BookHolds s b → AreRight b.pages answers
-    → BookHolds s (record { pages = b.pages; answers = answers; handles = b.handles; by_id = b.by_id })
-other_answers s b answers h r = record {
-  fewer = h.fewer;
-  each = λ page k. (let n = h.each page k in record { game = n.game; same = n.same });
-  known = λ id page k. (let n = h.known id page k in record { within = n.within; is = n.is });
-  right = r;
-}
 
 -- ---- a form that is entered
 
@@ -51,3 +44,35 @@ named_node s b g form ls rs xs ys h f l r ex ey =
     f.is ∙ ap (λ z. node (games_at s z) (games_at s form.rights.items)) (sym ex) ∙ ap (λ z. node (games_at s xs) (games_at s z)) (sym ey)
     ∙ ap (λ z. node z (games_at s ys)) (sym (named_games s b ls xs h l.count l.each))
     ∙ ap (λ z. node (games_of b.pages ls) z) (sym (named_games s b rs ys h r.count r.each))
+
+-- ---- a work's book, as its store is searched
+
+-- the memo has the new book and the same sums
+pub searched : {R : Type 0} (s t : State Meant R) (spent share start : ℕ) (m n : Memo) (made : MadeForms)
+    → WorkHolds s spent share start m × FormsHold s made → Spends 0 s t → BookHolds t n.book
+    → ((a b : ℕ) → summed n a b ≡ summed m a b) → WorkHolds t spent share start n × FormsHold t made
+searched s t spent share start m n made h k b e =
+    let room = h.0.enough in (
+      holds_book t spent share start m n (holds_later 0 s t spent share start m h.0 k (omega arith)) b e,
+      forms_later s t k.known made h.1,
+    )
+
+-- ---- a form, once its item is made
+
+pub listed_later : {R Q : Type 0} (s : State Meant R) (t : State Meant Q) (f : ListedForm) (ls rs : List ℕ) (h : ℕ)
+    → Grows (thing_at s) (thing_at t) → IsListed s (node (games_at s f.lefts.items) (games_at s f.rights.items)) f
+    → ls ≡ f.lefts.items → rs ≡ f.rights.items → StandsFor t h (node (games_at s ls) (games_at s rs))
+    → IsListed t (game_at t h) f
+listed_later s t f ls rs h k l el er st =
+    let own : game_at t h ≡ node (games_at s f.lefts.items) (games_at s f.rights.items) =
+    stands_game t h (node (games_at s ls) (games_at s rs)) st ∙ ap (λ z. node (games_at s z) (games_at s rs)) el
+    ∙ ap (λ z. node (games_at s f.lefts.items) (games_at s z)) er in
+    let P : Game → Type 0 = λ z. IsProfile z f.new.profile in
+    record {
+      lefts = are_games_later s t k f.lefts.items l.lefts;
+      rights = are_games_later s t k f.rights.items l.rights;
+      is =
+          own ∙ ap (λ z. node z (games_at s f.rights.items)) (sym (games_later s t k f.lefts.items l.lefts))
+          ∙ ap (λ z. node (games_at t f.lefts.items) z) (sym (games_later s t k f.rights.items l.rights));
+      profile = subst P (sym own) l.profile;
+    }

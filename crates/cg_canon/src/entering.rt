@@ -2,47 +2,17 @@
 ghost use Rattle.std.specs.Prelude.{◌≡◌, IfOk};
 ghost use Rattle.cg_form.specs.Canonical.{Canonical};
 ghost use Rattle.cg_form.specs.Game.{node, number};
-ghost use Rattle.cg_form.specs.Simple.{NoNumber};
 ghost use Rattle.cg_nodes.specs.Games.{IsGame, game_at};
 ghost use Rattle.cg_book.specs.Pages.{ArePages, IsPage, game_of, games_of};
-ghost use Rattle.cg_book.specs.Profiles.{IsOutline, IsProfile};
+ghost use Rattle.cg_book.specs.Profiles.{IsProfile};
 ghost use Rattle.cg_canon.specs.Books.{Begins, BookHolds};
 
 use crate::book::Book;
-use cg_book::{Outline, Pages, Profile};
+use cg_book::Profile;
 use cg_cells::CellStore;
 use cg_dyadic::Dyadic;
 use cg_nodes::{BoardForms, GameFacts, Handle};
 use std::alloc::AllocError;
-
-/// The outline of the games of the pages for the player, who is Left with `left`, and else Right.
-pub(crate) fn outline_of(pages: &Pages, left: bool, list: &[u32]) -> Result<Outline, AllocError>
-    requires { ArePages pages.now list.now }
-    ensures { IfOk result (λ o. IsOutline left (games_of pages.now list.now) o) }
-{
-    let mut outline = Outline::empty();
-    for page in list {
-        outline = outline.with(left, pages.profile(*page))?;
-    }
-    Ok(outline)
-}
-
-/// The profile of the game with these options, which equals no number.
-pub(crate) fn profile_between(
-    pages: &Pages,
-    lefts: &[u32],
-    rights: &[u32],
-) -> Result<Profile, AllocError>
-    requires lefts { ArePages pages.now lefts.now }
-    requires rights { ArePages pages.now rights.now }
-    requires no_number { NoNumber (node (games_of pages.now lefts.now) (games_of pages.now rights.now)) }
-    ensures { IfOk result (λ p. IsProfile (node (games_of pages.now lefts.now) (games_of pages.now rights.now)) p) }
-{
-    let low = outline_of(pages, true, lefts)?;
-    let high = outline_of(pages, false, rights)?;
-    prove!(low.cut.is_some());
-    Profile::between(&low, &high)
-}
 
 /// A page for the handle's game, which is this number.
 pub(crate) fn enter_number<B: BoardForms, S: CellStore<GameFacts<B>>>(

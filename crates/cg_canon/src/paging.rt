@@ -6,7 +6,8 @@ ghost use Rattle.cg_book.specs.Pages.{IsPage, StandFor, game_of};
 ghost use Rattle.cg_canon.specs.Books.{Begins, BookHolds};
 
 use crate::book::{Book, PageList};
-use crate::entering::{enter_game, enter_number, profile_between};
+use crate::entering::{enter_game, enter_number};
+use cg_book::profile_of_lists;
 use cg_cells::CellStore;
 use cg_nodes::{BoardForms, GameFacts, Handle, ListId, Reading, head, read};
 use smallvec::SmallVec;
@@ -58,7 +59,7 @@ fn new_page<B: BoardForms, S: CellStore<GameFacts<B>>>(
         Reading::Game(lefts, rights) => {
             let low = pages_of_list(alloc, store, book, lefts)?;
             let high = pages_of_list(alloc, store, book, rights)?;
-            let profile = profile_between(&book.pages, low.as_slice(), high.as_slice())?;
+            let profile = profile_of_lists(&book.pages, low.as_slice(), high.as_slice())?;
             enter_game(
                 store,
                 book,

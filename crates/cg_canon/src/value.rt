@@ -7,7 +7,7 @@ ghost use Rattle.cg_form.specs.Simple.{NoNumber};
 ghost use Rattle.cg_cells.specs.Store.{Spends};
 ghost use Rattle.cg_nodes.specs.Games.{AreGames, IsGame, game_at, games_at};
 ghost use Rattle.cg_nodes.specs.Spelled.{can};
-ghost use Rattle.cg_book.specs.Pages.{ArePages, games_of};
+ghost use Rattle.cg_book.specs.Pages.{StandFor};
 ghost use Rattle.cg_book.specs.Settled.{IsNewForm};
 ghost use Rattle.cg_book.specs.Terms.{ApartByTerm};
 ghost use Rattle.cg_canon.specs.Books.{BookHolds};
@@ -76,6 +76,27 @@ fn listed<B: BoardForms, S: CellStore<GameFacts<B>>>(
     Ok(ListedForm { lefts, rights, new })
 }
 
+/// The pages of two lists of options.
+fn pages_of_both<B: BoardForms, S: CellStore<GameFacts<B>>>(
+    alloc: Global,
+    store: &mut S,
+    book: &mut Book,
+    lefts: &[Handle],
+    rights: &[Handle],
+) -> Result<Form, AllocError>
+    requires holds { BookHolds (S.state store.old) book.old }
+    requires lefts { AreGames (S.state store.old) lefts.now }
+    requires rights { AreGames (S.state store.old) rights.now }
+    ensures holds { BookHolds (S.state store.new) book.new }
+    ensures lefts { IfOk result (λ r. StandFor book.new.pages r.lefts.items (games_at (S.state store.old) lefts.now)) }
+    ensures rights { IfOk result (λ r. StandFor book.new.pages r.rights.items (games_at (S.state store.old) rights.now)) }
+    ensures spends { Spends 0 (S.state store.old) (S.state store.new) }
+{
+    let lefts = pages_of(alloc, store, book, lefts)?;
+    let rights = pages_of(alloc, store, book, rights)?;
+    Ok(Form { lefts, rights })
+}
+
 /// What the game with these options is. The only error is want of memory.
 pub(crate) fn value_of_lists<B: BoardForms, S: CellStore<GameFacts<B>>>(
     alloc: Global,
@@ -94,14 +115,13 @@ pub(crate) fn value_of_lists<B: BoardForms, S: CellStore<GameFacts<B>>>(
         (can (node (games_at (S.state store.old) lefts.now) (games_at (S.state store.old) rights.now)))) }
     ensures spends { Spends 0 (S.state store.old) (S.state store.new) }
 {
-    let left_pages = pages_of(alloc, store, book, lefts)?;
-    let right_pages = pages_of(alloc, store, book, rights)?;
+    let both = pages_of_both(alloc, store, book, lefts, rights)?;
     let settled = settle(
         alloc,
         &book.pages,
         &mut book.answers,
-        left_pages.as_slice(),
-        right_pages.as_slice(),
+        both.lefts.as_slice(),
+        both.rights.as_slice(),
         first_term,
     )?;
     match settled {
@@ -131,13 +151,8 @@ pub(crate) fn form_of_lists<B: BoardForms, S: CellStore<GameFacts<B>>>(
         (node (games_at (S.state store.old) lefts.now) (games_at (S.state store.old) rights.now))) }
     ensures spends { Spends 0 (S.state store.old) (S.state store.new) }
 {
-    let left_pages = pages_of(alloc, store, book, lefts)?;
-    let right_pages = pages_of(alloc, store, book, rights)?;
-    let profile = profile_of_lists(&book.pages, left_pages.as_slice(), right_pages.as_slice())?;
-    let form = Form {
-        lefts: left_pages,
-        rights: right_pages,
-    };
+    let form = pages_of_both(alloc, store, book, lefts, rights)?;
+    let profile = profile_of_lists(&book.pages, form.lefts.as_slice(), form.rights.as_slice())?;
     listed(alloc, &*store, book, NewForm { form, profile })
 }
 

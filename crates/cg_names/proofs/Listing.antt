@@ -7,7 +7,7 @@ use Rattle.cg_nodes.specs.Games.{AreGames, IsGame, IsList, game_at, games_at, li
 use Rattle.cg_nodes.specs.Meant.{Meant}
 use Rattle.cg_nodes.proofs.Later.{game_later, games_later, listed_later, nothing_spent, spends_then}
 use Rattle.cg_names.proofs.SignForms.{mirrored-others, mirrored-own}
-use Rattle.cg_canon.proofs.Outlining.{game_of_item, games_take_all, games_take_suc}
+use Rattle.cg_canon.proofs.HandleLists.{game_of_item, games_take_all, games_take_suc}
 
 -- the first so many of the handles stand in front of what is left of the list
 pub record ListedTo {R : Type 0} (s t : State Meant R) (list left : Option ℕ) (options : List ℕ) (i : ℕ) : Type 0 where

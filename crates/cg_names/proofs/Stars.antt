@@ -7,7 +7,7 @@ use Rattle.cg_form.specs.Shifted.{shifted}
 use Rattle.cg_cells.specs.Store.{State}
 use Rattle.cg_nodes.specs.Games.{AreGames, game_at, games_at}
 use Rattle.cg_nodes.specs.Meant.{Meant}
-use Rattle.cg_canon.proofs.Outlining.{games_take_all, games_take_suc}
+use Rattle.cg_canon.proofs.HandleLists.{games_take_all, games_take_suc}
 use Rattle.cg_names.specs.Named.{nimber_form, nimbers_below}
 use Rattle.cg_names.specs.Readings.{AreStars, stars_above}
 use Rattle.cg_names.specs.Shapes.{sign_of}

@@ -2,7 +2,7 @@
 use Rattle.std.specs.Prelude.{◌≡◌, ◌⊎◌, ◌++◌, ◌<◌, ℕ, List, MatchOption, Some, IsSome, get_or, length, map, take}
 use Rattle.std.specs.List.{All}
 use Rattle.std.specs.Option.{ForSome}
-use Rattle.cg_canon.specs.Terms.{NoneComparableByTerm}
+use Rattle.cg_book.specs.Terms.{NoneComparableByTerm}
 use Rattle.cg_cells.specs.Meaning.{Has, Meaning, note_for}
 use Rattle.cg_cells.specs.Store.{Known, State, thing_at}
 use Rattle.cg_form.specs.Canonical.{Canonical}

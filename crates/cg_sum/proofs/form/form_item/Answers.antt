@@ -2,7 +2,7 @@ use Rattle.std.proofs.Common.{sym, subst, List, ℕ, [], ◌∷◌}
 use Rattle.std.specs.Prelude.{IfOk}
 use Rattle.cg_canon.specs.Items.{made}
 use Rattle.cg_canon.specs.Made.{ItemsMade}
-use Rattle.cg_canon.specs.Terms.{NoneComparableByTerm}
+use Rattle.cg_book.specs.Terms.{NoneComparableByTerm}
 use Rattle.cg_canon.specs.Works.{work_state}
 use Rattle.cg_form.specs.Game.{Game}
 use Rattle.cg_nodes.specs.Games.{AreGames, StandsFor, games_at}
