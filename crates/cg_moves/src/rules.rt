@@ -27,8 +27,8 @@ pub trait Rules {
         requires { (game self.now).has board.now ≡ true }
         ensures { IfOk result (λ pieces. pieces ≡ cutting (game self.now) board.now) };
 
-    /// The pieces of the board, in order, in the room of these boards, of which there are none; the rules must cut. The board
-    /// must be one of the game.
+    /// Where the rules cut, the pieces of the board, in order, in the room of these boards, of which there are none. Where they
+    /// don't, nothing is said of the answer. The board must be one of the game.
     fn pieces_into(
         &self,
         alloc: Global,
@@ -36,14 +36,12 @@ pub trait Rules {
         room: Vec<Board>,
     ) -> Result<Vec<Board>, AllocError>
         requires has { (game self.now).has board.now ≡ true }
-        requires cuts { (game self.now).cuts ≡ true }
         requires room { room.items ≡ [] }
-        ensures { IfOk result (λ boards. boards.items ≡ (game self.now).pieces board.now) }
+        ensures { (game self.now).cuts ≡ true → IfOk result (λ boards. boards.items ≡ (game self.now).pieces board.now) }
     {
-        drop(room);
         match self.pieces(alloc, board)? {
             Pieces::Cut(boards) => Ok(boards.into_vec()),
-            Pieces::Whole => unreachable!(),
+            Pieces::Whole => Ok(room),
         }
     }
 

@@ -8,4 +8,4 @@ number_all-requires-clause-alike g c =
     let P : List Grid → Type 0 = λ z. AreAlike (c.args.found.now ++ z) in
     let Q : List Grid → Type 0 = λ z. AreAlike (z ++ c.deref.result.now) in
     subst Q (sym c.take_room-room.ensures.boards)
-    (subst P (sym (c.deref.ensures.value ∙ c.in_ok-pieces.ensures)) c.requires.alike)
+    (subst P (sym (c.deref.ensures.value ∙ c.in_ok-pieces.ensures c.requires.cuts)) c.requires.alike)
