@@ -1,13 +1,13 @@
 -- What a work keeps, as its store and its memo change.
 use Rattle.std.proofs.Common.{◌≡◌, refl, ℕ, ◌+◌, ◌≤◌, arith, inl, inr, sym, ◌∙◌, subst, Option, Some, None}
-use Rattle.std.specs.Prelude.{◌⊎◌, ◌==◌, ◌&&◌, if◌then◌else◌}
+use Rattle.std.specs.Prelude.{◌==◌, ◌&&◌, if◌then◌else◌}
 use Rattle.std.proofs.lemmas.Bool.Decides.{eqb_tells}
 use Rattle.cg_form.specs.Game.{Game}
 use Rattle.cg_cells.specs.Store.{Spends, State}
 use Rattle.cg_form.specs.Sum.{sum}
 use Rattle.cg_cells.specs.Meaning.{Grows}
 use Rattle.cg_cells.specs.Store.{thing_at}
-use Rattle.cg_nodes.specs.Games.{IsGame, StandsFor, game_at}
+use Rattle.cg_nodes.specs.Games.{StandsFor, game_at}
 use Rattle.cg_nodes.specs.Spelled.{can}
 use Rattle.cg_canon.specs.Items.{AllPass}
 use Rattle.cg_canon.specs.SumItems.{sum_items}

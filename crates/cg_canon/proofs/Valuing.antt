@@ -1,5 +1,5 @@
 -- What games of lists of handles are, from the pages of a book.
-use Rattle.std.proofs.Common.{◌≡◌, refl, ℕ, zero, suc, ◌+◌, ◌≤◌, ◌<◌, arith, ap, sym, ◌∙◌, subst, List, [], ◌∷◌, get_or, length}
+use Rattle.std.proofs.Common.{◌≡◌, refl, ℕ, zero, suc, ◌<◌, arith, ap, sym, ◌∙◌, subst, List, [], ◌∷◌, get_or, length}
 use Rattle.cg_book.specs.Profiles.{IsProfile}
 use Rattle.cg_form.specs.Game.{Game, node}
 use Rattle.cg_cells.specs.Meaning.{Grows}
@@ -7,18 +7,20 @@ use Rattle.cg_cells.specs.Store.{Spends, State, thing_at}
 use Rattle.cg_nodes.specs.Games.{StandsFor, game_at, games_at}
 use Rattle.cg_nodes.specs.Meant.{Meant}
 use Rattle.cg_nodes.proofs.Later.{are_games_later, games_later, stands_game}
-use Rattle.cg_book.specs.Pages.{ArePages, game_of, games_of}
+use Rattle.cg_book.specs.Pages.{game_of, games_of}
 use Rattle.cg_canon.specs.declared.book.Book.{Book}
 use Rattle.cg_canon.specs.declared.value.ListedForm.{ListedForm}
 use Rattle.cg_canon.specs.declared.made.MadeForms.{MadeForms}
 use Rattle.cg_canon.specs.declared.memo.Memo.{Memo}
+use Rattle.cg_canon.specs.declared.value.Value.{Value}
+use Rattle.cg_canon.specs.declared.value.Value.TheVariants as value
 use Rattle.cg_canon.specs.Books.{BookHolds, HasHandle}
 use Rattle.cg_canon.specs.MadeForms.{FormsHold}
 use Rattle.cg_canon.specs.Memos.{summed}
 use Rattle.cg_canon.specs.Works.{WorkHolds}
 use Rattle.cg_canon.proofs.FormTables.{forms_later}
 use Rattle.cg_canon.proofs.Holding.{holds_book, holds_later}
-use Rattle.cg_canon.specs.Values.{AreNamed, IsListed}
+use Rattle.cg_canon.specs.Values.{AreNamed, IsListed, IsValue}
 
 -- ---- a form that is entered
 
@@ -76,3 +78,22 @@ listed_later s t f ls rs h k l el er st =
           ∙ ap (λ z. node (games_at t f.lefts.items) z) (sym (games_later s t k f.rights.items l.rights));
       profile = subst P (sym own) l.profile;
     }
+
+-- ---- where more is known
+
+listed_grown : {R Q : Type 0} (s : State Meant R) (t : State Meant Q) (g : Game) (f : ListedForm) → Grows (thing_at s) (thing_at t)
+    → IsListed s g f → IsListed t g f
+listed_grown s t g f k l = record {
+  lefts = are_games_later s t k f.lefts.items l.lefts;
+  rights = are_games_later s t k f.rights.items l.rights;
+  is =
+      l.is ∙ ap (λ z. node z (games_at s f.rights.items)) (sym (games_later s t k f.lefts.items l.lefts))
+      ∙ ap (λ z. node (games_at t f.lefts.items) z) (sym (games_later s t k f.rights.items l.rights));
+  profile = l.profile;
+}
+
+pub value_grown : {R Q : Type 0} (s : State Meant R) (t : State Meant Q) (g : Game) (v : Value) → Grows (thing_at s) (thing_at t)
+    → IsValue s g v → IsValue t g v
+value_grown s t g (value.Number x) k h = h
+value_grown s t g value.Outside k h = h
+value_grown s t g (value.Game f) k h = listed_grown s t g f k h

@@ -1,4 +1,4 @@
-use Rattle.std.proofs.Common.{List, [], ◌∷◌, subst}
+use Rattle.std.proofs.Common.{[], ◌∷◌, subst}
 use Rattle.std.specs.Prelude.{IfOk}
 use Rattle.cg_form.specs.Game.{Game}
 use Rattle.cg_nodes.specs.Games.{StandsFor}

@@ -1,6 +1,5 @@
 use Rattle.std.proofs.Common.{List, subst}
 use Rattle.cg_form.specs.Game.{Game}
-use Rattle.cg_nodes.specs.Games.{games_at}
 use Rattle.cg_nodes.proofs.Later.{are_games_later, games_later}
 use Rattle.cg_book.specs.Pages.{StandFor}
 use Rattle.cg_canon.proofs.Booking.{stand_begins}

@@ -1,4 +1,4 @@
-use Rattle.std.proofs.Common.{◌≡◌, arith, sym, ◌∙◌, Option, Some, None}
+use Rattle.std.proofs.Common.{arith}
 use Rattle.cg_canon.proofs.Booking.{new_holds}
 use Rattle.cg_canon.proofs.Holding.{holds_nothing}
 use Rattle.cg_canon.proofs.work.Work.new.Goals as goal
