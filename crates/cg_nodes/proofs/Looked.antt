@@ -1,8 +1,28 @@
 -- Ids for look-ups beside a list of handles.
-use Rattle.std.proofs.Common.{◌≡◌, ℕ, Bool, true, IsTrue, ◌↔◌, List, [], ◌∷◌, ◌++◌, cond, ap, sym, ◌∙◌, subst, inl, inr, ◌⊎◌}
+use Rattle.std.proofs.Common.{◌≡◌, ℕ, Bool, true, ◌||◌, IsTrue, ◌↔◌, List, [], ◌∷◌, ◌++◌, cond, ap, sym, ◌∙◌, subst, inl, inr, ◌⊎◌}
 use Rattle.std.proofs.lemmas.Bool.Decides.{eqb_tells}
 use Rattle.std.specs.Bool.{◌==◌}
+use Rattle.std.specs.List.{list_any}
 use Rattle.cg_cells.specs.Meaning.{Has}
+
+-- what a search through the handles tells
+any-has : (hs : List ℕ) (h : ℕ) → IsTrue (list_any (λ k. k == h) hs) ↔ Has hs h
+any-has [] h = (λ t. cc, λ m. absurd m)
+any-has (k ∷ hs) h = elim (eqb_tells k h) [
+  | inl there ↦ (λ t. inl there.1, λ m. ap (λ b. b || list_any (λ k. k == h) hs) there.0)
+  | inr other ↦ (
+      let off : (k == h || list_any (λ k. k == h) hs) ≡ list_any (λ k. k == h) hs = ap (λ b. b || list_any (λ k. k == h) hs) other.0 in (
+        λ t. inr ((any-has hs h).0 (sym off ∙ t)),
+        λ m. elim m [ inl e ↦ absurd (other.1 e) | inr n ↦ off ∙ (any-has hs h).1 n ],
+      ))
+]
+
+pub searched : (hs now : List ℕ) (h : ℕ) (r : Bool) → r ≡ list_any (λ k. k == h) hs → hs ≡ now → IsTrue r ↔ Has now h
+searched hs now h r e same =
+    let P : List ℕ → Type 0 = λ z. Has z h in (
+      λ t. subst P same ((any-has hs h).0 (sym e ∙ t)),
+      λ m. e ∙ (any-has hs h).1 (subst P (sym same) m),
+    )
 
 -- what the test of the ids tells of the handles
 pub looked_up : (test : ℕ → Bool) (handles now : List ℕ) (n h : ℕ) (r : Bool) → r ≡ test n → n ≡ h → handles ≡ now

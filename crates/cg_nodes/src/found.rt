@@ -1,17 +1,24 @@
 //! Handles that were found, each once.
-ghost use Rattle.std.specs.Prelude.{◌≡◌, ◌<◌, ◌≤◌, ◌∷◌, ◌++◌, [], IfOk, OnOk, IsTrue, ◌↔◌, length, Err};
+ghost use Rattle.std.specs.Prelude.{◌≡◌, ◌==◌, ℕ, ◌<◌, ◌≤◌, ◌∷◌, ◌++◌, [], IfOk, OnOk, IsTrue, ◌↔◌, length, Err};
+ghost use Rattle.std.specs.HashSet.{contains};
 ghost use Rattle.cg_cells.specs.Meaning.{Has};
 
 use crate::{Handle, Handles, PositionsFault};
-use std::alloc::Global;
+use std::alloc::{AllocFailed, Global};
 use std::collections::HashSet;
 use std::marker::Model;
 
-/// Handles in the order in which they were found, with their ids for look-ups. Contracts see the list of handles.
+// So many handles are searched one by one.
+const FEW: usize = 16;
+
+/// Handles in the order in which they were found. Few are searched one by one, and more are looked up by their ids.
+/// Contracts see the list of handles.
 #[derive(Drop)]
 pub(crate) struct Found {
     handles: Vec<Handle>,
     ids: HashSet<u32>,
+    // Whether `ids` has the id of each handle, and no other.
+    by_ids: bool,
 }
 
 impl Model for Found {
@@ -26,7 +33,7 @@ impl Model for Found {
 
     ghost view = { λ s. s.handles.items };
 
-    ghost invariant = { λ s. (h : ℕ) → IsTrue (contains (λ a b. a == b) s.ids h) ↔ Has s.handles.items h };
+    ghost invariant = { λ s. IsTrue s.by_ids → (h : ℕ) → IsTrue (contains (λ a b. a == b) s.ids h) ↔ Has s.handles.items h };
 }
 
 impl Found {
@@ -37,6 +44,7 @@ impl Found {
         Found {
             handles: Vec::new(alloc),
             ids: HashSet::new(alloc),
+            by_ids: false,
         }
     }
 
@@ -44,33 +52,56 @@ impl Found {
     pub(crate) fn has(&self, handle: Handle) -> bool
         ensures { IsTrue result ↔ Has self.now handle }
     {
-        self.ids.contains(&handle.id().number())
+        if self.by_ids {
+            self.ids.contains(&handle.id().number())
+        } else {
+            self.handles.contains(&handle)
+        }
     }
 
-    /// The handles with one more behind them, of which there may be so many.
-    pub(crate) fn add(self, handle: Handle, limit: u64) -> Result<Found, PositionsFault>
-        requires { length self ≤ limit }
-        ensures added { IfOk result (λ more. more ≡ self ++ (handle ∷ [])) }
-        ensures within { OnOk result (length self < limit) }
-        ensures refused { result ≡ Err PositionsFault.Positions → limit ≡ length self }
+    /// Puts one more handle behind those that were found, of which there may be so many.
+    pub(crate) fn add(&mut self, handle: Handle, limit: u64) -> Result<(), PositionsFault>
+        requires { length self.old ≤ limit }
+        ensures added { OnOk result (self.new ≡ self.old ++ (handle ∷ [])) }
+        ensures within { OnOk result (length self.old < limit) }
+        ensures refused { result ≡ Err PositionsFault.Positions → limit ≡ length self.old }
     {
-        let Found {
-            mut handles,
-            mut ids,
-        } = self;
-        if handles.len() as u64 >= limit {
+        if self.handles.len() as u64 >= limit {
             return Err(PositionsFault::Positions);
         }
-        handles.push(handle)?;
-        ids.insert(handle.id().number())?;
-        Ok(Found { handles, ids })
+        self.handles.push(handle)?;
+        if self.by_ids {
+            // Without room for the id, the handles are searched one by one again.
+            self.by_ids = false;
+            self.ids.insert(handle.id().number())?;
+            self.by_ids = true;
+        } else if self.handles.len() > FEW {
+            put_ids(&mut self.ids, &self.handles)?;
+            self.by_ids = true;
+        }
+        Ok(())
     }
 
     /// The handles, in their order.
     pub(crate) fn into_handles(self) -> Handles
         ensures { result ≡ self }
     {
-        let Found { handles, ids: _ } = self;
+        let Found {
+            handles,
+            ids: _,
+            by_ids: _,
+        } = self;
         Handles::of(handles)
     }
+}
+
+// Puts the ids of these handles, and no others, into the set.
+fn put_ids(ids: &mut HashSet<u32>, handles: &[Handle]) -> Result<(), AllocFailed<u32>>
+    ensures { OnOk result ((h : ℕ) → IsTrue (contains (λ a b. a == b) ids.new h) ↔ Has handles.now h) }
+{
+    ids.clear();
+    for handle in handles {
+        ids.insert(handle.id().number())?;
+    }
+    Ok(())
 }

@@ -16,26 +16,26 @@ use std::alloc::Global;
 #[cycle(walk)]
 fn walk_game<B: BoardForms, S: CellStore<GameFacts<B>>>(
     store: &mut S,
-    found: Found,
+    found: &mut Found,
     handle: Handle,
     limit: u64,
-) -> Result<Found, PositionsFault>
+) -> Result<(), PositionsFault>
     requires game { IsGame (S.state store.old) handle }
-    requires found { AreFound (S.state store.old) found }
-    requires within { length found ≤ limit }
-    ensures found { IfOk result (λ more.
-        AreFoundAfter (S.state store.old) (S.state store.new) found more (all_positions (game_at (S.state store.old) handle))) }
-    ensures within { IfOk result (λ more. length more ≤ limit) }
+    requires found { AreFound (S.state store.old) found.old }
+    requires within { length found.old ≤ limit }
+    ensures found { OnOk result (
+        AreFoundAfter (S.state store.old) (S.state store.new) found.old found.new (all_positions (game_at (S.state store.old) handle))) }
+    ensures within { OnOk result (length found.new ≤ limit) }
     ensures refused { result ≡ Err PositionsFault.Positions
-        → limit < length (extended (games_at (S.state store.old) found)
+        → limit < length (extended (games_at (S.state store.old) found.old)
         (all_positions (game_at (S.state store.old) handle))) }
     ensures spends { Spends 0 (S.state store.old) (S.state store.new) }
 {
     store.apart();
     if found.has(handle) {
-        return Ok(found);
+        return Ok(());
     }
-    let found = walk_options(store, found, handle, limit)?;
+    walk_options(store, found, handle, limit)?;
     found.add(handle, limit)
 }
 
@@ -43,25 +43,25 @@ fn walk_game<B: BoardForms, S: CellStore<GameFacts<B>>>(
 #[cycle(walk)]
 fn walk_options<B: BoardForms, S: CellStore<GameFacts<B>>>(
     store: &mut S,
-    found: Found,
+    found: &mut Found,
     handle: Handle,
     limit: u64,
-) -> Result<Found, PositionsFault>
+) -> Result<(), PositionsFault>
     requires game { IsGame (S.state store.old) handle }
-    requires found { AreFound (S.state store.old) found }
-    requires within { length found ≤ limit }
-    ensures found { IfOk result (λ more.
-        AreFoundAfter (S.state store.old) (S.state store.new) found more (positions_before (game_at (S.state store.old) handle))) }
-    ensures within { IfOk result (λ more. length more ≤ limit) }
+    requires found { AreFound (S.state store.old) found.old }
+    requires within { length found.old ≤ limit }
+    ensures found { OnOk result (
+        AreFoundAfter (S.state store.old) (S.state store.new) found.old found.new (positions_before (game_at (S.state store.old) handle))) }
+    ensures within { OnOk result (length found.new ≤ limit) }
     ensures refused { result ≡ Err PositionsFault.Positions
-        → limit < length (extended (games_at (S.state store.old) found)
+        → limit < length (extended (games_at (S.state store.old) found.old)
         (positions_before (game_at (S.state store.old) handle))) }
     ensures spends { Spends 0 (S.state store.old) (S.state store.new) }
 {
     match read(store, handle) {
-        Reading::Number(_) => Ok(found),
+        Reading::Number(_) => Ok(()),
         Reading::Game(lefts, rights) => {
-            let found = walk_list(store, found, lefts, limit)?;
+            walk_list(store, found, lefts, limit)?;
             walk_list(store, found, rights, limit)
         }
     }
@@ -71,28 +71,27 @@ fn walk_options<B: BoardForms, S: CellStore<GameFacts<B>>>(
 #[cycle(walk)]
 fn walk_list<B: BoardForms, S: CellStore<GameFacts<B>>>(
     store: &mut S,
-    found: Found,
+    found: &mut Found,
     list: ListId,
     limit: u64,
-) -> Result<Found, PositionsFault>
+) -> Result<(), PositionsFault>
     requires list { IsList (S.state store.old) list }
-    requires found { AreFound (S.state store.old) found }
-    requires within { length found ≤ limit }
-    ensures found { IfOk result (λ more.
-        AreFoundAfter (S.state store.old) (S.state store.new) found more (positions_in (of_list (listed (S.state store.old) list)))) }
-    ensures within { IfOk result (λ more. length more ≤ limit) }
+    requires found { AreFound (S.state store.old) found.old }
+    requires within { length found.old ≤ limit }
+    ensures found { OnOk result (
+        AreFoundAfter (S.state store.old) (S.state store.new) found.old found.new (positions_in (of_list (listed (S.state store.old) list)))) }
+    ensures within { OnOk result (length found.new ≤ limit) }
     ensures refused { result ≡ Err PositionsFault.Positions
-        → limit < length (extended (games_at (S.state store.old) found)
+        → limit < length (extended (games_at (S.state store.old) found.old)
         (positions_in (of_list (listed (S.state store.old) list)))) }
     ensures spends { Spends 0 (S.state store.old) (S.state store.new) }
 {
-    let mut found = found;
     let mut left = list;
     while let Some(top) = head(store, left) {
-        found = walk_game(store, found, top.first, limit)?;
+        walk_game(store, found, top.first, limit)?;
         left = top.rest;
     }
-    Ok(found)
+    Ok(())
 }
 
 /// The handles of the positions of the game: of a number itself alone, and of another game those of each Left option in
@@ -113,6 +112,7 @@ pub fn positions<B: BoardForms, S: CellStore<GameFacts<B>>>(
         → limit < length (positions_of (game_at (S.state store.old) handle)) }
     ensures spends { Spends 0 (S.state store.old) (S.state store.new) }
 {
-    let found = walk_game(store, Found::new(alloc), handle, limit)?;
+    let mut found = Found::new(alloc);
+    walk_game(store, &mut found, handle, limit)?;
     Ok(found.into_handles())
 }

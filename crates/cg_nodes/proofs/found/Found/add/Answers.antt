@@ -4,9 +4,9 @@ use Rattle.std.proofs.Common.{◌∙◌}
 use Rattle.cg_nodes.proofs.Looked.{looked_up-more}
 use Rattle.cg_nodes.proofs.found.Found.add.Goals as goal
 
-pub invariant_of-result : goal.invariant_of-result
-invariant_of-result c =
-    looked_up-more (contains (λ a b. a == b) c.self.inside.ids) (contains (λ a b. a == b) c.insert.new.self)
+pub invariant_of-self-then-self : goal.invariant_of-self-then-self
+invariant_of-self-then-self c =
+    λ _. looked_up-more (contains (λ a b. a == b) c.self.inside.ids) (contains (λ a b. a == b) c.insert.new.self)
     c.self.inside.handles.items c.push.new.self.items
     c.number.result c.args.handle (c.number.ensures.value
-    ∙ c.id.ensures) c.in_ok-push.ensures.items c.in_ok-insert.ensures.updates.0 c.self.invariant
+    ∙ c.id.ensures) c.in_ok-push.ensures.items c.in_ok-insert.ensures.updates.0 (c.self.invariant c.if-self.true)
