@@ -1,5 +1,6 @@
 pub mod Profiling
 pub mod Telling
+pub mod KeyLaws
 pub mod Results
 pub mod Paging
 pub mod Slices

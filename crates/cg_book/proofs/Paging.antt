@@ -7,6 +7,7 @@ use Rattle.cg_dyadic.specs.Number.{Number}
 use Rattle.cg_form.specs.Canonical.{Canonical}
 use Rattle.cg_form.specs.Game.{Game, node, number}
 use Rattle.cg_book.specs.declared.pages.Page.{Page}
+use Rattle.cg_book.specs.Keys.{AreKeys, HasKeys}
 use Rattle.cg_book.specs.Pages.{AreWritten, ArePages, IsPage, IsWritten, game_of, games_of, left_pages, right_pages, said, said_by}
 use Rattle.cg_book.specs.Profiles.{IsProfile}
 
@@ -67,6 +68,7 @@ pub record Says (opts : List ℕ) (all : List Game) (p : Page) (g : Game) : Type
   pub end : p.end ≤ length opts
   pub canonical : Canonical g
   pub profile : IsProfile g p.profile
+  pub keys : AreKeys p.profile p.keys
 
 says_here : (opts : List ℕ) (gs all more : List Game) (p : Page) → IsWritten opts gs p → all ≡ (gs ++ (said opts gs p ∷ [])) ++ more
     → Says opts all p (game_of all (length gs + 0))
@@ -92,6 +94,7 @@ says_here opts gs all more p w e =
       end = w.end;
       canonical = subst V (sym is) w.canonical;
       profile = subst U (sym is) w.profile;
+      keys = w.keys;
     }
 
 pub says_at : (opts : List ℕ) (gs : List Game) (ps : List Page) (i : ℕ) (d : Page) → AreWritten opts gs ps → i < length ps
@@ -153,6 +156,7 @@ written_longer_page opts more gs p w =
         end = (let a = w.end in omega arith);
         canonical = subst V (sym e) w.canonical;
         profile = subst U (sym e) w.profile;
+        keys = w.keys;
       },
     )
 
@@ -198,6 +202,9 @@ says_game opts gs p g ls rs s e l r =
           ∙ ap (λ z. node (games_of gs ls) (games_of gs z)) (sym r),
     )
 
+pub says_keys : (opts : List ℕ) (gs : List Game) (p : Page) (g : Game) → Says opts gs p g → HasKeys g p.keys
+says_keys opts gs p g s = record { profile = p.profile; cuts = s.profile.cuts; keys = s.keys }
+
 -- ---- a page that is added
 
 pub record Adds (opts : List ℕ) (gs : List Game) (p : Page) (g : Game) : Type 0 where
@@ -212,8 +219,8 @@ no_pages gs = λ k d h. absurd (omega arith)
 
 pub adds_number : (opts : List ℕ) (gs : List Game) (p : Page) (x : Number) → p.is_number ≡ true → p.profile.low.at ≡ x
     → p.lefts ≡ length opts → p.rights ≡ length opts → p.end ≡ length opts → IsProfile (number x) p.profile
-    → Adds opts gs p (number x)
-adds_number opts gs p x e at l r n profile =
+    → AreKeys p.profile p.keys → Adds opts gs p (number x)
+adds_number opts gs p x e at l r n profile keys =
     let says : said opts gs p ≡ number x =
     ap (λ z. cond z (number p.profile.low.at) (node (games_of gs (left_pages opts p)) (games_of gs (right_pages opts p)))) e
     ∙ ap number at in
@@ -229,6 +236,7 @@ adds_number opts gs p x e at l r n profile =
         end = omega arith;
         canonical = subst V (sym says) tt;
         profile = subst U (sym says) profile;
+        keys = keys;
       };
       says = says;
     }
@@ -236,9 +244,9 @@ adds_number opts gs p x e at l r n profile =
 pub adds_game : (opts ls rs : List ℕ) (gs : List Game) (p : Page) → p.is_number ≡ false
     → p.lefts ≡ length opts → p.rights ≡ length (opts ++ ls) → p.end ≡ length ((opts ++ ls) ++ rs)
     → ArePages gs ls → ArePages gs rs → Canonical (node (games_of gs ls) (games_of gs rs))
-    → IsProfile (node (games_of gs ls) (games_of gs rs)) p.profile
+    → IsProfile (node (games_of gs ls) (games_of gs rs)) p.profile → AreKeys p.profile p.keys
     → Adds ((opts ++ ls) ++ rs) gs p (node (games_of gs ls) (games_of gs rs))
-adds_game opts ls rs gs p e l r n al ar canonical profile =
+adds_game opts ls rs gs p e l r n al ar canonical profile keys =
     let all = (opts ++ ls) ++ rs in
     let a = length-append opts ls in
     let b = length-append (opts ++ ls) rs in
@@ -262,6 +270,7 @@ adds_game opts ls rs gs p e l r n al ar canonical profile =
         end = omega arith;
         canonical = subst V (sym says) canonical;
         profile = subst U (sym says) profile;
+        keys = keys;
       };
       says = says;
     }

@@ -16,6 +16,7 @@ use Rattle.cg_nodes.specs.Spelled.{can}
 use Rattle.cg_book.specs.declared.profile.Profile.{Profile}
 use Rattle.cg_book.specs.declared.verdicts.Verdicts.{Verdicts}
 use Rattle.cg_book.specs.declared.whole.Whole.{Whole}
+use Rattle.cg_book.specs.Keys.{AreKeys}
 use Rattle.cg_book.specs.Pages.{ArePages, games_of}
 use Rattle.cg_book.specs.Profiles.{HasCuts}
 use Rattle.cg_book.specs.Terms.{NoneComparable}
@@ -67,8 +68,8 @@ pub record Undominated (gs : List Game) (ls rs : List ℕ) (w : Whole) : Type 0 
 pub undominated : (gs : List Game) (ls rs us vs : List ℕ) (w : Whole) → w.lefts.now ≡ us → w.rights.now ≡ vs → ArePages gs us
     → ArePages gs vs → Tops true (games_of gs ls) (games_of gs us) → Tops false (games_of gs rs) (games_of gs vs)
     → NoNumber (node (games_of gs ls) (games_of gs rs)) → HasCuts (node (games_of gs ls) (games_of gs rs)) w.profile
-    → Undominated gs ls rs w
-undominated gs ls rs us vs w e f a b l r never cuts =
+    → AreKeys w.profile w.keys → Undominated gs ls rs w
+undominated gs ls rs us vs w e f a b l r never cuts keys =
     let P : List ℕ → Type 0 = λ z. ArePages gs z in
     let U : List ℕ → Type 0 = λ z. Tops true (games_of gs ls) (games_of gs z) in
     let V : List ℕ → Type 0 = λ z. Tops false (games_of gs rs) (games_of gs z) in
@@ -82,6 +83,7 @@ undominated gs ls rs us vs w e f a b l r never cuts =
         rights = subst P (sym f) b;
         no_number = no_number_equal (whole_game gs w) h equal never;
         cuts = cuts_equal (whole_game gs w) h w.profile equal cuts;
+        keys = keys;
         apart = λ s. by s left right;
       };
       lefts = tops_again true (games_of gs ls) (games_of gs w.lefts.now) left;

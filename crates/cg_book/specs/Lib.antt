@@ -4,6 +4,7 @@ pub mod Profiles
 pub mod Pages
 pub mod Recents
 pub mod Told
+pub mod Keys
 pub mod Terms
 pub mod Candidates
 pub mod Tops

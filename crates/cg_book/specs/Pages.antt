@@ -7,6 +7,7 @@ use Rattle.cg_form.specs.Game.{node, number}
 use Rattle.cg_book.specs.declared.pages.Page.{Page}
 use Rattle.cg_book.specs.declared.pages.Read.{Read}
 use Rattle.cg_book.specs.declared.pages.Read.TheVariants.{Number, Game}
+use Rattle.cg_book.specs.Keys.{AreKeys}
 use Rattle.cg_book.specs.Profiles.{IsProfile}
 
 -- the game of the page
@@ -58,6 +59,7 @@ pub record IsWritten (opts : List ℕ) (gs : List tree.Game) (p : Page) : Type 0
   pub end : p.end ≤ length opts
   pub canonical : Canonical (said opts gs p)
   pub profile : IsProfile (said opts gs p) p.profile
+  pub keys : AreKeys p.profile p.keys
 
 abbrev pub AreWritten : List ℕ → List tree.Game → List Page → Type 0
 AreWritten opts gs [] = length gs ≤ 2 ^ 32

@@ -4,6 +4,7 @@
 mod best;
 mod bypass;
 mod candidate;
+mod keys;
 mod order;
 mod outlining;
 mod owning;

@@ -107,7 +107,7 @@ pub fn at_most(
     if a == b {
         return Ok(true);
     }
-    if let Some(answer) = told_for(left, pages.profile(a), pages.profile(b)) {
+    if let Some(answer) = told_for(left, pages.keys(a), pages.keys(b)) {
         return Ok(answer);
     }
     if left {

@@ -3,9 +3,11 @@ ghost use Rattle.std.specs.Prelude.{◌≡◌, ◌≤◌, ◌++◌, ◌∷◌, [
 ghost use Rattle.std.specs.List.{slice_range};
 ghost use Rattle.cg_form.specs.Canonical.{Canonical};
 ghost use Rattle.cg_form.specs.Game.{node, number};
+ghost use Rattle.cg_book.specs.Keys.{HasKeys};
 ghost use Rattle.cg_book.specs.Pages.{ArePages, IsPage, IsRead, game_of, games_of};
 ghost use Rattle.cg_book.specs.Profiles.{IsProfile};
 
+use crate::keys::Keys;
 use crate::profile::Profile;
 use cg_dyadic::Dyadic;
 use std::alloc::{AllocError, Global};
@@ -14,16 +16,18 @@ use std::marker::Model;
 /// What a page says of its game.
 #[derive(Clone, Copy)]
 pub(crate) struct Page {
-    /// What is known of it besides its options.
-    profile: Profile,
-    /// Whether it is a number, which is then where the cuts of its profile are.
-    is_number: bool,
+    /// Where the cuts of its profile lie.
+    keys: Keys,
     /// Where its Left options begin among the options of all pages.
     lefts: usize,
     /// Where its Right options begin.
     rights: usize,
     /// Where its Right options end.
     end: usize,
+    /// Whether it is a number, which is then where the cuts of its profile are.
+    is_number: bool,
+    /// What is known of it besides its options.
+    profile: Profile,
 }
 
 /// A number, or the pages of the Left and of the Right options of another game.
@@ -91,12 +95,14 @@ impl Pages {
             return Err(AllocError);
         }
         let end = self.options.len();
+        let profile = Profile::number(x);
         self.pages.push(Page {
-            profile: Profile::number(x),
-            is_number: true,
+            keys: Keys::of(&profile),
             lefts: end,
             rights: end,
             end,
+            is_number: true,
+            profile,
         })?;
         Ok(count as u32)
     }
@@ -127,11 +133,12 @@ impl Pages {
         self.options.extend_from_slice(rights)?;
         let end = self.options.len();
         self.pages.push(Page {
-            profile: *profile,
-            is_number: false,
+            keys: Keys::of(profile),
             lefts: first,
             rights: middle,
             end,
+            is_number: false,
+            profile: *profile,
         })?;
         Ok(count as u32)
     }
@@ -164,5 +171,14 @@ impl Pages {
         ensures { IsProfile (game_of self.now page) result.now }
     {
         &self.pages[page as usize].profile
+    }
+
+    /// Where the cuts of the game of the page lie.
+    #[inline]
+    pub(crate) fn keys(&self, page: u32) -> &Keys
+        requires { IsPage self.now page }
+        ensures { HasKeys (game_of self.now page) result.now }
+    {
+        &self.pages[page as usize].keys
     }
 }

@@ -16,6 +16,7 @@ ghost use Rattle.cg_book.specs.Wholes.{AreVerdicts, WholeHolds, whole_game};
 
 use crate::best::tops_of;
 use crate::bypass::candidates;
+use crate::keys::Keys;
 use crate::owning::own_tops;
 use crate::pages::Pages;
 use crate::placing::in_order;
@@ -117,6 +118,7 @@ pub(crate) fn reduced(
         lefts: best_lefts.as_slice(),
         rights: best_rights.as_slice(),
         profile: *profile,
+        keys: Keys::of(profile),
     };
     bypassed(alloc, pages, answers, &whole)
 }

@@ -7,6 +7,7 @@ ghost use Rattle.cg_book.specs.Pages.{ArePages, IsPage, game_of, games_of};
 ghost use Rattle.cg_book.specs.Recents.{AreRight};
 ghost use Rattle.cg_book.specs.Wholes.{AreVerdicts, WholeHolds, whole_game};
 
+use crate::keys::Keys;
 use crate::order::at_most;
 use crate::pages::{Pages, Read};
 use crate::profile::Profile;
@@ -26,6 +27,8 @@ pub(crate) struct Whole<'a> {
     pub rights: &'a [u32],
     /// The profile of a game of the same value.
     pub profile: Profile,
+    /// The keys of the profile.
+    pub keys: Keys,
 }
 
 impl<'a> Whole<'a> {
@@ -144,7 +147,7 @@ fn at_most_whole(
     ensures verdicts { AreVerdicts pages.now whole.now verdicts.new }
     ensures right { AreRight pages.now answers.new }
 {
-    if let Some(answer) = told_for(left, pages.profile(page), &whole.profile) {
+    if let Some(answer) = told_for(left, pages.keys(page), &whole.keys) {
         return Ok(answer);
     }
     if let Some(answer) = verdicts.recall(left, page) {

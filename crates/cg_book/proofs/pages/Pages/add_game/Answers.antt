@@ -36,11 +36,12 @@ returns-in_err-push-clause-same c = always_on_err c.from_residual-in_err-push.re
 
 abbrev page_of : goal.In_ok-push → Page
 page_of c = record {
-  profile = c.args.profile.now;
-  is_number = false;
+  keys = c.of.result;
   lefts = c.len-first.result;
   rights = c.len-middle.result;
   end = c.len-end.result;
+  is_number = false;
+  profile = c.args.profile.now;
 }
 
 fewer : (c : goal.In_ok-push) → length c.args.self.now < 2 ^ 32
@@ -65,7 +66,7 @@ pushed c =
     let more = same_pages opts (ls ++ rs) all c.self.inside.pages.items gs (e ∙ append_assoc opts ls rs) c.self.invariant c.self.view_is in
     let A : List ℕ → Type 0 = λ z. Adds z gs (page_of c) g in
     let adds = subst A (sym e) (adds_game opts ls rs gs (page_of c) refl first middle end c.requires.lefts c.requires.rights
-    c.requires.canonical c.requires.profile) in
+    c.requires.canonical c.requires.profile c.of.ensures) in
     one_page all c.self.inside.pages.items c.push.new.self.items gs (page_of c) g more.0 more.1 adds c.in_ok-push.ensures.items (fewer c)
 
 pub invariant_of-self-2 : goal.invariant_of-self-2

@@ -5,7 +5,14 @@ use Rattle.cg_book.proofs.Paging.{Adds, adds_number, counted, one_page}
 use Rattle.cg_book.proofs.pages.Pages.add_number.Goals as goal
 
 abbrev page_of : goal.In_ok-push → Page
-page_of c = record { profile = c.number.result; is_number = true; lefts = c.len-end.result; rights = c.len-end.result; end = c.len-end.result }
+page_of c = record {
+  keys = c.of.result;
+  lefts = c.len-end.result;
+  rights = c.len-end.result;
+  end = c.len-end.result;
+  is_number = true;
+  profile = c.number-profile.result;
+}
 
 fewer : (c : goal.In_ok-push) → length c.args.self.now < 2 ^ 32
 fewer c =
@@ -15,7 +22,7 @@ fewer c =
 adds : (c : goal.In_ok-push) → Adds c.self.inside.options.items c.args.self.now (page_of c) (number c.args.x)
 adds c =
     let e : c.len-end.result ≡ length c.self.inside.options.items = search rules in
-    adds_number c.self.inside.options.items c.args.self.now (page_of c) c.args.x refl c.number.ensures.at e e e c.number.ensures.profile
+    adds_number c.self.inside.options.items c.args.self.now (page_of c) c.args.x refl c.number-profile.ensures.at e e e c.number-profile.ensures.profile c.of.ensures
 
 pub invariant_of-self-2 : goal.invariant_of-self-2
 invariant_of-self-2 c =

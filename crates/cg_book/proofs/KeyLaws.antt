@@ -1,0 +1,129 @@
+-- What keys tell of two cuts, and of the order of two games.
+use Rattle.std.proofs.Common.{◌≡◌, refl, ap, sym, ◌∙◌, subst, arith, ◌^◌, ◌<◌, Bool, true, false, not, IsTrue, ℤ, ◌≤ℤ◌, ◌<ℤ◌, unsigned_abs}
+use Rattle.std.proofs.lemmas.Int.{ints}
+use mir.Syntax.{w128}
+use mir.Val.{to_z, of_z}
+use lib.Signed.{lt_z}
+use Rattle.cg_dyadic.specs.declared.cut.Cut.{Cut}
+use Rattle.cg_dyadic.specs.Number.{InRange, Number, number_le}
+use Rattle.cg_dyadic.specs.Units.{units}
+use Rattle.cg_dyadic.specs.Wide.{places}
+use Rattle.cg_dyadic.proofs.Integers.{from_lt_z}
+use Rattle.cg_dyadic.proofs.Scale.{le-units, units-le}
+use Rattle.cg_dyadic.proofs.Truth.{false-from}
+use Rattle.cg_dyadic.proofs.Wides.{places-enough, units-in_range, wide_word}
+use Rattle.cg_form.specs.Cut.{within_cut}
+use Rattle.cg_form.specs.Game.{Game}
+use Rattle.cg_form.specs.Order.{le}
+use Rattle.cg_book.specs.declared.keys.Keys.{Keys}
+use Rattle.cg_book.specs.Keys.{HasKeys, key_of}
+use Rattle.cg_book.specs.Told.{GoesPast, Meet}
+use Rattle.cg_book.proofs.Telling.{above_first, above_second, between, meet_between, meet_high, meet_low, past_closed, past_open}
+
+-- ---- numbers by their units
+
+is_le : (x y : Number) → InRange x → InRange y → units places x ≤ℤ units places y → number_le x y ≡ true
+is_le x y r q h = units-le places x y (places-enough x r) (places-enough y q) h
+
+not_le : (x y : Number) → InRange x → InRange y → units places y <ℤ units places x → number_le x y ≡ false
+not_le x y r q h = false-from (number_le x y) (λ l.
+    let u = le-units places x y (places-enough x r) (places-enough y q) l in
+    absurd (omega (arith, ints)))
+
+-- ---- the numbers up to some one
+
+past_low_closed : (x y : Number) (d : Bool) → InRange x → InRange y → key_of y d <ℤ key_of x true
+    → IsTrue (not (within_cut true y d x))
+past_low_closed x y true r q h = ap not (not_le x y r q (omega (arith, ints)))
+past_low_closed x y false r q h = ap (λ z. not (not z)) (is_le y x q r (omega (arith, ints)))
+
+past_low_open : (x y : Number) (d : Bool) → InRange x → InRange y → key_of y d <ℤ key_of x false
+    → IsTrue (not (number_le x y))
+past_low_open x y true r q h = ap not (not_le x y r q (omega (arith, ints)))
+past_low_open x y false r q h = ap not (not_le x y r q (omega (arith, ints)))
+
+pub past_low : (a b : Cut) (c : Bool) → a.closed ≡ c → InRange a.at → InRange b.at → key_of b.at b.closed <ℤ key_of a.at c
+    → GoesPast true a b
+past_low a b true e r q h = past_closed true a b e (past_low_closed a.at b.at b.closed r q h)
+past_low a b false e r q h =
+    past_open true a b (record { at = b.at; closed = true }) refl refl e (past_low_open a.at b.at b.closed r q h)
+
+-- ---- the numbers from some one on
+
+past_high_closed : (x y : Number) (d : Bool) → InRange x → InRange y → key_of x false <ℤ key_of y (not d)
+    → IsTrue (not (within_cut false y d x))
+past_high_closed x y true r q h = ap not (not_le y x q r (omega (arith, ints)))
+past_high_closed x y false r q h = ap (λ z. not (not z)) (is_le x y r q (omega (arith, ints)))
+
+past_high_open : (x y : Number) (d : Bool) → InRange x → InRange y → key_of x true <ℤ key_of y (not d)
+    → IsTrue (not (number_le y x))
+past_high_open x y true r q h = ap not (not_le y x q r (omega (arith, ints)))
+past_high_open x y false r q h = ap not (not_le y x q r (omega (arith, ints)))
+
+pub past_high : (a b : Cut) (c : Bool) → a.closed ≡ c → InRange a.at → InRange b.at
+    → key_of a.at (not c) <ℤ key_of b.at (not b.closed) → GoesPast false a b
+past_high a b true e r q h = past_closed false a b e (past_high_closed a.at b.at b.closed r q h)
+past_high a b false e r q h =
+    past_open false a b (record { at = b.at; closed = true }) refl refl e (past_high_open a.at b.at b.closed r q h)
+
+-- ---- numbers in both
+
+meets_closed : (x y : Number) (d : Bool) → InRange x → InRange y → key_of x false <ℤ key_of y d → IsTrue (within_cut true y d x)
+meets_closed x y true r q h = is_le x y r q (omega (arith, ints))
+meets_closed x y false r q h = ap not (not_le y x q r (omega (arith, ints)))
+
+pub meet : (high low : Cut) (c d : Bool) → high.closed ≡ c → low.closed ≡ d → InRange high.at → InRange low.at
+    → key_of high.at (not c) <ℤ key_of low.at d → Meet high low
+meet high low true d e f r q h =
+    let P : Bool → Type 0 = λ z. IsTrue (within_cut true low.at z high.at) in
+    meet_high high low e (subst P (sym f) (meets_closed high.at low.at d r q h))
+meet high low false true e f r q h =
+    let P : Bool → Type 0 = λ z. IsTrue (within_cut false high.at z low.at) in
+    meet_low high low f (subst P (sym e) (ap not (not_le low.at high.at q r (omega (arith, ints)))))
+meet high low false false e f r q h =
+    meet_between high low (record { at = high.at; closed = true }) refl refl e f
+    (ap not (not_le low.at high.at q r (omega (arith, ints))))
+
+-- ---- words of 128 bits
+
+word_of : (k : ℤ) (x : Number) (b : Bool) → k ≡ key_of x b → InRange x → to_z w128 (of_z w128 k) ≡ k
+word_of k x b e r = wide_word k (small b e)
+  where
+    small : (c : Bool) → k ≡ key_of x c → unsigned_abs k < 2 ^ 126
+    small true f = let u = units-in_range x r in omega (arith, ints)
+    small false f = let u = units-in_range x r in omega (arith, ints)
+
+-- two keys that were compared as words
+less : (m n : ℤ) (x y : Number) (b c : Bool) → m ≡ key_of x b → n ≡ key_of y c → InRange x → InRange y
+    → lt_z (to_z w128 (of_z w128 m)) (to_z w128 (of_z w128 n)) ≡ true → key_of x b <ℤ key_of y c
+less m n x y b c e f r q h =
+    let P : ℤ → Type 0 = λ z. z <ℤ key_of y c in
+    let Q : ℤ → Type 0 = λ z. m <ℤ z in
+    subst P e (subst Q f (from_lt_z m n
+    (ap (λ z. lt_z z n) (sym (word_of m x b e r)) ∙ ap (lt_z (to_z w128 (of_z w128 m))) (sym (word_of n y c f q)) ∙ h)))
+
+abbrev pub IsLess : ℤ → ℤ → Type 0
+IsLess m n = lt_z (to_z w128 (of_z w128 m)) (to_z w128 (of_z w128 n)) ≡ true
+
+-- ---- two games
+
+pub told_low : (a b : Keys) (g h : Game) → HasKeys g a → HasKeys h b → IsLess b.low a.low → false ≡ le g h
+told_low a b g h p q l =
+    sym (above_first p.profile q.profile g h p.cuts q.cuts
+    (past_low p.profile.low q.profile.low p.profile.low.closed refl p.keys.low_in_range q.keys.low_in_range
+    (less b.low a.low q.profile.low.at p.profile.low.at q.profile.low.closed p.profile.low.closed q.keys.low p.keys.low
+    q.keys.low_in_range p.keys.low_in_range l)))
+
+pub told_high : (a b : Keys) (g h : Game) → HasKeys g a → HasKeys h b → IsLess b.high a.high → false ≡ le g h
+told_high a b g h p q l =
+    sym (above_second p.profile q.profile g h p.cuts q.cuts
+    (past_high q.profile.high p.profile.high q.profile.high.closed refl q.keys.high_in_range p.keys.high_in_range
+    (less b.high a.high q.profile.high.at p.profile.high.at (not q.profile.high.closed) (not p.profile.high.closed) q.keys.high p.keys.high
+    q.keys.high_in_range p.keys.high_in_range l)))
+
+pub told_between : (a b : Keys) (g h : Game) → HasKeys g a → HasKeys h b → IsLess a.high b.low → true ≡ le g h
+told_between a b g h p q l =
+    between p.profile q.profile g h p.cuts q.cuts
+    (meet p.profile.high q.profile.low p.profile.high.closed q.profile.low.closed refl refl p.keys.high_in_range q.keys.low_in_range
+    (less a.high b.low p.profile.high.at q.profile.low.at (not p.profile.high.closed) q.profile.low.closed p.keys.high q.keys.low
+    p.keys.high_in_range q.keys.low_in_range l))
