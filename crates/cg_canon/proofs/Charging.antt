@@ -91,6 +91,13 @@ two_lists n m s t u v ls rs o q e a b k l i j =
       second = listed_as v q (games_at u rs) j ∙ games_later t u k.known rs tr ∙ games_later s t more rs b;
     }
 
+-- the first list, as it was made, stands for the same games with what is known then
+pub first_later : {R Q : Type 0} (n : ℕ) (s : State Meant R) (t u : State Meant Q) (ls : List ℕ) (o : Option ℕ) → t.known ≡ s.known
+    → AreGames s ls → Spends n t u → ListsAs u o (games_at t ls) → ListsAs u o (games_at u ls)
+first_later n s t u ls o e a k i =
+    let P : List Game → Type 0 = λ z. ListsAs u o z in
+    subst P (sym (games_later t u k.known ls (are_games_later s t (known_grows s t e) ls a))) i
+
 pub same_node : (a b c d : List Game) → a ≡ c → b ≡ d → node a b ≡ node c d
 same_node a b c d e f = cc
 

@@ -1,11 +1,13 @@
 -- A table of forms, as the store and the table change.
-use Rattle.std.proofs.Common.{◌≡◌, ◌⊎◌, ◌∙◌, ℕ, List, Some, ap, refl, inl, inr, sym, subst}
-use Rattle.std.specs.Prelude.{◌==◌, if◌then◌else◌, nat_eq}
+use Rattle.std.proofs.Common.{◌≡◌, ◌⊎◌, ◌∙◌, ℕ, List, Option, None, Some, ap, refl, inl, inr, sym, subst}
+use Rattle.std.specs.Prelude.{◌==◌, if◌then◌else◌, nat_eq, IfSome}
 use Rattle.std.specs.HashMap.{get}
 use Rattle.std.proofs.lemmas.Bool.Decides.{eqb_tells}
 use Rattle.cg_cells.specs.Meaning.{Grows}
 use Rattle.cg_cells.specs.Store.{State, thing_at}
+use Rattle.cg_form.specs.Canonical.{Canonical}
 use Rattle.cg_form.specs.Game.{Game, node}
+use Rattle.cg_nodes.specs.CanForms.{can-fixed}
 use Rattle.cg_nodes.specs.Games.{AreGames, StandsFor, games_at}
 use Rattle.cg_nodes.specs.Meant.{Meant}
 use Rattle.cg_nodes.specs.Spelled.{can}
@@ -35,6 +37,16 @@ module _ {R Q : Type 0} (s : State Meant R) (t : State Meant Q) (grows : Grows (
 
   pub forms_later : (m : MadeForms) → FormsHold s m → FormsHold t m
   forms_later m h = record { each = λ ls rs form k. form_later ls rs form (h.each ls rs form k) }
+
+-- ---- a canonical game
+
+-- the form that was made of its options stands for it
+pub fixed_form : {R : Type 0} (s : State Meant R) (ls rs : List ℕ) (o : Option ℕ) → Canonical (node (games_at s ls) (games_at s rs))
+    → IfSome o (IsFormOf s ls rs) → IfSome o (λ h. StandsFor s h (node (games_at s ls) (games_at s rs)))
+fixed_form s ls rs None c k = tt
+fixed_form s ls rs (Some h) c k =
+    let P : Game → Type 0 = λ z. StandsFor s h z in
+    subst P (can-fixed (node (games_at s ls) (games_at s rs)) c) k.stands
 
 -- ---- what a table has
 

@@ -1,23 +1,23 @@
 //! Items of forms that need no search: a number, and a form that is known.
-ghost use Rattle.std.specs.Prelude.{◌≡◌, ◌+◌, ◌≤◌, ◌^◌, IfOk, IfErr, OnOk, OnErr, [], ◌∷◌};
+ghost use Rattle.std.specs.Prelude.{◌≡◌, ◌+◌, ◌≤◌, ◌^◌, ℕ, IfOk, IfErr, OnOk, OnErr, [], ◌∷◌, length};
 ghost use Rattle.cg_form.specs.Canonical.{Canonical};
 ghost use Rattle.cg_form.specs.Game.{Game, node, number};
 ghost use Rattle.cg_cells.specs.Store.{Spends};
-ghost use Rattle.cg_nodes.specs.Games.{AreGames, IsGame, StandsFor, game_at, games_at};
+ghost use Rattle.cg_nodes.specs.Games.{AreGames, IsGame, ListsAs, StandsFor, game_at, games_at};
 ghost use Rattle.cg_canon.specs.Items.{AllPass, WasRefused, made};
 ghost use Rattle.cg_book.specs.Profiles.{IsProfile};
-ghost use Rattle.cg_form.specs.Simple.{NoNumber};
 ghost use Rattle.cg_canon.specs.Values.{IsListed};
 ghost use Rattle.cg_canon.specs.NumberItems.{IsForm, number_made};
 ghost use Rattle.cg_canon.specs.Works.{IsUnspent, Keeps, work_state};
 
 use crate::fault::ValueFault;
+use crate::made::are_same;
 use crate::value::ListedForm;
 use crate::work::Work;
 use cg_book::Profile;
 use cg_cells::CellStore;
 use cg_dyadic::Dyadic;
-use cg_nodes::{BoardForms, GameFacts, Handle, game, list, number};
+use cg_nodes::{BoardForms, GameFacts, Handle, ListId, game, list, number};
 use std::alloc::Global;
 
 /// The greatest depth of a form that is made.
@@ -46,6 +46,26 @@ fn charge_form<B: BoardForms, S: CellStore<GameFacts<B>>>(
     work.charge(profile.cost + extra)
 }
 
+/// The list of the Right options, where that of the Left options was made. The same options have the same list, as those of
+/// nimbers have, and nothing is claimed for it then.
+fn second_list<B: BoardForms, S: CellStore<GameFacts<B>>>(
+    work: &mut Work<B, S>,
+    lefts: &[Handle],
+    rights: &[Handle],
+    left_list: ListId,
+) -> ListId
+    requires spare { length rights.now ≤ (work_state S.state work.old).spare }
+    requires games { AreGames (work_state S.state work.old) rights.now }
+    requires first { ListsAs (work_state S.state work.old) left_list (games_at (work_state S.state work.old) lefts.now) }
+    ensures list { ListsAs (work_state S.state work.new) result (games_at (work_state S.state work.old) rights.now) }
+    ensures spends { (n : ℕ) × (n ≤ length rights.now) × Spends n (work_state S.state work.old) (work_state S.state work.new) }
+{
+    if are_same(lefts, rights) {
+        return left_list;
+    }
+    list(work, rights)
+}
+
 /// Makes the item of the canonical game with these options and this profile, with a cost of `extra` more.
 fn game_item<B: BoardForms, S: CellStore<GameFacts<B>>>(
     work: &mut Work<B, S>,
@@ -68,12 +88,12 @@ fn game_item<B: BoardForms, S: CellStore<GameFacts<B>>>(
         WasRefused fault work.old.share work.old.spent
         (made (node (games_at W lefts.now) (games_at W rights.now)) extra ∷ []) work.new.spent) }
     ensures same { OnErr result (work.new ≡ work.old) }
-    ensures spare { OnOk result ((work_state S.state work.new).spare ≡ (work_state S.state work.old).spare + extra) }
+    ensures spare { OnOk result ((work_state S.state work.old).spare + extra ≤ (work_state S.state work.new).spare) }
     ensures keeps { Keeps (work_state S.state work.old) (work_state S.state work.new) }
 {
     charge_form(work, profile, extra)?;
     let left_list = list(work, lefts);
-    let right_list = list(work, rights);
+    let right_list = second_list(work, lefts, rights, left_list);
     Ok(game(work, left_list, right_list))
 }
 
@@ -96,7 +116,7 @@ pub(crate) fn listed_item<B: BoardForms, S: CellStore<GameFacts<B>>>(
         WasRefused fault work.old.share work.old.spent
         (made (node (games_at W form.now.lefts.items) (games_at W form.now.rights.items)) extra ∷ []) work.new.spent) }
     ensures same { OnErr result (work.new ≡ work.old) }
-    ensures spare { OnOk result ((work_state S.state work.new).spare ≡ (work_state S.state work.old).spare + extra) }
+    ensures spare { OnOk result ((work_state S.state work.old).spare + extra ≤ (work_state S.state work.new).spare) }
     ensures keeps { Keeps (work_state S.state work.old) (work_state S.state work.new) }
 {
     let lefts = form.lefts.as_slice();
@@ -104,70 +124,6 @@ pub(crate) fn listed_item<B: BoardForms, S: CellStore<GameFacts<B>>>(
     let handle = game_item(work, lefts, rights, &form.new.profile, extra)?;
     work.enter(handle, form);
     Ok(handle)
-}
-
-/// Makes the item of a game that is canonical as it is given, with a cost of `extra` more.
-fn given_item<B: BoardForms, S: CellStore<GameFacts<B>>>(
-    alloc: Global,
-    work: &mut Work<B, S>,
-    lefts: &[Handle],
-    rights: &[Handle],
-    extra: u64,
-) -> Result<Handle, ValueFault>
-    requires extra { extra ≤ 8 }
-    requires lefts { AreGames (work_state S.state work.old) lefts.now }
-    requires rights { AreGames (work_state S.state work.old) rights.now }
-    requires canonical { let W = work_state S.state work.old in Canonical (node (games_at W lefts.now) (games_at W rights.now)) }
-    requires no_number { let W = work_state S.state work.old in NoNumber (node (games_at W lefts.now) (games_at W rights.now)) }
-    ensures game { let W = work_state S.state work.old in
-        IfOk result (λ h. StandsFor (work_state S.state work.new) h (node (games_at W lefts.now) (games_at W rights.now))) }
-    ensures charged { let W = work_state S.state work.old in OnOk result (AllPass work.old.share work.old.spent
-        (made (node (games_at W lefts.now) (games_at W rights.now)) extra ∷ []) work.new.spent) }
-    ensures refused { let W = work_state S.state work.old in IfErr result (λ fault.
-        WasRefused fault work.old.share work.old.spent
-        (made (node (games_at W lefts.now) (games_at W rights.now)) extra ∷ []) work.new.spent) }
-    ensures same { OnErr result (Spends 0 (work_state S.state work.old) (work_state S.state work.new)) }
-    ensures spare { OnOk result ((work_state S.state work.new).spare ≡ (work_state S.state work.old).spare + extra) }
-    ensures keeps { Keeps (work_state S.state work.old) (work_state S.state work.new) }
-{
-    let form = work.form_of(alloc, lefts, rights)?;
-    listed_item(work, &form, extra)
-}
-
-/// Makes the item of a game that is canonical as it is given, with a cost of `extra` more, where `extra` is at most 8. It
-/// is [`canonical`](crate::canonical) without the search: both lists rise in the structural order, no option is dominated or
-/// reversible, and the game equals no number.
-///
-/// `Depth` comes exactly where its depth is above 512, and else `Full` exactly where its cost and `extra` together bring the
-/// total cost above the share. After a refusal nothing was spent.
-pub fn canonical_item<B: BoardForms, S: CellStore<GameFacts<B>>>(
-    alloc: Global,
-    work: &mut Work<B, S>,
-    lefts: &[Handle],
-    rights: &[Handle],
-    extra: u64,
-) -> Result<Handle, ValueFault>
-    requires extra { extra ≤ 8 }
-    requires lefts { AreGames (work_state S.state work.old) lefts.now }
-    requires rights { AreGames (work_state S.state work.old) rights.now }
-    requires canonical { let W = work_state S.state work.old in Canonical (node (games_at W lefts.now) (games_at W rights.now)) }
-    ensures game { let W = work_state S.state work.old in
-        IfOk result (λ h. StandsFor (work_state S.state work.new) h (node (games_at W lefts.now) (games_at W rights.now))) }
-    ensures charged { let W = work_state S.state work.old in OnOk result (AllPass work.old.share work.old.spent
-        (made (node (games_at W lefts.now) (games_at W rights.now)) extra ∷ []) work.new.spent) }
-    ensures refused { let W = work_state S.state work.old in IfErr result (λ fault.
-        WasRefused fault work.old.share work.old.spent
-        (made (node (games_at W lefts.now) (games_at W rights.now)) extra ∷ []) work.new.spent) }
-    ensures same { OnErr result (IsUnspent S.state work.old work.new) }
-    ensures spare { OnOk result ((work_state S.state work.old).spare + extra ≤ (work_state S.state work.new).spare) }
-    ensures more { (work_state S.state work.old).spare ≤ (work_state S.state work.new).spare }
-    ensures keeps { Keeps (work_state S.state work.old) (work_state S.state work.new) }
-{
-    // Read for the proof alone: the meter tells what the store has to spare.
-    let _before = work.spent();
-    let outcome = given_item(alloc, work, lefts, rights, extra);
-    let _after = work.spent();
-    outcome
 }
 
 /// Makes the item of a number in range, with a cost of `extra` more.

@@ -42,7 +42,7 @@ fn number_of_both(lefts: &[Handle], rights: &[Handle]) -> u64 {
 }
 
 /// Whether the two lists are the same.
-fn are_same(a: &[Handle], b: &[Handle]) -> bool
+pub(crate) fn are_same(a: &[Handle], b: &[Handle]) -> bool
     ensures { IsTrue result → a.now ≡ b.now }
 {
     a == b

@@ -1,6 +1,6 @@
 use Rattle.cg_canon.specs.Works.{work_state}
 use Rattle.cg_canon.proofs.Keeping.{keeps_then, spends_keeps}
-use Rattle.cg_canon.proofs.item.given_item.Goals as goal
+use Rattle.cg_canon.proofs.given.given_item.Goals as goal
 
 pub returns-clause-keeps : goal.returns-clause-keeps
 returns-clause-keeps g c =
