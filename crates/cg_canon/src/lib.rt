@@ -15,6 +15,7 @@ mod memo;
 mod numbers;
 mod order;
 mod paging;
+mod places;
 mod rest;
 mod value;
 mod work;
