@@ -1,6 +1,5 @@
 -- What a book keeps, as its store and its pages grow.
 use Rattle.std.proofs.Common.{◌≡◌, refl, ℕ, suc, ◌+◌, ◌-◌, ◌<◌, ◌≤◌, arith, ap, sym, ◌∙◌, subst, inl, inr, Bool, false, IsSome, is_some, Option, Some, None, List, [], ◌∷◌, ◌++◌, length, length-append, take, get_or}
-use Rattle.std.specs.Prelude.{◌==◌, if◌then◌else◌}
 use Rattle.std.proofs.lemmas.Bool.Decides.{eqb_tells}
 use Rattle.std.proofs.lemmas.List.{get_or_append_left, get_or-append_right, append_assoc, append-nil}
 use Rattle.cg_form.specs.Game.{Game}
@@ -19,15 +18,12 @@ use Rattle.cg_book.specs.Recents.{AreRight, IsKept}
 use Rattle.cg_book.proofs.Paging.{game_before, games_before, page_before, pages_before}
 use Rattle.cg_book.proofs.Slices.{games_take_suc}
 use Rattle.cg_canon.specs.declared.book.Book.{Book}
-use Rattle.cg_canon.specs.Books.{Begins, BookHolds, HasHandle, IsNamed, handle_of, page_for}
+use Rattle.cg_canon.specs.Books.{Begins, BookHolds, HasHandle, IsNamed, handle_of}
 
 -- ---- more games behind
 
 pub begins_none : (gs : List Game) → Begins gs gs
 begins_none gs = record { more = []; is = sym (append-nil gs) }
-
-pub begins_same : (gs hs : List Game) → hs ≡ gs → Begins gs hs
-begins_same gs hs e = record { more = []; is = e ∙ sym (append-nil gs) }
 
 pub begins_one : (gs hs : List Game) (g : Game) → hs ≡ gs ++ (g ∷ []) → Begins gs hs
 begins_one gs hs g e = record { more = g ∷ []; is = e }
@@ -80,32 +76,24 @@ book_later s t b grows h = record {
         game = is_game_later s t grows (handle_of b page) i.game;
         same = game_later s t grows (handle_of b page) i.game ∙ i.same;
       };
-  known = h.known;
   right = h.right;
 }
 
-none_some : {A : Type 0} (o : Option A) (x : A) → o ≡ None → o ≡ Some x → ⊥
-none_some o x e f = cc
-
-some_same : {A : Type 0} (x y : A) → Some x ≡ Some y → x ≡ y
-some_same x y e = cc
-
 -- of no games
-pub new_holds : {R : Type 0} (s : State Meant R) (b : Book) → b.handles.items ≡ [] → ((id : ℕ) → page_for b id ≡ None)
+pub new_holds : {R : Type 0} (s : State Meant R) (b : Book) → b.handles.items ≡ []
     → ((x : Answer) → IsKept b.answers x → ⊥) → BookHolds s b
-new_holds s b e none empty =
+new_holds s b e empty =
     let n = ap length e in
     record {
       fewer = omega arith;
       each = λ page k. absurd (omega arith);
-      known = λ id page k. absurd (none_some (page_for b id) page (none id) k);
       right = λ x k. absurd (empty x k);
     }
 
 -- with more games behind, and the same handles
 pub holds_begins : {R : Type 0} (s : State Meant R) (b c : Book) → BookHolds s b → Begins b.pages c.pages
-    → c.handles.items ≡ b.handles.items → ((id : ℕ) → page_for c id ≡ page_for b id) → c.answers ≡ b.answers → BookHolds s c
-holds_begins s b c h begins e f r =
+    → c.handles.items ≡ b.handles.items → c.answers ≡ b.answers → BookHolds s c
+holds_begins s b c h begins e r =
     let n = ap length e in
     let m = length_begins b.pages c.pages begins in
     let few = h.fewer in
@@ -120,10 +108,6 @@ holds_begins s b c h begins e f r =
             game = subst P (sym (same page)) i.game;
             same = ap (game_at s) (same page) ∙ i.same ∙ sym (game_begins b.pages c.pages page begins (omega arith));
           };
-      known = λ id page k.
-          let i = h.known id page (sym (f id) ∙ k) in
-          let p = i.within in
-          record { within = omega arith; is = same page ∙ i.is };
       right = subst A (sym r) (right_begins b.pages c.pages b.answers begins h.right);
     }
 
@@ -142,10 +126,10 @@ last_handle b c handle page e at =
 
 -- with one handle more
 pub holds_pushed : {R : Type 0} (s : State Meant R) (b c : Book) (handle page : ℕ) → BookHolds s b → c.pages ≡ b.pages
-    → c.handles.items ≡ b.handles.items ++ (handle ∷ []) → ((id : ℕ) → page_for c id ≡ page_for b id) → c.answers ≡ b.answers
+    → c.handles.items ≡ b.handles.items ++ (handle ∷ []) → c.answers ≡ b.answers
     → IsGame s handle → page ≡ length b.handles.items → IsPage b.pages page → game_of b.pages page ≡ game_at s handle
     → BookHolds s c
-holds_pushed {R} s b c handle page h p e f r game next is_page is =
+holds_pushed {R} s b c handle page h p e r game next is_page is =
     let P : List Game → Type 0 = λ z. AreRight z c.answers in
     let A : Recent → Type 0 = λ z. AreRight b.pages z in
     let n = ap length e in
@@ -154,10 +138,6 @@ holds_pushed {R} s b c handle page h p e f r game next is_page is =
     record {
       fewer = omega arith;
       each = λ q less. named q (omega arith);
-      known = λ id q there.
-          let i = h.known id q (sym (f id) ∙ there) in
-          let w = i.within in
-          record { within = omega arith; is = old q i.within ∙ i.is };
       right = subst P (sym p) (subst A (sym r) h.right);
     }
   where
@@ -184,64 +164,19 @@ holds_pushed {R} s b c handle page h p e f r game next is_page is =
           }
     ]
 
--- with a page known for an id
-pub holds_known : {R : Type 0} (s : State Meant R) (b c : Book) (id page : ℕ) → BookHolds s b → c.pages ≡ b.pages
-    → c.handles.items ≡ b.handles.items → c.answers ≡ b.answers
-    → ((other : ℕ) → page_for c other ≡ (if id == other then Some page else page_for b other)) → HasHandle b page id
-    → BookHolds s c
-holds_known {R} s b c id page h p e r f has =
-    let P : List Game → Type 0 = λ z. AreRight z c.answers in
-    let A : Recent → Type 0 = λ z. AreRight b.pages z in
-    let n = ap length e in
-    let k = ap length p in
-    let few = h.fewer in
-    record {
-      fewer = omega arith;
-      each = λ q less.
-          let i = h.each q (omega arith) in
-          let G : ℕ → Type 0 = λ z. IsGame s z in
-          record {
-            game = subst G (sym (same q)) i.game;
-            same = ap (game_at s) (same q) ∙ i.same ∙ ap (λ z. game_of z q) (sym p);
-          };
-      known = λ other q there. moved q other (by other q (sym (f other) ∙ there));
-      right = subst P (sym p) (subst A (sym r) h.right);
-    }
-  where
-    same : (q : ℕ) → handle_of c q ≡ handle_of b q
-    same q = ap (λ z. get_or z q 0) e
-
-    moved : (q other : ℕ) → HasHandle b q other → HasHandle c q other
-    moved q other i =
-        let n = ap length e in
-        let w = i.within in
-        record { within = omega arith; is = same q ∙ i.is }
-
-    by : (other q : ℕ) → (if id == other then Some page else page_for b other) ≡ Some q → HasHandle b q other
-    by other q there = elim (eqb_tells id other) [
-      | inl t ↦
-          let k : page ≡ q = some_same page q (sym (rw t.0 refl) ∙ there) in
-          subst (λ z. HasHandle b q z) t.1 (subst (λ z. HasHandle b z id) k has)
-      | inr t ↦
-          let k : (if id == other then Some page else page_for b other) ≡ page_for b other = rw t.0 refl in
-          h.known other q (sym k ∙ there)
-    ]
-
 -- with other answers
 pub holds_answers : {R : Type 0} (s : State Meant R) (b : Book) (r : Recent) → BookHolds s b → AreRight b.pages r
     → BookHolds s (record b { answers = r })
 holds_answers s b r h right = record {
   fewer = h.fewer;
   each = λ page k. let i = h.each page k in record { game = i.game; same = i.same };
-  known = λ id page k. let i = h.known id page k in record { within = i.within; is = i.is };
   right = right;
 }
 
--- the page that is known for a handle
-pub known_page : {R : Type 0} (s : State Meant R) (b : Book) (handle page : ℕ) → BookHolds s b → page_for b handle ≡ Some page
+-- the page that has a handle
+pub known_page : {R : Type 0} (s : State Meant R) (b : Book) (handle page : ℕ) → BookHolds s b → HasHandle b page handle
     → IsPage b.pages page × (game_of b.pages page ≡ game_at s handle)
-known_page s b handle page h e =
-    let i = h.known handle page e in
+known_page s b handle page h i =
     let few = h.fewer in
     let w = i.within in
     (omega arith, sym (h.each page i.within).same ∙ ap (game_at s) i.is)

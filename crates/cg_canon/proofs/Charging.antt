@@ -104,25 +104,6 @@ same_node a b c d e f = cc
 pub canonical_node : (a b c d : List Game) → a ≡ c → b ≡ d → Canonical (node c d) → Canonical (node a b)
 canonical_node a b c d e f k = let P : Game → Type 0 = λ z. Canonical z in subst P (sym (same_node a b c d e f)) k
 
--- ---- what was said from a work as it was later, where nothing was spent in between
-
-module _ {T : Type 0} (r : Result T ValueFault) (share spent share' spent' after extra : ℕ) (g h : Game) (same_share : share' ≡ share)
-    (same_spent : spent' ≡ spent) (same : g ≡ h) where
-  pub charged_before : OnOk r (AllPass share' spent' (made h extra ∷ []) after) → OnOk r (AllPass share spent (made g extra ∷ []) after)
-  charged_before k =
-      let P : ℕ → Type 0 = λ z. OnOk r (AllPass z spent' (made h extra ∷ []) after) in
-      let Q : ℕ → Type 0 = λ z. OnOk r (AllPass share z (made h extra ∷ []) after) in
-      let V : Game → Type 0 = λ z. OnOk r (AllPass share spent (made z extra ∷ []) after) in
-      subst V (sym same) (subst Q same_spent (subst P same_share k))
-
-  pub refused_before : IfErr r (λ f. WasRefused f share' spent' (made h extra ∷ []) after)
-      → IfErr r (λ f. WasRefused f share spent (made g extra ∷ []) after)
-  refused_before k =
-      let P : ℕ → Type 0 = λ z. IfErr r (λ f. WasRefused f z spent' (made h extra ∷ []) after) in
-      let Q : ℕ → Type 0 = λ z. IfErr r (λ f. WasRefused f share z (made h extra ∷ []) after) in
-      let V : Game → Type 0 = λ z. IfErr r (λ f. WasRefused f share spent (made z extra ∷ []) after) in
-      subst V (sym same) (subst Q same_spent (subst P same_share k))
-
 -- a form that is out of range
 pub outside_refused : (share spent extra : ℕ) (g : Game) (x : Number) → g ≡ number x → ¬ InRange x
     → IsStopped Range share spent (made g extra ∷ []) spent

@@ -84,14 +84,6 @@ all_pass-append share a b c xs ys p q = record {
   ];
 }
 
-pub all_pass-front : (share a c : ℕ) (xs ys : List Item) → AllPass share a (xs ++ ys) c
-    → AllPass share a xs (a + total xs)
-all_pass-front share a c xs ys p = record {
-  spent = refl;
-  each = λ front item back e.
-      p.each front item (back ++ ys) (ap (λ z. z ++ ys) e ∙ append_assoc front (item ∷ back) ys);
-}
-
 pub all_pass-back : (share a c : ℕ) (xs ys : List Item) → AllPass share a (xs ++ ys) c
     → AllPass share (a + total xs) ys c
 all_pass-back share a c xs ys p = record {
@@ -107,11 +99,6 @@ all_pass-back share a c xs ys p = record {
 pub all_pass-more : (share a b c : ℕ) (item : Item) (items : List Item) → AllPass share a (item ∷ []) b
     → AllPass share b items c → AllPass share a (item ∷ items) c
 all_pass-more share a b c item items p q = all_pass-append share a b c (item ∷ []) items p q
-
--- one item more at the end
-pub all_pass-last : (share a b c : ℕ) (items : List Item) (item : Item) → AllPass share a items b
-    → AllPass share b (item ∷ []) c → AllPass share a (items ++ item ∷ []) c
-all_pass-last share a b c items item p q = all_pass-append share a b c items (item ∷ []) p q
 
 -- ---- stopped
 

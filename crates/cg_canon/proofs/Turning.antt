@@ -65,11 +65,6 @@ done_more s t u v list rest top h a i b =
           ∙ ap (λ z. h.games ++ z) (sym i.2) ∙ h.all;
     }
 
-done_all : {R : Type 0} (s t u : State Meant R) (list rest : Option ℕ) (o : Option Split) (h : Done s t list rest)
-    → IsHead u o (listed t rest) → ((top : Split) → o ≡ Some top → ⊥) → h.games ≡ listed s list
-done_all s t u list rest None h i n = sym (append_nil h.games) ∙ ap (λ z. h.games ++ z) (sym i) ∙ h.all
-done_all s t u list rest (Some top) h i n = absurd (n top refl)
-
 -- the pages of the games so far; the book was a before and is b
 pub record Paged {R : Type 0} (s t : State Meant R) (a b : Book) (list rest : Option ℕ) (ps : List ℕ) : Type 0 where
   pub done : Done s t list rest
@@ -95,13 +90,6 @@ paged_more s t u v a b c list rest top ps more page h x i y holds begins is e = 
   begins = begins_then a.pages b.pages c.pages h.begins begins;
   pages = stand_pushed c.pages ps more page h.done.games (game_at u top.first) (stand_begins b.pages c.pages ps h.done.games begins h.pages) is.0 is.1 e;
 }
-
-pub paged_all : {R : Type 0} (s t u : State Meant R) (a b : Book) (list rest : Option ℕ) (ps : List ℕ) (o : Option Split)
-    → Paged s t a b list rest ps → IsHead u o (listed t rest) → ((top : Split) → o ≡ Some top → ⊥)
-    → StandFor b.pages ps (listed s list)
-paged_all s t u a b list rest ps o h i n =
-    let P : List Game → Type 0 = λ z. StandFor b.pages ps z in
-    subst P (done_all s t u list rest o h.done i n) h.pages
 
 -- ---- a game with the pages of both its lists
 

@@ -1,6 +1,5 @@
 -- What a book has of the games of a store.
-use Rattle.std.specs.Prelude.{◌≡◌, ℕ, ◌<◌, ◌≤◌, ◌++◌, List, Option, Some, length, nat_eq, slice_index_or}
-use Rattle.std.specs.HashMap.{get}
+use Rattle.std.specs.Prelude.{◌≡◌, ℕ, ◌<◌, ◌≤◌, ◌++◌, List, length, slice_index_or}
 use Rattle.cg_form.specs.Game.{Game}
 use Rattle.cg_cells.specs.Store.{State}
 use Rattle.cg_nodes.specs.Games.{IsGame, game_at}
@@ -8,10 +7,6 @@ use Rattle.cg_nodes.specs.Meant.{Meant}
 use Rattle.cg_book.specs.Pages.{game_of}
 use Rattle.cg_book.specs.Recents.{AreRight}
 use Rattle.cg_canon.specs.declared.book.Book.{Book}
-
--- the page for an id
-abbrev pub page_for : Book → ℕ → Option ℕ
-page_for b id = get nat_eq b.by_id id
 
 -- the handle of a page
 abbrev pub handle_of : Book → ℕ → ℕ
@@ -31,7 +26,6 @@ pub record BookHolds {R : Type 0} (s : State Meant R) (b : Book) : Type 0 where
   -- the first pages have handles
   pub fewer : length b.handles.items ≤ length b.pages
   pub each : (page : ℕ) → page < length b.handles.items → IsNamed s b page
-  pub known : (id page : ℕ) → page_for b id ≡ Some page → HasHandle b page id
   pub right : AreRight b.pages b.answers
 
 -- the first games of the second list are those of the first

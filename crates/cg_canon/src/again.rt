@@ -11,34 +11,12 @@ ghost use Rattle.cg_form.specs.Sum.{sum as sum_of};
 ghost use Rattle.cg_nodes.specs.Games.{IsGame, StandsFor, game_at};
 ghost use Rattle.cg_nodes.specs.Spelled.{can};
 
+use crate::at_once::charged;
 use crate::memo::KnownSum;
 use crate::work::Work;
 use cg_cells::CellStore;
 use cg_nodes::{BoardForms, GameFacts, Handle};
 use std::alloc::AllocError;
-
-/// The greatest cost that is charged at once, above that of any table.
-const MOST: u64 = 1 << 35;
-
-/// Charges the items of a known sum at once, unless they don't fit.
-fn charged<B: BoardForms, S: CellStore<GameFacts<B>>>(
-    work: &mut Work<B, S>,
-    known: &KnownSum,
-) -> Option<Handle>
-    ensures some { IfSome result (λ h. h ≡ known.now.sum) }
-    ensures spent { OnSome result (work.new ≡ record work.old { spent = work.old.spent + known.now.cost }) }
-    ensures fits { OnSome result (work.old.spent + known.now.cost ≤ work.old.share) }
-    ensures room { OnSome result ((work_state S.state work.new).spare ≡ (work_state S.state work.old).spare + known.now.cost) }
-    ensures none { IfNone result (work.new ≡ work.old) }
-{
-    if known.cost > MOST {
-        return None;
-    }
-    match work.charge(known.cost) {
-        Ok(()) => Some(known.sum),
-        Err(_) => None,
-    }
-}
 
 /// Charges the items of a known sum at once, if they were made under this work's limit, unless they don't fit.
 fn again<B: BoardForms, S: CellStore<GameFacts<B>>>(
@@ -52,10 +30,10 @@ fn again<B: BoardForms, S: CellStore<GameFacts<B>>>(
     ensures room { OnSome result ((work_state S.state work.new).spare ≡ (work_state S.state work.old).spare + known.now.cost) }
     ensures none { IfNone result (work.new ≡ work.old) }
 {
-    if known.limit != work.limit() {
-        return None;
+    if known.limit == work.limit() && charged(work, known.cost) {
+        return Some(known.sum);
     }
-    charged(work, known)
+    None
 }
 
 /// The handle of the canonical form of a + b, where all items of that sum were made in this work before and what they cost

@@ -1,17 +1,17 @@
 //! The games that a work has met, each on a page of a book.
-ghost use Rattle.std.specs.Prelude.{◌≡◌, ◌≤◌, ◌↔◌, [], ℕ, None, length, IfOk, OnErr, IsTrue};
+ghost use Rattle.std.specs.Prelude.{◌≡◌, ◌≤◌, ◌↔◌, [], length, IfOk, IfSome, OnErr, IsTrue};
 ghost use Rattle.cg_nodes.specs.Games.{IsGame, AreGames, game_at, games_at};
 ghost use Rattle.cg_book.specs.declared.recent.Answer.{Answer as Known};
 ghost use Rattle.cg_book.specs.Pages.{IsPage, game_of, games_of};
 ghost use Rattle.cg_book.specs.Recents.{IsKept};
-ghost use Rattle.cg_canon.specs.Books.{BookHolds, HasHandle, page_for};
+ghost use Rattle.cg_canon.specs.Books.{BookHolds, HasHandle};
 
+use crate::places::Places;
 use cg_book::{Pages, Recent};
 use cg_cells::CellStore;
 use cg_nodes::{BoardForms, GameFacts, Handle};
 use smallvec::SmallVec;
 use std::alloc::{AllocError, Global};
-use std::collections::HashMap;
 
 /// A list of pages: up to 8 of them take no memory.
 pub(crate) type PageList = SmallVec<u32, 8>;
@@ -29,8 +29,8 @@ pub(crate) struct Book {
     pub(crate) answers: Recent,
     /// The handles of the first pages.
     handles: Vec<Handle>,
-    /// The page of each handle's game, by the handle's id.
-    by_id: HashMap<u32, u32>,
+    /// Where the page of a handle is looked for.
+    places: Places,
 }
 
 impl Book {
@@ -38,22 +38,21 @@ impl Book {
     pub(crate) fn new(alloc: Global) -> Book
         ensures pages { result.pages ≡ [] }
         ensures handles { result.handles.items ≡ [] }
-        ensures by_id { (id : ℕ) → page_for result id ≡ None }
         ensures answers { (x : Known) → IsKept result.answers x → ⊥ }
     {
         Book {
             pages: Pages::new(alloc),
             answers: Recent::new(alloc),
             handles: Vec::new(alloc),
-            by_id: HashMap::new(alloc),
+            places: Places::new(alloc),
         }
     }
 
-    /// The page of the handle's game, if it has one.
+    /// The page of the handle's game, if it has one that is found.
     pub(crate) fn page(&self, handle: Handle) -> Option<u32>
-        ensures { result ≡ page_for self.now handle }
+        ensures { IfSome result (λ page. HasHandle self.now page handle) }
     {
-        self.by_id.get(&handle.id().number()).copied()
+        self.places.find(&self.handles, handle)
     }
 
     /// The handle of the page. An error comes only after want of memory.
@@ -92,7 +91,7 @@ impl Book {
         ensures page { IfOk result (λ p. p ≡ page) }
     {
         self.handles.push(handle)?;
-        self.by_id.insert(handle.id().number(), page)?;
+        self.places.note(&self.handles);
         Ok(page)
     }
 }

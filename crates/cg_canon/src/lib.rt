@@ -16,6 +16,7 @@ mod memo;
 mod numbers;
 mod order;
 mod paging;
+mod places;
 mod rest;
 mod value;
 mod work;

@@ -2,7 +2,6 @@
 ghost use Rattle.std.specs.Prelude.{◌≡◌, ℕ, [], ◌==◌, ◌&&◌, IfOk, OnErr, None, Some, if◌then◌else◌};
 ghost use Rattle.cg_book.specs.declared.recent.Answer.{Answer as Known};
 ghost use Rattle.cg_book.specs.Recents.{IsKept};
-ghost use Rattle.cg_canon.specs.Books.{page_for};
 ghost use Rattle.cg_canon.specs.Memos.{summed};
 
 use crate::book::Book;
@@ -33,7 +32,6 @@ impl Memo {
     pub fn new(alloc: Global) -> Memo
         ensures pages { result.book.pages ≡ [] }
         ensures handles { result.book.handles.items ≡ [] }
-        ensures by_id { (id : ℕ) → page_for result.book id ≡ None }
         ensures answers { (x : Known) → IsKept result.book.answers x → ⊥ }
         ensures sums { (a b : ℕ) → summed result a b ≡ None }
     {

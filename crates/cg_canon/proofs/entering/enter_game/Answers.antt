@@ -9,4 +9,4 @@ name-requires-clause-holds g c =
     let b = c.args.book.now in
     holds_begins (g.S.CellStore.state c.args.store.now) b (record b { pages = c.add_game.new.self }) c.requires.holds
     (begins_one b.pages c.add_game.new.self (node (games_of b.pages c.args.lefts.now) (games_of b.pages c.args.rights.now))
-    c.in_ok-page.ensures.games) refl (λ id. refl) refl
+    c.in_ok-page.ensures.games) refl refl

@@ -10,6 +10,6 @@ invariant_of-result g c =
     let s = g.S.CellStore.state c.args.store.now in (
       holds_nothing s 0 c.args.share c.spare-start.result c.new.result
           (omega arith) (omega (arith, c.requires)) (omega arith) (omega arith) (omega arith)
-          (new_holds s c.new.result.book c.new.ensures.handles c.new.ensures.by_id c.new.ensures.answers) c.new.ensures.sums,
+          (new_holds s c.new.result.book c.new.ensures.handles c.new.ensures.answers) c.new.ensures.sums,
       record { each = λ ls rs form k. absurd (c.new-2.ensures ls rs form k) },
     )
