@@ -131,21 +131,6 @@ turned (Some First) (Some Second) e = cc
 turned (Some Second) (Some First) e = cc
 turned (Some Second) (Some Second) e = refl
 
--- two that share the term of a third
-both_share : (x y z : Option Term) → same_term x y ≡ true → same_term x z ≡ true → same_term y z ≡ true
-both_share None y z e f = cc
-both_share (Some First) None z e f = cc
-both_share (Some First) (Some Second) z e f = cc
-both_share (Some First) (Some First) z e f = f
-both_share (Some Second) None z e f = cc
-both_share (Some Second) (Some First) z e f = cc
-both_share (Some Second) (Some Second) z e f = f
-
-pub all_of_one : (x : Candidate) (cs : List Candidate) → All (SharesTerm x) cs → (a b : Candidate) → Contains cs a
-    → Contains cs b → SharesTerm a b
-all_of_one x cs all a b m n =
-    both_share x.term a.term b.term (All-contains (SharesTerm x) cs a all m) (All-contains (SharesTerm x) cs b all n)
-
 -- which is at most the other is told by whether they are the same
 pub told_by_term : (gs : List Game) (left : Bool) (a b : Candidate) → AreCandidates gs (a ∷ (b ∷ []))
     → same_term a.term b.term ≡ true → (a.page == b.page) ≡ at_most left (game_of gs a.page) (game_of gs b.page)

@@ -11,6 +11,7 @@ pub mod Topping
 pub mod CandidateLaws
 pub mod TermLaws
 pub mod Keeping
+pub mod Noting
 pub mod Halving
 pub mod ListOrder
 pub mod Reaching

@@ -1,6 +1,6 @@
 -- Profiles from those of the options.
 use Rattle.std.proofs.Common.{◌≡◌, refl, ℕ, ◌+◌, ◌-◌, ◌≤◌, ◌^◌, arith, ap, sym, ◌∙◌, subst, List, [], ◌∷◌, ◌++◌, length, length-append, Bool, true, false, not, ◌&&◌, max, rules}
-use Rattle.std.specs.Prelude.{Option, Some, None, IsSome}
+use Rattle.std.specs.Prelude.{Option, Some, IsSome}
 use Rattle.cg_dyadic.specs.declared.cut.Cut.{Cut}
 use Rattle.cg_dyadic.specs.Cut.{in_gap}
 use Rattle.cg_dyadic.specs.Number.{InRange, Number}
@@ -59,9 +59,6 @@ deepest-last (h ∷ gs) g = omega (arith, deepest-last gs g)
 pub profile_cut : (s : Bool) (g : Game) (p : Profile) → IsProfile g p → CutIs AnyNumber s (chosen_cut s p.low p.high) g
 profile_cut true g p h = h.cuts.low
 profile_cut false g p h = h.cuts.high
-
-pub outline_none : (s : Bool) → IsOutline s [] (record { cut = None; deepest = 0; count = 0 })
-outline_none s = record { cut = record { tells = λ x r. refl }; deepest = refl; count = refl; few = omega arith }
 
 pub outline_more : (s : Bool) (gs : List Game) (g : Game) (o : Outline) (p : Profile) (c r : Cut) (d n : ℕ)
     → c ≡ chosen_cut s p.low p.high → Joined s o.cut c r → d ≡ max o.deepest p.depth → n ≡ o.count + 1 → n ≤ 2 ^ 32

@@ -46,11 +46,6 @@ slice_hit gs p (m ∷ ps) (suc i) k h e f =
     and_false true = refl
     and_false false = refl
 
--- no page passes, once all were asked
-pub slice_none : (gs : List Game) (p : Game → Bool) (ps : List ℕ) (i : ℕ) → length ps ≤ i
-    → no_one p (games_of gs (take i ps)) ≡ true → no_one p (games_of gs ps) ≡ true
-slice_none gs p ps i h n = ap (no_one p) (sym (games_take_all gs ps i h)) ∙ n
-
 pub item_size : (gs : List Game) (ps : List ℕ) (i k : ℕ) → i < length ps → k ≡ get_or ps i 0
     → size (game_of gs k) ≤ list_size (games_of gs ps)
 item_size gs [] i k h e = absurd (omega arith)

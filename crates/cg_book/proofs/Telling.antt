@@ -9,7 +9,7 @@ use Rattle.cg_form.specs.Cut.{in_cut, within_cut}
 use Rattle.cg_form.specs.Game.{Game, number}
 use Rattle.cg_form.specs.Order.{le}
 use Rattle.cg_form.specs.Side.{number_at_most}
-use Rattle.cg_form.proofs.Preorder.{at_right, le_refl, le_trans}
+use Rattle.cg_form.proofs.Preorder.{le_trans}
 use Rattle.cg_form.proofs.Sides.{number_side-less}
 use Rattle.cg_book.specs.declared.profile.Profile.{Profile}
 use Rattle.cg_book.specs.Profiles.{HasCuts}
@@ -102,6 +102,3 @@ above_second a b g h p q w =
 pub between : (a b : Profile) (g h : Game) → HasCuts g a → HasCuts h b → Meet a.high b.low → true ≡ le g h
 between a b g h p q w =
     sym (le_trans g (number w.x) h (p.high.tells w.x tt ∙ w.above) (q.low.tells w.x tt ∙ w.below))
-
-pub same_game : (g h : Game) → g ≡ h → true ≡ le g h
-same_game g h e = sym (at_right h g g (sym e) (le_refl g))

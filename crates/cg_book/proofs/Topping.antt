@@ -99,9 +99,6 @@ none_comparable gs h = record { each = λ i j d l n o. apart-places gs i j d h l
 
 -- ---- the best
 
-pub tops_none : (s : Bool) → Tops s [] []
-tops_none s = record { inside = λ x m. m; top = λ x m. absurd m; apart = tt }
-
 tops_same : (s : Bool) (all tops : List Game) (x c : Game) → Tops s all tops → Among c tops → AtMost s x c
     → Tops s (all ++ x ∷ []) tops
 tops_same s all tops x c b m l = record {

@@ -1,6 +1,7 @@
 -- Options in whose places others stand.
-use Rattle.std.specs.Prelude.{◌≡◌, ℕ, Bool, true, All, cond, Contains, Some, List, nat_eq}
+use Rattle.std.specs.Prelude.{◌≡◌, ℕ, Bool, true, All, cond, Contains, Some, List, nat_eq, ◌||◌}
 use Rattle.std.specs.HashSet.{contains}
+use Rattle.std.specs.List.{list_any}
 use Rattle.cg_form.specs.Bypass.{Covered}
 use Rattle.cg_form.specs.Game.{Game}
 use Rattle.cg_book.specs.declared.candidate.Candidate.{Candidate}
@@ -12,7 +13,7 @@ use Rattle.cg_book.specs.Pages.{ArePages, IsPage, game_of, games_of}
 use Rattle.cg_book.specs.Wholes.{whole_game}
 
 abbrev pub was_passed : Substitutes → ℕ → Bool
-was_passed o page = contains nat_eq o.passed page
+was_passed o page = list_any (λ y. nat_eq y page) o.few.items || contains nat_eq o.more page
 
 -- the candidate has no term, or is one of the whole's own options
 abbrev pub IsOwn : Bool → Whole → Candidate → Type 0

@@ -5,6 +5,7 @@ mod best;
 mod bypass;
 mod candidate;
 mod keys;
+mod light;
 mod order;
 mod outlining;
 mod owning;

@@ -1,7 +1,7 @@
 //! The order of the games of two pages.
 //!
 //! Numbers that lie between two games, or beside one of them, tell most answers. Only the other pairs are compared by their
-//! options, as the definition says, and only their answers are kept. A number is never counted down: it is at most a game that
+//! options, as the definition says, and only their answers are kept, where the games aren't light. A number is never counted down: it is at most a game that
 //! equals no number exactly where it is at least no Right option, and at least such a game exactly where it is at most no Left
 //! option.
 ghost use Rattle.std.specs.Prelude.{◌≡◌, IfOk};
@@ -10,6 +10,7 @@ ghost use Rattle.cg_form.specs.Side.{at_most as at_most_for};
 ghost use Rattle.cg_book.specs.Pages.{ArePages, IsPage, game_of, games_of};
 ghost use Rattle.cg_book.specs.Recents.{AreRight};
 
+use crate::light::compared_light;
 use crate::pages::{Pages, Read};
 use crate::recent::{Answer, Recent};
 use crate::told::told_for;
@@ -67,7 +68,8 @@ fn compared(pages: &Pages, answers: &mut Recent, a: u32, b: u32) -> Result<bool,
     }
 }
 
-/// Whether a <= b, by an answer that is kept, or from their options. The answer is kept.
+/// Whether a <= b, by an answer that is kept, or from their options. The answer is kept, but for light games, which are compared
+/// again.
 #[cycle(found)]
 fn found(pages: &Pages, answers: &mut Recent, a: u32, b: u32) -> Result<bool, AllocError>
     requires a { IsPage pages.now a }
@@ -76,6 +78,9 @@ fn found(pages: &Pages, answers: &mut Recent, a: u32, b: u32) -> Result<bool, Al
     ensures order { IfOk result (λ answer. answer ≡ le (game_of pages.now a) (game_of pages.now b)) }
     ensures right { AreRight pages.now answers.new }
 {
+    if pages.is_light(a) && pages.is_light(b) {
+        return Ok(compared_light(pages, a, b));
+    }
     if let Some(answer) = answers.recall(a, b) {
         return Ok(answer);
     }

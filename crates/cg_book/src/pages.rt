@@ -26,6 +26,8 @@ pub(crate) struct Page {
     end: usize,
     /// Whether it is a number, which is then where the cuts of its profile are.
     is_number: bool,
+    /// How many positions it has, each counted once for each way to it, or some number beyond `LIGHT`.
+    weight: u8,
     /// What is known of it besides its options.
     profile: Profile,
 }
@@ -48,6 +50,9 @@ pub struct Pages {
 /// The greatest number of pages.
 const MOST: usize = 4_294_967_296;
 
+/// The greatest weight of a light game. Two light games are compared in a few steps.
+const LIGHT: u8 = 8;
+
 impl Model for Pages {
     ghost use Rattle.std.specs.Prelude.{List, []};
     ghost use Rattle.std.specs.Coded.{coded_list};
@@ -65,12 +70,27 @@ impl Model for Pages {
 }
 
 /// The part of the list from one place up to another.
+#[inline]
 fn part(list: &[u32], from: usize, to: usize) -> &[u32]
     requires from { from ≤ to }
     requires to { to ≤ length list.now }
     ensures { result.now ≡ slice_range list.now from to }
 {
     &list[from..to]
+}
+
+/// The weight, and those of the games of the options, as far as the sum is light.
+fn weight_with(pages: &[Page], options: &[u32], weight: u8) -> u8 {
+    let mut sum = weight;
+    for option in options {
+        if sum > LIGHT {
+            return sum;
+        }
+        if let Some(page) = pages.get(*option as usize) {
+            sum = sum.saturating_add(page.weight);
+        }
+    }
+    sum
 }
 
 impl Pages {
@@ -102,6 +122,7 @@ impl Pages {
             rights: end,
             end,
             is_number: true,
+            weight: 1,
             profile,
         })?;
         Ok(count as u32)
@@ -127,6 +148,7 @@ impl Pages {
         if count >= MOST {
             return Err(AllocError);
         }
+        let weight = weight_with(&self.pages, rights, weight_with(&self.pages, lefts, 1));
         let first = self.options.len();
         self.options.extend_from_slice(lefts)?;
         let middle = self.options.len();
@@ -138,6 +160,7 @@ impl Pages {
             rights: middle,
             end,
             is_number: false,
+            weight,
             profile: *profile,
         })?;
         Ok(count as u32)
@@ -150,7 +173,16 @@ impl Pages {
         self.pages.len()
     }
 
+    /// Whether the game of the page has so few positions that no answer about it has to be kept.
+    #[inline]
+    pub(crate) fn is_light(&self, page: u32) -> bool
+        requires { IsPage self.now page }
+    {
+        self.pages[page as usize].weight <= LIGHT
+    }
+
     /// What the page says.
+    #[inline]
     pub fn read(&self, page: u32) -> Read<'_>
         requires { IsPage self.now page }
         ensures read { IsRead self.now result (game_of self.now page) }

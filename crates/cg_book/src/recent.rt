@@ -27,7 +27,7 @@ pub struct Recent {
 }
 
 /// The first size of a table.
-const FIRST: usize = 256;
+const FIRST: usize = 16;
 
 /// The greatest size of a table.
 const MOST: usize = 1_048_576;

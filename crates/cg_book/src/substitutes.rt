@@ -18,7 +18,10 @@ pub(crate) type Options = SmallVec<u32, 8>;
 #[derive(Drop)]
 pub(crate) struct Substitutes {
     pub(crate) items: Candidates,
-    passed: HashSet<u32>,
+    /// The first of the options that were passed.
+    few: Options,
+    /// The others.
+    more: HashSet<u32>,
 }
 
 impl Substitutes {
@@ -29,7 +32,8 @@ impl Substitutes {
     {
         Substitutes {
             items: SmallVec::new(alloc),
-            passed: HashSet::new(alloc),
+            few: SmallVec::new(alloc),
+            more: HashSet::new(alloc),
         }
     }
 
@@ -37,7 +41,13 @@ impl Substitutes {
     pub(crate) fn has_passed(&self, option: u32) -> bool
         ensures { result ≡ was_passed self.now option }
     {
-        self.passed.contains(&option)
+        if self.few.as_slice().contains(&option) {
+            return true;
+        }
+        if self.more.is_empty() {
+            return false;
+        }
+        self.more.contains(&option)
     }
 
     /// Puts one candidate more behind the others.
@@ -54,7 +64,11 @@ impl Substitutes {
         ensures items { self.new.items.items ≡ self.old.items.items }
         ensures passed { IfOk result (λ _. (p : ℕ) → was_passed self.new p ≡ (if option == p then true else was_passed self.old p)) }
     {
-        self.passed.insert(option)?;
+        if self.few.len() < FEW {
+            self.few.push(option)?;
+        } else {
+            self.more.insert(option)?;
+        }
         Ok(())
     }
 
@@ -62,7 +76,11 @@ impl Substitutes {
     pub(crate) fn into_items(self) -> Candidates
         ensures { result.items ≡ self.items.items }
     {
-        let Substitutes { items, passed: _ } = self;
+        let Substitutes {
+            items,
+            few: _,
+            more: _,
+        } = self;
         items
     }
 }

@@ -1,14 +1,40 @@
 //! Which games are no better than a whole, as far as it was found.
 ghost use Rattle.std.specs.Prelude.{◌≡◌, ◌⊎◌, ℕ, Bool, None, Some};
-ghost use Rattle.cg_book.specs.Verdict.{answer_for, verdict};
+ghost use Rattle.cg_book.specs.Verdict.{answer_for, noted, verdict};
 
+use smallvec::SmallVec;
 use std::alloc::{AllocError, Global};
 use std::collections::HashMap;
 
-/// Answers by pages.
+/// Up to so many answers are searched one after the other.
+const FEW: usize = 8;
+
+/// The answer for a page.
+#[derive(Clone, Copy, Default)]
+pub(crate) struct Noted {
+    pub page: u32,
+    pub answer: bool,
+}
+
+/// Answers by pages: up to 8 of them take no memory.
 #[derive(Drop)]
 pub(crate) struct ByPage {
-    answers: HashMap<u32, bool>,
+    /// The first ones.
+    few: SmallVec<Noted, 8>,
+    /// The others.
+    more: HashMap<u32, bool>,
+}
+
+/// The answer for the page among these, if there is one.
+fn find(entries: &[Noted], page: u32) -> Option<bool>
+    ensures { result ≡ noted entries.now page }
+{
+    for entry in entries {
+        if entry.page == page {
+            return Some(entry.answer);
+        }
+    }
+    None
 }
 
 impl ByPage {
@@ -16,21 +42,32 @@ impl ByPage {
         ensures { (a : ℕ) → answer_for result a ≡ None }
     {
         ByPage {
-            answers: HashMap::new(alloc),
+            few: SmallVec::new(alloc),
+            more: HashMap::new(alloc),
         }
     }
 
     fn recall(&self, a: u32) -> Option<bool>
         ensures { result ≡ answer_for self.now a }
     {
-        self.answers.get(&a).copied()
+        if let Some(answer) = find(self.few.as_slice(), a) {
+            return Some(answer);
+        }
+        if self.more.is_empty() {
+            return None;
+        }
+        self.more.get(&a).copied()
     }
 
     fn remember(&mut self, a: u32, answer: bool) -> Result<(), AllocError>
         ensures { (c : ℕ) (b : Bool) → answer_for self.new c ≡ Some b
             → (answer_for self.old c ≡ Some b) ⊎ ((c ≡ a) × (b ≡ answer)) }
     {
-        self.answers.insert(a, answer)?;
+        if self.few.len() < FEW {
+            self.few.push(Noted { page: a, answer })?;
+        } else {
+            self.more.insert(a, answer)?;
+        }
         Ok(())
     }
 }

@@ -41,6 +41,7 @@ page_of c = record {
   rights = c.len-middle.result;
   end = c.len-end.result;
   is_number = false;
+  weight = c.weight_with-weight.result;
   profile = c.args.profile.now;
 }
 

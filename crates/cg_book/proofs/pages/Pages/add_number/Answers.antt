@@ -11,6 +11,7 @@ page_of c = record {
   rights = c.len-end.result;
   end = c.len-end.result;
   is_number = true;
+  weight = 1;
   profile = c.number-profile.result;
 }
 
