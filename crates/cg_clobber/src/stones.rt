@@ -1,5 +1,5 @@
 //! The moves of Clobber.
-ghost use Rattle.std.specs.Prelude.{◌≡◌, ◌++◌, IfOk, length, map, true};
+ghost use Rattle.std.specs.Prelude.{◌≡◌, ◌++◌, [], IfOk, length, map, true};
 ghost use Rattle.std.specs.List.{flat_map};
 ghost use Rattle.cg_moves.specs.Grid.{with_cells};
 ghost use Rattle.cg_moves.specs.Rising.{counted};
@@ -20,23 +20,22 @@ use std::alloc::{AllocError, Global};
 /// moves a stone onto a neighbouring one of the other player, which is removed.
 pub struct Clobber;
 
-/// The boards after the player's moves from each cell onto later ones, from the first cell on.
-fn onward_boards(
-    alloc: Global,
+/// Puts the boards after the player's moves from each cell onto later ones behind the boards, from the first cell on.
+fn put_all_onward(
     board: &Board,
     player: Player,
     words: &CaptureWords,
-) -> Result<Vec<Board>, AllocError>
+    boards: &mut Vec<Board>,
+) -> Result<(), AllocError>
     requires has { clobber.has board.now ≡ true }
     requires words { AreCaptureWords player board.now words.now }
-    ensures { IfOk result (λ boards. boards.items ≡
-        map (with_cells board.now) (flat_map (onward player board.now) (counted 0 (length board.now.cells)))) }
+    ensures { IfOk result (λ _. boards.new.items ≡ boards.old.items
+        ++ map (with_cells board.now) (flat_map (onward player board.now) (counted 0 (length board.now.cells)))) }
 {
-    let mut boards = Vec::with_capacity(alloc, words.count())?;
     for cell in 0..board.size() {
-        put_onward(board, player, cell, words, &mut boards)?;
+        put_onward(board, player, cell, words, boards)?;
     }
-    Ok(boards)
+    Ok(())
 }
 
 /// Puts the boards after the player's moves onto each cell from later ones behind the boards, from the last cell on.
@@ -58,40 +57,45 @@ fn put_all_toward(
     Ok(())
 }
 
-/// The boards after the player's moves between each cell and later ones, from the first cell on.
-fn paired_boards(
-    alloc: Global,
+/// Puts the boards after the player's moves between each cell and later ones behind the boards, from the first cell on.
+fn put_all_paired(
     board: &Board,
     player: Player,
     words: &CaptureWords,
-) -> Result<Vec<Board>, AllocError>
+    boards: &mut Vec<Board>,
+) -> Result<(), AllocError>
     requires has { clobber.has board.now ≡ true }
     requires words { AreCaptureWords player board.now words.now }
-    ensures { IfOk result (λ boards. boards.items ≡
-        map (with_cells board.now) (flat_map (paired player board.now) (counted 0 (length board.now.cells)))) }
+    ensures { IfOk result (λ _. boards.new.items ≡ boards.old.items
+        ++ map (with_cells board.now) (flat_map (paired player board.now) (counted 0 (length board.now.cells)))) }
 {
-    let mut boards = Vec::with_capacity(alloc, words.count())?;
     for cell in 0..board.size() {
-        put_onward(board, player, cell, words, &mut boards)?;
-        put_toward(board, player, cell, words, &mut boards)?;
+        put_onward(board, player, cell, words, boards)?;
+        put_toward(board, player, cell, words, boards)?;
     }
-    Ok(boards)
+    Ok(())
 }
 
-/// The boards after the player's moves, by the first of the two cells that a move changes. They are in rising order: a move of
-/// Left lowers this cell or raises it, and one of Right lowers it.
-fn boards_of(alloc: Global, board: &Board, player: Player) -> Result<Vec<Board>, AllocError>
-    requires { clobber.has board.now ≡ true }
+/// The boards after the player's moves, by the first of the two cells that a move changes, in the room of these boards, of
+/// which there are none. They are in rising order: a move of Left lowers this cell or raises it, and one of Right lowers it.
+fn boards_in(board: &Board, player: Player, room: Vec<Board>) -> Result<Vec<Board>, AllocError>
+    requires has { clobber.has board.now ≡ true }
+    requires room { room.items ≡ [] }
     ensures { IfOk result (λ boards. boards.items ≡ map (with_cells board.now) (by_pairs player board.now)) }
 {
     let words = captures_of(board, player);
+    let mut boards = room;
+    boards.reserve(words.count())?;
     match player {
         Player::Left => {
-            let mut boards = onward_boards(alloc, board, player, &words)?;
+            put_all_onward(board, player, &words, &mut boards)?;
             put_all_toward(board, player, &words, &mut boards)?;
             Ok(boards)
         }
-        Player::Right => paired_boards(alloc, board, player, &words),
+        Player::Right => {
+            put_all_paired(board, player, &words, &mut boards)?;
+            Ok(boards)
+        }
     }
 }
 
@@ -117,8 +121,18 @@ impl Rules for Clobber {
     ghost game = { λ rules. clobber };
 
     fn moves(&self, alloc: Global, board: &Board, player: Player) -> Result<Boards, AllocError> {
-        let boards = boards_of(alloc, board, player)?;
+        let boards = boards_in(board, player, Vec::new(alloc))?;
         Ok(Boards::of(boards))
+    }
+
+    fn moves_into(
+        &self,
+        _alloc: Global,
+        board: &Board,
+        player: Player,
+        room: Vec<Board>,
+    ) -> Result<Vec<Board>, AllocError> {
+        boards_in(board, player, room)
     }
 
     fn pieces(&self, alloc: Global, board: &Board) -> Result<Pieces, AllocError> {

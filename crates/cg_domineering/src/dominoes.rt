@@ -1,5 +1,5 @@
 //! The moves of Domineering.
-ghost use Rattle.std.specs.Prelude.{◌≡◌, ◌++◌, ◌<◌, IfOk, length, map, true};
+ghost use Rattle.std.specs.Prelude.{◌≡◌, ◌++◌, ◌<◌, [], IfOk, length, map, true};
 ghost use Rattle.cg_moves.specs.Grid.{with_cells};
 ghost use Rattle.cg_moves.specs.PlaneBits.{IsWithIndex};
 ghost use Rattle.cg_moves.specs.Words.{Marks};
@@ -83,14 +83,16 @@ fn put_move(
     Ok(())
 }
 
-/// The boards after the player's dominoes, by their first cells. They are in rising order, since a filled cell is below an
-/// empty one.
-fn boards_of(alloc: Global, board: &Board, player: Player) -> Result<Vec<Board>, AllocError>
-    requires { domineering.has board.now ≡ true }
+/// The boards after the player's dominoes, by their first cells, in the room of these boards, of which there are none. They are
+/// in rising order, since a filled cell is below an empty one.
+fn boards_in(board: &Board, player: Player, room: Vec<Board>) -> Result<Vec<Board>, AllocError>
+    requires has { domineering.has board.now ≡ true }
+    requires room { room.items ≡ [] }
     ensures { IfOk result (λ boards. boards.items ≡ map (with_cells board.now) (moves_of player board.now)) }
 {
     let spots = spots(board, player);
-    let mut boards = Vec::with_capacity(alloc, spots.count_ones() as usize)?;
+    let mut boards = room;
+    boards.reserve(spots.count_ones() as usize)?;
     for first in 0..board.size() {
         put_move(board, player, spots, first, &mut boards)?;
     }
@@ -122,8 +124,18 @@ impl Rules for Domineering {
     ghost game = { λ rules. domineering };
 
     fn moves(&self, alloc: Global, board: &Board, player: Player) -> Result<Boards, AllocError> {
-        let boards = boards_of(alloc, board, player)?;
+        let boards = boards_in(board, player, Vec::new(alloc))?;
         Ok(Boards::of(boards))
+    }
+
+    fn moves_into(
+        &self,
+        _alloc: Global,
+        board: &Board,
+        player: Player,
+        room: Vec<Board>,
+    ) -> Result<Vec<Board>, AllocError> {
+        boards_in(board, player, room)
     }
 
     fn pieces(&self, alloc: Global, board: &Board) -> Result<Pieces, AllocError> {

@@ -12,7 +12,7 @@ ghost use Rattle.cg_moves.specs.declared.player.Player.TheVariants.{Left, Right}
 ghost use Rattle.cg_moves.specs.Walks.{AreStarts};
 
 use crate::course::Course;
-use crate::found::Found;
+use crate::found::{Found, emptied};
 use crate::{Board, NextPlaces, Player, ReachFault, Rules};
 use std::alloc::{AllocError, Global};
 
@@ -25,6 +25,14 @@ pub(crate) struct Explored {
     pub(crate) next: Vec<NextPlaces>,
     /// The numbers of the boards that were found first.
     pub(crate) starts: Vec<usize>,
+}
+
+/// The boards that Left's moves lead to from a board, and those that Right's moves lead to. Those from the next board are put
+/// into the same room.
+#[derive(Drop)]
+struct Followers {
+    lefts: Vec<Board>,
+    rights: Vec<Board>,
 }
 
 /// Puts the numbers of the boards behind the places.
@@ -41,8 +49,7 @@ fn number_all(
     ensures refused { result ≡ Err ReachFault.Positions → limit < length (kept found.old boards.now) }
 {
     for board in boards {
-        let copy = board.copy(alloc)?;
-        let number = found.number(copy, limit)?;
+        let number = found.number(alloc, board, limit)?;
         places.push(number)?;
     }
     Ok(())
@@ -93,27 +100,27 @@ fn number_parts<R: Rules>(
     course: Course,
     found: &mut Found,
     next: &mut NextPlaces,
-    board: Board,
+    board: &Board,
     limit: u64,
 ) -> Result<(), ReachFault>
-    requires has { (R.game rules.now).has board ≡ true }
+    requires has { (R.game rules.now).has board.now ≡ true }
     requires may { MayGo (R.game rules.now) course }
     requires alone { AreAlone (parts_of (R.game rules.now) course) found.old }
-    requires alike { AreAlike (found.old ++ with_parts (parts_of (R.game rules.now) course) board) }
+    requires alike { AreAlike (found.old ++ with_parts (parts_of (R.game rules.now) course) board.now) }
     requires within { length found.old ≤ limit }
     ensures numbers { IfOk result (λ _. NumbersParts limit (parts_of (R.game rules.now) course) found.old found.new next.old next.new
-        (board ∷ [])) }
+        (board.now ∷ [])) }
     ensures refused { result ≡ Err ReachFault.Positions
-        → limit < length (kept found.old (parts_of (R.game rules.now) course board)) }
+        → limit < length (kept found.old (parts_of (R.game rules.now) course board.now)) }
 {
     match course {
         Course::Moves => {
-            let number = found.number(board, limit)?;
+            let number = found.number(alloc, board, limit)?;
             Ok(put_alone(next, number)?)
         }
-        Course::Pieces => match found.known(&board) {
+        Course::Pieces => match found.known(board) {
             Some(number) => Ok(put_alone(next, number)?),
-            None => number_pieces(alloc, rules, found, next, &board, limit),
+            None => number_pieces(alloc, rules, found, next, board, limit),
         },
     }
 }
@@ -125,18 +132,18 @@ fn number_moves<R: Rules>(
     course: Course,
     found: &mut Found,
     next: &mut NextPlaces,
-    boards: Vec<Board>,
+    boards: &[Board],
     limit: u64,
 ) -> Result<(), ReachFault>
-    requires has { (p : Grid) → In p boards.items → (R.game rules.now).has p ≡ true }
+    requires has { (p : Grid) → In p boards.now → (R.game rules.now).has p ≡ true }
     requires may { MayGo (R.game rules.now) course }
     requires alone { AreAlone (parts_of (R.game rules.now) course) found.old }
-    requires alike { AreAlike (found.old ++ flat_map (with_parts (parts_of (R.game rules.now) course)) boards.items) }
+    requires alike { AreAlike (found.old ++ flat_map (with_parts (parts_of (R.game rules.now) course)) boards.now) }
     requires within { length found.old ≤ limit }
     ensures numbers { IfOk result (λ _. NumbersParts limit (parts_of (R.game rules.now) course) found.old found.new next.old next.new
-        boards.items) }
+        boards.now) }
     ensures refused { result ≡ Err ReachFault.Positions
-        → limit < length (kept found.old (flat_map (parts_of (R.game rules.now) course) boards.items)) }
+        → limit < length (kept found.old (flat_map (parts_of (R.game rules.now) course) boards.now)) }
 {
     for board in boards {
         number_parts(alloc, rules, course, found, next, board, limit)?;
@@ -144,19 +151,22 @@ fn number_moves<R: Rules>(
     Ok(())
 }
 
-/// The boards that Left's moves lead to, and those that Right's moves lead to.
-fn followers<R: Rules>(
+/// Lists the boards that Left's moves lead to, and those that Right's moves lead to, in the place of other boards.
+fn list_followers<R: Rules>(
     alloc: Global,
     rules: &R,
     board: &Board,
-) -> Result<(Vec<Board>, Vec<Board>), AllocError>
+    all: &mut Followers,
+) -> Result<(), AllocError>
     requires { (R.game rules.now).has board.now ≡ true }
-    ensures lefts { IfOk result (λ all. all.0.items ≡ boards_after (R.game rules.now) Left board.now) }
-    ensures rights { IfOk result (λ all. all.1.items ≡ boards_after (R.game rules.now) Right board.now) }
+    ensures lefts { IfOk result (λ _. all.new.lefts.items ≡ boards_after (R.game rules.now) Left board.now) }
+    ensures rights { IfOk result (λ _. all.new.rights.items ≡ boards_after (R.game rules.now) Right board.now) }
 {
-    let lefts = rules.moves(alloc, board, Player::Left)?.into_vec();
-    let rights = rules.moves(alloc, board, Player::Right)?.into_vec();
-    Ok((lefts, rights))
+    let lefts = emptied(alloc, &mut all.lefts);
+    all.lefts = rules.moves_into(alloc, board, Player::Left, lefts)?;
+    let rights = emptied(alloc, &mut all.rights);
+    all.rights = rules.moves_into(alloc, board, Player::Right, rights)?;
+    Ok(())
 }
 
 /// What comes next after the board with the number.
@@ -165,6 +175,7 @@ fn next_after<R: Rules>(
     rules: &R,
     course: Course,
     found: &mut Found,
+    all: &mut Followers,
     number: usize,
     limit: u64,
 ) -> Result<NextPlaces, ReachFault>
@@ -183,15 +194,15 @@ fn next_after<R: Rules>(
     ensures refused { result ≡ Err ReachFault.Positions → limit < length (kept found.old (flat_map
         (parts_of (R.game rules.now) course) (followers (R.game rules.now) (board_at found.old number)))) }
 {
-    let (lefts, rights) = followers(alloc, rules, found.board(number))?;
-    let moves = lefts.len() + rights.len();
+    list_followers(alloc, rules, found.board(number), all)?;
+    let moves = all.lefts.len() + all.rights.len();
     let mut next = NextPlaces {
-        lefts: lefts.len(),
+        lefts: all.lefts.len(),
         counts: Vec::with_capacity(alloc, moves)?,
         places: Vec::with_capacity(alloc, moves)?,
     };
-    number_moves(alloc, rules, course, found, &mut next, lefts, limit)?;
-    number_moves(alloc, rules, course, found, &mut next, rights, limit)?;
+    number_moves(alloc, rules, course, found, &mut next, &all.lefts, limit)?;
+    number_moves(alloc, rules, course, found, &mut next, &all.rights, limit)?;
     Ok(next)
 }
 
@@ -217,9 +228,21 @@ pub(crate) fn explore<R: Rules>(
     let mut found = Found::new(alloc);
     let mut places = Vec::new(alloc);
     number_all(alloc, &mut found, &mut places, &starts, limit)?;
+    let mut all = Followers {
+        lefts: Vec::new(alloc),
+        rights: Vec::new(alloc),
+    };
     let mut next = Vec::new(alloc);
     'boards: while next.len() < found.len() {
-        let more = next_after(alloc, rules, course, &mut found, next.len(), limit)?;
+        let more = next_after(
+            alloc,
+            rules,
+            course,
+            &mut found,
+            &mut all,
+            next.len(),
+            limit,
+        )?;
         next.push(more)?;
     }
     Ok(Explored {

@@ -10,6 +10,15 @@ use std::collections::HashMap;
 use std::marker::Model;
 use std::mem;
 
+/// The room without boards. Until it comes back, a new one stands in its place.
+pub(crate) fn emptied(alloc: Global, room: &mut Vec<Board>) -> Vec<Board>
+    ensures { result.items ≡ [] }
+{
+    let mut boards = mem::replace(room, Vec::new(alloc));
+    boards.clear();
+    boards
+}
+
 /// Boards in the order in which they were found, each once. A board's number is its place in this order, counted from 0, and
 /// the map has it by the board's key. Contracts see the list of boards. The room is for boards that are yet to be looked for.
 #[derive(Drop)]
@@ -53,9 +62,7 @@ impl Found {
         ensures room { result.items ≡ [] }
         ensures boards { self.new ≡ self.old }
     {
-        let mut room = mem::replace(&mut self.room, Vec::new(alloc));
-        room.clear();
-        room
+        emptied(alloc, &mut self.room)
     }
 
     /// Gives the room back.
@@ -88,15 +95,20 @@ impl Found {
         self.numbers.get(&board.key()).copied()
     }
 
-    /// The number of the board, which is put behind the others where it is new. All have the same symbols. `Positions` comes
-    /// where that would make more boards than the limit.
-    pub(crate) fn number(&mut self, board: Board, limit: u64) -> Result<usize, ReachFault>
-        requires alike { AreAlike (self.old ++ (board ∷ [])) }
+    /// The number of the board, of which a copy is put behind the others where it is new. All have the same symbols.
+    /// `Positions` comes where that would make more boards than the limit.
+    pub(crate) fn number(
+        &mut self,
+        alloc: Global,
+        board: &Board,
+        limit: u64,
+    ) -> Result<usize, ReachFault>
+        requires alike { AreAlike (self.old ++ (board.now ∷ [])) }
         requires within { length self.old ≤ limit }
-        ensures boards { IfOk result (λ _. self.new ≡ one_more self.old board) }
-        ensures number { IfOk result (λ number. IsAt self.new number board) }
+        ensures boards { IfOk result (λ _. self.new ≡ one_more self.old board.now) }
+        ensures number { IfOk result (λ number. IsAt self.new number board.now) }
         ensures within { IfOk result (λ _. length self.new ≤ limit) }
-        ensures refused { result ≡ Err ReachFault.Positions → limit < length (one_more self.old board) }
+        ensures refused { result ≡ Err ReachFault.Positions → limit < length (one_more self.old board.now) }
     {
         let key = board.key();
         if let Some(number) = self.numbers.get(&key).copied() {
@@ -106,9 +118,10 @@ impl Found {
         if number as u64 >= limit {
             return Err(ReachFault::Positions);
         }
+        let copy = board.copy(alloc)?;
         self.boards.reserve(1)?;
         self.numbers.insert(key, number)?;
-        self.boards.push(board)?;
+        self.boards.push(copy)?;
         Ok(number)
     }
 

@@ -22,6 +22,24 @@ pub trait Rules {
         requires { (game self.now).has board.now ≡ true }
         ensures { IfOk result (λ boards. boards ≡ boards_after (game self.now) player board.now) };
 
+    /// The boards that the player's moves lead to, in the order of the moves, in the room of these boards, of which there are
+    /// none. The board must be one of the game.
+    fn moves_into(
+        &self,
+        alloc: Global,
+        board: &Board,
+        player: Player,
+        room: Vec<Board>,
+    ) -> Result<Vec<Board>, AllocError>
+        requires has { (game self.now).has board.now ≡ true }
+        requires room { room.items ≡ [] }
+        ensures { IfOk result (λ boards. boards.items ≡ boards_after (game self.now) player board.now) }
+    {
+        // Read for the proof alone: these rules make vectors of their own.
+        let _ = room;
+        Ok(self.moves(alloc, board, player)?.into_vec())
+    }
+
     /// The pieces of the board where the rules cut, and `Whole` where they don't. The board must be one of the game.
     fn pieces(&self, alloc: Global, board: &Board) -> Result<Pieces, AllocError>
         requires { (game self.now).has board.now ≡ true }

@@ -1,0 +1,16 @@
+use Rattle.std.proofs.Common.{◌≡◌, map, ap, ◌∙◌}
+use Rattle.std.proofs.lemmas.Result.{IfOk-weaker}
+use Rattle.cg_moves.specs.Grid.{with_cells}
+use Rattle.cg_moves.specs.Rules.{boards_after}
+use Rattle.cg_clobber.specs.Moves.{clobber}
+use Rattle.cg_clobber.specs.Pairs.{by_pairs}
+use Rattle.cg_clobber.proofs.CaptureMarks.{wide}
+use Rattle.cg_clobber.proofs.PairRise.{pairs-are}
+use Rattle.cg_clobber.proofs.stones.ClobberRules.moves_into.Goals as goal
+
+pub returns : goal.returns
+returns c =
+    let p = c.args.board.now in
+    IfOk-weaker c.boards_in.result (λ boards. boards.items ≡ map (with_cells p) (by_pairs c.args.player p))
+    (λ boards. boards.items ≡ boards_after clobber c.args.player p)
+    (λ boards e. e ∙ ap (map (with_cells p)) (pairs-are c.args.player p (wide p c.requires.has))) c.boards_in.ensures

@@ -1,9 +1,0 @@
-use Rattle.std.proofs.Common.{◌≡◌, map}
-use Rattle.std.specs.List.{flat_map}
-use Rattle.cg_moves.specs.Grid.{with_cells}
-use Rattle.cg_moves.specs.Rising.{counted}
-use Rattle.cg_clobber.specs.Pairs.{paired}
-use Rattle.cg_clobber.proofs.stones.paired_boards.Given as goal
-
-abbrev pub invariant-loop-cell : goal.invariant-loop-cell
-invariant-loop-cell l = l.boards.items ≡ map (with_cells l.board) (flat_map (paired l.player l.board) (counted 0 l.cell))
