@@ -1,7 +1,7 @@
 //! Why no positions were listed.
 ghost use Rattle.std.specs.Prelude.{◌≡◌};
 
-use std::alloc::AllocFailed;
+use std::alloc::{AllocError, AllocFailed};
 use thiserror::Error;
 
 /// Why no positions were listed.
@@ -21,6 +21,16 @@ impl<T: Drop> From<AllocFailed<T>> for PositionsFault {
     ghost from_gives = { λ _ e. e ≡ Memory };
 
     fn from(_error: AllocFailed<T>) -> PositionsFault {
+        PositionsFault::Memory
+    }
+}
+
+impl From<AllocError> for PositionsFault {
+    ghost use Rattle.cg_nodes.specs.declared.fault.PositionsFault.TheVariants.{Memory};
+
+    ghost from_gives = { λ _ e. e ≡ Memory };
+
+    fn from(_error: AllocError) -> PositionsFault {
         PositionsFault::Memory
     }
 }

@@ -4,12 +4,16 @@ ghost use Rattle.std.specs.HashSet.{contains};
 ghost use Rattle.cg_cells.specs.Meaning.{Has};
 
 use crate::{Handle, Handles, PositionsFault};
-use std::alloc::{AllocFailed, Global};
+use std::alloc::{AllocError, Global};
 use std::collections::HashSet;
 use std::marker::Model;
 
 // So many handles are searched one by one.
-const FEW: usize = 16;
+const FEW: usize = 64;
+// A set has room for so many ids from the first.
+const MANY: usize = 2 * FEW;
+// The vector has room for so many handles from the first.
+const ROOM: usize = 16;
 
 /// Handles in the order in which they were found. Few are searched one by one, and more are looked up by their ids.
 /// Contracts see the list of handles.
@@ -38,14 +42,14 @@ impl Model for Found {
 
 impl Found {
     /// No handles.
-    pub(crate) fn new(alloc: Global) -> Found
-        ensures { result ≡ [] }
+    pub(crate) fn new(alloc: Global) -> Result<Found, AllocError>
+        ensures { IfOk result (λ found. found ≡ []) }
     {
-        Found {
-            handles: Vec::new(alloc),
+        Ok(Found {
+            handles: Vec::with_capacity(alloc, ROOM)?,
             ids: HashSet::new(alloc),
             by_ids: false,
-        }
+        })
     }
 
     /// Whether the handle was found.
@@ -96,10 +100,11 @@ impl Found {
 }
 
 // Puts the ids of these handles, and no others, into the set.
-fn put_ids(ids: &mut HashSet<u32>, handles: &[Handle]) -> Result<(), AllocFailed<u32>>
+fn put_ids(ids: &mut HashSet<u32>, handles: &[Handle]) -> Result<(), AllocError>
     ensures { OnOk result ((h : ℕ) → IsTrue (contains (λ a b. a == b) ids.new h) ↔ Has handles.now h) }
 {
     ids.clear();
+    ids.reserve(MANY)?;
     for handle in handles {
         ids.insert(handle.id().number())?;
     }

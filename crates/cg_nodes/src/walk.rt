@@ -112,7 +112,7 @@ pub fn positions<B: BoardForms, S: CellStore<GameFacts<B>>>(
         → limit < length (positions_of (game_at (S.state store.old) handle)) }
     ensures spends { Spends 0 (S.state store.old) (S.state store.new) }
 {
-    let mut found = Found::new(alloc);
+    let mut found = Found::new(alloc)?;
     walk_game(store, &mut found, handle, limit)?;
     Ok(found.into_handles())
 }
