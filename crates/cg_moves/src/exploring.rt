@@ -27,11 +27,12 @@ pub(crate) struct Explored {
     pub(crate) starts: Vec<usize>,
 }
 
-/// The boards that Left's moves lead to from a board, and those that Right's moves lead to. Those from the next board are put
-/// into the same room.
+/// The boards that moves lead to from a board. Those from the next board are put into the same room.
 #[derive(Drop)]
 struct Followers {
+    /// Those that Left's moves lead to.
     lefts: Vec<Board>,
+    /// Those that Right's moves lead to.
     rights: Vec<Board>,
 }
 
@@ -169,7 +170,7 @@ fn list_followers<R: Rules>(
     Ok(())
 }
 
-/// What comes next after the board with the number.
+/// What comes next after the board with the number. The boards after its moves are listed in the place of others.
 fn next_after<R: Rules>(
     alloc: Global,
     rules: &R,
