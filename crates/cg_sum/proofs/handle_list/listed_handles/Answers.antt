@@ -22,9 +22,9 @@ loop-top-preserved g c =
 pub returns-clause-handles : goal.returns-clause-handles
 returns-clause-handles g c =
     let n = c.in_default.not-Some in
-    (gathered_all _ _ _ _ c.loop-top.left _ c.loop-top.invariant c.head.ensures.spends
+    gathered_all _ _ _ _ c.loop-top.left _ c.loop-top.invariant c.head.ensures.spends
     (head_end (g.S.CellStore.state c.head.new.store) c.head.result
-    (listed (g.S.CellStore.state c.loop-top.store) c.loop-top.left) n c.head.ensures.head))
+    (listed (g.S.CellStore.state c.loop-top.store) c.loop-top.left) n c.head.ensures.head)
 
 pub returns-clause-spends : goal.returns-clause-spends
 returns-clause-spends g c = spends_then 0 0 _ _ _ c.loop-top.invariant.spends c.head.ensures.spends
