@@ -16,7 +16,7 @@ use Rattle.cg_form.specs.Game.{Game, node, number}
 use Rattle.cg_form.specs.Sum.{sum}
 use Rattle.cg_nodes.proofs.Later.{stands_game, stands_later}
 use Rattle.cg_nodes.specs.CanForms.{can-fixed}
-use Rattle.cg_nodes.specs.declared.reading.Sides.{Sides}
+use Rattle.cg_sum.specs.declared.written.Sides.{Sides}
 use Rattle.cg_nodes.specs.Games.{IsGame, IsInRange, StandsFor, game_at, games_at}
 use Rattle.cg_nodes.specs.Meant.{Meant, form}
 use Rattle.cg_nodes.specs.Spelled.{can}

@@ -5,10 +5,12 @@ pub mod OptionSteps
 pub mod Members
 pub mod Tables
 pub mod NimberSteps
+pub mod SameSums
 pub mod SumSteps
 pub mod OutsideItems
 pub mod ItemLoops
 pub mod PositionSteps
+pub mod ZeroSteps
 pub mod DraftSteps
 pub mod ItemSteps
 pub mod KeptSums

@@ -10,7 +10,7 @@ use Rattle.cg_nodes.specs.Games.{IsNode, StandFor, StandsFor, game_at, games_at}
 use Rattle.cg_nodes.specs.Meant.{Meant, form}
 use Rattle.cg_nodes.specs.Spelled.{can}
 use Rattle.cg_sum.specs.Finds.{negative_found, negative_handle}
-use Rattle.cg_nodes.specs.declared.reading.Sides.{Sides}
+use Rattle.cg_sum.specs.declared.written.Sides.{Sides}
 use Rattle.cg_sum.specs.Progress.{HoldsNegatives, IsNegativeReady, IsSides}
 use Rattle.cg_sum.specs.Written.{written, written_lefts, written_rights}
 use Rattle.cg_sum.specs.declared.found.Negatives.{Negatives}

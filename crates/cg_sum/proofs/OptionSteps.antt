@@ -7,7 +7,7 @@ use Rattle.cg_form.specs.Canonical.{Canonical}
 use Rattle.cg_form.specs.Game.{Game, node, number}
 use Rattle.cg_form.proofs.Among.{lefts-node, rights-node}
 use Rattle.cg_nodes.proofs.Later.{game_later, spends_then}
-use Rattle.cg_nodes.specs.declared.reading.Sides.{Sides}
+use Rattle.cg_sum.specs.declared.written.Sides.{Sides}
 use Rattle.cg_nodes.specs.Games.{IsGame, StandFor, game_at, listed}
 use Rattle.cg_nodes.specs.Meant.{Meant}
 use Rattle.cg_sum.specs.Progress.{IsWritten}

@@ -5,3 +5,4 @@ pub mod Written
 pub mod Finds
 pub mod Progress
 pub mod Firsts
+pub mod Zeros

@@ -9,7 +9,7 @@ use Rattle.cg_form.specs.Canonical.{Canonical}
 use Rattle.cg_form.specs.Game.{Among, Game, node, number}
 use Rattle.cg_form.specs.Sum.{negative, sum}
 use Rattle.cg_nimbers.specs.Nimbers.{nimber_form, nimbers_below}
-use Rattle.cg_nodes.specs.declared.reading.Sides.{Sides}
+use Rattle.cg_sum.specs.declared.written.Sides.{Sides}
 use Rattle.cg_nodes.specs.Games.{AreGames, IsGame, IsNode, StandFor, StandsFor, game_at, games_at}
 use Rattle.cg_nodes.specs.Meant.{Meant, form}
 use Rattle.cg_nodes.specs.Spelled.{can}

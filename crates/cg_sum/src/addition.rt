@@ -25,6 +25,9 @@ use cg_cells::CellStore;
 use cg_nodes::{BoardForms, GameFacts, Handle, Handles};
 use std::alloc::Global;
 
+/// The greatest number of sums for which an addition takes room at once.
+const ROOM: usize = 1_024;
+
 /// The handle of the canonical form of a + b, where G + H = {A + H, G + C | B + H, G + D} over the Left
 /// options A and C and the Right options B and D of G and H (Siegel, Combinatorial Game Theory (2013),
 /// I.1).
@@ -149,6 +152,8 @@ fn add_sums<B: BoardForms, S: CellStore<GameFacts<B>>>(
     ensures spare { (work_state S.state work.old).spare ≤ (work_state S.state work.new).spare }
 {
     let terms = known_positions(alloc, work, a, b, &mut sums.nimbers)?;
+    let pairs = terms.firsts.len().saturating_mul(terms.seconds.len());
+    sums.reserve(pairs.min(ROOM))?;
     let start = work.spare();
     add_rows(
         alloc,

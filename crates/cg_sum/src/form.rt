@@ -9,9 +9,10 @@ ghost use Rattle.cg_nodes.specs.Games.{AreGames, StandsFor, games_at};
 ghost use Rattle.cg_nodes.specs.Spelled.{can};
 ghost use Rattle.cg_sum.specs.Progress.{IsSides, TermsApart};
 
+use crate::written::Sides;
 use cg_canon::{FirstTerm, ValueFault, Work, canonical_item, canonical_of_terms};
 use cg_cells::CellStore;
-use cg_nodes::{BoardForms, GameFacts, Handle, Sides};
+use cg_nodes::{BoardForms, GameFacts, Handle};
 use std::alloc::Global;
 
 /// A game by its lists of options, which is to be made canonical.

@@ -26,6 +26,14 @@ impl Sums {
         }
     }
 
+    /// Takes room for so many more sums at once.
+    pub(crate) fn reserve(&mut self, count: usize) -> Result<(), AllocError>
+        ensures same { (a b : ℕ) → sum_found self.new a b ≡ sum_found self.old a b }
+        ensures nimbers { self.new.nimbers ≡ self.old.nimbers }
+    {
+        self.sums.reserve(count)
+    }
+
     pub(crate) fn get(&self, a: Handle, b: Handle) -> Option<Handle>
         ensures { result ≡ sum_found self.now a b }
     {

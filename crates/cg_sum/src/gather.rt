@@ -6,9 +6,11 @@ ghost use Rattle.cg_sum.specs.Progress.{AreOptionsFound, IsDraftOf};
 
 use crate::form::Draft;
 use crate::found::Sums;
+use crate::handle_list::HandleList;
 use crate::position::Position;
+use crate::written::Sides;
 use cg_canon::FirstTerm;
-use cg_nodes::{Handle, Handles, Sides};
+use cg_nodes::Handle;
 use std::alloc::{AllocError, Global};
 
 /// Games whose canonical form is that of f + k, as Left and Right options: the sums of the written options
@@ -46,10 +48,7 @@ pub(crate) fn draft_of_sum(
         k.options.rights.as_slice(),
     )?;
     Ok(Draft {
-        sides: Sides {
-            lefts: Handles::of(lefts),
-            rights: Handles::of(rights),
-        },
+        sides: Sides { lefts, rights },
         first_term,
     })
 }
@@ -63,13 +62,13 @@ fn option_sums(
     k: Handle,
     f: Handle,
     seconds: &[Handle],
-) -> Result<Vec<Handle>, AllocError>
+) -> Result<HandleList, AllocError>
     requires firsts { (p : ℕ) → Has firsts.now p → IsSome (sum_found sums.now p k) }
     requires seconds { (q : ℕ) → Has seconds.now q → IsSome (sum_found sums.now f q) }
-    ensures { IfOk result (λ all. all.items ≡ map (λ p. sum_handle sums.now p k) firsts.now
+    ensures { IfOk result (λ all. all ≡ map (λ p. sum_handle sums.now p k) firsts.now
         ++ map (λ q. sum_handle sums.now f q) seconds.now) }
 {
-    let mut all = Vec::with_capacity(alloc, firsts.len() + seconds.len())?;
+    let mut all = HandleList::new(alloc);
     add_firsts(sums, firsts, k, &mut all)?;
     add_seconds(sums, f, seconds, &mut all)?;
     Ok(all)
@@ -80,10 +79,10 @@ fn add_firsts(
     sums: &Sums,
     firsts: &[Handle],
     k: Handle,
-    all: &mut Vec<Handle>,
+    all: &mut HandleList,
 ) -> Result<(), AllocError>
     requires { (p : ℕ) → Has firsts.now p → IsSome (sum_found sums.now p k) }
-    ensures { IfOk result (λ _. all.new.items ≡ all.old.items ++ map (λ p. sum_handle sums.now p k) firsts.now) }
+    ensures { IfOk result (λ _. all.new ≡ all.old ++ map (λ p. sum_handle sums.now p k) firsts.now) }
 {
     for first in firsts {
         let Some(sum) = sums.get(*first, k) else {
@@ -99,10 +98,10 @@ fn add_seconds(
     sums: &Sums,
     f: Handle,
     seconds: &[Handle],
-    all: &mut Vec<Handle>,
+    all: &mut HandleList,
 ) -> Result<(), AllocError>
     requires { (q : ℕ) → Has seconds.now q → IsSome (sum_found sums.now f q) }
-    ensures { IfOk result (λ _. all.new.items ≡ all.old.items ++ map (λ q. sum_handle sums.now f q) seconds.now) }
+    ensures { IfOk result (λ _. all.new ≡ all.old ++ map (λ q. sum_handle sums.now f q) seconds.now) }
 {
     for second in seconds {
         let Some(sum) = sums.get(f, *second) else {

@@ -1,17 +1,21 @@
 //! The item of the sum of two positions.
-ghost use Rattle.std.specs.Prelude.{◌≡◌, ◌⊎◌, ◌+◌, ◌≤◌, MatchOption, IfOk, IsSome, IsTrue, None, OnOk, Some, [], ◌∷◌};
+ghost use Rattle.std.specs.Prelude.{◌≡◌, ◌⊎◌, ◌+◌, ◌≤◌, MatchOption, IfOk, IsSome, IsTrue, None, OnOk, Some, [], ◌∷◌, pos};
+ghost use Rattle.std.specs.Option.{ForSome};
 ghost use Rattle.cg_canon.specs.Items.{made as made_at};
 ghost use Rattle.cg_canon.specs.Made.{ItemsMade};
 ghost use Rattle.cg_canon.specs.Works.{work_state};
+ghost use Rattle.cg_dyadic.specs.Number.{whole};
 ghost use Rattle.cg_form.specs.Sum.{sum};
 ghost use Rattle.cg_nodes.specs.Games.{IsGame, StandsFor, game_at};
 ghost use Rattle.cg_nodes.specs.Spelled.{can, game_meaning};
 ghost use Rattle.cg_canon.specs.SumItems.{sum_item as item_of_sum};
 ghost use Rattle.cg_sum.specs.Progress.{IsNoteOf, IsOneNode, IsSumReady};
+ghost use Rattle.cg_sum.specs.Zeros.{IsBesideZero};
 
 use crate::form::{form_item, written_item};
 use crate::found::Sums;
 use crate::gather::draft_of_sum;
+use crate::nimbers::is_zero;
 use crate::pairs::pair;
 use crate::position::Position;
 use cg_canon::{ValueFault, Work, item_of, number_item};
@@ -31,7 +35,8 @@ pub(crate) enum LookUp {
 
 /// Makes the item of f + k, where the sums of their options were made before.
 ///
-/// The sum of two numbers is a number. Any other sum that was made before is found where `look_up` says.
+/// The sum of two numbers is a number, and the sum of 0 and another game is that game. Any other sum that was made before is
+/// found where `look_up` says.
 pub(crate) fn sum_item<B: BoardForms, S: CellStore<GameFacts<B>>>(
     alloc: Global,
     work: &mut Work<B, S>,
@@ -76,8 +81,56 @@ fn numbers(f: &Position, k: &Position) -> Option<Addends>
     }
 }
 
-// Makes the item of f + k, where one of the two is no number.
+// Whether the position is the number 0.
+fn is_nothing(position: &Position) -> bool
+    ensures { IsTrue result → position.now.number ≡ Some (whole (pos 0)) }
+{
+    match position.number {
+        Some(x) => is_zero(x),
+        None => false,
+    }
+}
+
+// The other of the two, where one is the number 0.
+fn beside_zero(f: &Position, k: &Position) -> Option<Handle>
+    ensures { ForSome result (IsBesideZero f.now k.now) }
+{
+    if is_nothing(f) {
+        Some(k.handle)
+    } else if is_nothing(k) {
+        Some(f.handle)
+    } else {
+        None
+    }
+}
+
+// Makes the item of f + k, where one of the two is no number. Where the other is 0, the sum is known.
 fn game_item<B: BoardForms, S: CellStore<GameFacts<B>>>(
+    alloc: Global,
+    work: &mut Work<B, S>,
+    f: &Position,
+    k: &Position,
+    sums: &Sums,
+    look_up: LookUp,
+    start: u64,
+) -> Result<Handle, ValueFault>
+    requires ready { IsSumReady (work_state S.state work.old) sums.now f.now k.now }
+    requires node { IsOneNode (work_state S.state work.old) f.now.handle k.now.handle }
+    requires spare { start ≤ (work_state S.state work.old).spare }
+    ensures game { let W = work_state S.state work.old in IfOk result (λ h. StandsFor (work_state S.state work.new) h
+        (can (sum (game_at W f.now.handle) (game_at W k.now.handle)))) }
+    ensures made { let W = work_state S.state work.old in ItemsMade W (work_state S.state work.new)
+        (item_of_sum (game_at W f.now.handle) (game_at W k.now.handle) ∷ []) result }
+    ensures spare { start ≤ (work_state S.state work.new).spare }
+{
+    match beside_zero(f, k) {
+        Some(sum) => charged_item(alloc, work, sum),
+        None => looked_up_item(alloc, work, f, k, sums, look_up, start),
+    }
+}
+
+// Makes the item of f + k, where one of the two is no number, by the sum that was made before where it is found.
+fn looked_up_item<B: BoardForms, S: CellStore<GameFacts<B>>>(
     alloc: Global,
     work: &mut Work<B, S>,
     f: &Position,

@@ -14,6 +14,7 @@ mod firsts;
 mod form;
 mod found;
 mod gather;
+mod handle_list;
 mod item;
 mod limits;
 mod multiples;

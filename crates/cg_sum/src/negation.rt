@@ -15,11 +15,12 @@ ghost use Rattle.cg_sum.specs.Written.{IsClosed};
 
 use crate::form::{Draft, form_item};
 use crate::found::Negatives;
+use crate::handle_list::HandleList;
 use crate::limits::positions_within;
-use crate::written::written_options;
+use crate::written::{Sides, written_options};
 use cg_canon::{FirstTerm, ValueFault, Work, number_item};
 use cg_cells::CellStore;
-use cg_nodes::{BoardForms, GameFacts, Handle, Handles, Kind, Sides, kind};
+use cg_nodes::{BoardForms, GameFacts, Handle, Kind, kind};
 use std::alloc::{AllocError, Global};
 
 /// The handle of the canonical form of -a, where -G = {-B | -A} over the Right options B and the Left
@@ -172,10 +173,7 @@ fn draft_of_negative<B: BoardForms, S: CellStore<GameFacts<B>>>(
     let lefts = negatives_of(alloc, negatives, sides.rights.as_slice())?;
     let rights = negatives_of(alloc, negatives, sides.lefts.as_slice())?;
     Ok(Draft {
-        sides: Sides {
-            lefts: Handles::of(lefts),
-            rights: Handles::of(rights),
-        },
+        sides: Sides { lefts, rights },
         first_term,
     })
 }
@@ -185,11 +183,11 @@ fn negatives_of(
     alloc: Global,
     negatives: &Negatives,
     handles: &[Handle],
-) -> Result<Vec<Handle>, AllocError>
+) -> Result<HandleList, AllocError>
     requires { (p : ℕ) → Has handles.now p → IsSome (negative_found negatives.now p) }
-    ensures { IfOk result (λ all. all.items ≡ map (λ p. negative_handle negatives.now p) handles.now) }
+    ensures { IfOk result (λ all. all ≡ map (λ p. negative_handle negatives.now p) handles.now) }
 {
-    let mut all = Vec::new(alloc);
+    let mut all = HandleList::new(alloc);
     for handle in handles {
         let Some(negative) = negatives.get(*handle) else {
             unreachable!()

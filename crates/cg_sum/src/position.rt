@@ -5,10 +5,10 @@ ghost use Rattle.cg_nodes.specs.Games.{AreGames, IsGame};
 ghost use Rattle.cg_sum.specs.Progress.{ArePositions, HoldsNimbers, IsPosition, handles_of};
 
 use crate::nimbers::{Nimbers, value_of_number, value_over};
-use crate::written::{no_sides, sides_of};
+use crate::written::{Sides, no_sides, sides_of};
 use cg_cells::CellStore;
 use cg_dyadic::Dyadic;
-use cg_nodes::{BoardForms, GameFacts, Handle, Reading, Sides, read};
+use cg_nodes::{BoardForms, GameFacts, Handle, Reading, read};
 use std::alloc::{AllocError, Global};
 
 /// A position, with all that its sums are made of.

@@ -4,9 +4,19 @@ ghost use Rattle.cg_cells.specs.Store.{Spends};
 ghost use Rattle.cg_nodes.specs.Games.{IsGame, IsList, StandFor, listed};
 ghost use Rattle.cg_sum.specs.Progress.{IsWritten};
 
+use crate::handle_list::{HandleList, listed_handles};
 use cg_cells::CellStore;
-use cg_nodes::{BoardForms, GameFacts, Handle, Handles, ListId, Reading, Sides, handles, read};
+use cg_nodes::{BoardForms, GameFacts, Handle, ListId, Reading, read};
 use std::alloc::{AllocError, Global};
+
+/// The options of a game, or of one that is to be made.
+#[derive(Drop)]
+pub(crate) struct Sides {
+    /// The Left options.
+    pub(crate) lefts: HandleList,
+    /// The Right options.
+    pub(crate) rights: HandleList,
+}
 
 /// The handles of the options that are written in the form of the handle: of a number none, and of another
 /// game its options. The only error is want of memory.
@@ -31,8 +41,8 @@ pub(crate) fn no_sides(alloc: Global) -> Sides
     ensures rights { result.rights ≡ [] }
 {
     Sides {
-        lefts: Handles::of(Vec::new(alloc)),
-        rights: Handles::of(Vec::new(alloc)),
+        lefts: HandleList::new(alloc),
+        rights: HandleList::new(alloc),
     }
 }
 
@@ -51,7 +61,7 @@ pub(crate) fn sides_of<B: BoardForms, S: CellStore<GameFacts<B>>>(
         StandFor (S.state store.new) sides.rights (listed (S.state store.old) right_list)) }
     ensures spends { Spends 0 (S.state store.old) (S.state store.new) }
 {
-    let lefts = handles(alloc, store, left_list)?;
-    let rights = handles(alloc, store, right_list)?;
+    let lefts = listed_handles(alloc, store, left_list)?;
+    let rights = listed_handles(alloc, store, right_list)?;
     Ok(Sides { lefts, rights })
 }

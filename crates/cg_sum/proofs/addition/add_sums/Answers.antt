@@ -3,6 +3,8 @@ use Rattle.std.proofs.Common.{ap, ◌∙◌, Err}
 use Rattle.std.proofs.lemmas.Result.{IfOk-weaker, err_from_is_err_and}
 use Rattle.cg_canon.specs.Works.{work_state}
 use Rattle.cg_canon.proofs.Keeping.{spends_keeps}
+use Rattle.cg_canon.proofs.MadeSteps.{made_memory}
+use Rattle.cg_sum.proofs.SameSums.{holds_same}
 use Rattle.cg_sum.proofs.SumEnds.{lent_positions, refused_items, sum_made}
 use Rattle.cg_sum.proofs.SumSteps.{holds_known}
 use Rattle.cg_sum.proofs.addition.add_sums.Goals as goal
@@ -13,14 +15,20 @@ returns-in_err-terms-clause-made g c =
     refused_items _ _ _ _ _ (p.1 ∙ ap Err p.2) c.in_err-terms.ensures.refused
     (spends_keeps 0 _ _ c.known_positions.ensures.spends)
 
+pub returns-in_err-reserve-clause-made : goal.returns-in_err-reserve-clause-made
+returns-in_err-reserve-clause-made g c =
+    let p = err_from_is_err_and c.from_residual-in_err-reserve.result c.from_residual-in_err-reserve.ensures.1 in
+    made_memory _ _ _ _ (p.1 ∙ ap Err p.2) (spends_keeps 0 _ _ c.known_positions.ensures.spends)
+
 pub known_positions-requires-clause-holds : goal.known_positions-requires-clause-holds
 known_positions-requires-clause-holds g c = c.requires.holds.nimbers
 
 pub add_rows-requires-clause-holds : goal.add_rows-requires-clause-holds
 add_rows-requires-clause-holds g c =
     let W = work_state g.S.CellStore.state in
-    holds_known (W c.args.work.now) (W c.known_positions.new.work) c.known_positions.ensures.spends.known _ _ c.requires.holds
-    c.in_ok-terms.ensures.holds
+    holds_same (W c.known_positions.new.work) _ _ c.reserve.ensures.same c.reserve.ensures.nimbers
+    (holds_known (W c.args.work.now) (W c.known_positions.new.work) c.known_positions.ensures.spends.known _ _ c.requires.holds
+    c.in_ok-terms.ensures.holds)
 
 pub returns-clause-found : goal.returns-clause-found
 returns-clause-found g c =

@@ -4,4 +4,4 @@ use Rattle.cg_sum.proofs.gather.add_seconds.Given as goal
 
 abbrev pub invariant-loop-second : goal.invariant-loop-second
 invariant-loop-second l =
-    l.all.items ≡ l.initial.all.items ++ map (λ q. sum_handle l.sums l.f q) (take l.second-index l.seconds)
+    l.all ≡ l.initial.all ++ map (λ q. sum_handle l.sums l.f q) (take l.second-index l.seconds)

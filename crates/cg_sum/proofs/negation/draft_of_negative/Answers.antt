@@ -29,9 +29,9 @@ returns-clause-sides g c =
     let same = sym (game_later (W c.args.store.now) (W c.written_options.new.store) grows c.args.f c.requires.ready.game) in
     let P : Game → Type 0 = λ z. IsNode z in
     sides_negative _ _ _ ready c.apart.ensures _ _ same (subst P same c.requires.node)
-    (side_negated _ _ _ ready c.apart.ensures _ _ _ _ c.as_slice.ensures (c.of.ensures ∙ c.in_ok-lefts.ensures)
+    (side_negated _ _ _ ready c.apart.ensures _ _ _ _ c.as_slice.ensures c.in_ok-lefts.ensures
     c.in_ok-sides.ensures.written.rights (right_written _))
-    (side_negated _ _ _ ready c.apart.ensures _ _ _ _ c.as_slice-2.ensures (c.of-2.ensures ∙ c.in_ok-rights.ensures)
+    (side_negated _ _ _ ready c.apart.ensures _ _ _ _ c.as_slice-2.ensures c.in_ok-rights.ensures
     c.in_ok-sides.ensures.written.lefts (left_written _))
 
 pub returns-clause-terms : goal.returns-clause-terms
@@ -41,11 +41,11 @@ returns-clause-terms g c =
     let sides = c.in_ok-sides.ensures.written in
     record {
       lefts = negative_apart (W c.written_options.new.store) _ _ _ _
-          (side_negated _ _ _ ready c.apart.ensures _ _ _ _ c.as_slice.ensures (c.of.ensures ∙ c.in_ok-lefts.ensures)
+          (side_negated _ _ _ ready c.apart.ensures _ _ _ _ c.as_slice.ensures c.in_ok-lefts.ensures
           sides.rights (right_written _))
           sides.rights c.len.ensures (rights_apart _ sides.canonical);
       rights = negative_apart (W c.written_options.new.store) _ _ _ _
-          (side_negated _ _ _ ready c.apart.ensures _ _ _ _ c.as_slice-2.ensures (c.of-2.ensures ∙ c.in_ok-rights.ensures)
+          (side_negated _ _ _ ready c.apart.ensures _ _ _ _ c.as_slice-2.ensures c.in_ok-rights.ensures
           sides.lefts (left_written _))
           sides.lefts c.len-2.ensures (lefts_apart _ sides.canonical);
     }
