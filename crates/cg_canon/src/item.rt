@@ -1,138 +1,20 @@
 //! Items of forms that need no search: a number, and a form that is known.
-ghost use Rattle.std.specs.Prelude.{◌≡◌, ◌+◌, ◌≤◌, ◌^◌, IfOk, IfErr, OnOk, OnErr, [], ◌∷◌};
+ghost use Rattle.std.specs.Prelude.{◌≡◌, ◌+◌, ◌≤◌, IfOk, IfErr, OnOk, OnErr, [], ◌∷◌};
 ghost use Rattle.cg_form.specs.Canonical.{Canonical};
-ghost use Rattle.cg_form.specs.Game.{Game, node, number};
+ghost use Rattle.cg_form.specs.Game.{node, number};
 ghost use Rattle.cg_cells.specs.Store.{Spends};
 ghost use Rattle.cg_nodes.specs.Games.{AreGames, IsGame, StandsFor, game_at, games_at};
 ghost use Rattle.cg_canon.specs.Items.{AllPass, WasRefused, made};
-ghost use Rattle.cg_book.specs.Profiles.{IsProfile};
-ghost use Rattle.cg_form.specs.Simple.{NoNumber};
-ghost use Rattle.cg_canon.specs.Values.{IsListed};
 ghost use Rattle.cg_canon.specs.NumberItems.{IsForm, number_made};
 ghost use Rattle.cg_canon.specs.Works.{IsUnspent, Keeps, work_state};
 
 use crate::fault::ValueFault;
-use crate::value::ListedForm;
 use crate::work::Work;
 use cg_book::Profile;
 use cg_cells::CellStore;
 use cg_dyadic::Dyadic;
-use cg_nodes::{BoardForms, GameFacts, Handle, game, list, number};
+use cg_nodes::{BoardForms, GameFacts, Handle, number};
 use std::alloc::Global;
-
-/// The greatest depth of a form that is made.
-const DEEPEST: u64 = 512;
-
-/// Charges the item of the form with this profile, with a cost of `extra` more, unless it is too deep or too dear.
-fn charge_form<B: BoardForms, S: CellStore<GameFacts<B>>>(
-    work: &mut Work<B, S>,
-    profile: &Profile,
-    extra: u64,
-) -> Result<(), ValueFault>
-    requires extra { extra ≤ 8 }
-    requires small { profile.now.cost ≤ 2 ^ 34 }
-    ensures ok { IfOk result (λ _. work.new ≡ record work.old { spent = work.old.spent + (profile.now.cost + extra) }) }
-    ensures room { OnOk result ((work_state S.state work.new).spare ≡ (work_state S.state work.old).spare + (profile.now.cost + extra)) }
-    ensures charged { (g : Game) → IsProfile g profile.now
-        → OnOk result (AllPass work.old.share work.old.spent (made g extra ∷ []) work.new.spent) }
-    ensures refused { (g : Game) → IsProfile g profile.now
-        → IfErr result (λ fault. WasRefused fault work.old.share work.old.spent (made g extra ∷ []) work.new.spent) }
-    ensures memory { IfErr result (λ fault. ¬ (fault ≡ ValueFault.Memory)) }
-    ensures same { OnErr result (work.new ≡ work.old) }
-{
-    if profile.depth > DEEPEST {
-        return Err(ValueFault::Depth(profile.depth));
-    }
-    work.charge(profile.cost + extra)
-}
-
-/// Makes the item of the canonical game with these options and this profile, with a cost of `extra` more.
-fn game_item<B: BoardForms, S: CellStore<GameFacts<B>>>(
-    work: &mut Work<B, S>,
-    lefts: &[Handle],
-    rights: &[Handle],
-    profile: &Profile,
-    extra: u64,
-) -> Result<Handle, ValueFault>
-    requires extra { extra ≤ 8 }
-    requires lefts { AreGames (work_state S.state work.old) lefts.now }
-    requires rights { AreGames (work_state S.state work.old) rights.now }
-    requires canonical { let W = work_state S.state work.old in Canonical (node (games_at W lefts.now) (games_at W rights.now)) }
-    requires profile { let W = work_state S.state work.old in
-        IsProfile (node (games_at W lefts.now) (games_at W rights.now)) profile.now }
-    ensures game { let W = work_state S.state work.old in
-        IfOk result (λ h. StandsFor (work_state S.state work.new) h (node (games_at W lefts.now) (games_at W rights.now))) }
-    ensures charged { let W = work_state S.state work.old in OnOk result (AllPass work.old.share work.old.spent
-        (made (node (games_at W lefts.now) (games_at W rights.now)) extra ∷ []) work.new.spent) }
-    ensures refused { let W = work_state S.state work.old in IfErr result (λ fault.
-        WasRefused fault work.old.share work.old.spent
-        (made (node (games_at W lefts.now) (games_at W rights.now)) extra ∷ []) work.new.spent) }
-    ensures same { OnErr result (work.new ≡ work.old) }
-    ensures spare { OnOk result ((work_state S.state work.new).spare ≡ (work_state S.state work.old).spare + extra) }
-    ensures keeps { Keeps (work_state S.state work.old) (work_state S.state work.new) }
-{
-    charge_form(work, profile, extra)?;
-    let left_list = list(work, lefts);
-    let right_list = list(work, rights);
-    Ok(game(work, left_list, right_list))
-}
-
-/// Makes the item of the canonical form that was found, with a cost of `extra` more, and enters it in the work's book.
-pub(crate) fn listed_item<B: BoardForms, S: CellStore<GameFacts<B>>>(
-    work: &mut Work<B, S>,
-    form: &ListedForm,
-    extra: u64,
-) -> Result<Handle, ValueFault>
-    requires extra { extra ≤ 8 }
-    requires form { let W = work_state S.state work.old in
-        IsListed W (node (games_at W form.now.lefts.items) (games_at W form.now.rights.items)) form.now }
-    requires canonical { let W = work_state S.state work.old in
-        Canonical (node (games_at W form.now.lefts.items) (games_at W form.now.rights.items)) }
-    ensures game { let W = work_state S.state work.old in IfOk result (λ h.
-        StandsFor (work_state S.state work.new) h (node (games_at W form.now.lefts.items) (games_at W form.now.rights.items))) }
-    ensures charged { let W = work_state S.state work.old in OnOk result (AllPass work.old.share work.old.spent
-        (made (node (games_at W form.now.lefts.items) (games_at W form.now.rights.items)) extra ∷ []) work.new.spent) }
-    ensures refused { let W = work_state S.state work.old in IfErr result (λ fault.
-        WasRefused fault work.old.share work.old.spent
-        (made (node (games_at W form.now.lefts.items) (games_at W form.now.rights.items)) extra ∷ []) work.new.spent) }
-    ensures same { OnErr result (work.new ≡ work.old) }
-    ensures spare { OnOk result ((work_state S.state work.new).spare ≡ (work_state S.state work.old).spare + extra) }
-    ensures keeps { Keeps (work_state S.state work.old) (work_state S.state work.new) }
-{
-    let lefts = form.lefts.as_slice();
-    let rights = form.rights.as_slice();
-    let handle = game_item(work, lefts, rights, &form.new.profile, extra)?;
-    work.enter(handle, form);
-    Ok(handle)
-}
-
-/// Makes the item of a game that is canonical as it is given, with a cost of `extra` more.
-fn given_item<B: BoardForms, S: CellStore<GameFacts<B>>>(
-    alloc: Global,
-    work: &mut Work<B, S>,
-    lefts: &[Handle],
-    rights: &[Handle],
-    extra: u64,
-) -> Result<Handle, ValueFault>
-    requires extra { extra ≤ 8 }
-    requires lefts { AreGames (work_state S.state work.old) lefts.now }
-    requires rights { AreGames (work_state S.state work.old) rights.now }
-    requires canonical { let W = work_state S.state work.old in Canonical (node (games_at W lefts.now) (games_at W rights.now)) }
-    requires no_number { let W = work_state S.state work.old in NoNumber (node (games_at W lefts.now) (games_at W rights.now)) }
-    ensures game { let W = work_state S.state work.old in
-        IfOk result (λ h. StandsFor (work_state S.state work.new) h (node (games_at W lefts.now) (games_at W rights.now))) }
-    ensures charged { let W = work_state S.state work.old in OnOk result (AllPass work.old.share work.old.spent
-        (made (node (games_at W lefts.now) (games_at W rights.now)) extra ∷ []) work.new.spent) }
-    ensures refused { let W = work_state S.state work.old in IfErr result (λ fault.
-        WasRefused fault work.old.share work.old.spent
-        (made (node (games_at W lefts.now) (games_at W rights.now)) extra ∷ []) work.new.spent) }
-    ensures same { OnErr result (Spends 0 (work_state S.state work.old) (work_state S.state work.new)) }
-    ensures spare { OnOk result ((work_state S.state work.new).spare ≡ (work_state S.state work.old).spare + extra) }
-    ensures keeps { Keeps (work_state S.state work.old) (work_state S.state work.new) }
-{
-    let form = work.form_of(alloc, lefts, rights)?;
-    listed_item(work, &form, extra)
-}
 
 /// Makes the item of a game that is canonical as it is given, with a cost of `extra` more, where `extra` is at most 8. It
 /// is [`canonical`](crate::canonical) without the search: both lists rise in the structural order, no option is dominated or
@@ -165,7 +47,7 @@ pub fn canonical_item<B: BoardForms, S: CellStore<GameFacts<B>>>(
 {
     // Read for the proof alone: the meter tells what the store has to spare.
     let _before = work.spent();
-    let outcome = given_item(alloc, work, lefts, rights, extra);
+    let outcome = work.make_given(alloc, lefts, rights, extra);
     let _after = work.spent();
     outcome
 }
@@ -185,7 +67,7 @@ pub(crate) fn item_of_number<B: BoardForms, S: CellStore<GameFacts<B>>>(
     ensures spare { OnOk result ((work_state S.state work.new).spare ≡ (work_state S.state work.old).spare + extra) }
     ensures keeps { Keeps (work_state S.state work.old) (work_state S.state work.new) }
 {
-    charge_form(work, &Profile::number(x), extra)?;
+    work.charge_form(&Profile::number(x), extra)?;
     Ok(number(work, x))
 }
 
@@ -234,7 +116,7 @@ pub(crate) fn known_item<B: BoardForms, S: CellStore<GameFacts<B>>>(
     ensures keeps { Keeps (work_state S.state work.old) (work_state S.state work.new) }
 {
     let profile = work.profile_of(alloc, handle)?;
-    charge_form(work, &profile, extra)
+    work.charge_form(&profile, extra)
 }
 
 /// Charges the item of a form that is known already, with a cost of `extra` more, where `extra` is at most 8.

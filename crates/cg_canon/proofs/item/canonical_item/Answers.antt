@@ -3,5 +3,5 @@ use Rattle.cg_canon.proofs.Results.{on_err}
 use Rattle.cg_canon.proofs.item.canonical_item.Goals as goal
 
 pub returns-clause-same : goal.returns-clause-same
-returns-clause-same g c = on_err c.given_item-outcome.result _ _ c.given_item-outcome.ensures.same
-    (λ k. unspent g.S.CellStore.state c.args.work.now c.given_item-outcome.new.work k c.spent-before.ensures.enough c.spent-after.ensures.enough)
+returns-clause-same g c = on_err c.make_given-outcome.result _ _ c.make_given-outcome.ensures.same
+    (λ k. unspent g.S.CellStore.state c.args.work.now c.make_given-outcome.new.self k c.spent-before.ensures.enough c.spent-after.ensures.enough)
