@@ -1,4 +1,4 @@
--- Items that were made once, charged again at once.
+-- Items that were made once, on their own.
 use Rattle.std.proofs.Common.{◌≡◌, ℕ, ◌+◌, ◌-◌, ◌≤◌, arith, ap, List, ◌∷◌}
 use Rattle.cg_canon.specs.Items.{AllPass, Item, Passes, item_cost, made, outside, too_many, total}
 use Rattle.cg_canon.proofs.ItemLaws.{total-append}
@@ -8,18 +8,6 @@ passes_at : (item : Item) (m n c share : ℕ) → Passes item m c → (m ≤ c �
 passes_at (made g extra) m n c share p f = (p.0, p.1, f p.2)
 passes_at outside m n c share p f = absurd p
 passes_at too_many m n c share p f = absurd p
-
--- items that pass on their own pass wherever their whole cost is within the share
-pub pass_again : (c share spent : ℕ) (items : List Item) → AllPass c 0 items c → spent + c ≤ share
-    → AllPass share spent items (spent + c)
-pass_again c share spent items h fits =
-    let k = h.spent in
-    record {
-      spent = omega arith;
-      each = λ front item back e.
-          passes_at item (0 + total front + item_cost item) (spent + total front + item_cost item) c share
-          (h.each front item back e) (λ l. omega arith);
-    }
 
 -- items that pass do so on their own
 pub pass_alone : (share before after : ℕ) (items : List Item) → AllPass share before items after

@@ -5,12 +5,11 @@ use Rattle.cg_dyadic.specs.Number.{InRange, Number}
 use Rattle.cg_form.specs.Canonical.{Canonical}
 use Rattle.cg_form.specs.Game.{Game, node, number}
 use Rattle.cg_form.proofs.Among.{lefts-node, rights-node}
-use Rattle.cg_cells.specs.Meaning.{Grows}
-use Rattle.cg_cells.specs.Store.{Spends, State, thing_at}
-use Rattle.cg_nodes.specs.Games.{AreGames, ListsAs, games_at, listed}
+use Rattle.cg_cells.specs.Store.{Spends, State}
+use Rattle.cg_nodes.specs.Games.{AreGames, ListsAs, StandsFor, games_at, listed}
 use Rattle.cg_nodes.specs.Meant.{Meant}
 use Rattle.cg_nodes.proofs.Members.{length_games}
-use Rattle.cg_nodes.proofs.Later.{are_games_later, games_later, listed_as, lists_later}
+use Rattle.cg_nodes.proofs.Later.{games_later, listed_as, lists_later, spends_then}
 use Rattle.cg_canon.specs.declared.fault.ValueFault.{ValueFault}
 use Rattle.cg_canon.specs.declared.fault.ValueFault.TheVariants.{Depth, Full, Range}
 use Rattle.cg_book.specs.declared.profile.Profile.{Profile}
@@ -56,11 +55,7 @@ none_given (Some y) extra share spent e = cc
 
 -- ---- the cells of a game
 
--- a charge changes nothing that is known
-pub known_grows : {R Q : Type 0} (s : State Meant R) (t : State Meant Q) → t.known ≡ s.known → Grows (thing_at s) (thing_at t)
-known_grows s t e i x h = rw e h
-
-pub cost_of_lists : {R : Type 0} (s : State Meant R) (ls rs : List ℕ) (p : Profile)
+cost_of_lists : {R : Type 0} (s : State Meant R) (ls rs : List ℕ) (p : Profile)
     → IsProfile (node (games_at s ls) (games_at s rs)) p → p.cost ≡ 1 + length ls + length rs
 cost_of_lists s ls rs p h =
     let a = ap length (lefts-node (games_at s ls) (games_at s rs)) in
@@ -70,39 +65,65 @@ cost_of_lists s ls rs p h =
     let e = h.cost in
     omega arith
 
--- the two lists that are made one after the other, where t knows what s knows
-pub record TwoLists {R Q : Type 0} (s : State Meant R) (t u v : State Meant Q) (ls rs : List ℕ) (o q : Option ℕ) : Type 0 where
-  pub lefts : AreGames t ls
-  pub rights : AreGames u rs
-  pub first : listed v o ≡ games_at s ls
-  pub second : listed v q ≡ games_at s rs
+-- the two lists that are made one after the other
+pub record TwoLists {R : Type 0} (s u : State Meant R) (ls rs : List ℕ) (o q : Option ℕ) : Type 0 where
+  pub first : listed u o ≡ games_at s ls
+  pub second : listed u q ≡ games_at s rs
 
-pub two_lists : {R Q : Type 0} (n m : ℕ) (s : State Meant R) (t u v : State Meant Q) (ls rs : List ℕ) (o q : Option ℕ)
-    → t.known ≡ s.known → AreGames s ls → AreGames s rs → Spends n t u → Spends m u v → ListsAs u o (games_at t ls)
-    → ListsAs v q (games_at u rs) → TwoLists s t u v ls rs o q
-two_lists n m s t u v ls rs o q e a b k l i j =
-    let more = known_grows s t e in
-    let tr = are_games_later s t more rs b in
-    record {
-      lefts = are_games_later s t more ls a;
-      rights = are_games_later t u k.known rs tr;
-      first =
-          listed_as v o (games_at t ls) (lists_later u v l.known o (games_at t ls) i) ∙ games_later s t more ls a;
-      second = listed_as v q (games_at u rs) j ∙ games_later t u k.known rs tr ∙ games_later s t more rs b;
-    }
+pub two_lists : {R : Type 0} (n m : ℕ) (s t u : State Meant R) (ls rs : List ℕ) (o q : Option ℕ) → AreGames s rs
+    → Spends n s t → Spends m t u → ListsAs t o (games_at s ls) → ListsAs u q (games_at t rs) → TwoLists s u ls rs o q
+two_lists n m s t u ls rs o q b k l i j = record {
+  first = listed_as u o (games_at s ls) (lists_later t u l.known o (games_at s ls) i);
+  second = listed_as u q (games_at t rs) j ∙ games_later s t k.known rs b;
+}
 
--- the first list, as it was made, stands for the same games with what is known then
-pub first_later : {R Q : Type 0} (n : ℕ) (s : State Meant R) (t u : State Meant Q) (ls : List ℕ) (o : Option ℕ) → t.known ≡ s.known
-    → AreGames s ls → Spends n t u → ListsAs u o (games_at t ls) → ListsAs u o (games_at u ls)
-first_later n s t u ls o e a k i =
-    let P : List Game → Type 0 = λ z. ListsAs u o z in
-    subst P (sym (games_later t u k.known ls (are_games_later s t (known_grows s t e) ls a))) i
+-- the first list, as it was made, is that of the games that are known then
+pub first_later : {R : Type 0} (n : ℕ) (s t : State Meant R) (ls : List ℕ) (o : Option ℕ) → AreGames s ls → Spends n s t
+    → ListsAs t o (games_at s ls) → ListsAs t o (games_at t ls)
+first_later n s t ls o a k i =
+    let P : List Game → Type 0 = λ z. ListsAs t o z in
+    subst P (sym (games_later s t k.known ls a)) i
 
 pub same_node : (a b c d : List Game) → a ≡ c → b ≡ d → node a b ≡ node c d
 same_node a b c d e f = cc
 
 pub canonical_node : (a b c d : List Game) → a ≡ c → b ≡ d → Canonical (node c d) → Canonical (node a b)
 canonical_node a b c d e f k = let P : Game → Type 0 = λ z. Canonical z in subst P (sym (same_node a b c d e f)) k
+
+-- the handles have these games, and this is the profile of the game of them
+pub record AreOptions {R : Type 0} (s : State Meant R) (ls rs : List ℕ) (gs hs : List Game) (p : Profile) : Type 0 where
+  pub lefts : AreGames s ls
+  pub rights : AreGames s rs
+  pub left_games : games_at s ls ≡ gs
+  pub right_games : games_at s rs ≡ hs
+  pub profile : IsProfile (node gs hs) p
+
+pub cost_of_options : {R : Type 0} (s : State Meant R) (ls rs : List ℕ) (gs hs : List Game) (p : Profile) → AreOptions s ls rs gs hs p
+    → p.cost ≡ 1 + length ls + length rs
+cost_of_options s ls rs gs hs p a =
+    let P : Game → Type 0 = λ z. IsProfile z p in
+    cost_of_lists s ls rs p (subst P (sym (same_node _ _ _ _ a.left_games a.right_games)) a.profile)
+
+-- the game that was claimed last
+pub record IsClaimed {R : Type 0} (s t : State Meant R) (handle : ℕ) (form : Game) (p : Profile) : Type 0 where
+  pub cells : ℕ
+  pub fewer : cells ≤ p.cost
+  pub spends : Spends cells s t
+  pub stands : StandsFor t handle form
+
+pub is_claimed : {R : Type 0} (s t u v : State Meant R) (ls rs : List ℕ) (o q : Option ℕ) (handle : ℕ) (gs hs : List Game) (p : Profile)
+    → AreOptions s ls rs gs hs p → Spends (length ls) s t → ((n : ℕ) × (n ≤ length rs) × Spends n t u) → Spends 1 u v
+    → ListsAs t o (games_at s ls) → ListsAs u q (games_at t rs) → StandsFor v handle (node (listed u o) (listed u q))
+    → IsClaimed s v handle (node gs hs) p
+is_claimed s t u v ls rs o q handle gs hs p a k l m i j st =
+    let two = two_lists (length ls) l.0 s t u ls rs o q a.rights k l.2 i j in
+    let P : Game → Type 0 = λ z. StandsFor v handle z in
+    record {
+      cells = (length ls + l.0) + 1;
+      fewer = omega (arith, cost_of_options s ls rs gs hs p a, l.1);
+      spends = spends_then (length ls + l.0) 1 s u v (spends_then (length ls) l.0 s t u k l.2) m;
+      stands = subst P (same_node _ _ _ _ (two.first ∙ a.left_games) (two.second ∙ a.right_games)) st;
+    }
 
 -- a form that is out of range
 pub outside_refused : (share spent extra : ℕ) (g : Game) (x : Number) → g ≡ number x → ¬ InRange x

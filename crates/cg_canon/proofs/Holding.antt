@@ -37,20 +37,26 @@ known_sum_later s t grows a b known h =
       items = subst (λ p. Q p (game_at t b)) (sym x) (subst (Q (game_at s a)) (sym y) h.items);
     }
 
+-- when the store has grown, and more was charged
+pub holds_moved : {R : Type 0} (n : ℕ) (s t : State Meant R) (spent spent' share start : ℕ) (m : Memo)
+    → WorkHolds s spent share start m → Spends n s t → spent' ≤ share → start ≤ t.spare + spent' → WorkHolds t spent' share start m
+holds_moved n s t spent spent' share start m h k within enough =
+    let e = k.spare in
+    record {
+      within = within;
+      room = h.room;
+      small = h.small;
+      fallen = (let f = h.fallen in omega arith);
+      enough = enough;
+      book = book_later s t m.book k.known h.book;
+      sums = λ a b known r. known_sum_later s t k.known a b known (h.sums a b known r);
+    }
+
 -- when the store has grown
 pub holds_later : {R : Type 0} (n : ℕ) (s t : State Meant R) (spent share start : ℕ) (m : Memo)
     → WorkHolds s spent share start m → Spends n s t → start + n ≤ s.spare + spent → WorkHolds t spent share start m
 holds_later n s t spent share start m h k room =
-    let e = k.spare in
-    record {
-      within = h.within;
-      room = h.room;
-      small = h.small;
-      fallen = (let f = h.fallen in omega arith);
-      enough = omega arith;
-      book = book_later s t m.book k.known h.book;
-      sums = λ a b known r. known_sum_later s t k.known a b known (h.sums a b known r);
-    }
+    let e = k.spare in holds_moved n s t spent spent share start m h k h.within (omega arith)
 
 -- when the memo has another book
 pub holds_book : {R : Type 0} (s : State Meant R) (spent share start : ℕ) (m n : Memo) → WorkHolds s spent share start m

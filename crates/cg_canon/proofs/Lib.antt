@@ -12,4 +12,5 @@ pub mod DistinctSteps
 pub mod Booking
 pub mod Turning
 pub mod Valuing
+pub mod Paying
 pub mod HandleLists

@@ -10,4 +10,4 @@ pub mod SumItems
 -- what private contracts cite, and what proofs need here
 pub mod Distinct
 pub mod Books
-pub mod Values
+pub mod Paid

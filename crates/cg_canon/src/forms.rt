@@ -6,76 +6,20 @@ ghost use Rattle.cg_nodes.specs.Games.{AreGames, StandsFor, games_at};
 ghost use Rattle.cg_nodes.specs.Spelled.{can};
 ghost use Rattle.cg_canon.specs.Items.{AllPass, WasRefused, made};
 ghost use Rattle.cg_canon.specs.Made.{ItemsMade};
-ghost use Rattle.cg_book.specs.Terms.{ApartByTerm, NoneComparableByTerm};
+ghost use Rattle.cg_book.specs.Terms.{NoneComparableByTerm};
 ghost use Rattle.cg_canon.specs.Works.{IsUnspent, Keeps, work_state};
 
 use crate::distinct::distinct;
 use crate::fault::ValueFault;
-use crate::item::{item_of_number, known_item, listed_item};
-use crate::value::Value;
+use crate::item::known_item;
 use crate::work::Work;
 use cg_book::FirstTerm;
 use cg_cells::CellStore;
 use cg_nodes::{BoardForms, GameFacts, Handle};
 use std::alloc::Global;
 
-/// Makes the item of the canonical form of the game with these options, with a cost of `extra` more.
-fn form_item<B: BoardForms, S: CellStore<GameFacts<B>>>(
-    alloc: Global,
-    work: &mut Work<B, S>,
-    lefts: &[Handle],
-    rights: &[Handle],
-    first_term: Option<FirstTerm>,
-    extra: u64,
-) -> Result<Handle, ValueFault>
-    requires extra { extra ≤ 8 }
-    requires lefts { AreGames (work_state S.state work.old) lefts.now }
-    requires rights { AreGames (work_state S.state work.old) rights.now }
-    requires terms { ApartByTerm first_term (games_at (work_state S.state work.old) lefts.now) (games_at (work_state S.state work.old) rights.now) }
-    ensures game { let W = work_state S.state work.old in IfOk result (λ h. StandsFor (work_state S.state work.new) h
-        (can (node (games_at W lefts.now) (games_at W rights.now)))) }
-    ensures charged { let W = work_state S.state work.old in OnOk result (AllPass work.old.share work.old.spent
-        (made (can (node (games_at W lefts.now) (games_at W rights.now))) extra ∷ []) work.new.spent) }
-    ensures refused { let W = work_state S.state work.old in IfErr result (λ fault.
-        WasRefused fault work.old.share work.old.spent
-        (made (can (node (games_at W lefts.now) (games_at W rights.now))) extra ∷ []) work.new.spent) }
-    ensures same { OnErr result (Spends 0 (work_state S.state work.old) (work_state S.state work.new)) }
-    ensures spare { OnOk result ((work_state S.state work.old).spare + extra ≤ (work_state S.state work.new).spare) }
-    ensures keeps { Keeps (work_state S.state work.old) (work_state S.state work.new) }
-{
-    match work.value_of(alloc, lefts, rights, first_term)? {
-        Value::Number(x) => item_of_number(work, x, extra),
-        Value::Outside => Err(ValueFault::Range),
-        Value::Game(form) => listed_item(work, &form, extra),
-    }
-}
-
 /// Up to so many options of a side are looked up among those that a form was made from.
 const MANY: usize = 32;
-
-/// Makes the item of the canonical form of the game with these options, and keeps the form with them.
-fn kept_item<B: BoardForms, S: CellStore<GameFacts<B>>>(
-    alloc: Global,
-    work: &mut Work<B, S>,
-    lefts: &[Handle],
-    rights: &[Handle],
-    extra: u64,
-) -> Result<Handle, ValueFault>
-    requires extra { extra ≤ 8 }
-    requires lefts { AreGames (work_state S.state work.old) lefts.now }
-    requires rights { AreGames (work_state S.state work.old) rights.now }
-    ensures game { let W = work_state S.state work.old in IfOk result (λ h. StandsFor (work_state S.state work.new) h
-        (can (node (games_at W lefts.now) (games_at W rights.now)))) }
-    ensures made { let W = work_state S.state work.old in ItemsMade W (work_state S.state work.new)
-        (made (can (node (games_at W lefts.now) (games_at W rights.now))) extra ∷ []) result }
-    ensures same { OnErr result (Spends 0 (work_state S.state work.old) (work_state S.state work.new)) }
-    ensures spare { OnOk result ((work_state S.state work.old).spare + extra ≤ (work_state S.state work.new).spare) }
-{
-    let form = form_item(alloc, work, lefts, rights, None, extra)?;
-    // Where there is no memory for it, it is made anew the next time.
-    let _kept = work.keep_made(lefts, rights, form);
-    Ok(form)
-}
 
 /// Makes the item of the canonical form of the game with these options, by the form that was made from them where it is kept.
 fn found_item<B: BoardForms, S: CellStore<GameFacts<B>>>(
@@ -95,40 +39,18 @@ fn found_item<B: BoardForms, S: CellStore<GameFacts<B>>>(
     ensures same { OnErr result (Spends 0 (work_state S.state work.old) (work_state S.state work.new)) }
     ensures spare { OnOk result ((work_state S.state work.old).spare + extra ≤ (work_state S.state work.new).spare) }
 {
-    match work.made_from(lefts, rights) {
-        Some(form) => {
-            known_item(alloc, work, form, extra)?;
-            Ok(form)
-        }
-        None => kept_item(alloc, work, lefts, rights, extra),
+    if let Some(form) = work.made_from(lefts, rights) {
+        known_item(alloc, work, form, extra)?;
+        return Ok(form);
     }
+    let form = work.make_value(alloc, lefts, rights, None, extra)?;
+    // Where there is no memory for it, it is made anew the next time.
+    let _kept = work.keep_made(lefts, rights, form);
+    Ok(form)
 }
 
-/// Makes the item of the canonical form of the game with these options, of which each counts once and in any order.
-fn distinct_item<B: BoardForms, S: CellStore<GameFacts<B>>>(
-    alloc: Global,
-    work: &mut Work<B, S>,
-    lefts: &[Handle],
-    rights: &[Handle],
-    extra: u64,
-) -> Result<Handle, ValueFault>
-    requires extra { extra ≤ 8 }
-    requires lefts { AreGames (work_state S.state work.old) lefts.now }
-    requires rights { AreGames (work_state S.state work.old) rights.now }
-    ensures game { let W = work_state S.state work.old in IfOk result (λ h. StandsFor (work_state S.state work.new) h
-        (can (node (games_at W lefts.now) (games_at W rights.now)))) }
-    ensures made { let W = work_state S.state work.old in ItemsMade W (work_state S.state work.new)
-        (made (can (node (games_at W lefts.now) (games_at W rights.now))) extra ∷ []) result }
-    ensures same { OnErr result (Spends 0 (work_state S.state work.old) (work_state S.state work.new)) }
-    ensures spare { OnOk result ((work_state S.state work.old).spare + extra ≤ (work_state S.state work.new).spare) }
-{
-    let own = distinct(alloc, lefts)?;
-    let others = distinct(alloc, rights)?;
-    found_item(alloc, work, own.as_slice(), others.as_slice(), extra)
-}
-
-/// Makes the item of the canonical form of the game with these options. Where they are few, it is looked for among those that
-/// were made.
+/// Makes the item of the canonical form of the game with these options, of which each counts once and in any order. Where they
+/// are few, it is looked for among those that were made.
 fn any_item<B: BoardForms, S: CellStore<GameFacts<B>>>(
     alloc: Global,
     work: &mut Work<B, S>,
@@ -147,9 +69,11 @@ fn any_item<B: BoardForms, S: CellStore<GameFacts<B>>>(
     ensures spare { OnOk result ((work_state S.state work.old).spare + extra ≤ (work_state S.state work.new).spare) }
 {
     if lefts.len() > MANY || rights.len() > MANY {
-        return form_item(alloc, work, lefts, rights, None, extra);
+        return work.make_value(alloc, lefts, rights, None, extra);
     }
-    distinct_item(alloc, work, lefts, rights, extra)
+    let own = distinct(alloc, lefts)?;
+    let others = distinct(alloc, rights)?;
+    found_item(alloc, work, own.as_slice(), others.as_slice(), extra)
 }
 
 /// Makes the item of the canonical form of the game with these Left and Right options, with a cost of `extra` more, where
@@ -217,7 +141,7 @@ pub fn canonical_of_terms<B: BoardForms, S: CellStore<GameFacts<B>>>(
 {
     // Read for the proof alone: the meter tells what the store has to spare.
     let _before = work.spent();
-    let outcome = form_item(alloc, work, lefts, rights, Some(first_term), extra);
+    let outcome = work.make_value(alloc, lefts, rights, Some(first_term), extra);
     let _after = work.spent();
     outcome
 }

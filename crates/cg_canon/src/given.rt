@@ -10,39 +10,11 @@ ghost use Rattle.cg_canon.specs.Made.{ItemsMade};
 ghost use Rattle.cg_canon.specs.Works.{IsUnspent, Keeps, work_state};
 
 use crate::fault::ValueFault;
-use crate::item::{known_item, listed_item};
+use crate::item::known_item;
 use crate::work::Work;
 use cg_cells::CellStore;
 use cg_nodes::{BoardForms, GameFacts, Handle};
 use std::alloc::Global;
-
-/// Makes the item of a game that is canonical as it is given, with a cost of `extra` more.
-fn given_item<B: BoardForms, S: CellStore<GameFacts<B>>>(
-    alloc: Global,
-    work: &mut Work<B, S>,
-    lefts: &[Handle],
-    rights: &[Handle],
-    extra: u64,
-) -> Result<Handle, ValueFault>
-    requires extra { extra ≤ 8 }
-    requires lefts { AreGames (work_state S.state work.old) lefts.now }
-    requires rights { AreGames (work_state S.state work.old) rights.now }
-    requires canonical { let W = work_state S.state work.old in Canonical (node (games_at W lefts.now) (games_at W rights.now)) }
-    requires no_number { let W = work_state S.state work.old in NoNumber (node (games_at W lefts.now) (games_at W rights.now)) }
-    ensures game { let W = work_state S.state work.old in
-        IfOk result (λ h. StandsFor (work_state S.state work.new) h (node (games_at W lefts.now) (games_at W rights.now))) }
-    ensures charged { let W = work_state S.state work.old in OnOk result (AllPass work.old.share work.old.spent
-        (made (node (games_at W lefts.now) (games_at W rights.now)) extra ∷ []) work.new.spent) }
-    ensures refused { let W = work_state S.state work.old in IfErr result (λ fault.
-        WasRefused fault work.old.share work.old.spent
-        (made (node (games_at W lefts.now) (games_at W rights.now)) extra ∷ []) work.new.spent) }
-    ensures same { OnErr result (Spends 0 (work_state S.state work.old) (work_state S.state work.new)) }
-    ensures spare { OnOk result ((work_state S.state work.old).spare + extra ≤ (work_state S.state work.new).spare) }
-    ensures keeps { Keeps (work_state S.state work.old) (work_state S.state work.new) }
-{
-    let form = work.form_of(alloc, lefts, rights)?;
-    listed_item(work, &form, extra)
-}
 
 /// From so many Left options on a game is looked up among those that were made.
 const LONG: usize = 16;
@@ -67,7 +39,7 @@ fn kept_item<B: BoardForms, S: CellStore<GameFacts<B>>>(
     ensures same { OnErr result (Spends 0 (work_state S.state work.old) (work_state S.state work.new)) }
     ensures spare { OnOk result ((work_state S.state work.old).spare + extra ≤ (work_state S.state work.new).spare) }
 {
-    let form = given_item(alloc, work, lefts, rights, extra)?;
+    let form = work.make_given(alloc, lefts, rights, extra)?;
     // Where there is no memory for it, it is made anew the next time.
     let _kept = work.keep_made(lefts, rights, form);
     Ok(form)
@@ -137,7 +109,7 @@ fn any_item<B: BoardForms, S: CellStore<GameFacts<B>>>(
     ensures spare { OnOk result ((work_state S.state work.old).spare + extra ≤ (work_state S.state work.new).spare) }
 {
     if lefts.len() < LONG {
-        return given_item(alloc, work, lefts, rights, extra);
+        return work.make_given(alloc, lefts, rights, extra);
     }
     long_item(alloc, work, lefts, rights, extra)
 }

@@ -1,25 +1,28 @@
 //! A store with a meter and a memo.
-ghost use Rattle.std.specs.Prelude.{◌≡◌, ℕ, ◌+◌, ◌-◌, ◌≤◌, ◌<◌, ◌^◌, Some, Option, Bool, IfSome, IfOk, IfErr, OnErr};
+ghost use Rattle.std.specs.Prelude.{◌≡◌, ℕ, ◌+◌, ◌-◌, ◌≤◌, ◌<◌, ◌^◌, Some, Option, Bool, IfSome, IfOk, IfErr, OnOk, OnErr, [], ◌∷◌};
 ghost use Rattle.cg_form.specs.Canonical.{Canonical};
-ghost use Rattle.cg_form.specs.Game.{node};
+ghost use Rattle.cg_form.specs.Game.{Game, node};
 ghost use Rattle.cg_form.specs.Order.{le};
 ghost use Rattle.cg_form.specs.Simple.{NoNumber};
 ghost use Rattle.cg_cells.specs.Store.{Spends};
-ghost use Rattle.cg_nodes.specs.Games.{AreGames, IsGame, game_at, games_at};
+ghost use Rattle.cg_nodes.specs.Games.{AreGames, IsGame, StandsFor, game_at, games_at};
 ghost use Rattle.cg_nodes.specs.Spelled.{can};
 ghost use Rattle.cg_book.specs.Profiles.{IsProfile};
 ghost use Rattle.cg_book.specs.Terms.{ApartByTerm};
-ghost use Rattle.cg_canon.specs.Values.{IsListed, IsValue};
 ghost use Rattle.cg_canon.specs.Added.{IsKnownSum};
+ghost use Rattle.cg_canon.specs.Items.{AllPass, WasRefused, made};
+ghost use Rattle.cg_canon.specs.Made.{ItemsMade};
 ghost use Rattle.cg_canon.specs.MadeForms.{FormsHold, IsFormOf};
 ghost use Rattle.cg_canon.specs.Works.{IsUnspent, WorkHolds, WorkOf, work_code, work_state};
 
 use crate::fault::ValueFault;
 use crate::made::MadeForms;
+use crate::making::{given_item, value_item};
 use crate::memo::{KnownSum, Memo};
+use crate::meter::Meter;
 use crate::paging::page_of;
 use crate::rest::WorkRest;
-use crate::value::{ListedForm, Value, compare, enter_form, form_of_lists, value_of_lists};
+use crate::value::compare;
 use cg_book::{FirstTerm, Profile};
 use cg_cells::{CellStore, Id, Key};
 use cg_nodes::{BoardForms, GameFacts, Handle};
@@ -34,8 +37,7 @@ use std::marker::{Model, PhantomData};
 #[derive(Drop)]
 pub struct Work<'a, B: BoardForms, S: CellStore<GameFacts<B>>> {
     store: &'a mut S,
-    spent: u64,
-    share: u64,
+    meter: Meter,
     start: u64,
     limit: u64,
     memo: Memo,
@@ -48,9 +50,9 @@ impl<'a, B: BoardForms, S: CellStore<GameFacts<B>>> Model for Work<'a, B, S> {
 
     ghost coded = { work_code S.code };
 
-    ghost view = { λ w. record { store = w.store; spent = w.spent; share = w.share; start = w.start; limit = w.limit } };
+    ghost view = { λ w. record { store = w.store; spent = w.meter.spent; share = w.meter.share; start = w.start; limit = w.limit } };
 
-    ghost invariant = { λ w. WorkHolds (S.state w.store.now) w.spent w.share w.start w.memo × FormsHold (S.state w.store.now) w.made };
+    ghost invariant = { λ w. WorkHolds (S.state w.store.now) w.meter.spent w.meter.share w.start w.memo × FormsHold (S.state w.store.now) w.made };
 }
 
 impl<'a, B: BoardForms, S: CellStore<GameFacts<B>>> Work<'a, B, S> {
@@ -68,8 +70,7 @@ impl<'a, B: BoardForms, S: CellStore<GameFacts<B>>> Work<'a, B, S> {
         let start = store.spare();
         Work {
             store,
-            spent: 0,
-            share,
+            meter: Meter { spent: 0, share },
             start,
             limit: positions,
             memo: Memo::new(alloc),
@@ -84,7 +85,7 @@ impl<'a, B: BoardForms, S: CellStore<GameFacts<B>>> Work<'a, B, S> {
         ensures within { self.now.spent ≤ self.now.share }
         ensures enough { self.now.start ≤ (S.state self.now.store.now).spare + self.now.spent }
     {
-        self.spent
+        self.meter.spent
     }
 
     /// The limit on positions.
@@ -103,8 +104,7 @@ impl<'a, B: BoardForms, S: CellStore<GameFacts<B>>> Work<'a, B, S> {
     {
         let Work {
             store,
-            spent: _,
-            share: _,
+            meter: _,
             start: _,
             limit: _,
             memo: _,
@@ -124,12 +124,24 @@ impl<'a, B: BoardForms, S: CellStore<GameFacts<B>>> Work<'a, B, S> {
         ensures above { OnErr result (self.old.share < self.old.spent + cost) }
         ensures same { OnErr result (self.new ≡ self.old) }
     {
-        let total = self.spent + cost;
-        if total > self.share {
-            return Err(ValueFault::Full(total));
-        }
-        self.spent = total;
-        Ok(())
+        self.meter.charge(cost)
+    }
+
+    /// Charges the item of the form with this profile, with a cost of `extra` more, unless it is too deep or too dear.
+    pub(crate) fn charge_form(&mut self, profile: &Profile, extra: u64) -> Result<(), ValueFault>
+        requires extra { extra ≤ 8 }
+        requires small { profile.now.cost ≤ 2 ^ 34 }
+        ensures ok { IfOk result (λ _. self.new ≡ record self.old { spent = self.old.spent + (profile.now.cost + extra) }) }
+        ensures room { OnOk result ((work_state S.state self.new).spare
+            ≡ (work_state S.state self.old).spare + (profile.now.cost + extra)) }
+        ensures charged { (g : Game) → IsProfile g profile.now
+            → OnOk result (AllPass self.old.share self.old.spent (made g extra ∷ []) self.new.spent) }
+        ensures refused { (g : Game) → IsProfile g profile.now
+            → IfErr result (λ fault. WasRefused fault self.old.share self.old.spent (made g extra ∷ []) self.new.spent) }
+        ensures memory { IfErr result (λ fault. ¬ (fault ≡ ValueFault.Memory)) }
+        ensures same { OnErr result (self.new ≡ self.old) }
+    {
+        self.meter.charge_form(profile, extra)
     }
 
     /// The profile of the game. The only error is want of memory.
@@ -158,57 +170,68 @@ impl<'a, B: BoardForms, S: CellStore<GameFacts<B>>> Work<'a, B, S> {
         compare(alloc, self.store, &mut self.memo.book, a, b)
     }
 
-    /// What the game with these options is. The only error is want of memory.
-    pub(crate) fn value_of(
+    /// Makes the item of the canonical form of the game with these options, with a cost of `extra` more.
+    pub(crate) fn make_value(
         &mut self,
         alloc: Global,
         lefts: &[Handle],
         rights: &[Handle],
         first_term: Option<FirstTerm>,
-    ) -> Result<Value, AllocError>
+        extra: u64,
+    ) -> Result<Handle, ValueFault>
+        requires extra { extra ≤ 8 }
         requires lefts { AreGames (work_state S.state self.old) lefts.now }
         requires rights { AreGames (work_state S.state self.old) rights.now }
         requires terms { ApartByTerm first_term (games_at (work_state S.state self.old) lefts.now)
             (games_at (work_state S.state self.old) rights.now) }
-        ensures value { let W = work_state S.state self.old in
-            IfOk result (IsValue (work_state S.state self.new) (can (node (games_at W lefts.now) (games_at W rights.now)))) }
-        ensures spends { Spends 0 (work_state S.state self.old) (work_state S.state self.new) }
+        ensures game { let W = work_state S.state self.old in IfOk result (λ h. StandsFor (work_state S.state self.new) h
+            (can (node (games_at W lefts.now) (games_at W rights.now)))) }
+        ensures made { let W = work_state S.state self.old in ItemsMade W (work_state S.state self.new)
+            (made (can (node (games_at W lefts.now) (games_at W rights.now))) extra ∷ []) result }
+        ensures same { OnErr result (Spends 0 (work_state S.state self.old) (work_state S.state self.new)) }
+        ensures spare { OnOk result ((work_state S.state self.old).spare + extra ≤ (work_state S.state self.new).spare) }
     {
-        value_of_lists(
+        value_item(
             alloc,
             self.store,
             &mut self.memo.book,
+            &mut self.meter,
             lefts,
             rights,
             first_term,
+            extra,
         )
     }
 
-    /// The form with these options, which is canonical as it stands and equals no number. The only error is want of memory.
-    pub(crate) fn form_of(
+    /// Makes the item of a game that is canonical as it is given, with a cost of `extra` more.
+    pub(crate) fn make_given(
         &mut self,
         alloc: Global,
         lefts: &[Handle],
         rights: &[Handle],
-    ) -> Result<ListedForm, AllocError>
+        extra: u64,
+    ) -> Result<Handle, ValueFault>
+        requires extra { extra ≤ 8 }
         requires lefts { AreGames (work_state S.state self.old) lefts.now }
         requires rights { AreGames (work_state S.state self.old) rights.now }
+        requires canonical { let W = work_state S.state self.old in Canonical (node (games_at W lefts.now) (games_at W rights.now)) }
         requires no_number { let W = work_state S.state self.old in NoNumber (node (games_at W lefts.now) (games_at W rights.now)) }
-        ensures form { let W = work_state S.state self.old in
-            IfOk result (IsListed (work_state S.state self.new) (node (games_at W lefts.now) (games_at W rights.now))) }
-        ensures spends { Spends 0 (work_state S.state self.old) (work_state S.state self.new) }
+        ensures game { let W = work_state S.state self.old in IfOk result (λ h. StandsFor (work_state S.state self.new) h
+            (node (games_at W lefts.now) (games_at W rights.now))) }
+        ensures made { let W = work_state S.state self.old in ItemsMade W (work_state S.state self.new)
+            (made (node (games_at W lefts.now) (games_at W rights.now)) extra ∷ []) result }
+        ensures same { OnErr result (Spends 0 (work_state S.state self.old) (work_state S.state self.new)) }
+        ensures spare { OnOk result ((work_state S.state self.old).spare + extra ≤ (work_state S.state self.new).spare) }
     {
-        form_of_lists(alloc, self.store, &mut self.memo.book, lefts, rights)
-    }
-
-    /// Enters the form that was made, with this handle. Where there is no memory for it, it is read anew the next time.
-    pub(crate) fn enter(&mut self, handle: Handle, form: &ListedForm)
-        requires form { IsListed (work_state S.state self.old) (game_at (work_state S.state self.old) handle) form.now }
-        requires game { IsGame (work_state S.state self.old) handle }
-        requires canonical { Canonical (game_at (work_state S.state self.old) handle) }
-        ensures { self.new ≡ self.old }
-    {
-        enter_form(&*self.store, &mut self.memo.book, handle, form);
+        given_item(
+            alloc,
+            self.store,
+            &mut self.memo.book,
+            &mut self.meter,
+            lefts,
+            rights,
+            extra,
+        )
     }
 
     /// The sum of the two that was found, if one was.
@@ -277,7 +300,7 @@ impl<'a, B: BoardForms, S: CellStore<GameFacts<B>>> CellStore<GameFacts<B>> for 
     }
 
     fn spare(&self) -> u64 {
-        self.store.spare() + self.spent - self.start
+        self.store.spare() + self.meter.spent - self.start
     }
 
     fn same(&self, a: Id, b: Id) -> bool {

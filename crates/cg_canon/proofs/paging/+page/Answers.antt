@@ -1,4 +1,4 @@
-use Rattle.std.proofs.Common.{subst, sym, ◌∙◌}
+use Rattle.std.proofs.Common.{subst, sym}
 use Rattle.cg_form.specs.Game.{Game}
 use Rattle.cg_book.specs.Profiles.{IsProfile}
 use Rattle.cg_canon.proofs.Booking.{known_page}

@@ -9,7 +9,7 @@ use Rattle.cg_canon.proofs.work.Work.keep_added.Goals as goal
 pub invariant_of-self : goal.invariant_of-self
 invariant_of-self g c =
     let P : Book → Type 0 = λ z. BookHolds (g.S.CellStore.state c.self.inside.store.now) z in (
-      holds_book (g.S.CellStore.state c.self.inside.store.now) c.self.inside.spent c.self.inside.share c.self.inside.start c.self.inside.memo c.keep_added.new.self
+      holds_book (g.S.CellStore.state c.self.inside.store.now) c.self.inside.meter.spent c.self.inside.meter.share c.self.inside.start c.self.inside.memo c.keep_added.new.self
           c.self.invariant.0 (subst P (sym c.in_err-keep_added.ensures.book) c.self.invariant.0.book) c.in_err-keep_added.ensures.err,
       c.self.invariant.1,
     )
@@ -22,7 +22,7 @@ invariant_of-self-2 g c =
     let Q : ℕ → ℕ → Type 0 = λ i j. IsKnownSum (g.S.CellStore.state c.self.inside.store.now) i j c.args.known in
     let h = subst P (sym c.self.view_is) c.requires in
     let k = subst (λ i. Q i c.number-2.result) (sym first) (subst (λ j. Q c.args.a j) (sym second) h) in (
-      holds_sum (g.S.CellStore.state c.self.inside.store.now) c.self.inside.spent c.self.inside.share c.self.inside.start c.self.inside.memo c.keep_added.new.self
+      holds_sum (g.S.CellStore.state c.self.inside.store.now) c.self.inside.meter.spent c.self.inside.meter.share c.self.inside.start c.self.inside.memo c.keep_added.new.self
           c.number.result c.number-2.result c.args.known
           c.self.invariant.0 c.in_ok-keep_added.ensures.ok c.in_ok-keep_added.ensures.book k,
       c.self.invariant.1,

@@ -8,7 +8,7 @@ pub invariant_of-self : goal.invariant_of-self
 invariant_of-self g c =
     let P : WorkOf _ → Type 0 = λ w. 1 ≤ (work_state g.S.CellStore.state w).spare in
     let spare = subst P (sym c.self.view_is) c.requires.spare in (
-      holds_later 1 (g.S.CellStore.state c.self.inside.store.now) (g.S.CellStore.state c.claim.new.self) c.self.inside.spent c.self.inside.share c.self.inside.start c.self.inside.memo
+      holds_later 1 (g.S.CellStore.state c.self.inside.store.now) (g.S.CellStore.state c.claim.new.self) c.self.inside.meter.spent c.self.inside.meter.share c.self.inside.start c.self.inside.memo
           c.self.invariant.0 c.claim.ensures.spends (omega (arith, spare)),
       forms_later (g.S.CellStore.state c.self.inside.store.now) (g.S.CellStore.state c.claim.new.self) c.claim.ensures.spends.known c.self.inside.made
           c.self.invariant.1,

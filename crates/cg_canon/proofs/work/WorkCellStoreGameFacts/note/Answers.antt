@@ -6,7 +6,7 @@ use Rattle.cg_canon.proofs.work.WorkCellStoreGameFacts.note.Goals as goal
 pub invariant_of-self : goal.invariant_of-self
 invariant_of-self g c =
     let room = c.self.invariant.0.enough in (
-      holds_later 0 (g.S.CellStore.state c.self.inside.store.now) (g.S.CellStore.state c.note.new.self) c.self.inside.spent c.self.inside.share c.self.inside.start c.self.inside.memo
+      holds_later 0 (g.S.CellStore.state c.self.inside.store.now) (g.S.CellStore.state c.note.new.self) c.self.inside.meter.spent c.self.inside.meter.share c.self.inside.start c.self.inside.memo
           c.self.invariant.0 c.note.ensures.spends (omega arith),
       forms_later (g.S.CellStore.state c.self.inside.store.now) (g.S.CellStore.state c.note.new.self) c.note.ensures.spends.known c.self.inside.made
           c.self.invariant.1,

@@ -6,7 +6,7 @@ use Rattle.cg_canon.specs.Items.{made}
 use Rattle.cg_canon.specs.Made.{ItemsMade}
 use Rattle.cg_canon.specs.Works.{work_state}
 use Rattle.cg_canon.proofs.DistinctSteps.{same_form_as, same_games_as}
-use Rattle.cg_canon.proofs.forms.distinct_item.Goals as goal
+use Rattle.cg_canon.proofs.forms.any_item.Goals as goal
 
 pub found_item-requires-clause-lefts : goal.found_item-requires-clause-lefts
 found_item-requires-clause-lefts g c =

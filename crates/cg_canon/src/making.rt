@@ -1,0 +1,192 @@
+//! Items of the games of lists of handles, made beside the book of their work.
+ghost use Rattle.std.specs.Prelude.{◌≡◌, ◌+◌, ◌≤◌, ℕ, length};
+ghost use Rattle.cg_form.specs.Canonical.{Canonical};
+ghost use Rattle.cg_form.specs.Game.{node, number};
+ghost use Rattle.cg_form.specs.Simple.{NoNumber};
+ghost use Rattle.cg_cells.specs.Store.{Spends};
+ghost use Rattle.cg_nodes.specs.Games.{AreGames, IsGame, ListsAs, StandsFor, game_at, games_at};
+ghost use Rattle.cg_nodes.specs.Spelled.{can};
+ghost use Rattle.cg_book.specs.Pages.{games_of};
+ghost use Rattle.cg_book.specs.Settled.{IsNewForm};
+ghost use Rattle.cg_book.specs.Terms.{ApartByTerm};
+ghost use Rattle.cg_canon.specs.Books.{BookHolds};
+ghost use Rattle.cg_canon.specs.Paid.{IsPaid, written};
+
+use crate::book::{Book, handles_of};
+use crate::entering::enter_game;
+use crate::fault::ValueFault;
+use crate::made::are_same;
+use crate::meter::Meter;
+use crate::value::{form_of_lists, value_of_lists};
+use cg_book::{FirstTerm, NewForm, Profile, Settled};
+use cg_cells::CellStore;
+use cg_dyadic::Dyadic;
+use cg_nodes::{BoardForms, GameFacts, Handle, ListId, game, list, number};
+use std::alloc::Global;
+
+/// Enters the form that was made, with this handle, unless it is there or there is no memory for it.
+fn enter_form<B: BoardForms, S: CellStore<GameFacts<B>>>(
+    store: &S,
+    book: &mut Book,
+    handle: Handle,
+    new: &NewForm,
+)
+    requires holds { BookHolds (S.state store.now) book.old }
+    requires game { IsGame (S.state store.now) handle }
+    requires canonical { Canonical (game_at (S.state store.now) handle) }
+    requires form { IsNewForm book.old.pages (game_at (S.state store.now) handle) new.now }
+    ensures { BookHolds (S.state store.now) book.new }
+{
+    if book.page(handle).is_none() {
+        let lefts = new.form.lefts.as_slice();
+        let rights = new.form.rights.as_slice();
+        let _entered = enter_game(store, book, handle, lefts, rights, &new.profile);
+    }
+}
+
+/// The list of the Right options, where that of the Left options was made. The same options have the same list, as those of
+/// nimbers have, and nothing is claimed for it then.
+fn second_list<B: BoardForms, S: CellStore<GameFacts<B>>>(
+    store: &mut S,
+    lefts: &[Handle],
+    rights: &[Handle],
+    left_list: ListId,
+) -> ListId
+    requires spare { length rights.now ≤ (S.state store.old).spare }
+    requires games { AreGames (S.state store.old) rights.now }
+    requires first { ListsAs (S.state store.old) left_list (games_at (S.state store.old) lefts.now) }
+    ensures list { ListsAs (S.state store.new) result (games_at (S.state store.old) rights.now) }
+    ensures spends { (n : ℕ) × (n ≤ length rights.now) × Spends n (S.state store.old) (S.state store.new) }
+{
+    if are_same(lefts, rights) {
+        return left_list;
+    }
+    list(store, rights)
+}
+
+/// The handle of the form, whose options have these handles. It is entered in the book.
+fn claimed<B: BoardForms, S: CellStore<GameFacts<B>>>(
+    store: &mut S,
+    book: &mut Book,
+    lefts: &[Handle],
+    rights: &[Handle],
+    new: &NewForm,
+) -> Handle
+    requires holds { BookHolds (S.state store.old) book.old }
+    requires form { IsNewForm book.old.pages (written book.old.pages new.now) new.now }
+    requires canonical { Canonical (written book.old.pages new.now) }
+    requires spare { new.now.profile.cost ≤ (S.state store.old).spare }
+    requires lefts { AreGames (S.state store.old) lefts.now }
+    requires rights { AreGames (S.state store.old) rights.now }
+    requires left_games { games_at (S.state store.old) lefts.now ≡ games_of book.old.pages new.now.form.lefts.items }
+    requires right_games { games_at (S.state store.old) rights.now ≡ games_of book.old.pages new.now.form.rights.items }
+    ensures holds { BookHolds (S.state store.new) book.new }
+    ensures game { StandsFor (S.state store.new) result (written book.old.pages new.now) }
+    ensures spends { (n : ℕ) × (n ≤ new.now.profile.cost) × Spends n (S.state store.old) (S.state store.new) }
+{
+    let left_list = list(store, lefts);
+    let right_list = second_list(store, lefts, rights, left_list);
+    let handle = game(store, left_list, right_list);
+    enter_form(&*store, book, handle, new);
+    handle
+}
+
+/// Makes the item of the canonical form that was found, with a cost of `extra` more.
+fn form_item<B: BoardForms, S: CellStore<GameFacts<B>>>(
+    alloc: Global,
+    store: &mut S,
+    book: &mut Book,
+    meter: &mut Meter,
+    new: &NewForm,
+    extra: u64,
+) -> Result<Handle, ValueFault>
+    requires extra { extra ≤ 8 }
+    requires holds { BookHolds (S.state store.old) book.old }
+    requires form { IsNewForm book.old.pages (written book.old.pages new.now) new.now }
+    requires canonical { Canonical (written book.old.pages new.now) }
+    requires within { meter.old.spent ≤ meter.old.share }
+    requires small { meter.old.share ≤ 67108864 }
+    requires room { meter.old.share ≤ (S.state store.old).spare + meter.old.spent }
+    ensures holds { BookHolds (S.state store.new) book.new }
+    ensures paid { IsPaid (S.state store.old) (S.state store.new) meter.old meter.new (written book.old.pages new.now) extra result }
+{
+    let lefts = handles_of(alloc, &*store, book, new.form.lefts.as_slice())?;
+    let rights = handles_of(alloc, &*store, book, new.form.rights.as_slice())?;
+    meter.charge_form(&new.profile, extra)?;
+    Ok(claimed(store, book, lefts.as_slice(), rights.as_slice(), new))
+}
+
+/// Makes the item of a number in range, with a cost of `extra` more.
+fn number_item<B: BoardForms, S: CellStore<GameFacts<B>>>(
+    store: &mut S,
+    meter: &mut Meter,
+    x: Dyadic,
+    extra: u64,
+) -> Result<Handle, ValueFault>
+    requires extra { extra ≤ 8 }
+    requires within { meter.old.spent ≤ meter.old.share }
+    requires small { meter.old.share ≤ 67108864 }
+    requires room { meter.old.share ≤ (S.state store.old).spare + meter.old.spent }
+    ensures { IsPaid (S.state store.old) (S.state store.new) meter.old meter.new (number x) extra result }
+{
+    meter.charge_form(&Profile::number(x), extra)?;
+    Ok(number(store, x))
+}
+
+/// Makes the item of the canonical form of the game with these options, with a cost of `extra` more.
+pub(crate) fn value_item<B: BoardForms, S: CellStore<GameFacts<B>>>(
+    alloc: Global,
+    store: &mut S,
+    book: &mut Book,
+    meter: &mut Meter,
+    lefts: &[Handle],
+    rights: &[Handle],
+    first_term: Option<FirstTerm>,
+    extra: u64,
+) -> Result<Handle, ValueFault>
+    requires extra { extra ≤ 8 }
+    requires holds { BookHolds (S.state store.old) book.old }
+    requires lefts { AreGames (S.state store.old) lefts.now }
+    requires rights { AreGames (S.state store.old) rights.now }
+    requires terms { ApartByTerm first_term (games_at (S.state store.old) lefts.now) (games_at (S.state store.old) rights.now) }
+    requires within { meter.old.spent ≤ meter.old.share }
+    requires small { meter.old.share ≤ 67108864 }
+    requires room { meter.old.share ≤ (S.state store.old).spare + meter.old.spent }
+    ensures holds { BookHolds (S.state store.new) book.new }
+    ensures paid { IsPaid (S.state store.old) (S.state store.new) meter.old meter.new
+        (can (node (games_at (S.state store.old) lefts.now) (games_at (S.state store.old) rights.now))) extra result }
+{
+    let settled = value_of_lists(alloc, store, book, lefts, rights, first_term)?;
+    match settled {
+        Settled::Number(x) => number_item(store, meter, x, extra),
+        Settled::Outside => Err(ValueFault::Range),
+        Settled::Game(new) => form_item(alloc, store, book, meter, &new, extra),
+    }
+}
+
+/// Makes the item of a game that is canonical as it is given, with a cost of `extra` more.
+pub(crate) fn given_item<B: BoardForms, S: CellStore<GameFacts<B>>>(
+    alloc: Global,
+    store: &mut S,
+    book: &mut Book,
+    meter: &mut Meter,
+    lefts: &[Handle],
+    rights: &[Handle],
+    extra: u64,
+) -> Result<Handle, ValueFault>
+    requires extra { extra ≤ 8 }
+    requires holds { BookHolds (S.state store.old) book.old }
+    requires lefts { AreGames (S.state store.old) lefts.now }
+    requires rights { AreGames (S.state store.old) rights.now }
+    requires canonical { Canonical (node (games_at (S.state store.old) lefts.now) (games_at (S.state store.old) rights.now)) }
+    requires no_number { NoNumber (node (games_at (S.state store.old) lefts.now) (games_at (S.state store.old) rights.now)) }
+    requires within { meter.old.spent ≤ meter.old.share }
+    requires small { meter.old.share ≤ 67108864 }
+    requires room { meter.old.share ≤ (S.state store.old).spare + meter.old.spent }
+    ensures holds { BookHolds (S.state store.new) book.new }
+    ensures paid { IsPaid (S.state store.old) (S.state store.new) meter.old meter.new
+        (node (games_at (S.state store.old) lefts.now) (games_at (S.state store.old) rights.now)) extra result }
+{
+    let new = form_of_lists(alloc, store, book, lefts, rights)?;
+    form_item(alloc, store, book, meter, &new, extra)
+}

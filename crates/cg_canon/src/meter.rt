@@ -1,0 +1,60 @@
+//! What was spent of a share.
+ghost use Rattle.std.specs.Prelude.{◌≡◌, ◌+◌, ◌<◌, ◌≤◌, ◌^◌, IfOk, IfErr, OnOk, OnErr, [], ◌∷◌};
+ghost use Rattle.cg_form.specs.Game.{Game};
+ghost use Rattle.cg_canon.specs.Items.{AllPass, WasRefused, made};
+ghost use Rattle.cg_book.specs.Profiles.{IsProfile};
+
+use crate::fault::ValueFault;
+use cg_book::Profile;
+
+/// What was spent, and what may be.
+#[derive(Clone, Copy)]
+pub(crate) struct Meter {
+    pub spent: u64,
+    pub share: u64,
+}
+
+/// The greatest depth of a form that is made.
+const DEEPEST: u64 = 512;
+
+impl Meter {
+    /// Charges the cost, unless that would bring the total above the share: then the fault is `Full` of that total.
+    pub fn charge(&mut self, cost: u64) -> Result<(), ValueFault>
+        requires cost { cost ≤ 2 ^ 35 }
+        requires within { self.old.spent ≤ self.old.share }
+        requires small { self.old.share ≤ 67108864 }
+        ensures ok { IfOk result (λ _. self.new ≡ record self.old { spent = self.old.spent + cost }) }
+        ensures fits { IfOk result (λ _. self.old.spent + cost ≤ self.old.share) }
+        ensures full { IfErr result (λ fault. fault ≡ ValueFault.Full (self.old.spent + cost)) }
+        ensures above { OnErr result (self.old.share < self.old.spent + cost) }
+        ensures same { OnErr result (self.new ≡ self.old) }
+    {
+        let total = self.spent + cost;
+        if total > self.share {
+            return Err(ValueFault::Full(total));
+        }
+        self.spent = total;
+        Ok(())
+    }
+
+    /// Charges the item of the form with this profile, with a cost of `extra` more, unless it is too deep or too dear.
+    pub fn charge_form(&mut self, profile: &Profile, extra: u64) -> Result<(), ValueFault>
+        requires extra { extra ≤ 8 }
+        requires cost { profile.now.cost ≤ 2 ^ 34 }
+        requires within { self.old.spent ≤ self.old.share }
+        requires small { self.old.share ≤ 67108864 }
+        ensures ok { IfOk result (λ _. self.new ≡ record self.old { spent = self.old.spent + (profile.now.cost + extra) }) }
+        ensures fits { IfOk result (λ _. self.old.spent + (profile.now.cost + extra) ≤ self.old.share) }
+        ensures charged { (g : Game) → IsProfile g profile.now
+            → OnOk result (AllPass self.old.share self.old.spent (made g extra ∷ []) self.new.spent) }
+        ensures refused { (g : Game) → IsProfile g profile.now
+            → IfErr result (λ fault. WasRefused fault self.old.share self.old.spent (made g extra ∷ []) self.new.spent) }
+        ensures memory { IfErr result (λ fault. ¬ (fault ≡ ValueFault.Memory)) }
+        ensures same { OnErr result (self.new ≡ self.old) }
+    {
+        if profile.depth > DEEPEST {
+            return Err(ValueFault::Depth(profile.depth));
+        }
+        self.charge(profile.cost + extra)
+    }
+}
