@@ -1,9 +1,9 @@
 //! The order of the games of two pages.
 //!
 //! Numbers that lie between two games, or beside one of them, tell most answers. Only the other pairs are compared by their
-//! options, as the definition says, and only their answers are kept, where the games aren't light. A number is never counted down: it is at most a game that
-//! equals no number exactly where it is at least no Right option, and at least such a game exactly where it is at most no Left
-//! option.
+//! options, as the definition says, and only their answers are kept, unless both games are light. A number is never counted
+//! down: it is at most a game that equals no number exactly where it is at least no Right option, and at least such a game
+//! exactly where it is at most no Left option.
 ghost use Rattle.std.specs.Prelude.{◌≡◌, IfOk};
 ghost use Rattle.cg_form.specs.Order.{le, no_one};
 ghost use Rattle.cg_form.specs.Side.{at_most as at_most_for};
@@ -68,8 +68,8 @@ fn compared(pages: &Pages, answers: &mut Recent, a: u32, b: u32) -> Result<bool,
     }
 }
 
-/// Whether a <= b, by an answer that is kept, or from their options. The answer is kept, but for light games, which are compared
-/// again.
+/// Whether a <= b, by an answer that is kept, or from their options. The answer is kept, unless both games are light: these are
+/// compared again.
 #[cycle(found)]
 fn found(pages: &Pages, answers: &mut Recent, a: u32, b: u32) -> Result<bool, AllocError>
     requires a { IsPage pages.now a }
