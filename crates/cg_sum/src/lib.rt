@@ -3,10 +3,10 @@
 //! Each call makes a list of items, forms with their costs, in order, and stops at the first that is
 //! refused: [`sum`] the sums of all pairs of positions, [`negative`] the negatives of all positions,
 //! [`multiple`] the sums of its steps. A sum is noted on the cell of its pair, so that a second sum of the
-//! same two positions takes the note; the steps of a multiple keep their sums instead. The sum of two
-//! nimbers is the nimber of the exclusive or of their numbers, which is made once in a call. Where both games
-//! are nimbers, all sums of their positions are, and each is charged by what the first that is equal cost. The
-//! charge is the same.
+//! same two positions takes the note; the steps of a multiple keep their sums instead. The sum of 0 and
+//! a game is that game, which is charged as it is known. The sum of two nimbers is the nimber of the
+//! exclusive or of their numbers, which is made once in a call. Where both games are nimbers, all sums of
+//! their positions are, and each is charged by what the first that is equal cost. The charge is the same.
 #![tactic(auto)]
 
 mod addition;

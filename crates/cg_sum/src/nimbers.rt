@@ -1,5 +1,5 @@
 //! The nimbers that a call knows.
-ghost use Rattle.std.specs.Prelude.{◌≡◌, ℕ, ◌==◌, ◌<◌, IfOk, IfSome, IsSome, IsTrue, None, Some, Option, if◌then◌else◌, length, pos, slice_index};
+ghost use Rattle.std.specs.Prelude.{◌≡◌, ℕ, ◌==◌, ◌<◌, IfNone, IfOk, IfSome, IsSome, IsTrue, None, Some, Option, if◌then◌else◌, length, pos, slice_index};
 ghost use Rattle.std.specs.Option.{ForSome};
 ghost use Rattle.cg_dyadic.specs.Number.{whole};
 ghost use Rattle.cg_sum.specs.Finds.{nimber_found, sum_value as sum_of_values, value_found};
@@ -59,6 +59,20 @@ impl Nimbers {
         match value {
             None => None,
             Some(value) => self.handle_of(value),
+        }
+    }
+
+    /// The number, if there is one and no handle is known of its nimber.
+    pub(crate) fn unknown(&self, value: Option<usize>) -> Option<usize>
+        ensures given { ForSome result (λ n. value ≡ Some n) }
+        ensures known { IfNone result (ForSome value (λ n. IsSome (nimber_found self.now n))) }
+    {
+        match value {
+            None => None,
+            Some(value) => match self.handle_of(value) {
+                None => Some(value),
+                Some(_) => None,
+            },
         }
     }
 }

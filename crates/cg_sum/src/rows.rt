@@ -76,7 +76,7 @@ fn add_row<B: BoardForms, S: CellStore<GameFacts<B>>>(
     Ok(())
 }
 
-// Makes the item of f + k, and keeps the sum.
+// Makes the item of f + k, and keeps the sum. A nimber of which no handle is known is kept by its number, too.
 fn add_pair<B: BoardForms, S: CellStore<GameFacts<B>>>(
     alloc: Global,
     work: &mut Work<B, S>,
@@ -95,7 +95,7 @@ fn add_pair<B: BoardForms, S: CellStore<GameFacts<B>>>(
         (item_of_sum (game_at W f.now.handle) (game_at W k.now.handle) ∷ []) result }
     ensures spare { start ≤ (work_state S.state work.new).spare }
 {
-    let nimber = sum_value(f.nimber, k.nimber);
+    let nimber = sums.nimbers.unknown(sum_value(f.nimber, k.nimber));
     let sum = known_item(alloc, work, f, k, sums, look_up, start)?;
     sums.keep(f.handle, k.handle, sum)?;
     match nimber {

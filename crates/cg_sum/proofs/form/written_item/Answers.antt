@@ -1,5 +1,5 @@
 -- The game of the draft is its own canonical form.
-use Rattle.std.proofs.Common.{◌≡◌, sym, subst, List, ℕ, [], ◌∷◌}
+use Rattle.std.proofs.Common.{sym, subst, List, ℕ, [], ◌∷◌}
 use Rattle.std.specs.Prelude.{IfOk}
 use Rattle.cg_canon.specs.Items.{made}
 use Rattle.cg_canon.specs.Made.{ItemsMade}

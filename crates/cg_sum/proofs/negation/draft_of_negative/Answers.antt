@@ -1,4 +1,4 @@
-use Rattle.std.proofs.Common.{sym, subst, ◌∙◌}
+use Rattle.std.proofs.Common.{sym, subst}
 use Rattle.cg_form.specs.Game.{Game}
 use Rattle.cg_nodes.proofs.Later.{game_later}
 use Rattle.cg_nodes.specs.Games.{IsNode}

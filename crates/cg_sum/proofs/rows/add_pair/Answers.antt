@@ -21,8 +21,8 @@ returns-in_ok-keep-in-Some-clause-holds g c =
     let ready = c.requires.ready in
     pair_kept w x grows _ _ _ _ _ c.in_ok-keep.ensures.ok ready.holds ready.first.game ready.second.game c.in_ok-sum.ensures.game
     (nimbers_more x _ _ _ _ c.in_ok-keep-in-Some.ensures.values c.in_ok-keep-in-Some.ensures.handles
-    (sum_nimber w x _ _ _ _ (sum_is_nimber w _ _ _ _ _ ready.first.nimber ready.second.nimber c.sum_value-nimber.ensures _
-    c.in-Some.is) c.in_ok-sum.ensures.game)
+    (sum_nimber w x _ _ _ _ (sum_is_nimber w _ _ _ _ _ ready.first.nimber ready.second.nimber c.sum_value.ensures _
+    (c.unknown-nimber.ensures.given _ c.in-Some.is)) c.in_ok-sum.ensures.game)
     (nimbers_as x _ _ c.keep.ensures.nimbers (nimbers_later w x grows _ ready.holds.nimbers)))
 
 pub returns-in-None-clause-holds : goal.returns-in-None-clause-holds
