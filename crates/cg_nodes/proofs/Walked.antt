@@ -1,13 +1,12 @@
 -- Handles of positions, found one after another.
 use Rattle.std.proofs.Common.{◌≡◌, refl, ℕ, ◌+◌, ◌<◌, ◌≤◌, inl, inr, Option, Some, List, [], ◌∷◌, ◌++◌, length, length-append, arith, ap, sym, ◌∙◌, subst}
-use Rattle.cg_dyadic.specs.Number.{Number}
 use Rattle.cg_form.specs.Depth.{deepest, depth_of}
-use Rattle.cg_form.specs.Game.{Among, Game, node, number, of_list}
+use Rattle.cg_form.specs.Game.{Among, Game, node, number, of_list, options}
 use Rattle.cg_form.proofs.Among.{carry}
 use Rattle.cg_cells.specs.Meaning.{Grows, Has, IsInjective}
 use Rattle.cg_cells.specs.Store.{State, Spends, thing_at}
 use Rattle.cg_nodes.specs.Meant.{Meant, form}
-use Rattle.cg_nodes.specs.Games.{AreDistinct, AreGames, IsGame, IsHead, IsList, StandFor, game_at, games_at, listed}
+use Rattle.cg_nodes.specs.Games.{AreDistinct, AreGames, IsGame, IsHead, IsList, IsNode, StandFor, game_at, games_at, listed}
 use Rattle.cg_nodes.specs.Positions.{all_positions, positions_in, positions_of}
 use Rattle.cg_nodes.specs.Walks.{AreFound, AreFoundAfter, IsClosed, extended, positions_before}
 use Rattle.cg_nodes.specs.declared.reading.Split.{Split}
@@ -128,14 +127,18 @@ before_length seen g limit l =
 -- ---- the positions before a game
 
 -- a number has none
-pub number_walked : {R : Type 0} (s t : State Meant R) (hs : List ℕ) (h : ℕ) (x : Number)
-    → Grows (thing_at s) (thing_at t) → AreFound s hs → game_at s h ≡ number x
+none_before : (g : Game) → ¬ IsNode g → positions_before g ≡ []
+none_before (number x) n = refl
+none_before (options ls rs) n = absurd (n tt)
+
+pub number_walked : {R : Type 0} (s t : State Meant R) (hs : List ℕ) (h : ℕ)
+    → Grows (thing_at s) (thing_at t) → AreFound s hs → ¬ IsNode (game_at s h)
     → AreFoundAfter s t hs hs (positions_before (game_at s h))
-number_walked s t hs h x k f e =
+number_walked s t hs h k f n =
     record {
       found = found_later s t hs k f;
       all = games_later s t k hs f.games
-          ∙ ap (λ z. extended (games_at s hs) (positions_before z)) (sym e);
+          ∙ ap (extended (games_at s hs)) (sym (none_before (game_at s h) n));
     }
 
 -- those of another game are those of its lists

@@ -1,5 +1,5 @@
 //! What a handle or a list stands for.
-ghost use Rattle.std.specs.Prelude.{◌≡◌, IfOk, Some};
+ghost use Rattle.std.specs.Prelude.{◌≡◌, IfOk, IfSome, IfNone, Some};
 ghost use Rattle.cg_dyadic.specs.Number.{InRange, ratio};
 ghost use Rattle.cg_form.specs.Canonical.{Canonical};
 ghost use Rattle.cg_form.specs.Game.{lefts, rights};
@@ -30,6 +30,15 @@ pub struct Split {
     pub first: Handle,
     /// The list of the others.
     pub rest: ListId,
+}
+
+/// The lists of the options of a game.
+#[derive(Clone, Copy)]
+pub(crate) struct Lists {
+    /// The list of the Left options.
+    pub(crate) lefts: ListId,
+    /// The list of the Right options.
+    pub(crate) rights: ListId,
 }
 
 /// The options of a game.
@@ -68,6 +77,32 @@ pub fn read<B: BoardForms, S: CellStore<GameFacts<B>>>(store: &mut S, handle: Ha
         KeyParts::Game { lefts, rights } => {
             Reading::Game(ListId { id: lefts }, ListId { id: rights })
         }
+        _ => unreachable!(),
+    }
+}
+
+/// The lists of a game that equals no number. None comes for a number, which isn't made.
+pub(crate) fn lists_of<B: BoardForms, S: CellStore<GameFacts<B>>>(
+    store: &mut S,
+    handle: Handle,
+) -> Option<Lists>
+    requires { IsGame (S.state store.old) handle }
+    ensures game { IfSome result (λ lists. IsRead (S.state store.new) (Reading.Game lists.lefts lists.rights) (game_at (S.state store.old) handle)) }
+    ensures number { IfNone result (¬ IsNode (game_at (S.state store.old) handle)) }
+    ensures spends { Spends 0 (S.state store.old) (S.state store.new) }
+{
+    let key = store.look(handle.id());
+    match key.parts() {
+        KeyParts::Number { num: _, exp: _ } => None,
+        KeyParts::Long {
+            first: _,
+            exp: _,
+            negative: _,
+        } => None,
+        KeyParts::Game { lefts, rights } => Some(Lists {
+            lefts: ListId { id: lefts },
+            rights: ListId { id: rights },
+        }),
         _ => unreachable!(),
     }
 }

@@ -8,7 +8,8 @@ ghost use Rattle.cg_nodes.specs.Positions.{all_positions, positions_in, position
 ghost use Rattle.cg_nodes.specs.Walks.{AreFound, AreFoundAfter, extended, positions_before};
 
 use crate::found::Found;
-use crate::{BoardForms, GameFacts, Handle, Handles, ListId, PositionsFault, Reading, head, read};
+use crate::reading::lists_of;
+use crate::{BoardForms, GameFacts, Handle, Handles, ListId, PositionsFault, head};
 use cg_cells::CellStore;
 use std::alloc::Global;
 
@@ -58,11 +59,11 @@ fn walk_options<B: BoardForms, S: CellStore<GameFacts<B>>>(
         (positions_before (game_at (S.state store.old) handle))) }
     ensures spends { Spends 0 (S.state store.old) (S.state store.new) }
 {
-    match read(store, handle) {
-        Reading::Number(_) => Ok(()),
-        Reading::Game(lefts, rights) => {
-            walk_list(store, found, lefts, limit)?;
-            walk_list(store, found, rights, limit)
+    match lists_of(store, handle) {
+        None => Ok(()),
+        Some(lists) => {
+            walk_list(store, found, lists.lefts, limit)?;
+            walk_list(store, found, lists.rights, limit)
         }
     }
 }

@@ -97,34 +97,34 @@ walk_list-returns-clause-found g t c =
 
 pub walk_options-walk_list-requires : goal.walk_options-walk_list-requires
 walk_options-walk_list-requires g t c κs within =
-    let d = ap depth_of c.in-Game.ensures.game.2 in
-    let f = found_later (g.S.CellStore.state c.args.store.now) (g.S.CellStore.state c.read.new.store) c.args.found.now
-    c.read.ensures.spends.known c.requires.found in
-    (search rules, (within.0, (within.1.0, (within.1.1, (c.in-Game.ensures.game.0, (f, c.requires.within))))))
+    let d = ap depth_of c.in-Some.ensures.game.2 in
+    let f = found_later (g.S.CellStore.state c.args.store.now) (g.S.CellStore.state c.lists_of.new.store) c.args.found.now
+    c.lists_of.ensures.spends.known c.requires.found in
+    (search rules, (within.0, (within.1.0, (within.1.1, (c.in-Some.ensures.game.0, (f, c.requires.within))))))
 
-pub walk_options-returns-in_err-walk_list-in-Game-clause-refused :
-    goal.walk_options-returns-in_err-walk_list-in-Game-clause-refused
-walk_options-returns-in_err-walk_list-in-Game-clause-refused g t c =
+pub walk_options-returns-in_err-walk_list-in-Some-clause-refused :
+    goal.walk_options-returns-in_err-walk_list-in-Some-clause-refused
+walk_options-returns-in_err-walk_list-in-Some-clause-refused g t c =
     let p = err_from_is_err_and c.from_residual.result c.from_residual.ensures.1 in λ e.
-    left_length (g.S.CellStore.state c.args.store.now) (g.S.CellStore.state c.read.new.store) (g.S.CellStore.state
+    left_length (g.S.CellStore.state c.args.store.now) (g.S.CellStore.state c.lists_of.new.store) (g.S.CellStore.state
     c.walk_list.new.store) (g.S.CellStore.state c.walk_list.new.store)
-    c.args.found.now c.args.found.now c.args.found.now c.args.handle c.in-Game.lefts c.in-Game.rights c.read.ensures.spends.known
-    c.walk_list.ensures.spends.known c.requires.found c.in-Game.ensures.game c.args.limit
-    (c.in_err-walk_list-in-Game.ensures.refused (ap Err (passed_on p.0 c.in_err-walk_list-in-Game.field-0.0
+    c.args.found.now c.args.found.now c.args.found.now c.args.handle c.in-Some.lists.lefts c.in-Some.lists.rights c.lists_of.ensures.spends.known
+    c.walk_list.ensures.spends.known c.requires.found c.in-Some.ensures.game c.args.limit
+    (c.in_err-walk_list-in-Some.ensures.refused (ap Err (passed_on p.0 c.in_err-walk_list-in-Some.field-0.0
     c.from_residual.result p.1 p.2 e)))
 
-pub walk_options-returns-in_err-walk_list-in-Game-clause-spends :
-    goal.walk_options-returns-in_err-walk_list-in-Game-clause-spends
-walk_options-returns-in_err-walk_list-in-Game-clause-spends g t c = spends_then 0 0 _ _ _ c.read.ensures.spends
+pub walk_options-returns-in_err-walk_list-in-Some-clause-spends :
+    goal.walk_options-returns-in_err-walk_list-in-Some-clause-spends
+walk_options-returns-in_err-walk_list-in-Some-clause-spends g t c = spends_then 0 0 _ _ _ c.lists_of.ensures.spends
     c.walk_list.ensures.spends
 
-pub walk_options-walk_list-requires-in-Game : goal.walk_options-walk_list-requires-in-Game
-walk_options-walk_list-requires-in-Game g t c κs within =
-    let d = ap depth_of c.in-Game.ensures.game.2 in
-    let e = ap deepest (listed_later (g.S.CellStore.state c.read.new.store) (g.S.CellStore.state
-    c.walk_list.new.store) c.walk_list.ensures.spends.known c.in-Game.rights c.in-Game.ensures.game.1) in
-    let l = is_list_later (g.S.CellStore.state c.read.new.store) (g.S.CellStore.state c.walk_list.new.store)
-    c.walk_list.ensures.spends.known c.in-Game.rights c.in-Game.ensures.game.1 in (
+pub walk_options-walk_list-requires-in-Some : goal.walk_options-walk_list-requires-in-Some
+walk_options-walk_list-requires-in-Some g t c κs within =
+    let d = ap depth_of c.in-Some.ensures.game.2 in
+    let e = ap deepest (listed_later (g.S.CellStore.state c.lists_of.new.store) (g.S.CellStore.state
+    c.walk_list.new.store) c.walk_list.ensures.spends.known c.in-Some.lists.rights c.in-Some.ensures.game.1) in
+    let l = is_list_later (g.S.CellStore.state c.lists_of.new.store) (g.S.CellStore.state c.walk_list.new.store)
+    c.walk_list.ensures.spends.known c.in-Some.lists.rights c.in-Some.ensures.game.1 in (
       search rules,
       (
         within.0,
@@ -135,8 +135,8 @@ walk_options-walk_list-requires-in-Game g t c κs within =
             (
               l,
               (
-                c.in_ok-walk_list-in-Game.ensures.found.found,
-                c.in_ok-walk_list-in-Game.ensures.within,
+                c.in_ok-walk_list-in-Some.ensures.found.found,
+                c.in_ok-walk_list-in-Some.ensures.within,
               ),
             ),
           ),
@@ -144,33 +144,33 @@ walk_options-walk_list-requires-in-Game g t c κs within =
       ),
     )
 
-pub walk_options-returns-in-Number-clause-found : goal.walk_options-returns-in-Number-clause-found
-walk_options-returns-in-Number-clause-found g t c =
-    number_walked (g.S.CellStore.state c.args.store.now) (g.S.CellStore.state c.read.new.store) c.args.found.now
-    c.args.handle _ c.read.ensures.spends.known c.requires.found c.in-Number.ensures.game
+pub walk_options-returns-in-None-clause-found : goal.walk_options-returns-in-None-clause-found
+walk_options-returns-in-None-clause-found g t c =
+    number_walked (g.S.CellStore.state c.args.store.now) (g.S.CellStore.state c.lists_of.new.store) c.args.found.now
+    c.args.handle c.lists_of.ensures.spends.known c.requires.found c.in-None.ensures.number
 
-pub walk_options-returns-in_ok-walk_list-in-Game-clause-found :
-    goal.walk_options-returns-in_ok-walk_list-in-Game-clause-found
-walk_options-returns-in_ok-walk_list-in-Game-clause-found g t c =
-    ok_then c.walk_list-in-Game.result
-    (lists_walked (g.S.CellStore.state c.args.store.now) (g.S.CellStore.state c.read.new.store)
-    (g.S.CellStore.state c.walk_list.new.store) (g.S.CellStore.state c.walk_list-in-Game.new.store)
-    c.args.found.now c.walk_list.new.found c.walk_list-in-Game.new.found c.args.handle c.in-Game.lefts c.in-Game.rights
-    c.read.ensures.spends.known c.walk_list.ensures.spends.known c.requires.found c.in-Game.ensures.game
-    c.in_ok-walk_list-in-Game.ensures.found)
-    c.walk_list-in-Game.ensures.found
+pub walk_options-returns-in_ok-walk_list-in-Some-clause-found :
+    goal.walk_options-returns-in_ok-walk_list-in-Some-clause-found
+walk_options-returns-in_ok-walk_list-in-Some-clause-found g t c =
+    ok_then c.walk_list-in-Some.result
+    (lists_walked (g.S.CellStore.state c.args.store.now) (g.S.CellStore.state c.lists_of.new.store)
+    (g.S.CellStore.state c.walk_list.new.store) (g.S.CellStore.state c.walk_list-in-Some.new.store)
+    c.args.found.now c.walk_list.new.found c.walk_list-in-Some.new.found c.args.handle c.in-Some.lists.lefts c.in-Some.lists.rights
+    c.lists_of.ensures.spends.known c.walk_list.ensures.spends.known c.requires.found c.in-Some.ensures.game
+    c.in_ok-walk_list-in-Some.ensures.found)
+    c.walk_list-in-Some.ensures.found
 
-pub walk_options-returns-in_ok-walk_list-in-Game-clause-refused :
-    goal.walk_options-returns-in_ok-walk_list-in-Game-clause-refused
-walk_options-returns-in_ok-walk_list-in-Game-clause-refused g t c = λ e.
-    right_length (g.S.CellStore.state c.args.store.now) (g.S.CellStore.state c.read.new.store) (g.S.CellStore.state
-    c.walk_list.new.store) (g.S.CellStore.state c.walk_list-in-Game.new.store)
-    c.args.found.now c.walk_list.new.found c.walk_list.new.found c.args.handle c.in-Game.lefts
-    c.in-Game.rights c.read.ensures.spends.known c.walk_list.ensures.spends.known c.requires.found
-    c.in-Game.ensures.game
-    c.in_ok-walk_list-in-Game.ensures.found c.args.limit (c.walk_list-in-Game.ensures.refused e)
+pub walk_options-returns-in_ok-walk_list-in-Some-clause-refused :
+    goal.walk_options-returns-in_ok-walk_list-in-Some-clause-refused
+walk_options-returns-in_ok-walk_list-in-Some-clause-refused g t c = λ e.
+    right_length (g.S.CellStore.state c.args.store.now) (g.S.CellStore.state c.lists_of.new.store) (g.S.CellStore.state
+    c.walk_list.new.store) (g.S.CellStore.state c.walk_list-in-Some.new.store)
+    c.args.found.now c.walk_list.new.found c.walk_list.new.found c.args.handle c.in-Some.lists.lefts
+    c.in-Some.lists.rights c.lists_of.ensures.spends.known c.walk_list.ensures.spends.known c.requires.found
+    c.in-Some.ensures.game
+    c.in_ok-walk_list-in-Some.ensures.found c.args.limit (c.walk_list-in-Some.ensures.refused e)
 
-pub walk_options-returns-in_ok-walk_list-in-Game-clause-spends : goal.walk_options-returns-in_ok-walk_list-in-Game-clause-spends
-walk_options-returns-in_ok-walk_list-in-Game-clause-spends g t c =
-    spends_then 0 0 _ _ _ (spends_then 0 0 _ _ _ c.read.ensures.spends c.walk_list.ensures.spends)
-    c.walk_list-in-Game.ensures.spends
+pub walk_options-returns-in_ok-walk_list-in-Some-clause-spends : goal.walk_options-returns-in_ok-walk_list-in-Some-clause-spends
+walk_options-returns-in_ok-walk_list-in-Some-clause-spends g t c =
+    spends_then 0 0 _ _ _ (spends_then 0 0 _ _ _ c.lists_of.ensures.spends c.walk_list.ensures.spends)
+    c.walk_list-in-Some.ensures.spends
