@@ -1,7 +1,6 @@
 -- What a work keeps, as its store and its memo change.
-use Rattle.std.proofs.Common.{◌≡◌, refl, ℕ, ◌+◌, ◌≤◌, arith, inl, inr, sym, ◌∙◌, subst, Option, Some, None}
-use Rattle.std.specs.Prelude.{◌==◌, ◌&&◌, if◌then◌else◌}
-use Rattle.std.proofs.lemmas.Bool.Decides.{eqb_tells}
+use Rattle.std.proofs.Common.{◌≡◌, ◌⊎◌, ℕ, ◌+◌, ◌≤◌, arith, ap, inl, inr, sym, ◌∙◌, subst, [], ◌∷◌, ◌++◌}
+use Rattle.std.specs.List.{slice_get}
 use Rattle.cg_form.specs.Game.{Game}
 use Rattle.cg_cells.specs.Store.{Spends, State}
 use Rattle.cg_form.specs.Sum.{sum}
@@ -13,13 +12,15 @@ use Rattle.cg_canon.specs.Items.{AllPass}
 use Rattle.cg_canon.specs.SumItems.{sum_items}
 use Rattle.cg_nodes.specs.Meant.{Meant}
 use Rattle.cg_nodes.proofs.Later.{game_later, is_game_later, stands_later}
+use Rattle.cg_canon.specs.declared.memo.AddedSum.{AddedSum}
 use Rattle.cg_canon.specs.declared.memo.KnownSum.{KnownSum}
 use Rattle.cg_canon.specs.declared.memo.Memo.{Memo}
 use Rattle.cg_canon.specs.Added.{IsKnownSum}
 use Rattle.cg_canon.specs.declared.book.Book.{Book}
 use Rattle.cg_canon.specs.Books.{BookHolds}
-use Rattle.cg_canon.specs.Memos.{summed}
+use Rattle.cg_canon.specs.Memos.{IsAdded}
 use Rattle.cg_canon.proofs.Booking.{book_later}
+use Rattle.cg_canon.proofs.Pushed.{none_there, pushed_item}
 use Rattle.cg_canon.specs.Works.{WorkHolds}
 
 -- a known sum stays one
@@ -60,7 +61,7 @@ holds_later n s t spent share start m h k room =
 
 -- when the memo has another book
 pub holds_book : {R : Type 0} (s : State Meant R) (spent share start : ℕ) (m n : Memo) → WorkHolds s spent share start m
-    → BookHolds s n.book → ((a b : ℕ) → summed n a b ≡ summed m a b) → WorkHolds s spent share start n
+    → BookHolds s n.book → ((a b : ℕ) (known : KnownSum) → IsAdded n a b known → IsAdded m a b known) → WorkHolds s spent share start n
 holds_book s spent share start m n h b g = record {
   within = h.within;
   room = h.room;
@@ -68,58 +69,56 @@ holds_book s spent share start m n h b g = record {
   fallen = h.fallen;
   enough = h.enough;
   book = b;
-  sums = λ c d known r. h.sums c d known (sym (g c d) ∙ r);
+  sums = λ c d known r. h.sums c d known (g c d known r);
 }
-
-some_same : {A : Type 0} (x y : A) → Some x ≡ Some y → x ≡ y
-some_same x y e = cc
 
 -- when the memo has one sum more
 pub holds_sum : {R : Type 0} (s : State Meant R) (spent share start : ℕ) (m n : Memo) (a b : ℕ) (known : KnownSum)
     → WorkHolds s spent share start m
-    → ((c d : ℕ) → summed n c d ≡ (if (a == c) && (b == d) then Some known else summed m c d))
+    → ((c d : ℕ) (other : KnownSum) → IsAdded n c d other → ((c ≡ a) × (d ≡ b) × (other ≡ known)) ⊎ IsAdded m c d other)
     → n.book ≡ m.book → IsKnownSum s a b known → WorkHolds s spent share start n
-holds_sum {R} s spent share start m n a b known h e f o = record {
+holds_sum s spent share start m n a b known h e f o = record {
   within = h.within;
   room = h.room;
   small = h.small;
   fallen = h.fallen;
   enough = h.enough;
   book = (let P : Book → Type 0 = λ z. BookHolds s z in subst P (sym f) h.book);
-  sums = λ c d v r. by c d v (sym (e c d) ∙ r);
+  sums = λ c d other r. elim (e c d other r) [
+    | inl same ↦
+        let P : ℕ → Type 0 = λ z. IsKnownSum s z d other in
+        let Q : ℕ → Type 0 = λ z. IsKnownSum s a z other in
+        let V : KnownSum → Type 0 = λ z. IsKnownSum s a b z in
+        subst P (sym same.0) (subst Q (sym same.1) (subst V (sym same.2) o))
+    | inr old ↦ h.sums c d other old
+  ];
 }
-  where
-    by : (c d : ℕ) (v : KnownSum) → (if (a == c) && (b == d) then Some known else summed m c d) ≡ Some v
-        → IsKnownSum s c d v
-    by c d v r = elim (eqb_tells a c) [
-      | inl p ↦ elim (eqb_tells b d) [
-        | inl q ↦
-            let t : (if (a == c) && (b == d) then Some known else summed m c d) ≡ Some known = rw (p.0, q.0) refl in
-            let k : known ≡ v = some_same known v (sym t ∙ r) in
-            let P : ℕ → ℕ → KnownSum → Type 0 = λ x y z. IsKnownSum s x y z in
-            subst (λ x. P x d v) p.1 (subst (λ y. P a y v) q.1 (subst (P a b) k o))
-        | inr q ↦
-            let t : (if (a == c) && (b == d) then Some known else summed m c d) ≡ summed m c d = rw (p.0, q.0) refl in
-            h.sums c d v (sym t ∙ r)
-      ]
-      | inr p ↦
-          let t : (if (a == c) && (b == d) then Some known else summed m c d) ≡ summed m c d = rw p.0 refl in
-          h.sums c d v (sym t ∙ r)
-    ]
-
-none_some : {A : Type 0} (o : Option A) (x : A) → o ≡ None → o ≡ Some x → ⊥
-none_some o x e f = cc
 
 -- when the memo is empty
 pub holds_nothing : {R : Type 0} (s : State Meant R) (spent share start : ℕ) (m : Memo) → spent ≤ share → share ≤ start
-    → start ≤ 67108864 → s.spare ≤ start → start ≤ s.spare + spent → BookHolds s m.book
-    → ((a b : ℕ) → summed m a b ≡ None) → WorkHolds s spent share start m
-holds_nothing s spent share start m within room small fallen enough e g = record {
+    → start ≤ 67108864 → s.spare ≤ start → start ≤ s.spare + spent → BookHolds s m.book → m.sums.items ≡ []
+    → WorkHolds s spent share start m
+holds_nothing s spent share start m within room small fallen enough e none = record {
   within = within;
   room = room;
   small = small;
   fallen = fallen;
   enough = enough;
   book = e;
-  sums = λ a b known r. absurd (none_some (summed m a b) known (g a b) r);
+  sums = λ a b known r. absurd (none_there m.sums.items r.place _ none r.there);
 }
+
+-- ---- sums
+
+-- a memo with one sum more
+pub added_pushed : (m n : Memo) (a b : ℕ) (known : KnownSum)
+    → n.sums.items ≡ m.sums.items ++ ((λ (z : AddedSum). z) (record { a = a; b = b; known = known }) ∷ [])
+    → (c d : ℕ) (other : KnownSum) → IsAdded n c d other → ((c ≡ a) × (d ≡ b) × (other ≡ known)) ⊎ IsAdded m c d other
+added_pushed m n a b known e c d other k = elim (pushed_item m.sums.items n.sums.items _ _ k.place e k.there) [
+  | inl same ↦ inl (ap (λ (z : AddedSum). z.a) same, ap (λ (z : AddedSum). z.b) same, ap (λ (z : AddedSum). z.known) same)
+  | inr old ↦ inr (record { place = k.place; there = old })
+]
+
+-- a memo with the same sums
+pub added_before : (m n : Memo) → n.sums.items ≡ m.sums.items → (c d : ℕ) (other : KnownSum) → IsAdded n c d other → IsAdded m c d other
+added_before m n e c d other k = record { place = k.place; there = ap (λ z. slice_get z k.place) (sym e) ∙ k.there }

@@ -3,6 +3,7 @@ pub mod AgainItems
 pub mod Holding
 pub mod Same
 pub mod Results
+pub mod Pushed
 pub mod Charging
 pub mod Keeping
 pub mod MadeSteps

@@ -14,6 +14,7 @@ use Rattle.cg_book.specs.Settled.{IsNewForm}
 use Rattle.cg_canon.specs.declared.fault.ValueFault.{ValueFault}
 use Rattle.cg_canon.specs.declared.fault.ValueFault.TheVariants.{Memory, Range}
 use Rattle.cg_canon.specs.declared.made.MadeForms.{MadeForms}
+use Rattle.cg_canon.specs.declared.memo.KnownSum.{KnownSum}
 use Rattle.cg_canon.specs.declared.memo.Memo.{Memo}
 use Rattle.cg_canon.specs.declared.meter.Meter.{Meter}
 use Rattle.cg_canon.specs.declared.rest.WorkRest.{WorkRest}
@@ -21,7 +22,7 @@ use Rattle.cg_canon.specs.Books.{BookHolds}
 use Rattle.cg_canon.specs.Items.{AllPass, WasRefused, made}
 use Rattle.cg_canon.specs.Made.{ItemsMade}
 use Rattle.cg_canon.specs.MadeForms.{FormsHold}
-use Rattle.cg_canon.specs.Memos.{summed}
+use Rattle.cg_canon.specs.Memos.{IsAdded}
 use Rattle.cg_canon.specs.Paid.{IsPaid, written}
 use Rattle.cg_canon.specs.Works.{WorkHolds, work_state}
 use Rattle.cg_canon.proofs.Charging.{outside_refused}
@@ -110,7 +111,7 @@ new_written gs form new h =
 -- what it keeps: its memo has the new book and the same sums
 pub paid_holds : {R : Type 0} (s t : State Meant R) (a b : Meter) (start : ℕ) (m n : Memo) (forms : MadeForms) (form : Game) (extra : ℕ)
     (r : Result ℕ ValueFault) → WorkHolds s a.spent a.share start m × FormsHold s forms → IsPaid s t a b form extra r
-    → BookHolds t n.book → ((c d : ℕ) → summed n c d ≡ summed m c d) → WorkHolds t b.spent b.share start n × FormsHold t forms
+    → BookHolds t n.book → ((c d : ℕ) (known : KnownSum) → IsAdded n c d known → IsAdded m c d known) → WorkHolds t b.spent b.share start n × FormsHold t forms
 paid_holds s t a b start m n forms form extra r h p book same =
     let P : ℕ → Type 0 = λ z. WorkHolds t b.spent z start n in
     let k = p.spends.spare in

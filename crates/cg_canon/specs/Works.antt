@@ -1,5 +1,5 @@
 -- What a work is, as contracts see it.
-use Rattle.std.specs.Prelude.{◌≡◌, ℕ, ◌+◌, ◌-◌, ◌≤◌, Some, refl}
+use Rattle.std.specs.Prelude.{◌≡◌, ℕ, ◌+◌, ◌-◌, ◌≤◌, refl}
 use Rattle.std.specs.Coded.{Coded, code_by, coded×, coded_ℕ}
 use Rattle.std.specs.Borrow.{MutBor}
 use denote.MutBor.{mut_coded}
@@ -11,7 +11,7 @@ use Rattle.cg_canon.specs.declared.memo.Memo.{Memo}
 use Rattle.cg_canon.specs.declared.rest.WorkRest.{WorkRest}
 use Rattle.cg_canon.specs.Added.{IsKnownSum}
 use Rattle.cg_canon.specs.Books.{BookHolds}
-use Rattle.cg_canon.specs.Memos.{summed}
+use Rattle.cg_canon.specs.Memos.{IsAdded}
 
 -- the store that is borrowed, the cost so far, the greatest cost, what the store had to spare at first, and the limit on
 -- positions
@@ -30,7 +30,7 @@ work_code {S} c =
 
 -- each sum of the memo is that of its two games
 abbrev pub SumsHold : {R : Type 0} → State Meant R → Memo → Type 0
-SumsHold {R} s m = (a b : ℕ) (known : KnownSum) → summed m a b ≡ Some known → IsKnownSum s a b known
+SumsHold {R} s m = (a b : ℕ) (known : KnownSum) → IsAdded m a b known → IsKnownSum s a b known
 
 pub record WorkHolds {R : Type 0} (s : State Meant R) (spent share start : ℕ) (m : Memo) : Type 0 where
   pub within : spent ≤ share

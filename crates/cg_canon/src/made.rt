@@ -1,27 +1,35 @@
 //! Forms that were made, by the options that they were made from.
 //!
 //! Many boards lead to the same values, and what was made of the same options is found again here. A form that isn't kept is
-//! made anew, so it doesn't matter that another one takes its place where the numbers of two pairs of lists are the same.
-ghost use Rattle.std.specs.Prelude.{◌≡◌, ◌⊎◌, ℕ, List, IfOk, IfSome, IsTrue, OnErr};
-ghost use Rattle.cg_canon.specs.MadeForms.{IsMade};
+//! made anew.
+ghost use Rattle.std.specs.Prelude.{◌≡◌, ◌⊎◌, ℕ, List, [], IfOk, IfSome, IsTrue, OnErr};
+ghost use Rattle.std.specs.List.{slice_range};
+ghost use Rattle.cg_canon.specs.MadeForms.{AreWithin, IsMade};
 
+use crate::places::{Places, Seen, half_of, mixed};
 use cg_nodes::Handle;
 use std::alloc::{AllocError, Global};
-use std::collections::HashMap;
 
-/// A form with the options that it was made from.
-#[derive(Drop)]
+/// A form, with where the options that it was made from stand.
+#[derive(Clone, Copy)]
 pub(crate) struct MadeForm {
-    lefts: Vec<Handle>,
-    rights: Vec<Handle>,
+    /// Where the Left options begin among the options of all forms.
+    lefts: usize,
+    /// Where the Right options begin.
+    rights: usize,
+    /// Where the Right options end.
+    end: usize,
     form: Handle,
 }
 
-/// Forms that were made, by numbers of their options.
+/// Forms that were made, by their options.
 #[derive(Drop)]
 pub(crate) struct MadeForms {
-    alloc: Global,
-    by_options: HashMap<u64, MadeForm>,
+    forms: Vec<MadeForm>,
+    /// The options of all forms.
+    options: Vec<Handle>,
+    /// Where the form of two lists is looked for.
+    places: Places,
 }
 
 /// The greatest number of forms that are kept.
@@ -31,14 +39,14 @@ const MOST: usize = 65_536;
 fn number_of(start: u64, handles: &[Handle]) -> u64 {
     let mut number = start;
     for handle in handles {
-        number = (number ^ handle.id().number() as u64).wrapping_mul(0x9E37_79B9_7F4A_7C15);
+        number = mixed(number, handle.id().number());
     }
-    number ^ (number >> 32)
+    number
 }
 
 /// A number for the two lists.
-fn number_of_both(lefts: &[Handle], rights: &[Handle]) -> u64 {
-    number_of(number_of(1, lefts).wrapping_add(1), rights)
+fn number_of_both(lefts: &[Handle], rights: &[Handle]) -> u32 {
+    half_of(number_of(number_of(1, lefts).wrapping_add(1), rights))
 }
 
 /// Whether the two lists are the same.
@@ -48,72 +56,90 @@ pub(crate) fn are_same(a: &[Handle], b: &[Handle]) -> bool
     a == b
 }
 
-impl MadeForm {
-    /// Whether it was made from these options.
-    fn is_from(&self, lefts: &[Handle], rights: &[Handle]) -> bool
-        ensures { IsTrue result → (self.now.lefts.items ≡ lefts.now) × (self.now.rights.items ≡ rights.now) }
-    {
-        are_same(&self.lefts, lefts) && are_same(&self.rights, rights)
-    }
+/// Whether the part of the list from one place up to another is this.
+fn is_part(list: &[Handle], from: usize, to: usize, handles: &[Handle]) -> bool
+    ensures { IsTrue result → slice_range list.now from to ≡ handles.now }
+{
+    from <= to && to <= list.len() && are_same(&list[from..to], handles)
 }
 
 impl MadeForms {
     /// Of no forms.
     pub fn new(alloc: Global) -> MadeForms
-        ensures { (ls rs : List ℕ) (h : ℕ) → IsMade result ls rs h → ⊥ }
+        ensures { result.forms.items ≡ [] }
     {
         MadeForms {
-            alloc,
-            by_options: HashMap::new(alloc),
+            forms: Vec::new(alloc),
+            options: Vec::new(alloc),
+            places: Places::new(alloc),
         }
+    }
+
+    /// The form of the entry, if it was made from these options.
+    fn form_at(&self, entry: u32, lefts: &[Handle], rights: &[Handle]) -> Option<Handle>
+        ensures { IfSome result (IsMade self.now lefts.now rights.now) }
+    {
+        let place = entry as usize;
+        if place >= self.forms.len() {
+            return None;
+        }
+        let made = self.forms[place];
+        if is_part(&self.options, made.lefts, made.rights, lefts)
+            && is_part(&self.options, made.rights, made.end, rights)
+        {
+            return Some(made.form);
+        }
+        None
     }
 
     /// The form that was made from these options, if it is kept.
     pub fn find(&self, lefts: &[Handle], rights: &[Handle]) -> Option<Handle>
         ensures { IfSome result (IsMade self.now lefts.now rights.now) }
     {
-        match self.by_options.get(&number_of_both(lefts, rights)) {
-            None => None,
-            Some(made) => {
-                if made.is_from(lefts, rights) {
-                    Some(made.form)
-                } else {
-                    None
+        let number = number_of_both(lefts, rights);
+        for tried in 0..self.places.most() {
+            match self.places.seen(number, tried) {
+                Seen::Nothing => return None,
+                Seen::Other => {}
+                Seen::Entry(entry) => {
+                    let found = self.form_at(entry, lefts, rights);
+                    if found.is_some() {
+                        return found;
+                    }
                 }
             }
         }
+        None
     }
 
-    /// Keeps the form that was made from these options, unless enough are kept. Some other one may be forgotten for it.
-    /// Nothing changes where there is no memory.
+    /// Keeps the form that was made from these options, unless enough are kept. Nothing changes where there is no memory.
     pub fn keep(
         &mut self,
         lefts: &[Handle],
         rights: &[Handle],
         form: Handle,
     ) -> Result<(), AllocError>
+        requires { AreWithin self.old }
+        ensures within { AreWithin self.new }
         ensures ok { IfOk result (λ _. (ls rs : List ℕ) (h : ℕ) → IsMade self.new ls rs h
             → ((ls ≡ lefts.now) × (rs ≡ rights.now) × (h ≡ form)) ⊎ IsMade self.old ls rs h) }
         ensures err { OnErr result ((ls rs : List ℕ) (h : ℕ) → IsMade self.new ls rs h → IsMade self.old ls rs h) }
     {
-        if self.by_options.len() >= MOST {
+        if self.forms.len() >= MOST {
             return Ok(());
         }
-        let made = MadeForm {
-            lefts: copied(self.alloc, lefts)?,
-            rights: copied(self.alloc, rights)?,
+        let first = self.options.len();
+        self.options.extend_from_slice(lefts)?;
+        let middle = self.options.len();
+        self.options.extend_from_slice(rights)?;
+        let end = self.options.len();
+        self.forms.push(MadeForm {
+            lefts: first,
+            rights: middle,
+            end,
             form,
-        };
-        self.by_options.insert(number_of_both(lefts, rights), made)?;
+        })?;
+        self.places.add(number_of_both(lefts, rights));
         Ok(())
     }
-}
-
-/// The handles in a list of their own.
-fn copied(alloc: Global, handles: &[Handle]) -> Result<Vec<Handle>, AllocError>
-    ensures { IfOk result (λ r. r.items ≡ handles.now) }
-{
-    let mut all = Vec::with_capacity(alloc, handles.len())?;
-    all.extend_from_slice(handles)?;
-    Ok(all)
 }

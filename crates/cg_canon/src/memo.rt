@@ -1,13 +1,13 @@
 //! What was found out of the games of a work.
-ghost use Rattle.std.specs.Prelude.{◌≡◌, ℕ, [], ◌==◌, ◌&&◌, IfOk, OnErr, None, Some, if◌then◌else◌};
+ghost use Rattle.std.specs.Prelude.{◌≡◌, ◌⊎◌, ℕ, [], IfOk, IfSome, OnErr};
 ghost use Rattle.cg_book.specs.declared.recent.Answer.{Answer as Known};
 ghost use Rattle.cg_book.specs.Recents.{IsKept};
-ghost use Rattle.cg_canon.specs.Memos.{summed};
+ghost use Rattle.cg_canon.specs.Memos.{IsAdded};
 
 use crate::book::Book;
+use crate::places::{Places, Seen, half_of, mixed};
 use cg_nodes::Handle;
 use std::alloc::{AllocError, Global};
-use std::collections::HashMap;
 
 /// A sum of two games all of whose items were made in a work.
 #[derive(Clone, Copy)]
@@ -20,11 +20,26 @@ pub(crate) struct KnownSum {
     pub limit: u64,
 }
 
+/// A known sum with the ids of its two games.
+#[derive(Clone, Copy)]
+pub(crate) struct AddedSum {
+    a: u32,
+    b: u32,
+    known: KnownSum,
+}
+
 /// The games that were met, and sums, by pairs of ids.
 #[derive(Drop)]
 pub(crate) struct Memo {
     pub(crate) book: Book,
-    sums: HashMap<(u32, u32), KnownSum>,
+    sums: Vec<AddedSum>,
+    /// Where the sum of a pair is looked for.
+    places: Places,
+}
+
+/// A number for a pair of ids.
+fn number_of(a: u32, b: u32) -> u32 {
+    half_of(mixed(mixed(1, a), b))
 }
 
 impl Memo {
@@ -33,29 +48,55 @@ impl Memo {
         ensures pages { result.book.pages ≡ [] }
         ensures handles { result.book.handles.items ≡ [] }
         ensures answers { (x : Known) → IsKept result.book.answers x → ⊥ }
-        ensures sums { (a b : ℕ) → summed result a b ≡ None }
+        ensures sums { result.sums.items ≡ [] }
     {
         Memo {
             book: Book::new(alloc),
-            sums: HashMap::new(alloc),
+            sums: Vec::new(alloc),
+            places: Places::new(alloc),
         }
     }
 
-    /// The sum for the first id and the second, if there is one.
-    pub fn added(&self, a: u32, b: u32) -> Option<KnownSum>
-        ensures { result ≡ summed self.now a b }
+    /// The sum of the entry, if it is that of the first id and the second.
+    fn sum_at(&self, entry: u32, a: u32, b: u32) -> Option<KnownSum>
+        ensures { IfSome result (IsAdded self.now a b) }
     {
-        self.sums.get(&(a, b)).copied()
+        let place = entry as usize;
+        if place < self.sums.len() && self.sums[place].a == a && self.sums[place].b == b {
+            return Some(self.sums[place].known);
+        }
+        None
+    }
+
+    /// The sum for the first id and the second, if there is one that is found.
+    pub fn added(&self, a: u32, b: u32) -> Option<KnownSum>
+        ensures { IfSome result (IsAdded self.now a b) }
+    {
+        let number = number_of(a, b);
+        for tried in 0..self.places.most() {
+            match self.places.seen(number, tried) {
+                Seen::Nothing => return None,
+                Seen::Other => {}
+                Seen::Entry(entry) => {
+                    let found = self.sum_at(entry, a, b);
+                    if found.is_some() {
+                        return found;
+                    }
+                }
+            }
+        }
+        None
     }
 
     /// Keeps the sum for the first id and the second. Nothing changes where there is no memory.
     pub fn keep_added(&mut self, a: u32, b: u32, known: KnownSum) -> Result<(), AllocError>
-        ensures ok { IfOk result (λ _. (c d : ℕ) → summed self.new c d
-            ≡ (if (a == c) && (b == d) then Some known else summed self.old c d)) }
-        ensures err { OnErr result ((c d : ℕ) → summed self.new c d ≡ summed self.old c d) }
+        ensures ok { IfOk result (λ _. (c d : ℕ) (other : KnownSum) → IsAdded self.new c d other
+            → ((c ≡ a) × (d ≡ b) × (other ≡ known)) ⊎ IsAdded self.old c d other) }
+        ensures err { OnErr result ((c d : ℕ) (other : KnownSum) → IsAdded self.new c d other → IsAdded self.old c d other) }
         ensures book { self.new.book ≡ self.old.book }
     {
-        self.sums.insert((a, b), known)?;
+        self.sums.push(AddedSum { a, b, known })?;
+        self.places.add(number_of(a, b));
         Ok(())
     }
 }

@@ -1,139 +1,158 @@
-//! Where the pages of handles are looked for.
+//! Where the entries of a list are looked for.
 //!
-//! The places of a table say which pages may have a handle, and the handles of the pages decide it. So a place that says
-//! something wrong, or nothing for want of memory, finds no page, and never a page of another handle.
-ghost use Rattle.std.specs.Prelude.{◌≡◌, ◌<◌, IfSome, IsTrue, length, slice_index_or};
-
-use cg_nodes::Handle;
+//! The entries are counted from 0, in the order in which they are added, each with a number. A table of places says which of them
+//! may have a number, and the owner of the list looks at the entry itself. So a place that says something wrong, or nothing for
+//! want of memory, only hides an entry.
 use std::alloc::{AllocError, Global};
 
-/// A table of places, none of them while the pages are few.
-#[derive(Drop)]
-pub(crate) struct Places {
-    alloc: Global,
-    /// At each place the number of a page and 1, or 0 where it is free.
-    places: Vec<u32>,
-}
-
-/// So many pages are looked through one by one.
+/// So many entries are looked through one by one.
 const FEW: usize = 8;
 
 /// The first size of a table.
 const FIRST: usize = 64;
 
-/// The first place of the handle, in a table of 4,294,967,296 places.
-fn home_of(handle: Handle) -> usize {
-    let number = handle.id().number() as u64;
-    (number.wrapping_mul(0x9E37_79B9_7F4A_7C15) >> 32) as usize
+/// An entry with its number.
+#[derive(Clone, Copy)]
+struct Place {
+    number: u32,
+    /// The entry and 1, or 0 where the place is free.
+    mark: u32,
+}
+
+/// What is seen at a place.
+pub(crate) enum Seen {
+    /// It is free, and so no place after it has the number.
+    Nothing,
+    /// An entry of another number.
+    Other,
+    /// An entry of this number.
+    Entry(u32),
+}
+
+/// The places of entries: those of the first few by their order, and a table of all once they are more.
+#[derive(Drop)]
+pub(crate) struct Places {
+    alloc: Global,
+    /// How many entries there are.
+    count: usize,
+    /// The numbers of the first few.
+    first: [u32; FEW],
+    /// The table.
+    places: Vec<Place>,
+}
+
+/// A number for something, with the number of what comes before it.
+pub(crate) fn mixed(before: u64, own: u32) -> u64 {
+    let number = (before ^ own as u64).wrapping_mul(0x9E37_79B9_7F4A_7C15);
+    number ^ (number >> 32)
+}
+
+/// The number that an entry is added with.
+pub(crate) fn half_of(number: u64) -> u32 {
+    ((number >> 32) % 4_294_967_296) as u32
 }
 
 /// The place that is tried after so many others, in a table of so many places.
-fn place_at(home: usize, tried: usize, places: usize) -> usize {
-    (home ^ tried) & places.saturating_sub(1)
+fn place_at(number: u32, tried: usize, places: usize) -> usize {
+    (number as usize ^ tried) & places.saturating_sub(1)
 }
 
-/// Whether the page has this handle.
-fn has(handles: &[Handle], page: usize, handle: Handle) -> bool
-    ensures within { IsTrue result → page < length handles.now }
-    ensures is { IsTrue result → slice_index_or handles.now page 0 ≡ handle }
-{
-    page < handles.len() && handles[page] == handle
-}
-
-/// The last of the first few pages that has this handle.
-fn found_among(handles: &[Handle], handle: Handle) -> Option<u32>
-    ensures within { IfSome result (λ page. page < length handles.now) }
-    ensures is { IfSome result (λ page. slice_index_or handles.now page 0 ≡ handle) }
-{
-    let count = handles.len().min(FEW);
-    for passed in 0..count {
-        let page = count - 1 - passed;
-        if has(handles, page, handle) {
-            return Some(page as u32);
-        }
+/// Puts an entry of this number into the first of its places that is free.
+fn put(places: &mut [Place], number: u32, entry: usize) {
+    if entry >= u32::MAX as usize {
+        return;
     }
-    None
-}
-
-/// What a place says of the page.
-fn mark_of(page: usize) -> u32 {
-    if page < u32::MAX as usize {
-        page as u32 + 1
-    } else {
-        0
-    }
-}
-
-/// Puts the page of this handle into the first of its places that is free.
-fn put(places: &mut [u32], handle: Handle, page: usize) {
-    let home = home_of(handle);
     for tried in 0..places.len() {
-        let at = place_at(home, tried, places.len());
-        if at < places.len() && places[at] == 0 {
-            places[at] = mark_of(page);
+        let at = place_at(number, tried, places.len());
+        if at < places.len() && places[at].mark == 0 {
+            places[at] = Place {
+                number,
+                mark: entry as u32 + 1,
+            };
             return;
         }
     }
 }
 
-/// A table of so many places, for the pages that have these handles.
-fn table_of(alloc: Global, handles: &[Handle], size: usize) -> Result<Vec<u32>, AllocError> {
-    let mut places = vec![in alloc; 0; size]?;
-    for (page, handle) in handles.iter().enumerate() {
-        put(&mut places, *handle, page);
+/// Puts the entries of the first table into the second.
+fn put_all(old: &[Place], places: &mut [Place]) {
+    for place in old {
+        if place.mark > 0 {
+            put(places, place.number, place.mark as usize - 1);
+        }
     }
-    Ok(places)
 }
 
 impl Places {
-    /// Of no pages.
+    /// Of no entries.
     pub fn new(alloc: Global) -> Places {
         Places {
             alloc,
+            count: 0,
+            first: [0; FEW],
             places: Vec::new(alloc),
         }
     }
 
-    /// The page at the place, if one is there.
-    fn page_at(&self, place: usize) -> Option<u32> {
-        if place >= self.places.len() || self.places[place] == 0 {
-            return None;
-        }
-        Some(self.places[place] - 1)
+    /// How many places may have to be tried for a number.
+    pub fn most(&self) -> usize {
+        self.places.len().max(FEW)
     }
 
-    /// A page that has this handle, if one is found.
-    pub fn find(&self, handles: &[Handle], handle: Handle) -> Option<u32>
-        ensures within { IfSome result (λ page. page < length handles.now) }
-        ensures is { IfSome result (λ page. slice_index_or handles.now page 0 ≡ handle) }
-    {
+    /// What is seen at the place that is tried for the number after so many others.
+    pub fn seen(&self, number: u32, tried: usize) -> Seen {
         if self.places.is_empty() {
-            return found_among(handles, handle);
+            return self.seen_first(number, tried);
         }
-        let home = home_of(handle);
-        for tried in 0..self.places.len() {
-            let page = self.page_at(place_at(home, tried, self.places.len()))?;
-            if has(handles, page as usize, handle) {
-                return Some(page);
-            }
+        let at = place_at(number, tried, self.places.len());
+        if at >= self.places.len() || self.places[at].mark == 0 {
+            return Seen::Nothing;
         }
-        None
+        if self.places[at].number == number {
+            Seen::Entry(self.places[at].mark - 1)
+        } else {
+            Seen::Other
+        }
     }
 
-    /// Notes the page of the last handle. The table grows before more than half of its places are filled; where there is no
-    /// memory for that, the page may not be found again.
-    pub fn note(&mut self, handles: &[Handle]) {
-        let count = handles.len();
-        if count <= FEW {
+    /// What is seen of the first few entries, at one of them.
+    fn seen_first(&self, number: u32, entry: usize) -> Seen {
+        if entry >= self.count.min(FEW) {
+            return Seen::Nothing;
+        }
+        if self.first[entry] == number {
+            Seen::Entry(entry as u32)
+        } else {
+            Seen::Other
+        }
+    }
+
+    /// Adds the next entry, with this number. The table grows before more than half of its places are filled; where there is no
+    /// memory for that, the entry may be hidden.
+    pub fn add(&mut self, number: u32) {
+        let entry = self.count;
+        self.count = entry.saturating_add(1);
+        if entry < FEW {
+            self.first[entry] = number;
             return;
         }
-        if count > self.places.len() / 2 {
-            let size = (2 * self.places.len()).max(FIRST);
-            if let Ok(grown) = table_of(self.alloc, handles, size) {
-                self.places = grown;
-            }
-        } else {
-            put(&mut self.places, handles[count - 1], count - 1);
+        if entry >= self.places.len() / 2 && self.grow().is_err() {
+            return;
         }
+        put(&mut self.places, number, entry);
+    }
+
+    /// Makes the table twice as large, or makes it.
+    fn grow(&mut self) -> Result<(), AllocError> {
+        let size = self.places.len().saturating_mul(2).max(FIRST);
+        let mut grown = vec![in self.alloc; Place { number: 0, mark: 0 }; size]?;
+        if self.places.is_empty() {
+            for (entry, number) in self.first.iter().enumerate() {
+                put(&mut grown, *number, entry);
+            }
+        }
+        put_all(&self.places, &mut grown);
+        self.places = grown;
+        Ok(())
     }
 }

@@ -11,6 +11,6 @@ returns-in_err-push-clause-holds g c =
 pub returns-clause-holds : goal.returns-clause-holds
 returns-clause-holds g c =
     let b = c.args.self.now in
-    holds_pushed (g.S.CellStore.state c.args.store.now) b (record b { handles = c.push.new.self; places = c.note.new.self })
+    holds_pushed (g.S.CellStore.state c.args.store.now) b (record b { handles = c.push.new.self; places = c.add.new.self })
     c.args.handle c.args.page c.requires.holds refl c.in_ok-push.ensures.items refl
     c.requires.game c.requires.next c.requires.page c.requires.is

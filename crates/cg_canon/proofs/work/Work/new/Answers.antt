@@ -1,5 +1,6 @@
 use Rattle.std.proofs.Common.{arith}
 use Rattle.cg_canon.proofs.Booking.{new_holds}
+use Rattle.cg_canon.proofs.FormTables.{forms_none}
 use Rattle.cg_canon.proofs.Holding.{holds_nothing}
 use Rattle.cg_canon.proofs.work.Work.new.Goals as goal
 
@@ -11,5 +12,5 @@ invariant_of-result g c =
       holds_nothing s 0 c.args.share c.spare-start.result c.new.result
           (omega arith) (omega (arith, c.requires)) (omega arith) (omega arith) (omega arith)
           (new_holds s c.new.result.book c.new.ensures.handles c.new.ensures.answers) c.new.ensures.sums,
-      record { each = λ ls rs form k. absurd (c.new-2.ensures ls rs form k) },
+      forms_none s c.new-2.result c.new-2.ensures,
     )
