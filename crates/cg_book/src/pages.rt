@@ -19,11 +19,11 @@ pub(crate) struct Page {
     /// Where the cuts of its profile lie.
     keys: Keys,
     /// Where its Left options begin among the options of all pages.
-    lefts: usize,
+    lefts: u32,
     /// Where its Right options begin.
-    rights: usize,
+    rights: u32,
     /// Where its Right options end.
-    end: usize,
+    end: u32,
     /// Whether it is a number, which is then where the cuts of its profile are.
     is_number: bool,
     /// How many positions it has, each counted once for each way to it, or some number beyond `LIGHT`.
@@ -49,6 +49,9 @@ pub struct Pages {
 
 /// The greatest number of pages.
 const MOST: usize = 4_294_967_296;
+
+/// The greatest number of options of all pages.
+const MOST_OPTIONS: usize = 4_294_967_295;
 
 /// The greatest weight of a light game. Two light games are compared in a few steps.
 const LIGHT: u8 = 8;
@@ -111,16 +114,16 @@ impl Pages {
         ensures same { OnErr result (self.new ≡ self.old) }
     {
         let count = self.pages.len();
-        if count >= MOST {
+        let end = self.options.len();
+        if count >= MOST || end > MOST_OPTIONS {
             return Err(AllocError);
         }
-        let end = self.options.len();
         let profile = Profile::number(x);
         self.pages.push(Page {
             keys: Keys::of(&profile),
-            lefts: end,
-            rights: end,
-            end,
+            lefts: end as u32,
+            rights: end as u32,
+            end: end as u32,
             is_number: true,
             weight: 1,
             profile,
@@ -145,20 +148,20 @@ impl Pages {
         ensures same { OnErr result (self.new ≡ self.old) }
     {
         let count = self.pages.len();
-        if count >= MOST {
+        let first = self.options.len();
+        let middle = first + lefts.len();
+        let end = middle + rights.len();
+        if count >= MOST || end > MOST_OPTIONS {
             return Err(AllocError);
         }
         let weight = weight_with(&self.pages, rights, weight_with(&self.pages, lefts, 1));
-        let first = self.options.len();
         self.options.extend_from_slice(lefts)?;
-        let middle = self.options.len();
         self.options.extend_from_slice(rights)?;
-        let end = self.options.len();
         self.pages.push(Page {
             keys: Keys::of(profile),
-            lefts: first,
-            rights: middle,
-            end,
+            lefts: first as u32,
+            rights: middle as u32,
+            end: end as u32,
             is_number: false,
             weight,
             profile: *profile,
@@ -192,8 +195,9 @@ impl Pages {
         if found.is_number {
             return Read::Number(found.profile.low.at);
         }
-        let lefts = part(&self.options, found.lefts, found.rights);
-        let rights = part(&self.options, found.rights, found.end);
+        let middle = found.rights as usize;
+        let lefts = part(&self.options, found.lefts as usize, middle);
+        let rights = part(&self.options, middle, found.end as usize);
         Read::Game(lefts, rights)
     }
 

@@ -1,4 +1,4 @@
-use Rattle.std.proofs.Common.{◌≡◌, ◌<◌, ◌^◌, ◌++◌, ◌∷◌, [], ℕ, List, ap, append_assoc, false, length, refl, rules, subst, sym, ◌∙◌}
+use Rattle.std.proofs.Common.{◌≡◌, ◌<◌, ◌+◌, ◌^◌, ◌++◌, ◌∷◌, [], ℕ, List, ap, append_assoc, false, length, refl, rules, subst, sym, ◌∙◌}
 use Rattle.cg_form.specs.Game.{node}
 use Rattle.cg_book.specs.declared.pages.Page.{Page}
 use Rattle.cg_book.specs.Pages.{AreWritten, games_of, said_by}
@@ -38,8 +38,8 @@ abbrev page_of : goal.In_ok-push → Page
 page_of c = record {
   keys = c.of.result;
   lefts = c.len-first.result;
-  rights = c.len-middle.result;
-  end = c.len-end.result;
+  rights = c.len-first.result + length c.args.lefts.now;
+  end = c.len-first.result + length c.args.lefts.now + length c.args.rights.now;
   is_number = false;
   weight = c.weight_with-weight.result;
   profile = c.args.profile.now;
@@ -61,8 +61,8 @@ pushed c =
     let g = node (games_of gs ls) (games_of gs rs) in
     let all = c.extend_from_slice-2.new.self.items in
     let first : c.len-first.result ≡ length opts = search rules in
-    let middle : c.len-middle.result ≡ length (opts ++ ls) = search rules in
-    let end : c.len-end.result ≡ length ((opts ++ ls) ++ rs) = search rules in
+    let middle : c.len-first.result + length ls ≡ length (opts ++ ls) = search rules in
+    let end : c.len-first.result + length ls + length rs ≡ length ((opts ++ ls) ++ rs) = search rules in
     let e : all ≡ (opts ++ ls) ++ rs = c.in_ok-extend_from_slice-2.ensures.items ∙ ap (λ z. z ++ rs) c.in_ok-extend_from_slice.ensures.items in
     let more = same_pages opts (ls ++ rs) all c.self.inside.pages.items gs (e ∙ append_assoc opts ls rs) c.self.invariant c.self.view_is in
     let A : List ℕ → Type 0 = λ z. Adds z gs (page_of c) g in
