@@ -38,6 +38,27 @@ kind_word (Pair low high) f t = omega arith
 kind_word (Board number rows columns first) f t = omega arith
 kind_word (Long first exp negative) f t = omega (arith, sign_small negative)
 
+-- the kind that stands in a word
+pub same_kind : (p : KeyParts) (w k : ℕ) → FieldsFit p → TypesFit p → word_of p ≡ w → w / 2 ^ 61 ≡ k → kind_of p ≡ k
+same_kind p w k f t e h = omega (arith, kind_word p f t, ap (λ n. n / 2 ^ 61) e)
+
+-- the parts of a list, where they are read as they stand in its word
+pub list_parts : (p : KeyParts) (w x : ℕ) (o : Option ℕ) → FieldsFit p → TypesFit p → word_of p ≡ w → kind_of p ≡ 3
+    → ((i : ℕ) → i < 2 ^ 26 → i + 1 ≡ w % 2 ^ 61 % 134217728 → x ≡ i)
+    → ((q : Option ℕ) → IsLink q → id_field q ≡ w % 2 ^ 61 / 134217728 → o ≡ q)
+    → Cons x o ≡ p
+list_parts (Number num exp) w x o f t e k hx ho = absurd (omega arith)
+list_parts (Chunk content next) w x o f t e k hx ho = absurd (omega arith)
+list_parts (Cons first rest) w x o f t e k hx ho =
+    let small = link_small rest t.1 in
+    let a : x ≡ first = hx first t.0 (omega arith) in
+    let b : o ≡ rest = ho rest t.1 (omega arith) in
+    cc
+list_parts (Game lefts rights) w x o f t e k hx ho = absurd (omega arith)
+list_parts (Pair low high) w x o f t e k hx ho = absurd (omega arith)
+list_parts (Board number rows columns first) w x o f t e k hx ho = absurd (omega arith)
+list_parts (Long first exp negative) w x o f t e k hx ho = absurd (omega arith)
+
 pub sign_back : (b : Bool) (n : ℕ) → sign_field b ≡ n → (n == 1) ≡ b
 sign_back true n e = rw (← e) refl
 sign_back false n e = rw (← e) refl

@@ -1,7 +1,8 @@
 //! Keys, and their parts.
-ghost use Rattle.std.specs.Prelude.{◌≡◌, ◌≢◌, ℕ, ◌↔◌, IsTrue, IfSome, IfNone, IsSome, Some, None};
+ghost use Rattle.std.specs.Prelude.{◌≡◌, ◌≢◌, ℕ, ◌↔◌, IsTrue, IfSome, IfNone, IsSome, Option, Some, None};
 ghost use Rattle.cg_cells.specs.Layout.{FieldsFit, TypesFit, word_of};
 ghost use Rattle.cg_cells.specs.Parts.{parts_of};
+ghost use Rattle.cg_cells.specs.declared.key.KeyParts.TheVariants.{Cons};
 
 use crate::Id;
 use crate::bits::{
@@ -74,6 +75,15 @@ pub enum KeyParts {
         exp: u8,
         negative: bool,
     },
+}
+
+/// What the key of a list has.
+#[derive(Clone, Copy, Debug, PartialEq, Eq)]
+pub struct ListParts {
+    /// The first option.
+    pub first: Id,
+    /// The list of the others.
+    pub rest: Option<Id>,
 }
 
 impl KeyParts {
@@ -259,5 +269,23 @@ impl Key {
             unreachable!()
         };
         parts
+    }
+
+    /// What the key of a list has, where the key of some parts, as [`Key::parts`] reads them, is that of a list. Nothing of other
+    /// kinds is read.
+    #[inline]
+    pub fn list_parts(&self) -> Option<ListParts>
+        requires { IsSome (parts_of self.now) }
+        ensures some { IfSome result (λ list. parts_of self.now ≡ Some (Cons list.first list.rest)) }
+        ensures none { IfNone result ((first : ℕ) (rest : Option ℕ) → parts_of self.now ≢ Some (Cons first rest)) }
+    {
+        if self.word / KIND != 3 {
+            return None;
+        }
+        let low = self.word % KIND;
+        Some(ListParts {
+            first: id_in(low % SECOND),
+            rest: link_in(low / SECOND),
+        })
     }
 }

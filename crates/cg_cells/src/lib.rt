@@ -22,6 +22,6 @@ mod store;
 pub use facts::Facts;
 pub use fault::StoreFault;
 pub use id::Id;
-pub use key::{Key, KeyParts};
+pub use key::{Key, KeyParts, ListParts};
 pub use plain::PlainStore;
 pub use store::CellStore;

@@ -153,12 +153,12 @@ fn split_of<B: BoardForms, S: CellStore<GameFacts<B>>>(store: &mut S, id: Id) ->
     ensures spends { Spends 0 (S.state store.old) (S.state store.new) }
 {
     let key = store.look(id);
-    match key.parts() {
-        KeyParts::Cons { first, rest } => Split {
-            first: Handle::of(first),
-            rest: ListId { id: rest },
-        },
-        _ => unreachable!(),
+    let Some(list) = key.list_parts() else {
+        unreachable!()
+    };
+    Split {
+        first: Handle::of(list.first),
+        rest: ListId { id: list.rest },
     }
 }
 

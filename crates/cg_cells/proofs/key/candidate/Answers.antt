@@ -1,28 +1,9 @@
-use Rattle.std.proofs.Common.{◌≡◌, ℕ, ◌+◌, ◌<◌, Some, Option, ◌/◌, ◌%◌, ◌^◌, ◌==◌, arith, ap}
+use Rattle.std.proofs.Common.{◌≡◌, ℕ, ◌+◌, ◌<◌, Some, ◌/◌, ◌%◌, ◌^◌, ◌==◌, arith, ap}
 use Rattle.cg_cells.specs.declared.key.KeyParts.{KeyParts}
-use Rattle.cg_cells.specs.declared.key.KeyParts.TheVariants.{Number, Chunk, Cons, Game, Pair, Board, Long}
-use Rattle.cg_cells.specs.Layout.{FieldsFit, TypesFit, IsLink, word_of, id_field}
-use Rattle.cg_cells.proofs.Layouts.{link_small, kind_word, kind_of, sign_small, sign_back}
+use Rattle.cg_cells.specs.declared.key.KeyParts.TheVariants.{Pair, Board, Long}
+use Rattle.cg_cells.specs.Layout.{FieldsFit, TypesFit, word_of}
+use Rattle.cg_cells.proofs.Layouts.{list_parts, same_kind, kind_of, sign_small, sign_back}
 use Rattle.cg_cells.proofs.key.candidate.Goals as goal
-
-same_kind : (p : KeyParts) (w k : ℕ) → FieldsFit p → TypesFit p → word_of p ≡ w → w / 2 ^ 61 ≡ k → kind_of p ≡ k
-same_kind p w k f t e h = omega (arith, kind_word p f t, ap (λ n. n / 2 ^ 61) e)
-
-cons : (p : KeyParts) (w x : ℕ) (o : Option ℕ) → FieldsFit p → TypesFit p → word_of p ≡ w → kind_of p ≡ 3
-    → ((i : ℕ) → i < 2 ^ 26 → i + 1 ≡ w % 2 ^ 61 % 134217728 → x ≡ i)
-    → ((q : Option ℕ) → IsLink q → id_field q ≡ w % 2 ^ 61 / 134217728 → o ≡ q)
-    → Cons x o ≡ p
-cons (Number num exp) w x o f t e k hx ho = absurd (omega arith)
-cons (Chunk content next) w x o f t e k hx ho = absurd (omega arith)
-cons (Cons first rest) w x o f t e k hx ho =
-    let small = link_small rest t.1 in
-    let a : x ≡ first = hx first t.0 (omega arith) in
-    let b : o ≡ rest = ho rest t.1 (omega arith) in
-    cc
-cons (Game lefts rights) w x o f t e k hx ho = absurd (omega arith)
-cons (Pair low high) w x o f t e k hx ho = absurd (omega arith)
-cons (Board number rows columns first) w x o f t e k hx ho = absurd (omega arith)
-cons (Long first exp negative) w x o f t e k hx ho = absurd (omega arith)
 
 pair : (p : KeyParts) (w x y : ℕ) → FieldsFit p → TypesFit p → word_of p ≡ w → kind_of p ≡ 5
     → ((i : ℕ) → i < 2 ^ 26 → i + 1 ≡ w % 2 ^ 61 % 134217728 → x ≡ i)
@@ -57,7 +38,7 @@ long (Long first exp negative) w x f t e k hx =
 long _ w x f t e k hx = absurd (omega arith)
 
 pub returns-in-3 : goal.returns-in-3
-returns-in-3 c = λ p f t e. ap Some (cons p c.args.word _ _ f t e (same_kind p c.args.word 3 f t e c.in-3.is) c.id_in.ensures c.link_in-in-3.ensures)
+returns-in-3 c = λ p f t e. ap Some (list_parts p c.args.word _ _ f t e (same_kind p c.args.word 3 f t e c.in-3.is) c.id_in.ensures c.link_in-in-3.ensures)
 
 pub returns-in-5 : goal.returns-in-5
 returns-in-5 c = λ p f t e. ap Some (pair p c.args.word _ _ f t e (same_kind p c.args.word 5 f t e c.in-5.is) c.id_in-in-5.ensures c.id_in-in-5-2.ensures)
