@@ -1,5 +1,5 @@
 //! The pages of a book.
-ghost use Rattle.std.specs.Prelude.{◌≡◌, ◌≤◌, ◌++◌, ◌∷◌, [], length, IfOk, OnErr};
+ghost use Rattle.std.specs.Prelude.{◌≡◌, ◌≤◌, ◌++◌, ◌∷◌, [], length, is_ok, if◌then◌else◌, IfOk, OnErr};
 ghost use Rattle.std.specs.List.{slice_range};
 ghost use Rattle.cg_form.specs.Canonical.{Canonical};
 ghost use Rattle.cg_form.specs.Game.{node, number};
@@ -28,8 +28,6 @@ pub(crate) struct Page {
     is_number: bool,
     /// How many positions it has, each counted once for each way to it, or some number beyond `LIGHT`.
     weight: u8,
-    /// What is known of it besides its options.
-    profile: Profile,
 }
 
 /// A number, or the pages of the Left and of the Right options of another game.
@@ -44,6 +42,8 @@ pub enum Read<'a> {
 #[derive(Drop)]
 pub struct Pages {
     pages: Vec<Page>,
+    /// What is known of the game of each page besides its options. It stands apart, since a comparison reads the keys alone.
+    profiles: Vec<Profile>,
     options: Vec<u32>,
 }
 
@@ -57,19 +57,19 @@ const MOST_OPTIONS: usize = 4_294_967_295;
 const LIGHT: u8 = 8;
 
 impl Model for Pages {
-    ghost use Rattle.std.specs.Prelude.{List, []};
+    ghost use Rattle.std.specs.Prelude.{List, [], zip};
     ghost use Rattle.std.specs.Coded.{coded_list};
     ghost use Rattle.cg_form.specs.Game.{Game};
     ghost use Rattle.cg_form.specs.GameCode.{game_code};
-    ghost use Rattle.cg_book.specs.Pages.{AreWritten, said_by};
+    ghost use Rattle.cg_book.specs.Pages.{IsBook, said_by};
 
     ghost Value = { List Game };
 
     ghost coded = { coded_list game_code };
 
-    ghost view = { λ b. said_by b.options.items [] b.pages.items };
+    ghost view = { λ b. said_by b.options.items [] (zip b.pages.items b.profiles.items) };
 
-    ghost invariant = { λ b. AreWritten b.options.items [] b.pages.items };
+    ghost invariant = { λ b. IsBook b.options.items b.pages.items b.profiles.items };
 }
 
 /// The part of the list from one place up to another.
@@ -96,6 +96,25 @@ fn weight_with(pages: &[Page], options: &[u32], weight: u8) -> u8 {
     sum
 }
 
+/// Adds the page and its profile, each behind the others, or neither.
+fn add(
+    pages: &mut Vec<Page>,
+    profiles: &mut Vec<Profile>,
+    page: Page,
+    profile: &Profile,
+) -> Result<(), AllocError>
+    ensures pages { pages.new.items ≡ (if is_ok result then pages.old.items ++ (page ∷ []) else pages.old.items) }
+    ensures profiles { profiles.new.items
+        ≡ (if is_ok result then profiles.old.items ++ (profile.now ∷ []) else profiles.old.items) }
+{
+    profiles.push(*profile)?;
+    if pages.push(page).is_err() {
+        profiles.pop();
+        return Err(AllocError);
+    }
+    Ok(())
+}
+
 impl Pages {
     /// No pages.
     pub fn new(alloc: Global) -> Pages
@@ -103,6 +122,7 @@ impl Pages {
     {
         Pages {
             pages: Vec::new(alloc),
+            profiles: Vec::new(alloc),
             options: Vec::new(alloc),
         }
     }
@@ -119,15 +139,15 @@ impl Pages {
             return Err(AllocError);
         }
         let profile = Profile::number(x);
-        self.pages.push(Page {
+        let page = Page {
             keys: Keys::of(&profile),
             lefts: end as u32,
             rights: end as u32,
             end: end as u32,
             is_number: true,
             weight: 1,
-            profile,
-        })?;
+        };
+        add(&mut self.pages, &mut self.profiles, page, &profile)?;
         Ok(count as u32)
     }
 
@@ -157,15 +177,15 @@ impl Pages {
         let weight = weight_with(&self.pages, rights, weight_with(&self.pages, lefts, 1));
         self.options.extend_from_slice(lefts)?;
         self.options.extend_from_slice(rights)?;
-        self.pages.push(Page {
+        let page = Page {
             keys: Keys::of(profile),
             lefts: first as u32,
             rights: middle as u32,
             end: end as u32,
             is_number: false,
             weight,
-            profile: *profile,
-        })?;
+        };
+        add(&mut self.pages, &mut self.profiles, page, profile)?;
         Ok(count as u32)
     }
 
@@ -193,7 +213,7 @@ impl Pages {
     {
         let found = &self.pages[page as usize];
         if found.is_number {
-            return Read::Number(found.profile.low.at);
+            return Read::Number(self.profiles[page as usize].low.at);
         }
         let middle = found.rights as usize;
         let lefts = part(&self.options, found.lefts as usize, middle);
@@ -206,7 +226,7 @@ impl Pages {
         requires { IsPage self.now page }
         ensures { IsProfile (game_of self.now page) result.now }
     {
-        &self.pages[page as usize].profile
+        &self.profiles[page as usize]
     }
 
     /// Where the cuts of the game of the page lie.

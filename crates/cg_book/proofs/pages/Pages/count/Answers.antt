@@ -4,5 +4,5 @@ use Rattle.cg_book.proofs.pages.Pages.count.Goals as goal
 
 pub returns : goal.returns
 returns c =
-    let n = counted c.self.inside.options.items c.self.inside.pages.items c.args.self.now c.self.view_is in
+    let n = counted c.self.inside c.args.self.now c.self.invariant c.self.view_is in
     search rules

@@ -4,6 +4,6 @@ use Rattle.cg_book.proofs.pages.Pages.is_light.Goals as goal
 
 pub index-requires : goal.index-requires
 index-requires c =
-    let n = counted c.self.inside.options.items c.self.inside.pages.items c.args.self.now c.self.view_is in
+    let n = counted c.self.inside c.args.self.now c.self.invariant c.self.view_is in
     let r = c.requires in
     omega arith

@@ -4,11 +4,11 @@ use Rattle.cg_book.proofs.pages.Pages.keys.Goals as goal
 
 pub index-requires : goal.index-requires
 index-requires c =
-    let n = counted c.self.inside.options.items c.self.inside.pages.items c.args.self.now c.self.view_is in
+    let n = counted c.self.inside c.args.self.now c.self.invariant c.self.view_is in
     let r = c.requires in
     omega arith
 
 pub returns : goal.returns
 returns c =
-    says_keys c.self.inside.options.items c.args.self.now c.index.result.now _ (page_says c.self.inside.options.items
-    c.self.inside.pages.items c.args.self.now c.args.page c.index.result.now c.self.invariant c.self.view_is c.requires c.index.ensures)
+    let f = page_says c.self.inside c.args.self.now c.self.invariant c.self.view_is c.args.page c.index.result.now c.requires c.index.ensures in
+    says_keys c.self.inside.options.items c.args.self.now c.index.result.now f.0 _ f.1

@@ -1,14 +1,13 @@
 use Rattle.std.proofs.Common.{arith}
-use Rattle.cg_book.proofs.Paging.{counted, page_says}
+use Rattle.cg_book.proofs.Paging.{counted, profile_says}
 use Rattle.cg_book.proofs.pages.Pages.profile.Goals as goal
 
 pub index-requires : goal.index-requires
 index-requires c =
-    let n = counted c.self.inside.options.items c.self.inside.pages.items c.args.self.now c.self.view_is in
+    let n = counted c.self.inside c.args.self.now c.self.invariant c.self.view_is in
+    let o = c.self.invariant.one_each in
     let r = c.requires in
     omega arith
 
 pub returns : goal.returns
-returns c =
-    (page_says c.self.inside.options.items c.self.inside.pages.items c.args.self.now c.args.page c.index.result.now
-    c.self.invariant c.self.view_is c.requires c.index.ensures).profile
+returns c = profile_says c.self.inside c.args.self.now c.self.invariant c.self.view_is c.args.page c.index.result.now c.requires c.index.ensures
