@@ -1,17 +1,17 @@
 -- What stands in the places of options.
-use Rattle.std.proofs.Common.{◌≡◌, refl, ℕ, suc, ◌+◌, ◌<◌, ◌==◌, inl, inr, arith, ap, sym, ◌∙◌, subst, Option, Some, None, List, [], ◌∷◌, ◌++◌, take, get_or, length, Bool, true, false, cond, true≢false, IsTrue}
-use Rattle.std.specs.List.{All, Contains}
+use Rattle.std.proofs.Common.{◌≡◌, refl, ℕ, suc, ◌+◌, ◌<◌, ◌==◌, inl, inr, arith, ap, sym, ◌∙◌, subst, List, [], ◌∷◌, ◌++◌, take, get_or, length, Bool, true, false, cond, true≢false, IsTrue}
+use Rattle.std.specs.List.{All}
 use Rattle.std.specs.Prelude.{if◌then◌else◌}
 use Rattle.std.proofs.lemmas.Bool.Decides.{eqb_tells}
-use Rattle.std.proofs.lemmas.List.{get_or-map, get_or_default, length-map, map-append}
-use Rattle.std.proofs.lemmas.List.Elements.{All-contains, All-nil, All-push}
+use Rattle.std.proofs.lemmas.List.{map-append}
+use Rattle.std.proofs.lemmas.List.Elements.{All-nil, All-push}
 use Rattle.cg_dyadic.specs.Number.{Number}
 use Rattle.cg_dyadic.proofs.Truth.{differ}
 use Rattle.cg_form.specs.Bypass.{AllCovered, Covered, Fine, Grown, bypassed, kept, under}
 use Rattle.cg_form.specs.Canonical.{Canonical}
 use Rattle.cg_form.specs.Game.{Among, Game, number}
 use Rattle.cg_form.specs.Known.{EachLess}
-use Rattle.cg_form.specs.Order.{Le, no_one}
+use Rattle.cg_form.specs.Order.{no_one}
 use Rattle.cg_form.specs.Side.{AtMost, at_most, far, near}
 use Rattle.cg_form.specs.Simple.{NoNumber}
 use Rattle.cg_form.proofs.Among.{among-append, among-append_left, among-append_right, carry, lefts-node, rights-node}
@@ -21,14 +21,12 @@ use Rattle.cg_form.proofs.Order.{no_one-each}
 use Rattle.cg_form.proofs.Sides.{near_number, not_both, not_near, side_trans}
 use Rattle.cg_book.specs.declared.candidate.Candidate.{Candidate}
 use Rattle.cg_book.specs.declared.substitutes.Substitutes.{Substitutes}
-use Rattle.cg_book.specs.declared.terms.Term.{Term}
-use Rattle.cg_book.specs.declared.terms.Term.TheVariants.{First, Second}
 use Rattle.cg_book.specs.declared.whole.Whole.{Whole}
-use Rattle.cg_book.specs.Candidates.{AreCandidates, alone, pages_of, same_term}
+use Rattle.cg_book.specs.Candidates.{alone, pages_of}
 use Rattle.cg_book.specs.Pages.{ArePages, IsPage, game_of, games_of}
 use Rattle.cg_book.specs.Passed.{AreSubstitutes, IsOwn, was_passed}
-use Rattle.cg_book.specs.Terms.{NoneComparable}
 use Rattle.cg_book.specs.Wholes.{WholeHolds, whole_game}
+use Rattle.cg_book.proofs.CandidateLaws.{pages_pushed}
 use Rattle.cg_book.proofs.Slices.{games_take_suc, item_among}
 
 -- ---- games that may stand as options
@@ -90,9 +88,6 @@ pub last_covered : (s : Bool) (g x : Game) (us : List Game) → Among x us → C
 last_covered s g x us m = kept m
 
 -- ---- a candidate that is put at the end of others
-
-pages_pushed : (cs ds : List Candidate) (c : Candidate) → ds ≡ cs ++ c ∷ [] → pages_of ds ≡ pages_of cs ++ c.page ∷ []
-pages_pushed cs ds c e = ap pages_of e ∙ map-append (λ (c : Candidate). c.page) cs (c ∷ [])
 
 pub record Pushed (gs : List Game) (left : Bool) (g x : Game) (os rs : List ℕ) : Type 0 where
   pub pages : ArePages gs rs
@@ -249,50 +244,6 @@ fine_more gs left g ps i k h l e f = λ x m.
         | inr n ↦ absurd n
       ]
     ]
-
--- ---- the candidates for a whole
-
-record Shared (x y : Option Term) : Type 0 where
-  term : Term
-  first : x ≡ Some term
-  second : y ≡ Some term
-
-shared : (x y : Option Term) → same_term x y ≡ true → Shared x y
-shared None y e = cc
-shared (Some First) None e = cc
-shared (Some Second) None e = cc
-shared (Some First) (Some First) e = record { term = First; first = refl; second = refl }
-shared (Some First) (Some Second) e = cc
-shared (Some Second) (Some First) e = cc
-shared (Some Second) (Some Second) e = record { term = Second; first = refl; second = refl }
-
--- two pages of a list whose games aren't comparable are the same where the game of the one is at most that of the other
-same_place : (gs : List Game) (ps : List ℕ) (a b : ℕ) → NoneComparable (games_of gs ps) → Contains ps a → Contains ps b
-    → Le (game_of gs a) (game_of gs b) → a ≡ b
-same_place gs ps a b none m n l = elim (eqb_tells m.0 n.0) [
-  | inl same ↦
-      let P : ℕ → Type 0 = λ z. get_or ps z b ≡ b in
-      sym m.2 ∙ get_or_default ps m.0 a b m.1 ∙ subst P (sym same.1) n.2
-  | inr other ↦
-      let count = length-map ps (game_of gs) in
-      let d : Game = game_of gs a in
-      let at : get_or (games_of gs ps) m.0 d ≡ game_of gs a = get_or-map (game_of gs) ps m.0 a d m.1 ∙ ap (game_of gs) m.2 in
-      let to : get_or (games_of gs ps) n.0 d ≡ game_of gs b = get_or-map (game_of gs) ps n.0 b d n.1 ∙ ap (game_of gs) n.2 in
-      let P : Game → Type 0 = λ z. Le z (game_of gs b) in
-      let Q : Game → Type 0 = λ z. Le (get_or (games_of gs ps) m.0 d) z in
-      absurd (none.each m.0 n.0 d (omega (arith, m.1)) (omega (arith, n.1)) other.1 (subst Q (sym to) (subst P (sym at) l)))
-]
-
--- of candidates that are the whole's own or have no term, none with a term is at most another such one
-pub own_candidates : (gs : List Game) (left : Bool) (w : Whole) (cs : List Candidate) → WholeHolds gs w → ArePages gs (pages_of cs)
-    → All (IsOwn left w) cs → AreCandidates gs cs
-own_candidates gs left w cs h pages own = record {
-  pages = pages;
-  apart = λ a b m n e l.
-      let t = shared a.term b.term e in
-      same_place gs (cond left w.lefts.now w.rights.now) a.page b.page (h.apart left)
-      (All-contains (IsOwn left w) cs a own m t.term t.first) (All-contains (IsOwn left w) cs b own n t.term t.second) l;
-}
 
 pub no_items : (gs : List Game) (left : Bool) (g : Game) (us : List ℕ) → us ≡ [] → Bypassed gs left g [] [] us
 no_items gs left g us e = let P : List ℕ → Type 0 = λ z. Bypassed gs left g [] [] z in subst P (sym e) (bypassed_none gs left g [])

@@ -3,16 +3,18 @@ use Rattle.std.proofs.Common.{◌≡◌, refl, ℕ, zero, suc, ◌<◌, ◌≤�
 use Rattle.std.specs.List.{All, Contains}
 use Rattle.std.proofs.lemmas.Bool.Decides.{eqb_tells}
 use Rattle.std.proofs.lemmas.List.{drop-map, get_or-map, get_or_default, length-map, take-map}
-use Rattle.std.proofs.lemmas.List.Elements.{All-contains, Contains-append_right, Contains-get_or}
+use Rattle.std.proofs.lemmas.List.Elements.{All-cons, All-contains, All-weaker, Contains-append_right, Contains-get_or}
 use Rattle.cg_form.specs.Game.{Game}
 use Rattle.cg_form.specs.Order.{Le}
 use Rattle.cg_book.specs.declared.candidate.Candidate.{Candidate}
 use Rattle.cg_book.specs.declared.terms.FirstTerm.{FirstTerm}
 use Rattle.cg_book.specs.declared.terms.Term.{Term}
 use Rattle.cg_book.specs.declared.terms.Term.TheVariants.{First, Second}
-use Rattle.cg_book.specs.Candidates.{AreApartByTerm, AreCandidates, ComesFrom, alone, count_for, of_term, pages_of, same_term}
-use Rattle.cg_book.specs.Pages.{ArePages, game_of, games_of}
+use Rattle.cg_book.specs.Candidates.{AreAmong, AreApartByTerm, AreCandidates, ComesFrom, count_for, of_term, pages_of, same_term}
+use Rattle.cg_book.specs.Pages.{ArePages, IsPage, game_of, games_of}
 use Rattle.cg_book.specs.Terms.{NoneComparable, NoneComparableByTerm}
+use Rattle.cg_book.proofs.CandidateLaws.{pages_fewer}
+use Rattle.cg_book.proofs.Slices.{page_of_item}
 
 record Shared (x y : Option Term) : Type 0 where
   term : Term
@@ -29,7 +31,7 @@ shared (Some Second) (Some First) e = cc
 shared (Some Second) (Some Second) e = record { term = Second; first = refl; second = refl }
 
 -- two pages of a list whose games aren't comparable are the same where the game of the one is at most that of the other
-pub same_place : (gs : List Game) (ps : List ℕ) (a b : ℕ) → NoneComparable (games_of gs ps) → Contains ps a → Contains ps b
+same_place : (gs : List Game) (ps : List ℕ) (a b : ℕ) → NoneComparable (games_of gs ps) → Contains ps a → Contains ps b
     → Le (game_of gs a) (game_of gs b) → a ≡ b
 same_place gs ps a b none m n l = elim (eqb_tells m.0 n.0) [
   | inl same ↦
@@ -45,19 +47,39 @@ same_place gs ps a b none m n l = elim (eqb_tells m.0 n.0) [
       absurd (none.each m.0 n.0 d (omega (arith, m.1)) (omega (arith, n.1)) other.1 (subst Q (sym to) (subst P (sym at) l)))
 ]
 
-pub alone_own : (f : Option FirstTerm) (left : Bool) (options : List ℕ) (p : ℕ) → ComesFrom f left options (alone p)
-alone_own f left options p t e = cc
+-- ---- candidates of which each that has a term is one of the options of that term
 
--- what stands in the places of a sum's own options
-pub own_candidates : (gs : List Game) (f : Option FirstTerm) (ls rs : List ℕ) (left : Bool) (cs : List Candidate)
-    → AreApartByTerm gs f ls rs → ArePages gs (pages_of cs) → All (ComesFrom f left (cond left ls rs)) cs → AreCandidates gs cs
-own_candidates gs f ls rs left cs terms pages own = record {
-  pages = pages;
+abbrev IsFrom : (Term → List ℕ) → Candidate → Type 0
+IsFrom options c = (t : Term) → c.term ≡ Some t → Contains (options t) c.page
+
+pub record AreFrom (gs : List Game) (options : Term → List ℕ) (cs : List Candidate) : Type 0 where
+  pub pages : ArePages gs (pages_of cs)
+  pub own : All (IsFrom options) cs
+
+pub own_candidates : (gs : List Game) (options : Term → List ℕ) (cs : List Candidate)
+    → ((t : Term) → NoneComparable (games_of gs (options t))) → AreFrom gs options cs → AreCandidates gs cs
+own_candidates gs options cs apart h = record {
+  pages = h.pages;
   apart = λ a b m n e l.
       let t = shared a.term b.term e in
-      same_place gs (of_term f left (cond left ls rs) t.term) a.page b.page (terms.each left t.term)
-      (All-contains (ComesFrom f left (cond left ls rs)) cs a own m t.term t.first)
-      (All-contains (ComesFrom f left (cond left ls rs)) cs b own n t.term t.second) l;
+      same_place gs (options t.term) a.page b.page (apart t.term)
+      (All-contains (IsFrom options) cs a h.own m t.term t.first) (All-contains (IsFrom options) cs b h.own n t.term t.second) l;
+}
+
+-- with the candidate for the page at a place
+pub from_next : (gs : List Game) (options : Term → List ℕ) (ps : List ℕ) (i : ℕ) (x : Candidate) (cs : List Candidate)
+    → ArePages gs ps → i < length ps → x.page ≡ get_or ps i 0 → IsFrom options x → AreFrom gs options cs
+    → AreFrom gs options (x ∷ cs)
+from_next gs options ps i x cs a l e own h = record {
+  pages = All-cons (IsPage gs) x.page (pages_of cs) (page_of_item gs ps i x.page a l e) h.pages;
+  own = All-cons (IsFrom options) x cs own h.own;
+}
+
+pub from_fewer : (gs : List Game) (options : Term → List ℕ) (cs ds : List Candidate) → AreAmong cs ds → AreFrom gs options ds
+    → AreFrom gs options cs
+from_fewer gs options cs ds among h = record {
+  pages = pages_fewer gs cs ds among h.pages;
+  own = All-weaker (Contains ds) (IsFrom options) (λ c m. All-contains (IsFrom options) ds c h.own m) cs among;
 }
 
 -- a game that is no sum of two terms

@@ -1,15 +1,17 @@
 //! The best of the options of a game that may be a sum of two terms.
 ghost use Rattle.std.specs.Prelude.{◌≡◌, ◌<◌, ℕ, List, All, IfOk, cond, length, slice_index_or};
-ghost use Rattle.cg_book.specs.Candidates.{AreApartByTerm, ComesFrom, pages_of};
+ghost use Rattle.cg_book.specs.declared.terms.Term.{Term as Declared};
+ghost use Rattle.cg_book.specs.Candidates.{AreApartByTerm, ComesFrom, of_term, pages_of};
 ghost use Rattle.cg_book.specs.Pages.{ArePages, games_of};
 ghost use Rattle.cg_book.specs.Recents.{AreRight};
+ghost use Rattle.cg_book.specs.Terms.{NoneComparable};
 ghost use Rattle.cg_book.specs.Tops.{Tops};
 
-use crate::best::tops_of;
+use crate::best::{pages_in, tops_of, with_one};
 use crate::candidate::{Candidate, Candidates};
 use crate::pages::Pages;
 use crate::recent::Recent;
-use crate::substitutes::Options;
+use crate::substitutes::{FEW, Options};
 use crate::terms::{FirstTerm, Term};
 use crate::whole::chosen;
 use smallvec::SmallVec;
@@ -27,6 +29,18 @@ fn term_at(first_term: Option<FirstTerm>, left: bool, place: usize) -> Option<Te
     Some(Term::Second)
 }
 
+/// The player's option at this place, with the term that it comes from.
+fn with_term(first_term: Option<FirstTerm>, left: bool, place: usize, page: u32) -> Candidate
+    ensures page { result.page ≡ page }
+    ensures own { (options : List ℕ) → place < length options → page ≡ slice_index_or options place 0
+        → ComesFrom first_term left options result }
+{
+    Candidate {
+        page,
+        term: term_at(first_term, left, place),
+    }
+}
+
 /// The player's options, with the terms that they come from.
 fn with_terms(
     alloc: Global,
@@ -39,12 +53,33 @@ fn with_terms(
 {
     let mut all = SmallVec::new(alloc);
     for (place, option) in options.iter().enumerate() {
-        all.push(Candidate {
-            page: *option,
-            term: term_at(first_term, left, place),
-        })?;
+        all.push(with_term(first_term, left, place, *option))?;
     }
     Ok(all)
+}
+
+/// The best of few options, in no order: one after the other.
+fn own_tops_of_few(
+    alloc: Global,
+    pages: &Pages,
+    answers: &mut Recent,
+    left: bool,
+    options: &[u32],
+    first_term: Option<FirstTerm>,
+) -> Result<Options, AllocError>
+    requires options { ArePages pages.now options.now }
+    requires terms { (t : Declared) → NoneComparable (games_of pages.now (of_term first_term left options.now t)) }
+    requires right { AreRight pages.now answers.old }
+    ensures pages { IfOk result (λ r. ArePages pages.now r.items) }
+    ensures tops { IfOk result (λ r. Tops left (games_of pages.now options.now) (games_of pages.now r.items)) }
+    ensures right { AreRight pages.now answers.new }
+{
+    let mut best = SmallVec::new(alloc);
+    for (place, option) in options.iter().enumerate() {
+        let x = with_term(first_term, left, place, *option);
+        with_one(alloc, pages, answers, left, &mut best, &x)?;
+    }
+    pages_in(alloc, best.as_slice())
 }
 
 /// The best of the player's own options of a game with these options, in no order.
@@ -65,6 +100,10 @@ pub(crate) fn own_tops(
     ensures tops { IfOk result (λ r. Tops left (games_of pages.now (cond left lefts.now rights.now)) (games_of pages.now r.items)) }
     ensures right { AreRight pages.now answers.new }
 {
-    let own = with_terms(alloc, left, chosen(left, lefts, rights), first_term)?;
+    let options = chosen(left, lefts, rights);
+    if options.len() <= FEW {
+        return own_tops_of_few(alloc, pages, answers, left, options, first_term);
+    }
+    let own = with_terms(alloc, left, options, first_term)?;
     tops_of(alloc, pages, answers, left, own.as_slice())
 }

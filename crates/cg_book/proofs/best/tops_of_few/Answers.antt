@@ -16,7 +16,7 @@ loop-x-preserved c =
     let gs = c.args.pages.now in
     record {
       right = c.with_one.ensures.right;
-      tops = tops_next gs c.args.left (pages_of c.args.items.now) (games_of gs (pages_of c.loop-x.best.items)) (games_of gs (pages_of c.in_ok-best.best.items)) c.loop-x.x-index x.page
-          c.loop-x.invariant.tops next.within next.is c.in_ok-best.ensures.best;
-      among = among_next c.args.items.now c.loop-x.best.items c.in_ok-best.best.items x next.among c.loop-x.invariant.among c.in_ok-best.ensures.among;
+      tops = tops_next gs c.args.left (pages_of c.args.items.now) (games_of gs (pages_of c.loop-x.best.items)) (games_of gs (pages_of c.with_one.new.best.items)) c.loop-x.x-index x.page
+          c.loop-x.invariant.tops next.within next.is c.in_ok-with_one.ensures.best;
+      among = among_next c.args.items.now c.loop-x.best.items c.with_one.new.best.items x next.among c.loop-x.invariant.among c.in_ok-with_one.ensures.among;
     }

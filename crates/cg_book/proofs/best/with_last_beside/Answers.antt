@@ -4,11 +4,12 @@ use Rattle.cg_book.specs.Candidates.{AreAmong}
 use Rattle.cg_book.proofs.CandidateLaws.{among_behind, among_itself, among_pushed}
 use Rattle.cg_book.proofs.best.with_last_beside.Goals as goal
 
-pub returns-then-branch-clause-among : goal.returns-then-branch-clause-among
-returns-then-branch-clause-among c =
-    let P : List Candidate → Type 0 = λ z. AreAmong c.in_ok-rest.rest.items z in
-    among_pushed c.args.x.now c.in_ok-rest.rest.items c.args.best.items c.push.new.self.items
-    (subst P c.as_slice-then-branch.ensures c.in_ok-rest.ensures.among) c.in_ok-push.ensures.ok
+pub returns-in_ok-push-clause-among : goal.returns-in_ok-push-clause-among
+returns-in_ok-push-clause-among c =
+    let P : List Candidate → Type 0 = λ z. AreAmong c.in_ok-best.field-0.items z in
+    among_pushed c.args.x.now c.in_ok-best.field-0.items c.args.best.now.items c.push.new.self.items
+    (subst P c.as_slice-then-branch.ensures c.in_ok-best.ensures.among) c.in_ok-push.ensures.ok
 
-pub returns-clause-among : goal.returns-clause-among
-returns-clause-among c = among_behind c.args.x.now c.args.best.items c.args.best.items (among_itself c.args.best.items)
+pub returns-else-branch-clause-among : goal.returns-else-branch-clause-among
+returns-else-branch-clause-among c =
+    among_behind c.args.x.now c.args.best.now.items c.args.best.now.items (among_itself c.args.best.now.items)

@@ -1,9 +1,10 @@
-use Rattle.std.proofs.Common.{List, ap, refl, subst, sym}
+use Rattle.std.proofs.Common.{List, ap, cond, refl, subst, sym}
 use Rattle.cg_book.specs.declared.candidate.Candidate.{Candidate}
 use Rattle.cg_book.specs.Candidates.{AreCandidates, pages_of}
 use Rattle.cg_book.specs.Wholes.{whole_game}
-use Rattle.cg_book.proofs.Bypassing.{bypassed_more, no_items, no_substitutes, own_candidates, own_less, whole_pages}
+use Rattle.cg_book.proofs.Bypassing.{bypassed_more, no_items, no_substitutes, own_less, whole_pages}
 use Rattle.cg_book.proofs.Slices.{page_of_item}
+use Rattle.cg_book.proofs.TermLaws.{own_candidates}
 use Rattle.cg_book.proofs.bypass.candidates.Goals as goal
 
 pub bypass_own-requires-clause-option : goal.bypass_own-requires-clause-option
@@ -39,5 +40,7 @@ loop-own-preserved c = record {
 pub returns-clause-candidates : goal.returns-clause-candidates
 returns-clause-candidates c =
     let P : List Candidate → Type 0 = λ z. AreCandidates c.args.pages.now z in
-    subst P (sym c.into_items.ensures) (own_candidates c.args.pages.now c.args.left c.args.whole.now c.loop-own.all.items.items
-    c.requires.whole c.loop-own.invariant.out.pages c.loop-own.invariant.out.own)
+    let out = c.loop-own.invariant.out in
+    subst P (sym c.into_items.ensures)
+    (own_candidates c.args.pages.now (λ _. cond c.args.left c.args.whole.now.lefts.now c.args.whole.now.rights.now) c.loop-own.all.items.items
+    (λ _. c.requires.whole.apart c.args.left) (record { pages = out.pages; own = out.own }))
