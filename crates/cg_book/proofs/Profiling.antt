@@ -1,19 +1,18 @@
 -- Profiles from those of the options.
-use Rattle.std.proofs.Common.{◌≡◌, refl, ℕ, ◌+◌, ◌-◌, ◌≤◌, ◌^◌, arith, ap, sym, ◌∙◌, subst, List, [], ◌∷◌, ◌++◌, length, length-append, Bool, true, false, not, ◌&&◌, max, rules}
+use Rattle.std.proofs.Common.{◌≡◌, refl, ℕ, ◌+◌, ◌-◌, ◌≤◌, ◌^◌, arith, ap, sym, ◌∙◌, subst, List, [], ◌∷◌, ◌++◌, length, Bool, true, false, not, ◌&&◌, max, rules}
 use Rattle.std.specs.Prelude.{Option, Some, IsSome}
 use Rattle.cg_dyadic.specs.declared.cut.Cut.{Cut}
 use Rattle.cg_dyadic.specs.Cut.{in_gap}
 use Rattle.cg_dyadic.specs.Number.{InRange, Number}
 use Rattle.cg_dyadic.proofs.Strict.{gap_ends}
 use Rattle.cg_dyadic.proofs.Truth.{false-from}
-use Rattle.cg_form.specs.Cut.{AnyNumber, CutIs, CutOf, Joined, Turned, other_cut}
+use Rattle.cg_form.specs.Cut.{AnyNumber, CutIs, CutOf, Turned, other_cut}
 use Rattle.cg_form.specs.Depth.{deepest, depth_of}
 use Rattle.cg_form.specs.Game.{Game, lefts, node, number, rights}
 use Rattle.cg_form.specs.Order.{no_one}
-use Rattle.cg_form.specs.Side.{at_most}
 use Rattle.cg_form.specs.Simple.{NoNumber}
 use Rattle.cg_form.proofs.Among.{lefts-node, rights-node}
-use Rattle.cg_form.proofs.Cut.{any-closed, cut-number, gap-fits, joined_more}
+use Rattle.cg_form.proofs.Cut.{any-closed, cut-number, gap-fits}
 use Rattle.cg_form.proofs.CutSteps.{cut_of_none}
 use Rattle.cg_form.proofs.Preorder.{equal_refl}
 use Rattle.cg_form.proofs.Simplicity.{none_fits}
@@ -52,31 +51,13 @@ no_one-last p (h ∷ gs) g = ap (λ b. not (p h) && b) (no_one-last p gs g) ∙ 
     join true b c = refl
     join false b c = refl
 
-deepest-last : (gs : List Game) (g : Game) → deepest (gs ++ g ∷ []) ≡ max (deepest gs) (depth_of g)
+pub deepest-last : (gs : List Game) (g : Game) → deepest (gs ++ g ∷ []) ≡ max (deepest gs) (depth_of g)
 deepest-last [] g = omega arith
 deepest-last (h ∷ gs) g = omega (arith, deepest-last gs g)
 
 pub profile_cut : (s : Bool) (g : Game) (p : Profile) → IsProfile g p → CutIs AnyNumber s (chosen_cut s p.low p.high) g
 profile_cut true g p h = h.cuts.low
 profile_cut false g p h = h.cuts.high
-
-pub outline_more : (s : Bool) (gs : List Game) (g : Game) (o : Outline) (p : Profile) (c r : Cut) (d n : ℕ)
-    → c ≡ chosen_cut s p.low p.high → Joined s o.cut c r → d ≡ max o.deepest p.depth → n ≡ o.count + 1 → n ≤ 2 ^ 32
-    → IsOutline s gs o → IsProfile g p → IsOutline s (gs ++ g ∷ []) (record { cut = Some r; deepest = d; count = n })
-outline_more s gs g o p c r d n e j deep more few a b =
-    let P : Cut → Type 0 = λ z. CutIs AnyNumber s z g in
-    let one : CutIs AnyNumber s c g = subst P (sym e) (profile_cut s g p b) in
-    record {
-      cut = record {
-        tells = λ x k.
-            no_one-last (λ a. at_most s (number x) a) gs g
-            ∙ joined_more s x o.cut c r (no_one (λ a. at_most s (number x) a) gs) (at_most s (number x) g) (a.cut.tells x k)
-            (one.tells x k) j;
-      };
-      deepest = omega (arith, deepest-last gs g, a.deepest, b.depth);
-      count = omega (arith, length-append gs (g ∷ []), a.count);
-      few = few;
-    }
 
 -- ---- a game that equals no number
 
