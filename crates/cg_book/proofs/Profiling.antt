@@ -9,18 +9,20 @@ use Rattle.cg_dyadic.proofs.Truth.{false-from}
 use Rattle.cg_form.specs.Cut.{AnyNumber, CutIs, CutOf, Turned, other_cut}
 use Rattle.cg_form.specs.Depth.{deepest, depth_of}
 use Rattle.cg_form.specs.Game.{Game, lefts, node, number, rights}
-use Rattle.cg_form.specs.Order.{no_one}
+use Rattle.cg_form.specs.Order.{Equal, no_one}
+use Rattle.cg_form.specs.Side.{at_most}
 use Rattle.cg_form.specs.Simple.{NoNumber}
 use Rattle.cg_form.proofs.Among.{lefts-node, rights-node}
-use Rattle.cg_form.proofs.Cut.{any-closed, cut-number, gap-fits}
+use Rattle.cg_form.proofs.Cut.{any-closed, cut-number, gap-fits, same_when}
 use Rattle.cg_form.proofs.CutSteps.{cut_of_none}
 use Rattle.cg_form.proofs.Preorder.{equal_refl}
+use Rattle.cg_form.proofs.Sides.{side_equal, side_trans}
 use Rattle.cg_form.proofs.Simplicity.{none_fits}
 use Rattle.cg_nodes.specs.Longs.{cells_of}
 use Rattle.cg_nodes.proofs.LongSteps.{few_cells}
 use Rattle.cg_book.specs.declared.profile.Outline.{Outline}
 use Rattle.cg_book.specs.declared.profile.Profile.{Profile}
-use Rattle.cg_book.specs.Profiles.{IsOutline, IsProfile, chosen_cut}
+use Rattle.cg_book.specs.Profiles.{HasCuts, IsOutline, IsProfile, chosen_cut}
 
 -- ---- a number
 
@@ -87,6 +89,21 @@ none_passes ls rs o q never l h x =
     false-from (in_gap o q x) (λ t. none_fits (node ls rs) never x
     (gap-fits AnyNumber (node ls rs) o q (subst P (sym (lefts-node ls rs)) l) (subst Q (sym (rights-node ls rs)) h) x tt t))
 
+-- from its cuts, and the depths and lengths of its lists
+pub profile_from_cuts : (ls rs : List Game) (p : Profile) (depth first second : ℕ) → HasCuts (node ls rs) p
+    → depth ≡ max (deepest ls) (deepest rs) + 1 → first ≡ length ls + 1 → second ≡ length rs + 1 → first ≤ 2 ^ 32
+    → second ≤ 2 ^ 32 → IsProfile (node ls rs) (record { low = p.low; high = p.high; depth = depth; cost = first + second - 1 })
+profile_from_cuts ls rs p depth first second cuts deep one two few less =
+    let nl : length (lefts (node ls rs)) ≡ length ls = ap length (lefts-node ls rs) in
+    let nr : length (rights (node ls rs)) ≡ length rs = ap length (rights-node ls rs) in
+    record {
+      cuts = record { low = cuts.low; high = cuts.high };
+      depth = omega arith;
+      cost = omega (arith, nl, nr);
+      small = omega arith;
+      in_range = tt;
+    }
+
 pub between_profile : (ls rs : List Game) (a b : Outline) (low high c d : Cut) (depth first second : ℕ)
     → a.cut ≡ Some low → b.cut ≡ Some high → Turned (other_cut true low high) c → Turned (other_cut false low high) d
     → depth ≡ max a.deepest b.deepest + 1 → first ≡ a.count + 1 → second ≡ b.count + 1 → first ≤ 2 ^ 32 → second ≤ 2 ^ 32
@@ -98,15 +115,24 @@ between_profile ls rs a b low high c d depth first second e f t u deep one two f
     let kl : CutOf AnyNumber true (Some low) ls = subst P e l.cut in
     let kr : CutOf AnyNumber false (Some high) rs = subst Q f r.cut in
     let none = none_passes ls rs (Some low) (Some high) never kl kr in
-    let nl : length (lefts (node ls rs)) ≡ length ls = ap length (lefts-node ls rs) in
-    let nr : length (rights (node ls rs)) ≡ length rs = ap length (rights-node ls rs) in
-    record {
-      cuts = record {
-        low = cut_of_none AnyNumber any-closed true ls rs low high c kl kr (λ x p. none x) t;
-        high = cut_of_none AnyNumber any-closed false ls rs low high d kl kr (λ x p. none x) u;
-      };
-      depth = omega (arith, l.deepest, r.deepest);
-      cost = omega (arith, nl, nr, l.count, r.count);
-      small = omega arith;
-      in_range = tt;
-    }
+    let p : Profile = record { low = c; high = d; depth = depth; cost = first + second - 1 } in
+    profile_from_cuts ls rs p depth first second
+    (record {
+      low = cut_of_none AnyNumber any-closed true ls rs low high c kl kr (λ x p. none x) t;
+      high = cut_of_none AnyNumber any-closed false ls rs low high d kl kr (λ x p. none x) u;
+    })
+    (omega (arith, l.deepest, r.deepest)) (omega (arith, l.count)) (omega (arith, r.count)) few less
+
+-- ---- an equal game
+
+equal_cut : (s : Bool) (g h : Game) (c : Cut) → Equal h g → CutIs AnyNumber s c g → CutIs AnyNumber s c h
+equal_cut s g h c e k = record {
+  tells = λ x y.
+      same_when (at_most s (number x) h) (at_most s (number x) g)
+      (λ t. side_trans s (number x) h g t (side_equal s h g e))
+      (λ t. side_trans s (number x) g h t (side_equal s g h (e.1, e.0)))
+      ∙ k.tells x y;
+}
+
+pub equal_cuts : (g h : Game) (p : Profile) → Equal h g → HasCuts g p → HasCuts h p
+equal_cuts g h p e k = record { low = equal_cut true g h p.low e k.low; high = equal_cut false g h p.high e k.high }

@@ -12,12 +12,9 @@ ghost use Rattle.cg_book.specs.Told.{NoFurther};
 
 use crate::keys::Keys;
 use crate::pages::Pages;
-use crate::profile::Outline;
+use crate::profile::{MOST, Outline};
 use cg_dyadic::cut::Cut;
 use std::alloc::AllocError;
-
-/// The greatest length of a list that is counted.
-const MOST: usize = 4_294_967_296;
 
 /// Whether some number that is no better for the player than the first game is better than the second.
 #[inline]
@@ -46,7 +43,7 @@ fn cut_of(pages: &Pages, left: bool, options: &[u32]) -> Option<Cut>
 }
 
 /// The greatest depth of an option, and 0 where there is none.
-fn deepest_of(pages: &Pages, options: &[u32]) -> u64
+pub(crate) fn deepest_of(pages: &Pages, options: &[u32]) -> u64
     requires { ArePages pages.now options.now }
     ensures { result ≡ deepest (games_of pages.now options.now) }
 {
@@ -62,12 +59,13 @@ pub(crate) fn outline_of(pages: &Pages, left: bool, options: &[u32]) -> Result<O
     requires { ArePages pages.now options.now }
     ensures { IfOk result (λ o. IsOutline left (games_of pages.now options.now) o) }
 {
-    if options.len() > MOST {
+    let count = options.len() as u64;
+    if count > MOST {
         return Err(AllocError);
     }
     Ok(Outline {
         cut: cut_of(pages, left, options),
         deepest: deepest_of(pages, options),
-        count: options.len() as u64,
+        count,
     })
 }

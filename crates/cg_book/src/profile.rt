@@ -34,11 +34,11 @@ pub struct Outline {
 }
 
 /// The greatest depth and length that are counted.
-const MOST: u64 = 4_294_967_296;
+pub(crate) const MOST: u64 = 4_294_967_296;
 
 /// One more, up to 2^32. A list has fewer options than its table has cells, and no game is deeper than that; where one were
 /// not so, there would be no memory for it.
-fn one_more(count: u64) -> Result<u64, AllocError>
+pub(crate) fn one_more(count: u64) -> Result<u64, AllocError>
     ensures ok { IfOk result (λ n. (n ≡ count + 1) × (n ≤ 2 ^ 32)) }
     ensures err { OnErr result (2 ^ 32 ≤ count) }
 {
