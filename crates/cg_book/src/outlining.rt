@@ -16,7 +16,7 @@ use crate::profile::{MOST, Outline};
 use cg_dyadic::cut::Cut;
 use std::alloc::AllocError;
 
-/// Whether some number that is no better for the player than the first game is better than the second.
+/// Whether more numbers are no better for the player than the first game than are no better than the second.
 #[inline]
 fn reaches_past(left: bool, a: &Keys, b: &Keys) -> bool
     ensures past { (g h : Game) → HasKeys g a.now → HasKeys h b.now → IsTrue result → NoFurther left h g }
