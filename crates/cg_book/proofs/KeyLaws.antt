@@ -1,5 +1,6 @@
 -- What keys tell of two cuts, and of the order of two games.
-use Rattle.std.proofs.Common.{◌≡◌, refl, ap, sym, ◌∙◌, subst, arith, ◌^◌, ◌<◌, Bool, true, false, not, IsTrue, ℤ, ◌≤ℤ◌, ◌<ℤ◌, unsigned_abs}
+use Rattle.std.proofs.Common.{◌≡◌, refl, ap, sym, ◌∙◌, subst, arith, ◌^◌, ◌<◌, Bool, true, false, not, ◌||◌, IsTrue, ℤ, ◌≤ℤ◌, ◌<ℤ◌, unsigned_abs}
+use Rattle.std.proofs.Math.Bool.{or-true}
 use Rattle.std.proofs.lemmas.Int.{ints}
 use mir.Syntax.{w128}
 use mir.Val.{to_z, of_z}
@@ -8,16 +9,17 @@ use Rattle.cg_dyadic.specs.declared.cut.Cut.{Cut}
 use Rattle.cg_dyadic.specs.Number.{InRange, Number, number_le}
 use Rattle.cg_dyadic.specs.Units.{units}
 use Rattle.cg_dyadic.specs.Wide.{places}
-use Rattle.cg_dyadic.proofs.Integers.{from_lt_z}
+use Rattle.cg_dyadic.proofs.Integers.{from_lt_z, not_lt_z}
 use Rattle.cg_dyadic.proofs.Scale.{le-units, units-le}
 use Rattle.cg_dyadic.proofs.Truth.{false-from}
 use Rattle.cg_dyadic.proofs.Wides.{places-enough, units-in_range, wide_word}
-use Rattle.cg_form.specs.Cut.{within_cut}
+use Rattle.cg_form.specs.Cut.{AnyNumber, CutIs, covers, covers_at, in_cut, within_cut}
 use Rattle.cg_form.specs.Game.{Game}
 use Rattle.cg_form.specs.Order.{le}
+use Rattle.cg_form.proofs.Cut.{joined_kept}
 use Rattle.cg_book.specs.declared.keys.Keys.{Keys}
 use Rattle.cg_book.specs.Keys.{HasKeys, key_of}
-use Rattle.cg_book.specs.Told.{GoesPast, Meet}
+use Rattle.cg_book.specs.Told.{GoesPast, Meet, NoFurther}
 use Rattle.cg_book.proofs.Telling.{above_first, above_second, between, meet_between, meet_high, meet_low, past_closed, past_open}
 
 -- ---- numbers by their units
@@ -86,24 +88,34 @@ meet high low false false e f r q h =
 
 -- ---- words of 128 bits
 
-word_of : (k : ℤ) (x : Number) (b : Bool) → k ≡ key_of x b → InRange x → to_z w128 (of_z w128 k) ≡ k
+-- the number that the word for a number stands for
+abbrev pub as_word : ℤ → ℤ
+as_word m = to_z w128 (of_z w128 m)
+
+word_of : (k : ℤ) (x : Number) (b : Bool) → k ≡ key_of x b → InRange x → as_word k ≡ k
 word_of k x b e r = wide_word k (small b e)
   where
     small : (c : Bool) → k ≡ key_of x c → unsigned_abs k < 2 ^ 126
     small true f = let u = units-in_range x r in omega (arith, ints)
     small false f = let u = units-in_range x r in omega (arith, ints)
 
+compared_as_words : (m n : ℤ) → as_word m ≡ m → as_word n ≡ n → lt_z m n ≡ lt_z (as_word m) (as_word n)
+compared_as_words m n e f = ap (λ z. lt_z z n) (sym e) ∙ ap (lt_z (as_word m)) (sym f)
+
 -- two keys that were compared as words
 less : (m n : ℤ) (x y : Number) (b c : Bool) → m ≡ key_of x b → n ≡ key_of y c → InRange x → InRange y
-    → lt_z (to_z w128 (of_z w128 m)) (to_z w128 (of_z w128 n)) ≡ true → key_of x b <ℤ key_of y c
+    → lt_z (as_word m) (as_word n) ≡ true → key_of x b <ℤ key_of y c
 less m n x y b c e f r q h =
     let P : ℤ → Type 0 = λ z. z <ℤ key_of y c in
     let Q : ℤ → Type 0 = λ z. m <ℤ z in
     subst P e (subst Q f (from_lt_z m n
-    (ap (λ z. lt_z z n) (sym (word_of m x b e r)) ∙ ap (lt_z (to_z w128 (of_z w128 m))) (sym (word_of n y c f q)) ∙ h)))
+    (compared_as_words m n (word_of m x b e r) (word_of n y c f q) ∙ h)))
 
 abbrev pub IsLess : ℤ → ℤ → Type 0
-IsLess m n = lt_z (to_z w128 (of_z w128 m)) (to_z w128 (of_z w128 n)) ≡ true
+IsLess m n = lt_z (as_word m) (as_word n) ≡ true
+
+abbrev pub IsNotLess : ℤ → ℤ → Type 0
+IsNotLess m n = lt_z (as_word m) (as_word n) ≡ false
 
 -- ---- two games
 
@@ -127,3 +139,69 @@ told_between a b g h p q l =
     (meet p.profile.high q.profile.low p.profile.high.closed q.profile.low.closed refl refl p.keys.high_in_range q.keys.low_in_range
     (less a.high b.low p.profile.high.at q.profile.low.at (not p.profile.high.closed) q.profile.low.closed p.keys.high q.keys.low
     p.keys.high_in_range q.keys.low_in_range l))
+
+-- ---- a game that reaches no further than another
+
+covers_low : (x y : Number) (c d : Bool) → InRange x → InRange y → key_of y d ≤ℤ key_of x c → IsTrue (covers_at true x c y d)
+covers_low x y true true r q h = is_le y x q r (omega (arith, ints))
+covers_low x y false true r q h = ap not (not_le x y r q (omega (arith, ints)))
+covers_low x y true false r q h = is_le y x q r (omega (arith, ints))
+covers_low x y false false r q h = is_le y x q r (omega (arith, ints))
+
+covers_high : (x y : Number) (c d : Bool) → InRange x → InRange y → key_of x (not c) ≤ℤ key_of y (not d)
+    → IsTrue (covers_at false x c y d)
+covers_high x y true true r q h = is_le x y r q (omega (arith, ints))
+covers_high x y false true r q h = ap not (not_le y x q r (omega (arith, ints)))
+covers_high x y true false r q h = is_le x y r q (omega (arith, ints))
+covers_high x y false false r q h = is_le x y r q (omega (arith, ints))
+
+no_further : (s : Bool) (a b : Cut) (g h : Game) → CutIs AnyNumber s a g → CutIs AnyNumber s b h → IsTrue (covers s b a)
+    → NoFurther s g h
+no_further s a b g h p q k = λ x l.
+    q.tells x tt ∙ (joined_kept s b a k).both x ∙ ap (λ z. in_cut s b x || z) (sym (p.tells x tt) ∙ l) ∙ or-true (in_cut s b x)
+
+no_further_low : (a b : Keys) (g h : Game) → HasKeys g a → HasKeys h b → a.low ≤ℤ b.low → NoFurther true g h
+no_further_low a b g h p q l =
+    no_further true p.profile.low q.profile.low g h p.cuts.low q.cuts.low
+    (covers_low q.profile.low.at p.profile.low.at q.profile.low.closed p.profile.low.closed q.keys.low_in_range p.keys.low_in_range
+    (let P : ℤ → Type 0 = λ z. z ≤ℤ key_of q.profile.low.at q.profile.low.closed in
+    let Q : ℤ → Type 0 = λ z. a.low ≤ℤ z in subst P p.keys.low (subst Q q.keys.low l)))
+
+no_further_high : (a b : Keys) (g h : Game) → HasKeys g a → HasKeys h b → b.high ≤ℤ a.high → NoFurther false g h
+no_further_high a b g h p q l =
+    no_further false p.profile.high q.profile.high g h p.cuts.high q.cuts.high
+    (covers_high q.profile.high.at p.profile.high.at q.profile.high.closed p.profile.high.closed q.keys.high_in_range p.keys.high_in_range
+    (let P : ℤ → Type 0 = λ z. z ≤ℤ key_of p.profile.high.at (not p.profile.high.closed) in
+    let Q : ℤ → Type 0 = λ z. b.high ≤ℤ z in subst P q.keys.high (subst Q p.keys.high l)))
+
+low_word : (a : Keys) (g : Game) → HasKeys g a → as_word a.low ≡ a.low
+low_word a g p = word_of a.low p.profile.low.at p.profile.low.closed p.keys.low p.keys.low_in_range
+
+high_word : (a : Keys) (g : Game) → HasKeys g a → as_word a.high ≡ a.high
+high_word a g p = word_of a.high p.profile.high.at (not p.profile.high.closed) p.keys.high p.keys.high_in_range
+
+is_at_most : (m n : ℤ) → as_word m ≡ m → as_word n ≡ n → IsLess m n → m ≤ℤ n
+is_at_most m n e f h = let l = from_lt_z m n (compared_as_words m n e f ∙ h) in omega (arith, ints)
+
+is_at_least : (m n : ℤ) → as_word m ≡ m → as_word n ≡ n → IsNotLess m n → n ≤ℤ m
+is_at_least m n e f h = not_lt_z m n (compared_as_words m n e f ∙ h)
+
+pub less_low : (s : Bool) (a b : Keys) (g h : Game) → s ≡ true → HasKeys g a → HasKeys h b → IsLess a.low b.low
+    → NoFurther s g h
+less_low true a b g h e p q l = no_further_low a b g h p q (is_at_most a.low b.low (low_word a g p) (low_word b h q) l)
+less_low false a b g h e p q l = absurd (cc)
+
+pub not_less_low : (s : Bool) (a b : Keys) (g h : Game) → s ≡ true → HasKeys g a → HasKeys h b → IsNotLess b.low a.low
+    → NoFurther s g h
+not_less_low true a b g h e p q l = no_further_low a b g h p q (is_at_least b.low a.low (low_word b h q) (low_word a g p) l)
+not_less_low false a b g h e p q l = absurd (cc)
+
+pub less_high : (s : Bool) (a b : Keys) (g h : Game) → s ≡ false → HasKeys g a → HasKeys h b → IsLess b.high a.high
+    → NoFurther s g h
+less_high false a b g h e p q l = no_further_high a b g h p q (is_at_most b.high a.high (high_word b h q) (high_word a g p) l)
+less_high true a b g h e p q l = absurd (cc)
+
+pub not_less_high : (s : Bool) (a b : Keys) (g h : Game) → s ≡ false → HasKeys g a → HasKeys h b → IsNotLess a.high b.high
+    → NoFurther s g h
+not_less_high false a b g h e p q l = no_further_high a b g h p q (is_at_least a.high b.high (high_word a g p) (high_word b h q) l)
+not_less_high true a b g h e p q l = absurd (cc)

@@ -1,27 +1,28 @@
 -- Profiles from those of the options.
-use Rattle.std.proofs.Common.{◌≡◌, refl, ℕ, ◌+◌, ◌-◌, ◌≤◌, ◌^◌, arith, ap, sym, ◌∙◌, subst, List, [], ◌∷◌, ◌++◌, length, length-append, Bool, true, false, not, ◌&&◌, max, rules}
+use Rattle.std.proofs.Common.{◌≡◌, refl, ℕ, ◌+◌, ◌-◌, ◌≤◌, ◌^◌, arith, ap, sym, ◌∙◌, subst, List, [], ◌∷◌, ◌++◌, length, Bool, true, false, not, ◌&&◌, max, rules}
 use Rattle.std.specs.Prelude.{Option, Some, IsSome}
 use Rattle.cg_dyadic.specs.declared.cut.Cut.{Cut}
 use Rattle.cg_dyadic.specs.Cut.{in_gap}
 use Rattle.cg_dyadic.specs.Number.{InRange, Number}
 use Rattle.cg_dyadic.proofs.Strict.{gap_ends}
 use Rattle.cg_dyadic.proofs.Truth.{false-from}
-use Rattle.cg_form.specs.Cut.{AnyNumber, CutIs, CutOf, Joined, Turned, other_cut}
+use Rattle.cg_form.specs.Cut.{AnyNumber, CutIs, CutOf, Turned, other_cut}
 use Rattle.cg_form.specs.Depth.{deepest, depth_of}
 use Rattle.cg_form.specs.Game.{Game, lefts, node, number, rights}
-use Rattle.cg_form.specs.Order.{no_one}
+use Rattle.cg_form.specs.Order.{Equal, no_one}
 use Rattle.cg_form.specs.Side.{at_most}
 use Rattle.cg_form.specs.Simple.{NoNumber}
 use Rattle.cg_form.proofs.Among.{lefts-node, rights-node}
-use Rattle.cg_form.proofs.Cut.{any-closed, cut-number, gap-fits, joined_more}
+use Rattle.cg_form.proofs.Cut.{any-closed, cut-number, gap-fits, same_when}
 use Rattle.cg_form.proofs.CutSteps.{cut_of_none}
 use Rattle.cg_form.proofs.Preorder.{equal_refl}
+use Rattle.cg_form.proofs.Sides.{side_equal, side_trans}
 use Rattle.cg_form.proofs.Simplicity.{none_fits}
 use Rattle.cg_nodes.specs.Longs.{cells_of}
 use Rattle.cg_nodes.proofs.LongSteps.{few_cells}
 use Rattle.cg_book.specs.declared.profile.Outline.{Outline}
 use Rattle.cg_book.specs.declared.profile.Profile.{Profile}
-use Rattle.cg_book.specs.Profiles.{IsOutline, IsProfile, chosen_cut}
+use Rattle.cg_book.specs.Profiles.{HasCuts, IsOutline, IsProfile, chosen_cut}
 
 -- ---- a number
 
@@ -52,31 +53,13 @@ no_one-last p (h ∷ gs) g = ap (λ b. not (p h) && b) (no_one-last p gs g) ∙ 
     join true b c = refl
     join false b c = refl
 
-deepest-last : (gs : List Game) (g : Game) → deepest (gs ++ g ∷ []) ≡ max (deepest gs) (depth_of g)
+pub deepest-last : (gs : List Game) (g : Game) → deepest (gs ++ g ∷ []) ≡ max (deepest gs) (depth_of g)
 deepest-last [] g = omega arith
 deepest-last (h ∷ gs) g = omega (arith, deepest-last gs g)
 
 pub profile_cut : (s : Bool) (g : Game) (p : Profile) → IsProfile g p → CutIs AnyNumber s (chosen_cut s p.low p.high) g
 profile_cut true g p h = h.cuts.low
 profile_cut false g p h = h.cuts.high
-
-pub outline_more : (s : Bool) (gs : List Game) (g : Game) (o : Outline) (p : Profile) (c r : Cut) (d n : ℕ)
-    → c ≡ chosen_cut s p.low p.high → Joined s o.cut c r → d ≡ max o.deepest p.depth → n ≡ o.count + 1 → n ≤ 2 ^ 32
-    → IsOutline s gs o → IsProfile g p → IsOutline s (gs ++ g ∷ []) (record { cut = Some r; deepest = d; count = n })
-outline_more s gs g o p c r d n e j deep more few a b =
-    let P : Cut → Type 0 = λ z. CutIs AnyNumber s z g in
-    let one : CutIs AnyNumber s c g = subst P (sym e) (profile_cut s g p b) in
-    record {
-      cut = record {
-        tells = λ x k.
-            no_one-last (λ a. at_most s (number x) a) gs g
-            ∙ joined_more s x o.cut c r (no_one (λ a. at_most s (number x) a) gs) (at_most s (number x) g) (a.cut.tells x k)
-            (one.tells x k) j;
-      };
-      deepest = omega (arith, deepest-last gs g, a.deepest, b.depth);
-      count = omega (arith, length-append gs (g ∷ []), a.count);
-      few = few;
-    }
 
 -- ---- a game that equals no number
 
@@ -106,6 +89,21 @@ none_passes ls rs o q never l h x =
     false-from (in_gap o q x) (λ t. none_fits (node ls rs) never x
     (gap-fits AnyNumber (node ls rs) o q (subst P (sym (lefts-node ls rs)) l) (subst Q (sym (rights-node ls rs)) h) x tt t))
 
+-- from its cuts, and the depths and lengths of its lists
+pub profile_from_cuts : (ls rs : List Game) (p : Profile) (depth first second : ℕ) → HasCuts (node ls rs) p
+    → depth ≡ max (deepest ls) (deepest rs) + 1 → first ≡ length ls + 1 → second ≡ length rs + 1 → first ≤ 2 ^ 32
+    → second ≤ 2 ^ 32 → IsProfile (node ls rs) (record { low = p.low; high = p.high; depth = depth; cost = first + second - 1 })
+profile_from_cuts ls rs p depth first second cuts deep one two few less =
+    let nl : length (lefts (node ls rs)) ≡ length ls = ap length (lefts-node ls rs) in
+    let nr : length (rights (node ls rs)) ≡ length rs = ap length (rights-node ls rs) in
+    record {
+      cuts = record { low = cuts.low; high = cuts.high };
+      depth = omega arith;
+      cost = omega (arith, nl, nr);
+      small = omega arith;
+      in_range = tt;
+    }
+
 pub between_profile : (ls rs : List Game) (a b : Outline) (low high c d : Cut) (depth first second : ℕ)
     → a.cut ≡ Some low → b.cut ≡ Some high → Turned (other_cut true low high) c → Turned (other_cut false low high) d
     → depth ≡ max a.deepest b.deepest + 1 → first ≡ a.count + 1 → second ≡ b.count + 1 → first ≤ 2 ^ 32 → second ≤ 2 ^ 32
@@ -117,15 +115,24 @@ between_profile ls rs a b low high c d depth first second e f t u deep one two f
     let kl : CutOf AnyNumber true (Some low) ls = subst P e l.cut in
     let kr : CutOf AnyNumber false (Some high) rs = subst Q f r.cut in
     let none = none_passes ls rs (Some low) (Some high) never kl kr in
-    let nl : length (lefts (node ls rs)) ≡ length ls = ap length (lefts-node ls rs) in
-    let nr : length (rights (node ls rs)) ≡ length rs = ap length (rights-node ls rs) in
-    record {
-      cuts = record {
-        low = cut_of_none AnyNumber any-closed true ls rs low high c kl kr (λ x p. none x) t;
-        high = cut_of_none AnyNumber any-closed false ls rs low high d kl kr (λ x p. none x) u;
-      };
-      depth = omega (arith, l.deepest, r.deepest);
-      cost = omega (arith, nl, nr, l.count, r.count);
-      small = omega arith;
-      in_range = tt;
-    }
+    let p : Profile = record { low = c; high = d; depth = depth; cost = first + second - 1 } in
+    profile_from_cuts ls rs p depth first second
+    (record {
+      low = cut_of_none AnyNumber any-closed true ls rs low high c kl kr (λ x p. none x) t;
+      high = cut_of_none AnyNumber any-closed false ls rs low high d kl kr (λ x p. none x) u;
+    })
+    (omega (arith, l.deepest, r.deepest)) (omega (arith, l.count)) (omega (arith, r.count)) few less
+
+-- ---- an equal game
+
+equal_cut : (s : Bool) (g h : Game) (c : Cut) → Equal h g → CutIs AnyNumber s c g → CutIs AnyNumber s c h
+equal_cut s g h c e k = record {
+  tells = λ x y.
+      same_when (at_most s (number x) h) (at_most s (number x) g)
+      (λ t. side_trans s (number x) h g t (side_equal s h g e))
+      (λ t. side_trans s (number x) g h t (side_equal s g h (e.1, e.0)))
+      ∙ k.tells x y;
+}
+
+pub equal_cuts : (g h : Game) (p : Profile) → Equal h g → HasCuts g p → HasCuts h p
+equal_cuts g h p e k = record { low = equal_cut true g h p.low e k.low; high = equal_cut false g h p.high e k.high }

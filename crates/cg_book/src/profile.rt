@@ -1,5 +1,5 @@
 //! What is known of a game besides its order with other games.
-ghost use Rattle.std.specs.Prelude.{◌≡◌, ◌≤◌, ◌+◌, ◌^◌, ◌⊎◌, [], ◌∷◌, ◌++◌, List, Bool, true, false, max, IfOk, IsSome, OnErr};
+ghost use Rattle.std.specs.Prelude.{◌≡◌, ◌≤◌, ◌+◌, ◌^◌, ◌⊎◌, List, true, false, max, IfOk, IsSome, OnErr};
 ghost use Rattle.cg_dyadic.specs.Number.{InRange};
 ghost use Rattle.cg_form.specs.Game.{Game, node, number};
 ghost use Rattle.cg_form.specs.Simple.{NoNumber};
@@ -8,7 +8,7 @@ ghost use Rattle.cg_book.specs.Profiles.{IsOutline, IsProfile, chosen_cut};
 
 use cg_dyadic::Dyadic;
 use cg_dyadic::cut::Cut;
-use cg_form::cuts::{joined, turned};
+use cg_form::cuts::turned;
 use std::alloc::AllocError;
 
 /// What is known of a game: its cuts of the numbers, its depth and the cost of its item.
@@ -34,11 +34,11 @@ pub struct Outline {
 }
 
 /// The greatest depth and length that are counted.
-const MOST: u64 = 4_294_967_296;
+pub(crate) const MOST: u64 = 4_294_967_296;
 
 /// One more, up to 2^32. A list has fewer options than its table has cells, and no game is deeper than that; where one were
 /// not so, there would be no memory for it.
-fn one_more(count: u64) -> Result<u64, AllocError>
+pub(crate) fn one_more(count: u64) -> Result<u64, AllocError>
     ensures ok { IfOk result (λ n. (n ≡ count + 1) × (n ≤ 2 ^ 32)) }
     ensures err { OnErr result (2 ^ 32 ≤ count) }
 {
@@ -56,17 +56,6 @@ fn cost_of_number(x: Dyadic) -> u64
 }
 
 impl Outline {
-    /// Of no options.
-    pub fn empty() -> Outline
-        ensures { (s : Bool) → IsOutline s [] result }
-    {
-        Outline {
-            cut: None,
-            deepest: 0,
-            count: 0,
-        }
-    }
-
     /// The numbers that are no better for the player than some option, where there is an option.
     pub fn numbers(&self) -> Option<Cut>
         ensures { result ≡ self.now.cut }
@@ -75,23 +64,6 @@ impl Outline {
             None => None,
             Some(cut) => Some(*cut),
         }
-    }
-
-    /// Of one option more.
-    pub fn with(&self, left: bool, option: &Profile) -> Result<Outline, AllocError>
-        ensures ok { IfOk result (λ r. (gs : List Game) (g : Game) → IsOutline left gs self.now → IsProfile g option.now
-            → IsOutline left (gs ++ (g ∷ [])) r) }
-        ensures err { OnErr result (2 ^ 32 ≤ self.now.count) }
-    {
-        let next = option.cut(left);
-        let cut = joined(left, &self.cut, &next);
-        let deepest = self.deepest.max(option.depth);
-        let count = one_more(self.count)?;
-        Ok(Outline {
-            cut: Some(cut),
-            deepest,
-            count,
-        })
     }
 }
 

@@ -10,9 +10,9 @@ ghost use Rattle.cg_book.specs.Recents.{AreRight};
 ghost use Rattle.cg_book.specs.Settled.{IsNewForm, IsSettled};
 ghost use Rattle.cg_book.specs.Terms.{ApartByTerm};
 
-use crate::outlining::outline_of;
+use crate::outlining::{deepest_of, outline_of};
 use crate::pages::Pages;
-use crate::profile::Profile;
+use crate::profile::{Profile, one_more};
 use crate::recent::Recent;
 use crate::reduce::{Form, reduced};
 use crate::terms::FirstTerm;
@@ -58,7 +58,32 @@ pub fn profile_of_lists(pages: &Pages, lefts: &[u32], rights: &[u32]) -> Result<
     }
 }
 
-/// The canonical form of the game with these options, which equals no number, and has this profile.
+/// The profile of the game with these options that cuts the numbers as the profile says. The only error is want of memory.
+fn profile_with_cuts(
+    pages: &Pages,
+    cuts: &Profile,
+    lefts: &[u32],
+    rights: &[u32],
+) -> Result<Profile, AllocError>
+    requires lefts { ArePages pages.now lefts.now }
+    requires rights { ArePages pages.now rights.now }
+    requires cuts { HasCuts (node (games_of pages.now lefts.now) (games_of pages.now rights.now)) cuts.now }
+    ensures { IfOk result (λ p. IsProfile (node (games_of pages.now lefts.now) (games_of pages.now rights.now)) p) }
+{
+    let deepest = deepest_of(pages, lefts).max(deepest_of(pages, rights));
+    let depth = one_more(deepest)?;
+    let first = one_more(lefts.len() as u64)?;
+    let second = one_more(rights.len() as u64)?;
+    Ok(Profile {
+        low: cuts.low,
+        high: cuts.high,
+        depth,
+        cost: first + second - 1,
+    })
+}
+
+/// The canonical form of the game with these options, which equals no number, and has this profile. Equal games cut the numbers
+/// alike, so the form has the cuts of this profile too.
 fn form_of(
     alloc: Global,
     pages: &Pages,
@@ -78,7 +103,12 @@ fn form_of(
     ensures right { AreRight pages.now answers.new }
 {
     let form = reduced(alloc, pages, answers, lefts, rights, profile, first_term)?;
-    let own = profile_of_lists(pages, form.lefts.as_slice(), form.rights.as_slice())?;
+    let own = profile_with_cuts(
+        pages,
+        profile,
+        form.lefts.as_slice(),
+        form.rights.as_slice(),
+    )?;
     Ok(NewForm { form, profile: own })
 }
 

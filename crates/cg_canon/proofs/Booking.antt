@@ -1,5 +1,5 @@
 -- What a book keeps, as its store and its pages grow.
-use Rattle.std.proofs.Common.{◌≡◌, refl, ℕ, suc, ◌+◌, ◌-◌, ◌<◌, ◌≤◌, arith, ap, sym, ◌∙◌, subst, inl, inr, Bool, false, IsSome, is_some, Option, List, [], ◌∷◌, ◌++◌, length, length-append, take, get_or}
+use Rattle.std.proofs.Common.{◌≡◌, refl, ℕ, suc, ◌+◌, ◌-◌, ◌<◌, ◌≤◌, arith, ap, sym, ◌∙◌, subst, inl, inr, List, [], ◌∷◌, ◌++◌, length, length-append, take, get_or}
 use Rattle.std.proofs.lemmas.Bool.Decides.{eqb_tells}
 use Rattle.std.proofs.lemmas.List.{get_or_append_left, get_or-append_right, append_assoc, append-nil}
 use Rattle.cg_form.specs.Game.{Game}
@@ -8,12 +8,9 @@ use Rattle.cg_cells.specs.Store.{State, thing_at}
 use Rattle.cg_nodes.specs.Games.{AreGames, IsGame, game_at, games_at}
 use Rattle.cg_nodes.specs.Meant.{Meant}
 use Rattle.cg_nodes.proofs.Later.{game_later, is_game_later}
-use Rattle.cg_book.specs.declared.profile.Outline.{Outline}
-use Rattle.cg_book.specs.declared.profile.Profile.{Profile}
 use Rattle.cg_book.specs.declared.recent.Answer.{Answer}
 use Rattle.cg_book.specs.declared.recent.Recent.{Recent}
 use Rattle.cg_book.specs.Pages.{ArePages, IsPage, StandFor, game_of, games_of}
-use Rattle.cg_book.specs.Profiles.{IsOutline, IsProfile}
 use Rattle.cg_book.specs.Recents.{AreRight, IsKept}
 use Rattle.cg_book.proofs.Paging.{game_before, games_before, page_before, pages_before}
 use Rattle.cg_book.proofs.Slices.{games_take_suc}
@@ -210,18 +207,3 @@ handled_next s b hs more ps i handle h d less has e =
           ∙ ap (λ z. games_of b.pages (take i ps) ++ (z ∷ [])) own
           ∙ sym (games_take_suc b.pages ps i 0 less) ∙ ap (λ z. games_of b.pages (take z ps)) (sym one);
     }
-
--- ---- the outline of a list of pages
-
-pub not_none : {A : Type 0} (o : Option A) (b : Bool) → IsSome o → b ≡ is_some o → b ≡ false → ⊥
-not_none o b h e f = cc
-
-pub outline_next : (gs : List Game) (left : Bool) (ps : List ℕ) (i : ℕ) (o q : Outline) (p : Profile) → i < length ps
-    → IsOutline left (games_of gs (take i ps)) o → IsProfile (game_of gs (get_or ps i 0)) p
-    → ((hs : List Game) (g : Game) → IsOutline left hs o → IsProfile g p → IsOutline left (hs ++ (g ∷ [])) q)
-    → IsOutline left (games_of gs (take (i + 1) ps)) q
-outline_next gs left ps i o q p less so_far f step =
-    let P : List Game → Type 0 = λ z. IsOutline left z q in
-    let one : i + 1 ≡ suc i = omega arith in
-    subst P (sym (ap (λ z. games_of gs (take z ps)) one ∙ games_take_suc gs ps i 0 less))
-    (step (games_of gs (take i ps)) (game_of gs (get_or ps i 0)) so_far f)

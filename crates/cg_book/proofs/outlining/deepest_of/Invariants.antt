@@ -1,0 +1,7 @@
+use Rattle.std.proofs.Common.{◌≡◌, take}
+use Rattle.cg_form.specs.Depth.{deepest}
+use Rattle.cg_book.specs.Pages.{games_of}
+use Rattle.cg_book.proofs.outlining.deepest_of.Given as goal
+
+abbrev pub invariant-loop-option : goal.invariant-loop-option
+invariant-loop-option l = l.greatest ≡ deepest (games_of l.pages (take l.option-index l.options))
