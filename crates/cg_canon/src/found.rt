@@ -1,11 +1,11 @@
 //! What a work finds out of games, and makes, with the help of what it has found out before.
 ghost use Rattle.std.specs.Prelude.{◌≡◌, ◌+◌, ◌≤◌, IfSome, IfOk, OnOk, OnErr, [], ◌∷◌};
 ghost use Rattle.cg_form.specs.Canonical.{Canonical};
-ghost use Rattle.cg_form.specs.Game.{node};
+ghost use Rattle.cg_form.specs.Game.{lefts, node};
 ghost use Rattle.cg_form.specs.Order.{le};
 ghost use Rattle.cg_form.specs.Simple.{NoNumber};
 ghost use Rattle.cg_cells.specs.Store.{Spends};
-ghost use Rattle.cg_nodes.specs.Games.{AreGames, IsGame, StandsFor, game_at, games_at};
+ghost use Rattle.cg_nodes.specs.Games.{AreGames, IsGame, IsNode, StandFor, StandsFor, game_at, games_at};
 ghost use Rattle.cg_nodes.specs.Spelled.{can};
 ghost use Rattle.cg_book.specs.Profiles.{IsProfile};
 ghost use Rattle.cg_book.specs.Terms.{ApartByTerm};
@@ -19,11 +19,11 @@ use crate::fault::ValueFault;
 use crate::making::{given_item, value_item};
 use crate::memo::KnownSum;
 use crate::paging::page_of;
-use crate::value::compare;
+use crate::value::{compare, lefts_of};
 use crate::work::Work;
 use cg_book::{FirstTerm, Profile};
 use cg_cells::CellStore;
-use cg_nodes::{BoardForms, GameFacts, Handle};
+use cg_nodes::{BoardForms, GameFacts, Handle, Handles};
 use std::alloc::{AllocError, Global};
 
 impl<'a, B: BoardForms, S: CellStore<GameFacts<B>>> Work<'a, B, S> {
@@ -51,6 +51,18 @@ impl<'a, B: BoardForms, S: CellStore<GameFacts<B>>> Work<'a, B, S> {
         ensures spends { Spends 0 (work_state S.state self.old) (work_state S.state self.new) }
     {
         compare(alloc, self.store, &mut self.held.memo.book, a, b)
+    }
+
+    /// The handles of the Left options of a game that is written as no number, in their order. A game that was met before is read
+    /// from the book, and not from its cells. The only error is want of memory.
+    pub fn left_options(&mut self, alloc: Global, a: Handle) -> Result<Handles, AllocError>
+        requires a { IsGame (work_state S.state self.old) a }
+        requires no_number { IsNode (game_at (work_state S.state self.old) a) }
+        ensures lefts { IfOk result (λ hs. StandFor (work_state S.state self.new) hs (lefts (game_at (work_state S.state self.old) a))) }
+        ensures spends { Spends 0 (work_state S.state self.old) (work_state S.state self.new) }
+    {
+        let handles = lefts_of(alloc, self.store, &mut self.held.memo.book, a)?;
+        Ok(Handles::of(handles.into_vec()?))
     }
 
     /// Makes the item of the canonical form of the game with these options, with a cost of `extra` more.

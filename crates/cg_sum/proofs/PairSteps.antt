@@ -16,11 +16,12 @@ use Rattle.cg_canon.specs.declared.rest.WorkRest.{WorkRest}
 use Rattle.cg_cells.specs.Meaning.{Grows}
 use Rattle.cg_cells.specs.Store.{Spends, State, thing_at}
 use Rattle.cg_dyadic.specs.Number.{Number, whole}
-use Rattle.cg_form.specs.Game.{Game, node, number}
+use Rattle.cg_form.specs.Game.{Game, lefts, node, number}
 use Rattle.cg_form.specs.Sum.{sum}
+use Rattle.cg_form.proofs.Among.{lefts-node}
 use Rattle.cg_nimbers.specs.Nimbers.{nimber_form, nimbers_below}
 use Rattle.cg_nodes.proofs.Later.{game_later, stands_game, stands_later}
-use Rattle.cg_nodes.specs.Games.{IsGame, StandFor, StandsFor, game_at, games_at, listed}
+use Rattle.cg_nodes.specs.Games.{IsGame, IsNode, StandFor, StandsFor, game_at, games_at, listed}
 use Rattle.cg_nodes.specs.Meant.{Meant}
 use Rattle.cg_nodes.specs.Positions.{positions_of}
 use Rattle.cg_nodes.specs.Spelled.{can}
@@ -75,6 +76,19 @@ zero_stands s t grows h x is e z n none =
     let P : Game → Type 0 = λ g. StandsFor s h g in
     let N : ℕ → Type 0 = λ k. StandsFor t h (nimber_form k) in
     subst N (sym none) (stands_later s t grows h (nimber_form 0) (subst P (e ∙ ap number z) is))
+
+-- what was read of its lists is said of its options
+pub lefts_read : {R Q V : Type 0} (s : State Meant R) (t : State Meant Q) (u : State Meant V) → Grows (thing_at s) (thing_at t)
+    → (h : ℕ) (lo ro : Option ℕ) (hs : List ℕ) → IsGame s h → game_at s h ≡ node (listed t lo) (listed t ro)
+    → StandFor u hs (lefts (game_at t h)) → StandFor u hs (listed t lo)
+lefts_read s t u st h lo ro hs is e stand =
+    let P : List Game → Type 0 = λ z. StandFor u hs z in
+    subst P (ap lefts (game_later s t st h is ∙ e) ∙ lefts-node (listed t lo) (listed t ro)) stand
+
+-- what was read as a game is no number
+pub node_read : {R Q : Type 0} (s : State Meant R) (t : State Meant Q) → Grows (thing_at s) (thing_at t) → (h : ℕ) (ls rs : List Game)
+    → IsGame s h → game_at s h ≡ node ls rs → IsNode (game_at t h)
+node_read s t st h ls rs is e = subst IsNode (sym (game_later s t st h is ∙ e)) tt
 
 -- a game whose lists are one, which was read to be those that are known
 pub next_stands : {R Q V : Type 0} (s : State Meant R) (t : State Meant Q) (u : State Meant V) → Grows (thing_at s) (thing_at t)

@@ -1,9 +1,10 @@
 //! Two games that are nimbers, by the numbers of both.
 //!
 //! A game is found to be the nimber of n where both its lists of options are one, and are the nimbers below n in their order,
-//! each of which is found to be one so.
+//! each of which is found to be one so. Their options are read from the work's book.
 ghost use Rattle.std.specs.Prelude.{◌≡◌, ◌≤◌, ◌<◌, IfOk, length, true};
 ghost use Rattle.std.specs.Option.{ForSome};
+ghost use Rattle.cg_canon.specs.Works.{work_state};
 ghost use Rattle.cg_cells.specs.Store.{Spends};
 ghost use Rattle.cg_nimbers.specs.Nimbers.{nimber_form};
 ghost use Rattle.cg_nodes.specs.Games.{AreGames, IsGame, StandsFor};
@@ -11,8 +12,9 @@ ghost use Rattle.cg_sum.specs.Firsts.{AreFirst, IsPair};
 
 use crate::firsts::FirstNimbers;
 use crate::nimbers::{is_same, is_zero};
+use cg_canon::Work;
 use cg_cells::CellStore;
-use cg_nodes::{BoardForms, GameFacts, Handle, Handles, Reading, handles, read};
+use cg_nodes::{BoardForms, GameFacts, Handle, Handles, Reading, read};
 use std::alloc::{AllocError, Global};
 
 /// Two nimbers.
@@ -29,20 +31,20 @@ pub(crate) struct NimberPair {
 /// The two games as nimbers, where they are found to be some. The only error is want of memory.
 pub(crate) fn nimber_pair<B: BoardForms, S: CellStore<GameFacts<B>>>(
     alloc: Global,
-    store: &mut S,
+    work: &mut Work<B, S>,
     a: Handle,
     b: Handle,
 ) -> Result<Option<NimberPair>, AllocError>
-    requires a { IsGame (S.state store.old) a }
-    requires b { IsGame (S.state store.old) b }
-    ensures pair { IfOk result (λ o. ForSome o (IsPair (S.state store.new) a b)) }
-    ensures spends { Spends 0 (S.state store.old) (S.state store.new) }
+    requires a { IsGame (work_state S.state work.old) a }
+    requires b { IsGame (work_state S.state work.old) b }
+    ensures pair { IfOk result (λ o. ForSome o (IsPair (work_state S.state work.new) a b)) }
+    ensures spends { Spends 0 (work_state S.state work.old) (work_state S.state work.new) }
 {
     let mut known = Vec::new(alloc);
-    let Some(first) = number_of(alloc, store, a, &mut known)? else {
+    let Some(first) = number_of(alloc, work, a, &mut known)? else {
         return Ok(None);
     };
-    let Some(second) = number_of(alloc, store, b, &mut known)? else {
+    let Some(second) = number_of(alloc, work, b, &mut known)? else {
         return Ok(None);
     };
     Ok(Some(NimberPair {
@@ -58,24 +60,24 @@ pub(crate) fn nimber_pair<B: BoardForms, S: CellStore<GameFacts<B>>>(
 // The number of the nimber that the handle stands for, where it is found to be one; the nimbers up to it are known then.
 fn number_of<B: BoardForms, S: CellStore<GameFacts<B>>>(
     alloc: Global,
-    store: &mut S,
+    work: &mut Work<B, S>,
     handle: Handle,
     known: &mut Vec<Handle>,
 ) -> Result<Option<usize>, AllocError>
-    requires handle { IsGame (S.state store.old) handle }
-    requires known { AreFirst (S.state store.old) known.old.items }
-    ensures stands { IfOk result (λ o. ForSome o (λ n. StandsFor (S.state store.new) handle (nimber_form n))) }
+    requires handle { IsGame (work_state S.state work.old) handle }
+    requires known { AreFirst (work_state S.state work.old) known.old.items }
+    ensures stands { IfOk result (λ o. ForSome o (λ n. StandsFor (work_state S.state work.new) handle (nimber_form n))) }
     ensures within { IfOk result (λ o. ForSome o (λ n. n < length known.new.items)) }
-    ensures known { IfOk result (λ _. AreFirst (S.state store.new) known.new.items) }
+    ensures known { IfOk result (λ _. AreFirst (work_state S.state work.new) known.new.items) }
     ensures more { length known.old.items ≤ length known.new.items }
-    ensures spends { Spends 0 (S.state store.old) (S.state store.new) }
+    ensures spends { Spends 0 (work_state S.state work.old) (work_state S.state work.new) }
 {
-    let Some(options) = one_list(alloc, store, handle)? else {
+    let Some(options) = one_list(alloc, work, handle)? else {
         return Ok(None);
     };
     let n = options.len();
-    if are_first(alloc, store, options.as_slice(), known)?
-        && is_first(alloc, store, handle, n, known)?
+    if are_first(alloc, work, options.as_slice(), known)?
+        && is_first(alloc, work, handle, n, known)?
     {
         Ok(Some(n))
     } else {
@@ -86,18 +88,18 @@ fn number_of<B: BoardForms, S: CellStore<GameFacts<B>>>(
 // The options of either player, where both lists are one; a number has none.
 fn one_list<B: BoardForms, S: CellStore<GameFacts<B>>>(
     alloc: Global,
-    store: &mut S,
+    work: &mut Work<B, S>,
     handle: Handle,
 ) -> Result<Option<Handles>, AllocError>
-    requires { IsGame (S.state store.old) handle }
-    ensures games { IfOk result (λ o. ForSome o (AreGames (S.state store.new))) }
-    ensures spends { Spends 0 (S.state store.old) (S.state store.new) }
+    requires { IsGame (work_state S.state work.old) handle }
+    ensures games { IfOk result (λ o. ForSome o (AreGames (work_state S.state work.new))) }
+    ensures spends { Spends 0 (work_state S.state work.old) (work_state S.state work.new) }
 {
-    match read(store, handle) {
+    match read(work, handle) {
         Reading::Number(_) => Ok(Some(Handles::of(Vec::new(alloc)))),
         Reading::Game(left_list, right_list) => {
             if is_same(left_list, right_list) {
-                Ok(Some(handles(alloc, store, left_list)?))
+                Ok(Some(work.left_options(alloc, handle)?))
             } else {
                 Ok(None)
             }
@@ -108,19 +110,19 @@ fn one_list<B: BoardForms, S: CellStore<GameFacts<B>>>(
 // Whether the handles are found to be the first nimbers, in their order, which are known then.
 fn are_first<B: BoardForms, S: CellStore<GameFacts<B>>>(
     alloc: Global,
-    store: &mut S,
+    work: &mut Work<B, S>,
     options: &[Handle],
     known: &mut Vec<Handle>,
 ) -> Result<bool, AllocError>
-    requires options { AreGames (S.state store.old) options.now }
-    requires known { AreFirst (S.state store.old) known.old.items }
+    requires options { AreGames (work_state S.state work.old) options.now }
+    requires known { AreFirst (work_state S.state work.old) known.old.items }
     ensures enough { IfOk result (λ yes. yes ≡ true → length options.now ≤ length known.new.items) }
-    ensures known { IfOk result (λ _. AreFirst (S.state store.new) known.new.items) }
+    ensures known { IfOk result (λ _. AreFirst (work_state S.state work.new) known.new.items) }
     ensures more { length known.old.items ≤ length known.new.items }
-    ensures spends { Spends 0 (S.state store.old) (S.state store.new) }
+    ensures spends { Spends 0 (work_state S.state work.old) (work_state S.state work.new) }
 {
     for (n, option) in options.iter().enumerate() {
-        if !is_first(alloc, store, *option, n, known)? {
+        if !is_first(alloc, work, *option, n, known)? {
             return Ok(false);
         }
     }
@@ -130,24 +132,24 @@ fn are_first<B: BoardForms, S: CellStore<GameFacts<B>>>(
 // Whether the handle is found to be that of the nimber of n, which is known or the next one. It is known then.
 fn is_first<B: BoardForms, S: CellStore<GameFacts<B>>>(
     alloc: Global,
-    store: &mut S,
+    work: &mut Work<B, S>,
     handle: Handle,
     n: usize,
     known: &mut Vec<Handle>,
 ) -> Result<bool, AllocError>
-    requires handle { IsGame (S.state store.old) handle }
-    requires known { AreFirst (S.state store.old) known.old.items }
+    requires handle { IsGame (work_state S.state work.old) handle }
+    requires known { AreFirst (work_state S.state work.old) known.old.items }
     requires near { n ≤ length known.old.items }
-    ensures stands { IfOk result (λ yes. yes ≡ true → StandsFor (S.state store.new) handle (nimber_form n)) }
+    ensures stands { IfOk result (λ yes. yes ≡ true → StandsFor (work_state S.state work.new) handle (nimber_form n)) }
     ensures within { IfOk result (λ yes. yes ≡ true → n < length known.new.items) }
-    ensures known { IfOk result (λ _. AreFirst (S.state store.new) known.new.items) }
+    ensures known { IfOk result (λ _. AreFirst (work_state S.state work.new) known.new.items) }
     ensures more { length known.old.items ≤ length known.new.items }
-    ensures spends { Spends 0 (S.state store.old) (S.state store.new) }
+    ensures spends { Spends 0 (work_state S.state work.old) (work_state S.state work.new) }
 {
     if n < known.len() {
         return Ok(known[n] == handle);
     }
-    if !is_next(alloc, store, handle, known.as_slice())? {
+    if !is_next(alloc, work, handle, known.as_slice())? {
         return Ok(false);
     }
     known.push(handle)?;
@@ -157,23 +159,23 @@ fn is_first<B: BoardForms, S: CellStore<GameFacts<B>>>(
 // Whether the handle stands for the nimber of which these are the options, in their order.
 fn is_next<B: BoardForms, S: CellStore<GameFacts<B>>>(
     alloc: Global,
-    store: &mut S,
+    work: &mut Work<B, S>,
     handle: Handle,
     known: &[Handle],
 ) -> Result<bool, AllocError>
-    requires handle { IsGame (S.state store.old) handle }
-    requires known { AreFirst (S.state store.old) known.now }
+    requires handle { IsGame (work_state S.state work.old) handle }
+    requires known { AreFirst (work_state S.state work.old) known.now }
     ensures stands { IfOk result (λ yes. yes ≡ true
-        → StandsFor (S.state store.new) handle (nimber_form (length known.now))) }
-    ensures spends { Spends 0 (S.state store.old) (S.state store.new) }
+        → StandsFor (work_state S.state work.new) handle (nimber_form (length known.now))) }
+    ensures spends { Spends 0 (work_state S.state work.old) (work_state S.state work.new) }
 {
-    match read(store, handle) {
+    match read(work, handle) {
         Reading::Number(x) => Ok(known.is_empty() && is_zero(x)),
         Reading::Game(left_list, right_list) => {
             if known.is_empty() || !is_same(left_list, right_list) {
                 return Ok(false);
             }
-            let options = handles(alloc, store, left_list)?;
+            let options = work.left_options(alloc, handle)?;
             Ok(are_same(options.as_slice(), known))
         }
     }

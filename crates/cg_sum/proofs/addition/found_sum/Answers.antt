@@ -8,7 +8,7 @@ use Rattle.cg_sum.proofs.addition.found_sum.Goals as goal
 pub other_sum-requires-clause-holds : goal.other_sum-requires-clause-holds
 other_sum-requires-clause-holds g c =
     let W = work_state g.S.CellStore.state in
-    holds_later (W c.args.work.now) (W c.nimber_pair.new.store) c.nimber_pair.ensures.spends.known _ c.requires.holds
+    holds_later (W c.args.work.now) (W c.nimber_pair.new.work) c.nimber_pair.ensures.spends.known _ c.requires.holds
 
 pub returns-in-Some-clause-holds : goal.returns-in-Some-clause-holds
 returns-in-Some-clause-holds g c =
@@ -19,11 +19,11 @@ returns-in-Some-clause-holds g c =
 pub returns-in-Some-clause-made : goal.returns-in-Some-clause-made
 returns-in-Some-clause-made g c =
     let W = work_state g.S.CellStore.state in
-    read_items (W c.args.work.now) (W c.nimber_pair.new.store) c.nimber_pair.ensures.spends c.args.a c.args.b c.requires.a
+    read_items (W c.args.work.now) (W c.nimber_pair.new.work) c.nimber_pair.ensures.spends c.args.a c.args.b c.requires.a
     c.requires.b _ c.nimber_sum.result c.nimber_sum.ensures.made
 
 pub returns-in-None-clause-made : goal.returns-in-None-clause-made
 returns-in-None-clause-made g c =
     let W = work_state g.S.CellStore.state in
-    read_items (W c.args.work.now) (W c.nimber_pair.new.store) c.nimber_pair.ensures.spends c.args.a c.args.b c.requires.a
+    read_items (W c.args.work.now) (W c.nimber_pair.new.work) c.nimber_pair.ensures.spends c.args.a c.args.b c.requires.a
     c.requires.b _ c.other_sum.result c.other_sum.ensures.made
