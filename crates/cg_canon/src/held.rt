@@ -7,6 +7,7 @@ ghost use Rattle.cg_canon.specs.Held.{IsHeld, knowing};
 
 use crate::made::MadeForms;
 use crate::memo::Memo;
+use cg_book::Recent;
 use std::alloc::Global;
 
 /// What a work has found out: the games that it met, their sums, and the forms that it made.
@@ -33,6 +34,16 @@ impl Held {
             memo: Memo::new(alloc),
             made: MadeForms::new(alloc),
         }
+    }
+
+    /// The same but for the answers to comparisons, of which there are none. A later question asks for few of these again, and a
+    /// small table of answers stands in near caches.
+    pub(crate) fn without_answers(self, alloc: Global) -> Held
+        ensures { (known : map.FinMap nat_cmp Meant) → IsHeld (knowing known) self → IsHeld (knowing known) result }
+    {
+        let mut held = self;
+        held.memo.book.answers = Recent::new(alloc);
+        held
     }
 
     /// Whether the pages or the sums are so many that a caller would rather begin anew than keep them. Of the forms

@@ -1,0 +1,10 @@
+use Rattle.cg_canon.specs.Held.{knowing}
+use Rattle.cg_canon.proofs.Booking.{holds_answers}
+use Rattle.cg_canon.proofs.held.Held.without_answers.Goals as goal
+
+pub returns : goal.returns
+returns c known h = record {
+  book = holds_answers (knowing known) c.args.self.memo.book c.new.result h.book (λ x k. absurd (c.new.ensures x k));
+  sums = λ a b k at. let s = h.sums a b k (record { place = at.place; there = at.there }) in s;
+  forms = h.forms;
+}
