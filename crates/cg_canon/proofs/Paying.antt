@@ -13,21 +13,20 @@ use Rattle.cg_book.specs.Profiles.{IsProfile}
 use Rattle.cg_book.specs.Settled.{IsNewForm}
 use Rattle.cg_canon.specs.declared.fault.ValueFault.{ValueFault}
 use Rattle.cg_canon.specs.declared.fault.ValueFault.TheVariants.{Memory, Range}
-use Rattle.cg_canon.specs.declared.made.MadeForms.{MadeForms}
+use Rattle.cg_canon.specs.declared.held.Held.{Held}
 use Rattle.cg_canon.specs.declared.memo.KnownSum.{KnownSum}
 use Rattle.cg_canon.specs.declared.memo.Memo.{Memo}
 use Rattle.cg_canon.specs.declared.meter.Meter.{Meter}
 use Rattle.cg_canon.specs.declared.rest.WorkRest.{WorkRest}
 use Rattle.cg_canon.specs.Books.{BookHolds}
+use Rattle.cg_canon.specs.Held.{IsHeld}
 use Rattle.cg_canon.specs.Items.{AllPass, WasRefused, made}
 use Rattle.cg_canon.specs.Made.{ItemsMade}
-use Rattle.cg_canon.specs.MadeForms.{FormsHold}
 use Rattle.cg_canon.specs.Memos.{IsAdded}
 use Rattle.cg_canon.specs.Paid.{IsPaid, written}
-use Rattle.cg_canon.specs.Works.{WorkHolds, work_state}
+use Rattle.cg_canon.specs.Works.{MeterHolds, work_state}
 use Rattle.cg_canon.proofs.Charging.{outside_refused}
-use Rattle.cg_canon.proofs.FormTables.{forms_later}
-use Rattle.cg_canon.proofs.Holding.{holds_book, holds_moved}
+use Rattle.cg_canon.proofs.Holding.{held_book, held_later, meter_moved}
 use Rattle.cg_canon.proofs.Results.{on_err, on_ok}
 
 -- ---- one item
@@ -109,19 +108,19 @@ new_written gs form new h =
 -- ---- a work
 
 -- what it keeps: its memo has the new book and the same sums
-pub paid_holds : {R : Type 0} (s t : State Meant R) (a b : Meter) (start : ℕ) (m n : Memo) (forms : MadeForms) (form : Game) (extra : ℕ)
-    (r : Result ℕ ValueFault) → WorkHolds s a.spent a.share start m × FormsHold s forms → IsPaid s t a b form extra r
-    → BookHolds t n.book → ((c d : ℕ) (known : KnownSum) → IsAdded n c d known → IsAdded m c d known) → WorkHolds t b.spent b.share start n × FormsHold t forms
-paid_holds s t a b start m n forms form extra r h p book same =
-    let P : ℕ → Type 0 = λ z. WorkHolds t b.spent z start n in
+pub paid_holds : {R : Type 0} (s t : State Meant R) (a b : Meter) (start : ℕ) (h : Held) (n : Memo) (form : Game) (extra : ℕ)
+    (r : Result ℕ ValueFault) → MeterHolds s a.spent a.share start × IsHeld s h → IsPaid s t a b form extra r
+    → BookHolds t n.book → ((c d : ℕ) (known : KnownSum) → IsAdded n c d known → IsAdded h.memo c d known)
+    → MeterHolds t b.spent b.share start × IsHeld t (record { memo = n; made = h.made })
+paid_holds s t a b start h n form extra r w p book same =
+    let P : ℕ → Type 0 = λ z. MeterHolds t b.spent z start in
     let k = p.spends.spare in
     let c = p.paid in
-    let w = p.within in
+    let within = p.within in
     let e = p.share in
-    let room = h.0.enough in (
-      subst P (sym p.share) (holds_book t b.spent a.share start m n
-          (holds_moved p.cells s t a.spent b.spent a.share start m h.0 p.spends (omega arith) (omega arith)) book same),
-      forms_later s t p.spends.known forms h.1,
+    let room = w.0.enough in (
+      subst P (sym p.share) (meter_moved p.cells s t a.spent b.spent a.share start w.0 p.spends (omega arith) (omega arith)),
+      held_book t h n (held_later s t h p.spends.known w.1) book same,
     )
 
 same_rest : {Q : Type 0} (x y : Q) (name name' spent spent' share share' start limit : ℕ) → y ≡ x → name' ≡ name → spent' ≡ spent

@@ -3,6 +3,7 @@ pub mod Items
 pub mod Memos
 pub mod Added
 pub mod MadeForms
+pub mod Held
 pub mod Works
 pub mod Made
 pub mod NumberItems

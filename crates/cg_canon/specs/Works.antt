@@ -6,12 +6,7 @@ use denote.MutBor.{mut_coded}
 use Rattle.cg_cells.specs.Meaning.{Grows}
 use Rattle.cg_cells.specs.Store.{IsSublist, State, thing_at}
 use Rattle.cg_nodes.specs.Meant.{Meant}
-use Rattle.cg_canon.specs.declared.memo.KnownSum.{KnownSum}
-use Rattle.cg_canon.specs.declared.memo.Memo.{Memo}
 use Rattle.cg_canon.specs.declared.rest.WorkRest.{WorkRest}
-use Rattle.cg_canon.specs.Added.{IsKnownSum}
-use Rattle.cg_canon.specs.Books.{BookHolds}
-use Rattle.cg_canon.specs.Memos.{IsAdded}
 
 -- the store that is borrowed, the cost so far, the greatest cost, what the store had to spare at first, and the limit on
 -- positions
@@ -28,18 +23,13 @@ work_code {S} c =
     (λ (w : WorkOf S). (w.store, (w.spent, (w.share, (w.start, w.limit)))))
     (λ p. record { store = p.0; spent = p.1.0; share = p.1.1.0; start = p.1.1.1.0; limit = p.1.1.1.1 }) (λ _. refl)
 
--- each sum of the memo is that of its two games
-abbrev pub SumsHold : {R : Type 0} → State Meant R → Memo → Type 0
-SumsHold {R} s m = (a b : ℕ) (known : KnownSum) → IsAdded m a b known → IsKnownSum s a b known
-
-pub record WorkHolds {R : Type 0} (s : State Meant R) (spent share start : ℕ) (m : Memo) : Type 0 where
+-- the meter is within its share, and the store has as much to spare as when the work began, less what was spent
+pub record MeterHolds {R : Type 0} (s : State Meant R) (spent share start : ℕ) : Type 0 where
   pub within : spent ≤ share
   pub room : share ≤ start
   pub small : start ≤ 67108864
   pub fallen : s.spare ≤ start
   pub enough : start ≤ s.spare + spent
-  pub book : BookHolds s m.book
-  pub sums : SumsHold s m
 
 abbrev pub work_rest : {S R : Type 0} → WorkOf S → R → WorkRest R
 work_rest {S} {R} w rest = record {

@@ -1,7 +1,8 @@
 //! Sums that are charged again at once.
 //!
-//! The items of a sum depend on its two games alone, so a sum all of whose items were made in a work is charged by what they
-//! cost together, where that stays within the share: then each of them would be made again.
+//! The items of a sum depend on its two games alone, so a sum all of whose items were made in a work, or before in one whose
+//! findings it took up, is charged by what they cost together, where that stays within the share: then each of them would be
+//! made again.
 ghost use Rattle.std.specs.Prelude.{◌≡◌, ◌≤◌, ◌+◌, IfSome, IfNone, OnSome};
 ghost use Rattle.cg_canon.specs.Added.{IsKnownSum};
 ghost use Rattle.cg_canon.specs.Items.{AllPass};
@@ -36,8 +37,8 @@ fn again<B: BoardForms, S: CellStore<GameFacts<B>>>(
     None
 }
 
-/// The handle of the canonical form of a + b, where all items of that sum were made in this work before and what they cost
-/// together stays within the share; it is charged. None leaves the work as it was. It takes no memory.
+/// The handle of the canonical form of a + b, where all items of that sum were made before and what they cost together stays
+/// within the share; it is charged. None leaves the work as it was. It takes no memory.
 pub fn sum_again<B: BoardForms, S: CellStore<GameFacts<B>>>(
     work: &mut Work<B, S>,
     a: Handle,

@@ -1,47 +1,34 @@
-//! A store with a meter and a memo.
-ghost use Rattle.std.specs.Prelude.{◌≡◌, ℕ, ◌+◌, ◌-◌, ◌≤◌, ◌<◌, ◌^◌, Some, Option, Bool, IfSome, IfOk, IfErr, OnOk, OnErr, [], ◌∷◌};
-ghost use Rattle.cg_form.specs.Canonical.{Canonical};
-ghost use Rattle.cg_form.specs.Game.{Game, node};
-ghost use Rattle.cg_form.specs.Order.{le};
-ghost use Rattle.cg_form.specs.Simple.{NoNumber};
-ghost use Rattle.cg_cells.specs.Store.{Spends};
-ghost use Rattle.cg_nodes.specs.Games.{AreGames, IsGame, StandsFor, game_at, games_at};
-ghost use Rattle.cg_nodes.specs.Spelled.{can};
+//! A store with a meter, and with what was found out of its games.
+ghost use Rattle.std.specs.Prelude.{◌≡◌, ◌+◌, ◌-◌, ◌≤◌, ◌<◌, ◌^◌, IfOk, IfErr, OnOk, OnErr, [], ◌∷◌};
+ghost use Rattle.cg_form.specs.Game.{Game};
 ghost use Rattle.cg_book.specs.Profiles.{IsProfile};
-ghost use Rattle.cg_book.specs.Terms.{ApartByTerm};
-ghost use Rattle.cg_canon.specs.Added.{IsKnownSum};
+ghost use Rattle.cg_canon.specs.Held.{IsHeld};
 ghost use Rattle.cg_canon.specs.Items.{AllPass, WasRefused, made};
-ghost use Rattle.cg_canon.specs.Made.{ItemsMade};
-ghost use Rattle.cg_canon.specs.MadeForms.{FormsHold, IsFormOf};
-ghost use Rattle.cg_canon.specs.Works.{IsUnspent, WorkHolds, WorkOf, work_code, work_state};
+ghost use Rattle.cg_canon.specs.Works.{MeterHolds, WorkOf, work_code, work_state};
 
 use crate::fault::ValueFault;
-use crate::made::MadeForms;
-use crate::making::{given_item, value_item};
-use crate::memo::{KnownSum, Memo};
+use crate::held::Held;
 use crate::meter::Meter;
-use crate::paging::page_of;
 use crate::rest::WorkRest;
-use crate::value::compare;
-use cg_book::{FirstTerm, Profile};
+use cg_book::Profile;
 use cg_cells::{CellStore, Id, Key};
-use cg_nodes::{BoardForms, GameFacts, Handle};
-use std::alloc::{AllocError, Global};
+use cg_nodes::{BoardForms, GameFacts};
+use std::alloc::Global;
 use std::marker::{Model, PhantomData};
+use std::mem::replace;
 
-/// A store, with a meter of what was spent on it, a memo of what was found out, and a limit on positions.
+/// A store, with a meter of what was spent on it, what was found out of its games, and a limit on positions.
 ///
 /// What is spent is never above the share. The store has at least as much to spare as when the work began, less what is
 /// spent. A work is itself a [`CellStore`]: it knows and has noted what its store has, and its own spare is what was charged
 /// and not claimed, 0 at first.
 #[derive(Drop)]
 pub struct Work<'a, B: BoardForms, S: CellStore<GameFacts<B>>> {
-    store: &'a mut S,
-    meter: Meter,
+    pub(crate) store: &'a mut S,
+    pub(crate) meter: Meter,
     start: u64,
     limit: u64,
-    memo: Memo,
-    made: MadeForms,
+    pub(crate) held: Held,
     of: PhantomData<B>,
 }
 
@@ -52,7 +39,7 @@ impl<'a, B: BoardForms, S: CellStore<GameFacts<B>>> Model for Work<'a, B, S> {
 
     ghost view = { λ w. record { store = w.store; spent = w.meter.spent; share = w.meter.share; start = w.start; limit = w.limit } };
 
-    ghost invariant = { λ w. WorkHolds (S.state w.store.now) w.meter.spent w.meter.share w.start w.memo × FormsHold (S.state w.store.now) w.made };
+    ghost invariant = { λ w. MeterHolds (S.state w.store.now) w.meter.spent w.meter.share w.start × IsHeld (S.state w.store.now) w.held };
 }
 
 impl<'a, B: BoardForms, S: CellStore<GameFacts<B>>> Work<'a, B, S> {
@@ -67,14 +54,28 @@ impl<'a, B: BoardForms, S: CellStore<GameFacts<B>>> Work<'a, B, S> {
         ensures start { result.start ≡ (S.state store.old).spare }
         ensures limit { result.limit ≡ positions }
     {
+        Work::resume(store, share, positions, Held::new(alloc))
+    }
+
+    /// A work on the store, as [`Work::new`] begins it, that takes up what was found out before: by an earlier work on this
+    /// store, or on one that knew no more.
+    pub fn resume(store: &'a mut S, share: u64, positions: u64, held: Held) -> Work<'a, B, S>
+        requires spare { share ≤ (S.state store.old).spare }
+        requires held { IsHeld (S.state store.old) held }
+        ensures same_reference { result.store.ghost_name ≡ store.entry.ghost_name }
+        ensures store { result.store.now ≡ store.old }
+        ensures spent { result.spent ≡ 0 }
+        ensures share { result.share ≡ share }
+        ensures start { result.start ≡ (S.state store.old).spare }
+        ensures limit { result.limit ≡ positions }
+    {
         let start = store.spare();
         Work {
             store,
             meter: Meter { spent: 0, share },
             start,
             limit: positions,
-            memo: Memo::new(alloc),
-            made: MadeForms::new(alloc),
+            held,
             of: PhantomData,
         }
     }
@@ -107,11 +108,19 @@ impl<'a, B: BoardForms, S: CellStore<GameFacts<B>>> Work<'a, B, S> {
             meter: _,
             start: _,
             limit: _,
-            memo: _,
-            made: _,
+            held: _,
             of: _,
         } = self;
         store
+    }
+
+    /// What was found out so far, for a later work on a store that knows at least as much. This work goes on with nothing
+    /// found out.
+    pub fn take_held(&mut self, alloc: Global) -> Held
+        ensures held { IsHeld (S.state self.old.store.now) result }
+        ensures same { self.new ≡ self.old }
+    {
+        replace(&mut self.held, Held::new(alloc))
     }
 
     /// Charges the cost, unless that would bring the total above the share: then the fault is `Full` of that total.
@@ -142,139 +151,6 @@ impl<'a, B: BoardForms, S: CellStore<GameFacts<B>>> Work<'a, B, S> {
         ensures same { OnErr result (self.new ≡ self.old) }
     {
         self.meter.charge_form(profile, extra)
-    }
-
-    /// The profile of the game. The only error is want of memory.
-    pub(crate) fn profile_of(&mut self, alloc: Global, a: Handle) -> Result<Profile, AllocError>
-        requires { IsGame (work_state S.state self.old) a }
-        ensures profile { IfOk result (λ p. IsProfile (game_at (work_state S.state self.old) a) p) }
-        ensures spends { Spends 0 (work_state S.state self.old) (work_state S.state self.new) }
-    {
-        let page = page_of(alloc, self.store, &mut self.memo.book, a)?;
-        Ok(*self.memo.book.pages.profile(page))
-    }
-
-    /// Whether a <= b. The only error is want of memory.
-    pub(crate) fn is_at_most(
-        &mut self,
-        alloc: Global,
-        a: Handle,
-        b: Handle,
-    ) -> Result<bool, AllocError>
-        requires a { IsGame (work_state S.state self.old) a }
-        requires b { IsGame (work_state S.state self.old) b }
-        ensures order { IfOk result (λ answer. answer
-            ≡ le (game_at (work_state S.state self.old) a) (game_at (work_state S.state self.old) b)) }
-        ensures spends { Spends 0 (work_state S.state self.old) (work_state S.state self.new) }
-    {
-        compare(alloc, self.store, &mut self.memo.book, a, b)
-    }
-
-    /// Makes the item of the canonical form of the game with these options, with a cost of `extra` more.
-    pub(crate) fn make_value(
-        &mut self,
-        alloc: Global,
-        lefts: &[Handle],
-        rights: &[Handle],
-        first_term: Option<FirstTerm>,
-        extra: u64,
-    ) -> Result<Handle, ValueFault>
-        requires extra { extra ≤ 8 }
-        requires lefts { AreGames (work_state S.state self.old) lefts.now }
-        requires rights { AreGames (work_state S.state self.old) rights.now }
-        requires terms { ApartByTerm first_term (games_at (work_state S.state self.old) lefts.now)
-            (games_at (work_state S.state self.old) rights.now) }
-        ensures game { let W = work_state S.state self.old in IfOk result (λ h. StandsFor (work_state S.state self.new) h
-            (can (node (games_at W lefts.now) (games_at W rights.now)))) }
-        ensures made { let W = work_state S.state self.old in ItemsMade W (work_state S.state self.new)
-            (made (can (node (games_at W lefts.now) (games_at W rights.now))) extra ∷ []) result }
-        ensures same { OnErr result (Spends 0 (work_state S.state self.old) (work_state S.state self.new)) }
-        ensures spare { OnOk result ((work_state S.state self.old).spare + extra ≤ (work_state S.state self.new).spare) }
-    {
-        value_item(
-            alloc,
-            self.store,
-            &mut self.memo.book,
-            &mut self.meter,
-            lefts,
-            rights,
-            first_term,
-            extra,
-        )
-    }
-
-    /// Makes the item of a game that is canonical as it is given, with a cost of `extra` more.
-    pub(crate) fn make_given(
-        &mut self,
-        alloc: Global,
-        lefts: &[Handle],
-        rights: &[Handle],
-        extra: u64,
-    ) -> Result<Handle, ValueFault>
-        requires extra { extra ≤ 8 }
-        requires lefts { AreGames (work_state S.state self.old) lefts.now }
-        requires rights { AreGames (work_state S.state self.old) rights.now }
-        requires canonical { let W = work_state S.state self.old in Canonical (node (games_at W lefts.now) (games_at W rights.now)) }
-        requires no_number { let W = work_state S.state self.old in NoNumber (node (games_at W lefts.now) (games_at W rights.now)) }
-        ensures game { let W = work_state S.state self.old in IfOk result (λ h. StandsFor (work_state S.state self.new) h
-            (node (games_at W lefts.now) (games_at W rights.now))) }
-        ensures made { let W = work_state S.state self.old in ItemsMade W (work_state S.state self.new)
-            (made (node (games_at W lefts.now) (games_at W rights.now)) extra ∷ []) result }
-        ensures same { OnErr result (Spends 0 (work_state S.state self.old) (work_state S.state self.new)) }
-        ensures spare { OnOk result ((work_state S.state self.old).spare + extra ≤ (work_state S.state self.new).spare) }
-    {
-        given_item(
-            alloc,
-            self.store,
-            &mut self.memo.book,
-            &mut self.meter,
-            lefts,
-            rights,
-            extra,
-        )
-    }
-
-    /// The sum of the two that was found, if one was.
-    pub(crate) fn added(&self, a: Handle, b: Handle) -> Option<KnownSum>
-        ensures { IfSome result (IsKnownSum (S.state self.now.store.now) a b) }
-    {
-        self.memo.added(a.id().number(), b.id().number())
-    }
-
-    /// Keeps the sum of the two.
-    pub(crate) fn keep_added(
-        &mut self,
-        a: Handle,
-        b: Handle,
-        known: KnownSum,
-    ) -> Result<(), AllocError>
-        requires { IsKnownSum (S.state self.old.store.now) a b known }
-        ensures { self.new ≡ self.old }
-    {
-        self.memo
-            .keep_added(a.id().number(), b.id().number(), known)?;
-        Ok(())
-    }
-
-    /// The form that was made from these options, if it is kept.
-    pub(crate) fn made_from(&self, lefts: &[Handle], rights: &[Handle]) -> Option<Handle>
-        ensures { IfSome result (IsFormOf (S.state self.now.store.now) lefts.now rights.now) }
-    {
-        self.made.find(lefts, rights)
-    }
-
-    /// Keeps the form that was made from these options.
-    pub(crate) fn keep_made(
-        &mut self,
-        lefts: &[Handle],
-        rights: &[Handle],
-        form: Handle,
-    ) -> Result<(), AllocError>
-        requires { IsFormOf (S.state self.old.store.now) lefts.now rights.now form }
-        ensures { self.new ≡ self.old }
-    {
-        self.made.keep(lefts, rights, form)?;
-        Ok(())
     }
 }
 

@@ -1,18 +1,15 @@
 use Rattle.std.proofs.Common.{◌≡◌, ℕ, sym, ◌∙◌, subst}
-use Rattle.cg_canon.specs.declared.book.Book.{Book}
 use Rattle.cg_canon.specs.Added.{IsKnownSum}
-use Rattle.cg_canon.specs.Books.{BookHolds}
 use Rattle.cg_canon.specs.Works.{WorkOf}
-use Rattle.cg_canon.proofs.Holding.{holds_book, holds_sum}
+use Rattle.cg_canon.proofs.Holding.{held_fewer, held_sum}
 use Rattle.cg_canon.proofs.work.Work.keep_added.Goals as goal
 
 pub invariant_of-self : goal.invariant_of-self
-invariant_of-self g c =
-    let P : Book → Type 0 = λ z. BookHolds (g.S.CellStore.state c.self.inside.store.now) z in (
-      holds_book (g.S.CellStore.state c.self.inside.store.now) c.self.inside.meter.spent c.self.inside.meter.share c.self.inside.start c.self.inside.memo c.keep_added.new.self
-          c.self.invariant.0 (subst P (sym c.in_err-keep_added.ensures.book) c.self.invariant.0.book) c.in_err-keep_added.ensures.err,
-      c.self.invariant.1,
-    )
+invariant_of-self g c = (
+  c.self.invariant.0,
+  held_fewer (g.S.CellStore.state c.self.inside.store.now) c.self.inside.held c.keep_added.new.self c.self.invariant.1
+      c.in_err-keep_added.ensures.err c.in_err-keep_added.ensures.book,
+)
 
 pub invariant_of-self-2 : goal.invariant_of-self-2
 invariant_of-self-2 g c =
@@ -22,8 +19,7 @@ invariant_of-self-2 g c =
     let Q : ℕ → ℕ → Type 0 = λ i j. IsKnownSum (g.S.CellStore.state c.self.inside.store.now) i j c.args.known in
     let h = subst P (sym c.self.view_is) c.requires in
     let k = subst (λ i. Q i c.number-2.result) (sym first) (subst (λ j. Q c.args.a j) (sym second) h) in (
-      holds_sum (g.S.CellStore.state c.self.inside.store.now) c.self.inside.meter.spent c.self.inside.meter.share c.self.inside.start c.self.inside.memo c.keep_added.new.self
-          c.number.result c.number-2.result c.args.known
-          c.self.invariant.0 c.in_ok-keep_added.ensures.ok c.in_ok-keep_added.ensures.book k,
-      c.self.invariant.1,
+      c.self.invariant.0,
+      held_sum (g.S.CellStore.state c.self.inside.store.now) c.self.inside.held c.keep_added.new.self c.self.invariant.1
+          c.number.result c.number-2.result c.args.known c.in_ok-keep_added.ensures.ok c.in_ok-keep_added.ensures.book k,
     )

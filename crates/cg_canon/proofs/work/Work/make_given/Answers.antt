@@ -28,5 +28,5 @@ given_item-requires-clause-canonical g c =
 pub invariant_of-self : goal.invariant_of-self
 invariant_of-self g c =
     paid_holds (g.S.CellStore.state c.self.inside.store.now) (g.S.CellStore.state c.given_item.new.store) c.self.inside.meter c.given_item.new.meter c.self.inside.start
-    c.self.inside.memo (record { book = c.given_item.new.book; sums = c.self.inside.memo.sums; places = c.self.inside.memo.places }) c.self.inside.made _ c.args.extra _ c.self.invariant
+    c.self.inside.held (record { book = c.given_item.new.book; sums = c.self.inside.held.memo.sums; places = c.self.inside.held.memo.places }) _ c.args.extra _ c.self.invariant
     c.given_item.ensures.paid c.given_item.ensures.holds (λ a b known k. record { place = k.place; there = k.there })

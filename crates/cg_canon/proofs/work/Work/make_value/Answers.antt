@@ -24,7 +24,7 @@ value_item-requires-clause-rights g c =
 pub invariant_of-self : goal.invariant_of-self
 invariant_of-self g c =
     paid_holds (g.S.CellStore.state c.self.inside.store.now) (g.S.CellStore.state c.value_item.new.store) c.self.inside.meter c.value_item.new.meter c.self.inside.start
-    c.self.inside.memo (record { book = c.value_item.new.book; sums = c.self.inside.memo.sums; places = c.self.inside.memo.places }) c.self.inside.made _ c.args.extra _ c.self.invariant
+    c.self.inside.held (record { book = c.value_item.new.book; sums = c.self.inside.held.memo.sums; places = c.self.inside.held.memo.places }) _ c.args.extra _ c.self.invariant
     c.value_item.ensures.paid c.value_item.ensures.holds (λ a b known k. record { place = k.place; there = k.there })
 
 pub returns-clause-made : goal.returns-clause-made

@@ -1,0 +1,27 @@
+-- What holds of what a work has found out.
+use Rattle.std.specs.Prelude.{ℕ, []}
+use Rattle.std.specs.FinMap as map
+use Rattle.std.specs.Ordering.{nat_cmp}
+use Rattle.cg_cells.specs.Store.{State}
+use Rattle.cg_nodes.specs.Meant.{Meant}
+use Rattle.cg_canon.specs.declared.held.Held.{Held}
+use Rattle.cg_canon.specs.declared.memo.KnownSum.{KnownSum}
+use Rattle.cg_canon.specs.declared.memo.Memo.{Memo}
+use Rattle.cg_canon.specs.Added.{IsKnownSum}
+use Rattle.cg_canon.specs.Books.{BookHolds}
+use Rattle.cg_canon.specs.MadeForms.{FormsHold}
+use Rattle.cg_canon.specs.Memos.{IsAdded}
+
+-- each sum of the memo is that of its two games
+abbrev pub SumsHold : {R : Type 0} → State Meant R → Memo → Type 0
+SumsHold {R} s m = (a b : ℕ) (known : KnownSum) → IsAdded m a b known → IsKnownSum s a b known
+
+-- the pages, the sums and the forms are those of games that the store knows
+pub record IsHeld {R : Type 0} (s : State Meant R) (h : Held) : Type 0 where
+  pub book : BookHolds s h.memo.book
+  pub sums : SumsHold s h.memo
+  pub forms : FormsHold s h.made
+
+-- a state of which nothing is said but what it knows
+abbrev pub knowing : map.FinMap nat_cmp Meant → State Meant (Unit {0})
+knowing known = record { known = known; noted = []; spare = 0; rest = tt }

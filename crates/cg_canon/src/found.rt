@@ -1,0 +1,163 @@
+//! What a work finds out of games, and makes, with the help of what it has found out before.
+ghost use Rattle.std.specs.Prelude.{◌≡◌, ◌+◌, ◌≤◌, IfSome, IfOk, OnOk, OnErr, [], ◌∷◌};
+ghost use Rattle.cg_form.specs.Canonical.{Canonical};
+ghost use Rattle.cg_form.specs.Game.{node};
+ghost use Rattle.cg_form.specs.Order.{le};
+ghost use Rattle.cg_form.specs.Simple.{NoNumber};
+ghost use Rattle.cg_cells.specs.Store.{Spends};
+ghost use Rattle.cg_nodes.specs.Games.{AreGames, IsGame, StandsFor, game_at, games_at};
+ghost use Rattle.cg_nodes.specs.Spelled.{can};
+ghost use Rattle.cg_book.specs.Profiles.{IsProfile};
+ghost use Rattle.cg_book.specs.Terms.{ApartByTerm};
+ghost use Rattle.cg_canon.specs.Added.{IsKnownSum};
+ghost use Rattle.cg_canon.specs.Items.{made};
+ghost use Rattle.cg_canon.specs.Made.{ItemsMade};
+ghost use Rattle.cg_canon.specs.MadeForms.{IsFormOf};
+ghost use Rattle.cg_canon.specs.Works.{work_state};
+
+use crate::fault::ValueFault;
+use crate::making::{given_item, value_item};
+use crate::memo::KnownSum;
+use crate::paging::page_of;
+use crate::value::compare;
+use crate::work::Work;
+use cg_book::{FirstTerm, Profile};
+use cg_cells::CellStore;
+use cg_nodes::{BoardForms, GameFacts, Handle};
+use std::alloc::{AllocError, Global};
+
+impl<'a, B: BoardForms, S: CellStore<GameFacts<B>>> Work<'a, B, S> {
+    /// The profile of the game. The only error is want of memory.
+    pub(crate) fn profile_of(&mut self, alloc: Global, a: Handle) -> Result<Profile, AllocError>
+        requires { IsGame (work_state S.state self.old) a }
+        ensures profile { IfOk result (λ p. IsProfile (game_at (work_state S.state self.old) a) p) }
+        ensures spends { Spends 0 (work_state S.state self.old) (work_state S.state self.new) }
+    {
+        let page = page_of(alloc, self.store, &mut self.held.memo.book, a)?;
+        Ok(*self.held.memo.book.pages.profile(page))
+    }
+
+    /// Whether a <= b. The only error is want of memory.
+    pub(crate) fn is_at_most(
+        &mut self,
+        alloc: Global,
+        a: Handle,
+        b: Handle,
+    ) -> Result<bool, AllocError>
+        requires a { IsGame (work_state S.state self.old) a }
+        requires b { IsGame (work_state S.state self.old) b }
+        ensures order { IfOk result (λ answer. answer
+            ≡ le (game_at (work_state S.state self.old) a) (game_at (work_state S.state self.old) b)) }
+        ensures spends { Spends 0 (work_state S.state self.old) (work_state S.state self.new) }
+    {
+        compare(alloc, self.store, &mut self.held.memo.book, a, b)
+    }
+
+    /// Makes the item of the canonical form of the game with these options, with a cost of `extra` more.
+    pub(crate) fn make_value(
+        &mut self,
+        alloc: Global,
+        lefts: &[Handle],
+        rights: &[Handle],
+        first_term: Option<FirstTerm>,
+        extra: u64,
+    ) -> Result<Handle, ValueFault>
+        requires extra { extra ≤ 8 }
+        requires lefts { AreGames (work_state S.state self.old) lefts.now }
+        requires rights { AreGames (work_state S.state self.old) rights.now }
+        requires terms { ApartByTerm first_term (games_at (work_state S.state self.old) lefts.now)
+            (games_at (work_state S.state self.old) rights.now) }
+        ensures game { let W = work_state S.state self.old in IfOk result (λ h. StandsFor (work_state S.state self.new) h
+            (can (node (games_at W lefts.now) (games_at W rights.now)))) }
+        ensures made { let W = work_state S.state self.old in ItemsMade W (work_state S.state self.new)
+            (made (can (node (games_at W lefts.now) (games_at W rights.now))) extra ∷ []) result }
+        ensures same { OnErr result (Spends 0 (work_state S.state self.old) (work_state S.state self.new)) }
+        ensures spare { OnOk result ((work_state S.state self.old).spare + extra ≤ (work_state S.state self.new).spare) }
+    {
+        value_item(
+            alloc,
+            self.store,
+            &mut self.held.memo.book,
+            &mut self.meter,
+            lefts,
+            rights,
+            first_term,
+            extra,
+        )
+    }
+
+    /// Makes the item of a game that is canonical as it is given, with a cost of `extra` more.
+    pub(crate) fn make_given(
+        &mut self,
+        alloc: Global,
+        lefts: &[Handle],
+        rights: &[Handle],
+        extra: u64,
+    ) -> Result<Handle, ValueFault>
+        requires extra { extra ≤ 8 }
+        requires lefts { AreGames (work_state S.state self.old) lefts.now }
+        requires rights { AreGames (work_state S.state self.old) rights.now }
+        requires canonical { let W = work_state S.state self.old in Canonical (node (games_at W lefts.now) (games_at W rights.now)) }
+        requires no_number { let W = work_state S.state self.old in NoNumber (node (games_at W lefts.now) (games_at W rights.now)) }
+        ensures game { let W = work_state S.state self.old in IfOk result (λ h. StandsFor (work_state S.state self.new) h
+            (node (games_at W lefts.now) (games_at W rights.now))) }
+        ensures made { let W = work_state S.state self.old in ItemsMade W (work_state S.state self.new)
+            (made (node (games_at W lefts.now) (games_at W rights.now)) extra ∷ []) result }
+        ensures same { OnErr result (Spends 0 (work_state S.state self.old) (work_state S.state self.new)) }
+        ensures spare { OnOk result ((work_state S.state self.old).spare + extra ≤ (work_state S.state self.new).spare) }
+    {
+        given_item(
+            alloc,
+            self.store,
+            &mut self.held.memo.book,
+            &mut self.meter,
+            lefts,
+            rights,
+            extra,
+        )
+    }
+
+    /// The sum of the two that was found, if one was.
+    pub(crate) fn added(&self, a: Handle, b: Handle) -> Option<KnownSum>
+        ensures { IfSome result (IsKnownSum (S.state self.now.store.now) a b) }
+    {
+        self.held.memo.added(a.id().number(), b.id().number())
+    }
+
+    /// Keeps the sum of the two.
+    pub(crate) fn keep_added(
+        &mut self,
+        a: Handle,
+        b: Handle,
+        known: KnownSum,
+    ) -> Result<(), AllocError>
+        requires { IsKnownSum (S.state self.old.store.now) a b known }
+        ensures { self.new ≡ self.old }
+    {
+        self.held
+            .memo
+            .keep_added(a.id().number(), b.id().number(), known)?;
+        Ok(())
+    }
+
+    /// The form that was made from these options, if it is kept.
+    pub(crate) fn made_from(&self, lefts: &[Handle], rights: &[Handle]) -> Option<Handle>
+        ensures { IfSome result (IsFormOf (S.state self.now.store.now) lefts.now rights.now) }
+    {
+        self.held.made.find(lefts, rights)
+    }
+
+    /// Keeps the form that was made from these options.
+    pub(crate) fn keep_made(
+        &mut self,
+        lefts: &[Handle],
+        rights: &[Handle],
+        form: Handle,
+    ) -> Result<(), AllocError>
+        requires { IsFormOf (S.state self.old.store.now) lefts.now rights.now form }
+        ensures { self.new ≡ self.old }
+    {
+        self.held.made.keep(lefts, rights, form)?;
+        Ok(())
+    }
+}

@@ -1,0 +1,45 @@
+//! What a work has found out, apart from the work.
+ghost use Rattle.std.specs.Prelude.{◌↔◌, ◌⊎◌, ◌<◌, IsTrue, length};
+ghost use Rattle.std.specs.FinMap as map;
+ghost use Rattle.std.specs.Ordering.{nat_cmp};
+ghost use Rattle.cg_nodes.specs.Meant.{Meant};
+ghost use Rattle.cg_canon.specs.Held.{IsHeld, knowing};
+
+use crate::made::MadeForms;
+use crate::memo::Memo;
+use std::alloc::Global;
+
+/// What a work has found out: the games that it met, their sums, and the forms that it made.
+///
+/// It is taken out of a work by [`Work::take_held`](crate::Work::take_held), and taken up by a later one by
+/// [`Work::resume`](crate::Work::resume), on a store that knows at least as much.
+#[derive(Drop)]
+pub struct Held {
+    /// The games, each on a page, and their sums.
+    pub(crate) memo: Memo,
+    /// The forms.
+    pub(crate) made: MadeForms,
+}
+
+/// More pages than this, or more sums, are many.
+const MANY: usize = 262_144;
+
+impl Held {
+    /// Of nothing, which holds whatever is known.
+    pub fn new(alloc: Global) -> Held
+        ensures { (known : map.FinMap nat_cmp Meant) → IsHeld (knowing known) result }
+    {
+        Held {
+            memo: Memo::new(alloc),
+            made: MadeForms::new(alloc),
+        }
+    }
+
+    /// Whether the pages or the sums are so many that a caller would rather begin anew than keep them. Of the forms
+    /// only so many are kept in any case.
+    pub fn is_large(&self) -> bool
+        ensures { IsTrue result ↔ ((262144 < length self.now.memo.book.pages) ⊎ (262144 < length self.now.memo.sums.items)) }
+    {
+        self.memo.book.pages.count() > MANY || self.memo.count() > MANY
+    }
+}
