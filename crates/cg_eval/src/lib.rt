@@ -26,4 +26,4 @@ mod telling;
 pub use adder::SumAdder;
 pub use answered::Answered;
 pub use line::answer;
-pub use reply::answer_query;
+pub use reply::{answer_query, answer_query_held};

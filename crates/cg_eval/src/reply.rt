@@ -1,5 +1,9 @@
 //! Replies to questions.
 ghost use Rattle.std.specs.Prelude.{◌≡◌, ◌+◌, ◌≤◌, None, IfOk};
+ghost use Rattle.std.specs.FinMap as map;
+ghost use Rattle.std.specs.Ordering.{nat_cmp};
+ghost use Rattle.cg_nodes.specs.Meant.{Meant};
+ghost use Rattle.cg_canon.specs.Held.{IsHeld, knowing};
 ghost use Rattle.cg_canon.specs.Works.{Keeps, work_state};
 ghost use Rattle.cg_eval.specs.Faults.{question_fault};
 ghost use Rattle.cg_eval.specs.Shown.{IsAnswered};
@@ -11,12 +15,13 @@ use crate::Answered;
 use crate::faults::question_fault;
 use crate::question::answer_question;
 use crate::refusals::{refuse_board, refuse_value};
-use cg_canon::Work;
+use cg_canon::{Held, Work};
 use cg_cells::CellStore;
 use cg_nodes::GameFacts;
 use cg_syntax::Query;
 use cg_values::CgBoards;
 use std::alloc::{AllocError, Global};
+use std::mem;
 
 /// The reply to a closed question, which has no uses of names, on a share of so much of the store's spare, with so many
 /// positions at most in one list of items. Each question that a line of format 1 asks is closed, and so is each whose names
@@ -40,10 +45,45 @@ pub fn answer_query<S: CellStore<GameFacts<CgBoards>>>(
     ensures keeps { KeepsStore (S.state store.old) (S.state store.new) }
     ensures spare { (S.state store.old).spare ≤ (S.state store.new).spare + share }
 {
-    let mut work = Work::new(alloc, store, share, positions);
+    let mut held = Held::new(alloc);
+    answer_query_held(alloc, store, &mut held, query, share, positions)
+}
+
+/// The reply to a closed question, as [`answer_query`] gives it, with the help of what earlier questions on the same store found
+/// out. What this one finds out besides is there for later ones, unless it has become so much that they would rather begin anew.
+pub fn answer_query_held<S: CellStore<GameFacts<CgBoards>>>(
+    alloc: Global,
+    store: &mut S,
+    held: &mut Held,
+    query: &Query,
+    share: u64,
+    positions: u64,
+) -> Result<Answered, AllocError>
+    requires closed { IsClosedQuestion (question_of query.now) }
+    requires spare { share ≤ (S.state store.old).spare }
+    requires held { IsHeld (S.state store.old) held.old }
+    ensures reply { IfOk result (IsAnswered share positions (S.state store.new) (question_of query.now)) }
+    ensures keeps { KeepsStore (S.state store.old) (S.state store.new) }
+    ensures spare { (S.state store.old).spare ≤ (S.state store.new).spare + share }
+    ensures held { IsHeld (S.state store.new) held.new }
+{
+    let own = mem::replace(held, Held::new(alloc));
+    let mut work = Work::resume(store, share, positions, own);
     let replied = reply_on(alloc, &mut work, query);
+    *held = kept(alloc, work.take_held(alloc));
     let _store = work.into_store();
     replied
+}
+
+/// What was found out, or nothing where it is so much that later questions would rather begin anew.
+fn kept(alloc: Global, found: Held) -> Held
+    ensures { (known : map.FinMap nat_cmp Meant) → IsHeld (knowing known) found → IsHeld (knowing known) result }
+{
+    if found.is_large() {
+        Held::new(alloc)
+    } else {
+        found
+    }
 }
 
 /// The reply to a question, on a work on which nothing was spent. An ill-formed board or heap is refused before anything is made.
