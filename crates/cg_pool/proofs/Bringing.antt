@@ -23,6 +23,10 @@ module _ {A : Type 0} where
 pub one_longer : (l m : List ℕ) (x : ℕ) → m ≡ l ++ x ∷ [] → length m ≡ length l + 1
 one_longer l m x is = ap length is ∙ longer l x
 
+-- what was known before a draw that gave a ticket is known after it
+pub drawn_knows : {X : Type 0} (n spare : ℕ) (v w : ViewOf X) → w ≡ record v { spare = spare; tickets = v.tickets ++ n ∷ [] } → Grows (knows v) (knows w)
+drawn_knows {X} n spare v w drew i t e = subst (λ (u : ViewOf X). knows u i ≡ Rattle.std.proofs.Common.Some t) (sym drew) e
+
 module _ {X A : Type 0} (good : ℕ → A → map.FinMap nat_cmp X → Type 0) (cells : CellsOf) where
   -- What a worker has before each draw: its answers so far, one for each ticket, each good
   pub record IsUnderWay (passes : ℕ) (all : List (ℕ × A)) (p : PassOf X) : Type 0 where
@@ -42,7 +46,7 @@ module _ {X A : Type 0} (good : ℕ → A → map.FinMap nat_cmp X → Type 0) (
   module _ (passes n spare : ℕ) (all all' : List (ℕ × A)) (a : A) (p q r : PassOf X) (U : IsUnderWay good cells passes all p)
       (drew : q.sees ≡ record p.sees { spare = spare; tickets = p.sees.tickets ++ n ∷ [] }) (N : IsAnswered good cells n q a r) (pushed : all' ≡ all ++ (n, a) ∷ []) where
     grown : Grows (knows p.sees) (knows r.sees)
-    grown i t e = N.known i t (subst (λ (v : ViewOf X). knows v i ≡ Rattle.std.proofs.Common.Some t) (sym drew) e)
+    grown i t e = N.known i t (drawn_knows n spare p.sees q.sees drew i t e)
 
     pub goes_on : IsUnderWay good cells passes all' r
     goes_on = record {

@@ -2,7 +2,7 @@
 ghost use Rattle.std.specs.Prelude.{◌≡◌, ℕ, ◌+◌, ◌<◌, ◌≤◌, ◌++◌, [], IfOk};
 ghost use Rattle.std.specs.Thread.{IsSync};
 ghost use Rattle.cg_cells.specs.Table.{passes_of};
-ghost use Rattle.cg_shared.specs.Passes.{IsPassOf};
+ghost use Rattle.cg_shared.specs.Passes.{IsPassOf, pass_state};
 ghost use Rattle.cg_pool.specs.Answers.{IsAnswered, IsBrought};
 
 use crate::{Gate, Job};
@@ -12,25 +12,28 @@ use std::alloc::{AllocError, Global};
 use std::thread;
 use std::thread::Threads;
 
-// Answers one line with the pass.
+// Answers one line with the pass and what the worker holds.
 fn answered<F: Facts, J: Job<F>>(
     cells: &SharedCells<F>,
     alloc: Global,
     job: &J,
     pass: Pass<F>,
+    held: &mut J::Held,
     index: u64,
 ) -> Result<(J::Answer, Pass<F>), AllocError>
     requires own { IsPassOf cells.now pass }
     requires index { index < J.count job.now }
     requires spare { J.needs job.now ≤ pass.sees.spare }
-    ensures { IfOk result (λ r. IsAnswered (J.good job.now) cells.now index pass r.0 r.1) }
+    requires held { J.holds held.old (pass_state pass).known }
+    ensures answer { IfOk result (λ r. IsAnswered (J.good job.now) cells.now index pass r.0 r.1) }
+    ensures held { IfOk result (λ r. J.holds held.new (pass_state r.1).known) }
 {
     let mut desk = Desk::new(cells, pass);
-    let answer = job.work(alloc, &mut desk, index)?;
+    let answer = job.work(alloc, &mut desk, held, index)?;
     Ok((answer, desk.into_pass()))
 }
 
-// Draws lines and answers them until none is left.
+// Draws lines and answers them until none is left, and holds one thing for all of them.
 fn worker<F: Facts, J: Job<F>, G: Gate>(
     cells: &SharedCells<F>,
     alloc: Global,
@@ -45,13 +48,14 @@ fn worker<F: Facts, J: Job<F>, G: Gate>(
     ensures { IfOk result (λ r. IsBrought (J.good job.now) cells.now (passes_of pass.sees) r.0.items r.1) }
 {
     let mut answers = Vec::new(alloc);
+    let mut held = job.start(alloc);
     loop {
         let Some(Ticket(index)) = cells.draw(&mut pass) else {
             return Ok((answers, pass));
         };
         pass.tickets();
         gate.enter(index);
-        let done = answered::<F, J>(cells, alloc, job, pass, index);
+        let done = answered::<F, J>(cells, alloc, job, pass, &mut held, index);
         gate.leave(index);
         let (answer, after) = done?;
         pass = after;

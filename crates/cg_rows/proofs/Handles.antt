@@ -4,13 +4,14 @@ use Rattle.std.specs.Prelude.{slice_get, MatchOption}
 use Rattle.cg_cells.specs.Store.{State, thing_at}
 use Rattle.cg_nodes.specs.Meant.{Meant, form}
 use Rattle.cg_nodes.specs.Games.{IsGame, game_in}
+use Rattle.cg_canon.specs.Held.{knowing}
 use Rattle.cg_syntax.specs.Session.{Resolved, Asked_of, Syntax_at, Too_large, Unknown_at, answered_lines}
 use Rattle.cg_syntax.specs.Tree.{Question}
 use Rattle.cg_eval.specs.declared.answered.Answered.{Answered}
 use Rattle.cg_eval.specs.Shown.{HandleIs}
 use Rattle.cg_shared.specs.Passes.{CellsOf, PassOf, pass_state}
 use Rattle.cg_words.specs.declared.settings.Settings.{Settings}
-use Rattle.cg_session.specs.Good.{IsGood, knowing}
+use Rattle.cg_session.specs.Good.{IsGood}
 use Rattle.cg_session.specs.Kept.{KeepsSession}
 use Rattle.cg_session.specs.Replies.{HandleOf}
 use Rattle.cg_session.specs.Settings.{share_of, text_by}

@@ -1,9 +1,12 @@
--- A line of a list, and an answer that is good for it.
+-- A line of a list, an answer that is good for it, and what a worker holds.
 use Rattle.std.proofs.Common.{◌≡◌, ℕ, zero, suc, ◌<◌, List, [], ◌∷◌, map, length, get_or, Bool, true, false, Option, Some, None, Result, Ok, Err, IfOk, refl, sym, ap, ◌∙◌, subst, arith}
 use Rattle.std.specs.Prelude.{slice_get, not}
 use Rattle.cg_cells.specs.Store.{State}
 use Rattle.cg_cells.proofs.Levels.{same_Some}
 use Rattle.cg_nodes.specs.Meant.{Meant}
+use Rattle.cg_canon.specs.declared.held.Held.{Held}
+use Rattle.cg_canon.specs.Held.{IsHeld, knowing}
+use Rattle.cg_canon.proofs.Holding.{held_later}
 use Rattle.cg_syntax.specs.Tree.{Question}
 use Rattle.cg_syntax.specs.Naming.{IsClosedQuestion, trees_of_question, uses_of}
 use Rattle.cg_syntax.specs.Session.{AreClosedLines, IsClosedLine, Resolved, Asked_of, Syntax_at, Too_large, Unknown_at, has_some}
@@ -11,7 +14,7 @@ use Rattle.cg_syntax.proofs.Closed.{closed_from_unused, closed_unused}
 use Rattle.cg_eval.specs.declared.answered.Answered.{Answered}
 use Rattle.cg_eval.specs.Reply.{syntax_at}
 use Rattle.cg_eval.specs.Shown.{shown, HandleIs, IsAnswered}
-use Rattle.cg_session.specs.Good.{IsGood, knowing}
+use Rattle.cg_session.specs.Good.{IsGood}
 use Rattle.cg_session.specs.Outputs.{AreClosed, is_closed}
 use Rattle.cg_session.specs.Replies.{HandleOf, IsReply, too_large, unknown_at}
 
@@ -59,6 +62,16 @@ good_line s share positions line (Ok a) reply handle lines n at = λ l e.
     subst (λ (t : ℕ × Resolved). IsGood share positions t.1 a s.known) (same_Some (sym at ∙ e))
     (record { reply = reply; handle = line_known s line.1 a.refused a.handle handle })
 good_line s share positions line (Err e) reply handle lines n at = tt
+
+-- ---- what a worker holds, under what is known and on a store that knows it
+
+module _ {R : Type 0} (s : State Meant R) (h : Held) where
+  pub held_on : IsHeld (knowing s.known) h → IsHeld s h
+  held_on k = held_later (knowing s.known) s h (λ i x e. e) k
+
+  pub held_under : {A E : Type 0} (r : Result A E) → IsHeld s h → IfOk r (λ _. IsHeld (knowing s.known) h)
+  held_under (Ok a) k = held_later s (knowing s.known) h (λ i x e. e) k
+  held_under (Err e) k = tt
 
 -- ---- lines that ask something and lines that don't
 

@@ -1,19 +1,15 @@
 -- Good answers to lines.
-use Rattle.std.specs.Prelude.{◌≡◌, ℕ, Bool, true, false, List, [], Option, Some, None, slice_get}
+use Rattle.std.specs.Prelude.{◌≡◌, ℕ, Bool, true, false, List, Option, Some, None, slice_get}
 use Rattle.std.specs.FinMap as map
 use Rattle.std.specs.Ordering.{nat_cmp}
 use Rattle.cg_cells.specs.Meaning.{Grows}
-use Rattle.cg_cells.specs.Store.{State}
 use Rattle.cg_nodes.specs.Meant.{Meant}
+use Rattle.cg_canon.specs.Held.{knowing}
 use Rattle.cg_eval.specs.declared.answered.Answered.{Answered}
 use Rattle.cg_syntax.specs.Tree.{Question}
 use Rattle.cg_eval.specs.Shown.{shown, HandleIs}
 use Rattle.cg_syntax.specs.Session.{Resolved, Asked_of, Syntax_at, Too_large, Unknown_at}
 use Rattle.cg_session.specs.Replies.{HandleOf, IsReply}
-
--- a store that knows this, and nothing else
-abbrev pub knowing : map.FinMap nat_cmp Meant → State Meant (Unit {0})
-knowing known = record { known = known; noted = []; spare = 0; rest = tt }
 
 -- The answer to a line of which this is made, on a share of so many cells: its text is the reply, and its handle is known to
 -- be the value of the line's first expression, expanded.

@@ -14,16 +14,23 @@ struct Turns;
 impl Job<Spread> for Turns {
     type Answer = [Id; 4];
 
+    type Held = ();
+
     ghost count = { λ _. 64 };
 
     ghost needs = { λ _. 4 };
 
     ghost good = { λ _ n ids known. Unit {0} };
 
+    ghost holds = { λ held known. Unit {0} };
+
+    fn start(&self, _alloc: Global) {}
+
     fn work(
         &self,
         _alloc: Global,
         desk: &mut Desk<'_, Spread>,
+        _held: &mut (),
         index: u64,
     ) -> Result<[Id; 4], AllocError> {
         let own = desk.claim(whole_key((index % 4) as u32));
@@ -34,6 +41,8 @@ impl Job<Spread> for Turns {
     }
 
     ghost stays = { λ job n ids f g grows h. h };
+
+    ghost holding = { λ held f g grows h. h };
 }
 
 /// Whether the cells are four.

@@ -6,6 +6,8 @@ mod crowds;
 #[cfg(test)]
 mod gates;
 #[cfg(test)]
+mod held;
+#[cfg(test)]
 mod homes;
 #[cfg(test)]
 mod notes;

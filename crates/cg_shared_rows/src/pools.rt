@@ -22,16 +22,23 @@ pub(crate) struct Numbers {
 impl Job<Spread> for Numbers {
     type Answer = Id;
 
+    type Held = ();
+
     ghost count = { λ _. 4096 };
 
     ghost needs = { λ _. 1 };
 
     ghost good = { λ _ n id known. map.get known id ≡ Some (word_of (Number (pos n) 0)) };
 
+    ghost holds = { λ held known. Unit {0} };
+
+    fn start(&self, _alloc: Global) {}
+
     fn work(
         &self,
         _alloc: Global,
         desk: &mut Desk<'_, Spread>,
+        _held: &mut (),
         index: u64,
     ) -> Result<Id, AllocError> {
         if self.without_memory == Some(index) {
@@ -41,6 +48,8 @@ impl Job<Spread> for Numbers {
     }
 
     ghost stays = { λ job n id f g grows h. grows id (word_of (Number (pos n) 0)) h };
+
+    ghost holding = { λ held f g grows h. h };
 }
 
 /// So many lines by so many workers.

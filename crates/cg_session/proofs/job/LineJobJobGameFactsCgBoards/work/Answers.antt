@@ -1,7 +1,7 @@
 use Rattle.std.proofs.Common.{get_or, map}
 use Rattle.cg_shared.specs.Passes.{pass_state}
 use Rattle.cg_syntax.specs.SessionViews.{line_of}
-use Rattle.cg_session.proofs.Knowing.{value_at, good_line}
+use Rattle.cg_session.proofs.Knowing.{value_at, good_line, held_on, held_under}
 use Rattle.cg_session.proofs.job.LineJobJobGameFactsCgBoards.work.Goals as goal
 
 pub answer_line-requires-clause-closed : goal.answer_line-requires-clause-closed
@@ -9,9 +9,16 @@ answer_line-requires-clause-closed c =
     let lines = c.args.self.now.lines.now in
     c.args.self.now.closed c.args.index _ (value_at line_of lines c.args.index c.index-self-index.result c.requires.index)
 
+pub answer_line-requires-clause-held : goal.answer_line-requires-clause-held
+answer_line-requires-clause-held c = held_on (pass_state c.args.desk.now) c.args.held.now c.requires.held
+
 pub returns-clause-good : goal.returns-clause-good
 returns-clause-good c =
     let lines = c.args.self.now.lines.now in
     good_line (pass_state c.answer_line.new.store) c.args.self.now.share c.args.self.now.positions
     (line_of (get_or lines c.args.index c.index-self-index.result)) c.answer_line.result c.answer_line.ensures.reply c.answer_line.ensures.handle
     (map line_of lines) c.args.index (value_at line_of lines c.args.index c.index-self-index.result c.requires.index)
+
+pub returns-clause-held : goal.returns-clause-held
+returns-clause-held c =
+    held_under (pass_state c.answer_line.new.store) c.answer_line.new.held c.answer_line.result c.answer_line.ensures.held

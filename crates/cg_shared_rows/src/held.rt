@@ -1,0 +1,50 @@
+//! What a worker holds from line to line.
+use cg_cell_rows::toys::Spread;
+use cg_pool::{Job, NoGate, evaluate};
+use cg_shared::Desk;
+use std::alloc::{AllocError, Global};
+use std::test::Fail;
+
+/// Each line answers how many lines its worker has answered before.
+struct Earlier;
+
+impl Job<Spread> for Earlier {
+    type Answer = u64;
+
+    type Held = u64;
+
+    ghost count = { λ _. 4 };
+
+    ghost needs = { λ _. 0 };
+
+    ghost good = { λ _ n earlier known. Unit {0} };
+
+    ghost holds = { λ held known. Unit {0} };
+
+    fn start(&self, _alloc: Global) -> u64 {
+        0
+    }
+
+    fn work(
+        &self,
+        _alloc: Global,
+        _desk: &mut Desk<'_, Spread>,
+        held: &mut u64,
+        _index: u64,
+    ) -> Result<u64, AllocError> {
+        let earlier = *held;
+        *held = earlier.wrapping_add(1);
+        Ok(earlier)
+    }
+
+    ghost stays = { λ job n earlier f g grows h. h };
+
+    ghost holding = { λ held f g grows h. h };
+}
+
+#[test]
+fn a_worker_holds_what_the_line_before_left(rt: HostRuntime) -> Result<(), Fail> {
+    let made = evaluate(&rt, rt.alloc(), 4, 1, 1, &Earlier, &NoGate)?;
+    assert_eq!(rt; made.answers.as_slice(), [0, 1, 2, 3].as_slice());
+    Ok(())
+}
