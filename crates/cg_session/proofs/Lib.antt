@@ -1,3 +1,4 @@
+pub mod Crossing
 pub mod Endings
 pub mod Fronts
 pub mod Knowing

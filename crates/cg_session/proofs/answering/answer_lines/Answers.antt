@@ -9,6 +9,9 @@ use Rattle.cg_session.specs.Output.{IsOutputOf}
 use Rattle.cg_syntax.specs.SessionViews.{line_of}
 use Rattle.cg_session.specs.Settings.{share_of}
 use Rattle.cg_session.proofs.Shares.{share_is}
+use denote.Param.Send.{param_sync, sendable}
+use Rattle.cg_session.proofs.answering.answer_lines.Lts.{arg-4-2}
+use Rattle.cg_session.proofs.Crossing.{job_sync}
 use Rattle.cg_session.proofs.answering.answer_lines.Goals as goal
 
 pub returns-then-is_empty-clause-written : goal.returns-then-is_empty-clause-written
@@ -54,3 +57,7 @@ returns-clause-kept g c =
           subst (λ (m : ℕ). IsGood m positions line.1 answer (pass_state kept.pass).known) (sym share)
           (of.good n answer has line at);
     }
+
+pub evaluate-requires-sync-J : goal.evaluate-requires-sync-J
+evaluate-requires-sync-J g c κs within =
+    param_sync 2 (arg-4-2 g.row.R g.row.G g.R.laws g.G.laws g.R.Threads-dict g.G.Gate-dict κs) (search (sendable, job_sync) depth 4)
