@@ -1,8 +1,8 @@
 //! Answers to comparisons that were found of late.
 //!
 //! Each pair of games has eight places in a table, which it shares with other pairs. An answer stands at the first of them that
-//! was free, and takes over one from another pair only where none is. The table grows with the answers, before many of its
-//! places are filled, up to a fixed size; so they take a bounded memory, however many are found.
+//! was free, and takes over one from another pair only where none is. The table grows with the answers of one question, up to a
+//! fixed size; so they take a bounded memory, however many are found. As long as it is small it serves question after question.
 ghost use Rattle.std.specs.Prelude.{◌≡◌, ◌⊎◌, IfOk, IfSome, OnErr};
 ghost use Rattle.cg_book.specs.declared.recent.Answer.{Answer as Known};
 ghost use Rattle.cg_book.specs.Recents.{IsPlaced, IsKept};
@@ -22,7 +22,7 @@ pub(crate) struct Answer {
 pub struct Recent {
     alloc: Global,
     places: Vec<Option<Answer>>,
-    /// How many places more are filled before the table grows.
+    /// How many answers more are put into the table before it grows.
     room: usize,
 }
 
@@ -31,6 +31,9 @@ const FIRST: usize = 16;
 
 /// The greatest size of a table.
 const MOST: usize = 1_048_576;
+
+/// The greatest size of a table that serves more than one question.
+const SMALL: usize = 16_384;
 
 /// How many places a pair has.
 const WAYS: usize = 8;
@@ -67,17 +70,14 @@ fn place_for(places: &[Option<Answer>], home: usize) -> usize {
     place_at(home, 0, places.len())
 }
 
-/// Puts the answer into one of its places. Tells whether the place was free.
-fn put(places: &mut [Option<Answer>], answer: Answer) -> bool
+/// Puts the answer into one of its places.
+fn put(places: &mut [Option<Answer>], answer: Answer)
     ensures { (x : Known) → IsPlaced places.new x → (x ≡ answer) ⊎ IsPlaced places.old x }
 {
     let at = place_for(places, home_of(answer.low, answer.high));
-    if at >= places.len() {
-        return false;
+    if at < places.len() {
+        places[at] = Some(answer);
     }
-    let was_free = places[at].is_none();
-    places[at] = Some(answer);
-    was_free
 }
 
 /// Puts the answers of the first table into the second.
@@ -130,8 +130,8 @@ impl Recent {
         None
     }
 
-    /// Makes the table larger, where an eighth of it was filled since it grew and it isn't yet of the greatest size. Nothing
-    /// changes where there is no memory.
+    /// Makes the table larger, where half as many answers as it has places were put into it since it grew, and it isn't yet
+    /// of the greatest size. Nothing changes where there is no memory.
     fn grow(&mut self) -> Result<(), AllocError>
         ensures { (x : Known) → IsKept self.new x → IsKept self.old x }
     {
@@ -141,7 +141,7 @@ impl Recent {
         }
         let next = (2 * size).max(FIRST);
         self.places = moved(self.alloc, &self.places, next)?;
-        self.room = next / 8;
+        self.room = next / 2;
         Ok(())
     }
 
@@ -151,9 +151,19 @@ impl Recent {
         ensures err { OnErr result ((x : Known) → IsKept self.new x → IsKept self.old x) }
     {
         self.grow()?;
-        if put(&mut self.places, answer) {
-            self.room = self.room.saturating_sub(1);
-        }
+        put(&mut self.places, answer);
+        self.room = self.room.saturating_sub(1);
         Ok(())
+    }
+
+    /// Makes ready for another question. A small table stays, with its answers, and stands in near caches; a large one is given
+    /// up, since another question asks for few of its answers.
+    pub fn make_ready(&mut self)
+        ensures { (x : Known) → IsKept self.new x → IsKept self.old x }
+    {
+        if self.places.len() > SMALL {
+            self.places = Vec::new(self.alloc);
+        }
+        self.room = self.places.len() / 2;
     }
 }

@@ -7,7 +7,6 @@ ghost use Rattle.cg_canon.specs.Held.{IsHeld, knowing};
 
 use crate::made::MadeForms;
 use crate::memo::Memo;
-use cg_book::Recent;
 use std::alloc::Global;
 
 /// What a work has found out: the games that it met, their sums, and the forms that it made.
@@ -36,13 +35,12 @@ impl Held {
         }
     }
 
-    /// The same but for the answers to comparisons, of which there are none. A later question asks for few of these again, and a
-    /// small table of answers stands in near caches.
-    pub(crate) fn without_answers(self, alloc: Global) -> Held
+    /// The same for a later question, which asks for few of the answers to comparisons again: they stay only in a small table.
+    pub(crate) fn for_later(self) -> Held
         ensures { (known : map.FinMap nat_cmp Meant) → IsHeld (knowing known) self → IsHeld (knowing known) result }
     {
         let mut held = self;
-        held.memo.book.answers = Recent::new(alloc);
+        held.memo.book.answers.make_ready();
         held
     }
 

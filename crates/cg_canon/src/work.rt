@@ -114,13 +114,13 @@ impl<'a, B: BoardForms, S: CellStore<GameFacts<B>>> Work<'a, B, S> {
         store
     }
 
-    /// What was found out so far, but for answers to comparisons, for a later work on a store that knows at least as much. This
-    /// work goes on with nothing found out.
+    /// What was found out so far, but for most answers to comparisons, for a later work on a store that knows at least as much.
+    /// This work goes on with nothing found out.
     pub fn take_held(&mut self, alloc: Global) -> Held
         ensures held { IsHeld (S.state self.old.store.now) result }
         ensures same { self.new ≡ self.old }
     {
-        replace(&mut self.held, Held::new(alloc)).without_answers(alloc)
+        replace(&mut self.held, Held::new(alloc)).for_later()
     }
 
     /// Charges the cost, unless that would bring the total above the share: then the fault is `Full` of that total.

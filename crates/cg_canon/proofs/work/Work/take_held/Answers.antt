@@ -16,5 +16,5 @@ returns-clause-held g c =
     let s = g.S.CellStore.state c.self.inside.store.now in
     let P : Held → Type 0 = λ z. IsHeld (knowing s.known) z in
     let taken = subst P (sym c.replace.ensures.value) (held_later s (knowing s.known) c.self.inside.held (λ i x e. e) c.self.invariant.1) in
-    let Q : WorkOf _ → Type 0 = λ w. IsHeld (g.S.CellStore.state w.store.now) c.without_answers.result in
-    subst Q c.self.view_is (held_later (knowing s.known) s c.without_answers.result (λ i x e. e) (c.without_answers.ensures s.known taken))
+    let Q : WorkOf _ → Type 0 = λ w. IsHeld (g.S.CellStore.state w.store.now) c.for_later.result in
+    subst Q c.self.view_is (held_later (knowing s.known) s c.for_later.result (λ i x e. e) (c.for_later.ensures s.known taken))

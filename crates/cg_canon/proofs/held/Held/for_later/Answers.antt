@@ -1,10 +1,10 @@
 use Rattle.cg_canon.specs.Held.{knowing}
 use Rattle.cg_canon.proofs.Booking.{holds_answers}
-use Rattle.cg_canon.proofs.held.Held.without_answers.Goals as goal
+use Rattle.cg_canon.proofs.held.Held.for_later.Goals as goal
 
 pub returns : goal.returns
 returns c known h = record {
-  book = holds_answers (knowing known) c.args.self.memo.book c.new.result h.book (λ x k. absurd (c.new.ensures x k));
+  book = holds_answers (knowing known) c.args.self.memo.book c.make_ready.new.self h.book (λ x k. h.book.right x (c.make_ready.ensures x k));
   sums = λ a b k at. let s = h.sums a b k (record { place = at.place; there = at.there }) in s;
   forms = h.forms;
 }
