@@ -90,39 +90,32 @@ same_node a b c d e f = cc
 pub canonical_node : (a b c d : List Game) → a ≡ c → b ≡ d → Canonical (node c d) → Canonical (node a b)
 canonical_node a b c d e f k = let P : Game → Type 0 = λ z. Canonical z in subst P (sym (same_node a b c d e f)) k
 
--- the handles have these games, and this is the profile of the game of them
-pub record AreOptions {R : Type 0} (s : State Meant R) (ls rs : List ℕ) (gs hs : List Game) (p : Profile) : Type 0 where
-  pub lefts : AreGames s ls
-  pub rights : AreGames s rs
-  pub left_games : games_at s ls ≡ gs
-  pub right_games : games_at s rs ≡ hs
-  pub profile : IsProfile (node gs hs) p
-
-pub cost_of_options : {R : Type 0} (s : State Meant R) (ls rs : List ℕ) (gs hs : List Game) (p : Profile) → AreOptions s ls rs gs hs p
-    → p.cost ≡ 1 + length ls + length rs
-cost_of_options s ls rs gs hs p a =
+-- the cost of a form, by the handles of its options
+pub cost_of_options : {R : Type 0} (s : State Meant R) (ls rs : List ℕ) (gs hs : List Game) (p : Profile)
+    → games_at s ls ≡ gs → games_at s rs ≡ hs → IsProfile (node gs hs) p → p.cost ≡ 1 + length ls + length rs
+cost_of_options s ls rs gs hs p a b i =
     let P : Game → Type 0 = λ z. IsProfile z p in
-    cost_of_lists s ls rs p (subst P (sym (same_node _ _ _ _ a.left_games a.right_games)) a.profile)
+    cost_of_lists s ls rs p (subst P (sym (same_node _ _ _ _ a b)) i)
 
 -- the game that was claimed last
-pub record IsClaimed {R : Type 0} (s t : State Meant R) (handle : ℕ) (form : Game) (p : Profile) : Type 0 where
+pub record IsClaimed {R : Type 0} (s t : State Meant R) (ls rs : List ℕ) (handle : ℕ) : Type 0 where
   pub cells : ℕ
-  pub fewer : cells ≤ p.cost
+  pub fewer : cells ≤ 1 + length ls + length rs
   pub spends : Spends cells s t
-  pub stands : StandsFor t handle form
+  pub stands : StandsFor t handle (node (games_at s ls) (games_at s rs))
 
-pub is_claimed : {R : Type 0} (s t u v : State Meant R) (ls rs : List ℕ) (o q : Option ℕ) (handle : ℕ) (gs hs : List Game) (p : Profile)
-    → AreOptions s ls rs gs hs p → Spends (length ls) s t → ((n : ℕ) × (n ≤ length rs) × Spends n t u) → Spends 1 u v
+pub is_claimed : {R : Type 0} (s t u v : State Meant R) (ls rs : List ℕ) (o q : Option ℕ) (handle : ℕ) → AreGames s rs
+    → Spends (length ls) s t → ((n : ℕ) × (n ≤ length rs) × Spends n t u) → Spends 1 u v
     → ListsAs t o (games_at s ls) → ListsAs u q (games_at t rs) → StandsFor v handle (node (listed u o) (listed u q))
-    → IsClaimed s v handle (node gs hs) p
-is_claimed s t u v ls rs o q handle gs hs p a k l m i j st =
-    let two = two_lists (length ls) l.0 s t u ls rs o q a.rights k l.2 i j in
+    → IsClaimed s v ls rs handle
+is_claimed s t u v ls rs o q handle a k l m i j st =
+    let two = two_lists (length ls) l.0 s t u ls rs o q a k l.2 i j in
     let P : Game → Type 0 = λ z. StandsFor v handle z in
     record {
       cells = (length ls + l.0) + 1;
-      fewer = omega (arith, cost_of_options s ls rs gs hs p a, l.1);
+      fewer = omega (arith, l.1);
       spends = spends_then (length ls + l.0) 1 s u v (spends_then (length ls) l.0 s t u k l.2) m;
-      stands = subst P (same_node _ _ _ _ (two.first ∙ a.left_games) (two.second ∙ a.right_games)) st;
+      stands = subst P (same_node _ _ _ _ two.first two.second) st;
     }
 
 -- a form that is out of range

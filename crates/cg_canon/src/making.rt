@@ -64,6 +64,25 @@ fn second_list<B: BoardForms, S: CellStore<GameFacts<B>>>(
     list(store, rights)
 }
 
+/// The handle of the game whose options have these handles.
+fn claimed_game<B: BoardForms, S: CellStore<GameFacts<B>>>(
+    store: &mut S,
+    lefts: &[Handle],
+    rights: &[Handle],
+) -> Handle
+    requires lefts { AreGames (S.state store.old) lefts.now }
+    requires rights { AreGames (S.state store.old) rights.now }
+    requires canonical { Canonical (node (games_at (S.state store.old) lefts.now) (games_at (S.state store.old) rights.now)) }
+    requires spare { 1 + length lefts.now + length rights.now ≤ (S.state store.old).spare }
+    ensures game { StandsFor (S.state store.new) result
+        (node (games_at (S.state store.old) lefts.now) (games_at (S.state store.old) rights.now)) }
+    ensures spends { (n : ℕ) × (n ≤ 1 + length lefts.now + length rights.now) × Spends n (S.state store.old) (S.state store.new) }
+{
+    let left_list = list(store, lefts);
+    let right_list = second_list(store, lefts, rights, left_list);
+    game(store, left_list, right_list)
+}
+
 /// The handle of the form, whose options have these handles. It is entered in the book.
 fn claimed<B: BoardForms, S: CellStore<GameFacts<B>>>(
     store: &mut S,
@@ -84,9 +103,7 @@ fn claimed<B: BoardForms, S: CellStore<GameFacts<B>>>(
     ensures game { StandsFor (S.state store.new) result (written book.old.pages new.now) }
     ensures spends { (n : ℕ) × (n ≤ new.now.profile.cost) × Spends n (S.state store.old) (S.state store.new) }
 {
-    let left_list = list(store, lefts);
-    let right_list = second_list(store, lefts, rights, left_list);
-    let handle = game(store, left_list, right_list);
+    let handle = claimed_game(store, lefts, rights);
     enter_form(&*store, book, handle, new);
     handle
 }

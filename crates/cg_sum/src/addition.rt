@@ -36,7 +36,8 @@ const ROOM: usize = 1_024;
 /// the inner loop. Such an item costs 1 more than the form. `Positions` comes exactly where there are more
 /// such pairs than the limit, and nothing is made then. `Range`, `Depth` and `Full` come exactly where the
 /// first item that isn't made is refused so; what the items before it cost is spent. No difference is made
-/// in order to compare. A sum that was made in this work before is charged again at once.
+/// in order to compare. A sum that this work made before, or an earlier one whose findings it took up, is
+/// charged again at once.
 pub fn sum<B: BoardForms, S: CellStore<GameFacts<B>>>(
     alloc: Global,
     work: &mut Work<B, S>,
