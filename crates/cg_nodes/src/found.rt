@@ -18,7 +18,7 @@ const ROOM: usize = 16;
 /// Handles in the order in which they were found. Few are searched one by one, and more are looked up by their ids.
 /// Contracts see the list of handles.
 #[derive(Drop)]
-pub(crate) struct Found {
+pub struct Found {
     handles: Vec<Handle>,
     ids: HashSet<u32>,
     // Whether `ids` has the id of each handle, and no other.
@@ -42,7 +42,7 @@ impl Model for Found {
 
 impl Found {
     /// No handles.
-    pub(crate) fn new(alloc: Global) -> Result<Found, AllocError>
+    pub fn new(alloc: Global) -> Result<Found, AllocError>
         ensures { IfOk result (λ found. found ≡ []) }
     {
         Ok(Found {
@@ -53,7 +53,7 @@ impl Found {
     }
 
     /// Whether the handle was found.
-    pub(crate) fn has(&self, handle: Handle) -> bool
+    pub fn has(&self, handle: Handle) -> bool
         ensures { IsTrue result ↔ Has self.now handle }
     {
         if self.by_ids {
@@ -64,7 +64,7 @@ impl Found {
     }
 
     /// Puts one more handle behind those that were found, of which there may be so many.
-    pub(crate) fn add(&mut self, handle: Handle, limit: u64) -> Result<(), PositionsFault>
+    pub fn add(&mut self, handle: Handle, limit: u64) -> Result<(), PositionsFault>
         requires { length self.old ≤ limit }
         ensures added { OnOk result (self.new ≡ self.old ++ (handle ∷ [])) }
         ensures within { OnOk result (length self.old < limit) }
@@ -87,7 +87,7 @@ impl Found {
     }
 
     /// The handles, in their order.
-    pub(crate) fn into_handles(self) -> Handles
+    pub fn into_handles(self) -> Handles
         ensures { result ≡ self }
     {
         let Found {

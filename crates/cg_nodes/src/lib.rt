@@ -5,8 +5,8 @@
 //! calls are generic over the store, and each leaves what is known, noted and spared as it was, but for what it claims.
 //!
 //! [`number`], [`list`] and [`game`] claim cells; [`kind`], [`options`], [`positions`] and [`compare_structure`] read them,
-//! over [`read`], [`head`] and [`handles`]. Only what answers a list of handles takes memory. [`known_game`] does nothing, and tells
-//! what holds of each game of a store.
+//! over [`read`], [`head`] and [`handles`]. Only what answers a list of handles takes memory, and [`Found`], which keeps
+//! handles. [`known_game`] does nothing, and tells what holds of each game of a store.
 #![tactic(auto)]
 
 mod facts;
@@ -23,6 +23,7 @@ mod walk;
 
 pub use facts::{BoardForms, GameFacts, NoBoards, Thing};
 pub use fault::PositionsFault;
+pub use found::Found;
 pub use handle::{Handle, Handles, Kind, ListId};
 pub use known::known_game;
 pub use making::{game, list, number};
