@@ -15,3 +15,4 @@ pub mod Turning
 pub mod Valuing
 pub mod Paying
 pub mod HandleLists
+pub mod PageWalks

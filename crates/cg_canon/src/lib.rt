@@ -21,6 +21,7 @@ mod numbers;
 mod order;
 mod paging;
 mod places;
+mod positions;
 mod rest;
 mod value;
 mod work;
