@@ -7,7 +7,7 @@ ghost use Rattle.cg_nodes.specs.Positions.{positions_of};
 
 use cg_canon::{ValueFault, Work};
 use cg_cells::CellStore;
-use cg_nodes::{BoardForms, GameFacts, Handle, Handles, PositionsFault, positions};
+use cg_nodes::{BoardForms, GameFacts, Handle, Handles, PositionsFault};
 use std::alloc::Global;
 
 /// The handles of the positions of the game. `Positions` comes exactly where there are more than the work's
@@ -27,7 +27,7 @@ pub(crate) fn positions_within<B: BoardForms, S: CellStore<GameFacts<B>>>(
     ensures spends { Spends 0 (work_state S.state work.old) (work_state S.state work.new) }
 {
     let limit = work.limit();
-    match positions(alloc, work, handle, limit) {
+    match work.positions(alloc, handle, limit) {
         Ok(handles) => Ok(handles),
         Err(PositionsFault::Positions) => Err(ValueFault::Positions),
         Err(PositionsFault::Memory) => Err(ValueFault::Memory),
