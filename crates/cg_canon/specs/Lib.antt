@@ -8,6 +8,7 @@ pub mod Works
 pub mod Made
 pub mod NumberItems
 pub mod SumItems
+pub mod Written
 -- what private contracts cite, and what proofs need here
 pub mod Distinct
 pub mod Books

@@ -25,6 +25,7 @@ mod positions;
 mod rest;
 mod value;
 mod work;
+mod written;
 
 pub use again::{keep_sum, sum_again};
 pub use at_once::charge_again;
@@ -39,3 +40,4 @@ pub use numbers::{le_number, number_le};
 pub use order::le;
 pub use rest::WorkRest;
 pub use work::Work;
+pub use written::Written;
