@@ -19,7 +19,7 @@ use Rattle.cg_nodes.proofs.Forms.{can-node, can-same}
 use Rattle.cg_nodes.specs.CanForms.{can-fixed}
 use Rattle.cg_nodes.proofs.Later.{stands_game, stands_later}
 use Rattle.cg_nodes.proofs.Lists.{games_at-append}
-use Rattle.cg_nodes.specs.Games.{IsGame, StandFor, StandsFor, game_at, games_at, listed}
+use Rattle.cg_nodes.specs.Games.{IsGame, StandsFor, game_at, games_at}
 use Rattle.cg_nodes.specs.Meant.{Meant}
 use Rattle.cg_nodes.specs.Spelled.{can}
 use Rattle.cg_sum.specs.Finds.{nimber_found, sum_value, value_found}
@@ -143,17 +143,16 @@ all_in_order s m hs n holds are =
     let whole_list : length hs ≤ n = (let e = are.count in omega arith) in
     subst P (take_all n hs whole_list) (in_order s m hs n holds (let e = are.count in omega arith) are.each)
 
--- a game with one list of nimbers, which was read
-pub over_later : {R Q V : Type 0} (s : State Meant R) (t : State Meant Q) (u : State Meant V) → Grows (thing_at s) (thing_at t)
-    → Grows (thing_at t) (thing_at u) → (m : Nimbers) (h : ℕ) (lo ro : Option ℕ) (hs ls : List ℕ) → HoldsNimbers s m
-    → IsGame s h → Canonical (game_at s h) → game_at s h ≡ node (listed t lo) (listed t ro) → StandFor u ls (listed t lo)
-    → hs ≡ ls → (o : Option ℕ) → ForSome o (λ n. (lo ≡ ro) × AreInOrder m hs n) → ForSome o (λ n. IsNimber u h n)
-over_later s t u st tu m h lo ro hs ls holds is c e stand same o order n some =
+-- a game whose options are the same nimbers for both, as they were read
+pub over_read : {R Q : Type 0} (s : State Meant R) (u : State Meant Q) → Grows (thing_at s) (thing_at u) → (m : Nimbers) (h : ℕ)
+    (ls rs hs ks : List ℕ) → HoldsNimbers s m → IsGame s h → Canonical (game_at s h)
+    → game_at s h ≡ node (games_at u ls) (games_at u rs) → hs ≡ ls → ks ≡ rs → (o : Option ℕ)
+    → ForSome o (λ n. (hs ≡ ks) × AreInOrder m hs n) → ForSome o (λ n. IsNimber u h n)
+over_read s u su m h ls rs hs ks holds is c e left right o order n some =
     let d = order n some in
-    let su : Grows (thing_at s) (thing_at u) = λ i x k. tu i x (st i x k) in
-    let games : games_at u hs ≡ listed t lo = ap (games_at u) same ∙ stand.1 in
-    stands_later s u su h (can (nimber_form n)) (is_over s h (listed t lo) (listed t ro) n is c e (ap (listed t) d.0)
-    (sym games ∙ all_in_order u m hs n (nimbers_later s u su m holds) d.1))
+    stands_later s u su h (can (nimber_form n)) (is_over s h (games_at u ls) (games_at u rs) n is c e
+    (ap (games_at u) (sym left ∙ d.0 ∙ right))
+    (ap (games_at u) (sym left) ∙ all_in_order u m hs n (nimbers_later s u su m holds) d.1))
 
 -- ---- sums
 

@@ -8,7 +8,7 @@ use Rattle.cg_form.specs.Game.{Game, node, number}
 use Rattle.cg_form.proofs.Among.{lefts-node, rights-node}
 use Rattle.cg_nodes.proofs.Later.{game_later, spends_then}
 use Rattle.cg_sum.specs.declared.written.Sides.{Sides}
-use Rattle.cg_nodes.specs.Games.{IsGame, StandFor, game_at, listed}
+use Rattle.cg_nodes.specs.Games.{AreGames, IsGame, StandFor, game_at, games_at, listed}
 use Rattle.cg_nodes.specs.Meant.{Meant}
 use Rattle.cg_sum.specs.Progress.{IsWritten}
 use Rattle.cg_sum.specs.Written.{written_lefts, written_rights}
@@ -49,3 +49,14 @@ pub read_sides : {R E : Type 0} (r s u : State Meant R) (f : ℕ) (ll rl : Optio
     → IfOk q (λ sides. IsWritten u sides f)
 read_sides r s u f ll rl (Ok sides) gf rs su c is a b = read_written r s u f ll rl sides gf rs su c is a b
 read_sides r s u f ll rl (Err e) gf rs su c is a b = tt
+
+-- the lists are those that were read
+pub read_lists : {R : Type 0} (s u : State Meant R) (f : ℕ) (ls rs : List ℕ) (sides : Sides) → IsGame s f → Spends 0 s u
+    → Canonical (game_at s f) → AreGames u ls → AreGames u rs → game_at s f ≡ node (games_at u ls) (games_at u rs)
+    → sides.lefts ≡ ls → sides.rights ≡ rs → IsWritten u sides f
+read_lists s u f ls rs sides gf b c al ar is l r =
+    let P : List ℕ → Type 0 = λ z. StandFor u z (written_lefts (game_at s f)) in
+    let Q : List ℕ → Type 0 = λ z. StandFor u z (written_rights (game_at s f)) in
+    written_of s u f sides gf b c
+    (subst P (sym l) (al, sym (ap written_lefts is ∙ lefts-node (games_at u ls) (games_at u rs))))
+    (subst Q (sym r) (ar, sym (ap written_rights is ∙ rights-node (games_at u ls) (games_at u rs))))

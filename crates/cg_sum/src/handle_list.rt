@@ -36,6 +36,13 @@ impl HandleList {
         }
     }
 
+    /// These handles.
+    pub(crate) fn of(items: SmallVec<Handle, 8>) -> HandleList
+        ensures { result ≡ items.items }
+    {
+        HandleList { items }
+    }
+
     /// How many there are.
     pub(crate) fn len(&self) -> usize
         ensures { result ≡ length self.now }

@@ -1,5 +1,5 @@
 //! The nimbers that a call knows.
-ghost use Rattle.std.specs.Prelude.{◌≡◌, ℕ, ◌==◌, ◌<◌, IfNone, IfOk, IfSome, IsSome, IsTrue, None, Some, Option, if◌then◌else◌, length, pos, slice_index};
+ghost use Rattle.std.specs.Prelude.{◌≡◌, ℕ, ◌==◌, ◌<◌, IfNone, IfOk, IfSome, IsSome, IsTrue, true, None, Some, Option, if◌then◌else◌, length, pos, slice_index};
 ghost use Rattle.std.specs.Option.{ForSome};
 ghost use Rattle.cg_dyadic.specs.Number.{whole};
 ghost use Rattle.cg_sum.specs.Finds.{nimber_found, sum_value as sum_of_values, value_found};
@@ -97,16 +97,11 @@ pub(crate) fn value_of_number(x: Dyadic) -> Option<usize>
     if is_zero(x) { Some(0) } else { None }
 }
 
-/// The number of the nimber with these lists, whose Left options are given, where they are known as nimbers.
-pub(crate) fn value_over(
-    left_list: ListId,
-    right_list: ListId,
-    lefts: &[Handle],
-    nimbers: &Nimbers,
-) -> Option<usize>
-    ensures { ForSome result (λ n. (left_list ≡ right_list) × AreInOrder nimbers.now lefts.now n) }
+/// The number of the nimber with these options, where both players have the same and they are known as nimbers.
+pub(crate) fn value_over(lefts: &[Handle], rights: &[Handle], nimbers: &Nimbers) -> Option<usize>
+    ensures { ForSome result (λ n. (lefts.now ≡ rights.now) × AreInOrder nimbers.now lefts.now n) }
 {
-    if is_same(left_list, right_list) {
+    if are_same(lefts, rights) {
         in_order(lefts, nimbers)
     } else {
         None
@@ -125,6 +120,21 @@ pub(crate) fn is_same(a: ListId, b: ListId) -> bool
     ensures { IsTrue result → a ≡ b }
 {
     a == b
+}
+
+/// Whether the two have the same handles, in the same order.
+pub(crate) fn are_same(a: &[Handle], b: &[Handle]) -> bool
+    ensures { result ≡ true → a.now ≡ b.now }
+{
+    if a.len() != b.len() {
+        return false;
+    }
+    for (i, handle) in a.iter().enumerate() {
+        if b[i] != *handle {
+            return false;
+        }
+    }
+    true
 }
 
 // How many options there are, where they are known as 0, *1, *2 and so on in this order.

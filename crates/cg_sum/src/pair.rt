@@ -11,7 +11,7 @@ ghost use Rattle.cg_nodes.specs.Games.{AreGames, IsGame, StandsFor};
 ghost use Rattle.cg_sum.specs.Firsts.{AreFirst, IsPair};
 
 use crate::firsts::FirstNimbers;
-use crate::nimbers::{is_same, is_zero};
+use crate::nimbers::{are_same, is_same, is_zero};
 use cg_canon::Work;
 use cg_cells::CellStore;
 use cg_nodes::{BoardForms, GameFacts, Handle, Handles, Reading, read};
@@ -179,19 +179,4 @@ fn is_next<B: BoardForms, S: CellStore<GameFacts<B>>>(
             Ok(are_same(options.as_slice(), known))
         }
     }
-}
-
-// Whether the two lists are one.
-fn are_same(a: &[Handle], b: &[Handle]) -> bool
-    ensures { result ≡ true → a.now ≡ b.now }
-{
-    if a.len() != b.len() {
-        return false;
-    }
-    for (i, handle) in a.iter().enumerate() {
-        if b[i] != *handle {
-            return false;
-        }
-    }
-    true
 }

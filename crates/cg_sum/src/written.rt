@@ -46,8 +46,8 @@ pub(crate) fn no_sides(alloc: Global) -> Sides
     }
 }
 
-/// The handles of the Left and the Right options of two lists. The only error is want of memory.
-pub(crate) fn sides_of<B: BoardForms, S: CellStore<GameFacts<B>>>(
+// The handles of the Left and the Right options of two lists. The only error is want of memory.
+fn sides_of<B: BoardForms, S: CellStore<GameFacts<B>>>(
     alloc: Global,
     store: &mut S,
     left_list: ListId,

@@ -20,15 +20,15 @@ pub learned-requires-2-clause-handles : goal.learned-requires-2-clause-handles
 learned-requires-2-clause-handles g c =
     let W = work_state g.S.CellStore.state in
     let v = W c.both_positions.new.work in
-    are_games_later v (W c.learned.new.store) c.learned.ensures.spends.known _
+    are_games_later v (W c.learned.new.work) c.learned.ensures.spends.known _
     (slice_stands v _ _ _ c.as_slice-2.ensures c.in_ok-both.ensures.seconds).0
 
 pub returns-clause-firsts : goal.returns-clause-firsts
 returns-clause-firsts g c =
     let W = work_state g.S.CellStore.state in
     let v = W c.both_positions.new.work in
-    let u = W c.learned.new.store in
-    let x = W c.learned-2.new.store in
+    let u = W c.learned.new.work in
+    let x = W c.learned-2.new.work in
     let vx = spends_then 0 0 v u x c.learned.ensures.spends c.learned-2.ensures.spends in
     positions_of_game x _ _ _ _ (positions_later u x c.learned-2.ensures.spends.known _ c.in_ok-firsts.ensures.positions)
     c.in_ok-firsts.ensures.handles
@@ -39,8 +39,8 @@ pub returns-clause-seconds : goal.returns-clause-seconds
 returns-clause-seconds g c =
     let W = work_state g.S.CellStore.state in
     let v = W c.both_positions.new.work in
-    let u = W c.learned.new.store in
-    let x = W c.learned-2.new.store in
+    let u = W c.learned.new.work in
+    let x = W c.learned-2.new.work in
     let vx = spends_then 0 0 v u x c.learned.ensures.spends c.learned-2.ensures.spends in
     positions_of_game x _ _ _ _ c.in_ok-seconds.ensures.positions c.in_ok-seconds.ensures.handles
     (stand_later v x vx.known _ _ (slice_stands v _ _ _ c.as_slice-2.ensures c.in_ok-both.ensures.seconds)) c.apart.ensures

@@ -1,5 +1,5 @@
 use Rattle.cg_sum.proofs.PairSteps.{all_same, same_more}
-use Rattle.cg_sum.proofs.pair.are_same.Goals as goal
+use Rattle.cg_sum.proofs.nimbers.are_same.Goals as goal
 
 pub loop-i-preserved : goal.loop-i-preserved
 loop-i-preserved c =

@@ -1,3 +1,4 @@
+use Rattle.cg_canon.specs.Works.{work_state}
 use Rattle.cg_nodes.proofs.Later.{is_game_later, spends_then}
 use Rattle.cg_nodes.proofs.Members.{has_game}
 use Rattle.cg_sum.proofs.Members.{has_read}
@@ -6,15 +7,15 @@ use Rattle.cg_sum.proofs.position.learned.Goals as goal
 
 pub learned_one-requires-clause-handle : goal.learned_one-requires-clause-handle
 learned_one-requires-clause-handle g c =
-    let w = g.S.CellStore.state c.args.store.now in
-    is_game_later w (g.S.CellStore.state c.loop-handle.store) c.loop-handle.invariant.spends.known _
+    let w = work_state g.S.CellStore.state c.args.work.now in
+    is_game_later w (work_state g.S.CellStore.state c.loop-handle.work) c.loop-handle.invariant.spends.known _
     (has_game w _ _ c.requires.handles (has_read _ _ _ c.loop-handle-test.true c.handle-item.is))
 
 pub loop-handle-preserved : goal.loop-handle-preserved
 loop-handle-preserved g c =
-    let W = g.S.CellStore.state in
-    let v = W c.loop-handle.store in
-    let x = W c.learned_one.new.store in
+    let W = work_state g.S.CellStore.state in
+    let v = W c.loop-handle.work in
+    let x = W c.learned_one.new.work in
     record {
       positions = positions_more x _ _ _ c.in_ok-push.ensures.items
           (positions_later v x c.learned_one.ensures.spends.known _ c.loop-handle.invariant.positions)
@@ -22,5 +23,5 @@ loop-handle-preserved g c =
       handles = handles_more _ _ _ _ _ _ c.in_ok-push.ensures.items c.loop-handle.invariant.handles
           c.in_ok-position.ensures.handle c.loop-handle-test.true c.handle-item.is;
       holds = c.in_ok-position.ensures.holds;
-      spends = spends_then 0 0 (W c.args.store.now) v x c.loop-handle.invariant.spends c.learned_one.ensures.spends;
+      spends = spends_then 0 0 (W c.args.work.now) v x c.loop-handle.invariant.spends c.learned_one.ensures.spends;
     }
