@@ -1,7 +1,7 @@
 -- Walks over the pages of a book, which find the handles of positions.
-use Rattle.std.proofs.Common.{◌≡◌, refl, ℕ, zero, suc, ◌+◌, ◌<◌, ◌≤◌, arith, ap, sym, ◌∙◌, subst, Some, List, [], ◌∷◌, ◌++◌, length, take, get_or}
+use Rattle.std.proofs.Common.{◌≡◌, ℕ, zero, suc, ◌+◌, ◌<◌, ◌≤◌, arith, ap, sym, ◌∙◌, subst, Some, List, [], ◌∷◌, ◌++◌, length, take, get_or}
 use Rattle.std.proofs.lemmas.List.{append_assoc, append-nil}
-use Rattle.cg_form.specs.Game.{Game, node, number, of_list}
+use Rattle.cg_form.specs.Game.{Game, node, of_list}
 use Rattle.cg_cells.specs.Meaning.{Grows, Has, IsInjective}
 use Rattle.cg_cells.specs.Store.{State, thing_at}
 use Rattle.cg_nodes.specs.Games.{IsGame, StandFor, StandsFor, game_at, games_at}
@@ -12,7 +12,7 @@ use Rattle.cg_nodes.proofs.Extended.{extended-append, extended-length}
 use Rattle.cg_nodes.proofs.Later.{game_later, stands_game, stands_is_game}
 use Rattle.cg_nodes.proofs.Walked.{found_next, found_positions, found_there, found_within, next_length, none_length}
 use Rattle.cg_book.specs.Pages.{game_of, games_of}
-use Rattle.cg_book.proofs.Slices.{games_take_all, games_take_suc}
+use Rattle.cg_book.proofs.Slices.{games_take_suc}
 use Rattle.cg_canon.specs.declared.book.Book.{Book}
 use Rattle.cg_canon.specs.Books.{BookHolds, HasHandle}
 
@@ -112,18 +112,7 @@ module _ {R : Type 0} (s : State Meant R) (gs : List Game) (before hs ps : List 
       let a = ap length next_all in
       first_length (games_at s before) gs ps (i + 1) limit (omega arith)
 
-pub walked_all : {R : Type 0} (s : State Meant R) (gs : List Game) (before hs ps : List ℕ) (i : ℕ) → length ps ≤ i
-    → AreFoundAfter s s before hs (walk_over gs (take i ps)) → AreFoundAfter s s before hs (walk_over gs ps)
-walked_all s gs before hs ps i l f =
-    let P : List Game → Type 0 = λ z. AreFoundAfter s s before hs (positions_in (of_list z)) in
-    subst P (games_take_all gs ps i l) f
-
 -- ---- the options of a game
-
-pub number_nothing : {R : Type 0} (s : State Meant R) (before : List ℕ) (g : Game) (x : _) → AreFound s before → g ≡ number x
-    → AreFoundAfter s s before before (positions_before g)
-number_nothing s before g x f e =
-    record { found = f; all = ap (λ z. extended (games_at s before) (positions_before z)) (sym e) }
 
 module _ {R : Type 0} (s : State Meant R) (gs : List Game) (before : List ℕ) (g : Game) (ls rs : List ℕ)
     (is : g ≡ node (games_of gs ls) (games_of gs rs)) where
