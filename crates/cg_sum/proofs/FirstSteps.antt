@@ -17,7 +17,9 @@ use Rattle.cg_dyadic.proofs.Integers.{le_or_gt}
 use Rattle.cg_form.specs.Canonical.{Canonical}
 use Rattle.cg_form.specs.Game.{Game, node}
 use Rattle.cg_form.specs.Sum.{sum}
+use Rattle.cg_nimbers.proofs.CanonicalNimbers.{nimber-canonical, nimbers_below-front}
 use Rattle.cg_nimbers.proofs.NimberLists.{nimbers_below-next}
+use Rattle.cg_nimbers.proofs.NimberPositions.{length-nimbers_below}
 use Rattle.cg_nimbers.proofs.NimberSums.{nimber_sum}
 use Rattle.cg_nimbers.specs.Nimbers.{nimber_form, nimber_over, nimbers_below}
 use Rattle.cg_nodes.proofs.Forms.{can-same}
@@ -29,9 +31,7 @@ use Rattle.cg_nodes.specs.Meant.{Meant}
 use Rattle.cg_nodes.specs.Spelled.{can}
 use Rattle.cg_sum.specs.Firsts.{AreFirst, HoldsCosts, HoldsFirst, nimber_item}
 use Rattle.cg_sum.specs.declared.firsts.FirstNimbers.{FirstNimbers}
-use Rattle.cg_sum.proofs.CanonicalNimbers.{nimber-canonical, nimbers_below-front}
 use Rattle.cg_sum.proofs.Members.{has_read}
-use Rattle.cg_sum.proofs.NimberPositions.{length-nimbers_below}
 
 -- ---- forms
 

@@ -17,9 +17,6 @@ pub mod KeptSums
 pub mod RowSteps
 pub mod SumEnds
 pub mod AgainSums
-pub mod Slight
-pub mod CanonicalNimbers
-pub mod NimberPositions
 pub mod FirstSteps
 pub mod NimberRows
 pub mod PairSteps

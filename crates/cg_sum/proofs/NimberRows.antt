@@ -16,13 +16,13 @@ use Rattle.cg_canon.specs.declared.rest.WorkRest.{WorkRest}
 use Rattle.cg_cells.specs.Store.{State}
 use Rattle.cg_dyadic.proofs.Integers.{le_or_gt}
 use Rattle.cg_form.specs.Game.{Game}
+use Rattle.cg_nimbers.proofs.CanonicalNimbers.{nimbers_below-front}
 use Rattle.cg_nimbers.proofs.NimberLists.{nimbers_below-next}
 use Rattle.cg_nimbers.proofs.Xor.{xor-lesser}
 use Rattle.cg_nimbers.specs.Nimbers.{nimber_form, nimbers_below}
 use Rattle.cg_nodes.specs.Meant.{Meant}
 use Rattle.cg_sum.specs.Firsts.{HoldsFirst, RowsKnown, nimber_item}
 use Rattle.cg_sum.specs.declared.firsts.FirstNimbers.{FirstNimbers}
-use Rattle.cg_sum.proofs.CanonicalNimbers.{nimbers_below-front}
 use Rattle.cg_sum.proofs.FirstSteps.{nimber_items}
 use Rattle.cg_sum.proofs.ItemLoops.{flat-append}
 

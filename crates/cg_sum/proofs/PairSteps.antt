@@ -19,6 +19,7 @@ use Rattle.cg_dyadic.specs.Number.{Number, whole}
 use Rattle.cg_form.specs.Game.{Game, lefts, node, number}
 use Rattle.cg_form.specs.Sum.{sum}
 use Rattle.cg_form.proofs.Among.{lefts-node}
+use Rattle.cg_nimbers.proofs.NimberPositions.{length-nimbers_below, nimber-positions}
 use Rattle.cg_nimbers.specs.Nimbers.{nimber_form, nimbers_below}
 use Rattle.cg_nodes.proofs.Later.{game_later, stands_game, stands_later}
 use Rattle.cg_nodes.specs.Games.{IsGame, IsNode, StandFor, StandsFor, game_at, games_at, listed}
@@ -29,7 +30,6 @@ use Rattle.cg_sum.specs.Firsts.{AreFirst, HoldsFirst, IsPair}
 use Rattle.cg_sum.specs.declared.firsts.FirstNimbers.{FirstNimbers}
 use Rattle.cg_sum.specs.declared.pair.NimberPair.{NimberPair}
 use Rattle.cg_sum.proofs.FirstSteps.{can-nimber_sum, first_later, first_stands, next_games}
-use Rattle.cg_sum.proofs.NimberPositions.{length-nimbers_below, nimber-positions}
 use Rattle.cg_sum.proofs.SumEnds.{all_within, limit_refused}
 
 -- ---- one list

@@ -1,4 +1,4 @@
--- Nimbers: no two are comparable, they rise, and they are canonical.
+-- Nimbers rise in the structural order, and they are canonical.
 use Rattle.std.proofs.Common.{◌≡◌, refl, append_assoc, ℕ, ◌<◌, arith, zero, suc, inl, inr, ap, sym, ◌∙◌, subst, List, [], ◌∷◌, ◌++◌, Bool, true, false}
 use Rattle.std.specs.declared.cmp.Ordering.TheVariants.{Less}
 use Rattle.cg_dyadic.proofs.Integers.{le_or_gt}
@@ -11,8 +11,9 @@ use Rattle.cg_form.specs.Structure.{Before, Rises, list_cmp}
 use Rattle.cg_form.proofs.Among.{among-append, carry}
 use Rattle.cg_form.proofs.Structure.{game_cmp-refl}
 use Rattle.cg_nimbers.specs.Nimbers.{nimber_form, nimber_over, nimbers_below, zero_form, zero_number}
-use Rattle.cg_sum.proofs.Slight.{SideReduced, canonical_node, slight-no_number, slight-number}
+use Rattle.cg_nimbers.proofs.Infinitesimals.{slight-no_number, slight-number}
 use Rattle.cg_nimbers.proofs.NimberLists.{among_nimbers, far-nimber, near-nimber, nimber_far, nimber_near, nimbers_apart, nimbers_below-next}
+use Rattle.cg_nimbers.proofs.Reducing.{SideReduced, canonical_node}
 
 -- ---- the structural order
 

@@ -1,38 +1,12 @@
--- Canonical games from what either side sees of them, and games with the option 0 that equal no number.
-use Rattle.std.proofs.Common.{◌≡◌, inl, inr, List, Bool, true, false, IsTrue}
+-- Games between 0 and every number that is better than 0, as a side sees it.
+use Rattle.std.proofs.Common.{inl, inr, Bool, IsTrue}
 use Rattle.cg_dyadic.specs.Number.{Number}
 use Rattle.cg_dyadic.proofs.Truth.{true-or-not}
-use Rattle.cg_form.specs.Canonical.{Canonical, Reduced}
-use Rattle.cg_form.specs.Game.{Among, Game, node, number}
+use Rattle.cg_form.specs.Game.{Among, Game, number}
 use Rattle.cg_form.specs.Side.{AtMost, far, near, number_at_most}
 use Rattle.cg_form.specs.Simple.{NoNumber}
-use Rattle.cg_form.specs.Structure.{Rises}
-use Rattle.cg_form.proofs.Reduced.{all_canonical}
 use Rattle.cg_form.proofs.Sides.{not_far, not_near, number_side-less, number_side-trans, side-numbers, side_equal, side_trans}
 use Rattle.cg_nimbers.specs.Nimbers.{zero_form, zero_number}
-
--- of the options of a side none is no better than another or reversible, and they rise
-pub record SideReduced (s : Bool) (g : Game) : Type 0 where
-  pub apart : (a b : Game) → Among a (near s g) → Among b (near s g) → AtMost s a b → a ≡ b
-  pub stays : (a b : Game) → Among a (near s g) → Among b (far s a) → ¬ AtMost s b g
-  pub rises : Rises (near s g)
-
--- a game that is so on both sides and equals no number is reduced
-reduced_both : (g : Game) → SideReduced true g → SideReduced false g → NoNumber g → Reduced g
-reduced_both g l r n = record {
-  left_undominated = λ a m d. d.other (l.apart a d.by m d.option d.worse);
-  right_undominated = λ a m d. d.other (r.apart a d.by m d.option d.worse);
-  left_irreversible = λ a m d. l.stays a d.through m d.answer d.back;
-  right_irreversible = λ a m d. r.stays a d.through m d.answer d.back;
-  lefts_rise = l.rises;
-  rights_rise = r.rises;
-  no_number = n;
-}
-
-pub canonical_node : (ls rs : List Game) → SideReduced true (node ls rs) → SideReduced false (node ls rs)
-    → NoNumber (node ls rs) → ((a : Game) → Among a ls → Canonical a) → ((b : Game) → Among b rs → Canonical b)
-    → Canonical (node ls rs)
-canonical_node ls rs l r n f h = (reduced_both (node ls rs) l r n, all_canonical ls f, all_canonical rs h)
 
 -- x is better than 0
 pub record Beyond (s : Bool) (x : Number) : Type 0 where
