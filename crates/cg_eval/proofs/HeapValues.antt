@@ -18,8 +18,8 @@ use Rattle.cg_canon.proofs.Keeping.{keeps_all}
 use Rattle.cg_sum.proofs.SumEnds.{all_within, limit_refused}
 use Rattle.cg_names.specs.Lists.{form_items, plain_item}
 use Rattle.cg_names.specs.Named.{nimber_form}
-use Rattle.cg_names.proofs.NimberForms.{nimber-canonical}
-use Rattle.cg_names.proofs.NimberPositions.{length-nimbers_below, nimber-positions}
+use Rattle.cg_nimbers.proofs.CanonicalNimbers.{nimber-canonical}
+use Rattle.cg_nimbers.proofs.NimberPositions.{length-nimbers_below, nimber-positions}
 use Rattle.cg_octal.specs.Codes.{OctalHeap}
 use Rattle.cg_octal.specs.Heaps.{AreValues, heap}
 use Rattle.cg_eval.specs.Octals.{heap_form, heap_items}

@@ -32,7 +32,7 @@ use Rattle.cg_eval.specs.Items.{items, all_items, term_items, further_items, sig
 use Rattle.cg_eval.proofs.BoardEnds.{ends-board}
 use Rattle.cg_eval.proofs.FaultParts.{neither}
 use Rattle.cg_names.proofs.Literals.{literal_not_negative, literal-fraction}
-use Rattle.cg_names.proofs.NimberForms.{nimber-canonical}
+use Rattle.cg_nimbers.proofs.CanonicalNimbers.{nimber-canonical}
 use Rattle.cg_names.proofs.SwitchForms.{switch-canonical, tiny-canonical}
 use Rattle.cg_names.proofs.UpForms.{ups-canonical}
 use Rattle.cg_eval.proofs.Lasts.{AreMade, EndsIn, append_none, are_made-back, are_made-front, ends-as, ends-back, ends-map, ends-multiple, ends-negative, ends-sum, ends-within, last_position, not_outside, not_too_many}

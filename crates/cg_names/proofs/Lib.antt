@@ -1,9 +1,7 @@
 pub mod Reducing
 pub mod Infinitesimals
-pub mod NimberForms
 pub mod UpForms
 pub mod SwitchForms
-pub mod NimberPositions
 pub mod UpPositions
 pub mod SwitchPositions
 pub mod Names

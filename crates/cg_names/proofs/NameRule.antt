@@ -14,7 +14,7 @@ use Rattle.cg_names.specs.Signs.{Fits}
 use Rattle.cg_names.specs.declared.sign.Sign.{Sign}
 use Rattle.cg_names.specs.declared.sign.Sign.TheVariants.{Star, Arrows, Switch, Tiny}
 use Rattle.cg_names.proofs.Guessing.{found-form, one_form, sign-found}
-use Rattle.cg_names.proofs.NimberForms.{nimber-canonical}
+use Rattle.cg_nimbers.proofs.CanonicalNimbers.{nimber-canonical}
 use Rattle.cg_form.proofs.Shifted.{form_shifted, shifted-is_form}
 use Rattle.cg_names.proofs.UpForms.{ups-canonical}
 

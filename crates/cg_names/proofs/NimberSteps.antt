@@ -13,7 +13,8 @@ use Rattle.cg_canon.proofs.MadeSteps.{made_memory}
 use Rattle.cg_names.specs.Lists.{plain_item}
 use Rattle.cg_names.specs.Making.{FormsMade}
 use Rattle.cg_names.specs.Named.{mirrored_if, nimber_form, nimber_over, nimbers_below, zero_form}
-use Rattle.cg_names.proofs.NimberForms.{nimber-canonical, nimbers_below-front, nimbers_below-next}
+use Rattle.cg_nimbers.proofs.CanonicalNimbers.{nimber-canonical, nimbers_below-front}
+use Rattle.cg_nimbers.proofs.NimberLists.{nimbers_below-next}
 use Rattle.cg_names.proofs.Steps.{forms_after, forms_stopped, forms_with}
 
 -- the handles of 0, *1, .., *(i - 1), and that of *i, which was made last

@@ -17,7 +17,7 @@ use Rattle.cg_names.specs.declared.sign.Sign.{Sign}
 use Rattle.cg_names.specs.declared.sign.Sign.TheVariants.{Star, Arrows, Switch, Tiny}
 use Rattle.cg_names.proofs.Counted.{braces-opened}
 use Rattle.cg_names.proofs.Guessing.{above_zero, found-form}
-use Rattle.cg_names.proofs.NimberForms.{nimber_among}
+use Rattle.cg_nimbers.proofs.NimberLists.{nimber_among}
 use Rattle.cg_names.proofs.Opened.{AreNamesInRange, IsNameInRange, IsSignInRange, SignOr}
 use Rattle.cg_names.proofs.ReadBack.{reads-as}
 use Rattle.cg_names.proofs.SignForms.{both_is, depth-shifted, depth-ups, nimber_next, star_above, star_over, stars_first, step_is}

@@ -9,8 +9,8 @@ use Rattle.cg_form.specs.Side.{far, near}
 use Rattle.cg_nodes.specs.Games.{IsNode}
 use Rattle.cg_names.specs.Named.{mirrored_if, nimber_form, nimber_over, nimbers_below, star_form, ups_of, zero_form}
 use Rattle.cg_names.specs.Readings.{stars_above}
-use Rattle.cg_names.proofs.NimberForms.{nimbers_below-next}
-use Rattle.cg_names.proofs.NimberPositions.{length-nimbers_below}
+use Rattle.cg_nimbers.proofs.NimberLists.{nimbers_below-next}
+use Rattle.cg_nimbers.proofs.NimberPositions.{length-nimbers_below}
 use Rattle.cg_names.proofs.Reducing.{far-mirrored, near-mirrored}
 use Rattle.cg_form.proofs.Shifted.{number_sum-zero}
 

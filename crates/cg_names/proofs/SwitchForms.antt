@@ -14,8 +14,10 @@ use Rattle.cg_form.proofs.Numbers.{numbers-le}
 use Rattle.cg_form.proofs.Preorder.{le_trans, not_le-left, not_le-right}
 use Rattle.cg_form.proofs.Sides.{far_number, not_far, side-numbers, side_trans, side_turned}
 use Rattle.cg_names.specs.Named.{mirrored_if, switch_form, tiny_form, tiny_part, zero_form, zero_number}
-use Rattle.cg_names.proofs.Infinitesimals.{Slight, beyond_zero, slight-from, slight-no_number, slight-number}
-use Rattle.cg_names.proofs.Reducing.{SideReduced, canonical_mirrored, canonical_node, far-mirrored, near-mirrored, one_reduced, other-mirrored, zero_reduced}
+use Rattle.cg_nimbers.proofs.Infinitesimals.{Slight, slight-no_number, slight-number}
+use Rattle.cg_nimbers.proofs.Reducing.{SideReduced, canonical_node}
+use Rattle.cg_names.proofs.Infinitesimals.{beyond_zero, slight-from}
+use Rattle.cg_names.proofs.Reducing.{canonical_mirrored, far-mirrored, near-mirrored, one_reduced, other-mirrored, zero_reduced}
 use Rattle.cg_names.proofs.UpForms.{far_is_near, zero_canonical}
 
 -- ---- options that are numbers

@@ -9,7 +9,8 @@ use Rattle.cg_form.specs.Structure.{Before, Rises}
 use Rattle.cg_form.proofs.Among.{carry}
 use Rattle.cg_form.proofs.Sides.{not_far, not_near, side_fold, side_turned, side_unfold}
 use Rattle.cg_names.specs.Named.{mirrored_if, star_form, ups_of, zero_form, zero_number}
-use Rattle.cg_names.proofs.Infinitesimals.{Beyond, Slight, beyond_far, beyond_zero, slight-from, slight-no_number, slight-number}
+use Rattle.cg_nimbers.proofs.Infinitesimals.{Beyond, Slight, beyond_far, slight-no_number, slight-number}
+use Rattle.cg_names.proofs.Infinitesimals.{beyond_zero, slight-from}
 use Rattle.cg_names.proofs.Reducing.{canonical_mirrored, far-mirrored, far-zero, near-mirrored, near-zero, one_reduced, other-mirrored, zero_reduced}
 
 zero_slight : (s : Bool) → Slight s zero_form

@@ -5,7 +5,7 @@ use Rattle.cg_canon.specs.Works.{work_state}
 use Rattle.cg_canon.specs.declared.fault.ValueFault.TheVariants.{Memory}
 use Rattle.cg_names.specs.Lists.{form_items}
 use Rattle.cg_names.specs.Named.{nimber_form}
-use Rattle.cg_names.proofs.NimberForms.{nimber-canonical}
+use Rattle.cg_nimbers.proofs.CanonicalNimbers.{nimber-canonical}
 use Rattle.cg_nodes.specs.CanForms.{can-fixed}
 use Rattle.cg_octal.specs.Heaps.{heap}
 use Rattle.cg_eval.specs.Octals.{heap_items}

@@ -4,7 +4,7 @@ use Rattle.cg_names.specs.Lists.{form_items}
 use Rattle.cg_names.specs.Named.{nimber_form}
 use Rattle.cg_nodes.specs.CanForms.{can-fixed}
 use Rattle.cg_eval.proofs.Expressions.{nimber_gives}
-use Rattle.cg_names.proofs.NimberForms.{nimber-canonical}
+use Rattle.cg_nimbers.proofs.CanonicalNimbers.{nimber-canonical}
 use Rattle.cg_eval.proofs.Steps.{gives_from}
 use Rattle.cg_eval.proofs.named.named_nimber.Goals as goal
 

@@ -1,4 +1,4 @@
-use Rattle.cg_names.proofs.NimberForms.{nimber-canonical}
+use Rattle.cg_nimbers.proofs.CanonicalNimbers.{nimber-canonical}
 use Rattle.cg_names.proofs.SwitchForms.{switch-canonical, tiny-canonical}
 use Rattle.cg_names.proofs.UpForms.{ups-canonical}
 use Rattle.cg_names.proofs.laws.canonical.Goals as goal

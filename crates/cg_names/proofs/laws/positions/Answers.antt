@@ -1,4 +1,4 @@
-use Rattle.cg_names.proofs.NimberPositions.{length-nimber_positions, nimber-positions}
+use Rattle.cg_nimbers.proofs.NimberPositions.{length-nimber_positions, nimber-positions}
 use Rattle.cg_names.proofs.SwitchPositions.{switch-positions, tiny-positions}
 use Rattle.cg_names.proofs.UpPositions.{length-ups_positions, ups-positions}
 use Rattle.cg_names.proofs.laws.positions.Goals as goal

@@ -1,6 +1,6 @@
 use Rattle.std.proofs.Common.{ℕ, suc, arith, ap, sym, ◌∙◌}
 use Rattle.cg_names.specs.Named.{nimber_form, nimbers_below}
-use Rattle.cg_names.proofs.NimberPositions.{length-nimbers_below, nimber-positions}
+use Rattle.cg_nimbers.proofs.NimberPositions.{length-nimbers_below, nimber-positions}
 use Rattle.cg_names.proofs.Steps.{items_from, refused_positions}
 use Rattle.cg_names.proofs.nimbers.nimber.Goals as goal
 
