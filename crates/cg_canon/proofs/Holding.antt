@@ -19,14 +19,17 @@ use Rattle.cg_canon.specs.declared.made.MadeForms.{MadeForms}
 use Rattle.cg_canon.specs.declared.memo.AddedSum.{AddedSum}
 use Rattle.cg_canon.specs.declared.memo.KnownSum.{KnownSum}
 use Rattle.cg_canon.specs.declared.memo.Memo.{Memo}
+use Rattle.cg_canon.specs.declared.number_up_stars.NumberUpStars.{NumberUpStars}
 use Rattle.cg_canon.specs.Added.{IsKnownSum}
 use Rattle.cg_canon.specs.declared.book.Book.{Book}
 use Rattle.cg_canon.specs.Books.{BookHolds}
 use Rattle.cg_canon.specs.Held.{IsHeld, knowing}
 use Rattle.cg_canon.specs.MadeForms.{FormsHold}
 use Rattle.cg_canon.specs.Memos.{IsAdded}
+use Rattle.cg_canon.specs.NumberUpStars.{AreKnown}
 use Rattle.cg_canon.proofs.Booking.{book_later}
 use Rattle.cg_canon.proofs.FormTables.{forms_later, forms_none}
+use Rattle.cg_canon.proofs.KnownGames.{known_later, known_none}
 use Rattle.cg_canon.proofs.Pushed.{none_there, pushed_item}
 use Rattle.cg_canon.specs.Works.{MeterHolds}
 
@@ -54,6 +57,7 @@ held_later s t h grows k = record {
   book = book_later s t h.memo.book grows k.book;
   sums = λ a b known r. known_sum_later s t grows a b known (k.sums a b known r);
   forms = forms_later s t grows h.made k.forms;
+  known_as = known_later s t grows h.known_as k.known_as;
 }
 
 -- and more was charged
@@ -88,28 +92,34 @@ held_anyhow s h f = held_later (knowing s.known) s h (λ i x e. e) (f s.known)
 
 -- of nothing
 pub held_nothing : {R : Type 0} (s : State Meant R) (h : Held) → BookHolds s h.memo.book → h.memo.sums.items ≡ []
-    → h.made.forms.items ≡ [] → IsHeld s h
-held_nothing s h b none empty = record {
+    → h.made.forms.items ≡ [] → h.known_as.games.items ≡ [] → IsHeld s h
+held_nothing s h b none empty unknown = record {
   book = b;
   sums = λ a b known r. absurd (none_there h.memo.sums.items r.place _ none r.there);
   forms = forms_none s h.made empty;
+  known_as = known_none s h.known_as unknown;
 }
 
 module _ {R : Type 0} (s : State Meant R) (h : Held) (n : Memo) (holds : IsHeld s h) where
   -- with another book
   pub held_book : BookHolds s n.book → ((a b : ℕ) (known : KnownSum) → IsAdded n a b known → IsAdded h.memo a b known)
-      → IsHeld s (record { memo = n; made = h.made })
-  held_book b g = record { book = b; sums = λ c d known r. holds.sums c d known (g c d known r); forms = holds.forms }
+      → IsHeld s (record h { memo = n })
+  held_book b g = record {
+    book = b;
+    sums = λ c d known r. holds.sums c d known (g c d known r);
+    forms = holds.forms;
+    known_as = holds.known_as;
+  }
 
   -- with the same book and no more sums
   pub held_fewer : ((a b : ℕ) (known : KnownSum) → IsAdded n a b known → IsAdded h.memo a b known) → n.book ≡ h.memo.book
-      → IsHeld s (record { memo = n; made = h.made })
+      → IsHeld s (record h { memo = n })
   held_fewer g f = (let P : Book → Type 0 = λ z. BookHolds s z in held_book (subst P (sym f) holds.book) g)
 
   -- with one sum more
   pub held_sum : (a b : ℕ) (known : KnownSum)
       → ((c d : ℕ) (other : KnownSum) → IsAdded n c d other → ((c ≡ a) × (d ≡ b) × (other ≡ known)) ⊎ IsAdded h.memo c d other)
-      → n.book ≡ h.memo.book → IsKnownSum s a b known → IsHeld s (record { memo = n; made = h.made })
+      → n.book ≡ h.memo.book → IsKnownSum s a b known → IsHeld s (record h { memo = n })
   held_sum a b known e f o = record {
     book = (let P : Book → Type 0 = λ z. BookHolds s z in subst P (sym f) holds.book);
     sums = λ c d other r. elim (e c d other r) [
@@ -121,12 +131,18 @@ module _ {R : Type 0} (s : State Meant R) (h : Held) (n : Memo) (holds : IsHeld 
       | inr old ↦ holds.sums c d other old
     ];
     forms = holds.forms;
+    known_as = holds.known_as;
   }
 
 -- with other forms
 pub held_forms : {R : Type 0} (s : State Meant R) (h : Held) (m : MadeForms) → IsHeld s h → FormsHold s m
-    → IsHeld s (record { memo = h.memo; made = m })
-held_forms s h m k f = record { book = k.book; sums = k.sums; forms = f }
+    → IsHeld s (record h { made = m })
+held_forms s h m k f = record { book = k.book; sums = k.sums; forms = f; known_as = k.known_as }
+
+-- with another table of what games are known as
+pub held_known : {R : Type 0} (s : State Meant R) (h : Held) (n : NumberUpStars) → IsHeld s h → AreKnown s n
+    → IsHeld s (record h { known_as = n })
+held_known s h n k a = record { book = k.book; sums = k.sums; forms = k.forms; known_as = a }
 
 -- ---- sums
 

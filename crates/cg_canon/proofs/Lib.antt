@@ -1,5 +1,6 @@
 pub mod ItemLaws
 pub mod AgainItems
+pub mod KnownGames
 pub mod Holding
 pub mod Same
 pub mod Results

@@ -111,7 +111,7 @@ new_written gs form new h =
 pub paid_holds : {R : Type 0} (s t : State Meant R) (a b : Meter) (start : ℕ) (h : Held) (n : Memo) (form : Game) (extra : ℕ)
     (r : Result ℕ ValueFault) → MeterHolds s a.spent a.share start × IsHeld s h → IsPaid s t a b form extra r
     → BookHolds t n.book → ((c d : ℕ) (known : KnownSum) → IsAdded n c d known → IsAdded h.memo c d known)
-    → MeterHolds t b.spent b.share start × IsHeld t (record { memo = n; made = h.made })
+    → MeterHolds t b.spent b.share start × IsHeld t (record h { memo = n })
 paid_holds s t a b start h n form extra r w p book same =
     let P : ℕ → Type 0 = λ z. MeterHolds t b.spent z start in
     let k = p.spends.spare in

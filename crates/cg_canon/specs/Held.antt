@@ -11,16 +11,18 @@ use Rattle.cg_canon.specs.Added.{IsKnownSum}
 use Rattle.cg_canon.specs.Books.{BookHolds}
 use Rattle.cg_canon.specs.MadeForms.{FormsHold}
 use Rattle.cg_canon.specs.Memos.{IsAdded}
+use Rattle.cg_canon.specs.NumberUpStars.{AreKnown}
 
 -- each sum of the memo is that of its two games
 abbrev pub SumsHold : {R : Type 0} → State Meant R → Memo → Type 0
 SumsHold {R} s m = (a b : ℕ) (known : KnownSum) → IsAdded m a b known → IsKnownSum s a b known
 
--- the pages, the sums and the forms are those of games that the store knows
+-- the pages, the sums and the forms are those of games that the store knows, and so is what games are known as
 pub record IsHeld {R : Type 0} (s : State Meant R) (h : Held) : Type 0 where
   pub book : BookHolds s h.memo.book
   pub sums : SumsHold s h.memo
   pub forms : FormsHold s h.made
+  pub known_as : AreKnown s h.known_as
 
 -- a state of which nothing is said but what it knows
 abbrev pub knowing : map.FinMap nat_cmp Meant → State Meant (Unit {0})

@@ -3,6 +3,7 @@ pub mod Items
 pub mod Memos
 pub mod Added
 pub mod MadeForms
+pub mod NumberUpStars
 pub mod Held
 pub mod Works
 pub mod Made

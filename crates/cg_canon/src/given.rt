@@ -1,4 +1,6 @@
 //! Items of games that are canonical as they are given.
+//!
+//! Each is looked for among those that were made, since each option of a list is a claim.
 ghost use Rattle.std.specs.Prelude.{◌≡◌, ◌+◌, ◌≤◌, IfOk, IfErr, IfSome, OnOk, OnErr, [], ◌∷◌};
 ghost use Rattle.cg_form.specs.Canonical.{Canonical};
 ghost use Rattle.cg_form.specs.Game.{node};
@@ -15,9 +17,6 @@ use crate::work::Work;
 use cg_cells::CellStore;
 use cg_nodes::{BoardForms, GameFacts, Handle};
 use std::alloc::Global;
-
-/// From so many Left options on a game is looked up among those that were made.
-const LONG: usize = 16;
 
 /// Makes the item of a game that is canonical as it is given, and keeps the form with its options.
 fn kept_item<B: BoardForms, S: CellStore<GameFacts<B>>>(
@@ -59,7 +58,7 @@ fn kept_form<B: BoardForms, S: CellStore<GameFacts<B>>>(
 }
 
 /// Makes the item of a game that is canonical as it is given, by the form that was made of its options where it is kept.
-fn long_item<B: BoardForms, S: CellStore<GameFacts<B>>>(
+fn found_item<B: BoardForms, S: CellStore<GameFacts<B>>>(
     alloc: Global,
     work: &mut Work<B, S>,
     lefts: &[Handle],
@@ -85,33 +84,6 @@ fn long_item<B: BoardForms, S: CellStore<GameFacts<B>>>(
         }
         None => kept_item(alloc, work, lefts, rights, extra),
     }
-}
-
-/// Makes the item of a game that is canonical as it is given. Where it has many options, it is looked for among those that were
-/// made, since each option of a list is a claim.
-fn any_item<B: BoardForms, S: CellStore<GameFacts<B>>>(
-    alloc: Global,
-    work: &mut Work<B, S>,
-    lefts: &[Handle],
-    rights: &[Handle],
-    extra: u64,
-) -> Result<Handle, ValueFault>
-    requires extra { extra ≤ 8 }
-    requires lefts { AreGames (work_state S.state work.old) lefts.now }
-    requires rights { AreGames (work_state S.state work.old) rights.now }
-    requires canonical { let W = work_state S.state work.old in Canonical (node (games_at W lefts.now) (games_at W rights.now)) }
-    requires no_number { let W = work_state S.state work.old in NoNumber (node (games_at W lefts.now) (games_at W rights.now)) }
-    ensures game { let W = work_state S.state work.old in
-        IfOk result (λ h. StandsFor (work_state S.state work.new) h (node (games_at W lefts.now) (games_at W rights.now))) }
-    ensures made { let W = work_state S.state work.old in ItemsMade W (work_state S.state work.new)
-        (made (node (games_at W lefts.now) (games_at W rights.now)) extra ∷ []) result }
-    ensures same { OnErr result (Spends 0 (work_state S.state work.old) (work_state S.state work.new)) }
-    ensures spare { OnOk result ((work_state S.state work.old).spare + extra ≤ (work_state S.state work.new).spare) }
-{
-    if lefts.len() < LONG {
-        return work.make_given(alloc, lefts, rights, extra);
-    }
-    long_item(alloc, work, lefts, rights, extra)
 }
 
 /// Makes the item of a game that is canonical as it is given, with a cost of `extra` more, where `extra` is at most 8. It
@@ -145,7 +117,7 @@ pub fn canonical_item<B: BoardForms, S: CellStore<GameFacts<B>>>(
 {
     // Read for the proof alone: the meter tells what the store has to spare.
     let _before = work.spent();
-    let outcome = any_item(alloc, work, lefts, rights, extra);
+    let outcome = found_item(alloc, work, lefts, rights, extra);
     let _after = work.spent();
     outcome
 }

@@ -7,9 +7,11 @@ ghost use Rattle.cg_canon.specs.Held.{IsHeld, knowing};
 
 use crate::made::MadeForms;
 use crate::memo::Memo;
+use crate::number_up_stars::NumberUpStars;
 use std::alloc::Global;
 
-/// What a work has found out: the games that it met, their sums, and the forms that it made.
+/// What a work has found out: the games that it met, their sums, the forms that it made, and which games are a number, ups and a
+/// nimber.
 ///
 /// It is taken out of a work by [`Work::take_held`](crate::Work::take_held), and taken up by a later one by
 /// [`Work::resume`](crate::Work::resume), on a store that knows at least as much.
@@ -19,6 +21,8 @@ pub struct Held {
     pub(crate) memo: Memo,
     /// The forms.
     pub(crate) made: MadeForms,
+    /// The games that are known as a number, ups and a nimber.
+    pub(crate) known_as: NumberUpStars,
 }
 
 /// More pages than this, or more sums, are many.
@@ -32,6 +36,7 @@ impl Held {
         Held {
             memo: Memo::new(alloc),
             made: MadeForms::new(alloc),
+            known_as: NumberUpStars::new(alloc),
         }
     }
 

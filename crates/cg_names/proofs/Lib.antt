@@ -9,7 +9,6 @@ pub mod Steps
 pub mod NimberSteps
 pub mod UpSteps
 pub mod PairSteps
-pub mod SameNumbers
 pub mod Literals
 pub mod Mirrored
 pub mod SignForms

@@ -6,3 +6,6 @@ pub mod Reducing
 pub mod Infinitesimals
 pub mod CanonicalNimbers
 pub mod NimberPositions
+pub mod SameNumbers
+pub mod IntegerMultiples
+pub mod NumberUpStars

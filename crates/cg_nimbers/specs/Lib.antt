@@ -1,2 +1,3 @@
 -- what public contracts cite
 pub mod Nimbers
+pub mod NumberUpStar

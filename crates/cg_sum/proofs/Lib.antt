@@ -11,6 +11,7 @@ pub mod OutsideItems
 pub mod ItemLoops
 pub mod PositionSteps
 pub mod ZeroSteps
+pub mod SightSteps
 pub mod DraftSteps
 pub mod ItemSteps
 pub mod KeptSums

@@ -1,9 +1,8 @@
 -- Canonical forms of sums, negatives and multiples, from those of the options.
-use Rattle.std.proofs.Common.{◌≡◌, ◌⊎◌, inl, inr, refl, ap, sym, ◌∙◌, arith, ℕ, ◌+◌, suc, pos, subst, List, [], ◌∷◌, ◌++◌, map}
-use Rattle.std.proofs.lemmas.Int.{ints}
+use Rattle.std.proofs.Common.{◌≡◌, ◌⊎◌, inl, inr, refl, ap, sym, ◌∙◌, ℕ, suc, pos, subst, List, [], ◌∷◌, ◌++◌, map}
 use Rattle.cg_dyadic.specs.Exact.{IsNegative, IsSum}
-use Rattle.cg_dyadic.specs.Number.{Number, exp_of, whole}
-use Rattle.cg_dyadic.proofs.Sums.{negative-cancels, sum-units}
+use Rattle.cg_dyadic.specs.Number.{Number, whole}
+use Rattle.cg_dyadic.proofs.Sums.{negative-cancels}
 use Rattle.cg_form.specs.Canonical.{Canonical}
 use Rattle.cg_form.specs.Game.{Game, lefts, node, number, options, rights, to_list}
 use Rattle.cg_form.specs.Multiple.{multiple}
@@ -18,11 +17,11 @@ use Rattle.cg_form.proofs.Shifted.{canonical-shifted}
 use Rattle.cg_form.proofs.Preorder.{equal_trans, le_trans}
 use Rattle.cg_form.proofs.Sum.{sum-options}
 use Rattle.cg_form.proofs.SumLaws.{le-sum_second, sum_comm, sum_nothing}
-use Rattle.cg_form.proofs.SumNumbers.{sums}
 use Rattle.cg_form.proofs.SumOrder.{sum-le}
 use Rattle.cg_form.proofs.Translation.{translation}
 use Rattle.cg_nodes.specs.Games.{IsNode}
 use Rattle.cg_sum.specs.Written.{written_lefts, written_rights}
+use Rattle.cg_nimbers.proofs.NumberUpStars.{sum-numbers_equal}
 use Rattle.cg_nodes.proofs.Forms.{can-node, can-same}
 use Rattle.cg_canon.proofs.Translated.{node_shifted}
 use Rattle.cg_nodes.specs.CanForms.{can-equal, can-fixed}
@@ -73,14 +72,6 @@ can-translated x g n =
     ap (λ z. can (node z (map (λ b. can (sum (number x) b)) (rights g)))) (sym (map-map can (λ a. sum (number x) a) (lefts g)))
     ∙ (ap (λ z. can (node (map can ls) z)) (sym (map-map can (λ b. sum (number x) b) (rights g)))
     ∙ (can-node ls rs ∙ can-same (translated x g) (sum (number x) g) (t.1, t.0)))
-
--- the sum of two numbers as games equals their sum
-pub sum-numbers_equal : (x y z : Number) → IsSum x y z → Equal (number z) (sum (number x) (number y))
-sum-numbers_equal x y z h =
-    let s : ℕ = exp_of x + exp_of y + exp_of z in
-    let u = sum-units s x y z (omega arith) (omega arith) (omega arith) h in
-    let r = sums s x y z (omega arith) (omega arith) (omega arith) in
-    (r.ge_to (omega (arith, ints)), r.le_to (omega (arith, ints)))
 
 pub can-sum_numbers : (x y z : Number) → IsSum x y z → can (sum (number x) (number y)) ≡ number z
 can-sum_numbers x y z h =

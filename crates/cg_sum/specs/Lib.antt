@@ -6,3 +6,4 @@ pub mod Finds
 pub mod Progress
 pub mod Firsts
 pub mod Zeros
+pub mod Sight

@@ -1,5 +1,5 @@
 //! The item of the sum of two positions.
-ghost use Rattle.std.specs.Prelude.{◌≡◌, ◌⊎◌, ◌+◌, ◌≤◌, MatchOption, IfOk, IsSome, IsTrue, None, OnOk, Some, [], ◌∷◌, pos};
+ghost use Rattle.std.specs.Prelude.{◌≡◌, ◌⊎◌, ◌+◌, ◌≤◌, MatchOption, IfOk, IfSome, IsSome, IsTrue, None, OnOk, Some, [], ◌∷◌, pos};
 ghost use Rattle.std.specs.Option.{ForSome};
 ghost use Rattle.cg_canon.specs.Items.{made as made_at};
 ghost use Rattle.cg_canon.specs.Made.{ItemsMade};
@@ -9,7 +9,7 @@ ghost use Rattle.cg_form.specs.Sum.{sum};
 ghost use Rattle.cg_nodes.specs.Games.{IsGame, StandsFor, game_at};
 ghost use Rattle.cg_nodes.specs.Spelled.{can, game_meaning};
 ghost use Rattle.cg_canon.specs.SumItems.{sum_item as item_of_sum};
-ghost use Rattle.cg_sum.specs.Progress.{IsNoteOf, IsOneNode, IsSumReady};
+ghost use Rattle.cg_sum.specs.Progress.{IsNoteOf, IsOneNode, IsPosition, IsSumReady};
 ghost use Rattle.cg_sum.specs.Zeros.{IsBesideZero};
 
 use crate::form::{form_item, written_item};
@@ -104,7 +104,24 @@ fn beside_zero(f: &Position, k: &Position) -> Option<Handle>
     }
 }
 
-// Makes the item of f + k, where one of the two is no number. Where the other is 0, the sum is known.
+// The sum of the two, where one is the number 0, or where it is known by its parts.
+fn told<B: BoardForms, S: CellStore<GameFacts<B>>>(
+    work: &Work<B, S>,
+    f: &Position,
+    k: &Position,
+) -> Option<Handle>
+    requires first { IsPosition (work_state S.state work.now) f.now }
+    requires second { IsPosition (work_state S.state work.now) k.now }
+    ensures { let W = work_state S.state work.now in IfSome result (λ h. StandsFor W h
+        (can (sum (game_at W f.now.handle) (game_at W k.now.handle)))) }
+{
+    match beside_zero(f, k) {
+        Some(sum) => Some(sum),
+        None => work.sum_by_parts(f.handle, k.handle),
+    }
+}
+
+// Makes the item of f + k, where one of the two is no number. Where the sum is told, it is charged.
 fn game_item<B: BoardForms, S: CellStore<GameFacts<B>>>(
     alloc: Global,
     work: &mut Work<B, S>,
@@ -123,7 +140,7 @@ fn game_item<B: BoardForms, S: CellStore<GameFacts<B>>>(
         (item_of_sum (game_at W f.now.handle) (game_at W k.now.handle) ∷ []) result }
     ensures spare { start ≤ (work_state S.state work.new).spare }
 {
-    match beside_zero(f, k) {
+    match told(work, f, k) {
         Some(sum) => charged_item(alloc, work, sum),
         None => looked_up_item(alloc, work, f, k, sums, look_up, start),
     }
@@ -256,9 +273,32 @@ fn has_number(f: &Position, k: &Position) -> bool
     f.number.is_some() || k.number.is_some()
 }
 
+// Makes the item of f + k from the sums of their options, where one of the two is no number. The work learns what the third of
+// f, k and their sum is known as, where it knows that of two.
+fn made_item<B: BoardForms, S: CellStore<GameFacts<B>>>(
+    alloc: Global,
+    work: &mut Work<B, S>,
+    f: &Position,
+    k: &Position,
+    sums: &Sums,
+) -> Result<Handle, ValueFault>
+    requires ready { IsSumReady (work_state S.state work.old) sums.now f.now k.now }
+    requires node { IsOneNode (work_state S.state work.old) f.now.handle k.now.handle }
+    ensures game { let W = work_state S.state work.old in IfOk result (λ h. StandsFor (work_state S.state work.new) h
+        (can (sum (game_at W f.now.handle) (game_at W k.now.handle)))) }
+    ensures made { let W = work_state S.state work.old in ItemsMade W (work_state S.state work.new)
+        (item_of_sum (game_at W f.now.handle) (game_at W k.now.handle) ∷ []) result }
+    ensures spare { OnOk result ((work_state S.state work.old).spare + 1 ≤ (work_state S.state work.new).spare) }
+    ensures more { (work_state S.state work.old).spare ≤ (work_state S.state work.new).spare }
+{
+    let sum = summed_item(alloc, work, f, k, sums)?;
+    work.learn_sum(f.handle, k.handle, sum);
+    Ok(sum)
+}
+
 // Makes the item of f + k from the sums of their options, where one of the two is no number. The sum of a number and a game
 // that is none is canonical as it stands, with the sums of the number and the options in the order of these options.
-fn made_item<B: BoardForms, S: CellStore<GameFacts<B>>>(
+fn summed_item<B: BoardForms, S: CellStore<GameFacts<B>>>(
     alloc: Global,
     work: &mut Work<B, S>,
     f: &Position,

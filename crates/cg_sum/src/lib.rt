@@ -6,7 +6,8 @@
 //! same two positions takes the note; the steps of a multiple keep their sums instead. The sum of 0 and
 //! a game is that game, which is charged as it is known. The sum of two nimbers is the nimber of the
 //! exclusive or of their numbers, which is made once in a call. Where both games are nimbers, all sums of
-//! their positions are, and each is charged by what the first that is equal cost. The charge is the same.
+//! their positions are, and each is charged by what the first that is equal cost. The sum of two games that are
+//! known as a number, ups and a nimber is looked for among those that are known so. The charge is the same.
 #![tactic(auto)]
 
 mod addition;
@@ -25,6 +26,7 @@ mod pair;
 mod pairs;
 mod position;
 mod rows;
+mod sight;
 mod written;
 
 pub use addition::sum;

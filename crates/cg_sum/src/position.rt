@@ -7,6 +7,7 @@ ghost use Rattle.cg_sum.specs.Progress.{ArePositions, HoldsNimbers, IsPosition, 
 
 use crate::handle_list::HandleList;
 use crate::nimbers::{Nimbers, value_of_number, value_over};
+use crate::sight::learn_seen;
 use crate::written::{Sides, no_sides};
 use cg_canon::{Work, Written};
 use cg_cells::CellStore;
@@ -50,7 +51,8 @@ pub(crate) fn learned<B: BoardForms, S: CellStore<GameFacts<B>>>(
     Ok(all)
 }
 
-// The position of the handle, which is kept if it stands for a nimber whose options are known.
+// The position of the handle, which is kept if it stands for a nimber whose options are known. Where it is a number, a nimber or
+// ^, the work learns so.
 fn learned_one<B: BoardForms, S: CellStore<GameFacts<B>>>(
     alloc: Global,
     work: &mut Work<B, S>,
@@ -65,6 +67,7 @@ fn learned_one<B: BoardForms, S: CellStore<GameFacts<B>>>(
     ensures spends { Spends 0 (work_state S.state work.old) (work_state S.state work.new) }
 {
     let position = read_one(alloc, work, handle, nimbers)?;
+    learn_seen(work, &position, nimbers);
     match position.nimber {
         Some(value) => {
             nimbers.keep(handle, value)?;
@@ -85,6 +88,7 @@ fn read_one<B: BoardForms, S: CellStore<GameFacts<B>>>(
     requires holds { HoldsNimbers (work_state S.state work.old) nimbers.now }
     ensures position { IfOk result (λ position. IsPosition (work_state S.state work.new) position) }
     ensures handle { IfOk result (λ position. position.handle ≡ handle) }
+    ensures holds { IfOk result (λ _. HoldsNimbers (work_state S.state work.new) nimbers.now) }
     ensures spends { Spends 0 (work_state S.state work.old) (work_state S.state work.new) }
 {
     match work.written(alloc, handle)? {

@@ -1,4 +1,4 @@
-use Rattle.cg_names.proofs.SameNumbers.{tells_other, tells_same}
+use Rattle.cg_nimbers.proofs.SameNumbers.{tells_other, tells_same}
 use Rattle.cg_names.proofs.hot.is_same.Goals as goal
 
 pub returns-clause-same : goal.returns-clause-same

@@ -6,7 +6,7 @@ use Rattle.cg_canon.specs.Works.{work_state}
 use Rattle.cg_canon.specs.Written.{IsWrittenAs}
 use Rattle.cg_nodes.proofs.Later.{is_game_later}
 use Rattle.cg_nodes.specs.Games.{IsNode, game_at}
-use Rattle.cg_sum.proofs.NimberSteps.{first_zero, over_read}
+use Rattle.cg_sum.proofs.NimberSteps.{first_zero, nimbers_later, over_read}
 use Rattle.cg_sum.proofs.OptionSteps.{read_lists, read_number}
 use Rattle.cg_sum.proofs.PositionSteps.{number_later}
 use Rattle.cg_sum.proofs.position.read_one.Goals as goal
@@ -45,3 +45,13 @@ returns-in-Options-clause-position g c =
       written = read_lists w v c.args.handle c.in-Options.lefts.items c.in-Options.rights.items _ c.requires.handle
           c.written.ensures.spends c.in_ok-x.ensures.canonical is.0 is.1 is.2 c.of.ensures c.of-in-Options.ensures;
     }
+
+pub returns-in-Number-clause-holds : goal.returns-in-Number-clause-holds
+returns-in-Number-clause-holds g c =
+    let W = work_state g.S.CellStore.state in
+    nimbers_later (W c.args.work.now) (W c.written.new.self) c.written.ensures.spends.known _ c.requires.holds
+
+pub returns-in-Options-clause-holds : goal.returns-in-Options-clause-holds
+returns-in-Options-clause-holds g c =
+    let W = work_state g.S.CellStore.state in
+    nimbers_later (W c.args.work.now) (W c.written.new.self) c.written.ensures.spends.known _ c.requires.holds

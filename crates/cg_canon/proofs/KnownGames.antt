@@ -1,0 +1,182 @@
+-- Games that are known as sums of a number, of ups or downs, and of a nimber.
+use Rattle.std.proofs.Common.{◌≡◌, ◌⊎◌, ◌∙◌, refl, Bool, true, ◌&&◌, nat_eq, eqb-true, arith, ℕ, ℤ, pos, ◌+ℤ◌, ◌-ℤ◌, [], ◌∷◌, ◌++◌, Option, Some, None, ap, inl, inr, sym, subst}
+use Rattle.std.specs.List.{slice_get}
+use Rattle.std.specs.Ordering.{int_eq}
+use Rattle.std.specs.Prelude.{IfSome, bit_xor}
+use Rattle.std.proofs.lemmas.Int.{ints}
+use Rattle.cg_cells.specs.Meaning.{Grows}
+use Rattle.cg_cells.specs.Store.{State, thing_at}
+use Rattle.cg_dyadic.specs.Number.{Number, exp_of, num_of}
+use Rattle.cg_dyadic.proofs.Truth.{and-split}
+use Rattle.cg_form.specs.Canonical.{Canonical}
+use Rattle.cg_form.specs.Game.{Game}
+use Rattle.cg_form.specs.Order.{Equal}
+use Rattle.cg_form.specs.Sum.{sum}
+use Rattle.cg_form.proofs.EqualGames.{equal_comm, sum_equal}
+use Rattle.cg_form.proofs.Preorder.{equal_back, equal_trans}
+use Rattle.cg_nimbers.specs.NumberUpStar.{number_up_star}
+use Rattle.cg_nimbers.proofs.IntegerMultiples.{equal_cancel, sum_second}
+use Rattle.cg_nimbers.proofs.NumberUpStars.{number_up_star-sum}
+use Rattle.cg_nimbers.proofs.SameNumbers.{tells_same}
+use Rattle.cg_nodes.specs.CanForms.{can-canonical, can-equal, can-fixed}
+use Rattle.cg_nodes.specs.Games.{IsGame, StandsFor, game_at}
+use Rattle.cg_nodes.specs.Meant.{Meant, form}
+use Rattle.cg_nodes.specs.Spelled.{can}
+use Rattle.cg_nodes.proofs.Forms.{can-same}
+use Rattle.cg_nodes.proofs.Later.{game_later, is_game_later, stands_game, stands_is_game}
+use Rattle.cg_canon.specs.declared.number_up_star.NumberUpStar.{NumberUpStar}
+use Rattle.cg_canon.specs.declared.number_up_stars.KnownGame.{KnownGame}
+use Rattle.cg_canon.specs.declared.number_up_stars.NumberUpStars.{NumberUpStars}
+use Rattle.cg_canon.specs.NumberUpStars.{AreKnown, IsKnownAs, IsListed, IsPlus, game_of}
+use Rattle.cg_canon.proofs.Pushed.{none_there, pushed_item}
+
+-- the games of two such sums come to that of their sum
+pub plus_equal : (v w u : NumberUpStar) → IsPlus v w u → Equal (sum (game_of v) (game_of w)) (game_of u)
+plus_equal v w u p =
+    let both : Game = sum (game_of v) (game_of w) in
+    let n : ℤ = pos v.ups -ℤ pos v.downs in
+    let k : ℤ = pos w.ups -ℤ pos w.downs in
+    let P : ℤ → Type 0 = λ i. Equal both (number_up_star u.number i (bit_xor v.star w.star)) in
+    let Q : ℕ → Type 0 = λ i. Equal both (number_up_star u.number (pos u.ups -ℤ pos u.downs) i) in
+    let ups : n +ℤ k ≡ pos u.ups -ℤ pos u.downs = let e = p.ups in omega (arith, ints) in
+    subst Q p.star (subst P ups (number_up_star-sum v.number w.number u.number n k v.star w.star p.number))
+
+module _ {R : Type 0} (s : State Meant R) where
+  -- of two known games the sum equals that of what they are known as
+  pub known_sum : (a b : ℕ) (v w u : NumberUpStar) → IsKnownAs s a v → IsKnownAs s b w → IsPlus v w u
+      → Equal (sum (game_at s a) (game_at s b)) (game_of u)
+  known_sum a b v w u k l p =
+      equal_trans (sum (game_at s a) (game_at s b)) (sum (game_of v) (game_of w)) (game_of u)
+      (sum_equal (game_at s a) (game_at s b) (game_of v) (game_of w) k.equal l.equal) (plus_equal v w u p)
+
+  -- a game that is known as what g equals stands for its canonical form
+  pub known_stands : (h : ℕ) (u : NumberUpStar) (g : Game) → IsKnownAs s h u → Equal g (game_of u) → StandsFor s h (can g)
+  known_stands h u g k e =
+      let same : Equal g (game_at s h) = equal_trans g (game_of u) (game_at s h) e
+      (equal_back (game_at s h) (game_of u) k.equal) in
+      let is : can g ≡ game_at s h = can-same g (game_at s h) same ∙ can-fixed (game_at s h) k.canonical in
+      k.game ∙ ap (λ z. Some (form z)) (sym is)
+
+  -- so does a handle that is found
+  pub sum_told : (o : Option ℕ) (a b : ℕ) (v w u : NumberUpStar) → IsKnownAs s a v → IsKnownAs s b w → IsPlus v w u
+      → IfSome o (λ h. IsKnownAs s h u) → IfSome o (λ h. StandsFor s h (can (sum (game_at s a) (game_at s b))))
+  sum_told None a b v w u k l p m = tt
+  sum_told (Some h) a b v w u k l p m = known_stands h u (sum (game_at s a) (game_at s b)) m (known_sum a b v w u k l p)
+
+  -- the third of a sum of two known games
+  pub third_known : (a b h : ℕ) (v w u : NumberUpStar) → IsKnownAs s a v → IsKnownAs s b w → IsPlus v w u
+      → StandsFor s h (can (sum (game_at s a) (game_at s b))) → IsKnownAs s h u
+  third_known a b h v w u k l p stands =
+      let both : Game = sum (game_at s a) (game_at s b) in
+      let P : Game → Type 0 = λ z. Canonical z in
+      let Q : Game → Type 0 = λ z. Equal z (game_of u) in
+      let is : game_at s h ≡ can both = stands_game s h (can both) stands in
+      record {
+        game = stands_is_game s h (can both) stands;
+        canonical = subst P (sym is) (can-canonical both);
+        equal = subst Q (sym is) (equal_trans (can both) both (game_of u) (can-equal both) (known_sum a b v w u k l p));
+      }
+
+  pub third_told : (o : Option NumberUpStar) (a b h : ℕ) (v w : NumberUpStar) → IsKnownAs s a v → IsKnownAs s b w
+      → IfSome o (IsPlus v w) → StandsFor s h (can (sum (game_at s a) (game_at s b))) → IfSome o (IsKnownAs s h)
+  third_told None a b h v w k l p stands = tt
+  third_told (Some u) a b h v w k l p stands = third_known a b h v w u k l p stands
+
+  -- one of two games whose sum is known, as the other is
+  pub other_known : (a b h : ℕ) (v w u : NumberUpStar) → IsGame s a → Canonical (game_at s a) → IsKnownAs s b w → IsKnownAs s h u
+      → IsPlus v w u → Equal (game_at s h) (sum (game_at s a) (game_at s b)) → IsKnownAs s a v
+  other_known a b h v w u game c l k p e = record {
+    game = game;
+    canonical = c;
+    equal =
+        let both : Game = sum (game_at s a) (game_at s b) in
+        let other : Game = sum (game_of v) (game_at s b) in
+        equal_cancel (game_at s a) (game_of v) (game_at s b)
+        (equal_trans both (game_of u) other
+        (equal_trans both (game_at s h) (game_of u) (equal_back (game_at s h) both e) k.equal)
+        (equal_back other (game_of u) (equal_trans other (sum (game_of v) (game_of w)) (game_of u)
+        (sum_second (game_at s b) (game_of w) (game_of v) l.equal) (plus_equal v w u p))));
+  }
+
+  pub other_told : (o : Option NumberUpStar) (a b h : ℕ) (w u : NumberUpStar) → IsGame s a → Canonical (game_at s a)
+      → IsKnownAs s b w → IsKnownAs s h u → IfSome o (λ v. IsPlus v w u) → Equal (game_at s h) (sum (game_at s a) (game_at s b))
+      → IfSome o (IsKnownAs s a)
+  other_told None a b h w u game c l k p e = tt
+  other_told (Some v) a b h w u game c l k p e = other_known a b h v w u game c l k p e
+
+  -- the sum of two games equals the game that stands for it, in either order
+  pub stands_equal : (a b h : ℕ) → StandsFor s h (can (sum (game_at s a) (game_at s b)))
+      → Equal (game_at s h) (sum (game_at s a) (game_at s b))
+  stands_equal a b h stands =
+      let both : Game = sum (game_at s a) (game_at s b) in
+      let Q : Game → Type 0 = λ z. Equal z both in
+      subst Q (sym (stands_game s h (can both) stands)) (can-equal both)
+
+  pub stands_turned : (a b h : ℕ) → StandsFor s h (can (sum (game_at s a) (game_at s b)))
+      → Equal (game_at s h) (sum (game_at s b) (game_at s a))
+  stands_turned a b h stands =
+      equal_trans (game_at s h) (sum (game_at s a) (game_at s b)) (sum (game_at s b) (game_at s a)) (stands_equal a b h stands)
+      (equal_comm (game_at s a) (game_at s b))
+
+-- ---- tables
+
+same_parts : (v w : NumberUpStar) → v.number ≡ w.number → v.ups ≡ w.ups → v.downs ≡ w.downs → v.star ≡ w.star → v ≡ w
+same_parts v w number ups downs star =
+    let R : Number → ℕ → ℕ → ℕ → NumberUpStar = λ x n k m. record { number = x; ups = n; downs = k; star = m } in
+    ap (λ x. R x v.ups v.downs v.star) number ∙ (ap (λ n. R w.number n v.downs v.star) ups
+    ∙ (ap (λ k. R w.number w.ups k v.star) downs ∙ ap (R w.number w.ups w.downs) star))
+
+-- sums with the same parts are the same
+pub same_sum : (v w : NumberUpStar) (b : Bool)
+    → b ≡ ((int_eq (num_of v.number) (num_of w.number) && nat_eq (exp_of v.number) (exp_of w.number))
+    && (nat_eq v.ups w.ups && (nat_eq v.downs w.downs && nat_eq v.star w.star))) → b ≡ true → v ≡ w
+same_sum v w b e t =
+    let (first, rest) = and-split _ (nat_eq v.ups w.ups && (nat_eq v.downs w.downs && nat_eq v.star w.star)) (sym e ∙ t) in
+    let (ups, others) = and-split (nat_eq v.ups w.ups) (nat_eq v.downs w.downs && nat_eq v.star w.star) rest in
+    let (downs, star) = and-split (nat_eq v.downs w.downs) (nat_eq v.star w.star) others in
+    same_parts v w (tells_same v.number w.number true (sym first) refl) (eqb-true v.ups w.ups ups)
+    (eqb-true v.downs w.downs downs) (eqb-true v.star w.star star)
+
+-- a table with one game more
+pub listed_pushed : (t u : NumberUpStars) (a : ℕ) (v : NumberUpStar)
+    → u.games.items ≡ t.games.items ++ ((λ (z : KnownGame). z) (record { handle = a; sum = v }) ∷ [])
+    → (h : ℕ) (w : NumberUpStar) → IsListed u h w → ((h ≡ a) × (w ≡ v)) ⊎ IsListed t h w
+listed_pushed t u a v e h w k = elim (pushed_item t.games.items u.games.items _ _ k.place e k.there) [
+  | inl same ↦ inl (ap (λ (z : KnownGame). z.handle) same, ap (λ (z : KnownGame). z.sum) same)
+  | inr old ↦ inr (record { place = k.place; there = old })
+]
+
+-- a table with the same games
+pub listed_before : (t u : NumberUpStars) → u.games.items ≡ t.games.items → (h : ℕ) (w : NumberUpStar) → IsListed u h w
+    → IsListed t h w
+listed_before t u e h w k = record { place = k.place; there = ap (λ z. slice_get z k.place) (sym e) ∙ k.there }
+
+-- of no games
+pub known_none : {R : Type 0} (s : State Meant R) (t : NumberUpStars) → t.games.items ≡ [] → AreKnown s t
+known_none s t none h v k = absurd (none_there t.games.items k.place _ none k.there)
+
+-- what the table says stays so
+pub known_later : {R Q : Type 0} (s : State Meant R) (t : State Meant Q) → Grows (thing_at s) (thing_at t) → (n : NumberUpStars)
+    → AreKnown s n → AreKnown t n
+known_later s t grows n k h v at =
+    let l = k h v at in
+    let same = game_later s t grows h l.game in
+    let P : Game → Type 0 = λ z. Canonical z in
+    let Q : Game → Type 0 = λ z. Equal z (game_of v) in
+    record {
+      game = is_game_later s t grows h l.game;
+      canonical = subst P (sym same) l.canonical;
+      equal = subst Q (sym same) l.equal;
+    }
+
+-- with one game more
+pub known_more : {R : Type 0} (s : State Meant R) (t u : NumberUpStars) (a : ℕ) (v : NumberUpStar)
+    → ((h : ℕ) (w : NumberUpStar) → IsListed u h w → ((h ≡ a) × (w ≡ v)) ⊎ IsListed t h w)
+    → IsKnownAs s a v → AreKnown s t → AreKnown s u
+known_more s t u a v e o k h w at = elim (e h w at) [
+  | inl same ↦
+      let P : ℕ → Type 0 = λ z. IsKnownAs s z w in
+      let Q : NumberUpStar → Type 0 = λ z. IsKnownAs s a z in
+      subst P (sym same.0) (subst Q (sym same.1) o)
+  | inr old ↦ k h w old
+]
