@@ -1,15 +1,10 @@
 -- Rows cut at the first run of a length.
-use Rattle.std.proofs.Common.{◌≡◌, ◌≢◌, ℕ, suc, ◌+◌, List, [], ◌∷◌, ◌++◌, length, map, take, drop, refl, ap, sym, ◌∙◌, append_assoc, append-nil, arith, length-append}
+use Rattle.std.proofs.Common.{◌≡◌, ◌≢◌, ℕ, suc, ◌+◌, List, [], ◌∷◌, ◌++◌, length, take, drop, refl, ap, sym, ◌∙◌, append_assoc, append-nil, arith, length-append}
 use Rattle.std.specs.Prelude.{remove, slice_index_or}
 use Rattle.std.proofs.lemmas.Bool.{ne_eqb, eq-eqb}
-use Rattle.std.proofs.lemmas.List.{map_push}
-use Rattle.cg_syntax.specs.Tree.{Tree}
-use Rattle.cg_syntax.specs.Trees.{tree_of}
-use Rattle.cg_syntax.specs.declared.expr.Expr.{Expr}
-use Rattle.cg_syntax.specs.declared.found.Found as code
-use Rattle.cg_syntax.specs.Braces.{Run_side, Whole, Parts, cut_from, side_trees}
+use Rattle.cg_syntax.specs.Braces.{Run_side, Whole, Parts, cut_from}
 use Rattle.cg_syntax.specs.Values.{run_side}
-use Rattle.cg_syntax.specs.Views.{found_of, row_of, rows_of}
+use Rattle.cg_syntax.specs.Views.{row_of, rows_of, side_found}
 use Rattle.cg_syntax.specs.Cuts.{IsFirstRun}
 use Rattle.cg_syntax.specs.declared.found.Row.{Row}
 
@@ -38,7 +33,7 @@ skip_one bars rows rest place r others s e n = record {
   cut = s.cut ∙ ap (λ (z : List Row). cut_from (rows_of s.front) bars (rows_of z)) e ∙ cut_off bars (rows_of s.front) r others n ∙ ap (λ (z : List Run_side). cut_from z bars (rows_of others)) (sym (rows_of-append s.front r));
 }
 
-cut_here : (bars : ℕ) (front : List Run_side) (r : Row) (others : List Row) → r.bars ≡ bars → cut_from front bars (rows_of (r ∷ others)) ≡ Parts front (map found_of r.side.items) (rows_of others)
+cut_here : (bars : ℕ) (front : List Run_side) (r : Row) (others : List Row) → r.bars ≡ bars → cut_from front bars (rows_of (r ∷ others)) ≡ Parts front (side_found r.side) (rows_of others)
 cut_here bars front r others h = rw (eq-eqb r.bars bars h) refl
 
 pub found_run : (bars : ℕ) (rows rest : List Row) (place : ℕ) (r : Row) (others : List Row) → Skipped bars rows rest place → rest ≡ r ∷ others → r.bars ≡ bars → IsFirstRun bars rows place
@@ -77,21 +72,11 @@ get_last (y ∷ xs) x d = get_last xs x d
 
 -- the two parts that rows are taken apart into at the first run of a length
 pub cut_parts : (bars : ℕ) (rows before0 before behind : List Row) (place : ℕ) (row : Row) → IsFirstRun bars rows place → before0 ≡ take (place + 1) rows → behind ≡ drop (place + 1) rows → before ≡ remove before0 place → row ≡ slice_index_or before0 place row
-    → cut_from [] bars (rows_of rows) ≡ Parts (rows_of before) (map found_of row.side.items) (rows_of behind)
+    → cut_from [] bars (rows_of rows) ≡ Parts (rows_of before) (side_found row.side) (rows_of behind)
 cut_parts bars rows before0 before behind place row f t d r v =
     let one : place + 1 ≡ suc (length f.front) = omega (arith, f.size) in
     let b0 : before0 ≡ f.front ++ f.row ∷ [] = t ∙ ap (λ (n : ℕ). take n rows) one ∙ ap (λ (z : List Row). take (suc (length f.front)) z) f.spelled ∙ take_front f.front f.row f.behind in
     let bh : behind ≡ f.behind = d ∙ ap (λ (n : ℕ). drop n rows) one ∙ ap (λ (z : List Row). drop (suc (length f.front)) z) f.spelled ∙ drop_front f.front f.row f.behind in
     let bf : before ≡ f.front = r ∙ ap (λ (z : List Row). remove z place) b0 ∙ ap (λ (n : ℕ). remove (f.front ++ f.row ∷ []) n) (sym f.size) ∙ remove_last f.front f.row in
     let rv : row ≡ f.row = v ∙ ap (λ (z : List Row). slice_index_or z place row) b0 ∙ ap (λ (n : ℕ). slice_index_or (f.front ++ f.row ∷ []) n row) (sym f.size) ∙ get_last f.front f.row row in
-    f.cut ∙ ap (λ (z : List Row). Parts (rows_of z) (map found_of f.row.side.items) (rows_of f.behind)) (sym bf) ∙ ap (λ (z : Row). Parts (rows_of before) (map found_of z.side.items) (rows_of f.behind)) (sym rv) ∙ ap (λ (z : List Row). Parts (rows_of before) (map found_of row.side.items) (rows_of z)) (sym bh)
-
--- ---- the trees of a side
-
-side_push : (fs : List code.Found) (f : code.Found) → side_trees (map found_of (fs ++ f ∷ [])) ≡ side_trees (map found_of fs) ++ tree_of f.expr ∷ []
-side_push [] f = refl
-side_push (g ∷ fs) f = ap (λ (z : List Tree). tree_of g.expr ∷ z) (side_push fs f)
-
--- one expression more
-pub exprs_push : (es : List Expr) (fs : List code.Found) (f : code.Found) → map tree_of es ≡ side_trees (map found_of fs) → map tree_of (es ++ f.expr ∷ []) ≡ side_trees (map found_of (fs ++ f ∷ []))
-exprs_push es fs f h = map_push _ es f.expr ∙ ap (λ (z : List Tree). z ++ tree_of f.expr ∷ []) h ∙ sym (side_push fs f)
+    f.cut ∙ ap (λ (z : List Row). Parts (rows_of z) (side_found f.row.side) (rows_of f.behind)) (sym bf) ∙ ap (λ (z : Row). Parts (rows_of before) (side_found z.side) (rows_of f.behind)) (sym rv) ∙ ap (λ (z : List Row). Parts (rows_of before) (side_found row.side) (rows_of z)) (sym bh)

@@ -18,6 +18,7 @@ pub mod SameLines
 pub mod SameFirstWords
 pub mod SameStatements
 pub mod More
+pub mod SoundSides
 pub mod Special
 pub mod Whole
 pub mod WholeTwo

@@ -1,7 +1,7 @@
 -- Where a row is cut.
-use Rattle.std.specs.Prelude.{ℕ, ◌≡◌, List, [], ◌∷◌, ◌++◌, map, length}
+use Rattle.std.specs.Prelude.{ℕ, ◌≡◌, List, [], ◌∷◌, ◌++◌, length}
 use Rattle.cg_syntax.specs.Braces.{Parts, cut_from}
-use Rattle.cg_syntax.specs.Views.{found_of, rows_of}
+use Rattle.cg_syntax.specs.Views.{side_found, rows_of}
 use Rattle.cg_syntax.specs.declared.found.Row.{Row}
 
 -- the first run of this length stands at this place of the rows, and they are cut there
@@ -11,4 +11,4 @@ pub record IsFirstRun (bars : ℕ) (rows : List Row) (place : ℕ) : Type 0 wher
   pub behind : List Row
   pub spelled : rows ≡ front ++ row ∷ behind
   pub size : length front ≡ place
-  pub cut : cut_from [] bars (rows_of rows) ≡ Parts (rows_of front) (map found_of row.side.items) (rows_of behind)
+  pub cut : cut_from [] bars (rows_of rows) ≡ Parts (rows_of front) (side_found row.side) (rows_of behind)

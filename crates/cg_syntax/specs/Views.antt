@@ -8,6 +8,9 @@ use Rattle.cg_syntax.specs.Trees.{tree_of}
 use Rattle.cg_syntax.specs.declared.expr.Expr.{Expr}
 use Rattle.cg_syntax.specs.declared.found.Found as code
 use Rattle.cg_syntax.specs.declared.found.Row as code_row
+use Rattle.cg_syntax.specs.declared.found.Rows as code_rows
+use Rattle.cg_syntax.specs.declared.found.Side as code_side
+use Rattle.cg_syntax.specs.declared.found.Side.TheVariants as sides
 use Rattle.cg_syntax.specs.declared.split.Cut as code_cut
 use Rattle.cg_syntax.specs.declared.split.Cut.TheVariants as cuts
 use Rattle.cg_syntax.specs.declared.split.Halves as code_halves
@@ -17,6 +20,15 @@ use Rattle.cg_syntax.specs.declared.split.Halves.TheVariants as halves
 abbrev pub found_of : code.Found → Found
 found_of f = record { tree = tree_of f.expr; fault = f.fault }
 
+-- a tree without a fault
+abbrev pub sound : Expr → Found
+sound e = record { tree = tree_of e; fault = None }
+
+-- what was found in a side
+abbrev pub side_found : code_side.Side → List Found
+side_found (sides.Sound exprs) = map sound exprs.items
+side_found (sides.Faulty founds) = map found_of founds.items
+
 -- the tree of an expression, if there is one
 abbrev pub tree_option : Option Expr → Option Tree
 tree_option None = None
@@ -24,14 +36,22 @@ tree_option (Some e) = Some (tree_of e)
 
 -- a run of bars, and the side behind it
 abbrev pub row_of : code_row.Row → (ℕ × ℕ) × List Found
-row_of r = ((r.column, r.bars), map found_of r.side.items)
+row_of r = ((r.column, r.bars), side_found r.side)
+
+-- the length of a run of bars
+abbrev pub run_length : code_row.Row → ℕ
+run_length r = r.bars
 
 abbrev pub rows_of : List code_row.Row → List Run_side
 rows_of rows = map run_side (map row_of rows)
 
+-- the rows of braces
+abbrev pub row_list : code_rows.Rows → List ((ℕ × ℕ) × List Found)
+row_list rows = row_of rows.first ∷ map row_of rows.more.items
+
 abbrev pub cut_of : code_cut.Cut → Cut
 cut_of (cuts.Whole rows) = Whole (rows_of rows.items)
-cut_of (cuts.Parts before middle behind) = Parts (rows_of before.items) (map found_of middle.items) (rows_of behind.items)
+cut_of (cuts.Parts before middle behind) = Parts (rows_of before.items) (side_found middle) (rows_of behind.items)
 
 -- the options that a part comes to: two sides are one option, their brace
 abbrev pub halves_of : code_halves.Halves → List Tree

@@ -5,13 +5,14 @@ ghost use Rattle.cg_syntax.specs.Braces.{only_tree};
 ghost use Rattle.cg_syntax.specs.Reading.{tail_of_at};
 ghost use Rattle.cg_syntax.specs.Tree.{sum, terms_from};
 ghost use Rattle.cg_syntax.specs.Trees.{tree_of, terms_of};
-ghost use Rattle.cg_syntax.specs.Values.{with_tail, negated, times_of, together, braces_of as braces_value};
-ghost use Rattle.cg_syntax.specs.Views.{found_of, halves_of, tree_option, rows_of};
+ghost use Rattle.cg_syntax.specs.Values.{with_tail, negated, times_of, together, run_side, braces_of as braces_value};
+ghost use Rattle.cg_syntax.specs.Views.{found_of, halves_of, tree_option, row_list, side_found};
 
 use crate::arrows::{is_arrow, tail};
 use crate::expr::{Expr, Exprs, Term, Terms};
 use crate::faults::{earlier, rows_fault, side_fault};
-use crate::found::{Found, Row};
+use crate::found::{Found, Rows, Side};
+use crate::sides::exprs;
 use crate::split::{Halves, split_part};
 use cg_reading::{ReadFault, is_byte};
 use std::alloc::Global;
@@ -152,14 +153,31 @@ pub fn multiple(
     }
 }
 
-/// The braces of a row.
-pub fn braces_of(alloc: Global, side: Vec<Found>, rows: Vec<Row>) -> Result<Found, ReadFault>
+/// The braces of these rows.
+pub fn braces_of(alloc: Global, side: Side, rows: Rows) -> Result<Found, ReadFault>
     ensures { Gives found_of result
-        (Ok (braces_value (map found_of side.items) (rows_of rows.items))) }
+        (Ok (braces_value (side_found side) (map run_side (row_list rows)))) }
 {
-    let fault = earlier(side_fault(&side), rows_fault(alloc, &rows)?);
-    let halves = split_part(alloc, 8, side, rows)?;
+    if rows.more.is_empty() && 1 <= rows.first.bars && rows.first.bars <= 8 {
+        return of_two_sides(alloc, side, rows.first.side);
+    }
+    let mut all = rows.more;
+    all.insert(0, rows.first)?;
+    let fault = earlier(side_fault(&side), rows_fault(&all));
+    let halves = split_part(alloc, 8, side, all)?;
     let expr = brace(alloc, halves);
+    Ok(Found { expr, fault })
+}
+
+/// The braces of two sides with one run of bars between them.
+fn of_two_sides(alloc: Global, left: Side, right: Side) -> Result<Found, ReadFault>
+    ensures { (bars : ℕ) → 1 ≤ bars → bars ≤ 8 → (column : ℕ) → Gives found_of result
+        (Ok (braces_value (side_found left) (run_side ((column, bars), side_found right) ∷ []))) }
+{
+    let fault = earlier(side_fault(&left), side_fault(&right));
+    let lefts = Exprs::of(exprs(alloc, left)?);
+    let rights = Exprs::of(exprs(alloc, right)?);
+    let expr = Expr::Braces(lefts, rights);
     Ok(Found { expr, fault })
 }
 

@@ -3,11 +3,9 @@ ghost use Rattle.std.specs.Prelude.{◌≡◌, map, Ok, [], false};
 ghost use Rattle.cg_reading.specs.Gives.{Gives};
 ghost use Rattle.cg_syntax.specs.Braces.{repeats, side_fault as fault_of_side, runs_fault};
 ghost use Rattle.cg_syntax.specs.Found.{first as first_column};
-ghost use Rattle.cg_syntax.specs.Views.{found_of, rows_of};
+ghost use Rattle.cg_syntax.specs.Views.{found_of, rows_of, run_length, side_found};
 
-use crate::found::{Found, Row};
-use cg_reading::ReadFault;
-use std::alloc::Global;
+use crate::found::{Found, Row, Side};
 
 /// The first of two columns.
 pub fn earlier(first: Option<u64>, second: Option<u64>) -> Option<u64>
@@ -19,24 +17,24 @@ pub fn earlier(first: Option<u64>, second: Option<u64>) -> Option<u64>
     }
 }
 
-/// Whether a run of this length is among these, with no longer one behind it.
-fn repeated(bars: u64, runs: &[u64]) -> bool
-    ensures { result ≡ repeats bars false runs.now }
+/// Whether one of these rows has a run of this length, with no longer one behind it.
+fn repeated(bars: u64, rows: &[Row]) -> bool
+    ensures { result ≡ repeats bars false (map run_length rows.now) }
 {
     let mut seen = false;
-    let mut rest = runs;
-    while let Some((first, later)) = rest.split_first() {
-        seen = bars >= *first && (bars == *first || seen);
+    let mut rest = rows;
+    while let Some((row, later)) = rest.split_first() {
+        seen = bars >= row.bars && (bars == row.bars || seen);
         rest = later;
     }
     seen
 }
 
-/// The first fault of a side.
-pub fn side_fault(side: &[Found]) -> Option<u64>
-    ensures { result ≡ fault_of_side (map found_of side.now) }
+/// The first fault of these.
+fn first_fault(founds: &[Found]) -> Option<u64>
+    ensures { result ≡ fault_of_side (map found_of founds.now) }
 {
-    let mut rest = side;
+    let mut rest = founds;
     while let Some((first, others)) = rest.split_first() {
         if let Some(column) = first.fault {
             return Some(column);
@@ -46,23 +44,28 @@ pub fn side_fault(side: &[Found]) -> Option<u64>
     None
 }
 
-/// The first fault of these runs and their sides.
-pub fn rows_fault(alloc: Global, rows: &[Row]) -> Result<Option<u64>, ReadFault>
-    ensures { Gives (λ o. o) result (Ok (runs_fault [] (rows_of rows.now))) }
+/// The first fault of a side.
+#[tactic(auto, using(crate::proofs::SoundSides::sound_fault))]
+pub fn side_fault(side: &Side) -> Option<u64>
+    ensures { result ≡ fault_of_side (side_found side.now) }
 {
-    let mut runs = Vec::new(alloc);
-    let mut rest = rows;
-    while let Some((row, others)) = rest.split_first() {
-        if repeated(row.bars, &runs) {
-            return Ok(Some(row.column));
+    match side {
+        Side::Sound(_) => None,
+        Side::Faulty(founds) => first_fault(founds),
+    }
+}
+
+/// The first fault of these runs and their sides.
+pub fn rows_fault(rows: &[Row]) -> Option<u64>
+    ensures { result ≡ runs_fault [] (rows_of rows.now) }
+{
+    for (index, row) in rows.iter().enumerate() {
+        if repeated(row.bars, &rows[..index]) {
+            return Some(row.column);
         }
         if let Some(column) = side_fault(&row.side) {
-            return Ok(Some(column));
+            return Some(column);
         }
-        if !others.is_empty() {
-            runs.push(row.bars)?;
-        }
-        rest = others;
     }
-    Ok(None)
+    None
 }

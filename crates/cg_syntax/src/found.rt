@@ -10,12 +10,28 @@ pub struct Found {
     pub fault: Option<u64>,
 }
 
+/// The expressions of a side of braces, in the order of the text.
+#[derive(Debug, Drop)]
+pub enum Side {
+    /// No run of bars in them repeats an earlier one.
+    Sound(Vec<Expr>),
+    /// Each with the first fault in it, if there is one.
+    Faulty(Vec<Found>),
+}
+
 /// A run of bars, with its column, and the side behind it.
 #[derive(Debug, Drop)]
 pub struct Row {
     pub column: u64,
     pub bars: u64,
-    pub side: Vec<Found>,
+    pub side: Side,
+}
+
+/// The rows of braces: the first, and those behind it.
+#[derive(Debug, Drop)]
+pub struct Rows {
+    pub first: Row,
+    pub more: Vec<Row>,
 }
 
 /// A query, and the first such column in its text.

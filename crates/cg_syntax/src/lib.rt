@@ -68,6 +68,7 @@ mod resolve;
 mod session;
 mod session_lines;
 mod sheet;
+mod sides;
 mod sizes;
 mod split;
 mod statements;

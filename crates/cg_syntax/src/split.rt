@@ -1,14 +1,15 @@
 //! Rows of sides with runs of bars between them, split into Left and Right sides at their longest runs.
 ghost use Rattle.std.specs.Prelude.{◌≡◌, ◌≤◌, List, map, Ok, [], IfNone, IfSome};
 ghost use Rattle.cg_reading.specs.Gives.{Gives};
-ghost use Rattle.cg_syntax.specs.Braces.{cut_from, part_of, side_trees, Whole};
+ghost use Rattle.cg_syntax.specs.Braces.{cut_from, part_of, Whole};
 ghost use Rattle.cg_syntax.specs.Trees.{tree_of};
 ghost use Rattle.cg_syntax.specs.Found.{Found as found};
-ghost use Rattle.cg_syntax.specs.Views.{found_of, rows_of, cut_of, halves_of};
+ghost use Rattle.cg_syntax.specs.Views.{side_found, rows_of, cut_of, halves_of};
 ghost use Rattle.cg_syntax.specs.Cuts.{IsFirstRun};
 
 use crate::expr::{Expr, Exprs};
-use crate::found::{Found, Row};
+use crate::found::{Row, Side};
+use crate::sides::exprs;
 use cg_reading::ReadFault;
 use std::alloc::Global;
 
@@ -16,7 +17,7 @@ use std::alloc::Global;
 #[derive(Debug, Drop)]
 pub enum Cut {
     Whole(Vec<Row>),
-    Parts(Vec<Row>, Vec<Found>, Vec<Row>),
+    Parts(Vec<Row>, Side, Vec<Row>),
 }
 
 /// What a part comes to: the options of one without a run, or those of both sides of its longest run.
@@ -44,27 +45,21 @@ fn first_run(bars: u64, rows: &[Row]) -> Option<usize>
 }
 
 /// Cuts at the first run of this length.
-fn cut_at(bars: u64, rows: Vec<Row>) -> Result<Cut, ReadFault>
+fn cut_at(alloc: Global, bars: u64, rows: Vec<Row>) -> Result<Cut, ReadFault>
     ensures { Gives cut_of result (Ok (cut_from [] bars (rows_of rows.items))) }
 {
     let Some(index) = first_run(bars, &rows) else {
         return Ok(Cut::Whole(rows));
     };
+    if index == 0 {
+        let mut behind = rows;
+        let row = behind.remove(0);
+        return Ok(Cut::Parts(Vec::new(alloc), row.side, behind));
+    }
     let mut before = rows;
     let behind = before.split_off(index + 1)?;
     let row = before.remove(index);
     Ok(Cut::Parts(before, row.side, behind))
-}
-
-/// The expressions of a side.
-fn exprs(alloc: Global, side: Vec<Found>) -> Result<Vec<Expr>, ReadFault>
-    ensures { Gives (λ v. map tree_of v.items) result (Ok (side_trees (map found_of side.items))) }
-{
-    let mut exprs = Vec::with_capacity(alloc, side.len())?;
-    for found in side {
-        exprs.push(found.expr)?;
-    }
-    Ok(exprs)
 }
 
 /// The length of the longest run of at most so many bars, or 0 where there is none.
@@ -82,20 +77,15 @@ fn longest(most: u64, rows: &[Row]) -> u64
 /// What a part comes to whose runs have so many bars at most.
 #[cycle(part)]
 #[tactic(auto, using(crate::proofs::Parts::part_step, crate::proofs::Parts::part_none))]
-pub fn split_part(
-    alloc: Global,
-    most: u64,
-    side: Vec<Found>,
-    rows: Vec<Row>,
-) -> Result<Halves, ReadFault>
+pub fn split_part(alloc: Global, most: u64, side: Side, rows: Vec<Row>) -> Result<Halves, ReadFault>
     ensures { Gives halves_of result
-        (Ok (part_of most (map found_of side.items) (rows_of rows.items))) }
+        (Ok (part_of most (side_found side) (rows_of rows.items))) }
 {
     let bars = longest(most, &rows);
     if bars == 0 {
         return Ok(Halves::Options(exprs(alloc, side)?));
     }
-    match cut_at(bars, rows)? {
+    match cut_at(alloc, bars, rows)? {
         Cut::Whole(rows) => split_part(alloc, bars - 1, side, rows),
         Cut::Parts(before, middle, behind) => {
             let lefts = part(alloc, bars - 1, side, before)?;
@@ -108,9 +98,9 @@ pub fn split_part(
 /// The options of a part whose runs have so many bars at most.
 #[cycle(part)]
 #[tactic(auto, using(crate::proofs::Parts::part_alone))]
-fn part(alloc: Global, most: u64, side: Vec<Found>, rows: Vec<Row>) -> Result<Vec<Expr>, ReadFault>
+fn part(alloc: Global, most: u64, side: Side, rows: Vec<Row>) -> Result<Vec<Expr>, ReadFault>
     ensures { Gives (λ v. map tree_of v.items) result
-        (Ok (part_of most (map found_of side.items) (rows_of rows.items))) }
+        (Ok (part_of most (side_found side) (rows_of rows.items))) }
 {
     if rows.is_empty() {
         return exprs(alloc, side);

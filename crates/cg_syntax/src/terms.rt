@@ -1,7 +1,7 @@
 //! Terms, sums and brackets: each function reads one production from the front of the bytes, and gives what is left
 //! behind it. `format` tells whether names are operands, `brackets` is how many further brackets may be open at once, and
 //! `line_end` is the column behind the line.
-ghost use Rattle.std.specs.Prelude.{◌≡◌, ◌<◌, ◌≤◌, length, IfOk, ℕ, map};
+ghost use Rattle.std.specs.Prelude.{◌≡◌, ◌<◌, ◌≤◌, length, IfOk, ℕ, ◌∷◌, []};
 ghost use Rattle.cg_reading.specs.Bytes.{has};
 ghost use Rattle.cg_reading.specs.Gives.{Gives};
 ghost use Rattle.cg_reading.specs.Readers.{made_at, many_at, behind_these, or_at};
@@ -17,7 +17,7 @@ ghost use Rattle.cg_syntax.specs.Reading.{more_terms_at, paren_at, plus_minus};
 ghost use Rattle.cg_syntax.specs.Trees.{terms_of};
 ghost use Rattle.cg_syntax.specs.declared.format.Format.TheVariants as formats;
 ghost use Rattle.cg_syntax.specs.Values.{sum_of};
-ghost use Rattle.cg_syntax.specs.Views.{found_of, row_of};
+ghost use Rattle.cg_syntax.specs.Views.{found_of, row_list, row_of, side_found};
 
 use crate::arrows::{is_arrow, nim, some_nim, ups};
 use crate::bars::bars;
@@ -26,8 +26,9 @@ use crate::build::{behind_operand, braces_of, joined, multiple, negative, sum_of
 use crate::expr::{Expr, Term};
 use crate::faults::earlier;
 use crate::format::Format;
-use crate::found::{Found, Row};
+use crate::found::{Found, Row, Rows, Side};
 use crate::names::{is_letter, is_small_letter, use_of_name};
+use crate::sides::with_item;
 use cg_reading::{
     ReadFault, after_blanks, after_byte, after_gap, digits, is_blank, is_byte, is_digit,
 };
@@ -591,16 +592,16 @@ fn side(
     brackets: u8,
     line_end: u64,
     bytes: &[u8],
-) -> Result<(Vec<Found>, &[u8]), ReadFault>
+) -> Result<(Side, &[u8]), ReadFault>
     requires { length bytes.now ≤ line_end }
-    ensures read { Gives (λ x. (map found_of x.0.items, x.1.now)) result
+    ensures read { Gives (λ x. (side_found x.0, x.1.now)) result
         (side_at (sum_at (special_at format brackets)) line_end bytes.now) }
     ensures shorter { IfOk result (λ x. length x.1.now ≤ length bytes.now) }
 {
     let rest = after_blanks(bytes);
     match rest.split_first() {
         Some((first, _)) if begins_term(*first) => items(alloc, format, brackets, line_end, rest),
-        _ => Ok((Vec::new(alloc), rest)),
+        _ => Ok((Side::Sound(Vec::new(alloc)), rest)),
     }
 }
 
@@ -613,15 +614,14 @@ fn items(
     brackets: u8,
     line_end: u64,
     bytes: &[u8],
-) -> Result<(Vec<Found>, &[u8]), ReadFault>
+) -> Result<(Side, &[u8]), ReadFault>
     requires { length bytes.now ≤ line_end }
-    ensures read { Gives (λ x. (map found_of x.0.items, x.1.now)) result
+    ensures read { Gives (λ x. (side_found x.0, x.1.now)) result
         (item_list_at (sum_at (special_at format brackets)) line_end bytes.now) }
     ensures shorter { IfOk result (λ x. length x.1.now < length bytes.now) }
 {
     let (found, rest) = sum(alloc, format, brackets, line_end, bytes)?;
-    let mut front = Vec::new(alloc);
-    front.push(found)?;
+    let front = with_item(alloc, Side::Sound(Vec::new(alloc)), found)?;
     more_items(alloc, format, brackets, line_end, front, rest)
 }
 
@@ -656,13 +656,13 @@ fn more_items(
     format: Format,
     brackets: u8,
     line_end: u64,
-    front: Vec<Found>,
+    front: Side,
     bytes: &[u8],
-) -> Result<(Vec<Found>, &[u8]), ReadFault>
+) -> Result<(Side, &[u8]), ReadFault>
     requires { length bytes.now ≤ line_end }
-    ensures read { Gives (λ x. (map found_of x.0.items, x.1.now)) result
+    ensures read { Gives (λ x. (side_found x.0, x.1.now)) result
         (behind_these (only 44) (next_item_at (sum_at (special_at format brackets)))
-        (map found_of front.items) line_end bytes.now) }
+        (side_found front) line_end bytes.now) }
     ensures shorter { IfOk result (λ x. length x.1.now ≤ length bytes.now) }
 {
     let mut items = front;
@@ -672,7 +672,7 @@ fn more_items(
             break;
         }
         let (found, after) = next_item(alloc, format, brackets, line_end, rest)?;
-        items.push(found)?;
+        items = with_item(alloc, items, found)?;
         rest = after;
     }
     Ok((items, rest))
@@ -706,42 +706,40 @@ fn rows(
     brackets: u8,
     line_end: u64,
     bytes: &[u8],
-) -> Result<(Vec<Row>, &[u8]), ReadFault>
+) -> Result<(Rows, &[u8]), ReadFault>
     requires { length bytes.now ≤ line_end }
-    ensures read { Gives (λ x. (map row_of x.0.items, x.1.now)) result
+    ensures read { Gives (λ x. (row_list x.0, x.1.now)) result
         (row_list_at (sum_at (special_at format brackets)) line_end bytes.now) }
     ensures shorter { IfOk result (λ x. length x.1.now < length bytes.now) }
 {
     let (first, rest) = row(alloc, format, brackets, line_end, bytes)?;
-    let mut front = Vec::new(alloc);
-    front.push(first)?;
-    more_rows(alloc, format, brackets, line_end, front, rest)
+    more_rows(alloc, format, brackets, line_end, first, rest)
 }
 
-/// More rows behind these.
+/// More rows behind the first.
 #[cycle(items)]
 fn more_rows(
     alloc: Global,
     format: Format,
     brackets: u8,
     line_end: u64,
-    front: Vec<Row>,
+    first: Row,
     bytes: &[u8],
-) -> Result<(Vec<Row>, &[u8]), ReadFault>
+) -> Result<(Rows, &[u8]), ReadFault>
     requires { length bytes.now ≤ line_end }
-    ensures read { Gives (λ x. (map row_of x.0.items, x.1.now)) result
-        (behind_these bar (row_at (sum_at (special_at format brackets))) (map row_of front.items) line_end bytes.now) }
+    ensures read { Gives (λ x. (row_list x.0, x.1.now)) result
+        (behind_these bar (row_at (sum_at (special_at format brackets))) (row_of first ∷ []) line_end bytes.now) }
     ensures shorter { IfOk result (λ x. length x.1.now ≤ length bytes.now) }
 {
-    let mut rows = front;
+    let mut more = Vec::new(alloc);
     let mut rest = bytes;
-    while let Some((first, _)) = rest.split_first() {
-        if !is_byte(b'|', *first) {
+    while let Some((bar, _)) = rest.split_first() {
+        if !is_byte(b'|', *bar) {
             break;
         }
         let (next, after) = row(alloc, format, brackets, line_end, rest)?;
-        rows.push(next)?;
+        more.push(next)?;
         rest = after;
     }
-    Ok((rows, rest))
+    Ok((Rows { first, more }, rest))
 }

@@ -1,9 +1,10 @@
-use Rattle.std.proofs.Common.{◌≡◌, false, length}
+use Rattle.std.proofs.Common.{◌≡◌, false, length, map}
 use Rattle.cg_syntax.specs.Braces.{repeats}
+use Rattle.cg_syntax.specs.Views.{run_length}
 use Rattle.cg_syntax.proofs.faults.repeated.Given as goal
 
-abbrev pub invariant-loop-first : goal.invariant-loop-first
-invariant-loop-first l = repeats l.bars l.seen l.rest ≡ repeats l.bars false l.fn.runs
+abbrev pub invariant-loop-row : goal.invariant-loop-row
+invariant-loop-row l = repeats l.bars l.seen (map run_length l.rest) ≡ repeats l.bars false (map run_length l.fn.rows)
 
-abbrev pub decreases-loop-first : goal.decreases-loop-first
-decreases-loop-first l = length l.rest
+abbrev pub decreases-loop-row : goal.decreases-loop-row
+decreases-loop-row l = length l.rest

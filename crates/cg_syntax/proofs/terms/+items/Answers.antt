@@ -1,4 +1,4 @@
-use Rattle.std.proofs.Common.{◌≡◌, ℕ, ◌-◌, Bool, false, List, [], ◌∷◌, ◌++◌, Option, Ok, map, ap, sym, ◌∙◌, arith}
+use Rattle.std.proofs.Common.{rules, ◌≡◌, ℕ, ◌-◌, Bool, false, List, [], ◌∷◌, ◌++◌, Option, Ok, map, ap, sym, ◌∙◌, arith}
 use Rattle.std.proofs.lemmas.List.{nil_from_length}
 use Rattle.std.proofs.lemmas.List.{map_push}
 use Rattle.std.proofs.lemmas.Result.{err_from_is_err_and}
@@ -12,7 +12,7 @@ use Rattle.cg_syntax.proofs.Productions.{items_reads, rows_reads}
 use Rattle.cg_syntax.specs.Reading.{special_at, bare_special_at, bracket_at, sum_at, more_terms_at, next_term_at, next_item_at, row_at}
 use Rattle.cg_syntax.specs.Tree as tree
 use Rattle.cg_syntax.specs.Trees.{tree_of, terms_of}
-use Rattle.cg_syntax.specs.Views.{found_of, row_of}
+use Rattle.cg_syntax.specs.Views.{found_of, row_of, side_found}
 use Rattle.cg_syntax.proofs.TreeOf.{term_tree}
 use Rattle.cg_syntax.proofs.More.{sum_signs_of, terms_next_of, terms_end_of, terms_none_of}
 use Rattle.cg_syntax.proofs.Special.{special_paren, special_none}
@@ -80,27 +80,27 @@ more_terms-returns-clause-read t c =
 pub more_items-loop-first-preserved : goal.more_items-loop-first-preserved
 more_items-loop-first-preserved t c =
     let f = next_item_at (sum_at (special_at c.args.format c.args.brackets)) in
-    let front = map found_of c.loop-first.items.items in
+    let front = side_found c.loop-first.items in
     let end = c.args.line_end in
     let after = c.in_ok-found.after.now in
     let e = gathered_next _ f (only 44) (items_reads c.args.format c.args.brackets) front end c.in-Some.first.now c.loop-first.rest.now c.in-Some.field-0-1.now c.in-Some.ensures.cases.0 (sym c.is_byte.ensures ∙ c.if-not-is_byte.false) (omega (arith, c.loop-first.invariant.shorter, c.requires)) in
-    let pushed : map found_of c.push.new.self.items ≡ front ++ found_of c.in_ok-found.found ∷ [] = rw c.in_ok-push.ensures.items (map_push _ c.loop-first.items.items c.in_ok-found.found) in
+    let pushed : side_found c.in_ok-items.items ≡ front ++ found_of c.in_ok-found.found ∷ [] = search (rules, c.in_ok-items.ensures) in
     let next = ap (λ (z : Read found.Found). z >>= λ y. behind_these (only 44) f (front ++ y.0 ∷ []) end y.1) c.in_ok-found.ensures.read in
     record {
       shorter = omega (arith, c.in_ok-found.ensures.shorter, c.loop-first.invariant.shorter);
       same = ap (λ (ts : List found.Found). behind_these (only 44) f ts end after) pushed ∙ sym (e ∙ next) ∙ c.loop-first.invariant.same;
     }
 
-pub more_rows-loop-first-preserved : goal.more_rows-loop-first-preserved
-more_rows-loop-first-preserved t c =
+pub more_rows-loop-bar-preserved : goal.more_rows-loop-bar-preserved
+more_rows-loop-bar-preserved t c =
     let f = row_at (sum_at (special_at c.args.format c.args.brackets)) in
-    let front = map row_of c.loop-first.rows.items in
+    let front = row_of c.args.first ∷ map row_of c.loop-bar.more.items in
     let end = c.args.line_end in
     let after = c.in_ok-next.after.now in
-    let e = gathered_next _ f bar (rows_reads c.args.format c.args.brackets) front end c.in-Some.first.now c.loop-first.rest.now c.in-Some.field-0-1.now c.in-Some.ensures.cases.0 (sym c.is_byte.ensures ∙ c.if-not-is_byte.false) (omega (arith, c.loop-first.invariant.shorter, c.requires)) in
-    let pushed : map row_of c.push.new.self.items ≡ front ++ row_of c.in_ok-next.next ∷ [] = rw c.in_ok-push.ensures.items (map_push _ c.loop-first.rows.items c.in_ok-next.next) in
+    let e = gathered_next _ f bar (rows_reads c.args.format c.args.brackets) front end c.in-Some.bar.now c.loop-bar.rest.now c.in-Some.field-0-1.now c.in-Some.ensures.cases.0 (sym c.is_byte.ensures ∙ c.if-not-is_byte.false) (omega (arith, c.loop-bar.invariant.shorter, c.requires)) in
+    let pushed : row_of c.args.first ∷ map row_of c.push.new.self.items ≡ front ++ row_of c.in_ok-next.next ∷ [] = rw c.in_ok-push.ensures.items (ap (λ (z : List ((ℕ × ℕ) × List found.Found)). row_of c.args.first ∷ z) (map_push _ c.loop-bar.more.items c.in_ok-next.next)) in
     let next = ap (λ (z : Read ((ℕ × ℕ) × List found.Found)). z >>= λ y. behind_these bar f (front ++ y.0 ∷ []) end y.1) c.in_ok-next.ensures.read in
     record {
-      shorter = omega (arith, c.in_ok-next.ensures.shorter, c.loop-first.invariant.shorter);
-      same = ap (λ (ts : List ((ℕ × ℕ) × List found.Found)). behind_these bar f ts end after) pushed ∙ sym (e ∙ next) ∙ c.loop-first.invariant.same;
+      shorter = omega (arith, c.in_ok-next.ensures.shorter, c.loop-bar.invariant.shorter);
+      same = ap (λ (ts : List ((ℕ × ℕ) × List found.Found)). behind_these bar f ts end after) pushed ∙ sym (e ∙ next) ∙ c.loop-bar.invariant.same;
     }

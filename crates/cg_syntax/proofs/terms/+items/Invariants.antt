@@ -1,10 +1,10 @@
-use Rattle.std.proofs.Common.{◌≡◌, ◌+◌, ◌*◌, ◌≤◌, length, map}
+use Rattle.std.proofs.Common.{◌≡◌, ◌+◌, ◌*◌, ◌≤◌, [], ◌∷◌, length, map}
 use Rattle.cg_reading.specs.Readers.{behind_these}
 use Rattle.cg_reading.specs.Tokens.{only}
 use Rattle.cg_syntax.specs.Grammar.{bar}
 use Rattle.cg_syntax.specs.Reading.{special_at, sum_at, more_terms_at, next_item_at, row_at}
 use Rattle.cg_syntax.specs.Trees.{terms_of}
-use Rattle.cg_syntax.specs.Views.{found_of, row_of}
+use Rattle.cg_syntax.specs.Views.{row_of, side_found}
 use Rattle.cg_syntax.proofs.terms.+items.Given as goal
 
 -- each call opens a bracket, or goes down this order
@@ -101,17 +101,17 @@ decreases-more_terms-loop-first l = length l.rest
 abbrev pub invariant-more_items-loop-first : goal.invariant-more_items-loop-first
 invariant-more_items-loop-first l = record {
   shorter : length l.rest ≤ length l.fn.bytes;
-  same : behind_these (only 44) (next_item_at (sum_at (special_at l.format l.brackets))) (map found_of l.items.items) l.line_end l.rest ≡ behind_these (only 44) (next_item_at (sum_at (special_at l.format l.brackets))) (map found_of l.fn.front.items) l.line_end l.fn.bytes;
+  same : behind_these (only 44) (next_item_at (sum_at (special_at l.format l.brackets))) (side_found l.items) l.line_end l.rest ≡ behind_these (only 44) (next_item_at (sum_at (special_at l.format l.brackets))) (side_found l.fn.front) l.line_end l.fn.bytes;
 }
 
 abbrev pub decreases-more_items-loop-first : goal.decreases-more_items-loop-first
 decreases-more_items-loop-first l = length l.rest
 
-abbrev pub invariant-more_rows-loop-first : goal.invariant-more_rows-loop-first
-invariant-more_rows-loop-first l = record {
+abbrev pub invariant-more_rows-loop-bar : goal.invariant-more_rows-loop-bar
+invariant-more_rows-loop-bar l = record {
   shorter : length l.rest ≤ length l.fn.bytes;
-  same : behind_these bar (row_at (sum_at (special_at l.format l.brackets))) (map row_of l.rows.items) l.line_end l.rest ≡ behind_these bar (row_at (sum_at (special_at l.format l.brackets))) (map row_of l.fn.front.items) l.line_end l.fn.bytes;
+  same : behind_these bar (row_at (sum_at (special_at l.format l.brackets))) (row_of l.first ∷ map row_of l.more.items) l.line_end l.rest ≡ behind_these bar (row_at (sum_at (special_at l.format l.brackets))) (row_of l.fn.first ∷ []) l.fn.line_end l.fn.bytes;
 }
 
-abbrev pub decreases-more_rows-loop-first : goal.decreases-more_rows-loop-first
-decreases-more_rows-loop-first l = length l.rest
+abbrev pub decreases-more_rows-loop-bar : goal.decreases-more_rows-loop-bar
+decreases-more_rows-loop-bar l = length l.rest
