@@ -6,7 +6,7 @@ ghost use Rattle.cg_book.specs.Pages.{IsPage, game_of, games_of};
 ghost use Rattle.cg_book.specs.Recents.{IsKept};
 ghost use Rattle.cg_canon.specs.Books.{BookHolds, HasHandle};
 
-use crate::places::{Places, Seen, half_of, mixed};
+use crate::places::{Places, number_of_handle};
 use cg_book::{Pages, Recent};
 use cg_cells::CellStore;
 use cg_nodes::{BoardForms, GameFacts, Handle};
@@ -33,11 +33,6 @@ pub(crate) struct Book {
     places: Places,
 }
 
-/// A number for the handle.
-fn number_of(handle: Handle) -> u32 {
-    half_of(mixed(0, handle.id().number()))
-}
-
 impl Book {
     /// Of no games.
     pub(crate) fn new(alloc: Global) -> Book
@@ -53,31 +48,25 @@ impl Book {
         }
     }
 
-    /// Whether the page has this handle.
-    fn has(&self, page: u32, handle: Handle) -> bool
-        ensures { IsTrue result → HasHandle self.now page handle }
+    /// The page, if it has this handle.
+    fn page_with(&self, page: u32, handle: Handle) -> Option<u32>
+        ensures { IfSome result (λ p. HasHandle self.now p handle) }
     {
         let place = page as usize;
-        place < self.handles.len() && self.handles[place] == handle
+        if place < self.handles.len() && self.handles[place] == handle {
+            return Some(page);
+        }
+        None
     }
 
     /// The page of the handle's game, if it has one that is found.
     pub(crate) fn page(&self, handle: Handle) -> Option<u32>
         ensures { IfSome result (λ page. HasHandle self.now page handle) }
     {
-        let number = number_of(handle);
-        for tried in 0..self.places.most() {
-            match self.places.seen(number, tried) {
-                Seen::Nothing => return None,
-                Seen::Other => {}
-                Seen::Entry(page) => {
-                    if self.has(page, handle) {
-                        return Some(page);
-                    }
-                }
-            }
-        }
-        None
+        self.places.find(
+            number_of_handle(handle),
+            |page| self.page_with(page, handle),
+        )
     }
 
     /// The handle of the page. An error comes only after want of memory.
@@ -116,7 +105,7 @@ impl Book {
         ensures page { IfOk result (λ p. p ≡ page) }
     {
         self.handles.push(handle)?;
-        self.places.add(number_of(handle));
+        self.places.add(number_of_handle(handle));
         Ok(page)
     }
 }

@@ -6,7 +6,7 @@ ghost use Rattle.std.specs.Prelude.{◌≡◌, ◌⊎◌, ℕ, List, [], IfOk, I
 ghost use Rattle.std.specs.List.{slice_range};
 ghost use Rattle.cg_canon.specs.MadeForms.{AreWithin, IsMade};
 
-use crate::places::{Places, Seen, half_of, mixed};
+use crate::places::{Places, half_of, mixed};
 use cg_nodes::Handle;
 use std::alloc::{AllocError, Global};
 
@@ -96,20 +96,10 @@ impl MadeForms {
     pub fn find(&self, lefts: &[Handle], rights: &[Handle]) -> Option<Handle>
         ensures { IfSome result (IsMade self.now lefts.now rights.now) }
     {
-        let number = number_of_both(lefts, rights);
-        for tried in 0..self.places.most() {
-            match self.places.seen(number, tried) {
-                Seen::Nothing => return None,
-                Seen::Other => {}
-                Seen::Entry(entry) => {
-                    let found = self.form_at(entry, lefts, rights);
-                    if found.is_some() {
-                        return found;
-                    }
-                }
-            }
-        }
-        None
+        self.places.find(
+            number_of_both(lefts, rights),
+            |entry| self.form_at(entry, lefts, rights),
+        )
     }
 
     /// Keeps the form that was made from these options, unless enough are kept. Nothing changes where there is no memory.

@@ -5,7 +5,7 @@ ghost use Rattle.cg_book.specs.Recents.{IsKept};
 ghost use Rattle.cg_canon.specs.Memos.{IsAdded};
 
 use crate::book::Book;
-use crate::places::{Places, Seen, half_of, mixed};
+use crate::places::{Places, half_of, mixed};
 use cg_nodes::Handle;
 use std::alloc::{AllocError, Global};
 
@@ -79,20 +79,8 @@ impl Memo {
     pub fn added(&self, a: u32, b: u32) -> Option<KnownSum>
         ensures { IfSome result (IsAdded self.now a b) }
     {
-        let number = number_of(a, b);
-        for tried in 0..self.places.most() {
-            match self.places.seen(number, tried) {
-                Seen::Nothing => return None,
-                Seen::Other => {}
-                Seen::Entry(entry) => {
-                    let found = self.sum_at(entry, a, b);
-                    if found.is_some() {
-                        return found;
-                    }
-                }
-            }
-        }
-        None
+        self.places
+            .find(number_of(a, b), |entry| self.sum_at(entry, a, b))
     }
 
     /// Keeps the sum for the first id and the second. Nothing changes where there is no memory.

@@ -6,7 +6,7 @@ ghost use Rattle.cg_canon.specs.declared.number_up_star.NumberUpStar.{NumberUpSt
 ghost use Rattle.cg_canon.specs.NumberUpStars.{IsListed};
 
 use crate::number_up_star::NumberUpStar;
-use crate::places::{Places, Seen, half_of, mixed};
+use crate::places::{Places, half_of, mixed, number_of_handle};
 use cg_nodes::Handle;
 use std::alloc::Global;
 
@@ -25,11 +25,6 @@ pub(crate) struct NumberUpStars {
     by_handle: Places,
     /// Where the game that is known as a sum is looked for.
     by_sum: Places,
-}
-
-/// A number for the handle.
-fn number_of_handle(handle: Handle) -> u32 {
-    half_of(mixed(0, handle.id().number()))
 }
 
 /// The low half of a number.
@@ -87,40 +82,15 @@ impl NumberUpStars {
     pub fn sum_of(&self, handle: Handle) -> Option<NumberUpStar>
         ensures { IfSome result (IsListed self.now handle) }
     {
-        let number = number_of_handle(handle);
-        for tried in 0..self.by_handle.most() {
-            match self.by_handle.seen(number, tried) {
-                Seen::Nothing => return None,
-                Seen::Other => {}
-                Seen::Entry(entry) => {
-                    let found = self.sum_at(entry, handle);
-                    if found.is_some() {
-                        return found;
-                    }
-                }
-            }
-        }
-        None
+        self.by_handle.find(number_of_handle(handle), |entry| self.sum_at(entry, handle))
     }
 
     /// The handle of a game that is known as the sum, if one is found.
     pub fn game_of(&self, sum: &NumberUpStar) -> Option<Handle>
         ensures { IfSome result (λ h. IsListed self.now h sum.now) }
     {
-        let number = number_of_sum(sum);
-        for tried in 0..self.by_sum.most() {
-            match self.by_sum.seen(number, tried) {
-                Seen::Nothing => return None,
-                Seen::Other => {}
-                Seen::Entry(entry) => {
-                    let found = self.game_at(entry, sum);
-                    if found.is_some() {
-                        return found;
-                    }
-                }
-            }
-        }
-        None
+        self.by_sum
+            .find(number_of_sum(sum), |entry| self.game_at(entry, sum))
     }
 
     /// Keeps what the game of the handle is known as, unless there is no memory for it.

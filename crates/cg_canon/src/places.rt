@@ -3,6 +3,9 @@
 //! The entries are counted from 0, in the order in which they are added, each with a number. A table of places says which of them
 //! may have a number, and the owner of the list looks at the entry itself. So a place that says something wrong, or nothing for
 //! want of memory, only hides an entry.
+ghost use Rattle.std.specs.Prelude.{ℕ, Some, IfSome};
+
+use cg_nodes::Handle;
 use std::alloc::{AllocError, Global};
 
 /// So many entries are looked through one by one.
@@ -20,7 +23,7 @@ struct Place {
 }
 
 /// What is seen at a place.
-pub(crate) enum Seen {
+enum Seen {
     /// It is free, and so no place after it has the number.
     Nothing,
     /// An entry of another number.
@@ -50,6 +53,11 @@ pub(crate) fn mixed(before: u64, own: u32) -> u64 {
 /// The number that an entry is added with.
 pub(crate) fn half_of(number: u64) -> u32 {
     ((number >> 32) % 4_294_967_296) as u32
+}
+
+/// A number for the handle.
+pub(crate) fn number_of_handle(handle: Handle) -> u32 {
+    half_of(mixed(0, handle.id().number()))
 }
 
 /// The place that is tried after so many others, in a table of so many places.
@@ -95,12 +103,12 @@ impl Places {
     }
 
     /// How many places may have to be tried for a number.
-    pub fn most(&self) -> usize {
+    fn most(&self) -> usize {
         self.places.len().max(FEW)
     }
 
     /// What is seen at the place that is tried for the number after so many others.
-    pub fn seen(&self, number: u32, tried: usize) -> Seen {
+    fn seen(&self, number: u32, tried: usize) -> Seen {
         if self.places.is_empty() {
             return self.seen_first(number, tried);
         }
@@ -125,6 +133,26 @@ impl Places {
         } else {
             Seen::Other
         }
+    }
+
+    /// What is found at the first entry of the number at which something is found.
+    #[inline(always)]
+    pub fn find<T, F: Fn(u32) -> Option<T>>(&self, number: u32, look: F) -> Option<T>
+        requires { F.IsAlwaysCallable look }
+        ensures { IfSome result (λ found. (entry : ℕ) × F.post look entry (Some found)) }
+    {
+        for tried in 0..self.most() {
+            match self.seen(number, tried) {
+                Seen::Nothing => return None,
+                Seen::Other => {}
+                Seen::Entry(entry) => {
+                    if let Some(found) = look(entry) {
+                        return Some(found);
+                    }
+                }
+            }
+        }
+        None
     }
 
     /// Adds the next entry, with this number. The table grows before more than half of its places are filled; where there is no
