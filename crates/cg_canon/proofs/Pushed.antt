@@ -1,5 +1,6 @@
 -- What stands in a list with one item more.
-use Rattle.std.proofs.Common.{◌≡◌, ◌⊎◌, ◌∙◌, ℕ, zero, suc, List, [], ◌∷◌, ◌++◌, Some, ap, inl, inr, sym}
+use Rattle.std.proofs.Common.{◌≡◌, ◌⊎◌, ◌∙◌, ℕ, zero, suc, ◌+◌, List, [], ◌∷◌, ◌++◌, Some, ap, inl, inr, length, sym}
+use Rattle.std.proofs.lemmas.List.{length_push}
 use Rattle.std.specs.List.{slice_get}
 
 some_same : {A : Type 0} (x y : A) → Some x ≡ Some y → x ≡ y
@@ -22,3 +23,7 @@ pushed (k ∷ xs) x y (suc p) e = pushed xs x y p e
 pub pushed_item : {A : Type 0} (xs ys : List A) (x y : A) (place : ℕ) → ys ≡ xs ++ (x ∷ []) → slice_get ys place ≡ Some y
     → (y ≡ x) ⊎ (slice_get xs place ≡ Some y)
 pushed_item xs ys x y place e there = pushed xs x y place (ap (λ z. slice_get z place) (sym e) ∙ there)
+
+-- there is one more of them
+pub pushed_count : {A : Type 0} (xs ys : List A) (x : A) (n : ℕ) → length xs ≡ n → ys ≡ xs ++ (x ∷ []) → length ys ≡ n + 1
+pushed_count xs ys x n count e = ap length e ∙ length_push xs x ∙ ap (λ z. z + 1) count

@@ -108,10 +108,10 @@ pub(crate) fn pages_of<B: BoardForms, S: CellStore<GameFacts<B>>>(
     ensures pages { IfOk result (λ r. StandFor book.new.pages r.items (games_at (S.state store.old) handles.now)) }
     ensures spends { Spends 0 (S.state store.old) (S.state store.new) }
 {
-    let mut pages = SmallVec::new(alloc);
+    let mut pages = SmallVec::with_capacity(alloc, handles.len())?;
     for handle in handles {
         let page = page_of(alloc, store, book, *handle)?;
-        pages.push(page)?;
+        pages.push_reserved(page);
     }
     Ok(pages)
 }

@@ -1,5 +1,7 @@
+use Rattle.std.proofs.Common.{ap, arith, length}
 use Rattle.cg_nodes.proofs.Later.{nothing_spent, spends_then}
 use Rattle.cg_canon.proofs.Booking.{begins_none, begins_then}
+use Rattle.cg_canon.proofs.Pushed.{pushed_count}
 use Rattle.cg_canon.proofs.Turning.{next_game, paged_next, paged_nothing}
 use Rattle.cg_canon.proofs.paging.pages_of.Goals as goal
 
@@ -9,7 +11,9 @@ loop-handle-init g c =
       spends = nothing_spent s;
       holds = c.requires.holds;
       begins = begins_none c.args.book.now.pages;
-      pages = paged_nothing s c.args.book.now.pages c.args.handles.now c.new-pages.result.items c.new-pages.ensures.items;
+      pages = paged_nothing s c.args.book.now.pages c.args.handles.now c.in_ok-pages.pages.items c.in_ok-pages.ensures.items;
+      count = ap length c.in_ok-pages.ensures.items;
+      room = let e = c.in_ok-pages.ensures.capacity in omega arith;
     }
 
 pub page_of-requires-clause-game : goal.page_of-requires-clause-game
@@ -25,7 +29,10 @@ loop-handle-preserved g c =
       holds = c.page_of.ensures.holds;
       begins = begins_then c.args.book.now.pages c.loop-handle.book.pages c.page_of.new.book.pages c.loop-handle.invariant.begins c.page_of.ensures.begins;
       pages = paged_next (W c.args.store.now) (W c.loop-handle.store) c.loop-handle.book c.page_of.new.book c.args.handles.now
-          c.loop-handle.handle-index c.handle-item.result c.loop-handle.pages.items c.push.new.self.items c.in_ok-page.page c.requires.games
+          c.loop-handle.handle-index c.handle-item.result c.loop-handle.pages.items c.push_reserved.new.self.items c.in_ok-page.page c.requires.games
           c.loop-handle-test.true c.handle-item.is c.loop-handle.invariant.spends c.loop-handle.invariant.pages c.page_of.ensures.begins
-          c.in_ok-page.ensures.page c.in_ok-push.ensures.ok;
+          c.in_ok-page.ensures.page c.push_reserved.ensures.items;
+      count = pushed_count c.loop-handle.pages.items c.push_reserved.new.self.items c.in_ok-page.page c.loop-handle.handle-index
+          c.loop-handle.invariant.count c.push_reserved.ensures.items;
+      room = let e = c.push_reserved.ensures.capacity in let r = c.loop-handle.invariant.room in omega arith;
     }

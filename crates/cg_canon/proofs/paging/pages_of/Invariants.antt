@@ -1,4 +1,4 @@
-use Rattle.std.proofs.Common.{take}
+use Rattle.std.proofs.Common.{◌≡◌, ◌≤◌, length, take}
 use Rattle.cg_cells.specs.Store.{Spends}
 use Rattle.cg_nodes.specs.Games.{games_at}
 use Rattle.cg_book.specs.Pages.{StandFor}
@@ -11,4 +11,6 @@ invariant-loop-handle g l = record {
   holds : BookHolds (g.S.CellStore.state l.store) l.book;
   begins : Begins l.initial.book.pages l.book.pages;
   pages : StandFor l.book.pages l.pages.items (games_at (g.S.CellStore.state l.initial.store) (take l.handle-index l.handles));
+  count : length l.pages.items ≡ l.handle-index;
+  room : length l.handles ≤ l.pages.capacity;
 }
