@@ -1,8 +1,9 @@
 //! The options of a sum, which are sums that were made before.
-ghost use Rattle.std.specs.Prelude.{◌≡◌, ℕ, ◌++◌, IfOk, IsSome, map};
+ghost use Rattle.std.specs.Prelude.{◌≡◌, ℕ, ◌++◌, IfOk, IsSome, length, map};
 ghost use Rattle.cg_cells.specs.Meaning.{Has};
 ghost use Rattle.cg_sum.specs.Finds.{sum_found, sum_handle};
 ghost use Rattle.cg_sum.specs.Progress.{AreOptionsFound, IsDraftOf};
+ghost use Rattle.smallvec.specs.SmallVec.{HasRoomFor};
 
 use crate::form::Draft;
 use crate::found::Sums;
@@ -11,6 +12,7 @@ use crate::position::Position;
 use crate::written::Sides;
 use cg_canon::FirstTerm;
 use cg_nodes::Handle;
+use smallvec::SmallVec;
 use std::alloc::{AllocError, Global};
 
 /// Games whose canonical form is that of f + k, as Left and Right options: the sums of the written options
@@ -68,46 +70,38 @@ fn option_sums(
     ensures { IfOk result (λ all. all ≡ map (λ p. sum_handle sums.now p k) firsts.now
         ++ map (λ q. sum_handle sums.now f q) seconds.now) }
 {
-    let mut all = HandleList::new(alloc);
-    add_firsts(sums, firsts, k, &mut all)?;
-    add_seconds(sums, f, seconds, &mut all)?;
-    Ok(all)
+    let mut all = SmallVec::with_capacity(alloc, firsts.len() + seconds.len())?;
+    add_firsts(sums, firsts, k, &mut all);
+    add_seconds(sums, f, seconds, &mut all);
+    Ok(HandleList::of(all))
 }
 
 // Adds the handles of the sums of each of `firsts` and k.
-fn add_firsts(
-    sums: &Sums,
-    firsts: &[Handle],
-    k: Handle,
-    all: &mut HandleList,
-) -> Result<(), AllocError>
-    requires { (p : ℕ) → Has firsts.now p → IsSome (sum_found sums.now p k) }
-    ensures { IfOk result (λ _. all.new ≡ all.old ++ map (λ p. sum_handle sums.now p k) firsts.now) }
+fn add_firsts(sums: &Sums, firsts: &[Handle], k: Handle, all: &mut SmallVec<Handle, 8>)
+    requires found { (p : ℕ) → Has firsts.now p → IsSome (sum_found sums.now p k) }
+    requires room { HasRoomFor all.old (length firsts.now) }
+    ensures items { all.new.items ≡ all.old.items ++ map (λ p. sum_handle sums.now p k) firsts.now }
+    ensures capacity { all.new.capacity ≡ all.old.capacity }
 {
     for first in firsts {
         let Some(sum) = sums.get(*first, k) else {
             unreachable!()
         };
-        all.push(sum)?;
+        all.push_reserved(sum);
     }
-    Ok(())
 }
 
 // Adds the handles of the sums of f and each of `seconds`.
-fn add_seconds(
-    sums: &Sums,
-    f: Handle,
-    seconds: &[Handle],
-    all: &mut HandleList,
-) -> Result<(), AllocError>
-    requires { (q : ℕ) → Has seconds.now q → IsSome (sum_found sums.now f q) }
-    ensures { IfOk result (λ _. all.new ≡ all.old ++ map (λ q. sum_handle sums.now f q) seconds.now) }
+fn add_seconds(sums: &Sums, f: Handle, seconds: &[Handle], all: &mut SmallVec<Handle, 8>)
+    requires found { (q : ℕ) → Has seconds.now q → IsSome (sum_found sums.now f q) }
+    requires room { HasRoomFor all.old (length seconds.now) }
+    ensures items { all.new.items ≡ all.old.items ++ map (λ q. sum_handle sums.now f q) seconds.now }
+    ensures capacity { all.new.capacity ≡ all.old.capacity }
 {
     for second in seconds {
         let Some(sum) = sums.get(f, *second) else {
             unreachable!()
         };
-        all.push(sum)?;
+        all.push_reserved(sum);
     }
-    Ok(())
 }
