@@ -2,7 +2,7 @@
 //!
 //! Sums keep the order. So of the options of a sum that come from one term, no two are comparable, as no two options of that
 //! term are: only candidates of different terms, and those with none, need a comparison.
-ghost use Rattle.std.specs.Prelude.{◌≡◌, ◌∷◌, [], IfOk};
+ghost use Rattle.std.specs.Prelude.{◌≡◌, ◌∷◌, ◌++◌, [], IfOk, OnOk};
 ghost use Rattle.cg_form.specs.Side.{at_most as at_most_for};
 ghost use Rattle.cg_book.specs.Candidates.{AreCandidates, alone as alone_at, same_term};
 ghost use Rattle.cg_book.specs.Pages.{game_of};
@@ -26,6 +26,19 @@ pub(crate) struct Candidate {
 
 /// A list of candidates: up to 8 of them take no memory.
 pub(crate) type Candidates = SmallVec<Candidate, 8>;
+
+/// Puts the candidate behind the others: with no call where there is room for it, as there mostly is.
+#[inline(always)]
+pub(crate) fn push_candidate(candidates: &mut Candidates, x: &Candidate) -> Result<(), AllocError>
+    ensures { OnOk result (candidates.new.items ≡ candidates.old.items ++ (x.now ∷ [])) }
+{
+    if candidates.len() < candidates.capacity() {
+        candidates.push_reserved(*x);
+        return Ok(());
+    }
+    candidates.push(*x)?;
+    Ok(())
+}
 
 impl Candidate {
     /// The game of the page, which comes from no term.

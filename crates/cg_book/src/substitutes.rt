@@ -2,7 +2,7 @@
 ghost use Rattle.std.specs.Prelude.{◌≡◌, ◌++◌, ◌∷◌, ◌==◌, [], ℕ, false, true, IfOk, if◌then◌else◌};
 ghost use Rattle.cg_book.specs.Passed.{was_passed};
 
-use crate::candidate::{Candidate, Candidates};
+use crate::candidate::{Candidate, Candidates, push_candidate};
 use smallvec::SmallVec;
 use std::alloc::{AllocError, Global};
 use std::collections::HashSet;
@@ -55,8 +55,7 @@ impl Substitutes {
         ensures items { IfOk result (λ _. self.new.items.items ≡ self.old.items.items ++ (candidate.now ∷ [])) }
         ensures passed { (p : ℕ) → was_passed self.new p ≡ was_passed self.old p }
     {
-        self.items.push(*candidate)?;
-        Ok(())
+        push_candidate(&mut self.items, candidate)
     }
 
     /// Notes that they stand in the place of the option, too.

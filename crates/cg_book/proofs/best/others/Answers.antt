@@ -10,7 +10,7 @@ use Rattle.cg_book.specs.Pages.{game_of, games_of}
 use Rattle.cg_book.proofs.CandidateLaws.{games_pushed, item_at, next_at, pair_of}
 use Rattle.cg_book.proofs.Keeping.{keep_left, keep_taken}
 use Rattle.cg_book.proofs.best.others.Goals as goal
-use Rattle.cg_book.proofs.best.others.Goals.{then-not-branch+in_ok-push, else-not-branch}
+use Rattle.cg_book.proofs.best.others.Goals.{then-not-branch+in_ok-push_candidate, else-not-branch}
 
 pub candidate_at_most-requires-clause-candidates : goal.candidate_at_most-requires-clause-candidates
 candidate_at_most-requires-clause-candidates c =
@@ -27,9 +27,9 @@ loop-other-preserved c =
     let gs = c.args.pages.now in
     let test : Game → Bool = λ z. not (at_most c.args.left z (game_of gs c.args.x.now.page)) in
     elim c.if-not-branch.branch [
-      | then-not-branch+in_ok-push w ↦
+      | then-not-branch+in_ok-push_candidate w ↦
           let no : c.in_ok-candidate_at_most.field-0 ≡ false = search (rules, w.if-not-branch.true) in
-          let more : c.if-not-branch.rest.items ≡ c.loop-other.rest.items ++ other ∷ [] = ap (λ (v : SmallVec _). v.items) w.rest-is ∙ w.in_ok-push.ensures.ok in
+          let more : c.if-not-branch.rest.items ≡ c.loop-other.rest.items ++ other ∷ [] = ap (λ (v : SmallVec _). v.items) w.rest-is ∙ w.in_ok-push_candidate.ensures in
           let P : List Candidate → Type 0 = λ z. AreAmong z c.args.items.now in record {
             right = c.candidate_at_most.ensures.right;
             kept = keep_taken gs test (pages_of c.args.items.now) (games_of gs (pages_of c.loop-other.rest.items)) (games_of gs (pages_of c.if-not-branch.rest.items)) c.loop-other.other-index other.page
