@@ -9,7 +9,7 @@ use Rattle.cg_syntax.specs.Tree.{Tree, trees_from, terms_from}
 use Rattle.cg_syntax.specs.Trees.{tree_of, trees_in, trees_of, term_of, terms_of}
 use Rattle.cg_syntax.proofs.TreeOf.{braces_tree, term_tree}
 use Rattle.cg_eval.specs.Faults.{fault_in, fault_in_all, fault_in_terms, first_of_two}
-use Rattle.cg_eval.proofs.Walk.{trees_of-all, trees_of-take_suc, terms_of-all, terms_of-take_suc}
+use Rattle.cg_syntax.proofs.Walk.{trees_of-all, trees_of-take_suc, terms_of-all, terms_of-take_suc}
 
 -- ---- one after another
 

@@ -31,7 +31,7 @@ use Rattle.cg_eval.proofs.Expressions.{stopped_part}
 use Rattle.cg_eval.proofs.Lasts.{append_none}
 use Rattle.cg_eval.proofs.Steps.{gives_from, gives_game, gives_then, makes_items, makes_none, makes_then, stops_front, stops_items, stops_then}
 use Rattle.cg_eval.proofs.FaultParts.{neither}
-use Rattle.cg_eval.proofs.Walk.{size, term_sizes, trees_of-take_suc, trees_of-all, terms_of-take_suc, terms_of-all}
+use Rattle.cg_syntax.proofs.Walk.{size, term_sizes, trees_of-take_suc, trees_of-all, terms_of-take_suc, terms_of-all}
 
 -- ---- the items of lists that are put together
 

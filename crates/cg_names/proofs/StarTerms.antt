@@ -18,7 +18,7 @@ use Rattle.cg_names.specs.Named.{nimber_form, nimbers_below, star_form, ups_form
 use Rattle.cg_names.specs.Signs.{arrows_text, base_text, star_text}
 use Rattle.cg_names.proofs.StarredUps.{ups-plus_star}
 use Rattle.cg_form.proofs.EqualGames.{equal_assoc}
-use Rattle.cg_names.proofs.SumWords.{sum_second}
+use Rattle.cg_nimbers.proofs.IntegerMultiples.{sum_second}
 use Rattle.cg_names.proofs.Tokens.{nim_is, other_append, ups_are, ups_other}
 use Rattle.cg_names.proofs.Terms.{alone, arrows_tail, base_gone, base_there, joined, nim_tail, number_other, number_term, number_tree, optional_nim, starred_text, starred_tree, tree-number, zero_or_not, Reading}
 

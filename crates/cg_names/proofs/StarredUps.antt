@@ -10,7 +10,8 @@ use Rattle.cg_form.proofs.Sides.{equal_side, not_far, not_near, side_equal, side
 use Rattle.cg_names.specs.Named.{star_form, ups_of, zero_form}
 use Rattle.cg_names.proofs.Reducing.{far-mirrored, near-mirrored, near-zero}
 use Rattle.cg_form.proofs.EqualGames.{equal_assoc}
-use Rattle.cg_names.proofs.SumWords.{far_first, far_sum, near_first, near_second, near_sum, sum_first, sum_second, sum_zero, two_stars, zero_sum}
+use Rattle.cg_names.proofs.SumWords.{far_first, far_sum, near_first, near_second, near_sum, two_stars}
+use Rattle.cg_nimbers.proofs.IntegerMultiples.{sum_first, sum_second, sum_zero, zero_sum}
 
 only_one : (a b : Game) → Among a (b ∷ []) → a ≡ b
 only_one a b (inl e) = e

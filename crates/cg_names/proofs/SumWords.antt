@@ -1,29 +1,16 @@
--- Sums of equal games, and with 0.
+-- Two stars, and the options of a sum as either side sees them.
 use Rattle.std.proofs.Common.{◌≡◌, ◌⊎◌, Bool, true, false}
 use Rattle.cg_form.specs.Game.{Among, Game}
 use Rattle.cg_form.specs.Order.{Equal}
 use Rattle.cg_form.specs.Side.{far, near}
 use Rattle.cg_form.specs.Sum.{negative, nothing, sum}
 use Rattle.cg_form.proofs.Negative.{sum-negative}
-use Rattle.cg_form.proofs.EqualGames.{equal_comm, zero_is}
+use Rattle.cg_form.proofs.EqualGames.{zero_is}
 use Rattle.cg_form.proofs.Preorder.{equal_back, equal_trans}
 use Rattle.cg_form.proofs.Sum.{sum-left_cases, sum-left_first, sum-left_second, sum-right_cases, sum-right_first, sum-right_second}
-use Rattle.cg_form.proofs.SumLaws.{sum-le_second, sum_nothing}
-use Rattle.cg_form.proofs.SumOrder.{sum-le}
+use Rattle.cg_nimbers.proofs.IntegerMultiples.{sum_second}
 use Rattle.cg_names.specs.Named.{star_form, zero_form}
 use Rattle.cg_names.proofs.Mirrored.{star-negative}
-
-pub sum_first : (a b c : Game) → Equal a b → Equal (sum a c) (sum b c)
-sum_first a b c e = (sum-le a b c e.0, sum-le b a c e.1)
-
-pub sum_second : (a b c : Game) → Equal a b → Equal (sum c a) (sum c b)
-sum_second a b c e = (sum-le_second a b c e.0, sum-le_second b a c e.1)
-
-pub sum_zero : (g : Game) → Equal (sum g zero_form) g
-sum_zero g = equal_trans (sum g zero_form) (sum g nothing) g (sum_second zero_form nothing g zero_is) (sum_nothing g)
-
-pub zero_sum : (g : Game) → Equal (sum zero_form g) g
-zero_sum g = equal_trans (sum zero_form g) (sum g zero_form) g (equal_comm zero_form g) (sum_zero g)
 
 -- * + * is 0
 pub two_stars : Equal (sum star_form star_form) zero_form

@@ -29,7 +29,7 @@ use Rattle.cg_names.specs.Meaning.{PositionForms, fraction, meaning, or_zero}
 use Rattle.cg_names.specs.Named.{zero_form}
 use Rattle.cg_names.specs.Signs.{arrows_text, base_text, star_text}
 use Rattle.cg_names.proofs.Literals.{quotient-fraction}
-use Rattle.cg_names.proofs.SumWords.{zero_sum}
+use Rattle.cg_nimbers.proofs.IntegerMultiples.{zero_sum}
 use Rattle.cg_names.proofs.Tokens.{OtherThanBar, decimal_other, nim_is, number_is, other_append, size_text, ups_are}
 
 -- a name as a term with so many braces open at most: what it reads as, and that this means the game

@@ -27,7 +27,7 @@ use Rattle.cg_syntax.specs.declared.expr.Term.{Term}
 use Rattle.cg_eval.proofs.ClosedParts.{closed_behind, closed_first, closed_in-all, closed_in-terms, closed_of_tree}
 use Rattle.cg_eval.proofs.BoardParts.{board_gives, heap_gives}
 use Rattle.cg_eval.proofs.FaultParts.{fault_of_braces, fault_of_term, fault_of_tree, neither, none_in-all, none_in-terms}
-use Rattle.cg_eval.proofs.Walk.{size, size_of_braces, size_of_negative, size_of_multiple, size_of_sum, size_of_item, size_of_term}
+use Rattle.cg_syntax.proofs.Walk.{size, size_of_braces, size_of_negative, size_of_multiple, size_of_sum, size_of_item, size_of_term}
 use Rattle.cg_eval.proofs.ListSteps.{adds, all_made-all, all_made-none, all_made-step, all_stopped, added-all, added-none, added-step, added-stopped, first_and_rest, first_board, first_size, first_term_stopped, gives_all-err, no_terms_give, sum_of_terms}
 use Rattle.cg_eval.proofs.Expressions.{added_gives, braces_gives, left_stopped, multiple_gives, multiple_stopped, negative_gives, negative_stopped, right_stopped, stopped_part, subtracted_gives, sum_gives}
 use Rattle.cg_eval.proofs.Steps.{gives_from, gives_stop, stops_memory}
