@@ -1,6 +1,6 @@
 -- The best of the stops of some options.
 use Rattle.std.proofs.Common.{◌≡◌, refl, ℕ, suc, ◌+◌, ◌<◌, ◌≤◌, arith, ◌⊎◌, inl, inr, ap, sym, ◌∙◌, subst, Bool, true, false, cond, Option, Some, None, List, [], ◌∷◌, take, get_or, length, map}
-use Rattle.std.specs.Prelude.{IsSome, IsTrue}
+use Rattle.std.specs.Prelude.{IsTrue}
 use Rattle.cg_cells.specs.Meaning.{Has}
 use Rattle.cg_cells.specs.Store.{State}
 use Rattle.cg_dyadic.specs.Number.{Number, NumberLe}
@@ -122,10 +122,10 @@ best-all m left hs i o h k = let P : List ℕ → Type 0 = λ z. BestSoFar m lef
 
 module _ {R : Type 0} (s : State Meant R) (m : Ends) (holds : HoldsEnds s m) (hs : List ℕ) (games : AreGames s hs) (all : AllEnded m hs) where
   right_stop : (h : ℕ) → Has hs h → far_stop true (ended m h) ≡ (stops number-decide (game_at s h)).right
-  right_stop h i = let (c, e) = some_of (ended m h) (all.each h i) in ap (far_stop true) e ∙ (holds.chart h c e).right
+  right_stop h i = let (c, e) = some_of (ended m h) (all.each h i) in ap (far_stop true) e ∙ (holds.own h c e).right
 
   left_stop : (h : ℕ) → Has hs h → far_stop false (ended m h) ≡ (stops number-decide (game_at s h)).left
-  left_stop h i = let (c, e) = some_of (ended m h) (all.each h i) in ap (far_stop false) e ∙ (holds.chart h c e).left
+  left_stop h i = let (c, e) = some_of (ended m h) (all.each h i) in ap (far_stop false) e ∙ (holds.own h c e).left
 
   pub top_game : (b : Number) → BestOf m true hs b → TopOf (λ a. (stops number-decide a).right) (games_at s hs) b
   top_game b k = record {
@@ -200,7 +200,3 @@ game-stops s m g ls rs hs ks p q holds c n l r e f al ar bp bq =
       left = top-greatest (λ a. (stops number-decide a).right) (lefts g) p (some_lefts g never) t ∙ sym (ap (λ (z : form.Stops). z.left) k);
       right = bottom-least (λ a. (stops number-decide a).left) (rights g) q (some_rights g never) u ∙ sym (ap (λ (z : form.Stops). z.right) k);
     }
-
-pub end_none : (o : Option Stops) → IsSome o → o ≡ None → ⊥
-end_none None s e = cc
-end_none (Some x) s e = cc

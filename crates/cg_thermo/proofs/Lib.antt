@@ -4,16 +4,13 @@ pub mod Upward
 pub mod Drawing
 pub mod Topping
 pub mod Members
+pub mod Keeping
 pub mod Options
 pub mod Roughs
 pub mod Charting
 pub mod Picturing
-pub mod Whole
 pub mod WallLines
 pub mod Wins
-pub mod EndOptions
-pub mod EndSteps
-pub mod EndWhole
 pub mod Besting
 pub mod Lining
 pub mod Rescaled

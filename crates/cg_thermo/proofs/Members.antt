@@ -1,4 +1,4 @@
--- Lists of handles, split at one of them.
+-- Lists of handles, split at one of them, and whether something is kept.
 use Rattle.std.proofs.Common.{◌≡◌, ◌<◌, ℕ, zero, suc, arith, refl, ap, List, [], ◌∷◌, ◌++◌, length, get_or, take, drop, Option, Some, None}
 use Rattle.std.specs.Prelude.{IsSome}
 use Rattle.cg_cells.specs.Store.{State}
@@ -22,3 +22,7 @@ module _ {R : Type 0} (s : State Meant R) where
 pub some_of : {X : Type 0} (o : Option X) → IsSome o → (x : X) × (o ≡ Some x)
 some_of None s = absurd cc
 some_of (Some x) s = (x, refl)
+
+pub none_found : {X : Type 0} (o : Option X) → IsSome o → o ≡ None → ⊥
+none_found None s e = cc
+none_found (Some x) s e = cc

@@ -1,7 +1,6 @@
 -- The charts of the options of a game.
-use Rattle.std.proofs.Common.{◌≡◌, refl, ℕ, ◌⊎◌, inl, inr, arith, ap, sym, ◌∙◌, subst, true, false, List, [], ◌∷◌, map, Some, ℤ, neg_ℤ, ◌≤ℤ◌}
+use Rattle.std.proofs.Common.{◌≡◌, refl, ℕ, inl, inr, arith, ap, sym, ◌∙◌, subst, true, false, List, [], ◌∷◌, map, Some, ℤ, neg_ℤ, ◌≤ℤ◌}
 use Rattle.std.proofs.lemmas.Int.{ints}
-use Rattle.std.specs.Prelude.{IsSome}
 use Rattle.cg_cells.specs.Meaning.{Grows, Has, IsInjective}
 use Rattle.cg_cells.specs.Store.{State, thing_at}
 use Rattle.cg_dyadic.specs.Wide.{places}
@@ -17,55 +16,28 @@ use Rattle.cg_lines.specs.declared.TheConstants.{BOUND}
 use Rattle.cg_lines.specs.declared.rise.Rise.{Rise}
 use Rattle.cg_lines.specs.Rises.{IsWall, value_at}
 use Rattle.cg_lines.proofs.Rising.{near}
-use Rattle.cg_nodes.proofs.Later.{game_later, is_game_later, stands_game, stands_later}
-use Rattle.cg_nodes.specs.Games.{AreGames, IsGame, IsNode, StandFor, StandsFor, game_at, games_at}
-use Rattle.cg_nodes.specs.Meant.{Meant, form}
+use Rattle.cg_nodes.proofs.Later.{stands_game}
+use Rattle.cg_nodes.specs.Games.{AreGames, IsGame, IsNode, StandFor, game_at, games_at}
+use Rattle.cg_nodes.specs.Meant.{Meant}
 use Rattle.cg_thermo.specs.declared.chart.Chart.{Chart}
 use Rattle.cg_thermo.specs.declared.charts.Charts.{Charts}
 use Rattle.cg_thermo.specs.Found.{AllFound, AreWalls, TopOf, charted, side_in}
-use Rattle.cg_thermo.specs.Progress.{Charted, HoldsCharts, OptionsCharted}
+use Rattle.cg_thermo.specs.Progress.{HoldsCharts, OptionsCharted}
 use Rattle.cg_thermo.specs.Smooths.{Smooth}
 use Rattle.cg_thermo.proofs.Drawing.{Tops}
-use Rattle.cg_nodes.proofs.Members.{among_has, has_among, has_game}
+use Rattle.cg_nodes.proofs.Members.{among_has, has_among}
+use Rattle.cg_thermo.proofs.Keeping.{holds_later, slice_left, slice_right}
 use Rattle.cg_thermo.proofs.Members.{some_of}
 
 pub canonical-node : (g : Game) → Canonical g → IsNode g → NoNumber g
 canonical-node (number x) c n = absurd n
 canonical-node (options ls rs) c n = c.0.no_number
 
-module _ {R Q : Type 0} (s : State Meant R) (t : State Meant Q) (grows : Grows (thing_at s) (thing_at t)) (m : Charts) where
-  pub charts_later : HoldsCharts s m → HoldsCharts t m
-  charts_later holds = record {
-    game = λ h c e. is_game_later s t grows h (holds.game h c e);
-    chart = λ h c e.
-        let P : Game → Type 0 = λ z. Charted z c in
-        subst P (sym (game_later s t grows h (holds.game h c e))) (holds.chart h c e);
-  }
-
-  pub options_later : (f : ℕ) → IsGame s f → OptionsCharted s m f → OptionsCharted t m f
-  options_later f gf found = record {
-    each = λ a i.
-        let P : Game → Type 0 = λ z. Among a (lefts z) ⊎ Among a (rights z) in
-        let (p, e, some) = found.each a (subst P (game_later s t grows f gf) i) in
-        (p, stands_later s t grows p a e, some);
-  }
-
 module _ {R : Type 0} (s : State Meant R) (m : Charts) (holds : HoldsCharts s m) where
   pub are_walls : AreWalls m
   are_walls = record {
-    left = λ h c e. (holds.chart h c e).draws.left_wall;
-    right = λ h c e. (holds.chart h c e).draws.right_wall;
-  }
-
-  -- handles of options are those whose charts were found
-  pub all_found : IsInjective (thing_at s) → (hs : List ℕ) → AreGames s hs
-      → ((a : Game) → Among a (games_at s hs) → (p : ℕ) × StandsFor s p a × IsSome (charted m p)) → AllFound m hs
-  all_found apart hs a found = record {
-    each = λ h i.
-        let g : Game = game_at s h in
-        let (q, st, some) = found (game_at s h) (has_among s hs h i) in
-        let P : ℕ → Type 0 = λ z. IsSome (charted m z) in
-        subst P (apart q h (form (game_at s h)) st (has_game s hs h a i)) some;
+    left = λ h c e. (holds.own h c e).draws.left_wall;
+    right = λ h c e. (holds.own h c e).draws.right_wall;
   }
 
   -- what was found of a handle
@@ -74,11 +46,11 @@ module _ {R : Type 0} (s : State Meant R) (m : Charts) (holds : HoldsCharts s m)
 
   right_at : (h t : ℕ) (c : Chart) → charted m h ≡ Some c
       → side_in true (charted m h) t ≡ (walls number-decide places t (game_at s h)).right
-  right_at h t c e = ap (λ o. side_in true o t) e ∙ (holds.chart h c e).draws.right t
+  right_at h t c e = ap (λ o. side_in true o t) e ∙ (holds.own h c e).draws.right t
 
   left_at : (h t : ℕ) (c : Chart) → charted m h ≡ Some c
       → side_in false (charted m h) t ≡ neg_ℤ (walls number-decide places t (game_at s h)).left
-  left_at h t c e = ap (λ o. side_in false o t) e ∙ (holds.chart h c e).draws.left t
+  left_at h t c e = ap (λ o. side_in false o t) e ∙ (holds.own h c e).draws.left t
 
   above_bound : (r : Rise) (t : ℕ) → IsWall r → neg_ℤ BOUND ≤ℤ value_at r t
   above_bound r t w = let n = (near r t).above in let l = w.low in omega (arith, ints)
@@ -101,7 +73,7 @@ module _ {R : Type 0} (s : State Meant R) (m : Charts) (holds : HoldsCharts s m)
   smooth_at hs g all a i =
       let k = at_game hs g all a i in
       let P : Game → Type 0 = λ z. Smooth places z in
-      subst P k.same (holds.chart k.handle k.chart k.is).smooth
+      subst P k.same (holds.own k.handle k.chart k.is).smooth
 
   some_game : (gs : List Game) → ¬ (gs ≡ []) → (a : Game) × Among a gs
   some_game [] n = absurd (n refl)
@@ -121,8 +93,8 @@ module _ {R : Type 0} (s : State Meant R) (m : Charts) (holds : HoldsCharts s m)
       between (value_at r t) (greatest (map F gs)) (elim (top.attained t) [
         | inl e ↦ (let (a, i) = some_game gs n in
             let k = at_game hs g all a i in
-            let b = above_bound k.chart.right t (holds.chart k.handle k.chart k.is).draws.right_wall in
-            let d = (holds.chart k.handle k.chart k.is).draws.right t in
+            let b = above_bound k.chart.right t (holds.own k.handle k.chart k.is).draws.right_wall in
+            let d = (holds.own k.handle k.chart k.is).draws.right t in
             let w = ap F k.same in
             let l = at_greatest F gs a i in omega (arith, ints))
         | inr x ↦ (let (c, f) = chart_at hs all x.0 x.1 in
@@ -142,9 +114,9 @@ module _ {R : Type 0} (s : State Meant R) (m : Charts) (holds : HoldsCharts s m)
       between (value_at r t) (neg_ℤ (least (map F gs))) (elim (top.attained t) [
         | inl e ↦ (let (a, i) = some_game gs n in
             let k = at_game hs g all a i in
-            let h = (holds.chart k.handle k.chart k.is).draws.left_wall.high t in
-            let b = above_bound k.chart.left t (holds.chart k.handle k.chart k.is).draws.left_wall in
-            let d = (holds.chart k.handle k.chart k.is).draws.left t in
+            let h = (holds.own k.handle k.chart k.is).draws.left_wall.high t in
+            let b = above_bound k.chart.left t (holds.own k.handle k.chart k.is).draws.left_wall in
+            let d = (holds.own k.handle k.chart k.is).draws.left t in
             let w = ap F k.same in
             let l = at_least F gs a i in
             low (value_at r t) (value_at k.chart.left t) (F (game_at s k.handle)) (F a) (least (map F gs)) e b d w l)
@@ -192,23 +164,7 @@ module _ {R : Type 0} (s : State Meant R) (m : Charts) (holds : HoldsCharts s m)
 
 module _ {R : Type 0} (s t : State Meant R) (grows : Grows (thing_at s) (thing_at t)) (m : Charts) (f : ℕ) (game : IsGame s f)
     (holds : HoldsCharts s m) (found : OptionsCharted s m f) (apart : IsInjective (thing_at t)) where
-  pub slice_left : (ls hs : List ℕ) → StandFor t ls (lefts (game_at s f)) → hs ≡ ls → AllFound m hs
-  slice_left ls hs st e =
-      let k = options_later s t grows m f game found in
-      let same = game_later s t grows f game in
-      let P : List ℕ → Type 0 = λ z. AllFound m z in
-      subst P (sym e) (all_found t m (charts_later s t grows m holds) apart ls st.0
-      (λ a i. k.each a (inl (carry a (games_at t ls) (lefts (game_at t f)) (st.1 ∙ ap lefts (sym same)) i))))
-
-  pub slice_right : (rs hs : List ℕ) → StandFor t rs (rights (game_at s f)) → hs ≡ rs → AllFound m hs
-  slice_right rs hs st e =
-      let k = options_later s t grows m f game found in
-      let same = game_later s t grows f game in
-      let P : List ℕ → Type 0 = λ z. AllFound m z in
-      subst P (sym e) (all_found t m (charts_later s t grows m holds) apart rs st.0
-      (λ a i. k.each a (inr (carry a (games_at t rs) (rights (game_at t f)) (st.1 ∙ ap rights (sym same)) i))))
-
   pub tops_here : (ls rs hs ks : List ℕ) (p q : Rise) → Canonical (game_at s f) → IsNode (game_at s f) → StandFor t ls (lefts (game_at s f))
       → StandFor t rs (rights (game_at s f)) → hs ≡ ls → ks ≡ rs → TopOf m true hs p → TopOf m false ks q → Tops places (game_at s f) p q
-  tops_here ls rs hs ks p q c n l r e h tp tq = tops_of t m (charts_later s t grows m holds) (game_at s f) ls rs hs ks p q c n l r e h
-      (slice_left ls hs l e) (slice_right rs ks r h) tp tq
+  tops_here ls rs hs ks p q c n l r e h tp tq = tops_of t m (holds_later s t grows (charted m) holds) (game_at s f) ls rs hs ks p q c n l r e h
+      (slice_left s t grows (charted m) f game found apart ls hs l e) (slice_right s t grows (charted m) f game found apart rs ks r h) tp tq

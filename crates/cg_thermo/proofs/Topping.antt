@@ -1,7 +1,6 @@
 -- The greatest of the sides of some options, one after the other.
-use Rattle.std.proofs.Common.{◌≡◌, refl, ℕ, ◌+◌, ◌<◌, ◌≤◌, arith, zero, suc, ◌⊎◌, inl, inr, ap, sym, ◌∙◌, subst, Bool, true, false, cond, Option, Some, None, List, [], ◌∷◌, take, get_or, length, ℤ, neg_ℤ, ◌≤ℤ◌}
+use Rattle.std.proofs.Common.{◌≡◌, refl, ℕ, ◌+◌, ◌<◌, ◌≤◌, arith, zero, suc, ◌⊎◌, inl, inr, ap, sym, ◌∙◌, subst, Bool, true, false, cond, Some, List, [], ◌∷◌, take, get_or, length, ℤ, neg_ℤ, ◌≤ℤ◌}
 use Rattle.std.proofs.lemmas.Int.{ints}
-use Rattle.std.specs.Prelude.{IsSome}
 use Rattle.cg_cells.specs.Meaning.{Has}
 use Rattle.cg_lines.specs.declared.TheConstants.{BOUND}
 use Rattle.cg_lines.specs.declared.rise.Rise.{Rise}
@@ -104,7 +103,3 @@ top-more m right hs i h c r q lt e f w v top = record {
 
 pub top-all : (m : Charts) (right : Bool) (hs : List ℕ) (i : ℕ) (r : Rise) → length hs ≤ i → TopOf m right (take i hs) r → TopOf m right hs r
 top-all m right hs i r h k = let P : List ℕ → Type 0 = λ z. TopOf m right z r in subst P (take-all hs i h) k
-
-pub found-none : (o : Option Chart) → IsSome o → o ≡ None → ⊥
-found-none None s e = cc
-found-none (Some x) s e = cc

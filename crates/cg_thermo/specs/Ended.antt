@@ -1,16 +1,16 @@
 -- The stops that were found so far, by ids, and how far they have come.
-use Rattle.std.specs.Prelude.{◌≡◌, ◌⊎◌, ℕ, Option, Some, None, nat_eq, Bool, cond, List, [], pos, IsSome, IsTrue}
+use Rattle.std.specs.Prelude.{◌≡◌, ℕ, Option, Some, None, nat_eq, Bool, cond, List, [], pos, IsTrue}
 use Rattle.std.specs.HashMap.{get}
 use Rattle.cg_cells.specs.Meaning.{Has}
 use Rattle.cg_cells.specs.Store.{State}
 use Rattle.cg_dyadic.specs.Number.{Number, number_le, whole}
-use Rattle.cg_form.specs.Game.{Among, Game, lefts, rights}
+use Rattle.cg_form.specs.Game.{Game}
 use Rattle.cg_form.specs.Stops.{stops}
 use Rattle.cg_form.proofs.Decide.{number-decide}
-use Rattle.cg_nodes.specs.Games.{IsGame, StandsFor, game_at}
 use Rattle.cg_nodes.specs.Meant.{Meant}
 use Rattle.cg_thermo.specs.declared.ending.Ends.{Ends}
 use Rattle.cg_thermo.specs.declared.ending.Stops.{Stops}
+use Rattle.cg_thermo.specs.Kept.{AllKept, Holds, OptionsKept}
 
 abbrev pub ended : Ends → ℕ → Option Stops
 ended m a = get nat_eq m.by_id a
@@ -21,18 +21,16 @@ pub record StopsAre (g : Game) (c : Stops) : Type 0 where
   pub right : c.right ≡ (stops number-decide g).right
 
 -- what was found for a handle are the stops of its game
-pub record HoldsEnds {R : Type 0} (s : State Meant R) (m : Ends) : Type 0 where
-  pub game : (h : ℕ) (c : Stops) → ended m h ≡ Some c → IsGame s h
-  pub chart : (h : ℕ) (c : Stops) → ended m h ≡ Some c → StopsAre (game_at s h) c
+abbrev pub HoldsEnds : {R : Type 0} → State Meant R → Ends → Type 0
+HoldsEnds {R} s m = Holds StopsAre s (ended m)
 
 -- for each option of the game some handle stands whose stops were found
-pub record OptionsEnded {R : Type 0} (s : State Meant R) (m : Ends) (f : ℕ) : Type 0 where
-  pub each : (a : Game) → Among a (lefts (game_at s f)) ⊎ Among a (rights (game_at s f))
-      → (p : ℕ) × StandsFor s p a × IsSome (ended m p)
+abbrev pub OptionsEnded : {R : Type 0} → State Meant R → Ends → ℕ → Type 0
+OptionsEnded {R} s m f = OptionsKept s (ended m) f
 
 -- all handles of the list have stops
-pub record AllEnded (m : Ends) (hs : List ℕ) : Type 0 where
-  pub each : (h : ℕ) → Has hs h → IsSome (ended m h)
+abbrev pub AllEnded : Ends → List ℕ → Type 0
+AllEnded m hs = AllKept (ended m) hs
 
 -- the other player's stop, in what was found
 abbrev pub far_stop : Bool → Option Stops → Number

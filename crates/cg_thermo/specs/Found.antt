@@ -1,5 +1,5 @@
 -- What was found so far, by ids.
-use Rattle.std.specs.Prelude.{◌≡◌, ◌⊎◌, ℕ, Option, Some, None, nat_eq, Bool, cond, List, ℤ, pos, neg_ℤ, ◌≤ℤ◌, IsSome}
+use Rattle.std.specs.Prelude.{◌≡◌, ◌⊎◌, ℕ, Option, Some, None, nat_eq, Bool, cond, List, ℤ, pos, neg_ℤ, ◌≤ℤ◌}
 use Rattle.std.specs.HashMap.{get}
 use Rattle.cg_cells.specs.Meaning.{Has}
 use Rattle.cg_lines.specs.declared.TheConstants.{BOUND}
@@ -7,6 +7,7 @@ use Rattle.cg_lines.specs.declared.rise.Rise.{Rise}
 use Rattle.cg_lines.specs.Rises.{IsWall, value_at}
 use Rattle.cg_thermo.specs.declared.chart.Chart.{Chart}
 use Rattle.cg_thermo.specs.declared.charts.Charts.{Charts}
+use Rattle.cg_thermo.specs.Kept.{AllKept}
 
 -- the chart for an id
 abbrev pub charted : Charts → ℕ → Option Chart
@@ -23,8 +24,8 @@ pub record AreWalls (m : Charts) : Type 0 where
   pub right : (h : ℕ) (c : Chart) → charted m h ≡ Some c → IsWall c.right
 
 -- all handles of the list have charts
-pub record AllFound (m : Charts) (hs : List ℕ) : Type 0 where
-  pub each : (h : ℕ) → Has hs h → IsSome (charted m h)
+abbrev pub AllFound : Charts → List ℕ → Type 0
+AllFound m hs = AllKept (charted m) hs
 
 -- r is the greatest of the sides of the list, and the lower bound where there is none
 pub record TopOf (m : Charts) (right : Bool) (hs : List ℕ) (r : Rise) : Type 0 where

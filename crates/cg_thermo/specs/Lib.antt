@@ -8,6 +8,7 @@ pub mod Ended
 pub mod WallLine
 -- what private contracts cite
 pub mod Draws
+pub mod Kept
 pub mod Found
 pub mod Joins
 pub mod Smooths

@@ -1,16 +1,17 @@
 -- How far the charts of the positions of a game have come.
-use Rattle.std.specs.Prelude.{◌≡◌, ◌⊎◌, ℕ, ◌<◌, List, ◌∷◌, ◌++◌, Some, IsSome}
+use Rattle.std.specs.Prelude.{◌≡◌, ◌⊎◌, ℕ, ◌<◌, List, ◌∷◌, ◌++◌}
 use Rattle.cg_cells.specs.Meaning.{Has}
 use Rattle.cg_cells.specs.Store.{State}
 use Rattle.cg_dyadic.specs.Number.{Number, exp_of}
 use Rattle.cg_dyadic.specs.Wide.{places}
 use Rattle.cg_form.specs.Game.{Among, Game, lefts, rights}
-use Rattle.cg_nodes.specs.Games.{IsGame, IsNode, StandsFor, game_at}
+use Rattle.cg_nodes.specs.Games.{IsNode, game_at}
 use Rattle.cg_nodes.specs.Meant.{Meant}
 use Rattle.cg_thermo.specs.declared.chart.Chart.{Chart}
 use Rattle.cg_thermo.specs.declared.charts.Charts.{Charts}
 use Rattle.cg_thermo.specs.Draws.{Draws}
 use Rattle.cg_thermo.specs.Found.{charted}
+use Rattle.cg_thermo.specs.Kept.{Holds, OptionsKept}
 use Rattle.cg_thermo.specs.Smooths.{Smooth}
 use Rattle.cg_thermo.specs.Thermal.{IsThermal}
 
@@ -20,14 +21,12 @@ pub record Charted (g : Game) (c : Chart) : Type 0 where
   pub draws : Draws g c
 
 -- what was found for a handle is the chart of its game
-pub record HoldsCharts {R : Type 0} (s : State Meant R) (m : Charts) : Type 0 where
-  pub game : (h : ℕ) (c : Chart) → charted m h ≡ Some c → IsGame s h
-  pub chart : (h : ℕ) (c : Chart) → charted m h ≡ Some c → Charted (game_at s h) c
+abbrev pub HoldsCharts : {R : Type 0} → State Meant R → Charts → Type 0
+HoldsCharts {R} s m = Holds Charted s (charted m)
 
 -- for each option of the game some handle stands whose chart was found
-pub record OptionsCharted {R : Type 0} (s : State Meant R) (m : Charts) (f : ℕ) : Type 0 where
-  pub each : (a : Game) → Among a (lefts (game_at s f)) ⊎ Among a (rights (game_at s f))
-      → (p : ℕ) × StandsFor s p a × IsSome (charted m p)
+abbrev pub OptionsCharted : {R : Type 0} → State Meant R → Charts → ℕ → Type 0
+OptionsCharted {R} s m f = OptionsKept s (charted m) f
 
 -- the temperature of the game needs more places
 pub record Rough (g : Game) : Type 0 where

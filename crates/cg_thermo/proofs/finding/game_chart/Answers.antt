@@ -1,7 +1,9 @@
 use Rattle.cg_dyadic.specs.Wide.{places}
 use Rattle.cg_nodes.specs.Games.{game_at}
+use Rattle.cg_thermo.specs.Found.{charted}
 use Rattle.cg_thermo.proofs.Drawing.{gap-start}
-use Rattle.cg_thermo.proofs.Options.{are_walls, slice_left, slice_right, tops_here}
+use Rattle.cg_thermo.proofs.Keeping.{slice_left, slice_right}
+use Rattle.cg_thermo.proofs.Options.{are_walls, tops_here}
 use Rattle.cg_thermo.proofs.Roughs.{joined-charted, jump-rough}
 use Rattle.cg_thermo.proofs.finding.game_chart.Goals as goal
 
@@ -13,13 +15,13 @@ top-requires-2-clause-walls g c = are_walls (g.S.CellStore.state c.args.store.no
 
 pub top-requires-clause-found : goal.top-requires-clause-found
 top-requires-clause-found g c =
-    slice_left (g.S.CellStore.state c.args.store.now) (g.S.CellStore.state c.options.new.store) c.options.ensures.spends.known c.args.charts.now c.args.f
-    c.requires.f c.requires.holds c.requires.found c.apart.ensures c.in_ok-sides.sides.lefts c.as_slice.result.now c.in_ok-sides.ensures.lefts c.as_slice.ensures
+    slice_left (g.S.CellStore.state c.args.store.now) (g.S.CellStore.state c.options.new.store) c.options.ensures.spends.known (charted c.args.charts.now) c.args.f
+    c.requires.f c.requires.found c.apart.ensures c.in_ok-sides.sides.lefts c.as_slice.result.now c.in_ok-sides.ensures.lefts c.as_slice.ensures
 
 pub top-requires-2-clause-found : goal.top-requires-2-clause-found
 top-requires-2-clause-found g c =
-    slice_right (g.S.CellStore.state c.args.store.now) (g.S.CellStore.state c.options.new.store) c.options.ensures.spends.known c.args.charts.now c.args.f
-    c.requires.f c.requires.holds c.requires.found c.apart.ensures c.in_ok-sides.sides.rights c.as_slice-2.result.now c.in_ok-sides.ensures.rights c.as_slice-2.ensures
+    slice_right (g.S.CellStore.state c.args.store.now) (g.S.CellStore.state c.options.new.store) c.options.ensures.spends.known (charted c.args.charts.now) c.args.f
+    c.requires.f c.requires.found c.apart.ensures c.in_ok-sides.sides.rights c.as_slice-2.result.now c.in_ok-sides.ensures.rights c.as_slice-2.ensures
 
 pub joined-requires-clause-start : goal.joined-requires-clause-start
 joined-requires-clause-start g c =

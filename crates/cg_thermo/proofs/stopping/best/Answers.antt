@@ -1,13 +1,14 @@
 use Rattle.std.proofs.Common.{◌≡◌, ap, sym, ◌∙◌, cond}
 use Rattle.cg_thermo.specs.Ended.{better_of, ended}
-use Rattle.cg_thermo.proofs.Besting.{best-more, end_none}
+use Rattle.cg_thermo.proofs.Besting.{best-more}
+use Rattle.cg_thermo.proofs.Members.{none_found}
 use Rattle.cg_thermo.proofs.Topping.{has-read}
 use Rattle.cg_thermo.proofs.stopping.best.Goals as goal
 use Rattle.cg_thermo.proofs.stopping.best.Goals.{then-left, else-left}
 
 pub unreachable-requires : goal.unreachable-requires
 unreachable-requires c =
-    end_none (ended c.args.ends.now c.option-item.result)
+    none_found (ended c.args.ends.now c.option-item.result)
     (c.requires.found.each c.option-item.result
     (has-read c.args.options.now c.loop-option.option-index c.option-item.result c.loop-option-test.true c.option-item.is))
     (sym c.get.ensures ∙ c.in_default.is)

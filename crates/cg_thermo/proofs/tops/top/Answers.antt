@@ -2,12 +2,13 @@ use Rattle.std.proofs.Common.{ap, sym, ◌∙◌}
 use Rattle.cg_lines.specs.declared.rise.Rise.{Rise}
 use Rattle.cg_lines.specs.Rises.{greater, value_at}
 use Rattle.cg_thermo.specs.Found.{charted}
-use Rattle.cg_thermo.proofs.Topping.{found-none, has-read, side-wall, top-all, top-more}
+use Rattle.cg_thermo.proofs.Members.{none_found}
+use Rattle.cg_thermo.proofs.Topping.{has-read, side-wall, top-all, top-more}
 use Rattle.cg_thermo.proofs.tops.top.Goals as goal
 
 pub unreachable-requires : goal.unreachable-requires
 unreachable-requires c =
-    found-none (charted c.args.charts.now c.option-item.result)
+    none_found (charted c.args.charts.now c.option-item.result)
     (c.requires.found.each c.option-item.result
     (has-read c.args.options.now c.loop-option.option-index c.option-item.result c.loop-option-test.true c.option-item.is))
     (sym c.in_default.ensures)
