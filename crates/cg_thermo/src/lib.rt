@@ -13,6 +13,7 @@ mod fault;
 mod finding;
 mod joining;
 pub mod laws;
+mod listing;
 mod reading;
 mod stopping;
 mod thermo;

@@ -3,18 +3,16 @@ ghost use Rattle.std.specs.Prelude.{◌≡◌, ℕ, IfOk, OnOk, [], Some};
 ghost use Rattle.cg_canon.specs.Works.{work_state};
 ghost use Rattle.cg_cells.specs.Store.{Spends};
 ghost use Rattle.cg_form.specs.Game.{number};
-ghost use Rattle.cg_nodes.specs.Games.{AreGames, IsGame, IsNode, StandFor, game_at, games_at};
-ghost use Rattle.cg_nodes.specs.Positions.{positions_of};
+ghost use Rattle.cg_nodes.specs.Games.{AreGames, IsGame, IsNode, game_at, games_at};
 ghost use Rattle.cg_thermo.specs.Ended.{AllEnded, BestOf, HoldsEnds, OptionsEnded, StopsAre, as_good, better_of};
 ghost use Rattle.cg_thermo.specs.Progress.{OptionsFirst};
 
 use crate::ending::{Ends, Stops};
+use crate::listing::each_position;
 use cg_canon::Work;
 use cg_cells::CellStore;
 use cg_dyadic::Dyadic;
-use cg_nodes::{
-    BoardForms, GameFacts, Handle, Handles, Kind, PositionsFault, kind, options, positions,
-};
+use cg_nodes::{BoardForms, GameFacts, Handle, Kind, kind, options};
 use std::alloc::{AllocError, Global};
 
 // The better of the two for the player, or the one.
@@ -107,23 +105,6 @@ fn add_stops<B: BoardForms, S: CellStore<GameFacts<B>>>(
         ends.keep(*f, &stops)?;
     }
     Ok(())
-}
-
-// The positions of the game.
-fn each_position<B: BoardForms, S: CellStore<GameFacts<B>>>(
-    alloc: Global,
-    store: &mut S,
-    a: Handle,
-) -> Result<Handles, AllocError>
-    requires { IsGame (S.state store.old) a }
-    ensures positions { IfOk result (λ hs. StandFor (S.state store.new) hs (positions_of (game_at (S.state store.old) a))) }
-    ensures spends { Spends 0 (S.state store.old) (S.state store.new) }
-{
-    match positions(alloc, store, a, u64::MAX) {
-        Ok(handles) => Ok(handles),
-        Err(PositionsFault::Positions) => Err(AllocError),
-        Err(PositionsFault::Memory) => Err(AllocError),
-    }
 }
 
 /// The stops of the game (Siegel, Combinatorial Game Theory (2013), II.3). The only error is want of memory.

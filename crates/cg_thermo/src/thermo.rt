@@ -8,8 +8,7 @@ ghost use Rattle.cg_form.specs.Canonical.{Canonical};
 ghost use Rattle.cg_form.specs.Game.{number};
 ghost use Rattle.cg_lines.specs.declared.TheConstants.{END};
 ghost use Rattle.cg_lines.specs.Rises.{IsWall};
-ghost use Rattle.cg_nodes.specs.Games.{IsGame, IsNode, StandFor, game_at};
-ghost use Rattle.cg_nodes.specs.Positions.{positions_of};
+ghost use Rattle.cg_nodes.specs.Games.{IsGame, IsNode, game_at};
 ghost use Rattle.cg_thermo.specs.Progress.{Charted};
 ghost use Rattle.cg_thermo.specs.Thermal.{NeedsMore};
 ghost use Rattle.cg_thermo.specs.Thermographs.{IsThermograph, Pictured};
@@ -19,11 +18,12 @@ use crate::charts::Charts;
 use crate::corners::{Corners, corners_of};
 use crate::fault::ThermoFault;
 use crate::finding::add_charts;
+use crate::listing::each_position;
 use cg_canon::Work;
 use cg_cells::CellStore;
 use cg_dyadic::{Dyadic, Wide};
 use cg_lines::{points, value};
-use cg_nodes::{BoardForms, GameFacts, Handle, Handles, Kind, PositionsFault, kind, positions};
+use cg_nodes::{BoardForms, GameFacts, Handle, Kind, kind};
 use std::alloc::{AllocError, Global};
 
 /// A thermograph: the mean and the temperature, and the corners of both walls.
@@ -37,24 +37,6 @@ pub struct Walls {
     pub left: Corners,
     /// The corners of the right wall.
     pub right: Corners,
-}
-
-// The positions of the game.
-fn all_positions<B: BoardForms, S: CellStore<GameFacts<B>>>(
-    alloc: Global,
-    store: &mut S,
-    a: Handle,
-) -> Result<Handles, ThermoFault>
-    requires { IsGame (S.state store.old) a }
-    ensures positions { IfOk result (λ hs. StandFor (S.state store.new) hs (positions_of (game_at (S.state store.old) a))) }
-    ensures memory { ¬ (result ≡ Err ThermoFault.Range) }
-    ensures spends { Spends 0 (S.state store.old) (S.state store.new) }
-{
-    match positions(alloc, store, a, u64::MAX) {
-        Ok(handles) => Ok(handles),
-        Err(PositionsFault::Positions) => Err(ThermoFault::Memory),
-        Err(PositionsFault::Memory) => Err(ThermoFault::Memory),
-    }
 }
 
 // -1/2^exp, for the exponent of a number.
@@ -120,7 +102,7 @@ pub fn thermograph<B: BoardForms, S: CellStore<GameFacts<B>>>(
     ensures range { result ≡ Err ThermoFault.Range → NeedsMore places (game_at (work_state S.state work.old) a) }
     ensures spends { Spends 0 (work_state S.state work.old) (work_state S.state work.new) }
 {
-    let positions = all_positions(alloc, work, a)?;
+    let positions = each_position(alloc, work, a)?;
     let mut charts = Charts::new(alloc);
     add_charts(alloc, work, positions.as_slice(), &mut charts)?;
     work.apart();
