@@ -1,5 +1,5 @@
 -- The best of the stops of some options.
-use Rattle.std.proofs.Common.{◌≡◌, refl, ℕ, suc, ◌+◌, ◌<◌, ◌≤◌, arith, ◌⊎◌, inl, inr, ap, sym, ◌∙◌, subst, Bool, true, false, cond, Option, Some, None, List, [], ◌∷◌, take, get_or, length, map}
+use Rattle.std.proofs.Common.{◌≡◌, refl, ℕ, ◌+◌, ◌<◌, ◌≤◌, inl, inr, ap, sym, ◌∙◌, subst, Bool, true, false, cond, Option, Some, None, List, [], ◌∷◌, take, get_or, length, map}
 use Rattle.std.specs.Prelude.{IsTrue}
 use Rattle.cg_cells.specs.Meaning.{Has}
 use Rattle.cg_cells.specs.Store.{State}
@@ -24,9 +24,8 @@ use Rattle.cg_thermo.specs.declared.ending.Stops.{Stops}
 use Rattle.cg_thermo.specs.declared.ending.Ends.{Ends}
 use Rattle.cg_thermo.specs.Ended.{AllEnded, BestOf, BestSoFar, HoldsEnds, StopsAre, as_good, better_of, ended, far_stop}
 use Rattle.cg_nodes.proofs.Members.{among_has, has_among}
-use Rattle.cg_thermo.proofs.Members.{some_of}
+use Rattle.cg_thermo.proofs.Members.{has-before, has-next, has-own, some_of, take-all}
 use Rattle.cg_thermo.proofs.Options.{canonical-node}
-use Rattle.cg_thermo.proofs.Topping.{has-at, has-more, has-suc, take-all}
 
 -- ---- the order as the player sees it
 
@@ -54,17 +53,6 @@ best-more m left hs i h c o r lt e f is so = by o is so
     x-is : cond left c.right c.left ≡ far_stop left (ended m h)
     x-is = ap (far_stop left) (sym f)
 
-    one : suc i ≡ i + 1
-    one = omega arith
-
-    there : Has (take (i + 1) hs) h
-    there = let P : ℕ → Type 0 = λ z. Has (take z hs) h in
-        let Q : ℕ → Type 0 = λ z. Has (take (suc i) hs) z in subst P one (subst Q (sym e) (has-at hs i h lt))
-
-    split : (y : ℕ) → Has (take (i + 1) hs) y → Has (take i hs) y ⊎ (y ≡ h)
-    split y n = let P : ℕ → Type 0 = λ z. Has (take z hs) y in
-        elim (has-suc hs i h y lt (subst P (sym one) n)) [ inl k ↦ inl k | inr k ↦ inr (k ∙ sym e) ]
-
     own : (r : Number) → r ≡ cond left c.right c.left → IsTrue (as_good left (far_stop left (ended m h)) r)
     own r g = let P : Number → Type 0 = λ z. IsTrue (as_good left (far_stop left (ended m h)) z) in
         subst P (sym (g ∙ x-is)) (good-refl left (far_stop left (ended m h)))
@@ -75,15 +63,12 @@ best-more m left hs i h c o r lt e f is so = by o is so
     none_in : (hs : List ℕ) (y : ℕ) → hs ≡ [] → Has hs y → ⊥
     none_in hs y e n = let P : List ℕ → Type 0 = λ z. Has z y in subst P e n
 
-    forth : (y : ℕ) → Has (take i hs) y → Has (take (i + 1) hs) y
-    forth y n = let P : ℕ → Type 0 = λ z. Has (take z hs) y in subst P one (has-more hs i y n)
-
     by : (o : Option Number) → r ≡ better_of left o (cond left c.right c.left) → BestSoFar m left (take i hs) o → BestOf m left (take (i + 1) hs) r
     by None g empty = record {
       at = h;
-      there = there;
+      there = has-own hs i h lt e;
       is = g ∙ x-is;
-      most = λ y n. elim (split y n) [
+      most = λ y n. elim (has-next hs i h lt e y n) [
         | inl k ↦ absurd (none_in (take i hs) y empty k)
         | inr k ↦ at_h y r k (own r g)
       ];
@@ -93,9 +78,9 @@ best-more m left hs i h c o r lt e f is so = by o is so
           let P : Number → Type 0 = λ z. IsTrue (as_good left b z) in
           record {
             at = h;
-            there = there;
+            there = has-own hs i h lt e;
             is = s ∙ x-is;
-            most = λ y n. elim (split y n) [
+            most = λ y n. elim (has-next hs i h lt e y n) [
               | inl k ↦ good-trans left (far_stop left (ended m y)) b r (best.most y k) (subst P (sym s) t)
               | inr k ↦ at_h y r k (own r s)
             ];
@@ -105,10 +90,10 @@ best-more m left hs i h c o r lt e f is so = by o is so
           let low = subst P x-is (good-other left b (cond left c.right c.left) t) in
           record {
             at = best.at;
-            there = forth best.at best.there;
+            there = has-before hs i best.at best.there;
             is = s ∙ best.is;
             most = λ y n. (let Q : Number → Type 0 = λ z. IsTrue (as_good left (far_stop left (ended m y)) z) in
-                subst Q (sym s) (elim (split y n) [
+                subst Q (sym s) (elim (has-next hs i h lt e y n) [
                   | inl k ↦ best.most y k
                   | inr k ↦ at_h y b k low
                 ]));

@@ -1,5 +1,5 @@
 -- What is kept for the handles of the positions of a game, one after another.
-use Rattle.std.proofs.Common.{◌≡◌, refl, ℕ, suc, ◌+◌, ◌<◌, ◌≤◌, ◌⊎◌, inl, inr, arith, ap, sym, ◌∙◌, subst, List, [], ◌∷◌, ◌++◌, take, drop, get_or, length, Option, Some, None}
+use Rattle.std.proofs.Common.{◌≡◌, refl, ℕ, suc, ◌+◌, ◌<◌, ◌≤◌, ◌⊎◌, inl, inr, ap, sym, ◌∙◌, subst, List, [], ◌∷◌, ◌++◌, take, drop, get_or, length, Option, Some, None}
 use Rattle.std.proofs.lemmas.Bool.Decides.{eqb_tells}
 use Rattle.std.specs.Prelude.{IsSome, ◌==◌, if◌then◌else◌}
 use Rattle.cg_cells.specs.Meaning.{Grows, Has, IsInjective}
@@ -14,8 +14,7 @@ use Rattle.cg_nodes.specs.Meant.{Meant, form}
 use Rattle.cg_nodes.specs.Positions.{positions_of}
 use Rattle.cg_thermo.specs.Kept.{AllKept, Holds, OptionsKept}
 use Rattle.cg_thermo.specs.Progress.{OptionsFirst}
-use Rattle.cg_thermo.proofs.Members.{are_take, games_split, some_of}
-use Rattle.cg_thermo.proofs.Topping.{has-read, has-suc, take-all}
+use Rattle.cg_thermo.proofs.Members.{are_take, games_split, has-next, has-read, some_of, take-all}
 
 -- ---- at a later state
 
@@ -120,12 +119,7 @@ module _ {R C : Type 0} {Of : Game → C → Type 0} (s t : State Meant R) (kept
       one d e = cc
 
       before : (h : ℕ) → Has (take (i + 1) hs) h → ((f ≡ h) → ⊥) → Has (take i hs) h
-      before h x ne =
-          let o : i + 1 ≡ suc i = omega arith in
-          elim (has-suc hs i f h lt (subst (λ (z : ℕ). Has (take z hs) h) o x)) [
-            | inl y ↦ y
-            | inr y ↦ absurd (ne (read ∙ sym y))
-          ]
+      before h x ne = elim (has-next hs i f lt read h x) [ inl y ↦ y | inr y ↦ absurd (ne (sym y)) ]
 
 pub found-all : {R C : Type 0} {Of : Game → C → Type 0} (s t : State Meant R) (kept : ℕ → Option C) (hs : List ℕ) (i : ℕ) → length hs ≤ i
     → Found Of s t kept (take i hs) → Found Of s t kept hs

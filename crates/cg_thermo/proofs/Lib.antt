@@ -2,8 +2,8 @@ pub mod Smooth
 pub mod Scales
 pub mod Upward
 pub mod Drawing
-pub mod Topping
 pub mod Members
+pub mod Topping
 pub mod Keeping
 pub mod Options
 pub mod Roughs

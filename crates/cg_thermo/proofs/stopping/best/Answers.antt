@@ -1,8 +1,7 @@
 use Rattle.std.proofs.Common.{◌≡◌, ap, sym, ◌∙◌, cond}
 use Rattle.cg_thermo.specs.Ended.{better_of, ended}
 use Rattle.cg_thermo.proofs.Besting.{best-more}
-use Rattle.cg_thermo.proofs.Members.{none_found}
-use Rattle.cg_thermo.proofs.Topping.{has-read}
+use Rattle.cg_thermo.proofs.Members.{has-read, none_found}
 use Rattle.cg_thermo.proofs.stopping.best.Goals as goal
 use Rattle.cg_thermo.proofs.stopping.best.Goals.{then-left, else-left}
 

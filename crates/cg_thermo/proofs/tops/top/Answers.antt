@@ -2,8 +2,8 @@ use Rattle.std.proofs.Common.{ap, sym, ◌∙◌}
 use Rattle.cg_lines.specs.declared.rise.Rise.{Rise}
 use Rattle.cg_lines.specs.Rises.{greater, value_at}
 use Rattle.cg_thermo.specs.Found.{charted}
-use Rattle.cg_thermo.proofs.Members.{none_found}
-use Rattle.cg_thermo.proofs.Topping.{has-read, side-wall, top-all, top-more}
+use Rattle.cg_thermo.proofs.Members.{has-read, none_found}
+use Rattle.cg_thermo.proofs.Topping.{side-wall, top-all, top-more}
 use Rattle.cg_thermo.proofs.tops.top.Goals as goal
 
 pub unreachable-requires : goal.unreachable-requires
