@@ -21,8 +21,7 @@ use Rattle.cg_nodes.specs.Games.{AreGames, IsNode, StandFor, game_at, games_at}
 use Rattle.cg_nodes.specs.Meant.{Meant}
 use Rattle.cg_nodes.proofs.Later.{stands_game}
 use Rattle.cg_thermo.specs.declared.ending.Stops.{Stops}
-use Rattle.cg_thermo.specs.declared.ending.Ends.{Ends}
-use Rattle.cg_thermo.specs.Ended.{AllEnded, BestOf, BestSoFar, HoldsEnds, StopsAre, as_good, better_of, ended, far_stop}
+use Rattle.cg_thermo.specs.Ended.{Ends, AllEnded, BestOf, BestSoFar, HoldsEnds, StopsAre, as_good, better_of, ended, far_stop}
 use Rattle.cg_nodes.proofs.Members.{among_has, has_among}
 use Rattle.cg_thermo.proofs.Members.{has-before, has-next, has-own, some_of, take-all}
 use Rattle.cg_thermo.proofs.Options.{canonical-node}

@@ -20,8 +20,7 @@ use Rattle.cg_nodes.proofs.Later.{stands_game}
 use Rattle.cg_nodes.specs.Games.{AreGames, IsGame, IsNode, StandFor, game_at, games_at}
 use Rattle.cg_nodes.specs.Meant.{Meant}
 use Rattle.cg_thermo.specs.declared.chart.Chart.{Chart}
-use Rattle.cg_thermo.specs.declared.charts.Charts.{Charts}
-use Rattle.cg_thermo.specs.Found.{AllFound, AreWalls, TopOf, charted, side_in}
+use Rattle.cg_thermo.specs.Found.{Charts, AllFound, AreWalls, TopOf, charted, side_in}
 use Rattle.cg_thermo.specs.Progress.{HoldsCharts, OptionsCharted}
 use Rattle.cg_thermo.specs.Smooths.{Smooth}
 use Rattle.cg_thermo.proofs.Drawing.{Tops}

@@ -6,8 +6,7 @@ use Rattle.cg_lines.specs.declared.rise.Rise.{Rise}
 use Rattle.cg_lines.specs.Rises.{IsWall, greater, value_at}
 use Rattle.cg_lines.proofs.Merging.{greater_left, greater_right, le_or_lt}
 use Rattle.cg_thermo.specs.declared.chart.Chart.{Chart}
-use Rattle.cg_thermo.specs.declared.charts.Charts.{Charts}
-use Rattle.cg_thermo.specs.Found.{AreWalls, TopOf, charted, side_in}
+use Rattle.cg_thermo.specs.Found.{Charts, AreWalls, TopOf, charted, side_in}
 use Rattle.cg_thermo.proofs.Members.{has-before, has-next, has-own, take-all}
 
 pub top-none : (m : Charts) (right : Bool) (r : Rise) → IsWall r → ((t : ℕ) → value_at r t ≡ neg_ℤ BOUND) → TopOf m right [] r

@@ -1,6 +1,5 @@
 -- The stops that were found so far, by ids, and how far they have come.
-use Rattle.std.specs.Prelude.{◌≡◌, ℕ, Option, Some, None, nat_eq, Bool, cond, List, [], pos, IsTrue}
-use Rattle.std.specs.HashMap.{get}
+use Rattle.std.specs.Prelude.{◌≡◌, ℕ, Option, Some, None, Bool, cond, List, [], pos, IsTrue}
 use Rattle.cg_cells.specs.Meaning.{Has}
 use Rattle.cg_cells.specs.Store.{State}
 use Rattle.cg_dyadic.specs.Number.{Number, number_le, whole}
@@ -8,12 +7,17 @@ use Rattle.cg_form.specs.Game.{Game}
 use Rattle.cg_form.specs.Stops.{stops}
 use Rattle.cg_form.proofs.Decide.{number-decide}
 use Rattle.cg_nodes.specs.Meant.{Meant}
-use Rattle.cg_thermo.specs.declared.ending.Ends.{Ends}
 use Rattle.cg_thermo.specs.declared.ending.Stops.{Stops}
-use Rattle.cg_thermo.specs.Kept.{AllKept, Holds, OptionsKept}
+use Rattle.cg_thermo.specs.declared.by_id.ById.{ById}
+use Rattle.cg_thermo.specs.Kept.{AllKept, Holds, OptionsKept, kept_in}
 
+-- for ids the stops of their games
+abbrev pub Ends : Type 0
+Ends = ById Stops
+
+-- the stops for an id
 abbrev pub ended : Ends → ℕ → Option Stops
-ended m a = get nat_eq m.by_id a
+ended m a = kept_in m a
 
 -- the stops are those of the game
 pub record StopsAre (g : Game) (c : Stops) : Type 0 where

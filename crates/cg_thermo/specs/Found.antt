@@ -1,17 +1,20 @@
 -- What was found so far, by ids.
-use Rattle.std.specs.Prelude.{◌≡◌, ◌⊎◌, ℕ, Option, Some, None, nat_eq, Bool, cond, List, ℤ, pos, neg_ℤ, ◌≤ℤ◌}
-use Rattle.std.specs.HashMap.{get}
+use Rattle.std.specs.Prelude.{◌≡◌, ◌⊎◌, ℕ, Option, Some, None, Bool, cond, List, ℤ, pos, neg_ℤ, ◌≤ℤ◌}
 use Rattle.cg_cells.specs.Meaning.{Has}
 use Rattle.cg_lines.specs.declared.TheConstants.{BOUND}
 use Rattle.cg_lines.specs.declared.rise.Rise.{Rise}
 use Rattle.cg_lines.specs.Rises.{IsWall, value_at}
 use Rattle.cg_thermo.specs.declared.chart.Chart.{Chart}
-use Rattle.cg_thermo.specs.declared.charts.Charts.{Charts}
-use Rattle.cg_thermo.specs.Kept.{AllKept}
+use Rattle.cg_thermo.specs.declared.by_id.ById.{ById}
+use Rattle.cg_thermo.specs.Kept.{AllKept, kept_in}
+
+-- for ids the charts of their games
+abbrev pub Charts : Type 0
+Charts = ById Chart
 
 -- the chart for an id
 abbrev pub charted : Charts → ℕ → Option Chart
-charted m a = get nat_eq m.by_id a
+charted m a = kept_in m a
 
 -- the value of the right wall, or the negative of that of the left wall, in the chart that was found
 abbrev pub side_in : Bool → Option Chart → ℕ → ℤ

@@ -1,10 +1,16 @@
 -- What a call has found so far, and keeps for handles: of each game a chart, or its stops.
-use Rattle.std.specs.Prelude.{◌≡◌, ◌⊎◌, ℕ, Option, Some, List, IsSome}
+use Rattle.std.specs.Prelude.{◌≡◌, ◌⊎◌, ℕ, Option, Some, List, IsSome, nat_eq}
+use Rattle.std.specs.HashMap.{get}
 use Rattle.cg_cells.specs.Meaning.{Has}
 use Rattle.cg_cells.specs.Store.{State}
 use Rattle.cg_form.specs.Game.{Among, Game, lefts, rights}
 use Rattle.cg_nodes.specs.Games.{IsGame, StandsFor, game_at}
 use Rattle.cg_nodes.specs.Meant.{Meant}
+use Rattle.cg_thermo.specs.declared.by_id.ById.{ById}
+
+-- what is kept for an id
+abbrev pub kept_in : {C : Type 0} → ById C → ℕ → Option C
+kept_in {C} m a = get nat_eq m.by_id a
 
 -- what is kept for a handle is, as Of says, that of its game
 pub record Holds {R C : Type 0} (Of : Game → C → Type 0) (s : State Meant R) (kept : ℕ → Option C) : Type 0 where

@@ -8,9 +8,8 @@ use Rattle.cg_form.specs.Game.{Among, Game, lefts, rights}
 use Rattle.cg_nodes.specs.Games.{IsNode, game_at}
 use Rattle.cg_nodes.specs.Meant.{Meant}
 use Rattle.cg_thermo.specs.declared.chart.Chart.{Chart}
-use Rattle.cg_thermo.specs.declared.charts.Charts.{Charts}
 use Rattle.cg_thermo.specs.Draws.{Draws}
-use Rattle.cg_thermo.specs.Found.{charted}
+use Rattle.cg_thermo.specs.Found.{Charts, charted}
 use Rattle.cg_thermo.specs.Kept.{Holds, OptionsKept}
 use Rattle.cg_thermo.specs.Smooths.{Smooth}
 use Rattle.cg_thermo.specs.Thermal.{IsThermal}

@@ -1,4 +1,5 @@
 //! The walls of a game, while they are found.
+use crate::by_id::ById;
 use cg_lines::Rise;
 
 /// The walls of a game in units of 1/2^60.
@@ -11,3 +12,6 @@ pub(crate) struct Chart {
     /// From when on both are the mast: the temperature, or 0 for a number.
     pub end: u128,
 }
+
+/// For handles the charts of their games.
+pub(crate) type Charts = ById<Chart>;

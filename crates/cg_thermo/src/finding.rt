@@ -7,8 +7,7 @@ ghost use Rattle.cg_nodes.specs.Games.{AreGames, IsGame, IsNode, game_at, games_
 ghost use Rattle.cg_thermo.specs.Found.{AllFound};
 ghost use Rattle.cg_thermo.specs.Progress.{Charted, HoldsCharts, OptionsCharted, OptionsFirst, Rough, SomeRough};
 
-use crate::chart::Chart;
-use crate::charts::Charts;
+use crate::chart::{Chart, Charts};
 use crate::fault::ThermoFault;
 use crate::joining::joined;
 use crate::tops::top;

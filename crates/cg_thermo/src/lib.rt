@@ -4,8 +4,8 @@
 //! numbers of units of 1/2^60.
 #![tactic(auto)]
 
+mod by_id;
 mod chart;
-mod charts;
 mod corners;
 mod deciding;
 mod ending;

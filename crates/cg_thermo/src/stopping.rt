@@ -102,7 +102,7 @@ fn add_stops<B: BoardForms, S: CellStore<GameFacts<B>>>(
 {
     for f in positions {
         let stops = stops_of(alloc, store, *f, ends)?;
-        ends.keep(*f, &stops)?;
+        ends.keep(*f, stops)?;
     }
     Ok(())
 }
@@ -124,5 +124,5 @@ pub fn stops<B: BoardForms, S: CellStore<GameFacts<B>>>(
     let Some(found) = ends.get(a) else {
         unreachable!()
     };
-    Ok(found)
+    Ok(*found)
 }

@@ -13,8 +13,7 @@ ghost use Rattle.cg_thermo.specs.Progress.{Charted};
 ghost use Rattle.cg_thermo.specs.Thermal.{NeedsMore};
 ghost use Rattle.cg_thermo.specs.Thermographs.{IsThermograph, Pictured};
 
-use crate::chart::Chart;
-use crate::charts::Charts;
+use crate::chart::{Chart, Charts};
 use crate::corners::{Corners, corners_of};
 use crate::fault::ThermoFault;
 use crate::finding::add_charts;

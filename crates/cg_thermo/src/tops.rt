@@ -2,8 +2,7 @@
 ghost use Rattle.std.specs.Prelude.{◌≡◌, IfOk, cond};
 ghost use Rattle.cg_thermo.specs.Found.{AllFound, AreWalls, TopOf};
 
-use crate::chart::Chart;
-use crate::charts::Charts;
+use crate::chart::{Chart, Charts};
 use cg_lines::{BOUND, Rise, higher};
 use cg_nodes::Handle;
 use std::alloc::{AllocError, Global};

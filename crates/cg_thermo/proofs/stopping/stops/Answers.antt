@@ -1,4 +1,4 @@
-use Rattle.std.proofs.Common.{sym, ◌∙◌}
+use Rattle.std.proofs.Common.{sym}
 use Rattle.cg_canon.specs.Works.{work_state}
 use Rattle.cg_nodes.specs.Games.{StandFor, game_at}
 use Rattle.cg_nodes.specs.Positions.{positions_of}
@@ -24,10 +24,10 @@ unreachable-requires g c =
     (own-found (W c.args.work.now) (W c.each_position.new.store) (W c.add_stops.new.store) c.args.a c.requires c.each_position.ensures.spends.known
     c.add_stops.ensures.spends.known (ended c.add_stops.new.ends) c.as_slice.result.now (listed g (goal.at.unreachable-requires g c).After-as_slice)
     c.in_ok-add_stops.ensures.found c.apart.ensures)
-    (sym c.get.ensures ∙ c.in_default.is)
+    (sym c.in_default.ensures)
 
 pub returns-clause-stops : goal.returns-clause-stops
 returns-clause-stops g c =
     let W = work_state g.S.CellStore.state in
     own-kept (W c.args.work.now) (W c.each_position.new.store) (W c.add_stops.new.store) c.args.a c.requires c.each_position.ensures.spends.known
-    c.add_stops.ensures.spends.known (ended c.add_stops.new.ends) c.in-Some.found c.in_ok-add_stops.ensures.holds (sym c.get.ensures ∙ c.in-Some.is)
+    c.add_stops.ensures.spends.known (ended c.add_stops.new.ends) c.in-Some.found.now c.in_ok-add_stops.ensures.holds (sym c.in-Some.ensures)
