@@ -1,6 +1,5 @@
 //! Runs of bars of one length: a run repeats an earlier one of its brace where no longer run stands between them.
-ghost use Rattle.std.specs.Prelude.{◌≡◌, map, Ok, [], false};
-ghost use Rattle.cg_reading.specs.Gives.{Gives};
+ghost use Rattle.std.specs.Prelude.{◌≡◌, map, [], false};
 ghost use Rattle.cg_syntax.specs.Braces.{repeats, side_fault as fault_of_side, runs_fault};
 ghost use Rattle.cg_syntax.specs.Found.{first as first_column};
 ghost use Rattle.cg_syntax.specs.Views.{found_of, rows_of, run_length, side_found};
