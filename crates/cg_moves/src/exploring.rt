@@ -14,6 +14,7 @@ ghost use Rattle.cg_moves.specs.Walks.{AreStarts};
 use crate::course::Course;
 use crate::found::{Found, emptied};
 use crate::{Board, NextPlaces, Player, ReachFault, Rules};
+use smallvec::SmallVec;
 use std::alloc::{AllocError, Global};
 
 /// The boards that were found, with what comes next after each of them, by numbers.
@@ -40,7 +41,7 @@ struct Followers {
 fn number_all(
     alloc: Global,
     found: &mut Found,
-    places: &mut Vec<usize>,
+    places: &mut SmallVec<usize, 4>,
     boards: &[Board],
     limit: u64,
 ) -> Result<(), ReachFault>
@@ -199,8 +200,8 @@ fn next_after<R: Rules>(
     let moves = all.lefts.len() + all.rights.len();
     let mut next = NextPlaces {
         lefts: all.lefts.len(),
-        counts: Vec::with_capacity(alloc, moves)?,
-        places: Vec::with_capacity(alloc, moves)?,
+        counts: SmallVec::with_capacity(alloc, moves)?,
+        places: SmallVec::with_capacity(alloc, moves)?,
     };
     number_moves(alloc, rules, course, found, &mut next, &all.lefts, limit)?;
     number_moves(alloc, rules, course, found, &mut next, &all.rights, limit)?;
@@ -227,8 +228,9 @@ pub(crate) fn explore<R: Rules>(
         → limit < length (reached (record { game = R.game rules.now; course = course; starts = starts.items })) }
 {
     let mut found = Found::new(alloc);
-    let mut places = Vec::new(alloc);
+    let mut places = SmallVec::new(alloc);
     number_all(alloc, &mut found, &mut places, &starts, limit)?;
+    let places = places.into_vec()?;
     let mut all = Followers {
         lefts: Vec::new(alloc),
         rights: Vec::new(alloc),

@@ -1,6 +1,7 @@
 //! Boards that were reached, with what comes next after each of them.
 
 use crate::Boards;
+use smallvec::SmallVec;
 
 /// What comes next after a board that was reached, by places in the list of those boards.
 #[derive(Debug, Drop)]
@@ -9,9 +10,9 @@ pub struct NextPlaces {
     pub lefts: usize,
     /// How many parts each board has that a move leads to: those of Left's moves, then those of Right's, in the order of the
     /// moves. Where boards aren't cut, each is its own only part.
-    pub counts: Vec<usize>,
+    pub counts: SmallVec<usize, 4>,
     /// The places of these parts in the list, board by board. Each is a place before the board's own.
-    pub places: Vec<usize>,
+    pub places: SmallVec<usize, 4>,
 }
 
 /// The boards that play can come to, and what comes next after each of them.

@@ -12,6 +12,7 @@ ghost use Rattle.cg_moves.specs.declared.walk.Task.TheVariants.{Enter};
 
 use crate::exploring::Explored;
 use crate::{Board, Boards, NextPlaces, Opened};
+use smallvec::SmallVec;
 use std::alloc::{AllocError, Global};
 use std::mem;
 
@@ -33,18 +34,16 @@ struct Seen {
     left: Vec<NextPlaces>,
 }
 
-/// The places of these numbers, which all have one.
-fn places_of(places: &[Option<usize>], numbers: Vec<usize>) -> Vec<usize>
-    requires below { AreBelow (length places.now) numbers.items }
-    requires placed { (n : ℕ) → In n numbers.items → IsSome (place_of places.now n) }
-    ensures { map (place_of places.now) numbers.items ≡ map Some result.items }
+/// Puts the places of these numbers, which all have one, in their place.
+fn place_all(places: &[Option<usize>], numbers: &mut [usize])
+    requires below { AreBelow (length places.now) numbers.old }
+    requires placed { (n : ℕ) → In n numbers.old → IsSome (place_of places.now n) }
+    ensures { map (place_of places.now) numbers.old ≡ map Some numbers.new }
 {
-    let mut all = numbers;
-    for index in 0..all.len() {
-        let place = places[all[index]];
-        all[index] = place.unwrap();
+    for index in 0..numbers.len() {
+        let place = places[numbers[index]];
+        numbers[index] = place.unwrap();
     }
-    all
 }
 
 /// Puts the board with the number behind those that were seen, unless it is there.
@@ -63,15 +62,15 @@ fn see(alloc: Global, boards: &[Board], seen: &mut Seen, number: usize) -> Resul
     }
     let none = NextPlaces {
         lefts: 0,
-        counts: Vec::new(alloc),
-        places: Vec::new(alloc),
+        counts: SmallVec::new(alloc),
+        places: SmallVec::new(alloc),
     };
     let NextPlaces {
         lefts,
         counts,
-        places: numbers,
+        mut places,
     } = mem::replace(&mut seen.left[number], none);
-    let places = places_of(&seen.places, numbers);
+    place_all(&seen.places, places.as_mut_slice());
     seen.next.push(NextPlaces {
         lefts,
         counts,
@@ -191,10 +190,10 @@ pub(crate) fn in_their_order(alloc: Global, explored: Explored) -> Result<Opened
     let Explored {
         boards: found,
         next: left,
-        starts: numbers,
+        mut starts,
     } = explored;
-    let seen = see_all(alloc, &found, left, &numbers)?;
-    let starts = places_of(&seen.places, numbers);
+    let seen = see_all(alloc, &found, left, &starts)?;
+    place_all(&seen.places, starts.as_mut_slice());
     let Seen {
         boards,
         next,

@@ -20,13 +20,6 @@ pub(crate) struct HopWords {
     pub(crate) jumps: u64,
 }
 
-impl HopWords {
-    /// How many hops there are.
-    fn count(self) -> usize {
-        self.steps.count_ones() as usize + self.jumps.count_ones() as usize
-    }
-}
-
 /// The player's hops on the board.
 fn hop_words(board: &Board, player: Player) -> HopWords
     requires { toads_game.has board.now ≡ true }
@@ -141,16 +134,22 @@ fn put_hops_at(
     }
 }
 
-/// The boards after the player's hops, from the first cell on.
-fn hops_on(alloc: Global, board: &Board, player: Player) -> Result<Vec<Board>, AllocError>
-    requires { toads_game.has board.now ≡ true }
+/// The boards after the player's hops, from the first cell on, put into the room.
+fn hops_on(
+    alloc: Global,
+    board: &Board,
+    player: Player,
+    room: Vec<Board>,
+) -> Result<Vec<Board>, AllocError>
+    requires has { toads_game.has board.now ≡ true }
+    requires room { room.items ≡ [] }
     ensures { IfOk result (λ boards. boards.items ≡
         map (with_cells board.now) (hops_below player board.now.cells (length board.now.cells))) }
 {
     // Read for the proof alone: the board has at most 64 cells.
     let _size = board.size();
     let words = hop_words(board, player);
-    let mut boards = Vec::with_capacity(alloc, words.count())?;
+    let mut boards = room;
     let all = words.steps | words.jumps;
     let mut next = 0;
     let mut left = moved_back(all, next);
@@ -163,12 +162,19 @@ fn hops_on(alloc: Global, board: &Board, player: Player) -> Result<Vec<Board>, A
     Ok(boards)
 }
 
-/// The boards after the player's hops: Left's from the first cell on, and Right's from the last one back, so that they rise.
-pub(crate) fn hops(alloc: Global, board: &Board, player: Player) -> Result<Vec<Board>, AllocError>
-    requires { toads_game.has board.now ≡ true }
+/// The boards after the player's hops, put into the room: Left's from the first cell on, and Right's from the last one back, so
+/// that they rise.
+pub(crate) fn hops(
+    alloc: Global,
+    board: &Board,
+    player: Player,
+    room: Vec<Board>,
+) -> Result<Vec<Board>, AllocError>
+    requires has { toads_game.has board.now ≡ true }
+    requires room { room.items ≡ [] }
     ensures { IfOk result (λ boards. boards.items ≡ map (with_cells board.now) (hops_made player board.now.cells)) }
 {
-    let mut boards = hops_on(alloc, board, player)?;
+    let mut boards = hops_on(alloc, board, player, room)?;
     match player {
         Player::Left => Ok(boards),
         Player::Right => {

@@ -19,8 +19,19 @@ impl Rules for Toads {
     ghost lawful = { λ _. toads_lawful };
 
     fn moves(&self, alloc: Global, board: &Board, player: Player) -> Result<Boards, AllocError> {
-        let boards = hops(alloc, board, player)?;
+        let boards = hops(alloc, board, player, Vec::new(alloc))?;
         risen(alloc, board, boards)
+    }
+
+    fn moves_into(
+        &self,
+        alloc: Global,
+        board: &Board,
+        player: Player,
+        room: Vec<Board>,
+    ) -> Result<Vec<Board>, AllocError> {
+        let boards = hops(alloc, board, player, room)?;
+        Ok(risen(alloc, board, boards)?.into_vec())
     }
 
     fn pieces(&self, _alloc: Global, _board: &Board) -> Result<Pieces, AllocError> {

@@ -6,6 +6,7 @@ ghost use Rattle.cg_values.specs.Notes.{places};
 
 use cg_moves::words::bit;
 use cg_moves::{Board, Planes};
+use smallvec::SmallVec;
 use std::alloc::{AllocError, Global};
 
 /// How many cells a content holds.
@@ -37,12 +38,12 @@ fn content_of(planes: Planes, start: u8, end: u8) -> u32
 }
 
 /// The contents of so many cells.
-fn contents_in(alloc: Global, planes: Planes, size: u8) -> Result<Vec<u32>, AllocError>
+fn contents_in(alloc: Global, planes: Planes, size: u8) -> Result<SmallVec<u32, 4>, AllocError>
     requires { size ≤ 64 }
     ensures written { IfOk result (λ all. AreWritten (places_at planes 0 size) all.items) }
     ensures few { IfOk result (λ all. length all.items ≤ 4) }
 {
-    let mut all = Vec::new(alloc);
+    let mut all = SmallVec::new(alloc);
     let mut start = 0;
     while start < size {
         let end = (start + CELLS).min(size);
@@ -53,7 +54,7 @@ fn contents_in(alloc: Global, planes: Planes, size: u8) -> Result<Vec<u32>, Allo
 }
 
 /// The contents of the board, whose row has at most 4 symbols.
-pub(crate) fn contents_of(alloc: Global, board: &Board) -> Result<Vec<u32>, AllocError>
+pub(crate) fn contents_of(alloc: Global, board: &Board) -> Result<SmallVec<u32, 4>, AllocError>
     requires { length board.now.symbols ≤ 4 }
     ensures written { IfOk result (λ all. AreWritten (places board.now.symbols board.now.cells) all.items) }
     ensures few { IfOk result (λ all. length all.items ≤ 4) }

@@ -38,7 +38,7 @@ fn made_item<B: BoardForms, S: CellStore<GameFacts<B>>, R: Rules>(
     ensures spare { OnOk result ((work_state S.state work.old).spare + 8 ≤ (work_state S.state work.new).spare) }
     ensures more { (work_state S.state work.old).spare ≤ (work_state S.state work.new).spare }
 {
-    let (lefts, rights) = options.handles.split_at(options.lefts);
+    let (lefts, rights) = options.handles.as_slice().split_at(options.lefts);
     canonical(alloc, work, lefts, rights, 8)
 }
 
@@ -124,11 +124,11 @@ fn numbered_item<B: BoardForms, S: CellStore<GameFacts<B>>, R: Rules>(
     let contents = contents_of(alloc, board)?;
     let claims = contents.len() as u64 + 1;
     if work.spare() >= start + claims {
-        let cell = cell_of(work, rules, board, &contents);
+        let cell = cell_of(work, rules, board, contents.as_slice());
         return noted_item(alloc, work, rules, board, options, cell);
     }
     let value = made_item(alloc, work, rules, board, options)?;
-    let cell = cell_of(work, rules, board, &contents);
+    let cell = cell_of(work, rules, board, contents.as_slice());
     work.note(cell, value.id());
     Ok(value)
 }

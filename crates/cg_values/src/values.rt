@@ -20,6 +20,7 @@ use cg_canon::{ValueFault, Work};
 use cg_cells::CellStore;
 use cg_moves::{Board, NextPlaces, Opened, Rules};
 use cg_nodes::{BoardForms, GameFacts, Handle};
+use smallvec::SmallVec;
 use std::alloc::Global;
 
 /// A part that play can come to, what comes next after it, and the handles of the values of the parts before it.
@@ -53,11 +54,11 @@ fn part_value<B: BoardForms, S: CellStore<GameFacts<B>>, R: Rules, A: Adder>(
     ensures spare { start ≤ (work_state S.state work.new).spare }
 {
     let mut places: &[usize] = &part.next.places;
-    let mut options = Vec::with_capacity(alloc, part.next.counts.len())?;
-    for count in &part.next.counts {
+    let mut options = SmallVec::with_capacity(alloc, part.next.counts.len())?;
+    for count in part.next.counts.as_slice() {
         let (own, others) = places.split_at(*count);
         let option = joined(alloc, work, adder, part.handles, own)?;
-        options.push(option)?;
+        options.push_reserved(option);
         places = others;
     }
     let options = Options {

@@ -1,4 +1,4 @@
-use Rattle.std.proofs.Common.{List, ◌++◌, ◌<◌, length, ap, subst, sym, arith}
+use Rattle.std.proofs.Common.{ℕ, List, ◌++◌, ◌<◌, length, ap, subst, sym, arith}
 use Rattle.std.specs.Prelude.{Err}
 use Rattle.std.proofs.lemmas.Result.{err_from_is_err_and}
 use Rattle.cg_moves.specs.Explored.{IsExplored, Numbers, Way, board_at}
@@ -34,12 +34,14 @@ boards-init g c =
     let r = g.R.Rules.game c.args.rules.now in
     let P : List Grid → Type 0 = λ z. Numbers c.args.limit c.new-found.result c.number_all.new.found c.new-places.result.items
     c.number_all.new.places.items z in
+    let Q : List ℕ → Type 0 = λ z. Numbers c.args.limit c.new-found.result c.number_all.new.found c.new-places.result.items z
+    c.args.starts.items in
     record {
       exploring = exploring-begun (record { game = r; course = c.args.course; starts = c.args.starts.items })
           (plays r (g.met.R.Rules.lawful c.args.rules.now) c.args.course c.requires.may) c.requires.starts c.args.limit
-          c.new-found.result c.number_all.new.found c.new-places.result.items c.number_all.new.places.items c.new-next.result.items
+          c.new-found.result c.number_all.new.found c.new-places.result.items c.in_ok-places.places.items c.new-next.result.items
           c.new-found.ensures c.new-places.ensures.items c.new-next.ensures.items
-          (subst P c.deref.ensures.value c.in_ok-number_all.ensures.numbers) c.requires.alone;
+          (subst Q (sym c.in_ok-places.ensures.ok) (subst P c.deref.ensures.value c.in_ok-number_all.ensures.numbers)) c.requires.alone;
     }
 
 pub next_after-requires-clause-has : goal.next_after-requires-clause-has
@@ -47,7 +49,7 @@ next_after-requires-clause-has g c =
     let r = g.R.Rules.game c.args.rules.now in
     exploring-has (record { game = r; course = c.args.course; starts = c.args.starts.items })
     (plays r (g.met.R.Rules.lawful c.args.rules.now) c.args.course c.requires.may) c.requires.starts c.args.limit
-    c.boards.found c.boards.next.items c.number_all.new.places.items c.boards.invariant.exploring c.len-in-boards-2.result
+    c.boards.found c.boards.next.items c.in_ok-places.places.items c.boards.invariant.exploring c.len-in-boards-2.result
     (omega arith) (omega arith)
 
 pub next_after-requires-clause-alike : goal.next_after-requires-clause-alike
@@ -55,7 +57,7 @@ next_after-requires-clause-alike g c =
     let r = g.R.Rules.game c.args.rules.now in
     exploring-alike (record { game = r; course = c.args.course; starts = c.args.starts.items })
     (plays r (g.met.R.Rules.lawful c.args.rules.now) c.args.course c.requires.may) c.requires.starts c.args.limit
-    c.boards.found c.boards.next.items c.number_all.new.places.items c.boards.invariant.exploring c.len-in-boards-2.result
+    c.boards.found c.boards.next.items c.in_ok-places.places.items c.boards.invariant.exploring c.len-in-boards-2.result
     (omega arith) (omega arith)
     (follower-symbols r (g.met.R.Rules.lawful c.args.rules.now) (board_at c.boards.found c.len-in-boards-2.result))
 
@@ -65,7 +67,7 @@ returns-in_err-more-clause-refused g c =
     let r = g.R.Rules.game c.args.rules.now in
     exploring-refused (record { game = r; course = c.args.course; starts = c.args.starts.items })
     (plays r (g.met.R.Rules.lawful c.args.rules.now) c.args.course c.requires.may) c.requires.starts c.args.limit
-    c.boards.found c.boards.next.items c.number_all.new.places.items c.boards.invariant.exploring c.len-in-boards-2.result
+    c.boards.found c.boards.next.items c.in_ok-places.places.items c.boards.invariant.exploring c.len-in-boards-2.result
     (omega arith) (omega arith) (c.in_err-more.ensures.refused (ap Err (passed_on p.0 c.in_err-more.field-0.0
     c.from_residual-in_err-more.result p.1 p.2 e)))
 
@@ -74,12 +76,12 @@ boards-preserved g c =
     let r = g.R.Rules.game c.args.rules.now in
     let has = exploring-has (record { game = r; course = c.args.course; starts = c.args.starts.items })
     (plays r (g.met.R.Rules.lawful c.args.rules.now) c.args.course c.requires.may) c.requires.starts c.args.limit
-    c.boards.found c.boards.next.items c.number_all.new.places.items c.boards.invariant.exploring c.len-in-boards-2.result
+    c.boards.found c.boards.next.items c.in_ok-places.places.items c.boards.invariant.exploring c.len-in-boards-2.result
     (omega arith) (omega arith) in
     record {
       exploring = exploring-more (record { game = r; course = c.args.course; starts = c.args.starts.items })
           (plays r (g.met.R.Rules.lawful c.args.rules.now) c.args.course c.requires.may) c.requires.starts c.args.limit
-          c.boards.found c.boards.next.items c.number_all.new.places.items c.boards.invariant.exploring c.len-in-boards-2.result
+          c.boards.found c.boards.next.items c.in_ok-places.places.items c.boards.invariant.exploring c.len-in-boards-2.result
           (omega arith) (omega arith) c.next_after.new.found c.in_ok-more.more c.push.new.self.items c.in_ok-more.ensures.found
           c.in_ok-more.ensures.within c.in_ok-more.ensures.next c.in_ok-push.ensures.items
           (λ s q m n. part-alone r (g.met.R.Rules.lawful c.args.rules.now) c.args.course c.requires.may s q
@@ -90,8 +92,8 @@ pub returns-clause-explored : goal.returns-clause-explored
 returns-clause-explored g c =
     let r = g.R.Rules.game c.args.rules.now in
     let w : Way = record { game = r; course = c.args.course; starts = c.args.starts.items } in
-    let P : List Grid → Type 0 = λ z. IsExplored w z c.boards.next.items c.number_all.new.places.items in
+    let P : List Grid → Type 0 = λ z. IsExplored w z c.boards.next.items c.in_ok-places.places.items in
     subst P (sym c.into_boards.ensures) (exploring-done w
     (plays r (g.met.R.Rules.lawful c.args.rules.now) c.args.course c.requires.may) c.requires.starts c.args.limit
-    c.boards.found c.boards.next.items c.number_all.new.places.items c.boards.invariant.exploring
+    c.boards.found c.boards.next.items c.in_ok-places.places.items c.boards.invariant.exploring
     (λ left. let out = c.boards-test.false in omega arith))

@@ -25,5 +25,5 @@ loop-board-preserved c = record {
       c.loop-board.places.items c.push.new.self.items c.loop-board.invariant.numbers
       (numbers-one c.args.limit c.loop-board.found c.number.new.self c.loop-board.places.items c.push.new.self.items
       c.board-item.result c.in_ok-number.number c.in_ok-number.ensures.boards c.in_ok-number.ensures.number
-      c.in_ok-number.ensures.within c.in_ok-push.ensures.items);
+      c.in_ok-number.ensures.within c.in_ok-push.ensures.ok);
 }

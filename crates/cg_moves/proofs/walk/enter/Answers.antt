@@ -33,7 +33,7 @@ enter_all-requires g c n m =
     c.args.seen.now.places.items c.requires.1.0 c.args.number c.requires.1.1.1.0
     (ap is_some (read-as c.args.seen.now.places.items c.args.number c.index.result.now None (omega arith) c.index.ensures)
     ∙ sym c.is_some.ensures ∙ c.if-is_some.false) c.index-2.result.now c.index-2.ensures n (carry n c.deref-2.result.now
-    c.index-2.result.now.places.items c.deref-2.ensures.value m) in
+    c.index-2.result.now.places.items c.deref-2.ensures m) in
     omega arith
 
 pub returns-clause-walk : goal.returns-clause-walk
@@ -54,7 +54,7 @@ returns-clause-walk g c =
     (ap is_some (read-as c.args.seen.now.places.items c.args.number c.index.result.now None (omega arith) c.index.ensures)
     ∙ sym c.is_some.ensures ∙ c.if-is_some.false) c.index-2.result.now c.index-2.ensures (entered-as (tasks ++ (Leave c.args.number ∷ []))
     c.push.new.self.items c.enter_all.new.tasks.items c.deref.result.now places c.deref-2.result.now
-    c.index-2.result.now.places.items e c.in_ok-push.ensures.items c.deref.ensures.value c.deref-2.ensures.value)))
+    c.index-2.result.now.places.items e c.in_ok-push.ensures.items c.deref.ensures.value c.deref-2.ensures)))
     c.enter_all.ensures
 
 pub returns-clause-below : goal.returns-clause-below
@@ -73,5 +73,5 @@ returns-clause-below g c =
     ∙ sym c.is_some.ensures ∙ c.if-is_some.false) c.index-2.result.now c.index-2.ensures c.requires.1.1.1.1
     (entered-as (tasks ++ (Leave c.args.number ∷ []))
     c.push.new.self.items c.enter_all.new.tasks.items c.deref.result.now places c.deref-2.result.now
-    c.index-2.result.now.places.items e c.in_ok-push.ensures.items c.deref.ensures.value c.deref-2.ensures.value))
+    c.index-2.result.now.places.items e c.in_ok-push.ensures.items c.deref.ensures.value c.deref-2.ensures))
     c.enter_all.ensures

@@ -16,7 +16,7 @@ loop-start-preserved c =
       full = λ h. omega arith;
       few = omega arith;
       written = more_written c.args.planes c.loop-start.all.items c.push.new.self.items c.content_of.result
-          c.loop-start.start c.min-end.result c.args.size c.loop-start.invariant.written c.in_ok-push.ensures.items
+          c.loop-start.start c.min-end.result c.args.size c.loop-start.invariant.written c.in_ok-push.ensures.ok
           c.content_of.ensures (omega arith) (omega arith)
           (elim (cases_lt c.args.size (c.loop-start.start + 16)) [
             | inl h ↦ inr (omega arith, omega arith)

@@ -13,14 +13,14 @@ use Rattle.cg_values.proofs.item.made_item.Goals as goal
 pub canonical-requires-clause-lefts : goal.canonical-requires-clause-lefts
 canonical-requires-clause-lefts g c =
     let both = options-split (work_state g.S.CellStore.state c.args.work.now) (g.R.Rules.game c.args.rules.now) c.args.board.now
-    c.args.options.now c.requires.options c.deref.result.now c.split_at.result.0.now c.split_at.result.1.now c.deref.ensures.value
+    c.args.options.now c.requires.options c.as_slice.result.now c.split_at.result.0.now c.split_at.result.1.now c.as_slice.ensures
     c.split_at.ensures.front c.split_at.ensures.back in
     both.0.0
 
 pub canonical-requires-clause-rights : goal.canonical-requires-clause-rights
 canonical-requires-clause-rights g c =
     let both = options-split (work_state g.S.CellStore.state c.args.work.now) (g.R.Rules.game c.args.rules.now) c.args.board.now
-    c.args.options.now c.requires.options c.deref.result.now c.split_at.result.0.now c.split_at.result.1.now c.deref.ensures.value
+    c.args.options.now c.requires.options c.as_slice.result.now c.split_at.result.0.now c.split_at.result.1.now c.as_slice.ensures
     c.split_at.ensures.front c.split_at.ensures.back in
     both.1.0
 
@@ -31,7 +31,7 @@ returns-clause-game g c =
     let p = c.args.board.now in
     let ls = c.split_at.result.0.now in
     let rs = c.split_at.result.1.now in
-    let both = options-split s r p c.args.options.now c.requires.options c.deref.result.now ls rs c.deref.ensures.value
+    let both = options-split s r p c.args.options.now c.requires.options c.as_slice.result.now ls rs c.as_slice.ensures
     c.split_at.ensures.front c.split_at.ensures.back in
     let same = value-options s r (g.met.R.Rules.lawful c.args.rules.now) p ls rs c.requires.has both.0 both.1 in
     let F : Game → Type 0 = λ z. IfOk c.canonical.result (λ h. StandsFor (work_state g.S.CellStore.state
@@ -45,7 +45,7 @@ returns-clause-made g c =
     let p = c.args.board.now in
     let ls = c.split_at.result.0.now in
     let rs = c.split_at.result.1.now in
-    let both = options-split s r p c.args.options.now c.requires.options c.deref.result.now ls rs c.deref.ensures.value
+    let both = options-split s r p c.args.options.now c.requires.options c.as_slice.result.now ls rs c.as_slice.ensures
     c.split_at.ensures.front c.split_at.ensures.back in
     let same = value-options s r (g.met.R.Rules.lawful c.args.rules.now) p ls rs c.requires.has both.0 both.1 in
     let f : Game → Item = λ z. made z 8 in
