@@ -13,3 +13,12 @@ ok_along (Err f) a b e h = tt
 
 pub ok_is : {X E : Type 0} (a b : X) → ◌≡◌ {A = Result X E} (Ok a) (Ok b) → a ≡ b
 ok_is a b e = cc
+
+-- what an Ok tells
+pub if_ok : {A E : Type 0} (P Q : A → Type 0) (r : Result A E) → ((x : A) → P x → Q x) → IfOk r P → IfOk r Q
+if_ok P Q (Ok x) f h = f x h
+if_ok P Q (Err x) f h = tt
+
+pub ok_any : {A E : Type 0} (Q : Type 0) (r : Result A E) → Q → IfOk r (λ _. Q)
+ok_any Q (Ok x) h = h
+ok_any Q (Err x) h = tt

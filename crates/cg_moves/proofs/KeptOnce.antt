@@ -1,16 +1,14 @@
 -- Boards that are kept stand there once.
-use Rattle.std.proofs.Common.{◌≡◌, refl, ◌≤◌, Bool, true, false, ◌||◌, inl, inr, ⊎_elim, List, [], ◌∷◌, ◌++◌, length, ap, sym, ◌∙◌, subst}
+use Rattle.std.proofs.Common.{◌≡◌, refl, ◌≤◌, Bool, true, false, ◌||◌, inl, inr, ⊎_elim, List, [], ◌∷◌, length, ap, sym, ◌∙◌, subst}
 use Rattle.std.specs.Cmp.{IsEquivalence}
 use Rattle.std.specs.List.{IsDistinct, list_any}
 use Rattle.std.proofs.lemmas.Bool.{cases_Bool}
 use Rattle.std.proofs.lemmas.Map.Keys.{IsDistinct-push}
 use Rattle.std.proofs.lemmas.Map.Made.{length-le_from_is_member}
-use Rattle.cg_moves.specs.Explored.{StandOnce}
 use Rattle.cg_moves.specs.Grid.{Grid, is_same}
 use Rattle.cg_moves.specs.Kept.{kept, one_more}
 use Rattle.cg_moves.specs.Rules.{In}
 use Rattle.cg_moves.proofs.KeptLemmas.{in_or_not, kept-among, kept-has, one_more-new, one_more-there}
-use Rattle.cg_moves.proofs.PlaceLemmas.{at-back, at-in}
 use Rattle.cg_moves.proofs.Same.{is_same-back, is_same-refl}
 
 -- ---- how many there are
@@ -64,28 +62,3 @@ kept-fewer_kept xs ys among = kept-fewer xs (kept [] ys) (λ q m. elim (kept-amo
   | inl nothing ↦ absurd nothing
   | inr one ↦ kept-has [] ys q (among q one)
 ])
-
--- ---- their places
-
-once-more : (seen : List Grid) (x : Grid) → StandOnce seen → ¬ In x seen → StandOnce (seen ++ (x ∷ []))
-once-more seen x h out i j p m n =
-    let P : Grid → Type 0 = λ z. In z seen in
-    elim (at-back seen x i p m) [
-      | inl k ↦ elim (at-back seen x j p n) [
-        | inl l ↦ h i j p k l
-        | inr l ↦ absurd (out (subst P (sym l.1) (at-in seen i p k)))
-      ]
-      | inr k ↦ elim (at-back seen x j p n) [
-        | inl l ↦ absurd (out (subst P (sym k.1) (at-in seen j p l)))
-        | inr l ↦ k.0 ∙ sym l.0
-      ]
-    ]
-
-pub kept-once : (seen xs : List Grid) → StandOnce seen → StandOnce (kept seen xs)
-kept-once seen [] h = h
-kept-once seen (x ∷ xs) h =
-    let P : List Grid → Type 0 = λ z. StandOnce z in
-    kept-once (one_more seen x) xs (elim (in_or_not seen x) [
-      | inl there ↦ subst P (sym (one_more-there seen x there)) h
-      | inr out ↦ subst P (sym (one_more-new seen x out)) (once-more seen x h out)
-    ])

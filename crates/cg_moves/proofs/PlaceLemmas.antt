@@ -1,6 +1,5 @@
 -- Boards by their places in lists.
-use Rattle.std.proofs.Common.{◌≡◌, refl, ℕ, zero, suc, ◌<◌, ◌⊎◌, inl, inr, List, [], ◌∷◌, ◌++◌, length, get_or, ap, sym, subst, arith}
-use Rattle.cg_moves.specs.Explored.{AreBelow, board_at}
+use Rattle.std.proofs.Common.{◌≡◌, refl, ℕ, zero, suc, ◌<◌, ◌⊎◌, inl, inr, List, [], ◌∷◌, ◌++◌, length, ap, sym, subst, arith, take, drop, get_or}
 use Rattle.cg_moves.specs.Grid.{Grid}
 use Rattle.cg_moves.specs.Kept.{kept, one_more}
 use Rattle.cg_moves.specs.Opened.{IsAt, StandAt}
@@ -39,16 +38,6 @@ at-below [] n p m = absurd m
 at-below (x ∷ ps) zero p m = omega arith
 at-below (x ∷ ps) (suc n) p m = let h = at-below ps n p m in omega arith
 
-pub at-board : (ps : List Grid) (n : ℕ) → n < length ps → IsAt ps n (board_at ps n)
-at-board [] n l = absurd (omega arith)
-at-board (x ∷ ps) zero l = refl
-at-board (x ∷ ps) (suc n) l = at-board ps n (omega arith)
-
-pub board-at : (ps : List Grid) (n : ℕ) (p : Grid) → IsAt ps n p → board_at ps n ≡ p
-board-at [] n p m = absurd m
-board-at (x ∷ ps) zero p m = m
-board-at (x ∷ ps) (suc n) p m = board-at ps n p m
-
 pub board-read : (ps : List Grid) (n : ℕ) (p : Grid) → n < length ps → p ≡ get_or ps n p → IsAt ps n p
 board-read [] n p l e = absurd (omega arith)
 board-read (x ∷ ps) zero p l e = sym e
@@ -81,8 +70,19 @@ stand-append ps [] (q ∷ qs) ms rs h k = absurd h
 stand-append ps (n ∷ ns) [] ms rs h k = absurd h
 stand-append ps (n ∷ ns) (q ∷ qs) ms rs h k = (h.0, stand-append ps ns qs ms rs h.1 k)
 
-pub stand-below : (ps : List Grid) (ns : List ℕ) (qs : List Grid) → StandAt ps ns qs → AreBelow (length ps) ns
-stand-below ps [] qs h n m = absurd m
-stand-below ps (k ∷ ns) [] h n m = absurd h
-stand-below ps (k ∷ ns) (q ∷ qs) h n (inl e) = let l = at-below ps k q h.0 in omega (arith, l, e)
-stand-below ps (k ∷ ns) (q ∷ qs) h n (inr m) = stand-below ps ns qs h.1 n m
+pub stand-size : (list : List Grid) (ns : List ℕ) (qs : List Grid) → StandAt list ns qs → length ns ≡ length qs
+stand-size list [] [] h = refl
+stand-size list [] (q ∷ qs) h = absurd h
+stand-size list (n ∷ ns) [] h = absurd h
+stand-size list (n ∷ ns) (q ∷ qs) h = let l = stand-size list ns qs h.1 in omega arith
+
+-- the places of the first of the boards, and those of the others
+pub stand-front : (list : List Grid) (ns : List ℕ) (qs rs : List Grid) → StandAt list ns (qs ++ rs) → StandAt list (take (length qs) ns) qs
+stand-front list ns [] rs h = tt
+stand-front list [] (q ∷ qs) rs h = absurd h
+stand-front list (n ∷ ns) (q ∷ qs) rs h = (h.0, stand-front list ns qs rs h.1)
+
+pub stand-behind : (list : List Grid) (ns : List ℕ) (qs rs : List Grid) → StandAt list ns (qs ++ rs) → StandAt list (drop (length qs) ns) rs
+stand-behind list ns [] rs h = h
+stand-behind list [] (q ∷ qs) rs h = absurd h
+stand-behind list (n ∷ ns) (q ∷ qs) rs h = stand-behind list ns qs rs h.1

@@ -1,6 +1,6 @@
 -- Boards that were found, with their numbers in a map by their keys.
 use Rattle.std.proofs.Common.{◌≡◌, refl, ℕ, zero, suc, cond, ◌⊎◌, inl, inr, ⊎_elim, true, false, List, [], ◌∷◌, ◌++◌, length, ap, sym, ◌∙◌, subst}
-use Rattle.std.specs.Prelude.{IfSome, None, Option, Some}
+use Rattle.std.specs.Prelude.{IfNone, IfSome, None, Option, Some}
 use Rattle.std.specs.HashMap.{HashMap, get}
 use Rattle.std.proofs.lemmas.Bool.{cases_Bool, cond-false, cond-true}
 use Rattle.cg_moves.specs.declared.key.BoardKey.{BoardKey}
@@ -11,7 +11,7 @@ use Rattle.cg_moves.specs.Rules.{In}
 use Rattle.cg_moves.specs.Seen.{AreGrids, key_eq, key_of}
 use Rattle.cg_moves.proofs.KeyLemmas.{key_eq-back, key_eq-same, one-key}
 use Rattle.cg_moves.proofs.Members.{in-append, in-append_left, in-append_right, in_one}
-use Rattle.cg_moves.proofs.PlaceLemmas.{in-at}
+use Rattle.cg_moves.proofs.PlaceLemmas.{at-in, in-at}
 
 -- ---- keys at places
 
@@ -96,6 +96,14 @@ module _ {S : Type 0} (s : HashMap BoardKey ℕ S) (key : BoardKey) (boards : Li
       let e = (h (key_of p) number).1 (key_at-at boards number p k) in
       let f = ap (get key_eq s) is in cc
 
+  -- a new board's key isn't there
+  pub get-none : AreGrids boards → IsGrid p → AreAlike (boards ++ (p ∷ [])) → ¬ In p boards → get key_eq s key ≡ None
+  get-none all g like out = go (get key_eq s key) refl
+    where
+      go : (o : Option ℕ) → get key_eq s key ≡ o → o ≡ None
+      go (Some n) e = absurd (out (at-in boards n p (numbered n all g like e)))
+      go None e = refl
+
 pub grids-more : (boards : List Grid) (p : Grid) → AreGrids boards → IsGrid p → AreGrids (boards ++ (p ∷ []))
 grids-more boards p all g q m = elim (in-append q boards (p ∷ []) m) [
   | inl there ↦ all q there
@@ -106,3 +114,7 @@ grids-more boards p all g q m = elim (in-append q boards (p ∷ []) m) [
 pub if_some : {X : Type 0} (P : X → Type 0) (o : Option X) → ((x : X) → o ≡ Some x → P x) → IfSome o P
 if_some P (Some x) h = h x refl
 if_some P None h = tt
+
+pub if_none : {X : Type 0} (P : Type 0) (o : Option X) → (o ≡ None → P) → IfNone o P
+if_none P (Some x) h = tt
+if_none P None h = h refl

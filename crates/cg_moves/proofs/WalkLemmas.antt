@@ -1,17 +1,16 @@
 -- What each task of a walk leaves to do.
-use Rattle.std.proofs.Common.{◌≡◌, ◌+◌, true, ◌⊎◌, inl, inr, List, [], ◌∷◌, ◌++◌, length, length-append, append_assoc, ap, sym, ◌∙◌, subst, arith}
+use Rattle.std.proofs.Common.{◌≡◌, ◌+◌, true, inl, inr, List, [], ◌∷◌, ◌++◌, length, length-append, append_assoc, ap, sym, ◌∙◌, subst, arith}
 use Rattle.std.specs.List.{flat_map}
 use Rattle.std.proofs.lemmas.List.{append-nil}
 use Rattle.cg_moves.specs.Grid.{Grid}
 use Rattle.cg_moves.specs.Kept.{kept, one_more}
 use Rattle.cg_moves.specs.Plays.{IsPlay, Play}
 use Rattle.cg_moves.specs.Rules.{In}
-use Rattle.cg_moves.specs.Walks.{AreReady, GoesOn, IsWalk, Visit, Enters, Leaves, boards_left, entered, unseen}
+use Rattle.cg_moves.specs.Walks.{AreReady, GoesOn, IsWalk, Visit, Enters, Leaves, boards_left, entered}
 use Rattle.cg_moves.proofs.ComesAfter.{own-all}
 use Rattle.cg_moves.proofs.TaskLemmas.{boards_left-append, boards_left-entered, known-append, known-back, known-entered, known-front, load-append, load-entered, ready-change, ready-entered, ready-last}
-use Rattle.cg_moves.proofs.UnseenLemmas.{kept-unseen, unseen-among, unseen-fewer, unseen-has}
-use Rattle.cg_moves.proofs.KeptLemmas.{in_or_not, kept-append, kept-there, one_more-among, one_more-has, one_more-keeps}
-use Rattle.cg_moves.proofs.Members.{carry, in-append, in-append_left, in-append_right, in-flat_map, in_flat_mapped, in_one}
+use Rattle.cg_moves.proofs.KeptLemmas.{kept-append, kept-there, one_more-among, one_more-has, one_more-keeps}
+use Rattle.cg_moves.proofs.Members.{carry, in-append, in_flat_mapped, in_one}
 
 module _ (r : Play) where
   module _ (lawful : IsPlay r) (seen : List Grid) (tasks : List Visit) (p : Grid) where
@@ -40,78 +39,46 @@ module _ (r : Play) where
           less = omega arith;
         }
 
-    -- what comes after the next boards was seen, or comes after one that wasn't
-    ahead : IsWalk r seen (tasks ++ (Enters p ∷ [])) → (q : Grid) → In q (flat_map r.all (r.next p))
-        → In q seen ⊎ In q (flat_map r.all (unseen seen (r.next p)))
-    ahead w q m = let (x, n, k) = in-flat_map r.all q (r.next p) m in elim (in_or_not seen x) [
-      | inl there ↦ inl (w.closed x there q k)
-      | inr out ↦ inr (in_flat_mapped r.all q x (unseen seen (r.next p)) (unseen-has seen (r.next p) x n out) k)
-    ]
-
     entered_tasks : List Visit
-    entered_tasks = (Leaves p ∷ []) ++ entered (unseen seen (r.next p))
+    entered_tasks = (Leaves p ∷ []) ++ entered (r.next p)
 
-    -- the boards that are left are those of the board's tasks
-    entered_left : boards_left r entered_tasks ≡ flat_map r.all (unseen seen (r.next p)) ++ (p ∷ [])
+    -- the boards that are left are those of the board
+    entered_left : r.has p ≡ true → boards_left r entered_tasks ≡ r.all p
     unfolding entered_tasks
-    entered_left = ap (λ z. z ++ (p ∷ [])) (boards_left-entered r (unseen seen (r.next p)))
+    entered_left has = ap (λ z. z ++ (p ∷ [])) (boards_left-entered r (r.next p)) ∙ sym (lawful.all p has)
 
-    entered_rest : IsWalk r seen (tasks ++ (Enters p ∷ []))
+    entered_rest : r.has p ≡ true
         → kept seen (boards_left r (tasks ++ entered_tasks)) ≡ kept seen (boards_left r (tasks ++ (Enters p ∷ [])))
-    entered_rest w =
-        let known = known-back r tasks (Enters p ∷ []) w.known in
-        let some = unseen seen (r.next p) in
-        ap (kept seen) (boards_left-append r tasks entered_tasks)
-        ∙ kept-append seen (boards_left r entered_tasks) (boards_left r tasks)
-        ∙ ap (λ z. kept z (boards_left r tasks)) (ap (kept seen) entered_left
-        ∙ kept-append seen (flat_map r.all some) (p ∷ [])
-        ∙ ap (λ z. kept z (p ∷ [])) (kept-unseen r.all seen seen (r.next p) w.closed)
-        ∙ sym (kept-append seen (flat_map r.all (r.next p)) (p ∷ []))
-        ∙ ap (kept seen) (sym (lawful.all p known.0)))
-        ∙ sym (kept-append seen (r.all p) (boards_left r tasks))
-        ∙ ap (kept seen) (sym (boards_left-append r tasks (Enters p ∷ [])))
+    entered_rest has = ap (kept seen) (boards_left-append r tasks entered_tasks
+        ∙ ap (λ z. z ++ boards_left r tasks) (entered_left has) ∙ sym (boards_left-append r tasks (Enters p ∷ [])))
 
     -- another board is entered
     pub enter_new : (after : List Visit) → IsWalk r seen (tasks ++ (Enters p ∷ []))
-        → after ≡ (tasks ++ (Leaves p ∷ [])) ++ entered (unseen seen (r.next p))
+        → after ≡ (tasks ++ (Leaves p ∷ [])) ++ entered (r.next p)
         → GoesOn r seen seen (tasks ++ (Enters p ∷ [])) after
     unfolding entered_tasks
     enter_new after w shape =
         let known = known-back r tasks (Enters p ∷ []) w.known in
-        let some = unseen seen (r.next p) in
         let n = some-boards known.0 in
         let l = load-append r tasks (Enters p ∷ []) in
         let k = load-append r tasks entered_tasks in
-        let e = load-entered r some in
-        let fewer = unseen-fewer r.all seen (r.next p) in
+        let e = load-entered r (r.next p) in
         let Q : List Visit → Type 0 = λ z. GoesOn r seen seen (tasks ++ (Enters p ∷ [])) z in
-        subst Q (sym (shape ∙ append_assoc tasks (Leaves p ∷ []) (entered some))) (record {
+        subst Q (sym (shape ∙ append_assoc tasks (Leaves p ∷ []) (entered (r.next p)))) (record {
           walk = record {
             known = known-append r tasks entered_tasks (known-front r tasks (Enters p ∷ []) w.known) (
               known.0,
-              known-entered r some (λ q m. lawful.has p q known.0 (unseen-among seen (r.next p) q m)),
+              known-entered r (r.next p) (λ q m. lawful.has p q known.0 m),
             );
             closed = w.closed;
             ready = ready-change r seen seen (Enters p) tasks entered_tasks (λ q m. m)
-                (λ q m. elim (in-append q (flat_map r.all (r.next p)) (p ∷ []) (carry q (r.all p)
-                (flat_map r.all (r.next p) ++ (p ∷ [])) (lawful.all p known.0) m)) [
-                  | inl o ↦ elim (ahead w q o) [
-                    | inl there ↦ inl there
-                    | inr far ↦ inr (carry q (flat_map r.all some ++ (p ∷ [])) (boards_left r entered_tasks) (sym entered_left)
-                        (in-append_left q (flat_map r.all some) (p ∷ []) far))
-                  ]
-                  | inr o ↦ inr (carry q (flat_map r.all some ++ (p ∷ [])) (boards_left r entered_tasks) (sym entered_left)
-                      (in-append_right q (flat_map r.all some) (p ∷ []) o))
-                ]) w.ready (
-                  λ q m. elim (ahead w q m) [
-                    | inl there ↦ inl there
-                    | inr far ↦ inr (carry q (flat_map r.all some) (boards_left r (entered some)) (sym
-                        (boards_left-entered r some)) far)
-                  ],
-                  ready-entered r seen some,
+                (λ q m. inr (carry q (r.all p) (boards_left r entered_tasks) (sym (entered_left known.0)) m)) w.ready (
+                  λ q m. inr (carry q (flat_map r.all (r.next p)) (boards_left r (entered (r.next p)))
+                      (sym (boards_left-entered r (r.next p))) m),
+                  ready-entered r seen (r.next p),
                 );
           };
-          rest = entered_rest w;
+          rest = entered_rest known.0;
           less = omega arith;
         })
 

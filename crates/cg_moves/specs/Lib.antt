@@ -20,5 +20,5 @@ pub mod GridCode
 pub mod Kept
 pub mod Walks
 pub mod Found
-pub mod Explored
+pub mod Walking
 pub mod Rises

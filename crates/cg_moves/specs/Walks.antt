@@ -1,8 +1,8 @@
 -- A walk over boards: what is left to do, and what it adds to what was seen.
-use Rattle.std.specs.Prelude.{◌≡◌, ◌⊎◌, ℕ, ◌+◌, ◌*◌, ◌<◌, true, not, filter, List, [], ◌∷◌, ◌++◌, length}
+use Rattle.std.specs.Prelude.{◌≡◌, ◌⊎◌, ℕ, ◌+◌, ◌*◌, ◌<◌, true, List, [], ◌∷◌, ◌++◌, length}
 use Rattle.std.specs.List.{flat_map}
 use Rattle.cg_moves.specs.Grid.{Grid}
-use Rattle.cg_moves.specs.Kept.{is_in, kept}
+use Rattle.cg_moves.specs.Kept.{kept}
 use Rattle.cg_moves.specs.Plays.{Play}
 use Rattle.cg_moves.specs.Rules.{In}
 
@@ -25,10 +25,6 @@ boards_left r (t ∷ ts) = boards_left r ts ++ visit_boards r t
 abbrev pub entered : List Grid → List Visit
 entered [] = []
 entered (p ∷ ps) = entered ps ++ (Enters p ∷ [])
-
--- the boards that aren't among those that were seen
-abbrev pub unseen : List Grid → List Grid → List Grid
-unseen seen ps = filter (λ p. not (is_in seen p)) ps
 
 -- with each board all that come after it are in the list
 abbrev pub IsClosed : Play → List Grid → Type 0
@@ -78,3 +74,9 @@ pub record GoesOn (r : Play) (old new : List Grid) (before after : List Visit) :
   pub walk : IsWalk r new after
   pub rest : kept new (boards_left r after) ≡ kept old (boards_left r before)
   pub less : load r after < load r before
+
+-- above each task to leave a board stand tasks of boards with a lower measure, and the board wasn't seen
+abbrev pub AreOpen : Play → List Grid → List Visit → Type 0
+AreOpen r seen [] = Unit {0}
+AreOpen r seen (Enters p ∷ ts) = AreOpen r seen ts
+AreOpen r seen (Leaves p ∷ ts) = (¬ In p seen) × ((t : Visit) → In t ts → r.measure (visit_board t) < r.measure p) × AreOpen r seen ts

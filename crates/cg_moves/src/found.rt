@@ -1,8 +1,9 @@
 //! Boards that were found, each with a number.
-ghost use Rattle.std.specs.Prelude.{◌≡◌, ◌<◌, ◌≤◌, ◌∷◌, ◌++◌, [], IfOk, IfSome, length, Err};
+ghost use Rattle.std.specs.Prelude.{◌≡◌, ◌+◌, ◌<◌, ◌≤◌, ◌∷◌, ◌++◌, [], IfNone, IfOk, IfSome, length, Err};
 ghost use Rattle.cg_moves.specs.Found.{AreAlike};
 ghost use Rattle.cg_moves.specs.Kept.{one_more};
 ghost use Rattle.cg_moves.specs.Opened.{IsAt};
+ghost use Rattle.cg_moves.specs.Rules.{In};
 
 use crate::{Board, BoardKey, ReachFault};
 use std::alloc::Global;
@@ -20,12 +21,11 @@ pub(crate) fn emptied(alloc: Global, room: &mut Vec<Board>) -> Vec<Board>
 }
 
 /// Boards in the order in which they were found, each once. A board's number is its place in this order, counted from 0, and
-/// the map has it by the board's key. Contracts see the list of boards. The room is for boards that are yet to be looked for.
+/// the map has it by the board's key. Contracts see the list of boards.
 #[derive(Drop)]
 pub(crate) struct Found {
     boards: Vec<Board>,
     numbers: HashMap<BoardKey, usize>,
-    room: Vec<Board>,
 }
 
 impl Model for Found {
@@ -53,23 +53,7 @@ impl Found {
         Found {
             boards: Vec::new(alloc),
             numbers: HashMap::new(alloc),
-            room: Vec::new(alloc),
         }
-    }
-
-    /// The room for boards, without boards. Until it comes back, it is taken anew.
-    pub(crate) fn take_room(&mut self, alloc: Global) -> Vec<Board>
-        ensures room { result.items ≡ [] }
-        ensures boards { self.new ≡ self.old }
-    {
-        emptied(alloc, &mut self.room)
-    }
-
-    /// Gives the room back.
-    pub(crate) fn give_room(&mut self, room: Vec<Board>)
-        ensures { self.new ≡ self.old }
-    {
-        self.room = room;
     }
 
     /// How many there are.
@@ -90,50 +74,56 @@ impl Found {
     /// The number of the board, if it was found. All have the same symbols.
     pub(crate) fn known(&self, board: &Board) -> Option<usize>
         requires { AreAlike (self.now ++ (board.now ∷ [])) }
-        ensures { IfSome result (λ number. IsAt self.now number board.now) }
+        ensures number { IfSome result (λ number. IsAt self.now number board.now) }
+        ensures new { IfNone result (¬ In board.now self.now) }
     {
         self.numbers.get(&board.key()).copied()
     }
 
-    /// The number of the board, of which a copy is put behind the others where it is new. All have the same symbols.
-    /// `Positions` comes where that would make more boards than the limit.
-    pub(crate) fn number(
-        &mut self,
-        alloc: Global,
-        board: &Board,
-        limit: u64,
-    ) -> Result<usize, ReachFault>
-        requires alike { AreAlike (self.old ++ (board.now ∷ [])) }
+    /// Puts a new board behind the others, and gives its number. All have the same symbols. `Positions` comes where that would
+    /// make more boards than the limit.
+    pub(crate) fn put(&mut self, board: Board, limit: u64) -> Result<usize, ReachFault>
+        requires alike { AreAlike (self.old ++ (board ∷ [])) }
+        requires new { ¬ In board self.old }
         requires within { length self.old ≤ limit }
-        ensures boards { IfOk result (λ _. self.new ≡ one_more self.old board.now) }
-        ensures number { IfOk result (λ number. IsAt self.new number board.now) }
+        ensures boards { IfOk result (λ _. self.new ≡ self.old ++ (board ∷ [])) }
+        ensures number { IfOk result (λ number. number ≡ length self.old) }
         ensures within { IfOk result (λ _. length self.new ≤ limit) }
-        ensures refused { result ≡ Err ReachFault.Positions → limit < length (one_more self.old board.now) }
+        ensures refused { result ≡ Err ReachFault.Positions → limit < length self.old + 1 }
     {
-        let key = board.key();
-        if let Some(number) = self.numbers.get(&key).copied() {
-            return Ok(number);
-        }
         let number = self.boards.len();
         if number as u64 >= limit {
             return Err(ReachFault::Positions);
         }
-        let copy = board.copy(alloc)?;
         self.boards.reserve(1)?;
-        self.numbers.insert(key, number)?;
-        self.boards.push(copy)?;
+        self.numbers.insert(board.key(), number)?;
+        self.boards.push(board)?;
         Ok(number)
+    }
+
+    /// Puts a board behind the others, unless it was found. All have the same symbols. `Positions` comes where that would make
+    /// more boards than the limit.
+    pub(crate) fn find(&mut self, board: Board, limit: u64) -> Result<(), ReachFault>
+        requires alike { AreAlike (self.old ++ (board ∷ [])) }
+        requires within { length self.old ≤ limit }
+        ensures boards { IfOk result (λ _. self.new ≡ one_more self.old board) }
+        ensures within { IfOk result (λ _. length self.new ≤ limit) }
+        ensures refused { result ≡ Err ReachFault.Positions → limit < length (one_more self.old board) }
+    {
+        match self.known(&board) {
+            Some(_) => Ok(()),
+            None => {
+                self.put(board, limit)?;
+                Ok(())
+            }
+        }
     }
 
     /// The boards, by their numbers.
     pub(crate) fn into_boards(self) -> Vec<Board>
         ensures { result.items ≡ self }
     {
-        let Found {
-            boards,
-            numbers: _,
-            room: _,
-        } = self;
+        let Found { boards, numbers: _ } = self;
         boards
     }
 }

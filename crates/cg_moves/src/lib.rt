@@ -3,9 +3,10 @@
 
 mod board;
 mod boards;
+mod breadth;
 mod course;
-mod exploring;
 mod fault;
+mod following;
 mod found;
 mod grid;
 mod key;
@@ -17,6 +18,7 @@ mod planes;
 mod player;
 mod reaching;
 mod rules;
+mod task;
 mod walk;
 pub mod words;
 mod writing;

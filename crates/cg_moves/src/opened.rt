@@ -1,18 +1,22 @@
 //! Boards that were reached, with what comes next after each of them.
 
-use crate::Boards;
-use smallvec::SmallVec;
+ghost use Rattle.std.specs.Prelude.{◌≡◌, ◌+◌, ◌≤◌, drop, length, take};
 
-/// What comes next after a board that was reached, by places in the list of those boards.
-#[derive(Debug, Drop)]
+use crate::Boards;
+
+/// Where what comes next after a board stands in the lists of [`Opened`].
+#[derive(Debug, Clone, Copy)]
 pub struct NextPlaces {
     /// How many boards Left's moves lead to.
     pub lefts: usize,
-    /// How many parts each board has that a move leads to: those of Left's moves, then those of Right's, in the order of the
-    /// moves. Where boards aren't cut, each is its own only part.
-    pub counts: SmallVec<usize, 4>,
-    /// The places of these parts in the list, board by board. Each is a place before the board's own.
-    pub places: SmallVec<usize, 4>,
+    /// Where in `counts` those of this board begin.
+    pub first_count: usize,
+    /// How many of them there are: one for each board that a move leads to.
+    pub moves: usize,
+    /// Where in `places` those of this board begin.
+    pub first_place: usize,
+    /// How many of them there are: one for each part of those boards.
+    pub parts: usize,
 }
 
 /// The boards that play can come to, and what comes next after each of them.
@@ -20,8 +24,32 @@ pub struct NextPlaces {
 pub struct Opened {
     /// The boards, each once.
     pub boards: Boards,
-    /// For each of the boards, in order, what comes next after it.
+    /// For each of the boards, in order, where what comes next after it stands.
     pub next: Vec<NextPlaces>,
+    /// How many parts each board has that a move leads to: those of Left's moves, then those of Right's, in the order of the
+    /// moves. Where boards aren't cut, each is its own only part.
+    pub counts: Vec<usize>,
+    /// The places of these parts in the list of boards, board by board. Each is a place before that of the board that the moves
+    /// are of.
+    pub places: Vec<usize>,
     /// The places of the boards that play starts with: the start, or its pieces in order.
     pub starts: Vec<usize>,
+}
+
+impl Opened {
+    /// How many parts each board has that a move leads to, where this says where the counts stand.
+    pub fn counts_of(&self, next: NextPlaces) -> &[usize]
+        requires { next.first_count + next.moves ≤ length self.now.counts.items }
+        ensures { result.now ≡ take next.moves (drop next.first_count self.now.counts.items) }
+    {
+        &self.counts[next.first_count..next.first_count + next.moves]
+    }
+
+    /// The places of these parts, where this says where the places stand.
+    pub fn places_of(&self, next: NextPlaces) -> &[usize]
+        requires { next.first_place + next.parts ≤ length self.now.places.items }
+        ensures { result.now ≡ take next.parts (drop next.first_place self.now.places.items) }
+    {
+        &self.places[next.first_place..next.first_place + next.parts]
+    }
 }

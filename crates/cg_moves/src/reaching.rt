@@ -1,40 +1,13 @@
 //! The boards that play can come to from a board.
 ghost use Rattle.std.specs.Prelude.{◌≡◌, ◌<◌, ◌≤◌, ◌∷◌, [], true, IfOk, OnOk, length, Err};
-ghost use Rattle.cg_moves.specs.Explored.{AreAlone, Way, parts, reached};
 ghost use Rattle.cg_moves.specs.Opened.{AreNext, StandAt, uncut};
 ghost use Rattle.cg_moves.specs.PieceReach.{piece_reach_of};
-ghost use Rattle.cg_moves.specs.Plays.{MayGo, parts_of, play_of};
 ghost use Rattle.cg_moves.specs.Reach.{reach_of};
-ghost use Rattle.cg_moves.specs.Walks.{AreStarts};
 
 use crate::course::{Course, alone, pieces_in};
-use crate::exploring::explore;
-use crate::walk::in_their_order;
+use crate::walk::open_all;
 use crate::{Board, Boards, Opened, ReachFault, Rules};
 use std::alloc::Global;
-
-/// The boards that play can come to from the starts, and what comes next after each of them.
-fn open_all<R: Rules>(
-    alloc: Global,
-    rules: &R,
-    course: Course,
-    starts: Vec<Board>,
-    limit: u64,
-) -> Result<Opened, ReachFault>
-    ghost way: { Way }
-    requires way { way ≡ record { game = R.game rules.now; course = course; starts = starts.items } }
-    requires may { MayGo (R.game rules.now) course }
-    requires starts { AreStarts (play_of (R.game rules.now) course) starts.items }
-    requires alone { AreAlone (parts_of (R.game rules.now) course) starts.items }
-    ensures boards { IfOk result (λ opened. opened.boards ≡ reached way) }
-    ensures next { IfOk result (λ opened. AreNext way.game (parts way) [] opened.boards opened.next.items) }
-    ensures starts { IfOk result (λ opened. StandAt opened.boards opened.starts.items way.starts) }
-    ensures within { OnOk result (length (reached way) ≤ limit) }
-    ensures refused { result ≡ Err ReachFault.Positions → limit < length (reached way) }
-{
-    let explored = explore(alloc, rules, course, starts, limit)?;
-    Ok(in_their_order(alloc, explored)?)
-}
 
 /// The boards that play can come to from the start, which must be a board of the game, as [`reach`] lists them, and for each
 /// board what comes next after it: how many boards Left's moves lead to, that each is its own only part, and the places of
@@ -48,7 +21,8 @@ pub fn open<R: Rules>(
 ) -> Result<Opened, ReachFault>
     requires { (R.game rules.now).has start.now ≡ true }
     ensures boards { IfOk result (λ opened. opened.boards ≡ reach_of (R.game rules.now) start.now) }
-    ensures next { IfOk result (λ opened. AreNext (R.game rules.now) uncut [] opened.boards opened.next.items) }
+    ensures next { IfOk result (λ opened. AreNext (R.game rules.now) uncut opened.counts.items opened.places.items [] opened.boards
+        opened.next.items) }
     ensures starts { IfOk result (λ opened. StandAt opened.boards opened.starts.items (start.now ∷ [])) }
     ensures within { OnOk result (length (reach_of (R.game rules.now) start.now) ≤ limit) }
     ensures refused { result ≡ Err ReachFault.Positions → limit < length (reach_of (R.game rules.now) start.now) }
@@ -70,7 +44,8 @@ pub fn open_pieces<R: Rules>(
     requires has { (R.game rules.now).has start.now ≡ true }
     requires cuts { (R.game rules.now).cuts ≡ true }
     ensures boards { IfOk result (λ opened. opened.boards ≡ piece_reach_of (R.game rules.now) start.now) }
-    ensures next { IfOk result (λ opened. AreNext (R.game rules.now) (R.game rules.now).pieces [] opened.boards opened.next.items) }
+    ensures next { IfOk result (λ opened. AreNext (R.game rules.now) (R.game rules.now).pieces opened.counts.items opened.places.items []
+        opened.boards opened.next.items) }
     ensures starts { IfOk result (λ opened. StandAt opened.boards opened.starts.items ((R.game rules.now).pieces start.now)) }
     ensures within { OnOk result (length (piece_reach_of (R.game rules.now) start.now) ≤ limit) }
     ensures refused { result ≡ Err ReachFault.Positions → limit < length (piece_reach_of (R.game rules.now) start.now) }

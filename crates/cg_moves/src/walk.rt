@@ -1,208 +1,190 @@
-//! A walk over the numbers of boards.
-ghost use Rattle.std.specs.Prelude.{◌≡◌, ◌<◌, ◌∷◌, ◌++◌, ℕ, [], IfOk, IsSome, Some, length, map, reverse};
-ghost use Rattle.std.specs.List.{flat_map};
-ghost use Rattle.cg_moves.specs.Explored.{AreBelow, IsExplored, IsSeen, StandOnce, Way, board_at, number_of, parts, place_of, play, reached, unplaced, visit};
-ghost use Rattle.cg_moves.specs.Grid.{Grid};
-ghost use Rattle.cg_moves.specs.Kept.{one_more};
+//! A walk over the boards that play comes to: each is seen as soon as all that come after it were.
+ghost use Rattle.std.specs.Prelude.{◌≡◌, ◌<◌, ◌≤◌, ◌∷◌, ◌++◌, [], IfOk, OnOk, length, map, Err};
 ghost use Rattle.cg_moves.specs.Opened.{AreNext, StandAt};
-ghost use Rattle.cg_moves.specs.Plays.{IsPlay};
-ghost use Rattle.cg_moves.specs.Rules.{In, followers};
-ghost use Rattle.cg_moves.specs.Walks.{GoesOn, IsWalk, Enters};
-ghost use Rattle.cg_moves.specs.declared.walk.Task.TheVariants.{Enter};
+ghost use Rattle.cg_moves.specs.Plays.{IsPlay, MayGo, parts_of, play_of};
+ghost use Rattle.cg_moves.specs.Walking.{AreAlone, IsWalking, Way, parts, play, reached, visit, way_of};
+ghost use Rattle.cg_moves.specs.Walks.{AreStarts, load};
+ghost use Rattle.cg_moves.specs.declared.task.Task.TheVariants.{Enter, Leave};
 
-use crate::exploring::Explored;
-use crate::{Board, Boards, NextPlaces, Opened};
-use smallvec::SmallVec;
+use crate::breadth::look_in_breadth;
+use crate::course::Course;
+use crate::following::{Followers, enter_next, list_followers, put_turned};
+use crate::found::Found;
+use crate::task::{Entered, Task, enter_all};
+use crate::{Board, Boards, NextPlaces, Opened, ReachFault, Rules};
 use std::alloc::{AllocError, Global};
-use std::mem;
 
-/// What is left to do in a walk: to see all boards that come after the board with the number, or to see the board itself,
-/// where the others were seen.
-#[derive(Clone, Copy)]
-pub(crate) enum Task {
-    Enter(usize),
-    Leave(usize),
-}
-
-/// The boards that were seen, with what comes next after each of them, by places among them; the places that numbers got; and
-/// what comes next after the boards that weren't seen, by numbers.
+/// The boards that were seen, in their order, with what comes next after each of them; and the pending places: those of boards
+/// that come next after a board that was entered and isn't left yet, and of starts.
 #[derive(Drop)]
-struct Seen {
-    boards: Vec<Board>,
+pub(crate) struct Seen {
+    boards: Found,
     next: Vec<NextPlaces>,
-    places: Vec<Option<usize>>,
-    left: Vec<NextPlaces>,
+    counts: Vec<usize>,
+    places: Vec<usize>,
+    pending: Vec<usize>,
 }
 
-/// Puts the places of these numbers, which all have one, in their place.
-fn place_all(places: &[Option<usize>], numbers: &mut [usize])
-    requires below { AreBelow (length places.now) numbers.old }
-    requires placed { (n : ℕ) → In n numbers.old → IsSome (place_of places.now n) }
-    ensures { map (place_of places.now) numbers.old ≡ map Some numbers.new }
-{
-    for index in 0..numbers.len() {
-        let place = places[numbers[index]];
-        numbers[index] = place.unwrap();
-    }
-}
-
-/// Puts the board with the number behind those that were seen, unless it is there.
-fn see(alloc: Global, boards: &[Board], seen: &mut Seen, number: usize) -> Result<(), AllocError>
+/// Enters the board. If it was seen, its place is one of the pending ones. If not, the parts of the boards that moves lead to are to
+/// be entered, and then the board is to be left.
+fn enter<R: Rules>(
+    alloc: Global,
+    rules: &R,
+    course: Course,
+    seen: &mut Seen,
+    tasks: &mut Vec<Task>,
+    all: &mut Followers,
+    board: Board,
+) -> Result<(), AllocError>
     ghost way: { Way }
-    requires once { StandOnce boards.now }
-    requires seen { IsSeen way boards.now seen.old.boards.items seen.old.next.items seen.old.left.items seen.old.places.items }
-    requires number { number < length boards.now }
-    requires ready { (p : Grid) → In p ((play way).next (board_at boards.now number)) → In p seen.old.boards.items }
-    ensures boards { IfOk result (λ _. seen.new.boards.items ≡ one_more seen.old.boards.items (board_at boards.now number)) }
-    ensures seen { IfOk result (λ _. IsSeen way boards.now seen.new.boards.items seen.new.next.items seen.new.left.items
-        seen.new.places.items) }
+    requires way { way ≡ way_of (R.game rules.now) course way.starts }
+    requires may { MayGo (R.game rules.now) course }
+    requires known { AreStarts (play way) way.starts }
+    requires alone { AreAlone (parts way) (reached way) }
+    requires walking { IsWalking way seen.old (tasks.old.items ++ (Enter board ∷ [])) }
+    ensures boards { seen.new.boards ≡ seen.old.boards }
+    ensures walking { IfOk result (λ _. IsWalking way seen.new tasks.new.items) }
+    ensures less { IfOk result (λ _. load (play way) (map visit tasks.new.items)
+        < load (play way) (map visit (tasks.old.items ++ (Enter board ∷ [])))) }
 {
-    if seen.places[number].is_some() {
+    if let Some(place) = seen.boards.known(&board) {
+        seen.pending.push(place)?;
         return Ok(());
     }
-    let none = NextPlaces {
-        lefts: 0,
-        counts: SmallVec::new(alloc),
-        places: SmallVec::new(alloc),
-    };
-    let NextPlaces {
-        lefts,
-        counts,
-        mut places,
-    } = mem::replace(&mut seen.left[number], none);
-    place_all(&seen.places, places.as_mut_slice());
-    seen.next.push(NextPlaces {
-        lefts,
-        counts,
-        places,
-    })?;
-    seen.places[number] = Some(seen.boards.len());
-    seen.boards.push(boards[number].copy(alloc)?)?;
-    Ok(())
+    list_followers(alloc, rules, &board, all)?;
+    tasks.push(Task::Leave(Entered {
+        board,
+        lefts: all.lefts.len(),
+        first_count: seen.counts.len(),
+        moves: all.lefts.len() + all.rights.len(),
+        pending: seen.pending.len(),
+    }))?;
+    enter_next(alloc, rules, course, &seen.boards, all, tasks)?;
+    put_turned(&mut all.counts, &mut seen.counts)
 }
 
-/// Puts tasks to enter the boards with these numbers behind the tasks, the first board last, but for those that were seen.
-fn enter_all(
-    places: &[Option<usize>],
-    tasks: &mut Vec<Task>,
-    numbers: &[usize],
-) -> Result<(), AllocError>
-    requires { AreBelow (length places.now) numbers.now }
-    ensures { IfOk result (λ _. tasks.new.items ≡ tasks.old.items ++ map Enter (unplaced places.now (reverse numbers.now))) }
-{
-    for number in numbers.iter().rev() {
-        if places[*number].is_none() {
-            tasks.push(Task::Enter(*number))?;
-        }
-    }
-    Ok(())
-}
-
-/// Enters the board with the number, unless it was seen: first those are to be entered that come next after it and weren't seen,
-/// and then it is to be left.
-fn enter(
-    boards: &[Board],
-    seen: &Seen,
-    tasks: &mut Vec<Task>,
-    number: usize,
-) -> Result<(), AllocError>
+/// Leaves the board, which was entered: it is seen, and of the pending places its own takes the place of those that come
+/// next after it.
+fn leave(seen: &mut Seen, tasks: &[Task], entered: Entered, limit: u64) -> Result<(), ReachFault>
     ghost way: { Way }
     requires lawful { IsPlay (play way) }
-    requires seen { IsSeen way boards.now seen.now.boards.items seen.now.next.items seen.now.left.items seen.now.places.items }
-    requires walk { IsWalk (play way) seen.now.boards.items (map (visit boards.now) tasks.old.items ++ (Enters (board_at boards.now number) ∷ [])) }
-    requires number { number < length boards.now }
-    requires below { AreBelow (length boards.now) (map number_of tasks.old.items) }
-    ensures walk { IfOk result (λ _. GoesOn (play way) seen.now.boards.items seen.now.boards.items
-        (map (visit boards.now) tasks.old.items ++ (Enters (board_at boards.now number) ∷ [])) (map (visit boards.now) tasks.new.items)) }
-    ensures below { IfOk result (λ _. AreBelow (length boards.now) (map number_of tasks.new.items)) }
+    requires known { AreStarts (play way) way.starts }
+    requires walking { IsWalking way seen.old (tasks.now ++ (Leave entered ∷ [])) }
+    requires within { length seen.old.boards ≤ limit }
+    ensures walking { IfOk result (λ _. IsWalking way seen.new tasks.now) }
+    ensures within { IfOk result (λ _. length seen.new.boards ≤ limit) }
+    ensures refused { result ≡ Err ReachFault.Positions → limit < length (reached way) }
 {
-    // Read for the proof alone: the numbers are those of these boards.
-    let _ = boards;
-    if seen.places[number].is_some() {
-        return Ok(());
-    }
-    tasks.push(Task::Leave(number))?;
-    enter_all(&seen.places, tasks, &seen.left[number].places)
+    // Read for the proof alone: these tasks are left.
+    let _ = tasks;
+    let Entered {
+        board,
+        lefts,
+        first_count,
+        moves,
+        pending,
+    } = entered;
+    let place = seen.boards.put(board, limit)?;
+    seen.next.push(NextPlaces {
+        lefts,
+        first_count,
+        moves,
+        first_place: seen.places.len(),
+        parts: seen.pending.len() - pending,
+    })?;
+    seen.places.extend_from_slice(&seen.pending[pending..])?;
+    seen.pending.truncate(pending);
+    seen.pending.push(place)?;
+    Ok(())
 }
 
 /// Does the task.
-fn step(
+fn step<R: Rules>(
     alloc: Global,
-    boards: &[Board],
+    rules: &R,
+    course: Course,
     seen: &mut Seen,
     tasks: &mut Vec<Task>,
+    all: &mut Followers,
     task: Task,
-) -> Result<(), AllocError>
+    limit: u64,
+) -> Result<(), ReachFault>
     ghost way: { Way }
-    requires lawful { IsPlay (play way) }
-    requires once { StandOnce boards.now }
-    requires seen { IsSeen way boards.now seen.old.boards.items seen.old.next.items seen.old.left.items seen.old.places.items }
-    requires walk { IsWalk (play way) seen.old.boards.items (map (visit boards.now) tasks.old.items ++ (visit boards.now task ∷ [])) }
-    requires number { number_of task < length boards.now }
-    requires below { AreBelow (length boards.now) (map number_of tasks.old.items) }
-    ensures seen { IfOk result (λ _. IsSeen way boards.now seen.new.boards.items seen.new.next.items seen.new.left.items
-        seen.new.places.items) }
-    ensures walk { IfOk result (λ _. GoesOn (play way) seen.old.boards.items seen.new.boards.items
-        (map (visit boards.now) tasks.old.items ++ (visit boards.now task ∷ [])) (map (visit boards.now) tasks.new.items)) }
-    ensures below { IfOk result (λ _. AreBelow (length boards.now) (map number_of tasks.new.items)) }
+    requires way { way ≡ way_of (R.game rules.now) course way.starts }
+    requires may { MayGo (R.game rules.now) course }
+    requires known { AreStarts (play way) way.starts }
+    requires alone { AreAlone (parts way) (reached way) }
+    requires walking { IsWalking way seen.old (tasks.old.items ++ (task ∷ [])) }
+    requires within { length seen.old.boards ≤ limit }
+    ensures walking { IfOk result (λ _. IsWalking way seen.new tasks.new.items) }
+    ensures within { IfOk result (λ _. length seen.new.boards ≤ limit) }
+    ensures less { IfOk result (λ _. load (play way) (map visit tasks.new.items)
+        < load (play way) (map visit (tasks.old.items ++ (task ∷ [])))) }
+    ensures refused { result ≡ Err ReachFault.Positions → limit < length (reached way) }
 {
     match task {
-        Task::Enter(number) => enter(boards, seen, tasks, number),
-        Task::Leave(number) => see(alloc, boards, seen, number),
+        Task::Enter(board) => Ok(enter(alloc, rules, course, seen, tasks, all, board)?),
+        Task::Leave(entered) => leave(seen, tasks, entered, limit),
     }
 }
 
-/// Sees the boards that were explored, in their order, with what comes next after each.
-fn see_all(
+/// The boards that play can come to from the starts, and what comes next after each of them. `Positions` comes where there are
+/// more than the limit.
+pub(crate) fn open_all<R: Rules>(
     alloc: Global,
-    boards: &[Board],
-    next: Vec<NextPlaces>,
-    starts: &[usize],
-) -> Result<Seen, AllocError>
+    rules: &R,
+    course: Course,
+    starts: Vec<Board>,
+    limit: u64,
+) -> Result<Opened, ReachFault>
     ghost way: { Way }
-    requires { IsExplored way boards.now next.items starts.now }
-    ensures seen { IfOk result (λ seen. IsSeen way boards.now seen.boards.items seen.next.items seen.left.items seen.places.items) }
-    ensures boards { IfOk result (λ seen. seen.boards.items ≡ reached way) }
+    requires way { way ≡ way_of (R.game rules.now) course starts.items }
+    requires may { MayGo (R.game rules.now) course }
+    requires starts { AreStarts (play_of (R.game rules.now) course) starts.items }
+    requires alone { AreAlone (parts_of (R.game rules.now) course) starts.items }
+    ensures boards { IfOk result (λ opened. opened.boards ≡ reached way) }
+    ensures next { IfOk result (λ opened. AreNext way.game (parts way) opened.counts.items opened.places.items [] opened.boards
+        opened.next.items) }
+    ensures starts { IfOk result (λ opened. StandAt opened.boards opened.starts.items way.starts) }
+    ensures within { OnOk result (length (reached way) ≤ limit) }
+    ensures refused { result ≡ Err ReachFault.Positions → limit < length (reached way) }
 {
     let mut seen = Seen {
-        boards: Vec::with_capacity(alloc, boards.len())?,
-        next: Vec::with_capacity(alloc, boards.len())?,
-        places: Vec::from_elem(alloc, None, boards.len())?,
-        left: next,
+        boards: Found::new(alloc),
+        next: Vec::new(alloc),
+        counts: Vec::new(alloc),
+        places: Vec::new(alloc),
+        pending: Vec::new(alloc),
     };
-    let mut tasks = Vec::new(alloc);
-    enter_all(&seen.places, &mut tasks, starts)?;
-    while let Some(task) = tasks.pop() {
-        step(alloc, boards, &mut seen, &mut tasks, task)?;
+    let mut all = Followers {
+        lefts: Vec::new(alloc),
+        rights: Vec::new(alloc),
+        pieces: Vec::new(alloc),
+        counts: Vec::new(alloc),
+    };
+    if let Some(start) = starts.first() {
+        look_in_breadth(alloc, rules, course, start, &mut all, limit)?;
     }
-    Ok(seen)
-}
-
-/// The boards that were explored in their order, with what comes next after each by places.
-pub(crate) fn in_their_order(alloc: Global, explored: Explored) -> Result<Opened, AllocError>
-    ghost way: { Way }
-    requires { IsExplored way explored.boards.items explored.next.items explored.starts.items }
-    ensures boards { IfOk result (λ opened. opened.boards ≡ reached way) }
-    ensures among { IfOk result (λ opened. (p : Grid) → In p opened.boards → In p explored.boards.items) }
-    ensures next { IfOk result (λ opened. AreNext way.game (parts way) [] opened.boards opened.next.items) }
-    ensures starts { IfOk result (λ opened. StandAt opened.boards opened.starts.items way.starts) }
-{
-    let Explored {
-        boards: found,
-        next: left,
-        mut starts,
-    } = explored;
-    let seen = see_all(alloc, &found, left, &starts)?;
-    place_all(&seen.places, starts.as_mut_slice());
+    let mut starts = starts;
+    let mut tasks = Vec::new(alloc);
+    enter_all(&mut tasks, &mut starts)?;
+    while let Some(task) = tasks.pop() {
+        step(
+            alloc, rules, course, &mut seen, &mut tasks, &mut all, task, limit,
+        )?;
+    }
     let Seen {
         boards,
         next,
-        places: _,
-        left: _,
+        counts,
+        places,
+        pending,
     } = seen;
     Ok(Opened {
-        boards: Boards::of(boards),
+        boards: Boards::of(boards.into_boards()),
         next,
-        starts,
+        counts,
+        places,
+        starts: pending,
     })
 }

@@ -24,27 +24,21 @@ use Rattle.cg_values.proofs.SumUp.{board-sum}
 
 -- ---- what comes next
 
-module _ (r : GameRules) (parts : Grid → List Grid) where
+module _ (r : GameRules) (parts : Grid → List Grid) (counts places : List ℕ) where
   pub next-at : (before ps : List Grid) (ns : List NextPlaces) (i : ℕ) (p : Grid) (next : NextPlaces)
-      → AreNext r parts before ps ns → i < length ps → p ≡ get_or ps i p → next ≡ get_or ns i next
-      → IsNext r parts (before ++ take i ps) p next
+      → AreNext r parts counts places before ps ns → i < length ps → p ≡ get_or ps i p → next ≡ get_or ns i next
+      → IsNext r parts counts places (before ++ take i ps) p next
   next-at before [] ns i p next all within read next_read = absurd (omega arith)
   next-at before (q ∷ ps) [] i p next all within read next_read = absurd all
   next-at before (q ∷ ps) (n ∷ ns) zero p next all within read next_read =
-      let P : Grid → Type 0 = λ z. IsNext r parts (before ++ []) z next in
-      let N : NextPlaces → Type 0 = λ z. IsNext r parts (before ++ []) q z in
-      let B : List Grid → Type 0 = λ z. IsNext r parts z q n in
+      let P : Grid → Type 0 = λ z. IsNext r parts counts places (before ++ []) z next in
+      let N : NextPlaces → Type 0 = λ z. IsNext r parts counts places (before ++ []) q z in
+      let B : List Grid → Type 0 = λ z. IsNext r parts counts places z q n in
       subst P (sym read) (subst N (sym next_read) (subst B (sym (append-nil before)) all.0))
   next-at before (q ∷ ps) (n ∷ ns) (suc i) p next all within read next_read =
-      let B : List Grid → Type 0 = λ z. IsNext r parts z p next in
+      let B : List Grid → Type 0 = λ z. IsNext r parts counts places z p next in
       subst B (append_assoc before (q ∷ []) (take i ps))
       (next-at (before ++ (q ∷ [])) ps ns i p next all.1 (omega arith) read next_read)
-
-  pub next-many : (before ps : List Grid) (ns : List NextPlaces) → AreNext r parts before ps ns → length ps ≡ length ns
-  next-many before [] [] all = refl
-  next-many before [] (n ∷ ns) all = absurd all
-  next-many before (p ∷ ps) [] all = absurd all
-  next-many before (p ∷ ps) (n ∷ ns) all = ap suc (next-many (before ++ (p ∷ [])) ps ns all.1)
 
 -- ---- whether the rules cut
 

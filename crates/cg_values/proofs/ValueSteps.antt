@@ -17,6 +17,7 @@ use Rattle.cg_nodes.proofs.Later.{stand_later}
 use Rattle.cg_nodes.specs.Games.{StandFor, StandsFor}
 use Rattle.cg_nodes.specs.Meant.{Meant}
 use Rattle.cg_nodes.specs.Spelled.{can}
+use Rattle.cg_moves.proofs.Listed.{next-size}
 use Rattle.cg_moves.proofs.Places.{split_read, take_next}
 use Rattle.cg_moves.specs.Grid.{Grid}
 use Rattle.cg_moves.specs.Opened.{AreNext, IsNext}
@@ -27,7 +28,7 @@ use Rattle.cg_moves.specs.declared.opened.Opened.{Opened}
 use Rattle.cg_values.specs.Parts.{HoldAt, IsOpened, part_items, parts_of, values_of}
 use Rattle.cg_values.proofs.HandleSteps.{held, hold-as, stand-more}
 use Rattle.cg_values.proofs.JoinSteps.{flat-next, values-next}
-use Rattle.cg_values.proofs.PartLemmas.{next-at, next-many}
+use Rattle.cg_values.proofs.PartLemmas.{next-at}
 
 -- the values of the parts were made, and the handles stand for them
 pub record PartsMade {R : Type 0} (s t : State Meant (WorkRest R)) (r : GameRules) (ps : List Grid) (handles : List ℕ)
@@ -38,7 +39,7 @@ pub record PartsMade {R : Type 0} (s t : State Meant (WorkRest R)) (r : GameRule
   pub spare_kept : spare ≤ t.spare
 
 module _ {R : Type 0} (s : State Meant (WorkRest R)) (r : GameRules) (spare : ℕ) (ps boards : List Grid) (is : ps ≡ boards)
-    (ns : List NextPlaces) (next_are : AreNext r (parts_of r) [] boards ns) where
+    (counts places : List ℕ) (ns : List NextPlaces) (next_are : AreNext r (parts_of r) counts places [] boards ns) where
   abbrev items_of : List Grid → List Item
   items_of qs = flat_map (part_items s.rest.limit r) qs
 
@@ -47,11 +48,11 @@ module _ {R : Type 0} (s : State Meant (WorkRest R)) (r : GameRules) (spare : �
   parts_done t handles i l made =
       let P : List Grid → Type 0 = λ z. PartsMade s t r z handles spare in subst P (take_all i ps l ∙ is) made
 
-  are : AreNext r (parts_of r) [] ps ns
-  are = let P : List Grid → Type 0 = λ z. AreNext r (parts_of r) [] z ns in subst P (sym is) next_are
+  are : AreNext r (parts_of r) counts places [] ps ns
+  are = let P : List Grid → Type 0 = λ z. AreNext r (parts_of r) counts places [] z ns in subst P (sym is) next_are
 
   pub next-within : (i : ℕ) → i < length ps → i < length ns
-  next-within i l = let n = next-many r (parts_of r) [] ps ns are in omega (arith, l, n)
+  next-within i l = let n = next-size r (parts_of r) counts places [] ps ns are in omega (arith, l, n)
 
   module _ (i : ℕ) (p : Grid) (within : i < length ps) (read : p ≡ get_or ps i p) (t : State Meant (WorkRest R))
       (handles : List ℕ) (made : PartsMade s t r (take i ps) handles spare) where
@@ -62,11 +63,12 @@ module _ {R : Type 0} (s : State Meant (WorkRest R)) (r : GameRules) (spare : �
         subst P (sym read) (All-get_or P ps i p within (subst A (sym is) all))
 
     module _ (next : NextPlaces) (next_read : next ≡ get_or ns i next) where
-      pub part-next : IsNext r (parts_of r) (take i ps) p next
-      part-next = next-at r (parts_of r) [] ps ns i p next are within read next_read
+      pub part-next : IsNext r (parts_of r) counts places (take i ps) p next
+      part-next = next-at r (parts_of r) counts places [] ps ns i p next are within read next_read
 
-      pub part-held : HoldAt t r handles next.places.items (flat_map (parts_of r) (followers r p))
-      part-held = held t r (take i ps) handles next.places.items (flat_map (parts_of r) (followers r p)) part-next.places made.values
+      pub part-held : HoldAt t r handles (take next.parts (drop next.first_place places)) (flat_map (parts_of r) (followers r p))
+      part-held = held t r (take i ps) handles (take next.parts (drop next.first_place places))
+          (flat_map (parts_of r) (followers r p)) part-next.places made.values
 
     module _ {T : Type 0} (u : State Meant (WorkRest R)) (q : Result T ValueFault)
         (item : ItemsMade t u (part_items t.rest.limit r p) q) where

@@ -27,7 +27,7 @@ parts_reach r p = if r.cuts then piece_reach_of r p else reach_of r p
 -- these are the parts that play can come to, with what comes next after each of them, and the places of the board's own parts
 pub record IsOpened (r : GameRules) (p : Grid) (opened : Opened) : Type 0 where
   pub boards : opened.boards ≡ parts_reach r p
-  pub next : AreNext r (parts_of r) [] opened.boards opened.next.items
+  pub next : AreNext r (parts_of r) opened.counts.items opened.places.items [] opened.boards opened.next.items
   pub starts : StandAt opened.boards opened.starts.items (parts_of r p)
 
 -- ---- values

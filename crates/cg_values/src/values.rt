@@ -18,16 +18,19 @@ use crate::joining::joined;
 use crate::options::Options;
 use cg_canon::{ValueFault, Work};
 use cg_cells::CellStore;
-use cg_moves::{Board, NextPlaces, Opened, Rules};
+use cg_moves::{Board, Opened, Rules};
 use cg_nodes::{BoardForms, GameFacts, Handle};
 use smallvec::SmallVec;
 use std::alloc::Global;
 
-/// A part that play can come to, what comes next after it, and the handles of the values of the parts before it.
+/// A part that play can come to; what comes next after it, as [`Opened`] has it; and the handles of the values of the parts before
+/// it.
 #[derive(Clone, Copy)]
 struct Part<'a> {
     board: &'a Board,
-    next: &'a NextPlaces,
+    lefts: usize,
+    counts: &'a [usize],
+    places: &'a [usize],
     handles: &'a [Handle],
 }
 
@@ -42,10 +45,10 @@ fn part_value<B: BoardForms, S: CellStore<GameFacts<B>>, R: Rules, A: Adder>(
 ) -> Result<Handle, ValueFault>
     requires has { (R.game rules.now).has part.board.now ≡ true }
     requires notes { MayNote B.form (R.game rules.now) }
-    requires lefts { part.next.now.lefts ≡ length (boards_after (R.game rules.now) Left part.board.now) }
-    requires counts { part.next.now.counts.items
+    requires lefts { part.lefts ≡ length (boards_after (R.game rules.now) Left part.board.now) }
+    requires counts { part.counts.now
         ≡ map (λ q. length (parts_of (R.game rules.now) q)) (followers (R.game rules.now) part.board.now) }
-    requires values { HoldAt (work_state S.state work.old) (R.game rules.now) part.handles.now part.next.now.places.items
+    requires values { HoldAt (work_state S.state work.old) (R.game rules.now) part.handles.now part.places.now
         (flat_map (parts_of (R.game rules.now)) (followers (R.game rules.now) part.board.now)) }
     requires spare { start ≤ (work_state S.state work.old).spare }
     ensures game { IfOk result (λ h. StandsFor (work_state S.state work.new) h (can (raw (R.game rules.now) part.entry.board.now))) }
@@ -53,16 +56,16 @@ fn part_value<B: BoardForms, S: CellStore<GameFacts<B>>, R: Rules, A: Adder>(
         (part_items work.old.limit (R.game rules.now) part.entry.board.now) result }
     ensures spare { start ≤ (work_state S.state work.new).spare }
 {
-    let mut places: &[usize] = &part.next.places;
-    let mut options = SmallVec::with_capacity(alloc, part.next.counts.len())?;
-    for count in part.next.counts.as_slice() {
+    let mut places = part.places;
+    let mut options = SmallVec::with_capacity(alloc, part.counts.len())?;
+    for count in part.counts {
         let (own, others) = places.split_at(*count);
         let option = joined(alloc, work, adder, part.handles, own)?;
         options.push_reserved(option);
         places = others;
     }
     let options = Options {
-        lefts: part.next.lefts,
+        lefts: part.lefts,
         handles: options,
     };
     board_item(alloc, work, rules, part.board, &options, start)
@@ -78,7 +81,8 @@ pub(crate) fn part_values<B: BoardForms, S: CellStore<GameFacts<B>>, R: Rules, A
 ) -> Result<Vec<Handle>, ValueFault>
     requires has { All (λ p. (R.game rules.now).has p ≡ true) opened.now.boards }
     requires notes { MayNote B.form (R.game rules.now) }
-    requires next { AreNext (R.game rules.now) (parts_of (R.game rules.now)) [] opened.now.boards opened.now.next.items }
+    requires next { AreNext (R.game rules.now) (parts_of (R.game rules.now)) opened.now.counts.items opened.now.places.items []
+        opened.now.boards opened.now.next.items }
     ensures values { IfOk result (λ handles. StandFor (work_state S.state work.new) handles.items
         (values_of (R.game rules.now) opened.now.boards)) }
     ensures made { ItemsMade (work_state S.state work.old) (work_state S.state work.new)
@@ -88,10 +92,12 @@ pub(crate) fn part_values<B: BoardForms, S: CellStore<GameFacts<B>>, R: Rules, A
     let spare = work.spare();
     let mut handles = Vec::with_capacity(alloc, opened.boards.len())?;
     for (place, board) in opened.boards.as_slice().iter().enumerate() {
-        let next = &opened.next[place];
+        let next = opened.next[place];
         let part = Part {
             board,
-            next,
+            lefts: next.lefts,
+            counts: opened.counts_of(next),
+            places: opened.places_of(next),
             handles: &handles,
         };
         let value = part_value(alloc, work, rules, adder, part, spare)?;

@@ -1,38 +1,35 @@
-use Rattle.std.proofs.Common.{◌≡◌, ◌<◌, ◌∷◌, [], ◌++◌, length, map, sym, subst}
-use Rattle.cg_moves.specs.declared.walk.Task.{Task}
-use Rattle.cg_moves.specs.Explored.{board_at, number_of, play, visit}
-use Rattle.cg_moves.specs.Kept.{one_more}
-use Rattle.cg_moves.specs.Walks.{GoesOn, IsWalk}
-use Rattle.cg_moves.proofs.StepLemmas.{if_ok}
-use Rattle.cg_moves.proofs.WalkLemmas.{leave, next-seen}
+use Rattle.std.proofs.Common.{◌<◌, ◌∷◌, [], ◌++◌, List, map, sym, subst}
+use Rattle.cg_moves.specs.declared.task.Task.{Task}
+use Rattle.cg_moves.specs.declared.task.Task.TheVariants.{Leave}
+use Rattle.cg_moves.specs.Plays.{IsPlay}
+use Rattle.cg_moves.specs.Walking.{IsOnWay, Way, play, visit}
+use Rattle.cg_moves.specs.Walks.{load}
+use Rattle.cg_moves.proofs.Carried.{ok_any}
+use Rattle.cg_moves.proofs.Leaving.{left-less}
+use Rattle.cg_moves.proofs.PlayLemmas.{plays}
 use Rattle.cg_moves.proofs.walk.step.Goals as goal
 
-pub see-requires : goal.see-requires
-see-requires g c =
-    let found = c.args.boards.now in
-    let N : Task → Type 0 = λ t. number_of t < length found in
-    let W : Task → Type 0 = λ t. IsWalk (play g.way) c.args.seen.now.boards.items (map (visit found) c.args.tasks.now.items
-    ++ (visit found t ∷ [])) in (
-      c.requires.1.0,
+pub leave-requires : goal.leave-requires
+leave-requires g c =
+    let r = g.R.Rules.game c.args.rules.now in
+    let s = c.args.seen.now in
+    let P : Way → Type 0 = λ z. IsPlay (play z) in
+    let T : Task → Type 0 = λ z. IsOnWay g.way s.boards s.next.items s.counts.items s.places.items s.pending.items
+    (c.args.tasks.now.items ++ (z ∷ [])) in
+    let D : List Task → Type 0 = λ z. IsOnWay g.way s.boards s.next.items s.counts.items s.places.items s.pending.items
+    (z ++ (Leave c.in-Leave.entered ∷ [])) in (
+      subst P (sym c.requires.1.0) (plays r (g.met.R.Rules.lawful c.args.rules.now) c.args.course c.requires.1.1.0),
       (
-        c.requires.1.1.0,
+        c.requires.1.1.1.0,
         (
-          subst N c.in-Leave.is c.requires.1.1.1.1.0,
-          next-seen (play g.way) c.requires.0
-              c.args.seen.now.boards.items (map (visit found) c.args.tasks.now.items) (board_at found c.in-Leave.number)
-              (subst W c.in-Leave.is c.requires.1.1.1.0),
+          subst D (sym c.deref.ensures.value) (subst T c.in-Leave.is c.requires.1.1.1.1.1.0),
+          c.requires.1.1.1.1.1.1,
         ),
       ),
     )
 
-pub returns-in-Leave-clause-walk : goal.returns-in-Leave-clause-walk
-returns-in-Leave-clause-walk g c =
-    let found = c.args.boards.now in
-    let bs = c.args.seen.now.boards.items in
-    let tasks = map (visit found) c.args.tasks.now.items in
-    let p = board_at found c.in-Leave.number in
-    let W : Task → Type 0 = λ t. IsWalk (play g.way) bs (tasks ++ (visit found t ∷ [])) in
-    let G : Task → Type 0 = λ t. GoesOn (play g.way) bs c.see.new.seen.boards.items (tasks ++ (visit found t ∷ [])) tasks in
-    if_ok (λ _. c.see.new.seen.boards.items ≡ one_more bs p) (λ _. G c.args.task) c.see.result
-    (λ _ e. subst G (sym c.in-Leave.is) (leave (play g.way) c.requires.0 bs tasks p c.see.new.seen.boards.items
-    (subst W c.in-Leave.is c.requires.1.1.1.0) e)) c.see.ensures.boards
+pub returns-in-Leave-clause-less : goal.returns-in-Leave-clause-less
+returns-in-Leave-clause-less g c =
+    let P : Task → Type 0 = λ z. load (play g.way) (map visit c.args.tasks.now.items)
+    < load (play g.way) (map visit (c.args.tasks.now.items ++ (z ∷ []))) in
+    ok_any (P c.args.task) c.leave.result (subst P (sym c.in-Leave.is) (left-less g.way c.args.tasks.now.items c.in-Leave.entered))

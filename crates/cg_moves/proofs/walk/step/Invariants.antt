@@ -3,5 +3,5 @@ use Rattle.cg_moves.proofs.walk.step.Given as goal
 abbrev pub ghost-enter : goal.ghost-enter
 ghost-enter g a = g.way
 
-abbrev pub ghost-see : goal.ghost-see
-ghost-see g a = g.way
+abbrev pub ghost-leave : goal.ghost-leave
+ghost-leave g a = g.way

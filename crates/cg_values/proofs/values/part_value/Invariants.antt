@@ -8,5 +8,5 @@ invariant-loop-count g l = record {
   joining : Joining (work_state g.S.CellStore.state l.initial.work) (work_state g.S.CellStore.state l.work)
       (g.R.Rules.game l.rules) l.part.board.now l.part.handles.now l.count-index l.places l.options.items;
   count : length l.options.items ≡ l.count-index;
-  room : length l.part.next.now.counts.items ≤ l.options.capacity;
+  room : length l.part.counts.now ≤ l.options.capacity;
 }

@@ -1,0 +1,73 @@
+-- Boards that are to be left: above each stand tasks of boards with a lower measure, and it wasn't seen.
+use Rattle.std.proofs.Common.{◌≡◌, refl, true, inl, inr, List, [], ◌∷◌, ◌++◌, append_assoc, ap, sym, subst, arith}
+use Rattle.std.proofs.lemmas.List.{append-nil}
+use Rattle.cg_moves.specs.Grid.{Grid}
+use Rattle.cg_moves.specs.Plays.{IsPlay, Play}
+use Rattle.cg_moves.specs.Rules.{In}
+use Rattle.cg_moves.specs.Walks.{AreOpen, Enters, Leaves, Visit, entered, visit_board}
+use Rattle.cg_moves.proofs.Members.{in-append, in-append_left, in-append_right, in_one}
+
+module _ (r : Play) where
+  pub open-front : (seen : List Grid) (ts us : List Visit) → AreOpen r seen (ts ++ us) → AreOpen r seen ts
+  open-front seen [] us h = tt
+  open-front seen (Enters p ∷ ts) us h = open-front seen ts us h
+  open-front seen (Leaves p ∷ ts) us h = (h.0, (λ t m. h.1 t (in-append_left t ts us m)), open-front seen ts us h.2)
+
+  pub open-last : (seen : List Grid) (ts : List Visit) (p : Grid) → AreOpen r seen (ts ++ (Leaves p ∷ [])) → ¬ In p seen
+  open-last seen [] p h = h.0
+  open-last seen (Enters q ∷ ts) p h = open-last seen ts p h
+  open-last seen (Leaves q ∷ ts) p h = open-last seen ts p h.2
+
+  open-append : (seen : List Grid) (ps : List Grid) (ts : List Visit) → AreOpen r seen ts → AreOpen r seen (entered ps ++ ts)
+  open-append seen [] ts h = h
+  open-append seen (p ∷ ps) ts h =
+      let P : List Visit → Type 0 = λ z. AreOpen r seen z in
+      subst P (sym (append_assoc (entered ps) (Enters p ∷ []) ts)) (open-append seen ps (Enters p ∷ ts) h)
+
+  pub open-entered : (seen ps : List Grid) → AreOpen r seen (entered ps)
+  open-entered seen ps = let P : List Visit → Type 0 = λ z. AreOpen r seen z in
+      subst P (append-nil (entered ps)) (open-append seen ps [] tt)
+
+  entered-among : (ps : List Grid) (t : Visit) → In t (entered ps) → In (visit_board t) ps
+  entered-among [] t m = absurd m
+  entered-among (p ∷ ps) t m = elim (in-append t (entered ps) (Enters p ∷ []) m) [
+    | inl o ↦ inr (entered-among ps t o)
+    | inr o ↦ inl (ap visit_board (in_one t (Enters p) o))
+  ]
+
+  -- a new board is entered
+  pub open-new : IsPlay r → (seen : List Grid) (ts : List Visit) (p : Grid) → r.has p ≡ true → ¬ In p seen
+      → AreOpen r seen (ts ++ (Enters p ∷ [])) → AreOpen r seen ((ts ++ (Leaves p ∷ [])) ++ entered (r.next p))
+  open-new lawful seen [] p has out h = (
+    out,
+    (λ t m. lawful.lowers p (visit_board t) has (entered-among (r.next p) t m)),
+    open-entered seen (r.next p),
+  )
+  open-new lawful seen (Enters q ∷ ts) p has out h = open-new lawful seen ts p has out h
+  open-new lawful seen (Leaves q ∷ ts) p has out h = (
+    h.0,
+    (λ t m. (let low = h.1 (Enters p) (in-append_right (Enters p) ts (Enters p ∷ []) (inl refl)) in
+        elim (in-append t (ts ++ (Leaves p ∷ [])) (entered (r.next p)) m) [
+          | inl o ↦ elim (in-append t ts (Leaves p ∷ []) o) [
+            | inl there ↦ h.1 t (in-append_left t ts (Enters p ∷ []) there)
+            | inr last ↦ (let same = ap (λ z. r.measure (visit_board z)) (in_one t (Leaves p) last) in omega (arith, low, same))
+          ]
+          | inr o ↦ (let lower = lawful.lowers p (visit_board t) has (entered-among (r.next p) t o) in omega (arith, low, lower))
+        ])),
+    open-new lawful seen ts p has out h.2,
+  )
+
+  -- the last board is seen
+  pub open-seen : (seen : List Grid) (ts : List Visit) (p : Grid) → AreOpen r seen (ts ++ (Leaves p ∷ []))
+      → AreOpen r (seen ++ (p ∷ [])) ts
+  open-seen seen [] p h = tt
+  open-seen seen (Enters q ∷ ts) p h = open-seen seen ts p h
+  open-seen seen (Leaves q ∷ ts) p h = (
+    λ m. elim (in-append q seen (p ∷ []) m) [
+      | inl there ↦ h.0 there
+      | inr last ↦ (let low = h.1 (Leaves p) (in-append_right (Leaves p) ts (Leaves p ∷ []) (inl refl)) in
+          let same = ap r.measure (in_one q p last) in absurd (omega (arith, low, same)))
+    ],
+    (λ t m. h.1 t (in-append_left t ts (Leaves p ∷ []) m)),
+    open-seen seen ts p h.2,
+  )

@@ -1,0 +1,20 @@
+use Rattle.std.proofs.Common.{◌≤◌, length, map}
+use Rattle.cg_moves.specs.Walking.{IsOnWay, play, visit}
+use Rattle.cg_moves.specs.Walks.{load}
+use Rattle.cg_moves.proofs.walk.open_all.Given as goal
+
+abbrev pub ghost-step : goal.ghost-step
+ghost-step g a = g.way
+
+abbrev pub ghost-look_in_breadth : goal.ghost-look_in_breadth
+ghost-look_in_breadth g a = g.way
+
+abbrev pub invariant-loop-task : goal.invariant-loop-task
+invariant-loop-task g l = record {
+  walking : IsOnWay g.way l.seen.boards l.seen.next.items l.seen.counts.items l.seen.places.items l.seen.pending.items
+      l.tasks.items;
+  within : length l.seen.boards ≤ l.limit;
+}
+
+abbrev pub decreases-loop-task : goal.decreases-loop-task
+decreases-loop-task g l = load (play g.way) (map visit l.tasks.items)
