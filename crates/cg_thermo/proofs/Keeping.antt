@@ -4,8 +4,8 @@ use Rattle.std.proofs.lemmas.Bool.Decides.{eqb_tells}
 use Rattle.std.specs.Prelude.{IsSome, ◌==◌, if◌then◌else◌}
 use Rattle.cg_cells.specs.Meaning.{Grows, Has, IsInjective}
 use Rattle.cg_cells.specs.Store.{Spends, State, thing_at}
-use Rattle.cg_form.specs.Game.{Among, Game, lefts, rights}
-use Rattle.cg_form.proofs.Among.{carry}
+use Rattle.cg_form.specs.Game.{Among, Game, lefts, node, rights}
+use Rattle.cg_form.proofs.Among.{carry, lefts-node, rights-node}
 use Rattle.cg_nodes.proofs.AllPositions.{among-positions_of, positions-own, positions_of-options_first}
 use Rattle.cg_nodes.proofs.Later.{game_later, is_game_later, nothing_spent, spends_then, stands_game, stands_later}
 use Rattle.cg_nodes.proofs.Members.{among_has, has_among, has_game}
@@ -170,3 +170,24 @@ module _ {R : Type 0} (s t u : State Meant R) (a : ℕ) (game : IsGame s a) (st 
       let (h, e, some) = some-kept kept hs ps found p i in
       let (c, f) = some_of (kept h) some in
       (c, subst (λ (z : Game). Of z c) (stands_game u h p e) (holds.own h c f))
+
+-- ---- a game that was read
+
+module _ {R : Type 0} (s t : State Meant R) (known : Grows (thing_at s) (thing_at t)) (f : ℕ) (game : IsGame s f) (ls rs : List ℕ)
+    (is : game_at s f ≡ node (games_at t ls) (games_at t rs)) where
+  pub read_node : IsNode (game_at s f)
+  read_node = let P : Game → Type 0 = λ z. IsNode z in subst P (sym is) tt
+
+  pub read_left : (hs : List ℕ) → hs ≡ ls → AreGames t ls → StandFor t hs (lefts (game_at t f))
+  read_left hs e a = let P : List ℕ → Type 0 = λ z. AreGames t z in (
+    subst P (sym e) a,
+    ap (games_at t) e ∙ sym (ap lefts (game_later s t known f game ∙ is)
+        ∙ lefts-node (games_at t ls) (games_at t rs)),
+  )
+
+  pub read_right : (hs : List ℕ) → hs ≡ rs → AreGames t rs → StandFor t hs (rights (game_at t f))
+  read_right hs e a = let P : List ℕ → Type 0 = λ z. AreGames t z in (
+    subst P (sym e) a,
+    ap (games_at t) e ∙ sym (ap rights (game_later s t known f game ∙ is)
+        ∙ rights-node (games_at t ls) (games_at t rs)),
+  )

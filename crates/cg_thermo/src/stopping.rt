@@ -2,17 +2,18 @@
 ghost use Rattle.std.specs.Prelude.{◌≡◌, ℕ, IfOk, OnOk, [], Some};
 ghost use Rattle.cg_canon.specs.Works.{work_state};
 ghost use Rattle.cg_cells.specs.Store.{Spends};
-ghost use Rattle.cg_form.specs.Game.{number};
-ghost use Rattle.cg_nodes.specs.Games.{AreGames, IsGame, IsNode, game_at, games_at};
+ghost use Rattle.cg_form.specs.Canonical.{Canonical};
+ghost use Rattle.cg_form.specs.Game.{lefts as left_options, number, rights as right_options};
+ghost use Rattle.cg_nodes.specs.Games.{AreGames, IsGame, IsNode, StandFor, game_at, games_at};
 ghost use Rattle.cg_thermo.specs.Ended.{AllEnded, BestOf, HoldsEnds, OptionsEnded, StopsAre, as_good, better_of};
 ghost use Rattle.cg_thermo.specs.Progress.{OptionsFirst};
 
 use crate::ending::{Ends, Stops};
-use crate::listing::each_position;
-use cg_canon::Work;
+use crate::listing::{Sides, each_position};
+use cg_canon::{Work, Written};
 use cg_cells::CellStore;
 use cg_dyadic::Dyadic;
-use cg_nodes::{BoardForms, GameFacts, Handle, Kind, kind, options};
+use cg_nodes::{BoardForms, GameFacts, Handle};
 use std::alloc::{AllocError, Global};
 
 // The better of the two for the player, or the one.
@@ -46,62 +47,72 @@ fn best(ends: &Ends, options: &[Handle], left: bool) -> Dyadic
     all
 }
 
-// The stops of a game that is no number, where those of its options were found.
+// The stops of a game that is no number, of which these are the options and their stops were found.
 fn game_stops<B: BoardForms, S: CellStore<GameFacts<B>>>(
-    alloc: Global,
-    store: &mut S,
+    work: &mut Work<B, S>,
     f: Handle,
+    sides: Sides<'_>,
     ends: &Ends,
-) -> Result<Stops, AllocError>
-    requires f { IsGame (S.state store.old) f }
-    requires node { IsNode (game_at (S.state store.old) f) }
-    requires holds { HoldsEnds (S.state store.old) ends.now }
-    requires found { OptionsEnded (S.state store.old) ends.now f }
-    ensures stops { IfOk result (StopsAre (game_at (S.state store.old) f)) }
-    ensures spends { Spends 0 (S.state store.old) (S.state store.new) }
+) -> Stops
+    requires f { IsGame (work_state S.state work.old) f }
+    requires node { IsNode (game_at (work_state S.state work.old) f) }
+    requires canonical { Canonical (game_at (work_state S.state work.old) f) }
+    requires lefts { StandFor (work_state S.state work.old) sides.lefts.now (left_options (game_at (work_state S.state work.old) f)) }
+    requires rights { StandFor (work_state S.state work.old) sides.rights.now (right_options (game_at (work_state S.state work.old) f)) }
+    requires holds { HoldsEnds (work_state S.state work.old) ends.now }
+    requires found { OptionsEnded (work_state S.state work.old) ends.now f }
+    ensures stops { StopsAre (game_at (work_state S.state work.old) f) result }
+    ensures spends { Spends 0 (work_state S.state work.old) (work_state S.state work.new) }
 {
-    let sides = options(alloc, store, f)?;
-    store.apart();
-    let left = best(ends, sides.lefts.as_slice(), true);
-    let right = best(ends, sides.rights.as_slice(), false);
-    Ok(Stops { left, right })
+    // Read for the proof alone: the options are those of this game.
+    let _ = f;
+    work.apart();
+    let left = best(ends, sides.lefts, true);
+    let right = best(ends, sides.rights, false);
+    Stops { left, right }
 }
 
 // The stops of a game, where those of its options were found.
 fn stops_of<B: BoardForms, S: CellStore<GameFacts<B>>>(
     alloc: Global,
-    store: &mut S,
+    work: &mut Work<B, S>,
     f: Handle,
     ends: &Ends,
 ) -> Result<Stops, AllocError>
-    requires f { IsGame (S.state store.old) f }
-    requires holds { HoldsEnds (S.state store.old) ends.now }
-    requires found { IsNode (game_at (S.state store.old) f) → OptionsEnded (S.state store.old) ends.now f }
-    ensures stops { IfOk result (StopsAre (game_at (S.state store.old) f)) }
-    ensures spends { Spends 0 (S.state store.old) (S.state store.new) }
+    requires f { IsGame (work_state S.state work.old) f }
+    requires holds { HoldsEnds (work_state S.state work.old) ends.now }
+    requires found { IsNode (game_at (work_state S.state work.old) f) → OptionsEnded (work_state S.state work.old) ends.now f }
+    ensures stops { IfOk result (StopsAre (game_at (work_state S.state work.old) f)) }
+    ensures spends { Spends 0 (work_state S.state work.old) (work_state S.state work.new) }
 {
-    match kind(store, f) {
-        Kind::Number(x) => Ok(Stops { left: x, right: x }),
-        Kind::Game => game_stops(alloc, store, f, ends),
+    match work.written(alloc, f)? {
+        Written::Number(x) => Ok(Stops { left: x, right: x }),
+        Written::Options(lefts, rights) => {
+            let sides = Sides {
+                lefts: &lefts,
+                rights: &rights,
+            };
+            Ok(game_stops(work, f, sides, ends))
+        }
     }
 }
 
 // Finds the stops of the list, in which the options of a game stand before it.
 fn add_stops<B: BoardForms, S: CellStore<GameFacts<B>>>(
     alloc: Global,
-    store: &mut S,
+    work: &mut Work<B, S>,
     positions: &[Handle],
     ends: &mut Ends,
 ) -> Result<(), AllocError>
-    requires positions { AreGames (S.state store.old) positions.now }
-    requires first { OptionsFirst (games_at (S.state store.old) positions.now) }
-    requires holds { HoldsEnds (S.state store.old) ends.old }
+    requires positions { AreGames (work_state S.state work.old) positions.now }
+    requires first { OptionsFirst (games_at (work_state S.state work.old) positions.now) }
+    requires holds { HoldsEnds (work_state S.state work.old) ends.old }
     ensures found { OnOk result (AllEnded ends.new positions.now) }
-    ensures holds { OnOk result (HoldsEnds (S.state store.new) ends.new) }
-    ensures spends { Spends 0 (S.state store.old) (S.state store.new) }
+    ensures holds { OnOk result (HoldsEnds (work_state S.state work.new) ends.new) }
+    ensures spends { Spends 0 (work_state S.state work.old) (work_state S.state work.new) }
 {
     for f in positions {
-        let stops = stops_of(alloc, store, *f, ends)?;
+        let stops = stops_of(alloc, work, *f, ends)?;
         ends.keep(*f, stops)?;
     }
     Ok(())

@@ -1,5 +1,7 @@
 use Rattle.cg_dyadic.specs.Wide.{places}
+use Rattle.cg_canon.specs.Works.{work_state}
 use Rattle.cg_nodes.specs.Games.{game_at}
+use Rattle.std.proofs.Common.{refl}
 use Rattle.cg_thermo.specs.Found.{charted}
 use Rattle.cg_thermo.proofs.Drawing.{Tops, gap-start}
 use Rattle.cg_thermo.proofs.Keeping.{slice_left, slice_right}
@@ -10,28 +12,28 @@ use Rattle.cg_thermo.proofs.finding.game_chart.Goals as goal
 use Rattle.cg_thermo.proofs.finding.game_chart.Goals.{In_ok-high}
 
 pub top-requires-clause-walls : goal.top-requires-clause-walls
-top-requires-clause-walls g c = are_walls (g.S.CellStore.state c.args.store.now) c.args.charts.now c.requires.holds
+top-requires-clause-walls g c = are_walls (work_state g.S.CellStore.state c.args.work.now) c.args.charts.now c.requires.holds
 
 pub top-requires-2-clause-walls : goal.top-requires-2-clause-walls
-top-requires-2-clause-walls g c = are_walls (g.S.CellStore.state c.args.store.now) c.args.charts.now c.requires.holds
+top-requires-2-clause-walls g c = are_walls (work_state g.S.CellStore.state c.args.work.now) c.args.charts.now c.requires.holds
 
 pub top-requires-clause-found : goal.top-requires-clause-found
 top-requires-clause-found g c =
-    slice_left (g.S.CellStore.state c.args.store.now) (g.S.CellStore.state c.options.new.store) c.options.ensures.spends.known (charted c.args.charts.now) c.args.f
-    c.requires.f c.requires.found c.apart.ensures c.in_ok-sides.sides.lefts c.as_slice.result.now c.in_ok-sides.ensures.lefts c.as_slice.ensures
+    slice_left (work_state g.S.CellStore.state c.args.work.now) (work_state g.S.CellStore.state c.args.work.now) (λ i t e. e) (charted c.args.charts.now) c.args.f
+    c.requires.f c.requires.found c.apart.ensures c.args.sides.lefts.now c.args.sides.lefts.now c.requires.lefts refl
 
 pub top-requires-2-clause-found : goal.top-requires-2-clause-found
 top-requires-2-clause-found g c =
-    slice_right (g.S.CellStore.state c.args.store.now) (g.S.CellStore.state c.options.new.store) c.options.ensures.spends.known (charted c.args.charts.now) c.args.f
-    c.requires.f c.requires.found c.apart.ensures c.in_ok-sides.sides.rights c.as_slice-2.result.now c.in_ok-sides.ensures.rights c.as_slice-2.ensures
+    slice_right (work_state g.S.CellStore.state c.args.work.now) (work_state g.S.CellStore.state c.args.work.now) (λ i t e. e) (charted c.args.charts.now) c.args.f
+    c.requires.f c.requires.found c.apart.ensures c.args.sides.rights.now c.args.sides.rights.now c.requires.rights refl
 
 -- the greatest of both sides
-tops : (g : given.Over) (c : In_ok-high g) → Tops places (game_at (g.S.CellStore.state c.args.store.now) c.args.f) c.in_ok-low.low c.in_ok-high.high
+tops : (g : given.Over) (c : In_ok-high g) → Tops places (game_at (work_state g.S.CellStore.state c.args.work.now) c.args.f) c.in_ok-low.low c.in_ok-high.high
 tops g c =
-    tops_here (g.S.CellStore.state c.args.store.now) (g.S.CellStore.state c.options.new.store) c.options.ensures.spends.known c.args.charts.now c.args.f
-    c.requires.f c.requires.holds c.requires.found c.apart.ensures c.in_ok-sides.sides.lefts c.in_ok-sides.sides.rights c.as_slice.result.now
-    c.as_slice-2.result.now c.in_ok-low.low c.in_ok-high.high c.options.ensures.canonical c.requires.node c.in_ok-sides.ensures.lefts
-    c.in_ok-sides.ensures.rights c.as_slice.ensures c.as_slice-2.ensures c.in_ok-low.ensures c.in_ok-high.ensures
+    tops_here (work_state g.S.CellStore.state c.args.work.now) (work_state g.S.CellStore.state c.args.work.now) (λ i t e. e) c.args.charts.now c.args.f
+    c.requires.f c.requires.holds c.requires.found c.apart.ensures c.args.sides.lefts.now c.args.sides.rights.now c.args.sides.lefts.now
+    c.args.sides.rights.now c.in_ok-low.low c.in_ok-high.high c.requires.canonical c.requires.node c.requires.lefts
+    c.requires.rights refl refl c.in_ok-low.ensures c.in_ok-high.ensures
 
 pub joined-requires-clause-start : goal.joined-requires-clause-start
 joined-requires-clause-start g c = gap-start _ _ _ _ (tops g (goal.at.joined-requires-clause-start g c).In_ok-high)

@@ -11,17 +11,17 @@ use Rattle.cg_thermo.proofs.stopping.stops.Goals.{After-as_slice}
 
 -- the list is that of the positions
 listed : (g : given.Over) (c : After-as_slice g)
-    → StandFor (work_state g.S.CellStore.state c.each_position.new.store) c.as_slice.result.now (positions_of (game_at (work_state g.S.CellStore.state c.args.work.now) c.args.a))
-listed g c = slice_games (work_state g.S.CellStore.state c.each_position.new.store) _ _ _ c.as_slice.ensures c.in_ok-positions.ensures.positions
+    → StandFor (work_state g.S.CellStore.state c.each_position.new.work) c.as_slice.result.now (positions_of (game_at (work_state g.S.CellStore.state c.args.work.now) c.args.a))
+listed g c = slice_games (work_state g.S.CellStore.state c.each_position.new.work) _ _ _ c.as_slice.ensures c.in_ok-positions.ensures.positions
 
 pub add_stops-requires-clause-first : goal.add_stops-requires-clause-first
-add_stops-requires-clause-first g c = options-first (work_state g.S.CellStore.state c.each_position.new.store) _ _ (listed g (goal.at.add_stops-requires-clause-first g c).After-as_slice)
+add_stops-requires-clause-first g c = options-first (work_state g.S.CellStore.state c.each_position.new.work) _ _ (listed g (goal.at.add_stops-requires-clause-first g c).After-as_slice)
 
 pub unreachable-requires : goal.unreachable-requires
 unreachable-requires g c =
     let W = work_state g.S.CellStore.state in
     none_found (ended c.add_stops.new.ends c.args.a)
-    (own-found (W c.args.work.now) (W c.each_position.new.store) (W c.add_stops.new.store) c.args.a c.requires c.each_position.ensures.spends.known
+    (own-found (W c.args.work.now) (W c.each_position.new.work) (W c.add_stops.new.work) c.args.a c.requires c.each_position.ensures.spends.known
     c.add_stops.ensures.spends.known (ended c.add_stops.new.ends) c.as_slice.result.now (listed g (goal.at.unreachable-requires g c).After-as_slice)
     c.in_ok-add_stops.ensures.found c.apart.ensures)
     (sym c.in_default.ensures)
@@ -29,5 +29,5 @@ unreachable-requires g c =
 pub returns-clause-stops : goal.returns-clause-stops
 returns-clause-stops g c =
     let W = work_state g.S.CellStore.state in
-    own-kept (W c.args.work.now) (W c.each_position.new.store) (W c.add_stops.new.store) c.args.a c.requires c.each_position.ensures.spends.known
+    own-kept (W c.args.work.now) (W c.each_position.new.work) (W c.add_stops.new.work) c.args.a c.requires c.each_position.ensures.spends.known
     c.add_stops.ensures.spends.known (ended c.add_stops.new.ends) c.in-Some.found.now c.in_ok-add_stops.ensures.holds (sym c.in-Some.ensures)

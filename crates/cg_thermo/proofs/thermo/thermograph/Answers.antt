@@ -18,33 +18,33 @@ use Rattle.cg_thermo.proofs.thermo.thermograph.Goals.{After-as_slice, In-Some}
 
 -- the list is that of the positions
 listed : (g : given.Over) (c : After-as_slice g)
-    → StandFor (work_state g.S.CellStore.state c.each_position.new.store) c.as_slice.result.now (positions_of (game_at (work_state g.S.CellStore.state c.args.work.now) c.args.a))
-listed g c = slice_games (work_state g.S.CellStore.state c.each_position.new.store) _ _ _ c.as_slice.ensures c.in_ok-positions.ensures.positions
+    → StandFor (work_state g.S.CellStore.state c.each_position.new.work) c.as_slice.result.now (positions_of (game_at (work_state g.S.CellStore.state c.args.work.now) c.args.a))
+listed g c = slice_games (work_state g.S.CellStore.state c.each_position.new.work) _ _ _ c.as_slice.ensures c.in_ok-positions.ensures.positions
 
 -- the chart is that of the game
 own : (g : given.Over) (c : In-Some g) → Charted (game_at (work_state g.S.CellStore.state c.args.work.now) c.args.a) c.in-Some.chart.now
 own g c =
     let W = work_state g.S.CellStore.state in
-    own-kept (W c.args.work.now) (W c.each_position.new.store) (W c.add_charts.new.store) c.args.a c.requires c.each_position.ensures.spends.known
+    own-kept (W c.args.work.now) (W c.each_position.new.work) (W c.add_charts.new.work) c.args.a c.requires c.each_position.ensures.spends.known
     c.add_charts.ensures.spends.known (charted c.add_charts.new.charts) c.in-Some.chart.now c.in_ok-add_charts.ensures.holds (sym c.in-Some.ensures)
 
 pub add_charts-requires-clause-first : goal.add_charts-requires-clause-first
-add_charts-requires-clause-first g c = options-first (work_state g.S.CellStore.state c.each_position.new.store) _ _ (listed g (goal.at.add_charts-requires-clause-first g c).After-as_slice)
+add_charts-requires-clause-first g c = options-first (work_state g.S.CellStore.state c.each_position.new.work) _ _ (listed g (goal.at.add_charts-requires-clause-first g c).After-as_slice)
 
 pub add_charts-requires-clause-holds : goal.add_charts-requires-clause-holds
-add_charts-requires-clause-holds g c = holds-none (work_state g.S.CellStore.state c.each_position.new.store) (charted c.new-charts.result) c.new-charts.ensures
+add_charts-requires-clause-holds g c = holds-none (work_state g.S.CellStore.state c.each_position.new.work) (charted c.new-charts.result) c.new-charts.ensures
 
 pub returns-in_err-add_charts-clause-range : goal.returns-in_err-add_charts-clause-range
 returns-in_err-add_charts-clause-range g c = λ e.
     let p = err_from_is_err_and c.from_residual-in_err-add_charts.result c.from_residual-in_err-add_charts.ensures.1 in
-    rough-needs (work_state g.S.CellStore.state c.each_position.new.store) _ _ (listed g (goal.at.returns-in_err-add_charts-clause-range g c).After-as_slice)
+    rough-needs (work_state g.S.CellStore.state c.each_position.new.work) _ _ (listed g (goal.at.returns-in_err-add_charts-clause-range g c).After-as_slice)
     (c.add_charts.ensures.range (err_range c.from_residual-in_err-add_charts.result c.add_charts.result p.0 c.in_err-add_charts.field-0.0 p.1 p.2 c.in_err-add_charts.was e))
 
 pub unreachable-requires : goal.unreachable-requires
 unreachable-requires g c =
     let W = work_state g.S.CellStore.state in
     none_found (charted c.add_charts.new.charts c.args.a)
-    (own-found (W c.args.work.now) (W c.each_position.new.store) (W c.add_charts.new.store) c.args.a c.requires c.each_position.ensures.spends.known
+    (own-found (W c.args.work.now) (W c.each_position.new.work) (W c.add_charts.new.work) c.args.a c.requires c.each_position.ensures.spends.known
     c.add_charts.ensures.spends.known (charted c.add_charts.new.charts) c.as_slice.result.now (listed g (goal.at.unreachable-requires g c).After-as_slice)
     c.in_ok-add_charts.ensures.found c.apart.ensures) (sym c.in_default.ensures)
 
@@ -64,7 +64,7 @@ pub returns-clause-walls : goal.returns-clause-walls
 returns-clause-walls g c =
     let W = work_state g.S.CellStore.state in
     let s = W c.args.work.now in
-    let same = same-game s (W c.each_position.new.store) (W c.add_charts.new.store) c.args.a c.requires c.each_position.ensures.spends.known
+    let same = same-game s (W c.each_position.new.work) (W c.add_charts.new.work) c.args.a c.requires c.each_position.ensures.spends.known
     c.add_charts.ensures.spends.known in
     is_thermograph (game_at s c.args.a) c.in-Some.chart.now c.in_ok-pictured.field-0 c.temperature-temp.result (own g (goal.at.returns-clause-walls g c).In-Some)
     (subst (λ (z : Game). Canonical z) same c.temperature-temp.ensures.canonical) c.in_ok-pictured.ensures.picture c.in_ok-pictured.ensures.temp
@@ -74,13 +74,13 @@ pub returns-clause-enough : goal.returns-clause-enough
 returns-clause-enough g c =
     let W = work_state g.S.CellStore.state in
     enough_places (game_at (W c.args.work.now) c.args.a)
-    (each-kept (W c.args.work.now) (W c.each_position.new.store) (W c.add_charts.new.store) c.args.a c.requires c.each_position.ensures.spends.known
+    (each-kept (W c.args.work.now) (W c.each_position.new.work) (W c.add_charts.new.work) c.args.a c.requires c.each_position.ensures.spends.known
     c.add_charts.ensures.spends.known (charted c.add_charts.new.charts) c.as_slice.result.now (listed g (goal.at.returns-clause-enough g c).After-as_slice)
     c.in_ok-add_charts.ensures.found c.in_ok-add_charts.ensures.holds)
 
 pub returns-clause-spends : goal.returns-clause-spends
 returns-clause-spends g c =
     let W = work_state g.S.CellStore.state in
-    let s = W c.args.work.now in let t = W c.each_position.new.store in let u = W c.add_charts.new.store in
+    let s = W c.args.work.now in let t = W c.each_position.new.work in let u = W c.add_charts.new.work in
     spends_then 0 0 s u (W c.temperature-temp.new.store) (spends_then 0 0 s t u c.each_position.ensures.spends c.add_charts.ensures.spends)
     c.temperature-temp.ensures.spends
