@@ -21,7 +21,7 @@ use crate::value::{form_of_lists, value_of_lists};
 use cg_book::{FirstTerm, NewForm, Profile, Settled};
 use cg_cells::CellStore;
 use cg_dyadic::Dyadic;
-use cg_nodes::{BoardForms, GameFacts, Handle, ListId, game, list, number};
+use cg_nodes::{BoardForms, GameFacts, Handle, ListId, expect_game, game, list, number};
 use std::alloc::Global;
 
 /// Enters the form that was made, with this handle, unless it is there or there is no memory for it.
@@ -83,6 +83,25 @@ fn claimed_game<B: BoardForms, S: CellStore<GameFacts<B>>>(
     game(store, left_list, right_list)
 }
 
+/// The handle of the game whose options have these handles. The store is told of all its cells before the first is claimed, so
+/// that it needn't wait for one after another.
+fn expected_game<B: BoardForms, S: CellStore<GameFacts<B>>>(
+    store: &mut S,
+    lefts: &[Handle],
+    rights: &[Handle],
+) -> Handle
+    requires lefts { AreGames (S.state store.old) lefts.now }
+    requires rights { AreGames (S.state store.old) rights.now }
+    requires canonical { Canonical (node (games_at (S.state store.old) lefts.now) (games_at (S.state store.old) rights.now)) }
+    requires spare { 1 + length lefts.now + length rights.now ≤ (S.state store.old).spare }
+    ensures game { StandsFor (S.state store.new) result
+        (node (games_at (S.state store.old) lefts.now) (games_at (S.state store.old) rights.now)) }
+    ensures spends { (n : ℕ) × (n ≤ 1 + length lefts.now + length rights.now) × Spends n (S.state store.old) (S.state store.new) }
+{
+    expect_game(store, lefts, rights);
+    claimed_game(store, lefts, rights)
+}
+
 /// The handle of the form, whose options have these handles. It is entered in the book.
 fn claimed<B: BoardForms, S: CellStore<GameFacts<B>>>(
     store: &mut S,
@@ -103,7 +122,7 @@ fn claimed<B: BoardForms, S: CellStore<GameFacts<B>>>(
     ensures game { StandsFor (S.state store.new) result (written book.old.pages new.now) }
     ensures spends { (n : ℕ) × (n ≤ new.now.profile.cost) × Spends n (S.state store.old) (S.state store.new) }
 {
-    let handle = claimed_game(store, lefts, rights);
+    let handle = expected_game(store, lefts, rights);
     enter_form(&*store, book, handle, new);
     handle
 }

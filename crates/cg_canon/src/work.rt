@@ -175,6 +175,14 @@ impl<'a, B: BoardForms, S: CellStore<GameFacts<B>>> CellStore<GameFacts<B>> for 
         self.store.noted(id)
     }
 
+    fn expect_claim(&mut self, key: Key) -> Id {
+        self.store.expect_claim(key)
+    }
+
+    fn expect_note(&mut self, id: Id) {
+        self.store.expect_note(id);
+    }
+
     fn spare(&self) -> u64 {
         self.store.spare() + self.meter.spent - self.start
     }

@@ -17,7 +17,7 @@ pub data Step : Type 0 where
   -- the pass that ends
   join : ℕ → ℕ → Step
   draw : ℕ → Step
-  -- a look at the counter, at the key word of an id, at the value word of an id
+  -- a look at a word of which nothing is learnt, at the key word of an id, at the value word of an id
   check : ℕ → Step
   look : ℕ → ℕ → Step
   read : ℕ → ℕ → Step

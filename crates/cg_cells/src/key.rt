@@ -14,7 +14,7 @@ use std::marker::Model;
 /// A word that isn't 0. Contracts see it as that word.
 #[derive(Clone, Copy, Debug, PartialEq, Eq)]
 pub struct Key {
-    word: u64,
+    pub(crate) word: u64,
 }
 
 impl Model for Key {
@@ -128,30 +128,16 @@ impl KeyParts {
     {
         match self {
             KeyParts::Number { num, exp } => KIND + EXPONENT * (*exp as u64) + bits_of(*num),
-            KeyParts::Chunk { content, next } => 2 * KIND
-                + NEXT * field_of(*next)
-                + *content as u64,
-            KeyParts::Cons { first, rest } => 3 * KIND
-                + SECOND * field_of(*rest)
-                + field_of(Some(*first)),
-            KeyParts::Game { lefts, rights } => 4 * KIND
-                + SECOND * field_of(*rights)
-                + field_of(*lefts),
-            KeyParts::Pair { low, high } => 5 * KIND
-                + SECOND * field_of(Some(*high))
-                + field_of(Some(*low)),
+            KeyParts::Chunk { content, next } => Key::chunk(*content, *next).word(),
+            KeyParts::Cons { first, rest } => Key::list(*first, *rest).word(),
+            KeyParts::Game { lefts, rights } => Key::game(*lefts, *rights).word(),
+            KeyParts::Pair { low, high } => Key::pair(*low, *high).word(),
             KeyParts::Board {
                 number,
                 rows,
                 columns,
                 first,
-            } => {
-                6 * KIND
-                    + GAME * (*number as u64)
-                    + ROWS * (*rows as u64)
-                    + COLUMNS * (*columns as u64)
-                    + field_of(Some(*first))
-            }
+            } => Key::board(*number, *rows, *columns, *first).word(),
             KeyParts::Long {
                 first,
                 exp,

@@ -14,6 +14,7 @@ mod fault;
 mod id;
 mod index;
 mod key;
+mod kinds;
 pub mod law_steps;
 pub mod laws;
 mod plain;

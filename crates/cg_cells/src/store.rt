@@ -55,6 +55,15 @@ pub trait CellStore<F: Facts> {
         ensures none { IfNone result (¬ Has (state self.old).noted id) }
         ensures spends { Spends 0 (state self.old) (state self.new) };
 
+    /// Tells the store that this key may be claimed soon, so that it may bring the words of its cell near, and answers the id that
+    /// the claim would most likely give. Nothing that contracts see changes, and the id need not be known.
+    fn expect_claim(&mut self, key: Key) -> Id
+        ensures { Spends 0 (state self.old) (state self.new) };
+
+    /// Tells the store that a note may be looked for on this id soon, which need not be known. Nothing that contracts see changes.
+    fn expect_note(&mut self, id: Id)
+        ensures { Spends 0 (state self.old) (state self.new) };
+
     /// How many claims are left.
     fn spare(&self) -> u64
         ensures value { result ≡ (state self.now).spare }

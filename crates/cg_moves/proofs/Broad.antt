@@ -1,7 +1,7 @@
 -- Boards that are found in breadth.
-use Rattle.std.proofs.Common.{◌≡◌, refl, ℕ, ◌<◌, true, inl, inr, List, [], ◌∷◌, ◌++◌, length, map, reverse, ap, sym, ◌∙◌, arith}
+use Rattle.std.proofs.Common.{◌≡◌, refl, ℕ, ◌<◌, true, inl, inr, List, [], ◌∷◌, ◌++◌, length, map, reverse, ap, sym, ◌∙◌, subst, arith}
 use Rattle.std.specs.List.{flat_map}
-use Rattle.std.specs.Prelude.{None, Option, Some, slice_get}
+use Rattle.std.specs.Prelude.{None, Ok, Option, Result, Some, slice_get}
 use Rattle.std.proofs.lemmas.Grind.{reverse_onto}
 use Rattle.std.proofs.lemmas.List.{map-append, reverse-append}
 use Rattle.cg_moves.specs.declared.task.Task.{Task}
@@ -13,7 +13,8 @@ use Rattle.cg_moves.specs.Plays.{IsPlay}
 use Rattle.cg_moves.specs.Rules.{In, followers}
 use Rattle.cg_moves.specs.Walking.{AreAlone, AreFound, Way, board_of, parts, play, reached}
 use Rattle.cg_moves.specs.Walks.{AreStarts}
-use Rattle.cg_moves.proofs.ComesAfter.{reached-has, reached-next, reached-symbols}
+use Rattle.cg_moves.proofs.Carried.{ok_is}
+use Rattle.cg_moves.proofs.ComesAfter.{reached-has, reached-next, reached-symbols, start-reached}
 use Rattle.cg_moves.proofs.FollowLemmas.{alike-less}
 use Rattle.cg_moves.proofs.KeptLemmas.{kept-among, kept-append, kept-has, kept-longer, one_more-among}
 use Rattle.cg_moves.proofs.KeptOnce.{kept-fewer_kept}
@@ -109,8 +110,16 @@ module _ (w : Way) where
         let b = kept-fewer_kept (x.source ++ qs) (flat_map (play w).all w.starts) (both-among qs h) in
         omega arith
 
-    pub turned-among : (qs : List Grid) → Among qs → Among (reverse qs)
+    turned-among : (qs : List Grid) → Among qs → Among (reverse qs)
     turned-among qs h q m = h q (in-reverse qs q m)
+
+    -- the boards of tasks are found, the last one first
+    pub turned-more : (qs new : List Grid) → Among qs → new ≡ kept found (reverse qs) → AreFound w new
+    turned-more qs new h e = found-more (reverse qs) new (turned-among qs h) e
+
+    pub turned-refused : (qs : List Grid) → Among qs → (limit : ℕ) → limit < length (kept found (reverse qs))
+        → limit < length (reached w)
+    turned-refused qs h limit many = found-refused (reverse qs) (turned-among qs h) limit many
 
     module _ (lawful : IsPlay (play w)) (h : AreStarts (play w) w.starts) where
       pub found-has : (p : Grid) → In p found → (play w).has p ≡ true
@@ -127,6 +136,9 @@ module _ (w : Way) where
           ] in
           go p m ∙ sym (go q n)
 
+      pub among-alike : (qs : List Grid) → Among qs → AreAlike (found ++ qs)
+      among-alike qs k = found-alike qs (λ q m. reached-symbols (play w) lawful w.starts h q (k q m))
+
       -- what comes next after a board that was found
       pub next-among : (p : Grid) → In p found → Among (flat_map (parts w) (followers w.game p))
       next-among p m q n = reached-next (play w) lawful w.starts h p q (found-among p m)
@@ -137,3 +149,17 @@ module _ (w : Way) where
       tasks-among p m tasks e q n = next-among p m q (in-reverse (flat_map (parts w) (followers w.game p)) q (carry q
           (map board_of tasks) (reverse (flat_map (parts w) (followers w.game p))) (ap (map board_of) e
           ∙ boards-entered (reverse (flat_map (parts w) (followers w.game p)))) n))
+
+  -- a start is the first board that is found
+  module _ (lawful : IsPlay (play w)) (h : AreStarts (play w) w.starts) (start : Grid) (m : In start w.starts) (none : List Grid)
+      (nothing : none ≡ []) {E : Type 0} (one : Grid) (same : ◌≡◌ {A = Result Grid E} (Ok one) (Ok start)) where
+    start-among : Among (one ∷ [])
+    start-among q n =
+        let P : Grid → Type 0 = λ z. In z (flat_map (play w).all w.starts) in
+        subst P (sym (in_one q one n ∙ ok_is one start same)) (start-reached (play w) lawful w.starts h start m)
+
+    pub start-found : (new : List Grid) → new ≡ one_more none one → AreFound w new
+    start-found new e = found-more none (found-none none nothing) (one ∷ []) new start-among e
+
+    pub start-refused : (limit : ℕ) → limit < length (one_more none one) → limit < length (reached w)
+    start-refused limit many = found-refused none (found-none none nothing) (one ∷ []) start-among limit many

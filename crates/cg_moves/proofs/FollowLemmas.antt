@@ -1,7 +1,7 @@
 -- The parts of boards that moves lead to, one board after another.
 use Rattle.std.proofs.Common.{◌≡◌, refl, ℕ, inl, inr, List, [], ◌∷◌, ◌++◌, map, reverse, append_assoc, ap, sym, ◌∙◌}
 use Rattle.std.specs.List.{flat_map}
-use Rattle.std.specs.Prelude.{Err, Result}
+use Rattle.std.specs.Prelude.{Err, IsErrAnd, Ok, Result}
 use Rattle.std.proofs.lemmas.Grind.{flat_map-append, reverse_onto}
 use Rattle.std.proofs.lemmas.List.{append-nil, map-append, reverse-append}
 use Rattle.cg_moves.specs.declared.fault.ReachFault.{ReachFault}
@@ -22,9 +22,11 @@ alike-less old some all h s p q m n =
       | inr o ↦ in-append_right x old all (s x o)
     ] in h p q (go p m) (go q n)
 
-pub passed_on : {A : Type 0} (x y : ReachFault) (r : Result A ReachFault) → r ≡ Err x → x ≡ y → r ≡ Err Positions
-    → y ≡ Positions
-passed_on x y r e f g = cc
+-- where a call hands on that there are too many boards, the call within it told so
+pub passed_on : {A B : Type 0} (x : ReachFault) (r : Result A ReachFault) → IsErrAnd r (λ y. y ≡ x) → r ≡ Err Positions
+    → ◌≡◌ {A = Result B ReachFault} (Err x) (Err Positions)
+passed_on x (Err y) told e = cc
+passed_on x (Ok y) told e = absurd told
 
 -- ---- one board after another, the last first
 

@@ -110,10 +110,6 @@ kept-longer seen [] = omega arith
 kept-longer seen (x ∷ xs) = let a = one_more-longer seen x in let b = kept-longer (one_more seen x) xs in
     omega arith
 
-pub kept-length : (seen xs ys : List Grid) → length (kept seen xs) ≤ length (kept seen (xs ++ ys))
-kept-length seen xs ys =
-    let a = kept-longer (kept seen xs) ys in let e = ap length (kept-append seen xs ys) in omega arith
-
 -- ---- as a list without repetitions
 
 filter_agree : (p q : Grid → Bool) (xs : List Grid) → ((x : Grid) → p x ≡ q x) → filter p xs ≡ filter q xs

@@ -15,6 +15,7 @@ pub mod Leading
 pub mod Fresh
 pub mod OnWay
 pub mod Broad
+pub mod CanFollow
 pub mod Entering
 pub mod Leaving
 pub mod ReachLemmas
@@ -33,6 +34,7 @@ pub mod PlayLemmas
 pub mod PlayOrder
 pub mod Inserted
 pub mod Carried
+pub mod Told
 pub mod WordBits
 pub mod ColumnWords
 pub mod Copied

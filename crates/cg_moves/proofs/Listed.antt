@@ -1,6 +1,6 @@
 -- What comes next after boards, in lists that grow behind.
-use Rattle.std.proofs.Common.{◌≡◌, refl, ℕ, ◌+◌, ◌-◌, ◌≤◌, List, [], ◌∷◌, ◌++◌, length, length-append, take, drop, append_assoc, ap, sym, ◌∙◌, subst, arith}
-use Rattle.std.proofs.lemmas.List.{append-nil, drop-append-le, length-drop, take-append-le, take_all}
+use Rattle.std.proofs.Common.{◌≡◌, refl, ℕ, ◌+◌, ◌≤◌, List, [], ◌∷◌, ◌++◌, length, length-append, take, drop, append_assoc, ap, sym, ◌∙◌, subst, arith}
+use Rattle.std.proofs.lemmas.List.{append-nil, drop-append-le, length-drop, take-append-le}
 use Rattle.cg_moves.specs.declared.opened.NextPlaces.{NextPlaces}
 use Rattle.cg_moves.specs.Grid.{Grid}
 use Rattle.cg_moves.specs.Opened.{AreCounted, AreNext, IsNext, StandAt}
@@ -13,10 +13,6 @@ pub part-more : (xs ys : List ℕ) (first many : ℕ) → first + many ≤ lengt
 part-more xs ys first many inside =
     let l = length-drop first xs in
     ap (take many) (drop-append-le first xs ys (omega arith)) ∙ take-append-le many (drop first xs) ys (omega arith)
-
--- all that stands from one place on
-pub rest-of : (xs : List ℕ) (k : ℕ) → take (length xs - k) (drop k xs) ≡ drop k xs
-rest-of xs k = let l = length-drop k xs in take_all (length xs - k) (drop k xs) (omega arith)
 
 module _ (r : GameRules) (cut : Grid → List Grid) where
   pub counted-more : (counts more : List ℕ) (p : Grid) (count first moves : ℕ) → AreCounted r cut counts p count first moves

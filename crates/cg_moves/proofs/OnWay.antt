@@ -6,6 +6,7 @@ use Rattle.std.proofs.lemmas.List.{map-append}
 use Rattle.cg_moves.specs.declared.course.Course.{Course}
 use Rattle.cg_moves.specs.declared.course.Course.TheVariants.{Moves, Pieces}
 use Rattle.cg_moves.specs.declared.opened.NextPlaces.{NextPlaces}
+use Rattle.cg_moves.specs.declared.walk.Seen.{Seen}
 use Rattle.cg_moves.specs.declared.task.Task.{Task}
 use Rattle.cg_moves.specs.declared.task.Task.TheVariants.{Enter, Leave}
 use Rattle.cg_moves.specs.Found.{AreAlike}
@@ -14,7 +15,7 @@ use Rattle.cg_moves.specs.Kept.{kept}
 use Rattle.cg_moves.specs.Opened.{uncut}
 use Rattle.cg_moves.specs.Plays.{IsPlay, MayGo, next_of, parts_of, play_of}
 use Rattle.cg_moves.specs.Rules.{GameRules, In, IsLawful, followers}
-use Rattle.cg_moves.specs.Walking.{AreAlone, AreEntered, IsOnWay, Way, play, visit}
+use Rattle.cg_moves.specs.Walking.{AreAlone, AreEntered, IsOnWay, IsWalking, Way, board_of, play, visit}
 use Rattle.cg_moves.specs.Walks.{AreOpen, AreStarts, Enters, IsWalk, Leaves, Visit, boards_left, entered, visit_board, visit_boards}
 use Rattle.cg_moves.proofs.Bounds.{follower-has}
 use Rattle.cg_moves.proofs.ComesAfter.{own-all, reached-symbols}
@@ -109,31 +110,30 @@ own-board : (w : Way) → IsPlay (play w) → (t : Visit) → (play w).has (visi
 own-board w lawful (Enters p) has = own-all (play w) lawful p has
 own-board w lawful (Leaves p) has = inl refl
 
-module _ (w : Way) (lawful : IsPlay (play w)) (boards : List Grid) (nexts : List NextPlaces)
-    (counts places pending : List ℕ) (tasks : List Task) (t : Task)
-    (x : IsOnWay w boards nexts counts places pending (tasks ++ (t ∷ []))) where
+module _ (w : Way) (lawful : IsPlay (play w)) (s : Seen) (tasks : List Task) (t : Task)
+    (x : IsWalking w s (tasks ++ (t ∷ []))) where
   pub visits : map visit (tasks ++ (t ∷ [])) ≡ map visit tasks ++ (visit t ∷ [])
   visits = map-append visit tasks (t ∷ [])
 
-  pub walk-last : IsWalk (play w) boards (map visit tasks ++ (visit t ∷ []))
-  walk-last = let P : List Visit → Type 0 = λ z. IsWalk (play w) boards z in subst P visits x.walk
+  pub walk-last : IsWalk (play w) s.boards (map visit tasks ++ (visit t ∷ []))
+  walk-last = let P : List Visit → Type 0 = λ z. IsWalk (play w) s.boards z in subst P visits x.walk
 
-  pub has-last : (play w).has (visit_board (visit t)) ≡ true
+  pub has-last : (play w).has (board_of t) ≡ true
   has-last = (known-back (play w) (map visit tasks) (visit t ∷ []) walk-last.known).0
 
-  in-reached : (p : Grid) → In p (kept boards (boards_left (play w) (map visit (tasks ++ (t ∷ []))))) → In p (flat_map (play w).all w.starts)
+  in-reached : (p : Grid) → In p (kept s.boards (boards_left (play w) (map visit (tasks ++ (t ∷ []))))) → In p (flat_map (play w).all w.starts)
   in-reached p m = elim (kept-among [] (flat_map (play w).all w.starts) p (carry p _ _ x.rest m)) [
     | inl nothing ↦ absurd nothing
     | inr one ↦ one
   ]
 
-  pub seen-reached : (p : Grid) → In p boards → In p (flat_map (play w).all w.starts)
-  seen-reached p m = in-reached p (kept-keeps boards (boards_left (play w) (map visit (tasks ++ (t ∷ [])))) p m)
+  pub seen-reached : (p : Grid) → In p s.boards → In p (flat_map (play w).all w.starts)
+  seen-reached p m = in-reached p (kept-keeps s.boards (boards_left (play w) (map visit (tasks ++ (t ∷ [])))) p m)
 
-  last-reached : In (visit_board (visit t)) (flat_map (play w).all w.starts)
+  last-reached : In (board_of t) (flat_map (play w).all w.starts)
   last-reached =
-      let p = visit_board (visit t) in
-      in-reached p (kept-has boards (boards_left (play w) (map visit (tasks ++ (t ∷ [])))) p
+      let p = board_of t in
+      in-reached p (kept-has s.boards (boards_left (play w) (map visit (tasks ++ (t ∷ [])))) p
       (carry p (visit_boards (play w) (visit t) ++ boards_left (play w) (map visit tasks))
       (boards_left (play w) (map visit (tasks ++ (t ∷ []))))
       (sym (ap (boards_left (play w)) visits ∙ boards_left-append (play w) (map visit tasks) (visit t ∷ [])))
@@ -141,16 +141,16 @@ module _ (w : Way) (lawful : IsPlay (play w)) (boards : List Grid) (nexts : List
       (own-board w lawful (visit t) has-last))))
 
   pub seen-alone : AreAlone (λ p. parts_of w.game w.course p) (kept [] (flat_map (play w).all w.starts))
-      → AreAlone (λ p. parts_of w.game w.course p) boards
+      → AreAlone (λ p. parts_of w.game w.course p) s.boards
   seen-alone h p m = h p (kept-has [] (flat_map (play w).all w.starts) p (seen-reached p m))
 
   -- boards with the symbols of the last task's
   pub alike-last : (h : AreStarts (play w) w.starts) (qs : List Grid)
-      → ((q : Grid) → In q qs → q.symbols ≡ (visit_board (visit t)).symbols) → AreAlike (boards ++ qs)
+      → ((q : Grid) → In q qs → q.symbols ≡ (board_of t).symbols) → AreAlike (s.boards ++ qs)
   alike-last h qs same p q m n =
-      let go : (y : Grid) → In y (boards ++ qs) → y.symbols ≡ h.symbols = λ y k. elim (in-append y boards qs k) [
+      let go : (y : Grid) → In y (s.boards ++ qs) → y.symbols ≡ h.symbols = λ y k. elim (in-append y s.boards qs k) [
         | inl o ↦ reached-symbols (play w) lawful w.starts h y (seen-reached y o)
-        | inr o ↦ same y o ∙ reached-symbols (play w) lawful w.starts h (visit_board (visit t)) last-reached
+        | inr o ↦ same y o ∙ reached-symbols (play w) lawful w.starts h (board_of t) last-reached
       ] in
       go p m ∙ sym (go q n)
 

@@ -1,10 +1,8 @@
 -- Boards by their places in lists.
-use Rattle.std.proofs.Common.{◌≡◌, refl, ℕ, zero, suc, ◌<◌, ◌⊎◌, inl, inr, List, [], ◌∷◌, ◌++◌, length, ap, sym, subst, arith, take, drop, get_or}
+use Rattle.std.proofs.Common.{◌≡◌, refl, ℕ, zero, suc, ◌<◌, inl, inr, List, [], ◌∷◌, ◌++◌, length, sym, arith, take, drop, get_or}
 use Rattle.cg_moves.specs.Grid.{Grid}
-use Rattle.cg_moves.specs.Kept.{kept, one_more}
 use Rattle.cg_moves.specs.Opened.{IsAt, StandAt}
 use Rattle.cg_moves.specs.Rules.{In}
-use Rattle.cg_moves.proofs.KeptLemmas.{in_or_not, one_more-new, one_more-there}
 
 -- ---- one board
 
@@ -17,12 +15,6 @@ pub at-last : (ps : List Grid) (p : Grid) → IsAt (ps ++ (p ∷ [])) (length ps
 at-last [] p = refl
 at-last (x ∷ ps) p = at-last ps p
 
-pub at-back : (ps : List Grid) (q : Grid) (n : ℕ) (p : Grid) → IsAt (ps ++ (q ∷ [])) n p → IsAt ps n p ⊎ ((n ≡ length ps) × (q ≡ p))
-at-back [] q zero p m = inr (refl, m)
-at-back [] q (suc n) p m = absurd m
-at-back (x ∷ ps) q zero p m = inl m
-at-back (x ∷ ps) q (suc n) p m = elim (at-back ps q n p m) [ inl k ↦ inl k | inr k ↦ inr (ap suc k.0, k.1) ]
-
 pub at-in : (ps : List Grid) (n : ℕ) (p : Grid) → IsAt ps n p → In p ps
 at-in [] n p m = absurd m
 at-in (x ∷ ps) zero p m = inl (sym m)
@@ -33,25 +25,10 @@ in-at [] p m = absurd m
 in-at (x ∷ ps) p (inl e) = (0, sym e)
 in-at (x ∷ ps) p (inr m) = let (n, k) = in-at ps p m in (suc n, k)
 
-pub at-below : (ps : List Grid) (n : ℕ) (p : Grid) → IsAt ps n p → n < length ps
-at-below [] n p m = absurd m
-at-below (x ∷ ps) zero p m = omega arith
-at-below (x ∷ ps) (suc n) p m = let h = at-below ps n p m in omega arith
-
 pub board-read : (ps : List Grid) (n : ℕ) (p : Grid) → n < length ps → p ≡ get_or ps n p → IsAt ps n p
 board-read [] n p l e = absurd (omega arith)
 board-read (x ∷ ps) zero p l e = sym e
 board-read (x ∷ ps) (suc n) p l e = board-read ps n p (omega arith) e
-
-pub at-one_more : (ps : List Grid) (q : Grid) (n : ℕ) (p : Grid) → IsAt ps n p → IsAt (one_more ps q) n p
-at-one_more ps q n p m = let P : List Grid → Type 0 = λ z. IsAt z n p in elim (in_or_not ps q) [
-  | inl there ↦ subst P (sym (one_more-there ps q there)) m
-  | inr out ↦ subst P (sym (one_more-new ps q out)) (at-append ps (q ∷ []) n p m)
-]
-
-pub at-kept : (ps qs : List Grid) (n : ℕ) (p : Grid) → IsAt ps n p → IsAt (kept ps qs) n p
-at-kept ps [] n p m = m
-at-kept ps (q ∷ qs) n p m = at-kept (one_more ps q) qs n p (at-one_more ps q n p m)
 
 -- ---- many
 

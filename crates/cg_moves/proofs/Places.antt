@@ -24,9 +24,3 @@ module _ {X : Type 0} where
       go (y ∷ ys) zero l e = ap (λ z. z ∷ []) (sym e)
       go (y ∷ ys) (suc k) l e = let s : suc k + 1 ≡ suc (k + 1) = omega arith in
           ap (λ n. take n (y ∷ ys)) s ∙ ap (λ z. y ∷ z) (go ys k (omega arith) e)
-
-  pub in-take : (xs : List X) (i : ℕ) (x : X) → In x (take i xs) → In x xs
-  in-take xs zero x m = absurd m
-  in-take [] (suc i) x m = absurd m
-  in-take (y ∷ xs) (suc i) x (inl e) = inl e
-  in-take (y ∷ xs) (suc i) x (inr m) = inr (in-take xs i x m)

@@ -1,32 +1,22 @@
--- The boards that play can come to: each comes behind those that its moves lead to, and the board itself is the last.
-use Rattle.std.proofs.Common.{◌≡◌, refl, suc, ◌<◌, true, inl, inr, List, [], ◌∷◌, ◌++◌, ap, sym, ◌∙◌, subst, arith}
+-- The boards that play can come to: all are boards of the game, and the board itself is the last.
+use Rattle.std.proofs.Common.{◌≡◌, suc, ◌<◌, true, inl, inr, [], ◌∷◌, ◌++◌, ap, ◌∙◌, arith}
 use Rattle.std.specs.List.{flat_map}
-use Rattle.cg_moves.specs.declared.player.Player.{Player}
-use Rattle.cg_moves.specs.declared.player.Player.TheVariants.{Left, Right}
-use Rattle.cg_moves.specs.Grid.{Grid, IsLike, with_cells}
-use Rattle.cg_moves.specs.Rules.{GameRules, In, IsLawful, boards_after, followers}
+use Rattle.cg_moves.specs.Grid.{Grid}
+use Rattle.cg_moves.specs.Rules.{GameRules, In, IsLawful, followers}
 use Rattle.cg_moves.specs.declared.course.Course.TheVariants.{Moves}
 use Rattle.cg_moves.specs.Kept.{kept}
 use Rattle.cg_moves.specs.Plays.{Play, play_of}
 use Rattle.cg_moves.specs.Reach.{all_reached, reach_of}
 use Rattle.cg_moves.proofs.Bounds.{follower-has, follower-lowers, reached-moves}
 use Rattle.cg_moves.proofs.KeptLemmas.{kept-among, kept-append, once-kept, one_more-new}
-use Rattle.cg_moves.proofs.Members.{carry, in-append, in-flat_map, in-map}
-use Rattle.cg_moves.proofs.PlayLemmas.{by-moves, one_start, reach-kept_all}
-use Rattle.cg_moves.proofs.PlayOrder.{all-each, seen-first}
+use Rattle.cg_moves.proofs.Members.{carry, in-flat_map}
+use Rattle.cg_moves.proofs.PlayLemmas.{by-moves}
+use Rattle.cg_moves.proofs.PlayOrder.{all-each}
 
 module _ (r : GameRules) where
   pub reach-kept : (p : Grid) → reach_of r p ≡ kept [] (all_reached r p)
   unfolding reach_of
   reach-kept p = once-kept (all_reached r p)
-
-  pub follower-like : (start p q : Grid) → IsLike start p → In q (followers r p) → IsLike start q
-  follower-like start p q like m =
-      let go : (player : Player) → In q (boards_after r player p) → IsLike start q = λ player k.
-      (let (cells, n, e) = in-map (with_cells p) q (r.moves player p) k in
-      let P : Grid → Type 0 = λ z. IsLike start z in
-      subst P (sym e) (ap (λ z. with_cells z cells) like)) in
-      elim (in-append q (boards_after r Left p) (boards_after r Right p) m) [ inl k ↦ go Left k | inr k ↦ go Right k ]
 
   module _ (lawful : IsLawful r) where
     abbrev w : Play
@@ -50,16 +40,6 @@ module _ (r : GameRules) where
     pub reach-has : (p q : Grid) → r.has p ≡ true → In q (reach_of r p) → r.has q ≡ true
     reach-has p q has m = each-reached (λ z. r.has z ≡ true) (λ s t h k l. follower-has r lawful s t h l) p has has q
         (in-reach p q m)
-
-    pub reach-like : (p q : Grid) → r.has p ≡ true → In q (reach_of r p) → IsLike p q
-    reach-like p q has m = each-reached (λ z. IsLike p z) (λ s t h k l. follower-like p s t k l) p has refl q (in-reach p q m)
-
-    -- the boards that the moves of a board lead to stand before it
-    pub reach-first : (start : Grid) (front back : List Grid) (p q : Grid) → r.has start ≡ true
-        → reach_of r start ≡ front ++ (p ∷ back) → In q (followers r p) → In q front
-    reach-first start front back p q has e m =
-        seen-first w (by-moves r lawful) (start ∷ []) (one_start r lawful start (start ∷ []) has refl) front back p q
-        (sym (reach-kept_all r lawful start (start ∷ []) refl) ∙ e) m
 
     before-lower : (p q : Grid) → r.has p ≡ true → In q (flat_map (all_reached r) (followers r p))
         → r.measure q < r.measure p

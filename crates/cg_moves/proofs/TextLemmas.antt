@@ -27,10 +27,6 @@ abbrev pub rows_behind : List (List ℕ) → List (List ℕ)
 rows_behind [] = []
 rows_behind (row ∷ rows) = rows
 
-front-length : (c : ℕ) (rows : List (List ℕ)) → length (first_row (in_front c rows)) ≡ length (first_row rows) + 1
-front-length c [] = omega arith
-front-length c (row ∷ rows) = omega arith
-
 front-cells : (c : ℕ) (rows : List (List ℕ)) → cells_of (in_front c rows) ≡ c ∷ cells_of rows
 front-cells c [] = refl
 front-cells c (row ∷ rows) = refl
@@ -55,19 +51,9 @@ drop-next : (xs : List ℕ) (i c : ℕ) → i < length xs → c ≡ get_or xs i 
 drop-next xs i c l e = let s : i + 1 ≡ suc i = omega arith in
     drop-read xs i l ∙ ap (λ z. z ∷ drop (suc i) xs) (sym e) ∙ ap (λ n. c ∷ drop n xs) (sym s)
 
-drop-end : (xs : List ℕ) (i : ℕ) → length xs ≤ i → drop i xs ≡ []
-drop-end [] zero h = refl
-drop-end [] (suc i) h = refl
-drop-end (x ∷ xs) zero h = absurd (omega arith)
-drop-end (x ∷ xs) (suc i) h = drop-end xs i (omega arith)
-
--- ---- the length of the first row
+-- ---- a text from a place on
 
 module _ (text : List ℕ) (i c : ℕ) (within : i < length text) (read : c ≡ get_or text i 0) where
-  pub first-more : (c ≡ bar → ⊥) → length (first_row (cut (drop i text))) ≡ length (first_row (cut (drop (i + 1) text))) + 1
-  first-more n = ap (λ z. length (first_row (cut z))) (drop-next text i c within read)
-      ∙ ap (λ z. length (first_row z)) (cut-front c (drop (i + 1) text) n) ∙ front-length c (cut (drop (i + 1) text))
-
   pub rows-bar : c ≡ bar → length (cut (drop i text)) ≡ length (cut (drop (i + 1) text)) + 1
   rows-bar e =
       let a = ap (λ z. length (cut z)) (drop-next text i c within read) in
@@ -77,9 +63,6 @@ module _ (text : List ℕ) (i c : ℕ) (within : i < length text) (read : c ≡ 
   pub rows-more : (c ≡ bar → ⊥) → length (cut (drop i text)) ≡ length (cut (drop (i + 1) text))
   rows-more n = ap (λ z. length (cut z)) (drop-next text i c within read) ∙ ap length (cut-front c (drop (i + 1) text) n)
       ∙ front-rows c (cut (drop (i + 1) text)) (some-row (drop (i + 1) text))
-
-  cells-bar : c ≡ bar → cells_of (cut (drop i text)) ≡ cells_of (cut (drop (i + 1) text))
-  cells-bar e = ap (λ z. cells_of (cut z)) (drop-next text i c within read) ∙ ap cells_of (cut-bar c (drop (i + 1) text) e)
 
   cells-more : (c ≡ bar → ⊥) → cells_of (cut (drop i text)) ≡ c ∷ cells_of (cut (drop (i + 1) text))
   cells-more n = ap (λ z. cells_of (cut z)) (drop-next text i c within read) ∙ ap cells_of (cut-front c (drop (i + 1) text)
@@ -99,11 +82,6 @@ module _ (text : List ℕ) (i c : ℕ) (within : i < length text) (read : c ≡ 
       ∙ sym (append_assoc cells (c ∷ []) (cells_of (cut (drop (i + 1) text))))
       ∙ ap (λ z. z ++ cells_of (cut (drop (i + 1) text))) (sym f)
 
-  pub bar-left : (one_row : Bool) (all cells : List ℕ) → all ≡ cells ++ cells_of (rows_of one_row (drop i text))
-      → one_row ≡ false → c ≡ bar → all ≡ cells ++ cells_of (rows_of one_row (drop (i + 1) text))
-  bar-left true all cells e f b = cc
-  bar-left false all cells e f b = e ∙ ap (λ z. cells ++ z) (cells-bar b)
-
 -- ---- the cells, put into an array
 
 pub which_cell : (one_row : Bool) (c : ℕ) → (one_row || not (c == bar)) ≡ true → (one_row ≡ true) ⊎ (c ≡ bar → ⊥)
@@ -111,13 +89,6 @@ which_cell true c e = inl refl
 which_cell false c e = elim (eqb_tells c bar) [
   | inl p ↦ (let f : (false || not (c == bar)) ≡ false = ap (λ b. false || not b) p.0 in absurd cc)
   | inr p ↦ inr p.1
-]
-
-pub no_cell : (one_row : Bool) (c : ℕ) → (one_row || not (c == bar)) ≡ false → (one_row ≡ false) × (c ≡ bar)
-no_cell true c e = absurd cc
-no_cell false c e = elim (eqb_tells c bar) [
-  | inl p ↦ (refl, p.1)
-  | inr p ↦ (let f : (false || not (c == bar)) ≡ true = ap (λ b. false || not b) p.0 in absurd cc)
 ]
 
 -- there is room where a cell more is among few
@@ -131,15 +102,6 @@ room all cells rest n c few inside e =
 
 pub taken : (n : ℕ) (all cells : List ℕ) → n ≡ length cells → take (length cells) all ≡ cells → take n all ≡ cells
 taken n all cells e same = ap (λ k. take k all) e ∙ same
-
-pub first-end : (text : List ℕ) (i : ℕ) → length text ≤ i → length (first_row (cut (drop i text))) ≡ 0
-first-end text i h = ap (λ z. length (first_row (cut z))) (drop-end text i h)
-
-pub cells-end : (one_row : Bool) (text all cells : List ℕ) (i : ℕ) → length text ≤ i
-    → all ≡ cells ++ cells_of (rows_of one_row (drop i text)) → cells ≡ all
-cells-end true text all cells i h e = sym (e ∙ ap (λ z. cells ++ (z ++ [])) (drop-end text i h) ∙ append-nil cells)
-cells-end false text all cells i h e = sym (e ∙ ap (λ z. cells ++ cells_of (cut z)) (drop-end text i h) ∙ append-nil
-    cells)
 
 -- ---- the first ragged row
 

@@ -7,10 +7,9 @@ use Rattle.cg_moves.specs.Kept.{kept, one_more}
 use Rattle.cg_moves.specs.Plays.{IsPlay, Play}
 use Rattle.cg_moves.specs.Rules.{In}
 use Rattle.cg_moves.specs.Walks.{AreReady, GoesOn, IsWalk, Visit, Enters, Leaves, boards_left, entered}
-use Rattle.cg_moves.proofs.ComesAfter.{own-all}
 use Rattle.cg_moves.proofs.TaskLemmas.{boards_left-append, boards_left-entered, known-append, known-back, known-entered, known-front, load-append, load-entered, ready-change, ready-entered, ready-last}
 use Rattle.cg_moves.proofs.KeptLemmas.{kept-append, kept-there, one_more-among, one_more-has, one_more-keeps}
-use Rattle.cg_moves.proofs.Members.{carry, in-append, in_flat_mapped, in_one}
+use Rattle.cg_moves.proofs.Members.{carry, in-append, in_one}
 
 module _ (r : Play) where
   module _ (lawful : IsPlay r) (seen : List Grid) (tasks : List Visit) (p : Grid) where
@@ -81,13 +80,6 @@ module _ (r : Play) where
           rest = entered_rest known.0;
           less = omega arith;
         })
-
-    -- what comes next after a board that is to be left was seen
-    pub next-seen : IsWalk r seen (tasks ++ (Leaves p ∷ [])) → (q : Grid) → In q (r.next p) → In q seen
-    next-seen w q m =
-        let known = known-back r tasks (Leaves p ∷ []) w.known in
-        ready-last r seen p tasks w.ready q (in_flat_mapped r.all q q (r.next p) m (own-all r lawful q
-        (lawful.has p q known.0 m)))
 
     -- a board is left
     pub leave : (more : List Grid) → IsWalk r seen (tasks ++ (Leaves p ∷ [])) → more ≡ one_more seen p

@@ -11,7 +11,7 @@ use Rattle.cg_moves.specs.Kept.{kept}
 use Rattle.cg_moves.specs.Opened.{AreCounted, AreNext, StandAt}
 use Rattle.cg_moves.specs.Plays.{Play, parts_of, play_of}
 use Rattle.cg_moves.specs.Rules.{GameRules, In}
-use Rattle.cg_moves.specs.Walks.{AreOpen, IsWalk, Visit, Enters, Leaves, boards_left}
+use Rattle.cg_moves.specs.Walks.{AreOpen, IsWalk, Visit, Enters, Leaves, boards_left, visit_board}
 
 -- the game, what comes next in a walk, and the boards that it begins with
 pub record Way : Type 0 where
@@ -36,14 +36,13 @@ reached w = kept [] (flat_map (play w).all w.starts)
 abbrev pub AreAlone : (Grid → List Grid) → List Grid → Type 0
 AreAlone cut ps = (p : Grid) → In p ps → cut p ≡ p ∷ []
 
--- the board of each task
+-- what each task visits, and the board of each task
 abbrev pub visit : Task → Visit
 visit (Enter p) = Enters p
 visit (Leave e) = Leaves e.board
 
 abbrev pub board_of : Task → Grid
-board_of (Enter p) = p
-board_of (Leave e) = e.board
+board_of t = visit_board (visit t)
 
 -- boards that were found: each once, and all among those that come after the starts
 pub record AreFound (w : Way) (found : List Grid) : Type 0 where

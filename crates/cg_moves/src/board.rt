@@ -19,11 +19,12 @@ use std::marker::Model;
 /// are kept in four words ([`Planes`]), so that a board takes no memory of its own.
 #[derive(Debug, Drop)]
 pub struct Board {
+    // First, so that they are copied in whole words.
+    planes: Planes,
+    symbols: [u8; 16],
     rows: u8,
     columns: u8,
     count: u8,
-    symbols: [u8; 16],
-    planes: Planes,
 }
 
 impl Model for Board {

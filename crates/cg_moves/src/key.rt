@@ -6,13 +6,13 @@ ghost use Rattle.cg_moves.specs.Seen.{key_of};
 use crate::{Board, Planes};
 
 /// The key of a board: its rows, its columns, and its cells in words. Boards with the same symbols have the same key exactly if
-/// they are equal.
+/// they are equal. Each part is a word, since a part that is copied together with padding before it makes the processor wait.
 #[derive(Clone, Copy, Debug, PartialEq, Eq, Hash)]
 pub struct BoardKey {
     /// How many rows there are.
-    pub rows: u8,
+    pub rows: u64,
     /// How many columns there are.
-    pub columns: u8,
+    pub columns: u64,
     /// The cells in words.
     pub planes: Planes,
 }
@@ -24,8 +24,8 @@ impl Board {
         ensures grid { IsGrid self.now }
     {
         BoardKey {
-            rows: self.rows(),
-            columns: self.columns(),
+            rows: self.rows() as u64,
+            columns: self.columns() as u64,
             planes: self.planes(),
         }
     }

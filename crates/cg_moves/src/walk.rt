@@ -1,5 +1,5 @@
 //! A walk over the boards that play comes to: each is seen as soon as all that come after it were.
-ghost use Rattle.std.specs.Prelude.{◌≡◌, ◌<◌, ◌≤◌, ◌∷◌, ◌++◌, [], IfOk, OnOk, length, map, Err};
+ghost use Rattle.std.specs.Prelude.{◌≡◌, ◌<◌, ◌≤◌, ◌∷◌, ◌++◌, [], IfOk, OnOk, drop, length, map, take, Err};
 ghost use Rattle.cg_moves.specs.Opened.{AreNext, StandAt};
 ghost use Rattle.cg_moves.specs.Plays.{IsPlay, MayGo, parts_of, play_of};
 ghost use Rattle.cg_moves.specs.Walking.{AreAlone, IsWalking, Way, parts, play, reached, visit, way_of};
@@ -63,6 +63,21 @@ fn enter<R: Rules>(
     put_turned(&mut all.counts, &mut seen.counts)
 }
 
+/// Moves the pending places, from the one that stands at `first` on, behind the places.
+fn put_places(
+    places: &mut Vec<usize>,
+    pending: &mut Vec<usize>,
+    first: usize,
+) -> Result<(), AllocError>
+    requires { first ≤ length pending.old.items }
+    ensures places { IfOk result (λ _. places.new.items ≡ places.old.items ++ drop first pending.old.items) }
+    ensures pending { IfOk result (λ _. pending.new.items ≡ take first pending.old.items) }
+{
+    places.extend_from_slice(&pending[first..])?;
+    pending.truncate(first);
+    Ok(())
+}
+
 /// Leaves the board, which was entered: it is seen, and of the pending places its own takes the place of those that come
 /// next after it.
 fn leave(seen: &mut Seen, tasks: &[Task], entered: Entered, limit: u64) -> Result<(), ReachFault>
@@ -92,8 +107,7 @@ fn leave(seen: &mut Seen, tasks: &[Task], entered: Entered, limit: u64) -> Resul
         first_place: seen.places.len(),
         parts: seen.pending.len() - pending,
     })?;
-    seen.places.extend_from_slice(&seen.pending[pending..])?;
-    seen.pending.truncate(pending);
+    put_places(&mut seen.places, &mut seen.pending, pending)?;
     seen.pending.push(place)?;
     Ok(())
 }

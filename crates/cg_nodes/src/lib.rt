@@ -26,7 +26,7 @@ pub use fault::PositionsFault;
 pub use found::Found;
 pub use handle::{Handle, Handles, Kind, ListId};
 pub use known::known_game;
-pub use making::{game, list, number};
+pub use making::{expect_game, game, list, number};
 pub use reading::{Reading, Sides, Split, handles, head, kind, options, read};
 pub use structure::compare_structure;
 pub use walk::positions;

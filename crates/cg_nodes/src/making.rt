@@ -9,7 +9,7 @@ ghost use Rattle.cg_nodes.specs.Longs.{cells_of};
 
 use crate::long::claim_long;
 use crate::{BoardForms, GameFacts, Handle, ListId};
-use cg_cells::{CellStore, Key, KeyParts};
+use cg_cells::{CellStore, Id, Key, KeyParts};
 use cg_dyadic::Dyadic;
 
 // The handle of a narrow number. It spends one claim.
@@ -53,10 +53,7 @@ fn prepend<B: BoardForms, S: CellStore<GameFacts<B>>>(
         (game_at (S.state store.old) first ∷ listed (S.state store.old) rest) }
     ensures spends { Spends 1 (S.state store.old) (S.state store.new) }
 {
-    let key = Key::pack(KeyParts::Cons {
-        first: first.id(),
-        rest: rest.id,
-    });
+    let key = Key::list(first.id(), rest.id);
     ListId {
         id: Some(store.claim(key)),
     }
@@ -76,6 +73,42 @@ pub fn list<B: BoardForms, S: CellStore<GameFacts<B>>>(store: &mut S, options: &
     list
 }
 
+// Tells the store that the list of these games may be claimed soon. It answers the id that the list would most likely have.
+fn expect_list<B: BoardForms, S: CellStore<GameFacts<B>>>(
+    store: &mut S,
+    options: &[Handle],
+) -> Option<Id>
+    ensures { Spends 0 (S.state store.old) (S.state store.new) }
+{
+    let mut list = None;
+    for option in options.iter().rev() {
+        let key = Key::list(option.id(), list);
+        list = Some(store.expect_claim(key));
+    }
+    list
+}
+
+/// Tells the store that the game of the lists of these Left and Right options may be claimed soon, so that it may bring the cells
+/// of both lists and of the game near. Nothing that contracts see changes.
+pub fn expect_game<B: BoardForms, S: CellStore<GameFacts<B>>>(
+    store: &mut S,
+    lefts: &[Handle],
+    rights: &[Handle],
+)
+    ensures { Spends 0 (S.state store.old) (S.state store.new) }
+{
+    let left_list = expect_list(store, lefts);
+    let right_list = if lefts == rights {
+        left_list
+    } else {
+        expect_list(store, rights)
+    };
+    if left_list.is_some() || right_list.is_some() {
+        let key = Key::game(left_list, right_list);
+        store.expect_claim(key);
+    }
+}
+
 /// The handle of the game with these lists of Left and Right options, which must be canonical and so equals no number. It
 /// spends one claim.
 pub fn game<B: BoardForms, S: CellStore<GameFacts<B>>>(
@@ -91,9 +124,6 @@ pub fn game<B: BoardForms, S: CellStore<GameFacts<B>>>(
         (node (listed (S.state store.old) lefts) (listed (S.state store.old) rights)) }
     ensures spends { Spends 1 (S.state store.old) (S.state store.new) }
 {
-    let key = Key::pack(KeyParts::Game {
-        lefts: lefts.id,
-        rights: rights.id,
-    });
+    let key = Key::game(lefts.id, rights.id);
     Handle::of(store.claim(key))
 }

@@ -44,12 +44,12 @@ module _ {S X : Type 0} (m : Meaning X) (L : IsLawful m) (p : Plan) (slots id : 
         (refl, refl, told (set s.words 0 (n + 1)) s.views (after_draw me.0 n) W' (at, alive) (drawn_alive n)),
       )
 
-  pub check_allowed : Allows (Kept m p) slots id me 0 (λ n. n) (Checked m (step slots 0 0 0 none) me)
-  check_allowed s W len at fits = (
+  pub check_allowed : (word : ℕ) → Allows (Kept m p) slots id me word (λ n. n) (Checked m (step slots word 0 0 none) me)
+  check_allowed word s W len at fits = (
     me.0,
     keeps,
     tt,
-    subst (λ vs. Whole m (sizes_of p) (set s.words 0 (slice_index s.words 0)) vs) (sym (set_again s.views id me.0 at)) (subst (λ ws. Whole m (sizes_of p) ws s.views) (sym (word_again s.words 0)) W),
+    subst (λ vs. Whole m (sizes_of p) (set s.words word (slice_index s.words word)) vs) (sym (set_again s.views id me.0 at)) (subst (λ ws. Whole m (sizes_of p) ws s.views) (sym (word_again s.words word)) W),
     (refl, refl, is_sure m L (sizes_of p) s.words s.views W id me.0 (at, alive)),
   )
 

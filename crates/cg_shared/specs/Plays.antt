@@ -16,7 +16,7 @@ module _ {S X : Type 0} (m : Meaning X) where
   abbrev pub Drew : Step S → Me S (ViewOf X) → ℕ → Me S (ViewOf X) → Type 0
   Drew st me n me' = (me'.1 ≡ me.1) × (me'.0 ≡ after_draw me.0 n) × Sure m me'.0
 
-  -- a load of the counter, which only tells what the rule says of the view
+  -- a load of a word of which nothing is learnt: it only tells what the rule says of the view
   abbrev pub Checked : Step S → Me S (ViewOf X) → ℕ → Me S (ViewOf X) → Type 0
   Checked st me n me' = (me'.1 ≡ me.1) × (me'.0 ≡ me.0) × Sure m me'.0
 

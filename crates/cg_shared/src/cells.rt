@@ -101,4 +101,31 @@ impl<F: Facts> SharedCells<F> {
         }
         Some(Id::new((word - 1) as u32))
     }
+    /// Loads the word of the cell where the search for this key begins, so that it is near when the key is claimed, and answers
+    /// the id of that cell. Nothing is learnt.
+    pub fn expect_claim(&self, pass: &mut Pass<F>, key: Key) -> Id
+        requires own { IsPassOf self.now pass.old }
+        ensures own { IsPassOf self.now pass.new }
+        ensures view { pass.new.sees ≡ pass.old.sees }
+        ensures spends { Spends 0 (pass_state pass.old) (pass_state pass.new) }
+    {
+        let shared = &self.table.shared;
+        let home = F::home(key.word(), self.size());
+        steps::check::<F>(shared, &mut pass.seat, 1 + home as usize);
+        Id::new(home as u32)
+    }
+
+    /// Loads the value word of this id, if it is one of the table's, so that it is near when it is asked for. Nothing is learnt.
+    pub fn expect_note(&self, pass: &mut Pass<F>, id: Id)
+        requires own { IsPassOf self.now pass.old }
+        ensures own { IsPassOf self.now pass.new }
+        ensures view { pass.new.sees ≡ pass.old.sees }
+        ensures spends { Spends 0 (pass_state pass.old) (pass_state pass.new) }
+    {
+        let size = self.size() as usize;
+        let cell = id.number() as usize;
+        if cell < size {
+            steps::check::<F>(&self.table.shared, &mut pass.seat, 1 + size + cell);
+        }
+    }
 }

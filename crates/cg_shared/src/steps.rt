@@ -156,18 +156,19 @@ pub(crate) fn split<F: Facts, H: Heirs>(
     shared.split_seat::<Cuts<H>>(seat)
 }
 
-// What the rule tells of the view.
+// A load of a word, of which nothing is learnt but what the rule tells of the view.
 pub(crate) fn check<F: Facts>(
     shared: &Shared<(), View<F::Thing>, Plan, Rule<F>>,
     seat: &mut Seat<(), View<F::Thing>>,
+    word: usize,
 )
-    requires table { (seat.old.table_id ≡ shared.now.table_id) × (0 < shared.now.table_id.words) }
+    requires table { (seat.old.table_id ≡ shared.now.table_id) × (word < shared.now.table_id.words) }
     requires live { seat.old.me.0.gone ≡ false }
     ensures same { (seat.new.table_id ≡ seat.old.table_id) × (seat.new.me.1 ≡ seat.old.me.1) }
     ensures view { seat.new.me.0 ≡ seat.old.me.0 }
     ensures sure { Sure F.meaning seat.new.me.0 }
 {
-    shared.load::<Checks<F>>(seat, 0);
+    shared.load::<Checks<F>>(seat, word);
 }
 
 pub(crate) fn meet<F: Facts>(
@@ -183,5 +184,5 @@ pub(crate) fn meet<F: Facts>(
     ensures sure { Sure F.meaning seat.new.me.0 }
 {
     shared.join_seat::<Meets>(seat, other);
-    check::<F>(shared, seat);
+    check::<F>(shared, seat, 0);
 }

@@ -82,7 +82,7 @@ fn numbers(f: &Position, k: &Position) -> Option<Addends>
 }
 
 // Whether the position is the number 0.
-fn is_nothing(position: &Position) -> bool
+pub(crate) fn is_nothing(position: &Position) -> bool
     ensures { IsTrue result → position.now.number ≡ Some (whole (pos 0)) }
 {
     match position.number {

@@ -11,6 +11,7 @@
 #![tactic(auto)]
 
 mod addition;
+mod expecting;
 mod firsts;
 mod form;
 mod found;

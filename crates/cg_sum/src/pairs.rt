@@ -6,7 +6,7 @@ ghost use Rattle.cg_nodes.specs.Games.{IsGame, game_at};
 ghost use Rattle.cg_nodes.specs.Spelled.{game_meaning};
 ghost use Rattle.cg_sum.specs.Progress.{IsNoteOf};
 
-use cg_cells::{CellStore, Id, Key, KeyParts};
+use cg_cells::{CellStore, Id, Key};
 use cg_nodes::{BoardForms, GameFacts, Handle};
 
 /// The cell of the pair of the two handles, on which their sum is noted: one cell for either order of the
@@ -44,9 +44,28 @@ fn ordered_pair<B: BoardForms, S: CellStore<GameFacts<B>>>(
         (sum (game_at (S.state store.old) low) (game_at (S.state store.old) high)) }
     ensures spends { Spends 1 (S.state store.old) (S.state store.new) }
 {
-    let key = Key::pack(KeyParts::Pair {
-        low: low.id(),
-        high: high.id(),
-    });
+    let key = Key::pair(low.id(), high.id());
     store.claim(key)
+}
+
+/// Tells the store that the cell of the pair, and the sum that is noted on it, may be asked for soon.
+pub(crate) fn expect_pair<B: BoardForms, S: CellStore<GameFacts<B>>>(
+    store: &mut S,
+    a: Handle,
+    b: Handle,
+)
+    ensures { Spends 0 (S.state store.old) (S.state store.new) }
+{
+    let low = if a.id().number() <= b.id().number() {
+        a
+    } else {
+        b
+    };
+    let high = if a.id().number() <= b.id().number() {
+        b
+    } else {
+        a
+    };
+    let cell = store.expect_claim(Key::pair(low.id(), high.id()));
+    store.expect_note(cell);
 }

@@ -7,7 +7,8 @@ ghost use Rattle.cg_nodes.specs.Meant.{form};
 ghost use Rattle.cg_nodes.specs.Spelled.{can, game_meaning};
 ghost use Rattle.cg_values.specs.Chunks.{ChunksAs, IsChunks, chunked};
 
-use cg_cells::{CellStore, Id, Key, KeyParts};
+use cg_cells::{CellStore, Id, Key};
+use cg_moves::Board;
 use cg_nodes::{BoardForms, GameFacts};
 
 /// The cell of the content and the contents after it. It spends one claim.
@@ -21,7 +22,7 @@ fn chunk<B: BoardForms, S: CellStore<GameFacts<B>>>(
     ensures chunks { ChunksAs (S.state store.new) (Some result) (content ∷ chunked (S.state store.old) next) }
     ensures spends { Spends 1 (S.state store.old) (S.state store.new) }
 {
-    let key = Key::pack(KeyParts::Chunk { content, next });
+    let key = Key::chunk(content, next);
     store.claim(key)
 }
 
@@ -62,11 +63,38 @@ pub(crate) fn board_cell<B: BoardForms, S: CellStore<GameFacts<B>>>(
     ensures spends { Spends (length contents.now + 1) (S.state store.old) (S.state store.new) }
 {
     let first = chunks(store, contents);
-    let key = Key::pack(KeyParts::Board {
-        number,
-        rows,
-        columns,
-        first,
-    });
+    let key = Key::board(number, rows, columns, first);
     store.claim(key)
+}
+
+/// Tells the store that the chunks of the contents may be claimed soon, and answers the id that the first would most likely have.
+fn expect_chunks<B: BoardForms, S: CellStore<GameFacts<B>>>(
+    store: &mut S,
+    contents: &[u32],
+) -> Option<Id>
+    ensures { Spends 0 (S.state store.old) (S.state store.new) }
+{
+    let mut first = None;
+    for content in contents.iter().rev() {
+        first = Some(store.expect_claim(Key::chunk(*content, first)));
+    }
+    first
+}
+
+/// Tells the store that the cell of the board, by the contents of its cells, and the value that is noted on it may be asked for
+/// soon.
+pub(crate) fn expect_board<B: BoardForms, S: CellStore<GameFacts<B>>>(
+    store: &mut S,
+    number: u8,
+    board: &Board,
+    contents: &[u32],
+)
+    requires { (1 ≤ number) × (number ≤ 15) }
+    ensures { Spends 0 (S.state store.old) (S.state store.new) }
+{
+    if let Some(first) = expect_chunks(store, contents) {
+        let key = Key::board(number, board.rows(), board.columns(), first);
+        let cell = store.expect_claim(key);
+        store.expect_note(cell);
+    }
 }

@@ -10,7 +10,7 @@ use smallvec::SmallVec;
 use std::alloc::{AllocError, Global};
 
 /// How many cells a content holds.
-const CELLS: u8 = 16;
+pub(crate) const CELLS: u8 = 16;
 
 /// The place of the cell's symbol in a row of at most 4 symbols, from the first two words.
 fn place_at(planes: Planes, cell: u8) -> u8
@@ -38,7 +38,11 @@ fn content_of(planes: Planes, start: u8, end: u8) -> u32
 }
 
 /// The contents of so many cells.
-fn contents_in(alloc: Global, planes: Planes, size: u8) -> Result<SmallVec<u32, 4>, AllocError>
+pub(crate) fn contents_in(
+    alloc: Global,
+    planes: Planes,
+    size: u8,
+) -> Result<SmallVec<u32, 4>, AllocError>
     requires { size ≤ 64 }
     ensures written { IfOk result (λ all. AreWritten (places_at planes 0 size) all.items) }
     ensures few { IfOk result (λ all. length all.items ≤ 4) }

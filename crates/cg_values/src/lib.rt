@@ -4,6 +4,7 @@
 mod adder;
 mod cells;
 mod contents;
+mod expecting;
 mod forms;
 mod item;
 mod joining;

@@ -13,6 +13,7 @@ ghost use Rattle.cg_values.specs.Notes.{MayNote};
 ghost use Rattle.cg_values.specs.Parts.{HoldAt, part_items, parts_of, values_of};
 
 use crate::Adder;
+use crate::expecting::{boards_ahead, expect_boards};
 use crate::item::board_item;
 use crate::joining::joined;
 use crate::options::Options;
@@ -32,6 +33,8 @@ struct Part<'a> {
     counts: &'a [usize],
     places: &'a [usize],
     handles: &'a [Handle],
+    // The boards of which the store is told before.
+    ahead: &'a [Board],
 }
 
 /// Makes the items of the part, from the handles of the values of those before it.
@@ -71,6 +74,32 @@ fn part_value<B: BoardForms, S: CellStore<GameFacts<B>>, R: Rules, A: Adder>(
     board_item(alloc, work, rules, part.board, &options, start)
 }
 
+/// Makes the items of the part, from the handles of the values of those before it. Of the boards ahead the store is told before.
+fn expected_value<B: BoardForms, S: CellStore<GameFacts<B>>, R: Rules, A: Adder>(
+    alloc: Global,
+    work: &mut Work<B, S>,
+    rules: &R,
+    adder: &A,
+    part: Part<'_>,
+    start: u64,
+) -> Result<Handle, ValueFault>
+    requires has { (R.game rules.now).has part.board.now ≡ true }
+    requires notes { MayNote B.form (R.game rules.now) }
+    requires lefts { part.lefts ≡ length (boards_after (R.game rules.now) Left part.board.now) }
+    requires counts { part.counts.now
+        ≡ map (λ q. length (parts_of (R.game rules.now) q)) (followers (R.game rules.now) part.board.now) }
+    requires values { HoldAt (work_state S.state work.old) (R.game rules.now) part.handles.now part.places.now
+        (flat_map (parts_of (R.game rules.now)) (followers (R.game rules.now) part.board.now)) }
+    requires spare { start ≤ (work_state S.state work.old).spare }
+    ensures game { IfOk result (λ h. StandsFor (work_state S.state work.new) h (can (raw (R.game rules.now) part.entry.board.now))) }
+    ensures made { ItemsMade (work_state S.state work.old) (work_state S.state work.new)
+        (part_items work.old.limit (R.game rules.now) part.entry.board.now) result }
+    ensures spare { start ≤ (work_state S.state work.new).spare }
+{
+    expect_boards(alloc, work, rules.number(), part.ahead)?;
+    part_value(alloc, work, rules, adder, part, start)
+}
+
 /// Makes the items of the parts, in order, and gives the handles of their values.
 pub(crate) fn part_values<B: BoardForms, S: CellStore<GameFacts<B>>, R: Rules, A: Adder>(
     alloc: Global,
@@ -99,8 +128,9 @@ pub(crate) fn part_values<B: BoardForms, S: CellStore<GameFacts<B>>, R: Rules, A
             counts: opened.counts_of(next),
             places: opened.places_of(next),
             handles: &handles,
+            ahead: boards_ahead(opened.boards.as_slice(), place),
         };
-        let value = part_value(alloc, work, rules, adder, part, spare)?;
+        let value = expected_value(alloc, work, rules, adder, part, spare)?;
         handles.push(value)?;
     }
     Ok(handles)

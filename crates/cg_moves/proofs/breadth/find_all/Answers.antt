@@ -1,6 +1,4 @@
 use Rattle.std.proofs.Common.{◌<◌, List, length, map, reverse, ap, sym, ◌∙◌, subst}
-use Rattle.std.specs.Prelude.{Err}
-use Rattle.std.proofs.lemmas.Result.{err_from_is_err_and}
 use Rattle.cg_moves.specs.Grid.{Grid}
 use Rattle.cg_moves.specs.Kept.{kept}
 use Rattle.cg_moves.specs.Walking.{board_of}
@@ -24,9 +22,8 @@ loop-task-preserved c = record {
 }
 
 pub returns-in_err-find-clause-refused : goal.returns-in_err-find-clause-refused
-returns-in_err-find-clause-refused c =
-    let p = err_from_is_err_and c.from_residual.result c.from_residual.ensures.1 in λ e.
+returns-in_err-find-clause-refused c e =
     let P : List Grid → Type 0 = λ z. c.args.limit < length z in
     subst P c.loop-task.invariant.found (find-refused c.loop-task.found c.loop-task.tasks.items c.pop.new.self.items c.in-Some.task
     c.in-Some.ensures.items c.into_board.result c.into_board.ensures c.args.limit (c.in_err-find.ensures.refused
-    (ap Err (passed_on p.0 c.in_err-find.field-0.0 c.from_residual.result p.1 p.2 e))))
+    (passed_on c.in_err-find.field-0.0 c.from_residual.result c.from_residual.ensures.1 e)))

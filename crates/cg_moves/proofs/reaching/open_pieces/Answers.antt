@@ -1,11 +1,11 @@
-use Rattle.std.proofs.Common.{◌≡◌, ◌<◌, ◌≤◌, refl, List, length, subst, sym}
-use Rattle.std.specs.Prelude.{IfOk, OnOk}
+use Rattle.std.proofs.Common.{refl, List, subst, sym}
 use Rattle.cg_moves.specs.declared.course.Course.TheVariants.{Pieces}
 use Rattle.cg_moves.specs.Grid.{Grid}
 use Rattle.cg_moves.specs.Plays.{play_of}
 use Rattle.cg_moves.specs.Walks.{AreStarts}
 use Rattle.cg_moves.proofs.Members.{carry}
 use Rattle.cg_moves.proofs.PlayLemmas.{part-alone, piece_reach-all, piece_starts}
+use Rattle.cg_moves.proofs.Told.{told-along}
 use Rattle.cg_moves.proofs.reaching.open_pieces.Goals as goal
 
 pub open_all-requires : goal.open_all-requires
@@ -28,26 +28,17 @@ open_all-requires g c κs within =
       ),
     )
 
-pub returns-clause-boards : goal.returns-clause-boards
-returns-clause-boards g c =
-    let r = g.R.Rules.game c.args.rules.now in
+pub returns : goal.returns
+returns g c =
     let lawful = g.met.R.Rules.lawful c.args.rules.now in
-    let P : List Grid → Type 0 = λ z. IfOk c.open_all.result (λ opened. opened.boards ≡ z) in
-    subst P (sym (piece_reach-all r lawful (lawful.cut c.requires.cuts) c.args.start.now c.in_ok-starts.starts.items
-    c.requires.has c.in_ok-starts.ensures)) c.open_all.ensures.boards
-
-pub returns-clause-within : goal.returns-clause-within
-returns-clause-within g c =
-    let r = g.R.Rules.game c.args.rules.now in
-    let lawful = g.met.R.Rules.lawful c.args.rules.now in
-    let P : List Grid → Type 0 = λ z. OnOk c.open_all.result (length z ≤ c.args.limit) in
-    subst P (sym (piece_reach-all r lawful (lawful.cut c.requires.cuts) c.args.start.now c.in_ok-starts.starts.items
-    c.requires.has c.in_ok-starts.ensures)) c.open_all.ensures.within
-
-pub returns-clause-refused : goal.returns-clause-refused
-returns-clause-refused g c = λ e.
-    let r = g.R.Rules.game c.args.rules.now in
-    let lawful = g.met.R.Rules.lawful c.args.rules.now in
-    let P : List Grid → Type 0 = λ z. c.args.limit < length z in
-    subst P (sym (piece_reach-all r lawful (lawful.cut c.requires.cuts) c.args.start.now c.in_ok-starts.starts.items
-    c.requires.has c.in_ok-starts.ensures)) (c.open_all.ensures.refused e)
+    let told = told-along c.open_all.result c.args.limit _ _ _ _ (piece_reach-all (g.R.Rules.game c.args.rules.now) lawful
+    (lawful.cut c.requires.cuts) c.args.start.now c.in_ok-starts.starts.items c.requires.has c.in_ok-starts.ensures)
+    c.in_ok-starts.ensures c.open_all.ensures.boards c.open_all.ensures.starts c.open_all.ensures.within
+    c.open_all.ensures.refused in
+    record {
+      boards = told.boards;
+      next = c.open_all.ensures.next;
+      starts = told.starts;
+      within = told.within;
+      refused = told.refused;
+    }

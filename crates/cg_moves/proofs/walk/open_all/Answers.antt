@@ -1,36 +1,21 @@
 use Rattle.std.proofs.Common.{◌++◌, List, length, map, reverse, ap, sym, ◌∙◌, subst, arith}
 use Rattle.cg_moves.specs.declared.task.Task.{Task}
 use Rattle.cg_moves.specs.declared.task.Task.TheVariants.{Enter}
-use Rattle.cg_moves.specs.Walking.{AreAlone, IsOnWay, Way, parts, play, reached, way_of}
+use Rattle.cg_moves.specs.Walking.{IsWalking, Way, play}
 use Rattle.cg_moves.specs.Walks.{AreStarts}
 use Rattle.cg_moves.proofs.Broad.{first-in}
+use Rattle.cg_moves.proofs.CanFollow.{begins}
 use Rattle.cg_moves.proofs.Members.{carry}
-use Rattle.cg_moves.proofs.OnWay.{begun, reached-alone}
+use Rattle.cg_moves.proofs.OnWay.{begun}
 use Rattle.cg_moves.proofs.walk.open_all.Goals as goal
 
 pub look_in_breadth-requires : goal.look_in_breadth-requires
-look_in_breadth-requires g c κs inside =
-    let r = g.R.Rules.game c.args.rules.now in
-    let P : Way → Type 0 = λ z. AreStarts (play z) z.starts in
-    let A : Way → Type 0 = λ z. AreAlone (parts z) (reached z) in (
-      inside,
-      (
-        c.requires.1.0 ∙ ap (λ z. way_of r c.args.course z.starts) (sym c.requires.1.0),
-        (
-          c.requires.1.1.0,
-          (
-            subst P (sym c.requires.1.0) c.requires.1.1.1.0,
-            (
-              subst A (sym c.requires.1.0) (reached-alone r (g.met.R.Rules.lawful c.args.rules.now) c.args.course c.requires.1.1.0
-                  c.args.starts.items c.requires.1.1.1.0 c.requires.1.1.1.1),
-              carry c.in-Some.start.now c.deref.result.now g.way.starts
-                  (c.deref.ensures.value ∙ sym (ap (λ z. z.starts) c.requires.1.0))
-                  (first-in c.deref.result.now c.in-Some.start.now c.in-Some.ensures.value),
-            ),
-          ),
-        ),
-      ),
-    )
+look_in_breadth-requires g c κs inside = (
+  inside,
+  begins (g.R.Rules.game c.args.rules.now) (g.met.R.Rules.lawful c.args.rules.now) c.args.course g.way c.args.starts.items c.requires.1
+      (carry c.in-Some.start.now c.deref.result.now g.way.starts (c.deref.ensures.value ∙ sym (ap (λ z. z.starts) c.requires.1.0))
+      (first-in c.deref.result.now c.in-Some.start.now c.in-Some.ensures.value)),
+)
 
 pub loop-task-init : goal.loop-task-init
 loop-task-init g c =
@@ -46,29 +31,12 @@ loop-task-init g c =
     }
 
 pub step-requires : goal.step-requires
-step-requires g c κs inside =
-    let r = g.R.Rules.game c.args.rules.now in
-    let lawful = g.met.R.Rules.lawful c.args.rules.now in
-    let s = c.loop-task.seen in
-    let P : Way → Type 0 = λ z. AreStarts (play z) z.starts in
-    let A : Way → Type 0 = λ z. AreAlone (parts z) (reached z) in
-    let T : List Task → Type 0 = λ z. IsOnWay g.way s.boards s.next.items s.counts.items s.places.items s.pending.items z in (
-      inside,
-      (
-        c.requires.1.0 ∙ ap (λ z. way_of r c.args.course z.starts) (sym c.requires.1.0),
-        (
-          c.requires.1.1.0,
-          (
-            subst P (sym c.requires.1.0) c.requires.1.1.1.0,
-            (
-              subst A (sym c.requires.1.0) (reached-alone r lawful c.args.course c.requires.1.1.0 c.args.starts.items
-                  c.requires.1.1.1.0 c.requires.1.1.1.1),
-              (
-                subst T c.in-Some-pop.ensures.items c.loop-task.invariant.walking,
-                c.loop-task.invariant.within,
-              ),
-            ),
-          ),
-        ),
+step-requires g c κs inside = (
+  inside,
+  begins (g.R.Rules.game c.args.rules.now) (g.met.R.Rules.lawful c.args.rules.now) c.args.course g.way c.args.starts.items
+      c.requires.1 (
+        subst (λ (z : List Task). IsWalking g.way c.loop-task.seen z) c.in-Some-pop.ensures.items
+            c.loop-task.invariant.walking,
+        c.loop-task.invariant.within,
       ),
-    )
+)

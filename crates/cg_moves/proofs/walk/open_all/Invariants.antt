@@ -1,5 +1,5 @@
 use Rattle.std.proofs.Common.{◌≤◌, length, map}
-use Rattle.cg_moves.specs.Walking.{IsOnWay, play, visit}
+use Rattle.cg_moves.specs.Walking.{IsWalking, play, visit}
 use Rattle.cg_moves.specs.Walks.{load}
 use Rattle.cg_moves.proofs.walk.open_all.Given as goal
 
@@ -11,8 +11,7 @@ ghost-look_in_breadth g a = g.way
 
 abbrev pub invariant-loop-task : goal.invariant-loop-task
 invariant-loop-task g l = record {
-  walking : IsOnWay g.way l.seen.boards l.seen.next.items l.seen.counts.items l.seen.places.items l.seen.pending.items
-      l.tasks.items;
+  walking : IsWalking g.way l.seen l.tasks.items;
   within : length l.seen.boards ≤ l.limit;
 }
 

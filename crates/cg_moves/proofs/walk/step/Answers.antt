@@ -1,24 +1,19 @@
 use Rattle.std.proofs.Common.{◌<◌, ◌∷◌, [], ◌++◌, List, map, sym, subst}
 use Rattle.cg_moves.specs.declared.task.Task.{Task}
 use Rattle.cg_moves.specs.declared.task.Task.TheVariants.{Leave}
-use Rattle.cg_moves.specs.Plays.{IsPlay}
-use Rattle.cg_moves.specs.Walking.{IsOnWay, Way, play, visit}
+use Rattle.cg_moves.specs.Walking.{IsWalking, play, visit}
 use Rattle.cg_moves.specs.Walks.{load}
+use Rattle.cg_moves.proofs.CanFollow.{way-lawful}
 use Rattle.cg_moves.proofs.Carried.{ok_any}
 use Rattle.cg_moves.proofs.Leaving.{left-less}
-use Rattle.cg_moves.proofs.PlayLemmas.{plays}
 use Rattle.cg_moves.proofs.walk.step.Goals as goal
 
 pub leave-requires : goal.leave-requires
 leave-requires g c =
-    let r = g.R.Rules.game c.args.rules.now in
-    let s = c.args.seen.now in
-    let P : Way → Type 0 = λ z. IsPlay (play z) in
-    let T : Task → Type 0 = λ z. IsOnWay g.way s.boards s.next.items s.counts.items s.places.items s.pending.items
-    (c.args.tasks.now.items ++ (z ∷ [])) in
-    let D : List Task → Type 0 = λ z. IsOnWay g.way s.boards s.next.items s.counts.items s.places.items s.pending.items
-    (z ++ (Leave c.in-Leave.entered ∷ [])) in (
-      subst P (sym c.requires.1.0) (plays r (g.met.R.Rules.lawful c.args.rules.now) c.args.course c.requires.1.1.0),
+    let T : Task → Type 0 = λ z. IsWalking g.way c.args.seen.now (c.args.tasks.now.items ++ (z ∷ [])) in
+    let D : List Task → Type 0 = λ z. IsWalking g.way c.args.seen.now (z ++ (Leave c.in-Leave.entered ∷ [])) in (
+      way-lawful (g.R.Rules.game c.args.rules.now) (g.met.R.Rules.lawful c.args.rules.now) c.args.course g.way c.requires.1.0
+          c.requires.1.1.0,
       (
         c.requires.1.1.1.0,
         (

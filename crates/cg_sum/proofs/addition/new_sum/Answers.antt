@@ -1,6 +1,7 @@
 -- A sum that is made item by item, and kept.
 use Rattle.std.proofs.Common.{ap, ◌∙◌, Err}
 use Rattle.std.proofs.lemmas.Result.{err_from_is_err_and}
+use Rattle.cg_nodes.proofs.Later.{is_game_later}
 use Rattle.cg_canon.specs.Works.{work_state}
 use Rattle.cg_canon.proofs.MadeSteps.{passed}
 use Rattle.cg_sum.proofs.AgainSums.{kept_items}
@@ -22,3 +23,8 @@ keep_sum-requires-clause-items g c =
     let v = W c.found_sum.new.work in
     let items = passed w v _ c.found_sum.result _ c.in_ok-sum.was c.found_sum.ensures.made in
     kept_items w v c.found_sum.ensures.made.keeps c.args.a c.args.b c.spent-before.result c.requires.a c.requires.b c.spent-before.ensures.value items
+
+pub keep_sum-requires-clause-b : goal.keep_sum-requires-clause-b
+keep_sum-requires-clause-b g c =
+    let W = work_state g.S.CellStore.state in
+    is_game_later (W c.args.work.now) (W c.found_sum.new.work) c.found_sum.ensures.made.keeps.known c.args.b c.requires.b

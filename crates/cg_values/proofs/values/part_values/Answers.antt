@@ -24,25 +24,25 @@ places_of-requires g c =
     _ _ c.loop-place.invariant _ c.index-next.ensures in
     next.inside
 
-pub part_value-requires-clause-has : goal.part_value-requires-clause-has
-part_value-requires-clause-has g c =
+pub expected_value-requires-clause-has : goal.expected_value-requires-clause-has
+expected_value-requires-clause-has g c =
     part-has _ _ _ _ _ c.as_slice-board-items.ensures _ _ _ c.requires.next _ _ c.loop-place-test.true c.board-item.is _ _
     c.loop-place.invariant c.requires.has
 
-pub part_value-requires-clause-lefts : goal.part_value-requires-clause-lefts
-part_value-requires-clause-lefts g c =
+pub expected_value-requires-clause-lefts : goal.expected_value-requires-clause-lefts
+expected_value-requires-clause-lefts g c =
     let next = part-next _ _ _ _ _ c.as_slice-board-items.ensures _ _ _ c.requires.next _ _ c.loop-place-test.true c.board-item.is _ _
     c.loop-place.invariant _ c.index-next.ensures in
     next.counted.lefts
 
-pub part_value-requires-clause-counts : goal.part_value-requires-clause-counts
-part_value-requires-clause-counts g c =
+pub expected_value-requires-clause-counts : goal.expected_value-requires-clause-counts
+expected_value-requires-clause-counts g c =
     let next = part-next _ _ _ _ _ c.as_slice-board-items.ensures _ _ _ c.requires.next _ _ c.loop-place-test.true c.board-item.is _ _
     c.loop-place.invariant _ c.index-next.ensures in
     c.counts_of.ensures ∙ next.counted.counts
 
-pub part_value-requires-clause-values : goal.part_value-requires-clause-values
-part_value-requires-clause-values g c =
+pub expected_value-requires-clause-values : goal.expected_value-requires-clause-values
+expected_value-requires-clause-values g c =
     hold-as _ _ _ _ _ _ _ c.deref.ensures.value c.places_of.ensures
     (part-held _ _ _ _ _ c.as_slice-board-items.ensures _ _ _ c.requires.next _ _ c.loop-place-test.true c.board-item.is _ _
     c.loop-place.invariant _ c.index-next.ensures)
@@ -51,13 +51,13 @@ pub returns-in_err-value-clause-made : goal.returns-in_err-value-clause-made
 returns-in_err-value-clause-made g c =
     let p = err_from_is_err_and c.from_residual-in_err-value.result c.from_residual-in_err-value.ensures.1 in
     parts_stopped _ _ _ _ _ c.as_slice-board-items.ensures _ _ _ c.requires.next _ _ c.loop-place-test.true c.board-item.is _ _
-    c.loop-place.invariant _ _ c.part_value.ensures.made _ _ c.in_err-value.was (p.1 ∙ ap Err p.2)
+    c.loop-place.invariant _ _ c.expected_value.ensures.made _ _ c.in_err-value.was (p.1 ∙ ap Err p.2)
 
 pub loop-place-preserved : goal.loop-place-preserved
 loop-place-preserved g c =
     parts_more _ _ _ _ _ c.as_slice-board-items.ensures _ _ _ c.requires.next _ _ c.loop-place-test.true c.board-item.is _ _
-    c.loop-place.invariant _ _ c.part_value.ensures.made _ _ _ c.in_ok-value.was c.in_ok-value.ensures.game
-    c.part_value.ensures.spare c.in_ok-push.ensures.items
+    c.loop-place.invariant _ _ c.expected_value.ensures.made _ _ _ c.in_ok-value.was c.in_ok-value.ensures.game
+    c.expected_value.ensures.spare c.in_ok-push.ensures.items
 
 pub returns-clause-values : goal.returns-clause-values
 returns-clause-values g c =

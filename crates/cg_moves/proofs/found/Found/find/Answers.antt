@@ -1,6 +1,4 @@
 use Rattle.std.proofs.Common.{◌∷◌, [], length, length-append, ap, sym, ◌∙◌, arith}
-use Rattle.std.specs.Prelude.{Err}
-use Rattle.std.proofs.lemmas.Result.{err_from_is_err_and}
 use Rattle.cg_moves.proofs.FollowLemmas.{passed_on}
 use Rattle.cg_moves.proofs.KeptLemmas.{one_more-new, one_more-there}
 use Rattle.cg_moves.proofs.PlaceLemmas.{at-in}
@@ -11,10 +9,9 @@ returns-in-Some-clause-boards c =
     sym (one_more-there c.args.self.now c.args.board (at-in c.args.self.now c.in-Some.field-0 c.args.board c.in-Some.ensures.number))
 
 pub returns-in_err-put-in-None-clause-refused : goal.returns-in_err-put-in-None-clause-refused
-returns-in_err-put-in-None-clause-refused c =
-    let p = err_from_is_err_and c.from_residual.result c.from_residual.ensures.1 in λ e.
+returns-in_err-put-in-None-clause-refused c e =
     let many = c.in_err-put-in-None.ensures.refused
-    (ap Err (passed_on p.0 c.in_err-put-in-None.field-0.0 c.from_residual.result p.1 p.2 e)) in
+    (passed_on c.in_err-put-in-None.field-0.0 c.from_residual.result c.from_residual.ensures.1 e) in
     let l = ap length (one_more-new c.args.self.now c.args.board c.in-None.ensures.new) in
     let k = length-append c.args.self.now (c.args.board ∷ []) in
     omega arith

@@ -1,0 +1,58 @@
+//! What a list of boards tells the store before they are valued: on which cells their values may be noted.
+ghost use Rattle.std.specs.Prelude.{◌≤◌, length};
+ghost use Rattle.cg_cells.specs.Store.{Spends};
+
+use crate::cells::expect_board;
+use crate::contents::{CELLS, contents_in};
+use cg_cells::CellStore;
+use cg_moves::Board;
+use cg_nodes::{BoardForms, GameFacts};
+use std::alloc::{AllocError, Global};
+
+/// Of so many boards the store is told at once.
+const TOGETHER: usize = 32;
+
+/// The boards from the place on of which the store is to be told when it is reached: none, or the next ones.
+pub(crate) fn boards_ahead(boards: &[Board], place: usize) -> &[Board]
+    requires { place ≤ length boards.now }
+{
+    if place % TOGETHER != 0 {
+        return &[];
+    }
+    let end = boards.len().min(place.saturating_add(TOGETHER));
+    &boards[place..end]
+}
+
+/// The contents of the boards, one after another.
+fn all_contents(alloc: Global, boards: &[Board]) -> Result<Vec<u32>, AllocError> {
+    let mut all = Vec::with_capacity(alloc, boards.len())?;
+    for board in boards {
+        let contents = contents_in(alloc, board.planes(), board.size())?;
+        all.extend_from_slice(contents.as_slice())?;
+    }
+    Ok(all)
+}
+
+/// Tells the store on which cells the values of these boards of the game with this number may be noted; those of the number 0 are
+/// noted nowhere. All contents are written before the first cell is told of, so that the store's loads follow each other closely.
+pub(crate) fn expect_boards<B: BoardForms, S: CellStore<GameFacts<B>>>(
+    alloc: Global,
+    store: &mut S,
+    number: u8,
+    boards: &[Board],
+) -> Result<(), AllocError>
+    ensures { Spends 0 (S.state store.old) (S.state store.new) }
+{
+    if !(1..=15).contains(&number) {
+        return Ok(());
+    }
+    let all = all_contents(alloc, boards)?;
+    let mut contents = all.as_slice();
+    for board in boards {
+        let count = (board.size() as usize).div_ceil(CELLS as usize);
+        let (own, others) = contents.split_at(count.min(contents.len()));
+        expect_board(store, number, board, own);
+        contents = others;
+    }
+    Ok(())
+}
