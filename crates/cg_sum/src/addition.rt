@@ -19,7 +19,7 @@ use crate::nimber_sums::nimber_sum;
 use crate::nimbers::Nimbers;
 use crate::pair::nimber_pair;
 use crate::position::{Position, learned};
-use crate::rows::add_all;
+use crate::rows::add_rows;
 use cg_canon::{ValueFault, Work, keep_sum, sum_again};
 use cg_cells::CellStore;
 use cg_nodes::{BoardForms, GameFacts, Handle, Handles};
@@ -156,7 +156,7 @@ fn add_sums<B: BoardForms, S: CellStore<GameFacts<B>>>(
     let pairs = terms.firsts.len().saturating_mul(terms.seconds.len());
     sums.reserve(pairs.min(ROOM))?;
     let start = work.spare();
-    add_all(
+    add_rows(
         alloc,
         work,
         &terms.firsts,

@@ -1,4 +1,5 @@
-//! What an addition tells the store before it begins: on which cells sums may be looked for.
+//! What an addition tells the store before it makes its sums: on which cells they may be looked for.
+ghost use Rattle.std.specs.Prelude.{◌≤◌, length};
 ghost use Rattle.cg_canon.specs.Works.{work_state};
 ghost use Rattle.cg_cells.specs.Store.{Spends};
 
@@ -9,10 +10,23 @@ use cg_canon::Work;
 use cg_cells::CellStore;
 use cg_nodes::{BoardForms, GameFacts};
 
-/// The greatest number of sums of which the store is told at once. The words of more wouldn't stay near until they are asked for.
-const EXPECTED: usize = 1_024;
+/// Of about so many sums the store is told at once. The words of more wouldn't stay near until they are asked for.
+const TOGETHER: usize = 1_024;
 
-/// Tells the store which sums of each of `firsts` and each of `seconds` may be looked for on cells, if there are few enough.
+/// The rows from the place on of which the store is to be told when it is reached, where each has so many columns: none, or the next
+/// ones.
+pub(crate) fn rows_ahead(rows: &[Position], place: usize, columns: usize) -> &[Position]
+    requires { place ≤ length rows.now }
+{
+    let count = 1 + TOGETHER / columns.max(1);
+    if place % count != 0 {
+        return &[];
+    }
+    let end = rows.len().min(place.saturating_add(count));
+    &rows[place..end]
+}
+
+/// Tells the store which sums of each of `firsts` and each of `seconds` may be looked for on cells.
 pub(crate) fn expect_sums<B: BoardForms, S: CellStore<GameFacts<B>>>(
     work: &mut Work<B, S>,
     firsts: &[Position],
@@ -21,9 +35,6 @@ pub(crate) fn expect_sums<B: BoardForms, S: CellStore<GameFacts<B>>>(
 )
     ensures { Spends 0 (work_state S.state work.old) (work_state S.state work.new) }
 {
-    if firsts.len().saturating_mul(seconds.len()) > EXPECTED {
-        return;
-    }
     match look_up {
         LookUp::OnCells => expect_rows(work, firsts, seconds),
         LookUp::Kept => {}

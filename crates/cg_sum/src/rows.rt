@@ -9,7 +9,7 @@ ghost use Rattle.cg_canon.specs.Made.{ItemsMade};
 ghost use Rattle.cg_sum.specs.Progress.{ArePositions, AreInTurn, FindsMore, HoldsSums, IsPosition, IsSumReady, RowFound, RowReady, RowsFound, handles_of};
 ghost use Rattle.cg_sum.specs.Finds.{sum_found};
 
-use crate::expecting::expect_sums;
+use crate::expecting::{expect_sums, rows_ahead};
 use crate::found::Sums;
 use crate::item::{LookUp, charged_item, sum_item};
 use crate::nimbers::sum_value;
@@ -20,8 +20,8 @@ use cg_nodes::{BoardForms, GameFacts, Handle};
 use std::alloc::Global;
 
 /// Makes the items of the sums of each of `firsts`, in the outer loop, and each of `seconds`, in the inner
-/// loop. In both lists the options of a game stand before it. The store is told before which cells may be asked for.
-pub(crate) fn add_all<B: BoardForms, S: CellStore<GameFacts<B>>>(
+/// loop. In both lists the options of a game stand before it.
+pub(crate) fn add_rows<B: BoardForms, S: CellStore<GameFacts<B>>>(
     alloc: Global,
     work: &mut Work<B, S>,
     firsts: &[Position],
@@ -42,37 +42,39 @@ pub(crate) fn add_all<B: BoardForms, S: CellStore<GameFacts<B>>>(
         (pair_items (games_at W (handles_of firsts.now)) (games_at W (handles_of seconds.now))) result }
     ensures spare { start ≤ (work_state S.state work.new).spare }
 {
-    expect_sums(work, firsts, seconds, look_up);
-    add_rows(alloc, work, firsts, seconds, sums, look_up, start)
-}
-
-// Makes the items of the sums of each of `firsts`, in the outer loop, and each of `seconds`, in the inner
-// loop.
-fn add_rows<B: BoardForms, S: CellStore<GameFacts<B>>>(
-    alloc: Global,
-    work: &mut Work<B, S>,
-    firsts: &[Position],
-    seconds: &[Position],
-    sums: &mut Sums,
-    look_up: LookUp,
-    start: u64,
-) -> Result<(), ValueFault>
-    requires firsts { ArePositions (work_state S.state work.old) firsts.now }
-    requires seconds { ArePositions (work_state S.state work.old) seconds.now }
-    requires first_turns { AreInTurn firsts.now }
-    requires second_turns { AreInTurn seconds.now }
-    requires holds { HoldsSums (work_state S.state work.old) sums.old }
-    requires spare { start ≤ (work_state S.state work.old).spare }
-    ensures found { OnOk result (RowsFound sums.new (handles_of firsts.now) (handles_of seconds.now)) }
-    ensures holds { OnOk result (HoldsSums (work_state S.state work.new) sums.new) }
-    ensures made { let W = work_state S.state work.old in ItemsMade W (work_state S.state work.new)
-        (pair_items (games_at W (handles_of firsts.now)) (games_at W (handles_of seconds.now))) result }
-    ensures spare { start ≤ (work_state S.state work.new).spare }
-{
-    for f in firsts {
-        add_row(alloc, work, f, seconds, sums, look_up, start)?;
+    for (place, f) in firsts.iter().enumerate() {
+        let ahead = rows_ahead(firsts, place, seconds.len());
+        add_told_row(alloc, work, f, ahead, seconds, sums, look_up, start)?;
     }
     Ok(())
+}
+
+// Makes the items of a row. Before, the store is told on which cells the sums of the rows ahead may be looked for.
+fn add_told_row<B: BoardForms, S: CellStore<GameFacts<B>>>(
+    alloc: Global,
+    work: &mut Work<B, S>,
+    f: &Position,
+    ahead: &[Position],
+    seconds: &[Position],
+    sums: &mut Sums,
+    look_up: LookUp,
+    start: u64,
+) -> Result<(), ValueFault>
+    requires f { IsPosition (work_state S.state work.old) f.now }
+    requires seconds { ArePositions (work_state S.state work.old) seconds.now }
+    requires turns { AreInTurn seconds.now }
+    requires holds { HoldsSums (work_state S.state work.old) sums.old }
+    requires ready { RowReady sums.old f.now (handles_of seconds.now) }
+    requires spare { start ≤ (work_state S.state work.old).spare }
+    ensures found { OnOk result (RowFound sums.new f.now.handle (handles_of seconds.now)) }
+    ensures more { OnOk result (FindsMore sums.old sums.new) }
+    ensures holds { OnOk result (HoldsSums (work_state S.state work.new) sums.new) }
+    ensures made { let W = work_state S.state work.old in ItemsMade W (work_state S.state work.new)
+        (row_items (games_at W (handles_of seconds.now)) (game_at W f.now.handle)) result }
+    ensures spare { start ≤ (work_state S.state work.new).spare }
+{
+    expect_sums(work, ahead, seconds, look_up);
+    add_row(alloc, work, f, seconds, sums, look_up, start)
 }
 
 // Makes the items of the sums of f and each of the list, where the sums of the options of f were made before.

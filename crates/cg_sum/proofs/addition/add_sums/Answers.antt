@@ -23,8 +23,8 @@ returns-in_err-reserve-clause-made g c =
 pub known_positions-requires-clause-holds : goal.known_positions-requires-clause-holds
 known_positions-requires-clause-holds g c = c.requires.holds.nimbers
 
-pub add_all-requires-clause-holds : goal.add_all-requires-clause-holds
-add_all-requires-clause-holds g c =
+pub add_rows-requires-clause-holds : goal.add_rows-requires-clause-holds
+add_rows-requires-clause-holds g c =
     let W = work_state g.S.CellStore.state in
     holds_same (W c.known_positions.new.work) _ _ c.reserve.ensures.same c.reserve.ensures.nimbers
     (holds_known (W c.args.work.now) (W c.known_positions.new.work) c.known_positions.ensures.spends.known _ _ c.requires.holds
@@ -35,8 +35,8 @@ returns-clause-found g c =
     let v = work_state g.S.CellStore.state c.known_positions.new.work in
     let firsts = lent_positions v _ _ _ _ c.deref.ensures.value c.in_ok-terms.ensures.firsts in
     let seconds = lent_positions v _ _ _ _ c.deref-2.ensures.value c.in_ok-terms.ensures.seconds in
-    IfOk-weaker c.add_all.result _ _ (λ x found. found.each c.args.a c.args.b firsts.own seconds.own)
-    c.add_all.ensures.found
+    IfOk-weaker c.add_rows.result _ _ (λ x found. found.each c.args.a c.args.b firsts.own seconds.own)
+    c.add_rows.ensures.found
 
 pub returns-clause-made : goal.returns-clause-made
 returns-clause-made g c =
@@ -44,4 +44,4 @@ returns-clause-made g c =
     let firsts = lent_positions v _ _ _ _ c.deref.ensures.value c.in_ok-terms.ensures.firsts in
     let seconds = lent_positions v _ _ _ _ c.deref-2.ensures.value c.in_ok-terms.ensures.seconds in
     sum_made _ _ _ _ _ _ _ c.known_positions.ensures.spends firsts.games seconds.games c.in_ok-terms.ensures.within _
-    c.add_all.ensures.made
+    c.add_rows.ensures.made

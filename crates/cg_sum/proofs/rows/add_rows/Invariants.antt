@@ -4,6 +4,6 @@ use Rattle.cg_sum.specs.Progress.{handles_of}
 use Rattle.cg_sum.proofs.RowSteps.{RowsMade}
 use Rattle.cg_sum.proofs.rows.add_rows.Given as goal
 
-abbrev pub invariant-loop-f : goal.invariant-loop-f
-invariant-loop-f g l =
-    RowsMade (work_state g.S.CellStore.state l.initial.work) (work_state g.S.CellStore.state l.work) l.sums (take l.f-index (handles_of l.firsts)) (handles_of l.seconds) l.start
+abbrev pub invariant-loop-place : goal.invariant-loop-place
+invariant-loop-place g l =
+    RowsMade (work_state g.S.CellStore.state l.initial.work) (work_state g.S.CellStore.state l.work) l.sums (take l.place (handles_of l.firsts)) (handles_of l.seconds) l.start
