@@ -12,7 +12,7 @@ ghost use Rattle.cg_book.specs.Recents.{AreRight};
 
 use crate::light::compared_light;
 use crate::pages::{Pages, Read};
-use crate::recent::{Answer, Recent};
+use crate::recent::Recent;
 use crate::told::told_for;
 use std::alloc::AllocError;
 
@@ -85,11 +85,7 @@ fn found(pages: &Pages, answers: &mut Recent, a: u32, b: u32) -> Result<bool, Al
         return Ok(answer);
     }
     let answer = compared(pages, answers, a, b)?;
-    answers.remember(Answer {
-        low: a,
-        high: b,
-        at_most: answer,
-    })?;
+    answers.remember(a, b, answer)?;
     Ok(answer)
 }
 

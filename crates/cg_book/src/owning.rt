@@ -1,5 +1,5 @@
 //! The best of the options of a game that may be a sum of two terms.
-ghost use Rattle.std.specs.Prelude.{◌≡◌, ◌<◌, ℕ, List, All, IfOk, cond, length, slice_index_or};
+ghost use Rattle.std.specs.Prelude.{◌≡◌, ◌<◌, ℕ, [], List, All, IfOk, cond, length, slice_index_or};
 ghost use Rattle.cg_book.specs.declared.terms.Term.{Term as Declared};
 ghost use Rattle.cg_book.specs.Candidates.{AreApartByTerm, ComesFrom, of_term, pages_of};
 ghost use Rattle.cg_book.specs.Pages.{ArePages, games_of};
@@ -7,7 +7,7 @@ ghost use Rattle.cg_book.specs.Recents.{AreRight};
 ghost use Rattle.cg_book.specs.Terms.{NoneComparable};
 ghost use Rattle.cg_book.specs.Tops.{Tops};
 
-use crate::best::{pages_in, tops_of, with_one};
+use crate::best::{put_pages, put_tops, with_one};
 use crate::candidate::{Candidate, Candidates};
 use crate::pages::Pages;
 use crate::recent::Recent;
@@ -58,20 +58,22 @@ fn with_terms(
     Ok(all)
 }
 
-/// The best of few options, in no order: one after the other.
-fn own_tops_of_few(
+/// Puts the best of few options into the list, which is empty, in no order: one after the other.
+fn put_tops_of_few(
     alloc: Global,
     pages: &Pages,
     answers: &mut Recent,
     left: bool,
     options: &[u32],
     first_term: Option<FirstTerm>,
-) -> Result<Options, AllocError>
+    list: &mut Options,
+) -> Result<(), AllocError>
     requires options { ArePages pages.now options.now }
     requires terms { (t : Declared) → NoneComparable (games_of pages.now (of_term first_term left options.now t)) }
     requires right { AreRight pages.now answers.old }
-    ensures pages { IfOk result (λ r. ArePages pages.now r.items) }
-    ensures tops { IfOk result (λ r. Tops left (games_of pages.now options.now) (games_of pages.now r.items)) }
+    requires empty { list.old.items ≡ [] }
+    ensures pages { IfOk result (λ _. ArePages pages.now list.new.items) }
+    ensures tops { IfOk result (λ _. Tops left (games_of pages.now options.now) (games_of pages.now list.new.items)) }
     ensures right { AreRight pages.now answers.new }
 {
     let mut best = SmallVec::new(alloc);
@@ -79,11 +81,11 @@ fn own_tops_of_few(
         let x = with_term(first_term, left, place, *option);
         with_one(alloc, pages, answers, left, &mut best, &x)?;
     }
-    pages_in(alloc, best.as_slice())
+    put_pages(best.as_slice(), list)
 }
 
-/// The best of the player's own options of a game with these options, in no order.
-pub(crate) fn own_tops(
+/// Puts the best of the player's own options of a game with these options into the list, which is empty, in no order.
+pub(crate) fn put_own_tops(
     alloc: Global,
     pages: &Pages,
     answers: &mut Recent,
@@ -91,19 +93,21 @@ pub(crate) fn own_tops(
     lefts: &[u32],
     rights: &[u32],
     first_term: Option<FirstTerm>,
-) -> Result<Options, AllocError>
+    list: &mut Options,
+) -> Result<(), AllocError>
     requires lefts { ArePages pages.now lefts.now }
     requires rights { ArePages pages.now rights.now }
     requires terms { AreApartByTerm pages.now first_term lefts.now rights.now }
     requires right { AreRight pages.now answers.old }
-    ensures pages { IfOk result (λ r. ArePages pages.now r.items) }
-    ensures tops { IfOk result (λ r. Tops left (games_of pages.now (cond left lefts.now rights.now)) (games_of pages.now r.items)) }
+    requires empty { list.old.items ≡ [] }
+    ensures pages { IfOk result (λ _. ArePages pages.now list.new.items) }
+    ensures tops { IfOk result (λ _. Tops left (games_of pages.now (cond left lefts.now rights.now)) (games_of pages.now list.new.items)) }
     ensures right { AreRight pages.now answers.new }
 {
     let options = chosen(left, lefts, rights);
     if options.len() <= FEW {
-        return own_tops_of_few(alloc, pages, answers, left, options, first_term);
+        return put_tops_of_few(alloc, pages, answers, left, options, first_term, list);
     }
     let own = with_terms(alloc, left, options, first_term)?;
-    tops_of(alloc, pages, answers, left, own.as_slice())
+    put_tops(alloc, pages, answers, left, own.as_slice(), list)
 }

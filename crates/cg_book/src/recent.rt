@@ -1,8 +1,9 @@
 //! Answers to comparisons that were found of late.
 //!
-//! Each pair of games has eight places in a table, which it shares with other pairs. An answer stands at the first of them that
-//! was free, and takes over one from another pair only where none is. The table grows with the answers of one question, up to a
-//! fixed size; so they take a bounded memory, however many are found. As long as it is small it serves question after question.
+//! Each pair of games has two places in a table, which it shares with other pairs. A new answer stands at the first of them, the one
+//! that stood there goes to its neighbour, and the one that stood at the neighbour is forgotten. The table grows with the answers of
+//! one question, up to a fixed size; so they take a bounded memory, however many are found. As long as it is small it serves
+//! question after question.
 ghost use Rattle.std.specs.Prelude.{◌≡◌, ◌⊎◌, IfOk, IfSome, OnErr};
 ghost use Rattle.cg_book.specs.declared.recent.Answer.{Answer as Known};
 ghost use Rattle.cg_book.specs.Recents.{IsPlaced, IsKept};
@@ -36,7 +37,7 @@ const MOST: usize = 1_048_576;
 const SMALL: usize = 16_384;
 
 /// How many places a pair has.
-const WAYS: usize = 8;
+const WAYS: usize = 2;
 
 /// The first place of the pair, in a table of 16,777,216 places.
 fn home_of(a: u32, b: u32) -> usize {
@@ -44,7 +45,7 @@ fn home_of(a: u32, b: u32) -> usize {
     (pair.wrapping_mul(0x9E37_79B9_7F4A_7C15) >> 40) as usize
 }
 
-/// The place of this way, 0 to 7, in a table of so many places.
+/// The place of this way, 0 or 1, in a table of so many places.
 fn place_at(home: usize, way: usize, places: usize) -> usize {
     (home ^ way) & places.saturating_sub(1)
 }
@@ -60,24 +61,36 @@ fn answer_at(places: &[Option<Answer>], home: usize, way: usize) -> Option<Answe
     places[at]
 }
 
-/// The place that the answer takes: the first of the pair's own that is free, or else the first.
-fn place_for(places: &[Option<Answer>], home: usize) -> usize {
-    for way in 0..WAYS {
-        if answer_at(places, home, way).is_none() {
-            return place_at(home, way, places.len());
-        }
+/// Puts what stands at the one place at the other, too, in the place of what stands there.
+fn copy(places: &mut [Option<Answer>], from: usize, to: usize)
+    ensures { (x : Known) → IsPlaced places.new x → IsPlaced places.old x }
+{
+    if from < places.len() && to < places.len() {
+        places[to] = places[from];
     }
-    place_at(home, 0, places.len())
 }
 
-/// Puts the answer into one of its places.
-fn put(places: &mut [Option<Answer>], answer: Answer)
-    ensures { (x : Known) → IsPlaced places.new x → (x ≡ answer) ⊎ IsPlaced places.old x }
+/// Puts the answer to whether the one game is at most the other at the place.
+fn set(places: &mut [Option<Answer>], at: usize, low: u32, high: u32, at_most: bool)
+    ensures { (x : Known) → IsPlaced places.new x
+        → (x ≡ record { low = low; high = high; at_most = at_most }) ⊎ IsPlaced places.old x }
 {
-    let at = place_for(places, home_of(answer.low, answer.high));
     if at < places.len() {
-        places[at] = Some(answer);
+        places[at] = Some(Answer { low, high, at_most });
     }
+}
+
+/// Puts the answer to whether the one game is at most the other at its first place, and what stood there at its second one. It comes
+/// in parts, since an answer that was just written would be read again as one word, and the processor waits for that.
+fn put(places: &mut [Option<Answer>], low: u32, high: u32, at_most: bool)
+    ensures { (x : Known) → IsPlaced places.new x
+        → (x ≡ record { low = low; high = high; at_most = at_most }) ⊎ IsPlaced places.old x }
+{
+    let home = home_of(low, high);
+    let first = place_at(home, 0, places.len());
+    let second = place_at(home, 1, places.len());
+    copy(places, first, second);
+    set(places, first, low, high, at_most);
 }
 
 /// Puts the answers of the first table into the second.
@@ -86,7 +99,7 @@ fn put_all(old: &[Option<Answer>], places: &mut [Option<Answer>])
 {
     for place in old {
         if let Some(answer) = place {
-            put(places, *answer);
+            put(places, answer.low, answer.high, answer.at_most);
         }
     }
 }
@@ -145,13 +158,15 @@ impl Recent {
         Ok(())
     }
 
-    /// Keeps the answer. Some other one may be forgotten for it. Nothing changes where there is no memory.
-    pub(crate) fn remember(&mut self, answer: Answer) -> Result<(), AllocError>
-        ensures ok { IfOk result (λ _. (x : Known) → IsKept self.new x → (x ≡ answer) ⊎ IsKept self.old x) }
+    /// Keeps whether the first game is at most the second. Some other answer may be forgotten for it. Nothing changes where there is
+    /// no memory.
+    pub(crate) fn remember(&mut self, low: u32, high: u32, at_most: bool) -> Result<(), AllocError>
+        ensures ok { IfOk result (λ _. (x : Known) → IsKept self.new x
+            → (x ≡ record { low = low; high = high; at_most = at_most }) ⊎ IsKept self.old x) }
         ensures err { OnErr result ((x : Known) → IsKept self.new x → IsKept self.old x) }
     {
         self.grow()?;
-        put(&mut self.places, answer);
+        put(&mut self.places, low, high, at_most);
         self.room = self.room.saturating_sub(1);
         Ok(())
     }

@@ -14,7 +14,7 @@ use crate::outlining::{deepest_of, outline_of};
 use crate::pages::Pages;
 use crate::profile::{Profile, one_more};
 use crate::recent::Recent;
-use crate::reduce::{Form, reduced};
+use crate::reduce::{Form, put_reduced};
 use crate::terms::FirstTerm;
 use cg_dyadic::Dyadic;
 use cg_dyadic::cut::Found;
@@ -102,14 +102,27 @@ fn form_of(
     ensures form { IfOk result (λ r. IsNewForm pages.now (can (node (games_of pages.now lefts.now) (games_of pages.now rights.now))) r) }
     ensures right { AreRight pages.now answers.new }
 {
-    let form = reduced(alloc, pages, answers, lefts, rights, profile, first_term)?;
-    let own = profile_with_cuts(
+    let mut new = NewForm {
+        form: Form::new(alloc),
+        profile: *profile,
+    };
+    put_reduced(
+        alloc,
+        pages,
+        answers,
+        lefts,
+        rights,
+        profile,
+        first_term,
+        &mut new.form,
+    )?;
+    new.profile = profile_with_cuts(
         pages,
         profile,
-        form.lefts.as_slice(),
-        form.rights.as_slice(),
+        new.form.lefts.as_slice(),
+        new.form.rights.as_slice(),
     )?;
-    Ok(NewForm { form, profile: own })
+    Ok(new)
 }
 
 /// What the game with these options is. Where it is a sum of two terms, `first_term` says which of its options come from the first

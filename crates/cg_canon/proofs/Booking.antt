@@ -184,6 +184,11 @@ pub record Handled {R : Type 0} (s : State Meant R) (gs : List Game) (hs ps : Li
   pub games : AreGames s hs
   pub same : games_at s hs ≡ games_of gs ps
 
+pub handled_none : {R : Type 0} (s : State Meant R) (gs : List Game) (hs ps : List ℕ) → hs ≡ [] → Handled s gs hs (take 0 ps)
+handled_none s gs hs ps e =
+    let P : List ℕ → Type 0 = λ z. AreGames s z in
+    record { games = subst P (sym e) tt; same = ap (games_at s) e }
+
 are_games_pushed : {R : Type 0} (s : State Meant R) (hs : List ℕ) (h : ℕ) → AreGames s hs → IsGame s h → AreGames s (hs ++ (h ∷ []))
 are_games_pushed s [] h a g = (g, tt)
 are_games_pushed s (k ∷ hs) h a g = (a.0, are_games_pushed s hs h a.1 g)

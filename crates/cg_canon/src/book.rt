@@ -110,6 +110,25 @@ impl Book {
     }
 }
 
+/// Puts the handles of the pages into the list, which is empty, in their order. An error comes only after want of memory.
+pub(crate) fn find_handles<B: BoardForms, S: CellStore<GameFacts<B>>>(
+    store: &S,
+    book: &Book,
+    pages: &[u32],
+    handles: &mut HandleList,
+) -> Result<(), AllocError>
+    requires holds { BookHolds (S.state store.now) book.now }
+    requires empty { handles.old.items ≡ [] }
+    ensures handles { IfOk result (λ _. AreGames (S.state store.now) handles.new.items
+        × (games_at (S.state store.now) handles.new.items ≡ games_of book.now.pages pages.now)) }
+{
+    handles.reserve(pages.len())?;
+    for page in pages {
+        handles.push_reserved(book.handle(*page)?);
+    }
+    Ok(())
+}
+
 /// The handles of the pages, in their order. An error comes only after want of memory.
 pub(crate) fn handles_of<B: BoardForms, S: CellStore<GameFacts<B>>>(
     alloc: Global,
@@ -122,8 +141,6 @@ pub(crate) fn handles_of<B: BoardForms, S: CellStore<GameFacts<B>>>(
         × (games_at (S.state store.now) r.items ≡ games_of book.now.pages pages.now)) }
 {
     let mut all = SmallVec::new(alloc);
-    for page in pages {
-        all.push(book.handle(*page)?)?;
-    }
+    find_handles(store, book, pages, &mut all)?;
     Ok(all)
 }

@@ -12,7 +12,7 @@ ghost use Rattle.cg_book.specs.Terms.{ApartByTerm};
 ghost use Rattle.cg_canon.specs.Books.{BookHolds};
 ghost use Rattle.cg_canon.specs.Paid.{IsPaid, written};
 
-use crate::book::{Book, handles_of};
+use crate::book::{Book, find_handles};
 use crate::entering::enter_game;
 use crate::fault::ValueFault;
 use crate::made::are_same;
@@ -22,6 +22,7 @@ use cg_book::{FirstTerm, NewForm, Profile, Settled};
 use cg_cells::CellStore;
 use cg_dyadic::Dyadic;
 use cg_nodes::{BoardForms, GameFacts, Handle, ListId, expect_game, game, list, number};
+use smallvec::SmallVec;
 use std::alloc::Global;
 
 /// Enters the form that was made, with this handle, unless it is there or there is no memory for it.
@@ -146,8 +147,10 @@ fn form_item<B: BoardForms, S: CellStore<GameFacts<B>>>(
     ensures holds { BookHolds (S.state store.new) book.new }
     ensures paid { IsPaid (S.state store.old) (S.state store.new) meter.old meter.new (written book.old.pages new.now) extra result }
 {
-    let lefts = handles_of(alloc, &*store, book, new.form.lefts.as_slice())?;
-    let rights = handles_of(alloc, &*store, book, new.form.rights.as_slice())?;
+    let mut lefts = SmallVec::new(alloc);
+    find_handles(&*store, book, new.form.lefts.as_slice(), &mut lefts)?;
+    let mut rights = SmallVec::new(alloc);
+    find_handles(&*store, book, new.form.rights.as_slice(), &mut rights)?;
     meter.charge_form(&new.profile, extra)?;
     Ok(claimed(store, book, lefts.as_slice(), rights.as_slice(), new))
 }

@@ -1,5 +1,5 @@
 //! The pages of the games of handles, each found once in a work.
-ghost use Rattle.std.specs.Prelude.{◌≡◌, IfOk};
+ghost use Rattle.std.specs.Prelude.{◌≡◌, IfOk, []};
 ghost use Rattle.cg_cells.specs.Store.{Spends};
 ghost use Rattle.cg_nodes.specs.Games.{AreGames, IsGame, IsList, game_at, games_at, listed};
 ghost use Rattle.cg_book.specs.Pages.{IsPage, StandFor, game_of};
@@ -94,24 +94,27 @@ pub(crate) fn page_of<B: BoardForms, S: CellStore<GameFacts<B>>>(
     new_page(alloc, store, book, handle)
 }
 
-/// The pages of the games of the handles.
-pub(crate) fn pages_of<B: BoardForms, S: CellStore<GameFacts<B>>>(
+/// Puts the pages of the games of the handles into the list, which is empty. So they stand where they are read: a list that was just
+/// written and is moved is read by wider words than it was written by, and the processor waits for that.
+pub(crate) fn find_pages<B: BoardForms, S: CellStore<GameFacts<B>>>(
     alloc: Global,
     store: &mut S,
     book: &mut Book,
     handles: &[Handle],
-) -> Result<PageList, AllocError>
+    pages: &mut PageList,
+) -> Result<(), AllocError>
+    requires empty { pages.old.items ≡ [] }
     requires holds { BookHolds (S.state store.old) book.old }
     requires games { AreGames (S.state store.old) handles.now }
     ensures holds { BookHolds (S.state store.new) book.new }
     ensures begins { Begins book.old.pages book.new.pages }
-    ensures pages { IfOk result (λ r. StandFor book.new.pages r.items (games_at (S.state store.old) handles.now)) }
+    ensures pages { IfOk result (λ _. StandFor book.new.pages pages.new.items (games_at (S.state store.old) handles.now)) }
     ensures spends { Spends 0 (S.state store.old) (S.state store.new) }
 {
-    let mut pages = SmallVec::with_capacity(alloc, handles.len())?;
+    pages.reserve(handles.len())?;
     for handle in handles {
         let page = page_of(alloc, store, book, *handle)?;
         pages.push_reserved(page);
     }
-    Ok(pages)
+    Ok(())
 }

@@ -1,5 +1,5 @@
 //! What games of lists of handles are, by the pages of a book.
-ghost use Rattle.std.specs.Prelude.{◌≡◌, IfOk};
+ghost use Rattle.std.specs.Prelude.{◌≡◌, IfOk, []};
 ghost use Rattle.cg_form.specs.Game.{lefts, node};
 ghost use Rattle.cg_form.specs.Order.{le};
 ghost use Rattle.cg_form.specs.Simple.{NoNumber};
@@ -12,7 +12,7 @@ ghost use Rattle.cg_book.specs.Terms.{ApartByTerm};
 ghost use Rattle.cg_canon.specs.Books.{BookHolds};
 
 use crate::book::{Book, HandleList, handles_of};
-use crate::paging::{page_of, pages_of};
+use crate::paging::{find_pages, page_of};
 use cg_book::{FirstTerm, Form, NewForm, Read, Settled, at_most, profile_of_lists, settle};
 use cg_cells::CellStore;
 use cg_nodes::{BoardForms, GameFacts, Handle};
@@ -60,25 +60,28 @@ pub(crate) fn lefts_of<B: BoardForms, S: CellStore<GameFacts<B>>>(
     }
 }
 
-/// The pages of two lists of options.
-fn pages_of_both<B: BoardForms, S: CellStore<GameFacts<B>>>(
+/// Puts the pages of two lists of options into a form that has none.
+fn find_both<B: BoardForms, S: CellStore<GameFacts<B>>>(
     alloc: Global,
     store: &mut S,
     book: &mut Book,
     lefts: &[Handle],
     rights: &[Handle],
-) -> Result<Form, AllocError>
+    form: &mut Form,
+) -> Result<(), AllocError>
     requires holds { BookHolds (S.state store.old) book.old }
     requires lefts { AreGames (S.state store.old) lefts.now }
     requires rights { AreGames (S.state store.old) rights.now }
+    requires no_lefts { form.old.lefts.items ≡ [] }
+    requires no_rights { form.old.rights.items ≡ [] }
     ensures holds { BookHolds (S.state store.new) book.new }
-    ensures lefts { IfOk result (λ r. StandFor book.new.pages r.lefts.items (games_at (S.state store.old) lefts.now)) }
-    ensures rights { IfOk result (λ r. StandFor book.new.pages r.rights.items (games_at (S.state store.old) rights.now)) }
+    ensures lefts { IfOk result (λ _. StandFor book.new.pages form.new.lefts.items (games_at (S.state store.old) lefts.now)) }
+    ensures rights { IfOk result (λ _. StandFor book.new.pages form.new.rights.items (games_at (S.state store.old) rights.now)) }
     ensures spends { Spends 0 (S.state store.old) (S.state store.new) }
 {
-    let lefts = pages_of(alloc, store, book, lefts)?;
-    let rights = pages_of(alloc, store, book, rights)?;
-    Ok(Form { lefts, rights })
+    find_pages(alloc, store, book, lefts, &mut form.lefts)?;
+    find_pages(alloc, store, book, rights, &mut form.rights)?;
+    Ok(())
 }
 
 /// What the game with these options is. The only error is want of memory.
@@ -99,7 +102,8 @@ pub(crate) fn value_of_lists<B: BoardForms, S: CellStore<GameFacts<B>>>(
         (can (node (games_at (S.state store.old) lefts.now) (games_at (S.state store.old) rights.now)))) }
     ensures spends { Spends 0 (S.state store.old) (S.state store.new) }
 {
-    let both = pages_of_both(alloc, store, book, lefts, rights)?;
+    let mut both = Form::new(alloc);
+    find_both(alloc, store, book, lefts, rights, &mut both)?;
     settle(
         alloc,
         &book.pages,
@@ -127,7 +131,8 @@ pub(crate) fn form_of_lists<B: BoardForms, S: CellStore<GameFacts<B>>>(
         (node (games_at (S.state store.old) lefts.now) (games_at (S.state store.old) rights.now))) }
     ensures spends { Spends 0 (S.state store.old) (S.state store.new) }
 {
-    let form = pages_of_both(alloc, store, book, lefts, rights)?;
+    let mut form = Form::new(alloc);
+    find_both(alloc, store, book, lefts, rights, &mut form)?;
     let profile = profile_of_lists(&book.pages, form.lefts.as_slice(), form.rights.as_slice())?;
     Ok(NewForm { form, profile })
 }

@@ -5,7 +5,7 @@ use Rattle.std.proofs.lemmas.Bool.Decides.{nat_tests}
 use Rattle.std.specs.Prelude.{nat_lt}
 use Rattle.cg_lines.specs.declared.TheConstants.{BOUND, END}
 use Rattle.cg_lines.specs.declared.rise.Rise.{Rise}
-use Rattle.cg_lines.specs.Rises.{Climbs, IsWall, rises_at, rises_of, step, steps, value_at}
+use Rattle.cg_lines.specs.Rises.{Climbs, IsWall, climbed, rises_at, rises_of, step, steps, value_at}
 
 -- ---- tests
 
@@ -123,3 +123,24 @@ level-wall r n s f e l h =
       low = omega (arith, ints);
       high = λ t. (let v = level-value r n s f e t in omega (arith, ints));
     }
+
+-- ---- a copy
+
+module _ (r q : Rise) (start : q.start ≡ r.start) (first : q.first ≡ r.first) (turns : q.turns.items ≡ r.turns.items) where
+  pub copied-value : (t : ℕ) → value_at q t ≡ value_at r t
+  unfolding value_at
+  copied-value t =
+      ap (λ n. climbed n (rises_at q.first q.turns.items) t) start
+      ∙ ap (λ b. climbed r.start (rises_at b q.turns.items) t) first
+      ∙ ap (λ ts. climbed r.start (rises_at r.first ts) t) turns
+
+  pub copied-wall : IsWall r → IsWall q
+  copied-wall w =
+      let T : List ℕ → Type 0 = λ z. Climbs 0 z END in
+      let L : ℤ → Type 0 = λ z. neg_ℤ BOUND ≤ℤ z in
+      let H : ℤ → Type 0 = λ z. z ≤ℤ BOUND in
+      record {
+        turns = subst T (sym turns) w.turns;
+        low = subst L (sym start) w.low;
+        high = λ t. subst H (sym (copied-value t)) (w.high t);
+      }

@@ -1,9 +1,9 @@
 //! Rises.
-ghost use Rattle.std.specs.Prelude.{◌≡◌, ℕ, ◌≤ℤ◌, neg_ℤ};
+ghost use Rattle.std.specs.Prelude.{◌≡◌, ℕ, ◌≤ℤ◌, neg_ℤ, IfOk};
 ghost use Rattle.cg_lines.specs.declared.TheConstants.{BOUND};
 ghost use Rattle.cg_lines.specs.Rises.{IsWall, value_at};
 
-use std::alloc::Global;
+use std::alloc::{AllocError, Global};
 
 /// A function of t = 0, 1, 2, .. that in each unit rises by 1 or stays.
 #[derive(Debug, Drop)]
@@ -38,5 +38,18 @@ impl Rise {
         ensures value { (t : ℕ) → value_at result t ≡ value }
     {
         Rise::of(value, false, Vec::new(alloc))
+    }
+
+    /// A copy of a wall. The only error is want of memory.
+    pub fn copy(&self, alloc: Global) -> Result<Rise, AllocError>
+        requires { IsWall self.now }
+        ensures wall { IfOk result IsWall }
+        ensures value { IfOk result (λ r. (t : ℕ) → value_at r t ≡ value_at self.now t) }
+    {
+        Ok(Rise {
+            start: self.start,
+            first: self.first,
+            turns: self.turns.to_vec(alloc)?,
+        })
     }
 }

@@ -11,6 +11,7 @@ ghost use Rattle.cg_moves.specs.declared.task.Task.TheVariants.{Enter};
 
 use crate::course::Course;
 use crate::found::{Found, emptied};
+use crate::pushing::push;
 use crate::task::{Task, enter_all};
 use crate::{Board, Player, Rules};
 use std::alloc::{AllocError, Global};
@@ -56,9 +57,8 @@ fn enter_alone(
     ensures counts { IfOk result (λ _. counts.new.items ≡ counts.old.items ++ (1 ∷ [])) }
     ensures tasks { IfOk result (λ _. tasks.new.items ≡ tasks.old.items ++ (Enter board ∷ [])) }
 {
-    counts.push(1)?;
-    tasks.push(Task::Enter(board))?;
-    Ok(())
+    push(counts, 1)?;
+    push(tasks, Task::Enter(board))
 }
 
 /// Puts tasks to enter the pieces of a board behind the tasks, the first piece last, and how many there are behind the counts.
@@ -78,7 +78,7 @@ fn enter_pieces<R: Rules>(
 {
     let empty = emptied(alloc, room);
     let mut pieces = rules.pieces_into(alloc, board, empty)?;
-    counts.push(pieces.len())?;
+    push(counts, pieces.len())?;
     enter_all(tasks, &mut pieces)?;
     *room = pieces;
     Ok(())
@@ -188,7 +188,7 @@ pub(crate) fn put_turned(from: &mut Vec<usize>, to: &mut Vec<usize>) -> Result<(
     ensures { IfOk result (λ _. to.new.items ≡ to.old.items ++ reverse from.old.items) }
 {
     while let Some(number) = from.pop() {
-        to.push(number)?;
+        push(to, number)?;
     }
     Ok(())
 }

@@ -16,6 +16,7 @@ mod ordering;
 mod pieces;
 mod planes;
 mod player;
+mod pushing;
 mod reaching;
 mod rules;
 mod task;

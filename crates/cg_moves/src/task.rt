@@ -4,6 +4,7 @@ ghost use Rattle.cg_moves.specs.Walking.{board_of};
 ghost use Rattle.cg_moves.specs.declared.task.Task.TheVariants.{Enter};
 
 use crate::Board;
+use crate::pushing::push;
 use std::alloc::AllocError;
 
 /// A board that was entered, and how much comes next after it.
@@ -35,7 +36,7 @@ pub(crate) fn enter_all(tasks: &mut Vec<Task>, boards: &mut Vec<Board>) -> Resul
     ensures none { IfOk result (λ _. boards.new.items ≡ []) }
 {
     while let Some(board) = boards.pop() {
-        tasks.push(Task::Enter(board))?;
+        push(tasks, Task::Enter(board))?;
     }
     Ok(())
 }

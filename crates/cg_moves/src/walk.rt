@@ -10,6 +10,7 @@ use crate::breadth::look_in_breadth;
 use crate::course::Course;
 use crate::following::{Followers, enter_next, list_followers, put_turned};
 use crate::found::Found;
+use crate::pushing::push;
 use crate::task::{Entered, Task, enter_all};
 use crate::{Board, Boards, NextPlaces, Opened, ReachFault, Rules};
 use std::alloc::{AllocError, Global};
@@ -48,17 +49,18 @@ fn enter<R: Rules>(
         < load (play way) (map visit (tasks.old.items ++ (Enter board ∷ [])))) }
 {
     if let Some(place) = seen.boards.known(&board) {
-        seen.pending.push(place)?;
+        push(&mut seen.pending, place)?;
         return Ok(());
     }
     list_followers(alloc, rules, &board, all)?;
-    tasks.push(Task::Leave(Entered {
+    let entered = Entered {
         board,
         lefts: all.lefts.len(),
         first_count: seen.counts.len(),
         moves: all.lefts.len() + all.rights.len(),
         pending: seen.pending.len(),
-    }))?;
+    };
+    push(tasks, Task::Leave(entered))?;
     enter_next(alloc, rules, course, &seen.boards, all, tasks)?;
     put_turned(&mut all.counts, &mut seen.counts)
 }
@@ -100,15 +102,16 @@ fn leave(seen: &mut Seen, tasks: &[Task], entered: Entered, limit: u64) -> Resul
         pending,
     } = entered;
     let place = seen.boards.put(board, limit)?;
-    seen.next.push(NextPlaces {
+    let next = NextPlaces {
         lefts,
         first_count,
         moves,
         first_place: seen.places.len(),
         parts: seen.pending.len() - pending,
-    })?;
+    };
+    push(&mut seen.next, next)?;
     put_places(&mut seen.places, &mut seen.pending, pending)?;
-    seen.pending.push(place)?;
+    push(&mut seen.pending, place)?;
     Ok(())
 }
 

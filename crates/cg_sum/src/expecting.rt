@@ -69,8 +69,8 @@ fn expect_row<B: BoardForms, S: CellStore<GameFacts<B>>>(
     }
 }
 
-// Tells the store that the sum of the two may be looked for, unless one of them is 0 or both are known by their parts. Whether f is is
-// told once for a row.
+// Tells the store that the sum of the two may be looked for, unless one of them is 0 or both are known by their parts. Whether f is 0 or
+// known is asked once for a row.
 fn expect_sum<B: BoardForms, S: CellStore<GameFacts<B>>>(
     work: &mut Work<B, S>,
     f: &Position,

@@ -9,7 +9,7 @@ ghost use Rattle.cg_nodes.specs.Games.{AreGames, StandsFor, games_at};
 ghost use Rattle.cg_nodes.specs.Spelled.{can};
 ghost use Rattle.cg_sum.specs.Progress.{IsSides, TermsApart};
 
-use crate::written::Sides;
+use crate::written::{Sides, no_sides};
 use cg_canon::{FirstTerm, ValueFault, Work, canonical_item, canonical_of_terms};
 use cg_cells::CellStore;
 use cg_nodes::{BoardForms, GameFacts, Handle};
@@ -22,6 +22,22 @@ pub(crate) struct Draft {
     pub(crate) sides: Sides,
     /// How many of them come from the first of two terms.
     pub(crate) first_term: FirstTerm,
+}
+
+impl Draft {
+    /// Of a game with no options.
+    pub(crate) fn new(alloc: Global) -> Draft
+        ensures lefts { result.sides.lefts ≡ [] }
+        ensures rights { result.sides.rights ≡ [] }
+    {
+        Draft {
+            sides: no_sides(alloc),
+            first_term: FirstTerm {
+                lefts: 0,
+                rights: 0,
+            },
+        }
+    }
 }
 
 /// Makes the item of the canonical form of the game of the draft, at a cost of `extra` more, which is at most 8.

@@ -1,5 +1,5 @@
 //! The options of a sum, which are sums that were made before.
-ghost use Rattle.std.specs.Prelude.{◌≡◌, ℕ, ◌++◌, IfOk, IsSome, length, map};
+ghost use Rattle.std.specs.Prelude.{◌≡◌, ℕ, ◌++◌, [], IfOk, IsSome, length, map};
 ghost use Rattle.cg_cells.specs.Meaning.{Has};
 ghost use Rattle.cg_sum.specs.Finds.{sum_found, sum_handle};
 ghost use Rattle.cg_sum.specs.Progress.{AreOptionsFound, IsDraftOf};
@@ -7,73 +7,70 @@ ghost use Rattle.smallvec.specs.SmallVec.{HasRoomFor};
 
 use crate::form::Draft;
 use crate::found::Sums;
-use crate::handle_list::HandleList;
 use crate::position::Position;
-use crate::written::Sides;
 use cg_canon::FirstTerm;
 use cg_nodes::Handle;
 use smallvec::SmallVec;
-use std::alloc::{AllocError, Global};
+use std::alloc::AllocError;
 
-/// Games whose canonical form is that of f + k, as Left and Right options: the sums of the written options
-/// of the two, which were made before. One of the two must be no number, so x + G is made of the sums of x
-/// and the options of G alone (Siegel, Combinatorial Game Theory (2013), II.3: the Number Translation
-/// Theorem). No two of those that come from one of the two are comparable, since sums keep the order. The
-/// only error is want of memory.
-pub(crate) fn draft_of_sum(
-    alloc: Global,
+/// Puts games whose canonical form is that of f + k into the draft, which has none, as Left and Right
+/// options: the sums of the written options of the two, which were made before. One of the two must be no
+/// number, so x + G is made of the sums of x and the options of G alone (Siegel, Combinatorial Game Theory
+/// (2013), II.3: the Number Translation Theorem). No two of those that come from one of the two are
+/// comparable, since sums keep the order. The only error is want of memory.
+pub(crate) fn draw_up(
     f: &Position,
     k: &Position,
     sums: &Sums,
-) -> Result<Draft, AllocError>
-    requires { AreOptionsFound sums.now f.now k.now }
-    ensures { IfOk result (λ draft. IsDraftOf sums.now f.now k.now draft) }
+    draft: &mut Draft,
+) -> Result<(), AllocError>
+    requires found { AreOptionsFound sums.now f.now k.now }
+    requires no_lefts { draft.old.sides.lefts ≡ [] }
+    requires no_rights { draft.old.sides.rights ≡ [] }
+    ensures { IfOk result (λ _. IsDraftOf sums.now f.now k.now draft.new) }
 {
-    let first_term = FirstTerm {
+    draft.first_term = FirstTerm {
         lefts: f.options.lefts.len(),
         rights: f.options.rights.len(),
     };
-    let lefts = option_sums(
-        alloc,
+    add_sums(
         sums,
         f.options.lefts.as_slice(),
         k.handle,
         f.handle,
         k.options.lefts.as_slice(),
+        &mut draft.sides.lefts.items,
     )?;
-    let rights = option_sums(
-        alloc,
+    add_sums(
         sums,
         f.options.rights.as_slice(),
         k.handle,
         f.handle,
         k.options.rights.as_slice(),
+        &mut draft.sides.rights.items,
     )?;
-    Ok(Draft {
-        sides: Sides { lefts, rights },
-        first_term,
-    })
+    Ok(())
 }
 
-// The handles of the sums of each of `firsts` and k, then those of f and each of `seconds`, all of which
+// Adds the handles of the sums of each of `firsts` and k, then those of f and each of `seconds`, all of which
 // must have been found.
-fn option_sums(
-    alloc: Global,
+fn add_sums(
     sums: &Sums,
     firsts: &[Handle],
     k: Handle,
     f: Handle,
     seconds: &[Handle],
-) -> Result<HandleList, AllocError>
+    all: &mut SmallVec<Handle, 8>,
+) -> Result<(), AllocError>
     requires firsts { (p : ℕ) → Has firsts.now p → IsSome (sum_found sums.now p k) }
     requires seconds { (q : ℕ) → Has seconds.now q → IsSome (sum_found sums.now f q) }
-    ensures { IfOk result (λ all. all ≡ map (λ p. sum_handle sums.now p k) firsts.now
+    ensures { IfOk result (λ _. all.new.items ≡ all.old.items ++ map (λ p. sum_handle sums.now p k) firsts.now
         ++ map (λ q. sum_handle sums.now f q) seconds.now) }
 {
-    let mut all = SmallVec::with_capacity(alloc, firsts.len() + seconds.len())?;
-    add_firsts(sums, firsts, k, &mut all);
-    add_seconds(sums, f, seconds, &mut all);
-    Ok(HandleList::of(all))
+    all.reserve(firsts.len() + seconds.len())?;
+    add_firsts(sums, firsts, k, all);
+    add_seconds(sums, f, seconds, all);
+    Ok(())
 }
 
 // Adds the handles of the sums of each of `firsts` and k.

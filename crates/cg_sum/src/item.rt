@@ -12,9 +12,9 @@ ghost use Rattle.cg_canon.specs.SumItems.{sum_item as item_of_sum};
 ghost use Rattle.cg_sum.specs.Progress.{IsNoteOf, IsOneNode, IsPosition, IsSumReady};
 ghost use Rattle.cg_sum.specs.Zeros.{IsBesideZero};
 
-use crate::form::{form_item, written_item};
+use crate::form::{Draft, form_item, written_item};
 use crate::found::Sums;
-use crate::gather::draft_of_sum;
+use crate::gather::draw_up;
 use crate::nimbers::is_zero;
 use crate::pairs::pair;
 use crate::position::Position;
@@ -314,7 +314,8 @@ fn summed_item<B: BoardForms, S: CellStore<GameFacts<B>>>(
     ensures spare { OnOk result ((work_state S.state work.old).spare + 1 ≤ (work_state S.state work.new).spare) }
     ensures more { (work_state S.state work.old).spare ≤ (work_state S.state work.new).spare }
 {
-    let draft = draft_of_sum(alloc, f, k, sums)?;
+    let mut draft = Draft::new(alloc);
+    draw_up(f, k, sums, &mut draft)?;
     if has_number(f, k) {
         return written_item(alloc, work, &draft, 1);
     }

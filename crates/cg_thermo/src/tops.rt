@@ -1,6 +1,7 @@
 //! The greatest of the sides of some options.
-ghost use Rattle.std.specs.Prelude.{◌≡◌, IfOk, cond};
-ghost use Rattle.cg_thermo.specs.Found.{AllFound, AreWalls, TopOf};
+ghost use Rattle.std.specs.Prelude.{◌≡◌, ℕ, IfOk, IsSome, cond};
+ghost use Rattle.cg_lines.specs.Rises.{IsWall, value_at};
+ghost use Rattle.cg_thermo.specs.Found.{AllFound, AreWalls, TopOf, charted, side_in};
 
 use crate::chart::{Chart, Charts};
 use cg_lines::{BOUND, Rise, higher};
@@ -12,6 +13,19 @@ fn side(chart: &Chart, right: bool) -> &Rise
     ensures { result.now ≡ cond right chart.now.right chart.now.left }
 {
     if right { &chart.right } else { &chart.left }
+}
+
+/// The right wall of the game of the handle, or the negative of its left wall, in its chart, which was found.
+fn side_of(charts: &Charts, a: Handle, right: bool) -> &Rise
+    requires walls { AreWalls charts.now }
+    requires found { IsSome (charted charts.now a) }
+    ensures wall { IsWall result.now }
+    ensures value { (t : ℕ) → value_at result.now t ≡ side_in right (charted charts.now a) t }
+{
+    match charts.get(a) {
+        Some(chart) => side(chart, right),
+        None => unreachable!(),
+    }
 }
 
 /// The greatest of the right walls of the options, or of the negatives of their left walls, whose charts were found. The
@@ -26,12 +40,12 @@ pub(crate) fn top(
     requires found { AllFound charts.now options.now }
     ensures { IfOk result (TopOf charts.now right options.now) }
 {
-    let mut top = Rise::level(alloc, -BOUND);
-    for option in options {
-        let Some(chart) = charts.get(*option) else {
-            unreachable!()
-        };
-        top = higher(alloc, &top, side(chart, right))?;
+    let Some((first, others)) = options.split_first() else {
+        return Ok(Rise::level(alloc, -BOUND));
+    };
+    let mut top = side_of(charts, *first, right).copy(alloc)?;
+    for option in others {
+        top = higher(alloc, &top, side_of(charts, *option, right))?;
     }
     Ok(top)
 }

@@ -35,18 +35,21 @@ fn all_contents(alloc: Global, boards: &[Board]) -> Result<Vec<u32>, AllocError>
 
 /// Tells the store on which cells the values of these boards of the game with this number may be noted; those of the number 0 are
 /// noted nowhere. All contents are written before the first cell is told of, so that the store's loads follow each other closely.
+/// Where there is no memory for them, the store is told of nothing.
 pub(crate) fn expect_boards<B: BoardForms, S: CellStore<GameFacts<B>>>(
     alloc: Global,
     store: &mut S,
     number: u8,
     boards: &[Board],
-) -> Result<(), AllocError>
+)
     ensures { Spends 0 (S.state store.old) (S.state store.new) }
 {
     if !(1..=15).contains(&number) {
-        return Ok(());
+        return;
     }
-    let all = all_contents(alloc, boards)?;
+    let Ok(all) = all_contents(alloc, boards) else {
+        return;
+    };
     let mut contents = all.as_slice();
     for board in boards {
         let count = (board.size() as usize).div_ceil(CELLS as usize);
@@ -54,5 +57,4 @@ pub(crate) fn expect_boards<B: BoardForms, S: CellStore<GameFacts<B>>>(
         expect_board(store, number, board, own);
         contents = others;
     }
-    Ok(())
 }

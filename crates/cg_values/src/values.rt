@@ -96,7 +96,7 @@ fn expected_value<B: BoardForms, S: CellStore<GameFacts<B>>, R: Rules, A: Adder>
         (part_items work.old.limit (R.game rules.now) part.entry.board.now) result }
     ensures spare { start ≤ (work_state S.state work.new).spare }
 {
-    expect_boards(alloc, work, rules.number(), part.ahead)?;
+    expect_boards(alloc, work, rules.number(), part.ahead);
     part_value(alloc, work, rules, adder, part, start)
 }
 

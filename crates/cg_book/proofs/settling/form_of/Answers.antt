@@ -12,6 +12,6 @@ profile_with_cuts-requires-clause-cuts c =
     let gs = c.args.pages.now in
     let whole = node (games_of gs c.args.lefts.now) (games_of gs c.args.rights.now) in
     let P : Game → Type 0 = λ z. HasCuts z c.args.profile.now in
-    subst P (c.in_ok-form.ensures.form ∙ sym (ap (λ z. node (games_of gs z) (games_of gs c.as_slice-2.result.now)) c.as_slice.ensures
-    ∙ ap (λ z. node (games_of gs c.in_ok-form.form.lefts.items) (games_of gs z)) c.as_slice-2.ensures))
+    subst P (c.in_ok-put_reduced.ensures.form ∙ sym (ap (λ z. node (games_of gs z) (games_of gs c.as_slice-2.result.now)) c.as_slice.ensures
+    ∙ ap (λ z. node (games_of gs c.put_reduced.new.form.lefts.items) (games_of gs z)) c.as_slice-2.ensures))
     (equal_cuts whole (can whole) c.args.profile.now (can-equal whole) c.requires.cuts)

@@ -15,7 +15,7 @@ returns-in-Some g c =
     record {
       boards = refl;
       walking = seen-way g.way lawful c.args.seen.now c.args.tasks.now.items c.args.board c.requires.1.1.1.1.1 c.in-Some.place
-          c.in-Some.ensures.number c.push.new.self.items c.in_ok-push.ensures.items;
+          c.in-Some.ensures.number c.push.new.items.items c.in_ok-push.ensures;
       less = seen-less g.way lawful c.args.seen.now c.args.tasks.now.items c.args.board c.requires.1.1.1.1.1 c.in-Some.place
           c.in-Some.ensures.number;
     }
@@ -38,6 +38,6 @@ returns g c =
     let done = is-entered (g.R.Rules.game c.args.rules.now) (g.met.R.Rules.lawful c.args.rules.now) c.args.course g.way
     c.args.seen.now c.args.tasks.now.items c.args.board c.requires.1 c.in_ok-list_followers.ensures.lefts
     c.in_ok-list_followers.ensures.rights (omega arith) (omega arith) (omega arith) (omega arith) (omega arith)
-    c.in_default.ensures.new c.in_ok-push-2.ensures.items c.in_ok-enter_next.ensures.tasks c.in_ok-enter_next.ensures.counts
+    c.in_default.ensures.new c.in_ok-push-2.ensures c.in_ok-enter_next.ensures.tasks c.in_ok-enter_next.ensures.counts
     c.put_turned.result c.put_turned.ensures in
     record { boards = refl; walking = done.walking; less = done.less }

@@ -20,8 +20,8 @@ returns-in_err-place-clause-refused g c f =
     left-refused g.way c.requires.0 c.args.seen.now c.args.tasks.now c.args.entered c.requires.1.1.0 _ refl c.args.limit
     (c.in_err-place.ensures.refused (passed_on c.in_err-place.field-0.0 c.from_residual.result c.from_residual.ensures.1 f))
 
-pub overflow_sub-len : goal.overflow_sub-len
-overflow_sub-len g c =
+pub overflow_sub-next : goal.overflow_sub-next
+overflow_sub-next g c =
     let l = enough g.way c.requires.0 c.args.seen.now c.args.tasks.now c.args.entered c.requires.1.1.0 in
     omega arith
 
@@ -32,5 +32,5 @@ put_places-requires g c =
 pub returns-clause-walking : goal.returns-clause-walking
 returns-clause-walking g c =
     left-way g.way c.requires.0 c.args.seen.now c.args.tasks.now c.args.entered c.requires.1.1.0 c.put.new.self
-    c.in_ok-place.ensures.boards c.in_ok-place.ensures.number c.in_ok-put_places.ensures.pending c.in_ok-push-2.ensures.items
-    c.in_ok-put_places.ensures.places (omega arith) (omega arith) c.in_ok-push.ensures.items
+    c.in_ok-place.ensures.boards c.in_ok-place.ensures.number c.in_ok-put_places.ensures.pending c.in_ok-push-2.ensures
+    c.in_ok-put_places.ensures.places (omega arith) (omega arith) c.in_ok-push.ensures

@@ -1,4 +1,4 @@
-use Rattle.std.proofs.Common.{ap, refl}
+use Rattle.std.proofs.Common.{refl}
 use Rattle.cg_canon.specs.Works.{work_state}
 use Rattle.cg_form.proofs.Integers.{some_lefts, some_rights}
 use Rattle.cg_form.specs.Game.{lefts, rights}

@@ -1,4 +1,4 @@
-use Rattle.std.proofs.Common.{rules, refl, ◌<◌, length, ap, ◌∙◌, Err}
+use Rattle.std.proofs.Common.{rules, ◌<◌, length, ap, ◌∙◌, Err}
 use Rattle.std.proofs.lemmas.Result.{err_from_is_err_and}
 use Rattle.cg_canon.specs.Works.{work_state}
 use Rattle.cg_values.proofs.HandleSteps.{hold-as}

@@ -1,6 +1,0 @@
-use Rattle.std.proofs.Common.{◌≡◌, take}
-use Rattle.cg_book.specs.Candidates.{pages_of}
-use Rattle.cg_book.proofs.best.pages_in.Given as goal
-
-abbrev pub invariant-loop-candidate : goal.invariant-loop-candidate
-invariant-loop-candidate l = l.all.items ≡ take l.candidate-index (pages_of l.candidates)

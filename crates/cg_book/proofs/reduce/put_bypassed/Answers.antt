@@ -1,0 +1,11 @@
+use Rattle.cg_book.proofs.Reducing.{formed, no_verdicts}
+use Rattle.cg_book.proofs.reduce.put_bypassed.Goals as goal
+
+pub put_replaced-requires-clause-verdicts : goal.put_replaced-requires-clause-verdicts
+put_replaced-requires-clause-verdicts c =
+    no_verdicts c.args.pages.now c.args.whole.now c.new-verdicts.result c.new-verdicts.ensures
+
+pub returns-clause-form : goal.returns-clause-form
+returns-clause-form c =
+    formed c.args.pages.now c.args.whole.now c.put_replaced.new.list.items c.put_replaced-2.new.list.items c.requires.whole.no_number
+    c.in_ok-put_replaced.ensures.replaces c.in_ok-put_replaced-2.ensures.replaces
