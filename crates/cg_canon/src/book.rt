@@ -111,7 +111,7 @@ impl Book {
 }
 
 /// Puts the handles of the pages into the list, which is empty, in their order. An error comes only after want of memory.
-pub(crate) fn find_handles<B: BoardForms, S: CellStore<GameFacts<B>>>(
+pub(crate) fn put_handles<B: BoardForms, S: CellStore<GameFacts<B>>>(
     store: &S,
     book: &Book,
     pages: &[u32],
@@ -141,6 +141,6 @@ pub(crate) fn handles_of<B: BoardForms, S: CellStore<GameFacts<B>>>(
         × (games_at (S.state store.now) r.items ≡ games_of book.now.pages pages.now)) }
 {
     let mut all = SmallVec::new(alloc);
-    find_handles(store, book, pages, &mut all)?;
+    put_handles(store, book, pages, &mut all)?;
     Ok(all)
 }

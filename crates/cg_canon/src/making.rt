@@ -12,7 +12,7 @@ ghost use Rattle.cg_book.specs.Terms.{ApartByTerm};
 ghost use Rattle.cg_canon.specs.Books.{BookHolds};
 ghost use Rattle.cg_canon.specs.Paid.{IsPaid, written};
 
-use crate::book::{Book, find_handles};
+use crate::book::{Book, put_handles};
 use crate::entering::enter_game;
 use crate::fault::ValueFault;
 use crate::made::are_same;
@@ -148,9 +148,9 @@ fn form_item<B: BoardForms, S: CellStore<GameFacts<B>>>(
     ensures paid { IsPaid (S.state store.old) (S.state store.new) meter.old meter.new (written book.old.pages new.now) extra result }
 {
     let mut lefts = SmallVec::new(alloc);
-    find_handles(&*store, book, new.form.lefts.as_slice(), &mut lefts)?;
+    put_handles(&*store, book, new.form.lefts.as_slice(), &mut lefts)?;
     let mut rights = SmallVec::new(alloc);
-    find_handles(&*store, book, new.form.rights.as_slice(), &mut rights)?;
+    put_handles(&*store, book, new.form.rights.as_slice(), &mut rights)?;
     meter.charge_form(&new.profile, extra)?;
     Ok(claimed(store, book, lefts.as_slice(), rights.as_slice(), new))
 }

@@ -12,7 +12,7 @@ ghost use Rattle.cg_book.specs.Terms.{ApartByTerm};
 ghost use Rattle.cg_canon.specs.Books.{BookHolds};
 
 use crate::book::{Book, HandleList, handles_of};
-use crate::paging::{find_pages, page_of};
+use crate::paging::{page_of, put_pages};
 use cg_book::{FirstTerm, Form, NewForm, Read, Settled, at_most, profile_of_lists, settle};
 use cg_cells::CellStore;
 use cg_nodes::{BoardForms, GameFacts, Handle};
@@ -61,7 +61,7 @@ pub(crate) fn lefts_of<B: BoardForms, S: CellStore<GameFacts<B>>>(
 }
 
 /// Puts the pages of two lists of options into a form that has none.
-fn find_both<B: BoardForms, S: CellStore<GameFacts<B>>>(
+fn put_both<B: BoardForms, S: CellStore<GameFacts<B>>>(
     alloc: Global,
     store: &mut S,
     book: &mut Book,
@@ -79,8 +79,8 @@ fn find_both<B: BoardForms, S: CellStore<GameFacts<B>>>(
     ensures rights { IfOk result (λ _. StandFor book.new.pages form.new.rights.items (games_at (S.state store.old) rights.now)) }
     ensures spends { Spends 0 (S.state store.old) (S.state store.new) }
 {
-    find_pages(alloc, store, book, lefts, &mut form.lefts)?;
-    find_pages(alloc, store, book, rights, &mut form.rights)?;
+    put_pages(alloc, store, book, lefts, &mut form.lefts)?;
+    put_pages(alloc, store, book, rights, &mut form.rights)?;
     Ok(())
 }
 
@@ -103,7 +103,7 @@ pub(crate) fn value_of_lists<B: BoardForms, S: CellStore<GameFacts<B>>>(
     ensures spends { Spends 0 (S.state store.old) (S.state store.new) }
 {
     let mut both = Form::new(alloc);
-    find_both(alloc, store, book, lefts, rights, &mut both)?;
+    put_both(alloc, store, book, lefts, rights, &mut both)?;
     settle(
         alloc,
         &book.pages,
@@ -132,7 +132,7 @@ pub(crate) fn form_of_lists<B: BoardForms, S: CellStore<GameFacts<B>>>(
     ensures spends { Spends 0 (S.state store.old) (S.state store.new) }
 {
     let mut form = Form::new(alloc);
-    find_both(alloc, store, book, lefts, rights, &mut form)?;
+    put_both(alloc, store, book, lefts, rights, &mut form)?;
     let profile = profile_of_lists(&book.pages, form.lefts.as_slice(), form.rights.as_slice())?;
     Ok(NewForm { form, profile })
 }

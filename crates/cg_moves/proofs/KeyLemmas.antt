@@ -1,8 +1,9 @@
 -- Keys of boards.
-use Rattle.std.proofs.Common.{◌≡◌, refl, ℕ, zero, suc, ◌+◌, ◌*◌, ◌/◌, ◌%◌, ◌==◌, true, inl, inr, List, [], ◌∷◌, length, ap, sym, ◌∙◌, arith}
+use Rattle.std.proofs.Common.{◌≡◌, refl, ℕ, zero, suc, ◌+◌, ◌*◌, ◌/◌, ◌%◌, ◌<◌, ◌==◌, bit_xor, true, inl, inr, List, [], ◌∷◌, length, ap, sym, ◌∙◌, arith}
 use Rattle.std.specs.Int.{bit_at}
 use Rattle.std.proofs.lemmas.Bool.{eq-eqb, eqb-true}
 use Rattle.std.proofs.lemmas.Bool.Decides.{leb_tells}
+use Rattle.std.proofs.lemmas.Nat.{xor_lt}
 use Rattle.std.proofs.lemmas.Nat.Bits.{bit_at-lt, bit_at-suc, bit_at-zero, bit_at_lowest, same_from_bits}
 use Rattle.cg_moves.specs.declared.key.BoardKey.{BoardKey}
 use Rattle.cg_moves.specs.declared.planes.Planes.{Planes}
@@ -92,3 +93,16 @@ one-key p q g h e f =
     sym (grid-is q q.symbols (words_of q.symbols q.cells) refl h (words-are q.symbols q.cells))
     ∙ sym (ap (λ (k : BoardKey). grid_by k.rows k.columns q.symbols k.planes) e)
     ∙ grid-is p q.symbols (words_of p.symbols p.cells) f g (words-are p.symbols p.cells)
+
+-- ---- the number of a key
+
+xor-word : (a b : ℕ) → a < 18446744073709551616 → b < 18446744073709551616 → bit_xor a b < 18446744073709551616
+xor-word a b h k = xor_lt 64 a b h k
+
+pub number-few : (a b c d e f : ℕ) → a < 18446744073709551616 → b < 18446744073709551616 → c < 18446744073709551616
+    → d < 18446744073709551616 → e < 18446744073709551616 → f < 18446744073709551616
+    → bit_xor (bit_xor (bit_xor a b) (bit_xor c d)) (bit_xor e f) / 4294967296 < 4294967296
+number-few a b c d e f h i j k l m =
+    let low = xor-word (bit_xor a b) (bit_xor c d) (xor-word a b h i) (xor-word c d j k) in
+    let all = xor-word (bit_xor (bit_xor a b) (bit_xor c d)) (bit_xor e f) low (xor-word e f l m) in
+    omega arith

@@ -1,108 +1,83 @@
--- Boards that were found, with their numbers in a map by their keys.
-use Rattle.std.proofs.Common.{◌≡◌, refl, ℕ, zero, suc, cond, ◌⊎◌, inl, inr, ⊎_elim, true, false, List, [], ◌∷◌, ◌++◌, length, ap, sym, ◌∙◌, subst}
-use Rattle.std.specs.Prelude.{IfNone, IfSome, None, Option, Some}
-use Rattle.std.specs.HashMap.{HashMap, get}
-use Rattle.std.proofs.lemmas.Bool.{cases_Bool, cond-false, cond-true}
+-- Boards that were found, with the numbers of their keys.
+use Rattle.std.proofs.Common.{◌≡◌, refl, ℕ, zero, suc, ◌<◌, inl, inr, List, [], ◌∷◌, ◌++◌, get_or, length, ap, sym, ◌∙◌, subst, arith}
+use Rattle.std.specs.Prelude.{IfNone, IfSome, None, Option, Some, map}
+use Rattle.std.proofs.lemmas.List.{length-map, map-append}
 use Rattle.cg_moves.specs.declared.key.BoardKey.{BoardKey}
 use Rattle.cg_moves.specs.Found.{AreAlike, AreNumbers, HasKeyAt}
 use Rattle.cg_moves.specs.Grid.{Grid, IsGrid}
 use Rattle.cg_moves.specs.Opened.{IsAt}
 use Rattle.cg_moves.specs.Rules.{In}
-use Rattle.cg_moves.specs.Seen.{AreGrids, key_eq, key_of}
-use Rattle.cg_moves.proofs.KeyLemmas.{key_eq-back, key_eq-same, one-key}
+use Rattle.cg_moves.specs.Seen.{AreGrids, key_number, key_of}
+use Rattle.cg_moves.proofs.KeyLemmas.{one-key}
 use Rattle.cg_moves.proofs.Members.{in-append, in-append_left, in-append_right, in_one}
-use Rattle.cg_moves.proofs.PlaceLemmas.{at-in, in-at}
+use Rattle.cg_moves.proofs.PlaceLemmas.{in-at}
 
 -- ---- keys at places
 
-key_at-append : (ps qs : List Grid) (n : ℕ) (key : BoardKey) → HasKeyAt ps n key → HasKeyAt (ps ++ qs) n key
-key_at-append [] qs n key m = absurd m
-key_at-append (x ∷ ps) qs zero key m = m
-key_at-append (x ∷ ps) qs (suc n) key m = key_at-append ps qs n key m
+pub key_at-inside : (ps : List Grid) (n : ℕ) (key : BoardKey) → HasKeyAt ps n key → n < length ps
+key_at-inside [] n key m = absurd m
+key_at-inside (x ∷ ps) zero key m = omega arith
+key_at-inside (x ∷ ps) (suc n) key m = let rest = key_at-inside ps n key m in omega arith
 
-key_at-last : (ps : List Grid) (p : Grid) (key : BoardKey) → key_of p ≡ key → HasKeyAt (ps ++ (p ∷ [])) (length ps) key
-key_at-last [] p key e = e
-key_at-last (x ∷ ps) p key e = key_at-last ps p key e
-
-key_at-back : (ps : List Grid) (q : Grid) (n : ℕ) (key : BoardKey) → HasKeyAt (ps ++ (q ∷ [])) n key
-    → HasKeyAt ps n key ⊎ ((n ≡ length ps) × (key_of q ≡ key))
-key_at-back [] q zero key m = inr (refl, m)
-key_at-back [] q (suc n) key m = absurd m
-key_at-back (x ∷ ps) q zero key m = inl m
-key_at-back (x ∷ ps) q (suc n) key m = elim (key_at-back ps q n key m) [ inl k ↦ inl k | inr k ↦ inr (ap suc k.0, k.1) ]
+-- the number of the board at the place
+key_at-number : (ps : List Grid) (n : ℕ) (key : BoardKey) → HasKeyAt ps n key
+    → get_or (map (λ p. key_number (key_of p)) ps) n 0 ≡ key_number key
+key_at-number [] n key m = absurd m
+key_at-number (x ∷ ps) zero key m = ap key_number m
+key_at-number (x ∷ ps) (suc n) key m = key_at-number ps n key m
 
 key_at-at : (ps : List Grid) (n : ℕ) (p : Grid) → IsAt ps n p → HasKeyAt ps n (key_of p)
 key_at-at [] n p m = absurd m
 key_at-at (x ∷ ps) zero p m = ap key_of m
 key_at-at (x ∷ ps) (suc n) p m = key_at-at ps n p m
 
+-- the board that was read has the key
+pub key_at-read : (ps : List Grid) (n : ℕ) (p : Grid) (key : BoardKey) → IsAt ps n p → key_of p ≡ key → HasKeyAt ps n key
+key_at-read ps n p key m e = let P : BoardKey → Type 0 = λ z. HasKeyAt ps n z in subst P e (key_at-at ps n p m)
+
+-- no other key is there
+pub key_at-only : (ps : List Grid) (n : ℕ) (p : Grid) (key : BoardKey) → IsAt ps n p → HasKeyAt ps n key → key_of p ≡ key
+key_at-only [] n p key m k = absurd m
+key_at-only (x ∷ ps) zero p key m k = ap key_of (sym m) ∙ k
+key_at-only (x ∷ ps) (suc n) p key m k = key_at-only ps n p key m k
+
 -- where all are boards with the same symbols, the board at the place has this key
-at-key_at : (ps : List Grid) (n : ℕ) (p : Grid) → AreGrids ps → IsGrid p → ((q : Grid) → In q ps → q.symbols ≡ p.symbols)
+pub at-key_at : (ps : List Grid) (n : ℕ) (p : Grid) → AreGrids ps → IsGrid p → ((q : Grid) → In q ps → q.symbols ≡ p.symbols)
     → HasKeyAt ps n (key_of p) → IsAt ps n p
 at-key_at [] n p all g like m = absurd m
 at-key_at (x ∷ ps) zero p all g like m = one-key p x g (all x (inl refl)) (sym m) (like x (inl refl))
 at-key_at (x ∷ ps) (suc n) p all g like m = at-key_at ps n p (λ q k. all q (inr k)) g (λ q k. like q (inr k)) m
 
--- ---- the map
+-- ---- numbers
 
--- the map with this number at the key, which has the others' numbers as before
-abbrev pub TakesKey : {S : Type 0} → HashMap BoardKey ℕ S → HashMap BoardKey ℕ S → BoardKey → ℕ → Type 0
-TakesKey {S} s n key number = (q : BoardKey) → get key_eq n q ≡ cond (key_eq key q) (Some number) (get key_eq s q)
+-- one board more
+pub numbers-more : (numbers more : List ℕ) (boards : List Grid) (p : Grid) (number : ℕ) → AreNumbers numbers boards
+    → number ≡ key_number (key_of p) → more ≡ numbers ++ (number ∷ []) → AreNumbers more (boards ++ (p ∷ []))
+numbers-more numbers more boards p number are is e =
+    e ∙ ap (λ z. z ++ (number ∷ [])) are
+    ∙ ap (λ z. map (λ q. key_number (key_of q)) boards ++ (z ∷ [])) is
+    ∙ sym (map-append (λ q. key_number (key_of q)) boards (p ∷ []))
 
-module _ {S : Type 0} (s n : HashMap BoardKey ℕ S) (key : BoardKey) where
-  -- one board more
-  pub numbers-more : (boards : List Grid) (p : Grid) → AreNumbers s boards → TakesKey s n key (length boards) → get key_eq s key ≡ None → key ≡ key_of p
-      → AreNumbers n (boards ++ (p ∷ []))
-  numbers-more boards p h takes none is q m = (
-    λ t. ⊎_elim
-        (λ e. let P : ℕ → Type 0 = λ z. HasKeyAt (boards ++ (p ∷ [])) z q in
-        let same : length boards ≡ m = (let f = at_key q e in cc) in
-        subst P same (key_at-last boards p q (sym is ∙ key_eq-back key q e)))
-        (λ e. key_at-append boards (p ∷ []) m q ((h q m).0 (sym (at_others q e) ∙ t)))
-        (cases_Bool (key_eq key q)),
-    λ k. ⊎_elim
-        (λ e. elim (key_at-back boards p m q k) [
-          | inl there ↦ (let f = (h q m).1 there in let g = ap (get key_eq s) (key_eq-back key q e) in cc)
-          | inr last ↦ at_key q e ∙ ap Some (sym last.0)
-        ])
-        (λ e. elim (key_at-back boards p m q k) [
-          | inl there ↦ at_others q e ∙ (h q m).1 there
-          | inr last ↦ (let g = key_eq-same key q (is ∙ last.1) in cc)
-        ])
-        (cases_Bool (key_eq key q)),
-  )
-    where
-      at_key : (x : BoardKey) → key_eq key x ≡ true → get key_eq n x ≡ Some (length boards)
-      at_key x e = takes x ∙ cond-true (key_eq key x) (Some (length boards)) (get key_eq s x) e
+-- a board that is found at none of the places of its number is new
+pub not-numbered : (numbers : List ℕ) (boards : List Grid) (p : Grid) → AreNumbers numbers boards
+    → ((n : ℕ) → n < length numbers → get_or numbers n 0 ≡ key_number (key_of p) → ¬ HasKeyAt boards n (key_of p)) → ¬ In p boards
+not-numbered numbers boards p are none m =
+    let (n, k) = in-at boards p m in
+    let here = key_at-at boards n p k in
+    let low = key_at-inside boards n (key_of p) here in
+    let count = ap length are ∙ length-map boards (λ q. key_number (key_of q)) in
+    none n (omega arith) (ap (λ z. get_or z n 0) are ∙ key_at-number boards n (key_of p) here) here
 
-      at_others : (x : BoardKey) → key_eq key x ≡ false → get key_eq n x ≡ get key_eq s x
-      at_others x e = takes x ∙ cond-false (key_eq key x) (Some (length boards)) (get key_eq s x) e
-
-module _ {S : Type 0} (s : HashMap BoardKey ℕ S) (key : BoardKey) (boards : List Grid) (h : AreNumbers s boards) (p : Grid)
-    (is : key ≡ key_of p) where
-  -- the board with the number that the map has
-  pub numbered : (number : ℕ) → AreGrids boards → IsGrid p → AreAlike (boards ++ (p ∷ [])) → get key_eq s key ≡ Some number
-      → IsAt boards number p
-  numbered number all g like e =
-      let P : BoardKey → Type 0 = λ z. HasKeyAt boards number z in
-      at-key_at boards number p all g
-      (λ q m. like q p (in-append_left q boards (p ∷ []) m) (in-append_right p boards (p ∷ []) (inl refl)))
-      (subst P is ((h key number).0 e))
-
-  -- a board whose key the map lacks is new
-  pub not-numbered : get key_eq s key ≡ None → ¬ In p boards
-  not-numbered none m =
-      let (number, k) = in-at boards p m in
-      let e = (h (key_of p) number).1 (key_at-at boards number p k) in
-      let f = ap (get key_eq s) is in cc
-
-  -- a new board's key isn't there
-  pub get-none : AreGrids boards → IsGrid p → AreAlike (boards ++ (p ∷ [])) → ¬ In p boards → get key_eq s key ≡ None
-  get-none all g like out = go (get key_eq s key) refl
-    where
-      go : (o : Option ℕ) → get key_eq s key ≡ o → o ≡ None
-      go (Some n) e = absurd (out (at-in boards n p (numbered n all g like e)))
-      go None e = refl
+-- a board with the key of this one is this one, as the list is shown
+pub known-at : (boards all : List Grid) (p : Grid) (key : BoardKey) (n : ℕ) → AreGrids boards → boards ≡ all → IsGrid p → key ≡ key_of p
+    → AreAlike (all ++ (p ∷ [])) → HasKeyAt boards n key → IsAt all n p
+known-at boards all p key n grids same g is like k =
+    let P : List Grid → Type 0 = λ z. IsAt z n p in
+    let Q : List Grid → Type 0 = λ z. AreAlike (z ++ (p ∷ [])) in
+    let V : BoardKey → Type 0 = λ z. HasKeyAt boards n z in
+    let alike : AreAlike (boards ++ (p ∷ [])) = subst Q (sym same) like in
+    subst P same (at-key_at boards n p grids g
+    (λ q m. alike q p (in-append_left q boards (p ∷ []) m) (in-append_right p boards (p ∷ []) (inl refl))) (subst V is k))
 
 pub grids-more : (boards : List Grid) (p : Grid) → AreGrids boards → IsGrid p → AreGrids (boards ++ (p ∷ []))
 grids-more boards p all g q m = elim (in-append q boards (p ∷ []) m) [
@@ -110,11 +85,12 @@ grids-more boards p all g q m = elim (in-append q boards (p ∷ []) m) [
   | inr last ↦ (let P : Grid → Type 0 = λ z. IsGrid z in subst P (sym (in_one q p last)) g)
 ]
 
--- what holds of each value that an option can have
-pub if_some : {X : Type 0} (P : X → Type 0) (o : Option X) → ((x : X) → o ≡ Some x → P x) → IfSome o P
-if_some P (Some x) h = h x refl
-if_some P None h = tt
+-- ---- what a search tells
 
-pub if_none : {X : Type 0} (P : Type 0) (o : Option X) → (o ≡ None → P) → IfNone o P
-if_none P (Some x) h = tt
-if_none P None h = h refl
+pub if_some_then : {X : Type 0} (P Q : X → Type 0) (o : Option X) → IfSome o P → ((x : X) → P x → Q x) → IfSome o Q
+if_some_then P Q (Some x) p h = h x p
+if_some_then P Q None p h = tt
+
+pub if_none_then : {X : Type 0} (P Q : Type 0) (o : Option X) → IfNone o P → (P → Q) → IfNone o Q
+if_none_then P Q (Some x) p h = tt
+if_none_then P Q None p h = h p

@@ -1,10 +1,9 @@
 -- Boards that were found, each with a number.
-use Rattle.std.specs.Prelude.{◌≡◌, ◌↔◌, ℕ, zero, suc, Some, List, [], ◌∷◌}
-use Rattle.std.specs.HashMap.{HashMap, get}
+use Rattle.std.specs.Prelude.{◌≡◌, ℕ, zero, suc, List, [], ◌∷◌, map}
 use Rattle.cg_moves.specs.declared.key.BoardKey.{BoardKey}
 use Rattle.cg_moves.specs.Grid.{Grid}
 use Rattle.cg_moves.specs.Rules.{In}
-use Rattle.cg_moves.specs.Seen.{key_eq, key_of}
+use Rattle.cg_moves.specs.Seen.{key_number, key_of}
 
 -- the boards all have the same symbols
 abbrev pub AreAlike : List Grid → Type 0
@@ -16,6 +15,6 @@ HasKeyAt [] n key = ⊥
 HasKeyAt (p ∷ ps) zero key = key_of p ≡ key
 HasKeyAt (p ∷ ps) (suc n) key = HasKeyAt ps n key
 
--- the map has at each key the place of the board with this key
-abbrev pub AreNumbers : {S : Type 0} → HashMap BoardKey ℕ S → List Grid → Type 0
-AreNumbers {S} numbers boards = (key : BoardKey) (n : ℕ) → (get key_eq numbers key ≡ Some n) ↔ HasKeyAt boards n key
+-- the numbers of the keys of the boards
+abbrev pub AreNumbers : List ℕ → List Grid → Type 0
+AreNumbers numbers boards = numbers ≡ map (λ p. key_number (key_of p)) boards

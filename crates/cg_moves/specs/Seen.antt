@@ -1,5 +1,5 @@
 -- The keys of boards, for look-ups.
-use Rattle.std.specs.Prelude.{ℕ, ◌+◌, ◌*◌, ◌==◌, ◌&&◌, Bool, List, [], ◌∷◌}
+use Rattle.std.specs.Prelude.{ℕ, ◌+◌, ◌*◌, ◌/◌, ◌%◌, ◌^◌, ◌==◌, ◌&&◌, Bool, List, [], ◌∷◌, bit_xor}
 use Rattle.std.specs.Int.{bit_at}
 use Rattle.cg_moves.specs.declared.key.BoardKey.{BoardKey}
 use Rattle.cg_moves.specs.declared.planes.Planes.{Planes}
@@ -24,6 +24,15 @@ words_of symbols cells = record {
 -- the rows, columns and words of a board, which tell it from others with the same symbols
 abbrev pub key_of : Grid → BoardKey
 key_of p = record { rows = p.rows; columns = p.columns; planes = words_of p.symbols p.cells }
+
+-- a number for the key
+abbrev pub key_number : BoardKey → ℕ
+key_number k =
+    let word = λ (x times : ℕ). x * times % 18446744073709551616 in
+    let size = bit_xor (word k.rows 15485907386658061715) (word k.columns 11694633085474628615) in
+    let low = bit_xor (word k.planes.a 11400714819323198485) (word k.planes.b 14029467366897019727) in
+    let high = bit_xor (word k.planes.c 1609587929392839161) (word k.planes.d 9650029242287828579) in
+    bit_xor (bit_xor size low) high / 2 ^ 32
 
 -- whether the two are one key
 abbrev pub key_eq : BoardKey → BoardKey → Bool

@@ -1,13 +1,13 @@
 //! Boards that were found, each with a number.
-ghost use Rattle.std.specs.Prelude.{◌≡◌, ◌+◌, ◌<◌, ◌≤◌, ◌∷◌, ◌++◌, [], IfNone, IfOk, IfSome, length, Err};
-ghost use Rattle.cg_moves.specs.Found.{AreAlike};
+ghost use Rattle.std.specs.Prelude.{◌≡◌, ◌+◌, ◌<◌, ◌≤◌, ◌∷◌, ◌++◌, [], IfNone, IfOk, IfSome, IsTrue, ◌↔◌, length, Err};
+ghost use Rattle.cg_moves.specs.Found.{AreAlike, HasKeyAt};
 ghost use Rattle.cg_moves.specs.Kept.{one_more};
 ghost use Rattle.cg_moves.specs.Opened.{IsAt};
 ghost use Rattle.cg_moves.specs.Rules.{In};
 
 use crate::{Board, BoardKey, ReachFault};
+use cg_links::Links;
 use std::alloc::Global;
-use std::collections::HashMap;
 use std::marker::Model;
 use std::mem;
 
@@ -20,12 +20,23 @@ pub(crate) fn emptied(alloc: Global, room: &mut Vec<Board>) -> Vec<Board>
     boards
 }
 
-/// Boards in the order in which they were found, each once. A board's number is its place in this order, counted from 0, and
-/// the map has it by the board's key. Contracts see the list of boards.
+/// Whether the board with the number, if there is one, has this key.
+fn has_key(boards: &[Board], number: usize, key: &BoardKey) -> bool
+    ensures { IsTrue result ↔ HasKeyAt boards.now number key.now }
+{
+    match boards.get(number) {
+        Some(board) => board.key() == *key,
+        None => false,
+    }
+}
+
+/// Boards in the order in which they were found, each once. A board's number is its place in this order, counted from 0. Contracts
+/// see the list of boards.
 #[derive(Drop)]
 pub(crate) struct Found {
     boards: Vec<Board>,
-    numbers: HashMap<BoardKey, usize>,
+    /// Where boards are looked for, by the numbers of their keys.
+    links: Links,
 }
 
 impl Model for Found {
@@ -42,7 +53,7 @@ impl Model for Found {
 
     ghost view = { λ s. s.boards.items };
 
-    ghost invariant = { λ s. AreNumbers s.numbers s.boards.items × AreGrids s.boards.items };
+    ghost invariant = { λ s. AreNumbers s.links s.boards.items × AreGrids s.boards.items };
 }
 
 impl Found {
@@ -52,7 +63,7 @@ impl Found {
     {
         Found {
             boards: Vec::new(alloc),
-            numbers: HashMap::new(alloc),
+            links: Links::new(alloc),
         }
     }
 
@@ -77,7 +88,10 @@ impl Found {
         ensures number { IfSome result (λ number. IsAt self.now number board.now) }
         ensures new { IfNone result (¬ In board.now self.now) }
     {
-        self.numbers.get(&board.key()).copied()
+        let key = board.key();
+        let boards = self.boards.as_slice();
+        self.links
+            .find(key.number(), |number| has_key(boards, number, &key))
     }
 
     /// Puts a new board behind the others, and gives its number. All have the same symbols. `Positions` comes where that would
@@ -96,7 +110,7 @@ impl Found {
             return Err(ReachFault::Positions);
         }
         self.boards.reserve(1)?;
-        self.numbers.insert(board.key(), number)?;
+        self.links.add(board.key().number())?;
         self.boards.push(board)?;
         Ok(number)
     }
@@ -123,7 +137,7 @@ impl Found {
     pub(crate) fn into_boards(self) -> Vec<Board>
         ensures { result.items ≡ self }
     {
-        let Found { boards, numbers: _ } = self;
+        let Found { boards, links: _ } = self;
         boards
     }
 }

@@ -1,3 +1,4 @@
+pub mod Pairing
 pub mod Sums
 pub mod Incomparable
 pub mod Positions

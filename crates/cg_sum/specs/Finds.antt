@@ -1,16 +1,14 @@
 -- What was found so far, by ids.
-use Rattle.std.specs.Prelude.{ℕ, Bool, Option, Some, None, ◌==◌, ◌&&◌, nat_eq, bit_xor, unwrap_or}
+use Rattle.std.specs.Prelude.{ℕ, Option, Some, None, nat_eq, bit_xor, length, unwrap_or}
 use Rattle.std.specs.HashMap.{get}
+use Rattle.cg_sum.specs.Pairs.{last_of}
 use Rattle.cg_sum.specs.declared.found.Negatives.{Negatives}
 use Rattle.cg_sum.specs.declared.found.Sums.{Sums}
 use Rattle.cg_sum.specs.declared.nimbers.Nimbers.{Nimbers}
 
-abbrev pub pair_eq : ℕ × ℕ → ℕ × ℕ → Bool
-pair_eq p q = (p.0 == q.0) && (p.1 == q.1)
-
 -- the handle of the sum of the two
 abbrev pub sum_found : Sums → ℕ → ℕ → Option ℕ
-sum_found m a b = get pair_eq m.sums (a, b)
+sum_found m a b = last_of m.sums (length m.sums) (a, b)
 
 -- the handle of the negative
 abbrev pub negative_found : Negatives → ℕ → Option ℕ

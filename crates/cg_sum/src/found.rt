@@ -3,6 +3,7 @@ ghost use Rattle.std.specs.Prelude.{◌≡◌, ℕ, ◌==◌, ◌&&◌, IfOk, No
 ghost use Rattle.cg_sum.specs.Finds.{negative_found, nimber_found, sum_found, value_found};
 
 use crate::nimbers::Nimbers;
+use crate::pair_table::PairTable;
 use cg_nodes::Handle;
 use std::alloc::{AllocError, Global};
 use std::collections::HashMap;
@@ -10,7 +11,7 @@ use std::collections::HashMap;
 /// For pairs of handles the handle of the form of their sum, and the nimbers that are known.
 #[derive(Drop)]
 pub(crate) struct Sums {
-    sums: HashMap<(u32, u32), Handle>,
+    sums: PairTable,
     pub(crate) nimbers: Nimbers,
 }
 
@@ -21,7 +22,7 @@ impl Sums {
         ensures nimbers { (n : ℕ) → nimber_found result.nimbers n ≡ None }
     {
         Sums {
-            sums: HashMap::new(alloc),
+            sums: PairTable::new(alloc),
             nimbers: Nimbers::new(alloc),
         }
     }
@@ -37,7 +38,7 @@ impl Sums {
     pub(crate) fn get(&self, a: Handle, b: Handle) -> Option<Handle>
         ensures { result ≡ sum_found self.now a b }
     {
-        self.sums.get(&(a.id().number(), b.id().number())).copied()
+        self.sums.get(a.id().number(), b.id().number())
     }
 
     pub(crate) fn keep(&mut self, a: Handle, b: Handle, sum: Handle) -> Result<(), AllocError>
@@ -45,7 +46,7 @@ impl Sums {
             ≡ (if (a == c) && (b == d) then Some sum else sum_found self.old c d)) }
         ensures nimbers { self.new.nimbers ≡ self.old.nimbers }
     {
-        self.sums.insert((a.id().number(), b.id().number()), sum)?;
+        self.sums.put(a.id().number(), b.id().number(), sum)?;
         Ok(())
     }
 }

@@ -12,6 +12,7 @@ use std::marker::Model;
 /// Handles in their order: up to 8 of them take no memory. Contracts see a list of handles.
 #[derive(Drop)]
 pub(crate) struct HandleList {
+    /// The handles.
     pub(crate) items: SmallVec<Handle, 8>,
 }
 

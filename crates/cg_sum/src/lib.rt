@@ -24,6 +24,7 @@ mod negation;
 mod nimber_sums;
 mod nimbers;
 mod pair;
+mod pair_table;
 mod pairs;
 mod position;
 mod rows;

@@ -1,3 +1,4 @@
+pub mod ApartLemmas
 pub mod WrittenLemmas
 pub mod PlaceLemmas
 pub mod FormLemmas

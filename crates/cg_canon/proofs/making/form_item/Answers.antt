@@ -5,16 +5,16 @@ use Rattle.cg_canon.specs.Paid.{written}
 use Rattle.cg_canon.proofs.Paying.{made_paid, memory_paid, refused_paid}
 use Rattle.cg_canon.proofs.making.form_item.Goals as goal
 
-pub returns-in_err-find_handles-clause-paid : goal.returns-in_err-find_handles-clause-paid
-returns-in_err-find_handles-clause-paid g c =
+pub returns-in_err-put_handles-clause-paid : goal.returns-in_err-put_handles-clause-paid
+returns-in_err-put_handles-clause-paid g c =
     let s = g.S.CellStore.state c.args.store.now in
     let p = err_from_is_err_and c.from_residual.result c.from_residual.ensures.1 in
     memory_paid s s c.args.meter.now c.args.meter.now _ c.args.extra _ (p.1 ∙ ap Err p.2) (nothing_spent s) c.requires.within refl
 
-pub returns-in_err-find_handles-2-clause-paid : goal.returns-in_err-find_handles-2-clause-paid
-returns-in_err-find_handles-2-clause-paid g c =
+pub returns-in_err-put_handles-2-clause-paid : goal.returns-in_err-put_handles-2-clause-paid
+returns-in_err-put_handles-2-clause-paid g c =
     let s = g.S.CellStore.state c.args.store.now in
-    let p = err_from_is_err_and c.from_residual-in_err-find_handles-2.result c.from_residual-in_err-find_handles-2.ensures.1 in
+    let p = err_from_is_err_and c.from_residual-in_err-put_handles-2.result c.from_residual-in_err-put_handles-2.ensures.1 in
     memory_paid s s c.args.meter.now c.args.meter.now _ c.args.extra _ (p.1 ∙ ap Err p.2) (nothing_spent s) c.requires.within refl
 
 pub returns-in_err-charge_form-clause-paid : goal.returns-in_err-charge_form-clause-paid

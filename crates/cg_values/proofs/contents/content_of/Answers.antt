@@ -1,25 +1,16 @@
-use Rattle.std.proofs.Common.{◌-◌, arith}
-use Rattle.cg_values.proofs.WrittenLemmas.{content_fits, content_next}
+use Rattle.std.proofs.Common.{◌≡◌, ◌-◌, ◌/◌, ◌^◌, ◌∙◌, ap, arith, ℕ}
+use Rattle.cg_values.specs.Contents.{apart}
+use Rattle.cg_values.proofs.ApartLemmas.{apart_kept, content_apart}
 use Rattle.cg_values.proofs.contents.content_of.Goals as goal
 
-pub overflow_mul-content : goal.overflow_mul-content
-overflow_mul-content c =
-    let e = content_next c.args.planes c.loop-left.left c.args.end (omega arith) c.loop-left.invariant.inside in
-    let f = content_fits c.args.planes (c.loop-left.left - 1) (c.args.end - (c.loop-left.left - 1)) (omega arith) in
-    let s = c.loop-left.invariant.content in
+pub returns : goal.returns
+returns c =
+    let count = c.args.end - c.args.start in
+    let low : c.spread-low.result ≡ apart count (c.args.planes.a / 2 ^ c.args.start) =
+    c.spread-low.ensures ∙ ap (apart 16) c.bits_at.ensures
+    ∙ apart_kept count (c.args.planes.a / 2 ^ c.args.start) (omega arith) in
+    let high : c.spread-high.result ≡ apart count (c.args.planes.b / 2 ^ c.args.start) =
+    c.spread-high.ensures ∙ ap (apart 16) c.bits_at-2.ensures
+    ∙ apart_kept count (c.args.planes.b / 2 ^ c.args.start) (omega arith) in
+    let whole = content_apart c.args.planes c.args.start count in
     omega arith
-
-pub overflow_add-content : goal.overflow_add-content
-overflow_add-content c =
-    let e = content_next c.args.planes c.loop-left.left c.args.end (omega arith) c.loop-left.invariant.inside in
-    let f = content_fits c.args.planes (c.loop-left.left - 1) (c.args.end - (c.loop-left.left - 1)) (omega arith) in
-    let s = c.loop-left.invariant.content in
-    let v = c.place_at.ensures.value in
-    omega arith
-
-pub loop-left-preserved : goal.loop-left-preserved
-loop-left-preserved c =
-    let e = content_next c.args.planes c.loop-left.left c.args.end (omega arith) c.loop-left.invariant.inside in
-    let s = c.loop-left.invariant.content in
-    let v = c.place_at.ensures.value in
-    record { above = omega arith; inside = omega arith; content = omega arith }

@@ -1,24 +1,22 @@
-use Rattle.std.proofs.Common.{List, ◌∷◌, [], ◌++◌, subst, sym, ◌∙◌}
+use Rattle.std.proofs.Common.{List, ◌∷◌, [], ◌++◌, ap, rules, subst, sym, ◌∙◌}
 use Rattle.cg_moves.specs.Found.{AreAlike}
 use Rattle.cg_moves.specs.Grid.{Grid}
 use Rattle.cg_moves.specs.Opened.{IsAt}
 use Rattle.cg_moves.specs.Rules.{In}
-use Rattle.cg_moves.proofs.SeenLemmas.{if_none, if_some, not-numbered, numbered}
+use Rattle.cg_moves.specs.Seen.{key_number}
+use Rattle.cg_moves.proofs.SeenLemmas.{if_none_then, if_some_then, known-at, not-numbered}
 use Rattle.cg_moves.proofs.found.Found.known.Goals as goal
 
 pub returns-clause-number : goal.returns-clause-number
 returns-clause-number c =
-    let p = c.args.board.now in
-    let P : List Grid → Type 0 = λ z. AreAlike (z ++ (p ∷ [])) in
-    if_some (λ number. IsAt c.args.self.now number p) c.copied.result (λ n e.
-    let Q : List Grid → Type 0 = λ z. IsAt z n p in
-    subst Q c.self.view_is (numbered c.self.inside.numbers c.key.result c.self.inside.boards.items c.self.invariant.0 p
-    c.key.ensures.value n c.self.invariant.1 c.key.ensures.grid (subst P (sym c.self.view_is) c.requires)
-    (sym (c.copied.ensures ∙ c.get.ensures.value) ∙ e)))
+    if_some_then _ _ c.find.result c.find.ensures.found (λ n h.
+    known-at c.self.inside.boards.items c.args.self.now c.args.board.now c.key-key.result n c.self.invariant.1 c.self.view_is
+    c.key-key.ensures.grid c.key-key.ensures.value c.requires (search rules))
 
 pub returns-clause-new : goal.returns-clause-new
 returns-clause-new c =
     let p = c.args.board.now in
     let P : List Grid → Type 0 = λ z. ¬ In p z in
-    if_none (¬ In p c.args.self.now) c.copied.result (λ e. subst P c.self.view_is (not-numbered c.self.inside.numbers c.key.result
-    c.self.inside.boards.items c.self.invariant.0 p c.key.ensures.value (sym (c.copied.ensures ∙ c.get.ensures.value) ∙ e)))
+    if_none_then _ _ c.find.result c.find.ensures.none (λ h. subst P c.self.view_is
+    (not-numbered c.self.inside.links c.self.inside.boards.items p c.self.invariant.0 (λ n low is k.
+    let f = h n low (is ∙ sym (c.number.ensures ∙ ap key_number c.key-key.ensures.value)) in search rules)))

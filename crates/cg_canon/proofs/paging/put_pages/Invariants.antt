@@ -3,7 +3,7 @@ use Rattle.cg_cells.specs.Store.{Spends}
 use Rattle.cg_nodes.specs.Games.{games_at}
 use Rattle.cg_book.specs.Pages.{StandFor}
 use Rattle.cg_canon.specs.Books.{Begins, BookHolds}
-use Rattle.cg_canon.proofs.paging.find_pages.Given as goal
+use Rattle.cg_canon.proofs.paging.put_pages.Given as goal
 
 abbrev pub invariant-loop-handle : goal.invariant-loop-handle
 invariant-loop-handle g l = record {

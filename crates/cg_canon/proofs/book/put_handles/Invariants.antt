@@ -1,6 +1,6 @@
 use Rattle.std.proofs.Common.{◌≡◌, ◌≤◌, length, take}
 use Rattle.cg_canon.proofs.Booking.{Handled}
-use Rattle.cg_canon.proofs.book.find_handles.Given as goal
+use Rattle.cg_canon.proofs.book.put_handles.Given as goal
 
 abbrev pub invariant-loop-page : goal.invariant-loop-page
 invariant-loop-page g l = record {

@@ -1,0 +1,20 @@
+use Rattle.std.proofs.Common.{List, subst}
+use Rattle.cg_form.specs.Game.{Game}
+use Rattle.cg_nodes.proofs.Later.{are_games_later, games_later}
+use Rattle.cg_book.specs.Pages.{StandFor}
+use Rattle.cg_canon.proofs.Booking.{stand_begins}
+use Rattle.cg_canon.proofs.value.put_both.Goals as goal
+
+pub put_pages-requires-2-clause-games : goal.put_pages-requires-2-clause-games
+put_pages-requires-2-clause-games g c =
+    are_games_later (g.S.CellStore.state c.args.store.now) (g.S.CellStore.state c.put_pages.new.store) c.put_pages.ensures.spends.known c.args.rights.now c.requires.rights
+
+pub returns-clause-lefts : goal.returns-clause-lefts
+returns-clause-lefts g c =
+    stand_begins c.put_pages.new.book.pages c.put_pages-2.new.book.pages c.put_pages.new.pages.items _ c.put_pages-2.ensures.begins c.in_ok-put_pages.ensures.pages
+
+pub returns-clause-rights : goal.returns-clause-rights
+returns-clause-rights g c =
+    let P : List Game → Type 0 = λ z. StandFor c.put_pages-2.new.book.pages c.put_pages-2.new.pages.items z in
+    subst P (games_later (g.S.CellStore.state c.args.store.now) (g.S.CellStore.state c.put_pages.new.store) c.put_pages.ensures.spends.known c.args.rights.now c.requires.rights)
+    c.in_ok-put_pages-2.ensures.pages
