@@ -11,13 +11,16 @@ use std::marker::Model;
 /// The least number of chains, once there is an entry.
 const FEWEST: usize = 8;
 
+/// The greatest number of entries.
+const MOST: usize = 4_294_967_295;
+
 /// An entry.
 #[derive(Clone, Copy)]
 pub(crate) struct Link {
     /// Its number.
     number: u32,
     /// How many entries stand up to the one before it in its chain, and with that one; 0 where it is the first.
-    before: usize,
+    before: u32,
 }
 
 /// The numbers of entries, in the order in which they were added, and where entries of a number stand. Contracts see the numbers.
@@ -26,7 +29,7 @@ pub struct Links {
     alloc: Global,
     links: Vec<Link>,
     /// For each chain how many entries stand up to its last one, and with that one; 0 where it has none.
-    chains: Vec<usize>,
+    chains: Vec<u32>,
 }
 
 impl Model for Links {
@@ -65,8 +68,9 @@ fn size_for(least: usize, chains: usize) -> usize
     size
 }
 
-/// Adds an entry of this number behind the others.
-fn add(links: &mut Vec<Link>, chains: &mut [usize], number: u32) -> Result<(), AllocError>
+/// Adds an entry of this number behind the others. An error comes where there is no memory, or where there are as many entries
+/// as there can be.
+fn add(links: &mut Vec<Link>, chains: &mut [u32], number: u32) -> Result<(), AllocError>
     requires some { 0 < length chains.old }
     requires linked { AreLinked links.old.items chains.old }
     ensures linked { AreLinked links.new.items chains.new }
@@ -74,10 +78,14 @@ fn add(links: &mut Vec<Link>, chains: &mut [usize], number: u32) -> Result<(), A
     ensures more { IfOk result (λ _. numbers links.new.items ≡ numbers links.old.items ++ (number ∷ [])) }
     ensures same { OnErr result (numbers links.new.items ≡ numbers links.old.items) }
 {
+    let count = links.len();
+    if count >= MOST {
+        return Err(AllocError);
+    }
     let chain = chain_of(number, chains.len());
     let before = chains[chain];
     links.push(Link { number, before })?;
-    chains[chain] = links.len();
+    chains[chain] = count as u32 + 1;
     Ok(())
 }
 
@@ -86,14 +94,14 @@ fn in_chains(
     alloc: Global,
     links: &[Link],
     size: usize,
-) -> Result<(Vec<Link>, Vec<usize>), AllocError>
+) -> Result<(Vec<Link>, Vec<u32>), AllocError>
     requires { 0 < size }
     ensures linked { IfOk result (λ t. AreLinked t.0.items t.1.items) }
     ensures some { IfOk result (λ t. 0 < length t.1.items) }
     ensures same { IfOk result (λ t. numbers t.0.items ≡ numbers links.now) }
 {
     let mut all = Vec::with_capacity(alloc, links.len())?;
-    let mut chains = vec![in alloc; 0; size]?;
+    let mut chains = vec![in alloc; 0u32; size]?;
     for link in links {
         add(&mut all, &mut chains, link.number)?;
     }
@@ -104,7 +112,7 @@ fn in_chains(
 fn spread(
     alloc: Global,
     links: &mut Vec<Link>,
-    chains: &mut Vec<usize>,
+    chains: &mut Vec<u32>,
     least: usize,
 ) -> Result<(), AllocError>
     requires { AreLinked links.old.items chains.old.items }
@@ -143,19 +151,19 @@ impl Links {
         if self.chains.is_empty() {
             return None;
         }
-        let mut up_to = self.chains[chain_of(number, self.chains.len())];
+        let mut up_to = self.chains[chain_of(number, self.chains.len())] as usize;
         while up_to > 0 {
             let entry = up_to - 1;
             let link = self.links[entry];
             if link.number == number && is(entry) {
                 return Some(entry);
             }
-            up_to = link.before;
+            up_to = link.before as usize;
         }
         None
     }
 
-    /// Adds the next entry, with this number.
+    /// Adds the next entry, with this number. An error comes where there is no memory, or where there are 4,294,967,295 entries.
     pub fn add(&mut self, number: u32) -> Result<(), AllocError>
         ensures more { IfOk result (λ _. self.new ≡ self.old ++ (number ∷ [])) }
         ensures same { OnErr result (self.new ≡ self.old) }

@@ -33,7 +33,7 @@ fn bits_at(word: u64, start: u8, count: u8) -> u16
 }
 
 /// The content of the cells from the start on and before the end.
-fn content_of(planes: Planes, start: u8, end: u8) -> u32
+pub(crate) fn content_of(planes: Planes, start: u8, end: u8) -> u32
     requires start { start < end }
     requires few { end ≤ start + 16 }
     requires end { end ≤ 64 }

@@ -3,7 +3,7 @@ ghost use Rattle.std.specs.Prelude.{◌≤◌, length};
 ghost use Rattle.cg_cells.specs.Store.{Spends};
 
 use crate::cells::expect_board;
-use crate::contents::{CELLS, contents_in};
+use crate::contents::{CELLS, content_of, contents_in};
 use cg_cells::CellStore;
 use cg_moves::Board;
 use cg_nodes::{BoardForms, GameFacts};
@@ -23,12 +23,22 @@ pub(crate) fn boards_ahead(boards: &[Board], place: usize) -> &[Board]
     &boards[place..end]
 }
 
+/// Puts the contents of the board behind the others. A single one is put in as it comes out.
+fn add_contents(alloc: Global, board: &Board, all: &mut Vec<u32>) -> Result<(), AllocError> {
+    let size = board.size();
+    if 0 < size && size <= CELLS {
+        all.push(content_of(board.planes(), 0, size))?;
+        return Ok(());
+    }
+    let contents = contents_in(alloc, board.planes(), size)?;
+    all.extend_from_slice(contents.as_slice())
+}
+
 /// The contents of the boards, one after another.
 fn all_contents(alloc: Global, boards: &[Board]) -> Result<Vec<u32>, AllocError> {
     let mut all = Vec::with_capacity(alloc, boards.len())?;
     for board in boards {
-        let contents = contents_in(alloc, board.planes(), board.size())?;
-        all.extend_from_slice(contents.as_slice())?;
+        add_contents(alloc, board, &mut all)?;
     }
     Ok(all)
 }
