@@ -1,58 +1,14 @@
 -- Cells written in contents.
 use Rattle.std.proofs.Common.{◌≡◌, refl, ℕ, zero, suc, ◌+◌, ◌-◌, ◌*◌, ◌<◌, ◌≤◌, ◌⊎◌, inl, inr, List, [], ◌∷◌, ◌++◌, length, append_assoc, ap, sym, ◌∙◌, subst, arith}
 use Rattle.std.proofs.lemmas.List.FromFn.{length-map-range_with_len}
-use Rattle.std.proofs.lemmas.Nat.Bits.{bit_at-lt}
 use Rattle.cg_moves.specs.declared.planes.Planes.{Planes}
-use Rattle.cg_nodes.specs.Boards.{AreBelow, AreWritten, content_of}
+use Rattle.cg_nodes.specs.Boards.{AreWritten, content_of}
 use Rattle.cg_values.specs.Contents.{place_at, places_at}
-
--- 4 ^ n
-abbrev pub four_to : ℕ → ℕ
-four_to zero = 1
-four_to (suc n) = 4 * four_to n
-
-pub four_to-mono : (n m : ℕ) → n ≤ m → four_to n ≤ four_to m
-four_to-mono zero zero h = omega arith
-four_to-mono zero (suc m) h = let a = four_to-mono zero m (omega arith) in omega arith
-four_to-mono (suc n) zero h = absurd (omega arith)
-four_to-mono (suc n) (suc m) h = let a = four_to-mono n m (omega arith) in omega arith
-
-pub content_below : (cells : List ℕ) → AreBelow 4 cells → content_of cells < four_to (length cells)
-content_below [] b = omega arith
-content_below (c ∷ cells) b = let a = content_below cells b.1 in let h = b.0 in omega arith
 
 -- ---- one content
 
-pub places-at-below : (w : Planes) (cell count : ℕ) → AreBelow 4 (places_at w cell count)
-places-at-below w cell zero = tt
-places-at-below w cell (suc count) =
-    let a = bit_at-lt w.a cell in
-    let b = bit_at-lt w.b cell in
-    (omega arith, places-at-below w (cell + 1) count)
-
 pub places-at-long : (w : Planes) (cell count : ℕ) → length (places_at w cell count) ≡ count
 places-at-long w cell count = length-map-range_with_len (place_at w) cell count
-
--- the content of the cells from one cell further to the front
-pub content_next : (w : Planes) (left end : ℕ) → 0 < left → left ≤ end
-    → content_of (places_at w (left - 1) (end - (left - 1))) ≡ place_at w (left - 1) + 4 * content_of (places_at w left (end - left))
-content_next w zero end p l = absurd (omega arith)
-content_next w (suc k) end p l =
-    let s : suc k - 1 ≡ k = omega arith in
-    let n : end - k ≡ suc (end - suc k) = omega arith in
-    let m : k + 1 ≡ suc k = omega arith in
-    ap (λ j. content_of (places_at w j (end - j))) s
-    ∙ ap (λ j. content_of (places_at w k j)) n
-    ∙ ap (λ j. place_at w k + 4 * content_of (places_at w j (end - suc k))) m
-    ∙ ap (λ j. place_at w j + 4 * content_of (places_at w (suc k) (end - suc k))) (sym s)
-
-pub content_fits : (w : Planes) (cell count : ℕ) → count ≤ 16 → content_of (places_at w cell count) < 4294967296
-content_fits w cell count few =
-    let a = content_below (places_at w cell count) (places-at-below w cell count) in
-    let l = places-at-long w cell count in
-    let m : four_to (length (places_at w cell count)) ≤ 4294967296 =
-    four_to-mono (length (places_at w cell count)) 16 (omega arith) in
-    omega arith
 
 -- ---- all contents
 
