@@ -53,6 +53,7 @@ impl Form {
 }
 
 /// Puts what stands in the place of the player's own options of the whole in its canonical form into the list, which is empty.
+#[inline(always)]
 fn put_replaced(
     alloc: Global,
     pages: &Pages,

@@ -130,6 +130,7 @@ fn compared_with_whole(
 
 /// Whether the game of the page is for the player at most as good as the whole.
 #[cycle(whole)]
+#[inline(always)]
 fn at_most_whole(
     pages: &Pages,
     answers: &mut Recent,

@@ -74,6 +74,7 @@ fn new_page<B: BoardForms, S: CellStore<GameFacts<B>>>(
 
 /// The page of the game of the handle.
 #[cycle(page)]
+#[inline(always)]
 pub(crate) fn page_of<B: BoardForms, S: CellStore<GameFacts<B>>>(
     alloc: Global,
     store: &mut S,

@@ -1,11 +1,11 @@
 -- Entries in chains.
-use Rattle.std.proofs.Common.{◌≡◌, ◌≢◌, refl, ℕ, zero, suc, ◌+◌, ◌-◌, ◌*◌, ◌%◌, ◌^◌, ◌<◌, ◌≤◌, ◌==◌, ◌++◌, ◌⊎◌, inl, inr, Bool, true, false, List, [], ◌∷◌, length, get_or, ap, sym, ◌∙◌, subst, arith}
-use Rattle.std.specs.Prelude.{if◌then◌else◌, map, slice_set}
+use Rattle.std.proofs.Common.{◌≡◌, ◌≢◌, refl, ℕ, zero, suc, ◌-◌, ◌*◌, ◌%◌, ◌^◌, ◌<◌, ◌≤◌, ◌==◌, ◌++◌, inl, inr, List, [], ◌∷◌, length, get_or, ap, sym, ◌∙◌, subst, arith}
+use Rattle.std.specs.Prelude.{if◌then◌else◌, slice_set}
 use Rattle.std.proofs.lemmas.Bool.{cases_lt}
 use Rattle.std.proofs.lemmas.Bool.Decides.{eqb_tells}
 use Rattle.std.proofs.Math.Nat.{mul-lt-mul_of_pos_right}
-use Rattle.std.proofs.lemmas.List.{get_or_append_left, get_or_push, get_or_read_under, get_or-map, get_or-set_other, get_or-set_same, length-append, length-map, length-set}
-use Rattle.cg_links.specs.Chains.{AreLinked, chain_at, nothing, number_in, numbers, up_to_last}
+use Rattle.std.proofs.lemmas.List.{get_or_append_left, get_or_push, get_or_read_under, get_or-set_other, get_or-set_same, length-append, length-set}
+use Rattle.cg_links.specs.Chains.{AreLinked, chain_at, nothing, number_in, up_to_last}
 use Rattle.cg_links.specs.declared.links.Link.{Link}
 
 pub chain-below : (number chains : ℕ) → 0 < chains → chain_at number chains < chains

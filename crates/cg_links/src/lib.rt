@@ -1,4 +1,6 @@
 //! Entries that are looked for by a number.
+#![tactic(auto)]
+
 mod links;
 
 pub use links::Links;

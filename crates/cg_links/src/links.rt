@@ -11,16 +11,13 @@ use std::marker::Model;
 /// The least number of chains, once there is an entry.
 const FEWEST: usize = 8;
 
-/// The greatest number of entries.
-const MOST: usize = 4_294_967_295;
-
 /// An entry.
 #[derive(Clone, Copy)]
 pub(crate) struct Link {
     /// Its number.
     number: u32,
     /// How many entries stand up to the one before it in its chain, and with that one; 0 where it is the first.
-    before: u32,
+    before: usize,
 }
 
 /// The numbers of entries, in the order in which they were added, and where entries of a number stand. Contracts see the numbers.
@@ -29,7 +26,7 @@ pub struct Links {
     alloc: Global,
     links: Vec<Link>,
     /// For each chain how many entries stand up to its last one, and with that one; 0 where it has none.
-    chains: Vec<u32>,
+    chains: Vec<usize>,
 }
 
 impl Model for Links {
@@ -68,9 +65,8 @@ fn size_for(least: usize, chains: usize) -> usize
     size
 }
 
-/// Adds an entry of this number behind the others. An error comes where there is no memory, or where there are as many entries
-/// as there can be.
-fn add(links: &mut Vec<Link>, chains: &mut [u32], number: u32) -> Result<(), AllocError>
+/// Adds an entry of this number behind the others.
+fn add(links: &mut Vec<Link>, chains: &mut [usize], number: u32) -> Result<(), AllocError>
     requires some { 0 < length chains.old }
     requires linked { AreLinked links.old.items chains.old }
     ensures linked { AreLinked links.new.items chains.new }
@@ -78,14 +74,10 @@ fn add(links: &mut Vec<Link>, chains: &mut [u32], number: u32) -> Result<(), All
     ensures more { IfOk result (λ _. numbers links.new.items ≡ numbers links.old.items ++ (number ∷ [])) }
     ensures same { OnErr result (numbers links.new.items ≡ numbers links.old.items) }
 {
-    let count = links.len();
-    if count >= MOST {
-        return Err(AllocError);
-    }
     let chain = chain_of(number, chains.len());
     let before = chains[chain];
     links.push(Link { number, before })?;
-    chains[chain] = count as u32 + 1;
+    chains[chain] = links.len();
     Ok(())
 }
 
@@ -94,14 +86,14 @@ fn in_chains(
     alloc: Global,
     links: &[Link],
     size: usize,
-) -> Result<(Vec<Link>, Vec<u32>), AllocError>
+) -> Result<(Vec<Link>, Vec<usize>), AllocError>
     requires { 0 < size }
     ensures linked { IfOk result (λ t. AreLinked t.0.items t.1.items) }
     ensures some { IfOk result (λ t. 0 < length t.1.items) }
     ensures same { IfOk result (λ t. numbers t.0.items ≡ numbers links.now) }
 {
     let mut all = Vec::with_capacity(alloc, links.len())?;
-    let mut chains = vec![in alloc; 0u32; size]?;
+    let mut chains = vec![in alloc; 0; size]?;
     for link in links {
         add(&mut all, &mut chains, link.number)?;
     }
@@ -112,7 +104,7 @@ fn in_chains(
 fn spread(
     alloc: Global,
     links: &mut Vec<Link>,
-    chains: &mut Vec<u32>,
+    chains: &mut Vec<usize>,
     least: usize,
 ) -> Result<(), AllocError>
     requires { AreLinked links.old.items chains.old.items }
@@ -144,6 +136,7 @@ impl Links {
     pub fn find<F: Fn(usize) -> bool>(&self, number: u32, is: F) -> Option<usize>
         requires { F.IsAlwaysCallable is }
         ensures inside { IfSome result (λ n. n < length self.now) }
+        ensures numbered { IfSome result (λ n. get_or self.now n 0 ≡ number) }
         ensures found { IfSome result (λ n. F.post is n true) }
         ensures last { IfSome result (λ n. (m : ℕ) → n < m → m < length self.now → get_or self.now m 0 ≡ number → F.post is m false) }
         ensures none { IfNone result ((m : ℕ) → m < length self.now → get_or self.now m 0 ≡ number → F.post is m false) }
@@ -151,19 +144,19 @@ impl Links {
         if self.chains.is_empty() {
             return None;
         }
-        let mut up_to = self.chains[chain_of(number, self.chains.len())] as usize;
+        let mut up_to = self.chains[chain_of(number, self.chains.len())];
         while up_to > 0 {
             let entry = up_to - 1;
             let link = self.links[entry];
             if link.number == number && is(entry) {
                 return Some(entry);
             }
-            up_to = link.before as usize;
+            up_to = link.before;
         }
         None
     }
 
-    /// Adds the next entry, with this number. An error comes where there is no memory, or where there are 4,294,967,295 entries.
+    /// Adds the next entry, with this number.
     pub fn add(&mut self, number: u32) -> Result<(), AllocError>
         ensures more { IfOk result (λ _. self.new ≡ self.old ++ (number ∷ [])) }
         ensures same { OnErr result (self.new ≡ self.old) }

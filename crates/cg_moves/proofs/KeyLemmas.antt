@@ -96,13 +96,10 @@ one-key p q g h e f =
 
 -- ---- the number of a key
 
-xor-word : (a b : ℕ) → a < 18446744073709551616 → b < 18446744073709551616 → bit_xor a b < 18446744073709551616
-xor-word a b h k = xor_lt 64 a b h k
-
 pub number-few : (a b c d e f : ℕ) → a < 18446744073709551616 → b < 18446744073709551616 → c < 18446744073709551616
     → d < 18446744073709551616 → e < 18446744073709551616 → f < 18446744073709551616
     → bit_xor (bit_xor (bit_xor a b) (bit_xor c d)) (bit_xor e f) / 4294967296 < 4294967296
 number-few a b c d e f h i j k l m =
-    let low = xor-word (bit_xor a b) (bit_xor c d) (xor-word a b h i) (xor-word c d j k) in
-    let all = xor-word (bit_xor (bit_xor a b) (bit_xor c d)) (bit_xor e f) low (xor-word e f l m) in
+    let low = xor_lt 64 (bit_xor a b) (bit_xor c d) (xor_lt 64 a b h i) (xor_lt 64 c d j k) in
+    let all = xor_lt 64 (bit_xor (bit_xor a b) (bit_xor c d)) (bit_xor e f) low (xor_lt 64 e f l m) in
     omega arith

@@ -83,6 +83,7 @@ impl Found {
     }
 
     /// The number of the board, if it was found. All have the same symbols.
+    #[inline(always)]
     pub(crate) fn known(&self, board: &Board) -> Option<usize>
         requires { AreAlike (self.now ++ (board.now ∷ [])) }
         ensures number { IfSome result (λ number. IsAt self.now number board.now) }
@@ -96,6 +97,7 @@ impl Found {
 
     /// Puts a new board behind the others, and gives its number. All have the same symbols. `Positions` comes where that would
     /// make more boards than the limit.
+    #[inline(always)]
     pub(crate) fn put(&mut self, board: Board, limit: u64) -> Result<usize, ReachFault>
         requires alike { AreAlike (self.old ++ (board ∷ [])) }
         requires new { ¬ In board self.old }

@@ -54,6 +54,7 @@ pub(crate) fn draw_up(
 
 // Adds the handles of the sums of each of `firsts` and k, then those of f and each of `seconds`, all of which
 // must have been found.
+#[inline(always)]
 fn add_sums(
     sums: &Sums,
     firsts: &[Handle],

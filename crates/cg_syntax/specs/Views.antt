@@ -1,11 +1,12 @@
 -- What the values stand for that the code hands on while it reads.
 use Rattle.std.specs.Prelude.{ℕ, List, [], ◌∷◌, map, Option, Some, None}
-use Rattle.cg_syntax.specs.Tree.{Tree, braces}
+use Rattle.cg_syntax.specs.Tree.{Tree, braces, nimber, ups}
 use Rattle.cg_syntax.specs.Found.{Found}
 use Rattle.cg_syntax.specs.Braces.{Run_side, Cut, Whole, Parts}
 use Rattle.cg_syntax.specs.Values.{run_side}
 use Rattle.cg_syntax.specs.Trees.{tree_of}
 use Rattle.cg_syntax.specs.declared.expr.Expr.{Expr}
+use Rattle.cg_syntax.specs.declared.arrows.Arrows as code_arrows
 use Rattle.cg_syntax.specs.declared.found.Found as code
 use Rattle.cg_syntax.specs.declared.found.Row as code_row
 use Rattle.cg_syntax.specs.declared.found.Rows as code_rows
@@ -29,10 +30,19 @@ abbrev pub side_found : code_side.Side → List Found
 side_found (sides.Sound exprs) = map sound exprs.items
 side_found (sides.Faulty founds) = map found_of founds.items
 
--- the tree of an expression, if there is one
-abbrev pub tree_option : Option Expr → Option Tree
-tree_option None = None
-tree_option (Some e) = Some (tree_of e)
+-- ups or downs
+abbrev pub arrows_tree : code_arrows.Arrows → Tree
+arrows_tree a = ups a.down a.count
+
+-- ups or downs, if there are some
+abbrev pub arrows_option : Option code_arrows.Arrows → Option Tree
+arrows_option None = None
+arrows_option (Some a) = Some (arrows_tree a)
+
+-- the nimber of a number, if there is one
+abbrev pub nimber_option : Option ℕ → Option Tree
+nimber_option None = None
+nimber_option (Some n) = Some (nimber n)
 
 -- a run of bars, and the side behind it
 abbrev pub row_of : code_row.Row → (ℕ × ℕ) × List Found

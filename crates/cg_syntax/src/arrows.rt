@@ -4,11 +4,40 @@ ghost use Rattle.cg_reading.specs.Bytes.{has};
 ghost use Rattle.cg_reading.specs.Gives.{Gives};
 ghost use Rattle.cg_syntax.specs.Reading.{plain_count_at, ups_tree_at, nim_count_at, nim_at, ups_option_at};
 ghost use Rattle.cg_syntax.specs.Reading.{nim_option_at, tail_at, arrow};
+ghost use Rattle.cg_syntax.specs.Tree.{nimber};
 ghost use Rattle.cg_syntax.specs.Trees.{tree_of};
-ghost use Rattle.cg_syntax.specs.Views.{tree_option};
+ghost use Rattle.cg_syntax.specs.Views.{arrows_option, arrows_tree, nimber_option};
 
 use crate::expr::Expr;
 use cg_reading::{ReadFault, after_all, digits, is_byte, is_digit};
+
+/// So many ups, or downs.
+#[derive(Clone, Copy, Debug)]
+pub struct Arrows {
+    pub down: bool,
+    pub count: u128,
+}
+
+impl Arrows {
+    /// The expression that they spell.
+    #[tactic(auto, using(crate::proofs::TreeOf::ups_tree_of))]
+    pub fn expr(self) -> Expr
+        ensures { tree_of result ≡ arrows_tree self }
+    {
+        Expr::Ups {
+            down: self.down,
+            count: self.count,
+        }
+    }
+}
+
+/// The expression of the nimber of this number.
+#[tactic(auto, using(crate::proofs::TreeOf::nimber_tree))]
+pub fn nimber_expr(count: u128) -> Expr
+    ensures { tree_of result ≡ nimber count }
+{
+    Expr::Nimber(count)
+}
 
 /// A count, or more arrows of a run.
 #[tactic(auto, using(cg_reading::proofs::Skip::taken_length), unfolding(crate::specs::Reading::plain_count_at))]
@@ -27,9 +56,10 @@ fn count(arrow: u8, bytes: &[u8]) -> Result<(u128, &[u8]), ReadFault>
 }
 
 /// Ups or downs.
-#[tactic(auto, using(crate::proofs::TreeOf::ups_tree_of), unfolding(crate::specs::Reading::ups_tree_at))]
-pub fn ups(bytes: &[u8]) -> Result<(Expr, &[u8]), ReadFault>
-    ensures read { (end : ℕ) → Gives (λ x. (tree_of x.0, x.1.now)) result
+#[inline(always)]
+#[tactic(auto, unfolding(crate::specs::Reading::ups_tree_at))]
+pub fn ups(bytes: &[u8]) -> Result<(Arrows, &[u8]), ReadFault>
+    ensures read { (end : ℕ) → Gives (λ x. (arrows_tree x.0, x.1.now)) result
         (ups_tree_at end bytes.now) }
     ensures shorter { IfOk result (λ x. length x.1.now < length bytes.now) }
 {
@@ -38,11 +68,11 @@ pub fn ups(bytes: &[u8]) -> Result<(Expr, &[u8]), ReadFault>
     };
     if is_byte(b'^', *first) {
         let (count, rest) = count(b'^', rest)?;
-        return Ok((Expr::Ups { down: false, count }, rest));
+        return Ok((Arrows { down: false, count }, rest));
     }
     if is_byte(b'v', *first) {
         let (count, rest) = count(b'v', rest)?;
-        return Ok((Expr::Ups { down: true, count }, rest));
+        return Ok((Arrows { down: true, count }, rest));
     }
     Err(ReadFault::Stuck(bytes.len()))
 }
@@ -60,9 +90,10 @@ fn nim_count(bytes: &[u8]) -> Result<(u128, &[u8]), ReadFault>
 }
 
 /// A nimber.
-#[tactic(auto, using(crate::proofs::TreeOf::nimber_tree), unfolding(crate::specs::Reading::nim_at))]
-pub fn nim(bytes: &[u8]) -> Result<(Expr, &[u8]), ReadFault>
-    ensures read { (end : ℕ) → Gives (λ x. (tree_of x.0, x.1.now)) result (nim_at end bytes.now) }
+#[inline(always)]
+#[tactic(auto, unfolding(crate::specs::Reading::nim_at))]
+pub fn nim(bytes: &[u8]) -> Result<(u128, &[u8]), ReadFault>
+    ensures read { (end : ℕ) → Gives (λ x. (nimber x.0, x.1.now)) result (nim_at end bytes.now) }
     ensures shorter { IfOk result (λ x. length x.1.now < length bytes.now) }
 {
     let Some((first, rest)) = bytes.split_first() else {
@@ -72,7 +103,7 @@ pub fn nim(bytes: &[u8]) -> Result<(Expr, &[u8]), ReadFault>
         return Err(ReadFault::Stuck(bytes.len()));
     }
     let (count, rest) = nim_count(rest)?;
-    Ok((Expr::Nimber(count), rest))
+    Ok((count, rest))
 }
 
 /// Whether the byte begins ups or downs.
@@ -83,9 +114,10 @@ pub fn is_arrow(byte: u8) -> bool
 }
 
 /// Ups or downs, if some come.
+#[inline(always)]
 #[tactic(auto, unfolding(crate::specs::Reading::ups_option_at))]
-fn some_ups(bytes: &[u8]) -> Result<(Option<Expr>, &[u8]), ReadFault>
-    ensures read { (end : ℕ) → Gives (λ x. (tree_option x.0, x.1.now)) result
+fn some_ups(bytes: &[u8]) -> Result<(Option<Arrows>, &[u8]), ReadFault>
+    ensures read { (end : ℕ) → Gives (λ x. (arrows_option x.0, x.1.now)) result
         (ups_option_at end bytes.now) }
     ensures shorter { IfOk result (λ x. length x.1.now ≤ length bytes.now) }
 {
@@ -99,9 +131,10 @@ fn some_ups(bytes: &[u8]) -> Result<(Option<Expr>, &[u8]), ReadFault>
 }
 
 /// A nimber, if one comes.
+#[inline(always)]
 #[tactic(auto, unfolding(crate::specs::Reading::nim_option_at))]
-pub fn some_nim(bytes: &[u8]) -> Result<(Option<Expr>, &[u8]), ReadFault>
-    ensures read { (end : ℕ) → Gives (λ x. (tree_option x.0, x.1.now)) result
+pub fn some_nim(bytes: &[u8]) -> Result<(Option<u128>, &[u8]), ReadFault>
+    ensures read { (end : ℕ) → Gives (λ x. (nimber_option x.0, x.1.now)) result
         (nim_option_at end bytes.now) }
     ensures shorter { IfOk result (λ x. length x.1.now ≤ length bytes.now) }
 {
@@ -115,9 +148,10 @@ pub fn some_nim(bytes: &[u8]) -> Result<(Option<Expr>, &[u8]), ReadFault>
 }
 
 /// The ups and the nimber that may stand together behind an operand.
+#[inline(always)]
 #[tactic(auto, unfolding(crate::specs::Reading::tail_at))]
-pub fn tail(bytes: &[u8]) -> Result<((Option<Expr>, Option<Expr>), &[u8]), ReadFault>
-    ensures read { (end : ℕ) → Gives (λ x. ((tree_option x.0.0, tree_option x.0.1), x.1.now)) result
+pub fn tail(bytes: &[u8]) -> Result<((Option<Arrows>, Option<u128>), &[u8]), ReadFault>
+    ensures read { (end : ℕ) → Gives (λ x. ((arrows_option x.0.0, nimber_option x.0.1), x.1.now)) result
         (tail_at end bytes.now) }
     ensures shorter { IfOk result (λ x. length x.1.now ≤ length bytes.now) }
 {

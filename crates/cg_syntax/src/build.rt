@@ -6,9 +6,9 @@ ghost use Rattle.cg_syntax.specs.Reading.{tail_of_at};
 ghost use Rattle.cg_syntax.specs.Tree.{sum, terms_from};
 ghost use Rattle.cg_syntax.specs.Trees.{tree_of, terms_of};
 ghost use Rattle.cg_syntax.specs.Values.{with_tail, negated, times_of, together, run_side, braces_of as braces_value};
-ghost use Rattle.cg_syntax.specs.Views.{found_of, halves_of, tree_option, row_list, side_found};
+ghost use Rattle.cg_syntax.specs.Views.{arrows_option, found_of, halves_of, nimber_option, row_list, side_found};
 
-use crate::arrows::{is_arrow, tail};
+use crate::arrows::{Arrows, is_arrow, nimber_expr, tail};
 use crate::expr::{Expr, Exprs, Term, Terms};
 use crate::faults::{earlier, rows_fault, side_fault};
 use crate::found::{Found, Rows, Side};
@@ -18,25 +18,26 @@ use cg_reading::{ReadFault, is_byte};
 use std::alloc::Global;
 
 /// An operand with what stands together behind it.
+#[inline(always)]
 pub fn joined(
     alloc: Global,
     found: Found,
-    ups: Option<Expr>,
-    nim: Option<Expr>,
+    ups: Option<Arrows>,
+    nim: Option<u128>,
 ) -> Result<Found, ReadFault>
     ensures { Gives found_of result
-        (Ok (with_tail (found_of found) (tree_option ups, tree_option nim))) }
+        (Ok (with_tail (found_of found) (arrows_option ups, nimber_option nim))) }
 {
     let fault = found.fault;
     let expr = found.expr;
     let expr = match ups {
         None => match nim {
             None => expr,
-            Some(nim) => of_two(alloc, expr, nim)?,
+            Some(nim) => of_two(alloc, expr, nimber_expr(nim))?,
         },
         Some(ups) => match nim {
-            None => of_two(alloc, expr, ups)?,
-            Some(nim) => of_three(alloc, expr, ups, nim)?,
+            None => of_two(alloc, expr, ups.expr())?,
+            Some(nim) => of_three(alloc, expr, ups.expr(), nimber_expr(nim))?,
         },
     };
     Ok(Found { expr, fault })
@@ -83,12 +84,12 @@ pub fn sum_of_terms(terms: Vec<Term>) -> Expr
 }
 
 /// The sum of two.
-#[inline(never)]
+#[inline(always)]
 #[tactic(auto, using(crate::proofs::TreeOf::two_terms))]
 fn of_two(alloc: Global, first: Expr, second: Expr) -> Result<Expr, ReadFault>
     ensures { Gives tree_of result (Ok (together (tree_of first) ((false, tree_of second) ∷ []))) }
 {
-    let mut terms = Vec::new(alloc);
+    let mut terms = Vec::with_capacity(alloc, 2)?;
     terms.push(Term {
         minus: false,
         expr: first,
@@ -101,13 +102,13 @@ fn of_two(alloc: Global, first: Expr, second: Expr) -> Result<Expr, ReadFault>
 }
 
 /// The sum of three.
-#[inline(never)]
+#[inline(always)]
 #[tactic(auto, using(crate::proofs::TreeOf::three_terms))]
 fn of_three(alloc: Global, first: Expr, second: Expr, third: Expr) -> Result<Expr, ReadFault>
     ensures { Gives tree_of result
         (Ok (together (tree_of first) ((false, tree_of second) ∷ (false, tree_of third) ∷ []))) }
 {
-    let mut terms = Vec::new(alloc);
+    let mut terms = Vec::with_capacity(alloc, 3)?;
     terms.push(Term {
         minus: false,
         expr: first,
@@ -170,6 +171,7 @@ pub fn braces_of(alloc: Global, side: Side, rows: Rows) -> Result<Found, ReadFau
 }
 
 /// The braces of two sides with one run of bars between them.
+#[inline(always)]
 fn of_two_sides(alloc: Global, left: Side, right: Side) -> Result<Found, ReadFault>
     ensures { (bars : ℕ) → 1 ≤ bars → bars ≤ 8 → (column : ℕ) → Gives found_of result
         (Ok (braces_value (side_found left) (run_side ((column, bars), side_found right) ∷ []))) }

@@ -61,6 +61,7 @@ fn exprs_of(alloc: Global, founds: Vec<Found>) -> Result<Vec<Expr>, ReadFault>
 }
 
 /// The expressions of a side.
+#[inline(always)]
 #[tactic(auto, using(crate::proofs::SoundSides::sound_trees))]
 pub fn exprs(alloc: Global, side: Side) -> Result<Vec<Expr>, ReadFault>
     ensures { Gives (λ v. map tree_of v.items) result (Ok (side_trees (side_found side))) }

@@ -45,6 +45,7 @@ fn first_run(bars: u64, rows: &[Row]) -> Option<usize>
 }
 
 /// Cuts at the first run of this length.
+#[inline(always)]
 fn cut_at(alloc: Global, bars: u64, rows: Vec<Row>) -> Result<Cut, ReadFault>
     ensures { Gives cut_of result (Ok (cut_from [] bars (rows_of rows.items))) }
 {
@@ -97,6 +98,7 @@ pub fn split_part(alloc: Global, most: u64, side: Side, rows: Vec<Row>) -> Resul
 
 /// The options of a part whose runs have so many bars at most.
 #[cycle(part)]
+#[inline(always)]
 #[tactic(auto, using(crate::proofs::Parts::part_alone))]
 fn part(alloc: Global, most: u64, side: Side, rows: Vec<Row>) -> Result<Vec<Expr>, ReadFault>
     ensures { Gives (λ v. map tree_of v.items) result
@@ -109,6 +111,7 @@ fn part(alloc: Global, most: u64, side: Side, rows: Vec<Row>) -> Result<Vec<Expr
 }
 
 /// The options of a part that comes to these. Two sides are one option, their brace.
+#[inline(always)]
 #[tactic(auto, using(crate::proofs::TreeOf::braces_tree))]
 fn options(alloc: Global, halves: Halves) -> Result<Vec<Expr>, ReadFault>
     ensures { Gives (λ v. map tree_of v.items) result (Ok (halves_of halves)) }

@@ -19,7 +19,7 @@ ghost use Rattle.cg_syntax.specs.declared.format.Format.TheVariants as formats;
 ghost use Rattle.cg_syntax.specs.Values.{sum_of};
 ghost use Rattle.cg_syntax.specs.Views.{found_of, row_list, row_of, side_found};
 
-use crate::arrows::{is_arrow, nim, some_nim, ups};
+use crate::arrows::{is_arrow, nim, nimber_expr, some_nim, ups};
 use crate::bars::bars;
 use crate::boards::plain_special;
 use crate::build::{behind_operand, braces_of, joined, multiple, negative, sum_of_terms};
@@ -42,8 +42,9 @@ fn ups_term(alloc: Global, bytes: &[u8]) -> Result<(Found, &[u8]), ReadFault>
         (ups_term_at end bytes.now) }
     ensures shorter { IfOk result (λ x. length x.1.now < length bytes.now) }
 {
-    let (expr, rest) = ups(bytes)?;
+    let (arrows, rest) = ups(bytes)?;
     let (nim, rest) = some_nim(rest)?;
+    let expr = arrows.expr();
     let found = joined(alloc, Found { expr, fault: None }, None, nim)?;
     Ok((found, rest))
 }
@@ -65,11 +66,13 @@ fn primary(
 {
     match bytes.split_first() {
         Some((first, _)) if is_arrow(*first) => {
-            let (expr, rest) = ups(bytes)?;
+            let (arrows, rest) = ups(bytes)?;
+            let expr = arrows.expr();
             Ok((Found { expr, fault: None }, rest))
         }
         Some((first, _)) if is_byte(b'*', *first) => {
-            let (expr, rest) = nim(bytes)?;
+            let (count, rest) = nim(bytes)?;
+            let expr = nimber_expr(count);
             Ok((Found { expr, fault: None }, rest))
         }
         _ => special(alloc, format, brackets, line_end, bytes),
@@ -279,7 +282,8 @@ fn uncounted_term(
     match bytes.split_first() {
         Some((first, _)) if is_arrow(*first) => ups_term(alloc, bytes),
         Some((first, _)) if is_byte(b'*', *first) => {
-            let (expr, rest) = nim(bytes)?;
+            let (count, rest) = nim(bytes)?;
+            let expr = nimber_expr(count);
             Ok((Found { expr, fault: None }, rest))
         }
         _ => special_term(alloc, format, brackets, line_end, bytes),
@@ -520,6 +524,7 @@ pub fn sum(
 
 /// An expression in brackets.
 #[cycle(items)]
+#[inline(never)]
 #[tactic(auto, unfolding(crate::specs::Reading::bracket_at))]
 fn bracket(
     alloc: Global,

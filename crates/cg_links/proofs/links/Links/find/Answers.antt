@@ -1,4 +1,4 @@
-use Rattle.std.proofs.Common.{◌≡◌, ◌-◌, ◌<◌, ◌≤◌, ◌∙◌, ap, arith, Bool, false, inl, inr, length, subst, sym, ℕ}
+use Rattle.std.proofs.Common.{◌≡◌, ◌-◌, ◌∙◌, ap, arith, Bool, false, inl, inr, length, subst, sym, ℕ}
 use Rattle.std.proofs.lemmas.Bool.{cases_lt}
 use Rattle.std.proofs.lemmas.Bool.Decides.{eqb_tells}
 use Rattle.cg_links.specs.Chains.{chain_at, number_in}
@@ -10,13 +10,13 @@ pub loop-up_to-init : goal.loop-up_to-init
 loop-up_to-init g c =
     let links = c.self.inside.links.items in
     let heads = c.self.inside.chains.items in
-    let is = starts links heads c.self.invariant c.args.number c.index.result.now c.chain_of.result c.index.ensures
+    let is = starts links heads c.self.invariant c.args.number c.index-up_to.result.now c.chain_of.result c.index-up_to.ensures
     (omega arith) (c.chain_of.ensures.value ∙ ap (chain_at c.args.number) (omega arith)) in
     let low = last-inside links (length heads) (length links) (chain_at c.args.number (length heads)) in
     record {
       inside = omega (arith, is, low);
-      own = λ entry e. comes-to links heads c.self.invariant c.args.number (length links) c.index.result.now entry is e;
-      others = λ m l h e. absurd (passed-over links heads c.self.invariant c.args.number (length links) c.index.result.now m is l h e);
+      own = λ entry e. comes-to links heads c.self.invariant c.args.number (length links) c.index-up_to.result.now entry is e;
+      others = λ m l h e. absurd (passed-over links heads c.self.invariant c.args.number (length links) c.index-up_to.result.now m is l h e);
     }
 
 pub loop-up_to-smaller : goal.loop-up_to-smaller

@@ -1,5 +1,5 @@
-use Rattle.std.proofs.Common.{◌≡◌, ◌<◌, ◌≤◌, ℕ, false, get_or, length, suc}
-use Rattle.cg_links.specs.Chains.{chain_at, number_in, numbers}
+use Rattle.std.proofs.Common.{◌≡◌, ◌<◌, ◌≤◌, ℕ, false, length, suc}
+use Rattle.cg_links.specs.Chains.{chain_at, number_in}
 use Rattle.cg_links.proofs.links.Links.find.Given as goal
 
 abbrev pub invariant-loop-up_to : goal.invariant-loop-up_to
