@@ -152,6 +152,7 @@ impl Pages {
     }
 
     /// Adds the game with these options and this profile, on the next page.
+    #[inline(always)]
     pub fn add_game(
         &mut self,
         lefts: &[u32],

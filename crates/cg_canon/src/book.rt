@@ -130,6 +130,7 @@ pub(crate) fn put_handles<B: BoardForms, S: CellStore<GameFacts<B>>>(
 }
 
 /// The handles of the pages, in their order. An error comes only after want of memory.
+#[inline(always)]
 pub(crate) fn handles_of<B: BoardForms, S: CellStore<GameFacts<B>>>(
     alloc: Global,
     store: &S,

@@ -19,6 +19,7 @@ use cg_nodes::{BoardForms, GameFacts, Handle};
 
 impl<'a, B: BoardForms, S: CellStore<GameFacts<B>>> Work<'a, B, S> {
     /// What the game is known as, if it is found.
+    #[inline(always)]
     pub fn known_as(&self, a: Handle) -> Option<NumberUpStar>
         ensures { IfSome result (IsKnownAs (work_state S.state self.now) a) }
     {

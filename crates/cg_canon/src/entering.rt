@@ -36,6 +36,7 @@ pub(crate) fn enter_number<B: BoardForms, S: CellStore<GameFacts<B>>>(
 }
 
 /// A page for the handle's game, which has these options and this profile.
+#[inline(always)]
 pub(crate) fn enter_game<B: BoardForms, S: CellStore<GameFacts<B>>>(
     store: &S,
     book: &mut Book,

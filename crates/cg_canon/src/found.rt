@@ -28,6 +28,7 @@ use std::alloc::{AllocError, Global};
 
 impl<'a, B: BoardForms, S: CellStore<GameFacts<B>>> Work<'a, B, S> {
     /// The profile of the game. The only error is want of memory.
+    #[inline(always)]
     pub(crate) fn profile_of(&mut self, alloc: Global, a: Handle) -> Result<Profile, AllocError>
         requires { IsGame (work_state S.state self.old) a }
         ensures profile { IfOk result (λ p. IsProfile (game_at (work_state S.state self.old) a) p) }

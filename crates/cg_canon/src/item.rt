@@ -61,6 +61,7 @@ pub fn number_item<B: BoardForms, S: CellStore<GameFacts<B>>>(
 }
 
 /// Charges the item of a form that is known already.
+#[inline(always)]
 pub(crate) fn known_item<B: BoardForms, S: CellStore<GameFacts<B>>>(
     alloc: Global,
     work: &mut Work<B, S>,

@@ -79,6 +79,7 @@ impl NumberUpStars {
     }
 
     /// What the game of the handle is known as, if that is found.
+    #[inline(always)]
     pub fn sum_of(&self, handle: Handle) -> Option<NumberUpStar>
         ensures { IfSome result (IsListed self.now handle) }
     {

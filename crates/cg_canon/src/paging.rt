@@ -97,6 +97,7 @@ pub(crate) fn page_of<B: BoardForms, S: CellStore<GameFacts<B>>>(
 
 /// Puts the pages of the games of the handles into the list, which is empty. So they stand where they are read: a list that was just
 /// written and is moved is read by wider words than it was written by, and the processor waits for that.
+#[inline(always)]
 pub(crate) fn put_pages<B: BoardForms, S: CellStore<GameFacts<B>>>(
     alloc: Global,
     store: &mut S,

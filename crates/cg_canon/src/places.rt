@@ -157,6 +157,7 @@ impl Places {
 
     /// Adds the next entry, with this number. The table grows before more than half of its places are filled; where there is no
     /// memory for that, the entry may be hidden.
+    #[inline(always)]
     pub fn add(&mut self, number: u32) {
         let entry = self.count;
         self.count = entry.saturating_add(1);

@@ -61,6 +61,7 @@ pub(crate) fn lefts_of<B: BoardForms, S: CellStore<GameFacts<B>>>(
 }
 
 /// Puts the pages of two lists of options into a form that has none.
+#[inline(always)]
 fn put_both<B: BoardForms, S: CellStore<GameFacts<B>>>(
     alloc: Global,
     store: &mut S,

@@ -20,3 +20,4 @@ pub mod Moving
 pub mod Runs
 pub mod Finishing
 pub mod Tickets
+pub mod Divisors

@@ -2,6 +2,8 @@
 ghost use Rattle.std.specs.Prelude.{◌≡◌, ◌<◌, ◌≤◌};
 ghost use Rattle.cg_cells.specs.Meaning.{Meaning, IsLawful};
 
+use crate::divisor::Divisor;
+
 /// What keys mean, by four functions that only contracts see: the thing that a key spells under a map from ids to things;
 /// the thing that a note on a cell of a given thing must spell, if a note may stand there; the thing that an id must be
 /// which a key names, where the key spells a given thing; and the home of a key in a table of a given size.
@@ -20,6 +22,14 @@ pub trait Facts {
         requires { 1 ≤ size }
         ensures value { result ≡ meaning.home key size }
         ensures below { result < size };
+
+    /// The same home, where the number of cells is at hand as a divisor, as for whoever asks for many homes in one table.
+    fn home_in(key: u64, size: &Divisor) -> u64
+        ensures value { result ≡ meaning.home key size.now }
+        ensures below { result < size.now }
+    {
+        Self::home(key, size.number())
+    }
 
     ghost lawful: { IsLawful meaning };
 }

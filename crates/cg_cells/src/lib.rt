@@ -9,6 +9,7 @@
 #![tactic(auto)]
 
 mod bits;
+mod divisor;
 mod facts;
 mod fault;
 mod id;
@@ -20,6 +21,7 @@ pub mod laws;
 mod plain;
 mod store;
 
+pub use divisor::Divisor;
 pub use facts::Facts;
 pub use fault::StoreFault;
 pub use id::Id;

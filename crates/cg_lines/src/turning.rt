@@ -7,6 +7,7 @@ use crate::{END, Rise};
 use std::alloc::{AllocError, Global};
 
 /// t less the wall, up to the end, and from there on what that is there. The only error is want of memory.
+#[inline(always)]
 pub fn turned(alloc: Global, rise: &Rise, end: u128) -> Result<Rise, AllocError>
     requires wall { IsWall rise.now }
     requires end { end < END }

@@ -66,6 +66,7 @@ fn size_for(least: usize, chains: usize) -> usize
 }
 
 /// Adds an entry of this number behind the others.
+#[inline(always)]
 fn add(links: &mut Vec<Link>, chains: &mut [usize], number: u32) -> Result<(), AllocError>
     requires some { 0 < length chains.old }
     requires linked { AreLinked links.old.items chains.old }
@@ -157,6 +158,7 @@ impl Links {
     }
 
     /// Adds the next entry, with this number.
+    #[inline(always)]
     pub fn add(&mut self, number: u32) -> Result<(), AllocError>
         ensures more { IfOk result (λ _. self.new ≡ self.old ++ (number ∷ [])) }
         ensures same { OnErr result (self.new ≡ self.old) }

@@ -31,6 +31,7 @@ pub(crate) struct Followers {
 }
 
 /// Lists the boards that Left's moves lead to, and those that Right's moves lead to, in the place of other boards.
+#[inline(always)]
 pub(crate) fn list_followers<R: Rules>(
     alloc: Global,
     rules: &R,
@@ -49,6 +50,7 @@ pub(crate) fn list_followers<R: Rules>(
 }
 
 /// Puts a task to enter a board that is its own only part behind the tasks.
+#[inline(always)]
 fn enter_alone(
     board: Board,
     tasks: &mut Vec<Task>,

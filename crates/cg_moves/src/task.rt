@@ -31,6 +31,7 @@ pub(crate) enum Task {
 }
 
 /// Puts tasks to enter these boards behind the tasks, the first board last. None of the boards is left.
+#[inline(always)]
 pub(crate) fn enter_all(tasks: &mut Vec<Task>, boards: &mut Vec<Board>) -> Result<(), AllocError>
     ensures tasks { IfOk result (λ _. tasks.new.items ≡ tasks.old.items ++ map Enter (reverse boards.old.items)) }
     ensures none { IfOk result (λ _. boards.new.items ≡ []) }

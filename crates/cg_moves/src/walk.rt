@@ -66,6 +66,7 @@ fn enter<R: Rules>(
 }
 
 /// Moves the pending places, from the one that stands at `first` on, behind the places.
+#[inline(always)]
 fn put_places(
     places: &mut Vec<usize>,
     pending: &mut Vec<usize>,
@@ -82,6 +83,7 @@ fn put_places(
 
 /// Leaves the board, which was entered: it is seen, and of the pending places its own takes the place of those that come
 /// next after it.
+#[inline(always)]
 fn leave(seen: &mut Seen, tasks: &[Task], entered: Entered, limit: u64) -> Result<(), ReachFault>
     ghost way: { Way }
     requires lawful { IsPlay (play way) }

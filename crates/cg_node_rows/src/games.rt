@@ -5,7 +5,7 @@ ghost use Rattle.cg_cells.specs.Store.{Spends};
 ghost use Rattle.cg_nodes.specs.Games.{IsGame, StandsFor};
 ghost use Rattle.cg_node_rows.specs.Stars.{star, up, zero_game};
 
-use cg_cells::{CellStore, Facts, Id, PlainStore};
+use cg_cells::{CellStore, Divisor, Facts, Id, PlainStore};
 use cg_dyadic::Dyadic;
 use cg_nodes::{
     BoardForms, GameFacts, Handle, Handles, Kind, NoBoards, PositionsFault, Reading,
@@ -226,6 +226,12 @@ fn homes(rt: HostRuntime) {
     let home = GameFacts::<NoBoards>::home(0x2020_0000_0000_0001, 1_000_003);
     assert_eq!(rt; home, 475_617);
     let home = GameFacts::<NoBoards>::home(0x201f_ffff_ffff_ffff, 1 << 26);
+    assert_eq!(rt; home, 11_895_787);
+    let cells = Divisor::new(1_000_003);
+    let home = GameFacts::<NoBoards>::home_in(0x2020_0000_0000_0001, &cells);
+    assert_eq!(rt; home, 475_617);
+    let cells = Divisor::new(1 << 26);
+    let home = GameFacts::<NoBoards>::home_in(0x201f_ffff_ffff_ffff, &cells);
     assert_eq!(rt; home, 11_895_787);
 }
 

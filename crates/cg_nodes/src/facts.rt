@@ -8,7 +8,7 @@ ghost use Rattle.cg_nodes.specs.MeantCode.{meant_code};
 ghost use Rattle.cg_nodes.specs.Spelled.{game_meaning};
 ghost use Rattle.cg_nodes.specs.Lawful.{lawful};
 
-use cg_cells::Facts;
+use cg_cells::{Divisor, Facts};
 use std::marker::{Model, PhantomData};
 
 const SPREAD: u64 = 0x9E37_79B9_7F4A_7C15;
@@ -66,6 +66,12 @@ impl<B: BoardForms> Facts for GameFacts<B> {
     /// `((key * 0x9E3779B97F4A7C15) mod 2^64) mod size`.
     fn home(key: u64, size: u64) -> u64 {
         key.wrapping_mul(SPREAD) % size
+    }
+
+    /// The same, with no division.
+    #[inline(always)]
+    fn home_in(key: u64, size: &Divisor) -> u64 {
+        size.remainder(key.wrapping_mul(SPREAD))
     }
 
     ghost lawful = { lawful B.form };

@@ -110,6 +110,7 @@ fn shown(word: u64, set: u64, bit: u8) -> u64
 }
 
 /// The words of the board of the set, which this frame bounds, with all other cells blank.
+#[inline(always)]
 fn planes_in(board: &Board, set: u64, frame: Frame, blank: u8) -> Planes
     requires set { IsSet board.now set }
     requires frame { box_from frame ≡ set_box (in_word set) board.now }
@@ -128,6 +129,7 @@ fn planes_in(board: &Board, set: u64, frame: Frame, blank: u8) -> Planes
 }
 
 /// The board of the set, of which this is the first cell, with all other cells blank.
+#[inline(always)]
 pub(crate) fn crop(board: &Board, set: u64, first: u8, blank: u8) -> Board
     requires set { IsSetFrom board.now set first }
     requires blank { Contains board.now.symbols blank }

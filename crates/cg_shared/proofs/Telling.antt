@@ -1,5 +1,5 @@
 -- What a step's view says of a pass as a store of cells.
-use Rattle.std.proofs.Common.{◌≡◌, ◌≢◌, ◌⊎◌, ⊎_elim, ℕ, zero, suc, ◌+◌, ◌<◌, ◌≤◌, true≢false, Some, IsSome, refl, sym, ap, ◌∙◌, subst, inl, inr, arith}
+use Rattle.std.proofs.Common.{◌≡◌, ℕ, zero, suc, ◌+◌, ◌<◌, ◌≤◌, true≢false, Some, IsSome, refl, sym, ap, ◌∙◌, subst, inl, inr, arith}
 use Rattle.atomic_table.specs.Seated.{TableId}
 use Rattle.cg_cells.specs.Parts.{names_of}
 use Rattle.cg_cells.specs.Meaning.{Meaning, Has, Grows}
@@ -74,16 +74,13 @@ module _ {X : Type 0} (m : Meaning X) (a b : TableId) (v w : ViewOf X) (key id :
     -- what was known to be the key's thing is this cell
     pub again : (i : ℕ) → knows v i ≡ m.spells key (knows v) → id ≡ i
 
-  -- the turns before this one changed nothing of the view but how far the search had come
-  pub claim_tells : b ≡ a → (before : ViewOf X) (found : ℕ) → before ≡ record v { probe = before.probe } → 1 ≤ v.spare → IsSome (m.spells key (knows v))
-      → ((t : X) → m.spells key (knows before) ≡ Some t → (found ≡ 0) ⊎ (found ≡ key) → (w ≡ after_claim before id t) × Sure m w)
-      → (found ≡ 0) ⊎ ((found ≢ 0) × (found ≡ key)) → ClaimTells
-  claim_tells same before found still some spells hit ends =
+  pub claim_tells : b ≡ a → 1 ≤ v.spare → IsSome (m.spells key (knows v))
+      → ((t : X) → m.spells key (knows v) ≡ Some t → (w ≡ after_claim v id t) × Sure m w) → ClaimTells
+  claim_tells same some spells hit =
       let s = some_is _ spells in
-      let r = hit s.0 (subst (λ (x : ViewOf X). m.spells key (knows x) ≡ Some s.0) (sym still) s.1) (⊎_elim (λ z. inl z) (λ (f : (found ≢ 0) × (found ≡ key)). inr f.1) ends) in
-      let is : w ≡ after_claim v id s.0 = r.0 ∙ ap (λ x. after_claim x id s.0) still in
-      let here = claim_stands m a b same v w r.1 id s.0 is some in
-      let spends = claim_spends m a b same v w r.1 id s.0 is some in
+      let r = hit s.0 s.1 in
+      let here = claim_stands m a b same v w r.1 id s.0 r.0 some in
+      let spends = claim_spends m a b same v w r.1 id s.0 r.0 some in
       record {
         stands = here ∙ sym s.1;
         spends = spends;

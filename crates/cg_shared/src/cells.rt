@@ -16,7 +16,7 @@ impl<F: Facts> SharedCells<F> {
     pub(crate) fn size(&self) -> u64
         ensures { result ≡ cells_of self.now.sizes }
     {
-        self.plan.lines * self.plan.share
+        self.size.number()
     }
 
     /// The key of a known id, as a store of cells tells it. It is one load.
@@ -49,8 +49,10 @@ impl<F: Facts> SharedCells<F> {
         ensures again { (known : ℕ) → thing_at (pass_state pass.old) known ≡ F.meaning.spells key (thing_at (pass_state pass.old)) → result ≡ known }
         ensures spends { Spends 1 (pass_state pass.old) (pass_state pass.new) }
     {
-        let size = self.size();
-        let cell = search::claim::<F>(&self.table.shared, &mut pass.seat, key.word(), size);
+        let shared = &self.table.shared;
+        let key = key.word();
+        let home = F::home_in(key, &self.size);
+        let cell = search::claim::<F>(shared, &mut pass.seat, key, home, self.size());
         pass.spare -= 1;
         Id::new(cell as u32)
     }
@@ -110,7 +112,7 @@ impl<F: Facts> SharedCells<F> {
         ensures spends { Spends 0 (pass_state pass.old) (pass_state pass.new) }
     {
         let shared = &self.table.shared;
-        let home = F::home(key.word(), self.size());
+        let home = F::home_in(key.word(), &self.size);
         steps::check::<F>(shared, &mut pass.seat, 1 + home as usize);
         Id::new(home as u32)
     }

@@ -41,7 +41,11 @@ impl<F: Facts> SharedCells<F> {
         ensures spare { IfOk result (λ s. s.spare ≡ pass.sees.spare) }
     {
         let size = self.size() as usize;
-        let SharedCells { table, plan: _ } = self;
+        let SharedCells {
+            table,
+            plan: _,
+            size: _,
+        } = self;
         let Pass {
             seat,
             spare,

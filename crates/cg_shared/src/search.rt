@@ -1,5 +1,5 @@
 // The search for a key.
-ghost use Rattle.std.specs.Prelude.{◌≡◌, ◌≢◌, ◌⊎◌, ℕ, ◌+◌, ◌<◌, ◌≤◌, false, None, Some, IsSome};
+ghost use Rattle.std.specs.Prelude.{◌≡◌, ◌≢◌, ℕ, ◌+◌, ◌-◌, ◌<◌, ◌≤◌, false, None, Some, IsSome, IsTrue, IfSome, IfNone};
 ghost use Rattle.cg_cells.specs.Index.{place};
 ghost use Rattle.cg_cells.specs.Store.{Spends};
 ghost use Rattle.cg_cells.specs.Views.{knows, cells_of, searched, after_claim, after_pass};
@@ -15,14 +15,14 @@ use atomic_table::{Seat, Shared};
 use cg_cells::Facts;
 use std::marker::Brand;
 
-// One turn of the search, at the cell that it has come to: a probe, and a claim where the probe finds no key.
-fn turn<F: Facts>(
+// The second step of a turn, where the first found no key: the search ends here, unless another key came between.
+fn takes<F: Facts>(
     shared: &Shared<(), View<F::Thing>, Plan, Rule<F>>,
     seat: &mut Seat<(), View<F::Thing>>,
     key: u64,
     steps: u64,
     cell: usize,
-) -> u64
+) -> bool
     requires table { (seat.old.table_id ≡ shared.now.table_id) × (1 + cell < shared.now.table_id.words) }
     requires small { cell < 67108864 }
     requires live { seat.old.me.0.gone ≡ false }
@@ -32,14 +32,105 @@ fn turn<F: Facts>(
     requires goes { GoesOn seat.old.me.0.probe key steps }
     requires place { cell ≡ place (cells_of (sizes_of shared.now.key)) (F.meaning.home key (cells_of (sizes_of shared.now.key))) steps }
     ensures same { (seat.new.table_id ≡ seat.old.table_id) × (seat.new.me.1 ≡ seat.old.me.1) }
-    ensures hit { (t : F.Thing) → F.meaning.spells key (knows seat.old.me.0) ≡ Some t → (result ≡ 0) ⊎ (result ≡ key) → (seat.new.me.0 ≡ after_claim seat.old.me.0 cell t) × Sure F.meaning seat.new.me.0 }
-    ensures miss { result ≢ 0 → result ≢ key → (seat.new.me.0 ≡ after_pass seat.old.me.0 key) × (searched seat.old.me.0.probe + 1 < cells_of seat.old.me.0.sizes) }
+    ensures hit { IsTrue result → (t : F.Thing) → F.meaning.spells key (knows seat.old.me.0) ≡ Some t → (seat.new.me.0 ≡ after_claim seat.old.me.0 cell t) × Sure F.meaning seat.new.me.0 }
+    ensures miss { result ≡ false → (seat.new.me.0 ≡ after_pass seat.old.me.0 key) × (searched seat.old.me.0.probe + 1 < cells_of seat.old.me.0.sizes) }
+{
+    let found = steps::claim::<F>(shared, seat, key, steps, cell);
+    found == 0 || found == key
+}
+
+// One turn of the search, at the cell that it has come to: a probe, and a claim where the probe finds no key. Whether the
+// search ends here.
+fn ends<F: Facts>(
+    shared: &Shared<(), View<F::Thing>, Plan, Rule<F>>,
+    seat: &mut Seat<(), View<F::Thing>>,
+    key: u64,
+    steps: u64,
+    cell: usize,
+) -> bool
+    requires table { (seat.old.table_id ≡ shared.now.table_id) × (1 + cell < shared.now.table_id.words) }
+    requires small { cell < 67108864 }
+    requires live { seat.old.me.0.gone ≡ false }
+    requires spare { 1 ≤ seat.old.me.0.spare }
+    requires key { key ≢ 0 }
+    requires spells { IsSome (F.meaning.spells key (knows seat.old.me.0)) }
+    requires goes { GoesOn seat.old.me.0.probe key steps }
+    requires place { cell ≡ place (cells_of (sizes_of shared.now.key)) (F.meaning.home key (cells_of (sizes_of shared.now.key))) steps }
+    ensures same { (seat.new.table_id ≡ seat.old.table_id) × (seat.new.me.1 ≡ seat.old.me.1) }
+    ensures hit { IsTrue result → (t : F.Thing) → F.meaning.spells key (knows seat.old.me.0) ≡ Some t → (seat.new.me.0 ≡ after_claim seat.old.me.0 cell t) × Sure F.meaning seat.new.me.0 }
+    ensures miss { result ≡ false → (seat.new.me.0 ≡ after_pass seat.old.me.0 key) × (searched seat.old.me.0.probe + 1 < cells_of seat.old.me.0.sizes) }
 {
     let found = steps::probe::<F, Brand>(shared, seat, key, steps, cell);
-    if found != 0 {
-        return found;
+    if found == 0 {
+        return takes::<F>(shared, seat, key, steps, cell);
     }
-    steps::claim::<F>(shared, seat, key, steps, cell)
+    found == key
+}
+
+// A search over the cells from one up to an end, of which the first comes so many steps after the key's home. It ends at the
+// key's cell, or at an empty one, which becomes it, and at none where each of them has another key. Nothing goes round in it,
+// so that a turn is little more than the load.
+fn claim_among<F: Facts>(
+    shared: &Shared<(), View<F::Thing>, Plan, Rule<F>>,
+    seat: &mut Seat<(), View<F::Thing>>,
+    key: u64,
+    steps: u64,
+    first: u64,
+    end: u64,
+) -> Option<u64>
+    requires table { (seat.old.table_id ≡ shared.now.table_id) × (1 + end ≤ shared.now.table_id.words) }
+    requires sized { seat.old.me.0.sizes ≡ sizes_of shared.now.key }
+    requires small { (steps ≤ 67108864) × (first ≤ end) × (end ≤ 67108864) }
+    requires live { seat.old.me.0.gone ≡ false }
+    requires spare { 1 ≤ seat.old.me.0.spare }
+    requires key { key ≢ 0 }
+    requires spells { IsSome (F.meaning.spells key (knows seat.old.me.0)) }
+    requires goes { GoesOn seat.old.me.0.probe key steps × (steps < cells_of (sizes_of shared.now.key)) }
+    requires straight { let size = cells_of (sizes_of shared.now.key) in (k : ℕ) → first + k < end → first + k ≡ place size (F.meaning.home key size) (steps + k) }
+    ensures same { (seat.new.table_id ≡ seat.old.table_id) × (seat.new.me.1 ≡ seat.old.me.1) }
+    ensures hit { (t : F.Thing) → F.meaning.spells key (knows seat.old.me.0) ≡ Some t → IfSome result (λ cell. (seat.new.me.0 ≡ after_claim seat.old.me.0 cell t) × Sure F.meaning seat.new.me.0) }
+    ensures inside { IfSome result (λ cell. cell < end) }
+    ensures still { IfNone result (seat.new.me.0 ≡ record seat.old.me.0 { probe = seat.new.me.0.probe }) }
+    ensures goes { IfNone result (GoesOn seat.new.me.0.probe key (steps + (end - first)) × (steps + (end - first) < cells_of (sizes_of shared.now.key))) }
+{
+    let mut cell = first;
+    while cell < end {
+        if ends::<F>(shared, seat, key, steps + (cell - first), cell as usize) {
+            return Some(cell);
+        }
+        cell += 1;
+    }
+    None
+}
+
+// The search from the key's home to the last cell, and then from the first cell to the home.
+fn search<F: Facts>(
+    shared: &Shared<(), View<F::Thing>, Plan, Rule<F>>,
+    seat: &mut Seat<(), View<F::Thing>>,
+    key: u64,
+    home: u64,
+    size: u64,
+) -> u64
+    requires table { (seat.old.table_id ≡ shared.now.table_id) × (shared.now.table_id.words ≡ 1 + size + size) }
+    requires sized { (size ≡ cells_of (sizes_of shared.now.key)) × (seat.old.me.0.sizes ≡ sizes_of shared.now.key) }
+    requires size { size ≤ 67108864 }
+    requires home { (home ≡ F.meaning.home key size) × (home < size) }
+    requires live { seat.old.me.0.gone ≡ false }
+    requires spare { 1 ≤ seat.old.me.0.spare }
+    requires fresh { seat.old.me.0.probe ≡ None }
+    requires key { key ≢ 0 }
+    requires spells { IsSome (F.meaning.spells key (knows seat.old.me.0)) }
+    ensures same { (seat.new.table_id ≡ seat.old.table_id) × (seat.new.me.1 ≡ seat.old.me.1) }
+    ensures hit { (t : F.Thing) → F.meaning.spells key (knows seat.old.me.0) ≡ Some t → (seat.new.me.0 ≡ after_claim seat.old.me.0 result t) × Sure F.meaning seat.new.me.0 }
+    ensures inside { result < size }
+{
+    if let Some(cell) = claim_among::<F>(shared, seat, key, 0, home, size) {
+        return cell;
+    }
+    match claim_among::<F>(shared, seat, key, size - home, 0, home) {
+        Some(cell) => cell,
+        None => unreachable!(),
+    }
 }
 
 /// Claims a key: from its home on, until its cell is found or an empty one becomes it. A turn that finds another key moves
@@ -48,11 +139,13 @@ pub(crate) fn claim<F: Facts>(
     shared: &Shared<(), View<F::Thing>, Plan, Rule<F>>,
     seat: &mut Seat<(), View<F::Thing>>,
     key: u64,
+    home: u64,
     size: u64,
 ) -> u64
     requires table { (seat.old.table_id ≡ shared.now.table_id) × (shared.now.table_id.words ≡ 1 + size + size) }
     requires sized { (size ≡ cells_of (sizes_of shared.now.key)) × (seat.old.me.0.sizes ≡ sizes_of shared.now.key) }
-    requires size { (1 ≤ size) × (size ≤ 67108864) }
+    requires size { size ≤ 67108864 }
+    requires home { (home ≡ F.meaning.home key size) × (home < size) }
     requires live { seat.old.me.0.gone ≡ false }
     requires spare { 1 ≤ seat.old.me.0.spare }
     requires fresh { seat.old.me.0.probe ≡ None }
@@ -66,15 +159,5 @@ pub(crate) fn claim<F: Facts>(
     ensures spends { Spends 1 (state_by seat.old.table_id seat.old.me.0) (state_by seat.new.table_id seat.new.me.0) }
     ensures inside { result < size }
 {
-    let home = F::home(key, size);
-    let mut steps = 0;
-    loop {
-        let ahead = home + steps;
-        let cell = if ahead < size { ahead } else { ahead - size };
-        let found = turn::<F>(shared, seat, key, steps, cell as usize);
-        if found == 0 || found == key {
-            return cell;
-        }
-        steps += 1;
-    }
+    search::<F>(shared, seat, key, home, size)
 }

@@ -9,7 +9,7 @@ use crate::pass::Pass;
 use crate::plays::Rule;
 use crate::view::{Plan, View};
 use atomic_table::Table;
-use cg_cells::Facts;
+use cg_cells::{Divisor, Facts};
 use std::alloc::{AllocError, Global};
 use std::marker::Model;
 use thiserror::Error;
@@ -23,6 +23,7 @@ const MOST_PASSES: u64 = 1 << 16;
 pub struct SharedCells<F: Facts> {
     pub(crate) table: Table<(), View<F::Thing>, Plan, Rule<F>, Global>,
     pub(crate) plan: Plan,
+    pub(crate) size: Divisor,
 }
 
 impl<F: Facts> Model for SharedCells<F> {
@@ -34,7 +35,7 @@ impl<F: Facts> Model for SharedCells<F> {
 
     ghost invariant = { λ c. (c.table.shared.key ≡ c.plan)
         × (c.table.shared.table_id.words ≡ 1 + cells_of (sizes_of c.plan) + cells_of (sizes_of c.plan))
-        × (c.table.shared.table_id.slots ≡ 0) × IsAllowed (sizes_of c.plan) };
+        × (c.table.shared.table_id.slots ≡ 0) × IsAllowed (sizes_of c.plan) × (c.size ≡ cells_of (sizes_of c.plan)) };
 }
 
 /// Why no table was made.
@@ -95,6 +96,7 @@ impl<F: Facts> SharedCells<F> {
             heirs: plan.passes - 1,
             over: false,
         };
-        Ok((SharedCells { table, plan }, pass))
+        let size = Divisor::new(size);
+        Ok((SharedCells { table, plan, size }, pass))
     }
 }

@@ -75,6 +75,7 @@ fn add_sums(
 }
 
 // Adds the handles of the sums of each of `firsts` and k.
+#[inline(always)]
 fn add_firsts(sums: &Sums, firsts: &[Handle], k: Handle, all: &mut SmallVec<Handle, 8>)
     requires found { (p : ℕ) → Has firsts.now p → IsSome (sum_found sums.now p k) }
     requires room { HasRoomFor all.old (length firsts.now) }
@@ -90,6 +91,7 @@ fn add_firsts(sums: &Sums, firsts: &[Handle], k: Handle, all: &mut SmallVec<Hand
 }
 
 // Adds the handles of the sums of f and each of `seconds`.
+#[inline(always)]
 fn add_seconds(sums: &Sums, f: Handle, seconds: &[Handle], all: &mut SmallVec<Handle, 8>)
     requires found { (q : ℕ) → Has seconds.now q → IsSome (sum_found sums.now f q) }
     requires room { HasRoomFor all.old (length seconds.now) }

@@ -30,6 +30,7 @@ fn side_of(charts: &Charts, a: Handle, right: bool) -> &Rise
 
 /// The greatest of the right walls of the options, or of the negatives of their left walls, whose charts were found. The
 /// only error is want of memory.
+#[inline(always)]
 pub(crate) fn top(
     alloc: Global,
     charts: &Charts,

@@ -41,6 +41,7 @@ fn add_all<B: BoardForms, S: CellStore<GameFacts<B>>, A: Adder>(
 
 /// Adds up the games of the handles at the places of a board's parts. Of no part it makes the number 0, and of one it makes
 /// nothing.
+#[inline(always)]
 pub(crate) fn joined<B: BoardForms, S: CellStore<GameFacts<B>>, A: Adder>(
     alloc: Global,
     work: &mut Work<B, S>,

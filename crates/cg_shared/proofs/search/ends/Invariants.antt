@@ -1,4 +1,4 @@
-use Rattle.cg_shared.proofs.search.turn.Given as goal
+use Rattle.cg_shared.proofs.search.ends.Given as goal
 
 abbrev pub ghosts-probe : goal.ghosts-probe
 ghosts-probe g a = record { key = a.key }
