@@ -1,0 +1,76 @@
+"""The text of a table: tab-separated, in aligned columns, or rows by columns."""
+from __future__ import annotations
+
+import re
+from typing import Iterable
+
+from cgcalc.replies import Proof, Reply, Stops, Thermograph, word_of
+
+NUMERIC = re.compile("-?[0-9]*(/[0-9]+)?|!.*")
+HEADINGS = {
+    "stops": ["left", "right"],
+    "thermo": ["mean", "temp", "left", "right"],
+    "proof": ["holds", "proof"],
+}
+
+
+def headings_of(template: str) -> list[str]:
+    """The headings of the answers to a question.
+
+    >>> headings_of("temp ^"), headings_of("stops ^")
+    (['temp'], ['left', 'right'])
+    """
+    word = word_of(template)
+    return HEADINGS.get(word, [word])
+
+
+def cells_of(reply: Reply, count: int) -> list[str]:
+    """A reply in so many cells; a refusal stands in the first."""
+    if isinstance(reply, Thermograph):
+        walls = (" ".join(str(corner) for corner in wall) for wall in (reply.left, reply.right))
+        return [str(reply.mean), str(reply.temperature), *walls]
+    if isinstance(reply, Stops):
+        return [str(reply.left), str(reply.right)]
+    if isinstance(reply, Proof):
+        return ["yes" if reply.holds else "no", reply.text]
+    return [str(reply)] + [""] * (count - 1)
+
+
+def separated(line: list[str]) -> str:
+    """The cells of a line with tabs between them."""
+    return "\t".join(cell.replace("\t", " ") for cell in line) + "\n"
+
+
+def aligned(lines: list[list[str]]) -> str:
+    """The lines in columns: those of numbers and refusals to the right, others to the left.
+
+    >>> print(aligned([["rows", "value"], ["1", "{2|0}"], ["10", "*"]]), end="")
+    rows  value
+       1  {2|0}
+      10  *
+    """
+    columns = [list(column) for column in zip(*lines)]
+    widths = [max(len(cell) for cell in column) for column in columns]
+    numeric = [all(NUMERIC.fullmatch(cell) for cell in column[1:]) for column in columns]
+    text = ""
+    for line in lines:
+        cells = zip(line, widths, numeric)
+        placed = (cell.rjust(width) if right else cell.ljust(width) for cell, width, right in cells)
+        text += "  ".join(placed).rstrip() + "\n"
+    return text
+
+
+def grid(labels: Iterable[list[str]], answers: list[str]) -> str:
+    """The answers by rows and columns, as far as there are any.
+
+    >>> print(grid([["1", "1"], ["1", "2"], ["2", "1"], ["2", "2"]], ["0", "-1", "1"]), end="")
+    rows \\ columns  1   2
+                 1  0  -1
+                 2  1
+    """
+    found = {(row, column): answer for (row, column), answer in zip(labels, answers)}
+    rows = dict.fromkeys(row for row, _ in found)
+    columns = dict.fromkeys(column for _, column in found)
+    lines = [["rows \\ columns", *columns]]
+    lines += [[row, *(found.get((row, column), "") for column in columns)] for row in rows]
+    return aligned(lines)

@@ -1,0 +1,260 @@
+"""The command cg-shell, at a pseudo-terminal and in a pipe."""
+from __future__ import annotations
+
+import os
+import pty
+import select
+import signal
+import tempfile
+import time
+import unittest
+from pathlib import Path
+from typing import Sequence
+
+from tests.places import command, environment, program, run
+
+PROMPT = "cg> "
+BELL = "\x07"
+WELCOME = "cg-shell: a question on each line; `:help` tells more, Ctrl-D ends\n"
+
+
+class Terminal:
+    """The command at a pseudo-terminal."""
+
+    def __init__(self, words: Sequence[str] = (), **changes: str) -> None:
+        variables = environment(TERM="dumb", INPUTRC="/dev/null", COLUMNS="60", **changes)
+        words = [*command("cg-shell"), *words]
+        self.process, self.handle = pty.fork()
+        if self.process == 0:
+            os.execve(words[0], words, variables)
+        self.ended = False
+
+    def read(self, wanted: str = PROMPT) -> str:
+        """What is shown up to the next place where it ends with the wanted text, without that."""
+        shown, end = "", time.monotonic() + 30
+        while not shown.endswith(wanted) and time.monotonic() < end:
+            if select.select([self.handle], [], [], 1)[0]:
+                try:
+                    shown += os.read(self.handle, 1).decode().replace("\r", "")
+                except OSError:  # the other end is closed
+                    break
+        if not shown.endswith(wanted):
+            raise AssertionError(f"{wanted!r} isn't shown, but {shown!r}")
+        return shown[: len(shown) - len(wanted)]
+
+    def type(self, keys: str) -> None:
+        """Types keys."""
+        os.write(self.handle, keys.encode())
+
+    def ask(self, line: str) -> str:
+        """What is shown below a line that is typed."""
+        self.type(line + "\n")
+        self.read(line + "\n")
+        return self.read()
+
+    def status(self) -> int:
+        """The status at the end."""
+        self.ended = True
+        return os.waitstatus_to_exitcode(os.waitpid(self.process, 0)[1])
+
+    def close(self) -> None:
+        """Ends the command if it hasn't ended."""
+        if not self.ended:
+            os.kill(self.process, signal.SIGKILL)
+            self.status()
+        os.close(self.handle)
+
+
+class AtATerminal(unittest.TestCase):
+    """What is shown to one who types."""
+
+    def setUp(self) -> None:
+        holder = tempfile.TemporaryDirectory()
+        self.addCleanup(holder.cleanup)
+        self.folder = Path(holder.name)
+        self.history = self.folder / "history"
+
+    def terminal(self, *words: str, **changes: str) -> Terminal:
+        terminal = Terminal(words, CG_HISTORY=str(self.history), **changes)
+        self.addCleanup(terminal.close)
+        self.assertEqual(terminal.read(), WELCOME)
+        return terminal
+
+    def test_questions_definitions_and_refusals(self) -> None:
+        terminal = self.terminal()
+        self.assertEqual(terminal.ask("value {2,1|0}"), "{2|0}\n")
+        self.assertEqual(terminal.ask("g := {2|-1} + ^"), "{2^|-1^}\n")
+        self.assertEqual(terminal.ask("temp g"), "3/2\n")
+        self.assertEqual(terminal.ask(":names"), "g := {2|-1} + ^\n")
+        self.assertEqual(terminal.ask(""), "")
+        self.assertEqual(terminal.ask("# a comment"), "")
+        line, caret, refusal = terminal.ask("value {1,2}").splitlines()
+        self.assertEqual((line, caret), ("value {1,2}", "          ^"))
+        self.assertRegex(refusal, "^! syntax 11: no line of the notation goes on like this")
+        terminal.type("\x04")
+        terminal.read("\n")
+        self.assertEqual(terminal.status(), 0)
+
+    def test_words_are_completed(self) -> None:
+        terminal = self.terminal()
+        terminal.ask("gazebo := 3/4")
+        for keys, line in [
+            ("me\t", "mean "),
+            ("gaz\t", "gazebo"),
+            (" + 2.Clo\t", ' + 2.Clobber("'),
+            ("xo\t", "xo"),
+            ('")\n', '")\n'),
+        ]:
+            terminal.type(keys)
+            self.assertEqual(terminal.read(line).replace(BELL, ""), "")
+        self.assertEqual(terminal.read(), "3/4\n")
+        terminal.type(":na\t\n")
+        terminal.read(":names\n")
+        self.assertEqual(terminal.read(), "gazebo := 3/4\n")
+
+    def test_history_is_kept(self) -> None:
+        terminal = self.terminal()
+        terminal.ask("value {1|-1}")
+        terminal.type(":quit\n")
+        self.assertEqual(terminal.status(), 0)
+        self.assertEqual(self.history.read_text(), "value {1|-1}\n:quit\n")
+        self.assertEqual(os.listdir(self.folder), ["history"])
+        terminal = self.terminal()
+        terminal.type("\x10\x10\n")  # twice to the line before
+        terminal.read("value {1|-1}\n")
+        self.assertEqual(terminal.read(), "+-1\n")
+
+    def test_a_history_that_can_not_be_kept(self) -> None:
+        terminal = Terminal(CG_HISTORY="/nowhere/history")
+        self.addCleanup(terminal.close)
+        terminal.read()
+        terminal.type(":quit\n")
+        terminal.read("the history isn't kept in /nowhere/history: No such file or directory\n")
+        self.assertEqual(terminal.status(), 0)
+
+    def test_statuses_are_explained(self) -> None:
+        script = f'exit $(cat "{self.folder}/status")'
+        terminal = self.terminal(CG=program(self.folder, script))
+        for status, told in [
+            (3, "reading the input failed"),
+            (4, "writing the output failed"),
+            (5, "memory was wanting; `:share N` with a smaller N takes less memory"),
+            (6, "the session is too long: it has more than 1,048,576 bytes, .*are one session"),
+            (7, "the words of the command line couldn't be got, as where one isn't UTF-8"),
+        ]:
+            Path(self.folder, "status").write_text(str(status))
+            self.assertRegex(terminal.ask("value 1"), f"^cg ended with status {status}: {told}\n$")
+
+    def test_a_question_is_stopped(self) -> None:
+        script = 'echo $$ > "$0.process"; exec sleep 60'
+        terminal = self.terminal(CG=program(self.folder, script))
+        terminal.type("value 1\n")
+        terminal.read("value 1\n")
+        process = self.folder / "program.process"
+        while not process.exists() or not process.read_text():
+            time.sleep(0.02)
+        terminal.type("\x03")
+        self.assertEqual(terminal.read().replace("^C", ""), "stopped\n")
+        with self.assertRaises(ProcessLookupError):
+            os.kill(int(process.read_text()), 0)
+        terminal.type("value 2\x03")
+        terminal.read()
+        terminal.type(":quit\n")
+        self.assertEqual(terminal.status(), 0)
+
+    def test_a_signal_ends_it_in_good_order(self) -> None:
+        terminal = self.terminal()
+        terminal.ask("value 1")
+        os.kill(terminal.process, signal.SIGTERM)
+        self.assertEqual(terminal.status(), 128 + signal.SIGTERM)
+        self.assertEqual(self.history.read_text(), "value 1\n")
+
+    def test_long_lines_are_cut_round_the_caret(self) -> None:
+        terminal = self.terminal()
+        terminal.type("value " + "1 + " * 40 + "x" + " + 1" * 40 + "\n")
+        line, caret, refusal = terminal.read().splitlines()[-3:]
+        self.assertEqual(len(line), 59)
+        self.assertEqual(line[caret.index("^")], "x")
+        self.assertIn("! name 167", refusal)
+
+
+class InAPipe(unittest.TestCase):
+    """What is written where standard input is no terminal."""
+
+    def test_answers_and_status(self) -> None:
+        self.assertEqual(
+            run("cg-shell", [], "value 1\n\n# no\ng := 2\nvalue g"), (0, "1\n2\n2\n", "")
+        )
+        self.assertEqual(run("cg-shell", [], "value 6/3\nvalue 1\n")[0], 1)
+        self.assertEqual(run("cg-shell", [], ":quit\nvalue 6/3\n"), (0, "", ""))
+
+    def test_carets(self) -> None:
+        rows = [
+            ("value {1|", 10),
+            ("value h", 7),
+            ("valu\u00e9 1", 5),
+            ("value \u00e9", 7),
+            ("value (\u00e9)", 8),
+            ('check 1 ; 1 ; "\u00e9"', 16),
+            ("g := h", 6),
+            ("  g:=h", 6),
+            ('value Clobber("xa")', 17),
+            ('value 3.Domineering("..|.")', 25),
+            ('value Toads("xo") + Toads("TF")', None),
+            ('value Strip("A=0,0,0;L:A>A","A")', None),
+            ('value Octal("0.3",1001)', None),
+            ("value 6/3", None),
+        ]
+        status, written, _ = run("cg-shell", [], "".join(f"{line}\n" for line, _ in rows))
+        self.assertEqual(status, 1)
+        shown = written.splitlines()
+        for line, caret in rows:
+            with self.subTest(line=line):
+                if caret:
+                    self.assertEqual(shown.pop(0), "g := h" if ":=" in line else line)
+                    self.assertEqual(shown.pop(0), " " * (caret - 1) + "^")
+                self.assertRegex(shown.pop(0), "^! .*: ")
+
+    def test_a_name_may_stand_for_the_board_that_is_refused(self) -> None:
+        lines = 'g := Clobber("xa")\nvalue g + Clobber("xo")\n'
+        self.assertEqual(run("cg-shell", [], lines)[1].count("^"), 1)
+
+    def test_limits(self) -> None:
+        lines = "value {0|0}\n:share 4\nvalue {0|0}\n:share 5\nvalue {0|0}\n:positions 1\nvalue ^\n"
+        status, written, _ = run("cg-shell", [], lines)
+        self.assertEqual(status, 1)
+        self.assertRegex(written, r"^\*\n! full: .*N was 4\n\*\n! positions: .*P was 1\n$")
+
+    def test_commands_that_are_none(self) -> None:
+        rows = [
+            (":help more", "`:help more` is no command; `:help` tells them"),
+            (":what", "`:what` is no command; `:help` tells them"),
+            (":share", "`:share` is no command; `:help` tells them"),
+            (":share x", "share must be a number from 1 to 67108864"),
+            (":positions 0", "positions must be a number from 1 to 1048576"),
+            (":", "`:` is no command; `:help` tells them"),
+        ]
+        status, written, _ = run("cg-shell", [], "".join(f"{line}\n" for line, _ in rows))
+        self.assertEqual(status, 2)
+        self.assertEqual(written.splitlines(), [told for _, told in rows])
+        self.assertIn(":quit ", run("cg-shell", [], ":help\n")[1])
+
+    def test_a_program_that_fails(self) -> None:
+        with tempfile.TemporaryDirectory() as folder:
+            failing = {"CG": program(Path(folder), "exit 5")}
+            status, written, told = run("cg-shell", [], "value 1\n", changes=failing)
+        self.assertEqual((status, told), (5, ""))
+        self.assertIn("memory was wanting", written)
+
+    def test_bad_use(self) -> None:
+        for words, told in [
+            (["--share", "0"], "share must be a number from 1 to 67108864"),
+            (["--positions", "many"], "invalid int value: 'many'"),
+            (["file"], "unrecognized arguments: file"),
+        ]:
+            with self.subTest(words=words):
+                status, written, message = run("cg-shell", words)
+                self.assertEqual((status, written, message.count("\n")), (2, "", 1))
+                self.assertIn(told, message)
+        status, written, message = run("cg-shell", [], changes={"CG": "/nowhere"})
+        self.assertEqual((status, written, message.count("\n")), (2, "", 1))

@@ -1,0 +1,321 @@
+"""The command cg-table, run as a user runs it."""
+from __future__ import annotations
+
+import io
+import os
+import pty
+import signal
+import subprocess
+import tempfile
+import time
+import unittest
+from pathlib import Path
+from contextlib import redirect_stderr, redirect_stdout
+from typing import Sequence
+from unittest import mock
+
+from cgcalc.cg_table import main
+from tests.places import ROOT, command, environment, program, run
+
+TEMPERATURES = ['temp Domineering("{board}")', "--fill", "."]
+SQUARES = [*TEMPERATURES, "--rows", "1-4", "--columns", "1-4"]
+BOARDS = str(ROOT / "examples" / "first.txt")
+GRID = """\
+rows \\ columns   1    2     3     4
+             1  -1   -1    -1    -1
+             2  -1    1   5/4     0
+             3  -1  5/4     1  -1/2
+             4  -1    0  -1/2     0
+"""
+
+
+def tried(words: Sequence[str], folder: str) -> tuple[int, str, str]:
+    """Runs the command in this process: its status, what it wrote and what it told."""
+    written, told, before = io.StringIO(), io.StringIO(), os.getcwd()
+    os.chdir(folder)
+    try:
+        with redirect_stdout(written), redirect_stderr(told), mock.patch("signal.signal"):
+            status = main(words)
+    except SystemExit as end:
+        status = int(end.code or 0)
+    finally:
+        os.chdir(before)
+    return status, written.getvalue(), told.getvalue()
+
+
+class Tables(unittest.TestCase):
+    """What is written."""
+
+    def test_temperatures_of_rectangles(self) -> None:
+        self.assertEqual(run("cg-table", [*SQUARES, "--format", "grid"]), (0, GRID, ""))
+
+    def test_tabs(self) -> None:
+        words = [*TEMPERATURES, "--rows", "2", "--columns", "2-3"]
+        self.assertEqual(
+            run("cg-table", words), (0, "rows\tcolumns\ttemp\n2\t2\t1\n2\t3\t5/4\n", "")
+        )
+
+    def test_answers_of_several_cells(self) -> None:
+        words = ["stops {board}", "--boards", "-"]
+        wanted = "board\tleft\tright\n{2|0}\t2\t0\n1\t1\t1\n"
+        self.assertEqual(run("cg-table", words, "{2|0}\n\n 1\t\n"), (0, wanted, ""))
+        words = ["thermo +-{columns}", "--columns", "2", "--format", "aligned"]
+        wanted = "columns  mean  temp  left     right\n      2     0     2  2@0 0@2  -2@0 0@2\n"
+        self.assertEqual(run("cg-table", words), (0, wanted, ""))
+        words = ["proof {columns} ; {rows}.^", "--columns", "0-1", "--rows", "1"]
+        self.assertEqual(run("cg-table", words)[0], 2)
+        words[2] = "1"
+        self.assertEqual(
+            run("cg-table", words), (0, "rows\tcolumns\tholds\tproof\n1\t1\tyes\t(g0.)\n", "")
+        )
+
+    def test_symbols_in_turn(self) -> None:
+        words = ['value Clobber("{board}")', "--columns", "2-3", "--rows", "2", "--fill", "xo"]
+        self.assertEqual(
+            run("cg-table", words), (0, "rows\tcolumns\tvalue\n2\t2\t*\n2\t3\t0\n", "")
+        )
+
+    def test_refusals_are_explained(self) -> None:
+        words = ['value Clobber("{board}")', "--boards", "-"]
+        status, written, told = run("cg-table", words, "xo\nxa\no\nxb\nx|oo\n")
+        self.assertEqual(status, 1)
+        self.assertEqual(
+            written,
+            "board\tvalue\nxo\t*\nxa\t! board symbol 2\no\t0\nxb\t! board symbol 2\n"
+            "x|oo\t! board ragged 3\n",
+        )
+        self.assertEqual(
+            told,
+            'cg-table: 2 of 5 refused, as value Clobber("xa") by ! board symbol 2:'
+            " the board has a symbol at place 2 that the game hasn't\n"
+            'cg-table: 1 of 5 refused, as value Clobber("x|oo") by ! board ragged 3:'
+            " the row that starts at place 3 of the board isn't as long as the first\n",
+        )
+
+    def test_limits(self) -> None:
+        words = ["value {board}", "--boards", "-"]
+        self.assertEqual(run("cg-table", [*words, "--share", "5"], "{0|0}\n")[0], 0)
+        self.assertRegex(run("cg-table", [*words, "--share", "4"], "{0|0}\n")[2], "--share gives")
+        self.assertRegex(
+            run("cg-table", [*words, "--positions", "2"], "^\n")[2], "--positions sets"
+        )
+
+    def test_progress_at_a_terminal(self) -> None:
+        here, there = pty.openpty()
+        done = subprocess.run(
+            [*command("cg-table"), *SQUARES],
+            stdin=subprocess.DEVNULL,
+            stdout=subprocess.PIPE,
+            stderr=there,
+            env=environment(),
+            timeout=60,
+            check=False,
+        )
+        shown = os.read(here, 10_000).decode()
+        os.close(here)
+        os.close(there)
+        self.assertEqual(done.returncode, 0)
+        self.assertIn("0 of 16", shown)
+        self.assertTrue(shown.endswith("\r\033[K"))
+
+    def test_aligned_columns_at_a_terminal(self) -> None:
+        here, there = pty.openpty()
+        words = [*command("cg-table"), "mean {columns}", "--columns", "9-10"]
+        done = subprocess.run(words, stdout=there, env=environment(), timeout=60, check=False)
+        shown = os.read(here, 10_000).decode()
+        os.close(here)
+        os.close(there)
+        self.assertEqual(
+            (done.returncode, shown), (0, "columns  mean\r\n      9     9\r\n     10    10\r\n")
+        )
+
+
+class BadUse(unittest.TestCase):
+    """One clear line, a status of 2, and nothing written."""
+
+    def refused(self, words: Sequence[str], told: str) -> None:
+        with tempfile.TemporaryDirectory() as folder:
+            status, written, message = tried(words, folder)
+            self.assertEqual((status, written, os.listdir(folder)), (2, "", []))
+        self.assertRegex(message, f"^cg-table: .*{told}.*\n$")
+        self.assertEqual(message.count("\n"), 1)
+
+    def test_words(self) -> None:
+        board = 'temp Clobber("{board}")'
+        rows: list[tuple[list[str], str]] = [
+            ([], "required: template"),
+            (["value 1"], "give either --rows and --columns, or --boards"),
+            ([board, "--rows", "1", "--boards", "-"], "give either --rows and --columns, or"),
+            ([board, "--rows", "1"], "--fill has to say"),
+            (["value 1", "--rows", "1"], "has no {board}, {rows} or {columns}"),
+            (["value {rows}", "--boards", BOARDS], "the template has no {board}"),
+            ([board, "--boards", "nowhere"], "can't be read from nowhere: No such file"),
+            ([board, "--boards", "-"], "there are no boards in -"),
+            ([*SQUARES, "--rows", "4-1"], "--rows is a number or a range such as 1-4, not '4-1'"),
+            ([*SQUARES, "--columns", "x"], "--columns is a number or a range"),
+            ([*SQUARES, "--format", "html"], "invalid choice: 'html'"),
+            (["value {columns}", "--columns", "1", "--format", "grid"], "grid needs"),
+            ([*SQUARES, "--share", "0"], "share must be a number from 1 to 67108864"),
+            ([*SQUARES, "--share", "x"], "invalid int value: 'x'"),
+            ([*SQUARES, "--processes", "0"], "processes must be a number from 1"),
+            ([*SQUARES, "--output", "a", "--resume", "a"], "either --output or --resume"),
+            ([*SQUARES, "--output", "nowhere/a"], "nowhere/a.part can't be written"),
+            ([*SQUARES, "--resume", "nowhere/a"], "nowhere/a.part can't be written"),
+            ([*SQUARES, "--output", "."], "'.' is no name of a file"),
+            ([*SQUARES, "--output", ""], "'' is no name of a file"),
+            ([*SQUARES, "--resume", "/"], "'/' is no name of a file"),
+            (["g := {columns}", "--columns", "1"], "this defines a name"),
+            (["# {columns}", "--columns", "1"], "this asks nothing"),
+            (["value\n{columns}", "--columns", "1"], "this has several lines"),
+            ([*SQUARES, "more"], "unrecognized arguments: more"),
+        ]
+        for words, told in rows:
+            with self.subTest(words=words):
+                self.refused(words, told)
+
+    def test_no_program(self) -> None:
+        status, written, told = run("cg-table", SQUARES, changes={"CG": "/nowhere"})
+        self.assertEqual((status, written), (2, ""))
+        self.assertEqual(
+            told, "cg-table: CG in the environment names /nowhere, which is no program\n"
+        )
+
+    def test_a_program_that_fails(self) -> None:
+        with tempfile.TemporaryDirectory() as folder:
+            failing = {"CG": program(Path(folder), "exit 5")}
+            table = Path(folder, "table")
+            words = [*SQUARES, "--output", str(table)]
+            status, written, told = run("cg-table", words, changes=failing)
+            self.assertEqual((status, written), (5, ""))
+            self.assertRegex(
+                told, "^cg-table: cg ended with status 5: memory was wanting, after 0 of 16"
+            )
+            self.assertEqual(os.listdir(folder), ["program"])
+
+    def test_output_that_is_closed(self) -> None:
+        words = [*command("cg-table"), "value {columns}", "--columns", "1-5000", "--share", "9"]
+        running = subprocess.Popen(
+            words, stdout=subprocess.PIPE, stderr=subprocess.PIPE, env=environment()
+        )
+        assert running.stdout and running.stderr
+        running.stdout.readline()
+        running.stdout.close()
+        told = running.stderr.read().decode()
+        running.stderr.close()
+        self.assertEqual((running.wait(60), told), (4, "cg-table: writing failed: Broken pipe\n"))
+
+
+class Stopping(unittest.TestCase):
+    """Nothing is lost of a table that is stopped."""
+
+    def setUp(self) -> None:
+        holder = tempfile.TemporaryDirectory()
+        self.addCleanup(holder.cleanup)
+        self.folder = Path(holder.name)
+        self.table = self.folder / "table"
+        self.part = self.folder / "table.part"
+        slow = 'echo $$ >> "$0.runs"; [ $(wc -l < "$0.runs") -le 3 ] || exec sleep 60'
+        slow += '; exec "$REAL" "$@"'
+        self.slow = program(self.folder, slow)
+        self.runs = self.folder / "program.runs"
+        # Two questions to a run, and the fourth run of the slow program takes a minute.
+        self.words = [*SQUARES, "--share", "70000", "--cells", "140000", "--processes", "1"]
+
+    def stopped(self, words: Sequence[str], number: int) -> tuple[int, str, str]:
+        """Starts the command with the slow program, and sends a signal when three runs are done."""
+        running = subprocess.Popen(
+            [*command("cg-table"), *words],
+            stdout=subprocess.PIPE,
+            stderr=subprocess.PIPE,
+            env=environment(CG=self.slow),
+        )
+        end = time.monotonic() + 60
+        while time.monotonic() < end and (
+            not self.runs.exists() or self.runs.read_text().count("\n") < 4
+        ):
+            time.sleep(0.02)
+        time.sleep(0.2)
+        running.send_signal(number)
+        written, told = running.communicate(timeout=60)
+        return running.returncode, written.decode(), told.decode()
+
+    def gone(self, process: int) -> bool:
+        """Whether a process has ended."""
+        try:
+            os.kill(process, 0)
+        except ProcessLookupError:
+            return True
+        return False
+
+    def test_a_stopped_table_goes_on(self) -> None:
+        words = [*self.words, "--format", "grid"]
+        ended = self.stopped([*words, "--output", str(self.table)], signal.SIGINT)
+        message = "cg-table: stopped, after 6 of 16 questions"
+        message += f"; --resume {self.table} goes on from there\n"
+        self.assertEqual(ended, (130, "", message))
+        self.assertTrue(self.gone(int(self.runs.read_text().split()[-1])))
+        self.assertFalse(self.table.exists())
+        kept = self.part.read_bytes()
+        self.assertEqual(kept.count(b"\n"), 7)
+        status, written, told = run("cg-table", [*words, "--output", str(self.table)])
+        self.assertEqual((status, written), (2, ""))
+        self.assertRegex(told, "is left of a run that was stopped: go on with --resume")
+        self.assertEqual(self.part.read_bytes(), kept)
+        self.assertEqual(run("cg-table", [*words, "--resume", str(self.table)]), (0, "", ""))
+        self.assertEqual(self.table.read_text(), GRID)
+        self.assertFalse(self.part.exists())
+
+    def test_a_killed_table_goes_on(self) -> None:
+        self.stopped([*self.words, "--output", str(self.table)], signal.SIGKILL)
+        os.kill(int(self.runs.read_text().split()[-1]), signal.SIGKILL)
+        with open(self.part, "ab") as file:
+            file.write(b'temp Domineering("..|..|')  # broken off
+        self.assertEqual(run("cg-table", [*self.words, "--resume", str(self.table)]), (0, "", ""))
+        self.assertEqual(self.table.read_text(), run("cg-table", SQUARES)[1])
+
+    def test_a_stopped_table_without_a_file(self) -> None:
+        for number in (signal.SIGINT, signal.SIGTERM):
+            status, written, told = self.stopped(self.words, number)
+            self.assertEqual((status, written.count("\n")), (130, 7))
+            self.assertRegex(told, "stopped, after 6 of 16 questions; with --output a later run")
+            self.runs.unlink()
+        status, written, _ = self.stopped([*self.words, "--format", "grid"], signal.SIGINT)
+        wanted = "rows \\ columns   1   2   3   4\n             1  -1  -1  -1  -1\n"
+        self.assertEqual((status, written), (130, wanted + "             2  -1   1\n"))
+
+    def test_what_can_not_go_on(self) -> None:
+        words = [*SQUARES, "--resume", str(self.table)]
+        first = 'temp Domineering(".")\t'
+        for text, told in [
+            ("", "kept with other limits"),
+            ("cg-table --share 9 --positions 9\n", "kept with other limits"),
+            ("{header}" + first + "{bad}\n", "is spoilt"),
+            ("{header}value 1\t1\n", "is of another table: it has the question 'value 1'"),
+            ("{header}" + (first + "-1\n") * 17, "it has more replies than this one"),
+        ]:
+            text = text.replace("{header}", "cg-table --share 262144 --positions 65536\n")
+            self.part.write_text(text)
+            with self.subTest(text=text):
+                status, written, message = run("cg-table", words)
+                self.assertEqual((status, written, message.count("\n")), (2, "", 1))
+                self.assertIn(told, message)
+                self.assertEqual(self.part.read_text(), text)
+
+    def test_resuming_what_never_began_or_is_whole(self) -> None:
+        words = [*SQUARES, "--format", "grid", "--resume", str(self.table)]
+        self.assertEqual(run("cg-table", words), (0, "", ""))
+        self.assertEqual(self.table.read_text(), GRID)
+        status, _, told = run("cg-table", words)
+        self.assertEqual((status, self.table.read_text()), (2, GRID))
+        self.assertRegex(told, "is there, and no .*table.part to go on from")
+
+    def test_a_disk_that_is_full(self) -> None:
+        with open("/dev/full", "wb") as full:
+            words = [*command("cg-table"), *SQUARES]
+            done = subprocess.run(
+                words, stdout=full, stderr=subprocess.PIPE, env=environment(), check=False
+            )
+        self.assertEqual(
+            (done.returncode, done.stderr),
+            (4, b"cg-table: writing failed: No space left on device\n"),
+        )
