@@ -1,0 +1,1 @@
+"""Sessions made from seeds, for comparing the program with the reference: see `tools/compare-reference`."""

@@ -1,0 +1,142 @@
+"""Texts of positions, made by dice: usual small ones, and wide, sparse and cornered ones of up to 64 cells."""
+
+GRIDS = {"Domineering": ".#", "Clobber": "xo.", "Amazons": ".xo#", "Toads": "TF."}
+GAMES = ("Domineering", "Clobber", "Amazons", "Toads", "Strip", "Hackenbush", "Col", "Snort")
+SIZES = ((1, 64), (64, 1), (8, 8), (2, 32), (32, 2), (4, 16), (16, 4), (3, 21), (7, 9), (5, 12), (1, 33), (9, 7), (1, 17), (2, 17))
+LETTERS = "abcdefghijklmnopqrstuvwxyzABCDEFGHIJKLMNOPQRSTUVWXYZ"
+NODES = "0123456789ABCDEFGHIJKLMNOPQRSTUVWXYZ"
+STRIPS = (
+    (".=0,0,0;T=0,0,1;F=0,1,0;L:T.>.T;L:TF.>.FT;R:.F>F.;R:.TF>FT.", ".TF"),
+    (".=1,0,0;A=0,0,0;B=0,0,0;L:..>AA;R:...>BBB", ".AB"),
+    (".=0,0,0;x=1,0,0;o=1,0,0;L:xo>.x;L:ox>x.;R:ox>.o;R:xo>o.", ".xo"),
+    ("a=3,0,0;b=2,0,0;c=1,0,0;.=0,0,0;L:a>b;R:b>.;L:bc>.c;R:ca>cc;L:c>.", "abc."),
+    (".=0,0,0;x=0,1,0;y=0,0,2;L:.x>x.;R:y.>.y;L:xy>.y", ".xy"),
+    (".=0,0,0", "."),
+)
+
+
+def board(rows):
+    """The text of rows."""
+    return "|".join("".join(row) for row in rows)
+
+
+def small(dice, game):
+    """A board of a few cells."""
+    rows, columns = dice.choice([(1, 3), (2, 2), (2, 3), (3, 2), (1, 5), (3, 3), (2, 4), (1, 6), (1, 1), (4, 2)])
+    if game == "Toads":
+        rows, columns = 1, dice.randint(1, 7)
+    if game == "Amazons":
+        rows, columns = dice.choice([(1, 4), (2, 2), (2, 3), (1, 5), (3, 2)])
+        cells = [["." if dice.random() < 0.7 else "#" for _ in range(columns)] for _ in range(rows)]
+        for _ in range(dice.choice([1, 1, 2])):
+            cells[dice.randrange(rows)][dice.randrange(columns)] = dice.choice("xo")
+        return board(cells)
+    weights = {"Domineering": (3, 1), "Clobber": (3, 3, 1), "Toads": (2, 2, 2)}[game]
+    return board([dice.choices(GRIDS[game], weights, k=columns) for _ in range(rows)])
+
+
+def sparse(dice, game):
+    """A board of up to 64 cells in which little stands, at the corners, at the ends of rows and on diagonals."""
+    rows, columns = (1, dice.randint(20, 64)) if game == "Toads" else dice.choice(SIZES)
+    cells = [["#" if game in ("Domineering", "Amazons") else "."] * columns for _ in range(rows)]
+    live = {"Domineering": "...#", "Clobber": "xo", "Amazons": "..x#o", "Toads": "TF."}[game]
+    queens = 0
+    for _ in range(dice.randint(1, 3)):
+        i, j = dice.choice([0, rows - 1, dice.randrange(rows)]), dice.choice([0, columns - 1, dice.randrange(columns)])
+        if game == "Toads":
+            cells[0] = [cell if cell != "." else dice.choice(["T", "F"]) for cell in cells[0]]
+        for _ in range(dice.randint(2, 6)):
+            symbol = dice.choice(live)
+            queens += symbol in "xo"
+            if game == "Amazons" and symbol in "xo" and queens > 2:
+                symbol = "."
+            cells[i][j] = symbol
+            i, j = (i + dice.choice([-1, 0, 1])) % rows, (j + dice.choice([-1, 0, 1])) % columns
+    if game == "Amazons" and not queens:
+        cells[i][j] = dice.choice("xo")
+    if game == "Toads":
+        for _ in range(dice.randint(0, 3)):
+            cells[0][dice.choice([0, columns - 1, dice.randrange(columns)])] = "."
+    return board(cells)
+
+
+def strip(dice, wide):
+    """A position of a game by rules."""
+    rules, symbols = dice.choice(STRIPS)
+    if not wide:
+        return rules, "".join(dice.choice(symbols) for _ in range(dice.randint(1, 6)))
+    filler = dice.choice([symbol for symbol in symbols if symbol != "."] or ["."]) if symbols in (".TF", ".AB") else "."
+    row = [filler] * dice.randint(20, 64)
+    for _ in range(dice.randint(1, 3)):
+        start = dice.choice([0, len(row) - 4, dice.randrange(len(row) - 3)])
+        row[start : start + 4] = [dice.choice(symbols) for _ in range(4)]
+    return rules, "".join(row)
+
+
+def drawing(dice, wide):
+    """Edges of Hackenbush; a wide drawing has many that aren't joined to the ground."""
+    edges = []
+    joined = ["0"]
+    for _ in range(dice.randint(1, 6)):
+        a, b = dice.choice(joined), dice.choice(dice.choice([joined, NODES[:8]]))
+        joined += [b]
+        edges.append(dice.choice([a + dice.choice("brg") + b, b + dice.choice("brg") + a]))
+    if wide:
+        free = [node for node in NODES if node not in joined] or ["Z"]
+        free = free[len(free) // 2 :]
+        while len(edges) < dice.choice([20, 63, 64]):
+            edges.append(dice.choice(free) + dice.choice("brg") + dice.choice(free))
+        dice.shuffle(edges)
+    return ",".join(edges)
+
+
+def graph(dice, wide):
+    """The vertices and edges of Col or Snort; in a wide one most vertices have a colour."""
+    count = dice.randint(30, 52) if wide else dice.randint(1, 5)
+    vertices = [dice.choice("xo") if wide else dice.choice("...xo") for _ in range(count)]
+    for _ in range(4 if wide else 0):
+        vertices[dice.choice([0, count - 1, dice.randrange(count)])] = "."
+    edges = []
+    for _ in range(dice.randint(0, 20 if wide else 5)):
+        a, b = dice.randrange(count), dice.randrange(count)
+        if a != b:
+            edges.append(LETTERS[a] + LETTERS[b])
+    return "".join(vertices), ",".join(edges)
+
+
+def position(dice, game=None, wide=False):
+    """A position as an expression."""
+    game = game or dice.choice(GAMES)
+    if game == "Strip":
+        texts = strip(dice, wide)
+    elif game == "Hackenbush":
+        texts = (drawing(dice, wide),)
+    elif game in ("Col", "Snort"):
+        texts = graph(dice, wide)
+    else:
+        texts = ((sparse if wide else small)(dice, game),)
+    return game + "(" + ",".join(f'"{text}"' for text in texts) + ")"
+
+
+def octal(dice):
+    """A heap of an octal game."""
+    code = "0." + "".join(dice.choice("01234567") for _ in range(dice.choice([1, 2, 2, 3, 16])))
+    return f'Octal("{dice.choice([code, "0.77", "0.137", "0.07"])}",{dice.choice([0, 1, 2, 5, 9, 20, 70])})'
+
+
+def spoiled(dice, game):
+    """A position with one of its texts changed at a byte, cut off or doubled."""
+    text = octal(dice) if game == "Octal" else position(dice, game, dice.random() < 0.2)
+    first = text.index('"') + 1
+    at = dice.randrange(first, max(first + 1, len(text) - 2))
+    way = dice.randrange(5)
+    if way == 0:
+        return text[:at] + dice.choice(".#xoTFabrg01789,;:=>|ABLR %") + text[at + 1 :]
+    if way == 1:
+        return text[:at] + dice.choice(".#xoTFabrg01789,;:=>|ABLR ~") + text[at:]
+    if way == 2:
+        return text[:at] + text[at + 1 :]
+    if way == 3:
+        length = dice.randint(1, 12)
+        return text[:at] + text[at : at + length].replace('"', "") * dice.choice([2, 6, 12]) + text[at:]
+    return text[:at] + text[text.index('"', at) :] if '"' in text[at:] else text

@@ -1,0 +1,178 @@
+"""Sessions of all kinds, each with its words, made from seeds."""
+import random
+
+from reference.certificates import Long, prove
+from reference.grammar import read_line
+from reference.items import Meter, Refused
+from reference.boards import Fault
+
+from .positions import GAMES, octal, position, spoiled
+from .texts import expression, halving, question, simple, special, term
+
+LIMIT = 160
+GOOD = (
+    'value Clobber("xxo") + Clobber ( "xox" )', 'thermo Domineering("...|...")', 'outcome {1|-1} + Toads("T.F")',
+    "value {4||2|0} - 3.^*2 + 1/2*", "mean { {3|0} , 1 | -1 }", "temp {2|-1} + +-1/4", "compare -Tiny(2) ; Miny( 1/2 )",
+    'value Strip(".=0,0,0;T=0,0,1;L:T.>.T","T.")', 'value Amazons("x..|..o")', "stops ((((1)))) - - 2.^",
+    "value {{0|0},{0|{0|0}}||0|||*2}", "outcome vv*3 + ^^^ --2", "proof ^^ ; *", 'check ^^ ; * ; "(g1(h0.g0.)g0.)"',
+    'value Hackenbush("0b1,1r2,0g3")', 'outcome Snort("...","ab,bc") - Col ( ".." , "ab" )', 'value Octal( "0.77" , 9 ) + 2.v^',
+    "value -2.^*-1^1+-+-1", "g := {2|-1} + ^", "abcdefghijklmno := temp1 - stopss*2", "value g2*2^ + -tiny + h",
+)
+ODD = "\x00\t\r \xff\"{}|,.;:=+-*^v/()0123456789abgTMDCOS#xo~"
+
+
+def room(dice, lines):
+    """The cells of so many lines."""
+    return lines * dice.choice([1, 8, 40, 200, 1000, 5000, 20000])
+
+
+def words(cells, positions=LIMIT):
+    """The words of a command with these settings."""
+    return ["--cells", str(cells), "--positions", str(positions)]
+
+
+def usual(dice):
+    """Questions about expressions of all kinds."""
+    lines = [question(dice, expression(dice), expression(dice, 1)) for _ in range(dice.randint(1, 5))]
+    lines += dice.choice([[], ["# a comment \xfe"], [" \t"], [""]])
+    dice.shuffle(lines)
+    return [(words(max(room(dice, len(lines)), 1), dice.choice([2, 9, LIMIT, LIMIT])), "\n".join(lines) + dice.choice(["", "\n", "\r\n"]))]
+
+
+def boards(dice):
+    """Questions about small positions."""
+    lines = [question(dice, position(dice), simple(dice)) for _ in range(dice.randint(2, 5))]
+    return [(words(room(dice, len(lines)) + len(lines)), "\n".join(lines) + "\n")]
+
+
+def needs(text):
+    """What a line costs, and the length of its longest list; or None where it is refused for another reason."""
+    stated, _ = read_line(text, 1)
+    meter = Meter(10**6, LIMIT)
+    try:
+        for one in stated[1] if stated else ():
+            meter.value(one)
+    except (Fault, Refused):
+        return None
+    return (meter.charged, max(meter.longest, 1)) if stated else None
+
+
+def at_its_limits(text):
+    """A line at exactly what it costs and one cell below, and at its least positions limit and one below."""
+    needed = needs(text)
+    if not needed:
+        return [(words(10**6), text + "\n")]
+    cost, longest = needed
+    sessions = [(words(cost), text + "\n"), (words(cost, longest), text + "\n")]
+    sessions += [(words(cost - 1, longest), text + "\n")] if cost > 1 else []
+    return sessions + ([(words(cost, longest - 1), text + "\n")] if longest > 1 else [])
+
+
+def exact_positions(dice):
+    """A position of one of the games at its limits."""
+    game, wide = dice.choice(GAMES + GAMES[:2]), dice.random() < 0.7
+    return at_its_limits(dice.choice(["value ", "thermo ", "stops "]) + position(dice, game, wide))
+
+
+def exact_expressions(dice):
+    """An expression at its limits."""
+    return at_its_limits("value " + dice.choice([term, special, expression])(dice, 1))
+
+
+def broken_lines(dice):
+    """A line that is changed at each of its bytes."""
+    form = dice.choice([1, 2])
+    good = dice.choice(GOOD) if dice.random() < 0.7 else question(dice, expression(dice, 1), simple(dice))
+    places = list(range(len(good) + 1))
+    places = sorted(dice.sample(places, min(len(places), 24)))
+    way = dice.randrange(4)
+    lines = []
+    for at in places:
+        odd = dice.choice(ODD)
+        lines.append((good[:at], good[:at] + odd + good[at + 1 :], good[:at] + good[at + 1 :], good[:at] + odd + good[at:])[way])
+    return [(words(len(lines) * 200), ("cg 2\n" if form == 2 else "") + "\n".join(line.replace("\n", "") for line in lines) + "\n")]
+
+
+def broken_positions(dice):
+    """Positions with a byte of their texts changed."""
+    game = dice.choice(GAMES + ("Octal",))
+    lines = ["value " + spoiled(dice, game) for _ in range(6)]
+    lines.append("value {1/3," + spoiled(dice, game) + "|" + spoiled(dice, dice.choice(GAMES)) + "}")
+    return [(words(len(lines) * 2000, 60), "\n".join(lines) + "\n")]
+
+
+def names(dice):
+    """Definitions and uses of names."""
+    known, lines = [], ["cg 2"]
+    for _ in range(dice.randint(3, 7)):
+        name = dice.choice(["g", "h", "g2", "abcdefghijklmnop", "tempo", "x", "y1"])
+        text = expression(dice, 1, known + ["k"] * (dice.random() < 0.1)) if dice.random() < 0.6 or not known else dice.choice(known)
+        if dice.random() < 0.6:
+            lines.append(f"{name}{dice.choice(['', ' '])}:={dice.choice(['', ' '])}{text}")
+            known.append(name)
+        else:
+            lines.append(question(dice, text, dice.choice(known or ["k"])))
+    return [(words(room(dice, len(lines)) + len(lines)), "\n".join(lines) + "\n")]
+
+
+def grown_names(dice):
+    """A name that is bound anew to more and more of itself, up to the limits on parts and levels."""
+    if dice.random() < 0.5:
+        step = dice.choice(["a := a + a", "a := {a|a}", "a := 2.a + a", 'a := a + Clobber("xo|..")'])
+        lines = ["cg 2", "a := " + dice.choice(["*", "1", "+-1"])] + [step] * dice.randint(10, 13) + ["outcome a"]
+    else:
+        depth = dice.randint(50, 63)
+        step = "a := " + dice.choice([("-(", "a", ")"), ("{", "a", "|}"), ("1.(", "a", ")")])[0] * depth + "a"
+        step += {"-": ")", "{": "|}", "1": ")"}[step[5]] * depth
+        lines = ["cg 2", "a := 1"] + [step] * (1024 // depth + 1) + ["value a"]
+    return [(words(len(lines) * dice.choice([20, 3000]), 40), "\n".join(lines) + "\n")]
+
+
+def certificates(dice):
+    """A proof of the order, and what it becomes when it is changed at each of its bytes."""
+    first, second = dice.choice([simple, lambda d: expression(d, 1)])(dice), simple(dice)
+    asked = f"{first} ; {second}"
+    lines = [f"proof {asked}", f"proof {second} ; {first}", f'check {asked} ; ""']
+    stated, _ = read_line("compare " + asked, 1)
+    try:
+        text = prove(*(Meter(20000, LIMIT).value(one) for one in stated[1])).partition(" ")[2]
+    except (Fault, Refused, Long):
+        text = "(g0.)"
+    for at in sorted(dice.sample(range(len(text) + 1), min(len(text) + 1, 16))):
+        odd = dice.choice("gh01.()x")
+        lines += [f'check {asked} ; "{changed}"' for changed in (text[:at] + odd + text[at + 1 :], text[:at] + text[at + 1 :])]
+    lines.append(f'check {asked} ; "{text}"')
+    return [(words(len(lines) * 2000), "\n".join(lines) + "\n")]
+
+
+def far_numbers(dice):
+    """Games whose walls need many binary places, and many octal heaps."""
+    lines = [f"{word} {halving(dice.randint(17, 24))}" for word in ("mean", "stops", "temp")]
+    lines += ["value " + octal(dice) for _ in range(4)]
+    return [(words(len(lines) * 2000), "\n".join(lines) + "\n")]
+
+
+def odd_words(dice):
+    """Words of the command line, good and bad, and the sample."""
+    good = ["--workers", "--cells", "--positions", "--sample", "--workers=2", "--cells=30", "--positions=+9", "--sample=7"]
+    values = ["1", "03", "+5", "64", "65", "0", "4096", "4097", "-1", "", "9x", "67108865", "1048577", "99999999999999999999"]
+    line = []
+    for _ in range(dice.randint(0, 3)):
+        line += [dice.choice(good), dice.choice(values)] if dice.random() < 0.8 else [dice.choice(good + ["--", "--help", "-", "extra"])]
+    if dice.random() < 0.3:
+        line = ["--sample", str(dice.randint(1, 24)), "--cells", str(dice.choice([5, 300, 40000])), "--positions", "60"]
+    return [(line + dice.choice([[], [], ["--"]]), "value {0|0}\nvalue *2\n")]
+
+
+def default_words(dice):
+    """A usual session with the default table."""
+    return [([], usual(dice)[0][1])] if dice.random() < 0.1 else usual(dice)
+
+
+KINDS = (usual, boards, exact_positions, exact_positions, exact_expressions, broken_lines, broken_positions, names, exact_positions,
+         certificates, usual, exact_expressions, odd_words, grown_names, default_words, far_numbers)
+
+
+def sessions_of(seed):
+    """The sessions of a seed, each its words and its text."""
+    return KINDS[seed % len(KINDS)](random.Random(seed))
