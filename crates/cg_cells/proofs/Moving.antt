@@ -67,8 +67,10 @@ module _ {X : Type 0} (m : Meaning X) (z : Sizes) (words : List ℕ) (views : Li
         record {
           allowed = W.allowed;
           long = length-set words 0 (n + 1) ∙ long;
-          sound = subst (λ k. Sound m k (value_at (cells_of z) (set words 0 (n + 1)))) kk (subst (λ h. Sound m keys h) vv W.sound);
-          placed = subst (λ k. (i : ℕ) → k i ≢ 0 → IsPlaced (cells_of z) k (m.home (k i) (cells_of z)) i) kk W.placed;
+          cells = record {
+            sound = subst (λ k. Sound m k (value_at (cells_of z) (set words 0 (n + 1)))) kk (subst (λ h. Sound m keys h) vv W.cells.sound);
+            placed = subst (λ k. (i : ℕ) → k i ≢ 0 → IsPlaced (cells_of z) k (m.home (k i) (cells_of z)) i) kk W.cells.placed;
+          };
           each = subst (λ c. (i : ℕ) (u : ViewOf X) → IsLive (set views j w) i u → Fits m z c (key_at (cells_of z) (set words 0 (n + 1))) (value_at (cells_of z) (set words 0 (n + 1))) u) is
               (subst (λ k. (i : ℕ) (u : ViewOf X) → IsLive (set views j w) i u → Fits m z (n + 1) k (value_at (cells_of z) (set words 0 (n + 1))) u) kk
               (subst (λ h. (i : ℕ) (u : ViewOf X) → IsLive (set views j w) i u → Fits m z (n + 1) keys h u) vv
@@ -145,8 +147,7 @@ module _ {X : Type 0} (m : Meaning X) (z : Sizes) (words : List ℕ) (views : Li
     splits = record {
       allowed = W.allowed;
       long = W.long;
-      sound = W.sound;
-      placed = W.placed;
+      cells = W.cells;
       each = each_snoc (Fits m z n keys values) (set views j old) new
           (each_set (Fits m z n keys values) views j old W.each (λ _. record { sized = F.sized; stands = F.stands; over = F.over; probes = F.probes; noted = F.noted }))
           (record { sized = F.sized; stands = F.stands; over = λ is. absurd (true≢false (sym is)); probes = λ k s e. absurd (None_not e); noted = F.noted });
@@ -185,8 +186,7 @@ module _ {X : Type 0} (m : Meaning X) (z : Sizes) (words : List ℕ) (views : Li
     joins = record {
       allowed = W.allowed;
       long = W.long;
-      sound = W.sound;
-      placed = W.placed;
+      cells = W.cells;
       each = each_set (Fits m z n keys values) (set views j both) other ended
           (each_set (Fits m z n keys values) views j both W.each (λ _. record {
             sized = F.sized;
@@ -231,13 +231,15 @@ module _ {X : Type 0} (m : Meaning X) (L : IsLawful m) (z : Sizes) (allowed : Is
       record {
         allowed = allowed;
         long = length-replicate (1 + cells_of z + cells_of z) 0;
-        sound = record {
-          once = λ i k has. absurd (has (zero_key i));
-          stand = λ i has. absurd (has (zero_key i));
-          notes = λ i has. absurd (has (zero_value i));
-          apart = λ i k t a. absurd (stands_key m L keys0 i t a (zero_key i));
+        cells = record {
+          sound = record {
+            once = λ i k has. absurd (has (zero_key i));
+            stand = λ i has. absurd (has (zero_key i));
+            notes = λ i has. absurd (has (zero_value i));
+            apart = λ i k t a. absurd (stands_key m L keys0 i t a (zero_key i));
+          };
+          placed = λ i has. absurd (has (zero_key i));
         };
-        placed = λ i has. absurd (has (zero_key i));
         each = only;
         enough = subst (λ c. filled keys0 (cells_of z) + (0 + 0) ≤ z.share * min c z.lines) (sym zero_count) (let f = none_filled keys0 (cells_of z) zero_key in omega arith);
         drawn = λ k.

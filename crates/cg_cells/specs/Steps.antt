@@ -3,7 +3,7 @@ use Rattle.std.specs.Prelude.{◌≡◌, ◌≢◌, ◌⊎◌, ℕ, ◌+◌, ◌
 use Rattle.cg_cells.specs.Meaning.{Meaning}
 use Rattle.cg_cells.specs.Index.{place}
 use Rattle.cg_cells.specs.Views.{Sizes, ViewOf, cells_of, knows, first_view, after_split, split_off, after_meet, ended, after_draw, after_claim, after_pass, after_note, after_look, after_read}
-use Rattle.cg_cells.specs.Table.{IsLive, key_at, value_at}
+use Rattle.cg_cells.specs.Table.{IsAllowed, IsLive, key_at, value_at}
 
 -- a table's words, and the views of all its passes
 pub record Table (X : Type 0) : Type 0 where
@@ -114,3 +114,23 @@ is_close (close j) = true
 abbrev pub IsOpen : List Step → Type 0
 IsOpen [] = Unit {0}
 IsOpen (x ∷ xs) = (is_close x ≡ false) × IsOpen xs
+
+-- some list of steps that closes nothing leads to the table from the start of one of these sizes
+pub record IsReachable {X : Type 0} (m : Meaning X) (z : Sizes) (t : Table X) : Type 0 where
+  pub allowed : IsAllowed z
+  pub steps : List Step
+  pub opened : IsOpen steps
+  pub run : Run m z (opening z) steps t
+
+module _ {X : Type 0} where
+  -- the table has these key words and value words
+  abbrev pub HasCells : Table X → List ℕ → List ℕ → Type 0
+  HasCells t keys values = (count : ℕ) × (t.words ≡ count ∷ keys ++ values)
+
+  -- a live pass of the table has this view
+  abbrev pub HasPass : Table X → ViewOf X → Type 0
+  HasPass t v = (j : ℕ) × IsLive t.views j v
+
+  -- these key words and value words, and this view of a live pass, are those of a table to which some list of steps leads
+  abbrev pub IsOutcome : Meaning X → Sizes → List ℕ → List ℕ → ViewOf X → Type 0
+  IsOutcome m z keys values v = (t : Table X) × IsReachable m z t × HasCells t keys values × HasPass t v

@@ -68,6 +68,13 @@ module _ {X : Type 0} (m : Meaning X) where
   HasPassed keys size key n = (j : ℕ) → j < n
       → (keys (place size (m.home key size) j) ≢ 0) × (keys (place size (m.home key size) j) ≢ key)
 
+  -- What holds of the key words and the value words: they are sound, and each key stands at its home or after it, with no
+  -- empty cell between
+  pub record SoundAndPlaced (size : ℕ) (words : List ℕ) : Type 0 where
+    pub sound : Sound m (key_at size words) (value_at size words)
+    pub placed : (i : ℕ) → key_at size words i ≢ 0
+        → IsPlaced size (key_at size words) (m.home (key_at size words i) size) i
+
   -- What the rule says of a live view, by the counter, the keys and the values
   pub record Fits (z : Sizes) (count : ℕ) (keys values : ℕ → ℕ) (v : ViewOf X) : Type 0 where
     pub sized : v.sizes ≡ z
@@ -84,10 +91,7 @@ module _ {X : Type 0} (m : Meaning X) where
   pub record Whole (z : Sizes) (words : List ℕ) (views : List (ViewOf X)) : Type 0 where
     pub allowed : IsAllowed z
     pub long : length words ≡ 1 + cells_of z + cells_of z
-    pub sound : Sound m (key_at (cells_of z) words) (value_at (cells_of z) words)
-    -- each key stands at its home or after it, with no empty cell between
-    pub placed : (i : ℕ) → key_at (cells_of z) words i ≢ 0
-        → IsPlaced (cells_of z) (key_at (cells_of z) words) (m.home (key_at (cells_of z) words i) (cells_of z)) i
+    pub cells : SoundAndPlaced (cells_of z) words
     pub each : (j : ℕ) (v : ViewOf X) → IsLive views j v
         → Fits z (slice_index words 0) (key_at (cells_of z) words) (value_at (cells_of z) words) v
     -- the cells that are full, and the claims to spare, are paid for by the lines that were drawn

@@ -4,14 +4,20 @@ use Rattle.atomic_table.specs.Table.{State, Me, Step}
 use Rattle.cg_shared.specs.declared.view.Plan.{Plan}
 use Rattle.cg_cells.specs.Meaning.{Meaning, Has}
 use Rattle.cg_cells.specs.Views.{Sizes, ViewOf, cells_of, knows, searched, after_draw, after_look, after_read, after_claim, after_pass, after_note}
-use Rattle.cg_cells.specs.Table.{Whole, Sure}
+use Rattle.cg_cells.specs.Table.{Sure}
+use Rattle.cg_cells.specs.Steps.{Table, IsReachable}
 
 abbrev pub sizes_of : Plan → Sizes
 sizes_of p = record { lines = p.lines; share = p.share; passes = p.passes }
 
+-- a table's words and the views of its passes
+abbrev pub table_of : {S X : Type 0} → State S (ViewOf X) → Table X
+table_of s = record { words = s.words; views = s.views }
+
 module _ {S X : Type 0} (m : Meaning X) where
+  -- The rule: some list of steps that closes nothing leads to this table from the start
   abbrev pub Kept : Plan → State S (ViewOf X) → Type 0
-  Kept p s = Whole m (sizes_of p) s.words s.views
+  Kept p s = IsReachable m (sizes_of p) (table_of s)
 
   abbrev pub Drew : Step S → Me S (ViewOf X) → ℕ → Me S (ViewOf X) → Type 0
   Drew st me n me' = (me'.1 ≡ me.1) × (me'.0 ≡ after_draw me.0 n) × Sure m me'.0

@@ -8,7 +8,7 @@ use atomic_table::{Join, Play, Split, TableRule};
 use cg_cells::Facts;
 use std::marker::{Brand, PhantomData};
 
-/// The rule of the words and of the views of all passes.
+/// The rule of the words and of the views of all passes: some list of steps leads to them from the start.
 pub struct Rule<F> {
     of: PhantomData<F>,
 }

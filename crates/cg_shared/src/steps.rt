@@ -1,5 +1,5 @@
 // Each step on a table's words, by a seat.
-ghost use Rattle.std.specs.Prelude.{◌≡◌, ◌≢◌, ◌⊎◌, ℕ, suc, ◌+◌, ◌<◌, ◌≤◌, false, [], ◌∷◌, Some, IsSome};
+ghost use Rattle.std.specs.Prelude.{◌≡◌, ◌≢◌, ◌⊎◌, ℕ, suc, ◌+◌, ◌<◌, ◌≤◌, false, [], ◌∷◌, None, Some, IsSome};
 ghost use Rattle.cg_cells.specs.Meaning.{Has, note_for};
 ghost use Rattle.cg_cells.specs.Parts.{names_of};
 ghost use Rattle.cg_cells.specs.Store.{Spends};
@@ -179,6 +179,7 @@ pub(crate) fn meet<F: Facts>(
     requires table { (seat.old.table_id ≡ shared.now.table_id) × (other.table_id ≡ shared.now.table_id) × (0 < shared.now.table_id.words) }
     requires live { (seat.old.me.0.gone ≡ false) × (other.me.0.gone ≡ false) }
     requires free { other.me.1 ≡ [] }
+    requires search { (seat.old.me.0.probe ≡ None) × (other.me.0.probe ≡ None) }
     ensures same { (seat.new.table_id ≡ seat.old.table_id) × (seat.new.me.1 ≡ seat.old.me.1) }
     ensures view { seat.new.me.0 ≡ after_meet seat.old.me.0 other.me.0 }
     ensures sure { Sure F.meaning seat.new.me.0 }
