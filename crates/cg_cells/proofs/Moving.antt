@@ -1,5 +1,5 @@
 -- The table at its start, draws, and passes that are split off and met keep the rule.
-use Rattle.std.proofs.Common.{◌≡◌, ◌≢◌, ℕ, zero, suc, ◌+◌, ◌-◌, ◌*◌, ◌<◌, ◌≤◌, min, List, [], ◌∷◌, ◌++◌, set, replicate, Bool, true, false, refl, sym, ap, ◌∙◌, subst, ⊎_elim, arith, true≢false, get_or-set_same, lt-ltb, le-ltb, length-set}
+use Rattle.std.proofs.Common.{◌≡◌, ◌≢◌, ℕ, zero, suc, ◌+◌, ◌-◌, ◌*◌, ◌^◌, ◌<◌, ◌≤◌, min, List, [], ◌∷◌, ◌++◌, set, replicate, Bool, true, false, refl, sym, ap, ◌∙◌, subst, ⊎_elim, arith, true≢false, get_or-set_same, lt-ltb, le-ltb, length-set}
 use Rattle.std.specs.Prelude.{slice_index, if◌then◌else◌, nat_lt, ◌||◌}
 use Rattle.std.proofs.lemmas.List.{length-replicate}
 use Rattle.std.proofs.lemmas.Bool.Decides.{nat_tests}
@@ -18,10 +18,10 @@ use Rattle.cg_cells.proofs.Rows.{keys_else, values_else, no_keys, no_values}
 use Rattle.cg_cells.proofs.Totals.{each_set, each_snoc, at_else, total_set, total_end, total_at, total_snoc, times_append, times_snoc}
 
 -- a table has no more lines than cells
-pub lines_few : (z : Sizes) → IsAllowed z → z.lines ≤ 67108864
+pub lines_few : (z : Sizes) → IsAllowed z → z.lines ≤ 2 ^ 26
 lines_few z allowed = by_share z.share refl
   where
-    by_share : (s : ℕ) → z.share ≡ s → z.lines ≤ 67108864
+    by_share : (s : ℕ) → z.share ≡ s → z.lines ≤ 2 ^ 26
     by_share zero e = let a = allowed.cells.0 in let b : z.lines * z.share ≡ 0 = ap (λ x. z.lines * x) e ∙ mul-zero z.lines in absurd (omega arith)
     by_share (suc s) e =
         let a = allowed.cells.1 in

@@ -35,18 +35,18 @@ module _ {X : Type 0} (m : Meaning X) (L : IsLawful m) (z : Sizes) where
   step_keeps s t (check j) opened W (v, at, e) = from _ t e W
   step_keeps s t (look j id) opened W (v, at, (thing, known, e)) = from _ t e (looks m L z s.words s.views W j v at id thing known)
   step_keeps s t (read j id) opened W (v, at, (thing, known, e)) = from _ t e (reads m L z s.words s.views W j v at id thing known)
-  step_keeps s t (probe j key) opened W (v, at, (thing, steps, is_key, spare, spells, goes, how)) = ⊎_elim
+  step_keeps s t (probe j key) opened W (v, at, (thing, steps, S, spells, how)) = ⊎_elim
       (λ empty. from _ t empty.1 W)
       (λ full. ⊎_elim
-      (λ same. from _ t same.1 (found m L z s.words s.views W j v at key steps thing is_key spare spells goes same.0))
-      (λ other. from _ t other.2 (passes m L z s.words s.views W j v at key steps thing is_key spare spells goes other.0 other.1))
+      (λ same. from _ t same.1 (found m L z s.words s.views W j v at key steps thing S.is_key S.spare spells S.goes same.0))
+      (λ other. from _ t other.2 (passes m L z s.words s.views W j v at key steps thing S.is_key S.spare spells S.goes other.0 other.1))
       full)
       how
-  step_keeps s t (claim j key) opened W (v, at, (thing, steps, is_key, spare, spells, goes, how)) = ⊎_elim
-      (λ new. from _ t new.1 (won m L z s.words s.views W j v at key steps thing is_key spare spells goes new.0))
+  step_keeps s t (claim j key) opened W (v, at, (thing, steps, S, spells, how)) = ⊎_elim
+      (λ new. from _ t new.1 (won m L z s.words s.views W j v at key steps thing S.is_key S.spare spells S.goes new.0))
       (λ full. ⊎_elim
-      (λ same. from _ t same.1 (found m L z s.words s.views W j v at key steps thing is_key spare spells goes same.0))
-      (λ other. from _ t other.2 (passes m L z s.words s.views W j v at key steps thing is_key spare spells goes other.0 other.1))
+      (λ same. from _ t same.1 (found m L z s.words s.views W j v at key steps thing S.is_key S.spare spells S.goes same.0))
+      (λ other. from _ t other.2 (passes m L z s.words s.views W j v at key steps thing S.is_key S.spare spells S.goes other.0 other.1))
       full)
       how
   step_keeps s t (note j id value) opened W (v, at, (thing, due, known, known_value, must, e)) = from _ t e

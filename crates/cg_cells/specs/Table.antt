@@ -1,5 +1,5 @@
 -- The rule of the words of a shared table and of the views of its passes.
-use Rattle.std.specs.Prelude.{◌≡◌, ◌≢◌, ◌⊎◌, ℕ, ◌+◌, ◌-◌, ◌*◌, ◌<◌, ◌≤◌, min, List, [], ◌∷◌, length, true, false, Some, if◌then◌else◌, nat_lt, ◌==◌, slice_index}
+use Rattle.std.specs.Prelude.{◌≡◌, ◌≢◌, ◌⊎◌, ℕ, ◌+◌, ◌-◌, ◌*◌, ◌^◌, ◌<◌, ◌≤◌, min, List, [], ◌∷◌, length, true, false, Some, if◌then◌else◌, nat_lt, ◌==◌, slice_index}
 use mathlib.Core.Option.{some}
 use lib.ListN.{get_elem?}
 use Rattle.cg_cells.specs.Meaning.{Meaning, Has, Stands, Sound, IsInjective, IsReal}
@@ -9,7 +9,7 @@ use Rattle.cg_cells.specs.Views.{Sizes, ViewOf, cells_of, knows}
 
 -- what a table may be started with
 pub record IsAllowed (z : Sizes) : Type 0 where
-  pub cells : (1 ≤ cells_of z) × (cells_of z ≤ 67108864)
+  pub cells : (1 ≤ cells_of z) × (cells_of z ≤ 2 ^ 26)
   pub passes : (1 ≤ z.passes) × (z.passes ≤ 65536)
 
 -- The words of a table are a counter, then the key words, then the value words
@@ -114,6 +114,6 @@ module _ {X : Type 0} (m : Meaning X) where
     -- no line was drawn twice, and all were drawn where no other pass may have drawn and none is left
     pub once : (n : ℕ) → times n v.tickets ≤ (if nat_lt n v.sizes.lines then 1 else 0)
     pub all : v.over ≡ true → passes_of v ≡ v.sizes.passes → HasAllTickets v
-    pub few_spare : v.spare ≤ 67108864
+    pub few_spare : v.spare ≤ 2 ^ 26
     pub few_heirs : v.heirs ≤ 65536
     pub few_passes : passes_of v ≤ v.sizes.passes

@@ -13,7 +13,7 @@ use Rattle.cg_cells.specs.Meaning.{Meaning, Has, IsLawful}
 use Rattle.cg_cells.specs.Index.{place}
 use Rattle.cg_cells.specs.Views.{Sizes, ViewOf, knows, cells_of, searched, after_draw, after_look, after_read, after_claim, after_pass, after_note, after_split, split_off, after_meet, ended}
 use Rattle.cg_cells.specs.Table.{Whole, Sure, IsLive, key_at, value_at}
-use Rattle.cg_cells.specs.Steps.{Step, split, join, draw, check, look, read, probe, claim, note, Leads, GoesOn, is_close}
+use Rattle.cg_cells.specs.Steps.{Table, Step, split, join, draw, check, look, read, probe, claim, note, Leads, Finds, IsSearching, is_close}
 use Rattle.cg_cells.proofs.Levels.{same_Some}
 use Rattle.cg_cells.proofs.Notes.{some_is, is_some}
 use Rattle.cg_cells.proofs.Rows.{word_again, key_in, value_in}
@@ -22,6 +22,7 @@ use Rattle.cg_cells.proofs.Fitting.{is_sure, known_inside}
 use Rattle.cg_cells.proofs.Keeping.{looked_key, looked_spells, value_is, noted_value, claim_inside, goes_on}
 use Rattle.cg_cells.proofs.Moving.{draw_room, lines_few}
 use Rattle.cg_cells.proofs.Runs.{whole_of, one_more}
+use Rattle.cg_shared.specs.Searches.{EndsAt, GoesPast}
 use Rattle.cg_shared.specs.Plays.{sizes_of, table_of, Kept, Checked, Drew, Looked, Read, Probed, Claimed, Noted}
 
 module _ {S X : Type 0} (m : Meaning X) (L : IsLawful m) (p : Plan) (slots id : ℕ) (me : Me S (ViewOf X)) (alive : me.0.gone ≡ false) where
@@ -134,72 +135,94 @@ module _ {S X : Type 0} (m : Meaning X) (L : IsLawful m) (p : Plan) (slots id : 
                 ),
           )))
 
-  module _ (key steps : ℕ) (is_key : key ≢ 0) (spare : 1 ≤ me.0.spare) (spells : IsSome (m.spells key (knows me.0))) (goes_at : GoesOn me.0.probe key steps) where
+  module _ (key steps : ℕ) (Q : IsSearching m me.0 key steps) where
     t : X
-    t = (some_is _ spells).0
+    t = (some_is _ Q.spells).0
 
     spelt : m.spells key (knows me.0) ≡ Some t
     unfolding t
-    spelt = (some_is _ spells).1
+    spelt = (some_is _ Q.spells).1
 
     abbrev c : ℕ
-    c = place (cells_of (sizes_of p)) (m.home key (cells_of (sizes_of p))) steps
+    c = place size (m.home key size) steps
 
-    agrees : (cell' : ℕ) (t' : X) → 1 + c ≡ 1 + cell' → m.spells key (knows me.0) ≡ Some t' → after_claim me.0 c t ≡ after_claim me.0 cell' t'
-    agrees cell' t' at_word e = let here : c ≡ cell' = omega arith in let same : t ≡ t' = same_Some (sym spelt ∙ e) in λ i. after_claim me.0 (here i) (same i)
+    -- the pass is sure of the view after it has claimed the key's cell
+    ends : (cell' : ℕ) → 1 + c ≡ 1 + cell' → Sure m (after_claim me.0 c t) → EndsAt m me.0 key cell' (after_claim me.0 c t)
+    ends cell' at_word sure t' e =
+        let here : c ≡ cell' = omega arith in
+        let same : t ≡ t' = same_Some (sym spelt ∙ e) in
+        ((λ i. after_claim me.0 (here i) (same i)), sure)
 
     module _ (s : State S (ViewOf X)) (K : Kept m p s) (live : IsLive s.views id me.0) where
       abbrev n : ℕ
       n = slice_index s.words (1 + c)
 
-      is : key_at (cells_of (sizes_of p)) s.words c ≡ slice_index s.words (1 + c)
-      is = key_in (cells_of (sizes_of p)) s.words c (claim_inside m L (sizes_of p) s.words s.views (W s K live) id me.0 live key steps t is_key spare spelt goes_at)
+      is : key_at size s.words c ≡ slice_index s.words (1 + c)
+      is = key_in size s.words c (claim_inside m L z s.words s.views (W s K live) id me.0 live key steps t Q.is_key Q.spare spelt Q.goes)
 
-      -- another key is there
-      further : slice_index s.words (1 + c) ≢ 0 → slice_index s.words (1 + c) ≢ key → searched me.0.probe + 1 < cells_of me.0.sizes
-      further full other = subst (λ y. searched me.0.probe + 1 < cells_of y) (sym ((W s K live).each id me.0 live).sized)
-          (goes_on m L (sizes_of p) s.words s.views (W s K live) id me.0 live key steps t is_key spare spelt goes_at (λ e. full (sym is ∙ e)) (λ e. other (sym is ∙ e)))
+      -- the words stay, and the view becomes w
+      still : (w : ViewOf X) → ◌≡◌ {A = Table X} (record { words = set s.words (1 + c) n; views = set s.views id w }) (record { words = s.words; views = set s.views id w })
+      still w = λ i. record { words = word_again s.words (1 + c) i; views = set s.views id w }
 
-      abbrev Found : ℕ → Me S (ViewOf X) → Type 0
-      Found sought = Probed m sought (step slots (1 + c) 0 0 none) me (slice_index s.words (1 + c))
+      module _ (full : slice_index s.words (1 + c) ≢ 0) (other : slice_index s.words (1 + c) ≢ key) where
+        -- another key is there
+        past : GoesPast me.0 key (after_pass me.0 key)
+        past = (
+          refl,
+          subst (λ y. searched me.0.probe + 1 < cells_of y) (sym ((W s K live).each id me.0 live).sized)
+              (goes_on m L z s.words s.views (W s K live) id me.0 live key steps t Q.is_key Q.spare spelt Q.goes (λ e. full (sym is ∙ e)) (λ e. other (sym is ∙ e))),
+        )
+
+        other_key : Finds m z (table_of s) id key me.0 c t (record { words = set s.words (1 + c) n; views = set s.views id (after_pass me.0 key) })
+        other_key = inr ((λ e. full (sym is ∙ e)), (λ e. other (sym is ∙ e)), still (after_pass me.0 key))
+
+      -- this key is there
+      this_key : slice_index s.words (1 + c) ≡ key → Finds m z (table_of s) id key me.0 c t (record { words = set s.words (1 + c) n; views = set s.views id (after_claim me.0 c t) })
+      this_key same = inl (is ∙ same, still (after_claim me.0 c t))
+
+      abbrev Loaded : Me S (ViewOf X) → Type 0
+      Loaded = Probed m key (step slots (1 + c) 0 0 none) me n
 
       -- a load of the word, by what it finds
-      probed : Goes s (1 + c) (slice_index s.words (1 + c)) (Probed m key (step slots (1 + c) 0 0 none) me (slice_index s.words (1 + c)))
-      probed = dite (ℕ_discrete (slice_index s.words (1 + c)) 0)
-          (λ empty. goes s K live (1 + c) n me.0 (Found key) (probe id key) refl alive
-          (me.0, live, (t, steps, is_key, spare, spelt, goes_at, inl (is ∙ empty, λ i. record { words = word_again s.words (1 + c) i; views = set_again s.views id me.0 live.0 i })))
-          (λ sure. (refl, λ cell' t' at_word e. ((λ _. refl), (λ same. absurd (is_key (sym same ∙ empty))), λ full. absurd (full empty)))))
-          (λ full. dite (ℕ_discrete (slice_index s.words (1 + c)) key)
-          (λ same. goes s K live (1 + c) n (after_claim me.0 c t) (Found key) (probe id key) refl alive
-          (me.0, live, (t, steps, is_key, spare, spelt, goes_at, inr (inl (is ∙ same, λ i. record { words = word_again s.words (1 + c) i; views = set s.views id (after_claim me.0 c t) }))))
-          (λ sure. (refl, λ cell' t' at_word e. ((λ empty. absurd (full empty)), (λ _. (agrees cell' t' at_word e, sure)), λ _ other. absurd (other same)))))
-          (λ other. goes s K live (1 + c) n (after_pass me.0 key) (Found key) (probe id key) refl alive
-          (me.0, live, (t, steps, is_key, spare, spelt, goes_at, inr (inr ((λ e. full (sym is ∙ e)), (λ e. other (sym is ∙ e)), λ i. record { words = word_again s.words (1 + c) i; views = set s.views id (after_pass me.0 key) }))))
-          (λ sure. (refl, λ cell' t' at_word e. ((λ empty. absurd (full empty)), (λ same. absurd (other same)), λ _ _. (refl, further full other))))))
+      probed : Goes s (1 + c) n Loaded
+      probed = dite (ℕ_discrete n 0)
+          (λ empty. goes s K live (1 + c) n me.0 Loaded (probe id key) refl alive
+          (me.0, live, (t, steps, Q, spelt, inl (is ∙ empty, λ i. record { words = word_again s.words (1 + c) i; views = set_again s.views id me.0 live.0 i })))
+          (λ sure. (refl, λ cell' at_word. ((λ _. refl), (λ same. absurd (Q.is_key (sym same ∙ empty))), λ full. absurd (full empty)))))
+          (λ full. dite (ℕ_discrete n key)
+          (λ same. goes s K live (1 + c) n (after_claim me.0 c t) Loaded (probe id key) refl alive
+          (me.0, live, (t, steps, Q, spelt, inr (this_key same)))
+          (λ sure. (refl, λ cell' at_word. ((λ empty. absurd (full empty)), (λ _. ends cell' at_word sure), λ _ other. absurd (other same)))))
+          (λ other. goes s K live (1 + c) n (after_pass me.0 key) Loaded (probe id key) refl alive
+          (me.0, live, (t, steps, Q, spelt, inr (other_key full other)))
+          (λ sure. (refl, λ cell' at_word. ((λ empty. absurd (full empty)), (λ same. absurd (other same)), λ _ _. past full other)))))
 
-      abbrev Won : Me S (ViewOf X) → Type 0
-      Won = Claimed m (step slots (1 + c) 0 key none) me (slice_index s.words (1 + c))
+      abbrev Exchanged : Me S (ViewOf X) → Type 0
+      Exchanged = Claimed m (step slots (1 + c) 0 key none) me n
 
       -- an exchange of 0 for the key, by what it finds
-      claimed : Goes s (1 + c) (either (eqb (slice_index s.words (1 + c)) 0) key (slice_index s.words (1 + c))) (Claimed m (step slots (1 + c) 0 key none) me (slice_index s.words (1 + c)))
-      claimed = exchanged (slice_index s.words (1 + c)) 0 key (λ x. Goes s (1 + c) x Won)
-          (λ empty. goes s K live (1 + c) key (after_claim me.0 c t) Won (claim id key) refl alive
-          (me.0, live, (t, steps, is_key, spare, spelt, goes_at, inl (is ∙ empty, refl)))
-          (λ sure. (refl, λ cell' t' at_word e. ((λ _. (agrees cell' t' at_word e, sure)), λ full. absurd (full empty)))))
-          (λ full. dite (ℕ_discrete (slice_index s.words (1 + c)) key)
-          (λ same. goes s K live (1 + c) n (after_claim me.0 c t) Won (claim id key) refl alive
-          (me.0, live, (t, steps, is_key, spare, spelt, goes_at, inr (inl (is ∙ same, λ i. record { words = word_again s.words (1 + c) i; views = set s.views id (after_claim me.0 c t) }))))
-          (λ sure. (refl, λ cell' t' at_word e. ((λ _. (agrees cell' t' at_word e, sure)), λ _ other. absurd (other same)))))
-          (λ other. goes s K live (1 + c) n (after_pass me.0 key) Won (claim id key) refl alive
-          (me.0, live, (t, steps, is_key, spare, spelt, goes_at, inr (inr ((λ e. full (sym is ∙ e)), (λ e. other (sym is ∙ e)), λ i. record { words = word_again s.words (1 + c) i; views = set s.views id (after_pass me.0 key) }))))
-          (λ sure. (refl, λ cell' t' at_word e. ((λ w. absurd (⊎_elim full other w)), λ _ _. (refl, further full other))))))
+      claimed : Goes s (1 + c) (either (eqb n 0) key n) Exchanged
+      claimed = exchanged n 0 key (λ x. Goes s (1 + c) x Exchanged)
+          (λ empty. goes s K live (1 + c) key (after_claim me.0 c t) Exchanged (claim id key) refl alive
+          (me.0, live, (t, steps, Q, spelt, inl (is ∙ empty, refl)))
+          (λ sure. (refl, λ cell' at_word. ((λ _. ends cell' at_word sure), λ full. absurd (full empty)))))
+          (λ full. dite (ℕ_discrete n key)
+          (λ same. goes s K live (1 + c) n (after_claim me.0 c t) Exchanged (claim id key) refl alive
+          (me.0, live, (t, steps, Q, spelt, inr (this_key same)))
+          (λ sure. (refl, λ cell' at_word. ((λ _. ends cell' at_word sure), λ _ other. absurd (other same)))))
+          (λ other. goes s K live (1 + c) n (after_pass me.0 key) Exchanged (claim id key) refl alive
+          (me.0, live, (t, steps, Q, spelt, inr (other_key full other)))
+          (λ sure. (refl, λ cell' at_word. ((λ w. absurd (⊎_elim full other w)), λ _ _. past full other)))))
 
-    pub probe_allowed : (cell sought : ℕ) → cell ≡ place (cells_of (sizes_of p)) (m.home key (cells_of (sizes_of p))) steps → key ≡ sought → Allows (Kept m p) slots id me (1 + cell) (λ n. n) (Probed m sought (step slots (1 + cell) 0 0 none) me)
+    pub probe_allowed : (cell sought : ℕ) → cell ≡ place (cells_of (sizes_of p)) (m.home key (cells_of (sizes_of p))) steps → key ≡ sought
+        → Allows (Kept m p) slots id me (1 + cell) (λ n. n) (Probed m sought (step slots (1 + cell) 0 0 none) me)
     probe_allowed cell sought is_place same = subst (λ k. Allows (Kept m p) slots id me (1 + cell) (λ n. n) (Probed m k (step slots (1 + cell) 0 0 none) me)) same
         (subst (λ y. Allows (Kept m p) slots id me (1 + y) (λ n. n) (Probed m key (step slots (1 + y) 0 0 none) me)) (sym is_place) (λ s K len at fits. probed s K (at, alive)))
 
-    pub claim_allowed : (cell : ℕ) → cell ≡ place (cells_of (sizes_of p)) (m.home key (cells_of (sizes_of p))) steps → Allows (Kept m p) slots id me (1 + cell) (λ n. either (eqb n 0) key n) (Claimed m (step slots (1 + cell) 0 key none) me)
-    claim_allowed cell is_place = subst (λ y. Allows (Kept m p) slots id me (1 + y) (λ n. either (eqb n 0) key n) (Claimed m (step slots (1 + y) 0 key none) me)) (sym is_place) (λ s K len at fits. claimed s K (at, alive))
+    pub claim_allowed : (cell : ℕ) → cell ≡ place (cells_of (sizes_of p)) (m.home key (cells_of (sizes_of p))) steps
+        → Allows (Kept m p) slots id me (1 + cell) (λ n. either (eqb n 0) key n) (Claimed m (step slots (1 + cell) 0 key none) me)
+    claim_allowed cell is_place = subst (λ y. Allows (Kept m p) slots id me (1 + y) (λ n. either (eqb n 0) key n) (Claimed m (step slots (1 + y) 0 key none) me)) (sym is_place)
+        (λ s K len at fits. claimed s K (at, alive))
 
   module _ (cell value : ℕ) (sized : me.0.sizes ≡ sizes_of p) (t : X) (known : knows me.0 cell ≡ Some t) (known_value : IsSome (knows me.0 value)) (due : m.note_of t ≡ knows me.0 value) where
     abbrev word : ℕ
