@@ -3,7 +3,7 @@ use Rattle.std.specs.Prelude.{if◌then◌else◌, nat_lt}
 use Rattle.cg_cells.specs.Table.{times}
 use Rattle.cg_cells.proofs.Tickets.{few}
 use Rattle.cg_shared.specs.Passes.{PassOf}
-use Rattle.cg_shared.proofs.pass.Pass.tickets.Goals as goal
+use Rattle.cg_shared.proofs.pass.Pass.each_ticket_once.Goals as goal
 
 pub returns-clause-few : goal.returns-clause-few
 returns-clause-few g c = few _ _
