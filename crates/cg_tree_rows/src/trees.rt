@@ -7,6 +7,87 @@ use cg_form::{Form, Options, SlowFault, canonical_slow, compare_structure, le_sl
 use std::alloc::Global;
 use std::mem;
 
+/// Calls on trees, each with its answer.
+pub const ROWS: &str = "\
+le { | } ; 0 => true, true
+le { 0 | } ; 1 => true, true
+le { 0 | 1 } ; 1/2^1 => true, true
+le { 1/2^1 | 1 } ; 3/2^2 => true, true
+le { -1 | 1 } ; { | } => true, true
+le { { 0 | 0 } | { 0 | 0 } } ; 0 => true, true
+le { 0 | 0 } ; 0 => false, false
+le { 0 | 0 } ; { 0 | 0 } => true, true
+le { 1 | -1 } ; 0 => false, false
+le { 1 | -1 } ; 1 => false, false
+le { 1 | -1 } ; 2 => true, false
+le { 2 | 1 } ; 3/2^1 => false, false
+le { 2 | 1 } ; 1/2^1 => false, true
+le { 0 | { 0 | 0 } } ; 0 => false, true
+le { 0 | { 0 | 0 } } ; { 0 | 0 } => false, false
+le { 0 | { 0 | 0 } } ; 1/2^6 => true, false
+le { 0 | { 0 { 0 | 0 } | 0 } } ; { 0 | 0 } => false, true
+le { { 0 | 0 } | 0 } ; 0 => true, false
+le { 0 | { 0 | -2 } } ; 0 => false, true
+le { 0 | { 0 | -2 } } ; { 0 | { 0 | 0 } } => true, false
+le 18446744073709551615 ; { 0 | 0 } => false, true
+le -18446744073709551615 ; { 0 | 0 } => true, false
+le 18446744073709551615 ; { 18446744073709551615 | 18446744073709551615 } => false, false
+le 18446744073709551615 ; { 18446744073709551615 | } => true, false
+le -18446744073709551615 ; { | -18446744073709551615 } => false, true
+le { 18446744073709551615 | } ; { { 18446744073709551615 | } | } => true, false
+order -1 ; 1/2^1 => Less, Greater, Equal
+order 1/2^1 ; 1 => Less, Greater, Equal
+order 18446744073709551615 ; { | } => Less, Greater, Equal
+order { | } ; { | 0 } => Less, Greater, Equal
+order { | 5 } ; { 0 | } => Less, Greater, Equal
+order { 0 | } ; { 0 | 0 } => Less, Greater, Equal
+order { 0 | 5 } ; { 0 1 | } => Less, Greater, Equal
+order { 0 1 | } ; { 1 | } => Less, Greater, Equal
+order { 1 | -1 } ; { { | } | -2 } => Less, Greater, Equal
+form { | } ; 0 => the same
+form { { { | } | } | } ; 2 => the same
+form { { 1 | } | } ; 3 => the same
+form { | { | -1 } } ; -3 => the same
+form { 0 | 1 } ; 1/2^1 => the same
+form { 1/2^1 | } ; 1 => the same
+form { 1/2^2 | 1/2^1 1 } ; 3/2^3 => the same
+form { -1 | 3 } ; 0 => the same
+form { 0 | { 2 | -1 } 1 } ; 1/2^1 => the same
+form { 2 1 | 0 } ; { 2 | 0 } => the same
+form { 1 1 | -1 -1 } ; { 1 | -1 } => the same
+form { 1 { 0 | } | 0 } ; { 1 | 0 } => the same
+form { { 0 | 1 } 0 | 0 } ; { 1/2^1 | 0 } => the same
+form { { 3 | 0 } 1 | -1 } ; { 1 { 3 | 0 } | -1 } => the same
+form { 1 | { 0 | -3 } -1 } ; { 1 | -1 { 0 | -3 } } => the same
+form { { 0 | 0 } | { 0 | 0 } } ; 0 => the same
+form { { 0 | 0 } | { 0 | } } ; 0 => the same
+form { { | } | { | } } ; { 0 | 0 } => the same
+form { 0 { 0 | 0 } | { 0 | 0 } 0 } ; { 0 { 0 | 0 } | 0 { 0 | 0 } } => the same
+form { 0 | { 0 | 0 } } ; { 0 | { 0 | 0 } } => the same
+form { { 0 | 0 } | 0 } ; { { 0 | 0 } | 0 } => the same
+form { { 0 | { 0 | 0 } } | { 0 { 0 | 0 } | 0 } } ; { 0 | { 0 { 0 | 0 } | 0 } } => the same
+form { { 5 | { 0 { 0 | 0 } | 0 } } | 0 } ; { 0 { 0 | 0 } | 0 } => the same
+form { 0 | { { 0 | 0 { 0 | 0 } } | -5 } } ; { 0 | 0 { 0 | 0 } } => the same
+form { { 5 | { 0 { 0 | 0 } | 0 } } | 3 } ; 1 => the same
+form { 18446744073709551615 | -18446744073709551615 } ; { 18446744073709551615 | -18446744073709551615 } => the same
+form { 18446744073709551615 | { 18446744073709551615 | 0 } } ; \
+    { 18446744073709551615 | { 18446744073709551615 | 0 } } => the same
+form { 18446744073709551615 | } ; 0 => ! range
+form { | -18446744073709551615 } ; 0 => ! range
+form { { 18446744073709551615 | } | 0 } ; 0 => ! range
+form { 0 | 0 { | -18446744073709551615 } } ; 0 => ! range
+form { { { 18446744073709551615 | } | } -1 | 1 } ; 0 => ! range
+form { 0 | 1/2^40 } ; 0 => ! range
+form { 0 | { | -18446744073709551615 } } ; 0 => ! range
+form { 0 | 1/2^39 } ; 1/2^40 => the same
+form { 18446744073709551614 | } ; 18446744073709551615 => the same
+copy -3 ; -3 => Equal
+copy { | } ; { | } => Equal
+copy { { 3 | 0 } 1 1 | -1 { | 1/2^1 } } ; { { 3 | 0 } 1 1 | -1 { | 1/2^1 } } => Equal
+copy { 0 | 0 } ; { 0 | 0 } => Equal
+depths of 18446744073709551615 and { | } => 0, 1
+";
+
 /// The options of a brace that is still open.
 #[derive(Drop)]
 struct Brace {

@@ -10,7 +10,7 @@ use Rattle.cg_form.proofs.Among.{among-map}
 use Rattle.cg_form.proofs.Numbers.{numbers-le}
 use Rattle.cg_form.proofs.Order.{le-fold}
 use Rattle.cg_form.proofs.Preorder.{le_trans, not_le-left, not_le-right}
-use Rattle.cg_node_rows.specs.Stars.{star, up, zero_game}
+use Rattle.cg_tree_rows.specs.Stars.{star, up, zero_game}
 
 -- a game with one option on each side that equals no number, and whose options have no answer that is as good
 one_each : (l r : Game) → NoNumber (node (l ∷ []) (r ∷ [])) → ((b : Game) → Among b (rights l)

@@ -4,7 +4,7 @@ use Rattle.cg_form.specs.Game.{number}
 use Rattle.cg_cells.specs.Store.{Spends}
 use Rattle.cg_nodes.specs.Games.{StandsFor}
 use Rattle.cg_nodes.specs.Longs.{cells_of}
-use Rattle.cg_node_rows.proofs.games.make_zero.Goals as goal
+use Rattle.cg_tree_rows.proofs.games.make_zero.Goals as goal
 
 pub number-requires : goal.number-requires
 number-requires g c =

@@ -1,10 +1,10 @@
 use Rattle.std.proofs.Common.{List, refl, subst, sym}
 use Rattle.cg_form.specs.Canonical.{Canonical}
 use Rattle.cg_form.specs.Game.{Game, node}
-use Rattle.cg_node_rows.specs.Stars.{zero_game}
-use Rattle.cg_node_rows.proofs.Canonicals.{star-canonical}
-use Rattle.cg_node_rows.proofs.Singles.{single_listed}
-use Rattle.cg_node_rows.proofs.games.make_star.Goals as goal
+use Rattle.cg_tree_rows.specs.Stars.{zero_game}
+use Rattle.cg_tree_rows.proofs.Canonicals.{star-canonical}
+use Rattle.cg_tree_rows.proofs.Singles.{single_listed}
+use Rattle.cg_tree_rows.proofs.games.make_star.Goals as goal
 
 pub game-star-requires-clause-canonical : goal.game-star-requires-clause-canonical
 game-star-requires-clause-canonical g c =

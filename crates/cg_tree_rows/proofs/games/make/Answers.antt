@@ -3,10 +3,10 @@ use Rattle.cg_form.specs.Canonical.{Canonical}
 use Rattle.cg_form.specs.Game.{Game, node}
 use Rattle.cg_nodes.specs.Games.{games_at, listed}
 use Rattle.cg_nodes.proofs.Later.{is_list_as, listed_later, spends_then, stands_later}
-use Rattle.cg_node_rows.specs.Stars.{star, zero_game}
-use Rattle.cg_node_rows.proofs.Canonicals.{up-canonical}
-use Rattle.cg_node_rows.proofs.Singles.{single_listed}
-use Rattle.cg_node_rows.proofs.games.make.Goals as goal
+use Rattle.cg_tree_rows.specs.Stars.{star, zero_game}
+use Rattle.cg_tree_rows.proofs.Canonicals.{up-canonical}
+use Rattle.cg_tree_rows.proofs.Singles.{single_listed}
+use Rattle.cg_tree_rows.proofs.games.make.Goals as goal
 
 pub game-up-requires-clause-canonical : goal.game-up-requires-clause-canonical
 game-up-requires-clause-canonical g c =
