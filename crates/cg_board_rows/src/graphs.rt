@@ -1,14 +1,18 @@
-//! The rows: a game, a call and the texts of a graph, with a blank between them. Col and Snort have the vertices in front of
-//! the edges.
-use crate::calls::{on_board, refusal};
-use cg_graph::{Colouring, Hackenbush};
+//! Rows of Hackenbush, Col and Snort: a game, a call and the texts of a graph, with a blank between them. Col and Snort have
+//! the vertices in front of the edges.
+use crate::calls::on_board;
+use crate::rows::cut;
+use cg_graph::{Colouring, GraphFault, Hackenbush};
 use std::alloc::{AllocError, Global};
 
-/// The text in front of the first blank, and that behind it.
-fn cut(text: &str) -> (&str, &str) {
-    match text.split_once(' ') {
-        Some((front, behind)) => (front, behind),
-        None => (text, ""),
+/// The cause of a refusal, and its place.
+fn refusal(alloc: Global, fault: GraphFault) -> Result<String, AllocError> {
+    match fault {
+        GraphFault::Symbol(place) => format!(in alloc; "symbol {place}"),
+        GraphFault::Empty(place) => format!(in alloc; "empty {place}"),
+        GraphFault::Large(place) => format!(in alloc; "large {place}"),
+        GraphFault::Edges(place) => format!(in alloc; "edges {place}"),
+        GraphFault::Memory => Err(AllocError),
     }
 }
 
@@ -36,7 +40,7 @@ fn on_chart(alloc: Global, snort: bool, call: &str, texts: &str) -> Result<Strin
 }
 
 /// What is answered to the line.
-pub fn answered(alloc: Global, line: &str) -> Result<String, AllocError> {
+pub(crate) fn answered(alloc: Global, line: &str) -> Result<String, AllocError> {
     let (game, rest) = cut(line);
     let (call, texts) = cut(rest);
     if game == "Hackenbush" {

@@ -1,6 +1,6 @@
 use Rattle.std.proofs.Common.{◌∙◌}
 use Rattle.cg_moves.proofs.Carried.{carry_cells}
-use Rattle.cg_game_rows.proofs.calls.made.Goals as goal
+use Rattle.cg_board_rows.proofs.calls.made.Goals as goal
 
 pub make-requires-clause-cells : goal.make-requires-clause-cells
 make-requires-clause-cells c =

@@ -1,4 +1,4 @@
-//! The rows: a game, a call and the text of a board, with a blank between them. A strip game has its rules in front of the
+//! Rows of games on boards: a game, a call and the text of a board, with a blank between them. A strip game has its rules in front of the
 //! row, and the call `rules` reads the rules alone.
 ghost use Rattle.std.specs.Prelude.{◌≡◌, IfOk, true};
 
@@ -12,7 +12,7 @@ use cg_strip::{Strip, Toads, read_toads};
 use std::alloc::{AllocError, Global};
 
 /// The text in front of the first blank, and that behind it.
-fn cut(text: &str) -> (&str, &str) {
+pub(crate) fn cut(text: &str) -> (&str, &str) {
     match text.split_once(' ') {
         Some((front, behind)) => (front, behind),
         None => (text, ""),

@@ -1,9 +1,5 @@
-//! Worked rows of octal games: each line of the input asks for the values of heaps, and is written back with its answer.
-//!
-//! `all CODE HEAP` asks for the values of all heaps up to that one, `last CODE HEAP` for its own. The expected answers in
-//! `stdout` come from the literature, were worked out by hand, or were found by another program from the rules.
-#![tactic(auto)]
-
+//! Rows of octal games: `all CODE HEAP` asks for the values of all heaps up to that one, `last CODE HEAP` for its own.
+use crate::rows::cut;
 use cg_octal::{OctalFault, read, values};
 use std::alloc::Global;
 
@@ -36,22 +32,9 @@ fn answer(alloc: Global, call: &str, code: &str, heap: u128) -> anyhow::Result<S
     }
 }
 
-/// What a line is answered.
-fn answered(alloc: Global, line: &str) -> anyhow::Result<String> {
-    let Some((call, rest)) = line.split_once(' ') else {
-        anyhow::bail!("a row needs a call");
-    };
-    let Some((code, heap)) = rest.split_once(' ') else {
-        anyhow::bail!("a row needs a heap");
-    };
+/// What is answered to the line.
+pub(crate) fn answered(alloc: Global, line: &str) -> anyhow::Result<String> {
+    let (call, rest) = cut(line);
+    let (code, heap) = cut(rest);
     answer(alloc, call, code, heap.parse::<u128>()?)
-}
-
-fn main(rt: HostRuntime) -> anyhow::Result<()> {
-    for line in rt.lines(rt.alloc()) {
-        let line = line?;
-        let text = answered(rt.alloc(), line.as_str())?;
-        println!(rt; "{} => {text}", line.as_str())?;
-    }
-    Ok(())
 }
