@@ -105,7 +105,7 @@ def vim_groups(path: Path) -> tuple[str, list[list[str]]]:
         script.write_text(
             f"""
             set encoding=utf-8
-            set runtimepath^={EDITORS}/vim
+            set runtimepath+={EDITORS}/vim
             filetype on
             syntax on
             edit {path}
