@@ -28,7 +28,7 @@ use Rattle.cg_names.specs.Lists.{form_items, number_items}
 use Rattle.cg_names.specs.Meaning.{fraction, literal, or_zero, signed}
 use Rattle.cg_eval.specs.Meaning.{meaning, meanings}
 use Rattle.cg_names.specs.Named.{nimber_form, ups_form, switch_form, tiny_form, zero_number}
-use Rattle.cg_syntax.specs.Tree.{Tree, Trees, number, ups, nimber, switch, tiny, sides, negative, multiple}
+use Rattle.cg_query.specs.Tree.{Tree, Trees, number, ups, nimber, switch, tiny, sides, negative, multiple}
 use Rattle.cg_eval.specs.Items.{items, all_items, term_part}
 use Rattle.cg_eval.specs.Progress.{Evaluates, Gives, Makes, Stops}
 use Rattle.cg_names.proofs.Literals.{literal-fraction, literal_not_negative}

@@ -23,7 +23,7 @@ use Rattle.cg_names.specs.Meaning.{fraction, literal, signed, or_zero}
 use Rattle.cg_eval.specs.Faults.{fault_in, fault_in_terms}
 use Rattle.cg_eval.specs.Meaning.{meaning, total, total_with}
 use Rattle.cg_names.specs.Named.{nimber_form, ups_form, switch_form, tiny_form}
-use Rattle.cg_syntax.specs.Tree.{Tree, Terms, number, ups, nimber, switch, tiny, sides, negative, multiple, sum, game, octal, used, no_terms, with_term}
+use Rattle.cg_query.specs.Tree.{Tree, Terms, number, ups, nimber, switch, tiny, sides, negative, multiple, sum, game, octal, used, no_terms, with_term}
 use Rattle.cg_octal.specs.Codes.{OctalHeap}
 use Rattle.cg_octal.specs.Heaps.{heap}
 use Rattle.cg_octal.specs.declared.fault.OctalFault.{OctalFault}

@@ -4,7 +4,7 @@ use Rattle.cg_dyadic.specs.Wide.{places}
 use Rattle.cg_form.specs.Game.{Game}
 use Rattle.cg_nodes.specs.Spelled.{can}
 use Rattle.cg_thermo.specs.Thermal.{NeedsMore}
-use Rattle.cg_syntax.specs.Tree.{Question, value, compare, outcome, stops, mean, temp, thermo, proof, check}
+use Rattle.cg_query.specs.Tree.{Question, value, compare, outcome, stops, mean, temp, thermo, proof, check}
 use Rattle.cg_eval.specs.Meaning.{meaning}
 use Rattle.cg_eval.specs.Pictures.{IsPicture, Picture, mean_text, temp_text, thermograph_text}
 use Rattle.cg_eval.specs.Reply.{IsAnswerTo, IsChecked, IsProved, IsShown, Piece, answer, too_fine, too_long}

@@ -18,8 +18,8 @@ use Rattle.cg_nodes.specs.CanForms.{can-equal}
 use Rattle.cg_eval.specs.Meaning.{meaning}
 use Rattle.cg_dyadic.specs.Number.{whole}
 use Rattle.cg_canon.proofs.Keeping.{keeps_then, spends_keeps}
-use Rattle.cg_syntax.specs.Lines.{IsColumn, IsComment, IsUnread, Reads, is_blank_line}
-use Rattle.cg_syntax.specs.Tree.{Question, Tree}
+use Rattle.cg_grammar.specs.Lines.{IsColumn, IsComment, IsUnread, Reads, is_blank_line}
+use Rattle.cg_query.specs.Tree.{Question, Tree}
 use Rattle.cg_eval.specs.declared.answered.Answered.{Answered}
 use Rattle.cg_eval.specs.declared.fault.GameFault.{GameFault}
 use Rattle.cg_eval.specs.Faults.{question_fault}

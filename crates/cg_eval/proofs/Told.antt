@@ -31,7 +31,7 @@ use Rattle.cg_thermo.specs.declared.winner.Outcome.{Outcome}
 use Rattle.cg_thermo.proofs.Wins.{wins}
 use Rattle.cg_cert.specs.Answer.{IsLong, IsShort, proof_answer}
 use Rattle.cg_cert.specs.Proves.{IsProofOf}
-use Rattle.cg_syntax.specs.Tree.{Question, Tree, compare}
+use Rattle.cg_query.specs.Tree.{Question, Tree, compare}
 use Rattle.cg_eval.specs.Items.{items, question_items}
 use Rattle.cg_eval.specs.Meaning.{meaning}
 use Rattle.cg_eval.specs.Parts.{IsCompared, IsDrawn, Tells, TellsTwo, asked_of, part_asked, part_text, picture_of, winner_of, yes_or_no}

@@ -15,7 +15,7 @@ use Rattle.cg_thermo.specs.Thermal.{NeedsMore}
 use Rattle.cg_nodes.specs.Spelled.{can}
 use Rattle.cg_thermo.specs.declared.winner.Outcome.{Outcome}
 use Rattle.cg_thermo.specs.declared.winner.Outcome.TheVariants.{L, R, P, N}
-use Rattle.cg_syntax.specs.Tree.{Question, Tree, value, outcome, stops, mean, temp, thermo}
+use Rattle.cg_query.specs.Tree.{Question, Tree, value, outcome, stops, mean, temp, thermo}
 use Rattle.cg_eval.specs.Boards.{Position, board, faulty}
 use Rattle.cg_eval.specs.Pictures.{IsPicture, Picture, mean_text, temp_text, thermograph_text}
 use Rattle.cg_eval.specs.Meaning.{meaning}

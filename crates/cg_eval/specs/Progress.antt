@@ -10,7 +10,7 @@ use Rattle.cg_canon.specs.declared.rest.WorkRest.{WorkRest}
 use Rattle.cg_canon.specs.Items.{Item, AllPass, WasRefused}
 use Rattle.cg_canon.specs.Works.{Keeps}
 use Rattle.cg_eval.specs.Meaning.{meaning, meanings}
-use Rattle.cg_syntax.specs.Tree.{Tree, Trees}
+use Rattle.cg_query.specs.Tree.{Tree, Trees}
 use Rattle.cg_eval.specs.Items.{items, all_items}
 
 -- all of the items were made and charged

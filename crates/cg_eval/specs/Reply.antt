@@ -13,8 +13,8 @@ use Rattle.cg_names.specs.Name.{name_of}
 use Rattle.cg_dyadic.specs.Wide.{places}
 use Rattle.cg_thermo.specs.Thermal.{NeedsMore}
 use Rattle.cg_eval.specs.Meaning.{meaning}
-use Rattle.cg_syntax.specs.Tree.{Question, value, compare, outcome, stops, mean, temp, thermo, proof, check}
-use Rattle.cg_syntax.specs.Lines.{Reads, IsUnread}
+use Rattle.cg_query.specs.Tree.{Question, value, compare, outcome, stops, mean, temp, thermo, proof, check}
+use Rattle.cg_grammar.specs.Lines.{Reads, IsUnread}
 use Rattle.cg_cert.specs.Answer.{IsLong, proof_answer}
 use Rattle.cg_cert.specs.Proves.{IsProofOf}
 use Rattle.cg_eval.specs.declared.fault.GameFault.{GameFault}

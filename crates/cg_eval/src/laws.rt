@@ -12,8 +12,8 @@ ghost use Rattle.cg_eval.specs.Meaning.{meaning};
 ghost use Rattle.cg_eval.specs.Items.{items};
 ghost use Rattle.cg_eval.specs.Octals.{octal_read};
 ghost use Rattle.cg_eval.specs.Reply.{IsReply, IsReplyTo, Piece};
-ghost use Rattle.cg_syntax.specs.Lines.{is_blank_line, IsComment};
-ghost use Rattle.cg_syntax.specs.Tree.{Question, Tree};
+ghost use Rattle.cg_grammar.specs.Lines.{is_blank_line, IsComment};
+ghost use Rattle.cg_query.specs.Tree.{Question, Tree};
 
 use cg_syntax::laws::one_query;
 

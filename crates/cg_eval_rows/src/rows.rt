@@ -1,6 +1,6 @@
 //! Rows and their replies.
 ghost use Rattle.std.specs.Prelude.{◌≡◌, true, false};
-ghost use Rattle.cg_syntax.specs.Lines.{is_blank_line, IsComment};
+ghost use Rattle.cg_grammar.specs.Lines.{is_blank_line, IsComment};
 
 use anyhow::Result;
 use cg_cells::{CellStore, PlainStore};

@@ -4,7 +4,7 @@ use Rattle.std.specs.Prelude.{◌≤◌, slice_get}
 use Rattle.cg_cells.proofs.Levels.{same_Some}
 use Rattle.cg_words.specs.declared.settings.Settings.{Settings}
 use Rattle.cg_eval.specs.Reply.{Piece, IsReplyTo}
-use Rattle.cg_syntax.specs.Tree.{Question}
+use Rattle.cg_query.specs.Tree.{Question}
 use Rattle.cg_syntax.specs.Session.{Resolved, Asked_of, Syntax_at, Too_large, Unknown_at}
 use Rattle.cg_eval.specs.Shown.{shown}
 use Rattle.cg_eval.specs.declared.answered.Answered.{Answered}

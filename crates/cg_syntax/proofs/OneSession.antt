@@ -1,13 +1,13 @@
 -- A text says one session, with as many lines as get an answer.
 use Rattle.std.proofs.Common.{◌≡◌, refl, ap, sym, ◌∙◌, subst, ℕ, suc, List, [], ◌∷◌, length, None, inl, inr}
-use Rattle.cg_syntax.specs.Tree.{Statement, asks, defines}
+use Rattle.cg_query.specs.Tree.{Statement, asks, defines}
 use Rattle.cg_syntax.specs.Naming.{Bindings, question_asked}
-use Rattle.cg_syntax.specs.Formats.{ReadsIn, IsColumnIn}
+use Rattle.cg_grammar.specs.Formats.{ReadsIn, IsColumnIn}
 use Rattle.cg_syntax.specs.Session.{AreLines, IsLine, IsSession, Resolved, Syntax_at, after, answered_lines, next, none, refused, resolved, stated}
-use Rattle.cg_syntax.specs.declared.format.Format.{Format}
-use Rattle.cg_syntax.specs.declared.format.Format.TheVariants as formats
-use Rattle.cg_syntax.proofs.Whole as whole
-use Rattle.cg_syntax.proofs.WholeTwo as two
+use Rattle.cg_query.specs.declared.format.Format.{Format}
+use Rattle.cg_query.specs.declared.format.Format.TheVariants as formats
+use Rattle.cg_grammar.proofs.Whole as whole
+use Rattle.cg_grammar.proofs.WholeTwo as two
 
 -- ---- a line of a format
 
