@@ -171,7 +171,7 @@ one-reply_by None share limit q p r (inr a) (inl b) = absurd (verdict-apart a.0 
 one-reply_by None share limit q p r (inr a) (inr b) =
     a.3 ∙ ap refusal_of (verdict-stopped a.0 b.0 share 0 (question_items limit q) a.1 b.1 a.2 b.2).0 ∙ sym b.3
 
-some-reply_by : (o : Option GameFault) (share limit : ℕ) (q : Question) → (p : Piece) × IsReplyBy o share limit q p
+pub some-reply_by : (o : Option GameFault) (share limit : ℕ) (q : Question) → (p : Piece) × IsReplyBy o share limit q p
 some-reply_by (Some fault) share limit q = (ill_formed fault, refl)
 some-reply_by None share limit q = elim (verdict-decided share 0 (question_items limit q)) [
   | inl a ↦ (let (p, is) = some-answer q in (p, inl (a.0, a.1, is)))

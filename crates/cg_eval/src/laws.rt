@@ -47,9 +47,10 @@ pub fn one_reply()
     one_query();
 }
 
-/// A question has at most one reply, given the share and the positions limit.
+/// A question has exactly one reply, given the share and the positions limit.
 pub fn one_reply_to()
-    ensures { (share limit : ℕ) (q : Question) (p r : Piece) → IsReplyTo share limit q p → IsReplyTo share limit q r
+    ensures some { (share limit : ℕ) (q : Question) → (p : Piece) × IsReplyTo share limit q p }
+    ensures unique { (share limit : ℕ) (q : Question) (p r : Piece) → IsReplyTo share limit q p → IsReplyTo share limit q r
         → p ≡ r }
 {}
 

@@ -13,8 +13,9 @@ pub fn no_names()
     ensures { (line : List ℕ) (q : Question) → Reads line q → IsClosedQuestion q }
 {}
 
-/// A text says one session, with as many lines as the text has that get an answer. No question in it has a name.
+/// A text says exactly one session, with as many lines as the text has that get an answer. No question in it has a name.
 pub fn one_session()
+    ensures some { (text : List ℕ) → (rs : List (ℕ × Resolved)) × IsSession text rs }
     ensures unique { (text : List ℕ) (rs qs : List (ℕ × Resolved)) → IsSession text rs → IsSession text qs → rs ≡ qs }
     ensures counted { (text : List ℕ) (rs : List (ℕ × Resolved)) → IsSession text rs → length rs ≡ length (answered_lines text) }
     ensures closed { (text : List ℕ) (rs : List (ℕ × Resolved)) → IsSession text rs → AreClosedLines rs }
