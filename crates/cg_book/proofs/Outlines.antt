@@ -11,13 +11,13 @@ use Rattle.cg_form.specs.Game.{Among, Game, node, number}
 use Rattle.cg_form.specs.Order.{no_one}
 use Rattle.cg_form.specs.Side.{at_most}
 use Rattle.cg_form.specs.Simple.{NoNumber}
+use Rattle.cg_nodes.specs.Can.{can}
+use Rattle.cg_nodes.specs.CanForms.{can-equal, can-unique}
 use Rattle.cg_form.proofs.Cut.{any-closed, same_when}
 use Rattle.cg_form.proofs.CutSteps.{gap_misses, gap_value}
 use Rattle.cg_form.proofs.Order.{no_one-all, no_one-each}
 use Rattle.cg_form.proofs.Preorder.{equal_trans}
 use Rattle.cg_form.proofs.Simplicity.{equal-fits}
-use Rattle.cg_nodes.specs.CanForms.{can-equal, can-unique}
-use Rattle.cg_nodes.specs.Spelled.{can}
 use Rattle.cg_book.specs.declared.profile.Outline.{Outline}
 use Rattle.cg_book.specs.declared.profile.Profile.{Profile}
 use Rattle.cg_book.specs.declared.terms.FirstTerm.{FirstTerm}

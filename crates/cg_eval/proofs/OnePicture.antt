@@ -8,7 +8,7 @@ use Rattle.cg_form.specs.Simple.{Decided}
 use Rattle.cg_form.specs.Walls.{IsThermal}
 use Rattle.cg_form.proofs.Decide.{number-decide}
 use Rattle.cg_form.proofs.Thermal.{Thermal, cools, one-thermal, thermal}
-use Rattle.cg_nodes.specs.Positions.{positions_of}
+use Rattle.cg_form.specs.Positions.{positions_of}
 use Rattle.cg_thermo.specs.Pictures.{left_corners, right_corners}
 use Rattle.cg_thermo.specs.Thermal.{MastFrom, NeedsMore}
 use Rattle.cg_thermo.proofs.Smooth.{smooth-high}

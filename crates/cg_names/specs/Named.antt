@@ -4,7 +4,7 @@ use Rattle.std.specs.Prelude.{ℕ, zero, suc, Bool, true, false, not, cond, List
 use Rattle.cg_dyadic.specs.Exact.{number_negative}
 use Rattle.cg_dyadic.specs.Number.{Number}
 use Rattle.cg_form.specs.Game.{Game, node, number}
-use Rattle.cg_nodes.specs.Spelled.{is_same}
+use Rattle.cg_form.specs.Structure.{is_same}
 pub use Rattle.cg_nimbers.specs.Nimbers.{nimber_over, zero_form, zero_number}
 unfoldable pub use Rattle.cg_nimbers.specs.Nimbers.{nimber_form, nimbers_below}
 

@@ -4,7 +4,7 @@ use Rattle.std.specs.Prelude.{◌≡◌, ℕ, zero, suc, ◌-◌, ◌/◌, ◌%�
 use Rattle.cg_form.specs.Game.{Game, node}
 use Rattle.cg_form.specs.Order.{Equal}
 use Rattle.cg_form.specs.Sum.{sum}
-use Rattle.cg_names.specs.Named.{nimber_form, zero_form}
+use Rattle.cg_nimbers.specs.Nimbers.{nimber_form, zero_form}
 
 -- A digit says what may be left of a heap when its tokens are removed: its bit 1 nothing, its bit 2 one heap, its bit 4 two
 -- heaps.

@@ -31,7 +31,7 @@ use Rattle.cg_lines.specs.Rises.{IsWall, value_at}
 use Rattle.cg_lines.proofs.Rising.{near}
 use Rattle.cg_lines.proofs.Words.{word}
 use Rattle.cg_nodes.specs.Games.{IsNode}
-use Rattle.cg_nodes.specs.Positions.{positions_of}
+use Rattle.cg_form.specs.Positions.{positions_of}
 use Rattle.cg_thermo.specs.declared.chart.Chart.{Chart}
 use Rattle.cg_thermo.specs.declared.corners.Corner.{Corner}
 use Rattle.cg_thermo.specs.declared.thermo.Walls as drawn

@@ -5,7 +5,7 @@ use Rattle.cg_form.specs.Game.{Among, Game, number}
 use Rattle.cg_form.specs.Order.{Equal}
 use Rattle.cg_form.specs.Simple.{NoNumber}
 use Rattle.cg_form.specs.Walls.{IsThermal, TemperatureIs}
-use Rattle.cg_nodes.specs.Positions.{positions_of}
+use Rattle.cg_form.specs.Positions.{positions_of}
 -- whether a game equals a number is decided
 pub use Rattle.cg_form.proofs.Decide.{number-decide}
 
