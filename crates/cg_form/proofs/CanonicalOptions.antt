@@ -1,8 +1,7 @@
 -- A canonical game has no dominated and no reversible option: a number, too, whose options are those of its canonical
 -- form.
-use Rattle.std.proofs.Common.{◌≡◌, ℕ, ◌<◌, ◌⊎◌, arith, zero, suc, inl, inr, ap, sym, ◌∙◌, subst, pos, negsuc}
+use Rattle.std.proofs.Common.{◌≡◌, ℕ, ◌<◌, arith, zero, suc, inl, inr, ap, sym, ◌∙◌, subst, pos, negsuc}
 use Rattle.cg_dyadic.specs.Number.{AmongNumbers, Number, NumberLe, between, number_lefts, number_rights, weight, whole}
-use Rattle.cg_dyadic.proofs.Truth.{true-or-not}
 use Rattle.cg_dyadic.proofs.Values.{less-le, not_le-left_number, not_le-right_number, number_gap, number_le-same, number_le-trans}
 use Rattle.cg_dyadic.proofs.Weight.{weight-lefts, weight-rights}
 use Rattle.cg_form.specs.Canonical.{Canonical, LeftDominated, LeftReversible, RightDominated, RightReversible}

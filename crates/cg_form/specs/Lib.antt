@@ -24,7 +24,7 @@ pub mod Range
 pub mod Size
 pub mod GameCode
 pub mod Falls
--- what private contracts cite
+-- what private contracts cite, and those of `cuts`
 pub mod Side
 pub mod Cut
 pub mod Best
