@@ -4,16 +4,16 @@ use Rattle.std.specs.Prelude.{Vec, OnOk, IfErr, IfOk}
 use Rattle.cg_dyadic.specs.Number.{Number}
 use Rattle.cg_form.specs.Game.{Game, number as plain_number, to_list}
 use Rattle.cg_form.specs.Sum.{sum as plus}
+use Rattle.cg_nodes.specs.Can.{can}
 use Rattle.cg_cells.specs.Store.{State}
+use Rattle.cg_nodes.specs.CanForms.{can-fixed}
 use Rattle.cg_nodes.specs.Games.{AreGames, IsGame, StandFor, StandsFor, game_at, games_at}
 use Rattle.cg_nodes.specs.Meant.{Meant}
-use Rattle.cg_nodes.specs.Spelled.{can}
 use Rattle.cg_nodes.proofs.Later.{stands_game, stands_is_game, stand_later}
 use Rattle.cg_canon.specs.declared.fault.ValueFault.{ValueFault}
 use Rattle.cg_canon.specs.declared.rest.WorkRest.{WorkRest}
 use Rattle.cg_canon.specs.Items.{AllPass, Item, WasRefused, made}
 use Rattle.cg_canon.specs.Works.{Keeps}
-use Rattle.cg_nodes.specs.CanForms.{can-fixed}
 use Rattle.cg_sum.proofs.Sums.{can-sum_form}
 use Rattle.cg_names.specs.Named.{zero_number}
 use Rattle.cg_canon.specs.SumItems.{sum_items}

@@ -4,17 +4,17 @@ use Rattle.cg_cells.specs.Store.{Spends, State}
 use Rattle.cg_form.specs.Game.{Game, number}
 use Rattle.cg_form.specs.Order.{le}
 use Rattle.cg_form.specs.Sum.{nothing}
+use Rattle.cg_nodes.specs.Can.{can}
 use Rattle.cg_form.proofs.EqualGames.{le-equal, zero_is}
+use Rattle.cg_nodes.specs.CanForms.{can-equal}
 use Rattle.cg_nodes.specs.Games.{StandsFor, game_at}
 use Rattle.cg_nodes.specs.Meant.{Meant}
-use Rattle.cg_nodes.specs.Spelled.{can}
 use Rattle.cg_nodes.proofs.Later.{stands_game, stands_later}
 use Rattle.cg_canon.specs.declared.fault.ValueFault.{ValueFault}
 use Rattle.cg_canon.specs.declared.fault.ValueFault.TheVariants.{Depth, Full, Memory, Positions, Range}
 use Rattle.cg_canon.specs.declared.rest.WorkRest.{WorkRest}
 use Rattle.cg_canon.specs.Items.{AllPass, IsStopped, Item}
 use Rattle.cg_canon.specs.Works.{Keeps, WorkOf, work_state}
-use Rattle.cg_nodes.specs.CanForms.{can-equal}
 use Rattle.cg_eval.specs.Meaning.{meaning}
 use Rattle.cg_dyadic.specs.Number.{whole}
 use Rattle.cg_canon.proofs.Keeping.{keeps_then, spends_keeps}

@@ -9,12 +9,12 @@ use Rattle.cg_form.specs.Order.{le}
 use Rattle.cg_form.specs.Outcome as form
 use Rattle.cg_form.specs.Stops as form_stops
 use Rattle.cg_form.specs.Sum.{nothing}
+use Rattle.cg_nodes.specs.Can.{can}
 use Rattle.cg_form.proofs.Decide.{number-decide}
 use Rattle.cg_form.proofs.StopValues.{equal_stops}
 use Rattle.cg_nodes.specs.CanForms.{can-equal}
 use Rattle.cg_nodes.specs.Games.{StandsFor, game_at}
 use Rattle.cg_nodes.specs.Meant.{Meant}
-use Rattle.cg_nodes.specs.Spelled.{can}
 use Rattle.cg_nodes.proofs.Later.{stands_game, stands_later}
 use Rattle.cg_canon.specs.declared.fault.ValueFault.{ValueFault}
 use Rattle.cg_canon.specs.declared.fault.ValueFault.TheVariants.{Memory}

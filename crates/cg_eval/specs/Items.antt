@@ -4,7 +4,7 @@ use Rattle.std.specs.Prelude.{ℕ, pos, Bool, false, cond, List, [], ◌∷◌, 
 use Rattle.cg_dyadic.specs.Number.{whole}
 use Rattle.cg_form.specs.Game.{Game, number as plain_number}
 use Rattle.cg_form.specs.Sum.{sum as plus}
-use Rattle.cg_nodes.specs.Spelled.{can}
+use Rattle.cg_nodes.specs.Can.{can}
 use Rattle.cg_canon.specs.Items.{Item, made}
 use Rattle.cg_canon.specs.NumberItems.{number_made}
 use Rattle.cg_canon.specs.SumItems.{sum_items}

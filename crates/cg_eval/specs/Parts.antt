@@ -3,6 +3,7 @@ use Rattle.std.specs.Prelude.{◌≡◌, ◌⊎◌, ℕ, Bool, List, Option, Som
 use Rattle.cg_dyadic.specs.Wide.{places}
 use Rattle.cg_form.specs.Game.{Game}
 use Rattle.cg_form.specs.Order.{le}
+use Rattle.cg_nodes.specs.Can.{can}
 use Rattle.cg_domineering.specs.Moves.{domineering}
 use Rattle.cg_clobber.specs.Moves.{clobber}
 use Rattle.cg_amazons.specs.Amazons.{amazons}
@@ -12,7 +13,6 @@ use Rattle.cg_strip.specs.Toads.{toads_game}
 use Rattle.cg_strip.specs.StripGame.{strip_game}
 use Rattle.cg_thermo.specs.declared.thermo.Walls.{Walls}
 use Rattle.cg_thermo.specs.Thermal.{NeedsMore}
-use Rattle.cg_nodes.specs.Spelled.{can}
 use Rattle.cg_thermo.specs.declared.winner.Outcome.{Outcome}
 use Rattle.cg_thermo.specs.declared.winner.Outcome.TheVariants.{L, R, P, N}
 use Rattle.cg_query.specs.Tree.{Question, Tree, value, outcome, stops, mean, temp, thermo}

@@ -5,9 +5,10 @@ use Rattle.cg_dyadic.specs.Exact.{number_text}
 use Rattle.cg_dyadic.specs.Number.{Number}
 use Rattle.cg_form.specs.Game.{Game}
 use Rattle.cg_form.specs.Heights.{height}
+use Rattle.cg_form.specs.Walls.{IsThermal}
 use Rattle.cg_thermo.specs.declared.corners.Corner.{Corner}
 use Rattle.cg_thermo.specs.Pictures.{left_corners, right_corners}
-use Rattle.cg_thermo.specs.Thermal.{IsThermal, MastFrom}
+use Rattle.cg_thermo.specs.Thermal.{MastFrom}
 
 -- the mean, the temperature, and the corners of both walls
 pub record Picture : Type 0 where

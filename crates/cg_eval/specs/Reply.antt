@@ -5,7 +5,7 @@ use Rattle.cg_form.specs.Order.{le}
 use Rattle.cg_form.specs.Stops as form
 use Rattle.cg_form.specs.Sum.{nothing}
 use Rattle.cg_form.proofs.Decide.{number-decide}
-use Rattle.cg_nodes.specs.Spelled.{can}
+use Rattle.cg_nodes.specs.Can.{can}
 use Rattle.cg_canon.specs.declared.fault.ValueFault.{ValueFault}
 use Rattle.cg_canon.specs.declared.fault.ValueFault.TheVariants.{Range, Full, Depth, Positions, Memory}
 use Rattle.cg_canon.specs.Items.{AllPass, IsStopped}

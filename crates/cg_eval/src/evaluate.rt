@@ -2,8 +2,8 @@
 ghost use Rattle.std.specs.Prelude.{◌≡◌, ◌++◌, None};
 ghost use Rattle.cg_form.specs.Game.{Game};
 ghost use Rattle.cg_form.specs.Sum as sums;
+ghost use Rattle.cg_nodes.specs.Can.{can};
 ghost use Rattle.cg_nodes.specs.Games.{IsGame, StandsFor, game_at};
-ghost use Rattle.cg_nodes.specs.Spelled.{can};
 ghost use Rattle.cg_canon.specs.Works.{work_state};
 ghost use Rattle.cg_canon.specs.SumItems.{sum_items};
 ghost use Rattle.cg_names.specs.Meaning.{signed};

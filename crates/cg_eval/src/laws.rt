@@ -1,6 +1,6 @@
 //! Laws of expressions and replies: a call puts its law into the caller's facts.
 ghost use Rattle.std.specs.Prelude.{◌≡◌, ◌⊎◌, ◌++◌, ◌∷◌, [], ℕ, List, None, Result, Err, false};
-ghost use Rattle.cg_nodes.specs.Spelled.{can};
+ghost use Rattle.cg_nodes.specs.Can.{can};
 ghost use Rattle.cg_canon.specs.declared.fault.ValueFault.{ValueFault};
 ghost use Rattle.cg_canon.specs.Items.{Item, made, AllPass, IsStopped};
 ghost use Rattle.cg_octal.specs.Codes.{IsRead, OctalHeap};

@@ -11,8 +11,10 @@ use Rattle.cg_dyadic.proofs.Truth.{true_or_false}
 use Rattle.cg_form.specs.Game.{Game}
 use Rattle.cg_form.specs.Game as tree
 use Rattle.cg_form.specs.Order.{Equal}
+use Rattle.cg_form.specs.Structure.{is_same}
 use Rattle.cg_form.specs.Sum.{sum}
 use Rattle.cg_form.proofs.Preorder.{equal_refl, equal_trans}
+use Rattle.cg_form.proofs.Structure.{is_same-back}
 use Rattle.cg_reading.specs.Bytes.{Ends}
 use Rattle.cg_reading.specs.Pieces.{Piece}
 use Rattle.cg_grammar.specs.Found.{Found}
@@ -23,8 +25,6 @@ use Rattle.cg_query.specs.Tree.{Tree, nimber, number, ups}
 use Rattle.cg_grammar.proofs.WrittenTerms.{no_tail_is}
 use Rattle.cg_grammar.proofs.WrittenTokens.{arrow_of}
 use Rattle.cg_grammar.specs.Values.{Last, clean, some_term, together, whole}
-use Rattle.cg_nodes.specs.CanForms.{is_same-back}
-use Rattle.cg_nodes.specs.Spelled.{is_same}
 use Rattle.cg_names.specs.Meaning.{PositionForms, fraction, meaning, or_zero}
 use Rattle.cg_names.specs.Named.{zero_form}
 use Rattle.cg_names.specs.Signs.{arrows_text, base_text, star_text}

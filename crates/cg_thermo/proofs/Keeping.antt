@@ -6,12 +6,12 @@ use Rattle.cg_cells.specs.Meaning.{Grows, Has, IsInjective}
 use Rattle.cg_cells.specs.Store.{Spends, State, thing_at}
 use Rattle.cg_form.specs.Game.{Among, Game, lefts, node, rights}
 use Rattle.cg_form.proofs.Among.{carry, lefts-node, rights-node}
-use Rattle.cg_nodes.proofs.AllPositions.{among-positions_of, positions-own, positions_of-options_first}
+use Rattle.cg_form.proofs.AllPositions.{among-positions_of, positions-own, positions_of-options_first}
 use Rattle.cg_nodes.proofs.Later.{game_later, is_game_later, nothing_spent, spends_then, stands_game, stands_later}
 use Rattle.cg_nodes.proofs.Members.{among_has, has_among, has_game}
 use Rattle.cg_nodes.specs.Games.{AreGames, IsGame, IsNode, StandFor, StandsFor, game_at, games_at}
 use Rattle.cg_nodes.specs.Meant.{Meant, form}
-use Rattle.cg_nodes.specs.Positions.{positions_of}
+use Rattle.cg_form.specs.Positions.{positions_of}
 use Rattle.cg_thermo.specs.Kept.{AllKept, Holds, OptionsKept}
 use Rattle.cg_thermo.specs.Progress.{OptionsFirst}
 use Rattle.cg_thermo.proofs.Members.{are_take, games_split, has-next, has-read, some_of, take-all}

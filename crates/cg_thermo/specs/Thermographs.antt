@@ -4,13 +4,14 @@ use Rattle.cg_dyadic.specs.Number.{ratio}
 use Rattle.cg_dyadic.specs.Wide.{places}
 use Rattle.cg_form.specs.Game.{Game}
 use Rattle.cg_form.specs.Heights.{height}
+use Rattle.cg_form.specs.Walls.{IsThermal}
 use Rattle.cg_lines.specs.Corners.{corners}
 use Rattle.cg_lines.specs.Rises.{value_at}
 use Rattle.cg_thermo.specs.declared.chart.Chart.{Chart}
 use Rattle.cg_thermo.specs.declared.thermo.Walls.{Walls}
 use Rattle.cg_thermo.specs.Pictures.{left_corners, right_corners}
 use Rattle.cg_thermo.specs.Signed.{corner_at}
-use Rattle.cg_thermo.specs.Thermal.{IsThermal, MastFrom}
+use Rattle.cg_thermo.specs.Thermal.{MastFrom}
 
 -- the mean, the temperature, and at each scale of at least the height the corners of the walls
 pub record IsThermograph (g : Game) (w : Walls) : Type 0 where

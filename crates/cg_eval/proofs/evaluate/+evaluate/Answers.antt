@@ -18,8 +18,8 @@ use Rattle.cg_sum.specs.Lists.{negative_items, multiple_items}
 use Rattle.cg_form.specs.Game.{node}
 use Rattle.cg_form.specs.Multiple.{multiple as many}
 use Rattle.cg_form.specs.Sum.{sum as plus, negative as minus}
+use Rattle.cg_nodes.specs.Can.{can}
 use Rattle.cg_nodes.specs.Games.{AreGames, game_at, games_at}
-use Rattle.cg_nodes.specs.Spelled.{can}
 use Rattle.cg_nodes.proofs.Later.{are_games_later, is_game_later, stands_is_game}
 use Rattle.cg_canon.specs.Items.{made}
 use Rattle.std.proofs.lemmas.List.{nil_from_length}

@@ -4,7 +4,7 @@ use Rattle.cg_canon.specs.Works.{work_state}
 use Rattle.cg_form.specs.Canonical.{Canonical}
 use Rattle.cg_form.specs.Game.{Game}
 use Rattle.cg_nodes.specs.Games.{IsNode, StandFor, game_at}
-use Rattle.cg_nodes.specs.Positions.{positions_of}
+use Rattle.cg_form.specs.Positions.{positions_of}
 use Rattle.cg_nodes.proofs.Later.{spends_then}
 use Rattle.cg_thermo.specs.Found.{charted}
 use Rattle.cg_thermo.specs.Progress.{Charted}

@@ -1,12 +1,12 @@
 -- What a list of games is extended to by others, each only where it comes first.
 use Rattle.std.proofs.Common.{◌≡◌, refl, ◌≤◌, Bool, true, false, not, cond, ◌&&◌, ◌||◌, if◌then◌else◌, ◌⊎◌, inl, inr, List, [], ◌∷◌, ◌++◌, filter, length, length-append, append_assoc, arith, ap, sym, ◌∙◌, subst}
 use Rattle.std.proofs.lemmas.List.{append-nil}
+use Rattle.cg_form.specs.Extended.{extended, is_among, one_more}
 use Rattle.cg_form.specs.Game.{Among, Game}
+use Rattle.cg_form.specs.Positions.{EachOnce, once, without}
+use Rattle.cg_form.specs.Structure.{is_same}
 use Rattle.cg_form.proofs.Among.{among-append, among-append_left, among-append_right}
-use Rattle.cg_nodes.specs.CanForms.{is_same-back, is_same-refl}
-use Rattle.cg_nodes.specs.Spelled.{is_same}
-use Rattle.cg_nodes.specs.Positions.{EachOnce, once, without}
-use Rattle.cg_nodes.specs.Walks.{extended, is_among, one_more}
+use Rattle.cg_form.proofs.Structure.{is_same-back, is_same-refl}
 
 -- ---- the test
 

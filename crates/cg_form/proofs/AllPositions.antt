@@ -4,12 +4,11 @@ use Rattle.std.proofs.Common.{◌≡◌, refl, ◌<◌, ◌≤◌, ◌⊎◌, in
 use Rattle.cg_dyadic.specs.Number.{Number}
 use Rattle.cg_form.specs.Canonical.{AllCanonical, Canonical}
 use Rattle.cg_form.specs.Depth.{deepest_of, depth_of}
-use Rattle.cg_form.specs.Game.{Among, Game, Games, lefts, more, none, number, options, rights, to_list}
+use Rattle.cg_form.specs.Extended.{IsClosed, extended, positions_before}
+use Rattle.cg_form.specs.Game.{Among, Game, Games, IsNode, lefts, more, none, number, options, rights, to_list}
+use Rattle.cg_form.specs.Positions.{EachOnce, all_positions, positions_in, positions_of}
 use Rattle.cg_form.proofs.Among.{among-append, among-append_left, among-append_right, carry}
-use Rattle.cg_nodes.specs.Games.{IsNode}
-use Rattle.cg_nodes.specs.Positions.{EachOnce, all_positions, positions_in, positions_of}
-use Rattle.cg_nodes.specs.Walks.{IsClosed, extended, positions_before}
-use Rattle.cg_nodes.proofs.Extended.{among_or_not, extended-among, extended-append, extended-has, extended-once, extended-there, once-extended, one_more-new, one_more-there}
+use Rattle.cg_form.proofs.Extended.{among_or_not, extended-among, extended-append, extended-has, extended-once, extended-there, once-extended, one_more-new, one_more-there}
 
 -- ---- all positions
 

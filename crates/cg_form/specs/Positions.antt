@@ -2,7 +2,7 @@
 -- Right option in order, then the game itself, each only where it comes first.
 use Rattle.std.specs.Prelude.{not, filter, List, [], ◌∷◌, ◌++◌}
 use Rattle.cg_form.specs.Game.{Among, Game, Games, number, options, none, more}
-use Rattle.cg_nodes.specs.Spelled.{is_same}
+use Rattle.cg_form.specs.Structure.{is_same}
 
 -- the games without those that are the first
 abbrev pub without : Game → List Game → List Game

@@ -1,10 +1,10 @@
 -- Lists of games of which each is kept only where it comes first.
 use Rattle.std.proofs.Common.{◌≡◌, refl, inl, inr, ap, sym, ◌∙◌, List, [], ◌∷◌, ◌++◌, append_assoc}
+use Rattle.cg_form.specs.Extended.{extended}
 use Rattle.cg_form.specs.Game.{Among, Game}
 use Rattle.cg_form.proofs.Among.{among-append, carry}
-use Rattle.cg_nodes.specs.Positions.{once}
-use Rattle.cg_nodes.specs.Walks.{extended}
-use Rattle.cg_nodes.proofs.Extended.{extended-among, extended-append, extended-has, extended-there, once-extended, one_more-new, one_more-there}
+use Rattle.cg_form.specs.Positions.{once}
+use Rattle.cg_form.proofs.Extended.{extended-among, extended-append, extended-has, extended-there, once-extended, one_more-new, one_more-there}
 
 -- what is kept is of the list
 pub among_once : (x : Game) (gs : List Game) → Among x (once gs) → Among x gs
