@@ -1,6 +1,7 @@
-//! The calls on a board: `read` shows it, `copy` its copy, `make` the board made anew of its cells, `left` and `right` the
-//! boards that the player's moves lead to, and a number all boards that play can come to, if there are no more. `pieces` shows
-//! the board's pieces, and `pieces7` and `pieces8` all that play can come to from them, if there are no more.
+//! The calls on a board: `read` shows it, `copy` its copy, `make` the board made anew of its cells, `left` and
+//! `right` the boards that the player's moves lead to, and a number all boards that play can come to, if there are
+//! no more. `pieces` shows the board's pieces, and `pieces7` and `pieces8` all that play can come to from them, if
+//! there are no more.
 ghost use Rattle.std.specs.Prelude.{◌≡◌, true};
 
 use cg_moves::{
@@ -30,7 +31,8 @@ fn reached_or(alloc: Global, reached: Result<Boards, ReachFault>) -> Result<Stri
     }
 }
 
-/// The pieces of the board, and where there is a limit, all that play can come to from them, if there are so many at most.
+/// The pieces of the board, and where there is a limit, all that play can come to from them, if there are so many at
+/// most.
 fn in_pieces<R: Rules>(
     alloc: Global,
     rules: &R,

@@ -1,5 +1,5 @@
-//! Rows of Hackenbush, Col and Snort: a game, a call and the texts of a graph, with a blank between them. Col and Snort have
-//! the vertices in front of the edges.
+//! Rows of Hackenbush, Col and Snort: a game, a call and the texts of a graph, with a blank between them. Col and
+//! Snort have the vertices in front of the edges.
 use crate::calls::on_board;
 use crate::rows::cut;
 use cg_graph::{Colouring, GraphFault, Hackenbush};

@@ -1,10 +1,10 @@
-//! Worked rows of all games: texts of boards and of graphs, moves, positions and pieces, values of boards with their costs,
-//! and values of heaps. Each line of the input has a game, a call and a text, or a call and what it takes, and is written
-//! back with its answer: boards with a blank between them, values, or the cause of the refusal and its place. A line that
-//! begins with `#` says what the lines after it show.
+//! Worked rows of all games: texts of boards and of graphs, moves, positions and pieces, values of boards with their
+//! costs, and values of heaps. Each line of the input has a game, a call and a text, or a call and what it takes,
+//! and is written back with its answer: boards with a blank between them, values, or the cause of the refusal and
+//! its place. A line that begins with `#` says what the lines after it show.
 //!
-//! The expected answers in `stdout` come from the literature, were worked out by hand, or were found by other programs from
-//! the rules.
+//! The expected answers in `stdout` come from the literature, were worked out by hand, or were found by other
+//! programs from the rules.
 #![tactic(auto)]
 
 mod calls;

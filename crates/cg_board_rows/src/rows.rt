@@ -1,5 +1,5 @@
-//! Rows of games on boards: a game, a call and the text of a board, with a blank between them. A strip game has its rules in front of the
-//! row, and the call `rules` reads the rules alone.
+//! Rows of games on boards: a game, a call and the text of a board, with a blank between them. A strip game has its
+//! rules in front of the row, and the call `rules` reads the rules alone.
 ghost use Rattle.std.specs.Prelude.{◌≡◌, IfOk, true};
 
 use crate::calls::{on_board, refusal};

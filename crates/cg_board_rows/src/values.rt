@@ -1,6 +1,6 @@
-//! Rows of values: `value SHARE POSITIONS GAME TEXT` gives the name of the board's value, or why it is refused, and what was
-//! spent; `name` gives the name alone. `alike SHARE POSITIONS RULES TEXT` gives the names of a row of Toads and of the row of
-//! the strip game of these rules, and tells whether both cost the same.
+//! Rows of values: `value SHARE POSITIONS GAME TEXT` gives the name of the board's value, or why it is refused, and
+//! what was spent; `name` gives the name alone. `alike SHARE POSITIONS RULES TEXT` gives the names of a row of Toads
+//! and of the row of the strip game of these rules, and tells whether both cost the same.
 ghost use Rattle.std.specs.Prelude.{◌≡◌, IfOk, true};
 ghost use Rattle.cg_values.specs.Forms.{board_form};
 ghost use Rattle.cg_values.specs.Notes.{MayNote};

@@ -1,6 +1,6 @@
-//! The calls that answer words: `spots_left` and `spots_right` on a board of Domineering, and `left_up`, `right_forth` and
-//! so on, the captures of a player that way, on a board of Clobber. `rays`, with a word of free cells, numbers of rows and
-//! columns and a cell, gives what a queen of Amazons reaches.
+//! The calls that answer words: `spots_left` and `spots_right` on a board of Domineering, and `left_up`,
+//! `right_forth` and so on, the captures of a player that way, on a board of Clobber. `rays`, with a word of free
+//! cells, numbers of rows and columns and a cell, gives what a queen of Amazons reaches.
 ghost use Rattle.std.specs.Prelude.{◌≡◌, IfOk, true};
 ghost use Rattle.cg_clobber.specs.Moves.{clobber};
 ghost use Rattle.cg_domineering.specs.Moves.{domineering};

@@ -12,9 +12,9 @@ use cg_nodes::{
 };
 use std::alloc::Global;
 
-/// Calls on handles, each with its answer: the ids that star and long numbers get, with the cells that are left; what
-/// handles stand for, their options and their lists; their positions, if there are no more than a limit; their structural
-/// order; and the homes of keys.
+/// Calls on handles, each with its answer: the ids that star and long numbers get, with the cells that are left;
+/// what handles stand for, their options and their lists; their positions, if there are no more than a limit; their
+/// structural order; and the homes of keys.
 pub const ROWS: &str = "\
 claims * => 0 2, 4093
 long 4503599627370496 => 2, 0, 4503599627370496

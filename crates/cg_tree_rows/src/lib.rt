@@ -1,5 +1,5 @@
-//! Worked numbers, trees and games on handles, as tests of cg_dyadic, cg_form and cg_nodes: their expected values come from
-//! the textbook or were worked out by hand.
+//! Worked numbers, trees and games on handles, as tests of cg_dyadic, cg_form and cg_nodes: their expected values
+//! come from the textbook or were worked out by hand.
 #![tactic(auto)]
 
 #[cfg(test)]

@@ -1,13 +1,13 @@
 //! The calls of a row, one for each word.
 //!
-//! `n:3/2^1` makes the item of the number 3/2, and `n:none` that of a number out of range; `g:0,1|2` makes the item of the
-//! canonical form of the game whose options are these handles, which are named by the order in which they were made; `c:2`
-//! charges the item of a form again; `+1` behind one of them is the cost of so much more. `tower:5` makes so many games, each
-//! {0|the last}. What is printed for these is the first handle with the same id, and what was spent so far. `below:2` tells
-//! which of the games game 2 is at most; `num:3/2^1:2` whether the number is at most game 2, and whether game 2 is at most the
-//! number; `same:0:2` whether two are one game; `sides:2` the options of a game; `agree:40` in how many of so many rounds
-//! both ways to canonical forms agree. `p:3:0` gives a proof that game 3 is at least game 0, and `is:3:0:TEXT` tells whether
-//! the text is one.
+//! `n:3/2^1` makes the item of the number 3/2, and `n:none` that of a number out of range; `g:0,1|2` makes the item
+//! of the canonical form of the game whose options are these handles, which are named by the order in which they
+//! were made; `c:2` charges the item of a form again; `+1` behind one of them is the cost of so much more. `tower:5`
+//! makes so many games, each {0|the last}. What is printed for these is the first handle with the same id, and what
+//! was spent so far. `below:2` tells which of the games game 2 is at most; `num:3/2^1:2` whether the number is at
+//! most game 2, and whether game 2 is at most the number; `same:0:2` whether two are one game; `sides:2` the options
+//! of a game; `agree:40` in how many of so many rounds both ways to canonical forms agree. `p:3:0` gives a proof
+//! that game 3 is at least game 0, and `is:3:0:TEXT` tells whether the text is one.
 ghost use Rattle.std.specs.Prelude.{◌≤◌};
 ghost use Rattle.cg_nodes.specs.Games.{AreGames};
 ghost use Rattle.cg_canon.specs.Works.{work_state};

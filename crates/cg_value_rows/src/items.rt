@@ -284,8 +284,8 @@ fn made_copies<B: BoardForms, S: CellStore<GameFacts<B>>>(
     copied(alloc, work, times, a)
 }
 
-/// The handle that the call answers which stands first in the words, with at most so many calls in one another; `before` is
-/// what was spent before it.
+/// The handle that the call answers which stands first in the words, with at most so many calls in one another;
+/// `before` is what was spent before it.
 #[cycle(made)]
 pub(crate) fn made<B: BoardForms, S: CellStore<GameFacts<B>>>(
     alloc: Global,

@@ -17,8 +17,8 @@ const CELLS: u64 = 4096;
 
 const MOST_CELLS: u64 = 65536;
 
-/// What is printed for one call: its answer, or why it was refused and what was spent so far. A call with a point in front
-/// of it, which is answered, says nothing.
+/// What is printed for one call: its answer, or why it was refused and what was spent so far. A call with a point in
+/// front of it, which is answered, says nothing.
 fn told<B: BoardForms, S: CellStore<GameFacts<B>>>(
     alloc: Global,
     work: &mut Work<B, S>,

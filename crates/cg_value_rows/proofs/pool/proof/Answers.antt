@@ -7,10 +7,13 @@ pub prove-requires-clause-g : goal.prove-requires-clause-g
 prove-requires-clause-g g c = drawn_game (work_state g.S.CellStore.state c.args.work.now) c.args.pool.now c.in_ok-first.first c.requires c.in_ok-first.ensures
 
 pub prove-requires-clause-h : goal.prove-requires-clause-h
-prove-requires-clause-h g c = drawn_game (work_state g.S.CellStore.state c.args.work.now) c.args.pool.now c.in_ok-second.second c.requires c.in_ok-second.ensures
+prove-requires-clause-h g c = drawn_game (work_state g.S.CellStore.state c.args.work.now) c.args.pool.now c.in_ok-second.second c.requires
+    c.in_ok-second.ensures
 
 pub returns-in_err-prove : goal.returns-in_err-prove
-returns-in_err-prove g c = are_games_later (work_state g.S.CellStore.state c.args.work.now) (work_state g.S.CellStore.state c.prove.new.work) c.prove.ensures.spends.known c.args.pool.now c.requires
+returns-in_err-prove g c = are_games_later (work_state g.S.CellStore.state c.args.work.now) (work_state g.S.CellStore.state c.prove.new.work)
+    c.prove.ensures.spends.known c.args.pool.now c.requires
 
 pub returns : goal.returns
-returns g c = are_games_later (work_state g.S.CellStore.state c.args.work.now) (work_state g.S.CellStore.state c.prove.new.work) c.prove.ensures.spends.known c.args.pool.now c.requires
+returns g c = are_games_later (work_state g.S.CellStore.state c.args.work.now) (work_state g.S.CellStore.state c.prove.new.work)
+    c.prove.ensures.spends.known c.args.pool.now c.requires

@@ -6,4 +6,5 @@ pub equal-requires-clause-a : goal.equal-requires-clause-a
 equal-requires-clause-a g c = drawn_game (work_state g.S.CellStore.state c.args.work.now) c.args.pool.now c.in_ok-first.first c.requires c.in_ok-first.ensures
 
 pub equal-requires-clause-b : goal.equal-requires-clause-b
-equal-requires-clause-b g c = drawn_game (work_state g.S.CellStore.state c.args.work.now) c.args.pool.now c.in_ok-second.second c.requires c.in_ok-second.ensures
+equal-requires-clause-b g c = drawn_game (work_state g.S.CellStore.state c.args.work.now) c.args.pool.now c.in_ok-second.second c.requires
+    c.in_ok-second.ensures

@@ -7,4 +7,5 @@ pub tree_of-requires : goal.tree_of-requires
 tree_of-requires g c = drawn_game (work_state g.S.CellStore.state c.args.work.now) c.args.pool.now c.in_ok-handle.handle c.requires c.in_ok-handle.ensures
 
 pub returns : goal.returns
-returns g c = are_games_later (work_state g.S.CellStore.state c.args.work.now) (work_state g.S.CellStore.state c.tree_of.new.store) c.tree_of.ensures.known c.args.pool.now c.requires
+returns g c = are_games_later (work_state g.S.CellStore.state c.args.work.now) (work_state g.S.CellStore.state c.tree_of.new.store)
+    c.tree_of.ensures.known c.args.pool.now c.requires

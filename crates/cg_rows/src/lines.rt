@@ -1,20 +1,25 @@
-//! Rows and their replies.
+//! Lines with their costs and refusals. A row is `cells share positions line => reply`: the reply to the line on
+//! that share and with that limit on positions, on a new store of so many cells, or on the store of the row before
+//! where that is 0. A name that is a reply is read back.
 ghost use Rattle.std.specs.Prelude.{◌≡◌, true, false};
 ghost use Rattle.cg_grammar.specs.Lines.{is_blank_line, IsComment};
 
-use anyhow::Result;
+use crate::expressions::EXPRESSIONS;
+use crate::names::NAMES;
+use crate::positions::POSITIONS;
 use cg_cells::{CellStore, PlainStore};
 use cg_eval::{Answered, answer};
 use cg_nodes::GameFacts;
 use cg_syntax::{Line, read_line};
 use cg_values::CgBoards;
 use std::alloc::Global;
+use std::test::Fail;
 
 /// The cells, the share and the positions with which names are read back.
 const WIDE: u64 = 300_000;
 
 /// The store that lines are answered on.
-pub type Store = PlainStore<GameFacts<CgBoards>>;
+type Store = PlainStore<GameFacts<CgBoards>>;
 
 /// A line, with the cells of a new store or 0, its share and its limit on positions.
 #[derive(Clone, Copy)]
@@ -52,7 +57,7 @@ fn gets_reply(alloc: Global, line: &[u8]) -> bool
 }
 
 /// The reply to the line of a row, on this store; none of a line that gets none.
-fn ask(alloc: Global, store: &mut Store, row: &Row) -> Result<Option<Answered>> {
+fn ask(alloc: Global, store: &mut Store, row: &Row) -> anyhow::Result<Option<Answered>> {
     let share = row.share.min(store.spare());
     let bytes = row.line.as_bytes();
     if gets_reply(alloc, bytes) {
@@ -63,9 +68,9 @@ fn ask(alloc: Global, store: &mut Store, row: &Row) -> Result<Option<Answered>> 
     }
 }
 
-/// The text of the reply. Where the reply isn't refused exactly where its text begins with an exclamation mark, or has no
-/// handle exactly where it is refused, that is said, too.
-fn shown(alloc: Global, answered: &Answered) -> Result<String> {
+/// The text of the reply. Where the reply isn't refused exactly where its text begins with an exclamation mark, or
+/// has no handle exactly where it is refused, that is said, too.
+fn shown(alloc: Global, answered: &Answered) -> anyhow::Result<String> {
     let text = str::from_utf8(answered.text.as_slice())?;
     let marked = text.starts_with('!');
     if answered.refused == marked && answered.handle.is_none() == marked {
@@ -76,7 +81,7 @@ fn shown(alloc: Global, answered: &Answered) -> Result<String> {
 }
 
 /// The reply to `value` of a name, on a store of its own.
-fn again(alloc: Global, name: &str) -> Result<String> {
+fn again(alloc: Global, name: &str) -> anyhow::Result<String> {
     let line = format!(in alloc; "value {name}")?;
     let mut store = Store::new(alloc, WIDE)?;
     let row = Row {
@@ -92,7 +97,7 @@ fn again(alloc: Global, name: &str) -> Result<String> {
 }
 
 /// The text of the reply, and where it is a name that doesn't read back as itself, what it reads back as.
-fn read_back(alloc: Global, row: &Row, answered: &Answered) -> Result<String> {
+fn read_back(alloc: Global, row: &Row, answered: &Answered) -> anyhow::Result<String> {
     let text = shown(alloc, answered)?;
     if answered.refused || !row.line.starts_with("value ") {
         return Ok(text);
@@ -105,7 +110,7 @@ fn read_back(alloc: Global, row: &Row, answered: &Answered) -> Result<String> {
 }
 
 /// The reply to a row, on a store of its own or on this one. A name is read back.
-pub fn reply(alloc: Global, store: &mut Store, text: &str) -> Result<String> {
+fn reply(alloc: Global, store: &mut Store, text: &str) -> anyhow::Result<String> {
     let Some(row) = row_of(text) else {
         return Ok(String::from_str(alloc, "no row")?);
     };
@@ -116,4 +121,26 @@ pub fn reply(alloc: Global, store: &mut Store, text: &str) -> Result<String> {
         Some(answered) => read_back(alloc, &row, &answered),
         None => Ok(String::from_str(alloc, "no reply")?),
     }
+}
+
+/// The first row whose line gets another reply, with that reply.
+fn first_wrong(alloc: Global, rows: &str) -> anyhow::Result<Option<String>> {
+    let mut store = Store::new(alloc, 1)?;
+    for row in rows.split('\n') {
+        if let Some((line, wanted)) = row.split_once(" => ") {
+            let found = reply(alloc, &mut store, line)?;
+            if found.as_str() != wanted {
+                return Ok(Some(format!(in alloc; "{line} => {found}")?));
+            }
+        }
+    }
+    Ok(None)
+}
+
+#[test]
+fn cost_what_they_should(rt: HostRuntime) -> Result<(), Fail> {
+    for rows in [EXPRESSIONS, POSITIONS, NAMES] {
+        assert_eq!(rt; first_wrong(rt.alloc(), rows)?, None);
+    }
+    Ok(())
 }
