@@ -6,16 +6,15 @@ use Rattle.cg_dyadic.specs.Number.{Number, exp_of, ratio}
 use Rattle.cg_form.specs.Game.{Among, Game, number}
 use Rattle.cg_form.specs.Heights.{height}
 use Rattle.cg_form.specs.Order.{Equal}
-use Rattle.cg_form.specs.Simple.{NoNumber}
+use Rattle.cg_form.specs.Simple.{Decides, NoNumber}
 use Rattle.cg_form.specs.Walls.{TemperatureIs, scaffold_of}
 use Rattle.cg_nodes.specs.Positions.{positions_of}
--- whether a game equals a number is decided
-pub use Rattle.cg_form.proofs.Decide.{number-decide}
+use Rattle.cg_form.proofs.Decide.{number-decide}
 
 -- the walls from t = end on are the mast, in units of 1 / 2 ^ s: from 0 for a number, and else from the temperature
-pub record MastFrom (s : ℕ) (g : Game) (end : ℕ) : Type 0 where
+pub record MastFrom (d : Decides) (s : ℕ) (g : Game) (end : ℕ) : Type 0 where
   pub number : (x : Number) → Equal (number x) g → end ≡ 0
-  pub other : NoNumber g → TemperatureIs number-decide s g end
+  pub other : NoNumber g → TemperatureIs d s g end
 
 -- the mean and the temperature of g
 pub record IsThermal (g : Game) (mean temp : Number) : Type 0 where

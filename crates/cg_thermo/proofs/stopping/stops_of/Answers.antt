@@ -4,7 +4,8 @@ use Rattle.cg_canon.specs.Written.{IsWrittenAs}
 use Rattle.cg_canon.specs.declared.written.Written.{Written}
 use Rattle.cg_nodes.specs.Games.{game_at}
 use Rattle.cg_form.specs.Game.{Game}
-use Rattle.cg_thermo.specs.Ended.{StopsAre, ended}
+use Rattle.cg_thermo.specs.Ended.{ended}
+use Rattle.cg_thermo.specs.StopsOf.{StopsAre}
 use Rattle.cg_thermo.proofs.Besting.{number-stops}
 use Rattle.cg_thermo.proofs.Keeping.{options_later, read_left, read_node, read_right}
 use Rattle.cg_thermo.proofs.stopping.stops_of.Goals as goal
