@@ -35,6 +35,7 @@ pub mod WallStart
 pub mod Finer
 pub mod WallOrder
 pub mod Temperature
+pub mod Thermal
 pub mod FormLists
 pub mod Depth
 pub mod CutSteps

@@ -18,6 +18,7 @@ pub mod Shifted
 pub mod Stops
 pub mod Heights
 pub mod Walls
+pub mod Cooling
 pub mod Depth
 pub mod Side
 pub mod Cut

@@ -3,12 +3,15 @@
 -- Siegel, Combinatorial Game Theory (2013), II.5: scaffolds, walls, temperature and mean. The law function `l7` states
 -- the rule of the walls as it stands here, and that they are the scaffolds up to the temperature and the mast above it;
 -- the bound below only makes the recursion end.
-use Rattle.std.specs.Prelude.{ℕ, zero, suc, ◌≡◌, ◌<◌, List, [], ◌∷◌, map, cond, ℤ, pos, ◌+ℤ◌, ◌-ℤ◌}
+use Rattle.std.specs.Prelude.{ℕ, zero, suc, ◌≡◌, ◌<◌, ◌≤◌, List, [], ◌∷◌, map, cond, ℤ, pos, negsuc, ◌+ℤ◌, ◌-ℤ◌}
 use lib.Signed.{le_z}
 use mathlib.Core.Logic.{inl, inr}
+use Rattle.cg_dyadic.specs.Number.{Number, exp_of, ratio}
 use Rattle.cg_dyadic.specs.Units.{units}
-use Rattle.cg_form.specs.Game.{Game, lefts, rights}
-use Rattle.cg_form.specs.Simple.{Decided, Decides}
+use Rattle.cg_form.specs.Game.{Game, lefts, number, rights}
+use Rattle.cg_form.specs.Heights.{height}
+use Rattle.cg_form.specs.Order.{Equal}
+use Rattle.cg_form.specs.Simple.{Decided, Decides, NoNumber}
 use Rattle.cg_form.specs.Size.{size}
 
 -- ---- walls
@@ -64,18 +67,19 @@ walls d s t g = walls_within d (suc (size g)) s t g
 abbrev pub scaffold_of : Decides → ℕ → Game → ℕ → Walls
 scaffold_of d s g t = scaffold (walls d s) g t
 
--- ---- temperature and mean of a game that equals no number
+-- ---- temperature and mean
 
--- the temperature is t, the least at which the scaffolds agree
+-- the temperature of a game that equals no number is t, the least at which the scaffolds agree
 pub record TemperatureIs (d : Decides) (s : ℕ) (g : Game) (t : ℕ) : Type 0 where
   pub agree : (scaffold_of d s g t).left ≡ (scaffold_of d s g t).right
   pub before : (u : ℕ) → u < t → ¬ ((scaffold_of d s g u).left ≡ (scaffold_of d s g u).right)
 
--- the mean is m, the value of the scaffolds at the temperature
-pub record MeanIs (d : Decides) (s : ℕ) (g : Game) (m : ℤ) : Type 0 where
-  pub at : ℕ
-  pub temperature : TemperatureIs d s g at
-  pub value : (scaffold_of d s g at).left ≡ m
+-- the mean and the temperature of g as numbers. The mean of a number is the number, and its temperature is -1 / 2 ^ k,
+-- where its denominator is 2 ^ k; the mean of another game is the value of the scaffolds at its temperature.
+pub record IsThermal (g : Game) (mean temp : Number) : Type 0 where
+  pub number : (x : Number) → Equal (number x) g → (mean ≡ x) × (temp ≡ ratio (negsuc 0) (exp_of x))
+  pub other : NoNumber g → (d : Decides) (s t : ℕ) → height g ≤ s → TemperatureIs d s g t
+      → (mean ≡ ratio (scaffold_of d s g t).left s) × (temp ≡ ratio (pos t) s)
 
 -- ---- a finer scale
 

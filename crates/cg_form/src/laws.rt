@@ -20,7 +20,7 @@ ghost use Rattle.cg_form.specs.Canonical.{Canonical, IsCanonicalForm, LeftAbove,
 ghost use Rattle.cg_form.specs.Shifted.{number_sum, shifted};
 ghost use Rattle.cg_form.specs.Stops.{stops, stops_by, greatest_number, least_number};
 ghost use Rattle.cg_form.specs.Heights.{height};
-ghost use Rattle.cg_form.specs.Walls.{walls, walls_by, scaffold_of, TemperatureIs, MeanIs, AtNext};
+ghost use Rattle.cg_form.specs.Walls.{walls, walls_by, scaffold_of, TemperatureIs, IsThermal, AtNext};
 
 use std::cmp::Ordering;
 
@@ -168,7 +168,10 @@ pub fn l6()
 /// at t and t + 1, so no wall bends between whole units.
 ///
 /// If G >= H, each wall of G is at least that of H; if not G <= H, the left wall of G is at least
-/// the right wall of H less t. Equal games have equal walls, temperatures and means.
+/// the right wall of H less t.
+///
+/// Each game, numbers included, has one mean and one temperature, which need no more binary places
+/// than the height. Equal games have equal walls, temperatures and means.
 pub fn l7()
     ensures options { (d : Decides) (s t : ℕ) (g : Game) → walls d s t g ≡ walls_by g (d g) s (scaffold_of d s g) t }
     ensures unique { (d e : Decides) (s t : ℕ) (g : Game) → walls d s t g ≡ walls e s t g }
@@ -203,6 +206,11 @@ pub fn l7()
         → (t : ℕ) → walls d s t g ≡ walls d s t h }
     ensures equal_temperature { (d : Decides) (s : ℕ) (g h : Game) → height g ≤ s → height h ≤ s
         → NoNumber g → NoNumber h → Equal g h → (t : ℕ) → TemperatureIs d s g t → TemperatureIs d s h t }
-    ensures equal_mean { (d : Decides) (s : ℕ) (g h : Game) (m : ℤ) → height g ≤ s → height h ≤ s
-        → NoNumber g → NoNumber h → Equal g h → MeanIs d s g m → MeanIs d s h m }
+    ensures thermal { (g : Game) → (mean : Number) × (temp : Number) × IsThermal g mean temp }
+    ensures one_thermal { (g : Game) (mean temp m t : Number) → IsThermal g mean temp → IsThermal g m t
+        → (mean ≡ m) × (temp ≡ t) }
+    ensures equal_thermal { (g h : Game) (mean temp : Number) → Equal g h → IsThermal g mean temp
+        → IsThermal h mean temp }
+    ensures thermal_places { (g : Game) (mean temp : Number) → IsThermal g mean temp
+        → (exp_of mean ≤ height g) × (exp_of temp ≤ height g) }
 {}

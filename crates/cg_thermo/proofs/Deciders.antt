@@ -1,9 +1,9 @@
 -- Masts and corners are the same, however it is decided which games equal a number.
 use Rattle.std.proofs.Common.{◌≡◌, ℕ, ◌<◌, subst, map}
+use Rattle.cg_form.specs.Cooling.{Cool}
 use Rattle.cg_form.specs.Game.{Game}
 use Rattle.cg_form.specs.Simple.{Decides}
 use Rattle.cg_form.specs.Walls.{TemperatureIs, Walls, scaffold, scaffold_of}
-use Rattle.cg_form.proofs.Cooled.{Cool}
 use Rattle.cg_form.proofs.Walls.{walls-unique}
 use Rattle.cg_lines.specs.Corners.{corners}
 use Rattle.cg_thermo.specs.Pictures.{left_corners, right_corners, spot}

@@ -1,10 +1,11 @@
 -- The walls of a game from those of its options, at a scale at which these are smooth.
 use Rattle.std.proofs.Common.{◌≡◌, refl, ℕ, ◌+◌, ◌-◌, ◌<◌, ◌≤◌, arith, zero, suc, ◌⊎◌, inl, inr, ap, sym, ◌∙◌, min, map, ℤ, pos, neg_ℤ, ◌+ℤ◌, ◌-ℤ◌, ◌≤ℤ◌, ◌<ℤ◌}
 use Rattle.std.proofs.lemmas.Int.{ints}
+use Rattle.cg_form.specs.Cooling.{Cool, Steps}
 use Rattle.cg_form.specs.Game.{Among, Game, lefts, rights}
 use Rattle.cg_form.specs.Simple.{NoNumber}
 use Rattle.cg_form.specs.Walls.{TemperatureIs, Walls, cooled, greatest, least, scaffold_of, walls}
-use Rattle.cg_form.proofs.Cooled.{Cool, Steps, uncrossed}
+use Rattle.cg_form.proofs.Cooled.{uncrossed}
 use Rattle.cg_form.proofs.Decide.{number-decide}
 use Rattle.cg_thermo.proofs.Deciders.{cool-unique}
 use Rattle.cg_form.proofs.Temperature.{kept}

@@ -13,8 +13,8 @@ use Rattle.cg_dyadic.specs.Units.{units}
 use Rattle.cg_dyadic.specs.Wide.{InWide, places}
 use Rattle.cg_dyadic.proofs.Wides.{word-wide}
 use Rattle.cg_thermo.specs.declared.corners.Corner.{Corner}
-use Rattle.cg_lines.specs.Lines.{AllAfter, OnLine, RiseAfter, TimesRise, before_all, further}
-use Rattle.cg_lines.proofs.Lines.{after-rise, further-down, further-none, further-up, on-since, one-on}
+use Rattle.cg_lines.specs.Lines.{OnLine, RiseAfter, TimesRise, before_all, further}
+use Rattle.cg_lines.proofs.Lines.{after-rise, further-none, on-since, one-on}
 use Rattle.cg_thermo.specs.WallLine.{mark_at, marks_at}
 
 -- ---- the line, one corner after the other

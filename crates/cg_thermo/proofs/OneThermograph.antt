@@ -1,32 +1,21 @@
 -- Each game has one thermograph, and whether some position needs too many binary places is decided.
-use Rattle.std.proofs.Common.{◌≡◌, refl, ap, sym, ◌∙◌, subst, ℕ, ◌<◌, ◌≤◌, ◌⊎◌, inl, inr, arith, List, [], ◌∷◌, pos, negsuc}
-use Rattle.cg_dyadic.specs.Number.{Number, exp_of, ratio}
+use Rattle.std.proofs.Common.{◌≡◌, refl, ap, sym, ◌∙◌, subst, ℕ, ◌<◌, ◌≤◌, ◌⊎◌, inl, inr, arith, List, [], ◌∷◌}
+use Rattle.cg_dyadic.specs.Number.{Number, exp_of}
 use Rattle.cg_dyadic.specs.Wide.{places}
 use Rattle.cg_form.specs.Game.{Among, Game}
 use Rattle.cg_form.specs.Heights.{height}
-use Rattle.cg_form.specs.Simple.{Decided, NoNumber}
-use Rattle.cg_form.specs.Walls.{TemperatureIs, scaffold_of}
+use Rattle.cg_form.specs.Simple.{Decided}
+use Rattle.cg_form.specs.Walls.{IsThermal}
 use Rattle.cg_form.proofs.Decide.{number-decide}
-use Rattle.cg_form.proofs.Simplicity.{one_number}
-use Rattle.cg_form.proofs.Temperature.{scaffolds_agree, temperature-there}
+use Rattle.cg_form.proofs.Thermal.{Thermal, cools, one-thermal, thermal}
 use Rattle.cg_nodes.specs.Positions.{positions_of}
 use Rattle.cg_thermo.specs.Pictures.{left_corners, right_corners}
-use Rattle.cg_thermo.specs.Thermal.{IsThermal, MastFrom, NeedsMore}
+use Rattle.cg_thermo.specs.Thermal.{MastFrom, NeedsMore}
 use Rattle.cg_thermo.proofs.Deciders.{left-unique, mast-unique, right-unique}
 use Rattle.cg_thermo.proofs.Smooth.{smooth-high}
-use Rattle.cg_thermo.proofs.Upward.{corners-same, seen-own, thermal-none, thermal-number}
+use Rattle.cg_thermo.proofs.Upward.{corners-same, seen-own}
 use Rattle.cg_thermo.specs.Thermographs.{IsThermograph}
 use Rattle.cg_thermo.specs.declared.thermo.Walls as drawn
-
--- a game that equals no number has a temperature at each scale of at least its height
-pub record Cools (s : ℕ) (g : Game) : Type 0 where
-  pub at : ℕ
-  pub is : TemperatureIs number-decide s g at
-
-pub cools : (s : ℕ) (g : Game) → height g ≤ s → NoNumber g → Cools s g
-cools s g h never =
-    let (t, k) = temperature-there number-decide s g (scaffolds_agree number-decide s g never h)
-    in record { at = t; is = k }
 
 -- where the mast begins at a scale of at least the height
 pub record Mast (s : ℕ) (g : Game) : Type 0 where
@@ -42,52 +31,10 @@ mast s g h = by (number-decide g)
       from = record { number = λ y f. refl; other = λ never. absurd (never w.0 w.1) };
     }
     by (inr never) =
-        let c = cools s g h never in record {
+        let c = cools number-decide s g h never in record {
           end = c.at;
           from = record { number = λ y f. absurd (never y f); other = λ k. c.is };
         }
-
--- ---- the mean and the temperature
-
-record Thermal (g : Game) : Type 0 where
-  pub mean : Number
-  pub temp : Number
-  pub is : IsThermal g mean temp
-
-thermal : (g : Game) → Thermal g
-thermal g = by (number-decide g)
-  where
-    by : Decided g → Thermal g
-    by (inl w) = record {
-      mean = w.0;
-      temp = ratio (negsuc 0) (exp_of w.0);
-      is = thermal-number g w.0 w.0 (ratio (negsuc 0) (exp_of w.0)) w.1 (λ y f. one_number w.0 y g w.1 f) refl refl;
-    }
-    by (inr never) =
-        let m = mast (height g) g (omega arith) in
-        record {
-          mean = ratio (scaffold_of number-decide (height g) g m.end).left (height g);
-          temp = ratio (pos m.end) (height g);
-          is = thermal-none (height g) g m.end _ _ _ _ never
-              (seen-own (height g) g m.end (smooth-high (height g) g (omega arith)) m.from);
-        }
-
-record SameThermal (m t n u : Number) : Type 0 where
-  pub means : m ≡ n
-  pub temps : t ≡ u
-
-one-thermal : (g : Game) (m t n u : Number) → IsThermal g m t → IsThermal g n u → SameThermal m t n u
-one-thermal g m t n u a b = by (number-decide g)
-  where
-    by : Decided g → SameThermal m t n u
-    by (inl w) =
-        let x = a.number w.0 w.1 in let y = b.number w.0 w.1 in
-        record { means = x.0 ∙ sym y.0; temps = x.1 ∙ sym y.1 }
-    by (inr never) =
-        let c = cools (height g) g (omega arith) never in
-        let x = a.other never (height g) c.at (omega arith) c.is in
-        let y = b.other never (height g) c.at (omega arith) c.is in
-        record { means = x.0 ∙ sym y.0; temps = x.1 ∙ sym y.1 }
 
 -- ---- thermographs
 

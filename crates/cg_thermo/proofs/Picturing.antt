@@ -16,7 +16,7 @@ use Rattle.cg_form.specs.Game.{Among, Game, number, options}
 use Rattle.cg_form.specs.Heights.{height}
 use Rattle.cg_form.specs.Order.{Equal}
 use Rattle.cg_form.specs.Simple.{Decided, NoNumber}
-use Rattle.cg_form.specs.Walls.{Walls, scaffold_of, walls}
+use Rattle.cg_form.specs.Walls.{IsThermal, Walls, scaffold_of, walls}
 use Rattle.cg_form.proofs.Cooled.{uncrossed}
 use Rattle.cg_form.proofs.Decide.{number-decide}
 use Rattle.cg_form.proofs.Preorder.{equal_refl}
@@ -39,10 +39,10 @@ use Rattle.cg_thermo.specs.declared.thermo.Walls as drawn
 use Rattle.cg_thermo.specs.Draws.{Draws}
 use Rattle.cg_thermo.specs.Pictures.{left_corners, right_corners, spot}
 use Rattle.cg_thermo.specs.Progress.{Charted}
-use Rattle.cg_thermo.specs.Signed.{corner_at}
+use Rattle.cg_thermo.specs.Signed.{Pictured, corner_at}
 use Rattle.cg_thermo.specs.Smooths.{Smooth, smooth_number, smooth_other}
-use Rattle.cg_thermo.specs.Thermal.{IsThermal, NeedsMore}
-use Rattle.cg_thermo.specs.Thermographs.{IsThermograph, Pictured}
+use Rattle.cg_thermo.specs.Thermal.{NeedsMore}
+use Rattle.cg_thermo.specs.Thermographs.{IsThermograph}
 use Rattle.cg_thermo.proofs.Deciders.{left-unique, mast-unique, right-unique}
 use Rattle.cg_thermo.proofs.Options.{canonical-node}
 use Rattle.cg_thermo.proofs.Upward.{corners-same, seen-own, thermal-none, thermal-number}
@@ -209,8 +209,8 @@ enough_by g c mean temp (inr never) k t more =
     let i = thermal-none places g c.end (ratio (scaffold_of number-decide places g c.end).left places)
     (ratio (pos c.end) places) (left_corners number-decide places g c.end) (right_corners number-decide places g c.end) never s in
     let (u, v) = temperature-there number-decide (height g) g (scaffolds_agree number-decide (height g) g never (omega arith)) in
-    let x = t.other never (height g) u (omega arith) v in
-    let y = i.other never (height g) u (omega arith) v in
+    let x = t.other never number-decide (height g) u (omega arith) v in
+    let y = i.other never number-decide (height g) u (omega arith) v in
     let a = ap exp_of (x.0 ∙ sym y.0) in let b = ap exp_of (x.1 ∙ sym y.1) in
     let p = exp-ratio (scaffold_of number-decide places g c.end).left places in
     let q = exp-ratio (pos c.end) places in

@@ -7,9 +7,9 @@ use Rattle.cg_dyadic.specs.Number.{exp_of, num_of, ratio}
 use Rattle.cg_dyadic.proofs.Scale.{doubled-add, doubled-mul}
 use Rattle.cg_dyadic.proofs.Integers.{le_or_lt}
 use Rattle.cg_dyadic.proofs.Fractions.{fraction-ratio, fraction-unique}
+use Rattle.cg_form.specs.Cooling.{Cool}
 use Rattle.cg_form.specs.Game.{Game}
 use Rattle.cg_form.specs.Walls.{TemperatureIs, Walls, scaffold_of, walls}
-use Rattle.cg_form.proofs.Cooled.{Cool}
 use Rattle.cg_form.proofs.Decide.{number-decide}
 use Rattle.cg_form.proofs.Finer.{Finer, twice, twice_pos}
 use Rattle.cg_form.proofs.Temperature.{earlier}

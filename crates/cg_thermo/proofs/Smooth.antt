@@ -3,12 +3,12 @@ use Rattle.std.proofs.Common.{◌≡◌, ℕ, ◌+◌, ◌<◌, ◌≤◌, arith
 use Rattle.std.proofs.lemmas.Int.{ints}
 use Rattle.cg_dyadic.specs.Units.{units}
 use Rattle.cg_dyadic.proofs.Scale.{units-suc}
+use Rattle.cg_form.specs.Cooling.{Cool}
 use Rattle.cg_form.specs.Game.{Among, Game, lefts, rights}
 use Rattle.cg_form.specs.Heights.{height}
 use Rattle.cg_form.specs.Simple.{Decided, NoNumber}
 use Rattle.cg_form.specs.Size.{size}
 use Rattle.cg_form.specs.Walls.{Walls, cooled, scaffold_of, walls}
-use Rattle.cg_form.proofs.Cooled.{Cool}
 use Rattle.cg_form.proofs.Decide.{number-decide}
 use Rattle.cg_form.proofs.Finer.{Finer, cool, cooled-finer, finer-no_jump, scaffold-finer, twice}
 use Rattle.cg_form.proofs.Heights.{height-left, height-right, number-low}

@@ -5,12 +5,13 @@ use Rattle.cg_form.specs.Game.{Game, number}
 use Rattle.cg_form.specs.Heights.{height}
 use Rattle.cg_form.specs.Order.{Equal}
 use Rattle.cg_form.specs.Simple.{Decided, NoNumber}
-use Rattle.cg_form.specs.Walls.{scaffold_of}
+use Rattle.cg_form.specs.Walls.{IsThermal, scaffold_of}
 use Rattle.cg_form.proofs.Decide.{number-decide}
 use Rattle.cg_form.proofs.Finer.{twice, twice_pos}
+use Rattle.cg_form.proofs.Thermal.{thermal-by}
 use Rattle.cg_thermo.specs.declared.corners.Corner.{Corner}
 use Rattle.cg_thermo.specs.Pictures.{left_corners, right_corners}
-use Rattle.cg_thermo.specs.Thermal.{IsThermal, MastFrom}
+use Rattle.cg_thermo.specs.Thermal.{MastFrom}
 use Rattle.cg_thermo.proofs.Scales.{left-next, ratio-double, right-next, temperature-next, temperature-one}
 use Rattle.cg_thermo.specs.Smooths.{Smooth, smooth_number, smooth_other}
 use Rattle.cg_thermo.proofs.Smooth.{scaffolds_finer, smooth-finer, smooth-high, smooth-up}
@@ -100,14 +101,11 @@ seen-own s g end m k = record { smooth = m; mast = k; mean_is = λ _. refl; temp
 
 pub thermal-none : (s : ℕ) (g : Game) (end : ℕ) (mean temp : Number) (left right : List Corner) → NoNumber g → Seen s g end mean temp left right
     → IsThermal g mean temp
-thermal-none s g end mean temp left right never v = record {
-  number = λ x e. absurd (never x e);
-  other = λ k r t h u.
-      let w = seen-own r g t (smooth-high r g h) (record { number = λ x e. absurd (never x e); other = λ _. u }) in
-      let m = sight-same s r g end t mean temp (ratio (scaffold_of number-decide r g t).left r) (ratio (pos t) r) left right
-      (left_corners number-decide r g t) (right_corners number-decide r g t) v w in
-      (m.means never, m.temps never);
-}
+thermal-none s g end mean temp left right never v = thermal-by number-decide g mean temp never (λ r t h u.
+    let w = seen-own r g t (smooth-high r g h) (record { number = λ x e. absurd (never x e); other = λ _. u }) in
+    let m = sight-same s r g end t mean temp (ratio (scaffold_of number-decide r g t).left r) (ratio (pos t) r) left right
+    (left_corners number-decide r g t) (right_corners number-decide r g t) v w in
+    (m.means never, m.temps never))
 
 pub thermal-number : (g : Game) (x mean temp : Number) → Equal (number x) g → ((y : Number) → Equal (number y) g → x ≡ y)
     → mean ≡ x → temp ≡ ratio (negsuc 0) (exp_of x) → IsThermal g mean temp

@@ -1,5 +1,5 @@
 -- The line through the corners of a wall of a game.
-use Rattle.std.proofs.Common.{◌≡◌, refl, ℕ, ◌≤◌, arith, zero, suc, inl, inr, ap, sym, ◌∙◌, ℤ, pos}
+use Rattle.std.proofs.Common.{◌≡◌, refl, ℕ, ◌≤◌, arith, inl, inr, ap, sym, ◌∙◌, ℤ, pos}
 use Rattle.std.proofs.lemmas.Int.{ints}
 use Rattle.cg_dyadic.specs.Number.{Number, exp_of}
 use Rattle.cg_dyadic.specs.Units.{units}

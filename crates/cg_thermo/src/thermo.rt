@@ -10,8 +10,9 @@ ghost use Rattle.cg_lines.specs.declared.TheConstants.{END};
 ghost use Rattle.cg_lines.specs.Rises.{IsWall};
 ghost use Rattle.cg_nodes.specs.Games.{IsGame, IsNode, game_at};
 ghost use Rattle.cg_thermo.specs.Progress.{Charted};
+ghost use Rattle.cg_thermo.specs.Signed.{Pictured};
 ghost use Rattle.cg_thermo.specs.Thermal.{NeedsMore};
-ghost use Rattle.cg_thermo.specs.Thermographs.{DrawsWalls, IsThermograph, Pictured};
+ghost use Rattle.cg_thermo.specs.Thermographs.{DrawsWalls, IsThermograph};
 
 use crate::chart::{Chart, Charts};
 use crate::corners::{Corners, corners_of};

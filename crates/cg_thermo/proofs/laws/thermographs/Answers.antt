@@ -1,5 +1,5 @@
 use Rattle.cg_thermo.proofs.EqualThermographs.{equal-thermograph}
-use Rattle.cg_thermo.proofs.OneThermograph.{needs-or-not, one-thermograph, some-thermograph}
+use Rattle.cg_thermo.proofs.OneThermograph.{one-thermograph, some-thermograph}
 use Rattle.cg_thermo.proofs.laws.thermographs.Goals as goal
 
 pub returns : goal.returns
