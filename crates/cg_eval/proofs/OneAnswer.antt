@@ -2,7 +2,6 @@
 use Rattle.std.proofs.Common.{◌≡◌, refl, ap, sym, ◌∙◌, ℕ, List, ◌⊎◌, inl, inr}
 use Rattle.cg_dyadic.specs.Wide.{places}
 use Rattle.cg_form.specs.Game.{Game}
-use Rattle.cg_form.specs.Simple.{Decides}
 use Rattle.cg_form.specs.Stops as form
 use Rattle.cg_form.proofs.Decide.{number-decide}
 use Rattle.cg_form.proofs.StopValues.{stops_unique}
@@ -11,7 +10,7 @@ use Rattle.cg_thermo.specs.declared.thermo.Walls.{Walls}
 use Rattle.cg_thermo.specs.Thermal.{NeedsMore}
 use Rattle.cg_thermo.specs.Thermographs.{IsThermograph}
 use Rattle.cg_thermo.proofs.OneThermograph.{needs-or-not, one-thermograph, some-thermograph}
-use Rattle.cg_syntax.specs.Tree.{Question, Tree, value, compare, outcome, stops, mean, temp, thermo, proof, check}
+use Rattle.cg_syntax.specs.Tree.{Question, value, compare, outcome, stops, mean, temp, thermo, proof, check}
 use Rattle.cg_eval.specs.Meaning.{meaning}
 use Rattle.cg_eval.specs.Pictures.{mean_text, stops_text, temp_text, thermograph_text}
 use Rattle.cg_eval.specs.Reply.{IsAnswerTo, IsChecked, IsProved, IsShown, Piece, answer, too_fine, too_long}
@@ -71,14 +70,14 @@ one-answer (thermo t) p r a b = one-shown (meaning t) thermograph_text p r a b
 one-answer (proof s t) p r a b = one-proved (can (meaning s)) (can (meaning t)) p r a b
 one-answer (check s t text) p r a b = one-checked (can (meaning s)) (can (meaning t)) text p r a b
 
-stops-answer : Decides → Tree → Piece
-stops-answer d t = answer (stops_text (form.stops d (meaning t)).left (form.stops d (meaning t)).right)
-
 pub some-answer : (q : Question) → (p : Piece) × IsAnswerTo q p
 some-answer (value t) = (_, refl)
 some-answer (compare s t) = (_, refl)
 some-answer (outcome t) = (_, refl)
-some-answer (stops t) = (stops-answer number-decide t, λ d. ap (λ (z : form.Stops). answer (stops_text z.left z.right)) (stops_unique number-decide d (meaning t)))
+some-answer (stops t) = (
+  answer (stops_text (form.stops number-decide (meaning t)).left (form.stops number-decide (meaning t)).right),
+  λ d. ap (λ (z : form.Stops). answer (stops_text z.left z.right)) (stops_unique number-decide d (meaning t)),
+)
 some-answer (mean t) = some-shown (meaning t) mean_text
 some-answer (temp t) = some-shown (meaning t) temp_text
 some-answer (thermo t) = some-shown (meaning t) thermograph_text

@@ -17,3 +17,4 @@ pub mod Lining
 pub mod Rescaled
 pub mod OneThermograph
 pub mod EqualThermographs
+pub mod Places
