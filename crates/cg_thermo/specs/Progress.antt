@@ -11,7 +11,7 @@ use Rattle.cg_nodes.specs.Meant.{Meant}
 use Rattle.cg_thermo.specs.declared.chart.Chart.{Chart}
 use Rattle.cg_thermo.specs.Draws.{Draws}
 use Rattle.cg_thermo.specs.Found.{Charts, charted}
-use Rattle.cg_thermo.specs.Kept.{Holds, OptionsKept}
+use Rattle.cg_thermo.specs.Kept.{KeepsOwn, OptionsKept}
 use Rattle.cg_thermo.specs.Smooths.{Smooth}
 
 -- the chart is that of the game, whose temperatures need no more places
@@ -21,7 +21,7 @@ pub record Charted (g : Game) (c : Chart) : Type 0 where
 
 -- what was found for a handle is the chart of its game
 abbrev pub HoldsCharts : {R : Type 0} → State Meant R → Charts → Type 0
-HoldsCharts {R} s m = Holds Charted s (charted m)
+HoldsCharts {R} s m = KeepsOwn Charted s (charted m)
 
 -- for each option of the game some handle stands whose chart was found
 abbrev pub OptionsCharted : {R : Type 0} → State Meant R → Charts → ℕ → Type 0

@@ -1,4 +1,4 @@
--- Each game has one picture, and whether some position needs too many binary places is decided.
+-- Each game has one thermograph, and whether some position needs too many binary places is decided.
 use Rattle.std.proofs.Common.{◌≡◌, refl, ap, sym, ◌∙◌, subst, ℕ, ◌<◌, ◌≤◌, ◌⊎◌, inl, inr, arith, List, [], ◌∷◌}
 use Rattle.cg_dyadic.specs.Number.{Number, exp_of}
 use Rattle.cg_dyadic.specs.Wide.{places}
@@ -11,15 +11,16 @@ use Rattle.cg_form.proofs.Thermal.{Thermal, cools, one-thermal, thermal}
 use Rattle.cg_form.specs.Positions.{positions_of}
 use Rattle.cg_thermo.specs.Pictures.{left_corners, right_corners}
 use Rattle.cg_thermo.specs.Thermal.{MastFrom, NeedsMore}
+use Rattle.cg_thermo.proofs.Deciders.{left-unique, mast-unique, right-unique}
 use Rattle.cg_thermo.proofs.Smooth.{smooth-high}
 use Rattle.cg_thermo.proofs.Upward.{corners-same, seen-own}
-use Rattle.cg_eval.specs.Pictures.{IsPicture, Picture}
-use Rattle.cg_eval.proofs.Below.{below_or_not}
+use Rattle.cg_thermo.specs.Thermographs.{IsThermograph}
+use Rattle.cg_thermo.specs.declared.thermo.Walls as drawn
 
 -- where the mast begins at a scale of at least the height
 pub record Mast (s : ℕ) (g : Game) : Type 0 where
   pub end : ℕ
-  pub from : MastFrom s g end
+  pub from : MastFrom number-decide s g end
 
 pub mast : (s : ℕ) (g : Game) → height g ≤ s → Mast s g
 mast s g h = by (number-decide g)
@@ -35,31 +36,36 @@ mast s g h = by (number-decide g)
           from = record { number = λ y f. absurd (never y f); other = λ k. c.is };
         }
 
--- ---- pictures
+-- ---- thermographs
 
-pub some-picture : (g : Game) → (p : Picture) × IsPicture g p
-some-picture g =
+pub some-thermograph : (g : Game) → (p : drawn.Walls) × IsThermograph g p
+some-thermograph g =
     let h = thermal g in
     let m = mast (height g) g (omega arith) in
     let s = height g in
     let seen = seen-own s g m.end (smooth-high s g (omega arith)) m.from in (
-      record { mean = h.mean; temp = h.temp; left = left_corners s g m.end; right = right_corners s g m.end },
+      record { mean = h.mean; temp = h.temp; left = left_corners number-decide s g m.end; right = right_corners number-decide s g m.end },
       record {
         thermal = h.is;
-        left = λ r end l f. (corners-same s r g m.end end _ _ _ _ seen l f).0;
-        right = λ r end l f. (corners-same s r g m.end end _ _ _ _ seen l f).1;
+        left = λ d r end l f. (corners-same s r g m.end end _ _ _ _ seen l (mast-unique d number-decide r g end f)).0
+            ∙ left-unique number-decide d r g end;
+        right = λ d r end l f. (corners-same s r g m.end end _ _ _ _ seen l (mast-unique d number-decide r g end f)).1
+            ∙ right-unique number-decide d r g end;
       },
     )
 
-pub one-picture : (g : Game) (p q : Picture) → IsPicture g p → IsPicture g q → p ≡ q
-one-picture g p q a b =
+pub one-thermograph : (g : Game) (p q : drawn.Walls) → IsThermograph g p → IsThermograph g q → p ≡ q
+one-thermograph g p q a b =
     let m = mast (height g) g (omega arith) in
     let t = one-thermal g p.mean p.temp q.mean q.temp a.thermal b.thermal in
-    let l = a.left (height g) m.end (omega arith) m.from ∙ sym (b.left (height g) m.end (omega arith) m.from) in
-    let r = a.right (height g) m.end (omega arith) m.from ∙ sym (b.right (height g) m.end (omega arith) m.from) in
+    let l = a.left number-decide (height g) m.end (omega arith) m.from ∙ sym (b.left number-decide (height g) m.end (omega arith) m.from) in
+    let r = a.right number-decide (height g) m.end (omega arith) m.from ∙ sym (b.right number-decide (height g) m.end (omega arith) m.from) in
     λ i. record { mean = t.means i; temp = t.temps i; left = l i; right = r i }
 
 -- ---- too many places
+
+below_or_not : (m n : ℕ) → (m < n) ⊎ (n ≤ m)
+below_or_not m n = grind arith
 
 -- no position of the list needs more
 abbrev Enough : List Game → Type 0
