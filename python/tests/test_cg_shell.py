@@ -54,16 +54,21 @@ class Terminal:
         self.read(line + "\n")
         return self.read()
 
-    def status(self) -> int:
-        """The status at the end."""
-        self.ended = True
-        return os.waitstatus_to_exitcode(os.waitpid(self.process, 0)[1])
+    def status(self, number: int = 0) -> int:
+        """The status at the end, which comes soon, where a signal is sent until it does."""
+        for _ in range(300):
+            os.kill(self.process, number)
+            ended, status = os.waitpid(self.process, os.WNOHANG)
+            if ended:
+                self.ended = True
+                return os.waitstatus_to_exitcode(status)
+            time.sleep(0.1)
+        raise AssertionError("the command doesn't end")
 
     def close(self) -> None:
         """Ends the command if it hasn't ended."""
         if not self.ended:
-            os.kill(self.process, signal.SIGKILL)
-            self.status()
+            self.status(signal.SIGKILL)
         os.close(self.handle)
 
 
@@ -167,8 +172,7 @@ class AtATerminal(unittest.TestCase):
     def test_a_signal_ends_it_in_good_order(self) -> None:
         terminal = self.terminal()
         terminal.ask("value 1")
-        os.kill(terminal.process, signal.SIGTERM)
-        self.assertEqual(terminal.status(), 128 + signal.SIGTERM)
+        self.assertEqual(terminal.status(signal.SIGTERM), 128 + signal.SIGTERM)
         self.assertEqual(self.history.read_text(), "value 1\n")
 
     def test_long_lines_are_cut_round_the_caret(self) -> None:
