@@ -49,6 +49,7 @@ class Packing(unittest.TestCase):
         with tarfile.open(path) as archive:
             names = archive.getnames()
         self.assertIn("cgcalc-1.0/pyproject.toml", names)
+        self.assertIn("cgcalc-1.0/PKG-INFO", names)
         self.assertIn("cgcalc-1.0/cgcalc/session.py", names)
 
     @unittest.skipUnless(importlib.util.find_spec("pip"), "this Python has no pip")
