@@ -9,6 +9,7 @@ import subprocess
 import tempfile
 import time
 import unittest
+from importlib.util import find_spec
 from pathlib import Path
 from typing import Sequence
 
@@ -18,6 +19,9 @@ from tests.places import ROOT, command, environment, program, run
 PROMPT = "cg> "
 BELL = "\x07"
 WELCOME = "cg-shell: a question on each line; `:help` tells more, Ctrl-D ends\n"
+
+
+needs_readline = unittest.skipUnless(find_spec("readline"), "this Python has no readline")
 
 
 class Terminal:
@@ -102,6 +106,7 @@ class AtATerminal(unittest.TestCase):
         terminal.read("\n")
         self.assertEqual(terminal.status(), 0)
 
+    @needs_readline
     def test_words_are_completed(self) -> None:
         terminal = self.terminal()
         terminal.ask("gazebo := 3/4")
@@ -119,6 +124,7 @@ class AtATerminal(unittest.TestCase):
         terminal.read(":names\n")
         self.assertEqual(terminal.read(), "gazebo := 3/4\n")
 
+    @needs_readline
     def test_history_is_kept(self) -> None:
         terminal = self.terminal()
         terminal.ask("value {1|-1}")
@@ -131,6 +137,7 @@ class AtATerminal(unittest.TestCase):
         terminal.read("value {1|-1}\n")
         self.assertEqual(terminal.read(), "+-1\n")
 
+    @needs_readline
     def test_a_history_that_can_not_be_kept(self) -> None:
         terminal = Terminal(CG_HISTORY="/nowhere/history")
         self.addCleanup(terminal.close)
@@ -169,6 +176,7 @@ class AtATerminal(unittest.TestCase):
         terminal.type(":quit\n")
         self.assertEqual(terminal.status(), 0)
 
+    @needs_readline
     def test_a_signal_ends_it_in_good_order(self) -> None:
         terminal = self.terminal()
         terminal.ask("value 1")
