@@ -6,6 +6,7 @@ from __future__ import annotations
 
 import base64
 import hashlib
+import io
 import re
 import tarfile
 import zipfile
@@ -46,6 +47,10 @@ def build_sdist(sdist_directory: str, config_settings: Optional[dict[str, Any]] 
     with tarfile.open(Path(sdist_directory, name), "w:gz", format=tarfile.PAX_FORMAT) as archive:
         for path in [*SOURCES, *package_files()]:
             archive.add(HERE / path, f"{stem}/{path}")
+        told = metadata().encode()
+        member = tarfile.TarInfo(f"{stem}/PKG-INFO")
+        member.size = len(told)
+        archive.addfile(member, io.BytesIO(told))
     return name
 
 

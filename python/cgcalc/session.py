@@ -3,7 +3,7 @@ from __future__ import annotations
 
 import os
 import re
-from concurrent.futures import ThreadPoolExecutor
+from concurrent.futures import Future, ThreadPoolExecutor
 from dataclasses import dataclass
 from typing import Iterable, Iterator, Optional, Sequence
 
@@ -184,8 +184,10 @@ class Session:
             return _cut_output(written, lines)[len(definitions) :]
 
         pool = ThreadPoolExecutor(self.processes)
-        runs = [pool.submit(run, piece) for piece in pieces]
+        runs: list[Future[list[str]]] = []
         try:
+            for piece in pieces:
+                runs.append(pool.submit(run, piece))
             for answered in runs:
                 yield answered.result()
         finally:

@@ -39,12 +39,15 @@ def tell(command: str, message: str) -> None:
 
 
 def end_by_signals() -> None:
-    """Lets the signals that ask a command to end raise SystemExit, so that nothing is left."""
+    """Lets the first signal that asks a command to end raise SystemExit, so that it tidies up."""
+    numbers = (signal.SIGTERM, signal.SIGHUP)
 
     def end(number: int, frame: object) -> None:
+        for further in numbers:
+            signal.signal(further, signal.SIG_IGN)
         raise SystemExit(128 + number)
 
-    for number in (signal.SIGTERM, signal.SIGHUP):
+    for number in numbers:
         signal.signal(number, end)
 
 

@@ -9,6 +9,7 @@ import subprocess
 import tempfile
 import time
 import unittest
+from importlib.util import find_spec
 from pathlib import Path
 from typing import Sequence
 
@@ -18,6 +19,9 @@ from tests.places import ROOT, command, environment, program, run
 PROMPT = "cg> "
 BELL = "\x07"
 WELCOME = "cg-shell: a question on each line; `:help` tells more, Ctrl-D ends\n"
+
+
+needs_readline = unittest.skipUnless(find_spec("readline"), "this Python has no readline")
 
 
 class Terminal:
@@ -54,16 +58,21 @@ class Terminal:
         self.read(line + "\n")
         return self.read()
 
-    def status(self) -> int:
-        """The status at the end."""
-        self.ended = True
-        return os.waitstatus_to_exitcode(os.waitpid(self.process, 0)[1])
+    def status(self, number: int = 0) -> int:
+        """The status at the end, which comes soon, where a signal is sent until it does."""
+        for _ in range(300):
+            os.kill(self.process, number)
+            ended, status = os.waitpid(self.process, os.WNOHANG)
+            if ended:
+                self.ended = True
+                return os.waitstatus_to_exitcode(status)
+            time.sleep(0.1)
+        raise AssertionError("the command doesn't end")
 
     def close(self) -> None:
         """Ends the command if it hasn't ended."""
         if not self.ended:
-            os.kill(self.process, signal.SIGKILL)
-            self.status()
+            self.status(signal.SIGKILL)
         os.close(self.handle)
 
 
@@ -97,6 +106,7 @@ class AtATerminal(unittest.TestCase):
         terminal.read("\n")
         self.assertEqual(terminal.status(), 0)
 
+    @needs_readline
     def test_words_are_completed(self) -> None:
         terminal = self.terminal()
         terminal.ask("gazebo := 3/4")
@@ -114,6 +124,7 @@ class AtATerminal(unittest.TestCase):
         terminal.read(":names\n")
         self.assertEqual(terminal.read(), "gazebo := 3/4\n")
 
+    @needs_readline
     def test_history_is_kept(self) -> None:
         terminal = self.terminal()
         terminal.ask("value {1|-1}")
@@ -126,6 +137,7 @@ class AtATerminal(unittest.TestCase):
         terminal.read("value {1|-1}\n")
         self.assertEqual(terminal.read(), "+-1\n")
 
+    @needs_readline
     def test_a_history_that_can_not_be_kept(self) -> None:
         terminal = Terminal(CG_HISTORY="/nowhere/history")
         self.addCleanup(terminal.close)
@@ -164,11 +176,11 @@ class AtATerminal(unittest.TestCase):
         terminal.type(":quit\n")
         self.assertEqual(terminal.status(), 0)
 
+    @needs_readline
     def test_a_signal_ends_it_in_good_order(self) -> None:
         terminal = self.terminal()
         terminal.ask("value 1")
-        os.kill(terminal.process, signal.SIGTERM)
-        self.assertEqual(terminal.status(), 128 + signal.SIGTERM)
+        self.assertEqual(terminal.status(signal.SIGTERM), 128 + signal.SIGTERM)
         self.assertEqual(self.history.read_text(), "value 1\n")
 
     def test_long_lines_are_cut_round_the_caret(self) -> None:

@@ -1,7 +1,6 @@
 """The package can be installed, with nothing fetched."""
 from __future__ import annotations
 
-import importlib.util
 import os
 import subprocess
 import sys
@@ -9,6 +8,7 @@ import tarfile
 import tempfile
 import unittest
 import zipfile
+from importlib.util import find_spec
 from pathlib import Path
 
 import packing
@@ -49,9 +49,10 @@ class Packing(unittest.TestCase):
         with tarfile.open(path) as archive:
             names = archive.getnames()
         self.assertIn("cgcalc-1.0/pyproject.toml", names)
+        self.assertIn("cgcalc-1.0/PKG-INFO", names)
         self.assertIn("cgcalc-1.0/cgcalc/session.py", names)
 
-    @unittest.skipUnless(importlib.util.find_spec("pip"), "this Python has no pip")
+    @unittest.skipUnless(find_spec("pip"), "this Python has no pip")
     def test_pip(self) -> None:
         before = sorted(os.listdir(ROOT / "python"))
         words = ["-m", "pip", "install", "--quiet", "--no-index", "--disable-pip-version-check"]
