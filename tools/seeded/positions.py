@@ -124,6 +124,20 @@ def octal(dice):
     return f'Octal("{dice.choice([code, "0.77", "0.137", "0.07"])}",{dice.choice([0, 1, 2, 5, 9, 20, 70])})'
 
 
+def many_rules(dice):
+    """A strip with about as many weights and rules as there may be, of which a few may have a fault."""
+    symbols = dice.sample(LETTERS + ".", dice.choice([2, 15, 16, 17]))
+    symbols += dice.choice([[], [], [dice.choice(symbols)]])
+    weights = [f"{symbol}={dice.choice([place, 999 - place])},{dice.choice([0, 0, 1])},0" for place, symbol in enumerate(symbols)]
+    rules = []
+    for _ in range(dice.choice([0, 1, 31, 32, 33])):
+        length = dice.choice([1, 1, 2])
+        sides = ["".join(dice.choice(symbols) for _ in range(length)) for _ in range(2)]
+        rules.append(dice.choice("LR") + ":" + ">".join(sides) + (dice.choice(symbols + ["q"]) if dice.random() < 0.02 else ""))
+    row = "".join(dice.choice(symbols) for _ in range(dice.choice([0, 1, 3])))
+    return f'Strip("{";".join(weights + rules)}","{row}")'
+
+
 def spoiled(dice, game):
     """A position with one of its texts changed at a byte, cut off or doubled."""
     text = octal(dice) if game == "Octal" else position(dice, game, dice.random() < 0.2)

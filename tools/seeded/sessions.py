@@ -6,7 +6,7 @@ from reference.grammar import read_line
 from reference.items import Meter, Refused
 from reference.boards import Fault
 
-from .positions import GAMES, octal, position, spoiled
+from .positions import GAMES, many_rules, octal, position, spoiled
 from .texts import expression, halving, question, simple, special, term
 
 LIMIT = 160
@@ -17,6 +17,7 @@ GOOD = (
     "value {{0|0},{0|{0|0}}||0|||*2}", "outcome vv*3 + ^^^ --2", "proof ^^ ; *", 'check ^^ ; * ; "(g1(h0.g0.)g0.)"',
     'value Hackenbush("0b1,1r2,0g3")', 'outcome Snort("...","ab,bc") - Col ( ".." , "ab" )', 'value Octal( "0.77" , 9 ) + 2.v^',
     "value -2.^*-1^1+-+-1", "g := {2|-1} + ^", "abcdefghijklmno := temp1 - stopss*2", "value g2*2^ + -tiny + h",
+    "value 000000000000000000000000000001/2", "value {1||||||||2|||||||{3|^000000000000000000000000000002}}",
 )
 ODD = "\x00\t\r \xff\"{}|,.;:=+-*^v/()0123456789abgTMDCOS#xo~"
 
@@ -101,14 +102,14 @@ def broken_lines(dice):
 def broken_positions(dice):
     """Positions with a byte of their texts changed."""
     game = dice.choice(GAMES + ("Octal",))
-    lines = ["value " + spoiled(dice, game) for _ in range(6)]
+    lines = ["value " + spoiled(dice, game) for _ in range(5)] + ["value " + many_rules(dice)]
     lines.append("value {1/3," + spoiled(dice, game) + "|" + spoiled(dice, dice.choice(GAMES)) + "}")
     return [(words(len(lines) * 2000, 60), "\n".join(lines) + "\n")]
 
 
 def names(dice):
     """Definitions and uses of names."""
-    known, lines = [], ["cg 2"]
+    known, lines = [], [dice.choice(["cg 2", "cg 2", "cg 2", " cg 2\t", "cg 2\r", "cg  2"])]
     for _ in range(dice.randint(3, 7)):
         name = dice.choice(["g", "h", "g2", "abcdefghijklmnop", "tempo", "x", "y1"])
         text = expression(dice, 1, known + ["k"] * (dice.random() < 0.1)) if dice.random() < 0.6 or not known else dice.choice(known)
@@ -174,9 +175,25 @@ def default_words(dice):
     return [([], usual(dice)[0][1])]
 
 
+def long_proofs(dice):
+    """Proofs that are long, or too long."""
+    pair = lambda: dice.choice(["*%d" % dice.randint(5, 11), "^%d*%d" % (dice.randint(1, 4), dice.randint(2, 6)), "2.{3|1||-2}", "+-2 + +-1"])
+    lines = [f"proof {pair()}{tail} ; {pair()}" for tail in (" + +-1", "", " - {1|-1||-4}")]
+    return [(words(len(lines) * 100000, 4000), "\n".join(lines) + "\n")]
+
+
+def dealt(dice):
+    """Lines of odd bytes."""
+    odd = ODD.replace("\n", "") + 'value proof check 0123456789{}|,.()+-*^v/";:=ClobberToads'
+    lines = ["".join(dice.choice(odd) for _ in range(dice.choice([0, 1, 2, 5, 20, 60]))) for _ in range(8)]
+    lines += ["value " + "".join(dice.choice("({[-12.^*v|}),") for _ in range(dice.choice([3, 6, 12]))) for _ in range(8)]
+    return [(words(len(lines) * 200), dice.choice(["", "cg 2\n"]) + "\n".join(lines))]
+
+
 def rare(dice):
-    """Sessions that take long: with the default table, of names that grow, of walls with many binary places."""
-    return dice.choice([default_words, usual, usual, usual, grown_names, far_numbers, far_numbers, boards])(dice)
+    """Sessions that take long: with the default table, of names that grow, of long proofs, of walls with many binary places."""
+    kinds = (default_words, dealt, dealt, dealt, far_numbers, far_numbers, long_proofs, boards)
+    return (grown_names if dice.random() < 0.05 else dice.choice(kinds))(dice)
 
 
 KINDS = (usual, boards, exact_positions, exact_positions, exact_expressions, broken_lines, broken_positions, names, exact_positions,
