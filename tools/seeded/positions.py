@@ -76,14 +76,14 @@ def strip(dice, wide):
 def drawing(dice, wide):
     """Edges of Hackenbush; a wide drawing has many that aren't joined to the ground."""
     edges = []
-    joined = ["0"]
+    joined, near = ["0"], dice.sample(NODES, 6)
     for _ in range(dice.randint(1, 6)):
-        a, b = dice.choice(joined), dice.choice(dice.choice([joined, NODES[:8]]))
+        a, b = dice.choice(joined), dice.choice(dice.choice([joined, near]))
         joined += [b]
         edges.append(dice.choice([a + dice.choice("brg") + b, b + dice.choice("brg") + a]))
     if wide:
-        free = [node for node in NODES if node not in joined] or ["Z"]
-        free = free[len(free) // 2 :]
+        free = [node for node in NODES if node not in joined]
+        free = dice.sample(free, 12)
         while len(edges) < dice.choice([20, 63, 64]):
             edges.append(dice.choice(free) + dice.choice("brg") + dice.choice(free))
         dice.shuffle(edges)
