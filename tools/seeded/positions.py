@@ -128,7 +128,7 @@ def many_rules(dice):
     """A strip with about as many weights and rules as there may be, of which a few may have a fault."""
     symbols = dice.sample(LETTERS + ".", dice.choice([2, 15, 16, 17]))
     symbols += dice.choice([[], [], [dice.choice(symbols)]])
-    weights = [f"{symbol}={dice.choice([place, 999 - place])},{dice.choice([0, 0, 1])},0" for place, symbol in enumerate(symbols)]
+    weights = [f"{symbol}={dice.choice([place, 999 - place])},{dice.choice([0, 0, 1])},{dice.choice([0, 0, 2])}" for place, symbol in enumerate(symbols)]
     rules = []
     for _ in range(dice.choice([0, 1, 31, 32, 33])):
         length = dice.choice([1, 1, 2])

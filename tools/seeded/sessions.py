@@ -7,7 +7,7 @@ from reference.items import Meter, Refused
 from reference.boards import Fault
 
 from .positions import GAMES, many_rules, octal, position, spoiled
-from .texts import expression, halving, question, simple, special, term
+from .texts import FAR, NUMBERS, expression, halving, question, simple, special, term
 
 LIMIT = 160
 GOOD = (
@@ -16,7 +16,7 @@ GOOD = (
     'value Strip(".=0,0,0;T=0,0,1;L:T.>.T","T.")', 'value Amazons("x..|..o")', "stops ((((1)))) - - 2.^",
     "value {{0|0},{0|{0|0}}||0|||*2}", "outcome vv*3 + ^^^ --2", "proof ^^ ; *", 'check ^^ ; * ; "(g1(h0.g0.)g0.)"',
     'value Hackenbush("0b1,1r2,0g3")', 'outcome Snort("...","ab,bc") - Col ( ".." , "ab" )', 'value Octal( "0.77" , 9 ) + 2.v^',
-    "value -2.^*-1^1+-+-1", "g := {2|-1} + ^", "abcdefghijklmno := temp1 - stopss*2", "value g2*2^ + -tiny + h",
+    "value -2.^*-1^1+-+-1", "g := {2|-1} + ^", "abcdefghijklmnop := temp1 - stopss*2 + abcdefghijklmnopv3", "value g2*2^ + -tiny + h",
     "value 000000000000000000000000000001/2", "value {1||||||||2|||||||{3|^000000000000000000000000000002}}",
 )
 ODD = "\x00\t\r \xff\"{}|,.;:=+-*^v/()0123456789abgTMDCOS#xo~"
@@ -47,26 +47,27 @@ def boards(dice):
 
 
 def needs(text):
-    """What a line costs, and the length of its longest list; or None where it is refused for another reason."""
+    """What a line is charged before it is answered or refused, and the length of its longest list; or None where it isn't
+    in the grammar or has an ill-formed board."""
     stated, _ = read_line(text, 1)
     meter = Meter(10**6, LIMIT)
     try:
         for one in stated[1] if stated else ():
             meter.value(one)
-    except (Fault, Refused):
+    except Refused:
+        pass
+    except Fault:
         return None
-    return (meter.charged, max(meter.longest, 1)) if stated else None
+    return (meter.charged, meter.longest) if stated else None
 
 
 def at_its_limits(text):
-    """A line at exactly what it costs and one cell below, and at its least positions limit and one below."""
-    needed = needs(text)
-    if not needed:
-        return [(words(10**6), text + "\n")]
-    cost, longest = needed
-    sessions = [(words(cost, longest), text + "\n")]
-    sessions += [(words(cost - 1, longest), text + "\n")] if cost > 1 else []
-    return sessions + ([(words(cost, longest - 1), text + "\n")] if longest > 1 else [])
+    """A line at exactly what it is charged and one cell below, and at its least positions limit and one below."""
+    cost, longest = needs(text) or (0, 0)
+    settings = [words(max(cost, 1), min(max(longest, 1), LIMIT))]
+    settings += [words(cost - 1)] if cost > 1 else []
+    settings += [words(max(cost, 1), longest - 1)] if 1 < longest <= LIMIT else []
+    return [(one, text + "\n") for one in settings]
 
 
 def exact_positions(dice):
@@ -75,13 +76,16 @@ def exact_positions(dice):
     for _ in range(4):
         text = word + position(dice, game, wide)
         needed = needs(text)
-        if needed and needed[1] > 3:
+        if needed and 3 < needed[1] <= LIMIT:
             break
     return at_its_limits(text)
 
 
 def exact_expressions(dice):
-    """An expression at its limits."""
+    """An expression at its limits, some of them on numbers that are just in range or just narrow."""
+    if dice.random() < 0.3:
+        one, two = dice.choice(FAR), dice.choice(FAR + NUMBERS)
+        return at_its_limits("value " + dice.choice(["{0}", "{0} - {1}", "{{{0}|-{1}}}", "{{{0}|{1}}} + {{2|-1}}", "2.{{{1}|-{0}}}^", "{0}* + {1}"]).format(one, two))
     return at_its_limits("value " + dice.choice([term, special, expression])(dice, 1))
 
 
@@ -94,7 +98,7 @@ def broken_lines(dice):
     way = dice.randrange(4)
     lines = []
     for at in places:
-        odd = dice.choice(ODD)
+        odd = good[at - 1 : at] or " " if dice.random() < 0.4 else dice.choice(ODD)
         lines.append((good[:at], good[:at] + odd + good[at + 1 :], good[:at] + good[at + 1 :], good[:at] + odd + good[at:])[way])
     return [(words(len(lines) * 200), ("cg 2\n" if form == 2 else "") + "\n".join(line.replace("\n", "") for line in lines) + "\n")]
 
@@ -121,16 +125,23 @@ def names(dice):
     return [(words(room(dice, len(lines)) + len(lines)), "\n".join(lines) + "\n")]
 
 
-def grown_names(dice):
-    """A name that is bound anew to more and more of itself, up to the limits on parts and levels."""
-    if dice.random() < 0.5:
-        step = dice.choice(["a := a + a", "a := {a|a}", "a := 2.a + a", 'a := a + Clobber("xo|..")'])
-        lines = ["cg 2", "a := " + dice.choice(["*", "1", "+-1"])] + [step] * dice.randint(10, 13) + ["outcome a"]
-    else:
-        depth = dice.randint(50, 63)
-        step = "a := " + dice.choice([("-(", "a", ")"), ("{", "a", "|}"), ("1.(", "a", ")")])[0] * depth + "a"
-        step += {"-": ")", "{": "|}", "1": ")"}[step[5]] * depth
-        lines = ["cg 2", "a := 1"] + [step] * (1024 // depth + 1) + ["value a"]
+def many_parts(dice):
+    """A name of 2,047 parts, and lines with about 4,096."""
+    lines = ["cg 2", "a := " + dice.choice(["*", "1", "^"])] + [dice.choice(["a := a + a", "a := {a|a}"])] * 10
+    more = [" + 1", " - *", ' + Clobber("x")', ' + Col(".","")', ' - Octal("0.77",1)', " + {|}", " + 1*", " - -1^"]
+    for _ in range(4):
+        tail = "".join(dice.choice(more) for _ in range(dice.choice([0, 1, 1, 2])))
+        lines.append(dice.choice(["value a + a", "outcome {a|a}", "compare a ; a", "b := a - a"]) + tail)
+    return [(words(len(lines) * dice.choice([20, 400]), 40), "\n".join(lines) + "\n")]
+
+
+def many_levels(dice):
+    """A name that is bound anew four times to what stands some 256 levels above it."""
+    lines = ["cg 2", "a := 1"]
+    for _ in range(4):
+        depth = dice.choice([63, 64, 64, 64])
+        lines.append("a := " + "1+-2.{" * depth + "a" + "|}" * depth)
+    lines += ["value " + text for text in dice.sample(["a", "-a", "{a|}", "1.a", "a^", "a + 1", "0.(2.a - 1)"], 3)]
     return [(words(len(lines) * dice.choice([20, 3000]), 40), "\n".join(lines) + "\n")]
 
 
@@ -191,9 +202,9 @@ def dealt(dice):
 
 
 def rare(dice):
-    """Sessions that take long: with the default table, of names that grow, of long proofs, of walls with many binary places."""
-    kinds = (default_words, dealt, dealt, dealt, far_numbers, far_numbers, long_proofs, boards)
-    return (grown_names if dice.random() < 0.05 else dice.choice(kinds))(dice)
+    """Sessions that take long: with the default table, of long proofs, of many levels, of walls with many binary places."""
+    kinds = (default_words, dealt, dealt, many_parts, many_parts, far_numbers, far_numbers, long_proofs, boards)
+    return (many_levels if dice.random() < 0.06 else dice.choice(kinds))(dice)
 
 
 KINDS = (usual, boards, exact_positions, exact_positions, exact_expressions, broken_lines, broken_positions, names, exact_positions,
