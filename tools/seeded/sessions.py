@@ -204,7 +204,7 @@ def dealt(dice):
 def rare(dice):
     """Sessions that take long: with the default table, of long proofs, of many levels, of walls with many binary places."""
     kinds = (default_words, dealt, dealt, many_parts, many_parts, far_numbers, far_numbers, long_proofs, boards)
-    return (many_levels if dice.random() < 0.06 else dice.choice(kinds))(dice)
+    return (many_levels if dice.random() < 0.01 else dice.choice(kinds))(dice)
 
 
 KINDS = (usual, boards, exact_positions, exact_positions, exact_expressions, broken_lines, broken_positions, names, exact_positions,
