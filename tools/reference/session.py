@@ -91,7 +91,8 @@ def closed_reply(question, expressions, text, share, limit):
 
 def compared(g, h):
     """`<`, `>`, `=`, or two bars where the games are confused."""
-    return {(True, True): "=", (True, False): "<", (False, True): ">", (False, False): "||"}[forms.at_most(g, h), forms.at_most(h, g)]
+    signs = {(True, True): "=", (True, False): "<", (False, True): ">", (False, False): "||"}
+    return signs[forms.at_most(g, h), forms.at_most(h, g)]
 
 
 def outcome(g):

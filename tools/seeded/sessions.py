@@ -16,7 +16,8 @@ GOOD = (
     'value Strip(".=0,0,0;T=0,0,1;L:T.>.T","T.")', 'value Amazons("x..|..o")', "stops ((((1)))) - - 2.^",
     "value {{0|0},{0|{0|0}}||0|||*2}", "outcome vv*3 + ^^^ --2", "proof ^^ ; *", 'check ^^ ; * ; "(g1(h0.g0.)g0.)"',
     'value Hackenbush("0b1,1r2,0g3")', 'outcome Snort("...","ab,bc") - Col ( ".." , "ab" )', 'value Octal( "0.77" , 9 ) + 2.v^',
-    "value -2.^*-1^1+-+-1", "g := {2|-1} + ^", "abcdefghijklmnop := temp1 - stopss*2 + abcdefghijklmnopv3", "value g2*2^ + -tiny + h",
+    "value -2.^*-1^1+-+-1", "g := {2|-1} + ^", "abcdefghijklmnop := temp1 - stopss*2 + abcdefghijklmnopv3",
+    "value g2*2^ + -tiny + h",
     "value 000000000000000000000000000001/2", "value {1||||||||2|||||||{3|^000000000000000000000000000002}}",
 )
 ODD = "\x00\t\r \xff\"{}|,.;:=+-*^v/()0123456789abgTMDCOS#xo~"
@@ -37,7 +38,8 @@ def usual(dice):
     lines = [question(dice, expression(dice), expression(dice, 1)) for _ in range(dice.randint(1, 4))]
     lines += dice.choice([[], ["# a comment \xfe"], [" \t"], [""]])
     dice.shuffle(lines)
-    return [(words(max(room(dice, len(lines)), 1), dice.choice([2, 9, LIMIT, LIMIT])), "\n".join(lines) + dice.choice(["", "\n", "\r\n"]))]
+    end = dice.choice(["", "\n", "\r\n"])
+    return [(words(max(room(dice, len(lines)), 1), dice.choice([2, 9, LIMIT, LIMIT])), "\n".join(lines) + end)]
 
 
 def boards(dice):
@@ -85,7 +87,8 @@ def exact_expressions(dice):
     """An expression at its limits, some of them on numbers that are just in range or just narrow."""
     if dice.random() < 0.3:
         one, two = dice.choice(FAR), dice.choice(FAR + NUMBERS)
-        return at_its_limits("value " + dice.choice(["{0}", "{0} - {1}", "{{{0}|-{1}}}", "{{{0}|{1}}} + {{2|-1}}", "2.{{{1}|-{0}}}^", "{0}* + {1}"]).format(one, two))
+        shapes = ["{0}", "{0} - {1}", "{{{0}|-{1}}}", "{{{0}|{1}}} + {{2|-1}}", "2.{{{1}|-{0}}}^", "{0}* + {1}"]
+        return at_its_limits("value " + dice.choice(shapes).format(one, two))
     return at_its_limits("value " + dice.choice([term, special, expression])(dice, 1))
 
 
@@ -100,7 +103,7 @@ def broken_lines(dice):
     for at in places:
         odd = good[at - 1 : at] or " " if dice.random() < 0.4 else dice.choice(ODD)
         lines.append((good[:at], good[:at] + odd + good[at + 1 :], good[:at] + good[at + 1 :], good[:at] + odd + good[at:])[way])
-    return [(words(len(lines) * 200), ("cg 2\n" if form == 2 else "") + "\n".join(line.replace("\n", "") for line in lines) + "\n")]
+    return [(words(len(lines) * 200), ("cg 2\n" if form == 2 else "") + "\n".join(lines) + "\n")]
 
 
 def broken_positions(dice):
@@ -115,8 +118,12 @@ def names(dice):
     """Definitions and uses of names."""
     known, lines = [], [dice.choice(["cg 2", "cg 2", "cg 2", " cg 2\t", "cg 2\r", "cg  2"])]
     for _ in range(dice.randint(3, 7)):
-        name = dice.choice(["g", "h", "g2", "abcdefghijklmnop", "tempo", "x", "y1"])
-        text = expression(dice, 1, known + ["k"] * (dice.random() < 0.1)) if dice.random() < 0.6 or not known else dice.choice(known)
+        long = "abcdefghijklmnop2"[: dice.choice([15, 16, 16, 17])]
+        name = dice.choice(["g", "h", "g2", "abcdefghijklmnop", "tempo", "x", "y1", long])
+        if dice.random() < 0.6 or not known:
+            text = expression(dice, 1, known + ["k"] * (dice.random() < 0.3))
+        else:
+            text = dice.choice(known)
         if dice.random() < 0.6:
             lines.append(f"{name}{dice.choice(['', ' '])}:={dice.choice(['', ' '])}{text}")
             known.append(name)
@@ -138,10 +145,10 @@ def many_parts(dice):
 def many_levels(dice):
     """A name that is bound anew four times to what stands some 256 levels above it."""
     lines = ["cg 2", "a := 1"]
-    for _ in range(4):
-        depth = dice.choice([63, 64, 64, 64])
+    for depth in (64, 64, 64, dice.choice([62, 63, 63, 64])):
         lines.append("a := " + "1+-2.{" * depth + "a" + "|}" * depth)
-    lines += ["value " + text for text in dice.sample(["a", "-a", "{a|}", "1.a", "a^", "a + 1", "0.(2.a - 1)"], 3)]
+    above = ["a", "-a", "{a|}", "1.(-a)", "0.(a - 1)", "0.(2.a - 1)", "-0.(2.a - 1)", "{-0.(2.a - 1)|}"]
+    lines += ["value " + text for text in dice.sample(above, 4)]
     return [(words(len(lines) * dice.choice([20, 3000]), 40), "\n".join(lines) + "\n")]
 
 
@@ -175,7 +182,10 @@ def odd_words(dice):
     values = ["1", "03", "+5", "64", "65", "0", "4096", "4097", "-1", "", "9x", "67108865", "1048577", "99999999999999999999"]
     line = []
     for _ in range(dice.randint(0, 3)):
-        line += [dice.choice(good), dice.choice(values)] if dice.random() < 0.8 else [dice.choice(good + ["--", "--help", "-", "extra"])]
+        if dice.random() < 0.8:
+            line += [dice.choice(good), dice.choice(values)]
+        else:
+            line.append(dice.choice(good + ["--", "--help", "-", "extra"]))
     if dice.random() < 0.3:
         line = ["--sample", str(dice.randint(1, 24)), "--cells", str(dice.choice([5, 300, 40000])), "--positions", "60"]
     return [(line + dice.choice([[], [], ["--"]]), "value {0|0}\nvalue *2\n")]
@@ -188,8 +198,13 @@ def default_words(dice):
 
 def long_proofs(dice):
     """Proofs that are long, or too long."""
-    pair = lambda: dice.choice(["*%d" % dice.randint(5, 11), "^%d*%d" % (dice.randint(1, 4), dice.randint(2, 6)), "2.{3|1||-2}", "+-2 + +-1"])
-    lines = [f"proof {pair()}{tail} ; {pair()}" for tail in (" + +-1", "", " - {1|-1||-4}")]
+    lines = []
+    for tail in (" + +-1", "", " - {1|-1||-4}"):
+        pair = []
+        for _ in range(2):
+            arrows = f"^{dice.randint(1, 4)}*{dice.randint(2, 6)}"
+            pair.append(dice.choice([f"*{dice.randint(5, 11)}", f"*{dice.randint(5, 11)}", arrows, "2.{3|1||-2}", "+-2 + +-1"]))
+        lines.append(f"proof {pair[0]}{tail} ; {dice.choice([pair[0] + tail, pair[1], pair[1] + ' - 1'])}")
     return [(words(len(lines) * 100000, 4000), "\n".join(lines) + "\n")]
 
 
@@ -207,8 +222,10 @@ def rare(dice):
     return (many_levels if dice.random() < 0.01 else dice.choice(kinds))(dice)
 
 
-KINDS = (usual, boards, exact_positions, exact_positions, exact_expressions, broken_lines, broken_positions, names, exact_positions,
-         certificates, usual, exact_expressions, odd_words, exact_positions, boards, rare)
+KINDS = (
+    usual, boards, exact_positions, exact_positions, exact_expressions, broken_lines, broken_positions, names,
+    exact_positions, certificates, usual, exact_expressions, odd_words, exact_positions, boards, rare,
+)
 
 
 def sessions_of(seed):
