@@ -195,6 +195,12 @@ def number(node, text):
     return Number(False, int(above), int(below or "1"))
 
 
+def multiple(node, text):
+    """A count, and what is counted behind the point."""
+    (counted,) = node.inside
+    return Multiple(int(text[node.start : text.index(".", node.start)]), expression(counted, text))
+
+
 def ups(node, text):
     """A run of arrows, or an arrow with its count."""
     written = text[node.start : node.end]
@@ -233,16 +239,17 @@ def board(node, text):
     return Board(game, rules, cells)
 
 
-def inner(node, kind):
-    """The one node of this kind inside a node."""
-    return next(inside for inside in node.inside if inside.name == kind)
+def octal(node, text):
+    """A heap of an octal game, by its code and its tokens."""
+    code, heap = node.inside
+    return Octal(content(code, text), int(text[heap.start : heap.end]))
 
 
 MAKERS = {
     "expr": sum_of,
     "term": term,
     "number": number,
-    "multiple": lambda node, text: Multiple(int(text[node.start : text.index(".", node.start)]), expression(node.inside[0], text)),
+    "multiple": multiple,
     "switch": lambda node, text: Switch(*number(node.inside[0], text)[1:]),
     "tiny": lambda node, text: Tiny(text[node.start] == "M", *number(node.inside[0], text)[1:]),
     "ups": ups,
@@ -250,6 +257,6 @@ MAKERS = {
     "braces": braces,
     "paren": lambda node, text: expression(node.inside[0], text),
     "board": board,
-    "octal": lambda node, text: Octal(content(inner(node, "string"), text), int(text[inner(node, "whole").start : inner(node, "whole").end])),
+    "octal": octal,
     "name": lambda node, text: Name(text[node.start : node.end], node.start + 1),
 }

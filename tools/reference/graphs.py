@@ -52,7 +52,8 @@ class Hackenbush:
         """The row without the edges to none of whose ends a path of edges that are there leads from the ground."""
         reached, more = {"0"}, True
         while more:
-            ends = {end for edge, cell in zip(self.edges, cells) if cell != "." and {edge[0], edge[2]} & reached for end in edge[::2]}
+            there = [edge for edge, cell in zip(self.edges, cells) if cell != "." and {edge[0], edge[2]} & reached]
+            ends = {end for edge in there for end in edge[::2]}
             more = not ends <= reached
             reached |= ends
         return "".join(cell if {edge[0], edge[2]} & reached else "." for edge, cell in zip(self.edges, cells))

@@ -9,7 +9,7 @@ from typing import NamedTuple, Optional
 from . import forms
 from .expressions import Board, Braces, Multiple, Negative, Nimber, Number, Octal, Sum, Switch, Tiny, Ups
 from .octal import values
-from .play import Play, position
+from .play import position
 
 
 class Item(NamedTuple):
@@ -208,13 +208,13 @@ def of_octal(expression, meter):
 
 def of_board(expression, meter):
     """The items of a position, whole or in pieces."""
-    rules, board = position(expression)
-    play = Play(rules)
+    play, board = position(expression)
+    cuts = play.rules.cuts
     reached = play.listing(board, meter.limit)
     if reached is None or not meter.fits(len(reached)):
         yield TOO_LONG
-    yield from (in_pieces if rules.cuts else whole)(play, reached, meter)
-    if rules.cuts:
+    yield from (in_pieces if cuts else whole)(play, reached, meter)
+    if cuts:
         yield from joining(play, board, meter)
     return play.value(board)
 

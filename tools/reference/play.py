@@ -7,19 +7,31 @@ from .octal import read_octal
 from .strips import Strip
 
 
+FOUND = {}
+
+
+def forget():
+    """Forgets all positions."""
+    FOUND.clear()
+
+
 def position(expression):
-    """The rules and the board of a position, or Fault."""
-    game, rules, cells = expression
-    if game == "Strip":
-        strip = Strip(rules)
-        return strip, strip.board(cells)
-    if game == "Hackenbush":
-        drawing = Hackenbush(rules)
-        return drawing, drawing.start()
-    if game in ("Col", "Snort"):
-        graph = Colouring(game == "Snort", cells, rules)
-        return graph, graph.start()
-    return Grid(game), read_grid(cells, SYMBOLS[game], one_row=game == "Toads")
+    """The play by the rules of a position and its board, or Fault."""
+    if expression not in FOUND:
+        game, rules, cells = expression
+        if game == "Strip":
+            strip = Strip(rules)
+            FOUND[expression] = Play(strip), strip.board(cells)
+        elif game == "Hackenbush":
+            drawing = Hackenbush(rules)
+            FOUND[expression] = Play(drawing), drawing.start()
+        elif game in ("Col", "Snort"):
+            graph = Colouring(game == "Snort", cells, rules)
+            FOUND[expression] = Play(graph), graph.start()
+        else:
+            board = read_grid(cells, SYMBOLS[game], one_row=game == "Toads")
+            FOUND[expression] = FOUND.setdefault(game, Play(Grid(game))), board
+    return FOUND[expression]
 
 
 def look_at_boards(expressions):

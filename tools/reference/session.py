@@ -1,11 +1,10 @@
 """Sessions: their lines, the reply to each, and what the program writes."""
-from . import certificates, forms, octal, walls
+from . import certificates, forms, octal, play, walls
 from .boards import Fault
 from .expressions import Name, expanded, leaves, size
 from .grammar import BLANKS, read_line
 from .items import Meter, Refused
 from .naming import name
-from .play import look_at_boards
 from .words import settings_of
 
 USAGE = "usage: cg [--workers W] [--cells N] [--positions P] [--sample n]\n"
@@ -15,7 +14,7 @@ MOST_PARTS, MOST_LEVELS = 4096, 1024
 
 def forget():
     """Forgets what was found out for other sessions."""
-    for module in (forms, walls, octal):
+    for module in (forms, walls, octal, play):
         module.forget()
 
 
@@ -80,7 +79,7 @@ def reply(line, form, bound, share, limit):
 def closed_reply(question, expressions, text, share, limit):
     """The reply to a question without names: of an ill-formed board, of an item that is refused, or the answer."""
     try:
-        look_at_boards(expressions)
+        play.look_at_boards(expressions)
         meter = Meter(share, limit)
         values = [meter.value(expression) for expression in expressions]
     except Fault as fault:
@@ -92,7 +91,8 @@ def closed_reply(question, expressions, text, share, limit):
 
 def compared(g, h):
     """`<`, `>`, `=`, or two bars where the games are confused."""
-    return {(True, True): "=", (True, False): "<", (False, True): ">", (False, False): "||"}[forms.at_most(g, h), forms.at_most(h, g)]
+    signs = {(True, True): "=", (True, False): "<", (False, True): ">", (False, False): "||"}
+    return signs[forms.at_most(g, h), forms.at_most(h, g)]
 
 
 def outcome(g):

@@ -50,9 +50,9 @@ class Strip:
                 faults.append(item.start)
             self.weights[symbol] = tuple(int(text[one.start : one.end]) for one in item.inside if one.name == "nat")
         for count, item in enumerate((one for one in nodes if one.name == "rule"), 1):
-            pattern, replacement = item.inside
-            self.rules.append((text[item.start] == "L", text[pattern.start : pattern.end], text[replacement.start : replacement.end]))
-            if count > 32 or pattern.end - pattern.start != replacement.end - replacement.start:
+            pattern, replacement = (text[part.start : part.end] for part in item.inside)
+            self.rules.append((text[item.start] == "L", pattern, replacement))
+            if count > 32 or len(pattern) != len(replacement):
                 faults.append(item.start)
             faults += [one.start for part in item.inside for one in part.inside if text[one.start] not in self.weights]
         if faults:

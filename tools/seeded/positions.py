@@ -2,7 +2,8 @@
 
 GRIDS = {"Domineering": ".#", "Clobber": "xo.", "Amazons": ".xo#", "Toads": "TF."}
 GAMES = ("Domineering", "Clobber", "Amazons", "Toads", "Strip", "Hackenbush", "Col", "Snort")
-SIZES = ((1, 64), (64, 1), (8, 8), (2, 32), (32, 2), (4, 16), (16, 4), (3, 21), (7, 9), (5, 12), (1, 33), (9, 7), (1, 17), (2, 17))
+SIZES = ((1, 64), (64, 1), (8, 8), (2, 32), (32, 2), (4, 16), (16, 4), (3, 21), (7, 9), (5, 12), (1, 33), (9, 7), (1, 17),
+         (2, 17))
 LETTERS = "abcdefghijklmnopqrstuvwxyzABCDEFGHIJKLMNOPQRSTUVWXYZ"
 NODES = "0123456789ABCDEFGHIJKLMNOPQRSTUVWXYZ"
 STRIPS = (
@@ -60,9 +61,22 @@ def sparse(dice, game):
     return board(cells)
 
 
+def light_rules(dice):
+    """Rules whose weights are small, so that they lower the sum by little or not at all."""
+    symbols = dice.choice([".x", ".xo", "abc"])
+    items = [symbol + "=" + ",".join(str(dice.choice([0, 0, 1, 1, 2, 3])) for _ in range(3)) for symbol in symbols]
+    for _ in range(dice.choice([1, 1, 2, 3])):
+        length = dice.choice([1, 2, 2, 3])
+        sides = ["".join(dice.choice(symbols) for _ in range(length)) for _ in range(2)]
+        items.append(dice.choice("LR") + ":" + ">".join(sides))
+    return ";".join(items), symbols
+
+
 def strip(dice, wide):
     """A position of a game by rules."""
     rules, symbols = dice.choice(STRIPS)
+    if not wide and dice.random() < 0.6:
+        rules, symbols = light_rules(dice)
     if not wide:
         return rules, "".join(dice.choice(symbols) for _ in range(dice.randint(1, 6)))
     filler = dice.choice([symbol for symbol in symbols if symbol != "."] or ["."]) if symbols in (".TF", ".AB") else "."
@@ -76,14 +90,14 @@ def strip(dice, wide):
 def drawing(dice, wide):
     """Edges of Hackenbush; a wide drawing has many that aren't joined to the ground."""
     edges = []
-    joined = ["0"]
+    joined, near = ["0"], dice.sample(NODES, 6)
     for _ in range(dice.randint(1, 6)):
-        a, b = dice.choice(joined), dice.choice(dice.choice([joined, NODES[:8]]))
+        a, b = dice.choice(joined), dice.choice(dice.choice([joined, near]))
         joined += [b]
         edges.append(dice.choice([a + dice.choice("brg") + b, b + dice.choice("brg") + a]))
     if wide:
-        free = [node for node in NODES if node not in joined] or ["Z"]
-        free = free[len(free) // 2 :]
+        free = [node for node in NODES if node not in joined]
+        free = dice.sample(free, 12)
         while len(edges) < dice.choice([20, 63, 64]):
             edges.append(dice.choice(free) + dice.choice("brg") + dice.choice(free))
         dice.shuffle(edges)
@@ -122,6 +136,22 @@ def octal(dice):
     """A heap of an octal game."""
     code = "0." + "".join(dice.choice("01234567") for _ in range(dice.choice([1, 2, 2, 3, 16])))
     return f'Octal("{dice.choice([code, "0.77", "0.137", "0.07"])}",{dice.choice([0, 1, 2, 5, 9, 20, 70])})'
+
+
+def many_rules(dice):
+    """A strip with about as many weights and rules as there may be, of which a few may have a fault."""
+    symbols = dice.sample(LETTERS + ".", dice.choice([2, 15, 16, 17]))
+    symbols += dice.choice([[], [], [dice.choice(symbols)]])
+    weights = []
+    for place, symbol in enumerate(symbols):
+        weights.append(f"{symbol}={dice.choice([place, 999 - place])},{dice.choice([0, 0, 1])},{dice.choice([0, 0, 2])}")
+    rules = []
+    for _ in range(dice.choice([0, 1, 31, 32, 33])):
+        length = dice.choice([1, 1, 2])
+        sides = ["".join(dice.choice(symbols) for _ in range(length)) for _ in range(2)]
+        rules.append(dice.choice("LR") + ":" + ">".join(sides) + (dice.choice(symbols + ["q"]) if dice.random() < 0.02 else ""))
+    row = "".join(dice.choice(symbols) for _ in range(dice.choice([0, 1, 3])))
+    return f'Strip("{";".join(weights + rules)}","{row}")'
 
 
 def spoiled(dice, game):

@@ -6,8 +6,8 @@ from reference.grammar import read_line
 from reference.items import Meter, Refused
 from reference.boards import Fault
 
-from .positions import GAMES, octal, position, spoiled
-from .texts import expression, halving, question, simple, special, term
+from .positions import GAMES, many_rules, octal, position, spoiled
+from .texts import FAR, NUMBERS, expression, halving, question, simple, special, term
 
 LIMIT = 160
 GOOD = (
@@ -16,7 +16,9 @@ GOOD = (
     'value Strip(".=0,0,0;T=0,0,1;L:T.>.T","T.")', 'value Amazons("x..|..o")', "stops ((((1)))) - - 2.^",
     "value {{0|0},{0|{0|0}}||0|||*2}", "outcome vv*3 + ^^^ --2", "proof ^^ ; *", 'check ^^ ; * ; "(g1(h0.g0.)g0.)"',
     'value Hackenbush("0b1,1r2,0g3")', 'outcome Snort("...","ab,bc") - Col ( ".." , "ab" )', 'value Octal( "0.77" , 9 ) + 2.v^',
-    "value -2.^*-1^1+-+-1", "g := {2|-1} + ^", "abcdefghijklmno := temp1 - stopss*2", "value g2*2^ + -tiny + h",
+    "value -2.^*-1^1+-+-1", "g := {2|-1} + ^", "abcdefghijklmnop := temp1 - stopss*2 + abcdefghijklmnopv3",
+    "value g2*2^ + -tiny + h",
+    "value 000000000000000000000000000001/2", "value {1||||||||2|||||||{3|^000000000000000000000000000002}}",
 )
 ODD = "\x00\t\r \xff\"{}|,.;:=+-*^v/()0123456789abgTMDCOS#xo~"
 
@@ -36,7 +38,8 @@ def usual(dice):
     lines = [question(dice, expression(dice), expression(dice, 1)) for _ in range(dice.randint(1, 4))]
     lines += dice.choice([[], ["# a comment \xfe"], [" \t"], [""]])
     dice.shuffle(lines)
-    return [(words(max(room(dice, len(lines)), 1), dice.choice([2, 9, LIMIT, LIMIT])), "\n".join(lines) + dice.choice(["", "\n", "\r\n"]))]
+    end = dice.choice(["", "\n", "\r\n"])
+    return [(words(max(room(dice, len(lines)), 1), dice.choice([2, 9, LIMIT, LIMIT])), "\n".join(lines) + end)]
 
 
 def boards(dice):
@@ -46,26 +49,27 @@ def boards(dice):
 
 
 def needs(text):
-    """What a line costs, and the length of its longest list; or None where it is refused for another reason."""
+    """What a line is charged before it is answered or refused, and the length of its longest list; or None where it isn't
+    in the grammar or has an ill-formed board."""
     stated, _ = read_line(text, 1)
     meter = Meter(10**6, LIMIT)
     try:
         for one in stated[1] if stated else ():
             meter.value(one)
-    except (Fault, Refused):
+    except Refused:
+        pass
+    except Fault:
         return None
-    return (meter.charged, max(meter.longest, 1)) if stated else None
+    return (meter.charged, meter.longest) if stated else None
 
 
 def at_its_limits(text):
-    """A line at exactly what it costs and one cell below, and at its least positions limit and one below."""
-    needed = needs(text)
-    if not needed:
-        return [(words(10**6), text + "\n")]
-    cost, longest = needed
-    sessions = [(words(cost, longest), text + "\n")]
-    sessions += [(words(cost - 1, longest), text + "\n")] if cost > 1 else []
-    return sessions + ([(words(cost, longest - 1), text + "\n")] if longest > 1 else [])
+    """A line at exactly what it is charged and one cell below, and at its least positions limit and one below."""
+    cost, longest = needs(text) or (0, 0)
+    settings = [words(max(cost, 1), min(max(longest, 1), LIMIT))]
+    settings += [words(cost - 1)] if cost > 1 else []
+    settings += [words(max(cost, 1), longest - 1)] if 1 < longest <= LIMIT else []
+    return [(one, text + "\n") for one in settings]
 
 
 def exact_positions(dice):
@@ -74,13 +78,17 @@ def exact_positions(dice):
     for _ in range(4):
         text = word + position(dice, game, wide)
         needed = needs(text)
-        if needed and needed[1] > 3:
+        if needed and 3 < needed[1] <= LIMIT:
             break
     return at_its_limits(text)
 
 
 def exact_expressions(dice):
-    """An expression at its limits."""
+    """An expression at its limits, some of them on numbers that are just in range or just narrow."""
+    if dice.random() < 0.3:
+        one, two = dice.choice(FAR), dice.choice(FAR + NUMBERS)
+        shapes = ["{0}", "{0} - {1}", "{{{0}|-{1}}}", "{{{0}|{1}}} + {{2|-1}}", "2.{{{1}|-{0}}}^", "{0}* + {1}"]
+        return at_its_limits("value " + dice.choice(shapes).format(one, two))
     return at_its_limits("value " + dice.choice([term, special, expression])(dice, 1))
 
 
@@ -93,25 +101,29 @@ def broken_lines(dice):
     way = dice.randrange(4)
     lines = []
     for at in places:
-        odd = dice.choice(ODD)
+        odd = good[at - 1 : at] or " " if dice.random() < 0.4 else dice.choice(ODD)
         lines.append((good[:at], good[:at] + odd + good[at + 1 :], good[:at] + good[at + 1 :], good[:at] + odd + good[at:])[way])
-    return [(words(len(lines) * 200), ("cg 2\n" if form == 2 else "") + "\n".join(line.replace("\n", "") for line in lines) + "\n")]
+    return [(words(len(lines) * 200), ("cg 2\n" if form == 2 else "") + "\n".join(lines) + "\n")]
 
 
 def broken_positions(dice):
     """Positions with a byte of their texts changed."""
     game = dice.choice(GAMES + ("Octal",))
-    lines = ["value " + spoiled(dice, game) for _ in range(6)]
+    lines = ["value " + spoiled(dice, game) for _ in range(5)] + ["value " + many_rules(dice)]
     lines.append("value {1/3," + spoiled(dice, game) + "|" + spoiled(dice, dice.choice(GAMES)) + "}")
     return [(words(len(lines) * 2000, 60), "\n".join(lines) + "\n")]
 
 
 def names(dice):
     """Definitions and uses of names."""
-    known, lines = [], ["cg 2"]
+    known, lines = [], [dice.choice(["cg 2", "cg 2", "cg 2", " cg 2\t", "cg 2\r", "cg  2"])]
     for _ in range(dice.randint(3, 7)):
-        name = dice.choice(["g", "h", "g2", "abcdefghijklmnop", "tempo", "x", "y1"])
-        text = expression(dice, 1, known + ["k"] * (dice.random() < 0.1)) if dice.random() < 0.6 or not known else dice.choice(known)
+        long = "abcdefghijklmnop2"[: dice.choice([15, 16, 16, 17])]
+        name = dice.choice(["g", "h", "g2", "abcdefghijklmnop", "tempo", "x", "y1", long])
+        if dice.random() < 0.6 or not known:
+            text = expression(dice, 1, known + ["k"] * (dice.random() < 0.3))
+        else:
+            text = dice.choice(known)
         if dice.random() < 0.6:
             lines.append(f"{name}{dice.choice(['', ' '])}:={dice.choice(['', ' '])}{text}")
             known.append(name)
@@ -120,16 +132,23 @@ def names(dice):
     return [(words(room(dice, len(lines)) + len(lines)), "\n".join(lines) + "\n")]
 
 
-def grown_names(dice):
-    """A name that is bound anew to more and more of itself, up to the limits on parts and levels."""
-    if dice.random() < 0.5:
-        step = dice.choice(["a := a + a", "a := {a|a}", "a := 2.a + a", 'a := a + Clobber("xo|..")'])
-        lines = ["cg 2", "a := " + dice.choice(["*", "1", "+-1"])] + [step] * dice.randint(10, 13) + ["outcome a"]
-    else:
-        depth = dice.randint(50, 63)
-        step = "a := " + dice.choice([("-(", "a", ")"), ("{", "a", "|}"), ("1.(", "a", ")")])[0] * depth + "a"
-        step += {"-": ")", "{": "|}", "1": ")"}[step[5]] * depth
-        lines = ["cg 2", "a := 1"] + [step] * (1024 // depth + 1) + ["value a"]
+def many_parts(dice):
+    """A name of 2,047 parts, and lines with about 4,096."""
+    lines = ["cg 2", "a := " + dice.choice(["*", "1", "^"])] + [dice.choice(["a := a + a", "a := {a|a}"])] * 10
+    more = [" + 1", " - *", ' + Clobber("x")', ' + Col(".","")', ' - Octal("0.77",1)', " + {|}", " + 1*", " - -1^"]
+    for _ in range(4):
+        tail = "".join(dice.choice(more) for _ in range(dice.choice([0, 1, 1, 2])))
+        lines.append(dice.choice(["value a + a", "outcome {a|a}", "compare a ; a", "b := a - a"]) + tail)
+    return [(words(len(lines) * dice.choice([20, 400]), 40), "\n".join(lines) + "\n")]
+
+
+def many_levels(dice):
+    """A name that is bound anew four times to what stands some 256 levels above it."""
+    lines = ["cg 2", "a := 1"]
+    for depth in (64, 64, 64, dice.choice([62, 63, 63, 64])):
+        lines.append("a := " + "1+-2.{" * depth + "a" + "|}" * depth)
+    above = ["a", "-a", "{a|}", "1.(-a)", "0.(a - 1)", "0.(2.a - 1)", "-0.(2.a - 1)", "{-0.(2.a - 1)|}"]
+    lines += ["value " + text for text in dice.sample(above, 4)]
     return [(words(len(lines) * dice.choice([20, 3000]), 40), "\n".join(lines) + "\n")]
 
 
@@ -163,7 +182,10 @@ def odd_words(dice):
     values = ["1", "03", "+5", "64", "65", "0", "4096", "4097", "-1", "", "9x", "67108865", "1048577", "99999999999999999999"]
     line = []
     for _ in range(dice.randint(0, 3)):
-        line += [dice.choice(good), dice.choice(values)] if dice.random() < 0.8 else [dice.choice(good + ["--", "--help", "-", "extra"])]
+        if dice.random() < 0.8:
+            line += [dice.choice(good), dice.choice(values)]
+        else:
+            line.append(dice.choice(good + ["--", "--help", "-", "extra"]))
     if dice.random() < 0.3:
         line = ["--sample", str(dice.randint(1, 24)), "--cells", str(dice.choice([5, 300, 40000])), "--positions", "60"]
     return [(line + dice.choice([[], [], ["--"]]), "value {0|0}\nvalue *2\n")]
@@ -174,13 +196,36 @@ def default_words(dice):
     return [([], usual(dice)[0][1])]
 
 
+def long_proofs(dice):
+    """Proofs that are long, or too long."""
+    lines = []
+    for tail in (" + +-1", "", " - {1|-1||-4}"):
+        pair = []
+        for _ in range(2):
+            arrows = f"^{dice.randint(1, 4)}*{dice.randint(2, 6)}"
+            pair.append(dice.choice([f"*{dice.randint(5, 11)}", f"*{dice.randint(5, 11)}", arrows, "2.{3|1||-2}", "+-2 + +-1"]))
+        lines.append(f"proof {pair[0]}{tail} ; {dice.choice([pair[0] + tail, pair[1], pair[1] + ' - 1'])}")
+    return [(words(len(lines) * 100000, 4000), "\n".join(lines) + "\n")]
+
+
+def dealt(dice):
+    """Lines of odd bytes."""
+    odd = ODD.replace("\n", "") + 'value proof check 0123456789{}|,.()+-*^v/";:=ClobberToads'
+    lines = ["".join(dice.choice(odd) for _ in range(dice.choice([0, 1, 2, 5, 20, 60]))) for _ in range(8)]
+    lines += ["value " + "".join(dice.choice("({[-12.^*v|}),") for _ in range(dice.choice([3, 6, 12]))) for _ in range(8)]
+    return [(words(len(lines) * 200), dice.choice(["", "cg 2\n"]) + "\n".join(lines))]
+
+
 def rare(dice):
-    """Sessions that take long: with the default table, of names that grow, of walls with many binary places."""
-    return dice.choice([default_words, usual, usual, usual, grown_names, far_numbers, far_numbers, boards])(dice)
+    """Sessions that take long: with the default table, of long proofs, of many levels, of walls with many binary places."""
+    kinds = (default_words, dealt, dealt, many_parts, many_parts, far_numbers, far_numbers, long_proofs, boards)
+    return (many_levels if dice.random() < 0.01 else dice.choice(kinds))(dice)
 
 
-KINDS = (usual, boards, exact_positions, exact_positions, exact_expressions, broken_lines, broken_positions, names, exact_positions,
-         certificates, usual, exact_expressions, odd_words, exact_positions, boards, rare)
+KINDS = (
+    usual, boards, exact_positions, exact_positions, exact_expressions, broken_lines, broken_positions, names,
+    exact_positions, certificates, usual, exact_expressions, odd_words, exact_positions, boards, rare,
+)
 
 
 def sessions_of(seed):

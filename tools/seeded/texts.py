@@ -3,8 +3,9 @@ from .positions import GAMES, octal, position
 
 BLANKS = ("", "", "", " ", "\t", "  ")
 NUMBERS = ("0", "1", "2", "3", "5", "1/2", "3/4", "5/8", "7/2", "1/16", "12", "007/08")
-FAR = ("6/3", "1/3", "1/0", "18446744073709551615", "18446744073709551616", "1/1099511627776", "1/2199023255552", "4503599627370495",
-       "4503599627370496", "1/2147483648", "1/4294967296", "9223372036854775807/2", "99999999999999999999999999999")
+FAR = ("6/3", "1/3", "1/0", "18446744073709551615", "18446744073709551616", "1/1099511627776", "1/2199023255552",
+       "4503599627370495", "4503599627370496", "1/2147483648", "1/4294967296", "9223372036854775807/2",
+       "99999999999999999999999999999")
 
 
 def number(dice):
@@ -58,7 +59,8 @@ def options(dice, depth, names=()):
 
 def simple(dice):
     """A number, a few arrows or a nimber, perhaps together."""
-    return dice.choice([number(dice), "-" + number(dice), arrows(dice), nimber(dice), number(dice) + nimber(dice), arrows(dice) + "*"])
+    alone = [number(dice), "-" + number(dice), arrows(dice), nimber(dice)]
+    return dice.choice(alone + [number(dice) + nimber(dice), arrows(dice) + "*"])
 
 
 def term(dice, depth, names=()):
