@@ -43,11 +43,11 @@ line_once format before text r q a b (refused c x) (refused d y) = (ap Syntax_at
 line_some : (format : Format) (before : Bindings) (text : List ℕ) → (r : Resolved) × (between : Bindings) × IsLine format before text r between
 line_some formats.One before text = elim (whole.reads_or_not text) [
   | inl reads ↦ (_, _, stated (asks reads.0) reads.1)
-  | inr none ↦ (_, _, refused none.1.0 none.1.1)
+  | inr fault ↦ (_, _, refused fault.1.0 fault.1.1)
 ]
 line_some formats.Two before text = elim (two.states_or_not text) [
   | inl states ↦ (_, _, stated states.0 states.1)
-  | inr none ↦ (_, _, refused none.1.0 none.1.1)
+  | inr fault ↦ (_, _, refused fault.1.0 fault.1.1)
 ]
 
 -- ---- all lines
