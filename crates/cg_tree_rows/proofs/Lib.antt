@@ -1,2 +1,4 @@
 pub mod Canonicals
+pub mod OneKey
 pub mod Singles
+pub mod Zeros

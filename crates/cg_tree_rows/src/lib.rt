@@ -11,6 +11,8 @@ mod numbers;
 #[cfg(test)]
 mod rows;
 #[cfg(test)]
+mod stores;
+#[cfg(test)]
 mod terms;
 #[cfg(test)]
 mod trees;
