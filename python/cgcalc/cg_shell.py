@@ -12,7 +12,7 @@ from typing import Callable, Iterable, Iterator, Optional, Sequence
 from cgcalc.program import CgError, ProgramFailed
 from cgcalc.refusals import Refusal
 from cgcalc.replies import BLANKS, READERS, Reply
-from cgcalc.session import Definition, Session, words_in
+from cgcalc.session import FORMAT, Definition, Session, words_in
 from cgcalc.tool import (
     BAD_USE,
     REFUSED,
@@ -176,14 +176,17 @@ class Shell:
         self.status = 0
 
     def serve(self, lines: Iterable[str]) -> None:
-        """Answers each line; `status` tells of refusals and failures."""
+        """Answers each line; `status` tells of refusals and failures.
+
+        Blank lines and comments have no answer, nor has the line that begins a session with names.
+        """
         for line in lines:
             text = line.strip(BLANKS)
             if text == ":quit":
                 return
             if text.startswith(":"):
                 self.obey(*text.split())
-            elif text and not text.startswith("#"):
+            elif text and text != FORMAT and not text.startswith("#"):
                 self.answer(line)
 
     def words(self) -> list[str]:

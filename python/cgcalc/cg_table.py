@@ -35,6 +35,9 @@ def main(words: Optional[Sequence[str]] = None) -> int:
     except OSError as error:
         tell(COMMAND, f"writing failed: {error.strerror}")
         return WRITE_FAILED
+    except KeyboardInterrupt:
+        tell(COMMAND, "stopped")
+        return STOPPED
 
 
 def read_words(words: Optional[Sequence[str]]) -> argparse.Namespace:
@@ -129,6 +132,7 @@ def ask(sink: Sink, session: Session) -> None:
     show(table.progress())
     for reply, entry in zip(session.replies(entry.question for entry in left), left):
         table.replies.append(reply)
+        show("")
         sink.add(entry, reply)
         show(table.progress())
     show("")

@@ -34,11 +34,14 @@ class Kept:
 
     def take_up(self, entries: list[Entry]) -> list[Reply]:
         """The replies that an earlier run kept, which must be those to the first entries."""
-        if not self.path.exists():
+        try:
+            text = self.path.read_bytes().decode(errors="surrogateescape")
+        except FileNotFoundError:
             if self._table.exists():
-                raise BadUse(f"{self._table} is there, and no {self.path} to go on from")
+                raise BadUse(f"{self._table} is there, and no {self.path} to go on from") from None
             return self.begin()
-        text = self.path.read_bytes().decode(errors="surrogateescape")
+        except OSError as error:
+            raise BadUse(f"{self.path} can't be read: {error.strerror}") from error
         header, *lines = text.split("\n")[:-1] or [""]
         if header != self._header:
             raise BadUse(f"{self.path} was kept with other limits: {header!r}")

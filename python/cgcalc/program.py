@@ -6,7 +6,7 @@ import shutil
 import subprocess
 import threading
 from pathlib import Path
-from typing import Iterator, Optional
+from typing import Iterator
 
 BUILT = Path("crates", "cg", "out", "cg")
 

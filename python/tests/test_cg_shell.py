@@ -5,13 +5,15 @@ import os
 import pty
 import select
 import signal
+import subprocess
 import tempfile
 import time
 import unittest
 from pathlib import Path
 from typing import Sequence
 
-from tests.places import command, environment, program, run
+from cgcalc import find_program
+from tests.places import ROOT, command, environment, program, run
 
 PROMPT = "cg> "
 BELL = "\x07"
@@ -187,6 +189,17 @@ class InAPipe(unittest.TestCase):
         )
         self.assertEqual(run("cg-shell", [], "value 6/3\nvalue 1\n")[0], 1)
         self.assertEqual(run("cg-shell", [], ":quit\nvalue 6/3\n"), (0, "", ""))
+
+    def test_a_session_with_names(self) -> None:
+        session = (ROOT / "examples" / "names.txt").read_text()
+        wanted = subprocess.run([find_program()], input=session.encode(), stdout=subprocess.PIPE)
+        answers = [line.partition(": ")[2] for line in wanted.stdout.decode().splitlines()]
+        status, written, _ = run("cg-shell", [], session)
+        shown = [line.partition(": ")[0] for line in written.splitlines()]
+        self.assertEqual(status, 1)
+        self.assertEqual(
+            [line for line in shown if line not in ("value 2.rest - hall", " " * 15 + "^")], answers
+        )
 
     def test_carets(self) -> None:
         rows = [

@@ -1,4 +1,4 @@
-"""The examples of the docstrings and of the package's README."""
+"""The examples of the docstrings, of the package's README and of docs/TOOLS.md."""
 from __future__ import annotations
 
 import doctest
@@ -20,5 +20,6 @@ def load_tests(
     ]
     for name in modules:
         tests.addTests(doctest.DocTestSuite(importlib.import_module(name)))
-    tests.addTests(doctest.DocFileSuite(str(ROOT / "python" / "README.md"), module_relative=False))
+    for page in ("python/README.md", "docs/TOOLS.md"):
+        tests.addTests(doctest.DocFileSuite(str(ROOT / page), module_relative=False))
     return tests

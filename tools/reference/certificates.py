@@ -6,16 +6,10 @@ Left option of the first game of the pair, written `g` and its place, or with a 
 from .forms import at_most, left_options, right_options
 
 MOST = 65536
-PROOFS = {}
 
 
 class Long(Exception):
     """A proof has more bytes than an answer may have."""
-
-
-def forget():
-    """Forgets all proofs."""
-    PROOFS.clear()
 
 
 def both_numbers(g, h):
@@ -34,20 +28,20 @@ def answers(g, h):
     return found + [(f"h{place}", (g, b)) for place, b in enumerate(right_options(h))]
 
 
-def first_proof(g, h):
-    """The proof of a pair with G >= H in which each answer is the first that leads to such a pair again."""
+def first_proof(g, h, known):
+    """The proof of a pair with G >= H in which each answer is the first that leads to such a pair again; `known` has those
+    that were made for other pairs."""
     if both_numbers(g, h):
         return "."
-    found = PROOFS.get((g, h))
-    if found is None:
-        found = "("
+    if (g, h) not in known:
+        proof = "("
         for pair in moves(g, h):
             text, after = next((text, after) for text, after in answers(*pair) if at_most(after[1], after[0]))
-            found += text + first_proof(*after)
-            if len(found) > MOST:
+            proof += text + first_proof(*after, known)
+            if len(proof) > MOST:
                 raise Long
-        found = PROOFS[g, h] = found + ")"
-    return found
+        known[g, h] = proof + ")"
+    return known[g, h]
 
 
 def prove(g, h):
@@ -62,15 +56,15 @@ def decided(g, h):
     """Yes or no, and its proof: that of the pair; nothing but a point for two numbers; or Right's first winning move and the
     proof that it wins."""
     if at_most(h, g):
-        return "yes", first_proof(g, h)
+        return "yes", first_proof(g, h, {})
     if both_numbers(g, h):
         return "no", "."
     for place, b in enumerate(right_options(g)):
         if at_most(b, h):
-            return "no", f"r{place}" + first_proof(h, b)
+            return "no", f"r{place}" + first_proof(h, b, {})
     for place, a in enumerate(left_options(h)):
         if at_most(g, a):
-            return "no", f"l{place}" + first_proof(a, g)
+            return "no", f"l{place}" + first_proof(a, g, {})
     raise AssertionError("neither at least nor refuted")
 
 

@@ -35,6 +35,11 @@ def read_octal(code, heap):
 VALUES = {}
 
 
+def forget():
+    """Forgets the values of all heaps."""
+    VALUES.clear()
+
+
 def values(code, heap):
     """The numbers of the nimbers that the heaps from 0 up to this one equal.
 

@@ -29,15 +29,13 @@ class Reading:
 
     def take(self, start, word):
         """The ends of a word that stands byte for byte."""
-        text = self.text
-        if text.startswith(word, start):
-            self.mark(start + len(word))
-            return [start + len(word)]
-        at = start
-        while at < len(text) and text[at] == word[at - start]:
-            at += 1
-        self.mark(at)
-        return []
+        if not self.text.startswith(word[0], start):
+            return []
+        passed = len(word)
+        while not self.text.startswith(word[:passed], start):
+            passed -= 1
+        self.mark(start + passed)
+        return [start + passed] if passed == len(word) else []
 
     def mark(self, at):
         """Tells that the text before the place `at` begins some text of the grammar."""

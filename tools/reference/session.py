@@ -1,5 +1,5 @@
 """Sessions: their lines, the reply to each, and what the program writes."""
-from . import certificates, forms, walls
+from . import certificates, forms, octal, walls
 from .boards import Fault
 from .expressions import Name, expanded, leaves, size
 from .grammar import BLANKS, read_line
@@ -15,7 +15,7 @@ MOST_PARTS, MOST_LEVELS = 4096, 1024
 
 def forget():
     """Forgets what was found out for other sessions."""
-    for module in (forms, walls, certificates):
+    for module in (forms, walls, octal):
         module.forget()
 
 

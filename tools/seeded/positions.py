@@ -39,13 +39,13 @@ def sparse(dice, game):
     """A board of up to 64 cells in which little stands, at the corners, at the ends of rows and on diagonals."""
     rows, columns = (1, dice.randint(20, 64)) if game == "Toads" else dice.choice(SIZES)
     cells = [["#" if game in ("Domineering", "Amazons") else "."] * columns for _ in range(rows)]
-    live = {"Domineering": "...#", "Clobber": "xo", "Amazons": "..x#o", "Toads": "TF."}[game]
+    live = {"Domineering": ".....#", "Clobber": "xo", "Amazons": "..x#o", "Toads": "TF."}[game]
     queens = 0
-    for _ in range(dice.randint(1, 3)):
+    for _ in range(dice.randint(1, 4)):
         i, j = dice.choice([0, rows - 1, dice.randrange(rows)]), dice.choice([0, columns - 1, dice.randrange(columns)])
         if game == "Toads":
             cells[0] = [cell if cell != "." else dice.choice(["T", "F"]) for cell in cells[0]]
-        for _ in range(dice.randint(2, 6)):
+        for _ in range(dice.randint(2, 8)):
             symbol = dice.choice(live)
             queens += symbol in "xo"
             if game == "Amazons" and symbol in "xo" and queens > 2:

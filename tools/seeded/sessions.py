@@ -23,7 +23,7 @@ ODD = "\x00\t\r \xff\"{}|,.;:=+-*^v/()0123456789abgTMDCOS#xo~"
 
 def room(dice, lines):
     """The cells of so many lines."""
-    return lines * dice.choice([1, 8, 40, 200, 1000, 5000, 20000])
+    return lines * dice.choice([1, 8, 40, 200, 1000, 5000, 5000, 20000])
 
 
 def words(cells, positions=LIMIT):
@@ -33,7 +33,7 @@ def words(cells, positions=LIMIT):
 
 def usual(dice):
     """Questions about expressions of all kinds."""
-    lines = [question(dice, expression(dice), expression(dice, 1)) for _ in range(dice.randint(1, 5))]
+    lines = [question(dice, expression(dice), expression(dice, 1)) for _ in range(dice.randint(1, 4))]
     lines += dice.choice([[], ["# a comment \xfe"], [" \t"], [""]])
     dice.shuffle(lines)
     return [(words(max(room(dice, len(lines)), 1), dice.choice([2, 9, LIMIT, LIMIT])), "\n".join(lines) + dice.choice(["", "\n", "\r\n"]))]
@@ -63,15 +63,20 @@ def at_its_limits(text):
     if not needed:
         return [(words(10**6), text + "\n")]
     cost, longest = needed
-    sessions = [(words(cost), text + "\n"), (words(cost, longest), text + "\n")]
+    sessions = [(words(cost, longest), text + "\n")]
     sessions += [(words(cost - 1, longest), text + "\n")] if cost > 1 else []
     return sessions + ([(words(cost, longest - 1), text + "\n")] if longest > 1 else [])
 
 
 def exact_positions(dice):
-    """A position of one of the games at its limits."""
-    game, wide = dice.choice(GAMES + GAMES[:2]), dice.random() < 0.7
-    return at_its_limits(dice.choice(["value ", "thermo ", "stops "]) + position(dice, game, wide))
+    """A position of one of the games at its limits, one with several positions where the dice give one in a few throws."""
+    game, wide, word = dice.choice(GAMES + GAMES[:3]), dice.random() < 0.7, dice.choice(["value ", "value ", "thermo ", "stops "])
+    for _ in range(4):
+        text = word + position(dice, game, wide)
+        needed = needs(text)
+        if needed and needed[1] > 3:
+            break
+    return at_its_limits(text)
 
 
 def exact_expressions(dice):
@@ -84,7 +89,7 @@ def broken_lines(dice):
     form = dice.choice([1, 2])
     good = dice.choice(GOOD) if dice.random() < 0.7 else question(dice, expression(dice, 1), simple(dice))
     places = list(range(len(good) + 1))
-    places = sorted(dice.sample(places, min(len(places), 24)))
+    places = sorted(dice.sample(places, min(len(places), 16)))
     way = dice.randrange(4)
     lines = []
     for at in places:
@@ -138,7 +143,7 @@ def certificates(dice):
         text = prove(*(Meter(20000, LIMIT).value(one) for one in stated[1])).partition(" ")[2]
     except (Fault, Refused, Long):
         text = "(g0.)"
-    for at in sorted(dice.sample(range(len(text) + 1), min(len(text) + 1, 16))):
+    for at in sorted(dice.sample(range(len(text) + 1), min(len(text) + 1, 7))):
         odd = dice.choice("gh01.()x")
         lines += [f'check {asked} ; "{changed}"' for changed in (text[:at] + odd + text[at + 1 :], text[:at] + text[at + 1 :])]
     lines.append(f'check {asked} ; "{text}"')
@@ -166,11 +171,16 @@ def odd_words(dice):
 
 def default_words(dice):
     """A usual session with the default table."""
-    return [([], usual(dice)[0][1])] if dice.random() < 0.1 else usual(dice)
+    return [([], usual(dice)[0][1])]
+
+
+def rare(dice):
+    """Sessions that take long: with the default table, of names that grow, of walls with many binary places."""
+    return dice.choice([default_words, usual, usual, usual, grown_names, far_numbers, far_numbers, boards])(dice)
 
 
 KINDS = (usual, boards, exact_positions, exact_positions, exact_expressions, broken_lines, broken_positions, names, exact_positions,
-         certificates, usual, exact_expressions, odd_words, grown_names, default_words, far_numbers)
+         certificates, usual, exact_expressions, odd_words, exact_positions, boards, rare)
 
 
 def sessions_of(seed):

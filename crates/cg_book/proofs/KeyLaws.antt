@@ -5,6 +5,7 @@ use Rattle.std.proofs.lemmas.Int.{ints}
 use mir.Syntax.{w128}
 use mir.Val.{to_z, of_z}
 use lib.Signed.{lt_z}
+use Rattle.cg_dyadic.specs.Cut.{in_cut, within_cut}
 use Rattle.cg_dyadic.specs.declared.cut.Cut.{Cut}
 use Rattle.cg_dyadic.specs.Number.{InRange, Number, number_le}
 use Rattle.cg_dyadic.specs.Units.{units}
@@ -13,7 +14,7 @@ use Rattle.cg_dyadic.proofs.Integers.{from_lt_z, not_lt_z}
 use Rattle.cg_dyadic.proofs.Scale.{le-units, units-le}
 use Rattle.cg_dyadic.proofs.Truth.{false-from}
 use Rattle.cg_dyadic.proofs.Wides.{places-enough, units-in_range, wide_word}
-use Rattle.cg_form.specs.Cut.{AnyNumber, CutIs, covers, covers_at, in_cut, within_cut}
+use Rattle.cg_form.specs.Cut.{AnyNumber, CutIs, covers, covers_at}
 use Rattle.cg_form.specs.Game.{Game}
 use Rattle.cg_form.specs.Order.{le}
 use Rattle.cg_form.proofs.Cut.{joined_kept}

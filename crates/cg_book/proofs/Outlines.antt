@@ -1,23 +1,23 @@
 -- Outlines of lists of pages, and what they tell of the game of two lists.
 use Rattle.std.proofs.Common.{◌≡◌, refl, ℕ, ◌+◌, ◌<◌, ◌≤◌, arith, suc, ap, sym, ◌∙◌, subst, inl, inr, max, Option, Some, None, List, [], ◌∷◌, ◌++◌, get_or, length, take, Bool, true, false, not}
-use Rattle.cg_dyadic.specs.Cut.{in_gap}
+use Rattle.cg_dyadic.specs.Cut.{in_gap, in_cut}
 use Rattle.cg_dyadic.specs.Number.{Number}
 use Rattle.cg_dyadic.specs.Simplest.{NoOptionPasses, NonePasses}
 use Rattle.cg_dyadic.specs.declared.cut.Cut.{Cut}
 use Rattle.cg_dyadic.proofs.Truth.{false-from, not_true}
-use Rattle.cg_form.specs.Cut.{AnyNumber, CutOf, in_cut}
+use Rattle.cg_form.specs.Cut.{AnyNumber, CutOf}
 use Rattle.cg_form.specs.Depth.{deepest, depth_of}
 use Rattle.cg_form.specs.Game.{Among, Game, node, number}
 use Rattle.cg_form.specs.Order.{no_one}
 use Rattle.cg_form.specs.Side.{at_most}
 use Rattle.cg_form.specs.Simple.{NoNumber}
+use Rattle.cg_nodes.specs.Can.{can}
+use Rattle.cg_nodes.specs.CanForms.{can-equal, can-unique}
 use Rattle.cg_form.proofs.Cut.{any-closed, same_when}
 use Rattle.cg_form.proofs.CutSteps.{gap_misses, gap_value}
 use Rattle.cg_form.proofs.Order.{no_one-all, no_one-each}
 use Rattle.cg_form.proofs.Preorder.{equal_trans}
 use Rattle.cg_form.proofs.Simplicity.{equal-fits}
-use Rattle.cg_nodes.specs.CanForms.{can-equal, can-unique}
-use Rattle.cg_nodes.specs.Spelled.{can}
 use Rattle.cg_book.specs.declared.profile.Outline.{Outline}
 use Rattle.cg_book.specs.declared.profile.Profile.{Profile}
 use Rattle.cg_book.specs.declared.terms.FirstTerm.{FirstTerm}

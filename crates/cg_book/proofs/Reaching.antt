@@ -1,11 +1,12 @@
 -- How far the games of a list go among the numbers.
 use Rattle.std.proofs.Common.{◌≡◌, refl, sym, ◌∙◌, ap, inl, inr, subst, List, [], ◌∷◌, ◌++◌, Bool, true, false, not, cond, ◌||◌, IsTrue}
 use Rattle.std.specs.Prelude.{Option, Some}
+use Rattle.cg_dyadic.specs.Cut.{in_cut, in_some, within_cut}
 use Rattle.cg_dyadic.specs.declared.cut.Cut.{Cut}
 use Rattle.cg_dyadic.specs.Number.{Number}
 use Rattle.cg_dyadic.proofs.Truth.{differ, false-from, not_not, not_true, true_not, true-or-not}
 use Rattle.cg_form.specs.Best.{keep}
-use Rattle.cg_form.specs.Cut.{Joined, Turned, in_cut, in_some, other_cut, within_cut}
+use Rattle.cg_form.specs.Cut.{Joined, Turned, other_cut}
 use Rattle.cg_form.specs.Game.{Among, Game, number}
 use Rattle.cg_form.specs.Known.{EachLess}
 use Rattle.cg_form.specs.Order.{no_one}

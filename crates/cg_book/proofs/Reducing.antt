@@ -6,13 +6,13 @@ use Rattle.cg_form.specs.Game.{Among, Game, lefts, node, number, rights}
 use Rattle.cg_form.specs.Order.{Equal}
 use Rattle.cg_form.specs.Simple.{NoNumber}
 use Rattle.cg_form.proofs.Among.{carry, lefts-node, rights-node}
+use Rattle.cg_nodes.specs.Can.{can}
+use Rattle.cg_nodes.specs.CanForms.{can-is, can-canonical, can-equal, can-unique}
 use Rattle.cg_form.proofs.EqualGames.{le-equal}
-use Rattle.cg_form.proofs.Exists.{can-is, node_settled}
+use Rattle.cg_form.proofs.Exists.{node_settled}
 use Rattle.cg_form.proofs.Preorder.{equal_back, equal_refl, equal_trans, le-cofinal, le_refl}
 use Rattle.cg_form.proofs.Sides.{side_refl}
 use Rattle.cg_form.proofs.Unique.{canonical_form-same}
-use Rattle.cg_nodes.specs.CanForms.{can-canonical, can-equal, can-unique}
-use Rattle.cg_nodes.specs.Spelled.{can}
 use Rattle.cg_book.specs.declared.profile.Profile.{Profile}
 use Rattle.cg_book.specs.declared.verdicts.Verdicts.{Verdicts}
 use Rattle.cg_book.specs.declared.whole.Whole.{Whole}

@@ -1,14 +1,13 @@
 -- What numbers between two games, or beside one of them, tell of their order.
 use Rattle.std.proofs.Common.{◌≡◌, refl, sym, ◌∙◌, ap, Bool, true, false, not, IsTrue}
+use Rattle.cg_dyadic.specs.Cut.{in_cut, within_cut, number_at_most}
 use Rattle.cg_dyadic.specs.declared.cut.Cut.{Cut}
 use Rattle.cg_dyadic.specs.Number.{Number}
 use Rattle.cg_dyadic.proofs.Middle.{middle, middle_between}
 use Rattle.cg_dyadic.proofs.Truth.{differ, false-from, not_true, true_not}
 use Rattle.cg_dyadic.proofs.Values.{number_le-refl}
-use Rattle.cg_form.specs.Cut.{in_cut, within_cut}
 use Rattle.cg_form.specs.Game.{Game, number}
 use Rattle.cg_form.specs.Order.{le}
-use Rattle.cg_form.specs.Side.{number_at_most}
 use Rattle.cg_form.proofs.Preorder.{le_trans}
 use Rattle.cg_form.proofs.Sides.{number_side-less}
 use Rattle.cg_book.specs.declared.profile.Profile.{Profile}

@@ -1,8 +1,8 @@
 -- How far the games of a list go among the numbers.
 use Rattle.std.specs.Prelude.{◌≡◌, Bool, false, cond, List, Option, IsTrue}
+use Rattle.cg_dyadic.specs.Cut.{in_cut, in_some}
 use Rattle.cg_dyadic.specs.declared.cut.Cut.{Cut}
 use Rattle.cg_dyadic.specs.Number.{Number}
-use Rattle.cg_form.specs.Cut.{in_cut, in_some}
 use Rattle.cg_form.specs.Game.{Among, Game, number}
 use Rattle.cg_form.specs.Side.{AtMost}
 use Rattle.cg_book.specs.declared.reach.Bounds.{Bounds}

@@ -1,8 +1,8 @@
 -- What numbers tell of two cuts, and of two games.
 use Rattle.std.specs.Prelude.{◌≡◌, Bool, true, false, IsTrue}
+use Rattle.cg_dyadic.specs.Cut.{in_cut}
 use Rattle.cg_dyadic.specs.declared.cut.Cut.{Cut}
 use Rattle.cg_dyadic.specs.Number.{Number}
-use Rattle.cg_form.specs.Cut.{in_cut}
 use Rattle.cg_form.specs.Game.{Game, number}
 use Rattle.cg_form.specs.Side.{AtMost}
 

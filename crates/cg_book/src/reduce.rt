@@ -6,7 +6,7 @@ ghost use Rattle.std.specs.Prelude.{◌≡◌, IfOk, [], cond, false, true};
 ghost use Rattle.cg_form.specs.Bypass.{Replaces};
 ghost use Rattle.cg_form.specs.Game.{node};
 ghost use Rattle.cg_form.specs.Simple.{NoNumber};
-ghost use Rattle.cg_nodes.specs.Spelled.{can};
+ghost use Rattle.cg_nodes.specs.Can.{can};
 ghost use Rattle.cg_book.specs.Candidates.{AreApartByTerm};
 ghost use Rattle.cg_book.specs.Pages.{ArePages, games_of};
 ghost use Rattle.cg_book.specs.Profiles.{HasCuts};

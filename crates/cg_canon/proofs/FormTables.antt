@@ -8,10 +8,10 @@ use Rattle.cg_cells.specs.Meaning.{Grows}
 use Rattle.cg_cells.specs.Store.{State, thing_at}
 use Rattle.cg_form.specs.Canonical.{Canonical}
 use Rattle.cg_form.specs.Game.{Game, node}
+use Rattle.cg_nodes.specs.Can.{can}
 use Rattle.cg_nodes.specs.CanForms.{can-fixed}
 use Rattle.cg_nodes.specs.Games.{AreGames, StandsFor, games_at}
 use Rattle.cg_nodes.specs.Meant.{Meant}
-use Rattle.cg_nodes.specs.Spelled.{can}
 use Rattle.cg_nodes.proofs.Later.{are_games_later, games_later, stands_later}
 use Rattle.cg_canon.specs.declared.made.MadeForm.{MadeForm}
 use Rattle.cg_canon.specs.declared.made.MadeForms.{MadeForms}

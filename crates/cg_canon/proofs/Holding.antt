@@ -8,8 +8,8 @@ use Rattle.cg_cells.specs.Store.{Spends, State}
 use Rattle.cg_form.specs.Sum.{sum}
 use Rattle.cg_cells.specs.Meaning.{Grows}
 use Rattle.cg_cells.specs.Store.{thing_at}
+use Rattle.cg_nodes.specs.Can.{can}
 use Rattle.cg_nodes.specs.Games.{StandsFor, game_at}
-use Rattle.cg_nodes.specs.Spelled.{can}
 use Rattle.cg_canon.specs.Items.{AllPass}
 use Rattle.cg_canon.specs.SumItems.{sum_items}
 use Rattle.cg_nodes.specs.Meant.{Meant}

@@ -12,6 +12,7 @@ use Rattle.cg_form.specs.Canonical.{Canonical}
 use Rattle.cg_form.specs.Game.{Game}
 use Rattle.cg_form.specs.Order.{Equal}
 use Rattle.cg_form.specs.Sum.{sum}
+use Rattle.cg_nodes.specs.Can.{can}
 use Rattle.cg_form.proofs.EqualGames.{equal_comm, sum_equal}
 use Rattle.cg_form.proofs.Preorder.{equal_back, equal_trans}
 use Rattle.cg_nimbers.specs.NumberUpStar.{number_up_star}
@@ -21,7 +22,6 @@ use Rattle.cg_nimbers.proofs.SameNumbers.{tells_same}
 use Rattle.cg_nodes.specs.CanForms.{can-canonical, can-equal, can-fixed}
 use Rattle.cg_nodes.specs.Games.{IsGame, StandsFor, game_at}
 use Rattle.cg_nodes.specs.Meant.{Meant, form}
-use Rattle.cg_nodes.specs.Spelled.{can}
 use Rattle.cg_nodes.proofs.Forms.{can-same}
 use Rattle.cg_nodes.proofs.Later.{game_later, is_game_later, stands_game, stands_is_game}
 use Rattle.cg_canon.specs.declared.number_up_star.NumberUpStar.{NumberUpStar}

@@ -1,14 +1,15 @@
 -- Walks over the pages of a book, which find the handles of positions.
 use Rattle.std.proofs.Common.{◌≡◌, ℕ, zero, suc, ◌+◌, ◌<◌, ◌≤◌, arith, ap, sym, ◌∙◌, subst, Some, List, [], ◌∷◌, ◌++◌, length, take, get_or}
 use Rattle.std.proofs.lemmas.List.{append_assoc, append-nil}
+use Rattle.cg_form.specs.Extended.{extended, positions_before}
 use Rattle.cg_form.specs.Game.{Game, node, of_list}
 use Rattle.cg_cells.specs.Meaning.{Grows, Has, IsInjective}
 use Rattle.cg_cells.specs.Store.{State, thing_at}
 use Rattle.cg_nodes.specs.Games.{IsGame, StandFor, StandsFor, game_at, games_at}
 use Rattle.cg_nodes.specs.Meant.{Meant, form}
-use Rattle.cg_nodes.specs.Positions.{all_positions, positions_in, positions_of}
-use Rattle.cg_nodes.specs.Walks.{AreFound, AreFoundAfter, extended, positions_before}
-use Rattle.cg_nodes.proofs.Extended.{extended-append, extended-length}
+use Rattle.cg_form.specs.Positions.{all_positions, positions_in, positions_of}
+use Rattle.cg_nodes.specs.Walks.{AreFound, AreFoundAfter}
+use Rattle.cg_form.proofs.Extended.{extended-append, extended-length}
 use Rattle.cg_nodes.proofs.Later.{game_later, stands_game, stands_is_game}
 use Rattle.cg_nodes.proofs.Walked.{found_next, found_positions, found_there, found_within, next_length, none_length}
 use Rattle.cg_book.specs.Pages.{game_of, games_of}

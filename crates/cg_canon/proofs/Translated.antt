@@ -5,9 +5,9 @@ use Rattle.cg_form.specs.Canonical.{AllCanonical, Canonical}
 use Rattle.cg_form.specs.Game.{Game, Games, more, node, none, number, of_list, options, to_list}
 use Rattle.cg_form.specs.Shifted.{shifted, shifted_all}
 use Rattle.cg_form.specs.Sum.{sum}
-use Rattle.cg_form.proofs.Shifted.{form_shifted}
+use Rattle.cg_nodes.specs.Can.{can}
 use Rattle.cg_nodes.specs.CanForms.{can-canonical, can-equal}
-use Rattle.cg_nodes.specs.Spelled.{can}
+use Rattle.cg_form.proofs.Shifted.{form_shifted}
 
 -- a canonical game with a number added throughout is the canonical form of the sum
 pub can-shifted : (x : Number) (g : Game) → Canonical g → can (sum (number x) g) ≡ shifted x g

@@ -3,9 +3,9 @@ use Rattle.std.specs.Prelude.{◌≡◌, ◌≤◌, ℕ, List, Some, length}
 use Rattle.std.specs.List.{slice_get, slice_range}
 use Rattle.cg_cells.specs.Store.{State}
 use Rattle.cg_form.specs.Game.{node}
+use Rattle.cg_nodes.specs.Can.{can}
 use Rattle.cg_nodes.specs.Games.{AreGames, StandsFor, games_at}
 use Rattle.cg_nodes.specs.Meant.{Meant}
-use Rattle.cg_nodes.specs.Spelled.{can}
 use Rattle.cg_canon.specs.declared.made.MadeForm.{MadeForm}
 use Rattle.cg_canon.specs.declared.made.MadeForms.{MadeForms}
 

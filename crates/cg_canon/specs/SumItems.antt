@@ -3,8 +3,8 @@ use Rattle.std.specs.Prelude.{ℕ, ◌*◌, nat_lt, List, [], ◌∷◌, map, le
 use Rattle.std.specs.List.{flat_map}
 use Rattle.cg_form.specs.Game.{Game}
 use Rattle.cg_form.specs.Sum.{sum}
-use Rattle.cg_nodes.specs.Positions.{positions_of}
-use Rattle.cg_nodes.specs.Spelled.{can}
+use Rattle.cg_form.specs.Positions.{positions_of}
+use Rattle.cg_nodes.specs.Can.{can}
 use Rattle.cg_canon.specs.Items.{Item, made, too_many}
 
 -- the items, or the one item too_many where there are more than the limit; equal items count each time

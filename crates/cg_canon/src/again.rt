@@ -9,8 +9,8 @@ ghost use Rattle.cg_canon.specs.Items.{AllPass};
 ghost use Rattle.cg_canon.specs.SumItems.{sum_items};
 ghost use Rattle.cg_canon.specs.Works.{Keeps, work_state};
 ghost use Rattle.cg_form.specs.Sum.{sum as sum_of};
+ghost use Rattle.cg_nodes.specs.Can.{can};
 ghost use Rattle.cg_nodes.specs.Games.{IsGame, StandsFor, game_at};
-ghost use Rattle.cg_nodes.specs.Spelled.{can};
 
 use crate::at_once::charged;
 use crate::memo::KnownSum;

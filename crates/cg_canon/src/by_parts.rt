@@ -9,8 +9,8 @@ ghost use Rattle.cg_canon.specs.Works.{work_state};
 ghost use Rattle.cg_form.specs.Canonical.{Canonical};
 ghost use Rattle.cg_form.specs.Order.{Equal};
 ghost use Rattle.cg_form.specs.Sum.{sum as sum_of};
+ghost use Rattle.cg_nodes.specs.Can.{can};
 ghost use Rattle.cg_nodes.specs.Games.{IsGame, StandsFor, game_at};
-ghost use Rattle.cg_nodes.specs.Spelled.{can};
 
 use crate::number_up_star::NumberUpStar;
 use crate::work::Work;

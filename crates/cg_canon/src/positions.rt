@@ -1,10 +1,11 @@
 //! The positions of a game, read from the pages of a book.
 ghost use Rattle.std.specs.Prelude.{◌≡◌, ◌<◌, ◌≤◌, IfOk, OnOk, Err, length};
+ghost use Rattle.cg_form.specs.Extended.{extended, positions_before};
 ghost use Rattle.cg_form.specs.Game.{of_list};
 ghost use Rattle.cg_cells.specs.Store.{Spends};
 ghost use Rattle.cg_nodes.specs.Games.{AreDistinct, IsGame, StandFor, game_at, games_at};
-ghost use Rattle.cg_nodes.specs.Positions.{all_positions, positions_in, positions_of};
-ghost use Rattle.cg_nodes.specs.Walks.{AreFound, AreFoundAfter, extended, positions_before};
+ghost use Rattle.cg_form.specs.Positions.{all_positions, positions_in, positions_of};
+ghost use Rattle.cg_nodes.specs.Walks.{AreFound, AreFoundAfter};
 ghost use Rattle.cg_book.specs.Pages.{ArePages, IsPage, game_of, games_of};
 ghost use Rattle.cg_canon.specs.Books.{BookHolds};
 ghost use Rattle.cg_canon.specs.Works.{work_state};

@@ -1,5 +1,5 @@
-//! Worked keys, claims and notes, as tests of cg_cells: their expected values come from outside. The toy facts of these tests serve
-//! other crates' tests, too.
+//! Worked keys, claims and notes, as tests of cg_cells: their expected values come from outside.
+//! The toy facts of these tests serve other crates' tests, too.
 #![tactic(auto)]
 
 #[cfg(test)]

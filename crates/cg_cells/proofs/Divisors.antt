@@ -10,8 +10,8 @@ module _ (n d r q w : ℕ) where
       let a : q * w * d ≤ n * r * d = mul-le-mul_right d low in
       let b : r * d * n ≤ w * n = mul-le-mul_right n whole in
       let e1 : q * w * d ≡ q * d * w = mul_right_comm q w d in
-      let e1 : n * r * d ≡ r * d * n = mul_assoc n r d ∙ mul_comm n (r * d) in
-      let e2 : w * n ≡ n * w = mul_comm w n in
+      let e2 : n * r * d ≡ r * d * n = mul_assoc n r d ∙ mul_comm n (r * d) in
+      let e3 : w * n ≡ n * w = mul_comm w n in
       le_of_mul-le-mul_right (omega arith) positive
 
   -- less than two divisors are left

@@ -76,7 +76,7 @@ module _ {X : Type 0} (m : Meaning X) (L : IsLawful m) where
     pub is_sure : Sure m v
     is_sure = record {
       one = tells_knows;
-      apart = λ i k t a b. W.sound.apart i k t (knows_stands i t a) (knows_stands k t b);
+      apart = λ i k t a b. W.cells.sound.apart i k t (knows_stands i t a) (knows_stands k t b);
       inside = λ i t e. subst (λ y. i < cells_of y) (sym F.sized) (known_inside i t e);
       real = λ i t e. (keys, i, knows_stands i t e);
       once = λ n. subst (λ y. times n v.tickets ≤ (if nat_lt n y.lines then 1 else 0)) (sym F.sized) (once n);

@@ -49,8 +49,7 @@ module _ {X : Type 0} (m : Meaning X) (L : IsLawful m) (z : Sizes) (words : List
   kept words' w long same kk kv sound placed fits O paid = record {
     allowed = W.allowed;
     long = long ∙ W.long;
-    sound = sound;
-    placed = placed;
+    cells = record { sound = sound; placed = placed };
     each = each_set (Fits m z (slice_index words' 0) (key_at (cells_of z) words') (value_at (cells_of z) words')) views j w
         (λ i u e. fits_keeps m L z (slice_index words 0) (slice_index words' 0) keys (key_at (cells_of z) words') values (value_at (cells_of z) words') u (omega arith) kk kv (W.each i u e))
         (λ _. subst (λ c. Fits m z c (key_at (cells_of z) words') (value_at (cells_of z) words') w) (sym same) fits);
@@ -68,7 +67,7 @@ module _ {X : Type 0} (m : Meaning X) (L : IsLawful m) (z : Sizes) (words : List
 
   -- no word changes
   viewed : (w : ViewOf X) → Fits m z (slice_index words 0) keys values w → Owns w → Whole m z words (set views j w)
-  viewed w fits O = kept words w refl refl (λ i h. refl) (λ i h. refl) W.sound W.placed fits O (let s = O.spare in omega arith)
+  viewed w fits O = kept words w refl refl (λ i h. refl) (λ i h. refl) W.cells.sound W.cells.placed fits O (let s = O.spare in omega arith)
 
   module _ (id : ℕ) (t : X) (known : knows v id ≡ Some t) where
     here : Stands m keys id t
@@ -108,7 +107,7 @@ module _ {X : Type 0} (m : Meaning X) (L : IsLawful m) (z : Sizes) (words : List
 
     pub value_is : (value : ℕ) → values id ≡ suc value → IsValue value
     value_is value e =
-        let N = W.sound.notes id (λ z. absurd (omega arith)) in
+        let N = W.cells.sound.notes id (λ z. absurd (omega arith)) in
         let same : N.0 ≡ t = stands_one m L keys id N.0 t N.2 here in
         let less : values id - 1 ≡ value = omega arith in
         let there = subst (λ i. Stands m keys i N.1) less N.4 in
@@ -180,8 +179,8 @@ module _ {X : Type 0} (m : Meaning X) (L : IsLawful m) (z : Sizes) (words : List
           (λ i h. ap (λ f. f i) same_keys)
           keeps_values
           (subst (λ k. Sound m k (value_at (cells_of z) noted_words)) (sym same_keys)
-          (noted_sound m keys values (value_at (cells_of z) noted_words) id value t due W.sound here must (knows_stands m L z words views W j v at value due known_value) value_there values_others))
-          (subst (λ k. (i : ℕ) → k i ≢ 0 → IsPlaced (cells_of z) k (m.home (k i) (cells_of z)) i) (sym same_keys) W.placed)
+          (noted_sound m keys values (value_at (cells_of z) noted_words) id value t due W.cells.sound here must (knows_stands m L z words views W j v at value due known_value) value_there values_others))
+          (subst (λ k. (i : ℕ) → k i ≢ 0 → IsPlaced (cells_of z) k (m.home (k i) (cells_of z)) i) (sym same_keys) W.cells.placed)
           (subst (λ k. Fits m z (slice_index words 0) k (value_at (cells_of z) noted_words) (after_note v id)) (sym same_keys)
           (record {
             sized = F.sized;
@@ -290,19 +289,19 @@ module _ {X : Type 0} (m : Meaning X) (L : IsLawful m) (z : Sizes) (words : List
       others i far = key_else (cells_of z) words (1 + cell) key i (λ lt e. far (omega arith))
 
       nowhere : (i : ℕ) → keys i ≢ key
-      nowhere = is_absent m (cells_of z) keys W.placed key steps is_key empty passed
+      nowhere = is_absent m (cells_of z) keys W.cells.placed key steps is_key empty passed
 
       kk : KeepsKeys keys keys'
-      kk = keeps m L keys keys' values cell key t W.sound empty key_there others is_key
+      kk = keeps m L keys keys' values cell key t W.cells.sound empty key_there others is_key
 
       -- the cell was empty
       pub won : Whole m z (set words (1 + cell) key) (set views j (after_claim v cell t))
       won = kept words' (after_claim v cell t) (length-set words (1 + cell) key) (count_else (cells_of z) words (1 + cell) key (omega arith))
           kk
           (λ i h. ap (λ f. f i) same_values)
-          (subst (λ h. Sound m keys' h) (sym same_values) (claimed_sound m L keys keys' values cell key t W.sound empty key_there others is_key (knows v) know spells nowhere))
-          (placed_new m (cells_of z) keys W.placed key steps is_key empty passed keys' low key_there others)
+          (subst (λ h. Sound m keys' h) (sym same_values) (claimed_sound m L keys keys' values cell key t W.cells.sound empty key_there others is_key (knows v) know spells nowhere))
+          (placed_new m (cells_of z) keys W.cells.placed key steps is_key empty passed keys' low key_there others)
           (subst (λ h. Fits m z (slice_index words 0) keys' h (after_claim v cell t)) (sym same_values)
-          (claim_fits keys' kk (new_stands m L keys keys' values cell key t W.sound empty key_there others is_key (knows v) know spells nowhere)))
+          (claim_fits keys' kk (new_stands m L keys keys' values cell key t W.cells.sound empty key_there others is_key (knows v) know spells nowhere)))
           claim_owns
           (let f = filled-new keys keys' cell (cells_of z) claim_inside empty (λ e. is_key (sym key_there ∙ e)) others in omega arith)

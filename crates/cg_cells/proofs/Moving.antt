@@ -1,5 +1,5 @@
 -- The table at its start, draws, and passes that are split off and met keep the rule.
-use Rattle.std.proofs.Common.{◌≡◌, ◌≢◌, ℕ, zero, suc, ◌+◌, ◌-◌, ◌*◌, ◌<◌, ◌≤◌, min, List, [], ◌∷◌, ◌++◌, set, replicate, Bool, true, false, refl, sym, ap, ◌∙◌, subst, ⊎_elim, arith, true≢false, get_or-set_same, lt-ltb, le-ltb, length-set}
+use Rattle.std.proofs.Common.{◌≡◌, ◌≢◌, ℕ, zero, suc, ◌+◌, ◌-◌, ◌*◌, ◌^◌, ◌<◌, ◌≤◌, min, List, [], ◌∷◌, ◌++◌, set, replicate, Bool, true, false, refl, sym, ap, ◌∙◌, subst, ⊎_elim, arith, true≢false, get_or-set_same, lt-ltb, le-ltb, length-set}
 use Rattle.std.specs.Prelude.{slice_index, if◌then◌else◌, nat_lt, ◌||◌}
 use Rattle.std.proofs.lemmas.List.{length-replicate}
 use Rattle.std.proofs.lemmas.Bool.Decides.{nat_tests}
@@ -18,10 +18,10 @@ use Rattle.cg_cells.proofs.Rows.{keys_else, values_else, no_keys, no_values}
 use Rattle.cg_cells.proofs.Totals.{each_set, each_snoc, at_else, total_set, total_end, total_at, total_snoc, times_append, times_snoc}
 
 -- a table has no more lines than cells
-pub lines_few : (z : Sizes) → IsAllowed z → z.lines ≤ 67108864
+pub lines_few : (z : Sizes) → IsAllowed z → z.lines ≤ 2 ^ 26
 lines_few z allowed = by_share z.share refl
   where
-    by_share : (s : ℕ) → z.share ≡ s → z.lines ≤ 67108864
+    by_share : (s : ℕ) → z.share ≡ s → z.lines ≤ 2 ^ 26
     by_share zero e = let a = allowed.cells.0 in let b : z.lines * z.share ≡ 0 = ap (λ x. z.lines * x) e ∙ mul-zero z.lines in absurd (omega arith)
     by_share (suc s) e =
         let a = allowed.cells.1 in
@@ -67,8 +67,10 @@ module _ {X : Type 0} (m : Meaning X) (z : Sizes) (words : List ℕ) (views : Li
         record {
           allowed = W.allowed;
           long = length-set words 0 (n + 1) ∙ long;
-          sound = subst (λ k. Sound m k (value_at (cells_of z) (set words 0 (n + 1)))) kk (subst (λ h. Sound m keys h) vv W.sound);
-          placed = subst (λ k. (i : ℕ) → k i ≢ 0 → IsPlaced (cells_of z) k (m.home (k i) (cells_of z)) i) kk W.placed;
+          cells = record {
+            sound = subst (λ k. Sound m k (value_at (cells_of z) (set words 0 (n + 1)))) kk (subst (λ h. Sound m keys h) vv W.cells.sound);
+            placed = subst (λ k. (i : ℕ) → k i ≢ 0 → IsPlaced (cells_of z) k (m.home (k i) (cells_of z)) i) kk W.cells.placed;
+          };
           each = subst (λ c. (i : ℕ) (u : ViewOf X) → IsLive (set views j w) i u → Fits m z c (key_at (cells_of z) (set words 0 (n + 1))) (value_at (cells_of z) (set words 0 (n + 1))) u) is
               (subst (λ k. (i : ℕ) (u : ViewOf X) → IsLive (set views j w) i u → Fits m z (n + 1) k (value_at (cells_of z) (set words 0 (n + 1))) u) kk
               (subst (λ h. (i : ℕ) (u : ViewOf X) → IsLive (set views j w) i u → Fits m z (n + 1) keys h u) vv
@@ -145,8 +147,7 @@ module _ {X : Type 0} (m : Meaning X) (z : Sizes) (words : List ℕ) (views : Li
     splits = record {
       allowed = W.allowed;
       long = W.long;
-      sound = W.sound;
-      placed = W.placed;
+      cells = W.cells;
       each = each_snoc (Fits m z n keys values) (set views j old) new
           (each_set (Fits m z n keys values) views j old W.each (λ _. record { sized = F.sized; stands = F.stands; over = F.over; probes = F.probes; noted = F.noted }))
           (record { sized = F.sized; stands = F.stands; over = λ is. absurd (true≢false (sym is)); probes = λ k s e. absurd (None_not e); noted = F.noted });
@@ -185,8 +186,7 @@ module _ {X : Type 0} (m : Meaning X) (z : Sizes) (words : List ℕ) (views : Li
     joins = record {
       allowed = W.allowed;
       long = W.long;
-      sound = W.sound;
-      placed = W.placed;
+      cells = W.cells;
       each = each_set (Fits m z n keys values) (set views j both) other ended
           (each_set (Fits m z n keys values) views j both W.each (λ _. record {
             sized = F.sized;
@@ -231,13 +231,15 @@ module _ {X : Type 0} (m : Meaning X) (L : IsLawful m) (z : Sizes) (allowed : Is
       record {
         allowed = allowed;
         long = length-replicate (1 + cells_of z + cells_of z) 0;
-        sound = record {
-          once = λ i k has. absurd (has (zero_key i));
-          stand = λ i has. absurd (has (zero_key i));
-          notes = λ i has. absurd (has (zero_value i));
-          apart = λ i k t a. absurd (stands_key m L keys0 i t a (zero_key i));
+        cells = record {
+          sound = record {
+            once = λ i k has. absurd (has (zero_key i));
+            stand = λ i has. absurd (has (zero_key i));
+            notes = λ i has. absurd (has (zero_value i));
+            apart = λ i k t a. absurd (stands_key m L keys0 i t a (zero_key i));
+          };
+          placed = λ i has. absurd (has (zero_key i));
         };
-        placed = λ i has. absurd (has (zero_key i));
         each = only;
         enough = subst (λ c. filled keys0 (cells_of z) + (0 + 0) ≤ z.share * min c z.lines) (sym zero_count) (let f = none_filled keys0 (cells_of z) zero_key in omega arith);
         drawn = λ k.

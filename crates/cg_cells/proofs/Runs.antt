@@ -1,13 +1,13 @@
 -- Every list of steps keeps the rule.
-use Rattle.std.proofs.Common.{◌≡◌, ◌≢◌, ℕ, ◌+◌, List, [], ◌∷◌, set, false, refl, sym, ap, ◌∙◌, subst, ⊎_elim, arith, true≢false}
+use Rattle.std.proofs.Common.{◌≡◌, ◌≢◌, ℕ, ◌+◌, List, [], ◌∷◌, ◌++◌, set, false, refl, sym, ap, ◌∙◌, subst, ⊎_elim, arith, true≢false}
 use Rattle.std.specs.Prelude.{if◌then◌else◌, ◌==◌}
 use mathlib.Core.Logic.{dite}
 use native.Mathlib.Decide.{ℕ_discrete}
 use Rattle.std.proofs.lemmas.Bool.Decides.{nat_tests}
-use Rattle.cg_cells.specs.Meaning.{Meaning, IsLawful, Sound}
+use Rattle.cg_cells.specs.Meaning.{Meaning, IsLawful}
 use Rattle.cg_cells.specs.Views.{Sizes, ViewOf, cells_of, ended, after_note}
-use Rattle.cg_cells.specs.Table.{IsAllowed, Whole, IsLive, key_at, value_at}
-use Rattle.cg_cells.specs.Steps.{Table, Step, split, join, draw, check, look, read, probe, claim, note, close, Leads, Run, opening, is_close, IsOpen}
+use Rattle.cg_cells.specs.Table.{IsAllowed, SoundAndPlaced, Whole, IsLive, value_at}
+use Rattle.cg_cells.specs.Steps.{Table, Step, split, join, draw, check, look, read, probe, claim, note, close, Leads, Run, opening, is_close, IsOpen, IsReachable}
 use Rattle.cg_cells.proofs.Keeping.{looks, reads, found, passes, won, notes, renotes}
 use Rattle.cg_cells.proofs.Moving.{draws, splits, joins, opens}
 use Rattle.cg_cells.proofs.Rows.{word_again, value_in}
@@ -35,18 +35,18 @@ module _ {X : Type 0} (m : Meaning X) (L : IsLawful m) (z : Sizes) where
   step_keeps s t (check j) opened W (v, at, e) = from _ t e W
   step_keeps s t (look j id) opened W (v, at, (thing, known, e)) = from _ t e (looks m L z s.words s.views W j v at id thing known)
   step_keeps s t (read j id) opened W (v, at, (thing, known, e)) = from _ t e (reads m L z s.words s.views W j v at id thing known)
-  step_keeps s t (probe j key) opened W (v, at, (thing, steps, is_key, spare, spells, goes, how)) = ⊎_elim
+  step_keeps s t (probe j key) opened W (v, at, (thing, steps, S, spells, how)) = ⊎_elim
       (λ empty. from _ t empty.1 W)
       (λ full. ⊎_elim
-      (λ same. from _ t same.1 (found m L z s.words s.views W j v at key steps thing is_key spare spells goes same.0))
-      (λ other. from _ t other.2 (passes m L z s.words s.views W j v at key steps thing is_key spare spells goes other.0 other.1))
+      (λ same. from _ t same.1 (found m L z s.words s.views W j v at key steps thing S.is_key S.spare spells S.goes same.0))
+      (λ other. from _ t other.2 (passes m L z s.words s.views W j v at key steps thing S.is_key S.spare spells S.goes other.0 other.1))
       full)
       how
-  step_keeps s t (claim j key) opened W (v, at, (thing, steps, is_key, spare, spells, goes, how)) = ⊎_elim
-      (λ new. from _ t new.1 (won m L z s.words s.views W j v at key steps thing is_key spare spells goes new.0))
+  step_keeps s t (claim j key) opened W (v, at, (thing, steps, S, spells, how)) = ⊎_elim
+      (λ new. from _ t new.1 (won m L z s.words s.views W j v at key steps thing S.is_key S.spare spells S.goes new.0))
       (λ full. ⊎_elim
-      (λ same. from _ t same.1 (found m L z s.words s.views W j v at key steps thing is_key spare spells goes same.0))
-      (λ other. from _ t other.2 (passes m L z s.words s.views W j v at key steps thing is_key spare spells goes other.0 other.1))
+      (λ same. from _ t same.1 (found m L z s.words s.views W j v at key steps thing S.is_key S.spare spells S.goes same.0))
+      (λ other. from _ t other.2 (passes m L z s.words s.views W j v at key steps thing S.is_key S.spare spells S.goes other.0 other.1))
       full)
       how
   step_keeps s t (note j id value) opened W (v, at, (thing, due, known, known_value, must, e)) = from _ t e
@@ -66,12 +66,15 @@ module _ {X : Type 0} (m : Meaning X) (L : IsLawful m) (z : Sizes) where
   pub keeps_rule : IsAllowed z → (xs : List Step) (t : Table X) → IsOpen xs → Run m z (opening z) xs t → Holds t
   keeps_rule allowed xs t opened run = run_keeps xs (opening z) t opened (opens m L z allowed) run
 
+  pub whole_of : (t : Table X) → IsReachable m z t → Whole m z t.words t.views
+  whole_of t R = keeps_rule R.allowed R.steps t R.opened R.run
+
   -- a close leaves sound words and no live pass
   pub closes : IsAllowed z → (xs : List Step) (j : ℕ) (s t : Table X) → IsOpen xs → Run m z (opening z) xs s → Leads m z s (close j) t
-      → (Sound m (key_at (cells_of z) t.words) (value_at (cells_of z) t.words)) × ((i : ℕ) (v : ViewOf X) → ¬ IsLive t.views i v)
+      → SoundAndPlaced m (cells_of z) t.words × ((i : ℕ) (v : ViewOf X) → ¬ IsLive t.views i v)
   closes allowed xs j s t opened run (v, at, e) =
       let W = keeps_rule allowed xs s opened run in (
-        subst (λ (t : Table X). Sound m (key_at (cells_of z) t.words) (value_at (cells_of z) t.words)) (sym e) W.sound,
+        subst (λ (t : Table X). SoundAndPlaced m (cells_of z) t.words) (sym e) W.cells,
         λ i w h. none_live s.views ended refl i w (subst (λ (t : Table X). IsLive t.views i w) e h),
       )
 
@@ -87,3 +90,24 @@ module _ {X : Type 0} (m : Meaning X) (L : IsLawful m) (z : Sizes) where
   needs_live s t (claim j key) none (v, at, rest) = none j v at
   needs_live s t (note j id value) none (v, at, rest) = none j v at
   needs_live s t (close j) none (v, at, rest) = none j v at
+
+module _ {X : Type 0} (m : Meaning X) (z : Sizes) where
+  pub reachable_start : IsAllowed z → IsReachable m z (opening z)
+  reachable_start allowed = record { allowed = allowed; steps = []; opened = tt; run = refl }
+
+  run_more : (xs : List Step) (s t u : Table X) (x : Step) → Run m z s xs t → Leads m z t x u → Run m z s (xs ++ x ∷ []) u
+  run_more [] s t u x e leads = (u, subst (λ (s : Table X). Leads m z s x u) (sym e) leads, refl)
+  run_more (y ∷ ys) s t u x (r, first, rest) leads = (r, first, run_more ys r t u x rest leads)
+
+  open_more : (xs : List Step) (x : Step) → IsOpen xs → is_close x ≡ false → IsOpen (xs ++ x ∷ [])
+  open_more [] x opened e = (e, tt)
+  open_more (y ∷ ys) x opened e = (opened.0, open_more ys x opened.1 e)
+
+  -- one more step that closes nothing
+  pub one_more : (s t : Table X) (x : Step) → IsReachable m z s → Leads m z s x t → is_close x ≡ false → IsReachable m z t
+  one_more s t x R leads e = record {
+    allowed = R.allowed;
+    steps = R.steps ++ x ∷ [];
+    opened = open_more R.steps x R.opened e;
+    run = run_more R.steps (opening z) s t x R.run leads;
+  }

@@ -1,9 +1,9 @@
 -- The steps of the passes of a shared table. Each is one load, one exchange or one addition on one word, by one pass.
-use Rattle.std.specs.Prelude.{◌≡◌, ◌≢◌, ◌⊎◌, ℕ, ◌+◌, ◌<◌, ◌≤◌, List, [], ◌∷◌, ◌++◌, map, replicate, Bool, true, false, Option, Some, None, if◌then◌else◌, ◌==◌, slice_index, slice_set}
+use Rattle.std.specs.Prelude.{◌≡◌, ◌≢◌, ◌⊎◌, ℕ, ◌+◌, ◌<◌, ◌≤◌, List, [], ◌∷◌, ◌++◌, map, replicate, Bool, true, false, Option, Some, None, IsSome, if◌then◌else◌, ◌==◌, slice_index, slice_set}
 use Rattle.cg_cells.specs.Meaning.{Meaning}
 use Rattle.cg_cells.specs.Index.{place}
 use Rattle.cg_cells.specs.Views.{Sizes, ViewOf, cells_of, knows, first_view, after_split, split_off, after_meet, ended, after_draw, after_claim, after_pass, after_note, after_look, after_read}
-use Rattle.cg_cells.specs.Table.{IsLive, key_at, value_at}
+use Rattle.cg_cells.specs.Table.{IsAllowed, IsLive, key_at, value_at}
 
 -- a table's words, and the views of all its passes
 pub record Table (X : Type 0) : Type 0 where
@@ -33,6 +33,14 @@ abbrev pub GoesOn : Option (ℕ × ℕ) → ℕ → ℕ → Type 0
 GoesOn None key steps = steps ≡ 0
 GoesOn (Some p) key steps = (p.0 ≡ key) × (p.1 ≡ steps)
 
+module _ {X : Type 0} (m : Meaning X) where
+  -- The search of a pass with this view for a key, which spells a thing, has come so many cells past the key's home
+  pub record IsSearching (v : ViewOf X) (key steps : ℕ) : Type 0 where
+    pub is_key : key ≢ 0
+    pub spare : 1 ≤ v.spare
+    pub spells : IsSome (m.spells key (knows v))
+    pub goes : GoesOn v.probe key steps
+
 module _ {X : Type 0} where
   -- Make: all words 0, and one pass
   abbrev pub opening : Sizes → Table X
@@ -51,20 +59,20 @@ module _ {X : Type 0} where
   OfLive P s j = (v : ViewOf X) × IsLive s.views j v × P v
 
 module _ {X : Type 0} (m : Meaning X) (z : Sizes) where
-  -- Where the search for a key that spells thing comes to a cell with a key: it is this key, or another
+  -- Where the search for a key that spells a thing comes to a cell with a key: it is this key, or another
   abbrev pub Finds : Table X → ℕ → ℕ → ViewOf X → ℕ → X → Table X → Type 0
   Finds s j key v cell thing t =
       ((key_at (cells_of z) s.words cell ≡ key) × (t ≡ seen s j (after_claim v cell thing)))
       ⊎ ((key_at (cells_of z) s.words cell ≢ 0) × (key_at (cells_of z) s.words cell ≢ key) × (t ≡ seen s j (after_pass v key)))
 
   -- A probe: at the cell there is no key, which changes nothing, or there is one
-  abbrev pub Probes : Table X → ℕ → ℕ → ViewOf X → ℕ → X → Table X → Type 0
-  Probes s j key v cell thing t =
+  abbrev pub ProbeLeads : Table X → ℕ → ℕ → ViewOf X → ℕ → X → Table X → Type 0
+  ProbeLeads s j key v cell thing t =
       ((key_at (cells_of z) s.words cell ≡ 0) × (t ≡ s)) ⊎ Finds s j key v cell thing t
 
   -- A claim: at the cell there is no key, which becomes this key, or there is one
-  abbrev pub Claims : Table X → ℕ → ℕ → ViewOf X → ℕ → X → Table X → Type 0
-  Claims s j key v cell thing t =
+  abbrev pub ClaimLeads : Table X → ℕ → ℕ → ViewOf X → ℕ → X → Table X → Type 0
+  ClaimLeads s j key v cell thing t =
       ((key_at (cells_of z) s.words cell ≡ 0) × (t ≡ stepped s (1 + cell) key j (after_claim v cell thing)))
       ⊎ Finds s j key v cell thing t
 
@@ -81,12 +89,12 @@ module _ {X : Type 0} (m : Meaning X) (z : Sizes) where
       × (t ≡ seen s j (after_look m v (key_at (cells_of z) s.words id) thing))) s j
   Leads s (read j id) t = OfLive (λ v. (thing : X) × (knows v id ≡ Some thing)
       × (t ≡ seen s j (after_read m v id (value_at (cells_of z) s.words id) thing))) s j
-  Leads s (probe j key) t = OfLive (λ v. (thing : X) × (steps : ℕ) × (key ≢ 0) × (1 ≤ v.spare)
-      × (m.spells key (knows v) ≡ Some thing) × GoesOn v.probe key steps
-      × Probes s j key v (place (cells_of z) (m.home key (cells_of z)) steps) thing t) s j
-  Leads s (claim j key) t = OfLive (λ v. (thing : X) × (steps : ℕ) × (key ≢ 0) × (1 ≤ v.spare)
-      × (m.spells key (knows v) ≡ Some thing) × GoesOn v.probe key steps
-      × Claims s j key v (place (cells_of z) (m.home key (cells_of z)) steps) thing t) s j
+  Leads s (probe j key) t = OfLive (λ v. (thing : X) × (steps : ℕ) × IsSearching m v key steps
+      × (m.spells key (knows v) ≡ Some thing)
+      × ProbeLeads s j key v (place (cells_of z) (m.home key (cells_of z)) steps) thing t) s j
+  Leads s (claim j key) t = OfLive (λ v. (thing : X) × (steps : ℕ) × IsSearching m v key steps
+      × (m.spells key (knows v) ≡ Some thing)
+      × ClaimLeads s j key v (place (cells_of z) (m.home key (cells_of z)) steps) thing t) s j
   Leads s (note j id value) t = OfLive (λ v. (thing : X) × (due : X) × (knows v id ≡ Some thing) × (knows v value ≡ Some due)
       × (m.note_of thing ≡ Some due)
       × (t ≡ stepped s (1 + cells_of z + id)
@@ -114,3 +122,23 @@ is_close (close j) = true
 abbrev pub IsOpen : List Step → Type 0
 IsOpen [] = Unit {0}
 IsOpen (x ∷ xs) = (is_close x ≡ false) × IsOpen xs
+
+-- some list of steps that closes nothing leads to the table from the start of one of these sizes
+pub record IsReachable {X : Type 0} (m : Meaning X) (z : Sizes) (t : Table X) : Type 0 where
+  pub allowed : IsAllowed z
+  pub steps : List Step
+  pub opened : IsOpen steps
+  pub run : Run m z (opening z) steps t
+
+module _ {X : Type 0} where
+  -- the table has these key words and value words
+  abbrev pub HasCells : Table X → List ℕ → List ℕ → Type 0
+  HasCells t keys values = (count : ℕ) × (t.words ≡ count ∷ keys ++ values)
+
+  -- a live pass of the table has this view
+  abbrev pub HasPass : Table X → ViewOf X → Type 0
+  HasPass t v = (j : ℕ) × IsLive t.views j v
+
+  -- these key words and value words, and this view of a live pass, are those of a table to which some list of steps leads
+  abbrev pub IsOutcome : Meaning X → Sizes → List ℕ → List ℕ → ViewOf X → Type 0
+  IsOutcome m z keys values v = (t : Table X) × IsReachable m z t × HasCells t keys values × HasPass t v

@@ -1,5 +1,5 @@
 -- The rule of the words of a shared table and of the views of its passes.
-use Rattle.std.specs.Prelude.{◌≡◌, ◌≢◌, ◌⊎◌, ℕ, ◌+◌, ◌-◌, ◌*◌, ◌<◌, ◌≤◌, min, List, [], ◌∷◌, length, true, false, Some, if◌then◌else◌, nat_lt, ◌==◌, slice_index}
+use Rattle.std.specs.Prelude.{◌≡◌, ◌≢◌, ◌⊎◌, ℕ, ◌+◌, ◌-◌, ◌*◌, ◌^◌, ◌<◌, ◌≤◌, min, List, [], ◌∷◌, length, true, false, Some, if◌then◌else◌, nat_lt, ◌==◌, slice_index}
 use mathlib.Core.Option.{some}
 use lib.ListN.{get_elem?}
 use Rattle.cg_cells.specs.Meaning.{Meaning, Has, Stands, Sound, IsInjective, IsReal}
@@ -9,7 +9,7 @@ use Rattle.cg_cells.specs.Views.{Sizes, ViewOf, cells_of, knows}
 
 -- what a table may be started with
 pub record IsAllowed (z : Sizes) : Type 0 where
-  pub cells : (1 ≤ cells_of z) × (cells_of z ≤ 67108864)
+  pub cells : (1 ≤ cells_of z) × (cells_of z ≤ 2 ^ 26)
   pub passes : (1 ≤ z.passes) × (z.passes ≤ 65536)
 
 -- The words of a table are a counter, then the key words, then the value words
@@ -68,6 +68,13 @@ module _ {X : Type 0} (m : Meaning X) where
   HasPassed keys size key n = (j : ℕ) → j < n
       → (keys (place size (m.home key size) j) ≢ 0) × (keys (place size (m.home key size) j) ≢ key)
 
+  -- What holds of the key words and the value words: they are sound, and each key stands at its home or after it, with no
+  -- empty cell between
+  pub record SoundAndPlaced (size : ℕ) (words : List ℕ) : Type 0 where
+    pub sound : Sound m (key_at size words) (value_at size words)
+    pub placed : (i : ℕ) → key_at size words i ≢ 0
+        → IsPlaced size (key_at size words) (m.home (key_at size words i) size) i
+
   -- What the rule says of a live view, by the counter, the keys and the values
   pub record Fits (z : Sizes) (count : ℕ) (keys values : ℕ → ℕ) (v : ViewOf X) : Type 0 where
     pub sized : v.sizes ≡ z
@@ -84,10 +91,7 @@ module _ {X : Type 0} (m : Meaning X) where
   pub record Whole (z : Sizes) (words : List ℕ) (views : List (ViewOf X)) : Type 0 where
     pub allowed : IsAllowed z
     pub long : length words ≡ 1 + cells_of z + cells_of z
-    pub sound : Sound m (key_at (cells_of z) words) (value_at (cells_of z) words)
-    -- each key stands at its home or after it, with no empty cell between
-    pub placed : (i : ℕ) → key_at (cells_of z) words i ≢ 0
-        → IsPlaced (cells_of z) (key_at (cells_of z) words) (m.home (key_at (cells_of z) words i) (cells_of z)) i
+    pub cells : SoundAndPlaced (cells_of z) words
     pub each : (j : ℕ) (v : ViewOf X) → IsLive views j v
         → Fits z (slice_index words 0) (key_at (cells_of z) words) (value_at (cells_of z) words) v
     -- the cells that are full, and the claims to spare, are paid for by the lines that were drawn
@@ -110,6 +114,6 @@ module _ {X : Type 0} (m : Meaning X) where
     -- no line was drawn twice, and all were drawn where no other pass may have drawn and none is left
     pub once : (n : ℕ) → times n v.tickets ≤ (if nat_lt n v.sizes.lines then 1 else 0)
     pub all : v.over ≡ true → passes_of v ≡ v.sizes.passes → HasAllTickets v
-    pub few_spare : v.spare ≤ 67108864
+    pub few_spare : v.spare ≤ 2 ^ 26
     pub few_heirs : v.heirs ≤ 65536
     pub few_passes : passes_of v ≤ v.sizes.passes

@@ -3,8 +3,8 @@ ghost use Rattle.std.specs.Prelude.{◌≡◌, ◌+◌, ◌*◌, ◌%◌, ◌<�
 
 use std::marker::Model;
 
-/// A number of at least 1 by which many remainders are taken, with its reciprocal, so that a remainder takes two products
-/// in place of a division. Contracts see it as the number.
+/// A number of at least 1 by which many remainders are taken, with its reciprocal, so that a
+/// remainder takes two products in place of a division. Contracts see it as the number.
 #[derive(Drop)]
 pub struct Divisor {
     number: u64,

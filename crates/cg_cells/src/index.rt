@@ -1,7 +1,8 @@
 //! The index of a store in plain memory: for each key the cell that has it, by open addressing from the key's home.
 //!
-//! The index has a slot for each cell. A slot holds 0, or the number of a cell plus 1. The cell of a key stands in the slot
-//! that is the key's home or in the first free one after it, going round at the end, and slots are never freed.
+//! The index has a slot for each cell. A slot holds 0, or the number of a cell plus 1. The cell of
+//! a key stands in the slot that is the key's home or in the first free one after it, going round
+//! at the end, and slots are never freed.
 ghost use Rattle.std.specs.Prelude.{◌≡◌, ◌≢◌, ℕ, ◌+◌, ◌<◌, ◌≤◌, ◌^◌, length, slice_index, IfOk};
 ghost use Rattle.cg_cells.specs.Index.{IsProbeEnd, IsIndex};
 ghost use Rattle.cg_cells.specs.Words.{filled};
@@ -49,9 +50,12 @@ pub(crate) fn probe<F: Facts>(keys: &[u64], index: &[u32], key: u64) -> ProbeEnd
 fn put<F: Facts>(keys: &[u64], index: &mut [u32], cell: usize)
     requires size { (length index.old ≡ length keys.now) × (length keys.now ≤ 2 ^ 26) }
     requires cell { cell < length keys.now }
-    requires once { (i j : ℕ) → slice_index keys.now i ≢ 0 → slice_index keys.now i ≡ slice_index keys.now j → i ≡ j }
-    requires before { IsIndex F.meaning (length keys.now) (slice_index keys.now) (slice_index index.old) cell }
-    ensures { IsIndex F.meaning (length keys.now) (slice_index keys.now) (slice_index index.new) (cell + 1) }
+    requires once { (i j : ℕ) → slice_index keys.now i ≢ 0
+        → slice_index keys.now i ≡ slice_index keys.now j → i ≡ j }
+    requires before { IsIndex F.meaning (length keys.now) (slice_index keys.now)
+        (slice_index index.old) cell }
+    ensures { IsIndex F.meaning (length keys.now) (slice_index keys.now) (slice_index index.new)
+        (cell + 1) }
 {
     let key = keys[cell];
     if key == 0 {
@@ -66,9 +70,12 @@ fn put<F: Facts>(keys: &[u64], index: &mut [u32], cell: usize)
 /// The index of these cells, of which no two have one key.
 pub(crate) fn index_of<F: Facts>(alloc: Global, keys: &[u64]) -> Result<Vec<u32>, AllocError>
     requires size { length keys.now ≤ 2 ^ 26 }
-    requires once { (i j : ℕ) → slice_index keys.now i ≢ 0 → slice_index keys.now i ≡ slice_index keys.now j → i ≡ j }
+    requires once { (i j : ℕ) → slice_index keys.now i ≢ 0
+        → slice_index keys.now i ≡ slice_index keys.now j → i ≡ j }
     ensures size { IfOk result (λ index. length index.items ≡ length keys.now) }
-    ensures indexed { IfOk result (λ index. IsIndex F.meaning (length keys.now) (slice_index keys.now) (slice_index index.items) (length keys.now)) }
+    ensures indexed { IfOk result
+        (λ index. IsIndex F.meaning (length keys.now) (slice_index keys.now)
+        (slice_index index.items) (length keys.now)) }
 {
     let mut index = vec![in alloc; 0u32; keys.len()]?;
     for cell in 0..keys.len() {

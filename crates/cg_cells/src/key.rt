@@ -1,5 +1,6 @@
 //! Keys, and their parts.
-ghost use Rattle.std.specs.Prelude.{◌≡◌, ◌≢◌, ℕ, ◌↔◌, IsTrue, IfSome, IfNone, IsSome, Option, Some, None};
+ghost use Rattle.std.specs.Prelude.{◌≡◌, ◌≢◌, ℕ, ◌↔◌, IsTrue, IfSome, IfNone, IsSome, Option, Some};
+ghost use Rattle.std.specs.Prelude.{None};
 ghost use Rattle.cg_cells.specs.Layout.{FieldsFit, TypesFit, word_of};
 ghost use Rattle.cg_cells.specs.Parts.{parts_of};
 ghost use Rattle.cg_cells.specs.declared.key.KeyParts.TheVariants.{Cons};
@@ -29,8 +30,9 @@ impl Model for Key {
     ghost invariant = { λ s. s.word ≢ 0 };
 }
 
-/// The parts of a key. The word has the kind, from 1 to 7 in the order of the variants, in bits 61 to 63. The field of an
-/// id holds the id plus 1, in 27 bits, and 0 for no id, which is the empty list. Bits that no field has are 0.
+/// The parts of a key. The word has the kind, from 1 to 7 in the order of the variants, in bits 61
+/// to 63. The field of an id holds the id plus 1, in 27 bits, and 0 for no id, which is the empty
+/// list. Bits that no field has are 0.
 #[derive(Clone, Copy, Debug, PartialEq, Eq)]
 pub enum KeyParts {
     /// The dyadic number `num / 2^exp` in lowest terms: `num` below 2^52 in size, `exp` at most 31, and `num` odd or
@@ -49,8 +51,8 @@ pub enum KeyParts {
         first: Id,
         rest: Option<Id>,
     },
-    /// A game by its lists of Left and Right options, of which one at least isn't empty. Bits 0 to 26 hold `lefts`, bits
-    /// 27 to 53 `rights`.
+    /// A game by its lists of Left and Right options, of which one at least isn't empty. Bits 0 to
+    /// 26 hold `lefts`, bits 27 to 53 `rights`.
     Game {
         lefts: Option<Id>,
         rights: Option<Id>,
@@ -60,16 +62,18 @@ pub enum KeyParts {
         low: Id,
         high: Id,
     },
-    /// A board of the game with this number, from 1 to 15, with 1 to 64 rows and columns, by the first chunk of its cells.
-    /// Bits 0 to 26 hold `first`, bits 40 to 46 `columns`, bits 47 to 53 `rows`, bits 54 to 57 `number`.
+    /// A board of the game with this number, from 1 to 15, with 1 to 64 rows and columns, by the
+    /// first chunk of its cells. Bits 0 to 26 hold `first`, bits 40 to 46 `columns`, bits 47 to 53
+    /// `rows`, bits 54 to 57 `number`.
     Board {
         number: u8,
         rows: u8,
         columns: u8,
         first: Id,
     },
-    /// A number of more bits than fit in a key of the first kind, over `2^exp` with `exp` at most 40, by the first of two
-    /// chunks of 32 bits of its numerator. Bits 0 to 26 hold `first`, bits 27 to 32 `exp`, bit 33 `negative`.
+    /// A number of more bits than fit in a key of the first kind, over `2^exp` with `exp` at most
+    /// 40, by the first of two chunks of 32 bits of its numerator. Bits 0 to 26 hold `first`, bits
+    /// 27 to 32 `exp`, bit 33 `negative`.
     Long {
         first: Id,
         exp: u8,
@@ -238,13 +242,14 @@ impl Key {
     pub fn unpack(&self) -> Option<KeyParts>
         ensures parts { result ≡ parts_of self.now }
         ensures fit { IfSome result (λ p. FieldsFit p × TypesFit p × (word_of p ≡ self.now)) }
-        ensures none { IfNone result ((p : KeyParts) → FieldsFit p → TypesFit p → word_of p ≢ self.now) }
+        ensures none { IfNone result
+            ((p : KeyParts) → FieldsFit p → TypesFit p → word_of p ≢ self.now) }
     {
         unpacked(self.word)
     }
 
-    /// The parts of a key that is the key of some, as each key that spells a thing is. They are read where they stand and
-    /// not spelled again, as `unpack` does to see whether there are any.
+    /// The parts of a key that is the key of some, as each key that spells a thing is. They are
+    /// read where they stand and not spelled again, as `unpack` does to see whether there are any.
     #[inline(always)]
     pub fn parts(&self) -> KeyParts
         requires { IsSome (parts_of self.now) }
@@ -257,13 +262,15 @@ impl Key {
         parts
     }
 
-    /// What the key of a list has, where the key of some parts, as [`Key::parts`] reads them, is that of a list. Nothing of other
-    /// kinds is read.
+    /// What the key of a list has, where the key of some parts, as [`Key::parts`] reads them, is
+    /// that of a list. Nothing of other kinds is read.
     #[inline]
     pub fn list_parts(&self) -> Option<ListParts>
         requires { IsSome (parts_of self.now) }
-        ensures some { IfSome result (λ list. parts_of self.now ≡ Some (Cons list.first list.rest)) }
-        ensures none { IfNone result ((first : ℕ) (rest : Option ℕ) → parts_of self.now ≢ Some (Cons first rest)) }
+        ensures some { IfSome result
+            (λ list. parts_of self.now ≡ Some (Cons list.first list.rest)) }
+        ensures none { IfNone result
+            ((first : ℕ) (rest : Option ℕ) → parts_of self.now ≢ Some (Cons first rest)) }
     {
         if self.word / KIND != 3 {
             return None;

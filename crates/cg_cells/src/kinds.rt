@@ -1,4 +1,5 @@
-//! Keys by the fields of their kinds. Each takes its fields one by one, so none of them is written to memory and read back.
+//! Keys by the fields of their kinds. Each takes its fields one by one, so none of them is written
+//! to memory and read back.
 ghost use Rattle.std.specs.Prelude.{◌≡◌, ◌≤◌, ◌+◌, Some};
 ghost use Rattle.cg_cells.specs.Layout.{TypesFit, id_field, word_of};
 ghost use Rattle.cg_cells.specs.Parts.{parts_of};
@@ -54,7 +55,8 @@ impl Key {
         }
     }
 
-    /// The key of a board of the game with this number, from 1 to 15, with 1 to 64 rows and columns, as [`Key::pack`] gives it.
+    /// The key of a board of the game with this number, from 1 to 15, with 1 to 64 rows and
+    /// columns, as [`Key::pack`] gives it.
     pub fn board(number: u8, rows: u8, columns: u8, first: Id) -> Key
         requires number { (1 ≤ number) × (number ≤ 15) }
         requires rows { (1 ≤ rows) × (rows ≤ 64) }

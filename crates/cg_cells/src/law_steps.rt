@@ -1,37 +1,43 @@
-//! Laws of a shared table: whatever the passes of a table do, in whatever order, its rule holds, and what the rule says of
-//! tickets.
+//! Laws of a shared table: whatever the passes of a table do, in whatever order, its rule holds,
+//! and what the rule says of tickets.
 ghost use Rattle.std.specs.Prelude.{◌≡◌, ℕ, ◌<◌, ◌≤◌, min, List, slice_index};
-ghost use Rattle.cg_cells.specs.Meaning.{Sound};
 ghost use Rattle.cg_cells.specs.Views.{Sizes, ViewOf, cells_of};
-ghost use Rattle.cg_cells.specs.Table.{IsAllowed, IsLive, Whole, key_at, times, value_at};
+ghost use Rattle.cg_cells.specs.Table.{IsAllowed, IsLive, SoundAndPlaced, Whole, times};
 ghost use Rattle.cg_cells.specs.Steps.{Table, Step, close, opening, Leads, Run, IsOpen};
 
 use crate::Facts;
 
-/// For every list of steps from the start of a table of any allowed size, each made under its condition: the rule holds
-/// after it, if no step closed the table. Where a close follows, the words are sound after it, no pass is live, and no
-/// further step can be made.
+/// For every list of steps from the start of a table of any allowed size, each made under its
+/// condition: the rule holds after it, if no step closed the table. Where a close follows, the
+/// words are sound after it and each key stands at its home or behind it with no empty cell
+/// between, no pass is live, and no further step can be made.
 pub fn steps<F: Facts>()
-    ensures whole { (z : Sizes) → IsAllowed z → (steps : List Step) (t : Table F.Thing) → IsOpen steps
+    ensures whole { (z : Sizes) → IsAllowed z → (steps : List Step) (t : Table F.Thing)
+        → IsOpen steps
         → Run F.meaning z (opening z) steps t → Whole F.meaning z t.words t.views }
-    ensures closed { (z : Sizes) → IsAllowed z → (steps : List Step) (j : ℕ) (s t : Table F.Thing) → IsOpen steps
+    ensures closed { (z : Sizes) → IsAllowed z → (steps : List Step) (j : ℕ) (s t : Table F.Thing)
+        → IsOpen steps
         → Run F.meaning z (opening z) steps s → Leads F.meaning z s (close j) t
-        → Sound F.meaning (key_at (cells_of z) t.words) (value_at (cells_of z) t.words)
+        → SoundAndPlaced F.meaning (cells_of z) t.words
         × ((i : ℕ) (v : ViewOf F.Thing) → ¬ IsLive t.views i v) }
     ensures last { (z : Sizes) (s t : Table F.Thing) (step : Step)
         → ((i : ℕ) (v : ViewOf F.Thing) → ¬ IsLive s.views i v) → ¬ Leads F.meaning z s step t }
 {}
 
-/// Where the rule holds, each line that was drawn is the ticket of one live pass, which has it once, and of no other. No
-/// pass has any other ticket.
+/// Where the rule holds, each line that was drawn is the ticket of one live pass, which has it
+/// once, and of no other. No pass has any other ticket.
 pub fn tickets<F: Facts>()
-    ensures one { (z : Sizes) (words : List ℕ) (views : List (ViewOf F.Thing)) (i j n : ℕ) (v w : ViewOf F.Thing)
+    ensures one { (z : Sizes) (words : List ℕ) (views : List (ViewOf F.Thing)) (i j n : ℕ)
+        (v w : ViewOf F.Thing)
         → Whole F.meaning z words views → IsLive views i v → IsLive views j w
         → 1 ≤ times n v.tickets → 1 ≤ times n w.tickets → i ≡ j }
-    ensures once { (z : Sizes) (words : List ℕ) (views : List (ViewOf F.Thing)) (i n : ℕ) (v : ViewOf F.Thing)
+    ensures once { (z : Sizes) (words : List ℕ) (views : List (ViewOf F.Thing)) (i n : ℕ)
+        (v : ViewOf F.Thing)
         → Whole F.meaning z words views → IsLive views i v → times n v.tickets ≤ 1 }
-    ensures drawn { (z : Sizes) (words : List ℕ) (views : List (ViewOf F.Thing)) (i n : ℕ) (v : ViewOf F.Thing)
-        → Whole F.meaning z words views → IsLive views i v → 1 ≤ times n v.tickets → n < min (slice_index words 0) z.lines }
+    ensures drawn { (z : Sizes) (words : List ℕ) (views : List (ViewOf F.Thing)) (i n : ℕ)
+        (v : ViewOf F.Thing)
+        → Whole F.meaning z words views → IsLive views i v → 1 ≤ times n v.tickets
+        → n < min (slice_index words 0) z.lines }
     ensures held { (z : Sizes) (words : List ℕ) (views : List (ViewOf F.Thing)) (n : ℕ)
         → Whole F.meaning z words views → n < min (slice_index words 0) z.lines
         → (i : ℕ) × (v : ViewOf F.Thing) × IsLive views i v × (times n v.tickets ≡ 1) }

@@ -1,9 +1,12 @@
 //! A store of cells in plain memory.
-ghost use Rattle.std.specs.Prelude.{◌≡◌, ◌≢◌, ℕ, ◌+◌, ◌-◌, ◌<◌, ◌≤◌, ◌^◌, ◌⊎◌, ◌↔◌, length, slice_index, slice_set, MatchOption, IfOk, IfSome, IfNone, IsSome, Err};
+ghost use Rattle.std.specs.Prelude.{◌≡◌, ◌≢◌, ℕ, ◌+◌, ◌-◌, ◌<◌, ◌≤◌, ◌^◌, ◌⊎◌, ◌↔◌, length};
+ghost use Rattle.std.specs.Prelude.{slice_index, slice_set, MatchOption, IfOk, IfSome, IfNone};
+ghost use Rattle.std.specs.Prelude.{IsSome, Err};
 ghost use Rattle.cg_cells.specs.Meaning.{Has, note_for};
 ghost use Rattle.cg_cells.specs.Parts.{names_of};
 ghost use Rattle.cg_cells.specs.Store.{Spends, Known, thing_at};
-ghost use Rattle.cg_cells.specs.Words.{Words, IsStore, empty_words, IsCellFor, IsFirstEmpty, state_of};
+ghost use Rattle.cg_cells.specs.Words.{Words, IsStore, empty_words, IsCellFor, IsFirstEmpty};
+ghost use Rattle.cg_cells.specs.Words.{state_of};
 ghost use Rattle.cg_cells.specs.Codes.{words_code};
 ghost use Rattle.cg_cells.specs.Index.{IsKept};
 
@@ -14,8 +17,8 @@ use std::marker::{Model, PhantomData};
 
 const MOST_CELLS: u64 = 1 << 26;
 
-/// A store of cells in plain memory. Contracts see its words: the key word and the value word of each cell, and how many
-/// claims are left. It knows what each cell with a key stands for.
+/// A store of cells in plain memory. Contracts see its words: the key word and the value word of
+/// each cell, and how many claims are left. It knows what each cell with a key stands for.
 #[derive(Drop)]
 pub struct PlainStore<F: Facts> {
     keys: Vec<u64>,
@@ -35,12 +38,14 @@ impl<F: Facts> Model for PlainStore<F> {
 
     ghost view = { λ s. record { keys = s.keys.items; values = s.values.items; spare = s.spare } };
 
-    ghost invariant = { λ s. IsKept F.meaning (record { keys = s.keys.items; values = s.values.items; spare = s.spare }) s.index.items s.next };
+    ghost invariant = { λ s. IsKept F.meaning
+        (record { keys = s.keys.items; values = s.values.items; spare = s.spare })
+        s.index.items s.next };
 }
 
 impl<F: Facts> PlainStore<F> {
-    /// A store of so many cells, all empty, with as many claims to spare. It takes all its memory here, 16 bytes a cell.
-    /// Its ids come in the order of first claims, from 0.
+    /// A store of so many cells, all empty, with as many claims to spare. It takes all its memory
+    /// here, 16 bytes a cell. Its ids come in the order of first claims, from 0.
     pub fn new(alloc: Global, size: u64) -> Result<PlainStore<F>, StoreFault>
         ensures made { IfOk result (λ s. s ≡ empty_words size) }
         ensures size { (result ≡ Err StoreFault.Size) ↔ ((size ≡ 0) ⊎ (2 ^ 26 < size)) }
@@ -69,19 +74,23 @@ impl<F: Facts> PlainStore<F> {
         })
     }
 
-    /// A store of these words, with so many claims to spare. A key word is 0 for an empty cell, and a value word is 0 or the
-    /// noted id plus 1. There must be 1 to 2^26 cells, of which at least as many are empty as there are claims to spare. No
-    /// key may stand twice, each cell with a key must stand for a thing, different cells for different things, and each value
-    /// must name the cell of what a note there must spell. In which cells the keys stand makes no difference.
+    /// A store of these words, with so many claims to spare. A key word is 0 for an empty cell, and
+    /// a value word is 0 or the noted id plus 1. There must be 1 to 2^26 cells, of which at least
+    /// as many are empty as there are claims to spare. No key may stand twice, each cell with a key
+    /// must stand for a thing, different cells for different things, and each value must name the
+    /// cell of what a note there must spell. In which cells the keys stand makes no difference.
     pub fn of_words(
         alloc: Global,
         keys: Vec<u64>,
         values: Vec<u64>,
         spare: u64,
     ) -> Result<PlainStore<F>, AllocError>
-        requires { IsStore F.meaning (record { keys = keys.items; values = values.items; spare = spare }) }
-        ensures words { IfOk result (λ s. s ≡ record { keys = keys.items; values = values.items; spare = spare }) }
-        ensures knows { IfOk result (λ s. (i : ℕ) → slice_index keys.items i ≢ 0 → Known (state_of F.meaning s) i) }
+        requires { IsStore F.meaning
+            (record { keys = keys.items; values = values.items; spare = spare }) }
+        ensures words { IfOk result
+            (λ s. s ≡ record { keys = keys.items; values = values.items; spare = spare }) }
+        ensures knows { IfOk result
+            (λ s. (i : ℕ) → slice_index keys.items i ≢ 0 → Known (state_of F.meaning s) i) }
     {
         let values = narrow(alloc, values.as_slice())?;
         let index = index_of::<F>(alloc, keys.as_slice())?;
@@ -99,7 +108,8 @@ impl<F: Facts> PlainStore<F> {
 // The first cell without a key, where each cell before this one has a key.
 fn first_empty(keys: &[u64], next: usize) -> Option<usize>
     requires { (i : ℕ) → i < next → slice_index keys.now i ≢ 0 }
-    ensures { MatchOption result ((i : ℕ) → i < length keys.now → slice_index keys.now i ≢ 0) (IsFirstEmpty keys.now) }
+    ensures { MatchOption result ((i : ℕ) → i < length keys.now → slice_index keys.now i ≢ 0)
+        (IsFirstEmpty keys.now) }
 {
     for cell in next..keys.len() {
         if keys[cell] == 0 {
@@ -130,7 +140,8 @@ impl<F: Facts> CellStore<F> for PlainStore<F> {
         requires { Known (state_of F.meaning self.old) id }
         ensures key { result ≡ slice_index self.new.keys id }
         ensures same { self.new ≡ self.old }
-        ensures spells { F.meaning.spells result (thing_at (state_of F.meaning self.new)) ≡ thing_at (state_of F.meaning self.old) id }
+        ensures spells { F.meaning.spells result (thing_at (state_of F.meaning self.new))
+            ≡ thing_at (state_of F.meaning self.old) id }
         ensures named { (i : ℕ) → Has (names_of result) i → Known (state_of F.meaning self.new) i }
         ensures spends { Spends 0 (state_of F.meaning self.old) (state_of F.meaning self.new) }
     {
@@ -141,14 +152,20 @@ impl<F: Facts> CellStore<F> for PlainStore<F> {
         key
     }
 
-    /// The id of the cell with this key. Where no cell has it, it is put into the first cell without a key, so the ids of a
-    /// store that was made empty come in the order of first claims, from 0.
+    /// The id of the cell with this key. Where no cell has it, it is put into the first cell
+    /// without a key, so the ids of a store that was made empty come in the order of first claims,
+    /// from 0.
     fn claim(&mut self, key: Key) -> Id
         requires spare { 1 ≤ self.old.spare }
         requires spells { IsSome (F.meaning.spells key (thing_at (state_of F.meaning self.old))) }
         ensures cell { IsCellFor self.old.keys key result }
-        ensures words { self.new ≡ record self.old { keys = slice_set self.old.keys result key; spare = self.old.spare - 1 } }
-        ensures stands { thing_at (state_of F.meaning self.new) result ≡ F.meaning.spells key (thing_at (state_of F.meaning self.old)) }
+        ensures words { self.new
+            ≡ record self.old {
+              keys = slice_set self.old.keys result key;
+              spare = self.old.spare - 1;
+            } }
+        ensures stands { thing_at (state_of F.meaning self.new) result
+            ≡ F.meaning.spells key (thing_at (state_of F.meaning self.old)) }
         ensures spends { Spends 1 (state_of F.meaning self.old) (state_of F.meaning self.new) }
     {
         let word = key.word();
@@ -171,8 +188,10 @@ impl<F: Facts> CellStore<F> for PlainStore<F> {
     fn note(&mut self, id: Id, value: Id)
         requires id { Known (state_of F.meaning self.old) id }
         requires value { Known (state_of F.meaning self.old) value }
-        requires due { thing_at (state_of F.meaning self.old) value ≡ note_for F.meaning (thing_at (state_of F.meaning self.old) id) }
-        ensures words { self.new ≡ record self.old { values = slice_set self.old.values id (value + 1) } }
+        requires due { thing_at (state_of F.meaning self.old) value
+            ≡ note_for F.meaning (thing_at (state_of F.meaning self.old) id) }
+        ensures words { self.new
+            ≡ record self.old { values = slice_set self.old.values id (value + 1) } }
         ensures noted { Has (state_of F.meaning self.new).noted id }
         ensures spends { Spends 0 (state_of F.meaning self.old) (state_of F.meaning self.new) }
     {
@@ -186,7 +205,8 @@ impl<F: Facts> CellStore<F> for PlainStore<F> {
         ensures exact { IsSome result ↔ Has (state_of F.meaning self.old).noted id }
         ensures same { self.new ≡ self.old }
         ensures value { IfSome result (λ value. Known (state_of F.meaning self.new) value
-            × (thing_at (state_of F.meaning self.new) value ≡ note_for F.meaning (thing_at (state_of F.meaning self.old) id))) }
+            × (thing_at (state_of F.meaning self.new) value
+            ≡ note_for F.meaning (thing_at (state_of F.meaning self.old) id))) }
         ensures some { IfSome result (λ value. Has (state_of F.meaning self.new).noted id) }
         ensures none { IfNone result (¬ Has (state_of F.meaning self.old).noted id) }
         ensures spends { Spends 0 (state_of F.meaning self.old) (state_of F.meaning self.new) }

@@ -6,7 +6,7 @@ use Rattle.cg_dyadic.specs.Exact.{IsLowest, signed_of}
 use Rattle.cg_dyadic.specs.Number.{IsFraction, Number, between, exp_of, half, is_even, num_of, ratio}
 use Rattle.cg_dyadic.specs.Units.{doubled, units}
 use Rattle.cg_dyadic.proofs.Integers.{even_half}
-use Rattle.cg_dyadic.proofs.Scale.{doubled-at, doubled-back, doubled-mul, doubled_twice, exp-ratio, units-le, units-ratio}
+use Rattle.cg_dyadic.proofs.Scale.{doubled-add, doubled-at, doubled-back, doubled-mul, doubled_twice, exp-ratio, units-le, units-ratio}
 use Rattle.cg_dyadic.proofs.Truth.{true_or_false}
 use Rattle.cg_dyadic.proofs.Values.{number_le-same}
 
@@ -55,6 +55,18 @@ fraction-at n k x p e = record {
 
 pub fraction-ratio : (n : ℤ) (k : ℕ) → IsFraction n k (ratio n k)
 fraction-ratio n k = fraction-at n k (ratio n k) (exp-ratio n k) (units-ratio n k)
+
+-- the number of twice as many parts of half the size
+pub ratio-double : (n : ℤ) (s : ℕ) → ratio (n +ℤ n) (suc s) ≡ ratio n s
+ratio-double n s = fraction-unique (n +ℤ n) (suc s) (ratio (n +ℤ n) (suc s)) (ratio n s)
+    (fraction-ratio (n +ℤ n) (suc s)) (record {
+      crossed =
+          let x : ℤ = num_of (ratio n s) in
+          let e : ℕ = exp_of (ratio n s) in
+          sym (doubled-mul (suc s) x)
+          ∙ ap (λ z. z +ℤ z) (doubled-mul s x ∙ (fraction-ratio n s).crossed ∙ sym (doubled-mul e n))
+          ∙ sym (doubled-add e n n) ∙ doubled-mul e (n +ℤ n);
+    })
 
 -- a number is the fraction of its own terms
 pub fraction-own : (x : Number) → IsFraction (num_of x) (exp_of x) x

@@ -4,9 +4,10 @@ use Rattle.std.proofs.lemmas.Int.{ints}
 use Rattle.std.specs.Prelude.{Option, Some, None, if◌then◌else◌}
 use Rattle.cg_dyadic.specs.declared.cut.Cut.{Cut}
 use Rattle.cg_dyadic.specs.declared.fault.RangeFault.{RangeFault}
-use Rattle.cg_dyadic.specs.Cut.{NoneBetween, above_some, below_some, in_gap, is_above, is_below}
+use Rattle.cg_dyadic.specs.Cut.{NoneBetween, in_gap, in_some, within_cut}
 use Rattle.cg_dyadic.specs.Exact.{Holds}
-use Rattle.cg_dyadic.specs.Number.{InLowest, InRange, Number, NumberLe, exp_of, num_of, number_le, ratio}
+use Rattle.cg_dyadic.specs.Held.{InLowest}
+use Rattle.cg_dyadic.specs.Number.{InRange, Number, NumberLe, exp_of, num_of, number_le, ratio}
 use Rattle.cg_dyadic.specs.Search.{AtLeast, AtMost, AtScale, FoundAt, ShortCut, Small, SmallAround, crossed, first_unit, last_unit}
 use Rattle.cg_dyadic.specs.Simplest.{NoOptionPasses, NonePasses}
 use Rattle.cg_dyadic.specs.Units.{doubled, units}
@@ -72,52 +73,52 @@ small_around x r e i = let (a, b, c) = units-small x i in
 
 -- ---- a gap at the finest scale
 
-low_end : (p : Number) (c : Bool) (x : Number) → exp_of p ≤ 40 → exp_of x ≤ 41 → IsTrue (not (is_below p c x)) → (if c then units 41 p +ℤ pos 1 else units 41 p) ≤ℤ units 41 x
+low_end : (p : Number) (c : Bool) (x : Number) → exp_of p ≤ 40 → exp_of x ≤ 41 → IsTrue (not (within_cut true p c x)) → (if c then units 41 p +ℤ pos 1 else units 41 p) ≤ℤ units 41 x
 low_end p true x h k t = let l = not_le-units 41 x p k (omega arith) (not_true (number_le x p) t) in omega (arith, ints)
 low_end p false x h k t = le-units 41 p x (omega arith) k (not_not_is (number_le p x) t)
 
-low_back : (p : Number) (c : Bool) (x : Number) → exp_of p ≤ 40 → exp_of x ≤ 41 → (if c then units 41 p +ℤ pos 1 else units 41 p) ≤ℤ units 41 x → IsTrue (not (is_below p c x))
+low_back : (p : Number) (c : Bool) (x : Number) → exp_of p ≤ 40 → exp_of x ≤ 41 → (if c then units 41 p +ℤ pos 1 else units 41 p) ≤ℤ units 41 x → IsTrue (not (within_cut true p c x))
 low_back p true x h k t = true_not (number_le x p) (λ l. let i = le-units 41 x p k (omega arith) l in omega (arith, ints))
 low_back p false x h k t = is_not_not (number_le p x) (units-le 41 p x (omega arith) k t)
 
-high_end : (q : Number) (d : Bool) (x : Number) → exp_of q ≤ 40 → exp_of x ≤ 41 → IsTrue (not (is_above q d x)) → units 41 x ≤ℤ (if d then units 41 q -ℤ pos 1 else units 41 q)
+high_end : (q : Number) (d : Bool) (x : Number) → exp_of q ≤ 40 → exp_of x ≤ 41 → IsTrue (not (within_cut false q d x)) → units 41 x ≤ℤ (if d then units 41 q -ℤ pos 1 else units 41 q)
 high_end q true x h k t = let l = not_le-units 41 q x (omega arith) k (not_true (number_le q x) t) in omega (arith, ints)
 high_end q false x h k t = le-units 41 x q k (omega arith) (not_not_is (number_le x q) t)
 
-high_back : (q : Number) (d : Bool) (x : Number) → exp_of q ≤ 40 → exp_of x ≤ 41 → units 41 x ≤ℤ (if d then units 41 q -ℤ pos 1 else units 41 q) → IsTrue (not (is_above q d x))
+high_back : (q : Number) (d : Bool) (x : Number) → exp_of q ≤ 40 → exp_of x ≤ 41 → units 41 x ≤ℤ (if d then units 41 q -ℤ pos 1 else units 41 q) → IsTrue (not (within_cut false q d x))
 high_back q true x h k t = true_not (number_le q x) (λ l. let i = le-units 41 q x (omega arith) k l in omega (arith, ints))
 high_back q false x h k t = is_not_not (number_le x q) (units-le 41 x q k (omega arith) t)
 
-low_some : (low : Option Cut) (x : Number) → ShortCut low → exp_of x ≤ 41 → IsTrue (not (below_some low x)) → AtLeast (first_unit low) (units 41 x)
+low_some : (low : Option Cut) (x : Number) → ShortCut low → exp_of x ≤ 41 → IsTrue (not (in_some true low x)) → AtLeast (first_unit low) (units 41 x)
 low_some None x h k t = tt
 low_some (Some c) x h k t = low_end c.at c.closed x h k t
 
-low_some_back : (low : Option Cut) (x : Number) → ShortCut low → exp_of x ≤ 41 → AtLeast (first_unit low) (units 41 x) → IsTrue (not (below_some low x))
+low_some_back : (low : Option Cut) (x : Number) → ShortCut low → exp_of x ≤ 41 → AtLeast (first_unit low) (units 41 x) → IsTrue (not (in_some true low x))
 low_some_back None x h k t = refl
 low_some_back (Some c) x h k t = low_back c.at c.closed x h k t
 
-high_some : (high : Option Cut) (x : Number) → ShortCut high → exp_of x ≤ 41 → IsTrue (not (above_some high x)) → AtMost (last_unit high) (units 41 x)
+high_some : (high : Option Cut) (x : Number) → ShortCut high → exp_of x ≤ 41 → IsTrue (not (in_some false high x)) → AtMost (last_unit high) (units 41 x)
 high_some None x h k t = tt
 high_some (Some c) x h k t = high_end c.at c.closed x h k t
 
-high_some_back : (high : Option Cut) (x : Number) → ShortCut high → exp_of x ≤ 41 → AtMost (last_unit high) (units 41 x) → IsTrue (not (above_some high x))
+high_some_back : (high : Option Cut) (x : Number) → ShortCut high → exp_of x ≤ 41 → AtMost (last_unit high) (units 41 x) → IsTrue (not (in_some false high x))
 high_some_back None x h k t = refl
 high_some_back (Some c) x h k t = high_back c.at c.closed x h k t
 
 pub gap_at_scale : (low high : Option Cut) → ShortCut low → ShortCut high → AtScale 41 (first_unit low) (last_unit high) (in_gap low high)
 gap_at_scale low high s r = record {
-  low = λ x k t. low_some low x s k ((and-split (not (below_some low x)) (not (above_some high x)) t).0);
-  high = λ x k t. high_some high x r k ((and-split (not (below_some low x)) (not (above_some high x)) t).1);
-  passes = λ x k a b. and-both (not (below_some low x)) (not (above_some high x)) (low_some_back low x s k a) (high_some_back high x r k b);
+  low = λ x k t. low_some low x s k ((and-split (not (in_some true low x)) (not (in_some false high x)) t).0);
+  high = λ x k t. high_some high x r k ((and-split (not (in_some true low x)) (not (in_some false high x)) t).1);
+  passes = λ x k a b. and-both (not (in_some true low x)) (not (in_some false high x)) (low_some_back low x s k a) (high_some_back high x r k b);
 }
 
 -- ---- an empty gap
 
-from_below : (p : Number) (c : Bool) (x : Number) → IsTrue (not (is_below p c x)) → NumberLe p x
+from_below : (p : Number) (c : Bool) (x : Number) → IsTrue (not (within_cut true p c x)) → NumberLe p x
 from_below p true x h = less-le x p (not_true (number_le x p) h)
 from_below p false x h = not_not_is (number_le p x) h
 
-from_above : (q : Number) (d : Bool) (x : Number) → IsTrue (not (is_above q d x)) → NumberLe x q
+from_above : (q : Number) (d : Bool) (x : Number) → IsTrue (not (within_cut false q d x)) → NumberLe x q
 from_above q true x h = less-le q x (not_true (number_le q x) h)
 from_above q false x h = not_not_is (number_le x q) h
 
@@ -130,7 +131,7 @@ last_least true u = omega (arith, ints)
 last_least false u = omega (arith, ints)
 
 cut_gap : (p q : Number) (c d : Bool) (x : Number) → exp_of p ≤ 40 → exp_of q ≤ 40 → (if d then units 41 q -ℤ pos 1 else units 41 q) <ℤ (if c then units 41 p +ℤ pos 1 else units 41 p)
-    → IsTrue (not (is_below p c x)) → IsTrue (not (is_above q d x)) → ⊥
+    → IsTrue (not (within_cut true p c x)) → IsTrue (not (within_cut false q d x)) → ⊥
 cut_gap p q c d x h k l a b =
     let f = from_below p c x a in let g = from_above q d x b in
     let u = le-units 40 p q h k (number_le-trans p x q f g) in
@@ -146,7 +147,7 @@ cut_gap p q c d x h k l a b =
           omega (arith, ints)
     ]
 
-none_at : (low high : Option Cut) → ShortCut low → ShortCut high → crossed (first_unit low) (last_unit high) ≡ true → (x : Number) → IsTrue (not (below_some low x)) → IsTrue (not (above_some high x)) → ⊥
+none_at : (low high : Option Cut) → ShortCut low → ShortCut high → crossed (first_unit low) (last_unit high) ≡ true → (x : Number) → IsTrue (not (in_some true low x)) → IsTrue (not (in_some false high x)) → ⊥
 none_at None high s r h x a b = no high h
   where
     no : (high : Option Cut) → crossed None (last_unit high) ≡ true → ⊥
@@ -159,32 +160,32 @@ none_at (Some c) None s r h x a b = no (if c.closed then units 41 c.at +ℤ pos 
 none_at (Some c) (Some d) s r h x a b = cut_gap c.at d.at c.closed d.closed x s r (from_lt_z (if d.closed then units 41 d.at -ℤ pos 1 else units 41 d.at) (if c.closed then units 41 c.at +ℤ pos 1 else units 41 c.at) h) a b
 
 pub gap_none : (low high : Option Cut) → ShortCut low → ShortCut high → crossed (first_unit low) (last_unit high) ≡ true → NonePasses (in_gap low high)
-gap_none low high s r h x = false-from (in_gap low high x) (λ t. let (a, b) = and-split (not (below_some low x)) (not (above_some high x)) t in none_at low high s r h x a b)
+gap_none low high s r h x = false-from (in_gap low high x) (λ t. let (a, b) = and-split (not (in_some true low x)) (not (in_some false high x)) t in none_at low high s r h x a b)
 
 -- ---- the simplest number that passes a test
 
-below_up : (low : Option Cut) (x y : Number) → NumberLe x y → IsTrue (not (below_some low x)) → IsTrue (not (below_some low y))
+below_up : (low : Option Cut) (x y : Number) → NumberLe x y → IsTrue (not (in_some true low x)) → IsTrue (not (in_some true low y))
 below_up None x y h t = refl
 below_up (Some c) x y h t = up c.at c.closed t
   where
-    up : (p : Number) (c : Bool) → IsTrue (not (is_below p c x)) → IsTrue (not (is_below p c y))
+    up : (p : Number) (c : Bool) → IsTrue (not (within_cut true p c x)) → IsTrue (not (within_cut true p c y))
     up p true t = true_not (number_le y p) (λ k. not_true (number_le x p) t (number_le-trans x y p h k))
     up p false t = is_not_not (number_le p y) (number_le-trans p x y (not_not_is (number_le p x) t) h)
 
-above_down : (high : Option Cut) (x y : Number) → NumberLe x y → IsTrue (not (above_some high y)) → IsTrue (not (above_some high x))
+above_down : (high : Option Cut) (x y : Number) → NumberLe x y → IsTrue (not (in_some false high y)) → IsTrue (not (in_some false high x))
 above_down None x y h t = refl
 above_down (Some c) x y h t = down c.at c.closed t
   where
-    down : (q : Number) (d : Bool) → IsTrue (not (is_above q d y)) → IsTrue (not (is_above q d x))
+    down : (q : Number) (d : Bool) → IsTrue (not (within_cut false q d y)) → IsTrue (not (within_cut false q d x))
     down q true t = true_not (number_le q x) (λ k. not_true (number_le q y) t (number_le-trans q x y k h))
     down q false t = is_not_not (number_le x q) (number_le-trans x y q h (not_not_is (number_le y q) t))
 
 pub gap_convex : (low high : Option Cut) → Convex (in_gap low high)
 gap_convex low high = record {
   between = λ x y z a b h k.
-      and-both (not (below_some low y)) (not (above_some high y))
-      (below_up low x y h ((and-split (not (below_some low x)) (not (above_some high x)) a).0))
-      (above_down high y z k ((and-split (not (below_some low z)) (not (above_some high z)) b).1));
+      and-both (not (in_some true low y)) (not (in_some false high y))
+      (below_up low x y h ((and-split (not (in_some true low x)) (not (in_some false high x)) a).0))
+      (above_down high y z k ((and-split (not (in_some true low z)) (not (in_some false high z)) b).1));
 }
 
 -- ---- for the code

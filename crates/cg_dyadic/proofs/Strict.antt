@@ -4,7 +4,7 @@ use Rattle.std.proofs.lemmas.Int.{ints}
 use Rattle.std.specs.Prelude.{Option, Some, None}
 use Rattle.cg_dyadic.specs.declared.cut.Cut.{Cut}
 use Rattle.cg_dyadic.specs.declared.fault.RangeFault.{RangeFault}
-use Rattle.cg_dyadic.specs.Cut.{in_gap, is_above, is_below, is_between}
+use Rattle.cg_dyadic.specs.Cut.{in_gap, is_between, within_cut}
 use Rattle.cg_dyadic.specs.Exact.{Holds}
 use Rattle.cg_dyadic.specs.Number.{InRange, Number, NumberLe, exp_of, num_of, number_le, ratio, whole}
 use Rattle.cg_dyadic.specs.Search.{closed_cut}
@@ -92,15 +92,15 @@ pub record GapEnds (low high : Option Cut) : Type 0 where
 pub gap_ends : (low high : Option Cut) → NonePasses (in_gap low high) → GapEnds low high
 gap_ends None None f = absurd (differ true refl (f (whole (pos 0))))
 gap_ends None (Some d) f = absurd (differ (in_gap None (Some d) (below_of d.at))
-    (true_not (is_above d.at d.closed (below_of d.at)) (λ t. below_less d.at (above_tells d.at d.closed (below_of d.at) t))) (f (below_of d.at)))
+    (true_not (within_cut false d.at d.closed (below_of d.at)) (λ t. below_less d.at (above_tells d.at d.closed (below_of d.at) t))) (f (below_of d.at)))
   where
-    above_tells : (q : Number) (d : Bool) (x : Number) → IsTrue (is_above q d x) → NumberLe q x
+    above_tells : (q : Number) (d : Bool) (x : Number) → IsTrue (within_cut false q d x) → NumberLe q x
     above_tells q true x t = t
     above_tells q false x t = less-le x q (not_true (number_le x q) t)
 gap_ends (Some c) None f = absurd (differ (in_gap (Some c) None (above_of c.at))
-    (and-both (not (is_below c.at c.closed (above_of c.at))) true (true_not (is_below c.at c.closed (above_of c.at)) (λ t. above_more c.at (below_tells c.at c.closed (above_of c.at) t))) refl) (f (above_of c.at)))
+    (and-both (not (within_cut true c.at c.closed (above_of c.at))) true (true_not (within_cut true c.at c.closed (above_of c.at)) (λ t. above_more c.at (below_tells c.at c.closed (above_of c.at) t))) refl) (f (above_of c.at)))
   where
-    below_tells : (p : Number) (c : Bool) (x : Number) → IsTrue (is_below p c x) → NumberLe x p
+    below_tells : (p : Number) (c : Bool) (x : Number) → IsTrue (within_cut true p c x) → NumberLe x p
     below_tells p true x t = t
     below_tells p false x t = less-le p x (not_true (number_le p x) t)
 gap_ends (Some c) (Some d) f = record { first = c; last = d; low_is = refl; high_is = refl }

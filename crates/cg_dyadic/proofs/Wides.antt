@@ -12,7 +12,8 @@ use Rattle.cg_dyadic.proofs.Results.{sign_of}
 use Rattle.cg_dyadic.specs.Exact.{IsLowest, IsNegative, IsSum, number_text, signed_of, sum_num}
 use Rattle.cg_dyadic.specs.Number.{InRange, IsFraction, Number, exp_of, half, num_of, number_le, ratio}
 use Rattle.cg_dyadic.specs.Units.{doubled, units}
-use Rattle.cg_dyadic.specs.Wide.{InWide, IsWideWord, places, terms_text}
+use Rattle.cg_dyadic.specs.Held.{IsWideWord}
+use Rattle.cg_dyadic.specs.Wide.{InWide, places, terms_text}
 use Rattle.cg_dyadic.proofs.Fractions.{abs_signed, fraction-at, fraction-ratio, fraction-unique, ratio-lowest, same_fraction}
 use Rattle.cg_dyadic.proofs.Integers.{abs_tells, from_le_z, half_floor, le_or_gt, to_le_z}
 use Rattle.cg_dyadic.proofs.Scale.{doubled-add, doubled-mul, exp-ratio, le-units, units-le, units-ratio, units_at}

@@ -7,32 +7,33 @@ use Rattle.cg_dyadic.specs.Exact.{Holds}
 use Rattle.cg_dyadic.specs.Number.{InRange, Number, number_le}
 use Rattle.cg_dyadic.specs.Simplest.{NoOptionPasses, NonePasses}
 
--- the numbers up to p, with p itself where the cut is closed
-abbrev pub is_below : Number → Bool → Number → Bool
-is_below p true x = number_le x p
-is_below p false x = not (number_le p x)
+-- The two sides of a cut. What is said of the numbers up to a place holds of those from it on with the order turned, so
+-- one text serves both: with `true` it speaks of the numbers up to it, with `false` of those from it on.
 
--- the numbers from p on, with p itself where the cut is closed
-abbrev pub is_above : Number → Bool → Number → Bool
-is_above p true x = number_le p x
-is_above p false x = not (number_le x p)
+-- the order as the side sees it: x is no better than y
+abbrev pub number_at_most : Bool → Number → Number → Bool
+number_at_most true x y = number_le x y
+number_at_most false x y = number_le y x
 
--- x is in neither of the two cuts
-abbrev pub is_between : Number → Bool → Number → Bool → Number → Bool
-is_between p c q d x = not (is_below p c x) && not (is_above q d x)
+-- x is in the cut at p: it is no better than p, and is not p where the cut is open
+abbrev pub within_cut : Bool → Number → Bool → Number → Bool
+within_cut s p true x = number_at_most s x p
+within_cut s p false x = not (number_at_most s p x)
+
+abbrev pub in_cut : Bool → Cut → Number → Bool
+in_cut s c x = within_cut s c.at c.closed x
 
 -- where there is no cut, no number is in it
-abbrev pub below_some : Option Cut → Number → Bool
-below_some None x = false
-below_some (Some c) x = is_below c.at c.closed x
+abbrev pub in_some : Bool → Option Cut → Number → Bool
+in_some s None x = false
+in_some s (Some c) x = in_cut s c x
 
-abbrev pub above_some : Option Cut → Number → Bool
-above_some None x = false
-above_some (Some c) x = is_above c.at c.closed x
+-- x is in neither of the two cuts: it is above the low one and below the high one
+abbrev pub is_between : Number → Bool → Number → Bool → Number → Bool
+is_between p c q d x = not (within_cut true p c x) && not (within_cut false q d x)
 
--- x is above the low cut and below the high one
 abbrev pub in_gap : Option Cut → Option Cut → Number → Bool
-in_gap low high x = not (below_some low x) && not (above_some high x)
+in_gap low high x = not (in_some true low x) && not (in_some false high x)
 
 -- what a search tells: the number in range none of whose options passes, one out of range, or that no number passes
 abbrev pub FoundIs : (Number → Bool) → Found → Type 0

@@ -1,5 +1,5 @@
 -- Exact results of arithmetic, and texts.
-use Rattle.std.specs.Prelude.{◌+◌, ℕ, ℤ, pos, neg_ℤ, Bool, true, false, ◌^◌, ◌%◌, ◌⊎◌, ◌==◌, ◌≡◌, ◌+ℤ◌, ◌*ℤ◌, List, [], ◌∷◌, ◌++◌, if◌then◌else◌, decimal, Option, Some, None, Result, Ok, Err}
+use Rattle.std.specs.Prelude.{◌+◌, ℕ, ℤ, pos, neg_ℤ, Bool, true, false, ◌^◌, ◌%◌, ◌⊎◌, ◌==◌, ◌≡◌, ◌+ℤ◌, ◌*ℤ◌, List, [], ◌++◌, if◌then◌else◌, codes, decimal, Option, Some, None, Result, Ok, Err}
 use Rattle.std.specs.Fmt.{signed_decimal}
 use Rattle.cg_dyadic.specs.declared.fault.RangeFault.{RangeFault}
 use Rattle.cg_dyadic.specs.Number.{InRange, IsFraction, Number, exp_of, num_of, ratio}
@@ -49,7 +49,7 @@ IsFromDigits negative num den None = (x : Number) → IsQuotient negative num de
 
 -- n, or n/d with the denominator d written out
 abbrev pub number_text : Number → List ℕ
-number_text x = signed_decimal (num_of x) ++ (if exp_of x == 0 then [] else 47 ∷ decimal (2 ^ exp_of x))
+number_text x = signed_decimal (num_of x) ++ (if exp_of x == 0 then [] else codes "/" ++ decimal (2 ^ exp_of x))
 
 -- in lowest terms: over 1, or an odd number over a power of two
 abbrev pub IsLowest : ℕ → ℕ → Type 0

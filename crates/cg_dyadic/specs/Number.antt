@@ -86,10 +86,3 @@ is_narrow x = nat_lt (unsigned_abs (num_of x)) (2 ^ 52) && nat_lt (exp_of x) 32
 
 abbrev pub is_long : Number → Bool
 is_long x = not (is_narrow x)
-
--- m and e are the numerator and the exponent of a number in range
-pub record InLowest (m : ℤ) (e : ℕ) : Type 0 where
-  pub num_is : num_of (ratio m e) ≡ m
-  pub exp_is : exp_of (ratio m e) ≡ e
-  pub small : unsigned_abs m < 2 ^ 64
-  pub short : e ≤ 40

@@ -1,6 +1,6 @@
 -- The search for the simplest number between two cuts: ends of a gap in units of a scale, and the coarsest scale at
 -- which some unit lies between the ends.
-use Rattle.std.specs.Prelude.{pos, negsuc, if◌then◌else◌, ℕ, ℤ, Bool, true, false, ◌≡◌, ◌≤◌, ◌<◌, ◌-◌, zero, suc, IsTrue, Option, Some, None, ◌+ℤ◌, ◌-ℤ◌}
+use Rattle.std.specs.Prelude.{pos, neg_ℤ, ◌^◌, if◌then◌else◌, ℕ, ℤ, Bool, true, false, ◌≡◌, ◌≤◌, ◌<◌, ◌-◌, zero, suc, IsTrue, Option, Some, None, ◌+ℤ◌, ◌-ℤ◌}
 use lib.Signed.{◌≤ℤ◌, lt_z}
 use Rattle.cg_dyadic.specs.declared.cut.Cut.{Cut}
 use Rattle.cg_dyadic.specs.Number.{Number, exp_of, half, num_of, ratio}
@@ -29,8 +29,8 @@ pub record FoundAt (test : Number → Bool) (n : ℤ) (e : ℕ) : Type 0 where
 
 -- from -2 ^ 110 to 2 ^ 110
 pub record Small (n : ℤ) : Type 0 where
-  pub from_low : negsuc 1298074214633706907132624082305023 ≤ℤ n
-  pub to_high : n ≤ℤ pos 1298074214633706907132624082305024
+  pub from_low : neg_ℤ (pos (2 ^ 110)) ≤ℤ n
+  pub to_high : n ≤ℤ pos (2 ^ 110)
 
 abbrev pub SmallEnd : Option ℤ → Type 0
 SmallEnd None = Unit {0}

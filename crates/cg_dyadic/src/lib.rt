@@ -32,7 +32,8 @@ pub struct Dyadic {
 }
 
 impl Model for Dyadic {
-    ghost use Rattle.cg_dyadic.specs.Number.{InLowest, Number, num_of, exp_of, ratio};
+    ghost use Rattle.cg_dyadic.specs.Held.{InLowest};
+    ghost use Rattle.cg_dyadic.specs.Number.{Number, num_of, exp_of, ratio};
 
     ghost Value = { Number };
 

@@ -1,5 +1,5 @@
 //! Comparison by cross multiplication, or by numerators alone where the denominators are the same.
-ghost use Rattle.std.specs.Prelude.{◌≡◌, ◌↔◌, ◌≤◌, ◌^◌, ◌*ℤ◌, ◌<◌, pos, negsuc, unsigned_abs};
+ghost use Rattle.std.specs.Prelude.{◌≡◌, ◌↔◌, ◌≤◌, ◌^◌, ◌*ℤ◌, ◌<◌, ◌-◌, pos, neg_ℤ, unsigned_abs};
 ghost use Rattle.cg_dyadic.specs.Number.{number_le, number_cmp, num_of, exp_of, InRange, whole};
 
 use crate::Dyadic;
@@ -47,7 +47,7 @@ impl Dyadic {
 
     /// The least number in range, -(2^64 - 1).
     pub fn least() -> Dyadic
-        ensures value { result ≡ whole (negsuc 18446744073709551614) }
+        ensures value { result ≡ whole (neg_ℤ (pos (2 ^ 64 - 1))) }
     {
         Dyadic {
             num: -18_446_744_073_709_551_615,
@@ -57,7 +57,7 @@ impl Dyadic {
 
     /// The greatest number in range, 2^64 - 1.
     pub fn greatest() -> Dyadic
-        ensures value { result ≡ whole (pos 18446744073709551615) }
+        ensures value { result ≡ whole (pos (2 ^ 64 - 1)) }
     {
         Dyadic {
             num: 18_446_744_073_709_551_615,

@@ -19,9 +19,10 @@ pub struct Wide {
 }
 
 impl Model for Wide {
+    ghost use Rattle.cg_dyadic.specs.Held.{IsWideWord};
     ghost use Rattle.cg_dyadic.specs.Number.{Number, ratio};
     ghost use Rattle.cg_dyadic.specs.Units.{units};
-    ghost use Rattle.cg_dyadic.specs.Wide.{IsWideWord, places};
+    ghost use Rattle.cg_dyadic.specs.Wide.{places};
 
     ghost Value = { Number };
 

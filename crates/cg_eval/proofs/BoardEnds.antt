@@ -4,7 +4,7 @@ use Rattle.std.specs.Prelude.{◌&&◌, bytes_eq, codes}
 use Rattle.std.proofs.lemmas.Bool.{and_from}
 use Rattle.cg_dyadic.proofs.Truth.{true_or_false}
 use Rattle.cg_canon.specs.Items.{Item}
-use Rattle.cg_nodes.specs.Spelled.{can}
+use Rattle.cg_nodes.specs.Can.{can}
 use Rattle.cg_moves.specs.declared.fault.BoardFault.{BoardFault}
 use Rattle.cg_moves.specs.Grid.{Grid}
 use Rattle.cg_moves.specs.Raw.{raw}
@@ -30,8 +30,8 @@ use Rattle.cg_strip.specs.StripLaws.{strip_lawful}
 use Rattle.cg_strip.specs.Toads.{toads_game}
 use Rattle.cg_strip.specs.ToadsLaws.{toads_lawful}
 use Rattle.cg_values.specs.Items.{board_items, cut_items, value_item, value_items, whole_items}
-use Rattle.cg_syntax.specs.declared.kind.GameKind.{GameKind}
-use Rattle.cg_syntax.specs.declared.kind.GameKind.TheVariants.{Domineering, Clobber, Amazons, Toads, Strip, Hackenbush, Col, Snort}
+use Rattle.cg_query.specs.declared.kind.GameKind.{GameKind}
+use Rattle.cg_query.specs.declared.kind.GameKind.TheVariants.{Domineering, Clobber, Amazons, Toads, Strip, Hackenbush, Col, Snort}
 use Rattle.cg_eval.specs.Boards.{IsStrip, Position, board, faulty, no_row, no_rules, not_lowered, position_by, position_charted, position_drawn, position_fault, position_form, position_items, position_of, strip_board, strip_position}
 use Rattle.cg_eval.specs.Parts.{IsSound}
 use Rattle.cg_eval.proofs.CutEnds.{ends-cut}

@@ -4,8 +4,8 @@ use Rattle.cg_cells.specs.Store.{State}
 use Rattle.cg_nodes.specs.Meant.{Meant}
 use Rattle.cg_canon.specs.declared.fault.ValueFault.{ValueFault}
 use Rattle.cg_canon.specs.declared.rest.WorkRest.{WorkRest}
-use Rattle.cg_syntax.specs.Tree.{game, octal}
-use Rattle.cg_syntax.specs.declared.kind.GameKind.{GameKind}
+use Rattle.cg_query.specs.Tree.{game, octal}
+use Rattle.cg_query.specs.declared.kind.GameKind.{GameKind}
 use Rattle.cg_eval.specs.Boards.{position_form, position_items, position_of}
 use Rattle.cg_eval.specs.Items.{items}
 use Rattle.cg_eval.specs.Meaning.{meaning}

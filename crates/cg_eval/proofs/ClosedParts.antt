@@ -1,11 +1,11 @@
 -- Parts of an expression that has no uses of names have none.
 use Rattle.std.proofs.Common.{◌≡◌, sym, ◌∙◌, subst, ap, ℕ, zero, suc, ◌<◌, arith, Bool, List, [], ◌∷◌, length, get_or}
 use Rattle.cg_syntax.specs.Naming.{AreClosed, AreClosedTerms, IsClosed}
-use Rattle.cg_syntax.specs.Tree.{Tree, trees_from, terms_from}
-use Rattle.cg_syntax.specs.Trees.{tree_of, trees_of, term_of, terms_of}
-use Rattle.cg_syntax.specs.declared.expr.Expr.{Expr}
-use Rattle.cg_syntax.specs.declared.expr.Term.{Term}
-use Rattle.cg_syntax.proofs.TreeOf.{term_tree}
+use Rattle.cg_query.specs.Tree.{Tree, trees_from, terms_from}
+use Rattle.cg_query.specs.Trees.{tree_of, trees_of, term_of, terms_of}
+use Rattle.cg_query.specs.declared.expr.Expr.{Expr}
+use Rattle.cg_query.specs.declared.expr.Term.{Term}
+use Rattle.cg_query.proofs.TreeOf.{term_tree}
 
 pub closed_of_tree : (e f : Expr) {t : Tree} → e ≡ f → tree_of f ≡ t → IsClosed (tree_of e) → IsClosed t
 closed_of_tree e f {t} is tree closed =

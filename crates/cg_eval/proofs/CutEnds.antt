@@ -7,7 +7,7 @@ use Rattle.cg_canon.specs.Items.{Item, made}
 use Rattle.cg_canon.specs.SumItems.{sum_items}
 use Rattle.cg_form.specs.Game.{Game}
 use Rattle.cg_form.specs.Sum.{nothing, sum}
-use Rattle.cg_nodes.specs.Spelled.{can}
+use Rattle.cg_nodes.specs.Can.{can}
 use Rattle.cg_moves.specs.Grid.{Grid}
 use Rattle.cg_moves.specs.PieceReach.{piece_reach_of}
 use Rattle.cg_moves.specs.Raw.{raw}

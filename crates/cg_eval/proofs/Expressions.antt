@@ -8,10 +8,11 @@ use Rattle.cg_form.specs.Game.{Game, number as plain_number, node, options, of_l
 use Rattle.cg_form.specs.Multiple.{multiple as many}
 use Rattle.cg_form.specs.Sum.{sum as plus, negative as minus}
 use Rattle.cg_form.proofs.Among.{of_list-to_list}
+use Rattle.cg_nodes.specs.Can.{can}
 use Rattle.cg_cells.specs.Store.{State}
+use Rattle.cg_nodes.specs.CanForms.{can-fixed}
 use Rattle.cg_nodes.specs.Games.{IsGame, StandFor, StandsFor, game_at, games_at}
 use Rattle.cg_nodes.specs.Meant.{Meant}
-use Rattle.cg_nodes.specs.Spelled.{can}
 use Rattle.cg_nodes.proofs.Later.{stands_game, game_later, stand_later}
 use Rattle.cg_canon.specs.declared.fault.ValueFault.{ValueFault}
 use Rattle.cg_canon.specs.declared.rest.WorkRest.{WorkRest}
@@ -21,14 +22,13 @@ use Rattle.cg_canon.specs.Works.{Keeps}
 use Rattle.cg_canon.proofs.ItemLaws.{passes-first}
 use Rattle.cg_canon.specs.SumItems.{sum_items}
 use Rattle.cg_sum.specs.Lists.{negative_items, multiple_items}
-use Rattle.cg_nodes.specs.CanForms.{can-fixed}
 use Rattle.cg_nodes.proofs.Forms.{can-node}
 use Rattle.cg_sum.proofs.Sums.{can-sum_form, can-sum_comm}
 use Rattle.cg_names.specs.Lists.{form_items, number_items}
 use Rattle.cg_names.specs.Meaning.{fraction, literal, or_zero, signed}
 use Rattle.cg_eval.specs.Meaning.{meaning, meanings}
 use Rattle.cg_names.specs.Named.{nimber_form, ups_form, switch_form, tiny_form, zero_number}
-use Rattle.cg_syntax.specs.Tree.{Tree, Trees, number, ups, nimber, switch, tiny, sides, negative, multiple}
+use Rattle.cg_query.specs.Tree.{Tree, Trees, number, ups, nimber, switch, tiny, sides, negative, multiple}
 use Rattle.cg_eval.specs.Items.{items, all_items, term_part}
 use Rattle.cg_eval.specs.Progress.{Evaluates, Gives, Makes, Stops}
 use Rattle.cg_names.proofs.Literals.{literal-fraction, literal_not_negative}

@@ -1,15 +1,15 @@
 -- Faults in lists of expressions and in compound expressions.
 use Rattle.std.proofs.Common.{◌≡◌, refl, ap, sym, ◌∙◌, ℕ, zero, suc, ◌+◌, ◌<◌, ◌≤◌, arith, Bool, Option, Some, None, List, [], ◌∷◌, ◌++◌, length, get_or, take}
 use Rattle.cg_eval.specs.declared.fault.GameFault.{GameFault}
-use Rattle.cg_syntax.specs.declared.expr.Expr.{Expr}
-use Rattle.cg_syntax.specs.declared.expr.Exprs.{Exprs}
-use Rattle.cg_syntax.specs.declared.expr.Term.{Term}
-use Rattle.cg_syntax.specs.declared.expr.Expr.TheVariants as expr
-use Rattle.cg_syntax.specs.Tree.{Tree, trees_from, terms_from}
-use Rattle.cg_syntax.specs.Trees.{tree_of, trees_in, trees_of, term_of, terms_of}
-use Rattle.cg_syntax.proofs.TreeOf.{braces_tree, term_tree}
+use Rattle.cg_query.specs.declared.expr.Expr.{Expr}
+use Rattle.cg_query.specs.declared.expr.Exprs.{Exprs}
+use Rattle.cg_query.specs.declared.expr.Term.{Term}
+use Rattle.cg_query.specs.declared.expr.Expr.TheVariants as expr
+use Rattle.cg_query.specs.Tree.{Tree, trees_from, terms_from}
+use Rattle.cg_query.specs.Trees.{tree_of, trees_in, trees_of, term_of, terms_of}
+use Rattle.cg_query.proofs.TreeOf.{braces_tree, term_tree}
 use Rattle.cg_eval.specs.Faults.{fault_in, fault_in_all, fault_in_terms, first_of_two}
-use Rattle.cg_syntax.proofs.Walk.{trees_of-all, trees_of-take_suc, terms_of-all, terms_of-take_suc}
+use Rattle.cg_query.proofs.Walk.{trees_of-all, trees_of-take_suc, terms_of-all, terms_of-take_suc}
 
 -- ---- one after another
 

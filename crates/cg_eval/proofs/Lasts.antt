@@ -6,12 +6,12 @@ use Rattle.cg_form.specs.Canonical.{Canonical}
 use Rattle.cg_form.specs.Game.{Game}
 use Rattle.cg_form.specs.Multiple.{multiple}
 use Rattle.cg_form.specs.Sum.{sum, negative}
-use Rattle.cg_nodes.specs.Positions.{positions_of}
-use Rattle.cg_nodes.specs.Spelled.{can}
+use Rattle.cg_form.specs.Positions.{positions_of}
 use Rattle.cg_canon.specs.Items.{AllPass, Item, made, outside, too_many}
 use Rattle.cg_canon.specs.SumItems.{sum_items, pair_items, row_items, sum_item, within_limit}
 use Rattle.cg_sum.specs.Lists.{negative_items, multiple_items, step_items}
-use Rattle.cg_nodes.proofs.AllPositions.{positions_of-last}
+use Rattle.cg_form.proofs.AllPositions.{positions_of-last}
+use Rattle.cg_nodes.specs.Can.{can}
 use Rattle.cg_sum.proofs.Sums.{can-multiple_more, can-multiple_one, can-multiple_zero}
 
 -- no item of the list is out of range, and none is a list that is too long

@@ -15,8 +15,6 @@ pub mod Steps
 pub mod Expressions
 pub mod ListSteps
 pub mod Verdicts
-pub mod OnePicture
-pub mod EqualPictures
 pub mod ProofTexts
 pub mod OneAnswer
 pub mod Replies

@@ -4,34 +4,34 @@ use Rattle.std.specs.Prelude.{Vec, OnOk, IfErr, IfOk}
 use Rattle.cg_dyadic.specs.Number.{Number}
 use Rattle.cg_form.specs.Game.{Game, number as plain_number, to_list}
 use Rattle.cg_form.specs.Sum.{sum as plus}
+use Rattle.cg_nodes.specs.Can.{can}
 use Rattle.cg_cells.specs.Store.{State}
+use Rattle.cg_nodes.specs.CanForms.{can-fixed}
 use Rattle.cg_nodes.specs.Games.{AreGames, IsGame, StandFor, StandsFor, game_at, games_at}
 use Rattle.cg_nodes.specs.Meant.{Meant}
-use Rattle.cg_nodes.specs.Spelled.{can}
 use Rattle.cg_nodes.proofs.Later.{stands_game, stands_is_game, stand_later}
 use Rattle.cg_canon.specs.declared.fault.ValueFault.{ValueFault}
 use Rattle.cg_canon.specs.declared.rest.WorkRest.{WorkRest}
 use Rattle.cg_canon.specs.Items.{AllPass, Item, WasRefused, made}
 use Rattle.cg_canon.specs.Works.{Keeps}
-use Rattle.cg_nodes.specs.CanForms.{can-fixed}
 use Rattle.cg_sum.proofs.Sums.{can-sum_form}
 use Rattle.cg_names.specs.Named.{zero_number}
 use Rattle.cg_canon.specs.SumItems.{sum_items}
 use Rattle.cg_names.specs.Meaning.{signed}
 use Rattle.cg_eval.specs.Faults.{fault_in, fault_in_terms}
 use Rattle.cg_eval.specs.Meaning.{meaning, meanings, total, total_with}
-use Rattle.cg_syntax.specs.declared.expr.Expr.{Expr}
-use Rattle.cg_syntax.specs.declared.expr.Term.{Term}
-use Rattle.cg_syntax.specs.Tree.{Tree, Trees, sum, trees_from, terms_from}
-use Rattle.cg_syntax.specs.Trees.{tree_of, trees_of, term_of, terms_of}
-use Rattle.cg_syntax.proofs.TreeOf.{term_tree}
+use Rattle.cg_query.specs.declared.expr.Expr.{Expr}
+use Rattle.cg_query.specs.declared.expr.Term.{Term}
+use Rattle.cg_query.specs.Tree.{Tree, Trees, sum, trees_from, terms_from}
+use Rattle.cg_query.specs.Trees.{tree_of, trees_of, term_of, terms_of}
+use Rattle.cg_query.proofs.TreeOf.{term_tree}
 use Rattle.cg_eval.specs.Items.{items, all_items, further_items, term_items, term_part}
 use Rattle.cg_eval.specs.Progress.{Evaluates, Gives, GivesAll, Makes, Stops}
 use Rattle.cg_eval.proofs.Expressions.{stopped_part}
 use Rattle.cg_eval.proofs.Lasts.{append_none}
 use Rattle.cg_eval.proofs.Steps.{gives_from, gives_game, gives_then, makes_items, makes_none, makes_then, stops_front, stops_items, stops_then}
 use Rattle.cg_eval.proofs.FaultParts.{neither}
-use Rattle.cg_syntax.proofs.Walk.{size, term_sizes, trees_of-take_suc, trees_of-all, terms_of-take_suc, terms_of-all}
+use Rattle.cg_query.proofs.Walk.{size, term_sizes, trees_of-take_suc, trees_of-all, terms_of-take_suc, terms_of-all}
 
 -- ---- the items of lists that are put together
 

@@ -2,29 +2,34 @@
 use Rattle.std.proofs.Common.{◌≡◌, refl, ap, sym, ◌∙◌, ℕ, List, ◌⊎◌, inl, inr}
 use Rattle.cg_dyadic.specs.Wide.{places}
 use Rattle.cg_form.specs.Game.{Game}
-use Rattle.cg_nodes.specs.Spelled.{can}
+use Rattle.cg_form.specs.Stops as form
+use Rattle.cg_form.proofs.Decide.{number-decide}
+use Rattle.cg_form.proofs.StopValues.{stops_unique}
+use Rattle.cg_nodes.specs.Can.{can}
+use Rattle.cg_thermo.specs.declared.thermo.Walls.{Walls}
 use Rattle.cg_thermo.specs.Thermal.{NeedsMore}
-use Rattle.cg_syntax.specs.Tree.{Question, value, compare, outcome, stops, mean, temp, thermo, proof, check}
+use Rattle.cg_thermo.specs.Thermographs.{IsThermograph}
+use Rattle.cg_thermo.proofs.OneThermograph.{needs-or-not, one-thermograph, some-thermograph}
+use Rattle.cg_query.specs.Tree.{Question, value, compare, outcome, stops, mean, temp, thermo, proof, check}
 use Rattle.cg_eval.specs.Meaning.{meaning}
-use Rattle.cg_eval.specs.Pictures.{IsPicture, Picture, mean_text, temp_text, thermograph_text}
+use Rattle.cg_eval.specs.Pictures.{mean_text, stops_text, temp_text, thermograph_text}
 use Rattle.cg_eval.specs.Reply.{IsAnswerTo, IsChecked, IsProved, IsShown, Piece, answer, too_fine, too_long}
 use Rattle.cg_cert.specs.Answer.{IsLong, proof_answer}
 use Rattle.cg_cert.specs.Proves.{IsProofOf}
 use Rattle.std.specs.Prelude.{codes}
 use Rattle.cg_eval.proofs.ProofTexts.{long-or-not, proof-or-not}
-use Rattle.cg_eval.proofs.OnePicture.{needs-or-not, one-picture, some-picture}
 
-one-shown : (g : Game) (show : Picture → List ℕ) (p r : Piece) → IsShown g show p → IsShown g show r → p ≡ r
+one-shown : (g : Game) (show : Walls → List ℕ) (p r : Piece) → IsShown g show p → IsShown g show r → p ≡ r
 one-shown g show p r (inl a) (inl b) = a.1 ∙ sym b.1
 one-shown g show p r (inl a) (inr b) = absurd (b.0 a.0)
 one-shown g show p r (inr a) (inl b) = absurd (a.0 b.0)
 one-shown g show p r (inr (n, (x, is, e))) (inr (m, (y, same, f))) =
-    e ∙ ap (λ z. answer (show z)) (one-picture g x y is same) ∙ sym f
+    e ∙ ap (λ z. answer (show z)) (one-thermograph g x y is same) ∙ sym f
 
-some-shown : (g : Game) (show : Picture → List ℕ) → (p : Piece) × IsShown g show p
-some-shown g show = by (needs-or-not (can g)) (some-picture g)
+some-shown : (g : Game) (show : Walls → List ℕ) → (p : Piece) × IsShown g show p
+some-shown g show = by (needs-or-not (can g)) (some-thermograph g)
   where
-    by : NeedsMore places (can g) ⊎ (¬ NeedsMore places (can g)) → ((p : Picture) × IsPicture g p) → (p : Piece) × IsShown g show p
+    by : NeedsMore places (can g) ⊎ (¬ NeedsMore places (can g)) → ((w : Walls) × IsThermograph g w) → (p : Piece) × IsShown g show p
     by (inl n) x = (too_fine, inl (n, refl))
     by (inr n) x = (answer (show x.0), inr (n, (x.0, x.1, refl)))
 
@@ -58,7 +63,7 @@ pub one-answer : (q : Question) (p r : Piece) → IsAnswerTo q p → IsAnswerTo 
 one-answer (value t) p r a b = a ∙ sym b
 one-answer (compare s t) p r a b = a ∙ sym b
 one-answer (outcome t) p r a b = a ∙ sym b
-one-answer (stops t) p r a b = a ∙ sym b
+one-answer (stops t) p r a b = a number-decide ∙ sym (b number-decide)
 one-answer (mean t) p r a b = one-shown (meaning t) mean_text p r a b
 one-answer (temp t) p r a b = one-shown (meaning t) temp_text p r a b
 one-answer (thermo t) p r a b = one-shown (meaning t) thermograph_text p r a b
@@ -69,7 +74,10 @@ pub some-answer : (q : Question) → (p : Piece) × IsAnswerTo q p
 some-answer (value t) = (_, refl)
 some-answer (compare s t) = (_, refl)
 some-answer (outcome t) = (_, refl)
-some-answer (stops t) = (_, refl)
+some-answer (stops t) = (
+  answer (stops_text (form.stops number-decide (meaning t)).left (form.stops number-decide (meaning t)).right),
+  λ d. ap (λ (z : form.Stops). answer (stops_text z.left z.right)) (stops_unique number-decide d (meaning t)),
+)
 some-answer (mean t) = some-shown (meaning t) mean_text
 some-answer (temp t) = some-shown (meaning t) temp_text
 some-answer (thermo t) = some-shown (meaning t) thermograph_text

@@ -4,7 +4,8 @@ use Rattle.std.specs.Prelude.{codes}
 use Rattle.cg_dyadic.specs.Exact.{number_text}
 use Rattle.cg_dyadic.specs.Number.{Number}
 use Rattle.cg_thermo.specs.declared.corners.Corner.{Corner}
-use Rattle.cg_eval.specs.Pictures.{Picture, corner_text, corners_text, stops_text, thermograph_text}
+use Rattle.cg_thermo.specs.declared.thermo.Walls.{Walls}
+use Rattle.cg_eval.specs.Pictures.{corner_text, corners_text, stops_text, thermograph_text}
 
 -- the stops, with their texts between words
 pub stops-from : (x y : List ℕ) (left right : Number) → x ≡ number_text left → y ≡ number_text right
@@ -55,7 +56,7 @@ corners-whole cs i all end e = e ∙ ap corners_text (whole cs i end)
 
 -- ---- thermographs
 
-pub thermograph-from : (p : Picture) (m t l r : List ℕ) → m ≡ number_text p.mean → t ≡ number_text p.temp
+pub thermograph-from : (p : Walls) (m t l r : List ℕ) → m ≡ number_text p.mean → t ≡ number_text p.temp
     → l ≡ corners_text p.left → r ≡ corners_text p.right
     → codes "mean " ++ (m ++ (codes " temp " ++ (t ++ (codes " left" ++ (l ++ (codes " right" ++ r))))))
     ≡ thermograph_text p

@@ -4,22 +4,22 @@ use Rattle.cg_cells.specs.Store.{Spends, State}
 use Rattle.cg_form.specs.Game.{Game, number}
 use Rattle.cg_form.specs.Order.{le}
 use Rattle.cg_form.specs.Sum.{nothing}
+use Rattle.cg_nodes.specs.Can.{can}
 use Rattle.cg_form.proofs.EqualGames.{le-equal, zero_is}
+use Rattle.cg_nodes.specs.CanForms.{can-equal}
 use Rattle.cg_nodes.specs.Games.{StandsFor, game_at}
 use Rattle.cg_nodes.specs.Meant.{Meant}
-use Rattle.cg_nodes.specs.Spelled.{can}
 use Rattle.cg_nodes.proofs.Later.{stands_game, stands_later}
 use Rattle.cg_canon.specs.declared.fault.ValueFault.{ValueFault}
 use Rattle.cg_canon.specs.declared.fault.ValueFault.TheVariants.{Depth, Full, Memory, Positions, Range}
 use Rattle.cg_canon.specs.declared.rest.WorkRest.{WorkRest}
 use Rattle.cg_canon.specs.Items.{AllPass, IsStopped, Item}
 use Rattle.cg_canon.specs.Works.{Keeps, WorkOf, work_state}
-use Rattle.cg_nodes.specs.CanForms.{can-equal}
 use Rattle.cg_eval.specs.Meaning.{meaning}
 use Rattle.cg_dyadic.specs.Number.{whole}
 use Rattle.cg_canon.proofs.Keeping.{keeps_then, spends_keeps}
-use Rattle.cg_syntax.specs.Lines.{IsColumn, IsComment, IsUnread, Reads, is_blank_line}
-use Rattle.cg_syntax.specs.Tree.{Question, Tree}
+use Rattle.cg_grammar.specs.Lines.{IsColumn, IsComment, IsUnread, Reads, is_blank_line}
+use Rattle.cg_query.specs.Tree.{Question, Tree}
 use Rattle.cg_eval.specs.declared.answered.Answered.{Answered}
 use Rattle.cg_eval.specs.declared.fault.GameFault.{GameFault}
 use Rattle.cg_eval.specs.Faults.{question_fault}
@@ -171,7 +171,7 @@ one-reply_by None share limit q p r (inr a) (inl b) = absurd (verdict-apart a.0 
 one-reply_by None share limit q p r (inr a) (inr b) =
     a.3 ∙ ap refusal_of (verdict-stopped a.0 b.0 share 0 (question_items limit q) a.1 b.1 a.2 b.2).0 ∙ sym b.3
 
-some-reply_by : (o : Option GameFault) (share limit : ℕ) (q : Question) → (p : Piece) × IsReplyBy o share limit q p
+pub some-reply_by : (o : Option GameFault) (share limit : ℕ) (q : Question) → (p : Piece) × IsReplyBy o share limit q p
 some-reply_by (Some fault) share limit q = (ill_formed fault, refl)
 some-reply_by None share limit q = elim (verdict-decided share 0 (question_items limit q)) [
   | inl a ↦ (let (p, is) = some-answer q in (p, inl (a.0, a.1, is)))

@@ -9,19 +9,18 @@ use Rattle.cg_form.specs.Order.{le}
 use Rattle.cg_form.specs.Outcome as form
 use Rattle.cg_form.specs.Stops as form_stops
 use Rattle.cg_form.specs.Sum.{nothing}
-use Rattle.cg_form.proofs.Decide.{number-decide}
 use Rattle.cg_form.proofs.StopValues.{equal_stops}
+use Rattle.cg_nodes.specs.Can.{can}
 use Rattle.cg_nodes.specs.CanForms.{can-equal}
 use Rattle.cg_nodes.specs.Games.{StandsFor, game_at}
 use Rattle.cg_nodes.specs.Meant.{Meant}
-use Rattle.cg_nodes.specs.Spelled.{can}
 use Rattle.cg_nodes.proofs.Later.{stands_game, stands_later}
 use Rattle.cg_canon.specs.declared.fault.ValueFault.{ValueFault}
 use Rattle.cg_canon.specs.declared.fault.ValueFault.TheVariants.{Memory}
 use Rattle.cg_canon.specs.declared.rest.WorkRest.{WorkRest}
 use Rattle.cg_canon.specs.Items.{Item}
 use Rattle.cg_names.specs.Name.{name_of}
-use Rattle.cg_thermo.specs.Ended.{StopsAre}
+use Rattle.cg_thermo.specs.StopsOf.{StopsAre}
 use Rattle.cg_thermo.specs.Thermal.{NeedsMore}
 use Rattle.cg_thermo.specs.Thermographs.{IsThermograph}
 use Rattle.cg_thermo.specs.Winners.{told, winner_by}
@@ -31,11 +30,11 @@ use Rattle.cg_thermo.specs.declared.winner.Outcome.{Outcome}
 use Rattle.cg_thermo.proofs.Wins.{wins}
 use Rattle.cg_cert.specs.Answer.{IsLong, IsShort, proof_answer}
 use Rattle.cg_cert.specs.Proves.{IsProofOf}
-use Rattle.cg_syntax.specs.Tree.{Question, Tree, compare}
+use Rattle.cg_query.specs.Tree.{Question, Tree, compare}
 use Rattle.cg_eval.specs.Items.{items, question_items}
 use Rattle.cg_eval.specs.Meaning.{meaning}
-use Rattle.cg_eval.specs.Parts.{IsCompared, IsDrawn, Tells, TellsTwo, asked_of, part_asked, part_text, picture_of, winner_of, yes_or_no}
-use Rattle.cg_eval.specs.Pictures.{IsPicture, Picture, stops_text}
+use Rattle.cg_eval.specs.Parts.{IsCompared, IsDrawn, Tells, TellsTwo, asked_of, part_asked, part_text, winner_of, yes_or_no}
+use Rattle.cg_eval.specs.Pictures.{stops_text}
 use Rattle.cg_eval.specs.Progress.{Evaluates, EvaluatesTwo, Makes, Stops as Halts}
 use Rattle.cg_eval.specs.Refused.{IsRefusedBy}
 use Rattle.cg_eval.specs.Reply.{IsAnswerTo, IsChecked, IsProved, Piece, answer, comparison, too_fine, too_long, winner}
@@ -45,7 +44,7 @@ use Rattle.cg_eval.specs.declared.pictures.Part.{Part}
 use Rattle.cg_eval.specs.declared.pictures.Part.TheVariants as parts
 use Rattle.cg_eval.specs.declared.telling.Asked.{Asked}
 use Rattle.cg_eval.specs.declared.telling.Asked.TheVariants as asking
-use Rattle.cg_eval.proofs.EqualPictures.{equal-picture}
+use Rattle.cg_thermo.proofs.EqualThermographs.{equal-thermograph}
 use Rattle.cg_eval.proofs.Replies.{answers-stop, le-forms, le-value_zero, makes_spends, zero-le_value}
 use Rattle.cg_eval.proofs.Steps.{stops_memory}
 
@@ -82,23 +81,20 @@ told-outcome g h o text a w n e f = tells-answer g h asking.Outcome text a e f (
 
 pub told-stops : (g : Game) (h : ℕ) (s : Stops) (text : List ℕ) (a : Answered) → StopsAre g s
     → text ≡ stops_text s.left s.right → shown a ≡ answer text → a.handle ≡ Some h → Tells g h asking.Stops a
-told-stops g h s text a w n e f = tells-answer g h asking.Stops text a e f (λ t is.
-    let k = ap (form_stops.stops number-decide) is ∙ equal_stops number-decide number-decide (can (meaning t)) (meaning t) (can-equal (meaning t)) in
-    ap answer (n ∙ ap (λ z. stops_text z s.right) (w.left ∙ ap (λ (z : form_stops.Stops). z.left) k)
-    ∙ ap (stops_text (form_stops.stops number-decide (meaning t)).left) (w.right ∙ ap (λ (z : form_stops.Stops). z.right) k)))
-
-pub is-picture : (g : Game) (w : Walls) → IsThermograph g w → IsPicture g (picture_of w)
-is-picture g w h = record { thermal = h.thermal; left = h.left; right = h.right }
+told-stops g h s text a w n e f = tells-answer g h asking.Stops text a e f (λ t is d.
+    let k = ap (form_stops.stops d) is ∙ equal_stops d d (can (meaning t)) (meaning t) (can-equal (meaning t)) in
+    ap answer (n ∙ ap (λ z. stops_text z s.right) (w.left d ∙ ap (λ (z : form_stops.Stops). z.left) k)
+    ∙ ap (stops_text (form_stops.stops d (meaning t)).left) (w.right d ∙ ap (λ (z : form_stops.Stops). z.right) k)))
 
 pub drawn-some : {A : Type 0} (part : Part) (g : Game) (o : Option (String A)) (text : String A) → o ≡ Some text → IsDrawn part g o
-    → (¬ NeedsMore places g) × ((p : Picture) × IsPicture g p × (string_bytes text ≡ part_text part p))
+    → (¬ NeedsMore places g) × ((p : Walls) × IsThermograph g p × (string_bytes text ≡ part_text part p))
 drawn-some {A} part g o text e d = let P : Option (String A) → Type 0 = λ z. IsDrawn part g z in subst P e d
 
 pub drawn-none : {A : Type 0} (part : Part) (g : Game) (o : Option (String A)) → o ≡ None → IsDrawn part g o → NeedsMore places g
 drawn-none {A} part g o e d = let P : Option (String A) → Type 0 = λ z. IsDrawn part g z in subst P e d
 
 part-answer : (part : Part) (t : Tree) (text : List ℕ) → ¬ NeedsMore places (can (meaning t))
-    → (p : Picture) → IsPicture (meaning t) p → text ≡ part_text part p → IsAnswerTo (part_asked part t) (answer text)
+    → (p : Walls) → IsThermograph (meaning t) p → text ≡ part_text part p → IsAnswerTo (part_asked part t) (answer text)
 part-answer parts.Mean t text n p is e = inr (n, (p, is, ap answer e))
 part-answer parts.Temp t text n p is e = inr (n, (p, is, ap answer e))
 part-answer parts.Whole t text n p is e = inr (n, (p, is, ap answer e))
@@ -109,12 +105,12 @@ part-refusal parts.Temp t n = inl (n, refl)
 part-refusal parts.Whole t n = inl (n, refl)
 
 pub told-part : (g : Game) (h : ℕ) (part : Part) (text : List ℕ) (a : Answered)
-    → (¬ NeedsMore places g) × ((p : Picture) × IsPicture g p × (text ≡ part_text part p)) → shown a ≡ answer text
+    → (¬ NeedsMore places g) × ((p : Walls) × IsThermograph g p × (text ≡ part_text part p)) → shown a ≡ answer text
     → a.handle ≡ Some h → Tells g h (asking.Picture part) a
 told-part g h part text a (n, (p, is, e)) s f = tells-answer g h (asking.Picture part) text a s f (λ t k.
     let N : Game → Type 0 = λ z. ¬ NeedsMore places z in
-    let P : Game → Type 0 = λ z. IsPicture z p in
-    part-answer part t text (subst N k n) p (equal-picture (can (meaning t)) (meaning t) p (can-equal (meaning t)) (subst P k is)) e)
+    let P : Game → Type 0 = λ z. IsThermograph z p in
+    part-answer part t text (subst N k n) p (equal-thermograph (can (meaning t)) (meaning t) p (can-equal (meaning t)) (subst P k is)) e)
 
 pub told-too_fine : (g : Game) (h : ℕ) (part : Part) (a : Answered) → NeedsMore places g → IsRefusedBy too_fine a
     → Tells g h (asking.Picture part) a

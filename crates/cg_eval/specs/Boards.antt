@@ -27,8 +27,8 @@ use Rattle.cg_strip.specs.Rulebook.{Rulebook, symbols_of}
 use Rattle.cg_strip.specs.StripGame.{strip_game}
 use Rattle.cg_strip.specs.Weighing.{IsFirstRising, first_rising}
 use Rattle.cg_values.specs.Items.{board_items}
-use Rattle.cg_syntax.specs.declared.kind.GameKind.{GameKind}
-use Rattle.cg_syntax.specs.declared.kind.GameKind.TheVariants.{Domineering, Clobber, Amazons, Toads, Strip, Hackenbush, Col, Snort}
+use Rattle.cg_query.specs.declared.kind.GameKind.{GameKind}
+use Rattle.cg_query.specs.declared.kind.GameKind.TheVariants.{Domineering, Clobber, Amazons, Toads, Strip, Hackenbush, Col, Snort}
 use Rattle.cg_eval.specs.declared.fault.GameFault.{GameFault}
 use Rattle.cg_eval.specs.declared.fault.GameFault.TheVariants as by
 

@@ -4,7 +4,7 @@ use Rattle.std.specs.Prelude.{ℕ, pos, Bool, false, cond, List, [], ◌∷◌, 
 use Rattle.cg_dyadic.specs.Number.{whole}
 use Rattle.cg_form.specs.Game.{Game, number as plain_number}
 use Rattle.cg_form.specs.Sum.{sum as plus}
-use Rattle.cg_nodes.specs.Spelled.{can}
+use Rattle.cg_nodes.specs.Can.{can}
 use Rattle.cg_canon.specs.Items.{Item, made}
 use Rattle.cg_canon.specs.NumberItems.{number_made}
 use Rattle.cg_canon.specs.SumItems.{sum_items}
@@ -15,7 +15,7 @@ use Rattle.cg_names.specs.Meaning.{literal, signed}
 use Rattle.cg_eval.specs.Meaning.{meaning}
 use Rattle.cg_eval.specs.Boards.{position_items, position_of}
 use Rattle.cg_eval.specs.Octals.{heap_items, octal_read}
-use Rattle.cg_syntax.specs.Tree.{Tree, Trees, Terms, Question, number, ups, nimber, switch, tiny, sides, negative, multiple, sum, game, octal, used, no_trees, with_tree, no_terms, with_term, value, compare, outcome, stops, mean, temp, thermo, proof, check}
+use Rattle.cg_query.specs.Tree.{Tree, Trees, Terms, Question, number, ups, nimber, switch, tiny, sides, negative, multiple, sum, game, octal, used, no_trees, with_tree, no_terms, with_term, value, compare, outcome, stops, mean, temp, thermo, proof, check}
 
 -- the items that subtracting a game adds before the sum
 abbrev pub signed_items : ℕ → Bool → Game → List Item

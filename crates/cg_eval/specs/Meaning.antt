@@ -7,7 +7,7 @@ use Rattle.cg_form.specs.Sum.{negative as minus, sum as plus}
 use Rattle.cg_form.specs.Multiple.{multiple as many}
 use Rattle.cg_names.specs.Meaning.{fraction, or_zero, signed}
 use Rattle.cg_names.specs.Named.{nimber_form, ups_form, switch_form, tiny_form}
-use Rattle.cg_syntax.specs.Tree.{Tree, Trees, Terms, number, ups, nimber, switch, tiny, sides, negative, multiple, sum, game, octal, used, no_trees, with_tree, no_terms, with_term}
+use Rattle.cg_query.specs.Tree.{Tree, Trees, Terms, number, ups, nimber, switch, tiny, sides, negative, multiple, sum, game, octal, used, no_trees, with_tree, no_terms, with_term}
 use Rattle.cg_eval.specs.Boards.{position_form, position_of}
 use Rattle.cg_eval.specs.Octals.{heap_form, octal_read}
 

@@ -3,6 +3,7 @@ use Rattle.std.specs.Prelude.{◌≡◌, ◌⊎◌, ℕ, Bool, List, Option, Som
 use Rattle.cg_dyadic.specs.Wide.{places}
 use Rattle.cg_form.specs.Game.{Game}
 use Rattle.cg_form.specs.Order.{le}
+use Rattle.cg_nodes.specs.Can.{can}
 use Rattle.cg_domineering.specs.Moves.{domineering}
 use Rattle.cg_clobber.specs.Moves.{clobber}
 use Rattle.cg_amazons.specs.Amazons.{amazons}
@@ -12,12 +13,12 @@ use Rattle.cg_strip.specs.Toads.{toads_game}
 use Rattle.cg_strip.specs.StripGame.{strip_game}
 use Rattle.cg_thermo.specs.declared.thermo.Walls.{Walls}
 use Rattle.cg_thermo.specs.Thermal.{NeedsMore}
-use Rattle.cg_nodes.specs.Spelled.{can}
+use Rattle.cg_thermo.specs.Thermographs.{IsThermograph}
 use Rattle.cg_thermo.specs.declared.winner.Outcome.{Outcome}
 use Rattle.cg_thermo.specs.declared.winner.Outcome.TheVariants.{L, R, P, N}
-use Rattle.cg_syntax.specs.Tree.{Question, Tree, value, outcome, stops, mean, temp, thermo}
+use Rattle.cg_query.specs.Tree.{Question, Tree, value, outcome, stops, mean, temp, thermo}
 use Rattle.cg_eval.specs.Boards.{Position, board, faulty}
-use Rattle.cg_eval.specs.Pictures.{IsPicture, Picture, mean_text, temp_text, thermograph_text}
+use Rattle.cg_eval.specs.Pictures.{mean_text, temp_text, thermograph_text}
 use Rattle.cg_eval.specs.Meaning.{meaning}
 use Rattle.cg_eval.specs.Reply.{IsAnswerTo, Piece, answer, comparison}
 use Rattle.cg_eval.specs.Shown.{shown}
@@ -70,15 +71,11 @@ IsHeapFault fault (Err octal.Heap) = fault ≡ Some (by.Octal octal.Heap)
 
 -- ---- thermographs
 
--- what the thermograph holds
-abbrev pub picture_of : Walls → Picture
-picture_of w = record { mean = w.mean; temp = w.temp; left = w.left; right = w.right }
-
 -- the text of this part
-abbrev pub part_text : Part → Picture → List ℕ
-part_text parts.Mean p = mean_text p
-part_text parts.Temp p = temp_text p
-part_text parts.Whole p = thermograph_text p
+abbrev pub part_text : Part → Walls → List ℕ
+part_text parts.Mean w = mean_text w
+part_text parts.Temp w = temp_text w
+part_text parts.Whole w = thermograph_text w
 
 -- the question that asks for this part
 abbrev pub part_asked : Part → Tree → Question
@@ -86,11 +83,11 @@ part_asked parts.Mean t = mean t
 part_asked parts.Temp t = temp t
 part_asked parts.Whole t = thermo t
 
--- the text of this part of the picture; or none, where a position needs too many binary places
+-- the text of this part of the thermograph; or none, where a position needs too many binary places
 abbrev pub IsDrawn : {A : Type 0} → Part → Game → Option (String A) → Type 0
 IsDrawn {A} part g None = NeedsMore places g
 IsDrawn {A} part g (Some text) =
-    (¬ NeedsMore places g) × ((p : Picture) × IsPicture g p × (string_bytes text ≡ part_text part p))
+    (¬ NeedsMore places g) × ((w : Walls) × IsThermograph g w × (string_bytes text ≡ part_text part w))
 
 -- ---- what is told of a game
 

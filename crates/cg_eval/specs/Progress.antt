@@ -2,15 +2,15 @@
 use Rattle.std.specs.Prelude.{ℕ, ◌≤◌, ◌++◌, List, map, Result, Ok, Err, Vec}
 use Rattle.cg_form.specs.Game.{Game, to_list}
 use Rattle.cg_cells.specs.Store.{State}
+use Rattle.cg_nodes.specs.Can.{can}
 use Rattle.cg_nodes.specs.Games.{StandsFor, StandFor}
 use Rattle.cg_nodes.specs.Meant.{Meant}
-use Rattle.cg_nodes.specs.Spelled.{can}
 use Rattle.cg_canon.specs.declared.fault.ValueFault.{ValueFault}
 use Rattle.cg_canon.specs.declared.rest.WorkRest.{WorkRest}
 use Rattle.cg_canon.specs.Items.{Item, AllPass, WasRefused}
 use Rattle.cg_canon.specs.Works.{Keeps}
 use Rattle.cg_eval.specs.Meaning.{meaning, meanings}
-use Rattle.cg_syntax.specs.Tree.{Tree, Trees}
+use Rattle.cg_query.specs.Tree.{Tree, Trees}
 use Rattle.cg_eval.specs.Items.{items, all_items}
 
 -- all of the items were made and charged

@@ -2,26 +2,28 @@
 use Rattle.std.specs.Prelude.{ℕ, Bool, true, false, ◌≡◌, ◌⊎◌, ◌++◌, List, Option, Some, None, codes, decimal}
 use Rattle.cg_form.specs.Game.{Game}
 use Rattle.cg_form.specs.Order.{le}
+use Rattle.cg_form.specs.Simple.{Decides}
 use Rattle.cg_form.specs.Stops as form
 use Rattle.cg_form.specs.Sum.{nothing}
-use Rattle.cg_form.proofs.Decide.{number-decide}
-use Rattle.cg_nodes.specs.Spelled.{can}
+use Rattle.cg_nodes.specs.Can.{can}
 use Rattle.cg_canon.specs.declared.fault.ValueFault.{ValueFault}
 use Rattle.cg_canon.specs.declared.fault.ValueFault.TheVariants.{Range, Full, Depth, Positions, Memory}
 use Rattle.cg_canon.specs.Items.{AllPass, IsStopped}
 use Rattle.cg_names.specs.Name.{name_of}
 use Rattle.cg_dyadic.specs.Wide.{places}
+use Rattle.cg_thermo.specs.declared.thermo.Walls.{Walls}
 use Rattle.cg_thermo.specs.Thermal.{NeedsMore}
+use Rattle.cg_thermo.specs.Thermographs.{IsThermograph}
 use Rattle.cg_eval.specs.Meaning.{meaning}
-use Rattle.cg_syntax.specs.Tree.{Question, value, compare, outcome, stops, mean, temp, thermo, proof, check}
-use Rattle.cg_syntax.specs.Lines.{Reads, IsUnread}
+use Rattle.cg_query.specs.Tree.{Question, value, compare, outcome, stops, mean, temp, thermo, proof, check}
+use Rattle.cg_grammar.specs.Lines.{Reads, IsUnread}
 use Rattle.cg_cert.specs.Answer.{IsLong, proof_answer}
 use Rattle.cg_cert.specs.Proves.{IsProofOf}
 use Rattle.cg_eval.specs.declared.fault.GameFault.{GameFault}
 use Rattle.cg_eval.specs.IllFormed.{fault_text}
 use Rattle.cg_eval.specs.Faults.{question_fault}
 use Rattle.cg_eval.specs.Items.{question_items}
-use Rattle.cg_eval.specs.Pictures.{IsPicture, Picture, mean_text, stops_text, temp_text, thermograph_text}
+use Rattle.cg_eval.specs.Pictures.{mean_text, stops_text, temp_text, thermograph_text}
 
 -- a text, and whether it is a refusal or holds one
 pub record Piece : Type 0 where
@@ -76,12 +78,12 @@ winner true false = codes "L"
 winner false true = codes "R"
 winner false false = codes "N"
 
--- what the picture of a game shows; or a refusal, where the mean or the temperature of some position of the game's canonical
+-- what is shown of the thermograph of a game; or a refusal, where the mean or the temperature of some position of the game's canonical
 -- form needs more than 60 binary places
-abbrev pub IsShown : Game → (Picture → List ℕ) → Piece → Type 0
+abbrev pub IsShown : Game → (Walls → List ℕ) → Piece → Type 0
 IsShown g show reply =
     (NeedsMore places (can g) × (reply ≡ too_fine))
-    ⊎ ((¬ NeedsMore places (can g)) × ((p : Picture) × IsPicture g p × (reply ≡ answer (show p))))
+    ⊎ ((¬ NeedsMore places (can g)) × ((w : Walls) × IsThermograph g w × (reply ≡ answer (show w))))
 
 -- the proof that a form is at least another, or that it isn't; or a refusal, where that has more than 65,536 bytes
 abbrev pub IsProved : Game → Game → Piece → Type 0
@@ -102,7 +104,7 @@ IsAnswerTo (value t) reply = reply ≡ answer (name_of (can (meaning t)))
 IsAnswerTo (compare s t) reply = reply ≡ answer (comparison (le (meaning s) (meaning t)) (le (meaning t) (meaning s)))
 IsAnswerTo (outcome t) reply = reply ≡ answer (winner (le nothing (meaning t)) (le (meaning t) nothing))
 IsAnswerTo (stops t) reply =
-    reply ≡ answer (stops_text (form.stops number-decide (meaning t)).left (form.stops number-decide (meaning t)).right)
+    (d : Decides) → reply ≡ answer (stops_text (form.stops d (meaning t)).left (form.stops d (meaning t)).right)
 IsAnswerTo (mean t) reply = IsShown (meaning t) mean_text reply
 IsAnswerTo (temp t) reply = IsShown (meaning t) temp_text reply
 IsAnswerTo (thermo t) reply = IsShown (meaning t) thermograph_text reply

@@ -1,14 +1,14 @@
 -- An answer, without where it lies in memory.
 use Rattle.std.specs.Prelude.{◌≡◌, ℕ, Bool, true, false, List, Option, Some, None, Result, Ok, Err}
 use Rattle.cg_cells.specs.Store.{State}
+use Rattle.cg_nodes.specs.Can.{can}
 use Rattle.cg_nodes.specs.Meant.{Meant}
 use Rattle.cg_nodes.specs.Games.{StandsFor}
-use Rattle.cg_nodes.specs.Spelled.{can}
 use Rattle.cg_canon.specs.declared.fault.ValueFault.{ValueFault}
 use Rattle.cg_canon.specs.declared.rest.WorkRest.{WorkRest}
 use Rattle.cg_eval.specs.Meaning.{meaning}
-use Rattle.cg_syntax.specs.Tree.{Tree, Question, value, compare, outcome, stops, mean, temp, thermo, proof, check}
-use Rattle.cg_syntax.specs.Lines.{Reads}
+use Rattle.cg_query.specs.Tree.{Tree, Question, value, compare, outcome, stops, mean, temp, thermo, proof, check}
+use Rattle.cg_grammar.specs.Lines.{Reads}
 use Rattle.cg_eval.specs.declared.answered.Answered.{Answered}
 use Rattle.cg_eval.specs.Items.{question_items}
 use Rattle.cg_eval.specs.Progress.{Makes, Stops}

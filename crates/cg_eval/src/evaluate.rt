@@ -2,8 +2,8 @@
 ghost use Rattle.std.specs.Prelude.{◌≡◌, ◌++◌, None};
 ghost use Rattle.cg_form.specs.Game.{Game};
 ghost use Rattle.cg_form.specs.Sum as sums;
+ghost use Rattle.cg_nodes.specs.Can.{can};
 ghost use Rattle.cg_nodes.specs.Games.{IsGame, StandsFor, game_at};
-ghost use Rattle.cg_nodes.specs.Spelled.{can};
 ghost use Rattle.cg_canon.specs.Works.{work_state};
 ghost use Rattle.cg_canon.specs.SumItems.{sum_items};
 ghost use Rattle.cg_names.specs.Meaning.{signed};
@@ -12,9 +12,9 @@ ghost use Rattle.cg_eval.specs.Meaning.{meaning, total_with};
 ghost use Rattle.cg_eval.specs.Items.{further_items, term_part};
 ghost use Rattle.cg_eval.specs.Progress.{Evaluates, Gives, GivesAll};
 ghost use Rattle.cg_syntax.specs.Naming.{AreClosed, AreClosedTerms, IsClosed};
-ghost use Rattle.cg_syntax.specs.Tree.{terms_from, trees_from};
-ghost use Rattle.cg_syntax.specs.Tree as trees;
-ghost use Rattle.cg_syntax.specs.Trees.{terms_in, terms_of, tree_of, trees_in};
+ghost use Rattle.cg_query.specs.Tree.{terms_from, trees_from};
+ghost use Rattle.cg_query.specs.Tree as trees;
+ghost use Rattle.cg_query.specs.Trees.{terms_in, terms_of, tree_of, trees_in};
 
 use crate::heaps::heap_value;
 use crate::named::{literal, named_nimber, named_switch, named_tiny, named_ups, zero};

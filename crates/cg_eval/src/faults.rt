@@ -1,8 +1,8 @@
 //! Why the first ill-formed board or heap of an expression is ill-formed.
 ghost use Rattle.std.specs.Prelude.{◌≡◌, IfOk};
 ghost use Rattle.cg_eval.specs.Faults.{fault_in, fault_in_all, fault_in_terms, first_of_two, question_fault};
-ghost use Rattle.cg_syntax.specs.Tree.{terms_from, trees_from};
-ghost use Rattle.cg_syntax.specs.Trees.{question_of, terms_in, tree_of, trees_in};
+ghost use Rattle.cg_query.specs.Tree.{terms_from, trees_from};
+ghost use Rattle.cg_query.specs.Trees.{question_of, terms_in, tree_of, trees_in};
 
 use crate::boards::board_fault;
 use crate::fault::GameFault;

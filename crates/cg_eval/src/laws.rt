@@ -1,6 +1,6 @@
 //! Laws of expressions and replies: a call puts its law into the caller's facts.
 ghost use Rattle.std.specs.Prelude.{◌≡◌, ◌⊎◌, ◌++◌, ◌∷◌, [], ℕ, List, None, Result, Err, false};
-ghost use Rattle.cg_nodes.specs.Spelled.{can};
+ghost use Rattle.cg_nodes.specs.Can.{can};
 ghost use Rattle.cg_canon.specs.declared.fault.ValueFault.{ValueFault};
 ghost use Rattle.cg_canon.specs.Items.{Item, made, AllPass, IsStopped};
 ghost use Rattle.cg_octal.specs.Codes.{IsRead, OctalHeap};
@@ -12,8 +12,8 @@ ghost use Rattle.cg_eval.specs.Meaning.{meaning};
 ghost use Rattle.cg_eval.specs.Items.{items};
 ghost use Rattle.cg_eval.specs.Octals.{octal_read};
 ghost use Rattle.cg_eval.specs.Reply.{IsReply, IsReplyTo, Piece};
-ghost use Rattle.cg_syntax.specs.Lines.{is_blank_line, IsComment};
-ghost use Rattle.cg_syntax.specs.Tree.{Question, Tree};
+ghost use Rattle.cg_grammar.specs.Lines.{is_blank_line, IsComment};
+ghost use Rattle.cg_query.specs.Tree.{Question, Tree};
 
 use cg_syntax::laws::one_query;
 
@@ -47,9 +47,10 @@ pub fn one_reply()
     one_query();
 }
 
-/// A question has at most one reply, given the share and the positions limit.
+/// A question has exactly one reply, given the share and the positions limit.
 pub fn one_reply_to()
-    ensures { (share limit : ℕ) (q : Question) (p r : Piece) → IsReplyTo share limit q p → IsReplyTo share limit q r
+    ensures some { (share limit : ℕ) (q : Question) → (p : Piece) × IsReplyTo share limit q p }
+    ensures unique { (share limit : ℕ) (q : Question) (p r : Piece) → IsReplyTo share limit q p → IsReplyTo share limit q r
         → p ≡ r }
 {}
 

@@ -3,7 +3,7 @@ ghost use Rattle.std.specs.Prelude.{◌≡◌, ◌+◌, ◌≤◌, false, IfOk};
 ghost use Rattle.cg_eval.specs.Reply.{IsReply};
 ghost use Rattle.cg_eval.specs.Shown.{shown, HandleOf};
 ghost use Rattle.cg_eval.specs.Stores.{KeepsStore};
-ghost use Rattle.cg_syntax.specs.Lines.{is_blank_line, IsComment};
+ghost use Rattle.cg_grammar.specs.Lines.{is_blank_line, IsComment};
 
 use crate::Answered;
 use crate::refusals::refuse_syntax;

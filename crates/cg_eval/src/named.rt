@@ -3,7 +3,7 @@ ghost use Rattle.std.specs.Prelude.{◌≡◌};
 ghost use Rattle.cg_canon.specs.Works.{work_state};
 ghost use Rattle.cg_names.specs.Named.{zero_number};
 ghost use Rattle.cg_eval.specs.Progress.{Evaluates};
-ghost use Rattle.cg_syntax.specs.Tree as trees;
+ghost use Rattle.cg_query.specs.Tree as trees;
 
 use cg_canon::{ValueFault, Work, number_item};
 use cg_cells::CellStore;

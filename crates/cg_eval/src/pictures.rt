@@ -1,6 +1,6 @@
 //! What is shown of stops and thermographs, as text.
 ghost use Rattle.std.specs.Prelude.{◌≡◌, IfOk, string_bytes};
-ghost use Rattle.cg_eval.specs.Parts.{part_text, picture_of};
+ghost use Rattle.cg_eval.specs.Parts.{part_text};
 ghost use Rattle.cg_eval.specs.Pictures.{corner_text, corners_text, stops_text, thermograph_text};
 
 use cg_thermo::{Corner, Stops, Walls};
@@ -50,7 +50,7 @@ fn corners_text(alloc: Global, corners: &[Corner]) -> Result<String, AllocError>
 
 /// `mean m temp t left C right D`.
 fn thermograph_text(alloc: Global, walls: &Walls) -> Result<String, AllocError>
-    ensures { IfOk result (λ text. string_bytes text ≡ thermograph_text (picture_of walls.now)) }
+    ensures { IfOk result (λ text. string_bytes text ≡ thermograph_text walls.now) }
 {
     let mean = walls.mean.text(alloc)?;
     let temp = walls.temp.text(alloc)?;
@@ -61,7 +61,7 @@ fn thermograph_text(alloc: Global, walls: &Walls) -> Result<String, AllocError>
 
 /// The text of this part of the thermograph.
 pub(crate) fn part_text(alloc: Global, part: Part, walls: &Walls) -> Result<String, AllocError>
-    ensures { IfOk result (λ text. string_bytes text ≡ part_text part (picture_of walls.now)) }
+    ensures { IfOk result (λ text. string_bytes text ≡ part_text part walls.now) }
 {
     match part {
         Part::Mean => walls.mean.text(alloc),

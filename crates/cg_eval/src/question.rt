@@ -6,8 +6,8 @@ ghost use Rattle.cg_eval.specs.Parts.{asked_of};
 ghost use Rattle.cg_eval.specs.Progress.{EvaluatesTwo};
 ghost use Rattle.cg_eval.specs.Shown.{Answers};
 ghost use Rattle.cg_syntax.specs.Naming.{IsClosed, IsClosedQuestion};
-ghost use Rattle.cg_syntax.specs.Tree.{check, compare, proof};
-ghost use Rattle.cg_syntax.specs.Trees.{question_of, tree_of};
+ghost use Rattle.cg_query.specs.Tree.{check, compare, proof};
+ghost use Rattle.cg_query.specs.Trees.{question_of, tree_of};
 
 use crate::Answered;
 use crate::evaluate::evaluate;

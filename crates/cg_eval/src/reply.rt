@@ -9,7 +9,7 @@ ghost use Rattle.cg_eval.specs.Faults.{question_fault};
 ghost use Rattle.cg_eval.specs.Shown.{IsAnswered};
 ghost use Rattle.cg_eval.specs.Stores.{KeepsStore};
 ghost use Rattle.cg_syntax.specs.Naming.{IsClosedQuestion};
-ghost use Rattle.cg_syntax.specs.Trees.{question_of};
+ghost use Rattle.cg_query.specs.Trees.{question_of};
 
 use crate::Answered;
 use crate::faults::question_fault;

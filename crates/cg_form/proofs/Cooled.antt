@@ -4,15 +4,10 @@ use Rattle.std.proofs.lemmas.Int.{ints}
 use lib.Signed.{le_z}
 use Rattle.cg_dyadic.proofs.Integers.{from_le_z, le_or_lt, to_le_z}
 use Rattle.cg_dyadic.proofs.Truth.{false-from, true-or-not}
+use Rattle.cg_form.specs.Cooling.{Cool, Steps}
 use Rattle.cg_form.specs.Walls.{Walls, cooled}
 
 -- ---- steps
-
-pub record Steps (v w : Walls) : Type 0 where
-  pub left_falls : w.left ≤ℤ v.left
-  pub left_by_one : v.left ≤ℤ (w.left +ℤ pos 1)
-  pub right_rises : v.right ≤ℤ w.right
-  pub right_by_one : w.right ≤ℤ (v.right +ℤ pos 1)
 
 pub still : (v : Walls) → Steps v v
 still v = record {
@@ -65,12 +60,6 @@ cooled-agree f k h (suc t) = ap (λ z. cond (le_z z.right z.left) z (cooled f t)
     ∙ ap (λ z. cond (le_z (k (suc t)).right (k (suc t)).left) (k (suc t)) z) (cooled-agree f k h t)
 
 -- ---- scaffolds that cool
-
--- the scaffolds start in order, and their difference does not pass from 1 to -1
-pub record Cool (f : ℕ → Walls) : Type 0 where
-  pub steps : (t : ℕ) → Steps (f t) (f (suc t))
-  pub start : (f 0).right ≤ℤ (f 0).left
-  pub no_jump : (t : ℕ) → (f t).left ≡ (f t).right +ℤ pos 1 → (f (suc t)).right ≡ (f (suc t)).left +ℤ pos 1 → ⊥
 
 pub ordered_along : (v w : Walls) → v ≡ w → w.right ≤ℤ w.left → v.right ≤ℤ v.left
 ordered_along v w e h = let P : Walls → Type 0 = λ z. z.right ≤ℤ z.left in subst P (sym e) h

@@ -2,8 +2,9 @@
 use Rattle.std.proofs.Common.{◌≡◌, ℕ, arith, zero, suc, inl, inr, ap, ℤ, pos, ◌+ℤ◌, ◌≤ℤ◌}
 use Rattle.std.proofs.lemmas.Int.{ints}
 use Rattle.cg_dyadic.proofs.Integers.{le_or_lt}
+use Rattle.cg_form.specs.Cooling.{Cool}
 use Rattle.cg_form.specs.Walls.{Walls, cooled}
-use Rattle.cg_form.proofs.Cooled.{Cool, cooled-frozen, cooled-ordered, stays, uncrossed}
+use Rattle.cg_form.proofs.Cooled.{cooled-frozen, cooled-ordered, stays, uncrossed}
 
 -- ---- bounds
 

@@ -1,16 +1,16 @@
 -- The cuts of a game from the cuts of its options, among the numbers of a kind that has their options too.
 use Rattle.std.proofs.Common.{◌≡◌, refl, ap, sym, ◌∙◌, subst, Bool, true, false, not, ◌&&◌, ◌||◌, cond, IsTrue}
-use Rattle.std.specs.Prelude.{Option, Some, None}
+use Rattle.std.specs.Prelude.{Option, Some}
 use Rattle.cg_dyadic.specs.declared.cut.Cut.{Cut}
-use Rattle.cg_dyadic.specs.Cut.{above_some, below_some, in_gap, is_above, is_below}
+use Rattle.cg_dyadic.specs.Cut.{in_cut, in_gap, in_some, number_at_most, within_cut}
 use Rattle.cg_dyadic.specs.Number.{AmongNumbers, InRange, Number, number_le, number_lefts, number_rights}
 use Rattle.cg_dyadic.specs.Simplest.{NoOptionPasses}
 use Rattle.cg_dyadic.proofs.Truth.{and-both, and-split, differ, false-from, not_not, not_true, true_not}
 use Rattle.cg_dyadic.proofs.Weight.{in_range-lefts, in_range-rights}
-use Rattle.cg_form.specs.Cut.{AnyNumber, CutIs, CutOf, Joined, Turned, covers, covers_at, in_cut, in_some, within_cut}
+use Rattle.cg_form.specs.Cut.{AnyNumber, CutIs, CutOf, Joined, Turned, covers, covers_at}
 use Rattle.cg_form.specs.Game.{Among, Game, lefts, number, rights}
 use Rattle.cg_form.specs.Order.{Equal, le}
-use Rattle.cg_form.specs.Side.{AtMost, at_most, far, number_at_most}
+use Rattle.cg_form.specs.Side.{AtMost, at_most, far}
 use Rattle.cg_form.specs.Simple.{FitsIn}
 use Rattle.cg_form.proofs.Order.{no_one-all, no_one-each}
 use Rattle.cg_form.proofs.Sides.{number_side-less, number_side-trans, numbers-side, side-numbers, side_equal, side_trans, side_turned, side_unfold}
@@ -34,44 +34,27 @@ any-closed = record { on_lefts = λ x y p m. tt; on_rights = λ x y p m. tt }
 
 -- ---- the gap between two cuts
 
-below_within : (p : Number) (c : Bool) (x : Number) → is_below p c x ≡ within_cut true p c x
-below_within p true x = refl
-below_within p false x = refl
-
-above_within : (p : Number) (c : Bool) (x : Number) → is_above p c x ≡ within_cut false p c x
-above_within p true x = refl
-above_within p false x = refl
-
-below_some-in : (o : Option Cut) (x : Number) → below_some o x ≡ in_some true o x
-below_some-in None x = refl
-below_some-in (Some c) x = below_within c.at c.closed x
-
-above_some-in : (o : Option Cut) (x : Number) → above_some o x ≡ in_some false o x
-above_some-in None x = refl
-above_some-in (Some c) x = above_within c.at c.closed x
-
 -- what lies in the gap fits, and the other way round
 pub gap-fits : (P : Number → Type 0) (g : Game) (o q : Option Cut) → CutOf P true o (lefts g)
     → CutOf P false q (rights g) →
     (x : Number) → P x → IsTrue (in_gap o q x) → FitsIn x g
 gap-fits P g o q low high x r h =
-    let s = and-split (not (below_some o x)) (not (above_some q x)) h in
+    let s = and-split (not (in_some true o x)) (not (in_some false q x)) h in
     record {
       above = λ a m k. differ (le (number x) a) k
-          (no_one-each (λ a. le (number x) a) (lefts g) (low.tells x r ∙ ap not (sym (below_some-in o x)) ∙ s.0) a m);
+          (no_one-each (λ a. le (number x) a) (lefts g) (low.tells x r ∙ s.0) a m);
       below = λ b m k. differ (le b (number x)) k
-          (no_one-each (λ b. le b (number x)) (rights g) (high.tells x r ∙ ap not (sym (above_some-in q x))
-          ∙ s.1) b m);
+          (no_one-each (λ b. le b (number x)) (rights g) (high.tells x r ∙ s.1) b m);
     }
 
 pub fits-gap : (P : Number → Type 0) (g : Game) (o q : Option Cut) → CutOf P true o (lefts g)
     → CutOf P false q (rights g) →
     (x : Number) → P x → FitsIn x g → IsTrue (in_gap o q x)
 fits-gap P g o q low high x r f =
-    and-both (not (below_some o x)) (not (above_some q x))
-    (ap not (below_some-in o x) ∙ sym (low.tells x r)
+    and-both (not (in_some true o x)) (not (in_some false q x))
+    (sym (low.tells x r)
     ∙ no_one-all (λ a. le (number x) a) (lefts g) (λ a m. false-from (le (number x) a) (f.above a m)))
-    (ap not (above_some-in q x) ∙ sym (high.tells x r)
+    (sym (high.tells x r)
     ∙ no_one-all (λ b. le b (number x)) (rights g) (λ b m. false-from (le b (number x)) (f.below b m)))
 
 -- the number of the gap none of whose options is there is the value

@@ -5,11 +5,11 @@ use Rattle.std.specs.Prelude.{Option, Some}
 use Rattle.cg_dyadic.specs.declared.cut.Cut.{Cut}
 use Rattle.cg_form.specs.declared.form.Form.{Form}
 use Rattle.cg_form.specs.declared.form.Form.TheVariants.{Num, Node}
-use Rattle.cg_dyadic.specs.Cut.{NoneBetween, SimplestBetween, in_gap}
+use Rattle.cg_dyadic.specs.Cut.{NoneBetween, SimplestBetween, in_gap, within_cut}
 use Rattle.cg_dyadic.specs.Number.{InRange, Number, whole}
 use Rattle.cg_dyadic.specs.Simplest.{NoOptionPasses}
 use Rattle.cg_dyadic.proofs.Values.{le_greatest, least_le}
-use Rattle.cg_form.specs.Cut.{CutIs, CutOf, Joined, Turned, other_cut, within_cut}
+use Rattle.cg_form.specs.Cut.{CutIs, CutOf, Joined, Turned, other_cut}
 use Rattle.cg_form.specs.Forms.{game_of, games_of}
 use Rattle.cg_form.specs.Game.{Game, lefts, node, number, rights}
 use Rattle.cg_form.specs.Order.{Equal, no_one}

@@ -2,7 +2,7 @@
 use Rattle.std.proofs.Common.{◌≡◌, refl, ℕ, ◌<◌, arith, zero, suc, ◌⊎◌, inl, inr, ap, sym, ◌∙◌, subst, List, [], ◌∷◌, Bool, true, false, not, ◌&&◌, IsTrue}
 use Rattle.std.specs.Prelude.{Some}
 use Rattle.cg_dyadic.specs.declared.cut.Cut.{Cut}
-use Rattle.cg_dyadic.specs.Cut.{is_above, is_below, is_between}
+use Rattle.cg_dyadic.specs.Cut.{is_between, within_cut}
 use Rattle.cg_dyadic.specs.Number.{Number, NumberLe, number_le, whole}
 use Rattle.cg_dyadic.proofs.Middle.{middle, middle_between}
 use Rattle.cg_dyadic.proofs.Truth.{and_swap, and-both, and-split, false-from, not_not_is, not_true, true-or-not}
@@ -20,11 +20,11 @@ use Rattle.cg_form.proofs.Size.{size-lefts, size-rights}
 
 -- ---- whether a gap has a number
 
-pub below_none : (p : Number) (c : Bool) (x : Number) → ¬ NumberLe x p → IsTrue (not (is_below p c x))
+pub below_none : (p : Number) (c : Bool) (x : Number) → ¬ NumberLe x p → IsTrue (not (within_cut true p c x))
 below_none p true x h = ap not (false-from (number_le x p) h)
 below_none p false x h = ap (λ b. not (not b)) (less-le x p h)
 
-pub above_none : (q : Number) (d : Bool) (x : Number) → ¬ NumberLe q x → IsTrue (not (is_above q d x))
+pub above_none : (q : Number) (d : Bool) (x : Number) → ¬ NumberLe q x → IsTrue (not (within_cut false q d x))
 above_none q true x h = ap not (false-from (number_le q x) h)
 above_none q false x h = ap (λ b. not (not b)) (less-le q x h)
 
@@ -37,7 +37,7 @@ gap_decide p q c d = elim (true-or-not (is_between p c q d p)) [
     | inr nq ↦ elim (true-or-not (is_between p c q d (middle p q))) [
       | inl t ↦ inl (middle p q, t)
       | inr nm ↦ inr (λ x. false-from (is_between p c q d x) (λ k.
-          let (a, b) = and-split (not (is_below p c x)) (not (is_above q d x)) k in
+          let (a, b) = and-split (not (within_cut true p c x)) (not (within_cut false q d x)) k in
           elim (true-or-not (number_le x p)) [
             | inl xp ↦ let P : Number → Type 0 = λ z. IsTrue (is_between p c q d z) in
                 np (subst P (number_le-same x p xp (from_below p c x a)) k)
@@ -46,7 +46,7 @@ gap_decide p q c d = elim (true-or-not (is_between p c q d p)) [
                   nq (subst P (number_le-same x q (from_above q d x b) qx) k)
               | inr qx ↦
                   let m = middle_between p q (λ l. xp (number_le-trans x q p (from_above q d x b) l)) in
-                  nm (and-both (not (is_below p c (middle p q))) (not (is_above q d (middle p q)))
+                  nm (and-both (not (within_cut true p c (middle p q))) (not (within_cut false q d (middle p q)))
                   (below_none p c (middle p q) m.0) (above_none q d (middle p q) m.1))
             ]
           ]))
@@ -54,11 +54,11 @@ gap_decide p q c d = elim (true-or-not (is_between p c q d p)) [
   ]
 ]
   where
-    from_below : (p : Number) (c : Bool) (x : Number) → IsTrue (not (is_below p c x)) → NumberLe p x
+    from_below : (p : Number) (c : Bool) (x : Number) → IsTrue (not (within_cut true p c x)) → NumberLe p x
     from_below p true x h = less-le x p (not_true (number_le x p) h)
     from_below p false x h = not_not_is (number_le p x) h
 
-    from_above : (q : Number) (d : Bool) (x : Number) → IsTrue (not (is_above q d x)) → NumberLe x q
+    from_above : (q : Number) (d : Bool) (x : Number) → IsTrue (not (within_cut false q d x)) → NumberLe x q
     from_above q true x h = less-le q x (not_true (number_le q x) h)
     from_above q false x h = not_not_is (number_le x q) h
 

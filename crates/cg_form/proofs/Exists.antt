@@ -213,11 +213,3 @@ canonical_exists_within (suc n) g s = elim (number-decide g) [
 
 pub canonical_exists : (g : Game) → (k : Game) × IsCanonicalForm g k
 canonical_exists g = canonical_exists_within (suc (size g)) g (omega arith)
-
--- the canonical form of g, as a function
-pub can : Game → Game
-can g = (canonical_exists g).0
-
-pub can-is : (g : Game) → IsCanonicalForm g (can g)
-unfolding can
-can-is g = (canonical_exists g).1

@@ -4,12 +4,13 @@ use Rattle.std.proofs.lemmas.Int.{ints}
 use Rattle.cg_dyadic.specs.Units.{units}
 use Rattle.cg_dyadic.proofs.Integers.{le_or_lt}
 use Rattle.cg_dyadic.proofs.Scale.{units-suc}
+use Rattle.cg_form.specs.Cooling.{Cool, Steps}
 use Rattle.cg_form.specs.Game.{Among, Game, lefts, number, options, rights}
 use Rattle.cg_form.specs.Heights.{height}
 use Rattle.cg_form.specs.Simple.{Decided, Decides, NoNumber}
 use Rattle.cg_form.specs.Size.{size}
 use Rattle.cg_form.specs.Walls.{AtNext, Walls, cooled, scaffold, scaffold_of, walls, walls_by, walls_within}
-use Rattle.cg_form.proofs.Cooled.{Cool, Steps, cooled-ordered, ordered_along, stays, steps_along, uncrossed}
+use Rattle.cg_form.proofs.Cooled.{cooled-ordered, ordered_along, stays, steps_along, uncrossed}
 use Rattle.cg_form.proofs.Greatest.{greatest_sum, least_sum}
 use Rattle.cg_form.proofs.Heights.{height-left, height-right, not_number, number-low}
 use Rattle.cg_form.proofs.Size.{size-lefts, size-rights}
@@ -115,7 +116,7 @@ scaffold-finer w x g st l r = record {
 
 -- ---- no jump
 
-even_or_odd : (t : ℕ) → ((u : ℕ) × (t ≡ twice u)) ⊎ ((u : ℕ) × (t ≡ suc (twice u)))
+pub even_or_odd : (t : ℕ) → ((u : ℕ) × (t ≡ twice u)) ⊎ ((u : ℕ) × (t ≡ suc (twice u)))
 even_or_odd zero = inl (zero, refl)
 even_or_odd (suc t) = elim (even_or_odd t) [
   | inl w ↦ inr (w.0, ap suc w.1)

@@ -19,6 +19,7 @@ pub mod Best
 pub mod Reduced
 pub mod Bypass
 pub mod Unique
+pub mod CanonicalOptions
 pub mod Exists
 pub mod Removed
 pub mod SumNumbers
@@ -35,8 +36,12 @@ pub mod WallStart
 pub mod Finer
 pub mod WallOrder
 pub mod Temperature
+pub mod Thermal
 pub mod FormLists
 pub mod Depth
+pub mod Extended
+pub mod Once
+pub mod AllPositions
 pub mod CutSteps
 pub mod LeSteps
 pub mod CompareSteps
@@ -45,4 +50,3 @@ pub mod BestSteps
 pub mod KnownSteps
 pub mod EqualGames
 pub mod NumberOptions
-pub mod Totals

@@ -1,11 +1,12 @@
 -- A game whose options all equal numbers, the Left ones less than the Right ones, equals a number.
 use Rattle.std.proofs.Common.{◌≡◌, refl, inl, inr, Bool, true, false, List, [], ◌∷◌, subst, sym}
+use Rattle.cg_dyadic.specs.Cut.{number_at_most}
 use Rattle.cg_dyadic.specs.Number.{Number, NumberLe, whole}
 use Rattle.cg_dyadic.proofs.Middle.{middle, middle_between}
 use Rattle.cg_dyadic.proofs.Truth.{true-or-not}
 use Rattle.cg_form.specs.Game.{Among, Game, lefts, number, rights}
 use Rattle.cg_form.specs.Order.{Equal, Le}
-use Rattle.cg_form.specs.Side.{AtMost, number_at_most}
+use Rattle.cg_form.specs.Side.{AtMost}
 use Rattle.cg_form.specs.Simple.{FitsIn}
 use Rattle.cg_form.proofs.Among.{carry}
 use Rattle.cg_form.proofs.Integers.{no_lefts-integer, no_rights-integer}

@@ -1,10 +1,11 @@
 -- The order as either side sees it.
 use Rattle.std.proofs.Common.{◌≡◌, refl, ◌<◌, ◌⊎◌, inl, inr, sym, subst, List, Bool, true, false, not, IsTrue}
+use Rattle.cg_dyadic.specs.Cut.{number_at_most}
 use Rattle.cg_dyadic.specs.Number.{Number, number_lefts, number_rights}
 use Rattle.cg_dyadic.proofs.Values.{left-le_number, less-le, number_le-trans, right-le_number}
 use Rattle.cg_form.specs.Game.{Among, Game, node, number}
 use Rattle.cg_form.specs.Order.{Equal, Le}
-use Rattle.cg_form.specs.Side.{AtMost, at_most, chosen, far, near, number_at_most}
+use Rattle.cg_form.specs.Side.{AtMost, at_most, chosen, far, near}
 use Rattle.cg_form.specs.Simple.{FitsIn, NoNumber}
 use Rattle.cg_form.specs.Size.{size}
 use Rattle.cg_form.proofs.Among.{among-map, lefts-node, rights-node}

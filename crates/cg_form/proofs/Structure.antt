@@ -1,5 +1,5 @@
 -- The structural order is strict and total.
-use Rattle.std.proofs.Common.{◌≡◌, refl, ◌⊎◌, inl, inr, ap, sym, ◌∙◌, subst, List, [], ◌∷◌}
+use Rattle.std.proofs.Common.{◌≡◌, refl, ◌⊎◌, inl, inr, ap, sym, ◌∙◌, subst, List, [], ◌∷◌, true, IsTrue, rules}
 use Rattle.std.specs.declared.cmp.Ordering.{Ordering}
 use Rattle.std.specs.declared.cmp.Ordering.TheVariants.{Less, Equal, Greater}
 use Rattle.cg_dyadic.specs.Number.{Number, NumberLe, number_cmp, number_le}
@@ -8,7 +8,7 @@ use Rattle.cg_dyadic.proofs.Truth.{false-from, true-or-not}
 use Rattle.cg_dyadic.proofs.Values.{less-le, number_le-trans}
 use Rattle.cg_form.specs.Game.{Among, Game, Games, more, none, number, options}
 use Rattle.cg_form.specs.Order.{le}
-use Rattle.cg_form.specs.Structure.{Before, Rises, and_then, game_cmp, list_cmp}
+use Rattle.cg_form.specs.Structure.{Before, Rises, and_then, game_cmp, is_equal, is_same, list_cmp}
 
 less_equal : Less ≡ Equal → ⊥
 less_equal e = cc
@@ -216,3 +216,19 @@ before-turned g h b = by (game_cmp h g) refl
     by Less e = absurd (before_not_after g h b e)
     by Equal e = absurd (before_not_same g h b (sym (game_cmp-same h g e)))
     by Greater e = refl
+
+-- ---- one tree
+
+is_equal-back : (o : Ordering) → IsTrue (is_equal o) → o ≡ Equal
+is_equal-back Less h = absurd (search (rules, h))
+is_equal-back Equal h = refl
+is_equal-back Greater h = absurd (search (rules, h))
+
+pub is_same-back : (g h : Game) → IsTrue (is_same g h) → g ≡ h
+is_same-back g h t = game_cmp-same g h (is_equal-back (game_cmp g h) t)
+
+pub is_same-refl : (g : Game) → is_same g g ≡ true
+is_same-refl g = ap is_equal (game_cmp-refl g)
+
+pub is_same-both : (g h : Game) → (is_same g h ≡ true → g ≡ h) × (g ≡ h → is_same g h ≡ true)
+is_same-both g h = (is_same-back g h, λ e. subst (λ k. is_same g k ≡ true) e (is_same-refl g))

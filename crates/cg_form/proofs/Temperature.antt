@@ -1,13 +1,14 @@
--- A game that equals no number has a temperature and a mean, and equal games have equal ones.
+-- A game that equals no number has a temperature, and equal games have equal ones.
 use Rattle.std.proofs.Common.{◌≡◌, ℕ, ◌+◌, ◌-◌, ◌<◌, ◌≤◌, arith, zero, suc, ◌⊎◌, inl, inr, ap, sym, ◌∙◌, subst, map, unsigned_abs, ℤ, ◌≤ℤ◌, ◌<ℤ◌}
 use Rattle.std.proofs.lemmas.Int.{ints}
 use Rattle.cg_dyadic.proofs.Integers.{abs_tells, le_or_lt}
+use Rattle.cg_form.specs.Cooling.{Cool}
 use Rattle.cg_form.specs.Game.{Game, lefts, rights}
 use Rattle.cg_form.specs.Heights.{height}
 use Rattle.cg_form.specs.Order.{Equal}
 use Rattle.cg_form.specs.Simple.{Decides, NoNumber}
-use Rattle.cg_form.specs.Walls.{MeanIs, TemperatureIs, Walls, cooled, greatest, least, scaffold_of, walls}
-use Rattle.cg_form.proofs.Cooled.{Cool, frozen_along, meet, stays, uncrossed, walls_same}
+use Rattle.cg_form.specs.Walls.{TemperatureIs, Walls, cooled, greatest, least, scaffold_of, walls}
+use Rattle.cg_form.proofs.Cooled.{frozen_along, meet, stays, uncrossed, walls_same}
 use Rattle.cg_form.proofs.Finer.{cool, walls-ordered}
 use Rattle.cg_form.proofs.Greatest.{at_greatest, at_least, greatest_below, least_above}
 use Rattle.cg_form.proofs.Heights.{height-left, height-right}
@@ -201,7 +202,7 @@ temperature-equal d s g h p q n m e t x =
     record { agree = j.agree; before = j.before }
 
 -- the value at which the scaffolds agree
-meeting-equal : (d : Decides) (s : ℕ) (g h : Game) → height g ≤ s → height h ≤ s → NoNumber g → NoNumber h → Equal g h
+pub meeting-equal : (d : Decides) (s : ℕ) (g h : Game) → height g ≤ s → height h ≤ s → NoNumber g → NoNumber h → Equal g h
     → (t : ℕ) → TemperatureIs d s g t → (scaffold_of d s g t).left ≡ (scaffold_of d s h t).left
 meeting-equal d s g h p q n m e t x =
     let f : ℕ → Walls = scaffold_of d s g in
@@ -211,11 +212,3 @@ meeting-equal d s g h p q n m e t x =
     let u = uncrossed f t (omega (arith, ints)) in let v = uncrossed k t (omega (arith, ints)) in
     let i : f t ≡ k t = sym u ∙ sym (walls-none d s t g n) ∙ walls-equal d s g h p q e t ∙ walls-none d s t h m ∙ v in
     ap (λ (z : Walls). z.left) i
-
-pub mean-equal : (d : Decides) (s : ℕ) (g h : Game) (m : ℤ) → height g ≤ s → height h ≤ s → NoNumber g → NoNumber h
-    → Equal g h → MeanIs d s g m → MeanIs d s h m
-mean-equal d s g h m p q n k e x = record {
-  at = x.at;
-  temperature = temperature-equal d s g h p q n k e x.at x.temperature;
-  value = sym (meeting-equal d s g h p q n k e x.at x.temperature) ∙ x.value;
-}

@@ -4,13 +4,14 @@ use Rattle.std.proofs.Common.{◌≡◌, refl, ℕ, ◌<◌, arith, zero, suc, i
 use Rattle.std.proofs.lemmas.Int.{ints}
 use Rattle.cg_dyadic.specs.Number.{Number}
 use Rattle.cg_dyadic.specs.Units.{units}
+use Rattle.cg_form.specs.Cooling.{Steps}
 use Rattle.cg_form.specs.Game.{Among, Game, lefts, number, rights}
 use Rattle.cg_form.specs.Order.{Equal}
 use Rattle.cg_form.specs.Simple.{Decided, Decides, NoNumber}
 use Rattle.cg_form.specs.Size.{size}
 use Rattle.cg_form.specs.Walls.{Walls, cooled, greatest, least, scaffold, scaffold_of, walls, walls_by, walls_within}
 use Rattle.cg_form.proofs.Among.{map-agree}
-use Rattle.cg_form.proofs.Cooled.{Steps, cooled-agree, cooled-steps, still, walls_same}
+use Rattle.cg_form.proofs.Cooled.{cooled-agree, cooled-steps, still, walls_same}
 use Rattle.cg_form.proofs.Greatest.{greatest_up, least_down}
 use Rattle.cg_form.proofs.Simplicity.{one_number}
 use Rattle.cg_form.proofs.Size.{size-lefts, size-rights}

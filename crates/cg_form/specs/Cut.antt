@@ -1,23 +1,11 @@
 -- The cuts that a game makes among the numbers: those that are at most the game, and those that are at least the game.
-use Rattle.std.specs.Prelude.{Bool, true, false, not, ◌||◌, ◌≡◌, List, Option, Some, None}
+use Rattle.std.specs.Prelude.{Bool, true, false, not, ◌||◌, ◌≡◌, List, Option}
 use Rattle.cg_dyadic.specs.declared.cut.Cut.{Cut}
+use Rattle.cg_dyadic.specs.Cut.{in_cut, in_some, number_at_most, within_cut}
 use Rattle.cg_dyadic.specs.Number.{Number}
 use Rattle.cg_form.specs.Game.{Game, number}
 use Rattle.cg_form.specs.Order.{no_one}
-use Rattle.cg_form.specs.Side.{at_most, number_at_most}
-
--- x is no better than p as the side sees it, and is not p where the cut is open
-abbrev pub within_cut : Bool → Number → Bool → Number → Bool
-within_cut s p true x = number_at_most s x p
-within_cut s p false x = not (number_at_most s p x)
-
-abbrev pub in_cut : Bool → Cut → Number → Bool
-in_cut s c x = within_cut s c.at c.closed x
-
--- where there is no cut, no number is in it
-abbrev pub in_some : Bool → Option Cut → Number → Bool
-in_some s None x = false
-in_some s (Some c) x = in_cut s c x
+use Rattle.cg_form.specs.Side.{at_most}
 
 abbrev pub AnyNumber : Number → Type 0
 AnyNumber x = Unit {0}

@@ -35,6 +35,11 @@ abbrev pub rights : Game → List Game
 rights (number x) = map number (number_rights x)
 rights (options ls rs) = to_list rs
 
+-- the game isn't written as a number
+abbrev pub IsNode : Game → Type 0
+IsNode (number x) = ⊥
+IsNode (options ls rs) = Unit {0}
+
 -- g is one of the list
 abbrev pub Among : Game → List Game → Type 0
 Among g [] = ⊥

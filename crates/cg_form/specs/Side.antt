@@ -1,7 +1,6 @@
 -- The two sides of a game. What is said of Left holds of Right with the order turned, so one text serves both: with
 -- `true` it speaks of Left's options, with `false` of Right's.
-use Rattle.std.specs.Prelude.{Bool, true, false, cond, IsTrue, List}
-use Rattle.cg_dyadic.specs.Number.{Number, number_le}
+use Rattle.std.specs.Prelude.{Bool, true, false, if◌then◌else◌, IsTrue, List}
 use Rattle.cg_form.specs.Game.{Game, lefts, rights}
 use Rattle.cg_form.specs.Order.{le}
 
@@ -22,10 +21,6 @@ at_most false a b = le b a
 abbrev pub AtMost : Bool → Game → Game → Type 0
 AtMost s a b = IsTrue (at_most s a b)
 
-abbrev pub number_at_most : Bool → Number → Number → Bool
-number_at_most true x y = number_le x y
-number_at_most false x y = number_le y x
-
 -- the side's own of two lists
 abbrev pub chosen : Bool → List Game → List Game → List Game
-chosen s ls rs = cond s ls rs
+chosen s ls rs = if s then ls else rs

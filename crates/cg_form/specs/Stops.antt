@@ -1,7 +1,7 @@
 -- Stops: the numbers that alternating play reaches when each player plays for the best, with Left or Right to begin.
 -- Siegel, Combinatorial Game Theory (2013), II.3: Left and Right stops. The law function `l6` states their rule as it
 -- stands here; the bound below only makes the recursion end.
-use Rattle.std.specs.Prelude.{ℕ, zero, suc, List, [], ◌∷◌, map, cond, pos}
+use Rattle.std.specs.Prelude.{ℕ, zero, suc, List, [], ◌∷◌, map, if◌then◌else◌, pos}
 use mathlib.Core.Logic.{inl, inr}
 use Rattle.cg_dyadic.specs.Number.{Number, number_le, whole}
 use Rattle.cg_form.specs.Game.{Game, lefts, rights}
@@ -14,7 +14,7 @@ pub record Stops : Type 0 where
 
 -- the greatest and the least of a list, which are asked only of lists that are not empty
 abbrev pub greater_number : Number → Number → Number
-greater_number x y = cond (number_le x y) y x
+greater_number x y = if number_le x y then y else x
 
 abbrev pub greatest_number : List Number → Number
 greatest_number [] = whole (pos 0)
@@ -22,7 +22,7 @@ greatest_number (x ∷ []) = x
 greatest_number (x ∷ (y ∷ ys)) = greater_number x (greatest_number (y ∷ ys))
 
 abbrev pub less_number : Number → Number → Number
-less_number x y = cond (number_le x y) x y
+less_number x y = if number_le x y then x else y
 
 abbrev pub least_number : List Number → Number
 least_number [] = whole (pos 0)

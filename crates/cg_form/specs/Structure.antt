@@ -1,6 +1,6 @@
 -- The structural order of games: numbers first, by value; other games by their lists of Left options, then by their
 -- lists of Right options. Lists are compared entry by entry, and a proper prefix comes first.
-use Rattle.std.specs.Prelude.{◌≡◌, List, [], ◌∷◌}
+use Rattle.std.specs.Prelude.{◌≡◌, Bool, true, false, List, [], ◌∷◌}
 use Rattle.std.specs.declared.cmp.Ordering.{Ordering}
 use Rattle.std.specs.declared.cmp.Ordering.TheVariants.{Less, Equal, Greater}
 use Rattle.cg_dyadic.specs.Number.{number_cmp}
@@ -28,6 +28,15 @@ abbrev mutual
 -- lists of options, in the same way
 abbrev pub order_of_lists : List Game → List Game → Ordering
 order_of_lists gs hs = list_cmp (of_list gs) (of_list hs)
+
+abbrev pub is_equal : Ordering → Bool
+is_equal Less = false
+is_equal Equal = true
+is_equal Greater = false
+
+-- whether the games are one tree; the law function `structure` says that it is just that
+abbrev pub is_same : Game → Game → Bool
+is_same g h = is_equal (game_cmp g h)
 
 abbrev pub Before : Game → Game → Type 0
 Before g h = game_cmp g h ≡ Less

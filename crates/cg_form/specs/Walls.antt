@@ -3,12 +3,15 @@
 -- Siegel, Combinatorial Game Theory (2013), II.5: scaffolds, walls, temperature and mean. The law function `l7` states
 -- the rule of the walls as it stands here, and that they are the scaffolds up to the temperature and the mast above it;
 -- the bound below only makes the recursion end.
-use Rattle.std.specs.Prelude.{ℕ, zero, suc, ◌≡◌, ◌<◌, List, [], ◌∷◌, map, cond, ℤ, pos, ◌+ℤ◌, ◌-ℤ◌}
+use Rattle.std.specs.Prelude.{ℕ, zero, suc, ◌≡◌, ◌<◌, ◌≤◌, List, [], ◌∷◌, map, if◌then◌else◌, ℤ, pos, negsuc, ◌+ℤ◌, ◌-ℤ◌}
 use lib.Signed.{le_z}
 use mathlib.Core.Logic.{inl, inr}
+use Rattle.cg_dyadic.specs.Number.{Number, exp_of, ratio}
 use Rattle.cg_dyadic.specs.Units.{units}
-use Rattle.cg_form.specs.Game.{Game, lefts, rights}
-use Rattle.cg_form.specs.Simple.{Decided, Decides}
+use Rattle.cg_form.specs.Game.{Game, lefts, number, rights}
+use Rattle.cg_form.specs.Heights.{height}
+use Rattle.cg_form.specs.Order.{Equal}
+use Rattle.cg_form.specs.Simple.{Decided, Decides, NoNumber}
 use Rattle.cg_form.specs.Size.{size}
 
 -- ---- walls
@@ -19,7 +22,7 @@ pub record Walls : Type 0 where
 
 -- the greatest and the least of a list, which are asked only of lists that are not empty
 abbrev pub greater : ℤ → ℤ → ℤ
-greater a b = cond (le_z a b) b a
+greater a b = if le_z a b then b else a
 
 abbrev pub greatest : List ℤ → ℤ
 greatest [] = pos 0
@@ -27,7 +30,7 @@ greatest (x ∷ []) = x
 greatest (x ∷ (y ∷ ys)) = greater x (greatest (y ∷ ys))
 
 abbrev pub less : ℤ → ℤ → ℤ
-less a b = cond (le_z a b) a b
+less a b = if le_z a b then a else b
 
 abbrev pub least : List ℤ → ℤ
 least [] = pos 0
@@ -45,7 +48,7 @@ scaffold w g t = record {
 -- the scaffolds f at t while the left one is at least the right one, and from there on what they were last
 abbrev pub cooled : (ℕ → Walls) → ℕ → Walls
 cooled f zero = f zero
-cooled f (suc t) = cond (le_z (f (suc t)).right (f (suc t)).left) (f (suc t)) (cooled f t)
+cooled f (suc t) = if le_z (f (suc t)).right (f (suc t)).left then f (suc t) else cooled f t
 
 -- both walls are the number that the game equals, or else the cooled scaffolds
 abbrev pub walls_by : (g : Game) → Decided g → ℕ → (ℕ → Walls) → ℕ → Walls
@@ -64,22 +67,24 @@ walls d s t g = walls_within d (suc (size g)) s t g
 abbrev pub scaffold_of : Decides → ℕ → Game → ℕ → Walls
 scaffold_of d s g t = scaffold (walls d s) g t
 
--- ---- temperature and mean of a game that equals no number
+-- ---- temperature and mean
 
--- the temperature is t, the least at which the scaffolds agree
+-- the temperature of a game that equals no number is t, the least at which the scaffolds agree
 pub record TemperatureIs (d : Decides) (s : ℕ) (g : Game) (t : ℕ) : Type 0 where
   pub agree : (scaffold_of d s g t).left ≡ (scaffold_of d s g t).right
   pub before : (u : ℕ) → u < t → ¬ ((scaffold_of d s g u).left ≡ (scaffold_of d s g u).right)
 
--- the mean is m, the value of the scaffolds at the temperature
-pub record MeanIs (d : Decides) (s : ℕ) (g : Game) (m : ℤ) : Type 0 where
-  pub at : ℕ
-  pub temperature : TemperatureIs d s g at
-  pub value : (scaffold_of d s g at).left ≡ m
+-- the mean and the temperature of g as numbers. The mean of a number is the number, and its temperature is -1 / 2 ^ k,
+-- where its denominator is 2 ^ k; the mean of another game is the value of the scaffolds at its temperature.
+pub record IsThermal (g : Game) (mean temp : Number) : Type 0 where
+  pub number : (x : Number) → Equal (number x) g → (mean ≡ x) × (temp ≡ ratio (negsuc 0) (exp_of x))
+  pub other : NoNumber g → (d : Decides) (s t : ℕ) → height g ≤ s → TemperatureIs d s g t
+      → (mean ≡ ratio (scaffold_of d s g t).left s) × (temp ≡ ratio (pos t) s)
 
 -- ---- a finer scale
 
--- v is twice x, and w is x and y together
+-- at the next finer scale the walls at 2 t are v and those at 2 t + 1 are w, where at t they are x and at t + 1 y: in
+-- units of half the size v is twice x, and w is the sum of x and y
 pub record AtNext (v w x y : Walls) : Type 0 where
   pub even_left : v.left ≡ x.left +ℤ x.left
   pub even_right : v.right ≡ x.right +ℤ x.right

@@ -1,7 +1,8 @@
 //! Cuts of the numbers, as a player sees them.
 ghost use Rattle.std.specs.Prelude.{◌≡◌, [], Some};
+ghost use Rattle.cg_dyadic.specs.Cut.{in_cut};
 ghost use Rattle.cg_dyadic.specs.Number.{InRange};
-ghost use Rattle.cg_form.specs.Cut.{in_cut, covers, other_cut, Joined, Turned, CutOf};
+ghost use Rattle.cg_form.specs.Cut.{covers, other_cut, Joined, Turned, CutOf};
 
 use crate::player::number_at_most;
 use cg_dyadic::Dyadic;

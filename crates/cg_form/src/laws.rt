@@ -3,24 +3,26 @@
 //! `order`, `sums` and `play` state the definitions of specs/ by their options, in the textbook's
 //! words and both ways, so that nobody has to believe the bounds by which those definitions
 //! recurse.
-ghost use Rattle.std.specs.Prelude.{◌↔◌, ◌≡◌, ◌⊎◌, ◌++◌, ◌∷◌, [], IsTrue, List, map};
+ghost use Rattle.std.specs.Prelude.{◌↔◌, ◌≡◌, ◌⊎◌, ◌++◌, ◌∷◌, [], IsTrue, List, map, true};
 ghost use Rattle.std.specs.Prelude.{ℕ, ◌+◌, ◌*◌, ◌≤◌, ℤ, pos, ◌≤ℤ◌, ◌+ℤ◌, ◌-ℤ◌};
 ghost use Rattle.cg_dyadic.specs.Number.{Number, NumberLe, exp_of, whole};
 ghost use Rattle.cg_dyadic.specs.Exact.{IsSum};
 ghost use Rattle.cg_dyadic.specs.Units.{units};
-ghost use Rattle.cg_form.specs.Game.{Game, number, node, Among, lefts, rights};
+ghost use Rattle.cg_form.specs.Game.{Game, number, node, Among, IsNode, lefts, rights};
 ghost use Rattle.cg_form.specs.Order.{Le, Equal};
-ghost use Rattle.cg_form.specs.Structure.{Before, game_cmp};
+ghost use Rattle.cg_form.specs.Structure.{Before, game_cmp, is_same};
 ghost use Rattle.cg_form.specs.Sum.{sum, negative, nothing};
 ghost use Rattle.cg_form.specs.Play.{left_survives, right_survives};
 ghost use Rattle.cg_form.specs.Outcome.{left_wins, right_wins, previous_wins, next_wins, outcome};
 ghost use Rattle.cg_form.specs.Simple.{FitsIn, NoNumber, SimplestValue, Decided, Decides};
 ghost use Rattle.cg_form.specs.Translate.{translated};
 ghost use Rattle.cg_form.specs.Canonical.{Canonical, IsCanonicalForm, LeftAbove, RightBelow};
+ghost use Rattle.cg_form.specs.Canonical.{LeftDominated, LeftReversible, RightDominated, RightReversible};
+ghost use Rattle.cg_form.specs.Positions.{EachOnce, all_positions, positions_of};
 ghost use Rattle.cg_form.specs.Shifted.{number_sum, shifted};
 ghost use Rattle.cg_form.specs.Stops.{stops, stops_by, greatest_number, least_number};
 ghost use Rattle.cg_form.specs.Heights.{height};
-ghost use Rattle.cg_form.specs.Walls.{walls, walls_by, scaffold_of, TemperatureIs, MeanIs, AtNext};
+ghost use Rattle.cg_form.specs.Walls.{walls, walls_by, scaffold_of, TemperatureIs, IsThermal, AtNext};
 
 use std::cmp::Ordering;
 
@@ -43,11 +45,12 @@ pub fn order()
 {}
 
 /// The structural order is a strict total order of trees: of two different ones, one comes before
-/// the other.
+/// the other. `is_same` tests whether two games are one tree.
 pub fn structure()
     ensures same { (g h : Game) → (game_cmp g h ≡ Ordering.Equal) ↔ (g ≡ h) }
     ensures turned { (g h : Game) → (game_cmp g h ≡ Ordering.Greater) ↔ Before h g }
     ensures transitive { (g h k : Game) → Before g h → Before h k → Before g k }
+    ensures one_tree { (g h : Game) → (is_same g h ≡ true) ↔ (g ≡ h) }
 {}
 
 /// Sums and negatives by the options, and that up to equality sums commute, associate and have 0 as
@@ -112,12 +115,17 @@ pub fn l4()
     ensures shifted_form { (x : Number) (g : Game) → Canonical g → IsCanonicalForm (sum (number x) g) (shifted x g) }
 {}
 
-/// Canonical forms: every game equals exactly one. Removing a dominated option and bypassing a
-/// reversible one keep the value. Where a game equals no number and an option is reversible through
+/// Canonical forms: every game equals exactly one, and no option of it is dominated or reversible;
+/// those of a number aren't, either. Removing a dominated option and bypassing a reversible one
+/// keep the value. Where a game equals no number and an option is reversible through
 /// a number, another option is as good as that number, and so dominates what the bypass brings in.
 pub fn l5()
     ensures exists { (g : Game) → (k : Game) × IsCanonicalForm g k }
     ensures unique { (g h k : Game) → IsCanonicalForm g h → IsCanonicalForm g k → h ≡ k }
+    ensures left_undominated { (k a : Game) → Canonical k → Among a (lefts k) → ¬ LeftDominated k a }
+    ensures right_undominated { (k a : Game) → Canonical k → Among a (rights k) → ¬ RightDominated k a }
+    ensures left_irreversible { (k a : Game) → Canonical k → Among a (lefts k) → ¬ LeftReversible k a }
+    ensures right_irreversible { (k a : Game) → Canonical k → Among a (rights k) → ¬ RightReversible k a }
     ensures left_dominated { (us vs rs : List Game) (a b : Game) → Among b (us ++ vs) → Le a b
         → Equal (node (us ++ (a ∷ vs)) rs) (node (us ++ vs) rs) }
     ensures right_dominated { (ls us vs : List Game) (a b : Game) → Among b (us ++ vs) → Le b a
@@ -130,6 +138,20 @@ pub fn l5()
         → Among (number x) (rights a) → Le (number x) g → LeftAbove g a x }
     ensures right_through_number { (g a : Game) (x : Number) → NoNumber g → Among a (rights g)
         → Among (number x) (lefts a) → Le g (number x) → RightBelow g a x }
+{}
+
+/// A number has no positions but itself. `is_same` tests whether two games are one tree. Of any game, the positions are those
+/// that play can come to, each once; the game itself is the last; the options of a position that isn't a number stand before
+/// it; and those of a canonical game are canonical.
+pub fn position_lists()
+    ensures number { (x : Number) → positions_of (number x) ≡ number x ∷ [] }
+    ensures same { (g h : Game) → (is_same g h ≡ true) ↔ (g ≡ h) }
+    ensures members { (g k : Game) → Among k (positions_of g) ↔ Among k (all_positions g) }
+    ensures once { (g : Game) → EachOnce (positions_of g) }
+    ensures last { (g : Game) → (front : List Game) × (positions_of g ≡ front ++ (g ∷ [])) }
+    ensures options_first { (g : Game) (front : List Game) (f : Game) (back : List Game)
+        → positions_of g ≡ front ++ (f ∷ back) → IsNode f → (a : Game) → Among a (lefts f) ⊎ Among a (rights f) → Among a front }
+    ensures canonical { (g k : Game) → Canonical g → Among k (positions_of g) → Canonical k }
 {}
 
 /// Stops by the options: both stops of a game are the number that it equals; where it equals none,
@@ -168,7 +190,10 @@ pub fn l6()
 /// at t and t + 1, so no wall bends between whole units.
 ///
 /// If G >= H, each wall of G is at least that of H; if not G <= H, the left wall of G is at least
-/// the right wall of H less t. Equal games have equal walls, temperatures and means.
+/// the right wall of H less t.
+///
+/// Each game, numbers included, has one mean and one temperature, which need no more binary places
+/// than the height. Equal games have equal walls, temperatures and means.
 pub fn l7()
     ensures options { (d : Decides) (s t : ℕ) (g : Game) → walls d s t g ≡ walls_by g (d g) s (scaffold_of d s g) t }
     ensures unique { (d e : Decides) (s t : ℕ) (g : Game) → walls d s t g ≡ walls e s t g }
@@ -203,6 +228,11 @@ pub fn l7()
         → (t : ℕ) → walls d s t g ≡ walls d s t h }
     ensures equal_temperature { (d : Decides) (s : ℕ) (g h : Game) → height g ≤ s → height h ≤ s
         → NoNumber g → NoNumber h → Equal g h → (t : ℕ) → TemperatureIs d s g t → TemperatureIs d s h t }
-    ensures equal_mean { (d : Decides) (s : ℕ) (g h : Game) (m : ℤ) → height g ≤ s → height h ≤ s
-        → NoNumber g → NoNumber h → Equal g h → MeanIs d s g m → MeanIs d s h m }
+    ensures thermal { (g : Game) → (mean : Number) × (temp : Number) × IsThermal g mean temp }
+    ensures one_thermal { (g : Game) (mean temp m t : Number) → IsThermal g mean temp → IsThermal g m t
+        → (mean ≡ m) × (temp ≡ t) }
+    ensures equal_thermal { (g h : Game) (mean temp : Number) → Equal g h → IsThermal g mean temp
+        → IsThermal h mean temp }
+    ensures thermal_places { (g : Game) (mean temp : Number) → IsThermal g mean temp
+        → (exp_of mean ≤ height g) × (exp_of temp ≤ height g) }
 {}

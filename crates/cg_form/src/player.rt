@@ -1,9 +1,10 @@
 //! What serves both players: with `left` it speaks of Left's options, and else of Right's with the
 //! order turned.
 ghost use Rattle.std.specs.Prelude.{◌≡◌};
+ghost use Rattle.cg_dyadic.specs.Cut.{number_at_most};
 ghost use Rattle.cg_dyadic.specs.Number.{InRange};
 ghost use Rattle.cg_form.specs.Forms.{game_of};
-ghost use Rattle.cg_form.specs.Side.{at_most, number_at_most, chosen};
+ghost use Rattle.cg_form.specs.Side.{at_most, chosen};
 
 use crate::form::{Form, Options};
 use crate::slow::le_slow;

@@ -1,7 +1,8 @@
 -- The points at which a wall bends are its corners.
-use Rattle.std.proofs.Common.{◌≡◌, refl, ℕ, ◌+◌, ◌-◌, ◌<◌, ◌≤◌, arith, zero, suc, ap, sym, ◌∙◌, Bool, true, false, not, cond, List, [], ◌∷◌, ◌++◌, drop, ℤ, pos, ◌-ℤ◌, ◌≤ℤ◌}
+use Rattle.std.proofs.Common.{◌≡◌, refl, ℕ, ◌+◌, ◌-◌, ◌<◌, ◌≤◌, arith, zero, suc, ap, sym, ◌∙◌, Bool, true, false, not, cond, List, [], ◌∷◌, ◌++◌, drop, ℤ, pos, ◌-ℤ◌}
 use Rattle.std.proofs.lemmas.Int.{ints}
-use lib.Signed.{le_z}
+use Rattle.std.proofs.lemmas.Bool.Decides.{Decides-int_eq}
+use Rattle.std.specs.Ordering.{int_eq}
 use Rattle.cg_lines.specs.declared.TheConstants.{END}
 use Rattle.cg_lines.specs.declared.bends.Point.{Point}
 use Rattle.cg_lines.specs.declared.place.Place.{Place}
@@ -15,39 +16,23 @@ use Rattle.cg_lines.proofs.Walking.{at-steady, before, first-after, next-after}
 
 -- ---- straight and bent
 
-straight_by : (x y : ℤ) → x ≡ y → cond (le_z y x) (le_z x y) false ≡ true
-straight_by x y e = let k = le_self x in ap (λ z. cond (le_z z x) (le_z x z) false) (sym e) ∙ ap (λ b. cond b b false) k
-  where
-    le_self : (x : ℤ) → le_z x x ≡ true
-    le_self x = grind (arith, ints)
-
-bent_by : (x y : ℤ) → (x ≡ y → ⊥) → cond (le_z y x) (le_z x y) false ≡ false
-bent_by x y n = cases (le_z y x) (le_z x y) refl refl
-  where
-    both : le_z y x ≡ true → le_z x y ≡ true → x ≡ y
-    both h k = same x y (from_le_z x y k) (from_le_z y x h)
-      where
-        same : (a b : ℤ) → a ≤ℤ b → b ≤ℤ a → a ≡ b
-        same a b h k = omega (arith, ints)
-
-        from_le_z : (a b : ℤ) → le_z a b ≡ true → a ≤ℤ b
-        from_le_z a b h = grind (arith, ints)
-
-    cases : (b c : Bool) → le_z y x ≡ b → le_z x y ≡ c → cond b c false ≡ false
-    cases true true h k = absurd (n (both h k))
-    cases true false h k = refl
-    cases false c h k = refl
-
 slope : (r : Rise) (t : ℕ) → value_at r (suc t) -ℤ value_at r t ≡ step (rises_of r t)
 slope r t = let v = value-suc r t in omega (arith, ints)
 
 goes_on : (r : Rise) (t : ℕ) → rises_of r t ≡ rises_of r (suc t) → straight (value_at r) t ≡ true
-goes_on r t e = straight_by (value_at r (suc t) -ℤ value_at r t) (value_at r (suc (suc t)) -ℤ value_at r (suc t))
-    (slope r t ∙ ap step e ∙ sym (slope r (suc t)))
+goes_on r t e = (Decides-int_eq (value_at r (suc (suc t)) -ℤ value_at r (suc t)) (value_at r (suc t) -ℤ value_at r t)).1
+    (slope r (suc t) ∙ ap step (sym e) ∙ sym (slope r t))
+
+bent_by : (x y : ℤ) → (x ≡ y → ⊥) → int_eq x y ≡ false
+bent_by x y n = cases (int_eq x y) refl
+  where
+    cases : (b : Bool) → int_eq x y ≡ b → b ≡ false
+    cases true e = absurd (n ((Decides-int_eq x y).0 e))
+    cases false e = refl
 
 bends : (r : Rise) (t : ℕ) (b : Bool) → rises_of r t ≡ b → rises_of r (suc t) ≡ not b → straight (value_at r) t ≡ false
-bends r t b e f = bent_by (value_at r (suc t) -ℤ value_at r t) (value_at r (suc (suc t)) -ℤ value_at r (suc t))
-    (λ h. differ b (sym (ap step e) ∙ sym (slope r t) ∙ h ∙ slope r (suc t) ∙ ap step f))
+bends r t b e f = bent_by (value_at r (suc (suc t)) -ℤ value_at r (suc t)) (value_at r (suc t) -ℤ value_at r t)
+    (λ h. differ b (sym (ap step e) ∙ sym (slope r t) ∙ sym h ∙ slope r (suc t) ∙ ap step f))
   where
     differ : (b : Bool) → step b ≡ step (not b) → ⊥
     differ true e = absurd (let i : pos 1 ≡ pos 0 = e in omega (arith, ints))

@@ -5,4 +5,5 @@ pub mod Merging
 pub mod Gaps
 pub mod Kept
 pub mod Bending
+pub mod Lines
 pub mod Through

@@ -1,5 +1,5 @@
 -- Where a walk along a rise has come to.
-use Rattle.std.specs.Prelude.{◌≡◌, ℕ, ◌≤◌, ◌+◌, min, ◌-ℤ◌, ◌≤ℤ◌, neg_ℤ, unsigned_abs, Bool, true, false, ◌||◌, ◌&&◌, not, cond, List, [], ◌∷◌, drop}
+use Rattle.std.specs.Prelude.{◌≡◌, ℕ, ◌≤◌, ◌+◌, min, ◌-ℤ◌, ◌≤ℤ◌, neg_ℤ, unsigned_abs, Bool, true, false, ◌||◌, ◌&&◌, not, if◌then◌else◌, List, [], ◌∷◌, drop}
 use lib.Signed.{le_z, lt_z}
 use Rattle.cg_lines.specs.declared.TheConstants.{BOUND, END}
 use Rattle.cg_lines.specs.declared.place.Place.{Place}
@@ -23,11 +23,12 @@ next_of r p = first_of (drop p.passed r.turns.items)
 
 -- whether the greater of the two rises
 abbrev pub leads : Place → Place → Bool
-leads p q = cond (le_z p.value q.value) (cond (le_z q.value p.value) (p.up || q.up) q.up) p.up
+leads p q = if le_z p.value q.value then (if le_z q.value p.value then p.up || q.up else q.up) else p.up
 
 -- when the lower, if it rises and the other stays, has come up with the other
 abbrev pub catch_up : ℕ → Place → Place → ℕ
-catch_up now p q = cond (lt_z p.value q.value && (p.up && not q.up)) (now + unsigned_abs (q.value -ℤ p.value)) END
+catch_up now p q =
+    if lt_z p.value q.value && (p.up && not q.up) then now + unsigned_abs (q.value -ℤ p.value) else END
 
 -- up to when the greater of the two goes as it goes now
 abbrev pub event : Rise → Rise → ℕ → Place → Place → ℕ

@@ -1,5 +1,5 @@
 -- Functions of t = 0, 1, 2, .. that in each unit rise by 1 or stay where they are.
-use Rattle.std.specs.Prelude.{ℕ, ◌<◌, nat_lt, min, zero, suc, ℤ, pos, ◌+ℤ◌, ◌-ℤ◌, ◌≤ℤ◌, neg_ℤ, Bool, true, false, not, cond, List, [], ◌∷◌}
+use Rattle.std.specs.Prelude.{ℕ, ◌<◌, nat_lt, min, zero, suc, ℤ, pos, ◌+ℤ◌, ◌-ℤ◌, ◌≤ℤ◌, neg_ℤ, Bool, true, false, not, if◌then◌else◌, List, [], ◌∷◌}
 use lib.Signed.{le_z}
 use Rattle.cg_lines.specs.declared.TheConstants.{BOUND, END}
 use Rattle.cg_lines.specs.declared.rise.Rise.{Rise}
@@ -7,7 +7,7 @@ use Rattle.cg_lines.specs.declared.rise.Rise.{Rise}
 -- whether it rises from u to u + 1, where it rises at first or not and turns at each of the times
 abbrev pub rises_at : Bool → List ℕ → ℕ → Bool
 rises_at up [] u = up
-rises_at up (t ∷ ts) u = cond (nat_lt u t) up (rises_at (not up) ts u)
+rises_at up (t ∷ ts) u = if nat_lt u t then up else rises_at (not up) ts u
 
 abbrev pub step : Bool → ℤ
 step true = pos 1
@@ -41,12 +41,12 @@ pub record IsWall (r : Rise) : Type 0 where
   pub high : (t : ℕ) → value_at r t ≤ℤ BOUND
 
 abbrev pub greater : ℤ → ℤ → ℤ
-greater a b = cond (le_z a b) b a
+greater a b = if le_z a b then b else a
 
 -- how far the two together are above twice t
 abbrev pub gap : Rise → Rise → ℕ → ℤ
 gap a b t = (value_at a t +ℤ value_at b t) -ℤ (pos t +ℤ pos t)
 
--- t less the rise, up to the end, and from there on what that is there
+-- t less the value of the rise at t, up to the end; from the end on it keeps the value that it has there
 abbrev pub turned : Rise → ℕ → ℕ → ℤ
 turned r end t = pos (min t end) -ℤ value_at r (min t end)

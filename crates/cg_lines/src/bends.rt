@@ -1,7 +1,8 @@
 //! The points at which a wall bends.
 ghost use Rattle.std.specs.Prelude.{◌≡◌, ◌<◌, IfOk};
-ghost use Rattle.cg_lines.specs.Corners.{corners};
+ghost use Rattle.cg_lines.specs.Corners.{corners, marks};
 ghost use Rattle.cg_lines.specs.Fits.{AllFit};
+ghost use Rattle.cg_lines.specs.Lines.{TimesRise};
 ghost use Rattle.cg_lines.specs.Rises.{IsWall, value_at};
 
 use crate::place::Place;
@@ -33,6 +34,7 @@ pub fn points(alloc: Global, rise: &Rise, end: u128) -> Result<Vec<Point>, Alloc
     requires wall { IsWall rise.now }
     requires end { end < END }
     ensures corners { IfOk result (λ ps. ps.items ≡ corners (value_at rise.now) end) }
+    ensures rise { IfOk result (λ ps. TimesRise (marks ps.items)) }
     ensures fit { IfOk result (λ ps. AllFit ps.items) }
 {
     let mut points = Vec::new(alloc);

@@ -7,7 +7,7 @@ use Rattle.std.proofs.lemmas.Bool.Decides.{nat_tests}
 use Rattle.cg_dyadic.specs.Exact.{number_text}
 use Rattle.cg_dyadic.specs.Number.{InRange, Number, exp_of, num_of}
 use Rattle.cg_form.specs.Game.{Game, Games, more, none, number, options}
-use Rattle.cg_nodes.specs.Spelled.{is_same}
+use Rattle.cg_form.specs.Structure.{is_same}
 use Rattle.cg_names.specs.Name.{braces_name, further_names, name_of, names_of, sign_or}
 use Rattle.cg_names.specs.Named.{zero_form}
 use Rattle.cg_names.specs.Reading.{most_open, open_behind}

@@ -10,10 +10,10 @@ use Rattle.cg_form.specs.Depth.{depth_of}
 use Rattle.cg_form.specs.Game.{Game, lefts, node, number, options, rights}
 use Rattle.cg_form.specs.Shifted.{shifted}
 use Rattle.cg_form.specs.Side.{far, near}
+use Rattle.cg_form.specs.Structure.{is_same}
 use Rattle.cg_form.proofs.Among.{lefts-node, rights-node}
-use Rattle.cg_nodes.specs.CanForms.{is_same-back, is_same-refl}
+use Rattle.cg_form.proofs.Structure.{is_same-back, is_same-refl}
 use Rattle.cg_nodes.specs.Games.{IsNode}
-use Rattle.cg_nodes.specs.Spelled.{is_same}
 use Rattle.cg_names.specs.Named.{mirrored_if, pair_form, switch_form, tiny_form, tiny_part, ups_of, zero_form, zero_number}
 use Rattle.cg_names.specs.Readings.{stars_above}
 use Rattle.cg_dyadic.specs.Exact.{number_text}

@@ -11,14 +11,14 @@ use Rattle.cg_dyadic.proofs.Sums.{doubled-zero}
 use Rattle.cg_form.specs.Game.{Game}
 use Rattle.cg_form.specs.Order.{Equal}
 use Rattle.cg_form.proofs.Preorder.{equal_refl}
-use Rattle.cg_syntax.specs.declared.format.Format.TheVariants as formats
-use Rattle.cg_syntax.specs.Grammar as grammar
-use Rattle.cg_syntax.specs.Grammar.{special}
-use Rattle.cg_syntax.specs.Tree.{switch, tiny}
-use Rattle.cg_syntax.proofs.WrittenSpecials.{first_special, second_special}
-use Rattle.cg_syntax.proofs.WrittenTerms.{special_is}
-use Rattle.cg_syntax.proofs.WrittenTokens.{enclosed_is}
-use Rattle.cg_syntax.specs.Values.{In_none, clean}
+use Rattle.cg_query.specs.declared.format.Format.TheVariants as formats
+use Rattle.cg_grammar.specs.Grammar as grammar
+use Rattle.cg_grammar.specs.Grammar.{special}
+use Rattle.cg_query.specs.Tree.{switch, tiny}
+use Rattle.cg_grammar.proofs.WrittenSpecials.{first_special, second_special}
+use Rattle.cg_grammar.proofs.WrittenTerms.{special_is}
+use Rattle.cg_grammar.proofs.WrittenTokens.{enclosed_is}
+use Rattle.cg_grammar.specs.Values.{In_none, clean}
 use Rattle.cg_names.specs.Meaning.{fraction, meaning, or_zero}
 use Rattle.cg_names.specs.Named.{switch_form, tiny_form, zero_number}
 use Rattle.cg_names.specs.Signs.{Fits, sign_text, tiny_word}

@@ -9,17 +9,17 @@ use Rattle.cg_form.proofs.Preorder.{le-cofinal, equal_back}
 use Rattle.cg_reading.specs.Bytes.{Ends}
 use Rattle.cg_reading.specs.Pieces.{Made, Many, Piece, Then, One}
 use Rattle.cg_reading.specs.Tokens.{behind_blanks}
-use Rattle.cg_syntax.specs.Braces.{Run_side, part_of, side_fault, side_trees}
-use Rattle.cg_syntax.specs.Found.{Found}
-use Rattle.cg_syntax.specs.declared.format.Format.TheVariants as formats
-use Rattle.cg_syntax.specs.Grammar as grammar
-use Rattle.cg_syntax.specs.Grammar.{bar, comma, special}
-use Rattle.cg_syntax.specs.Tree.{Tree, Trees, no_trees, trees_from, with_tree}
-use Rattle.cg_syntax.specs.Tree as trees
-use Rattle.cg_syntax.specs.Values.{braces_of, clean}
+use Rattle.cg_grammar.specs.Braces.{Run_side, part_of, side_fault, side_trees}
+use Rattle.cg_grammar.specs.Found.{Found}
+use Rattle.cg_query.specs.declared.format.Format.TheVariants as formats
+use Rattle.cg_grammar.specs.Grammar as grammar
+use Rattle.cg_grammar.specs.Grammar.{bar, comma, special}
+use Rattle.cg_query.specs.Tree.{Tree, Trees, no_trees, trees_from, with_tree}
+use Rattle.cg_query.specs.Tree as trees
+use Rattle.cg_grammar.specs.Values.{braces_of, clean}
 use Rattle.cg_reading.proofs.Texts.{behind_none}
-use Rattle.cg_syntax.proofs.WrittenSpecials.{braces_special}
-use Rattle.cg_syntax.proofs.WrittenTerms.{expr_is, special_is}
+use Rattle.cg_grammar.proofs.WrittenSpecials.{braces_special}
+use Rattle.cg_grammar.proofs.WrittenTerms.{expr_is, special_is}
 use Rattle.cg_names.specs.Meaning.{PositionForms, meaning, meanings}
 use Rattle.cg_names.specs.Name.{braces_name, further_names, name_of, names_of, sign_or}
 use Rattle.cg_names.specs.Reading.{ReadsAs}

@@ -7,12 +7,12 @@ use Rattle.cg_form.specs.Game as tree
 use Rattle.cg_form.specs.Order.{Equal}
 use Rattle.cg_form.specs.Sum.{sum}
 use Rattle.cg_form.proofs.Preorder.{equal_refl, equal_trans, equal_back}
-use Rattle.cg_syntax.specs.declared.format.Format.TheVariants as formats
-use Rattle.cg_syntax.specs.Grammar as grammar
-use Rattle.cg_syntax.specs.Grammar.{special}
-use Rattle.cg_syntax.specs.Tree.{Tree, nimber, ups}
-use Rattle.cg_syntax.proofs.WrittenTokens.{arrow_of}
-use Rattle.cg_syntax.specs.Values.{clean}
+use Rattle.cg_query.specs.declared.format.Format.TheVariants as formats
+use Rattle.cg_grammar.specs.Grammar as grammar
+use Rattle.cg_grammar.specs.Grammar.{special}
+use Rattle.cg_query.specs.Tree.{Tree, nimber, ups}
+use Rattle.cg_grammar.proofs.WrittenTokens.{arrow_of}
+use Rattle.cg_grammar.specs.Values.{clean}
 use Rattle.cg_names.specs.Meaning.{PositionForms, meaning}
 use Rattle.cg_names.specs.Named.{nimber_form, nimbers_below, star_form, ups_form, ups_of}
 use Rattle.cg_names.specs.Signs.{arrows_text, base_text, star_text}

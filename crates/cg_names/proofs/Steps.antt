@@ -7,7 +7,7 @@ use Rattle.cg_dyadic.proofs.Truth.{less-nat_lt}
 use Rattle.cg_form.specs.Game.{Game, node}
 use Rattle.cg_cells.specs.Store.{State}
 use Rattle.cg_nodes.specs.Meant.{Meant}
-use Rattle.cg_nodes.specs.Positions.{positions_of}
+use Rattle.cg_form.specs.Positions.{positions_of}
 use Rattle.cg_canon.specs.declared.fault.ValueFault.{ValueFault}
 use Rattle.cg_canon.specs.declared.fault.ValueFault.TheVariants.{Positions}
 use Rattle.cg_canon.specs.Items.{AllPass, IsStopped, Item, WasRefused, made, too_many}

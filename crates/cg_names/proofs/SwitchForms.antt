@@ -1,5 +1,6 @@
 -- Switches, tinies and minies are canonical.
 use Rattle.std.proofs.Common.{◌≡◌, refl, inl, inr, sym, ◌∙◌, subst, [], ◌∷◌, Bool, true, false, not, IsTrue}
+use Rattle.cg_dyadic.specs.Cut.{number_at_most}
 use Rattle.cg_dyadic.specs.Exact.{number_negative}
 use Rattle.cg_dyadic.specs.Number.{Number, NumberLe, number_le}
 use Rattle.cg_dyadic.proofs.Negatives.{negative_low}
@@ -7,7 +8,7 @@ use Rattle.cg_dyadic.proofs.Truth.{true-or-not}
 use Rattle.cg_dyadic.proofs.Values.{less-le, number_le-trans}
 use Rattle.cg_form.specs.Canonical.{Canonical}
 use Rattle.cg_form.specs.Game.{Among, Game, lefts, number, rights}
-use Rattle.cg_form.specs.Side.{AtMost, far, near, number_at_most}
+use Rattle.cg_form.specs.Side.{AtMost, far, near}
 use Rattle.cg_form.specs.Simple.{NoNumber}
 use Rattle.cg_form.proofs.Among.{carry}
 use Rattle.cg_form.proofs.Numbers.{numbers-le}

@@ -11,20 +11,20 @@ use Rattle.cg_dyadic.proofs.Truth.{true_or_false}
 use Rattle.cg_form.specs.Game.{Game}
 use Rattle.cg_form.specs.Game as tree
 use Rattle.cg_form.specs.Order.{Equal}
+use Rattle.cg_form.specs.Structure.{is_same}
 use Rattle.cg_form.specs.Sum.{sum}
 use Rattle.cg_form.proofs.Preorder.{equal_refl, equal_trans}
+use Rattle.cg_form.proofs.Structure.{is_same-back}
 use Rattle.cg_reading.specs.Bytes.{Ends}
 use Rattle.cg_reading.specs.Pieces.{Piece}
-use Rattle.cg_syntax.specs.Found.{Found}
-use Rattle.cg_syntax.specs.declared.format.Format.TheVariants as formats
-use Rattle.cg_syntax.specs.Grammar as grammar
-use Rattle.cg_syntax.specs.Grammar.{special}
-use Rattle.cg_syntax.specs.Tree.{Tree, nimber, number, ups}
-use Rattle.cg_syntax.proofs.WrittenTerms.{no_tail_is}
-use Rattle.cg_syntax.proofs.WrittenTokens.{arrow_of}
-use Rattle.cg_syntax.specs.Values.{Last, clean, some_term, together, whole}
-use Rattle.cg_nodes.specs.CanForms.{is_same-back}
-use Rattle.cg_nodes.specs.Spelled.{is_same}
+use Rattle.cg_grammar.specs.Found.{Found}
+use Rattle.cg_query.specs.declared.format.Format.TheVariants as formats
+use Rattle.cg_grammar.specs.Grammar as grammar
+use Rattle.cg_grammar.specs.Grammar.{special}
+use Rattle.cg_query.specs.Tree.{Tree, nimber, number, ups}
+use Rattle.cg_grammar.proofs.WrittenTerms.{no_tail_is}
+use Rattle.cg_grammar.proofs.WrittenTokens.{arrow_of}
+use Rattle.cg_grammar.specs.Values.{Last, clean, some_term, together, whole}
 use Rattle.cg_names.specs.Meaning.{PositionForms, fraction, meaning, or_zero}
 use Rattle.cg_names.specs.Named.{zero_form}
 use Rattle.cg_names.specs.Signs.{arrows_text, base_text, star_text}

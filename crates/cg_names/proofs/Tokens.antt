@@ -8,11 +8,11 @@ use Rattle.cg_reading.specs.Pieces.{Made}
 use Rattle.cg_reading.specs.Tokens.{digit, digits, only}
 use Rattle.cg_reading.proofs.Sets.{apart_has}
 use Rattle.cg_reading.proofs.Texts.{Digits, decimal_digits, digits_are}
-use Rattle.cg_syntax.specs.Grammar as grammar
-use Rattle.cg_syntax.specs.Grammar.{bar}
-use Rattle.cg_syntax.specs.Tree.{nimber, ups}
-use Rattle.cg_syntax.specs.Values.{ups_tree}
-use Rattle.cg_syntax.proofs.WrittenTokens.{arrow_of}
+use Rattle.cg_grammar.specs.Grammar as grammar
+use Rattle.cg_grammar.specs.Grammar.{bar}
+use Rattle.cg_query.specs.Tree.{nimber, ups}
+use Rattle.cg_grammar.specs.Values.{ups_tree}
+use Rattle.cg_grammar.proofs.WrittenTokens.{arrow_of}
 use Rattle.cg_names.specs.Signs.{arrows_text, star_text}
 
 -- ---- what doesn't begin with a bar

@@ -2,9 +2,9 @@
 use Rattle.std.proofs.Common.{◌≡◌, refl, append_assoc, append-nil, ℕ, ◌+◌, ◌≤◌, arith, zero, suc, ◌⊎◌, inl, inr, ap, sym, ◌∙◌, subst, List, [], ◌∷◌, ◌++◌, length, length-append, Bool, true, false, not}
 use Rattle.cg_form.specs.Game.{Among, Game}
 use Rattle.cg_form.proofs.Among.{carry}
-use Rattle.cg_nodes.specs.Positions.{all_positions, once, positions_of}
+use Rattle.cg_form.specs.Positions.{all_positions, once, positions_of}
 use Rattle.cg_names.specs.Named.{mirrored_if, star_form, ups_chain, ups_form, ups_of, zero_form}
-use Rattle.cg_nodes.proofs.Once.{once-first, once-known, once-known_new, once-new}
+use Rattle.cg_form.proofs.Once.{once-first, once-known, once-known_new, once-new}
 use Rattle.cg_nodes.proofs.PositionSizes.{not_position-far}
 use Rattle.cg_names.proofs.Reducing.{far-mirrored}
 

@@ -1,45 +1,14 @@
--- The named games: nimbers, whose definition stands in cg_nimbers, ups and downs, switches, tiny and miny.
+-- The named games: nimbers, ups and downs, which are defined in cg_nimbers, switches, tiny and miny.
 -- Siegel, Combinatorial Game Theory (2013), II.1 and II.4.
-use Rattle.std.specs.Prelude.{ℕ, zero, suc, Bool, true, false, not, cond, List, [], ◌∷◌, ◌++◌}
+use Rattle.std.specs.Prelude.{Bool, true, false, if◌then◌else◌, List, [], ◌∷◌, ◌++◌}
 use Rattle.cg_dyadic.specs.Exact.{number_negative}
 use Rattle.cg_dyadic.specs.Number.{Number}
 use Rattle.cg_form.specs.Game.{Game, node, number}
-use Rattle.cg_nodes.specs.Spelled.{is_same}
+use Rattle.cg_form.specs.Structure.{is_same}
 pub use Rattle.cg_nimbers.specs.Nimbers.{nimber_over, zero_form, zero_number}
 unfoldable pub use Rattle.cg_nimbers.specs.Nimbers.{nimber_form, nimbers_below}
-
--- * = {0|0}
-abbrev pub star_form : Game
-star_form = node (zero_form ∷ []) (zero_form ∷ [])
-
--- ---- ups and downs
-
--- {ls|rs}, or the same with the sides exchanged
-abbrev pub mirrored_if : Bool → List Game → List Game → Game
-mirrored_if false ls rs = node ls rs
-mirrored_if true ls rs = node rs ls
-
--- n.^, or n.^* where it is starred: ^ = {0|*} and ^* = {0,*|0}; for n >= 2, n.^ = {0|(n - 1).^*} and
--- n.^* = {0|(n - 1).^}. Downs are their negatives, with the sides exchanged at every position; 0.^ is 0, and 0.^* is *.
-unfoldable pub ups_of : Bool → Bool → ℕ → Game
-ups_of down false zero = zero_form
-ups_of down true zero = star_form
-ups_of down false (suc zero) = mirrored_if down (zero_form ∷ []) (star_form ∷ [])
-ups_of down true (suc zero) = mirrored_if down (zero_form ∷ (star_form ∷ [])) (zero_form ∷ [])
-ups_of down starred (suc (suc n)) = mirrored_if down (zero_form ∷ []) (ups_of down (not starred) (suc n) ∷ [])
-
-abbrev pub ups_form : Bool → ℕ → Game
-ups_form down n = ups_of down false n
-
--- 0, *, and then the ups or downs, each of which is an option of the next one, up to the n-th
-unfoldable pub ups_chain : Bool → Bool → ℕ → List Game
-ups_chain down starred zero = zero_form ∷ (star_form ∷ [])
-ups_chain down starred (suc n) = ups_chain down (not starred) n ++ (ups_of down starred (suc n) ∷ [])
-
--- the last game of that chain
-abbrev pub ups_last : Bool → Bool → ℕ → Game
-ups_last down starred zero = star_form
-ups_last down starred (suc n) = ups_of down starred (suc n)
+pub use Rattle.cg_nimbers.specs.Ups.{mirrored_if, star_form, ups_form, ups_last}
+unfoldable pub use Rattle.cg_nimbers.specs.Ups.{ups_chain, ups_of}
 
 -- ---- switches, tiny and miny
 
@@ -49,7 +18,7 @@ pair_form x y = node (number x ∷ []) (number y ∷ [])
 
 -- the second number, unless it is the first
 abbrev pub other_numbers : Number → Number → List Game
-other_numbers x y = cond (is_same (number x) (number y)) [] (number y ∷ [])
+other_numbers x y = if is_same (number x) (number y) then [] else number y ∷ []
 
 -- the positions of {x|y} where it is canonical: x, y unless it is x, and itself
 abbrev pub pair_positions : Number → Number → List Game

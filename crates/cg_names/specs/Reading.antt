@@ -2,10 +2,10 @@
 use Rattle.std.specs.Prelude.{ℕ, suc, max, ◌-◌, ◌==◌, if◌then◌else◌, List, [], ◌∷◌}
 use Rattle.cg_form.specs.Canonical.{IsCanonicalForm}
 use Rattle.cg_form.specs.Game.{Game}
-use Rattle.cg_syntax.specs.Grammar.{expr, special}
-use Rattle.cg_syntax.specs.Tree.{Tree}
-use Rattle.cg_syntax.specs.Values.{clean}
-use Rattle.cg_syntax.specs.declared.format.Format.TheVariants as formats
+use Rattle.cg_grammar.specs.Grammar.{expr, special}
+use Rattle.cg_query.specs.Tree.{Tree}
+use Rattle.cg_grammar.specs.Values.{clean}
+use Rattle.cg_query.specs.declared.format.Format.TheVariants as formats
 use Rattle.cg_names.specs.Meaning.{PositionForms, meaning}
 
 -- the braces that are open behind a byte before which n were open: `{` opens one, and `}` closes one

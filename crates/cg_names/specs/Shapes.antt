@@ -6,7 +6,7 @@ use Rattle.cg_form.specs.Depth.{depth_of}
 use Rattle.cg_form.specs.Game.{Game, lefts, number, options, rights}
 use Rattle.cg_form.specs.Shifted.{shifted}
 use Rattle.cg_form.specs.Side.{far, near}
-use Rattle.cg_nodes.specs.Spelled.{is_same}
+use Rattle.cg_form.specs.Structure.{is_same}
 use Rattle.cg_dyadic.specs.Exact.{number_negative}
 use Rattle.cg_names.specs.Named.{nimber_form, switch_form, tiny_form, ups_of, zero_form, zero_number}
 use Rattle.cg_names.specs.declared.sign.Sign.{Sign}

@@ -5,8 +5,8 @@ use Rattle.cg_dyadic.specs.Exact.{number_text}
 use Rattle.cg_dyadic.specs.Number.{Number, NumberLe}
 use Rattle.cg_form.specs.Canonical.{IsCanonicalForm}
 use Rattle.cg_form.specs.Game.{Game, number}
+use Rattle.cg_form.specs.Structure.{is_same}
 use Rattle.cg_form.specs.Sum.{sum}
-use Rattle.cg_nodes.specs.Spelled.{is_same}
 use Rattle.cg_names.specs.Named.{nimber_form, switch_form, tiny_form, ups_of, zero_form, zero_number}
 use Rattle.cg_names.specs.declared.sign.Sign.{Sign}
 use Rattle.cg_names.specs.declared.sign.Sign.TheVariants.{Star, Arrows, Switch, Tiny}

@@ -1,9 +1,10 @@
 -- Games between 0 and every number that is better than 0, as a side sees it.
 use Rattle.std.proofs.Common.{inl, inr, Bool, IsTrue}
+use Rattle.cg_dyadic.specs.Cut.{number_at_most}
 use Rattle.cg_dyadic.specs.Number.{Number}
 use Rattle.cg_dyadic.proofs.Truth.{true-or-not}
 use Rattle.cg_form.specs.Game.{Among, Game, number}
-use Rattle.cg_form.specs.Side.{AtMost, far, near, number_at_most}
+use Rattle.cg_form.specs.Side.{AtMost, far, near}
 use Rattle.cg_form.specs.Simple.{NoNumber}
 use Rattle.cg_form.proofs.Sides.{not_far, not_near, number_side-less, number_side-trans, side-numbers, side_equal, side_trans}
 use Rattle.cg_nimbers.specs.Nimbers.{zero_form, zero_number}

@@ -3,10 +3,10 @@ use Rattle.std.proofs.Common.{◌≡◌, refl, append_assoc, append-nil, ℕ, �
 use Rattle.cg_form.specs.Game.{Among, Game, of_list}
 use Rattle.cg_form.proofs.Among.{among-append, carry}
 use Rattle.cg_form.proofs.Preorder.{at_right, le_refl}
-use Rattle.cg_nodes.specs.Positions.{all_positions, once, positions_in, positions_of}
+use Rattle.cg_form.specs.Positions.{all_positions, once, positions_in, positions_of}
 use Rattle.cg_nimbers.specs.Nimbers.{nimber_form, nimber_over, nimbers_below}
 use Rattle.cg_nimbers.proofs.NimberLists.{among_nimbers, nimbers_apart, nimbers_below-next}
-use Rattle.cg_nodes.proofs.Once.{once-known_new, once_among}
+use Rattle.cg_form.proofs.Once.{once-known_new, once_among}
 
 positions_in-append : (gs hs : List Game)
     → positions_in (of_list (gs ++ hs)) ≡ positions_in (of_list gs) ++ positions_in (of_list hs)

@@ -1,3 +1,4 @@
--- what public contracts cite
+-- the textbook, which is to be believed
 pub mod Nimbers
+pub mod Ups
 pub mod NumberUpStar

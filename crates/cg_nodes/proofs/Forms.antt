@@ -5,10 +5,10 @@ use Rattle.cg_form.specs.Game.{Game, node}
 use Rattle.cg_form.specs.Known.{CopiesOf}
 use Rattle.cg_form.specs.Order.{Equal}
 use Rattle.cg_form.proofs.Among.{among_map, among_mapped}
+use Rattle.cg_nodes.specs.Can.{can}
+use Rattle.cg_nodes.specs.CanForms.{can-canonical, can-equal, can-unique}
 use Rattle.cg_form.proofs.Exists.{copies_equal}
 use Rattle.cg_form.proofs.Preorder.{equal_trans}
-use Rattle.cg_nodes.specs.CanForms.{can-canonical, can-equal, can-unique}
-use Rattle.cg_nodes.specs.Spelled.{can}
 
 -- equal games have one canonical form
 pub can-same : (g h : Game) → Equal g h → can g ≡ can h

@@ -4,12 +4,9 @@ pub mod Members
 pub mod Later
 pub mod Lists
 pub mod Compared
-pub mod Extended
-pub mod AllPositions
 pub mod Looked
 pub mod Walked
 pub mod Outcomes
-pub mod Once
 pub mod Forms
 pub mod PositionSizes
 pub mod BoardContents

@@ -5,7 +5,7 @@ use Rattle.cg_form.specs.Side.{far}
 use Rattle.cg_form.specs.Size.{size, sizes}
 use Rattle.cg_form.proofs.Among.{among-append}
 use Rattle.cg_form.proofs.Sides.{size-far}
-use Rattle.cg_nodes.specs.Positions.{all_positions, positions_in}
+use Rattle.cg_form.specs.Positions.{all_positions, positions_in}
 
 mutual
   pub position-size : (g x : Game) → Among x (all_positions g) → size x ≤ size g

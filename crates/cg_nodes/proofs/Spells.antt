@@ -11,9 +11,9 @@ use Rattle.cg_cells.specs.declared.key.KeyParts.{KeyParts}
 use Rattle.cg_cells.specs.declared.key.KeyParts.TheVariants as key
 use Rattle.cg_cells.specs.Layout.{FieldsFit, id_field}
 use Rattle.cg_cells.specs.Parts.{parts_of}
+use Rattle.cg_nodes.specs.CanForms.{is_canonical-true}
 use Rattle.cg_nodes.specs.Meant.{Meant, form}
 use Rattle.cg_nodes.specs.Spelled.{Map, spelled, list_at}
-use Rattle.cg_nodes.specs.CanForms.{is_canonical-true}
 use Rattle.cg_nodes.specs.Longs.{num_in}
 use Rattle.cg_nodes.specs.Inverse.{inverse}
 use Rattle.cg_nodes.specs.Games.{IsGame, game_at, ListsAs, listed, IsList, StandsFor}

@@ -1,17 +1,18 @@
 -- Handles of positions, found one after another.
 use Rattle.std.proofs.Common.{◌≡◌, refl, ℕ, ◌+◌, ◌<◌, ◌≤◌, inl, inr, Option, Some, List, [], ◌∷◌, ◌++◌, length, length-append, arith, ap, sym, ◌∙◌, subst}
 use Rattle.cg_form.specs.Depth.{deepest, depth_of}
+use Rattle.cg_form.specs.Extended.{IsClosed, extended, positions_before}
 use Rattle.cg_form.specs.Game.{Among, Game, node, number, of_list, options}
 use Rattle.cg_form.proofs.Among.{carry}
 use Rattle.cg_cells.specs.Meaning.{Grows, Has, IsInjective}
 use Rattle.cg_cells.specs.Store.{State, Spends, thing_at}
 use Rattle.cg_nodes.specs.Meant.{Meant, form}
 use Rattle.cg_nodes.specs.Games.{AreDistinct, AreGames, IsGame, IsHead, IsList, IsNode, StandFor, game_at, games_at, listed}
-use Rattle.cg_nodes.specs.Positions.{all_positions, positions_in, positions_of}
-use Rattle.cg_nodes.specs.Walks.{AreFound, AreFoundAfter, IsClosed, extended, positions_before}
+use Rattle.cg_form.specs.Positions.{all_positions, positions_in, positions_of}
+use Rattle.cg_nodes.specs.Walks.{AreFound, AreFoundAfter}
 use Rattle.cg_nodes.specs.declared.reading.Split.{Split}
-use Rattle.cg_nodes.proofs.AllPositions.{closed_more, closed_none, closed_there, extended-last, positions-last, positions_before-depth, positions_of-extended}
-use Rattle.cg_nodes.proofs.Extended.{extended-among, extended-append, extended-has, extended-length}
+use Rattle.cg_form.proofs.AllPositions.{closed_more, closed_none, closed_there, extended-last, positions-last, positions_before-depth, positions_of-extended}
+use Rattle.cg_form.proofs.Extended.{extended-among, extended-append, extended-has, extended-length}
 use Rattle.cg_nodes.proofs.Later.{are_games_later, game_later, games_later, is_game_later, is_list_later, listed_later, nothing_spent, spends_then}
 use Rattle.cg_nodes.proofs.Lists.{are_games-append, games_at-append}
 use Rattle.cg_nodes.proofs.Looked.{has-append}

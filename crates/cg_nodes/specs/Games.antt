@@ -3,6 +3,7 @@ use Rattle.std.specs.Prelude.{◌≡◌, ℕ, Option, Some, None, List, [], ◌�
 use Rattle.cg_dyadic.specs.Number.{InRange}
 use Rattle.cg_form.specs.Game as tree
 use Rattle.cg_form.specs.Game.{number, options, none, node}
+pub use Rattle.cg_form.specs.Game.{IsNode}
 use Rattle.cg_cells.specs.Meaning.{Has}
 use Rattle.cg_cells.specs.Store.{State, thing_at}
 use Rattle.cg_nodes.specs.declared.long.Chunk.{Chunk}
@@ -63,11 +64,6 @@ listed {R} s (Some id) = list_in_or (thing_at s id)
 
 abbrev pub IsList : {R : Type 0} → State Meant R → Option ℕ → Type 0
 IsList {R} s o = ListsAs s o (listed s o)
-
--- the game isn't written as a number
-abbrev pub IsNode : tree.Game → Type 0
-IsNode (number x) = ⊥
-IsNode (options ls rs) = Unit {0}
 
 -- a number is in range
 abbrev pub IsInRange : tree.Game → Type 0

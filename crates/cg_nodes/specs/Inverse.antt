@@ -3,14 +3,15 @@ use Rattle.std.proofs.Common.{◌≡◌, ℕ, ◌+◌, ◌*◌, ◌^◌, Option,
 use Rattle.cg_dyadic.specs.Number.{ratio}
 use Rattle.cg_form.specs.Game.{Game, number, node}
 use Rattle.cg_form.specs.Canonical.{Canonical}
+use Rattle.cg_nodes.specs.Can.{is_canonical}
 use Rattle.cg_cells.specs.declared.key.KeyParts.{KeyParts}
 use Rattle.cg_cells.specs.declared.key.KeyParts.TheVariants as key
-use Rattle.cg_nodes.specs.Meant.{Meant, form, list, contents, pair, board}
 use Rattle.cg_nodes.specs.CanForms.{is_canonical-back}
+use Rattle.cg_nodes.specs.Meant.{Meant, form, list, contents, pair, board}
 use Rattle.cg_nodes.specs.Boards.{are_of_board}
 use Rattle.cg_nodes.specs.LongKeys.{IsLongWritten, long_written}
 use Rattle.cg_nodes.specs.Longs.{is_long_written, num_in}
-use Rattle.cg_nodes.specs.Spelled.{is_canonical, Map, form_in, list_in, contents_in, list_at, contents_at, longer, longer_by, form_if, game_of_lists, pair_of, board_if, board_of, long_of, spelled}
+use Rattle.cg_nodes.specs.Spelled.{Map, form_in, list_in, contents_in, list_at, contents_at, longer, longer_by, form_if, game_of_lists, pair_of, board_if, board_of, long_of, spelled}
 
 pub form_in-back : (o : Option Meant) (g : Game) → form_in o ≡ Some g → o ≡ Some (form g)
 form_in-back None g e = cc

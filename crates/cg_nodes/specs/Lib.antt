@@ -3,10 +3,10 @@ pub mod Meant
 pub mod MeantCode
 pub mod Boards
 pub mod Longs
+pub mod Can
 pub mod Spelled
 pub mod Games
 pub mod Ranges
-pub mod Positions
 -- what private contracts cite, and what proofs need here
 pub mod LongKeys
 pub mod CanForms

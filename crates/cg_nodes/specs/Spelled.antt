@@ -1,34 +1,17 @@
 -- What a key spells under a map from ids to what they stand for: the thing of its kind that is made of its fields and of
 -- what the ids in them stand for, or nothing.
 use Rattle.std.specs.Prelude.{ℕ, ◌+◌, ◌*◌, ◌%◌, ◌^◌, ◌==◌, Bool, true, false, if◌then◌else◌, Option, Some, None, List, [], ◌∷◌}
-use Rattle.std.specs.declared.cmp.Ordering.{Ordering}
-use Rattle.std.specs.declared.cmp.Ordering.TheVariants.{Less, Equal, Greater}
 use Rattle.cg_dyadic.specs.Number.{num_of, ratio}
 use Rattle.cg_form.specs.Game.{Game, number, node, lefts, rights}
 use Rattle.cg_form.specs.Sum.{sum}
-use Rattle.cg_form.specs.Structure.{game_cmp}
 use Rattle.cg_cells.specs.declared.key.KeyParts.{KeyParts}
 use Rattle.cg_cells.specs.declared.key.KeyParts.TheVariants as key
 use Rattle.cg_cells.specs.Parts.{parts_of}
 use Rattle.cg_cells.specs.Meaning.{Meaning}
+use Rattle.cg_nodes.specs.Can.{can, is_canonical}
 use Rattle.cg_nodes.specs.Meant.{Meant, form, list, contents, pair, board}
 use Rattle.cg_nodes.specs.Boards.{are_of_board}
 use Rattle.cg_nodes.specs.Longs.{chunks_of, is_long_written, num_in}
--- the canonical form of the game, of which there is exactly one: the law function `canonical_forms` says so
-pub use Rattle.cg_form.proofs.Exists.{can}
-
-abbrev pub is_equal : Ordering → Bool
-is_equal Less = false
-is_equal Equal = true
-is_equal Greater = false
-
--- whether the games are one tree; the law function `position_lists` says that it is just that
-abbrev pub is_same : Game → Game → Bool
-is_same g h = is_equal (game_cmp g h)
-
--- whether the game is canonical: its own canonical form. The law function `canonical_forms` says that it is just that
-unfoldable pub is_canonical : Game → Bool
-is_canonical g = is_same (can g) g
 
 abbrev pub Map : Type 0
 Map = ℕ → Option Meant

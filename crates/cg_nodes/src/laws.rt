@@ -1,14 +1,13 @@
-//! Laws of positions, of boards' contents and of long numbers: each function does nothing, and its contract is the law.
-ghost use Rattle.std.specs.Prelude.{◌≡◌, ◌↔◌, ◌⊎◌, ◌≤◌, ◌*◌, ◌∷◌, ◌++◌, [], ℕ, Bool, List, Some, length, true};
+//! Laws of canonical forms, of boards' contents and of long numbers: each function does nothing, and its contract is the law.
+ghost use Rattle.std.specs.Prelude.{◌≡◌, ◌↔◌, ◌≤◌, ◌*◌, ℕ, Bool, List, Some, length, true};
 ghost use Rattle.cg_dyadic.specs.Number.{InRange, Number, exp_of, is_long, num_of};
 ghost use Rattle.cg_form.specs.Canonical.{Canonical, IsCanonicalForm};
-ghost use Rattle.cg_form.specs.Game.{Among, Game, lefts, number, rights};
+ghost use Rattle.cg_form.specs.Game.{Game, number};
 ghost use Rattle.cg_nodes.specs.Boards.{IsBoard, are_contents, symbols};
-ghost use Rattle.cg_nodes.specs.Games.{IsNode};
+ghost use Rattle.cg_nodes.specs.Can.{can, is_canonical};
 ghost use Rattle.cg_nodes.specs.Longs.{cells_of, chunks_of, is_negative};
 ghost use Rattle.cg_nodes.specs.Meant.{Meant, board, form};
-ghost use Rattle.cg_nodes.specs.Positions.{EachOnce, all_positions, positions_of};
-ghost use Rattle.cg_nodes.specs.Spelled.{board_of, can, is_canonical, is_same, long_of};
+ghost use Rattle.cg_nodes.specs.Spelled.{board_of, long_of};
 
 /// Each game has exactly one canonical form, which is `can` of it, and `is_canonical` tests whether a game is canonical.
 /// (Siegel, Combinatorial Game Theory (2013), II.2.)
@@ -16,20 +15,6 @@ pub fn canonical_forms()
     ensures form { (g : Game) → IsCanonicalForm g (can g) }
     ensures only { (g k : Game) → IsCanonicalForm g k → k ≡ can g }
     ensures test { (g : Game) → (is_canonical g ≡ true) ↔ Canonical g }
-{}
-
-/// A number has no positions but itself. `is_same` tests whether two games are one tree. Of any game, the positions are those
-/// that play can come to, each once; the game itself is the last; the options of a position that isn't a number stand before
-/// it; and those of a canonical game are canonical.
-pub fn position_lists()
-    ensures number { (x : Number) → positions_of (number x) ≡ number x ∷ [] }
-    ensures same { (g h : Game) → (is_same g h ≡ true) ↔ (g ≡ h) }
-    ensures members { (g k : Game) → Among k (positions_of g) ↔ Among k (all_positions g) }
-    ensures once { (g : Game) → EachOnce (positions_of g) }
-    ensures last { (g : Game) → (front : List Game) × (positions_of g ≡ front ++ (g ∷ [])) }
-    ensures options_first { (g : Game) (front : List Game) (f : Game) (back : List Game)
-        → positions_of g ≡ front ++ (f ∷ back) → IsNode f → (a : Game) → Among a (lefts f) ⊎ Among a (rights f) → Among a front }
-    ensures canonical { (g k : Game) → Canonical g → Among k (positions_of g) → Canonical k }
 {}
 
 /// The test of a board's contents passes exactly where they are written for some board of so many cells, each with one of so

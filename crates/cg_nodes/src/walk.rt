@@ -1,11 +1,12 @@
 //! The positions of the game of a handle.
 ghost use Rattle.std.specs.Prelude.{◌≡◌, ◌<◌, ◌≤◌, ◌∷◌, ◌++◌, [], IfOk, OnOk, IsTrue, ◌↔◌, length, Err};
+ghost use Rattle.cg_form.specs.Extended.{extended, positions_before};
 ghost use Rattle.cg_form.specs.Game.{of_list};
 ghost use Rattle.cg_cells.specs.Meaning.{Has};
 ghost use Rattle.cg_cells.specs.Store.{Spends};
 ghost use Rattle.cg_nodes.specs.Games.{IsGame, game_at, games_at, IsList, listed, StandFor, AreDistinct};
-ghost use Rattle.cg_nodes.specs.Positions.{all_positions, positions_in, positions_of};
-ghost use Rattle.cg_nodes.specs.Walks.{AreFound, AreFoundAfter, extended, positions_before};
+ghost use Rattle.cg_form.specs.Positions.{all_positions, positions_in, positions_of};
+ghost use Rattle.cg_nodes.specs.Walks.{AreFound, AreFoundAfter};
 
 use crate::found::Found;
 use crate::reading::lists_of;

@@ -8,7 +8,7 @@ use Rattle.cg_form.specs.Order.{Equal}
 use Rattle.cg_form.specs.Sum.{sum}
 use Rattle.cg_form.proofs.EqualGames.{sum_equal}
 use Rattle.cg_form.proofs.Preorder.{equal_refl, equal_trans}
-use Rattle.cg_names.specs.Named.{nimber_form, nimbers_below, zero_form}
+use Rattle.cg_nimbers.specs.Nimbers.{nimber_form, nimbers_below, zero_form}
 use Rattle.cg_octal.specs.Found.{Adds}
 use Rattle.cg_octal.specs.Heaps.{AreValues, heap, leaves_nothing, leaves_one_heap, two_heaps}
 use Rattle.cg_octal.specs.Mex.{AreNimbers, Listed}

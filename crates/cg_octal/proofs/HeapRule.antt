@@ -2,7 +2,7 @@
 use Rattle.std.proofs.Common.{◌≡◌, refl, ap, ◌∙◌, ℕ, zero, suc, ◌-◌, ◌/◌, ◌<◌, ◌≤◌, arith, cond, List, [], ◌∷◌, ◌++◌}
 use Rattle.cg_form.specs.Game.{Game, node}
 use Rattle.cg_form.specs.Sum.{sum}
-use Rattle.cg_names.specs.Named.{zero_form}
+use Rattle.cg_nimbers.specs.Nimbers.{zero_form}
 use Rattle.cg_octal.specs.Heaps.{heap, heap_options, heap_within, leaves_nothing, leaves_one_heap, leaves_two_heaps, digit_options, two_heaps}
 
 -- the same games for the heaps of fewer than n tokens

@@ -4,12 +4,12 @@ use Rattle.cg_dyadic.proofs.Integers.{le_or_gt}
 use Rattle.cg_form.specs.Game.{Game, node}
 use Rattle.cg_form.specs.Order.{Equal}
 use Rattle.cg_form.proofs.Among.{lefts-node, rights-node}
-use Rattle.cg_names.specs.Named.{nimber_form}
+use Rattle.cg_nimbers.specs.Nimbers.{nimber_form}
 use Rattle.cg_octal.specs.Found.{Adds}
 use Rattle.cg_octal.specs.Heaps.{AreValues, heap, heap_options}
 use Rattle.cg_octal.specs.Mex.{AreNimbers, IsLeastMissing, Listed}
 use Rattle.cg_octal.proofs.HeapRule.{heap-options}
-use Rattle.cg_octal.proofs.Nimbers.{least_missing-equal}
+use Rattle.cg_octal.proofs.Nimbers.{least_missing-equal, same_lists}
 
 -- ---- the next value
 
@@ -24,7 +24,7 @@ next_value-equal bound n digits start found list s t a k least =
     let L : List ℕ → Type 0 = λ z. IsLeastMissing z k in
     let whole : list ≡ a.added = t ∙ a.put ∙ ap (λ z. z ++ a.added) s in
     subst P (sym (heap-options digits n))
-    (least_missing-equal (node os os) a.added k (rights-node os os ∙ sym (lefts-node os os))
+    (least_missing-equal (node os os) a.added k (same_lists (node os os) os (lefts-node os os) (rights-node os os))
     (subst N (sym (lefts-node os os)) a.are_nimbers) (subst L whole least))
 
 -- it is at most a bound that all numbers are below

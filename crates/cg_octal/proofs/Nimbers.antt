@@ -6,7 +6,7 @@ use Rattle.cg_form.specs.Side.{far, near}
 use Rattle.cg_form.proofs.Among.{carry}
 use Rattle.cg_nimbers.specs.Nimbers.{nimber_form}
 use Rattle.cg_nimbers.proofs.LesserNimbers.{Has, mex-equal}
-use Rattle.cg_octal.specs.Mex.{AreNimbers, IsLeastMissing, Listed}
+use Rattle.cg_octal.specs.Mex.{AreNimbers, IsLeastMissing, Listed, SameOptions}
 
 -- ---- by the list of the numbers
 
@@ -31,23 +31,30 @@ listed_nimber (g ∷ gs) (k ∷ ks) n i (inl e) =
 listed_nimber (g ∷ gs) (k ∷ ks) n i (inr l) =
     let h = listed_nimber gs ks n.1 i l in record { game = h.game; among = inr h.among; equal = h.equal }
 
--- both lists of options
-both_near : (s : Bool) (g : Game) → rights g ≡ lefts g → near s g ≡ lefts g
-both_near true g e = refl
-both_near false g e = e
+-- each side has the options
+near_both : (s : Bool) (g : Game) → SameOptions g → (a : Game) → Among a (near s g) → Among a (lefts g)
+near_both true g same a m = m
+near_both false g same a m = (same a).1 m
 
-both_far : (s : Bool) (g : Game) → rights g ≡ lefts g → far s g ≡ lefts g
-both_far true g e = e
-both_far false g e = refl
+both_far : (s : Bool) (g : Game) → SameOptions g → (a : Game) → Among a (lefts g) → Among a (far s g)
+both_far true g same a m = (same a).0 m
+both_far false g same a m = m
 
-pub least_missing-equal : (g : Game) (ks : List ℕ) (k : ℕ) → rights g ≡ lefts g → AreNimbers (lefts g) ks
+-- lists that are the same have the same games
+pub same_lists : (g : Game) (os : List Game) → lefts g ≡ os → rights g ≡ os → SameOptions g
+same_lists g os l r a = (
+  λ m. carry a os (rights g) (sym r) (carry a (lefts g) os l m),
+  λ m. carry a os (lefts g) (sym l) (carry a (rights g) os r m),
+)
+
+pub least_missing-equal : (g : Game) (ks : List ℕ) (k : ℕ) → SameOptions g → AreNimbers (lefts g) ks
     → IsLeastMissing ks k → Equal g (nimber_form k)
 least_missing-equal g ks k same n least = mex-equal g k (λ s. record {
   others = λ a m.
-      let (i, l, e) = nimber_listed (lefts g) ks n a (carry a (near s g) (lefts g) (both_near s g same) m) in
+      let (i, l, e) = nimber_listed (lefts g) ks n a (near_both s g same a m) in
       let P : ℕ → Type 0 = λ z. Listed z ks in
       record { value = i; other = λ z. least.missing (subst P z l); equal = e };
   lesser = λ i w.
       let h = listed_nimber (lefts g) ks n i (least.least i w) in
-      record { game = h.game; among = carry h.game (lefts g) (far s g) (sym (both_far s g same)) h.among; equal = h.equal };
+      record { game = h.game; among = both_far s g same h.game h.among; equal = h.equal };
 })

@@ -1,7 +1,7 @@
 -- The lists of the options of a heap, put together.
 use Rattle.std.proofs.Common.{◌≡◌, refl, ap, sym, ◌∙◌, append_assoc, append-nil, ℕ, zero, suc, ◌-◌, ◌/◌, ◌<◌, arith, true, false, cond, List, [], ◌∷◌, ◌++◌}
 use Rattle.cg_form.specs.Game.{Game}
-use Rattle.cg_names.specs.Named.{zero_form}
+use Rattle.cg_nimbers.specs.Nimbers.{zero_form}
 use Rattle.cg_octal.specs.Heaps.{heap_options, digit_options, leaves_nothing, leaves_one_heap, leaves_two_heaps, two_heaps}
 
 -- the options by a digit other than the sums of two heaps

@@ -1,7 +1,5 @@
 -- The codes of octal games.
 use Rattle.std.specs.Prelude.{◌≡◌, ℕ, ◌+◌, ◌-◌, ◌<◌, ◌≤◌, List, [], ◌∷◌, ◌++◌, drop, map, length, codes, Result, Ok, Err}
-use Rattle.std.specs.Coded.{Coded, code_by, coded×, coded_ℕ, coded_list}
-use Rattle.std.specs.Prelude.{refl}
 use Rattle.cg_octal.specs.declared.fault.OctalFault.{OctalFault}
 use Rattle.cg_octal.specs.declared.fault.OctalFault.TheVariants.{Code, Heap, Memory}
 
@@ -9,10 +7,6 @@ use Rattle.cg_octal.specs.declared.fault.OctalFault.TheVariants.{Code, Heap, Mem
 pub record OctalHeap : Type 0 where
   pub digits : List ℕ
   pub heap : ℕ
-
-abbrev pub octal_code : Coded OctalHeap
-octal_code = code_by (List ℕ × ℕ) (coded× (coded_list coded_ℕ) coded_ℕ) (λ o. (o.digits, o.heap))
-    (λ p. record { digits = p.0; heap = p.1 }) (λ _. refl)
 
 -- each digit is from 0 to 7
 abbrev pub AreOctal : List ℕ → Type 0

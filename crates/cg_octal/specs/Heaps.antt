@@ -1,10 +1,10 @@
 -- Heaps of tokens in an octal game, as games.
 -- Berlekamp, Conway and Guy, Winning Ways, chapter 4; Siegel, Combinatorial Game Theory (2013), IV.2: octal games.
-use Rattle.std.specs.Prelude.{◌≡◌, ℕ, zero, suc, ◌-◌, ◌/◌, ◌%◌, ◌==◌, ◌≤◌, ◌&&◌, nat_lt, Bool, cond, List, [], ◌∷◌, ◌++◌, Some, slice_get}
+use Rattle.std.specs.Prelude.{◌≡◌, ℕ, zero, suc, ◌-◌, ◌/◌, ◌%◌, ◌==◌, ◌≤◌, ◌&&◌, nat_lt, Bool, if◌then◌else◌, List, [], ◌∷◌, ◌++◌, Some, slice_get}
 use Rattle.cg_form.specs.Game.{Game, node}
 use Rattle.cg_form.specs.Order.{Equal}
 use Rattle.cg_form.specs.Sum.{sum}
-use Rattle.cg_names.specs.Named.{nimber_form, zero_form}
+use Rattle.cg_nimbers.specs.Nimbers.{nimber_form, zero_form}
 
 -- A digit says what may be left of a heap when its tokens are removed: its bit 1 nothing, its bit 2 one heap, its bit 4 two
 -- heaps.
@@ -24,9 +24,9 @@ two_heaps heap n (suc k) = two_heaps heap n k ++ (sum (heap (suc k)) (heap (n - 
 
 -- the options by one digit, with this many tokens left; of two heaps the first is no greater than the second
 abbrev pub digit_options : (ℕ → Game) → ℕ → ℕ → List Game
-digit_options heap digit left = cond (leaves_nothing digit left) (zero_form ∷ []) []
-    ++ (cond (leaves_one_heap digit left) (heap left ∷ []) []
-    ++ cond (leaves_two_heaps digit) (two_heaps heap left (left / 2)) [])
+digit_options heap digit left = (if leaves_nothing digit left then zero_form ∷ [] else [])
+    ++ ((if leaves_one_heap digit left then heap left ∷ [] else [])
+    ++ (if leaves_two_heaps digit then two_heaps heap left (left / 2) else []))
 
 -- the options of a heap of n tokens, where the first of the digits is that of removing one token, the next that of
 -- removing two, and so on

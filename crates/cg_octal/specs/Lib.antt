@@ -1,7 +1,9 @@
--- what public contracts cite
+-- the textbook, which is to be believed
 pub mod Codes
-pub mod Fitting
 pub mod Mex
 pub mod Heaps
+-- what `impl Model` needs
+pub mod HeapCode
 -- what private contracts cite
+pub mod Fitting
 pub mod Found

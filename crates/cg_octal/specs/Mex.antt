@@ -1,9 +1,9 @@
 -- The least natural number that a list hasn't, and games that equal nimbers.
 -- Siegel, Combinatorial Game Theory (2013), IV.1: the minimal excluded value.
-use Rattle.std.specs.Prelude.{ℕ, ◌<◌, ◌≡◌, ◌⊎◌, List, [], ◌∷◌}
-use Rattle.cg_form.specs.Game.{Game}
+use Rattle.std.specs.Prelude.{ℕ, ◌<◌, ◌≡◌, ◌⊎◌, ◌↔◌, List, [], ◌∷◌}
+use Rattle.cg_form.specs.Game.{Among, Game, lefts, rights}
 use Rattle.cg_form.specs.Order.{Equal}
-use Rattle.cg_names.specs.Named.{nimber_form}
+use Rattle.cg_nimbers.specs.Nimbers.{nimber_form}
 
 -- the number is in the list
 abbrev pub Listed : ℕ → List ℕ → Type 0
@@ -14,6 +14,10 @@ Listed i (k ∷ ks) = (i ≡ k) ⊎ Listed i ks
 pub record IsLeastMissing (ks : List ℕ) (k : ℕ) : Type 0 where
   pub missing : ¬ Listed k ks
   pub least : (i : ℕ) → i < k → Listed i ks
+
+-- the game has the same options on both sides
+abbrev pub SameOptions : Game → Type 0
+SameOptions g = (a : Game) → Among a (lefts g) ↔ Among a (rights g)
 
 -- each game of the list equals the nimber of the number in its place
 abbrev pub AreNimbers : List Game → List ℕ → Type 0

@@ -1,7 +1,7 @@
 //! The values of the heaps of an octal game.
 ghost use Rattle.std.specs.Prelude.{◌≡◌, ◌+◌, ◌≤◌, IfOk, length};
 ghost use Rattle.cg_form.specs.Order.{Equal};
-ghost use Rattle.cg_names.specs.Named.{nimber_form};
+ghost use Rattle.cg_nimbers.specs.Nimbers.{nimber_form};
 ghost use Rattle.cg_octal.specs.Heaps.{AreValues, heap};
 
 use crate::list::Values;

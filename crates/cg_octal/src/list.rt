@@ -1,5 +1,5 @@
 //! The values of heaps in a list.
-ghost use Rattle.std.specs.Prelude.{◌≡◌};
+ghost use Rattle.std.specs.Prelude.{◌≡◌, ◌↔◌, IsTrue, [], length};
 
 use std::marker::Model;
 
@@ -19,10 +19,24 @@ impl Model for Values {
 
 impl Values {
     /// These values.
-    pub(crate) fn of(items: Vec<u64>) -> Values
+    pub fn of(items: Vec<u64>) -> Values
         ensures { result ≡ items.items }
     {
         Values { items }
+    }
+
+    /// How many values there are.
+    pub fn len(&self) -> usize
+        ensures { result ≡ length self.now }
+    {
+        self.items.len()
+    }
+
+    /// Whether there is no value.
+    pub fn is_empty(&self) -> bool
+        ensures { IsTrue result ↔ (self.now ≡ []) }
+    {
+        self.items.is_empty()
     }
 
     /// The values in order.
@@ -30,5 +44,13 @@ impl Values {
         ensures { result.now ≡ self.now }
     {
         &self.items
+    }
+
+    /// The values in a vector, in order.
+    pub fn into_vec(self) -> Vec<u64>
+        ensures { result.items ≡ self }
+    {
+        let Values { items } = self;
+        items
     }
 }

@@ -12,7 +12,8 @@ pub struct Octal {
 
 impl Model for Octal {
     ghost use Rattle.std.specs.Prelude.{◌≤◌};
-    ghost use Rattle.cg_octal.specs.Codes.{OctalHeap, octal_code};
+    ghost use Rattle.cg_octal.specs.Codes.{OctalHeap};
+    ghost use Rattle.cg_octal.specs.HeapCode.{octal_code};
 
     ghost Value = { OctalHeap };
 

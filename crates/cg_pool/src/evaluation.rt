@@ -1,5 +1,5 @@
 //! All lines, by many workers.
-ghost use Rattle.std.specs.Prelude.{◌≡◌, ℕ, ◌*◌, ◌≤◌, Some, slice_get, length, IfOk};
+ghost use Rattle.std.specs.Prelude.{◌≡◌, ℕ, ◌*◌, ◌^◌, ◌≤◌, Some, slice_get, length, IfOk};
 ghost use Rattle.cg_cells.specs.Table.{HasAllTickets};
 ghost use Rattle.cg_shared.specs.Passes.{IsPassOf, pass_state};
 
@@ -31,14 +31,16 @@ pub fn evaluate<R: Threads + Sync, F: Facts + Sync, J: Job<F>, G: Gate>(
     job: &J,
     gate: &G,
 ) -> Result<Evaluated<F, J::Answer>, AllocError>
-    requires cells { (1 ≤ count * share) × (count * share ≤ 67108864) }
+    requires cells { (1 ≤ count * share) × (count * share ≤ 2 ^ 26) }
     requires workers { (1 ≤ workers) × (workers ≤ 64) }
     requires lines { count ≤ J.count job.now }
     requires share { J.needs job.now ≤ share }
-    ensures table { IfOk result (λ e. e.cells.sizes ≡ record { lines = count; share = share; passes = workers }) }
+    ensures table { IfOk result
+        (λ e. e.cells.sizes ≡ record { lines = count; share = share; passes = workers }) }
     ensures pass { IfOk result (λ e. IsPassOf e.cells e.pass × HasAllTickets e.pass.sees) }
     ensures long { IfOk result (λ e. length e.answers.items ≡ count) }
-    ensures good { IfOk result (λ e. (n : ℕ) (answer : J.Answer) → slice_get e.answers.items n ≡ Some answer
+    ensures good { IfOk result
+        (λ e. (n : ℕ) (answer : J.Answer) → slice_get e.answers.items n ≡ Some answer
         → J.good job.now n answer (pass_state e.pass).known) }
 {
     let (cells, pass) = match SharedCells::start(alloc, count, share, workers) {
@@ -47,7 +49,7 @@ pub fn evaluate<R: Threads + Sync, F: Facts + Sync, J: Job<F>, G: Gate>(
         Err(StartFault::Memory) => return Err(AllocError),
     };
     let (answers, pass) = gang::<R, F, J, G>(rt, &cells, alloc, job, gate, pass, workers)?;
-    pass.tickets();
+    pass.each_ticket_once();
     let answers = ordered(alloc, answers, count)?;
     Ok(Evaluated {
         answers,

@@ -45,7 +45,8 @@ pub trait Job<F: Facts>: Sync {
         requires index { index < count self.now }
         requires spare { needs self.now ≤ (pass_state desk.old).spare }
         requires held { holds held.old (pass_state desk.old).known }
-        ensures good { IfOk result (λ answer. good self.now index answer (pass_state desk.new).known) }
+        ensures good { IfOk result
+            (λ answer. good self.now index answer (pass_state desk.new).known) }
         ensures known { Grows (thing_at (pass_state desk.old)) (thing_at (pass_state desk.new)) }
         ensures rest { (pass_state desk.new).rest ≡ (pass_state desk.old).rest }
         ensures held { IfOk result (λ _. holds held.new (pass_state desk.new).known) };

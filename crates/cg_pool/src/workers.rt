@@ -45,7 +45,8 @@ fn worker<F: Facts, J: Job<F>, G: Gate>(
     requires new { pass.sees.tickets ≡ [] }
     requires lines { cells.now.sizes.lines ≤ J.count job.now }
     requires share { J.needs job.now ≤ cells.now.sizes.share }
-    ensures { IfOk result (λ r. IsBrought (J.good job.now) cells.now (passes_of pass.sees) r.0.items r.1) }
+    ensures { IfOk result
+        (λ r. IsBrought (J.good job.now) cells.now (passes_of pass.sees) r.0.items r.1) }
 {
     let mut answers = Vec::new(alloc);
     let mut held = job.start(alloc);
@@ -53,7 +54,7 @@ fn worker<F: Facts, J: Job<F>, G: Gate>(
         let Some(Ticket(index)) = cells.draw(&mut pass) else {
             return Ok((answers, pass));
         };
-        pass.tickets();
+        pass.each_ticket_once();
         gate.enter(index);
         let done = answered::<F, J>(cells, alloc, job, pass, &mut held, index);
         gate.leave(index);
@@ -89,7 +90,8 @@ pub(crate) fn gang<R: Threads + Sync, F: Facts + Sync, J: Job<F>, G: Gate>(
     requires lines { cells.now.sizes.lines ≤ J.count job.now }
     requires share { J.needs job.now ≤ cells.now.sizes.share }
     requires workers { workers ≡ pass.sees.heirs + 1 }
-    ensures { IfOk result (λ r. IsBrought (J.good job.now) cells.now (passes_of pass.sees) r.0.items r.1) }
+    ensures { IfOk result
+        (λ r. IsBrought (J.good job.now) cells.now (passes_of pass.sees) r.0.items r.1) }
 {
     if workers <= 1 {
         return worker::<F, J, G>(cells, alloc, job, gate, pass);
@@ -103,7 +105,9 @@ pub(crate) fn gang<R: Threads + Sync, F: Facts + Sync, J: Job<F>, G: Gate>(
             requires new { pass.sees.tickets ≡ [] }
             requires lines { cells.now.sizes.lines ≤ J.count job.now }
             requires share { J.needs job.now ≤ cells.now.sizes.share }
-            ensures { IfOk result (λ r. IsBrought (J.good job.entry.now) cells.entry.now (passes_of pass.sees) r.0.items r.1) }
+            ensures { IfOk result
+                (λ r. IsBrought (J.good job.entry.now) cells.entry.now
+                (passes_of pass.sees) r.0.items r.1) }
         { worker::<F, J, G>(cells, alloc, job, gate, pass) },
         move ||
             requires own { IsPassOf cells.now other }
@@ -112,7 +116,9 @@ pub(crate) fn gang<R: Threads + Sync, F: Facts + Sync, J: Job<F>, G: Gate>(
             requires share { J.needs job.now ≤ cells.now.sizes.share }
             requires workers { rest ≡ other.sees.heirs + 1 }
             requires sync { IsSync R.row }
-            ensures { IfOk result (λ r. IsBrought (J.good job.entry.now) cells.entry.now (passes_of other.sees) r.0.items r.1) }
+            ensures { IfOk result
+                (λ r. IsBrought (J.good job.entry.now) cells.entry.now
+                (passes_of other.sees) r.0.items r.1) }
         { gang::<R, F, J, G>(rt, cells, alloc, job, gate, other, rest) },
     );
     let (answers, mut pass) = mine?;

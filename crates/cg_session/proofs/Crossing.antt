@@ -5,11 +5,11 @@ use denote.Param.Send.{IsSync, enum_sync, recorded_sync, sendable, struct_sync}
 use Rattle.cg_session.specs.contracts.job.LineJob.{the_row}
 use Rattle.cg_syntax.specs.contracts.session.SessionLine as line
 use Rattle.cg_syntax.specs.contracts.session.Asked as asked
-use Rattle.cg_syntax.specs.contracts.query.Query as query
-use Rattle.cg_syntax.specs.contracts.expr.Expr as expr
-use Rattle.cg_syntax.specs.contracts.text.Text as bytes
-use Rattle.cg_syntax.proofs.expr.Expr.TheLaws.TheKnot.{crosses}
-use Rattle.cg_syntax.proofs.text.Text.TheSendSync as text
+use Rattle.cg_query.specs.contracts.query.Query as query
+use Rattle.cg_query.specs.contracts.expr.Expr as expr
+use Rattle.cg_query.specs.contracts.text.Text as bytes
+use Rattle.cg_query.proofs.expr.Expr.TheLaws.TheKnot.{crosses}
+use Rattle.cg_query.proofs.text.Text.TheSendSync as text
 use Rattle.std.proofs.vec.Vec.TheSendSync as vec
 use Rattle.std.proofs.boxed.Box.TheSendSync as boxed
 use Rattle.std.proofs.alloc.Global.TheSendSync as global

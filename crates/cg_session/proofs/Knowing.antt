@@ -7,7 +7,7 @@ use Rattle.cg_nodes.specs.Meant.{Meant}
 use Rattle.cg_canon.specs.declared.held.Held.{Held}
 use Rattle.cg_canon.specs.Held.{IsHeld, knowing}
 use Rattle.cg_canon.proofs.Holding.{held_later}
-use Rattle.cg_syntax.specs.Tree.{Question}
+use Rattle.cg_query.specs.Tree.{Question}
 use Rattle.cg_syntax.specs.Naming.{IsClosedQuestion, trees_of_question, uses_of}
 use Rattle.cg_syntax.specs.Session.{AreClosedLines, IsClosedLine, Resolved, Asked_of, Syntax_at, Too_large, Unknown_at, has_some}
 use Rattle.cg_syntax.proofs.Closed.{closed_from_unused, closed_unused}

@@ -4,7 +4,7 @@ use Rattle.std.specs.Prelude.{◌≤◌, slice_get}
 use Rattle.cg_cells.proofs.Levels.{same_Some}
 use Rattle.cg_words.specs.declared.settings.Settings.{Settings}
 use Rattle.cg_eval.specs.Reply.{Piece, IsReplyTo}
-use Rattle.cg_syntax.specs.Tree.{Question}
+use Rattle.cg_query.specs.Tree.{Question}
 use Rattle.cg_syntax.specs.Session.{Resolved, Asked_of, Syntax_at, Too_large, Unknown_at}
 use Rattle.cg_eval.specs.Shown.{shown}
 use Rattle.cg_eval.specs.declared.answered.Answered.{Answered}
@@ -93,3 +93,22 @@ IsOutputOf-unique share positions one (line ∷ lines) p q (r, rest, is_r, is_re
 -- lines that are the same have the same output
 pub same_output : (s : Settings) (rs qs : List (ℕ × Resolved)) (out : Output) → rs ≡ qs → IsOutput s rs out → IsOutput s qs out
 same_output s rs qs out e is = subst (λ (z : List (ℕ × Resolved)). IsOutput s z out) e is
+
+-- ---- some output
+
+some_reply : (share positions : ℕ) → ((q : Question) → (p : Piece) × IsReplyTo share positions q p) → (line : Resolved)
+    → (p : Piece) × IsReply share positions line p
+unfolding IsReply
+some_reply share positions some (Asked_of q) = some q
+some_reply share positions some (Syntax_at column) = (_, refl)
+some_reply share positions some (Unknown_at column) = (_, refl)
+some_reply share positions some Too_large = (_, refl)
+
+pub IsOutputOf-some : (share positions : ℕ) → ((q : Question) → (p : Piece) × IsReplyTo share positions q p)
+    → (lines : List (ℕ × Resolved)) → (out : Output) × IsOutputOf share positions lines out
+unfolding IsOutputOf
+IsOutputOf-some share positions some [] = (nothing, refl)
+IsOutputOf-some share positions some (line ∷ lines) =
+    let (reply, is_reply) = some_reply share positions some line.1 in
+    let (rest, is_rest) = IsOutputOf-some share positions some lines in
+    (_, reply, rest, is_reply, is_rest, refl)

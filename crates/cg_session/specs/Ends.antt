@@ -1,12 +1,12 @@
 -- How a session ends.
-use Rattle.std.specs.Prelude.{ℕ, ◌≡◌, ◌<◌, ◌⊎◌, List, [], Option, Some, IfSome}
+use Rattle.std.specs.Prelude.{ℕ, ◌≡◌, ◌<◌, ◌^◌, ◌⊎◌, List, [], Option, Some, IfSome}
 use Rattle.std.specs.Io.KnownBytes.{Keeps, Appends}
 use Rattle.cg_words.specs.declared.settings.Settings.{Settings}
 use Rattle.cg_words.specs.Accepted.{IsAccepted, settings_of}
 use Rattle.cg_session.specs.declared.status.Status.{Status}
 use Rattle.cg_session.specs.declared.status.Status.TheVariants as status
 use Rattle.cg_session.specs.Output.{Output, IsWritten}
-use Rattle.cg_session.specs.Input.{ReadsOut}
+use Rattle.cg_session.specs.Input.{ReadsOut, TakesAtMost}
 use Rattle.cg_session.specs.Settings.{session_text, IsWithinLimits}
 use Rattle.cg_session.specs.Words.{usage_line}
 use Rattle.cg_session.specs.Written.{AppendsFront}
@@ -43,7 +43,7 @@ WritesSession status.Done s input left before now =
 WritesSession status.Refused s input left before now =
     IfSome (session_text s input) (λ text. (n : ℕ) × (0 < n) × WritesWhole n s text left before now)
 WritesSession status.Usage s input left before now = ⊥
-WritesSession status.Read s input left before now = (s.sample ≡ 0) × Keeps before now
+WritesSession status.Read s input left before now = (s.sample ≡ 0) × TakesAtMost (2 ^ 20) input left × Keeps before now
 WritesSession status.Write s input left before now =
     IfSome (session_text s input) (λ text. WritesFront s text left before now)
 WritesSession status.Memory s input left before now = Keeps before now

@@ -6,7 +6,7 @@ use Rattle.cg_cells.specs.Meaning.{Grows}
 use Rattle.cg_nodes.specs.Meant.{Meant}
 use Rattle.cg_canon.specs.Held.{knowing}
 use Rattle.cg_eval.specs.declared.answered.Answered.{Answered}
-use Rattle.cg_syntax.specs.Tree.{Question}
+use Rattle.cg_query.specs.Tree.{Question}
 use Rattle.cg_eval.specs.Shown.{shown, HandleIs}
 use Rattle.cg_syntax.specs.Session.{Resolved, Asked_of, Syntax_at, Too_large, Unknown_at}
 use Rattle.cg_session.specs.Replies.{HandleOf, IsReply}

@@ -42,7 +42,8 @@ pub fn session_text<S: Source>(
     ensures sample { 0 < settings.sample → source.new ≡ source.old }
 
     ensures failed { IsErrOf result TextFault.Read
-        → (settings.sample ≡ 0) × Rose (S.faults source.old) (S.faults source.new) }
+        → (settings.sample ≡ 0) × Rose (S.faults source.old) (S.faults source.new)
+        × TakesAtMost (2 ^ 20) (S.left source.old) (S.left source.new) }
     ensures too_long { IsErrOf result TextFault.TooLong
         → (settings.sample ≡ 0) × Takes (2 ^ 20 + 1) (S.left source.old) (S.left source.new) }
 
@@ -64,7 +65,8 @@ pub fn read_input<S: Source>(alloc: Global, source: &mut S) -> Result<Vec<u8>, T
     ensures end { OnOk result (IsAtEnd (S.left source.new)) }
     ensures within { IfOk result (λ input. IsWithinBytes input.items) }
 
-    ensures failed { IsErrOf result TextFault.Read → Rose (S.faults source.old) (S.faults source.new) }
+    ensures failed { IsErrOf result TextFault.Read → Rose (S.faults source.old) (S.faults source.new)
+        × TakesAtMost (2 ^ 20) (S.left source.old) (S.left source.new) }
     ensures too_long { IsErrOf result TextFault.TooLong → Takes (2 ^ 20 + 1) (S.left source.old) (S.left source.new) }
 
     ensures taken { TakesAtMost (2 ^ 20 + 1) (S.left source.old) (S.left source.new) }

@@ -8,8 +8,9 @@ ghost use Rattle.cg_session.specs.Written.{AppendsFront};
 use cg_eval::laws::one_reply_to;
 use cg_syntax::laws::one_session;
 
-/// A session writes one text, and has one number of refused lines. Neither depends on the number of workers.
+/// A session writes exactly one text, and has one number of refused lines. Neither depends on the number of workers.
 pub fn one_output()
+    ensures some { (s : Settings) (text : List ℕ) → (p : Output) × IsWritten s text p }
     ensures unique { (s : Settings) (text : List ℕ) (p q : Output) → IsWritten s text p
         → IsWritten s text q → p ≡ q }
     ensures workers { (s : Settings) (workers : ℕ) (text : List ℕ) (p : Output) → IsWritten s text p

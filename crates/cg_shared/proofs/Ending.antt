@@ -11,8 +11,11 @@ use Rattle.cg_shared.specs.declared.view.Plan.{Plan}
 use Rattle.cg_cells.specs.Meaning.{Meaning, Has, Grows, IsLawful}
 use Rattle.cg_cells.specs.Words.{IsStore, things_of, marked}
 use Rattle.cg_cells.specs.Views.{ViewOf, cells_of, knows}
-use Rattle.cg_cells.proofs.Finishing.{finished, finished_knows, finished_noted}
-use Rattle.cg_shared.specs.Plays.{sizes_of, Kept}
+use Rattle.cg_cells.specs.Table.{Whole}
+use Rattle.cg_cells.specs.Steps.{IsOutcome}
+use Rattle.cg_cells.proofs.Runs.{whole_of}
+use Rattle.cg_cells.proofs.Finishing.{finished, finished_knows, finished_noted, finished_words}
+use Rattle.cg_shared.specs.Plays.{sizes_of, table_of, Kept}
 
 pub ok_map : {A E : Type 0} (P Q : A → Type 0) → ((x : A) → P x → Q x) → (r : Result A E) → IfOk r P → IfOk r Q
 ok_map P Q f (Ok x) h = f x h
@@ -53,6 +56,9 @@ module _ {S X : Type 0} (m : Meaning X) (L : IsLawful m) (plan : Plan) (id : ℕ
   abbrev s : State S (ViewOf X)
   s = F.0
 
+  W : Whole m (sizes_of plan) F.0.words F.0.views
+  W = whole_of m L (sizes_of plan) (table_of F.0) F.1.0
+
   keys_in : (i : ℕ) → i < cells_of (sizes_of plan) → slice_index keys i ≡ slice_index F.0.words (1 + i)
   keys_in i lt = keys_are i (omega (arith, size_is)) ∙ ap (λ l. slice_index l (1 + i)) (sym F.2)
 
@@ -61,10 +67,19 @@ module _ {S X : Type 0} (m : Meaning X) (L : IsLawful m) (plan : Plan) (id : ℕ
 
   pub end_store : (spare : ℕ) → spare ≡ v.spare → IsStore m (record { keys = keys; values = values; spare = spare })
   end_store spare is = subst (λ n. IsStore m (record { keys = keys; values = values; spare = n })) (sym is)
-      (finished m L (sizes_of plan) s.words s.views F.1.0 id v (F.1.1, alive) keys values (long_keys ∙ size_is) (long_values ∙ size_is) keys_in values_in)
+      (finished m L (sizes_of plan) s.words s.views W id v (F.1.1, alive) keys values (long_keys ∙ size_is) (long_values ∙ size_is) keys_in values_in)
 
   pub end_knows : Grows (knows v) (map.get (things_of m keys))
-  end_knows = finished_knows m L (sizes_of plan) s.words s.views F.1.0 id v (F.1.1, alive) keys values (long_keys ∙ size_is) (long_values ∙ size_is) keys_in values_in
+  end_knows = finished_knows m L (sizes_of plan) s.words s.views W id v (F.1.1, alive) keys values (long_keys ∙ size_is) (long_values ∙ size_is) keys_in values_in
 
   pub end_noted : (i : ℕ) → Has v.noted i → Has (marked 0 values) i
-  end_noted = finished_noted m L (sizes_of plan) s.words s.views F.1.0 id v (F.1.1, alive) keys values (long_keys ∙ size_is) (long_values ∙ size_is) keys_in values_in
+  end_noted = finished_noted m L (sizes_of plan) s.words s.views W id v (F.1.1, alive) keys values (long_keys ∙ size_is) (long_values ∙ size_is) keys_in values_in
+
+  -- and the words and the pass come of some list of steps
+  pub end_reached : IsOutcome m (sizes_of plan) keys values v
+  end_reached = (
+    table_of s,
+    F.1.0,
+    finished_words m L (sizes_of plan) s.words s.views W id v (F.1.1, alive) keys values (long_keys ∙ size_is) (long_values ∙ size_is) keys_in values_in,
+    (id, (F.1.1, alive)),
+  )

@@ -3,15 +3,22 @@ use Rattle.std.specs.Prelude.{◌≡◌, ◌≢◌, ◌⊎◌, ℕ, suc, ◌+◌
 use Rattle.atomic_table.specs.Table.{State, Me, Step}
 use Rattle.cg_shared.specs.declared.view.Plan.{Plan}
 use Rattle.cg_cells.specs.Meaning.{Meaning, Has}
-use Rattle.cg_cells.specs.Views.{Sizes, ViewOf, cells_of, knows, searched, after_draw, after_look, after_read, after_claim, after_pass, after_note}
-use Rattle.cg_cells.specs.Table.{Whole, Sure}
+use Rattle.cg_cells.specs.Views.{Sizes, ViewOf, cells_of, knows, after_draw, after_look, after_read, after_note}
+use Rattle.cg_cells.specs.Table.{Sure}
+use Rattle.cg_cells.specs.Steps.{Table, IsReachable}
+use Rattle.cg_shared.specs.Searches.{EndsAt, GoesPast}
 
 abbrev pub sizes_of : Plan → Sizes
 sizes_of p = record { lines = p.lines; share = p.share; passes = p.passes }
 
+-- a table's words and the views of its passes
+abbrev pub table_of : {S X : Type 0} → State S (ViewOf X) → Table X
+table_of s = record { words = s.words; views = s.views }
+
 module _ {S X : Type 0} (m : Meaning X) where
+  -- The rule: some list of steps that closes nothing leads to this table from the start
   abbrev pub Kept : Plan → State S (ViewOf X) → Type 0
-  Kept p s = Whole m (sizes_of p) s.words s.views
+  Kept p s = IsReachable m (sizes_of p) (table_of s)
 
   abbrev pub Drew : Step S → Me S (ViewOf X) → ℕ → Me S (ViewOf X) → Type 0
   Drew st me n me' = (me'.1 ≡ me.1) × (me'.0 ≡ after_draw me.0 n) × Sure m me'.0
@@ -36,22 +43,20 @@ module _ {S X : Type 0} (m : Meaning X) where
       × ((value : ℕ) → n ≡ suc value → IsSome (m.note_of t) × (value < cells_of me.0.sizes))
       × (n ≡ 0 → ¬ Has me.0.noted id))
 
-  -- a load of the key word of the cell id, to which the search for a key, which spells t, has come
+  -- a load of the key word of the cell id, to which the search for a key has come
   abbrev pub Probed : ℕ → Step S → Me S (ViewOf X) → ℕ → Me S (ViewOf X) → Type 0
   Probed key st me n me' =
       (me'.1 ≡ me.1)
-      × ((id : ℕ) (t : X) → st.word ≡ 1 + id → m.spells key (knows me.0) ≡ Some t
-      → (n ≡ 0 → me'.0 ≡ me.0)
-      × (n ≡ key → (me'.0 ≡ after_claim me.0 id t) × Sure m me'.0)
-      × (n ≢ 0 → n ≢ key → (me'.0 ≡ after_pass me.0 key) × (searched me.0.probe + 1 < cells_of me.0.sizes)))
+      × ((id : ℕ) → st.word ≡ 1 + id
+      → (n ≡ 0 → me'.0 ≡ me.0) × (n ≡ key → EndsAt m me.0 key id me'.0) × (n ≢ 0 → n ≢ key → GoesPast me.0 key me'.0))
 
-  -- an exchange of 0 for a key, which spells t, in the key word of the cell id
+  -- an exchange of 0 for a key in the key word of the cell id
   abbrev pub Claimed : Step S → Me S (ViewOf X) → ℕ → Me S (ViewOf X) → Type 0
   Claimed st me n me' =
       (me'.1 ≡ me.1)
-      × ((id : ℕ) (t : X) → st.word ≡ 1 + id → m.spells st.second (knows me.0) ≡ Some t
-      → ((n ≡ 0) ⊎ (n ≡ st.second) → (me'.0 ≡ after_claim me.0 id t) × Sure m me'.0)
-      × (n ≢ 0 → n ≢ st.second → (me'.0 ≡ after_pass me.0 st.second) × (searched me.0.probe + 1 < cells_of me.0.sizes)))
+      × ((id : ℕ) → st.word ≡ 1 + id
+      → ((n ≡ 0) ⊎ (n ≡ st.second) → EndsAt m me.0 st.second id me'.0)
+      × (n ≢ 0 → n ≢ st.second → GoesPast me.0 st.second me'.0))
 
   -- an exchange of 0 for a value in the value word of the cell id
   abbrev pub Noted : Step S → Me S (ViewOf X) → ℕ → Me S (ViewOf X) → Type 0

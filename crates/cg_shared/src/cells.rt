@@ -24,8 +24,10 @@ impl<F: Facts> SharedCells<F> {
         requires own { IsPassOf self.now pass.old }
         requires known { Known (pass_state pass.old) id }
         ensures own { IsPassOf self.now pass.new }
-        ensures view { (t : F.Thing) → knows pass.old.sees id ≡ Some t → pass.new.sees ≡ after_look F.meaning pass.old.sees result t }
-        ensures spells { F.meaning.spells result (thing_at (pass_state pass.new)) ≡ thing_at (pass_state pass.old) id }
+        ensures view { (t : F.Thing) → knows pass.old.sees id ≡ Some t
+            → pass.new.sees ≡ after_look F.meaning pass.old.sees result t }
+        ensures spells { F.meaning.spells result (thing_at (pass_state pass.new))
+            ≡ thing_at (pass_state pass.old) id }
         ensures named { (i : ℕ) → Has (names_of result) i → Known (pass_state pass.new) i }
         ensures spends { Spends 0 (pass_state pass.old) (pass_state pass.new) }
     {
@@ -36,17 +38,21 @@ impl<F: Facts> SharedCells<F> {
         key
     }
 
-    /// The id of the cell with this key, as a store of cells claims it. Where an id is known already to be what the key
-    /// spells, as after an earlier claim of the key, it is this id. Each turn of the search is one load, and one exchange
-    /// more where the load read an empty word.
+    /// The id of the cell with this key, as a store of cells claims it. Where an id is known
+    /// already to be what the key spells, as after an earlier claim of the key, it is this id. Each
+    /// turn of the search is one load, and one exchange more where the load read an empty word.
     pub fn claim(&self, pass: &mut Pass<F>, key: Key) -> Id
         requires own { IsPassOf self.now pass.old }
         requires spare { 1 ≤ pass.old.sees.spare }
         requires spells { IsSome (F.meaning.spells key (thing_at (pass_state pass.old))) }
         ensures own { IsPassOf self.now pass.new }
-        ensures view { (t : F.Thing) → F.meaning.spells key (knows pass.old.sees) ≡ Some t → pass.new.sees ≡ after_claim pass.old.sees result t }
-        ensures stands { thing_at (pass_state pass.new) result ≡ F.meaning.spells key (thing_at (pass_state pass.old)) }
-        ensures again { (known : ℕ) → thing_at (pass_state pass.old) known ≡ F.meaning.spells key (thing_at (pass_state pass.old)) → result ≡ known }
+        ensures view { (t : F.Thing) → F.meaning.spells key (knows pass.old.sees) ≡ Some t
+            → pass.new.sees ≡ after_claim pass.old.sees result t }
+        ensures stands { thing_at (pass_state pass.new) result
+            ≡ F.meaning.spells key (thing_at (pass_state pass.old)) }
+        ensures again { (known : ℕ)
+            → thing_at (pass_state pass.old) known
+            ≡ F.meaning.spells key (thing_at (pass_state pass.old)) → result ≡ known }
         ensures spends { Spends 1 (pass_state pass.old) (pass_state pass.new) }
     {
         let shared = &self.table.shared;
@@ -62,7 +68,8 @@ impl<F: Facts> SharedCells<F> {
         requires own { IsPassOf self.now pass.old }
         requires id { Known (pass_state pass.old) id }
         requires value { Known (pass_state pass.old) value }
-        requires due { thing_at (pass_state pass.old) value ≡ note_for F.meaning (thing_at (pass_state pass.old) id) }
+        requires due { thing_at (pass_state pass.old) value
+            ≡ note_for F.meaning (thing_at (pass_state pass.old) id) }
         ensures own { IsPassOf self.now pass.new }
         ensures view { pass.new.sees ≡ after_note pass.old.sees id }
         ensures noted { Has (pass_state pass.new).noted id }
@@ -78,17 +85,19 @@ impl<F: Facts> SharedCells<F> {
         );
     }
 
-    /// The value that is noted on a cell, as a store of cells tells it. It is one load. None comes only where this load read
-    /// an empty word, and the id is then one more of the pass's empties.
+    /// The value that is noted on a cell, as a store of cells tells it. It is one load. None comes
+    /// only where this load read an empty word, and the id is then one more of the pass's empties.
     pub fn noted(&self, pass: &mut Pass<F>, id: Id) -> Option<Id>
         requires own { IsPassOf self.now pass.old }
         requires known { Known (pass_state pass.old) id }
         ensures own { IsPassOf self.now pass.new }
         ensures value { IfSome result (λ value. Known (pass_state pass.new) value
-            × (thing_at (pass_state pass.new) value ≡ note_for F.meaning (thing_at (pass_state pass.old) id))) }
+            × (thing_at (pass_state pass.new) value
+            ≡ note_for F.meaning (thing_at (pass_state pass.old) id))) }
         ensures some { IfSome result (λ value. Has (pass_state pass.new).noted id) }
         ensures none { IfNone result (¬ Has (pass_state pass.old).noted id) }
-        ensures empty { IfNone result (pass.new.sees ≡ record pass.old.sees { empties = id ∷ pass.old.sees.empties }) }
+        ensures empty { IfNone result
+            (pass.new.sees ≡ record pass.old.sees { empties = id ∷ pass.old.sees.empties }) }
         ensures spends { Spends 0 (pass_state pass.old) (pass_state pass.new) }
     {
         let size = self.size() as usize;
@@ -103,8 +112,8 @@ impl<F: Facts> SharedCells<F> {
         }
         Some(Id::new((word - 1) as u32))
     }
-    /// Loads the word of the cell where the search for this key begins, so that it is near when the key is claimed, and answers
-    /// the id of that cell. Nothing is learnt.
+    /// Loads the word of the cell where the search for this key begins, so that it is near when the
+    /// key is claimed, and answers the id of that cell. Nothing is learnt.
     pub fn expect_claim(&self, pass: &mut Pass<F>, key: Key) -> Id
         requires own { IsPassOf self.now pass.old }
         ensures own { IsPassOf self.now pass.new }
@@ -117,7 +126,8 @@ impl<F: Facts> SharedCells<F> {
         Id::new(home as u32)
     }
 
-    /// Loads the value word of this id, if it is one of the table's, so that it is near when it is asked for. Nothing is learnt.
+    /// Loads the value word of this id, if it is one of the table's, so that it is near when it is
+    /// asked for. Nothing is learnt.
     pub fn expect_note(&self, pass: &mut Pass<F>, id: Id)
         requires own { IsPassOf self.now pass.old }
         ensures own { IsPassOf self.now pass.new }

@@ -1,7 +1,8 @@
 // A table with one pass of it, as a store of cells.
 ghost use base.Fml.{ftrue};
 ghost use Rattle.std.specs.Prelude.{◌≡◌};
-ghost use Rattle.cg_shared.specs.Passes.{PassOf, pass_code, RestOf, rest_code, IsPassOf, pass_state};
+ghost use Rattle.cg_shared.specs.Passes.{PassOf, pass_code, RestOf, rest_code, IsPassOf};
+ghost use Rattle.cg_shared.specs.Passes.{pass_state};
 
 use crate::pass::Pass;
 use crate::table::SharedCells;

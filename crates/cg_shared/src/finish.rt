@@ -2,6 +2,7 @@
 ghost use Rattle.std.specs.Prelude.{◌≡◌, ℕ, ◌+◌, ◌<◌, ◌≤◌, length, slice_index, IfOk};
 ghost use Rattle.std.specs.Mem.Slots.{slots_items, slots_len, IsFull};
 ghost use Rattle.cg_cells.specs.Meaning.{Grows};
+ghost use Rattle.cg_cells.specs.Steps.{IsOutcome};
 ghost use Rattle.cg_cells.specs.Store.{IsSublist, thing_at};
 ghost use Rattle.cg_cells.specs.Words.{state_of};
 ghost use Rattle.cg_shared.specs.Passes.{IsPassOf, pass_state};
@@ -22,7 +23,9 @@ fn words_from(
     requires inside { first + count ≤ slots_len closed.now.words }
     requires full { IsFull closed.now.words }
     ensures long { IfOk result (λ v. length v.items ≡ count) }
-    ensures words { IfOk result (λ v. (i : ℕ) → i < count → slice_index v.items i ≡ slice_index (slots_items closed.now.words) (first + i)) }
+    ensures words { IfOk result
+        (λ v. (i : ℕ) → i < count
+        → slice_index v.items i ≡ slice_index (slots_items closed.now.words) (first + i)) }
 {
     let mut words = Vec::with_capacity(alloc, count)?;
     for i in 0..count {
@@ -32,13 +35,19 @@ fn words_from(
 }
 
 impl<F: Facts> SharedCells<F> {
-    /// The cells as a store in plain memory, which knows and has noted what the pass did, and has its claims to spare. The
-    /// keys stay in their cells. After want of memory the table is gone.
+    /// The cells as a store in plain memory, which knows and has noted what the pass did, and has
+    /// its claims to spare. The keys stay in their cells. The words and the pass are those of a
+    /// table to which some list of steps of passes leads from the start. After want of memory the
+    /// table is gone.
     pub fn finish(self, alloc: Global, pass: Pass<F>) -> Result<PlainStore<F>, AllocError>
         requires own { IsPassOf self pass }
-        ensures known { IfOk result (λ s. Grows (thing_at (pass_state pass)) (thing_at (state_of F.meaning s))) }
-        ensures noted { IfOk result (λ s. IsSublist (pass_state pass).noted (state_of F.meaning s).noted) }
+        ensures known { IfOk result
+            (λ s. Grows (thing_at (pass_state pass)) (thing_at (state_of F.meaning s))) }
+        ensures noted { IfOk result
+            (λ s. IsSublist (pass_state pass).noted (state_of F.meaning s).noted) }
         ensures spare { IfOk result (λ s. s.spare ≡ pass.sees.spare) }
+        ensures reached { IfOk result
+            (λ s. IsOutcome F.meaning self.sizes s.keys s.values pass.sees) }
     {
         let size = self.size() as usize;
         let SharedCells {

@@ -1,5 +1,6 @@
 // A pass.
-ghost use Rattle.std.specs.Prelude.{◌≡◌, ℕ, ◌≤◌, ◌^◌, ◌↔◌, IsTrue, if◌then◌else◌, nat_lt, length, true};
+ghost use Rattle.std.specs.Prelude.{◌≡◌, ℕ, ◌≤◌, ◌^◌, ◌↔◌, IsTrue, if◌then◌else◌, nat_lt, length};
+ghost use Rattle.std.specs.Prelude.{true};
 ghost use Rattle.cg_cells.specs.Meaning.{IsInjective, IsReal};
 ghost use Rattle.cg_cells.specs.Store.{Known, thing_at};
 ghost use Rattle.cg_cells.specs.Table.{times, passes_of, HasAllTickets};
@@ -50,15 +51,17 @@ impl<F: Facts> Pass<F> {
         requires a { Known (pass_state self.now) a }
         requires b { Known (pass_state self.now) b }
         ensures ids { IsTrue result ↔ (a ≡ b) }
-        ensures things { IsTrue result ↔ (thing_at (pass_state self.now) a ≡ thing_at (pass_state self.now) b) }
-        ensures real { IsReal F.meaning (thing_at (pass_state self.now) a) × IsReal F.meaning (thing_at (pass_state self.now) b) }
+        ensures things { IsTrue result
+            ↔ (thing_at (pass_state self.now) a ≡ thing_at (pass_state self.now) b) }
+        ensures real { IsReal F.meaning (thing_at (pass_state self.now) a)
+            × IsReal F.meaning (thing_at (pass_state self.now) b) }
     {
         // Read for the proof alone: what holds of a pass is known where a field is read.
         let _seat = &self.seat;
         a.number() == b.number()
     }
 
-    /// Different known ids are known to be different things. It does nothing, and its contract is the fact.
+    /// Fact: different known ids are known to be different things. The call does nothing.
     pub fn apart(&self)
         ensures { IsInjective (thing_at (pass_state self.now)) }
     {
@@ -66,12 +69,15 @@ impl<F: Facts> Pass<F> {
         let _seat = &self.seat;
     }
 
-    /// No line is twice among the tickets, and where none is left and no other pass is about, all are there. It does nothing,
-    /// and its contract is the fact.
-    pub fn tickets(&self)
-        ensures once { (n : ℕ) → times n self.now.sees.tickets ≤ (if nat_lt n self.now.sees.sizes.lines then 1 else 0) }
+    /// Fact: no line is twice among the tickets, and where none is left and no other pass is about,
+    /// all are there. The call does nothing.
+    pub fn each_ticket_once(&self)
+        ensures once { (n : ℕ)
+            → times n self.now.sees.tickets
+            ≤ (if nat_lt n self.now.sees.sizes.lines then 1 else 0) }
         ensures few { length self.now.sees.tickets ≤ self.now.sees.sizes.lines }
-        ensures all { self.now.sees.over ≡ true → passes_of self.now.sees ≡ self.now.sees.sizes.passes → HasAllTickets self.now.sees }
+        ensures all { self.now.sees.over ≡ true
+            → passes_of self.now.sees ≡ self.now.sees.sizes.passes → HasAllTickets self.now.sees }
     {
         // Read for the proof alone: what holds of a pass is known where a field is read.
         let _seat = &self.seat;

@@ -1,5 +1,6 @@
 // The calls on passes: tickets, new passes, and passes that meet.
-ghost use Rattle.std.specs.Prelude.{◌≡◌, ◌+◌, ◌<◌, ◌++◌, [], ◌∷◌, true, MatchOption, IfNone, IsNone};
+ghost use Rattle.std.specs.Prelude.{◌≡◌, ◌+◌, ◌<◌, ◌++◌, [], ◌∷◌, true, MatchOption, IfNone};
+ghost use Rattle.std.specs.Prelude.{IsNone};
 ghost use Rattle.cg_cells.specs.Meaning.{Grows};
 ghost use Rattle.cg_cells.specs.Store.{IsSublist, thing_at};
 ghost use Rattle.cg_cells.specs.Views.{after_split, split_off, after_meet};
@@ -18,9 +19,10 @@ use std::marker::Brand;
 pub struct Ticket(pub u64);
 
 impl<F: Facts> SharedCells<F> {
-    /// A line that no pass has drawn yet, and its share of claims. None comes exactly where none is left: where the counter
-    /// was at `lines` at this step, or at an earlier draw of this pass or of one that was met into it. If none is left and no
-    /// other pass is about, this one has the tickets of all lines, each once.
+    /// A line that no pass has drawn yet, and its share of claims. None comes exactly where none is
+    /// left: where the counter was at `lines` at this step, or at an earlier draw of this pass or
+    /// of one that was met into it. If none is left and no other pass is about, this one has the
+    /// tickets of all lines, each once.
     pub fn draw(&self, pass: &mut Pass<F>) -> Option<Ticket>
         requires own { IsPassOf self.now pass.old }
         ensures own { IsPassOf self.now pass.new }
@@ -31,7 +33,8 @@ impl<F: Facts> SharedCells<F> {
               tickets = pass.old.sees.tickets ++ ticket.0 ∷ [];
             })) }
         ensures over { pass.old.sees.over ≡ true → IsNone result }
-        ensures all { IfNone result (passes_of pass.new.sees ≡ self.now.sizes.passes → HasAllTickets pass.new.sees) }
+        ensures all { IfNone result
+            (passes_of pass.new.sees ≡ self.now.sizes.passes → HasAllTickets pass.new.sees) }
     {
         if pass.over {
             return None;
@@ -50,7 +53,8 @@ impl<F: Facts> SharedCells<F> {
         requires own { IsPassOf self.now pass.old }
         requires few { heirs < pass.old.sees.heirs }
         requires heirs { heirs ≡ H.heirs }
-        ensures old { IsPassOf self.now pass.new × (pass.new.sees ≡ after_split heirs pass.old.sees) }
+        ensures old { IsPassOf self.now pass.new
+            × (pass.new.sees ≡ after_split heirs pass.old.sees) }
         ensures new { IsPassOf self.now result × (result.sees ≡ split_off heirs pass.old.sees) }
     {
         let seat = steps::split::<F, H>(&self.table.shared, &mut pass.seat);
@@ -67,7 +71,8 @@ impl<F: Facts> SharedCells<F> {
     pub fn split(&self, pass: &mut Pass<F>, heirs: u64) -> Pass<F>
         requires own { IsPassOf self.now pass.old }
         requires few { heirs < pass.old.sees.heirs }
-        ensures old { IsPassOf self.now pass.new × (pass.new.sees ≡ after_split heirs pass.old.sees) }
+        ensures old { IsPassOf self.now pass.new
+            × (pass.new.sees ≡ after_split heirs pass.old.sees) }
         ensures new { IsPassOf self.now result × (result.sees ≡ split_off heirs pass.old.sees) }
     {
         self.split_by::<Brand>(pass, heirs)
@@ -78,8 +83,10 @@ impl<F: Facts> SharedCells<F> {
         requires own { IsPassOf self.now pass.old × IsPassOf self.now other }
         ensures own { IsPassOf self.now pass.new }
         ensures view { pass.new.sees ≡ after_meet pass.old.sees other.sees }
-        ensures known { Grows (thing_at (pass_state pass.old)) (thing_at (pass_state pass.new)) × Grows (thing_at (pass_state other)) (thing_at (pass_state pass.new)) }
-        ensures noted { IsSublist (pass_state pass.old).noted (pass_state pass.new).noted × IsSublist (pass_state other).noted (pass_state pass.new).noted }
+        ensures known { Grows (thing_at (pass_state pass.old)) (thing_at (pass_state pass.new))
+            × Grows (thing_at (pass_state other)) (thing_at (pass_state pass.new)) }
+        ensures noted { IsSublist (pass_state pass.old).noted (pass_state pass.new).noted
+            × IsSublist (pass_state other).noted (pass_state pass.new).noted }
     {
         let Pass {
             seat,

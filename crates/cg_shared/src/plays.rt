@@ -1,14 +1,15 @@
 // The rule of a table, and what each step tells.
 ghost use Rattle.std.specs.Prelude.{ℕ};
 ghost use Rattle.cg_cells.specs.Views.{first_view, after_split, split_off, after_meet, ended};
-ghost use Rattle.cg_shared.specs.Plays.{sizes_of, Kept, Drew, Checked, Looked, Read, Probed, Claimed, Noted};
+ghost use Rattle.cg_shared.specs.Plays.{sizes_of, Kept, Drew, Checked, Looked, Read, Probed};
+ghost use Rattle.cg_shared.specs.Plays.{Claimed, Noted};
 
 use crate::view::{Plan, View};
 use atomic_table::{Join, Play, Split, TableRule};
 use cg_cells::Facts;
 use std::marker::{Brand, PhantomData};
 
-/// The rule of the words and of the views of all passes.
+/// The rule of the words and of the views of all passes: some list of steps leads to them from the start.
 pub struct Rule<F> {
     of: PhantomData<F>,
 }

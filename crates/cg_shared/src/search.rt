@@ -1,12 +1,13 @@
 // The search for a key.
-ghost use Rattle.std.specs.Prelude.{◌≡◌, ◌≢◌, ℕ, ◌+◌, ◌-◌, ◌<◌, ◌≤◌, false, None, Some, IsSome, IsTrue, IfSome, IfNone};
+ghost use Rattle.std.specs.Prelude.{◌≡◌, ℕ, ◌+◌, ◌-◌, ◌^◌, ◌<◌, ◌≤◌, false, IsTrue, IfSome, IfNone};
 ghost use Rattle.cg_cells.specs.Index.{place};
 ghost use Rattle.cg_cells.specs.Store.{Spends};
-ghost use Rattle.cg_cells.specs.Views.{knows, cells_of, searched, after_claim, after_pass};
+ghost use Rattle.cg_cells.specs.Views.{knows, cells_of};
 ghost use Rattle.cg_cells.specs.Table.{Sure};
-ghost use Rattle.cg_cells.specs.Steps.{GoesOn};
+ghost use Rattle.cg_cells.specs.Steps.{GoesOn, IsSearching};
 ghost use Rattle.cg_shared.specs.Passes.{state_by};
 ghost use Rattle.cg_shared.specs.Plays.{sizes_of};
+ghost use Rattle.cg_shared.specs.Searches.{IsAt, EndsAt, GoesPast};
 
 use crate::plays::Rule;
 use crate::steps;
@@ -23,24 +24,19 @@ fn takes<F: Facts>(
     steps: u64,
     cell: usize,
 ) -> bool
-    requires table { (seat.old.table_id ≡ shared.now.table_id) × (1 + cell < shared.now.table_id.words) }
-    requires small { cell < 67108864 }
-    requires live { seat.old.me.0.gone ≡ false }
-    requires spare { 1 ≤ seat.old.me.0.spare }
-    requires key { key ≢ 0 }
-    requires spells { IsSome (F.meaning.spells key (knows seat.old.me.0)) }
-    requires goes { GoesOn seat.old.me.0.probe key steps }
-    requires place { cell ≡ place (cells_of (sizes_of shared.now.key)) (F.meaning.home key (cells_of (sizes_of shared.now.key))) steps }
+    requires table { seat.old.table_id ≡ shared.now.table_id }
+    requires at { IsAt F.meaning
+        (sizes_of shared.now.key) shared.now.table_id.words seat.old.me.0 key steps cell }
     ensures same { (seat.new.table_id ≡ seat.old.table_id) × (seat.new.me.1 ≡ seat.old.me.1) }
-    ensures hit { IsTrue result → (t : F.Thing) → F.meaning.spells key (knows seat.old.me.0) ≡ Some t → (seat.new.me.0 ≡ after_claim seat.old.me.0 cell t) × Sure F.meaning seat.new.me.0 }
-    ensures miss { result ≡ false → (seat.new.me.0 ≡ after_pass seat.old.me.0 key) × (searched seat.old.me.0.probe + 1 < cells_of seat.old.me.0.sizes) }
+    ensures hit { IsTrue result → EndsAt F.meaning seat.old.me.0 key cell seat.new.me.0 }
+    ensures miss { result ≡ false → GoesPast seat.old.me.0 key seat.new.me.0 }
 {
     let found = steps::claim::<F>(shared, seat, key, steps, cell);
     found == 0 || found == key
 }
 
-// One turn of the search, at the cell that it has come to: a probe, and a claim where the probe finds no key. Whether the
-// search ends here.
+// One turn of the search, at the cell that it has come to: a probe, and a claim where the probe
+// finds no key. Whether the search ends here.
 fn ends<F: Facts>(
     shared: &Shared<(), View<F::Thing>, Plan, Rule<F>>,
     seat: &mut Seat<(), View<F::Thing>>,
@@ -48,17 +44,12 @@ fn ends<F: Facts>(
     steps: u64,
     cell: usize,
 ) -> bool
-    requires table { (seat.old.table_id ≡ shared.now.table_id) × (1 + cell < shared.now.table_id.words) }
-    requires small { cell < 67108864 }
-    requires live { seat.old.me.0.gone ≡ false }
-    requires spare { 1 ≤ seat.old.me.0.spare }
-    requires key { key ≢ 0 }
-    requires spells { IsSome (F.meaning.spells key (knows seat.old.me.0)) }
-    requires goes { GoesOn seat.old.me.0.probe key steps }
-    requires place { cell ≡ place (cells_of (sizes_of shared.now.key)) (F.meaning.home key (cells_of (sizes_of shared.now.key))) steps }
+    requires table { seat.old.table_id ≡ shared.now.table_id }
+    requires at { IsAt F.meaning
+        (sizes_of shared.now.key) shared.now.table_id.words seat.old.me.0 key steps cell }
     ensures same { (seat.new.table_id ≡ seat.old.table_id) × (seat.new.me.1 ≡ seat.old.me.1) }
-    ensures hit { IsTrue result → (t : F.Thing) → F.meaning.spells key (knows seat.old.me.0) ≡ Some t → (seat.new.me.0 ≡ after_claim seat.old.me.0 cell t) × Sure F.meaning seat.new.me.0 }
-    ensures miss { result ≡ false → (seat.new.me.0 ≡ after_pass seat.old.me.0 key) × (searched seat.old.me.0.probe + 1 < cells_of seat.old.me.0.sizes) }
+    ensures hit { IsTrue result → EndsAt F.meaning seat.old.me.0 key cell seat.new.me.0 }
+    ensures miss { result ≡ false → GoesPast seat.old.me.0 key seat.new.me.0 }
 {
     let found = steps::probe::<F, Brand>(shared, seat, key, steps, cell);
     if found == 0 {
@@ -67,9 +58,10 @@ fn ends<F: Facts>(
     found == key
 }
 
-// A search over the cells from one up to an end, of which the first comes so many steps after the key's home. It ends at the
-// key's cell, or at an empty one, which becomes it, and at none where each of them has another key. Nothing goes round in it,
-// so that a turn is little more than the load.
+// A search over the cells from one up to an end, of which the first comes so many steps after the
+// key's home. It ends at the key's cell, or at an empty one, which becomes it, and at none where
+// each of them has another key. Nothing goes round in it, so that a turn is little more than the
+// load.
 fn claim_among<F: Facts>(
     shared: &Shared<(), View<F::Thing>, Plan, Rule<F>>,
     seat: &mut Seat<(), View<F::Thing>>,
@@ -78,20 +70,22 @@ fn claim_among<F: Facts>(
     first: u64,
     end: u64,
 ) -> Option<u64>
-    requires table { (seat.old.table_id ≡ shared.now.table_id) × (1 + end ≤ shared.now.table_id.words) }
+    requires table { (seat.old.table_id ≡ shared.now.table_id)
+        × (1 + end ≤ shared.now.table_id.words) }
     requires sized { seat.old.me.0.sizes ≡ sizes_of shared.now.key }
-    requires small { (steps ≤ 67108864) × (first ≤ end) × (end ≤ 67108864) }
+    requires small { (steps ≤ 2 ^ 26) × (first ≤ end) × (end ≤ 2 ^ 26) }
     requires live { seat.old.me.0.gone ≡ false }
-    requires spare { 1 ≤ seat.old.me.0.spare }
-    requires key { key ≢ 0 }
-    requires spells { IsSome (F.meaning.spells key (knows seat.old.me.0)) }
-    requires goes { GoesOn seat.old.me.0.probe key steps × (steps < cells_of (sizes_of shared.now.key)) }
-    requires straight { let size = cells_of (sizes_of shared.now.key) in (k : ℕ) → first + k < end → first + k ≡ place size (F.meaning.home key size) (steps + k) }
+    requires search { IsSearching F.meaning seat.old.me.0 key steps }
+    requires left { steps < cells_of (sizes_of shared.now.key) }
+    requires straight { let size = cells_of (sizes_of shared.now.key) in
+        (k : ℕ) → first + k < end → first + k ≡ place size (F.meaning.home key size) (steps + k) }
     ensures same { (seat.new.table_id ≡ seat.old.table_id) × (seat.new.me.1 ≡ seat.old.me.1) }
-    ensures hit { (t : F.Thing) → F.meaning.spells key (knows seat.old.me.0) ≡ Some t → IfSome result (λ cell. (seat.new.me.0 ≡ after_claim seat.old.me.0 cell t) × Sure F.meaning seat.new.me.0) }
+    ensures hit { IfSome result (λ cell. EndsAt F.meaning seat.old.me.0 key cell seat.new.me.0) }
     ensures inside { IfSome result (λ cell. cell < end) }
-    ensures still { IfNone result (seat.new.me.0 ≡ record seat.old.me.0 { probe = seat.new.me.0.probe }) }
-    ensures goes { IfNone result (GoesOn seat.new.me.0.probe key (steps + (end - first)) × (steps + (end - first) < cells_of (sizes_of shared.now.key))) }
+    ensures still { IfNone result
+        (seat.new.me.0 ≡ record seat.old.me.0 { probe = seat.new.me.0.probe }) }
+    ensures goes { IfNone result (GoesOn seat.new.me.0.probe key (steps + (end - first))) }
+    ensures left { IfNone result (steps + (end - first) < cells_of (sizes_of shared.now.key)) }
 {
     let mut cell = first;
     while cell < end {
@@ -111,17 +105,15 @@ fn search<F: Facts>(
     home: u64,
     size: u64,
 ) -> u64
-    requires table { (seat.old.table_id ≡ shared.now.table_id) × (shared.now.table_id.words ≡ 1 + size + size) }
-    requires sized { (size ≡ cells_of (sizes_of shared.now.key)) × (seat.old.me.0.sizes ≡ sizes_of shared.now.key) }
-    requires size { size ≤ 67108864 }
+    requires table { seat.old.table_id ≡ shared.now.table_id }
+    requires words { shared.now.table_id.words ≡ 1 + size + size }
+    requires sized { seat.old.me.0.sizes ≡ sizes_of shared.now.key }
+    requires size { (size ≡ cells_of (sizes_of shared.now.key)) × (size ≤ 2 ^ 26) }
     requires home { (home ≡ F.meaning.home key size) × (home < size) }
     requires live { seat.old.me.0.gone ≡ false }
-    requires spare { 1 ≤ seat.old.me.0.spare }
-    requires fresh { seat.old.me.0.probe ≡ None }
-    requires key { key ≢ 0 }
-    requires spells { IsSome (F.meaning.spells key (knows seat.old.me.0)) }
+    requires search { IsSearching F.meaning seat.old.me.0 key 0 }
     ensures same { (seat.new.table_id ≡ seat.old.table_id) × (seat.new.me.1 ≡ seat.old.me.1) }
-    ensures hit { (t : F.Thing) → F.meaning.spells key (knows seat.old.me.0) ≡ Some t → (seat.new.me.0 ≡ after_claim seat.old.me.0 result t) × Sure F.meaning seat.new.me.0 }
+    ensures hit { EndsAt F.meaning seat.old.me.0 key result seat.new.me.0 }
     ensures inside { result < size }
 {
     if let Some(cell) = claim_among::<F>(shared, seat, key, 0, home, size) {
@@ -133,8 +125,8 @@ fn search<F: Facts>(
     }
 }
 
-/// Claims a key: from its home on, until its cell is found or an empty one becomes it. A turn that finds another key moves
-/// on, so each cell has one turn at most.
+/// Claims a key: from its home on, until its cell is found or an empty one becomes it. A turn that
+/// finds another key moves on, so each cell has one turn at most.
 pub(crate) fn claim<F: Facts>(
     shared: &Shared<(), View<F::Thing>, Plan, Rule<F>>,
     seat: &mut Seat<(), View<F::Thing>>,
@@ -142,21 +134,21 @@ pub(crate) fn claim<F: Facts>(
     home: u64,
     size: u64,
 ) -> u64
-    requires table { (seat.old.table_id ≡ shared.now.table_id) × (shared.now.table_id.words ≡ 1 + size + size) }
-    requires sized { (size ≡ cells_of (sizes_of shared.now.key)) × (seat.old.me.0.sizes ≡ sizes_of shared.now.key) }
-    requires size { size ≤ 67108864 }
+    requires table { seat.old.table_id ≡ shared.now.table_id }
+    requires words { shared.now.table_id.words ≡ 1 + size + size }
+    requires sized { seat.old.me.0.sizes ≡ sizes_of shared.now.key }
+    requires size { (size ≡ cells_of (sizes_of shared.now.key)) × (size ≤ 2 ^ 26) }
     requires home { (home ≡ F.meaning.home key size) × (home < size) }
     requires live { seat.old.me.0.gone ≡ false }
-    requires spare { 1 ≤ seat.old.me.0.spare }
-    requires fresh { seat.old.me.0.probe ≡ None }
-    requires key { key ≢ 0 }
-    requires spells { IsSome (F.meaning.spells key (knows seat.old.me.0)) }
+    requires search { IsSearching F.meaning seat.old.me.0 key 0 }
     ensures same { (seat.new.table_id ≡ seat.old.table_id) × (seat.new.me.1 ≡ seat.old.me.1) }
-    ensures view { (t : F.Thing) → F.meaning.spells key (knows seat.old.me.0) ≡ Some t → seat.new.me.0 ≡ after_claim seat.old.me.0 result t }
+    ensures hit { EndsAt F.meaning seat.old.me.0 key result seat.new.me.0 }
     ensures sure { Sure F.meaning seat.new.me.0 }
     ensures stands { knows seat.new.me.0 result ≡ F.meaning.spells key (knows seat.old.me.0) }
-    ensures again { (id : ℕ) → knows seat.old.me.0 id ≡ F.meaning.spells key (knows seat.old.me.0) → result ≡ id }
-    ensures spends { Spends 1 (state_by seat.old.table_id seat.old.me.0) (state_by seat.new.table_id seat.new.me.0) }
+    ensures again { (id : ℕ) → knows seat.old.me.0 id ≡ F.meaning.spells key (knows seat.old.me.0)
+        → result ≡ id }
+    ensures spends { Spends 1 (state_by seat.old.table_id seat.old.me.0)
+        (state_by seat.new.table_id seat.new.me.0) }
     ensures inside { result < size }
 {
     search::<F>(shared, seat, key, home, size)

@@ -1,14 +1,15 @@
 // Each step on a table's words, by a seat.
-ghost use Rattle.std.specs.Prelude.{◌≡◌, ◌≢◌, ◌⊎◌, ℕ, suc, ◌+◌, ◌<◌, ◌≤◌, false, [], ◌∷◌, Some, IsSome};
+ghost use Rattle.std.specs.Prelude.{◌≡◌, ◌≢◌, ◌⊎◌, ℕ, suc, ◌+◌, ◌^◌, ◌<◌, ◌≤◌, false, [], ◌∷◌};
+ghost use Rattle.std.specs.Prelude.{None, Some, IsSome};
 ghost use Rattle.cg_cells.specs.Meaning.{Has, note_for};
 ghost use Rattle.cg_cells.specs.Parts.{names_of};
 ghost use Rattle.cg_cells.specs.Store.{Spends};
-ghost use Rattle.cg_cells.specs.Index.{place};
-ghost use Rattle.cg_cells.specs.Views.{knows, cells_of, searched, after_draw, after_look, after_claim, after_pass, after_note, after_split, split_off, after_meet};
+ghost use Rattle.cg_cells.specs.Views.{knows, cells_of, after_draw, after_look, after_note};
+ghost use Rattle.cg_cells.specs.Views.{after_split, split_off, after_meet};
 ghost use Rattle.cg_cells.specs.Table.{Sure};
-ghost use Rattle.cg_cells.specs.Steps.{GoesOn};
 ghost use Rattle.cg_shared.specs.Passes.{IsStill, state_by};
 ghost use Rattle.cg_shared.specs.Plays.{sizes_of};
+ghost use Rattle.cg_shared.specs.Searches.{IsAt, EndsAt, GoesPast};
 
 use crate::plays::{
     Checks, Claims, Cuts, Draws, Heirs, Looks, Meets, Notes, Probes, Reads, Rule, Sought,
@@ -36,18 +37,21 @@ pub(crate) fn look<F: Facts>(
     seat: &mut Seat<(), View<F::Thing>>,
     cell: usize,
 ) -> u64
-    requires table { (seat.old.table_id ≡ shared.now.table_id) × (1 + cell < shared.now.table_id.words) }
-    requires small { cell < 67108864 }
+    requires table { (seat.old.table_id ≡ shared.now.table_id)
+        × (1 + cell < shared.now.table_id.words) }
+    requires small { cell < 2 ^ 26 }
     requires live { seat.old.me.0.gone ≡ false }
     requires known { IsSome (knows seat.old.me.0 cell) }
     ensures same { (seat.new.table_id ≡ seat.old.table_id) × (seat.new.me.1 ≡ seat.old.me.1) }
-    ensures view { (t : F.Thing) → knows seat.old.me.0 cell ≡ Some t → seat.new.me.0 ≡ after_look F.meaning seat.old.me.0 result t }
+    ensures view { (t : F.Thing) → knows seat.old.me.0 cell ≡ Some t
+        → seat.new.me.0 ≡ after_look F.meaning seat.old.me.0 result t }
     ensures still { IsStill seat.old.me.0 seat.new.me.0 }
     ensures sure { Sure F.meaning seat.new.me.0 }
     ensures key { result ≢ 0 }
     ensures spells { F.meaning.spells result (knows seat.new.me.0) ≡ knows seat.old.me.0 cell }
     ensures named { (i : ℕ) → Has (names_of result) i → IsSome (knows seat.new.me.0 i) }
-    ensures spends { Spends 0 (state_by seat.old.table_id seat.old.me.0) (state_by seat.new.table_id seat.new.me.0) }
+    ensures spends { Spends 0 (state_by seat.old.table_id seat.old.me.0)
+        (state_by seat.new.table_id seat.new.me.0) }
 {
     shared.load::<Looks<F>>(seat, 1 + cell)
 }
@@ -58,19 +62,25 @@ pub(crate) fn read<F: Facts>(
     size: usize,
     cell: usize,
 ) -> u64
-    requires table { (seat.old.table_id ≡ shared.now.table_id) × (1 + size + cell < shared.now.table_id.words) }
-    requires small { (size ≤ 67108864) × (cell < 67108864) }
-    requires sized { (size ≡ cells_of (sizes_of shared.now.key)) × (seat.old.me.0.sizes ≡ sizes_of shared.now.key) }
+    requires table { (seat.old.table_id ≡ shared.now.table_id)
+        × (1 + size + cell < shared.now.table_id.words) }
+    requires small { (size ≤ 2 ^ 26) × (cell < 2 ^ 26) }
+    requires sized { (size ≡ cells_of (sizes_of shared.now.key))
+        × (seat.old.me.0.sizes ≡ sizes_of shared.now.key) }
     requires live { seat.old.me.0.gone ≡ false }
     requires known { IsSome (knows seat.old.me.0 cell) }
     ensures same { (seat.new.table_id ≡ seat.old.table_id) × (seat.new.me.1 ≡ seat.old.me.1) }
     ensures still { IsStill seat.old.me.0 seat.new.me.0 }
     ensures sure { Sure F.meaning seat.new.me.0 }
-    ensures value { (value : ℕ) → result ≡ suc value → (value < size) × IsSome (knows seat.new.me.0 value)
-        × (knows seat.new.me.0 value ≡ note_for F.meaning (knows seat.old.me.0 cell)) × Has seat.new.me.0.noted cell }
-    ensures empty { result ≡ 0 → seat.new.me.0 ≡ record seat.old.me.0 { empties = cell ∷ seat.old.me.0.empties } }
+    ensures value { (value : ℕ) → result ≡ suc value → (value < size)
+        × IsSome (knows seat.new.me.0 value)
+        × (knows seat.new.me.0 value ≡ note_for F.meaning (knows seat.old.me.0 cell))
+        × Has seat.new.me.0.noted cell }
+    ensures empty { result ≡ 0
+        → seat.new.me.0 ≡ record seat.old.me.0 { empties = cell ∷ seat.old.me.0.empties } }
     ensures none { result ≡ 0 → ¬ Has seat.old.me.0.noted cell }
-    ensures spends { Spends 0 (state_by seat.old.table_id seat.old.me.0) (state_by seat.new.table_id seat.new.me.0) }
+    ensures spends { Spends 0 (state_by seat.old.table_id seat.old.me.0)
+        (state_by seat.new.table_id seat.new.me.0) }
 {
     shared.load::<Reads<F>>(seat, 1 + size + cell)
 }
@@ -82,19 +92,14 @@ pub(crate) fn probe<F: Facts, K: Sought>(
     steps: u64,
     cell: usize,
 ) -> u64
-    requires table { (seat.old.table_id ≡ shared.now.table_id) × (1 + cell < shared.now.table_id.words) }
-    requires small { cell < 67108864 }
-    requires live { seat.old.me.0.gone ≡ false }
-    requires spare { 1 ≤ seat.old.me.0.spare }
-    requires key { key ≢ 0 }
+    requires table { seat.old.table_id ≡ shared.now.table_id }
+    requires at { IsAt F.meaning
+        (sizes_of shared.now.key) shared.now.table_id.words seat.old.me.0 key steps cell }
     requires sought { key ≡ K.key }
-    requires spells { IsSome (F.meaning.spells key (knows seat.old.me.0)) }
-    requires goes { GoesOn seat.old.me.0.probe key steps }
-    requires place { cell ≡ place (cells_of (sizes_of shared.now.key)) (F.meaning.home key (cells_of (sizes_of shared.now.key))) steps }
     ensures same { (seat.new.table_id ≡ seat.old.table_id) × (seat.new.me.1 ≡ seat.old.me.1) }
     ensures empty { result ≡ 0 → seat.new.me.0 ≡ seat.old.me.0 }
-    ensures hit { (t : F.Thing) → F.meaning.spells key (knows seat.old.me.0) ≡ Some t → result ≡ key → (seat.new.me.0 ≡ after_claim seat.old.me.0 cell t) × Sure F.meaning seat.new.me.0 }
-    ensures miss { result ≢ 0 → result ≢ key → (seat.new.me.0 ≡ after_pass seat.old.me.0 key) × (searched seat.old.me.0.probe + 1 < cells_of seat.old.me.0.sizes) }
+    ensures hit { result ≡ key → EndsAt F.meaning seat.old.me.0 key cell seat.new.me.0 }
+    ensures miss { result ≢ 0 → result ≢ key → GoesPast seat.old.me.0 key seat.new.me.0 }
 {
     shared.load::<Probes<F, K>>(seat, 1 + cell)
 }
@@ -106,17 +111,13 @@ pub(crate) fn claim<F: Facts>(
     steps: u64,
     cell: usize,
 ) -> u64
-    requires table { (seat.old.table_id ≡ shared.now.table_id) × (1 + cell < shared.now.table_id.words) }
-    requires small { cell < 67108864 }
-    requires live { seat.old.me.0.gone ≡ false }
-    requires spare { 1 ≤ seat.old.me.0.spare }
-    requires key { key ≢ 0 }
-    requires spells { IsSome (F.meaning.spells key (knows seat.old.me.0)) }
-    requires goes { GoesOn seat.old.me.0.probe key steps }
-    requires place { cell ≡ place (cells_of (sizes_of shared.now.key)) (F.meaning.home key (cells_of (sizes_of shared.now.key))) steps }
+    requires table { seat.old.table_id ≡ shared.now.table_id }
+    requires at { IsAt F.meaning
+        (sizes_of shared.now.key) shared.now.table_id.words seat.old.me.0 key steps cell }
     ensures same { (seat.new.table_id ≡ seat.old.table_id) × (seat.new.me.1 ≡ seat.old.me.1) }
-    ensures hit { (t : F.Thing) → F.meaning.spells key (knows seat.old.me.0) ≡ Some t → (result ≡ 0) ⊎ (result ≡ key) → (seat.new.me.0 ≡ after_claim seat.old.me.0 cell t) × Sure F.meaning seat.new.me.0 }
-    ensures miss { result ≢ 0 → result ≢ key → (seat.new.me.0 ≡ after_pass seat.old.me.0 key) × (searched seat.old.me.0.probe + 1 < cells_of seat.old.me.0.sizes) }
+    ensures hit { (result ≡ 0) ⊎ (result ≡ key)
+        → EndsAt F.meaning seat.old.me.0 key cell seat.new.me.0 }
+    ensures miss { result ≢ 0 → result ≢ key → GoesPast seat.old.me.0 key seat.new.me.0 }
 {
     shared.compare_exchange::<Claims<F>>(seat, 1 + cell, 0, key)
 }
@@ -128,12 +129,15 @@ pub(crate) fn note<F: Facts>(
     cell: usize,
     value: u64,
 )
-    requires table { (seat.old.table_id ≡ shared.now.table_id) × (1 + size + cell < shared.now.table_id.words) }
-    requires small { (size ≤ 67108864) × (cell < 67108864) × (value < 67108864) }
-    requires sized { (size ≡ cells_of (sizes_of shared.now.key)) × (seat.old.me.0.sizes ≡ sizes_of shared.now.key) }
+    requires table { (seat.old.table_id ≡ shared.now.table_id)
+        × (1 + size + cell < shared.now.table_id.words) }
+    requires small { (size ≤ 2 ^ 26) × (cell < 2 ^ 26) × (value < 2 ^ 26) }
+    requires sized { (size ≡ cells_of (sizes_of shared.now.key))
+        × (seat.old.me.0.sizes ≡ sizes_of shared.now.key) }
     requires live { seat.old.me.0.gone ≡ false }
     requires known { IsSome (knows seat.old.me.0 value) }
-    requires due { (t : F.Thing) × (knows seat.old.me.0 cell ≡ Some t) × (F.meaning.note_of t ≡ knows seat.old.me.0 value) }
+    requires due { (t : F.Thing) × (knows seat.old.me.0 cell ≡ Some t)
+        × (F.meaning.note_of t ≡ knows seat.old.me.0 value) }
     ensures same { (seat.new.table_id ≡ seat.old.table_id) × (seat.new.me.1 ≡ seat.old.me.1) }
     ensures view { seat.new.me.0 ≡ after_note seat.old.me.0 cell }
     ensures sure { Sure F.meaning seat.new.me.0 }
@@ -150,8 +154,10 @@ pub(crate) fn split<F: Facts, H: Heirs>(
     requires heirs { H.heirs < seat.old.me.0.heirs }
     requires sure { Sure F.meaning seat.old.me.0 }
     ensures sure { Sure F.meaning seat.new.me.0 × Sure F.meaning result.me.0 }
-    ensures old { (seat.new.table_id ≡ seat.old.table_id) × (seat.new.me ≡ (after_split H.heirs seat.old.me.0, seat.old.me.1)) }
-    ensures new { (result.table_id ≡ seat.old.table_id) × (result.me ≡ (split_off H.heirs seat.old.me.0, [])) }
+    ensures old { (seat.new.table_id ≡ seat.old.table_id)
+        × (seat.new.me ≡ (after_split H.heirs seat.old.me.0, seat.old.me.1)) }
+    ensures new { (result.table_id ≡ seat.old.table_id)
+        × (result.me ≡ (split_off H.heirs seat.old.me.0, [])) }
 {
     shared.split_seat::<Cuts<H>>(seat)
 }
@@ -162,7 +168,8 @@ pub(crate) fn check<F: Facts>(
     seat: &mut Seat<(), View<F::Thing>>,
     word: usize,
 )
-    requires table { (seat.old.table_id ≡ shared.now.table_id) × (word < shared.now.table_id.words) }
+    requires table { (seat.old.table_id ≡ shared.now.table_id)
+        × (word < shared.now.table_id.words) }
     requires live { seat.old.me.0.gone ≡ false }
     ensures same { (seat.new.table_id ≡ seat.old.table_id) × (seat.new.me.1 ≡ seat.old.me.1) }
     ensures view { seat.new.me.0 ≡ seat.old.me.0 }
@@ -176,9 +183,11 @@ pub(crate) fn meet<F: Facts>(
     seat: &mut Seat<(), View<F::Thing>>,
     other: Seat<(), View<F::Thing>>,
 )
-    requires table { (seat.old.table_id ≡ shared.now.table_id) × (other.table_id ≡ shared.now.table_id) × (0 < shared.now.table_id.words) }
+    requires table { (seat.old.table_id ≡ shared.now.table_id)
+        × (other.table_id ≡ shared.now.table_id) × (0 < shared.now.table_id.words) }
     requires live { (seat.old.me.0.gone ≡ false) × (other.me.0.gone ≡ false) }
     requires free { other.me.1 ≡ [] }
+    requires search { (seat.old.me.0.probe ≡ None) × (other.me.0.probe ≡ None) }
     ensures same { (seat.new.table_id ≡ seat.old.table_id) × (seat.new.me.1 ≡ seat.old.me.1) }
     ensures view { seat.new.me.0 ≡ after_meet seat.old.me.0 other.me.0 }
     ensures sure { Sure F.meaning seat.new.me.0 }

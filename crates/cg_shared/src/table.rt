@@ -34,8 +34,10 @@ impl<F: Facts> Model for SharedCells<F> {
     ghost view = { λ c. record { table = c.table.shared.table_id; sizes = sizes_of c.plan } };
 
     ghost invariant = { λ c. (c.table.shared.key ≡ c.plan)
-        × (c.table.shared.table_id.words ≡ 1 + cells_of (sizes_of c.plan) + cells_of (sizes_of c.plan))
-        × (c.table.shared.table_id.slots ≡ 0) × IsAllowed (sizes_of c.plan) × (c.size ≡ cells_of (sizes_of c.plan)) };
+        × (c.table.shared.table_id.words ≡ 1 + cells_of (sizes_of c.plan) + cells_of
+        (sizes_of c.plan))
+        × (c.table.shared.table_id.slots ≡ 0) × IsAllowed (sizes_of c.plan)
+        × (c.size ≡ cells_of (sizes_of c.plan)) };
 }
 
 /// Why no table was made.
@@ -51,7 +53,8 @@ pub enum StartFault {
 
 // How many cells there are to be, if a table of these sizes may be made.
 fn allowed(plan: Plan) -> Option<u64>
-    ensures { MatchOption result (¬ IsAllowed (sizes_of plan)) (λ size. (size ≡ cells_of (sizes_of plan)) × IsAllowed (sizes_of plan)) }
+    ensures { MatchOption result (¬ IsAllowed (sizes_of plan))
+        (λ size. (size ≡ cells_of (sizes_of plan)) × IsAllowed (sizes_of plan)) }
 {
     let size = plan.lines.checked_mul(plan.share)?;
     let cells = 1 <= size && size <= MOST_CELLS;
@@ -60,17 +63,19 @@ fn allowed(plan: Plan) -> Option<u64>
 }
 
 impl<F: Facts> SharedCells<F> {
-    /// A table of `lines * share` empty cells, and its first pass, of which up to `passes - 1` others may come. It takes
-    /// all its memory here, 16 bytes a cell.
+    /// A table of `lines * share` empty cells, and its first pass, of which up to `passes - 1`
+    /// others may come. It takes all its memory here, 16 bytes a cell.
     pub fn start(
         alloc: Global,
         lines: u64,
         share: u64,
         passes: u64,
     ) -> Result<(SharedCells<F>, Pass<F>), StartFault>
-        ensures cells { IfOk result (λ r. r.0.sizes ≡ record { lines = lines; share = share; passes = passes }) }
+        ensures cells { IfOk result
+            (λ r. r.0.sizes ≡ record { lines = lines; share = share; passes = passes }) }
         ensures pass { IfOk result (λ r. IsPassOf r.0 r.1 × (r.1.sees ≡ first_view r.0.sizes)) }
-        ensures size { (result ≡ Err StartFault.Size) ↔ (¬ IsAllowed (record { lines = lines; share = share; passes = passes })) }
+        ensures size { (result ≡ Err StartFault.Size)
+            ↔ (¬ IsAllowed (record { lines = lines; share = share; passes = passes })) }
     {
         let plan = Plan {
             lines,

@@ -1,5 +1,5 @@
-//! A note by one pass, read by another.
-ghost use Rattle.std.specs.Prelude.{◌≡◌, ◌≤◌, pos};
+//! A note by a pass in one thread, read by a pass of another once the two have met.
+ghost use Rattle.std.specs.Prelude.{◌≡◌, ◌≤◌, pos, IfSome};
 ghost use Rattle.cg_dyadic.specs.Number.{whole};
 ghost use Rattle.cg_cells.specs.Store.{Known, Spends};
 ghost use Rattle.cg_nodes.specs.Games.{IsGame};
@@ -14,6 +14,8 @@ use cg_shared::{Desk, Pass, SharedCells};
 use cg_sum::sum;
 use std::alloc::Global;
 use std::test::Fail;
+use std::thread;
+use std::thread::Threads;
 
 /// The number 1.
 fn one() -> Dyadic
@@ -102,6 +104,66 @@ fn read_after(
     cells.noted(&mut pass, id)
 }
 
+/// The pass, which has looked at the cell.
+#[tactic(auto, using(crate::proofs::Knowing::known_grows))]
+fn looked(cells: &SharedCells<Games>, mut pass: Pass<Games>, id: Id) -> Pass<Games>
+    requires own { IsPassOf cells.now pass }
+    requires id { Known (pass_state pass) id }
+    ensures own { IsPassOf cells.now result }
+    ensures id { Known (pass_state result) id }
+{
+    let _key = cells.look(&mut pass, id);
+    pass
+}
+
+/// Star, its sum with the number 1, which is noted, and the pass that made them.
+fn star_and_sum(
+    alloc: Global,
+    cells: &SharedCells<Games>,
+    pass: Pass<Games>,
+) -> Option<(Star, Handle, Pass<Games>)>
+    requires own { IsPassOf cells.now pass }
+    requires spare { 12 ≤ pass.sees.spare }
+    ensures own { IfSome result (λ made. IsPassOf cells.now made.2) }
+{
+    let mut desk = Desk::new(cells, pass);
+    let made = make_star(&mut desk);
+    let sum = and_one(alloc, &mut desk, made.star).ok()?;
+    Some((made, sum, desk.into_pass()))
+}
+
+/// Two threads: one looks at a cell while the other makes star and notes its sum with the number 1. What the second made, and
+/// what the first reads on the cell once they have met.
+fn read_after_threads<R: Threads + Sync>(
+    rt: &R,
+    alloc: Global,
+    cells: &SharedCells<Games>,
+    pass: Pass<Games>,
+    other: Pass<Games>,
+    id: Id,
+) -> Option<(Star, Handle, Option<Id>)>
+    requires own { IsPassOf cells.now pass × IsPassOf cells.now other }
+    requires id { Known (pass_state pass) id }
+    requires spare { 12 ≤ other.sees.spare }
+{
+    let (mine, theirs) = thread::join(
+        rt,
+        move ||
+            requires own { IsPassOf cells.now pass }
+            requires id { Known (pass_state pass) id }
+            ensures own { IsPassOf cells.entry.now result }
+            ensures id { Known (pass_state result) id }
+        { looked(cells, pass, id) },
+        move ||
+            requires own { IsPassOf cells.now other }
+            requires spare { 12 ≤ other.sees.spare }
+            ensures own { IfSome result (λ made. IsPassOf cells.entry.now made.2) }
+        { star_and_sum(alloc, cells, other) },
+    );
+    let (made, sum, other) = theirs?;
+    Some((made, sum, read_after(cells, mine, other, id)))
+}
+
 #[test]
 fn a_note_is_read_after_a_meeting(rt: HostRuntime) -> Result<(), Fail> {
     let alloc = rt.alloc();
@@ -113,12 +175,18 @@ fn a_note_is_read_after_a_meeting(rt: HostRuntime) -> Result<(), Fail> {
     let mut desk = Desk::new(&cells, pass);
     let (made, pair, unread) = star_unread(&mut desk);
     assert!(rt; unread);
-    let mut other_desk = Desk::new(&cells, other);
-    let star = make_star(&mut other_desk).star;
-    assert_eq!(rt; star, made.star);
-    let sum = and_one(alloc, &mut other_desk, star)?;
-    assert!(rt; sum != star);
-    let noted = read_after(&cells, desk.into_pass(), other_desk.into_pass(), pair);
+    let Some((theirs, sum, noted)) = read_after_threads(
+        &rt,
+        alloc,
+        &cells,
+        desk.into_pass(),
+        other,
+        pair,
+    ) else {
+        return Err("no sum")?;
+    };
+    assert_eq!(rt; theirs, made);
+    assert!(rt; sum != made.star);
     assert_eq!(rt; noted, Some(sum.id()));
     Ok(())
 }

@@ -4,7 +4,7 @@ ghost use Rattle.std.specs.Thread.{IsSync};
 ghost use Rattle.cg_dyadic.specs.Number.{whole};
 ghost use Rattle.cg_cells.specs.Store.{Spends};
 ghost use Rattle.cg_nodes.specs.Games.{StandsFor};
-ghost use Rattle.cg_node_rows.specs.Stars.{star, zero_game};
+ghost use Rattle.cg_tree_rows.specs.Stars.{star, zero_game};
 ghost use Rattle.cg_shared.specs.Passes.{IsPassOf, pass_state};
 
 use cg_cells::CellStore;

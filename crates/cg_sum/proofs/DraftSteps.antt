@@ -5,9 +5,9 @@ use Rattle.cg_cells.specs.Store.{State, thing_at}
 use Rattle.cg_form.specs.Canonical.{Canonical}
 use Rattle.cg_form.specs.Game.{Game, node}
 use Rattle.cg_form.specs.Sum.{sum}
+use Rattle.cg_nodes.specs.Can.{can}
 use Rattle.cg_nodes.specs.Games.{StandFor, game_at, games_at}
 use Rattle.cg_nodes.specs.Meant.{Meant}
-use Rattle.cg_nodes.specs.Spelled.{can}
 use Rattle.cg_sum.specs.Progress.{IsDraftOf, IsOneNode, IsSides, IsSumReady, TermsApart}
 use Rattle.cg_sum.specs.Written.{written_lefts, written_rights}
 use Rattle.cg_sum.specs.declared.form.Draft.{Draft}

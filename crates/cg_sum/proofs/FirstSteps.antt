@@ -17,6 +17,7 @@ use Rattle.cg_dyadic.proofs.Integers.{le_or_gt}
 use Rattle.cg_form.specs.Canonical.{Canonical}
 use Rattle.cg_form.specs.Game.{Game, node}
 use Rattle.cg_form.specs.Sum.{sum}
+use Rattle.cg_nodes.specs.Can.{can}
 use Rattle.cg_nimbers.proofs.CanonicalNimbers.{nimber-canonical, nimbers_below-front}
 use Rattle.cg_nimbers.proofs.NimberLists.{nimbers_below-next}
 use Rattle.cg_nimbers.proofs.NimberPositions.{length-nimbers_below}
@@ -28,7 +29,6 @@ use Rattle.cg_nodes.proofs.Members.{has_game}
 use Rattle.cg_nodes.specs.CanForms.{can-fixed}
 use Rattle.cg_nodes.specs.Games.{AreGames, StandFor, StandsFor, game_at, games_at}
 use Rattle.cg_nodes.specs.Meant.{Meant}
-use Rattle.cg_nodes.specs.Spelled.{can}
 use Rattle.cg_sum.specs.Firsts.{AreFirst, HoldsCosts, HoldsFirst, nimber_item}
 use Rattle.cg_sum.specs.declared.firsts.FirstNimbers.{FirstNimbers}
 use Rattle.cg_sum.proofs.Members.{has_read}

@@ -11,6 +11,7 @@ use Rattle.cg_form.specs.Order.{Le}
 use Rattle.cg_form.specs.Structure.{Before, Rises}
 use Rattle.cg_form.specs.Sum.{negative, sum}
 use Rattle.cg_form.proofs.Best.{append_nil}
+use Rattle.cg_nodes.specs.Can.{can}
 use Rattle.cg_form.proofs.Negative.{le-negative}
 use Rattle.cg_form.proofs.Preorder.{le_trans}
 use Rattle.cg_form.proofs.Structure.{before_not_same}
@@ -20,7 +21,6 @@ use Rattle.cg_nodes.proofs.Members.{length_games}
 use Rattle.cg_nodes.specs.CanForms.{can-equal}
 use Rattle.cg_nodes.specs.Games.{StandFor, games_at}
 use Rattle.cg_nodes.specs.Meant.{Meant}
-use Rattle.cg_nodes.specs.Spelled.{can}
 use Rattle.cg_sum.specs.Written.{written_lefts, written_rights}
 use Rattle.cg_sum.proofs.Sums.{option_forms}
 

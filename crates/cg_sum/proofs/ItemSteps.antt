@@ -14,12 +14,12 @@ use Rattle.cg_dyadic.specs.declared.fault.RangeFault.{RangeFault}
 use Rattle.cg_form.specs.Canonical.{Canonical}
 use Rattle.cg_form.specs.Game.{Game, node, number}
 use Rattle.cg_form.specs.Sum.{sum}
+use Rattle.cg_nodes.specs.Can.{can}
 use Rattle.cg_nodes.proofs.Later.{stands_game, stands_later}
-use Rattle.cg_nodes.specs.CanForms.{can-fixed}
 use Rattle.cg_sum.specs.declared.written.Sides.{Sides}
+use Rattle.cg_nodes.specs.CanForms.{can-fixed}
 use Rattle.cg_nodes.specs.Games.{IsGame, IsInRange, StandsFor, game_at, games_at}
 use Rattle.cg_nodes.specs.Meant.{Meant, form}
-use Rattle.cg_nodes.specs.Spelled.{can}
 use Rattle.cg_canon.specs.SumItems.{sum_item}
 use Rattle.cg_canon.specs.Made.{ItemsMade}
 use Rattle.cg_sum.specs.Progress.{IsNoteOf, IsSides}

@@ -7,9 +7,9 @@ use Rattle.cg_cells.specs.Store.{State, thing_at}
 use Rattle.cg_form.specs.Game.{Game}
 use Rattle.cg_form.specs.Sum.{sum}
 use Rattle.cg_nodes.proofs.Later.{game_later, is_game_later}
+use Rattle.cg_nodes.specs.Can.{can}
 use Rattle.cg_nodes.specs.Games.{IsGame, StandsFor, game_at}
 use Rattle.cg_nodes.specs.Meant.{Meant}
-use Rattle.cg_nodes.specs.Spelled.{can}
 use Rattle.cg_sum.specs.Finds.{sum_found}
 use Rattle.cg_sum.specs.Progress.{FindsMore, HoldsNimbers, HoldsSums}
 use Rattle.cg_sum.specs.declared.found.Sums.{Sums}

@@ -15,9 +15,9 @@ use Rattle.cg_form.specs.Game.{Game, number}
 use Rattle.cg_form.specs.Multiple.{multiple}
 use Rattle.cg_form.specs.Sum.{sum}
 use Rattle.cg_nodes.proofs.Later.{game_later, is_game_later, stands_game, stands_is_game}
+use Rattle.cg_nodes.specs.Can.{can}
 use Rattle.cg_nodes.specs.Games.{IsGame, StandsFor, game_at}
 use Rattle.cg_nodes.specs.Meant.{Meant}
-use Rattle.cg_nodes.specs.Spelled.{can}
 use Rattle.cg_canon.specs.SumItems.{sum_items}
 use Rattle.cg_sum.specs.Lists.{multiple_items, step_items}
 use Rattle.cg_canon.specs.Made.{ItemsMade}

@@ -6,9 +6,9 @@ use Rattle.cg_form.specs.Game.{Among, Game, node, number, options}
 use Rattle.cg_form.specs.Sum.{negative}
 use Rattle.cg_form.proofs.Among.{carry}
 use Rattle.cg_nodes.proofs.Later.{game_later, is_game_later, stands_later}
+use Rattle.cg_nodes.specs.Can.{can}
 use Rattle.cg_nodes.specs.Games.{IsNode, StandFor, StandsFor, game_at, games_at}
 use Rattle.cg_nodes.specs.Meant.{Meant, form}
-use Rattle.cg_nodes.specs.Spelled.{can}
 use Rattle.cg_sum.specs.Finds.{negative_found, negative_handle}
 use Rattle.cg_sum.specs.declared.written.Sides.{Sides}
 use Rattle.cg_sum.specs.Progress.{HoldsNegatives, IsNegativeReady, IsSides}

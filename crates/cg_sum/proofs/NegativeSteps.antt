@@ -16,10 +16,10 @@ use Rattle.cg_dyadic.specs.Number.{Number}
 use Rattle.cg_form.specs.Game.{Among, Game, number}
 use Rattle.cg_form.specs.Sum.{negative}
 use Rattle.cg_nodes.proofs.Later.{game_later, is_game_later, stands_later}
+use Rattle.cg_nodes.specs.Can.{can}
 use Rattle.cg_nodes.specs.Games.{AreGames, IsGame, StandsFor, game_at, games_at}
 use Rattle.cg_nodes.specs.Meant.{Meant}
-use Rattle.cg_nodes.specs.Positions.{positions_of}
-use Rattle.cg_nodes.specs.Spelled.{can}
+use Rattle.cg_form.specs.Positions.{positions_of}
 use Rattle.cg_sum.specs.Finds.{negative_found}
 use Rattle.cg_sum.specs.Lists.{minus_item, minus_items, negative_items}
 use Rattle.cg_canon.specs.Made.{ItemsMade}

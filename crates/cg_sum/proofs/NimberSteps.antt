@@ -13,15 +13,15 @@ use Rattle.cg_dyadic.specs.Number.{InRange, Number, between, num_of, whole}
 use Rattle.cg_form.specs.Canonical.{Canonical}
 use Rattle.cg_form.specs.Game.{Game, node, number}
 use Rattle.cg_form.specs.Sum.{sum}
+use Rattle.cg_nodes.specs.Can.{can}
 use Rattle.cg_nimbers.proofs.NimberSums.{nimber_sum}
 use Rattle.cg_nimbers.specs.Nimbers.{nimber_form, nimber_over, nimbers_below, zero_form}
 use Rattle.cg_nodes.proofs.Forms.{can-node, can-same}
-use Rattle.cg_nodes.specs.CanForms.{can-fixed}
 use Rattle.cg_nodes.proofs.Later.{stands_game, stands_later}
 use Rattle.cg_nodes.proofs.Lists.{games_at-append}
+use Rattle.cg_nodes.specs.CanForms.{can-fixed}
 use Rattle.cg_nodes.specs.Games.{IsGame, StandsFor, game_at, games_at}
 use Rattle.cg_nodes.specs.Meant.{Meant}
-use Rattle.cg_nodes.specs.Spelled.{can}
 use Rattle.cg_sum.specs.Finds.{nimber_found, sum_value, value_found}
 use Rattle.cg_sum.specs.Progress.{AreInOrder, AreNimbers, HoldsNimbers, IsNimber, IsNimberSum}
 use Rattle.cg_sum.specs.declared.nimbers.Nimbers.{Nimbers}

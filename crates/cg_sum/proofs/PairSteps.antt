@@ -22,10 +22,10 @@ use Rattle.cg_form.proofs.Among.{lefts-node}
 use Rattle.cg_nimbers.proofs.NimberPositions.{length-nimbers_below, nimber-positions}
 use Rattle.cg_nimbers.specs.Nimbers.{nimber_form, nimbers_below}
 use Rattle.cg_nodes.proofs.Later.{game_later, stands_game, stands_later}
+use Rattle.cg_nodes.specs.Can.{can}
 use Rattle.cg_nodes.specs.Games.{IsGame, IsNode, StandFor, StandsFor, game_at, games_at, listed}
 use Rattle.cg_nodes.specs.Meant.{Meant}
-use Rattle.cg_nodes.specs.Positions.{positions_of}
-use Rattle.cg_nodes.specs.Spelled.{can}
+use Rattle.cg_form.specs.Positions.{positions_of}
 use Rattle.cg_sum.specs.Firsts.{AreFirst, HoldsFirst, IsPair}
 use Rattle.cg_sum.specs.declared.firsts.FirstNimbers.{FirstNimbers}
 use Rattle.cg_sum.specs.declared.pair.NimberPair.{NimberPair}

@@ -11,9 +11,9 @@ use Rattle.cg_form.specs.Game.{Among, Game, number}
 use Rattle.cg_nimbers.specs.Nimbers.{nimber_form}
 use Rattle.cg_nodes.proofs.Later.{game_later, is_game_later, stands_later}
 use Rattle.cg_nodes.proofs.Members.{among_has, has_among, has_game}
+use Rattle.cg_nodes.specs.Can.{can}
 use Rattle.cg_nodes.specs.Games.{AreGames, IsGame, IsNode, game_at, games_at}
 use Rattle.cg_nodes.specs.Meant.{Meant, form}
-use Rattle.cg_nodes.specs.Spelled.{can}
 use Rattle.cg_sum.specs.Progress.{ArePositions, AreInTurn, HasOption, IsOneNode, IsPosition, handles_of}
 use Rattle.cg_sum.specs.Written.{IsClosed, written, written_lefts, written_rights}
 use Rattle.cg_sum.specs.declared.position.Position.{Position}

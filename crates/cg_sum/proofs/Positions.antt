@@ -2,8 +2,8 @@
 use Rattle.std.proofs.Common.{◌≡◌, List, ◌∷◌, ◌++◌}
 use Rattle.cg_form.specs.Game.{Among, Game, number, options, to_list}
 use Rattle.cg_form.proofs.Among.{among-append}
-use Rattle.cg_nodes.proofs.AllPositions as all
-use Rattle.cg_nodes.specs.Positions.{positions_of}
+use Rattle.cg_form.proofs.AllPositions as all
+use Rattle.cg_form.specs.Positions.{positions_of}
 use Rattle.cg_sum.specs.Written.{IsClosed, written}
 
 written_first : (g : Game) (front : List Game) (f : Game) (back : List Game) → positions_of g ≡ front ++ (f ∷ back)

@@ -4,6 +4,7 @@ use Rattle.cg_cells.specs.Store.{State}
 use Rattle.cg_dyadic.specs.Number.{whole}
 use Rattle.cg_form.specs.Game.{Game, Games, more, node, none, number, of_list, options, to_list}
 use Rattle.cg_form.specs.Order.{Equal}
+use Rattle.cg_nodes.specs.Can.{can}
 use Rattle.cg_form.proofs.Preorder.{equal_trans}
 use Rattle.cg_nimbers.specs.Nimbers.{nimber_form, nimbers_below, zero_form}
 use Rattle.cg_nimbers.specs.NumberUpStar.{number_up_star, up_form}
@@ -12,7 +13,6 @@ use Rattle.cg_nimbers.proofs.NumberUpStars.{number_up_star-nimber, number_up_sta
 use Rattle.cg_nodes.specs.CanForms.{can-equal, can-fixed}
 use Rattle.cg_nodes.specs.Games.{StandFor, game_at, games_at}
 use Rattle.cg_nodes.specs.Meant.{Meant}
-use Rattle.cg_nodes.specs.Spelled.{can}
 use Rattle.cg_nodes.proofs.Later.{stands_game}
 use Rattle.cg_canon.specs.NumberUpStars.{IsKnownAs, game_of}
 use Rattle.cg_canon.specs.declared.number_up_star.NumberUpStar.{NumberUpStar}

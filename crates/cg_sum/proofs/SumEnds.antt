@@ -13,10 +13,10 @@ use Rattle.cg_cells.specs.Store.{Spends, State, thing_at}
 use Rattle.cg_form.specs.Game.{Among, Game}
 use Rattle.cg_form.specs.Sum.{sum}
 use Rattle.cg_nodes.proofs.Later.{game_later, spends_then, stand_later, stands_later}
+use Rattle.cg_nodes.specs.Can.{can}
 use Rattle.cg_nodes.specs.Games.{IsGame, StandFor, StandsFor, game_at, games_at}
 use Rattle.cg_nodes.specs.Meant.{Meant, form}
-use Rattle.cg_nodes.specs.Positions.{positions_of}
-use Rattle.cg_nodes.specs.Spelled.{can}
+use Rattle.cg_form.specs.Positions.{positions_of}
 use Rattle.cg_sum.specs.Finds.{nimber_found, sum_found, value_found}
 use Rattle.cg_canon.specs.SumItems.{pair_items, sum_items, within_limit}
 use Rattle.cg_canon.specs.Made.{ItemsMade}

@@ -9,9 +9,9 @@ use Rattle.cg_form.proofs.Among.{among-append_left, among-append_right}
 use Rattle.cg_nodes.proofs.Later.{game_later, is_game_later, stands_game, stands_is_game, stand_later, stands_later}
 use Rattle.cg_nodes.proofs.Lists.{are_games-append, games_at-append}
 use Rattle.cg_sum.specs.declared.written.Sides.{Sides}
+use Rattle.cg_nodes.specs.Can.{can}
 use Rattle.cg_nodes.specs.Games.{IsGame, IsNode, StandFor, StandsFor, game_at, games_at}
 use Rattle.cg_nodes.specs.Meant.{Meant}
-use Rattle.cg_nodes.specs.Spelled.{can}
 use Rattle.cg_sum.specs.Finds.{sum_found, sum_handle}
 use Rattle.cg_sum.specs.Progress.{HoldsNimbers, HoldsSums, IsOneNode, IsWritten}
 use Rattle.cg_sum.specs.Written.{written, written_lefts, written_rights}

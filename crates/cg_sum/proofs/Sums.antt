@@ -10,7 +10,7 @@ use Rattle.cg_form.specs.Order.{Equal, Le}
 use Rattle.cg_form.specs.Simple.{NoNumber}
 use Rattle.cg_form.specs.Sum.{negative, nothing, sum}
 use Rattle.cg_form.specs.Translate.{translated}
-use Rattle.cg_nodes.specs.Spelled.{can}
+use Rattle.cg_nodes.specs.Can.{can}
 use Rattle.cg_form.proofs.Negative.{negative-options, sum-negative}
 use Rattle.cg_form.proofs.Order.{le-fold}
 use Rattle.cg_form.proofs.Shifted.{canonical-shifted}
@@ -19,12 +19,12 @@ use Rattle.cg_form.proofs.Sum.{sum-options}
 use Rattle.cg_form.proofs.SumLaws.{le-sum_second, sum_comm, sum_nothing}
 use Rattle.cg_form.proofs.SumOrder.{sum-le}
 use Rattle.cg_form.proofs.Translation.{translation}
+use Rattle.cg_nodes.specs.CanForms.{can-equal, can-fixed}
 use Rattle.cg_nodes.specs.Games.{IsNode}
 use Rattle.cg_sum.specs.Written.{written_lefts, written_rights}
 use Rattle.cg_nimbers.proofs.NumberUpStars.{sum-numbers_equal}
 use Rattle.cg_nodes.proofs.Forms.{can-node, can-same}
 use Rattle.cg_canon.proofs.Translated.{node_shifted}
-use Rattle.cg_nodes.specs.CanForms.{can-equal, can-fixed}
 
 -- ---- lists
 

@@ -4,8 +4,8 @@ use Rattle.cg_dyadic.specs.Number.{whole}
 use Rattle.cg_form.specs.Game.{Game, number}
 use Rattle.cg_form.specs.Multiple.{multiple}
 use Rattle.cg_form.specs.Sum.{negative}
-use Rattle.cg_nodes.specs.Positions.{positions_of}
-use Rattle.cg_nodes.specs.Spelled.{can}
+use Rattle.cg_form.specs.Positions.{positions_of}
+use Rattle.cg_nodes.specs.Can.{can}
 use Rattle.cg_canon.specs.Items.{Item, made}
 use Rattle.cg_canon.specs.SumItems.{sum_items, within_limit}
 

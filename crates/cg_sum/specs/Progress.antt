@@ -10,10 +10,10 @@ use Rattle.cg_form.specs.Game.{Among, Game, node, number}
 use Rattle.cg_form.specs.Sum.{negative, sum}
 use Rattle.cg_nimbers.specs.Nimbers.{nimber_form, nimbers_below}
 use Rattle.cg_sum.specs.declared.written.Sides.{Sides}
+use Rattle.cg_nodes.specs.Can.{can}
 use Rattle.cg_nodes.specs.Games.{AreGames, IsGame, IsNode, StandFor, StandsFor, game_at, games_at}
 use Rattle.cg_nodes.specs.Meant.{Meant, form}
-use Rattle.cg_nodes.specs.Spelled.{can}
-use Rattle.cg_nodes.specs.Positions.{positions_of}
+use Rattle.cg_form.specs.Positions.{positions_of}
 use Rattle.cg_sum.specs.Finds.{negative_found, nimber_found, sum_found, sum_handle, value_found}
 use Rattle.cg_sum.specs.Written.{written, written_lefts, written_rights}
 use Rattle.cg_sum.specs.declared.form.Draft.{Draft}

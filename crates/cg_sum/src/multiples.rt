@@ -5,8 +5,8 @@ ghost use Rattle.cg_canon.specs.Made.{ItemsMade};
 ghost use Rattle.cg_canon.specs.Works.{Keeps, work_state};
 ghost use Rattle.cg_dyadic.specs.Number.{whole};
 ghost use Rattle.cg_form.specs.Multiple.{multiple as times};
+ghost use Rattle.cg_nodes.specs.Can.{can};
 ghost use Rattle.cg_nodes.specs.Games.{IsGame, StandsFor, game_at};
-ghost use Rattle.cg_nodes.specs.Spelled.{can};
 ghost use Rattle.cg_sum.specs.Lists.{multiple_items};
 
 use crate::addition::found_sum;

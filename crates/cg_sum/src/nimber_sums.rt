@@ -5,8 +5,8 @@ ghost use Rattle.cg_canon.specs.SumItems.{pair_items, row_items, sum_items};
 ghost use Rattle.cg_canon.specs.Works.{work_state};
 ghost use Rattle.cg_form.specs.Sum.{sum};
 ghost use Rattle.cg_nimbers.specs.Nimbers.{nimber_form, nimbers_below};
+ghost use Rattle.cg_nodes.specs.Can.{can};
 ghost use Rattle.cg_nodes.specs.Games.{StandsFor, game_at};
-ghost use Rattle.cg_nodes.specs.Spelled.{can};
 ghost use Rattle.cg_sum.specs.Firsts.{HoldsFirst, IsPair, RowsKnown};
 
 use crate::firsts::{FirstNimbers, nimber_item};

@@ -2,8 +2,8 @@
 ghost use Rattle.std.specs.Prelude.{◌≤◌, IfOk, IsSome, OnOk, [], ◌∷◌};
 ghost use Rattle.cg_canon.specs.Works.{work_state};
 ghost use Rattle.cg_form.specs.Sum.{sum};
+ghost use Rattle.cg_nodes.specs.Can.{can};
 ghost use Rattle.cg_nodes.specs.Games.{StandsFor, game_at, games_at};
-ghost use Rattle.cg_nodes.specs.Spelled.{can};
 ghost use Rattle.cg_canon.specs.SumItems.{pair_items, row_items, sum_item as item_of_sum};
 ghost use Rattle.cg_canon.specs.Made.{ItemsMade};
 ghost use Rattle.cg_sum.specs.Progress.{ArePositions, AreInTurn, FindsMore, HoldsSums, IsPosition, IsSumReady, RowFound, RowReady, RowsFound, handles_of};

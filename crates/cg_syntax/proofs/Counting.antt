@@ -3,8 +3,8 @@ use Rattle.std.proofs.Common.{◌≡◌, refl, ap, sym, ◌∙◌, ℕ, ◌+◌,
 use mir.Val.{bool_byte}
 use Rattle.cg_syntax.specs.Session.{answered_in, answered_lines, format_of}
 use Rattle.cg_syntax.specs.SessionLines.{answered_from, is_answered, lines_of}
-use Rattle.cg_syntax.specs.declared.format.Format.{Format}
-use Rattle.cg_syntax.specs.declared.format.Format.TheVariants as formats
+use Rattle.cg_query.specs.declared.format.Format.{Format}
+use Rattle.cg_query.specs.declared.format.Format.TheVariants as formats
 
 abbrev Numbered : Type 0
 Numbered = List (ℕ × List ℕ)

@@ -4,20 +4,20 @@ use Rattle.std.specs.Prelude.{slice_get}
 use Rattle.std.specs.Str.{bytes_eq}
 use Rattle.std.specs.Global.{Box}
 use Rattle.std.proofs.lemmas.List.{map-append, reverse-append}
-use Rattle.cg_syntax.specs.Tree.{Tree, braces, negative, multiple, sum, used, game, octal, trees_from, terms_from, Trees, Terms as TermTrees}
-use Rattle.cg_syntax.specs.Trees.{tree_of, trees_in, trees_of, term_of, terms_in, terms_of}
+use Rattle.cg_query.specs.Tree.{Tree, braces, negative, multiple, sum, used, game, octal, trees_from, terms_from, Trees, Terms as TermTrees}
+use Rattle.cg_query.specs.Trees.{tree_of, trees_in, trees_of, term_of, terms_in, terms_of}
 use Rattle.cg_syntax.specs.Naming.{Bindings, bound_to, expanded, expanded_all, expanded_terms, or_use}
 use Rattle.cg_syntax.specs.Bound.{AreBoundAt, bindings_at, binding_at, tree_or_zero, value_at, value_of}
-use Rattle.cg_syntax.specs.declared.kind.GameKind.{GameKind}
-use Rattle.cg_syntax.specs.declared.expr.Expr.{Expr}
-use Rattle.cg_syntax.specs.declared.expr.Exprs.{Exprs}
-use Rattle.cg_syntax.specs.declared.expr.Term.{Term}
-use Rattle.cg_syntax.specs.declared.expr.Terms.{Terms}
-use Rattle.cg_syntax.specs.declared.expr.Expr.TheVariants as expr
+use Rattle.cg_query.specs.declared.kind.GameKind.{GameKind}
+use Rattle.cg_query.specs.declared.expr.Expr.{Expr}
+use Rattle.cg_query.specs.declared.expr.Exprs.{Exprs}
+use Rattle.cg_query.specs.declared.expr.Term.{Term}
+use Rattle.cg_query.specs.declared.expr.Terms.{Terms}
+use Rattle.cg_query.specs.declared.expr.Expr.TheVariants as expr
 use Rattle.cg_syntax.specs.declared.session.SessionLine.{SessionLine}
 use Rattle.cg_syntax.specs.declared.sheet.Bound.{Bound}
-use Rattle.cg_syntax.proofs.TreeOf.{term_tree, braces_tree, negative_tree, multiple_tree, sum_tree, game_tree, octal_tree, used_tree}
-use Rattle.cg_syntax.proofs.Walk.{size, trees_of-take_suc, trees_of-all, terms_of-take_suc, terms_of-all}
+use Rattle.cg_query.proofs.TreeOf.{term_tree, braces_tree, negative_tree, multiple_tree, sum_tree, game_tree, octal_tree, used_tree}
+use Rattle.cg_query.proofs.Walk.{size, trees_of-take_suc, trees_of-all, terms_of-take_suc, terms_of-all}
 
 -- ---- forms
 

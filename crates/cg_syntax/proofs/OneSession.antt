@@ -1,13 +1,13 @@
 -- A text says one session, with as many lines as get an answer.
 use Rattle.std.proofs.Common.{◌≡◌, refl, ap, sym, ◌∙◌, subst, ℕ, suc, List, [], ◌∷◌, length, None, inl, inr}
-use Rattle.cg_syntax.specs.Tree.{Statement, asks, defines}
+use Rattle.cg_query.specs.Tree.{Statement, asks, defines}
 use Rattle.cg_syntax.specs.Naming.{Bindings, question_asked}
-use Rattle.cg_syntax.specs.Formats.{ReadsIn, IsColumnIn}
+use Rattle.cg_grammar.specs.Formats.{ReadsIn, IsColumnIn}
 use Rattle.cg_syntax.specs.Session.{AreLines, IsLine, IsSession, Resolved, Syntax_at, after, answered_lines, next, none, refused, resolved, stated}
-use Rattle.cg_syntax.specs.declared.format.Format.{Format}
-use Rattle.cg_syntax.specs.declared.format.Format.TheVariants as formats
-use Rattle.cg_syntax.proofs.Whole as whole
-use Rattle.cg_syntax.proofs.WholeTwo as two
+use Rattle.cg_query.specs.declared.format.Format.{Format}
+use Rattle.cg_query.specs.declared.format.Format.TheVariants as formats
+use Rattle.cg_grammar.proofs.Whole as whole
+use Rattle.cg_grammar.proofs.WholeTwo as two
 
 -- ---- a line of a format
 
@@ -39,6 +39,17 @@ line_once format before text r q a b (stated s x) (refused c y) = absurd (stated
 line_once format before text r q a b (refused c x) (stated s y) = absurd (stated_or_column format text s c y x)
 line_once format before text r q a b (refused c x) (refused d y) = (ap Syntax_at (one_column_in format text c d x y), refl)
 
+-- each line states something or has a column
+line_some : (format : Format) (before : Bindings) (text : List ℕ) → (r : Resolved) × (between : Bindings) × IsLine format before text r between
+line_some formats.One before text = elim (whole.reads_or_not text) [
+  | inl reads ↦ (_, _, stated (asks reads.0) reads.1)
+  | inr none ↦ (_, _, refused none.1.0 none.1.1)
+]
+line_some formats.Two before text = elim (two.states_or_not text) [
+  | inl states ↦ (_, _, stated states.0 states.1)
+  | inr none ↦ (_, _, refused none.1.0 none.1.1)
+]
+
 -- ---- all lines
 
 abbrev Made : Type 0
@@ -61,3 +72,13 @@ lines_long format before lines rs (next b between number text r more others is a
 
 pub session_long : (text : List ℕ) (rs : Made) → IsSession text rs → length rs ≡ length (answered_lines text)
 session_long text rs a = lines_long _ [] _ rs a
+
+lines_some : (format : Format) (before : Bindings) (lines : List (ℕ × List ℕ)) → (rs : Made) × AreLines format before lines rs
+lines_some format before [] = ([], none before)
+lines_some format before ((number, text) ∷ lines) =
+    let (r, between, is) = line_some format before text in
+    let (rs, are) = lines_some format between lines in
+    ((number, r) ∷ rs, next before between number text r lines rs is are)
+
+pub session_some : (text : List ℕ) → (rs : Made) × IsSession text rs
+session_some text = lines_some _ [] _

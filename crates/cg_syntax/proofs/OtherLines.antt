@@ -3,9 +3,9 @@ use Rattle.std.proofs.Common.{◌≡◌, ℕ, Bool, true, false, ◌==◌, not, 
 use Rattle.std.proofs.lemmas.Bool.{eq-eqb}
 use Rattle.cg_reading.specs.Readers.{skipped}
 use Rattle.cg_reading.specs.Tokens.{blank}
-use Rattle.cg_syntax.specs.Lines.{is_blank_line, IsComment}
-use Rattle.cg_syntax.proofs.Whole as whole
-use Rattle.cg_syntax.proofs.Whole.{IsOther}
+use Rattle.cg_grammar.specs.Lines.{is_blank_line, IsComment}
+use Rattle.cg_grammar.proofs.Whole as whole
+use Rattle.cg_grammar.proofs.Whole.{IsOther}
 use Rattle.cg_syntax.specs.SessionLines.{answered_behind, is_answered}
 
 -- behind its blanks such a line begins with another byte than #

@@ -1,19 +1,20 @@
 -- A session line after line.
 use Rattle.std.proofs.Common.{◌≡◌, ℕ, ◌+◌, Bool, true, false, cond, List, [], ◌∷◌, ◌++◌, map, refl, ap, sym, subst, ◌∙◌, append-nil, Result, Ok, Err}
 use Rattle.std.specs.Prelude.{OnOk, not}
-use Rattle.cg_syntax.specs.Tree.{Question, Statement, asks}
+use Rattle.cg_query.specs.Tree.{Question, Statement, asks}
 use Rattle.cg_syntax.specs.Naming.{Bindings, question_asked}
-use Rattle.cg_syntax.specs.Lines.{Reads}
-use Rattle.cg_syntax.specs.Formats.{ReadsIn, IsColumnIn}
+use Rattle.cg_grammar.specs.Lines.{Reads}
+use Rattle.cg_grammar.specs.Formats.{ReadsIn, IsColumnIn}
 use Rattle.cg_syntax.specs.Session.{Resolved, Asked_of, Syntax_at, AreLines, IsLine, IsSession, after, answered_in, format_of, none, next, refused, resolved, stated}
 use Rattle.cg_syntax.specs.SessionLines.{lines_of, is_answered, answered_from}
-use Rattle.cg_syntax.specs.SessionViews.{IsPut, Puts, PutsStatement, line_of, resolved_of}
+use Rattle.cg_syntax.specs.Puts.{IsPut, Puts, PutsStatement}
+use Rattle.cg_syntax.specs.SessionViews.{line_of, resolved_of}
 use Rattle.cg_syntax.specs.Bound.{bindings_in}
-use Rattle.cg_syntax.specs.declared.format.Format.{Format}
-use Rattle.cg_syntax.specs.declared.format.Format.TheVariants as formats
+use Rattle.cg_query.specs.declared.format.Format.{Format}
+use Rattle.cg_query.specs.declared.format.Format.TheVariants as formats
 use Rattle.cg_syntax.specs.declared.session.SessionLine.{SessionLine}
 use Rattle.cg_syntax.specs.declared.sheet.Sheet.{Sheet}
-use Rattle.cg_syntax.proofs.Writable.{line_writable}
+use Rattle.cg_writer.proofs.Writable.{line_writable}
 use Rattle.cg_syntax.proofs.Closed.{askable_closed}
 use Rattle.cg_syntax.proofs.Resolving.{is_closed}
 

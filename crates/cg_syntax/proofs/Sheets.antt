@@ -3,11 +3,11 @@ use Rattle.std.proofs.Common.{◌≡◌, refl, ap, sym, ◌∙◌, ℕ, zero, su
 use Rattle.std.specs.Prelude.{slice_get}
 use Rattle.std.specs.Str.{bytes_eq}
 use Rattle.std.proofs.lemmas.List.{map-append, reverse-append}
-use Rattle.cg_syntax.specs.Tree.{Tree}
-use Rattle.cg_syntax.specs.Trees.{tree_of}
+use Rattle.cg_query.specs.Tree.{Tree}
+use Rattle.cg_query.specs.Trees.{tree_of}
 use Rattle.cg_syntax.specs.Naming.{Bindings, bound_to}
 use Rattle.cg_syntax.specs.Bound.{AreBoundAt, IsBoundAt, Measures, binding_at, bindings_at, tree_or_zero, value_at}
-use Rattle.cg_syntax.specs.declared.expr.Expr.{Expr}
+use Rattle.cg_query.specs.declared.expr.Expr.{Expr}
 use Rattle.cg_syntax.specs.declared.session.SessionLine.{SessionLine}
 use Rattle.cg_syntax.specs.declared.sheet.Bound.{Bound}
 

@@ -2,17 +2,17 @@
 use Rattle.std.proofs.Common.{◌≡◌, refl, ap, sym, ◌∙◌, subst, ℕ, zero, suc, ◌+◌, ◌<◌, min, max, arith, Bool, true, false, List, [], ◌∷◌, ◌++◌, map, length, get_or, take, drop, Option, Some, None, Result, Err, append_assoc, append-nil}
 use Rattle.std.specs.Prelude.{◌||◌}
 use Rattle.std.proofs.lemmas.List.{map-append}
-use Rattle.cg_syntax.specs.Tree.{Tree, braces, negative, multiple, sum, used, trees_from, terms_from}
-use Rattle.cg_syntax.specs.Trees.{tree_of, trees_of, term_of, terms_of}
+use Rattle.cg_query.specs.Tree.{Tree, braces, negative, multiple, sum, used, trees_from, terms_from}
+use Rattle.cg_query.specs.Trees.{tree_of, trees_of, term_of, terms_of}
 use Rattle.cg_syntax.specs.Naming.{Bindings, bound_to, expanded, expanded_all, expanded_terms, first_unknown, or_use, parts, parts_all, parts_terms, sum_of_parts, unless_bound, uses, uses_all, uses_of, uses_terms}
 use Rattle.cg_syntax.specs.Session.{has_some}
-use Rattle.cg_syntax.specs.Written.{height, heights, term_heights}
+use Rattle.cg_query.specs.Heights.{height, heights, term_heights}
 use Rattle.cg_syntax.specs.Bound.{IsMeasured, IsSizeOf, Measures, heights_of}
-use Rattle.cg_syntax.specs.declared.expr.Expr.{Expr}
-use Rattle.cg_syntax.specs.declared.expr.Term.{Term}
+use Rattle.cg_query.specs.declared.expr.Expr.{Expr}
+use Rattle.cg_query.specs.declared.expr.Term.{Term}
 use Rattle.cg_syntax.specs.declared.sizes.Size.{Size}
-use Rattle.cg_syntax.proofs.TreeOf.{term_tree}
-use Rattle.cg_syntax.proofs.Walk.{trees_of-take_suc, terms_of-take_suc}
+use Rattle.cg_query.proofs.TreeOf.{term_tree}
+use Rattle.cg_query.proofs.Walk.{trees_of-take_suc, terms_of-take_suc}
 
 abbrev pub Use : Type 0
 Use = List ℕ × ℕ

@@ -1,12 +1,12 @@
 -- What a sheet of the code binds names to, and what is told of sizes.
 use Rattle.std.specs.Prelude.{ℕ, ◌≡◌, false, min, max, List, [], ◌∷◌, map, reverse, Option, Some, None, Result, Ok, Err, slice_get}
-use Rattle.cg_syntax.specs.Tree.{Tree, number}
+use Rattle.cg_query.specs.Tree.{Tree, number}
 use Rattle.cg_syntax.specs.Naming.{Bindings, expanded, uses_of, first_unknown, sum_of_parts}
 use Rattle.cg_syntax.specs.Session.{has_some}
-use Rattle.cg_syntax.specs.Trees.{tree_of}
-use Rattle.cg_syntax.specs.Written.{height}
-use Rattle.cg_syntax.specs.declared.expr.Expr.{Expr}
-use Rattle.cg_syntax.specs.declared.query.Query.TheVariants as queries
+use Rattle.cg_query.specs.Trees.{tree_of}
+use Rattle.cg_query.specs.Heights.{height}
+use Rattle.cg_query.specs.declared.expr.Expr.{Expr}
+use Rattle.cg_query.specs.declared.query.Query.TheVariants as queries
 use Rattle.cg_syntax.specs.declared.session.Asked as asked
 use Rattle.cg_syntax.specs.declared.session.Asked.TheVariants as askeds
 use Rattle.cg_syntax.specs.declared.session.SessionLine.{SessionLine}

@@ -3,12 +3,12 @@ use Rattle.std.specs.Prelude.{ℕ, Bool, true, false, cond, ◌&&◌, List, [], 
 use Rattle.std.specs.Str.{bytes_eq}
 use Rattle.cg_reading.specs.Readers.{skipped}
 use Rattle.cg_reading.specs.Tokens.{blank}
-use Rattle.cg_syntax.specs.Tree.{Tree, Question, Statement, asks, defines}
-use Rattle.cg_syntax.specs.Formats.{ReadsIn, IsColumnIn}
+use Rattle.cg_query.specs.Tree.{Tree, Question, Statement, asks, defines}
+use Rattle.cg_grammar.specs.Formats.{ReadsIn, IsColumnIn}
 use Rattle.cg_syntax.specs.Naming.{Bindings, IsClosedQuestion, expanded, first_unknown, uses_of, trees_of_question, question_expanded, question_asked, are_too_large}
 use Rattle.cg_syntax.specs.SessionLines.{lines_of, answered_from}
-use Rattle.cg_syntax.specs.declared.format.Format.{Format}
-use Rattle.cg_syntax.specs.declared.format.Format.TheVariants as formats
+use Rattle.cg_query.specs.declared.format.Format.{Format}
+use Rattle.cg_query.specs.declared.format.Format.TheVariants as formats
 
 -- ---- the format
 

@@ -2,11 +2,10 @@
 ghost use Rattle.std.specs.Prelude.{◌≡◌, IfOk, map};
 ghost use Rattle.cg_syntax.specs.Bound.{IsSound, bindings_in};
 ghost use Rattle.cg_syntax.specs.Naming.{expanded, or_use, bound_to};
-ghost use Rattle.cg_syntax.specs.Trees.{terms_in, tree_of, trees_in};
+ghost use Rattle.cg_query.specs.Trees.{terms_in, tree_of, trees_in};
 
-use crate::expr::{Expr, Exprs, Term, Terms};
 use crate::sheet::Sheet;
-use crate::text::Text;
+use cg_query::{Expr, Exprs, Term, Terms, Text};
 use std::alloc::{AllocError, Global};
 
 /// The same text.

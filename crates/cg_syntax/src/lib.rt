@@ -45,48 +45,20 @@
 //! one option, the brace of that side.
 #![tactic(auto)]
 
-mod arrows;
-mod bars;
-mod boards;
-mod build;
 mod count;
 mod expand;
-mod expr;
-mod faults;
-mod format;
-mod found;
-mod kind;
 pub mod laws;
-mod levels;
-mod line;
 mod marks;
-mod named;
-mod names;
-mod query;
-mod questions;
 mod resolve;
 mod session;
 mod session_lines;
 mod sheet;
-mod sides;
 mod sizes;
-mod split;
-mod statements;
-mod terms;
-mod text;
-mod write;
-mod write_expr;
-mod write_tokens;
 
+pub use cg_query::{
+    Expr, Exprs, Format, GameKind, Line, Query, Statement, SyntaxFault, Term, Terms, Text, is_low,
+};
+pub use cg_reader::{read_line, read_statement};
+pub use cg_writer::write_query;
 pub use count::answered_count;
-pub use expr::{Expr, Exprs, Term, Terms};
-pub use format::Format;
-pub use found::Statement;
-pub use kind::GameKind;
-pub use levels::is_low;
-pub use line::read_line;
-pub use query::{Line, Query, SyntaxFault};
 pub use session::{Asked, Session, SessionLine, SessionLines, read_session};
-pub use statements::read_statement;
-pub use text::Text;
-pub use write::write_query;

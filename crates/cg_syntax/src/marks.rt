@@ -2,7 +2,7 @@
 ghost use Rattle.std.specs.Prelude.{◌≡◌, ◌∷◌, ◌++◌, ℕ, List, MatchOption, codes};
 ghost use Rattle.cg_syntax.specs.Session.{format_of, is_mark, trimmed};
 ghost use Rattle.cg_syntax.specs.SessionLines.{lines_of};
-ghost use Rattle.cg_syntax.specs.declared.format.Format.TheVariants as formats;
+ghost use Rattle.cg_query.specs.declared.format.Format.TheVariants as formats;
 
 use crate::session_lines::first_line;
 use cg_reading::{after_blanks, is_blank};

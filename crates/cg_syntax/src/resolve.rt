@@ -4,23 +4,19 @@ ghost use Rattle.cg_syntax.specs.Bound.{IsMeasured, IsSound, bindings_in};
 ghost use Rattle.cg_syntax.specs.Naming.{question_expanded, trees_of_question};
 ghost use Rattle.cg_syntax.specs.Session.{AreLines};
 ghost use Rattle.cg_syntax.specs.SessionLines.{answered_from, is_answered, lines_of};
-ghost use Rattle.cg_syntax.specs.SessionViews.{Puts, PutsStatement, lines_in};
-ghost use Rattle.cg_syntax.specs.Tree.{asks, defines};
-ghost use Rattle.cg_syntax.specs.Trees.{question_of, tree_of};
-ghost use Rattle.cg_syntax.specs.declared.format.Format.TheVariants as formats;
+ghost use Rattle.cg_syntax.specs.Puts.{Puts, PutsStatement};
+ghost use Rattle.cg_syntax.specs.SessionViews.{lines_in};
+ghost use Rattle.cg_query.specs.Tree.{asks, defines};
+ghost use Rattle.cg_query.specs.Trees.{question_of, tree_of};
+ghost use Rattle.cg_query.specs.declared.format.Format.TheVariants as formats;
 
 use crate::expand::{copy_text, expand};
-use crate::expr::Expr;
-use crate::format::Format;
-use crate::found::Statement;
-use crate::line::read_line;
-use crate::query::{Line, Query, SyntaxFault};
 use crate::session::{Asked, SessionLines};
 use crate::session_lines::{first_line, is_first_answered};
 use crate::sheet::Sheet;
 use crate::sizes::{Size, beside, measured};
-use crate::statements::read_statement;
-use crate::text::Text;
+use cg_query::{Expr, Format, Line, Query, Statement, SyntaxFault, Text};
+use cg_reader::{read_line, read_statement};
 use std::alloc::{AllocError, Global};
 
 /// How many parts expanded expressions may have together.

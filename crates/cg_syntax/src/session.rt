@@ -3,10 +3,9 @@ ghost use Rattle.std.specs.Prelude.{◌≡◌, IfOk, length};
 ghost use Rattle.cg_syntax.specs.Session.{AreClosedLines, IsSession, format_number, format_of};
 ghost use Rattle.cg_syntax.specs.SessionViews.{line_of, lines_in};
 
-use crate::format::Format;
 use crate::marks::behind_mark;
-use crate::query::Query;
 use crate::resolve::read_lines;
+use cg_query::{Format, Query};
 use std::alloc::{AllocError, Global};
 
 /// What a session says.

@@ -2,16 +2,15 @@
 ghost use Rattle.std.specs.Prelude.{◌≡◌, ◌∷◌, ◌++◌, [], OnOk, IfSome, Some, option_map};
 ghost use Rattle.cg_syntax.specs.Bound.{IsBoundAt, IsSound, Measures, binding_at, bindings_in};
 ghost use Rattle.cg_syntax.specs.Naming.{bound_to};
-ghost use Rattle.cg_syntax.specs.SessionViews.{IsPut, resolved_of};
+ghost use Rattle.cg_syntax.specs.Puts.{IsPut};
+ghost use Rattle.cg_syntax.specs.SessionViews.{resolved_of};
 ghost use Rattle.cg_syntax.specs.Session.{Asked_of};
-ghost use Rattle.cg_syntax.specs.Tree.{value};
-ghost use Rattle.cg_syntax.specs.Trees.{tree_of};
+ghost use Rattle.cg_query.specs.Tree.{value};
+ghost use Rattle.cg_query.specs.Trees.{tree_of};
 
-use crate::expr::Expr;
-use crate::query::Query;
 use crate::session::{Asked, SessionLine, SessionLines};
 use crate::sizes::Size;
-use crate::text::Text;
+use cg_query::{Expr, Query, Text};
 use std::alloc::{AllocError, Global};
 
 /// A name that a line binds to the expression of which it asks the value.

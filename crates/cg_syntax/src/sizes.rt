@@ -1,12 +1,11 @@
 //! How large expressions are once their names are replaced, before any is.
 ghost use Rattle.std.specs.Prelude.{◌≡◌, ◌∷◌, ◌++◌, ◌≤◌, ◌+◌, ◌||◌, [], false, map, max, min, ℕ};
 ghost use Rattle.cg_syntax.specs.Bound.{IsMeasured, IsSound, bindings_in};
-ghost use Rattle.cg_syntax.specs.Tree.{used};
-ghost use Rattle.cg_syntax.specs.Trees.{terms_in, tree_of, trees_in};
+ghost use Rattle.cg_query.specs.Tree.{used};
+ghost use Rattle.cg_query.specs.Trees.{terms_in, tree_of, trees_in};
 
-use crate::expr::{Expr, Exprs, Terms};
 use crate::sheet::Sheet;
-use crate::text::Text;
+use cg_query::{Expr, Exprs, Terms, Text};
 
 /// How large an expanded expression is, counted as far as it matters.
 #[derive(Clone, Copy, Debug, PartialEq, Eq)]

@@ -1,6 +1,6 @@
 //! What is told of a row.
-ghost use Rattle.cg_syntax.specs.Lines.{Reads};
-ghost use Rattle.cg_syntax.specs.Trees.{question_of};
+ghost use Rattle.cg_grammar.specs.Lines.{Reads};
+ghost use Rattle.cg_query.specs.Trees.{question_of};
 
 use crate::show::{query_text, statement_text};
 use crate::units::bytes_of;

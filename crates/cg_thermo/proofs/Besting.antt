@@ -8,7 +8,7 @@ use Rattle.cg_dyadic.proofs.Truth.{true_or_false}
 use Rattle.cg_dyadic.proofs.Values.{number_le-refl, number_le-same, number_le-total, number_le-trans}
 use Rattle.cg_form.specs.Canonical.{Canonical}
 use Rattle.cg_form.specs.Game.{Game, lefts, number, rights}
-use Rattle.cg_form.specs.Simple.{Decided, NoNumber}
+use Rattle.cg_form.specs.Simple.{Decided, NoNumber, Decides}
 use Rattle.cg_form.specs.Stops.{greatest_number, least_number, stops, stops_by}
 use Rattle.cg_form.specs.Stops as form
 use Rattle.cg_form.specs.Order.{Equal}
@@ -16,12 +16,13 @@ use Rattle.cg_form.proofs.Decide.{number-decide}
 use Rattle.cg_form.proofs.Integers.{some_lefts, some_rights}
 use Rattle.cg_form.proofs.Preorder.{equal_refl}
 use Rattle.cg_form.proofs.Simplicity.{one_number}
-use Rattle.cg_form.proofs.StopValues.{BottomOf, TopOf, bottom_of, stops-options, top_of}
+use Rattle.cg_form.proofs.StopValues.{BottomOf, TopOf, bottom_of, stops-options, top_of, stops_unique}
 use Rattle.cg_nodes.specs.Games.{AreGames, IsNode, StandFor, game_at, games_at}
 use Rattle.cg_nodes.specs.Meant.{Meant}
 use Rattle.cg_nodes.proofs.Later.{stands_game}
 use Rattle.cg_thermo.specs.declared.ending.Stops.{Stops}
-use Rattle.cg_thermo.specs.Ended.{Ends, AllEnded, BestOf, BestSoFar, HoldsEnds, StopsAre, as_good, better_of, ended, far_stop}
+use Rattle.cg_thermo.specs.Ended.{Ends, AllEnded, BestOf, BestSoFar, HoldsEnds, as_good, better_of, ended, far_stop}
+use Rattle.cg_thermo.specs.StopsOf.{StopsAre}
 use Rattle.cg_nodes.proofs.Members.{among_has, has_among}
 use Rattle.cg_thermo.proofs.Members.{has-before, has-next, has-own, some_of, take-all}
 use Rattle.cg_thermo.proofs.Options.{canonical-node}
@@ -106,10 +107,10 @@ best-all m left hs i o h k = let P : List ℕ → Type 0 = λ z. BestSoFar m lef
 
 module _ {R : Type 0} (s : State Meant R) (m : Ends) (holds : HoldsEnds s m) (hs : List ℕ) (games : AreGames s hs) (all : AllEnded m hs) where
   right_stop : (h : ℕ) → Has hs h → far_stop true (ended m h) ≡ (stops number-decide (game_at s h)).right
-  right_stop h i = let (c, e) = some_of (ended m h) (all.each h i) in ap (far_stop true) e ∙ (holds.own h c e).right
+  right_stop h i = let (c, e) = some_of (ended m h) (all.each h i) in ap (far_stop true) e ∙ (holds.own h c e).right number-decide
 
   left_stop : (h : ℕ) → Has hs h → far_stop false (ended m h) ≡ (stops number-decide (game_at s h)).left
-  left_stop h i = let (c, e) = some_of (ended m h) (all.each h i) in ap (far_stop false) e ∙ (holds.own h c e).left
+  left_stop h i = let (c, e) = some_of (ended m h) (all.each h i) in ap (far_stop false) e ∙ (holds.own h c e).left number-decide
 
   pub top_game : (b : Number) → BestOf m true hs b → TopOf (λ a. (stops number-decide a).right) (games_at s hs) b
   top_game b k = record {
@@ -161,8 +162,8 @@ stops-is g x (inr k) v e = absurd (k x e)
 
 pub number-stops : (x : Number) → StopsAre (number x) (record { left = x; right = x })
 number-stops x =
-    let e = stops-options number-decide (number x) ∙ stops-is (number x) x (number-decide (number x)) _ (equal_refl (number x)) in
-    record { left = sym (ap (λ (z : form.Stops). z.left) e); right = sym (ap (λ (z : form.Stops). z.right) e) }
+    let e = λ (d : Decides). stops-options d (number x) ∙ stops-is (number x) x (d (number x)) _ (equal_refl (number x)) in
+    record { left = λ d. sym (ap (λ (z : form.Stops). z.left) (e d)); right = λ d. sym (ap (λ (z : form.Stops). z.right) (e d)) }
 
 pub not_empty : {R : Type 0} (s : State Meant R) (hs : List ℕ) (gs : List Game) → games_at s hs ≡ gs → ¬ (gs ≡ []) → ¬ (hs ≡ [])
 not_empty s hs gs e n f = n (sym e ∙ ap (games_at s) f)
@@ -180,7 +181,9 @@ game-stops s m g ls rs hs ks p q holds c n l r e f al ar bp bq =
     let t = subst T l.1 (top_game s m holds ls l.0 (subst A e al) p (subst P e bp)) in
     let u = subst U r.1 (bottom_game s m holds rs r.0 (subst A f ar) q (subst Q f bq)) in
     let k = stops-options number-decide g ∙ stops-none g (number-decide g) _ never in
+    let left_is = top-greatest (λ a. (stops number-decide a).right) (lefts g) p (some_lefts g never) t ∙ sym (ap (λ (z : form.Stops). z.left) k) in
+    let right_is = bottom-least (λ a. (stops number-decide a).left) (rights g) q (some_rights g never) u ∙ sym (ap (λ (z : form.Stops). z.right) k) in
     record {
-      left = top-greatest (λ a. (stops number-decide a).right) (lefts g) p (some_lefts g never) t ∙ sym (ap (λ (z : form.Stops). z.left) k);
-      right = bottom-least (λ a. (stops number-decide a).left) (rights g) q (some_rights g never) u ∙ sym (ap (λ (z : form.Stops). z.right) k);
+      left = λ d. left_is ∙ ap (λ (z : form.Stops). z.left) (stops_unique number-decide d g);
+      right = λ d. right_is ∙ ap (λ (z : form.Stops). z.right) (stops_unique number-decide d g);
     }

@@ -8,7 +8,7 @@ use Rattle.cg_nodes.proofs.Later.{game_later}
 use Rattle.cg_nodes.proofs.Members.{has_among, has_game}
 use Rattle.cg_nodes.specs.Games.{AreGames, StandFor, game_at, games_at}
 use Rattle.cg_nodes.specs.Meant.{Meant}
-use Rattle.cg_nodes.specs.Positions.{positions_of}
+use Rattle.cg_form.specs.Positions.{positions_of}
 use Rattle.cg_thermo.specs.declared.fault.ThermoFault.{ThermoFault}
 use Rattle.cg_thermo.specs.declared.fault.ThermoFault.TheVariants.{Range}
 use Rattle.cg_thermo.specs.Progress.{Rough, SomeRough}

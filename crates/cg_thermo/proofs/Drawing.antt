@@ -1,11 +1,13 @@
 -- The walls of a game from those of its options, at a scale at which these are smooth.
 use Rattle.std.proofs.Common.{◌≡◌, refl, ℕ, ◌+◌, ◌-◌, ◌<◌, ◌≤◌, arith, zero, suc, ◌⊎◌, inl, inr, ap, sym, ◌∙◌, min, map, ℤ, pos, neg_ℤ, ◌+ℤ◌, ◌-ℤ◌, ◌≤ℤ◌, ◌<ℤ◌}
 use Rattle.std.proofs.lemmas.Int.{ints}
+use Rattle.cg_form.specs.Cooling.{Cool, Steps}
 use Rattle.cg_form.specs.Game.{Among, Game, lefts, rights}
 use Rattle.cg_form.specs.Simple.{NoNumber}
 use Rattle.cg_form.specs.Walls.{TemperatureIs, Walls, cooled, greatest, least, scaffold_of, walls}
-use Rattle.cg_form.proofs.Cooled.{Cool, Steps, uncrossed}
+use Rattle.cg_form.proofs.Cooled.{uncrossed}
 use Rattle.cg_form.proofs.Decide.{number-decide}
+use Rattle.cg_thermo.proofs.Deciders.{cool-unique}
 use Rattle.cg_form.proofs.Temperature.{kept}
 use Rattle.cg_form.proofs.Walls.{scaffold-steps, walls-none, walls-steps}
 use Rattle.cg_lines.specs.declared.TheConstants.{BOUND, END}
@@ -92,9 +94,9 @@ meets-temperature s g p q e k m = record {
 }
 
 pub meets-smooth : (s : ℕ) (g : Game) (p q : Rise) (e : ℕ) → Tops s g p q → Meets p q e → Smooth s g
-meets-smooth s g p q e k m = smooth_other g k.never (meets-cool s g p q e k m) k.lefts_smooth k.rights_smooth
+meets-smooth s g p q e k m = smooth_other g k.never (λ d. cool-unique number-decide d s g (meets-cool s g p q e k m)) k.lefts_smooth k.rights_smooth
 
-pub meets-mast : (s : ℕ) (g : Game) (p q : Rise) (e : ℕ) → Tops s g p q → Meets p q e → MastFrom s g e
+pub meets-mast : (s : ℕ) (g : Game) (p q : Rise) (e : ℕ) → Tops s g p q → Meets p q e → MastFrom number-decide s g e
 meets-mast s g p q e k m = record {
   number = λ x f. absurd (k.never x f);
   other = λ _. meets-temperature s g p q e k m;

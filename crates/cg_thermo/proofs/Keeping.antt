@@ -6,20 +6,20 @@ use Rattle.cg_cells.specs.Meaning.{Grows, Has, IsInjective}
 use Rattle.cg_cells.specs.Store.{Spends, State, thing_at}
 use Rattle.cg_form.specs.Game.{Among, Game, lefts, node, rights}
 use Rattle.cg_form.proofs.Among.{carry, lefts-node, rights-node}
-use Rattle.cg_nodes.proofs.AllPositions.{among-positions_of, positions-own, positions_of-options_first}
+use Rattle.cg_form.proofs.AllPositions.{among-positions_of, positions-own, positions_of-options_first}
 use Rattle.cg_nodes.proofs.Later.{game_later, is_game_later, nothing_spent, spends_then, stands_game, stands_later}
 use Rattle.cg_nodes.proofs.Members.{among_has, has_among, has_game}
 use Rattle.cg_nodes.specs.Games.{AreGames, IsGame, IsNode, StandFor, StandsFor, game_at, games_at}
 use Rattle.cg_nodes.specs.Meant.{Meant, form}
-use Rattle.cg_nodes.specs.Positions.{positions_of}
-use Rattle.cg_thermo.specs.Kept.{AllKept, Holds, OptionsKept}
+use Rattle.cg_form.specs.Positions.{positions_of}
+use Rattle.cg_thermo.specs.Kept.{AllKept, KeepsOwn, OptionsKept}
 use Rattle.cg_thermo.specs.Progress.{OptionsFirst}
 use Rattle.cg_thermo.proofs.Members.{are_take, games_split, has-next, has-read, some_of, take-all}
 
 -- ---- at a later state
 
 module _ {R Q C : Type 0} {Of : Game → C → Type 0} (s : State Meant R) (t : State Meant Q) (grows : Grows (thing_at s) (thing_at t)) (kept : ℕ → Option C) where
-  pub holds_later : Holds Of s kept → Holds Of t kept
+  pub holds_later : KeepsOwn Of s kept → KeepsOwn Of t kept
   holds_later holds = record {
     game = λ h c e. is_game_later s t grows h (holds.game h c e);
     own = λ h c e. subst (λ (z : Game). Of z c) (sym (game_later s t grows h (holds.game h c e))) (holds.own h c e);
@@ -57,10 +57,10 @@ module _ {R Q C : Type 0} (s : State Meant R) (t : State Meant Q) (grows : Grows
 -- what is kept is of the games of the first of the list
 pub record Found {R C : Type 0} (Of : Game → C → Type 0) (s t : State Meant R) (kept : ℕ → Option C) (hs : List ℕ) : Type 0 where
   pub spends : Spends 0 s t
-  pub holds : Holds Of t kept
+  pub holds : KeepsOwn Of t kept
   pub all : AllKept kept hs
 
-pub found-none : {R C : Type 0} {Of : Game → C → Type 0} (s : State Meant R) (kept : ℕ → Option C) → Holds Of s kept → Found Of s s kept []
+pub found-none : {R C : Type 0} {Of : Game → C → Type 0} (s : State Meant R) (kept : ℕ → Option C) → KeepsOwn Of s kept → Found Of s s kept []
 found-none s kept h = record { spends = nothing_spent s; holds = h; all = record { each = λ x i. absurd i } }
 
 module _ {R C : Type 0} {Of : Game → C → Type 0} (s t : State Meant R) (kept : ℕ → Option C) (hs : List ℕ) (i f : ℕ) (lt : i < length hs)
@@ -133,7 +133,7 @@ slice_games s hs ps g e st = subst (λ (z : List ℕ). StandFor s z (positions_o
 pub options-first : {R : Type 0} (s : State Meant R) (hs : List ℕ) (g : Game) → StandFor s hs (positions_of g) → OptionsFirst (games_at s hs)
 options-first s hs g st = record { each = λ front f back e n a o. positions_of-options_first g front f back (sym st.1 ∙ e) n a o }
 
-pub holds-none : {R C : Type 0} {Of : Game → C → Type 0} (s : State Meant R) (kept : ℕ → Option C) → ((a : ℕ) → kept a ≡ None) → Holds Of s kept
+pub holds-none : {R C : Type 0} {Of : Game → C → Type 0} (s : State Meant R) (kept : ℕ → Option C) → ((a : ℕ) → kept a ≡ None) → KeepsOwn Of s kept
 holds-none s kept n = record {
   game = λ h c e. absurd (let g = sym (n h) ∙ e in cc);
   own = λ h c e. absurd (let g = sym (n h) ∙ e in cc);
@@ -147,7 +147,7 @@ module _ {R : Type 0} (s t u : State Meant R) (a : ℕ) (game : IsGame s a) (st 
   pub same-game : game_at u a ≡ game_at s a
   same-game = game_later t u tu a (is_game_later s t st a game) ∙ game_later s t st a game
 
-  pub own-kept : {C : Type 0} {Of : Game → C → Type 0} (kept : ℕ → Option C) (c : C) → Holds Of u kept → kept a ≡ Some c → Of (game_at s a) c
+  pub own-kept : {C : Type 0} {Of : Game → C → Type 0} (kept : ℕ → Option C) (c : C) → KeepsOwn Of u kept → kept a ≡ Some c → Of (game_at s a) c
   own-kept {C} {Of} kept c holds e = subst (λ (z : Game). Of z c) same-game (holds.own a c e)
 
   -- something was found for each position
@@ -165,7 +165,7 @@ module _ {R : Type 0} (s t u : State Meant R) (a : ℕ) (game : IsGame s a) (st 
       subst (λ (z : ℕ). IsSome (kept z)) (apart h a (form g) e (later-game ∙ ap (λ z. Some (form z)) same-game)) some
 
   pub each-kept : {C : Type 0} {Of : Game → C → Type 0} (kept : ℕ → Option C) (hs : List ℕ) → StandFor t hs (positions_of (game_at s a)) → AllKept kept hs
-      → Holds Of u kept → (p : Game) → Among p (positions_of (game_at s a)) → (c : C) × Of p c
+      → KeepsOwn Of u kept → (p : Game) → Among p (positions_of (game_at s a)) → (c : C) × Of p c
   each-kept {C} {Of} kept hs ps found holds p i =
       let (h, e, some) = some-kept kept hs ps found p i in
       let (c, f) = some_of (kept h) some in

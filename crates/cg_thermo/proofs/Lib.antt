@@ -1,5 +1,6 @@
 pub mod Smooth
 pub mod Scales
+pub mod Deciders
 pub mod Upward
 pub mod Drawing
 pub mod Members
@@ -14,3 +15,6 @@ pub mod Wins
 pub mod Besting
 pub mod Lining
 pub mod Rescaled
+pub mod OneThermograph
+pub mod EqualThermographs
+pub mod Places

@@ -45,11 +45,11 @@ module _ {R : Type 0} (s : State Meant R) (m : Charts) (holds : HoldsCharts s m)
 
   right_at : (h t : ℕ) (c : Chart) → charted m h ≡ Some c
       → side_in true (charted m h) t ≡ (walls number-decide places t (game_at s h)).right
-  right_at h t c e = ap (λ o. side_in true o t) e ∙ (holds.own h c e).draws.right t
+  right_at h t c e = ap (λ o. side_in true o t) e ∙ (holds.own h c e).draws.right number-decide t
 
   left_at : (h t : ℕ) (c : Chart) → charted m h ≡ Some c
       → side_in false (charted m h) t ≡ neg_ℤ (walls number-decide places t (game_at s h)).left
-  left_at h t c e = ap (λ o. side_in false o t) e ∙ (holds.own h c e).draws.left t
+  left_at h t c e = ap (λ o. side_in false o t) e ∙ (holds.own h c e).draws.left number-decide t
 
   above_bound : (r : Rise) (t : ℕ) → IsWall r → neg_ℤ BOUND ≤ℤ value_at r t
   above_bound r t w = let n = (near r t).above in let l = w.low in omega (arith, ints)
@@ -93,7 +93,7 @@ module _ {R : Type 0} (s : State Meant R) (m : Charts) (holds : HoldsCharts s m)
         | inl e ↦ (let (a, i) = some_game gs n in
             let k = at_game hs g all a i in
             let b = above_bound k.chart.right t (holds.own k.handle k.chart k.is).draws.right_wall in
-            let d = (holds.own k.handle k.chart k.is).draws.right t in
+            let d = (holds.own k.handle k.chart k.is).draws.right number-decide t in
             let w = ap F k.same in
             let l = at_greatest F gs a i in omega (arith, ints))
         | inr x ↦ (let (c, f) = chart_at hs all x.0 x.1 in
@@ -115,7 +115,7 @@ module _ {R : Type 0} (s : State Meant R) (m : Charts) (holds : HoldsCharts s m)
             let k = at_game hs g all a i in
             let h = (holds.own k.handle k.chart k.is).draws.left_wall.high t in
             let b = above_bound k.chart.left t (holds.own k.handle k.chart k.is).draws.left_wall in
-            let d = (holds.own k.handle k.chart k.is).draws.left t in
+            let d = (holds.own k.handle k.chart k.is).draws.left number-decide t in
             let w = ap F k.same in
             let l = at_least F gs a i in
             low (value_at r t) (value_at k.chart.left t) (F (game_at s k.handle)) (F a) (least (map F gs)) e b d w l)

@@ -1,7 +1,8 @@
 -- What is drawn of a chart is the thermograph.
 use Rattle.std.proofs.Common.{◌≡◌, refl, ℕ, ◌<◌, ◌≤◌, arith, zero, suc, ◌⊎◌, inl, inr, ap, sym, ◌∙◌, subst, Bool, true, false, cond, List, [], ◌∷◌, map, length, get_or, unsigned_abs, ◌^◌, ℤ, pos, negsuc, neg_ℤ, ◌-ℤ◌, ◌≤ℤ◌}
 use Rattle.std.proofs.lemmas.Int.{ints}
-use lib.Signed.{le_z}
+use Rattle.std.proofs.lemmas.Bool.Decides.{Decides-int_eq, Decides-like, same_from_decides}
+use Rattle.std.specs.Ordering.{int_eq}
 use mir.Syntax.{w128}
 use mir.Val.{to_z, of_z}
 use Rattle.cg_dyadic.specs.Number.{InRange, IsFraction, Number, exp_of, num_of, ratio}
@@ -15,7 +16,7 @@ use Rattle.cg_form.specs.Game.{Among, Game, number, options}
 use Rattle.cg_form.specs.Heights.{height}
 use Rattle.cg_form.specs.Order.{Equal}
 use Rattle.cg_form.specs.Simple.{Decided, NoNumber}
-use Rattle.cg_form.specs.Walls.{Walls, scaffold_of, walls}
+use Rattle.cg_form.specs.Walls.{IsThermal, Walls, scaffold_of, walls}
 use Rattle.cg_form.proofs.Cooled.{uncrossed}
 use Rattle.cg_form.proofs.Decide.{number-decide}
 use Rattle.cg_form.proofs.Preorder.{equal_refl}
@@ -31,17 +32,18 @@ use Rattle.cg_lines.specs.Rises.{IsWall, value_at}
 use Rattle.cg_lines.proofs.Rising.{near}
 use Rattle.cg_lines.proofs.Words.{word}
 use Rattle.cg_nodes.specs.Games.{IsNode}
-use Rattle.cg_nodes.specs.Positions.{positions_of}
+use Rattle.cg_form.specs.Positions.{positions_of}
 use Rattle.cg_thermo.specs.declared.chart.Chart.{Chart}
 use Rattle.cg_thermo.specs.declared.corners.Corner.{Corner}
 use Rattle.cg_thermo.specs.declared.thermo.Walls as drawn
 use Rattle.cg_thermo.specs.Draws.{Draws}
 use Rattle.cg_thermo.specs.Pictures.{left_corners, right_corners, spot}
 use Rattle.cg_thermo.specs.Progress.{Charted}
-use Rattle.cg_thermo.specs.Signed.{corner_at}
+use Rattle.cg_thermo.specs.Signed.{Pictured, corner_at}
 use Rattle.cg_thermo.specs.Smooths.{Smooth, smooth_number, smooth_other}
-use Rattle.cg_thermo.specs.Thermal.{IsThermal, NeedsMore}
-use Rattle.cg_thermo.specs.Thermographs.{IsThermograph, Pictured}
+use Rattle.cg_thermo.specs.Thermal.{NeedsMore}
+use Rattle.cg_thermo.specs.Thermographs.{IsThermograph}
+use Rattle.cg_thermo.proofs.Deciders.{left-unique, mast-unique, right-unique}
 use Rattle.cg_thermo.proofs.Options.{canonical-node}
 use Rattle.cg_thermo.proofs.Upward.{corners-same, seen-own, thermal-none, thermal-number}
 
@@ -105,43 +107,40 @@ map-corners F G f h p b (suc n) = ap (λ z. z ∷ map F (turns f 0 n)) (p 0) ∙
 
 straight-same : (f h : ℕ → ℤ) → ((t : ℕ) → f t ≡ h t) → (t : ℕ) → straight f t ≡ straight h t
 straight-same f h e t =
-    ap (λ z. cond (le_z (z -ℤ f (suc t)) (f (suc t) -ℤ f t)) (le_z (f (suc t) -ℤ f t) (z -ℤ f (suc t))) false) (e (suc (suc t)))
-    ∙ ap (λ z. cond (le_z (h (suc (suc t)) -ℤ z) (z -ℤ f t)) (le_z (z -ℤ f t) (h (suc (suc t)) -ℤ z)) false) (e (suc t))
-    ∙ ap (λ z. cond (le_z (h (suc (suc t)) -ℤ h (suc t)) (h (suc t) -ℤ z)) (le_z (h (suc t) -ℤ z) (h (suc (suc t)) -ℤ h (suc t))) false) (e t)
+    ap (λ z. int_eq (z -ℤ f (suc t)) (f (suc t) -ℤ f t)) (e (suc (suc t)))
+    ∙ ap (λ z. int_eq (h (suc (suc t)) -ℤ z) (z -ℤ f t)) (e (suc t))
+    ∙ ap (λ z. int_eq (h (suc (suc t)) -ℤ h (suc t)) (h (suc t) -ℤ z)) (e t)
 
 straight-negated : (f h : ℕ → ℤ) → ((t : ℕ) → f t ≡ neg_ℤ (h t)) → (t : ℕ) → straight f t ≡ straight h t
 straight-negated f h e t =
     let x = e t in let y = e (suc t) in let z = e (suc (suc t)) in
     turn (f (suc (suc t)) -ℤ f (suc t)) (f (suc t) -ℤ f t) (h (suc (suc t)) -ℤ h (suc t)) (h (suc t) -ℤ h t) (omega (arith, ints)) (omega (arith, ints))
   where
-    le_turn : (a b c d : ℤ) → a ≡ neg_ℤ c → b ≡ neg_ℤ d → le_z a b ≡ le_z d c
-    le_turn a b c d p q = grind (arith, ints)
+    there : (a b c d : ℤ) → a ≡ neg_ℤ c → b ≡ neg_ℤ d → a ≡ b → c ≡ d
+    there a b c d p q e = omega (arith, ints)
 
-    both : (u v : Bool) → cond u v false ≡ cond v u false
-    both true true = refl
-    both true false = refl
-    both false true = refl
-    both false false = refl
+    back : (a b c d : ℤ) → a ≡ neg_ℤ c → b ≡ neg_ℤ d → c ≡ d → a ≡ b
+    back a b c d p q e = omega (arith, ints)
 
-    turn : (a b c d : ℤ) → a ≡ neg_ℤ c → b ≡ neg_ℤ d → cond (le_z a b) (le_z b a) false ≡ cond (le_z c d) (le_z d c) false
-    turn a b c d p q = ap (λ z. cond z (le_z b a) false) (le_turn a b c d p q) ∙ ap (λ z. cond (le_z d c) z false) (le_turn b a d c q p)
-        ∙ both (le_z d c) (le_z c d)
+    turn : (a b c d : ℤ) → a ≡ neg_ℤ c → b ≡ neg_ℤ d → int_eq a b ≡ int_eq c d
+    turn a b c d p q = same_from_decides (int_eq a b) (int_eq c d)
+        (Decides-like (int_eq a b) (there a b c d p q) (back a b c d p q) (Decides-int_eq a b)) (Decides-int_eq c d)
 
 neg_back : (v h : ℤ) → v ≡ neg_ℤ h → neg_ℤ v ≡ h
 neg_back v h e = omega (arith, ints)
 
-left-corners : (g : Game) (c : Chart) → Draws g c → map (corner_at true) (corners (value_at c.left) c.end) ≡ left_corners places g c.end
+left-corners : (g : Game) (c : Chart) → Draws g c → map (corner_at true) (corners (value_at c.left) c.end) ≡ left_corners number-decide places g c.end
 unfolding left_corners
 left-corners g c d = map-corners (corner_at true) (spot places) (value_at c.left) (λ t. (walls number-decide places t g).left)
     (λ t. ap (λ z. let x : Corner = record { value = ratio z places; at = ratio (pos t) places } in x)
-    (neg_back (value_at c.left t) (walls number-decide places t g).left (d.left t)))
-    (straight-negated (value_at c.left) (λ t. (walls number-decide places t g).left) d.left) c.end
+    (neg_back (value_at c.left t) (walls number-decide places t g).left (d.left number-decide t)))
+    (straight-negated (value_at c.left) (λ t. (walls number-decide places t g).left) (d.left number-decide)) c.end
 
-right-corners : (g : Game) (c : Chart) → Draws g c → map (corner_at false) (corners (value_at c.right) c.end) ≡ right_corners places g c.end
+right-corners : (g : Game) (c : Chart) → Draws g c → map (corner_at false) (corners (value_at c.right) c.end) ≡ right_corners number-decide places g c.end
 unfolding right_corners
 right-corners g c d = map-corners (corner_at false) (spot places) (value_at c.right) (λ t. (walls number-decide places t g).right)
-    (λ t. ap (λ z. let x : Corner = record { value = ratio z places; at = ratio (pos t) places } in x) (d.right t))
-    (straight-same (value_at c.right) (λ t. (walls number-decide places t g).right) d.right) c.end
+    (λ t. ap (λ z. let x : Corner = record { value = ratio z places; at = ratio (pos t) places } in x) (d.right number-decide t))
+    (straight-same (value_at c.right) (λ t. (walls number-decide places t g).right) (d.right number-decide)) c.end
 
 -- ---- the mean and the temperature
 
@@ -152,11 +151,11 @@ smooth-places s _ x (smooth_other g never c l r) f = absurd (never x f)
 end-value : (g : Game) (c : Chart) → Draws g c → NoNumber g
     → value_at c.right c.end ≡ (scaffold_of number-decide places g c.end).left
 end-value g c d never =
-    let t = d.mast.other never in
+    let t = (d.mast number-decide).other never in
     let a = t.agree in
     let f : ℕ → Walls = scaffold_of number-decide places g in
     let w = ap (λ (z : Walls). z.right) (walls-none number-decide places c.end g never ∙ uncrossed f c.end (omega (arith, ints))) in
-    d.right c.end ∙ w ∙ sym a
+    d.right number-decide c.end ∙ w ∙ sym a
 
 record Temps (g : Game) (end : ℕ) (temp : Number) : Type 0 where
   number : (x : Number) → g ≡ number x → temp ≡ ratio (negsuc 0) (exp_of x)
@@ -166,17 +165,17 @@ thermal_by : (g : Game) (c : Chart) (mean temp : Number) → Decided g → Chart
     → Temps g c.end temp → IsThermal g mean temp
 thermal_by (number y) c mean temp d k can m t =
     let e = equal_refl (number y) in
-    let z = k.draws.mast.number y e in
-    let v : value_at c.right c.end ≡ units places y = k.draws.right c.end
+    let z = (k.draws.mast number-decide).number y e in
+    let v : value_at c.right c.end ≡ units places y = k.draws.right number-decide c.end
     ∙ ap (λ (w : Walls). w.right) (walls-number number-decide places c.end (number y) y e) in
     thermal-number (number y) y mean temp e (λ x f. one_number y x (number y) e f)
     (m ∙ ap (λ n. ratio n places) v ∙ ratio-units places y (smooth-places places (number y) y k.smooth e)) (t.number y refl)
 thermal_by (options ls rs) c mean temp d k can m t =
     let g : Game = options ls rs in
     let never = canonical-node (options ls rs) can tt in
-    let s = seen-own places (options ls rs) c.end k.smooth k.draws.mast in
+    let s = seen-own places (options ls rs) c.end k.smooth (k.draws.mast number-decide) in
     let i = thermal-none places (options ls rs) c.end (ratio (scaffold_of number-decide places (options ls rs) c.end).left places)
-    (ratio (pos c.end) places) (left_corners places (options ls rs) c.end) (right_corners places (options ls rs) c.end) never s in
+    (ratio (pos c.end) places) (left_corners number-decide places (options ls rs) c.end) (right_corners number-decide places (options ls rs) c.end) never s in
     let P : Number → Type 0 = λ z. IsThermal (options ls rs) z temp in
     let Q : Number → Type 0 = λ z. IsThermal (options ls rs) (ratio (scaffold_of number-decide places (options ls rs) c.end).left places) z in
     subst P (sym (m ∙ ap (λ n. ratio n places) (end-value (options ls rs) c k.draws never))) (subst Q (sym (t.other tt)) i)
@@ -184,15 +183,15 @@ thermal_by (options ls rs) c mean temp d k can m t =
 pub is_thermograph : (g : Game) (c : Chart) (w : drawn.Walls) (temp : Number) → Charted g c → Canonical g → Pictured c w → w.temp ≡ temp
     → ((x : Number) → g ≡ number x → temp ≡ ratio (negsuc 0) (exp_of x)) → (IsNode g → temp ≡ ratio (pos c.end) places) → IsThermograph g w
 is_thermograph g c w temp k can p e num oth =
-    let s = seen-own places g c.end k.smooth k.draws.mast in
+    let s = seen-own places g c.end k.smooth (k.draws.mast number-decide) in
     record {
       thermal = thermal_by g c w.mean w.temp (number-decide g) k can p.mean (record { number = λ x f. e ∙ num x f; other = λ n. e ∙ oth n });
-      left = λ r end h m. p.left ∙ left-corners g c k.draws ∙ (corners-same places r g c.end end
-          (ratio (scaffold_of number-decide places g c.end).left places) (ratio (pos c.end) places) (left_corners places g c.end)
-          (right_corners places g c.end) s h m).0;
-      right = λ r end h m. p.right ∙ right-corners g c k.draws ∙ (corners-same places r g c.end end
-          (ratio (scaffold_of number-decide places g c.end).left places) (ratio (pos c.end) places) (left_corners places g c.end)
-          (right_corners places g c.end) s h m).1;
+      left = λ d r end h m. p.left ∙ left-corners g c k.draws ∙ (corners-same places r g c.end end
+          (ratio (scaffold_of number-decide places g c.end).left places) (ratio (pos c.end) places) (left_corners number-decide places g c.end)
+          (right_corners number-decide places g c.end) s h (mast-unique d number-decide r g end m)).0 ∙ left-unique number-decide d r g end;
+      right = λ d r end h m. p.right ∙ right-corners g c k.draws ∙ (corners-same places r g c.end end
+          (ratio (scaffold_of number-decide places g c.end).left places) (ratio (pos c.end) places) (left_corners number-decide places g c.end)
+          (right_corners number-decide places g c.end) s h (mast-unique d number-decide r g end m)).1 ∙ right-unique number-decide d r g end;
     }
 
 -- ---- no position needs more places
@@ -206,12 +205,12 @@ enough_by g c mean temp (inl w) k t more =
     let r = exp-ratio (negsuc 0) (exp_of w.0) in
     elim more [ inl i ↦ omega arith | inr i ↦ omega arith ]
 enough_by g c mean temp (inr never) k t more =
-    let s = seen-own places g c.end k.smooth k.draws.mast in
+    let s = seen-own places g c.end k.smooth (k.draws.mast number-decide) in
     let i = thermal-none places g c.end (ratio (scaffold_of number-decide places g c.end).left places)
-    (ratio (pos c.end) places) (left_corners places g c.end) (right_corners places g c.end) never s in
+    (ratio (pos c.end) places) (left_corners number-decide places g c.end) (right_corners number-decide places g c.end) never s in
     let (u, v) = temperature-there number-decide (height g) g (scaffolds_agree number-decide (height g) g never (omega arith)) in
-    let x = t.other never (height g) u (omega arith) v in
-    let y = i.other never (height g) u (omega arith) v in
+    let x = t.other never number-decide (height g) u (omega arith) v in
+    let y = i.other never number-decide (height g) u (omega arith) v in
     let a = ap exp_of (x.0 ∙ sym y.0) in let b = ap exp_of (x.1 ∙ sym y.1) in
     let p = exp-ratio (scaffold_of number-decide places g c.end).left places in
     let q = exp-ratio (pos c.end) places in

@@ -13,7 +13,8 @@ use Rattle.cg_form.proofs.Decide.{number-decide}
 use Rattle.cg_form.proofs.Finer.{Finer, twice, twice_pos}
 use Rattle.cg_form.proofs.Preorder.{equal_refl}
 use Rattle.cg_form.proofs.Temperature.{Later, later}
-use Rattle.cg_form.proofs.Walls.{walls-number}
+use Rattle.cg_form.proofs.Walls.{walls-number, walls-unique}
+use Rattle.cg_thermo.proofs.Deciders.{cool-unique, mast-unique}
 use mir.Syntax.{w128}
 use mir.Val.{to_z, of_z}
 use Rattle.cg_lines.proofs.Words.{word}
@@ -46,7 +47,7 @@ module _ (s : ℕ) (g : Game) (p q : Rise) (k : Tops s g p q) (j : Jumps p q) wh
   start = smooth-start s g k.never k.lefts_smooth k.rights_smooth
 
   pub jump-smooth : Smooth (suc s) g
-  jump-smooth = smooth_other g k.never (cool-next s g k.lefts_smooth k.rights_smooth start)
+  jump-smooth = smooth_other g k.never (λ d. cool-unique number-decide d (suc s) g (cool-next s g k.lefts_smooth k.rights_smooth start))
       (λ a m. smooth-up s a (k.lefts_smooth a m)) (λ b m. smooth-up s b (k.rights_smooth b m))
 
   -- at the finer scale they agree halfway between
@@ -79,7 +80,8 @@ jump-rough g p q k j =
       mean = ratio (scaffold_of number-decide (suc places) g (suc (twice j.at))).left (suc places);
       temp = ratio (pos (suc (twice j.at))) (suc places);
       thermal = thermal-none (suc places) g (suc (twice j.at)) (ratio (scaffold_of number-decide (suc places) g (suc (twice j.at))).left (suc places))
-          (ratio (pos (suc (twice j.at))) (suc places)) (left_corners (suc places) g (suc (twice j.at))) (right_corners (suc places) g (suc (twice j.at))) k.never v;
+          (ratio (pos (suc (twice j.at))) (suc places)) (left_corners number-decide (suc places) g (suc (twice j.at)))
+          (right_corners number-decide (suc places) g (suc (twice j.at))) k.never v;
       more = (let x = exp-odd j.at places in omega arith);
     }
 
@@ -89,9 +91,9 @@ joins-charted g p q c k j = record {
   draws = record {
     left_wall = j.left_wall;
     right_wall = j.right_wall;
-    left = meets-left places g p q c.left c.end k j.meets j.left;
-    right = meets-right places g p q c.right c.end k j.meets j.right;
-    mast = meets-mast places g p q c.end k j.meets;
+    left = λ d t. meets-left places g p q c.left c.end k j.meets j.left t ∙ ap (λ (w : Walls). neg_ℤ w.left) (walls-unique number-decide d places t g);
+    right = λ d t. meets-right places g p q c.right c.end k j.meets j.right t ∙ ap (λ (w : Walls). w.right) (walls-unique number-decide d places t g);
+    mast = λ d. mast-unique number-decide d places g c.end (meets-mast places g p q c.end k j.meets);
     soon = j.soon;
   };
 }
@@ -118,10 +120,10 @@ number-charted x u c r e z wl wr l v = record {
   draws = record {
     left_wall = wl;
     right_wall = wr;
-    left = λ t. (let w = ap (λ (y : Walls). y.left) (walls-number number-decide places t (number x) x (equal_refl (number x))) in
-        let k = l t in minus (value_at c.left t) u (walls number-decide places t (number x)).left k (w ∙ sym e));
-    right = λ t. v t ∙ e ∙ sym (ap (λ (y : Walls). y.right) (walls-number number-decide places t (number x) x (equal_refl (number x))));
-    mast = record { number = λ y f. z; other = λ never. absurd (never x (equal_refl (number x))) };
+    left = λ d t. (let w = ap (λ (y : Walls). y.left) (walls-number d places t (number x) x (equal_refl (number x))) in
+        let k = l t in minus (value_at c.left t) u (walls d places t (number x)).left k (w ∙ sym e));
+    right = λ d t. v t ∙ e ∙ sym (ap (λ (y : Walls). y.right) (walls-number d places t (number x) x (equal_refl (number x))));
+    mast = λ _. record { number = λ y f. z; other = λ never. absurd (never x (equal_refl (number x))) };
     soon = (let b : 0 < END = omega arith in omega arith);
   };
 }

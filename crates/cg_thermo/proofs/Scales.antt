@@ -1,14 +1,15 @@
 -- Temperatures, means and corners are the same at each finer scale.
 use Rattle.std.proofs.Common.{◌≡◌, refl, ℕ, ◌+◌, ◌-◌, ◌<◌, ◌≤◌, arith, zero, suc, ◌⊎◌, inl, inr, ap, sym, ◌∙◌, subst, Bool, true, false, cond, List, [], ◌∷◌, map, ℤ, pos, ◌+ℤ◌, ◌-ℤ◌, ◌≤ℤ◌, ◌<ℤ◌}
 use Rattle.std.proofs.lemmas.Int.{ints}
-use lib.Signed.{le_z}
+use Rattle.std.proofs.lemmas.Bool.Decides.{Decides-int_eq}
+use Rattle.std.specs.Ordering.{int_eq}
 use Rattle.cg_dyadic.specs.Number.{exp_of, num_of, ratio}
 use Rattle.cg_dyadic.proofs.Scale.{doubled-add, doubled-mul}
 use Rattle.cg_dyadic.proofs.Integers.{le_or_lt}
 use Rattle.cg_dyadic.proofs.Fractions.{fraction-ratio, fraction-unique}
+use Rattle.cg_form.specs.Cooling.{Cool}
 use Rattle.cg_form.specs.Game.{Game}
 use Rattle.cg_form.specs.Walls.{TemperatureIs, Walls, scaffold_of, walls}
-use Rattle.cg_form.proofs.Cooled.{Cool}
 use Rattle.cg_form.proofs.Decide.{number-decide}
 use Rattle.cg_form.proofs.Finer.{Finer, twice, twice_pos}
 use Rattle.cg_form.proofs.Temperature.{earlier}
@@ -49,18 +50,14 @@ double p = record { value = p.value +ℤ p.value; at = twice p.at }
 halfway : (f h : ℕ → ℤ) → Doubles f h → (t : ℕ) → straight h (twice t) ≡ true
 halfway f h d t =
     let a = d.even t in let b = d.odd t in let c = d.even (suc t) in
-    both (h (suc (suc (twice t))) -ℤ h (suc (twice t))) (h (suc (twice t)) -ℤ h (twice t)) (omega (arith, ints))
-  where
-    both : (x y : ℤ) → x ≡ y → cond (le_z x y) (le_z y x) false ≡ true
-    both x y e = grind (arith, ints)
+    (Decides-int_eq (h (suc (suc (twice t))) -ℤ h (suc (twice t))) (h (suc (twice t)) -ℤ h (twice t))).1 (omega (arith, ints))
 
 bend_kept : (f h : ℕ → ℤ) → Doubles f h → (t : ℕ) → straight h (suc (twice t)) ≡ straight f t
 bend_kept f h d t =
     let b = d.odd t in let c = d.even (suc t) in let e = d.odd (suc t) in
     let x : h (suc (suc (suc (twice t)))) -ℤ h (suc (suc (twice t))) ≡ f (suc (suc t)) -ℤ f (suc t) = omega (arith, ints) in
     let y : h (suc (suc (twice t))) -ℤ h (suc (twice t)) ≡ f (suc t) -ℤ f t = omega (arith, ints) in
-    ap (λ z. cond (le_z z (h (suc (suc (twice t))) -ℤ h (suc (twice t)))) (le_z (h (suc (suc (twice t))) -ℤ h (suc (twice t))) z) false) x
-    ∙ ap (λ z. cond (le_z (f (suc (suc t)) -ℤ f (suc t)) z) (le_z z (f (suc (suc t)) -ℤ f (suc t))) false) y
+    ap (λ z. int_eq z (h (suc (suc (twice t))) -ℤ h (suc (twice t)))) x ∙ ap (int_eq (f (suc (suc t)) -ℤ f (suc t))) y
 
 point-double : (f h : ℕ → ℤ) → Doubles f h → (t : ℕ) → point h (twice t) ≡ double (point f t)
 point-double f h d t = ap (λ z. let x : Point = record { value = z; at = twice t } in x) (d.even t)
@@ -94,7 +91,7 @@ spots-double : (s : ℕ) (ps : List Point) → map (spot (suc s)) (map double ps
 spots-double s [] = refl
 spots-double s (p ∷ ps) = ap (λ z. z ∷ map (spot (suc s)) (map double ps)) (spot-double s p) ∙ ap (λ z. spot s p ∷ z) (spots-double s ps)
 
-pub left-next : (s : ℕ) (g : Game) → Smooth s g → (e : ℕ) → left_corners (suc s) g (twice e) ≡ left_corners s g e
+pub left-next : (s : ℕ) (g : Game) → Smooth s g → (e : ℕ) → left_corners number-decide (suc s) g (twice e) ≡ left_corners number-decide s g e
 unfolding left_corners
 left-next s g m e =
     let n = smooth-finer s g m in
@@ -102,7 +99,7 @@ left-next s g m e =
     (record { even = n.even_left; odd = n.odd_left }) e)
     ∙ spots-double s (corners (λ t. (walls number-decide s t g).left) e)
 
-pub right-next : (s : ℕ) (g : Game) → Smooth s g → (e : ℕ) → right_corners (suc s) g (twice e) ≡ right_corners s g e
+pub right-next : (s : ℕ) (g : Game) → Smooth s g → (e : ℕ) → right_corners number-decide (suc s) g (twice e) ≡ right_corners number-decide s g e
 unfolding right_corners
 right-next s g m e =
     let n = smooth-finer s g m in

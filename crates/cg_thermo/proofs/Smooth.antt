@@ -3,16 +3,17 @@ use Rattle.std.proofs.Common.{◌≡◌, ℕ, ◌+◌, ◌<◌, ◌≤◌, arith
 use Rattle.std.proofs.lemmas.Int.{ints}
 use Rattle.cg_dyadic.specs.Units.{units}
 use Rattle.cg_dyadic.proofs.Scale.{units-suc}
+use Rattle.cg_form.specs.Cooling.{Cool}
 use Rattle.cg_form.specs.Game.{Among, Game, lefts, rights}
 use Rattle.cg_form.specs.Heights.{height}
 use Rattle.cg_form.specs.Simple.{Decided, NoNumber}
 use Rattle.cg_form.specs.Size.{size}
 use Rattle.cg_form.specs.Walls.{Walls, cooled, scaffold_of, walls}
-use Rattle.cg_form.proofs.Cooled.{Cool}
 use Rattle.cg_form.proofs.Decide.{number-decide}
 use Rattle.cg_form.proofs.Finer.{Finer, cool, cooled-finer, finer-no_jump, scaffold-finer, twice}
 use Rattle.cg_form.proofs.Heights.{height-left, height-right, number-low}
 use Rattle.cg_form.proofs.Size.{size-lefts, size-rights}
+use Rattle.cg_thermo.proofs.Deciders.{cool-unique}
 use Rattle.cg_thermo.specs.Smooths.{Smooth, smooth_number, smooth_other}
 use Rattle.cg_form.proofs.Walls.{scaffold-steps, walls-none, walls-number, walls-steps}
 
@@ -21,7 +22,7 @@ use Rattle.cg_form.proofs.Walls.{scaffold-steps, walls-none, walls-number, walls
 high_by : (s : ℕ) (g : Game) → height g ≤ s → Decided g → (NoNumber g → (a : Game) → Among a (lefts g) → Smooth s a)
     → (NoNumber g → (b : Game) → Among b (rights g) → Smooth s b) → Smooth s g
 high_by s g h (inl w) l r = smooth_number g w.0 w.1 (let e = number-low number-decide g w.0 w.1 in omega arith)
-high_by s g h (inr never) l r = smooth_other g never (cool number-decide s g never h) (l never) (r never)
+high_by s g h (inr never) l r = smooth_other g never (λ d. cool d s g never h) (l never) (r never)
 
 high_within : (n s : ℕ) (g : Game) → size g < n → height g ≤ s → Smooth s g
 high_within zero s g p h = absurd (omega arith)
@@ -62,7 +63,7 @@ smooth-finer s _ (smooth_other g never c l r) =
     finer_along (λ t. walls number-decide s t g) (cooled (scaffold_of number-decide s g))
     (λ t. walls number-decide (suc s) t g) (cooled (scaffold_of number-decide (suc s) g))
     (λ t. walls-none number-decide s t g never) (λ t. walls-none number-decide (suc s) t g never)
-    (cooled-finer (scaffold_of number-decide s g) (scaffold_of number-decide (suc s) g) c
+    (cooled-finer (scaffold_of number-decide s g) (scaffold_of number-decide (suc s) g) (c number-decide)
     (scaffolds_finer s g (λ a m. smooth-finer s a (l a m)) (λ b m. smooth-finer s b (r b m))))
 
 -- the scaffolds of a game whose options are smooth cool at the next finer scale, where they start in order
@@ -78,7 +79,7 @@ cool-next s g l r h =
 
 pub smooth-up : (s : ℕ) (g : Game) → Smooth s g → Smooth (suc s) g
 smooth-up s _ (smooth_number g x e h) = smooth_number g x e (omega arith)
-smooth-up s _ (smooth_other g never c l r) = smooth_other g never (cool-next s g l r c.start)
+smooth-up s _ (smooth_other g never c l r) = smooth_other g never (λ d. cool-unique number-decide d (suc s) g (cool-next s g l r (c number-decide).start))
     (λ a m. smooth-up s a (l a m)) (λ b m. smooth-up s b (r b m))
 
 -- ---- the scaffolds start in order

@@ -5,12 +5,13 @@ use Rattle.cg_form.specs.Game.{Game, number}
 use Rattle.cg_form.specs.Heights.{height}
 use Rattle.cg_form.specs.Order.{Equal}
 use Rattle.cg_form.specs.Simple.{Decided, NoNumber}
-use Rattle.cg_form.specs.Walls.{scaffold_of}
+use Rattle.cg_form.specs.Walls.{IsThermal, scaffold_of}
 use Rattle.cg_form.proofs.Decide.{number-decide}
 use Rattle.cg_form.proofs.Finer.{twice, twice_pos}
+use Rattle.cg_form.proofs.Thermal.{thermal-by}
 use Rattle.cg_thermo.specs.declared.corners.Corner.{Corner}
 use Rattle.cg_thermo.specs.Pictures.{left_corners, right_corners}
-use Rattle.cg_thermo.specs.Thermal.{IsThermal, MastFrom}
+use Rattle.cg_thermo.specs.Thermal.{MastFrom}
 use Rattle.cg_thermo.proofs.Scales.{left-next, ratio-double, right-next, temperature-next, temperature-one}
 use Rattle.cg_thermo.specs.Smooths.{Smooth, smooth_number, smooth_other}
 use Rattle.cg_thermo.proofs.Smooth.{scaffolds_finer, smooth-finer, smooth-high, smooth-up}
@@ -18,11 +19,11 @@ use Rattle.cg_thermo.proofs.Smooth.{scaffolds_finer, smooth-finer, smooth-high, 
 -- the mean, the temperature and the corners, where the mast begins at this end at the scale s
 pub record Seen (s : ℕ) (g : Game) (end : ℕ) (mean temp : Number) (left right : List Corner) : Type 0 where
   pub smooth : Smooth s g
-  pub mast : MastFrom s g end
+  pub mast : MastFrom number-decide s g end
   pub mean_is : NoNumber g → ratio (scaffold_of number-decide s g end).left s ≡ mean
   pub temp_is : NoNumber g → ratio (pos end) s ≡ temp
-  pub left_is : left_corners s g end ≡ left
-  pub right_is : right_corners s g end ≡ right
+  pub left_is : left_corners number-decide s g end ≡ left
+  pub right_is : right_corners number-decide s g end ≡ right
 
 next_of : (s : ℕ) (g : Game) (end : ℕ) (mean temp : Number) (left right : List Corner) → Smooth s g → Seen s g end mean temp left right
     → Seen (suc s) g (twice end) mean temp left right
@@ -40,7 +41,7 @@ next_of s _ end mean temp left right (smooth_other g never c l r) v =
       smooth = smooth-up s g v.smooth;
       mast = record {
         number = λ y f. absurd (never y f);
-        other = λ k. temperature-next s g end c n (v.mast.other never);
+        other = λ k. temperature-next s g end (c number-decide) n (v.mast.other never);
       };
       mean_is = λ k. ap (λ z. ratio z (suc s)) (n.even_left end) ∙ ratio-double (scaffold_of number-decide s g end).left s ∙ v.mean_is k;
       temp_is = λ k. ap (λ z. ratio z (suc s)) (twice_pos end) ∙ ratio-double (pos end) s ∙ v.temp_is k;
@@ -60,7 +61,7 @@ seen-up (suc m) s g end mean temp left right v =
     (twice far, subst P e (next_of (m + s) g far mean temp left right w.smooth w))
 
 -- at one scale, one end
-mast-one : (s : ℕ) (g : Game) (e f : ℕ) → Decided g → MastFrom s g e → MastFrom s g f → e ≡ f
+mast-one : (s : ℕ) (g : Game) (e f : ℕ) → Decided g → MastFrom number-decide s g e → MastFrom number-decide s g f → e ≡ f
 mast-one s g e f (inl w) a b = a.number w.0 w.1 ∙ sym (b.number w.0 w.1)
 mast-one s g e f (inr never) a b = temperature-one s g e f (a.other never) (b.other never)
 
@@ -77,8 +78,8 @@ meet-at s g e f mean temp mean' temp' left right left' right' v w =
     record {
       means = λ k. sym (v.mean_is k) ∙ ap (λ z. ratio (scaffold_of number-decide s g z).left s) i ∙ w.mean_is k;
       temps = λ k. sym (v.temp_is k) ∙ ap (λ z. ratio (pos z) s) i ∙ w.temp_is k;
-      lefts_same = sym v.left_is ∙ ap (left_corners s g) i ∙ w.left_is;
-      rights_same = sym v.right_is ∙ ap (right_corners s g) i ∙ w.right_is;
+      lefts_same = sym v.left_is ∙ ap (left_corners number-decide s g) i ∙ w.left_is;
+      rights_same = sym v.right_is ∙ ap (right_corners number-decide s g) i ∙ w.right_is;
     }
 
 -- at any two scales at which the game is seen, the same is seen
@@ -92,22 +93,19 @@ sight-same s r g e f mean temp mean' temp' left right left' right' v w =
     meet-at (r + s) g x y mean temp mean' temp' left right left' right' a (subst P i b)
 
 -- what is seen at a scale is its own
-pub seen-own : (s : ℕ) (g : Game) (end : ℕ) → Smooth s g → MastFrom s g end
-    → Seen s g end (ratio (scaffold_of number-decide s g end).left s) (ratio (pos end) s) (left_corners s g end) (right_corners s g end)
+pub seen-own : (s : ℕ) (g : Game) (end : ℕ) → Smooth s g → MastFrom number-decide s g end
+    → Seen s g end (ratio (scaffold_of number-decide s g end).left s) (ratio (pos end) s) (left_corners number-decide s g end) (right_corners number-decide s g end)
 seen-own s g end m k = record { smooth = m; mast = k; mean_is = λ _. refl; temp_is = λ _. refl; left_is = refl; right_is = refl }
 
 -- ---- what is known at one scale holds at all
 
 pub thermal-none : (s : ℕ) (g : Game) (end : ℕ) (mean temp : Number) (left right : List Corner) → NoNumber g → Seen s g end mean temp left right
     → IsThermal g mean temp
-thermal-none s g end mean temp left right never v = record {
-  number = λ x e. absurd (never x e);
-  other = λ k r t h u.
-      let w = seen-own r g t (smooth-high r g h) (record { number = λ x e. absurd (never x e); other = λ _. u }) in
-      let m = sight-same s r g end t mean temp (ratio (scaffold_of number-decide r g t).left r) (ratio (pos t) r) left right
-      (left_corners r g t) (right_corners r g t) v w in
-      (m.means never, m.temps never);
-}
+thermal-none s g end mean temp left right never v = thermal-by number-decide g mean temp never (λ r t h u.
+    let w = seen-own r g t (smooth-high r g h) (record { number = λ x e. absurd (never x e); other = λ _. u }) in
+    let m = sight-same s r g end t mean temp (ratio (scaffold_of number-decide r g t).left r) (ratio (pos t) r) left right
+    (left_corners number-decide r g t) (right_corners number-decide r g t) v w in
+    (m.means never, m.temps never))
 
 pub thermal-number : (g : Game) (x mean temp : Number) → Equal (number x) g → ((y : Number) → Equal (number y) g → x ≡ y)
     → mean ≡ x → temp ≡ ratio (negsuc 0) (exp_of x) → IsThermal g mean temp
@@ -117,9 +115,9 @@ thermal-number g x mean temp e one m t = record {
 }
 
 pub corners-same : (s r : ℕ) (g : Game) (end t : ℕ) (mean temp : Number) (left right : List Corner) → Seen s g end mean temp left right
-    → height g ≤ r → MastFrom r g t → (left ≡ left_corners r g t) × (right ≡ right_corners r g t)
+    → height g ≤ r → MastFrom number-decide r g t → (left ≡ left_corners number-decide r g t) × (right ≡ right_corners number-decide r g t)
 corners-same s r g end t mean temp left right v h k =
     let w = seen-own r g t (smooth-high r g h) k in
     let m = sight-same s r g end t mean temp (ratio (scaffold_of number-decide r g t).left r) (ratio (pos t) r) left right
-    (left_corners r g t) (right_corners r g t) v w in
+    (left_corners number-decide r g t) (right_corners number-decide r g t) v w in
     (m.lefts_same, m.rights_same)

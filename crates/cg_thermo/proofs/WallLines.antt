@@ -1,73 +1,93 @@
 -- The line through the corners of a wall of a game.
-use Rattle.std.proofs.Common.{◌≡◌, refl, ℕ, ◌≤◌, arith, zero, suc, inl, inr, ap, sym, ◌∙◌, ℤ, pos}
+use Rattle.std.proofs.Common.{◌≡◌, refl, ℕ, ◌≤◌, arith, inl, inr, ap, sym, ◌∙◌, ℤ, pos}
 use Rattle.std.proofs.lemmas.Int.{ints}
 use Rattle.cg_dyadic.specs.Number.{Number, exp_of}
 use Rattle.cg_dyadic.specs.Units.{units}
 use Rattle.cg_form.specs.Game.{Game}
 use Rattle.cg_form.specs.Heights.{height}
-use Rattle.cg_form.specs.Simple.{Decided}
+use Rattle.cg_form.specs.Simple.{Decided, Decides}
 use Rattle.cg_form.specs.Walls.{Walls, walls}
-use Rattle.cg_form.proofs.Decide.{number-decide}
 use Rattle.cg_form.proofs.Temperature.{scaffolds_agree, temperature-there, walls-mast}
 use Rattle.cg_form.proofs.Walls.{walls-number, walls-steps}
-use Rattle.cg_lines.specs.Corners.{corners, line}
-use Rattle.cg_lines.proofs.Through.{line-corners}
+use Rattle.cg_lines.specs.Corners.{corners, marks}
+use Rattle.cg_lines.specs.Lines.{OnLine}
+use Rattle.cg_lines.proofs.Lines.{on-along}
+use Rattle.cg_lines.proofs.Through.{corners-on}
 use Rattle.cg_thermo.specs.declared.thermo.Walls as drawn
 use Rattle.cg_thermo.specs.Pictures.{left_corners, right_corners}
 use Rattle.cg_thermo.specs.Thermal.{MastFrom}
-use Rattle.cg_thermo.specs.Thermographs.{IsThermograph}
-use Rattle.cg_thermo.specs.WallLine.{IsOnLine}
-use Rattle.cg_thermo.proofs.Rescaled.{FirstAt, on_spots}
+use Rattle.cg_thermo.specs.Thermographs.{DrawsWalls, IsThermograph}
+use Rattle.cg_thermo.specs.WallLine.{IsOnLine, marks_at}
+use Rattle.cg_thermo.proofs.Rescaled.{on_spots, spots-along}
 
 -- from the end on the walls stay
-stays-by : (s end t : ℕ) (g : Game) → Decided g → height g ≤ s → MastFrom s g end → end ≤ t
-    → walls number-decide s t g ≡ walls number-decide s end g
-stays-by s end t g (inl w) h m k = walls-number number-decide s t g w.0 w.1 ∙ sym (walls-number number-decide s end g w.0 w.1)
-stays-by s end t g (inr never) h m k = walls-mast number-decide s g end h never (m.other never) t k
-    ∙ sym (walls-mast number-decide s g end h never (m.other never) end (omega arith))
+stays-by : (d : Decides) (s end t : ℕ) (g : Game) → Decided g → height g ≤ s → MastFrom d s g end → end ≤ t
+    → walls d s t g ≡ walls d s end g
+stays-by d s end t g (inl w) h m k = walls-number d s t g w.0 w.1 ∙ sym (walls-number d s end g w.0 w.1)
+stays-by d s end t g (inr never) h m k = walls-mast d s g end h never (m.other never) t k
+    ∙ sym (walls-mast d s g end h never (m.other never) end (omega arith))
 
-pub left-line : (s end t : ℕ) (g : Game) → height g ≤ s → MastFrom s g end
-    → line (corners (λ u. (walls number-decide s u g).left) end) t ≡ (walls number-decide s t g).left
-left-line s end t g h m = line-corners (λ u. (walls number-decide s u g).left)
+pub left-line : (d : Decides) (s end t : ℕ) (g : Game) → height g ≤ s → MastFrom d s g end
+    → OnLine (marks (corners (λ u. (walls d s u g).left) end)) (pos t) (walls d s t g).left
+left-line d s end t g h m = corners-on (λ u. (walls d s u g).left)
     (record {
-      up_by_one = λ u. (let k = walls-steps number-decide s u g in let a = k.left_falls in omega (arith, ints));
-      down_by_one = λ u. (walls-steps number-decide s u g).left_by_one;
+      up_by_one = λ u. (let k = walls-steps d s u g in let a = k.left_falls in omega (arith, ints));
+      down_by_one = λ u. (walls-steps d s u g).left_by_one;
     })
-    end (λ u k. ap (λ (z : Walls). z.left) (stays-by s end u g (number-decide g) h m k)) t
+    end (λ u k. ap (λ (z : Walls). z.left) (stays-by d s end u g (d g) h m k)) t
 
-pub right-line : (s end t : ℕ) (g : Game) → height g ≤ s → MastFrom s g end
-    → line (corners (λ u. (walls number-decide s u g).right) end) t ≡ (walls number-decide s t g).right
-right-line s end t g h m = line-corners (λ u. (walls number-decide s u g).right)
+pub right-line : (d : Decides) (s end t : ℕ) (g : Game) → height g ≤ s → MastFrom d s g end
+    → OnLine (marks (corners (λ u. (walls d s u g).right) end)) (pos t) (walls d s t g).right
+right-line d s end t g h m = corners-on (λ u. (walls d s u g).right)
     (record {
-      up_by_one = λ u. (walls-steps number-decide s u g).right_by_one;
-      down_by_one = λ u. (let k = walls-steps number-decide s u g in let a = k.right_rises in omega (arith, ints));
+      up_by_one = λ u. (walls-steps d s u g).right_by_one;
+      down_by_one = λ u. (let k = walls-steps d s u g in let a = k.right_rises in omega (arith, ints));
     })
-    end (λ u k. ap (λ (z : Walls). z.right) (stays-by s end u g (number-decide g) h m k)) t
+    end (λ u k. ap (λ (z : Walls). z.right) (stays-by d s end u g (d g) h m k)) t
 
 -- ---- read off the corners of a thermograph
 
-mast_there : (s : ℕ) (g : Game) → Decided g → height g ≤ s → (end : ℕ) × MastFrom s g end
-mast_there s g (inl w) h = (0, record { number = λ x e. refl; other = λ never. absurd (never w.0 w.1) })
-mast_there s g (inr never) h =
-    let (t, k) = temperature-there number-decide s g (scaffolds_agree number-decide s g never h) in
+mast_there : (d : Decides) (s : ℕ) (g : Game) → Decided g → height g ≤ s → (end : ℕ) × MastFrom d s g end
+mast_there d s g (inl w) h = (0, record { number = λ x e. refl; other = λ never. absurd (never w.0 w.1) })
+mast_there d s g (inr never) h =
+    let (t, k) = temperature-there d s g (scaffolds_agree d s g never h) in
     (t, record { number = λ x e. absurd (never x e); other = λ n. k })
 
-first_corner : (w : ℕ → ℤ) (end : ℕ) → FirstAt (corners w end)
-first_corner w zero = refl
-first_corner w (suc n) = refl
-
-pub left-reading : (g : Game) (w : drawn.Walls) (s u : ℕ) (t x : Number) → IsThermograph g w → height g ≤ s → exp_of t ≤ s
-    → exp_of x ≤ s → units s t ≡ pos u → IsOnLine w.left t x → units s x ≡ (walls number-decide s u g).left
+pub left-reading : (d : Decides) (g : Game) (w : drawn.Walls) (s u : ℕ) (t x : Number) → IsThermograph g w → height g ≤ s → exp_of t ≤ s
+    → exp_of x ≤ s → units s t ≡ pos u → IsOnLine w.left t x → units s x ≡ (walls d s u g).left
 unfolding left_corners
-left-reading g w s u t x k h a b e o =
-    let (end, m) = mast_there s g (number-decide g) h in
-    let f : ℕ → ℤ = λ v. (walls number-decide s v g).left in
-    on_spots s (corners f end) w.left t x u (first_corner f end) (k.left s end h m) a b e o ∙ left-line s end u g h m
+left-reading d g w s u t x k h a b e o =
+    let (end, m) = mast_there d s g (d g) h in
+    let f : ℕ → ℤ = λ v. (walls d s v g).left in
+    on_spots s (corners f end) w.left t x u (f u) (k.left d s end h m) a b e o (left-line d s end u g h m)
 
-pub right-reading : (g : Game) (w : drawn.Walls) (s u : ℕ) (t x : Number) → IsThermograph g w → height g ≤ s → exp_of t ≤ s
-    → exp_of x ≤ s → units s t ≡ pos u → IsOnLine w.right t x → units s x ≡ (walls number-decide s u g).right
+pub right-reading : (d : Decides) (g : Game) (w : drawn.Walls) (s u : ℕ) (t x : Number) → IsThermograph g w → height g ≤ s → exp_of t ≤ s
+    → exp_of x ≤ s → units s t ≡ pos u → IsOnLine w.right t x → units s x ≡ (walls d s u g).right
 unfolding right_corners
-right-reading g w s u t x k h a b e o =
-    let (end, m) = mast_there s g (number-decide g) h in
-    let f : ℕ → ℤ = λ v. (walls number-decide s v g).right in
-    on_spots s (corners f end) w.right t x u (first_corner f end) (k.right s end h m) a b e o ∙ right-line s end u g h m
+right-reading d g w s u t x k h a b e o =
+    let (end, m) = mast_there d s g (d g) h in
+    let f : ℕ → ℤ = λ v. (walls d s v g).right in
+    on_spots s (corners f end) w.right t x u (f u) (k.right d s end h m) a b e o (right-line d s end u g h m)
+
+-- ---- the lines of the corners of a thermograph
+
+left-drawn : (d : Decides) (g : Game) (w : drawn.Walls) (s u : ℕ) → IsThermograph g w → height g ≤ s
+    → OnLine (marks_at s w.left) (pos u) (walls d s u g).left
+unfolding left_corners
+left-drawn d g w s u k h =
+    let (end, m) = mast_there d s g (d g) h in
+    let f : ℕ → ℤ = λ v. (walls d s v g).left in
+    on-along (marks (corners f end)) (marks_at s w.left) (pos u) (pos u) (f u) (f u) (spots-along s (corners f end) w.left (k.left d s end h m)) refl refl
+    (left-line d s end u g h m)
+
+right-drawn : (d : Decides) (g : Game) (w : drawn.Walls) (s u : ℕ) → IsThermograph g w → height g ≤ s
+    → OnLine (marks_at s w.right) (pos u) (walls d s u g).right
+unfolding right_corners
+right-drawn d g w s u k h =
+    let (end, m) = mast_there d s g (d g) h in
+    let f : ℕ → ℤ = λ v. (walls d s v g).right in
+    on-along (marks (corners f end)) (marks_at s w.right) (pos u) (pos u) (f u) (f u) (spots-along s (corners f end) w.right (k.right d s end h m)) refl refl
+    (right-line d s end u g h m)
+
+pub draws-walls : (g : Game) (w : drawn.Walls) → IsThermograph g w → DrawsWalls g w
+draws-walls g w k = record { left = λ d s u h. left-drawn d g w s u k h; right = λ d s u h. right-drawn d g w s u k h }

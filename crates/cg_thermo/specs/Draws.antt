@@ -2,8 +2,8 @@
 use Rattle.std.specs.Prelude.{◌≡◌, ℕ, ◌<◌, neg_ℤ}
 use Rattle.cg_dyadic.specs.Wide.{places}
 use Rattle.cg_form.specs.Game.{Game}
+use Rattle.cg_form.specs.Simple.{Decides}
 use Rattle.cg_form.specs.Walls.{walls}
-use Rattle.cg_form.proofs.Decide.{number-decide}
 use Rattle.cg_lines.specs.declared.TheConstants.{END}
 use Rattle.cg_lines.specs.Rises.{IsWall, value_at}
 use Rattle.cg_thermo.specs.Thermal.{MastFrom}
@@ -13,7 +13,7 @@ use Rattle.cg_thermo.specs.declared.chart.Chart.{Chart}
 pub record Draws (g : Game) (c : Chart) : Type 0 where
   pub left_wall : IsWall c.left
   pub right_wall : IsWall c.right
-  pub left : (t : ℕ) → value_at c.left t ≡ neg_ℤ (walls number-decide places t g).left
-  pub right : (t : ℕ) → value_at c.right t ≡ (walls number-decide places t g).right
-  pub mast : MastFrom places g c.end
+  pub left : (d : Decides) (t : ℕ) → value_at c.left t ≡ neg_ℤ (walls d places t g).left
+  pub right : (d : Decides) (t : ℕ) → value_at c.right t ≡ (walls d places t g).right
+  pub mast : (d : Decides) → MastFrom d places g c.end
   pub soon : c.end < END

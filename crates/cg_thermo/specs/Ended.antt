@@ -1,15 +1,13 @@
 -- The stops that were found so far, by ids, and how far they have come.
-use Rattle.std.specs.Prelude.{◌≡◌, ℕ, Option, Some, None, Bool, cond, List, [], pos, IsTrue}
+use Rattle.std.specs.Prelude.{◌≡◌, ℕ, Option, Some, None, Bool, if◌then◌else◌, List, [], pos, IsTrue}
 use Rattle.cg_cells.specs.Meaning.{Has}
 use Rattle.cg_cells.specs.Store.{State}
 use Rattle.cg_dyadic.specs.Number.{Number, number_le, whole}
-use Rattle.cg_form.specs.Game.{Game}
-use Rattle.cg_form.specs.Stops.{stops}
-use Rattle.cg_form.proofs.Decide.{number-decide}
 use Rattle.cg_nodes.specs.Meant.{Meant}
 use Rattle.cg_thermo.specs.declared.ending.Stops.{Stops}
 use Rattle.cg_thermo.specs.declared.by_id.ById.{ById}
-use Rattle.cg_thermo.specs.Kept.{AllKept, Holds, OptionsKept, kept_in}
+use Rattle.cg_thermo.specs.Kept.{AllKept, KeepsOwn, OptionsKept, kept_in}
+use Rattle.cg_thermo.specs.StopsOf.{StopsAre}
 
 -- for ids the stops of their games
 abbrev pub Ends : Type 0
@@ -19,14 +17,9 @@ Ends = ById Stops
 abbrev pub ended : Ends → ℕ → Option Stops
 ended m a = kept_in m a
 
--- the stops are those of the game
-pub record StopsAre (g : Game) (c : Stops) : Type 0 where
-  pub left : c.left ≡ (stops number-decide g).left
-  pub right : c.right ≡ (stops number-decide g).right
-
 -- what was found for a handle are the stops of its game
 abbrev pub HoldsEnds : {R : Type 0} → State Meant R → Ends → Type 0
-HoldsEnds {R} s m = Holds StopsAre s (ended m)
+HoldsEnds {R} s m = KeepsOwn StopsAre s (ended m)
 
 -- for each option of the game some handle stands whose stops were found
 abbrev pub OptionsEnded : {R : Type 0} → State Meant R → Ends → ℕ → Type 0
@@ -39,11 +32,11 @@ AllEnded m hs = AllKept (ended m) hs
 -- the other player's stop, in what was found
 abbrev pub far_stop : Bool → Option Stops → Number
 far_stop left None = whole (pos 0)
-far_stop left (Some c) = cond left c.right c.left
+far_stop left (Some c) = if left then c.right else c.left
 
--- y is for the player at least as good as x
+-- y is at least as good as x: for Left, where that is asked, or else for Right
 abbrev pub as_good : Bool → Number → Number → Bool
-as_good left x y = cond left (number_le x y) (number_le y x)
+as_good left x y = if left then number_le x y else number_le y x
 
 -- b is one of the list's stops, and the best of them
 pub record BestOf (m : Ends) (left : Bool) (hs : List ℕ) (b : Number) : Type 0 where
@@ -60,4 +53,4 @@ BestSoFar m left hs (Some b) = BestOf m left hs b
 -- the first number, or the better of the two
 abbrev pub better_of : Bool → Option Number → Number → Number
 better_of left None x = x
-better_of left (Some b) x = cond (as_good left b x) x b
+better_of left (Some b) x = if as_good left b x then x else b

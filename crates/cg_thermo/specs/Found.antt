@@ -1,5 +1,5 @@
 -- What was found so far, by ids.
-use Rattle.std.specs.Prelude.{◌≡◌, ◌⊎◌, ℕ, Option, Some, None, Bool, cond, List, ℤ, pos, neg_ℤ, ◌≤ℤ◌}
+use Rattle.std.specs.Prelude.{◌≡◌, ◌⊎◌, ℕ, Option, Some, None, Bool, if◌then◌else◌, List, ℤ, pos, neg_ℤ, ◌≤ℤ◌}
 use Rattle.cg_cells.specs.Meaning.{Has}
 use Rattle.cg_lines.specs.declared.TheConstants.{BOUND}
 use Rattle.cg_lines.specs.declared.rise.Rise.{Rise}
@@ -19,7 +19,7 @@ charted m a = kept_in m a
 -- the value of the right wall, or the negative of that of the left wall, in the chart that was found
 abbrev pub side_in : Bool → Option Chart → ℕ → ℤ
 side_in right None t = pos 0
-side_in right (Some c) t = cond right (value_at c.right t) (value_at c.left t)
+side_in right (Some c) t = if right then value_at c.right t else value_at c.left t
 
 -- the charts that were found are of walls
 pub record AreWalls (m : Charts) : Type 0 where
@@ -30,7 +30,8 @@ pub record AreWalls (m : Charts) : Type 0 where
 abbrev pub AllFound : Charts → List ℕ → Type 0
 AllFound m hs = AllKept (charted m) hs
 
--- r is the greatest of the sides of the list, and the lower bound where there is none
+-- At each time r is the greatest of the sides of the list, or the lower bound of all walls. So it is the greatest where the
+-- list is not empty, since no side is below that bound, and that bound where it is empty.
 pub record TopOf (m : Charts) (right : Bool) (hs : List ℕ) (r : Rise) : Type 0 where
   pub wall : IsWall r
   pub above : (h t : ℕ) → Has hs h → side_in right (charted m h) t ≤ℤ value_at r t

@@ -13,7 +13,7 @@ abbrev pub kept_in : {C : Type 0} → ById C → ℕ → Option C
 kept_in {C} m a = get nat_eq m.by_id a
 
 -- what is kept for a handle is, as Of says, that of its game
-pub record Holds {R C : Type 0} (Of : Game → C → Type 0) (s : State Meant R) (kept : ℕ → Option C) : Type 0 where
+pub record KeepsOwn {R C : Type 0} (Of : Game → C → Type 0) (s : State Meant R) (kept : ℕ → Option C) : Type 0 where
   pub game : (h : ℕ) (c : C) → kept h ≡ Some c → IsGame s h
   pub own : (h : ℕ) (c : C) → kept h ≡ Some c → Of (game_at s h) c
 

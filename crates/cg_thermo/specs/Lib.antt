@@ -1,12 +1,14 @@
--- what public contracts cite
+-- the textbook, to be believed
 pub mod Thermal
 pub mod Pictures
-pub mod Signed
 pub mod Thermographs
-pub mod Winners
-pub mod Ended
+pub mod Ranges
 pub mod WallLine
+pub mod StopsOf
+pub mod Winners
 -- what private contracts cite
+pub mod Signed
+pub mod Ended
 pub mod Draws
 pub mod Kept
 pub mod Found

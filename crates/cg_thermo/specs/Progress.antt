@@ -5,14 +5,14 @@ use Rattle.cg_cells.specs.Store.{State}
 use Rattle.cg_dyadic.specs.Number.{Number, exp_of}
 use Rattle.cg_dyadic.specs.Wide.{places}
 use Rattle.cg_form.specs.Game.{Among, Game, lefts, rights}
+use Rattle.cg_form.specs.Walls.{IsThermal}
 use Rattle.cg_nodes.specs.Games.{IsNode, game_at}
 use Rattle.cg_nodes.specs.Meant.{Meant}
 use Rattle.cg_thermo.specs.declared.chart.Chart.{Chart}
 use Rattle.cg_thermo.specs.Draws.{Draws}
 use Rattle.cg_thermo.specs.Found.{Charts, charted}
-use Rattle.cg_thermo.specs.Kept.{Holds, OptionsKept}
+use Rattle.cg_thermo.specs.Kept.{KeepsOwn, OptionsKept}
 use Rattle.cg_thermo.specs.Smooths.{Smooth}
-use Rattle.cg_thermo.specs.Thermal.{IsThermal}
 
 -- the chart is that of the game, whose temperatures need no more places
 pub record Charted (g : Game) (c : Chart) : Type 0 where
@@ -21,7 +21,7 @@ pub record Charted (g : Game) (c : Chart) : Type 0 where
 
 -- what was found for a handle is the chart of its game
 abbrev pub HoldsCharts : {R : Type 0} → State Meant R → Charts → Type 0
-HoldsCharts {R} s m = Holds Charted s (charted m)
+HoldsCharts {R} s m = KeepsOwn Charted s (charted m)
 
 -- for each option of the game some handle stands whose chart was found
 abbrev pub OptionsCharted : {R : Type 0} → State Meant R → Charts → ℕ → Type 0

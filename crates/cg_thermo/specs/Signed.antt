@@ -1,10 +1,23 @@
--- Corners at points in units of 1 / 2 ^ 60.
-use Rattle.std.specs.Prelude.{Bool, cond, pos, neg_ℤ}
+-- Corners at points in units of 1 / 2 ^ 60, and what is drawn of a chart.
+use Rattle.std.specs.Prelude.{◌≡◌, Bool, true, false, if◌then◌else◌, map, pos, neg_ℤ}
 use Rattle.cg_dyadic.specs.Number.{ratio}
 use Rattle.cg_dyadic.specs.Wide.{places}
+use Rattle.cg_lines.specs.Corners.{corners}
+use Rattle.cg_lines.specs.Rises.{value_at}
 use Rattle.cg_lines.specs.declared.bends.Point.{Point}
+use Rattle.cg_thermo.specs.declared.chart.Chart.{Chart}
 use Rattle.cg_thermo.specs.declared.corners.Corner.{Corner}
+use Rattle.cg_thermo.specs.declared.thermo.Walls.{Walls}
 
 -- the corner at a point, with the negative of its value or with this
 abbrev pub corner_at : Bool → Point → Corner
-corner_at negated p = record { value = ratio (cond negated (neg_ℤ p.value) p.value) places; at = ratio (pos p.at) places }
+corner_at negated p = record {
+  value = ratio (if negated then neg_ℤ p.value else p.value) places;
+  at = ratio (pos p.at) places;
+}
+
+-- the mean and the corners of a chart
+pub record Pictured (c : Chart) (w : Walls) : Type 0 where
+  pub mean : w.mean ≡ ratio (value_at c.right c.end) places
+  pub left : w.left ≡ map (corner_at true) (corners (value_at c.left) c.end)
+  pub right : w.right ≡ map (corner_at false) (corners (value_at c.right) c.end)

@@ -1,9 +1,11 @@
 //! Corners of walls.
 ghost use Rattle.std.specs.Prelude.{◌≡◌, ◌↔◌, IfOk, IsTrue, [], length, map};
+ghost use Rattle.cg_lines.specs.Corners.{marks};
 ghost use Rattle.cg_lines.specs.Fits.{AllFit, PointFits};
+ghost use Rattle.cg_lines.specs.Lines.{TimesRise};
 ghost use Rattle.cg_dyadic.specs.Wide.{places};
 ghost use Rattle.cg_thermo.specs.Signed.{corner_at};
-ghost use Rattle.cg_thermo.specs.WallLine.{AllWhole};
+ghost use Rattle.cg_thermo.specs.WallLine.{AllWhole, AreCorners, marks_at};
 
 use cg_dyadic::Wide;
 use cg_lines::Point;
@@ -19,7 +21,7 @@ pub struct Corner {
     pub at: Wide,
 }
 
-/// The corners of a wall, in their order. Contracts see a list of corners.
+/// The corners of a wall, in their order; their times rise. Contracts see a list of corners.
 #[derive(Debug, Drop)]
 pub struct Corners {
     items: Vec<Corner>,
@@ -31,15 +33,22 @@ impl Model for Corners {
 
     ghost Value = { List Corner };
 
-    ghost use Rattle.cg_dyadic.specs.Wide.{places};
-    ghost use Rattle.cg_thermo.specs.WallLine.{AllWhole};
+    ghost use Rattle.cg_thermo.specs.WallLine.{AreCorners};
 
     ghost view = { λ a. a.items.items };
 
-    ghost invariant = { λ a. AllWhole places a.items.items };
+    ghost invariant = { λ a. AreCorners a.items.items };
 }
 
 impl Corners {
+    /// These corners, whose times rise.
+    pub fn of(items: Vec<Corner>) -> Corners
+        requires { AreCorners items.items }
+        ensures { result ≡ items.items }
+    {
+        Corners { items }
+    }
+
     /// How many there are.
     pub fn len(&self) -> usize
         ensures { result ≡ length self.now }
@@ -58,8 +67,18 @@ impl Corners {
     pub fn as_slice(&self) -> &[Corner]
         ensures items { result.now ≡ self.now }
         ensures whole { AllWhole places self.now }
+        ensures rise { TimesRise (marks_at places self.now) }
     {
         &self.items
+    }
+
+    /// The corners in a vector, in their order.
+    pub fn into_vec(self) -> Vec<Corner>
+        ensures items { result.items ≡ self }
+        ensures corners { AreCorners self }
+    {
+        let Corners { items } = self;
+        items
     }
 }
 
@@ -92,7 +111,8 @@ pub(crate) fn corners_of(
     points: &[Point],
     negated: bool,
 ) -> Result<Corners, AllocError>
-    requires { AllFit points.now }
+    requires fit { AllFit points.now }
+    requires rise { TimesRise (marks points.now) }
     ensures { IfOk result (λ cs. cs ≡ map (corner_at negated) points.now) }
 {
     let mut items = Vec::new(alloc);

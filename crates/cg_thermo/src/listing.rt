@@ -3,7 +3,7 @@ ghost use Rattle.std.specs.Prelude.{IfOk};
 ghost use Rattle.cg_canon.specs.Works.{work_state};
 ghost use Rattle.cg_cells.specs.Store.{Spends};
 ghost use Rattle.cg_nodes.specs.Games.{IsGame, StandFor, game_at};
-ghost use Rattle.cg_nodes.specs.Positions.{positions_of};
+ghost use Rattle.cg_form.specs.Positions.{positions_of};
 
 use cg_canon::Work;
 use cg_cells::CellStore;

@@ -1,9 +1,10 @@
 //! The value of a wall at a temperature, read off its corners.
-ghost use Rattle.std.specs.Prelude.{◌≡◌, ◌<◌, ◌≤◌, ◌^◌, [], IfNone, IfSome, unsigned_abs};
+ghost use Rattle.std.specs.Prelude.{◌≡◌, ◌≤◌, ◌^◌, ℤ, [], IfNone, IfSome, unsigned_abs};
 ghost use Rattle.cg_dyadic.specs.Number.{Number};
 ghost use Rattle.cg_dyadic.specs.Units.{units};
 ghost use Rattle.cg_dyadic.specs.Wide.{InWide, places};
-ghost use Rattle.cg_thermo.specs.WallLine.{IsOnLine, line_at, toward_by};
+ghost use Rattle.cg_lines.specs.Lines.{OnLine, TimesRise, further};
+ghost use Rattle.cg_thermo.specs.WallLine.{IsOnLine, marks_at};
 
 use crate::corners::{Corner, Corners};
 use cg_dyadic::Wide;
@@ -23,8 +24,8 @@ fn bounded(value: i128) -> Option<Wide>
 
 // n further from a toward b, if that is a word.
 fn moved(a: i128, b: i128, n: i128) -> Option<i128>
-    ensures some { IfSome result (λ v. v ≡ toward_by a b n) }
-    ensures none { IfNone result (2 ^ 126 ≤ unsigned_abs (toward_by a b n)) }
+    ensures some { IfSome result (λ v. v ≡ further a b n) }
+    ensures none { IfNone result (2 ^ 126 ≤ unsigned_abs (further a b n)) }
 {
     if a < b {
         a.checked_add(n)
@@ -37,9 +38,9 @@ fn moved(a: i128, b: i128, n: i128) -> Option<i128>
 
 // n further from a toward b, if that is a wall value.
 fn toward(a: i128, b: i128, n: i128) -> Option<Wide>
-    ensures some { IfSome result (λ x. units places x ≡ toward_by a b n) }
+    ensures some { IfSome result (λ x. units places x ≡ further a b n) }
     ensures wide { IfSome result InWide }
-    ensures none { IfNone result (2 ^ 126 ≤ unsigned_abs (toward_by a b n)) }
+    ensures none { IfNone result (2 ^ 126 ≤ unsigned_abs (further a b n)) }
 {
     match moved(a, b, n) {
         Some(value) => bounded(value),
@@ -49,11 +50,13 @@ fn toward(a: i128, b: i128, n: i128) -> Option<Wide>
 
 // The value of the line of the corners, in units of 1/2^60, if it is a wall value.
 fn line_of(items: &[Corner], t: Wide) -> Option<Wide>
-    requires { ¬ (items.now ≡ []) }
-    ensures some { IfSome result (λ x. units places x ≡ line_at places items.now (units places t)) }
+    requires some { ¬ (items.now ≡ []) }
+    requires rise { TimesRise (marks_at places items.now) }
+    ensures some { IfSome result (λ x. OnLine (marks_at places items.now) (units places t) (units places x)) }
     ensures wide { IfSome result InWide }
     ensures time { InWide t }
-    ensures none { IfNone result (2 ^ 126 ≤ unsigned_abs (line_at places items.now (units places t))) }
+    ensures none { IfNone result ((n : ℤ) → OnLine (marks_at places items.now) (units places t) n
+        → 2 ^ 126 ≤ unsigned_abs n) }
 {
     let time = t.units();
     let mut value = items[0].value.units();

@@ -10,8 +10,9 @@ ghost use Rattle.cg_lines.specs.declared.TheConstants.{END};
 ghost use Rattle.cg_lines.specs.Rises.{IsWall};
 ghost use Rattle.cg_nodes.specs.Games.{IsGame, IsNode, game_at};
 ghost use Rattle.cg_thermo.specs.Progress.{Charted};
+ghost use Rattle.cg_thermo.specs.Signed.{Pictured};
 ghost use Rattle.cg_thermo.specs.Thermal.{NeedsMore};
-ghost use Rattle.cg_thermo.specs.Thermographs.{IsThermograph, Pictured};
+ghost use Rattle.cg_thermo.specs.Thermographs.{DrawsWalls, IsThermograph};
 
 use crate::chart::{Chart, Charts};
 use crate::corners::{Corners, corners_of};
@@ -97,6 +98,7 @@ pub fn thermograph<B: BoardForms, S: CellStore<GameFacts<B>>>(
 ) -> Result<Walls, ThermoFault>
     requires { IsGame (work_state S.state work.old) a }
     ensures walls { IfOk result (IsThermograph (game_at (work_state S.state work.old) a)) }
+    ensures lines { IfOk result (DrawsWalls (game_at (work_state S.state work.old) a)) }
     ensures enough { OnOk result (¬ NeedsMore places (game_at (work_state S.state work.old) a)) }
     ensures range { result ≡ Err ThermoFault.Range → NeedsMore places (game_at (work_state S.state work.old) a) }
     ensures spends { Spends 0 (work_state S.state work.old) (work_state S.state work.new) }

@@ -15,9 +15,9 @@ use Rattle.cg_canon.specs.declared.rest.WorkRest.{WorkRest}
 use Rattle.cg_form.specs.Game.{Game}
 use Rattle.cg_form.specs.Sum.{sum}
 use Rattle.cg_nodes.proofs.Later.{are_games_later, stands_game, stands_is_game, stands_later}
+use Rattle.cg_nodes.specs.Can.{can}
 use Rattle.cg_nodes.specs.Games.{AreGames, IsGame, StandFor, StandsFor, game_at}
 use Rattle.cg_nodes.specs.Meant.{Meant}
-use Rattle.cg_nodes.specs.Spelled.{can}
 use Rattle.cg_moves.proofs.Places.{split_read, take_next}
 use Rattle.cg_values.specs.Gives.{Gives}
 use Rattle.cg_values.specs.Items.{added, added_items}

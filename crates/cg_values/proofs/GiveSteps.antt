@@ -11,6 +11,7 @@ use Rattle.cg_canon.specs.Made.{ItemsMade}
 use Rattle.cg_canon.specs.declared.fault.ValueFault.{ValueFault}
 use Rattle.cg_canon.specs.declared.fault.ValueFault.TheVariants.{Memory, Positions}
 use Rattle.cg_canon.specs.declared.rest.WorkRest.{WorkRest}
+use Rattle.cg_nodes.specs.Can.{can}
 use Rattle.cg_form.proofs.SumLaws.{sum-le_second}
 use Rattle.cg_form.proofs.SumOrder.{sum-le}
 use Rattle.cg_form.specs.Game.{Game}
@@ -19,7 +20,6 @@ use Rattle.cg_nodes.proofs.Forms.{can-same}
 use Rattle.cg_nodes.specs.CanForms.{can-equal}
 use Rattle.cg_nodes.specs.Games.{StandFor, StandsFor, games_at}
 use Rattle.cg_nodes.specs.Meant.{Meant}
-use Rattle.cg_nodes.specs.Spelled.{can}
 use Rattle.cg_moves.specs.Grid.{Grid}
 use Rattle.cg_moves.specs.Raw.{raw}
 use Rattle.cg_moves.specs.Rules.{GameRules}

@@ -7,9 +7,9 @@ use Rattle.cg_cells.specs.Store.{State, thing_at}
 use Rattle.cg_form.specs.Game.{Game}
 use Rattle.cg_nodes.proofs.Later.{stand_later, stands_game, stands_is_game}
 use Rattle.cg_nodes.specs.Boards.{AreBelow}
+use Rattle.cg_nodes.specs.Can.{can}
 use Rattle.cg_nodes.specs.Games.{StandFor, StandsFor, game_at, games_at}
 use Rattle.cg_nodes.specs.Meant.{Meant, form}
-use Rattle.cg_nodes.specs.Spelled.{can}
 use Rattle.cg_moves.specs.Grid.{Grid}
 use Rattle.cg_moves.specs.Opened.{IsAt, StandAt}
 use Rattle.cg_moves.specs.Raw.{raw}

@@ -6,9 +6,9 @@ use Rattle.cg_cells.specs.Meaning.{Grows}
 use Rattle.cg_cells.specs.Store.{State, thing_at}
 use Rattle.cg_form.specs.Game.{Game, node}
 use Rattle.cg_nodes.specs.Boards.{AreWritten, are_contents, are_of_board, symbols}
+use Rattle.cg_nodes.specs.Can.{can}
 use Rattle.cg_nodes.specs.Games.{StandFor, games_at}
 use Rattle.cg_nodes.specs.Meant.{Meant}
-use Rattle.cg_nodes.specs.Spelled.{can}
 use Rattle.cg_nodes.proofs.BoardContents.{contents-written, is-of_board}
 use Rattle.cg_nodes.proofs.Forms.{can-node}
 use Rattle.cg_nodes.proofs.Later.{stand_later}

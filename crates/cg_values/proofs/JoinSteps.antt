@@ -15,9 +15,9 @@ use Rattle.cg_canon.specs.declared.fault.ValueFault.{ValueFault}
 use Rattle.cg_canon.specs.declared.rest.WorkRest.{WorkRest}
 use Rattle.cg_form.specs.Game.{Game}
 use Rattle.cg_nodes.proofs.Later.{stand_later}
+use Rattle.cg_nodes.specs.Can.{can}
 use Rattle.cg_nodes.specs.Games.{StandFor, StandsFor}
 use Rattle.cg_nodes.specs.Meant.{Meant}
-use Rattle.cg_nodes.specs.Spelled.{can}
 use Rattle.cg_moves.proofs.Bounds.{follower-has}
 use Rattle.cg_moves.proofs.Places.{in_read, split_read, take_next}
 use Rattle.cg_moves.specs.Grid.{Grid}

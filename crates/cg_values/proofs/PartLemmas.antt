@@ -6,7 +6,7 @@ use Rattle.std.proofs.lemmas.Bool.{cases_Bool}
 use Rattle.std.proofs.lemmas.Bool.Decides.{nat_tests}
 use Rattle.std.proofs.lemmas.List.{append-nil}
 use Rattle.cg_canon.specs.Items.{Item, too_many}
-use Rattle.cg_nodes.specs.Spelled.{can}
+use Rattle.cg_nodes.specs.Can.{can}
 use Rattle.cg_moves.proofs.Members.{all_from, carry}
 use Rattle.cg_moves.proofs.PlayLemmas.{by-pieces, piece_reach-kept, piece_starts}
 use Rattle.cg_moves.proofs.PlayOrder.{seen-known}

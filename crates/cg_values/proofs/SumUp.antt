@@ -6,7 +6,7 @@ use Rattle.cg_form.specs.Game.{Game}
 use Rattle.cg_form.specs.Order.{Equal}
 use Rattle.cg_form.specs.Sum.{nothing, sum}
 use Rattle.cg_nodes.proofs.Forms.{can-same}
-use Rattle.cg_nodes.specs.Spelled.{can}
+use Rattle.cg_nodes.specs.Can.{can}
 use Rattle.cg_moves.proofs.PieceSums.{pieces-sum}
 use Rattle.cg_moves.specs.Grid.{Grid}
 use Rattle.cg_moves.specs.Raw.{raw}

@@ -14,9 +14,9 @@ use Rattle.cg_canon.specs.Works.{Keeps}
 use Rattle.cg_canon.specs.declared.fault.ValueFault.{ValueFault}
 use Rattle.cg_canon.specs.declared.rest.WorkRest.{WorkRest}
 use Rattle.cg_nodes.proofs.Later.{stand_later}
+use Rattle.cg_nodes.specs.Can.{can}
 use Rattle.cg_nodes.specs.Games.{StandFor, StandsFor}
 use Rattle.cg_nodes.specs.Meant.{Meant}
-use Rattle.cg_nodes.specs.Spelled.{can}
 use Rattle.cg_moves.proofs.Listed.{next-size}
 use Rattle.cg_moves.proofs.Places.{split_read, take_next}
 use Rattle.cg_moves.specs.Grid.{Grid}

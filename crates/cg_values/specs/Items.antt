@@ -3,7 +3,7 @@ use Rattle.std.specs.Prelude.{ℕ, nat_lt, List, [], ◌∷◌, ◌++◌, map, l
 use Rattle.std.specs.List.{flat_map}
 use Rattle.cg_form.specs.Game.{Game}
 use Rattle.cg_form.specs.Sum.{nothing, sum}
-use Rattle.cg_nodes.specs.Spelled.{can}
+use Rattle.cg_nodes.specs.Can.{can}
 use Rattle.cg_canon.specs.Items.{Item, made, too_many}
 use Rattle.cg_canon.specs.SumItems.{sum_items}
 use Rattle.cg_moves.specs.Grid.{Grid}

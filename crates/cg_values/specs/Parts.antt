@@ -5,9 +5,9 @@ use Rattle.cg_canon.specs.Items.{Item}
 use Rattle.cg_cells.specs.Store.{State}
 use Rattle.cg_form.specs.Game.{Game}
 use Rattle.cg_nodes.specs.Boards.{AreBelow}
+use Rattle.cg_nodes.specs.Can.{can}
 use Rattle.cg_nodes.specs.Games.{StandFor}
 use Rattle.cg_nodes.specs.Meant.{Meant}
-use Rattle.cg_nodes.specs.Spelled.{can}
 use Rattle.cg_moves.specs.declared.opened.Opened.{Opened}
 use Rattle.cg_moves.specs.Grid.{Grid}
 use Rattle.cg_moves.specs.Opened.{AreNext, StandAt, uncut}

@@ -3,8 +3,8 @@ ghost use Rattle.std.specs.Prelude.{◌≤◌, IfOk};
 ghost use Rattle.cg_canon.specs.Made.{ItemsMade};
 ghost use Rattle.cg_canon.specs.Works.{work_state};
 ghost use Rattle.cg_form.specs.Sum.{sum as sum_of};
+ghost use Rattle.cg_nodes.specs.Can.{can};
 ghost use Rattle.cg_nodes.specs.Games.{IsGame, StandsFor, game_at};
-ghost use Rattle.cg_nodes.specs.Spelled.{can};
 ghost use Rattle.cg_canon.specs.SumItems.{sum_items};
 
 use cg_canon::{ValueFault, Work};

@@ -3,8 +3,9 @@ ghost use Rattle.std.specs.Prelude.{◌≡◌, ◌+◌, ◌*◌, ◌≤◌, ◌�
 ghost use Rattle.cg_cells.specs.Meaning.{note_for};
 ghost use Rattle.cg_cells.specs.Store.{Known, Spends, thing_at};
 ghost use Rattle.cg_nodes.specs.Boards.{are_of_board};
+ghost use Rattle.cg_nodes.specs.Can.{can};
 ghost use Rattle.cg_nodes.specs.Meant.{form};
-ghost use Rattle.cg_nodes.specs.Spelled.{can, game_meaning};
+ghost use Rattle.cg_nodes.specs.Spelled.{game_meaning};
 ghost use Rattle.cg_values.specs.Chunks.{ChunksAs, IsChunks, chunked};
 
 use cg_cells::{CellStore, Id, Key};

@@ -2,8 +2,8 @@
 ghost use Rattle.std.specs.Prelude.{◌≡◌, ◌≤◌, true, IfErr, IfOk, OnOk};
 ghost use Rattle.cg_canon.specs.Items.{AllPass, WasRefused};
 ghost use Rattle.cg_canon.specs.Works.{Keeps, work_state};
+ghost use Rattle.cg_nodes.specs.Can.{can};
 ghost use Rattle.cg_nodes.specs.Games.{StandsFor};
-ghost use Rattle.cg_nodes.specs.Spelled.{can};
 ghost use Rattle.cg_moves.specs.Raw.{raw};
 ghost use Rattle.cg_values.specs.Gives.{Gives};
 ghost use Rattle.cg_values.specs.Items.{board_items};

@@ -3,8 +3,8 @@ ghost use Rattle.std.specs.Prelude.{◌≡◌, ◌≤◌, [], true, All, IfOk, l
 ghost use Rattle.std.specs.List.{flat_map};
 ghost use Rattle.cg_canon.specs.Made.{ItemsMade};
 ghost use Rattle.cg_canon.specs.Works.{work_state};
+ghost use Rattle.cg_nodes.specs.Can.{can};
 ghost use Rattle.cg_nodes.specs.Games.{StandFor, StandsFor};
-ghost use Rattle.cg_nodes.specs.Spelled.{can};
 ghost use Rattle.cg_moves.specs.declared.player.Player.TheVariants.{Left};
 ghost use Rattle.cg_moves.specs.Opened.{AreNext};
 ghost use Rattle.cg_moves.specs.Raw.{raw};

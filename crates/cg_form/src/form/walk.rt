@@ -27,6 +27,14 @@ impl Options {
         &self.items
     }
 
+    /// The options in a vector, in their order.
+    pub fn into_vec(self) -> Vec<Form>
+        ensures { games_of result.items ≡ self }
+    {
+        let Options { items } = self;
+        items
+    }
+
     #[cycle(depth)]
     fn deepest(&self) -> u64
         requires { deepest self.now < 2 ^ 64 }

@@ -1,7 +1,7 @@
 use Rattle.std.proofs.Common.{ap, subst, sym, ◌∙◌}
 use Rattle.cg_form.specs.Game.{Game, node}
+use Rattle.cg_nodes.specs.Can.{can}
 use Rattle.cg_nodes.specs.CanForms.{can-equal}
-use Rattle.cg_nodes.specs.Spelled.{can}
 use Rattle.cg_book.specs.Pages.{games_of}
 use Rattle.cg_book.specs.Profiles.{HasCuts}
 use Rattle.cg_book.proofs.Profiling.{equal_cuts}

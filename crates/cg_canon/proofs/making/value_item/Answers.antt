@@ -2,9 +2,9 @@ use Rattle.std.proofs.Common.{Err, ap, refl, subst, ◌∙◌}
 use Rattle.std.proofs.lemmas.Result.{err_from_is_err_and}
 use Rattle.cg_form.specs.Canonical.{Canonical}
 use Rattle.cg_form.specs.Game.{Game, node}
+use Rattle.cg_nodes.specs.Can.{can}
 use Rattle.cg_nodes.specs.CanForms.{can-canonical}
 use Rattle.cg_nodes.specs.Games.{games_at}
-use Rattle.cg_nodes.specs.Spelled.{can}
 use Rattle.cg_book.specs.declared.settling.Settled.{Settled}
 use Rattle.cg_book.specs.Settled.{IsSettled}
 use Rattle.cg_canon.proofs.Paying.{memory_paid, new_written, outside_paid, paid_later}

@@ -2,7 +2,7 @@ use Rattle.std.proofs.Common.{◌++◌, ◌∷◌, [], ap, refl, rules, arith}
 use Rattle.std.specs.Prelude.{Err}
 use Rattle.std.proofs.lemmas.Result.{err_from_is_err_and}
 use Rattle.cg_nodes.specs.Games.{games_at}
-use Rattle.cg_nodes.specs.Positions.{all_positions}
+use Rattle.cg_form.specs.Positions.{all_positions}
 use Rattle.cg_nodes.specs.Walks.{AreFoundAfter}
 use Rattle.cg_nodes.proofs.Outcomes.{ok_at, ok_then, ok_within, passed_on}
 use Rattle.cg_nodes.proofs.Walked.{before_length}

@@ -2,12 +2,12 @@ use Rattle.std.proofs.Common.{◌≡◌, rules, ap, sym, ◌∙◌, subst, refl,
 use Rattle.std.proofs.lemmas.Result.{err_from_is_err_and}
 use Rattle.cg_canon.specs.Works.{work_state}
 use Rattle.cg_canon.specs.declared.fault.ValueFault.TheVariants.{Memory}
-use Rattle.cg_syntax.specs.Tree.{Tree, trees_from, terms_from}
-use Rattle.cg_syntax.specs.Tree as trees
-use Rattle.cg_syntax.specs.Trees.{tree_of, trees_in, trees_of, term_of, terms_in, terms_of}
-use Rattle.cg_syntax.specs.declared.expr.Expr.{Expr}
-use Rattle.cg_syntax.specs.declared.expr.Expr.TheVariants as expr
-use Rattle.cg_syntax.proofs.TreeOf.{number_tree, ups_tree_of, nimber_tree, switch_tree, tiny_tree, braces_tree, negative_tree, multiple_tree, sum_tree, game_tree, octal_tree, term_tree, used_tree}
+use Rattle.cg_query.specs.Tree.{Tree, trees_from, terms_from}
+use Rattle.cg_query.specs.Tree as trees
+use Rattle.cg_query.specs.Trees.{tree_of, trees_in, trees_of, term_of, terms_in, terms_of}
+use Rattle.cg_query.specs.declared.expr.Expr.{Expr}
+use Rattle.cg_query.specs.declared.expr.Expr.TheVariants as expr
+use Rattle.cg_query.proofs.TreeOf.{number_tree, ups_tree_of, nimber_tree, switch_tree, tiny_tree, braces_tree, negative_tree, multiple_tree, sum_tree, game_tree, octal_tree, term_tree, used_tree}
 use Rattle.cg_names.specs.Meaning.{signed}
 use Rattle.cg_eval.specs.Faults.{fault_in, fault_in_all}
 use Rattle.cg_eval.specs.Meaning.{meaning, total_with}
@@ -18,16 +18,16 @@ use Rattle.cg_sum.specs.Lists.{negative_items, multiple_items}
 use Rattle.cg_form.specs.Game.{node}
 use Rattle.cg_form.specs.Multiple.{multiple as many}
 use Rattle.cg_form.specs.Sum.{sum as plus, negative as minus}
+use Rattle.cg_nodes.specs.Can.{can}
 use Rattle.cg_nodes.specs.Games.{AreGames, game_at, games_at}
-use Rattle.cg_nodes.specs.Spelled.{can}
 use Rattle.cg_nodes.proofs.Later.{are_games_later, is_game_later, stands_is_game}
 use Rattle.cg_canon.specs.Items.{made}
 use Rattle.std.proofs.lemmas.List.{nil_from_length}
-use Rattle.cg_syntax.specs.declared.expr.Term.{Term}
+use Rattle.cg_query.specs.declared.expr.Term.{Term}
 use Rattle.cg_eval.proofs.ClosedParts.{closed_behind, closed_first, closed_in-all, closed_in-terms, closed_of_tree}
 use Rattle.cg_eval.proofs.BoardParts.{board_gives, heap_gives}
 use Rattle.cg_eval.proofs.FaultParts.{fault_of_braces, fault_of_term, fault_of_tree, neither, none_in-all, none_in-terms}
-use Rattle.cg_syntax.proofs.Walk.{size, size_of_braces, size_of_negative, size_of_multiple, size_of_sum, size_of_item, size_of_term}
+use Rattle.cg_query.proofs.Walk.{size, size_of_braces, size_of_negative, size_of_multiple, size_of_sum, size_of_item, size_of_term}
 use Rattle.cg_eval.proofs.ListSteps.{adds, all_made-all, all_made-none, all_made-step, all_stopped, added-all, added-none, added-step, added-stopped, first_and_rest, first_board, first_size, first_term_stopped, gives_all-err, no_terms_give, sum_of_terms}
 use Rattle.cg_eval.proofs.Expressions.{added_gives, braces_gives, left_stopped, multiple_gives, multiple_stopped, negative_gives, negative_stopped, right_stopped, stopped_part, subtracted_gives, sum_gives}
 use Rattle.cg_eval.proofs.Steps.{gives_from, gives_stop, stops_memory}

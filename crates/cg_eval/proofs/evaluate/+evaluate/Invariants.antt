@@ -1,9 +1,9 @@
 use Rattle.std.proofs.Common.{◌+◌, ◌*◌, take}
 use Rattle.cg_canon.specs.Works.{work_state}
-use Rattle.cg_syntax.specs.Tree.{trees_from, terms_from}
-use Rattle.cg_syntax.specs.Trees.{tree_of, trees_in, trees_of, terms_in, terms_of}
+use Rattle.cg_query.specs.Tree.{trees_from, terms_from}
+use Rattle.cg_query.specs.Trees.{tree_of, trees_in, trees_of, terms_in, terms_of}
 use Rattle.cg_eval.proofs.ListSteps.{AllMade, AreAdded}
-use Rattle.cg_syntax.proofs.Walk.{size, sizes, term_sizes}
+use Rattle.cg_query.proofs.Walk.{size, sizes, term_sizes}
 use Rattle.cg_eval.proofs.evaluate.+evaluate.Given as goal
 
 abbrev pub decreases-evaluate : goal.decreases-evaluate

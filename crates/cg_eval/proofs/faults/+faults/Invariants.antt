@@ -1,8 +1,8 @@
 use Rattle.std.proofs.Common.{◌≡◌, ◌+◌, ◌*◌, take}
-use Rattle.cg_syntax.specs.Tree.{trees_from, terms_from}
-use Rattle.cg_syntax.specs.Trees.{tree_of, trees_in, trees_of, terms_in, terms_of}
+use Rattle.cg_query.specs.Tree.{trees_from, terms_from}
+use Rattle.cg_query.specs.Trees.{tree_of, trees_in, trees_of, terms_in, terms_of}
 use Rattle.cg_eval.specs.Faults.{fault_in_all, fault_in_terms}
-use Rattle.cg_syntax.proofs.Walk.{size, sizes, term_sizes}
+use Rattle.cg_query.proofs.Walk.{size, sizes, term_sizes}
 use Rattle.cg_eval.proofs.faults.+faults.Given as goal
 
 abbrev pub decreases-fault_in : goal.decreases-fault_in

@@ -1,6 +1,6 @@
 use Rattle.std.proofs.Common.{◌≡◌, false, true, arith}
-use Rattle.cg_syntax.specs.Lines.{is_blank_line, IsComment, IsUnread, Reads}
-use Rattle.cg_syntax.specs.Trees.{question_of}
+use Rattle.cg_grammar.specs.Lines.{is_blank_line, IsComment, IsUnread, Reads}
+use Rattle.cg_query.specs.Trees.{question_of}
 use Rattle.cg_eval.specs.declared.answered.Answered.{Answered}
 use Rattle.cg_eval.specs.Refused.{IsRefusedBy}
 use Rattle.cg_eval.specs.Reply.{IsReply, syntax_at}

@@ -1,7 +1,7 @@
 use Rattle.std.proofs.lemmas.Result.{err_from_is_err_and}
 use Rattle.cg_canon.specs.Works.{work_state}
 use Rattle.cg_canon.specs.declared.fault.ValueFault.TheVariants.{Memory}
-use Rattle.cg_syntax.specs.Trees.{tree_of}
+use Rattle.cg_query.specs.Trees.{tree_of}
 use Rattle.cg_eval.specs.Parts.{asked_of}
 use Rattle.cg_eval.proofs.Replies.{answers-stop}
 use Rattle.cg_eval.proofs.Told.{answers-halted, answers-memory, answers-told}

@@ -2,9 +2,9 @@ use Rattle.std.proofs.Common.{refl, subst, ℕ, List}
 use Rattle.std.proofs.lemmas.Result.{err_from_is_err_and}
 use Rattle.cg_canon.specs.Works.{work_state}
 use Rattle.cg_canon.specs.declared.fault.ValueFault.TheVariants.{Memory}
-use Rattle.cg_syntax.specs.Tree.{check}
-use Rattle.cg_syntax.specs.Trees.{tree_of}
-use Rattle.cg_nodes.specs.Spelled.{can}
+use Rattle.cg_query.specs.Tree.{check}
+use Rattle.cg_query.specs.Trees.{tree_of}
+use Rattle.cg_nodes.specs.Can.{can}
 use Rattle.cg_eval.specs.Meaning.{meaning}
 use Rattle.cg_eval.specs.Reply.{IsChecked}
 use Rattle.cg_eval.specs.Shown.{shown}

@@ -2,8 +2,8 @@ use Rattle.std.proofs.Common.{refl}
 use Rattle.std.proofs.lemmas.Result.{err_from_is_err_and}
 use Rattle.cg_canon.specs.Works.{work_state}
 use Rattle.cg_canon.specs.declared.fault.ValueFault.TheVariants.{Memory}
-use Rattle.cg_syntax.specs.Tree.{compare}
-use Rattle.cg_syntax.specs.Trees.{tree_of}
+use Rattle.cg_query.specs.Tree.{compare}
+use Rattle.cg_query.specs.Trees.{tree_of}
 use Rattle.cg_eval.specs.Parts.{IsCompared}
 use Rattle.cg_eval.proofs.Told.{compared-answer, two-answered, two-halted, two-memory}
 use Rattle.cg_eval.proofs.Replies.{answers-stop}

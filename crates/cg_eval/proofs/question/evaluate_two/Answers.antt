@@ -1,6 +1,6 @@
 use Rattle.std.proofs.lemmas.Result.{err_from_is_err_and}
 use Rattle.cg_canon.specs.Works.{work_state}
-use Rattle.cg_syntax.specs.Trees.{tree_of}
+use Rattle.cg_query.specs.Trees.{tree_of}
 use Rattle.cg_eval.specs.Faults.{fault_in}
 use Rattle.cg_eval.proofs.FaultParts.{neither}
 use Rattle.cg_eval.proofs.Replies.{both_made, first_stopped, second_stopped, two-stop}

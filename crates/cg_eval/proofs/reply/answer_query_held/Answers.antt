@@ -2,7 +2,7 @@ use Rattle.std.proofs.Common.{◌≡◌, arith, ap, sym, ◌∙◌, subst}
 use Rattle.cg_canon.specs.Held.{IsHeld, knowing}
 use Rattle.cg_canon.specs.Works.{WorkOf, work_state}
 use Rattle.cg_canon.proofs.Holding.{held_later}
-use Rattle.cg_syntax.specs.Trees.{question_of}
+use Rattle.cg_query.specs.Trees.{question_of}
 use Rattle.cg_eval.specs.declared.answered.Answered.{Answered}
 use Rattle.cg_eval.specs.Shown.{IsAnswered}
 use Rattle.cg_eval.proofs.Replies.{answered-store, if_ok_map, keeps-store}

@@ -1,6 +1,6 @@
 use Rattle.std.proofs.Common.{sym, ◌∙◌}
 use Rattle.cg_canon.specs.Works.{work_state}
-use Rattle.cg_syntax.specs.Trees.{question_of}
+use Rattle.cg_query.specs.Trees.{question_of}
 use Rattle.cg_eval.specs.Refused.{IsRefusedBy}
 use Rattle.cg_eval.specs.Reply.{ill_formed}
 use Rattle.cg_eval.specs.Shown.{IsAnswered}

@@ -1,5 +1,5 @@
 use Rattle.cg_canon.specs.Works.{work_state}
-use Rattle.cg_syntax.specs.Trees.{question_of}
+use Rattle.cg_query.specs.Trees.{question_of}
 use Rattle.cg_eval.specs.Refused.{IsRefusedFor}
 use Rattle.cg_eval.specs.Shown.{IsAnswered}
 use Rattle.cg_eval.proofs.Replies.{answered-made, answered-refused, if_ok_map}

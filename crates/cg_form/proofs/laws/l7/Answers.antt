@@ -1,14 +1,15 @@
 use Rattle.std.proofs.Common.{◌≡◌, ℕ, ◌+◌, ◌*◌, ◌≤◌, suc, arith, subst, ℤ, pos, ◌+ℤ◌, ◌-ℤ◌, ◌≤ℤ◌}
 use Rattle.std.proofs.lemmas.Int.{ints}
+use Rattle.cg_form.specs.Cooling.{Steps}
 use Rattle.cg_form.specs.Game.{Game}
 use Rattle.cg_form.specs.Heights.{height}
 use Rattle.cg_form.specs.Simple.{Decides}
 use Rattle.cg_form.specs.Walls.{AtNext, walls}
-use Rattle.cg_form.proofs.Cooled.{Steps}
 use Rattle.cg_form.proofs.Decide.{number-decide}
 use Rattle.cg_form.proofs.Finer.{cool, next_scale, walls-ordered}
 use Rattle.cg_form.proofs.Heights.{number-low, stops-low}
-use Rattle.cg_form.proofs.Temperature.{mean-equal, scaffolds_agree, temperature-equal, temperature-there, walls-below, walls-mast}
+use Rattle.cg_form.proofs.Temperature.{scaffolds_agree, temperature-equal, temperature-there, walls-below, walls-mast}
+use Rattle.cg_form.proofs.Thermal.{equal-thermal, one-thermal, thermal, thermal-low}
 use Rattle.cg_form.proofs.WallOrder.{walls-above, walls-equal}
 use Rattle.cg_form.proofs.WallStart.{walls-start}
 use Rattle.cg_form.proofs.Walls.{walls-options, walls-steps, walls-unique}
@@ -55,5 +56,8 @@ returns c = record {
       moved (walls d s t h).right (walls d s t g).left (pos t) ((walls-above d s g h p q).apart n t);
   equal = walls-equal;
   equal_temperature = temperature-equal;
-  equal_mean = mean-equal;
+  thermal = λ g. let k = thermal g in (k.mean, k.temp, k.is);
+  one_thermal = λ g m t n u a b. let k = one-thermal g m t n u a b in (k.means, k.temps);
+  equal_thermal = equal-thermal;
+  thermal_places = thermal-low;
 }

@@ -1,10 +1,12 @@
 use Rattle.std.proofs.Common.{◌≡◌, refl, ap, sym, ◌∙◌, subst, arith, ◌++◌, ◌∷◌, [], ◌-◌, List}
-use Rattle.cg_lines.specs.Corners.{corners, point}
+use Rattle.cg_lines.specs.Corners.{corners, marks, point}
 use Rattle.cg_lines.specs.Fits.{AllFit}
+use Rattle.cg_lines.specs.Lines.{TimesRise}
 use Rattle.cg_lines.specs.declared.bends.Point.{Point}
 use Rattle.cg_lines.specs.Rises.{value_at}
 use Rattle.cg_lines.proofs.Bending.{corners-end, corners-fit, corners-none, corners-turn, corners_after, first_point, next_point, no_point, point-is}
 use Rattle.cg_lines.proofs.Rising.{value-zero}
+use Rattle.cg_lines.proofs.Through.{corners-rise}
 use Rattle.cg_lines.proofs.Walking.{at-within, next-after}
 use Rattle.cg_lines.proofs.Words.{start_word, value_word}
 use Rattle.cg_lines.proofs.bends.points.Goals as goal
@@ -50,31 +52,8 @@ loop-p-preserved c =
           (corners-turn r c.loop-p.now c.next-to.result c.args.end c.loop-p.p i.place (omega arith) k (omega arith) e) i.all;
     }
 
-pub returns-clause-corners : goal.returns-clause-corners
-returns-clause-corners c =
-    let r = c.args.rise.now in
-    let i = c.loop-p.invariant in
-    let t = c.loop-p-test.false in let m = c.next.ensures in
-    elim c.if-now-end.branch [
-      | then-now-end+in_ok-push-3 w ↦
-          (let e : c.if-now-end.points.items ≡ c.loop-p.points.items ++ w.of-then-now-end.result ∷ [] = rw w.points-is w.in_ok-push-3.ensures.items in
-          let lt = w.if-now-end.true in
-          no_point c.if-now-end.points.items [] (corners (value_at r) c.args.end) refl
-          (next_point c.loop-p.points.items c.if-now-end.points.items (corners_after (value_at r) c.loop-p.now (c.args.end - c.loop-p.now)) []
-          (corners (value_at r) c.args.end) w.of-then-now-end.result (point (value_at r) c.args.end) e
-          (point-is (value_at r) c.args.end w.of-then-now-end.result
-          (w.of-then-now-end.ensures.value ∙ value_word w.moved-last.result (at-within r c.args.end w.moved-last.result c.requires.wall w.moved-last.ensures) ∙ w.moved-last.ensures.value)
-          w.of-then-now-end.ensures.at)
-          (corners-end r c.loop-p.now c.args.end c.loop-p.p i.place lt (omega arith)) i.all))
-      | else-now-end w ↦
-          (let e : c.if-now-end.points.items ≡ c.loop-p.points.items = rw w.points-is refl in
-          let ge = w.if-now-end.false in
-          e ∙ no_point c.loop-p.points.items (corners_after (value_at r) c.loop-p.now (c.args.end - c.loop-p.now)) (corners (value_at r) c.args.end)
-          (corners-none (value_at r) c.loop-p.now c.args.end (omega arith)) i.all)
-    ]
-
-pub returns-clause-fit : goal.returns-clause-fit
-returns-clause-fit c =
+pub returns : goal.returns
+returns c =
     let r = c.args.rise.now in
     let i = c.loop-p.invariant in
     let t = c.loop-p-test.false in let m = c.next.ensures in
@@ -95,5 +74,10 @@ returns-clause-fit c =
           e ∙ no_point c.loop-p.points.items (corners_after (value_at r) c.loop-p.now (c.args.end - c.loop-p.now)) (corners (value_at r) c.args.end)
           (corners-none (value_at r) c.loop-p.now c.args.end (omega arith)) i.all)
     ] in
-    let P : List Point → Type 0 = λ z. AllFit z in
-    subst P (sym all) (corners-fit c.args.rise.now c.args.end c.requires.wall c.requires.end)
+    let P : List Point → Type 0 = λ z. TimesRise (marks z) in
+    let Q : List Point → Type 0 = λ z. AllFit z in
+    record {
+      corners = all;
+      rise = subst P (sym all) (corners-rise (value_at c.args.rise.now) c.args.end);
+      fit = subst Q (sym all) (corners-fit c.args.rise.now c.args.end c.requires.wall c.requires.end);
+    }

@@ -3,7 +3,7 @@ use Rattle.std.specs.Prelude.{Err}
 use Rattle.std.proofs.lemmas.Result.{err_from_is_err_and}
 use Rattle.cg_form.specs.Depth.{deepest, depth_of}
 use Rattle.cg_nodes.specs.Games.{game_at, games_at, listed}
-use Rattle.cg_nodes.specs.Positions.{all_positions}
+use Rattle.cg_form.specs.Positions.{all_positions}
 use Rattle.cg_nodes.specs.Walks.{AreFoundAfter}
 use Rattle.cg_nodes.proofs.Later.{is_list_later, listed_later, spends_then}
 use Rattle.cg_nodes.proofs.Lists.{head_end}

@@ -1,7 +1,7 @@
 use Rattle.std.proofs.Common.{length, ◌≤◌}
 use Rattle.std.proofs.lemmas.Result.{IfOk-weaker}
 use Rattle.cg_form.specs.Order.{Equal}
-use Rattle.cg_names.specs.Named.{nimber_form}
+use Rattle.cg_nimbers.specs.Nimbers.{nimber_form}
 use Rattle.cg_octal.specs.Heaps.{heap, heap_options}
 use Rattle.cg_octal.specs.Mex.{IsLeastMissing}
 use Rattle.cg_octal.proofs.HeapValues.{next_value-equal, next_value-within}

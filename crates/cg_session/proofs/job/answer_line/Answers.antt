@@ -1,7 +1,7 @@
 use Rattle.std.proofs.Common.{◌∙◌, ap, sym}
 use Rattle.cg_syntax.specs.Session.{Asked_of, Syntax_at, Too_large, Unknown_at}
 use Rattle.cg_syntax.specs.SessionViews.{resolved_of}
-use Rattle.cg_syntax.specs.Trees.{question_of}
+use Rattle.cg_query.specs.Trees.{question_of}
 use Rattle.cg_syntax.specs.declared.session.Asked.{Asked}
 use Rattle.cg_session.specs.Outputs.{is_closed}
 use Rattle.cg_session.proofs.Knowing.{asked_reply, closed_is, parts_reply, reply_as, syntax_reply, unknown_reply}

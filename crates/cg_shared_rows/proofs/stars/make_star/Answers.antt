@@ -1,9 +1,9 @@
 use Rattle.std.proofs.Common.{List, ap, subst, sym}
 use Rattle.cg_form.specs.Canonical.{Canonical}
 use Rattle.cg_form.specs.Game.{Game, node, number}
-use Rattle.cg_node_rows.specs.Stars.{zero_game}
-use Rattle.cg_node_rows.proofs.Canonicals.{star-canonical}
-use Rattle.cg_node_rows.proofs.Singles.{single_listed}
+use Rattle.cg_tree_rows.specs.Stars.{zero_game}
+use Rattle.cg_tree_rows.proofs.Canonicals.{star-canonical}
+use Rattle.cg_tree_rows.proofs.Singles.{single_listed}
 use Rattle.cg_shared_rows.proofs.stars.make_star.Goals as goal
 
 pub game-star-requires-clause-canonical : goal.game-star-requires-clause-canonical

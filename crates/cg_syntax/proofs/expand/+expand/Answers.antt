@@ -2,13 +2,13 @@ use Rattle.std.proofs.Common.{rules, ◌≡◌, ap, sym, ◌∙◌, refl, ℕ, L
 use Rattle.std.proofs.lemmas.Result.{IfOk-weaker}
 use Rattle.cg_syntax.specs.Bound.{bindings_in}
 use Rattle.cg_syntax.specs.Naming.{Bindings, bound_to, expanded, or_use}
-use Rattle.cg_syntax.specs.Tree.{Tree, number, ups, nimber, switch, tiny, used}
-use Rattle.cg_syntax.specs.Trees.{tree_of, trees_in, term_of, terms_in, terms_of}
-use Rattle.cg_syntax.specs.declared.expr.Term.{Term}
-use Rattle.cg_syntax.specs.declared.expr.Expr.{Expr}
-use Rattle.cg_syntax.specs.declared.expr.Expr.TheVariants as expr
-use Rattle.cg_syntax.proofs.TreeOf.{number_tree, ups_tree_of, nimber_tree, switch_tree, tiny_tree, used_tree, term_tree}
-use Rattle.cg_syntax.proofs.Walk.{size, size_of_braces, size_of_negative, size_of_multiple, size_of_sum, size_of_item, size_of_term}
+use Rattle.cg_query.specs.Tree.{Tree, number, ups, nimber, switch, tiny, used}
+use Rattle.cg_query.specs.Trees.{tree_of, trees_in, term_of, terms_in, terms_of}
+use Rattle.cg_query.specs.declared.expr.Term.{Term}
+use Rattle.cg_query.specs.declared.expr.Expr.{Expr}
+use Rattle.cg_query.specs.declared.expr.Expr.TheVariants as expr
+use Rattle.cg_query.proofs.TreeOf.{number_tree, ups_tree_of, nimber_tree, switch_tree, tiny_tree, used_tree, term_tree}
+use Rattle.cg_query.proofs.Walk.{size, size_of_braces, size_of_negative, size_of_multiple, size_of_sum, size_of_item, size_of_term}
 use Rattle.cg_syntax.proofs.Closed.{bare}
 use Rattle.cg_syntax.proofs.ExpandSteps.{bound_within, braces_expanded, form_expanded, game_expanded, multiple_expanded, negative_expanded, octal_expanded, room_of, sum_expanded, term_next, use_expanded}
 use Rattle.cg_syntax.proofs.expand.+expand.Goals as goal

@@ -1,10 +1,10 @@
 use Rattle.std.proofs.Common.{◌≡◌, ◌+◌, ◌*◌, take, map}
 use Rattle.cg_syntax.specs.Bound.{bindings_in}
 use Rattle.cg_syntax.specs.Naming.{expanded}
-use Rattle.cg_syntax.specs.Tree.{terms_from, trees_from}
-use Rattle.cg_syntax.specs.Trees.{tree_of, trees_in, trees_of, terms_in, terms_of}
+use Rattle.cg_query.specs.Tree.{terms_from, trees_from}
+use Rattle.cg_query.specs.Trees.{tree_of, trees_in, trees_of, terms_in, terms_of}
 use Rattle.cg_syntax.proofs.ExpandSteps.{expanded_term, room_of}
-use Rattle.cg_syntax.proofs.Walk.{size, sizes, term_sizes}
+use Rattle.cg_query.proofs.Walk.{size, sizes, term_sizes}
 use Rattle.cg_syntax.proofs.expand.+expand.Given as goal
 
 -- what a name is bound to is no larger than all lines, and with no line nothing is bound

@@ -1,4 +1,4 @@
-use Rattle.cg_syntax.proofs.Writable.{line_writable}
+use Rattle.cg_writer.proofs.Writable.{line_writable}
 use Rattle.cg_syntax.proofs.Closed.{askable_closed}
 use Rattle.cg_syntax.proofs.laws.no_names.Goals as goal
 

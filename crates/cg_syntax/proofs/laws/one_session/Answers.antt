@@ -1,6 +1,9 @@
 use Rattle.cg_syntax.proofs.ClosedSessions.{session_closed}
-use Rattle.cg_syntax.proofs.OneSession.{session_long, session_once}
+use Rattle.cg_syntax.proofs.OneSession.{session_long, session_once, session_some}
 use Rattle.cg_syntax.proofs.laws.one_session.Goals as goal
+
+pub returns-clause-some : goal.returns-clause-some
+returns-clause-some c = session_some
 
 pub returns-clause-unique : goal.returns-clause-unique
 returns-clause-unique c = session_once

@@ -1,7 +1,7 @@
 use Rattle.std.proofs.Common.{[], ◌∷◌}
 use Rattle.std.proofs.lemmas.Result.{err_from_is_err_and}
 use Rattle.cg_syntax.specs.Bound.{bindings_in}
-use Rattle.cg_syntax.specs.Trees.{tree_of}
+use Rattle.cg_query.specs.Trees.{tree_of}
 use Rattle.cg_syntax.proofs.SizeSteps.{beside_sized, failed, fails_first, fails_later}
 use Rattle.cg_syntax.proofs.resolve.both_size.Goals as goal
 

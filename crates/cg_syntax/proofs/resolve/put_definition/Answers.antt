@@ -1,7 +1,7 @@
 use Rattle.std.proofs.Common.{subst, [], ◌∷◌}
 use Rattle.cg_syntax.specs.Bound.{Measures, bindings_in}
-use Rattle.cg_syntax.specs.Tree.{Tree, value}
-use Rattle.cg_syntax.specs.Trees.{tree_of}
+use Rattle.cg_query.specs.Tree.{Tree, value}
+use Rattle.cg_query.specs.Trees.{tree_of}
 use Rattle.cg_syntax.proofs.Resolving.{is_same, put_defined, same_tree}
 use Rattle.cg_syntax.proofs.SessionSteps.{not_true, on_ok_both}
 use Rattle.cg_syntax.proofs.resolve.put_definition.Goals as goal

@@ -1,7 +1,7 @@
 use Rattle.std.proofs.Common.{ap, sym, ◌∙◌}
 use Rattle.cg_syntax.specs.Bound.{bindings_in}
 use Rattle.cg_syntax.specs.Session.{Asked_of}
-use Rattle.cg_syntax.specs.Trees.{question_of}
+use Rattle.cg_query.specs.Trees.{question_of}
 use Rattle.cg_syntax.proofs.Resolving.{is_expanded, is_same, put_question}
 use Rattle.cg_syntax.proofs.SessionSteps.{not_false, not_true, on_ok_both}
 use Rattle.cg_syntax.proofs.resolve.put_query.Goals as goal

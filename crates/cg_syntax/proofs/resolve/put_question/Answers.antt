@@ -1,9 +1,9 @@
 use Rattle.std.proofs.Common.{ap, ◌∙◌, subst, Ok}
-use Rattle.cg_syntax.specs.Lines.{IsReadAs, IsRefused, is_blank_line}
-use Rattle.cg_syntax.specs.Trees.{question_of}
-use Rattle.cg_syntax.specs.declared.format.Format.TheVariants as formats
-use Rattle.cg_syntax.specs.declared.query.Line.{Line}
-use Rattle.cg_syntax.specs.declared.query.SyntaxFault.{SyntaxFault}
+use Rattle.cg_grammar.specs.Lines.{IsReadAs, IsRefused, is_blank_line}
+use Rattle.cg_query.specs.Trees.{question_of}
+use Rattle.cg_query.specs.declared.format.Format.TheVariants as formats
+use Rattle.cg_query.specs.declared.query.Line.{Line}
+use Rattle.cg_query.specs.declared.query.SyntaxFault.{SyntaxFault}
 use Rattle.cg_syntax.proofs.OtherLines.{not_blank, not_both, not_comment}
 use Rattle.cg_syntax.proofs.SessionSteps.{column_puts, on_ok_both, question_puts}
 use Rattle.cg_syntax.proofs.resolve.put_question.Goals as goal

@@ -1,13 +1,13 @@
 use Rattle.std.proofs.Common.{ℕ, subst}
-use Rattle.cg_syntax.specs.Formats.{ReadsIn, StatesNothing}
+use Rattle.cg_grammar.specs.Formats.{ReadsIn, StatesNothing}
 use Rattle.cg_syntax.specs.Session.{Syntax_at}
-use Rattle.cg_syntax.specs.SessionViews.{IsPut}
-use Rattle.cg_syntax.specs.Statements.{statement_of}
-use Rattle.cg_syntax.specs.Tree.{asks, defines}
-use Rattle.cg_syntax.specs.Trees.{question_of, tree_of}
-use Rattle.cg_syntax.specs.declared.format.Format.TheVariants as formats
-use Rattle.cg_syntax.specs.declared.found.Statement.{Statement}
-use Rattle.cg_syntax.specs.declared.query.SyntaxFault.{SyntaxFault}
+use Rattle.cg_syntax.specs.Puts.{IsPut}
+use Rattle.cg_query.specs.Trees.{statement_of}
+use Rattle.cg_query.specs.Tree.{asks, defines}
+use Rattle.cg_query.specs.Trees.{question_of, tree_of}
+use Rattle.cg_query.specs.declared.format.Format.TheVariants as formats
+use Rattle.cg_query.specs.declared.query.Statement.{Statement}
+use Rattle.cg_query.specs.declared.query.SyntaxFault.{SyntaxFault}
 use Rattle.cg_syntax.proofs.SessionSteps.{column_puts, on_ok_both, on_ok_one, statement_puts}
 use Rattle.cg_syntax.proofs.resolve.put_statement.Goals as goal
 

@@ -1,12 +1,12 @@
 use Rattle.std.proofs.Common.{rules, ◌≡◌, ◌++◌, arith, ap, sym, ◌∙◌, refl, [], ◌∷◌, Bool}
 use Rattle.std.proofs.lemmas.Result.{err_from_is_err_and}
 use Rattle.cg_syntax.specs.Bound.{bindings_in}
-use Rattle.cg_syntax.specs.Tree.{Tree, number, ups, nimber, switch, tiny, braces, negative, multiple, sum, game, octal, used, terms_from}
-use Rattle.cg_syntax.specs.Trees.{tree_of, trees_in, term_of, terms_in}
-use Rattle.cg_syntax.specs.declared.expr.Expr.{Expr}
-use Rattle.cg_syntax.specs.declared.expr.Expr.TheVariants as expr
-use Rattle.cg_syntax.proofs.TreeOf.{number_tree, ups_tree_of, nimber_tree, switch_tree, tiny_tree, braces_tree, negative_tree, multiple_tree, sum_tree, game_tree, octal_tree, used_tree, term_tree}
-use Rattle.cg_syntax.proofs.Walk.{size, size_of_braces, size_of_negative, size_of_multiple, size_of_sum, size_of_item, size_of_term}
+use Rattle.cg_query.specs.Tree.{Tree, number, ups, nimber, switch, tiny, braces, negative, multiple, sum, game, octal, used, terms_from}
+use Rattle.cg_query.specs.Trees.{tree_of, trees_in, term_of, terms_in}
+use Rattle.cg_query.specs.declared.expr.Expr.{Expr}
+use Rattle.cg_query.specs.declared.expr.Expr.TheVariants as expr
+use Rattle.cg_query.proofs.TreeOf.{number_tree, ups_tree_of, nimber_tree, switch_tree, tiny_tree, braces_tree, negative_tree, multiple_tree, sum_tree, game_tree, octal_tree, used_tree, term_tree}
+use Rattle.cg_query.proofs.Walk.{size, size_of_braces, size_of_negative, size_of_multiple, size_of_sum, size_of_item, size_of_term}
 use Rattle.cg_syntax.proofs.SizeSteps.{beside_sized, failed, fails_first, fails_later, item_fails, item_sized, leaf_sized, multiple_over, negative_over, node_fails, node_sized, one_sized, sides_over, sum_over, term_fails, term_sized, trees_of_terms, used_sized}
 use Rattle.cg_syntax.proofs.sizes.+measured.Goals as goal
 

@@ -1,9 +1,9 @@
 use Rattle.std.proofs.Common.{◌+◌, ◌*◌, take}
 use Rattle.cg_syntax.specs.Bound.{IsSizeOf, bindings_in}
-use Rattle.cg_syntax.specs.Tree.{terms_from, trees_from}
-use Rattle.cg_syntax.specs.Trees.{tree_of, trees_in, trees_of, terms_in, terms_of}
+use Rattle.cg_query.specs.Tree.{terms_from, trees_from}
+use Rattle.cg_query.specs.Trees.{tree_of, trees_in, trees_of, terms_in, terms_of}
 use Rattle.cg_syntax.proofs.SizeSteps.{trees_of_terms}
-use Rattle.cg_syntax.proofs.Walk.{size, sizes, term_sizes}
+use Rattle.cg_query.proofs.Walk.{size, sizes, term_sizes}
 use Rattle.cg_syntax.proofs.sizes.+measured.Given as goal
 
 abbrev pub decreases-measured : goal.decreases-measured

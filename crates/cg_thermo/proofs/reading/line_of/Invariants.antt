@@ -1,5 +1,5 @@
 use Rattle.std.proofs.Common.{◌≡◌, ◌<◌, ◌^◌, drop, unsigned_abs}
-use Rattle.cg_thermo.specs.WallLine.{line_at, line_from}
+use Rattle.cg_thermo.proofs.Lining.{line_at, line_from}
 use Rattle.cg_dyadic.specs.Wide.{places}
 use Rattle.cg_thermo.proofs.reading.line_of.Given as goal
 

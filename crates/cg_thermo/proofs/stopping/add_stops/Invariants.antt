@@ -1,6 +1,7 @@
 use Rattle.cg_canon.specs.Works.{work_state}
 use Rattle.std.proofs.Common.{take}
-use Rattle.cg_thermo.specs.Ended.{StopsAre, ended}
+use Rattle.cg_thermo.specs.Ended.{ended}
+use Rattle.cg_thermo.specs.StopsOf.{StopsAre}
 use Rattle.cg_thermo.proofs.Keeping.{Found}
 use Rattle.cg_thermo.proofs.stopping.add_stops.Given as goal
 

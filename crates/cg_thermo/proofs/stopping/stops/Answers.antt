@@ -1,7 +1,7 @@
 use Rattle.std.proofs.Common.{sym}
 use Rattle.cg_canon.specs.Works.{work_state}
 use Rattle.cg_nodes.specs.Games.{StandFor, game_at}
-use Rattle.cg_nodes.specs.Positions.{positions_of}
+use Rattle.cg_form.specs.Positions.{positions_of}
 use Rattle.cg_thermo.specs.Ended.{ended}
 use Rattle.cg_thermo.proofs.Keeping.{options-first, own-found, own-kept, slice_games}
 use Rattle.cg_thermo.proofs.Members.{none_found}

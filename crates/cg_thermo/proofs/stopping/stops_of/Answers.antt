@@ -4,9 +4,10 @@ use Rattle.cg_canon.specs.Written.{IsWrittenAs}
 use Rattle.cg_canon.specs.declared.written.Written.{Written}
 use Rattle.cg_nodes.specs.Games.{game_at}
 use Rattle.cg_form.specs.Game.{Game}
-use Rattle.cg_thermo.specs.Ended.{StopsAre, ended}
+use Rattle.cg_thermo.specs.Ended.{ended}
+use Rattle.cg_thermo.specs.StopsOf.{StopsAre}
 use Rattle.cg_thermo.proofs.Besting.{number-stops}
-use Rattle.cg_thermo.proofs.Keeping.{options_later, read_left, read_node, read_right}
+use Rattle.cg_thermo.proofs.Keeping.{holds_later, options_later, read_left, read_node, read_right}
 use Rattle.cg_thermo.proofs.stopping.stops_of.Goals as goal
 
 pub game_stops-requires-clause-lefts : goal.game_stops-requires-clause-lefts
@@ -40,6 +41,12 @@ game_stops-requires-clause-found g c =
     let rs = c.in-Options.rights.items in
     options_later s t c.in_ok-x.ensures.spends.known (ended c.args.ends.now) c.args.f c.requires.f
     (c.requires.found (read_node s t c.in_ok-x.ensures.spends.known c.args.f c.requires.f ls rs is.2))
+
+pub game_stops-requires-clause-holds : goal.game_stops-requires-clause-holds
+game_stops-requires-clause-holds g c =
+    let s = work_state g.S.CellStore.state c.args.work.now in
+    holds_later s (work_state g.S.CellStore.state c.written.new.self) c.in_ok-x.ensures.spends.known (ended c.args.ends.now)
+    c.requires.holds
 
 pub returns-in-Number-clause-stops : goal.returns-in-Number-clause-stops
 returns-in-Number-clause-stops g c =

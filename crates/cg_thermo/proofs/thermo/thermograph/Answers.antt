@@ -4,7 +4,7 @@ use Rattle.cg_canon.specs.Works.{work_state}
 use Rattle.cg_form.specs.Canonical.{Canonical}
 use Rattle.cg_form.specs.Game.{Game}
 use Rattle.cg_nodes.specs.Games.{IsNode, StandFor, game_at}
-use Rattle.cg_nodes.specs.Positions.{positions_of}
+use Rattle.cg_form.specs.Positions.{positions_of}
 use Rattle.cg_nodes.proofs.Later.{spends_then}
 use Rattle.cg_thermo.specs.Found.{charted}
 use Rattle.cg_thermo.specs.Progress.{Charted}
@@ -12,6 +12,7 @@ use Rattle.cg_thermo.proofs.Charting.{err_range, rough-needs}
 use Rattle.cg_thermo.proofs.Keeping.{each-kept, holds-none, options-first, own-found, own-kept, same-game, slice_games}
 use Rattle.cg_thermo.proofs.Members.{none_found}
 use Rattle.cg_thermo.proofs.Picturing.{enough_places, is_thermograph}
+use Rattle.cg_thermo.proofs.WallLines.{draws-walls}
 use Rattle.cg_thermo.proofs.thermo.thermograph.Given as given
 use Rattle.cg_thermo.proofs.thermo.thermograph.Goals as goal
 use Rattle.cg_thermo.proofs.thermo.thermograph.Goals.{After-as_slice, In-Some}
@@ -69,6 +70,17 @@ returns-clause-walls g c =
     is_thermograph (game_at s c.args.a) c.in-Some.chart.now c.in_ok-pictured.field-0 c.temperature-temp.result (own g (goal.at.returns-clause-walls g c).In-Some)
     (subst (λ (z : Game). Canonical z) same c.temperature-temp.ensures.canonical) c.in_ok-pictured.ensures.picture c.in_ok-pictured.ensures.temp
     (λ x e. c.temperature-temp.ensures.number x (same ∙ e)) (λ n. c.temperature-temp.ensures.other (subst (λ (z : Game). IsNode z) (sym same) n))
+
+pub returns-clause-lines : goal.returns-clause-lines
+returns-clause-lines g c =
+    let W = work_state g.S.CellStore.state in
+    let s = W c.args.work.now in
+    let same = same-game s (W c.each_position.new.work) (W c.add_charts.new.work) c.args.a c.requires c.each_position.ensures.spends.known
+    c.add_charts.ensures.spends.known in
+    draws-walls (game_at s c.args.a) c.in_ok-pictured.field-0
+    (is_thermograph (game_at s c.args.a) c.in-Some.chart.now c.in_ok-pictured.field-0 c.temperature-temp.result (own g (goal.at.returns-clause-lines g c).In-Some)
+    (subst (λ (z : Game). Canonical z) same c.temperature-temp.ensures.canonical) c.in_ok-pictured.ensures.picture c.in_ok-pictured.ensures.temp
+    (λ x e. c.temperature-temp.ensures.number x (same ∙ e)) (λ n. c.temperature-temp.ensures.other (subst (λ (z : Game). IsNode z) (sym same) n)))
 
 pub returns-clause-enough : goal.returns-clause-enough
 returns-clause-enough g c =

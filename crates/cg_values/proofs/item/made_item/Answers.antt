@@ -3,8 +3,8 @@ use Rattle.std.specs.Prelude.{IfOk}
 use Rattle.cg_canon.specs.Items.{Item, made}
 use Rattle.cg_canon.specs.Works.{work_state}
 use Rattle.cg_form.specs.Game.{Game, node}
+use Rattle.cg_nodes.specs.Can.{can}
 use Rattle.cg_nodes.specs.Games.{StandsFor, games_at}
-use Rattle.cg_nodes.specs.Spelled.{can}
 use Rattle.cg_values.specs.Items.{value_item}
 use Rattle.cg_values.proofs.ItemSteps.{options-split, value-options}
 use Rattle.cg_canon.proofs.MadeSteps.{made_as}

@@ -1,7 +1,7 @@
 use Rattle.std.proofs.Common.{[], ◌∷◌, refl, subst, sym}
 use Rattle.cg_form.specs.Game.{node}
+use Rattle.cg_nodes.specs.Can.{can}
 use Rattle.cg_nodes.specs.Games.{AreGames, games_at}
-use Rattle.cg_nodes.specs.Spelled.{can}
 use Rattle.cg_nodes.proofs.Later.{are_games_later}
 use Rattle.cg_canon.specs.Items.{made}
 use Rattle.cg_canon.specs.Made.{ItemsMade}

@@ -1,7 +1,7 @@
 use Rattle.std.proofs.Common.{sym, subst}
 use Rattle.std.proofs.lemmas.Int.{to_z-of_z}
 use mir.Syntax.{w128}
-use Rattle.cg_dyadic.specs.Wide.{IsWideWord}
+use Rattle.cg_dyadic.specs.Held.{IsWideWord}
 use Rattle.cg_dyadic.proofs.Wides.{word}
 use Rattle.cg_dyadic.proofs.wide.Wide.of_units.Goals as goal
 

@@ -1,6 +1,6 @@
 use Rattle.std.proofs.Common.{rules, ◌≡◌, ap, sym, ◌∙◌, refl, subst, List, [], ◌∷◌, ◌++◌, length}
 use Rattle.cg_syntax.specs.Bound.{AreBoundAt, bindings_at}
-use Rattle.cg_syntax.specs.declared.query.Query.TheVariants as queries
+use Rattle.cg_query.specs.declared.query.Query.TheVariants as queries
 use Rattle.cg_syntax.specs.declared.session.Asked.TheVariants as askeds
 use Rattle.cg_syntax.specs.declared.session.SessionLine.{SessionLine}
 use Rattle.cg_syntax.specs.declared.sheet.Bound.{Bound}

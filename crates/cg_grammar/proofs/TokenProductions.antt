@@ -1,0 +1,287 @@
+-- The laws of the readers of tokens, boards and octal games.
+use Rattle.std.proofs.Common.{◌≡◌, ℕ, suc, Bool, true, false, cond, inr, List, [], ◌∷◌, ◌++◌, length, Option, Some, None, refl}
+use Rattle.std.specs.Prelude.{codes}
+use Rattle.cg_reading.specs.Bytes.{Class, Begins}
+use Rattle.cg_reading.specs.Pieces.{Piece, Then, Or, Made, Nothing, One, Bytes}
+use Rattle.cg_reading.specs.Readers.{Reader, then_at, made_at}
+use Rattle.cg_reading.specs.Tokens.{only, blank, digit, digits, blanks}
+use Rattle.cg_reading.specs.TokenReaders as t
+use Rattle.cg_reading.proofs.Sets.{apart, inside}
+use Rattle.cg_reading.proofs.Laws.{Lawful, same_ok, Some_text}
+use Rattle.cg_reading.proofs.Steps.{nothing_lawful}
+use Rattle.cg_reading.proofs.ByteRuns.{one_lawful, bytes_lawful, no_text, word_text}
+use Rattle.cg_reading.proofs.Longest.{Token, plain_token, token_ok, made_full, or_full_ok, then_full, bytes_token, wide_token}
+use Rattle.cg_reading.proofs.Rules.{then_ok, or_ok, made_ok, wide_ok, then_text, made_text, left_text, right_text}
+use Rattle.cg_reading.proofs.Same.{same_token}
+use Rattle.cg_reading.proofs.TokenLaws.{digits_ok, digits_text, byte_ok, byte_text, this_word_ok}
+use Rattle.cg_query.specs.Tree.{Tree, nimber, switch, tiny, octal}
+use Rattle.cg_grammar.specs.Values.{Arrows, ups_tree, more_arrows, clean, one_text, two_texts}
+use Rattle.cg_grammar.specs.Grammar as s
+use Rattle.cg_grammar.specs.Grammar.{printable}
+use Rattle.cg_grammar.specs.Reading as r
+use Rattle.cg_grammar.specs.Reading.{arrow, star, plain_begin}
+use Rattle.cg_query.specs.declared.kind.GameKind.{GameKind}
+use Rattle.cg_query.specs.declared.kind.GameKind.TheVariants.{Domineering, Clobber, Amazons, Toads, Strip, Hackenbush, Col, Snort}
+use Rattle.cg_grammar.proofs.Factored as g
+use Rattle.cg_grammar.proofs.Plain.{ups_is}
+use Rattle.cg_grammar.proofs.SameArrows.{ups_same}
+
+abbrev over : Piece ℕ
+over = Or (Made (λ v. v.1) (Then (One (only 47)) digits)) (Nothing 1)
+
+over_ok : Lawful over r.over_at (only 47) true ((47, 47) ∷ digit)
+unfolding r.over_at
+over_ok = or_ok (made_ok (λ v. v.1) (then_ok (one_lawful (only 47) 47 refl) digits_ok digits_text refl)) (nothing_lawful 1) refl
+
+pub nothing_text : {A : Type 0} (v : A) (j : ℕ) → Some_text (Nothing v) j
+nothing_text v j = record { value = v; text = []; is = (refl, refl) }
+
+over_text : (j : ℕ) → Some_text over j
+over_text j = right_text j (nothing_text 1 j)
+
+pub number_text : (j : ℕ) → Some_text s.number j
+number_text j = then_text {S = over} j (digits_text j) over_text
+
+pub number_ok : Lawful s.number r.number_at digit false ((48, 57) ∷ (47, 47) ∷ (48, 57) ∷ [])
+unfolding r.number_at
+number_ok = then_ok digits_ok over_ok (λ j. right_text j (nothing_text 1 j)) refl
+
+-- ---- arrows
+
+abbrev count_more : ℕ → ℕ × Bool → Class
+count_more b v = cond v.1 (only b) []
+
+count_text : (b j : ℕ) → Some_text (g.count b) j
+count_text b j = left_text j (made_text (λ n. (n, false)) j (digits_text j))
+
+up_count : Token (g.count 94) (r.count_at 94) ((48, 57) ∷ (94, 94) ∷ []) true digit (count_more 94)
+unfolding r.count_at
+up_count = wide_token ((48, 57) ∷ (94, 94) ∷ []) digit (or_full_ok (made_full (λ n. (n, false)) (count_more 94) (plain_token digits_ok)) (made_full (λ bs. (suc (length bs), true)) (count_more 94) (bytes_token (only 94))) refl) refl refl
+
+down_count : Token (g.count 118) (r.count_at 118) ((48, 57) ∷ (118, 118) ∷ []) true digit (count_more 118)
+unfolding r.count_at
+down_count = wide_token ((48, 57) ∷ (118, 118) ∷ []) digit (or_full_ok (made_full (λ n. (n, false)) (count_more 118) (plain_token digits_ok)) (made_full (λ bs. (suc (length bs), true)) (count_more 118) (bytes_token (only 118))) refl) refl refl
+
+up_arrows : Token (g.arrows false 94) (r.arrows_at false 94) (only 94) false digit more_arrows
+unfolding r.arrows_at
+up_arrows = made_full (λ v. record { down = false; count = v.1.0; is_run = v.1.1 }) more_arrows (then_full (one_lawful (only 94) 94 refl) up_count (count_text 94) refl)
+
+down_arrows : Token (g.arrows true 118) (r.arrows_at true 118) (only 118) false digit more_arrows
+unfolding r.arrows_at
+down_arrows = made_full (λ v. record { down = true; count = v.1.0; is_run = v.1.1 }) more_arrows (then_full (one_lawful (only 118) 118 refl) down_count (count_text 118) refl)
+
+pub ups_token : Token s.ups r.ups_at arrow false digit more_arrows
+unfolding r.ups_at
+ups_token = same_token ups_same (wide_token arrow digit (or_full_ok up_arrows down_arrows refl) refl refl)
+
+-- digits and arrows
+abbrev arrow_follow : Class
+arrow_follow = (48, 57) ∷ (94, 94) ∷ (118, 118) ∷ []
+
+more_arrows_bound : (a : Arrows) → inside (more_arrows a) arrow ≡ true
+more_arrows_bound a = by_cases a.is_run a.down
+  where
+    by_cases : (run down : Bool) → inside (cond run (only (cond down 118 94)) []) arrow ≡ true
+    by_cases true true = refl
+    by_cases true false = refl
+    by_cases false down = refl
+
+ups_ok : Lawful s.ups r.ups_at arrow false arrow_follow
+unfolding r.ups_at
+ups_ok = wide_ok arrow arrow_follow (token_ok arrow ups_token more_arrows_bound) refl refl
+
+-- ---- nimbers and tails
+
+nim_count_ok : Lawful (Or digits (Nothing 1)) r.nim_count_at digit true digit
+unfolding r.nim_count_at
+nim_count_ok = wide_ok digit digit (or_ok digits_ok (nothing_lawful 1) refl) refl refl
+
+pub nim_ok : Lawful s.nim r.nim_at star false digit
+unfolding r.nim_at
+nim_ok = made_ok (λ v. nimber v.1) (then_ok (one_lawful (only 42) 42 refl) nim_count_ok (λ j. right_text j (nothing_text 1 j)) refl)
+
+pub ups_tree_ok : Lawful (Made ups_tree s.ups) r.ups_tree_at arrow false arrow_follow
+ups_tree_ok = same_ok r.ups_tree_at ups_is (made_ok ups_tree ups_ok)
+
+optional_ups : Lawful (s.optional (Made ups_tree s.ups)) r.ups_option_at arrow true arrow_follow
+unfolding r.ups_option_at
+optional_ups = wide_ok arrow arrow_follow (or_ok (made_ok (λ v. Some v) ups_tree_ok) (nothing_lawful None) refl) refl refl
+
+pub optional_nim : Lawful (s.optional s.nim) r.nim_option_at star true ((48, 57) ∷ (42, 42) ∷ [])
+unfolding r.nim_option_at
+optional_nim = wide_ok star ((48, 57) ∷ (42, 42) ∷ []) (or_ok (made_ok (λ v. Some v) nim_ok) (nothing_lawful None) refl) refl refl
+
+pub no_nim : (j : ℕ) → Some_text (s.optional s.nim) j
+no_nim j = right_text j (nothing_text None j)
+
+abbrev tail_begin : Class
+tail_begin = (94, 94) ∷ (118, 118) ∷ (42, 42) ∷ []
+
+abbrev pub tail_follow : Class
+tail_follow = (48, 57) ∷ (94, 94) ∷ (118, 118) ∷ (42, 42) ∷ []
+
+pub tail_ok : Lawful s.tail r.tail_at tail_begin true tail_follow
+unfolding r.tail_at
+tail_ok = wide_ok tail_begin tail_follow (then_ok optional_ups optional_nim no_nim refl) refl refl
+
+no_tail : (j : ℕ) → Some_text s.tail j
+no_tail j = then_text j (right_text j (nothing_text None j)) no_nim
+
+pub empty_tail : (j : ℕ) → (v : Option Tree × Option Tree) × s.tail j v []
+empty_tail j = ((None, None), record { before = []; behind = []; first = inr (refl, refl); second = inr (refl, refl); spelled = refl })
+
+nim_count_text : (j : ℕ) → Some_text (Or digits (Nothing 1)) j
+nim_count_text j = right_text j (nothing_text 1 j)
+
+pub nim_text : (j : ℕ) → Some_text s.nim j
+nim_text j = made_text (λ v. nimber v.1) j (then_text {S = Or digits (Nothing 1)} j (byte_text 42 refl j) nim_count_text)
+
+-- ---- numbers that stand in a switch
+
+abbrev pub number_follow : Class
+number_follow = (48, 57) ∷ (47, 47) ∷ []
+
+switch_ok : Lawful s.switch_piece r.switch_at (only 43) false number_follow
+unfolding r.switch_at
+switch_ok = wide_ok (only 43) number_follow (made_ok (λ v. clean (switch v.1.1.0 v.1.1.1)) (then_ok (byte_ok 43 refl) (then_ok (byte_ok 45 refl) number_ok number_text refl) (λ j. then_text j (byte_text 45 refl j) number_text) refl)) refl refl
+
+-- ---- what stands between parentheses
+
+pub string_ok : Lawful s.string r.string_at (only 34) false []
+unfolding r.string_at r.printable_at
+string_ok = made_ok (λ v. v.1.0) (then_ok (byte_ok 34 refl) (then_ok (bytes_lawful printable) (byte_ok 34 refl) (byte_text 34 refl) refl) (λ j. then_text {S = One (only 34)} j (no_text printable j) (byte_text 34 refl)) refl)
+
+pub string_text : (j : ℕ) → Some_text s.string j
+string_text j = made_text (λ v. v.1.0) j (then_text {S = Then (Bytes printable) (One (only 34))} j (byte_text 34 refl j) (λ k. then_text {S = One (only 34)} k (no_text printable k) (byte_text 34 refl)))
+
+-- a string, and a piece behind a comma
+module _ {A : Type 0} (R : Piece A) (f : Reader A) (I F : Class) (w : (j : ℕ) → Some_text R j) where
+  comma_text : (j : ℕ) → Some_text (Then (One (only 44)) (Then blanks R)) j
+  comma_text j = then_text {S = Then blanks R} j (byte_text 44 refl j) (λ k. then_text {S = R} k (no_text blank k) w)
+
+  string_and_ok : Lawful R f I false F → apart I blank ≡ true → apart (blank ++ I) [] ≡ true → Lawful (s.string_and R) (made_at (λ v. (v.0, v.1.1.1.1)) (then_at r.string_at (then_at t.blanks_at (then_at (t.byte_at 44) (then_at t.blanks_at f))))) (only 34) false F
+  string_and_ok lf a b = made_ok (λ v. (v.0, v.1.1.1.1))
+      (then_ok string_ok (then_ok (bytes_lawful blank) (then_ok (byte_ok 44 refl) (then_ok (bytes_lawful blank) lf w a) (λ j. then_text {S = R} j (no_text blank j) w) b) comma_text refl)
+      (λ j. then_text {S = Then (One (only 44)) (Then blanks R)} j (no_text blank j) comma_text) refl)
+
+  string_and_text : (j : ℕ) → Some_text (s.string_and R) j
+  string_and_text j = made_text (λ v. (v.0, v.1.1.1.1)) j (then_text {S = Then blanks (Then (One (only 44)) (Then blanks R))} j (string_text j)
+      (λ k. then_text {S = Then (One (only 44)) (Then blanks R)} k (no_text blank k) comma_text))
+
+two_strings_ok : Lawful (s.string_and s.string) r.two_strings_at (only 34) false []
+unfolding r.two_strings_at
+two_strings_ok = string_and_ok s.string r.string_at (only 34) [] string_text string_ok refl refl
+
+two_strings_text : (j : ℕ) → Some_text (s.string_and s.string) j
+two_strings_text = string_and_text s.string r.string_at (only 34) [] string_text
+
+string_and_digits_ok : Lawful (s.string_and digits) r.string_and_digits_at (only 34) false digit
+unfolding r.string_and_digits_at
+string_and_digits_ok = string_and_ok digits t.digits_at digit digit digits_text digits_ok refl refl
+
+string_and_digits_text : (j : ℕ) → Some_text (s.string_and digits) j
+string_and_digits_text = string_and_text digits t.digits_at digit digit digits_text
+
+module _ {A : Type 0} (R : Piece A) (f : Reader A) (I F : Class) (w : (j : ℕ) → Some_text R j) where
+  closed_text : (j : ℕ) → Some_text (Then blanks (One (only 41))) j
+  closed_text j = then_text {S = One (only 41)} j (no_text blank j) (byte_text 41 refl)
+
+  opened_text : (j : ℕ) → Some_text (Then blanks (Then R (Then blanks (One (only 41))))) j
+  opened_text j = then_text {S = Then R (Then blanks (One (only 41)))} j (no_text blank j) (λ k. then_text {S = Then blanks (One (only 41))} k (w k) closed_text)
+
+  enclosed_text : (j : ℕ) → Some_text (s.enclosed R) j
+  enclosed_text j = made_text (λ v. v.1.1.0) j (then_text {S = Then blanks (Then R (Then blanks (One (only 41))))} j (byte_text 40 refl j) opened_text)
+
+  enclosed_ok : Lawful R f I false F → apart I [] ≡ true → apart I blank ≡ true → apart ((32, 32) ∷ (9, 9) ∷ (13, 13) ∷ (41, 41) ∷ []) F ≡ true → Lawful (s.enclosed R) (made_at (λ v. v.1.1.0) (then_at (t.byte_at 40) (then_at t.blanks_at (then_at f (then_at t.blanks_at (t.byte_at 41)))))) (only 40) false []
+  enclosed_ok lf c a b = made_ok (λ v. v.1.1.0)
+      (then_ok (byte_ok 40 refl) (then_ok (bytes_lawful blank) (then_ok lf (then_ok (bytes_lawful blank) (byte_ok 41 refl) (byte_text 41 refl) refl) closed_text b) (λ j. then_text {S = Then blanks (One (only 41))} j (w j) closed_text) a) opened_text c)
+
+enclosed_number_ok : Lawful (s.enclosed s.number) r.enclosed_number_at (only 40) false []
+unfolding r.enclosed_number_at
+enclosed_number_ok = enclosed_ok s.number r.number_at digit ((48, 57) ∷ (47, 47) ∷ (48, 57) ∷ []) number_text number_ok refl refl refl
+
+enclosed_string_ok : Lawful (s.enclosed s.string) r.enclosed_string_at (only 40) false []
+unfolding r.enclosed_string_at
+enclosed_string_ok = enclosed_ok s.string r.string_at (only 34) [] string_text string_ok refl refl refl
+
+enclosed_strings_ok : Lawful (s.enclosed (s.string_and s.string)) r.enclosed_strings_at (only 40) false []
+unfolding r.enclosed_strings_at
+enclosed_strings_ok = enclosed_ok (s.string_and s.string) r.two_strings_at (only 34) [] two_strings_text two_strings_ok refl refl refl
+
+enclosed_octal_ok : Lawful (s.enclosed (s.string_and digits)) r.enclosed_octal_at (only 40) false []
+unfolding r.enclosed_octal_at
+enclosed_octal_ok = enclosed_ok (s.string_and digits) r.string_and_digits_at (only 34) digit string_and_digits_text string_and_digits_ok refl refl refl
+
+number_enclosed : (j : ℕ) → Some_text (s.enclosed s.number) j
+number_enclosed = enclosed_text s.number r.number_at digit [] number_text
+
+string_enclosed : (j : ℕ) → Some_text (s.enclosed s.string) j
+string_enclosed = enclosed_text s.string r.string_at (only 34) [] string_text
+
+strings_enclosed : (j : ℕ) → Some_text (s.enclosed (s.string_and s.string)) j
+strings_enclosed = enclosed_text (s.string_and s.string) r.two_strings_at (only 34) [] two_strings_text
+
+octal_enclosed : (j : ℕ) → Some_text (s.enclosed (s.string_and digits)) j
+octal_enclosed = enclosed_text (s.string_and digits) r.string_and_digits_at (only 34) digit string_and_digits_text
+
+-- ---- switches, tiny, boards and octal games
+
+tiny_ok : (word : List ℕ) (miny : Bool) (begin : Class) → Begins begin false word → Lawful (g.tiny_of word miny) (r.tiny_at word miny) begin false []
+unfolding r.tiny_at
+tiny_ok word miny begin b = made_ok (λ v. clean (tiny miny v.1.0 v.1.1)) (then_ok (this_word_ok word begin b) enclosed_number_ok number_enclosed refl)
+
+-- what stands behind a name, with the blanks before it
+spaced_ok : {A : Type 0} {R : Piece A} {f : Reader A} → Lawful R f (only 40) false [] → ((j : ℕ) → Some_text R j) → Lawful (Then blanks R) (then_at t.blanks_at f) ((32, 32) ∷ (9, 9) ∷ (13, 13) ∷ (40, 40) ∷ []) false []
+spaced_ok lf w = then_ok (bytes_lawful blank) lf w refl
+
+spaced_text : {A : Type 0} (R : Piece A) → ((j : ℕ) → Some_text R j) → (j : ℕ) → Some_text (Then blanks R) j
+spaced_text R w j = then_text {S = R} j (no_text blank j) w
+
+one_of_ok : (word : List ℕ) (kind : GameKind) (begin : Class) → Begins begin false word → Lawful (g.one_of word kind) (r.one_text_at word kind) begin false []
+unfolding r.one_text_at
+one_of_ok word kind begin b = made_ok (λ v. clean (one_text kind v.1.1)) (then_ok (this_word_ok word begin b) (spaced_ok enclosed_string_ok string_enclosed) (spaced_text (s.enclosed s.string) string_enclosed) refl)
+
+two_of_ok : (word : List ℕ) (kind : GameKind) (begin : Class) → Begins begin false word → Lawful (g.two_of word kind) (r.two_texts_at word kind) begin false []
+unfolding r.two_texts_at
+two_of_ok word kind begin b = made_ok (λ v. clean (two_texts kind v.1.1.0 v.1.1.1)) (then_ok (this_word_ok word begin b) (spaced_ok enclosed_strings_ok strings_enclosed) (spaced_text (s.enclosed (s.string_and s.string)) strings_enclosed) refl)
+
+octal_ok : Lawful s.octal_piece r.octal_at (only 79) false []
+unfolding r.octal_at
+octal_ok = made_ok (λ v. clean (octal v.1.1.0 v.1.1.1)) (then_ok (this_word_ok (codes "Octal") (only 79) refl) (spaced_ok enclosed_octal_ok octal_enclosed) (spaced_text (s.enclosed (s.string_and digits)) octal_enclosed) refl)
+
+one_of_text : (word : List ℕ) (kind : GameKind) (j : ℕ) → Some_text (g.one_of word kind) j
+one_of_text word kind j = made_text (λ v. clean (one_text kind v.1.1)) j (then_text {S = Then blanks (s.enclosed s.string)} j (word_text (tt {0}) word j) (spaced_text (s.enclosed s.string) string_enclosed))
+
+two_of_text : (word : List ℕ) (kind : GameKind) (j : ℕ) → Some_text (g.two_of word kind) j
+two_of_text word kind j = made_text (λ v. clean (two_texts kind v.1.1.0 v.1.1.1)) j (then_text {S = Then blanks (s.enclosed (s.string_and s.string))} j (word_text (tt {0}) word j) (spaced_text (s.enclosed (s.string_and s.string)) strings_enclosed))
+
+tiny_or_toads_ok : Lawful g.tiny_or_toads r.tiny_or_toads_at (only 84) false []
+unfolding r.tiny_or_toads_at
+tiny_or_toads_ok = wide_ok (only 84) [] (made_ok (λ v. v.1) (then_ok (byte_ok 84 refl)
+    (or_ok (tiny_ok (codes "iny") false (only 105) refl) (one_of_ok (codes "oads") Toads (only 111) refl) refl)
+    (λ j. right_text j (one_of_text (codes "oads") Toads j)) refl)) refl refl
+
+clobber_or_col_ok : Lawful g.clobber_or_col r.clobber_or_col_at (only 67) false []
+unfolding r.clobber_or_col_at
+clobber_or_col_ok = wide_ok (only 67) [] (made_ok (λ v. v.1) (then_ok (byte_ok 67 refl)
+    (or_ok (one_of_ok (codes "lobber") Clobber (only 108) refl) (two_of_ok (codes "ol") Col (only 111) refl) refl)
+    (λ j. right_text j (two_of_text (codes "ol") Col j)) refl)) refl refl
+
+strip_or_snort_ok : Lawful g.strip_or_snort r.strip_or_snort_at (only 83) false []
+unfolding r.strip_or_snort_at
+strip_or_snort_ok = wide_ok (only 83) [] (made_ok (λ v. v.1) (then_ok (byte_ok 83 refl)
+    (or_ok (two_of_ok (codes "trip") Strip (only 116) refl) (two_of_ok (codes "nort") Snort (only 110) refl) refl)
+    (λ j. right_text j (two_of_text (codes "nort") Snort j)) refl)) refl refl
+
+abbrev named_begin : Class
+named_begin = (65, 65) ∷ (67, 68) ∷ (72, 72) ∷ (83, 83) ∷ []
+
+named_board_ok : Lawful g.named_board r.named_board_at named_begin false []
+unfolding r.named_board_at
+named_board_ok = wide_ok named_begin [] (or_ok (one_of_ok (codes "Domineering") Domineering (only 68) refl)
+    (or_ok (one_of_ok (codes "Hackenbush") Hackenbush (only 72) refl) (or_ok (one_of_ok (codes "Amazons") Amazons (only 65) refl)
+    (or_ok clobber_or_col_ok strip_or_snort_ok refl) refl) refl) refl) refl refl
+
+pub plain_special_ok : Lawful g.plain_special r.plain_special_at plain_begin false number_follow
+unfolding r.plain_special_at
+plain_special_ok = wide_ok plain_begin number_follow (or_ok switch_ok (or_ok (tiny_ok (codes "Miny") true (only 77) refl) (or_ok tiny_or_toads_ok (or_ok octal_ok named_board_ok refl) refl) refl) refl) refl refl

@@ -1,0 +1,415 @@
+-- Reading a line from its front, piece by piece. The functions of the code are told by these what they return.
+use Rattle.std.specs.Prelude.{ℕ, zero, suc, Bool, true, false, List, [], ◌∷◌, ◌++◌, length, map, Option, Some, None, Result, Ok, cond, codes}
+use Rattle.std.specs.Str.{bytes_eq}
+use Rattle.cg_reading.specs.Bytes.{Class}
+use Rattle.cg_reading.specs.Readers.{Read, Reader, ◌>>=◌, then_at, or_at, many_at, behind_these, made_at, nothing_at, one_at, bytes_at, most_at, run_at, placed_at, such_at, telling_at, whole_at}
+use Rattle.cg_reading.specs.Tokens.{only, blank, digit}
+use Rattle.cg_reading.specs.TokenReaders.{blanks_at, byte_at, gap_at, this_word_at, digits_at}
+use Rattle.cg_query.specs.Tree.{Tree, Question, number, ups, nimber, switch, tiny, sum, octal, used, terms_from, value, compare, outcome, stops, mean, temp, thermo, proof}
+use Rattle.cg_grammar.specs.Found.{Found, Asked, Stated, first}
+use Rattle.cg_grammar.specs.Values.{Arrows, ups_tree, letter_or_digit, Last, In_none, In_arrows, In_name, Counted, whole, times, goes_on, counted_of, times_of, with_tail, clean, negated, sum_of, minus_of, first_fault, run_side, braces_of, one_text, two_texts, asked_of, asked_of_both, checked, asking, defined}
+use Rattle.cg_grammar.specs.Grammar.{printable, bar, letter, is_free}
+use Rattle.cg_query.specs.declared.format.Format.{Format}
+use Rattle.cg_query.specs.declared.format.Format.TheVariants as formats
+use Rattle.cg_query.specs.declared.kind.GameKind.{GameKind}
+use Rattle.cg_query.specs.declared.kind.GameKind.TheVariants.{Domineering, Clobber, Amazons, Toads, Strip, Hackenbush, Col, Snort}
+
+-- ---- what the pieces begin with
+
+abbrev pub arrow : Class
+arrow = (94, 94) ∷ (118, 118) ∷ []
+
+abbrev pub star : Class
+star = only 42
+
+-- a switch, tiny, a board or an octal game
+abbrev pub plain_begin : Class
+plain_begin = (43, 43) ∷ (65, 65) ∷ (67, 68) ∷ (72, 72) ∷ (77, 77) ∷ (79, 79) ∷ (83, 84) ∷ []
+
+abbrev pub special_begin : Class
+special_begin = (43, 43) ∷ (65, 65) ∷ (67, 68) ∷ (72, 72) ∷ (77, 77) ∷ (79, 79) ∷ (83, 84) ∷ (123, 123) ∷ (40, 40) ∷ (97, 117) ∷ (119, 122) ∷ []
+
+abbrev pub uncounted_begin : Class
+uncounted_begin = (97, 122) ∷ (94, 94) ∷ (42, 43) ∷ (65, 65) ∷ (67, 68) ∷ (72, 72) ∷ (77, 77) ∷ (79, 79) ∷ (83, 84) ∷ (123, 123) ∷ (40, 40) ∷ []
+
+abbrev pub unsigned_begin : Class
+unsigned_begin = (48, 57) ∷ uncounted_begin
+
+abbrev pub term_begin : Class
+term_begin = (45, 45) ∷ unsigned_begin
+
+abbrev pub plus_minus : Class
+plus_minus = (45, 45) ∷ (43, 43) ∷ []
+
+-- ---- tokens
+
+unfoldable pub over_at : Reader ℕ
+over_at = or_at (only 47) (made_at (λ v. v.1) (then_at (one_at (only 47)) digits_at)) (nothing_at 1)
+
+unfoldable pub number_at : Reader (ℕ × ℕ)
+number_at = then_at digits_at over_at
+
+unfoldable pub count_at : ℕ → Reader (ℕ × Bool)
+count_at b = or_at digit (made_at (λ n. (n, false)) digits_at) (made_at (λ bs. (suc (length bs), true)) (bytes_at (only b)))
+
+unfoldable pub arrows_at : Bool → ℕ → Reader Arrows
+arrows_at down b = made_at (λ v. record { down = down; count = v.1.0; is_run = v.1.1 }) (then_at (one_at (only b)) (count_at b))
+
+unfoldable pub ups_at : Reader Arrows
+ups_at = or_at (only 94) (arrows_at false 94) (arrows_at true 118)
+
+-- the same, without whether it is a run
+unfoldable pub plain_count_at : ℕ → Reader ℕ
+plain_count_at b = or_at digit digits_at (made_at (λ bs. suc (length bs)) (bytes_at (only b)))
+
+unfoldable pub ups_tree_at : Reader Tree
+ups_tree_at = or_at (only 94) (made_at (λ v. ups false v.1) (then_at (one_at (only 94)) (plain_count_at 94))) (made_at (λ v. ups true v.1) (then_at (one_at (only 118)) (plain_count_at 118)))
+
+unfoldable pub nim_count_at : Reader ℕ
+nim_count_at = or_at digit digits_at (nothing_at 1)
+
+unfoldable pub nim_at : Reader Tree
+nim_at = made_at (λ v. nimber v.1) (then_at (one_at (only 42)) nim_count_at)
+
+unfoldable pub printable_at : Reader (List ℕ)
+printable_at = bytes_at printable
+
+unfoldable pub string_at : Reader (List ℕ)
+string_at = made_at (λ v. v.1.0) (then_at (byte_at 34) (then_at printable_at (byte_at 34)))
+
+unfoldable pub bars_at : Reader (ℕ × ℕ)
+bars_at = placed_at (made_at (λ bs. length bs) (run_at bar 8))
+
+abbrev pub optional_at : {A : Type 0} → Class → Reader A → Reader (Option A)
+optional_at c f = or_at c (made_at (λ v. Some v) f) (nothing_at None)
+
+unfoldable pub ups_option_at : Reader (Option Tree)
+ups_option_at = optional_at arrow ups_tree_at
+
+unfoldable pub nim_option_at : Reader (Option Tree)
+nim_option_at = optional_at star nim_at
+
+unfoldable pub tail_at : Reader (Option Tree × Option Tree)
+tail_at = then_at ups_option_at nim_option_at
+
+unfoldable pub ups_term_at : Reader Found
+ups_term_at = made_at (λ v. with_tail (clean v.0) (None, v.1)) (then_at ups_tree_at nim_option_at)
+
+unfoldable pub sign_at : Reader Bool
+sign_at = or_at (only 45) (made_at (λ _. true) (one_at (only 45))) (made_at (λ _. false) (one_at (only 43)))
+
+-- ---- switches, tiny, boards and octal games
+
+unfoldable pub switch_at : Reader Found
+switch_at = made_at (λ v. clean (switch v.1.1.0 v.1.1.1)) (then_at (byte_at 43) (then_at (byte_at 45) number_at))
+
+-- a number between parentheses
+unfoldable pub enclosed_number_at : Reader (ℕ × ℕ)
+enclosed_number_at = made_at (λ v. v.1.1.0) (then_at (byte_at 40) (then_at blanks_at (then_at number_at (then_at blanks_at (byte_at 41)))))
+
+-- tiny or miny, by the word in front
+unfoldable pub tiny_at : List ℕ → Bool → Reader Found
+tiny_at word miny = made_at (λ v. clean (tiny miny v.1.0 v.1.1)) (then_at (this_word_at word) enclosed_number_at)
+
+-- a text between parentheses
+unfoldable pub enclosed_string_at : Reader (List ℕ)
+enclosed_string_at = made_at (λ v. v.1.1.0) (then_at (byte_at 40) (then_at blanks_at (then_at string_at (then_at blanks_at (byte_at 41)))))
+
+unfoldable pub two_strings_at : Reader (List ℕ × List ℕ)
+two_strings_at = made_at (λ v. (v.0, v.1.1.1.1)) (then_at string_at (then_at blanks_at (then_at (byte_at 44) (then_at blanks_at string_at))))
+
+unfoldable pub enclosed_strings_at : Reader (List ℕ × List ℕ)
+enclosed_strings_at = made_at (λ v. v.1.1.0) (then_at (byte_at 40) (then_at blanks_at (then_at two_strings_at (then_at blanks_at (byte_at 41)))))
+
+unfoldable pub string_and_digits_at : Reader (List ℕ × ℕ)
+string_and_digits_at = made_at (λ v. (v.0, v.1.1.1.1)) (then_at string_at (then_at blanks_at (then_at (byte_at 44) (then_at blanks_at digits_at))))
+
+unfoldable pub enclosed_octal_at : Reader (List ℕ × ℕ)
+enclosed_octal_at = made_at (λ v. v.1.1.0) (then_at (byte_at 40) (then_at blanks_at (then_at string_and_digits_at (then_at blanks_at (byte_at 41)))))
+
+-- a board of one text, by the word in front
+unfoldable pub one_text_at : List ℕ → GameKind → Reader Found
+one_text_at word kind = made_at (λ v. clean (one_text kind v.1.1)) (then_at (this_word_at word) (then_at blanks_at enclosed_string_at))
+
+-- a board of two texts, by the word in front
+unfoldable pub two_texts_at : List ℕ → GameKind → Reader Found
+two_texts_at word kind = made_at (λ v. clean (two_texts kind v.1.1.0 v.1.1.1)) (then_at (this_word_at word) (then_at blanks_at enclosed_strings_at))
+
+unfoldable pub octal_at : Reader Found
+octal_at = made_at (λ v. clean (octal v.1.1.0 v.1.1.1)) (then_at (this_word_at (codes "Octal")) (then_at blanks_at enclosed_octal_at))
+
+-- Tiny and Toads are told apart by their second byte, and so are Clobber and Col, and Strip and Snort
+unfoldable pub tiny_or_toads_at : Reader Found
+tiny_or_toads_at = made_at (λ v. v.1) (then_at (byte_at 84) (or_at (only 105) (tiny_at (codes "iny") false) (one_text_at (codes "oads") Toads)))
+
+unfoldable pub clobber_or_col_at : Reader Found
+clobber_or_col_at = made_at (λ v. v.1) (then_at (byte_at 67) (or_at (only 108) (one_text_at (codes "lobber") Clobber) (two_texts_at (codes "ol") Col)))
+
+unfoldable pub strip_or_snort_at : Reader Found
+strip_or_snort_at = made_at (λ v. v.1) (then_at (byte_at 83) (or_at (only 116) (two_texts_at (codes "trip") Strip) (two_texts_at (codes "nort") Snort)))
+
+unfoldable pub named_board_at : Reader Found
+named_board_at = or_at (only 68) (one_text_at (codes "Domineering") Domineering) (or_at (only 72) (one_text_at (codes "Hackenbush") Hackenbush) (or_at (only 65) (one_text_at (codes "Amazons") Amazons) (or_at (only 67) clobber_or_col_at strip_or_snort_at)))
+
+-- a special without brackets around an expression
+unfoldable pub plain_special_at : Reader Found
+plain_special_at = or_at (only 43) switch_at (or_at (only 77) (tiny_at (codes "Miny") true) (or_at (only 84) tiny_or_toads_at (or_at (only 79) octal_at named_board_at)))
+
+-- ---- names
+
+-- all letters and digits in front, sixteen at most
+unfoldable pub lettered_at : Reader (List ℕ)
+lettered_at = made_at (λ v. v.0 ∷ v.1) (then_at (one_at letter) (most_at letter_or_digit 15))
+
+unfoldable pub name_at : Reader (List ℕ)
+name_at = such_at is_free lettered_at
+
+unfoldable pub use_at : Reader Found
+use_at = made_at (λ v. clean (used v.1 v.0)) (placed_at name_at)
+
+-- the same, with what it ends in
+unfoldable pub whole_use_at : Reader (Found × Last)
+whole_use_at = made_at (λ v. (clean (used v.1 v.0), In_name v.1)) (placed_at name_at)
+
+-- a name where one may stand, and else the other
+abbrev pub with_names_at : {A : Type 0} → Format → Reader A → Reader A → Reader A
+with_names_at formats.One named f = f
+with_names_at formats.Two named f = or_at letter named f
+
+-- ---- terms
+
+-- what stands behind the digits of a number or a multiple
+pub data Behind : Type 0 where
+  Over : ℕ → Behind
+  Times : Found → Last → Behind
+
+-- the number or the multiple that it makes with the digits
+abbrev pub counted_from : ℕ × Behind → Counted
+counted_from (n, Over d) = whole n d
+counted_from (n, Times e last) = times n e last
+
+-- the bytes that would still belong to it
+abbrev pub behind_goes_on : Behind → Class
+behind_goes_on (Over d) = []
+behind_goes_on (Times e last) = goes_on last
+
+-- an operand that was read, with the ups and the nimber that may stand together behind it
+unfoldable pub tail_of_at : Found → Reader Found
+tail_of_at operand = made_at (λ v. with_tail v.0 v.1) (then_at (nothing_at operand) tail_at)
+
+-- operands with what they end in
+module _ (special : Reader (Found × Last)) where
+  unfoldable pub primary_at : Reader (Found × Last)
+  primary_at = or_at arrow (made_at (λ a. (clean (ups_tree a), In_arrows a)) ups_at) (or_at star (made_at (λ t. (clean t, In_none)) nim_at) special)
+
+  unfoldable pub behind_at : Reader Behind
+  behind_at = or_at (only 47) (made_at (λ v. Over v.1) (then_at (one_at (only 47)) digits_at)) (or_at (only 46) (made_at (λ v. Times v.1.0 v.1.1) (then_at (one_at (only 46)) primary_at)) (nothing_at (Over 1)))
+
+  unfoldable pub counted_at : Reader (ℕ × Behind)
+  counted_at = then_at digits_at behind_at
+
+  unfoldable pub counted_term_at : Bool → Reader Found
+  counted_term_at negative = made_at (λ v. with_tail (counted_of negative (counted_from v.0)) v.1) (then_at counted_at tail_at)
+
+  unfoldable pub whole_term_at : Reader Found
+  whole_term_at = made_at (λ v. with_tail v.0.0 v.1) (then_at special tail_at)
+
+-- the same, without what they end in
+module _ (special : Reader Found) where
+  unfoldable pub plain_primary_at : Reader Found
+  plain_primary_at = or_at arrow (made_at clean ups_tree_at) (or_at star (made_at clean nim_at) special)
+
+  unfoldable pub times_at : Bool → ℕ → Reader Found
+  times_at negative n = made_at (λ v. times_of negative n v.1) (then_at (one_at (only 46)) plain_primary_at)
+
+  unfoldable pub behind_number_at : Bool → ℕ → Reader Found
+  behind_number_at negative n = or_at (only 47) (made_at (λ v. clean (number negative n v.1)) (then_at (one_at (only 47)) digits_at)) (or_at (only 46) (times_at negative n) (nothing_at (clean (number negative n 1))))
+
+  unfoldable pub number_or_multiple_at : Bool → Reader Found
+  number_or_multiple_at negative end bytes = digits_at end bytes >>= λ x. behind_number_at negative x.0 end x.1
+
+  unfoldable pub plain_counted_term_at : Bool → Reader Found
+  plain_counted_term_at negative = made_at (λ v. with_tail v.0 v.1) (then_at (number_or_multiple_at negative) tail_at)
+
+  -- the point and the operand of a multiple, and what stands together with it
+  unfoldable pub counted_multiple_at : Bool → ℕ → Reader Found
+  counted_multiple_at negative n = made_at (λ v. with_tail v.0 v.1) (then_at (times_at negative n) tail_at)
+
+  unfoldable pub special_term_at : Reader Found
+  special_term_at = made_at (λ v. with_tail v.0 v.1) (then_at special tail_at)
+
+  unfoldable pub uncounted_term_at : Reader Found
+  uncounted_term_at = or_at arrow ups_term_at (or_at star (made_at clean nim_at) special_term_at)
+
+  unfoldable pub unsigned_term_at : Reader Found
+  unsigned_term_at = or_at digit (plain_counted_term_at false) uncounted_term_at
+
+  unfoldable pub minus_body_at : Reader Found
+  minus_body_at = or_at digit (plain_counted_term_at true) (or_at blank (made_at (λ v. negated v.1) (then_at gap_at unsigned_term_at)) (made_at negated uncounted_term_at))
+
+  unfoldable pub minus_term_at : Reader Found
+  minus_term_at = made_at (λ v. v.1) (then_at (one_at (only 45)) minus_body_at)
+
+  unfoldable pub term_at : Reader Found
+  term_at = or_at (only 45) minus_term_at unsigned_term_at
+
+  unfoldable pub next_term_at : Reader (Bool × Found)
+  next_term_at = made_at (λ v. (v.0, v.1.1.0)) (then_at sign_at (then_at blanks_at (then_at term_at blanks_at)))
+
+  -- an expression and the blanks behind it
+  unfoldable pub sum_at : Reader Found
+  sum_at = made_at (λ v. sum_of v.0 v.1.1) (then_at term_at (then_at blanks_at (many_at plus_minus next_term_at)))
+
+-- ---- brackets around these expressions
+
+module _ (expr : Reader Found) where
+  unfoldable pub next_item_at : Reader Found
+  next_item_at = made_at (λ v. v.1.1) (then_at (one_at (only 44)) (then_at blanks_at expr))
+
+  unfoldable pub items_at : Reader (List Found)
+  items_at = made_at (λ v. v.0 ∷ v.1) (then_at expr (many_at (only 44) next_item_at))
+
+  -- the first item and those behind it
+  unfoldable pub item_list_at : Reader (List Found)
+  item_list_at end bytes = expr end bytes >>= λ x. behind_these (only 44) next_item_at (x.0 ∷ []) end x.1
+
+  unfoldable pub side_at : Reader (List Found)
+  side_at = made_at (λ v. v.1) (then_at blanks_at (or_at term_begin item_list_at (nothing_at [])))
+
+  abbrev pub row_at : Reader ((ℕ × ℕ) × List Found)
+  row_at = then_at bars_at side_at
+
+  abbrev pub some_rows_at : Reader (((ℕ × ℕ) × List Found) × List ((ℕ × ℕ) × List Found))
+  some_rows_at = then_at row_at (many_at bar row_at)
+
+  -- the first row and those behind it
+  unfoldable pub row_list_at : Reader (List ((ℕ × ℕ) × List Found))
+  row_list_at end bytes = row_at end bytes >>= λ x. behind_these bar row_at (x.0 ∷ []) end x.1
+
+  unfoldable pub braces_at : Reader Found
+  braces_at = made_at (λ v. braces_of v.1.0 (map run_side v.1.1.0)) (then_at (byte_at 123) (then_at side_at (then_at row_list_at (byte_at 125))))
+
+  unfoldable pub paren_at : Reader Found
+  paren_at = made_at (λ v. v.1.1.0) (then_at (byte_at 40) (then_at blanks_at (then_at expr (byte_at 41))))
+
+-- an expression in brackets
+unfoldable pub bracket_at : Reader Found → Reader Found
+bracket_at expr = or_at (only 123) (braces_at expr) (paren_at expr)
+
+-- a special that is no name, with so many brackets at most open at once
+unfoldable pub bare_special_at : Format → ℕ → Reader Found
+bare_special_at format zero end bytes = plain_special_at end bytes
+bare_special_at format (suc k) end bytes = or_at plain_begin plain_special_at (bracket_at (sum_at (λ e b. with_names_at format use_at (λ o s. bare_special_at format k o s) e b))) end bytes
+
+-- a special
+unfoldable pub special_at : Format → ℕ → Reader Found
+special_at format k end bytes = with_names_at format use_at (bare_special_at format k) end bytes
+
+-- the same, with what it ends in
+unfoldable pub whole_special_at : Format → ℕ → Reader (Found × Last)
+whole_special_at format k = with_names_at format whole_use_at (made_at (λ e. (e, In_none)) (bare_special_at format k))
+
+-- more terms behind these, where these faults come before
+abbrev pub with_terms : List (Bool × Tree) → Option ℕ → Read (List (Bool × Found)) → Read Found
+with_terms front fault read = read >>= λ x. Ok (record { tree = sum (terms_from (front ++ minus_of x.0)); fault = first fault (first_fault x.0) }, x.1)
+
+unfoldable pub more_terms_at : Format → ℕ → List (Bool × Tree) → Option ℕ → Reader Found
+more_terms_at format k front fault end bytes = with_terms front fault (many_at plus_minus (next_term_at (special_at format k)) end bytes)
+
+-- ---- questions
+
+-- temp and thermo are told apart by their second byte
+unfoldable pub temp_or_thermo_at : Reader (Tree → Question)
+temp_or_thermo_at = made_at (λ v. v.1) (then_at (byte_at 116) (or_at (only 101) (made_at (λ _. temp) (this_word_at (codes "emp"))) (made_at (λ _. thermo) (this_word_at (codes "hermo")))))
+
+unfoldable pub asking_at : Reader (Tree → Question)
+asking_at = or_at (only 118) (made_at (λ _. value) (this_word_at (codes "value"))) (or_at (only 111) (made_at (λ _. outcome) (this_word_at (codes "outcome"))) (or_at (only 115) (made_at (λ _. stops) (this_word_at (codes "stops"))) (or_at (only 109) (made_at (λ _. mean) (this_word_at (codes "mean"))) temp_or_thermo_at)))
+
+-- a question about one expression begins with one of these
+abbrev pub asking_begin : Class
+asking_begin = (118, 118) ∷ (111, 111) ∷ (115, 116) ∷ (109, 109) ∷ []
+
+unfoldable pub measure_at : Reader Asked
+measure_at = made_at (λ v. asked_of v.0 v.1.1) (then_at asking_at (then_at gap_at (sum_at (special_at formats.One 64))))
+
+abbrev pub with_semicolon_at : {A B : Type 0} → Reader A → Reader B → Reader (A × B)
+with_semicolon_at f g = made_at (λ v. (v.0, v.1.1.1)) (then_at f (then_at (byte_at 59) (then_at blanks_at g)))
+
+-- two expressions with a semicolon between them
+unfoldable pub both_at : Format → Reader (Found × Found)
+both_at format = with_semicolon_at (sum_at (special_at format 64)) (sum_at (special_at format 64))
+
+-- a question about two expressions, by the word in front
+unfoldable pub both_asked_at : List ℕ → (Tree → Tree → Question) → Reader Asked
+both_asked_at word ask = made_at (λ v. asked_of_both ask v.1.1.0 v.1.1.1) (then_at (this_word_at word) (then_at gap_at (both_at formats.One)))
+
+-- a text, and the blanks behind it
+abbrev pub last_string_at : Reader (List ℕ)
+last_string_at = made_at (λ v. v.0) (then_at string_at blanks_at)
+
+-- a question about two expressions and a text, by the word in front
+unfoldable pub check_at : List ℕ → Reader Asked
+check_at word = made_at (λ v. checked v.1.1.0.0 v.1.1.0.1 v.1.1.1) (then_at (this_word_at word) (then_at gap_at (with_semicolon_at (both_at formats.One) last_string_at)))
+
+-- compare and check are told apart by their second byte
+unfoldable pub compare_or_check_at : Reader Asked
+compare_or_check_at = made_at (λ v. v.1) (then_at (byte_at 99) (or_at (only 111) (both_asked_at (codes "ompare") compare) (check_at (codes "heck"))))
+
+unfoldable pub question_at : Reader Asked
+question_at = or_at asking_begin measure_at (or_at (only 112) (both_asked_at (codes "proof") proof) compare_or_check_at)
+
+unfoldable pub line_at : Reader Asked
+line_at = made_at (λ v. v.1) (then_at blanks_at question_at)
+
+-- the whole line of format 1
+unfoldable pub read_at : List ℕ → Result Asked ℕ
+read_at text = whole_at line_at text
+
+-- ---- lines of format 2
+
+-- what a line is whose first word is this one
+pub data Kind : Type 0 where
+  Of_one : (Tree → Question) → Kind
+  Of_two : (Tree → Tree → Question) → Kind
+  Of_check : Kind
+  Of_name : Kind
+
+abbrev pub kinds : List (List ℕ × Kind)
+kinds =
+    (codes "compare", Of_two compare) ∷ (codes "outcome", Of_one outcome) ∷ (codes "stops", Of_one stops) ∷ (codes "mean", Of_one mean)
+    ∷ (codes "temp", Of_one temp) ∷ (codes "thermo", Of_one thermo) ∷ (codes "proof", Of_two proof) ∷ (codes "check", Of_check) ∷ []
+
+abbrev pub kind_among : List (List ℕ × Kind) → List ℕ → Kind
+kind_among [] word = Of_name
+kind_among (k ∷ ks) word = cond (bytes_eq word k.0) k.1 (kind_among ks word)
+
+-- a word that is none of a question is a name
+abbrev pub kind_of : List ℕ → Kind
+kind_of word = kind_among kinds word
+
+-- ":=", and what stands around it
+unfoldable pub becomes_at : Reader (Unit {0})
+becomes_at = made_at (λ _. tt {0}) (then_at blanks_at (then_at (this_word_at (codes ":=")) blanks_at))
+
+-- what stands behind the first word
+abbrev pub behind_word_at : List ℕ → Kind → Reader Stated
+behind_word_at word (Of_one ask) = made_at (λ v. asking (asked_of ask v.1)) (then_at gap_at (sum_at (special_at formats.Two 64)))
+behind_word_at word (Of_two ask) = made_at (λ v. asking (asked_of_both ask v.1.0 v.1.1)) (then_at gap_at (both_at formats.Two))
+behind_word_at word Of_check = made_at (λ v. asking (checked v.1.0.0 v.1.0.1 v.1.1)) (then_at gap_at (with_semicolon_at (both_at formats.Two) last_string_at))
+behind_word_at word Of_name = made_at (λ v. defined word v.1) (then_at becomes_at (sum_at (special_at formats.Two 64)))
+
+unfoldable pub statement_word_at : List ℕ → Reader Stated
+statement_word_at word = behind_word_at word (kind_of word)
+
+unfoldable pub value_line_at : Reader Stated
+value_line_at = made_at (λ v. asking (asked_of value v.1.1)) (then_at (this_word_at (codes "value")) (then_at gap_at (sum_at (special_at formats.Two 64))))
+
+unfoldable pub statement_at : Reader Stated
+statement_at = or_at (only 118) value_line_at (telling_at lettered_at statement_word_at)
+
+unfoldable pub line_two_at : Reader Stated
+line_two_at = made_at (λ v. v.1) (then_at blanks_at statement_at)
+
+-- the whole line of format 2
+unfoldable pub read_two_at : List ℕ → Result Stated ℕ
+read_two_at text = whole_at line_two_at text

@@ -1,0 +1,38 @@
+//! Laws of the grammar, for all lines. A call puts its law into the caller's facts.
+ghost use Rattle.std.specs.Prelude.{◌≡◌, ◌≤◌, ◌⊎◌, ℕ, List, false};
+ghost use Rattle.cg_query.specs.Tree.{Question, Statement};
+ghost use Rattle.cg_query.specs.declared.format.Format.TheVariants as formats;
+ghost use Rattle.cg_grammar.specs.Braces.{Run_side, part_of};
+ghost use Rattle.cg_grammar.specs.Formats.{ReadsIn, IsColumnIn};
+ghost use Rattle.cg_grammar.specs.Found.{Found};
+ghost use Rattle.cg_grammar.specs.Lines.{is_blank_line, IsColumn, IsComment, Reads};
+ghost use Rattle.cg_grammar.specs.Splitting.{AllWithin, IsSplit, IsWithoutRepeats};
+
+/// No line reads as two questions, no blank line and no comment as one, and each line as one, or as none. A line that
+/// reads as none has exactly one column.
+pub fn one_query()
+    ensures unique { (line : List ℕ) (p q : Question) → Reads line p → Reads line q → p ≡ q }
+    ensures not_blank { (line : List ℕ) (q : Question) → Reads line q → is_blank_line line ≡ false }
+    ensures not_comment { (line : List ℕ) (q : Question) → Reads line q → ¬ IsComment line }
+    ensures decided { (line : List ℕ) → ((q : Question) × Reads line q) ⊎ (((q : Question) → ¬ Reads line q)
+        × ((c : ℕ) × IsColumn line c)) }
+    ensures one_column { (line : List ℕ) (c d : ℕ) → IsColumn line c → IsColumn line d → c ≡ d }
+{}
+
+/// No line of format 2 states two things, no blank line and no comment states anything, and each line states one thing, or
+/// none. A line that states nothing has exactly one column.
+pub fn one_statement()
+    ensures unique { (line : List ℕ) (s t : Statement) → ReadsIn formats.Two line s → ReadsIn formats.Two line t → s ≡ t }
+    ensures not_blank { (line : List ℕ) (s : Statement) → ReadsIn formats.Two line s → is_blank_line line ≡ false }
+    ensures not_comment { (line : List ℕ) (s : Statement) → ReadsIn formats.Two line s → ¬ IsComment line }
+    ensures decided { (line : List ℕ) → ((s : Statement) × ReadsIn formats.Two line s)
+        ⊎ (((s : Statement) → ¬ ReadsIn formats.Two line s) × ((c : ℕ) × IsColumnIn formats.Two line c)) }
+    ensures one_column { (line : List ℕ) (c d : ℕ) → IsColumnIn formats.Two line c → IsColumnIn formats.Two line d → c ≡ d }
+{}
+
+/// A brace is split at its longest run of bars, and so is each of its sides: where runs have one bar to eight, and none
+/// repeats an earlier one, the options that the grammar gives a row are those of splitting at the longest run.
+pub fn longest_run()
+    ensures { (side : List Found) (rows : List Run_side) → AllWithin 8 rows → IsWithoutRepeats rows
+        → IsSplit side rows (part_of 8 side rows) }
+{}

@@ -1,0 +1,3 @@
+pub mod TreeOf
+pub mod Walk
+pub mod Heights

@@ -1,0 +1,7 @@
+use Rattle.std.proofs.Common.{sym, refl}
+use Rattle.cg_query.specs.Trees.{terms_in}
+use Rattle.cg_query.proofs.TreeOf.{empty_exactly}
+use Rattle.cg_query.proofs.expr.Terms.is_empty.Goals as goal
+
+pub returns : goal.returns
+returns c = empty_exactly (terms_in c.args.self.now) c.len.result _ refl (sym c.len.ensures)

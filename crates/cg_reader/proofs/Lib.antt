@@ -1,0 +1,9 @@
+pub mod Cutting
+pub mod Lettered
+pub mod BarRuns
+pub mod More
+pub mod SoundSides
+pub mod Special
+pub mod OneRun
+pub mod LineAnswers
+pub mod StatementAnswers

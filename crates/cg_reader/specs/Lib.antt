@@ -1,0 +1,5 @@
+pub mod Views
+pub mod Questions
+pub mod Statements
+pub mod Cuts
+pub mod Answered

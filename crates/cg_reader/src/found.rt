@@ -1,0 +1,47 @@
+//! What was read of expressions and questions.
+use cg_query::{Expr, Query, Statement};
+
+/// An expression, and the column of the first run of bars in it that repeats an earlier one.
+#[derive(Debug, Drop)]
+pub struct Found {
+    pub expr: Expr,
+    pub fault: Option<u64>,
+}
+
+/// The expressions of a side of braces, in the order of the text.
+#[derive(Debug, Drop)]
+pub enum Side {
+    /// No run of bars in them repeats an earlier one.
+    Sound(Vec<Expr>),
+    /// Each with the first fault in it, if there is one.
+    Faulty(Vec<Found>),
+}
+
+/// A run of bars, with its column, and the side behind it.
+#[derive(Debug, Drop)]
+pub struct Row {
+    pub column: u64,
+    pub bars: u64,
+    pub side: Side,
+}
+
+/// The rows of braces: the first, and those behind it.
+#[derive(Debug, Drop)]
+pub struct Rows {
+    pub first: Row,
+    pub more: Vec<Row>,
+}
+
+/// A query, and the first such column in its text.
+#[derive(Debug, Drop)]
+pub struct Asked {
+    pub query: Query,
+    pub fault: Option<u64>,
+}
+
+/// What a line states, and the first such column in its text.
+#[derive(Debug, Drop)]
+pub struct Stated {
+    pub statement: Statement,
+    pub fault: Option<u64>,
+}

@@ -1,0 +1,24 @@
+//! Reading lines: `read_line` tells what a line of format 1 asks, and `read_statement` what a line of format 2 asks or
+//! defines, by the grammar of `cg_grammar`; or each gives the column at which the line leaves it.
+//!
+//! There is a function for each production. It reads from the front of the bytes, and gives the value that was read with
+//! what is left behind it.
+#![tactic(auto)]
+
+mod arrows;
+mod bars;
+mod boards;
+mod build;
+mod faults;
+mod found;
+mod line;
+mod named;
+mod names;
+mod questions;
+mod sides;
+mod split;
+mod statements;
+mod terms;
+
+pub use line::read_line;
+pub use statements::read_statement;

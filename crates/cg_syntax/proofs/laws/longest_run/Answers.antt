@@ -1,5 +1,0 @@
-use Rattle.cg_syntax.proofs.LongestRun.{longest_first}
-use Rattle.cg_syntax.proofs.laws.longest_run.Goals as goal
-
-pub returns : goal.returns
-returns c = longest_first

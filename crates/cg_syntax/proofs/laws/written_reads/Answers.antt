@@ -1,6 +1,0 @@
-use Rattle.cg_syntax.proofs.Writable.{line_writable}
-use Rattle.cg_syntax.proofs.WrittenReads.{question_reads}
-use Rattle.cg_syntax.proofs.laws.written_reads.Goals as goal
-
-pub returns : goal.returns
-returns c line q m l = question_reads q (line_writable line q m) l

@@ -1,0 +1,3 @@
+pub mod Drawing
+mod KeptGames
+pub mod Stacks

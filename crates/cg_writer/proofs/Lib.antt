@@ -1,0 +1,9 @@
+pub mod WrittenBoards
+pub mod WrittenLists
+pub mod WrittenParts
+pub mod WrittenTrees
+pub mod WrittenReads
+pub mod WritableTerms
+pub mod Writable
+pub mod WrittenSteps
+pub mod WrittenBytes

@@ -1,0 +1,2 @@
+" Sessions of cg. Vim takes *.cg for Cg shaders otherwise.
+autocmd BufNewFile,BufRead *.cg set filetype=cgsession
