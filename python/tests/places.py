@@ -46,7 +46,7 @@ def run(
         capture_output=True,
         cwd=folder,
         env=environment(**(changes or {})),
-        timeout=120,
+        timeout=300,
         check=False,
     )
     return done.returncode, done.stdout.decode(), done.stderr.decode()

@@ -37,7 +37,7 @@ class Terminal:
 
     def read(self, wanted: str = PROMPT) -> str:
         """What is shown up to the next place where it ends with the wanted text, without that."""
-        shown, end = "", time.monotonic() + 30
+        shown, end = "", time.monotonic() + 300
         while not shown.endswith(wanted) and time.monotonic() < end:
             if select.select([self.handle], [], [], 1)[0]:
                 try:
@@ -60,7 +60,7 @@ class Terminal:
 
     def status(self, number: int = 0) -> int:
         """The status at the end, which comes soon, where a signal is sent until it does."""
-        for _ in range(300):
+        for _ in range(3_000):
             os.kill(self.process, number)
             ended, status = os.waitpid(self.process, os.WNOHANG)
             if ended:
@@ -160,7 +160,7 @@ class AtATerminal(unittest.TestCase):
             self.assertRegex(terminal.ask("value 1"), f"^cg ended with status {status}: {told}\n$")
 
     def test_a_question_is_stopped(self) -> None:
-        script = 'echo $$ > "$0.process"; exec sleep 60'
+        script = 'echo $$ > "$0.process"; exec sleep 1000'
         terminal = self.terminal(CG=program(self.folder, script))
         terminal.type("value 1\n")
         terminal.read("value 1\n")

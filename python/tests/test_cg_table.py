@@ -4,10 +4,10 @@ from __future__ import annotations
 import io
 import os
 import pty
+import select
 import signal
 import subprocess
 import tempfile
-import time
 import unittest
 from pathlib import Path
 from contextlib import redirect_stderr, redirect_stdout
@@ -108,7 +108,7 @@ class Tables(unittest.TestCase):
             stdout=subprocess.PIPE,
             stderr=there,
             env=environment(),
-            timeout=60,
+            timeout=300,
             check=False,
         )
         shown = os.read(here, 10_000).decode()
@@ -121,7 +121,7 @@ class Tables(unittest.TestCase):
     def test_aligned_columns_at_a_terminal(self) -> None:
         here, there = pty.openpty()
         words = [*command("cg-table"), "mean {columns}", "--columns", "9-10"]
-        done = subprocess.run(words, stdout=there, env=environment(), timeout=60, check=False)
+        done = subprocess.run(words, stdout=there, env=environment(), timeout=300, check=False)
         shown = os.read(here, 10_000).decode()
         os.close(here)
         os.close(there)
@@ -202,7 +202,7 @@ class BadUse(unittest.TestCase):
         running.stdout.close()
         told = running.stderr.read().decode()
         running.stderr.close()
-        self.assertEqual((running.wait(60), told), (4, "cg-table: writing failed: Broken pipe\n"))
+        self.assertEqual((running.wait(300), told), (4, "cg-table: writing failed: Broken pipe\n"))
 
 
 class Stopping(unittest.TestCase):
@@ -214,7 +214,7 @@ class Stopping(unittest.TestCase):
         self.folder = Path(holder.name)
         self.table = self.folder / "table"
         self.part = self.folder / "table.part"
-        slow = 'echo $$ >> "$0.runs"; [ $(wc -l < "$0.runs") -le 3 ] || exec sleep 60'
+        slow = 'echo $$ >> "$0.runs"; [ $(wc -l < "$0.runs") -le 3 ] || exec sleep 1000'
         slow += '; exec "$REAL" "$@"'
         self.slow = program(self.folder, slow)
         self.runs = self.folder / "program.runs"
@@ -223,21 +223,37 @@ class Stopping(unittest.TestCase):
 
     def stopped(self, words: Sequence[str], number: int) -> tuple[int, str, str]:
         """Starts the command with the slow program, and sends a signal when three runs are done."""
+        here, there = pty.openpty()
         running = subprocess.Popen(
             [*command("cg-table"), *words],
             stdout=subprocess.PIPE,
-            stderr=subprocess.PIPE,
+            stderr=there,
             env=environment(CG=self.slow),
         )
-        end = time.monotonic() + 60
-        while time.monotonic() < end and (
-            not self.runs.exists() or self.runs.read_text().count("\n") < 4
-        ):
-            time.sleep(0.02)
-        time.sleep(0.2)
+        os.close(there)
+        shown = ""
+        while running.poll() is None and not ("6 of 16" in shown and self.count_runs() == 4):
+            shown += self.shown(here)
         running.send_signal(number)
-        written, told = running.communicate(timeout=60)
-        return running.returncode, written.decode(), told.decode()
+        written, _ = running.communicate(timeout=300)
+        while more := self.shown(here):
+            shown += more
+        os.close(here)
+        told = shown.replace("\r\n", "\n").split("\r\033[K")[-1]
+        return running.returncode, written.decode(), told
+
+    def count_runs(self) -> int:
+        """How many runs of the slow program have begun."""
+        return self.runs.read_text().count("\n") if self.runs.exists() else 0
+
+    def shown(self, handle: int) -> str:
+        """What is shown at a pseudo-terminal within a tenth of a second; nothing at its end."""
+        try:
+            return (
+                os.read(handle, 1_000).decode() if select.select([handle], [], [], 0.1)[0] else ""
+            )
+        except OSError:
+            return ""
 
     def gone(self, process: int) -> bool:
         """Whether a process has ended."""

@@ -119,7 +119,7 @@ def vim_groups(path: Path) -> tuple[str, list[list[str]]]:
             """
         )
         words = ["vim", "-N", "-u", "NONE", "-i", "NONE", "-n", "-es", "-S", str(script)]
-        subprocess.run(words, stdin=subprocess.DEVNULL, timeout=60, check=True)
+        subprocess.run(words, stdin=subprocess.DEVNULL, timeout=300, check=True)
         kind, *lines = written.read_text().split("\n")[:-1]
     return kind, [line.split(",") if line else [] for line in lines]
 

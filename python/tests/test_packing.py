@@ -61,7 +61,7 @@ class Packing(unittest.TestCase):
             env=environment(),
             capture_output=True,
             check=True,
-            timeout=120,
+            timeout=300,
         )
         self.assertEqual(sorted(os.listdir(ROOT / "python")), before)
         done = subprocess.run(

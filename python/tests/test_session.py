@@ -221,12 +221,12 @@ class Stopping(unittest.TestCase):
 
     def test_closing_the_replies_ends_the_runs(self) -> None:
         with tempfile.TemporaryDirectory() as folder:
-            slow = 'read mark; read line; case $line in *2) exec sleep 60;; esac; echo "2: 1"'
+            slow = 'read mark; read line; case $line in *2) exec sleep 1000;; esac; echo "2: 1"'
             session = Session(share=10, cells=10, processes=2, program=program(Path(folder), slow))
             threads = threading.active_count()
             replies = session.replies(["value 1", "value 2", "value 2"])
             began = time.monotonic()
             self.assertEqual(next(replies), Value("1"))
             del replies
-            self.assertLess(time.monotonic() - began, 30)
+            self.assertLess(time.monotonic() - began, 900)
             self.assertEqual(threading.active_count(), threads)
