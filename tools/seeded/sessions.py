@@ -6,7 +6,7 @@ from reference.grammar import read_line
 from reference.items import Meter, Refused
 from reference.boards import Fault
 
-from .positions import GAMES, many_rules, octal, position, spoiled
+from .positions import GAMES, many_rules, octal, position, sized, spoiled
 from .texts import FAR, GREATEST, NUMBERS, expression, halving, question, simple, special, term
 
 LIMIT = 160
@@ -110,7 +110,7 @@ def broken_lines(dice):
 def broken_positions(dice):
     """Positions with a byte of their texts changed."""
     game = dice.choice(GAMES + ("Octal",))
-    lines = ["value " + spoiled(dice, game) for _ in range(5)] + ["value " + many_rules(dice)]
+    lines = ["value " + spoiled(dice, game) for _ in range(5)] + ["value " + dice.choice([many_rules, sized])(dice)]
     lines.append("value {1/3," + spoiled(dice, game) + "|" + spoiled(dice, dice.choice(GAMES)) + "}")
     return [(words(len(lines) * 2000, 60), "\n".join(lines) + "\n")]
 
