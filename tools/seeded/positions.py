@@ -61,6 +61,34 @@ def sparse(dice, game):
     return board(cells)
 
 
+def bent(dice, game):
+    """A board of Domineering or Clobber on which a part goes round a corner, with cells of other parts inside its bounding
+    rows and columns that don't touch it."""
+    down, right = dice.choice([(2, 2), (2, 3), (3, 2), (3, 3), (2, 4)])
+    part = [(i, 0) for i in range(down + 1)] + [(down, j) for j in range(1, right + 1)]
+    part += [(i, right) for i in range(down - 1, dice.choice([0, 0, down]), -1)] if right > 2 else []
+    inside = [(i, j) for i in range(down + 1) for j in range(right + 1)]
+    apart = [(i, j) for i, j in inside if all(abs(i - a) + abs(j - b) > 1 for a, b in part)]
+    live, blank = (".", "#") if game == "Domineering" else (dice.choice(["xxxo", "xo", "ooox"]), ".")
+    rows, columns = dice.choice([(down + 1, right + 1), (8, 8), (5, 9), (4, 7), (down + 1, 12), (9, right + 1)])
+    up, over = dice.choice([0, max(rows - down - 1, 0)]), dice.choice([0, max(columns - right - 1, 0)])
+    turned, mirrored = dice.random() < 0.5, dice.random() < 0.5
+    cells = [[blank] * max(columns, right + 1) for _ in range(max(rows, down + 1))]
+    for i, j in part + [place for place in apart if dice.random() < 0.8]:
+        cells[up + (down - i if turned else i)][over + (right - j if mirrored else j)] = dice.choice(live)
+    return board(cells)
+
+
+def sized(dice):
+    """A board of about as many cells as there may be."""
+    game = dice.choice(list(GRIDS))
+    rows, columns = dice.choice([(1, 64), (1, 65), (5, 13), (13, 5), (65, 1), (8, 8), (8, 9), (9, 8), (66, 1)])
+    if game == "Toads":
+        rows, columns = 1, dice.choice([63, 64, 65, 66])
+    cells = [["#" if game in ("Domineering", "Amazons") else "."] * columns for _ in range(rows)]
+    return f'{game}("{board(cells)}")'
+
+
 def light_rules(dice):
     """Rules whose weights are small, so that they lower the sum by little or not at all."""
     symbols = dice.choice([".x", ".xo", "abc"])
@@ -127,6 +155,8 @@ def position(dice, game=None, wide=False):
         texts = (drawing(dice, wide),)
     elif game in ("Col", "Snort"):
         texts = graph(dice, wide)
+    elif wide and game in ("Domineering", "Clobber") and dice.random() < 0.5:
+        texts = (bent(dice, game),)
     else:
         texts = ((sparse if wide else small)(dice, game),)
     return game + "(" + ",".join(f'"{text}"' for text in texts) + ")"

@@ -6,8 +6,8 @@ from reference.grammar import read_line
 from reference.items import Meter, Refused
 from reference.boards import Fault
 
-from .positions import GAMES, many_rules, octal, position, spoiled
-from .texts import FAR, NUMBERS, expression, halving, question, simple, special, term
+from .positions import GAMES, many_rules, octal, position, sized, spoiled
+from .texts import FAR, GREATEST, NUMBERS, expression, halving, question, simple, special, term
 
 LIMIT = 160
 GOOD = (
@@ -86,9 +86,10 @@ def exact_positions(dice):
 def exact_expressions(dice):
     """An expression at its limits, some of them on numbers that are just in range or just narrow."""
     if dice.random() < 0.3:
-        one, two = dice.choice(FAR), dice.choice(FAR + NUMBERS)
-        shapes = ["{0}", "{0} - {1}", "{{{0}|-{1}}}", "{{{0}|{1}}} + {{2|-1}}", "2.{{{1}|-{0}}}^", "{0}* + {1}"]
-        return at_its_limits("value " + dice.choice(shapes).format(one, two))
+        one, two = dice.choice(FAR + GREATEST * 8), dice.choice(FAR + NUMBERS + NUMBERS)
+        game = dice.choice(["{0}", "{0} - {1}", "{0}* + {1}", "{{{0}|-{1}}}", "2.{{{1}|-{0}}}^", "{{{1}|-{0}}} + {{2|-1}}",
+                            "{{2|-1}} - {{{0}||{1}|-2}}", "{{3|1||-1}} + {{{1}||{1}|-{0}}}", "- {{{0}||*|-{1}}} + {{1|*}}"])
+        return at_its_limits("value " + game.format(one, two))
     return at_its_limits("value " + dice.choice([term, special, expression])(dice, 1))
 
 
@@ -109,7 +110,7 @@ def broken_lines(dice):
 def broken_positions(dice):
     """Positions with a byte of their texts changed."""
     game = dice.choice(GAMES + ("Octal",))
-    lines = ["value " + spoiled(dice, game) for _ in range(5)] + ["value " + many_rules(dice)]
+    lines = ["value " + spoiled(dice, game) for _ in range(5)] + ["value " + dice.choice([many_rules, sized])(dice)]
     lines.append("value {1/3," + spoiled(dice, game) + "|" + spoiled(dice, dice.choice(GAMES)) + "}")
     return [(words(len(lines) * 2000, 60), "\n".join(lines) + "\n")]
 
