@@ -8,7 +8,7 @@ pub returns-clause-some : goal.returns-clause-some
 returns-clause-some c = λ s text.
     let (lines, is_session) = c.one_session.ensures.some text in
     let (output, is_output) = IsOutputOf-some (share_of s.cells (length lines)) s.positions
-        (λ q. c.one_reply_to.ensures.some (share_of s.cells (length lines)) s.positions q) lines in
+    (λ q. c.one_reply_to.ensures.some (share_of s.cells (length lines)) s.positions q) lines in
     (_, record { lines = lines; is_session = is_session; output = output; is_output = is_output; same = refl })
 
 pub returns-clause-unique : goal.returns-clause-unique
