@@ -111,4 +111,4 @@ IsOutputOf-some share positions some [] = (nothing, refl)
 IsOutputOf-some share positions some (line ∷ lines) =
     let (reply, is_reply) = some_reply share positions some line.1 in
     let (rest, is_rest) = IsOutputOf-some share positions some lines in
-    (_, reply, rest, is_reply, is_rest, refl)
+    (_, (reply, rest, is_reply, is_rest, refl))
