@@ -159,10 +159,12 @@ def certificates(dice):
     asked = f"{first} ; {second}"
     lines = [f"proof {asked}", f"proof {second} ; {first}", f'check {asked} ; ""']
     stated, _ = read_line("compare " + asked, 1)
-    try:
-        text = prove(*(Meter(20000, LIMIT).value(one) for one in stated[1])).partition(" ")[2]
-    except (Fault, Refused, Long):
-        text = "(g0.)"
+    text = "(g0.)"
+    if stated:
+        try:
+            text = prove(*(Meter(20000, LIMIT).value(one) for one in stated[1])).partition(" ")[2]
+        except (Fault, Refused, Long):
+            pass
     for at in sorted(dice.sample(range(len(text) + 1), min(len(text) + 1, 7))):
         odd = dice.choice("gh01.()x")
         lines += [f'check {asked} ; "{changed}"' for changed in (text[:at] + odd + text[at + 1 :], text[:at] + text[at + 1 :])]
