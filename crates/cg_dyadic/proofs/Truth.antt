@@ -51,10 +51,6 @@ and_swap true false = refl
 and_swap false true = refl
 and_swap false false = refl
 
-pub or_false : (a b : Bool) → (a || b) ≡ false → (a ≡ false) × (b ≡ false)
-or_false true b h = absurd (cc)
-or_false false b h = (refl, h)
-
 -- ---- numbers in order
 
 pub nat_lt-less : (m n : ℕ) → nat_lt m n ≡ true → m < n
