@@ -3,7 +3,7 @@ use Rattle.std.proofs.Common.{◌≡◌, refl, ℕ, ◌+◌, ◌-◌, ◌%◌, �
 use Rattle.std.proofs.lemmas.Int.{ints}
 use Rattle.std.specs.Prelude.{Option, Some, None, if◌then◌else◌}
 use lib.Signed.{lt_z}
-use Rattle.cg_dyadic.specs.Number.{Number, between, exp_of, half, is_even, num_of, ratio, whole}
+use Rattle.cg_dyadic.specs.Number.{Number, between, half, is_even, ratio, whole}
 use Rattle.cg_dyadic.specs.Search.{AtLeast, AtMost, AtScale, Coarsest, FoundAt, coarse_high, coarse_low, crossed, half_of_high, half_of_low, high_at, low_at, nearest}
 use Rattle.cg_dyadic.specs.Simplest.{NoOptionPasses}
 use Rattle.cg_dyadic.specs.Units.{units}

@@ -4,7 +4,7 @@ use Rattle.std.proofs.lemmas.Int.{ints}
 use Rattle.std.specs.Prelude.{Option, Some, None, IfSome, IsNone}
 use lib.Signed.{lt_z}
 use Rattle.cg_dyadic.specs.declared.fault.RangeFault.{RangeFault}
-use Rattle.cg_dyadic.specs.Exact.{IsExact, IsFromDigits, IsLowest, IsQuotient, signed_of}
+use Rattle.cg_dyadic.specs.Exact.{IsExact, IsFromDigits, IsLowest, signed_of}
 use Rattle.cg_dyadic.specs.Number.{InRange, IsFraction, Number, exp_of, num_of, ratio}
 use Rattle.cg_dyadic.proofs.Fractions.{abs_signed, fraction-unique, ratio-lowest, same_fraction, sign_and_size}
 use Rattle.cg_dyadic.proofs.Integers.{from_lt_z, not_lt_z}

@@ -1,6 +1,6 @@
 -- Tests and what they tell.
 use Rattle.std.proofs.Common.{◌≡◌, refl, Bool, true, false, not, IsTrue, ◌&&◌, sym, ◌⊎◌, inl, inr, ℕ, ◌<◌, arith}
-use Rattle.std.specs.Prelude.{◌||◌, nat_lt}
+use Rattle.std.specs.Prelude.{nat_lt}
 use Rattle.std.proofs.lemmas.Bool.Decides.{nat_tests}
 
 pub and-split : (b c : Bool) → IsTrue (b && c) → IsTrue b × IsTrue c
