@@ -1,5 +1,5 @@
 -- The stops of a game need no more binary places than its height.
-use Rattle.std.proofs.Common.{◌≡◌, refl, ℕ, ◌<◌, ◌≤◌, arith, zero, suc, Bool, true, false, cond, ap, sym, ◌∙◌, subst, inl, inr, List, [], ◌∷◌, map, ℤ, pos, ◌+ℤ◌}
+use Rattle.std.proofs.Common.{◌≡◌, refl, ℕ, ◌<◌, ◌≤◌, arith, zero, suc, Bool, true, false, cond, ap, subst, inl, inr, List, [], ◌∷◌, map, ℤ, pos, ◌+ℤ◌}
 use Rattle.std.proofs.lemmas.Int.{ints}
 use Rattle.cg_dyadic.specs.Number.{AmongNumbers, Number, NumberLe, between, exp_of, number_le, number_lefts, number_rights, ratio, weight, whole}
 use Rattle.cg_dyadic.proofs.Integers.{le_or_gt}

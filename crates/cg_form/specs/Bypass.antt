@@ -1,5 +1,5 @@
 -- Options that are bypassed: what may stand in the place of an option.
-use Rattle.std.specs.Prelude.{Bool, ◌⊎◌, ◌≡◌, List}
+use Rattle.std.specs.Prelude.{◌⊎◌, ◌≡◌, List}
 use Rattle.cg_dyadic.specs.Number.{Number}
 use Rattle.cg_form.specs.Best.{Best}
 use Rattle.cg_form.specs.Canonical.{Canonical}

@@ -1,5 +1,5 @@
 -- What is known of a game once its canonical form is found.
-use Rattle.std.specs.Prelude.{Bool, List}
+use Rattle.std.specs.Prelude.{List}
 use Rattle.cg_dyadic.specs.declared.cut.Cut.{Cut}
 use Rattle.cg_form.specs.Canonical.{Canonical, IsCanonicalForm}
 use Rattle.cg_form.specs.Cut.{AnyNumber, CutIs}
