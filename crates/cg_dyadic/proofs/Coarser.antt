@@ -1,9 +1,9 @@
 -- The search at a scale, one scale coarser, and at the coarsest scale at which a unit lies between the ends.
-use Rattle.std.proofs.Common.{◌≡◌, refl, ℕ, ◌+◌, ◌-◌, ◌<◌, ◌≤◌, arith, zero, suc, Bool, true, false, ap, sym, ◌∙◌, subst, ℤ, pos, negsuc, ◌+ℤ◌, ◌≤ℤ◌, ◌<ℤ◌, ◌⊎◌, inl, inr}
+use Rattle.std.proofs.Common.{◌≡◌, refl, ℕ, ◌+◌, ◌-◌, ◌%◌, ◌<◌, ◌≤◌, arith, zero, suc, Bool, true, false, ap, sym, ◌∙◌, subst, ℤ, pos, negsuc, ◌+ℤ◌, ◌≤ℤ◌, ◌<ℤ◌, unsigned_abs, ◌⊎◌, inl, inr}
 use Rattle.std.proofs.lemmas.Int.{ints}
 use Rattle.std.specs.Prelude.{Option, Some, None, if◌then◌else◌}
 use lib.Signed.{lt_z}
-use Rattle.cg_dyadic.specs.Number.{Number, between, exp_of, half, is_even, num_of, ratio, whole}
+use Rattle.cg_dyadic.specs.Number.{Number, between, half, is_even, ratio, whole}
 use Rattle.cg_dyadic.specs.Search.{AtLeast, AtMost, AtScale, Coarsest, FoundAt, coarse_high, coarse_low, crossed, half_of_high, half_of_low, high_at, low_at, nearest}
 use Rattle.cg_dyadic.specs.Simplest.{NoOptionPasses}
 use Rattle.cg_dyadic.specs.Units.{units}
@@ -115,7 +115,7 @@ whole_simplest a b test (negsuc m) h n = record {
 }
 
 pub found_whole : (a b : Option ℤ) (test : Number → Bool) → crossed a b ≡ false → AtScale 0 a b test → FoundAt test (nearest a b) 0
-found_whole a b test c h = record { num_is = refl; exp_is = refl; simplest = whole_simplest a b test (nearest a b) h (nearest-is a b c) }
+found_whole a b test c h = record { lowest = inl refl; simplest = whole_simplest a b test (nearest a b) h (nearest-is a b c) }
 
 -- ---- an odd number of units
 
@@ -202,10 +202,11 @@ found_between k a b test c d h =
     let s = between_simplest (half m) k a b test m refl h q in
     let P : ℤ → Type 0 = λ z. FoundAt test z (suc k) in
     let S : Number → Type 0 = λ x. NoOptionPasses test x in
-    subst P (sym e) (record { num_is = ap num_of r ∙ q.half_is; exp_is = ap exp_of r ∙ one_more k; simplest = subst S (sym r) s })
+    subst P (sym e) (record { lowest = inr (odd m q.half_is); simplest = subst S (sym r) s })
   where
-    one_more : (k : ℕ) → k + 1 ≡ suc k
-    one_more k = omega arith
+    odd : (m : ℤ) → half m +ℤ half m +ℤ pos 1 ≡ m → unsigned_abs m % 2 ≡ 1
+    odd (pos n) h = omega (arith, ints)
+    odd (negsuc n) h = let g : suc n % 2 ≡ 1 = omega (arith, ints) in g
 
 -- ---- for the code
 

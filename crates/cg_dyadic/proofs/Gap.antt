@@ -11,6 +11,7 @@ use Rattle.cg_dyadic.specs.Number.{InRange, Number, NumberLe, exp_of, num_of, nu
 use Rattle.cg_dyadic.specs.Search.{AtLeast, AtMost, AtScale, FoundAt, ShortCut, Small, SmallAround, crossed, first_unit, last_unit}
 use Rattle.cg_dyadic.specs.Simplest.{NoOptionPasses, NonePasses}
 use Rattle.cg_dyadic.specs.Units.{doubled, units}
+use Rattle.cg_dyadic.proofs.Fractions.{ratio-lowest}
 use Rattle.cg_dyadic.proofs.Integers.{abs_tells, eq_or_lt, from_lt_z}
 use Rattle.cg_dyadic.proofs.Scale.{doubled-le, doubled-mul, le-units, not_le-units, units-le, units-suc}
 use Rattle.cg_dyadic.proofs.Simplest.{Convex, outside_none}
@@ -202,26 +203,31 @@ pub gap_nothing : (low high : Option Cut) (a b : Option ℤ) (r : Bool) → a �
 gap_nothing low high a b r p q s t e f = gap_none low high s t (ap (λ z. crossed z (last_unit high)) (sym p) ∙ ap (λ z. crossed a z) (sym q) ∙ sym e ∙ f)
 
 pub lowest_found : (test : Number → Bool) (n m : ℤ) (e : ℕ) → m ≡ n → FoundAt test n e → unsigned_abs n < 2 ^ 64 → e ≤ 40 → InLowest m e
-lowest_found test n m e p f s t = let P : ℤ → Type 0 = λ z. InLowest z e in
-    subst P (sym p) (record { num_is = f.num_is; exp_is = f.exp_is; small = s; short = t })
+lowest_found test n m e p f s t =
+    let (a, b) = ratio-lowest n e f.lowest in
+    let P : ℤ → Type 0 = λ z. InLowest z e in
+    subst P (sym p) (record { num_is = a; exp_is = b; small = s; short = t })
 
 pub found_inside : (test : Number → Bool) (n m : ℤ) (e : ℕ) → m ≡ n → FoundAt test n e → unsigned_abs n < 2 ^ 64 → e ≤ 40
     → NoOptionPasses test (ratio m e) × InRange (ratio m e)
 found_inside test n m e p f s t =
     let P : ℤ → Type 0 = λ z. NoOptionPasses test (ratio z e) × InRange (ratio z e) in
-    let a : unsigned_abs (num_of (ratio n e)) ≡ unsigned_abs n = ap unsigned_abs f.num_is in
-    let b = f.exp_is in
+    let (a, b) = ratio-lowest n e f.lowest in
+    let c = ap unsigned_abs a in
     subst P (sym p) (f.simplest, record { small = omega arith; short = omega arith })
 
 pub found_outside : (test : Number → Bool) (n : ℤ) (e : ℕ) → FoundAt test n e → ((unsigned_abs n < 2 ^ 64) × (e ≤ 40) → ⊥) → ¬ InRange (ratio n e)
 found_outside test n e f h r =
-    let a : unsigned_abs (num_of (ratio n e)) ≡ unsigned_abs n = ap unsigned_abs f.num_is in
-    let s = r.small in let t = r.short in let p = f.exp_is in
+    let (a, b) = ratio-lowest n e f.lowest in
+    let c = ap unsigned_abs a in
+    let s = r.small in let t = r.short in
     h (omega arith, omega arith)
 
 pub found_held : (test : Number → Bool) (f : RangeFault) → FoundAt test f.num f.exp → ((unsigned_abs f.num < 2 ^ 64) × (f.exp ≤ 40) → ⊥)
     → (x : Number) × Holds f x × NoOptionPasses test x × (¬ InRange x)
-found_held test f is out = (ratio f.num f.exp, record { num = sym is.num_is; exp = sym is.exp_is }, is.simplest, found_outside test f.num f.exp is out)
+found_held test f is out =
+    let (a, b) = ratio-lowest f.num f.exp is.lowest in
+    (ratio f.num f.exp, record { num = sym a; exp = sym b }, is.simplest, found_outside test f.num f.exp is out)
 
 -- ---- between two cuts, in range
 

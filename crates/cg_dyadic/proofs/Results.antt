@@ -4,7 +4,7 @@ use Rattle.std.proofs.lemmas.Int.{ints}
 use Rattle.std.specs.Prelude.{Option, Some, None, IfSome, IsNone}
 use lib.Signed.{lt_z}
 use Rattle.cg_dyadic.specs.declared.fault.RangeFault.{RangeFault}
-use Rattle.cg_dyadic.specs.Exact.{IsExact, IsFromDigits, IsLowest, IsQuotient, signed_of}
+use Rattle.cg_dyadic.specs.Exact.{IsExact, IsFromDigits, IsLowest, signed_of}
 use Rattle.cg_dyadic.specs.Number.{InRange, IsFraction, Number, exp_of, num_of, ratio}
 use Rattle.cg_dyadic.proofs.Fractions.{abs_signed, fraction-unique, ratio-lowest, same_fraction, sign_and_size}
 use Rattle.cg_dyadic.proofs.Integers.{from_lt_z, not_lt_z}
@@ -43,9 +43,3 @@ digits_tell b num den k m e None power same low n f range out = λ x q.
     let P : ℕ → Type 0 = λ i. IsFraction (signed_of b num) i x in
     let is : x ≡ ratio (signed_of b m) e = fraction-unique (signed_of b num) k x (ratio (signed_of b m) e) (subst P j q.value) (same_fraction b num k m e (ratio (signed_of b m) e) same p r) in
     outside b m e x (ap num_of is ∙ p) (ap exp_of is ∙ r) (out refl)
-
--- digits spell one number
-pub quotient-unique : (b : Bool) (num den : ℕ) (x y : Number) → IsQuotient b num den x → IsQuotient b num den y → x ≡ y
-quotient-unique b num den x y q r =
-    let P : ℕ → Type 0 = λ k. IsFraction (signed_of b num) k y in
-    fraction-unique (signed_of b num) q.exp x y q.value (subst P (same_power r.exp q.exp (sym r.power ∙ q.power)) r.value)

@@ -1,6 +1,6 @@
 -- Tests and what they tell.
 use Rattle.std.proofs.Common.{◌≡◌, refl, Bool, true, false, not, IsTrue, ◌&&◌, sym, ◌⊎◌, inl, inr, ℕ, ◌<◌, arith}
-use Rattle.std.specs.Prelude.{◌||◌, nat_lt}
+use Rattle.std.specs.Prelude.{nat_lt}
 use Rattle.std.proofs.lemmas.Bool.Decides.{nat_tests}
 
 pub and-split : (b c : Bool) → IsTrue (b && c) → IsTrue b × IsTrue c
@@ -50,10 +50,6 @@ and_swap true true = refl
 and_swap true false = refl
 and_swap false true = refl
 and_swap false false = refl
-
-pub or_false : (a b : Bool) → (a || b) ≡ false → (a ≡ false) × (b ≡ false)
-or_false true b h = absurd (cc)
-or_false false b h = (refl, h)
 
 -- ---- numbers in order
 

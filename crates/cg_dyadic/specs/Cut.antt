@@ -7,24 +7,26 @@ use Rattle.cg_dyadic.specs.Exact.{Holds}
 use Rattle.cg_dyadic.specs.Number.{InRange, Number, number_le}
 use Rattle.cg_dyadic.specs.Simplest.{NoOptionPasses, NonePasses}
 
--- The two sides of a cut. What is said of the numbers up to a place holds of those from it on with the order turned, so
--- one text serves both: with `true` it speaks of the numbers up to it, with `false` of those from it on.
+-- A player: `true` is Left, to whom the greater is the better, and `false` is Right, to whom the less is the better. What
+-- is said of one player holds of the other with the order turned, so one text serves both, here and in all crates.
+abbrev pub Player : Type 0
+Player = Bool
 
--- the order as the side sees it: x is no better than y
-abbrev pub number_at_most : Bool → Number → Number → Bool
+-- x is no better for the player than y
+abbrev pub number_at_most : Player → Number → Number → Bool
 number_at_most true x y = number_le x y
 number_at_most false x y = number_le y x
 
 -- x is in the cut at p: it is no better than p, and is not p where the cut is open
-abbrev pub within_cut : Bool → Number → Bool → Number → Bool
+abbrev pub within_cut : Player → Number → Bool → Number → Bool
 within_cut s p true x = number_at_most s x p
 within_cut s p false x = not (number_at_most s p x)
 
-abbrev pub in_cut : Bool → Cut → Number → Bool
+abbrev pub in_cut : Player → Cut → Number → Bool
 in_cut s c x = within_cut s c.at c.closed x
 
 -- where there is no cut, no number is in it
-abbrev pub in_some : Bool → Option Cut → Number → Bool
+abbrev pub in_some : Player → Option Cut → Number → Bool
 in_some s None x = false
 in_some s (Some c) x = in_cut s c x
 

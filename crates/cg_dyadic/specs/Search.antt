@@ -1,9 +1,10 @@
 -- The search for the simplest number between two cuts: ends of a gap in units of a scale, and the coarsest scale at
 -- which some unit lies between the ends.
-use Rattle.std.specs.Prelude.{pos, neg_ℤ, ◌^◌, if◌then◌else◌, ℕ, ℤ, Bool, true, false, ◌≡◌, ◌≤◌, ◌<◌, ◌-◌, zero, suc, IsTrue, Option, Some, None, ◌+ℤ◌, ◌-ℤ◌}
+use Rattle.std.specs.Prelude.{pos, neg_ℤ, ◌^◌, if◌then◌else◌, ℕ, ℤ, Bool, true, false, ◌≡◌, ◌≤◌, ◌<◌, ◌-◌, zero, suc, IsTrue, unsigned_abs, Option, Some, None, ◌+ℤ◌, ◌-ℤ◌}
 use lib.Signed.{◌≤ℤ◌, lt_z}
 use Rattle.cg_dyadic.specs.declared.cut.Cut.{Cut}
-use Rattle.cg_dyadic.specs.Number.{Number, exp_of, half, num_of, ratio}
+use Rattle.cg_dyadic.specs.Exact.{IsLowest}
+use Rattle.cg_dyadic.specs.Number.{Number, exp_of, half, ratio}
 use Rattle.cg_dyadic.specs.Simplest.{NoOptionPasses}
 use Rattle.cg_dyadic.specs.Units.{units}
 
@@ -23,8 +24,7 @@ pub record AtScale (s : ℕ) (a b : Option ℤ) (test : Number → Bool) : Type 
 
 -- n / 2 ^ e is in lowest terms, and passes the test while no option of it does
 pub record FoundAt (test : Number → Bool) (n : ℤ) (e : ℕ) : Type 0 where
-  pub num_is : num_of (ratio n e) ≡ n
-  pub exp_is : exp_of (ratio n e) ≡ e
+  pub lowest : IsLowest (unsigned_abs n) e
   pub simplest : NoOptionPasses test (ratio n e)
 
 -- from -2 ^ 110 to 2 ^ 110

@@ -1,5 +1,5 @@
 //! Sums, halves and negatives: each is exact, or refused with the exact result.
-ghost use Rattle.std.specs.Prelude.{◌≡◌, ◌+◌, ◌*◌, ◌^◌, ◌<◌, ◌≤◌, ◌+ℤ◌, ◌*ℤ◌, pos, neg_ℤ, cond, unsigned_abs, IfSome, IsNone};
+ghost use Rattle.std.specs.Prelude.{◌≡◌, ◌+◌, ◌*◌, ◌^◌, ◌<◌, ◌≤◌, ◌+ℤ◌, ◌*ℤ◌, pos, neg_ℤ, if◌then◌else◌, unsigned_abs, IfSome, IsNone};
 ghost use Rattle.cg_dyadic.specs.Number.{num_of, exp_of, ratio, InRange};
 ghost use Rattle.cg_dyadic.specs.Exact.{IsExact, IsLowest, IsNegative, signed_of, sum_num};
 
@@ -84,7 +84,7 @@ pub(crate) fn in_range(is_negative: bool, size: u128, exp: u8) -> Option<Dyadic>
 
 /// The number of this sign and size.
 pub(crate) fn signed(is_negative: bool, size: u128) -> i128
-    requires { size + cond is_negative 0 1 ≤ 2 ^ 127 }
+    requires { size + (if is_negative then 0 else 1) ≤ 2 ^ 127 }
     ensures { result ≡ signed_of is_negative size }
 {
     if is_negative && size > 0 {

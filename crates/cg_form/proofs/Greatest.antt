@@ -2,7 +2,15 @@
 use Rattle.std.proofs.Common.{◌≡◌, refl, arith, inl, inr, ap, ◌∙◌, List, [], ◌∷◌, map, ℤ, pos, ◌+ℤ◌, ◌≤ℤ◌}
 use Rattle.std.proofs.lemmas.Int.{ints}
 use Rattle.cg_form.specs.Game.{Among, Game}
-use Rattle.cg_form.specs.Walls.{greater, greatest, least, less}
+use lib.Signed.{le_z}
+use Rattle.cg_form.specs.Greatest.{greater_by}
+use Rattle.cg_form.specs.Walls.{greatest, least}
+
+abbrev greater : ℤ → ℤ → ℤ
+greater a b = greater_by le_z a b
+
+abbrev less : ℤ → ℤ → ℤ
+less a b = greater_by (λ x y. le_z y x) a b
 
 -- ---- bounds
 

@@ -1,5 +1,5 @@
 -- The stops of a game need no more binary places than its height.
-use Rattle.std.proofs.Common.{◌≡◌, refl, ℕ, ◌<◌, ◌≤◌, arith, zero, suc, ap, sym, ◌∙◌, subst, inl, inr, List, [], ◌∷◌, map, ℤ, pos, ◌+ℤ◌}
+use Rattle.std.proofs.Common.{◌≡◌, refl, ℕ, ◌<◌, ◌≤◌, arith, zero, suc, Bool, true, false, cond, ap, subst, inl, inr, List, [], ◌∷◌, map, ℤ, pos, ◌+ℤ◌}
 use Rattle.std.proofs.lemmas.Int.{ints}
 use Rattle.cg_dyadic.specs.Number.{AmongNumbers, Number, NumberLe, between, exp_of, number_le, number_lefts, number_rights, ratio, weight, whole}
 use Rattle.cg_dyadic.proofs.Integers.{le_or_gt}
@@ -7,6 +7,7 @@ use Rattle.cg_dyadic.proofs.Scale.{exp-ratio, le-units, units-between, units-lef
 use Rattle.cg_dyadic.proofs.Truth.{differ, true-or-not}
 use Rattle.cg_dyadic.proofs.Values.{left-le_number, right-le_number}
 use Rattle.cg_form.specs.Game.{Among, Game, Games, lefts, more, none, number, options, rights, to_list}
+use Rattle.cg_form.specs.Greatest.{greatest_by}
 use Rattle.cg_form.specs.Heights.{height, highest}
 use Rattle.cg_form.specs.Order.{Equal, le}
 use Rattle.cg_form.specs.Simple.{Decided, Decides, NoNumber}
@@ -17,7 +18,7 @@ use Rattle.cg_form.proofs.Order.{all-or-some}
 use Rattle.cg_form.proofs.Preorder.{equal_refl, le_refl, le_trans}
 use Rattle.cg_form.proofs.Simplicity.{Simplest, equal-fits, one_number, simplest-equal, simplest_within}
 use Rattle.cg_form.proofs.Size.{size-lefts, size-rights}
-use Rattle.cg_form.proofs.StopValues.{bottom_of, stops-are, stops_within-are, top_of}
+use Rattle.cg_form.proofs.StopValues.{stops-are, stops_within-are}
 use Rattle.cg_form.proofs.Stops.{LeftStop, RightStop}
 
 height-list : (gs : Games) (a : Game) → Among a (to_list gs) → height a ≤ highest gs
@@ -133,31 +134,18 @@ pub record LowStops (g : Game) (s : Stops) : Type 0 where
   pub left : exp_of s.left ≤ height g
   pub right : exp_of s.right ≤ height g
 
-low_left : (g : Game) (f : Game → Number) (gs : List Game) → NoNumber g → lefts g ≡ gs
-    → ((a : Game) → Among a (lefts g) → exp_of (f a) ≤ height a) → exp_of (greatest_number (map f (lefts g))) ≤ height g
-low_left g f [] n e h = let s : exp_of (greatest_number (map f (lefts g))) ≡ 0 = ap
-    (λ z. exp_of (greatest_number (map f z))) e in omega arith
-low_left g f (a ∷ gs) n e h =
-    let t = top_of f a gs in
-    let P : List Game → Type 0 = λ z. Among t.at z in
-    let m : Among t.at (lefts g) = subst P (sym e) t.there in
-    let u = h t.at m in let v = height-left g t.at n m in
-    let s : exp_of (greatest_number (map f (lefts g))) ≡ exp_of (f t.at) = ap
-    (λ z. exp_of (greatest_number (map f z))) e ∙ ap exp_of t.is in
-    omega arith
-
-low_right : (g : Game) (f : Game → Number) (gs : List Game) → NoNumber g → rights g ≡ gs
-    → ((a : Game) → Among a (rights g) → exp_of (f a) ≤ height a) → exp_of (least_number (map f (rights g))) ≤ height g
-low_right g f [] n e h = let s : exp_of (least_number (map f (rights g))) ≡ 0 = ap
-    (λ z. exp_of (least_number (map f z))) e in omega arith
-low_right g f (a ∷ gs) n e h =
-    let t = bottom_of f a gs in
-    let P : List Game → Type 0 = λ z. Among t.at z in
-    let m : Among t.at (rights g) = subst P (sym e) t.there in
-    let u = h t.at m in let v = height-right g t.at n m in
-    let s : exp_of (least_number (map f (rights g))) ≡ exp_of (f t.at) = ap (λ z. exp_of (least_number (map f z))) e
-    ∙ ap exp_of t.is in
-    omega arith
+-- the greatest of some numbers needs no more places than they
+pub short_greatest : (le : Number → Number → Bool) (s : ℕ) (f : Game → Number) (gs : List Game)
+    → ((a : Game) → Among a gs → exp_of (f a) ≤ s) → exp_of (greatest_by le (whole (pos 0)) (map f gs)) ≤ s
+short_greatest le s f [] h = omega arith
+short_greatest le s f (g ∷ []) h = h g (inl refl)
+short_greatest le s f (g ∷ (i ∷ is)) h =
+    let q : Number = greatest_by le (whole (pos 0)) (map f (i ∷ is)) in
+    either (le (f g) q) q (f g) (short_greatest le s f (i ∷ is) (λ a m. h a (inr m))) (h g (inl refl))
+  where
+    either : (b : Bool) (x y : Number) → exp_of x ≤ s → exp_of y ≤ s → exp_of (cond b x y) ≤ s
+    either true x y p q = p
+    either false x y p q = q
 
 pub low_from : (g : Game) (c : Decided g) (f h : Game → Number)
     → ((a : Game) → Among a (lefts g) → RightStop a (f a) × (exp_of (f a) ≤ height a))
@@ -169,8 +157,10 @@ pub low_from : (g : Game) (c : Decided g) (f h : Game → Number)
 low_from g (inl w) f h l r = let e = exp_equal g w.0 f h w.1 l r in record { left = e; right = e }
 low_from g (inr n) f h l r =
     record {
-      left = low_left g f (lefts g) n refl (λ a m. (l a m).1);
-      right = low_right g h (rights g) n refl (λ a m. (r a m).1);
+      left = short_greatest number_le (height g) f (lefts g)
+          (λ a m. let u = (l a m).1 in let v = height-left g a n m in omega arith);
+      right = short_greatest (λ x y. number_le y x) (height g) h (rights g)
+          (λ a m. let u = (r a m).1 in let v = height-right g a n m in omega arith);
     }
 
 pub stops_within-low : (d : Decides) (n : ℕ) (g : Game) → size g < n → LowStops g (stops_within d n g)

@@ -1,9 +1,10 @@
 -- The stops of a game, from those of its options, bound it.
-use Rattle.std.proofs.Common.{◌≡◌, refl, ℕ, ◌<◌, arith, zero, suc, Bool, ap, sym, ◌∙◌, subst, inl, inr, List, [], ◌∷◌, map, cond}
-use Rattle.cg_dyadic.specs.Number.{Number, NumberLe, number_le}
+use Rattle.std.proofs.Common.{◌≡◌, refl, ℕ, ◌<◌, arith, zero, suc, Bool, IsTrue, ap, sym, ◌∙◌, subst, inl, inr, List, [], ◌∷◌, map, cond, pos}
+use Rattle.cg_dyadic.specs.Number.{Number, NumberLe, number_le, whole}
 use Rattle.cg_dyadic.proofs.Truth.{false-from, true-or-not}
 use Rattle.cg_dyadic.proofs.Values.{less-le, number_le-refl, number_le-trans}
 use Rattle.cg_form.specs.Game.{Among, Game, lefts, number, rights}
+use Rattle.cg_form.specs.Greatest.{greatest_by}
 use Rattle.cg_form.specs.Order.{Equal, Le}
 use Rattle.cg_form.specs.Simple.{Decided, Decides, NoNumber}
 use Rattle.cg_form.specs.Size.{size}
@@ -14,85 +15,69 @@ use Rattle.cg_form.proofs.Simplicity.{le-number, none_fits, number-le}
 use Rattle.cg_form.proofs.Size.{size-lefts, size-rights}
 use Rattle.cg_form.proofs.Stops.{LeftStop, RightStop, equal-left_stop, equal-right_stop, greater-left_stop, less-right_stop, number-left_stop, number-right_stop, stops-ordered}
 
--- ---- the greatest and the least of a list
+-- ---- the greatest of a list
 
-pub record TopOf (f : Game → Number) (gs : List Game) (p : Number) : Type 0 where
+-- p is one of the list's numbers, and the greatest in the order
+pub record TopBy (le : Number → Number → Bool) (f : Game → Number) (gs : List Game) (p : Number) : Type 0 where
   pub at : Game
   pub there : Among at gs
   pub is : p ≡ f at
-  pub most : (a : Game) → Among a gs → NumberLe (f a) p
+  pub most : (a : Game) → Among a gs → IsTrue (le (f a) p)
 
-pub record BottomOf (f : Game → Number) (gs : List Game) (p : Number) : Type 0 where
-  pub at : Game
-  pub there : Among at gs
-  pub is : p ≡ f at
-  pub most : (a : Game) → Among a gs → NumberLe p (f a)
+abbrev pub TopOf : (Game → Number) → List Game → Number → Type 0
+TopOf f gs p = TopBy number_le f gs p
+
+abbrev pub BottomOf : (Game → Number) → List Game → Number → Type 0
+BottomOf f gs p = TopBy (λ x y. number_le y x) f gs p
+
+module _ (le : Number → Number → Bool) (same : (x : Number) → IsTrue (le x x))
+    (trans : (x y z : Number) → IsTrue (le x y) → IsTrue (le y z) → IsTrue (le x z))
+    (total : (x y : Number) → ¬ IsTrue (le x y) → IsTrue (le y x)) (f : Game → Number) where
+  at_first : (a g : Game) (q : Number) → a ≡ g → IsTrue (le (f g) q) → IsTrue (le (f a) q)
+  at_first a g q e h = let P : Game → Type 0 = λ z. IsTrue (le (f z) q) in subst P (sym e) h
+
+  top_by : (g : Game) (gs : List Game) → TopBy le f (g ∷ gs) (greatest_by le (whole (pos 0)) (map f (g ∷ gs)))
+  top_by g [] = record {
+    at = g;
+    there = inl refl;
+    is = refl;
+    most = λ a m. elim m [ inl e ↦ at_first a g (f g) e (same (f g)) | inr k ↦ absurd k ];
+  }
+  top_by g (h ∷ hs) =
+      let r = top_by h hs in
+      let q : Number = greatest_by le (whole (pos 0)) (map f (h ∷ hs)) in
+      let P : Bool → Type 0 = λ b. TopBy le f (g ∷ (h ∷ hs)) (cond b q (f g)) in
+      elim (true-or-not (le (f g) q)) [
+        | inl t ↦ subst P (sym t)
+            (record {
+              at = r.at;
+              there = inr r.there;
+              is = r.is;
+              most = λ a m. elim m [ inl e ↦ at_first a g q e t | inr k ↦ r.most a k ];
+            })
+        | inr n ↦ subst P (sym (false-from (le (f g) q) n)) (record {
+          at = g;
+          there = inl refl;
+          is = refl;
+          most = λ a m. elim m [
+            | inl e ↦ at_first a g (f g) e (same (f g))
+            | inr k ↦ trans (f a) q (f g) (r.most a k) (total (f g) q n)
+          ];
+        })
+      ]
+
+pub top_of : (f : Game → Number) (g : Game) (gs : List Game) → TopOf f (g ∷ gs) (greatest_number (map f (g ∷ gs)))
+top_of f g gs = top_by number_le number_le-refl number_le-trans less-le f g gs
+
+pub bottom_of : (f : Game → Number) (g : Game) (gs : List Game) → BottomOf f (g ∷ gs) (least_number (map f (g ∷ gs)))
+bottom_of f g gs = top_by (λ x y. number_le y x) number_le-refl (λ x y z p q. number_le-trans z y x q p)
+    (λ x y n. less-le y x n) f g gs
 
 le_at : (p x y : Number) → x ≡ y → NumberLe y p → NumberLe x p
 le_at p x y e h = let P : Number → Type 0 = λ z. NumberLe z p in subst P (sym e) h
 
 le_to : (p x y : Number) → x ≡ y → NumberLe p y → NumberLe p x
 le_to p x y e h = let P : Number → Type 0 = λ z. NumberLe p z in subst P (sym e) h
-
-pub top_of : (f : Game → Number) (g : Game) (gs : List Game) → TopOf f (g ∷ gs) (greatest_number (map f (g ∷ gs)))
-top_of f g [] = record {
-  at = g;
-  there = inl refl;
-  is = refl;
-  most = λ a m. elim m [ inl e ↦ le_at (f g) (f a) (f g) (ap f e) (number_le-refl (f g)) | inr k ↦ absurd k ];
-}
-top_of f g (h ∷ hs) =
-    let r = top_of f h hs in
-    let q : Number = greatest_number (map f (h ∷ hs)) in
-    let P : Bool → Type 0 = λ b. TopOf f (g ∷ (h ∷ hs)) (cond b q (f g)) in
-    elim (true-or-not (number_le (f g) q)) [
-      | inl t ↦ subst P (sym t)
-          (record {
-            at = r.at;
-            there = inr r.there;
-            is = r.is;
-            most = λ a m. elim m [ inl e ↦ le_at q (f a) (f g) (ap f e) t | inr k ↦ r.most a k ];
-          })
-      | inr n ↦ subst P (sym (false-from (number_le (f g) q) n)) (record {
-        at = g;
-        there = inl refl;
-        is = refl;
-        most = λ a m. elim m [
-          | inl e ↦ le_at (f g) (f a) (f g) (ap f e) (number_le-refl (f g))
-          | inr k ↦ number_le-trans (f a) q (f g) (r.most a k) (less-le (f g) q n)
-        ];
-      })
-    ]
-
-pub bottom_of : (f : Game → Number) (g : Game) (gs : List Game) → BottomOf f (g ∷ gs) (least_number (map f (g ∷ gs)))
-bottom_of f g [] = record {
-  at = g;
-  there = inl refl;
-  is = refl;
-  most = λ a m. elim m [ inl e ↦ le_to (f g) (f a) (f g) (ap f e) (number_le-refl (f g)) | inr k ↦ absurd k ];
-}
-bottom_of f g (h ∷ hs) =
-    let r = bottom_of f h hs in
-    let q : Number = least_number (map f (h ∷ hs)) in
-    let P : Bool → Type 0 = λ b. BottomOf f (g ∷ (h ∷ hs)) (cond b (f g) q) in
-    elim (true-or-not (number_le (f g) q)) [
-      | inr n ↦ subst P (sym (false-from (number_le (f g) q) n))
-          (record {
-            at = r.at;
-            there = inr r.there;
-            is = r.is;
-            most = λ a m. elim m [ inl e ↦ le_to q (f a) (f g) (ap f e) (less-le (f g) q n) | inr k ↦ r.most a k ];
-          })
-      | inl t ↦ subst P (sym t) (record {
-        at = g;
-        there = inl refl;
-        is = refl;
-        most = λ a m. elim m [
-          | inl e ↦ le_to (f g) (f a) (f g) (ap f e) (number_le-refl (f g))
-          | inr k ↦ number_le-trans (f g) q (f a) t (r.most a k)
-        ];
-      })
-    ]
 
 -- ---- the stops of a game that equals no number
 

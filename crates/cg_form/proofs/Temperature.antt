@@ -7,7 +7,7 @@ use Rattle.cg_form.specs.Game.{Game, lefts, rights}
 use Rattle.cg_form.specs.Heights.{height}
 use Rattle.cg_form.specs.Order.{Equal}
 use Rattle.cg_form.specs.Simple.{Decides, NoNumber}
-use Rattle.cg_form.specs.Walls.{TemperatureIs, Walls, cooled, greatest, least, scaffold_of, walls}
+use Rattle.cg_form.specs.Walls.{MeetAt, TemperatureIs, Walls, cooled, greatest, least, scaffold_of, walls}
 use Rattle.cg_form.proofs.Cooled.{frozen_along, meet, stays, uncrossed, walls_same}
 use Rattle.cg_form.proofs.Finer.{cool, walls-ordered}
 use Rattle.cg_form.proofs.Greatest.{at_greatest, at_least, greatest_below, least_above}
@@ -150,12 +150,7 @@ walls-mast d s g t h n x u p =
 
 -- ---- equal games
 
--- the first t at which the walls have met
-pub record MetAt (f : ℕ → Walls) (t : ℕ) : Type 0 where
-  pub agree : (f t).left ≡ (f t).right
-  pub before : (u : ℕ) → u < t → ¬ ((f u).left ≡ (f u).right)
-
-met : (f : ℕ → Walls) → Cool f → (t : ℕ) → MetAt f t → MetAt (cooled f) t
+met : (f : ℕ → Walls) → Cool f → (t : ℕ) → MeetAt f t → MeetAt (cooled f) t
 met f c t m = let a = m.agree in record {
   agree = frozen_along (cooled f t) (f t) (uncrossed f t (omega (arith, ints))) a;
   before = λ u h k. (
@@ -168,13 +163,13 @@ met f c t m = let a = m.agree in record {
     gap : (u t : ℕ) → u < t → (q : ℕ) × (t ≡ u + q)
     gap u t h = (t - u, omega arith)
 
-met-back : (f : ℕ → Walls) → Cool f → (t : ℕ) → MetAt (cooled f) t → MetAt f t
+met-back : (f : ℕ → Walls) → Cool f → (t : ℕ) → MeetAt (cooled f) t → MeetAt f t
 met-back f c t m = record {
   agree = at t m;
   before = λ u h k. m.before u h (frozen_along (cooled f u) (f u) (uncrossed f u (omega (arith, ints))) k);
 }
   where
-    at : (t : ℕ) → MetAt (cooled f) t → (f t).left ≡ (f t).right
+    at : (t : ℕ) → MeetAt (cooled f) t → (f t).left ≡ (f t).right
     at zero m = m.agree
     at (suc t) m = elim (le_or_lt (f (suc t)).right (f (suc t)).left) [
       | inl p ↦ frozen_along (f (suc t)) (cooled f (suc t)) (sym (uncrossed f (suc t) p)) m.agree
@@ -182,7 +177,7 @@ met-back f c t m = record {
           (frozen_along (cooled f t) (cooled f (suc t)) (sym (stays f t p)) m.agree))
     ]
 
-met_along : (f k : ℕ → Walls) → ((t : ℕ) → f t ≡ k t) → (t : ℕ) → MetAt f t → MetAt k t
+met_along : (f k : ℕ → Walls) → ((t : ℕ) → f t ≡ k t) → (t : ℕ) → MeetAt f t → MeetAt k t
 met_along f k e t m =
     record {
       agree = frozen_along (k t) (f t) (sym (e t)) m.agree;
@@ -194,12 +189,9 @@ pub temperature-equal : (d : Decides) (s : ℕ) (g h : Game) → height g ≤ s 
 temperature-equal d s g h p q n m e t x =
     let f : ℕ → Walls = scaffold_of d s g in
     let k : ℕ → Walls = scaffold_of d s h in
-    let a : MetAt f t = record { agree = x.agree; before = x.before } in
-    let b = met f (cool d s g n p) t a in
     let i : (u : ℕ) → cooled f u ≡ cooled k u = λ u. sym (walls-none d s u g n) ∙ walls-equal d s g h p q e u
     ∙ walls-none d s u h m in
-    let j = met-back k (cool d s h m q) t (met_along (cooled f) (cooled k) i t b) in
-    record { agree = j.agree; before = j.before }
+    met-back k (cool d s h m q) t (met_along (cooled f) (cooled k) i t (met f (cool d s g n p) t x))
 
 -- the value at which the scaffolds agree
 pub meeting-equal : (d : Decides) (s : ℕ) (g h : Game) → height g ≤ s → height h ≤ s → NoNumber g → NoNumber h → Equal g h

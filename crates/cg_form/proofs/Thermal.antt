@@ -10,24 +10,19 @@ use Rattle.cg_form.specs.Game.{Game, number}
 use Rattle.cg_form.specs.Heights.{height}
 use Rattle.cg_form.specs.Order.{Equal}
 use Rattle.cg_form.specs.Simple.{Decided, Decides, NoNumber}
-use Rattle.cg_form.specs.Walls.{IsThermal, TemperatureIs, Walls, scaffold, scaffold_of, walls}
+use Rattle.cg_form.specs.Walls.{IsThermal, MeetAt, TemperatureIs, Walls, scaffold, scaffold_of, walls}
 use Rattle.cg_form.proofs.Decide.{number-decide}
 use Rattle.cg_form.proofs.Finer.{Finer, cool, even_or_odd, scaffold-finer, twice, twice_pos, walls-finer}
 use Rattle.cg_form.proofs.Heights.{height-left, height-right, number-low}
 use Rattle.cg_form.proofs.Preorder.{equal_refl, equal_trans}
 use Rattle.cg_form.proofs.Simplicity.{one_number}
-use Rattle.cg_form.proofs.Temperature.{MetAt, earlier, meeting-equal, scaffolds_agree, temperature-equal, temperature-there}
+use Rattle.cg_form.proofs.Temperature.{earlier, meeting-equal, scaffolds_agree, temperature-equal, temperature-there}
 use Rattle.cg_form.proofs.Walls.{walls-steps, walls-unique}
 
 -- ---- where scaffolds meet, at a scale and at the next finer one
 
 below : (a b : ℕ) → (a < b) ⊎ (b ≤ a)
 below a b = grind arith
-
-twice-le : (v e : ℕ) → v < e → suc (suc (twice v)) ≤ twice e
-twice-le v zero h = absurd (omega arith)
-twice-le zero (suc e) h = omega arith
-twice-le (suc v) (suc e) h = let i = twice-le v e (omega arith) in omega arith
 
 half-below : (v e : ℕ) → twice v < twice e → v < e
 half-below v e h = elim (below v e) [ inl k ↦ k | inr k ↦ absurd (let i = twice-mono e v k in omega arith) ]
@@ -41,7 +36,7 @@ same_z : (a b : ℤ) → a +ℤ a ≡ b +ℤ b → a ≡ b
 same_z a b e = omega (arith, ints)
 
 -- before they meet, the left one is above the right one
-apart : (f : ℕ → Walls) (e u : ℕ) → Cool f → MetAt f e → u < e → (f u).right <ℤ (f u).left
+pub apart : (f : ℕ → Walls) (e u : ℕ) → Cool f → MeetAt f e → u < e → (f u).right <ℤ (f u).left
 apart f e u c t h =
     let a = t.agree in
     let i : e ≡ u + (e - u) = omega arith in
@@ -52,7 +47,7 @@ apart f e u c t h =
     strict : (a b : ℤ) → b ≤ℤ a → ((a ≡ b) → ⊥) → b <ℤ a
     strict a b h n = elim (le_or_lt a b) [ inl p ↦ absurd (n (omega (arith, ints))) | inr p ↦ p ]
 
-met-next : (f k : ℕ → Walls) (e : ℕ) → Cool f → Finer f k → MetAt f e → MetAt k (twice e)
+pub met-next : (f k : ℕ → Walls) (e : ℕ) → Cool f → Finer f k → MeetAt f e → MeetAt k (twice e)
 met-next f k e c n t = record {
   agree = (let a = t.agree in let l = n.even_left e in let r = n.even_right e in omega (arith, ints));
   before = λ u h q. elim (even_or_odd u) [
@@ -84,7 +79,7 @@ met-next f k e c n t = record {
           subst P j q
     ]
 
-met-one : (f : ℕ → Walls) (e e' : ℕ) → MetAt f e → MetAt f e' → e ≡ e'
+pub met-one : (f : ℕ → Walls) (e e' : ℕ) → MeetAt f e → MeetAt f e' → e ≡ e'
 met-one f e e' t u = elim (below e e') [
   | inl h ↦ absurd (u.before e h t.agree)
   | inr h ↦ elim (below e' e) [
@@ -102,40 +97,17 @@ scaffolds-finer d s g never h = scaffold-finer (walls d s) (walls d (suc s)) g (
     (λ b m. let v = height-right g b never m in walls-finer d s b (omega arith))
 
 -- by whatever decides which games equal numbers, the scaffolds are the same
-scaffold-unique : (d e : Decides) (s : ℕ) (g : Game) → scaffold_of d s g ≡ scaffold_of e s g
+pub scaffold-unique : (d e : Decides) (s : ℕ) (g : Game) → scaffold_of d s g ≡ scaffold_of e s g
 scaffold-unique d e s g i t = scaffold (λ u a. walls-unique d e s u a i) g t
 
--- the scaffolds at a scale meet at t, and so tell this mean and temperature
-record Seen (f : ℕ → Walls) (s t : ℕ) (mean temp : Number) : Type 0 where
-  met : MetAt f t
-  mean_is : ratio (f t).left s ≡ mean
-  temp_is : ratio (pos t) s ≡ temp
+-- scaffolds at a scale meet at t, and so tell this mean and temperature
+pub record Seen (f : ℕ → Walls) (s t : ℕ) (mean temp : Number) : Type 0 where
+  pub met : MeetAt f t
+  pub mean_is : ratio (f t).left s ≡ mean
+  pub temp_is : ratio (pos t) s ≡ temp
 
-seen-own : (d : Decides) (s : ℕ) (g : Game) (t : ℕ) → TemperatureIs d s g t
-    → Seen (scaffold_of d s g) s t (ratio (scaffold_of d s g t).left s) (ratio (pos t) s)
-seen-own d s g t k = record { met = record { agree = k.agree; before = k.before }; mean_is = refl; temp_is = refl }
-
-module _ (d : Decides) (g : Game) (never : NoNumber g) where
-  seen-next : (s t : ℕ) (mean temp : Number) → height g ≤ s → Seen (scaffold_of d s g) s t mean temp
-      → Seen (scaffold_of d (suc s) g) (suc s) (twice t) mean temp
-  seen-next s t mean temp h v =
-      let n = scaffolds-finer d s g never h in record {
-        met = met-next (scaffold_of d s g) (scaffold_of d (suc s) g) t (cool d s g never h) n v.met;
-        mean_is = ap (λ z. ratio z (suc s)) (n.even_left t) ∙ ratio-double (scaffold_of d s g t).left s ∙ v.mean_is;
-        temp_is = ap (λ z. ratio z (suc s)) (twice_pos t) ∙ ratio-double (pos t) s ∙ v.temp_is;
-      }
-
-  seen-up : (m s t : ℕ) (mean temp : Number) → height g ≤ s → Seen (scaffold_of d s g) s t mean temp
-      → (u : ℕ) × Seen (scaffold_of d (m + s) g) (m + s) u mean temp
-  seen-up zero s t mean temp h v =
-      let P : ℕ → Type 0 = λ z. Seen (scaffold_of d z g) z t mean temp in
-      let e : s ≡ zero + s = omega arith in
-      (t, subst P e v)
-  seen-up (suc m) s t mean temp h v =
-      let (u, w) = seen-up m s t mean temp h v in
-      let P : ℕ → Type 0 = λ z. Seen (scaffold_of d z g) z (twice u) mean temp in
-      let e : suc (m + s) ≡ suc m + s = omega arith in
-      (twice u, subst P e (seen-next (m + s) u mean temp (omega arith) w))
+pub seen-own : (f : ℕ → Walls) (s t : ℕ) → MeetAt f t → Seen f s t (ratio (f t).left s) (ratio (pos t) s)
+seen-own f s t k = record { met = k; mean_is = refl; temp_is = refl }
 
 pub record SameThermal (m t n u : Number) : Type 0 where
   pub means : m ≡ n
@@ -149,16 +121,50 @@ met-same f s t u mean temp mean' temp' v w =
       temps = sym v.temp_is ∙ ap (λ z. ratio (pos z) s) i ∙ w.temp_is;
     }
 
--- at any two scales of at least the height the same is seen
-seen-same : (d : Decides) (g : Game) → NoNumber g → (s r t u : ℕ) (mean temp mean' temp' : Number)
-    → height g ≤ s → height g ≤ r → Seen (scaffold_of d s g) s t mean temp → Seen (scaffold_of d r g) r u mean' temp'
-    → SameThermal mean temp mean' temp'
-seen-same d g never s r t u mean temp mean' temp' h k v w =
-    let (x, a) = seen-up d g never r s t mean temp h v in
-    let (y, b) = seen-up d g never s r u mean' temp' k w in
-    let P : ℕ → Type 0 = λ z. Seen (scaffold_of d z g) z y mean' temp' in
-    let i : s + r ≡ r + s = omega arith in
-    met-same (scaffold_of d (r + s) g) (r + s) x y mean temp mean' temp' a (subst P i b)
+-- at each scale with P the scaffolds cool, and at the next one they are finer
+pub record Refines (P : ℕ → Type 0) (f : ℕ → ℕ → Walls) : Type 0 where
+  pub up : (s : ℕ) → P s → P (suc s)
+  pub cools : (s : ℕ) → P s → Cool (f s)
+  pub finer : (s : ℕ) → P s → Finer (f s) (f (suc s))
+
+module _ (P : ℕ → Type 0) (f : ℕ → ℕ → Walls) (k : Refines P f) where
+  seen-next : (s t : ℕ) (mean temp : Number) → P s → Seen (f s) s t mean temp
+      → Seen (f (suc s)) (suc s) (twice t) mean temp
+  seen-next s t mean temp h v =
+      let n = k.finer s h in record {
+        met = met-next (f s) (f (suc s)) t (k.cools s h) n v.met;
+        mean_is = ap (λ z. ratio z (suc s)) (n.even_left t) ∙ ratio-double (f s t).left s ∙ v.mean_is;
+        temp_is = ap (λ z. ratio z (suc s)) (twice_pos t) ∙ ratio-double (pos t) s ∙ v.temp_is;
+      }
+
+  seen-up : (m s t : ℕ) (mean temp : Number) → P s → Seen (f s) s t mean temp
+      → (u : ℕ) × P (m + s) × Seen (f (m + s)) (m + s) u mean temp
+  seen-up zero s t mean temp h v =
+      let Q : ℕ → Type 0 = λ z. P z × Seen (f z) z t mean temp in
+      let e : s ≡ zero + s = omega arith in
+      let w = subst Q e (h, v) in (t, w.0, w.1)
+  seen-up (suc m) s t mean temp h v =
+      let (u, i, w) = seen-up m s t mean temp h v in
+      let Q : ℕ → Type 0 = λ z. P z × Seen (f z) z (twice u) mean temp in
+      let e : suc (m + s) ≡ suc m + s = omega arith in
+      let x = subst Q e (k.up (m + s) i, seen-next (m + s) u mean temp i w) in (twice u, x.0, x.1)
+
+  -- at any two such scales the same is seen
+  pub seen-same : (s r t u : ℕ) (mean temp mean' temp' : Number) → P s → P r → Seen (f s) s t mean temp
+      → Seen (f r) r u mean' temp' → SameThermal mean temp mean' temp'
+  seen-same s r t u mean temp mean' temp' h j v w =
+      let (x, a, b) = seen-up r s t mean temp h v in
+      let (y, c, d) = seen-up s r u mean' temp' j w in
+      let Q : ℕ → Type 0 = λ z. Seen (f z) z y mean' temp' in
+      let i : s + r ≡ r + s = omega arith in
+      met-same (f (r + s)) (r + s) x y mean temp mean' temp' b (subst Q i d)
+
+refines : (d : Decides) (g : Game) → NoNumber g → Refines (λ s. height g ≤ s) (λ s. scaffold_of d s g)
+refines d g never = record {
+  up = λ s h. omega arith;
+  cools = λ s h. cool d s g never h;
+  finer = λ s h. scaffolds-finer d s g never h;
+}
 
 -- what one scale tells is the mean and the temperature
 pub thermal-at : (d : Decides) (s : ℕ) (g : Game) (t : ℕ) → NoNumber g → height g ≤ s → TemperatureIs d s g t
@@ -168,8 +174,9 @@ thermal-at d s g t never h k = record {
   other = λ _ e r u l j.
       let mean : Number = ratio (scaffold_of e r g u).left r in
       let P : (ℕ → Walls) → Type 0 = λ f. Seen f r u mean (ratio (pos u) r) in
-      let w = subst P (scaffold-unique e d r g) (seen-own e r g u j) in
-      let m = seen-same d g never s r t u _ _ mean (ratio (pos u) r) h l (seen-own d s g t k) w in
+      let w = subst P (scaffold-unique e d r g) (seen-own (scaffold_of e r g) r u j) in
+      let m = seen-same (λ z. height g ≤ z) (λ z. scaffold_of d z g) (refines d g never) s r t u _ _ mean (ratio (pos u) r) h l
+      (seen-own (scaffold_of d s g) s t k) w in
       (m.means, m.temps);
 }
 
@@ -208,7 +215,7 @@ thermal g = by (number-decide g)
           is = thermal-at number-decide (height g) g c.at never (omega arith) c.is;
         }
 
-number-across : (g h : Game) → Equal g h → (x : Number) → Equal (number x) h → Equal (number x) g
+pub number-across : (g h : Game) → Equal g h → (x : Number) → Equal (number x) h → Equal (number x) g
 number-across g h e x f = equal_trans (number x) h g f (e.1, e.0)
 
 -- equal games have the same mean and temperature, by each of the two games' own

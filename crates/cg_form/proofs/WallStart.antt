@@ -2,25 +2,26 @@
 use Rattle.std.proofs.Common.{◌≡◌, refl, ℕ, ◌-◌, ◌<◌, ◌≤◌, arith, zero, suc, Bool, true, false, inl, inr, ap, sym, ◌∙◌, List, [], ◌∷◌, map, cond, ℤ, pos, ◌+ℤ◌, ◌-ℤ◌, ◌≤ℤ◌}
 use Rattle.std.proofs.lemmas.Int.{ints}
 use lib.Signed.{le_z}
-use Rattle.cg_dyadic.specs.Number.{Number, exp_of, number_le}
+use Rattle.cg_dyadic.specs.Number.{Number, exp_of, number_le, whole}
 use Rattle.cg_dyadic.specs.Units.{units}
 use Rattle.cg_dyadic.proofs.Integers.{from_le_z, to_le_z}
 use Rattle.cg_dyadic.proofs.Scale.{le-units, units-le}
 use Rattle.cg_dyadic.proofs.Sums.{doubled-zero}
 use Rattle.cg_form.specs.Game.{Among, Game, lefts, rights}
+use Rattle.cg_form.specs.Greatest.{greater_by, greatest_by}
 use Rattle.cg_form.specs.Heights.{height}
 use Rattle.cg_form.specs.Simple.{Decided, Decides, NoNumber}
 use Rattle.cg_form.specs.Size.{size}
 use Rattle.cg_form.specs.Stops.{Stops, greatest_number, least_number, stops, stops_by, stops_within}
-use Rattle.cg_form.specs.Walls.{Walls, greater, greatest, least, less, scaffold, walls, walls_by, walls_within}
+use Rattle.cg_form.specs.Walls.{Walls, greatest, least, scaffold, walls, walls_by, walls_within}
 use Rattle.cg_form.proofs.Among.{map-agree}
 use Rattle.cg_form.proofs.Cut.{same_when}
-use Rattle.cg_form.proofs.Heights.{height-left, height-right, low_from, stops_within-low}
+use Rattle.cg_form.proofs.Heights.{height-left, height-right, low_from, short_greatest, stops_within-low}
 use Rattle.cg_form.proofs.Size.{size-lefts, size-rights}
 use Rattle.cg_form.proofs.StopValues.{stops_from, stops_within-are}
 use Rattle.cg_form.proofs.Stops.{stops-ordered}
 
--- ---- the greatest and the least in units
+-- ---- the greatest in units
 
 le_z_units : (s : ℕ) (x y : Number) → exp_of x ≤ s → exp_of y ≤ s → number_le x y ≡ le_z (units s x) (units s y)
 le_z_units s x y p q = same_when (number_le x y) (le_z (units s x) (units s y))
@@ -31,45 +32,19 @@ pull_cond : (s : ℕ) (b : Bool) (x y : Number) → units s (cond b x y) ≡ con
 pull_cond s true x y = refl
 pull_cond s false x y = refl
 
-exp_cond : (s : ℕ) (b : Bool) (x y : Number) → exp_of x ≤ s → exp_of y ≤ s → exp_of (cond b x y) ≤ s
-exp_cond s true x y p q = p
-exp_cond s false x y p q = q
-
-record TopUnits (s : ℕ) (xs : List Number) (us : List ℤ) : Type 0 where
-  short : exp_of (greatest_number xs) ≤ s
-  same : units s (greatest_number xs) ≡ greatest us
-
-record BottomUnits (s : ℕ) (xs : List Number) (us : List ℤ) : Type 0 where
-  short : exp_of (least_number xs) ≤ s
-  same : units s (least_number xs) ≡ least us
-
-top_units : (s : ℕ) (f : Game → Number) (gs : List Game) → ((a : Game) → Among a gs → exp_of (f a) ≤ s)
-    → TopUnits s (map f gs) (map (λ a. units s (f a)) gs)
-top_units s f [] h = record { short = omega arith; same = doubled-zero (s - 0) }
-top_units s f (g ∷ []) h = record { short = h g (inl refl); same = refl }
-top_units s f (g ∷ (i ∷ is)) h =
-    let r = top_units s f (i ∷ is) (λ a m. h a (inr m)) in
-    let q : Number = greatest_number (map f (i ∷ is)) in
-    record {
-      short = exp_cond s (number_le (f g) q) q (f g) r.short (h g (inl refl));
-      same = pull_cond s (number_le (f g) q) q (f g)
-          ∙ ap (λ b. cond b (units s q) (units s (f g))) (le_z_units s (f g) q (h g (inl refl)) r.short)
-          ∙ ap (λ z. greater (units s (f g)) z) r.same;
-    }
-
-bottom_units : (s : ℕ) (f : Game → Number) (gs : List Game) → ((a : Game) → Among a gs → exp_of (f a) ≤ s)
-    → BottomUnits s (map f gs) (map (λ a. units s (f a)) gs)
-bottom_units s f [] h = record { short = omega arith; same = doubled-zero (s - 0) }
-bottom_units s f (g ∷ []) h = record { short = h g (inl refl); same = refl }
-bottom_units s f (g ∷ (i ∷ is)) h =
-    let r = bottom_units s f (i ∷ is) (λ a m. h a (inr m)) in
-    let q : Number = least_number (map f (i ∷ is)) in
-    record {
-      short = exp_cond s (number_le (f g) q) (f g) q (h g (inl refl)) r.short;
-      same = pull_cond s (number_le (f g) q) (f g) q
-          ∙ ap (λ b. cond b (units s (f g)) (units s q)) (le_z_units s (f g) q (h g (inl refl)) r.short)
-          ∙ ap (λ z. less (units s (f g)) z) r.same;
-    }
+-- the greatest of some numbers, in units
+greatest_units : (s : ℕ) (le : Number → Number → Bool) (le_u : ℤ → ℤ → Bool)
+    → ((x y : Number) → exp_of x ≤ s → exp_of y ≤ s → le x y ≡ le_u (units s x) (units s y))
+    → (f : Game → Number) (gs : List Game) → ((a : Game) → Among a gs → exp_of (f a) ≤ s)
+    → units s (greatest_by le (whole (pos 0)) (map f gs)) ≡ greatest_by le_u (pos 0) (map (λ a. units s (f a)) gs)
+greatest_units s le le_u same f [] h = doubled-zero (s - 0)
+greatest_units s le le_u same f (g ∷ []) h = refl
+greatest_units s le le_u same f (g ∷ (i ∷ is)) h =
+    let q : Number = greatest_by le (whole (pos 0)) (map f (i ∷ is)) in
+    let short = short_greatest le s f (i ∷ is) (λ a m. h a (inr m)) in
+    pull_cond s (le (f g) q) q (f g)
+    ∙ ap (λ b. cond b (units s q) (units s (f g))) (same (f g) q (h g (inl refl)) short)
+    ∙ ap (λ z. greater_by le_u (units s (f g)) z) (greatest_units s le le_u same f (i ∷ is) (λ a m. h a (inr m)))
 
 -- ---- walls and stops
 
@@ -94,15 +69,15 @@ zero_by : (g : Game) (c : Decided g) (s : ℕ) (w : ℕ → Game → Walls) (st 
     }))
 zero_by g (inl x) s w st h l el r er = record { left = refl; right = refl }
 zero_by g (inr n) s w st h l el r er =
-    let t = top_units s (λ a. (st a).right) (lefts g)
+    let t = greatest_units s number_le le_z (le_z_units s) (λ a. (st a).right) (lefts g)
     (λ a m. let u = el a m in let v = height-left g a n m in omega arith) in
-    let b = bottom_units s (λ a. (st a).left) (rights g)
+    let b = greatest_units s (λ x y. number_le y x) (λ x y. le_z y x) (λ x y p q. le_z_units s y x q p) (λ a. (st a).left) (rights g)
     (λ a m. let u = er a m in let v = height-right g a n m in omega arith) in
     record {
       left = minus_zero (greatest (map (λ a. (w 0 a).right) (lefts g))) _
-          (ap greatest (map-agree (λ a. (w 0 a).right) (λ a. units s (st a).right) (lefts g) (l n)) ∙ sym t.same);
+          (ap greatest (map-agree (λ a. (w 0 a).right) (λ a. units s (st a).right) (lefts g) (l n)) ∙ sym t);
       right = plus_zero (least (map (λ b. (w 0 b).left) (rights g))) _
-          (ap least (map-agree (λ b. (w 0 b).left) (λ b. units s (st b).left) (rights g) (r n)) ∙ sym b.same);
+          (ap least (map-agree (λ b. (w 0 b).left) (λ b. units s (st b).left) (rights g) (r n)) ∙ sym b);
     }
 
 zero_within : (d : Decides) (n s : ℕ) (g : Game) → size g < n → height g ≤ s

@@ -1,35 +1,35 @@
 -- Options that are bypassed: what may stand in the place of an option.
-use Rattle.std.specs.Prelude.{Bool, ◌⊎◌, ◌≡◌, List}
+use Rattle.std.specs.Prelude.{◌⊎◌, ◌≡◌, List}
 use Rattle.cg_dyadic.specs.Number.{Number}
 use Rattle.cg_form.specs.Best.{Best}
 use Rattle.cg_form.specs.Canonical.{Canonical}
 use Rattle.cg_form.specs.Game.{Among, Game, number}
-use Rattle.cg_form.specs.Side.{AtMost, far, near}
+use Rattle.cg_form.specs.Side.{AtMost, Player, far, near}
 
 -- a is in the list, or no better than one of it, or reversible through a game all of whose own options are covered
-pub data Covered (s : Bool) (g : Game) (ls : List Game) : Game → Type 0 where
+pub data Covered (s : Player) (g : Game) (ls : List Game) : Game → Type 0 where
   kept : {a : Game} → Among a ls → Covered s g ls a
   under : {a : Game} → (b : Game) → Among b ls → AtMost s a b → Covered s g ls a
   bypassed : {a : Game} → (b : Game) → Among b (far s a) → AtMost s b g
       → ((c : Game) → Among c (near s b) → Covered s g ls c) → Covered s g ls a
 
 -- a canonical game that may stand as an option of g: it is a number, or not reversible
-pub record Fine (s : Bool) (g x : Game) : Type 0 where
+pub record Fine (s : Player) (g x : Game) : Type 0 where
   pub canonical : Canonical x
   pub less : ¬ AtMost s g x
   pub way : ((y : Number) × (x ≡ number y)) ⊎ ((b : Game) → Among b (far s x) → ¬ AtMost s b g)
 
 -- from the first list to the second, only games that may stand as options of g are added
-pub record Grown (s : Bool) (g : Game) (old new : List Game) : Type 0 where
+pub record Grown (s : Player) (g : Game) (old new : List Game) : Type 0 where
   pub keeps : (x : Game) → Among x old → Among x new
   pub fine : (x : Game) → Among x new → Among x old ⊎ Fine s g x
 
 -- each game of the second list is covered by the first
-pub record AllCovered (s : Bool) (g : Game) (ls gs : List Game) : Type 0 where
+pub record AllCovered (s : Player) (g : Game) (ls gs : List Game) : Type 0 where
   pub each : (c : Game) → Among c gs → Covered s g ls c
 
 -- the best of what covers the options, and may stand as options of g
-pub record Replaces (s : Bool) (g : Game) (old new : List Game) : Type 0 where
+pub record Replaces (s : Player) (g : Game) (old new : List Game) : Type 0 where
   pub candidates : List Game
   pub covered : AllCovered s g candidates old
   pub fine : (x : Game) → Among x candidates → Fine s g x

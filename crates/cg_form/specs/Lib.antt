@@ -14,6 +14,7 @@ pub mod Depth
 pub mod Translate
 pub mod Shifted
 -- stops and walls
+pub mod Greatest
 pub mod Stops
 pub mod Heights
 pub mod Walls

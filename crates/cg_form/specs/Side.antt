@@ -1,26 +1,26 @@
--- The two sides of a game. What is said of Left holds of Right with the order turned, so one text serves both: with
--- `true` it speaks of Left's options, with `false` of Right's.
+-- A game as a player sees it: one text for Left and Right.
 use Rattle.std.specs.Prelude.{Bool, true, false, if◌then◌else◌, IsTrue, List}
+pub use Rattle.cg_dyadic.specs.Cut.{Player}
 use Rattle.cg_form.specs.Game.{Game, lefts, rights}
 use Rattle.cg_form.specs.Order.{le}
 
--- the side's own options, and those of the other side
-abbrev pub near : Bool → Game → List Game
+-- the player's own options, and those of the other player
+abbrev pub near : Player → Game → List Game
 near true g = lefts g
 near false g = rights g
 
-abbrev pub far : Bool → Game → List Game
+abbrev pub far : Player → Game → List Game
 far true g = rights g
 far false g = lefts g
 
--- the order as the side sees it: a is no better than b
-abbrev pub at_most : Bool → Game → Game → Bool
+-- a is no better for the player than b
+abbrev pub at_most : Player → Game → Game → Bool
 at_most true a b = le a b
 at_most false a b = le b a
 
-abbrev pub AtMost : Bool → Game → Game → Type 0
+abbrev pub AtMost : Player → Game → Game → Type 0
 AtMost s a b = IsTrue (at_most s a b)
 
--- the side's own of two lists
-abbrev pub chosen : Bool → List Game → List Game → List Game
+-- the player's own of two lists
+abbrev pub chosen : Player → List Game → List Game → List Game
 chosen s ls rs = if s then ls else rs

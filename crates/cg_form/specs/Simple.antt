@@ -26,7 +26,7 @@ NoNumber g = (x : Number) → ¬ Equal (number x) g
 abbrev pub Decided : Game → Type 0
 Decided g = ((x : Number) × Equal (number x) g) ⊎ NoNumber g
 
--- for each game, that it equals a number, and which, or that it equals none. There is such a decision (`decided` in the
--- law function `l6`), and stops and walls are the same by each (`unique` in `l6` and `l7`).
+-- A decision tells of each game which number it equals, or that it equals none. There is one (`decided` in the law function
+-- `l6`), and stops and walls are the same by each (`unique` in `l6` and `l7`).
 abbrev pub Decides : Type 0
 Decides = (g : Game) → Decided g

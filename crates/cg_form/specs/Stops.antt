@@ -1,10 +1,11 @@
 -- Stops: the numbers that alternating play reaches when each player plays for the best, with Left or Right to begin.
 -- Siegel, Combinatorial Game Theory (2013), II.3: Left and Right stops. The law function `l6` states their rule as it
 -- stands here; the bound below only makes the recursion end.
-use Rattle.std.specs.Prelude.{ℕ, zero, suc, List, [], ◌∷◌, map, if◌then◌else◌, pos}
+use Rattle.std.specs.Prelude.{ℕ, zero, suc, List, map, pos}
 use mathlib.Core.Logic.{inl, inr}
 use Rattle.cg_dyadic.specs.Number.{Number, number_le, whole}
 use Rattle.cg_form.specs.Game.{Game, lefts, rights}
+use Rattle.cg_form.specs.Greatest.{greatest_by}
 use Rattle.cg_form.specs.Simple.{Decided, Decides}
 use Rattle.cg_form.specs.Size.{size}
 
@@ -12,22 +13,11 @@ pub record Stops : Type 0 where
   pub left : Number
   pub right : Number
 
--- the greatest and the least of a list, which are asked only of lists that are not empty
-abbrev pub greater_number : Number → Number → Number
-greater_number x y = if number_le x y then y else x
-
 abbrev pub greatest_number : List Number → Number
-greatest_number [] = whole (pos 0)
-greatest_number (x ∷ []) = x
-greatest_number (x ∷ (y ∷ ys)) = greater_number x (greatest_number (y ∷ ys))
-
-abbrev pub less_number : Number → Number → Number
-less_number x y = if number_le x y then x else y
+greatest_number xs = greatest_by number_le (whole (pos 0)) xs
 
 abbrev pub least_number : List Number → Number
-least_number [] = whole (pos 0)
-least_number (x ∷ []) = x
-least_number (x ∷ (y ∷ ys)) = less_number x (least_number (y ∷ ys))
+least_number xs = greatest_by (λ x y. number_le y x) (whole (pos 0)) xs
 
 -- both stops are the number that the game equals, or else the given ones
 abbrev pub stops_by : (g : Game) → Decided g → Stops → Stops

@@ -3,12 +3,13 @@
 -- Siegel, Combinatorial Game Theory (2013), II.5: scaffolds, walls, temperature and mean. The law function `l7` states
 -- the rule of the walls as it stands here, and that they are the scaffolds up to the temperature and the mast above it;
 -- the bound below only makes the recursion end.
-use Rattle.std.specs.Prelude.{ℕ, zero, suc, ◌≡◌, ◌<◌, ◌≤◌, List, [], ◌∷◌, map, if◌then◌else◌, ℤ, pos, negsuc, ◌+ℤ◌, ◌-ℤ◌}
+use Rattle.std.specs.Prelude.{ℕ, zero, suc, ◌≡◌, ◌<◌, ◌≤◌, List, map, if◌then◌else◌, ℤ, pos, negsuc, ◌+ℤ◌, ◌-ℤ◌}
 use lib.Signed.{le_z}
 use mathlib.Core.Logic.{inl, inr}
 use Rattle.cg_dyadic.specs.Number.{Number, exp_of, ratio}
 use Rattle.cg_dyadic.specs.Units.{units}
 use Rattle.cg_form.specs.Game.{Game, lefts, number, rights}
+use Rattle.cg_form.specs.Greatest.{greatest_by}
 use Rattle.cg_form.specs.Heights.{height}
 use Rattle.cg_form.specs.Order.{Equal}
 use Rattle.cg_form.specs.Simple.{Decided, Decides, NoNumber}
@@ -20,22 +21,11 @@ pub record Walls : Type 0 where
   pub left : ℤ
   pub right : ℤ
 
--- the greatest and the least of a list, which are asked only of lists that are not empty
-abbrev pub greater : ℤ → ℤ → ℤ
-greater a b = if le_z a b then b else a
-
 abbrev pub greatest : List ℤ → ℤ
-greatest [] = pos 0
-greatest (x ∷ []) = x
-greatest (x ∷ (y ∷ ys)) = greater x (greatest (y ∷ ys))
-
-abbrev pub less : ℤ → ℤ → ℤ
-less a b = if le_z a b then a else b
+greatest xs = greatest_by le_z (pos 0) xs
 
 abbrev pub least : List ℤ → ℤ
-least [] = pos 0
-least (x ∷ []) = x
-least (x ∷ (y ∷ ys)) = less x (least (y ∷ ys))
+least xs = greatest_by (λ x y. le_z y x) (pos 0) xs
 
 -- the scaffolds at t, where w has the walls of the options: the greatest right wall of a Left option minus t, and the
 -- least left wall of a Right option plus t
@@ -45,7 +35,7 @@ scaffold w g t = record {
   right = least (map (λ b. (w t b).left) (rights g)) +ℤ pos t;
 }
 
--- the scaffolds f at t while the left one is at least the right one, and from there on what they were last
+-- At t: the scaffolds f, as long as the left one is at least the right one; after that, what they were at the last such time.
 abbrev pub cooled : (ℕ → Walls) → ℕ → Walls
 cooled f zero = f zero
 cooled f (suc t) = if le_z (f (suc t)).right (f (suc t)).left then f (suc t) else cooled f t
@@ -69,10 +59,14 @@ scaffold_of d s g t = scaffold (walls d s) g t
 
 -- ---- temperature and mean
 
--- the temperature of a game that equals no number is t, the least at which the scaffolds agree
-pub record TemperatureIs (d : Decides) (s : ℕ) (g : Game) (t : ℕ) : Type 0 where
-  pub agree : (scaffold_of d s g t).left ≡ (scaffold_of d s g t).right
-  pub before : (u : ℕ) → u < t → ¬ ((scaffold_of d s g u).left ≡ (scaffold_of d s g u).right)
+-- the two of f first agree at t
+pub record MeetAt (f : ℕ → Walls) (t : ℕ) : Type 0 where
+  pub agree : (f t).left ≡ (f t).right
+  pub before : (u : ℕ) → u < t → ¬ ((f u).left ≡ (f u).right)
+
+-- the temperature of a game that equals no number is t, the least at which its scaffolds agree
+abbrev pub TemperatureIs : Decides → ℕ → Game → ℕ → Type 0
+TemperatureIs d s g t = MeetAt (scaffold_of d s g) t
 
 -- the mean and the temperature of g as numbers. The mean of a number is the number, and its temperature is -1 / 2 ^ k,
 -- where its denominator is 2 ^ k; the mean of another game is the value of the scaffolds at its temperature.

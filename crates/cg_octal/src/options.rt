@@ -1,5 +1,5 @@
 //! The values of the options of a heap, from those of the lesser heaps.
-ghost use Rattle.std.specs.Prelude.{◌≡◌, ◌<◌, ◌≤◌, ◌/◌, ◌∷◌, ◌++◌, [], IfOk, cond, length, suc};
+ghost use Rattle.std.specs.Prelude.{◌≡◌, ◌<◌, ◌≤◌, ◌/◌, ◌∷◌, ◌++◌, [], IfOk, if◌then◌else◌, length, suc};
 ghost use Rattle.cg_octal.specs.Found.{Adds};
 ghost use Rattle.cg_octal.specs.Heaps.{AreValues, digit_options, heap, heap_options, leaves_nothing, leaves_one_heap, leaves_two_heaps, two_heaps};
 
@@ -28,7 +28,7 @@ fn leaves_two_heaps(digit: u8) -> bool
 
 /// The list, with the value behind it where the test says so.
 fn with_value(test: bool, value: u64, found: Vec<u64>) -> Result<Vec<u64>, AllocError>
-    ensures { IfOk result (λ all. all.items ≡ found.items ++ cond test (value ∷ []) []) }
+    ensures { IfOk result (λ all. all.items ≡ found.items ++ (if test then value ∷ [] else [])) }
 {
     let mut all = found;
     if test {

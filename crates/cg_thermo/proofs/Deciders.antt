@@ -5,7 +5,7 @@ use Rattle.cg_form.specs.Game.{Game}
 use Rattle.cg_form.specs.Simple.{Decides}
 use Rattle.cg_form.specs.Walls.{TemperatureIs, Walls, scaffold, scaffold_of}
 use Rattle.cg_form.proofs.Walls.{walls-unique}
-use Rattle.cg_lines.specs.Corners.{corners}
+use Rattle.cg_walls.specs.Corners.{corners}
 use Rattle.cg_thermo.specs.Pictures.{left_corners, right_corners, spot}
 use Rattle.cg_thermo.specs.Thermal.{MastFrom}
 

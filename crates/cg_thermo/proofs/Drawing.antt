@@ -10,9 +10,9 @@ use Rattle.cg_form.proofs.Decide.{number-decide}
 use Rattle.cg_thermo.proofs.Deciders.{cool-unique}
 use Rattle.cg_form.proofs.Temperature.{kept}
 use Rattle.cg_form.proofs.Walls.{scaffold-steps, walls-none, walls-steps}
-use Rattle.cg_lines.specs.declared.TheConstants.{BOUND, END}
-use Rattle.cg_lines.specs.declared.rise.Rise.{Rise}
-use Rattle.cg_lines.specs.Rises.{IsWall, gap, turned, value_at}
+use Rattle.cg_walls.specs.declared.TheConstants.{BOUND, END}
+use Rattle.cg_walls.specs.declared.rise.Rise.{Rise}
+use Rattle.cg_walls.specs.Rises.{IsWall, gap, turned, value_at}
 use Rattle.cg_thermo.specs.Joins.{Meets}
 use Rattle.cg_thermo.specs.Thermal.{MastFrom}
 use Rattle.cg_thermo.specs.Smooths.{Smooth, smooth_other}

@@ -10,7 +10,7 @@ use Rattle.cg_form.proofs.Preorder.{equal_trans}
 use Rattle.cg_form.proofs.Temperature.{temperature-equal}
 use Rattle.cg_form.proofs.Thermal.{same-thermal}
 use Rattle.cg_form.proofs.WallOrder.{walls-equal}
-use Rattle.cg_lines.specs.Corners.{corners}
+use Rattle.cg_walls.specs.Corners.{corners}
 use Rattle.cg_thermo.specs.Pictures.{left_corners, right_corners, spot}
 use Rattle.cg_thermo.specs.Thermal.{MastFrom}
 use Rattle.cg_thermo.specs.Thermographs.{IsThermograph}

@@ -3,7 +3,7 @@ use Rattle.std.proofs.Common.{◌≡◌, refl, ℕ, zero, suc, ◌⊎◌, inl, i
 use Rattle.std.proofs.lemmas.Int.{fits_signed_from_abs, ints, to_z-of_z}
 use Rattle.std.proofs.Math.Seq.{drop-cons}
 use Rattle.std.specs.Prelude.{IfSome, IfNone, if◌then◌else◌}
-use Rattle.cg_lines.specs.Lines.{Mark}
+use Rattle.cg_walls.specs.Lines.{Mark}
 use lib.Signed.{le_z, lt_z}
 use mir.Syntax.{w128}
 use mir.Val.{to_z, of_z}
@@ -13,8 +13,8 @@ use Rattle.cg_dyadic.specs.Units.{units}
 use Rattle.cg_dyadic.specs.Wide.{InWide, places}
 use Rattle.cg_dyadic.proofs.Wides.{word-wide}
 use Rattle.cg_thermo.specs.declared.corners.Corner.{Corner}
-use Rattle.cg_lines.specs.Lines.{OnLine, RiseAfter, TimesRise, before_all, further}
-use Rattle.cg_lines.proofs.Lines.{after-rise, further-none, on-since, one-on}
+use Rattle.cg_walls.specs.Lines.{OnLine, RiseAfter, TimesRise, before_all, further}
+use Rattle.cg_walls.proofs.Lines.{after-rise, further-none, on-since, one-on}
 use Rattle.cg_thermo.specs.WallLine.{mark_at, marks_at}
 
 -- ---- the line, one corner after the other

@@ -12,10 +12,10 @@ use Rattle.cg_form.proofs.Among.{carry}
 use Rattle.cg_form.proofs.Decide.{number-decide}
 use Rattle.cg_form.proofs.Greatest.{at_greatest, at_least, greatest_below, least_above}
 use Rattle.cg_form.proofs.Integers.{some_lefts, some_rights}
-use Rattle.cg_lines.specs.declared.TheConstants.{BOUND}
-use Rattle.cg_lines.specs.declared.rise.Rise.{Rise}
-use Rattle.cg_lines.specs.Rises.{IsWall, value_at}
-use Rattle.cg_lines.proofs.Rising.{near}
+use Rattle.cg_walls.specs.declared.TheConstants.{BOUND}
+use Rattle.cg_walls.specs.declared.rise.Rise.{Rise}
+use Rattle.cg_walls.specs.Rises.{IsWall, value_at}
+use Rattle.cg_walls.proofs.Rising.{near}
 use Rattle.cg_nodes.proofs.Later.{stands_game}
 use Rattle.cg_nodes.specs.Games.{AreGames, IsGame, IsNode, StandFor, game_at, games_at}
 use Rattle.cg_nodes.specs.Meant.{Meant}

@@ -23,14 +23,14 @@ use Rattle.cg_form.proofs.Preorder.{equal_refl}
 use Rattle.cg_form.proofs.Simplicity.{one_number}
 use Rattle.cg_form.proofs.Temperature.{scaffolds_agree, temperature-there}
 use Rattle.cg_form.proofs.Walls.{walls-none, walls-number}
-use Rattle.cg_lines.specs.declared.TheConstants.{BOUND}
-use Rattle.cg_lines.specs.declared.bends.Point.{Point}
-use Rattle.cg_lines.specs.declared.rise.Rise.{Rise}
-use Rattle.cg_lines.specs.Corners.{corners, point, straight, turns}
-use Rattle.cg_lines.specs.Fits.{AllFit, PointFits}
-use Rattle.cg_lines.specs.Rises.{IsWall, value_at}
-use Rattle.cg_lines.proofs.Rising.{near}
-use Rattle.cg_lines.proofs.Words.{word}
+use Rattle.cg_walls.specs.declared.TheConstants.{BOUND}
+use Rattle.cg_walls.specs.declared.bends.Point.{Point}
+use Rattle.cg_walls.specs.declared.rise.Rise.{Rise}
+use Rattle.cg_walls.specs.Corners.{corners, point, straight, turns}
+use Rattle.cg_walls.specs.Fits.{AllFit, PointFits}
+use Rattle.cg_walls.specs.Rises.{IsWall, value_at}
+use Rattle.cg_walls.proofs.Rising.{near}
+use Rattle.cg_walls.proofs.Words.{word}
 use Rattle.cg_nodes.specs.Games.{IsNode}
 use Rattle.cg_form.specs.Positions.{positions_of}
 use Rattle.cg_thermo.specs.declared.chart.Chart.{Chart}

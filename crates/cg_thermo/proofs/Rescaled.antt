@@ -6,10 +6,10 @@ use Rattle.cg_dyadic.specs.Units.{units}
 use Rattle.cg_dyadic.specs.Wide.{InWide, places}
 use Rattle.cg_dyadic.proofs.Scale.{exp-ratio, units-ratio, units-suc}
 use Rattle.cg_dyadic.proofs.Wides.{wide-word}
-use Rattle.cg_lines.specs.Corners.{marks}
-use Rattle.cg_lines.specs.Lines.{OnLine, RiseAfter, TimesRise}
-use Rattle.cg_lines.specs.declared.bends.Point.{Point}
-use Rattle.cg_lines.proofs.Lines.{double, double-back, double-on, on-along, one-on}
+use Rattle.cg_walls.specs.Corners.{marks}
+use Rattle.cg_walls.specs.Lines.{OnLine, RiseAfter, TimesRise}
+use Rattle.cg_walls.specs.declared.bends.Point.{Point}
+use Rattle.cg_walls.proofs.Lines.{double, double-back, double-on, on-along, one-on}
 use Rattle.cg_thermo.specs.declared.corners.Corner.{Corner}
 use Rattle.cg_thermo.specs.Pictures.{spot}
 use Rattle.cg_thermo.specs.Signed.{corner_at}

@@ -17,10 +17,10 @@ use Rattle.cg_form.proofs.Walls.{walls-number, walls-unique}
 use Rattle.cg_thermo.proofs.Deciders.{cool-unique, mast-unique}
 use mir.Syntax.{w128}
 use mir.Val.{to_z, of_z}
-use Rattle.cg_lines.proofs.Words.{word}
-use Rattle.cg_lines.specs.declared.TheConstants.{BOUND, END}
-use Rattle.cg_lines.specs.declared.rise.Rise.{Rise}
-use Rattle.cg_lines.specs.Rises.{IsWall, gap, value_at}
+use Rattle.cg_walls.proofs.Words.{word}
+use Rattle.cg_walls.specs.declared.TheConstants.{BOUND, END}
+use Rattle.cg_walls.specs.declared.rise.Rise.{Rise}
+use Rattle.cg_walls.specs.Rises.{IsWall, gap, value_at}
 use Rattle.cg_thermo.specs.declared.chart.Chart.{Chart}
 use Rattle.cg_thermo.specs.declared.fault.ThermoFault.{ThermoFault}
 use Rattle.cg_thermo.specs.Joins.{Joins, Jumps}

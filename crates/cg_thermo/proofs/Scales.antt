@@ -13,8 +13,8 @@ use Rattle.cg_form.specs.Walls.{TemperatureIs, Walls, scaffold_of, walls}
 use Rattle.cg_form.proofs.Decide.{number-decide}
 use Rattle.cg_form.proofs.Finer.{Finer, twice, twice_pos}
 use Rattle.cg_form.proofs.Temperature.{earlier}
-use Rattle.cg_lines.specs.Corners.{corners, point, straight, turns}
-use Rattle.cg_lines.specs.declared.bends.Point.{Point}
+use Rattle.cg_walls.specs.Corners.{corners, point, straight, turns}
+use Rattle.cg_walls.specs.declared.bends.Point.{Point}
 use Rattle.cg_thermo.specs.declared.corners.Corner.{Corner}
 use Rattle.cg_thermo.specs.Pictures.{left_corners, right_corners, spot}
 use Rattle.cg_thermo.specs.Smooths.{Smooth}

@@ -1,10 +1,10 @@
 -- The greatest of the sides of some options, one after the other.
 use Rattle.std.proofs.Common.{◌≡◌, refl, ℕ, suc, ◌+◌, ◌<◌, ◌≤◌, arith, inl, inr, ap, sym, ◌∙◌, subst, Bool, true, false, cond, Some, List, [], ◌∷◌, take, get_or, length, ℤ, neg_ℤ, ◌≤ℤ◌}
 use Rattle.std.proofs.lemmas.Int.{ints}
-use Rattle.cg_lines.specs.declared.TheConstants.{BOUND}
-use Rattle.cg_lines.specs.declared.rise.Rise.{Rise}
-use Rattle.cg_lines.specs.Rises.{IsWall, greater, value_at}
-use Rattle.cg_lines.proofs.Merging.{greater_left, greater_right, le_or_lt}
+use Rattle.cg_walls.specs.declared.TheConstants.{BOUND}
+use Rattle.cg_walls.specs.declared.rise.Rise.{Rise}
+use Rattle.cg_walls.specs.Rises.{IsWall, greater, value_at}
+use Rattle.cg_walls.proofs.Merging.{greater_left, greater_right, le_or_lt}
 use Rattle.cg_thermo.specs.declared.chart.Chart.{Chart}
 use Rattle.cg_thermo.specs.Found.{Charts, AreWalls, TopOf, charted, side_in}
 use Rattle.cg_thermo.proofs.Members.{has-before, has-next, has-own, take-all}

@@ -9,10 +9,10 @@ use Rattle.cg_form.specs.Simple.{Decided, Decides}
 use Rattle.cg_form.specs.Walls.{Walls, walls}
 use Rattle.cg_form.proofs.Temperature.{scaffolds_agree, temperature-there, walls-mast}
 use Rattle.cg_form.proofs.Walls.{walls-number, walls-steps}
-use Rattle.cg_lines.specs.Corners.{corners, marks}
-use Rattle.cg_lines.specs.Lines.{OnLine}
-use Rattle.cg_lines.proofs.Lines.{on-along}
-use Rattle.cg_lines.proofs.Through.{corners-on}
+use Rattle.cg_walls.specs.Corners.{corners, marks}
+use Rattle.cg_walls.specs.Lines.{OnLine}
+use Rattle.cg_walls.proofs.Lines.{on-along}
+use Rattle.cg_walls.proofs.Through.{corners-on}
 use Rattle.cg_thermo.specs.declared.thermo.Walls as drawn
 use Rattle.cg_thermo.specs.Pictures.{left_corners, right_corners}
 use Rattle.cg_thermo.specs.Thermal.{MastFrom}

@@ -4,8 +4,8 @@ use Rattle.cg_dyadic.specs.Wide.{places}
 use Rattle.cg_form.specs.Game.{Game}
 use Rattle.cg_form.specs.Simple.{Decides}
 use Rattle.cg_form.specs.Walls.{walls}
-use Rattle.cg_lines.specs.declared.TheConstants.{END}
-use Rattle.cg_lines.specs.Rises.{IsWall, value_at}
+use Rattle.cg_walls.specs.declared.TheConstants.{END}
+use Rattle.cg_walls.specs.Rises.{IsWall, value_at}
 use Rattle.cg_thermo.specs.Thermal.{MastFrom}
 use Rattle.cg_thermo.specs.declared.chart.Chart.{Chart}
 

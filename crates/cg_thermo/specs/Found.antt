@@ -1,9 +1,9 @@
 -- What was found so far, by ids.
 use Rattle.std.specs.Prelude.{◌≡◌, ◌⊎◌, ℕ, Option, Some, None, Bool, if◌then◌else◌, List, ℤ, pos, neg_ℤ, ◌≤ℤ◌}
 use Rattle.cg_cells.specs.Meaning.{Has}
-use Rattle.cg_lines.specs.declared.TheConstants.{BOUND}
-use Rattle.cg_lines.specs.declared.rise.Rise.{Rise}
-use Rattle.cg_lines.specs.Rises.{IsWall, value_at}
+use Rattle.cg_walls.specs.declared.TheConstants.{BOUND}
+use Rattle.cg_walls.specs.declared.rise.Rise.{Rise}
+use Rattle.cg_walls.specs.Rises.{IsWall, value_at}
 use Rattle.cg_thermo.specs.declared.chart.Chart.{Chart}
 use Rattle.cg_thermo.specs.declared.by_id.ById.{ById}
 use Rattle.cg_thermo.specs.Kept.{AllKept, kept_in}

@@ -1,8 +1,8 @@
 -- Scaffolds that meet, and scaffolds that pass each other between two whole units.
 use Rattle.std.specs.Prelude.{◌≡◌, ℕ, ◌+◌, ◌<◌, pos, negsuc, ◌<ℤ◌}
-use Rattle.cg_lines.specs.declared.TheConstants.{END}
-use Rattle.cg_lines.specs.declared.rise.Rise.{Rise}
-use Rattle.cg_lines.specs.Rises.{IsWall, gap, turned, value_at}
+use Rattle.cg_walls.specs.declared.TheConstants.{END}
+use Rattle.cg_walls.specs.declared.rise.Rise.{Rise}
+use Rattle.cg_walls.specs.Rises.{IsWall, gap, turned, value_at}
 use Rattle.cg_thermo.specs.declared.chart.Chart.{Chart}
 
 -- the scaffolds, t less each of the two and its negative, meet first at e

@@ -4,8 +4,8 @@ use Rattle.cg_dyadic.specs.Number.{ratio}
 use Rattle.cg_form.specs.Game.{Game}
 use Rattle.cg_form.specs.Simple.{Decides}
 use Rattle.cg_form.specs.Walls.{walls}
-use Rattle.cg_lines.specs.Corners.{corners}
-use Rattle.cg_lines.specs.declared.bends.Point.{Point}
+use Rattle.cg_walls.specs.Corners.{corners}
+use Rattle.cg_walls.specs.declared.bends.Point.{Point}
 use Rattle.cg_thermo.specs.declared.corners.Corner.{Corner}
 
 -- a point in units of 1 / 2 ^ s

@@ -2,9 +2,9 @@
 use Rattle.std.specs.Prelude.{◌≡◌, Bool, true, false, if◌then◌else◌, map, pos, neg_ℤ}
 use Rattle.cg_dyadic.specs.Number.{ratio}
 use Rattle.cg_dyadic.specs.Wide.{places}
-use Rattle.cg_lines.specs.Corners.{corners}
-use Rattle.cg_lines.specs.Rises.{value_at}
-use Rattle.cg_lines.specs.declared.bends.Point.{Point}
+use Rattle.cg_walls.specs.Corners.{corners}
+use Rattle.cg_walls.specs.Rises.{value_at}
+use Rattle.cg_walls.specs.declared.bends.Point.{Point}
 use Rattle.cg_thermo.specs.declared.chart.Chart.{Chart}
 use Rattle.cg_thermo.specs.declared.corners.Corner.{Corner}
 use Rattle.cg_thermo.specs.declared.thermo.Walls.{Walls}

@@ -5,7 +5,7 @@ use Rattle.cg_form.specs.Heights.{height}
 use Rattle.cg_form.specs.Simple.{Decides}
 use Rattle.cg_form.specs.Walls as form
 use Rattle.cg_form.specs.Walls.{IsThermal}
-use Rattle.cg_lines.specs.Lines.{OnLine}
+use Rattle.cg_walls.specs.Lines.{OnLine}
 use Rattle.cg_thermo.specs.declared.thermo.Walls.{Walls}
 use Rattle.cg_thermo.specs.Pictures.{left_corners, right_corners}
 use Rattle.cg_thermo.specs.Thermal.{MastFrom}

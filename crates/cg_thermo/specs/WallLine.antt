@@ -3,7 +3,7 @@ use Rattle.std.specs.Prelude.{◌≤◌, ℕ, List, [], ◌∷◌, map}
 use Rattle.cg_dyadic.specs.Number.{Number, exp_of}
 use Rattle.cg_dyadic.specs.Units.{units}
 use Rattle.cg_dyadic.specs.Wide.{places}
-use Rattle.cg_lines.specs.Lines.{Mark, OnLine, TimesRise}
+use Rattle.cg_walls.specs.Lines.{Mark, OnLine, TimesRise}
 use Rattle.cg_thermo.specs.declared.corners.Corner.{Corner}
 
 -- the corner in units of 1 / 2 ^ s

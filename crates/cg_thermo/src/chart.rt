@@ -1,6 +1,6 @@
 //! The walls of a game, while they are found.
 use crate::by_id::ById;
-use cg_lines::Rise;
+use cg_walls::Rise;
 
 /// The walls of a game in units of 1/2^60.
 #[derive(Debug, Drop)]

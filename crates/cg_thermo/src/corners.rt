@@ -1,14 +1,14 @@
 //! Corners of walls.
 ghost use Rattle.std.specs.Prelude.{◌≡◌, ◌↔◌, IfOk, IsTrue, [], length, map};
-ghost use Rattle.cg_lines.specs.Corners.{marks};
-ghost use Rattle.cg_lines.specs.Fits.{AllFit, PointFits};
-ghost use Rattle.cg_lines.specs.Lines.{TimesRise};
+ghost use Rattle.cg_walls.specs.Corners.{marks};
+ghost use Rattle.cg_walls.specs.Fits.{AllFit, PointFits};
+ghost use Rattle.cg_walls.specs.Lines.{TimesRise};
 ghost use Rattle.cg_dyadic.specs.Wide.{places};
 ghost use Rattle.cg_thermo.specs.Signed.{corner_at};
 ghost use Rattle.cg_thermo.specs.WallLine.{AllWhole, AreCorners, marks_at};
 
 use cg_dyadic::Wide;
-use cg_lines::Point;
+use cg_walls::Point;
 use std::alloc::{AllocError, Global};
 use std::marker::Model;
 

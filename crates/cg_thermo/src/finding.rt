@@ -18,8 +18,8 @@ use crate::tops::top;
 use cg_canon::{Work, Written};
 use cg_cells::CellStore;
 use cg_dyadic::{Dyadic, Wide};
-use cg_lines::Rise;
 use cg_nodes::{BoardForms, GameFacts, Handle};
+use cg_walls::Rise;
 use std::alloc::Global;
 
 // The chart of a number.

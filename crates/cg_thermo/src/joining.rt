@@ -1,11 +1,11 @@
 //! One step: the chart of a game from the walls of its options.
 ghost use Rattle.std.specs.Prelude.{◌≡◌, ◌≤ℤ◌, pos, IfOk, Err};
-ghost use Rattle.cg_lines.specs.Rises.{IsWall, gap};
+ghost use Rattle.cg_walls.specs.Rises.{IsWall, gap};
 ghost use Rattle.cg_thermo.specs.Joins.{Joins, Jumps};
 
 use crate::chart::Chart;
 use crate::fault::ThermoFault;
-use cg_lines::{Rise, meeting, turned};
+use cg_walls::{Rise, meeting, turned};
 use std::alloc::Global;
 
 /// The chart of a game, from the greatest right wall of the Left options and the greatest negative of a left wall of the

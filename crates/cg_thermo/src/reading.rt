@@ -3,7 +3,7 @@ ghost use Rattle.std.specs.Prelude.{◌≡◌, ◌≤◌, ◌^◌, ℤ, [], IfNo
 ghost use Rattle.cg_dyadic.specs.Number.{Number};
 ghost use Rattle.cg_dyadic.specs.Units.{units};
 ghost use Rattle.cg_dyadic.specs.Wide.{InWide, places};
-ghost use Rattle.cg_lines.specs.Lines.{OnLine, TimesRise, further};
+ghost use Rattle.cg_walls.specs.Lines.{OnLine, TimesRise, further};
 ghost use Rattle.cg_thermo.specs.WallLine.{IsOnLine, marks_at};
 
 use crate::corners::{Corner, Corners};

@@ -6,8 +6,8 @@ ghost use Rattle.cg_dyadic.specs.Number.{exp_of, InRange, Number, ratio};
 ghost use Rattle.cg_dyadic.specs.Wide.{places};
 ghost use Rattle.cg_form.specs.Canonical.{Canonical};
 ghost use Rattle.cg_form.specs.Game.{number};
-ghost use Rattle.cg_lines.specs.declared.TheConstants.{END};
-ghost use Rattle.cg_lines.specs.Rises.{IsWall};
+ghost use Rattle.cg_walls.specs.declared.TheConstants.{END};
+ghost use Rattle.cg_walls.specs.Rises.{IsWall};
 ghost use Rattle.cg_nodes.specs.Games.{IsGame, IsNode, game_at};
 ghost use Rattle.cg_thermo.specs.Progress.{Charted};
 ghost use Rattle.cg_thermo.specs.Signed.{Pictured};
@@ -22,8 +22,8 @@ use crate::listing::each_position;
 use cg_canon::Work;
 use cg_cells::CellStore;
 use cg_dyadic::{Dyadic, Wide};
-use cg_lines::{points, value};
 use cg_nodes::{BoardForms, GameFacts, Handle, Kind, kind};
+use cg_walls::{points, value};
 use std::alloc::{AllocError, Global};
 
 /// A thermograph: the mean and the temperature, and the corners of both walls.

@@ -1,11 +1,11 @@
 //! The greatest of the sides of some options.
 ghost use Rattle.std.specs.Prelude.{◌≡◌, ℕ, IfOk, IsSome, cond};
-ghost use Rattle.cg_lines.specs.Rises.{IsWall, value_at};
+ghost use Rattle.cg_walls.specs.Rises.{IsWall, value_at};
 ghost use Rattle.cg_thermo.specs.Found.{AllFound, AreWalls, TopOf, charted, side_in};
 
 use crate::chart::{Chart, Charts};
-use cg_lines::{BOUND, Rise, higher};
 use cg_nodes::Handle;
+use cg_walls::{BOUND, Rise, higher};
 use std::alloc::{AllocError, Global};
 
 // The right wall, or the negative of the left wall.

@@ -1,7 +1,7 @@
 use Rattle.std.proofs.Common.{◌≡◌, refl, ap, ◌∙◌, sym, subst, ℤ, neg_ℤ, ◌≤ℤ◌}
 use Rattle.cg_dyadic.specs.Units.{units}
 use Rattle.cg_dyadic.specs.Wide.{places}
-use Rattle.cg_lines.specs.declared.TheConstants.{BOUND}
+use Rattle.cg_walls.specs.declared.TheConstants.{BOUND}
 use Rattle.cg_thermo.proofs.Roughs.{bounds_of, number-charted, word_plain, word_turned}
 use Rattle.cg_thermo.proofs.finding.number_chart.Goals as goal
 

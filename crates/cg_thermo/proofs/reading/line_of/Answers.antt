@@ -2,7 +2,7 @@ use mir.Syntax.{w128}
 use mir.Val.{to_z, of_z}
 use Rattle.std.proofs.Common.{◌≡◌, ap, ◌∙◌, ◌-ℤ◌}
 use Rattle.cg_dyadic.specs.Wide.{places}
-use Rattle.cg_lines.specs.Lines.{further}
+use Rattle.cg_walls.specs.Lines.{further}
 use Rattle.cg_thermo.proofs.Lining.{diff_word, line_at, none_line, small_along, small_word, some_line, wall-ends, wall-last, wall-next}
 use Rattle.cg_thermo.proofs.reading.line_of.Goals as goal
 

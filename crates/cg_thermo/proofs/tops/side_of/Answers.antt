@@ -1,6 +1,6 @@
 use Rattle.std.proofs.Common.{ap, sym, ◌∙◌}
-use Rattle.cg_lines.specs.declared.rise.Rise.{Rise}
-use Rattle.cg_lines.specs.Rises.{value_at}
+use Rattle.cg_walls.specs.declared.rise.Rise.{Rise}
+use Rattle.cg_walls.specs.Rises.{value_at}
 use Rattle.cg_thermo.specs.Found.{charted}
 use Rattle.cg_thermo.proofs.Members.{none_found}
 use Rattle.cg_thermo.proofs.Topping.{side-is, side-wall}

@@ -1,5 +1,5 @@
 use Rattle.std.proofs.Common.{◌∙◌, ◌+◌, arith, ap}
-use Rattle.cg_lines.specs.Rises.{greater, value_at}
+use Rattle.cg_walls.specs.Rises.{greater, value_at}
 use Rattle.cg_thermo.proofs.Members.{has-read}
 use Rattle.cg_thermo.proofs.Topping.{read-behind, top-all, top-first, top-more}
 use Rattle.cg_thermo.proofs.tops.top.Goals as goal
