@@ -1,9 +1,10 @@
 -- The greatest of the sides of some options, one after the other.
 use Rattle.std.proofs.Common.{◌≡◌, refl, ℕ, suc, ◌+◌, ◌<◌, ◌≤◌, arith, inl, inr, ap, sym, ◌∙◌, subst, Bool, true, false, cond, Some, List, [], ◌∷◌, take, get_or, length, ℤ, neg_ℤ, ◌≤ℤ◌}
 use Rattle.std.proofs.lemmas.Int.{ints}
+use Rattle.std.specs.Int.{int_max}
 use Rattle.cg_walls.specs.declared.TheConstants.{BOUND}
 use Rattle.cg_walls.specs.declared.rise.Rise.{Rise}
-use Rattle.cg_walls.specs.Rises.{IsWall, greater, value_at}
+use Rattle.cg_walls.specs.Rises.{IsWall, value_at}
 use Rattle.cg_walls.proofs.Merging.{greater_left, greater_right, le_or_lt}
 use Rattle.cg_thermo.specs.declared.chart.Chart.{Chart}
 use Rattle.cg_thermo.specs.Found.{Charts, AreWalls, TopOf, charted, side_in}
@@ -42,7 +43,7 @@ side-is m right h c t e = ap (λ o. side_in right o t) e ∙ pick right
     pick false = refl
 
 pub top-more : (m : Charts) (right : Bool) (hs : List ℕ) (i h : ℕ) (r q : Rise) → i < length hs → h ≡ get_or hs i h
-    → IsWall q → ((t : ℕ) → value_at q t ≡ greater (value_at r t) (side_in right (charted m h) t))
+    → IsWall q → ((t : ℕ) → value_at q t ≡ int_max (value_at r t) (side_in right (charted m h) t))
     → TopOf m right (take i hs) r → TopOf m right (take (i + 1) hs) q
 top-more m right hs i h r q lt e w v top = record {
   wall = w;
@@ -62,10 +63,10 @@ top-more m right hs i h r q lt e w v top = record {
   ];
 }
   where
-    left_le : (x y : ℤ) → x ≤ℤ greater x y
+    left_le : (x y : ℤ) → x ≤ℤ int_max x y
     left_le x y = grind (arith, ints)
 
-    right_le : (x y : ℤ) → y ≤ℤ greater x y
+    right_le : (x y : ℤ) → y ≤ℤ int_max x y
     right_le x y = grind (arith, ints)
 
 pub top-all : (m : Charts) (right : Bool) (hs : List ℕ) (i : ℕ) (r : Rise) → length hs ≤ i → TopOf m right (take i hs) r → TopOf m right hs r

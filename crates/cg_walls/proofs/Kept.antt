@@ -179,13 +179,6 @@ follows-wall rise r end w h s f = record {
 
 -- ---- the loop
 
--- with what is to come, all that is kept
-pub kept-next : (end : ℕ) (up : Bool) (ts : List ℕ) (k t : ℕ) → k < length ts → t ≡ get_or ts k 0
-    → kept end up (drop k ts) ≡ cond (nat_lt t end) (t ∷ kept end (not up) (drop (k + 1) ts)) (kept end up (drop (k + 1) ts))
-kept-next end up ts k t h e =
-    let i : suc k ≡ k + 1 = omega arith in
-    ap (kept end up) (drop-cons ts k 0 h ∙ ap (λ z. z ∷ drop (suc k) ts) (sym e)) ∙ ap (λ z. cond (nat_lt t end) (t ∷ kept end (not up) (drop z ts)) (kept end up (drop z ts))) i
-
 pub kept-last : (end : ℕ) (up : Bool) (ts : List ℕ) (k : ℕ) → length ts ≤ k → kept end up (drop k ts) ≡ cond up (end ∷ []) []
 kept-last end up ts k h = ap (kept end up) (none ts k h)
   where

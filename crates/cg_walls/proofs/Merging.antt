@@ -8,16 +8,16 @@ use Rattle.cg_walls.specs.declared.TheConstants.{BOUND, END}
 use Rattle.cg_walls.specs.declared.place.Place.{Place}
 use Rattle.cg_walls.specs.declared.rise.Rise.{Rise}
 use Rattle.cg_walls.specs.Places.{At, catch_up, event, leads, next_of}
-use Rattle.cg_walls.specs.Rises.{Climbs, IsWall, greater, rises_at, rises_of, step, steps, value_at}
+use Rattle.cg_walls.specs.Rises.{Climbs, IsWall, rises_at, rises_of, step, steps, value_at}
 use Rattle.cg_walls.proofs.Rising.{climbed_is, climbs-more, climbs-wider, le_or_lt_n, near, rises-after, rises-before, steady, true_or_false, value-suc, value-zero}
 use Rattle.cg_walls.proofs.Walking.{at-last, at-steady, next-after}
 
 -- ---- the greater
 
-pub greater_left : (a b : ℤ) → b ≤ℤ a → greater a b ≡ a
+pub greater_left : (a b : ℤ) → b ≤ℤ a → int_max a b ≡ a
 greater_left a b h = grind (arith, ints)
 
-pub greater_right : (a b : ℤ) → a ≤ℤ b → greater a b ≡ b
+pub greater_right : (a b : ℤ) → a ≤ℤ b → int_max a b ≡ b
 greater_right a b h = grind (arith, ints)
 
 le_true : (a b : ℤ) → a ≤ℤ b → le_z a b ≡ true
@@ -40,8 +40,8 @@ leads_of i j x y = cond (le_z x y) (cond (le_z y x) (i || j) j) i
 -- one step, from k steps further on than x and y
 one_step : (i j : Bool) (x y : ℤ) (k : ℕ) → (i ≡ true → j ≡ false → x <ℤ y → (x +ℤ pos k) <ℤ y)
     → (j ≡ true → i ≡ false → y <ℤ x → (y +ℤ pos k) <ℤ x)
-    → greater (x +ℤ steps i k +ℤ step i) (y +ℤ steps j k +ℤ step j)
-    ≡ greater (x +ℤ steps i k) (y +ℤ steps j k) +ℤ step (leads_of i j x y)
+    → int_max (x +ℤ steps i k +ℤ step i) (y +ℤ steps j k +ℤ step j)
+    ≡ int_max (x +ℤ steps i k) (y +ℤ steps j k) +ℤ step (leads_of i j x y)
 one_step true true x y k p q = elim (le_or_lt x y) [
   | inl h ↦ (let s : leads_of true true x y ≡ true = ap (λ b. cond b (cond (le_z y x) true true) true) (le_true x y h) ∙ both (le_z y x) in
       let g = greater_right (x +ℤ pos k +ℤ pos 1) (y +ℤ pos k +ℤ pos 1) (omega (arith, ints)) in
@@ -105,11 +105,7 @@ one_step false true x y k p q = elim (le_or_lt x y) [
 -- ---- up to the next event
 
 pub upper : Rise → Rise → ℕ → ℤ
-upper a b t = greater (value_at a t) (value_at b t)
-
-pub upper_is : (a b : Rise) (t : ℕ) → upper a b t ≡ greater (value_at a t) (value_at b t)
-unfolding upper
-upper_is a b t = refl
+upper a b t = int_max (value_at a t) (value_at b t)
 
 -- before the catching up
 not_yet : (now u : ℕ) (p q : Place) → u < catch_up now p q → now ≤ u → p.up ≡ true → q.up ≡ false → p.value <ℤ q.value
@@ -141,9 +137,9 @@ led a b now u p q f g h k =
     ∙ ap (λ z. z +ℤ step (rises_of a u)) va ∙ ap (λ z. p.value +ℤ steps p.up (u - now) +ℤ step z) (at-steady a now p f u h na) in
     let wb : value_at b (suc u) ≡ q.value +ℤ steps q.up (u - now) +ℤ step q.up = value-suc b u
     ∙ ap (λ z. z +ℤ step (rises_of b u)) vb ∙ ap (λ z. q.value +ℤ steps q.up (u - now) +ℤ step z) (at-steady b now q g u h nb) in
-    ap (λ z. greater z (value_at b (suc u))) wa ∙ ap (λ z. greater (p.value +ℤ steps p.up (u - now) +ℤ step p.up) z) wb
+    ap (λ z. int_max z (value_at b (suc u))) wa ∙ ap (λ z. int_max (p.value +ℤ steps p.up (u - now) +ℤ step p.up) z) wb
     ∙ one_step p.up q.up p.value q.value (u - now) (λ i j lt. not_yet now u p q ca h i j lt) (λ i j lt. not_yet now u q p cb h i j lt)
-    ∙ ap (λ z. z +ℤ step (leads p q)) (sym (ap (λ z. greater z (value_at b u)) va ∙ ap (λ z. greater (p.value +ℤ steps p.up (u - now)) z) vb))
+    ∙ ap (λ z. z +ℤ step (leads p q)) (sym (ap (λ z. int_max z (value_at b u)) va ∙ ap (λ z. int_max (p.value +ℤ steps p.up (u - now)) z) vb))
 
 -- ---- the loop
 
@@ -281,9 +277,9 @@ merged-all a b first up turns now p q wa wb m e u = elim (le_or_lt_n now u) [
       let vb : value_at b (suc u) ≡ value_at b u = value-suc b u
       ∙ ap (λ z. value_at b u +ℤ step z) (at-last b now q m.two (omega arith) u h ∙ qu) ∙ same (value_at b u) in
       let r : rises_at first turns u ≡ false = m.later u h ∙ m.leading ∙ none p q pu qu in
-      ap (λ z. greater z (value_at b (suc u))) va ∙ ap (λ z. greater (value_at a u) z) vb
-      ∙ sym (same (greater (value_at a u) (value_at b u)))
-      ∙ ap (λ z. greater (value_at a u) (value_at b u) +ℤ step z) (sym r))
+      ap (λ z. int_max z (value_at b (suc u))) va ∙ ap (λ z. int_max (value_at a u) z) vb
+      ∙ sym (same (int_max (value_at a u) (value_at b u)))
+      ∙ ap (λ z. int_max (value_at a u) (value_at b u) +ℤ step z) (sym r))
   | inr h ↦ m.done u h
 ]
   where
@@ -299,19 +295,19 @@ merged-all a b first up turns now p q wa wb m e u = elim (le_or_lt_n now u) [
     none p q i j = ap (λ z. cond (le_z p.value q.value) (cond (le_z q.value p.value) (z || q.up) q.up) z) i
         ∙ ap (λ z. cond (le_z p.value q.value) (cond (le_z q.value p.value) z z) false) j ∙ any (le_z p.value q.value) (le_z q.value p.value)
 
-pub upper-value : (a b r : Rise) (turns : List ℕ) → r.start ≡ greater a.start b.start → r.turns.items ≡ turns
+pub upper-value : (a b r : Rise) (turns : List ℕ) → r.start ≡ int_max a.start b.start → r.turns.items ≡ turns
     → ((u : ℕ) → upper a b (suc u) ≡ upper a b u +ℤ step (rises_at r.first turns u)) → (t : ℕ) → value_at r t ≡ upper a b t
 unfolding upper
 upper-value a b r turns s e h t = climbed_is r (upper a b)
-    (ap (λ z. greater z (value_at b 0)) (value-zero a) ∙ ap (λ z. greater a.start z) (value-zero b) ∙ sym s)
+    (ap (λ z. int_max z (value_at b 0)) (value-zero a) ∙ ap (λ z. int_max a.start z) (value-zero b) ∙ sym s)
     (λ u. h u ∙ ap (λ z. upper a b u +ℤ step (rises_at r.first z u)) (sym e)) t
 
-within : (x y lo hi : ℤ) → lo ≤ℤ x → x ≤ℤ hi → lo ≤ℤ y → y ≤ℤ hi → (lo ≤ℤ greater x y) × (greater x y ≤ℤ hi)
+within : (x y lo hi : ℤ) → lo ≤ℤ x → x ≤ℤ hi → lo ≤ℤ y → y ≤ℤ hi → (lo ≤ℤ int_max x y) × (int_max x y ≤ℤ hi)
 within x y lo hi a b c d = (grind (arith, ints), grind (arith, ints))
 
 pub upper-wall : (a b r : Rise) (first up : Bool) (turns : List ℕ) (now : ℕ) (p q : Place) → IsWall a → IsWall b
-    → Merged a b first turns now up p q → END ≤ event a b now p q → r.start ≡ greater a.start b.start → r.first ≡ first
-    → r.turns.items ≡ turns → IsWall r × ((t : ℕ) → value_at r t ≡ greater (value_at a t) (value_at b t))
+    → Merged a b first turns now up p q → END ≤ event a b now p q → r.start ≡ int_max a.start b.start → r.first ≡ first
+    → r.turns.items ≡ turns → IsWall r × ((t : ℕ) → value_at r t ≡ int_max (value_at a t) (value_at b t))
 unfolding upper
 upper-wall a b r first up turns now p q wa wb m e s f i =
     let P : Bool → Type 0 = λ z. (u : ℕ) → upper a b (suc u) ≡ upper a b u +ℤ step (rises_at z turns u) in
@@ -333,11 +329,8 @@ upper-wall a b r first up turns now p q wa wb m e s f i =
 
 -- ---- what the code has
 
-pub max_is : (x y a b : ℤ) → x ≡ a → y ≡ b → int_max x y ≡ greater a b
-max_is x y a b e f = let g = max-greater a b in ap (λ z. int_max z y) e ∙ ap (λ z. int_max a z) f ∙ g
-  where
-    max-greater : (a b : ℤ) → int_max a b ≡ greater a b
-    max-greater a b = grind (arith, ints)
+pub max_is : (x y a b : ℤ) → x ≡ a → y ≡ b → int_max x y ≡ int_max a b
+max_is x y a b e f = ap (λ z. int_max z y) e ∙ ap (λ z. int_max a z) f
 
 pub bool_other : (b c : Bool) → not (beq b c) ≡ true → b ≡ not c
 bool_other true true h = cc

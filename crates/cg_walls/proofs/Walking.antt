@@ -20,18 +20,6 @@ at-start r p v b n w =
 
 -- ---- the next turn
 
-drop-all : (ts : List ℕ) (k : ℕ) → length ts ≤ k → drop k ts ≡ []
-drop-all [] zero h = refl
-drop-all [] (suc k) h = refl
-drop-all (t ∷ ts) zero h = absurd (omega arith)
-drop-all (t ∷ ts) (suc k) h = drop-all ts k (omega arith)
-
-pub next_read : (ts : List ℕ) (k : ℕ) → k < length ts → get_or ts k 0 ≡ first_of (drop k ts)
-next_read ts k h = sym (ap first_of (drop-cons ts k 0 h))
-
-pub next_none : (ts : List ℕ) (k : ℕ) → length ts ≤ k → END ≡ first_of (drop k ts)
-next_none ts k h = sym (ap first_of (drop-all ts k h))
-
 pub first-after : (now : ℕ) (ts : List ℕ) → now < END → Climbs now ts END → now < first_of ts
 first-after now [] h c = h
 first-after now (t ∷ ts) h c = c.0

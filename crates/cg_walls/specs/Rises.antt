@@ -1,6 +1,5 @@
 -- Functions of t = 0, 1, 2, .. that in each unit rise by 1 or stay where they are.
 use Rattle.std.specs.Prelude.{ℕ, ◌<◌, nat_lt, min, zero, suc, ℤ, pos, ◌+ℤ◌, ◌-ℤ◌, ◌≤ℤ◌, neg_ℤ, Bool, true, false, not, if◌then◌else◌, List, [], ◌∷◌}
-use lib.Signed.{le_z}
 use Rattle.cg_walls.specs.declared.TheConstants.{BOUND, END}
 use Rattle.cg_walls.specs.declared.rise.Rise.{Rise}
 
@@ -39,9 +38,6 @@ pub record IsWall (r : Rise) : Type 0 where
   pub turns : Climbs 0 r.turns.items END
   pub low : neg_ℤ BOUND ≤ℤ r.start
   pub high : (t : ℕ) → value_at r t ≤ℤ BOUND
-
-abbrev pub greater : ℤ → ℤ → ℤ
-greater a b = if le_z a b then b else a
 
 -- how far the two together are above twice t
 abbrev pub gap : Rise → Rise → ℕ → ℤ

@@ -1,7 +1,8 @@
 //! The greater of two walls.
+ghost use Rattle.std.specs.Int.{int_max};
 ghost use Rattle.std.specs.Prelude.{◌≡◌, ℕ, ◌≤◌, ◌<◌, IfOk};
 ghost use Rattle.cg_walls.specs.Places.{At, Within, catch_up, event, leads};
-ghost use Rattle.cg_walls.specs.Rises.{IsWall, greater, value_at};
+ghost use Rattle.cg_walls.specs.Rises.{IsWall, value_at};
 
 use crate::place::Place;
 use crate::{END, Rise};
@@ -52,7 +53,7 @@ pub fn higher(alloc: Global, a: &Rise, b: &Rise) -> Result<Rise, AllocError>
     requires a { IsWall a.now }
     requires b { IsWall b.now }
     ensures wall { IfOk result IsWall }
-    ensures value { IfOk result (λ r. (t : ℕ) → value_at r t ≡ greater (value_at a.now t) (value_at b.now t)) }
+    ensures value { IfOk result (λ r. (t : ℕ) → value_at r t ≡ int_max (value_at a.now t) (value_at b.now t)) }
 {
     let mut p = Place::start(a);
     let mut q = Place::start(b);

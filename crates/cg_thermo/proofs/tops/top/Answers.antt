@@ -1,5 +1,6 @@
 use Rattle.std.proofs.Common.{◌∙◌, ◌+◌, arith, ap}
-use Rattle.cg_walls.specs.Rises.{greater, value_at}
+use Rattle.std.specs.Int.{int_max}
+use Rattle.cg_walls.specs.Rises.{value_at}
 use Rattle.cg_thermo.proofs.Members.{has-read}
 use Rattle.cg_thermo.proofs.Topping.{read-behind, top-all, top-first, top-more}
 use Rattle.cg_thermo.proofs.tops.top.Goals as goal
@@ -28,7 +29,7 @@ loop-option-preserved c =
     (read-behind c.args.options.now c.in-Some.others.now c.in-Some.first.now c.loop-option.option-index c.option-item.result
     c.in-Some.ensures.cases.0 c.option-item.is)
     c.in_ok-top-2.ensures.wall
-    (λ t. c.in_ok-top-2.ensures.value t ∙ ap (greater (value_at c.loop-option.top t)) (c.side_of-in-loop-option.ensures.value t))
+    (λ t. c.in_ok-top-2.ensures.value t ∙ ap (int_max (value_at c.loop-option.top t)) (c.side_of-in-loop-option.ensures.value t))
     c.loop-option.invariant
 
 pub returns : goal.returns
