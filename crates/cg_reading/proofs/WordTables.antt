@@ -173,11 +173,9 @@ module _ {A : Type 0} where
   among_begins c ((b ∷ bytes, v) ∷ ws) h i a text (inr is) = among_begins c ws (and_parts (has c b) (begin_in c ws) h).1 i a text is
 
   -- The reader of a table finds the word that stands in front, finds no other, and stops behind the longest front of one.
-  pub among_ok : (w : List ℕ × A) (ws : Table A) (c : Class) → is_prefix_free (w ∷ ws) ≡ true → begin_in c (w ∷ ws) ≡ true → Lawful (Among (w ∷ ws)) (among_at (w ∷ ws)) c false []
-  among_ok w ws c free starts = record {
+  pub among_ok : (table : Table A) (c : Class) → (length table == 0) ≡ false → is_prefix_free table ≡ true → begin_in c table ≡ true → Lawful (Among table) (among_at table) c false []
+  among_ok [] c some free starts = absurd cc
+  among_ok (w ∷ ws) c some free starts = record {
     reads = record { sound = λ end i bytes n. among_sound w ws end i bytes; agree = λ end last i p x q r m n. among_agree (w ∷ ws) free end last p x q r; begins = among_begins c (w ∷ ws) starts };
     again = λ end i a text rest is h n. among_again (w ∷ ws) free end i a text rest is;
   }
-
-  pub among_text : (w : List ℕ × A) (ws : Table A) (j : ℕ) → Some_text (Among (w ∷ ws)) j
-  among_text w ws j = record { value = w.1; text = w.0; is = inl (refl, refl) }
