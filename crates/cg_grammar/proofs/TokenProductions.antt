@@ -3,8 +3,7 @@ use Rattle.std.proofs.Common.{◌≡◌, ℕ, suc, Bool, true, false, cond, inr,
 use Rattle.std.specs.Prelude.{codes}
 use Rattle.cg_reading.specs.Bytes.{Class, Begins}
 use Rattle.cg_reading.specs.Pieces.{Piece, Then, Or, Made, Nothing, One, Bytes}
-use Rattle.cg_reading.specs.Readers.{Reader, then_at, made_at, telling_at}
-use Rattle.cg_reading.specs.Words.{among_at}
+use Rattle.cg_reading.specs.Readers.{Reader, then_at, made_at}
 use Rattle.cg_reading.specs.Tokens.{only, blank, digit, digits, blanks}
 use Rattle.cg_reading.specs.TokenReaders as t
 use Rattle.cg_reading.proofs.Sets.{apart, inside}
@@ -255,7 +254,8 @@ behind_named_text (r.Of_one_text kind) j = made_text (λ v. clean (one_text kind
 behind_named_text (r.Of_two_texts kind) j = made_text (λ v. clean (two_texts kind v.1.0 v.1.1)) j (spaced_text (s.enclosed (s.string_and s.string)) strings_enclosed j)
 behind_named_text r.Of_octal j = made_text (λ v. clean (octal v.1.0 v.1.1)) j (spaced_text (s.enclosed (s.string_and digits)) octal_enclosed j)
 
-named_ok : Lawful g.named (telling_at (among_at r.named_words) r.behind_named_at) named_begin false []
+named_ok : Lawful g.named r.named_at named_begin false []
+unfolding r.named_at r.named_word_at
 named_ok = telling_ok (plain_token (among_ok r.named_words named_begin refl refl refl)) behind_named_ok behind_named_text refl (λ n. refl)
 
 pub plain_special_ok : Lawful g.plain_special r.plain_special_at plain_begin false number_follow

@@ -139,6 +139,9 @@ named_words =
     ∷ (codes "Toads", Of_one_text Toads) ∷ (codes "Hackenbush", Of_one_text Hackenbush)
     ∷ (codes "Strip", Of_two_texts Strip) ∷ (codes "Col", Of_two_texts Col) ∷ (codes "Snort", Of_two_texts Snort) ∷ (codes "Octal", Of_octal) ∷ []
 
+unfoldable pub named_word_at : Reader Named
+named_word_at = among_at named_words
+
 -- what stands behind the word
 abbrev pub behind_named_at : Named → Reader Found
 behind_named_at (Of_tiny miny) = made_at (λ v. clean (tiny miny v.0 v.1)) enclosed_number_at
@@ -146,9 +149,13 @@ behind_named_at (Of_one_text kind) = made_at (λ v. clean (one_text kind v.1)) (
 behind_named_at (Of_two_texts kind) = made_at (λ v. clean (two_texts kind v.1.0 v.1.1)) (then_at blanks_at enclosed_strings_at)
 behind_named_at Of_octal = made_at (λ v. clean (octal v.1.0 v.1.1)) (then_at blanks_at enclosed_octal_at)
 
+-- tiny, miny, a board or an octal game
+unfoldable pub named_at : Reader Found
+named_at = telling_at named_word_at behind_named_at
+
 -- a special without brackets around an expression
 unfoldable pub plain_special_at : Reader Found
-plain_special_at = or_at (only 43) switch_at (telling_at (among_at named_words) behind_named_at)
+plain_special_at = or_at (only 43) switch_at named_at
 
 -- ---- names
 

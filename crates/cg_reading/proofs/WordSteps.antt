@@ -2,6 +2,10 @@
 use Rattle.std.proofs.Common.{◌≡◌, ℕ, suc, ◌+◌, ◌<◌, ◌≤◌, Bool, true, false, cond, List, [], ◌∷◌, length, get_or, drop, Bor, Ok, Err, refl, ap, sym, ◌∙◌, arith, drop-cons}
 use Rattle.std.specs.Prelude.{◌==◌, min, map}
 use Rattle.std.proofs.Math.Nat.{min-eq_left, min-eq_right}
+use Rattle.std.proofs.Common.{Result}
+use Rattle.cg_reading.specs.declared.fault.ReadFault.{ReadFault}
+use Rattle.cg_reading.specs.Gives.{Gives}
+use Rattle.cg_reading.proofs.GivesLemmas.{gives_along, fails_bind}
 use Rattle.cg_reading.specs.Readers.{Read, ◌>>=◌, word_at, made_at}
 use Rattle.cg_reading.specs.TokenReaders.{this_word_at}
 use Rattle.cg_reading.specs.Words.{Table, words_of, either_read, among_at}
@@ -64,3 +68,11 @@ pub words_at : {T : Type 0} (entries : List (Bor (List ℕ) × T)) (i : ℕ) (en
 words_at entries i entry below e =
     let next : suc i ≡ i + 1 = omega arith in
     ap words_of (drop-cons entries i entry below ∙ ap (λ x. x ∷ drop (suc i) entries) (sym e) ∙ ap (λ (k : ℕ). entry ∷ drop k entries) next)
+
+-- what a table gives, seen by its values
+pub gives_word : {X A B : Type 0} (h : A → B) (view : X → A × List ℕ) (r : Result X ReadFault) (table : Table A) (end : ℕ) (bytes : List ℕ) → Gives view r (among_at table end bytes) → Gives (λ x. (h (view x).0, (view x).1)) r (among_at (map (λ w. (w.0, h w.1)) table) end bytes)
+gives_word h view r table end bytes g = gives_along (λ x. (h (view x).0, (view x).1)) r (made_at h (among_at table) end bytes) (among_at (map (λ w. (w.0, h w.1)) table) end bytes) (among_valued h table end bytes) (seen r g)
+  where
+    seen : (r : Result _ ReadFault) → Gives view r (among_at table end bytes) → Gives (λ x. (h (view x).0, (view x).1)) r (made_at h (among_at table) end bytes)
+    seen (Ok x) e = ap (λ z. z >>= λ v. Ok (h v.0, v.1)) e
+    seen (Err f) e = fails_bind f (among_at table end bytes) (λ v. Ok (h v.0, v.1)) e
