@@ -4,6 +4,7 @@ use Rattle.std.specs.Str.{bytes_eq}
 use Rattle.cg_reading.specs.Bytes.{Class}
 use Rattle.cg_reading.specs.Readers.{Read, Reader, ◌>>=◌, then_at, or_at, many_at, behind_these, made_at, nothing_at, one_at, bytes_at, most_at, run_at, placed_at, such_at, telling_at, whole_at}
 use Rattle.cg_reading.specs.Tokens.{only, blank, digit}
+use Rattle.cg_reading.specs.Words.{Table, among_at}
 use Rattle.cg_reading.specs.TokenReaders.{blanks_at, byte_at, gap_at, this_word_at, digits_at}
 use Rattle.cg_query.specs.Tree.{Tree, Question, number, ups, nimber, switch, tiny, sum, octal, used, terms_from, value, compare, outcome, stops, mean, temp, thermo, proof}
 use Rattle.cg_grammar.specs.Found.{Found, Asked, Stated, first}
@@ -107,10 +108,6 @@ switch_at = made_at (λ v. clean (switch v.1.1.0 v.1.1.1)) (then_at (byte_at 43)
 unfoldable pub enclosed_number_at : Reader (ℕ × ℕ)
 enclosed_number_at = made_at (λ v. v.1.1.0) (then_at (byte_at 40) (then_at blanks_at (then_at number_at (then_at blanks_at (byte_at 41)))))
 
--- tiny or miny, by the word in front
-unfoldable pub tiny_at : List ℕ → Bool → Reader Found
-tiny_at word miny = made_at (λ v. clean (tiny miny v.1.0 v.1.1)) (then_at (this_word_at word) enclosed_number_at)
-
 -- a text between parentheses
 unfoldable pub enclosed_string_at : Reader (List ℕ)
 enclosed_string_at = made_at (λ v. v.1.1.0) (then_at (byte_at 40) (then_at blanks_at (then_at string_at (then_at blanks_at (byte_at 41)))))
@@ -127,33 +124,38 @@ string_and_digits_at = made_at (λ v. (v.0, v.1.1.1.1)) (then_at string_at (then
 unfoldable pub enclosed_octal_at : Reader (List ℕ × ℕ)
 enclosed_octal_at = made_at (λ v. v.1.1.0) (then_at (byte_at 40) (then_at blanks_at (then_at string_and_digits_at (then_at blanks_at (byte_at 41)))))
 
--- a board of one text, by the word in front
-unfoldable pub one_text_at : List ℕ → GameKind → Reader Found
-one_text_at word kind = made_at (λ v. clean (one_text kind v.1.1)) (then_at (this_word_at word) (then_at blanks_at enclosed_string_at))
+-- what the word of an operand tells
+pub data Named : Type 0 where
+  Of_tiny : Bool → Named
+  Of_one_text : GameKind → Named
+  Of_two_texts : GameKind → Named
+  Of_octal : Named
 
--- a board of two texts, by the word in front
-unfoldable pub two_texts_at : List ℕ → GameKind → Reader Found
-two_texts_at word kind = made_at (λ v. clean (two_texts kind v.1.1.0 v.1.1.1)) (then_at (this_word_at word) (then_at blanks_at enclosed_strings_at))
+-- the words that operands begin with
+abbrev pub named_words : Table Named
+named_words =
+    (codes "Tiny", Of_tiny false) ∷ (codes "Miny", Of_tiny true)
+    ∷ (codes "Domineering", Of_one_text Domineering) ∷ (codes "Clobber", Of_one_text Clobber) ∷ (codes "Amazons", Of_one_text Amazons)
+    ∷ (codes "Toads", Of_one_text Toads) ∷ (codes "Hackenbush", Of_one_text Hackenbush)
+    ∷ (codes "Strip", Of_two_texts Strip) ∷ (codes "Col", Of_two_texts Col) ∷ (codes "Snort", Of_two_texts Snort) ∷ (codes "Octal", Of_octal) ∷ []
 
-unfoldable pub octal_at : Reader Found
-octal_at = made_at (λ v. clean (octal v.1.1.0 v.1.1.1)) (then_at (this_word_at (codes "Octal")) (then_at blanks_at enclosed_octal_at))
+unfoldable pub named_word_at : Reader Named
+named_word_at = among_at named_words
 
--- Tiny and Toads are told apart by their second byte, and so are Clobber and Col, and Strip and Snort
-unfoldable pub tiny_or_toads_at : Reader Found
-tiny_or_toads_at = made_at (λ v. v.1) (then_at (byte_at 84) (or_at (only 105) (tiny_at (codes "iny") false) (one_text_at (codes "oads") Toads)))
+-- what stands behind the word
+abbrev pub behind_named_at : Named → Reader Found
+behind_named_at (Of_tiny miny) = made_at (λ v. clean (tiny miny v.0 v.1)) enclosed_number_at
+behind_named_at (Of_one_text kind) = made_at (λ v. clean (one_text kind v.1)) (then_at blanks_at enclosed_string_at)
+behind_named_at (Of_two_texts kind) = made_at (λ v. clean (two_texts kind v.1.0 v.1.1)) (then_at blanks_at enclosed_strings_at)
+behind_named_at Of_octal = made_at (λ v. clean (octal v.1.0 v.1.1)) (then_at blanks_at enclosed_octal_at)
 
-unfoldable pub clobber_or_col_at : Reader Found
-clobber_or_col_at = made_at (λ v. v.1) (then_at (byte_at 67) (or_at (only 108) (one_text_at (codes "lobber") Clobber) (two_texts_at (codes "ol") Col)))
-
-unfoldable pub strip_or_snort_at : Reader Found
-strip_or_snort_at = made_at (λ v. v.1) (then_at (byte_at 83) (or_at (only 116) (two_texts_at (codes "trip") Strip) (two_texts_at (codes "nort") Snort)))
-
-unfoldable pub named_board_at : Reader Found
-named_board_at = or_at (only 68) (one_text_at (codes "Domineering") Domineering) (or_at (only 72) (one_text_at (codes "Hackenbush") Hackenbush) (or_at (only 65) (one_text_at (codes "Amazons") Amazons) (or_at (only 67) clobber_or_col_at strip_or_snort_at)))
+-- tiny, miny, a board or an octal game
+unfoldable pub named_at : Reader Found
+named_at = telling_at named_word_at behind_named_at
 
 -- a special without brackets around an expression
 unfoldable pub plain_special_at : Reader Found
-plain_special_at = or_at (only 43) switch_at (or_at (only 77) (tiny_at (codes "Miny") true) (or_at (only 84) tiny_or_toads_at (or_at (only 79) octal_at named_board_at)))
+plain_special_at = or_at (only 43) switch_at named_at
 
 -- ---- names
 
