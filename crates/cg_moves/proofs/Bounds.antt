@@ -4,25 +4,26 @@ use Rattle.cg_form.specs.Game.{node}
 use Rattle.cg_moves.specs.declared.player.Player.{Player}
 use Rattle.cg_moves.specs.declared.player.Player.TheVariants.{Left, Right}
 use Rattle.cg_moves.specs.Grid.{Grid, with_cells}
-use Rattle.cg_moves.specs.Rules.{GameRules, In, IsLawful, boards_after, followers}
+use Rattle.cg_moves.specs.Rules.{GameRules, In, boards_after, followers}
+use Rattle.cg_moves.specs.Lawful.{AreMoves}
 use Rattle.cg_moves.specs.Raw.{IsTreeOfMoves, raw, raw_within}
 use Rattle.cg_moves.specs.Reach.{IsListOfReached, all_reached, reached_within}
 use Rattle.cg_moves.proofs.Members.{flat_map-agree, in-append, in-map, map-agree}
 
-module _ (r : GameRules) (lawful : IsLawful r) where
+module _ (r : GameRules) (moves : AreMoves r) where
   -- a board that a move leads to is one of the game, with a lower measure
   pub after-has : (player : Player) (p q : Grid) → r.has p ≡ true → In q (boards_after r player p) → r.has q ≡ true
   after-has player p q has m =
       let (cells, k, e) = in-map (with_cells p) q (r.moves player p) m in
       let P : Grid → Type 0 = λ z. r.has z ≡ true in
-      subst P (sym e) (lawful.stays player p cells has k)
+      subst P (sym e) (moves.stays player p cells has k)
 
   pub after-lowers : (player : Player) (p q : Grid) → r.has p ≡ true → In q (boards_after r player p)
       → r.measure q < r.measure p
   after-lowers player p q has m =
       let (cells, k, e) = in-map (with_cells p) q (r.moves player p) m in
       let P : Grid → Type 0 = λ z. r.measure z < r.measure p in
-      subst P (sym e) (lawful.lowers player p cells has k)
+      subst P (sym e) (moves.lowers player p cells has k)
 
   pub follower-has : (p q : Grid) → r.has p ≡ true → In q (followers r p) → r.has q ≡ true
   follower-has p q has m = elim (in-append q (boards_after r Left p) (boards_after r Right p) m) [

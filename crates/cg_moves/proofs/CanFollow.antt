@@ -10,7 +10,8 @@ use Rattle.cg_moves.specs.declared.walk.Seen.{Seen}
 use Rattle.cg_moves.specs.Found.{AreAlike}
 use Rattle.cg_moves.specs.Grid.{Grid}
 use Rattle.cg_moves.specs.Plays.{IsPlay, MayGo, parts_of, play_of}
-use Rattle.cg_moves.specs.Rules.{GameRules, In, IsLawful, boards_after}
+use Rattle.cg_moves.specs.Lawful.{IsLawful}
+use Rattle.cg_moves.specs.Rules.{GameRules, In, boards_after}
 use Rattle.cg_moves.specs.Walking.{AreAlone, AreFound, IsWalking, Way, board_of, parts, play, reached, way_of}
 use Rattle.cg_moves.specs.Walks.{AreStarts}
 use Rattle.cg_moves.proofs.Bounds.{follower-has}
@@ -57,7 +58,7 @@ module _ (r : GameRules) (lawful : IsLawful r) (course : Course) where
   can-enter found p x lefts rights l t =
       let all = both r p lefts rights l t in
       record {
-        has = λ q m. follower-has r lawful p q x.has (carry q _ _ all m);
+        has = λ q m. follower-has r lawful.moves p q x.has (carry q _ _ all m);
         alone = x.alone;
         alike = x.alike (lefts ++ rights) (λ q m. follower-symbols r lawful p q (carry q _ _ all m));
       }

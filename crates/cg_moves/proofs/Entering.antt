@@ -14,7 +14,8 @@ use Rattle.cg_moves.specs.Grid.{Grid}
 use Rattle.cg_moves.specs.Kept.{kept}
 use Rattle.cg_moves.specs.Opened.{AreCounted, AreNext, IsAt, StandAt}
 use Rattle.cg_moves.specs.Plays.{IsPlay, parts_of}
-use Rattle.cg_moves.specs.Rules.{GameRules, In, IsLawful, boards_after, followers}
+use Rattle.cg_moves.specs.Lawful.{IsLawful}
+use Rattle.cg_moves.specs.Rules.{GameRules, In, boards_after, followers}
 use Rattle.cg_moves.specs.Walking.{AreEntered, IsOnWay, IsWalking, Leads, Way, parts, play, reached, visit, way_of}
 use Rattle.cg_moves.specs.Walks.{AreOpen, Enters, GoesOn, Leaves, Visit, boards_left, entered, load}
 use Rattle.cg_moves.proofs.CanFollow.{IsGoing}

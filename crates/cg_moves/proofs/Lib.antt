@@ -45,3 +45,6 @@ pub mod Differing
 pub mod Sorting
 pub mod SameMembers
 pub mod RisingBoards
+pub mod ForGames
+pub mod FirstPlaces
+pub mod LargePlaces

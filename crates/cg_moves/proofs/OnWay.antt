@@ -14,7 +14,8 @@ use Rattle.cg_moves.specs.Grid.{Grid}
 use Rattle.cg_moves.specs.Kept.{kept}
 use Rattle.cg_moves.specs.Opened.{uncut}
 use Rattle.cg_moves.specs.Plays.{IsPlay, MayGo, next_of, parts_of, play_of}
-use Rattle.cg_moves.specs.Rules.{GameRules, In, IsLawful, followers}
+use Rattle.cg_moves.specs.Lawful.{IsLawful}
+use Rattle.cg_moves.specs.Rules.{GameRules, In, followers}
 use Rattle.cg_moves.specs.Walking.{AreAlone, AreEntered, IsOnWay, IsWalking, Way, board_of, play, visit}
 use Rattle.cg_moves.specs.Walks.{AreOpen, AreStarts, Enters, IsWalk, Leaves, Visit, boards_left, entered, visit_board, visit_boards}
 use Rattle.cg_moves.proofs.Bounds.{follower-has}
@@ -54,7 +55,7 @@ module _ (r : GameRules) (lawful : IsLawful r) (course : Course) (may : MayGo r 
             let (b, j, part) = in-flat_map (parts_of r course) s (followers r p) (carry s (w.next p)
             (flat_map (parts_of r course) (followers r p)) (next-parts r course p) k) in
             all-alone n s q (is.has p s has k) (omega (arith, lower, low))
-            (part-alone r lawful course may b s (follower-has r lawful p b has j) part) i)
+            (part-alone r lawful course may b s (follower-has r lawful.moves p b has j) part) i)
         | inr o ↦ subst P (sym (in_one q p o)) own
       ]
 

@@ -9,10 +9,11 @@ use Rattle.cg_moves.specs.declared.player.Player.{Player}
 use Rattle.cg_moves.specs.declared.player.Player.TheVariants.{Left, Right}
 use Rattle.cg_moves.specs.Grid.{Grid, with_cells}
 use Rattle.cg_moves.specs.Kept.{kept}
+use Rattle.cg_moves.specs.Lawful.{ArePieces, IsLawful}
 use Rattle.cg_moves.specs.PieceReach.{all_piece_reached, piece_reach_of}
 use Rattle.cg_moves.specs.Plays.{IsPlay, MayGo, next_pieces, parts_of, pieces_after, play_of}
 use Rattle.cg_moves.specs.Reach.{all_reached, reach_of}
-use Rattle.cg_moves.specs.Rules.{GameRules, In, IsCut, IsLawful, boards_after, followers}
+use Rattle.cg_moves.specs.Rules.{GameRules, In, boards_after, followers, pieces}
 use Rattle.cg_moves.specs.Walks.{AreStarts}
 use Rattle.cg_moves.proofs.Bounds.{follower-has, follower-lowers, reached-moves}
 use Rattle.cg_moves.proofs.KeptLemmas.{once-kept}
@@ -37,25 +38,25 @@ module _ (r : GameRules) (lawful : IsLawful r) where
   pub part-alone : (course : Course) → MayGo r course → (p q : Grid) → r.has p ≡ true → In q (parts_of r course p)
       → parts_of r course q ≡ q ∷ []
   part-alone Moves may p q has m = refl
-  part-alone Pieces may p q has m = (let cut = lawful.cut may in cut.alone p q has m)
+  part-alone Pieces may p q has m = (lawful.cut may).each.alone p q has m
 
   pub by-moves : IsPlay (play_of r Moves)
   by-moves = record {
-    has = follower-has r lawful;
+    has = follower-has r lawful.moves;
     symbols = λ p q has m. follower-symbols p q m;
-    lowers = follower-lowers r lawful;
-    all = reached-moves r lawful;
+    lowers = follower-lowers r lawful.moves;
+    all = reached-moves r lawful.moves;
   }
 
-  module _ (cut : IsCut r) where
+  module _ (each : ArePieces r) where
     -- a piece of a board that a move leads to
     record NextPiece (p q : Grid) : Type 0 where
       board : Grid
       follows : In board (followers r p)
-      piece : In q (r.pieces board)
+      piece : In q (pieces r board)
 
     next-piece : (p q : Grid) → In q (next_pieces r p) → NextPiece p q
-    next-piece p q m = let (s, l, o) = in-flat_map r.pieces q (followers r p) m in record {
+    next-piece p q m = let (s, l, o) = in-flat_map (pieces r) q (followers r p) m in record {
       board = s;
       follows = l;
       piece = o;
@@ -64,42 +65,42 @@ module _ (r : GameRules) (lawful : IsLawful r) where
     pub by-pieces : IsPlay (play_of r Pieces)
     by-pieces = record {
       has = λ p q has m.
-          let s = next-piece p q m in cut.has s.board q (follower-has r lawful p s.board has s.follows) s.piece;
+          let s = next-piece p q m in each.has s.board q (follower-has r lawful.moves p s.board has s.follows) s.piece;
       symbols = λ p q has m.
           let s = next-piece p q m in
-          cut.symbols s.board q (follower-has r lawful p s.board has s.follows) s.piece
+          each.symbols s.board q (follower-has r lawful.moves p s.board has s.follows) s.piece
           ∙ follower-symbols p s.board s.follows;
       lowers = λ p q has m.
           let s = next-piece p q m in
-          let a = cut.measure s.board q (follower-has r lawful p s.board has s.follows) s.piece in
-          let b = follower-lowers r lawful p s.board has s.follows in
+          let a = each.measure s.board q (follower-has r lawful.moves p s.board has s.follows) s.piece in
+          let b = follower-lowers r lawful.moves p s.board has s.follows in
           omega (arith, a, b);
       all = λ p has.
           ap (λ z. z ++ (p ∷ []))
-          (flat_map-agree (all_piece_reached r) (λ s. flat_map (pieces_after r) (r.pieces s)) (followers r p)
-          (λ s l. piece_reached-moves r lawful cut s (follower-has r lawful p s has l))
-          ∙ sym (flat_map-twice (pieces_after r) r.pieces (followers r p)));
+          (flat_map-agree (all_piece_reached r) (λ s. flat_map (pieces_after r) (pieces r s)) (followers r p)
+          (λ s l. piece_reached-moves r lawful.moves each s (follower-has r lawful.moves p s has l))
+          ∙ sym (flat_map-twice (pieces_after r) (pieces r) (followers r p)));
     }
 
-    pub piece_starts : (p : Grid) → r.has p ≡ true → AreStarts (play_of r Pieces) (r.pieces p)
+    pub piece_starts : (p : Grid) → r.has p ≡ true → AreStarts (play_of r Pieces) (pieces r p)
     piece_starts p has = record {
       symbols = p.symbols;
-      known = λ q m. (cut.symbols p q has m, cut.has p q has m);
+      known = λ q m. (each.symbols p q has m, each.has p q has m);
     }
 
     pub piece_reach-kept : (p : Grid) → r.has p ≡ true
-        → piece_reach_of r p ≡ kept [] (flat_map (play_of r Pieces).all (r.pieces p))
+        → piece_reach_of r p ≡ kept [] (flat_map (play_of r Pieces).all (pieces r p))
     unfolding piece_reach_of
-    piece_reach-kept p has = once-kept (all_piece_reached r p) ∙ ap (kept []) (piece_reached-moves r lawful cut p has)
+    piece_reach-kept p has = once-kept (all_piece_reached r p) ∙ ap (kept []) (piece_reached-moves r lawful.moves each p has)
 
-    pub piece_reach-all : (p : Grid) (starts : List Grid) → r.has p ≡ true → starts ≡ r.pieces p
+    pub piece_reach-all : (p : Grid) (starts : List Grid) → r.has p ≡ true → starts ≡ pieces r p
         → piece_reach_of r p ≡ kept [] (flat_map (play_of r Pieces).all starts)
     piece_reach-all p starts has e =
         piece_reach-kept p has ∙ ap (λ z. kept [] (flat_map (play_of r Pieces).all z)) (sym e)
 
   pub plays : (course : Course) → MayGo r course → IsPlay (play_of r course)
   plays Moves may = by-moves
-  plays Pieces may = by-pieces (lawful.cut may)
+  plays Pieces may = by-pieces (lawful.cut may).each
 
   pub one_start : (p : Grid) (starts : List Grid) → r.has p ≡ true → starts ≡ p ∷ [] → AreStarts (play_of r Moves) starts
   one_start p starts has e =

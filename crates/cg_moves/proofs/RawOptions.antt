@@ -5,7 +5,8 @@ use Rattle.cg_form.proofs.Among.{lefts-node, rights-node}
 use Rattle.cg_moves.specs.declared.player.Player.{Player}
 use Rattle.cg_moves.specs.declared.player.Player.TheVariants.{Left, Right}
 use Rattle.cg_moves.specs.Grid.{Grid, with_cells}
-use Rattle.cg_moves.specs.Rules.{GameRules, In, IsLawful, boards_after}
+use Rattle.cg_moves.specs.Rules.{GameRules, In, boards_after}
+use Rattle.cg_moves.specs.Lawful.{AreMoves}
 use Rattle.cg_moves.specs.Raw.{raw}
 use Rattle.cg_moves.proofs.Bounds.{raw-moves}
 use Rattle.cg_moves.proofs.Members.{in-map, in_mapped}
@@ -22,13 +23,13 @@ in_among f g [] m = absurd m
 in_among f g (y ∷ ys) (inl e) = (y, inl refl, e)
 in_among f g (y ∷ ys) (inr m) = let (x, k, e) = in_among f g ys m in (x, inr k, e)
 
-module _ (r : GameRules) (lawful : IsLawful r) where
+module _ (r : GameRules) (moves : AreMoves r) where
   -- the options are the trees of the moves
   pub options-raw : (player : Player) (p : Grid) → r.has p ≡ true
       → options_of player (raw r p) ≡ map (raw r) (boards_after r player p)
-  options-raw Left p has = ap (options_of Left) (raw-moves r lawful p has)
+  options-raw Left p has = ap (options_of Left) (raw-moves r moves p has)
       ∙ lefts-node (map (raw r) (boards_after r Left p)) (map (raw r) (boards_after r Right p))
-  options-raw Right p has = ap (options_of Right) (raw-moves r lawful p has)
+  options-raw Right p has = ap (options_of Right) (raw-moves r moves p has)
       ∙ rights-node (map (raw r) (boards_after r Left p)) (map (raw r) (boards_after r Right p))
 
   pub raw_option : (player : Player) (p : Grid) (cells : List ℕ) → r.has p ≡ true → In cells (r.moves player p)

@@ -2,7 +2,8 @@
 use Rattle.std.proofs.Common.{◌≡◌, suc, ◌<◌, true, inl, inr, [], ◌∷◌, ◌++◌, ap, ◌∙◌, arith}
 use Rattle.std.specs.List.{flat_map}
 use Rattle.cg_moves.specs.Grid.{Grid}
-use Rattle.cg_moves.specs.Rules.{GameRules, In, IsLawful, followers}
+use Rattle.cg_moves.specs.Lawful.{IsLawful}
+use Rattle.cg_moves.specs.Rules.{GameRules, In, followers}
 use Rattle.cg_moves.specs.declared.course.Course.TheVariants.{Moves}
 use Rattle.cg_moves.specs.Kept.{kept}
 use Rattle.cg_moves.specs.Plays.{Play, play_of}
@@ -38,19 +39,19 @@ module _ (r : GameRules) where
         ]
 
     pub reach-has : (p q : Grid) → r.has p ≡ true → In q (reach_of r p) → r.has q ≡ true
-    reach-has p q has m = each-reached (λ z. r.has z ≡ true) (λ s t h k l. follower-has r lawful s t h l) p has has q
+    reach-has p q has m = each-reached (λ z. r.has z ≡ true) (λ s t h k l. follower-has r lawful.moves s t h l) p has has q
         (in-reach p q m)
 
     before-lower : (p q : Grid) → r.has p ≡ true → In q (flat_map (all_reached r) (followers r p))
         → r.measure q < r.measure p
     before-lower p q has m =
         let (s, l, o) = in-flat_map (all_reached r) q (followers r p) m in
-        let shas = follower-has r lawful p s has l in
+        let shas = follower-has r lawful.moves p s has l in
         let both = each-reached (λ z. (r.measure z < r.measure p) × (r.has z ≡ true))
-        (λ u v h k n. let low = follower-lowers r lawful u v h n in let b = k.0 in (
+        (λ u v h k n. let low = follower-lowers r lawful.moves u v h n in let b = k.0 in (
           omega arith,
-          follower-has r lawful u v h n,
-        )) s shas (follower-lowers r lawful p s has l, shas) q o in
+          follower-has r lawful.moves u v h n,
+        )) s shas (follower-lowers r lawful.moves p s has l, shas) q o in
         both.0
 
     -- the board itself is the last
@@ -58,7 +59,7 @@ module _ (r : GameRules) where
         → reach_of r p ≡ kept [] (flat_map (all_reached r) (followers r p)) ++ (p ∷ [])
     reach-last p has =
         let before = flat_map (all_reached r) (followers r p) in
-        reach-kept p ∙ ap (kept []) (reached-moves r lawful p has) ∙ kept-append [] before (p ∷ [])
+        reach-kept p ∙ ap (kept []) (reached-moves r lawful.moves p has) ∙ kept-append [] before (p ∷ [])
         ∙ one_more-new (kept [] before) p (λ m. elim (kept-among [] before p m) [
           | inl nothing ↦ nothing
           | inr n ↦ (let low = before-lower p p has n in absurd (omega arith))

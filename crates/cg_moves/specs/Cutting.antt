@@ -3,8 +3,8 @@ use Rattle.std.specs.Prelude.{if◌then◌else◌}
 use Rattle.cg_moves.specs.declared.pieces.Pieces.{Pieces}
 use Rattle.cg_moves.specs.declared.pieces.Pieces.TheVariants.{Whole, Cut}
 use Rattle.cg_moves.specs.Grid.{Grid}
-use Rattle.cg_moves.specs.Rules.{GameRules}
+use Rattle.cg_moves.specs.Rules.{GameRules, cuts, pieces}
 
 -- its pieces where the rules cut, and that it stays whole where they don't
 abbrev pub cutting : GameRules → Grid → Pieces
-cutting r p = if r.cuts then Cut (r.pieces p) else Whole
+cutting r p = if cuts r then Cut (pieces r p) else Whole

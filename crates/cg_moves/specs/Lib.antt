@@ -6,6 +6,8 @@ pub mod Reordered
 pub mod Rules
 pub mod Total
 pub mod Raw
+pub mod Lawful
+pub mod CutByMoves
 pub mod Reach
 pub mod Seen
 pub mod Rising

@@ -7,7 +7,7 @@ use Rattle.cg_moves.specs.Grid.{Grid}
 use Rattle.cg_moves.specs.Opened.{uncut}
 use Rattle.cg_moves.specs.PieceReach.{all_piece_reached}
 use Rattle.cg_moves.specs.Reach.{all_reached}
-use Rattle.cg_moves.specs.Rules.{GameRules, In, followers}
+use Rattle.cg_moves.specs.Rules.{GameRules, In, cuts, followers, pieces}
 
 pub record Play : Type 0 where
   -- whether a board is one of those
@@ -29,7 +29,7 @@ pub record IsPlay (w : Play) : Type 0 where
 
 -- the pieces of the boards that moves on a board lead to
 abbrev pub next_pieces : GameRules → Grid → List Grid
-next_pieces r p = flat_map r.pieces (followers r p)
+next_pieces r p = flat_map (pieces r) (followers r p)
 
 -- the boards that play comes to from a piece, in pieces, and the piece itself
 abbrev pub pieces_after : GameRules → Grid → List Grid
@@ -54,9 +54,9 @@ play_of r course = record {
 -- the parts of a board: the board alone, or its pieces
 abbrev pub parts_of : GameRules → Course → Grid → List Grid
 parts_of r Moves = uncut
-parts_of r Pieces = r.pieces
+parts_of r Pieces = pieces r
 
 -- the rules cut where pieces are asked for
 abbrev pub MayGo : GameRules → Course → Type 0
 MayGo r Moves = Unit {0}
-MayGo r Pieces = r.cuts ≡ true
+MayGo r Pieces = cuts r ≡ true

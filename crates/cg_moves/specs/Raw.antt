@@ -5,7 +5,7 @@ use Rattle.cg_form.specs.Game.{Game, node}
 use Rattle.cg_form.specs.Order.{Equal}
 use Rattle.cg_moves.specs.declared.player.Player.TheVariants.{Left, Right}
 use Rattle.cg_moves.specs.Grid.{Grid}
-use Rattle.cg_moves.specs.Rules.{GameRules, boards_after}
+use Rattle.cg_moves.specs.Rules.{GameRules, boards_after, pieces}
 use Rattle.cg_moves.specs.Total.{total}
 
 module _ (r : GameRules) where
@@ -26,4 +26,4 @@ module _ (r : GameRules) where
 
   -- the board is the sum of its pieces, up to equality of games
   abbrev pub IsSumOfPieces : Grid → Type 0
-  IsSumOfPieces p = Equal (raw p) (total (map raw (r.pieces p)))
+  IsSumOfPieces p = Equal (raw p) (total (map raw (pieces r p)))

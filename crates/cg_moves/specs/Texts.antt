@@ -50,9 +50,15 @@ abbrev pub refused_at : (ℕ → BoardFault) → Option ℕ → Result Grid Boar
 refused_at fault None rest = rest
 refused_at fault (Some place) rest = Err (fault place)
 
+-- the places of the cells of a text, whose first byte stands at this place
+abbrev pub cell_places : Bool → ℕ → List ℕ → List ℕ
+cell_places one_row place [] = []
+cell_places one_row place (c ∷ cs) =
+    if one_row || not (c == bar) then place ∷ cell_places one_row (suc place) cs else cell_places one_row (suc place) cs
+
 -- What a text reads as, with places counted from 1. The first of these refusals that applies: a byte that is no symbol; a
 -- first row without a cell; a row of another length than the first; a 65th cell, before which there is a bar for each whole
--- row
+-- row, so that its place is this: the law function `large`
 abbrev pub read_of : List ℕ → Bool → List ℕ → Result Grid BoardFault
 read_of symbols one_row text =
     let rows = rows_of one_row text in

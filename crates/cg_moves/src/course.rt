@@ -1,5 +1,6 @@
 //! What comes next in a walk over boards.
 ghost use Rattle.std.specs.Prelude.{◌≡◌, ◌∷◌, [], true, IfOk};
+ghost use Rattle.cg_moves.specs.Rules.{cuts, pieces};
 
 use crate::{Board, Pieces, Rules};
 use std::alloc::{AllocError, Global};
@@ -30,8 +31,8 @@ pub fn pieces_in<R: Rules>(
     board: &Board,
 ) -> Result<Vec<Board>, AllocError>
     requires has { (R.game rules.now).has board.now ≡ true }
-    requires cuts { (R.game rules.now).cuts ≡ true }
-    ensures { IfOk result (λ boards. boards.items ≡ (R.game rules.now).pieces board.now) }
+    requires cuts { cuts (R.game rules.now) ≡ true }
+    ensures { IfOk result (λ boards. boards.items ≡ pieces (R.game rules.now) board.now) }
 {
     match rules.pieces(alloc, board)? {
         Pieces::Cut(boards) => Ok(boards.into_vec()),

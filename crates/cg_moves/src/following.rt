@@ -4,7 +4,7 @@ ghost use Rattle.std.specs.List.{flat_map};
 ghost use Rattle.cg_moves.specs.Found.{AreAlike};
 ghost use Rattle.cg_moves.specs.Grid.{Grid};
 ghost use Rattle.cg_moves.specs.Plays.{MayGo, parts_of};
-ghost use Rattle.cg_moves.specs.Rules.{In, boards_after};
+ghost use Rattle.cg_moves.specs.Rules.{In, boards_after, cuts, pieces};
 ghost use Rattle.cg_moves.specs.Walking.{AreAlone};
 ghost use Rattle.cg_moves.specs.declared.player.Player.TheVariants.{Left, Right};
 ghost use Rattle.cg_moves.specs.declared.task.Task.TheVariants.{Enter};
@@ -73,10 +73,10 @@ fn enter_pieces<R: Rules>(
     counts: &mut Vec<usize>,
 ) -> Result<(), AllocError>
     requires has { (R.game rules.now).has board.now ≡ true }
-    requires cuts { (R.game rules.now).cuts ≡ true }
-    ensures counts { IfOk result (λ _. counts.new.items ≡ counts.old.items ++ (length ((R.game rules.now).pieces board.now) ∷ [])) }
+    requires cuts { cuts (R.game rules.now) ≡ true }
+    ensures counts { IfOk result (λ _. counts.new.items ≡ counts.old.items ++ (length (pieces (R.game rules.now) board.now) ∷ [])) }
     ensures tasks { IfOk result (λ _. tasks.new.items
-        ≡ tasks.old.items ++ map Enter (reverse ((R.game rules.now).pieces board.now))) }
+        ≡ tasks.old.items ++ map Enter (reverse (pieces (R.game rules.now) board.now))) }
 {
     let empty = emptied(alloc, room);
     let mut pieces = rules.pieces_into(alloc, board, empty)?;

@@ -3,6 +3,7 @@ ghost use Rattle.std.specs.Prelude.{◌≡◌, ◌<◌, ◌≤◌, ◌∷◌, []
 ghost use Rattle.cg_moves.specs.Opened.{AreNext, StandAt, uncut};
 ghost use Rattle.cg_moves.specs.PieceReach.{piece_reach_of};
 ghost use Rattle.cg_moves.specs.Reach.{reach_of};
+ghost use Rattle.cg_moves.specs.Rules.{cuts, pieces};
 
 use crate::course::{Course, alone, pieces_in};
 use crate::walk::open_all;
@@ -42,11 +43,11 @@ pub fn open_pieces<R: Rules>(
     limit: u64,
 ) -> Result<Opened, ReachFault>
     requires has { (R.game rules.now).has start.now ≡ true }
-    requires cuts { (R.game rules.now).cuts ≡ true }
+    requires cuts { cuts (R.game rules.now) ≡ true }
     ensures boards { IfOk result (λ opened. opened.boards ≡ piece_reach_of (R.game rules.now) start.now) }
-    ensures next { IfOk result (λ opened. AreNext (R.game rules.now) (R.game rules.now).pieces opened.counts.items opened.places.items []
+    ensures next { IfOk result (λ opened. AreNext (R.game rules.now) (pieces (R.game rules.now)) opened.counts.items opened.places.items []
         opened.boards opened.next.items) }
-    ensures starts { IfOk result (λ opened. StandAt opened.boards opened.starts.items ((R.game rules.now).pieces start.now)) }
+    ensures starts { IfOk result (λ opened. StandAt opened.boards opened.starts.items (pieces (R.game rules.now) start.now)) }
     ensures within { OnOk result (length (piece_reach_of (R.game rules.now) start.now) ≤ limit) }
     ensures refused { result ≡ Err ReachFault.Positions → limit < length (piece_reach_of (R.game rules.now) start.now) }
 {
@@ -82,7 +83,7 @@ pub fn reach_pieces<R: Rules>(
     limit: u64,
 ) -> Result<Boards, ReachFault>
     requires has { (R.game rules.now).has start.now ≡ true }
-    requires cuts { (R.game rules.now).cuts ≡ true }
+    requires cuts { cuts (R.game rules.now) ≡ true }
     ensures boards { IfOk result (λ boards. boards ≡ piece_reach_of (R.game rules.now) start.now) }
     ensures within { OnOk result (length (piece_reach_of (R.game rules.now) start.now) ≤ limit) }
     ensures refused { result ≡ Err ReachFault.Positions

@@ -1,19 +1,21 @@
 //! The rules of games on boards.
 ghost use Rattle.std.specs.Prelude.{◌≡◌, ◌<◌, [], true, IfOk};
 ghost use Rattle.cg_moves.specs.Cutting.{cutting};
-ghost use Rattle.cg_moves.specs.Rules.{GameRules, IsLawful, boards_after};
+ghost use Rattle.cg_moves.specs.Lawful.{IsLawful};
+ghost use Rattle.cg_moves.specs.Rules.{GameRules, boards_after, cuts, pieces};
 
 use crate::{Board, Boards, Pieces, Player};
 use std::alloc::{AllocError, Global};
 
 /// The rules of a game, by what contracts see of them: which boards are boards of the game; the moves of each player on a
-/// board, by the cells that they lead to; a measure of boards; the game's number; whether the rules cut boards into pieces,
-/// and where they do, the pieces of each board.
+/// board, by the cells that they lead to; a measure of boards; the game's number; and where the rules cut boards into pieces,
+/// the pieces of each board.
 ///
 /// Their laws: each move of a board of the game leads to a board of the game with a lower measure. Rows, columns and symbols
 /// stay. The number is below 16, and 0 where positions aren't noted in a table. Where the rules cut, each piece of a board of
 /// the game is a board of the game with the same symbols and at most the same measure, has a move, and is its own only piece;
-/// and a move of a board is a move in one piece that leaves the others as they are.
+/// and each board is the sum of its pieces, up to equality of games. What is worth 0 need not be in any piece. The law
+/// function `cut_by_moves` gives the sum where each move of a board is a move in one piece that leaves the others as they are.
 pub trait Rules {
     ghost game: { Self → GameRules };
 
@@ -55,7 +57,7 @@ pub trait Rules {
     ) -> Result<Vec<Board>, AllocError>
         requires has { (game self.now).has board.now ≡ true }
         requires room { room.items ≡ [] }
-        ensures { (game self.now).cuts ≡ true → IfOk result (λ boards. boards.items ≡ (game self.now).pieces board.now) }
+        ensures { cuts (game self.now) ≡ true → IfOk result (λ boards. boards.items ≡ pieces (game self.now) board.now) }
     {
         match self.pieces(alloc, board)? {
             Pieces::Cut(boards) => Ok(boards.into_vec()),

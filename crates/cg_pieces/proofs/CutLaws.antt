@@ -2,9 +2,10 @@
 use Rattle.std.proofs.Common.{◌≡◌, refl, ℕ, zero, suc, ◌<◌, ◌≤◌, ◌⊎◌, inl, inr, true, List, [], ◌∷◌, ◌++◌, map, ap, sym, ◌∙◌, subst, arith}
 use Rattle.cg_moves.specs.declared.player.Player.{Player}
 use Rattle.cg_moves.specs.declared.player.Player.TheVariants.{Left, Right}
+use Rattle.cg_moves.specs.CutByMoves.{IsCutByMoves, MoveInPiece, MoveOfBoard, MovesAlike}
 use Rattle.cg_moves.specs.Grid.{Grid, with_cells}
 use Rattle.cg_moves.specs.Reordered.{IsReordered}
-use Rattle.cg_moves.specs.Rules.{GameRules, In, IsCut, MoveInPiece, MoveOfBoard, MovesAlike, boards_after, followers}
+use Rattle.cg_moves.specs.Rules.{GameRules, In, boards_after, followers, pieces, pieces_by}
 use Rattle.cg_moves.proofs.Members.{in-append_left, in-append_right, in-map, in_mapped}
 use Rattle.cg_moves.proofs.Totals.{map-append}
 use Rattle.cg_pieces.specs.Cells.{CellGame, CutsByCells, Distinct, First, IsCellGame, Joined, pieces_of}
@@ -50,6 +51,9 @@ mapped-cut {Y} f (k ∷ ks) (u ∷ us) y vs e =
     }
 
 module _ (g : CellGame) (r : GameRules) (laws : IsCellGame g) (cuts : CutsByCells g r) where
+  pieces-are : (p : Grid) → pieces r p ≡ pieces_of g p
+  pieces-are p = ap (λ cut. pieces_by cut p) cuts.cut
+
   -- ---- the first cell of a set
 
   record Least (p : Grid) (k : ℕ) : Type 0 where
@@ -115,12 +119,12 @@ module _ (g : CellGame) (r : GameRules) (laws : IsCellGame g) (cuts : CutsByCell
       let small : Grid = with_cells (g.piece p s) (g.after player (g.piece p s) (g.place p s one) (g.place p s other)) in
       let o = cuts.shown_after player p s one other has among legal j in
       let Q : List Grid → Type 0 = λ z. IsReordered z (map (g.piece p) before
-      ++ (r.pieces small ++ map (g.piece p) behind)) in
+      ++ (pieces r small ++ map (g.piece p) behind)) in
       let R : List Grid → Type 0 = λ z. IsReordered (pieces_of g after) (map (g.piece p) before
       ++ (z ++ map (g.piece p) behind)) in record {
-        cut = cuts.pieces p ∙ ap (map (g.piece p)) cut ∙ map-append (g.piece p) before (s ∷ behind);
-        others = subst Q (sym (cuts.pieces after))
-            (subst R (sym (cuts.pieces small)) (pieces-after g laws p before s behind after small cut o));
+        cut = pieces-are p ∙ ap (map (g.piece p)) cut ∙ map-append (g.piece p) before (s ∷ behind);
+        others = subst Q (sym (pieces-are after))
+            (subst R (sym (pieces-are small)) (pieces-after g laws p before s behind after small cut o));
       }
 
   piece-legal : (player : Player) (p : Grid) (s one other : ℕ) → r.has p ≡ true → In s (g.firsts p)
@@ -172,10 +176,10 @@ module _ (g : CellGame) (r : GameRules) (laws : IsCellGame g) (cuts : CutsByCell
       }
 
   of-board : (player : Player) (p : Grid) (before : List Grid) (q : Grid) (behind : List Grid) (moved : List ℕ)
-      → r.has p ≡ true → r.pieces p ≡ before ++ (q ∷ behind) → In moved (r.moves player q)
+      → r.has p ≡ true → pieces r p ≡ before ++ (q ∷ behind) → In moved (r.moves player q)
       → MoveOfBoard r player p before q moved behind
   of-board player p before q behind moved has cut m =
-      let w = mapped-cut (g.piece p) (g.firsts p) before q behind (sym (cuts.pieces p) ∙ cut) in
+      let w = mapped-cut (g.piece p) (g.firsts p) before q behind (sym (pieces-are p) ∙ cut) in
       let Move : Grid → Type 0 = λ z. In moved (r.moves player z) in
       let P : List Grid → Type 0 = λ z. MoveOfBoard r player p z q moved behind in
       let Q : Grid → Type 0 = λ z. MoveOfBoard r player p (map (g.piece p) w.before) z moved behind in
@@ -192,7 +196,7 @@ module _ (g : CellGame) (r : GameRules) (laws : IsCellGame g) (cuts : CutsByCell
       let e : l ≡ n = same l (inl refl) ∙ sym (same n (inr (inl refl))) in
       absurd (d.0 (inl e))
 
-  alone : (p : Grid) (s : ℕ) → r.has p ≡ true → In s (g.firsts p) → r.pieces (g.piece p s) ≡ g.piece p s ∷ []
+  alone : (p : Grid) (s : ℕ) → r.has p ≡ true → In s (g.firsts p) → pieces r (g.piece p s) ≡ g.piece p s ∷ []
   alone p s has among =
       let o = cuts.shown p s has among in
       let first_s = (laws.first p s).0 among in
@@ -208,7 +212,7 @@ module _ (g : CellGame) (r : GameRules) (laws : IsCellGame g) (cuts : CutsByCell
       let b = first_k.least s (joined-sym g laws p s k j) in
       let f : k ≡ s = omega arith in
       e ∙ ap (g.place p s) f) in
-      cuts.pieces (g.piece p s) ∙ ap (map (g.piece (g.piece p s))) one
+      pieces-are (g.piece p s) ∙ ap (map (g.piece (g.piece p s))) one
       ∙ ap (λ z. z ∷ []) (placed-piece g laws p s p (g.piece p s) o s self)
 
   a-move : (player : Player) (q : Grid) (cells : List ℕ) → In cells (r.moves player q) → ¬ (followers r q ≡ [])
@@ -232,19 +236,21 @@ module _ (g : CellGame) (r : GameRules) (laws : IsCellGame g) (cuts : CutsByCell
 
   -- what holds of the board of each first cell holds of each piece
   each-piece : (P : Grid → Type 0) (p q : Grid) → ((s : ℕ) → In s (g.firsts p) → P (g.piece p s))
-      → In q (r.pieces p) → P q
+      → In q (pieces r p) → P q
   each-piece P p q each m =
       let Q : List Grid → Type 0 = λ z. In q z in
-      let (s, i, e) = in-map (g.piece p) q (g.firsts p) (subst Q (cuts.pieces p) m) in
+      let (s, i, e) = in-map (g.piece p) q (g.firsts p) (subst Q (pieces-are p) m) in
       subst P (sym e) (each s i)
 
-  pub is-cut : IsCut r
-  is-cut = record {
-    has = λ p q has m. each-piece (λ z. r.has z ≡ true) p q (λ s i. cuts.has p s has i) m;
-    symbols = λ p q has m. each-piece (λ z. z.symbols ≡ p.symbols) p q (λ s i. cuts.symbols p s has i) m;
-    some_move = λ p q has m. each-piece (λ z. ¬ (followers r z ≡ [])) p q (λ s i. some-move p s has i) m;
-    alone = λ p q has m. each-piece (λ z. r.pieces z ≡ z ∷ []) p q (λ s i. alone p s has i) m;
-    measure = λ p q has m. each-piece (λ z. r.measure z ≤ r.measure p) p q (λ s i. cuts.measure p s has i) m;
+  pub by-cells : IsCutByMoves r
+  by-cells = record {
+    each = record {
+      has = λ p q has m. each-piece (λ z. r.has z ≡ true) p q (λ s i. cuts.has p s has i) m;
+      symbols = λ p q has m. each-piece (λ z. z.symbols ≡ p.symbols) p q (λ s i. cuts.symbols p s has i) m;
+      some_move = λ p q has m. each-piece (λ z. ¬ (followers r z ≡ [])) p q (λ s i. some-move p s has i) m;
+      alone = λ p q has m. each-piece (λ z. pieces r z ≡ z ∷ []) p q (λ s i. alone p s has i) m;
+      measure = λ p q has m. each-piece (λ z. r.measure z ≤ r.measure p) p q (λ s i. cuts.measure p s has i) m;
+    };
     in_piece = in-piece;
     of_board = of-board;
   }

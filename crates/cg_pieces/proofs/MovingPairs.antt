@@ -13,7 +13,7 @@ use Rattle.cg_pieces.specs.declared.field.Field.{Field}
 use Rattle.cg_pieces.specs.Boxes.{column_of, row_of}
 use Rattle.cg_pieces.specs.Moving.{is_behind, moves_between}
 use Rattle.cg_pieces.specs.Neighbours.{IsNeighbours, Neighbours, is_below, is_beside, is_next, is_piece_cell, may_move}
-use Rattle.cg_pieces.specs.Words.{AreMovingBy, AreMovingFrom, IsFieldOf, IsPlaces, some_allowed}
+use Rattle.cg_pieces.specs.Words.{AreMovingBy, IsFieldOf, IsPlaces, some_allowed}
 use Rattle.cg_pieces.proofs.FirstCells.{moves-open}
 use Rattle.cg_pieces.proofs.GrowingSets.{and-one, and-parts, bit-below, down-next, forth-next, not-one, not-zero, or-left, or-parts, or-right, other_bits}
 use Rattle.cg_pieces.proofs.Lines.{before-beside, below-is, beside-is, is-below, second-column}
@@ -244,12 +244,6 @@ module _ (n : Neighbours) (laws : IsNeighbours n) (p : Grid) where
   pair-none one other word are none = record {
     only = λ k t. let z = bit_at-zero k in absurd (omega (arith, z, t));
     all = λ k l x y b m. absurd (none-so other word l are none y (moves-open n laws p k l m).1);
-  }
-
-  pub from-none : (one word : ℕ) → IsPlaces n p one word → word ≡ 0 → AreMovingFrom n p one 0
-  from-none one word are none = record {
-    only = λ k t. let z = bit_at-zero k in absurd (omega (arith, z, t));
-    all = λ k l x b m. absurd (none-so one word k are none x (moves-open n laws p k l m).0);
   }
 
   pub pair-either : (one other below beside : ℕ) → AreMovingBy n p (is_below p.columns) one other below

@@ -1,16 +1,19 @@
 -- Games on adjacent cells cut boards into their joined sets.
 use Rattle.std.proofs.Common.{◌≡◌, refl, ℕ, ◌*◌, ◌<◌, ◌≤◌, Bool, true, filter, length, ap, sym, ◌∙◌, subst, arith}
 use Rattle.std.specs.Prelude.{count_by}
+use Rattle.cg_moves.specs.CutByMoves.{IsCutByMoves}
 use Rattle.cg_moves.specs.Grid.{Grid}
+use Rattle.cg_moves.specs.Lawful.{AreMoves, IsCut}
 use Rattle.cg_moves.specs.Rising.{counted}
-use Rattle.cg_moves.specs.Rules.{GameRules, In, IsCut}
+use Rattle.cg_moves.specs.Rules.{GameRules, In}
 use Rattle.cg_pieces.specs.Boxes.{cropped, set_box, unboxed}
 use Rattle.cg_pieces.specs.Cells.{CutsByCells}
 use Rattle.cg_pieces.specs.Neighbours.{CutsNeighbours, IsNeighbours, Neighbours, are_joined, cell_game, is_piece_cell}
+use Rattle.cg_moves.proofs.PieceSums.{cut-by-moves}
 use Rattle.cg_pieces.proofs.Bounds.{filter-in, in-filter, set-bounds}
 use Rattle.cg_pieces.proofs.Changed.{changed-one_set}
 use Rattle.cg_pieces.proofs.Crops.{unplace}
-use Rattle.cg_pieces.proofs.CutLaws.{is-cut}
+use Rattle.cg_pieces.proofs.CutLaws.{by-cells}
 use Rattle.cg_pieces.proofs.NeighbourSets.{at-cell, distinct-cells, joined-so, may-parts, neighbours-cell_game, so-joined}
 use Rattle.cg_pieces.proofs.Numbers.{count-is, no-more}
 use Rattle.cg_pieces.proofs.Sets.{legal-joined, open-along}
@@ -75,7 +78,7 @@ module _ (n : Neighbours) (r : GameRules) (laws : IsNeighbours n) (cuts : CutsNe
 
   cuts-by-cells : CutsByCells (cell_game n) r
   cuts-by-cells = record {
-    pieces = cuts.pieces;
+    cut = cuts.cut;
     has = λ p s has i.
         let wide = cuts.wide p has in
         let some = first-open p s i in
@@ -96,5 +99,8 @@ module _ (n : Neighbours) (r : GameRules) (laws : IsNeighbours n) (cuts : CutsNe
         (so-joined n laws p s one j) (so-joined n laws p s other j_other) parts.0 parts.1;
   }
 
-  pub neighbours-cut : IsCut r
-  neighbours-cut = is-cut (cell_game n) r (neighbours-cell_game n laws) cuts-by-cells
+  pub neighbours-moves : IsCutByMoves r
+  neighbours-moves = by-cells (cell_game n) r (neighbours-cell_game n laws) cuts-by-cells
+
+  pub neighbours-cut : AreMoves r → IsCut r
+  neighbours-cut moves = cut-by-moves r moves neighbours-moves

@@ -1,8 +1,8 @@
 -- Joined sets of adjacent cells: what is computed is what is so.
-use Rattle.std.proofs.Common.{◌≡◌, refl, ℕ, zero, suc, ◌<◌, ◌≤◌, ◌&&◌, ◌||◌, ◌⊎◌, inl, inr, Bool, true, false, cond, not, IsTrue, nat_le, if◌then◌else◌, List, [], ◌∷◌, filter, length, slice_index, sym, subst, arith}
+use Rattle.std.proofs.Common.{◌≡◌, refl, ℕ, zero, suc, ◌<◌, ◌≤◌, ◌&&◌, ◌||◌, ◌⊎◌, inl, inr, Bool, true, cond, not, IsTrue, nat_le, List, [], ◌∷◌, filter, length, slice_index, sym, subst, arith}
 use Rattle.std.specs.List.{flat_map, list_all, list_any}
 use Rattle.std.proofs.lemmas.Bool.{le-leb, leb-true}
-use Rattle.cg_dyadic.proofs.Truth.{and-both, and-split, differ, false-from, not_true, true-or-not, true_not}
+use Rattle.cg_dyadic.proofs.Truth.{and-both, and-split, false-from, not_true, true-or-not, true_not}
 use Rattle.cg_moves.specs.declared.player.Player.{Player}
 use Rattle.cg_moves.specs.declared.player.Player.TheVariants.{Left, Right}
 use Rattle.cg_moves.specs.Connected.{Edge, connected}
@@ -10,20 +10,13 @@ use Rattle.cg_moves.specs.Grid.{Grid}
 use Rattle.cg_moves.specs.Rising.{counted}
 use Rattle.cg_moves.specs.Rules.{In}
 use Rattle.cg_moves.proofs.ConnectedLemmas.{connected-closed, connected-refl, connected-trans, connected_along, or-cases, or-first, or-second}
-use Rattle.cg_moves.proofs.Members.{in-flat_map, in_flat_mapped, in_one}
+use Rattle.cg_moves.proofs.ForGames.{choice-in, in-choice, inside}
+use Rattle.cg_moves.proofs.Members.{in-flat_map, in_flat_mapped}
 use Rattle.cg_pieces.specs.Cells.{CellGame, Distinct, First, IsCellGame, Joined}
 use Rattle.cg_pieces.specs.Cells.Linked.{here, step}
 use Rattle.cg_pieces.specs.Neighbours.{IsNeighbours, Neighbours, are_joined, are_linked, cell_game, has_move, has_move_at, is_below, is_beside, is_first, is_least, is_next, is_piece_cell, link, links, may_move}
-use Rattle.cg_moves.proofs.Counted.{in_counted}
+use Rattle.cg_moves.proofs.Counted.{counted-from, in_counted}
 use Rattle.cg_pieces.proofs.Bounds.{filter-in, in-filter}
-
--- a choice that holds one thing or none
-pub in-choice : {X : Type 0} (b : Bool) (x y : X) → In x (if b then y ∷ [] else []) → (b ≡ true) × (x ≡ y)
-in-choice true x y m = (refl, in_one x y m)
-in-choice false x y m = absurd m
-
-pub choice-in : {X : Type 0} (b : Bool) (x : X) → b ≡ true → In x (if b then x ∷ [] else [])
-choice-in {X} b x e = let P : Bool → Type 0 = λ z. In x (if z then x ∷ [] else []) in subst P (sym e) (inl refl)
 
 pub swap-or : (a b : Bool) → IsTrue (a || b) → IsTrue (b || a)
 swap-or a b h = elim (or-cases a b h) [ inl x ↦ or-second b a x | inr y ↦ or-first b a y ]
@@ -64,11 +57,6 @@ one-any test k (l ∷ ks) (inr m) t = or-second (test l) (list_any test ks) (one
 distinct-counted : (g : CellGame) (i n : ℕ) → Distinct g (counted i n)
 distinct-counted g i zero = tt
 distinct-counted g i (suc n) = (λ m. let h = counted-from (suc i) n i m in omega (arith, h), distinct-counted g (suc i) n)
-  where
-    counted-from : (i n k : ℕ) → In k (counted i n) → i ≤ k
-    counted-from i zero k m = absurd m
-    counted-from i (suc n) k (inl e) = omega (arith, e)
-    counted-from i (suc n) k (inr m) = let h = counted-from (suc i) n k m in omega (arith, h)
 
 distinct-filter : (g : CellGame) (test : ℕ → Bool) (ks : List ℕ) → Distinct g ks → Distinct g (filter test ks)
 distinct-filter g test [] d = tt
@@ -83,12 +71,7 @@ distinct-filter g test (k ∷ ks) d =
 module _ (n : Neighbours) (laws : IsNeighbours n) where
   -- cells past the end form no pieces
   pub piece-cell-below : (p : Grid) (k : ℕ) → is_piece_cell n p k ≡ true → k < length p.cells
-  piece-cell-below p k t = below p.cells k t
-    where
-      below : (cells : List ℕ) (k : ℕ) → n.forms_pieces (slice_index cells k) ≡ true → k < length cells
-      below [] k t = absurd (differ (n.forms_pieces 0) t laws.past)
-      below (c ∷ cs) zero t = omega arith
-      below (c ∷ cs) (suc k) t = let h = below cs k t in omega arith
+  piece-cell-below p k t = inside n.forms_pieces 0 p.cells k laws.past t
 
   pub at-cell : (p : Grid) (k : ℕ) → is_piece_cell n p k ≡ true → In k (counted 0 (length p.cells))
   at-cell p k t = let h = piece-cell-below p k t in in_counted 0 (length p.cells) k (omega arith) (omega (arith, h))

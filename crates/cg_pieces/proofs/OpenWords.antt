@@ -77,9 +77,6 @@ module _ (n : Neighbours) (laws : IsNeighbours n) (p : Grid) where
 
   -- ---- the words of the symbols
 
-  pub no-places : (words : List ℕ) → ArePlacesTo n p 0 words
-  no-places words j h = absurd (omega (arith, h))
-
   pub places-more : (end symbol place : ℕ) (words : List ℕ) → symbol ≡ slice_index p.symbols end → end < length words
       → IsPlaces n p symbol place → ArePlacesTo n p end words → ArePlacesTo n p (end + 1) (slice_set words end place)
   places-more end symbol place words is inside are old j h = elim (same-or-not j end) [

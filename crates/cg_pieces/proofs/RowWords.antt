@@ -119,9 +119,6 @@ module _ (word columns : ℕ) (f : Frame) where
       ≡ (i + (f.top * columns + f.left)) + (row + 1) * columns = omega arith in
       moved_is i ∙ old (i + columns) ∙ ap (bit_at word) e
 
-  pub cut-none : (m : ℕ) → bit_at 0 m ≡ cut 0 m
-  cut-none m = bit_at-zero m ∙ sym (cut-outside 0 m (omega arith))
-
   -- nothing is cut out of the word 0
   pub cut-zero : word ≡ 0 → (m : ℕ) → bit_at 0 m ≡ cut f.rows m
   cut-zero none m = elim (leb_tells (f.rows * f.columns) m) [

@@ -9,7 +9,6 @@ use Rattle.std.proofs.lemmas.Nat.{and_le_l}
 use Rattle.cg_dyadic.proofs.Truth.{and-both, and-split, false-from, not_true, true_not}
 use Rattle.cg_moves.specs.Grid.{Grid}
 use Rattle.cg_moves.specs.Rising.{counted}
-use Rattle.cg_moves.specs.Words.{Marks}
 use Rattle.cg_moves.proofs.ConnectedLemmas.{or-cases, or-first, or-second}
 use Rattle.cg_moves.proofs.Counted.{in_counted, same-or-not}
 use Rattle.cg_pieces.specs.declared.field.Field.{Field}
@@ -62,13 +61,6 @@ module _ (n : Neighbours) (laws : IsNeighbours n) (p : Grid) where
         | inl x ↦ absurd (not_true (are_joined n p k l) x t)
         | inr y ↦ leb-true k l y
       ]
-
-  pub left-start : (word : ℕ) → Marks word (is_piece_cell n p) → AreLeft n p 0 word
-  left-start word are = record {
-    only = marks-test word (is_piece_cell n p) are;
-    apart = λ k t l h j. absurd (omega (arith, h));
-    all = λ k t none. test-marks word (is_piece_cell n p) are k t;
-  }
 
   pub left-next : (cell left set : ℕ) → left < 2 ^ 64 → set < 2 ^ 64 → AreLeft n p cell left → IsTaken n p cell set
       → AreLeft n p (cell + 1) (bit_and left (other_bits set))

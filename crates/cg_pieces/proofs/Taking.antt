@@ -6,18 +6,17 @@ use Rattle.std.proofs.lemmas.Bool.Decides.{leb_tells}
 use Rattle.std.proofs.lemmas.Nat.{and_le_l}
 use Rattle.cg_moves.specs.Grid.{Grid}
 use Rattle.cg_moves.specs.Rising.{counted}
-use Rattle.cg_moves.specs.Words.{Marks}
 use Rattle.cg_pieces.specs.declared.field.Field.{Field}
 use Rattle.cg_pieces.specs.Boxes.{cropped}
 use Rattle.cg_pieces.specs.Cells.Linked.{here}
 use Rattle.cg_pieces.specs.Moving.{piece_at}
-use Rattle.cg_pieces.specs.Neighbours.{IsNeighbours, Neighbours, are_joined, is_first, is_piece_cell}
+use Rattle.cg_pieces.specs.Neighbours.{IsNeighbours, Neighbours, are_joined, is_first}
 use Rattle.cg_pieces.specs.Words.{AreLeft, AreMoving, IsFieldOf, IsTaken, JoinedIn}
 use Rattle.cg_pieces.proofs.FirstCells.{none-more, one-more}
 use Rattle.cg_pieces.proofs.GrowingSets.{and-parts, bit-below, not-zero, other_bits}
 use Rattle.cg_pieces.proofs.LastBits.{first-first, first-one}
 use Rattle.cg_pieces.proofs.NeighbourSets.{piece-cell-below, so-joined}
-use Rattle.cg_pieces.proofs.TakenSets.{left-next, left-same, left-start, none-first, not-first, open-left, taken-set}
+use Rattle.cg_pieces.proofs.TakenSets.{left-next, left-same, none-first, not-first, open-left, taken-set}
 
 module _ (n : Neighbours) (p : Grid) where
   -- the pieces of the sets whose first cells come before this one
@@ -36,17 +35,6 @@ module _ (n : Neighbours) (p : Grid) where
     pub to : IsTakenTo boards left end
 
 module _ (n : Neighbours) (laws : IsNeighbours n) (p : Grid) where
-  pub taken-start : (boards : List Grid) (word : ℕ) → boards ≡ pieces_before n p 0 → Marks word (is_piece_cell n p)
-      → AreTaken n p boards word
-  taken-start boards word none are = record {
-    end = 0;
-    inside = omega arith;
-    to = record {
-      boards_are = none;
-      left_are = left-start n laws p word are;
-    };
-  }
-
   -- cells that aren't left are passed over
   passed : (boards : List Grid) (left end : ℕ) → IsTakenTo n p boards left end → ¬ (bit_at left end ≡ 1)
       → IsTakenTo n p boards left (end + 1)

@@ -1,5 +1,5 @@
 -- Boards that fall into sets of joined cells, and moves that touch cells of one set only.
-use Rattle.std.specs.Prelude.{◌≡◌, ◌↔◌, ◌⊎◌, ℕ, ◌≤◌, Bool, true, List, [], ◌∷◌, map}
+use Rattle.std.specs.Prelude.{◌≡◌, ◌↔◌, ◌⊎◌, ℕ, ◌≤◌, Bool, true, Some, List, [], ◌∷◌, map}
 use Rattle.cg_moves.specs.declared.player.Player.{Player}
 use Rattle.cg_moves.specs.Grid.{Grid, with_cells}
 use Rattle.cg_moves.specs.Rules.{GameRules, In}
@@ -92,7 +92,7 @@ module _ (g : CellGame) where
   -- The rules cut boards of cells: the moves are those on two cells, the pieces those of the sets. A piece shows its set as it
   -- is on the board, and does so after the same move on both.
   pub record CutsByCells (r : GameRules) : Type 0 where
-    pub pieces : (p : Grid) → r.pieces p ≡ pieces_of p
+    pub cut : r.cut ≡ Some pieces_of
     pub has : (p : Grid) (s : ℕ) → r.has p ≡ true → In s (g.firsts p) → r.has (g.piece p s) ≡ true
     pub symbols : (p : Grid) (s : ℕ) → r.has p ≡ true → In s (g.firsts p) → (g.piece p s).symbols ≡ p.symbols
     pub measure : (p : Grid) (s : ℕ) → r.has p ≡ true → In s (g.firsts p) → r.measure (g.piece p s) ≤ r.measure p

@@ -1,5 +1,5 @@
 -- Games in which a move changes two orthogonally adjacent cells that form pieces.
-use Rattle.std.specs.Prelude.{◌≡◌, ℕ, ◌+◌, ◌*◌, ◌<◌, ◌==◌, ◌&&◌, ◌||◌, Bool, false, true, not, nat_le, if◌then◌else◌, List, [], ◌∷◌, count_by, filter, length, slice_index, slice_set}
+use Rattle.std.specs.Prelude.{◌≡◌, ℕ, ◌+◌, ◌*◌, ◌<◌, ◌==◌, ◌&&◌, ◌||◌, Bool, false, true, not, nat_le, if◌then◌else◌, Some, List, [], ◌∷◌, count_by, filter, length, slice_index, slice_set}
 use Rattle.std.specs.List.{flat_map, list_all, list_any}
 use Rattle.cg_moves.specs.declared.player.Player.{Player}
 use Rattle.cg_moves.specs.declared.player.Player.TheVariants.{Left, Right}
@@ -8,7 +8,7 @@ use Rattle.cg_moves.specs.Grid.{Grid}
 use Rattle.cg_moves.specs.Rising.{counted}
 use Rattle.cg_moves.specs.Rules.{GameRules, In}
 use Rattle.cg_pieces.specs.Boxes.{boxed, column_of, cropped, row_of, set_box}
-use Rattle.cg_pieces.specs.Cells.{CellGame, LegalMove, pieces_of}
+use Rattle.cg_pieces.specs.Cells.{CellGame, LegalMove, Linked, pieces_of}
 
 -- the second cell is directly below the first, or the next in its row
 abbrev pub is_below : ℕ → ℕ → ℕ → Bool
@@ -50,7 +50,11 @@ module _ (n : Neighbours) where
   abbrev pub links : Grid → List Edge
   links p = flat_map (λ k. flat_map (link p k) (counted 0 (length p.cells))) (counted 0 (length p.cells))
 
-  -- the two cells are in one joined set
+  -- a row of cells that form pieces, each adjacent to the next, leads from the one cell to the other
+  abbrev pub AreJoined : Grid → ℕ → ℕ → Type 0
+  AreJoined p = Linked (is_piece_cell p) (is_next p.columns)
+
+  -- the two cells are in one joined set: the law function `joined` says that this is so exactly where such a row leads
   unfoldable pub are_joined : Grid → ℕ → ℕ → Bool
   are_joined p k l = connected (links p) k l
 
@@ -89,7 +93,7 @@ module _ (n : Neighbours) where
 
   -- the rules are those of such a game, and cut its boards into the joined sets
   pub record CutsNeighbours (r : GameRules) : Type 0 where
-    pub pieces : (p : Grid) → r.pieces p ≡ pieces_of cell_game p
+    pub cut : r.cut ≡ Some (pieces_of cell_game)
     pub measure : (p : Grid) → r.measure p ≡ piece_cells p
     pub wide : (p : Grid) → r.has p ≡ true → 0 < p.columns
     -- a board of the game is told by its symbols, and that it has its cells in rows and columns

@@ -1,10 +1,11 @@
 //! Laws of boards in pieces: each function does nothing, and its contract is the law.
-ghost use Rattle.std.specs.Prelude.{◌≡◌, ℕ, List, ◌∷◌, ◌++◌, map};
+ghost use Rattle.std.specs.Prelude.{◌≡◌, ◌↔◌, ℕ, List, ◌∷◌, ◌++◌, map, true};
 ghost use Rattle.cg_moves.specs.Grid.{Grid};
-ghost use Rattle.cg_moves.specs.Rules.{GameRules, IsCut};
+ghost use Rattle.cg_moves.specs.CutByMoves.{IsCutByMoves};
+ghost use Rattle.cg_moves.specs.Rules.{GameRules};
 ghost use Rattle.cg_moves.specs.Reordered.{IsReordered};
 ghost use Rattle.cg_pieces.specs.Cells.{CellGame, CutsByCells, IsCellGame, OneSet, pieces_of};
-ghost use Rattle.cg_pieces.specs.Neighbours.{CutsNeighbours, IsNeighbours, Neighbours};
+ghost use Rattle.cg_pieces.specs.Neighbours.{AreJoined, CutsNeighbours, IsNeighbours, Neighbours, are_joined, cell_game};
 
 /// After a move that touches cells of one set only, the pieces of the board are, in some order, the pieces of that set's
 /// piece after the move and the other pieces.
@@ -15,14 +16,22 @@ pub fn one_set()
         (map (g.piece p) before ++ (pieces_of g piece_after ++ map (g.piece p) behind)) }
 {}
 
-/// Rules that cut boards into the pieces of the sets of joined cells cut as `IsCut` wants it. So a board is the sum of its
-/// pieces.
+/// Where rules cut boards into the pieces of the sets of joined cells, each move is a move in one piece. So a board is the sum of
+/// its pieces.
 pub fn cut_by_cells()
-    ensures { (g : CellGame) (r : GameRules) → IsCellGame g → CutsByCells g r → IsCut r }
+    ensures { (g : CellGame) (r : GameRules) → IsCellGame g → CutsByCells g r → IsCutByMoves r }
 {}
 
-/// In a game in which a move changes two orthogonally adjacent cells that form pieces, the joined sets of such cells are
-/// pieces: the rules that cut boards into them cut as `IsCut` wants it.
+/// Two cells count as joined exactly where a row of cells that form pieces, each orthogonally adjacent to the next, leads from
+/// the one to the other.
+pub fn joined()
+    ensures { (n : Neighbours) (p : Grid) (k l : ℕ) → IsNeighbours n → (are_joined n p k l ≡ true) ↔ AreJoined n p k l }
+{}
+
+/// In a game in which a move changes two orthogonally adjacent cells that form pieces, the pieces are those of the joined sets
+/// of such cells in which some player has a move, by their first cells; and where rules cut boards into them, each move is a
+/// move in one piece.
 pub fn neighbours()
-    ensures { (n : Neighbours) (r : GameRules) → IsNeighbours n → CutsNeighbours n r → IsCut r }
+    ensures cells { (n : Neighbours) → IsNeighbours n → IsCellGame (cell_game n) }
+    ensures cut { (n : Neighbours) (r : GameRules) → IsNeighbours n → CutsNeighbours n r → IsCutByMoves r }
 {}

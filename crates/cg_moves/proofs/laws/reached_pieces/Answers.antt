@@ -3,4 +3,4 @@ use Rattle.cg_moves.proofs.laws.reached_pieces.Goals as goal
 
 pub returns : goal.returns
 returns g c = λ p cuts has. let lawful = g.met.R.Rules.lawful c.args.rules.now in
-    piece_reached-moves (g.R.Rules.game c.args.rules.now) lawful (lawful.cut cuts) p has
+    piece_reached-moves (g.R.Rules.game c.args.rules.now) lawful.moves (lawful.cut cuts).each p has
