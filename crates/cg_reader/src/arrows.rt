@@ -12,7 +12,7 @@ use cg_query::Expr;
 use cg_reading::{ReadFault, after_all, digits, is_byte, is_digit};
 
 /// So many ups, or downs.
-#[derive(Clone, Copy, Debug)]
+#[derive(Clone, Copy)]
 pub struct Arrows {
     pub down: bool,
     pub count: u128,

@@ -2,14 +2,14 @@
 use cg_query::{Expr, Query, Statement};
 
 /// An expression, and the column of the first run of bars in it that repeats an earlier one.
-#[derive(Debug, Drop)]
+#[derive(Drop)]
 pub struct Found {
     pub expr: Expr,
     pub fault: Option<u64>,
 }
 
 /// The expressions of a side of braces, in the order of the text.
-#[derive(Debug, Drop)]
+#[derive(Drop)]
 pub enum Side {
     /// No run of bars in them repeats an earlier one.
     Sound(Vec<Expr>),
@@ -18,7 +18,7 @@ pub enum Side {
 }
 
 /// A run of bars, with its column, and the side behind it.
-#[derive(Debug, Drop)]
+#[derive(Drop)]
 pub struct Row {
     pub column: u64,
     pub bars: u64,
@@ -26,21 +26,21 @@ pub struct Row {
 }
 
 /// The rows of braces: the first, and those behind it.
-#[derive(Debug, Drop)]
+#[derive(Drop)]
 pub struct Rows {
     pub first: Row,
     pub more: Vec<Row>,
 }
 
 /// A query, and the first such column in its text.
-#[derive(Debug, Drop)]
+#[derive(Drop)]
 pub struct Asked {
     pub query: Query,
     pub fault: Option<u64>,
 }
 
 /// What a line states, and the first such column in its text.
-#[derive(Debug, Drop)]
+#[derive(Drop)]
 pub struct Stated {
     pub statement: Statement,
     pub fault: Option<u64>,

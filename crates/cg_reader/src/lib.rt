@@ -8,17 +8,20 @@
 mod arrows;
 mod bars;
 mod boards;
+mod braces;
 mod build;
 mod faults;
 mod found;
 mod line;
+mod line_reader;
 mod named;
 mod names;
+mod operands;
 mod questions;
 mod sides;
 mod split;
 mod statements;
-mod terms;
+mod sums;
 
 pub use line::read_line;
 pub use statements::read_statement;

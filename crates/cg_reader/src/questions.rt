@@ -14,8 +14,8 @@ ghost use Rattle.cg_reading.specs.declared.fault.ReadFault.TheVariants.{Stuck};
 
 use crate::faults::earlier;
 use crate::found::{Asked, Found};
+use crate::line_reader::LineReader;
 use crate::named::string;
-use crate::terms::sum;
 use cg_query::{Expr, Format, Query};
 use cg_reading::{ReadFault, after_blanks, after_byte, after_gap, after_word, is_byte};
 use std::alloc::Global;
@@ -24,7 +24,7 @@ use std::alloc::Global;
 pub const MOST_OPEN: u8 = 64;
 
 /// What is asked of one expression.
-#[derive(Clone, Copy, Debug, PartialEq, Eq)]
+#[derive(Clone, Copy)]
 pub enum Asking {
     Value,
     Outcome,
@@ -35,7 +35,7 @@ pub enum Asking {
 }
 
 /// What is asked of two expressions.
-#[derive(Clone, Copy, Debug, PartialEq, Eq)]
+#[derive(Clone, Copy)]
 pub enum AskingBoth {
     Compare,
     Proof,
@@ -107,7 +107,7 @@ fn measure(alloc: Global, line_end: u64, bytes: &[u8]) -> Result<(Asked, &[u8]),
 {
     let (asking, rest) = asking_word(bytes)?;
     let rest = after_gap(rest)?;
-    let (found, rest) = sum(alloc, Format::One, MOST_OPEN, line_end, rest)?;
+    let (found, rest) = LineReader::of(alloc, Format::One, line_end).sum(MOST_OPEN, rest)?;
     let fault = found.fault;
     let query = query(asking, found.expr);
     Ok((Asked { query, fault }, rest))
@@ -126,9 +126,10 @@ pub fn both(
         (both_at format line_end bytes.now) }
     ensures shorter { IfOk result (λ x. length x.1.now ≤ length bytes.now) }
 {
-    let (first, rest) = sum(alloc, format, MOST_OPEN, line_end, bytes)?;
+    let reader = LineReader::of(alloc, format, line_end);
+    let (first, rest) = reader.sum(MOST_OPEN, bytes)?;
     let rest = after_byte(b';', rest)?;
-    let (second, rest) = sum(alloc, format, MOST_OPEN, line_end, after_blanks(rest))?;
+    let (second, rest) = reader.sum(MOST_OPEN, after_blanks(rest))?;
     Ok(((first, second), rest))
 }
 

@@ -14,14 +14,14 @@ use cg_reading::ReadFault;
 use std::alloc::Global;
 
 /// A row with no run of a length, or the rows before its first such run, the side behind that, and the rows behind it.
-#[derive(Debug, Drop)]
+#[derive(Drop)]
 pub enum Cut {
     Whole(Vec<Row>),
     Parts(Vec<Row>, Side, Vec<Row>),
 }
 
 /// What a part comes to: the options of one without a run, or those of both sides of its longest run.
-#[derive(Debug, Drop)]
+#[derive(Drop)]
 pub enum Halves {
     Options(Vec<Expr>),
     Sides(Vec<Expr>, Vec<Expr>),

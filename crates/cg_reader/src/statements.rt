@@ -14,16 +14,16 @@ ghost use Rattle.cg_reading.specs.declared.fault.ReadFault.TheVariants.{Stuck};
 
 use crate::faults::earlier;
 use crate::found::Stated;
+use crate::line_reader::LineReader;
 use crate::named::string;
 use crate::names::{is_word, lettered};
 use crate::questions::{Asking, AskingBoth, MOST_OPEN, both, query, query_of_both};
-use crate::terms::sum;
 use cg_query::{Format, Query, Statement, SyntaxFault, Text};
 use cg_reading::{ReadFault, after_blanks, after_byte, after_gap, after_word, is_byte};
 use std::alloc::Global;
 
 /// What a line is, by its first word.
-#[derive(Clone, Copy, Debug, PartialEq, Eq)]
+#[derive(Clone, Copy)]
 pub enum Kind {
     One(Asking),
     Two(AskingBoth),
@@ -68,7 +68,7 @@ fn behind_one(
         (behind_word_at word (kind_view (kinds.One asking)) line_end bytes.now) }
 {
     let rest = after_gap(bytes)?;
-    let (found, rest) = sum(alloc, Format::Two, MOST_OPEN, line_end, rest)?;
+    let (found, rest) = LineReader::of(alloc, Format::Two, line_end).sum(MOST_OPEN, rest)?;
     let fault = found.fault;
     let statement = Statement::Ask(query(asking, found.expr));
     Ok((Stated { statement, fault }, rest))
@@ -130,7 +130,7 @@ fn behind_name<'a>(
         (behind_word_at word.now (kind_view kinds.Name) line_end bytes.now) }
 {
     let rest = after_becomes(bytes)?;
-    let (found, rest) = sum(alloc, Format::Two, MOST_OPEN, line_end, rest)?;
+    let (found, rest) = LineReader::of(alloc, Format::Two, line_end).sum(MOST_OPEN, rest)?;
     let fault = found.fault;
     let name = Text::of(word.to_vec(alloc)?);
     let statement = Statement::Define(name, found.expr);
@@ -165,7 +165,7 @@ fn value_line(alloc: Global, line_end: u64, bytes: &[u8]) -> Result<(Stated, &[u
 {
     let rest = after_word(b"value", bytes)?;
     let rest = after_gap(rest)?;
-    let (found, rest) = sum(alloc, Format::Two, MOST_OPEN, line_end, rest)?;
+    let (found, rest) = LineReader::of(alloc, Format::Two, line_end).sum(MOST_OPEN, rest)?;
     let fault = found.fault;
     let statement = Statement::Ask(Query::Value(found.expr));
     Ok((Stated { statement, fault }, rest))
