@@ -3,6 +3,7 @@ use Rattle.std.proofs.Common.{◌≡◌, refl, ℕ, ◌+◌, ◌<◌, ◌≤◌,
 use Rattle.std.specs.Prelude.{IsTrue}
 use Rattle.cg_cells.specs.Meaning.{Has}
 use Rattle.cg_cells.specs.Store.{State}
+use Rattle.cg_dyadic.specs.Cut.{number_at_most}
 use Rattle.cg_dyadic.specs.Number.{Number, NumberLe}
 use Rattle.cg_dyadic.proofs.Truth.{true_or_false}
 use Rattle.cg_dyadic.proofs.Values.{number_le-refl, number_le-same, number_le-total, number_le-trans}
@@ -16,12 +17,12 @@ use Rattle.cg_form.proofs.Decide.{number-decide}
 use Rattle.cg_form.proofs.Integers.{some_lefts, some_rights}
 use Rattle.cg_form.proofs.Preorder.{equal_refl}
 use Rattle.cg_form.proofs.Simplicity.{one_number}
-use Rattle.cg_form.proofs.StopValues.{BottomOf, TopOf, bottom_of, stops-options, top_of, stops_unique}
+use Rattle.cg_form.proofs.StopValues.{BottomOf, TopBy, TopOf, bottom_of, stops-options, top_of, stops_unique}
 use Rattle.cg_nodes.specs.Games.{AreGames, IsNode, StandFor, game_at, games_at}
 use Rattle.cg_nodes.specs.Meant.{Meant}
 use Rattle.cg_nodes.proofs.Later.{stands_game}
 use Rattle.cg_thermo.specs.declared.ending.Stops.{Stops}
-use Rattle.cg_thermo.specs.Ended.{Ends, AllEnded, BestOf, BestSoFar, HoldsEnds, as_good, better_of, ended, far_stop}
+use Rattle.cg_thermo.specs.Ended.{Ends, AllEnded, BestOf, BestSoFar, HoldsEnds, better_of, ended, far_stop}
 use Rattle.cg_thermo.specs.StopsOf.{StopsAre}
 use Rattle.cg_nodes.proofs.Members.{among_has, has_among}
 use Rattle.cg_thermo.proofs.Members.{has-before, has-next, has-own, some_of, take-all}
@@ -29,17 +30,21 @@ use Rattle.cg_thermo.proofs.Options.{canonical-node}
 
 -- ---- the order as the player sees it
 
-good-refl : (left : Bool) (x : Number) → IsTrue (as_good left x x)
+good-refl : (left : Bool) (x : Number) → IsTrue (number_at_most left x x)
 good-refl true x = number_le-refl x
 good-refl false x = number_le-refl x
 
-good-trans : (left : Bool) (x y z : Number) → IsTrue (as_good left x y) → IsTrue (as_good left y z) → IsTrue (as_good left x z)
+good-trans : (left : Bool) (x y z : Number) → IsTrue (number_at_most left x y) → IsTrue (number_at_most left y z) → IsTrue (number_at_most left x z)
 good-trans true x y z p q = number_le-trans x y z p q
 good-trans false x y z p q = number_le-trans z y x q p
 
-good-other : (left : Bool) (x y : Number) → as_good left x y ≡ false → IsTrue (as_good left y x)
+good-other : (left : Bool) (x y : Number) → number_at_most left x y ≡ false → IsTrue (number_at_most left y x)
 good-other true x y e = elim (number_le-total x y) [ inl h ↦ absurd (let f : true ≡ false = sym h ∙ e in cc) | inr h ↦ h ]
 good-other false x y e = elim (number_le-total y x) [ inl h ↦ absurd (let f : true ≡ false = sym h ∙ e in cc) | inr h ↦ h ]
+
+good-same : (left : Bool) (x y : Number) → IsTrue (number_at_most left x y) → IsTrue (number_at_most left y x) → x ≡ y
+good-same true x y p q = number_le-same x y p q
+good-same false x y p q = number_le-same x y q p
 
 -- ---- one option more
 
@@ -53,12 +58,12 @@ best-more m left hs i h c o r lt e f is so = by o is so
     x-is : cond left c.right c.left ≡ far_stop left (ended m h)
     x-is = ap (far_stop left) (sym f)
 
-    own : (r : Number) → r ≡ cond left c.right c.left → IsTrue (as_good left (far_stop left (ended m h)) r)
-    own r g = let P : Number → Type 0 = λ z. IsTrue (as_good left (far_stop left (ended m h)) z) in
+    own : (r : Number) → r ≡ cond left c.right c.left → IsTrue (number_at_most left (far_stop left (ended m h)) r)
+    own r g = let P : Number → Type 0 = λ z. IsTrue (number_at_most left (far_stop left (ended m h)) z) in
         subst P (sym (g ∙ x-is)) (good-refl left (far_stop left (ended m h)))
 
-    at_h : (y : ℕ) (r : Number) → y ≡ h → IsTrue (as_good left (far_stop left (ended m h)) r) → IsTrue (as_good left (far_stop left (ended m y)) r)
-    at_h y r k t = let P : ℕ → Type 0 = λ z. IsTrue (as_good left (far_stop left (ended m z)) r) in subst P (sym k) t
+    at_h : (y : ℕ) (r : Number) → y ≡ h → IsTrue (number_at_most left (far_stop left (ended m h)) r) → IsTrue (number_at_most left (far_stop left (ended m y)) r)
+    at_h y r k t = let P : ℕ → Type 0 = λ z. IsTrue (number_at_most left (far_stop left (ended m z)) r) in subst P (sym k) t
 
     none_in : (hs : List ℕ) (y : ℕ) → hs ≡ [] → Has hs y → ⊥
     none_in hs y e n = let P : List ℕ → Type 0 = λ z. Has z y in subst P e n
@@ -73,9 +78,9 @@ best-more m left hs i h c o r lt e f is so = by o is so
         | inr k ↦ at_h y r k (own r g)
       ];
     }
-    by (Some b) g best = elim (true_or_false (as_good left b (cond left c.right c.left))) [
+    by (Some b) g best = elim (true_or_false (number_at_most left b (cond left c.right c.left))) [
       | inl t ↦ (let s : r ≡ cond left c.right c.left = g ∙ ap (λ z. cond z (cond left c.right c.left) b) t in
-          let P : Number → Type 0 = λ z. IsTrue (as_good left b z) in
+          let P : Number → Type 0 = λ z. IsTrue (number_at_most left b z) in
           record {
             at = h;
             there = has-own hs i h lt e;
@@ -86,13 +91,13 @@ best-more m left hs i h c o r lt e f is so = by o is so
             ];
           })
       | inr t ↦ (let s : r ≡ b = g ∙ ap (λ z. cond z (cond left c.right c.left) b) t in
-          let P : Number → Type 0 = λ z. IsTrue (as_good left z b) in
+          let P : Number → Type 0 = λ z. IsTrue (number_at_most left z b) in
           let low = subst P x-is (good-other left b (cond left c.right c.left) t) in
           record {
             at = best.at;
             there = has-before hs i best.at best.there;
             is = s ∙ best.is;
-            most = λ y n. (let Q : Number → Type 0 = λ z. IsTrue (as_good left (far_stop left (ended m y)) z) in
+            most = λ y n. (let Q : Number → Type 0 = λ z. IsTrue (number_at_most left (far_stop left (ended m y)) z) in
                 subst Q (sym s) (elim (has-next hs i h lt e y n) [
                   | inl k ↦ best.most y k
                   | inr k ↦ at_h y b k low
@@ -134,23 +139,19 @@ module _ {R : Type 0} (s : State Meant R) (m : Ends) (holds : HoldsEnds s m) (hs
         subst P (left_stop p h ∙ ap (λ (z : Game). (stops number-decide z).left) (stands_game s p a e)) (k.most p h);
   }
 
-top-one : (f : Game → Number) (gs : List Game) (p q : Number) → TopOf f gs p → TopOf f gs q → p ≡ q
-top-one f gs p q a b =
-    let P : Number → Type 0 = λ z. NumberLe z q in let Q : Number → Type 0 = λ z. NumberLe z p in
-    number_le-same p q (subst P (sym a.is) (b.most a.at a.there)) (subst Q (sym b.is) (a.most b.at b.there))
-
-bottom-one : (f : Game → Number) (gs : List Game) (p q : Number) → BottomOf f gs p → BottomOf f gs q → p ≡ q
-bottom-one f gs p q a b =
-    let P : Number → Type 0 = λ z. NumberLe p z in let Q : Number → Type 0 = λ z. NumberLe q z in
-    number_le-same p q (subst P (sym b.is) (a.most b.at b.there)) (subst Q (sym a.is) (b.most a.at a.there))
+-- the best of a list is its greatest, by the player's order
+top-one : (left : Bool) (f : Game → Number) (gs : List Game) (p q : Number) → TopBy (number_at_most left) f gs p → TopBy (number_at_most left) f gs q → p ≡ q
+top-one left f gs p q a b =
+    let P : Number → Type 0 = λ z. IsTrue (number_at_most left z q) in let Q : Number → Type 0 = λ z. IsTrue (number_at_most left z p) in
+    good-same left p q (subst P (sym a.is) (b.most a.at a.there)) (subst Q (sym b.is) (a.most b.at b.there))
 
 top-greatest : (f : Game → Number) (gs : List Game) (p : Number) → ¬ (gs ≡ []) → TopOf f gs p → p ≡ greatest_number (map f gs)
 top-greatest f [] p n k = absurd (n refl)
-top-greatest f (g ∷ gs) p n k = top-one f (g ∷ gs) p (greatest_number (map f (g ∷ gs))) k (top_of f g gs)
+top-greatest f (g ∷ gs) p n k = top-one true f (g ∷ gs) p (greatest_number (map f (g ∷ gs))) k (top_of f g gs)
 
 bottom-least : (f : Game → Number) (gs : List Game) (p : Number) → ¬ (gs ≡ []) → BottomOf f gs p → p ≡ least_number (map f gs)
 bottom-least f [] p n k = absurd (n refl)
-bottom-least f (g ∷ gs) p n k = bottom-one f (g ∷ gs) p (least_number (map f (g ∷ gs))) k (bottom_of f g gs)
+bottom-least f (g ∷ gs) p n k = top-one false f (g ∷ gs) p (least_number (map f (g ∷ gs))) k (bottom_of f g gs)
 
 stops-none : (g : Game) (c : Decided g) (v : form.Stops) → NoNumber g → stops_by g c v ≡ v
 stops-none g (inl w) v n = absurd (n w.0 w.1)

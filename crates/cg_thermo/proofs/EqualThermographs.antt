@@ -6,21 +6,18 @@ use Rattle.cg_form.specs.Heights.{height}
 use Rattle.cg_form.specs.Order.{Equal}
 use Rattle.cg_form.specs.Simple.{NoNumber}
 use Rattle.cg_form.proofs.Decide.{number-decide}
-use Rattle.cg_form.proofs.Preorder.{equal_trans}
 use Rattle.cg_form.proofs.Temperature.{temperature-equal}
-use Rattle.cg_form.proofs.Thermal.{same-thermal}
+use Rattle.cg_form.proofs.Thermal.{number-across, same-thermal}
 use Rattle.cg_form.proofs.WallOrder.{walls-equal}
 use Rattle.cg_walls.specs.Corners.{corners}
 use Rattle.cg_thermo.specs.Pictures.{left_corners, right_corners, spot}
 use Rattle.cg_thermo.specs.Thermal.{MastFrom}
 use Rattle.cg_thermo.specs.Thermographs.{IsThermograph}
 use Rattle.cg_thermo.specs.declared.thermo.Walls as drawn
-use Rattle.cg_thermo.proofs.OneThermograph.{mast, some-thermograph}
+use Rattle.cg_thermo.proofs.Deciders.{mast}
+use Rattle.cg_thermo.proofs.OneThermograph.{some-thermograph}
 
 -- ---- at one scale of at least both heights
-
-number-across : (g h : Game) → Equal g h → (x : Number) → Equal (number x) h → Equal (number x) g
-number-across g h e x f = equal_trans (number x) h g f (e.1, e.0)
 
 none-across : (g h : Game) → Equal g h → NoNumber g → NoNumber h
 none-across g h e never x f = never x (number-across g h e x f)
@@ -47,7 +44,7 @@ module _ (s : ℕ) (g h : Game) (high_g : height g ≤ s) (high_h : height h ≤
 thermograph-same : (g h : Game) (p q : drawn.Walls) → Equal g h → IsThermograph g p → IsThermograph h q → p ≡ q
 thermograph-same g h p q e a b =
     let s = height g + height h in
-    let m = mast s g (omega arith) in
+    let m = mast number-decide s g (omega arith) in
     let n = mast-same s g h (omega arith) (omega arith) e m.end m.from in
     let t = same-thermal g h p.mean p.temp q.mean q.temp e a.thermal b.thermal in
     let l = a.left number-decide s m.end (omega arith) m.from

@@ -4,59 +4,39 @@ use Rattle.cg_dyadic.specs.Number.{Number, exp_of}
 use Rattle.cg_dyadic.specs.Wide.{places}
 use Rattle.cg_form.specs.Game.{Among, Game}
 use Rattle.cg_form.specs.Heights.{height}
-use Rattle.cg_form.specs.Simple.{Decided}
 use Rattle.cg_form.specs.Walls.{IsThermal}
 use Rattle.cg_form.proofs.Decide.{number-decide}
-use Rattle.cg_form.proofs.Thermal.{Thermal, cools, one-thermal, thermal}
+use Rattle.cg_form.proofs.Thermal.{Thermal, one-thermal, thermal}
 use Rattle.cg_form.specs.Positions.{positions_of}
 use Rattle.cg_thermo.specs.Pictures.{left_corners, right_corners}
-use Rattle.cg_thermo.specs.Thermal.{MastFrom, NeedsMore}
-use Rattle.cg_thermo.proofs.Deciders.{left-unique, mast-unique, right-unique}
+use Rattle.cg_thermo.specs.Thermal.{NeedsMore}
+use Rattle.cg_thermo.proofs.Deciders.{left-unique, mast, mast-unique, right-unique}
 use Rattle.cg_thermo.proofs.Smooth.{smooth-high}
-use Rattle.cg_thermo.proofs.Upward.{corners-same, seen-own}
+use Rattle.cg_thermo.proofs.Upward.{corners-same}
 use Rattle.cg_thermo.specs.Thermographs.{IsThermograph}
 use Rattle.cg_thermo.specs.declared.thermo.Walls as drawn
-
--- where the mast begins at a scale of at least the height
-pub record Mast (s : ℕ) (g : Game) : Type 0 where
-  pub end : ℕ
-  pub from : MastFrom number-decide s g end
-
-pub mast : (s : ℕ) (g : Game) → height g ≤ s → Mast s g
-mast s g h = by (number-decide g)
-  where
-    by : Decided g → Mast s g
-    by (inl w) = record {
-      end = 0;
-      from = record { number = λ y f. refl; other = λ never. absurd (never w.0 w.1) };
-    }
-    by (inr never) =
-        let c = cools number-decide s g h never in record {
-          end = c.at;
-          from = record { number = λ y f. absurd (never y f); other = λ k. c.is };
-        }
 
 -- ---- thermographs
 
 pub some-thermograph : (g : Game) → (p : drawn.Walls) × IsThermograph g p
 some-thermograph g =
     let h = thermal g in
-    let m = mast (height g) g (omega arith) in
     let s = height g in
-    let seen = seen-own s g m.end (smooth-high s g (omega arith)) m.from in (
+    let m = mast number-decide s g (omega arith) in
+    let smooth = smooth-high s g (omega arith) in (
       record { mean = h.mean; temp = h.temp; left = left_corners number-decide s g m.end; right = right_corners number-decide s g m.end },
       record {
         thermal = h.is;
-        left = λ d r end l f. (corners-same s r g m.end end _ _ _ _ seen l (mast-unique d number-decide r g end f)).0
+        left = λ d r end l f. (corners-same s r g m.end end smooth m.from l (mast-unique d number-decide r g end f)).0
             ∙ left-unique number-decide d r g end;
-        right = λ d r end l f. (corners-same s r g m.end end _ _ _ _ seen l (mast-unique d number-decide r g end f)).1
+        right = λ d r end l f. (corners-same s r g m.end end smooth m.from l (mast-unique d number-decide r g end f)).1
             ∙ right-unique number-decide d r g end;
       },
     )
 
 pub one-thermograph : (g : Game) (p q : drawn.Walls) → IsThermograph g p → IsThermograph g q → p ≡ q
 one-thermograph g p q a b =
-    let m = mast (height g) g (omega arith) in
+    let m = mast number-decide (height g) g (omega arith) in
     let t = one-thermal g p.mean p.temp q.mean q.temp a.thermal b.thermal in
     let l = a.left number-decide (height g) m.end (omega arith) m.from ∙ sym (b.left number-decide (height g) m.end (omega arith) m.from) in
     let r = a.right number-decide (height g) m.end (omega arith) m.from ∙ sym (b.right number-decide (height g) m.end (omega arith) m.from) in

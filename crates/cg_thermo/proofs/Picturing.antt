@@ -45,7 +45,7 @@ use Rattle.cg_thermo.specs.Thermal.{NeedsMore}
 use Rattle.cg_thermo.specs.Thermographs.{IsThermograph}
 use Rattle.cg_thermo.proofs.Deciders.{left-unique, mast-unique, right-unique}
 use Rattle.cg_thermo.proofs.Options.{canonical-node}
-use Rattle.cg_thermo.proofs.Upward.{corners-same, seen-own, thermal-none, thermal-number}
+use Rattle.cg_thermo.proofs.Upward.{corners-same, thermal-none, thermal-number}
 
 -- ---- small facts for the code
 
@@ -173,26 +173,22 @@ thermal_by (number y) c mean temp d k can m t =
 thermal_by (options ls rs) c mean temp d k can m t =
     let g : Game = options ls rs in
     let never = canonical-node (options ls rs) can tt in
-    let s = seen-own places (options ls rs) c.end k.smooth (k.draws.mast number-decide) in
-    let i = thermal-none places (options ls rs) c.end (ratio (scaffold_of number-decide places (options ls rs) c.end).left places)
-    (ratio (pos c.end) places) (left_corners number-decide places (options ls rs) c.end) (right_corners number-decide places (options ls rs) c.end) never s in
+    let i = thermal-none places (options ls rs) c.end never k.smooth ((k.draws.mast number-decide).other never) in
     let P : Number → Type 0 = λ z. IsThermal (options ls rs) z temp in
     let Q : Number → Type 0 = λ z. IsThermal (options ls rs) (ratio (scaffold_of number-decide places (options ls rs) c.end).left places) z in
     subst P (sym (m ∙ ap (λ n. ratio n places) (end-value (options ls rs) c k.draws never))) (subst Q (sym (t.other tt)) i)
 
 pub is_thermograph : (g : Game) (c : Chart) (w : drawn.Walls) (temp : Number) → Charted g c → Canonical g → Pictured c w → w.temp ≡ temp
     → ((x : Number) → g ≡ number x → temp ≡ ratio (negsuc 0) (exp_of x)) → (IsNode g → temp ≡ ratio (pos c.end) places) → IsThermograph g w
-is_thermograph g c w temp k can p e num oth =
-    let s = seen-own places g c.end k.smooth (k.draws.mast number-decide) in
-    record {
-      thermal = thermal_by g c w.mean w.temp (number-decide g) k can p.mean (record { number = λ x f. e ∙ num x f; other = λ n. e ∙ oth n });
-      left = λ d r end h m. p.left ∙ left-corners g c k.draws ∙ (corners-same places r g c.end end
-          (ratio (scaffold_of number-decide places g c.end).left places) (ratio (pos c.end) places) (left_corners number-decide places g c.end)
-          (right_corners number-decide places g c.end) s h (mast-unique d number-decide r g end m)).0 ∙ left-unique number-decide d r g end;
-      right = λ d r end h m. p.right ∙ right-corners g c k.draws ∙ (corners-same places r g c.end end
-          (ratio (scaffold_of number-decide places g c.end).left places) (ratio (pos c.end) places) (left_corners number-decide places g c.end)
-          (right_corners number-decide places g c.end) s h (mast-unique d number-decide r g end m)).1 ∙ right-unique number-decide d r g end;
-    }
+is_thermograph g c w temp k can p e num oth = record {
+  thermal = thermal_by g c w.mean w.temp (number-decide g) k can p.mean (record { number = λ x f. e ∙ num x f; other = λ n. e ∙ oth n });
+  left = λ d r end h m. p.left ∙ left-corners g c k.draws
+      ∙ (corners-same places r g c.end end k.smooth (k.draws.mast number-decide) h (mast-unique d number-decide r g end m)).0
+      ∙ left-unique number-decide d r g end;
+  right = λ d r end h m. p.right ∙ right-corners g c k.draws
+      ∙ (corners-same places r g c.end end k.smooth (k.draws.mast number-decide) h (mast-unique d number-decide r g end m)).1
+      ∙ right-unique number-decide d r g end;
+}
 
 -- ---- no position needs more places
 

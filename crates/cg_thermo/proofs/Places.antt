@@ -1,6 +1,7 @@
 -- How many binary places means and temperatures need.
-use Rattle.std.proofs.Common.{◌≡◌, ◌+◌, ◌≤◌, arith, ap, inl, inr, [], ◌∷◌, ◌++◌}
+use Rattle.std.proofs.Common.{◌≡◌, ◌+◌, ◌<◌, ◌≤◌, arith, ap, inl, inr, [], ◌∷◌, ◌++◌}
 use Rattle.cg_dyadic.specs.Wide.{places}
+use Rattle.cg_dyadic.proofs.Integers.{le_or_gt}
 use Rattle.cg_form.specs.Depth.{deepest_of, depth_of}
 use Rattle.cg_form.specs.Game.{Among, Game, Games, more, none, number, options}
 use Rattle.cg_form.specs.Heights.{height, highest}
@@ -8,15 +9,15 @@ use Rattle.cg_form.proofs.Among.{among-append}
 use Rattle.cg_form.proofs.Thermal.{thermal-low}
 use Rattle.cg_form.specs.Positions.{all_positions, positions_in}
 use Rattle.cg_form.proofs.AllPositions.{positions_of-among}
-use Rattle.cg_thermo.specs.Ranges.{AllInRange, NumbersInRange}
+use Rattle.cg_nodes.specs.Ranges.{AllInRange, AreInRange}
 use Rattle.cg_thermo.specs.Thermal.{NeedsMore}
 
 mutual
-  pub height-depth : (g : Game) → NumbersInRange g → height g ≤ 40 + depth_of g
+  pub height-depth : (g : Game) → AllInRange g → height g ≤ 40 + depth_of g
   height-depth (number x) r = let h = r.short in omega arith
   height-depth (options ls rs) (a, b) = let l = highest-deepest ls a in let k = highest-deepest rs b in omega arith
 
-  highest-deepest : (gs : Games) → AllInRange gs → highest gs ≤ 40 + deepest_of gs
+  highest-deepest : (gs : Games) → AreInRange gs → highest gs ≤ 40 + deepest_of gs
   highest-deepest none r = omega arith
   highest-deepest (more g gs) (a, b) = let h = height-depth g a in let k = highest-deepest gs b in omega arith
 
@@ -41,7 +42,7 @@ mutual
     | inr n ↦ let s = positions-height gs x n in omega arith
   ]
 
-pub shallow-enough : (g : Game) → NumbersInRange g → depth_of g ≤ 20 → ¬ NeedsMore places g
+pub shallow-enough : (g : Game) → AllInRange g → depth_of g ≤ 20 → ¬ NeedsMore places g
 unfolding places
 shallow-enough g r d n =
     let low = thermal-low n.position n.mean n.temp n.thermal in
@@ -49,3 +50,6 @@ shallow-enough g r d n =
     let h = position-height g n.position (positions_of-among g n.position n.among) in
     let k = height-depth g r in
     elim n.more [ inl i ↦ omega (arith, i, a, h, k, d) | inr i ↦ omega (arith, i, b, h, k, d) ]
+
+pub needs-deep : (g : Game) → AllInRange g → NeedsMore places g → 20 < depth_of g
+needs-deep g r n = elim (le_or_gt (depth_of g) 20) [ inl d ↦ absurd (shallow-enough g r d n) | inr d ↦ d ]

@@ -24,12 +24,11 @@ use Rattle.cg_walls.specs.Rises.{IsWall, gap, value_at}
 use Rattle.cg_thermo.specs.declared.chart.Chart.{Chart}
 use Rattle.cg_thermo.specs.declared.fault.ThermoFault.{ThermoFault}
 use Rattle.cg_thermo.specs.Joins.{Joins, Jumps}
-use Rattle.cg_thermo.specs.Pictures.{left_corners, right_corners}
 use Rattle.cg_thermo.specs.Progress.{Charted, Rough}
 use Rattle.cg_thermo.specs.Smooths.{Smooth, smooth_number, smooth_other}
 use Rattle.cg_thermo.proofs.Drawing.{Tops, gap-scaffold, meets-left, meets-mast, meets-right, meets-smooth}
 use Rattle.cg_thermo.proofs.Smooth.{cool-next, scaffolds_finer, smooth-finer, smooth-start, smooth-up}
-use Rattle.cg_thermo.proofs.Upward.{seen-own, thermal-none}
+use Rattle.cg_thermo.proofs.Upward.{thermal-none}
 
 -- an odd number over 2 ^ (k + 1) is in lowest terms
 exp-odd : (n : ℕ) (k : ℕ) → exp_of (ratio (pos (suc (twice n))) (suc k)) ≡ k + 1
@@ -73,15 +72,10 @@ module _ (s : ℕ) (g : Game) (p q : Rise) (k : Tops s g p q) (j : Jumps p q) wh
 pub jump-rough : (g : Game) (p q : Rise) → Tops places g p q → Jumps p q → Rough g
 unfolding places
 jump-rough g p q k j =
-    let e : ℕ = suc (twice j.at) in
-    let v = seen-own (suc places) g (suc (twice j.at)) (jump-smooth places g p q k j)
-    (record { number = λ x f. absurd (k.never x f); other = λ _. jump-temperature places g p q k j }) in
-    record {
-      mean = ratio (scaffold_of number-decide (suc places) g (suc (twice j.at))).left (suc places);
-      temp = ratio (pos (suc (twice j.at))) (suc places);
-      thermal = thermal-none (suc places) g (suc (twice j.at)) (ratio (scaffold_of number-decide (suc places) g (suc (twice j.at))).left (suc places))
-          (ratio (pos (suc (twice j.at))) (suc places)) (left_corners number-decide (suc places) g (suc (twice j.at)))
-          (right_corners number-decide (suc places) g (suc (twice j.at))) k.never v;
+    let t : ℕ = suc (twice j.at) in record {
+      mean = ratio (scaffold_of number-decide (suc places) g t).left (suc places);
+      temp = ratio (pos t) (suc places);
+      thermal = thermal-none (suc places) g t k.never (jump-smooth places g p q k j) (jump-temperature places g p q k j);
       more = (let x = exp-odd j.at places in omega arith);
     }
 

@@ -7,7 +7,7 @@ use Rattle.cg_form.specs.Game.{Game}
 use Rattle.cg_form.specs.Heights.{height}
 use Rattle.cg_form.specs.Simple.{Decided, Decides}
 use Rattle.cg_form.specs.Walls.{Walls, walls}
-use Rattle.cg_form.proofs.Temperature.{scaffolds_agree, temperature-there, walls-mast}
+use Rattle.cg_form.proofs.Temperature.{walls-mast}
 use Rattle.cg_form.proofs.Walls.{walls-number, walls-steps}
 use Rattle.cg_walls.specs.Corners.{corners, marks}
 use Rattle.cg_walls.specs.Lines.{OnLine}
@@ -18,6 +18,7 @@ use Rattle.cg_thermo.specs.Pictures.{left_corners, right_corners}
 use Rattle.cg_thermo.specs.Thermal.{MastFrom}
 use Rattle.cg_thermo.specs.Thermographs.{DrawsWalls, IsThermograph}
 use Rattle.cg_thermo.specs.WallLine.{IsOnLine, marks_at}
+use Rattle.cg_thermo.proofs.Deciders.{mast}
 use Rattle.cg_thermo.proofs.Rescaled.{on_spots, spots-along}
 
 -- from the end on the walls stay
@@ -47,27 +48,21 @@ right-line d s end t g h m = corners-on (λ u. (walls d s u g).right)
 
 -- ---- read off the corners of a thermograph
 
-mast_there : (d : Decides) (s : ℕ) (g : Game) → Decided g → height g ≤ s → (end : ℕ) × MastFrom d s g end
-mast_there d s g (inl w) h = (0, record { number = λ x e. refl; other = λ never. absurd (never w.0 w.1) })
-mast_there d s g (inr never) h =
-    let (t, k) = temperature-there d s g (scaffolds_agree d s g never h) in
-    (t, record { number = λ x e. absurd (never x e); other = λ n. k })
-
 pub left-reading : (d : Decides) (g : Game) (w : drawn.Walls) (s u : ℕ) (t x : Number) → IsThermograph g w → height g ≤ s → exp_of t ≤ s
     → exp_of x ≤ s → units s t ≡ pos u → IsOnLine w.left t x → units s x ≡ (walls d s u g).left
 unfolding left_corners
 left-reading d g w s u t x k h a b e o =
-    let (end, m) = mast_there d s g (d g) h in
+    let m = mast d s g h in
     let f : ℕ → ℤ = λ v. (walls d s v g).left in
-    on_spots s (corners f end) w.left t x u (f u) (k.left d s end h m) a b e o (left-line d s end u g h m)
+    on_spots s (corners f m.end) w.left t x u (f u) (k.left d s m.end h m.from) a b e o (left-line d s m.end u g h m.from)
 
 pub right-reading : (d : Decides) (g : Game) (w : drawn.Walls) (s u : ℕ) (t x : Number) → IsThermograph g w → height g ≤ s → exp_of t ≤ s
     → exp_of x ≤ s → units s t ≡ pos u → IsOnLine w.right t x → units s x ≡ (walls d s u g).right
 unfolding right_corners
 right-reading d g w s u t x k h a b e o =
-    let (end, m) = mast_there d s g (d g) h in
+    let m = mast d s g h in
     let f : ℕ → ℤ = λ v. (walls d s v g).right in
-    on_spots s (corners f end) w.right t x u (f u) (k.right d s end h m) a b e o (right-line d s end u g h m)
+    on_spots s (corners f m.end) w.right t x u (f u) (k.right d s m.end h m.from) a b e o (right-line d s m.end u g h m.from)
 
 -- ---- the lines of the corners of a thermograph
 
@@ -75,19 +70,19 @@ left-drawn : (d : Decides) (g : Game) (w : drawn.Walls) (s u : ℕ) → IsThermo
     → OnLine (marks_at s w.left) (pos u) (walls d s u g).left
 unfolding left_corners
 left-drawn d g w s u k h =
-    let (end, m) = mast_there d s g (d g) h in
+    let m = mast d s g h in
     let f : ℕ → ℤ = λ v. (walls d s v g).left in
-    on-along (marks (corners f end)) (marks_at s w.left) (pos u) (pos u) (f u) (f u) (spots-along s (corners f end) w.left (k.left d s end h m)) refl refl
-    (left-line d s end u g h m)
+    on-along (marks (corners f m.end)) (marks_at s w.left) (pos u) (pos u) (f u) (f u) (spots-along s (corners f m.end) w.left (k.left d s m.end h m.from))
+    refl refl (left-line d s m.end u g h m.from)
 
 right-drawn : (d : Decides) (g : Game) (w : drawn.Walls) (s u : ℕ) → IsThermograph g w → height g ≤ s
     → OnLine (marks_at s w.right) (pos u) (walls d s u g).right
 unfolding right_corners
 right-drawn d g w s u k h =
-    let (end, m) = mast_there d s g (d g) h in
+    let m = mast d s g h in
     let f : ℕ → ℤ = λ v. (walls d s v g).right in
-    on-along (marks (corners f end)) (marks_at s w.right) (pos u) (pos u) (f u) (f u) (spots-along s (corners f end) w.right (k.right d s end h m)) refl refl
-    (right-line d s end u g h m)
+    on-along (marks (corners f m.end)) (marks_at s w.right) (pos u) (pos u) (f u) (f u) (spots-along s (corners f m.end) w.right (k.right d s m.end h m.from))
+    refl refl (right-line d s m.end u g h m.from)
 
 pub draws-walls : (g : Game) (w : drawn.Walls) → IsThermograph g w → DrawsWalls g w
 draws-walls g w k = record { left = λ d s u h. left-drawn d g w s u k h; right = λ d s u h. right-drawn d g w s u k h }

@@ -2,7 +2,8 @@
 use Rattle.std.specs.Prelude.{◌≡◌, ℕ, Option, Some, None, Bool, if◌then◌else◌, List, [], pos, IsTrue}
 use Rattle.cg_cells.specs.Meaning.{Has}
 use Rattle.cg_cells.specs.Store.{State}
-use Rattle.cg_dyadic.specs.Number.{Number, number_le, whole}
+use Rattle.cg_dyadic.specs.Cut.{Player, number_at_most}
+use Rattle.cg_dyadic.specs.Number.{Number, whole}
 use Rattle.cg_nodes.specs.Meant.{Meant}
 use Rattle.cg_thermo.specs.declared.ending.Stops.{Stops}
 use Rattle.cg_thermo.specs.declared.by_id.ById.{ById}
@@ -30,27 +31,23 @@ abbrev pub AllEnded : Ends → List ℕ → Type 0
 AllEnded m hs = AllKept (ended m) hs
 
 -- the other player's stop, in what was found
-abbrev pub far_stop : Bool → Option Stops → Number
+abbrev pub far_stop : Player → Option Stops → Number
 far_stop left None = whole (pos 0)
 far_stop left (Some c) = if left then c.right else c.left
 
--- y is at least as good as x: for Left, where that is asked, or else for Right
-abbrev pub as_good : Bool → Number → Number → Bool
-as_good left x y = if left then number_le x y else number_le y x
-
 -- b is one of the list's stops, and the best of them
-pub record BestOf (m : Ends) (left : Bool) (hs : List ℕ) (b : Number) : Type 0 where
+pub record BestOf (m : Ends) (left : Player) (hs : List ℕ) (b : Number) : Type 0 where
   pub at : ℕ
   pub there : Has hs at
   pub is : b ≡ far_stop left (ended m at)
-  pub most : (h : ℕ) → Has hs h → IsTrue (as_good left (far_stop left (ended m h)) b)
+  pub most : (h : ℕ) → Has hs h → IsTrue (number_at_most left (far_stop left (ended m h)) b)
 
 -- the best so far, or none of none
-abbrev pub BestSoFar : Ends → Bool → List ℕ → Option Number → Type 0
+abbrev pub BestSoFar : Ends → Player → List ℕ → Option Number → Type 0
 BestSoFar m left hs None = hs ≡ []
 BestSoFar m left hs (Some b) = BestOf m left hs b
 
 -- the first number, or the better of the two
-abbrev pub better_of : Bool → Option Number → Number → Number
+abbrev pub better_of : Player → Option Number → Number → Number
 better_of left None x = x
-better_of left (Some b) x = if as_good left b x then x else b
+better_of left (Some b) x = if number_at_most left b x then x else b

@@ -2,7 +2,6 @@
 pub mod Thermal
 pub mod Pictures
 pub mod Thermographs
-pub mod Ranges
 pub mod WallLine
 pub mod StopsOf
 pub mod Winners

@@ -12,7 +12,7 @@ ghost use Rattle.cg_form.specs.Walls.{IsThermal, walls};
 ghost use Rattle.cg_walls.specs.Corners.{corners, marks};
 ghost use Rattle.cg_walls.specs.Lines.{OnLine};
 ghost use Rattle.cg_thermo.specs.declared.thermo.Walls as drawn;
-ghost use Rattle.cg_thermo.specs.Ranges.{NumbersInRange};
+ghost use Rattle.cg_nodes.specs.Ranges.{AllInRange};
 ghost use Rattle.cg_thermo.specs.Thermal.{MastFrom, NeedsMore};
 ghost use Rattle.cg_thermo.specs.Thermographs.{IsThermograph};
 ghost use Rattle.cg_thermo.specs.WallLine.{IsOnLine};
@@ -46,6 +46,6 @@ pub fn thermographs()
 pub fn heights()
     ensures thermal { (g : Game) (mean temp : Number) → IsThermal g mean temp
         → (exp_of mean ≤ height g) × (exp_of temp ≤ height g) }
-    ensures depth { (g : Game) → NumbersInRange g → height g ≤ 40 + depth_of g }
-    ensures enough { (g : Game) → NumbersInRange g → depth_of g ≤ 20 → ¬ NeedsMore places g }
+    ensures depth { (g : Game) → AllInRange g → height g ≤ 40 + depth_of g }
+    ensures enough { (g : Game) → AllInRange g → depth_of g ≤ 20 → ¬ NeedsMore places g }
 {}

@@ -5,7 +5,7 @@ ghost use Rattle.cg_cells.specs.Store.{Spends};
 ghost use Rattle.cg_form.specs.Canonical.{Canonical};
 ghost use Rattle.cg_form.specs.Game.{lefts as left_options, number, rights as right_options};
 ghost use Rattle.cg_nodes.specs.Games.{AreGames, IsGame, IsNode, StandFor, game_at, games_at};
-ghost use Rattle.cg_thermo.specs.Ended.{AllEnded, BestOf, HoldsEnds, OptionsEnded, as_good, better_of};
+ghost use Rattle.cg_thermo.specs.Ended.{AllEnded, BestOf, HoldsEnds, OptionsEnded, better_of};
 ghost use Rattle.cg_thermo.specs.Progress.{OptionsFirst};
 ghost use Rattle.cg_thermo.specs.StopsOf.{StopsAre};
 

@@ -1,5 +1,5 @@
 //! The greatest of the sides of some options.
-ghost use Rattle.std.specs.Prelude.{◌≡◌, ℕ, IfOk, IsSome, cond};
+ghost use Rattle.std.specs.Prelude.{◌≡◌, ℕ, IfOk, IsSome, if◌then◌else◌};
 ghost use Rattle.cg_walls.specs.Rises.{IsWall, value_at};
 ghost use Rattle.cg_thermo.specs.Found.{AllFound, AreWalls, TopOf, charted, side_in};
 
@@ -10,7 +10,7 @@ use std::alloc::{AllocError, Global};
 
 // The right wall, or the negative of the left wall.
 fn side(chart: &Chart, right: bool) -> &Rise
-    ensures { result.now ≡ cond right chart.now.right chart.now.left }
+    ensures { result.now ≡ (if right then chart.now.right else chart.now.left) }
 {
     if right { &chart.right } else { &chart.left }
 }
