@@ -2,7 +2,7 @@
 use Rattle.std.proofs.Common.{◌≡◌, refl, Bool, true, false, cond, not, ◌&&◌, ℕ, zero, suc, ◌+◌, ◌-◌, ◌*◌, ◌%◌, ◌^◌, ◌<◌, ◌≤◌, ◌==◌, ◌⊎◌, inl, inr, nat_lt, Option, Some, None, ap, sym, ◌∙◌, subst, arith, bit_and, bit_or}
 use Rattle.std.specs.Prelude.{option_and_then, if◌then◌else◌}
 use Rattle.std.specs.Int.{bit_at}
-use Rattle.std.proofs.lemmas.Bool.{eq-eqb, eqb-false, le-ltb, lt-ltb, ltb-true}
+use Rattle.std.proofs.lemmas.Bool.{eq-eqb, eqb-false, lt-ltb, ltb-true}
 use Rattle.std.proofs.lemmas.Bool.Decides.{eqb_tells, leb_tells}
 use Rattle.std.proofs.lemmas.Nat.Bits.{bit_at-lt, bit_at-zero, bit_at_and, bit_at_or}
 use Rattle.cg_moves.specs.Words.{IsWithBit, Marks}
@@ -49,9 +49,6 @@ mark_is word test i are e = go (test i) refl
 pub mark_has : (word : ℕ) (test : ℕ → Bool) (i : ℕ) → Marks word test → test i ≡ true → bit_at word i ≡ 1
 mark_has word test i are e = are i ∙ ap (λ t. if t then 1 else 0) e
 
-pub mark_not : (word : ℕ) (test : ℕ → Bool) (i : ℕ) → Marks word test → test i ≡ false → bit_at word i ≡ 0
-mark_not word test i are e = are i ∙ ap (λ t. if t then 1 else 0) e
-
 -- ---- the words of a shape
 
 pub wide : (rows columns : ℕ) → 1 ≤ rows * columns → 1 ≤ columns
@@ -95,22 +92,6 @@ no_cell word (Some i) is e =
     absurd (let z : bit_at word i ≡ 0 = ap (λ w. bit_at w i) e ∙ bit_at-zero i in let o = (is i).1 refl in omega arith)
 
 -- ---- steps
-
-pub up_cell : (columns at result : ℕ) (cell : Option ℕ) → ((i : ℕ) → bit_at result i ≡ bit_at at (i + columns))
-    → IsCell at cell → IsCell result (option_and_then (up columns) cell)
-up_cell columns at result cell moved is i = (there, back)
-  where
-    there : bit_at result i ≡ 1 → option_and_then (up columns) cell ≡ Some i
-    there e =
-        let here : cell ≡ Some (i + columns) = (is (i + columns)).0 (sym (moved i) ∙ e) in
-        let k : i + columns - columns ≡ i = omega arith in
-        ap (option_and_then (up columns)) here
-        ∙ ap (λ t. cond t None (Some (i + columns - columns))) (le-ltb (i + columns) columns (omega arith)) ∙ ap Some k
-
-    back : option_and_then (up columns) cell ≡ Some i → bit_at result i ≡ 1
-    back e =
-        let (m, a, b) = two_steps (up columns) cell i e in
-        moved i ∙ (is (i + columns)).1 (a ∙ ap Some (sym (up_is columns m i b).1))
 
 module _ (at moved by : ℕ) (first : (i : ℕ) → i < by → bit_at moved i ≡ 0) where
   past : (i : ℕ) → bit_at moved i ≡ 1 → by ≤ i

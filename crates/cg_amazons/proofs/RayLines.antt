@@ -126,11 +126,6 @@ module _ (columns : ℕ) (cells : List ℕ) (way : Way) (most to : ℕ) where
       go None m = absurd m
       go (Some next) m = inr m
 
-no_rest : (columns : ℕ) (cells : List ℕ) (way : Way) (to : ℕ) (here : Option ℕ)
-    → In to (rest columns cells way zero here) → ⊥
-no_rest columns cells way to None m = m
-no_rest columns cells way to (Some i) m = m
-
 -- ---- the line, followed for so many turns
 
 pub record IsRayTo (rows columns free : ℕ) (way : Way) (cell turn at found : ℕ) : Type 0 where
@@ -229,19 +224,6 @@ module _ (rows columns free : ℕ) (way : Way) (cell : ℕ) where
               ])
         ]
 
-  pub ray_ends : (turn at found : ℕ) → rows * columns ≤ turn → IsRayTo rows columns free way cell turn at found
-      → Follows rows columns free way cell found
-  ray_ends turn at found over state to = (state.found_in to, all)
-    where
-      none : rows * columns - turn ≡ 0
-      none = omega arith
-
-      all : In to (line columns cells way (rows * columns) cell) → bit_at found to ≡ 1
-      all m = elim (state.all to m) [
-        | inl f ↦ f
-        | inr k ↦ absurd (no_rest columns cells way to state.here (subst (λ n. In to (rest columns cells way n state.here)) none k))
-      ]
-
 -- ---- all ways
 
 module _ (rows columns free cell : ℕ) (some : 1 ≤ columns) (inside : cell < rows * columns) where
@@ -310,15 +292,6 @@ module _ (rows columns free cell : ℕ) (some : 1 ≤ columns) (inside : cell < 
       back DownBack m = behind (or_left (bit_or e f) (bit_or g h) to (or_right e f to ((ff to).1 m)))
       back Down m = behind (or_right (bit_or e f) (bit_or g h) to (or_left g h to ((fg to).1 m)))
       back DownForth m = behind (or_right (bit_or e f) (bit_or g h) to (or_right g h to ((fh to).1 m)))
-
--- along equations of the rows and columns
-pub reach-along : (r c rows columns free cell word : ℕ) → r ≡ rows → c ≡ columns
-    → ((to : ℕ) → (bit_at word to ≡ 1) ↔ Reaches c (cells_of free (r * c)) cell to)
-    → (to : ℕ) → (bit_at word to ≡ 1) ↔ Reaches columns (cells_of free (rows * columns)) cell to
-reach-along r c rows columns free cell word e f all =
-    let P : ℕ → Type 0 = λ k. (to : ℕ) → (bit_at word to ≡ 1) ↔ Reaches c (cells_of free (k * c)) cell to in
-    let Q : ℕ → Type 0 = λ k. (to : ℕ) → (bit_at word to ≡ 1) ↔ Reaches k (cells_of free (rows * k)) cell to in
-    subst Q f (subst P e all)
 
 -- ---- other cells that are empty at the same places
 

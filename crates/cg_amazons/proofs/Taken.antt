@@ -76,15 +76,6 @@ in_all {X} P x [] all m = absurd m
 in_all {X} P x (y ∷ ys) all (inl e) = subst (λ (z : X). P z) (sym e) (all 0 y (omega arith))
 in_all {X} P x (y ∷ ys) all (inr m) = in_all P x ys (λ k d below. all (suc k) d (omega arith)) m
 
-pub takes_none : (p : Grid) (xs : List Grid) (word : ℕ) (Kind : ℕ → List ℕ → Type 0) (i : ℕ) → bit_at word i ≡ 0
-    → Takes p xs xs (IfMarked word Kind i)
-takes_none p xs word Kind i none = record {
-  like = λ r. r;
-  kept = λ z m. m;
-  taken = λ z k. absurd (let one = k.0 in omega arith);
-  only = λ z m. inl m;
-}
-
 pub takes_if : (p : Grid) (old new : List Grid) (word : ℕ) (Kind : ℕ → List ℕ → Type 0) (i : ℕ) → bit_at word i ≡ 1
     → Takes p old new (Kind i) → Takes p old new (IfMarked word Kind i)
 takes_if p old new word Kind i one t = record {
@@ -143,15 +134,6 @@ takes_same p old new P Q f g t = record {
   kept = t.kept;
   taken = λ z k. t.taken z (g z k);
   only = λ z m. elim (t.only z m) [ inl n ↦ inl n | inr k ↦ inr (f z k) ];
-}
-
--- place after place
-pub takes_start : (p : Grid) (xs : List Grid) (word : ℕ) (Kind : ℕ → List ℕ → Type 0) → Takes p xs xs (AnyMarked word Kind 0)
-takes_start p xs word Kind = record {
-  like = λ r. r;
-  kept = λ z m. m;
-  taken = λ z k. absurd (let l = k.below in omega arith);
-  only = λ z m. inl m;
 }
 
 pub takes_next : (p : Grid) (old now new : List Grid) (word : ℕ) (Kind : ℕ → List ℕ → Type 0) (i : ℕ)

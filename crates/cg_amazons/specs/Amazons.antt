@@ -1,5 +1,5 @@
 -- Amazons: a queen moves and shoots.
-use Rattle.std.specs.Prelude.{ℕ, zero, suc, ◌+◌, ◌-◌, ◌%◌, ◌≡◌, ◌<◌, ◌==◌, Bool, true, false, nat_lt, cond, List, [], ◌∷◌, ◌++◌, map, count_by, length, slice_index, slice_set, Option, Some, None, option_and_then}
+use Rattle.std.specs.Prelude.{ℕ, zero, suc, ◌+◌, ◌-◌, ◌%◌, ◌≡◌, ◌<◌, ◌==◌, Bool, true, nat_lt, cond, List, [], ◌∷◌, ◌++◌, map, count_by, length, slice_index, slice_set, Option, Some, None, option_and_then}
 use Rattle.std.specs.List.{flat_map}
 use Rattle.std.specs.Option.{option_map_or}
 use Rattle.std.specs.Str.{bytes_eq}
@@ -124,6 +124,5 @@ amazons = record {
   moves = amazons_moves;
   measure = λ p. empty_cells p.cells;
   number = 3;
-  cuts = false;
-  pieces = λ p. p ∷ [];
+  cut = None;
 }

@@ -1,14 +1,15 @@
 -- All moves of Amazons.
-use Rattle.std.proofs.Common.{◌≡◌, ◌≢◌, ℕ, zero, suc, ◌+◌, ◌<◌, ◌≤◌, ◌==◌, ◌⊎◌, inl, inr, Bool, true, false, cond, leb, List, [], ◌∷◌, length, refl, ap, sym, subst, ◌∙◌, arith, eqb-true, eq-eqb, get_or-set_other}
-use Rattle.std.specs.Prelude.{slice_index, slice_set, if◌then◌else◌}
+use Rattle.std.proofs.Common.{◌≡◌, ◌≢◌, ℕ, zero, suc, ◌<◌, ◌≤◌, ◌==◌, ◌⊎◌, inl, inr, Bool, true, false, cond, leb, List, [], length, refl, ap, sym, subst, ◌∙◌, arith, eqb-true, eq-eqb, get_or-set_other}
+use Rattle.std.specs.Prelude.{slice_index, slice_set}
 use Rattle.std.specs.List.{flat_map}
 use Rattle.std.proofs.lemmas.Bool.{leb-true, leb-false}
 use Rattle.std.proofs.lemmas.List.{length-set}
-use Rattle.std.proofs.lemmas.List.Sums.{sum_by-cons}
 use Rattle.cg_moves.specs.declared.player.Player.{Player}
 use Rattle.cg_moves.specs.declared.player.Player.TheVariants.{Left, Right}
 use Rattle.cg_moves.specs.Grid.{Grid}
-use Rattle.cg_moves.specs.Rules.{In, IsLawful}
+use Rattle.cg_moves.specs.Lawful.{IsLawful}
+use Rattle.cg_moves.proofs.ForGames.{count-set, one_if}
+use Rattle.cg_moves.specs.Rules.{In}
 use Rattle.cg_moves.proofs.Members.{in-append, in-append_left, in-append_right, in-flat_map, in_flat_mapped, in-map, in_mapped}
 use Rattle.cg_moves.proofs.RisingLemmas.{rising-in, in-rising}
 use Rattle.cg_amazons.specs.Amazons.{empty, blocked, queen, Reaches, with_queen, IsAmazonsMove, line, ways, shots_that_way, shots, moves_that_way, moves_from, moves_below, amazons_moves, empty_cells, amazons}
@@ -134,18 +135,6 @@ move_has player p after some is =
 
 -- ---- empty cells
 
-abbrev one_if : Bool → ℕ
-one_if b = if b then 1 else 0
-
-empty-cons : (c : ℕ) (cells : List ℕ) → empty_cells (c ∷ cells) ≡ one_if (c == empty) + empty_cells cells
-empty-cons c cells = sum_by-cons (λ (x : ℕ). one_if (x == empty)) c cells
-
--- a cell that is changed counts by what stood there and what stands there
-empty-set : (cells : List ℕ) (i v : ℕ) → i < length cells → empty_cells (slice_set cells i v) + one_if (slice_index cells i == empty) ≡ empty_cells cells + one_if (v == empty)
-empty-set [] i v h = absurd (omega arith)
-empty-set (c ∷ cells) zero v h = let a = empty-cons c cells in let b = empty-cons v cells in omega (arith, a, b)
-empty-set (c ∷ cells) (suc i) v h = let a = empty-cons c cells in let b = empty-cons c (slice_set cells i v) in let r = empty-set cells i v (omega arith) in omega (arith, a, b, r)
-
 queen_is_none : (player : Player) → one_if (queen player == empty) ≡ 0
 queen_is_none Left = refl
 queen_is_none Right = refl
@@ -160,10 +149,10 @@ move_lowers player columns cells after is =
     let long : length left ≡ length cells = length-set cells is.from empty in
     let apart : is.to ≢ is.from = λ e. omega (arith, apart_of (queen_cell player) (sym (eqb-true (slice_index cells is.to) empty to_empty) ∙ ap (slice_index cells) e ∙ is.own)) in
     let to_left : slice_index left is.to ≡ slice_index cells is.to = get_or-set_other cells is.from is.to empty 0 apart in
-    let a = empty-set cells is.from empty here in
-    let b = empty-set left is.to q (omega arith) in
+    let a = count-set (λ c. c == empty) 0 cells is.from empty here in
+    let b = count-set (λ c. c == empty) 0 left is.to q (omega arith) in
     let target_empty = along_ends columns (with_queen cells is.from is.to q) is.shot.way is.shot.steps is.to is.target is.shot.along in
-    let c = empty-set (with_queen cells is.from is.to q) is.target blocked (within (with_queen cells is.from is.to q) is.target target_empty) in
+    let c = count-set (λ c. c == empty) 0 (with_queen cells is.from is.to q) is.target blocked (within (with_queen cells is.from is.to q) is.target target_empty) in
     let from_none : one_if (slice_index cells is.from == empty) ≡ 0 = ap (λ (s : ℕ). one_if (s == empty)) is.own ∙ queen_is_none player in
     let to_one : one_if (slice_index left is.to == empty) ≡ 1 = ap (λ (s : ℕ). one_if (s == empty)) to_left ∙ ap one_if to_empty in
     let target_one : one_if (slice_index (with_queen cells is.from is.to q) is.target == empty) ≡ 1 = ap one_if target_empty in
@@ -179,8 +168,10 @@ move_lowers player columns cells after is =
 
 pub amazons_lawful : IsLawful amazons
 amazons_lawful = record {
-  stays = λ player p cells e m. e;
-  lowers = λ player p cells e m. move_lowers player p.columns p.cells cells (move_is player p cells m);
+  moves = record {
+    stays = λ player p cells e m. e;
+    lowers = λ player p cells e m. move_lowers player p.columns p.cells cells (move_is player p cells m);
+  };
   number = omega arith;
   cut = λ e. absurd cc;
 }

@@ -1,8 +1,9 @@
 -- what public contracts cite
 pub mod Amazons
-pub mod AmazonsLaws
-pub mod AmazonsMoves
 pub mod Boards
 pub mod Rays
--- what private contracts cite, and what proofs need here
+-- what private contracts cite
 pub mod Taking
+-- proofs that the implementation of the traits needs
+pub mod AmazonsLaws
+pub mod AmazonsMoves

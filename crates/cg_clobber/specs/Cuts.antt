@@ -7,14 +7,13 @@ use Rattle.cg_dyadic.proofs.Truth.{and-both, and-split, differ, false-from}
 use Rattle.cg_moves.specs.declared.player.Player.{Player}
 use Rattle.cg_moves.specs.declared.player.Player.TheVariants.{Left, Right}
 use Rattle.cg_moves.specs.Grid.{Grid, is_in_rows}
-use Rattle.cg_moves.specs.Rising.{counted}
 use Rattle.cg_moves.specs.Rules.{In}
 use Rattle.cg_moves.proofs.ConnectedLemmas.{or-cases, or-first, or-second}
 use Rattle.cg_moves.proofs.Members.{in_flat_mapped}
-use Rattle.cg_moves.proofs.RisingLemmas.{in-rising}
+use Rattle.cg_moves.proofs.ForGames.{at-listed, board-wide, choice-in}
 use Rattle.cg_pieces.specs.Neighbours.{CutsNeighbours, IsNeighbours, is_below, is_beside, is_next}
 use Rattle.cg_pieces.proofs.Lines.{below-is, beside-inside, beside-is, before-beside, is-below, is-beside, second-column}
-use Rattle.cg_pieces.proofs.NeighbourSets.{at-cell, choice-in, piece-cell-below}
+use Rattle.cg_pieces.proofs.NeighbourSets.{piece-cell-below}
 use Rattle.cg_clobber.specs.declared.way.Way.{Way}
 use Rattle.cg_clobber.specs.declared.way.Way.TheVariants.{Up, Down, Back, Forth}
 use Rattle.cg_clobber.specs.Capture.{is_capture}
@@ -23,17 +22,11 @@ use Rattle.cg_clobber.specs.Moves.{captures, clobber, has_stone, is_stone, moves
 pub stones-are : IsNeighbours stones
 stones-are = record { blank = refl; past = refl }
 
-has-wide : (p : Grid) → clobber.has p ≡ true → 0 < p.columns
-has-wide p has =
-    let a = and-split (is_in_rows p) (bytes_eq p.symbols (codes ".xo")) has in
-    let b = and-split (nat_lt 0 p.columns) (length p.cells == p.rows * p.columns) a.0 in
-    ltb-true 0 p.columns b.0
-
-own-is : (player : Player) (c : ℕ) → c ≡ own player → is_stone c ≡ true
+pub own-is : (player : Player) (c : ℕ) → c ≡ own player → is_stone c ≡ true
 own-is Left c e = ap is_stone e
 own-is Right c e = ap is_stone e
 
-other-is : (player : Player) (c : ℕ) → c ≡ other player → is_stone c ≡ true
+pub other-is : (player : Player) (c : ℕ) → c ≡ other player → is_stone c ≡ true
 other-is Left c e = ap is_stone e
 other-is Right c e = ap is_stone e
 
@@ -138,9 +131,9 @@ module _ (p : Grid) (k l : ℕ) where
 
 pub clobber_cuts : CutsNeighbours stones clobber
 clobber_cuts = record {
-  pieces = λ p. refl;
+  cut = refl;
   measure = λ p. refl;
-  wide = has-wide;
+  wide = board-wide (codes ".xo");
   has = λ p q has symbols wide size.
       let a = and-split (is_in_rows p) (bytes_eq p.symbols (codes ".xo")) has in
       let P : List ℕ → Type 0 = λ z. IsTrue (bytes_eq z (codes ".xo")) in
@@ -157,18 +150,17 @@ clobber_cuts = record {
         other = j;
         legal = and-both (is_stone (slice_index p.cells i) && is_stone (slice_index p.cells j)) (is_next p.columns i j && captures player p i j)
             (and-both (is_stone (slice_index p.cells i)) (is_stone (slice_index p.cells j)) x y)
-            (and-both (is_next p.columns i j) (captures player p i j) (way-next p i j way (has-wide p has) n) f);
+            (and-both (is_next p.columns i j) (captures player p i j) (way-next p i j way (board-wide (codes ".xo") p has) n) f);
         is = e;
       };
   move = λ player p k l has t.
       let both = and-split (is_stone (slice_index p.cells k) && is_stone (slice_index p.cells l)) (is_next p.columns k l && captures player p k l) t in
       let cells = and-split (is_stone (slice_index p.cells k)) (is_stone (slice_index p.cells l)) both.0 in
       let rest = and-split (is_next p.columns k l) (captures player p k l) both.1 in
-      let w = next-way p k l (has-wide p has) (piece-cell-below stones stones-are p l cells.1) rest.0 in
+      let w = next-way p k l (board-wide (codes ".xo") p has) (piece-cell-below stones stones-are p l cells.1) rest.0 in
       let P : Option ℕ → Type 0 = λ o. In (with_capture player p k l) (moves_onto player p k o) in
-      in-rising _ (with_capture player p k l)
-      (in_flat_mapped (moves_at player p) (with_capture player p k l) k (counted 0 (length p.cells))
-      (at-cell stones stones-are p k cells.0)
+      at-listed (moves_at player p) (length p.cells) (with_capture player p k l) k
+      (piece-cell-below stones stones-are p k cells.0)
       (in_flat_mapped (moves_that_way player p k) (with_capture player p k l) w.way (Up ∷ Down ∷ Back ∷ Forth ∷ []) w.listed
-      (subst P (sym w.is) (choice-in (captures player p k l) (with_capture player p k l) rest.1))));
+      (subst P (sym w.is) (choice-in (captures player p k l) (with_capture player p k l) rest.1)));
 }

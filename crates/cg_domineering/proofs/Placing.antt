@@ -1,5 +1,5 @@
 -- Dominoes that are placed.
-use Rattle.std.proofs.Common.{◌≡◌, refl, ℕ, zero, suc, ◌+◌, ◌-◌, ◌*◌, ◌%◌, ◌<◌, ◌==◌, ◌&&◌, not, nat_lt, inl, inr, Bool, true, false, if◌then◌else◌, List, [], ◌∷◌, ◌++◌, Result, Ok, length, map, ap, sym, ◌∙◌, subst, arith, bit_and, ◌^◌, length-set, get_or-set_same, get_or-set_other}
+use Rattle.std.proofs.Common.{◌≡◌, refl, ℕ, zero, suc, ◌+◌, ◌-◌, ◌*◌, ◌%◌, ◌<◌, ◌==◌, ◌&&◌, not, nat_lt, inl, inr, Bool, true, false, if◌then◌else◌, List, [], ◌∷◌, ◌++◌, length, map, ap, sym, ◌∙◌, subst, arith, bit_and, ◌^◌, length-set, get_or-set_same, get_or-set_other}
 use Rattle.std.specs.Prelude.{Contains, codes, slice_index, slice_set}
 use Rattle.std.specs.Int.{bit_at}
 use Rattle.std.specs.List.{flat_map}
@@ -7,7 +7,7 @@ use Rattle.std.specs.Str.{bytes_eq}
 use Rattle.std.specs.declared.cmp.Ordering.TheVariants.{Less}
 use Rattle.std.proofs.lemmas.Bool.{eqb-true, lt-ltb, ltb-true}
 use Rattle.std.proofs.lemmas.Bool.Decides.{leb_tells}
-use Rattle.std.proofs.lemmas.List.{append-nil, get_or_past}
+use Rattle.std.proofs.lemmas.List.{get_or_past}
 use Rattle.cg_moves.specs.declared.player.Player.{Player}
 use Rattle.cg_moves.specs.declared.player.Player.TheVariants.{Left, Right}
 use Rattle.cg_moves.specs.Grid.{Grid, is_in_rows, with_cells}
@@ -190,20 +190,6 @@ bit-fits player p word i are some = go (fits player p i) refl
     go true e = e
     go false e = absurd (some (are i ∙ ap (λ t. if t then 1 else 0) e))
 
-no-bit : (player : Player) (p : Grid) (word i : ℕ) → Marks word (fits player p) → bit_at word i ≡ 0
-    → fits player p i ≡ false
-no-bit player p word i are none = go (fits player p i) refl
-  where
-    go : (b : Bool) → fits player p i ≡ b → fits player p i ≡ false
-    go true e = absurd (let one : bit_at word i ≡ 1 = are i ∙ ap (λ t. if t then 1 else 0) e in omega arith)
-    go false e = e
-
-pub none_listed : (player : Player) (p : Grid) (word i : ℕ) (old : List Grid) → Marks word (fits player p)
-    → bit_at word i ≡ 0 → old ≡ old ++ map (with_cells p) (moves_at player p i)
-none_listed player p word i old are none =
-    sym (append-nil old) ∙ ap (λ b. old ++ map (with_cells p) (if b then with_domino player p i ∷ [] else []))
-    (sym (no-bit player p word i are none))
-
 pub one_listed : (player : Player) (p after : Grid) (i : ℕ) (old new : List Grid) → fits player p i ≡ true
     → after ≡ with_cells p (with_domino player p i) → new ≡ old ++ (after ∷ [])
     → new ≡ old ++ map (with_cells p) (moves_at player p i)
@@ -219,7 +205,3 @@ all_listed player p i n boards some end size all =
     all ∙ ap (λ k. map (with_cells p) (flat_map (moves_at player p) (counted 0 k))) (end ∙ size)
     ∙ ap (map (with_cells p)) (sym (rising-kept (flat_map (moves_at player p) (counted 0 (length p.cells)))
     (dominoes-rise player p 0 (length p.cells) some)))
-
--- a result that is another one
-pub ok-is : {E : Type 0} (a b : Grid) → ◌≡◌ {A = Result Grid E} (Ok a) (Ok b) → a ≡ b
-ok-is a b e = cc

@@ -7,25 +7,17 @@ use Rattle.cg_dyadic.proofs.Truth.{and-both, and-split}
 use Rattle.cg_moves.specs.declared.player.Player.{Player}
 use Rattle.cg_moves.specs.declared.player.Player.TheVariants.{Left, Right}
 use Rattle.cg_moves.specs.Grid.{Grid, is_in_rows}
-use Rattle.cg_moves.specs.Rising.{counted}
 use Rattle.cg_moves.specs.Rules.{In}
 use Rattle.cg_moves.proofs.ConnectedLemmas.{or-first, or-second}
-use Rattle.cg_moves.proofs.Members.{in_flat_mapped}
-use Rattle.cg_moves.proofs.RisingLemmas.{in-rising}
+use Rattle.cg_moves.proofs.ForGames.{at-listed, board-wide, choice-in}
 use Rattle.cg_pieces.specs.Neighbours.{CutsNeighbours, IsNeighbours, cell_game, is_below, is_beside, is_next, may_move}
 use Rattle.cg_pieces.proofs.Lines.{below-is, beside-inside, beside-is, is-below, is-beside}
-use Rattle.cg_pieces.proofs.NeighbourSets.{at-cell, choice-in, piece-cell-below}
+use Rattle.cg_pieces.proofs.NeighbourSets.{piece-cell-below}
 use Rattle.cg_domineering.specs.Domino.{is_domino}
 use Rattle.cg_domineering.specs.Moves.{domineering, dominoes, fits, has_other, is_empty, lies, moves_at, moves_of, other_cell, with_domino}
 
 pub dominoes-are : IsNeighbours dominoes
 dominoes-are = record { blank = refl; past = refl }
-
-has-wide : (p : Grid) → domineering.has p ≡ true → 0 < p.columns
-has-wide p has =
-    let a = and-split (is_in_rows p) (bytes_eq p.symbols (codes ".#")) has in
-    let b = and-split (nat_lt 0 p.columns) (length p.cells == p.rows * p.columns) a.0 in
-    ltb-true 0 p.columns b.0
 
 -- where a domino fits, the player may move on its two cells
 fits-may : (player : Player) (p : Grid) (k : ℕ) → 0 < p.columns → fits player p k ≡ true
@@ -95,9 +87,9 @@ may-fits player p k l wide t =
 
 pub domineering_cuts : CutsNeighbours dominoes domineering
 domineering_cuts = record {
-  pieces = λ p. refl;
+  cut = refl;
   measure = λ p. refl;
-  wide = has-wide;
+  wide = board-wide (codes ".#");
   has = λ p q has symbols wide size.
       let a = and-split (is_in_rows p) (bytes_eq p.symbols (codes ".#")) has in
       let P : List ℕ → Type 0 = λ z. IsTrue (bytes_eq z (codes ".#")) in
@@ -109,16 +101,15 @@ domineering_cuts = record {
       let (k, i, f, e) = is_domino player p cells m in record {
         one = k;
         other = other_cell player p k;
-        legal = fits-may player p k (has-wide p has) f;
+        legal = fits-may player p k (board-wide (codes ".#") p has) f;
         is = e;
       };
   move = λ player p k l has t.
-      let w = may-fits player p k l (has-wide p has) t in
+      let w = may-fits player p k l (board-wide (codes ".#") p has) t in
       let cells = and-split (is_empty p.cells k && is_empty p.cells l) (is_next p.columns k l && lies player (is_below p.columns k l) (is_beside p.columns k l)) t in
       let k_empty = (and-split (is_empty p.cells k) (is_empty p.cells l) cells.0).0 in
       let P : ℕ → Type 0 = λ z. In ((cell_game dominoes).after player p k z) (moves_of player p) in
       subst P (sym w.other)
-      (in-rising _ (with_domino player p k)
-      (in_flat_mapped (moves_at player p) (with_domino player p k) k (counted 0 (length p.cells))
-      (at-cell dominoes dominoes-are p k k_empty) (choice-in (fits player p k) (with_domino player p k) w.fits)));
+      (at-listed (moves_at player p) (length p.cells) (with_domino player p k) k
+      (piece-cell-below dominoes dominoes-are p k k_empty) (choice-in (fits player p k) (with_domino player p k) w.fits));
 }

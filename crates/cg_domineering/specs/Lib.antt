@@ -1,7 +1,7 @@
 -- what public contracts cite
 pub mod Moves
 pub mod Worked
--- what private contracts cite, and what proofs need here
+-- proofs that the implementation of the traits needs
 pub mod Domino
 pub mod Cuts
 pub mod Lawful

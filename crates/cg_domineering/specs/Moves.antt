@@ -1,5 +1,5 @@
 -- Domineering: Left fills two empty cells, one above the other, and Right two empty cells side by side.
-use Rattle.std.specs.Prelude.{ℕ, ◌+◌, ◌%◌, ◌==◌, ◌&&◌, Bool, true, nat_lt, if◌then◌else◌, List, [], ◌∷◌, codes, count_by, length, slice_index, slice_set}
+use Rattle.std.specs.Prelude.{ℕ, ◌+◌, ◌%◌, ◌==◌, ◌&&◌, Bool, nat_lt, if◌then◌else◌, List, [], ◌∷◌, codes, count_by, length, slice_index, slice_set, Some}
 use Rattle.std.specs.List.{flat_map}
 use Rattle.std.specs.Str.{bytes_eq}
 use Rattle.cg_moves.specs.declared.player.Player.{Player}
@@ -69,6 +69,5 @@ domineering = record {
   moves = moves_of;
   measure = λ p. count_by (λ c. c == empty) p.cells;
   number = 1;
-  cuts = true;
-  pieces = pieces_of (cell_game dominoes);
+  cut = Some (pieces_of (cell_game dominoes));
 }

@@ -10,7 +10,8 @@ use Rattle.cg_moves.specs.Grid.{Grid}
 use Rattle.cg_moves.specs.Raw.{raw}
 use Rattle.cg_moves.specs.Reach.{reach_of}
 use Rattle.cg_moves.specs.PieceReach.{piece_reach_of}
-use Rattle.cg_moves.specs.Rules.{GameRules, IsCut, IsLawful}
+use Rattle.cg_moves.specs.Lawful.{IsCut, IsLawful}
+use Rattle.cg_moves.specs.Rules.{GameRules, cuts}
 use Rattle.cg_moves.specs.Texts.{read_of}
 use Rattle.cg_moves.proofs.ReachLemmas.{reach-last}
 use Rattle.cg_moves.specs.Grid.{is_in_rows}
@@ -154,7 +155,7 @@ ends-items limit r lawful p has m =
     let items : Bool → List Item = λ b. if b then cut_items limit r p else whole_items limit r p in
     let P : Bool → Type 0 = λ b. EndsIn (can (raw r p)) (items b) in
     let Q : Bool → Type 0 = λ b. AreMade (items b) in
-    elim (true_or_false r.cuts) [
+    elim (true_or_false (cuts r)) [
       | inl t ↦ subst P (sym t) (ends-in_pieces limit r lawful (lawful.cut t) p has (subst Q t m))
       | inr f ↦ subst P (sym f) (ends-whole limit r lawful p has (subst Q f m))
     ]

@@ -11,7 +11,8 @@ use Rattle.cg_nodes.specs.Can.{can}
 use Rattle.cg_moves.specs.Grid.{Grid}
 use Rattle.cg_moves.specs.PieceReach.{piece_reach_of}
 use Rattle.cg_moves.specs.Raw.{raw}
-use Rattle.cg_moves.specs.Rules.{GameRules, IsCut, IsLawful, followers}
+use Rattle.cg_moves.specs.Lawful.{IsCut, IsLawful}
+use Rattle.cg_moves.specs.Rules.{GameRules, followers, pieces}
 use Rattle.cg_values.specs.Items.{added, added_items, joining_items, piece_items, sum_up, sum_up_items, value_item}
 use Rattle.cg_values.proofs.GiveSteps.{can-sum_forms}
 use Rattle.cg_values.proofs.LastPiece.{last-piece}
@@ -44,10 +45,10 @@ module _ (limit : ℕ) (r : GameRules) where
 
   module _ (lawful : IsLawful r) (cut : IsCut r) (p : Grid) (has : r.has p ≡ true) where
     -- the board's value is the sum of those of its pieces
-    sum-of_pieces : (qs : List Grid) → r.pieces p ≡ qs → can (sum_up (map (raw r) qs)) ≡ can (raw r p)
-    sum-of_pieces qs e = ap (λ z. can (sum_up (map (raw r) z))) (sym e) ∙ board-sum r lawful cut p has
+    sum-of_pieces : (qs : List Grid) → pieces r p ≡ qs → can (sum_up (map (raw r) qs)) ≡ can (raw r p)
+    sum-of_pieces qs e = ap (λ z. can (sum_up (map (raw r) z))) (sym e) ∙ board-sum r cut p has
 
-    ends-pieces : (qs : List Grid) → r.pieces p ≡ qs
+    ends-pieces : (qs : List Grid) → pieces r p ≡ qs
         → AreMade (flat_map (piece_items limit r) (piece_reach_of r p) ++ sum_up_items limit (map (raw r) qs))
         → EndsIn (can (raw r p)) (flat_map (piece_items limit r) (piece_reach_of r p) ++ sum_up_items limit (map (raw r) qs))
     ends-pieces [] e m =
@@ -57,7 +58,7 @@ module _ (limit : ℕ) (r : GameRules) where
     ends-pieces (q ∷ []) e m =
         let xs = flat_map (piece_items limit r) (piece_reach_of r p) in
         let P : List Item → Type 0 = λ z. EndsIn (can (raw r p)) z in
-        let (front, last) = last-piece r lawful cut p q has e in
+        let (front, last) = last-piece r lawful cut.each p q has e in
         subst P (sym (append-nil xs)) (ends-as (can (raw r q)) (can (raw r p)) xs (sum-of_pieces (q ∷ []) e)
         (ends-piece q front (piece_reach_of r p) last))
     ends-pieces (q ∷ s ∷ qs) e m =
@@ -69,4 +70,4 @@ module _ (limit : ℕ) (r : GameRules) where
 
     pub ends-cut : AreMade (flat_map (piece_items limit r) (piece_reach_of r p) ++ joining_items limit r p)
         → EndsIn (can (raw r p)) (flat_map (piece_items limit r) (piece_reach_of r p) ++ joining_items limit r p)
-    ends-cut m = ends-pieces (r.pieces p) refl m
+    ends-cut m = ends-pieces (pieces r p) refl m

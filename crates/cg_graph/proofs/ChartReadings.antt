@@ -11,7 +11,8 @@ use Rattle.cg_graph.specs.declared.fault.GraphFault.{GraphFault}
 use Rattle.cg_graph.specs.declared.fault.GraphFault.TheVariants as faults
 use Rattle.cg_graph.specs.declared.items.PairItem.{PairItem}
 use Rattle.cg_graph.proofs.DrawingReadings.{one_place}
-use Rattle.cg_graph.proofs.PairFaults.{First, first_broken}
+use Rattle.cg_moves.proofs.FirstPlaces.{First}
+use Rattle.cg_graph.proofs.PairFaults.{first_broken}
 use Rattle.cg_graph.proofs.Places.{pairs_are}
 use Rattle.cg_graph.proofs.Productions.{pairs_ok}
 

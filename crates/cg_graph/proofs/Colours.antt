@@ -1,10 +1,10 @@
 -- The colours of edges in rows of cells.
-use Rattle.std.proofs.Common.{◌≡◌, ◌≢◌, refl, ℕ, zero, suc, Bool, true, false, if◌then◌else◌, List, [], ◌∷◌, length, ◌⊎◌, inl, inr, ap, sym, ◌∙◌, subst, arith}
+use Rattle.std.proofs.Common.{◌≡◌, ◌≢◌, refl, ℕ, zero, suc, Bool, true, false, if◌then◌else◌, List, [], ◌∷◌, length, ◌⊎◌, inl, inr, ap, sym, ◌∙◌, subst, arith, length-set}
 use Rattle.std.specs.Prelude.{slice_set}
 use Rattle.cg_dyadic.proofs.Truth.{false-from, true-or-not}
 use Rattle.cg_moves.proofs.Counted.{same-or-not}
 use Rattle.cg_graph.specs.Paths.{IsThere, colour, gone, kept}
-use Rattle.cg_graph.specs.HackenbushLaw.{length-kept, length-set}
+use Rattle.cg_graph.specs.HackenbushLaw.{length-kept}
 
 pub there-or-gone : (cells : List ℕ) (k : ℕ) → (colour cells k ≡ gone) ⊎ IsThere cells k
 there-or-gone cells k = same-or-not (colour cells k) gone
@@ -90,6 +90,6 @@ kept-part test cells = record {
 
 pub set-part : (cells : List ℕ) (j : ℕ) → IsPart (slice_set cells j gone) cells
 set-part cells j = record {
-  long = length-set cells j;
+  long = length-set cells j gone;
   same = λ k there. set-other cells j k (set-not cells j k there);
 }

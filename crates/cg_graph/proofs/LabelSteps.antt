@@ -2,7 +2,6 @@
 use Rattle.std.proofs.Common.{◌≡◌, ◌≢◌, refl, ℕ, zero, suc, ◌<◌, ◌≤◌, ◌+◌, ◌-◌, ◌==◌, ◌&&◌, ◌||◌, Bool, true, false, if◌then◌else◌, Some, List, [], ◌∷◌, length, drop, get_or, inl, inr, ap, sym, ◌∙◌, subst, arith, length-set, get_or-set_same, get_or-set_other}
 use Rattle.std.specs.Prelude.{All, slice_get, slice_index, slice_set}
 use Rattle.std.proofs.Math.Seq.{drop-cons}
-use Rattle.std.proofs.lemmas.List.{drop_all, length-map}
 use Rattle.std.proofs.lemmas.Bool.{eqb-true, eq-eqb}
 use Rattle.cg_dyadic.proofs.Truth.{false-from}
 use Rattle.cg_reading.specs.Bytes.{has}
@@ -152,13 +151,6 @@ AreLabelsFrom labels edges cells k = AreLabels labels (present (drop k (graph_of
 
 down : (k : ℕ) → 0 < k → k ≡ suc (k - 1)
 down k some = omega arith
-
-pub labels_start : (labels cells : List ℕ) (edges : List ColouredEdge) → AreLabels labels []
-    → AreLabelsFrom labels edges cells (length edges)
-labels_start labels cells edges is =
-    let e : drop (length edges) (graph_of edges) ≡ [] = drop_all (length edges) (graph_of edges) (let s = length-map edges (λ (e : ColouredEdge). (let f : Edge = record { one = e.one; other = e.other } in f)) in omega arith) in
-    let P : List Edge → Type 0 = λ z. AreLabels labels (present z (drop (length edges) cells)) in
-    subst P (sym e) is
 
 pub label_gone : (labels cells : List ℕ) (edges : List ColouredEdge) (k : ℕ) → 0 < k → k ≤ length edges
     → length edges ≡ length cells → slice_index cells (k - 1) ≡ gone → AreLabelsFrom labels edges cells k

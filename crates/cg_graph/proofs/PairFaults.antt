@@ -1,21 +1,18 @@
 -- The fault that is found first is the least place at which a pair is amiss.
 use Rattle.std.proofs.Common.{◌≡◌, ◌≢◌, ◌⊎◌, refl, ℕ, suc, ◌+◌, ◌<◌, ◌≤◌, ◌==◌, ◌||◌, Bool, true, false, if◌then◌else◌, Option, Some, None, List, [], ◌∷◌, ◌++◌, length, drop, get_or, inl, inr, ap, sym, ◌∙◌, subst, arith}
+use Rattle.std.specs.Option.{option_or}
 use Rattle.std.specs.Prelude.{All, nat_le}
 use Rattle.std.proofs.Math.Seq.{drop-cons}
 use Rattle.std.proofs.lemmas.Bool.{eqb-true, eq-eqb, le-leb, leb-true}
 use Rattle.std.proofs.lemmas.List.{at_drop_all}
 use Rattle.std.proofs.lemmas.List.Elements.{All-cons}
 use Rattle.cg_reading.specs.Bytes.{has}
-use Rattle.cg_graph.specs.Charts.{IsAmiss, IsBroken, IsPair, first_none, named, or_else, pair_fault, pair_of, pairs_fault, pairs_of, repeated, second_none}
+use Rattle.cg_moves.proofs.FirstPlaces.{First, first_or, first_same, or_none}
+use Rattle.cg_graph.specs.Charts.{IsAmiss, IsBroken, IsPair, first_none, named, pair_fault, pair_of, pairs_fault, pairs_of, repeated, second_none}
 use Rattle.cg_graph.specs.Grammar.{letter}
 use Rattle.cg_graph.specs.Items.{IsLettered}
 use Rattle.cg_graph.specs.declared.items.PairItem.{PairItem}
 use Rattle.cg_graph.proofs.Places.{PlacesFrom}
-
--- nothing where no place has the property, and else the first that has it
-abbrev pub First : (ℕ → Type 0) → Option ℕ → Type 0
-First P None = (q : ℕ) → ¬ P q
-First P (Some p) = P p × ((q : ℕ) → P q → p ≤ q)
 
 -- ---- one pair
 
@@ -150,28 +147,12 @@ in_order vertices low i items p q places a b =
     omega arith
 
 joined : (vertices low : ℕ) (i : PairItem) (items : List PairItem) → PlacesFrom low (i ∷ items) → (a b : Option ℕ)
-    → First (IsAmiss vertices i) a → First (IsBroken vertices items) b → First (IsBroken vertices (i ∷ items)) (or_else a b)
-joined vertices low i items places None None f g = λ q h.
-    elim ((one_broken vertices i items h.before h.behind h.item q h.among h.amiss).way) [
-      | inl a ↦ f q a
-      | inr b ↦ g q b
-    ]
-joined vertices low i items places None (Some p) f g = (
-  broken_there vertices i items p g.0,
-  λ q h.
-      elim ((one_broken vertices i items h.before h.behind h.item q h.among h.amiss).way) [
-        | inl a ↦ absurd (f q a)
-        | inr b ↦ g.1 q b
-      ],
-)
-joined vertices low i items places (Some p) b f g = (
-  broken_here vertices i items p f.0,
-  λ q h.
-      elim ((one_broken vertices i items h.before h.behind h.item q h.among h.amiss).way) [
-        | inl a ↦ f.1 q a
-        | inr b ↦ in_order vertices low i items p q places f.0 b
-      ],
-)
+    → First (IsAmiss vertices i) a → First (IsBroken vertices items) b → First (IsBroken vertices (i ∷ items)) (option_or a b)
+joined vertices low i items places a b f g =
+    first_same (λ q. IsAmiss vertices i q ⊎ IsBroken vertices items q) (IsBroken vertices (i ∷ items)) (option_or a b)
+    (λ q h. elim h [ inl x ↦ broken_here vertices i items q x | inr y ↦ broken_there vertices i items q y ])
+    (λ q h. (one_broken vertices i items h.before h.behind h.item q h.among h.amiss).way)
+    (first_or (IsAmiss vertices i) (IsBroken vertices items) a b (λ p q. in_order vertices low i items p q places) f g)
 
 pub first_broken : (vertices low : ℕ) (items : List PairItem) → PlacesFrom low items
     → First (IsBroken vertices items) (pairs_fault vertices items)
@@ -183,22 +164,15 @@ first_broken vertices low (i ∷ items) places =
 
 -- ---- pairs without a fault
 
-named-below : (c : ℕ) → has letter c ≡ true → (65 ≤ c) × (c ≤ 122)
-named-below c h = grind arith
-
 one-name : (c d : ℕ) → has letter c ≡ true → has letter d ≡ true → named c ≡ named d → c ≡ d
 one-name c d g h e = grind arith
-
-first_none-none : (a b : Option ℕ) → or_else a b ≡ None → (a ≡ None) × (b ≡ None)
-first_none-none None b e = (refl, e)
-first_none-none (Some p) b e = absurd (cc)
 
 pub pairs_sound : (vertices : ℕ) (items : List PairItem) → All IsLettered items → pairs_fault vertices items ≡ None
     → All (IsPair vertices) (pairs_of items)
 unfolding pairs_fault
 pairs_sound vertices [] letters none = λ k d below. absurd (omega arith)
 pairs_sound vertices (i ∷ items) letters none =
-    let both = first_none-none (pair_fault vertices i) (pairs_fault vertices items) none in
+    let both = or_none (pair_fault vertices i) (pairs_fault vertices items) none in
     let l = letters 0 i (omega arith) in
     let s = (judged vertices i).sound both.0 in
     All-cons (IsPair vertices) (pair_of i) (pairs_of items)
@@ -208,12 +182,12 @@ pairs_sound vertices (i ∷ items) letters none =
 -- ---- the loop over the pairs
 
 pairs_step : (vertices : ℕ) (items : List PairItem) (i : ℕ) (d : PairItem) → i < length items
-    → pairs_fault vertices (drop i items) ≡ or_else (pair_fault vertices (get_or items i d)) (pairs_fault vertices (drop (i + 1) items))
+    → pairs_fault vertices (drop i items) ≡ option_or (pair_fault vertices (get_or items i d)) (pairs_fault vertices (drop (i + 1) items))
 unfolding pairs_fault
 pairs_step vertices items i d h =
     let up : suc i ≡ i + 1 = omega arith in
     ap (pairs_fault vertices) (drop-cons items i d h)
-    ∙ ap (λ (k : ℕ). or_else (pair_fault vertices (get_or items i d)) (pairs_fault vertices (drop k items))) up
+    ∙ ap (λ (k : ℕ). option_or (pair_fault vertices (get_or items i d)) (pairs_fault vertices (drop k items))) up
 
 pub pairs_end : (vertices : ℕ) (items : List PairItem) (i : ℕ) → length items ≤ i → pairs_fault vertices (drop i items) ≡ None
 unfolding pairs_fault
@@ -222,10 +196,10 @@ pairs_end vertices items i h = at_drop_all (pairs_fault vertices) items i h
 pub pair_found : (vertices : ℕ) (items : List PairItem) (i : ℕ) (d : PairItem) (p : ℕ) → i < length items
     → Some p ≡ pair_fault vertices (get_or items i d) → pairs_fault vertices (drop i items) ≡ Some p
 pair_found vertices items i d p h f =
-    pairs_step vertices items i d h ∙ ap (λ (a : Option ℕ). or_else a (pairs_fault vertices (drop (i + 1) items))) (sym f)
+    pairs_step vertices items i d h ∙ ap (λ (a : Option ℕ). option_or a (pairs_fault vertices (drop (i + 1) items))) (sym f)
 
 pub pair_passed : (vertices : ℕ) (items : List PairItem) (i : ℕ) (d : PairItem) → i < length items
     → None ≡ pair_fault vertices (get_or items i d)
     → pairs_fault vertices (drop (i + 1) items) ≡ pairs_fault vertices (drop i items)
 pair_passed vertices items i d h f =
-    sym (pairs_step vertices items i d h ∙ ap (λ (a : Option ℕ). or_else a (pairs_fault vertices (drop (i + 1) items))) (sym f))
+    sym (pairs_step vertices items i d h ∙ ap (λ (a : Option ℕ). option_or a (pairs_fault vertices (drop (i + 1) items))) (sym f))

@@ -91,16 +91,16 @@ module _ (edges : List Edge) (p : Grid) where
   option-move : (s : Bool) (cells : List ℕ) (k : ℕ) → Fine cells → May s cells k
       → Among (tree (cut edges cells k)) (near s (tree cells))
   option-move true cells k fine may =
-      raw_option (hackenbush edges) (hackenbush_lawful edges) Left (with_cells p cells) (cut edges cells k) fine.has
+      raw_option (hackenbush edges) (hackenbush_lawful edges).moves Left (with_cells p cells) (cut edges cells k) fine.has
       (cut_is edges Left cells k may)
   option-move false cells k fine may =
-      raw_option (hackenbush edges) (hackenbush_lawful edges) Right (with_cells p cells) (cut edges cells k) fine.has
+      raw_option (hackenbush edges) (hackenbush_lawful edges).moves Right (with_cells p cells) (cut edges cells k) fine.has
       (cut_is edges Right cells k may)
 
   of_move : (player : Player) (cells : List ℕ) (g : Game) → Fine cells → Among g (options_of player (tree cells))
       → (k : ℕ) × (may_cut player (colour cells k) ≡ true) × (g ≡ tree (cut edges cells k))
   of_move player cells g fine m =
-      let (after, i, e) = option_raw (hackenbush edges) (hackenbush_lawful edges) player (with_cells p cells) g fine.has m in
+      let (after, i, e) = option_raw (hackenbush edges) (hackenbush_lawful edges).moves player (with_cells p cells) g fine.has m in
       let (k, may, f) = is_cut edges player cells after i in
       (k, may, e ∙ ap tree f)
 

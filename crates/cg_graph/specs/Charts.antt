@@ -1,5 +1,6 @@
 -- What two texts are as vertices and edges of Col or Snort, and why they are none.
 use Rattle.std.specs.Prelude.{ℕ, ◌+◌, ◌-◌, ◌==◌, ◌&&◌, ◌||◌, ◌≡◌, ◌≢◌, ◌⊎◌, ◌<◌, ◌≤◌, suc, Bool, true, nat_le, nat_lt, if◌then◌else◌, List, [], ◌∷◌, ◌++◌, length, map, position, All, codes, Option, Some, None, Result, Ok, Err}
+use Rattle.std.specs.Option.{option_or}
 use Rattle.cg_reading.specs.Column.{Stops}
 use Rattle.cg_reading.specs.Readers.{whole_at}
 use Rattle.cg_moves.specs.Grid.{AreCells, Grid}
@@ -134,13 +135,9 @@ pair_fault vertices i =
     if nat_le vertices (named i.one) then Some i.place
     else (if nat_le vertices (named i.other) || (i.other == i.one) then Some (i.place + 1) else None)
 
-abbrev pub or_else : Option ℕ → Option ℕ → Option ℕ
-or_else None other = other
-or_else (Some place) other = Some place
-
 unfoldable pub pairs_fault : ℕ → List PairItem → Option ℕ
 pairs_fault vertices [] = None
-pairs_fault vertices (i ∷ items) = or_else (pair_fault vertices i) (pairs_fault vertices items)
+pairs_fault vertices (i ∷ items) = option_or (pair_fault vertices i) (pairs_fault vertices items)
 
 abbrev pub sound_charted : Chart → Option ℕ → Result Chart GraphFault
 sound_charted chart None = Ok chart

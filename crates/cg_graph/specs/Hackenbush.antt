@@ -1,6 +1,6 @@
 -- Hackenbush on graphs. Berlekamp, Conway, Guy, Winning Ways, chapters 1 and 7: a player cuts an edge of one's own colour or a
 -- green one, and what is no longer joined to the ground is gone.
-use Rattle.std.specs.Prelude.{◌≡◌, ◌≢◌, ℕ, ◌==◌, ◌&&◌, ◌||◌, Bool, false, true, not, if◌then◌else◌, List, [], ◌∷◌, codes, count_by, length, slice_set}
+use Rattle.std.specs.Prelude.{◌≡◌, ◌≢◌, ℕ, ◌==◌, ◌&&◌, ◌||◌, Bool, true, not, if◌then◌else◌, List, [], ◌∷◌, codes, count_by, length, slice_set, None}
 use Rattle.std.specs.List.{flat_map}
 use Rattle.std.specs.Str.{bytes_eq}
 use Rattle.cg_moves.specs.declared.player.Player.{Player}
@@ -54,8 +54,7 @@ hackenbush edges = record {
   moves = λ player p. cuts_of edges player p.cells;
   measure = λ p. count_by (λ c. not (c == gone)) p.cells;
   number = 0;
-  cuts = false;
-  pieces = λ p. [];
+  cut = None;
 }
 
 -- a board of the game without green edges on which each edge that is there is joined to the ground, as after each move

@@ -7,9 +7,9 @@ pub mod Reading
 pub mod Drawings
 pub mod Charts
 pub mod Worked
--- proofs that the traits of games want here
-pub mod HackenbushLaw
-pub mod ColouringLaw
 -- what private contracts cite
 pub mod Labels
 pub mod Items
+-- proofs that the implementation of the traits needs
+pub mod HackenbushLaw
+pub mod ColouringLaw

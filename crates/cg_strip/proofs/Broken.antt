@@ -1,42 +1,18 @@
 -- The first fault that is found is the first place at which a rule beyond the grammar is broken.
 use Rattle.std.proofs.Common.{◌≡◌, ℕ, zero, suc, ◌+◌, ◌<◌, ◌≤◌, ◌⊎◌, inl, inr, Bool, true, false, cond, List, [], ◌∷◌, ◌++◌, length, Option, Some, None, refl, ap, sym, subst, ◌∙◌, arith, append_assoc, append-nil}
+use Rattle.std.specs.Option.{option_or}
+use Rattle.cg_moves.proofs.FirstPlaces.{First, first_or, first_same}
 use Rattle.cg_strip.specs.Rulebook.{is_weighted}
 use Rattle.cg_strip.specs.RuleFaults.{weights_in, IsUnweighted}
-use Rattle.cg_strip.specs.Faults.{or_else, is_bad_weight, weights_fault, unweighted_fault}
+use Rattle.cg_strip.specs.Faults.{is_bad_weight, weights_fault, unweighted_fault}
 use Rattle.cg_strip.specs.declared.weight.Weight.{Weight}
 use Rattle.cg_strip.specs.declared.items.WeightItem.{WeightItem}
 use Rattle.cg_strip.specs.declared.items.RuleItem.{RuleItem}
 use Rattle.cg_strip.proofs.Places.{WeightsFrom}
 
--- nothing where no place has the property, and else the first that has it
-abbrev pub First : (ℕ → Type 0) → Option ℕ → Type 0
-First P None = (q : ℕ) → P q → ⊥
-First P (Some p) = P p × ((q : ℕ) → P q → p ≤ q)
-
-pub first_or : (P Q : ℕ → Type 0) (a b : Option ℕ) → ((p q : ℕ) → P p → Q q → p ≤ q) → First P a → First Q b → First (λ q. P q ⊎ Q q) (or_else a b)
-first_or P Q None None order f g = λ q h. neither q h
-  where
-    neither : (q : ℕ) → P q ⊎ Q q → ⊥
-    neither q (inl h) = f q h
-    neither q (inr h) = g q h
-first_or P Q None (Some p) order f g = (inr g.0, λ q h. least q h)
-  where
-    least : (q : ℕ) → P q ⊎ Q q → p ≤ q
-    least q (inl h) = absurd (f q h)
-    least q (inr h) = g.1 q h
-first_or P Q (Some p) b order f g = (inl f.0, λ q h. least q h)
-  where
-    least : (q : ℕ) → P q ⊎ Q q → p ≤ q
-    least q (inl h) = f.1 q h
-    least q (inr h) = order p q f.0 h
-
 pub first_if : (t : Bool) (p : ℕ) → First (λ q. (t ≡ true) × (q ≡ p)) (cond t (Some p) None)
 first_if true p = ((refl, refl), λ q h. omega (arith, h.1))
 first_if false p = λ q h. absurd (let e : false ≡ true = h.0 in cc)
-
-pub first_same : (P Q : ℕ → Type 0) (a : Option ℕ) → ((q : ℕ) → P q → Q q) → ((q : ℕ) → Q q → P q) → First P a → First Q a
-first_same P Q None to from f = λ q h. f q (from q h)
-first_same P Q (Some p) to from f = (to p f.0, λ q h. f.1 q (from q h))
 
 -- ---- places in a pattern or a replacement
 
@@ -102,12 +78,12 @@ unfolding weights_fault BadWeight
 first_weight low front [] rules o = λ q h. no_items h.0 h.1 h.2 h.3
 first_weight low front (w ∷ items) rules o =
     subst (λ (a : Option ℕ). First (BadWeight front (w ∷ items)) a) (sym (either (is_bad_weight front w) (weights_fault (front ++ w.weight ∷ []) items)))
-    (first_same (λ q. ((is_bad_weight front w ≡ true) × (q ≡ w.place)) ⊎ BadWeight (front ++ w.weight ∷ []) items q) (BadWeight front (w ∷ items)) (or_else (cond (is_bad_weight front w) (Some w.place) None) (weights_fault (front ++ w.weight ∷ []) items))
+    (first_same (λ q. ((is_bad_weight front w ≡ true) × (q ≡ w.place)) ⊎ BadWeight (front ++ w.weight ∷ []) items q) (BadWeight front (w ∷ items)) (option_or (cond (is_bad_weight front w) (Some w.place) None) (weights_fault (front ++ w.weight ∷ []) items))
     (bad_weight_first front w items) (bad_weight_split front w items)
     (first_or (λ q. (is_bad_weight front w ≡ true) × (q ≡ w.place)) (BadWeight (front ++ w.weight ∷ []) items) (cond (is_bad_weight front w) (Some w.place) None) (weights_fault (front ++ w.weight ∷ []) items)
     (λ p q h b. let low = bad_weight_low (suc w.place) (front ++ w.weight ∷ []) items rules o.1 q b in omega (arith, h.1, low))
     (first_if (is_bad_weight front w) w.place) (first_weight (suc w.place) (front ++ w.weight ∷ []) items rules o.1)))
   where
-    either : (t : Bool) (other : Option ℕ) → cond t (Some w.place) other ≡ or_else (cond t (Some w.place) None) other
+    either : (t : Bool) (other : Option ℕ) → cond t (Some w.place) other ≡ option_or (cond t (Some w.place) None) other
     either true other = refl
     either false other = refl

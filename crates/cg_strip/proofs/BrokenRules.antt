@@ -1,16 +1,18 @@
 -- The first fault in the rules of a text, and in the whole text.
 use Rattle.std.proofs.Common.{◌≡◌, ◌≢◌, ℕ, suc, ◌+◌, ◌≤◌, ◌==◌, ◌||◌, ◌⊎◌, inl, inr, Bool, true, false, not, cond, List, [], ◌∷◌, ◌++◌, length, Option, Some, None, refl, ap, sym, subst, ◌∙◌, arith, eqb-true, eq-eqb}
+use Rattle.std.specs.Option.{option_or}
 use Rattle.std.proofs.lemmas.List.{length-map}
 use Rattle.std.proofs.lemmas.Bool.{or_cases}
 use Rattle.cg_strip.specs.Grammar.{Items, rules_text}
 use Rattle.cg_strip.specs.Rulebook.{is_weighted}
 use Rattle.cg_strip.specs.RuleFaults.{weights_in, IsBroken, second_weight, seventeenth_weight, thirty_third_rule, in_pattern, in_replacement, uneven_rule, IsFirstBroken}
-use Rattle.cg_strip.specs.Faults.{or_else, is_bad_weight, weights_fault, unweighted_fault, is_bad_rule, rule_fault, rules_fault, fault_of}
+use Rattle.cg_strip.specs.Faults.{is_bad_weight, weights_fault, unweighted_fault, is_bad_rule, rule_fault, rules_fault, fault_of}
 use Rattle.cg_strip.specs.declared.weight.Weight.{Weight}
 use Rattle.cg_strip.specs.declared.items.WeightItem.{WeightItem}
 use Rattle.cg_strip.specs.declared.items.RuleItem.{RuleItem}
 use Rattle.cg_strip.proofs.Places.{RuleFrom, RulesFrom, WeightsFrom, lower_rules, places_rise}
-use Rattle.cg_strip.proofs.Broken.{First, first_or, first_if, Unweighted, first_unweighted, unweighted_within, BadWeight, first_weight}
+use Rattle.cg_moves.proofs.FirstPlaces.{First, first_or}
+use Rattle.cg_strip.proofs.Broken.{first_if, Unweighted, first_unweighted, unweighted_within, BadWeight, first_weight}
 
 -- a place at which this rule, behind so many others, is broken
 abbrev BrokenRule : List Weight → ℕ → RuleItem → ℕ → Type 0
@@ -19,8 +21,8 @@ BrokenRule weights n r q = ((is_bad_rule n r ≡ true) × (q ≡ r.place)) ⊎ (
 first_in_rule : (weights : List Weight) (n low : ℕ) (r : RuleItem) → RuleFrom low r → First (BrokenRule weights n r) (rule_fault weights n r)
 unfolding rule_fault
 first_in_rule weights n low r o =
-    subst (λ (a : Option ℕ). First (BrokenRule weights n r) a) (sym (either (is_bad_rule n r) (or_else pattern replacement)))
-    (first_or (λ q. (is_bad_rule n r ≡ true) × (q ≡ r.place)) Symbols (cond (is_bad_rule n r) (Some r.place) None) (or_else pattern replacement) before (first_if (is_bad_rule n r) r.place)
+    subst (λ (a : Option ℕ). First (BrokenRule weights n r) a) (sym (either (is_bad_rule n r) (option_or pattern replacement)))
+    (first_or (λ q. (is_bad_rule n r ≡ true) × (q ≡ r.place)) Symbols (cond (is_bad_rule n r) (Some r.place) None) (option_or pattern replacement) before (first_if (is_bad_rule n r) r.place)
     (first_or (Unweighted weights r.pattern_place r.rule.pattern) (Unweighted weights r.replacement_place r.rule.replacement) pattern replacement between
     (first_unweighted weights r.pattern_place r.rule.pattern) (first_unweighted weights r.replacement_place r.rule.replacement)))
   where
@@ -33,7 +35,7 @@ first_in_rule weights n low r o =
     Symbols : ℕ → Type 0
     Symbols q = (Unweighted weights r.pattern_place r.rule.pattern q) ⊎ (Unweighted weights r.replacement_place r.rule.replacement q)
 
-    either : (t : Bool) (other : Option ℕ) → cond t (Some r.place) other ≡ or_else (cond t (Some r.place) None) other
+    either : (t : Bool) (other : Option ℕ) → cond t (Some r.place) other ≡ option_or (cond t (Some r.place) None) other
     either true other = refl
     either false other = refl
 

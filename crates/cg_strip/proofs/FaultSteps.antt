@@ -1,11 +1,12 @@
 -- How the first fault is found, one item after the other.
 use Rattle.std.proofs.Common.{◌≡◌, ◌≢◌, ℕ, suc, ◌+◌, ◌<◌, ◌≤◌, ◌==◌, ◌||◌, Bool, true, false, cond, List, [], ◌∷◌, ◌++◌, length, take, drop, get_or, Option, Some, None, refl, ap, sym, ◌∙◌, arith, drop-cons, eq-eqb, ne_eqb}
+use Rattle.std.specs.Option.{option_or}
 use Rattle.std.specs.List.{list_any}
 use Rattle.std.proofs.Math.Seq.{take-suc}
 use Rattle.std.proofs.lemmas.List.{length-map, map-append, at_drop_all, length-take-le}
 use Rattle.cg_strip.specs.Rulebook.{is_weighted}
 use Rattle.cg_strip.specs.RuleFaults.{weights_in}
-use Rattle.cg_strip.specs.Faults.{or_else, is_bad_weight, weights_fault, unweighted_fault, rule_fault, rules_fault}
+use Rattle.cg_strip.specs.Faults.{is_bad_weight, weights_fault, unweighted_fault, rule_fault, rules_fault}
 use Rattle.cg_strip.specs.declared.weight.Weight.{Weight}
 use Rattle.cg_strip.specs.declared.items.WeightItem.{WeightItem}
 use Rattle.cg_strip.specs.declared.items.RuleItem.{RuleItem}
@@ -63,11 +64,11 @@ unweighted_end weights place symbols i h = at_drop_all (unweighted_fault weights
 -- ---- rules
 
 pub rules_step : (weights : List Weight) (items : List RuleItem) (i : ℕ) (d : RuleItem) → i < length items
-    → rules_fault weights i (drop i items) ≡ or_else (rule_fault weights i (get_or items i d)) (rules_fault weights (i + 1) (drop (i + 1) items))
+    → rules_fault weights i (drop i items) ≡ option_or (rule_fault weights i (get_or items i d)) (rules_fault weights (i + 1) (drop (i + 1) items))
 unfolding rules_fault
 rules_step weights items i d h =
     let up : i + 1 ≡ suc i = omega arith in
-    ap (rules_fault weights i) (drop-cons items i d h) ∙ ap (λ (k : ℕ). or_else (rule_fault weights i (get_or items i d)) (rules_fault weights k (drop k items))) (sym up)
+    ap (rules_fault weights i) (drop-cons items i d h) ∙ ap (λ (k : ℕ). option_or (rule_fault weights i (get_or items i d)) (rules_fault weights k (drop k items))) (sym up)
 
 pub rules_end : (weights : List Weight) (items : List RuleItem) (i : ℕ) → length items ≤ i → rules_fault weights i (drop i items) ≡ None
 unfolding rules_fault
@@ -88,10 +89,10 @@ pub symbol_passed : (weights : List Weight) (place : ℕ) (symbols : List ℕ) (
 symbol_passed weights place symbols i h f = sym (unweighted_step weights place symbols i h ∙ ap (λ (t : Bool). cond t (unweighted_fault weights (place + (i + 1)) (drop (i + 1) symbols)) (Some (place + i))) f)
 
 pub rule_found : (weights : List Weight) (items : List RuleItem) (i : ℕ) (d : RuleItem) (p : ℕ) → i < length items → Some p ≡ rule_fault weights i (get_or items i d) → rules_fault weights i (drop i items) ≡ Some p
-rule_found weights items i d p h f = rules_step weights items i d h ∙ ap (λ (a : Option ℕ). or_else a (rules_fault weights (i + 1) (drop (i + 1) items))) (sym f)
+rule_found weights items i d p h f = rules_step weights items i d h ∙ ap (λ (a : Option ℕ). option_or a (rules_fault weights (i + 1) (drop (i + 1) items))) (sym f)
 
 pub rule_passed : (weights : List Weight) (items : List RuleItem) (i : ℕ) (d : RuleItem) → i < length items → None ≡ rule_fault weights i (get_or items i d) → rules_fault weights (i + 1) (drop (i + 1) items) ≡ rules_fault weights i (drop i items)
-rule_passed weights items i d h f = sym (rules_step weights items i d h ∙ ap (λ (a : Option ℕ). or_else a (rules_fault weights (i + 1) (drop (i + 1) items))) (sym f))
+rule_passed weights items i d h f = sym (rules_step weights items i d h ∙ ap (λ (a : Option ℕ). option_or a (rules_fault weights (i + 1) (drop (i + 1) items))) (sym f))
 
 pub found_by_count : (items : List WeightItem) (i : ℕ) (d : WeightItem) → i < length items → i ≡ 16 → weights_fault (weights_in (take i items)) (drop i items) ≡ Some (get_or items i d).place
 found_by_count items i d h e = weight_found items i d h (bad_by_count items i (get_or items i d) (omega arith) e)

@@ -8,11 +8,13 @@ use Rattle.cg_moves.specs.declared.player.Player.TheVariants.{Left, Right}
 use Rattle.cg_moves.specs.Rising.{rising}
 use Rattle.cg_strip.specs.Grammar.{Items, rules_text}
 use Rattle.cg_strip.specs.Reading.{numbers_at, weighing_at, weight_at, symbols_at, rewriting_at, rule_at, lettered_at, item_at, turn_at, next_rule_at, rules_text_at}
+use Rattle.cg_strip.specs.Faults.{fault_of, rule_fault, rules_fault, unweighted_fault, weights_fault}
 use Rattle.cg_strip.specs.Rulebook.{Rulebook}
-use Rattle.cg_strip.specs.RuleFaults.{book_of}
+use Rattle.cg_strip.specs.RuleFaults.{IsReadAs, book_of}
 use Rattle.cg_strip.specs.Placing.{all_placed, moves_by}
 use Rattle.cg_strip.specs.Toads.{empty, frog, toad, toads_moves}
-use Rattle.cg_strip.specs.Laws.{toads_text, ToadsAreStrip}
+use Rattle.cg_strip.specs.Laws.{ToadsAreStrip, toads_book, toads_text}
+use Rattle.cg_strip.proofs.WholeRules.{read_ok}
 use Rattle.cg_strip.proofs.WholeText.{rules_text_ok}
 
 toads_items : Items
@@ -34,6 +36,10 @@ reads = refl
 
 only_items : (t : Items) → rules_text 1 t toads_text → t ≡ toads_items
 only_items t is = whole_once rules_text rules_text_at _ _ _ rules_text_ok toads_text t toads_items is (whole_takes rules_text rules_text_at _ _ _ rules_text_ok toads_text toads_items reads)
+
+pub toads_read : IsReadAs toads_text toads_book
+unfolding toads_items fault_of weights_fault rules_fault rule_fault unweighted_fault
+toads_read = read_ok toads_text toads_items (Ok (book_of toads_items)) reads (refl, refl)
 
 pub toads_strip : ToadsAreStrip
 unfolding toads_items

@@ -1,5 +1,6 @@
 -- How the first broken rule is found: the functions of the code are told by these what they return.
 use Rattle.std.specs.Prelude.{ℕ, suc, ◌==◌, ◌||◌, Bool, not, cond, List, [], ◌∷◌, ◌++◌, length, Option, Some, None, Result, Ok, Err, ◌≡◌}
+use Rattle.std.specs.Option.{option_or}
 use Rattle.cg_strip.specs.Grammar.{Items}
 use Rattle.cg_moves.specs.declared.fault.BoardFault.{BoardFault}
 use Rattle.cg_moves.specs.declared.fault.BoardFault.TheVariants as faults
@@ -8,10 +9,6 @@ use Rattle.cg_strip.specs.RuleFaults.{weights_in, book_of}
 use Rattle.cg_strip.specs.declared.weight.Weight.{Weight}
 use Rattle.cg_strip.specs.declared.items.WeightItem.{WeightItem}
 use Rattle.cg_strip.specs.declared.items.RuleItem.{RuleItem}
-
-abbrev pub or_else : Option ℕ → Option ℕ → Option ℕ
-or_else None other = other
-or_else (Some p) other = Some p
 
 -- a second weight of its symbol behind these weights, or the seventeenth
 abbrev pub is_bad_weight : List Weight → WeightItem → Bool
@@ -32,14 +29,14 @@ is_bad_rule n r = (n == 32) || not (length r.rule.pattern == length r.rule.repla
 
 -- the first fault in the rule behind so many others
 unfoldable pub rule_fault : List Weight → ℕ → RuleItem → Option ℕ
-rule_fault weights n r = cond (is_bad_rule n r) (Some r.place) (or_else (unweighted_fault weights r.pattern_place r.rule.pattern) (unweighted_fault weights r.replacement_place r.rule.replacement))
+rule_fault weights n r = cond (is_bad_rule n r) (Some r.place) (option_or (unweighted_fault weights r.pattern_place r.rule.pattern) (unweighted_fault weights r.replacement_place r.rule.replacement))
 
 unfoldable pub rules_fault : List Weight → ℕ → List RuleItem → Option ℕ
 rules_fault weights n [] = None
-rules_fault weights n (r ∷ items) = or_else (rule_fault weights n r) (rules_fault weights (suc n) items)
+rules_fault weights n (r ∷ items) = option_or (rule_fault weights n r) (rules_fault weights (suc n) items)
 
 unfoldable pub fault_of : Items → Option ℕ
-fault_of t = or_else (weights_fault [] t.weights) (rules_fault (weights_in t.weights) 0 t.rules)
+fault_of t = option_or (weights_fault [] t.weights) (rules_fault (weights_in t.weights) 0 t.rules)
 
 -- the game of the items, or the place of their first fault
 abbrev pub IsStripOf : Items → Option ℕ → Result Rulebook BoardFault → Type 0

@@ -14,7 +14,7 @@ pub mod Boards
 pub mod ToadsBoards
 -- what private contracts cite
 pub mod Hops
--- proofs that the traits of games want here
+-- proofs that the implementation of the traits needs
 pub mod PlacingLemmas
 pub mod LoweringSteps
 pub mod WeighingLemmas

@@ -12,14 +12,8 @@ cell_step weights r left room h =
     let n : suc left ≡ left + 1 = omega arith in
     ap (lowers_from weights r left) k ∙ ap (λ (j : ℕ). is_lighter weights r left j && lowers_from weights r (suc left) (room - (left + 1))) (sym k) ∙ ap (λ (j : ℕ). is_lighter weights r left (room - left) && lowers_from weights r j (room - (left + 1))) n
 
-pub cell_found : (weights : List Weight) (r : Rule) (left room : ℕ) → left < room → is_lighter weights r left (room - left) ≡ false → lowers_from weights r left (room - left) ≡ false
-cell_found weights r left room h e = cell_step weights r left room h ∙ ap (λ (t : Bool). t && lowers_from weights r (left + 1) (room - (left + 1))) e
-
 pub cell_passed : (weights : List Weight) (r : Rule) (left room : ℕ) → left < room → is_lighter weights r left (room - left) ≡ true → lowers_from weights r (left + 1) (room - (left + 1)) ≡ lowers_from weights r left (room - left)
 cell_passed weights r left room h e = sym (cell_step weights r left room h ∙ ap (λ (t : Bool). t && lowers_from weights r (left + 1) (room - (left + 1))) e)
-
-pub cell_last : (weights : List Weight) (r : Rule) (left room : ℕ) → left ≡ room → lowers_from weights r left (room - left) ≡ is_lighter weights r room 0
-cell_last weights r left room e = let k : room - left ≡ 0 = omega arith in ap (lowers_from weights r left) k ∙ ap (λ (j : ℕ). is_lighter weights r j 0) e
 
 -- where the pattern fits, and where it doesn't
 pub fits_lower : (weights : List Weight) (size : ℕ) (r : Rule) → length r.pattern ≤ size → does_lower weights size r ≡ lowers_from weights r 0 (size - length r.pattern)

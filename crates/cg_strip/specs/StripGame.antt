@@ -1,5 +1,5 @@
 -- What a strip game is as a game on boards.
-use Rattle.std.specs.Prelude.{◌==◌, ◌&&◌, Bool, false, [], ◌∷◌, length}
+use Rattle.std.specs.Prelude.{◌==◌, ◌&&◌, Bool, length, None}
 use Rattle.std.specs.List.{list_all}
 use Rattle.std.specs.Str.{bytes_eq}
 use Rattle.cg_moves.specs.Grid.{Grid}
@@ -23,6 +23,5 @@ strip_game book = record {
   moves = λ player p. moves_by book.rules player p.cells;
   measure = λ p. row_weight book.weights p.cells;
   number = 0;
-  cuts = false;
-  pieces = λ p. p ∷ [];
+  cut = None;
 }

@@ -7,7 +7,8 @@ use Rattle.std.specs.Cmp.Lexicographic.{bytes_decides}
 use Rattle.std.proofs.lemmas.Bool.{and_parts, and_from}
 use Rattle.cg_moves.specs.declared.player.Player.{Player}
 use Rattle.cg_moves.specs.Grid.{Grid, with_cells}
-use Rattle.cg_moves.specs.Rules.{In, IsLawful}
+use Rattle.cg_moves.specs.Lawful.{IsLawful}
+use Rattle.cg_moves.specs.Rules.{In}
 use Rattle.cg_strip.specs.Rulebook.{Rulebook, IsRule, symbols_of}
 use Rattle.cg_strip.specs.Placing.{IsPlacedAt, moves_by}
 use Rattle.cg_strip.specs.Weighing.{row_weight, do_all_lower}
@@ -56,8 +57,10 @@ move_lowers book player p cells e m =
 
 pub strip_lawful : (book : Rulebook) → IsLawful (strip_game book)
 strip_lawful book = record {
-  stays = λ player p cells e m. stays player p cells e m;
-  lowers = λ player p cells e m. move_lowers book player p cells e m;
+  moves = record {
+    stays = λ player p cells e m. stays player p cells e m;
+    lowers = λ player p cells e m. move_lowers book player p cells e m;
+  };
   number = omega arith;
   cut = λ e. absurd cc;
 }

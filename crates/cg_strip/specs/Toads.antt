@@ -1,5 +1,5 @@
 -- Toads and Frogs: toads move to the right and frogs to the left.
-use Rattle.std.specs.Prelude.{ℕ, ◌≡◌, ◌⊎◌, ◌==◌, ◌&&◌, false, List, [], ◌∷◌, ◌++◌}
+use Rattle.std.specs.Prelude.{ℕ, ◌≡◌, ◌⊎◌, ◌==◌, ◌&&◌, List, [], ◌∷◌, ◌++◌, None}
 use Rattle.std.specs.Str.{bytes_eq}
 use Rattle.cg_moves.specs.declared.player.Player.{Player}
 use Rattle.cg_moves.specs.declared.player.Player.TheVariants.{Left, Right}
@@ -61,6 +61,5 @@ toads_game = record {
   moves = λ player p. toads_moves player p.cells;
   measure = λ p. row_weight toad_weights p.cells;
   number = 4;
-  cuts = false;
-  pieces = λ p. p ∷ [];
+  cut = None;
 }

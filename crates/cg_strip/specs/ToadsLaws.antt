@@ -3,7 +3,8 @@ use Rattle.std.proofs.Common.{◌≡◌, ℕ, ◌<◌, inl, inr, true, List, len
 use Rattle.std.proofs.lemmas.Bool.{lt-ltb}
 use Rattle.cg_moves.specs.declared.player.Player.{Player}
 use Rattle.cg_moves.specs.declared.player.Player.TheVariants.{Left, Right}
-use Rattle.cg_moves.specs.Rules.{In, IsLawful}
+use Rattle.cg_moves.specs.Lawful.{IsLawful}
+use Rattle.cg_moves.specs.Rules.{In}
 use Rattle.cg_moves.proofs.Members.{in-append, in-append_left, in-append_right}
 use Rattle.cg_moves.proofs.RisingLemmas.{rising-in, in-rising}
 use Rattle.cg_strip.specs.Placing.{IsPlacedAt, all_placed}
@@ -52,8 +53,10 @@ move_lowers Right row after (inr b) = become_lowers _ _ row after refl (λ left 
 
 pub toads_lawful : IsLawful toads_game
 toads_lawful = record {
-  stays = λ player p cells e m. e;
-  lowers = λ player p cells e m. move_lowers player p.cells cells (hop_is player p.cells cells m);
+  moves = record {
+    stays = λ player p cells e m. e;
+    lowers = λ player p cells e m. move_lowers player p.cells cells (hop_is player p.cells cells m);
+  };
   number = omega arith;
   cut = λ e. absurd cc;
 }

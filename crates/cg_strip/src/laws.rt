@@ -6,7 +6,7 @@ ghost use Rattle.cg_strip.specs.Rulebook.{Rulebook};
 ghost use Rattle.cg_strip.specs.RuleFaults.{IsReadAs};
 ghost use Rattle.cg_strip.specs.Placing.{moves_by};
 ghost use Rattle.cg_strip.specs.Toads.{toads_moves};
-ghost use Rattle.cg_strip.specs.Laws.{ToadsAreStrip, ListedArePlacements, ListedAreHops};
+ghost use Rattle.cg_strip.specs.Laws.{ListedAreHops, ListedArePlacements, ToadsAreStrip, toads_book, toads_text};
 
 /// No text reads as two games.
 pub fn one_game()
@@ -14,10 +14,11 @@ pub fn one_game()
         → book ≡ other }
 {}
 
-/// On each row Toads and Frogs has the moves of the strip game whose rules are
-/// `.=0,0,0;T=0,0,1;F=0,1,0;L:T.>.T;L:TF.>.FT;R:.F>F.;R:.TF>FT.`.
+/// The text `.=0,0,0;T=0,0,1;F=0,1,0;L:T.>.T;L:TF.>.FT;R:.F>F.;R:.TF>FT.` reads as a strip game, which has these weights and
+/// rules; and on each row Toads and Frogs has the moves of the strip game that it reads as.
 pub fn toads_are_strip()
-    ensures { ToadsAreStrip }
+    ensures reads { IsReadAs toads_text toads_book }
+    ensures moves { ToadsAreStrip }
 {}
 
 /// The moves of a strip game are exactly the placements of the player's rules, in rising order of the bytes of the cells that

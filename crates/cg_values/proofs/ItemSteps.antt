@@ -15,7 +15,8 @@ use Rattle.cg_nodes.proofs.Later.{stand_later}
 use Rattle.cg_moves.specs.declared.player.Player.TheVariants.{Left, Right}
 use Rattle.cg_moves.specs.Grid.{Grid, IsGrid}
 use Rattle.cg_moves.specs.Raw.{raw}
-use Rattle.cg_moves.specs.Rules.{GameRules, IsLawful, boards_after, followers}
+use Rattle.cg_moves.specs.Lawful.{IsLawful}
+use Rattle.cg_moves.specs.Rules.{GameRules, boards_after, followers}
 use Rattle.cg_moves.proofs.Bounds.{raw-moves}
 use Rattle.cg_values.specs.Notes.{places, symbol_row}
 use Rattle.cg_values.specs.Options.{AreOptions}
@@ -65,7 +66,7 @@ value-options s r lawful p ls rs has l k =
     ap (λ z. can (node z (games_at s rs))) l.1
     ∙ ap (λ z. can (node (map can (map (raw r) (boards_after r Left p))) z)) k.1
     ∙ can-node (map (raw r) (boards_after r Left p)) (map (raw r) (boards_after r Right p))
-    ∙ ap can (sym (raw-moves r lawful p has))
+    ∙ ap can (sym (raw-moves r lawful.moves p has))
 
 -- ---- the contents of a board
 

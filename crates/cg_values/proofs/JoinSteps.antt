@@ -22,7 +22,8 @@ use Rattle.cg_moves.proofs.Bounds.{follower-has}
 use Rattle.cg_moves.proofs.Places.{in_read, split_read, take_next}
 use Rattle.cg_moves.specs.Grid.{Grid}
 use Rattle.cg_moves.specs.Raw.{raw}
-use Rattle.cg_moves.specs.Rules.{GameRules, IsLawful, followers}
+use Rattle.cg_moves.specs.Lawful.{IsLawful}
+use Rattle.cg_moves.specs.Rules.{GameRules, followers}
 use Rattle.cg_values.specs.Gives.{Gives}
 use Rattle.cg_values.specs.Items.{sum_up, sum_up_items, value_item}
 use Rattle.cg_values.specs.Parts.{HoldAt, handles_at, joins, part_items, parts_of, values_of}
@@ -110,7 +111,7 @@ module _ {R : Type 0} (s : State Meant (WorkRest R)) (r : GameRules) (lawful : I
     q = counted.board
 
     next-has : r.has q ≡ true
-    next-has = follower-has r lawful p q has (in_read (followers r p) i q counted.within counted.read)
+    next-has = follower-has r lawful.moves p q has (in_read (followers r p) i q counted.within counted.read)
 
     left-split : drop i (followers r p) ≡ q ∷ drop (i + 1) (followers r p)
     left-split = drop_more (followers r p) i q counted.within ∙ ap (λ z. z ∷ drop (i + 1) (followers r p)) (sym counted.read)

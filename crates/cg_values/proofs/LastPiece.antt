@@ -10,7 +10,8 @@ use Rattle.cg_moves.specs.Grid.{Grid}
 use Rattle.cg_moves.specs.Kept.{kept}
 use Rattle.cg_moves.specs.PieceReach.{piece_reach_of}
 use Rattle.cg_moves.specs.Plays.{IsPlay, Play, next_pieces, pieces_after}
-use Rattle.cg_moves.specs.Rules.{GameRules, In, IsCut, IsLawful}
+use Rattle.cg_moves.specs.Lawful.{ArePieces, IsLawful}
+use Rattle.cg_moves.specs.Rules.{GameRules, In, pieces}
 
 module _ (w : Play) (lawful : IsPlay w) where
   after-lower : (p q : Grid) → w.has p ≡ true → In q (flat_map w.all (w.next p)) → w.measure q < w.measure p
@@ -32,11 +33,11 @@ module _ (w : Play) (lawful : IsPlay w) where
         | inr n ↦ (let low = after-lower p p has n in absurd (omega (arith, low)))
       ])
 
-pub last-piece : (r : GameRules) (lawful : IsLawful r) (cut : IsCut r) (p q : Grid) → r.has p ≡ true → r.pieces p ≡ q ∷ []
+pub last-piece : (r : GameRules) (lawful : IsLawful r) (each : ArePieces r) (p q : Grid) → r.has p ≡ true → pieces r p ≡ q ∷ []
     → (front : List Grid) × (piece_reach_of r p ≡ front ++ (q ∷ []))
-last-piece r lawful cut p q has one =
-    let there : r.has q ≡ true = cut.has p q has (carry q (q ∷ []) (r.pieces p) (sym one) (inl refl)) in (
+last-piece r lawful each p q has one =
+    let there : r.has q ≡ true = each.has p q has (carry q (q ∷ []) (pieces r p) (sym one) (inl refl)) in (
       kept [] (flat_map (pieces_after r) (next_pieces r q)),
-      piece_reach-kept r lawful cut p has ∙ ap (λ z. kept [] (flat_map (pieces_after r) z)) one
-          ∙ ap (kept []) (append-nil (pieces_after r q)) ∙ last-of_all _ (by-pieces r lawful cut) q there,
+      piece_reach-kept r lawful each p has ∙ ap (λ z. kept [] (flat_map (pieces_after r) z)) one
+          ∙ ap (kept []) (append-nil (pieces_after r q)) ∙ last-of_all _ (by-pieces r lawful each) q there,
     )

@@ -7,10 +7,10 @@ use Rattle.cg_form.specs.Order.{Equal}
 use Rattle.cg_form.specs.Sum.{nothing, sum}
 use Rattle.cg_nodes.proofs.Forms.{can-same}
 use Rattle.cg_nodes.specs.Can.{can}
-use Rattle.cg_moves.proofs.PieceSums.{pieces-sum}
 use Rattle.cg_moves.specs.Grid.{Grid}
 use Rattle.cg_moves.specs.Raw.{raw}
-use Rattle.cg_moves.specs.Rules.{GameRules, IsCut, IsLawful}
+use Rattle.cg_moves.specs.Lawful.{IsCut}
+use Rattle.cg_moves.specs.Rules.{GameRules, pieces}
 use Rattle.cg_moves.specs.Total.{total}
 use Rattle.cg_values.specs.Items.{added, sum_up}
 
@@ -26,9 +26,9 @@ unfolding total
 sum_up-total [] = equal_refl nothing
 sum_up-total (g ∷ gs) = added-total g gs
 
-pub board-sum : (r : GameRules) → IsLawful r → IsCut r → (p : Grid) → r.has p ≡ true
-    → can (sum_up (map (raw r) (r.pieces p))) ≡ can (raw r p)
-board-sum r lawful cut p has =
-    let gs = map (raw r) (r.pieces p) in
+pub board-sum : (r : GameRules) → IsCut r → (p : Grid) → r.has p ≡ true
+    → can (sum_up (map (raw r) (pieces r p))) ≡ can (raw r p)
+board-sum r cut p has =
+    let gs = map (raw r) (pieces r p) in
     can-same (sum_up gs) (raw r p)
-    (equal_trans (sum_up gs) (total gs) (raw r p) (sum_up-total gs) (equal_back (raw r p) (total gs) (pieces-sum r lawful cut p has)))
+    (equal_trans (sum_up gs) (total gs) (raw r p) (sum_up-total gs) (equal_back (raw r p) (total gs) (cut.sum p has)))

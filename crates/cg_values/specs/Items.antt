@@ -10,7 +10,7 @@ use Rattle.cg_moves.specs.Grid.{Grid}
 use Rattle.cg_moves.specs.PieceReach.{piece_reach_of}
 use Rattle.cg_moves.specs.Raw.{raw}
 use Rattle.cg_moves.specs.Reach.{reach_of}
-use Rattle.cg_moves.specs.Rules.{GameRules, followers}
+use Rattle.cg_moves.specs.Rules.{GameRules, cuts, followers, pieces}
 
 -- the canonical form of the board's tree, which costs 8 more than the form alone
 abbrev pub value_item : GameRules → Grid → Item
@@ -49,7 +49,7 @@ sum_up_items limit (g ∷ gs) = added_items limit g gs
 
 -- of joining the pieces of a board
 abbrev pub joining_items : ℕ → GameRules → Grid → List Item
-joining_items limit r p = sum_up_items limit (map (raw r) (r.pieces p))
+joining_items limit r p = sum_up_items limit (map (raw r) (pieces r p))
 
 -- of a piece: of joining the pieces of each board that a move leads to, Left's moves first, and its own value
 abbrev pub piece_items : ℕ → GameRules → Grid → List Item
@@ -65,4 +65,4 @@ cut_items limit r p =
 -- ---- of a board
 
 unfoldable pub board_items : ℕ → GameRules → Grid → List Item
-board_items limit r p = if r.cuts then cut_items limit r p else whole_items limit r p
+board_items limit r p = if cuts r then cut_items limit r p else whole_items limit r p
