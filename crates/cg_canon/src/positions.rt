@@ -1,5 +1,5 @@
 //! The positions of a game, read from the pages of a book.
-ghost use Rattle.std.specs.Prelude.{◌≡◌, ◌<◌, ◌≤◌, IfOk, OnOk, Err, length};
+ghost use Rattle.std.specs.Prelude.{◌≡◌, ◌<◌, ◌≤◌, ◌^◌, IfOk, OnOk, Err, length};
 ghost use Rattle.cg_form.specs.Extended.{extended, positions_before};
 ghost use Rattle.cg_form.specs.Game.{of_list};
 ghost use Rattle.cg_cells.specs.Store.{Spends};
@@ -36,7 +36,8 @@ fn walk_page<B: BoardForms, S: CellStore<GameFacts<B>>>(
         (all_positions (game_of book.now.pages page))) }
     ensures within { OnOk result (length found.new ≤ limit) }
     ensures refused { result ≡ Err PositionsFault.Positions
-        → limit < length (extended (games_at (S.state store.now) found.old) (all_positions (game_of book.now.pages page))) }
+        → (limit < length (extended (games_at (S.state store.now) found.old) (all_positions (game_of book.now.pages page))))
+        × (limit < 2 ^ 63) }
 {
     store.apart();
     let handle = book.handle(page)?;
@@ -64,7 +65,8 @@ fn walk_options<B: BoardForms, S: CellStore<GameFacts<B>>>(
         (positions_before (game_of book.now.pages page))) }
     ensures within { OnOk result (length found.new ≤ limit) }
     ensures refused { result ≡ Err PositionsFault.Positions
-        → limit < length (extended (games_at (S.state store.now) found.old) (positions_before (game_of book.now.pages page))) }
+        → (limit < length (extended (games_at (S.state store.now) found.old) (positions_before (game_of book.now.pages page))))
+        × (limit < 2 ^ 63) }
 {
     match book.pages.read(page) {
         Read::Number(_) => Ok(()),
@@ -92,8 +94,8 @@ fn walk_pages<B: BoardForms, S: CellStore<GameFacts<B>>>(
         (positions_in (of_list (games_of book.now.pages pages.now)))) }
     ensures within { OnOk result (length found.new ≤ limit) }
     ensures refused { result ≡ Err PositionsFault.Positions
-        → limit < length (extended (games_at (S.state store.now) found.old)
-        (positions_in (of_list (games_of book.now.pages pages.now)))) }
+        → (limit < length (extended (games_at (S.state store.now) found.old)
+        (positions_in (of_list (games_of book.now.pages pages.now))))) × (limit < 2 ^ 63) }
 {
     for page in pages {
         walk_page(store, book, found, *page, limit)?;
@@ -116,7 +118,7 @@ fn positions_by_pages<B: BoardForms, S: CellStore<GameFacts<B>>>(
     ensures distinct { IfOk result AreDistinct }
     ensures within { OnOk result (length (positions_of (game_at (S.state store.old) a)) ≤ limit) }
     ensures refused { result ≡ Err PositionsFault.Positions
-        → limit < length (positions_of (game_at (S.state store.old) a)) }
+        → (limit < length (positions_of (game_at (S.state store.old) a))) × (limit < 2 ^ 63) }
     ensures spends { Spends 0 (S.state store.old) (S.state store.new) }
 {
     let page = page_of(alloc, store, book, a)?;
@@ -127,7 +129,8 @@ fn positions_by_pages<B: BoardForms, S: CellStore<GameFacts<B>>>(
 
 impl<'a, B: BoardForms, S: CellStore<GameFacts<B>>> Work<'a, B, S> {
     /// The handles of the positions of the game, as [`cg_nodes::positions`] gives them, but read from the book, and not from
-    /// cells. `Positions` comes exactly where there are more than `limit`. `Memory` is the other error.
+    /// cells. `Positions` comes exactly where there are more than `limit`, and never at a limit of 2^63 or more.
+    /// `Memory` is the other error.
     pub fn positions(
         &mut self,
         alloc: Global,
@@ -141,6 +144,7 @@ impl<'a, B: BoardForms, S: CellStore<GameFacts<B>>> Work<'a, B, S> {
         ensures within { OnOk result (length (positions_of (game_at (work_state S.state self.old) a)) ≤ limit) }
         ensures refused { result ≡ Err PositionsFault.Positions
             → limit < length (positions_of (game_at (work_state S.state self.old) a)) }
+        ensures never { result ≡ Err PositionsFault.Positions → limit < 2 ^ 63 }
         ensures spends { Spends 0 (work_state S.state self.old) (work_state S.state self.new) }
     {
         positions_by_pages(alloc, self.store, &mut self.held.memo.book, a, limit)

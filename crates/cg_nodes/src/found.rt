@@ -1,5 +1,5 @@
 //! Handles that were found, each once.
-ghost use Rattle.std.specs.Prelude.{◌≡◌, ◌==◌, ℕ, ◌<◌, ◌≤◌, ◌∷◌, ◌++◌, [], IfOk, OnOk, IsTrue, ◌↔◌, length, Err};
+ghost use Rattle.std.specs.Prelude.{◌≡◌, ◌==◌, ℕ, ◌<◌, ◌≤◌, ◌^◌, ◌∷◌, ◌++◌, [], IfOk, OnOk, IsTrue, ◌↔◌, length, Err};
 ghost use Rattle.std.specs.HashSet.{contains};
 ghost use Rattle.cg_cells.specs.Meaning.{Has};
 
@@ -68,7 +68,7 @@ impl Found {
         requires { length self.old ≤ limit }
         ensures added { OnOk result (self.new ≡ self.old ++ (handle ∷ [])) }
         ensures within { OnOk result (length self.old < limit) }
-        ensures refused { result ≡ Err PositionsFault.Positions → limit ≡ length self.old }
+        ensures refused { result ≡ Err PositionsFault.Positions → (limit ≡ length self.old) × (limit < 2 ^ 63) }
     {
         if self.handles.len() as u64 >= limit {
             return Err(PositionsFault::Positions);

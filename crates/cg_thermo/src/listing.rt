@@ -29,7 +29,7 @@ pub(crate) fn each_position<B: BoardForms, S: CellStore<GameFacts<B>>>(
 {
     match work.positions(alloc, a, u64::MAX) {
         Ok(handles) => Ok(handles),
-        Err(PositionsFault::Positions) => Err(AllocError),
+        Err(PositionsFault::Positions) => unreachable!(),
         Err(PositionsFault::Memory) => Err(AllocError),
     }
 }

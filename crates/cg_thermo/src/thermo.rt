@@ -5,6 +5,7 @@ ghost use Rattle.cg_cells.specs.Store.{Spends};
 ghost use Rattle.cg_dyadic.specs.Number.{exp_of, InRange, Number, ratio};
 ghost use Rattle.cg_dyadic.specs.Wide.{places};
 ghost use Rattle.cg_form.specs.Canonical.{Canonical};
+ghost use Rattle.cg_form.specs.Depth.{depth_of};
 ghost use Rattle.cg_form.specs.Game.{number};
 ghost use Rattle.cg_walls.specs.declared.TheConstants.{END};
 ghost use Rattle.cg_walls.specs.Rises.{IsWall};
@@ -22,7 +23,7 @@ use crate::listing::each_position;
 use cg_canon::Work;
 use cg_cells::CellStore;
 use cg_dyadic::{Dyadic, Wide};
-use cg_nodes::{BoardForms, GameFacts, Handle, Kind, kind};
+use cg_nodes::{BoardForms, GameFacts, Handle, Kind, kind, known_game};
 use cg_walls::{points, value};
 use std::alloc::{AllocError, Global};
 
@@ -90,7 +91,8 @@ fn pictured(alloc: Global, chart: &Chart, temp: Wide) -> Result<Walls, AllocErro
 }
 
 /// The thermograph of the game (Siegel, Combinatorial Game Theory (2013), II.5). `Range` comes exactly where the mean or
-/// the temperature of some position needs more than 60 binary places. The other error is want of memory.
+/// the temperature of some position needs more than 60 binary places, and never for a game of a depth of at most 20. The other
+/// error is want of memory.
 pub fn thermograph<B: BoardForms, S: CellStore<GameFacts<B>>>(
     alloc: Global,
     work: &mut Work<B, S>,
@@ -101,8 +103,10 @@ pub fn thermograph<B: BoardForms, S: CellStore<GameFacts<B>>>(
     ensures lines { IfOk result (DrawsWalls (game_at (work_state S.state work.old) a)) }
     ensures enough { OnOk result (¬ NeedsMore places (game_at (work_state S.state work.old) a)) }
     ensures range { result ≡ Err ThermoFault.Range → NeedsMore places (game_at (work_state S.state work.old) a) }
+    ensures deep { result ≡ Err ThermoFault.Range → 20 < depth_of (game_at (work_state S.state work.old) a) }
     ensures spends { Spends 0 (work_state S.state work.old) (work_state S.state work.new) }
 {
+    known_game(work, a);
     let positions = each_position(alloc, work, a)?;
     let mut charts = Charts::new(alloc);
     add_charts(alloc, work, positions.as_slice(), &mut charts)?;

@@ -21,9 +21,12 @@ walk_page-returns-then-has-clause-found g t c =
 pub walk_page-returns-in_err-walk_options-clause-refused : goal.walk_page-returns-in_err-walk_options-clause-refused
 walk_page-returns-in_err-walk_options-clause-refused g t c =
     let p = err_from_is_err_and c.from_residual-in_err-walk_options.result c.from_residual-in_err-walk_options.ensures.1 in λ e.
-    before_length (games_at (g.S.CellStore.state c.args.store.now) c.args.found.now) (game_of c.args.book.now.pages c.args.page) c.args.limit
-    (c.in_err-walk_options.ensures.refused
-    (ap Err (passed_on p.0 c.in_err-walk_options.field-0.0 c.from_residual-in_err-walk_options.result p.1 p.2 e)))
+    let r = c.in_err-walk_options.ensures.refused
+    (ap Err (passed_on p.0 c.in_err-walk_options.field-0.0 c.from_residual-in_err-walk_options.result p.1 p.2 e)) in (
+      before_length (games_at (g.S.CellStore.state c.args.store.now) c.args.found.now) (game_of c.args.book.now.pages c.args.page) c.args.limit
+          r.0,
+      r.1,
+    )
 
 pub walk_page-returns-clause-found : goal.walk_page-returns-clause-found
 walk_page-returns-clause-found g t c =
@@ -42,20 +45,23 @@ walk_page-returns-clause-within g t c =
 pub walk_page-returns-clause-refused : goal.walk_page-returns-clause-refused
 walk_page-returns-clause-refused g t c = λ e.
     let s = g.S.CellStore.state c.args.store.now in
-    let full = c.add.ensures.refused e in
+    let (full, small) = c.add.ensures.refused e in
     let n = page_length s c.args.book.now c.args.page c.in_ok-handle.handle c.args.found.now c.requires.holds
     c.in_ok-handle.ensures.handle c.requires.found c.walk_options.new.found c.apart.ensures
     (λ m. let h = c.has.ensures.1 m in let n = c.if-has.false in cc) c.in_ok-walk_options.ensures.found in
-    omega arith
+    (omega arith, small)
 
 -- ---- the options of a page
 
 pub walk_options-returns-in_err-walk_pages-in-Game-clause-refused : goal.walk_options-returns-in_err-walk_pages-in-Game-clause-refused
 walk_options-returns-in_err-walk_pages-in-Game-clause-refused g t c =
     let p = err_from_is_err_and c.from_residual.result c.from_residual.ensures.1 in λ e.
-    left_longer (g.S.CellStore.state c.args.store.now) c.args.book.now.pages c.args.found.now (game_of c.args.book.now.pages c.args.page)
-    c.in-Game.lefts.now c.in-Game.rights.now c.in-Game.ensures.read.2 c.args.limit (c.in_err-walk_pages-in-Game.ensures.refused
-    (ap Err (passed_on p.0 c.in_err-walk_pages-in-Game.field-0.0 c.from_residual.result p.1 p.2 e)))
+    let r = c.in_err-walk_pages-in-Game.ensures.refused
+    (ap Err (passed_on p.0 c.in_err-walk_pages-in-Game.field-0.0 c.from_residual.result p.1 p.2 e)) in (
+      left_longer (g.S.CellStore.state c.args.store.now) c.args.book.now.pages c.args.found.now (game_of c.args.book.now.pages c.args.page)
+          c.in-Game.lefts.now c.in-Game.rights.now c.in-Game.ensures.read.2 c.args.limit r.0,
+      r.1,
+    )
 
 pub walk_options-returns-in_ok-walk_pages-in-Game-clause-found : goal.walk_options-returns-in_ok-walk_pages-in-Game-clause-found
 walk_options-returns-in_ok-walk_pages-in-Game-clause-found g t c =
@@ -67,9 +73,12 @@ walk_options-returns-in_ok-walk_pages-in-Game-clause-found g t c =
 
 pub walk_options-returns-in_ok-walk_pages-in-Game-clause-refused : goal.walk_options-returns-in_ok-walk_pages-in-Game-clause-refused
 walk_options-returns-in_ok-walk_pages-in-Game-clause-refused g t c = λ e.
-    right_longer (g.S.CellStore.state c.args.store.now) c.args.book.now.pages c.args.found.now
-    (game_of c.args.book.now.pages c.args.page) c.in-Game.lefts.now c.in-Game.rights.now c.in-Game.ensures.read.2 c.walk_pages.new.found
-    c.in_ok-walk_pages-in-Game.ensures.found c.args.limit (c.walk_pages-in-Game.ensures.refused e)
+    let r = c.walk_pages-in-Game.ensures.refused e in (
+      right_longer (g.S.CellStore.state c.args.store.now) c.args.book.now.pages c.args.found.now
+          (game_of c.args.book.now.pages c.args.page) c.in-Game.lefts.now c.in-Game.rights.now c.in-Game.ensures.read.2 c.walk_pages.new.found
+          c.in_ok-walk_pages-in-Game.ensures.found c.args.limit r.0,
+      r.1,
+    )
 
 -- ---- a list of pages
 
@@ -91,9 +100,12 @@ walk_pages-walk_page-requires g t c κs within =
 pub walk_pages-returns-in_err-walk_page-clause-refused : goal.walk_pages-returns-in_err-walk_page-clause-refused
 walk_pages-returns-in_err-walk_page-clause-refused g t c =
     let p = err_from_is_err_and c.from_residual.result c.from_residual.ensures.1 in λ e.
-    next_longer (g.S.CellStore.state c.args.store.now) c.args.book.now.pages c.args.found.now c.loop-page.found c.args.pages.now
-    c.loop-page.page-index _ c.loop-page-test.true refl c.loop-page.invariant.walked c.args.limit (c.in_err-walk_page.ensures.refused
-    (ap Err (passed_on p.0 c.in_err-walk_page.field-0.0 c.from_residual.result p.1 p.2 e)))
+    let r = c.in_err-walk_page.ensures.refused
+    (ap Err (passed_on p.0 c.in_err-walk_page.field-0.0 c.from_residual.result p.1 p.2 e)) in (
+      next_longer (g.S.CellStore.state c.args.store.now) c.args.book.now.pages c.args.found.now c.loop-page.found c.args.pages.now
+          c.loop-page.page-index _ c.loop-page-test.true refl c.loop-page.invariant.walked c.args.limit r.0,
+      r.1,
+    )
 
 pub walk_pages-loop-page-preserved : goal.walk_pages-loop-page-preserved
 walk_pages-loop-page-preserved g t c = record {

@@ -17,10 +17,13 @@ walk_page-requires-clause-found g c =
 pub returns-in_err-walk_page-clause-refused : goal.returns-in_err-walk_page-clause-refused
 returns-in_err-walk_page-clause-refused g c =
     let p = err_from_is_err_and c.from_residual-in_err-walk_page.result c.from_residual-in_err-walk_page.ensures.1 in λ e.
-    page_longer (g.S.CellStore.state c.args.store.now) (g.S.CellStore.state c.page_of.new.store) c.page_of.new.book.pages c.in_ok-page.page
-    c.args.a c.in_ok-found.found c.page_of.ensures.spends.known c.requires.a c.in_ok-page.ensures.page.1 c.in_ok-found.ensures c.args.limit
-    (c.in_err-walk_page.ensures.refused
-    (ap Err (passed_on p.0 c.in_err-walk_page.field-0.0 c.from_residual-in_err-walk_page.result p.1 p.2 e)))
+    let r = c.in_err-walk_page.ensures.refused
+    (ap Err (passed_on p.0 c.in_err-walk_page.field-0.0 c.from_residual-in_err-walk_page.result p.1 p.2 e)) in (
+      page_longer (g.S.CellStore.state c.args.store.now) (g.S.CellStore.state c.page_of.new.store) c.page_of.new.book.pages c.in_ok-page.page
+          c.args.a c.in_ok-found.found c.page_of.ensures.spends.known c.requires.a c.in_ok-page.ensures.page.1 c.in_ok-found.ensures c.args.limit
+          r.0,
+      r.1,
+    )
 
 pub returns-clause-positions : goal.returns-clause-positions
 returns-clause-positions g c =

@@ -42,7 +42,7 @@ walk_game-returns-clause-within g t c =
 
 pub walk_game-returns-clause-refused : goal.walk_game-returns-clause-refused
 walk_game-returns-clause-refused g t c = λ e.
-    let full = c.add.ensures.refused e in
+    let full = (c.add.ensures.refused e).0 in
     let n = next_length (g.S.CellStore.state c.args.store.now) (g.S.CellStore.state c.walk_options.new.store)
     c.args.found.now c.walk_options.new.found c.args.handle
     c.walk_options.ensures.spends.known c.apart.ensures c.requires.found c.requires.game (λ m. let h =

@@ -12,6 +12,7 @@ use Rattle.cg_thermo.proofs.Charting.{err_range, rough-needs}
 use Rattle.cg_thermo.proofs.Keeping.{each-kept, holds-none, options-first, own-found, own-kept, same-game, slice_games}
 use Rattle.cg_thermo.proofs.Members.{none_found}
 use Rattle.cg_thermo.proofs.Picturing.{enough_places, is_thermograph}
+use Rattle.cg_thermo.proofs.Places.{needs-deep}
 use Rattle.cg_thermo.proofs.WallLines.{draws-walls}
 use Rattle.cg_thermo.proofs.thermo.thermograph.Given as given
 use Rattle.cg_thermo.proofs.thermo.thermograph.Goals as goal
@@ -40,6 +41,13 @@ returns-in_err-add_charts-clause-range g c = λ e.
     let p = err_from_is_err_and c.from_residual-in_err-add_charts.result c.from_residual-in_err-add_charts.ensures.1 in
     rough-needs (work_state g.S.CellStore.state c.each_position.new.work) _ _ (listed g (goal.at.returns-in_err-add_charts-clause-range g c).After-as_slice)
     (c.add_charts.ensures.range (err_range c.from_residual-in_err-add_charts.result c.add_charts.result p.0 c.in_err-add_charts.field-0.0 p.1 p.2 c.in_err-add_charts.was e))
+
+pub returns-in_err-add_charts-clause-deep : goal.returns-in_err-add_charts-clause-deep
+returns-in_err-add_charts-clause-deep g c = λ e.
+    let p = err_from_is_err_and c.from_residual-in_err-add_charts.result c.from_residual-in_err-add_charts.ensures.1 in
+    needs-deep _ c.known_game.ensures.in_range
+    (rough-needs (work_state g.S.CellStore.state c.each_position.new.work) _ _ (listed g (goal.at.returns-in_err-add_charts-clause-deep g c).After-as_slice)
+    (c.add_charts.ensures.range (err_range c.from_residual-in_err-add_charts.result c.add_charts.result p.0 c.in_err-add_charts.field-0.0 p.1 p.2 c.in_err-add_charts.was e)))
 
 pub unreachable-requires : goal.unreachable-requires
 unreachable-requires g c =
