@@ -13,7 +13,7 @@ use Rattle.cg_strip.specs.Grammar as s
 use Rattle.cg_strip.specs.Grammar.{Items, rules_text, behind_semicolon, symbol, weight, rule}
 use Rattle.cg_strip.specs.Rulebook.{is_weighted, symbols_of, IsRule, IsRulebook}
 use Rattle.cg_strip.specs.RuleFaults.{weights_in, rules_in, HasPlaces, book_of}
-use Rattle.cg_moves.proofs.FirstPlaces.{or_none}
+use Rattle.cg_moves.proofs.FirstPlaces.{or_none as none_of}
 use Rattle.cg_strip.specs.Faults.{is_bad_weight, weights_fault, unweighted_fault, is_bad_rule, rule_fault, rules_fault, fault_of}
 use Rattle.cg_strip.proofs.Places.{rule_at}
 use Rattle.cg_strip.specs.declared.weight.Weight.{Weight}
@@ -167,7 +167,7 @@ fine_rule : (weights : List Weight) (n end : ℕ) (r : RuleItem) → InText end 
 unfolding rule_fault
 fine_rule weights n end r o e =
     let p = not_found (is_bad_rule n r) r.place (option_or (unweighted_fault weights r.pattern_place r.rule.pattern) (unweighted_fault weights r.replacement_place r.rule.replacement)) e in
-    let q = or_none (unweighted_fault weights r.pattern_place r.rule.pattern) (unweighted_fault weights r.replacement_place r.rule.replacement) p.1 in
+    let q = none_of (unweighted_fault weights r.pattern_place r.rule.pattern) (unweighted_fault weights r.replacement_place r.rule.replacement) p.1 in
     let b = or_false (n == 32) (not (length r.rule.pattern == length r.rule.replacement)) p.0 in (
       eqb-false n 32 b.0,
       record {
@@ -182,7 +182,7 @@ fine_rules : (weights : List Weight) (n end : ℕ) (rules : List RuleItem) → A
 unfolding rules_fault
 fine_rules weights n end [] o h e = (omega arith, λ k d below. absurd (omega arith))
 fine_rules weights n end (r ∷ rules) o h e =
-    let p = or_none (rule_fault weights n r) (rules_fault weights (suc n) rules) e in
+    let p = none_of (rule_fault weights n r) (rules_fault weights (suc n) rules) e in
     let f = fine_rule weights n end r o.0 p.0 in
     let g = fine_rules weights (suc n) end rules o.1 (omega (arith, f.0)) p.1 in
     (omega (arith, g.0), each f.1 g.1)
@@ -194,7 +194,7 @@ fine_rules weights n end (r ∷ rules) o h e =
 pub book_sound : (t : Items) (text : List ℕ) → rules_text 1 t text → fault_of t ≡ None → IsRulebook (book_of t)
 unfolding fault_of
 book_sound t text is e =
-    let p = or_none (weights_fault [] t.weights) (rules_fault (weights_in t.weights) 0 t.rules) e in
+    let p = none_of (weights_fault [] t.weights) (rules_fault (weights_in t.weights) 0 t.rules) e in
     let g = fine_rules (weights_in t.weights) 0 (1 + length text) t.rules (text_rules t text is) (omega arith) p.1 in
     let few = few_weights [] t.weights (omega arith) p.0 in
     let some : 1 ≤ length t.weights = omega (arith, ap (λ (z : Items). length z.weights) is.same) in
