@@ -1,13 +1,13 @@
 -- The whole compared with the games of pages.
-use Rattle.std.proofs.Common.{◌≡◌, refl, ℕ, ◌+◌, ◌*◌, ◌<◌, ◌⊎◌, inl, inr, arith, ap, sym, ◌∙◌, subst, List, Bool, Some, true, false, not, ◌&&◌, cond}
-use Rattle.cg_dyadic.proofs.Truth.{and_swap}
-use Rattle.cg_form.specs.Game.{Game, lefts, node, rights}
+use Rattle.std.proofs.Common.{◌≡◌, refl, ℕ, ◌+◌, ◌*◌, ◌<◌, ◌⊎◌, inl, inr, arith, ap, sym, ◌∙◌, subst, List, [], ◌∷◌, Bool, IsTrue, Some, true, false, not, ◌&&◌, cond}
+use Rattle.cg_dyadic.proofs.Truth.{and_swap, differ, false-from}
+use Rattle.cg_form.specs.Game.{Among, Game, lefts, node, rights}
 use Rattle.cg_form.specs.Order.{no_one}
 use Rattle.cg_form.specs.Side.{at_most, chosen, far, near}
 use Rattle.cg_form.specs.Size.{list_size, size}
 use Rattle.cg_form.proofs.Among.{lefts-node, rights-node}
-use Rattle.cg_form.proofs.Order.{le-options}
-use Rattle.cg_form.proofs.Sides.{far-node, near-node}
+use Rattle.cg_form.proofs.Order.{le-options, no_one-each}
+use Rattle.cg_form.proofs.Sides.{far-node, near-node, side_turned}
 use Rattle.cg_book.specs.declared.verdicts.Verdicts.{Verdicts}
 use Rattle.cg_book.specs.declared.whole.Whole.{Whole}
 use Rattle.cg_book.specs.Pages.{ArePages, IsPage, game_of, games_of}
@@ -85,6 +85,15 @@ pub far_own : (gs : List Game) (w : Whole) (left : Bool) (own : List ℕ) → ow
 far_own gs w left own e = ap (games_of gs) e ∙ far_games gs w left
 
 -- ---- the order by sides
+
+-- as the other player sees it
+pub turned_list : (s : Bool) (g : Game) (gs : List Game) → no_one (at_most (not s) g) gs ≡ no_one (λ b. at_most s b g) gs
+turned_list s g [] = refl
+turned_list s g (h ∷ gs) =
+    ap (λ z. not z && no_one (at_most (not s) g) gs) (side_turned s g h) ∙ ap (λ z. not (at_most s h g) && z) (turned_list s g gs)
+
+pub some_passes : (p : Game → Bool) (x : Game) (gs : List Game) → Among x gs → IsTrue (p x) → no_one p gs ≡ false
+some_passes p x gs m h = false-from (no_one p gs) (λ t. differ (p x) h (no_one-each p gs t x m))
 
 side_options : (left : Bool) (h g : Game)
     → at_most left h g ≡ (no_one (λ b. at_most left b h) (far left g) && no_one (λ a. at_most (not left) a g) (near left h))

@@ -1,8 +1,7 @@
 -- What stands in the places of options.
-use Rattle.std.proofs.Common.{◌≡◌, refl, ℕ, suc, ◌+◌, ◌<◌, ◌==◌, inl, inr, arith, ap, sym, ◌∙◌, subst, List, [], ◌∷◌, ◌++◌, take, get_or, length, Bool, true, false, cond, true≢false, IsTrue}
+use Rattle.std.proofs.Common.{◌≡◌, refl, ℕ, suc, ◌+◌, ◌<◌, inl, inr, arith, ap, sym, ◌∙◌, subst, List, [], ◌∷◌, ◌++◌, take, get_or, length, Bool, true, false, cond, IsTrue}
 use Rattle.std.specs.List.{All}
-use Rattle.std.specs.Prelude.{if◌then◌else◌}
-use Rattle.std.proofs.lemmas.Bool.Decides.{eqb_tells}
+use Rattle.std.specs.Prelude.{◌⊎◌}
 use Rattle.std.proofs.lemmas.List.{map-append}
 use Rattle.std.proofs.lemmas.List.Elements.{All-nil, All-push}
 use Rattle.cg_dyadic.specs.Number.{Number}
@@ -24,7 +23,7 @@ use Rattle.cg_book.specs.declared.substitutes.Substitutes.{Substitutes}
 use Rattle.cg_book.specs.declared.whole.Whole.{Whole}
 use Rattle.cg_book.specs.Candidates.{alone, pages_of}
 use Rattle.cg_book.specs.Pages.{ArePages, IsPage, game_of, games_of}
-use Rattle.cg_book.specs.Passed.{AreSubstitutes, IsOwn, was_passed}
+use Rattle.cg_book.specs.Passed.{AreSubstitutes, IsOwn, WasPassed}
 use Rattle.cg_book.specs.Wholes.{WholeHolds, whole_game}
 use Rattle.cg_book.proofs.CandidateLaws.{pages_pushed}
 use Rattle.cg_book.proofs.Slices.{games_take_suc, item_among}
@@ -114,19 +113,19 @@ pushed_one gs left g os rs h a b e f =
 -- ---- options in whose places others stand
 
 pub no_substitutes : (gs : List Game) (left : Bool) (w : Whole) (o : Substitutes) → o.items.items ≡ []
-    → ((page : ℕ) → was_passed o page ≡ false) → AreSubstitutes gs left w o
+    → ((page : ℕ) → ¬ WasPassed o page) → AreSubstitutes gs left w o
 no_substitutes gs left w o e none =
     let P : List Candidate → Type 0 = λ z. ArePages gs (pages_of z) in
     let Q : List Candidate → Type 0 = λ z. All (IsOwn left w) z in
     record {
       pages = subst P (sym e) (All-nil (IsPage gs));
-      passed = λ page p. absurd (true≢false (sym p ∙ none page));
+      passed = λ page p. absurd (none page p);
       own = subst Q (sym e) (All-nil (IsOwn left w));
     }
 
 -- with one candidate more, which cover what was covered
 pub more_substitutes : (gs : List Game) (left : Bool) (w : Whole) (o r : Substitutes) (x : Candidate) → AreSubstitutes gs left w o
-    → IsPage gs x.page → r.items.items ≡ o.items.items ++ x ∷ [] → ((page : ℕ) → was_passed r page ≡ was_passed o page)
+    → IsPage gs x.page → r.items.items ≡ o.items.items ++ x ∷ [] → ((page : ℕ) → WasPassed r page → WasPassed o page)
     → Fine left (whole_game gs w) (game_of gs x.page) → IsOwn left w x → AreSubstitutes gs left w r
 more_substitutes gs left w o r x h known e same fine own =
     let p = pushed_one gs left (whole_game gs w) o.items.items r.items.items x h.pages known e fine in
@@ -134,7 +133,7 @@ more_substitutes gs left w o r x h known e same fine own =
     record {
       pages = p.pages;
       passed = λ page q.
-          let before = h.passed page (sym (same page) ∙ q) in (
+          let before = h.passed page (same page q) in (
             before.0,
             covered_more left (whole_game gs w) (games_of gs (pages_of o.items.items)) (games_of gs (pages_of r.items.items))
                 (game_of gs page) p.grown.keeps before.1,
@@ -145,25 +144,23 @@ more_substitutes gs left w o r x h known e same fine own =
 -- which cover an option that is passed now
 pub passing_substitutes : (gs : List Game) (left : Bool) (w : Whole) (o r : Substitutes) (x : ℕ) → AreSubstitutes gs left w o
     → IsPage gs x → Covered left (whole_game gs w) (games_of gs (pages_of o.items.items)) (game_of gs x) → r.items.items ≡ o.items.items
-    → ((page : ℕ) → was_passed r page ≡ (if x == page then true else was_passed o page)) → AreSubstitutes gs left w r
+    → ((page : ℕ) → WasPassed r page → WasPassed o page ⊎ (page ≡ x)) → AreSubstitutes gs left w r
 passing_substitutes gs left w o r x h known c e updates =
     let P : List Candidate → Type 0 = λ z. ArePages gs (pages_of z) in
     let Q : List Candidate → Type 0 = λ z. All (IsOwn left w) z in
     record { pages = subst P (sym e) h.pages; passed = one; own = subst Q (sym e) h.own }
   where
-    one : (page : ℕ) → was_passed r page ≡ true
+    one : (page : ℕ) → WasPassed r page
         → IsPage gs page × Covered left (whole_game gs w) (games_of gs (pages_of r.items.items)) (game_of gs page)
     one page p =
         let Q : List Candidate → Type 0 = λ z. Covered left (whole_game gs w) (games_of gs (pages_of z)) (game_of gs page) in
-        elim (eqb_tells x page) [
-          | inl there ↦ (
+        elim (updates page p) [
+          | inr same ↦ (
               let V : ℕ → Type 0 = λ z. IsPage gs z in
               let U : ℕ → Type 0 = λ z. Covered left (whole_game gs w) (games_of gs (pages_of o.items.items)) (game_of gs z) in
-              (subst V there.1 known, subst Q (sym e) (subst U there.1 c)))
-          | inr other ↦ (
-              let off : (if x == page then true else was_passed o page) ≡ was_passed o page =
-              ap (λ (b : Bool). if b then true else was_passed o page) other.0 in
-              let before = h.passed page (sym off ∙ sym (updates page) ∙ p) in
+              (subst V (sym same) known, subst Q (sym e) (subst U (sym same) c)))
+          | inl old ↦ (
+              let before = h.passed page old in
               (before.0, subst Q (sym e) before.1))
         ]
 

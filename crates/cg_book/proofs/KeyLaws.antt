@@ -93,24 +93,22 @@ meet high low false false e f r q h =
 abbrev pub as_word : ℤ → ℤ
 as_word m = to_z w128 (of_z w128 m)
 
-word_of : (k : ℤ) (x : Number) (b : Bool) → k ≡ key_of x b → InRange x → as_word k ≡ k
-word_of k x b e r = wide_word k (small b e)
-  where
-    small : (c : Bool) → k ≡ key_of x c → unsigned_abs k < 2 ^ 126
-    small true f = let u = units-in_range x r in omega (arith, ints)
-    small false f = let u = units-in_range x r in omega (arith, ints)
+key_small : (x : Number) (b : Bool) → InRange x → unsigned_abs (key_of x b) < 2 ^ 126
+key_small x true r = let u = units-in_range x r in omega (arith, ints)
+key_small x false r = let u = units-in_range x r in omega (arith, ints)
 
-compared_as_words : (m n : ℤ) → as_word m ≡ m → as_word n ≡ n → lt_z m n ≡ lt_z (as_word m) (as_word n)
-compared_as_words m n e f = ap (λ z. lt_z z n) (sym e) ∙ ap (lt_z (as_word m)) (sym f)
+pub low_small : (a : Keys) (g : Game) → HasKeys g a → unsigned_abs a.low < 2 ^ 126
+low_small a g p =
+    let P : ℤ → Type 0 = λ z. unsigned_abs z < 2 ^ 126 in
+    subst P (sym p.keys.low) (key_small p.profile.low.at p.profile.low.closed p.keys.low_in_range)
 
--- two keys that were compared as words
-less : (m n : ℤ) (x y : Number) (b c : Bool) → m ≡ key_of x b → n ≡ key_of y c → InRange x → InRange y
-    → lt_z (as_word m) (as_word n) ≡ true → key_of x b <ℤ key_of y c
-less m n x y b c e f r q h =
-    let P : ℤ → Type 0 = λ z. z <ℤ key_of y c in
-    let Q : ℤ → Type 0 = λ z. m <ℤ z in
-    subst P e (subst Q f (from_lt_z m n
-    (compared_as_words m n (word_of m x b e r) (word_of n y c f q) ∙ h)))
+pub high_small : (a : Keys) (g : Game) → HasKeys g a → unsigned_abs a.high < 2 ^ 126
+high_small a g p =
+    let P : ℤ → Type 0 = λ z. unsigned_abs z < 2 ^ 126 in
+    subst P (sym p.keys.high) (key_small p.profile.high.at (not p.profile.high.closed) p.keys.high_in_range)
+
+compared_as_words : (m n : ℤ) → unsigned_abs m < 2 ^ 126 → unsigned_abs n < 2 ^ 126 → lt_z m n ≡ lt_z (as_word m) (as_word n)
+compared_as_words m n e f = ap (λ z. lt_z z n) (sym (wide_word m e)) ∙ ap (lt_z (as_word m)) (sym (wide_word n f))
 
 abbrev pub IsLess : ℤ → ℤ → Type 0
 IsLess m n = lt_z (as_word m) (as_word n) ≡ true
@@ -118,28 +116,46 @@ IsLess m n = lt_z (as_word m) (as_word n) ≡ true
 abbrev pub IsNotLess : ℤ → ℤ → Type 0
 IsNotLess m n = lt_z (as_word m) (as_word n) ≡ false
 
+pub is_less : (m n : ℤ) → unsigned_abs m < 2 ^ 126 → unsigned_abs n < 2 ^ 126 → IsLess m n → m <ℤ n
+is_less m n e f h = from_lt_z m n (compared_as_words m n e f ∙ h)
+
+is_at_most : (m n : ℤ) → unsigned_abs m < 2 ^ 126 → unsigned_abs n < 2 ^ 126 → IsLess m n → m ≤ℤ n
+is_at_most m n e f h = let l = is_less m n e f h in omega (arith, ints)
+
+is_at_least : (m n : ℤ) → unsigned_abs m < 2 ^ 126 → unsigned_abs n < 2 ^ 126 → IsNotLess m n → n ≤ℤ m
+is_at_least m n e f h = not_lt_z m n (compared_as_words m n e f ∙ h)
+
+at_keys : (m n k l : ℤ) → m ≡ k → n ≡ l → m <ℤ n → k <ℤ l
+at_keys m n k l e f h =
+    let P : ℤ → Type 0 = λ z. z <ℤ l in
+    let Q : ℤ → Type 0 = λ z. m <ℤ z in
+    subst P e (subst Q f h)
+
 -- ---- two games
 
-pub told_low : (a b : Keys) (g h : Game) → HasKeys g a → HasKeys h b → IsLess b.low a.low → false ≡ le g h
-told_low a b g h p q l =
-    sym (above_first p.profile q.profile g h p.cuts q.cuts
+pub below_low : (a b : Keys) (g h : Game) → HasKeys g a → HasKeys h b → b.low <ℤ a.low → le g h ≡ false
+below_low a b g h p q l =
+    above_first p.profile q.profile g h p.cuts q.cuts
     (past_low p.profile.low q.profile.low p.profile.low.closed refl p.keys.low_in_range q.keys.low_in_range
-    (less b.low a.low q.profile.low.at p.profile.low.at q.profile.low.closed p.profile.low.closed q.keys.low p.keys.low
-    q.keys.low_in_range p.keys.low_in_range l)))
+    (at_keys b.low a.low _ _ q.keys.low p.keys.low l))
+
+pub below_high : (a b : Keys) (g h : Game) → HasKeys g a → HasKeys h b → b.high <ℤ a.high → le g h ≡ false
+below_high a b g h p q l =
+    above_second p.profile q.profile g h p.cuts q.cuts
+    (past_high q.profile.high p.profile.high q.profile.high.closed refl q.keys.high_in_range p.keys.high_in_range
+    (at_keys b.high a.high _ _ q.keys.high p.keys.high l))
+
+pub told_low : (a b : Keys) (g h : Game) → HasKeys g a → HasKeys h b → IsLess b.low a.low → false ≡ le g h
+told_low a b g h p q l = sym (below_low a b g h p q (is_less b.low a.low (low_small b h q) (low_small a g p) l))
 
 pub told_high : (a b : Keys) (g h : Game) → HasKeys g a → HasKeys h b → IsLess b.high a.high → false ≡ le g h
-told_high a b g h p q l =
-    sym (above_second p.profile q.profile g h p.cuts q.cuts
-    (past_high q.profile.high p.profile.high q.profile.high.closed refl q.keys.high_in_range p.keys.high_in_range
-    (less b.high a.high q.profile.high.at p.profile.high.at (not q.profile.high.closed) (not p.profile.high.closed) q.keys.high p.keys.high
-    q.keys.high_in_range p.keys.high_in_range l)))
+told_high a b g h p q l = sym (below_high a b g h p q (is_less b.high a.high (high_small b h q) (high_small a g p) l))
 
 pub told_between : (a b : Keys) (g h : Game) → HasKeys g a → HasKeys h b → IsLess a.high b.low → true ≡ le g h
 told_between a b g h p q l =
     between p.profile q.profile g h p.cuts q.cuts
     (meet p.profile.high q.profile.low p.profile.high.closed q.profile.low.closed refl refl p.keys.high_in_range q.keys.low_in_range
-    (less a.high b.low p.profile.high.at q.profile.low.at (not p.profile.high.closed) q.profile.low.closed p.keys.high q.keys.low
-    p.keys.high_in_range q.keys.low_in_range l))
+    (at_keys a.high b.low _ _ p.keys.high q.keys.low (is_less a.high b.low (high_small a g p) (low_small b h q) l)))
 
 -- ---- a game that reaches no further than another
 
@@ -175,34 +191,22 @@ no_further_high a b g h p q l =
     (let P : ℤ → Type 0 = λ z. z ≤ℤ key_of p.profile.high.at (not p.profile.high.closed) in
     let Q : ℤ → Type 0 = λ z. b.high ≤ℤ z in subst P q.keys.high (subst Q p.keys.high l)))
 
-low_word : (a : Keys) (g : Game) → HasKeys g a → as_word a.low ≡ a.low
-low_word a g p = word_of a.low p.profile.low.at p.profile.low.closed p.keys.low p.keys.low_in_range
-
-high_word : (a : Keys) (g : Game) → HasKeys g a → as_word a.high ≡ a.high
-high_word a g p = word_of a.high p.profile.high.at (not p.profile.high.closed) p.keys.high p.keys.high_in_range
-
-is_at_most : (m n : ℤ) → as_word m ≡ m → as_word n ≡ n → IsLess m n → m ≤ℤ n
-is_at_most m n e f h = let l = from_lt_z m n (compared_as_words m n e f ∙ h) in omega (arith, ints)
-
-is_at_least : (m n : ℤ) → as_word m ≡ m → as_word n ≡ n → IsNotLess m n → n ≤ℤ m
-is_at_least m n e f h = not_lt_z m n (compared_as_words m n e f ∙ h)
-
 pub less_low : (s : Bool) (a b : Keys) (g h : Game) → s ≡ true → HasKeys g a → HasKeys h b → IsLess a.low b.low
     → NoFurther s g h
-less_low true a b g h e p q l = no_further_low a b g h p q (is_at_most a.low b.low (low_word a g p) (low_word b h q) l)
+less_low true a b g h e p q l = no_further_low a b g h p q (is_at_most a.low b.low (low_small a g p) (low_small b h q) l)
 less_low false a b g h e p q l = absurd (cc)
 
 pub not_less_low : (s : Bool) (a b : Keys) (g h : Game) → s ≡ true → HasKeys g a → HasKeys h b → IsNotLess b.low a.low
     → NoFurther s g h
-not_less_low true a b g h e p q l = no_further_low a b g h p q (is_at_least b.low a.low (low_word b h q) (low_word a g p) l)
+not_less_low true a b g h e p q l = no_further_low a b g h p q (is_at_least b.low a.low (low_small b h q) (low_small a g p) l)
 not_less_low false a b g h e p q l = absurd (cc)
 
 pub less_high : (s : Bool) (a b : Keys) (g h : Game) → s ≡ false → HasKeys g a → HasKeys h b → IsLess b.high a.high
     → NoFurther s g h
-less_high false a b g h e p q l = no_further_high a b g h p q (is_at_most b.high a.high (high_word b h q) (high_word a g p) l)
+less_high false a b g h e p q l = no_further_high a b g h p q (is_at_most b.high a.high (high_small b h q) (high_small a g p) l)
 less_high true a b g h e p q l = absurd (cc)
 
 pub not_less_high : (s : Bool) (a b : Keys) (g h : Game) → s ≡ false → HasKeys g a → HasKeys h b → IsNotLess a.high b.high
     → NoFurther s g h
-not_less_high false a b g h e p q l = no_further_high a b g h p q (is_at_least a.high b.high (high_word a g p) (high_word b h q) l)
+not_less_high false a b g h e p q l = no_further_high a b g h p q (is_at_least a.high b.high (high_small a g p) (high_small b h q) l)
 not_less_high true a b g h e p q l = absurd (cc)

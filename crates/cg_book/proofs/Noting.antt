@@ -1,15 +1,9 @@
--- Answers and pages that are kept, the first ones in a list.
-use Rattle.std.proofs.Common.{◌≡◌, refl, ℕ, zero, suc, ◌<◌, ◌⊎◌, inl, inr, arith, ap, sym, ◌∙◌, Option, Some, None, List, [], ◌∷◌, ◌++◌, take, get_or, length, Bool, true, false, cond, nat_eq, ◌||◌, ◌==◌}
-use Rattle.std.specs.Prelude.{if◌then◌else◌}
-use Rattle.std.specs.List.{list_any}
+-- Answers that are kept, the first ones in a list.
+use Rattle.std.proofs.Common.{◌≡◌, refl, ℕ, zero, suc, ◌<◌, ◌⊎◌, inl, inr, arith, ap, sym, ◌∙◌, Option, Some, None, List, [], ◌∷◌, ◌++◌, take, get_or, length, Bool, true, false, cond, nat_eq}
 use Rattle.std.specs.HashMap.{get}
-use Rattle.std.specs.HashSet.{contains}
 use Rattle.std.proofs.lemmas.Bool.Decides.{eqb_tells}
-use Rattle.std.proofs.lemmas.List.Folds.{list_any-append}
-use Rattle.cg_book.specs.declared.substitutes.Substitutes.{Substitutes}
 use Rattle.cg_book.specs.declared.verdicts.ByPage.{ByPage}
 use Rattle.cg_book.specs.declared.verdicts.Noted.{Noted}
-use Rattle.cg_book.specs.Passed.{was_passed}
 use Rattle.cg_book.specs.Verdict.{answer_for, either, noted}
 
 is_same : (x y : ℕ) → x ≡ y → nat_eq x y ≡ true
@@ -70,19 +64,3 @@ answer_more x y a answer e f c b h =
     (sym (ap (λ z. either (noted z c) (get nat_eq y.more c)) e
     ∙ ap (λ z. either (noted (x.few.items ++ record { page = a; answer = answer } ∷ []) c) (get nat_eq z c)) f
     ∙ ap (λ z. either z (get nat_eq x.more c)) (noted-last x.few.items (record { page = a; answer = answer }) c)) ∙ h)
-
--- ---- pages
-
-with_one : (a t b : Bool) → ((a || (t || false)) || b) ≡ (if t then true else (a || b))
-with_one true true b = refl
-with_one true false b = refl
-with_one false true b = refl
-with_one false false b = refl
-
-pub passed_more : (x y : Substitutes) (option : ℕ) → y.few.items ≡ x.few.items ++ option ∷ [] → y.more ≡ x.more → (p : ℕ)
-    → was_passed y p ≡ (if option == p then true else was_passed x p)
-passed_more x y option e f p =
-    ap (λ z. list_any (λ q. nat_eq q p) z || contains nat_eq y.more p) e
-    ∙ ap (λ z. list_any (λ q. nat_eq q p) (x.few.items ++ option ∷ []) || contains nat_eq z p) f
-    ∙ ap (λ z. z || contains nat_eq x.more p) (list_any-append (λ q. nat_eq q p) x.few.items (option ∷ []))
-    ∙ with_one (list_any (λ q. nat_eq q p) x.few.items) (nat_eq option p) (contains nat_eq x.more p)

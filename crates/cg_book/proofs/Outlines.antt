@@ -1,4 +1,4 @@
--- Outlines of lists of pages, and what they tell of the game of two lists.
+-- The cuts and the depth of a list of pages, and what they tell of the game of two lists.
 use Rattle.std.proofs.Common.{◌≡◌, refl, ℕ, ◌+◌, ◌<◌, ◌≤◌, arith, suc, ap, sym, ◌∙◌, subst, inl, inr, max, Option, Some, None, List, [], ◌∷◌, ◌++◌, get_or, length, take, Bool, true, false, not}
 use Rattle.cg_dyadic.specs.Cut.{in_gap, in_cut}
 use Rattle.cg_dyadic.specs.Number.{Number}
@@ -8,25 +8,25 @@ use Rattle.cg_dyadic.proofs.Truth.{false-from, not_true}
 use Rattle.cg_form.specs.Cut.{AnyNumber, CutOf}
 use Rattle.cg_form.specs.Depth.{deepest, depth_of}
 use Rattle.cg_form.specs.Game.{Among, Game, node, number}
-use Rattle.cg_form.specs.Order.{no_one}
+use Rattle.cg_form.specs.Order.{Equal, no_one}
 use Rattle.cg_form.specs.Side.{at_most}
 use Rattle.cg_form.specs.Simple.{NoNumber}
-use Rattle.cg_nodes.specs.Can.{can}
-use Rattle.cg_nodes.specs.CanForms.{can-equal, can-unique}
+use Rattle.cg_form.specs.Canonical.{IsCanonicalForm}
 use Rattle.cg_form.proofs.Cut.{any-closed, same_when}
 use Rattle.cg_form.proofs.CutSteps.{gap_misses, gap_value}
 use Rattle.cg_form.proofs.Order.{no_one-all, no_one-each}
-use Rattle.cg_form.proofs.Preorder.{equal_trans}
 use Rattle.cg_form.proofs.Simplicity.{equal-fits}
-use Rattle.cg_book.specs.declared.profile.Outline.{Outline}
+use Rattle.cg_form.proofs.Unique.{canonical_form-same}
 use Rattle.cg_book.specs.declared.profile.Profile.{Profile}
+use Rattle.cg_book.specs.declared.settling.NewForm.{NewForm}
 use Rattle.cg_book.specs.declared.terms.FirstTerm.{FirstTerm}
 use Rattle.cg_book.specs.Candidates.{AreApartByTerm}
 use Rattle.cg_book.specs.Pages.{ArePages, IsPage, game_of, games_of}
-use Rattle.cg_book.specs.Profiles.{IsOutline, IsProfile, chosen_cut}
+use Rattle.cg_book.specs.Profiles.{HasCuts, IsProfile, chosen_cut}
+use Rattle.cg_book.specs.Settled.{IsNewForm}
 use Rattle.cg_book.specs.Terms.{ApartByTerm}
 use Rattle.cg_book.specs.Told.{NoFurther}
-use Rattle.cg_book.proofs.Profiling.{TwoCuts, deepest-last, profile_cut, two_cuts}
+use Rattle.cg_book.proofs.Profiling.{deepest-last, equal_cuts, profile_cut}
 use Rattle.cg_book.proofs.Slices.{games_take_all, games_take_suc, item_among, page_of_item}
 use Rattle.cg_book.proofs.TermLaws.{no_terms, two_terms}
 use Rattle.cg_book.proofs.Topping.{among_last}
@@ -110,36 +110,40 @@ deepest_next gs ps i p m n l so_far k e =
 
 -- ---- the game of two lists
 
-pub list_cuts : (ls rs : List Game) (low high : Outline) → NoNumber (node ls rs) → IsOutline true ls low → IsOutline false rs high
-    → TwoCuts low.cut high.cut
-list_cuts ls rs low high never l h = two_cuts ls rs low.cut high.cut never l.cut h.cut
-
 -- the number between the cuts is the canonical form
-number_form : (ls rs : List Game) (o q : Option Cut) (x : Number) → CutOf AnyNumber true o ls → CutOf AnyNumber false q rs
-    → NoOptionPasses (in_gap o q) x → can (node ls rs) ≡ number x
-number_form ls rs o q x l h k =
-    let e = gap_value AnyNumber any-closed ls rs o q l h x tt k in
-    can-unique (node ls rs) (number x) tt
-    (equal_trans (can (node ls rs)) (node ls rs) (number x) (can-equal (node ls rs)) (e.1, e.0))
+pub number_case : (ls rs : List Game) (o q : Option Cut) (x : Number) → CutOf AnyNumber true o ls → CutOf AnyNumber false q rs
+    → NoOptionPasses (in_gap o q) x → (form : Game) → IsCanonicalForm (node ls rs) form → form ≡ number x
+number_case ls rs o q x l h k form f =
+    canonical_form-same (node ls rs) form (number x) f (record { canonical = tt; equal = gap_value AnyNumber any-closed ls rs o q l h x tt k })
 
 -- no number lies between the cuts
-no_number_form : (ls rs : List Game) (o q : Option Cut) → CutOf AnyNumber true o ls → CutOf AnyNumber false q rs
+pub nothing_case : (ls rs : List Game) (o q : Option Cut) → CutOf AnyNumber true o ls → CutOf AnyNumber false q rs
     → NonePasses (in_gap o q) → NoNumber (node ls rs)
-no_number_form ls rs o q l h k x e = gap_misses AnyNumber ls rs o q l h (λ y p. k y) x tt (equal-fits x (node ls rs) e)
+nothing_case ls rs o q l h k x e = gap_misses AnyNumber ls rs o q l h (λ y p. k y) x tt (equal-fits x (node ls rs) e)
 
-pub number_case : (ls rs : List Game) (low high : Outline) (o q : Option Cut) (x : Number) → IsOutline true ls low
-    → IsOutline false rs high → o ≡ low.cut → q ≡ high.cut → NoOptionPasses (in_gap o q) x → can (node ls rs) ≡ number x
-number_case ls rs low high o q x l h e f p =
-    let Q : Option Cut → Type 0 = λ z. CutOf AnyNumber true z ls in
-    let V : Option Cut → Type 0 = λ z. CutOf AnyNumber false z rs in
-    number_form ls rs o q x (subst Q (sym e) l.cut) (subst V (sym f) h.cut) p
+-- an equal game makes the same cuts
+pub cuts_at : (gs : List Game) (g : Game) (p : Profile) (us vs ls rs : List ℕ) → Equal (node (games_of gs ls) (games_of gs rs)) g
+    → us ≡ ls → vs ≡ rs → HasCuts g p → HasCuts (node (games_of gs us) (games_of gs vs)) p
+cuts_at gs g p us vs ls rs equal e f h =
+    let P : Game → Type 0 = λ z. HasCuts z p in
+    subst P (sym (ap (λ z. node (games_of gs z) (games_of gs vs)) e ∙ ap (λ z. node (games_of gs ls) (games_of gs z)) f))
+    (equal_cuts g (node (games_of gs ls) (games_of gs rs)) p equal h)
 
-pub nothing_case : (ls rs : List Game) (low high : Outline) (o q : Option Cut) → IsOutline true ls low → IsOutline false rs high
-    → o ≡ low.cut → q ≡ high.cut → NonePasses (in_gap o q) → NoNumber (node ls rs)
-nothing_case ls rs low high o q l h e f p =
-    let Q : Option Cut → Type 0 = λ z. CutOf AnyNumber true z ls in
-    let V : Option Cut → Type 0 = λ z. CutOf AnyNumber false z rs in
-    no_number_form ls rs o q (subst Q (sym e) l.cut) (subst V (sym f) h.cut) p
+pub new_form : (gs : List Game) (g : Game) (new : NewForm) (us vs : List ℕ) → ArePages gs new.form.lefts.items
+    → ArePages gs new.form.rights.items
+    → IsCanonicalForm g (node (games_of gs new.form.lefts.items) (games_of gs new.form.rights.items))
+    → us ≡ new.form.lefts.items → vs ≡ new.form.rights.items → IsProfile (node (games_of gs us) (games_of gs vs)) new.profile
+    → (form : Game) → IsCanonicalForm g form → IsNewForm gs form new
+new_form gs g new us vs a b c e f h form k =
+    let own : Game = node (games_of gs new.form.lefts.items) (games_of gs new.form.rights.items) in
+    let is : form ≡ own = canonical_form-same g form own k c in
+    let P : Game → Type 0 = λ z. IsProfile z new.profile in
+    record {
+      lefts = a;
+      rights = b;
+      is = is;
+      profile = subst P (ap (λ z. node (games_of gs z) (games_of gs vs)) e ∙ ap (λ z. node (games_of gs new.form.lefts.items) (games_of gs z)) f ∙ sym is) h;
+    }
 
 -- ---- terms
 

@@ -1,11 +1,12 @@
 -- The games that pages say, one after the other.
-use Rattle.std.proofs.Common.{◌≡◌, refl, ℕ, zero, suc, ◌+◌, ◌-◌, ◌<◌, ◌≤◌, ◌^◌, arith, ap, sym, ◌∙◌, subst, List, [], ◌∷◌, ◌++◌, length, length-append, take, drop, get_or, zip, true, false, cond}
+use Rattle.std.proofs.Common.{◌≡◌, refl, ℕ, zero, suc, ◌+◌, ◌-◌, ◌<◌, ◌≤◌, ◌^◌, arith, max, inl, inr, ap, sym, ◌∙◌, subst, List, [], ◌∷◌, ◌++◌, length, length-append, take, drop, get_or, zip, Bool, true, false, cond, ◌⊎◌}
 use Rattle.std.proofs.Math.Seq.{drop-append_seam, take-append_seam}
 use Rattle.std.proofs.lemmas.List.{drop-append-le, take-append-le, length-drop, get_or_append_left, get_or-append_right, get_or_default, append_assoc, append-nil}
 use Rattle.std.proofs.lemmas.Slice.Zip.{length-zip, get_or-zip}
 use Rattle.std.specs.List.{slice_range}
 use Rattle.cg_dyadic.specs.Number.{Number}
 use Rattle.cg_form.specs.Canonical.{Canonical}
+use Rattle.cg_form.specs.Depth.{deepest, depth_of}
 use Rattle.cg_form.specs.Game.{Game, node, number}
 use Rattle.cg_book.specs.declared.pages.Page.{Page}
 use Rattle.cg_book.specs.declared.pages.Pages.TheInside.{Inside}
@@ -128,6 +129,58 @@ pub written_one_more : (opts : List ℕ) (gs : List Game) (ps : List (Page × Pr
 written_one_more opts gs [] p f w h n = let e = length-append gs (said opts gs p f ∷ []) in (h, omega arith)
 written_one_more opts gs ((q, r) ∷ ps) p f w h n = (w.0, written_one_more opts (gs ++ (said opts gs q r ∷ [])) ps p f w.1 h n)
 
+-- ---- how deep they are
+
+-- no game is deeper than there are games
+abbrev IsShallow : List Game → Type 0
+IsShallow gs = (p : ℕ) → IsPage gs p → depth_of (game_of gs p) ≤ length gs
+
+deepest_few : (gs : List Game) (ps : List ℕ) → ArePages gs ps → IsShallow gs → deepest (games_of gs ps) ≤ length gs
+deepest_few gs [] a h = omega arith
+deepest_few gs (p ∷ ps) a h =
+    let first = h p (a zero 0 (omega arith)) in
+    let rest = deepest_few gs ps (λ k d l. a (suc k) d (omega arith)) h in
+    omega arith
+
+shallow_page : (opts : List ℕ) (gs : List Game) (p : Page) (f : Profile) → IsWritten opts gs p f → IsShallow gs
+    → depth_of (said opts gs p f) ≤ suc (length gs)
+shallow_page opts gs p f w h =
+    let l = deepest_few gs (left_pages opts p) w.lefts h in
+    let r = deepest_few gs (right_pages opts p) w.rights h in
+    by p.is_number l r
+  where
+    by : (t : Bool) → deepest (games_of gs (left_pages opts p)) ≤ length gs → deepest (games_of gs (right_pages opts p)) ≤ length gs
+        → depth_of (cond t (number f.low.at) (node (games_of gs (left_pages opts p)) (games_of gs (right_pages opts p)))) ≤ suc (length gs)
+    by true l r = omega arith
+    by false l r = omega arith
+
+shallow_more : (gs : List Game) (g : Game) → IsShallow gs → depth_of g ≤ suc (length gs) → IsShallow (gs ++ g ∷ [])
+shallow_more gs g h d p k =
+    let n = length-append gs (g ∷ []) in
+    elim (le_split p (length gs) (omega arith)) [
+      | inl l ↦ (let e = ap depth_of (game_before gs (g ∷ []) p l) in let own = h p l in omega arith)
+      | inr same ↦ (
+          let none : p - length gs ≡ 0 = omega arith in
+          let e = ap depth_of (get_or-append_right gs (g ∷ []) (length gs) p (node [] []) refl (omega arith)
+          ∙ ap (λ z. get_or (g ∷ []) z (node [] [])) none) in
+          omega arith)
+    ]
+  where
+    le_split : (p n : ℕ) → p < suc n → (p < n) ⊎ (p ≡ n)
+    le_split p zero h = inr (omega arith)
+    le_split zero (suc n) h = inl (omega arith)
+    le_split (suc p) (suc n) h = elim (le_split p n (omega arith)) [ inl l ↦ inl (omega arith) | inr e ↦ inr (omega arith) ]
+
+shallow_said : (opts : List ℕ) (gs : List Game) (ps : List (Page × Profile)) → AreWritten opts gs ps → IsShallow gs
+    → IsShallow (said_by opts gs ps)
+shallow_said opts gs [] w h = h
+shallow_said opts gs ((p, f) ∷ ps) w h =
+    shallow_said opts (gs ++ (said opts gs p f ∷ [])) ps w.1 (shallow_more gs (said opts gs p f) h (shallow_page opts gs p f w.0 h))
+
+few_said : (opts : List ℕ) (gs : List Game) (ps : List (Page × Profile)) → AreWritten opts gs ps → length (said_by opts gs ps) ≤ 2 ^ 32
+few_said opts gs [] w = w
+few_said opts gs ((p, f) ∷ ps) w = few_said opts (gs ++ (said opts gs p f ∷ [])) ps w.1
+
 -- ---- options more
 
 range_before : (opts more : List ℕ) (a b : ℕ) → a ≤ b → b ≤ length opts → slice_range (opts ++ more) a b ≡ slice_range opts a b
@@ -220,6 +273,15 @@ module _ (b : Inside) (gs : List Game) (h : IsBook b.options.items b.pages.items
       let n = counted in
       let p = some_at b.pages.items i (omega arith) in
       (both_say i p.0 f lt p.1 r).is_profile
+
+  pub profile_small : (i : ℕ) (f : Profile) → i < length gs → f ≡ get_or b.profiles.items i f → f.depth ≤ 2 ^ 32
+  profile_small i f lt r =
+      let deep = (profile_says i f lt r).depth in
+      let few = few_said b.options.items [] all h.written in
+      let P : List Game → Type 0 = λ z. IsShallow z × (length z ≤ 2 ^ 32) in
+      let known = subst P e (shallow_said b.options.items [] all h.written (λ p k. absurd (omega arith)), few) in
+      let own = known.0 i lt in
+      omega (arith, deep, own, known.1)
 
 pub says_number : (opts : List ℕ) (gs : List Game) (p : Page) (f : Profile) (g : Game) → Says opts gs p f g → p.is_number ≡ true
     → g ≡ number f.low.at

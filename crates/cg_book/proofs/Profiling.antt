@@ -1,9 +1,9 @@
 -- Profiles from those of the options.
-use Rattle.std.proofs.Common.{◌≡◌, refl, ℕ, ◌+◌, ◌-◌, ◌≤◌, ◌^◌, arith, ap, sym, ◌∙◌, subst, List, [], ◌∷◌, ◌++◌, length, Bool, true, false, not, ◌&&◌, max, rules}
+use Rattle.std.proofs.Common.{◌≡◌, refl, ℕ, ◌+◌, ◌<◌, ◌≤◌, ◌^◌, arith, ap, sym, ◌∙◌, subst, List, [], ◌∷◌, ◌++◌, length, Bool, true, false, not, ◌&&◌, max, rules, if◌then◌else◌}
 use Rattle.std.specs.Prelude.{Option, Some, IsSome}
 use Rattle.cg_dyadic.specs.declared.cut.Cut.{Cut}
 use Rattle.cg_dyadic.specs.Cut.{in_gap}
-use Rattle.cg_dyadic.specs.Number.{InRange, Number}
+use Rattle.cg_dyadic.specs.Number.{InRange, Number, is_long}
 use Rattle.cg_dyadic.proofs.Strict.{gap_ends}
 use Rattle.cg_dyadic.proofs.Truth.{false-from}
 use Rattle.cg_form.specs.Cut.{AnyNumber, CutIs, CutOf, Turned, other_cut}
@@ -18,16 +18,14 @@ use Rattle.cg_form.proofs.CutSteps.{cut_of_none}
 use Rattle.cg_form.proofs.Preorder.{equal_refl}
 use Rattle.cg_form.proofs.Sides.{side_equal, side_trans}
 use Rattle.cg_form.proofs.Simplicity.{none_fits}
-use Rattle.cg_nodes.specs.Longs.{cells_of}
-use Rattle.cg_nodes.proofs.LongSteps.{few_cells}
-use Rattle.cg_book.specs.declared.profile.Outline.{Outline}
+use Rattle.cg_book.specs.Costs.{cost_of}
 use Rattle.cg_book.specs.declared.profile.Profile.{Profile}
-use Rattle.cg_book.specs.Profiles.{HasCuts, IsOutline, IsProfile, chosen_cut}
+use Rattle.cg_book.specs.Profiles.{HasCuts, IsProfile, chosen_cut}
 
 -- ---- a number
 
 pub number_profile : (x : Number) (c d : Cut) (n : ℕ) → c.at ≡ x → c.closed ≡ true → d.at ≡ x → d.closed ≡ true
-    → n ≡ cells_of x → InRange x → IsProfile (number x) (record { low = c; high = d; depth = 0; cost = n })
+    → n ≡ cost_of (number x) → InRange x → IsProfile (number x) (record { low = c; high = d; depth = 0; cost = n })
 number_profile x c d n at shut at' shut' cells range = record {
   cuts = record {
     low = cut-number AnyNumber true c x (number x) at shut (equal_refl (number x));
@@ -35,9 +33,13 @@ number_profile x c d n at shut at' shut' cells range = record {
   };
   depth = refl;
   cost = cells;
-  small = omega (arith, few_cells x);
+  small = omega (arith, few (is_long x));
   in_range = range;
 }
+  where
+    few : (long : Bool) → (if long then 3 else 1) ≤ 3
+    few true = omega arith
+    few false = omega arith
 
 -- ---- one option more
 
@@ -89,39 +91,33 @@ none_passes ls rs o q never l h x =
     false-from (in_gap o q x) (λ t. none_fits (node ls rs) never x
     (gap-fits AnyNumber (node ls rs) o q (subst P (sym (lefts-node ls rs)) l) (subst Q (sym (rights-node ls rs)) h) x tt t))
 
+-- the cuts that the game of two lists makes
+pub cuts_between : (ls rs : List Game) (o q : Option Cut) (low high c d : Cut) → o ≡ Some low → q ≡ Some high
+    → Turned (other_cut true low high) c → Turned (other_cut false low high) d → NoNumber (node ls rs)
+    → CutOf AnyNumber true o ls → CutOf AnyNumber false q rs → CutIs AnyNumber true c (node ls rs) × CutIs AnyNumber false d (node ls rs)
+cuts_between ls rs o q low high c d e f t u never l r =
+    let P : Option Cut → Type 0 = λ z. CutOf AnyNumber true z ls in
+    let Q : Option Cut → Type 0 = λ z. CutOf AnyNumber false z rs in
+    let kl : CutOf AnyNumber true (Some low) ls = subst P e l in
+    let kr : CutOf AnyNumber false (Some high) rs = subst Q f r in
+    let none = none_passes ls rs (Some low) (Some high) never kl kr in (
+      cut_of_none AnyNumber any-closed true ls rs low high c kl kr (λ x p. none x) t,
+      cut_of_none AnyNumber any-closed false ls rs low high d kl kr (λ x p. none x) u,
+    )
+
 -- from its cuts, and the depths and lengths of its lists
-pub profile_from_cuts : (ls rs : List Game) (p : Profile) (depth first second : ℕ) → HasCuts (node ls rs) p
-    → depth ≡ max (deepest ls) (deepest rs) + 1 → first ≡ length ls + 1 → second ≡ length rs + 1 → first ≤ 2 ^ 32
-    → second ≤ 2 ^ 32 → IsProfile (node ls rs) (record { low = p.low; high = p.high; depth = depth; cost = first + second - 1 })
-profile_from_cuts ls rs p depth first second cuts deep one two few less =
+pub profile_from_cuts : (ls rs : List Game) (p : Profile) → CutIs AnyNumber true p.low (node ls rs) → CutIs AnyNumber false p.high (node ls rs)
+    → p.depth ≡ max (deepest ls) (deepest rs) + 1 → p.cost ≡ 1 + length ls + length rs → p.cost < 2 ^ 63 → IsProfile (node ls rs) p
+profile_from_cuts ls rs p low high deep cost small =
     let nl : length (lefts (node ls rs)) ≡ length ls = ap length (lefts-node ls rs) in
     let nr : length (rights (node ls rs)) ≡ length rs = ap length (rights-node ls rs) in
     record {
-      cuts = record { low = cuts.low; high = cuts.high };
-      depth = omega arith;
-      cost = omega (arith, nl, nr);
-      small = omega arith;
+      cuts = record { low = low; high = high };
+      depth = omega (arith, deep);
+      cost = omega (arith, cost, nl, nr);
+      small = small;
       in_range = tt;
     }
-
-pub between_profile : (ls rs : List Game) (a b : Outline) (low high c d : Cut) (depth first second : ℕ)
-    → a.cut ≡ Some low → b.cut ≡ Some high → Turned (other_cut true low high) c → Turned (other_cut false low high) d
-    → depth ≡ max a.deepest b.deepest + 1 → first ≡ a.count + 1 → second ≡ b.count + 1 → first ≤ 2 ^ 32 → second ≤ 2 ^ 32
-    → NoNumber (node ls rs) → IsOutline true ls a → IsOutline false rs b
-    → IsProfile (node ls rs) (record { low = c; high = d; depth = depth; cost = first + second - 1 })
-between_profile ls rs a b low high c d depth first second e f t u deep one two few less never l r =
-    let P : Option Cut → Type 0 = λ z. CutOf AnyNumber true z ls in
-    let Q : Option Cut → Type 0 = λ z. CutOf AnyNumber false z rs in
-    let kl : CutOf AnyNumber true (Some low) ls = subst P e l.cut in
-    let kr : CutOf AnyNumber false (Some high) rs = subst Q f r.cut in
-    let none = none_passes ls rs (Some low) (Some high) never kl kr in
-    let p : Profile = record { low = c; high = d; depth = depth; cost = first + second - 1 } in
-    profile_from_cuts ls rs p depth first second
-    (record {
-      low = cut_of_none AnyNumber any-closed true ls rs low high c kl kr (λ x p. none x) t;
-      high = cut_of_none AnyNumber any-closed false ls rs low high d kl kr (λ x p. none x) u;
-    })
-    (omega (arith, l.deepest, r.deepest)) (omega (arith, l.count)) (omega (arith, r.count)) few less
 
 -- ---- an equal game
 

@@ -1,113 +1,118 @@
 -- How far the games of a list go among the numbers.
-use Rattle.std.proofs.Common.{◌≡◌, refl, sym, ◌∙◌, ap, inl, inr, subst, List, [], ◌∷◌, ◌++◌, Bool, true, false, not, cond, ◌||◌, IsTrue}
-use Rattle.std.specs.Prelude.{Option, Some}
-use Rattle.cg_dyadic.specs.Cut.{in_cut, in_some, within_cut}
-use Rattle.cg_dyadic.specs.declared.cut.Cut.{Cut}
-use Rattle.cg_dyadic.specs.Number.{Number}
-use Rattle.cg_dyadic.proofs.Truth.{differ, false-from, not_not, not_true, true_not, true-or-not}
+use Rattle.std.proofs.Common.{◌≡◌, refl, sym, ◌∙◌, ap, inl, inr, subst, arith, ◌^◌, ◌<◌, List, [], ◌∷◌, ◌++◌, Bool, true, false, not, cond, ℤ, ◌≤ℤ◌, ◌<ℤ◌, unsigned_abs}
+use Rattle.std.proofs.lemmas.Int.{clamps, ints}
+use Rattle.std.specs.Int.{int_max, int_min}
+use Rattle.cg_dyadic.proofs.Truth.{differ, false-from}
+use Rattle.cg_dyadic.proofs.Wides.{wide_word}
 use Rattle.cg_form.specs.Best.{keep}
-use Rattle.cg_form.specs.Cut.{Joined, Turned, other_cut}
-use Rattle.cg_form.specs.Game.{Among, Game, number}
+use Rattle.cg_form.specs.Game.{Among, Game}
 use Rattle.cg_form.specs.Known.{EachLess}
-use Rattle.cg_form.specs.Order.{no_one}
-use Rattle.cg_form.specs.Side.{AtMost, at_most}
+use Rattle.cg_form.specs.Order.{le, no_one}
+use Rattle.cg_form.specs.Side.{at_most}
 use Rattle.cg_form.proofs.Best.{keep-in}
 use Rattle.cg_form.proofs.Order.{no_one-all}
-use Rattle.cg_form.proofs.Sides.{side_trans, side_turned}
-use Rattle.cg_book.specs.declared.profile.Profile.{Profile}
+use Rattle.cg_form.proofs.Sides.{side_turned}
+use Rattle.cg_book.specs.declared.keys.Keys.{Keys}
 use Rattle.cg_book.specs.declared.reach.Bounds.{Bounds}
-use Rattle.cg_book.specs.declared.reach.Reach.{Reach}
-use Rattle.cg_book.specs.Profiles.{IsProfile, chosen_cut}
-use Rattle.cg_book.specs.Reach.{AreBounds, GoesPastSome, Reaches, reach_for}
-use Rattle.cg_book.specs.Told.{GoesPast}
+use Rattle.cg_book.specs.Keys.{HasKeys}
+use Rattle.cg_book.specs.Reach.{AreBounds, IsWithin}
 use Rattle.cg_book.specs.Tops.{with_last}
-use Rattle.cg_book.proofs.Profiling.{profile_cut}
+use Rattle.cg_book.proofs.KeyLaws.{IsLess, as_word, below_high, below_low, high_small, is_less, low_small}
 use Rattle.cg_book.proofs.Topping.{among_last}
-
-pub past_some : (s : Bool) (a b : Cut) (o : Option Cut) → o ≡ Some b → GoesPast s a b → GoesPastSome s a o
-past_some s a b o e w = record { x = w.x; inside = w.inside; outside = ap (λ z. in_some s z w.x) e ∙ w.outside }
-
--- ---- the numbers that a game isn't at most
-
-turned_within : (s : Bool) (p : Number) (c : Bool) (x : Number) → within_cut s p (not c) x ≡ not (within_cut (not s) p c x)
-turned_within true p true x = refl
-turned_within true p false x = sym (not_not (within_cut true p true x))
-turned_within false p true x = refl
-turned_within false p false x = sym (not_not (within_cut false p true x))
-
-turned_in : (s : Bool) (a c : Cut) (x : Number) → Turned a c → in_cut s c x ≡ not (in_cut (not s) a x)
-turned_in s a c x t =
-    ap (λ z. within_cut s z c.closed x) t.at_same ∙ ap (λ z. within_cut s a.at z x) t.closed_not
-    ∙ turned_within s a.at a.closed x
-
-beyond_in : (s : Bool) (g : Game) (p : Profile) (c : Cut) (x : Number) → IsProfile g p → Turned (other_cut s p.low p.high) c
-    → in_cut s c x ≡ not (at_most s g (number x))
-beyond_in true g p c x h t = turned_in true p.high c x t ∙ ap not (sym (h.cuts.high.tells x tt))
-beyond_in false g p c x h t = turned_in false p.low c x t ∙ ap not (sym (h.cuts.low.tells x tt))
 
 -- ---- one game more
 
-or_first : (b c : Bool) → IsTrue b → IsTrue (b || c)
-or_first true c h = refl
-or_first false c h = absurd (differ false h refl)
+at_words : (f : ℤ → ℤ → ℤ) (x m n : ℤ) → x ≡ f (as_word m) (as_word n) → unsigned_abs m < 2 ^ 126 → unsigned_abs n < 2 ^ 126
+    → unsigned_abs (f m n) < 2 ^ 126 → as_word x ≡ f m n
+at_words f x m n is e h small =
+    ap as_word (is ∙ ap (λ z. f z (as_word n)) (wide_word m e) ∙ ap (f m) (wide_word n h)) ∙ wide_word (f m n) small
 
-or_second : (b c : Bool) → IsTrue c → IsTrue (b || c)
-or_second true c h = refl
-or_second false c h = h
-
-pub reaches_more : (s : Bool) (gs : List Game) (g : Game) (r : Reach) (p : Profile) (a b c d : Cut) → Reaches s gs r
-    → IsProfile g p → a ≡ chosen_cut s p.low p.high → Joined s r.no_better a c → Turned (other_cut s p.low p.high) b
-    → Joined s r.less_good b d → Reaches s (g ∷ gs) (record { no_better = Some c; less_good = Some d })
-reaches_more s gs g r p a b c d h k e i t j = record {
-  no_better = λ x y m l. i.both x ∙ elim m [
-    | inl q ↦ (let P : Game → Type 0 = λ z. AtMost s (number x) z in
-        or_second (in_some s r.no_better x) (in_cut s a x) (ap (λ z. in_cut s z x) e
-        ∙ sym ((profile_cut s g p k).tells x tt) ∙ subst P q l))
-    | inr w ↦ or_first (in_some s r.no_better x) (in_cut s a x) (h.no_better x y w l)
-  ];
-  less_good = λ x y m n. j.both x ∙ elim m [
-    | inl q ↦ (let P : Game → Type 0 = λ z. ¬ AtMost s z (number x) in
-        or_second (in_some s r.less_good x) (in_cut s b x) (beyond_in s g p b x k t
-        ∙ true_not (at_most s g (number x)) (subst P q n)))
-    | inr w ↦ or_first (in_some s r.less_good x) (in_cut s b x) (h.less_good x y w n)
-  ];
-}
+pub bounds_more : (gs : List Game) (g : Game) (b : Bounds) (k : Keys) (x y z w : ℤ) → x ≡ int_min (as_word b.least.low) (as_word k.low)
+    → y ≡ int_min (as_word b.least.high) (as_word k.high) → z ≡ int_max (as_word b.greatest.low) (as_word k.low)
+    → w ≡ int_max (as_word b.greatest.high) (as_word k.high) → AreBounds gs b → HasKeys g k
+    → AreBounds (g ∷ gs) (record {
+      least = record { low = as_word x; high = as_word y };
+      greatest = record { low = as_word z; high = as_word w };
+    })
+bounds_more gs g b k x y z w least_low least_high greatest_low greatest_high h p =
+    let low = low_small k g p in
+    let high = high_small k g p in
+    let le : as_word x ≡ int_min b.least.low k.low =
+    at_words int_min x b.least.low k.low least_low h.least_low low (omega (arith, ints, clamps, h.least_low, low)) in
+    let lf : as_word y ≡ int_min b.least.high k.high =
+    at_words int_min y b.least.high k.high least_high h.least_high high (omega (arith, ints, clamps, h.least_high, high)) in
+    let gl : as_word z ≡ int_max b.greatest.low k.low =
+    at_words int_max z b.greatest.low k.low greatest_low h.greatest_low low (omega (arith, ints, clamps, h.greatest_low, low)) in
+    let gh : as_word w ≡ int_max b.greatest.high k.high =
+    at_words int_max w b.greatest.high k.high greatest_high h.greatest_high high (omega (arith, ints, clamps, h.greatest_high, high)) in
+    let c : Bounds = record {
+      least = record { low = as_word x; high = as_word y };
+      greatest = record { low = as_word z; high = as_word w };
+    } in
+    record {
+      each = λ u m. elim m [
+        | inl e ↦ (let P : Game → Type 0 = λ z. IsWithin c z in subst P (sym e) (record {
+          keys = k;
+          has = p;
+          from_low = omega (arith, ints, clamps, le);
+          from_high = omega (arith, ints, clamps, lf);
+          to_low = omega (arith, ints, clamps, gl);
+          to_high = omega (arith, ints, clamps, gh);
+        }))
+        | inr n ↦ (let v = h.each u n in record {
+          keys = v.keys;
+          has = v.has;
+          from_low = omega (arith, ints, clamps, le, v.from_low);
+          from_high = omega (arith, ints, clamps, lf, v.from_high);
+          to_low = omega (arith, ints, clamps, gl, v.to_low);
+          to_high = omega (arith, ints, clamps, gh, v.to_high);
+        })
+      ];
+      least_low = omega (arith, ints, clamps, le, h.least_low, low);
+      least_high = omega (arith, ints, clamps, lf, h.least_high, high);
+      greatest_low = omega (arith, ints, clamps, gl, h.greatest_low, low);
+      greatest_high = omega (arith, ints, clamps, gh, h.greatest_high, high);
+    }
 
 -- ---- a game that goes further
 
-pub past_no_better : (s : Bool) (gs : List Game) (g : Game) (r : Reach) (p : Profile) (a : Cut) → Reaches s gs r → IsProfile g p
-    → a ≡ chosen_cut s p.low p.high → GoesPastSome s a r.no_better → EachLess s g gs
-past_no_better s gs g r p a h k e w = record {
-  each = λ c m l. differ (in_some s r.no_better w.x)
-      (h.no_better w.x c m (side_trans s (number w.x) g c
-      ((profile_cut s g p k).tells w.x tt ∙ sym (ap (λ z. in_cut s z w.x) e) ∙ w.inside) l)) w.outside;
+pub above_lows : (gs : List Game) (g : Game) (b : Bounds) (k : Keys) → AreBounds gs b → HasKeys g k
+    → IsLess b.greatest.low k.low → EachLess true g gs
+above_lows gs g b k h p l = record {
+  each = λ c m y.
+      let w = h.each c m in
+      let less = is_less b.greatest.low k.low h.greatest_low (low_small k g p) l in
+      differ (le g c) y (below_low k w.keys g c p w.has (omega (arith, ints, w.to_low, less)));
 }
 
-pub past_less_good : (s : Bool) (gs : List Game) (g : Game) (r : Reach) (p : Profile) (b : Cut) → Reaches s gs r → IsProfile g p
-    → Turned (other_cut s p.low p.high) b → GoesPastSome s b r.less_good → EachLess s g gs
-past_less_good s gs g r p b h k t w = record {
-  each = λ c m l. elim (true-or-not (at_most s c (number w.x))) [
-    | inl y ↦ not_true (at_most s g (number w.x)) (sym (beyond_in s g p b w.x k t) ∙ w.inside) (side_trans s g c (number w.x) l y)
-    | inr n ↦ differ (in_some s r.less_good w.x) (h.less_good w.x c m n) w.outside
-  ];
+pub above_highs : (gs : List Game) (g : Game) (b : Bounds) (k : Keys) → AreBounds gs b → HasKeys g k
+    → IsLess b.greatest.high k.high → EachLess true g gs
+above_highs gs g b k h p l = record {
+  each = λ c m y.
+      let w = h.each c m in
+      let less = is_less b.greatest.high k.high h.greatest_high (high_small k g p) l in
+      differ (le g c) y (below_high k w.keys g c p w.has (omega (arith, ints, w.to_high, less)));
 }
 
--- ---- bounds
-
-pub bounds_of : (gs : List Game) (b : Bounds) → Reaches true gs b.left → Reaches false gs b.right → AreBounds gs b
-bounds_of gs b l r = record { each = both }
-  where
-    both : (s : Bool) → Reaches s gs (reach_for s b)
-    both true = l
-    both false = r
-
--- of games that are all in the list
-reaches_less : (s : Bool) (gs hs : List Game) (r : Reach) → ((x : Game) → Among x hs → Among x gs) → Reaches s gs r
-    → Reaches s hs r
-reaches_less s gs hs r f h = record {
-  no_better = λ x g m. h.no_better x g (f g m);
-  less_good = λ x g m. h.less_good x g (f g m);
+pub below_lows : (gs : List Game) (g : Game) (b : Bounds) (k : Keys) → AreBounds gs b → HasKeys g k
+    → IsLess k.low b.least.low → EachLess false g gs
+below_lows gs g b k h p l = record {
+  each = λ c m y.
+      let w = h.each c m in
+      let less = is_less k.low b.least.low (low_small k g p) h.least_low l in
+      differ (le c g) y (below_low w.keys k c g w.has p (omega (arith, ints, w.from_low, less)));
 }
+
+pub below_highs : (gs : List Game) (g : Game) (b : Bounds) (k : Keys) → AreBounds gs b → HasKeys g k
+    → IsLess k.high b.least.high → EachLess false g gs
+below_highs gs g b k h p l = record {
+  each = λ c m y.
+      let w = h.each c m in
+      let less = is_less k.high b.least.high (high_small k g p) h.least_high l in
+      differ (le c g) y (below_high w.keys k c g w.has p (omega (arith, ints, w.from_high, less)));
+}
+
+-- ---- the list changes
 
 with_last-in : (left : Bool) (gs : List Game) (x y : Game) → Among y (with_last left gs x) → Among y (x ∷ gs)
 with_last-in left gs x y m = of (no_one (at_most left x) gs) m
@@ -122,7 +127,11 @@ with_last-in left gs x y m = of (no_one (at_most left x) gs) m
 pub bounds_with_last : (left : Bool) (gs : List Game) (x : Game) (b : Bounds) → AreBounds (x ∷ gs) b
     → AreBounds (with_last left gs x) b
 bounds_with_last left gs x b h = record {
-  each = λ s. reaches_less s (x ∷ gs) (with_last left gs x) (reach_for s b) (with_last-in left gs x) (h.each s);
+  each = λ g m. h.each g (with_last-in left gs x g m);
+  least_low = h.least_low;
+  least_high = h.least_high;
+  greatest_low = h.greatest_low;
+  greatest_high = h.greatest_high;
 }
 
 -- ---- the list stays

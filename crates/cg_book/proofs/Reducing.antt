@@ -1,18 +1,16 @@
 -- The canonical form of a whole: what stays of its value where dominated options are left out, and what replaces the others.
 use Rattle.std.proofs.Common.{◌≡◌, ℕ, inl, inr, sym, ◌∙◌, subst, None, Option, Some, List, [], Bool, true, false, cond}
 use Rattle.cg_form.specs.Best.{Best}
+use Rattle.cg_form.specs.Canonical.{IsCanonicalForm}
 use Rattle.cg_form.specs.Bypass.{AllCovered, Fine, Grown, Replaces, kept}
 use Rattle.cg_form.specs.Game.{Among, Game, lefts, node, number, rights}
 use Rattle.cg_form.specs.Order.{Equal}
 use Rattle.cg_form.specs.Simple.{NoNumber}
 use Rattle.cg_form.proofs.Among.{carry, lefts-node, rights-node}
-use Rattle.cg_nodes.specs.Can.{can}
-use Rattle.cg_nodes.specs.CanForms.{can-is, can-canonical, can-equal, can-unique}
 use Rattle.cg_form.proofs.EqualGames.{le-equal}
 use Rattle.cg_form.proofs.Exists.{node_settled}
-use Rattle.cg_form.proofs.Preorder.{equal_back, equal_refl, equal_trans, le-cofinal, le_refl}
+use Rattle.cg_form.proofs.Preorder.{equal_refl, equal_trans, le-cofinal, le_refl}
 use Rattle.cg_form.proofs.Sides.{side_refl}
-use Rattle.cg_form.proofs.Unique.{canonical_form-same}
 use Rattle.cg_book.specs.declared.profile.Profile.{Profile}
 use Rattle.cg_book.specs.declared.verdicts.Verdicts.{Verdicts}
 use Rattle.cg_book.specs.declared.whole.Whole.{Whole}
@@ -50,11 +48,6 @@ cuts_equal g h p e k = record {
   high = record { tells = λ x a. le-equal g (number x) h (number x) e (equal_refl (number x)) ∙ k.high.tells x a };
 }
 
-can_equal : (g h : Game) → Equal g h → can h ≡ can g
-can_equal g h e =
-    can-unique h (can g) (can-canonical g)
-    (equal_trans (can h) h (can g) (can-equal h) (equal_trans h g (can g) (equal_back g h e) (equal_back (can g) g (can-equal g))))
-
 tops_again : (s : Bool) (all tops : List Game) → Tops s all tops → Tops s tops tops
 tops_again s all tops h = record { inside = λ x m. m; top = λ x m. (x, m, side_refl s x); apart = h.apart }
 
@@ -63,7 +56,7 @@ pub record Undominated (gs : List Game) (ls rs : List ℕ) (w : Whole) : Type 0 
   pub holds : WholeHolds gs w
   pub lefts : Tops true (games_of gs w.lefts.now) (games_of gs w.lefts.now)
   pub rights : Tops false (games_of gs w.rights.now) (games_of gs w.rights.now)
-  pub same : can (node (games_of gs ls) (games_of gs rs)) ≡ can (whole_game gs w)
+  pub same : Equal (whole_game gs w) (node (games_of gs ls) (games_of gs rs))
 
 pub undominated : (gs : List Game) (ls rs us vs : List ℕ) (w : Whole) → w.lefts.now ≡ us → w.rights.now ≡ vs → ArePages gs us
     → ArePages gs vs → Tops true (games_of gs ls) (games_of gs us) → Tops false (games_of gs rs) (games_of gs vs)
@@ -88,7 +81,7 @@ undominated gs ls rs us vs w e f a b l r never cuts keys =
       };
       lefts = tops_again true (games_of gs ls) (games_of gs w.lefts.now) left;
       rights = tops_again false (games_of gs rs) (games_of gs w.rights.now) right;
-      same = can_equal (whole_game gs w) h equal;
+      same = equal;
     }
   where
     by : (s : Bool) → Tops true (games_of gs ls) (games_of gs w.lefts.now) → Tops false (games_of gs rs) (games_of gs w.rights.now)
@@ -129,7 +122,10 @@ replace_themselves s g own new fine best = record {
 pub formed : (gs : List Game) (w : Whole) (ls rs : List ℕ) → NoNumber (whole_game gs w)
     → Replaces true (whole_game gs w) (games_of gs w.lefts.now) (games_of gs ls)
     → Replaces false (whole_game gs w) (games_of gs w.rights.now) (games_of gs rs)
-    → can (whole_game gs w) ≡ node (games_of gs ls) (games_of gs rs)
+    → IsCanonicalForm (whole_game gs w) (node (games_of gs ls) (games_of gs rs))
 formed gs w ls rs never l r =
-    canonical_form-same (whole_game gs w) (can (whole_game gs w)) (node (games_of gs ls) (games_of gs rs)) (can-is (whole_game gs w))
-    (node_settled (games_of gs w.lefts.now) (games_of gs w.rights.now) (games_of gs ls) (games_of gs rs) never l r)
+    node_settled (games_of gs w.lefts.now) (games_of gs w.rights.now) (games_of gs ls) (games_of gs rs) never l r
+
+-- an equal game has the same canonical form
+pub form_equal : (g h k : Game) → Equal g h → IsCanonicalForm g k → IsCanonicalForm h k
+form_equal g h k e f = record { canonical = f.canonical; equal = equal_trans k g h f.equal e }

@@ -1,7 +1,6 @@
 -- Facts of results, carried over.
 use Rattle.std.proofs.Common.{◌≡◌, subst, sym}
-use Rattle.std.specs.Prelude.{Result, Ok, Err, OnOk, OnErr, IfOk, IfErr, Option, Some, None, IfNone, IfSome, option_copied}
-use Rattle.std.specs.Borrow.{Bor}
+use Rattle.std.specs.Prelude.{Result, Ok, Err, OnOk, OnErr, IfOk, Option, Some, None, IfNone, IfSome}
 
 pub on_ok : {T E : Type 0} (r : Result T E) (P Q : Type 0) → OnOk r P → (P → Q) → OnOk r Q
 on_ok (Ok x) P Q h f = f h
@@ -15,10 +14,6 @@ pub if_ok : {T E : Type 0} (r : Result T E) (P Q : T → Type 0) → IfOk r P �
 if_ok (Ok x) P Q h f = f x h
 if_ok (Err e) P Q h f = h
 
-pub if_err : {T E : Type 0} (r : Result T E) (P Q : E → Type 0) → IfErr r P → ((x : E) → P x → Q x) → IfErr r Q
-if_err (Ok x) P Q h f = h
-if_err (Err e) P Q h f = f e h
-
 pub at_none : {T : Type 0} (o : Option T) (P : Type 0) → o ≡ None → IfNone o P → P
 at_none None P e h = h
 at_none (Some x) P e h = cc
@@ -27,12 +22,10 @@ pub at_some : {T : Type 0} (o : Option T) (P : T → Type 0) (x : T) → o ≡ S
 at_some None P x e h = cc
 at_some (Some y) P x e h = (let same : y ≡ x = cc in subst P same h)
 
+pub always_ok : {T E : Type 0} (r : Result T E) (P : Type 0) → P → IfOk r (λ _. P)
+always_ok (Ok x) P h = h
+always_ok (Err e) P h = tt
+
 pub always_on_err : {T E : Type 0} (r : Result T E) (P : Type 0) → P → OnErr r P
 always_on_err (Ok x) P h = tt
 always_on_err (Err e) P h = h
-
--- what is lent, where a copy of it is known
-pub if_lent : {T : Type 0} (o : Option (Bor T)) (m : Option T) (P : T → Type 0) → option_copied o ≡ m
-    → ((x : T) → m ≡ Some x → P x) → IfSome o (λ b. P b.now)
-if_lent None m P e f = tt
-if_lent (Some b) m P e f = f b.now (sym e)

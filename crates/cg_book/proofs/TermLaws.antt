@@ -66,22 +66,6 @@ own_candidates gs options cs apart h = record {
       (All-contains (IsFrom options) cs a h.own m t.term t.first) (All-contains (IsFrom options) cs b h.own n t.term t.second) l;
 }
 
--- with the candidate for the page at a place
-pub from_next : (gs : List Game) (options : Term → List ℕ) (ps : List ℕ) (i : ℕ) (x : Candidate) (cs : List Candidate)
-    → ArePages gs ps → i < length ps → x.page ≡ get_or ps i 0 → IsFrom options x → AreFrom gs options cs
-    → AreFrom gs options (x ∷ cs)
-from_next gs options ps i x cs a l e own h = record {
-  pages = All-cons (IsPage gs) x.page (pages_of cs) (page_of_item gs ps i x.page a l e) h.pages;
-  own = All-cons (IsFrom options) x cs own h.own;
-}
-
-pub from_fewer : (gs : List Game) (options : Term → List ℕ) (cs ds : List Candidate) → AreAmong cs ds → AreFrom gs options ds
-    → AreFrom gs options cs
-from_fewer gs options cs ds among h = record {
-  pages = pages_fewer gs cs ds among h.pages;
-  own = All-weaker (Contains ds) (IsFrom options) (λ c m. All-contains (IsFrom options) ds c h.own m) cs among;
-}
-
 -- a game that is no sum of two terms
 pub no_terms : (gs : List Game) (ls rs : List ℕ) → AreApartByTerm gs None ls rs
 no_terms gs ls rs = record { each = λ left t. none_of_none }

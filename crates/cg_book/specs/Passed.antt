@@ -1,7 +1,5 @@
 -- Options in whose places others stand.
-use Rattle.std.specs.Prelude.{◌≡◌, ℕ, Bool, true, All, cond, Contains, Some, List, nat_eq, ◌||◌}
-use Rattle.std.specs.HashSet.{contains}
-use Rattle.std.specs.List.{list_any}
+use Rattle.std.specs.Prelude.{◌≡◌, ℕ, Bool, All, cond, Contains, Some, List}
 use Rattle.cg_form.specs.Bypass.{Covered}
 use Rattle.cg_form.specs.Game.{Game}
 use Rattle.cg_book.specs.declared.candidate.Candidate.{Candidate}
@@ -10,10 +8,11 @@ use Rattle.cg_book.specs.declared.terms.Term.{Term}
 use Rattle.cg_book.specs.declared.whole.Whole.{Whole}
 use Rattle.cg_book.specs.Candidates.{pages_of}
 use Rattle.cg_book.specs.Pages.{ArePages, IsPage, game_of, games_of}
+use Rattle.cg_book.specs.Verdict.{answer_for}
 use Rattle.cg_book.specs.Wholes.{whole_game}
 
-abbrev pub was_passed : Substitutes → ℕ → Bool
-was_passed o page = list_any (λ y. nat_eq y page) o.few.items || contains nat_eq o.more page
+abbrev pub WasPassed : Substitutes → ℕ → Type 0
+WasPassed o page = (b : Bool) × (answer_for o.passed page ≡ Some b)
 
 -- the candidate has no term, or is one of the whole's own options
 abbrev pub IsOwn : Bool → Whole → Candidate → Type 0
@@ -22,6 +21,6 @@ IsOwn left w c = (t : Term) → c.term ≡ Some t → Contains (cond left w.left
 -- the items have pages, and cover each option that was passed; those with a term are options of the whole
 pub record AreSubstitutes (gs : List Game) (left : Bool) (w : Whole) (o : Substitutes) : Type 0 where
   pub pages : ArePages gs (pages_of o.items.items)
-  pub passed : (page : ℕ) → was_passed o page ≡ true
+  pub passed : (page : ℕ) → WasPassed o page
       → IsPage gs page × Covered left (whole_game gs w) (games_of gs (pages_of o.items.items)) (game_of gs page)
   pub own : All (IsOwn left w) o.items.items

@@ -1,12 +1,11 @@
--- What a profile says of a game, and an outline of a list of options.
-use Rattle.std.specs.Prelude.{◌≡◌, ◌≤◌, ◌^◌, Bool, true, false, cond, List, length}
+-- What a profile says of a game.
+use Rattle.std.specs.Prelude.{◌≡◌, ◌<◌, ◌^◌, Bool, true, false, cond}
 use Rattle.cg_dyadic.specs.declared.cut.Cut.{Cut}
-use Rattle.cg_form.specs.Cut.{AnyNumber, CutIs, CutOf}
-use Rattle.cg_form.specs.Depth.{deepest, depth_of}
+use Rattle.cg_form.specs.Cut.{AnyNumber, CutIs}
+use Rattle.cg_form.specs.Depth.{depth_of}
 use Rattle.cg_form.specs.Game.{Game}
-use Rattle.cg_nodes.specs.Games.{IsInRange}
+use Rattle.cg_form.specs.Range.{IsInRange}
 use Rattle.cg_book.specs.Costs.{cost_of}
-use Rattle.cg_book.specs.declared.profile.Outline.{Outline}
 use Rattle.cg_book.specs.declared.profile.Profile.{Profile}
 
 -- the side's own of two cuts
@@ -22,13 +21,6 @@ pub record IsProfile (g : Game) (p : Profile) : Type 0 where
   pub cuts : HasCuts g p
   pub depth : p.depth ≡ depth_of g
   pub cost : p.cost ≡ cost_of g
-  pub small : p.cost ≤ 2 ^ 34
+  pub small : p.cost < 2 ^ 63
   -- a number is in range
   pub in_range : IsInRange g
-
-pub record IsOutline (s : Bool) (gs : List Game) (o : Outline) : Type 0 where
-  -- the numbers that the side sees as no better than some game of the list
-  pub cut : CutOf AnyNumber s o.cut gs
-  pub deepest : o.deepest ≡ deepest gs
-  pub count : o.count ≡ length gs
-  pub few : o.count ≤ 2 ^ 32

@@ -2,8 +2,7 @@
 //!
 //! An option that is reversible through a number is replaced by that number itself: the number is at least as good as what
 //! the bypass would bring in, and adds nothing, since another option is at least as good as the number. So no number is
-//! counted down. Each option is bypassed once, however many ways lead to it; only the own options of the whole, where they are
-//! few, may be met a second time.
+//! counted down. Each option is bypassed once, however many ways lead to it.
 //!
 //! No two of the own options of the whole are comparable: those that stay count as options that come from one term. What a bypass
 //! brings in has none.
@@ -21,11 +20,11 @@ ghost use Rattle.cg_book.specs.Wholes.{AreVerdicts, WholeHolds, whole_game};
 use crate::candidate::{Candidate, Candidates};
 use crate::pages::{Pages, Read};
 use crate::recent::Recent;
-use crate::substitutes::{FEW, Substitutes};
+use crate::substitutes::Substitutes;
 use crate::terms::Term;
 use crate::verdicts::Verdicts;
 use crate::whole::{Whole, chosen, first_at_most};
-use std::alloc::{AllocError, Global};
+use std::alloc::AllocError;
 
 /// The list with what stands in the place of an option that is reversible through this answer.
 #[cycle(bypass)]
@@ -164,41 +163,8 @@ fn bypass_list(
     Ok(())
 }
 
-/// The list with what stands in the place of one of the player's own options of the whole. Where these are few, it is neither
-/// looked for among those that were passed nor kept with them.
-fn bypass_own(
-    pages: &Pages,
-    answers: &mut Recent,
-    whole: &Whole,
-    verdicts: &mut Verdicts,
-    left: bool,
-    option: &Candidate,
-    out: &mut Substitutes,
-) -> Result<(), AllocError>
-    requires whole { WholeHolds pages.now whole.now }
-    requires verdicts { AreVerdicts pages.now whole.now verdicts.old }
-    requires option { IsPage pages.now option.now.page }
-    requires own { IsOwn left whole.now option.now }
-    requires less { ¬ AtMost left (whole_game pages.now whole.now) (game_of pages.now option.now.page) }
-    requires out { AreSubstitutes pages.now left whole.now out.old }
-    requires right { AreRight pages.now answers.old }
-    ensures out { IfOk result (λ _. AreSubstitutes pages.now left whole.now out.new) }
-    ensures grown { IfOk result (λ _. Grown left (whole_game pages.now whole.now)
-        (games_of pages.now (pages_of out.old.items.items)) (games_of pages.now (pages_of out.new.items.items))) }
-    ensures covered { IfOk result (λ _. Covered left (whole_game pages.now whole.now)
-        (games_of pages.now (pages_of out.new.items.items)) (game_of pages.now option.now.page)) }
-    ensures verdicts { AreVerdicts pages.now whole.now verdicts.new }
-    ensures right { AreRight pages.now answers.new }
-{
-    if whole.own(left).len() <= FEW {
-        return bypass(pages, answers, whole, verdicts, left, option, out);
-    }
-    bypass_once(pages, answers, whole, verdicts, left, option, out)
-}
-
 /// What stands in the places of the player's own options of the whole.
 pub(crate) fn candidates(
-    alloc: Global,
     pages: &Pages,
     answers: &mut Recent,
     whole: &Whole,
@@ -215,13 +181,13 @@ pub(crate) fn candidates(
     ensures verdicts { AreVerdicts pages.now whole.now verdicts.new }
     ensures right { AreRight pages.now answers.new }
 {
-    let mut all = Substitutes::new(alloc);
+    let mut all = Substitutes::new(answers.alloc());
     for own in whole.own(left) {
         let option = Candidate {
             page: *own,
             term: Some(Term::First),
         };
-        bypass_own(pages, answers, whole, verdicts, left, &option, &mut all)?;
+        bypass_once(pages, answers, whole, verdicts, left, &option, &mut all)?;
     }
     Ok(all.into_items())
 }

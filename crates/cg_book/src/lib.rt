@@ -5,7 +5,6 @@ mod best;
 mod bypass;
 mod candidate;
 mod keys;
-mod light;
 mod order;
 mod outlining;
 mod owning;
@@ -28,7 +27,7 @@ mod wide;
 
 pub use order::at_most;
 pub use pages::{Pages, Read};
-pub use profile::{Outline, Profile};
+pub use profile::Profile;
 pub use recent::Recent;
 pub use reduce::Form;
 pub use settling::{NewForm, Settled, profile_of_lists, settle};

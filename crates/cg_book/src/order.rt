@@ -10,7 +10,6 @@ ghost use Rattle.cg_form.specs.Side.{at_most as at_most_for};
 ghost use Rattle.cg_book.specs.Pages.{ArePages, IsPage, game_of, games_of};
 ghost use Rattle.cg_book.specs.Recents.{AreRight};
 
-use crate::light::compared_light;
 use crate::pages::{Pages, Read};
 use crate::recent::Recent;
 use crate::told::told_for;
@@ -19,7 +18,7 @@ use std::alloc::AllocError;
 /// Whether the player has no option in the list that is as good as x; with `left` the player is Left, and else Right with
 /// the order turned.
 #[cycle(found)]
-fn none_as_good(
+pub(crate) fn none_as_good(
     pages: &Pages,
     answers: &mut Recent,
     left: bool,
@@ -79,7 +78,7 @@ fn found(pages: &Pages, answers: &mut Recent, a: u32, b: u32) -> Result<bool, Al
     ensures right { AreRight pages.now answers.new }
 {
     if pages.is_light(a) && pages.is_light(b) {
-        return Ok(compared_light(pages, a, b));
+        return compared(pages, answers, a, b);
     }
     if let Some(answer) = answers.recall(a, b) {
         return Ok(answer);

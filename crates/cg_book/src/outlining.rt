@@ -1,20 +1,21 @@
-//! Outlines of lists of pages.
+//! The profile of a game of two lists of pages.
 //!
 //! The cut of a list is the one that reaches furthest among the cuts of its games. Which one that is the keys of the cuts say.
-ghost use Rattle.std.specs.Prelude.{◌≡◌, false, IfOk, IsTrue};
-ghost use Rattle.cg_form.specs.Cut.{AnyNumber, CutOf};
+ghost use Rattle.std.specs.Prelude.{◌≡◌, ◌+◌, ◌<◌, ◌≤◌, ◌^◌, false, length, true, IsSome, IsTrue};
+ghost use Rattle.cg_form.specs.Cut.{AnyNumber, CutIs, CutOf};
 ghost use Rattle.cg_form.specs.Depth.{deepest};
-ghost use Rattle.cg_form.specs.Game.{Game};
+ghost use Rattle.cg_form.specs.Game.{Game, node};
+ghost use Rattle.cg_form.specs.Simple.{NoNumber};
 ghost use Rattle.cg_book.specs.Keys.{HasKeys};
 ghost use Rattle.cg_book.specs.Pages.{ArePages, games_of};
-ghost use Rattle.cg_book.specs.Profiles.{IsOutline};
+ghost use Rattle.cg_book.specs.Profiles.{IsProfile};
 ghost use Rattle.cg_book.specs.Told.{NoFurther};
 
 use crate::keys::Keys;
 use crate::pages::Pages;
-use crate::profile::{MOST, Outline};
+use crate::profile::Profile;
 use cg_dyadic::cut::Cut;
-use std::alloc::AllocError;
+use cg_form::cuts::turned;
 
 /// Whether more numbers are no better for the player than the first game than are no better than the second.
 #[inline]
@@ -29,7 +30,7 @@ fn reaches_past(left: bool, a: &Keys, b: &Keys) -> bool
 }
 
 /// The numbers that are no better for the player than some option, where there is an option.
-fn cut_of(pages: &Pages, left: bool, options: &[u32]) -> Option<Cut>
+pub(crate) fn cut_of(pages: &Pages, left: bool, options: &[u32]) -> Option<Cut>
     requires { ArePages pages.now options.now }
     ensures { CutOf AnyNumber left result (games_of pages.now options.now) }
 {
@@ -43,9 +44,10 @@ fn cut_of(pages: &Pages, left: bool, options: &[u32]) -> Option<Cut>
 }
 
 /// The greatest depth of an option, and 0 where there is none.
-pub(crate) fn deepest_of(pages: &Pages, options: &[u32]) -> u64
+fn deepest_of(pages: &Pages, options: &[u32]) -> u64
     requires { ArePages pages.now options.now }
-    ensures { result ≡ deepest (games_of pages.now options.now) }
+    ensures deepest { result ≡ deepest (games_of pages.now options.now) }
+    ensures small { result ≤ 2 ^ 32 }
 {
     let mut greatest = 0;
     for option in options {
@@ -54,18 +56,57 @@ pub(crate) fn deepest_of(pages: &Pages, options: &[u32]) -> u64
     greatest
 }
 
-/// The outline of the player's options, who is Left with `left`, and else Right.
-pub(crate) fn outline_of(pages: &Pages, left: bool, options: &[u32]) -> Result<Outline, AllocError>
-    requires { ArePages pages.now options.now }
-    ensures { IfOk result (λ o. IsOutline left (games_of pages.now options.now) o) }
+/// The cost of the item of a game with these lists of options.
+fn cost_of_lists(lefts: &[u32], rights: &[u32]) -> u64
+    ensures cost { result ≡ 1 + length lefts.now + length rights.now }
+    ensures small { result < 2 ^ 63 }
 {
-    let count = options.len() as u64;
-    if count > MOST {
-        return Err(AllocError);
+    1 + lefts.len() as u64 + rights.len() as u64
+}
+
+/// The profile of the game with these options, which makes these cuts.
+pub(crate) fn profile_with(
+    pages: &Pages,
+    low: Cut,
+    high: Cut,
+    lefts: &[u32],
+    rights: &[u32],
+) -> Profile
+    requires lefts { ArePages pages.now lefts.now }
+    requires rights { ArePages pages.now rights.now }
+    requires low { CutIs AnyNumber true low (node (games_of pages.now lefts.now) (games_of pages.now rights.now)) }
+    requires high { CutIs AnyNumber false high (node (games_of pages.now lefts.now) (games_of pages.now rights.now)) }
+    ensures { IsProfile (node (games_of pages.now lefts.now) (games_of pages.now rights.now)) result }
+{
+    let deepest = deepest_of(pages, lefts).max(deepest_of(pages, rights));
+    Profile {
+        low,
+        high,
+        depth: deepest + 1,
+        cost: cost_of_lists(lefts, rights),
     }
-    Ok(Outline {
-        cut: cut_of(pages, left, options),
-        deepest: deepest_of(pages, options),
-        count,
-    })
+}
+
+/// The profile of the game with these options, which equals no number, from the cuts of its two lists. Neither list is empty.
+pub(crate) fn profile_between(
+    pages: &Pages,
+    low: Option<Cut>,
+    high: Option<Cut>,
+    lefts: &[u32],
+    rights: &[u32],
+) -> Profile
+    requires lefts { ArePages pages.now lefts.now }
+    requires rights { ArePages pages.now rights.now }
+    requires no_number { NoNumber (node (games_of pages.now lefts.now) (games_of pages.now rights.now)) }
+    requires some_low { IsSome low }
+    requires some_high { IsSome high }
+    requires low { CutOf AnyNumber true low (games_of pages.now lefts.now) }
+    requires high { CutOf AnyNumber false high (games_of pages.now rights.now) }
+    ensures { IsProfile (node (games_of pages.now lefts.now) (games_of pages.now rights.now)) result }
+{
+    let Some(lower) = low else { unreachable!() };
+    let Some(upper) = high else { unreachable!() };
+    let above = turned(true, &lower, &upper);
+    let below = turned(false, &lower, &upper);
+    profile_with(pages, above, below, lefts, rights)
 }

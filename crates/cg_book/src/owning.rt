@@ -1,17 +1,15 @@
 //! The best of the options of a game that may be a sum of two terms.
 ghost use Rattle.std.specs.Prelude.{◌≡◌, ◌<◌, ℕ, [], List, All, IfOk, cond, length, slice_index_or};
-ghost use Rattle.cg_book.specs.declared.terms.Term.{Term as Declared};
-ghost use Rattle.cg_book.specs.Candidates.{AreApartByTerm, ComesFrom, of_term, pages_of};
+ghost use Rattle.cg_book.specs.Candidates.{AreApartByTerm, ComesFrom, pages_of};
 ghost use Rattle.cg_book.specs.Pages.{ArePages, games_of};
 ghost use Rattle.cg_book.specs.Recents.{AreRight};
-ghost use Rattle.cg_book.specs.Terms.{NoneComparable};
 ghost use Rattle.cg_book.specs.Tops.{Tops};
 
-use crate::best::{put_pages, put_tops, with_one};
-use crate::candidate::{Candidate, Candidates};
+use crate::best::put_tops;
+use crate::candidate::{Candidate, Candidates, push_candidate};
 use crate::pages::Pages;
 use crate::recent::Recent;
-use crate::substitutes::{FEW, Options};
+use crate::substitutes::Options;
 use crate::terms::{FirstTerm, Term};
 use crate::whole::chosen;
 use smallvec::SmallVec;
@@ -53,40 +51,14 @@ fn with_terms(
 {
     let mut all = SmallVec::new(alloc);
     for (place, option) in options.iter().enumerate() {
-        all.push(with_term(first_term, left, place, *option))?;
+        let x = with_term(first_term, left, place, *option);
+        push_candidate(&mut all, &x)?;
     }
     Ok(all)
 }
 
-/// Puts the best of few options into the list, which is empty, in no order: one after the other.
-fn put_tops_of_few(
-    alloc: Global,
-    pages: &Pages,
-    answers: &mut Recent,
-    left: bool,
-    options: &[u32],
-    first_term: Option<FirstTerm>,
-    list: &mut Options,
-) -> Result<(), AllocError>
-    requires options { ArePages pages.now options.now }
-    requires terms { (t : Declared) → NoneComparable (games_of pages.now (of_term first_term left options.now t)) }
-    requires right { AreRight pages.now answers.old }
-    requires empty { list.old.items ≡ [] }
-    ensures pages { IfOk result (λ _. ArePages pages.now list.new.items) }
-    ensures tops { IfOk result (λ _. Tops left (games_of pages.now options.now) (games_of pages.now list.new.items)) }
-    ensures right { AreRight pages.now answers.new }
-{
-    let mut best = SmallVec::new(alloc);
-    for (place, option) in options.iter().enumerate() {
-        let x = with_term(first_term, left, place, *option);
-        with_one(alloc, pages, answers, left, &mut best, &x)?;
-    }
-    put_pages(best.as_slice(), list)
-}
-
 /// Puts the best of the player's own options of a game with these options into the list, which is empty, in no order.
 pub(crate) fn put_own_tops(
-    alloc: Global,
     pages: &Pages,
     answers: &mut Recent,
     left: bool,
@@ -105,9 +77,6 @@ pub(crate) fn put_own_tops(
     ensures right { AreRight pages.now answers.new }
 {
     let options = chosen(left, lefts, rights);
-    if options.len() <= FEW {
-        return put_tops_of_few(alloc, pages, answers, left, options, first_term, list);
-    }
-    let own = with_terms(alloc, left, options, first_term)?;
-    put_tops(alloc, pages, answers, left, own.as_slice(), list)
+    let own = with_terms(answers.alloc(), left, options, first_term)?;
+    put_tops(pages, answers, left, own.as_slice(), list)
 }

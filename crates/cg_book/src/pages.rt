@@ -1,5 +1,5 @@
 //! The pages of a book.
-ghost use Rattle.std.specs.Prelude.{◌≡◌, ◌≤◌, ◌++◌, ◌∷◌, [], length, is_ok, if◌then◌else◌, IfOk, OnErr};
+ghost use Rattle.std.specs.Prelude.{◌≡◌, ◌≤◌, ◌^◌, ◌++◌, ◌∷◌, [], length, is_ok, if◌then◌else◌, IfOk, OnErr};
 ghost use Rattle.std.specs.List.{slice_range};
 ghost use Rattle.cg_form.specs.Canonical.{Canonical};
 ghost use Rattle.cg_form.specs.Game.{node, number};
@@ -19,11 +19,11 @@ pub(crate) struct Page {
     /// Where the cuts of its profile lie.
     keys: Keys,
     /// Where its Left options begin among the options of all pages.
-    lefts: u32,
+    lefts: usize,
     /// Where its Right options begin.
-    rights: u32,
+    rights: usize,
     /// Where its Right options end.
-    end: u32,
+    end: usize,
     /// Whether it is a number, which is then where the cuts of its profile are.
     is_number: bool,
     /// How many positions it has, each counted once for each way to it, or some number beyond `LIGHT`.
@@ -49,9 +49,6 @@ pub struct Pages {
 
 /// The greatest number of pages.
 const MOST: usize = 4_294_967_296;
-
-/// The greatest number of options of all pages.
-const MOST_OPTIONS: usize = 4_294_967_295;
 
 /// The greatest weight of a light game. Two light games are compared in a few steps.
 const LIGHT: u8 = 8;
@@ -135,15 +132,15 @@ impl Pages {
     {
         let count = self.pages.len();
         let end = self.options.len();
-        if count >= MOST || end > MOST_OPTIONS {
+        if count >= MOST {
             return Err(AllocError);
         }
         let profile = Profile::number(x);
         let page = Page {
             keys: Keys::of(&profile),
-            lefts: end as u32,
-            rights: end as u32,
-            end: end as u32,
+            lefts: end,
+            rights: end,
+            end,
             is_number: true,
             weight: 1,
         };
@@ -172,7 +169,7 @@ impl Pages {
         let first = self.options.len();
         let middle = first + lefts.len();
         let end = middle + rights.len();
-        if count >= MOST || end > MOST_OPTIONS {
+        if count >= MOST {
             return Err(AllocError);
         }
         let weight = weight_with(&self.pages, rights, weight_with(&self.pages, lefts, 1));
@@ -180,9 +177,9 @@ impl Pages {
         self.options.extend_from_slice(rights)?;
         let page = Page {
             keys: Keys::of(profile),
-            lefts: first as u32,
-            rights: middle as u32,
-            end: end as u32,
+            lefts: first,
+            rights: middle,
+            end,
             is_number: false,
             weight,
         };
@@ -216,16 +213,16 @@ impl Pages {
         if found.is_number {
             return Read::Number(self.profiles[page as usize].low.at);
         }
-        let middle = found.rights as usize;
-        let lefts = part(&self.options, found.lefts as usize, middle);
-        let rights = part(&self.options, middle, found.end as usize);
+        let lefts = part(&self.options, found.lefts, found.rights);
+        let rights = part(&self.options, found.rights, found.end);
         Read::Game(lefts, rights)
     }
 
     /// What is known of the game of the page besides its options.
     pub fn profile(&self, page: u32) -> &Profile
         requires { IsPage self.now page }
-        ensures { IsProfile (game_of self.now page) result.now }
+        ensures profile { IsProfile (game_of self.now page) result.now }
+        ensures small { result.now.depth ≤ 2 ^ 32 }
     {
         &self.profiles[page as usize]
     }

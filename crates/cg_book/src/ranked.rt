@@ -6,24 +6,18 @@ ghost use Rattle.std.specs.Prelude.{IfOk};
 ghost use Rattle.std.specs.List.Sorted.{IsPermutation};
 
 use crate::candidate::Candidate;
+use crate::keys::Keys;
 use crate::pages::Pages;
-use crate::profile::Profile;
-use cg_dyadic::cut::Cut;
 use std::alloc::{AllocError, Global};
 use std::cmp::Ordering;
 
-/// Which of two cuts has fewer numbers; the player sees them.
-fn compare_cuts(left: bool, a: &Cut, b: &Cut) -> Ordering {
-    let values = a.at.compare(b.at);
-    let places = if left { values } else { values.reverse() };
-    places.then(a.closed.cmp(&b.closed))
-}
-
 /// Which of two games comes first for the player: the one with more numbers that are no better, and where these are the same,
 /// the one with fewer numbers that are as good.
-fn compare_profiles(left: bool, a: &Profile, b: &Profile) -> Ordering {
-    let no_better = compare_cuts(left, &b.cut(left), &a.cut(left));
-    no_better.then(compare_cuts(!left, &a.cut(!left), &b.cut(!left)))
+fn compare_keys(left: bool, a: &Keys, b: &Keys) -> Ordering {
+    if left {
+        return b.low.cmp(&a.low).then(b.high.cmp(&a.high));
+    }
+    a.high.cmp(&b.high).then(a.low.cmp(&b.low))
 }
 
 /// Which of the games of two pages comes first for the player, where both pages are there.
@@ -32,7 +26,7 @@ fn compare_reach(pages: &Pages, left: bool, a: u32, b: u32) -> Ordering {
     if a as usize >= count || b as usize >= count {
         return Ordering::Equal;
     }
-    compare_profiles(left, pages.profile(a), pages.profile(b))
+    compare_keys(left, pages.keys(a), pages.keys(b))
 }
 
 /// The items, those first that go furthest for the player.

@@ -129,6 +129,11 @@ impl Recent {
         }
     }
 
+    /// What gives them memory.
+    pub(crate) fn alloc(&self) -> Global {
+        self.alloc
+    }
+
     /// Whether the first game is at most the second, if that is kept.
     pub(crate) fn recall(&self, low: u32, high: u32) -> Option<bool>
         ensures { IfSome result (λ yes. IsKept self.now (record { low = low; high = high; at_most = yes })) }

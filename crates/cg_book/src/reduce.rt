@@ -4,9 +4,9 @@
 //! others, or be dominated; where no option is reversible, the options are the best already.
 ghost use Rattle.std.specs.Prelude.{◌≡◌, IfOk, [], cond, false, true};
 ghost use Rattle.cg_form.specs.Bypass.{Replaces};
+ghost use Rattle.cg_form.specs.Canonical.{IsCanonicalForm};
 ghost use Rattle.cg_form.specs.Game.{node};
 ghost use Rattle.cg_form.specs.Simple.{NoNumber};
-ghost use Rattle.cg_nodes.specs.Can.{can};
 ghost use Rattle.cg_book.specs.Candidates.{AreApartByTerm};
 ghost use Rattle.cg_book.specs.Pages.{ArePages, games_of};
 ghost use Rattle.cg_book.specs.Profiles.{HasCuts};
@@ -55,7 +55,6 @@ impl Form {
 /// Puts what stands in the place of the player's own options of the whole in its canonical form into the list, which is empty.
 #[inline(always)]
 fn put_replaced(
-    alloc: Global,
     pages: &Pages,
     answers: &mut Recent,
     whole: &Whole,
@@ -77,16 +76,15 @@ fn put_replaced(
     if all_stay(pages, answers, whole, verdicts, left)? {
         return put_in_order(pages, whole.own(left), list);
     }
-    let all = candidates(alloc, pages, answers, whole, verdicts, left)?;
-    let mut best = SmallVec::new(alloc);
-    put_tops(alloc, pages, answers, left, all.as_slice(), &mut best)?;
+    let all = candidates(pages, answers, whole, verdicts, left)?;
+    let mut best = SmallVec::new(answers.alloc());
+    put_tops(pages, answers, left, all.as_slice(), &mut best)?;
     put_in_order(pages, best.as_slice(), list)
 }
 
 /// Puts the options of the canonical form of the whole, of whose own options no two on one side are comparable, into the form, which
 /// has none.
 fn put_bypassed(
-    alloc: Global,
     pages: &Pages,
     answers: &mut Recent,
     whole: &Whole,
@@ -100,14 +98,14 @@ fn put_bypassed(
     requires no_rights { form.old.rights.items ≡ [] }
     ensures lefts { IfOk result (λ _. ArePages pages.now form.new.lefts.items) }
     ensures rights { IfOk result (λ _. ArePages pages.now form.new.rights.items) }
-    ensures form { IfOk result (λ _. can (whole_game pages.now whole.now)
-        ≡ node (games_of pages.now form.new.lefts.items) (games_of pages.now form.new.rights.items)) }
+    ensures form { IfOk result (λ _. IsCanonicalForm (whole_game pages.now whole.now)
+        (node (games_of pages.now form.new.lefts.items) (games_of pages.now form.new.rights.items))) }
     ensures right { AreRight pages.now answers.new }
 {
-    let mut verdicts = Verdicts::new(alloc);
+    let mut verdicts = Verdicts::new(answers.alloc());
     let known = &mut verdicts;
-    put_replaced(alloc, pages, answers, whole, known, true, &mut form.lefts)?;
-    put_replaced(alloc, pages, answers, whole, known, false, &mut form.rights)?;
+    put_replaced(pages, answers, whole, known, true, &mut form.lefts)?;
+    put_replaced(pages, answers, whole, known, false, &mut form.rights)?;
     Ok(())
 }
 
@@ -115,7 +113,6 @@ fn put_bypassed(
 /// numbers as the profile, into the form, which has none. Where the game is a sum of two terms, `first_term` says which options come
 /// from the first. The only error is want of memory. (Siegel, Combinatorial Game Theory (2013), II.2.)
 pub(crate) fn put_reduced(
-    alloc: Global,
     pages: &Pages,
     answers: &mut Recent,
     lefts: &[u32],
@@ -134,20 +131,20 @@ pub(crate) fn put_reduced(
     requires no_rights { form.old.rights.items ≡ [] }
     ensures lefts { IfOk result (λ _. ArePages pages.now form.new.lefts.items) }
     ensures rights { IfOk result (λ _. ArePages pages.now form.new.rights.items) }
-    ensures form { IfOk result (λ _. can (node (games_of pages.now lefts.now) (games_of pages.now rights.now))
-        ≡ node (games_of pages.now form.new.lefts.items) (games_of pages.now form.new.rights.items)) }
+    ensures form { IfOk result (λ _. IsCanonicalForm (node (games_of pages.now lefts.now) (games_of pages.now rights.now))
+        (node (games_of pages.now form.new.lefts.items) (games_of pages.now form.new.rights.items))) }
     ensures right { AreRight pages.now answers.new }
 {
-    let mut best = Form::new(alloc);
+    let mut best = Form::new(answers.alloc());
     let own = &mut best.lefts;
-    put_own_tops(alloc, pages, answers, true, lefts, rights, first_term, own)?;
+    put_own_tops(pages, answers, true, lefts, rights, first_term, own)?;
     let own = &mut best.rights;
-    put_own_tops(alloc, pages, answers, false, lefts, rights, first_term, own)?;
+    put_own_tops(pages, answers, false, lefts, rights, first_term, own)?;
     let whole = Whole {
         lefts: best.lefts.as_slice(),
         rights: best.rights.as_slice(),
         profile: *profile,
         keys: Keys::of(profile),
     };
-    put_bypassed(alloc, pages, answers, &whole, form)
+    put_bypassed(pages, answers, &whole, form)
 }

@@ -1,8 +1,8 @@
 //! What the game of two lists of pages is: a number, or the canonical form of a game that equals none.
 ghost use Rattle.std.specs.Prelude.{IfOk, ◌≡◌};
-ghost use Rattle.cg_form.specs.Game.{node};
+ghost use Rattle.cg_form.specs.Canonical.{IsCanonicalForm};
+ghost use Rattle.cg_form.specs.Game.{Game, node};
 ghost use Rattle.cg_form.specs.Simple.{NoNumber};
-ghost use Rattle.cg_nodes.specs.Can.{can};
 ghost use Rattle.cg_book.specs.Candidates.{AreApartByTerm};
 ghost use Rattle.cg_book.specs.Pages.{ArePages, games_of};
 ghost use Rattle.cg_book.specs.Profiles.{HasCuts, IsProfile};
@@ -10,16 +10,16 @@ ghost use Rattle.cg_book.specs.Recents.{AreRight};
 ghost use Rattle.cg_book.specs.Settled.{IsNewForm, IsSettled};
 ghost use Rattle.cg_book.specs.Terms.{ApartByTerm};
 
-use crate::outlining::{deepest_of, outline_of};
+use crate::outlining::{cut_of, profile_between, profile_with};
 use crate::pages::Pages;
-use crate::profile::{Profile, one_more};
+use crate::profile::Profile;
 use crate::recent::Recent;
 use crate::reduce::{Form, put_reduced};
 use crate::terms::FirstTerm;
 use cg_dyadic::Dyadic;
 use cg_dyadic::cut::Found;
 use cg_dyadic::search::simplest_in;
-use std::alloc::{AllocError, Global};
+use std::alloc::AllocError;
 
 /// A canonical form that equals no number, with its profile.
 #[derive(Drop)]
@@ -41,51 +41,21 @@ pub enum Settled {
     Game(NewForm),
 }
 
-/// The profile of the game with these options, which equals no number. The only error is want of memory.
-pub fn profile_of_lists(pages: &Pages, lefts: &[u32], rights: &[u32]) -> Result<Profile, AllocError>
+/// The profile of the game with these options, which equals no number.
+pub fn profile_of_lists(pages: &Pages, lefts: &[u32], rights: &[u32]) -> Profile
     requires lefts { ArePages pages.now lefts.now }
     requires rights { ArePages pages.now rights.now }
     requires no_number { NoNumber (node (games_of pages.now lefts.now) (games_of pages.now rights.now)) }
-    ensures { IfOk result (λ p. IsProfile (node (games_of pages.now lefts.now) (games_of pages.now rights.now)) p) }
+    ensures { IsProfile (node (games_of pages.now lefts.now) (games_of pages.now rights.now)) result }
 {
-    // Not by `?`, for which rattle makes no plan here.
-    match outline_of(pages, true, lefts) {
-        Ok(low) => match outline_of(pages, false, rights) {
-            Ok(high) => Profile::between(&low, &high),
-            Err(fault) => Err(fault),
-        },
-        Err(fault) => Err(fault),
-    }
-}
-
-/// The profile of the game with these options that cuts the numbers as the profile says. The only error is want of memory.
-fn profile_with_cuts(
-    pages: &Pages,
-    cuts: &Profile,
-    lefts: &[u32],
-    rights: &[u32],
-) -> Result<Profile, AllocError>
-    requires lefts { ArePages pages.now lefts.now }
-    requires rights { ArePages pages.now rights.now }
-    requires cuts { HasCuts (node (games_of pages.now lefts.now) (games_of pages.now rights.now)) cuts.now }
-    ensures { IfOk result (λ p. IsProfile (node (games_of pages.now lefts.now) (games_of pages.now rights.now)) p) }
-{
-    let deepest = deepest_of(pages, lefts).max(deepest_of(pages, rights));
-    let depth = one_more(deepest)?;
-    let first = one_more(lefts.len() as u64)?;
-    let second = one_more(rights.len() as u64)?;
-    Ok(Profile {
-        low: cuts.low,
-        high: cuts.high,
-        depth,
-        cost: first + second - 1,
-    })
+    let low = cut_of(pages, true, lefts);
+    let high = cut_of(pages, false, rights);
+    profile_between(pages, low, high, lefts, rights)
 }
 
 /// The canonical form of the game with these options, which equals no number, and has this profile. Equal games cut the numbers
 /// alike, so the form has the cuts of this profile too.
 fn form_of(
-    alloc: Global,
     pages: &Pages,
     answers: &mut Recent,
     lefts: &[u32],
@@ -99,15 +69,15 @@ fn form_of(
     requires cuts { HasCuts (node (games_of pages.now lefts.now) (games_of pages.now rights.now)) profile.now }
     requires terms { AreApartByTerm pages.now first_term lefts.now rights.now }
     requires right { AreRight pages.now answers.old }
-    ensures form { IfOk result (λ r. IsNewForm pages.now (can (node (games_of pages.now lefts.now) (games_of pages.now rights.now))) r) }
+    ensures form { (k : Game) → IsCanonicalForm (node (games_of pages.now lefts.now) (games_of pages.now rights.now)) k
+        → IfOk result (IsNewForm pages.now k) }
     ensures right { AreRight pages.now answers.new }
 {
     let mut new = NewForm {
-        form: Form::new(alloc),
+        form: Form::new(answers.alloc()),
         profile: *profile,
     };
     put_reduced(
-        alloc,
         pages,
         answers,
         lefts,
@@ -116,12 +86,13 @@ fn form_of(
         first_term,
         &mut new.form,
     )?;
-    new.profile = profile_with_cuts(
+    new.profile = profile_with(
         pages,
-        profile,
+        profile.low,
+        profile.high,
         new.form.lefts.as_slice(),
         new.form.rights.as_slice(),
-    )?;
+    );
     Ok(new)
 }
 
@@ -129,7 +100,6 @@ fn form_of(
 /// one: on each side these come first. The only error is want of memory. (Siegel, Combinatorial Game Theory (2013), II.2 and
 /// II.3.)
 pub fn settle(
-    alloc: Global,
     pages: &Pages,
     answers: &mut Recent,
     lefts: &[u32],
@@ -140,17 +110,18 @@ pub fn settle(
     requires rights { ArePages pages.now rights.now }
     requires terms { ApartByTerm first_term (games_of pages.now lefts.now) (games_of pages.now rights.now) }
     requires right { AreRight pages.now answers.old }
-    ensures settled { IfOk result (λ r. IsSettled pages.now (can (node (games_of pages.now lefts.now) (games_of pages.now rights.now))) r) }
+    ensures settled { (k : Game) → IsCanonicalForm (node (games_of pages.now lefts.now) (games_of pages.now rights.now)) k
+        → IfOk result (IsSettled pages.now k) }
     ensures right { AreRight pages.now answers.new }
 {
-    let low = outline_of(pages, true, lefts)?;
-    let high = outline_of(pages, false, rights)?;
-    match simplest_in(low.numbers(), high.numbers()) {
+    let low = cut_of(pages, true, lefts);
+    let high = cut_of(pages, false, rights);
+    match simplest_in(low, high) {
         Found::Number(x) => Ok(Settled::Number(x)),
         Found::Outside(_) => Ok(Settled::Outside),
         Found::Nothing => {
-            let profile = Profile::between(&low, &high)?;
-            let new = form_of(alloc, pages, answers, lefts, rights, &profile, first_term)?;
+            let profile = profile_of_lists(pages, lefts, rights);
+            let new = form_of(pages, answers, lefts, rights, &profile, first_term)?;
             Ok(Settled::Game(new))
         }
     }

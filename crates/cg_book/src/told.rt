@@ -3,26 +3,13 @@
 //! A game cuts the numbers into those that are at most it, those that are at least it, and the others. Where some number is
 //! at least the first game and at most the second, the first is at most the second. Where some number is at most the first
 //! and not at most the second, or at least the second and not at least the first, it isn't.
-ghost use Rattle.std.specs.Prelude.{◌≡◌, IfSome, IsTrue};
+ghost use Rattle.std.specs.Prelude.{◌≡◌, IfSome};
 ghost use Rattle.cg_form.specs.Game.{Game};
 ghost use Rattle.cg_form.specs.Order.{le};
 ghost use Rattle.cg_form.specs.Side.{at_most};
 ghost use Rattle.cg_book.specs.Keys.{HasKeys};
-ghost use Rattle.cg_book.specs.Told.{GoesPast};
 
 use crate::keys::Keys;
-use cg_dyadic::cut::Cut;
-use cg_form::cuts::in_cut;
-
-/// Whether some number of the first cut isn't in the second.
-pub(crate) fn goes_past(left: bool, a: &Cut, b: &Cut) -> bool
-    ensures { IsTrue result → GoesPast left a.now b.now }
-{
-    if a.closed {
-        return !in_cut(left, b, a.at);
-    }
-    !in_cut(left, &Cut::closed(b.at), a.at)
-}
 
 /// Whether the first game is at most the second, where the numbers tell.
 #[inline]

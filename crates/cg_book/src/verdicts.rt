@@ -38,7 +38,8 @@ fn find(entries: &[Noted], page: u32) -> Option<bool>
 }
 
 impl ByPage {
-    fn new(alloc: Global) -> ByPage
+    /// No answers.
+    pub(crate) fn new(alloc: Global) -> ByPage
         ensures { (a : ℕ) → answer_for result a ≡ None }
     {
         ByPage {
@@ -47,7 +48,8 @@ impl ByPage {
         }
     }
 
-    fn recall(&self, a: u32) -> Option<bool>
+    /// The answer for the page, if there is one.
+    pub(crate) fn recall(&self, a: u32) -> Option<bool>
         ensures { result ≡ answer_for self.now a }
     {
         if let Some(answer) = find(self.few.as_slice(), a) {
@@ -59,7 +61,8 @@ impl ByPage {
         self.more.get(&a).copied()
     }
 
-    fn remember(&mut self, a: u32, answer: bool) -> Result<(), AllocError>
+    /// Keeps the answer for the page.
+    pub(crate) fn remember(&mut self, a: u32, answer: bool) -> Result<(), AllocError>
         ensures { (c : ℕ) (b : Bool) → answer_for self.new c ≡ Some b
             → (answer_for self.old c ≡ Some b) ⊎ ((c ≡ a) × (b ≡ answer)) }
     {

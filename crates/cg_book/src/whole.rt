@@ -8,7 +8,7 @@ ghost use Rattle.cg_book.specs.Recents.{AreRight};
 ghost use Rattle.cg_book.specs.Wholes.{AreVerdicts, WholeHolds, whole_game};
 
 use crate::keys::Keys;
-use crate::order::at_most;
+use crate::order::none_as_good;
 use crate::pages::{Pages, Read};
 use crate::profile::Profile;
 use crate::recent::Recent;
@@ -47,56 +47,6 @@ pub(crate) fn chosen<'a>(left: bool, lefts: &'a [u32], rights: &'a [u32]) -> &'a
     if left { lefts } else { rights }
 }
 
-/// Whether no option of the list is for the player at most as good as the game of the page.
-fn none_at_most(
-    pages: &Pages,
-    answers: &mut Recent,
-    left: bool,
-    list: &[u32],
-    page: u32,
-) -> Result<bool, AllocError>
-    requires list { ArePages pages.now list.now }
-    requires page { IsPage pages.now page }
-    requires right { AreRight pages.now answers.old }
-    ensures order { IfOk result (λ answer. answer
-        ≡ no_one (λ b. at_most_for left b (game_of pages.now page)) (games_of pages.now list.now)) }
-    ensures right { AreRight pages.now answers.new }
-{
-    for option in list {
-        if at_most(pages, answers, left, *option, page)? {
-            return Ok(false);
-        }
-    }
-    Ok(true)
-}
-
-/// Whether no option in the list is for the player at most as good as the whole.
-#[cycle(whole)]
-fn none_at_most_whole(
-    pages: &Pages,
-    answers: &mut Recent,
-    whole: &Whole,
-    verdicts: &mut Verdicts,
-    left: bool,
-    list: &[u32],
-) -> Result<bool, AllocError>
-    requires whole { WholeHolds pages.now whole.now }
-    requires list { ArePages pages.now list.now }
-    requires verdicts { AreVerdicts pages.now whole.now verdicts.old }
-    requires right { AreRight pages.now answers.old }
-    ensures order { IfOk result (λ answer. answer
-        ≡ no_one (λ a. at_most_for left a (whole_game pages.now whole.now)) (games_of pages.now list.now)) }
-    ensures verdicts { AreVerdicts pages.now whole.now verdicts.new }
-    ensures right { AreRight pages.now answers.new }
-{
-    for option in list {
-        if at_most_whole(pages, answers, whole, verdicts, left, *option)? {
-            return Ok(false);
-        }
-    }
-    Ok(true)
-}
-
 /// Whether the game of the page is for the player at most as good as the whole, from their options.
 #[cycle(whole)]
 fn compared_with_whole(
@@ -119,11 +69,14 @@ fn compared_with_whole(
     match pages.read(page) {
         Read::Number(x) => Ok(in_cut(left, &whole.profile.cut(left), x)),
         Read::Game(lefts, rights) => {
-            if !none_at_most(pages, answers, left, whole.own(!left), page)? {
+            if !none_as_good(pages, answers, !left, page, whole.own(!left))? {
                 return Ok(false);
             }
             let own = chosen(left, lefts, rights);
-            none_at_most_whole(pages, answers, whole, verdicts, !left, own)
+            match first_at_most(pages, answers, whole, verdicts, !left, own)? {
+                None => Ok(true),
+                Some(_) => Ok(false),
+            }
         }
     }
 }
@@ -160,6 +113,7 @@ fn at_most_whole(
 }
 
 /// The first option in the list that is for the player at most as good as the whole, if there is one.
+#[cycle(whole)]
 pub(crate) fn first_at_most(
     pages: &Pages,
     answers: &mut Recent,

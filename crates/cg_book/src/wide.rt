@@ -20,7 +20,7 @@ use crate::ranked::furthest_first;
 use crate::reach::Bounds;
 use crate::recent::Recent;
 use smallvec::SmallVec;
-use std::alloc::{AllocError, Global};
+use std::alloc::AllocError;
 
 /// The best of some candidates, and how far they go.
 #[derive(Drop)]
@@ -66,7 +66,7 @@ fn none_beats_bounded(
         ≡ no_one (at_most_for left (game_of pages.now x.now.page)) (games_of pages.now (pages_of items.now))) }
     ensures right { AreRight pages.now answers.new }
 {
-    if bounds.are_passed(left, pages.profile(x.page)) {
+    if bounds.are_passed(left, pages.keys(x.page)) {
         return Ok(true);
     }
     if last_beats(pages, answers, left, x, items)? {
@@ -77,7 +77,6 @@ fn none_beats_bounded(
 
 /// The items that are not at most x for the player.
 fn others_bounded(
-    alloc: Global,
     pages: &Pages,
     answers: &mut Recent,
     left: bool,
@@ -93,15 +92,14 @@ fn others_bounded(
     ensures among { IfOk result (λ r. AreAmong r.items items.items) }
     ensures right { AreRight pages.now answers.new }
 {
-    if bounds.are_passed(!left, pages.profile(x.page)) {
+    if bounds.are_passed(!left, pages.keys(x.page)) {
         return Ok(items);
     }
-    others(alloc, pages, answers, left, items.as_slice(), x)
+    others(pages, answers, left, items.as_slice(), x)
 }
 
 /// The best of some candidates and x, from the best of them.
 fn with_one_bounded(
-    alloc: Global,
     pages: &Pages,
     answers: &mut Recent,
     left: bool,
@@ -121,17 +119,16 @@ fn with_one_bounded(
     if !none_beats_bounded(pages, answers, left, x, items.as_slice(), &bounds)? {
         return Ok(Chosen { items, bounds });
     }
-    let mut all = others_bounded(alloc, pages, answers, left, items, x, &bounds)?;
+    let mut all = others_bounded(pages, answers, left, items, x, &bounds)?;
     all.push(*x)?;
     Ok(Chosen {
         items: all,
-        bounds: bounds.with(pages.profile(x.page)),
+        bounds: bounds.with(pages.keys(x.page)),
     })
 }
 
 /// The best of the items for the player, in no order: one after the other.
 fn tops_in_turn(
-    alloc: Global,
     pages: &Pages,
     answers: &mut Recent,
     left: bool,
@@ -144,11 +141,11 @@ fn tops_in_turn(
     ensures right { AreRight pages.now answers.new }
 {
     let mut best = Chosen {
-        items: SmallVec::new(alloc),
+        items: SmallVec::new(answers.alloc()),
         bounds: Bounds::none(),
     };
     for x in items {
-        best = with_one_bounded(alloc, pages, answers, left, best, x)?;
+        best = with_one_bounded(pages, answers, left, best, x)?;
     }
     let Chosen { items, bounds: _ } = best;
     Ok(items)
@@ -156,7 +153,6 @@ fn tops_in_turn(
 
 /// The best of the items for the player, in no order.
 pub(crate) fn tops_of_many(
-    alloc: Global,
     pages: &Pages,
     answers: &mut Recent,
     left: bool,
@@ -168,6 +164,6 @@ pub(crate) fn tops_of_many(
     ensures among { IfOk result (λ r. AreAmong r.items items.now) }
     ensures right { AreRight pages.now answers.new }
 {
-    let all = furthest_first(alloc, pages, left, items)?;
-    tops_in_turn(alloc, pages, answers, left, all.as_slice())
+    let all = furthest_first(answers.alloc(), pages, left, items)?;
+    tops_in_turn(pages, answers, left, all.as_slice())
 }

@@ -20,7 +20,7 @@ const DEEPEST: u64 = 512;
 impl Meter {
     /// Charges the cost, unless that would bring the total above the share: then the fault is `Full` of that total.
     pub fn charge(&mut self, cost: u64) -> Result<(), ValueFault>
-        requires cost { cost ≤ 2 ^ 35 }
+        requires cost { cost ≤ 2 ^ 63 + 8 }
         requires within { self.old.spent ≤ self.old.share }
         requires small { self.old.share ≤ 67108864 }
         ensures ok { IfOk result (λ _. self.new ≡ record self.old { spent = self.old.spent + cost }) }
@@ -40,7 +40,7 @@ impl Meter {
     /// Charges the item of the form with this profile, with a cost of `extra` more, unless it is too deep or too dear.
     pub fn charge_form(&mut self, profile: &Profile, extra: u64) -> Result<(), ValueFault>
         requires extra { extra ≤ 8 }
-        requires cost { profile.now.cost ≤ 2 ^ 34 }
+        requires cost { profile.now.cost < 2 ^ 63 }
         requires within { self.old.spent ≤ self.old.share }
         requires small { self.old.share ≤ 67108864 }
         ensures ok { IfOk result (λ _. self.new ≡ record self.old { spent = self.old.spent + (profile.now.cost + extra) }) }

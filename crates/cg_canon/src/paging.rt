@@ -59,7 +59,7 @@ fn new_page<B: BoardForms, S: CellStore<GameFacts<B>>>(
         Reading::Game(lefts, rights) => {
             let low = pages_of_list(alloc, store, book, lefts)?;
             let high = pages_of_list(alloc, store, book, rights)?;
-            let profile = profile_of_lists(&book.pages, low.as_slice(), high.as_slice())?;
+            let profile = profile_of_lists(&book.pages, low.as_slice(), high.as_slice());
             enter_game(
                 store,
                 book,

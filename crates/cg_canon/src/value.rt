@@ -106,7 +106,6 @@ pub(crate) fn value_of_lists<B: BoardForms, S: CellStore<GameFacts<B>>>(
     let mut both = Form::new(alloc);
     put_both(alloc, store, book, lefts, rights, &mut both)?;
     settle(
-        alloc,
         &book.pages,
         &mut book.answers,
         both.lefts.as_slice(),
@@ -134,6 +133,6 @@ pub(crate) fn form_of_lists<B: BoardForms, S: CellStore<GameFacts<B>>>(
 {
     let mut form = Form::new(alloc);
     put_both(alloc, store, book, lefts, rights, &mut form)?;
-    let profile = profile_of_lists(&book.pages, form.lefts.as_slice(), form.rights.as_slice())?;
+    let profile = profile_of_lists(&book.pages, form.lefts.as_slice(), form.rights.as_slice());
     Ok(NewForm { form, profile })
 }

@@ -139,7 +139,7 @@ impl<'a, B: BoardForms, S: CellStore<GameFacts<B>>> Work<'a, B, S> {
     /// Charges the item of the form with this profile, with a cost of `extra` more, unless it is too deep or too dear.
     pub(crate) fn charge_form(&mut self, profile: &Profile, extra: u64) -> Result<(), ValueFault>
         requires extra { extra ≤ 8 }
-        requires small { profile.now.cost ≤ 2 ^ 34 }
+        requires small { profile.now.cost < 2 ^ 63 }
         ensures ok { IfOk result (λ _. self.new ≡ record self.old { spent = self.old.spent + (profile.now.cost + extra) }) }
         ensures room { OnOk result ((work_state S.state self.new).spare
             ≡ (work_state S.state self.old).spare + (profile.now.cost + extra)) }

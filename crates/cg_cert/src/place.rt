@@ -1,8 +1,19 @@
 //! The place that a numeral writes.
-ghost use Rattle.std.specs.Prelude.{◌≡◌, ◌↔◌, IfOk, IsTrue, decimal};
+ghost use Rattle.std.specs.Prelude.{◌≡◌, ◌↔◌, ◌<◌, ◌^◌, ℕ, Some, IfOk, IsTrue, decimal};
 ghost use Rattle.cg_cert.specs.Reads.{IsPlace};
 
 use std::alloc::{AllocError, Global};
+use std::str::from_utf8;
+
+/// The number that the digits write, where they write one in decimal.
+fn number_of(digits: &[u8]) -> Option<usize>
+    ensures { (n : ℕ) → n < 2 ^ 64 → decimal n ≡ digits.now → result ≡ Some n }
+{
+    match from_utf8(digits) {
+        Ok(text) => text.parse::<usize>().ok(),
+        Err(_) => None,
+    }
+}
 
 /// Whether the digits are those of the place, in decimal without leading zeros.
 fn is_written(alloc: Global, place: usize, digits: &[u8]) -> Result<bool, AllocError>
@@ -20,10 +31,11 @@ pub(crate) fn place_of(
 ) -> Result<Option<usize>, AllocError>
     ensures { IfOk result (λ r. IsPlace count digits.now r) }
 {
-    for place in 0..count {
-        if is_written(alloc, place, digits)? {
-            return Ok(Some(place));
-        }
+    let Some(place) = number_of(digits) else {
+        return Ok(None);
+    };
+    if place < count && is_written(alloc, place, digits)? {
+        return Ok(Some(place));
     }
     Ok(None)
 }

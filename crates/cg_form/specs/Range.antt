@@ -1,8 +1,13 @@
--- Games of which some position equals a number out of range.
+-- Games that are a number in range, and games of which some position equals a number out of range.
 use Rattle.std.specs.Prelude.{◌⊎◌}
 use Rattle.cg_dyadic.specs.Number.{InRange, Number}
 use Rattle.cg_form.specs.Game.{Game, Games, more, none, number, options}
 use Rattle.cg_form.specs.Order.{Equal}
+
+-- a number is in range
+abbrev pub IsInRange : Game → Type 0
+IsInRange (number x) = InRange x
+IsInRange (options ls rs) = Unit {0}
 
 pub record EqualsOutside (g : Game) : Type 0 where
   pub value : Number

@@ -1,9 +1,9 @@
 -- What handles and lists of handles stand for in a store.
 use Rattle.std.specs.Prelude.{◌≡◌, ℕ, Option, Some, None, List, [], ◌∷◌, map}
-use Rattle.cg_dyadic.specs.Number.{InRange}
 use Rattle.cg_form.specs.Game as tree
 use Rattle.cg_form.specs.Game.{number, options, none, node}
 pub use Rattle.cg_form.specs.Game.{IsNode}
+pub use Rattle.cg_form.specs.Range.{IsInRange}
 use Rattle.cg_cells.specs.Meaning.{Has}
 use Rattle.cg_cells.specs.Store.{State, thing_at}
 use Rattle.cg_nodes.specs.declared.long.Chunk.{Chunk}
@@ -64,11 +64,6 @@ listed {R} s (Some id) = list_in_or (thing_at s id)
 
 abbrev pub IsList : {R : Type 0} → State Meant R → Option ℕ → Type 0
 IsList {R} s o = ListsAs s o (listed s o)
-
--- a number is in range
-abbrev pub IsInRange : tree.Game → Type 0
-IsInRange (number x) = InRange x
-IsInRange (options ls rs) = Unit {0}
 
 -- what was read of a number or a game
 abbrev pub IsRead : {R : Type 0} → State Meant R → Reading → tree.Game → Type 0

@@ -10,7 +10,7 @@ use Rattle.cg_book.specs.Pages.{game_of, games_of}
 use Rattle.cg_book.specs.Wholes.{whole_game}
 use Rattle.cg_book.proofs.Against.{far_side, near_side}
 use Rattle.cg_book.proofs.Bypassing.{alone_own, bypassed_more, last_covered, more_substitutes, number_fine, passing_substitutes, pushed_one, stays_fine, through_fine, through_less, through_node, through_number}
-use Rattle.cg_book.proofs.Results.{at_none, at_some, if_ok}
+use Rattle.cg_book.proofs.Results.{always_ok, at_none, at_some, if_ok}
 use Rattle.cg_book.proofs.Slices.{item_among, item_size, page_of_item}
 use Rattle.cg_book.proofs.bypass.+bypass.Goals as goal
 
@@ -160,9 +160,9 @@ bypass_through-returns-in-Game-clause-covered t c =
 
 pub bypass_once-returns-clause-out : goal.bypass_once-returns-clause-out
 bypass_once-returns-clause-out t c =
-    if_ok c.pass.result _ _ c.pass.ensures.passed
-    (λ r u. passing_substitutes c.args.pages.now c.args.left c.args.whole.now c.bypass.new.out c.pass.new.self c.args.option.now.page
-    c.in_ok-bypass.ensures.out c.requires.option c.in_ok-bypass.ensures.covered c.pass.ensures.items u)
+    always_ok c.pass.result _
+    (passing_substitutes c.args.pages.now c.args.left c.args.whole.now c.bypass.new.out c.pass.new.self c.args.option.now.page
+    c.in_ok-bypass.ensures.out c.requires.option c.in_ok-bypass.ensures.covered c.pass.ensures.items c.pass.ensures.passed)
 
 -- ---- a list
 

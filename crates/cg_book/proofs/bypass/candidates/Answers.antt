@@ -7,14 +7,14 @@ use Rattle.cg_book.proofs.Slices.{page_of_item}
 use Rattle.cg_book.proofs.TermLaws.{own_candidates}
 use Rattle.cg_book.proofs.bypass.candidates.Goals as goal
 
-pub bypass_own-requires-clause-option : goal.bypass_own-requires-clause-option
-bypass_own-requires-clause-option c =
+pub bypass_once-requires-clause-option : goal.bypass_once-requires-clause-option
+bypass_once-requires-clause-option c =
     page_of_item c.args.pages.now c.own-own-items.result.now c.loop-own.own-index _
     (whole_pages c.args.pages.now c.args.whole.now c.args.left c.own-own-items.result.now c.requires.whole c.own-own-items.ensures)
     c.loop-own-test.true refl
 
-pub bypass_own-requires-clause-less : goal.bypass_own-requires-clause-less
-bypass_own-requires-clause-less c =
+pub bypass_once-requires-clause-less : goal.bypass_once-requires-clause-less
+bypass_once-requires-clause-less c =
     own_less c.args.pages.now c.args.whole.now c.args.left c.own-own-items.result.now c.loop-own.own-index _
     c.own-own-items.ensures c.loop-own-test.true refl
 
@@ -29,12 +29,12 @@ loop-own-init c = record {
 
 pub loop-own-preserved : goal.loop-own-preserved
 loop-own-preserved c = record {
-  right = c.bypass_own.ensures.right;
-  verdicts = c.bypass_own.ensures.verdicts;
-  out = c.in_ok-bypass_own.ensures.out;
+  right = c.bypass_once.ensures.right;
+  verdicts = c.bypass_once.ensures.verdicts;
+  out = c.in_ok-bypass_once.ensures.out;
   so_far = bypassed_more c.args.pages.now c.args.left (whole_game c.args.pages.now c.args.whole.now) c.own-own-items.result.now _
-      (pages_of c.loop-own.all.items.items) (pages_of c.bypass_own.new.out.items.items) c.loop-own.own-index _
-      c.loop-own.invariant.so_far c.loop-own-test.true refl c.in_ok-bypass_own.ensures.grown c.in_ok-bypass_own.ensures.covered;
+      (pages_of c.loop-own.all.items.items) (pages_of c.bypass_once.new.out.items.items) c.loop-own.own-index _
+      c.loop-own.invariant.so_far c.loop-own-test.true refl c.in_ok-bypass_once.ensures.grown c.in_ok-bypass_once.ensures.covered;
 }
 
 pub returns-clause-candidates : goal.returns-clause-candidates

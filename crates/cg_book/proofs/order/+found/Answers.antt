@@ -48,12 +48,12 @@ compared-returns-in-Game-high-2-clause-order t c =
     c.in_ok-none_as_good-in-Game.ensures.order yes)
 
 pub found-returns-in_err-remember-clause-right : goal.found-returns-in_err-remember-clause-right
-found-returns-in_err-remember-clause-right t c = λ x k. c.compared.ensures.right x (c.in_err-remember.ensures.err x k)
+found-returns-in_err-remember-clause-right t c = λ x k. c.compared-2.ensures.right x (c.in_err-remember.ensures.err x k)
 
 pub found-returns-clause-right : goal.found-returns-clause-right
 found-returns-clause-right t c =
-    remembered c.args.pages.now c.compared.new.answers c.remember.new.self
-    (record { low = c.args.a; high = c.args.b; at_most = c.in_ok-answer.answer }) c.compared.ensures.right c.in_ok-remember.ensures.ok
+    remembered c.args.pages.now c.compared-2.new.answers c.remember.new.self
+    (record { low = c.args.a; high = c.args.b; at_most = c.in_ok-answer.answer }) c.compared-2.ensures.right c.in_ok-remember.ensures.ok
     (record { low = c.requires.a; high = c.requires.b; order = c.in_ok-answer.ensures.order })
 
 pub none_as_good-at_most-requires : goal.none_as_good-at_most-requires

@@ -21,4 +21,4 @@ loop-option-preserved c =
 pub returns : goal.returns
 returns c =
     leader_cut c.args.pages.now c.args.left c.args.options.now c.loop-option.option-index c.loop-option.best c.profile.result.now c.cut.result
-    c.loop-option-test.false c.loop-option.invariant c.profile.ensures c.cut.ensures
+    c.loop-option-test.false c.loop-option.invariant c.profile.ensures.profile c.cut.ensures

@@ -5,5 +5,8 @@ use Rattle.cg_book.proofs.outlining.deepest_of.Goals as goal
 pub loop-option-preserved : goal.loop-option-preserved
 loop-option-preserved c =
     let deep : c.max-greatest.result ≡ max c.profile.result.now.depth c.loop-option.greatest = omega (arith, c.max-greatest.ensures) in
-    deepest_next c.args.pages.now c.args.options.now c.loop-option.option-index c.profile.result.now c.loop-option.greatest c.max-greatest.result
-    c.loop-option-test.true c.loop-option.invariant c.profile.ensures deep
+    record {
+      deepest = deepest_next c.args.pages.now c.args.options.now c.loop-option.option-index c.profile.result.now c.loop-option.greatest
+          c.max-greatest.result c.loop-option-test.true c.loop-option.invariant.deepest c.profile.ensures.profile deep;
+      small = omega (arith, deep, c.profile.ensures.small, c.loop-option.invariant.small);
+    }

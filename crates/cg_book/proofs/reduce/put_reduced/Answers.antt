@@ -1,6 +1,5 @@
-use Rattle.std.proofs.Common.{◌∙◌}
 use Rattle.cg_book.specs.declared.whole.Whole.{Whole}
-use Rattle.cg_book.proofs.Reducing.{undominated}
+use Rattle.cg_book.proofs.Reducing.{form_equal, undominated}
 use Rattle.cg_book.proofs.Results.{if_ok}
 use Rattle.cg_book.proofs.reduce.put_reduced.Goals as goal
 
@@ -28,7 +27,7 @@ put_bypassed-requires-clause-rights c =
 pub returns-clause-form : goal.returns-clause-form
 returns-clause-form c =
     if_ok c.put_bypassed.result _ _ c.put_bypassed.ensures.form
-    (λ r h. (undominated c.args.pages.now c.args.lefts.now c.args.rights.now c.put_own_tops.new.list.items c.put_own_tops-2.new.list.items
+    (λ r h. form_equal _ _ _ (undominated c.args.pages.now c.args.lefts.now c.args.rights.now c.put_own_tops.new.list.items c.put_own_tops-2.new.list.items
     (record { lefts = c.as_slice.result; rights = c.as_slice-2.result; profile = c.args.profile.now; keys = c.of.result })
     c.as_slice.ensures c.as_slice-2.ensures c.in_ok-put_own_tops.ensures.pages c.in_ok-put_own_tops-2.ensures.pages c.in_ok-put_own_tops.ensures.tops
-    c.in_ok-put_own_tops-2.ensures.tops c.requires.no_number c.requires.cuts c.of.ensures).same ∙ h)
+    c.in_ok-put_own_tops-2.ensures.tops c.requires.no_number c.requires.cuts c.of.ensures).same h)

@@ -1,17 +1,23 @@
-use Rattle.std.proofs.Common.{ap, subst, sym, ◌∙◌}
-use Rattle.cg_form.specs.Game.{Game, node}
-use Rattle.cg_nodes.specs.Can.{can}
-use Rattle.cg_nodes.specs.CanForms.{can-equal}
+use Rattle.cg_form.specs.Game.{node}
 use Rattle.cg_book.specs.Pages.{games_of}
-use Rattle.cg_book.specs.Profiles.{HasCuts}
-use Rattle.cg_book.proofs.Profiling.{equal_cuts}
+use Rattle.cg_book.proofs.Outlines.{cuts_at, new_form}
 use Rattle.cg_book.proofs.settling.form_of.Goals as goal
 
-pub profile_with_cuts-requires-clause-cuts : goal.profile_with_cuts-requires-clause-cuts
-profile_with_cuts-requires-clause-cuts c =
+pub profile_with-new-requires-clause-low : goal.profile_with-new-requires-clause-low
+profile_with-new-requires-clause-low c =
     let gs = c.args.pages.now in
-    let whole = node (games_of gs c.args.lefts.now) (games_of gs c.args.rights.now) in
-    let P : Game → Type 0 = λ z. HasCuts z c.args.profile.now in
-    subst P (c.in_ok-put_reduced.ensures.form ∙ sym (ap (λ z. node (games_of gs z) (games_of gs c.as_slice-2.result.now)) c.as_slice.ensures
-    ∙ ap (λ z. node (games_of gs c.put_reduced.new.form.lefts.items) (games_of gs z)) c.as_slice-2.ensures))
-    (equal_cuts whole (can whole) c.args.profile.now (can-equal whole) c.requires.cuts)
+    (cuts_at gs (node (games_of gs c.args.lefts.now) (games_of gs c.args.rights.now)) c.args.profile.now _ _ _ _ c.in_ok-put_reduced.ensures.form.equal
+    c.as_slice.ensures c.as_slice-2.ensures c.requires.cuts).low
+
+pub profile_with-new-requires-clause-high : goal.profile_with-new-requires-clause-high
+profile_with-new-requires-clause-high c =
+    let gs = c.args.pages.now in
+    (cuts_at gs (node (games_of gs c.args.lefts.now) (games_of gs c.args.rights.now)) c.args.profile.now _ _ _ _ c.in_ok-put_reduced.ensures.form.equal
+    c.as_slice.ensures c.as_slice-2.ensures c.requires.cuts).high
+
+pub returns-clause-form : goal.returns-clause-form
+returns-clause-form c =
+    let gs = c.args.pages.now in
+    new_form gs (node (games_of gs c.args.lefts.now) (games_of gs c.args.rights.now))
+    (record { form = c.put_reduced.new.form; profile = c.profile_with-new.result }) _ _ c.in_ok-put_reduced.ensures.lefts c.in_ok-put_reduced.ensures.rights
+    c.in_ok-put_reduced.ensures.form c.as_slice.ensures c.as_slice-2.ensures c.profile_with-new.ensures

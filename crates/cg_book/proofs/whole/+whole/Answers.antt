@@ -1,10 +1,10 @@
-use Rattle.std.proofs.Common.{◌≡◌, false, refl, rules, sym, true, ◌∙◌}
+use Rattle.std.proofs.Common.{◌≡◌, false, not, refl, rules, sym, true, ◌∙◌}
 use Rattle.cg_form.specs.Side.{at_most}
 use Rattle.cg_book.specs.Pages.{game_of, games_of}
 use Rattle.cg_book.specs.Wholes.{whole_game}
-use Rattle.cg_book.proofs.Against.{far_own, hindered, near_side, unhindered, verdict_more}
-use Rattle.cg_book.proofs.Comparing.{ok_same}
-use Rattle.cg_book.proofs.Slices.{item_size, page_of_item, slice_hit, slice_miss}
+use Rattle.cg_book.proofs.Against.{far_own, hindered, near_side, some_passes, turned_list, unhindered, verdict_more}
+use Rattle.cg_book.proofs.Results.{at_none, at_some}
+use Rattle.cg_book.proofs.Slices.{item_among, item_size, page_of_item, slice_miss}
 use Rattle.cg_book.proofs.whole.+whole.Goals as goal
 
 pub at_most_whole-returns-in_err-remember-clause-verdicts : goal.at_most_whole-returns-in_err-remember-clause-verdicts
@@ -17,8 +17,8 @@ at_most_whole-returns-clause-verdicts t c =
     verdict_more c.args.pages.now c.args.whole.now c.compared_with_whole.new.verdicts c.remember.new.self c.args.left c.args.page
     c.in_ok-answer.answer c.compared_with_whole.ensures.verdicts c.requires.page c.in_ok-answer.ensures.order c.remember.ensures
 
-pub compared_with_whole-none_at_most_whole-requires : goal.compared_with_whole-none_at_most_whole-requires
-compared_with_whole-none_at_most_whole-requires t c =
+pub compared_with_whole-first_at_most-requires : goal.compared_with_whole-first_at_most-requires
+compared_with_whole-first_at_most-requires t c =
     let side = near_side c.args.pages.now (game_of c.args.pages.now c.args.page) c.in-Game.lefts.now c.in-Game.rights.now c.chosen-own.result.now c.args.left
     c.in-Game.ensures.read c.chosen-own.ensures in
     let less = side.size in
@@ -27,35 +27,50 @@ compared_with_whole-none_at_most_whole-requires t c =
 
 pub compared_with_whole-returns-then-not-branch-clause-order : goal.compared_with_whole-returns-then-not-branch-clause-order
 compared_with_whole-returns-then-not-branch-clause-order t c =
-    let no : c.in_ok-none_at_most-in-Game.field-0 ≡ false = search (rules, c.if-not-branch.true) in
+    let no : c.in_ok-none_as_good-in-Game.field-0 ≡ false = search (rules, c.if-not-branch.true) in
     hindered c.args.left (game_of c.args.pages.now c.args.page) (whole_game c.args.pages.now c.args.whole.now) (games_of c.args.pages.now c.own.result.now)
-    c.in_ok-none_at_most-in-Game.field-0 (far_own c.args.pages.now c.args.whole.now c.args.left c.own.result.now c.own.ensures)
-    c.in_ok-none_at_most-in-Game.ensures.order no
+    c.in_ok-none_as_good-in-Game.field-0 (far_own c.args.pages.now c.args.whole.now c.args.left c.own.result.now c.own.ensures)
+    (c.in_ok-none_as_good-in-Game.ensures.order ∙ turned_list c.args.left _ (games_of c.args.pages.now c.own.result.now)) no
 
-pub compared_with_whole-returns-else-not-branch-clause-order : goal.compared_with_whole-returns-else-not-branch-clause-order
-compared_with_whole-returns-else-not-branch-clause-order t c =
-    let yes : c.in_ok-none_at_most-in-Game.field-0 ≡ true = search (rules, c.if-not-branch.false) in
+pub compared_with_whole-returns-in-None-clause-order : goal.compared_with_whole-returns-in-None-clause-order
+compared_with_whole-returns-in-None-clause-order t c =
+    let yes : c.in_ok-none_as_good-in-Game.field-0 ≡ true = search (rules, c.if-not-branch.false) in
     let side = near_side c.args.pages.now (game_of c.args.pages.now c.args.page) c.in-Game.lefts.now c.in-Game.rights.now c.chosen-own.result.now c.args.left
     c.in-Game.ensures.read c.chosen-own.ensures in
-    ok_same c.none_at_most_whole.result _ _ c.none_at_most_whole.ensures.order
-    (unhindered c.args.left (game_of c.args.pages.now c.args.page) (whole_game c.args.pages.now c.args.whole.now) (games_of c.args.pages.now c.own.result.now)
-    (games_of c.args.pages.now c.chosen-own.result.now) c.in_ok-none_at_most-in-Game.field-0
+    sym (at_none c.in_ok-first_at_most-in-Game.field-0 _ c.in-None.is c.in_ok-first_at_most-in-Game.ensures.none)
+    ∙ unhindered c.args.left (game_of c.args.pages.now c.args.page) (whole_game c.args.pages.now c.args.whole.now) (games_of c.args.pages.now c.own.result.now)
+    (games_of c.args.pages.now c.chosen-own.result.now) c.in_ok-none_as_good-in-Game.field-0
     (far_own c.args.pages.now c.args.whole.now c.args.left c.own.result.now c.own.ensures) side.same
-    c.in_ok-none_at_most-in-Game.ensures.order yes)
+    (c.in_ok-none_as_good-in-Game.ensures.order ∙ turned_list c.args.left _ (games_of c.args.pages.now c.own.result.now)) yes
 
-pub none_at_most_whole-at_most_whole-requires : goal.none_at_most_whole-at_most_whole-requires
-none_at_most_whole-at_most_whole-requires t c =
+pub compared_with_whole-returns-in-Some-clause-order : goal.compared_with_whole-returns-in-Some-clause-order
+compared_with_whole-returns-in-Some-clause-order t c =
+    let yes : c.in_ok-none_as_good-in-Game.field-0 ≡ true = search (rules, c.if-not-branch.false) in
+    let side = near_side c.args.pages.now (game_of c.args.pages.now c.args.page) c.in-Game.lefts.now c.in-Game.rights.now c.chosen-own.result.now c.args.left
+    c.in-Game.ensures.read c.chosen-own.ensures in
+    let h = at_some c.in_ok-first_at_most-in-Game.field-0 _ c.in-Some.field-0 c.in-Some.is c.in_ok-first_at_most-in-Game.ensures.some in
+    sym (some_passes (λ a. at_most (not c.args.left) a (whole_game c.args.pages.now c.args.whole.now)) (game_of c.args.pages.now c.in-Some.field-0)
+    (games_of c.args.pages.now c.chosen-own.result.now) h.1 h.2)
+    ∙ unhindered c.args.left (game_of c.args.pages.now c.args.page) (whole_game c.args.pages.now c.args.whole.now) (games_of c.args.pages.now c.own.result.now)
+    (games_of c.args.pages.now c.chosen-own.result.now) c.in_ok-none_as_good-in-Game.field-0
+    (far_own c.args.pages.now c.args.whole.now c.args.left c.own.result.now c.own.ensures) side.same
+    (c.in_ok-none_as_good-in-Game.ensures.order ∙ turned_list c.args.left _ (games_of c.args.pages.now c.own.result.now)) yes
+
+pub first_at_most-at_most_whole-requires : goal.first_at_most-at_most_whole-requires
+first_at_most-at_most_whole-requires t c =
     let page = page_of_item c.args.pages.now c.args.list.now c.loop-option.option-index _ c.requires.list c.loop-option-test.true refl in
     let smaller = item_size c.args.pages.now c.args.list.now c.loop-option.option-index _ c.loop-option-test.true refl in
     search rules
 
-pub none_at_most_whole-returns-then-branch-clause-order : goal.none_at_most_whole-returns-then-branch-clause-order
-none_at_most_whole-returns-then-branch-clause-order t c =
-    sym (slice_hit c.args.pages.now (λ a. at_most c.args.left a (whole_game c.args.pages.now c.args.whole.now)) c.args.list.now c.loop-option.option-index _
-    c.loop-option-test.true refl (sym c.in_ok-at_most_whole.ensures.order ∙ c.if-branch.true))
+pub first_at_most-returns-then-branch-clause-some : goal.first_at_most-returns-then-branch-clause-some
+first_at_most-returns-then-branch-clause-some t c = (
+  page_of_item c.args.pages.now c.args.list.now c.loop-option.option-index _ c.requires.list c.loop-option-test.true refl,
+  item_among c.args.pages.now c.args.list.now c.loop-option.option-index _ c.loop-option-test.true refl,
+  sym c.in_ok-at_most_whole.ensures.order ∙ c.if-branch.true,
+)
 
-pub none_at_most_whole-loop-option-preserved : goal.none_at_most_whole-loop-option-preserved
-none_at_most_whole-loop-option-preserved t c = record {
+pub first_at_most-loop-option-preserved : goal.first_at_most-loop-option-preserved
+first_at_most-loop-option-preserved t c = record {
   right = c.at_most_whole.ensures.right;
   verdicts = c.at_most_whole.ensures.verdicts;
   none = slice_miss c.args.pages.now (λ a. at_most c.args.left a (whole_game c.args.pages.now c.args.whole.now)) c.args.list.now c.loop-option.option-index _

@@ -13,11 +13,11 @@ decreases-at_most_whole l = 3 * size (game_of l.pages.now l.page) + 1
 abbrev pub decreases-compared_with_whole : goal.decreases-compared_with_whole
 decreases-compared_with_whole l = 3 * size (game_of l.pages.now l.page)
 
-abbrev pub decreases-none_at_most_whole : goal.decreases-none_at_most_whole
-decreases-none_at_most_whole l = 3 * list_size (games_of l.pages.now l.list.now) + 2
+abbrev pub decreases-first_at_most : goal.decreases-first_at_most
+decreases-first_at_most l = 3 * list_size (games_of l.pages.now l.list.now) + 2
 
-abbrev pub invariant-none_at_most_whole-loop-option : goal.invariant-none_at_most_whole-loop-option
-invariant-none_at_most_whole-loop-option l = record {
+abbrev pub invariant-first_at_most-loop-option : goal.invariant-first_at_most-loop-option
+invariant-first_at_most-loop-option l = record {
   right : AreRight l.pages l.answers;
   verdicts : AreVerdicts l.pages l.whole l.verdicts;
   none : no_one (λ a. at_most l.left a (whole_game l.pages l.whole)) (games_of l.pages (take l.option-index l.list)) ≡ true;

@@ -7,4 +7,4 @@ pub returns-then-are_passed-clause-order : goal.returns-then-are_passed-clause-o
 returns-then-are_passed-clause-order c =
     let x = game_of c.args.pages.now c.args.x.now.page in
     let all = games_of c.args.pages.now (pages_of c.args.items.now) in
-    none_beats_all c.args.left x all (c.are_passed.ensures all x c.requires.bounds c.profile.ensures c.if-are_passed.true)
+    none_beats_all c.args.left x all (c.are_passed.ensures all x c.requires.bounds c.keys.ensures c.if-are_passed.true)

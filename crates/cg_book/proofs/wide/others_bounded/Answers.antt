@@ -11,7 +11,7 @@ pub returns-then-are_passed-clause-kept : goal.returns-then-are_passed-clause-ke
 returns-then-are_passed-clause-kept c =
     let x = game_of c.args.pages.now c.args.x.now.page in
     let all = games_of c.args.pages.now (pages_of c.args.items.items) in
-    all_kept c.args.left x all (c.are_passed.ensures all x c.requires.bounds c.profile.ensures c.if-are_passed.true)
+    all_kept c.args.left x all (c.are_passed.ensures all x c.requires.bounds c.keys.ensures c.if-are_passed.true)
 
 pub returns-then-are_passed-clause-among : goal.returns-then-are_passed-clause-among
 returns-then-are_passed-clause-among c = among_itself c.args.items.items

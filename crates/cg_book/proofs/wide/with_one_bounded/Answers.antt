@@ -29,4 +29,4 @@ returns-clause-bounds c =
     ∙ ap (λ z. z ++ x ∷ []) c.in_ok-all.ensures.kept
     ∙ with_last_put c.args.left all x c.in_ok-none_beats_bounded.field-0
     (c.in_ok-none_beats_bounded.ensures.order ∙ ap (λ z. no_one (at_most c.args.left x) (games_of gs (pages_of z))) c.as_slice.ensures) yes))
-    (bounds_with_last c.args.left all x c.with.result (c.with.ensures all x c.requires.bounds c.profile.ensures))
+    (bounds_with_last c.args.left all x c.with.result (c.with.ensures all x c.requires.bounds c.keys.ensures))

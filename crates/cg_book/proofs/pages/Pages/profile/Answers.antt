@@ -1,5 +1,5 @@
 use Rattle.std.proofs.Common.{arith}
-use Rattle.cg_book.proofs.Paging.{counted, profile_says}
+use Rattle.cg_book.proofs.Paging.{counted, profile_says, profile_small}
 use Rattle.cg_book.proofs.pages.Pages.profile.Goals as goal
 
 pub index-requires : goal.index-requires
@@ -9,5 +9,8 @@ index-requires c =
     let r = c.requires in
     omega arith
 
-pub returns : goal.returns
-returns c = profile_says c.self.inside c.args.self.now c.self.invariant c.self.view_is c.args.page c.index.result.now c.requires c.index.ensures
+pub returns-clause-profile : goal.returns-clause-profile
+returns-clause-profile c = profile_says c.self.inside c.args.self.now c.self.invariant c.self.view_is c.args.page c.index.result.now c.requires c.index.ensures
+
+pub returns-clause-small : goal.returns-clause-small
+returns-clause-small c = profile_small c.self.inside c.args.self.now c.self.invariant c.self.view_is c.args.page c.index.result.now c.requires c.index.ensures
