@@ -1,6 +1,36 @@
+use Rattle.std.proofs.Common.{ap, subst, sym, ◌∙◌, List, ℕ}
+use Rattle.cg_form.specs.Game.{Game, node}
+use Rattle.cg_form.specs.Simple.{NoNumber}
+use Rattle.cg_nodes.specs.Games.{games_at}
+use Rattle.cg_book.specs.Pages.{games_of}
+use Rattle.cg_book.specs.Profiles.{IsProfile}
+use Rattle.cg_canon.specs.declared.value.Way.{Way}
+use Rattle.cg_canon.specs.Ways.{IsWay}
 use Rattle.cg_canon.proofs.Booking.{holds_answers}
+use Rattle.cg_canon.proofs.Charging.{same_node}
+use Rattle.cg_canon.proofs.Valuing.{given_form}
 use Rattle.cg_canon.proofs.value.value_of_lists.Goals as goal
 
-pub returns-clause-holds : goal.returns-clause-holds
-returns-clause-holds g c =
+pub returns-in-Search-clause-holds : goal.returns-in-Search-clause-holds
+returns-in-Search-clause-holds g c =
     holds_answers (g.S.CellStore.state c.put_both.new.store) c.put_both.new.book c.settle.new.answers c.put_both.ensures.holds c.settle.ensures.right
+
+pub profile_of_lists-requires-clause-no_number : goal.profile_of_lists-requires-clause-no_number
+profile_of_lists-requires-clause-no_number g c =
+    let s = g.S.CellStore.state c.args.store.now in
+    let gs = c.put_both.new.book.pages in
+    let P : Way → Type 0 = λ z. IsWay z (games_at s c.args.lefts.now) (games_at s c.args.rights.now) in
+    let Q : Game → Type 0 = λ z. NoNumber z in
+    subst Q (sym (same_node _ _ _ _ (ap (games_of gs) c.as_slice-lefts.ensures ∙ c.in_ok-put_both.ensures.lefts.1)
+    (ap (games_of gs) c.as_slice-rights.ensures ∙ c.in_ok-put_both.ensures.rights.1))) (subst P c.in-AsGiven.is c.requires.way).0.no_number
+
+pub returns-in_ok-profile-in-AsGiven-clause-value : goal.returns-in_ok-profile-in-AsGiven-clause-value
+returns-in_ok-profile-in-AsGiven-clause-value g c =
+    let s = g.S.CellStore.state c.args.store.now in
+    let gs = c.put_both.new.book.pages in
+    let P : Way → Type 0 = λ z. IsWay z (games_at s c.args.lefts.now) (games_at s c.args.rights.now) in
+    let L : List ℕ → Type 0 = λ z. IsProfile (node (games_of gs z) (games_of gs c.as_slice-rights.result.now)) c.in_ok-profile-in-AsGiven.profile in
+    let R : List ℕ → Type 0 = λ z. IsProfile (node (games_of gs c.put_both.new.form.lefts.items) (games_of gs z)) c.in_ok-profile-in-AsGiven.profile in
+    given_form gs (games_at s c.args.lefts.now) (games_at s c.args.rights.now) (record { form = c.put_both.new.form; profile = c.in_ok-profile-in-AsGiven.profile })
+    (subst P c.in-AsGiven.is c.requires.way) c.in_ok-put_both.ensures.lefts c.in_ok-put_both.ensures.rights
+    (subst R c.as_slice-rights.ensures (subst L c.as_slice-lefts.ensures c.in_ok-profile-in-AsGiven.ensures))
