@@ -1,15 +1,12 @@
 -- A table of forms, as the store and the table change.
-use Rattle.std.proofs.Common.{◌≡◌, ◌⊎◌, ◌∙◌, ℕ, ◌+◌, ◌-◌, ◌≤◌, List, [], ◌∷◌, ◌++◌, Option, None, Some, ap, arith, inl, inr, sym, subst, length, length-append, take, drop, append_assoc}
-use Rattle.std.specs.Prelude.{IfSome}
+use Rattle.std.proofs.Common.{◌≡◌, ◌⊎◌, ◌∙◌, ℕ, ◌+◌, ◌-◌, ◌≤◌, List, [], ◌∷◌, ◌++◌, Some, ap, arith, inl, inr, sym, subst, length, length-append, take, drop, append_assoc}
 use Rattle.std.specs.List.{slice_get, slice_range}
 use Rattle.std.proofs.Math.Seq.{drop-append_seam, take-append_seam}
 use Rattle.std.proofs.lemmas.List.{append-nil, drop-append-le, length-drop, take-append-le}
 use Rattle.cg_cells.specs.Meaning.{Grows}
 use Rattle.cg_cells.specs.Store.{State, thing_at}
-use Rattle.cg_form.specs.Canonical.{Canonical}
 use Rattle.cg_form.specs.Game.{Game, node}
 use Rattle.cg_nodes.specs.Can.{can}
-use Rattle.cg_nodes.specs.CanForms.{can-fixed}
 use Rattle.cg_nodes.specs.Games.{AreGames, StandsFor, games_at}
 use Rattle.cg_nodes.specs.Meant.{Meant}
 use Rattle.cg_nodes.proofs.Later.{are_games_later, games_later, stands_later}
@@ -39,16 +36,6 @@ module _ {R Q : Type 0} (s : State Meant R) (t : State Meant Q) (grows : Grows (
 
   pub forms_later : (m : MadeForms) → FormsHold s m → FormsHold t m
   forms_later m h = record { each = λ ls rs form k. form_later ls rs form (h.each ls rs form k); within = h.within }
-
--- ---- a canonical game
-
--- the form that was made of its options stands for it
-pub fixed_form : {R : Type 0} (s : State Meant R) (ls rs : List ℕ) (o : Option ℕ) → Canonical (node (games_at s ls) (games_at s rs))
-    → IfSome o (IsFormOf s ls rs) → IfSome o (λ h. StandsFor s h (node (games_at s ls) (games_at s rs)))
-fixed_form s ls rs None c k = tt
-fixed_form s ls rs (Some h) c k =
-    let P : Game → Type 0 = λ z. StandsFor s h z in
-    subst P (can-fixed (node (games_at s ls) (games_at s rs)) c) k.stands
 
 -- ---- parts of a list
 

@@ -1,9 +1,9 @@
 -- What a work keeps from one call to the next.
-use Rattle.std.proofs.Common.{◌≡◌, refl, ℕ, ◌+◌, ◌≤◌, arith, ap, ◌∙◌}
+use Rattle.std.proofs.Common.{refl, ℕ, ap, ◌∙◌}
 use Rattle.cg_cells.specs.Store.{Spends, State}
 use Rattle.cg_nodes.specs.Meant.{Meant}
 use Rattle.cg_canon.specs.declared.rest.WorkRest.{WorkRest}
-use Rattle.cg_canon.specs.Works.{IsUnspent, Keeps, WorkOf, work_state}
+use Rattle.cg_canon.specs.Works.{Keeps}
 
 pub keeps_all : {R : Type 0} (s : State Meant (WorkRest R)) → Keeps s s
 keeps_all s = record {
@@ -38,12 +38,3 @@ spends_keeps n s t k = record {
   start = ap (λ (r : WorkRest _). r.start) k.rest;
   limit = ap (λ (r : WorkRest _). r.limit) k.rest;
 }
-
--- a work whose calls have spent nothing has left its store as it was; each store has what its meter says
-pub unspent : {S R : Type 0} (state : S → State Meant R) (w v : WorkOf S) → Spends 0 (work_state state w) (work_state state v)
-    → w.start ≤ (state w.store.now).spare + w.spent → v.start ≤ (state v.store.now).spare + v.spent → IsUnspent state w v
-unspent state w v k a b =
-    let s : v.spent ≡ w.spent = ap (λ (r : WorkRest _). r.spent) k.rest in
-    let t : v.start ≡ w.start = ap (λ (r : WorkRest _). r.start) k.rest in
-    let e = k.spare in
-    record { spent = s; spare = omega arith }

@@ -6,7 +6,7 @@ use Rattle.std.specs.Prelude.{IfSome, bit_xor}
 use Rattle.std.proofs.lemmas.Int.{ints}
 use Rattle.cg_cells.specs.Meaning.{Grows}
 use Rattle.cg_cells.specs.Store.{State, thing_at}
-use Rattle.cg_dyadic.specs.Number.{Number, exp_of, num_of}
+use Rattle.cg_dyadic.specs.Number.{Number, exp_of, num_of, whole}
 use Rattle.cg_dyadic.proofs.Truth.{and-split}
 use Rattle.cg_form.specs.Canonical.{Canonical}
 use Rattle.cg_form.specs.Game.{Game}
@@ -15,9 +15,11 @@ use Rattle.cg_form.specs.Sum.{sum}
 use Rattle.cg_nodes.specs.Can.{can}
 use Rattle.cg_form.proofs.EqualGames.{equal_comm, sum_equal}
 use Rattle.cg_form.proofs.Preorder.{equal_back, equal_trans}
+use Rattle.cg_nimbers.specs.Nimbers.{nimber_form}
 use Rattle.cg_nimbers.specs.NumberUpStar.{number_up_star}
+use Rattle.cg_nimbers.proofs.CanonicalNimbers.{nimber-canonical}
 use Rattle.cg_nimbers.proofs.IntegerMultiples.{equal_cancel, sum_second}
-use Rattle.cg_nimbers.proofs.NumberUpStars.{number_up_star-sum}
+use Rattle.cg_nimbers.proofs.NumberUpStars.{number_up_star-nimber, number_up_star-sum}
 use Rattle.cg_nimbers.proofs.SameNumbers.{tells_same}
 use Rattle.cg_nodes.specs.CanForms.{can-canonical, can-equal, can-fixed}
 use Rattle.cg_nodes.specs.Games.{IsGame, StandsFor, game_at}
@@ -29,6 +31,14 @@ use Rattle.cg_canon.specs.declared.number_up_stars.KnownGame.{KnownGame}
 use Rattle.cg_canon.specs.declared.number_up_stars.NumberUpStars.{NumberUpStars}
 use Rattle.cg_canon.specs.NumberUpStars.{AreKnown, IsKnownAs, IsListed, IsPlus, game_of}
 use Rattle.cg_canon.proofs.Pushed.{none_there, pushed_item}
+
+-- with these parts
+pub parts_game : (v : NumberUpStar) (x : Number) (n k m : ℕ) → v.number ≡ x → v.ups ≡ n → v.downs ≡ k → v.star ≡ m
+    → game_of v ≡ number_up_star x (pos n -ℤ pos k) m
+parts_game v x n k m number ups downs star =
+    ap (λ z. number_up_star z (pos v.ups -ℤ pos v.downs) v.star) number
+    ∙ ap (λ z. number_up_star x (pos z -ℤ pos v.downs) v.star) ups
+    ∙ ap (λ z. number_up_star x (pos n -ℤ pos z) v.star) downs ∙ ap (number_up_star x (pos n -ℤ pos k)) star
 
 -- the games of two such sums come to that of their sum
 pub plus_equal : (v w u : NumberUpStar) → IsPlus v w u → Equal (sum (game_of v) (game_of w)) (game_of u)
@@ -56,6 +66,29 @@ module _ {R : Type 0} (s : State Meant R) where
       (equal_back (game_at s h) (game_of u) k.equal) in
       let is : can g ≡ game_at s h = can-same g (game_at s h) same ∙ can-fixed (game_at s h) k.canonical in
       k.game ∙ ap (λ z. Some (form z)) (sym is)
+
+  -- a game that is known as a nimber alone stands for it
+  pub nimber_told : (h : ℕ) (v w : NumberUpStar) (n : ℕ) → IsKnownAs s h v → v ≡ w → w.number ≡ whole (pos 0)
+      → (w.ups ≡ 0) × (w.downs ≡ 0) → w.star ≡ n → StandsFor s h (nimber_form n)
+  nimber_told h v w n k e number ups star =
+      let P : NumberUpStar → Type 0 = λ z. Equal (nimber_form n) (game_of z) in
+      let Q : Game → Type 0 = λ z. Equal (nimber_form n) z in
+      let V : Game → Type 0 = λ z. StandsFor s h z in
+      let is = subst P (sym e) (subst Q (sym (parts_game w (whole (pos 0)) 0 0 n number ups.0 ups.1 star)) (number_up_star-nimber n)) in
+      subst V (can-fixed (nimber_form n) (nimber-canonical n)) (known_stands h v (nimber_form n) k is)
+
+  pub nimber_known : (h : ℕ) (w : NumberUpStar) (n : ℕ) → StandsFor s h (nimber_form n) → w.number ≡ whole (pos 0)
+      → (w.ups ≡ 0) × (w.downs ≡ 0) → w.star ≡ n → IsKnownAs s h w
+  nimber_known h w n st number ups star =
+      let P : Game → Type 0 = λ z. Canonical z in
+      let Q : Game → Type 0 = λ z. Equal z (game_of w) in
+      let V : Game → Type 0 = λ z. Equal (nimber_form n) z in
+      let is : game_at s h ≡ nimber_form n = stands_game s h (nimber_form n) st in
+      record {
+        game = stands_is_game s h (nimber_form n) st;
+        canonical = subst P (sym is) (nimber-canonical n);
+        equal = subst Q (sym is) (subst V (sym (parts_game w (whole (pos 0)) 0 0 n number ups.0 ups.1 star)) (number_up_star-nimber n));
+      }
 
   -- so does a handle that is found
   pub sum_told : (o : Option ℕ) (a b : ℕ) (v w u : NumberUpStar) → IsKnownAs s a v → IsKnownAs s b w → IsPlus v w u

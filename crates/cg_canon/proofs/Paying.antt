@@ -17,14 +17,13 @@ use Rattle.cg_canon.specs.declared.held.Held.{Held}
 use Rattle.cg_canon.specs.declared.memo.KnownSum.{KnownSum}
 use Rattle.cg_canon.specs.declared.memo.Memo.{Memo}
 use Rattle.cg_canon.specs.declared.meter.Meter.{Meter}
-use Rattle.cg_canon.specs.declared.rest.WorkRest.{WorkRest}
 use Rattle.cg_canon.specs.Books.{BookHolds}
 use Rattle.cg_canon.specs.Held.{IsHeld}
 use Rattle.cg_canon.specs.Items.{AllPass, WasRefused, made}
 use Rattle.cg_canon.specs.Made.{ItemsMade}
 use Rattle.cg_canon.specs.Memos.{IsAdded}
 use Rattle.cg_canon.specs.Paid.{IsPaid, written}
-use Rattle.cg_canon.specs.Works.{MeterHolds, work_state}
+use Rattle.cg_canon.specs.Works.{IsUnspent, MeterHolds, WorkOf, work_state}
 use Rattle.cg_canon.proofs.Charging.{outside_refused}
 use Rattle.cg_canon.proofs.Holding.{held_book, held_later, meter_moved}
 use Rattle.cg_canon.proofs.Results.{on_err, on_ok}
@@ -123,25 +122,22 @@ paid_holds s t a b start h n form extra r w p book same =
       held_book t h n (held_later s t h p.spends.known w.1) book same,
     )
 
-same_rest : {Q : Type 0} (x y : Q) (name name' spent spent' share share' start limit : ℕ) → y ≡ x → name' ≡ name → spent' ≡ spent
-    → share' ≡ share → (λ (z : WorkRest Q). z) (record { of_store = y; name = name'; spent = spent'; share = share'; start = start; limit = limit })
-    ≡ record { of_store = x; name = name; spent = spent; share = share; start = start; limit = limit }
-same_rest x y name name' spent spent' share share' start limit a b c d = cc
-
--- what is seen of it, as a store before and after
-pub record IsItem {R : Type 0} (s t : State Meant (WorkRest R)) (form : Game) (extra : ℕ) (result : Result ℕ ValueFault) : Type 0 where
-  pub game : IfOk result (λ h. StandsFor t h form)
-  pub items : ItemsMade s t (made form extra ∷ []) result
-  pub same : OnErr result (Spends 0 s t)
-  pub spare : OnOk result (s.spare + extra ≤ t.spare)
+-- what is seen of it, before and after
+pub record IsItem {S R : Type 0} (state : S → State Meant R) (w v : WorkOf S) (form : Game) (extra : ℕ) (result : Result ℕ ValueFault) : Type 0 where
+  pub game : IfOk result (λ h. StandsFor (work_state state v) h form)
+  pub items : ItemsMade (work_state state w) (work_state state v) (made form extra ∷ []) result
+  pub same : OnErr result (IsUnspent state w v)
+  pub spare : OnOk result ((work_state state w).spare + extra ≤ (work_state state v).spare)
+  pub more : (work_state state w).spare ≤ (work_state state v).spare
 
 pub paid_item : {S R : Type 0} (state : S → State Meant R) (a b : MutBor S) (m n : Meter) (start limit : ℕ) (form : Game) (extra : ℕ)
     (r : Result ℕ ValueFault) → IsPaid (state a.now) (state b.now) m n form extra r → b.ghost_name ≡ a.ghost_name
     → start ≤ (state a.now).spare + m.spent
-    → IsItem (work_state state (record { store = a; spent = m.spent; share = m.share; start = start; limit = limit }))
-    (work_state state (record { store = b; spent = n.spent; share = n.share; start = start; limit = limit })) form extra r
+    → IsItem state (record { store = a; spent = m.spent; share = m.share; start = start; limit = limit })
+    (record { store = b; spent = n.spent; share = n.share; start = start; limit = limit }) form extra r
 paid_item state a b m n start limit form extra r p name room =
-    let k = p.spends.spare in record {
+    let k = p.spends.spare in
+    let paid = p.paid in record {
       game = p.game;
       items = record {
         charged = p.charged;
@@ -156,14 +152,7 @@ paid_item state a b m n start limit form extra r p name room =
           limit = refl;
         };
       };
-      same = on_err r _ _ p.err (λ e.
-          let none = e.0 in
-          let spent = e.1 in record {
-            known = p.spends.known;
-            noted = p.spends.noted;
-            spare = omega arith;
-            rest = same_rest (state a.now).rest (state b.now).rest a.ghost_name b.ghost_name m.spent n.spent m.share n.share start limit
-                p.spends.rest name spent p.share;
-          });
+      same = on_err r _ _ p.err (λ e. let none = e.0 in record { spent = e.1; spare = omega arith });
       spare = on_ok r _ _ p.ok (λ e. omega arith);
+      more = omega arith;
     }

@@ -14,3 +14,4 @@ pub mod Written
 pub mod Distinct
 pub mod Books
 pub mod Paid
+pub mod Ways

@@ -1,40 +1,37 @@
-//! Sums that are charged again at once.
+//! Items that were made before, charged again at once.
 //!
 //! The items of a sum depend on its two games alone, so a sum all of whose items were made in a work, or before in one whose
 //! findings it took up, is charged by what they cost together, where that stays within the share: then each of them would be
 //! made again.
-ghost use Rattle.std.specs.Prelude.{◌≡◌, ◌≤◌, ◌+◌, IfSome, IfNone, OnSome};
+ghost use Rattle.std.specs.Prelude.{◌≡◌, ◌≤◌, ◌+◌, ◌↔◌, List, IfSome, IfNone, IsTrue, OnSome, false};
 ghost use Rattle.cg_canon.specs.Added.{IsKnownSum};
-ghost use Rattle.cg_canon.specs.Items.{AllPass};
+ghost use Rattle.cg_canon.specs.Items.{AllPass, Item};
 ghost use Rattle.cg_canon.specs.SumItems.{sum_items};
 ghost use Rattle.cg_canon.specs.Works.{Keeps, work_state};
 ghost use Rattle.cg_form.specs.Sum.{sum as sum_of};
 ghost use Rattle.cg_nodes.specs.Can.{can};
 ghost use Rattle.cg_nodes.specs.Games.{IsGame, StandsFor, game_at};
 
-use crate::at_once::charged;
 use crate::memo::KnownSum;
 use crate::work::Work;
 use cg_cells::CellStore;
 use cg_nodes::{BoardForms, GameFacts, Handle};
 use std::alloc::AllocError;
 
-/// Charges the items of a known sum at once, if they were made under this work's limit, unless they don't fit.
-fn again<B: BoardForms, S: CellStore<GameFacts<B>>>(
+/// Charges items that cost so much together, where that stays within the share, and says whether it does. Items that pass where
+/// nothing was spent before and no more than that may be spent are all made again then.
+pub fn charge_again<B: BoardForms, S: CellStore<GameFacts<B>>>(
     work: &mut Work<B, S>,
-    known: &KnownSum,
-) -> Option<Handle>
-    ensures some { IfSome result (λ h. h ≡ known.now.sum) }
-    ensures limit { OnSome result (known.now.limit ≡ work.old.limit) }
-    ensures spent { OnSome result (work.new ≡ record work.old { spent = work.old.spent + known.now.cost }) }
-    ensures fits { OnSome result (work.old.spent + known.now.cost ≤ work.old.share) }
-    ensures room { OnSome result ((work_state S.state work.new).spare ≡ (work_state S.state work.old).spare + known.now.cost) }
-    ensures none { IfNone result (work.new ≡ work.old) }
+    cost: u64,
+) -> bool
+    ensures fits { IsTrue result ↔ (work.old.spent + cost ≤ work.old.share) }
+    ensures charged { (items : List Item) → AllPass cost 0 items cost → IsTrue result
+        → AllPass work.old.share work.old.spent items work.new.spent }
+    ensures none { result ≡ false → work.new ≡ work.old }
+    ensures spare { (work_state S.state work.old).spare ≤ (work_state S.state work.new).spare }
+    ensures keeps { Keeps (work_state S.state work.old) (work_state S.state work.new) }
 {
-    if known.limit == work.limit() && charged(work, known.cost) {
-        return Some(known.sum);
-    }
-    None
+    work.charge(cost)
 }
 
 /// The handle of the canonical form of a + b, where all items of that sum were made before and what they cost together stays
@@ -55,7 +52,12 @@ pub fn sum_again<B: BoardForms, S: CellStore<GameFacts<B>>>(
     ensures keeps { Keeps (work_state S.state work.old) (work_state S.state work.new) }
 {
     match work.added(a, b) {
-        Some(known) => again(work, &known),
+        Some(known) => {
+            if known.limit == work.limit() && work.charge(known.cost) {
+                return Some(known.sum);
+            }
+            None
+        }
         None => None,
     }
 }

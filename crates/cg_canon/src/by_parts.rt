@@ -9,6 +9,7 @@ ghost use Rattle.cg_canon.specs.Works.{work_state};
 ghost use Rattle.cg_form.specs.Canonical.{Canonical};
 ghost use Rattle.cg_form.specs.Order.{Equal};
 ghost use Rattle.cg_form.specs.Sum.{sum as sum_of};
+ghost use Rattle.cg_nimbers.specs.Nimbers.{nimber_form};
 ghost use Rattle.cg_nodes.specs.Can.{can};
 ghost use Rattle.cg_nodes.specs.Games.{IsGame, StandsFor, game_at};
 
@@ -24,6 +25,26 @@ impl<'a, B: BoardForms, S: CellStore<GameFacts<B>>> Work<'a, B, S> {
         ensures { IfSome result (IsKnownAs (work_state S.state self.now) a) }
     {
         self.held.known_as.sum_of(a)
+    }
+
+    /// The number of the nimber that the game is known as, if it is known as one.
+    pub fn nimber_of(&self, a: Handle) -> Option<u64>
+        ensures { IfSome result (λ n. StandsFor (work_state S.state self.now) a (nimber_form n)) }
+    {
+        let parts = self.known_as(a)?;
+        if parts.is(&NumberUpStar::of_nimber(parts.star)) {
+            Some(parts.star)
+        } else {
+            None
+        }
+    }
+
+    /// Keeps that the game is the nimber of n, unless there is no memory for it.
+    pub fn learn_nimber(&mut self, a: Handle, n: u64)
+        requires { StandsFor (work_state S.state self.old) a (nimber_form n) }
+        ensures { self.new ≡ self.old }
+    {
+        self.learn(a, NumberUpStar::of_nimber(n));
     }
 
     /// A game that is known as the sum, if one is found.

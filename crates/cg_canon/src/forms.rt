@@ -1,17 +1,19 @@
-//! The canonical form of the game of two lists of handles.
+//! The canonical form of the game of two lists of handles, by the form that was made of them before where it is kept.
 ghost use Rattle.std.specs.Prelude.{◌≡◌, ◌+◌, ◌≤◌, IfOk, IfErr, OnOk, OnErr, [], ◌∷◌};
+ghost use Rattle.cg_form.specs.Canonical.{Canonical};
 ghost use Rattle.cg_form.specs.Game.{node};
-ghost use Rattle.cg_cells.specs.Store.{Spends};
 ghost use Rattle.cg_nodes.specs.Can.{can};
 ghost use Rattle.cg_nodes.specs.Games.{AreGames, StandsFor, games_at};
 ghost use Rattle.cg_canon.specs.Items.{AllPass, WasRefused, made};
 ghost use Rattle.cg_canon.specs.Made.{ItemsMade};
 ghost use Rattle.cg_book.specs.Terms.{NoneComparableByTerm};
+ghost use Rattle.cg_canon.specs.Ways.{IsWay};
 ghost use Rattle.cg_canon.specs.Works.{IsUnspent, Keeps, work_state};
 
 use crate::distinct::distinct;
 use crate::fault::ValueFault;
-use crate::item::known_item;
+use crate::item::item_of;
+use crate::value::Way;
 use crate::work::Work;
 use cg_book::FirstTerm;
 use cg_cells::CellStore;
@@ -21,59 +23,36 @@ use std::alloc::Global;
 /// Up to so many options of a side are looked up among those that a form was made from.
 const MANY: usize = 32;
 
-/// Makes the item of the canonical form of the game with these options, by the form that was made from them where it is kept.
+/// Makes the item of the canonical form of the game with these options, by the form that was made from them where it is kept, and
+/// else in this way.
 fn found_item<B: BoardForms, S: CellStore<GameFacts<B>>>(
     alloc: Global,
     work: &mut Work<B, S>,
     lefts: &[Handle],
     rights: &[Handle],
+    way: Way,
     extra: u64,
 ) -> Result<Handle, ValueFault>
     requires extra { extra ≤ 8 }
     requires lefts { AreGames (work_state S.state work.old) lefts.now }
     requires rights { AreGames (work_state S.state work.old) rights.now }
+    requires way { let W = work_state S.state work.old in IsWay way (games_at W lefts.now) (games_at W rights.now) }
     ensures game { let W = work_state S.state work.old in IfOk result (λ h. StandsFor (work_state S.state work.new) h
         (can (node (games_at W lefts.now) (games_at W rights.now)))) }
     ensures made { let W = work_state S.state work.old in ItemsMade W (work_state S.state work.new)
         (made (can (node (games_at W lefts.now) (games_at W rights.now))) extra ∷ []) result }
-    ensures same { OnErr result (Spends 0 (work_state S.state work.old) (work_state S.state work.new)) }
+    ensures same { OnErr result (IsUnspent S.state work.old work.new) }
     ensures spare { OnOk result ((work_state S.state work.old).spare + extra ≤ (work_state S.state work.new).spare) }
+    ensures more { (work_state S.state work.old).spare ≤ (work_state S.state work.new).spare }
 {
     if let Some(form) = work.made_from(lefts, rights) {
-        known_item(alloc, work, form, extra)?;
+        item_of(alloc, work, form, extra)?;
         return Ok(form);
     }
-    let form = work.make_value(alloc, lefts, rights, None, extra)?;
+    let form = work.make_value(alloc, lefts, rights, way, extra)?;
     // Where there is no memory for it, it is made anew the next time.
     let _kept = work.keep_made(lefts, rights, form);
     Ok(form)
-}
-
-/// Makes the item of the canonical form of the game with these options, of which each counts once and in any order. Where they
-/// are few, it is looked for among those that were made.
-fn any_item<B: BoardForms, S: CellStore<GameFacts<B>>>(
-    alloc: Global,
-    work: &mut Work<B, S>,
-    lefts: &[Handle],
-    rights: &[Handle],
-    extra: u64,
-) -> Result<Handle, ValueFault>
-    requires extra { extra ≤ 8 }
-    requires lefts { AreGames (work_state S.state work.old) lefts.now }
-    requires rights { AreGames (work_state S.state work.old) rights.now }
-    ensures game { let W = work_state S.state work.old in IfOk result (λ h. StandsFor (work_state S.state work.new) h
-        (can (node (games_at W lefts.now) (games_at W rights.now)))) }
-    ensures made { let W = work_state S.state work.old in ItemsMade W (work_state S.state work.new)
-        (made (can (node (games_at W lefts.now) (games_at W rights.now))) extra ∷ []) result }
-    ensures same { OnErr result (Spends 0 (work_state S.state work.old) (work_state S.state work.new)) }
-    ensures spare { OnOk result ((work_state S.state work.old).spare + extra ≤ (work_state S.state work.new).spare) }
-{
-    if lefts.len() > MANY || rights.len() > MANY {
-        return work.make_value(alloc, lefts, rights, None, extra);
-    }
-    let own = distinct(alloc, lefts)?;
-    let others = distinct(alloc, rights)?;
-    found_item(alloc, work, own.as_slice(), others.as_slice(), extra)
 }
 
 /// Makes the item of the canonical form of the game with these Left and Right options, with a cost of `extra` more, where
@@ -104,11 +83,20 @@ pub fn canonical<B: BoardForms, S: CellStore<GameFacts<B>>>(
     ensures more { (work_state S.state work.old).spare ≤ (work_state S.state work.new).spare }
     ensures keeps { Keeps (work_state S.state work.old) (work_state S.state work.new) }
 {
-    // Read for the proof alone: the meter tells what the store has to spare.
-    let _before = work.spent();
-    let outcome = any_item(alloc, work, lefts, rights, extra);
-    let _after = work.spent();
-    outcome
+    let search = Way::Search(None);
+    if lefts.len() > MANY || rights.len() > MANY {
+        return work.make_value(alloc, lefts, rights, search, extra);
+    }
+    let own = distinct(alloc, lefts)?;
+    let others = distinct(alloc, rights)?;
+    found_item(
+        alloc,
+        work,
+        own.as_slice(),
+        others.as_slice(),
+        search,
+        extra,
+    )
 }
 
 /// Makes the item of the canonical form of the game with these Left and Right options, as [`canonical`] does, where the options
@@ -139,9 +127,38 @@ pub fn canonical_of_terms<B: BoardForms, S: CellStore<GameFacts<B>>>(
     ensures more { (work_state S.state work.old).spare ≤ (work_state S.state work.new).spare }
     ensures keeps { Keeps (work_state S.state work.old) (work_state S.state work.new) }
 {
-    // Read for the proof alone: the meter tells what the store has to spare.
-    let _before = work.spent();
-    let outcome = work.make_value(alloc, lefts, rights, Some(first_term), extra);
-    let _after = work.spent();
-    outcome
+    work.make_value(alloc, lefts, rights, Way::Search(Some(first_term)), extra)
+}
+
+/// Makes the item of a game that is canonical as it is given, with a cost of `extra` more, where `extra` is at most 8. It
+/// is [`canonical`] without the search: both lists rise in the structural order, no option is dominated or
+/// reversible, and the game equals no number.
+///
+/// `Depth` comes exactly where its depth is above 512, and else `Full` exactly where its cost and `extra` together bring the
+/// total cost above the share. After a refusal nothing was spent.
+pub fn canonical_item<B: BoardForms, S: CellStore<GameFacts<B>>>(
+    alloc: Global,
+    work: &mut Work<B, S>,
+    lefts: &[Handle],
+    rights: &[Handle],
+    extra: u64,
+) -> Result<Handle, ValueFault>
+    requires extra { extra ≤ 8 }
+    requires lefts { AreGames (work_state S.state work.old) lefts.now }
+    requires rights { AreGames (work_state S.state work.old) rights.now }
+    requires canonical { let W = work_state S.state work.old in Canonical (node (games_at W lefts.now) (games_at W rights.now)) }
+    ensures game { let W = work_state S.state work.old in
+        IfOk result (λ h. StandsFor (work_state S.state work.new) h (node (games_at W lefts.now) (games_at W rights.now))) }
+    ensures charged { let W = work_state S.state work.old in OnOk result (AllPass work.old.share work.old.spent
+        (made (node (games_at W lefts.now) (games_at W rights.now)) extra ∷ []) work.new.spent) }
+    ensures refused { let W = work_state S.state work.old in IfErr result (λ fault.
+        WasRefused fault work.old.share work.old.spent
+        (made (node (games_at W lefts.now) (games_at W rights.now)) extra ∷ []) work.new.spent) }
+    ensures same { OnErr result (IsUnspent S.state work.old work.new) }
+    ensures spare { OnOk result ((work_state S.state work.old).spare + extra ≤ (work_state S.state work.new).spare) }
+    ensures more { (work_state S.state work.old).spare ≤ (work_state S.state work.new).spare }
+    ensures keeps { Keeps (work_state S.state work.old) (work_state S.state work.new) }
+{
+    // Each option of a list is a claim, so the form is looked for before it is made.
+    found_item(alloc, work, lefts, rights, Way::AsGiven, extra)
 }

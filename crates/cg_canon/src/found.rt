@@ -1,27 +1,24 @@
 //! What a work finds out of games, and makes, with the help of what it has found out before.
 ghost use Rattle.std.specs.Prelude.{◌≡◌, ◌+◌, ◌≤◌, IfSome, IfOk, OnOk, OnErr, [], ◌∷◌};
-ghost use Rattle.cg_form.specs.Canonical.{Canonical};
 ghost use Rattle.cg_form.specs.Game.{lefts, node};
-ghost use Rattle.cg_form.specs.Order.{le};
-ghost use Rattle.cg_form.specs.Simple.{NoNumber};
 ghost use Rattle.cg_cells.specs.Store.{Spends};
 ghost use Rattle.cg_nodes.specs.Can.{can};
 ghost use Rattle.cg_nodes.specs.Games.{AreGames, IsGame, IsNode, StandFor, StandsFor, game_at, games_at};
 ghost use Rattle.cg_book.specs.Profiles.{IsProfile};
-ghost use Rattle.cg_book.specs.Terms.{ApartByTerm};
 ghost use Rattle.cg_canon.specs.Added.{IsKnownSum};
 ghost use Rattle.cg_canon.specs.Items.{made};
 ghost use Rattle.cg_canon.specs.Made.{ItemsMade};
 ghost use Rattle.cg_canon.specs.MadeForms.{IsFormOf};
-ghost use Rattle.cg_canon.specs.Works.{work_state};
+ghost use Rattle.cg_canon.specs.Ways.{IsWay};
+ghost use Rattle.cg_canon.specs.Works.{IsUnspent, work_state};
 
 use crate::fault::ValueFault;
-use crate::making::{given_item, value_item};
+use crate::making::value_item;
 use crate::memo::KnownSum;
 use crate::paging::page_of;
-use crate::value::{compare, lefts_of};
+use crate::value::{Way, lefts_of};
 use crate::work::Work;
-use cg_book::{FirstTerm, Profile};
+use cg_book::Profile;
 use cg_cells::CellStore;
 use cg_nodes::{BoardForms, GameFacts, Handle, Handles};
 use std::alloc::{AllocError, Global};
@@ -32,26 +29,11 @@ impl<'a, B: BoardForms, S: CellStore<GameFacts<B>>> Work<'a, B, S> {
     pub(crate) fn profile_of(&mut self, alloc: Global, a: Handle) -> Result<Profile, AllocError>
         requires { IsGame (work_state S.state self.old) a }
         ensures profile { IfOk result (λ p. IsProfile (game_at (work_state S.state self.old) a) p) }
+        ensures same { IsUnspent S.state self.old self.new }
         ensures spends { Spends 0 (work_state S.state self.old) (work_state S.state self.new) }
     {
         let page = page_of(alloc, self.store, &mut self.held.memo.book, a)?;
         Ok(*self.held.memo.book.pages.profile(page))
-    }
-
-    /// Whether a <= b. The only error is want of memory.
-    pub(crate) fn is_at_most(
-        &mut self,
-        alloc: Global,
-        a: Handle,
-        b: Handle,
-    ) -> Result<bool, AllocError>
-        requires a { IsGame (work_state S.state self.old) a }
-        requires b { IsGame (work_state S.state self.old) b }
-        ensures order { IfOk result (λ answer. answer
-            ≡ le (game_at (work_state S.state self.old) a) (game_at (work_state S.state self.old) b)) }
-        ensures spends { Spends 0 (work_state S.state self.old) (work_state S.state self.new) }
-    {
-        compare(alloc, self.store, &mut self.held.memo.book, a, b)
     }
 
     /// The handles of the Left options of a game that is written as no number, in their order. A game that was met before is read
@@ -72,19 +54,20 @@ impl<'a, B: BoardForms, S: CellStore<GameFacts<B>>> Work<'a, B, S> {
         alloc: Global,
         lefts: &[Handle],
         rights: &[Handle],
-        first_term: Option<FirstTerm>,
+        way: Way,
         extra: u64,
     ) -> Result<Handle, ValueFault>
         requires extra { extra ≤ 8 }
         requires lefts { AreGames (work_state S.state self.old) lefts.now }
         requires rights { AreGames (work_state S.state self.old) rights.now }
-        requires terms { ApartByTerm first_term (games_at (work_state S.state self.old) lefts.now)
+        requires way { IsWay way (games_at (work_state S.state self.old) lefts.now)
             (games_at (work_state S.state self.old) rights.now) }
         ensures game { let W = work_state S.state self.old in IfOk result (λ h. StandsFor (work_state S.state self.new) h
             (can (node (games_at W lefts.now) (games_at W rights.now)))) }
         ensures made { let W = work_state S.state self.old in ItemsMade W (work_state S.state self.new)
             (made (can (node (games_at W lefts.now) (games_at W rights.now))) extra ∷ []) result }
-        ensures same { OnErr result (Spends 0 (work_state S.state self.old) (work_state S.state self.new)) }
+        ensures same { OnErr result (IsUnspent S.state self.old self.new) }
+        ensures more { (work_state S.state self.old).spare ≤ (work_state S.state self.new).spare }
         ensures spare { OnOk result ((work_state S.state self.old).spare + extra ≤ (work_state S.state self.new).spare) }
     {
         value_item(
@@ -94,38 +77,7 @@ impl<'a, B: BoardForms, S: CellStore<GameFacts<B>>> Work<'a, B, S> {
             &mut self.meter,
             lefts,
             rights,
-            first_term,
-            extra,
-        )
-    }
-
-    /// Makes the item of a game that is canonical as it is given, with a cost of `extra` more.
-    pub(crate) fn make_given(
-        &mut self,
-        alloc: Global,
-        lefts: &[Handle],
-        rights: &[Handle],
-        extra: u64,
-    ) -> Result<Handle, ValueFault>
-        requires extra { extra ≤ 8 }
-        requires lefts { AreGames (work_state S.state self.old) lefts.now }
-        requires rights { AreGames (work_state S.state self.old) rights.now }
-        requires canonical { let W = work_state S.state self.old in Canonical (node (games_at W lefts.now) (games_at W rights.now)) }
-        requires no_number { let W = work_state S.state self.old in NoNumber (node (games_at W lefts.now) (games_at W rights.now)) }
-        ensures game { let W = work_state S.state self.old in IfOk result (λ h. StandsFor (work_state S.state self.new) h
-            (node (games_at W lefts.now) (games_at W rights.now))) }
-        ensures made { let W = work_state S.state self.old in ItemsMade W (work_state S.state self.new)
-            (made (node (games_at W lefts.now) (games_at W rights.now)) extra ∷ []) result }
-        ensures same { OnErr result (Spends 0 (work_state S.state self.old) (work_state S.state self.new)) }
-        ensures spare { OnOk result ((work_state S.state self.old).spare + extra ≤ (work_state S.state self.new).spare) }
-    {
-        given_item(
-            alloc,
-            self.store,
-            &mut self.held.memo.book,
-            &mut self.meter,
-            lefts,
-            rights,
+            way,
             extra,
         )
     }

@@ -1,5 +1,4 @@
 //! What a work has found out, apart from the work.
-ghost use Rattle.std.specs.Prelude.{◌↔◌, ◌⊎◌, ◌<◌, IsTrue, length};
 ghost use Rattle.std.specs.FinMap as map;
 ghost use Rattle.std.specs.Ordering.{nat_cmp};
 ghost use Rattle.cg_nodes.specs.Meant.{Meant};
@@ -51,9 +50,7 @@ impl Held {
 
     /// Whether the pages or the sums are so many that a caller would rather begin anew than keep them. Of the forms
     /// only so many are kept in any case.
-    pub fn is_large(&self) -> bool
-        ensures { IsTrue result ↔ ((262144 < length self.now.memo.book.pages) ⊎ (262144 < length self.now.memo.sums.items)) }
-    {
+    pub fn is_large(&self) -> bool {
         self.memo.book.pages.count() > MANY || self.memo.count() > MANY
     }
 }

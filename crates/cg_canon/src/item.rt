@@ -1,7 +1,6 @@
 //! Items of forms that need no search: a number, and a form that is known.
 ghost use Rattle.std.specs.Prelude.{◌≡◌, ◌+◌, ◌≤◌, IfOk, IfErr, OnOk, OnErr, [], ◌∷◌};
 ghost use Rattle.cg_form.specs.Game.{number};
-ghost use Rattle.cg_cells.specs.Store.{Spends};
 ghost use Rattle.cg_nodes.specs.Games.{IsGame, StandsFor, game_at};
 ghost use Rattle.cg_canon.specs.Items.{AllPass, WasRefused, made};
 ghost use Rattle.cg_canon.specs.NumberItems.{IsForm, number_made};
@@ -60,33 +59,11 @@ pub fn number_item<B: BoardForms, S: CellStore<GameFacts<B>>>(
     }
 }
 
-/// Charges the item of a form that is known already.
-#[inline(always)]
-pub(crate) fn known_item<B: BoardForms, S: CellStore<GameFacts<B>>>(
-    alloc: Global,
-    work: &mut Work<B, S>,
-    handle: Handle,
-    extra: u64,
-) -> Result<(), ValueFault>
-    requires extra { extra ≤ 8 }
-    requires game { IsGame (work_state S.state work.old) handle }
-    ensures charged { OnOk result (AllPass work.old.share work.old.spent
-        (made (game_at (work_state S.state work.old) handle) extra ∷ []) work.new.spent) }
-    ensures refused { IfErr result (λ fault. WasRefused fault work.old.share work.old.spent
-        (made (game_at (work_state S.state work.old) handle) extra ∷ []) work.new.spent) }
-    ensures same { OnErr result (Spends 0 (work_state S.state work.old) (work_state S.state work.new)) }
-    ensures spare { OnOk result ((work_state S.state work.old).spare + extra ≤ (work_state S.state work.new).spare) }
-    ensures more { (work_state S.state work.old).spare ≤ (work_state S.state work.new).spare }
-    ensures keeps { Keeps (work_state S.state work.old) (work_state S.state work.new) }
-{
-    let profile = work.profile_of(alloc, handle)?;
-    work.charge_form(&profile, extra)
-}
-
 /// Charges the item of a form that is known already, with a cost of `extra` more, where `extra` is at most 8.
 ///
 /// `Depth` comes exactly where its depth is above 512, and else `Full` exactly where its cost and `extra` together bring the
 /// total cost above the share. After a refusal nothing was spent.
+#[inline(always)]
 pub fn item_of<B: BoardForms, S: CellStore<GameFacts<B>>>(
     alloc: Global,
     work: &mut Work<B, S>,
@@ -104,9 +81,6 @@ pub fn item_of<B: BoardForms, S: CellStore<GameFacts<B>>>(
     ensures more { (work_state S.state work.old).spare ≤ (work_state S.state work.new).spare }
     ensures keeps { Keeps (work_state S.state work.old) (work_state S.state work.new) }
 {
-    // Read for the proof alone: the meter tells what the store has to spare.
-    let _before = work.spent();
-    let outcome = known_item(alloc, work, handle, extra);
-    let _after = work.spent();
-    outcome
+    let profile = work.profile_of(alloc, handle)?;
+    work.charge_form(&profile, extra)
 }

@@ -2,7 +2,6 @@
 #![tactic(auto)]
 
 mod again;
-mod at_once;
 mod book;
 mod by_parts;
 mod distinct;
@@ -11,7 +10,6 @@ mod equality;
 mod fault;
 mod forms;
 mod found;
-mod given;
 mod held;
 mod item;
 mod made;
@@ -30,16 +28,14 @@ mod value;
 mod work;
 mod written;
 
-pub use again::{keep_sum, sum_again};
-pub use at_once::charge_again;
+pub use again::{charge_again, keep_sum, sum_again};
 pub use cg_book::FirstTerm;
 pub use equality::equal;
 pub use fault::ValueFault;
-pub use forms::{canonical, canonical_of_terms};
-pub use given::canonical_item;
+pub use forms::{canonical, canonical_item, canonical_of_terms};
 pub use held::Held;
 pub use item::{item_of, number_item};
-pub use number_up_star::NumberUpStar;
+pub use number_up_star::{NumberUpStar, zero};
 pub use numbers::{le_number, number_le};
 pub use order::le;
 pub use rest::WorkRest;

@@ -2,23 +2,22 @@
 ghost use Rattle.std.specs.Prelude.{◌≡◌, ◌+◌, ◌≤◌, ℕ, length};
 ghost use Rattle.cg_form.specs.Canonical.{Canonical};
 ghost use Rattle.cg_form.specs.Game.{node, number};
-ghost use Rattle.cg_form.specs.Simple.{NoNumber};
 ghost use Rattle.cg_cells.specs.Store.{Spends};
 ghost use Rattle.cg_nodes.specs.Can.{can};
 ghost use Rattle.cg_nodes.specs.Games.{AreGames, IsGame, ListsAs, StandsFor, game_at, games_at};
 ghost use Rattle.cg_book.specs.Pages.{games_of};
 ghost use Rattle.cg_book.specs.Settled.{IsNewForm};
-ghost use Rattle.cg_book.specs.Terms.{ApartByTerm};
 ghost use Rattle.cg_canon.specs.Books.{BookHolds};
 ghost use Rattle.cg_canon.specs.Paid.{IsPaid, written};
+ghost use Rattle.cg_canon.specs.Ways.{IsWay};
 
 use crate::book::{Book, put_handles};
 use crate::entering::enter_game;
 use crate::fault::ValueFault;
 use crate::made::are_same;
 use crate::meter::Meter;
-use crate::value::{form_of_lists, value_of_lists};
-use cg_book::{FirstTerm, NewForm, Profile, Settled};
+use crate::value::{Way, value_of_lists};
+use cg_book::{NewForm, Profile, Settled};
 use cg_cells::CellStore;
 use cg_dyadic::Dyadic;
 use cg_nodes::{BoardForms, GameFacts, Handle, ListId, expect_game, game, list, number};
@@ -180,14 +179,14 @@ pub(crate) fn value_item<B: BoardForms, S: CellStore<GameFacts<B>>>(
     meter: &mut Meter,
     lefts: &[Handle],
     rights: &[Handle],
-    first_term: Option<FirstTerm>,
+    way: Way,
     extra: u64,
 ) -> Result<Handle, ValueFault>
     requires extra { extra ≤ 8 }
     requires holds { BookHolds (S.state store.old) book.old }
     requires lefts { AreGames (S.state store.old) lefts.now }
     requires rights { AreGames (S.state store.old) rights.now }
-    requires terms { ApartByTerm first_term (games_at (S.state store.old) lefts.now) (games_at (S.state store.old) rights.now) }
+    requires way { IsWay way (games_at (S.state store.old) lefts.now) (games_at (S.state store.old) rights.now) }
     requires within { meter.old.spent ≤ meter.old.share }
     requires small { meter.old.share ≤ 67108864 }
     requires room { meter.old.share ≤ (S.state store.old).spare + meter.old.spent }
@@ -195,37 +194,10 @@ pub(crate) fn value_item<B: BoardForms, S: CellStore<GameFacts<B>>>(
     ensures paid { IsPaid (S.state store.old) (S.state store.new) meter.old meter.new
         (can (node (games_at (S.state store.old) lefts.now) (games_at (S.state store.old) rights.now))) extra result }
 {
-    let settled = value_of_lists(alloc, store, book, lefts, rights, first_term)?;
+    let settled = value_of_lists(alloc, store, book, lefts, rights, way)?;
     match settled {
         Settled::Number(x) => number_item(store, meter, x, extra),
         Settled::Outside => Err(ValueFault::Range),
         Settled::Game(new) => form_item(alloc, store, book, meter, &new, extra),
     }
-}
-
-/// Makes the item of a game that is canonical as it is given, with a cost of `extra` more.
-pub(crate) fn given_item<B: BoardForms, S: CellStore<GameFacts<B>>>(
-    alloc: Global,
-    store: &mut S,
-    book: &mut Book,
-    meter: &mut Meter,
-    lefts: &[Handle],
-    rights: &[Handle],
-    extra: u64,
-) -> Result<Handle, ValueFault>
-    requires extra { extra ≤ 8 }
-    requires holds { BookHolds (S.state store.old) book.old }
-    requires lefts { AreGames (S.state store.old) lefts.now }
-    requires rights { AreGames (S.state store.old) rights.now }
-    requires canonical { Canonical (node (games_at (S.state store.old) lefts.now) (games_at (S.state store.old) rights.now)) }
-    requires no_number { NoNumber (node (games_at (S.state store.old) lefts.now) (games_at (S.state store.old) rights.now)) }
-    requires within { meter.old.spent ≤ meter.old.share }
-    requires small { meter.old.share ≤ 67108864 }
-    requires room { meter.old.share ≤ (S.state store.old).spare + meter.old.spent }
-    ensures holds { BookHolds (S.state store.new) book.new }
-    ensures paid { IsPaid (S.state store.old) (S.state store.new) meter.old meter.new
-        (node (games_at (S.state store.old) lefts.now) (games_at (S.state store.old) rights.now)) extra result }
-{
-    let new = form_of_lists(alloc, store, book, lefts, rights)?;
-    form_item(alloc, store, book, meter, &new, extra)
 }

@@ -1,5 +1,5 @@
 //! What was found out of the games of a work.
-ghost use Rattle.std.specs.Prelude.{◌≡◌, ◌⊎◌, ℕ, [], length, IfOk, IfSome, OnErr};
+ghost use Rattle.std.specs.Prelude.{◌≡◌, ◌⊎◌, ℕ, [], IfOk, IfSome, OnErr};
 ghost use Rattle.cg_book.specs.declared.recent.Answer.{Answer as Known};
 ghost use Rattle.cg_book.specs.Recents.{IsKept};
 ghost use Rattle.cg_canon.specs.Memos.{IsAdded};
@@ -58,9 +58,7 @@ impl Memo {
     }
 
     /// How many sums there are.
-    pub fn count(&self) -> usize
-        ensures { result ≡ length self.now.sums.items }
-    {
+    pub fn count(&self) -> usize {
         self.sums.len()
     }
 

@@ -1,5 +1,5 @@
 //! What was spent of a share.
-ghost use Rattle.std.specs.Prelude.{◌≡◌, ◌+◌, ◌<◌, ◌≤◌, ◌^◌, IfOk, IfErr, OnOk, OnErr, [], ◌∷◌};
+ghost use Rattle.std.specs.Prelude.{◌≡◌, ◌+◌, ◌≤◌, ◌^◌, IfOk, IfErr, OnOk, OnErr, [], ◌∷◌};
 ghost use Rattle.cg_form.specs.Game.{Game};
 ghost use Rattle.cg_canon.specs.Items.{AllPass, WasRefused, made};
 ghost use Rattle.cg_book.specs.Profiles.{IsProfile};
@@ -18,25 +18,6 @@ pub(crate) struct Meter {
 const DEEPEST: u64 = 512;
 
 impl Meter {
-    /// Charges the cost, unless that would bring the total above the share: then the fault is `Full` of that total.
-    pub fn charge(&mut self, cost: u64) -> Result<(), ValueFault>
-        requires cost { cost ≤ 2 ^ 63 + 8 }
-        requires within { self.old.spent ≤ self.old.share }
-        requires small { self.old.share ≤ 67108864 }
-        ensures ok { IfOk result (λ _. self.new ≡ record self.old { spent = self.old.spent + cost }) }
-        ensures fits { IfOk result (λ _. self.old.spent + cost ≤ self.old.share) }
-        ensures full { IfErr result (λ fault. fault ≡ ValueFault.Full (self.old.spent + cost)) }
-        ensures above { OnErr result (self.old.share < self.old.spent + cost) }
-        ensures same { OnErr result (self.new ≡ self.old) }
-    {
-        let total = self.spent + cost;
-        if total > self.share {
-            return Err(ValueFault::Full(total));
-        }
-        self.spent = total;
-        Ok(())
-    }
-
     /// Charges the item of the form with this profile, with a cost of `extra` more, unless it is too deep or too dear.
     pub fn charge_form(&mut self, profile: &Profile, extra: u64) -> Result<(), ValueFault>
         requires extra { extra ≤ 8 }
@@ -55,6 +36,11 @@ impl Meter {
         if profile.depth > DEEPEST {
             return Err(ValueFault::Depth(profile.depth));
         }
-        self.charge(profile.cost + extra)
+        let total = self.spent + (profile.cost + extra);
+        if total > self.share {
+            return Err(ValueFault::Full(total));
+        }
+        self.spent = total;
+        Ok(())
     }
 }

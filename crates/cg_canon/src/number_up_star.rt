@@ -19,7 +19,7 @@ pub struct NumberUpStar {
 }
 
 /// The number 0.
-fn zero() -> Dyadic
+pub fn zero() -> Dyadic
     ensures { result ≡ whole (pos 0) }
 {
     Dyadic::of_lowest(0, 0)

@@ -5,6 +5,7 @@ ghost use Rattle.cg_cells.specs.Store.{Spends};
 ghost use Rattle.cg_nodes.specs.Games.{IsGame, game_at};
 ghost use Rattle.cg_canon.specs.Works.{work_state};
 
+use crate::value::compare;
 use crate::work::Work;
 use cg_cells::CellStore;
 use cg_nodes::{BoardForms, GameFacts, Handle};
@@ -24,5 +25,5 @@ pub fn le<B: BoardForms, S: CellStore<GameFacts<B>>>(
         ≡ le (game_at (work_state S.state work.old) a) (game_at (work_state S.state work.old) b)) }
     ensures spends { Spends 0 (work_state S.state work.old) (work_state S.state work.new) }
 {
-    work.is_at_most(alloc, a, b)
+    compare(alloc, work.store, &mut work.held.memo.book, a, b)
 }

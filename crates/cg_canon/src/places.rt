@@ -8,9 +8,6 @@ ghost use Rattle.std.specs.Prelude.{ℕ, Some, IfSome};
 use cg_nodes::Handle;
 use std::alloc::{AllocError, Global};
 
-/// So many entries are looked through one by one.
-const FEW: usize = 8;
-
 /// The first size of a table.
 const FIRST: usize = 64;
 
@@ -22,25 +19,12 @@ struct Place {
     mark: u32,
 }
 
-/// What is seen at a place.
-enum Seen {
-    /// It is free, and so no place after it has the number.
-    Nothing,
-    /// An entry of another number.
-    Other,
-    /// An entry of this number.
-    Entry(u32),
-}
-
-/// The places of entries: those of the first few by their order, and a table of all once they are more.
+/// The places of entries.
 #[derive(Drop)]
 pub(crate) struct Places {
     alloc: Global,
     /// How many entries there are.
     count: usize,
-    /// The numbers of the first few.
-    first: [u32; FEW],
-    /// The table.
     places: Vec<Place>,
 }
 
@@ -97,41 +81,7 @@ impl Places {
         Places {
             alloc,
             count: 0,
-            first: [0; FEW],
             places: Vec::new(alloc),
-        }
-    }
-
-    /// How many places may have to be tried for a number.
-    fn most(&self) -> usize {
-        self.places.len().max(FEW)
-    }
-
-    /// What is seen at the place that is tried for the number after so many others.
-    fn seen(&self, number: u32, tried: usize) -> Seen {
-        if self.places.is_empty() {
-            return self.seen_first(number, tried);
-        }
-        let at = place_at(number, tried, self.places.len());
-        if at >= self.places.len() || self.places[at].mark == 0 {
-            return Seen::Nothing;
-        }
-        if self.places[at].number == number {
-            Seen::Entry(self.places[at].mark - 1)
-        } else {
-            Seen::Other
-        }
-    }
-
-    /// What is seen of the first few entries, at one of them.
-    fn seen_first(&self, number: u32, entry: usize) -> Seen {
-        if entry >= self.count.min(FEW) {
-            return Seen::Nothing;
-        }
-        if self.first[entry] == number {
-            Seen::Entry(entry as u32)
-        } else {
-            Seen::Other
         }
     }
 
@@ -141,14 +91,16 @@ impl Places {
         requires { F.IsAlwaysCallable look }
         ensures { IfSome result (λ found. (entry : ℕ) × F.post look entry (Some found)) }
     {
-        for tried in 0..self.most() {
-            match self.seen(number, tried) {
-                Seen::Nothing => return None,
-                Seen::Other => {}
-                Seen::Entry(entry) => {
-                    if let Some(found) = look(entry) {
-                        return Some(found);
-                    }
+        for tried in 0..self.places.len() {
+            let Some(place) = self.places.get(place_at(number, tried, self.places.len())) else {
+                return None;
+            };
+            if place.mark == 0 {
+                return None;
+            }
+            if place.number == number {
+                if let Some(found) = look(place.mark - 1) {
+                    return Some(found);
                 }
             }
         }
@@ -161,10 +113,6 @@ impl Places {
     pub fn add(&mut self, number: u32) {
         let entry = self.count;
         self.count = entry.saturating_add(1);
-        if entry < FEW {
-            self.first[entry] = number;
-            return;
-        }
         if entry >= self.places.len() / 2 && self.grow().is_err() {
             return;
         }
@@ -175,11 +123,6 @@ impl Places {
     fn grow(&mut self) -> Result<(), AllocError> {
         let size = self.places.len().saturating_mul(2).max(FIRST);
         let mut grown = vec![in self.alloc; Place { number: 0, mark: 0 }; size]?;
-        if self.places.is_empty() {
-            for (entry, number) in self.first.iter().enumerate() {
-                put(&mut grown, *number, entry);
-            }
-        }
         put_all(&self.places, &mut grown);
         self.places = grown;
         Ok(())

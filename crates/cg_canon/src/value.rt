@@ -2,14 +2,13 @@
 ghost use Rattle.std.specs.Prelude.{◌≡◌, IfOk, []};
 ghost use Rattle.cg_form.specs.Game.{lefts, node};
 ghost use Rattle.cg_form.specs.Order.{le};
-ghost use Rattle.cg_form.specs.Simple.{NoNumber};
 ghost use Rattle.cg_cells.specs.Store.{Spends};
 ghost use Rattle.cg_nodes.specs.Can.{can};
 ghost use Rattle.cg_nodes.specs.Games.{AreGames, IsGame, IsNode, game_at, games_at};
 ghost use Rattle.cg_book.specs.Pages.{StandFor};
-ghost use Rattle.cg_book.specs.Settled.{IsNewForm, IsSettled};
-ghost use Rattle.cg_book.specs.Terms.{ApartByTerm};
+ghost use Rattle.cg_book.specs.Settled.{IsSettled};
 ghost use Rattle.cg_canon.specs.Books.{BookHolds};
+ghost use Rattle.cg_canon.specs.Ways.{IsWay};
 
 use crate::book::{Book, HandleList, handles_of};
 use crate::paging::{page_of, put_pages};
@@ -85,6 +84,15 @@ fn put_both<B: BoardForms, S: CellStore<GameFacts<B>>>(
     Ok(())
 }
 
+/// How the canonical form of a game of two lists is found.
+#[derive(Clone, Copy)]
+pub(crate) enum Way {
+    /// By a search. Where so many options of each side are told, these come from one term of a sum, and the others from the other.
+    Search(Option<FirstTerm>),
+    /// It is the game as it stands.
+    AsGiven,
+}
+
 /// What the game with these options is. The only error is want of memory.
 pub(crate) fn value_of_lists<B: BoardForms, S: CellStore<GameFacts<B>>>(
     alloc: Global,
@@ -92,12 +100,12 @@ pub(crate) fn value_of_lists<B: BoardForms, S: CellStore<GameFacts<B>>>(
     book: &mut Book,
     lefts: &[Handle],
     rights: &[Handle],
-    first_term: Option<FirstTerm>,
+    way: Way,
 ) -> Result<Settled, AllocError>
     requires holds { BookHolds (S.state store.old) book.old }
     requires lefts { AreGames (S.state store.old) lefts.now }
     requires rights { AreGames (S.state store.old) rights.now }
-    requires terms { ApartByTerm first_term (games_at (S.state store.old) lefts.now) (games_at (S.state store.old) rights.now) }
+    requires way { IsWay way (games_at (S.state store.old) lefts.now) (games_at (S.state store.old) rights.now) }
     ensures holds { BookHolds (S.state store.new) book.new }
     ensures value { IfOk result (IsSettled book.new.pages
         (can (node (games_at (S.state store.old) lefts.now) (games_at (S.state store.old) rights.now)))) }
@@ -105,34 +113,16 @@ pub(crate) fn value_of_lists<B: BoardForms, S: CellStore<GameFacts<B>>>(
 {
     let mut both = Form::new(alloc);
     put_both(alloc, store, book, lefts, rights, &mut both)?;
-    settle(
-        &book.pages,
-        &mut book.answers,
-        both.lefts.as_slice(),
-        both.rights.as_slice(),
-        first_term,
-    )
-}
-
-/// The form with these options, which equals no number. The only error is want of memory.
-pub(crate) fn form_of_lists<B: BoardForms, S: CellStore<GameFacts<B>>>(
-    alloc: Global,
-    store: &mut S,
-    book: &mut Book,
-    lefts: &[Handle],
-    rights: &[Handle],
-) -> Result<NewForm, AllocError>
-    requires holds { BookHolds (S.state store.old) book.old }
-    requires lefts { AreGames (S.state store.old) lefts.now }
-    requires rights { AreGames (S.state store.old) rights.now }
-    requires no_number { NoNumber (node (games_at (S.state store.old) lefts.now) (games_at (S.state store.old) rights.now)) }
-    ensures holds { BookHolds (S.state store.new) book.new }
-    ensures form { IfOk result (IsNewForm book.new.pages
-        (node (games_at (S.state store.old) lefts.now) (games_at (S.state store.old) rights.now))) }
-    ensures spends { Spends 0 (S.state store.old) (S.state store.new) }
-{
-    let mut form = Form::new(alloc);
-    put_both(alloc, store, book, lefts, rights, &mut form)?;
-    let profile = profile_of_lists(&book.pages, form.lefts.as_slice(), form.rights.as_slice());
-    Ok(NewForm { form, profile })
+    let lefts = both.lefts.as_slice();
+    let rights = both.rights.as_slice();
+    match way {
+        Way::Search(first_term) => settle(&book.pages, &mut book.answers, lefts, rights, first_term),
+        Way::AsGiven => {
+            let profile = profile_of_lists(&book.pages, lefts, rights);
+            Ok(Settled::Game(NewForm {
+                form: both,
+                profile,
+            }))
+        }
+    }
 }

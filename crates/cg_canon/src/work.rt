@@ -1,5 +1,5 @@
 //! A store with a meter, and with what was found out of its games.
-ghost use Rattle.std.specs.Prelude.{◌≡◌, ◌+◌, ◌-◌, ◌≤◌, ◌<◌, ◌^◌, IfOk, IfErr, OnOk, OnErr, [], ◌∷◌};
+ghost use Rattle.std.specs.Prelude.{◌≡◌, ◌+◌, ◌-◌, ◌≤◌, ◌^◌, ◌↔◌, IfOk, IfErr, IsTrue, OnOk, OnErr, [], ◌∷◌, false};
 ghost use Rattle.cg_form.specs.Game.{Game};
 ghost use Rattle.cg_book.specs.Profiles.{IsProfile};
 ghost use Rattle.cg_canon.specs.Held.{IsHeld};
@@ -123,17 +123,18 @@ impl<'a, B: BoardForms, S: CellStore<GameFacts<B>>> Work<'a, B, S> {
         replace(&mut self.held, Held::new(alloc)).for_later()
     }
 
-    /// Charges the cost, unless that would bring the total above the share: then the fault is `Full` of that total.
-    pub(crate) fn charge(&mut self, cost: u64) -> Result<(), ValueFault>
-        requires { cost ≤ 2 ^ 35 }
-        ensures ok { IfOk result (λ _. self.new ≡ record self.old { spent = self.old.spent + cost }) }
-        ensures fits { IfOk result (λ _. self.old.spent + cost ≤ self.old.share) }
-        ensures room { IfOk result (λ _. (work_state S.state self.new).spare ≡ (work_state S.state self.old).spare + cost) }
-        ensures full { IfErr result (λ fault. fault ≡ ValueFault.Full (self.old.spent + cost)) }
-        ensures above { OnErr result (self.old.share < self.old.spent + cost) }
-        ensures same { OnErr result (self.new ≡ self.old) }
+    /// Charges the cost, unless that would bring the total above the share, and says whether it did.
+    pub(crate) fn charge(&mut self, cost: u64) -> bool
+        ensures fits { IsTrue result ↔ (self.old.spent + cost ≤ self.old.share) }
+        ensures spent { IsTrue result → self.new ≡ record self.old { spent = self.old.spent + cost } }
+        ensures room { IsTrue result → (work_state S.state self.new).spare ≡ (work_state S.state self.old).spare + cost }
+        ensures none { result ≡ false → self.new ≡ self.old }
     {
-        self.meter.charge(cost)
+        if cost > self.meter.share - self.meter.spent {
+            return false;
+        }
+        self.meter.spent += cost;
+        true
     }
 
     /// Charges the item of the form with this profile, with a cost of `extra` more, unless it is too deep or too dear.

@@ -8,7 +8,8 @@ ghost use Rattle.cg_moves.specs.declared.player.Player.TheVariants.{Left, Right}
 ghost use Rattle.cg_moves.specs.Grid.{Grid};
 ghost use Rattle.cg_moves.specs.Raw.{raw};
 ghost use Rattle.cg_moves.specs.Rising.{IsRising};
-ghost use Rattle.cg_moves.specs.Rules.{In, IsLawful, boards_after};
+ghost use Rattle.cg_moves.specs.Lawful.{IsLawful};
+ghost use Rattle.cg_moves.specs.Rules.{In, boards_after};
 ghost use Rattle.cg_graph.specs.Charts.{Chart, IsChartedAs, IsNotCharted, chart_read};
 ghost use Rattle.cg_graph.specs.Drawings.{IsDrawnAs, IsNotDrawn, colours_of, drawing_read, drawing_start, graph_of};
 ghost use Rattle.cg_graph.specs.Hackenbush.{IsCutMove, IsRedBlue, cuts_of, green, hackenbush};

@@ -1,26 +1,50 @@
-use Rattle.std.proofs.Common.{◌≡◌, ap, subst, sym, ◌∙◌}
+use Rattle.std.proofs.Common.{◌≡◌, ap, subst, sym, ◌∙◌, List, ℕ}
 use Rattle.cg_form.specs.Canonical.{IsCanonicalForm}
 use Rattle.cg_form.specs.Game.{Game, node}
+use Rattle.cg_form.specs.Simple.{NoNumber}
 use Rattle.cg_nodes.specs.Can.{can}
 use Rattle.cg_nodes.specs.CanForms.{can-is}
 use Rattle.cg_nodes.specs.Games.{games_at}
 use Rattle.cg_book.specs.Pages.{games_of}
+use Rattle.cg_book.specs.Profiles.{IsProfile}
+use Rattle.cg_canon.specs.declared.value.Way.{Way}
+use Rattle.cg_canon.specs.Ways.{IsWay}
 use Rattle.cg_canon.proofs.Booking.{holds_answers}
+use Rattle.cg_canon.proofs.Charging.{same_node}
+use Rattle.cg_canon.proofs.Valuing.{given_form}
 use Rattle.cg_canon.proofs.value.value_of_lists.Goals as goal
 
-pub returns-clause-holds : goal.returns-clause-holds
-returns-clause-holds g c =
+pub returns-in-Search-clause-holds : goal.returns-in-Search-clause-holds
+returns-in-Search-clause-holds g c =
     holds_answers (g.S.CellStore.state c.put_both.new.store) c.put_both.new.book c.settle.new.answers c.put_both.ensures.holds c.settle.ensures.right
 
-pub returns-clause-value : goal.returns-clause-value
-returns-clause-value g c =
+pub returns-in-Search-clause-value : goal.returns-in-Search-clause-value
+returns-in-Search-clause-value g c =
     let s = g.S.CellStore.state c.args.store.now in
     let gs = c.put_both.new.book.pages in
     let whole = node (games_at s c.args.lefts.now) (games_at s c.args.rights.now) in
-    let same : node (games_of gs c.as_slice.result.now) (games_of gs c.as_slice-2.result.now) ≡ whole =
-    ap (λ z. node (games_of gs z) (games_of gs c.as_slice-2.result.now)) c.as_slice.ensures
-    ∙ ap (λ z. node (games_of gs c.put_both.new.form.lefts.items) (games_of gs z)) c.as_slice-2.ensures
-    ∙ ap (λ z. node z (games_of gs c.put_both.new.form.rights.items)) c.in_ok-put_both.ensures.lefts.1
-    ∙ ap (node (games_at s c.args.lefts.now)) c.in_ok-put_both.ensures.rights.1 in
+    let same : node (games_of gs c.as_slice-lefts.result.now) (games_of gs c.as_slice-rights.result.now) ≡ whole =
+    same_node _ _ _ _ (ap (games_of gs) c.as_slice-lefts.ensures ∙ c.in_ok-put_both.ensures.lefts.1)
+    (ap (games_of gs) c.as_slice-rights.ensures ∙ c.in_ok-put_both.ensures.rights.1) in
     let P : Game → Type 0 = λ z. IsCanonicalForm z (can whole) in
     c.settle.ensures.settled (can whole) (subst P (sym same) (can-is whole))
+
+pub profile_of_lists-requires-clause-no_number : goal.profile_of_lists-requires-clause-no_number
+profile_of_lists-requires-clause-no_number g c =
+    let s = g.S.CellStore.state c.args.store.now in
+    let gs = c.put_both.new.book.pages in
+    let P : Way → Type 0 = λ z. IsWay z (games_at s c.args.lefts.now) (games_at s c.args.rights.now) in
+    let Q : Game → Type 0 = λ z. NoNumber z in
+    subst Q (sym (same_node _ _ _ _ (ap (games_of gs) c.as_slice-lefts.ensures ∙ c.in_ok-put_both.ensures.lefts.1)
+    (ap (games_of gs) c.as_slice-rights.ensures ∙ c.in_ok-put_both.ensures.rights.1))) (subst P c.in-AsGiven.is c.requires.way).0.no_number
+
+pub returns-in-AsGiven-clause-value : goal.returns-in-AsGiven-clause-value
+returns-in-AsGiven-clause-value g c =
+    let s = g.S.CellStore.state c.args.store.now in
+    let gs = c.put_both.new.book.pages in
+    let P : Way → Type 0 = λ z. IsWay z (games_at s c.args.lefts.now) (games_at s c.args.rights.now) in
+    let L : List ℕ → Type 0 = λ z. IsProfile (node (games_of gs z) (games_of gs c.as_slice-rights.result.now)) c.profile_of_lists.result in
+    let R : List ℕ → Type 0 = λ z. IsProfile (node (games_of gs c.put_both.new.form.lefts.items) (games_of gs z)) c.profile_of_lists.result in
+    given_form gs (games_at s c.args.lefts.now) (games_at s c.args.rights.now) (record { form = c.put_both.new.form; profile = c.profile_of_lists.result })
+    (subst P c.in-AsGiven.is c.requires.way) c.in_ok-put_both.ensures.lefts c.in_ok-put_both.ensures.rights
+    (subst R c.as_slice-rights.ensures (subst L c.as_slice-lefts.ensures c.profile_of_lists.ensures))

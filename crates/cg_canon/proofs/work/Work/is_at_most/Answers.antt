@@ -1,7 +1,0 @@
-use Rattle.cg_canon.proofs.Valuing.{searched}
-use Rattle.cg_canon.proofs.work.Work.is_at_most.Goals as goal
-
-pub invariant_of-self : goal.invariant_of-self
-invariant_of-self g c =
-    searched (g.S.CellStore.state c.self.inside.store.now) (g.S.CellStore.state c.compare.new.store) c.self.inside.meter.spent c.self.inside.meter.share c.self.inside.start
-    c.self.inside.held c.compare.new.book c.self.invariant c.compare.ensures.spends c.compare.ensures.holds
