@@ -116,7 +116,13 @@ pub(crate) fn value_of_lists<B: BoardForms, S: CellStore<GameFacts<B>>>(
     let lefts = both.lefts.as_slice();
     let rights = both.rights.as_slice();
     match way {
-        Way::Search(first_term) => settle(&book.pages, &mut book.answers, lefts, rights, first_term),
+        Way::Search(first_term) => settle(
+            &book.pages,
+            &mut book.answers,
+            lefts,
+            rights,
+            first_term,
+        ),
         Way::AsGiven => {
             let profile = profile_of_lists(&book.pages, lefts, rights);
             Ok(Settled::Game(NewForm {
