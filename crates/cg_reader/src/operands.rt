@@ -130,10 +130,35 @@ impl LineReader {
         }
     }
 
+    /// The point and the operand of a multiple.
+    #[cycle(items)]
+    #[tactic(auto, unfolding(cg_grammar::specs::Reading::times_at))]
+    fn times(
+        self,
+        brackets: u8,
+        negative: bool,
+        num: u128,
+        bytes: &[u8],
+    ) -> Result<(Found, &[u8]), ReadFault>
+        requires { length bytes.now ≤ self.line_end }
+        ensures read { Gives (λ x. (found_of x.0, x.1.now)) result
+            (times_at (special_at self.format brackets) negative num self.line_end bytes.now) }
+        ensures shorter { IfOk result (λ x. length x.1.now < length bytes.now) }
+    {
+        match bytes.split_first() {
+            Some((first, rest)) if is_byte(b'.', *first) => {
+                let (operand, rest) = self.primary(brackets, rest)?;
+                let found = multiple(self.alloc, negative, num, operand)?;
+                Ok((found, rest))
+            }
+            _ => Err(ReadFault::Stuck(bytes.len())),
+        }
+    }
+
     /// The point and the operand of a multiple, and what stands together with it.
     #[cycle(items)]
     #[inline(never)]
-    #[tactic(auto, unfolding(cg_grammar::specs::Reading::counted_multiple_at, cg_grammar::specs::Reading::times_at, cg_grammar::specs::Reading::tail_of_at, cg_reading::specs::TokenReaders::byte_at))]
+    #[tactic(auto, unfolding(cg_grammar::specs::Reading::counted_multiple_at, cg_grammar::specs::Reading::tail_of_at))]
     fn counted_multiple(
         self,
         brackets: u8,
@@ -146,10 +171,8 @@ impl LineReader {
             (counted_multiple_at (special_at self.format brackets) negative num self.line_end bytes.now) }
         ensures shorter { IfOk result (λ x. length x.1.now < length bytes.now) }
     {
-        let rest = after_byte(b'.', bytes)?;
-        let (operand, rest) = self.primary(brackets, rest)?;
-        let found = multiple(self.alloc, negative, num, operand)?;
-        behind_operand(self.alloc, found, rest)
+        let (operand, rest) = self.times(brackets, negative, num, bytes)?;
+        behind_operand(self.alloc, operand, rest)
     }
 
     /// A number or a multiple, and what stands together with it.
