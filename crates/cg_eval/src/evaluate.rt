@@ -27,8 +27,8 @@ use cg_syntax::{Expr, Exprs, Term, Terms};
 use cg_values::CgBoards;
 use std::alloc::Global;
 
-/// The canonical form of what the expression means, which has no uses of names. It makes the expression's items in order; the fault is that of the
-/// first that is refused, or want of memory.
+/// The canonical form of what the expression means, which has no uses of names. It makes the expression's items in
+/// order; the fault is that of the first that is refused, or want of memory.
 #[cycle(evaluate)]
 pub fn evaluate<S: CellStore<GameFacts<CgBoards>>>(
     alloc: Global,

@@ -69,8 +69,8 @@ fn value_of_heap<B: BoardForms, S: CellStore<GameFacts<B>>>(
     nimber(alloc, work, number as u128)
 }
 
-/// The value of the heap of so many tokens in the octal game of the code. It makes the heap's items in order; the fault is
-/// that of the first that is refused, or want of memory.
+/// The value of the heap of so many tokens in the octal game of the code. It makes the heap's items in order; the fault
+/// is that of the first that is refused, or want of memory.
 pub fn heap_value<B: BoardForms, S: CellStore<GameFacts<B>>>(
     alloc: Global,
     work: &mut Work<B, S>,

@@ -60,8 +60,8 @@ fn value_in<S: CellStore<GameFacts<CgBoards>>>(
     }
 }
 
-/// The value of the board. It makes the board's items in order; the fault is that of the first that is refused, or want of
-/// memory.
+/// The value of the board. It makes the board's items in order; the fault is that of the first that is refused, or want
+/// of memory.
 pub fn board_value<S: CellStore<GameFacts<CgBoards>>>(
     alloc: Global,
     work: &mut Work<CgBoards, S>,

@@ -20,8 +20,8 @@ use cg_syntax::{Expr, Query, Text};
 use cg_values::CgBoards;
 use std::alloc::Global;
 
-/// The answer to a question that has no uses of names and whose boards and heaps are all well-formed. It makes the question's items in order; the fault is that of
-/// the first that is refused, or want of memory.
+/// The answer to a question that has no uses of names and whose boards and heaps are all well-formed. It makes the
+/// question's items in order; the fault is that of the first that is refused, or want of memory.
 pub fn answer_question<S: CellStore<GameFacts<CgBoards>>>(
     alloc: Global,
     work: &mut Work<CgBoards, S>,

@@ -24,14 +24,14 @@ use std::alloc::{AllocError, Global};
 use std::mem;
 
 /// The reply to a closed question, which has no uses of names, on a share of so much of the store's spare, with so many
-/// positions at most in one list of items. Each question that a line of format 1 asks is closed, and so is each whose names
-/// were replaced by what they stand for.
+/// positions at most in one list of items. Each question that a line of format 1 asks is closed, and so is each whose
+/// names were replaced by what they stand for.
 ///
-/// It is the first of these that applies: `! board cause p` for the first ill-formed board or heap from the left;
-/// `! positions`, `! range`, `! depth` or `! full` where an item of the question is refused; `! range` where the mean or the
-/// temperature of some position of the value needs more than 60 binary places and the question is for a mean, a temperature
-/// or a thermograph; `! long` where a proof has more than 65,536 bytes; and else its answer. The one fault is want of memory.
-/// Whatever it answers, what the store knew it knows, and its spare falls by the share at most.
+/// It is the first of these that applies: `! board cause p` for the first ill-formed board or heap from the left; `!
+/// positions`, `! range`, `! depth` or `! full` where an item of the question is refused; `! range` where the mean or
+/// the temperature of some position of the value needs more than 60 binary places and the question is for a mean, a
+/// temperature or a thermograph; `! long` where a proof has more than 65,536 bytes; and else its answer. The one fault
+/// is want of memory. Whatever it answers, what the store knew it knows, and its spare falls by the share at most.
 pub fn answer_query<S: CellStore<GameFacts<CgBoards>>>(
     alloc: Global,
     store: &mut S,
@@ -49,8 +49,9 @@ pub fn answer_query<S: CellStore<GameFacts<CgBoards>>>(
     answer_query_held(alloc, store, &mut held, query, share, positions)
 }
 
-/// The reply to a closed question, as [`answer_query`] gives it, with the help of what earlier questions on the same store found
-/// out. What this one finds out besides is there for later ones, unless it has become so much that they would rather begin anew.
+/// The reply to a closed question, as [`answer_query`] gives it, with the help of what earlier questions on the same
+/// store found out. What this one finds out besides is there for later ones, unless it has become so much that they
+/// would rather begin anew.
 pub fn answer_query_held<S: CellStore<GameFacts<CgBoards>>>(
     alloc: Global,
     store: &mut S,
@@ -86,7 +87,8 @@ fn kept(alloc: Global, found: Held) -> Held
     }
 }
 
-/// The reply to a question, on a work on which nothing was spent. An ill-formed board or heap is refused before anything is made.
+/// The reply to a question, on a work on which nothing was spent. An ill-formed board or heap is refused before
+/// anything is made.
 fn reply_on<S: CellStore<GameFacts<CgBoards>>>(
     alloc: Global,
     work: &mut Work<CgBoards, S>,

@@ -87,7 +87,8 @@ fn tell_stops<B: BoardForms, S: CellStore<GameFacts<B>>>(
     Ok(answer_of(text, a))
 }
 
-/// The text of this part of the thermograph of the game; or none, where a mean or a temperature needs too many binary places.
+/// The text of this part of the thermograph of the game; or none, where a mean or a temperature needs too many binary
+/// places.
 fn drawn<B: BoardForms, S: CellStore<GameFacts<B>>>(
     alloc: Global,
     work: &mut Work<B, S>,

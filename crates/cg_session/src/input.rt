@@ -28,8 +28,8 @@ pub enum TextFault {
     TooLong,
 }
 
-/// The text of a session: the sample where one is asked for, and else the bytes of the source to its end. With a sample the
-/// source is left as it was.
+/// The text of a session: the sample where one is asked for, and else the bytes of the source to its end. With a sample
+/// the source is left as it was.
 pub fn session_text<S: Source>(
     alloc: Global,
     settings: Settings,

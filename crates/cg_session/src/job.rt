@@ -65,7 +65,8 @@ impl<'a> Job<GameFacts<CgBoards>> for LineJob<'a> {
     ghost holding = { λ held f g grows h. held_later (knowing f) (knowing g) held grows h };
 }
 
-/// The answer to what a line asks, or its refusal, on a share of so much of the store's spare, with the help of what is held.
+/// The answer to what a line asks, or its refusal, on a share of so much of the store's spare, with the help of what is
+/// held.
 fn answer_line<S: CellStore<GameFacts<CgBoards>>>(
     alloc: Global,
     store: &mut S,

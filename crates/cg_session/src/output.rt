@@ -64,8 +64,8 @@ fn push_line(alloc: Global, text: &mut Vec<u8>, number: u64, reply: &[u8]) -> Re
     Ok(())
 }
 
-/// The line that tells of the output of a sample how many lines the sample has, how many of them are refused, and how many
-/// bytes the output has.
+/// The line that tells of the output of a sample how many lines the sample has, how many of them are refused, and how
+/// many bytes the output has.
 pub fn summary(alloc: Global, lines: u64, out: &Output) -> Result<Output, AllocError>
     ensures { IfOk result (λ written. output_of written ≡ summary lines (output_of out.now)) }
 {

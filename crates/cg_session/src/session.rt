@@ -24,13 +24,13 @@ const USAGE_LINE: &[u8] = b"usage: cg [--workers W] [--cells N] [--positions P] 
 
 /// Reads a whole session, answers its lines by workers over one shared table, and writes the whole output.
 ///
-/// The words are those after the program's name; [`Settings::read`] says which are accepted, and for others the usage line
-/// is written and nothing is read. The text of the session is its input, or the sample where one is asked for; then the
-/// source is left as it was, and what is written is the one line `lines n refused r bytes b`. A session may have
-/// 1,048,576 bytes and 4,096 answered lines, and at most as many of them as the table has cells. Reading stops at the
-/// end, at a fault, or once one byte more was taken. The first byte is written when all answers and the whole output
-/// stand. After the last byte was written, the answers, their table, and a pass of it are put into `kept`, where the session
-/// has an answered line.
+/// The words are those after the program's name; [`Settings::read`] says which are accepted, and for others the usage
+/// line is written and nothing is read. The text of the session is its input, or the sample where one is asked for;
+/// then the source is left as it was, and what is written is the one line `lines n refused r bytes b`. A session may
+/// have 1,048,576 bytes and 4,096 answered lines, and at most as many of them as the table has cells. Reading stops at
+/// the end, at a fault, or once one byte more was taken. The first byte is written when all answers and the whole
+/// output stand. After the last byte was written, the answers, their table, and a pass of it are put into `kept`, where
+/// the session has an answered line.
 pub fn run<R: Threads + Sync, S: Source, K: Sink, G: Gate>(
     rt: &R,
     alloc: Global,

@@ -2,15 +2,15 @@ use Rattle.std.proofs.Common.{◌+◌}
 use Rattle.cg_cells.specs.Table.{passes_of}
 use Rattle.cg_shared.specs.Passes.{pass_state}
 use Rattle.cg_pool.proofs.Bringing.{drawn_knows, sets_out, goes_on, comes_back}
-use Rattle.cg_pool.proofs.workers.worker.Goals as goal
+use Rattle.cg_pool.proofs.workers.answer_lines.Goals as goal
 
 pub loop-index-init : goal.loop-index-init
 loop-index-init g c =
     let stays = (g.met.J.Job g.world.𝓛 g.world.𝓜 g.world.𝓡 ((λ s x. x), (λ x. x), (λ x. x), (λ x. x))).stays in
     (sets_out (g.J.Job.good c.args.job.now) (λ n a f h. stays c.args.job.now n a f h) c.args.cells.now c.new-answers.result.items c.args.pass c.new-answers.ensures.items c.requires.own c.requires.new, c.start-held.ensures (pass_state c.args.pass).known)
 
-pub answered-done-requires-clause-held : goal.answered-done-requires-clause-held
-answered-done-requires-clause-held g c =
+pub answer_line-done-requires-clause-held : goal.answer_line-done-requires-clause-held
+answer_line-done-requires-clause-held g c =
     let holding = (g.met.J.Job g.world.𝓛 g.world.𝓜 g.world.𝓡 ((λ s x. x), (λ x. x), (λ x. x), (λ x. x))).holding in
     let before = c.loop-index.pass in
     let after = c.draw.new.pass in
