@@ -48,7 +48,9 @@ pub fn evaluate<R: Threads + Sync, F: Facts + Sync, J: Job<F>, G: Gate>(
         Err(StartFault::Size) => unreachable!(),
         Err(StartFault::Memory) => return Err(AllocError),
     };
-    let (answers, pass) = answer_side_by_side::<R, F, J, G>(rt, &cells, alloc, job, gate, pass, workers)?;
+    let (answers, pass) = answer_side_by_side::<R, F, J, G>(
+        rt, &cells, alloc, job, gate, pass, workers,
+    )?;
     pass.each_ticket_once();
     let answers = put_in_order(alloc, answers, count)?;
     Ok(Evaluated {
