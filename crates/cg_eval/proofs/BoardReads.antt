@@ -118,10 +118,10 @@ pub fault-of : (q : Position) (read : Result GameBoard GameFault) (o : Option Ga
 fault-of q (Ok b) o e r f = e ∙ sym (ap position_fault r ∙ board-none b)
 fault-of q (Err fault) o e r f = e.1 ∙ some-fault q fault e.0 f
 
--- a board is read where none is refused
-pub no-faulty : (q : Position) (fault : GameFault) → IsFaulty q fault → is_memory fault ≡ false → position_fault q ≡ None → ⊥
-no-faulty q fault (inl e) n none = let x = sym e ∙ n in cc
-no-faulty q fault (inr e) n none = let x = sym (ap position_fault e) ∙ none in cc
+-- what is no board
+pub is-faulty : (q : Position) (fault : GameFault) → IsFaulty q fault → is_memory fault ≡ false → q ≡ faulty fault
+is-faulty q fault (inl e) n = let x = sym e ∙ n in absurd (cc)
+is-faulty q fault (inr e) n = e
 
 -- ---- want of memory for the board of what was read
 

@@ -28,9 +28,10 @@ use Rattle.cg_names.specs.Lists.{form_items, number_items}
 use Rattle.cg_names.specs.Meaning.{fraction, literal, or_zero, signed}
 use Rattle.cg_eval.specs.Meaning.{meaning, meanings}
 use Rattle.cg_names.specs.Named.{nimber_form, ups_form, switch_form, tiny_form, zero_number}
-use Rattle.cg_query.specs.Tree.{Tree, Trees, number, ups, nimber, switch, tiny, sides, negative, multiple}
+use Rattle.cg_query.specs.Tree.{Tree, Trees, number, ups, nimber, switch, tiny, sides, negative, multiple, used}
 use Rattle.cg_eval.specs.Items.{items, all_items, term_part}
 use Rattle.cg_eval.specs.Progress.{Evaluates, Gives, Makes, Stops}
+use Rattle.cg_eval.specs.Zero.{zero_form, zero_items}
 use Rattle.cg_names.proofs.Literals.{literal-fraction, literal_not_negative}
 use Rattle.cg_names.proofs.SwitchForms.{switch-canonical, tiny-canonical}
 use Rattle.cg_eval.proofs.LastItems.{can-negative_form, can-multiple_form}
@@ -50,6 +51,22 @@ module _ {R : Type 0} (s t : State Meant (WorkRest R)) where
       → Gives s t (form_items s.rest.limit (nimber_form n)) (nimber_form n) result → Evaluates s t (nimber n) result
   unfolding items meaning
   nimber_gives n result r = r
+
+  -- 0
+  pub zero_gives : (x : Number) (result : Result ℕ ValueFault) → x ≡ zero_number
+      → IfOk result (λ h. StandsFor t h (plain_number x))
+      → OnOk result (AllPass s.rest.share s.rest.spent (made (plain_number x) 0 ∷ []) t.rest.spent)
+      → IfErr result (λ fault. WasRefused fault s.rest.share s.rest.spent (made (plain_number x) 0 ∷ []) t.rest.spent)
+      → s.spare ≤ t.spare → Keeps s t → Gives s t zero_items zero_form result
+  zero_gives x result is game passed refused m keeps =
+      let Q : Number → Type 0 = λ z. Gives s t (made (plain_number z) 0 ∷ []) (plain_number z) result in
+      subst Q is (gives_from s t (made (plain_number x) 0 ∷ []) (plain_number x)
+      (plain_number x) result (sym (can-fixed (plain_number x) tt)) game passed refused m keeps)
+
+  pub used_gives : (word : List ℕ) (column : ℕ) (result : Result ℕ ValueFault) → Gives s t zero_items zero_form result
+      → Evaluates s t (used word column) result
+  unfolding items meaning
+  used_gives word column result r = r
 
   -- the number that is given, or one out of range
   number_of : (o all : Option Number) (result : Result ℕ ValueFault) → ((x : Number) → o ≡ Some x → all ≡ Some x)

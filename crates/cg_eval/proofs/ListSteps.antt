@@ -18,7 +18,6 @@ use Rattle.cg_sum.proofs.Sums.{can-sum_form}
 use Rattle.cg_names.specs.Named.{zero_number}
 use Rattle.cg_canon.specs.SumItems.{sum_items}
 use Rattle.cg_names.specs.Meaning.{signed}
-use Rattle.cg_eval.specs.Faults.{fault_in, fault_in_terms}
 use Rattle.cg_eval.specs.Meaning.{meaning, meanings, total, total_with}
 use Rattle.cg_query.specs.declared.expr.Expr.{Expr}
 use Rattle.cg_query.specs.declared.expr.Term.{Term}
@@ -27,10 +26,10 @@ use Rattle.cg_query.specs.Trees.{tree_of, trees_of, term_of, terms_of}
 use Rattle.cg_query.proofs.TreeOf.{term_tree}
 use Rattle.cg_eval.specs.Items.{items, all_items, further_items, term_items, term_part}
 use Rattle.cg_eval.specs.Progress.{Evaluates, Gives, GivesAll, Makes, Stops}
+use Rattle.cg_eval.specs.Zero.{zero_form, zero_items}
 use Rattle.cg_eval.proofs.Expressions.{stopped_part}
 use Rattle.cg_eval.proofs.Lasts.{append_none}
 use Rattle.cg_eval.proofs.Steps.{gives_from, gives_game, gives_then, makes_items, makes_none, makes_then, stops_front, stops_items, stops_then}
-use Rattle.cg_eval.proofs.FaultParts.{neither}
 use Rattle.cg_query.proofs.Walk.{size, term_sizes, trees_of-take_suc, trees_of-all, terms_of-take_suc, terms_of-all}
 
 -- ---- the items of lists that are put together
@@ -386,19 +385,13 @@ first_term_stopped s t ts subtracted x result f fault e same r =
     stopped_part s t (total_with g (terms_from ts)) result f fault (term_part s.rest.limit subtracted x)
     (further_items s.rest.limit g (terms_from ts)) e same r
 
-pub no_terms_give : {R : Type 0} (s t : State Meant (WorkRest R)) (ts : List (Bool × Tree)) (x : Number)
-    (result : Result ℕ ValueFault) → ts ≡ [] → x ≡ zero_number
-    → IfOk result (λ h. StandsFor t h (plain_number x))
-    → OnOk result (AllPass s.rest.share s.rest.spent (made (plain_number x) 0 ∷ []) t.rest.spent)
-    → IfErr result (λ fault. WasRefused fault s.rest.share s.rest.spent (made (plain_number x) 0 ∷ []) t.rest.spent)
-    → s.spare ≤ t.spare → Keeps s t → Evaluates s t (sum (terms_from ts)) result
+pub no_terms_give : {R : Type 0} (s t : State Meant (WorkRest R)) (ts : List (Bool × Tree)) (result : Result ℕ ValueFault)
+    → ts ≡ [] → Gives s t zero_items zero_form result → Evaluates s t (sum (terms_from ts)) result
 unfolding items meaning
-no_terms_give s t ts x result none is game passed refused m keeps =
+no_terms_give s t ts result none r =
     let P : List (Bool × Tree) → Type 0 = λ z. Gives s t (term_items s.rest.limit (terms_from z)) (total
     (terms_from z)) result in
-    let Q : Number → Type 0 = λ z. Gives s t (made (plain_number z) 0 ∷ []) (plain_number z) result in
-    subst P (sym none) (subst Q is (gives_from s t (made (plain_number x) 0 ∷ []) (plain_number x)
-    (plain_number x) result (sym (can-fixed (plain_number x) tt)) game passed refused m keeps))
+    subst P (sym none) r
 
 -- ---- the first of the terms
 
@@ -412,9 +405,3 @@ first_and_rest es ts x rest is split =
 pub first_size : (ts : List (Bool × Tree)) (m : Bool) (x : Tree) (rest : List (Bool × Tree)) → ts ≡ (m, x) ∷ rest
     → term_sizes (terms_from ts) ≡ size x + term_sizes (terms_from rest)
 first_size ts m x rest e = ap (λ (z : List (Bool × Tree)). term_sizes (terms_from z)) e
-
-pub first_board : (ts : List (Bool × Tree)) (m : Bool) (x : Tree) (rest : List (Bool × Tree)) → ts ≡ (m, x) ∷ rest
-    → fault_in_terms (terms_from ts) ≡ None → (fault_in x ≡ None) × (fault_in_terms (terms_from rest) ≡ None)
-first_board ts m x rest e b =
-    let P : List (Bool × Tree) → Type 0 = λ z. fault_in_terms (terms_from z) ≡ None in
-    neither (fault_in x) (fault_in_terms (terms_from rest)) (subst P e b)

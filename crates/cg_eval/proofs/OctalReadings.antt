@@ -133,12 +133,6 @@ pub heap-refused : (code : List ℕ) (tokens : ℕ) (fault : OctalFault) → IsR
     → octal_read code tokens ≡ Err fault
 heap-refused code tokens fault is told = octal-only code tokens (Err fault) is (λ e. let x : fault ≡ Memory = cc in told x)
 
--- a heap is read where none is refused
-pub no-heap-refused : (code : List ℕ) (tokens : ℕ) (fault : OctalFault) → IsRead code tokens (Err fault) → ¬ (fault ≡ Memory)
-    → heap_fault (octal_read code tokens) ≡ None → ⊥
-no-heap-refused code tokens fault is told none =
-    let x = sym (ap heap_fault (heap-refused code tokens fault is told)) ∙ none in cc
-
 pub heap-fault_of : (code : List ℕ) (tokens : ℕ) (found : Result OctalHeap OctalFault) (o : Option GameFault)
     → IsRead code tokens found → IsHeapFault o found → o ≡ heap_fault (octal_read code tokens)
 heap-fault_of code tokens (Ok h) o is e = e ∙ sym (ap heap_fault (heap-read code tokens h is))

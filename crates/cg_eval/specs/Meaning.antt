@@ -1,7 +1,6 @@
 -- What an expression means, as a game, with its boards.
 -- Siegel, Combinatorial Game Theory (2013), I.1: braces, sums and negatives; II.1 and II.4: nimbers, ups, switches, tinies.
-use Rattle.std.specs.Prelude.{pos, false}
-use Rattle.cg_dyadic.specs.Number.{whole}
+use Rattle.std.specs.Prelude.{false}
 use Rattle.cg_form.specs.Game.{Game, Games, options, none, more, number as plain_number}
 use Rattle.cg_form.specs.Sum.{negative as minus, sum as plus}
 use Rattle.cg_form.specs.Multiple.{multiple as many}
@@ -10,10 +9,11 @@ use Rattle.cg_names.specs.Named.{nimber_form, ups_form, switch_form, tiny_form}
 use Rattle.cg_query.specs.Tree.{Tree, Trees, Terms, number, ups, nimber, switch, tiny, sides, negative, multiple, sum, game, octal, used, no_trees, with_tree, no_terms, with_term}
 use Rattle.cg_eval.specs.Boards.{position_form, position_of}
 use Rattle.cg_eval.specs.Octals.{heap_form, octal_read}
+use Rattle.cg_eval.specs.Zero.{zero_form}
 
 -- A literal whose denominator is no power of two has no meaning. It is refused before its meaning is asked for, and 0
--- stands for it here; so it does for what is no board or heap, and for a use of a name: each is replaced by what the name
--- stands for before a meaning is asked for
+-- stands for it here; so it does for what is no board or heap, and for a use of a name, as long as the name isn't replaced by
+-- what it stands for
 unfoldable mutual
   pub meaning : Tree → Game
   meaning (number below num den) = plain_number (or_zero (fraction below num den))
@@ -27,7 +27,7 @@ unfoldable mutual
   meaning (sum terms) = total terms
   meaning (game kind rules board) = position_form (position_of kind rules board)
   meaning (octal code heap) = heap_form (octal_read code heap)
-  meaning (used word column) = plain_number (whole (pos 0))
+  meaning (used word column) = zero_form
 
   pub meanings : Trees → Games
   meanings no_trees = none
@@ -35,7 +35,7 @@ unfoldable mutual
 
   -- the sum of the terms, from the first one on
   pub total : Terms → Game
-  total no_terms = plain_number (whole (pos 0))
+  total no_terms = zero_form
   total (with_term subtracted t ts) = total_with (signed subtracted (meaning t)) ts
 
   -- the sum of the game and the terms

@@ -10,7 +10,7 @@ use crate::refusals::refuse_syntax;
 use crate::reply::answer_query;
 use cg_cells::CellStore;
 use cg_nodes::GameFacts;
-use cg_syntax::laws::{no_names, one_query};
+use cg_syntax::laws::one_query;
 use cg_syntax::{Line, SyntaxFault, read_line};
 use cg_values::CgBoards;
 use std::alloc::{AllocError, Global};
@@ -40,7 +40,6 @@ pub fn answer<S: CellStore<GameFacts<CgBoards>>>(
     ensures spare { (S.state store.old).spare ≤ (S.state store.new).spare + share }
 {
     one_query();
-    no_names();
     match read_line(alloc, line) {
         Ok(Line::Ask(query)) => answer_query(alloc, store, &query, share, positions),
         Ok(Line::Blank) => unreachable!(),
