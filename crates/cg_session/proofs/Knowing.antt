@@ -1,6 +1,6 @@
 -- A line of a list, an answer that is good for it, and what a worker holds.
 use Rattle.std.proofs.Common.{◌≡◌, ℕ, zero, suc, ◌<◌, List, [], ◌∷◌, map, length, get_or, Bool, true, false, Option, Some, None, Result, Ok, Err, IfOk, refl, sym, ap, ◌∙◌, subst, arith}
-use Rattle.std.specs.Prelude.{slice_get, not}
+use Rattle.std.specs.Prelude.{slice_get}
 use Rattle.cg_cells.specs.Store.{State}
 use Rattle.cg_cells.proofs.Levels.{same_Some}
 use Rattle.cg_nodes.specs.Meant.{Meant}
@@ -8,14 +8,11 @@ use Rattle.cg_canon.specs.declared.held.Held.{Held}
 use Rattle.cg_canon.specs.Held.{IsHeld, knowing}
 use Rattle.cg_canon.proofs.Holding.{held_later}
 use Rattle.cg_query.specs.Tree.{Question}
-use Rattle.cg_syntax.specs.Naming.{IsClosedQuestion, trees_of_question, uses_of}
-use Rattle.cg_syntax.specs.Session.{AreClosedLines, IsClosedLine, Resolved, Asked_of, Syntax_at, Too_large, Unknown_at, has_some}
-use Rattle.cg_syntax.proofs.Closed.{closed_from_unused, closed_unused}
+use Rattle.cg_syntax.specs.Session.{Resolved, Asked_of, Syntax_at, Too_large, Unknown_at}
 use Rattle.cg_eval.specs.declared.answered.Answered.{Answered}
 use Rattle.cg_eval.specs.Reply.{syntax_at}
 use Rattle.cg_eval.specs.Shown.{shown, HandleIs, IsAnswered}
 use Rattle.cg_session.specs.Good.{IsGood}
-use Rattle.cg_session.specs.Outputs.{AreClosed, is_closed}
 use Rattle.cg_session.specs.Replies.{HandleOf, IsReply, too_large, unknown_at}
 
 -- ---- a line of a list
@@ -108,23 +105,3 @@ parts_reply share positions (Err e) h = tt
 pub reply_as : {E : Type 0} (share positions : ℕ) (line made : Resolved) (r : Result Answered E) → made ≡ line
     → IfOk r (λ a. IsReply share positions line (shown a)) → IfOk r (λ a. IsReply share positions made (shown a))
 reply_as share positions line made r e h = subst (λ (z : Resolved). IfOk r (λ a. IsReply share positions z (shown a))) (sym e) h
-
--- ---- lines without names
-
-pub closed_is : (q : Question) → is_closed (Asked_of q) ≡ true → IsClosedQuestion q
-closed_is q e = closed_from_unused q (by (uses_of (trees_of_question q)) e)
-  where
-    by : (us : List (List ℕ × ℕ)) → not (has_some us) ≡ true → us ≡ []
-    by [] h = refl
-    by (u ∷ us) h = absurd cc
-
-line_closed : (line : Resolved) → IsClosedLine line → is_closed line ≡ true
-line_closed (Asked_of q) c = ap (λ (us : List (List ℕ × ℕ)). not (has_some us)) (closed_unused q c)
-line_closed (Syntax_at column) c = refl
-line_closed (Unknown_at column) c = refl
-line_closed Too_large c = refl
-
-pub lines_closed : (lines : List (ℕ × Resolved)) → AreClosedLines lines → AreClosed lines
-lines_closed [] c n line at = absurd cc
-lines_closed (l ∷ lines) c zero line at = subst (λ (z : ℕ × Resolved). is_closed z.1 ≡ true) (same_Some at) (line_closed l.1 c.0)
-lines_closed (l ∷ lines) c (suc n) line at = lines_closed lines c.1 n line at

@@ -4,7 +4,7 @@ ghost use Rattle.cg_words.specs.Accepted.{InRange};
 ghost use Rattle.cg_session.specs.Kept.{KeepsAnswers, KeepsSession};
 ghost use Rattle.cg_session.specs.Output.{IsOutput, IsOutputOf, IsWritten, written_of};
 ghost use Rattle.cg_session.specs.Output.{Output as Out};
-ghost use Rattle.cg_session.specs.Outputs.{AreClosed, AreReplies, output_of};
+ghost use Rattle.cg_session.specs.Outputs.{AreReplies, output_of};
 ghost use Rattle.cg_session.specs.Settings.{IsWithinLimits};
 ghost use Rattle.cg_syntax.specs.Session.{answered_lines};
 ghost use Rattle.cg_syntax.specs.SessionViews.{line_of};
@@ -86,7 +86,6 @@ fn answer_lines<R: Threads + Sync, G: Gate>(
     gate: &G,
 ) -> Result<Answers, AllocError>
     requires range { InRange settings }
-    requires closed { AreClosed (map line_of lines.now) }
     requires cells { length lines.now ≤ settings.cells }
     ensures written { IfOk result (λ a. (out : Out) × IsOutput settings (map line_of lines.now) out
         × (output_of a.output ≡ written_of settings.sample out)) }

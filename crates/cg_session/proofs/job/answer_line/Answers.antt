@@ -3,13 +3,8 @@ use Rattle.cg_syntax.specs.Session.{Asked_of, Syntax_at, Too_large, Unknown_at}
 use Rattle.cg_syntax.specs.SessionViews.{resolved_of}
 use Rattle.cg_query.specs.Trees.{question_of}
 use Rattle.cg_syntax.specs.declared.session.Asked.{Asked}
-use Rattle.cg_session.specs.Outputs.{is_closed}
-use Rattle.cg_session.proofs.Knowing.{asked_reply, closed_is, parts_reply, reply_as, syntax_reply, unknown_reply}
+use Rattle.cg_session.proofs.Knowing.{asked_reply, parts_reply, reply_as, syntax_reply, unknown_reply}
 use Rattle.cg_session.proofs.job.answer_line.Goals as goal
-
-pub answer_query_held-requires-clause-closed : goal.answer_query_held-requires-clause-closed
-answer_query_held-requires-clause-closed g c = closed_is (question_of c.in-Query.query)
-    (ap (λ (x : Asked). is_closed (resolved_of x)) (sym c.in-Query.is) ∙ c.requires.closed)
 
 pub returns-in-Query-clause-reply : goal.returns-in-Query-clause-reply
 returns-in-Query-clause-reply g c =
