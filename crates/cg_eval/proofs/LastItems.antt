@@ -20,6 +20,7 @@ use Rattle.cg_nodes.specs.CanForms.{can-canonical, can-equal, can-fixed}
 use Rattle.cg_names.specs.Lists.{form_items, number_items, plain_item}
 use Rattle.cg_canon.specs.NumberItems.{number_made}
 use Rattle.cg_names.specs.Meaning.{fraction, literal, signed, or_zero}
+use Rattle.cg_names.specs.Meaning.{meaning as meaning_by}
 use Rattle.cg_eval.specs.Meaning.{meaning, total, total_with}
 use Rattle.cg_names.specs.Named.{nimber_form, ups_form, switch_form, tiny_form}
 use Rattle.cg_query.specs.Tree.{Tree, Terms, number, ups, nimber, switch, tiny, sides, negative, multiple, sum, game, octal, used, no_terms, with_term}
@@ -108,7 +109,7 @@ ends-signed limit false g is e m =
     let P : List Item → Type 0 = λ z. EndsIn (can g) z in subst P (sym (append_none is)) e
 
 mutual
-  unfolding items meaning
+  unfolding items meaning_by
 
   pub last_item : (limit : ℕ) (t : Tree) → AreMade (items limit t)
       → EndsIn (can (meaning t)) (items limit t)

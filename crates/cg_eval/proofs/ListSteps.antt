@@ -18,6 +18,7 @@ use Rattle.cg_sum.proofs.Sums.{can-sum_form}
 use Rattle.cg_names.specs.Named.{zero_number}
 use Rattle.cg_canon.specs.SumItems.{sum_items}
 use Rattle.cg_names.specs.Meaning.{signed}
+use Rattle.cg_names.specs.Meaning.{meanings as meanings_by, meaning as meaning_by, total_with as total_with_by}
 use Rattle.cg_eval.specs.Meaning.{meaning, meanings, total, total_with}
 use Rattle.cg_query.specs.declared.expr.Expr.{Expr}
 use Rattle.cg_query.specs.declared.expr.Term.{Term}
@@ -57,22 +58,22 @@ all_items-none limit = refl
 
 forms-append : (xs ys : List Tree) → map can (to_list (meanings (trees_from (xs ++ ys))))
     ≡ map can (to_list (meanings (trees_from xs))) ++ map can (to_list (meanings (trees_from ys)))
-unfolding meanings
+unfolding meanings_by
 forms-append [] ys = refl
 forms-append (x ∷ xs) ys = ap (λ z. can (meaning x) ∷ z) (forms-append xs ys)
 
 forms-one : (x : Tree) → map can (to_list (meanings (trees_from (x ∷ [])))) ≡ can (meaning x) ∷ []
-unfolding meanings
+unfolding meanings_by
 forms-one x = refl
 
 forms-none : map can (to_list (meanings (trees_from []))) ≡ []
-unfolding meanings
+unfolding meanings_by
 forms-none = refl
 
 further-append : (limit : ℕ) (g : Game) (xs ys : List (Bool × Tree))
     → further_items limit g (terms_from (xs ++ ys))
     ≡ further_items limit g (terms_from xs) ++ further_items limit (total_with g (terms_from xs)) (terms_from ys)
-unfolding further_items total_with
+unfolding further_items total_with_by
 further-append limit g [] ys = refl
 further-append limit g (x ∷ xs) ys =
     let part = term_part limit x.0 x.1 ++ sum_items limit (can g) (can (signed x.0 (meaning x.1))) in
@@ -83,7 +84,7 @@ further-append limit g (x ∷ xs) ys =
 
 total-append : (g : Game) (xs ys : List (Bool × Tree))
     → total_with g (terms_from (xs ++ ys)) ≡ total_with (total_with g (terms_from xs)) (terms_from ys)
-unfolding total_with
+unfolding total_with_by
 total-append g [] ys = refl
 total-append g (x ∷ xs) ys = total-append (plus g (signed x.0 (meaning x.1))) xs ys
 
@@ -108,11 +109,11 @@ unfolding further_items
 further-none limit g = refl
 
 total-one : (g : Game) (x : Bool × Tree) → total_with g (terms_from (x ∷ [])) ≡ plus g (signed x.0 (meaning x.1))
-unfolding total_with
+unfolding total_with_by
 total-one g x = refl
 
 total-none : (g : Game) → total_with g (terms_from []) ≡ g
-unfolding total_with
+unfolding total_with_by
 total-none g = refl
 
 -- ---- where a list is split
@@ -367,7 +368,7 @@ pub sum_of_terms : {R : Type 0} (s t u : State Meant (WorkRest R)) (ts : List (B
     → ((g : Game) → StandsFor t start (can g)
     → Gives t u (further_items t.rest.limit g (terms_from ts)) (total_with g (terms_from ts)) result)
     → Evaluates s u (sum (terms_from ((subtracted, x) ∷ ts))) result
-unfolding items meaning
+unfolding items meaning_by
 sum_of_terms s t u ts subtracted x start result (game, done) r =
     let g = signed subtracted (meaning x) in
     let N : ℕ → Type 0 = λ n. Gives t u (further_items n g (terms_from ts)) (total_with g (terms_from ts)) result in
@@ -379,7 +380,7 @@ pub first_term_stopped : {R : Type 0} (s t : State Meant (WorkRest R)) (ts : Lis
     (x : Tree) (result : Result ℕ ValueFault) (f fault : ValueFault)
     → result ≡ Err f → f ≡ fault → Stops s t fault (term_part s.rest.limit subtracted x)
     → Evaluates s t (sum (terms_from ((subtracted, x) ∷ ts))) result
-unfolding items meaning
+unfolding items meaning_by
 first_term_stopped s t ts subtracted x result f fault e same r =
     let g = signed subtracted (meaning x) in
     stopped_part s t (total_with g (terms_from ts)) result f fault (term_part s.rest.limit subtracted x)
@@ -387,7 +388,7 @@ first_term_stopped s t ts subtracted x result f fault e same r =
 
 pub no_terms_give : {R : Type 0} (s t : State Meant (WorkRest R)) (ts : List (Bool × Tree)) (result : Result ℕ ValueFault)
     → ts ≡ [] → Gives s t zero_items zero_form result → Evaluates s t (sum (terms_from ts)) result
-unfolding items meaning
+unfolding items meaning_by
 no_terms_give s t ts result none r =
     let P : List (Bool × Tree) → Type 0 = λ z. Gives s t (term_items s.rest.limit (terms_from z)) (total
     (terms_from z)) result in

@@ -21,11 +21,11 @@ pub record IsReady {X : Type 0} (count needs : ℕ) (cells : CellsOf) (p : PassO
 
 module _ {X A : Type 0} (good : ℕ → A → map.FinMap nat_cmp X → Type 0) where
   -- each answer is good for its number, under what is known
-  abbrev pub AreGood : map.FinMap nat_cmp X → List (ℕ × A) → Type 0
-  AreGood known all = All (λ (a : ℕ × A). good a.0 a.1 known) all
+  abbrev pub AllAreGood : map.FinMap nat_cmp X → List (ℕ × A) → Type 0
+  AllAreGood known all = All (λ (a : ℕ × A). good a.0 a.1 known) all
 
   -- What a pass of this table and its answers are after one line: it owns what it owned, knows what it knew, and the answer is good
-  pub record IsAnswered (cells : CellsOf) (index : ℕ) (before : PassOf X) (answer : A) (after : PassOf X) : Type 0 where
+  pub record HasAnswered (cells : CellsOf) (index : ℕ) (before : PassOf X) (answer : A) (after : PassOf X) : Type 0 where
     pub own : IsPassOf cells after
     pub is_good : good index answer (pass_state after).known
     pub known : Grows (thing_at (pass_state before)) (thing_at (pass_state after))
@@ -36,7 +36,7 @@ module _ {X A : Type 0} (good : ℕ → A → map.FinMap nat_cmp X → Type 0) w
   pub record IsBrought (cells : CellsOf) (passes : ℕ) (all : List (ℕ × A)) (p : PassOf X) : Type 0 where
     pub own : IsPassOf cells p
     pub tickets : numbers all ≡ p.sees.tickets
-    pub are_good : AreGood (pass_state p).known all
+    pub are_good : AllAreGood (pass_state p).known all
     pub stands_for : passes_of p.sees ≡ passes
     pub over : p.sees.over ≡ true
 

@@ -2,7 +2,7 @@
 ghost use Rattle.std.specs.Prelude.{◌≡◌, ◌+◌, ◌<◌, ◌≤◌, ◌++◌, IfOk};
 ghost use Rattle.std.specs.Thread.{IsSync};
 ghost use Rattle.cg_shared.specs.Passes.{IsPassOf, pass_state};
-ghost use Rattle.cg_pool.specs.Answers.{BringsBack, IsAnswered, IsReady};
+ghost use Rattle.cg_pool.specs.Answers.{BringsBack, HasAnswered, IsReady};
 
 use crate::{Gate, Job};
 use cg_cells::Facts;
@@ -24,7 +24,7 @@ fn answer_line<F: Facts, J: Job<F>>(
     requires index { index < J.count job.now }
     requires spare { J.needs job.now ≤ pass.sees.spare }
     requires held { J.holds held.old (pass_state pass).known }
-    ensures answer { IfOk result (λ r. IsAnswered (J.good job.now) cells.now index pass r.0 r.1) }
+    ensures answer { IfOk result (λ r. HasAnswered (J.good job.now) cells.now index pass r.0 r.1) }
     ensures held { IfOk result (λ r. J.holds held.new (pass_state r.1).known) }
 {
     let mut desk = Desk::new(cells, pass);

@@ -13,7 +13,7 @@ use Rattle.cg_eval.specs.declared.answered.Answered.{Answered}
 use Rattle.cg_eval.specs.Reply.{syntax_at}
 use Rattle.cg_eval.specs.Shown.{shown, HandleIs, IsAnswered}
 use Rattle.cg_session.specs.Good.{IsGood}
-use Rattle.cg_session.specs.Replies.{HandleOf, IsReply, too_large, unknown_at}
+use Rattle.cg_session.specs.Replies.{HandleFor, IsReplyFor, too_large, unknown_at}
 
 -- ---- a line of a list
 
@@ -43,8 +43,8 @@ handle_known s q true handle h = h
 handle_known s q false None h = h
 handle_known s q false (Some id) h = h
 
-line_known : {R : Type 0} (s : State Meant R) (line : Resolved) (refused : Bool) (handle : Option ℕ) → HandleOf s line refused handle
-    → HandleOf (knowing s.known) line refused handle
+line_known : {R : Type 0} (s : State Meant R) (line : Resolved) (refused : Bool) (handle : Option ℕ) → HandleFor s line refused handle
+    → HandleFor (knowing s.known) line refused handle
 line_known s (Asked_of q) refused handle h = handle_known s q refused handle h
 line_known s (Syntax_at column) refused handle h = h
 line_known s (Unknown_at column) refused handle h = h
@@ -52,7 +52,7 @@ line_known s Too_large refused handle h = h
 
 -- an answer to the n-th line is good for whatever is the n-th line
 pub good_line : {R E : Type 0} (s : State Meant R) (share positions : ℕ) (line : ℕ × Resolved) (r : Result Answered E)
-    → IfOk r (λ a. IsReply share positions line.1 (shown a)) → IfOk r (λ a. HandleOf s line.1 a.refused a.handle)
+    → IfOk r (λ a. IsReplyFor share positions line.1 (shown a)) → IfOk r (λ a. HandleFor s line.1 a.refused a.handle)
     → (lines : List (ℕ × Resolved)) (n : ℕ) → slice_get lines n ≡ Some line
     → IfOk r (λ a. (l : ℕ × Resolved) → slice_get lines n ≡ Some l → IsGood share positions l.1 a s.known)
 good_line s share positions line (Ok a) reply handle lines n at = λ l e.
@@ -73,35 +73,35 @@ module _ {R : Type 0} (s : State Meant R) (h : Held) where
 -- ---- lines that ask something and lines that don't
 
 pub asked_reply : {R E : Type 0} (share positions : ℕ) (s : State Meant R) (q : Question) (r : Result Answered E) → IfOk r (IsAnswered share positions s q)
-    → IfOk r (λ a. IsReply share positions (Asked_of q) (shown a))
-unfolding IsReply
+    → IfOk r (λ a. IsReplyFor share positions (Asked_of q) (shown a))
+unfolding IsReplyFor
 asked_reply share positions s q (Ok a) is = is.reply
 asked_reply share positions s q (Err e) is = tt
 
 pub asked_handle : {R E : Type 0} (share positions : ℕ) (s : State Meant R) (q : Question) (r : Result Answered E) → IfOk r (IsAnswered share positions s q)
-    → IfOk r (λ a. HandleOf s (Asked_of q) a.refused a.handle)
+    → IfOk r (λ a. HandleFor s (Asked_of q) a.refused a.handle)
 asked_handle share positions s q (Ok a) is = is.handle
 asked_handle share positions s q (Err e) is = tt
 
 pub syntax_reply : {E : Type 0} (share positions column : ℕ) (r : Result Answered E) → IfOk r (λ a. shown a ≡ syntax_at column)
-    → IfOk r (λ a. IsReply share positions (Syntax_at column) (shown a))
-unfolding IsReply
+    → IfOk r (λ a. IsReplyFor share positions (Syntax_at column) (shown a))
+unfolding IsReplyFor
 syntax_reply share positions column (Ok a) e = e
 syntax_reply share positions column (Err e) h = tt
 
 pub unknown_reply : {E : Type 0} (share positions column : ℕ) (r : Result Answered E) → IfOk r (λ a. shown a ≡ unknown_at column)
-    → IfOk r (λ a. IsReply share positions (Unknown_at column) (shown a))
-unfolding IsReply
+    → IfOk r (λ a. IsReplyFor share positions (Unknown_at column) (shown a))
+unfolding IsReplyFor
 unknown_reply share positions column (Ok a) e = e
 unknown_reply share positions column (Err e) h = tt
 
 pub parts_reply : {E : Type 0} (share positions : ℕ) (r : Result Answered E) → IfOk r (λ a. shown a ≡ too_large)
-    → IfOk r (λ a. IsReply share positions Too_large (shown a))
-unfolding IsReply
+    → IfOk r (λ a. IsReplyFor share positions Too_large (shown a))
+unfolding IsReplyFor
 parts_reply share positions (Ok a) e = e
 parts_reply share positions (Err e) h = tt
 
 -- the reply to what the line asks, in other words
 pub reply_as : {E : Type 0} (share positions : ℕ) (line made : Resolved) (r : Result Answered E) → made ≡ line
-    → IfOk r (λ a. IsReply share positions line (shown a)) → IfOk r (λ a. IsReply share positions made (shown a))
-reply_as share positions line made r e h = subst (λ (z : Resolved). IfOk r (λ a. IsReply share positions z (shown a))) (sym e) h
+    → IfOk r (λ a. IsReplyFor share positions line (shown a)) → IfOk r (λ a. IsReplyFor share positions made (shown a))
+reply_as share positions line made r e h = subst (λ (z : Resolved). IfOk r (λ a. IsReplyFor share positions z (shown a))) (sym e) h

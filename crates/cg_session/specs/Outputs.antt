@@ -4,7 +4,7 @@ use Rattle.cg_eval.specs.Shown.{shown}
 use Rattle.cg_eval.specs.declared.answered.Answered.{Answered}
 use Rattle.cg_session.specs.declared.output.Output as code
 use Rattle.cg_session.specs.Output.{Output}
-use Rattle.cg_session.specs.Replies.{IsReply}
+use Rattle.cg_session.specs.Replies.{IsReplyFor}
 use Rattle.cg_syntax.specs.Session.{Resolved}
 
 abbrev pub output_of : code.Output → Output
@@ -14,4 +14,4 @@ output_of out = record { text = out.text.items; refused = out.refused }
 abbrev pub AreReplies : ℕ → ℕ → List (ℕ × Resolved) → List Answered → Type 0
 AreReplies share positions lines answers =
     (n : ℕ) (line : ℕ × Resolved) (answer : Answered) → slice_get lines n ≡ Some line → slice_get answers n ≡ Some answer
-    → IsReply share positions line.1 (shown answer)
+    → IsReplyFor share positions line.1 (shown answer)

@@ -6,7 +6,7 @@ ghost use Rattle.cg_cells.specs.Store.{State};
 ghost use Rattle.cg_eval.specs.Shown.{shown};
 ghost use Rattle.cg_eval.specs.Stores.{KeepsStore};
 ghost use Rattle.cg_session.specs.Good.{IsGood, good_stays};
-ghost use Rattle.cg_session.specs.Replies.{HandleOf, IsReply};
+ghost use Rattle.cg_session.specs.Replies.{HandleFor, IsReplyFor};
 ghost use Rattle.cg_syntax.specs.Session.{Resolved};
 ghost use Rattle.cg_syntax.specs.SessionViews.{line_of, resolved_of};
 
@@ -75,8 +75,8 @@ fn answer_line<S: CellStore<GameFacts<CgBoards>>>(
 ) -> Result<Answered, AllocError>
     requires spare { share ≤ (S.state store.old).spare }
     requires held { IsHeld (S.state store.old) held.old }
-    ensures reply { IfOk result (λ a. IsReply share positions (resolved_of asked.now) (shown a)) }
-    ensures handle { IfOk result (λ a. HandleOf (S.state store.new) (resolved_of asked.now) a.refused a.handle) }
+    ensures reply { IfOk result (λ a. IsReplyFor share positions (resolved_of asked.now) (shown a)) }
+    ensures handle { IfOk result (λ a. HandleFor (S.state store.new) (resolved_of asked.now) a.refused a.handle) }
     ensures keeps { KeepsStore (S.state store.old) (S.state store.new) }
     ensures spare { (S.state store.old).spare ≤ (S.state store.new).spare + share }
     ensures held { IsHeld (S.state store.new) held.new }

@@ -2,14 +2,15 @@
 ghost use Rattle.std.specs.Prelude.{◌≡◌, ◌+◌, ◌<◌, ◌≤◌, ◌^◌, [], IfSome, MatchOption, None};
 ghost use Rattle.cg_io.specs.Faults.{Rose};
 ghost use Rattle.cg_words.specs.Accepted.{InRange, IsAccepted, settings_of};
-ghost use Rattle.cg_session.specs.Ends.{AnswersOrLacksMemory, EndsBeforeAnswers, IsWhole, UsageOrLacksMemory, Writes, WritesSession};
+ghost use Rattle.cg_session.specs.Ends.{AnswersOrLacksMemory, EndsBeforeAnswers, IsWhole};
+ghost use Rattle.cg_session.specs.Ends.{UsageOrLacksMemory, Writes, WritesSession};
 ghost use Rattle.cg_session.specs.Input.{TakesAtMost};
 ghost use Rattle.cg_session.specs.Kept.{KeepsSession};
 ghost use Rattle.cg_syntax.specs.Session.{answered_lines};
 ghost use Rattle.cg_session.specs.Settings.{IsWithinLimits, session_text};
 ghost use Rattle.cg_session.specs.Words.{texts};
 
-use crate::answering::{AnsweringFault, Kept, answer_session};
+use crate::answering::{Kept, answer_session, is_within_limits};
 use crate::input::{TextFault, session_text};
 use crate::status::Status;
 use crate::writing::write_all;
@@ -51,7 +52,8 @@ pub fn run<R: Threads + Sync, S: Source, K: Sink, G: Gate>(
     ensures unread { ¬ IsAccepted (texts words.now) → source.new ≡ source.old }
     ensures unread_for_sample { 0 < (settings_of (texts words.now)).sample → source.new ≡ source.old }
 
-    // Words that are not accepted give Usage where the sink's count did not rise, unless memory was wanting.
+    // The next three follow from `written`, `read` and `write`; they say when each status comes. Words that are not
+    // accepted give Usage where the sink's count did not rise, unless memory was wanting.
     ensures usage { ¬ IsAccepted (texts words.now) → ¬ Rose (K.faults sink.old) (K.faults sink.new)
         → UsageOrLacksMemory result }
 
@@ -122,10 +124,11 @@ fn serve<R: Threads + Sync, S: Source, K: Sink, G: Gate>(
         Err(TextFault::Memory) => return Status::Memory,
         Err(TextFault::TooLong) => return Status::TooLong,
     };
-    let answers = match answer_session::<R, G>(rt, alloc, settings, &text, gate) {
-        Ok(answers) => answers,
-        Err(AnsweringFault::Memory) => return Status::Memory,
-        Err(AnsweringFault::TooLong) => return Status::TooLong,
+    if !is_within_limits(settings, &text) {
+        return Status::TooLong;
+    }
+    let Ok(answers) = answer_session::<R, G>(rt, alloc, settings, &text, gate) else {
+        return Status::Memory;
     };
     if write_all(sink, &answers.output.text).is_err() {
         return Status::Write;
