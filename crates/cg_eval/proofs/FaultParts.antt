@@ -42,12 +42,6 @@ all-one_more es i e found more below at f m =
     ∙ ap (λ (us : List Tree). fault_in_all (trees_from us)) (sym (trees_of-take_suc es i e below at))
     ∙ ap (λ n. fault_in_all (trees_from (trees_of (take n es)))) (sym one)
 
-pub all-whole : (es : List Expr) (ts : List Tree) (i : ℕ) (found : Option GameFault) → trees_of es ≡ ts
-    → length es ≤ i → found ≡ fault_in_all (trees_from (trees_of (take i es)))
-    → found ≡ fault_in_all (trees_from ts)
-all-whole es ts i found is end e = e ∙ ap (λ (us : List Tree). fault_in_all (trees_from us))
-    (trees_of-all es i end ∙ is)
-
 -- ---- lists of terms
 
 terms-append : (xs ys : List (Bool × Tree)) → fault_in_terms (terms_from (xs ++ ys))
@@ -70,12 +64,6 @@ terms-one_more es i e found more below at f m =
     ∙ sym (terms-append (terms_of (take i es)) (term_of e ∷ []))
     ∙ ap (λ (us : List (Bool × Tree)). fault_in_terms (terms_from us)) (sym (terms_of-take_suc es i e below at))
     ∙ ap (λ n. fault_in_terms (terms_from (terms_of (take n es)))) (sym one)
-
-pub terms-whole : (es : List Term) (ts : List (Bool × Tree)) (i : ℕ) (found : Option GameFault) → terms_of es ≡ ts
-    → length es ≤ i → found ≡ fault_in_terms (terms_from (terms_of (take i es)))
-    → found ≡ fault_in_terms (terms_from ts)
-terms-whole es ts i found is end e = e ∙ ap (λ (us : List (Bool × Tree)). fault_in_terms (terms_from us))
-    (terms_of-all es i end ∙ is)
 
 -- ---- an expression, from its parts
 

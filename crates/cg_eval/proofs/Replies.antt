@@ -115,11 +115,6 @@ answers-stop s t q result x fault e f r =
 
 -- ---- answers to questions
 
--- the handle of the first expression
-pub handle-some : {R : Type 0} (s : State Meant R) (q : Question) (handle : Option ℕ) (h : ℕ) → handle ≡ Some h
-    → StandsFor s h (can (meaning (first_of q))) → HandleIs s q false handle
-handle-some s q handle h e stands = let P : Option ℕ → Type 0 = λ z. HandleIs s q false z in subst P (sym e) stands
-
 -- ---- replies to lines
 
 -- the reply to the one question that the line reads as

@@ -8,7 +8,6 @@ use Rattle.cg_cells.specs.Store.{thing_at}
 use Rattle.cg_cells.specs.Views.{ViewOf, known_of, knows, after_split, split_off, after_meet}
 use Rattle.cg_cells.specs.Table.{passes_of}
 use Rattle.cg_shared.specs.Passes.{CellsOf, PassOf, IsPassOf, pass_state}
-use Rattle.cg_shared.proofs.Ending.{longer}
 use Rattle.cg_pool.specs.Answers.{numbers, AllAreGood, HasAnswered, IsBrought}
 
 module _ {A : Type 0} where
@@ -19,9 +18,6 @@ module _ {A : Type 0} where
   numbers_append : (xs ys : List (ℕ × A)) → numbers (xs ++ ys) ≡ numbers xs ++ numbers ys
   numbers_append [] ys = refl
   numbers_append (x ∷ xs) ys = ap (λ ns. x.0 ∷ ns) (numbers_append xs ys)
-
-pub one_longer : (l m : List ℕ) (x : ℕ) → m ≡ l ++ x ∷ [] → length m ≡ length l + 1
-one_longer l m x is = ap length is ∙ longer l x
 
 -- what was known before a draw that gave a ticket is known after it
 pub drawn_knows : {X : Type 0} (n spare : ℕ) (v w : ViewOf X) → w ≡ record v { spare = spare; tickets = v.tickets ++ n ∷ [] } → Grows (knows v) (knows w)

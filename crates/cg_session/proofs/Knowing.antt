@@ -78,11 +78,6 @@ unfolding IsReplyFor
 asked_reply share positions s q (Ok a) is = is.reply
 asked_reply share positions s q (Err e) is = tt
 
-pub asked_handle : {R E : Type 0} (share positions : ℕ) (s : State Meant R) (q : Question) (r : Result Answered E) → IfOk r (IsAnswered share positions s q)
-    → IfOk r (λ a. HandleFor s (Asked_of q) a.refused a.handle)
-asked_handle share positions s q (Ok a) is = is.handle
-asked_handle share positions s q (Err e) is = tt
-
 pub syntax_reply : {E : Type 0} (share positions column : ℕ) (r : Result Answered E) → IfOk r (λ a. shown a ≡ syntax_at column)
     → IfOk r (λ a. IsReplyFor share positions (Syntax_at column) (shown a))
 unfolding IsReplyFor
