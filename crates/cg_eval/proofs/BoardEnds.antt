@@ -1,5 +1,6 @@
 -- The last item of a board is its value.
-use Rattle.std.proofs.Common.{◌≡◌, refl, ap, sym, ◌∙◌, subst, ℕ, Bool, if◌then◌else◌, suc, ◌==◌, false, true, None, Result, Ok, Err, List, [], ◌∷◌, ◌++◌, length, nat_lt, inl, inr, eq-eqb, pos}
+use Rattle.std.proofs.Common.{◌≡◌, refl, ap, sym, ◌∙◌, subst, ℕ, Bool, if◌then◌else◌, suc, ◌==◌, false, true, None, Result, Ok, Err, List, [], ◌∷◌}
+use Rattle.std.proofs.Common.{◌++◌, length, nat_lt, inl, inr, eq-eqb, pos}
 use Rattle.std.specs.Prelude.{◌&&◌, bytes_eq, codes}
 use Rattle.std.proofs.lemmas.Bool.{and_from}
 use Rattle.cg_dyadic.specs.Number.{whole}
@@ -33,7 +34,8 @@ use Rattle.cg_strip.specs.ToadsLaws.{toads_lawful}
 use Rattle.cg_values.specs.Items.{board_items, cut_items, value_item, value_items, whole_items}
 use Rattle.cg_query.specs.declared.kind.GameKind.{GameKind}
 use Rattle.cg_query.specs.declared.kind.GameKind.TheVariants.{Domineering, Clobber, Amazons, Toads, Strip, Hackenbush, Col, Snort}
-use Rattle.cg_eval.specs.Boards.{IsStrip, Position, board, faulty, no_row, no_rules, not_lowered, position_by, position_charted, position_drawn, position_form, position_items, position_of, strip_board, strip_position}
+use Rattle.cg_eval.specs.Boards.{IsStrip, Position, board, faulty, no_row, no_rules, not_lowered, position_by, position_charted, position_drawn}
+use Rattle.cg_eval.specs.Boards.{position_form, position_items, position_of, strip_board, strip_position}
 use Rattle.cg_eval.specs.Parts.{IsSound}
 use Rattle.cg_eval.proofs.CutEnds.{ends-cut}
 use Rattle.cg_eval.proofs.Lasts.{AreMade, EndsIn, not_too_many, one_number}

@@ -19,7 +19,8 @@ use Rattle.cg_graph.specs.Drawings.{drawing_read, drawing_rules, drawing_start}
 use Rattle.cg_graph.specs.declared.edge.ColouredEdge.{ColouredEdge}
 use Rattle.cg_graph.specs.declared.fault.GraphFault.{GraphFault}
 use Rattle.cg_graph.specs.declared.fault.GraphFault.TheVariants as graph
-use Rattle.cg_eval.specs.Boards.{Position, board, faulty, no_row, no_rules, not_lowered, position_by, position_charted, position_drawn, position_fault, strip_board, strip_position}
+use Rattle.cg_eval.specs.Boards.{Position, board, faulty, no_row, no_rules, not_lowered, position_by, position_charted, position_drawn}
+use Rattle.cg_eval.specs.Boards.{position_fault, strip_board, strip_position}
 use Rattle.cg_eval.specs.IllFormed.{is_memory}
 use Rattle.cg_eval.specs.Parts.{IsFaultOf, IsFaulty, set_up}
 use Rattle.cg_eval.specs.declared.fault.GameFault.{GameFault}

@@ -1,5 +1,6 @@
 -- The last of the items of an expression.
-use Rattle.std.proofs.Common.{◌≡◌, refl, ℕ, zero, suc, ◌+◌, pos, ap, sym, subst, List, [], ◌∷◌, ◌++◌, append_assoc, length, map, Bool, true, false, nat_lt, inl, inr, Option, Some, None, Result, Ok, Err}
+use Rattle.std.proofs.Common.{◌≡◌, refl, ℕ, zero, suc, ◌+◌, pos, ap, sym, subst, List, [], ◌∷◌, ◌++◌, append_assoc, length, map, Bool, true, false}
+use Rattle.std.proofs.Common.{nat_lt, inl, inr, Option, Some, None, Result, Ok, Err}
 use Rattle.cg_dyadic.specs.Number.{Number, whole}
 use Rattle.cg_dyadic.proofs.Truth.{true_or_false}
 use Rattle.cg_form.specs.Canonical.{Canonical}
@@ -34,7 +35,8 @@ use Rattle.cg_names.proofs.Literals.{literal_not_negative, literal-fraction}
 use Rattle.cg_nimbers.proofs.CanonicalNimbers.{nimber-canonical}
 use Rattle.cg_names.proofs.SwitchForms.{switch-canonical, tiny-canonical}
 use Rattle.cg_names.proofs.UpForms.{ups-canonical}
-use Rattle.cg_eval.proofs.Lasts.{AreMade, EndsIn, append_none, are_made-back, are_made-front, ends-as, ends-back, ends-map, ends-multiple, ends-negative, ends-sum, ends-within, last_position, not_outside, not_too_many, one_number}
+use Rattle.cg_eval.proofs.Lasts.{AreMade, EndsIn, append_none, are_made-back, are_made-front, ends-as, ends-back, ends-map, ends-multiple}
+use Rattle.cg_eval.proofs.Lasts.{ends-negative, ends-sum, ends-within, last_position, not_outside, not_too_many, one_number}
 use Rattle.cg_values.proofs.GiveSteps.{can-sum_forms}
 
 -- ---- the forms of the parts may stand for the parts

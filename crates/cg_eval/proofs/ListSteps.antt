@@ -1,5 +1,6 @@
 -- The steps of lists of expressions and of terms, one after another.
-use Rattle.std.proofs.Common.{◌≡◌, refl, ap, sym, ◌∙◌, subst, ℕ, zero, suc, ◌+◌, ◌<◌, ◌≤◌, arith, Bool, None, List, [], ◌∷◌, ◌++◌, append_assoc, length, get_or, take, drop, map, Result, Ok, Err}
+use Rattle.std.proofs.Common.{◌≡◌, refl, ap, sym, ◌∙◌, subst, ℕ, zero, suc, ◌+◌, ◌<◌, ◌≤◌, arith, Bool, None, List, [], ◌∷◌, ◌++◌, append_assoc}
+use Rattle.std.proofs.Common.{length, get_or, take, drop, map, Result, Ok, Err}
 use Rattle.std.specs.Prelude.{Vec, OnOk, IfErr, IfOk}
 use Rattle.cg_dyadic.specs.Number.{Number}
 use Rattle.cg_form.specs.Game.{Game, number as plain_number, to_list}

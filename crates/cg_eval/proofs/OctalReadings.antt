@@ -1,5 +1,6 @@
 -- A code and a heap are one heap of an octal game, or are refused for one cause.
-use Rattle.std.proofs.Common.{◌≡◌, refl, ap, sym, ◌∙◌, subst, ℕ, ◌+◌, ◌<◌, ◌≤◌, arith, ◌⊎◌, inl, inr, Bool, true, false, Option, None, Result, Ok, Err, List, [], ◌∷◌, map, length, nat_lt, if◌then◌else◌}
+use Rattle.std.proofs.Common.{◌≡◌, refl, ap, sym, ◌∙◌, subst, ℕ, ◌+◌, ◌<◌, ◌≤◌, arith, ◌⊎◌, inl, inr, Bool, true, false, Option, None, Result, Ok}
+use Rattle.std.proofs.Common.{Err, List, [], ◌∷◌, map, length, nat_lt, if◌then◌else◌}
 use Rattle.std.proofs.lemmas.Bool.Decides.{nat_tests}
 use Rattle.cg_dyadic.proofs.Truth.{true_or_false}
 use Rattle.cg_octal.specs.Codes.{IsCode, IsRead, NoCodeAt, OctalHeap, digits_of}

@@ -54,7 +54,8 @@ thermograph-from p m t l r a b c d =
     ap (λ z. codes "mean " ++ (z ++ (codes " temp " ++ (t ++ (codes " left" ++ (l ++ (codes " right" ++ r))))))) a
     ∙ ap (λ z. codes "mean " ++ (number_text p.mean ++ (codes " temp " ++ (z ++ (codes " left" ++ (l ++ (codes " right" ++ r))))))) b
     ∙ ap (λ z. codes "mean " ++ (number_text p.mean ++ (codes " temp " ++ (number_text p.temp ++ (codes " left" ++ (z ++ (codes " right" ++ r))))))) c
-    ∙ ap (λ z. codes "mean " ++ (number_text p.mean ++ (codes " temp " ++ (number_text p.temp ++ (codes " left" ++ (corners_text p.left ++ (codes " right" ++ z))))))) d
+    ∙ ap (λ z. codes "mean " ++ (number_text p.mean ++ (codes " temp " ++ (number_text p.temp ++ (codes " left" ++ (corners_text p.left ++ (codes
+    " right" ++ z))))))) d
     ∙ sym (grouped (codes "mean ") (number_text p.mean) (codes " temp ") (number_text p.temp) (codes " left")
     (corners_text p.left) (codes " right") (corners_text p.right))
   where

@@ -1,5 +1,6 @@
 -- Replies, from answers and refusals.
-use Rattle.std.proofs.Common.{◌≡◌, arith, refl, ap, sym, ◌∙◌, subst, ℕ, ◌⊎◌, inl, inr, Bool, true, false, List, ◌++◌, Option, Some, None, Result, Ok, Err, pos, IfOk}
+use Rattle.std.proofs.Common.{◌≡◌, arith, refl, ap, sym, ◌∙◌, subst, ℕ, ◌⊎◌, inl, inr, Bool, true, false, List, ◌++◌, Option, Some, None, Result, Ok}
+use Rattle.std.proofs.Common.{Err, pos, IfOk}
 use Rattle.cg_cells.specs.Store.{Spends, State}
 use Rattle.cg_form.specs.Game.{Game, number}
 use Rattle.cg_form.specs.Order.{le}

@@ -1,5 +1,6 @@
 -- Answers from what is told of the games of handles.
-use Rattle.std.proofs.Common.{◌≡◌, refl, ap, sym, ◌∙◌, subst, ℕ, arith, Bool, true, false, List, ◌++◌, Option, Some, None, Result, Ok, Err, if◌then◌else◌, pos, inl, inr}
+use Rattle.std.proofs.Common.{◌≡◌, refl, ap, sym, ◌∙◌, subst, ℕ, arith, Bool, true, false, List, ◌++◌, Option, Some, None, Result, Ok, Err}
+use Rattle.std.proofs.Common.{if◌then◌else◌, pos, inl, inr}
 use Rattle.std.specs.Prelude.{◌↔◌, IsTrue, String, string_bytes}
 use Rattle.cg_cells.specs.Store.{Spends, State}
 use Rattle.cg_dyadic.specs.Number.{whole}

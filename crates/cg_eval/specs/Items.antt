@@ -14,7 +14,8 @@ use Rattle.cg_eval.specs.Meaning.{meaning}
 use Rattle.cg_eval.specs.Boards.{position_items, position_of}
 use Rattle.cg_eval.specs.Octals.{heap_items, octal_read}
 use Rattle.cg_eval.specs.Zero.{zero_items}
-use Rattle.cg_query.specs.Tree.{Tree, Trees, Terms, Question, number, ups, nimber, switch, tiny, sides, negative, multiple, sum, game, octal, used, no_trees, with_tree, no_terms, with_term, value, compare, outcome, stops, mean, temp, thermo, proof, check}
+use Rattle.cg_query.specs.Tree.{Tree, Trees, Terms, Question, number, ups, nimber, switch, tiny, sides, negative, multiple, sum, game, octal, used}
+use Rattle.cg_query.specs.Tree.{no_trees, with_tree, no_terms, with_term, value, compare, outcome, stops, mean, temp, thermo, proof, check}
 
 -- the items that subtracting a game adds before the sum
 abbrev pub signed_items : ℕ → Bool → Game → List Item

@@ -1,5 +1,6 @@
 -- The output of the lines so far, with that of the lines that are left, is the output of all; and lines have one output.
-use Rattle.std.proofs.Common.{◌≡◌, ℕ, zero, suc, ◌+◌, arith, Bool, cond, true, false, List, [], ◌∷◌, drop, Some, refl, ap, sym, subst, ◌∙◌, append_assoc, append-nil}
+use Rattle.std.proofs.Common.{◌≡◌, ℕ, zero, suc, ◌+◌, arith, Bool, cond, true, false, List, [], ◌∷◌, drop, Some, refl, ap, sym, subst, ◌∙◌}
+use Rattle.std.proofs.Common.{append_assoc, append-nil}
 use Rattle.std.specs.Prelude.{◌≤◌, slice_get}
 use Rattle.cg_cells.proofs.Levels.{same_Some}
 use Rattle.cg_words.specs.declared.settings.Settings.{Settings}

@@ -7,7 +7,8 @@ use Rattle.cg_query.specs.Tree as trees
 use Rattle.cg_query.specs.Trees.{tree_of, trees_in, trees_of, term_of, terms_in, terms_of}
 use Rattle.cg_query.specs.declared.expr.Expr.{Expr}
 use Rattle.cg_query.specs.declared.expr.Expr.TheVariants as expr
-use Rattle.cg_query.proofs.TreeOf.{number_tree, ups_tree_of, nimber_tree, switch_tree, tiny_tree, braces_tree, negative_tree, multiple_tree, sum_tree, game_tree, octal_tree, term_tree, used_tree}
+use Rattle.cg_query.proofs.TreeOf.{number_tree, ups_tree_of, nimber_tree, switch_tree, tiny_tree, braces_tree, negative_tree, multiple_tree, sum_tree}
+use Rattle.cg_query.proofs.TreeOf.{game_tree, octal_tree, term_tree, used_tree}
 use Rattle.cg_names.specs.Meaning.{signed}
 use Rattle.cg_eval.specs.Meaning.{meaning, total_with}
 use Rattle.cg_eval.specs.Progress.{Evaluates, Gives}
@@ -25,8 +26,10 @@ use Rattle.std.proofs.lemmas.List.{nil_from_length}
 use Rattle.cg_query.specs.declared.expr.Term.{Term}
 use Rattle.cg_eval.proofs.BoardParts.{board_gives, heap_gives}
 use Rattle.cg_query.proofs.Walk.{size, size_of_braces, size_of_negative, size_of_multiple, size_of_sum, size_of_item, size_of_term}
-use Rattle.cg_eval.proofs.ListSteps.{adds, all_made-all, all_made-none, all_made-step, all_stopped, added-all, added-none, added-step, added-stopped, first_and_rest, first_size, first_term_stopped, gives_all-err, no_terms_give, sum_of_terms}
-use Rattle.cg_eval.proofs.Expressions.{added_gives, braces_gives, left_stopped, multiple_gives, multiple_stopped, negative_gives, negative_stopped, right_stopped, stopped_part, subtracted_gives, sum_gives, used_gives}
+use Rattle.cg_eval.proofs.ListSteps.{adds, all_made-all, all_made-none, all_made-step, all_stopped, added-all, added-none, added-step, added-stopped}
+use Rattle.cg_eval.proofs.ListSteps.{first_and_rest, first_size, first_term_stopped, gives_all-err, no_terms_give, sum_of_terms}
+use Rattle.cg_eval.proofs.Expressions.{added_gives, braces_gives, left_stopped, multiple_gives, multiple_stopped, negative_gives, negative_stopped}
+use Rattle.cg_eval.proofs.Expressions.{right_stopped, stopped_part, subtracted_gives, sum_gives, used_gives}
 use Rattle.cg_eval.proofs.Steps.{gives_from, gives_stop, stops_memory}
 use Rattle.cg_eval.proofs.evaluate.+evaluate.Goals as goal
 

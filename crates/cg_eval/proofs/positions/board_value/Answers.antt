@@ -1,4 +1,4 @@
-use Rattle.std.proofs.Common.{◌∙◌, sym, subst}
+use Rattle.std.proofs.Common.{sym, subst}
 use Rattle.cg_canon.specs.Works.{work_state}
 use Rattle.cg_eval.specs.Boards.{Position, position_form, position_items, position_of}
 use Rattle.cg_eval.specs.Parts.{set_up}
@@ -24,4 +24,4 @@ returns-else-is_memory g c =
     let t = work_state g.S.CellStore.state c.nothing.new.work in
     let P : Position → Type 0 = λ q. Gives s t (position_items s.rest.limit q) (position_form q) c.nothing.result in
     subst P (sym (is-faulty (position_of c.args.kind c.args.rules.now c.args.board.now) c.in-Err.fault
-    c.in-Err.ensures.refused (sym c.if-is_memory.ensures ∙ c.if-is_memory.false))) c.nothing.ensures
+    c.in-Err.ensures.refused (sym c.if-is_memory.ensures))) c.nothing.ensures
