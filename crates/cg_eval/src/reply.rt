@@ -24,11 +24,12 @@ use std::mem;
 /// The reply to a question, on a share of so much of the store's spare, with so many positions at most in one list of
 /// items. A use of a name counts as 0: whoever asks replaces names by what they stand for.
 ///
-/// It is the first of these that applies: `! board cause p` for the first ill-formed board or heap from the left; `!
-/// positions`, `! range`, `! depth` or `! full` where an item of the question is refused; `! range` where the mean or
-/// the temperature of some position of the value needs more than 60 binary places and the question is for a mean, a
-/// temperature or a thermograph; `! long` where a proof has more than 65,536 bytes; and else its answer. The one fault
-/// is want of memory. Whatever it answers, what the store knew it knows, and its spare falls by the share at most.
+/// It is the first of these that applies: `! board cause p` for the first ill-formed board or heap from the left;
+/// `! positions`, `! range`, `! depth` or `! full` where an item of the question is refused; `! range` where the mean
+/// or the temperature of some position of the value needs more than 60 binary places and the question is for a mean,
+/// a temperature or a thermograph; `! long` where a proof has more than 65,536 bytes; and else its answer. The one
+/// fault is want of memory. Whatever it answers, what the store knew it knows, and its spare falls by the share at
+/// most.
 pub fn answer_query<S: CellStore<GameFacts<CgBoards>>>(
     alloc: Global,
     store: &mut S,
