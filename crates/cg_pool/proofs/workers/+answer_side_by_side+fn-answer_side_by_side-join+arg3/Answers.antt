@@ -2,7 +2,7 @@ use Rattle.std.proofs.Common.{IfOk, subst}
 use Rattle.cg_cells.specs.Table.{passes_of}
 use Rattle.cg_pool.specs.Answers.{IsBrought}
 use Rattle.cg_pool.proofs.Bringing.{brought_both, split_passes}
-use Rattle.cg_pool.proofs.workers.+fn-answer_side_by_side-join+arg3+answer_side_by_side.Goals as goal
+use Rattle.cg_pool.proofs.workers.+answer_side_by_side+fn-answer_side_by_side-join+arg3.Goals as goal
 
 pub returns : goal.returns
 returns g t c =

@@ -1,5 +1,5 @@
 use Rattle.std.proofs.Common.{◌+◌, ◌*◌}
-use Rattle.cg_pool.proofs.workers.+fn-answer_side_by_side-join+arg3+answer_side_by_side.Given as goal
+use Rattle.cg_pool.proofs.workers.+answer_side_by_side+fn-answer_side_by_side-join+arg3.Given as goal
 
 abbrev pub decreases-join+arg3 : goal.decreases-join+arg3
 decreases-join+arg3 g l = 2 * l.rest + 1
