@@ -1,7 +1,9 @@
 -- The last item of a board is its value.
-use Rattle.std.proofs.Common.{◌≡◌, refl, ap, sym, ◌∙◌, subst, ℕ, Bool, if◌then◌else◌, suc, ◌==◌, false, true, None, Result, Ok, Err, List, [], ◌∷◌, ◌++◌, length, nat_lt, inl, inr, eq-eqb}
+use Rattle.std.proofs.Common.{◌≡◌, refl, ap, sym, ◌∙◌, subst, ℕ, Bool, if◌then◌else◌, suc, ◌==◌, false, true, None, Result, Ok, Err, List, [], ◌∷◌}
+use Rattle.std.proofs.Common.{◌++◌, length, nat_lt, inl, inr, eq-eqb, pos}
 use Rattle.std.specs.Prelude.{◌&&◌, bytes_eq, codes}
 use Rattle.std.proofs.lemmas.Bool.{and_from}
+use Rattle.cg_dyadic.specs.Number.{whole}
 use Rattle.cg_dyadic.proofs.Truth.{true_or_false}
 use Rattle.cg_canon.specs.Items.{Item}
 use Rattle.cg_nodes.specs.Can.{can}
@@ -33,10 +35,11 @@ use Rattle.cg_strip.specs.ToadsLaws.{toads_lawful}
 use Rattle.cg_values.specs.Items.{board_items, cut_items, value_item, value_items, whole_items}
 use Rattle.cg_query.specs.declared.kind.GameKind.{GameKind}
 use Rattle.cg_query.specs.declared.kind.GameKind.TheVariants.{Domineering, Clobber, Amazons, Toads, Strip, Hackenbush, Col, Snort}
-use Rattle.cg_eval.specs.Boards.{IsStrip, Position, board, faulty, no_row, no_rules, not_lowered, position_by, position_charted, position_drawn, position_fault, position_form, position_items, position_of, strip_board, strip_position}
+use Rattle.cg_eval.specs.Boards.{IsStrip, Position, board, faulty, no_row, no_rules, not_lowered, position_by, position_charted, position_drawn}
+use Rattle.cg_eval.specs.Boards.{position_form, position_items, position_of, strip_board, strip_position}
 use Rattle.cg_eval.specs.Parts.{IsSound}
 use Rattle.cg_eval.proofs.CutEnds.{ends-cut}
-use Rattle.cg_eval.proofs.Lasts.{AreMade, EndsIn, not_too_many}
+use Rattle.cg_eval.proofs.Lasts.{AreMade, EndsIn, not_too_many, one_number}
 use Rattle.cg_eval.proofs.ReadBoards.{in-rows, read-by, same-symbols}
 use Rattle.cg_eval.proofs.StripReadings.{strip-some}
 
@@ -160,12 +163,12 @@ ends-items limit r lawful p has m =
       | inr f ↦ subst P (sym f) (ends-whole limit r lawful p has (subst Q f m))
     ]
 
-ends-position : (limit : ℕ) (q : Position) → IsPlayed q → position_fault q ≡ None → AreMade (position_items limit q)
+ends-position : (limit : ℕ) (q : Position) → IsPlayed q → AreMade (position_items limit q)
     → EndsIn (can (position_form q)) (position_items limit q)
-ends-position limit (board r p) h e m = ends-items limit r h.0 p h.1 m
-ends-position limit (faulty fault) h e m = absurd (cc)
+ends-position limit (board r p) h m = ends-items limit r h.0 p h.1 m
+ends-position limit (faulty fault) h m = one_number (whole (pos 0))
 
-pub ends-board : (limit : ℕ) (kind : GameKind) (rules text : List ℕ) → position_fault (position_of kind rules text) ≡ None
+pub ends-board : (limit : ℕ) (kind : GameKind) (rules text : List ℕ)
     → AreMade (position_items limit (position_of kind rules text))
     → EndsIn (can (position_form (position_of kind rules text))) (position_items limit (position_of kind rules text))
-ends-board limit kind rules text e m = ends-position limit (position_of kind rules text) (played kind rules text) e m
+ends-board limit kind rules text m = ends-position limit (position_of kind rules text) (played kind rules text) m

@@ -19,7 +19,8 @@ use Rattle.cg_graph.specs.Drawings.{drawing_read, drawing_rules, drawing_start}
 use Rattle.cg_graph.specs.declared.edge.ColouredEdge.{ColouredEdge}
 use Rattle.cg_graph.specs.declared.fault.GraphFault.{GraphFault}
 use Rattle.cg_graph.specs.declared.fault.GraphFault.TheVariants as graph
-use Rattle.cg_eval.specs.Boards.{Position, board, faulty, no_row, no_rules, not_lowered, position_by, position_charted, position_drawn, position_fault, strip_board, strip_position}
+use Rattle.cg_eval.specs.Boards.{Position, board, faulty, no_row, no_rules, not_lowered, position_by, position_charted, position_drawn}
+use Rattle.cg_eval.specs.Boards.{position_fault, strip_board, strip_position}
 use Rattle.cg_eval.specs.IllFormed.{is_memory}
 use Rattle.cg_eval.specs.Parts.{IsFaultOf, IsFaulty, set_up}
 use Rattle.cg_eval.specs.declared.fault.GameFault.{GameFault}
@@ -118,10 +119,10 @@ pub fault-of : (q : Position) (read : Result GameBoard GameFault) (o : Option Ga
 fault-of q (Ok b) o e r f = e ∙ sym (ap position_fault r ∙ board-none b)
 fault-of q (Err fault) o e r f = e.1 ∙ some-fault q fault e.0 f
 
--- a board is read where none is refused
-pub no-faulty : (q : Position) (fault : GameFault) → IsFaulty q fault → is_memory fault ≡ false → position_fault q ≡ None → ⊥
-no-faulty q fault (inl e) n none = let x = sym e ∙ n in cc
-no-faulty q fault (inr e) n none = let x = sym (ap position_fault e) ∙ none in cc
+-- what is no board
+pub is-faulty : (q : Position) (fault : GameFault) → IsFaulty q fault → is_memory fault ≡ false → q ≡ faulty fault
+is-faulty q fault (inl e) n = let x = sym e ∙ n in absurd (cc)
+is-faulty q fault (inr e) n = e
 
 -- ---- want of memory for the board of what was read
 

@@ -26,11 +26,13 @@ use Rattle.cg_nodes.proofs.Forms.{can-node}
 use Rattle.cg_sum.proofs.Sums.{can-sum_form, can-sum_comm}
 use Rattle.cg_names.specs.Lists.{form_items, number_items}
 use Rattle.cg_names.specs.Meaning.{fraction, literal, or_zero, signed}
+use Rattle.cg_names.specs.Meaning.{meaning as meaning_by}
 use Rattle.cg_eval.specs.Meaning.{meaning, meanings}
 use Rattle.cg_names.specs.Named.{nimber_form, ups_form, switch_form, tiny_form, zero_number}
-use Rattle.cg_query.specs.Tree.{Tree, Trees, number, ups, nimber, switch, tiny, sides, negative, multiple}
+use Rattle.cg_query.specs.Tree.{Tree, Trees, number, ups, nimber, switch, tiny, sides, negative, multiple, used}
 use Rattle.cg_eval.specs.Items.{items, all_items, term_part}
 use Rattle.cg_eval.specs.Progress.{Evaluates, Gives, Makes, Stops}
+use Rattle.cg_eval.specs.Zero.{zero_form, zero_items}
 use Rattle.cg_names.proofs.Literals.{literal-fraction, literal_not_negative}
 use Rattle.cg_names.proofs.SwitchForms.{switch-canonical, tiny-canonical}
 use Rattle.cg_eval.proofs.LastItems.{can-negative_form, can-multiple_form}
@@ -43,13 +45,29 @@ module _ {R : Type 0} (s t : State Meant (WorkRest R)) where
   pub ups_gives : (down : Bool) (n : ℕ) (result : Result ℕ ValueFault)
       → Gives s t (form_items s.rest.limit (ups_form down n)) (ups_form down n) result
       → Evaluates s t (ups down n) result
-  unfolding items meaning
+  unfolding items meaning_by
   ups_gives down n result r = r
 
   pub nimber_gives : (n : ℕ) (result : Result ℕ ValueFault)
       → Gives s t (form_items s.rest.limit (nimber_form n)) (nimber_form n) result → Evaluates s t (nimber n) result
-  unfolding items meaning
+  unfolding items meaning_by
   nimber_gives n result r = r
+
+  -- 0
+  pub zero_gives : (x : Number) (result : Result ℕ ValueFault) → x ≡ zero_number
+      → IfOk result (λ h. StandsFor t h (plain_number x))
+      → OnOk result (AllPass s.rest.share s.rest.spent (made (plain_number x) 0 ∷ []) t.rest.spent)
+      → IfErr result (λ fault. WasRefused fault s.rest.share s.rest.spent (made (plain_number x) 0 ∷ []) t.rest.spent)
+      → s.spare ≤ t.spare → Keeps s t → Gives s t zero_items zero_form result
+  zero_gives x result is game passed refused m keeps =
+      let Q : Number → Type 0 = λ z. Gives s t (made (plain_number z) 0 ∷ []) (plain_number z) result in
+      subst Q is (gives_from s t (made (plain_number x) 0 ∷ []) (plain_number x)
+      (plain_number x) result (sym (can-fixed (plain_number x) tt)) game passed refused m keeps)
+
+  pub used_gives : (word : List ℕ) (column : ℕ) (result : Result ℕ ValueFault) → Gives s t zero_items zero_form result
+      → Evaluates s t (used word column) result
+  unfolding items meaning_by
+  used_gives word column result r = r
 
   -- the number that is given, or one out of range
   number_of : (o all : Option Number) (result : Result ℕ ValueFault) → ((x : Number) → o ≡ Some x → all ≡ Some x)
@@ -71,7 +89,7 @@ module _ {R : Type 0} (s t : State Meant (WorkRest R)) where
       → OnOk result (AllPass s.rest.share s.rest.spent (number_made o 0 ∷ []) t.rest.spent)
       → IfErr result (λ fault. WasRefused fault s.rest.share s.rest.spent (number_made o 0 ∷ []) t.rest.spent)
       → s.spare ≤ t.spare → Keeps s t → Evaluates s t (number below num den) result
-  unfolding items meaning
+  unfolding items meaning_by
   literal_gives below num den o result e game passed refused m keeps =
       let r = number_of o (fraction below num den) result (λ x f. literal-fraction below num den x (sym e
       ∙ f)) game passed refused m keeps in
@@ -108,7 +126,7 @@ module _ {R : Type 0} (s t : State Meant (WorkRest R)) where
       → IfErr result (λ fault. WasRefused fault s.rest.share s.rest.spent
       (number_items s.rest.limit switch_form o) t.rest.spent)
       → s.spare ≤ t.spare → Keeps s t → Evaluates s t (switch num den) result
-  unfolding items meaning
+  unfolding items meaning_by
   switch_gives num den o result e game passed refused m keeps =
       let r = game_of_number switch_form o (fraction false num den) result
       (λ x f. (
@@ -127,7 +145,7 @@ module _ {R : Type 0} (s t : State Meant (WorkRest R)) where
       → IfErr result (λ fault. WasRefused fault s.rest.share s.rest.spent (number_items s.rest.limit
       (tiny_form miny) o) t.rest.spent)
       → s.spare ≤ t.spare → Keeps s t → Evaluates s t (tiny miny num den) result
-  unfolding items meaning
+  unfolding items meaning_by
   tiny_gives miny num den o result e game passed refused m keeps =
       let r = game_of_number (tiny_form miny) o (fraction false num den) result
       (λ x f. (
@@ -173,14 +191,14 @@ module _ {R : Type 0} (s t u : State Meant (WorkRest R)) where
   pub negative_gives : (e : Tree) (v : ℕ) (result : Result ℕ ValueFault) → Evaluates s t e (Ok v)
       → Gives t u (negative_items t.rest.limit (game_at t v)) (minus (game_at t v)) result
       → Evaluates s u (negative e) result
-  unfolding items meaning
+  unfolding items meaning_by
   negative_gives e v result a r =
       stepped negative_items minus (items s.rest.limit e) (meaning e) v result (can-negative_form (meaning e)) a r
 
   pub multiple_gives : (n : ℕ) (e : Tree) (v : ℕ) (result : Result ℕ ValueFault) → Evaluates s t e (Ok v)
       → Gives t u (multiple_items t.rest.limit n (game_at t v)) (many n (game_at t v)) result
       → Evaluates s u (multiple n e) result
-  unfolding items meaning
+  unfolding items meaning_by
   multiple_gives n e v result a r =
       stepped (λ limit g. multiple_items limit n g) (many n) (items s.rest.limit e) (meaning e) v result
       (can-multiple_form n (meaning e)) a r
@@ -209,7 +227,7 @@ module _ {R : Type 0} (s t u : State Meant (WorkRest R)) where
 module _ {R : Type 0} (s t : State Meant (WorkRest R)) where
   pub negative_stopped : (e : Tree) (result : Result ℕ ValueFault) (x fault : ValueFault) → result ≡ Err x → x ≡ fault
       → Stops s t fault (items s.rest.limit e) → Evaluates s t (negative e) result
-  unfolding items meaning
+  unfolding items meaning_by
   negative_stopped e result x fault is same r =
       stopped_part s t (minus (meaning e)) result x fault (items s.rest.limit e) (negative_items s.rest.limit (can
       (meaning e))) is same r
@@ -217,7 +235,7 @@ module _ {R : Type 0} (s t : State Meant (WorkRest R)) where
   pub multiple_stopped : (n : ℕ) (e : Tree) (result : Result ℕ ValueFault) (x fault : ValueFault) → result ≡ Err x
       → x ≡ fault
       → Stops s t fault (items s.rest.limit e) → Evaluates s t (multiple n e) result
-  unfolding items meaning
+  unfolding items meaning_by
   multiple_stopped n e result x fault is same r =
       stopped_part s t (many n (meaning e)) result x fault (items s.rest.limit e) (multiple_items s.rest.limit n
       (can (meaning e))) is same r
@@ -225,7 +243,7 @@ module _ {R : Type 0} (s t : State Meant (WorkRest R)) where
   pub left_stopped : (lefts rights : Trees) (result : Result ℕ ValueFault) (x fault : ValueFault) → result ≡ Err x
       → x ≡ fault
       → Stops s t fault (all_items s.rest.limit lefts) → Evaluates s t (sides lefts rights) result
-  unfolding items meaning
+  unfolding items meaning_by
   left_stopped lefts rights result x fault is same r =
       let ls = all_items s.rest.limit lefts in
       let rs = all_items s.rest.limit rights in
@@ -237,7 +255,7 @@ pub right_stopped : {R : Type 0} (s t u : State Meant (WorkRest R)) (lefts right
     (result : Result ℕ ValueFault) (x fault : ValueFault) → result ≡ Err x → x ≡ fault
     → Makes s t (all_items s.rest.limit lefts) → Stops t u fault (all_items t.rest.limit rights)
     → Evaluates s u (sides lefts rights) result
-unfolding items meaning
+unfolding items meaning_by
 right_stopped s t u lefts rights result x fault is same made_lefts r =
     let ls = all_items s.rest.limit lefts in
     let P : ℕ → Type 0 = λ n. Stops t u fault (all_items n rights) in
@@ -263,7 +281,7 @@ module _ {R : Type 0} (s t u w : State Meant (WorkRest R)) where
       → Gives u w (made (can (node (games_at u hs) (games_at u ks))) 0 ∷ []) (node (games_at u hs)
       (games_at u ks)) result
       → Evaluates s w (sides lefts rights) result
-  unfolding items meaning
+  unfolding items meaning_by
   braces_gives lefts rights ls hs rs ks result (left_games, left_made) (right_games, right_made) e f r =
       let later = stand_later t u right_made.keeps.known ls (map can (to_list (meanings lefts))) left_games in
       let l : games_at u hs ≡ map can (to_list (meanings lefts)) = ap (λ z. games_at u z) e ∙ later.1 in

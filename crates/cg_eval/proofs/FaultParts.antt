@@ -22,11 +22,6 @@ first-assoc : (f g h : Option GameFault)
 first-assoc None g h = refl
 first-assoc (Some fault) g h = refl
 
--- there is none in two where there is none in either
-pub neither : (f g : Option GameFault) → first_of_two f g ≡ None → (f ≡ None) × (g ≡ None)
-neither None g e = (refl, e)
-neither (Some fault) g e = absurd (cc)
-
 -- ---- lists of expressions
 
 all-append : (xs ys : List Tree) → fault_in_all (trees_from (xs ++ ys))
@@ -46,27 +41,6 @@ all-one_more es i e found more below at f m =
     ∙ sym (all-append (trees_of (take i es)) (tree_of e ∷ []))
     ∙ ap (λ (us : List Tree). fault_in_all (trees_from us)) (sym (trees_of-take_suc es i e below at))
     ∙ ap (λ n. fault_in_all (trees_from (trees_of (take n es)))) (sym one)
-
-pub all-whole : (es : List Expr) (ts : List Tree) (i : ℕ) (found : Option GameFault) → trees_of es ≡ ts
-    → length es ≤ i → found ≡ fault_in_all (trees_from (trees_of (take i es)))
-    → found ≡ fault_in_all (trees_from ts)
-all-whole es ts i found is end e = e ∙ ap (λ (us : List Tree). fault_in_all (trees_from us))
-    (trees_of-all es i end ∙ is)
-
--- an expression of a list in which there is none has none
-pub none_in-all : (es : List Expr) (ts : List Tree) (i : ℕ) (e : Expr) → trees_of es ≡ ts → i < length es
-    → e ≡ get_or es i e → fault_in_all (trees_from ts) ≡ None → fault_in (tree_of e) ≡ None
-none_in-all es ts i e is below at none =
-    there es i e below at (ap (λ (us : List Tree). fault_in_all (trees_from us)) is ∙ none)
-  where
-    there : (es : List Expr) (i : ℕ) (e : Expr) → i < length es → e ≡ get_or es i e
-        → fault_in_all (trees_from (trees_of es)) ≡ None → fault_in (tree_of e) ≡ None
-    there [] i e below at none = absurd (omega arith)
-    there (f ∷ es) zero e below at none =
-        ap (λ (x : Expr). fault_in (tree_of x)) at
-        ∙ (neither (fault_in (tree_of f)) (fault_in_all (trees_from (trees_of es))) none).0
-    there (f ∷ es) (suc i) e below at none =
-        there es i e (omega arith) at (neither (fault_in (tree_of f)) (fault_in_all (trees_from (trees_of es))) none).1
 
 -- ---- lists of terms
 
@@ -91,27 +65,6 @@ terms-one_more es i e found more below at f m =
     ∙ ap (λ (us : List (Bool × Tree)). fault_in_terms (terms_from us)) (sym (terms_of-take_suc es i e below at))
     ∙ ap (λ n. fault_in_terms (terms_from (terms_of (take n es)))) (sym one)
 
-pub terms-whole : (es : List Term) (ts : List (Bool × Tree)) (i : ℕ) (found : Option GameFault) → terms_of es ≡ ts
-    → length es ≤ i → found ≡ fault_in_terms (terms_from (terms_of (take i es)))
-    → found ≡ fault_in_terms (terms_from ts)
-terms-whole es ts i found is end e = e ∙ ap (λ (us : List (Bool × Tree)). fault_in_terms (terms_from us))
-    (terms_of-all es i end ∙ is)
-
-pub none_in-terms : (es : List Term) (ts : List (Bool × Tree)) (i : ℕ) (e : Term) → terms_of es ≡ ts
-    → i < length es → e ≡ get_or es i e → fault_in_terms (terms_from ts) ≡ None → fault_in (term_of e).1 ≡ None
-none_in-terms es ts i e is below at none =
-    there es i e below at (ap (λ (us : List (Bool × Tree)). fault_in_terms (terms_from us)) is ∙ none)
-  where
-    there : (es : List Term) (i : ℕ) (e : Term) → i < length es → e ≡ get_or es i e
-        → fault_in_terms (terms_from (terms_of es)) ≡ None → fault_in (term_of e).1 ≡ None
-    there [] i e below at none = absurd (omega arith)
-    there (f ∷ es) zero e below at none =
-        ap (λ (x : Term). fault_in (term_of x).1) at
-        ∙ (neither (fault_in (term_of f).1) (fault_in_terms (terms_from (terms_of es))) none).0
-    there (f ∷ es) (suc i) e below at none =
-        there es i e (omega arith) at
-        (neither (fault_in (term_of f).1) (fault_in_terms (terms_from (terms_of es))) none).1
-
 -- ---- an expression, from its parts
 
 pub fault_of_tree : (e f : Expr) {t : Tree} → e ≡ f → tree_of f ≡ t → fault_in (tree_of e) ≡ fault_in t
@@ -120,6 +73,3 @@ fault_of_tree e f {t} is tree = ap (λ (x : Expr). fault_in (tree_of x)) is ∙ 
 pub fault_of_braces : (e : Expr) (lefts rights : Exprs) → e ≡ expr.Braces lefts rights → fault_in (tree_of e)
     ≡ first_of_two (fault_in_all (trees_from (trees_in lefts))) (fault_in_all (trees_from (trees_in rights)))
 fault_of_braces e lefts rights is = ap (λ (x : Expr). fault_in (tree_of x)) is ∙ ap fault_in (braces_tree lefts rights)
-
-pub fault_of_term : (e : Term) → fault_in (term_of e).1 ≡ fault_in (tree_of e.expr)
-fault_of_term e = ap (λ (p : Bool × Tree). fault_in p.1) (term_tree e.minus e.expr)

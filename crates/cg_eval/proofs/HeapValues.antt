@@ -1,5 +1,6 @@
 -- The value of a heap of an octal game, from the nimber that it equals.
-use Rattle.std.proofs.Common.{◌≡◌, refl, ap, sym, ◌∙◌, ℕ, suc, ◌+◌, ◌<◌, ◌≤◌, arith, inr, List, [], ◌∷◌, get_or, length, map, nat_lt, false, subst, Result, Ok, if◌then◌else◌}
+use Rattle.std.proofs.Common.{◌≡◌, refl, ap, sym, ◌∙◌, ℕ, suc, ◌+◌, ◌<◌, ◌≤◌, arith, inr, List, [], ◌∷◌, get_or, length, map, nat_lt, false, subst}
+use Rattle.std.proofs.Common.{Result, Ok, if◌then◌else◌}
 use Rattle.std.proofs.lemmas.Bool.Decides.{nat_tests}
 use Rattle.std.proofs.lemmas.Option.{slice_get-get_or}
 use Rattle.cg_cells.specs.Store.{State}

@@ -1,5 +1,6 @@
 -- The last of the items of an expression.
-use Rattle.std.proofs.Common.{◌≡◌, refl, ℕ, zero, suc, ◌+◌, pos, ap, sym, subst, List, [], ◌∷◌, ◌++◌, append_assoc, length, map, Bool, true, false, nat_lt, inl, inr, Option, Some, None, Result, Ok, Err}
+use Rattle.std.proofs.Common.{◌≡◌, refl, ℕ, zero, suc, ◌+◌, pos, ap, sym, subst, List, [], ◌∷◌, ◌++◌, append_assoc, length, map, Bool, true, false}
+use Rattle.std.proofs.Common.{nat_lt, inl, inr, Option, Some, None, Result, Ok, Err}
 use Rattle.cg_dyadic.specs.Number.{Number, whole}
 use Rattle.cg_dyadic.proofs.Truth.{true_or_false}
 use Rattle.cg_form.specs.Canonical.{Canonical}
@@ -20,22 +21,22 @@ use Rattle.cg_nodes.specs.CanForms.{can-canonical, can-equal, can-fixed}
 use Rattle.cg_names.specs.Lists.{form_items, number_items, plain_item}
 use Rattle.cg_canon.specs.NumberItems.{number_made}
 use Rattle.cg_names.specs.Meaning.{fraction, literal, signed, or_zero}
-use Rattle.cg_eval.specs.Faults.{fault_in, fault_in_terms}
+use Rattle.cg_names.specs.Meaning.{meaning as meaning_by}
 use Rattle.cg_eval.specs.Meaning.{meaning, total, total_with}
 use Rattle.cg_names.specs.Named.{nimber_form, ups_form, switch_form, tiny_form}
 use Rattle.cg_query.specs.Tree.{Tree, Terms, number, ups, nimber, switch, tiny, sides, negative, multiple, sum, game, octal, used, no_terms, with_term}
 use Rattle.cg_octal.specs.Codes.{OctalHeap}
 use Rattle.cg_octal.specs.Heaps.{heap}
 use Rattle.cg_octal.specs.declared.fault.OctalFault.{OctalFault}
-use Rattle.cg_eval.specs.Octals.{heap_fault, heap_form, heap_items, octal_read}
+use Rattle.cg_eval.specs.Octals.{heap_form, heap_items, octal_read}
 use Rattle.cg_eval.specs.Items.{items, all_items, term_items, further_items, signed_items, term_part}
 use Rattle.cg_eval.proofs.BoardEnds.{ends-board}
-use Rattle.cg_eval.proofs.FaultParts.{neither}
 use Rattle.cg_names.proofs.Literals.{literal_not_negative, literal-fraction}
 use Rattle.cg_nimbers.proofs.CanonicalNimbers.{nimber-canonical}
 use Rattle.cg_names.proofs.SwitchForms.{switch-canonical, tiny-canonical}
 use Rattle.cg_names.proofs.UpForms.{ups-canonical}
-use Rattle.cg_eval.proofs.Lasts.{AreMade, EndsIn, append_none, are_made-back, are_made-front, ends-as, ends-back, ends-map, ends-multiple, ends-negative, ends-sum, ends-within, last_position, not_outside, not_too_many}
+use Rattle.cg_eval.proofs.Lasts.{AreMade, EndsIn, append_none, are_made-back, are_made-front, ends-as, ends-back, ends-map, ends-multiple}
+use Rattle.cg_eval.proofs.Lasts.{ends-negative, ends-sum, ends-within, last_position, not_outside, not_too_many, one_number}
 use Rattle.cg_values.proofs.GiveSteps.{can-sum_forms}
 
 -- ---- the forms of the parts may stand for the parts
@@ -69,9 +70,6 @@ ends-form limit f c m = elim (true_or_false (nat_lt limit (length (positions_of 
       (last_position f))
 ]
 
-one_number : (x : Number) → EndsIn (can (plain_number x)) (made (plain_number x) 0 ∷ [])
-one_number x = record { front = []; extra = 0; split = ap (λ k. made k 0 ∷ []) (sym (can-fixed (plain_number x) tt)) }
-
 -- the list of a game that is made from a literal
 ends-literal : (limit : ℕ) (form : Number → Game) (o all : Option Number)
     → ((x : Number) → o ≡ Some x → (all ≡ Some x) × Canonical (form x))
@@ -91,10 +89,10 @@ ends-number (Some x) all h m =
 
 -- ---- heaps
 
-ends-heap : (limit : ℕ) (o : Result OctalHeap OctalFault) → heap_fault o ≡ None → AreMade (heap_items limit o)
+ends-heap : (limit : ℕ) (o : Result OctalHeap OctalFault) → AreMade (heap_items limit o)
     → EndsIn (can (heap_form o)) (heap_items limit o)
-ends-heap limit (Err fault) e m = absurd (cc)
-ends-heap limit (Ok o) e m =
+ends-heap limit (Err fault) m = one_number (whole (pos 0))
+ends-heap limit (Ok o) m =
     let k = can (heap o.digits o.heap) in
     ends-within limit (o.heap + 1) k (map plain_item (positions_of k)) m
     (ends-map plain_item k k 0 (positions_of k) refl (last_position k))
@@ -113,57 +111,55 @@ ends-signed limit false g is e m =
     let P : List Item → Type 0 = λ z. EndsIn (can g) z in subst P (sym (append_none is)) e
 
 mutual
-  unfolding items meaning
+  unfolding items meaning_by
 
-  pub last_item : (limit : ℕ) (t : Tree) → fault_in t ≡ None → AreMade (items limit t)
+  pub last_item : (limit : ℕ) (t : Tree) → AreMade (items limit t)
       → EndsIn (can (meaning t)) (items limit t)
-  last_item limit (number below num den) b m =
+  last_item limit (number below num den) m =
       ends-number (literal below num den) (fraction below num den) (literal-fraction below num den) m
-  last_item limit (ups down n) b m = ends-form limit (ups_form down n) (ups-canonical down false n) m
-  last_item limit (nimber n) b m = ends-form limit (nimber_form n) (nimber-canonical n) m
-  last_item limit (switch num den) b m =
+  last_item limit (ups down n) m = ends-form limit (ups_form down n) (ups-canonical down false n) m
+  last_item limit (nimber n) m = ends-form limit (nimber_form n) (nimber-canonical n) m
+  last_item limit (switch num den) m =
       ends-literal limit switch_form (literal false num den) (fraction false num den)
       (λ x e. (literal-fraction false num den x e, switch-canonical x (literal_not_negative num den x e))) m
-  last_item limit (tiny miny num den) b m =
+  last_item limit (tiny miny num den) m =
       ends-literal limit (tiny_form miny) (literal false num den) (fraction false num den)
       (λ x e. (literal-fraction false num den x e, tiny-canonical miny x (literal_not_negative num den x e))) m
-  last_item limit (sides lefts rights) b m = record {
+  last_item limit (sides lefts rights) m = record {
     front = all_items limit lefts ++ all_items limit rights;
     extra = 0;
     split = refl;
   }
-  last_item limit (negative t) b m = ends-signed limit true (meaning t) (items limit t)
-      (last_item limit t b (are_made-front (items limit t) (negative_items limit (can (meaning t))) m)) m
-  last_item limit (multiple n t) b m =
+  last_item limit (negative t) m = ends-signed limit true (meaning t) (items limit t)
+      (last_item limit t (are_made-front (items limit t) (negative_items limit (can (meaning t))) m)) m
+  last_item limit (multiple n t) m =
       ends-as (can (many n (can (meaning t)))) (can (many n (meaning t))) (items limit t ++ multiple_items limit n
       (can (meaning t)))
       (can-multiple_form n (meaning t))
       (ends-multiple limit n (can (meaning t)) (items limit t) (can-canonical (meaning t))
-      (last_item limit t b (are_made-front (items limit t) (multiple_items limit n (can (meaning t))) m)) m)
-  last_item limit (sum terms) b m = last_of_terms limit terms b m
-  last_item limit (game kind rules board) b m = ends-board limit kind rules board b m
-  last_item limit (octal code tokens) b m = ends-heap limit (octal_read code tokens) b m
-  last_item limit (used word column) b m = one_number (whole (pos 0))
+      (last_item limit t (are_made-front (items limit t) (multiple_items limit n (can (meaning t))) m)) m)
+  last_item limit (sum terms) m = last_of_terms limit terms m
+  last_item limit (game kind rules board) m = ends-board limit kind rules board m
+  last_item limit (octal code tokens) m = ends-heap limit (octal_read code tokens) m
+  last_item limit (used word column) m = one_number (whole (pos 0))
 
-  last_of_terms : (limit : ℕ) (ts : Terms) → fault_in_terms ts ≡ None → AreMade (term_items limit ts)
+  last_of_terms : (limit : ℕ) (ts : Terms) → AreMade (term_items limit ts)
       → EndsIn (can (total ts)) (term_items limit ts)
-  last_of_terms limit no_terms b m = one_number (whole (pos 0))
-  last_of_terms limit (with_term subtracted t ts) b m =
-      let c = neither (fault_in t) (fault_in_terms ts) b in
+  last_of_terms limit no_terms m = one_number (whole (pos 0))
+  last_of_terms limit (with_term subtracted t ts) m =
       let own = signed_items limit subtracted (can (meaning t)) in
       let further = further_items limit (signed subtracted (meaning t)) ts in
       let k : AreMade (items limit t ++ own) = are_made-front (items limit t ++ own) further m in
-      last_of_further limit (signed subtracted (meaning t)) ts c.1 (items limit t ++ own)
+      last_of_further limit (signed subtracted (meaning t)) ts (items limit t ++ own)
       (ends-signed limit subtracted (meaning t) (items limit t)
-      (last_item limit t c.0 (are_made-front (items limit t) own k)) k) m
+      (last_item limit t (are_made-front (items limit t) own k)) k) m
 
-  last_of_further : (limit : ℕ) (g : Game) (ts : Terms) → fault_in_terms ts ≡ None → (before : List Item)
+  last_of_further : (limit : ℕ) (g : Game) (ts : Terms) → (before : List Item)
       → EndsIn (can g) before → AreMade (before ++ further_items limit g ts)
       → EndsIn (can (total_with g ts)) (before ++ further_items limit g ts)
-  last_of_further limit g no_terms b before e m =
+  last_of_further limit g no_terms before e m =
       let P : List Item → Type 0 = λ z. EndsIn (can g) z in subst P (sym (append_none before)) e
-  last_of_further limit g (with_term subtracted t ts) b before e m =
-      let c = neither (fault_in t) (fault_in_terms ts) b in
+  last_of_further limit g (with_term subtracted t ts) before e m =
       let other = signed subtracted (meaning t) in
       let part = term_part limit subtracted t in
       let sums = sum_items limit (can g) (can other) in
@@ -178,4 +174,4 @@ mutual
       (ends-sum limit (can g) (can other) (are_made-back part sums k)))) in
       let P : List Item → Type 0 = λ z. EndsIn (can (total_with (plus g other) ts)) z in
       let Q : List Item → Type 0 = λ z. AreMade z in
-      subst P same (last_of_further limit (plus g other) ts c.1 (before ++ (part ++ sums)) done (subst Q (sym same) m))
+      subst P same (last_of_further limit (plus g other) ts (before ++ (part ++ sums)) done (subst Q (sym same) m))

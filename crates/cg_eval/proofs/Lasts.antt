@@ -3,7 +3,8 @@ use Rattle.std.proofs.Common.{◌≡◌, refl, ℕ, zero, suc, ◌*◌, ap, sym,
 use Rattle.std.specs.List.{flat_map}
 use Rattle.cg_dyadic.proofs.Truth.{true_or_false}
 use Rattle.cg_form.specs.Canonical.{Canonical}
-use Rattle.cg_form.specs.Game.{Game}
+use Rattle.cg_dyadic.specs.Number.{Number}
+use Rattle.cg_form.specs.Game.{Game, number}
 use Rattle.cg_form.specs.Multiple.{multiple}
 use Rattle.cg_form.specs.Sum.{sum, negative}
 use Rattle.cg_form.specs.Positions.{positions_of}
@@ -12,6 +13,7 @@ use Rattle.cg_canon.specs.SumItems.{sum_items, pair_items, row_items, sum_item, 
 use Rattle.cg_sum.specs.Lists.{negative_items, multiple_items, step_items}
 use Rattle.cg_form.proofs.AllPositions.{positions_of-last}
 use Rattle.cg_nodes.specs.Can.{can}
+use Rattle.cg_nodes.specs.CanForms.{can-fixed}
 use Rattle.cg_sum.proofs.Sums.{can-multiple_more, can-multiple_one, can-multiple_zero}
 
 -- no item of the list is out of range, and none is a list that is too long
@@ -53,6 +55,9 @@ pub record EndsIn (g : Game) (items : List Item) : Type 0 where
   pub front : List Item
   pub extra : ℕ
   pub split : items ≡ front ++ (made g extra ∷ [])
+
+pub one_number : (x : Number) → EndsIn (can (number x)) (made (number x) 0 ∷ [])
+one_number x = record { front = []; extra = 0; split = ap (λ k. made k 0 ∷ []) (sym (can-fixed (number x) tt)) }
 
 pub ends-back : (g : Game) (xs ys : List Item) → EndsIn g ys → EndsIn g (xs ++ ys)
 ends-back g xs ys e = record {

@@ -8,7 +8,6 @@ pub mod BoardReads
 pub mod CutEnds
 pub mod BoardEnds
 pub mod LastItems
-pub mod ClosedParts
 pub mod BoardParts
 pub mod FaultParts
 pub mod Steps

@@ -1,5 +1,6 @@
 -- The steps of lists of expressions and of terms, one after another.
-use Rattle.std.proofs.Common.{◌≡◌, refl, ap, sym, ◌∙◌, subst, ℕ, zero, suc, ◌+◌, ◌<◌, ◌≤◌, arith, Bool, None, List, [], ◌∷◌, ◌++◌, append_assoc, length, get_or, take, drop, map, Result, Ok, Err}
+use Rattle.std.proofs.Common.{◌≡◌, refl, ap, sym, ◌∙◌, subst, ℕ, zero, suc, ◌+◌, ◌<◌, ◌≤◌, arith, Bool, None, List, [], ◌∷◌, ◌++◌, append_assoc}
+use Rattle.std.proofs.Common.{length, get_or, take, drop, map, Result, Ok, Err}
 use Rattle.std.specs.Prelude.{Vec, OnOk, IfErr, IfOk}
 use Rattle.cg_dyadic.specs.Number.{Number}
 use Rattle.cg_form.specs.Game.{Game, number as plain_number, to_list}
@@ -18,7 +19,7 @@ use Rattle.cg_sum.proofs.Sums.{can-sum_form}
 use Rattle.cg_names.specs.Named.{zero_number}
 use Rattle.cg_canon.specs.SumItems.{sum_items}
 use Rattle.cg_names.specs.Meaning.{signed}
-use Rattle.cg_eval.specs.Faults.{fault_in, fault_in_terms}
+use Rattle.cg_names.specs.Meaning.{meanings as meanings_by, meaning as meaning_by, total_with as total_with_by}
 use Rattle.cg_eval.specs.Meaning.{meaning, meanings, total, total_with}
 use Rattle.cg_query.specs.declared.expr.Expr.{Expr}
 use Rattle.cg_query.specs.declared.expr.Term.{Term}
@@ -27,10 +28,10 @@ use Rattle.cg_query.specs.Trees.{tree_of, trees_of, term_of, terms_of}
 use Rattle.cg_query.proofs.TreeOf.{term_tree}
 use Rattle.cg_eval.specs.Items.{items, all_items, further_items, term_items, term_part}
 use Rattle.cg_eval.specs.Progress.{Evaluates, Gives, GivesAll, Makes, Stops}
+use Rattle.cg_eval.specs.Zero.{zero_form, zero_items}
 use Rattle.cg_eval.proofs.Expressions.{stopped_part}
 use Rattle.cg_eval.proofs.Lasts.{append_none}
 use Rattle.cg_eval.proofs.Steps.{gives_from, gives_game, gives_then, makes_items, makes_none, makes_then, stops_front, stops_items, stops_then}
-use Rattle.cg_eval.proofs.FaultParts.{neither}
 use Rattle.cg_query.proofs.Walk.{size, term_sizes, trees_of-take_suc, trees_of-all, terms_of-take_suc, terms_of-all}
 
 -- ---- the items of lists that are put together
@@ -58,22 +59,22 @@ all_items-none limit = refl
 
 forms-append : (xs ys : List Tree) → map can (to_list (meanings (trees_from (xs ++ ys))))
     ≡ map can (to_list (meanings (trees_from xs))) ++ map can (to_list (meanings (trees_from ys)))
-unfolding meanings
+unfolding meanings_by
 forms-append [] ys = refl
 forms-append (x ∷ xs) ys = ap (λ z. can (meaning x) ∷ z) (forms-append xs ys)
 
 forms-one : (x : Tree) → map can (to_list (meanings (trees_from (x ∷ [])))) ≡ can (meaning x) ∷ []
-unfolding meanings
+unfolding meanings_by
 forms-one x = refl
 
 forms-none : map can (to_list (meanings (trees_from []))) ≡ []
-unfolding meanings
+unfolding meanings_by
 forms-none = refl
 
 further-append : (limit : ℕ) (g : Game) (xs ys : List (Bool × Tree))
     → further_items limit g (terms_from (xs ++ ys))
     ≡ further_items limit g (terms_from xs) ++ further_items limit (total_with g (terms_from xs)) (terms_from ys)
-unfolding further_items total_with
+unfolding further_items total_with_by
 further-append limit g [] ys = refl
 further-append limit g (x ∷ xs) ys =
     let part = term_part limit x.0 x.1 ++ sum_items limit (can g) (can (signed x.0 (meaning x.1))) in
@@ -84,7 +85,7 @@ further-append limit g (x ∷ xs) ys =
 
 total-append : (g : Game) (xs ys : List (Bool × Tree))
     → total_with g (terms_from (xs ++ ys)) ≡ total_with (total_with g (terms_from xs)) (terms_from ys)
-unfolding total_with
+unfolding total_with_by
 total-append g [] ys = refl
 total-append g (x ∷ xs) ys = total-append (plus g (signed x.0 (meaning x.1))) xs ys
 
@@ -109,11 +110,11 @@ unfolding further_items
 further-none limit g = refl
 
 total-one : (g : Game) (x : Bool × Tree) → total_with g (terms_from (x ∷ [])) ≡ plus g (signed x.0 (meaning x.1))
-unfolding total_with
+unfolding total_with_by
 total-one g x = refl
 
 total-none : (g : Game) → total_with g (terms_from []) ≡ g
-unfolding total_with
+unfolding total_with_by
 total-none g = refl
 
 -- ---- where a list is split
@@ -368,7 +369,7 @@ pub sum_of_terms : {R : Type 0} (s t u : State Meant (WorkRest R)) (ts : List (B
     → ((g : Game) → StandsFor t start (can g)
     → Gives t u (further_items t.rest.limit g (terms_from ts)) (total_with g (terms_from ts)) result)
     → Evaluates s u (sum (terms_from ((subtracted, x) ∷ ts))) result
-unfolding items meaning
+unfolding items meaning_by
 sum_of_terms s t u ts subtracted x start result (game, done) r =
     let g = signed subtracted (meaning x) in
     let N : ℕ → Type 0 = λ n. Gives t u (further_items n g (terms_from ts)) (total_with g (terms_from ts)) result in
@@ -380,25 +381,19 @@ pub first_term_stopped : {R : Type 0} (s t : State Meant (WorkRest R)) (ts : Lis
     (x : Tree) (result : Result ℕ ValueFault) (f fault : ValueFault)
     → result ≡ Err f → f ≡ fault → Stops s t fault (term_part s.rest.limit subtracted x)
     → Evaluates s t (sum (terms_from ((subtracted, x) ∷ ts))) result
-unfolding items meaning
+unfolding items meaning_by
 first_term_stopped s t ts subtracted x result f fault e same r =
     let g = signed subtracted (meaning x) in
     stopped_part s t (total_with g (terms_from ts)) result f fault (term_part s.rest.limit subtracted x)
     (further_items s.rest.limit g (terms_from ts)) e same r
 
-pub no_terms_give : {R : Type 0} (s t : State Meant (WorkRest R)) (ts : List (Bool × Tree)) (x : Number)
-    (result : Result ℕ ValueFault) → ts ≡ [] → x ≡ zero_number
-    → IfOk result (λ h. StandsFor t h (plain_number x))
-    → OnOk result (AllPass s.rest.share s.rest.spent (made (plain_number x) 0 ∷ []) t.rest.spent)
-    → IfErr result (λ fault. WasRefused fault s.rest.share s.rest.spent (made (plain_number x) 0 ∷ []) t.rest.spent)
-    → s.spare ≤ t.spare → Keeps s t → Evaluates s t (sum (terms_from ts)) result
-unfolding items meaning
-no_terms_give s t ts x result none is game passed refused m keeps =
+pub no_terms_give : {R : Type 0} (s t : State Meant (WorkRest R)) (ts : List (Bool × Tree)) (result : Result ℕ ValueFault)
+    → ts ≡ [] → Gives s t zero_items zero_form result → Evaluates s t (sum (terms_from ts)) result
+unfolding items meaning_by
+no_terms_give s t ts result none r =
     let P : List (Bool × Tree) → Type 0 = λ z. Gives s t (term_items s.rest.limit (terms_from z)) (total
     (terms_from z)) result in
-    let Q : Number → Type 0 = λ z. Gives s t (made (plain_number z) 0 ∷ []) (plain_number z) result in
-    subst P (sym none) (subst Q is (gives_from s t (made (plain_number x) 0 ∷ []) (plain_number x)
-    (plain_number x) result (sym (can-fixed (plain_number x) tt)) game passed refused m keeps))
+    subst P (sym none) r
 
 -- ---- the first of the terms
 
@@ -412,9 +407,3 @@ first_and_rest es ts x rest is split =
 pub first_size : (ts : List (Bool × Tree)) (m : Bool) (x : Tree) (rest : List (Bool × Tree)) → ts ≡ (m, x) ∷ rest
     → term_sizes (terms_from ts) ≡ size x + term_sizes (terms_from rest)
 first_size ts m x rest e = ap (λ (z : List (Bool × Tree)). term_sizes (terms_from z)) e
-
-pub first_board : (ts : List (Bool × Tree)) (m : Bool) (x : Tree) (rest : List (Bool × Tree)) → ts ≡ (m, x) ∷ rest
-    → fault_in_terms (terms_from ts) ≡ None → (fault_in x ≡ None) × (fault_in_terms (terms_from rest) ≡ None)
-first_board ts m x rest e b =
-    let P : List (Bool × Tree) → Type 0 = λ z. fault_in_terms (terms_from z) ≡ None in
-    neither (fault_in x) (fault_in_terms (terms_from rest)) (subst P e b)

@@ -1,5 +1,6 @@
 -- A code and a heap are one heap of an octal game, or are refused for one cause.
-use Rattle.std.proofs.Common.{◌≡◌, refl, ap, sym, ◌∙◌, subst, ℕ, ◌+◌, ◌<◌, ◌≤◌, arith, ◌⊎◌, inl, inr, Bool, true, false, Option, None, Result, Ok, Err, List, [], ◌∷◌, map, length, nat_lt, if◌then◌else◌}
+use Rattle.std.proofs.Common.{◌≡◌, refl, ap, sym, ◌∙◌, subst, ℕ, ◌+◌, ◌<◌, ◌≤◌, arith, ◌⊎◌, inl, inr, Bool, true, false, Option, None, Result, Ok}
+use Rattle.std.proofs.Common.{Err, List, [], ◌∷◌, map, length, nat_lt, if◌then◌else◌}
 use Rattle.std.proofs.lemmas.Bool.Decides.{nat_tests}
 use Rattle.cg_dyadic.proofs.Truth.{true_or_false}
 use Rattle.cg_octal.specs.Codes.{IsCode, IsRead, NoCodeAt, OctalHeap, digits_of}
@@ -132,12 +133,6 @@ heap-read code tokens o is = octal-only code tokens (Ok o) is (λ e. cc)
 pub heap-refused : (code : List ℕ) (tokens : ℕ) (fault : OctalFault) → IsRead code tokens (Err fault) → ¬ (fault ≡ Memory)
     → octal_read code tokens ≡ Err fault
 heap-refused code tokens fault is told = octal-only code tokens (Err fault) is (λ e. let x : fault ≡ Memory = cc in told x)
-
--- a heap is read where none is refused
-pub no-heap-refused : (code : List ℕ) (tokens : ℕ) (fault : OctalFault) → IsRead code tokens (Err fault) → ¬ (fault ≡ Memory)
-    → heap_fault (octal_read code tokens) ≡ None → ⊥
-no-heap-refused code tokens fault is told none =
-    let x = sym (ap heap_fault (heap-refused code tokens fault is told)) ∙ none in cc
 
 pub heap-fault_of : (code : List ℕ) (tokens : ℕ) (found : Result OctalHeap OctalFault) (o : Option GameFault)
     → IsRead code tokens found → IsHeapFault o found → o ≡ heap_fault (octal_read code tokens)

@@ -13,7 +13,7 @@ use Rattle.cg_thermo.proofs.OneThermograph.{needs-or-not, one-thermograph, some-
 use Rattle.cg_query.specs.Tree.{Question, value, compare, outcome, stops, mean, temp, thermo, proof, check}
 use Rattle.cg_eval.specs.Meaning.{meaning}
 use Rattle.cg_eval.specs.Pictures.{mean_text, stops_text, temp_text, thermograph_text}
-use Rattle.cg_eval.specs.Reply.{IsAnswerTo, IsChecked, IsProved, IsShown, Piece, answer, too_fine, too_long}
+use Rattle.cg_eval.specs.Reply.{IsAnswerTo, IsChecked, IsProofTold, IsShown, Piece, answer, too_fine, too_long}
 use Rattle.cg_cert.specs.Answer.{IsLong, proof_answer}
 use Rattle.cg_cert.specs.Proves.{IsProofOf}
 use Rattle.std.specs.Prelude.{codes}
@@ -33,7 +33,7 @@ some-shown g show = by (needs-or-not (can g)) (some-thermograph g)
     by (inl n) x = (too_fine, inl (n, refl))
     by (inr n) x = (answer (show x.0), inr (n, (x.0, x.1, refl)))
 
-one-proved : (g h : Game) (p r : Piece) → IsProved g h p → IsProved g h r → p ≡ r
+one-proved : (g h : Game) (p r : Piece) → IsProofTold g h p → IsProofTold g h r → p ≡ r
 one-proved g h p r (inl a) (inl b) = a.1 ∙ sym b.1
 one-proved g h p r (inl a) (inr b) = absurd (b.0 a.0)
 one-proved g h p r (inr a) (inl b) = absurd (a.0 b.0)
@@ -45,10 +45,10 @@ one-checked g h text p r (inl a) (inr b) = absurd (b.0 a.0)
 one-checked g h text p r (inr a) (inl b) = absurd (a.0 b.0)
 one-checked g h text p r (inr a) (inr b) = a.1 ∙ sym b.1
 
-some-proved : (g h : Game) → (p : Piece) × IsProved g h p
+some-proved : (g h : Game) → (p : Piece) × IsProofTold g h p
 some-proved g h = by (long-or-not g h)
   where
-    by : IsLong g h ⊎ (¬ IsLong g h) → (p : Piece) × IsProved g h p
+    by : IsLong g h ⊎ (¬ IsLong g h) → (p : Piece) × IsProofTold g h p
     by (inl long) = (too_long, inl (long, refl))
     by (inr short) = (answer (proof_answer g h), inr (short, refl))
 

@@ -44,16 +44,6 @@ corners-one_more cs i c all text d below at a t =
         ∙ append_assoc own front (codes " " ++ corner_text c)
         ∙ ap (λ z. own ++ z) (sym (append_assoc front (codes " ") (corner_text c)) ∙ last e cs i (omega arith) at)
 
-pub corners-whole : (cs : List Corner) (i : ℕ) (all : List ℕ) → length cs ≤ i → all ≡ corners_text (take i cs)
-    → all ≡ corners_text cs
-corners-whole cs i all end e = e ∙ ap corners_text (whole cs i end)
-  where
-    whole : (cs : List Corner) (i : ℕ) → length cs ≤ i → take i cs ≡ cs
-    whole [] zero end = refl
-    whole [] (suc i) end = refl
-    whole (c ∷ cs) zero end = absurd (omega arith)
-    whole (c ∷ cs) (suc i) end = ap (λ z. c ∷ z) (whole cs i (omega arith))
-
 -- ---- thermographs
 
 pub thermograph-from : (p : Walls) (m t l r : List ℕ) → m ≡ number_text p.mean → t ≡ number_text p.temp
@@ -64,7 +54,8 @@ thermograph-from p m t l r a b c d =
     ap (λ z. codes "mean " ++ (z ++ (codes " temp " ++ (t ++ (codes " left" ++ (l ++ (codes " right" ++ r))))))) a
     ∙ ap (λ z. codes "mean " ++ (number_text p.mean ++ (codes " temp " ++ (z ++ (codes " left" ++ (l ++ (codes " right" ++ r))))))) b
     ∙ ap (λ z. codes "mean " ++ (number_text p.mean ++ (codes " temp " ++ (number_text p.temp ++ (codes " left" ++ (z ++ (codes " right" ++ r))))))) c
-    ∙ ap (λ z. codes "mean " ++ (number_text p.mean ++ (codes " temp " ++ (number_text p.temp ++ (codes " left" ++ (corners_text p.left ++ (codes " right" ++ z))))))) d
+    ∙ ap (λ z. codes "mean " ++ (number_text p.mean ++ (codes " temp " ++ (number_text p.temp ++ (codes " left" ++ (corners_text p.left ++ (codes
+    " right" ++ z))))))) d
     ∙ sym (grouped (codes "mean ") (number_text p.mean) (codes " temp ") (number_text p.temp) (codes " left")
     (corners_text p.left) (codes " right") (corners_text p.right))
   where

@@ -1,5 +1,6 @@
 -- Whether a text is a proof of order between two games is decided, and whether their proof is too long.
-use Rattle.std.proofs.Common.{◌≡◌, refl, sym, ◌∙◌, subst, ℕ, zero, suc, ◌<◌, arith, ◌⊎◌, inl, inr, List, [], ◌∷◌, length, true, false, IsTrue, Option, Some, None, option_map, slice_get}
+use Rattle.std.proofs.Common.{◌≡◌, refl, sym, ◌∙◌, subst, ℕ, zero, suc, ◌<◌, arith, ◌⊎◌, inl, inr, List, [], ◌∷◌, length, true, false, IsTrue, Option}
+use Rattle.std.proofs.Common.{Some, None, option_map, slice_get}
 use Rattle.std.specs.Prelude.{bytes_eq}
 use Rattle.std.specs.Cmp.Lexicographic.{bytes_decides}
 use Rattle.cg_dyadic.proofs.Truth.{true_or_false}

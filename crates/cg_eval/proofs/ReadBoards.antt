@@ -1,5 +1,6 @@
 -- What a text says of the board that it reads as.
-use Rattle.std.proofs.Common.{◌≡◌, refl, subst, ℕ, ◌+◌, ◌*◌, ◌<◌, ◌/◌, ◌==◌, arith, Bool, true, false, Option, Some, None, Result, Ok, List, if◌then◌else◌, length, nat_lt, eq-eqb}
+use Rattle.std.proofs.Common.{◌≡◌, refl, subst, ℕ, ◌+◌, ◌*◌, ◌<◌, ◌/◌, ◌==◌, arith, Bool, true, false, Option, Some, None, Result, Ok, List}
+use Rattle.std.proofs.Common.{if◌then◌else◌, length, nat_lt, eq-eqb}
 use Rattle.std.specs.Prelude.{bytes_eq, position}
 use Rattle.std.specs.List.{flat_map}
 use Rattle.std.specs.Cmp.Lexicographic.{bytes_decides}

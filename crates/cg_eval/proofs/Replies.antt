@@ -1,5 +1,6 @@
 -- Replies, from answers and refusals.
-use Rattle.std.proofs.Common.{◌≡◌, arith, refl, ap, sym, ◌∙◌, subst, ℕ, ◌⊎◌, inl, inr, Bool, true, false, List, ◌++◌, Option, Some, None, Result, Ok, Err, pos, IfOk}
+use Rattle.std.proofs.Common.{◌≡◌, arith, refl, ap, sym, ◌∙◌, subst, ℕ, ◌⊎◌, inl, inr, Bool, true, false, List, ◌++◌, Option, Some, None, Result, Ok}
+use Rattle.std.proofs.Common.{Err, pos, IfOk}
 use Rattle.cg_cells.specs.Store.{Spends, State}
 use Rattle.cg_form.specs.Game.{Game, number}
 use Rattle.cg_form.specs.Order.{le}
@@ -115,18 +116,12 @@ answers-stop s t q result x fault e f r =
 
 -- ---- answers to questions
 
--- the handle of the first expression
-pub handle-some : {R : Type 0} (s : State Meant R) (q : Question) (handle : Option ℕ) (h : ℕ) → handle ≡ Some h
-    → StandsFor s h (can (meaning (first_of q))) → HandleIs s q false handle
-handle-some s q handle h e stands = let P : Option ℕ → Type 0 = λ z. HandleIs s q false z in subst P (sym e) stands
-
 -- ---- replies to lines
 
 -- the reply to the one question that the line reads as
 pub reply-read : (share limit : ℕ) (line : List ℕ) (q : Question) (reply : Piece) → ((p r : Question)
     → Reads line p → Reads line r → p ≡ r)
     → Reads line q → IsReplyTo share limit q reply → IsReply share limit line reply
-unfolding IsReply
 reply-read share limit line q reply one reads is = record {
   read = λ p h. let P : Question → Type 0 = λ r. IsReplyTo share limit r reply in subst P (one q p reads h) is;
   unread = λ c u. absurd (u.no_question q reads);
@@ -136,7 +131,6 @@ reply-read share limit line q reply one reads is = record {
 pub reply-unread : (share limit : ℕ) (line : List ℕ) (c : ℕ) (reply : Piece) → ((d e : ℕ) → IsColumn line d
     → IsColumn line e → d ≡ e)
     → IsUnread line c → reply ≡ syntax_at c → IsReply share limit line reply
-unfolding IsReply
 reply-unread share limit line c reply one unread same = record {
   read = λ q h. absurd (unread.no_question q h);
   unread = λ d u. same ∙ ap syntax_at (one c d unread.at u.at);
@@ -181,7 +175,6 @@ some-reply_by None share limit q = elim (verdict-decided share 0 (question_items
 pub one-reply : (share limit : ℕ) (line : List ℕ) (p r : Piece) → is_blank_line line ≡ false → ¬ IsComment line
     → ((q : Question) × Reads line q) ⊎ (((q : Question) → ¬ Reads line q) × ((c : ℕ) × IsColumn line c))
     → IsReply share limit line p → IsReply share limit line r → p ≡ r
-unfolding IsReply
 one-reply share limit line p r blank comment (inl (q, reads)) a b =
     one-reply_by (question_fault q) share limit q p r (a.read q reads) (b.read q reads)
 one-reply share limit line p r blank comment (inr (none, (c, at))) a b =

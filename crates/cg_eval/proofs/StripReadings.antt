@@ -1,5 +1,6 @@
 -- What the rules text and the row of a strip game are is one position.
-use Rattle.std.proofs.Common.{◌≡◌, refl, ap, sym, ◌∙◌, subst, ℕ, suc, ◌+◌, ◌-◌, ◌<◌, ◌≤◌, ◌⊎◌, arith, inl, inr, true, Option, Some, None, Result, Ok, Err, List, [], ◌∷◌, ◌++◌, length, cond}
+use Rattle.std.proofs.Common.{◌≡◌, refl, ap, sym, ◌∙◌, subst, ℕ, suc, ◌+◌, ◌-◌, ◌<◌, ◌≤◌, ◌⊎◌, arith, inl, inr, true, Option, Some, None, Result, Ok}
+use Rattle.std.proofs.Common.{Err, List, [], ◌∷◌, ◌++◌, length, cond}
 use Rattle.std.specs.Prelude.{All}
 use Rattle.std.proofs.lemmas.Bool.{and_parts}
 use Rattle.cg_reading.specs.Column.{Stops}
@@ -26,7 +27,8 @@ use Rattle.cg_strip.proofs.BrokenRules.{broken_at, none_broken}
 use Rattle.cg_strip.proofs.Rulebooks.{book_sound}
 use Rattle.cg_strip.proofs.WholeRules.{stuck_left, stuck_place}
 use Rattle.cg_strip.proofs.WholeText.{rules_text_ok}
-use Rattle.cg_eval.specs.Boards.{IsStrip, Position, board, faulty, lowered, no_row, no_rules, not_lowered, strip_board, strip_of, strip_of_items, strip_position, strip_row}
+use Rattle.cg_eval.specs.Boards.{IsStrip, Position, board, faulty, lowered, no_row, no_rules, not_lowered, strip_board, strip_of, strip_of_items}
+use Rattle.cg_eval.specs.Boards.{strip_position, strip_row}
 use Rattle.cg_eval.specs.declared.fault.GameFault.TheVariants as by
 use Rattle.cg_eval.proofs.ReadBoards.{read-by}
 use Rattle.cg_eval.proofs.Below.{below_or_not}

@@ -1,5 +1,6 @@
 -- Answers from what is told of the games of handles.
-use Rattle.std.proofs.Common.{◌≡◌, refl, ap, sym, ◌∙◌, subst, ℕ, arith, Bool, true, false, List, ◌++◌, Option, Some, None, Result, Ok, Err, if◌then◌else◌, pos, inl, inr}
+use Rattle.std.proofs.Common.{◌≡◌, refl, ap, sym, ◌∙◌, subst, ℕ, arith, Bool, true, false, List, ◌++◌, Option, Some, None, Result, Ok, Err}
+use Rattle.std.proofs.Common.{if◌then◌else◌, pos, inl, inr}
 use Rattle.std.specs.Prelude.{◌↔◌, IsTrue, String, string_bytes}
 use Rattle.cg_cells.specs.Store.{Spends, State}
 use Rattle.cg_dyadic.specs.Number.{whole}
@@ -37,7 +38,7 @@ use Rattle.cg_eval.specs.Parts.{IsCompared, IsDrawn, Tells, TellsTwo, asked_of, 
 use Rattle.cg_eval.specs.Pictures.{stops_text}
 use Rattle.cg_eval.specs.Progress.{Evaluates, EvaluatesTwo, Makes, Stops as Halts}
 use Rattle.cg_eval.specs.Refused.{IsRefusedBy}
-use Rattle.cg_eval.specs.Reply.{IsAnswerTo, IsChecked, IsProved, Piece, answer, comparison, too_fine, too_long, winner}
+use Rattle.cg_eval.specs.Reply.{IsAnswerTo, IsChecked, IsProofTold, Piece, answer, comparison, too_fine, too_long, winner}
 use Rattle.cg_eval.specs.Shown.{Answers, HandleIs, first_of, shown}
 use Rattle.cg_eval.specs.declared.answered.Answered.{Answered}
 use Rattle.cg_eval.specs.declared.pictures.Part.{Part}
@@ -183,16 +184,16 @@ told-two h Is a text e f is = record {
   handle = f ∙ ap (λ (b : Bool). if b then None else Some h) (sym (ap (λ (z : Piece). z.refused) e));
 }
 
-pub told-too_long : (g h : Game) (v : ℕ) (a : Answered) → IsLong g h → IsRefusedBy too_long a → TellsTwo v (IsProved g h) a
+pub told-too_long : (g h : Game) (v : ℕ) (a : Answered) → IsLong g h → IsRefusedBy too_long a → TellsTwo v (IsProofTold g h) a
 told-too_long g h v a long r = record {
-  text = subst (IsProved g h) (sym r.text) (inl (long, refl));
+  text = subst (IsProofTold g h) (sym r.text) (inl (long, refl));
   handle = r.handle ∙ ap (λ (b : Bool). if b then None else Some v) (sym (ap (λ (z : Piece). z.refused) r.text));
 }
 
 pub told-proof : (g h : Game) (v : ℕ) (a : Answered) (text : List ℕ) → shown a ≡ answer text → a.handle ≡ Some v
-    → text ≡ proof_answer g h → IsShort g h → TellsTwo v (IsProved g h) a
+    → text ≡ proof_answer g h → IsShort g h → TellsTwo v (IsProofTold g h) a
 told-proof g h v a text e f t short =
-    told-two v (IsProved g h) a text e f (inr ((λ l. absurd (omega (arith, l, short))), ap answer t))
+    told-two v (IsProofTold g h) a text e f (inr ((λ l. absurd (omega (arith, l, short))), ap answer t))
 
 pub told-check : (g h : Game) (v : ℕ) (proof : List ℕ) (a : Answered) (text : List ℕ) (b : Bool) → shown a ≡ answer text
     → a.handle ≡ Some v → text ≡ yes_or_no b → (IsTrue b ↔ IsProofOf g h proof) → TellsTwo v (IsChecked g h proof) a

@@ -1,7 +1,6 @@
 -- What board expressions are.
-use Rattle.std.specs.Prelude.{◌≡◌, ℕ, suc, ◌-◌, true, false, Option, Some, None, Result, Ok, Err, List, [], codes, length, pos}
-use Rattle.cg_dyadic.specs.Number.{whole}
-use Rattle.cg_form.specs.Game.{Game, number}
+use Rattle.std.specs.Prelude.{◌≡◌, ℕ, suc, ◌-◌, true, false, Option, Some, None, Result, Ok, Err, List, codes, length}
+use Rattle.cg_form.specs.Game.{Game}
 use Rattle.cg_canon.specs.Items.{Item}
 use Rattle.cg_reading.specs.Readers.{whole_at}
 use Rattle.cg_moves.specs.declared.fault.BoardFault.{BoardFault}
@@ -29,6 +28,7 @@ use Rattle.cg_strip.specs.Weighing.{IsFirstRising, first_rising}
 use Rattle.cg_values.specs.Items.{board_items}
 use Rattle.cg_query.specs.declared.kind.GameKind.{GameKind}
 use Rattle.cg_query.specs.declared.kind.GameKind.TheVariants.{Domineering, Clobber, Amazons, Toads, Strip, Hackenbush, Col, Snort}
+use Rattle.cg_eval.specs.Zero.{zero_form, zero_items}
 use Rattle.cg_eval.specs.declared.fault.GameFault.{GameFault}
 use Rattle.cg_eval.specs.declared.fault.GameFault.TheVariants as by
 
@@ -100,14 +100,14 @@ position_of Hackenbush rules text = position_drawn (drawing_read rules)
 position_of Col rules text = position_charted (chart_read false text rules)
 position_of Snort rules text = position_charted (chart_read true text rules)
 
--- the tree of all moves from the board. What is no board is refused before its meaning is asked for, and 0 stands for it here
+-- the tree of all moves from the board. A question that has what is no board is refused, whatever that means: here 0
 abbrev pub position_form : Position → Game
 position_form (board r p) = raw r p
-position_form (faulty fault) = number (whole (pos 0))
+position_form (faulty fault) = zero_form
 
 abbrev pub position_items : ℕ → Position → List Item
 position_items limit (board r p) = board_items limit r p
-position_items limit (faulty fault) = []
+position_items limit (faulty fault) = zero_items
 
 -- why the text is ill-formed, if it is
 abbrev pub position_fault : Position → Option GameFault

@@ -1,6 +1,7 @@
 -- Why the first ill-formed board or heap of an expression, from the left, is ill-formed.
 use Rattle.std.specs.Prelude.{Option, Some, None}
-use Rattle.cg_query.specs.Tree.{Tree, Trees, Terms, Question, sides, negative, multiple, sum, game, octal, no_trees, with_tree, no_terms, with_term, value, compare, outcome, stops, mean, temp, thermo, proof, check}
+use Rattle.cg_query.specs.Tree.{Tree, Trees, Terms, Question, sides, negative, multiple, sum, game, octal, no_trees, with_tree, no_terms, with_term}
+use Rattle.cg_query.specs.Tree.{value, compare, outcome, stops, mean, temp, thermo, proof, check}
 use Rattle.cg_eval.specs.Boards.{position_fault, position_of}
 use Rattle.cg_eval.specs.Octals.{heap_fault, octal_read}
 use Rattle.cg_eval.specs.declared.fault.GameFault.{GameFault}

@@ -1,8 +1,6 @@
--- The forms that an expression makes, in order. `limit` is the most that one list of items may have. An expression that is
--- evaluated has no uses of names; 0 stands for one here, as in its meaning
-use Rattle.std.specs.Prelude.{ℕ, pos, Bool, false, cond, List, [], ◌∷◌, ◌++◌}
-use Rattle.cg_dyadic.specs.Number.{whole}
-use Rattle.cg_form.specs.Game.{Game, number as plain_number}
+-- The forms that an expression makes, in order. `limit` is the most that one list of items may have.
+use Rattle.std.specs.Prelude.{ℕ, Bool, false, cond, List, [], ◌∷◌, ◌++◌}
+use Rattle.cg_form.specs.Game.{Game}
 use Rattle.cg_form.specs.Sum.{sum as plus}
 use Rattle.cg_nodes.specs.Can.{can}
 use Rattle.cg_canon.specs.Items.{Item, made}
@@ -15,7 +13,9 @@ use Rattle.cg_names.specs.Meaning.{literal, signed}
 use Rattle.cg_eval.specs.Meaning.{meaning}
 use Rattle.cg_eval.specs.Boards.{position_items, position_of}
 use Rattle.cg_eval.specs.Octals.{heap_items, octal_read}
-use Rattle.cg_query.specs.Tree.{Tree, Trees, Terms, Question, number, ups, nimber, switch, tiny, sides, negative, multiple, sum, game, octal, used, no_trees, with_tree, no_terms, with_term, value, compare, outcome, stops, mean, temp, thermo, proof, check}
+use Rattle.cg_eval.specs.Zero.{zero_items}
+use Rattle.cg_query.specs.Tree.{Tree, Trees, Terms, Question, number, ups, nimber, switch, tiny, sides, negative, multiple, sum, game, octal, used}
+use Rattle.cg_query.specs.Tree.{no_trees, with_tree, no_terms, with_term, value, compare, outcome, stops, mean, temp, thermo, proof, check}
 
 -- the items that subtracting a game adds before the sum
 abbrev pub signed_items : ℕ → Bool → Game → List Item
@@ -35,7 +35,7 @@ unfoldable mutual
   items limit (sum terms) = term_items limit terms
   items limit (game kind rules board) = position_items limit (position_of kind rules board)
   items limit (octal code heap) = heap_items limit (octal_read code heap)
-  items limit (used word column) = made (plain_number (whole (pos 0))) 0 ∷ []
+  items limit (used word column) = zero_items
 
   -- those of the expressions in order
   pub all_items : ℕ → Trees → List Item
@@ -44,7 +44,7 @@ unfoldable mutual
 
   -- those of a sum: of the first term, and then of each further one. A sum of no terms, as which no line reads, is 0
   pub term_items : ℕ → Terms → List Item
-  term_items limit no_terms = made (plain_number (whole (pos 0))) 0 ∷ []
+  term_items limit no_terms = zero_items
   term_items limit (with_term subtracted t ts) =
       items limit t ++ signed_items limit subtracted (can (meaning t))
       ++ further_items limit (signed subtracted (meaning t)) ts

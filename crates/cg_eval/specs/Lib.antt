@@ -1,5 +1,6 @@
 -- what a reader has to believe
 pub mod IllFormed
+pub mod Zero
 pub mod Boards
 pub mod Octals
 pub mod Meaning

@@ -86,8 +86,8 @@ IsShown g show reply =
     ⊎ ((¬ NeedsMore places (can g)) × ((w : Walls) × IsThermograph g w × (reply ≡ answer (show w))))
 
 -- the proof that a form is at least another, or that it isn't; or a refusal, where that has more than 65,536 bytes
-abbrev pub IsProved : Game → Game → Piece → Type 0
-IsProved g h reply =
+abbrev pub IsProofTold : Game → Game → Piece → Type 0
+IsProofTold g h reply =
     (IsLong g h × (reply ≡ too_long)) ⊎ ((¬ IsLong g h) × (reply ≡ answer (proof_answer g h)))
 
 -- `yes` where the text is a proof that a form is at least another, and else `no`
@@ -108,7 +108,7 @@ IsAnswerTo (stops t) reply =
 IsAnswerTo (mean t) reply = IsShown (meaning t) mean_text reply
 IsAnswerTo (temp t) reply = IsShown (meaning t) temp_text reply
 IsAnswerTo (thermo t) reply = IsShown (meaning t) thermograph_text reply
-IsAnswerTo (proof s t) reply = IsProved (can (meaning s)) (can (meaning t)) reply
+IsAnswerTo (proof s t) reply = IsProofTold (can (meaning s)) (can (meaning t)) reply
 IsAnswerTo (check s t text) reply = IsChecked (can (meaning s)) (can (meaning t)) text reply
 
 -- ---- replies
@@ -126,9 +126,6 @@ abbrev pub IsReplyTo : ℕ → ℕ → Question → Piece → Type 0
 IsReplyTo share limit q reply = IsReplyBy (question_fault q) share limit q reply
 
 -- the reply to a line that gets an answer: to the question that it reads as, or the refusal with its column
-pub record IsReplyOf (share limit : ℕ) (line : List ℕ) (reply : Piece) : Type 0 where
+pub record IsReply (share limit : ℕ) (line : List ℕ) (reply : Piece) : Type 0 where
   pub read : (q : Question) → Reads line q → IsReplyTo share limit q reply
   pub unread : (column : ℕ) → IsUnread line column → reply ≡ syntax_at column
-
-unfoldable pub IsReply : ℕ → ℕ → List ℕ → Piece → Type 0
-IsReply = IsReplyOf

@@ -1,5 +1,5 @@
 //! Expressions, on handles.
-ghost use Rattle.std.specs.Prelude.{◌≡◌, ◌++◌, None};
+ghost use Rattle.std.specs.Prelude.{◌++◌};
 ghost use Rattle.cg_form.specs.Game.{Game};
 ghost use Rattle.cg_form.specs.Sum as sums;
 ghost use Rattle.cg_nodes.specs.Can.{can};
@@ -7,19 +7,17 @@ ghost use Rattle.cg_nodes.specs.Games.{IsGame, StandsFor, game_at};
 ghost use Rattle.cg_canon.specs.Works.{work_state};
 ghost use Rattle.cg_canon.specs.SumItems.{sum_items};
 ghost use Rattle.cg_names.specs.Meaning.{signed};
-ghost use Rattle.cg_eval.specs.Faults.{fault_in, fault_in_all, fault_in_terms};
 ghost use Rattle.cg_eval.specs.Meaning.{meaning, total_with};
 ghost use Rattle.cg_eval.specs.Items.{further_items, term_part};
 ghost use Rattle.cg_eval.specs.Progress.{Evaluates, Gives, GivesAll};
-ghost use Rattle.cg_syntax.specs.Naming.{AreClosed, AreClosedTerms, IsClosed};
 ghost use Rattle.cg_query.specs.Tree.{terms_from, trees_from};
 ghost use Rattle.cg_query.specs.Tree as trees;
 ghost use Rattle.cg_query.specs.Trees.{terms_in, terms_of, tree_of, trees_in};
 
 use crate::heaps::heap_value;
-use crate::named::{literal, named_nimber, named_switch, named_tiny, named_ups, zero};
+use crate::named::{literal, named_nimber, named_switch, named_tiny, named_ups, nothing};
 use crate::positions::board_value;
-use cg_canon::{ValueFault, Work, canonical, number_item};
+use cg_canon::{ValueFault, Work, canonical};
 use cg_cells::CellStore;
 use cg_nodes::{GameFacts, Handle};
 use cg_sum::{multiple, negative, sum};
@@ -27,7 +25,7 @@ use cg_syntax::{Expr, Exprs, Term, Terms};
 use cg_values::CgBoards;
 use std::alloc::Global;
 
-/// The canonical form of what the expression means, which has no uses of names. It makes the expression's items in order; the fault is that of the
+/// The canonical form of what the expression means. It makes the expression's items in order; the fault is that of the
 /// first that is refused, or want of memory.
 #[cycle(evaluate)]
 pub fn evaluate<S: CellStore<GameFacts<CgBoards>>>(
@@ -35,8 +33,6 @@ pub fn evaluate<S: CellStore<GameFacts<CgBoards>>>(
     work: &mut Work<CgBoards, S>,
     expr: &Expr,
 ) -> Result<Handle, ValueFault>
-    requires closed { IsClosed (tree_of expr.now) }
-    requires boards { fault_in (tree_of expr.now) ≡ None }
     ensures { Evaluates (work_state S.state work.old) (work_state S.state work.new) (tree_of expr.now) result }
 {
     match expr {
@@ -51,7 +47,8 @@ pub fn evaluate<S: CellStore<GameFacts<CgBoards>>>(
         Expr::Sum(terms) => total(alloc, work, terms),
         Expr::Game { kind, rules, board } => board_value(alloc, work, *kind, rules, board),
         Expr::Octal { code, heap } => heap_value(alloc, work, code, *heap),
-        Expr::Name { .. } => unreachable!(),
+        // A name that isn't replaced by what it stands for.
+        Expr::Name { .. } => nothing(work),
     }
 }
 
@@ -62,8 +59,6 @@ fn evaluate_all<S: CellStore<GameFacts<CgBoards>>>(
     work: &mut Work<CgBoards, S>,
     exprs: &Exprs,
 ) -> Result<Vec<Handle>, ValueFault>
-    requires closed { AreClosed (trees_from (trees_in exprs.now)) }
-    requires boards { fault_in_all (trees_from (trees_in exprs.now)) ≡ None }
     ensures { GivesAll (work_state S.state work.old) (work_state S.state work.new)
         (trees_from (trees_in exprs.now)) result }
 {
@@ -83,9 +78,6 @@ fn braces<S: CellStore<GameFacts<CgBoards>>>(
     lefts: &Exprs,
     rights: &Exprs,
 ) -> Result<Handle, ValueFault>
-    requires closed { AreClosed (trees_from (trees_in lefts.now)) × AreClosed (trees_from (trees_in rights.now)) }
-    requires lefts { fault_in_all (trees_from (trees_in lefts.now)) ≡ None }
-    requires rights { fault_in_all (trees_from (trees_in rights.now)) ≡ None }
     ensures { Evaluates (work_state S.state work.old) (work_state S.state work.new)
         (trees.braces (trees_in lefts.now) (trees_in rights.now)) result }
 {
@@ -101,8 +93,6 @@ fn minus<S: CellStore<GameFacts<CgBoards>>>(
     work: &mut Work<CgBoards, S>,
     expr: &Expr,
 ) -> Result<Handle, ValueFault>
-    requires closed { IsClosed (tree_of expr.now) }
-    requires boards { fault_in (tree_of expr.now) ≡ None }
     ensures { Evaluates (work_state S.state work.old) (work_state S.state work.new)
         (trees.negative (tree_of expr.now)) result }
 {
@@ -118,8 +108,6 @@ fn times<S: CellStore<GameFacts<CgBoards>>>(
     count: u128,
     expr: &Expr,
 ) -> Result<Handle, ValueFault>
-    requires closed { IsClosed (tree_of expr.now) }
-    requires boards { fault_in (tree_of expr.now) ≡ None }
     ensures { Evaluates (work_state S.state work.old) (work_state S.state work.new)
         (trees.multiple count (tree_of expr.now)) result }
 {
@@ -134,13 +122,11 @@ fn total<S: CellStore<GameFacts<CgBoards>>>(
     work: &mut Work<CgBoards, S>,
     terms: &Terms,
 ) -> Result<Handle, ValueFault>
-    requires closed { AreClosedTerms (terms_from (terms_in terms.now)) }
-    requires boards { fault_in_terms (terms_from (terms_in terms.now)) ≡ None }
     ensures { Evaluates (work_state S.state work.old) (work_state S.state work.new)
         (trees.sum (terms_from (terms_in terms.now))) result }
 {
     match terms.as_slice().split_first() {
-        None => number_item(work, Some(zero()), 0),
+        None => nothing(work),
         Some((first, others)) => {
             let start = signed(alloc, work, first.minus, &first.expr)?;
             further(alloc, work, start, others)
@@ -156,9 +142,7 @@ fn further<S: CellStore<GameFacts<CgBoards>>>(
     start: Handle,
     terms: &[Term],
 ) -> Result<Handle, ValueFault>
-    requires game { IsGame (work_state S.state work.old) start }
-    requires closed { AreClosedTerms (terms_from (terms_of terms.now)) }
-    requires boards { fault_in_terms (terms_from (terms_of terms.now)) ≡ None }
+    requires { IsGame (work_state S.state work.old) start }
     ensures { (g : Game) → StandsFor (work_state S.state work.old) start (can g)
         → Gives (work_state S.state work.old) (work_state S.state work.new)
         (further_items work.old.limit g (terms_from (terms_of terms.now)))
@@ -179,8 +163,6 @@ fn signed<S: CellStore<GameFacts<CgBoards>>>(
     subtracted: bool,
     expr: &Expr,
 ) -> Result<Handle, ValueFault>
-    requires closed { IsClosed (tree_of expr.now) }
-    requires boards { fault_in (tree_of expr.now) ≡ None }
     ensures { Gives (work_state S.state work.old) (work_state S.state work.new)
         (term_part work.old.limit subtracted (tree_of expr.now))
         (signed subtracted (meaning (tree_of expr.now))) result }
@@ -202,9 +184,7 @@ fn added<S: CellStore<GameFacts<CgBoards>>>(
     subtracted: bool,
     expr: &Expr,
 ) -> Result<Handle, ValueFault>
-    requires game { IsGame (work_state S.state work.old) so_far }
-    requires closed { IsClosed (tree_of expr.now) }
-    requires boards { fault_in (tree_of expr.now) ≡ None }
+    requires { IsGame (work_state S.state work.old) so_far }
     ensures { Gives (work_state S.state work.old) (work_state S.state work.new)
         (term_part work.old.limit subtracted (tree_of expr.now)
         ++ sum_items work.old.limit (game_at (work_state S.state work.old) so_far)

@@ -1,5 +1,5 @@
 //! Heaps of octal games, on handles.
-ghost use Rattle.std.specs.Prelude.{◌≡◌, ◌≤◌, None, Ok, IfOk};
+ghost use Rattle.std.specs.Prelude.{◌≡◌, ◌≤◌, Ok, IfOk};
 ghost use Rattle.cg_form.specs.Order.{Equal};
 ghost use Rattle.cg_canon.specs.Works.{work_state};
 ghost use Rattle.cg_names.specs.Named.{nimber_form};
@@ -9,6 +9,7 @@ ghost use Rattle.cg_eval.specs.Parts.{IsHeapFault};
 ghost use Rattle.cg_eval.specs.Progress.{Gives};
 
 use crate::fault::GameFault;
+use crate::named::nothing;
 use cg_canon::{ValueFault, Work};
 use cg_cells::CellStore;
 use cg_names::nimber;
@@ -69,23 +70,22 @@ fn value_of_heap<B: BoardForms, S: CellStore<GameFacts<B>>>(
     nimber(alloc, work, number as u128)
 }
 
-/// The value of the heap of so many tokens in the octal game of the code. It makes the heap's items in order; the fault is
-/// that of the first that is refused, or want of memory.
+/// The value of the heap of so many tokens in the octal game of the code. It makes the heap's items in order; the fault
+/// is that of the first that is refused, or want of memory. What is no heap counts as 0.
 pub fn heap_value<B: BoardForms, S: CellStore<GameFacts<B>>>(
     alloc: Global,
     work: &mut Work<B, S>,
     code: &Text,
     tokens: u128,
 ) -> Result<Handle, ValueFault>
-    requires { heap_fault (octal_read code.now tokens) ≡ None }
     ensures { let o = octal_read code.now tokens in
         Gives (work_state S.state work.old) (work_state S.state work.new) (heap_items work.old.limit o) (heap_form o)
         result }
 {
     match read(alloc, code.as_slice(), tokens) {
         Ok(octal) => value_of_heap(alloc, work, &octal),
-        Err(OctalFault::Code(_place)) => unreachable!(),
-        Err(OctalFault::Heap) => unreachable!(),
+        Err(OctalFault::Code(_place)) => nothing(work),
+        Err(OctalFault::Heap) => nothing(work),
         Err(OctalFault::Memory) => Err(ValueFault::Memory),
     }
 }

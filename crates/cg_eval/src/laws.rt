@@ -1,5 +1,5 @@
 //! Laws of expressions and replies: a call puts its law into the caller's facts.
-ghost use Rattle.std.specs.Prelude.{◌≡◌, ◌⊎◌, ◌++◌, ◌∷◌, [], ℕ, List, None, Result, Err, false};
+ghost use Rattle.std.specs.Prelude.{◌≡◌, ◌⊎◌, ◌++◌, ◌∷◌, [], ℕ, List, Result, Err, false};
 ghost use Rattle.cg_nodes.specs.Can.{can};
 ghost use Rattle.cg_canon.specs.declared.fault.ValueFault.{ValueFault};
 ghost use Rattle.cg_canon.specs.Items.{Item, made, AllPass, IsStopped};
@@ -7,7 +7,6 @@ ghost use Rattle.cg_octal.specs.Codes.{IsRead, OctalHeap};
 ghost use Rattle.cg_octal.specs.declared.fault.OctalFault.{OctalFault};
 ghost use Rattle.cg_octal.specs.declared.fault.OctalFault.TheVariants.{Memory};
 ghost use Rattle.cg_eval.specs.Boards.{IsStrip, Position, strip_position};
-ghost use Rattle.cg_eval.specs.Faults.{fault_in};
 ghost use Rattle.cg_eval.specs.Meaning.{meaning};
 ghost use Rattle.cg_eval.specs.Items.{items};
 ghost use Rattle.cg_eval.specs.Octals.{octal_read};
@@ -17,15 +16,15 @@ ghost use Rattle.cg_query.specs.Tree.{Question, Tree};
 
 use cg_syntax::laws::one_query;
 
-/// Where all items of an expression pass whose boards and heaps are all well-formed, the last is the canonical form of what the
-/// expression means, for every share and positions limit.
+/// Where all items of an expression pass, the last is the canonical form of what the expression means, for every share
+/// and positions limit.
 pub fn l8()
-    ensures { (share limit spent : ℕ) (t : Tree) → fault_in t ≡ None → AllPass share 0 (items limit t) spent
+    ensures { (share limit spent : ℕ) (t : Tree) → AllPass share 0 (items limit t) spent
         → (front : List Item) × (extra : ℕ) × (items limit t ≡ front ++ (made (can (meaning t)) extra ∷ [])) }
 {}
 
-/// A list of items has one verdict, given the share and what was spent before: either all of them pass, or the first that
-/// doesn't is refused for one cause. What was spent then is determined, too.
+/// A list of items has one verdict, given the share and what was spent before: either all of them pass, or the first
+/// that doesn't is refused for one cause. What was spent then is determined, too.
 pub fn one_verdict()
     ensures decided { (share before : ℕ) (items : List Item) → ((after : ℕ) × AllPass share before items after)
         ⊎ ((fault : ValueFault) × (after : ℕ) × IsStopped fault share before items after) }
@@ -61,7 +60,8 @@ pub fn octal_heaps()
         → ¬ (r ≡ Err Memory) → octal_read code tokens ≡ r }
 {}
 
-/// The rules text and the row of a strip game are one position: a board of the game of these rules, or ill-formed for one cause.
+/// The rules text and the row of a strip game are one position: a board of the game of these rules, or ill-formed for
+/// one cause.
 pub fn strip_boards()
     ensures some { (rules row : List ℕ) → IsStrip rules row (strip_position rules row) }
     ensures only { (rules row : List ℕ) (p : Position) → IsStrip rules row p → p ≡ strip_position rules row }

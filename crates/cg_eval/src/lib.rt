@@ -1,9 +1,10 @@
 //! Answers of lines: a line is read, its expressions are made on a store of cells, item by item, and it is answered or
 //! refused exactly as the definitions say.
 //!
-//! An expression makes a list of items, forms in canonical form, each of which has a cost. A line is refused at the first
-//! item that is out of range, too deep or past the line's share, or where a list of items is longer than the positions
-//! limit. What was made before stays in the store and serves the lines after it, but doesn't change their costs.
+//! An expression makes a list of items, forms in canonical form, each of which has a cost. A line is refused at the
+//! first item that is out of range, too deep or past the line's share, or where a list of items is longer than the
+//! positions limit. What was made before stays in the store and serves the lines after it, but doesn't change their
+//! costs.
 #![tactic(auto)]
 
 mod adder;

@@ -10,7 +10,7 @@ use crate::refusals::refuse_syntax;
 use crate::reply::answer_query;
 use cg_cells::CellStore;
 use cg_nodes::GameFacts;
-use cg_syntax::laws::{no_names, one_query};
+use cg_syntax::laws::one_query;
 use cg_syntax::{Line, SyntaxFault, read_line};
 use cg_values::CgBoards;
 use std::alloc::{AllocError, Global};
@@ -18,12 +18,9 @@ use std::alloc::{AllocError, Global};
 /// The reply to a line that gets one, that is, to one that is neither blank nor a comment. It is made on a share of so
 /// much of the store's spare, with so many positions at most in one list of items.
 ///
-/// It is the first of these that applies: `! syntax c` with the column at which the line leaves the grammar; `! board cause p`
-/// for the first ill-formed board or heap from the left; `! positions`, `! range`, `! depth` or `! full` where an item of the
-/// question is refused; `! range` where the mean or the temperature of some position of the value needs more than 60 binary
-/// places and the question is for a mean, a temperature or a thermograph; `! long` where a proof has more than 65,536 bytes;
-/// and else its answer. The one fault is want of memory. Whatever it answers, what the store knew it knows, and its spare
-/// falls by the share at most.
+/// It is the first of these that applies: `! syntax c` with the column at which the line leaves the grammar; and else
+/// the reply to its question, as [`answer_query`] gives it. The one fault is want of memory. Whatever it answers, what
+/// the store knew it knows, and its spare falls by the share at most.
 pub fn answer<S: CellStore<GameFacts<CgBoards>>>(
     alloc: Global,
     store: &mut S,
@@ -40,7 +37,6 @@ pub fn answer<S: CellStore<GameFacts<CgBoards>>>(
     ensures spare { (S.state store.old).spare ≤ (S.state store.new).spare + share }
 {
     one_query();
-    no_names();
     match read_line(alloc, line) {
         Ok(Line::Ask(query)) => answer_query(alloc, store, &query, share, positions),
         Ok(Line::Blank) => unreachable!(),

@@ -2,7 +2,8 @@
 ghost use Rattle.std.specs.Prelude.{◌≡◌};
 ghost use Rattle.cg_canon.specs.Works.{work_state};
 ghost use Rattle.cg_names.specs.Named.{zero_number};
-ghost use Rattle.cg_eval.specs.Progress.{Evaluates};
+ghost use Rattle.cg_eval.specs.Progress.{Evaluates, Gives};
+ghost use Rattle.cg_eval.specs.Zero.{zero_form, zero_items};
 ghost use Rattle.cg_query.specs.Tree as trees;
 
 use cg_canon::{ValueFault, Work, number_item};
@@ -12,14 +13,23 @@ use cg_names::{nimber, switch, tiny, ups};
 use cg_nodes::{BoardForms, GameFacts, Handle};
 use std::alloc::Global;
 
-/// 0.
-pub fn zero() -> Dyadic
+/// The number 0.
+fn zero() -> Dyadic
     ensures { result ≡ zero_number }
 {
     match Dyadic::make(0, 0) {
         Ok(number) => number,
         Err(_) => unreachable!(),
     }
+}
+
+/// 0, as which a sum of no terms counts, and what has no value of its own.
+pub fn nothing<B: BoardForms, S: CellStore<GameFacts<B>>>(
+    work: &mut Work<B, S>,
+) -> Result<Handle, ValueFault>
+    ensures { Gives (work_state S.state work.old) (work_state S.state work.new) zero_items zero_form result }
+{
+    number_item(work, Some(zero()), 0)
 }
 
 /// The number of a literal.
@@ -29,7 +39,8 @@ pub fn literal<B: BoardForms, S: CellStore<GameFacts<B>>>(
     num: u128,
     den: u128,
 ) -> Result<Handle, ValueFault>
-    ensures { Evaluates (work_state S.state work.old) (work_state S.state work.new) (trees.number below num den) result }
+    ensures { Evaluates (work_state S.state work.old) (work_state S.state work.new)
+        (trees.number below num den) result }
 {
     number_item(work, Dyadic::from_digits(below, num, den), 0)
 }

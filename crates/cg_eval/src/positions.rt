@@ -1,15 +1,16 @@
 //! Values of boards, on handles.
-ghost use Rattle.std.specs.Prelude.{◌≡◌, None, true};
+ghost use Rattle.std.specs.Prelude.{◌≡◌, true};
 ghost use Rattle.cg_canon.specs.Works.{work_state};
 ghost use Rattle.cg_values.specs.Forms.{board_form};
 ghost use Rattle.cg_values.specs.Notes.{MayNote};
-ghost use Rattle.cg_eval.specs.Boards.{board, position_fault, position_form, position_items, position_of};
+ghost use Rattle.cg_eval.specs.Boards.{board, position_form, position_items, position_of};
 ghost use Rattle.cg_eval.specs.Parts.{IsSound, set_up};
 ghost use Rattle.cg_eval.specs.Progress.{Gives};
 
 use crate::SumAdder;
 use crate::boards::{GameBoard, game_board};
 use crate::fault::is_memory;
+use crate::named::nothing;
 use cg_amazons::Amazons;
 use cg_canon::{ValueFault, Work};
 use cg_cells::CellStore;
@@ -60,8 +61,8 @@ fn value_in<S: CellStore<GameFacts<CgBoards>>>(
     }
 }
 
-/// The value of the board. It makes the board's items in order; the fault is that of the first that is refused, or want of
-/// memory.
+/// The value of the board. It makes the board's items in order; the fault is that of the first that is refused, or want
+/// of memory. What is no board counts as 0.
 pub fn board_value<S: CellStore<GameFacts<CgBoards>>>(
     alloc: Global,
     work: &mut Work<CgBoards, S>,
@@ -69,7 +70,6 @@ pub fn board_value<S: CellStore<GameFacts<CgBoards>>>(
     rules: &Text,
     board: &Text,
 ) -> Result<Handle, ValueFault>
-    requires { position_fault (position_of kind rules.now board.now) ≡ None }
     ensures { let p = position_of kind rules.now board.now in
         Gives (work_state S.state work.old) (work_state S.state work.new) (position_items work.old.limit p)
         (position_form p) result }
@@ -80,7 +80,7 @@ pub fn board_value<S: CellStore<GameFacts<CgBoards>>>(
             if is_memory(fault) {
                 Err(ValueFault::Memory)
             } else {
-                unreachable!()
+                nothing(work)
             }
         }
     }

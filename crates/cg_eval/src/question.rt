@@ -1,11 +1,8 @@
 //! Answers to questions, on a work.
-ghost use Rattle.std.specs.Prelude.{◌≡◌, None};
 ghost use Rattle.cg_canon.specs.Works.{work_state};
-ghost use Rattle.cg_eval.specs.Faults.{fault_in, first_of_two, question_fault};
 ghost use Rattle.cg_eval.specs.Parts.{asked_of};
 ghost use Rattle.cg_eval.specs.Progress.{EvaluatesTwo};
 ghost use Rattle.cg_eval.specs.Shown.{Answers};
-ghost use Rattle.cg_syntax.specs.Naming.{IsClosed, IsClosedQuestion};
 ghost use Rattle.cg_query.specs.Tree.{check, compare, proof};
 ghost use Rattle.cg_query.specs.Trees.{question_of, tree_of};
 
@@ -20,15 +17,13 @@ use cg_syntax::{Expr, Query, Text};
 use cg_values::CgBoards;
 use std::alloc::Global;
 
-/// The answer to a question that has no uses of names and whose boards and heaps are all well-formed. It makes the question's items in order; the fault is that of
-/// the first that is refused, or want of memory.
+/// The answer to a question. It makes the question's items in order; the fault is that of the first that is refused, or
+/// want of memory.
 pub fn answer_question<S: CellStore<GameFacts<CgBoards>>>(
     alloc: Global,
     work: &mut Work<CgBoards, S>,
     query: &Query,
 ) -> Result<Answered, ValueFault>
-    requires closed { IsClosedQuestion (question_of query.now) }
-    requires boards { question_fault (question_of query.now) ≡ None }
     ensures { Answers (work_state S.state work.old) (work_state S.state work.new) (question_of query.now) result }
 {
     match query {
@@ -51,9 +46,8 @@ fn answer_about<S: CellStore<GameFacts<CgBoards>>>(
     asked: Asked,
     expr: &Expr,
 ) -> Result<Answered, ValueFault>
-    requires closed { IsClosed (tree_of expr.now) }
-    requires boards { fault_in (tree_of expr.now) ≡ None }
-    ensures { Answers (work_state S.state work.old) (work_state S.state work.new) (asked_of asked (tree_of expr.now)) result }
+    ensures { Answers (work_state S.state work.old) (work_state S.state work.new)
+        (asked_of asked (tree_of expr.now)) result }
 {
     let value = evaluate(alloc, work, expr)?;
     let told = tell(alloc, work, asked, value)?;
@@ -67,8 +61,6 @@ fn evaluate_two<S: CellStore<GameFacts<CgBoards>>>(
     first: &Expr,
     second: &Expr,
 ) -> Result<(Handle, Handle), ValueFault>
-    requires closed { IsClosed (tree_of first.now) × IsClosed (tree_of second.now) }
-    requires boards { first_of_two (fault_in (tree_of first.now)) (fault_in (tree_of second.now)) ≡ None }
     ensures { EvaluatesTwo (work_state S.state work.old) (work_state S.state work.new) (tree_of first.now)
         (tree_of second.now) result }
 {
@@ -84,8 +76,6 @@ fn answer_comparison<S: CellStore<GameFacts<CgBoards>>>(
     first: &Expr,
     second: &Expr,
 ) -> Result<Answered, ValueFault>
-    requires closed { IsClosed (tree_of first.now) × IsClosed (tree_of second.now) }
-    requires boards { first_of_two (fault_in (tree_of first.now)) (fault_in (tree_of second.now)) ≡ None }
     ensures { Answers (work_state S.state work.old) (work_state S.state work.new)
         (compare (tree_of first.now) (tree_of second.now)) result }
 {
@@ -101,8 +91,6 @@ fn answer_proof<S: CellStore<GameFacts<CgBoards>>>(
     first: &Expr,
     second: &Expr,
 ) -> Result<Answered, ValueFault>
-    requires closed { IsClosed (tree_of first.now) × IsClosed (tree_of second.now) }
-    requires boards { first_of_two (fault_in (tree_of first.now)) (fault_in (tree_of second.now)) ≡ None }
     ensures { Answers (work_state S.state work.old) (work_state S.state work.new)
         (proof (tree_of first.now) (tree_of second.now)) result }
 {
@@ -119,8 +107,6 @@ fn answer_check<S: CellStore<GameFacts<CgBoards>>>(
     second: &Expr,
     text: &Text,
 ) -> Result<Answered, ValueFault>
-    requires closed { IsClosed (tree_of first.now) × IsClosed (tree_of second.now) }
-    requires boards { first_of_two (fault_in (tree_of first.now)) (fault_in (tree_of second.now)) ≡ None }
     ensures { Answers (work_state S.state work.old) (work_state S.state work.new)
         (check (tree_of first.now) (tree_of second.now) text.now) result }
 {

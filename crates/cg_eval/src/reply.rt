@@ -1,14 +1,12 @@
 //! Replies to questions.
-ghost use Rattle.std.specs.Prelude.{◌≡◌, ◌+◌, ◌≤◌, None, IfOk};
+ghost use Rattle.std.specs.Prelude.{◌≡◌, ◌+◌, ◌≤◌, IfOk};
 ghost use Rattle.std.specs.FinMap as map;
 ghost use Rattle.std.specs.Ordering.{nat_cmp};
 ghost use Rattle.cg_nodes.specs.Meant.{Meant};
 ghost use Rattle.cg_canon.specs.Held.{IsHeld, knowing};
 ghost use Rattle.cg_canon.specs.Works.{Keeps, work_state};
-ghost use Rattle.cg_eval.specs.Faults.{question_fault};
 ghost use Rattle.cg_eval.specs.Shown.{IsAnswered};
 ghost use Rattle.cg_eval.specs.Stores.{KeepsStore};
-ghost use Rattle.cg_syntax.specs.Naming.{IsClosedQuestion};
 ghost use Rattle.cg_query.specs.Trees.{question_of};
 
 use crate::Answered;
@@ -23,15 +21,15 @@ use cg_values::CgBoards;
 use std::alloc::{AllocError, Global};
 use std::mem;
 
-/// The reply to a closed question, which has no uses of names, on a share of so much of the store's spare, with so many
-/// positions at most in one list of items. Each question that a line of format 1 asks is closed, and so is each whose names
-/// were replaced by what they stand for.
+/// The reply to a question, on a share of so much of the store's spare, with so many positions at most in one list of
+/// items. A use of a name counts as 0: whoever asks replaces names by what they stand for.
 ///
 /// It is the first of these that applies: `! board cause p` for the first ill-formed board or heap from the left;
-/// `! positions`, `! range`, `! depth` or `! full` where an item of the question is refused; `! range` where the mean or the
-/// temperature of some position of the value needs more than 60 binary places and the question is for a mean, a temperature
-/// or a thermograph; `! long` where a proof has more than 65,536 bytes; and else its answer. The one fault is want of memory.
-/// Whatever it answers, what the store knew it knows, and its spare falls by the share at most.
+/// `! positions`, `! range`, `! depth` or `! full` where an item of the question is refused; `! range` where the mean
+/// or the temperature of some position of the value needs more than 60 binary places and the question is for a mean,
+/// a temperature or a thermograph; `! long` where a proof has more than 65,536 bytes; and else its answer. The one
+/// fault is want of memory. Whatever it answers, what the store knew it knows, and its spare falls by the share at
+/// most.
 pub fn answer_query<S: CellStore<GameFacts<CgBoards>>>(
     alloc: Global,
     store: &mut S,
@@ -39,7 +37,6 @@ pub fn answer_query<S: CellStore<GameFacts<CgBoards>>>(
     share: u64,
     positions: u64,
 ) -> Result<Answered, AllocError>
-    requires closed { IsClosedQuestion (question_of query.now) }
     requires spare { share ≤ (S.state store.old).spare }
     ensures reply { IfOk result (IsAnswered share positions (S.state store.new) (question_of query.now)) }
     ensures keeps { KeepsStore (S.state store.old) (S.state store.new) }
@@ -49,8 +46,9 @@ pub fn answer_query<S: CellStore<GameFacts<CgBoards>>>(
     answer_query_held(alloc, store, &mut held, query, share, positions)
 }
 
-/// The reply to a closed question, as [`answer_query`] gives it, with the help of what earlier questions on the same store found
-/// out. What this one finds out besides is there for later ones, unless it has become so much that they would rather begin anew.
+/// The reply to a question, as [`answer_query`] gives it, with the help of what earlier questions on the same
+/// store found out. What this one finds out besides is there for later ones, unless it has become so much that they
+/// would rather begin anew.
 pub fn answer_query_held<S: CellStore<GameFacts<CgBoards>>>(
     alloc: Global,
     store: &mut S,
@@ -59,7 +57,6 @@ pub fn answer_query_held<S: CellStore<GameFacts<CgBoards>>>(
     share: u64,
     positions: u64,
 ) -> Result<Answered, AllocError>
-    requires closed { IsClosedQuestion (question_of query.now) }
     requires spare { share ≤ (S.state store.old).spare }
     requires held { IsHeld (S.state store.old) held.old }
     ensures reply { IfOk result (IsAnswered share positions (S.state store.new) (question_of query.now)) }
@@ -86,14 +83,14 @@ fn kept(alloc: Global, found: Held) -> Held
     }
 }
 
-/// The reply to a question, on a work on which nothing was spent. An ill-formed board or heap is refused before anything is made.
+/// The reply to a question, on a work on which nothing was spent. An ill-formed board or heap is refused before anything
+/// is made.
 fn reply_on<S: CellStore<GameFacts<CgBoards>>>(
     alloc: Global,
     work: &mut Work<CgBoards, S>,
     query: &Query,
 ) -> Result<Answered, AllocError>
-    requires closed { IsClosedQuestion (question_of query.now) }
-    requires spent { work.old.spent ≡ 0 }
+    requires { work.old.spent ≡ 0 }
     ensures reply { IfOk result (IsAnswered work.old.share work.old.limit (work_state S.state work.new)
         (question_of query.now)) }
     ensures keeps { Keeps (work_state S.state work.old) (work_state S.state work.new) }
@@ -101,25 +98,9 @@ fn reply_on<S: CellStore<GameFacts<CgBoards>>>(
     let found = question_fault(alloc, query)?;
     match found {
         Some(fault) => refuse_board(alloc, fault),
-        None => reply_well_formed(alloc, work, query),
-    }
-}
-
-/// The reply to a question whose boards and heaps are all well-formed, on a work on which nothing was spent.
-fn reply_well_formed<S: CellStore<GameFacts<CgBoards>>>(
-    alloc: Global,
-    work: &mut Work<CgBoards, S>,
-    query: &Query,
-) -> Result<Answered, AllocError>
-    requires closed { IsClosedQuestion (question_of query.now) }
-    requires spent { work.old.spent ≡ 0 }
-    requires boards { question_fault (question_of query.now) ≡ None }
-    ensures reply { IfOk result (IsAnswered work.old.share work.old.limit (work_state S.state work.new)
-        (question_of query.now)) }
-    ensures keeps { Keeps (work_state S.state work.old) (work_state S.state work.new) }
-{
-    match answer_question(alloc, work, query) {
-        Ok(answered) => Ok(answered),
-        Err(fault) => refuse_value(alloc, fault),
+        None => match answer_question(alloc, work, query) {
+            Ok(answered) => Ok(answered),
+            Err(fault) => refuse_value(alloc, fault),
+        },
     }
 }

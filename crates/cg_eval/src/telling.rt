@@ -5,7 +5,7 @@ ghost use Rattle.cg_cells.specs.Store.{Spends};
 ghost use Rattle.cg_form.specs.Order.{le};
 ghost use Rattle.cg_nodes.specs.Games.{IsGame, game_at};
 ghost use Rattle.cg_eval.specs.Parts.{IsCompared, IsDrawn, Tells, TellsTwo, winner_of, yes_or_no};
-ghost use Rattle.cg_eval.specs.Reply.{IsChecked, IsProved, comparison};
+ghost use Rattle.cg_eval.specs.Reply.{IsChecked, IsProofTold, comparison};
 
 use crate::Answered;
 use crate::answered::{answer_of, refuse};
@@ -87,7 +87,8 @@ fn tell_stops<B: BoardForms, S: CellStore<GameFacts<B>>>(
     Ok(answer_of(text, a))
 }
 
-/// The text of this part of the thermograph of the game; or none, where a mean or a temperature needs too many binary places.
+/// The text of this part of the thermograph of the game; or none, where a mean or a temperature needs too many binary
+/// places.
 fn drawn<B: BoardForms, S: CellStore<GameFacts<B>>>(
     alloc: Global,
     work: &mut Work<B, S>,
@@ -203,7 +204,7 @@ pub(crate) fn tell_proof<B: BoardForms, S: CellStore<GameFacts<B>>>(
     requires a { IsGame (work_state S.state work.old) a }
     requires b { IsGame (work_state S.state work.old) b }
     ensures told { let s = work_state S.state work.old in
-        IfOk result (TellsTwo a (IsProved (game_at s a) (game_at s b))) }
+        IfOk result (TellsTwo a (IsProofTold (game_at s a) (game_at s b))) }
     ensures spends { Spends 0 (work_state S.state work.old) (work_state S.state work.new) }
 {
     match prove(alloc, work, a, b) {

@@ -50,10 +50,12 @@ module _ {A : Type 0} where
       let least : x.0 ≤ (slice_index_or (x ∷ xs) r.0 x).0 = S 0 r.0 x (omega arith) r.1 in
       let at = r.2 x in
       let first : x.0 ≡ lo = omega arith in
-      let rest = in_order xs (lo + 1) hi (λ i j d a b. S (suc i) (suc j) d (omega arith) (omega arith)) (λ n. inside_next lo hi n (times n (numbers xs)) x.0 first (omega arith) (h n)) in
+      let rest = in_order xs (lo + 1) hi (λ i j d a b. S (suc i) (suc j) d (omega arith) (omega arith)) (λ n. inside_next lo hi n (times n (numbers
+      xs)) x.0 first (omega arith) (h n)) in
       (let a = rest.0 in omega arith, each first rest.1)
     where
-      each : x.0 ≡ lo → ((k : ℕ) (a : ℕ × A) → slice_get xs k ≡ Some a → a.0 ≡ (lo + 1) + k) → (k : ℕ) (a : ℕ × A) → slice_get (x ∷ xs) k ≡ Some a → a.0 ≡ lo + k
+      each : x.0 ≡ lo → ((k : ℕ) (a : ℕ × A) → slice_get xs k ≡ Some a → a.0 ≡ (lo + 1) + k) → (k : ℕ) (a : ℕ × A) → slice_get (x ∷ xs) k ≡ Some a →
+          a.0 ≡ lo + k
       each first rest zero a e = let b = ap (λ (p : ℕ × A). p.0) (same_Some e) in omega arith
       each first rest (suc k) a e = let b = rest k a e in omega arith
 
@@ -84,7 +86,8 @@ module _ {A : Type 0} where
       omega arith
 
   -- sorted by their numbers, the answers are in order
-  pub sorted_ordered : (count : ℕ) (all sorted : List (ℕ × A)) → IsPermutation all sorted → IsNonDecreasingBy (λ (a : ℕ × A). a.0) sorted → ((n : ℕ) → times n (numbers all) ≡ (if nat_lt n count then 1 else 0))
+  pub sorted_ordered : (count : ℕ) (all sorted : List (ℕ × A)) → IsPermutation all sorted → IsNonDecreasingBy (λ (a : ℕ × A). a.0) sorted → ((n : ℕ)
+      → times n (numbers all) ≡ (if nat_lt n count then 1 else 0))
       → AreOrdered count all (map (λ p. p.1) sorted)
   sorted_ordered count all sorted P S h =
       let r = in_order sorted 0 count S (λ n. same_times all sorted P n ∙ h n ∙ from_none n) in

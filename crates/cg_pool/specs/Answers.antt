@@ -1,5 +1,5 @@
 -- Answers, each with the number of its line, and what workers bring back.
-use Rattle.std.specs.Prelude.{◌≡◌, ℕ, List, length, true, Some, slice_get, All, Contains}
+use Rattle.std.specs.Prelude.{◌≡◌, ◌≤◌, ℕ, List, [], length, true, Some, slice_get, All, Contains}
 use Rattle.std.specs.Prelude as list
 use Rattle.std.specs.FinMap as map
 use Rattle.std.specs.Ordering.{nat_cmp}
@@ -11,13 +11,21 @@ use Rattle.cg_shared.specs.Passes.{CellsOf, PassOf, IsPassOf, pass_state}
 abbrev pub numbers : {A : Type 0} → List (ℕ × A) → List ℕ
 numbers {A} all = list.map (λ a. a.0) all
 
+-- A pass of this table with which a worker begins: it has drawn no line, the table has at most so many lines, and a line's share
+-- is at least what an answer needs
+pub record IsReady {X : Type 0} (count needs : ℕ) (cells : CellsOf) (p : PassOf X) : Type 0 where
+  pub own : IsPassOf cells p
+  pub new : p.sees.tickets ≡ []
+  pub lines : cells.sizes.lines ≤ count
+  pub share : needs ≤ cells.sizes.share
+
 module _ {X A : Type 0} (good : ℕ → A → map.FinMap nat_cmp X → Type 0) where
   -- each answer is good for its number, under what is known
-  abbrev pub AreGood : map.FinMap nat_cmp X → List (ℕ × A) → Type 0
-  AreGood known all = All (λ (a : ℕ × A). good a.0 a.1 known) all
+  abbrev pub AllAreGood : map.FinMap nat_cmp X → List (ℕ × A) → Type 0
+  AllAreGood known all = All (λ (a : ℕ × A). good a.0 a.1 known) all
 
   -- What a pass of this table and its answers are after one line: it owns what it owned, knows what it knew, and the answer is good
-  pub record IsAnswered (cells : CellsOf) (index : ℕ) (before : PassOf X) (answer : A) (after : PassOf X) : Type 0 where
+  pub record HasAnswered (cells : CellsOf) (index : ℕ) (before : PassOf X) (answer : A) (after : PassOf X) : Type 0 where
     pub own : IsPassOf cells after
     pub is_good : good index answer (pass_state after).known
     pub known : Grows (thing_at (pass_state before)) (thing_at (pass_state after))
@@ -28,9 +36,13 @@ module _ {X A : Type 0} (good : ℕ → A → map.FinMap nat_cmp X → Type 0) w
   pub record IsBrought (cells : CellsOf) (passes : ℕ) (all : List (ℕ × A)) (p : PassOf X) : Type 0 where
     pub own : IsPassOf cells p
     pub tickets : numbers all ≡ p.sees.tickets
-    pub are_good : AreGood (pass_state p).known all
+    pub are_good : AllAreGood (pass_state p).known all
     pub stands_for : passes_of p.sees ≡ passes
     pub over : p.sees.over ≡ true
+
+  -- workers that begin with a pass bring back as much as that pass stands for
+  abbrev pub BringsBack : CellsOf → PassOf X → List (ℕ × A) → PassOf X → Type 0
+  BringsBack cells before all p = IsBrought cells (passes_of before.sees) all p
 
 -- so many answers in the order of their numbers
 pub record AreOrdered {A : Type 0} (count : ℕ) (all : List (ℕ × A)) (ordered : List A) : Type 0 where

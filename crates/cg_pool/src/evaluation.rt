@@ -3,16 +3,16 @@ ghost use Rattle.std.specs.Prelude.{◌≡◌, ℕ, ◌*◌, ◌^◌, ◌≤◌,
 ghost use Rattle.cg_cells.specs.Table.{HasAllTickets};
 ghost use Rattle.cg_shared.specs.Passes.{IsPassOf, pass_state};
 
-use crate::order::ordered;
-use crate::workers::gang;
+use crate::order::put_in_order;
+use crate::workers::answer_side_by_side;
 use crate::{Gate, Job};
 use cg_cells::Facts;
 use cg_shared::{Pass, SharedCells, StartFault};
 use std::alloc::{AllocError, Global};
 use std::thread::Threads;
 
-/// The answers of all lines, in order, the table over which they were made, and a pass of it that knows all that they speak
-/// of.
+/// The answers of all lines, in order, the table over which they were made, and a pass of it that knows all that they
+/// speak of.
 #[derive(Drop)]
 pub struct Evaluated<F: Facts, A: Drop> {
     pub answers: Vec<A>,
@@ -48,9 +48,11 @@ pub fn evaluate<R: Threads + Sync, F: Facts + Sync, J: Job<F>, G: Gate>(
         Err(StartFault::Size) => unreachable!(),
         Err(StartFault::Memory) => return Err(AllocError),
     };
-    let (answers, pass) = gang::<R, F, J, G>(rt, &cells, alloc, job, gate, pass, workers)?;
+    let (answers, pass) = answer_side_by_side::<R, F, J, G>(
+        rt, &cells, alloc, job, gate, pass, workers,
+    )?;
     pass.each_ticket_once();
-    let answers = ordered(alloc, answers, count)?;
+    let answers = put_in_order(alloc, answers, count)?;
     Ok(Evaluated {
         answers,
         cells,

@@ -10,9 +10,9 @@ use cg_cells::Facts;
 use cg_shared::Desk;
 use std::alloc::{AllocError, Global};
 
-/// Lines that can be answered in any order. Contracts see how many there are, the spare that an answer needs, which answers
-/// are good for a line under what is known, and when what a worker holds is right under what is known. An answer stays good
-/// when more is known, and what is held stays right.
+/// Lines that can be answered in any order. Contracts see how many there are, the spare that an answer needs, which
+/// answers are good for a line under what is known, and when what a worker holds is right under what is known. An
+/// answer stays good when more is known, and what is held stays right.
 pub trait Job<F: Facts>: Sync {
     /// The answer to one line.
     type Answer: Send + Drop;
@@ -32,9 +32,9 @@ pub trait Job<F: Facts>: Sync {
     fn start(&self, alloc: Global) -> Self::Held
         ensures { (f : map.FinMap nat_cmp F.Thing) → holds result f };
 
-    /// Answers the line with this index over a desk. Whatever it answers, the desk holds the same pass of the same table, which
-    /// has the tickets, heirs and meets that it had, and knows what it knew. With an answer, what the worker holds is right;
-    /// of what an error leaves of it nothing is said.
+    /// Answers the line with this index over a desk. Whatever it answers, the desk holds the same pass of the same
+    /// table, which has the tickets, heirs and meets that it had, and knows what it knew. With an answer, what the
+    /// worker holds is right; of what an error leaves of it nothing is said.
     fn work(
         &self,
         alloc: Global,

@@ -1,4 +1,5 @@
-//! Workers that answer lines over one shared table, and whatever each line's answer is, one good answer for each, in order.
+//! Workers that answer lines over one shared table, and whatever each line's answer is, one good answer for each, in
+//! order.
 #![tactic(auto)]
 
 mod evaluation;

@@ -6,7 +6,7 @@ ghost use Rattle.cg_pool.specs.Answers.{numbers, AreOrdered};
 use std::alloc::{AllocError, Global};
 
 // The answers without their numbers.
-fn unnumbered<A: Drop>(alloc: Global, answers: Vec<(u64, A)>) -> Result<Vec<A>, AllocError>
+fn drop_numbers<A: Drop>(alloc: Global, answers: Vec<(u64, A)>) -> Result<Vec<A>, AllocError>
     ensures { IfOk result (λ v. v.items ≡ Rattle.std.specs.Prelude.map (λ a. a.1) answers.items) }
 {
     let mut plain = Vec::with_capacity(alloc, answers.len())?;
@@ -17,7 +17,7 @@ fn unnumbered<A: Drop>(alloc: Global, answers: Vec<(u64, A)>) -> Result<Vec<A>, 
 }
 
 /// The answers of so many lines, each of which has one, in the order of the lines.
-pub(crate) fn ordered<A: Drop>(
+pub(crate) fn put_in_order<A: Drop>(
     alloc: Global,
     mut answers: Vec<(u64, A)>,
     count: u64,
@@ -26,5 +26,5 @@ pub(crate) fn ordered<A: Drop>(
     ensures { IfOk result (λ v. AreOrdered count answers.items v.items) }
 {
     answers.sort_unstable_by_key(|answer| answer.0);
-    unnumbered(alloc, answers)
+    drop_numbers(alloc, answers)
 }

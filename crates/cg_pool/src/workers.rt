@@ -1,9 +1,8 @@
 //! Workers, each with a pass of its own.
-ghost use Rattle.std.specs.Prelude.{◌≡◌, ℕ, ◌+◌, ◌<◌, ◌≤◌, ◌++◌, [], IfOk};
+ghost use Rattle.std.specs.Prelude.{◌≡◌, ◌+◌, ◌<◌, ◌≤◌, ◌++◌, IfOk};
 ghost use Rattle.std.specs.Thread.{IsSync};
-ghost use Rattle.cg_cells.specs.Table.{passes_of};
 ghost use Rattle.cg_shared.specs.Passes.{IsPassOf, pass_state};
-ghost use Rattle.cg_pool.specs.Answers.{IsAnswered, IsBrought};
+ghost use Rattle.cg_pool.specs.Answers.{BringsBack, HasAnswered, IsReady};
 
 use crate::{Gate, Job};
 use cg_cells::Facts;
@@ -13,7 +12,7 @@ use std::thread;
 use std::thread::Threads;
 
 // Answers one line with the pass and what the worker holds.
-fn answered<F: Facts, J: Job<F>>(
+fn answer_line<F: Facts, J: Job<F>>(
     cells: &SharedCells<F>,
     alloc: Global,
     job: &J,
@@ -25,7 +24,7 @@ fn answered<F: Facts, J: Job<F>>(
     requires index { index < J.count job.now }
     requires spare { J.needs job.now ≤ pass.sees.spare }
     requires held { J.holds held.old (pass_state pass).known }
-    ensures answer { IfOk result (λ r. IsAnswered (J.good job.now) cells.now index pass r.0 r.1) }
+    ensures answer { IfOk result (λ r. HasAnswered (J.good job.now) cells.now index pass r.0 r.1) }
     ensures held { IfOk result (λ r. J.holds held.new (pass_state r.1).known) }
 {
     let mut desk = Desk::new(cells, pass);
@@ -34,19 +33,15 @@ fn answered<F: Facts, J: Job<F>>(
 }
 
 // Draws lines and answers them until none is left, and holds one thing for all of them.
-fn worker<F: Facts, J: Job<F>, G: Gate>(
+fn answer_lines<F: Facts, J: Job<F>, G: Gate>(
     cells: &SharedCells<F>,
     alloc: Global,
     job: &J,
     gate: &G,
     mut pass: Pass<F>,
 ) -> Result<(Vec<(u64, J::Answer)>, Pass<F>), AllocError>
-    requires own { IsPassOf cells.now pass }
-    requires new { pass.sees.tickets ≡ [] }
-    requires lines { cells.now.sizes.lines ≤ J.count job.now }
-    requires share { J.needs job.now ≤ cells.now.sizes.share }
-    ensures { IfOk result
-        (λ r. IsBrought (J.good job.now) cells.now (passes_of pass.sees) r.0.items r.1) }
+    requires { IsReady (J.count job.now) (J.needs job.now) cells.now pass }
+    ensures { IfOk result (λ r. BringsBack (J.good job.now) cells.now pass r.0.items r.1) }
 {
     let mut answers = Vec::new(alloc);
     let mut held = job.start(alloc);
@@ -56,7 +51,7 @@ fn worker<F: Facts, J: Job<F>, G: Gate>(
         };
         pass.each_ticket_once();
         gate.enter(index);
-        let done = answered::<F, J>(cells, alloc, job, pass, &mut held, index);
+        let done = answer_line::<F, J>(cells, alloc, job, pass, &mut held, index);
         gate.leave(index);
         let (answer, after) = done?;
         pass = after;
@@ -65,7 +60,7 @@ fn worker<F: Facts, J: Job<F>, G: Gate>(
 }
 
 // Puts the second list of answers behind the first.
-fn both<A: Drop>(
+fn append<A: Drop>(
     mut answers: Vec<(u64, A)>,
     mut more: Vec<(u64, A)>,
 ) -> Result<Vec<(u64, A)>, AllocError>
@@ -76,7 +71,7 @@ fn both<A: Drop>(
 }
 
 /// As many workers as the pass has heirs, and one more. They go by std's join, and their passes meet.
-pub(crate) fn gang<R: Threads + Sync, F: Facts + Sync, J: Job<F>, G: Gate>(
+pub(crate) fn answer_side_by_side<R: Threads + Sync, F: Facts + Sync, J: Job<F>, G: Gate>(
     rt: &R,
     cells: &SharedCells<F>,
     alloc: Global,
@@ -85,44 +80,30 @@ pub(crate) fn gang<R: Threads + Sync, F: Facts + Sync, J: Job<F>, G: Gate>(
     mut pass: Pass<F>,
     workers: u64,
 ) -> Result<(Vec<(u64, J::Answer)>, Pass<F>), AllocError>
-    requires own { IsPassOf cells.now pass }
-    requires new { pass.sees.tickets ≡ [] }
-    requires lines { cells.now.sizes.lines ≤ J.count job.now }
-    requires share { J.needs job.now ≤ cells.now.sizes.share }
+    requires ready { IsReady (J.count job.now) (J.needs job.now) cells.now pass }
     requires workers { workers ≡ pass.sees.heirs + 1 }
-    ensures { IfOk result
-        (λ r. IsBrought (J.good job.now) cells.now (passes_of pass.sees) r.0.items r.1) }
+    ensures { IfOk result (λ r. BringsBack (J.good job.now) cells.now pass r.0.items r.1) }
 {
     if workers <= 1 {
-        return worker::<F, J, G>(cells, alloc, job, gate, pass);
+        return answer_lines::<F, J, G>(cells, alloc, job, gate, pass);
     }
     let other = cells.split(&mut pass, workers - 2);
     let rest = workers - 1;
     let (mine, theirs) = thread::join(
         rt,
         move ||
-            requires own { IsPassOf cells.now pass }
-            requires new { pass.sees.tickets ≡ [] }
-            requires lines { cells.now.sizes.lines ≤ J.count job.now }
-            requires share { J.needs job.now ≤ cells.now.sizes.share }
-            ensures { IfOk result
-                (λ r. IsBrought (J.good job.entry.now) cells.entry.now
-                (passes_of pass.sees) r.0.items r.1) }
-        { worker::<F, J, G>(cells, alloc, job, gate, pass) },
+            requires { IsReady (J.count job.now) (J.needs job.now) cells.now pass }
+            ensures { IfOk result (λ r. BringsBack (J.good job.entry.now) cells.entry.now pass r.0.items r.1) }
+        { answer_lines::<F, J, G>(cells, alloc, job, gate, pass) },
         move ||
-            requires own { IsPassOf cells.now other }
-            requires new { other.sees.tickets ≡ [] }
-            requires lines { cells.now.sizes.lines ≤ J.count job.now }
-            requires share { J.needs job.now ≤ cells.now.sizes.share }
+            requires ready { IsReady (J.count job.now) (J.needs job.now) cells.now other }
             requires workers { rest ≡ other.sees.heirs + 1 }
             requires sync { IsSync R.row }
-            ensures { IfOk result
-                (λ r. IsBrought (J.good job.entry.now) cells.entry.now
-                (passes_of other.sees) r.0.items r.1) }
-        { gang::<R, F, J, G>(rt, cells, alloc, job, gate, other, rest) },
+            ensures { IfOk result (λ r. BringsBack (J.good job.entry.now) cells.entry.now other r.0.items r.1) }
+        { answer_side_by_side::<R, F, J, G>(rt, cells, alloc, job, gate, other, rest) },
     );
     let (answers, mut pass) = mine?;
     let (more, met) = theirs?;
     cells.meet(&mut pass, met);
-    Ok((both(answers, more)?, pass))
+    Ok((append(answers, more)?, pass))
 }

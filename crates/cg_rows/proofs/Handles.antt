@@ -13,7 +13,7 @@ use Rattle.cg_shared.specs.Passes.{CellsOf, PassOf, pass_state}
 use Rattle.cg_words.specs.declared.settings.Settings.{Settings}
 use Rattle.cg_session.specs.Good.{IsGood}
 use Rattle.cg_session.specs.Kept.{KeepsSession}
-use Rattle.cg_session.specs.Replies.{HandleOf}
+use Rattle.cg_session.specs.Replies.{HandleFor}
 use Rattle.cg_session.specs.Settings.{share_of, text_by}
 use Rattle.cg_rows.specs.Kept.{HaveGames}
 
@@ -24,7 +24,7 @@ module _ {R : Type 0} (s : State Meant R) where
   handle-game q false None h = absurd h
   handle-game q false (Some id) h = h ∙ sym (ap (λ o. Some (form (game_in o))) h)
 
-  line-game : (line : Resolved) (refused : Bool) (handle : Option ℕ) → HandleOf (knowing s.known) line refused handle
+  line-game : (line : Resolved) (refused : Bool) (handle : Option ℕ) → HandleFor (knowing s.known) line refused handle
       → IfSome handle (IsGame s)
   line-game (Asked_of q) refused handle h = handle-game q refused handle h
   line-game (Syntax_at column) refused handle h = subst (λ o. IfSome o (IsGame s)) (sym h) tt

@@ -287,7 +287,8 @@ value {0|1}
 2: 1/2
 "#;
 
-/// Sessions with the deepest nimber, and with one that is too deep: a line that is refused leaves the others as they are.
+/// Sessions with the deepest nimber, and with one that is too deep: a line that is refused leaves the others as they
+/// are.
 const NIMBERS: &str = "\
 $ --cells 263169 => 0
 value *512

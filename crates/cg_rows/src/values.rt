@@ -1,4 +1,5 @@
-//! Replies to single lines: each line with the reply that the textbook, the manual's rules or a computation by hand gives.
+//! Replies to single lines: each line with the reply that the textbook, the manual's rules or a computation by hand
+//! gives.
 use crate::sheet::{rows, session};
 use cg_session::Status;
 use std::alloc::{AllocError, Global};

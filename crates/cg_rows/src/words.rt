@@ -3,8 +3,8 @@ use cg_session::{Settings, SettingsFault};
 use std::alloc::{AllocError, Global};
 use std::test::Fail;
 
-/// Words that are accepted, with a bar between them, and the workers, cells, positions and lines of the sample that they
-/// give.
+/// Words that are accepted, with a bar between them, and the workers, cells, positions and lines of the sample that
+/// they give.
 const ACCEPTED: &str = "\
 --workers|64 => 64 4194304 65536 0
 --workers=3 => 3 4194304 65536 0

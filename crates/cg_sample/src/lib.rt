@@ -1,19 +1,21 @@
 //! The sample: a session that is made from a number.
 //!
-//! Line i asks one of six kinds of question, by what i leaves when divided by 6. The numbers in it are a, what i leaves by
-//! 5, and b, what i * i leaves by 7. With the default settings no line of it is refused.
+//! Line i asks one of six kinds of question, by what i leaves when divided by 6. The numbers in it are a, what i leaves
+//! by 5, and b, what i * i leaves by 7. With the default settings no line of it is refused.
 #![tactic(auto)]
 
-ghost use Rattle.std.specs.Prelude.{◌≡◌, ◌≤◌, ◌<◌, ◌+◌, ◌++◌, ◌∷◌, [], IfOk, string_bytes, codes, take};
+ghost use Rattle.std.specs.Prelude.{◌≡◌, ◌≤◌, ◌<◌, ◌+◌, ◌^◌, ◌++◌, ◌∷◌, [], IfOk, string_bytes, codes, length, take};
 ghost use Rattle.cg_sample.specs.SampleText.{dots, line_of, grid_line, sample_text};
 
 use std::alloc::{AllocError, Global};
 
-/// The sample of `n` lines, for n from 1 to 4,096, each with its LF. It fails only for want of memory.
+/// The sample of `n` lines, for n from 1 to 4,096, each with its LF: no more than 1,048,576 bytes.
+/// It fails only for want of memory.
 pub fn sample(alloc: Global, n: u64) -> Result<String, AllocError>
     requires some { 1 ≤ n }
     requires within { n ≤ 4096 }
-    ensures { IfOk result (λ text. string_bytes text ≡ sample_text n) }
+    ensures text { IfOk result (λ text. string_bytes text ≡ sample_text n) }
+    ensures short { IfOk result (λ text. length (string_bytes text) ≤ 2 ^ 20) }
 {
     let mut text = String::new(alloc);
     for i in 0..n {

@@ -1,6 +1,7 @@
 -- A line of a list, an answer that is good for it, and what a worker holds.
-use Rattle.std.proofs.Common.{◌≡◌, ℕ, zero, suc, ◌<◌, List, [], ◌∷◌, map, length, get_or, Bool, true, false, Option, Some, None, Result, Ok, Err, IfOk, refl, sym, ap, ◌∙◌, subst, arith}
-use Rattle.std.specs.Prelude.{slice_get, not}
+use Rattle.std.proofs.Common.{◌≡◌, ℕ, zero, suc, ◌<◌, List, [], ◌∷◌, map, length, get_or, Bool, true, false, Option, Some, None, Result, Ok, Err}
+use Rattle.std.proofs.Common.{IfOk, refl, sym, ap, ◌∙◌, subst, arith}
+use Rattle.std.specs.Prelude.{slice_get}
 use Rattle.cg_cells.specs.Store.{State}
 use Rattle.cg_cells.proofs.Levels.{same_Some}
 use Rattle.cg_nodes.specs.Meant.{Meant}
@@ -8,15 +9,12 @@ use Rattle.cg_canon.specs.declared.held.Held.{Held}
 use Rattle.cg_canon.specs.Held.{IsHeld, knowing}
 use Rattle.cg_canon.proofs.Holding.{held_later}
 use Rattle.cg_query.specs.Tree.{Question}
-use Rattle.cg_syntax.specs.Naming.{IsClosedQuestion, trees_of_question, uses_of}
-use Rattle.cg_syntax.specs.Session.{AreClosedLines, IsClosedLine, Resolved, Asked_of, Syntax_at, Too_large, Unknown_at, has_some}
-use Rattle.cg_syntax.proofs.Closed.{closed_from_unused, closed_unused}
+use Rattle.cg_syntax.specs.Session.{Resolved, Asked_of, Syntax_at, Too_large, Unknown_at}
 use Rattle.cg_eval.specs.declared.answered.Answered.{Answered}
 use Rattle.cg_eval.specs.Reply.{syntax_at}
 use Rattle.cg_eval.specs.Shown.{shown, HandleIs, IsAnswered}
 use Rattle.cg_session.specs.Good.{IsGood}
-use Rattle.cg_session.specs.Outputs.{AreClosed, is_closed}
-use Rattle.cg_session.specs.Replies.{HandleOf, IsReply, too_large, unknown_at}
+use Rattle.cg_session.specs.Replies.{HandleFor, IsReplyFor, too_large, unknown_at}
 
 -- ---- a line of a list
 
@@ -46,8 +44,8 @@ handle_known s q true handle h = h
 handle_known s q false None h = h
 handle_known s q false (Some id) h = h
 
-line_known : {R : Type 0} (s : State Meant R) (line : Resolved) (refused : Bool) (handle : Option ℕ) → HandleOf s line refused handle
-    → HandleOf (knowing s.known) line refused handle
+line_known : {R : Type 0} (s : State Meant R) (line : Resolved) (refused : Bool) (handle : Option ℕ) → HandleFor s line refused handle
+    → HandleFor (knowing s.known) line refused handle
 line_known s (Asked_of q) refused handle h = handle_known s q refused handle h
 line_known s (Syntax_at column) refused handle h = h
 line_known s (Unknown_at column) refused handle h = h
@@ -55,7 +53,7 @@ line_known s Too_large refused handle h = h
 
 -- an answer to the n-th line is good for whatever is the n-th line
 pub good_line : {R E : Type 0} (s : State Meant R) (share positions : ℕ) (line : ℕ × Resolved) (r : Result Answered E)
-    → IfOk r (λ a. IsReply share positions line.1 (shown a)) → IfOk r (λ a. HandleOf s line.1 a.refused a.handle)
+    → IfOk r (λ a. IsReplyFor share positions line.1 (shown a)) → IfOk r (λ a. HandleFor s line.1 a.refused a.handle)
     → (lines : List (ℕ × Resolved)) (n : ℕ) → slice_get lines n ≡ Some line
     → IfOk r (λ a. (l : ℕ × Resolved) → slice_get lines n ≡ Some l → IsGood share positions l.1 a s.known)
 good_line s share positions line (Ok a) reply handle lines n at = λ l e.
@@ -76,55 +74,30 @@ module _ {R : Type 0} (s : State Meant R) (h : Held) where
 -- ---- lines that ask something and lines that don't
 
 pub asked_reply : {R E : Type 0} (share positions : ℕ) (s : State Meant R) (q : Question) (r : Result Answered E) → IfOk r (IsAnswered share positions s q)
-    → IfOk r (λ a. IsReply share positions (Asked_of q) (shown a))
-unfolding IsReply
+    → IfOk r (λ a. IsReplyFor share positions (Asked_of q) (shown a))
+unfolding IsReplyFor
 asked_reply share positions s q (Ok a) is = is.reply
 asked_reply share positions s q (Err e) is = tt
 
-pub asked_handle : {R E : Type 0} (share positions : ℕ) (s : State Meant R) (q : Question) (r : Result Answered E) → IfOk r (IsAnswered share positions s q)
-    → IfOk r (λ a. HandleOf s (Asked_of q) a.refused a.handle)
-asked_handle share positions s q (Ok a) is = is.handle
-asked_handle share positions s q (Err e) is = tt
-
 pub syntax_reply : {E : Type 0} (share positions column : ℕ) (r : Result Answered E) → IfOk r (λ a. shown a ≡ syntax_at column)
-    → IfOk r (λ a. IsReply share positions (Syntax_at column) (shown a))
-unfolding IsReply
+    → IfOk r (λ a. IsReplyFor share positions (Syntax_at column) (shown a))
+unfolding IsReplyFor
 syntax_reply share positions column (Ok a) e = e
 syntax_reply share positions column (Err e) h = tt
 
 pub unknown_reply : {E : Type 0} (share positions column : ℕ) (r : Result Answered E) → IfOk r (λ a. shown a ≡ unknown_at column)
-    → IfOk r (λ a. IsReply share positions (Unknown_at column) (shown a))
-unfolding IsReply
+    → IfOk r (λ a. IsReplyFor share positions (Unknown_at column) (shown a))
+unfolding IsReplyFor
 unknown_reply share positions column (Ok a) e = e
 unknown_reply share positions column (Err e) h = tt
 
 pub parts_reply : {E : Type 0} (share positions : ℕ) (r : Result Answered E) → IfOk r (λ a. shown a ≡ too_large)
-    → IfOk r (λ a. IsReply share positions Too_large (shown a))
-unfolding IsReply
+    → IfOk r (λ a. IsReplyFor share positions Too_large (shown a))
+unfolding IsReplyFor
 parts_reply share positions (Ok a) e = e
 parts_reply share positions (Err e) h = tt
 
 -- the reply to what the line asks, in other words
 pub reply_as : {E : Type 0} (share positions : ℕ) (line made : Resolved) (r : Result Answered E) → made ≡ line
-    → IfOk r (λ a. IsReply share positions line (shown a)) → IfOk r (λ a. IsReply share positions made (shown a))
-reply_as share positions line made r e h = subst (λ (z : Resolved). IfOk r (λ a. IsReply share positions z (shown a))) (sym e) h
-
--- ---- lines without names
-
-pub closed_is : (q : Question) → is_closed (Asked_of q) ≡ true → IsClosedQuestion q
-closed_is q e = closed_from_unused q (by (uses_of (trees_of_question q)) e)
-  where
-    by : (us : List (List ℕ × ℕ)) → not (has_some us) ≡ true → us ≡ []
-    by [] h = refl
-    by (u ∷ us) h = absurd cc
-
-line_closed : (line : Resolved) → IsClosedLine line → is_closed line ≡ true
-line_closed (Asked_of q) c = ap (λ (us : List (List ℕ × ℕ)). not (has_some us)) (closed_unused q c)
-line_closed (Syntax_at column) c = refl
-line_closed (Unknown_at column) c = refl
-line_closed Too_large c = refl
-
-pub lines_closed : (lines : List (ℕ × Resolved)) → AreClosedLines lines → AreClosed lines
-lines_closed [] c n line at = absurd cc
-lines_closed (l ∷ lines) c zero line at = subst (λ (z : ℕ × Resolved). is_closed z.1 ≡ true) (same_Some at) (line_closed l.1 c.0)
-lines_closed (l ∷ lines) c (suc n) line at = lines_closed lines c.1 n line at
+    → IfOk r (λ a. IsReplyFor share positions line (shown a)) → IfOk r (λ a. IsReplyFor share positions made (shown a))
+reply_as share positions line made r e h = subst (λ (z : Resolved). IfOk r (λ a. IsReplyFor share positions z (shown a))) (sym e) h

@@ -1,5 +1,6 @@
 pub mod Crossing
 pub mod Endings
+pub mod FormatOne
 pub mod Fronts
 pub mod Knowing
 pub mod Outputs

@@ -1,5 +1,6 @@
 -- The output of the lines so far, with that of the lines that are left, is the output of all; and lines have one output.
-use Rattle.std.proofs.Common.{◌≡◌, ℕ, zero, suc, ◌+◌, arith, Bool, cond, true, false, List, [], ◌∷◌, drop, Some, refl, ap, sym, subst, ◌∙◌, append_assoc, append-nil}
+use Rattle.std.proofs.Common.{◌≡◌, ℕ, zero, suc, ◌+◌, arith, Bool, cond, true, false, List, [], ◌∷◌, drop, Some, refl, ap, sym, subst, ◌∙◌}
+use Rattle.std.proofs.Common.{append_assoc, append-nil}
 use Rattle.std.specs.Prelude.{◌≤◌, slice_get}
 use Rattle.cg_cells.proofs.Levels.{same_Some}
 use Rattle.cg_words.specs.declared.settings.Settings.{Settings}
@@ -9,7 +10,7 @@ use Rattle.cg_syntax.specs.Session.{Resolved, Asked_of, Syntax_at, Too_large, Un
 use Rattle.cg_eval.specs.Shown.{shown}
 use Rattle.cg_eval.specs.declared.answered.Answered.{Answered}
 use Rattle.cg_session.specs.Output.{Output, joined, nothing, numbered, IsOutput, IsOutputOf}
-use Rattle.cg_session.specs.Replies.{IsReply}
+use Rattle.cg_session.specs.Replies.{IsReplyFor}
 use Rattle.cg_session.specs.Outputs.{AreReplies}
 
 -- ---- joined
@@ -73,9 +74,9 @@ Completes-all share positions done all completes =
 abbrev pub HasOneReply : ℕ → ℕ → Type 0
 HasOneReply share positions = (q : Question) (p r : Piece) → IsReplyTo share positions q p → IsReplyTo share positions q r → p ≡ r
 
-one_reply : (share positions : ℕ) → HasOneReply share positions → (line : Resolved) (p r : Piece) → IsReply share positions line p
-    → IsReply share positions line r → p ≡ r
-unfolding IsReply
+one_reply : (share positions : ℕ) → HasOneReply share positions → (line : Resolved) (p r : Piece) → IsReplyFor share positions line p
+    → IsReplyFor share positions line r → p ≡ r
+unfolding IsReplyFor
 one_reply share positions one (Asked_of q) p r a b = one q p r a b
 one_reply share positions one (Syntax_at column) p r a b = a ∙ sym b
 one_reply share positions one (Unknown_at column) p r a b = a ∙ sym b
@@ -97,8 +98,8 @@ same_output s rs qs out e is = subst (λ (z : List (ℕ × Resolved)). IsOutput 
 -- ---- some output
 
 some_reply : (share positions : ℕ) → ((q : Question) → (p : Piece) × IsReplyTo share positions q p) → (line : Resolved)
-    → (p : Piece) × IsReply share positions line p
-unfolding IsReply
+    → (p : Piece) × IsReplyFor share positions line p
+unfolding IsReplyFor
 some_reply share positions some (Asked_of q) = some q
 some_reply share positions some (Syntax_at column) = (_, refl)
 some_reply share positions some (Unknown_at column) = (_, refl)

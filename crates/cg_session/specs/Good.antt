@@ -9,13 +9,13 @@ use Rattle.cg_eval.specs.declared.answered.Answered.{Answered}
 use Rattle.cg_query.specs.Tree.{Question}
 use Rattle.cg_eval.specs.Shown.{shown, HandleIs}
 use Rattle.cg_syntax.specs.Session.{Resolved, Asked_of, Syntax_at, Too_large, Unknown_at}
-use Rattle.cg_session.specs.Replies.{HandleOf, IsReply}
+use Rattle.cg_session.specs.Replies.{HandleFor, IsReplyFor}
 
 -- The answer to a line of which this is made, on a share of so many cells: its text is the reply, and its handle is known to
 -- be the value of the line's first expression, expanded.
 pub record IsGood (share positions : ℕ) (line : Resolved) (a : Answered) (known : map.FinMap nat_cmp Meant) : Type 0 where
-  pub reply : IsReply share positions line (shown a)
-  pub handle : HandleOf (knowing known) line a.refused a.handle
+  pub reply : IsReplyFor share positions line (shown a)
+  pub handle : HandleFor (knowing known) line a.refused a.handle
 
 -- each of these answers is good for the line in its place
 abbrev pub AreGood : ℕ → ℕ → List (ℕ × Resolved) → List Answered → map.FinMap nat_cmp Meant → Type 0
@@ -31,7 +31,7 @@ handle_stays f g grows q false None h = h
 handle_stays f g grows q false (Some id) h = grows id _ h
 
 line_stays : (f g : map.FinMap nat_cmp Meant) → Grows (map.get f) (map.get g) → (line : Resolved) (refused : Bool) (handle : Option ℕ)
-    → HandleOf (knowing f) line refused handle → HandleOf (knowing g) line refused handle
+    → HandleFor (knowing f) line refused handle → HandleFor (knowing g) line refused handle
 line_stays f g grows (Asked_of q) refused handle h = handle_stays f g grows q refused handle h
 line_stays f g grows (Syntax_at column) refused handle h = h
 line_stays f g grows (Unknown_at column) refused handle h = h

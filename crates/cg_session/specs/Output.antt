@@ -3,7 +3,7 @@ use Rattle.std.specs.Prelude.{ℕ, zero, suc, ◌+◌, cond, ◌≡◌, List, []
 use Rattle.cg_words.specs.declared.settings.Settings.{Settings}
 use Rattle.cg_eval.specs.Reply.{Piece}
 use Rattle.cg_syntax.specs.Session.{IsSession, Resolved}
-use Rattle.cg_session.specs.Replies.{IsReply}
+use Rattle.cg_session.specs.Replies.{IsReplyFor}
 use Rattle.cg_session.specs.Settings.{share_of}
 
 -- a text to be written, and how many lines were refused
@@ -28,7 +28,7 @@ module _ (share positions : ℕ) where
   unfoldable pub IsOutputOf : List (ℕ × Resolved) → Output → Type 0
   IsOutputOf [] out = out ≡ nothing
   IsOutputOf (line ∷ lines) out =
-      (reply : Piece) × (rest : Output) × IsReply share positions line.1 reply × IsOutputOf lines rest
+      (reply : Piece) × (rest : Output) × IsReplyFor share positions line.1 reply × IsOutputOf lines rest
       × (out ≡ joined (numbered line.0 reply) rest)
 
 -- the output of a session with these lines, each on its share of the cells

@@ -1,12 +1,11 @@
 -- What the code builds, without where it lies in memory.
-use Rattle.std.specs.Prelude.{ℕ, ◌≡◌, Bool, true, not, List, Some, slice_get}
+use Rattle.std.specs.Prelude.{ℕ, ◌≡◌, List, Some, slice_get}
 use Rattle.cg_eval.specs.Shown.{shown}
 use Rattle.cg_eval.specs.declared.answered.Answered.{Answered}
 use Rattle.cg_session.specs.declared.output.Output as code
 use Rattle.cg_session.specs.Output.{Output}
-use Rattle.cg_session.specs.Replies.{IsReply}
-use Rattle.cg_syntax.specs.Naming.{trees_of_question, uses_of}
-use Rattle.cg_syntax.specs.Session.{Resolved, Asked_of, has_some}
+use Rattle.cg_session.specs.Replies.{IsReplyFor}
+use Rattle.cg_syntax.specs.Session.{Resolved}
 
 abbrev pub output_of : code.Output → Output
 output_of out = record { text = out.text.items; refused = out.refused }
@@ -15,12 +14,4 @@ output_of out = record { text = out.text.items; refused = out.refused }
 abbrev pub AreReplies : ℕ → ℕ → List (ℕ × Resolved) → List Answered → Type 0
 AreReplies share positions lines answers =
     (n : ℕ) (line : ℕ × Resolved) (answer : Answered) → slice_get lines n ≡ Some line → slice_get answers n ≡ Some answer
-    → IsReply share positions line.1 (shown answer)
-
--- whether what is made of a line has no names
-abbrev pub is_closed : Resolved → Bool
-is_closed (Asked_of q) = not (has_some (uses_of (trees_of_question q)))
-is_closed _ = true
-
-abbrev pub AreClosed : List (ℕ × Resolved) → Type 0
-AreClosed lines = (n : ℕ) (line : ℕ × Resolved) → slice_get lines n ≡ Some line → is_closed line.1 ≡ true
+    → IsReplyFor share positions line.1 (shown answer)

@@ -16,13 +16,13 @@ too_large = refusal (codes "! parts")
 
 -- the reply to the question that a line asks, on a share of so many cells and with so many positions at most in one list of
 -- items; or why the line is refused
-unfoldable pub IsReply : ℕ → ℕ → Resolved → Piece → Type 0
-IsReply share positions (Asked_of q) reply = IsReplyTo share positions q reply
-IsReply share positions (Syntax_at column) reply = reply ≡ syntax_at column
-IsReply share positions (Unknown_at column) reply = reply ≡ unknown_at column
-IsReply share positions Too_large reply = reply ≡ too_large
+unfoldable pub IsReplyFor : ℕ → ℕ → Resolved → Piece → Type 0
+IsReplyFor share positions (Asked_of q) reply = IsReplyTo share positions q reply
+IsReplyFor share positions (Syntax_at column) reply = reply ≡ syntax_at column
+IsReplyFor share positions (Unknown_at column) reply = reply ≡ unknown_at column
+IsReplyFor share positions Too_large reply = reply ≡ too_large
 
 -- A refused line has no handle, and any other has that of the value of its first expression, expanded.
-abbrev pub HandleOf : {R : Type 0} → State Meant R → Resolved → Bool → Option ℕ → Type 0
-HandleOf s (Asked_of q) refused handle = HandleIs s q refused handle
-HandleOf s _ refused handle = handle ≡ None
+abbrev pub HandleFor : {R : Type 0} → State Meant R → Resolved → Bool → Option ℕ → Type 0
+HandleFor s (Asked_of q) refused handle = HandleIs s q refused handle
+HandleFor s _ refused handle = handle ≡ None

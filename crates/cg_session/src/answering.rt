@@ -1,17 +1,16 @@
 //! What a session comes to: its limits, the answers of its lines, and what is written of them.
-ghost use Rattle.std.specs.Prelude.{◌≡◌, ◌≤◌, ℕ, [], IfOk, OnOk, IsErrOf, MatchOption, length, map};
+ghost use Rattle.std.specs.Prelude.{◌≡◌, ◌≤◌, ◌↔◌, ℕ, [], IfOk, IsTrue, MatchOption, length, map};
 ghost use Rattle.cg_words.specs.Accepted.{InRange};
 ghost use Rattle.cg_session.specs.Kept.{KeepsAnswers, KeepsSession};
 ghost use Rattle.cg_session.specs.Output.{IsOutput, IsOutputOf, IsWritten, written_of};
 ghost use Rattle.cg_session.specs.Output.{Output as Out};
-ghost use Rattle.cg_session.specs.Outputs.{AreClosed, AreReplies, output_of};
-ghost use Rattle.cg_session.specs.Settings.{IsWithinLimits};
+ghost use Rattle.cg_session.specs.Outputs.{AreReplies, output_of};
+ghost use Rattle.cg_session.specs.Settings.{IsWithinBytes, IsWithinLimits};
 ghost use Rattle.cg_syntax.specs.Session.{answered_lines};
 ghost use Rattle.cg_syntax.specs.SessionViews.{line_of};
 
-use crate::input::MOST_BYTES;
 use crate::job::LineJob;
-use crate::output::{Output, make_output, summary};
+use crate::output::{Output, make_output, make_summary};
 use cg_eval::Answered;
 use cg_nodes::GameFacts;
 use cg_pool::{Evaluated, Gate, evaluate};
@@ -29,15 +28,6 @@ pub type Kept = Evaluated<GameFacts<CgBoards>, Answered>;
 /// The most lines of a session that may get an answer.
 const MOST_ANSWERED: u64 = 4096;
 
-/// Why a session is not answered.
-#[derive(Clone, Copy, Debug, PartialEq, Eq)]
-pub enum AnsweringFault {
-    /// Memory was wanting.
-    Memory,
-    /// The session is past a limit.
-    TooLong,
-}
-
 /// An output, and what is kept of the session: nothing where no line gets an answer.
 #[derive(Drop)]
 pub struct Answers {
@@ -45,36 +35,32 @@ pub struct Answers {
     pub kept: Option<Kept>,
 }
 
-/// Answers a whole session, with the output that is to be written. TooLong comes exactly where it is past a limit.
+/// Whether a session that has few enough bytes has few enough answered lines, too.
+pub fn is_within_limits(settings: Settings, text: &[u8]) -> bool
+    requires { IsWithinBytes text.now }
+    ensures { IsTrue result ↔ IsWithinLimits settings text.now }
+{
+    let count = answered_count(text);
+    count <= MOST_ANSWERED && count <= settings.cells
+}
+
+/// Answers a whole session, with the output that is to be written. It fails only for want of memory.
 pub fn answer_session<R: Threads + Sync, G: Gate>(
     rt: &R,
     alloc: Global,
     settings: Settings,
     text: &[u8],
     gate: &G,
-) -> Result<Answers, AnsweringFault>
-    requires { InRange settings }
-    ensures within { OnOk result (IsWithinLimits settings text.now) }
+) -> Result<Answers, AllocError>
+    requires range { InRange settings }
+    requires within { IsWithinLimits settings text.now }
     ensures written { IfOk result (λ a. IsWritten settings text.now (output_of a.output)) }
     ensures kept { IfOk result (λ a. MatchOption a.kept (answered_lines text.now ≡ [])
         (λ k. KeepsSession settings text.now k.answers.items k.cells k.pass)) }
-    ensures too_long { IsErrOf result AnsweringFault.TooLong → ¬ IsWithinLimits settings text.now }
 {
-    if text.len() > MOST_BYTES {
-        return Err(AnsweringFault::TooLong);
-    }
-    let count = answered_count(text);
-    if count > MOST_ANSWERED || count > settings.cells {
-        return Err(AnsweringFault::TooLong);
-    }
-    let Ok(session) = read_session(alloc, text) else {
-        return Err(AnsweringFault::Memory);
-    };
+    let session = read_session(alloc, text)?;
     one_session();
-    match answer_lines::<R, G>(rt, alloc, settings, session.lines.as_slice(), gate) {
-        Ok(answers) => Ok(answers),
-        Err(AllocError) => Err(AnsweringFault::Memory),
-    }
+    answer_lines::<R, G>(rt, alloc, settings, session.lines.as_slice(), gate)
 }
 
 /// Answers these lines, with what is to be written of them.
@@ -86,7 +72,6 @@ fn answer_lines<R: Threads + Sync, G: Gate>(
     gate: &G,
 ) -> Result<Answers, AllocError>
     requires range { InRange settings }
-    requires closed { AreClosed (map line_of lines.now) }
     requires cells { length lines.now ≤ settings.cells }
     ensures written { IfOk result (λ a. (out : Out) × IsOutput settings (map line_of lines.now) out
         × (output_of a.output ≡ written_of settings.sample out)) }
@@ -94,7 +79,7 @@ fn answer_lines<R: Threads + Sync, G: Gate>(
         (λ k. KeepsAnswers settings (map line_of lines.now) k.answers.items k.cells k.pass)) }
 {
     if lines.is_empty() {
-        let output = written(alloc, settings.sample, lines, &[])?;
+        let output = make_written(alloc, settings.sample, lines, &[])?;
         return Ok(Answers { output, kept: None });
     }
     let count = lines.len() as u64;
@@ -112,7 +97,7 @@ fn answer_lines<R: Threads + Sync, G: Gate>(
         &job,
         gate,
     )?;
-    let output = written(alloc, settings.sample, lines, &kept.answers)?;
+    let output = make_written(alloc, settings.sample, lines, &kept.answers)?;
     Ok(Answers {
         output,
         kept: Some(kept),
@@ -120,7 +105,7 @@ fn answer_lines<R: Threads + Sync, G: Gate>(
 }
 
 /// What is to be written of the lines that have these answers: their output, or its summary where there is a sample.
-fn written(
+fn make_written(
     alloc: Global,
     sample: u64,
     lines: &[SessionLine],
@@ -128,11 +113,12 @@ fn written(
 ) -> Result<Output, AllocError>
     requires { length answers.now ≡ length lines.now }
     ensures { IfOk result (λ w. (share positions : ℕ) → AreReplies share positions (map line_of lines.now) answers.now
-        → (out : Out) × IsOutputOf share positions (map line_of lines.now) out × (output_of w ≡ written_of sample out)) }
+        → (out : Out) × IsOutputOf share positions (map line_of lines.now) out
+        × (output_of w ≡ written_of sample out)) }
 {
     let output = make_output(alloc, lines, answers)?;
     if sample == 0 {
         return Ok(output);
     }
-    summary(alloc, sample, &output)
+    make_summary(alloc, sample, &output)
 }

@@ -12,7 +12,7 @@ use cg_words::Settings;
 use std::alloc::{AllocError, Global};
 
 /// The most bytes that a session may have.
-pub const MOST_BYTES: usize = 1_048_576;
+const MOST_BYTES: usize = 1_048_576;
 
 /// How many bytes are asked for at once.
 const BUFFER_BYTES: usize = 4096;
@@ -28,8 +28,8 @@ pub enum TextFault {
     TooLong,
 }
 
-/// The text of a session: the sample where one is asked for, and else the bytes of the source to its end. With a sample the
-/// source is left as it was.
+/// The text of a session: the sample where one is asked for, and else the bytes of the source to its end. With a sample
+/// the source is left as it was.
 pub fn session_text<S: Source>(
     alloc: Global,
     settings: Settings,
@@ -37,6 +37,7 @@ pub fn session_text<S: Source>(
 ) -> Result<Vec<u8>, TextFault>
     requires { InRange settings }
     ensures text { IfOk result (λ text. IfSome (session_text settings (S.left source.old)) (λ all. text.items ≡ all)) }
+    ensures within { IfOk result (λ text. IsWithinBytes text.items) }
     ensures end { settings.sample ≡ 0 → OnOk result (IsAtEnd (S.left source.new)) }
     ensures all { settings.sample ≡ 0 → OnOk result (ReadsAll (S.left source.old) (S.left source.new)) }
     ensures sample { 0 < settings.sample → source.new ≡ source.old }

@@ -1,14 +1,12 @@
 //! The lines of a session as the job of many workers.
-ghost use Rattle.std.specs.Prelude.{◌≡◌, ◌+◌, ◌≤◌, ℕ, List, Some, IfOk, slice_get, length, map, true};
-ghost use Rattle.std.proofs.Props.{props};
+ghost use Rattle.std.specs.Prelude.{◌≡◌, ◌+◌, ◌≤◌, ℕ, List, Some, IfOk, slice_get, length, map};
 ghost use Rattle.cg_canon.specs.Held.{IsHeld, knowing};
 ghost use Rattle.cg_canon.proofs.Holding.{held_later};
 ghost use Rattle.cg_cells.specs.Store.{State};
 ghost use Rattle.cg_eval.specs.Shown.{shown};
 ghost use Rattle.cg_eval.specs.Stores.{KeepsStore};
 ghost use Rattle.cg_session.specs.Good.{IsGood, good_stays};
-ghost use Rattle.cg_session.specs.Outputs.{AreClosed, is_closed};
-ghost use Rattle.cg_session.specs.Replies.{HandleOf, IsReply};
+ghost use Rattle.cg_session.specs.Replies.{HandleFor, IsReplyFor};
 ghost use Rattle.cg_syntax.specs.Session.{Resolved};
 ghost use Rattle.cg_syntax.specs.SessionViews.{line_of, resolved_of};
 
@@ -23,13 +21,12 @@ use cg_syntax::{Asked, SessionLine};
 use cg_values::CgBoards;
 use std::alloc::{AllocError, Global};
 
-/// Lines without names, each on a share of so many cells, with so many positions at most in one list of items.
+/// Lines, each on a share of so many cells, with so many positions at most in one list of items.
 #[derive(Drop)]
 pub struct LineJob<'a> {
     pub lines: &'a [SessionLine],
     pub share: u64,
     pub positions: u64,
-    ghost closed: { AreClosed (map line_of lines.now) } by { Prim.hlevel props },
 }
 
 impl<'a> Job<GameFacts<CgBoards>> for LineJob<'a> {
@@ -41,7 +38,8 @@ impl<'a> Job<GameFacts<CgBoards>> for LineJob<'a> {
 
     ghost needs = { λ job. job.share };
 
-    ghost good = { λ job n a known. (line : ℕ × Resolved) → slice_get (map line_of job.lines.now) n ≡ Some line → IsGood job.share job.positions line.1 a known };
+    ghost good = { λ job n a known. (line : ℕ × Resolved) → slice_get (map line_of job.lines.now) n ≡ Some line
+        → IsGood job.share job.positions line.1 a known };
 
     ghost holds = { λ held known. IsHeld (knowing known) held };
 
@@ -65,7 +63,8 @@ impl<'a> Job<GameFacts<CgBoards>> for LineJob<'a> {
     ghost holding = { λ held f g grows h. held_later (knowing f) (knowing g) held grows h };
 }
 
-/// The answer to what a line asks, or its refusal, on a share of so much of the store's spare, with the help of what is held.
+/// The answer to what a line asks, or its refusal, on a share of so much of the store's spare, with the help of what is
+/// held.
 fn answer_line<S: CellStore<GameFacts<CgBoards>>>(
     alloc: Global,
     store: &mut S,
@@ -74,11 +73,10 @@ fn answer_line<S: CellStore<GameFacts<CgBoards>>>(
     share: u64,
     positions: u64,
 ) -> Result<Answered, AllocError>
-    requires closed { is_closed (resolved_of asked.now) ≡ true }
     requires spare { share ≤ (S.state store.old).spare }
     requires held { IsHeld (S.state store.old) held.old }
-    ensures reply { IfOk result (λ a. IsReply share positions (resolved_of asked.now) (shown a)) }
-    ensures handle { IfOk result (λ a. HandleOf (S.state store.new) (resolved_of asked.now) a.refused a.handle) }
+    ensures reply { IfOk result (λ a. IsReplyFor share positions (resolved_of asked.now) (shown a)) }
+    ensures handle { IfOk result (λ a. HandleFor (S.state store.new) (resolved_of asked.now) a.refused a.handle) }
     ensures keeps { KeepsStore (S.state store.old) (S.state store.new) }
     ensures spare { (S.state store.old).spare ≤ (S.state store.new).spare + share }
     ensures held { IsHeld (S.state store.new) held.new }

@@ -1,5 +1,5 @@
 //! The output of the lines of a session.
-ghost use Rattle.std.specs.Prelude.{◌≡◌, ◌+◌, ◌≤◌, ◌<◌, ◌^◌, ◌++◌, ◌∷◌, [], ℕ, IfOk, OnOk, cond, decimal, codes, length, map};
+ghost use Rattle.std.specs.Prelude.{◌≡◌, ◌+◌, ◌<◌, ◌^◌, ◌++◌, ◌∷◌, [], ℕ, IfOk, OnOk, decimal, codes, length, map};
 ghost use Rattle.cg_eval.specs.Shown.{shown};
 ghost use Rattle.cg_syntax.specs.SessionViews.{line_of};
 ghost use Rattle.cg_session.specs.Output.{IsOutputOf, joined, numbered, summary};
@@ -64,9 +64,9 @@ fn push_line(alloc: Global, text: &mut Vec<u8>, number: u64, reply: &[u8]) -> Re
     Ok(())
 }
 
-/// The line that tells of the output of a sample how many lines the sample has, how many of them are refused, and how many
-/// bytes the output has.
-pub fn summary(alloc: Global, lines: u64, out: &Output) -> Result<Output, AllocError>
+/// The line that tells of the output of a sample how many lines the sample has, how many of them are refused, and how
+/// many bytes the output has.
+pub fn make_summary(alloc: Global, lines: u64, out: &Output) -> Result<Output, AllocError>
     ensures { IfOk result (λ written. output_of written ≡ summary lines (output_of out.now)) }
 {
     let refused = out.refused;

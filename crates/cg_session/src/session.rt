@@ -2,14 +2,15 @@
 ghost use Rattle.std.specs.Prelude.{◌≡◌, ◌+◌, ◌<◌, ◌≤◌, ◌^◌, [], IfSome, MatchOption, None};
 ghost use Rattle.cg_io.specs.Faults.{Rose};
 ghost use Rattle.cg_words.specs.Accepted.{InRange, IsAccepted, settings_of};
-ghost use Rattle.cg_session.specs.Ends.{AnswersOrLacksMemory, EndsBeforeAnswers, IsWhole, UsageOrLacksMemory, Writes, WritesSession};
+ghost use Rattle.cg_session.specs.Ends.{AnswersOrLacksMemory, EndsBeforeAnswers, IsWhole};
+ghost use Rattle.cg_session.specs.Ends.{UsageOrLacksMemory, Writes, WritesSession};
 ghost use Rattle.cg_session.specs.Input.{TakesAtMost};
 ghost use Rattle.cg_session.specs.Kept.{KeepsSession};
 ghost use Rattle.cg_syntax.specs.Session.{answered_lines};
 ghost use Rattle.cg_session.specs.Settings.{IsWithinLimits, session_text};
 ghost use Rattle.cg_session.specs.Words.{texts};
 
-use crate::answering::{AnsweringFault, Kept, answer_session};
+use crate::answering::{Kept, answer_session, is_within_limits};
 use crate::input::{TextFault, session_text};
 use crate::status::Status;
 use crate::writing::write_all;
@@ -24,13 +25,13 @@ const USAGE_LINE: &[u8] = b"usage: cg [--workers W] [--cells N] [--positions P] 
 
 /// Reads a whole session, answers its lines by workers over one shared table, and writes the whole output.
 ///
-/// The words are those after the program's name; [`Settings::read`] says which are accepted, and for others the usage line
-/// is written and nothing is read. The text of the session is its input, or the sample where one is asked for; then the
-/// source is left as it was, and what is written is the one line `lines n refused r bytes b`. A session may have
-/// 1,048,576 bytes and 4,096 answered lines, and at most as many of them as the table has cells. Reading stops at the
-/// end, at a fault, or once one byte more was taken. The first byte is written when all answers and the whole output
-/// stand. After the last byte was written, the answers, their table, and a pass of it are put into `kept`, where the session
-/// has an answered line.
+/// The words are those after the program's name; [`Settings::read`] says which are accepted, and for others the usage
+/// line is written and nothing is read. The text of the session is its input, or the sample where one is asked for;
+/// then the source is left as it was, and what is written is the one line `lines n refused r bytes b`. A session may
+/// have 1,048,576 bytes and 4,096 answered lines, and at most as many of them as the table has cells. Reading stops at
+/// the end, at a fault, or once one byte more was taken. The first byte is written when all answers and the whole
+/// output stand. After the last byte was written, the answers, their table, and a pass of it are put into `kept`, where
+/// the session has an answered line.
 pub fn run<R: Threads + Sync, S: Source, K: Sink, G: Gate>(
     rt: &R,
     alloc: Global,
@@ -51,7 +52,8 @@ pub fn run<R: Threads + Sync, S: Source, K: Sink, G: Gate>(
     ensures unread { ¬ IsAccepted (texts words.now) → source.new ≡ source.old }
     ensures unread_for_sample { 0 < (settings_of (texts words.now)).sample → source.new ≡ source.old }
 
-    // Words that are not accepted give Usage where the sink's count did not rise, unless memory was wanting.
+    // The next three follow from `written`, `read` and `write`; they say when each status comes. Words that are not
+    // accepted give Usage where the sink's count did not rise, unless memory was wanting.
     ensures usage { ¬ IsAccepted (texts words.now) → ¬ Rose (K.faults sink.old) (K.faults sink.new)
         → UsageOrLacksMemory result }
 
@@ -122,10 +124,11 @@ fn serve<R: Threads + Sync, S: Source, K: Sink, G: Gate>(
         Err(TextFault::Memory) => return Status::Memory,
         Err(TextFault::TooLong) => return Status::TooLong,
     };
-    let answers = match answer_session::<R, G>(rt, alloc, settings, &text, gate) {
-        Ok(answers) => answers,
-        Err(AnsweringFault::Memory) => return Status::Memory,
-        Err(AnsweringFault::TooLong) => return Status::TooLong,
+    if !is_within_limits(settings, &text) {
+        return Status::TooLong;
+    }
+    let Ok(answers) = answer_session::<R, G>(rt, alloc, settings, &text, gate) else {
+        return Status::Memory;
     };
     if write_all(sink, &answers.output.text).is_err() {
         return Status::Write;

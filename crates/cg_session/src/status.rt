@@ -13,7 +13,8 @@ pub enum Status {
     Usage,
     /// The source failed, and there is no sample. Nothing was written.
     Read,
-    /// The sink failed. A front of what was to be written was, which is the usage line where the words are not accepted.
+    /// The sink failed. A front of what was to be written was, which is the usage line where the words are not
+    /// accepted.
     Write,
     /// Memory was wanting. Nothing was written.
     Memory,

@@ -132,8 +132,8 @@ fn star_and_sum(
     Some((made, sum, desk.into_pass()))
 }
 
-/// Two threads: one looks at a cell while the other makes star and notes its sum with the number 1. What the second made, and
-/// what the first reads on the cell once they have met.
+/// Two threads: one looks at a cell while the other makes star and notes its sum with the number 1. What the second
+/// made, and what the first reads on the cell once they have met.
 fn read_after_threads<R: Threads + Sync>(
     rt: &R,
     alloc: Global,

@@ -1,5 +1,6 @@
 -- What the program's options read as after a parse.
-use Rattle.std.proofs.Common.{zero, suc, ◌≡◌, ◌∙◌, ◌<◌, ◌≤◌, ap, ℕ, true, false, List, [], ◌∷◌, length, is_some, Option, Some, None, refl, sym, subst, inl, inr, arith, codes, ◌==◌, eqb-true}
+use Rattle.std.proofs.Common.{zero, suc, ◌≡◌, ◌∙◌, ◌<◌, ◌≤◌, ap, ℕ, true, false, List, [], ◌∷◌, length, is_some, Option, Some, None, refl, sym, subst}
+use Rattle.std.proofs.Common.{inl, inr, arith, codes, ◌==◌, eqb-true}
 use Rattle.std.specs.List.{All, slice_index_or}
 use Rattle.std.specs.Str.{bytes_eq}
 use Rattle.std.specs.Option.{option_map_or}
@@ -47,7 +48,8 @@ pub record IsPlace (c : Command) (id : Text) (most : ℕ) (k : ℕ) : Type 0 whe
 
 plain_command : (c : Command) → HasOptions c → IsPlain c
 plain_command c o = (
-  subst (All IsPlainArg) (sym o.all) (all_four IsPlainArg _ _ _ _ o.is_workers.option.plain o.is_cells.option.plain o.is_positions.option.plain o.is_sample.plain),
+  subst (All IsPlainArg) (sym o.all) (all_four IsPlainArg _ _ _ _ o.is_workers.option.plain o.is_cells.option.plain o.is_positions.option.plain
+      o.is_sample.plain),
   o.groups,
 )
 
@@ -160,8 +162,13 @@ default_number : (c : Command) (m : ArgMatches) → IsParsedFrom c m → HasOpti
     → (1 ≤ number_in (found_of m) id) × (number_in (found_of m) id ≤ most)
 default_number c m p o id most k place named help version has =
     let same : (slice_index_or (args_of c) k place.a).id.now ≡ id = ap (λ (x : Arg). x.id.now) place.at ∙ place.option.named in
-    let there = default_present c m p o.globals k place.a place.within (ap (λ (x : Arg). x.default_vals_ifs.items) place.at ∙ place.option.unconditional, rw place.at (has place.a place.at)) in
-    let found : is_some (matched_of (found_of m) id) ≡ true = rw same at (found_in (found_of m).entries.items (slice_index_or (args_of c) k place.a).id.now there) in
+    let there = default_present c m p o.globals k place.a place.within (
+      ap (λ (x : Arg). x.default_vals_ifs.items) place.at ∙
+          place.option.unconditional,
+      rw place.at (has place.a place.at),
+    ) in
+    let found : is_some (matched_of (found_of m) id) ≡ true = rw same at (found_in (found_of m).entries.items (slice_index_or (args_of c) k
+    place.a).id.now there) in
     let got = option_reads c m p o id most k place named help version found in
     (rw got.1 got.2.2, rw got.1 got.2.3)
 

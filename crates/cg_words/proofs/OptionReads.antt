@@ -1,5 +1,6 @@
 -- What a caller reads of an option that has an entry after a parse.
-use Rattle.std.proofs.Common.{zero, suc, ◌≡◌, ◌∙◌, ◌<◌, ◌≤◌, ap, ℕ, Bool, true, false, List, [], ◌∷◌, length, is_some, Option, Some, None, refl, sym, subst, inl, inr, arith, ◌^◌, lit<}
+use Rattle.std.proofs.Common.{zero, suc, ◌≡◌, ◌∙◌, ◌<◌, ◌≤◌, ap, ℕ, Bool, true, false, List, [], ◌∷◌, length, is_some, Option, Some, None, refl, sym}
+use Rattle.std.proofs.Common.{subst, inl, inr, arith, ◌^◌, lit<}
 use Rattle.std.specs.List.{All, slice_index_or}
 use Rattle.std.specs.Str.{bytes_eq}
 use Rattle.std.specs.Prelude.{find, option_map, slice_get, unwrap_or, Ok, Err, Result}
@@ -16,7 +17,8 @@ use Rattle.clap.specs.declared.builder.value_parser.ValueParser.{ValueParser}
 use Rattle.clap.specs.declared.parser.matches.ArgMatches.{ArgMatches}
 use Rattle.clap.specs.declared.parser.matches.Found.{Found}
 use Rattle.clap.specs.declared.parser.matches.MatchedArg.{MatchedArg}
-use Rattle.clap.specs.Facts.{args_of, groups_of, Entry, EntryPasses, HasIn, HasReading, IsParsed, PassesArg, ValuesPass, least_values, parser_of, parser_of_value}
+use Rattle.clap.specs.Facts.{args_of, groups_of, Entry, EntryPasses, HasIn, HasReading, IsParsed, PassesArg, ValuesPass, least_values, parser_of}
+use Rattle.clap.specs.Facts.{parser_of_value}
 use Rattle.clap.specs.Built.{IsAuto, IsParsedFrom, IsPlain, SameRules}
 use Rattle.clap.specs.Matches.{ReadsOne, first_value, found_of, has_subcommand, matched_of, one_text}
 use Rattle.clap.specs.Values.{Accepts, IsUnsignedIn, read_as, reading_of}
@@ -42,7 +44,8 @@ entry_has_value old m p plain globals k d lt set delim least unique named own so
     let id = (slice_index_or (args_of old) k d).id.now in
     go (matched_of (found_of m) id) refl some (p.parsed (p.from.globals ∙ globals))
   where
-    go : (o : Option MatchedArg) → matched_of (found_of m) (slice_index_or (args_of old) k d).id.now ≡ o → is_some (matched_of (found_of m) (slice_index_or (args_of old) k d).id.now) ≡ true
+    go : (o : Option MatchedArg) → matched_of (found_of m) (slice_index_or (args_of old) k d).id.now ≡ o → is_some (matched_of (found_of m)
+        (slice_index_or (args_of old) k d).id.now) ≡ true
         → IsParsed p.built (found_of m) (has_subcommand m)
         → is_some (first_value (found_of m) (slice_index_or (args_of old) k d).id.now) ≡ true
     go None e some parsed = cc

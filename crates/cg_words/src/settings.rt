@@ -9,6 +9,7 @@ use crate::command::command;
 use clap::ArgMatches;
 use clap::error::ErrorKind;
 use std::alloc::Global;
+use thiserror::Error;
 
 /// What the words ask for.
 #[derive(Clone, Copy, Debug, Drop, PartialEq, Eq)]
@@ -24,17 +25,19 @@ pub struct Settings {
 }
 
 /// Why there are no settings.
-#[derive(Clone, Copy, Debug, PartialEq, Eq)]
+#[derive(Clone, Copy, Debug, PartialEq, Eq, Error)]
 pub enum SettingsFault {
     /// The words are not accepted.
+    #[error("the words are not accepted")]
     Usage,
     /// Memory was wanting.
+    #[error("memory was wanting")]
     Memory,
 }
 
 impl Settings {
-    /// The settings that the words after the program's name ask for, in their ranges. Usage comes exactly where the words
-    /// are not accepted, and Memory only where memory was wanting.
+    /// The settings that the words after the program's name ask for, in their ranges. Usage comes exactly where the
+    /// words are not accepted, and Memory only where memory was wanting.
     pub fn read(alloc: Global, words: &[String]) -> Result<Settings, SettingsFault>
         ensures accepted { IfOk result (λ s. Accepted (map string_bytes words.now) s) }
         ensures range { IfOk result (λ s. InRange s) }

@@ -7,9 +7,9 @@ use Rattle.cg_query.specs.Tree as trees
 use Rattle.cg_query.specs.Trees.{tree_of, trees_in, trees_of, term_of, terms_in, terms_of}
 use Rattle.cg_query.specs.declared.expr.Expr.{Expr}
 use Rattle.cg_query.specs.declared.expr.Expr.TheVariants as expr
-use Rattle.cg_query.proofs.TreeOf.{number_tree, ups_tree_of, nimber_tree, switch_tree, tiny_tree, braces_tree, negative_tree, multiple_tree, sum_tree, game_tree, octal_tree, term_tree, used_tree}
+use Rattle.cg_query.proofs.TreeOf.{number_tree, ups_tree_of, nimber_tree, switch_tree, tiny_tree, braces_tree, negative_tree, multiple_tree, sum_tree}
+use Rattle.cg_query.proofs.TreeOf.{game_tree, octal_tree, term_tree, used_tree}
 use Rattle.cg_names.specs.Meaning.{signed}
-use Rattle.cg_eval.specs.Faults.{fault_in, fault_in_all}
 use Rattle.cg_eval.specs.Meaning.{meaning, total_with}
 use Rattle.cg_eval.specs.Progress.{Evaluates, Gives}
 use Rattle.cg_eval.specs.Items.{all_items, further_items, items, signed_items, term_part}
@@ -24,12 +24,12 @@ use Rattle.cg_nodes.proofs.Later.{are_games_later, is_game_later, stands_is_game
 use Rattle.cg_canon.specs.Items.{made}
 use Rattle.std.proofs.lemmas.List.{nil_from_length}
 use Rattle.cg_query.specs.declared.expr.Term.{Term}
-use Rattle.cg_eval.proofs.ClosedParts.{closed_behind, closed_first, closed_in-all, closed_in-terms, closed_of_tree}
 use Rattle.cg_eval.proofs.BoardParts.{board_gives, heap_gives}
-use Rattle.cg_eval.proofs.FaultParts.{fault_of_braces, fault_of_term, fault_of_tree, neither, none_in-all, none_in-terms}
 use Rattle.cg_query.proofs.Walk.{size, size_of_braces, size_of_negative, size_of_multiple, size_of_sum, size_of_item, size_of_term}
-use Rattle.cg_eval.proofs.ListSteps.{adds, all_made-all, all_made-none, all_made-step, all_stopped, added-all, added-none, added-step, added-stopped, first_and_rest, first_board, first_size, first_term_stopped, gives_all-err, no_terms_give, sum_of_terms}
-use Rattle.cg_eval.proofs.Expressions.{added_gives, braces_gives, left_stopped, multiple_gives, multiple_stopped, negative_gives, negative_stopped, right_stopped, stopped_part, subtracted_gives, sum_gives}
+use Rattle.cg_eval.proofs.ListSteps.{adds, all_made-all, all_made-none, all_made-step, all_stopped, added-all, added-none, added-step, added-stopped}
+use Rattle.cg_eval.proofs.ListSteps.{first_and_rest, first_size, first_term_stopped, gives_all-err, no_terms_give, sum_of_terms}
+use Rattle.cg_eval.proofs.Expressions.{added_gives, braces_gives, left_stopped, multiple_gives, multiple_stopped, negative_gives, negative_stopped}
+use Rattle.cg_eval.proofs.Expressions.{right_stopped, stopped_part, subtracted_gives, sum_gives, used_gives}
 use Rattle.cg_eval.proofs.Steps.{gives_from, gives_stop, stops_memory}
 use Rattle.cg_eval.proofs.evaluate.+evaluate.Goals as goal
 
@@ -38,11 +38,6 @@ use Rattle.cg_eval.proofs.evaluate.+evaluate.Goals as goal
 pub evaluate-braces-requires : goal.evaluate-braces-requires
 evaluate-braces-requires g t c =
     let b = size_of_braces c.args.expr.now c.in-Braces.lefts c.in-Braces.rights c.in-Braces.is in
-    let d = neither (fault_in_all (trees_from (trees_in c.in-Braces.lefts))) (fault_in_all (trees_from
-    (trees_in c.in-Braces.rights)))
-    (sym (fault_of_braces c.args.expr.now c.in-Braces.lefts c.in-Braces.rights c.in-Braces.is) ∙ c.requires.boards) in
-    let k = closed_of_tree c.args.expr.now (expr.Braces c.in-Braces.lefts c.in-Braces.rights) c.in-Braces.is
-    (braces_tree c.in-Braces.lefts c.in-Braces.rights) c.requires.closed in
     search rules
 
 pub evaluate-minus-requires : goal.evaluate-minus-requires
@@ -50,12 +45,6 @@ evaluate-minus-requires g t c =
     let b = size_of_negative c.args.expr.now c.in-Negative.inner c.in-Negative.is in
     let s : size (tree_of c.deref.result.now) ≡ size (tree_of c.in-Negative.inner.value) = ap (λ (x : Expr). size
     (tree_of x)) c.deref.ensures in
-    let d : fault_in (tree_of c.deref.result.now) ≡ None = ap (λ (x : Expr). fault_in (tree_of x)) c.deref.ensures
-    ∙ sym (fault_of_tree c.args.expr.now (expr.Negative c.in-Negative.inner) c.in-Negative.is
-    (negative_tree c.in-Negative.inner)) ∙ c.requires.boards in
-    let k = closed_behind c.deref.result.now c.in-Negative.inner.value c.deref.ensures
-    (closed_of_tree c.args.expr.now (expr.Negative c.in-Negative.inner) c.in-Negative.is
-    (negative_tree c.in-Negative.inner) c.requires.closed) in
     search rules
 
 pub evaluate-times-requires : goal.evaluate-times-requires
@@ -63,29 +52,12 @@ evaluate-times-requires g t c =
     let b = size_of_multiple c.args.expr.now c.in-Multiple.count c.in-Multiple.inner c.in-Multiple.is in
     let s : size (tree_of c.deref-in-Multiple.result.now) ≡ size (tree_of c.in-Multiple.inner.value) = ap (λ
     (x : Expr). size (tree_of x)) c.deref-in-Multiple.ensures in
-    let d : fault_in (tree_of c.deref-in-Multiple.result.now) ≡ None = ap (λ (x : Expr). fault_in
-    (tree_of x)) c.deref-in-Multiple.ensures
-    ∙ sym (fault_of_tree c.args.expr.now (expr.Multiple c.in-Multiple.count c.in-Multiple.inner) c.in-Multiple.is
-    (multiple_tree c.in-Multiple.count c.in-Multiple.inner)) ∙ c.requires.boards in
-    let k = closed_behind c.deref-in-Multiple.result.now c.in-Multiple.inner.value c.deref-in-Multiple.ensures
-    (closed_of_tree c.args.expr.now (expr.Multiple c.in-Multiple.count c.in-Multiple.inner) c.in-Multiple.is
-    (multiple_tree c.in-Multiple.count c.in-Multiple.inner) c.requires.closed) in
     search rules
 
 pub evaluate-total-requires : goal.evaluate-total-requires
 evaluate-total-requires g t c =
     let b = size_of_sum c.args.expr.now c.in-Sum.terms c.in-Sum.is in
-    let d = sym (fault_of_tree c.args.expr.now (expr.Sum c.in-Sum.terms) c.in-Sum.is (sum_tree c.in-Sum.terms))
-    ∙ c.requires.boards in
-    let k = closed_of_tree c.args.expr.now (expr.Sum c.in-Sum.terms) c.in-Sum.is (sum_tree c.in-Sum.terms)
-    c.requires.closed in
     search rules
-
-pub evaluate-board_value-requires : goal.evaluate-board_value-requires
-evaluate-board_value-requires g t c =
-    let b = fault_of_tree c.args.expr.now (expr.Game c.in-Game.kind c.in-Game.rules c.in-Game.board) c.in-Game.is
-    (game_tree c.in-Game.kind c.in-Game.rules c.in-Game.board) in
-    sym b ∙ c.requires.boards
 
 pub evaluate-returns-in-Game : goal.evaluate-returns-in-Game
 evaluate-returns-in-Game g t c =
@@ -96,12 +68,6 @@ evaluate-returns-in-Game g t c =
     (work_state g.S.CellStore.state c.board_value.new.work) c.in-Game.kind c.in-Game.rules c.in-Game.board
     c.board_value.result c.board_value.ensures)
 
-pub evaluate-heap_value-requires : goal.evaluate-heap_value-requires
-evaluate-heap_value-requires g t c =
-    let b = fault_of_tree c.args.expr.now (expr.Octal c.in-Octal.code c.in-Octal.heap) c.in-Octal.is
-    (octal_tree c.in-Octal.code c.in-Octal.heap) in
-    sym b ∙ c.requires.boards
-
 pub evaluate-returns-in-Octal : goal.evaluate-returns-in-Octal
 evaluate-returns-in-Octal g t c =
     let tree = ap tree_of c.in-Octal.is ∙ octal_tree c.in-Octal.code c.in-Octal.heap in
@@ -111,10 +77,13 @@ evaluate-returns-in-Octal g t c =
     (work_state g.S.CellStore.state c.heap_value.new.work) c.in-Octal.code c.in-Octal.heap c.heap_value.result
     c.heap_value.ensures)
 
-pub evaluate-unreachable-requires : goal.evaluate-unreachable-requires
-evaluate-unreachable-requires g t c =
-    closed_of_tree c.args.expr.now (expr.Name c.in-Name.text c.in-Name.column) c.in-Name.is
-    (used_tree c.in-Name.text c.in-Name.column) c.requires.closed
+pub evaluate-returns-in-Name : goal.evaluate-returns-in-Name
+evaluate-returns-in-Name g t c =
+    let tree = ap tree_of c.in-Name.is ∙ used_tree c.in-Name.text c.in-Name.column in
+    let P : Tree → Type 0 = λ u. Evaluates (work_state g.S.CellStore.state c.args.work.now)
+    (work_state g.S.CellStore.state c.nothing.new.work) u c.nothing.result in
+    subst P (sym tree) (used_gives (work_state g.S.CellStore.state c.args.work.now)
+    (work_state g.S.CellStore.state c.nothing.new.work) c.in-Name.text c.in-Name.column c.nothing.result c.nothing.ensures)
 
 pub evaluate-returns-in-Number : goal.evaluate-returns-in-Number
 evaluate-returns-in-Number g t c =
@@ -188,12 +157,6 @@ evaluate_all-evaluate-requires g t c =
     let s = size_of_item c.as_slice-expr-items.result.now
     (trees_in c.args.exprs.now) c.loop-expr.expr-index c.expr-item.result c.as_slice-expr-items.ensures
     c.expr-item.is c.loop-expr-test.true in
-    let b = none_in-all c.as_slice-expr-items.result.now
-    (trees_in c.args.exprs.now) c.loop-expr.expr-index c.expr-item.result c.as_slice-expr-items.ensures
-    c.loop-expr-test.true c.expr-item.is c.requires.boards in
-    let k = closed_in-all c.as_slice-expr-items.result.now
-    (trees_in c.args.exprs.now) c.loop-expr.expr-index c.expr-item.result c.as_slice-expr-items.ensures
-    c.loop-expr-test.true c.expr-item.is c.requires.closed in
     search rules
 
 pub evaluate_all-loop-expr-init : goal.evaluate_all-loop-expr-init
@@ -360,10 +323,6 @@ total-signed-requires g t c =
     c.in-Some.ensures.cases.0 in
     let s = first_size (terms_in c.args.terms.now) c.in-Some.first.now.minus (tree_of c.in-Some.first.now.expr)
     (terms_of c.in-Some.others.now) split in
-    let b = first_board (terms_in c.args.terms.now) c.in-Some.first.now.minus (tree_of c.in-Some.first.now.expr)
-    (terms_of c.in-Some.others.now) split c.requires.boards in
-    let n = closed_first (terms_in c.args.terms.now) c.in-Some.first.now.minus (tree_of c.in-Some.first.now.expr)
-    (terms_of c.in-Some.others.now) split c.requires.closed in
     search rules
 
 pub total-further-requires : goal.total-further-requires
@@ -373,10 +332,6 @@ total-further-requires g t c =
     c.in-Some.ensures.cases.0 in
     let s = first_size (terms_in c.args.terms.now) c.in-Some.first.now.minus (tree_of c.in-Some.first.now.expr)
     (terms_of c.in-Some.others.now) split in
-    let b = first_board (terms_in c.args.terms.now) c.in-Some.first.now.minus (tree_of c.in-Some.first.now.expr)
-    (terms_of c.in-Some.others.now) split c.requires.boards in
-    let n = closed_first (terms_in c.args.terms.now) c.in-Some.first.now.minus (tree_of c.in-Some.first.now.expr)
-    (terms_of c.in-Some.others.now) split c.requires.closed in
     let k = stands_is_game (work_state g.S.CellStore.state c.signed.new.work) c.in_ok-start-in-Some.start (can
     (signed c.in-Some.first.now.minus (meaning
     (tree_of c.in-Some.first.now.expr)))) c.in_ok-start-in-Some.ensures.0 in
@@ -398,11 +353,9 @@ total-returns-in_err-start-in-Some g t c =
 pub total-returns-in-None : goal.total-returns-in-None
 total-returns-in-None g t c =
     no_terms_give (work_state g.S.CellStore.state c.args.work.now)
-    (work_state g.S.CellStore.state c.number_item.new.work)
-    (terms_in c.args.terms.now) c.zero.result c.number_item.result (sym c.as_slice.ensures ∙ ap (λ
-    (z : List Term). terms_of z) (nil_from_length c.as_slice.result.now c.in-None.ensures.cases)) c.zero.ensures
-    c.number_item.ensures.game c.number_item.ensures.charged c.number_item.ensures.refused c.number_item.ensures.more
-    c.number_item.ensures.keeps
+    (work_state g.S.CellStore.state c.nothing.new.work)
+    (terms_in c.args.terms.now) c.nothing.result (sym c.as_slice.ensures ∙ ap (λ
+    (z : List Term). terms_of z) (nil_from_length c.as_slice.result.now c.in-None.ensures.cases)) c.nothing.ensures
 
 pub total-returns-in_ok-start-in-Some : goal.total-returns-in_ok-start-in-Some
 total-returns-in_ok-start-in-Some g t c =
@@ -425,17 +378,12 @@ further-added-requires g t c =
     c.term-item.is c.loop-term-test.true in
     let e : size (tree_of c.term-item.result.expr) ≡ size (term_of c.term-item.result).1 = ap (λ (p : Bool
     × Tree). size p.1) (sym (term_tree c.term-item.result.minus c.term-item.result.expr)) in
-    let b = sym (fault_of_term c.term-item.result) ∙ none_in-terms c.args.terms.now
-    (terms_of c.args.terms.now) c.loop-term.term-index c.term-item.result refl c.loop-term-test.true
-    c.term-item.is c.requires.boards in
-    let n = closed_in-terms c.args.terms.now c.loop-term.term-index c.term-item.result c.loop-term-test.true
-    c.term-item.is c.requires.closed in
     let k = c.loop-term.invariant.known in
     search rules
 
 pub further-loop-term-init : goal.further-loop-term-init
 further-loop-term-init g t c =
-    added-none (work_state g.S.CellStore.state c.args.work.now) c.args.start c.requires.game
+    added-none (work_state g.S.CellStore.state c.args.work.now) c.args.start c.requires
 
 pub further-loop-term-preserved : goal.further-loop-term-preserved
 further-loop-term-preserved g t c =
@@ -521,7 +469,7 @@ added-sum-requires g t c =
     let e = c.in_ok-value.ensures in
     record {
       a = is_game_later (work_state g.S.CellStore.state c.args.work.now)
-          (work_state g.S.CellStore.state c.signed.new.work) e.1.keeps.known c.args.so_far c.requires.game;
+          (work_state g.S.CellStore.state c.signed.new.work) e.1.keeps.known c.args.so_far c.requires;
       b = stands_is_game (work_state g.S.CellStore.state c.signed.new.work) c.in_ok-value.value (can
           (signed c.args.subtracted (meaning (tree_of c.args.expr.now)))) e.0;
     }
@@ -549,5 +497,5 @@ added-returns g t c =
     sum_gives (work_state g.S.CellStore.state c.args.work.now) (work_state g.S.CellStore.state c.signed.new.work)
     (work_state g.S.CellStore.state c.sum.new.work) (signed c.args.subtracted (meaning
     (tree_of c.args.expr.now))) (term_part (work_state g.S.CellStore.state c.args.work.now).rest.limit
-    c.args.subtracted (tree_of c.args.expr.now)) c.args.so_far c.in_ok-value.value c.sum.result c.requires.game
+    c.args.subtracted (tree_of c.args.expr.now)) c.args.so_far c.in_ok-value.value c.sum.result c.requires
     c.in_ok-value.ensures step

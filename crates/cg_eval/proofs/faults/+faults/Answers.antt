@@ -4,7 +4,8 @@ use Rattle.cg_query.specs.Trees.{tree_of, trees_in, term_of, terms_in}
 use Rattle.cg_query.specs.Tree.{Tree, trees_from}
 use Rattle.cg_query.specs.declared.expr.Expr.{Expr}
 use Rattle.cg_query.specs.declared.expr.Expr.TheVariants as expr
-use Rattle.cg_query.proofs.TreeOf.{number_tree, ups_tree_of, nimber_tree, switch_tree, tiny_tree, negative_tree, multiple_tree, sum_tree, game_tree, octal_tree, term_tree, used_tree}
+use Rattle.cg_query.proofs.TreeOf.{number_tree, ups_tree_of, nimber_tree, switch_tree, tiny_tree, negative_tree, multiple_tree, sum_tree, game_tree}
+use Rattle.cg_query.proofs.TreeOf.{octal_tree, term_tree, used_tree}
 use Rattle.cg_eval.specs.Faults.{fault_in, fault_in_all, first_of_two}
 use Rattle.cg_eval.proofs.FaultParts.{all-one_more, fault_of_braces, fault_of_tree, terms-one_more}
 use Rattle.cg_query.proofs.Walk.{size, size_of_braces, size_of_negative, size_of_multiple, size_of_sum, size_of_item, size_of_term}

@@ -5,7 +5,7 @@ use Rattle.cg_octal.specs.declared.fault.OctalFault.{OctalFault}
 use Rattle.cg_octal.specs.declared.fault.OctalFault.TheVariants.{Code, Heap}
 use Rattle.cg_eval.specs.Octals.{heap_form, heap_items}
 use Rattle.cg_eval.specs.Progress.{Gives}
-use Rattle.cg_eval.proofs.OctalReadings.{heap-read, no-heap-refused}
+use Rattle.cg_eval.proofs.OctalReadings.{heap-read, heap-refused}
 use Rattle.cg_eval.proofs.heaps.heap_value.Goals as goal
 
 pub returns-in-Ok : goal.returns-in-Ok
@@ -18,17 +18,27 @@ returns-in-Ok g c =
     subst P (sym (heap-read c.args.code.now c.args.tokens c.in-Ok.octal
     (subst R c.as_slice.ensures c.in-Ok.ensures.read))) c.value_of_heap.ensures
 
-pub unreachable-requires : goal.unreachable-requires
-unreachable-requires g c =
-    let R : List ℕ → Type 0 = λ z. IsRead z c.args.tokens (Err (Code c.in-Err-Code._place)) in
-    let is : IsRead c.as_slice.result.now c.args.tokens (Err (Code c.in-Err-Code._place)) =
+pub returns-in-Err-Code : goal.returns-in-Err-Code
+returns-in-Err-Code g c =
+    let s = work_state g.S.CellStore.state c.args.work.now in
+    let t = work_state g.S.CellStore.state c.nothing.new.work in
+    let fault : OctalFault = Code c.in-Err-Code._place in
+    let R : List ℕ → Type 0 = λ z. IsRead z c.args.tokens (Err fault) in
+    let is : IsRead c.as_slice.result.now c.args.tokens (Err fault) =
     rw c.in-Err-Code.field-0-is at c.in-Err-Code.ensures.read in
-    no-heap-refused c.args.code.now c.args.tokens (Code c.in-Err-Code._place) (subst R c.as_slice.ensures is) (λ e. cc)
-    c.requires
+    let P : Result OctalHeap OctalFault → Type 0 = λ o.
+    Gives s t (heap_items s.rest.limit o) (heap_form o) c.nothing.result in
+    subst P (sym (heap-refused c.args.code.now c.args.tokens fault (subst R c.as_slice.ensures is) (λ e. cc)))
+    c.nothing.ensures
 
-pub unreachable-requires-in-Err-Heap : goal.unreachable-requires-in-Err-Heap
-unreachable-requires-in-Err-Heap g c =
+pub returns-in-Err-Heap : goal.returns-in-Err-Heap
+returns-in-Err-Heap g c =
+    let s = work_state g.S.CellStore.state c.args.work.now in
+    let t = work_state g.S.CellStore.state c.nothing-in-Err-Heap.new.work in
     let R : List ℕ → Type 0 = λ z. IsRead z c.args.tokens (Err Heap) in
     let is : IsRead c.as_slice.result.now c.args.tokens (Err Heap) =
     rw c.in-Err-Heap.field-0-is at c.in-Err-Heap.ensures.read in
-    no-heap-refused c.args.code.now c.args.tokens Heap (subst R c.as_slice.ensures is) (λ e. cc) c.requires
+    let P : Result OctalHeap OctalFault → Type 0 = λ o.
+    Gives s t (heap_items s.rest.limit o) (heap_form o) c.nothing-in-Err-Heap.result in
+    subst P (sym (heap-refused c.args.code.now c.args.tokens Heap (subst R c.as_slice.ensures is) (λ e. cc)))
+    c.nothing-in-Err-Heap.ensures

@@ -4,6 +4,6 @@ use Rattle.cg_eval.proofs.LastItems.{last_item}
 use Rattle.cg_eval.proofs.laws.l8.Goals as goal
 
 pub returns : goal.returns
-returns c share limit spent t b p =
-    let e = last_item limit t b (are_made-passed share 0 spent (items limit t) p) in
+returns c share limit spent t p =
+    let e = last_item limit t (are_made-passed share 0 spent (items limit t) p) in
     (e.front, e.extra, e.split)

@@ -19,15 +19,6 @@ unreachable-requires-in-Ok-Comment g c =
     let is : IsComment c.args.line.now = rw c.in-Ok-Comment.field-0-is at c.in-Ok-Comment.ensures.read in
     c.requires.not_comment is
 
-pub answer_query-requires : goal.answer_query-requires
-answer_query-requires g c =
-    let reads : Reads c.args.line.now (question_of c.in-Ok-Ask.query) = rw c.in-Ok-Ask.field-0-is at
-    c.in-Ok-Ask.ensures.read in
-    record {
-      closed = c.no_names.ensures c.args.line.now (question_of c.in-Ok-Ask.query) reads;
-      spare = c.requires.spare;
-    }
-
 pub returns-in-Ok-Ask-clause-reply : goal.returns-in-Ok-Ask-clause-reply
 returns-in-Ok-Ask-clause-reply g c =
     let q = question_of c.in-Ok-Ask.query in

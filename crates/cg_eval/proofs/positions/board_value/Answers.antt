@@ -4,7 +4,7 @@ use Rattle.cg_eval.specs.Boards.{Position, position_form, position_items, positi
 use Rattle.cg_eval.specs.Parts.{set_up}
 use Rattle.cg_eval.specs.Progress.{Gives}
 use Rattle.cg_eval.proofs.BoardEnds.{sound-at}
-use Rattle.cg_eval.proofs.BoardReads.{no-faulty}
+use Rattle.cg_eval.proofs.BoardReads.{is-faulty}
 use Rattle.cg_eval.proofs.positions.board_value.Goals as goal
 
 pub value_in-requires : goal.value_in-requires
@@ -18,7 +18,10 @@ returns-in-Ok g c =
     let P : Position → Type 0 = λ q. Gives s t (position_items s.rest.limit q) (position_form q) c.value_in.result in
     subst P (sym c.in-Ok.ensures.read) c.value_in.ensures
 
-pub unreachable-requires : goal.unreachable-requires
-unreachable-requires g c =
-    no-faulty (position_of c.args.kind c.args.rules.now c.args.board.now) c.in-Err.fault c.in-Err.ensures.refused
-    (sym c.if-is_memory.ensures) c.requires
+pub returns-else-is_memory : goal.returns-else-is_memory
+returns-else-is_memory g c =
+    let s = work_state g.S.CellStore.state c.args.work.now in
+    let t = work_state g.S.CellStore.state c.nothing.new.work in
+    let P : Position → Type 0 = λ q. Gives s t (position_items s.rest.limit q) (position_form q) c.nothing.result in
+    subst P (sym (is-faulty (position_of c.args.kind c.args.rules.now c.args.board.now) c.in-Err.fault
+    c.in-Err.ensures.refused (sym c.if-is_memory.ensures))) c.nothing.ensures

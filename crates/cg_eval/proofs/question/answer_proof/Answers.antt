@@ -4,7 +4,7 @@ use Rattle.cg_canon.specs.Works.{work_state}
 use Rattle.cg_canon.specs.declared.fault.ValueFault.TheVariants.{Memory}
 use Rattle.cg_query.specs.Tree.{proof}
 use Rattle.cg_query.specs.Trees.{tree_of}
-use Rattle.cg_eval.specs.Reply.{IsProved}
+use Rattle.cg_eval.specs.Reply.{IsProofTold}
 use Rattle.cg_eval.proofs.Told.{two-answered, two-halted, two-memory}
 use Rattle.cg_eval.proofs.Replies.{answers-stop}
 use Rattle.cg_eval.proofs.question.answer_proof.Goals as goal
@@ -36,5 +36,5 @@ returns g c =
     let u = work_state g.S.CellStore.state c.tell_proof.new.work in
     let a = tree_of c.args.first.now in
     let b = tree_of c.args.second.now in
-    two-answered s t u (proof a b) a b c.in_ok-values.values c.in_ok-values.ensures c.tell_proof.ensures.spends refl c.in_ok-told.told IsProved
+    two-answered s t u (proof a b) a b c.in_ok-values.values c.in_ok-values.ensures c.tell_proof.ensures.spends refl c.in_ok-told.told IsProofTold
     c.in_ok-told.ensures.told refl (λ h. h)

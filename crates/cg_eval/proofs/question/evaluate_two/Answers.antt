@@ -1,22 +1,8 @@
 use Rattle.std.proofs.lemmas.Result.{err_from_is_err_and}
 use Rattle.cg_canon.specs.Works.{work_state}
 use Rattle.cg_query.specs.Trees.{tree_of}
-use Rattle.cg_eval.specs.Faults.{fault_in}
-use Rattle.cg_eval.proofs.FaultParts.{neither}
 use Rattle.cg_eval.proofs.Replies.{both_made, first_stopped, second_stopped, two-stop}
 use Rattle.cg_eval.proofs.question.evaluate_two.Goals as goal
-
-pub evaluate-requires : goal.evaluate-requires
-evaluate-requires g c = record {
-  closed = c.requires.closed.0;
-  boards = (neither (fault_in (tree_of c.args.first.now)) (fault_in (tree_of c.args.second.now)) c.requires.boards).0;
-}
-
-pub evaluate-requires-2 : goal.evaluate-requires-2
-evaluate-requires-2 g c = record {
-  closed = c.requires.closed.1;
-  boards = (neither (fault_in (tree_of c.args.first.now)) (fault_in (tree_of c.args.second.now)) c.requires.boards).1;
-}
 
 pub returns-in_err-left : goal.returns-in_err-left
 returns-in_err-left g c =

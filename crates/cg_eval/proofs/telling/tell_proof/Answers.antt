@@ -4,7 +4,7 @@ use Rattle.cg_nodes.specs.Games.{game_at}
 use Rattle.cg_cert.specs.Answer.{IsLong}
 use Rattle.cg_eval.specs.Parts.{TellsTwo}
 use Rattle.cg_eval.specs.Refused.{IsRefusedBy}
-use Rattle.cg_eval.specs.Reply.{IsProved, too_long}
+use Rattle.cg_eval.specs.Reply.{IsProofTold, too_long}
 use Rattle.cg_eval.proofs.Replies.{if_ok_map}
 use Rattle.cg_eval.proofs.Told.{told-proof, told-too_long}
 use Rattle.cg_eval.proofs.telling.tell_proof.Goals as goal
@@ -21,5 +21,5 @@ returns-in-Err-Long-clause-told g c =
     let a = game_at s c.args.a in
     let b = game_at s c.args.b in
     let long : IsLong a b = rw c.in-Err-Long.field-0-is at c.in-Err-Long.ensures.proved in
-    if_ok_map (IsRefusedBy too_long) (TellsTwo c.args.a (IsProved a b)) c.refuse.result
+    if_ok_map (IsRefusedBy too_long) (TellsTwo c.args.a (IsProofTold a b)) c.refuse.result
     (λ z h. told-too_long a b c.args.a z long h) c.refuse.ensures

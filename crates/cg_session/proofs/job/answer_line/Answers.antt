@@ -3,20 +3,16 @@ use Rattle.cg_syntax.specs.Session.{Asked_of, Syntax_at, Too_large, Unknown_at}
 use Rattle.cg_syntax.specs.SessionViews.{resolved_of}
 use Rattle.cg_query.specs.Trees.{question_of}
 use Rattle.cg_syntax.specs.declared.session.Asked.{Asked}
-use Rattle.cg_session.specs.Outputs.{is_closed}
-use Rattle.cg_session.proofs.Knowing.{asked_reply, closed_is, parts_reply, reply_as, syntax_reply, unknown_reply}
+use Rattle.cg_session.proofs.Knowing.{asked_reply, parts_reply, reply_as, syntax_reply, unknown_reply}
 use Rattle.cg_session.proofs.job.answer_line.Goals as goal
-
-pub answer_query_held-requires-clause-closed : goal.answer_query_held-requires-clause-closed
-answer_query_held-requires-clause-closed g c = closed_is (question_of c.in-Query.query)
-    (ap (λ (x : Asked). is_closed (resolved_of x)) (sym c.in-Query.is) ∙ c.requires.closed)
 
 pub returns-in-Query-clause-reply : goal.returns-in-Query-clause-reply
 returns-in-Query-clause-reply g c =
     let q = question_of c.in-Query.query in
     reply_as c.args.share c.args.positions (Asked_of q) (resolved_of c.args.asked.now) c.answer_query_held.result
     (ap (λ (x : Asked). resolved_of x) c.in-Query.is)
-    (asked_reply c.args.share c.args.positions (g.S.CellStore.state c.answer_query_held.new.store) q c.answer_query_held.result c.answer_query_held.ensures.reply)
+    (asked_reply c.args.share c.args.positions (g.S.CellStore.state c.answer_query_held.new.store) q c.answer_query_held.result
+    c.answer_query_held.ensures.reply)
 
 pub returns-in-Syntax-clause-reply : goal.returns-in-Syntax-clause-reply
 returns-in-Syntax-clause-reply g c =

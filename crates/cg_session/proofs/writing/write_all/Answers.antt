@@ -9,7 +9,8 @@ on_err (Err e) P h = h
 
 moves_front : (all done rest : List ℕ) (n : ℕ) → all ≡ done ++ rest → all ≡ (done ++ take n rest) ++ take (length rest - n) (drop n rest)
 moves_front all done rest n e =
-    e ∙ ap (λ l. done ++ l) (sym (take-append-drop n rest)) ∙ sym (append_assoc done (take n rest) (drop n rest)) ∙ ap (λ l. (done ++ take n rest) ++ l) (sym (take_rest rest n))
+    e ∙ ap (λ l. done ++ l) (sym (take-append-drop n rest)) ∙ sym (append_assoc done (take n rest) (drop n rest)) ∙ ap (λ l. (done ++ take n rest) ++
+    l) (sym (take_rest rest n))
 
 pub loop-rest-preserved : goal.loop-rest-preserved
 loop-rest-preserved g c =
@@ -24,4 +25,11 @@ loop-rest-preserved g c =
 pub returns-in_err-count-clause-front : goal.returns-in_err-count-clause-front
 returns-in_err-count-clause-front g c =
     let (done, split, appended) = c.loop-rest.invariant.written in
-    on_err c.from_residual.result _ (record { front = done; rest = c.loop-rest.rest.now; split = split; some_left = search rules; appended = Appends-kept _ _ _ _ appended c.in_err-count.ensures.bytes })
+    on_err c.from_residual.result _ (record {
+      front = done;
+      rest = c.loop-rest.rest.now;
+      split = split;
+      some_left = search rules;
+      appended =
+          Appends-kept _ _ _ _ appended c.in_err-count.ensures.bytes;
+    })

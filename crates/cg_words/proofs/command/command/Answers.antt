@@ -26,7 +26,8 @@ returns-clause-options c =
     let args : args_of c.no_binary_name.result ≡ [] = ap (λ (f : Command-F Command). f.args.items) same ∙ c.new.ensures.empty.0 in
     let groups : groups_of c.no_binary_name.result ≡ [] = ap (λ (f : Command-F Command). f.groups.items) same ∙ c.new.ensures.empty.1 in
     let globals : (fields_of c.no_binary_name.result).has_globals ≡ false = ap (λ (f : Command-F Command). f.has_globals) same ∙ c.new.ensures.local in
-    let negates : (fields_of c.no_binary_name.result).subcommand_negates_reqs ≡ false = ap (λ (f : Command-F Command). f.subcommand_negates_reqs) same ∙ c.new.ensures.negates in
+    let negates : (fields_of c.no_binary_name.result).subcommand_negates_reqs ≡ false = ap (λ (f : Command-F Command). f.subcommand_negates_reqs)
+    same ∙ c.new.ensures.negates in
     IfOk-weaker c.arg-4.result _ _ (λ m h. has_options _ _ _ _ m _ _ _ _ args groups globals negates
     c.number_option_or-workers.ensures.option c.number_option_or-cells.ensures.option
     c.number_option_or-positions.ensures.option c.number_option-sample.ensures.option

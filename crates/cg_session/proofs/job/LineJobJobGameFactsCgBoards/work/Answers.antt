@@ -4,11 +4,6 @@ use Rattle.cg_syntax.specs.SessionViews.{line_of}
 use Rattle.cg_session.proofs.Knowing.{value_at, good_line, held_on, held_under}
 use Rattle.cg_session.proofs.job.LineJobJobGameFactsCgBoards.work.Goals as goal
 
-pub answer_line-requires-clause-closed : goal.answer_line-requires-clause-closed
-answer_line-requires-clause-closed c =
-    let lines = c.args.self.now.lines.now in
-    c.args.self.now.closed c.args.index _ (value_at line_of lines c.args.index c.index-self-index.result c.requires.index)
-
 pub answer_line-requires-clause-held : goal.answer_line-requires-clause-held
 answer_line-requires-clause-held c = held_on (pass_state c.args.desk.now) c.args.held.now c.requires.held
 

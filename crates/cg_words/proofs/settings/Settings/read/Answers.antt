@@ -28,5 +28,6 @@ returns-clause-range c = range_of _ c.in-Ok-try_get_matches_from.matches c.in-Ok
 pub returns-in-Err-try_get_matches_from-clause-refused : goal.returns-in-Err-try_get_matches_from-clause-refused
 returns-in-Err-try_get_matches_from-clause-refused c = λ usage taken. elim c.match-kind.branch [
   | in-OutOfMemory w ↦ let bad : Memory ≡ Usage = sym w.result-is ∙ usage in cc
-  | in_default w ↦ refused_words _ c.in-Err-try_get_matches_from.error c.kind.result _ c.in-Ok.ensures.shape c.kind.ensures c.in-Err-try_get_matches_from.ensures.kinds w.in_default.not-OutOfMemory taken
+  | in_default w ↦ refused_words _ c.in-Err-try_get_matches_from.error c.kind.result _ c.in-Ok.ensures.shape c.kind.ensures
+      c.in-Err-try_get_matches_from.ensures.kinds w.in_default.not-OutOfMemory taken
 ]
