@@ -1,5 +1,5 @@
 //! What was spent of a share.
-ghost use Rattle.std.specs.Prelude.{◌≡◌, ◌+◌, ◌≤◌, ◌^◌, IfOk, IfErr, OnOk, OnErr, [], ◌∷◌};
+ghost use Rattle.std.specs.Prelude.{◌≡◌, ◌+◌, ◌<◌, ◌≤◌, ◌^◌, IfOk, IfErr, OnOk, OnErr, [], ◌∷◌};
 ghost use Rattle.cg_form.specs.Game.{Game};
 ghost use Rattle.cg_canon.specs.Items.{AllPass, WasRefused, made};
 ghost use Rattle.cg_book.specs.Profiles.{IsProfile};

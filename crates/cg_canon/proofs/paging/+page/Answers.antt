@@ -5,7 +5,7 @@ use Rattle.cg_canon.proofs.Booking.{known_page}
 use Rattle.cg_canon.proofs.Turning.{has_options, paged_more, paged_none}
 use Rattle.cg_canon.proofs.paging.+page.Goals as goal
 
-pub new_page-profile_of_lists-profile-requires-clause-no_number : goal.new_page-profile_of_lists-requires-clause-no_number
+pub new_page-profile_of_lists-profile-requires-clause-no_number : goal.new_page-profile_of_lists-profile-requires-clause-no_number
 new_page-profile_of_lists-profile-requires-clause-no_number g t c =
     let W = g.S.CellStore.state in
     (has_options (W c.args.store.now) (W c.read.new.store) (W c.pages_of_list.new.store) (W c.pages_of_list-in-Game.new.store) c.args.handle

@@ -29,8 +29,8 @@ returns-in-Search-clause-value g c =
     let P : Game → Type 0 = λ z. IsCanonicalForm z (can whole) in
     c.settle.ensures.settled (can whole) (subst P (sym same) (can-is whole))
 
-pub profile_of_lists-requires-clause-no_number : goal.profile_of_lists-requires-clause-no_number
-profile_of_lists-requires-clause-no_number g c =
+pub profile_of_lists-profile-requires-clause-no_number : goal.profile_of_lists-profile-requires-clause-no_number
+profile_of_lists-profile-requires-clause-no_number g c =
     let s = g.S.CellStore.state c.args.store.now in
     let gs = c.put_both.new.book.pages in
     let P : Way → Type 0 = λ z. IsWay z (games_at s c.args.lefts.now) (games_at s c.args.rights.now) in
@@ -43,8 +43,8 @@ returns-in-AsGiven-clause-value g c =
     let s = g.S.CellStore.state c.args.store.now in
     let gs = c.put_both.new.book.pages in
     let P : Way → Type 0 = λ z. IsWay z (games_at s c.args.lefts.now) (games_at s c.args.rights.now) in
-    let L : List ℕ → Type 0 = λ z. IsProfile (node (games_of gs z) (games_of gs c.as_slice-rights.result.now)) c.profile_of_lists.result in
-    let R : List ℕ → Type 0 = λ z. IsProfile (node (games_of gs c.put_both.new.form.lefts.items) (games_of gs z)) c.profile_of_lists.result in
-    given_form gs (games_at s c.args.lefts.now) (games_at s c.args.rights.now) (record { form = c.put_both.new.form; profile = c.profile_of_lists.result })
+    let L : List ℕ → Type 0 = λ z. IsProfile (node (games_of gs z) (games_of gs c.as_slice-rights.result.now)) c.profile_of_lists-profile.result in
+    let R : List ℕ → Type 0 = λ z. IsProfile (node (games_of gs c.put_both.new.form.lefts.items) (games_of gs z)) c.profile_of_lists-profile.result in
+    given_form gs (games_at s c.args.lefts.now) (games_at s c.args.rights.now) (record { form = c.put_both.new.form; profile = c.profile_of_lists-profile.result })
     (subst P c.in-AsGiven.is c.requires.way) c.in_ok-put_both.ensures.lefts c.in_ok-put_both.ensures.rights
-    (subst R c.as_slice-rights.ensures (subst L c.as_slice-lefts.ensures c.profile_of_lists.ensures))
+    (subst R c.as_slice-rights.ensures (subst L c.as_slice-lefts.ensures c.profile_of_lists-profile.ensures))
