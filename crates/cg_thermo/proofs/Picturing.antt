@@ -201,9 +201,7 @@ enough_by g c mean temp (inl w) k t more =
     let r = exp-ratio (negsuc 0) (exp_of w.0) in
     elim more [ inl i ↦ omega arith | inr i ↦ omega arith ]
 enough_by g c mean temp (inr never) k t more =
-    let s = seen-own places g c.end k.smooth (k.draws.mast number-decide) in
-    let i = thermal-none places g c.end (ratio (scaffold_of number-decide places g c.end).left places)
-    (ratio (pos c.end) places) (left_corners number-decide places g c.end) (right_corners number-decide places g c.end) never s in
+    let i = thermal-none places g c.end never k.smooth ((k.draws.mast number-decide).other never) in
     let (u, v) = temperature-there number-decide (height g) g (scaffolds_agree number-decide (height g) g never (omega arith)) in
     let x = t.other never number-decide (height g) u (omega arith) v in
     let y = i.other never number-decide (height g) u (omega arith) v in
