@@ -4,6 +4,7 @@ pub mod PlaceLemmas
 pub mod FormLemmas
 pub mod SumUp
 pub mod LastPiece
+pub mod Opening
 pub mod HandleSteps
 pub mod PartLemmas
 pub mod ItemSteps
