@@ -4,8 +4,8 @@ use Rattle.cg_session.specs.Settings.{IsWithinLimits, session_text}
 use Rattle.cg_session.proofs.Endings.{on_text}
 use Rattle.cg_session.proofs.session.serve.Goals as goal
 
-pub returns-then-is_within_limits-clause-written : goal.returns-then-is_within_limits-clause-written
-returns-then-is_within_limits-clause-written g c =
+pub returns-then-not-is_within_limits-clause-written : goal.returns-then-not-is_within_limits-clause-written
+returns-then-not-is_within_limits-clause-written g c =
     let s = c.args.settings in
     let past : ¬ IsWithinLimits s c.in-Ok.text.items = search rules in
     record {
