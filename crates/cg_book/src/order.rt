@@ -42,6 +42,7 @@ pub(crate) fn none_as_good(
 
 /// Whether a <= b, from their options.
 #[cycle(found)]
+#[inline(always)]
 fn compared(pages: &Pages, answers: &mut Recent, a: u32, b: u32) -> Result<bool, AllocError>
     requires a { IsPage pages.now a }
     requires b { IsPage pages.now b }

@@ -114,6 +114,14 @@ impl Exprs {
     {
         &self.items
     }
+
+    /// The expressions in a vector, in order.
+    pub fn into_vec(self) -> Vec<Expr>
+        ensures { trees_of result.items ≡ trees_in self }
+    {
+        let Exprs { items } = self;
+        items
+    }
 }
 
 #[tactic(auto, using(crate::proofs::TreeOf::terms_terms, crate::proofs::TreeOf::terms_made, crate::proofs::TreeOf::terms_length))]
@@ -144,5 +152,13 @@ impl Terms {
         ensures { terms_of result.now ≡ terms_in self.now }
     {
         &self.terms
+    }
+
+    /// The terms in a vector, in order.
+    pub fn into_vec(self) -> Vec<Term>
+        ensures { terms_of result.items ≡ terms_in self }
+    {
+        let Terms { terms } = self;
+        terms
     }
 }

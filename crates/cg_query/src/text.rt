@@ -45,4 +45,12 @@ impl Text {
     {
         &self.bytes
     }
+
+    /// The bytes in a vector, in order.
+    pub fn into_vec(self) -> Vec<u8>
+        ensures { result.items ≡ self }
+    {
+        let Text { bytes } = self;
+        bytes
+    }
 }
