@@ -3,16 +3,15 @@
 use Rattle.std.specs.Prelude.{ℕ, zero, suc, Bool, true, false, List, [], ◌∷◌, length, codes}
 use Rattle.cg_reading.specs.Pieces.{Piece, Then, Or, Many, Made, Nothing, One, Bytes, Word, Longest, Telling}
 use Rattle.cg_reading.specs.Tokens.{only, blanks, gap, with_blanks, digits}
-use Rattle.cg_query.specs.Tree.{Tree, Question, tiny, value, compare, outcome, stops, mean, temp, thermo, proof}
+use Rattle.cg_reading.specs.Words.{Among}
+use Rattle.cg_query.specs.Tree.{Tree, Question, tiny, octal, value, compare, outcome, stops, mean, temp, thermo, proof}
 use Rattle.cg_grammar.specs.Found.{Found, Asked, Stated}
 use Rattle.cg_grammar.specs.Values.{Arrows, Last, counted_of, with_tail, clean, negated, sum_of, one_text, two_texts, asked_of, asked_of_both, checked, asking as asking_line, defined}
 use Rattle.cg_grammar.specs.Grammar.{number, string, nim, enclosed, switch_piece, string_and, optional, tail, ups_and_nim, primary, special_tail, Some_rows}
 use Rattle.cg_grammar.specs.Grammar as g
-use Rattle.cg_grammar.specs.Reading.{Behind, Over, Times, counted_from, behind_goes_on, Kind, Of_one, Of_two, Of_check, Of_name, kind_of}
+use Rattle.cg_grammar.specs.Reading.{Named, Of_tiny, Of_one_text, Of_two_texts, Of_octal, named_words, Behind, Over, Times, counted_from, behind_goes_on, Kind, Of_one, Of_two, Of_check, Of_name, kind_of}
 use Rattle.cg_query.specs.declared.format.Format.{Format}
 use Rattle.cg_query.specs.declared.format.Format.TheVariants as formats
-use Rattle.cg_query.specs.declared.kind.GameKind.{GameKind}
-use Rattle.cg_query.specs.declared.kind.GameKind.TheVariants.{Domineering, Clobber, Amazons, Toads, Strip, Hackenbush, Col, Snort}
 
 -- what follows the first arrow: a count, or more arrows
 abbrev pub count : ℕ → Piece (ℕ × Bool)
@@ -29,32 +28,18 @@ this_word word = Word word (tt {0})
 
 -- ---- switches, tiny, boards and octal games
 
-abbrev pub tiny_of : List ℕ → Bool → Piece Found
-tiny_of word miny = Made (λ v. clean (tiny miny v.1.0 v.1.1)) (Then (this_word word) (enclosed number))
+-- what stands behind the word of an operand
+abbrev pub behind_named : Named → Piece Found
+behind_named (Of_tiny miny) = Made (λ v. clean (tiny miny v.0 v.1)) (enclosed number)
+behind_named (Of_one_text kind) = Made (λ v. clean (one_text kind v.1)) (Then blanks (enclosed string))
+behind_named (Of_two_texts kind) = Made (λ v. clean (two_texts kind v.1.0 v.1.1)) (Then blanks (enclosed (string_and string)))
+behind_named Of_octal = Made (λ v. clean (octal v.1.0 v.1.1)) (Then blanks (enclosed (string_and digits)))
 
--- a board by its one text, or by its two
-abbrev pub one_of : List ℕ → GameKind → Piece Found
-one_of word kind = Made (λ v. clean (one_text kind v.1.1)) (Then (this_word word) (Then blanks (enclosed string)))
-
-abbrev pub two_of : List ℕ → GameKind → Piece Found
-two_of word kind = Made (λ v. clean (two_texts kind v.1.1.0 v.1.1.1)) (Then (this_word word) (Then blanks (enclosed (string_and string))))
-
-abbrev pub tiny_or_toads : Piece Found
-tiny_or_toads = Made (λ v. v.1) (Then (One (only 84)) (Or (tiny_of (codes "iny") false) (one_of (codes "oads") Toads)))
-
-abbrev pub clobber_or_col : Piece Found
-clobber_or_col = Made (λ v. v.1) (Then (One (only 67)) (Or (one_of (codes "lobber") Clobber) (two_of (codes "ol") Col)))
-
-abbrev pub strip_or_snort : Piece Found
-strip_or_snort = Made (λ v. v.1) (Then (One (only 83)) (Or (two_of (codes "trip") Strip) (two_of (codes "nort") Snort)))
-
-abbrev pub named_board : Piece Found
-named_board =
-    Or (one_of (codes "Domineering") Domineering) (Or (one_of (codes "Hackenbush") Hackenbush) (Or (one_of (codes "Amazons") Amazons)
-    (Or clobber_or_col strip_or_snort)))
+abbrev pub named : Piece Found
+named = Telling (Among named_words) behind_named
 
 abbrev pub plain_special : Piece Found
-plain_special = Or switch_piece (Or (tiny_of (codes "Miny") true) (Or tiny_or_toads (Or g.octal_piece named_board)))
+plain_special = Or switch_piece named
 
 -- ---- terms and sums, over what a special may be
 

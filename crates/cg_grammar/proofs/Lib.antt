@@ -16,6 +16,7 @@ pub mod SameStatements
 pub mod Whole
 pub mod WholeTwo
 pub mod LongestRun
+pub mod RepeatedRuns
 pub mod WrittenTokens
 pub mod WrittenTerms
 pub mod WrittenSpecials

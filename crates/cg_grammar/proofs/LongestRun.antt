@@ -21,14 +21,14 @@ le_split a b h = tells (ltb a b) refl
     tells true e = inl (ltb-true a b e)
     tells false e = inr (omega (arith, ltb-false a b e))
 
-or_true : (a : Bool) → (a || true) ≡ true
+pub or_true : (a : Bool) → (a || true) ≡ true
 or_true true = refl
 or_true false = refl
 
 -- ---- runs that repeat none
 
 -- no run of these rows repeats an earlier one, behind runs of these lengths
-abbrev Fresh : List ℕ → List Run_side → Type 0
+abbrev pub Fresh : List ℕ → List Run_side → Type 0
 Fresh earlier [] = Unit {0}
 Fresh earlier (r ∷ rows) = (repeats r.bars false earlier ≡ false) × Fresh (earlier ++ r.bars ∷ []) rows
 
@@ -49,7 +49,7 @@ fresh_from earlier (r ∷ rows) h =
     let p = none_first (repeats r.bars false earlier) r.column (side_fault r.side) (runs_fault (earlier ++ r.bars ∷ []) rows) h in
     (p.0, fresh_from (earlier ++ r.bars ∷ []) rows p.1)
 
-repeats-append : (n : ℕ) (seen : Bool) (xs ys : List ℕ) → repeats n seen (xs ++ ys) ≡ repeats n (repeats n seen xs) ys
+pub repeats-append : (n : ℕ) (seen : Bool) (xs ys : List ℕ) → repeats n seen (xs ++ ys) ≡ repeats n (repeats n seen xs) ys
 repeats-append n seen [] ys = refl
 repeats-append n seen (m ∷ xs) ys = repeats-append n (cond (ltb n m) false ((n == m) || seen)) xs ys
 
@@ -68,7 +68,7 @@ seen_stays n (m ∷ ms) h =
     let small : m ≤ n = omega (arith, h.0) in
     ap (λ (b : Bool). repeats n (cond b false ((n == m) || true)) ms) (le-ltb n m small) ∙ ap (λ (b : Bool). repeats n b ms) (or_true (n == m)) ∙ seen_stays n ms h.1
 
-at_equal : (n : ℕ) (seen : Bool) → repeats n seen (n ∷ []) ≡ true
+pub at_equal : (n : ℕ) (seen : Bool) → repeats n seen (n ∷ []) ≡ true
 at_equal n seen =
     let same : n ≤ n = omega arith in
     ap (λ (b : Bool). cond b false ((n == n) || seen)) (le-ltb n n same) ∙ ap (λ (b : Bool). b || seen) (eq-eqb n n refl)
@@ -174,7 +174,7 @@ halves_split n side before longest behind e short w f ih =
     (ih side before (lower n before (within_front (suc n) before longest behind w) short) (fresh_front [] before longest behind f))
     (ih longest.side behind (lower n behind (within_back (suc n) before longest behind w) b.0) b.1)
 
-part_splits : (n : ℕ) (side : List Found) (rows : List Run_side) → AllWithin n rows → Fresh [] rows → IsSplit side rows (part_of n side rows)
+pub part_splits : (n : ℕ) (side : List Found) (rows : List Run_side) → AllWithin n rows → Fresh [] rows → IsSplit side rows (part_of n side rows)
 part_splits zero side [] w f = subst (λ (ts : List Tree). IsSplit side [] ts) (sym (part_none side [])) (alone side)
 part_splits zero side (r ∷ rows) w f = absurd (omega (arith, w.0, w.1))
 part_splits (suc n) side rows w f = by_cut (cut_cases (suc n) [] rows w) (part_splits n)

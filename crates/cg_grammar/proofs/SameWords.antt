@@ -4,11 +4,12 @@ use Rattle.std.specs.Prelude.{codes}
 use Rattle.std.proofs.lemmas.Bool.{and_parts, leb-true}
 use Rattle.cg_reading.specs.Bytes.{has}
 use Rattle.cg_reading.specs.Pieces.{Piece, Then, Or, Made, One, Word}
-use Rattle.cg_reading.specs.Tokens.{only, blanks}
+use Rattle.cg_reading.specs.Tokens.{only}
+use Rattle.cg_reading.specs.Words.{Among}
 use Rattle.cg_reading.proofs.Same.{Same, same_self, same_back, same_on, or_same, made_same, made_or, or_then, then_or}
-use Rattle.cg_query.specs.Tree.{Tree, Question, tiny, value, outcome, stops, mean, temp, thermo}
+use Rattle.cg_query.specs.Tree.{Tree, Question, value, outcome, stops, mean, temp, thermo}
 use Rattle.cg_grammar.specs.Found.{Found}
-use Rattle.cg_grammar.specs.Values.{clean, one_text, two_texts}
+use Rattle.cg_grammar.specs.Reading.{Named, Of_tiny, Of_one_text, Of_two_texts, Of_octal, named_words}
 use Rattle.cg_grammar.specs.Grammar as s
 use Rattle.cg_query.specs.declared.kind.GameKind.{GameKind}
 use Rattle.cg_query.specs.declared.kind.GameKind.TheVariants.{Domineering, Clobber, Amazons, Toads, Strip, Hackenbush, Col, Snort}
@@ -66,142 +67,74 @@ module _ {A X : Type 0} (N : Piece X) where
             same = m.same ∙ w.same;
           }
 
--- ---- tiny and boards
+-- ---- tiny, boards and octal games
 
-abbrev tiny_value : Bool × (ℕ × ℕ) → Found
-tiny_value v = clean (tiny v.0 v.1.0 v.1.1)
-
-tiny_words : Same s.tiny_piece (Or (g.tiny_of (codes "Tiny") false) (g.tiny_of (codes "Miny") true))
-tiny_words =
-    either_word tiny_value (Word (codes "Tiny") false) (Word (codes "Miny") true) (s.enclosed s.number) (g.tiny_of (codes "Tiny") false) (g.tiny_of (codes "Miny") true)
-    (word_value (s.enclosed s.number) (codes "Tiny") false tiny_value) (word_value (s.enclosed s.number) (codes "Miny") true tiny_value)
-
--- a game's one text, or its two, behind its name
-abbrev One_text : Piece (List ℕ × List ℕ)
-One_text = Then blanks (s.enclosed s.string)
-
-abbrev Two_texts : Piece (List ℕ × (List ℕ × List ℕ))
-Two_texts = Then blanks (s.enclosed (s.string_and s.string))
-
-abbrev one_value : GameKind × (List ℕ × List ℕ) → Found
-one_value v = clean (one_text v.0 v.1.1)
-
-abbrev two_value : GameKind × (List ℕ × (List ℕ × List ℕ)) → Found
-two_value v = clean (two_texts v.0 v.1.1.0 v.1.1.1)
-
-one_same : (word : List ℕ) (kind : GameKind) → Same (Made one_value (Then (Word word kind) One_text)) (g.one_of word kind)
-one_same word kind = word_value One_text word kind one_value
-
-two_same : (word : List ℕ) (kind : GameKind) → Same (Made two_value (Then (Word word kind) Two_texts)) (g.two_of word kind)
-two_same word kind = word_value Two_texts word kind two_value
-
-abbrev domineering : Piece Found
-domineering = g.one_of (codes "Domineering") Domineering
-
-abbrev clobber : Piece Found
-clobber = g.one_of (codes "Clobber") Clobber
-
-abbrev amazons : Piece Found
-amazons = g.one_of (codes "Amazons") Amazons
-
-abbrev toads : Piece Found
-toads = g.one_of (codes "Toads") Toads
-
-abbrev hackenbush : Piece Found
-hackenbush = g.one_of (codes "Hackenbush") Hackenbush
-
-abbrev strip : Piece Found
-strip = g.two_of (codes "Strip") Strip
-
-abbrev col : Piece Found
-col = g.two_of (codes "Col") Col
-
-abbrev snort : Piece Found
-snort = g.two_of (codes "Snort") Snort
-
-ones : Same (Made one_value (Then s.name_of_one One_text)) (Or domineering (Or clobber (Or amazons (Or toads hackenbush))))
-ones =
-    either_word one_value (Word (codes "Domineering") Domineering) (Or (Word (codes "Clobber") Clobber) (Or (Word (codes "Amazons") Amazons) (Or (Word (codes "Toads") Toads) (Word (codes "Hackenbush") Hackenbush)))) One_text domineering (Or clobber (Or amazons (Or toads hackenbush))) (one_same (codes "Domineering") Domineering)
-    (either_word one_value (Word (codes "Clobber") Clobber) (Or (Word (codes "Amazons") Amazons) (Or (Word (codes "Toads") Toads) (Word (codes "Hackenbush") Hackenbush))) One_text clobber (Or amazons (Or toads hackenbush)) (one_same (codes "Clobber") Clobber)
-    (either_word one_value (Word (codes "Amazons") Amazons) (Or (Word (codes "Toads") Toads) (Word (codes "Hackenbush") Hackenbush)) One_text amazons (Or toads hackenbush) (one_same (codes "Amazons") Amazons)
-    (either_word one_value (Word (codes "Toads") Toads) (Word (codes "Hackenbush") Hackenbush) One_text toads hackenbush (one_same (codes "Toads") Toads) (one_same (codes "Hackenbush") Hackenbush))))
-
-twos : Same (Made two_value (Then s.name_of_two Two_texts)) (Or strip (Or col snort))
-twos =
-    either_word two_value (Word (codes "Strip") Strip) (Or (Word (codes "Col") Col) (Word (codes "Snort") Snort)) Two_texts strip (Or col snort) (two_same (codes "Strip") Strip)
-    (either_word two_value (Word (codes "Col") Col) (Word (codes "Snort") Snort) Two_texts col snort (two_same (codes "Col") Col) (two_same (codes "Snort") Snort))
-
--- ---- the second byte
-
-one_apart : (b : ℕ) (word : List ℕ) (kind : GameKind) → has (only b) b ≡ true → Same (g.one_of (b ∷ word) kind) (Made (λ v. v.1) (Then (One (only b)) (g.one_of word kind)))
-one_apart b word kind known = byte_apart One_text b word (λ t. clean (one_text kind t.1)) known
-
-two_apart : (b : ℕ) (word : List ℕ) (kind : GameKind) → has (only b) b ≡ true → Same (g.two_of (b ∷ word) kind) (Made (λ v. v.1) (Then (One (only b)) (g.two_of word kind)))
-two_apart b word kind known = byte_apart Two_texts b word (λ t. clean (two_texts kind t.1.0 t.1.1)) known
-
-tiny_apart : Same (g.tiny_of (codes "Tiny") false) (Made (λ v. v.1) (Then (One (only 84)) (g.tiny_of (codes "iny") false)))
-tiny_apart = byte_apart (s.enclosed s.number) 84 (codes "iny") (λ n. clean (tiny false n.0 n.1)) refl
-
-tiny_or_toads : Same (Or (g.tiny_of (codes "Tiny") false) toads) g.tiny_or_toads
-tiny_or_toads = second_byte 84 (g.tiny_of (codes "Tiny") false) toads (g.tiny_of (codes "iny") false) (g.one_of (codes "oads") Toads) tiny_apart (one_apart 84 (codes "oads") Toads refl)
-
-clobber_or_col : Same (Or clobber col) g.clobber_or_col
-clobber_or_col = second_byte 67 clobber col (g.one_of (codes "lobber") Clobber) (g.two_of (codes "ol") Col) (one_apart 67 (codes "lobber") Clobber refl) (two_apart 67 (codes "ol") Col refl)
-
-strip_or_snort : Same (Or strip snort) g.strip_or_snort
-strip_or_snort = second_byte 83 strip snort (g.two_of (codes "trip") Strip) (g.two_of (codes "nort") Snort) (two_apart 83 (codes "trip") Strip refl) (two_apart 83 (codes "nort") Snort refl)
-
--- ---- all together
-
--- tiny, boards and octal games as the grammar has them
+-- as the grammar has them
 abbrev pub named : Piece Found
 named = Or s.tiny_piece (Or s.board s.octal_piece)
 
--- the same in the order in which they are told apart
-module _ {A : Type 0} (w t m d c z o h p l n x : Piece A) where
-  abbrev by_text : Piece A
-  by_text = Or w (Or (Or t m) (Or (Or (Or d (Or c (Or z (Or o h)))) (Or p (Or l n))) x))
+tiny_word : (i : ℕ) (miny : Bool) (x : List ℕ) → Or (Word (codes "Tiny") false) (Word (codes "Miny") true) i miny x → Among named_words i (Of_tiny miny) x
+tiny_word i miny x (inl w) = inl (ap Of_tiny w.0, w.1)
+tiny_word i miny x (inr w) = inr (inl (ap Of_tiny w.0, w.1))
 
-  abbrev by_byte : Piece A
-  by_byte = Or w (Or m (Or (Or t o) (Or x (Or d (Or h (Or z (Or (Or c l) (Or p n))))))))
+one_word : (i : ℕ) (kind : GameKind) (x : List ℕ) → s.name_of_one i kind x → Among named_words i (Of_one_text kind) x
+one_word i kind x (inl w) = inr (inr (inl (ap Of_one_text w.0, w.1)))
+one_word i kind x (inr (inl w)) = inr (inr (inr (inl (ap Of_one_text w.0, w.1))))
+one_word i kind x (inr (inr (inl w))) = inr (inr (inr (inr (inl (ap Of_one_text w.0, w.1)))))
+one_word i kind x (inr (inr (inr (inl w)))) = inr (inr (inr (inr (inr (inl (ap Of_one_text w.0, w.1))))))
+one_word i kind x (inr (inr (inr (inr w)))) = inr (inr (inr (inr (inr (inr (inl (ap Of_one_text w.0, w.1)))))))
 
-  sorted : (i : ℕ) (a : A) (text : List ℕ) → by_text i a text → by_byte i a text
-  sorted i a text (inl k) = inl k
-  sorted i a text (inr (inl (inl k))) = inr (inr (inl (inl k)))
-  sorted i a text (inr (inl (inr k))) = inr (inl k)
-  sorted i a text (inr (inr (inl (inl (inl k))))) = inr (inr (inr (inr (inl k))))
-  sorted i a text (inr (inr (inl (inl (inr (inl k)))))) = inr (inr (inr (inr (inr (inr (inr (inl (inl k))))))))
-  sorted i a text (inr (inr (inl (inl (inr (inr (inl k))))))) = inr (inr (inr (inr (inr (inr (inl k))))))
-  sorted i a text (inr (inr (inl (inl (inr (inr (inr (inl k)))))))) = inr (inr (inl (inr k)))
-  sorted i a text (inr (inr (inl (inl (inr (inr (inr (inr k)))))))) = inr (inr (inr (inr (inr (inl k)))))
-  sorted i a text (inr (inr (inl (inr (inl k))))) = inr (inr (inr (inr (inr (inr (inr (inr (inl k))))))))
-  sorted i a text (inr (inr (inl (inr (inr (inl k)))))) = inr (inr (inr (inr (inr (inr (inr (inl (inr k))))))))
-  sorted i a text (inr (inr (inl (inr (inr (inr k)))))) = inr (inr (inr (inr (inr (inr (inr (inr (inr k))))))))
-  sorted i a text (inr (inr (inr k))) = inr (inr (inr (inl k)))
+two_word : (i : ℕ) (kind : GameKind) (x : List ℕ) → s.name_of_two i kind x → Among named_words i (Of_two_texts kind) x
+two_word i kind x (inl w) = inr (inr (inr (inr (inr (inr (inr (inl (ap Of_two_texts w.0, w.1))))))))
+two_word i kind x (inr (inl w)) = inr (inr (inr (inr (inr (inr (inr (inr (inl (ap Of_two_texts w.0, w.1)))))))))
+two_word i kind x (inr (inr w)) = inr (inr (inr (inr (inr (inr (inr (inr (inr (inl (ap Of_two_texts w.0, w.1))))))))))
 
-  unsorted : (i : ℕ) (a : A) (text : List ℕ) → by_byte i a text → by_text i a text
-  unsorted i a text (inl k) = inl k
-  unsorted i a text (inr (inl k)) = inr (inl (inr k))
-  unsorted i a text (inr (inr (inl (inl k)))) = inr (inl (inl k))
-  unsorted i a text (inr (inr (inl (inr k)))) = inr (inr (inl (inl (inr (inr (inr (inl k)))))))
-  unsorted i a text (inr (inr (inr (inl k)))) = inr (inr (inr k))
-  unsorted i a text (inr (inr (inr (inr (inl k))))) = inr (inr (inl (inl (inl k))))
-  unsorted i a text (inr (inr (inr (inr (inr (inl k)))))) = inr (inr (inl (inl (inr (inr (inr (inr k)))))))
-  unsorted i a text (inr (inr (inr (inr (inr (inr (inl k))))))) = inr (inr (inl (inl (inr (inr (inl k))))))
-  unsorted i a text (inr (inr (inr (inr (inr (inr (inr (inl (inl k))))))))) = inr (inr (inl (inl (inr (inl k)))))
-  unsorted i a text (inr (inr (inr (inr (inr (inr (inr (inl (inr k))))))))) = inr (inr (inl (inr (inr (inl k)))))
-  unsorted i a text (inr (inr (inr (inr (inr (inr (inr (inr (inl k))))))))) = inr (inr (inl (inr (inl k))))
-  unsorted i a text (inr (inr (inr (inr (inr (inr (inr (inr (inr k))))))))) = inr (inr (inl (inr (inr (inr k)))))
+to_named : (i : ℕ) (a : Found) (text : List ℕ) → named i a text → g.named i a text
+to_named i a text (inl m) = record { told = Of_tiny m.made_of.0; before = m.is.before; behind = m.is.behind; first = tiny_word i m.made_of.0 m.is.before m.is.first; second = record { made_of = m.made_of.1; is = m.is.second; same = m.same }; spelled = m.is.spelled }
+to_named i a text (inr (inl (inl m))) = record { told = Of_one_text m.made_of.0; before = m.is.before; behind = m.is.behind; first = one_word i m.made_of.0 m.is.before m.is.first; second = record { made_of = m.made_of.1; is = m.is.second; same = m.same }; spelled = m.is.spelled }
+to_named i a text (inr (inl (inr m))) = record { told = Of_two_texts m.made_of.0; before = m.is.before; behind = m.is.behind; first = two_word i m.made_of.0 m.is.before m.is.first; second = record { made_of = m.made_of.1; is = m.is.second; same = m.same }; spelled = m.is.spelled }
+to_named i a text (inr (inr m)) = record { told = Of_octal; before = m.is.before; behind = m.is.behind; first = inr (inr (inr (inr (inr (inr (inr (inr (inr (inr (inl (refl, m.is.first.1))))))))))); second = record { made_of = m.made_of.1; is = m.is.second; same = m.same }; spelled = m.is.spelled }
 
-  in_order : Same by_text by_byte
-  in_order = record { to = sorted; from = unsorted }
+module _ (i : ℕ) (a : Found) (text : List ℕ) (t : g.named i a text) where
+  tells : (n : Named) → t.told ≡ n → g.behind_named n (i + length t.before) a t.behind
+  tells n e = subst (λ (z : Named). g.behind_named z (i + length t.before) a t.behind) e t.second
+
+  from_tiny : (miny : Bool) → Or (Word (codes "Tiny") false) (Word (codes "Miny") true) i miny t.before → t.told ≡ Of_tiny miny → named i a text
+  from_tiny miny w e =
+      let m = tells (Of_tiny miny) e in
+      inl (record { made_of = (miny, m.made_of); is = record { before = t.before; behind = t.behind; first = w; second = m.is; spelled = t.spelled }; same = m.same })
+
+  from_one : (kind : GameKind) → s.name_of_one i kind t.before → t.told ≡ Of_one_text kind → named i a text
+  from_one kind w e =
+      let m = tells (Of_one_text kind) e in
+      inr (inl (inl (record { made_of = (kind, m.made_of); is = record { before = t.before; behind = t.behind; first = w; second = m.is; spelled = t.spelled }; same = m.same })))
+
+  from_two : (kind : GameKind) → s.name_of_two i kind t.before → t.told ≡ Of_two_texts kind → named i a text
+  from_two kind w e =
+      let m = tells (Of_two_texts kind) e in
+      inr (inl (inr (record { made_of = (kind, m.made_of); is = record { before = t.before; behind = t.behind; first = w; second = m.is; spelled = t.spelled }; same = m.same })))
+
+  from_octal : t.before ≡ codes "Octal" → t.told ≡ Of_octal → named i a text
+  from_octal w e =
+      let m = tells Of_octal e in
+      inr (inr (record { made_of = (tt {0}, m.made_of); is = record { before = t.before; behind = t.behind; first = (refl, w); second = m.is; spelled = t.spelled }; same = m.same }))
+
+  from_named : Among named_words i t.told t.before → named i a text
+  from_named (inl w) = from_tiny false (inl (refl, w.1)) w.0
+  from_named (inr (inl w)) = from_tiny true (inr (refl, w.1)) w.0
+  from_named (inr (inr (inl w))) = from_one Domineering (inl (refl, w.1)) w.0
+  from_named (inr (inr (inr (inl w)))) = from_one Clobber (inr (inl (refl, w.1))) w.0
+  from_named (inr (inr (inr (inr (inl w))))) = from_one Amazons (inr (inr (inl (refl, w.1)))) w.0
+  from_named (inr (inr (inr (inr (inr (inl w)))))) = from_one Toads (inr (inr (inr (inl (refl, w.1))))) w.0
+  from_named (inr (inr (inr (inr (inr (inr (inl w))))))) = from_one Hackenbush (inr (inr (inr (inr (refl, w.1))))) w.0
+  from_named (inr (inr (inr (inr (inr (inr (inr (inl w)))))))) = from_two Strip (inl (refl, w.1)) w.0
+  from_named (inr (inr (inr (inr (inr (inr (inr (inr (inl w))))))))) = from_two Col (inr (inl (refl, w.1))) w.0
+  from_named (inr (inr (inr (inr (inr (inr (inr (inr (inr (inl w)))))))))) = from_two Snort (inr (inr (refl, w.1))) w.0
+  from_named (inr (inr (inr (inr (inr (inr (inr (inr (inr (inr (inl w))))))))))) = from_octal w.1 w.0
+  from_named (inr (inr (inr (inr (inr (inr (inr (inr (inr (inr (inr w))))))))))) = elim w [ ]
 
 pub plain_same : Same g.plain_special (Or s.switch_piece named)
-plain_same = same_back
-    (same_on (or_same (same_self s.switch_piece) (or_same tiny_words (or_same (or_same ones twos) (same_self s.octal_piece))))
-    (same_on (in_order s.switch_piece (g.tiny_of (codes "Tiny") false) (g.tiny_of (codes "Miny") true) domineering clobber amazons toads hackenbush strip col snort s.octal_piece)
-    (or_same (same_self s.switch_piece) (or_same (same_self (g.tiny_of (codes "Miny") true)) (or_same tiny_or_toads (or_same (same_self s.octal_piece)
-    (or_same (same_self domineering) (or_same (same_self hackenbush) (or_same (same_self amazons) (or_same clobber_or_col strip_or_snort))))))))))
+plain_same = or_same (same_self s.switch_piece) (record { to = λ i a text t. from_named i a text t t.first; from = to_named })
 
 -- ---- questions
 

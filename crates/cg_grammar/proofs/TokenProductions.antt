@@ -13,6 +13,8 @@ use Rattle.cg_reading.proofs.ByteRuns.{one_lawful, bytes_lawful, no_text, word_t
 use Rattle.cg_reading.proofs.Longest.{Token, plain_token, token_ok, made_full, or_full_ok, then_full, bytes_token, wide_token}
 use Rattle.cg_reading.proofs.Rules.{then_ok, or_ok, made_ok, wide_ok, then_text, made_text, left_text, right_text}
 use Rattle.cg_reading.proofs.Same.{same_token}
+use Rattle.cg_reading.proofs.Tellings.{telling_ok}
+use Rattle.cg_reading.proofs.WordTables.{among_ok}
 use Rattle.cg_reading.proofs.TokenLaws.{digits_ok, digits_text, byte_ok, byte_text, this_word_ok}
 use Rattle.cg_query.specs.Tree.{Tree, nimber, switch, tiny, octal}
 use Rattle.cg_grammar.specs.Values.{Arrows, ups_tree, more_arrows, clean, one_text, two_texts}
@@ -226,62 +228,36 @@ octal_enclosed = enclosed_text (s.string_and digits) r.string_and_digits_at (onl
 
 -- ---- switches, tiny, boards and octal games
 
-tiny_ok : (word : List ℕ) (miny : Bool) (begin : Class) → Begins begin false word → Lawful (g.tiny_of word miny) (r.tiny_at word miny) begin false []
-unfolding r.tiny_at
-tiny_ok word miny begin b = made_ok (λ v. clean (tiny miny v.1.0 v.1.1)) (then_ok (this_word_ok word begin b) enclosed_number_ok number_enclosed refl)
-
 -- what stands behind a name, with the blanks before it
-spaced_ok : {A : Type 0} {R : Piece A} {f : Reader A} → Lawful R f (only 40) false [] → ((j : ℕ) → Some_text R j) → Lawful (Then blanks R) (then_at t.blanks_at f) ((32, 32) ∷ (9, 9) ∷ (13, 13) ∷ (40, 40) ∷ []) false []
+abbrev spaced_begin : Class
+spaced_begin = (32, 32) ∷ (9, 9) ∷ (13, 13) ∷ (40, 40) ∷ []
+
+spaced_ok : {A : Type 0} {R : Piece A} {f : Reader A} → Lawful R f (only 40) false [] → ((j : ℕ) → Some_text R j) → Lawful (Then blanks R) (then_at t.blanks_at f) spaced_begin false []
 spaced_ok lf w = then_ok (bytes_lawful blank) lf w refl
 
 spaced_text : {A : Type 0} (R : Piece A) → ((j : ℕ) → Some_text R j) → (j : ℕ) → Some_text (Then blanks R) j
 spaced_text R w j = then_text {S = R} j (no_text blank j) w
 
-one_of_ok : (word : List ℕ) (kind : GameKind) (begin : Class) → Begins begin false word → Lawful (g.one_of word kind) (r.one_text_at word kind) begin false []
-unfolding r.one_text_at
-one_of_ok word kind begin b = made_ok (λ v. clean (one_text kind v.1.1)) (then_ok (this_word_ok word begin b) (spaced_ok enclosed_string_ok string_enclosed) (spaced_text (s.enclosed s.string) string_enclosed) refl)
-
-two_of_ok : (word : List ℕ) (kind : GameKind) (begin : Class) → Begins begin false word → Lawful (g.two_of word kind) (r.two_texts_at word kind) begin false []
-unfolding r.two_texts_at
-two_of_ok word kind begin b = made_ok (λ v. clean (two_texts kind v.1.1.0 v.1.1.1)) (then_ok (this_word_ok word begin b) (spaced_ok enclosed_strings_ok strings_enclosed) (spaced_text (s.enclosed (s.string_and s.string)) strings_enclosed) refl)
-
-octal_ok : Lawful s.octal_piece r.octal_at (only 79) false []
-unfolding r.octal_at
-octal_ok = made_ok (λ v. clean (octal v.1.1.0 v.1.1.1)) (then_ok (this_word_ok (codes "Octal") (only 79) refl) (spaced_ok enclosed_octal_ok octal_enclosed) (spaced_text (s.enclosed (s.string_and digits)) octal_enclosed) refl)
-
-one_of_text : (word : List ℕ) (kind : GameKind) (j : ℕ) → Some_text (g.one_of word kind) j
-one_of_text word kind j = made_text (λ v. clean (one_text kind v.1.1)) j (then_text {S = Then blanks (s.enclosed s.string)} j (word_text (tt {0}) word j) (spaced_text (s.enclosed s.string) string_enclosed))
-
-two_of_text : (word : List ℕ) (kind : GameKind) (j : ℕ) → Some_text (g.two_of word kind) j
-two_of_text word kind j = made_text (λ v. clean (two_texts kind v.1.1.0 v.1.1.1)) j (then_text {S = Then blanks (s.enclosed (s.string_and s.string))} j (word_text (tt {0}) word j) (spaced_text (s.enclosed (s.string_and s.string)) strings_enclosed))
-
-tiny_or_toads_ok : Lawful g.tiny_or_toads r.tiny_or_toads_at (only 84) false []
-unfolding r.tiny_or_toads_at
-tiny_or_toads_ok = wide_ok (only 84) [] (made_ok (λ v. v.1) (then_ok (byte_ok 84 refl)
-    (or_ok (tiny_ok (codes "iny") false (only 105) refl) (one_of_ok (codes "oads") Toads (only 111) refl) refl)
-    (λ j. right_text j (one_of_text (codes "oads") Toads j)) refl)) refl refl
-
-clobber_or_col_ok : Lawful g.clobber_or_col r.clobber_or_col_at (only 67) false []
-unfolding r.clobber_or_col_at
-clobber_or_col_ok = wide_ok (only 67) [] (made_ok (λ v. v.1) (then_ok (byte_ok 67 refl)
-    (or_ok (one_of_ok (codes "lobber") Clobber (only 108) refl) (two_of_ok (codes "ol") Col (only 111) refl) refl)
-    (λ j. right_text j (two_of_text (codes "ol") Col j)) refl)) refl refl
-
-strip_or_snort_ok : Lawful g.strip_or_snort r.strip_or_snort_at (only 83) false []
-unfolding r.strip_or_snort_at
-strip_or_snort_ok = wide_ok (only 83) [] (made_ok (λ v. v.1) (then_ok (byte_ok 83 refl)
-    (or_ok (two_of_ok (codes "trip") Strip (only 116) refl) (two_of_ok (codes "nort") Snort (only 110) refl) refl)
-    (λ j. right_text j (two_of_text (codes "nort") Snort j)) refl)) refl refl
-
+-- what the word of an operand begins with
 abbrev named_begin : Class
-named_begin = (65, 65) ∷ (67, 68) ∷ (72, 72) ∷ (83, 83) ∷ []
+named_begin = (65, 65) ∷ (67, 68) ∷ (72, 72) ∷ (77, 77) ∷ (79, 79) ∷ (83, 84) ∷ []
 
-named_board_ok : Lawful g.named_board r.named_board_at named_begin false []
-unfolding r.named_board_at
-named_board_ok = wide_ok named_begin [] (or_ok (one_of_ok (codes "Domineering") Domineering (only 68) refl)
-    (or_ok (one_of_ok (codes "Hackenbush") Hackenbush (only 72) refl) (or_ok (one_of_ok (codes "Amazons") Amazons (only 65) refl)
-    (or_ok clobber_or_col_ok strip_or_snort_ok refl) refl) refl) refl) refl refl
+behind_named_ok : (n : r.Named) → Lawful (g.behind_named n) (r.behind_named_at n) spaced_begin false []
+behind_named_ok (r.Of_tiny miny) = wide_ok spaced_begin [] (made_ok (λ v. clean (tiny miny v.0 v.1)) enclosed_number_ok) refl refl
+behind_named_ok (r.Of_one_text kind) = made_ok (λ v. clean (one_text kind v.1)) (spaced_ok enclosed_string_ok string_enclosed)
+behind_named_ok (r.Of_two_texts kind) = made_ok (λ v. clean (two_texts kind v.1.0 v.1.1)) (spaced_ok enclosed_strings_ok strings_enclosed)
+behind_named_ok r.Of_octal = made_ok (λ v. clean (octal v.1.0 v.1.1)) (spaced_ok enclosed_octal_ok octal_enclosed)
+
+behind_named_text : (n : r.Named) (j : ℕ) → Some_text (g.behind_named n) j
+behind_named_text (r.Of_tiny miny) j = made_text (λ v. clean (tiny miny v.0 v.1)) j (number_enclosed j)
+behind_named_text (r.Of_one_text kind) j = made_text (λ v. clean (one_text kind v.1)) j (spaced_text (s.enclosed s.string) string_enclosed j)
+behind_named_text (r.Of_two_texts kind) j = made_text (λ v. clean (two_texts kind v.1.0 v.1.1)) j (spaced_text (s.enclosed (s.string_and s.string)) strings_enclosed j)
+behind_named_text r.Of_octal j = made_text (λ v. clean (octal v.1.0 v.1.1)) j (spaced_text (s.enclosed (s.string_and digits)) octal_enclosed j)
+
+named_ok : Lawful g.named r.named_at named_begin false []
+unfolding r.named_at r.named_word_at
+named_ok = telling_ok (plain_token (among_ok r.named_words named_begin refl refl refl)) behind_named_ok behind_named_text refl (λ n. refl)
 
 pub plain_special_ok : Lawful g.plain_special r.plain_special_at plain_begin false number_follow
 unfolding r.plain_special_at
-plain_special_ok = wide_ok plain_begin number_follow (or_ok switch_ok (or_ok (tiny_ok (codes "Miny") true (only 77) refl) (or_ok tiny_or_toads_ok (or_ok octal_ok named_board_ok refl) refl) refl) refl) refl refl
+plain_special_ok = wide_ok plain_begin number_follow (or_ok switch_ok named_ok refl) refl refl

@@ -4,6 +4,7 @@ use Rattle.std.specs.Str.{bytes_eq}
 use Rattle.cg_reading.specs.Bytes.{Class}
 use Rattle.cg_reading.specs.Readers.{Read, Reader, ◌>>=◌, then_at, or_at, many_at, behind_these, made_at, nothing_at, one_at, bytes_at, most_at, run_at, placed_at, such_at, telling_at, whole_at}
 use Rattle.cg_reading.specs.Tokens.{only, blank, digit}
+use Rattle.cg_reading.specs.Words.{Table, among_at}
 use Rattle.cg_reading.specs.TokenReaders.{blanks_at, byte_at, gap_at, this_word_at, digits_at}
 use Rattle.cg_query.specs.Tree.{Tree, Question, number, ups, nimber, switch, tiny, sum, octal, used, terms_from, value, compare, outcome, stops, mean, temp, thermo, proof}
 use Rattle.cg_grammar.specs.Found.{Found, Asked, Stated, first}
@@ -107,10 +108,6 @@ switch_at = made_at (λ v. clean (switch v.1.1.0 v.1.1.1)) (then_at (byte_at 43)
 unfoldable pub enclosed_number_at : Reader (ℕ × ℕ)
 enclosed_number_at = made_at (λ v. v.1.1.0) (then_at (byte_at 40) (then_at blanks_at (then_at number_at (then_at blanks_at (byte_at 41)))))
 
--- tiny or miny, by the word in front
-unfoldable pub tiny_at : List ℕ → Bool → Reader Found
-tiny_at word miny = made_at (λ v. clean (tiny miny v.1.0 v.1.1)) (then_at (this_word_at word) enclosed_number_at)
-
 -- a text between parentheses
 unfoldable pub enclosed_string_at : Reader (List ℕ)
 enclosed_string_at = made_at (λ v. v.1.1.0) (then_at (byte_at 40) (then_at blanks_at (then_at string_at (then_at blanks_at (byte_at 41)))))
@@ -127,33 +124,38 @@ string_and_digits_at = made_at (λ v. (v.0, v.1.1.1.1)) (then_at string_at (then
 unfoldable pub enclosed_octal_at : Reader (List ℕ × ℕ)
 enclosed_octal_at = made_at (λ v. v.1.1.0) (then_at (byte_at 40) (then_at blanks_at (then_at string_and_digits_at (then_at blanks_at (byte_at 41)))))
 
--- a board of one text, by the word in front
-unfoldable pub one_text_at : List ℕ → GameKind → Reader Found
-one_text_at word kind = made_at (λ v. clean (one_text kind v.1.1)) (then_at (this_word_at word) (then_at blanks_at enclosed_string_at))
+-- what the word of an operand tells
+pub data Named : Type 0 where
+  Of_tiny : Bool → Named
+  Of_one_text : GameKind → Named
+  Of_two_texts : GameKind → Named
+  Of_octal : Named
 
--- a board of two texts, by the word in front
-unfoldable pub two_texts_at : List ℕ → GameKind → Reader Found
-two_texts_at word kind = made_at (λ v. clean (two_texts kind v.1.1.0 v.1.1.1)) (then_at (this_word_at word) (then_at blanks_at enclosed_strings_at))
+-- the words that operands begin with
+abbrev pub named_words : Table Named
+named_words =
+    (codes "Tiny", Of_tiny false) ∷ (codes "Miny", Of_tiny true)
+    ∷ (codes "Domineering", Of_one_text Domineering) ∷ (codes "Clobber", Of_one_text Clobber) ∷ (codes "Amazons", Of_one_text Amazons)
+    ∷ (codes "Toads", Of_one_text Toads) ∷ (codes "Hackenbush", Of_one_text Hackenbush)
+    ∷ (codes "Strip", Of_two_texts Strip) ∷ (codes "Col", Of_two_texts Col) ∷ (codes "Snort", Of_two_texts Snort) ∷ (codes "Octal", Of_octal) ∷ []
 
-unfoldable pub octal_at : Reader Found
-octal_at = made_at (λ v. clean (octal v.1.1.0 v.1.1.1)) (then_at (this_word_at (codes "Octal")) (then_at blanks_at enclosed_octal_at))
+unfoldable pub named_word_at : Reader Named
+named_word_at = among_at named_words
 
--- Tiny and Toads are told apart by their second byte, and so are Clobber and Col, and Strip and Snort
-unfoldable pub tiny_or_toads_at : Reader Found
-tiny_or_toads_at = made_at (λ v. v.1) (then_at (byte_at 84) (or_at (only 105) (tiny_at (codes "iny") false) (one_text_at (codes "oads") Toads)))
+-- what stands behind the word
+abbrev pub behind_named_at : Named → Reader Found
+behind_named_at (Of_tiny miny) = made_at (λ v. clean (tiny miny v.0 v.1)) enclosed_number_at
+behind_named_at (Of_one_text kind) = made_at (λ v. clean (one_text kind v.1)) (then_at blanks_at enclosed_string_at)
+behind_named_at (Of_two_texts kind) = made_at (λ v. clean (two_texts kind v.1.0 v.1.1)) (then_at blanks_at enclosed_strings_at)
+behind_named_at Of_octal = made_at (λ v. clean (octal v.1.0 v.1.1)) (then_at blanks_at enclosed_octal_at)
 
-unfoldable pub clobber_or_col_at : Reader Found
-clobber_or_col_at = made_at (λ v. v.1) (then_at (byte_at 67) (or_at (only 108) (one_text_at (codes "lobber") Clobber) (two_texts_at (codes "ol") Col)))
-
-unfoldable pub strip_or_snort_at : Reader Found
-strip_or_snort_at = made_at (λ v. v.1) (then_at (byte_at 83) (or_at (only 116) (two_texts_at (codes "trip") Strip) (two_texts_at (codes "nort") Snort)))
-
-unfoldable pub named_board_at : Reader Found
-named_board_at = or_at (only 68) (one_text_at (codes "Domineering") Domineering) (or_at (only 72) (one_text_at (codes "Hackenbush") Hackenbush) (or_at (only 65) (one_text_at (codes "Amazons") Amazons) (or_at (only 67) clobber_or_col_at strip_or_snort_at)))
+-- tiny, miny, a board or an octal game
+unfoldable pub named_at : Reader Found
+named_at = telling_at named_word_at behind_named_at
 
 -- a special without brackets around an expression
 unfoldable pub plain_special_at : Reader Found
-plain_special_at = or_at (only 43) switch_at (or_at (only 77) (tiny_at (codes "Miny") true) (or_at (only 84) tiny_or_toads_at (or_at (only 79) octal_at named_board_at)))
+plain_special_at = or_at (only 43) switch_at named_at
 
 -- ---- names
 
@@ -316,21 +318,7 @@ with_terms front fault read = read >>= λ x. Ok (record { tree = sum (terms_from
 unfoldable pub more_terms_at : Format → ℕ → List (Bool × Tree) → Option ℕ → Reader Found
 more_terms_at format k front fault end bytes = with_terms front fault (many_at plus_minus (next_term_at (special_at format k)) end bytes)
 
--- ---- questions
-
--- temp and thermo are told apart by their second byte
-unfoldable pub temp_or_thermo_at : Reader (Tree → Question)
-temp_or_thermo_at = made_at (λ v. v.1) (then_at (byte_at 116) (or_at (only 101) (made_at (λ _. temp) (this_word_at (codes "emp"))) (made_at (λ _. thermo) (this_word_at (codes "hermo")))))
-
-unfoldable pub asking_at : Reader (Tree → Question)
-asking_at = or_at (only 118) (made_at (λ _. value) (this_word_at (codes "value"))) (or_at (only 111) (made_at (λ _. outcome) (this_word_at (codes "outcome"))) (or_at (only 115) (made_at (λ _. stops) (this_word_at (codes "stops"))) (or_at (only 109) (made_at (λ _. mean) (this_word_at (codes "mean"))) temp_or_thermo_at)))
-
--- a question about one expression begins with one of these
-abbrev pub asking_begin : Class
-asking_begin = (118, 118) ∷ (111, 111) ∷ (115, 116) ∷ (109, 109) ∷ []
-
-unfoldable pub measure_at : Reader Asked
-measure_at = made_at (λ v. asked_of v.0 v.1.1) (then_at asking_at (then_at gap_at (sum_at (special_at formats.One 64))))
+-- ---- lines
 
 abbrev pub with_semicolon_at : {A B : Type 0} → Reader A → Reader B → Reader (A × B)
 with_semicolon_at f g = made_at (λ v. (v.0, v.1.1.1)) (then_at f (then_at (byte_at 59) (then_at blanks_at g)))
@@ -339,47 +327,28 @@ with_semicolon_at f g = made_at (λ v. (v.0, v.1.1.1)) (then_at f (then_at (byte
 unfoldable pub both_at : Format → Reader (Found × Found)
 both_at format = with_semicolon_at (sum_at (special_at format 64)) (sum_at (special_at format 64))
 
--- a question about two expressions, by the word in front
-unfoldable pub both_asked_at : List ℕ → (Tree → Tree → Question) → Reader Asked
-both_asked_at word ask = made_at (λ v. asked_of_both ask v.1.1.0 v.1.1.1) (then_at (this_word_at word) (then_at gap_at (both_at formats.One)))
-
 -- a text, and the blanks behind it
 abbrev pub last_string_at : Reader (List ℕ)
 last_string_at = made_at (λ v. v.0) (then_at string_at blanks_at)
 
--- a question about two expressions and a text, by the word in front
-unfoldable pub check_at : List ℕ → Reader Asked
-check_at word = made_at (λ v. checked v.1.1.0.0 v.1.1.0.1 v.1.1.1) (then_at (this_word_at word) (then_at gap_at (with_semicolon_at (both_at formats.One) last_string_at)))
-
--- compare and check are told apart by their second byte
-unfoldable pub compare_or_check_at : Reader Asked
-compare_or_check_at = made_at (λ v. v.1) (then_at (byte_at 99) (or_at (only 111) (both_asked_at (codes "ompare") compare) (check_at (codes "heck"))))
-
-unfoldable pub question_at : Reader Asked
-question_at = or_at asking_begin measure_at (or_at (only 112) (both_asked_at (codes "proof") proof) compare_or_check_at)
-
-unfoldable pub line_at : Reader Asked
-line_at = made_at (λ v. v.1) (then_at blanks_at question_at)
-
--- the whole line of format 1
-unfoldable pub read_at : List ℕ → Result Asked ℕ
-read_at text = whole_at line_at text
-
--- ---- lines of format 2
-
--- what a line is whose first word is this one
+-- what the first word of a line tells
 pub data Kind : Type 0 where
   Of_one : (Tree → Question) → Kind
   Of_two : (Tree → Tree → Question) → Kind
   Of_check : Kind
   Of_name : Kind
 
-abbrev pub kinds : List (List ℕ × Kind)
+-- the words of questions that letters of names spell
+abbrev pub kinds : Table Kind
 kinds =
     (codes "compare", Of_two compare) ∷ (codes "outcome", Of_one outcome) ∷ (codes "stops", Of_one stops) ∷ (codes "mean", Of_one mean)
     ∷ (codes "temp", Of_one temp) ∷ (codes "thermo", Of_one thermo) ∷ (codes "proof", Of_two proof) ∷ (codes "check", Of_check) ∷ []
 
-abbrev pub kind_among : List (List ℕ × Kind) → List ℕ → Kind
+-- the words of questions
+abbrev pub question_kinds : Table Kind
+question_kinds = (codes "value", Of_one value) ∷ kinds
+
+abbrev pub kind_among : Table Kind → List ℕ → Kind
 kind_among [] word = Of_name
 kind_among (k ∷ ks) word = cond (bytes_eq word k.0) k.1 (kind_among ks word)
 
@@ -387,29 +356,36 @@ kind_among (k ∷ ks) word = cond (bytes_eq word k.0) k.1 (kind_among ks word)
 abbrev pub kind_of : List ℕ → Kind
 kind_of word = kind_among kinds word
 
+unfoldable pub question_word_at : Reader Kind
+question_word_at = among_at question_kinds
+
+-- the question for a value: no name begins as this word does
+unfoldable pub value_word_at : Reader (List ℕ × Kind)
+value_word_at = made_at (λ _. ([], Of_one value)) (this_word_at (codes "value"))
+
+-- the first word of a line, where it may be a name, and what it tells
+abbrev pub first_word_at : Format → Reader (List ℕ × Kind)
+first_word_at formats.One = made_at (λ k. ([], k)) question_word_at
+first_word_at formats.Two = or_at (only 118) value_word_at (made_at (λ w. (w, kind_of w)) lettered_at)
+
 -- ":=", and what stands around it
 unfoldable pub becomes_at : Reader (Unit {0})
 becomes_at = made_at (λ _. tt {0}) (then_at blanks_at (then_at (this_word_at (codes ":=")) blanks_at))
 
 -- what stands behind the first word
-abbrev pub behind_word_at : List ℕ → Kind → Reader Stated
-behind_word_at word (Of_one ask) = made_at (λ v. asking (asked_of ask v.1)) (then_at gap_at (sum_at (special_at formats.Two 64)))
-behind_word_at word (Of_two ask) = made_at (λ v. asking (asked_of_both ask v.1.0 v.1.1)) (then_at gap_at (both_at formats.Two))
-behind_word_at word Of_check = made_at (λ v. asking (checked v.1.0.0 v.1.0.1 v.1.1)) (then_at gap_at (with_semicolon_at (both_at formats.Two) last_string_at))
-behind_word_at word Of_name = made_at (λ v. defined word v.1) (then_at becomes_at (sum_at (special_at formats.Two 64)))
+abbrev pub behind_word_at : Format → List ℕ → Kind → Reader Stated
+behind_word_at format word (Of_one ask) = made_at (λ v. asking (asked_of ask v.1)) (then_at gap_at (sum_at (special_at format 64)))
+behind_word_at format word (Of_two ask) = made_at (λ v. asking (asked_of_both ask v.1.0 v.1.1)) (then_at gap_at (both_at format))
+behind_word_at format word Of_check = made_at (λ v. asking (checked v.1.0.0 v.1.0.1 v.1.1)) (then_at gap_at (with_semicolon_at (both_at format) last_string_at))
+behind_word_at format word Of_name = made_at (λ v. defined word v.1) (then_at becomes_at (sum_at (special_at format 64)))
 
-unfoldable pub statement_word_at : List ℕ → Reader Stated
-statement_word_at word = behind_word_at word (kind_of word)
+-- what a line states that begins with no blank
+unfoldable pub statement_at : Format → Reader Stated
+statement_at format = telling_at (first_word_at format) (λ w. behind_word_at format w.0 w.1)
 
-unfoldable pub value_line_at : Reader Stated
-value_line_at = made_at (λ v. asking (asked_of value v.1.1)) (then_at (this_word_at (codes "value")) (then_at gap_at (sum_at (special_at formats.Two 64))))
+unfoldable pub line_at : Format → Reader Stated
+line_at format = made_at (λ v. v.1) (then_at blanks_at (statement_at format))
 
-unfoldable pub statement_at : Reader Stated
-statement_at = or_at (only 118) value_line_at (telling_at lettered_at statement_word_at)
-
-unfoldable pub line_two_at : Reader Stated
-line_two_at = made_at (λ v. v.1) (then_at blanks_at statement_at)
-
--- the whole line of format 2
-unfoldable pub read_two_at : List ℕ → Result Stated ℕ
-read_two_at text = whole_at line_two_at text
+-- the whole line
+unfoldable pub read_at : Format → List ℕ → Result Stated ℕ
+read_at format text = whole_at (line_at format) text

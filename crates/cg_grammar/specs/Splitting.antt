@@ -25,3 +25,21 @@ pub data IsSplit : List Found → List Run_side → List Tree → Type 0 where
 -- no run repeats an earlier one
 abbrev pub IsWithoutRepeats : List Run_side → Type 0
 IsWithoutRepeats rows = runs_fault [] rows ≡ None
+
+-- each length is at most this one
+abbrev pub AllAtMost : ℕ → List ℕ → Type 0
+AllAtMost n [] = Unit {0}
+AllAtMost n (m ∷ lengths) = (m ≤ n) × AllAtMost n lengths
+
+-- A run of this length repeats one of these earlier runs of its brace: one of them has its length, and none longer stands
+-- behind that one.
+pub record Repeats (length : ℕ) (earlier : List ℕ) : Type 0 where
+  pub before : List ℕ
+  pub between : List ℕ
+  pub spelled : earlier ≡ before ++ length ∷ between
+  pub none_longer : AllAtMost length between
+
+-- no run of a brace repeats an earlier one, where these are the lengths of the runs before them
+abbrev pub NoneRepeats : List ℕ → List Run_side → Type 0
+NoneRepeats earlier [] = Unit {0}
+NoneRepeats earlier (r ∷ rows) = (¬ Repeats r.bars earlier) × NoneRepeats (earlier ++ r.bars ∷ []) rows

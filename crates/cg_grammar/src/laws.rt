@@ -1,12 +1,12 @@
 //! Laws of the grammar, for all lines. A call puts its law into the caller's facts.
-ghost use Rattle.std.specs.Prelude.{◌≡◌, ◌≤◌, ◌⊎◌, ℕ, List, false};
+ghost use Rattle.std.specs.Prelude.{◌≡◌, ◌≤◌, ◌↔◌, ◌⊎◌, ℕ, List, [], false, true};
 ghost use Rattle.cg_query.specs.Tree.{Question, Statement};
 ghost use Rattle.cg_query.specs.declared.format.Format.TheVariants as formats;
-ghost use Rattle.cg_grammar.specs.Braces.{Run_side, part_of};
+ghost use Rattle.cg_grammar.specs.Braces.{Run_side, part_of, repeats};
 ghost use Rattle.cg_grammar.specs.Formats.{ReadsIn, IsColumnIn};
 ghost use Rattle.cg_grammar.specs.Found.{Found};
 ghost use Rattle.cg_grammar.specs.Lines.{is_blank_line, IsColumn, IsComment, Reads};
-ghost use Rattle.cg_grammar.specs.Splitting.{AllWithin, IsSplit, IsWithoutRepeats};
+ghost use Rattle.cg_grammar.specs.Splitting.{AllWithin, IsSplit, IsWithoutRepeats, NoneRepeats, Repeats};
 
 /// No line reads as two questions, no blank line and no comment as one, and each line as one, or as none. A line that
 /// reads as none has exactly one column.
@@ -33,6 +33,14 @@ pub fn one_statement()
 /// A brace is split at its longest run of bars, and so is each of its sides: where runs have one bar to eight, and none
 /// repeats an earlier one, the options that the grammar gives a row are those of splitting at the longest run.
 pub fn longest_run()
-    ensures { (side : List Found) (rows : List Run_side) → AllWithin 8 rows → IsWithoutRepeats rows
+    ensures split { (side : List Found) (rows : List Run_side) → AllWithin 8 rows → IsWithoutRepeats rows
         → IsSplit side rows (part_of 8 side rows) }
+    ensures lengths { (side : List Found) (rows : List Run_side) → AllWithin 8 rows → NoneRepeats [] rows
+        → IsSplit side rows (part_of 8 side rows) }
+{}
+
+/// A run of bars is refused where it repeats an earlier one of its brace: the test on the lengths says so exactly where one
+/// of the earlier runs has its length and none longer stands behind that one.
+pub fn repeated_run()
+    ensures { (length : ℕ) (earlier : List ℕ) → (repeats length false earlier ≡ true) ↔ Repeats length earlier }
 {}

@@ -3,3 +3,4 @@ pub mod Questions
 pub mod Statements
 pub mod Cuts
 pub mod Answered
+pub mod Named

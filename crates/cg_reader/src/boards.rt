@@ -1,22 +1,46 @@
 //! Boards and heaps of octal games: with switches, tiny and miny the operands that hold no expression.
-ghost use Rattle.std.specs.Prelude.{◌≡◌, ◌<◌, length, IfOk, ℕ, codes};
+ghost use Rattle.std.specs.Prelude.{◌≡◌, ◌<◌, ◌≤◌, length, IfOk, ℕ};
 ghost use Rattle.cg_reading.specs.Gives.{Gives};
 ghost use Rattle.cg_grammar.specs.Reading.{enclosed_octal_at, enclosed_string_at, enclosed_strings_at};
 ghost use Rattle.cg_grammar.specs.Reading.{string_and_digits_at, two_strings_at};
-ghost use Rattle.cg_grammar.specs.Reading.{one_text_at, two_texts_at, octal_at, tiny_or_toads_at};
-ghost use Rattle.cg_grammar.specs.Reading.{clobber_or_col_at, strip_or_snort_at, named_board_at};
-ghost use Rattle.cg_grammar.specs.Reading.{plain_special_at};
+ghost use Rattle.cg_grammar.specs.Reading.{Of_octal, Of_one_text, Of_two_texts, behind_named_at};
+ghost use Rattle.cg_grammar.specs.Reading.{named_at, named_word_at, plain_special_at};
 ghost use Rattle.cg_query.specs.Tree.{game};
 ghost use Rattle.cg_query.specs.Trees.{tree_of};
 ghost use Rattle.cg_grammar.specs.Values.{one_text as tree_of_one, two_texts as tree_of_two};
+ghost use Rattle.cg_reader.specs.Named.{named_view};
 ghost use Rattle.cg_reader.specs.Views.{found_of};
-ghost use Rattle.cg_query.specs.declared.kind.GameKind.TheVariants as kinds;
 
 use crate::found::Found;
 use crate::named::{string, switch, tiny};
 use cg_query::{Expr, GameKind, Text};
-use cg_reading::{ReadFault, after_blanks, after_byte, after_word, digits, is_byte};
+use cg_reading::{ReadFault, after_blanks, after_byte, digits, is_byte, word_of};
 use std::alloc::Global;
+
+/// What the word of an operand tells.
+#[derive(Clone, Copy, Debug, PartialEq, Eq)]
+enum Named {
+    Tiny,
+    Miny,
+    OneText(GameKind),
+    TwoTexts(GameKind),
+    Octal,
+}
+
+/// The words that operands begin with.
+const NAMED: [(&[u8], Named); 11] = [
+    (b"Tiny", Named::Tiny),
+    (b"Miny", Named::Miny),
+    (b"Domineering", Named::OneText(GameKind::Domineering)),
+    (b"Clobber", Named::OneText(GameKind::Clobber)),
+    (b"Amazons", Named::OneText(GameKind::Amazons)),
+    (b"Toads", Named::OneText(GameKind::Toads)),
+    (b"Hackenbush", Named::OneText(GameKind::Hackenbush)),
+    (b"Strip", Named::TwoTexts(GameKind::Strip)),
+    (b"Col", Named::TwoTexts(GameKind::Col)),
+    (b"Snort", Named::TwoTexts(GameKind::Snort)),
+    (b"Octal", Named::Octal),
+];
 
 /// A text between quotation marks and parentheses.
 #[tactic(auto, unfolding(cg_grammar::specs::Reading::enclosed_string_at))]
@@ -93,20 +117,13 @@ fn of_one_text(alloc: Global, kind: GameKind, text: Text) -> Expr
     }
 }
 
-/// A board of a game with one text, by the word in front.
-#[tactic(auto, unfolding(cg_grammar::specs::Reading::one_text_at))]
-fn one_text<'a>(
-    alloc: Global,
-    word: &[u8],
-    kind: GameKind,
-    bytes: &'a [u8],
-) -> Result<(Found, &'a [u8]), ReadFault>
+/// The text of a board of a game with one text, between parentheses.
+fn one_text(alloc: Global, kind: GameKind, bytes: &[u8]) -> Result<(Found, &[u8]), ReadFault>
     ensures read { (end : ℕ) → Gives (λ x. (found_of x.0, x.1.now)) result
-        (one_text_at word.now kind end bytes.now) }
+        (behind_named_at (Of_one_text kind) end bytes.now) }
     ensures shorter { IfOk result (λ x. length x.1.now < length bytes.now) }
 {
-    let rest = after_word(word, bytes)?;
-    let (text, rest) = enclosed_string(alloc, after_blanks(rest))?;
+    let (text, rest) = enclosed_string(alloc, after_blanks(bytes))?;
     let expr = of_one_text(alloc, kind, text);
     Ok((Found { expr, fault: None }, rest))
 }
@@ -129,117 +146,62 @@ fn of_game(kind: GameKind, rules: Text, board: Text) -> Expr
     Expr::Game { kind, rules, board }
 }
 
-/// A board of a game with two texts, by the word in front.
-#[tactic(auto, unfolding(cg_grammar::specs::Reading::two_texts_at))]
-fn two_texts<'a>(
-    alloc: Global,
-    word: &[u8],
-    kind: GameKind,
-    bytes: &'a [u8],
-) -> Result<(Found, &'a [u8]), ReadFault>
+/// The texts of a board of a game with two texts, between parentheses.
+fn two_texts(alloc: Global, kind: GameKind, bytes: &[u8]) -> Result<(Found, &[u8]), ReadFault>
     ensures read { (end : ℕ) → Gives (λ x. (found_of x.0, x.1.now)) result
-        (two_texts_at word.now kind end bytes.now) }
+        (behind_named_at (Of_two_texts kind) end bytes.now) }
     ensures shorter { IfOk result (λ x. length x.1.now < length bytes.now) }
 {
-    let rest = after_word(word, bytes)?;
-    let ((first, second), rest) = enclosed_strings(alloc, after_blanks(rest))?;
+    let ((first, second), rest) = enclosed_strings(alloc, after_blanks(bytes))?;
     let expr = of_two_texts(kind, first, second);
     Ok((Found { expr, fault: None }, rest))
 }
 
-/// A heap of an octal game.
-#[tactic(auto, using(cg_query::proofs::TreeOf::octal_tree), unfolding(cg_grammar::specs::Reading::octal_at))]
+/// The code and the heap of an octal game, between parentheses.
+#[tactic(auto, using(cg_query::proofs::TreeOf::octal_tree))]
 fn octal(alloc: Global, bytes: &[u8]) -> Result<(Found, &[u8]), ReadFault>
     ensures read { (end : ℕ) → Gives (λ x. (found_of x.0, x.1.now)) result
-        (octal_at end bytes.now) }
+        (behind_named_at Of_octal end bytes.now) }
     ensures shorter { IfOk result (λ x. length x.1.now < length bytes.now) }
 {
-    let rest = after_word(b"Octal", bytes)?;
-    let ((code, heap), rest) = enclosed_octal(alloc, after_blanks(rest))?;
+    let ((code, heap), rest) = enclosed_octal(alloc, after_blanks(bytes))?;
     let expr = Expr::Octal { code, heap };
     Ok((Found { expr, fault: None }, rest))
 }
 
-/// Tiny, or a board of Toads and Frogs: these two are told apart by their second byte.
-#[tactic(auto, unfolding(cg_grammar::specs::Reading::tiny_or_toads_at))]
-fn tiny_or_toads(alloc: Global, bytes: &[u8]) -> Result<(Found, &[u8]), ReadFault>
+/// The word that an operand begins with.
+fn named_word(bytes: &[u8]) -> Result<(Named, &[u8]), ReadFault>
+    ensures read { (end : ℕ) → Gives (λ x. (named_view x.0, x.1.now)) result
+        (named_word_at end bytes.now) }
+    ensures shorter { IfOk result (λ x. length x.1.now ≤ length bytes.now) }
+{
+    word_of(&NAMED, bytes)
+}
+
+/// What stands behind the word that an operand begins with.
+fn behind_named(alloc: Global, named: Named, bytes: &[u8]) -> Result<(Found, &[u8]), ReadFault>
     ensures read { (end : ℕ) → Gives (λ x. (found_of x.0, x.1.now)) result
-        (tiny_or_toads_at end bytes.now) }
+        (behind_named_at (named_view named) end bytes.now) }
     ensures shorter { IfOk result (λ x. length x.1.now < length bytes.now) }
 {
-    let rest = after_byte(b'T', bytes)?;
-    match rest.split_first() {
-        Some((second, _)) if is_byte(b'i', *second) => tiny(b"iny", false, rest),
-        _ => one_text(alloc, b"oads", GameKind::Toads, rest),
+    match named {
+        Named::Tiny => tiny(false, bytes),
+        Named::Miny => tiny(true, bytes),
+        Named::OneText(kind) => one_text(alloc, kind, bytes),
+        Named::TwoTexts(kind) => two_texts(alloc, kind, bytes),
+        Named::Octal => octal(alloc, bytes),
     }
 }
 
-/// A board of Clobber or of Col.
-#[tactic(auto, unfolding(cg_grammar::specs::Reading::clobber_or_col_at))]
-fn clobber_or_col(alloc: Global, bytes: &[u8]) -> Result<(Found, &[u8]), ReadFault>
+/// Tiny or miny, a board, or a heap of an octal game.
+#[tactic(auto, unfolding(cg_grammar::specs::Reading::named_at))]
+fn named_operand(alloc: Global, bytes: &[u8]) -> Result<(Found, &[u8]), ReadFault>
     ensures read { (end : ℕ) → Gives (λ x. (found_of x.0, x.1.now)) result
-        (clobber_or_col_at end bytes.now) }
+        (named_at end bytes.now) }
     ensures shorter { IfOk result (λ x. length x.1.now < length bytes.now) }
 {
-    let rest = after_byte(b'C', bytes)?;
-    match rest.split_first() {
-        Some((second, _)) if is_byte(b'l', *second) => {
-            one_text(alloc, b"lobber", GameKind::Clobber, rest)
-        }
-        _ => two_texts(alloc, b"ol", GameKind::Col, rest),
-    }
-}
-
-/// A strip, or a board of Snort.
-#[tactic(auto, unfolding(cg_grammar::specs::Reading::strip_or_snort_at))]
-fn strip_or_snort(alloc: Global, bytes: &[u8]) -> Result<(Found, &[u8]), ReadFault>
-    ensures read { (end : ℕ) → Gives (λ x. (found_of x.0, x.1.now)) result
-        (strip_or_snort_at end bytes.now) }
-    ensures shorter { IfOk result (λ x. length x.1.now < length bytes.now) }
-{
-    let rest = after_byte(b'S', bytes)?;
-    match rest.split_first() {
-        Some((second, _)) if is_byte(b't', *second) => {
-            two_texts(alloc, b"trip", GameKind::Strip, rest)
-        }
-        _ => two_texts(alloc, b"nort", GameKind::Snort, rest),
-    }
-}
-
-/// A board of Domineering.
-fn domineering(alloc: Global, bytes: &[u8]) -> Result<(Found, &[u8]), ReadFault>
-    ensures read { (end : ℕ) → Gives (λ x. (found_of x.0, x.1.now)) result
-        (one_text_at (codes "Domineering") kinds.Domineering end bytes.now) }
-    ensures shorter { IfOk result (λ x. length x.1.now < length bytes.now) }
-{
-    one_text(alloc, b"Domineering", GameKind::Domineering, bytes)
-}
-
-/// A board of Hackenbush.
-fn hackenbush(alloc: Global, bytes: &[u8]) -> Result<(Found, &[u8]), ReadFault>
-    ensures read { (end : ℕ) → Gives (λ x. (found_of x.0, x.1.now)) result
-        (one_text_at (codes "Hackenbush") kinds.Hackenbush end bytes.now) }
-    ensures shorter { IfOk result (λ x. length x.1.now < length bytes.now) }
-{
-    one_text(alloc, b"Hackenbush", GameKind::Hackenbush, bytes)
-}
-
-/// A board of another game than Toads and Frogs.
-#[tactic(auto, unfolding(cg_grammar::specs::Reading::named_board_at))]
-fn named_board(alloc: Global, bytes: &[u8]) -> Result<(Found, &[u8]), ReadFault>
-    ensures read { (end : ℕ) → Gives (λ x. (found_of x.0, x.1.now)) result
-        (named_board_at end bytes.now) }
-    ensures shorter { IfOk result (λ x. length x.1.now < length bytes.now) }
-{
-    match bytes.split_first() {
-        Some((first, _)) if is_byte(b'D', *first) => domineering(alloc, bytes),
-        Some((first, _)) if is_byte(b'H', *first) => hackenbush(alloc, bytes),
-        Some((first, _)) if is_byte(b'A', *first) => {
-            one_text(alloc, b"Amazons", GameKind::Amazons, bytes)
-        }
-        Some((first, _)) if is_byte(b'C', *first) => clobber_or_col(alloc, bytes),
-        _ => strip_or_snort(alloc, bytes),
-    }
+    let (named, rest) = named_word(bytes)?;
+    behind_named(alloc, named, rest)
 }
 
 /// A switch, tiny or miny, a board, or a heap of an octal game.
@@ -251,9 +213,6 @@ pub fn plain_special(alloc: Global, bytes: &[u8]) -> Result<(Found, &[u8]), Read
 {
     match bytes.split_first() {
         Some((first, _)) if is_byte(b'+', *first) => switch(bytes),
-        Some((first, _)) if is_byte(b'M', *first) => tiny(b"Miny", true, bytes),
-        Some((first, _)) if is_byte(b'T', *first) => tiny_or_toads(alloc, bytes),
-        Some((first, _)) if is_byte(b'O', *first) => octal(alloc, bytes),
-        _ => named_board(alloc, bytes),
+        _ => named_operand(alloc, bytes),
     }
 }

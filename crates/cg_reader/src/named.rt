@@ -5,12 +5,12 @@ ghost use Rattle.cg_reading.specs.Gives.{Gives};
 ghost use Rattle.cg_reading.specs.Readers.{skipped};
 ghost use Rattle.cg_grammar.specs.Grammar.{printable};
 ghost use Rattle.cg_grammar.specs.Reading.{over_at, number_at, switch_at, printable_at, string_at};
-ghost use Rattle.cg_grammar.specs.Reading.{enclosed_number_at, tiny_at};
+ghost use Rattle.cg_grammar.specs.Reading.{Of_tiny, behind_named_at, enclosed_number_at};
 ghost use Rattle.cg_reader.specs.Views.{found_of};
 
 use crate::found::Found;
 use cg_query::{Expr, Text};
-use cg_reading::{ReadFault, after_blanks, after_byte, after_word, digits, is_byte};
+use cg_reading::{ReadFault, after_blanks, after_byte, digits, is_byte};
 use std::alloc::Global;
 
 /// A denominator behind a slash, or 1.
@@ -108,15 +108,14 @@ fn enclosed_number(bytes: &[u8]) -> Result<((u128, u128), &[u8]), ReadFault>
     Ok((number, rest))
 }
 
-/// Tiny or miny, by the word in front.
-#[tactic(auto, using(cg_query::proofs::TreeOf::tiny_tree), unfolding(cg_grammar::specs::Reading::tiny_at))]
-pub fn tiny<'a>(word: &[u8], miny: bool, bytes: &'a [u8]) -> Result<(Found, &'a [u8]), ReadFault>
+/// The number of tiny or miny, between parentheses.
+#[tactic(auto, using(cg_query::proofs::TreeOf::tiny_tree))]
+pub fn tiny(miny: bool, bytes: &[u8]) -> Result<(Found, &[u8]), ReadFault>
     ensures read { (end : ℕ) → Gives (λ x. (found_of x.0, x.1.now)) result
-        (tiny_at word.now miny end bytes.now) }
+        (behind_named_at (Of_tiny miny) end bytes.now) }
     ensures shorter { IfOk result (λ x. length x.1.now < length bytes.now) }
 {
-    let rest = after_word(word, bytes)?;
-    let ((num, den), rest) = enclosed_number(rest)?;
+    let ((num, den), rest) = enclosed_number(bytes)?;
     let expr = Expr::Tiny { miny, num, den };
     Ok((Found { expr, fault: None }, rest))
 }

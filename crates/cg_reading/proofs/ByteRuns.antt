@@ -287,7 +287,7 @@ module _ {A : Type 0} (v : A) where
   word_none : (i : ℕ) (word bytes : List ℕ) → Alive (Word word v) i bytes (length bytes)
   word_none i word bytes = record { taken = []; rest = bytes; more = word; value = v; is = (refl, refl); split = refl; stuck = refl }
 
-  word_sound : (word : List ℕ) (end i : ℕ) (bytes : List ℕ) → Outcome (Word word v) i bytes (word_at word v end bytes)
+  pub word_sound : (word : List ℕ) (end i : ℕ) (bytes : List ℕ) → Outcome (Word word v) i bytes (word_at word v end bytes)
   word_sound [] end i bytes = record { text = []; is = (refl, refl); split = refl }
   word_sound (w ∷ word) end i [] = word_none i (w ∷ word) []
   word_sound (w ∷ word) end i (b ∷ bytes) = chosen (b == w) refl (word_sound word end i bytes)
@@ -296,11 +296,11 @@ module _ {A : Type 0} (v : A) where
       chosen true h o = subst (λ (z : ℕ). Outcome (Word (w ∷ word) v) i (z ∷ bytes) (word_at word v end bytes)) (sym (eqb-true b w h)) (word_more w i word bytes (word_at word v end bytes) o)
       chosen false h o = word_none i (w ∷ word) (b ∷ bytes)
 
-  word_again : (word : List ℕ) (end : ℕ) (rest : List ℕ) → word_at word v end (word ++ rest) ≡ Ok (v, rest)
+  pub word_again : (word : List ℕ) (end : ℕ) (rest : List ℕ) → word_at word v end (word ++ rest) ≡ Ok (v, rest)
   word_again [] end rest = refl
   word_again (w ∷ word) end rest = rw (eq-eqb w w refl) (word_again word end rest)
 
-  word_agree : (word : List ℕ) (end last : ℕ) (p : List ℕ) (c : ℕ) (q r : List ℕ) → Agree c q r (word_at word v end (p ++ c ∷ q)) (word_at word v last (p ++ c ∷ r))
+  pub word_agree : (word : List ℕ) (end last : ℕ) (p : List ℕ) (c : ℕ) (q r : List ℕ) → Agree c q r (word_at word v end (p ++ c ∷ q)) (word_at word v last (p ++ c ∷ r))
   word_agree [] end last p c q r = kept v p refl refl
   word_agree (w ∷ word) end last [] c q r = chosen (c == w)
     where

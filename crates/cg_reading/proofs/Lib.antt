@@ -18,3 +18,5 @@ pub mod TurnsGathered
 pub mod Texts
 pub mod MostBytes
 pub mod Tellings
+pub mod WordTables
+pub mod WordSteps

@@ -7,3 +7,4 @@ pub mod TokenReaders
 pub mod Column
 pub mod Gives
 pub mod Turns
+pub mod Words

@@ -14,5 +14,5 @@ mod tokens;
 pub use fault::ReadFault;
 pub use tokens::{
     after_all, after_blanks, after_byte, after_gap, after_word, digits, few_digits, is_blank,
-    is_byte, is_digit,
+    is_byte, is_digit, word_of,
 };

@@ -5,6 +5,7 @@ ghost use Rattle.cg_reading.specs.Bytes.{has};
 ghost use Rattle.cg_reading.specs.Tokens.{blank, digit, only};
 ghost use Rattle.cg_reading.specs.Readers.{skipped};
 ghost use Rattle.cg_reading.specs.TokenReaders.{byte_at, digits_at, few_digits_at, gap_at, this_word_at};
+ghost use Rattle.cg_reading.specs.Words.{among_at, words_of};
 ghost use Rattle.cg_reading.specs.Gives.{Gives};
 
 use crate::fault::ReadFault;
@@ -94,6 +95,28 @@ pub fn after_word<'a>(word: &[u8], bytes: &'a [u8]) -> Result<&'a [u8], ReadFaul
         rest = after;
     }
     Ok(rest)
+}
+
+/// The value of the word of the table that stands in front, and what is left behind the word.
+///
+/// Where no word of the table stands there, reading stops behind the longest front that the bytes have of one.
+pub fn word_of<'a, T: Copy>(
+    table: &[(&[u8], T)],
+    bytes: &'a [u8],
+) -> Result<(T, &'a [u8]), ReadFault>
+    ensures read { (end : ℕ) → Gives (λ x. (x.0, x.1.now)) result
+        (among_at (words_of table.now) end bytes.now) }
+    ensures shorter { IfOk result (λ x. length x.1.now ≤ length bytes.now) }
+{
+    let mut left = bytes.len();
+    for entry in table {
+        match after_word(entry.0, bytes) {
+            Ok(rest) => return Ok((entry.1, rest)),
+            Err(ReadFault::Stuck(here)) => left = left.min(here),
+            Err(fault) => return Err(fault),
+        }
+    }
+    Err(ReadFault::Stuck(left))
 }
 
 /// What is left behind all blanks in front, of which there is at least one.
