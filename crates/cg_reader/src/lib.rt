@@ -23,5 +23,4 @@ mod split;
 mod statements;
 mod sums;
 
-pub use line::read_line;
-pub use statements::read_statement;
+pub use line::{read_line, read_statement};
