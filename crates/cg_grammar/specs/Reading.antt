@@ -7,7 +7,7 @@ use Rattle.cg_reading.specs.Tokens.{only, blank, digit}
 use Rattle.cg_reading.specs.Words.{Table, among_at}
 use Rattle.cg_reading.specs.TokenReaders.{blanks_at, byte_at, gap_at, this_word_at, digits_at}
 use Rattle.cg_query.specs.Tree.{Tree, Question, number, ups, nimber, switch, tiny, sum, octal, used, terms_from, value, compare, outcome, stops, mean, temp, thermo, proof}
-use Rattle.cg_grammar.specs.Found.{Found, Asked, Stated, first}
+use Rattle.cg_grammar.specs.Found.{Found, Stated, first}
 use Rattle.cg_grammar.specs.Values.{Arrows, ups_tree, letter_or_digit, Last, In_none, In_arrows, In_name, Counted, whole, times, goes_on, counted_of, times_of, with_tail, clean, negated, sum_of, minus_of, first_fault, run_side, braces_of, one_text, two_texts, asked_of, asked_of_both, checked, asking, defined}
 use Rattle.cg_grammar.specs.Grammar.{printable, bar, letter, is_free}
 use Rattle.cg_query.specs.declared.format.Format.{Format}
