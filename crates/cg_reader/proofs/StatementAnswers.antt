@@ -15,7 +15,7 @@ use Rattle.cg_query.specs.declared.query.Line.{Line}
 use Rattle.cg_query.specs.declared.query.Line.TheVariants as lines
 use Rattle.cg_query.specs.declared.query.SyntaxFault.{SyntaxFault}
 use Rattle.cg_query.specs.declared.query.SyntaxFault.TheVariants as faults
-use Rattle.cg_grammar.proofs.Whole.{stated_as, not_blank, not_comment, blank_no_comment, read_is, column_is, faulty_states_none}
+use Rattle.cg_grammar.proofs.Whole.{stated_as, not_blank, not_comment, blank_no_comment, read_is, faulty_is}
 use Rattle.cg_reader.specs.Answered.{IsFaultless}
 
 module _ (format : Format) (text : List ℕ) where
@@ -30,7 +30,7 @@ module _ (format : Format) (text : List ℕ) where
   stated_refused s None (Err e) h a = absurd a
   stated_refused s (Some c) (Ok t) h a = tt
   stated_refused s (Some c) (Err faults.Memory) h a = absurd a
-  stated_refused s (Some c) (Err (faults.Syntax d)) h a = (faulty_states_none format text s c h, subst (λ (n : ℕ). IsColumnIn format text n) (sym a) (column_is format text s c h))
+  stated_refused s (Some c) (Err (faults.Syntax d)) h a = let f = faulty_is format text s c h in (f.0, subst (λ (n : ℕ). IsColumnIn format text n) (sym a) f.1)
 
 -- ---- lines of format 1 that are blank, a comment, or neither
 
