@@ -1,14 +1,15 @@
 -- More pieces behind those that were read.
 use Rattle.std.proofs.Common.{◌≡◌, ℕ, ◌-◌, ◌≤◌, Bool, true, false, ◌||◌, ◌&&◌, leb, List, [], ◌∷◌, ◌++◌, length, Option, Some, None, Ok, Err, refl, ap, sym, ◌∙◌, subst, append_assoc, append-nil, arith}
 use Rattle.cg_reading.specs.Bytes.{has}
-use Rattle.cg_reading.specs.Readers.{Read, Reader, ◌>>=◌, many_at, skipped, taken}
+use Rattle.cg_reading.specs.Readers.{Read, Reader, ◌>>=◌, behind_these, many_at, skipped, taken}
 use Rattle.cg_reading.specs.Tokens.{only, blank}
 use Rattle.cg_query.specs.Tree.{Tree, sum, terms_from}
 use Rattle.cg_grammar.specs.Found.{Found, first}
 use Rattle.cg_grammar.specs.Values.{sum_of, minus_of, first_fault}
 use Rattle.cg_query.specs.declared.format.Format.{Format}
 use Rattle.cg_grammar.proofs.Factored as g
-use Rattle.cg_grammar.specs.Reading.{plus_minus, next_item_at, next_term_at, sign_at, special_at, sum_at, term_at, more_terms_at, with_terms}
+use Rattle.cg_grammar.specs.Grammar.{bar}
+use Rattle.cg_grammar.specs.Reading.{plus_minus, item_list_at, next_item_at, next_term_at, row_at, row_list_at, sign_at, special_at, sum_at, term_at, more_terms_at, with_terms}
 use Rattle.cg_reading.proofs.Many.{push_piece, many_next, many_end}
 use Rattle.cg_grammar.proofs.Productions.{next_terms_ok}
 
@@ -74,9 +75,16 @@ unfolding more_terms_at
 pushed_on format k front fault end (Ok y) = one_more front fault y.0 (many_at plus_minus (next_term_at (special_at format k)) end y.1)
 pushed_on format k front fault end (Err n) = refl
 
+-- a sign and a term, as they are read
+abbrev term_read : Bool → List ℕ → Read Found → Read (Bool × Found)
+term_read minus blanks x =
+    let behind = ◌>>=◌ {B = (Found × List ℕ) × List ℕ} x (λ y. Ok ((y.0, taken blank y.1), skipped blank y.1)) in
+    let before = ◌>>=◌ {B = (List ℕ × (Found × List ℕ)) × List ℕ} behind (λ y. Ok ((blanks, y.0), y.1)) in
+    let signed = ◌>>=◌ {B = (Bool × (List ℕ × (Found × List ℕ))) × List ℕ} before (λ y. Ok ((minus, y.0), y.1)) in
+    ◌>>=◌ {B = (Bool × Found) × List ℕ} signed (λ v. Ok ((v.0.0, v.0.1.1.0), v.1))
+
 term_go : (format : Format) (k : ℕ) (front : List (Bool × Tree)) (fault : Option ℕ) (end : ℕ) (minus : Bool) (blanks : List ℕ) (x : Read Found)
-    → (((((x >>= λ y. Ok ((y.0, taken blank y.1), skipped blank y.1)) >>= λ y. Ok ((blanks, y.0), y.1)) >>= λ y. Ok ((minus, y.0), y.1)) >>= λ v. Ok ((v.0.0, v.0.1.1.0), v.1))
-    >>= λ y. more_terms_at format k (front ++ (y.0.0, y.0.1.tree) ∷ []) (first fault y.0.1.fault) end y.1) ≡ (x >>= further format k front fault end minus)
+    → (term_read minus blanks x >>= λ y. more_terms_at format k (front ++ (y.0.0, y.0.1.tree) ∷ []) (first fault y.0.1.fault) end y.1) ≡ (x >>= further format k front fault end minus)
 term_go format k front fault end minus blanks (Ok y) = refl
 term_go format k front fault end minus blanks (Err n) = refl
 
@@ -104,13 +112,20 @@ terms_next format k front fault end b all bytes s h u =
 
 -- ---- a sum behind its first term
 
-sum_go : (e : Found) (t : List ℕ) (x : Read (Bool × Found)) (format : Format) (k : ℕ) (end : ℕ)
-    → ((((x >>= λ y. push_piece y.0 (many_at plus_minus (next_term_at (special_at format k)) end y.1)) >>= λ y. Ok ((t, y.0), y.1)) >>= λ y. Ok ((e, y.0), y.1)) >>= λ v. Ok (sum_of v.0.0 v.0.1.1, v.1))
+-- a term and more terms, as they are read
+abbrev sum_read : Found → List ℕ → Read (List (Bool × Found)) → Read Found
+sum_read e blanks x =
+    let before = ◌>>=◌ {B = (List ℕ × List (Bool × Found)) × List ℕ} x (λ y. Ok ((blanks, y.0), y.1)) in
+    let whole = ◌>>=◌ {B = (Found × (List ℕ × List (Bool × Found))) × List ℕ} before (λ y. Ok ((e, y.0), y.1)) in
+    ◌>>=◌ {B = Found × List ℕ} whole (λ v. Ok (sum_of v.0.0 v.0.1.1, v.1))
+
+sum_go : (e : Found) (blanks : List ℕ) (x : Read (Bool × Found)) (format : Format) (k : ℕ) (end : ℕ)
+    → sum_read e blanks (x >>= λ y. push_piece y.0 (many_at plus_minus (next_term_at (special_at format k)) end y.1))
     ≡ with_terms ((false, e.tree) ∷ []) e.fault (x >>= λ y. push_piece y.0 (many_at plus_minus (next_term_at (special_at format k)) end y.1))
-sum_go e t (Err n) format k end = refl
-sum_go e t (Ok y) format k end = last (many_at plus_minus (next_term_at (special_at format k)) end y.1)
+sum_go e blanks (Err n) format k end = refl
+sum_go e blanks (Ok y) format k end = last (many_at plus_minus (next_term_at (special_at format k)) end y.1)
   where
-    last : (z : Read (List (Bool × Found))) → (((push_piece y.0 z >>= λ y. Ok ((t, y.0), y.1)) >>= λ y. Ok ((e, y.0), y.1)) >>= λ v. Ok (sum_of v.0.0 v.0.1.1, v.1)) ≡ with_terms ((false, e.tree) ∷ []) e.fault (push_piece y.0 z)
+    last : (z : Read (List (Bool × Found))) → sum_read e blanks (push_piece y.0 z) ≡ with_terms ((false, e.tree) ∷ []) e.fault (push_piece y.0 z)
     last (Ok ys) = refl
     last (Err n) = refl
 
@@ -123,12 +138,31 @@ sum_signs format k end bytes e behind rest b others read blanks s h u =
     let n = next_pushed format k end b others h (omega (arith, ap length s)) in
     rw (read, sym blanks, s, n) (sum_go e (taken blank behind) (next_term_at (special_at format k) end (b ∷ others)) format k end)
 
--- ---- a comma and the item behind it
+-- ---- items and rows
 
-item_go : (t : List ℕ) (b : ℕ) (x : Read Found) → (((x >>= λ y. Ok ((t, y.0), y.1)) >>= λ y. Ok ((b, y.0), y.1)) >>= λ v. Ok (v.0.1.1, v.1)) ≡ x
-item_go t b (Ok y) = refl
-item_go t b (Err n) = refl
+-- a comma and an item, as they are read
+abbrev item_read : List ℕ → ℕ → Read Found → Read Found
+item_read blanks b x =
+    let before = ◌>>=◌ {B = (List ℕ × Found) × List ℕ} x (λ y. Ok ((blanks, y.0), y.1)) in
+    let whole = ◌>>=◌ {B = (ℕ × (List ℕ × Found)) × List ℕ} before (λ y. Ok ((b, y.0), y.1)) in
+    ◌>>=◌ {B = Found × List ℕ} whole (λ v. Ok (v.0.1.1, v.1))
 
-pub item_next : (expr : Reader Found) (end b : ℕ) (all bytes : List ℕ) → all ≡ b ∷ bytes → has (only 44) b ≡ true → next_item_at expr end all ≡ expr end (skipped blank bytes)
-unfolding next_item_at
-item_next expr end b all bytes s h = ap (next_item_at expr end) s ∙ rw h (item_go (taken blank bytes) b (expr end (skipped blank bytes)))
+item_go : (blanks : List ℕ) (b : ℕ) (x : Read Found) → item_read blanks b x ≡ x
+item_go blanks b (Ok y) = refl
+item_go blanks b (Err n) = refl
+
+module _ (expr : Reader Found) where
+  -- a comma and the item behind it
+  pub item_next : (end b : ℕ) (all bytes : List ℕ) → all ≡ b ∷ bytes → has (only 44) b ≡ true → next_item_at expr end all ≡ expr end (skipped blank bytes)
+  unfolding next_item_at
+  item_next end b all bytes s h = ap (next_item_at expr end) s ∙ rw h (item_go (taken blank bytes) b (expr end (skipped blank bytes)))
+
+  -- the first item, and those behind it
+  pub item_first : (end : ℕ) (bytes : List ℕ) (v : Found) (rest : List ℕ) → expr end bytes ≡ Ok (v, rest) → item_list_at expr end bytes ≡ behind_these (only 44) (next_item_at expr) (v ∷ []) end rest
+  unfolding item_list_at
+  item_first end bytes v rest h = ap (λ (z : Read Found). z >>= λ x. behind_these (only 44) (next_item_at expr) (x.0 ∷ []) end x.1) h
+
+  -- the first row, and those behind it
+  pub row_first : (end : ℕ) (bytes : List ℕ) (v : (ℕ × ℕ) × List Found) (rest : List ℕ) → row_at expr end bytes ≡ Ok (v, rest) → row_list_at expr end bytes ≡ behind_these bar (row_at expr) (v ∷ []) end rest
+  unfolding row_list_at
+  row_first end bytes v rest h = ap (λ (z : Read ((ℕ × ℕ) × List Found)). z >>= λ x. behind_these bar (row_at expr) (x.0 ∷ []) end x.1) h

@@ -57,7 +57,8 @@ impl LineReader {
         ensures shorter { IfOk result (λ x. length x.1.now < length bytes.now) }
     {
         let (first, after) = self.sum(brackets, bytes)?;
-        let mut items = with_item(self.alloc, Side::Sound(Vec::new(self.alloc)), first)?;
+        let front = with_item(self.alloc, Side::Sound(Vec::new(self.alloc)), first)?;
+        let mut items = front;
         let mut rest = after;
         while let Some((comma, behind)) = rest.split_first() {
             if !is_byte(b',', *comma) {

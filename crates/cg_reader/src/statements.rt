@@ -13,7 +13,9 @@ use crate::found::{Found, Stated};
 use crate::line_reader::LineReader;
 use crate::named::string;
 use crate::names::lettered;
-use crate::questions::{Asking, AskingBoth, Kind, kind_of, query, query_of_both, question_word, value_word};
+use crate::questions::{
+    Asking, AskingBoth, Kind, kind_of, query, query_of_both, question_word, value_word,
+};
 use cg_query::{Format, Query, Statement, Text};
 use cg_reading::{ReadFault, after_blanks, after_byte, after_gap, after_word, is_byte};
 use std::alloc::Global;
@@ -110,11 +112,7 @@ impl LineReader {
     }
 
     /// A definition, behind the name.
-    fn behind_name<'a>(
-        self,
-        word: &[u8],
-        bytes: &'a [u8],
-    ) -> Result<(Stated, &'a [u8]), ReadFault>
+    fn behind_name<'a>(self, word: &[u8], bytes: &'a [u8]) -> Result<(Stated, &'a [u8]), ReadFault>
         requires { length bytes.now ≤ self.line_end }
         ensures { Gives (λ x. (stated_view x.0, x.1.now)) result
             (behind_word_at self.format word.now (kind_view kinds.Name) self.line_end bytes.now) }

@@ -1,8 +1,8 @@
 //! Terms and sums.
-ghost use Rattle.std.specs.Prelude.{◌≡◌, ◌<◌, ◌≤◌, ◌∷◌, [], false, length, IfOk};
+ghost use Rattle.std.specs.Prelude.{◌≡◌, ◌<◌, ◌≤◌, length, IfOk};
 ghost use Rattle.cg_reading.specs.Bytes.{has};
 ghost use Rattle.cg_reading.specs.Gives.{Gives};
-ghost use Rattle.cg_query.specs.Trees.{tree_of};
+ghost use Rattle.cg_query.specs.Trees.{terms_of};
 ghost use Rattle.cg_grammar.specs.Reading.{special_at, unsigned_term_at, minus_body_at, term_at};
 ghost use Rattle.cg_grammar.specs.Reading.{sum_at, more_terms_at, plus_minus};
 ghost use Rattle.cg_reader.specs.Views.{found_of};
@@ -77,25 +77,22 @@ impl LineReader {
         }
     }
 
-    /// The rest of a sum behind its first term, where a sign comes.
+    /// More terms of a sum, behind these and the first fault in them.
     #[cycle(items)]
     fn more_terms(
         self,
         brackets: u8,
-        first: Found,
+        terms: Vec<Term>,
+        fault: Option<u64>,
         bytes: &[u8],
     ) -> Result<(Found, &[u8]), ReadFault>
         requires { length bytes.now ≤ self.line_end }
         ensures read { Gives (λ x. (found_of x.0, x.1.now)) result
-            (more_terms_at self.format brackets ((false, tree_of first.expr) ∷ []) first.fault self.line_end bytes.now) }
+            (more_terms_at self.format brackets (terms_of terms.items) fault self.line_end bytes.now) }
         ensures shorter { IfOk result (λ x. length x.1.now ≤ length bytes.now) }
     {
-        let mut fault = first.fault;
-        let mut terms = Vec::new(self.alloc);
-        terms.push(Term {
-            minus: false,
-            expr: first.expr,
-        })?;
+        let mut terms = terms;
+        let mut fault = fault;
         let mut rest = bytes;
         while let Some((sign, behind)) = rest.split_first() {
             if !is_sign(*sign) {
@@ -127,7 +124,15 @@ impl LineReader {
         let (first, rest) = self.term(brackets, bytes)?;
         let rest = after_blanks(rest);
         match rest.split_first() {
-            Some((sign, _)) if is_sign(*sign) => self.more_terms(brackets, first, rest),
+            Some((sign, _)) if is_sign(*sign) => {
+                let fault = first.fault;
+                let mut terms = Vec::new(self.alloc);
+                terms.push(Term {
+                    minus: false,
+                    expr: first.expr,
+                })?;
+                self.more_terms(brackets, terms, fault, rest)
+            }
             _ => Ok((first, rest)),
         }
     }

@@ -1,9 +1,9 @@
-use Rattle.std.proofs.Common.{◌≡◌, ◌+◌, ◌*◌, ◌<◌, ◌≤◌, false, [], ◌∷◌, length, map}
+use Rattle.std.proofs.Common.{◌≡◌, ◌+◌, ◌*◌, ◌<◌, ◌≤◌, ◌∷◌, length, map}
 use Rattle.cg_reading.specs.Readers.{behind_these}
 use Rattle.cg_reading.specs.Tokens.{only}
 use Rattle.cg_grammar.specs.Grammar.{bar}
 use Rattle.cg_grammar.specs.Reading.{special_at, sum_at, more_terms_at, item_list_at, next_item_at, row_at, row_list_at}
-use Rattle.cg_query.specs.Trees.{tree_of, terms_of}
+use Rattle.cg_query.specs.Trees.{terms_of}
 use Rattle.cg_reader.specs.Views.{row_of, side_found}
 use Rattle.cg_reader.proofs.line_reader.LineReader.+items.Given as goal
 
@@ -66,7 +66,7 @@ abbrev pub invariant-more_terms-loop-sign : goal.invariant-more_terms-loop-sign
 invariant-more_terms-loop-sign l = record {
   shorter : length l.rest ≤ length l.fn.bytes;
   same : more_terms_at l.self.format l.brackets (terms_of l.terms.items) l.fault l.self.line_end l.rest
-      ≡ more_terms_at l.self.format l.brackets ((false, tree_of l.fn.first.expr) ∷ []) l.fn.first.fault l.self.line_end l.fn.bytes;
+      ≡ more_terms_at l.self.format l.brackets (terms_of l.fn.terms.items) l.fn.fault l.self.line_end l.fn.bytes;
 }
 
 abbrev pub decreases-more_terms-loop-sign : goal.decreases-more_terms-loop-sign
