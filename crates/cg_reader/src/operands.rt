@@ -3,9 +3,9 @@
 ghost use Rattle.std.specs.Prelude.{◌≡◌, ◌<◌, ◌≤◌, length, IfOk, ℕ};
 ghost use Rattle.cg_reading.specs.Bytes.{has};
 ghost use Rattle.cg_reading.specs.Gives.{Gives};
-ghost use Rattle.cg_grammar.specs.Reading.{special_at, bare_special_at, plain_primary_at, times_at, counted_multiple_at};
-ghost use Rattle.cg_grammar.specs.Reading.{plain_counted_term_at, ups_term_at, special_term_at, uncounted_term_at, bracket_at};
-ghost use Rattle.cg_grammar.specs.Reading.{plain_begin, uncounted_begin, term_begin, sum_at, paren_at};
+ghost use Rattle.cg_grammar.specs.Reading.{special_at, bare_special_at, bracket_at, sum_at, ups_term_at};
+ghost use Rattle.cg_grammar.specs.Reading.{plain_primary_at, times_at, counted_multiple_at, plain_counted_term_at};
+ghost use Rattle.cg_grammar.specs.Reading.{uncounted_term_at, plain_begin, uncounted_begin, term_begin};
 ghost use Rattle.cg_reader.specs.Views.{found_of};
 
 use crate::arrows::{is_arrow, nim, nimber_expr, some_nim, ups};
@@ -130,10 +130,35 @@ impl LineReader {
         }
     }
 
+    /// The point and the operand of a multiple.
+    #[cycle(items)]
+    #[tactic(auto, unfolding(cg_grammar::specs::Reading::times_at))]
+    fn times(
+        self,
+        brackets: u8,
+        negative: bool,
+        num: u128,
+        bytes: &[u8],
+    ) -> Result<(Found, &[u8]), ReadFault>
+        requires { length bytes.now ≤ self.line_end }
+        ensures read { Gives (λ x. (found_of x.0, x.1.now)) result
+            (times_at (special_at self.format brackets) negative num self.line_end bytes.now) }
+        ensures shorter { IfOk result (λ x. length x.1.now < length bytes.now) }
+    {
+        match bytes.split_first() {
+            Some((first, rest)) if is_byte(b'.', *first) => {
+                let (operand, rest) = self.primary(brackets, rest)?;
+                let found = multiple(self.alloc, negative, num, operand)?;
+                Ok((found, rest))
+            }
+            _ => Err(ReadFault::Stuck(bytes.len())),
+        }
+    }
+
     /// The point and the operand of a multiple, and what stands together with it.
     #[cycle(items)]
     #[inline(never)]
-    #[tactic(auto, unfolding(cg_grammar::specs::Reading::counted_multiple_at, cg_grammar::specs::Reading::times_at, cg_grammar::specs::Reading::tail_of_at, cg_reading::specs::TokenReaders::byte_at))]
+    #[tactic(auto, unfolding(cg_grammar::specs::Reading::counted_multiple_at, cg_grammar::specs::Reading::tail_of_at))]
     fn counted_multiple(
         self,
         brackets: u8,
@@ -146,10 +171,8 @@ impl LineReader {
             (counted_multiple_at (special_at self.format brackets) negative num self.line_end bytes.now) }
         ensures shorter { IfOk result (λ x. length x.1.now < length bytes.now) }
     {
-        let rest = after_byte(b'.', bytes)?;
-        let (operand, rest) = self.primary(brackets, rest)?;
-        let found = multiple(self.alloc, negative, num, operand)?;
-        behind_operand(self.alloc, found, rest)
+        let (operand, rest) = self.times(brackets, negative, num, bytes)?;
+        behind_operand(self.alloc, operand, rest)
     }
 
     /// A number or a multiple, and what stands together with it.

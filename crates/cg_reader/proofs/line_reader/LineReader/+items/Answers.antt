@@ -1,4 +1,4 @@
-use Rattle.std.proofs.Common.{rules, ◌≡◌, ℕ, ◌-◌, Bool, false, List, [], ◌∷◌, ◌++◌, Option, Ok, map, ap, sym, subst, ◌∙◌, arith}
+use Rattle.std.proofs.Common.{rules, ◌≡◌, ℕ, ◌-◌, Bool, false, List, [], ◌∷◌, ◌++◌, length, Option, Ok, map, ap, sym, subst, ◌∙◌, arith}
 use Rattle.std.proofs.lemmas.List.{nil_from_length, map_push}
 use Rattle.std.proofs.lemmas.Result.{err_from_is_err_and}
 use Rattle.cg_reading.specs.Bytes.{has}
@@ -71,7 +71,7 @@ more_terms-loop-sign-preserved t c =
     let next = ap (λ (z : Read found.Found). z >>= λ y. more_terms_at f k (front ++ (has (only 45) c.in-Some.sign.now, y.0.tree) ∷ []) (found.first fault y.0.fault) end (skipped blank y.1)) read in
     let pushed : terms_of c.push.new.self.items ≡ front ++ (minus, tree_of operand.expr) ∷ [] = rw c.in_ok-push.ensures.items (map_push _ c.loop-sign.terms.items (record { minus = minus; expr = operand.expr }) ∙ ap (λ (x : Bool × tree.Tree). front ++ x ∷ []) (term_tree minus operand.expr)) in
     record {
-      shorter = omega (arith, c.in_ok-found.ensures.shorter, c.after_blanks.ensures.shorter, c.after_blanks-rest.ensures.shorter, c.loop-sign.invariant.shorter);
+      shorter = omega (arith, ap length c.in-Some.ensures.cases.0, c.in_ok-found.ensures.shorter, c.after_blanks.ensures.shorter, c.after_blanks-rest.ensures.shorter, c.loop-sign.invariant.shorter);
       same = ap (λ (ts : List (Bool × tree.Tree)). more_terms_at f k ts c.earlier-merged.result end rest) pushed
           ∙ ap (λ (o : Option ℕ). more_terms_at f k (front ++ (minus, tree_of operand.expr) ∷ []) o end rest) c.earlier-merged.ensures
           ∙ ap (λ (m : Bool). more_terms_at f k (front ++ (m, tree_of operand.expr) ∷ []) (found.first fault operand.fault) end rest) c.is_byte-minus.ensures
@@ -127,7 +127,7 @@ items-loop-comma-preserved t c =
     let pushed : side_found c.in_ok-items.items ≡ front ++ found_of c.in_ok-found.found ∷ [] = search (rules, c.in_ok-items.ensures) in
     let next = ap (λ (z : Read found.Found). z >>= λ y. behind_these (only 44) (next_item_at S) (front ++ y.0 ∷ []) end y.1) read in
     record {
-      shorter = omega (arith, c.in_ok-found.ensures.shorter, c.after_blanks.ensures.shorter, c.loop-comma.invariant.shorter);
+      shorter = omega (arith, ap length c.in-Some.ensures.cases.0, c.in_ok-found.ensures.shorter, c.after_blanks.ensures.shorter, c.loop-comma.invariant.shorter);
       same = ap (λ (ts : List found.Found). behind_these (only 44) (next_item_at S) ts end after) pushed ∙ sym (e ∙ next) ∙ c.loop-comma.invariant.same;
     }
 

@@ -48,6 +48,9 @@ decreases-counted_term l = 32 * l.brackets + 5
 abbrev pub decreases-counted_multiple : goal.decreases-counted_multiple
 decreases-counted_multiple l = 32 * l.brackets + 4
 
+abbrev pub decreases-times : goal.decreases-times
+decreases-times l = 32 * l.brackets + 3
+
 abbrev pub decreases-uncounted_term : goal.decreases-uncounted_term
 decreases-uncounted_term l = 32 * l.brackets + 3
 
