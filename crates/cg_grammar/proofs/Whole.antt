@@ -227,6 +227,14 @@ module _ (format : Format) (text : List ℕ) where
   pub one_column : (c d : ℕ) → IsColumnIn format text c → IsColumnIn format text d → c ≡ d
   one_column c d s t = same_column c d (as_column format text c s) (as_column format text d t)
 
+  -- a line that states something has no column
+  pub stated_or_column : (s : Statement) (c : ℕ) → ReadsIn format text s → IsColumnIn format text c → ⊥
+  stated_or_column s c x y = by_column (as_column format text c y)
+    where
+      by_column : Column format text c → ⊥
+      by_column (inl stops) = stops.none (stated_as s None, as_line format text s x)
+      by_column (inr (t, is)) = some_none c (ap (λ (a : Stated). a.fault) (one_stated (stated_as t (Some c)) (stated_as s None) is (as_line format text s x)))
+
 -- ---- questions
 
 asks_is : (p q : Question) → asks p ≡ asks q → p ≡ q
