@@ -3,9 +3,8 @@ ghost use Rattle.std.specs.Prelude.{◌≡◌, ◌≤◌, ◌↔◌, ◌⊎◌, 
 ghost use Rattle.cg_query.specs.Tree.{Question, Statement};
 ghost use Rattle.cg_query.specs.declared.format.Format.TheVariants as formats;
 ghost use Rattle.cg_grammar.specs.Braces.{Run_side, part_of, repeats};
-ghost use Rattle.cg_grammar.specs.Formats.{ReadsIn, IsColumnIn};
 ghost use Rattle.cg_grammar.specs.Found.{Found};
-ghost use Rattle.cg_grammar.specs.Lines.{is_blank_line, IsColumn, IsComment, Reads};
+ghost use Rattle.cg_grammar.specs.Lines.{is_blank_line, IsColumn, IsColumnIn, IsComment, Reads, ReadsIn};
 ghost use Rattle.cg_grammar.specs.Splitting.{AllWithin, IsSplit, IsWithoutRepeats, NoneRepeats, Repeats};
 
 /// No line reads as two questions, no blank line and no comment as one, and each line as one, or as none. A line that
