@@ -12,6 +12,7 @@ use Rattle.cg_query.specs.Tree.{Tree, Question, Statement, asks, defines}
 use Rattle.cg_query.specs.declared.format.Format.{Format}
 use Rattle.cg_query.specs.declared.format.Format.TheVariants as formats
 use Rattle.cg_grammar.specs.Found.{Stated}
+use Rattle.cg_grammar.specs.Grammar.{line}
 use Rattle.cg_grammar.specs.Reading.{read_at, line_at}
 use Rattle.cg_grammar.specs.Lines.{line_of, is_blank_line, IsComment, IsInGrammar, ReadsIn, IsColumnIn, Reads, IsColumn}
 use Rattle.cg_grammar.proofs.Productions.{statement_ok, statement_begin}
@@ -193,6 +194,14 @@ defines_none text word t r = by r.made_of.question (ap (λ (a : Stated). a.state
   where
     by : (q : Question) → defines word t ≡ asks q → ⊥
     by q e = cc
+
+-- a line that reads as a question, by its piece of the grammar
+pub as_asked : (text : List ℕ) (q : Question) → Reads text q → line 1 (record { question = q; fault = None }) text
+as_asked text q r =
+    let e : q ≡ r.made_of.question = asks_is q r.made_of.question (ap (λ (a : Stated). a.statement) r.same) in
+    let f : None ≡ r.made_of.fault = ap (λ (a : Stated). a.fault) r.same in
+    subst (λ (z : Question). line 1 (record { question = z; fault = None }) text) (sym e)
+    (subst (λ (o : Option ℕ). line 1 (record { question = r.made_of.question; fault = o }) text) (sym f) r.is)
 
 -- no line reads as two questions
 pub one_question : (text : List ℕ) (p q : Question) → Reads text p → Reads text q → p ≡ q
