@@ -51,4 +51,4 @@ pub returns-in-Err-clause-comment : goal.returns-in-Err-clause-comment
 returns-in-Err-clause-comment c = neither_comment c.args.line.now c.in-Some.first.now c.in-Some.field-0-1.now _ (sym c.after_blanks.ensures.rest ∙ c.in-Some.ensures.cases.0) c.if-first-eq35.false tt
 
 pub returns-in-Err-clause-refused : goal.returns-in-Err-clause-refused
-returns-in-Err-clause-refused c = line_refused c.args.line.now c.in-Some.first.now c.in-Some.field-0-1.now c.in-Err.fault (sym c.after_blanks.ensures.rest ∙ c.in-Some.ensures.cases.0) c.if-first-eq35.false c.in-Err.ensures
+returns-in-Err-clause-refused c = line_refused c.args.line.now c.in-Some.first.now c.in-Some.field-0-1.now c.in-Err.fault (sym c.after_blanks.ensures.rest ∙ c.in-Some.ensures.cases.0) c.if-first-eq35.false c.in-Err.ensures.refused
