@@ -16,16 +16,12 @@ use Rattle.cg_query.specs.declared.format.Format.TheVariants as formats
 use Rattle.cg_grammar.specs.Found.{Found, Asked, Stated}
 use Rattle.cg_grammar.specs.Values.{letter_or_digit, asked_of, asked_of_both, checked, asking, defined}
 use Rattle.cg_grammar.specs.Grammar as s
+use Rattle.cg_grammar.specs.Lines.{line_of}
 use Rattle.cg_grammar.specs.Reading.{line_at, Kind, Of_one, Of_two, Of_check, Of_name, kinds, question_kinds, kind_among, kind_of}
 use Rattle.cg_grammar.proofs.Factored as g
 use Rattle.cg_grammar.proofs.FreeWords.{letters_spelled, word_is}
 use Rattle.cg_grammar.proofs.Productions.{line_ok}
 use Rattle.cg_grammar.proofs.SameLines.{expr_same, query_same, one_value, both_value, check_value}
-
--- a line of a format, as the grammar has it
-abbrev pub line_in : Format → Piece Stated
-line_in formats.One = Made asking s.line
-line_in formats.Two = s.line_two
 
 -- ---- blanks belong to what stands before them
 
@@ -69,7 +65,7 @@ define_same =
     (then_same (same_self W)
     (same_on (blanks_behind_then blanks E) (then_same (same_self blanks) (same_back (expr_same formats.Two)))))))))))
 
-statements_same : (format : Format) → Same (line_in format) (Made (λ v. v.1) (Then blanks (statements format)))
+statements_same : (format : Format) → Same (line_of format) (Made (λ v. v.1) (Then blanks (statements format)))
 statements_same formats.One =
     let W : Piece Asked = with_blanks (s.query (s.expr (s.special formats.One 64))) in
     same_on (made_twice asking (λ v. v.1) (Then blanks W))
@@ -285,7 +281,7 @@ words_same formats.Two = record { to = to; from = λ i a text t. from_first i a 
     to i a text (inl m) = to_question formats.Two i a text m.made_of m.is m.same
     to i a text (inr m) = name_to i a text m
 
-pub line_same : (format : Format) → Same (g.line format) (line_in format)
+pub line_same : (format : Format) → Same (g.line format) (line_of format)
 line_same format = same_back (same_on (statements_same format) (made_same (λ v. v.1) (then_same (same_self blanks) (words_same format))))
 
 abbrev pub line_begin : Class
@@ -294,5 +290,5 @@ line_begin = (32, 32) ∷ (9, 9) ∷ (13, 13) ∷ (97, 122) ∷ []
 abbrev pub line_follow : Class
 line_follow = (97, 122) ∷ (48, 57) ∷ (94, 94) ∷ (42, 42) ∷ (47, 47) ∷ (46, 46) ∷ (32, 32) ∷ (9, 9) ∷ (13, 13) ∷ (43, 43) ∷ (45, 45) ∷ []
 
-pub line_lawful : (format : Format) → Lawful (line_in format) (line_at format) line_begin false line_follow
+pub line_lawful : (format : Format) → Lawful (line_of format) (line_at format) line_begin false line_follow
 line_lawful format = same_lawful (line_same format) (line_ok format)

@@ -7,18 +7,16 @@ use Rattle.cg_reading.specs.Tokens.{blank}
 use Rattle.cg_reading.specs.Readers.{skipped}
 use Rattle.cg_reading.specs.Column.{Stops}
 use Rattle.cg_reading.proofs.Sets.{apart_has}
-use Rattle.cg_reading.proofs.WholeLines.{Is_line, whole_takes, whole_stops, whole_left, whole_once}
-use Rattle.cg_query.specs.Tree.{Question, Statement, asks, defines}
+use Rattle.cg_reading.proofs.WholeLines.{whole_takes, whole_stops, whole_left, whole_once}
+use Rattle.cg_query.specs.Tree.{Tree, Question, Statement, asks, defines}
 use Rattle.cg_query.specs.declared.format.Format.{Format}
 use Rattle.cg_query.specs.declared.format.Format.TheVariants as formats
 use Rattle.cg_grammar.specs.Found.{Stated}
-use Rattle.cg_grammar.specs.Values.{asking}
 use Rattle.cg_grammar.specs.Grammar.{line}
 use Rattle.cg_grammar.specs.Reading.{read_at, line_at}
-use Rattle.cg_grammar.specs.Lines.{is_blank_line, IsComment, IsInGrammar, Reads, IsColumn}
-use Rattle.cg_grammar.specs.Formats.{ReadsIn, IsColumnIn}
+use Rattle.cg_grammar.specs.Lines.{line_of, is_blank_line, IsComment, IsInGrammar, ReadsIn, IsColumnIn, Reads, IsColumn}
 use Rattle.cg_grammar.proofs.Productions.{statement_ok, statement_begin}
-use Rattle.cg_grammar.proofs.SameStatements.{line_in, line_lawful, line_begin, line_follow, line_same}
+use Rattle.cg_grammar.proofs.SameStatements.{line_lawful, line_begin, line_follow, line_same}
 
 -- ---- what stands behind the blanks
 
@@ -83,54 +81,10 @@ not_comment text b rest e n is = n (heads b 35 rest is.behind (sym e ∙ comment
 pub blank_no_comment : (text : List ℕ) → skipped blank text ≡ [] → IsComment text → ⊥
 blank_no_comment text e is = some_not_none 35 is.behind (sym (comment_skipped text is) ∙ e)
 
--- ---- what a line states, by its piece of the grammar
+-- ---- what a line states
 
 abbrev pub stated_as : Statement → Option ℕ → Stated
 stated_as s o = record { statement = s; fault = o }
-
-asked_line : (text : List ℕ) (s : Statement) (o : Option ℕ) → line_in formats.One 1 (stated_as s o) text → (q : Question) × (s ≡ asks q) × line 1 (record { question = q; fault = o }) text
-asked_line text s o m = (m.made_of.question, ap (λ (a : Stated). a.statement) m.same, subst (λ (z : Option ℕ). line 1 (record { question = m.made_of.question; fault = z }) text) (sym (ap (λ (a : Stated). a.fault) m.same)) m.is)
-
-as_line : (format : Format) (text : List ℕ) (s : Statement) → ReadsIn format text s → line_in format 1 (stated_as s None) text
-as_line formats.One text (asks q) r = record { made_of = record { question = q; fault = None }; is = r; same = refl }
-as_line formats.One text (defines w t) r = elim r [ ]
-as_line formats.Two text s r = r
-
-of_line : (format : Format) (text : List ℕ) (s : Statement) → line_in format 1 (stated_as s None) text → ReadsIn format text s
-of_line formats.One text s m = let (q, e, l) = asked_line text s None m in subst (λ (z : Statement). ReadsIn formats.One text z) (sym e) l
-of_line formats.Two text s m = m
-
--- where a line stops is the same for grammars of the same lines
-stops_as : {P Q : List ℕ → Type 0} → ((t : List ℕ) → P t → Q t) → ((t : List ℕ) → Q t → P t) → (text : List ℕ) (c : ℕ) → Stops P text c → Stops Q text c
-stops_as to from text c s = record {
-  before = s.before;
-  behind = s.behind;
-  split = s.split;
-  at = s.at;
-  begun = (s.begun.0, to (s.before ++ s.begun.0) s.begun.1);
-  longest = λ x y e b. s.longest x y e (b.0, from (x ++ b.0) b.1);
-  none = λ q. s.none (from text q);
-}
-
-to_asked : (t : List ℕ) → Is_line (line_in formats.One) t → IsInGrammar t
-to_asked t m = (m.1.made_of, m.1.is)
-
-from_asked : (t : List ℕ) → IsInGrammar t → Is_line (line_in formats.One) t
-from_asked t m = (asking m.0, record { made_of = m.0; is = m.1; same = refl })
-
--- the column, by the piece of the grammar
-abbrev Column : Format → List ℕ → ℕ → Type 0
-Column format text c = Stops (Is_line (line_in format)) text c ⊎ ((s : Statement) × line_in format 1 (stated_as s (Some c)) text)
-
-column_of : (format : Format) (text : List ℕ) (c : ℕ) → Column format text c → IsColumnIn format text c
-column_of formats.One text c (inl s) = inl (stops_as to_asked from_asked text c s)
-column_of formats.One text c (inr (s, m)) = let (q, e, l) = asked_line text s (Some c) m in inr (q, l)
-column_of formats.Two text c m = m
-
-as_column : (format : Format) (text : List ℕ) (c : ℕ) → IsColumnIn format text c → Column format text c
-as_column formats.One text c (inl s) = inl (stops_as from_asked to_asked text c s)
-as_column formats.One text c (inr (q, l)) = inr (asks q, record { made_of = record { question = q; fault = Some c }; is = l; same = refl })
-as_column formats.Two text c m = m
 
 some_none : (n : ℕ) → Some n ≡ None → ⊥
 some_none n e = cc
@@ -146,37 +100,37 @@ stops_once text c d s t = omega (arith, s.at, t.at, t.longest s.before s.behind 
 module _ (format : Format) (text : List ℕ) where
   pub read_left : (n : ℕ) → read_at format text ≡ Err n → n ≤ length text
   unfolding read_at
-  read_left n h = whole_left (line_in format) (line_at format) line_begin false line_follow (line_lawful format) text n h
+  read_left n h = whole_left (line_of format) (line_at format) line_begin false line_follow (line_lawful format) text n h
 
-  one_stated : (a b : Stated) → line_in format 1 a text → line_in format 1 b text → a ≡ b
-  one_stated a b x y = whole_once (line_in format) (line_at format) line_begin false line_follow (line_lawful format) text a b x y
+  one_stated : (a b : Stated) → line_of format 1 a text → line_of format 1 b text → a ≡ b
+  one_stated a b x y = whole_once (line_of format) (line_at format) line_begin false line_follow (line_lawful format) text a b x y
 
-  found : (a : Stated) → read_at format text ≡ Ok a → line_in format 1 a text
+  found : (a : Stated) → read_at format text ≡ Ok a → line_of format 1 a text
   unfolding read_at
-  found a h = whole_takes (line_in format) (line_at format) line_begin false line_follow (line_lawful format) text a h
+  found a h = whole_takes (line_of format) (line_at format) line_begin false line_follow (line_lawful format) text a h
 
-  stuck : (n column : ℕ) → read_at format text ≡ Err n → column + n ≡ suc (length text) → Stops (Is_line (line_in format)) text column
+  stuck : (n column : ℕ) → read_at format text ≡ Err n → column + n ≡ suc (length text) → Stops (IsInGrammar format) text column
   unfolding read_at
-  stuck n column h c = whole_stops (line_in format) (line_at format) line_begin false line_follow (line_lawful format) text n column h c
+  stuck n column h c = whole_stops (line_of format) (line_at format) line_begin false line_follow (line_lawful format) text n column h c
 
   -- what was read without a fault is what the line states
   pub read_is : (s : Statement) → read_at format text ≡ Ok (stated_as s None) → ReadsIn format text s
-  read_is s h = of_line format text s (found (stated_as s None) h)
+  read_is s h = found (stated_as s None) h
 
   -- a line with a fault states nothing, and this is its column
   pub faulty_is : (s : Statement) (c : ℕ) → read_at format text ≡ Ok (stated_as s (Some c)) → ((p : Statement) → ¬ ReadsIn format text p) × IsColumnIn format text c
   faulty_is s c h =
       let is = found (stated_as s (Some c)) h in
-      (λ p r. some_none c (ap (λ (a : Stated). a.fault) (one_stated (stated_as s (Some c)) (stated_as p None) is (as_line format text p r))), column_of format text c (inr (s, is)))
+      (λ p r. some_none c (ap (λ (a : Stated). a.fault) (one_stated (stated_as s (Some c)) (stated_as p None) is r)), inr (s, is))
 
   -- and so is one on which reading stops
   pub stops_of : (n column : ℕ) → read_at format text ≡ Err n → column + n ≡ suc (length text) → ((p : Statement) → ¬ ReadsIn format text p) × IsColumnIn format text column
-  stops_of n column h c = let s = stuck n column h c in (λ p r. s.none (stated_as p None, as_line format text p r), column_of format text column (inl s))
+  stops_of n column h c = let s = stuck n column h c in (λ p r. s.none (stated_as p None, r), inl s)
 
   -- ---- laws
 
   pub one_statement : (p q : Statement) → ReadsIn format text p → ReadsIn format text q → p ≡ q
-  one_statement p q x y = ap (λ (a : Stated). a.statement) (one_stated (stated_as p None) (stated_as q None) (as_line format text p x) (as_line format text q y))
+  one_statement p q x y = ap (λ (a : Stated). a.statement) (one_stated (stated_as p None) (stated_as q None) x y)
 
   -- what a statement has in front isn't blank, and is no #
   front : (y bs x : List ℕ) → list_all (has blank) bs ≡ true → x ≡ bs → text ≡ x ++ y → Begins statement_begin false y → IsOther text
@@ -193,7 +147,7 @@ module _ (format : Format) (text : List ℕ) where
 
   statement_other : (s : Statement) → ReadsIn format text s → IsOther text
   statement_other s r =
-      let m = (line_same format).from 1 (stated_as s None) text (as_line format text s r) in
+      let m = (line_same format).from 1 (stated_as s None) text r in
       front m.is.behind m.made_of.0 m.is.before m.is.first.within m.is.first.spelled m.is.spelled ((statement_ok format).begins (1 + length m.is.before) m.made_of.1 m.is.behind m.is.second)
 
   pub statement_not_blank : (s : Statement) → ReadsIn format text s → is_blank_line text ≡ false
@@ -217,28 +171,37 @@ module _ (format : Format) (text : List ℕ) where
       tells (Ok a) h = by_fault a.statement a.fault h
       tells (Err n) h = let s = stops_of n (suc (length text) - n) h (omega (arith, read_left n h)) in inr (s.0, (suc (length text) - n, s.1))
 
-  same_column : (c d : ℕ) → Column format text c → Column format text d → c ≡ d
-  same_column c d (inl s) (inl t) = stops_once text c d s t
-  same_column c d (inl s) (inr (q, t)) = absurd (s.none (stated_as q (Some d), t))
-  same_column c d (inr (p, s)) (inl t) = absurd (t.none (stated_as p (Some c), s))
-  same_column c d (inr (p, s)) (inr (q, t)) = same_some c d (ap (λ (a : Stated). a.fault) (one_stated (stated_as p (Some c)) (stated_as q (Some d)) s t))
-
   -- a line that states nothing has one column
   pub one_column : (c d : ℕ) → IsColumnIn format text c → IsColumnIn format text d → c ≡ d
-  one_column c d s t = same_column c d (as_column format text c s) (as_column format text d t)
+  one_column c d (inl s) (inl t) = stops_once text c d s t
+  one_column c d (inl s) (inr (q, t)) = absurd (s.none (stated_as q (Some d), t))
+  one_column c d (inr (p, s)) (inl t) = absurd (t.none (stated_as p (Some c), s))
+  one_column c d (inr (p, s)) (inr (q, t)) = same_some c d (ap (λ (a : Stated). a.fault) (one_stated (stated_as p (Some c)) (stated_as q (Some d)) s t))
 
   -- a line that states something has no column
   pub stated_or_column : (s : Statement) (c : ℕ) → ReadsIn format text s → IsColumnIn format text c → ⊥
-  stated_or_column s c x y = by_column (as_column format text c y)
-    where
-      by_column : Column format text c → ⊥
-      by_column (inl stops) = stops.none (stated_as s None, as_line format text s x)
-      by_column (inr (t, is)) = some_none c (ap (λ (a : Stated). a.fault) (one_stated (stated_as t (Some c)) (stated_as s None) is (as_line format text s x)))
+  stated_or_column s c x (inl stops) = stops.none (stated_as s None, x)
+  stated_or_column s c x (inr (t, is)) = some_none c (ap (λ (a : Stated). a.fault) (one_stated (stated_as t (Some c)) (stated_as s None) is x))
 
 -- ---- questions
 
 asks_is : (p q : Question) → asks p ≡ asks q → p ≡ q
 asks_is p q e = cc
+
+-- no line of format 1 defines anything
+pub defines_none : (text word : List ℕ) (t : Tree) → ReadsIn formats.One text (defines word t) → ⊥
+defines_none text word t r = by r.made_of.question (ap (λ (a : Stated). a.statement) r.same)
+  where
+    by : (q : Question) → defines word t ≡ asks q → ⊥
+    by q e = cc
+
+-- a line that reads as a question, by its piece of the grammar
+pub as_asked : (text : List ℕ) (q : Question) → Reads text q → line 1 (record { question = q; fault = None }) text
+as_asked text q r =
+    let e : q ≡ r.made_of.question = asks_is q r.made_of.question (ap (λ (a : Stated). a.statement) r.same) in
+    let f : None ≡ r.made_of.fault = ap (λ (a : Stated). a.fault) r.same in
+    subst (λ (z : Question). line 1 (record { question = z; fault = None }) text) (sym e)
+    (subst (λ (o : Option ℕ). line 1 (record { question = r.made_of.question; fault = o }) text) (sym f) r.is)
 
 -- no line reads as two questions
 pub one_question : (text : List ℕ) (p q : Question) → Reads text p → Reads text q → p ≡ q
@@ -251,5 +214,5 @@ reads_or_not text = by_case (states_or_not formats.One text)
     by_case : ((s : Statement) × ReadsIn formats.One text s) ⊎ (((s : Statement) → ¬ ReadsIn formats.One text s) × ((c : ℕ) × IsColumnIn formats.One text c))
         → ((q : Question) × Reads text q) ⊎ (((q : Question) → ¬ Reads text q) × ((c : ℕ) × IsColumn text c))
     by_case (inl (asks q, r)) = inl (q, r)
-    by_case (inl (defines w t, r)) = elim r [ ]
+    by_case (inl (defines w t, r)) = absurd (defines_none text w t r)
     by_case (inr (n, c)) = inr (λ q. n (asks q), c)

@@ -1,11 +1,10 @@
 //! Laws of the grammar, for all lines. A call puts its law into the caller's facts.
 ghost use Rattle.std.specs.Prelude.{◌≡◌, ◌≤◌, ◌↔◌, ◌⊎◌, ℕ, List, [], false, true};
 ghost use Rattle.cg_query.specs.Tree.{Question, Statement};
-ghost use Rattle.cg_query.specs.declared.format.Format.TheVariants as formats;
+ghost use Rattle.cg_query.specs.declared.format.Format.{Format};
 ghost use Rattle.cg_grammar.specs.Braces.{Run_side, part_of, repeats};
-ghost use Rattle.cg_grammar.specs.Formats.{ReadsIn, IsColumnIn};
 ghost use Rattle.cg_grammar.specs.Found.{Found};
-ghost use Rattle.cg_grammar.specs.Lines.{is_blank_line, IsColumn, IsComment, Reads};
+ghost use Rattle.cg_grammar.specs.Lines.{is_blank_line, IsColumn, IsColumnIn, IsComment, Reads, ReadsIn};
 ghost use Rattle.cg_grammar.specs.Splitting.{AllWithin, IsSplit, IsWithoutRepeats, NoneRepeats, Repeats};
 
 /// No line reads as two questions, no blank line and no comment as one, and each line as one, or as none. A line that
@@ -19,15 +18,18 @@ pub fn one_query()
     ensures one_column { (line : List ℕ) (c d : ℕ) → IsColumn line c → IsColumn line d → c ≡ d }
 {}
 
-/// No line of format 2 states two things, no blank line and no comment states anything, and each line states one thing, or
+/// No line of a format states two things, no blank line and no comment states anything, and each line states one thing, or
 /// none. A line that states nothing has exactly one column.
 pub fn one_statement()
-    ensures unique { (line : List ℕ) (s t : Statement) → ReadsIn formats.Two line s → ReadsIn formats.Two line t → s ≡ t }
-    ensures not_blank { (line : List ℕ) (s : Statement) → ReadsIn formats.Two line s → is_blank_line line ≡ false }
-    ensures not_comment { (line : List ℕ) (s : Statement) → ReadsIn formats.Two line s → ¬ IsComment line }
-    ensures decided { (line : List ℕ) → ((s : Statement) × ReadsIn formats.Two line s)
-        ⊎ (((s : Statement) → ¬ ReadsIn formats.Two line s) × ((c : ℕ) × IsColumnIn formats.Two line c)) }
-    ensures one_column { (line : List ℕ) (c d : ℕ) → IsColumnIn formats.Two line c → IsColumnIn formats.Two line d → c ≡ d }
+    ensures unique { (format : Format) (line : List ℕ) (s t : Statement) → ReadsIn format line s → ReadsIn format line t
+        → s ≡ t }
+    ensures not_blank { (format : Format) (line : List ℕ) (s : Statement) → ReadsIn format line s
+        → is_blank_line line ≡ false }
+    ensures not_comment { (format : Format) (line : List ℕ) (s : Statement) → ReadsIn format line s → ¬ IsComment line }
+    ensures decided { (format : Format) (line : List ℕ) → ((s : Statement) × ReadsIn format line s)
+        ⊎ (((s : Statement) → ¬ ReadsIn format line s) × ((c : ℕ) × IsColumnIn format line c)) }
+    ensures one_column { (format : Format) (line : List ℕ) (c d : ℕ) → IsColumnIn format line c → IsColumnIn format line d
+        → c ≡ d }
 {}
 
 /// A brace is split at its longest run of bars, and so is each of its sides: where runs have one bar to eight, and none

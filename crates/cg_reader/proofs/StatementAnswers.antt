@@ -5,8 +5,7 @@ use Rattle.cg_reading.specs.Tokens.{blank}
 use Rattle.cg_reading.specs.Readers.{skipped}
 use Rattle.cg_query.specs.Tree.{Statement, asks}
 use Rattle.cg_grammar.specs.Reading.{read_at}
-use Rattle.cg_grammar.specs.Formats.{ReadsIn, IsColumnIn, StatesNothing}
-use Rattle.cg_grammar.specs.Lines.{is_blank_line, IsComment, IsRefused}
+use Rattle.cg_grammar.specs.Lines.{is_blank_line, IsComment, IsRefused, ReadsIn, IsColumnIn, StatesNothing}
 use Rattle.cg_query.specs.Trees.{statement_of}
 use Rattle.cg_query.specs.declared.format.Format.{Format}
 use Rattle.cg_query.specs.declared.format.Format.TheVariants as formats

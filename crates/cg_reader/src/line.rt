@@ -1,8 +1,7 @@
 //! What a line of a session is.
 ghost use Rattle.std.specs.Prelude.{◌≡◌, ◌↔◌, IfOk, IfErr, Ok, true};
 ghost use Rattle.cg_reader.specs.Answered.{IsFaultless};
-ghost use Rattle.cg_grammar.specs.Formats.{ReadsIn, StatesNothing};
-ghost use Rattle.cg_grammar.specs.Lines.{is_blank_line, IsComment, IsReadAs, IsRefused};
+ghost use Rattle.cg_grammar.specs.Lines.{is_blank_line, IsComment, IsReadAs, IsRefused, ReadsIn, StatesNothing};
 ghost use Rattle.cg_query.specs.Trees.{statement_of};
 ghost use Rattle.cg_query.specs.declared.format.Format.TheVariants as formats;
 ghost use Rattle.cg_query.specs.declared.query.SyntaxFault.TheVariants as faults;

@@ -4,7 +4,7 @@ use Rattle.std.specs.Prelude.{◌&&◌}
 use Rattle.cg_query.specs.Tree.{Question, asks, defines}
 use Rattle.cg_query.specs.declared.format.Format.TheVariants as formats
 use Rattle.cg_grammar.specs.Lines.{IsColumn, IsComment, IsUnread, Reads, is_blank_line}
-use Rattle.cg_grammar.proofs.Whole.{stated_or_column}
+use Rattle.cg_grammar.proofs.Whole.{defines_none, stated_or_column}
 use Rattle.cg_syntax.specs.Naming.{Bindings, IsClosedQuestion, are_too_large, first_unknown, question_expanded, trees_of_question, uses_of}
 use Rattle.cg_syntax.specs.Session.{Asked_of, IsLine, Resolved, Too_large, by_names, has_some, refused, resolved, stated}
 use Rattle.cg_syntax.proofs.Closed.{closed_unused, same_question}
@@ -32,7 +32,7 @@ module _ (share positions : ℕ) (line : List ℕ) (reply : Piece) where
         λ h. reply-read share positions line q reply one reads (subst P same h),
         λ h. subst P (sym same) (h.read q reads),
       )
-  to_line before behind made blank comment one column closed (stated (defines word t) reads) = absurd reads
+  to_line before behind made blank comment one column closed (stated (defines word t) reads) = absurd (defines_none line word t reads)
   to_line before behind made blank comment one column closed (refused c at) =
       let unread : IsUnread line c = record {
         not_blank = blank;

@@ -1,6 +1,10 @@
-use Rattle.std.proofs.Common.{◌≡◌, refl, sym, ◌∙◌}
+use Rattle.std.proofs.Common.{◌≡◌, refl, sym, subst, ◌∙◌}
 use Rattle.std.proofs.lemmas.List.{nil_from_length}
-use Rattle.cg_grammar.proofs.Whole.{blank_line, comment}
+use Rattle.cg_grammar.specs.Lines.{ReadsIn}
+use Rattle.cg_grammar.proofs.Whole.{blank_line, comment, defines_none}
+use Rattle.cg_query.specs.Trees.{statement_of}
+use Rattle.cg_query.specs.declared.format.Format.TheVariants as formats
+use Rattle.cg_query.specs.declared.query.Statement as code
 use Rattle.cg_reader.proofs.StatementAnswers.{blank_comment, comment_blank, neither_blank, neither_comment, line_refused}
 use Rattle.cg_reader.proofs.line.read_line.Goals as goal
 
@@ -33,6 +37,10 @@ returns-in-Ok-Ask-clause-blank c = neither_blank c.args.line.now c.in-Some.first
 
 pub returns-in-Ok-Ask-clause-comment : goal.returns-in-Ok-Ask-clause-comment
 returns-in-Ok-Ask-clause-comment c = neither_comment c.args.line.now c.in-Some.first.now c.in-Some.field-0-1.now _ (sym c.after_blanks.ensures.rest ∙ c.in-Some.ensures.cases.0) c.if-first-eq35.false tt
+
+pub unreachable-requires : goal.unreachable-requires
+unreachable-requires c =
+    defines_none c.args.line.now _ _ (subst (λ (z : code.Statement). ReadsIn formats.One c.args.line.now (statement_of z)) c.in-Ok-Define.field-0-is c.in-Ok-Define.ensures.read)
 
 -- ---- nothing was read
 
