@@ -17,6 +17,8 @@ pub mod Whole
 pub mod WholeTwo
 pub mod LongestRun
 pub mod RepeatedRuns
+pub mod LeastFault
+pub mod InOrder
 pub mod WrittenTokens
 pub mod WrittenTerms
 pub mod WrittenSpecials
