@@ -20,18 +20,19 @@ pub fn one_query()
     ensures one_column { (line : List ℕ) (c d : ℕ) → IsColumn line c → IsColumn line d → c ≡ d }
 {}
 
-/// No line of a format states two things, no blank line and no comment states anything, and each line states one thing, or
-/// none. A line that states nothing has exactly one column.
+/// No line of a format states two things, no blank line and no comment states anything, and each line states one thing,
+/// or none. A line that states nothing has exactly one column.
 pub fn one_statement()
     ensures unique { (format : Format) (line : List ℕ) (s t : Statement) → ReadsIn format line s → ReadsIn format line t
         → s ≡ t }
     ensures not_blank { (format : Format) (line : List ℕ) (s : Statement) → ReadsIn format line s
         → is_blank_line line ≡ false }
-    ensures not_comment { (format : Format) (line : List ℕ) (s : Statement) → ReadsIn format line s → ¬ IsComment line }
+    ensures not_comment { (format : Format) (line : List ℕ) (s : Statement) → ReadsIn format line s
+        → ¬ IsComment line }
     ensures decided { (format : Format) (line : List ℕ) → ((s : Statement) × ReadsIn format line s)
         ⊎ (((s : Statement) → ¬ ReadsIn format line s) × ((c : ℕ) × IsColumnIn format line c)) }
-    ensures one_column { (format : Format) (line : List ℕ) (c d : ℕ) → IsColumnIn format line c → IsColumnIn format line d
-        → c ≡ d }
+    ensures one_column { (format : Format) (line : List ℕ) (c d : ℕ) → IsColumnIn format line c
+        → IsColumnIn format line d → c ≡ d }
 {}
 
 /// A brace is split at its longest run of bars, and so is each of its sides: where runs have one bar to eight, and none
