@@ -15,6 +15,8 @@ pub mod SameStatements
 pub mod Whole
 pub mod LongestRun
 pub mod RepeatedRuns
+pub mod LeastFault
+pub mod InOrder
 pub mod WrittenTokens
 pub mod WrittenTerms
 pub mod WrittenSpecials

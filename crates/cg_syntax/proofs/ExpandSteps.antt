@@ -17,7 +17,7 @@ use Rattle.cg_query.specs.declared.expr.Expr.TheVariants as expr
 use Rattle.cg_syntax.specs.declared.session.SessionLine.{SessionLine}
 use Rattle.cg_syntax.specs.declared.sheet.Bound.{Bound}
 use Rattle.cg_query.proofs.TreeOf.{term_tree, braces_tree, negative_tree, multiple_tree, sum_tree, game_tree, octal_tree, used_tree}
-use Rattle.cg_query.proofs.Walk.{size, trees_of-take_suc, trees_of-all, terms_of-take_suc, terms_of-all}
+use Rattle.cg_query.proofs.Walk.{size, terms_of-take_suc}
 
 -- ---- forms
 
