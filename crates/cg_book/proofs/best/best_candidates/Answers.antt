@@ -5,7 +5,7 @@ use Rattle.cg_book.specs.Pages.{games_of}
 use Rattle.cg_book.specs.Tops.{Tops}
 use Rattle.cg_book.proofs.CandidateLaws.{among_moved, among_then, candidates_moved, tops_moved}
 use Rattle.cg_book.proofs.Results.{if_ok}
-use Rattle.cg_book.proofs.wide.tops_of_many.Goals as goal
+use Rattle.cg_book.proofs.best.best_candidates.Goals as goal
 
 pub tops_in_turn-requires-clause-candidates : goal.tops_in_turn-requires-clause-candidates
 tops_in_turn-requires-clause-candidates c =
