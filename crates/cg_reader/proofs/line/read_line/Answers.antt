@@ -1,4 +1,4 @@
-use Rattle.std.proofs.Common.{◌≡◌, refl, sym, subst, ◌∙◌}
+use Rattle.std.proofs.Common.{refl, sym, subst, ◌∙◌}
 use Rattle.std.proofs.lemmas.List.{nil_from_length}
 use Rattle.cg_grammar.specs.Lines.{ReadsIn}
 use Rattle.cg_grammar.proofs.Whole.{blank_line, comment, defines_none}
