@@ -14,6 +14,7 @@ ghost use Rattle.cg_query.specs.Tree.{terms_from, trees_from};
 ghost use Rattle.cg_query.specs.Tree as trees;
 ghost use Rattle.cg_query.specs.Trees.{terms_in, terms_of, tree_of, trees_in};
 
+use crate::forms::CgBoards;
 use crate::heaps::heap_value;
 use crate::named::{literal, named_nimber, named_switch, named_tiny, named_ups, nothing};
 use crate::positions::board_value;
@@ -22,7 +23,6 @@ use cg_cells::CellStore;
 use cg_nodes::{GameFacts, Handle};
 use cg_sum::{multiple, negative, sum};
 use cg_syntax::{Expr, Exprs, Term, Terms};
-use cg_values::CgBoards;
 use std::alloc::Global;
 
 /// The canonical form of what the expression means. It makes the expression's items in order; the fault is that of the
