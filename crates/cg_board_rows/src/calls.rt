@@ -113,12 +113,17 @@ pub(crate) fn on_board<R: Rules>(
 /// The cause of a refusal, and its place.
 pub(crate) fn refusal(alloc: Global, fault: BoardFault) -> Result<String, AllocError> {
     match fault {
-        BoardFault::Symbol(place) => format!(in alloc; "symbol {place}"),
-        BoardFault::Empty(place) => format!(in alloc; "empty {place}"),
-        BoardFault::Ragged(place) => format!(in alloc; "ragged {place}"),
-        BoardFault::Large(place) => format!(in alloc; "large {place}"),
-        BoardFault::Rules(place) => format!(in alloc; "rules {place}"),
-        BoardFault::Lowering(rule) => format!(in alloc; "lowering {rule}"),
+        BoardFault::Symbol(place) => caused(alloc, "symbol", place),
+        BoardFault::Empty(place) => caused(alloc, "empty", place),
+        BoardFault::Ragged(place) => caused(alloc, "ragged", place),
+        BoardFault::Large(place) => caused(alloc, "large", place),
+        BoardFault::Rules(place) => caused(alloc, "rules", place),
+        BoardFault::Lowering(rule) => caused(alloc, "lowering", rule),
         BoardFault::Memory => Err(AllocError),
     }
+}
+
+/// A cause, and its place.
+pub(crate) fn caused(alloc: Global, cause: &str, place: u64) -> Result<String, AllocError> {
+    format!(in alloc; "{cause} {place}")
 }

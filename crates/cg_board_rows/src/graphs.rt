@@ -1,6 +1,6 @@
 //! Rows of Hackenbush, Col and Snort: a game, a call and the texts of a graph, with a blank between them. Col and
 //! Snort have the vertices in front of the edges.
-use crate::calls::on_board;
+use crate::calls::{caused, on_board};
 use crate::rows::cut;
 use cg_graph::{Colouring, GraphFault, Hackenbush};
 use std::alloc::{AllocError, Global};
@@ -8,10 +8,10 @@ use std::alloc::{AllocError, Global};
 /// The cause of a refusal, and its place.
 fn refusal(alloc: Global, fault: GraphFault) -> Result<String, AllocError> {
     match fault {
-        GraphFault::Symbol(place) => format!(in alloc; "symbol {place}"),
-        GraphFault::Empty(place) => format!(in alloc; "empty {place}"),
-        GraphFault::Large(place) => format!(in alloc; "large {place}"),
-        GraphFault::Edges(place) => format!(in alloc; "edges {place}"),
+        GraphFault::Symbol(place) => caused(alloc, "symbol", place),
+        GraphFault::Empty(place) => caused(alloc, "empty", place),
+        GraphFault::Large(place) => caused(alloc, "large", place),
+        GraphFault::Edges(place) => caused(alloc, "edges", place),
         GraphFault::Memory => Err(AllocError),
     }
 }

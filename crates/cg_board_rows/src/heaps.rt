@@ -8,9 +8,9 @@ fn listed(alloc: Global, numbers: &[u64]) -> anyhow::Result<String> {
     let mut text = String::new(alloc);
     for number in numbers {
         if !text.is_empty() {
-            text.push_str(",")?;
+            text.push(',')?;
         }
-        text.push_str(number.to_string(alloc)?.as_str())?;
+        write!(text, "{number}")?;
     }
     Ok(text)
 }

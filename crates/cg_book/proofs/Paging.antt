@@ -1,5 +1,5 @@
 -- The games that pages say, one after the other.
-use Rattle.std.proofs.Common.{◌≡◌, refl, ℕ, zero, suc, ◌+◌, ◌-◌, ◌<◌, ◌≤◌, ◌^◌, arith, max, inl, inr, ap, sym, ◌∙◌, subst, List, [], ◌∷◌, ◌++◌, length, length-append, take, drop, get_or, zip, Bool, true, false, cond, ◌⊎◌}
+use Rattle.std.proofs.Common.{◌≡◌, refl, ℕ, zero, suc, ◌+◌, ◌-◌, ◌<◌, ◌≤◌, ◌^◌, arith, inl, inr, ap, sym, ◌∙◌, subst, List, [], ◌∷◌, ◌++◌, length, length-append, take, drop, get_or, zip, Bool, true, false, cond, ◌⊎◌}
 use Rattle.std.proofs.Math.Seq.{drop-append_seam, take-append_seam}
 use Rattle.std.proofs.lemmas.List.{drop-append-le, take-append-le, length-drop, get_or_append_left, get_or-append_right, get_or_default, append_assoc, append-nil}
 use Rattle.std.proofs.lemmas.Slice.Zip.{length-zip, get_or-zip}

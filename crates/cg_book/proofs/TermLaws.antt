@@ -3,18 +3,16 @@ use Rattle.std.proofs.Common.{◌≡◌, refl, ℕ, zero, suc, ◌<◌, ◌≤�
 use Rattle.std.specs.List.{All, Contains}
 use Rattle.std.proofs.lemmas.Bool.Decides.{eqb_tells}
 use Rattle.std.proofs.lemmas.List.{drop-map, get_or-map, get_or_default, length-map, take-map}
-use Rattle.std.proofs.lemmas.List.Elements.{All-cons, All-contains, All-weaker, Contains-append_right, Contains-get_or}
+use Rattle.std.proofs.lemmas.List.Elements.{All-contains, Contains-append_right, Contains-get_or}
 use Rattle.cg_form.specs.Game.{Game}
 use Rattle.cg_form.specs.Order.{Le}
 use Rattle.cg_book.specs.declared.candidate.Candidate.{Candidate}
 use Rattle.cg_book.specs.declared.terms.FirstTerm.{FirstTerm}
 use Rattle.cg_book.specs.declared.terms.Term.{Term}
 use Rattle.cg_book.specs.declared.terms.Term.TheVariants.{First, Second}
-use Rattle.cg_book.specs.Candidates.{AreAmong, AreApartByTerm, AreCandidates, ComesFrom, count_for, of_term, pages_of, same_term}
-use Rattle.cg_book.specs.Pages.{ArePages, IsPage, game_of, games_of}
+use Rattle.cg_book.specs.Candidates.{AreApartByTerm, AreCandidates, ComesFrom, count_for, of_term, pages_of, same_term}
+use Rattle.cg_book.specs.Pages.{ArePages, game_of, games_of}
 use Rattle.cg_book.specs.Terms.{NoneComparable, NoneComparableByTerm}
-use Rattle.cg_book.proofs.CandidateLaws.{pages_fewer}
-use Rattle.cg_book.proofs.Slices.{page_of_item}
 
 record Shared (x y : Option Term) : Type 0 where
   term : Term

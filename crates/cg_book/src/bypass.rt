@@ -189,5 +189,6 @@ pub(crate) fn candidates(
         };
         bypass_once(pages, answers, whole, verdicts, left, &option, &mut all)?;
     }
-    Ok(all.into_items())
+    let Substitutes { items, passed: _ } = all;
+    Ok(items)
 }

@@ -26,9 +26,10 @@ mod whole;
 mod wide;
 
 pub use order::at_most;
+pub use outlining::profile_of_lists;
 pub use pages::{Pages, Read};
 pub use profile::Profile;
 pub use recent::Recent;
 pub use reduce::Form;
-pub use settling::{NewForm, Settled, profile_of_lists, settle};
+pub use settling::{NewForm, Settled, settle};
 pub use terms::FirstTerm;

@@ -87,23 +87,15 @@ pub(crate) fn profile_with(
     }
 }
 
-/// The profile of the game with these options, which equals no number, from the cuts of its two lists. Neither list is empty.
-pub(crate) fn profile_between(
-    pages: &Pages,
-    low: Option<Cut>,
-    high: Option<Cut>,
-    lefts: &[u32],
-    rights: &[u32],
-) -> Profile
+/// The profile of the game with these options, which equals no number.
+pub fn profile_of_lists(pages: &Pages, lefts: &[u32], rights: &[u32]) -> Profile
     requires lefts { ArePages pages.now lefts.now }
     requires rights { ArePages pages.now rights.now }
     requires no_number { NoNumber (node (games_of pages.now lefts.now) (games_of pages.now rights.now)) }
-    requires some_low { IsSome low }
-    requires some_high { IsSome high }
-    requires low { CutOf AnyNumber true low (games_of pages.now lefts.now) }
-    requires high { CutOf AnyNumber false high (games_of pages.now rights.now) }
     ensures { IsProfile (node (games_of pages.now lefts.now) (games_of pages.now rights.now)) result }
 {
+    let low = cut_of(pages, true, lefts);
+    let high = cut_of(pages, false, rights);
     let Some(lower) = low else { unreachable!() };
     let Some(upper) = high else { unreachable!() };
     let above = turned(true, &lower, &upper);

@@ -15,28 +15,21 @@ use crate::whole::chosen;
 use smallvec::SmallVec;
 use std::alloc::{AllocError, Global};
 
-/// The term that the player's option at this place comes from, where the game is a sum of two.
-fn term_at(first_term: Option<FirstTerm>, left: bool, place: usize) -> Option<Term>
-    ensures { (options : List ℕ) (p : ℕ) → place < length options → p ≡ slice_index_or options place p
-        → ComesFrom first_term left options (record { page = p; term = result }) }
-{
-    let first = first_term?;
-    if place < first.own(left) {
-        return Some(Term::First);
-    }
-    Some(Term::Second)
-}
-
 /// The player's option at this place, with the term that it comes from.
 fn with_term(first_term: Option<FirstTerm>, left: bool, place: usize, page: u32) -> Candidate
     ensures page { result.page ≡ page }
     ensures own { (options : List ℕ) → place < length options → page ≡ slice_index_or options place 0
         → ComesFrom first_term left options result }
 {
-    Candidate {
-        page,
-        term: term_at(first_term, left, place),
-    }
+    let Some(first) = first_term else {
+        return Candidate::alone(page);
+    };
+    let term = if place < first.own(left) {
+        Some(Term::First)
+    } else {
+        Some(Term::Second)
+    };
+    Candidate { page, term }
 }
 
 /// The player's options, with the terms that they come from.

@@ -6,27 +6,22 @@ ghost use Rattle.std.specs.Prelude.{IfOk};
 ghost use Rattle.std.specs.List.Sorted.{IsPermutation};
 
 use crate::candidate::Candidate;
-use crate::keys::Keys;
 use crate::pages::Pages;
 use std::alloc::{AllocError, Global};
 use std::cmp::Ordering;
 
-/// Which of two games comes first for the player: the one with more numbers that are no better, and where these are the same,
-/// the one with fewer numbers that are as good.
-fn compare_keys(left: bool, a: &Keys, b: &Keys) -> Ordering {
-    if left {
-        return b.low.cmp(&a.low).then(b.high.cmp(&a.high));
-    }
-    a.high.cmp(&b.high).then(a.low.cmp(&b.low))
-}
-
-/// Which of the games of two pages comes first for the player, where both pages are there.
+/// Which of the games of two pages comes first for the player, where both pages are there: the one with more numbers that are no
+/// better, and where these are the same, the one with fewer numbers that are as good.
 fn compare_reach(pages: &Pages, left: bool, a: u32, b: u32) -> Ordering {
     let count = pages.count();
     if a as usize >= count || b as usize >= count {
         return Ordering::Equal;
     }
-    compare_keys(left, pages.keys(a), pages.keys(b))
+    let (a, b) = (pages.keys(a), pages.keys(b));
+    if left {
+        return b.low.cmp(&a.low).then(b.high.cmp(&a.high));
+    }
+    a.high.cmp(&b.high).then(a.low.cmp(&b.low))
 }
 
 /// The items, those first that go furthest for the player.

@@ -10,7 +10,7 @@ ghost use Rattle.cg_book.specs.Recents.{AreRight};
 ghost use Rattle.cg_book.specs.Settled.{IsNewForm, IsSettled};
 ghost use Rattle.cg_book.specs.Terms.{ApartByTerm};
 
-use crate::outlining::{cut_of, profile_between, profile_with};
+use crate::outlining::{cut_of, profile_of_lists, profile_with};
 use crate::pages::Pages;
 use crate::profile::Profile;
 use crate::recent::Recent;
@@ -39,18 +39,6 @@ pub enum Settled {
     Outside,
     /// It equals no number, and this is its canonical form.
     Game(NewForm),
-}
-
-/// The profile of the game with these options, which equals no number.
-pub fn profile_of_lists(pages: &Pages, lefts: &[u32], rights: &[u32]) -> Profile
-    requires lefts { ArePages pages.now lefts.now }
-    requires rights { ArePages pages.now rights.now }
-    requires no_number { NoNumber (node (games_of pages.now lefts.now) (games_of pages.now rights.now)) }
-    ensures { IsProfile (node (games_of pages.now lefts.now) (games_of pages.now rights.now)) result }
-{
-    let low = cut_of(pages, true, lefts);
-    let high = cut_of(pages, false, rights);
-    profile_between(pages, low, high, lefts, rights)
 }
 
 /// The canonical form of the game with these options, which equals no number, and has this profile. Equal games cut the numbers

@@ -18,7 +18,7 @@ pub(crate) type Options = SmallVec<u32, 8>;
 #[derive(Drop)]
 pub(crate) struct Substitutes {
     pub(crate) items: Candidates,
-    passed: ByPage,
+    pub(crate) passed: ByPage,
 }
 
 impl Substitutes {
@@ -54,13 +54,5 @@ impl Substitutes {
         ensures passed { (p : ℕ) → WasPassed self.new p → WasPassed self.old p ⊎ (p ≡ option) }
     {
         self.passed.remember(option, true)
-    }
-
-    /// The items.
-    pub(crate) fn into_items(self) -> Candidates
-        ensures { result.items ≡ self.items.items }
-    {
-        let Substitutes { items, passed: _ } = self;
-        items
     }
 }

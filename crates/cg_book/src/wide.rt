@@ -16,7 +16,6 @@ ghost use Rattle.cg_book.specs.Tops.{Tops, with_last};
 use crate::best::{none_beats, others};
 use crate::candidate::{Candidate, Candidates, candidate_at_most};
 use crate::pages::Pages;
-use crate::ranked::furthest_first;
 use crate::reach::Bounds;
 use crate::recent::Recent;
 use smallvec::SmallVec;
@@ -128,7 +127,7 @@ fn with_one_bounded(
 }
 
 /// The best of the items for the player, in no order: one after the other.
-fn tops_in_turn(
+pub(crate) fn tops_in_turn(
     pages: &Pages,
     answers: &mut Recent,
     left: bool,
@@ -149,21 +148,4 @@ fn tops_in_turn(
     }
     let Chosen { items, bounds: _ } = best;
     Ok(items)
-}
-
-/// The best of the items for the player, in no order.
-pub(crate) fn tops_of_many(
-    pages: &Pages,
-    answers: &mut Recent,
-    left: bool,
-    items: &[Candidate],
-) -> Result<Candidates, AllocError>
-    requires candidates { AreCandidates pages.now items.now }
-    requires right { AreRight pages.now answers.old }
-    ensures tops { IfOk result (λ r. Tops left (games_of pages.now (pages_of items.now)) (games_of pages.now (pages_of r.items))) }
-    ensures among { IfOk result (λ r. AreAmong r.items items.now) }
-    ensures right { AreRight pages.now answers.new }
-{
-    let all = furthest_first(answers.alloc(), pages, left, items)?;
-    tops_in_turn(pages, answers, left, all.as_slice())
 }

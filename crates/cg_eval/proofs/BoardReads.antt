@@ -100,7 +100,7 @@ charted-faulty snort vertices edges fault (inr e) = inr (ap position_charted e)
 
 -- ---- the fault of a reading
 
-board-none : (b : GameBoard) → position_fault (set_up b) ≡ None
+pub board-none : (b : GameBoard) → position_fault (set_up b) ≡ None
 board-none (boards.Domineering p) = refl
 board-none (boards.Clobber p) = refl
 board-none (boards.Amazons p) = refl

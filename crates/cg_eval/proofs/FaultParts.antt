@@ -1,5 +1,5 @@
 -- Faults in lists of expressions and in compound expressions.
-use Rattle.std.proofs.Common.{◌≡◌, refl, ap, sym, ◌∙◌, ℕ, zero, suc, ◌+◌, ◌<◌, ◌≤◌, arith, Bool, Option, Some, None, List, [], ◌∷◌, ◌++◌, length, get_or, take}
+use Rattle.std.proofs.Common.{◌≡◌, refl, ap, sym, ◌∙◌, ℕ, suc, ◌+◌, ◌<◌, arith, Bool, Option, Some, None, List, [], ◌∷◌, ◌++◌, length, get_or, take}
 use Rattle.cg_eval.specs.declared.fault.GameFault.{GameFault}
 use Rattle.cg_query.specs.declared.expr.Expr.{Expr}
 use Rattle.cg_query.specs.declared.expr.Exprs.{Exprs}
@@ -9,7 +9,7 @@ use Rattle.cg_query.specs.Tree.{Tree, trees_from, terms_from}
 use Rattle.cg_query.specs.Trees.{tree_of, trees_in, trees_of, term_of, terms_of}
 use Rattle.cg_query.proofs.TreeOf.{braces_tree, term_tree}
 use Rattle.cg_eval.specs.Faults.{fault_in, fault_in_all, fault_in_terms, first_of_two}
-use Rattle.cg_query.proofs.Walk.{trees_of-all, trees_of-take_suc, terms_of-all, terms_of-take_suc}
+use Rattle.cg_query.proofs.Walk.{trees_of-take_suc, terms_of-take_suc}
 
 -- ---- one after another
 
@@ -24,7 +24,7 @@ first-assoc (Some fault) g h = refl
 
 -- ---- lists of expressions
 
-all-append : (xs ys : List Tree) → fault_in_all (trees_from (xs ++ ys))
+pub all-append : (xs ys : List Tree) → fault_in_all (trees_from (xs ++ ys))
     ≡ first_of_two (fault_in_all (trees_from xs)) (fault_in_all (trees_from ys))
 all-append [] ys = refl
 all-append (x ∷ xs) ys = ap (first_of_two (fault_in x)) (all-append xs ys)
@@ -44,7 +44,7 @@ all-one_more es i e found more below at f m =
 
 -- ---- lists of terms
 
-terms-append : (xs ys : List (Bool × Tree)) → fault_in_terms (terms_from (xs ++ ys))
+pub terms-append : (xs ys : List (Bool × Tree)) → fault_in_terms (terms_from (xs ++ ys))
     ≡ first_of_two (fault_in_terms (terms_from xs)) (fault_in_terms (terms_from ys))
 terms-append [] ys = refl
 terms-append (x ∷ xs) ys = ap (first_of_two (fault_in x.1)) (terms-append xs ys)

@@ -1,6 +1,6 @@
 -- The value of a heap of an octal game, from the nimber that it equals.
 use Rattle.std.proofs.Common.{◌≡◌, refl, ap, sym, ◌∙◌, ℕ, suc, ◌+◌, ◌<◌, ◌≤◌, arith, inr, List, [], ◌∷◌, get_or, length, map, nat_lt, false, subst}
-use Rattle.std.proofs.Common.{Result, Ok, if◌then◌else◌}
+use Rattle.std.proofs.Common.{None, Result, Ok, if◌then◌else◌}
 use Rattle.std.proofs.lemmas.Bool.Decides.{nat_tests}
 use Rattle.std.proofs.lemmas.Option.{slice_get-get_or}
 use Rattle.cg_cells.specs.Store.{State}
@@ -21,11 +21,14 @@ use Rattle.cg_names.specs.Lists.{form_items, plain_item}
 use Rattle.cg_names.specs.Named.{nimber_form}
 use Rattle.cg_nimbers.proofs.CanonicalNimbers.{nimber-canonical}
 use Rattle.cg_nimbers.proofs.NimberPositions.{length-nimbers_below, nimber-positions}
+use Rattle.cg_values.specs.Gives.{Gives}
 use Rattle.cg_octal.specs.Codes.{OctalHeap}
 use Rattle.cg_octal.specs.Heaps.{AreValues, heap}
 use Rattle.cg_eval.specs.Octals.{heap_form, heap_items}
-use Rattle.cg_eval.specs.Progress.{Gives, Stops}
-use Rattle.cg_eval.proofs.Steps.{gives_game, gives_items}
+use Rattle.cg_eval.specs.Parts.{widened}
+use Rattle.cg_eval.specs.Progress.{Finds, Stops}
+use Rattle.cg_eval.specs.declared.fault.NoValue.{NoValue}
+use Rattle.cg_eval.proofs.Steps.{finds, finds_game, finds_items}
 
 not_above : (a b : ℕ) → b ≤ a → nat_lt a b ≡ false
 not_above a b h = grind (arith, nat_tests)
@@ -81,12 +84,14 @@ value-small digits all ks n m e f v c =
     subst P (sym e) (subst Q (sym f) (v.at_most n (get_or all n 0) (slice_get-get_or all n 0 l)))
 
 -- what the call that makes the nimber says
-pub nimber-gives : {R : Type 0} (s t : State Meant (WorkRest R)) (o : OctalHeap) (k : ℕ) (result : Result ℕ ValueFault)
+pub nimber-finds : {R : Type 0} (s t : State Meant (WorkRest R)) (o : OctalHeap) (k : ℕ) (given : Result ℕ ValueFault)
+    (result : Result ℕ NoValue) → result ≡ widened given
     → o.heap + 1 ≤ s.rest.limit → k ≤ o.heap → Equal (heap o.digits o.heap) (nimber_form k)
-    → Gives s t (form_items s.rest.limit (nimber_form k)) (nimber_form k) result
-    → Gives s t (heap_items s.rest.limit (Ok o)) (heap_form (Ok o)) result
-nimber-gives s t o k result within small e gives =
-    gives_items s t (form_items s.rest.limit (nimber_form k)) (heap_items s.rest.limit (Ok o)) (heap o.digits o.heap) result
+    → Gives s t (form_items s.rest.limit (nimber_form k)) (nimber_form k) given
+    → Finds s t None (heap_items s.rest.limit (Ok o)) (heap_form (Ok o)) result
+nimber-finds s t o k given result w within small e gives =
+    finds_items s t None (form_items s.rest.limit (nimber_form k)) (heap_items s.rest.limit (Ok o)) (heap o.digits o.heap) result
     (nimber-items s.rest.limit o k within small e)
-    (gives_game s t (form_items s.rest.limit (nimber_form k)) (nimber_form k) (heap o.digits o.heap) result
-    (sym (can-same (heap o.digits o.heap) (nimber_form k) e)) gives)
+    (finds_game s t None (form_items s.rest.limit (nimber_form k)) (nimber_form k) (heap o.digits o.heap) result
+    (sym (can-same (heap o.digits o.heap) (nimber_form k) e))
+    (finds s t (form_items s.rest.limit (nimber_form k)) (nimber_form k) given result w gives))

@@ -8,9 +8,8 @@ use Rattle.cg_form.specs.Sum.{nothing}
 use Rattle.cg_nodes.specs.Can.{can}
 use Rattle.cg_form.proofs.EqualGames.{le-equal, zero_is}
 use Rattle.cg_nodes.specs.CanForms.{can-equal}
-use Rattle.cg_nodes.specs.Games.{StandsFor, game_at}
 use Rattle.cg_nodes.specs.Meant.{Meant}
-use Rattle.cg_nodes.proofs.Later.{stands_game, stands_later}
+use Rattle.cg_nodes.proofs.Later.{stands_later}
 use Rattle.cg_canon.specs.declared.fault.ValueFault.{ValueFault}
 use Rattle.cg_canon.specs.declared.fault.ValueFault.TheVariants.{Depth, Full, Memory, Positions, Range}
 use Rattle.cg_canon.specs.declared.rest.WorkRest.{WorkRest}
@@ -23,14 +22,15 @@ use Rattle.cg_grammar.specs.Lines.{IsColumn, IsComment, IsUnread, Reads, is_blan
 use Rattle.cg_query.specs.Tree.{Question, Tree}
 use Rattle.cg_eval.specs.declared.answered.Answered.{Answered}
 use Rattle.cg_eval.specs.declared.fault.GameFault.{GameFault}
-use Rattle.cg_eval.specs.Faults.{question_fault}
+use Rattle.cg_eval.specs.declared.fault.NoValue.{NoValue}
+use Rattle.cg_eval.specs.Faults.{fault_in, first_of_two, question_fault}
 use Rattle.cg_eval.specs.Items.{items, question_items}
-use Rattle.cg_eval.specs.Progress.{Evaluates, EvaluatesTwo, Makes, Stops}
-use Rattle.cg_eval.specs.Refused.{IsRefusedBy, IsRefusedFor}
+use Rattle.cg_eval.specs.Progress.{Evaluates, EvaluatesTwo, Lacks, Makes, Stops}
+use Rattle.cg_eval.specs.Refused.{IsRefusedBy, IsRefusedFor, IsRefusedOver}
 use Rattle.cg_eval.specs.Reply.{IsReply, IsReplyBy, IsReplyTo, Piece, ill_formed, refusal_of, syntax_at}
-use Rattle.cg_eval.specs.Shown.{Answers, HandleIs, HandleOf, IsAnswered, first_of, shown}
+use Rattle.cg_eval.specs.Shown.{Answers, HandleIs, HandleOf, IsAnswered, shown}
 use Rattle.cg_eval.specs.Stores.{KeepsStore}
-use Rattle.cg_eval.proofs.Steps.{makes_then, stops_front, stops_then}
+use Rattle.cg_eval.proofs.Steps.{first_none, first_some, lacks_fault, lacks_front, lacks_then, makes_then}
 use Rattle.cg_eval.proofs.OneAnswer.{one-answer, some-answer}
 use Rattle.cg_eval.proofs.Verdicts.{verdict-apart, verdict-decided, verdict-stopped}
 
@@ -74,9 +74,8 @@ answered-ill_formed share limit s q a fault e r =
     }
 
 pub answered-made : {R : Type 0} (s t : State Meant (WorkRest R)) (q : Question) (a : Answered) → s.rest.spent ≡ 0
-    → question_fault q ≡ None
     → Answers s t q (Ok a) → IsAnswered s.rest.share s.rest.limit t q a
-answered-made s t q a none e (is, made_items) =
+answered-made s t q a none (e, (is, made_items)) =
     let P : Option GameFault → Type 0 = λ o. IsReplyBy o s.rest.share s.rest.limit q (shown a) in
     let N : ℕ → Type 0 = λ n. AllPass s.rest.share n (question_items s.rest.limit q) t.rest.spent in
     record {
@@ -96,25 +95,25 @@ stopped-reply s t q a fault none e stopped r is_refusal =
       handle = handle-none t q a.refused a.handle (ap (λ (p : Piece). p.refused) r.text ∙ is_refusal) r.handle;
     }
 
-pub answered-refused : {R : Type 0} (s t : State Meant (WorkRest R)) (q : Question) (a : Answered)
+refused-item : {R : Type 0} (s t : State Meant (WorkRest R)) (q : Question) (a : Answered)
     (fault : ValueFault) → s.rest.spent ≡ 0
-    → question_fault q ≡ None → Answers s t q (Err fault) → IsRefusedFor fault a
+    → question_fault q ≡ None → Stops s t fault (question_items s.rest.limit q) → IsRefusedFor fault a
     → IsAnswered s.rest.share s.rest.limit t q a
-answered-refused s t q a Memory none e r f = absurd f
-answered-refused s t q a Range none e r f = stopped-reply s t q a Range none e r.refused f refl
-answered-refused s t q a (Full n) none e r f = stopped-reply s t q a (Full n) none e r.refused f refl
-answered-refused s t q a (Depth d) none e r f = stopped-reply s t q a (Depth d) none e r.refused f refl
-answered-refused s t q a Positions none e r f = stopped-reply s t q a Positions none e r.refused f refl
+refused-item s t q a Memory none e r f = absurd f
+refused-item s t q a Range none e r f = stopped-reply s t q a Range none e r.refused f refl
+refused-item s t q a (Full n) none e r f = stopped-reply s t q a (Full n) none e r.refused f refl
+refused-item s t q a (Depth d) none e r f = stopped-reply s t q a (Depth d) none e r.refused f refl
+refused-item s t q a Positions none e r f = stopped-reply s t q a Positions none e r.refused f refl
 
-pub answers-stop : {R : Type 0} (s t : State Meant (WorkRest R)) (q : Question)
-    (result : Result Answered ValueFault) (x fault : ValueFault)
-    → result ≡ Err x → x ≡ fault → Stops s t fault (question_items s.rest.limit q) → Answers s t q result
-answers-stop s t q result x fault e f r =
-    let P : Result Answered ValueFault → Type 0 = λ z. Answers s t q z in
-    let Q : ValueFault → Type 0 = λ z. Stops s t z (question_items s.rest.limit q) in
-    subst P (sym e) (subst Q (sym f) r)
-
--- ---- answers to questions
+-- of a question of which an item is refused, where no board or heap is ill-formed
+pub answered-refused : {R : Type 0} (s t : State Meant (WorkRest R)) (q : Question) (a : Answered) (fault : ValueFault)
+    → s.rest.spent ≡ 0 → Stops s t fault (question_items s.rest.limit q) → IsRefusedOver (question_fault q) fault a
+    → IsAnswered s.rest.share s.rest.limit t q a
+answered-refused s t q a fault none r f = by (question_fault q) refl f
+  where
+    by : (o : Option GameFault) → question_fault q ≡ o → IsRefusedOver o fault a → IsAnswered s.rest.share s.rest.limit t q a
+    by None e h = refused-item s t q a fault none e r h
+    by (Some first) e h = answered-ill_formed s.rest.share s.rest.limit t q a first e h
 
 -- ---- replies to lines
 
@@ -197,39 +196,30 @@ some-reply share limit line one one_column blank comment (inr (none, (c, at))) =
 -- the first expression's items, then the second's
 pub both_made : {R : Type 0} (s t u : State Meant (WorkRest R)) (a b : Tree) (v w : ℕ) → Evaluates s t a (Ok v)
     → Evaluates t u b (Ok w) → EvaluatesTwo s u a b (Ok (v, w))
-both_made s t u a b v w (first, first_made) (second, second_made) =
+both_made s t u a b v w (first_sound, (first, first_made)) (second_sound, (second, second_made)) =
     let P : ℕ → Type 0 = λ n. Makes t u (items n b) in (
-      stands_later t u second_made.keeps.known v (can (meaning a)) first,
-      second,
-      makes_then s t u (items s.rest.limit a) (items s.rest.limit b) first_made
-          (subst P first_made.keeps.limit second_made),
+      first_none (fault_in a) (fault_in b) first_sound ∙ second_sound,
+      (
+        (stands_later t u second_made.keeps.known v (can (meaning a)) first, second),
+        makes_then s t u (items s.rest.limit a) (items s.rest.limit b) first_made
+            (subst P first_made.keeps.limit second_made),
+      ),
     )
 
-pub first_stopped : {R : Type 0} (s t : State Meant (WorkRest R)) (a b : Tree) (fault : ValueFault)
-    → Evaluates s t a (Err fault) → Stops s t fault (items s.rest.limit a ++ items s.rest.limit b)
-first_stopped s t a b fault r = stops_front s t fault (items s.rest.limit a) (items s.rest.limit b) r
+pub first_stopped : {R : Type 0} (s t : State Meant (WorkRest R)) (a b : Tree) (cause : NoValue)
+    → Evaluates s t a (Err cause) → EvaluatesTwo s t a b (Err cause)
+first_stopped s t a b cause r =
+    lacks_front s t (fault_in a) (first_of_two (fault_in a) (fault_in b)) (items s.rest.limit a) (items s.rest.limit b) cause
+    (λ x f. first_some (fault_in a) (fault_in b) x f) r
 
-pub second_stopped : {R : Type 0} (s t u : State Meant (WorkRest R)) (a b : Tree) (v : ℕ) (fault : ValueFault)
-    → Evaluates s t a (Ok v)
-    → Evaluates t u b (Err fault) → Stops s u fault (items s.rest.limit a ++ items s.rest.limit b)
-second_stopped s t u a b v fault (first, first_made) r =
-    let P : ℕ → Type 0 = λ n. Stops t u fault (items n b) in
-    stops_then s t u fault (items s.rest.limit a) (items s.rest.limit b) first_made (subst P first_made.keeps.limit r)
-
-pub two-stop : {R : Type 0} (s t : State Meant (WorkRest R)) (a b : Tree) (result : Result (ℕ × ℕ) ValueFault)
-    (x fault : ValueFault) → result ≡ Err x → x ≡ fault
-    → Stops s t fault (items s.rest.limit a ++ items s.rest.limit b) → EvaluatesTwo s t a b result
-two-stop s t a b result x fault e f r =
-    let P : Result (ℕ × ℕ) ValueFault → Type 0 = λ z. EvaluatesTwo s t a b z in
-    let Q : ValueFault → Type 0 = λ z. Stops s t z (items s.rest.limit a ++ items s.rest.limit b) in
-    subst P (sym e) (subst Q (sym f) r)
-
-pub le_at : {R : Type 0} (s : State Meant R) (a b : ℕ) (m n : Game) (r : Bool) → StandsFor s a (can m)
-    → StandsFor s b (can n)
-    → r ≡ le (game_at s a) (game_at s b) → r ≡ le m n
-le_at s a b m n r first second e =
-    e ∙ ap (λ (g : Game). le g (game_at s b)) (stands_game s a (can m) first) ∙ ap (λ (g : Game). le (can m) g)
-    (stands_game s b (can n) second) ∙ le-forms m n
+pub second_stopped : {R : Type 0} (s t u : State Meant (WorkRest R)) (a b : Tree) (v : ℕ) (cause : NoValue)
+    → Evaluates s t a (Ok v) → Evaluates t u b (Err cause) → EvaluatesTwo s u a b (Err cause)
+second_stopped s t u a b v cause (sound, (first, first_made)) r =
+    let P : ℕ → Type 0 = λ n. Lacks t u (fault_in b) (items n b) cause in
+    lacks_fault s u (fault_in b) (first_of_two (fault_in a) (fault_in b)) (items s.rest.limit a ++ items s.rest.limit b) cause
+    (sym (first_none (fault_in a) (fault_in b) sound))
+    (lacks_then s t u (fault_in b) (items s.rest.limit a) (items s.rest.limit b) cause first_made
+    (subst P first_made.keeps.limit r))
 
 -- ---- the handle of a work is one of its store
 

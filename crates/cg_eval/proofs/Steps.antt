@@ -1,5 +1,5 @@
 -- Calls on a work that make items, one after another.
-use Rattle.std.proofs.Common.{◌≡◌, sym, subst, ℕ, ◌≤◌, arith, List, [], ◌++◌, Result, Ok, Err, OnOk}
+use Rattle.std.proofs.Common.{◌≡◌, refl, sym, subst, ap, ◌∙◌, ℕ, ◌≤◌, arith, List, [], ◌++◌, Option, Some, None, Result, Ok, Err, OnOk}
 use Rattle.std.specs.Prelude.{IfOk, IfErr}
 use Rattle.cg_form.specs.Game.{Game}
 use Rattle.cg_cells.specs.Store.{State}
@@ -13,7 +13,25 @@ use Rattle.cg_canon.specs.Items.{AllPass, Item, WasRefused}
 use Rattle.cg_canon.specs.Works.{Keeps}
 use Rattle.cg_canon.proofs.ItemLaws.{all_pass-append, all_pass-none, refused-back, refused-front}
 use Rattle.cg_canon.proofs.Keeping.{keeps_all, keeps_then}
-use Rattle.cg_eval.specs.Progress.{Gives, Makes, Stops}
+use Rattle.cg_values.specs.Gives.{Gives}
+use Rattle.cg_eval.specs.Faults.{first_of_two}
+use Rattle.cg_eval.specs.Parts.{widened}
+use Rattle.cg_eval.specs.Progress.{Finds, Lacks, Makes, Stops}
+use Rattle.cg_eval.specs.declared.fault.GameFault.{GameFault}
+use Rattle.cg_eval.specs.declared.fault.NoValue.{NoValue}
+use Rattle.cg_eval.specs.declared.fault.NoValue.TheVariants.{IllFormed, Refused}
+
+-- the first of two faults
+pub first_some : (f g : Option GameFault) (x : GameFault) → f ≡ Some x → first_of_two f g ≡ Some x
+first_some f g x e = ap (λ z. first_of_two z g) e
+
+pub first_none : (f g : Option GameFault) → f ≡ None → first_of_two f g ≡ g
+first_none f g e = ap (λ z. first_of_two z g) e
+
+-- what is passed on by ?
+pub passed_on : {A : Type 0} (P : Result A NoValue → Type 0) (result : Result A NoValue) (x cause : NoValue)
+    → result ≡ Err x → x ≡ cause → P (Err cause) → P result
+passed_on P result x cause e f h = subst P (sym (e ∙ ap Err f)) h
 
 -- ---- one call
 
@@ -23,36 +41,46 @@ module _ {R : Type 0} (s t : State Meant (WorkRest R)) where
       → IfOk result (λ h. StandsFor t h k) → OnOk result (AllPass s.rest.share s.rest.spent items t.rest.spent)
       → IfErr result (λ fault. WasRefused fault s.rest.share s.rest.spent items t.rest.spent)
       → s.spare ≤ t.spare → Keeps s t → Gives s t items g result
-  gives_from items k g (Ok h) e game passed refused m keeps =
-      let P : Game → Type 0 = λ z. StandsFor t h z in
-      (subst P e game, record { passed = passed; more = m; keeps = keeps })
-  gives_from items k g (Err fault) e game passed refused m keeps = record { refused = refused; more = m; keeps = keeps }
+  gives_from items k g result e game passed refused m keeps =
+      let P : Game → Type 0 = λ z. IfOk result (λ h. StandsFor t h z) in
+      record { game = subst P e game; made = record { charged = passed; refused = refused; keeps = keeps }; more = m }
 
-  pub gives_items : (is js : List Item) (g : Game) (result : Result ℕ ValueFault) → is ≡ js → Gives s t is g result
-      → Gives s t js g result
-  gives_items is js g result e r = let P : List Item → Type 0 = λ z. Gives s t z g result in subst P e r
+  widened_finds : (is : List Item) (g : Game) (given : Result ℕ ValueFault) → Gives s t is g given
+      → Finds s t None is g (widened given)
+  widened_finds is g (Ok h) r = (refl, (r.game, record { passed = r.made.charged; more = r.more; keeps = r.made.keeps }))
+  widened_finds is g (Err fault) r = record { refused = r.made.refused; more = r.more; keeps = r.made.keeps }
 
-  pub gives_game : (is : List Item) (g h : Game) (result : Result ℕ ValueFault) → can g ≡ can h
-      → Gives s t is g result → Gives s t is h result
-  gives_game is g h (Ok i) e r = let P : Game → Type 0 = λ z. StandsFor t i z in (subst P e r.0, r.1)
-  gives_game is g h (Err fault) e r = r
+  -- a call that makes the items of a game
+  pub finds : (is : List Item) (g : Game) (given : Result ℕ ValueFault) (result : Result ℕ NoValue) → result ≡ widened given
+      → Gives s t is g given → Finds s t None is g result
+  finds is g given result e r =
+      let P : Result ℕ NoValue → Type 0 = λ z. Finds s t None is g z in subst P (sym e) (widened_finds is g given r)
 
-  pub gives_stop : (is : List Item) (g : Game) (result : Result ℕ ValueFault) (x fault : ValueFault)
-      → result ≡ Err x → x ≡ fault
-      → Stops s t fault is → Gives s t is g result
-  gives_stop is g result x fault e f r =
-      let P : Result ℕ ValueFault → Type 0 = λ z. Gives s t is g z in
-      let Q : ValueFault → Type 0 = λ z. Stops s t z is in
-      subst P (sym e) (subst Q (sym f) r)
+  pub finds_items : (fault : Option GameFault) (is js : List Item) (g : Game) (result : Result ℕ NoValue) → is ≡ js
+      → Finds s t fault is g result → Finds s t fault js g result
+  finds_items fault is js g result e r = let P : List Item → Type 0 = λ z. Finds s t fault z g result in subst P e r
+
+  pub finds_game : (fault : Option GameFault) (is : List Item) (g h : Game) (result : Result ℕ NoValue) → can g ≡ can h
+      → Finds s t fault is g result → Finds s t fault is h result
+  finds_game fault is g h (Ok i) e r = let P : Game → Type 0 = λ z. StandsFor t i z in (r.0, (subst P e r.1.0, r.1.1))
+  finds_game fault is g h (Err cause) e r = r
 
   pub makes_items : (is js : List Item) → is ≡ js → Makes s t is → Makes s t js
   makes_items is js e m = let P : List Item → Type 0 = λ z. Makes s t z in subst P e m
 
-  pub stops_items : (fault : ValueFault) (is js : List Item) → is ≡ js → Stops s t fault is → Stops s t fault js
-  stops_items fault is js e m = let P : List Item → Type 0 = λ z. Stops s t fault z in subst P e m
+  pub lacks_items : (fault : Option GameFault) (is js : List Item) (cause : NoValue) → is ≡ js → Lacks s t fault is cause
+      → Lacks s t fault js cause
+  lacks_items fault is js cause e m = let P : List Item → Type 0 = λ z. Lacks s t fault z cause in subst P e m
 
-  pub stops_front : (fault : ValueFault) (is js : List Item) → Stops s t fault is → Stops s t fault (is ++ js)
-  stops_front fault is js r = record {
+  pub lacks_fault : (f g : Option GameFault) (is : List Item) (cause : NoValue) → f ≡ g → Lacks s t f is cause
+      → Lacks s t g is cause
+  lacks_fault f g is cause e m = let P : Option GameFault → Type 0 = λ z. Lacks s t z is cause in subst P e m
+
+  -- whatever comes behind
+  pub lacks_front : (f g : Option GameFault) (is js : List Item) (cause : NoValue)
+      → ((x : GameFault) → f ≡ Some x → g ≡ Some x) → Lacks s t f is cause → Lacks s t g (is ++ js) cause
+  lacks_front f g is js (IllFormed x) some r = (some x r.0, r.1)
+  lacks_front f g is js (Refused fault) some r = record {
     refused = refused-front fault s.rest.share s.rest.spent t.rest.spent is js r.refused;
     more = r.more;
     keeps = r.keeps;
@@ -78,18 +106,20 @@ module _ {R : Type 0} (s t u : State Meant (WorkRest R)) where
         keeps = keeps_then s t u a.keeps b.keeps;
       }
 
-  pub stops_then : (fault : ValueFault) (is js : List Item) → Makes s t is → Stops t u fault js
-      → Stops s u fault (is ++ js)
-  stops_then fault is js a b =
-      let P : ℕ → Type 0 = λ n. WasRefused fault n t.rest.spent js u.rest.spent in
+  pub lacks_then : (fault : Option GameFault) (is js : List Item) (cause : NoValue) → Makes s t is → Lacks t u fault js cause
+      → Lacks s u fault (is ++ js) cause
+  lacks_then fault is js (IllFormed x) a b = (b.0, keeps_then s t u a.keeps b.1)
+  lacks_then fault is js (Refused x) a b =
+      let P : ℕ → Type 0 = λ n. WasRefused x n t.rest.spent js u.rest.spent in
       record {
-        refused = refused-back fault s.rest.share s.rest.spent t.rest.spent u.rest.spent is js a.passed
+        refused = refused-back x s.rest.share s.rest.spent t.rest.spent u.rest.spent is js a.passed
             (subst P a.keeps.share b.refused);
         more = let m = a.more in let n = b.more in omega arith;
         keeps = keeps_then s t u a.keeps b.keeps;
       }
 
-  pub gives_then : (is js : List Item) (g : Game) (result : Result ℕ ValueFault) → Makes s t is → Gives t u js g result
-      → Gives s u (is ++ js) g result
-  gives_then is js g (Ok h) a b = (b.0, makes_then is js a b.1)
-  gives_then is js g (Err fault) a b = stops_then fault is js a b
+  pub finds_then : (f fault : Option GameFault) (is js : List Item) (g : Game) (result : Result ℕ NoValue) → f ≡ fault
+      → Makes s t is → Finds t u fault js g result → Finds s u f (is ++ js) g result
+  finds_then f fault is js g (Ok h) e a b = (e ∙ b.0, (b.1.0, makes_then is js a b.1.1))
+  finds_then f fault is js g (Err cause) e a b =
+      lacks_fault s u fault f (is ++ js) cause (sym e) (lacks_then fault is js cause a b)

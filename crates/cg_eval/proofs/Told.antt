@@ -1,5 +1,5 @@
 -- Answers from what is told of the games of handles.
-use Rattle.std.proofs.Common.{◌≡◌, refl, ap, sym, ◌∙◌, subst, ℕ, arith, Bool, true, false, List, ◌++◌, Option, Some, None, Result, Ok, Err}
+use Rattle.std.proofs.Common.{◌≡◌, refl, ap, sym, ◌∙◌, subst, ℕ, arith, Bool, true, false, List, ◌++◌, Option, Some, None, Ok, Err}
 use Rattle.std.proofs.Common.{if◌then◌else◌, pos, inl, inr}
 use Rattle.std.specs.Prelude.{◌↔◌, IsTrue, String, string_bytes}
 use Rattle.cg_cells.specs.Store.{Spends, State}
@@ -16,7 +16,6 @@ use Rattle.cg_nodes.specs.CanForms.{can-equal}
 use Rattle.cg_nodes.specs.Games.{StandsFor, game_at}
 use Rattle.cg_nodes.specs.Meant.{Meant}
 use Rattle.cg_nodes.proofs.Later.{stands_game, stands_later}
-use Rattle.cg_canon.specs.declared.fault.ValueFault.{ValueFault}
 use Rattle.cg_canon.specs.declared.fault.ValueFault.TheVariants.{Memory}
 use Rattle.cg_canon.specs.declared.rest.WorkRest.{WorkRest}
 use Rattle.cg_canon.specs.Items.{Item}
@@ -32,6 +31,7 @@ use Rattle.cg_thermo.proofs.Wins.{wins}
 use Rattle.cg_cert.specs.Answer.{IsLong, IsShort, proof_answer}
 use Rattle.cg_cert.specs.Proves.{IsProofOf}
 use Rattle.cg_query.specs.Tree.{Question, Tree, compare}
+use Rattle.cg_eval.specs.Faults.{fault_in, first_of_two, question_fault}
 use Rattle.cg_eval.specs.Items.{items, question_items}
 use Rattle.cg_eval.specs.Meaning.{meaning}
 use Rattle.cg_eval.specs.Parts.{IsCompared, IsDrawn, Tells, TellsTwo, asked_of, part_asked, part_text, winner_of, yes_or_no}
@@ -41,13 +41,14 @@ use Rattle.cg_eval.specs.Refused.{IsRefusedBy}
 use Rattle.cg_eval.specs.Reply.{IsAnswerTo, IsChecked, IsProofTold, Piece, answer, comparison, too_fine, too_long, winner}
 use Rattle.cg_eval.specs.Shown.{Answers, HandleIs, first_of, shown}
 use Rattle.cg_eval.specs.declared.answered.Answered.{Answered}
+use Rattle.cg_eval.specs.declared.fault.NoValue.{NoValue}
 use Rattle.cg_eval.specs.declared.pictures.Part.{Part}
 use Rattle.cg_eval.specs.declared.pictures.Part.TheVariants as parts
 use Rattle.cg_eval.specs.declared.telling.Asked.{Asked}
 use Rattle.cg_eval.specs.declared.telling.Asked.TheVariants as asking
 use Rattle.cg_thermo.proofs.EqualThermographs.{equal-thermograph}
-use Rattle.cg_eval.proofs.Replies.{answers-stop, le-forms, le-value_zero, makes_spends, zero-le_value}
-use Rattle.cg_eval.proofs.Steps.{stops_memory}
+use Rattle.cg_eval.proofs.Replies.{le-forms, le-value_zero, makes_spends, zero-le_value}
+use Rattle.cg_eval.proofs.Steps.{lacks_fault, lacks_items, stops_memory}
 
 -- ---- what is told
 
@@ -133,6 +134,14 @@ same-items limit (asking.Picture parts.Mean) t = refl
 same-items limit (asking.Picture parts.Temp) t = refl
 same-items limit (asking.Picture parts.Whole) t = refl
 
+same-fault : (asked : Asked) (t : Tree) → fault_in t ≡ question_fault (asked_of asked t)
+same-fault asking.Value t = refl
+same-fault asking.Outcome t = refl
+same-fault asking.Stops t = refl
+same-fault (asking.Picture parts.Mean) t = refl
+same-fault (asking.Picture parts.Temp) t = refl
+same-fault (asking.Picture parts.Whole) t = refl
+
 same-first : (asked : Asked) (t : Tree) → t ≡ first_of (asked_of asked t)
 same-first asking.Value t = refl
 same-first asking.Outcome t = refl
@@ -152,27 +161,32 @@ module _ {R : Type 0} (s t u : State Meant (WorkRest R)) (asked : Asked) (e : Tr
   made_for : Makes s u (question_items s.rest.limit (asked_of asked e))
   made_for =
       let P : List Item → Type 0 = λ z. Makes s u z in
-      subst P (same-items s.rest.limit asked e) (makes_spends s t u (items s.rest.limit e) evaluated.1 spends)
+      subst P (same-items s.rest.limit asked e) (makes_spends s t u (items s.rest.limit e) evaluated.1.1 spends)
 
   pub answers-told : (a : Answered) → Tells (game_at t h) h asked a → Answers s u (asked_of asked e) (Ok a)
   answers-told a is =
       let P : Tree → Type 0 = λ z. StandsFor u h (can (meaning z)) in (
-        record {
-          text = is.text e (stands_game t h (can (meaning e)) evaluated.0);
-          value = handle-told u (asked_of asked e) h a.refused a.handle is.handle
-              (subst P (same-first asked e) (stands_later t u spends.known h (can (meaning e)) evaluated.0));
-        },
-        made_for,
+        sym (same-fault asked e) ∙ evaluated.0,
+        (
+          record {
+            text = is.text e (stands_game t h (can (meaning e)) evaluated.1.0);
+            value = handle-told u (asked_of asked e) h a.refused a.handle is.handle
+                (subst P (same-first asked e) (stands_later t u spends.known h (can (meaning e)) evaluated.1.0));
+          },
+          made_for,
+        ),
       )
 
   pub answers-memory : Halts s u Memory (question_items s.rest.limit (asked_of asked e))
   answers-memory = stops_memory s u (question_items s.rest.limit (asked_of asked e))
       (question_items s.rest.limit (asked_of asked e)) made_for
 
-pub answers-halted : {R : Type 0} (s t : State Meant (WorkRest R)) (asked : Asked) (e : Tree) (fault : ValueFault)
-    → Evaluates s t e (Err fault) → Halts s t fault (question_items s.rest.limit (asked_of asked e))
-answers-halted s t asked e fault h =
-    let P : List Item → Type 0 = λ z. Halts s t fault z in subst P (same-items s.rest.limit asked e) h
+pub answers-halted : {R : Type 0} (s t : State Meant (WorkRest R)) (asked : Asked) (e : Tree) (cause : NoValue)
+    → Evaluates s t e (Err cause) → Answers s t (asked_of asked e) (Err cause)
+answers-halted s t asked e cause h =
+    lacks_fault s t (fault_in e) (question_fault (asked_of asked e)) (question_items s.rest.limit (asked_of asked e)) cause
+    (same-fault asked e) (lacks_items s t (fault_in e) (items s.rest.limit e) (question_items s.rest.limit (asked_of asked e))
+    cause (same-items s.rest.limit asked e) h)
 
 -- ---- questions about two expressions
 
@@ -209,11 +223,12 @@ compared-forms a b reply e =
 -- s before, t with the two values, u after what is told of them
 module _ {R : Type 0} (s t u : State Meant (WorkRest R)) (q : Question) (a b : Tree) (hs : ℕ × ℕ)
     (both : EvaluatesTwo s t a b (Ok hs)) (spends : Spends 0 t u)
-    (same_items : items s.rest.limit a ++ items s.rest.limit b ≡ question_items s.rest.limit q) where
+    (same_items : items s.rest.limit a ++ items s.rest.limit b ≡ question_items s.rest.limit q)
+    (same_fault : first_of_two (fault_in a) (fault_in b) ≡ question_fault q) where
   both_spend : Makes s u (question_items s.rest.limit q)
   both_spend =
       let M : List Item → Type 0 = λ k. Makes s u k in
-      subst M same_items (makes_spends s t u (items s.rest.limit a ++ items s.rest.limit b) both.2 spends)
+      subst M same_items (makes_spends s t u (items s.rest.limit a ++ items s.rest.limit b) both.1.1 spends)
 
   pub two-answered : (z : Answered) (Is : Game → Game → Piece → Type 0)
       → TellsTwo hs.0 (Is (game_at t hs.0) (game_at t hs.1)) z → first_of q ≡ a
@@ -222,13 +237,16 @@ module _ {R : Type 0} (s t u : State Meant (WorkRest R)) (q : Question) (a b : T
       let P : Game → Type 0 = λ g. Is g (game_at t hs.1) (shown z) in
       let Q : Game → Type 0 = λ h. Is (can (meaning a)) h (shown z) in
       let F : Tree → Type 0 = λ e. StandsFor u hs.0 (can (meaning e)) in (
-        record {
-          text = is (subst Q (stands_game t hs.1 (can (meaning b)) both.1)
-              (subst P (stands_game t hs.0 (can (meaning a)) both.0) tells.text));
-          value = handle-told u q hs.0 z.refused z.handle tells.handle
-              (subst F (sym first) (stands_later t u spends.known hs.0 (can (meaning a)) both.0));
-        },
-        both_spend,
+        sym same_fault ∙ both.0,
+        (
+          record {
+            text = is (subst Q (stands_game t hs.1 (can (meaning b)) both.1.0.1)
+                (subst P (stands_game t hs.0 (can (meaning a)) both.1.0.0) tells.text));
+            value = handle-told u q hs.0 z.refused z.handle tells.handle
+                (subst F (sym first) (stands_later t u spends.known hs.0 (can (meaning a)) both.1.0.0));
+          },
+          both_spend,
+        ),
       )
 
   pub two-memory : Halts s u Memory (question_items s.rest.limit q)
@@ -237,12 +255,3 @@ module _ {R : Type 0} (s t u : State Meant (WorkRest R)) (q : Question) (a b : T
 pub compared-answer : (a b : Tree) (reply : Piece) → IsCompared (can (meaning a)) (can (meaning b)) reply
     → IsAnswerTo (compare a b) reply
 compared-answer a b reply is = compared-forms (meaning a) (meaning b) reply is
-
--- the fault of the two values is that of the question
-pub two-halted : {R : Type 0} (s t : State Meant (WorkRest R)) (q : Question) (a b : Tree)
-    (result : Result Answered ValueFault) (x fault : ValueFault) → result ≡ Err x → x ≡ fault
-    → items s.rest.limit a ++ items s.rest.limit b ≡ question_items s.rest.limit q
-    → EvaluatesTwo s t a b (Err fault) → Answers s t q result
-two-halted s t q a b result x fault e f same_items h =
-    let P : List Item → Type 0 = λ z. Halts s t fault z in
-    answers-stop s t q result x fault e f (subst P same_items h)

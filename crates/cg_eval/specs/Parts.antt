@@ -29,12 +29,22 @@ use Rattle.cg_octal.specs.declared.fault.OctalFault.{OctalFault}
 use Rattle.cg_octal.specs.declared.fault.OctalFault.TheVariants as octal
 use Rattle.cg_eval.specs.declared.fault.GameFault.{GameFault}
 use Rattle.cg_eval.specs.declared.fault.GameFault.TheVariants as by
+use Rattle.cg_eval.specs.declared.fault.NoValue.{NoValue}
+use Rattle.cg_eval.specs.declared.fault.NoValue.TheVariants.{Refused}
+use Rattle.cg_canon.specs.declared.fault.ValueFault.{ValueFault}
 use Rattle.cg_eval.specs.declared.boards.GameBoard.{GameBoard}
 use Rattle.cg_eval.specs.declared.boards.GameBoard.TheVariants as boards
 use Rattle.cg_eval.specs.declared.pictures.Part.{Part}
 use Rattle.cg_eval.specs.declared.pictures.Part.TheVariants as parts
 use Rattle.cg_eval.specs.declared.telling.Asked.{Asked}
 use Rattle.cg_eval.specs.declared.telling.Asked.TheVariants as asking
+
+-- ---- why there is no value
+
+-- the fault of an item as the cause
+abbrev pub widened : Result ℕ ValueFault → Result ℕ NoValue
+widened (Ok h) = Ok h
+widened (Err fault) = Err (Refused fault)
 
 -- ---- boards
 

@@ -1,17 +1,18 @@
 -- An answer, without where it lies in memory.
-use Rattle.std.specs.Prelude.{◌≡◌, ℕ, Bool, true, false, List, Option, Some, None, Result, Ok, Err}
+use Rattle.std.specs.Prelude.{◌≡◌, ℕ, Bool, true, false, List, Option, Some, None, Result}
 use Rattle.cg_cells.specs.Store.{State}
 use Rattle.cg_nodes.specs.Can.{can}
 use Rattle.cg_nodes.specs.Meant.{Meant}
 use Rattle.cg_nodes.specs.Games.{StandsFor}
-use Rattle.cg_canon.specs.declared.fault.ValueFault.{ValueFault}
 use Rattle.cg_canon.specs.declared.rest.WorkRest.{WorkRest}
 use Rattle.cg_eval.specs.Meaning.{meaning}
 use Rattle.cg_query.specs.Tree.{Tree, Question, value, compare, outcome, stops, mean, temp, thermo, proof, check}
 use Rattle.cg_grammar.specs.Lines.{Reads}
 use Rattle.cg_eval.specs.declared.answered.Answered.{Answered}
+use Rattle.cg_eval.specs.declared.fault.NoValue.{NoValue}
+use Rattle.cg_eval.specs.Faults.{question_fault}
 use Rattle.cg_eval.specs.Items.{question_items}
-use Rattle.cg_eval.specs.Progress.{Makes, Stops}
+use Rattle.cg_eval.specs.Progress.{Ends}
 use Rattle.cg_eval.specs.Reply.{IsAnswerTo, IsReplyTo, Piece}
 
 abbrev pub shown : Answered → Piece
@@ -45,11 +46,10 @@ pub record IsAnswer {R : Type 0} (s : State Meant R) (q : Question) (a : Answere
   pub text : IsAnswerTo q (shown a)
   pub value : HandleIs s q a.refused a.handle
 
--- the answer to the question, with all of its items made; or why the first that is refused is
+-- the answer to the question, with all of its items made; or why there is none
 abbrev pub Answers : {R : Type 0} → State Meant (WorkRest R) → State Meant (WorkRest R) → Question
-    → Result Answered ValueFault → Type 0
-Answers {R} s t q (Ok a) = IsAnswer t q a × Makes s t (question_items s.rest.limit q)
-Answers {R} s t q (Err fault) = Stops s t fault (question_items s.rest.limit q)
+    → Result Answered NoValue → Type 0
+Answers {R} s t q result = Ends s t (question_fault q) (question_items s.rest.limit q) (IsAnswer t q) result
 
 -- the reply to the question, with the value of its first expression exactly where it isn't refused
 pub record IsAnswered {R : Type 0} (share limit : ℕ) (s : State Meant R) (q : Question) (a : Answered) : Type 0 where

@@ -7,32 +7,35 @@ ghost use Rattle.cg_nodes.specs.Games.{IsGame, StandsFor, game_at};
 ghost use Rattle.cg_canon.specs.Works.{work_state};
 ghost use Rattle.cg_canon.specs.SumItems.{sum_items};
 ghost use Rattle.cg_names.specs.Meaning.{signed};
+ghost use Rattle.cg_eval.specs.Faults.{fault_in, fault_in_terms};
 ghost use Rattle.cg_eval.specs.Meaning.{meaning, total_with};
 ghost use Rattle.cg_eval.specs.Items.{further_items, term_part};
-ghost use Rattle.cg_eval.specs.Progress.{Evaluates, Gives, GivesAll};
+ghost use Rattle.cg_eval.specs.Progress.{Evaluates, EvaluatesAll, Finds};
 ghost use Rattle.cg_query.specs.Tree.{terms_from, trees_from};
 ghost use Rattle.cg_query.specs.Tree as trees;
 ghost use Rattle.cg_query.specs.Trees.{terms_in, terms_of, tree_of, trees_in};
 
+use crate::fault::{NoValue, widen};
 use crate::forms::CgBoards;
 use crate::heaps::heap_value;
 use crate::named::{literal, named_nimber, named_switch, named_tiny, named_ups, nothing};
 use crate::positions::board_value;
-use cg_canon::{ValueFault, Work, canonical};
+use cg_canon::{Work, canonical};
 use cg_cells::CellStore;
 use cg_nodes::{GameFacts, Handle};
 use cg_sum::{multiple, negative, sum};
 use cg_syntax::{Expr, Exprs, Term, Terms};
 use std::alloc::Global;
 
-/// The canonical form of what the expression means. It makes the expression's items in order; the fault is that of the
-/// first that is refused, or want of memory.
+/// The canonical form of what the expression means. It goes through the expression from the left, reads each board and
+/// heap, and makes the items in order. The cause is that of the first board or heap that is ill-formed, or of the first
+/// item that is refused, whichever it comes to first; or want of memory.
 #[cycle(evaluate)]
 pub fn evaluate<S: CellStore<GameFacts<CgBoards>>>(
     alloc: Global,
     work: &mut Work<CgBoards, S>,
     expr: &Expr,
-) -> Result<Handle, ValueFault>
+) -> Result<Handle, NoValue>
     ensures { Evaluates (work_state S.state work.old) (work_state S.state work.new) (tree_of expr.now) result }
 {
     match expr {
@@ -58,8 +61,8 @@ fn evaluate_all<S: CellStore<GameFacts<CgBoards>>>(
     alloc: Global,
     work: &mut Work<CgBoards, S>,
     exprs: &Exprs,
-) -> Result<Vec<Handle>, ValueFault>
-    ensures { GivesAll (work_state S.state work.old) (work_state S.state work.new)
+) -> Result<Vec<Handle>, NoValue>
+    ensures { EvaluatesAll (work_state S.state work.old) (work_state S.state work.new)
         (trees_from (trees_in exprs.now)) result }
 {
     let mut handles = Vec::new(alloc);
@@ -77,13 +80,13 @@ fn braces<S: CellStore<GameFacts<CgBoards>>>(
     work: &mut Work<CgBoards, S>,
     lefts: &Exprs,
     rights: &Exprs,
-) -> Result<Handle, ValueFault>
+) -> Result<Handle, NoValue>
     ensures { Evaluates (work_state S.state work.old) (work_state S.state work.new)
         (trees.braces (trees_in lefts.now) (trees_in rights.now)) result }
 {
     let left_handles = evaluate_all(alloc, work, lefts)?;
     let right_handles = evaluate_all(alloc, work, rights)?;
-    canonical(alloc, work, &left_handles, &right_handles, 0)
+    widen(canonical(alloc, work, &left_handles, &right_handles, 0))
 }
 
 /// The negative of the expression.
@@ -92,12 +95,12 @@ fn minus<S: CellStore<GameFacts<CgBoards>>>(
     alloc: Global,
     work: &mut Work<CgBoards, S>,
     expr: &Expr,
-) -> Result<Handle, ValueFault>
+) -> Result<Handle, NoValue>
     ensures { Evaluates (work_state S.state work.old) (work_state S.state work.new)
         (trees.negative (tree_of expr.now)) result }
 {
     let value = evaluate(alloc, work, expr)?;
-    negative(alloc, work, value)
+    widen(negative(alloc, work, value))
 }
 
 /// So many times the expression.
@@ -107,12 +110,12 @@ fn times<S: CellStore<GameFacts<CgBoards>>>(
     work: &mut Work<CgBoards, S>,
     count: u128,
     expr: &Expr,
-) -> Result<Handle, ValueFault>
+) -> Result<Handle, NoValue>
     ensures { Evaluates (work_state S.state work.old) (work_state S.state work.new)
         (trees.multiple count (tree_of expr.now)) result }
 {
     let value = evaluate(alloc, work, expr)?;
-    multiple(alloc, work, count, value)
+    widen(multiple(alloc, work, count, value))
 }
 
 /// The sum of the terms, and 0 where there is none.
@@ -121,7 +124,7 @@ fn total<S: CellStore<GameFacts<CgBoards>>>(
     alloc: Global,
     work: &mut Work<CgBoards, S>,
     terms: &Terms,
-) -> Result<Handle, ValueFault>
+) -> Result<Handle, NoValue>
     ensures { Evaluates (work_state S.state work.old) (work_state S.state work.new)
         (trees.sum (terms_from (terms_in terms.now))) result }
 {
@@ -141,10 +144,11 @@ fn further<S: CellStore<GameFacts<CgBoards>>>(
     work: &mut Work<CgBoards, S>,
     start: Handle,
     terms: &[Term],
-) -> Result<Handle, ValueFault>
+) -> Result<Handle, NoValue>
     requires { IsGame (work_state S.state work.old) start }
     ensures { (g : Game) → StandsFor (work_state S.state work.old) start (can g)
-        → Gives (work_state S.state work.old) (work_state S.state work.new)
+        → Finds (work_state S.state work.old) (work_state S.state work.new)
+        (fault_in_terms (terms_from (terms_of terms.now)))
         (further_items work.old.limit g (terms_from (terms_of terms.now)))
         (total_with g (terms_from (terms_of terms.now))) result }
 {
@@ -162,14 +166,14 @@ fn signed<S: CellStore<GameFacts<CgBoards>>>(
     work: &mut Work<CgBoards, S>,
     subtracted: bool,
     expr: &Expr,
-) -> Result<Handle, ValueFault>
-    ensures { Gives (work_state S.state work.old) (work_state S.state work.new)
+) -> Result<Handle, NoValue>
+    ensures { Finds (work_state S.state work.old) (work_state S.state work.new) (fault_in (tree_of expr.now))
         (term_part work.old.limit subtracted (tree_of expr.now))
         (signed subtracted (meaning (tree_of expr.now))) result }
 {
     let value = evaluate(alloc, work, expr)?;
     if subtracted {
-        negative(alloc, work, value)
+        widen(negative(alloc, work, value))
     } else {
         Ok(value)
     }
@@ -183,9 +187,9 @@ fn added<S: CellStore<GameFacts<CgBoards>>>(
     so_far: Handle,
     subtracted: bool,
     expr: &Expr,
-) -> Result<Handle, ValueFault>
+) -> Result<Handle, NoValue>
     requires { IsGame (work_state S.state work.old) so_far }
-    ensures { Gives (work_state S.state work.old) (work_state S.state work.new)
+    ensures { Finds (work_state S.state work.old) (work_state S.state work.new) (fault_in (tree_of expr.now))
         (term_part work.old.limit subtracted (tree_of expr.now)
         ++ sum_items work.old.limit (game_at (work_state S.state work.old) so_far)
         (can (signed subtracted (meaning (tree_of expr.now)))))
@@ -193,5 +197,5 @@ fn added<S: CellStore<GameFacts<CgBoards>>>(
         (signed subtracted (meaning (tree_of expr.now)))) result }
 {
     let value = signed(alloc, work, subtracted, expr)?;
-    sum(alloc, work, so_far, value)
+    widen(sum(alloc, work, so_far, value))
 }

@@ -1,15 +1,14 @@
 //! Heaps of octal games, on handles.
-ghost use Rattle.std.specs.Prelude.{◌≡◌, ◌≤◌, Ok, IfOk};
+ghost use Rattle.std.specs.Prelude.{◌≡◌, ◌≤◌, None, Ok, IfOk};
 ghost use Rattle.cg_form.specs.Order.{Equal};
 ghost use Rattle.cg_canon.specs.Works.{work_state};
 ghost use Rattle.cg_names.specs.Named.{nimber_form};
 ghost use Rattle.cg_octal.specs.Heaps.{heap};
 ghost use Rattle.cg_eval.specs.Octals.{heap_fault, heap_form, heap_items, octal_read};
 ghost use Rattle.cg_eval.specs.Parts.{IsHeapFault};
-ghost use Rattle.cg_eval.specs.Progress.{Gives};
+ghost use Rattle.cg_eval.specs.Progress.{Finds};
 
-use crate::fault::GameFault;
-use crate::named::nothing;
+use crate::fault::{GameFault, NoValue, widen};
 use cg_canon::{ValueFault, Work};
 use cg_cells::CellStore;
 use cg_names::nimber;
@@ -57,35 +56,37 @@ fn value_of_heap<B: BoardForms, S: CellStore<GameFacts<B>>>(
     alloc: Global,
     work: &mut Work<B, S>,
     octal: &Octal,
-) -> Result<Handle, ValueFault>
-    ensures { Gives (work_state S.state work.old) (work_state S.state work.new)
+) -> Result<Handle, NoValue>
+    ensures { Finds (work_state S.state work.old) (work_state S.state work.new) None
         (heap_items work.old.limit (Ok octal.now)) (heap_form (Ok octal.now)) result }
 {
     let limit = work.limit();
     let count = octal.heap() + 1;
     if limit < count {
-        return Err(ValueFault::Positions);
+        return Err(NoValue::Refused(ValueFault::Positions));
     }
     let number = nimber_of(alloc, octal)?;
-    nimber(alloc, work, number as u128)
+    widen(nimber(alloc, work, number as u128))
 }
 
-/// The value of the heap of so many tokens in the octal game of the code. It makes the heap's items in order; the fault
-/// is that of the first that is refused, or want of memory. What is no heap counts as 0.
+/// The value of the heap of so many tokens in the octal game of the code. It makes the heap's items in order; the cause
+/// is that the code or the heap is ill-formed, or that of the first item that is refused, or want of memory.
 pub fn heap_value<B: BoardForms, S: CellStore<GameFacts<B>>>(
     alloc: Global,
     work: &mut Work<B, S>,
     code: &Text,
     tokens: u128,
-) -> Result<Handle, ValueFault>
+) -> Result<Handle, NoValue>
     ensures { let o = octal_read code.now tokens in
-        Gives (work_state S.state work.old) (work_state S.state work.new) (heap_items work.old.limit o) (heap_form o)
-        result }
+        Finds (work_state S.state work.old) (work_state S.state work.new) (heap_fault o) (heap_items work.old.limit o)
+        (heap_form o) result }
 {
     match read(alloc, code.as_slice(), tokens) {
         Ok(octal) => value_of_heap(alloc, work, &octal),
-        Err(OctalFault::Code(_place)) => nothing(work),
-        Err(OctalFault::Heap) => nothing(work),
-        Err(OctalFault::Memory) => Err(ValueFault::Memory),
+        Err(OctalFault::Code(place)) => {
+            Err(NoValue::IllFormed(GameFault::Octal(OctalFault::Code(place))))
+        }
+        Err(OctalFault::Heap) => Err(NoValue::IllFormed(GameFault::Octal(OctalFault::Heap))),
+        Err(OctalFault::Memory) => Err(NoValue::Refused(ValueFault::Memory)),
     }
 }

@@ -1,12 +1,13 @@
 //! Numbers and named games, on handles.
-ghost use Rattle.std.specs.Prelude.{◌≡◌};
+ghost use Rattle.std.specs.Prelude.{◌≡◌, None};
 ghost use Rattle.cg_canon.specs.Works.{work_state};
 ghost use Rattle.cg_names.specs.Named.{zero_number};
-ghost use Rattle.cg_eval.specs.Progress.{Evaluates, Gives};
+ghost use Rattle.cg_eval.specs.Progress.{Evaluates, Finds};
 ghost use Rattle.cg_eval.specs.Zero.{zero_form, zero_items};
 ghost use Rattle.cg_query.specs.Tree as trees;
 
-use cg_canon::{ValueFault, Work, number_item};
+use crate::fault::{NoValue, widen};
+use cg_canon::{Work, number_item};
 use cg_cells::CellStore;
 use cg_dyadic::Dyadic;
 use cg_names::{nimber, switch, tiny, ups};
@@ -23,13 +24,13 @@ fn zero() -> Dyadic
     }
 }
 
-/// 0, as which a sum of no terms counts, and what has no value of its own.
+/// 0, as which a sum of no terms counts, and a use of a name.
 pub fn nothing<B: BoardForms, S: CellStore<GameFacts<B>>>(
     work: &mut Work<B, S>,
-) -> Result<Handle, ValueFault>
-    ensures { Gives (work_state S.state work.old) (work_state S.state work.new) zero_items zero_form result }
+) -> Result<Handle, NoValue>
+    ensures { Finds (work_state S.state work.old) (work_state S.state work.new) None zero_items zero_form result }
 {
-    number_item(work, Some(zero()), 0)
+    widen(number_item(work, Some(zero()), 0))
 }
 
 /// The number of a literal.
@@ -38,11 +39,11 @@ pub fn literal<B: BoardForms, S: CellStore<GameFacts<B>>>(
     below: bool,
     num: u128,
     den: u128,
-) -> Result<Handle, ValueFault>
+) -> Result<Handle, NoValue>
     ensures { Evaluates (work_state S.state work.old) (work_state S.state work.new)
         (trees.number below num den) result }
 {
-    number_item(work, Dyadic::from_digits(below, num, den), 0)
+    widen(number_item(work, Dyadic::from_digits(below, num, den), 0))
 }
 
 /// So many ups, or downs.
@@ -51,10 +52,10 @@ pub fn named_ups<B: BoardForms, S: CellStore<GameFacts<B>>>(
     work: &mut Work<B, S>,
     down: bool,
     count: u128,
-) -> Result<Handle, ValueFault>
+) -> Result<Handle, NoValue>
     ensures { Evaluates (work_state S.state work.old) (work_state S.state work.new) (trees.ups down count) result }
 {
-    ups(alloc, work, down, count)
+    widen(ups(alloc, work, down, count))
 }
 
 /// A nimber.
@@ -62,10 +63,10 @@ pub fn named_nimber<B: BoardForms, S: CellStore<GameFacts<B>>>(
     alloc: Global,
     work: &mut Work<B, S>,
     count: u128,
-) -> Result<Handle, ValueFault>
+) -> Result<Handle, NoValue>
     ensures { Evaluates (work_state S.state work.old) (work_state S.state work.new) (trees.nimber count) result }
 {
-    nimber(alloc, work, count)
+    widen(nimber(alloc, work, count))
 }
 
 /// The switch of a literal.
@@ -74,10 +75,10 @@ pub fn named_switch<B: BoardForms, S: CellStore<GameFacts<B>>>(
     work: &mut Work<B, S>,
     num: u128,
     den: u128,
-) -> Result<Handle, ValueFault>
+) -> Result<Handle, NoValue>
     ensures { Evaluates (work_state S.state work.old) (work_state S.state work.new) (trees.switch num den) result }
 {
-    switch(alloc, work, Dyadic::from_digits(false, num, den))
+    widen(switch(alloc, work, Dyadic::from_digits(false, num, den)))
 }
 
 /// Tiny or miny of a literal.
@@ -87,8 +88,8 @@ pub fn named_tiny<B: BoardForms, S: CellStore<GameFacts<B>>>(
     miny: bool,
     num: u128,
     den: u128,
-) -> Result<Handle, ValueFault>
+) -> Result<Handle, NoValue>
     ensures { Evaluates (work_state S.state work.old) (work_state S.state work.new) (trees.tiny miny num den) result }
 {
-    tiny(alloc, work, miny, Dyadic::from_digits(false, num, den))
+    widen(tiny(alloc, work, miny, Dyadic::from_digits(false, num, den)))
 }

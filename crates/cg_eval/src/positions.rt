@@ -2,16 +2,16 @@
 ghost use Rattle.std.specs.Prelude.{◌≡◌, true};
 ghost use Rattle.cg_canon.specs.Works.{work_state};
 ghost use Rattle.cg_eval.specs.Forms.{board_form};
+ghost use Rattle.cg_values.specs.Gives.{Gives};
 ghost use Rattle.cg_values.specs.Notes.{MayNote};
-ghost use Rattle.cg_eval.specs.Boards.{board, position_form, position_items, position_of};
+ghost use Rattle.cg_eval.specs.Boards.{board, position_fault, position_form, position_items, position_of};
 ghost use Rattle.cg_eval.specs.Parts.{IsSound, set_up};
-ghost use Rattle.cg_eval.specs.Progress.{Gives};
+ghost use Rattle.cg_eval.specs.Progress.{Finds};
 
 use crate::SumAdder;
 use crate::boards::{GameBoard, game_board};
-use crate::fault::is_memory;
+use crate::fault::{NoValue, is_memory, widen};
 use crate::forms::{CgBoards, may_note};
-use crate::named::nothing;
 use cg_amazons::Amazons;
 use cg_canon::{ValueFault, Work};
 use cg_cells::CellStore;
@@ -62,26 +62,26 @@ fn value_in<S: CellStore<GameFacts<CgBoards>>>(
     }
 }
 
-/// The value of the board. It makes the board's items in order; the fault is that of the first that is refused, or want
-/// of memory. What is no board counts as 0.
+/// The value of the board, whose text is read once. It makes the board's items in order; the cause is that the text is
+/// ill-formed, or that of the first item that is refused, or want of memory.
 pub fn board_value<S: CellStore<GameFacts<CgBoards>>>(
     alloc: Global,
     work: &mut Work<CgBoards, S>,
     kind: GameKind,
     rules: &Text,
     board: &Text,
-) -> Result<Handle, ValueFault>
+) -> Result<Handle, NoValue>
     ensures { let p = position_of kind rules.now board.now in
-        Gives (work_state S.state work.old) (work_state S.state work.new) (position_items work.old.limit p)
-        (position_form p) result }
+        Finds (work_state S.state work.old) (work_state S.state work.new) (position_fault p)
+        (position_items work.old.limit p) (position_form p) result }
 {
     match game_board(alloc, kind, rules, board) {
-        Ok(board) => value_in(alloc, work, &board),
+        Ok(board) => widen(value_in(alloc, work, &board)),
         Err(fault) => {
             if is_memory(fault) {
-                Err(ValueFault::Memory)
+                Err(NoValue::Refused(ValueFault::Memory))
             } else {
-                nothing(work)
+                Err(NoValue::IllFormed(fault))
             }
         }
     }

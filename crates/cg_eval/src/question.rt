@@ -8,22 +8,23 @@ ghost use Rattle.cg_query.specs.Trees.{question_of, tree_of};
 
 use crate::Answered;
 use crate::evaluate::evaluate;
+use crate::fault::NoValue;
 use crate::forms::CgBoards;
 use crate::pictures::Part;
 use crate::telling::{Asked, tell, tell_check, tell_order, tell_proof};
-use cg_canon::{ValueFault, Work};
+use cg_canon::Work;
 use cg_cells::CellStore;
 use cg_nodes::{GameFacts, Handle};
 use cg_syntax::{Expr, Query, Text};
 use std::alloc::Global;
 
-/// The answer to a question. It makes the question's items in order; the fault is that of the first that is refused, or
-/// want of memory.
+/// The answer to a question. It makes the question's items in order; the cause is that of the first board or heap that
+/// is ill-formed, or of the first item that is refused, whichever it comes to first; or want of memory.
 pub fn answer_question<S: CellStore<GameFacts<CgBoards>>>(
     alloc: Global,
     work: &mut Work<CgBoards, S>,
     query: &Query,
-) -> Result<Answered, ValueFault>
+) -> Result<Answered, NoValue>
     ensures { Answers (work_state S.state work.old) (work_state S.state work.new) (question_of query.now) result }
 {
     match query {
@@ -45,7 +46,7 @@ fn answer_about<S: CellStore<GameFacts<CgBoards>>>(
     work: &mut Work<CgBoards, S>,
     asked: Asked,
     expr: &Expr,
-) -> Result<Answered, ValueFault>
+) -> Result<Answered, NoValue>
     ensures { Answers (work_state S.state work.old) (work_state S.state work.new)
         (asked_of asked (tree_of expr.now)) result }
 {
@@ -60,7 +61,7 @@ fn evaluate_two<S: CellStore<GameFacts<CgBoards>>>(
     work: &mut Work<CgBoards, S>,
     first: &Expr,
     second: &Expr,
-) -> Result<(Handle, Handle), ValueFault>
+) -> Result<(Handle, Handle), NoValue>
     ensures { EvaluatesTwo (work_state S.state work.old) (work_state S.state work.new) (tree_of first.now)
         (tree_of second.now) result }
 {
@@ -75,7 +76,7 @@ fn answer_comparison<S: CellStore<GameFacts<CgBoards>>>(
     work: &mut Work<CgBoards, S>,
     first: &Expr,
     second: &Expr,
-) -> Result<Answered, ValueFault>
+) -> Result<Answered, NoValue>
     ensures { Answers (work_state S.state work.old) (work_state S.state work.new)
         (compare (tree_of first.now) (tree_of second.now)) result }
 {
@@ -90,7 +91,7 @@ fn answer_proof<S: CellStore<GameFacts<CgBoards>>>(
     work: &mut Work<CgBoards, S>,
     first: &Expr,
     second: &Expr,
-) -> Result<Answered, ValueFault>
+) -> Result<Answered, NoValue>
     ensures { Answers (work_state S.state work.old) (work_state S.state work.new)
         (proof (tree_of first.now) (tree_of second.now)) result }
 {
@@ -106,7 +107,7 @@ fn answer_check<S: CellStore<GameFacts<CgBoards>>>(
     first: &Expr,
     second: &Expr,
     text: &Text,
-) -> Result<Answered, ValueFault>
+) -> Result<Answered, NoValue>
     ensures { Answers (work_state S.state work.old) (work_state S.state work.new)
         (check (tree_of first.now) (tree_of second.now) text.now) result }
 {

@@ -5,16 +5,19 @@ ghost use Rattle.std.specs.Ordering.{nat_cmp};
 ghost use Rattle.cg_nodes.specs.Meant.{Meant};
 ghost use Rattle.cg_canon.specs.Held.{IsHeld, knowing};
 ghost use Rattle.cg_canon.specs.Works.{Keeps, work_state};
+ghost use Rattle.cg_eval.specs.Faults.{question_fault};
+ghost use Rattle.cg_eval.specs.Refused.{IsRefusedOver};
 ghost use Rattle.cg_eval.specs.Shown.{IsAnswered};
 ghost use Rattle.cg_eval.specs.Stores.{KeepsStore};
 ghost use Rattle.cg_query.specs.Trees.{question_of};
 
 use crate::Answered;
+use crate::fault::NoValue;
 use crate::faults::question_fault;
 use crate::forms::CgBoards;
 use crate::question::answer_question;
 use crate::refusals::{refuse_board, refuse_value};
-use cg_canon::{Held, Work};
+use cg_canon::{Held, ValueFault, Work};
 use cg_cells::CellStore;
 use cg_nodes::GameFacts;
 use cg_syntax::Query;
@@ -83,8 +86,19 @@ fn kept(alloc: Global, found: Held) -> Held
     }
 }
 
-/// The reply to a question, on a work on which nothing was spent. An ill-formed board or heap is refused before anything
-/// is made.
+/// The refusal of a question of which an item is refused for this cause. An ill-formed board or heap behind that item
+/// is told before it.
+fn refuse_item(alloc: Global, query: &Query, fault: ValueFault) -> Result<Answered, AllocError>
+    ensures { IfOk result (IsRefusedOver (question_fault (question_of query.now)) fault) }
+{
+    let found = question_fault(alloc, query)?;
+    match found {
+        Some(first) => refuse_board(alloc, first),
+        None => refuse_value(alloc, fault),
+    }
+}
+
+/// The reply to a question, on a work on which nothing was spent.
 fn reply_on<S: CellStore<GameFacts<CgBoards>>>(
     alloc: Global,
     work: &mut Work<CgBoards, S>,
@@ -95,12 +109,9 @@ fn reply_on<S: CellStore<GameFacts<CgBoards>>>(
         (question_of query.now)) }
     ensures keeps { Keeps (work_state S.state work.old) (work_state S.state work.new) }
 {
-    let found = question_fault(alloc, query)?;
-    match found {
-        Some(fault) => refuse_board(alloc, fault),
-        None => match answer_question(alloc, work, query) {
-            Ok(answered) => Ok(answered),
-            Err(fault) => refuse_value(alloc, fault),
-        },
+    match answer_question(alloc, work, query) {
+        Ok(answered) => Ok(answered),
+        Err(NoValue::IllFormed(fault)) => refuse_board(alloc, fault),
+        Err(NoValue::Refused(fault)) => refuse_item(alloc, query, fault),
     }
 }

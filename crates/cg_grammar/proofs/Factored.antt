@@ -4,12 +4,12 @@ use Rattle.std.specs.Prelude.{ℕ, zero, suc, Bool, true, false, List, [], ◌�
 use Rattle.cg_reading.specs.Pieces.{Piece, Then, Or, Many, Made, Nothing, One, Bytes, Word, Longest, Telling}
 use Rattle.cg_reading.specs.Tokens.{only, blanks, gap, with_blanks, digits}
 use Rattle.cg_reading.specs.Words.{Among}
-use Rattle.cg_query.specs.Tree.{Tree, Question, tiny, octal, value, compare, outcome, stops, mean, temp, thermo, proof}
-use Rattle.cg_grammar.specs.Found.{Found, Asked, Stated}
-use Rattle.cg_grammar.specs.Values.{Arrows, Last, counted_of, with_tail, clean, negated, sum_of, one_text, two_texts, asked_of, asked_of_both, checked, asking as asking_line, defined}
+use Rattle.cg_query.specs.Tree.{tiny, octal, value}
+use Rattle.cg_grammar.specs.Found.{Found, Stated}
+use Rattle.cg_grammar.specs.Values.{Arrows, Last, counted_of, with_tail, clean, negated, sum_of, one_text, two_texts, asked_of, asked_of_both, checked, asking, defined}
 use Rattle.cg_grammar.specs.Grammar.{number, string, nim, enclosed, switch_piece, string_and, optional, tail, ups_and_nim, primary, special_tail, Some_rows}
 use Rattle.cg_grammar.specs.Grammar as g
-use Rattle.cg_grammar.specs.Reading.{Named, Of_tiny, Of_one_text, Of_two_texts, Of_octal, named_words, Behind, Over, Times, counted_from, behind_goes_on, Kind, Of_one, Of_two, Of_check, Of_name, kind_of}
+use Rattle.cg_grammar.specs.Reading.{Named, Of_tiny, Of_one_text, Of_two_texts, Of_octal, named_words, Behind, Over, Times, counted_from, behind_goes_on, Kind, Of_one, Of_two, Of_check, Of_name, question_kinds, kind_of}
 use Rattle.cg_query.specs.declared.format.Format.{Format}
 use Rattle.cg_query.specs.declared.format.Format.TheVariants as formats
 
@@ -120,59 +120,29 @@ expr format k = sum (special format k)
 
 -- ---- lines
 
-abbrev pub one_word : (Tree → Question) → List ℕ → Piece (Tree → Question)
-one_word ask word = Made (λ _. ask) (this_word word)
-
-abbrev pub temp_or_thermo : Piece (Tree → Question)
-temp_or_thermo = Made (λ v. v.1) (Then (One (only 116)) (Or (one_word temp (codes "emp")) (one_word thermo (codes "hermo"))))
-
-abbrev pub asking : Piece (Tree → Question)
-asking = Or (one_word value (codes "value")) (Or (one_word outcome (codes "outcome")) (Or (one_word stops (codes "stops")) (Or (one_word mean (codes "mean")) temp_or_thermo)))
-
-abbrev pub measure : Piece Asked
-measure = Made (λ v. asked_of v.0 v.1.1) (Then asking (Then gap (expr formats.One 64)))
-
 abbrev pub with_semicolon : {A B : Type 0} → Piece A → Piece B → Piece (A × B)
 with_semicolon R S = Made (λ v. (v.0, v.1.1.1)) (Then R (Then (One (only 59)) (Then blanks S)))
 
 abbrev pub both : Format → Piece (Found × Found)
 both format = with_semicolon (expr format 64) (expr format 64)
 
-abbrev pub both_asked : List ℕ → (Tree → Tree → Question) → Piece Asked
-both_asked word ask = Made (λ v. asked_of_both ask v.1.1.0 v.1.1.1) (Then (this_word word) (Then gap (both formats.One)))
-
-abbrev pub check : List ℕ → Piece Asked
-check word = Made (λ v. checked v.1.1.0.0 v.1.1.0.1 v.1.1.1) (Then (this_word word) (Then gap (with_semicolon (both formats.One) (with_blanks string))))
-
-abbrev pub compare_or_check : Piece Asked
-compare_or_check = Made (λ v. v.1) (Then (One (only 99)) (Or (both_asked (codes "ompare") compare) (check (codes "heck"))))
-
-abbrev pub question : Piece Asked
-question = Or measure (Or (both_asked (codes "proof") proof) compare_or_check)
-
-abbrev pub line : Piece Asked
-line = Made (λ v. v.1) (Then blanks question)
-
--- ---- lines of format 2
-
 abbrev pub becomes : Piece (Unit {0})
 becomes = Made (λ _. tt {0}) (Then blanks (Then (this_word (codes ":=")) blanks))
 
+-- the first word, and what it tells
+abbrev pub first_word : Format → Piece (List ℕ × Kind)
+first_word formats.One = Made (λ k. ([], k)) (Among question_kinds)
+first_word formats.Two = Or (Made (λ _. ([], Of_one value)) (this_word (codes "value"))) (Made (λ w. (w, kind_of w)) g.lettered)
+
 -- what stands behind the first word
-abbrev pub behind_word : List ℕ → Kind → Piece Stated
-behind_word word (Of_one ask) = Made (λ v. asking_line (asked_of ask v.1)) (Then gap (expr formats.Two 64))
-behind_word word (Of_two ask) = Made (λ v. asking_line (asked_of_both ask v.1.0 v.1.1)) (Then gap (both formats.Two))
-behind_word word Of_check = Made (λ v. asking_line (checked v.1.0.0 v.1.0.1 v.1.1)) (Then gap (with_semicolon (both formats.Two) (with_blanks string)))
-behind_word word Of_name = Made (λ v. defined word v.1) (Then becomes (expr formats.Two 64))
+abbrev pub behind_word : Format → List ℕ → Kind → Piece Stated
+behind_word format word (Of_one ask) = Made (λ v. asking (asked_of ask v.1)) (Then gap (expr format 64))
+behind_word format word (Of_two ask) = Made (λ v. asking (asked_of_both ask v.1.0 v.1.1)) (Then gap (both format))
+behind_word format word Of_check = Made (λ v. asking (checked v.1.0.0 v.1.0.1 v.1.1)) (Then gap (with_semicolon (both format) (with_blanks string)))
+behind_word format word Of_name = Made (λ v. defined word v.1) (Then becomes (expr format 64))
 
-abbrev pub statement_word : List ℕ → Piece Stated
-statement_word word = behind_word word (kind_of word)
+abbrev pub statement : Format → Piece Stated
+statement format = Telling (first_word format) (λ w. behind_word format w.0 w.1)
 
-abbrev pub value_line : Piece Stated
-value_line = Made (λ v. asking_line (asked_of value v.1.1)) (Then (this_word (codes "value")) (Then gap (expr formats.Two 64)))
-
-abbrev pub statement : Piece Stated
-statement = Or value_line (Telling g.lettered statement_word)
-
-abbrev pub line_two : Piece Stated
-line_two = Made (λ v. v.1) (Then blanks statement)
+abbrev pub line : Format → Piece Stated
+line format = Made (λ v. v.1) (Then blanks (statement format))

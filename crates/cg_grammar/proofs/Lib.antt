@@ -11,12 +11,12 @@ pub mod Productions
 pub mod Factoring
 pub mod SameWords
 pub mod SameLines
-pub mod SameFirstWords
 pub mod SameStatements
 pub mod Whole
-pub mod WholeTwo
 pub mod LongestRun
 pub mod RepeatedRuns
+pub mod LeastFault
+pub mod InOrder
 pub mod WrittenTokens
 pub mod WrittenTerms
 pub mod WrittenSpecials

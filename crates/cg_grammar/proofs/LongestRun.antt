@@ -1,11 +1,11 @@
 -- Splitting at runs of eight bars, then seven, down to one, is splitting at the longest run.
-use Rattle.std.proofs.Common.{◌≡◌, ℕ, zero, suc, ◌≤◌, ◌<◌, ◌⊎◌, inl, inr, Bool, true, false, cond, ◌||◌, List, [], ◌∷◌, ◌++◌, Option, Some, None, refl, ap, sym, subst, ◌∙◌, append_assoc, append-nil, arith}
+use Rattle.std.proofs.Common.{◌≡◌, ℕ, zero, suc, ◌≤◌, ◌<◌, ◌⊎◌, inl, inr, Bool, true, false, cond, ◌||◌, List, [], ◌∷◌, ◌++◌, length, refl, ap, sym, subst, ◌∙◌, append_assoc, append-nil, arith}
 use Rattle.std.specs.Prelude.{ltb, ◌==◌}
 use Rattle.std.proofs.lemmas.Bool.{ne_eqb, eq-eqb, ltb-true, ltb-false, lt-ltb, le-ltb}
 use Rattle.cg_query.specs.Tree.{Tree, braces}
-use Rattle.cg_grammar.specs.Found.{Found, first}
-use Rattle.cg_grammar.specs.Braces.{Run_side, Cut, Whole, Parts, repeats, side_fault, runs_fault, cut_from, split_by, part_of}
-use Rattle.cg_grammar.specs.Splitting.{AllShorter, AllWithin, IsSplit, alone, split, IsWithoutRepeats}
+use Rattle.cg_grammar.specs.Found.{Found}
+use Rattle.cg_grammar.specs.Braces.{Run_side, Cut, Whole, Parts, repeats, cut_from, split_by, part_of, only_tree, row_tree}
+use Rattle.cg_grammar.specs.Splitting.{AllShorter, AllWithin, IsSplit, alone, split}
 use Rattle.cg_grammar.proofs.Parts.{part_here, part_none}
 
 true_is_not : true ≡ false → ⊥
@@ -31,23 +31,6 @@ or_true false = refl
 abbrev pub Fresh : List ℕ → List Run_side → Type 0
 Fresh earlier [] = Unit {0}
 Fresh earlier (r ∷ rows) = (repeats r.bars false earlier ≡ false) × Fresh (earlier ++ r.bars ∷ []) rows
-
-abbrev no_column : Option ℕ
-no_column = None
-
-some_none : (n : ℕ) → Some n ≡ no_column → ⊥
-some_none n e = cc
-
-none_first : (b : Bool) (c : ℕ) (x y : Option ℕ) → first (cond b (Some c) None) (first x y) ≡ None → (b ≡ false) × (y ≡ None)
-none_first true c x y h = absurd (some_none c h)
-none_first false c (Some d) y h = absurd (some_none d h)
-none_first false c None y h = (refl, h)
-
-fresh_from : (earlier : List ℕ) (rows : List Run_side) → runs_fault earlier rows ≡ None → Fresh earlier rows
-fresh_from earlier [] h = tt
-fresh_from earlier (r ∷ rows) h =
-    let p = none_first (repeats r.bars false earlier) r.column (side_fault r.side) (runs_fault (earlier ++ r.bars ∷ []) rows) h in
-    (p.0, fresh_from (earlier ++ r.bars ∷ []) rows p.1)
 
 pub repeats-append : (n : ℕ) (seen : Bool) (xs ys : List ℕ) → repeats n seen (xs ++ ys) ≡ repeats n (repeats n seen xs) ys
 repeats-append n seen [] ys = refl
@@ -186,6 +169,13 @@ part_splits (suc n) side rows w f = by_cut (cut_cases (suc n) [] rows w) (part_s
         let parts : part_of (suc n) side rows ≡ braces (part_of n side c.before) (part_of n c.longest.side c.behind) ∷ [] = part_here n side rows ∙ ap (λ (d : Cut). split_by (part_of n) side d) c.cut in
         subst (λ (ts : List Tree). IsSplit side rows ts) (sym parts) (subst (λ (z : List Run_side). IsSplit side z (braces (part_of n side c.before) (part_of n c.longest.side c.behind) ∷ [])) (sym c.spelled) all)
 
--- A row in which no run repeats an earlier one is split at its longest run, and so are its parts.
-pub longest_first : (side : List Found) (rows : List Run_side) → AllWithin 8 rows → IsWithoutRepeats rows → IsSplit side rows (part_of 8 side rows)
-longest_first side rows w h = part_splits 8 side rows w (fresh_from [] rows h)
+one_option : (side : List Found) (rows : List Run_side) (ts : List Tree) → IsSplit side rows ts → 0 < length rows → ts ≡ only_tree ts ∷ []
+one_option _ _ _ (alone side) some = absurd (omega arith)
+one_option _ _ _ (split side before longest behind lefts rights p q l r) some = refl
+
+-- the tree of a row in which no run repeats an earlier one
+pub tree_splits : (side : List Found) (r : Run_side) (rows : List Run_side) → AllWithin 8 (r ∷ rows) → Fresh [] (r ∷ rows)
+    → IsSplit side (r ∷ rows) (row_tree side (r ∷ rows) ∷ [])
+tree_splits side r rows w f =
+    let s = part_splits 8 side (r ∷ rows) w f in
+    subst (λ (ts : List Tree). IsSplit side (r ∷ rows) ts) (one_option side (r ∷ rows) (part_of 8 side (r ∷ rows)) s (omega arith)) s

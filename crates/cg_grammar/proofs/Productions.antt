@@ -1,11 +1,10 @@
 -- The laws of the readers of names, of expressions with any number of brackets, and of lines.
-use Rattle.std.proofs.Common.{◌≡◌, ℕ, zero, suc, true, false, List, [], ◌∷◌, ◌++◌, refl}
+use Rattle.std.proofs.Common.{◌≡◌, ℕ, zero, suc, ◌+◌, inl, true, false, List, [], ◌∷◌, ◌++◌, length, refl}
 use Rattle.std.specs.Prelude.{codes}
-use Rattle.cg_reading.specs.Bytes.{Class, Begins}
-use Rattle.cg_reading.specs.Pieces.{Piece, Then, Or, Made, One}
+use Rattle.cg_reading.specs.Bytes.{Class}
+use Rattle.cg_reading.specs.Pieces.{Piece, Then, Made, One}
 use Rattle.cg_reading.specs.Readers.{Reader, made_at}
 use Rattle.cg_reading.specs.Tokens.{only, blank, blanks, gap, with_blanks}
-use Rattle.cg_reading.specs.TokenReaders as t
 use Rattle.cg_reading.proofs.Sets.{apart}
 use Rattle.cg_reading.proofs.Laws.{Lawful, Reads, Some_text}
 use Rattle.cg_reading.proofs.ByteRuns.{one_lawful, bytes_lawful, no_text, word_text}
@@ -13,14 +12,15 @@ use Rattle.cg_reading.proofs.Longest.{Token, plain_token, placed_token, made_ful
 use Rattle.cg_reading.proofs.Rules.{then_ok, or_ok, made_ok, wide_ok, then_text, made_text, left_text, right_text}
 use Rattle.cg_reading.proofs.MostBytes.{most_token, more_apart}
 use Rattle.cg_reading.proofs.Tellings.{such_token, telling_ok}
+use Rattle.cg_reading.proofs.WordTables.{among_ok}
 use Rattle.cg_reading.proofs.TokenLaws.{byte_ok, byte_text, gap_ok, gap_text, this_word_ok}
-use Rattle.cg_query.specs.Tree.{Tree, Question, switch, used, value, compare, outcome, stops, mean, temp, thermo, proof}
+use Rattle.cg_query.specs.Tree.{switch, used, value}
 use Rattle.cg_grammar.specs.Found.{Found}
 use Rattle.cg_grammar.specs.Values.{Last, In_none, In_name, goes_on, letter_or_digit, more_letters, clean, asked_of, asked_of_both, checked, asking, defined}
 use Rattle.cg_grammar.specs.Grammar as s
 use Rattle.cg_grammar.specs.Grammar.{bar, letter, is_free}
 use Rattle.cg_grammar.specs.Reading as r
-use Rattle.cg_grammar.specs.Reading.{special_begin, term_begin, plus_minus, asking_begin}
+use Rattle.cg_grammar.specs.Reading.{special_begin, term_begin, plus_minus}
 use Rattle.cg_query.specs.declared.format.Format.{Format}
 use Rattle.cg_query.specs.declared.format.Format.TheVariants as formats
 use Rattle.cg_grammar.proofs.Factored as g
@@ -106,29 +106,6 @@ module _ (format : Format) (k : ℕ) where
 
 -- ---- lines
 
-one_word_ok : (ask : Tree → Question) (word : List ℕ) (begin : Class) → Begins begin false word → Lawful (g.one_word ask word) (made_at (λ _. ask) (t.this_word_at word)) begin false []
-one_word_ok ask word begin b = made_ok (λ _. ask) (this_word_ok word begin b)
-
-one_word_text : (ask : Tree → Question) (word : List ℕ) (j : ℕ) → Some_text (g.one_word ask word) j
-one_word_text ask word j = made_text (λ _. ask) j (word_text (tt {0}) word j)
-
-temp_or_thermo_ok : Lawful g.temp_or_thermo r.temp_or_thermo_at (only 116) false []
-unfolding r.temp_or_thermo_at
-temp_or_thermo_ok = wide_ok (only 116) [] (made_ok (λ v. v.1) (then_ok (byte_ok 116 refl) (or_ok (one_word_ok temp (codes "emp") (only 101) refl) (one_word_ok thermo (codes "hermo") (only 104) refl) refl) (λ j. right_text j (one_word_text thermo (codes "hermo") j)) refl)) refl refl
-
-asking_ok : Lawful g.asking r.asking_at asking_begin false []
-unfolding r.asking_at
-asking_ok = wide_ok asking_begin []
-    (or_ok (one_word_ok value (codes "value") (only 118) refl) (or_ok (one_word_ok outcome (codes "outcome") (only 111) refl) (or_ok (one_word_ok stops (codes "stops") (only 115) refl)
-    (or_ok (one_word_ok mean (codes "mean") (only 109) refl) temp_or_thermo_ok refl) refl) refl) refl) refl refl
-
-asked_text : (format : Format) (j : ℕ) → Some_text (Then gap (g.expr format 64)) j
-asked_text format j = then_text {S = g.expr format 64} j (gap_text j) (expr_text format 64)
-
-measure_ok : Lawful g.measure r.measure_at asking_begin false sum_follow
-unfolding r.measure_at
-measure_ok = wide_ok asking_begin sum_follow (made_ok (λ v. asked_of v.0 v.1.1) (then_ok asking_ok (then_ok gap_ok (expr_ok formats.One 64) (expr_text formats.One 64) refl) (asked_text formats.One) refl)) refl refl
-
 -- two pieces with a semicolon between them
 module _ {A B : Type 0} (R : Piece A) (S : Piece B) (f : Reader A) (h : Reader B) (I F J G : Class) (v : (j : ℕ) → Some_text R j) (w : (j : ℕ) → Some_text S j) where
   behind_first : (j : ℕ) → Some_text (Then (One (only 59)) (Then blanks S)) j
@@ -151,10 +128,6 @@ both_text format = semicolon_text (g.expr format 64) (g.expr format 64) (r.sum_a
 behind_gap : {A : Type 0} (R : Piece A) → ((j : ℕ) → Some_text R j) → (j : ℕ) → Some_text (Then gap R) j
 behind_gap R w j = then_text {S = R} j (gap_text j) w
 
-both_asked_ok : (word : List ℕ) (ask : Tree → Tree → Question) (begin : Class) → Begins begin false word → Lawful (g.both_asked word ask) (r.both_asked_at word ask) begin false sum_follow
-unfolding r.both_asked_at
-both_asked_ok word ask begin b = made_ok (λ v. asked_of_both ask v.1.1.0 v.1.1.1) (then_ok (this_word_ok word begin b) (then_ok gap_ok (both_ok formats.One) (both_text formats.One) refl) (behind_gap (g.both formats.One) (both_text formats.One)) refl)
-
 last_ok : Lawful (with_blanks s.string) r.last_string_at (only 34) false blank
 last_ok = made_ok (λ v. v.0) (then_ok string_ok (bytes_lawful blank) (no_text blank) refl)
 
@@ -166,36 +139,6 @@ checked_ok format = semicolon_ok (g.both format) (with_blanks s.string) (r.both_
 
 checked_text : (format : Format) (j : ℕ) → Some_text (g.with_semicolon (g.both format) (with_blanks s.string)) j
 checked_text format = semicolon_text (g.both format) (with_blanks s.string) (r.both_at format) r.last_string_at term_begin sum_follow (only 34) blank (both_text format) last_text
-
-check_ok : Lawful (g.check (codes "heck")) (r.check_at (codes "heck")) (only 104) false blank
-unfolding r.check_at
-check_ok = made_ok (λ v. checked v.1.1.0.0 v.1.1.0.1 v.1.1.1) (then_ok (this_word_ok (codes "heck") (only 104) refl) (then_ok gap_ok (checked_ok formats.One) (checked_text formats.One) refl) (behind_gap (g.with_semicolon (g.both formats.One) (with_blanks s.string)) (checked_text formats.One)) refl)
-
-check_text : (j : ℕ) → Some_text (g.check (codes "heck")) j
-check_text j = made_text (λ v. checked v.1.1.0.0 v.1.1.0.1 v.1.1.1) j (then_text {S = Then gap (g.with_semicolon (g.both formats.One) (with_blanks s.string))} j (word_text (tt {0}) (codes "heck") j) (behind_gap (g.with_semicolon (g.both formats.One) (with_blanks s.string)) (checked_text formats.One)))
-
-compare_or_check_ok : Lawful g.compare_or_check r.compare_or_check_at (only 99) false sum_follow
-unfolding r.compare_or_check_at
-compare_or_check_ok = wide_ok (only 99) sum_follow (made_ok (λ v. v.1) (then_ok (byte_ok 99 refl)
-    (or_ok (both_asked_ok (codes "ompare") compare (only 111) refl) check_ok refl) (λ j. right_text j (check_text j)) refl)) refl refl
-
-compare_or_check_text : (j : ℕ) → Some_text g.compare_or_check j
-compare_or_check_text j = made_text (λ v. v.1) j (then_text {S = Or (g.both_asked (codes "ompare") compare) (g.check (codes "heck"))} j (byte_text 99 refl j) (λ k. right_text k (check_text k)))
-
--- what a question begins with
-abbrev pub question_begin : Class
-question_begin = (118, 118) ∷ (111, 111) ∷ (115, 116) ∷ (109, 109) ∷ (112, 112) ∷ (99, 99) ∷ []
-
-pub question_ok : Lawful g.question r.question_at question_begin false sum_follow
-unfolding r.question_at
-question_ok = wide_ok question_begin sum_follow (or_ok measure_ok (or_ok (both_asked_ok (codes "proof") proof (only 112) refl) compare_or_check_ok refl) refl) refl refl
-
-pub line_ok : Lawful g.line r.line_at ((32, 32) ∷ (9, 9) ∷ (13, 13) ∷ (118, 118) ∷ (111, 111) ∷ (115, 116) ∷ (109, 109) ∷ (112, 112) ∷ (99, 99) ∷ []) false sum_follow
-unfolding r.line_at
-line_ok = wide_ok ((32, 32) ∷ (9, 9) ∷ (13, 13) ∷ (118, 118) ∷ (111, 111) ∷ (115, 116) ∷ (109, 109) ∷ (112, 112) ∷ (99, 99) ∷ []) sum_follow
-    (made_ok (λ v. v.1) (then_ok (bytes_lawful blank) question_ok (λ j. right_text j (right_text j (compare_or_check_text j))) refl)) refl refl
-
--- ---- lines of format 2
 
 -- what may follow the first word
 abbrev behind_begin : Class
@@ -209,43 +152,50 @@ unfolding r.becomes_at
 becomes_ok = wide_ok behind_begin blank (made_ok (λ _. tt {0}) (then_ok (bytes_lawful blank) (then_ok (this_word_ok (codes ":=") (only 58) refl) (bytes_lawful blank) (no_text blank) refl)
     (λ j. then_text {S = blanks} j (word_text (tt {0}) (codes ":=") j) (no_text blank)) refl)) refl refl
 
-behind_word_ok : (word : List ℕ) (k : r.Kind) → Lawful (g.behind_word word k) (r.behind_word_at word k) behind_begin false sum_follow
-behind_word_ok word (r.Of_one ask) = wide_ok behind_begin sum_follow (made_ok (λ v. asking (asked_of ask v.1)) (then_ok gap_ok (expr_ok formats.Two 64) (expr_text formats.Two 64) refl)) refl refl
-behind_word_ok word (r.Of_two ask) = wide_ok behind_begin sum_follow (made_ok (λ v. asking (asked_of_both ask v.1.0 v.1.1)) (then_ok gap_ok (both_ok formats.Two) (both_text formats.Two) refl)) refl refl
-behind_word_ok word r.Of_check = wide_ok behind_begin sum_follow (made_ok (λ v. asking (checked v.1.0.0 v.1.0.1 v.1.1)) (then_ok gap_ok (checked_ok formats.Two) (checked_text formats.Two) refl)) refl refl
-behind_word_ok word r.Of_name = wide_ok behind_begin sum_follow (made_ok (λ v. defined word v.1) (then_ok becomes_ok (expr_ok formats.Two 64) (expr_text formats.Two 64) refl)) refl refl
+module _ (format : Format) where
+  behind_word_ok : (w : List ℕ × r.Kind) → Lawful (g.behind_word format w.0 w.1) (r.behind_word_at format w.0 w.1) behind_begin false sum_follow
+  behind_word_ok (word, r.Of_one ask) = wide_ok behind_begin sum_follow (made_ok (λ v. asking (asked_of ask v.1)) (then_ok gap_ok (expr_ok format 64) (expr_text format 64) refl)) refl refl
+  behind_word_ok (word, r.Of_two ask) = wide_ok behind_begin sum_follow (made_ok (λ v. asking (asked_of_both ask v.1.0 v.1.1)) (then_ok gap_ok (both_ok format) (both_text format) refl)) refl refl
+  behind_word_ok (word, r.Of_check) = wide_ok behind_begin sum_follow (made_ok (λ v. asking (checked v.1.0.0 v.1.0.1 v.1.1)) (then_ok gap_ok (checked_ok format) (checked_text format) refl)) refl refl
+  behind_word_ok (word, r.Of_name) = wide_ok behind_begin sum_follow (made_ok (λ v. defined word v.1) (then_ok becomes_ok (expr_ok format 64) (expr_text format 64) refl)) refl refl
 
-behind_word_text : (word : List ℕ) (k : r.Kind) (j : ℕ) → Some_text (g.behind_word word k) j
-behind_word_text word (r.Of_one ask) j = made_text (λ v. asking (asked_of ask v.1)) j (asked_text formats.Two j)
-behind_word_text word (r.Of_two ask) j = made_text (λ v. asking (asked_of_both ask v.1.0 v.1.1)) j (behind_gap (g.both formats.Two) (both_text formats.Two) j)
-behind_word_text word r.Of_check j = made_text (λ v. asking (checked v.1.0.0 v.1.0.1 v.1.1)) j (behind_gap (g.with_semicolon (g.both formats.Two) (with_blanks s.string)) (checked_text formats.Two) j)
-behind_word_text word r.Of_name j = made_text (λ v. defined word v.1) j (then_text {S = g.expr formats.Two 64} j (becomes_text j) (expr_text formats.Two 64))
-
-statement_word_ok : (word : List ℕ) → Lawful (g.statement_word word) (r.statement_word_at word) behind_begin false sum_follow
-unfolding r.statement_word_at
-statement_word_ok word = behind_word_ok word (r.kind_of word)
+  behind_word_text : (w : List ℕ × r.Kind) (j : ℕ) → Some_text (g.behind_word format w.0 w.1) j
+  behind_word_text (word, r.Of_one ask) j = made_text (λ v. asking (asked_of ask v.1)) j (behind_gap (g.expr format 64) (expr_text format 64) j)
+  behind_word_text (word, r.Of_two ask) j = made_text (λ v. asking (asked_of_both ask v.1.0 v.1.1)) j (behind_gap (g.both format) (both_text format) j)
+  behind_word_text (word, r.Of_check) j = made_text (λ v. asking (checked v.1.0.0 v.1.0.1 v.1.1)) j (behind_gap (g.with_semicolon (g.both format) (with_blanks s.string)) (checked_text format) j)
+  behind_word_text (word, r.Of_name) j = made_text (λ v. defined word v.1) j (then_text {S = g.expr format 64} j (becomes_text j) (expr_text format 64))
 
 letters_apart : (word : List ℕ) → apart behind_begin (more_letters word) ≡ true
 letters_apart [] = refl
 letters_apart (b ∷ bs) = more_apart behind_begin letter_or_digit refl refl 15 bs
 
-value_line_ok : Lawful g.value_line r.value_line_at (only 118) false sum_follow
-unfolding r.value_line_at
-value_line_ok = wide_ok (only 118) sum_follow (made_ok (λ v. asking (asked_of value v.1.1)) (then_ok (this_word_ok (codes "value") (only 118) refl) (then_ok gap_ok (expr_ok formats.Two 64) (expr_text formats.Two 64) refl) (asked_text formats.Two) refl)) refl refl
-
-value_line_text : (j : ℕ) → Some_text g.value_line j
-value_line_text j = made_text (λ v. asking (asked_of value v.1.1)) j (then_text {S = Then gap (g.expr formats.Two 64)} j (word_text (tt {0}) (codes "value") j) (asked_text formats.Two))
-
--- what a line of format 2 begins with, its blanks aside
+-- what a line begins with, its blanks aside
 abbrev pub statement_begin : Class
 statement_begin = (97, 122) ∷ []
 
-pub statement_ok : Lawful g.statement r.statement_at statement_begin false sum_follow
-unfolding r.statement_at
-statement_ok = wide_ok statement_begin sum_follow (or_ok value_line_ok
-    (telling_ok lettered_token statement_word_ok (λ word. behind_word_text word (r.kind_of word)) refl letters_apart) refl) refl refl
+first_word_token : (format : Format) → Token (g.first_word format) (r.first_word_at format) statement_begin false [] (λ w. more_letters w.0)
+unfolding r.question_word_at r.value_word_at
+first_word_token formats.One = made_full (λ k. ([], k)) (λ w. more_letters w.0) (plain_token (among_ok r.question_kinds statement_begin refl refl refl))
+first_word_token formats.Two =
+    wide_token statement_begin []
+    (or_full_ok (made_full (λ _. ([], r.Of_one value)) (λ w. more_letters w.0) (plain_token (this_word_ok (codes "value") (only 118) refl)))
+    (made_full (λ w. (w, r.kind_of w)) (λ w. more_letters w.0) lettered_token) refl) refl refl
 
-pub line_two_ok : Lawful g.line_two r.line_two_at ((32, 32) ∷ (9, 9) ∷ (13, 13) ∷ (97, 122) ∷ []) false sum_follow
-unfolding r.line_two_at
-line_two_ok = wide_ok ((32, 32) ∷ (9, 9) ∷ (13, 13) ∷ (97, 122) ∷ []) sum_follow
-    (made_ok (λ v. v.1) (then_ok (bytes_lawful blank) statement_ok (λ j. left_text j (value_line_text j)) refl)) refl refl
+first_word_text : (format : Format) (j : ℕ) → Some_text (g.first_word format) j
+first_word_text formats.One j = record { value = ([], r.Of_one value); text = codes "value"; is = record { made_of = r.Of_one value; is = inl (refl, refl); same = refl } }
+first_word_text formats.Two j = record { value = ([], r.Of_one value); text = codes "value"; is = inl (record { made_of = tt {0}; is = (refl, refl); same = refl }) }
+
+module _ (format : Format) where
+  pub statement_ok : Lawful (g.statement format) (r.statement_at format) statement_begin false sum_follow
+  unfolding r.statement_at
+  statement_ok = telling_ok (first_word_token format) (behind_word_ok format) (behind_word_text format) refl (λ w. letters_apart w.0)
+
+  statement_text : (j : ℕ) → Some_text (g.statement format) j
+  statement_text j =
+      let w = first_word_text format j in
+      let t = behind_word_text format w.value (j + length w.text) in
+      record { value = t.value; text = w.text ++ t.text; is = record { told = w.value; before = w.text; behind = t.text; first = w.is; second = t.is; spelled = refl } }
+
+  pub line_ok : Lawful (g.line format) (r.line_at format) ((32, 32) ∷ (9, 9) ∷ (13, 13) ∷ (97, 122) ∷ []) false sum_follow
+  unfolding r.line_at
+  line_ok = wide_ok ((32, 32) ∷ (9, 9) ∷ (13, 13) ∷ (97, 122) ∷ []) sum_follow (made_ok (λ v. v.1) (then_ok (bytes_lawful blank) statement_ok statement_text refl)) refl refl

@@ -1,22 +1,18 @@
--- Specials and lines, as the grammar has them and as they are read.
-use Rattle.std.proofs.Common.{ℕ, zero, suc, inl, inr, false, List, [], ◌∷◌, refl}
+-- Specials and questions, as the grammar has them and as they are read.
+use Rattle.std.proofs.Common.{ℕ, zero, suc, inl, inr, List}
 use Rattle.std.specs.Prelude.{codes}
-use Rattle.cg_reading.specs.Bytes.{Class}
 use Rattle.cg_reading.specs.Pieces.{Piece, Then, Or, Made, One, Word}
 use Rattle.cg_reading.specs.Tokens.{only, blanks, gap, with_blanks}
-use Rattle.cg_reading.proofs.Laws.{Lawful}
-use Rattle.cg_reading.proofs.Same.{Same, same_self, same_back, same_on, same_lawful, then_same, or_same, made_same, blanks_behind_made, blanks_behind_then, blanks_behind_or}
-use Rattle.cg_query.specs.Tree.{Tree, Question, compare, proof}
+use Rattle.cg_reading.proofs.Same.{Same, same_self, same_back, same_on, then_same, or_same, made_same, blanks_behind_made, blanks_behind_then, blanks_behind_or}
+use Rattle.cg_query.specs.Tree.{Tree, Question}
 use Rattle.cg_grammar.specs.Found.{Found, Asked}
 use Rattle.cg_grammar.specs.Values.{Last, In_none, asked_of, asked_of_both, checked}
 use Rattle.cg_query.specs.declared.format.Format.{Format}
 use Rattle.cg_query.specs.declared.format.Format.TheVariants as formats
 use Rattle.cg_grammar.specs.Grammar as s
-use Rattle.cg_grammar.specs.Reading.{line_at}
 use Rattle.cg_grammar.proofs.Factored as g
 use Rattle.cg_grammar.proofs.Factoring.{sum_same, braces_same, side_same, paren_same}
-use Rattle.cg_grammar.proofs.SameWords.{plain_same, named, asking_same, either_word, word_value, byte_apart, second_byte}
-use Rattle.cg_grammar.proofs.Productions.{line_ok}
+use Rattle.cg_grammar.proofs.SameWords.{plain_same, named}
 
 special_to : (B P : Piece Found) (i : ℕ) (a : Found) (text : List ℕ) → Or (Or s.switch_piece named) (Or B P) i a text → Or s.switch_piece (Or s.tiny_piece (Or B (Or P (Or s.board s.octal_piece)))) i a text
 special_to B P i a text (inl (inl w)) = inl w
@@ -129,55 +125,3 @@ module _ (format : Format) where
   query_same =
       same_on (blanks_behind_or ask_one (Or ask_both ask_check))
       (or_same one_same (same_on (blanks_behind_or ask_both ask_check) (or_same two_same check_same)))
-
--- ---- lines of format 1
-
-abbrev both_one : Piece (Found × Found)
-both_one = g.both formats.One
-
-either_same : Same (Made both_value (Then s.asking_both (Then gap both_one))) (Or (g.both_asked (codes "compare") compare) (g.both_asked (codes "proof") proof))
-either_same =
-    either_word both_value (Word (codes "compare") compare) (Word (codes "proof") proof) (Then gap both_one) (g.both_asked (codes "compare") compare) (g.both_asked (codes "proof") proof)
-    (word_value (Then gap both_one) (codes "compare") compare both_value) (word_value (Then gap both_one) (codes "proof") proof both_value)
-
-compare_or_check : Same (Or (g.both_asked (codes "compare") compare) (g.check (codes "check"))) g.compare_or_check
-compare_or_check =
-    second_byte 99 (g.both_asked (codes "compare") compare) (g.check (codes "check")) (g.both_asked (codes "ompare") compare) (g.check (codes "heck"))
-    (byte_apart (Then gap both_one) 99 (codes "ompare") (λ w. asked_of_both compare w.1.0 w.1.1) refl)
-    (byte_apart (Then gap (g.with_semicolon both_one (with_blanks s.string))) 99 (codes "heck") (λ w. checked w.1.0.0 w.1.0.1 w.1.1) refl)
-
-moved : (M C P K : Piece Asked) → Same (Or M (Or (Or C P) K)) (Or M (Or P (Or C K)))
-moved M C P K = record { to = to; from = from }
-  where
-    to : (i : ℕ) (a : Asked) (text : List ℕ) → Or M (Or (Or C P) K) i a text → Or M (Or P (Or C K)) i a text
-    to i a text (inl m) = inl m
-    to i a text (inr (inl (inl c))) = inr (inr (inl c))
-    to i a text (inr (inl (inr p))) = inr (inl p)
-    to i a text (inr (inr k)) = inr (inr (inr k))
-
-    from : (i : ℕ) (a : Asked) (text : List ℕ) → Or M (Or P (Or C K)) i a text → Or M (Or (Or C P) K) i a text
-    from i a text (inl m) = inl m
-    from i a text (inr (inl p)) = inr (inl (inr p))
-    from i a text (inr (inr (inl c))) = inr (inl (inl c))
-    from i a text (inr (inr (inr k))) = inr (inr k)
-
-question_same : Same (with_blanks (s.query (expr_of formats.One))) g.question
-question_same =
-    same_on (query_same formats.One)
-    (same_on (or_same (made_same one_value (then_same (same_back asking_same) (same_self (Then gap (g.expr formats.One 64))))) (or_same either_same (same_self (g.check (codes "check")))))
-    (same_on (moved g.measure (g.both_asked (codes "compare") compare) (g.both_asked (codes "proof") proof) (g.check (codes "check")))
-    (or_same (same_self g.measure) (or_same (same_self (g.both_asked (codes "proof") proof)) compare_or_check))))
-
-pub line_same : Same g.line s.line
-line_same = made_same (λ v. v.1) (then_same (same_self blanks) (same_back question_same))
-
--- what a line begins with
-abbrev pub line_begin : Class
-line_begin = (32, 32) ∷ (9, 9) ∷ (13, 13) ∷ (118, 118) ∷ (111, 111) ∷ (115, 116) ∷ (109, 109) ∷ (112, 112) ∷ (99, 99) ∷ []
-
--- what would still belong to its last expression
-abbrev pub line_follow : Class
-line_follow = (97, 122) ∷ (48, 57) ∷ (94, 94) ∷ (42, 42) ∷ (47, 47) ∷ (46, 46) ∷ (32, 32) ∷ (9, 9) ∷ (13, 13) ∷ (43, 43) ∷ (45, 45) ∷ []
-
-pub line_lawful : Lawful s.line line_at line_begin false line_follow
-line_lawful = same_lawful line_same line_ok

@@ -1,7 +1,6 @@
 -- The laws of the readers of tokens, boards and octal games.
-use Rattle.std.proofs.Common.{◌≡◌, ℕ, suc, Bool, true, false, cond, inr, List, [], ◌∷◌, ◌++◌, length, Option, Some, None, refl}
-use Rattle.std.specs.Prelude.{codes}
-use Rattle.cg_reading.specs.Bytes.{Class, Begins}
+use Rattle.std.proofs.Common.{◌≡◌, ℕ, suc, Bool, true, false, cond, inr, [], ◌∷◌, ◌++◌, length, Option, Some, None, refl}
+use Rattle.cg_reading.specs.Bytes.{Class}
 use Rattle.cg_reading.specs.Pieces.{Piece, Then, Or, Made, Nothing, One, Bytes}
 use Rattle.cg_reading.specs.Readers.{Reader, then_at, made_at}
 use Rattle.cg_reading.specs.Tokens.{only, blank, digit, digits, blanks}
@@ -9,21 +8,19 @@ use Rattle.cg_reading.specs.TokenReaders as t
 use Rattle.cg_reading.proofs.Sets.{apart, inside}
 use Rattle.cg_reading.proofs.Laws.{Lawful, same_ok, Some_text}
 use Rattle.cg_reading.proofs.Steps.{nothing_lawful}
-use Rattle.cg_reading.proofs.ByteRuns.{one_lawful, bytes_lawful, no_text, word_text}
+use Rattle.cg_reading.proofs.ByteRuns.{one_lawful, bytes_lawful, no_text}
 use Rattle.cg_reading.proofs.Longest.{Token, plain_token, token_ok, made_full, or_full_ok, then_full, bytes_token, wide_token}
 use Rattle.cg_reading.proofs.Rules.{then_ok, or_ok, made_ok, wide_ok, then_text, made_text, left_text, right_text}
 use Rattle.cg_reading.proofs.Same.{same_token}
 use Rattle.cg_reading.proofs.Tellings.{telling_ok}
 use Rattle.cg_reading.proofs.WordTables.{among_ok}
-use Rattle.cg_reading.proofs.TokenLaws.{digits_ok, digits_text, byte_ok, byte_text, this_word_ok}
+use Rattle.cg_reading.proofs.TokenLaws.{digits_ok, digits_text, byte_ok, byte_text}
 use Rattle.cg_query.specs.Tree.{Tree, nimber, switch, tiny, octal}
 use Rattle.cg_grammar.specs.Values.{Arrows, ups_tree, more_arrows, clean, one_text, two_texts}
 use Rattle.cg_grammar.specs.Grammar as s
 use Rattle.cg_grammar.specs.Grammar.{printable}
 use Rattle.cg_grammar.specs.Reading as r
 use Rattle.cg_grammar.specs.Reading.{arrow, star, plain_begin}
-use Rattle.cg_query.specs.declared.kind.GameKind.{GameKind}
-use Rattle.cg_query.specs.declared.kind.GameKind.TheVariants.{Domineering, Clobber, Amazons, Toads, Strip, Hackenbush, Col, Snort}
 use Rattle.cg_grammar.proofs.Factored as g
 use Rattle.cg_grammar.proofs.Plain.{ups_is}
 use Rattle.cg_grammar.proofs.SameArrows.{ups_same}

@@ -1,4 +1,4 @@
--- A line is blank, a comment or a question, or none of them and has a column.
+-- A line of a format states one thing, or nothing and has a column; blank lines and comments state nothing.
 use Rattle.std.proofs.Common.{◌≡◌, ◌≢◌, ℕ, suc, ◌+◌, ◌-◌, ◌≤◌, ◌⊎◌, inl, inr, Bool, true, false, cond, ◌&&◌, List, [], ◌∷◌, ◌++◌, length, Option, Some, None, Result, Ok, Err, refl, ap, sym, subst, ◌∙◌, arith}
 use Rattle.std.specs.List.{list_all}
 use Rattle.std.proofs.lemmas.Bool.{and_parts, and_from, false_from_ne_true}
@@ -6,15 +6,17 @@ use Rattle.cg_reading.specs.Bytes.{has, Begins}
 use Rattle.cg_reading.specs.Tokens.{blank}
 use Rattle.cg_reading.specs.Readers.{skipped}
 use Rattle.cg_reading.specs.Column.{Stops}
+use Rattle.cg_reading.proofs.Sets.{apart_has}
 use Rattle.cg_reading.proofs.WholeLines.{whole_takes, whole_stops, whole_left, whole_once}
-use Rattle.cg_query.specs.Tree.{Question}
-use Rattle.cg_grammar.specs.Found.{Asked}
+use Rattle.cg_query.specs.Tree.{Tree, Question, Statement, asks, defines}
+use Rattle.cg_query.specs.declared.format.Format.{Format}
+use Rattle.cg_query.specs.declared.format.Format.TheVariants as formats
+use Rattle.cg_grammar.specs.Found.{Stated}
 use Rattle.cg_grammar.specs.Grammar.{line}
 use Rattle.cg_grammar.specs.Reading.{read_at, line_at}
-use Rattle.cg_grammar.specs.Lines.{is_blank_line, IsComment, IsInGrammar, Reads, IsColumn}
-use Rattle.cg_reading.proofs.Sets.{apart_has}
-use Rattle.cg_grammar.proofs.Productions.{question_ok, question_begin}
-use Rattle.cg_grammar.proofs.SameLines.{line_lawful, line_begin, line_follow, line_same}
+use Rattle.cg_grammar.specs.Lines.{line_of, is_blank_line, IsComment, IsInGrammar, ReadsIn, IsColumnIn, Reads, IsColumn}
+use Rattle.cg_grammar.proofs.Productions.{statement_ok, statement_begin}
+use Rattle.cg_grammar.proofs.SameStatements.{line_lawful, line_begin, line_follow, line_same}
 
 -- ---- what stands behind the blanks
 
@@ -79,90 +81,138 @@ not_comment text b rest e n is = n (heads b 35 rest is.behind (sym e ∙ comment
 pub blank_no_comment : (text : List ℕ) → skipped blank text ≡ [] → IsComment text → ⊥
 blank_no_comment text e is = some_not_none 35 is.behind (sym (comment_skipped text is) ∙ e)
 
--- ---- questions
+-- ---- what a line states
 
-pub read_left : (text : List ℕ) (n : ℕ) → read_at text ≡ Err n → n ≤ length text
-unfolding read_at
-read_left text n h = whole_left line line_at line_begin false line_follow line_lawful text n h
+abbrev pub stated_as : Statement → Option ℕ → Stated
+stated_as s o = record { statement = s; fault = o }
 
-one_asked : (text : List ℕ) (a b : Asked) → line 1 a text → line 1 b text → a ≡ b
-one_asked text a b x y = whole_once line line_at line_begin false line_follow line_lawful text a b x y
-
--- no line reads as two questions
-pub one_question : (text : List ℕ) (p q : Question) → Reads text p → Reads text q → p ≡ q
-one_question text p q x y = ap (λ (a : Asked). a.question) (one_asked text (record { question = p; fault = None }) (record { question = q; fault = None }) x y)
-
-abbrev no_column : Option ℕ
-no_column = None
-
-some_none : (n : ℕ) → Some n ≡ no_column → ⊥
+some_none : (n : ℕ) → Some n ≡ None → ⊥
 some_none n e = cc
-
-pub read_is : (text : List ℕ) (a : Asked) → read_at text ≡ Ok a → line 1 a text
-unfolding read_at
-read_is text a h = whole_takes line line_at line_begin false line_follow line_lawful text a h
-
-pub faulty_reads_none : (text : List ℕ) (q : Question) (c : ℕ) → line 1 (record { question = q; fault = Some c }) text → (p : Question) → Reads text p → ⊥
-faulty_reads_none text q c is p reads = some_none c (ap (λ (a : Asked). a.fault) (one_asked text (record { question = q; fault = Some c }) (record { question = p; fault = None }) is reads))
-
-pub stops_of : (text : List ℕ) (n column : ℕ) → read_at text ≡ Err n → column + n ≡ suc (length text) → Stops IsInGrammar text column
-unfolding read_at
-stops_of text n column h c = whole_stops line line_at line_begin false line_follow line_lawful text n column h c
-
--- ---- laws
-
--- what a question has in front isn't blank, and is no #
-question_front : (text y : List ℕ) (bs x : List ℕ) → list_all (has blank) bs ≡ true → x ≡ bs → text ≡ x ++ y → Begins question_begin false y → IsOther text
-question_front text [] bs x h e k b = absurd cc
-question_front text (c ∷ y) bs x h e k b = record {
-  first = c;
-  behind = y;
-  rest = ap (skipped blank) k ∙ blanks_skipped x (c ∷ y) (subst (λ (z : List ℕ). list_all (has blank) z ≡ true) (sym e) h) ∙ rw (apart_has question_begin blank c refl b) refl;
-  other = λ (n : c ≡ 35). no_hash (subst (λ (z : ℕ). has question_begin z ≡ true) n b);
-}
-  where
-    no_hash : has question_begin 35 ≡ true → ⊥
-    no_hash n = cc
-
-question_other : (text : List ℕ) (q : Question) → Reads text q → IsOther text
-question_other text q is =
-    let m = line_same.from 1 (record { question = q; fault = None }) text is in
-    question_front text m.is.behind m.made_of.0 m.is.before m.is.first.within m.is.first.spelled m.is.spelled (question_ok.begins (1 + length m.is.before) m.made_of.1 m.is.behind m.is.second)
-
-pub question_not_blank : (text : List ℕ) (q : Question) → Reads text q → is_blank_line text ≡ false
-question_not_blank text q is = let o = question_other text q is in not_blank text o.first o.behind o.rest
-
-pub question_not_comment : (text : List ℕ) (q : Question) → Reads text q → IsComment text → ⊥
-question_not_comment text q is = let o = question_other text q is in not_comment text o.first o.behind o.rest o.other
-
--- a line reads as a question, or as none and then has a column
-pub reads_or_not : (text : List ℕ) → ((q : Question) × Reads text q) ⊎ (((q : Question) → ¬ Reads text q) × ((c : ℕ) × IsColumn text c))
-unfolding read_at
-reads_or_not text = tells (read_at text) refl
-  where
-    Decision : Type 0
-    Decision = ((q : Question) × Reads text q) ⊎ (((q : Question) → ¬ Reads text q) × ((c : ℕ) × IsColumn text c))
-
-    by_fault : (q : Question) (o : Option ℕ) → read_at text ≡ Ok (record { question = q; fault = o }) → Decision
-    by_fault q None h = inl (q, read_is text (record { question = q; fault = None }) h)
-    by_fault q (Some c) h = let is = read_is text (record { question = q; fault = Some c }) h in inr (faulty_reads_none text q c is, (c, inr (q, is)))
-
-    stuck : (n : ℕ) → read_at text ≡ Err n → Stops IsInGrammar text (suc (length text) - n)
-    stuck n h = stops_of text n (suc (length text) - n) h (omega (arith, read_left text n h))
-
-    tells : (r : Result Asked ℕ) → read_at text ≡ r → Decision
-    tells (Ok a) h = by_fault a.question a.fault h
-    tells (Err n) h = let s = stuck n h in inr (λ p is. s.none (record { question = p; fault = None }, is), (suc (length text) - n, inl s))
-
-pub stops_once : {P : List ℕ → Type 0} (text : List ℕ) (c d : ℕ) → Stops P text c → Stops P text d → c ≡ d
-stops_once text c d s t = omega (arith, s.at, t.at, t.longest s.before s.behind s.split s.begun, s.longest t.before t.behind t.split t.begun)
 
 same_some : (c d : ℕ) → Some c ≡ Some d → c ≡ d
 same_some c d e = cc
 
--- a line that reads as no question has one column
-pub one_column : (text : List ℕ) (c d : ℕ) → IsColumn text c → IsColumn text d → c ≡ d
-one_column text c d (inl s) (inl t) = stops_once text c d s t
-one_column text c d (inl s) (inr (q, t)) = absurd (s.none (record { question = q; fault = Some d }, t))
-one_column text c d (inr (p, s)) (inl t) = absurd (t.none (record { question = p; fault = Some c }, s))
-one_column text c d (inr (p, s)) (inr (q, t)) = same_some c d (ap (λ (a : Asked). a.fault) (one_asked text (record { question = p; fault = Some c }) (record { question = q; fault = Some d }) s t))
+pub stops_once : {P : List ℕ → Type 0} (text : List ℕ) (c d : ℕ) → Stops P text c → Stops P text d → c ≡ d
+stops_once text c d s t = omega (arith, s.at, t.at, t.longest s.before s.behind s.split s.begun, s.longest t.before t.behind t.split t.begun)
+
+-- ---- what is read
+
+module _ (format : Format) (text : List ℕ) where
+  pub read_left : (n : ℕ) → read_at format text ≡ Err n → n ≤ length text
+  unfolding read_at
+  read_left n h = whole_left (line_of format) (line_at format) line_begin false line_follow (line_lawful format) text n h
+
+  one_stated : (a b : Stated) → line_of format 1 a text → line_of format 1 b text → a ≡ b
+  one_stated a b x y = whole_once (line_of format) (line_at format) line_begin false line_follow (line_lawful format) text a b x y
+
+  found : (a : Stated) → read_at format text ≡ Ok a → line_of format 1 a text
+  unfolding read_at
+  found a h = whole_takes (line_of format) (line_at format) line_begin false line_follow (line_lawful format) text a h
+
+  stuck : (n column : ℕ) → read_at format text ≡ Err n → column + n ≡ suc (length text) → Stops (IsInGrammar format) text column
+  unfolding read_at
+  stuck n column h c = whole_stops (line_of format) (line_at format) line_begin false line_follow (line_lawful format) text n column h c
+
+  -- what was read without a fault is what the line states
+  pub read_is : (s : Statement) → read_at format text ≡ Ok (stated_as s None) → ReadsIn format text s
+  read_is s h = found (stated_as s None) h
+
+  -- a line with a fault states nothing, and this is its column
+  pub faulty_is : (s : Statement) (c : ℕ) → read_at format text ≡ Ok (stated_as s (Some c)) → ((p : Statement) → ¬ ReadsIn format text p) × IsColumnIn format text c
+  faulty_is s c h =
+      let is = found (stated_as s (Some c)) h in
+      (λ p r. some_none c (ap (λ (a : Stated). a.fault) (one_stated (stated_as s (Some c)) (stated_as p None) is r)), inr (s, is))
+
+  -- and so is one on which reading stops
+  pub stops_of : (n column : ℕ) → read_at format text ≡ Err n → column + n ≡ suc (length text) → ((p : Statement) → ¬ ReadsIn format text p) × IsColumnIn format text column
+  stops_of n column h c = let s = stuck n column h c in (λ p r. s.none (stated_as p None, r), inl s)
+
+  -- ---- laws
+
+  pub one_statement : (p q : Statement) → ReadsIn format text p → ReadsIn format text q → p ≡ q
+  one_statement p q x y = ap (λ (a : Stated). a.statement) (one_stated (stated_as p None) (stated_as q None) x y)
+
+  -- what a statement has in front isn't blank, and is no #
+  front : (y bs x : List ℕ) → list_all (has blank) bs ≡ true → x ≡ bs → text ≡ x ++ y → Begins statement_begin false y → IsOther text
+  front [] bs x h e k b = absurd cc
+  front (c ∷ y) bs x h e k b = record {
+    first = c;
+    behind = y;
+    rest = ap (skipped blank) k ∙ blanks_skipped x (c ∷ y) (subst (λ (z : List ℕ). list_all (has blank) z ≡ true) (sym e) h) ∙ rw (apart_has statement_begin blank c refl b) refl;
+    other = λ (n : c ≡ 35). no_hash (subst (λ (z : ℕ). has statement_begin z ≡ true) n b);
+  }
+    where
+      no_hash : has statement_begin 35 ≡ true → ⊥
+      no_hash n = cc
+
+  statement_other : (s : Statement) → ReadsIn format text s → IsOther text
+  statement_other s r =
+      let m = (line_same format).from 1 (stated_as s None) text r in
+      front m.is.behind m.made_of.0 m.is.before m.is.first.within m.is.first.spelled m.is.spelled ((statement_ok format).begins (1 + length m.is.before) m.made_of.1 m.is.behind m.is.second)
+
+  pub statement_not_blank : (s : Statement) → ReadsIn format text s → is_blank_line text ≡ false
+  statement_not_blank s r = let o = statement_other s r in not_blank text o.first o.behind o.rest
+
+  pub statement_not_comment : (s : Statement) → ReadsIn format text s → IsComment text → ⊥
+  statement_not_comment s r = let o = statement_other s r in not_comment text o.first o.behind o.rest o.other
+
+  -- a line states something, or nothing and then has a column
+  pub states_or_not : ((s : Statement) × ReadsIn format text s) ⊎ (((s : Statement) → ¬ ReadsIn format text s) × ((c : ℕ) × IsColumnIn format text c))
+  states_or_not = tells (read_at format text) refl
+    where
+      Decision : Type 0
+      Decision = ((s : Statement) × ReadsIn format text s) ⊎ (((s : Statement) → ¬ ReadsIn format text s) × ((c : ℕ) × IsColumnIn format text c))
+
+      by_fault : (s : Statement) (o : Option ℕ) → read_at format text ≡ Ok (stated_as s o) → Decision
+      by_fault s None h = inl (s, read_is s h)
+      by_fault s (Some c) h = let f = faulty_is s c h in inr (f.0, (c, f.1))
+
+      tells : (r : Result Stated ℕ) → read_at format text ≡ r → Decision
+      tells (Ok a) h = by_fault a.statement a.fault h
+      tells (Err n) h = let s = stops_of n (suc (length text) - n) h (omega (arith, read_left n h)) in inr (s.0, (suc (length text) - n, s.1))
+
+  -- a line that states nothing has one column
+  pub one_column : (c d : ℕ) → IsColumnIn format text c → IsColumnIn format text d → c ≡ d
+  one_column c d (inl s) (inl t) = stops_once text c d s t
+  one_column c d (inl s) (inr (q, t)) = absurd (s.none (stated_as q (Some d), t))
+  one_column c d (inr (p, s)) (inl t) = absurd (t.none (stated_as p (Some c), s))
+  one_column c d (inr (p, s)) (inr (q, t)) = same_some c d (ap (λ (a : Stated). a.fault) (one_stated (stated_as p (Some c)) (stated_as q (Some d)) s t))
+
+  -- a line that states something has no column
+  pub stated_or_column : (s : Statement) (c : ℕ) → ReadsIn format text s → IsColumnIn format text c → ⊥
+  stated_or_column s c x (inl stops) = stops.none (stated_as s None, x)
+  stated_or_column s c x (inr (t, is)) = some_none c (ap (λ (a : Stated). a.fault) (one_stated (stated_as t (Some c)) (stated_as s None) is x))
+
+-- ---- questions
+
+asks_is : (p q : Question) → asks p ≡ asks q → p ≡ q
+asks_is p q e = cc
+
+-- no line of format 1 defines anything
+pub defines_none : (text word : List ℕ) (t : Tree) → ReadsIn formats.One text (defines word t) → ⊥
+defines_none text word t r = by r.made_of.question (ap (λ (a : Stated). a.statement) r.same)
+  where
+    by : (q : Question) → defines word t ≡ asks q → ⊥
+    by q e = cc
+
+-- a line that reads as a question, by its piece of the grammar
+pub as_asked : (text : List ℕ) (q : Question) → Reads text q → line 1 (record { question = q; fault = None }) text
+as_asked text q r =
+    let e : q ≡ r.made_of.question = asks_is q r.made_of.question (ap (λ (a : Stated). a.statement) r.same) in
+    let f : None ≡ r.made_of.fault = ap (λ (a : Stated). a.fault) r.same in
+    subst (λ (z : Question). line 1 (record { question = z; fault = None }) text) (sym e)
+    (subst (λ (o : Option ℕ). line 1 (record { question = r.made_of.question; fault = o }) text) (sym f) r.is)
+
+-- no line reads as two questions
+pub one_question : (text : List ℕ) (p q : Question) → Reads text p → Reads text q → p ≡ q
+one_question text p q x y = asks_is p q (one_statement formats.One text (asks p) (asks q) x y)
+
+-- a line reads as a question, or as none and then has a column
+pub reads_or_not : (text : List ℕ) → ((q : Question) × Reads text q) ⊎ (((q : Question) → ¬ Reads text q) × ((c : ℕ) × IsColumn text c))
+reads_or_not text = by_case (states_or_not formats.One text)
+  where
+    by_case : ((s : Statement) × ReadsIn formats.One text s) ⊎ (((s : Statement) → ¬ ReadsIn formats.One text s) × ((c : ℕ) × IsColumnIn formats.One text c))
+        → ((q : Question) × Reads text q) ⊎ (((q : Question) → ¬ Reads text q) × ((c : ℕ) × IsColumn text c))
+    by_case (inl (asks q, r)) = inl (q, r)
+    by_case (inl (defines w t, r)) = absurd (defines_none text w t r)
+    by_case (inr (n, c)) = inr (λ q. n (asks q), c)

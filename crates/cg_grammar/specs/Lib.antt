@@ -6,4 +6,3 @@ pub mod Reading
 pub mod Lines
 pub mod Splitting
 pub mod Written
-pub mod Formats

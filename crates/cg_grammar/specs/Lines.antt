@@ -1,13 +1,17 @@
--- What a line is, and the column of one that isn't in the grammar. Columns count bytes from 1.
+-- What a line is, what it states in a format, and the column of one that isn't in the grammar. Columns count bytes from 1.
 use Rattle.std.specs.Prelude.{ℕ, ◌≡◌, ◌⊎◌, Bool, true, false, List, ◌∷◌, ◌++◌, Some, None}
 use Rattle.std.specs.List.{list_all}
 use Rattle.cg_reading.specs.Bytes.{has}
+use Rattle.cg_reading.specs.Pieces.{Piece, Made}
 use Rattle.cg_reading.specs.Tokens.{blank}
 use Rattle.cg_reading.specs.Column.{Stops}
-use Rattle.cg_query.specs.Tree.{Question}
-use Rattle.cg_grammar.specs.Found.{Asked}
-use Rattle.cg_grammar.specs.Grammar.{line}
+use Rattle.cg_query.specs.Tree.{Question, Statement, asks}
+use Rattle.cg_grammar.specs.Found.{Stated}
+use Rattle.cg_grammar.specs.Values.{asking}
+use Rattle.cg_grammar.specs.Grammar.{line, line_two}
 use Rattle.cg_query.specs.Trees.{question_of}
+use Rattle.cg_query.specs.declared.format.Format.{Format}
+use Rattle.cg_query.specs.declared.format.Format.TheVariants as formats
 use Rattle.cg_query.specs.declared.query.Line.{Line}
 use Rattle.cg_query.specs.declared.query.Line.TheVariants as lines
 use Rattle.cg_query.specs.declared.query.SyntaxFault.{SyntaxFault}
@@ -24,18 +28,39 @@ pub record IsComment (text : List ℕ) : Type 0 where
   pub blanks : list_all (has blank) front ≡ true
   pub spelled : text ≡ front ++ 35 ∷ behind
 
--- the line is in the grammar, the rule on runs of one length left aside
-abbrev pub IsInGrammar : List ℕ → Type 0
-IsInGrammar text = (a : Asked) × line 1 a text
+-- In format 1 a line states a question, in format 2 a question or a definition.
+abbrev pub line_of : Format → Piece Stated
+line_of formats.One = Made asking line
+line_of formats.Two = line_two
+
+-- the line is in the grammar of the format, the rule on runs of one length left aside
+abbrev pub IsInGrammar : Format → List ℕ → Type 0
+IsInGrammar format text = (a : Stated) × line_of format 1 a text
+
+-- the line states this
+abbrev pub ReadsIn : Format → List ℕ → Statement → Type 0
+ReadsIn format text s = line_of format 1 (record { statement = s; fault = None }) text
+
+-- The column of a line that states nothing: where it leaves the grammar, or else where the first run of bars starts that
+-- has the length of an earlier run of its brace with no longer run between them.
+abbrev pub IsColumnIn : Format → List ℕ → ℕ → Type 0
+IsColumnIn format text column =
+    Stops (IsInGrammar format) text column ⊎ ((s : Statement) × line_of format 1 (record { statement = s; fault = Some column }) text)
+
+-- why a line was refused: it states nothing, and this is its column
+abbrev pub StatesNothing : Format → List ℕ → SyntaxFault → Type 0
+StatesNothing format text faults.Memory = Unit {0}
+StatesNothing format text (faults.Syntax column) = ((s : Statement) → ¬ ReadsIn format text s) × IsColumnIn format text column
+
+-- ---- lines of format 1
 
 -- the line reads as this question
 abbrev pub Reads : List ℕ → Question → Type 0
-Reads text q = line 1 (record { question = q; fault = None }) text
+Reads text q = ReadsIn formats.One text (asks q)
 
--- The column of a line that reads as no question: where it leaves the grammar, or else where the first run of bars starts
--- that has the length of an earlier run of its brace with no longer run between them.
+-- the column of a line that reads as no question
 abbrev pub IsColumn : List ℕ → ℕ → Type 0
-IsColumn text column = Stops IsInGrammar text column ⊎ ((q : Question) × line 1 (record { question = q; fault = Some column }) text)
+IsColumn text column = IsColumnIn formats.One text column
 
 -- what a line is
 abbrev pub IsReadAs : List ℕ → Line → Type 0

@@ -7,7 +7,7 @@ use Rattle.cg_reading.specs.Tokens.{only, blank, digit}
 use Rattle.cg_reading.specs.Words.{Table, among_at}
 use Rattle.cg_reading.specs.TokenReaders.{blanks_at, byte_at, gap_at, this_word_at, digits_at}
 use Rattle.cg_query.specs.Tree.{Tree, Question, number, ups, nimber, switch, tiny, sum, octal, used, terms_from, value, compare, outcome, stops, mean, temp, thermo, proof}
-use Rattle.cg_grammar.specs.Found.{Found, Asked, Stated, first}
+use Rattle.cg_grammar.specs.Found.{Found, Stated, first}
 use Rattle.cg_grammar.specs.Values.{Arrows, ups_tree, letter_or_digit, Last, In_none, In_arrows, In_name, Counted, whole, times, goes_on, counted_of, times_of, with_tail, clean, negated, sum_of, minus_of, first_fault, run_side, braces_of, one_text, two_texts, asked_of, asked_of_both, checked, asking, defined}
 use Rattle.cg_grammar.specs.Grammar.{printable, bar, letter, is_free}
 use Rattle.cg_query.specs.declared.format.Format.{Format}
@@ -318,21 +318,7 @@ with_terms front fault read = read >>= λ x. Ok (record { tree = sum (terms_from
 unfoldable pub more_terms_at : Format → ℕ → List (Bool × Tree) → Option ℕ → Reader Found
 more_terms_at format k front fault end bytes = with_terms front fault (many_at plus_minus (next_term_at (special_at format k)) end bytes)
 
--- ---- questions
-
--- temp and thermo are told apart by their second byte
-unfoldable pub temp_or_thermo_at : Reader (Tree → Question)
-temp_or_thermo_at = made_at (λ v. v.1) (then_at (byte_at 116) (or_at (only 101) (made_at (λ _. temp) (this_word_at (codes "emp"))) (made_at (λ _. thermo) (this_word_at (codes "hermo")))))
-
-unfoldable pub asking_at : Reader (Tree → Question)
-asking_at = or_at (only 118) (made_at (λ _. value) (this_word_at (codes "value"))) (or_at (only 111) (made_at (λ _. outcome) (this_word_at (codes "outcome"))) (or_at (only 115) (made_at (λ _. stops) (this_word_at (codes "stops"))) (or_at (only 109) (made_at (λ _. mean) (this_word_at (codes "mean"))) temp_or_thermo_at)))
-
--- a question about one expression begins with one of these
-abbrev pub asking_begin : Class
-asking_begin = (118, 118) ∷ (111, 111) ∷ (115, 116) ∷ (109, 109) ∷ []
-
-unfoldable pub measure_at : Reader Asked
-measure_at = made_at (λ v. asked_of v.0 v.1.1) (then_at asking_at (then_at gap_at (sum_at (special_at formats.One 64))))
+-- ---- lines
 
 abbrev pub with_semicolon_at : {A B : Type 0} → Reader A → Reader B → Reader (A × B)
 with_semicolon_at f g = made_at (λ v. (v.0, v.1.1.1)) (then_at f (then_at (byte_at 59) (then_at blanks_at g)))
@@ -341,47 +327,28 @@ with_semicolon_at f g = made_at (λ v. (v.0, v.1.1.1)) (then_at f (then_at (byte
 unfoldable pub both_at : Format → Reader (Found × Found)
 both_at format = with_semicolon_at (sum_at (special_at format 64)) (sum_at (special_at format 64))
 
--- a question about two expressions, by the word in front
-unfoldable pub both_asked_at : List ℕ → (Tree → Tree → Question) → Reader Asked
-both_asked_at word ask = made_at (λ v. asked_of_both ask v.1.1.0 v.1.1.1) (then_at (this_word_at word) (then_at gap_at (both_at formats.One)))
-
 -- a text, and the blanks behind it
 abbrev pub last_string_at : Reader (List ℕ)
 last_string_at = made_at (λ v. v.0) (then_at string_at blanks_at)
 
--- a question about two expressions and a text, by the word in front
-unfoldable pub check_at : List ℕ → Reader Asked
-check_at word = made_at (λ v. checked v.1.1.0.0 v.1.1.0.1 v.1.1.1) (then_at (this_word_at word) (then_at gap_at (with_semicolon_at (both_at formats.One) last_string_at)))
-
--- compare and check are told apart by their second byte
-unfoldable pub compare_or_check_at : Reader Asked
-compare_or_check_at = made_at (λ v. v.1) (then_at (byte_at 99) (or_at (only 111) (both_asked_at (codes "ompare") compare) (check_at (codes "heck"))))
-
-unfoldable pub question_at : Reader Asked
-question_at = or_at asking_begin measure_at (or_at (only 112) (both_asked_at (codes "proof") proof) compare_or_check_at)
-
-unfoldable pub line_at : Reader Asked
-line_at = made_at (λ v. v.1) (then_at blanks_at question_at)
-
--- the whole line of format 1
-unfoldable pub read_at : List ℕ → Result Asked ℕ
-read_at text = whole_at line_at text
-
--- ---- lines of format 2
-
--- what a line is whose first word is this one
+-- what the first word of a line tells
 pub data Kind : Type 0 where
   Of_one : (Tree → Question) → Kind
   Of_two : (Tree → Tree → Question) → Kind
   Of_check : Kind
   Of_name : Kind
 
-abbrev pub kinds : List (List ℕ × Kind)
+-- the words of questions that letters of names spell
+abbrev pub kinds : Table Kind
 kinds =
     (codes "compare", Of_two compare) ∷ (codes "outcome", Of_one outcome) ∷ (codes "stops", Of_one stops) ∷ (codes "mean", Of_one mean)
     ∷ (codes "temp", Of_one temp) ∷ (codes "thermo", Of_one thermo) ∷ (codes "proof", Of_two proof) ∷ (codes "check", Of_check) ∷ []
 
-abbrev pub kind_among : List (List ℕ × Kind) → List ℕ → Kind
+-- the words of questions
+abbrev pub question_kinds : Table Kind
+question_kinds = (codes "value", Of_one value) ∷ kinds
+
+abbrev pub kind_among : Table Kind → List ℕ → Kind
 kind_among [] word = Of_name
 kind_among (k ∷ ks) word = cond (bytes_eq word k.0) k.1 (kind_among ks word)
 
@@ -389,29 +356,36 @@ kind_among (k ∷ ks) word = cond (bytes_eq word k.0) k.1 (kind_among ks word)
 abbrev pub kind_of : List ℕ → Kind
 kind_of word = kind_among kinds word
 
+unfoldable pub question_word_at : Reader Kind
+question_word_at = among_at question_kinds
+
+-- the question for a value: no name begins as this word does
+unfoldable pub value_word_at : Reader (List ℕ × Kind)
+value_word_at = made_at (λ _. ([], Of_one value)) (this_word_at (codes "value"))
+
+-- the first word of a line, where it may be a name, and what it tells
+abbrev pub first_word_at : Format → Reader (List ℕ × Kind)
+first_word_at formats.One = made_at (λ k. ([], k)) question_word_at
+first_word_at formats.Two = or_at (only 118) value_word_at (made_at (λ w. (w, kind_of w)) lettered_at)
+
 -- ":=", and what stands around it
 unfoldable pub becomes_at : Reader (Unit {0})
 becomes_at = made_at (λ _. tt {0}) (then_at blanks_at (then_at (this_word_at (codes ":=")) blanks_at))
 
 -- what stands behind the first word
-abbrev pub behind_word_at : List ℕ → Kind → Reader Stated
-behind_word_at word (Of_one ask) = made_at (λ v. asking (asked_of ask v.1)) (then_at gap_at (sum_at (special_at formats.Two 64)))
-behind_word_at word (Of_two ask) = made_at (λ v. asking (asked_of_both ask v.1.0 v.1.1)) (then_at gap_at (both_at formats.Two))
-behind_word_at word Of_check = made_at (λ v. asking (checked v.1.0.0 v.1.0.1 v.1.1)) (then_at gap_at (with_semicolon_at (both_at formats.Two) last_string_at))
-behind_word_at word Of_name = made_at (λ v. defined word v.1) (then_at becomes_at (sum_at (special_at formats.Two 64)))
+abbrev pub behind_word_at : Format → List ℕ → Kind → Reader Stated
+behind_word_at format word (Of_one ask) = made_at (λ v. asking (asked_of ask v.1)) (then_at gap_at (sum_at (special_at format 64)))
+behind_word_at format word (Of_two ask) = made_at (λ v. asking (asked_of_both ask v.1.0 v.1.1)) (then_at gap_at (both_at format))
+behind_word_at format word Of_check = made_at (λ v. asking (checked v.1.0.0 v.1.0.1 v.1.1)) (then_at gap_at (with_semicolon_at (both_at format) last_string_at))
+behind_word_at format word Of_name = made_at (λ v. defined word v.1) (then_at becomes_at (sum_at (special_at format 64)))
 
-unfoldable pub statement_word_at : List ℕ → Reader Stated
-statement_word_at word = behind_word_at word (kind_of word)
+-- what a line states that begins with no blank
+unfoldable pub statement_at : Format → Reader Stated
+statement_at format = telling_at (first_word_at format) (λ w. behind_word_at format w.0 w.1)
 
-unfoldable pub value_line_at : Reader Stated
-value_line_at = made_at (λ v. asking (asked_of value v.1.1)) (then_at (this_word_at (codes "value")) (then_at gap_at (sum_at (special_at formats.Two 64))))
+unfoldable pub line_at : Format → Reader Stated
+line_at format = made_at (λ v. v.1) (then_at blanks_at (statement_at format))
 
-unfoldable pub statement_at : Reader Stated
-statement_at = or_at (only 118) value_line_at (telling_at lettered_at statement_word_at)
-
-unfoldable pub line_two_at : Reader Stated
-line_two_at = made_at (λ v. v.1) (then_at blanks_at statement_at)
-
--- the whole line of format 2
-unfoldable pub read_two_at : List ℕ → Result Stated ℕ
-read_two_at text = whole_at line_two_at text
+-- the whole line
+unfoldable pub read_at : Format → List ℕ → Result Stated ℕ
+read_at format text = whole_at (line_at format) text

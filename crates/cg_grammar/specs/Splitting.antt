@@ -1,8 +1,8 @@
 -- How a row of sides with runs of bars between them is split, said of its longest run.
-use Rattle.std.specs.Prelude.{ℕ, ◌≡◌, ◌≤◌, ◌<◌, List, [], ◌∷◌, ◌++◌, None}
+use Rattle.std.specs.Prelude.{ℕ, suc, ◌≡◌, ◌≤◌, ◌<◌, ◌⊎◌, List, [], ◌∷◌, ◌++◌, Option, Some, None}
 use Rattle.cg_query.specs.Tree.{Tree, braces}
 use Rattle.cg_grammar.specs.Found.{Found}
-use Rattle.cg_grammar.specs.Braces.{Run_side, side_trees, runs_fault}
+use Rattle.cg_grammar.specs.Braces.{Run_side, side_trees}
 
 -- each run is shorter
 abbrev pub AllShorter : ℕ → List Run_side → Type 0
@@ -22,10 +22,6 @@ pub data IsSplit : List Found → List Run_side → List Tree → Type 0 where
       → AllShorter longest.bars before → AllShorter longest.bars behind → IsSplit side before lefts → IsSplit longest.side behind rights
       → IsSplit side (before ++ longest ∷ behind) (braces lefts rights ∷ [])
 
--- no run repeats an earlier one
-abbrev pub IsWithoutRepeats : List Run_side → Type 0
-IsWithoutRepeats rows = runs_fault [] rows ≡ None
-
 -- each length is at most this one
 abbrev pub AllAtMost : ℕ → List ℕ → Type 0
 AllAtMost n [] = Unit {0}
@@ -43,3 +39,43 @@ pub record Repeats (length : ℕ) (earlier : List ℕ) : Type 0 where
 abbrev pub NoneRepeats : List ℕ → List Run_side → Type 0
 NoneRepeats earlier [] = Unit {0}
 NoneRepeats earlier (r ∷ rows) = (¬ Repeats r.bars earlier) × NoneRepeats (earlier ++ r.bars ∷ []) rows
+
+-- ---- the column at which a brace is refused
+
+-- an expression of this side is refused at this column
+abbrev pub IsSideFault : List Found → ℕ → Type 0
+IsSideFault [] column = ⊥
+IsSideFault (e ∷ others) column = (e.fault ≡ Some column) ⊎ IsSideFault others column
+
+-- the run starts at this column and repeats one of these earlier runs
+abbrev pub IsRepeatAt : List ℕ → Run_side → ℕ → Type 0
+IsRepeatAt earlier r column = (r.column ≡ column) × Repeats r.bars earlier
+
+-- one of these runs repeats an earlier one of its brace at this column, or an expression behind one of them is refused there
+abbrev pub IsRunsFault : List ℕ → List Run_side → ℕ → Type 0
+IsRunsFault earlier [] column = ⊥
+IsRunsFault earlier (r ∷ rows) column =
+    IsRepeatAt earlier r column ⊎ (IsSideFault r.side column ⊎ IsRunsFault (earlier ++ r.bars ∷ []) rows column)
+
+-- at this column a run of the brace repeats an earlier one of it, or an expression in it is refused
+abbrev pub IsFault : List Found → List Run_side → ℕ → Type 0
+IsFault side rows column = IsSideFault side column ⊎ IsRunsFault [] rows column
+
+-- the least number of which this holds, or none where it holds of none
+abbrev pub IsLeast : (ℕ → Type 0) → Option ℕ → Type 0
+IsLeast Is None = (n : ℕ) → ¬ Is n
+IsLeast Is (Some least) = Is least × ((n : ℕ) → Is n → least ≤ n)
+
+-- Expressions stand one behind the other, from one column to before another: each that is refused is so within its own text.
+abbrev pub SideLies : ℕ → List Found → ℕ → Type 0
+SideLies from [] to = from ≤ to
+SideLies from (e ∷ others) to = (middle : ℕ) × (from ≤ middle) × ((c : ℕ) → e.fault ≡ Some c → (from ≤ c) × (c < middle)) × SideLies middle others to
+
+-- and so do runs, each with the side behind it
+abbrev pub RunsLie : ℕ → List Run_side → ℕ → Type 0
+RunsLie from [] to = from ≤ to
+RunsLie from (r ∷ rows) to = (middle : ℕ) × (from ≤ r.column) × SideLies (suc r.column) r.side middle × RunsLie middle rows to
+
+-- a side, and runs behind it
+abbrev pub RowLies : ℕ → List Found → List Run_side → ℕ → Type 0
+RowLies from side rows to = (middle : ℕ) × SideLies from side middle × RunsLie middle rows to

@@ -1,12 +1,13 @@
 //! Laws of the grammar, for all lines. A call puts its law into the caller's facts.
-ghost use Rattle.std.specs.Prelude.{◌≡◌, ◌≤◌, ◌↔◌, ◌⊎◌, ℕ, List, [], false, true};
+ghost use Rattle.std.specs.Prelude.{◌≡◌, ◌≤◌, ◌+◌, ◌↔◌, ◌⊎◌, ℕ, List, [], ◌∷◌, length, map, false, true};
 ghost use Rattle.cg_query.specs.Tree.{Question, Statement};
-ghost use Rattle.cg_query.specs.declared.format.Format.TheVariants as formats;
-ghost use Rattle.cg_grammar.specs.Braces.{Run_side, part_of, repeats};
-ghost use Rattle.cg_grammar.specs.Formats.{ReadsIn, IsColumnIn};
+ghost use Rattle.cg_query.specs.declared.format.Format.{Format};
+ghost use Rattle.cg_grammar.specs.Braces.{Run_side, part_of, repeats, row_fault, row_tree};
 ghost use Rattle.cg_grammar.specs.Found.{Found};
-ghost use Rattle.cg_grammar.specs.Lines.{is_blank_line, IsColumn, IsComment, Reads};
-ghost use Rattle.cg_grammar.specs.Splitting.{AllWithin, IsSplit, IsWithoutRepeats, NoneRepeats, Repeats};
+ghost use Rattle.cg_grammar.specs.Grammar.{Some_rows, expr, side as side_piece, special};
+ghost use Rattle.cg_grammar.specs.Lines.{is_blank_line, IsColumn, IsColumnIn, IsComment, Reads, ReadsIn};
+ghost use Rattle.cg_grammar.specs.Splitting.{AllWithin, IsFault, IsLeast, IsSplit, NoneRepeats, Repeats, RowLies};
+ghost use Rattle.cg_grammar.specs.Values.{run_side};
 
 /// No line reads as two questions, no blank line and no comment as one, and each line as one, or as none. A line that
 /// reads as none has exactly one column.
@@ -19,22 +20,27 @@ pub fn one_query()
     ensures one_column { (line : List ℕ) (c d : ℕ) → IsColumn line c → IsColumn line d → c ≡ d }
 {}
 
-/// No line of format 2 states two things, no blank line and no comment states anything, and each line states one thing, or
-/// none. A line that states nothing has exactly one column.
+/// No line of a format states two things, no blank line and no comment states anything, and each line states one thing,
+/// or none. A line that states nothing has exactly one column.
 pub fn one_statement()
-    ensures unique { (line : List ℕ) (s t : Statement) → ReadsIn formats.Two line s → ReadsIn formats.Two line t → s ≡ t }
-    ensures not_blank { (line : List ℕ) (s : Statement) → ReadsIn formats.Two line s → is_blank_line line ≡ false }
-    ensures not_comment { (line : List ℕ) (s : Statement) → ReadsIn formats.Two line s → ¬ IsComment line }
-    ensures decided { (line : List ℕ) → ((s : Statement) × ReadsIn formats.Two line s)
-        ⊎ (((s : Statement) → ¬ ReadsIn formats.Two line s) × ((c : ℕ) × IsColumnIn formats.Two line c)) }
-    ensures one_column { (line : List ℕ) (c d : ℕ) → IsColumnIn formats.Two line c → IsColumnIn formats.Two line d → c ≡ d }
+    ensures unique { (format : Format) (line : List ℕ) (s t : Statement) → ReadsIn format line s → ReadsIn format line t
+        → s ≡ t }
+    ensures not_blank { (format : Format) (line : List ℕ) (s : Statement) → ReadsIn format line s
+        → is_blank_line line ≡ false }
+    ensures not_comment { (format : Format) (line : List ℕ) (s : Statement) → ReadsIn format line s
+        → ¬ IsComment line }
+    ensures decided { (format : Format) (line : List ℕ) → ((s : Statement) × ReadsIn format line s)
+        ⊎ (((s : Statement) → ¬ ReadsIn format line s) × ((c : ℕ) × IsColumnIn format line c)) }
+    ensures one_column { (format : Format) (line : List ℕ) (c d : ℕ) → IsColumnIn format line c
+        → IsColumnIn format line d → c ≡ d }
 {}
 
 /// A brace is split at its longest run of bars, and so is each of its sides: where runs have one bar to eight, and none
-/// repeats an earlier one, the options that the grammar gives a row are those of splitting at the longest run.
+/// repeats an earlier one, the tree that the grammar gives a row with a run is that of splitting at the longest run, and
+/// so are the options that it gives each of its parts.
 pub fn longest_run()
-    ensures split { (side : List Found) (rows : List Run_side) → AllWithin 8 rows → IsWithoutRepeats rows
-        → IsSplit side rows (part_of 8 side rows) }
+    ensures tree { (side : List Found) (row : Run_side) (rows : List Run_side) → AllWithin 8 (row ∷ rows)
+        → NoneRepeats [] (row ∷ rows) → IsSplit side (row ∷ rows) (row_tree side (row ∷ rows) ∷ []) }
     ensures lengths { (side : List Found) (rows : List Run_side) → AllWithin 8 rows → NoneRepeats [] rows
         → IsSplit side rows (part_of 8 side rows) }
 {}
@@ -43,4 +49,17 @@ pub fn longest_run()
 /// of the earlier runs has its length and none longer stands behind that one.
 pub fn repeated_run()
     ensures { (length : ℕ) (earlier : List ℕ) → (repeats length false earlier ≡ true) ↔ Repeats length earlier }
+{}
+
+/// The column at which a brace is refused is the least at which a run of bars repeats an earlier one of the brace, or an
+/// expression in it is refused; and there is none exactly where no run does and no expression is. In each line the
+/// expressions and the runs of a brace stand one behind the other, as that asks.
+pub fn least_column()
+    ensures least { (side : List Found) (rows : List Run_side) (from to : ℕ) → RowLies from side rows to
+        → IsLeast (IsFault side rows) (row_fault side rows) }
+    ensures in_order { (format : Format) (most at : ℕ) (side : List Found) (row : (ℕ × ℕ) × List Found)
+        (rows : List ((ℕ × ℕ) × List Found)) (front behind : List ℕ)
+        → side_piece (expr (special format most)) at side front
+        → Some_rows (side_piece (expr (special format most))) (at + length front) (row, rows) behind
+        → RowLies at side (map run_side (row ∷ rows)) (at + length front + length behind) }
 {}

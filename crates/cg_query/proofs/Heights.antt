@@ -1,28 +1,22 @@
 -- Which paths of trees have at most so many nodes.
-use Rattle.std.proofs.Common.{◌≡◌, refl, ap, sym, ◌∙◌, subst, ℕ, zero, suc, ◌+◌, ◌-◌, ◌<◌, ◌≤◌, max, arith, List, [], ◌∷◌, ◌++◌, length, get_or, take, Bool, true, false}
+use Rattle.std.proofs.Common.{◌≡◌, refl, ap, sym, ◌∙◌, subst, ℕ, zero, suc, ◌+◌, ◌<◌, ◌≤◌, max, arith, List, [], ◌∷◌, ◌++◌, length, get_or, take, Bool, true, false}
 use Rattle.std.specs.Prelude.{◌↔◌, IsTrue}
 use Rattle.std.proofs.Math.Nat.{le-max_left, le-max_right, max-le}
-use Rattle.cg_query.specs.Tree.{Tree, number, ups, nimber, switch, tiny, sides, negative, multiple, sum, game, octal, used, trees_from, terms_from}
+use Rattle.cg_query.specs.Tree.{Tree, trees_from, terms_from}
 use Rattle.cg_query.specs.Trees.{tree_of, trees_of, term_of, terms_of}
 use Rattle.cg_query.specs.Heights.{height, heights, term_heights}
 use Rattle.cg_query.specs.declared.expr.Expr.{Expr}
 use Rattle.cg_query.specs.declared.expr.Term.{Term}
 use Rattle.cg_query.proofs.TreeOf.{term_tree}
-use Rattle.cg_query.proofs.Walk.{trees_of-take_suc, trees_of-all, terms_of-take_suc, terms_of-all}
+use Rattle.cg_query.proofs.Walk.{trees_of-take_suc, terms_of-take_suc}
 
 -- ---- the greater of two
 
 max_both : (a b n : ℕ) → max a b ≤ n → (a ≤ n) × (b ≤ n)
 max_both a b n h = (let l = le-max_left a b in omega (arith, l, h), let r = le-max_right a b in omega (arith, r, h))
 
-pub second_decides : (a b n : ℕ) (r : Bool) → a ≤ n → (IsTrue r ↔ (b ≤ n)) → IsTrue r ↔ (max a b ≤ n)
-second_decides a b n r l w = (λ h. max-le l (w.0 h), λ h. w.1 (max_both a b n h).1)
-
 not_low : {P : Type 0} (r : Bool) → r ≡ false → (IsTrue r ↔ P) → P → ⊥
 not_low r e w p = let t = w.1 p in cc
-
-pub first_decides : (a b n : ℕ) (r : Bool) → r ≡ false → (IsTrue r ↔ (a ≤ n)) → IsTrue false ↔ (max a b ≤ n)
-first_decides a b n r e w = (λ h. absurd (cc), λ h. absurd (not_low r e w (max_both a b n h).0))
 
 -- ---- forms
 
@@ -38,26 +32,6 @@ pub parts_low : (e f : Expr) (t : Tree) (n m : ℕ) (r : Bool) → e ≡ f → t
     → IsTrue r ↔ (height (tree_of e) ≤ n + 1)
 parts_low e f t n m r is tree one w =
     let h = height_of e f t is tree in (λ x. let l = w.0 x in omega (arith, h, one, l), λ x. w.1 (omega (arith, h, one, x)))
-
-height_some : (t : Tree) → 1 ≤ height t
-height_some (number below num den) = omega arith
-height_some (ups down n) = omega arith
-height_some (nimber n) = omega arith
-height_some (switch num den) = omega arith
-height_some (tiny miny num den) = omega arith
-height_some (sides ls rs) = omega arith
-height_some (negative t) = omega arith
-height_some (multiple n t) = omega arith
-height_some (sum terms) = omega arith
-height_some (game kind rules board) = omega arith
-height_some (octal code heap) = omega arith
-height_some (used word column) = omega arith
-
-pub no_level : (t : Tree) (n : ℕ) → n ≡ 0 → IsTrue false ↔ (height t ≤ n)
-no_level t n e = (λ h. absurd (cc), λ h. absurd (let s = height_some t in omega (arith, s, h, e)))
-
-pub one_level : (h n : ℕ) (r : Bool) → 0 < n → (IsTrue r ↔ (h ≤ n - 1 + 1)) → IsTrue r ↔ (h ≤ n)
-one_level h n r some w = (λ x. let l = w.0 x in omega (arith, l, some), λ x. w.1 (omega (arith, x, some)))
 
 -- ---- lists of expressions
 
@@ -86,11 +60,6 @@ item_high es ts i e n r trees is below high w =
     let same : height (tree_of e) ≡ height (tree_of (get_or es i e)) = ap (λ (x : Expr). height (tree_of x)) is in
     let list : heights (trees_from (trees_of es)) ≡ heights (trees_from ts) = ap (λ (us : List Tree). heights (trees_from us)) trees in
     (λ h. absurd (cc), λ h. absurd (not_low r high w (omega (arith, height_at es i e below, same, list, h))))
-
-pub all_low : (es : List Expr) (ts : List Tree) (i n : ℕ) → trees_of es ≡ ts → length es ≤ i → heights (trees_from (trees_of (take i es))) ≤ n
-    → IsTrue true ↔ (heights (trees_from ts) ≤ n)
-all_low es ts i n trees all l =
-    let P : List Tree → Type 0 = λ z. heights (trees_from z) ≤ n in (λ _. subst P (trees_of-all es i all ∙ trees) l, λ _. refl)
 
 -- ---- terms
 
@@ -125,8 +94,3 @@ term_high es ts i e n r terms is below high w =
     let same : height (term_of e).1 ≡ height (term_of (get_or es i e)).1 = ap (λ (x : Term). height (term_of x).1) is in
     let list : term_heights (terms_from (terms_of es)) ≡ term_heights (terms_from ts) = ap (λ (us : List (Bool × Tree)). term_heights (terms_from us)) terms in
     (λ h. absurd (cc), λ h. absurd (not_low r high w (omega (arith, term_height_at es i e below, same_height e, same, list, h))))
-
-pub all_terms_low : (es : List Term) (ts : List (Bool × Tree)) (i n : ℕ) → terms_of es ≡ ts → length es ≤ i
-    → term_heights (terms_from (terms_of (take i es))) ≤ n → IsTrue true ↔ (term_heights (terms_from ts) ≤ n)
-all_terms_low es ts i n terms all l =
-    let P : List (Bool × Tree) → Type 0 = λ z. term_heights (terms_from z) ≤ n in (λ _. subst P (terms_of-all es i all ∙ terms) l, λ _. refl)

@@ -83,20 +83,8 @@ trees_of-take_suc [] i e below is = absurd (omega arith)
 trees_of-take_suc (f ∷ es) zero e below is = ap (λ (x : Expr). tree_of x ∷ []) (sym is)
 trees_of-take_suc (f ∷ es) (suc i) e below is = ap (λ ts. tree_of f ∷ ts) (trees_of-take_suc es i e (omega arith) is)
 
-pub trees_of-all : (es : List Expr) (i : ℕ) → length es ≤ i → trees_of (take i es) ≡ trees_of es
-trees_of-all [] zero all = refl
-trees_of-all [] (suc i) all = refl
-trees_of-all (e ∷ es) zero all = absurd (omega arith)
-trees_of-all (e ∷ es) (suc i) all = ap (λ ts. tree_of e ∷ ts) (trees_of-all es i (omega arith))
-
 pub terms_of-take_suc : (es : List Term) (i : ℕ) (e : Term) → i < length es → e ≡ get_or es i e
     → terms_of (take (suc i) es) ≡ terms_of (take i es) ++ (term_of e ∷ [])
 terms_of-take_suc [] i e below is = absurd (omega arith)
 terms_of-take_suc (f ∷ es) zero e below is = ap (λ (x : Term). term_of x ∷ []) (sym is)
 terms_of-take_suc (f ∷ es) (suc i) e below is = ap (λ ts. term_of f ∷ ts) (terms_of-take_suc es i e (omega arith) is)
-
-pub terms_of-all : (es : List Term) (i : ℕ) → length es ≤ i → terms_of (take i es) ≡ terms_of es
-terms_of-all [] zero all = refl
-terms_of-all [] (suc i) all = refl
-terms_of-all (e ∷ es) zero all = absurd (omega arith)
-terms_of-all (e ∷ es) (suc i) all = ap (λ ts. term_of e ∷ ts) (terms_of-all es i (omega arith))

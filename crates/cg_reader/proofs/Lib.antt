@@ -5,5 +5,4 @@ pub mod More
 pub mod SoundSides
 pub mod Special
 pub mod OneRun
-pub mod LineAnswers
 pub mod StatementAnswers

@@ -1,5 +1,4 @@
 pub mod Views
-pub mod Questions
 pub mod Statements
 pub mod Cuts
 pub mod Answered

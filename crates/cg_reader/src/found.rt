@@ -1,5 +1,5 @@
-//! What was read of expressions and questions.
-use cg_query::{Expr, Query, Statement};
+//! What was read of expressions and lines.
+use cg_query::{Expr, Statement};
 
 /// An expression, and the column of the first run of bars in it that repeats an earlier one.
 #[derive(Drop)]
@@ -30,13 +30,6 @@ pub struct Row {
 pub struct Rows {
     pub first: Row,
     pub more: Vec<Row>,
-}
-
-/// A query, and the first such column in its text.
-#[derive(Drop)]
-pub struct Asked {
-    pub query: Query,
-    pub fault: Option<u64>,
 }
 
 /// What a line states, and the first such column in its text.

@@ -1,8 +1,8 @@
 //! Reading lines: `read_line` tells what a line of format 1 asks, and `read_statement` what a line of format 2 asks or
 //! defines, by the grammar of `cg_grammar`; or each gives the column at which the line leaves it.
 //!
-//! There is a function for each production. It reads from the front of the bytes, and gives the value that was read with
-//! what is left behind it.
+//! There is a function for each production, or for a few that stand in one another. It reads from the front of the
+//! bytes, and gives the value that was read with what is left behind it.
 #![tactic(auto)]
 
 mod arrows;
@@ -23,5 +23,4 @@ mod split;
 mod statements;
 mod sums;
 
-pub use line::read_line;
-pub use statements::read_statement;
+pub use line::{read_line, read_statement};

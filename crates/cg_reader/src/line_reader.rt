@@ -1,6 +1,4 @@
 //! What stays the same while a line is read.
-ghost use Rattle.std.specs.Prelude.{◌≡◌};
-
 use cg_query::Format;
 use std::alloc::Global;
 
@@ -12,19 +10,4 @@ pub struct LineReader {
     pub alloc: Global,
     pub format: Format,
     pub line_end: u64,
-}
-
-impl LineReader {
-    /// The reader of a line of this format, with the column behind it.
-    #[inline(always)]
-    pub fn of(alloc: Global, format: Format, line_end: u64) -> LineReader
-        ensures format { result.format ≡ format }
-        ensures line_end { result.line_end ≡ line_end }
-    {
-        LineReader {
-            alloc,
-            format,
-            line_end,
-        }
-    }
 }

@@ -1,10 +1,10 @@
 -- Pieces that are gathered one after the other.
-use Rattle.std.proofs.Common.{◌≡◌, ℕ, ◌-◌, ◌≤◌, true, false, List, [], ◌∷◌, ◌++◌, length, Ok, Err, refl, ap, sym, ◌∙◌, append_assoc, append-nil, arith}
+use Rattle.std.proofs.Common.{◌≡◌, ℕ, ◌-◌, ◌≤◌, true, false, List, [], ◌∷◌, ◌++◌, length, Ok, Err, refl, ap, sym, ◌∙◌, append_assoc, arith}
 use Rattle.cg_reading.specs.Bytes.{Class, has}
 use Rattle.cg_reading.specs.Pieces.{Piece}
 use Rattle.cg_reading.specs.Readers.{Read, Reader, ◌>>=◌, many_at, behind_these}
 use Rattle.cg_reading.proofs.Laws.{Reads}
-use Rattle.cg_reading.proofs.Many.{push_piece, many_next, many_end}
+use Rattle.cg_reading.proofs.Many.{push_piece, many_next}
 
 abbrev with_front : {A : Type 0} → List A → Read (List A) → Read (List A)
 with_front front read = read >>= λ x. Ok (front ++ x.0, x.1)
@@ -13,15 +13,6 @@ module _ {A : Type 0} (R : Piece A) (f : Reader A) (I : Class) (lf : Reads R f I
   one_more : (v : A) (x : Read (List A)) → with_front front (push_piece v x) ≡ with_front (front ++ v ∷ []) x
   one_more v (Ok vs) = ap (λ (xs : List A). Ok (xs, vs.1)) (sym (append_assoc front (v ∷ []) vs.0))
   one_more v (Err n) = refl
-
-  none_behind : (bytes : List ℕ) → with_front front (Ok ([], bytes)) ≡ Ok (front, bytes)
-  none_behind bytes = ap (λ (xs : List A). Ok (xs, bytes)) (append-nil front)
-
-  pub gathered_none : (all : List ℕ) → all ≡ [] → behind_these I f front end all ≡ Ok (front, all)
-  gathered_none all s = ap (behind_these I f front end) s ∙ none_behind [] ∙ ap (λ (z : List ℕ). Ok (front, z)) (sym s)
-
-  pub gathered_end : (b : ℕ) (all bytes : List ℕ) → all ≡ b ∷ bytes → has I b ≡ false → behind_these I f front end all ≡ Ok (front, all)
-  gathered_end b all bytes s h = ap (behind_these I f front end) s ∙ ap (with_front front) (many_end R f I end b bytes h) ∙ none_behind (b ∷ bytes) ∙ ap (λ (z : List ℕ). Ok (front, z)) (sym s)
 
   next_go : (x : Read A) → with_front front (x >>= λ y. push_piece y.0 (many_at I f end y.1)) ≡ (x >>= λ y. behind_these I f (front ++ y.0 ∷ []) end y.1)
   next_go (Ok y) = one_more y.0 (many_at I f end y.1)

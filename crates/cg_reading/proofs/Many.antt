@@ -3,7 +3,7 @@ use Rattle.std.proofs.Common.{◌≡◌, ℕ, zero, suc, ◌+◌, ◌-◌, ◌<�
 use Rattle.cg_reading.specs.Bytes.{Class, has, Ends, Begins}
 use Rattle.cg_reading.specs.Pieces.{Piece, Many}
 use Rattle.cg_reading.specs.Readers.{Read, Reader, ◌>>=◌, many_from, many_at}
-use Rattle.cg_reading.proofs.Laws.{kept, Agree, Alive, Lawful, Outcome, Reads, Some_text, Takes, at_ok, behind, bind_agree, bind_sound, left, left_made, made_agree, outcome_left}
+use Rattle.cg_reading.proofs.Laws.{kept, Agree, Alive, Lawful, Outcome, Reads, Takes, at_ok, behind, bind_agree, bind_sound, left, left_made, made_agree, outcome_left}
 use Rattle.cg_reading.proofs.Sets.{apart, next_ends, no_right}
 
 -- ---- any number of pieces
@@ -133,9 +133,6 @@ module _ {A : Type 0} (R : Piece A) (f : Reader A) (I F : Class) where
     again = λ end i vs text rest is h n. many_again_from lf a vs (length (text ++ rest)) end i text rest is h n (omega (arith, length-append text rest));
   }
 
-  pub no_piece : (j : ℕ) → Some_text (Many R) j
-  no_piece j = record { value = []; text = []; is = refl }
-
 -- ---- pieces one after the other, by equations
 
 abbrev pub push_piece : {A : Type 0} → A → Read (List A) → Read (List A)
@@ -172,6 +169,3 @@ module _ {A : Type 0} (R : Piece A) (f : Reader A) (I : Class) where
 
   pub many_end : (end b : ℕ) (bytes : List ℕ) → has I b ≡ false → many_at I f end (b ∷ bytes) ≡ Ok ([], b ∷ bytes)
   many_end end b bytes h = rw h refl
-
-  pub many_none : (end : ℕ) → many_at I f end [] ≡ Ok ([], [])
-  many_none end = refl

@@ -106,17 +106,6 @@ or_then_from R S T i v text (inr is) = record { before = is.before; behind = is.
 pub or_then : {A B : Type 0} (R S : Piece A) (T : Piece B) → Same (Then (Or R S) T) (Or (Then R T) (Then S T))
 or_then R S T = record { to = λ i v text is. or_then_to R S T i v is.before is.behind text is.first is.second is.spelled; from = or_then_from R S T }
 
-then_or_to : {A B : Type 0} (R : Piece A) (S T : Piece B) (i : ℕ) (v : A × B) (x y text : List ℕ) → R i v.0 x → Or S T (i + length x) v.1 y → text ≡ x ++ y → Or (Then R S) (Then R T) i v text
-then_or_to R S T i v x y text r (inl is) e = inl (record { before = x; behind = y; first = r; second = is; spelled = e })
-then_or_to R S T i v x y text r (inr is) e = inr (record { before = x; behind = y; first = r; second = is; spelled = e })
-
-then_or_from : {A B : Type 0} (R : Piece A) (S T : Piece B) (i : ℕ) (v : A × B) (text : List ℕ) → Or (Then R S) (Then R T) i v text → Then R (Or S T) i v text
-then_or_from R S T i v text (inl is) = record { before = is.before; behind = is.behind; first = is.first; second = inl is.second; spelled = is.spelled }
-then_or_from R S T i v text (inr is) = record { before = is.before; behind = is.behind; first = is.first; second = inr is.second; spelled = is.spelled }
-
-pub then_or : {A B : Type 0} (R : Piece A) (S T : Piece B) → Same (Then R (Or S T)) (Or (Then R S) (Then R T))
-then_or R S T = record { to = λ i v text is. then_or_to R S T i v is.before is.behind text is.first is.second is.spelled; from = then_or_from R S T }
-
 pub then_then : {A B C : Type 0} (R : Piece A) (S : Piece B) (T : Piece C) → Same (Then (Then R S) T) (Made (λ v. ((v.0, v.1.0), v.1.1)) (Then R (Then S T)))
 then_then {A} {B} {C} R S T = record { to = to; from = from }
   where

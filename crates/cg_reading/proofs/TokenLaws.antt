@@ -18,7 +18,7 @@ pub byte_text : (b : ℕ) → has (only b) b ≡ true → (j : ℕ) → Some_tex
 byte_text b h = one_text (only b) b h
 
 pub few_digits_ok : (most : ℕ) → 0 < most → Lawful (few_digits most) (few_digits_at most) digit false digit
-few_digits_ok most some = same_ok (few_digits_at most) (few_digits_at_is most) (made_ok (digits_value 10) (run_lawful digit most some 48 refl))
+few_digits_ok most some = same_ok (few_digits_at most) (few_digits_at_is most some) (made_ok (digits_value 10) (run_lawful digit most some 48 refl))
 
 pub few_digits_text : (most : ℕ) → 0 < most → (j : ℕ) → Some_text (few_digits most) j
 few_digits_text most some j = made_text (digits_value 10) j (run_text digit most some 48 refl j)

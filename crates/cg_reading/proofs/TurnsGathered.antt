@@ -40,9 +40,6 @@ module _ {A B : Type 0} (E : Piece (A ⊎ B)) (f : Reader (A ⊎ B)) (g : Reader
       ap (λ (t : Bool). cond t (f end (b ∷ bytes) >>= turn (turns_from I f g (length bytes)) end) (Ok (([], []), b ∷ bytes))) h
       ∙ same_turn end i (b ∷ bytes) (turns_from I f g (length bytes)) (turns_at I f g) (f end (b ∷ bytes)) n (lf.sound end i (b ∷ bytes) n) (λ j rest m k. turns_rounds (length bytes) (length rest) end j rest m (omega arith) (omega arith))
 
-  turns_end : (end b : ℕ) (bytes : List ℕ) → has I b ≡ false → turns_at I f g end (b ∷ bytes) ≡ Ok (([], []), b ∷ bytes)
-  turns_end end b bytes h = rw h refl
-
   module _ (front : List A) (end : ℕ) where
     one_more : (v : A) (x : Read (List A × List B)) → with_front front (one_first v x) ≡ with_front (front ++ v ∷ []) x
     one_more v (Ok vs) = ap (λ (xs : List A). Ok ((xs, vs.0.1), vs.1)) (sym (append_assoc front (v ∷ []) vs.0.0))
@@ -57,9 +54,6 @@ module _ {A B : Type 0} (E : Piece (A ⊎ B)) (f : Reader (A ⊎ B)) (g : Reader
 
     pub behind_none : (all : List ℕ) → all ≡ [] → turns_behind I f g front end all ≡ Ok ((front, []), all)
     behind_none all s = ap (turns_behind I f g front end) s ∙ none_behind [] ∙ ap (λ (z : List ℕ). Ok ((front, []), z)) (sym s)
-
-    pub behind_end : (b : ℕ) (all bytes : List ℕ) → all ≡ b ∷ bytes → has I b ≡ false → turns_behind I f g front end all ≡ Ok ((front, []), all)
-    behind_end b all bytes s h = ap (turns_behind I f g front end) s ∙ ap (with_front front) (turns_end end b bytes h) ∙ none_behind (b ∷ bytes) ∙ ap (λ (z : List ℕ). Ok ((front, []), z)) (sym s)
 
     -- what is read behind a turn
     abbrev pub behind_turn : (A ⊎ B) × List ℕ → Read (List A × List B)

@@ -1,7 +1,7 @@
 -- How a table of words is tried, one word after the other.
 use Rattle.std.proofs.Common.{◌≡◌, ℕ, suc, ◌+◌, ◌<◌, ◌≤◌, Bool, true, false, cond, List, [], ◌∷◌, length, get_or, drop, Bor, Ok, Err, refl, ap, sym, ◌∙◌, arith, drop-cons}
 use Rattle.std.specs.Prelude.{◌==◌, min, map}
-use Rattle.std.proofs.Math.Nat.{min-eq_left, min-eq_right}
+use Rattle.std.proofs.Math.Nat.{min-eq_right}
 use Rattle.std.proofs.Common.{Result}
 use Rattle.cg_reading.specs.declared.fault.ReadFault.{ReadFault}
 use Rattle.cg_reading.specs.Gives.{Gives}
@@ -40,9 +40,6 @@ module _ {A : Type 0} where
         furthest : (y : Read A) → either_read (Err most) (either_read (Err here) y) ≡ either_read (Err (min most here)) y
         furthest (Ok x) = refl
         furthest (Err n) = ap (λ (k : ℕ). Err k) (omega arith)
-
-  pub words_ended : (most end : ℕ) (bytes : List ℕ) → most ≤ length bytes → either_read {A = A} (Err most) (among_at [] end bytes) ≡ Err most
-  words_ended most end bytes h = ap (λ (k : ℕ). Err k) (min-eq_left h)
 
   -- a reading that goes no further adds nothing
   pub nothing_before : (n : ℕ) (y : Read A) → left y ≤ n → either_read (Err n) y ≡ y

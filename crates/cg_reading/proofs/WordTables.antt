@@ -8,7 +8,7 @@ use Rattle.cg_reading.specs.Pieces.{Piece, Word}
 use Rattle.cg_reading.specs.Readers.{Read, word_at}
 use Rattle.cg_reading.specs.Words.{Table, is_front, is_apart, is_prefix_free, Among, either_read, among_at}
 use Rattle.cg_reading.proofs.ByteRuns.{word_sound, word_again, word_agree}
-use Rattle.cg_reading.proofs.Laws.{kept, stuck, past, Agree, Lawful, Outcome, Some_text, Takes, left, outcome_left}
+use Rattle.cg_reading.proofs.Laws.{kept, stuck, past, Agree, Lawful, Outcome, Takes, left, outcome_left}
 
 -- ---- fronts
 

@@ -1,21 +1,16 @@
 -- In format 1 the reply to what is made of a line is the reply to the line.
-use Rattle.std.proofs.Common.{◌≡◌, ap, sym, ◌∙◌, subst, ℕ, Bool, false, cond, List, [], Option, None, inl, inr, ◌↔◌}
+use Rattle.std.proofs.Common.{◌≡◌, ap, sym, ◌∙◌, subst, ℕ, Bool, false, cond, List, [], ◌↔◌}
 use Rattle.std.specs.Prelude.{◌&&◌}
 use Rattle.cg_query.specs.Tree.{Question, asks, defines}
 use Rattle.cg_query.specs.declared.format.Format.TheVariants as formats
 use Rattle.cg_grammar.specs.Lines.{IsColumn, IsComment, IsUnread, Reads, is_blank_line}
-use Rattle.cg_grammar.proofs.Whole.{faulty_reads_none}
+use Rattle.cg_grammar.proofs.Whole.{defines_none, stated_or_column}
 use Rattle.cg_syntax.specs.Naming.{Bindings, IsClosedQuestion, are_too_large, first_unknown, question_expanded, trees_of_question, uses_of}
 use Rattle.cg_syntax.specs.Session.{Asked_of, IsLine, Resolved, Too_large, by_names, has_some, refused, resolved, stated}
 use Rattle.cg_syntax.proofs.Closed.{closed_unused, same_question}
 use Rattle.cg_eval.specs.Reply.{IsReply, IsReplyTo, Piece, syntax_at}
 use Rattle.cg_eval.proofs.Replies.{reply-read, reply-unread}
 use Rattle.cg_session.specs.Replies.{IsReplyFor}
-
--- a line that reads as a question has no column
-no_column : (line : List ℕ) (q : Question) (c : ℕ) → Reads line q → IsColumn line c → ⊥
-no_column line q c reads (inl stops) = stops.none (record { question = q; fault = None }, reads)
-no_column line q c reads (inr (p, is)) = faulty_reads_none line p c is q reads
 
 -- a question without names is made of itself
 made_plain : (bs : Bindings) (q : Question) → uses_of (trees_of_question q) ≡ [] → resolved bs q ≡ Asked_of q
@@ -37,12 +32,12 @@ module _ (share positions : ℕ) (line : List ℕ) (reply : Piece) where
         λ h. reply-read share positions line q reply one reads (subst P same h),
         λ h. subst P (sym same) (h.read q reads),
       )
-  to_line before behind made blank comment one column closed (stated (defines word t) reads) = absurd reads
+  to_line before behind made blank comment one column closed (stated (defines word t) reads) = absurd (defines_none line word t reads)
   to_line before behind made blank comment one column closed (refused c at) =
       let unread : IsUnread line c = record {
         not_blank = blank;
         not_comment = comment;
-        no_question = λ q reads. no_column line q c reads at;
+        no_question = λ q reads. stated_or_column formats.One line (asks q) c reads at;
         at = at;
       } in (
         λ h. reply-unread share positions line c reply column unread h,

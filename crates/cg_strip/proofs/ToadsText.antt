@@ -1,7 +1,7 @@
 -- The rules of Toads and Frogs, read.
 use Rattle.std.proofs.Common.{◌≡◌, ℕ, List, [], ◌∷◌, ◌++◌, Ok, refl, ap, sym, ◌∙◌, append-nil}
 use Rattle.cg_reading.specs.Readers.{whole_at}
-use Rattle.cg_reading.specs.TokenReaders.{byte_at, digits_from, few_digits_at}
+use Rattle.cg_reading.specs.TokenReaders.{byte_at, few_digits_at}
 use Rattle.cg_reading.proofs.WholeLines.{whole_once, whole_takes}
 use Rattle.cg_moves.specs.declared.player.Player.{Player}
 use Rattle.cg_moves.specs.declared.player.Player.TheVariants.{Left, Right}
@@ -31,7 +31,7 @@ toads_items = record {
 }
 
 reads : whole_at rules_text_at toads_text ≡ Ok toads_items
-unfolding toads_items rules_text_at weight_at weighing_at numbers_at few_digits_at turn_at item_at lettered_at rewriting_at symbols_at next_rule_at rule_at byte_at digits_from
+unfolding toads_items rules_text_at weight_at weighing_at numbers_at few_digits_at turn_at item_at lettered_at rewriting_at symbols_at next_rule_at rule_at byte_at
 reads = refl
 
 only_items : (t : Items) → rules_text 1 t toads_text → t ≡ toads_items

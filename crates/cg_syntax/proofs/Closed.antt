@@ -100,46 +100,6 @@ closed_unused (compare s t) w = two s t w
 closed_unused (proof s t) w = two s t w
 closed_unused (check s t text) w = two s t w
 
-mutual
-  unused_closed : (t : Tree) → uses t ≡ [] → IsClosed t
-  unused_closed (number below num den) u = tt
-  unused_closed (ups down n) u = tt
-  unused_closed (nimber n) u = tt
-  unused_closed (switch num den) u = tt
-  unused_closed (tiny miny num den) u = tt
-  unused_closed (sides ls rs) u = let p = none_of_both (uses_all ls) (uses_all rs) u in (all_unused ls p.0, all_unused rs p.1)
-  unused_closed (negative t) u = unused_closed t u
-  unused_closed (multiple n t) u = unused_closed t u
-  unused_closed (sum terms) u = terms_unused terms u
-  unused_closed (game kind rules board) u = tt
-  unused_closed (octal code heap) u = tt
-  unused_closed (used word column) u = absurd cc
-
-  all_unused : (ts : Trees) → uses_all ts ≡ [] → AreClosed ts
-  all_unused no_trees u = tt
-  all_unused (with_tree t ts) u = let p = none_of_both (uses t) (uses_all ts) u in (unused_closed t p.0, all_unused ts p.1)
-
-  terms_unused : (ts : Terms) → uses_terms ts ≡ [] → AreClosedTerms ts
-  terms_unused no_terms u = tt
-  terms_unused (with_term minus t ts) u = let p = none_of_both (uses t) (uses_terms ts) u in (unused_closed t p.0, terms_unused ts p.1)
-
-one_unused : (t : Tree) → uses_of (t ∷ []) ≡ [] → IsClosed t
-one_unused t u = unused_closed t (none_of_both (uses t) [] u).0
-
-two_unused : (s t : Tree) → uses_of (s ∷ t ∷ []) ≡ [] → IsClosed s × IsClosed t
-two_unused s t u = let p = none_of_both (uses s) (uses_of (t ∷ [])) u in (unused_closed s p.0, one_unused t p.1)
-
-pub closed_from_unused : (q : Question) → uses_of (trees_of_question q) ≡ [] → IsClosedQuestion q
-closed_from_unused (value t) u = one_unused t u
-closed_from_unused (outcome t) u = one_unused t u
-closed_from_unused (stops t) u = one_unused t u
-closed_from_unused (mean t) u = one_unused t u
-closed_from_unused (temp t) u = one_unused t u
-closed_from_unused (thermo t) u = one_unused t u
-closed_from_unused (compare s t) u = two_unused s t u
-closed_from_unused (proof s t) u = two_unused s t u
-closed_from_unused (check s t text) u = two_unused s t u
-
 -- ---- without a use nothing is replaced
 
 mutual

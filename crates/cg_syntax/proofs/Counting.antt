@@ -28,9 +28,6 @@ first_counted n line lines =
 
 -- ---- by the format
 
-pub counted_one : (text : List ℕ) → format_of text ≡ formats.One → length (answered_lines text) ≡ length (answered_from 1 (lines_of text))
-counted_one text e = ap (λ (f : Format). length (answered_in f (lines_of text))) e
-
 pub counted_two : (text line rest : List ℕ) → lines_of text ≡ line ∷ lines_of rest → format_of text ≡ formats.Two
     → length (answered_lines text) ≡ length (answered_from 1 (lines_of rest))
 counted_two text line rest l e =

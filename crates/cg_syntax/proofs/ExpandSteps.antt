@@ -17,7 +17,7 @@ use Rattle.cg_query.specs.declared.expr.Expr.TheVariants as expr
 use Rattle.cg_syntax.specs.declared.session.SessionLine.{SessionLine}
 use Rattle.cg_syntax.specs.declared.sheet.Bound.{Bound}
 use Rattle.cg_query.proofs.TreeOf.{term_tree, braces_tree, negative_tree, multiple_tree, sum_tree, game_tree, octal_tree, used_tree}
-use Rattle.cg_query.proofs.Walk.{size, trees_of-take_suc, trees_of-all, terms_of-take_suc, terms_of-all}
+use Rattle.cg_query.proofs.Walk.{size, terms_of-take_suc}
 
 -- ---- forms
 
@@ -88,23 +88,6 @@ use_expanded bs e g word column is h =
 
 -- ---- items
 
-pub expr_next : (bs : Bindings) (es : List Expr) (i : ℕ) (d e : Expr) (done : List Expr) → i < length es → d ≡ get_or es i d
-    → trees_of done ≡ map (expanded bs) (trees_of (take i es)) → tree_of e ≡ expanded bs (tree_of d)
-    → trees_of (done ++ e ∷ []) ≡ map (expanded bs) (trees_of (take (i + 1) es))
-expr_next bs es i d e done below is l h =
-    let s : suc i ≡ i + 1 = omega arith in
-    map-append tree_of done (e ∷ [])
-    ∙ ap (λ (z : List Tree). z ++ tree_of e ∷ []) l
-    ∙ ap (λ (z : Tree). map (expanded bs) (trees_of (take i es)) ++ z ∷ []) h
-    ∙ sym (map-append (expanded bs) (trees_of (take i es)) (tree_of d ∷ []))
-    ∙ ap (λ (z : List Tree). map (expanded bs) z) (sym (trees_of-take_suc es i d below is))
-    ∙ ap (λ (k : ℕ). map (expanded bs) (trees_of (take k es))) s
-
-pub exprs_done : (bs : Bindings) (es : List Expr) (i : ℕ) (ts : List Tree) (done : List Expr) (made : List Tree) → length es ≤ i
-    → trees_of es ≡ ts → made ≡ trees_of done → trees_of done ≡ map (expanded bs) (trees_of (take i es)) → made ≡ map (expanded bs) ts
-exprs_done bs es i ts done made all is m l =
-    m ∙ l ∙ ap (λ (z : List Tree). map (expanded bs) z) (trees_of-all es i all ∙ is)
-
 pub term_next : (bs : Bindings) (es : List Term) (i : ℕ) (d : Term) (e : Expr) (done : List Term) → i < length es → d ≡ get_or es i d
     → terms_of done ≡ map (expanded_term bs) (terms_of (take i es)) → tree_of e ≡ expanded bs (tree_of d.expr)
     → terms_of (done ++ record { minus = d.minus; expr = e } ∷ []) ≡ map (expanded_term bs) (terms_of (take (i + 1) es))
@@ -118,11 +101,6 @@ term_next bs es i d e done below is l h =
     ∙ sym (map-append (expanded_term bs) (terms_of (take i es)) (term_of d ∷ []))
     ∙ ap (λ (z : List (Bool × Tree)). map (expanded_term bs) z) (sym (terms_of-take_suc es i d below is))
     ∙ ap (λ (k : ℕ). map (expanded_term bs) (terms_of (take k es))) s
-
-pub terms_done : (bs : Bindings) (es : List Term) (i : ℕ) (ts : List (Bool × Tree)) (done : List Term) (made : List (Bool × Tree)) → length es ≤ i
-    → terms_of es ≡ ts → made ≡ terms_of done → terms_of done ≡ map (expanded_term bs) (terms_of (take i es)) → made ≡ map (expanded_term bs) ts
-terms_done bs es i ts done made all is m l =
-    m ∙ l ∙ ap (λ (z : List (Bool × Tree)). map (expanded_term bs) z) (terms_of-all es i all ∙ is)
 
 -- ---- what is bound is no larger than all lines
 

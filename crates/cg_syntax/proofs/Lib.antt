@@ -6,7 +6,6 @@ pub mod Resolving
 pub mod SessionSteps
 pub mod LineCuts
 pub mod FirstPlace
-pub mod Trimming
 pub mod OtherLines
 pub mod Counting
 pub mod ClosedSessions

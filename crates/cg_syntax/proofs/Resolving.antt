@@ -67,9 +67,6 @@ by_its_size bs q s m =
     ∙ ap (λ (b : Bool). by_both bs q b (are_too_large (trees_of_question (question_expanded bs q)))) (sym m.has_use)
     ∙ ap (λ (b : Bool). by_both bs q s.has_use b) (sym large)
 
-pub is_unknown : (bs : Bindings) (q : Question) (c : ℕ) → first_unknown bs (uses_of (trees_of_question q)) ≡ Some c → resolved bs q ≡ Unknown_at c
-is_unknown bs q c e = ap (by_names bs q) e
-
 no_use : (bs : Bindings) (ts : List Tree) (s : Size) → IsSizeOf bs ts s → s.has_use ≡ false → uses_of ts ≡ []
 no_use bs ts s m h = by (uses_of ts) (sym m.has_use ∙ h)
   where
@@ -84,11 +81,6 @@ is_same bs q s m h =
 
 pub same_tree : (bs : Bindings) (t : Tree) (s : Size) → IsSizeOf bs (t ∷ []) s → s.has_use ≡ false → expanded bs t ≡ t
 same_tree bs t s m h = same_expression bs t (no_use bs (t ∷ []) s m h)
-
-pub is_large : (bs : Bindings) (q : Question) (s : Size) → IsSizeOf bs (trees_of_question q) s → s.has_use ≡ true
-    → (ltb 4096 s.parts || ltb 1024 s.levels) ≡ true → resolved bs q ≡ Too_large
-is_large bs q s m h l =
-    by_its_size bs q s m ∙ ap (λ (b : Bool). by_both bs q b (ltb 4096 s.parts || ltb 1024 s.levels)) h ∙ ap (by_both bs q true) l
 
 pub is_expanded : (bs : Bindings) (q : Question) (s : Size) → IsSizeOf bs (trees_of_question q) s → s.has_use ≡ true
     → (ltb 4096 s.parts || ltb 1024 s.levels) ≡ false → resolved bs q ≡ Asked_of (question_expanded bs q)
@@ -113,15 +105,6 @@ put_as number r s old new e p = subst (λ (z : Resolved). IsPut number z old new
 pub put_question : (number : ℕ) (q : Question) (r : Resolved) (old new : Sheet) → resolved (bindings_in old) q ≡ r → IsPut number r old new
     → bindings_in new ≡ bindings_in old → PutsStatement number (asks q) old new
 put_question number q r old new e p b = record { put = put_as number r (resolved (bindings_in old) q) old new e p; bindings = b }
-
--- of a definition that is refused
-pub put_refused : (number : ℕ) (word : List ℕ) (t : Tree) (r : Resolved) (old new : Sheet) → resolved (bindings_in old) (value t) ≡ r
-    → bound_by (bindings_in old) word t r ≡ bindings_in old → IsPut number r old new → bindings_in new ≡ bindings_in old
-    → PutsStatement number (defines word t) old new
-put_refused number word t r old new e f p b = record {
-  put = put_as number r (resolved (bindings_in old) (value t)) old new e p;
-  bindings = b ∙ sym f ∙ ap (bound_by (bindings_in old) word t) (sym e);
-}
 
 -- of a definition that isn't refused
 pub put_defined : (number : ℕ) (word : List ℕ) (t u : Tree) (old new : Sheet) → resolved (bindings_in old) (value t) ≡ Asked_of (value u)

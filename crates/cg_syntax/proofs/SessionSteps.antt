@@ -3,8 +3,7 @@ use Rattle.std.proofs.Common.{◌≡◌, ℕ, ◌+◌, Bool, true, false, cond, 
 use Rattle.std.specs.Prelude.{OnOk, not}
 use Rattle.cg_query.specs.Tree.{Question, Statement, asks}
 use Rattle.cg_syntax.specs.Naming.{Bindings, question_asked}
-use Rattle.cg_grammar.specs.Lines.{Reads}
-use Rattle.cg_grammar.specs.Formats.{ReadsIn, IsColumnIn}
+use Rattle.cg_grammar.specs.Lines.{Reads, ReadsIn, IsColumnIn}
 use Rattle.cg_syntax.specs.Session.{Resolved, Asked_of, Syntax_at, AreLines, IsLine, IsSession, after, answered_in, format_of, none, next, refused, resolved, stated}
 use Rattle.cg_syntax.specs.SessionLines.{lines_of, is_answered, answered_from}
 use Rattle.cg_syntax.specs.Puts.{IsPut, Puts, PutsStatement}

@@ -85,13 +85,6 @@ beside_sized bs ts us s t r b m n = record {
       ∙ sym (some_append (uses_of ts) (uses_of us)) ∙ ap (λ (z : List Use). has_some z) (sym (uses_append ts us));
 }
 
-pub none_sized : (bs : Bindings) (s : Size) → s.parts ≡ 0 → s.levels ≡ 0 → s.has_use ≡ false → IsSizeOf bs [] s
-none_sized bs s p l h = record {
-  known = refl;
-  measures = record { parts = omega (arith, p); levels = omega (arith, l) };
-  has_use = h;
-}
-
 -- ---- lists of parts
 
 uses_all_from : (ts : List Tree) → uses_all (trees_from ts) ≡ uses_of ts
@@ -292,17 +285,3 @@ pub one_sized : (bs : Bindings) (e f : Expr) (t : Tree) (s : Size) → e ≡ f �
 one_sized bs e f t s is tree u p k l =
     let n : s.parts ≡ 1 = ap (λ (z : Size). z.parts) l in
     leaf_sized bs e f t s is tree u (omega (arith, n, p)) (ap (λ (z : Size). z.levels) l) k (ap (λ (z : Size). z.has_use) l)
-
--- a use, by what its name is bound to
-pub use_known : (bs : Bindings) (word : List ℕ) (column : ℕ) (t : Tree) (s r : Size) → bound_to bs word ≡ Some t
-    → Measures s (t ∷ []) → r.parts ≡ s.parts → r.levels ≡ s.levels → r.has_use ≡ true → IsSizeOf bs (used word column ∷ []) r
-use_known bs word column t s r b m p l h = record {
-  known = ap (λ (o : Option Tree). unless_bound o column None) b;
-  measures = subst (λ (z : Tree). Measures r (z ∷ [])) (sym (ap (λ (o : Option Tree). or_use word column o) b))
-      (record { parts = p ∙ m.parts; levels = l ∙ m.levels });
-  has_use = h;
-}
-
-pub use_unknown : (bs : Bindings) (word : List ℕ) (column : ℕ) → bound_to bs word ≡ None
-    → first_unknown bs (uses_of (used word column ∷ [])) ≡ Some column
-use_unknown bs word column b = ap (λ (o : Option Tree). unless_bound o column None) b

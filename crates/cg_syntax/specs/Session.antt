@@ -4,7 +4,7 @@ use Rattle.std.specs.Str.{bytes_eq}
 use Rattle.cg_reading.specs.Readers.{skipped}
 use Rattle.cg_reading.specs.Tokens.{blank}
 use Rattle.cg_query.specs.Tree.{Tree, Question, Statement, asks, defines}
-use Rattle.cg_grammar.specs.Formats.{ReadsIn, IsColumnIn}
+use Rattle.cg_grammar.specs.Lines.{ReadsIn, IsColumnIn}
 use Rattle.cg_syntax.specs.Naming.{Bindings, IsClosedQuestion, expanded, first_unknown, uses_of, trees_of_question, question_expanded, question_asked, are_too_large}
 use Rattle.cg_syntax.specs.SessionLines.{lines_of, answered_from}
 use Rattle.cg_query.specs.declared.format.Format.{Format}

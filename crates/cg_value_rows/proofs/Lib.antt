@@ -1,3 +1,1 @@
-pub mod Drawing
-mod KeptGames
-pub mod Stacks
+mod Games

@@ -8,38 +8,31 @@
 //! most game 2, and whether game 2 is at most the number; `same:0:2` whether two are one game; `sides:2` the options
 //! of a game; `agree:40` in how many of so many rounds both ways to canonical forms agree. `p:3:0` gives a proof
 //! that game 3 is at least game 0, and `is:3:0:TEXT` tells whether the text is one.
-ghost use Rattle.std.specs.Prelude.{◌≤◌};
-ghost use Rattle.cg_nodes.specs.Games.{AreGames};
-ghost use Rattle.cg_canon.specs.Works.{work_state};
-
-use crate::pool::{
-    add_game, add_number, add_tower, at_most_each, charge_again, checked, compare_number, proof,
-    same, sides_of,
-};
+use crate::desk::Desk;
 use crate::stop::Stop;
-use crate::terms;
+use crate::terms::{halves, number, read};
 use crate::trees::agreements;
-use cg_canon::Work;
 use cg_cells::CellStore;
-use cg_nodes::{BoardForms, GameFacts, Handle};
+use cg_nodes::{BoardForms, GameFacts};
 use std::alloc::Global;
 
-/// The text in front of `+`, and the cost behind it, at most 8.
-fn extra_of(text: &str) -> (&str, u64)
-    ensures { result.1 ≤ 8 }
-{
+/// The text in front of `+`, and the cost behind it.
+fn extra_of(text: &str) -> (&str, u64) {
     match text.split_once('+') {
-        Some((front, extra)) => (front, extra.parse::<u64>().unwrap_or(0).min(8)),
+        Some((front, extra)) => (front, extra.parse::<u64>().unwrap_or(0)),
         None => (text, 0),
     }
 }
 
 /// The index that the text spells.
 fn index(text: &str) -> Result<usize, Stop> {
-    match text.parse::<usize>() {
-        Ok(index) => Ok(index),
-        Err(_) => Err(Stop::Unread),
-    }
+    read(text.parse::<usize>())
+}
+
+/// The two indices that the text spells.
+fn pair(text: &str) -> Result<(usize, usize), Stop> {
+    let (front, back) = halves(text, ':')?;
+    Ok((index(front)?, index(back)?))
 }
 
 /// The indices that the text spells, with commas between them.
@@ -53,245 +46,185 @@ fn indices(alloc: Global, text: &str) -> Result<Vec<usize>, Stop> {
     Ok(all)
 }
 
-/// The two parts of the text, which are divided by this sign.
-fn halves(text: &str, sign: char) -> Result<(&str, &str), Stop> {
-    match text.split_once(sign) {
-        Some(both) => Ok(both),
-        None => Err(Stop::Unread),
-    }
-}
-
-/// The index of the first handle that is this one.
-fn place(pool: &[Handle], handle: Handle) -> usize {
-    for (i, other) in pool.iter().enumerate() {
-        if *other == handle {
-            return i;
-        }
-    }
-    pool.len()
-}
-
-/// The indices of the handles.
-fn places(alloc: Global, pool: &[Handle], handles: &[Handle]) -> Result<String, Stop> {
-    let mut text = String::new(alloc);
-    for handle in handles {
-        let i = place(pool, *handle);
-        if !text.is_empty() {
+/// Adds the indices, with commas between them.
+fn put_indices(text: &mut String, indices: &[usize]) -> Result<(), Stop> {
+    for (i, index) in indices.iter().enumerate() {
+        if i > 0 {
             text.push(',')?;
         }
-        text.push_str(format!(in alloc; "{i}")?.as_str())?;
+        write!(text, "{index}")?;
     }
-    Ok(text)
+    Ok(())
 }
 
 /// A digit for each answer.
-fn digits(alloc: Global, answers: &[bool]) -> Result<String, Stop> {
-    let mut text = String::new(alloc);
-    for answer in answers {
-        text.push(if *answer { '1' } else { '0' })?;
-    }
-    Ok(text)
+fn digit(answer: bool) -> char {
+    if answer { '1' } else { '0' }
 }
 
 /// Makes an item of a number.
-fn number<B: BoardForms, S: CellStore<GameFacts<B>>>(
-    alloc: Global,
-    work: &mut Work<B, S>,
-    pool: &mut Vec<Handle>,
+fn number_made<B: BoardForms, S: CellStore<GameFacts<B>>>(
+    desk: &mut Desk<B, S>,
     text: &str,
-) -> Result<String, Stop>
-    requires { AreGames (work_state S.state work.old) pool.old.items }
-    ensures { AreGames (work_state S.state work.new) pool.new.items }
-{
+) -> Result<usize, Stop> {
     let (front, extra) = extra_of(text);
-    let handle = add_number(work, pool, terms::number(front).ok(), extra)?;
-    let i = place(pool, handle);
-    Ok(format!(in alloc; "{i}/{}", work.spent())?)
+    let made = desk.number(number(front), extra)?;
+    desk.first(made)
 }
 
 /// Makes an item of a canonical form.
-fn game<B: BoardForms, S: CellStore<GameFacts<B>>>(
+fn game_made<B: BoardForms, S: CellStore<GameFacts<B>>>(
     alloc: Global,
-    work: &mut Work<B, S>,
-    pool: &mut Vec<Handle>,
+    desk: &mut Desk<B, S>,
     text: &str,
-) -> Result<String, Stop>
-    requires { AreGames (work_state S.state work.old) pool.old.items }
-    ensures { AreGames (work_state S.state work.new) pool.new.items }
-{
+) -> Result<usize, Stop> {
     let (front, extra) = extra_of(text);
     let (left, right) = halves(front, '|')?;
     let lefts = indices(alloc, left)?;
     let rights = indices(alloc, right)?;
-    let handle = add_game(alloc, work, pool, &lefts, &rights, extra)?;
-    let i = place(pool, handle);
-    Ok(format!(in alloc; "{i}/{}", work.spent())?)
+    let made = desk.canonical(alloc, &lefts, &rights, extra)?;
+    desk.first(made)
 }
 
 /// Charges an item again.
-fn charge<B: BoardForms, S: CellStore<GameFacts<B>>>(
+fn charged<B: BoardForms, S: CellStore<GameFacts<B>>>(
     alloc: Global,
-    work: &mut Work<B, S>,
-    pool: &mut Vec<Handle>,
+    desk: &mut Desk<B, S>,
     text: &str,
-) -> Result<String, Stop>
-    requires { AreGames (work_state S.state work.old) pool.old.items }
-    ensures { AreGames (work_state S.state work.new) pool.new.items }
-{
+) -> Result<usize, Stop> {
     let (front, extra) = extra_of(text);
-    let i = index(front)?;
-    charge_again(alloc, work, pool, i, extra)?;
-    Ok(format!(in alloc; "{i}/{}", work.spent())?)
+    let game = index(front)?;
+    desk.charge(alloc, game, extra)?;
+    Ok(game)
 }
 
 /// Makes many games, each over the last.
 fn tower<B: BoardForms, S: CellStore<GameFacts<B>>>(
     alloc: Global,
-    work: &mut Work<B, S>,
-    pool: &mut Vec<Handle>,
+    desk: &mut Desk<B, S>,
     text: &str,
-) -> Result<String, Stop>
-    requires { AreGames (work_state S.state work.old) pool.old.items }
-    ensures { AreGames (work_state S.state work.new) pool.new.items }
-{
-    let count = text.parse::<u16>().unwrap_or(0);
-    add_tower(alloc, work, pool, count)?;
-    let i = pool.len().saturating_sub(1);
-    Ok(format!(in alloc; "{i}/{}", work.spent())?)
+) -> Result<usize, Stop> {
+    let mut last = desk.count().saturating_sub(1);
+    for _ in 0..read(text.parse::<u16>())? {
+        last = desk.canonical(alloc, &[0], &[last], 0)?;
+    }
+    Ok(last)
+}
+
+/// The game that a call makes or charges again, unless the call does neither.
+fn made<B: BoardForms, S: CellStore<GameFacts<B>>>(
+    alloc: Global,
+    desk: &mut Desk<B, S>,
+    name: &str,
+    text: &str,
+) -> Result<Option<usize>, Stop> {
+    match name {
+        "n" => Ok(Some(number_made(desk, text)?)),
+        "g" => Ok(Some(game_made(alloc, desk, text)?)),
+        "c" => Ok(Some(charged(alloc, desk, text)?)),
+        "tower" => Ok(Some(tower(alloc, desk, text)?)),
+        _ => Ok(None),
+    }
 }
 
 /// Tells which games one is at most.
 fn below<B: BoardForms, S: CellStore<GameFacts<B>>>(
     alloc: Global,
-    work: &mut Work<B, S>,
-    pool: &mut Vec<Handle>,
+    desk: &mut Desk<B, S>,
     text: &str,
-) -> Result<String, Stop>
-    requires { AreGames (work_state S.state work.old) pool.old.items }
-    ensures { AreGames (work_state S.state work.new) pool.new.items }
-{
-    let answers = at_most_each(alloc, work, pool, index(text)?, pool.len())?;
-    digits(alloc, &answers)
+) -> Result<String, Stop> {
+    let game = index(text)?;
+    let mut all = String::new(alloc);
+    for other in 0..desk.count() {
+        all.push(digit(desk.at_most(alloc, game, other)?))?;
+    }
+    Ok(all)
 }
 
 /// Compares a number with a game both ways.
 fn with_number<B: BoardForms, S: CellStore<GameFacts<B>>>(
     alloc: Global,
-    work: &mut Work<B, S>,
-    pool: &mut Vec<Handle>,
+    desk: &mut Desk<B, S>,
     text: &str,
-) -> Result<String, Stop>
-    requires { AreGames (work_state S.state work.old) pool.old.items }
-    ensures { AreGames (work_state S.state work.new) pool.new.items }
-{
+) -> Result<String, Stop> {
     let (front, back) = halves(text, ':')?;
-    let Ok(x) = terms::number(front) else {
+    let game = index(back)?;
+    let Some(x) = number(front) else {
         return Err(Stop::Unread);
     };
-    let (low, high) = compare_number(alloc, work, pool, x, index(back)?)?;
-    digits(alloc, &[low, high])
+    let low = digit(desk.above(alloc, x, game)?);
+    let high = digit(desk.below(alloc, game, x)?);
+    Ok(format!(in alloc; "{low}{high}")?)
 }
 
 /// Tells whether two are one game.
 fn one_game<B: BoardForms, S: CellStore<GameFacts<B>>>(
     alloc: Global,
-    work: &mut Work<B, S>,
-    pool: &mut Vec<Handle>,
+    desk: &Desk<B, S>,
     text: &str,
-) -> Result<String, Stop>
-    requires { AreGames (work_state S.state work.old) pool.old.items }
-    ensures { AreGames (work_state S.state work.new) pool.new.items }
-{
-    let (front, back) = halves(text, ':')?;
-    let answer = same(work, pool, index(front)?, index(back)?)?;
-    digits(alloc, &[answer])
+) -> Result<String, Stop> {
+    let (a, b) = pair(text)?;
+    let answer = digit(desk.same(a, b)?);
+    Ok(format!(in alloc; "{answer}")?)
 }
 
 /// Tells the options of a game.
 fn sides<B: BoardForms, S: CellStore<GameFacts<B>>>(
     alloc: Global,
-    work: &mut Work<B, S>,
-    pool: &mut Vec<Handle>,
+    desk: &mut Desk<B, S>,
     text: &str,
-) -> Result<String, Stop>
-    requires { AreGames (work_state S.state work.old) pool.old.items }
-    ensures { AreGames (work_state S.state work.new) pool.new.items }
-{
-    let both = sides_of(alloc, work, pool, index(text)?)?;
-    let lefts = places(alloc, pool, both.lefts.as_slice())?;
-    let rights = places(alloc, pool, both.rights.as_slice())?;
-    Ok(format!(in alloc; "{lefts}|{rights}")?)
-}
-
-/// Tells in how many rounds both ways agree.
-fn agree<B: BoardForms, S: CellStore<GameFacts<B>>>(
-    alloc: Global,
-    work: &mut Work<B, S>,
-    pool: &mut Vec<Handle>,
-    text: &str,
-) -> Result<String, Stop>
-    requires { AreGames (work_state S.state work.old) pool.old.items }
-    ensures { AreGames (work_state S.state work.new) pool.new.items }
-{
-    let rounds = text.parse::<u32>().unwrap_or(0);
-    let agreed = agreements(alloc, work, pool, rounds)?;
-    Ok(format!(in alloc; "{agreed}")?)
-}
-
-/// Asks for a proof.
-fn proved<B: BoardForms, S: CellStore<GameFacts<B>>>(
-    alloc: Global,
-    work: &mut Work<B, S>,
-    pool: &mut Vec<Handle>,
-    text: &str,
-) -> Result<String, Stop>
-    requires { AreGames (work_state S.state work.old) pool.old.items }
-    ensures { AreGames (work_state S.state work.new) pool.new.items }
-{
-    let (front, back) = halves(text, ':')?;
-    let answer = proof(alloc, work, pool, index(front)?, index(back)?)?;
-    Ok(answer)
+) -> Result<String, Stop> {
+    let both = desk.sides(alloc, index(text)?)?;
+    let mut text = String::new(alloc);
+    put_indices(&mut text, &both.lefts)?;
+    text.push('|')?;
+    put_indices(&mut text, &both.rights)?;
+    Ok(text)
 }
 
 /// Asks whether a text is a proof.
 fn accepted<B: BoardForms, S: CellStore<GameFacts<B>>>(
     alloc: Global,
-    work: &mut Work<B, S>,
-    pool: &mut Vec<Handle>,
+    desk: &mut Desk<B, S>,
     text: &str,
-) -> Result<String, Stop>
-    requires { AreGames (work_state S.state work.old) pool.old.items }
-    ensures { AreGames (work_state S.state work.new) pool.new.items }
-{
+) -> Result<String, Stop> {
     let (front, rest) = halves(text, ':')?;
     let (back, bytes) = halves(rest, ':')?;
-    let answer = checked(alloc, work, pool, index(front)?, index(back)?, bytes)?;
+    let answer = desk.check(alloc, index(front)?, index(back)?, bytes)?;
     Ok(String::from_str(alloc, if answer { "yes" } else { "no" })?)
+}
+
+/// Asks for a proof.
+fn proved<B: BoardForms, S: CellStore<GameFacts<B>>>(
+    alloc: Global,
+    desk: &mut Desk<B, S>,
+    text: &str,
+) -> Result<String, Stop> {
+    let (a, b) = pair(text)?;
+    desk.prove(alloc, a, b)
 }
 
 /// What the call answers that the word spells.
 pub(crate) fn call<B: BoardForms, S: CellStore<GameFacts<B>>>(
     alloc: Global,
-    work: &mut Work<B, S>,
-    pool: &mut Vec<Handle>,
+    desk: &mut Desk<B, S>,
     word: &str,
-) -> Result<String, Stop>
-    requires { AreGames (work_state S.state work.old) pool.old.items }
-    ensures { AreGames (work_state S.state work.new) pool.new.items }
-{
+) -> Result<String, Stop> {
     let (name, text) = halves(word, ':')?;
+    if let Some(made) = made(alloc, desk, name, text)? {
+        return Ok(format!(in alloc; "{made}/{}", desk.spent())?);
+    }
     match name {
-        "n" => number(alloc, work, pool, text),
-        "g" => game(alloc, work, pool, text),
-        "c" => charge(alloc, work, pool, text),
-        "tower" => tower(alloc, work, pool, text),
-        "below" => below(alloc, work, pool, text),
-        "num" => with_number(alloc, work, pool, text),
-        "same" => one_game(alloc, work, pool, text),
-        "sides" => sides(alloc, work, pool, text),
-        "agree" => agree(alloc, work, pool, text),
-        "p" => proved(alloc, work, pool, text),
-        "is" => accepted(alloc, work, pool, text),
+        "below" => below(alloc, desk, text),
+        "num" => with_number(alloc, desk, text),
+        "same" => one_game(alloc, desk, text),
+        "sides" => sides(alloc, desk, text),
+        "agree" => {
+            let rounds = read(text.parse::<u32>())?;
+            Ok(agreements(alloc, desk, rounds)?.to_string(alloc)?)
+        }
+        "p" => proved(alloc, desk, text),
+        "is" => accepted(alloc, desk, text),
         _ => Err(Stop::Unread),
     }
 }

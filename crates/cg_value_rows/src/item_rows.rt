@@ -1,11 +1,12 @@
 //! A row of items: its limits, its call, and what is printed for it.
+use crate::desk::Desk;
 use crate::items::made;
 use crate::stop::Stop;
+use crate::terms::read;
 use cg_canon::Work;
 use cg_cells::PlainStore;
-use cg_names::name;
 use cg_nodes::{GameFacts, NoBoards};
-use std::alloc::{AllocError, Global};
+use std::alloc::Global;
 
 type Store = PlainStore<GameFacts<NoBoards>>;
 
@@ -16,25 +17,20 @@ const CELLS: u64 = 4096;
 const DEPTH: u32 = 16;
 
 /// What is printed for the row.
-pub(crate) fn answered(alloc: Global, row: &str) -> Result<String, AllocError> {
+pub(crate) fn answered(alloc: Global, row: &str) -> Result<String, Stop> {
     let mut words = row.split_whitespace();
-    let share = words.next().unwrap_or("").parse::<u64>();
-    let positions = words.next().unwrap_or("").parse::<u64>();
-    let (Ok(share), Ok(positions)) = (share, positions) else {
-        return format!(in alloc; "? {row}");
-    };
-    let Ok(mut store) = Store::new(alloc, CELLS) else {
-        return Err(AllocError);
-    };
-    let mut work = Work::new(alloc, &mut store, share.min(CELLS), positions);
+    let share = read(words.next().unwrap_or("").parse::<u64>())?;
+    let positions = read(words.next().unwrap_or("").parse::<u64>())?;
+    let mut store = read(Store::new(alloc, CELLS))?;
+    let work = Work::new(alloc, &mut store, share.min(CELLS), positions);
+    let mut desk = Desk::new(alloc, work);
     let mut before = 0;
-    let answer = match made(alloc, &mut work, &mut words, &mut before, DEPTH) {
-        Ok(handle) => name(alloc, &mut work, handle)?,
+    let answer = match made(alloc, &mut desk, &mut words, &mut before, DEPTH) {
+        Ok(index) => desk.name(alloc, index)?,
         Err(Stop::Refused(fault)) => format!(in alloc; "! {fault:?}")?,
-        Err(Stop::Unread) => return format!(in alloc; "? {row}"),
-        Err(Stop::Long | Stop::Memory) => return Err(AllocError),
+        Err(fault) => return Err(fault),
     };
-    let all = work.spent();
+    let all = desk.spent();
     let last = all.saturating_sub(before);
-    format!(in alloc; "{answer}, {last} of {all}")
+    Ok(format!(in alloc; "{answer}, {last} of {all}")?)
 }

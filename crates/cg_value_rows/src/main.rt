@@ -13,11 +13,10 @@
 //! their own, with exact fractions and without handles.
 #![tactic(auto)]
 
-mod building;
 mod calls;
+mod desk;
 mod item_rows;
 mod items;
-mod pool;
 mod rows;
 mod stop;
 mod terms;
@@ -26,24 +25,24 @@ mod thermo_rows;
 mod trees;
 
 use std::alloc::Global;
+use stop::Stop;
 
 /// What a line is answered.
-fn answer(alloc: Global, line: &str) -> anyhow::Result<String> {
-    let Some((kind, row)) = line.split_once(' ') else {
-        anyhow::bail!("a row needs a kind");
-    };
-    match kind {
-        "forms" => Ok(rows::answered(alloc, row)?),
-        "items" => Ok(item_rows::answered(alloc, row)?),
-        _ => thermo_rows::answer(alloc, line),
+fn answer(alloc: Global, line: &str) -> Result<String, Stop> {
+    match terms::halves(line, ' ')? {
+        ("forms", row) => rows::answered(alloc, row),
+        ("items", row) => item_rows::answered(alloc, row),
+        _ => thermo_rows::answered(alloc, line),
     }
 }
 
 fn main(rt: HostRuntime) -> anyhow::Result<()> {
     for line in rt.lines(rt.alloc()) {
         let line = line?;
-        let text = answer(rt.alloc(), line.as_str())?;
-        println!(rt; "{} => {text}", line.as_str())?;
+        match answer(rt.alloc(), line.as_str()) {
+            Ok(text) => println!(rt; "{} => {text}", line.as_str())?,
+            Err(stop) => println!(rt; "{} => ? {stop:?}", line.as_str())?,
+        }
     }
     Ok(())
 }

@@ -1,12 +1,11 @@
 //! Canonical forms on handles against those of whole trees, by structure.
 ghost use Rattle.std.specs.Prelude.{◌≤◌};
 ghost use Rattle.cg_cells.specs.Store.{Spends};
-ghost use Rattle.cg_nodes.specs.Games.{AreGames, IsGame, IsList};
-ghost use Rattle.cg_canon.specs.Works.{work_state};
+ghost use Rattle.cg_nodes.specs.Games.{IsGame, IsList};
 
-use crate::pool::{add_game, item};
+use crate::desk::Desk;
 use crate::stop::Stop;
-use cg_canon::{ValueFault, Work};
+use cg_canon::ValueFault;
 use cg_cells::CellStore;
 use cg_form::{Form, Options, SlowFault, canonical_slow, compare_structure};
 use cg_nodes::{BoardForms, GameFacts, Handle, ListId, Reading, head, read};
@@ -36,7 +35,7 @@ fn trees_of<B: BoardForms, S: CellStore<GameFacts<B>>>(
 
 /// The tree of a handle's game, which is no deeper than `depth`.
 #[cycle(tree)]
-fn tree_of<B: BoardForms, S: CellStore<GameFacts<B>>>(
+pub(crate) fn tree_of<B: BoardForms, S: CellStore<GameFacts<B>>>(
     alloc: Global,
     store: &mut S,
     handle: Handle,
@@ -56,38 +55,6 @@ fn tree_of<B: BoardForms, S: CellStore<GameFacts<B>>>(
             Ok(Form::Node(Options::of(left_trees), Options::of(right_trees)))
         }
     }
-}
-
-/// The tree of the handle with this index.
-fn tree_at<B: BoardForms, S: CellStore<GameFacts<B>>>(
-    alloc: Global,
-    work: &mut Work<B, S>,
-    pool: &[Handle],
-    index: usize,
-) -> Result<Form, Stop>
-    requires { AreGames (work_state S.state work.old) pool.now }
-    ensures { AreGames (work_state S.state work.new) pool.now }
-{
-    let handle = item(pool, index)?;
-    tree_of(alloc, work, handle, 32)
-}
-
-/// The trees of the handles with these indices.
-fn trees_at<B: BoardForms, S: CellStore<GameFacts<B>>>(
-    alloc: Global,
-    work: &mut Work<B, S>,
-    pool: &[Handle],
-    indices: &[usize],
-) -> Result<Vec<Form>, Stop>
-    requires { AreGames (work_state S.state work.old) pool.now }
-    ensures { AreGames (work_state S.state work.new) pool.now }
-{
-    let mut all = Vec::new(alloc);
-    for index in indices {
-        let tree = tree_at(alloc, work, pool, *index)?;
-        all.push(tree)?;
-    }
-    Ok(all)
 }
 
 /// Numbers that look as if drawn, one after the other.
@@ -119,51 +86,57 @@ impl Draws {
     }
 }
 
+/// The trees of games.
+fn trees_at<B: BoardForms, S: CellStore<GameFacts<B>>>(
+    alloc: Global,
+    desk: &mut Desk<B, S>,
+    indices: &[usize],
+) -> Result<Vec<Form>, Stop> {
+    let mut all = Vec::new(alloc);
+    for index in indices {
+        let tree = desk.tree(alloc, *index)?;
+        all.push(tree)?;
+    }
+    Ok(all)
+}
+
 /// Whether both ways find the same canonical form of the game with these options, or both refuse it as out of range.
 fn agrees<B: BoardForms, S: CellStore<GameFacts<B>>>(
     alloc: Global,
-    work: &mut Work<B, S>,
-    pool: &mut Vec<Handle>,
+    desk: &mut Desk<B, S>,
     lefts: &[usize],
     rights: &[usize],
-) -> Result<bool, Stop>
-    requires { AreGames (work_state S.state work.old) pool.old.items }
-    ensures { AreGames (work_state S.state work.new) pool.new.items }
-{
-    let left_trees = trees_at(alloc, work, pool, lefts)?;
-    let right_trees = trees_at(alloc, work, pool, rights)?;
+) -> Result<bool, Stop> {
+    let left_trees = trees_at(alloc, desk, lefts)?;
+    let right_trees = trees_at(alloc, desk, rights)?;
     let whole = Form::Node(Options::of(left_trees), Options::of(right_trees));
     let slow = canonical_slow(alloc, &whole);
-    match add_game(alloc, work, pool, lefts, rights, 0) {
-        Ok(_) => {
-            let last = pool.len().saturating_sub(1);
-            let fast = tree_at(alloc, work, pool, last)?;
-            let Ok(wanted) = slow else {
-                return Ok(false);
-            };
-            Ok(compare_structure(&fast, &wanted) == Ordering::Equal)
+    match desk.canonical(alloc, lefts, rights, 0) {
+        Ok(made) => {
+            let fast = desk.tree(alloc, made)?;
+            match slow {
+                Ok(wanted) => Ok(compare_structure(&fast, &wanted) == Ordering::Equal),
+                Err(_) => Ok(false),
+            }
         }
-        Err(fault) => Ok(fault == ValueFault::Range && slow.err() == Some(SlowFault::Range)),
+        Err(Stop::Refused(ValueFault::Range)) => Ok(slow.err() == Some(SlowFault::Range)),
+        Err(_) => Ok(false),
     }
 }
 
 /// In how many of the rounds both ways agree; the games of the first rounds are the options of later ones.
 pub(crate) fn agreements<B: BoardForms, S: CellStore<GameFacts<B>>>(
     alloc: Global,
-    work: &mut Work<B, S>,
-    pool: &mut Vec<Handle>,
+    desk: &mut Desk<B, S>,
     rounds: u32,
-) -> Result<u32, Stop>
-    requires { AreGames (work_state S.state work.old) pool.old.items }
-    ensures { AreGames (work_state S.state work.new) pool.new.items }
-{
+) -> Result<u32, Stop> {
     let mut draws = Draws { state: 2013 };
     let mut agreed = 0u32;
     for _ in 0..rounds {
-        let bound = pool.len().min(40);
+        let bound = desk.count().min(40);
         let lefts = draws.indices(alloc, bound)?;
         let rights = draws.indices(alloc, bound)?;
-        if agrees(alloc, work, pool, &lefts, &rights)? {
+        if agrees(alloc, desk, &lefts, &rights)? {
             agreed = agreed.saturating_add(1);
         }
     }

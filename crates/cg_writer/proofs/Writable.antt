@@ -11,6 +11,7 @@ use Rattle.cg_query.specs.Tree.{Question, Tree, compare, mean, outcome, proof, s
 use Rattle.cg_grammar.specs.Values.{Last, run_side}
 use Rattle.cg_query.specs.declared.format.Format.TheVariants as formats
 use Rattle.cg_grammar.specs.Written.{AreWritable, IsAskable, IsWritable}
+use Rattle.cg_grammar.proofs.Whole.{as_asked}
 use Rattle.cg_writer.proofs.WritableTerms.{W, found_at, printable_is, switch_writable, enclosed_of, tiny_writable, board_writable, octal_writable, AllW, expr_writable}
 
 -- ---- braces
@@ -217,6 +218,7 @@ query_writable i a text (inr (inr m)) =
 
 -- what a line reads as can be written
 pub line_writable : (text : List ℕ) (q : Question) → Reads text q → IsAskable q
-line_writable text q m =
+line_writable text q reads =
+    let m = as_asked text q reads in
     let n = m.is.second in
     asked_at (record { question = q; fault = None }) _ (m.same ∙ n.same) (query_writable _ n.made_of.0 _ n.is.first)

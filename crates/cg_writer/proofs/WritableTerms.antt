@@ -16,7 +16,7 @@ use Rattle.cg_query.specs.declared.kind.GameKind.TheVariants.{Domineering, Clobb
 
 digits_low : (i n : ℕ) (text : List ℕ) → digits i n text → n < 10 ^ 30
 digits_low i n text m =
-    let low : digits_value 10 m.made_of < 10 ^ 30 = digits_below 30 0 m.made_of m.is.within m.is.few (omega arith) in
+    let low : digits_value 10 m.made_of < 10 ^ 30 = digits_below 30 m.made_of m.is.within m.is.few in
     let P : ℕ → Type 0 = λ k. k < 10 ^ 30 in
     subst P (sym m.same) low
 

@@ -17,23 +17,27 @@ use Rattle.cg_writer.proofs.WrittenTrees.{text_reads}
 pub line_is : (q : Question) (text : List ℕ)
     → ((i : ℕ) → grammar.query (grammar.expr (grammar.special formats.One 64)) i (record { question = q; fault = None }) text) → Reads text q
 line_is q text m = record {
-  made_of = ([], record { question = q; fault = None });
+  made_of = record { question = q; fault = None };
   is = record {
-    before = [];
-    behind = text;
-    first = record { within = refl; spelled = refl };
-    second = record {
-      made_of = (record { question = q; fault = None }, []);
-      is = record {
-        before = text;
-        behind = [];
-        first = m (1 + 0);
-        second = record { within = refl; spelled = refl };
-        spelled = sym (append-nil text);
+    made_of = ([], record { question = q; fault = None });
+    is = record {
+      before = [];
+      behind = text;
+      first = record { within = refl; spelled = refl };
+      second = record {
+        made_of = (record { question = q; fault = None }, []);
+        is = record {
+          before = text;
+          behind = [];
+          first = m (1 + 0);
+          second = record { within = refl; spelled = refl };
+          spelled = sym (append-nil text);
+        };
+        same = refl;
       };
-      same = refl;
+      spelled = refl;
     };
-    spelled = refl;
+    same = refl;
   };
   same = refl;
 }

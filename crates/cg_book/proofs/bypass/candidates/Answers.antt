@@ -1,6 +1,5 @@
-use Rattle.std.proofs.Common.{List, ap, cond, refl, subst, sym}
-use Rattle.cg_book.specs.declared.candidate.Candidate.{Candidate}
-use Rattle.cg_book.specs.Candidates.{AreCandidates, pages_of}
+use Rattle.std.proofs.Common.{ap, cond, refl}
+use Rattle.cg_book.specs.Candidates.{pages_of}
 use Rattle.cg_book.specs.Wholes.{whole_game}
 use Rattle.cg_book.proofs.Bypassing.{bypassed_more, no_items, no_substitutes, own_less, whole_pages}
 use Rattle.cg_book.proofs.Slices.{page_of_item}
@@ -39,8 +38,6 @@ loop-own-preserved c = record {
 
 pub returns-clause-candidates : goal.returns-clause-candidates
 returns-clause-candidates c =
-    let P : List Candidate → Type 0 = λ z. AreCandidates c.args.pages.now z in
     let out = c.loop-own.invariant.out in
-    subst P (sym c.into_items.ensures)
-    (own_candidates c.args.pages.now (λ _. cond c.args.left c.args.whole.now.lefts.now c.args.whole.now.rights.now) c.loop-own.all.items.items
-    (λ _. c.requires.whole.apart c.args.left) (record { pages = out.pages; own = out.own }))
+    own_candidates c.args.pages.now (λ _. cond c.args.left c.args.whole.now.lefts.now c.args.whole.now.rights.now) c.loop-own.all.items.items
+    (λ _. c.requires.whole.apart c.args.left) (record { pages = out.pages; own = out.own })

@@ -1,4 +1,4 @@
-use Rattle.std.proofs.Common.{◌≡◌, rules, ap, sym, ◌∙◌, subst, refl, ◌+◌, arith, take, None, List, [], ◌∷◌, ◌++◌, ℕ, Bool, Ok, Err}
+use Rattle.std.proofs.Common.{◌≡◌, rules, ap, sym, ◌∙◌, subst, refl, ◌+◌, arith, take, List, [], ◌∷◌, ◌++◌, ℕ, Bool, Ok, Err}
 use Rattle.std.proofs.lemmas.Result.{err_from_is_err_and}
 use Rattle.cg_canon.specs.Works.{work_state}
 use Rattle.cg_canon.specs.declared.fault.ValueFault.TheVariants.{Memory}
@@ -11,8 +11,10 @@ use Rattle.cg_query.proofs.TreeOf.{number_tree, ups_tree_of, nimber_tree, switch
 use Rattle.cg_query.proofs.TreeOf.{game_tree, octal_tree, term_tree, used_tree}
 use Rattle.cg_names.specs.Meaning.{signed}
 use Rattle.cg_eval.specs.Meaning.{meaning, total_with}
-use Rattle.cg_eval.specs.Progress.{Evaluates, Gives}
-use Rattle.cg_eval.specs.Items.{all_items, further_items, items, signed_items, term_part}
+use Rattle.cg_eval.specs.Faults.{fault_in, fault_in_terms}
+use Rattle.cg_eval.specs.Progress.{Evaluates, EvaluatesAll, Finds}
+use Rattle.cg_eval.specs.declared.fault.NoValue.TheVariants.{Refused}
+use Rattle.cg_eval.specs.Items.{all_items, further_items, items, term_part}
 use Rattle.cg_canon.specs.SumItems.{sum_items}
 use Rattle.cg_sum.specs.Lists.{negative_items, multiple_items}
 use Rattle.cg_form.specs.Game.{node}
@@ -24,13 +26,13 @@ use Rattle.cg_nodes.proofs.Later.{are_games_later, is_game_later, stands_is_game
 use Rattle.cg_canon.specs.Items.{made}
 use Rattle.std.proofs.lemmas.List.{nil_from_length}
 use Rattle.cg_query.specs.declared.expr.Term.{Term}
-use Rattle.cg_eval.proofs.BoardParts.{board_gives, heap_gives}
+use Rattle.cg_eval.proofs.BoardParts.{board_finds, heap_finds}
 use Rattle.cg_query.proofs.Walk.{size, size_of_braces, size_of_negative, size_of_multiple, size_of_sum, size_of_item, size_of_term}
 use Rattle.cg_eval.proofs.ListSteps.{adds, all_made-all, all_made-none, all_made-step, all_stopped, added-all, added-none, added-step, added-stopped}
-use Rattle.cg_eval.proofs.ListSteps.{first_and_rest, first_size, first_term_stopped, gives_all-err, no_terms_give, sum_of_terms}
+use Rattle.cg_eval.proofs.ListSteps.{first_and_rest, first_size, first_term_stopped, no_terms_find, sum_of_terms}
 use Rattle.cg_eval.proofs.Expressions.{added_gives, braces_gives, left_stopped, multiple_gives, multiple_stopped, negative_gives, negative_stopped}
-use Rattle.cg_eval.proofs.Expressions.{right_stopped, stopped_part, subtracted_gives, sum_gives, used_gives}
-use Rattle.cg_eval.proofs.Steps.{gives_from, gives_stop, stops_memory}
+use Rattle.cg_eval.proofs.Expressions.{right_stopped, signed_stopped, subtracted_gives, sum_gives, used_gives}
+use Rattle.cg_eval.proofs.Steps.{gives_from, lacks_front, passed_on, stops_memory}
 use Rattle.cg_eval.proofs.evaluate.+evaluate.Goals as goal
 
 -- ---- evaluate
@@ -64,7 +66,7 @@ evaluate-returns-in-Game g t c =
     let tree = ap tree_of c.in-Game.is ∙ game_tree c.in-Game.kind c.in-Game.rules c.in-Game.board in
     let P : Tree → Type 0 = λ u. Evaluates (work_state g.S.CellStore.state c.args.work.now)
     (work_state g.S.CellStore.state c.board_value.new.work) u c.board_value.result in
-    subst P (sym tree) (board_gives (work_state g.S.CellStore.state c.args.work.now)
+    subst P (sym tree) (board_finds (work_state g.S.CellStore.state c.args.work.now)
     (work_state g.S.CellStore.state c.board_value.new.work) c.in-Game.kind c.in-Game.rules c.in-Game.board
     c.board_value.result c.board_value.ensures)
 
@@ -73,7 +75,7 @@ evaluate-returns-in-Octal g t c =
     let tree = ap tree_of c.in-Octal.is ∙ octal_tree c.in-Octal.code c.in-Octal.heap in
     let P : Tree → Type 0 = λ u. Evaluates (work_state g.S.CellStore.state c.args.work.now)
     (work_state g.S.CellStore.state c.heap_value.new.work) u c.heap_value.result in
-    subst P (sym tree) (heap_gives (work_state g.S.CellStore.state c.args.work.now)
+    subst P (sym tree) (heap_finds (work_state g.S.CellStore.state c.args.work.now)
     (work_state g.S.CellStore.state c.heap_value.new.work) c.in-Octal.code c.in-Octal.heap c.heap_value.result
     c.heap_value.ensures)
 
@@ -174,9 +176,9 @@ evaluate_all-loop-expr-preserved g t c =
 pub evaluate_all-returns-in_err-handle : goal.evaluate_all-returns-in_err-handle
 evaluate_all-returns-in_err-handle g t c =
     let p = err_from_is_err_and c.from_residual.result c.from_residual.ensures.1 in
-    gives_all-err (work_state g.S.CellStore.state c.args.work.now)
-    (work_state g.S.CellStore.state c.evaluate.new.work) (trees_from
-    (trees_in c.args.exprs.now)) c.from_residual.result p.0 c.in_err-handle.field-0.0 p.1 p.2
+    passed_on (EvaluatesAll (work_state g.S.CellStore.state c.args.work.now)
+    (work_state g.S.CellStore.state c.evaluate.new.work) (trees_from (trees_in c.args.exprs.now))) c.from_residual.result p.0
+    c.in_err-handle.field-0.0 p.1 p.2
     (all_stopped (work_state g.S.CellStore.state c.args.work.now) (work_state g.S.CellStore.state c.loop-expr.work)
     (work_state g.S.CellStore.state c.evaluate.new.work) c.as_slice-expr-items.result.now
     (trees_in c.args.exprs.now) c.loop-expr.expr-index c.expr-item.result c.loop-expr.handles.items
@@ -192,9 +194,9 @@ evaluate_all-returns-in_err-push g t c =
     (work_state g.S.CellStore.state c.evaluate.new.work) c.as_slice-expr-items.result.now c.loop-expr.expr-index
     c.expr-item.result c.loop-expr.handles.items hs c.in_ok-handle.handle
     c.loop-expr-test.true c.expr-item.is c.loop-expr.invariant c.in_ok-handle.ensures refl in
-    gives_all-err (work_state g.S.CellStore.state c.args.work.now)
-    (work_state g.S.CellStore.state c.evaluate.new.work) (trees_from
-    (trees_in c.args.exprs.now)) c.from_residual-in_err-push.result p.0 Memory p.1 p.2 (stops_memory
+    passed_on (EvaluatesAll (work_state g.S.CellStore.state c.args.work.now)
+    (work_state g.S.CellStore.state c.evaluate.new.work) (trees_from (trees_in c.args.exprs.now)))
+    c.from_residual-in_err-push.result p.0 (Refused Memory) p.1 p.2 (stops_memory
     (work_state g.S.CellStore.state c.args.work.now) (work_state g.S.CellStore.state c.evaluate.new.work)
     (all_items (work_state g.S.CellStore.state c.args.work.now).rest.limit (trees_from (trees_of (take
     (c.loop-expr.expr-index + 1) c.as_slice-expr-items.result.now)))) (all_items
@@ -218,29 +220,35 @@ braces-canonical-requires g t c =
       extra = omega arith;
       lefts = subst A (sym c.deref.ensures.value) (are_games_later
           (work_state g.S.CellStore.state c.evaluate_all.new.work)
-          (work_state g.S.CellStore.state c.evaluate_all-2.new.work) r.1.keeps.known
-          c.in_ok-left_handles.left_handles.items l.0.0);
-      rights = subst A (sym c.deref-2.ensures.value) r.0.0;
+          (work_state g.S.CellStore.state c.evaluate_all-2.new.work) r.1.1.keeps.known
+          c.in_ok-left_handles.left_handles.items l.1.0.0);
+      rights = subst A (sym c.deref-2.ensures.value) r.1.0.0;
     }
 
 pub braces-returns-in_err-left_handles : goal.braces-returns-in_err-left_handles
 braces-returns-in_err-left_handles g t c =
     let p = err_from_is_err_and c.from_residual.result c.from_residual.ensures.1 in
-    left_stopped (work_state g.S.CellStore.state c.args.work.now)
-    (work_state g.S.CellStore.state c.evaluate_all.new.work) (trees_from (trees_in c.args.lefts.now))
-    (trees_from (trees_in c.args.rights.now)) c.from_residual.result p.0 c.in_err-left_handles.field-0.0 p.1 p.2
-    c.in_err-left_handles.ensures
+    let ls = trees_from (trees_in c.args.lefts.now) in
+    let rs = trees_from (trees_in c.args.rights.now) in
+    let s = work_state g.S.CellStore.state c.args.work.now in
+    let t1 = work_state g.S.CellStore.state c.evaluate_all.new.work in
+    passed_on (Evaluates s t1 (trees.braces (trees_in c.args.lefts.now) (trees_in c.args.rights.now)))
+    c.from_residual.result p.0 c.in_err-left_handles.field-0.0 p.1 p.2
+    (left_stopped s t1 ls rs c.in_err-left_handles.field-0.0 c.in_err-left_handles.ensures)
 
 pub braces-returns-in_err-right_handles : goal.braces-returns-in_err-right_handles
 braces-returns-in_err-right_handles g t c =
     let p = err_from_is_err_and c.from_residual-in_err-right_handles.result
     c.from_residual-in_err-right_handles.ensures.1 in
     let l = c.in_ok-left_handles.ensures in
-    right_stopped (work_state g.S.CellStore.state c.args.work.now)
-    (work_state g.S.CellStore.state c.evaluate_all.new.work)
-    (work_state g.S.CellStore.state c.evaluate_all-2.new.work) (trees_from (trees_in c.args.lefts.now))
-    (trees_from (trees_in c.args.rights.now)) c.from_residual-in_err-right_handles.result p.0
-    c.in_err-right_handles.field-0.0 p.1 p.2 l.1 c.in_err-right_handles.ensures
+    let ls = trees_from (trees_in c.args.lefts.now) in
+    let rs = trees_from (trees_in c.args.rights.now) in
+    let s = work_state g.S.CellStore.state c.args.work.now in
+    let t1 = work_state g.S.CellStore.state c.evaluate_all.new.work in
+    let t2 = work_state g.S.CellStore.state c.evaluate_all-2.new.work in
+    passed_on (Evaluates s t2 (trees.braces (trees_in c.args.lefts.now) (trees_in c.args.rights.now)))
+    c.from_residual-in_err-right_handles.result p.0 c.in_err-right_handles.field-0.0 p.1 p.2
+    (right_stopped s t1 t2 ls rs c.in_err-right_handles.field-0.0 l.0 l.1.1 c.in_err-right_handles.ensures)
 
 pub braces-returns : goal.braces-returns
 braces-returns g t c =
@@ -258,7 +266,7 @@ braces-returns g t c =
     (work_state g.S.CellStore.state c.evaluate_all-2.new.work)
     (work_state g.S.CellStore.state c.canonical.new.work) (trees_from (trees_in c.args.lefts.now)) (trees_from
     (trees_in c.args.rights.now)) c.in_ok-left_handles.left_handles.items hs
-    c.in_ok-right_handles.right_handles.items ks c.canonical.result
+    c.in_ok-right_handles.right_handles.items ks c.canonical.result c.widen.result c.widen.ensures
     c.in_ok-left_handles.ensures c.in_ok-right_handles.ensures c.deref.ensures.value c.deref-2.ensures.value step
 
 -- ---- minus and times
@@ -266,14 +274,15 @@ braces-returns g t c =
 pub minus-negative-requires : goal.minus-negative-requires
 minus-negative-requires g t c =
     stands_is_game (work_state g.S.CellStore.state c.evaluate.new.work) c.in_ok-value.value (can (meaning
-    (tree_of c.args.expr.now))) c.in_ok-value.ensures.0
+    (tree_of c.args.expr.now))) c.in_ok-value.ensures.1.0
 
 pub minus-returns-in_err-value : goal.minus-returns-in_err-value
 minus-returns-in_err-value g t c =
     let p = err_from_is_err_and c.from_residual.result c.from_residual.ensures.1 in
-    negative_stopped (work_state g.S.CellStore.state c.args.work.now)
-    (work_state g.S.CellStore.state c.evaluate.new.work)
-    (tree_of c.args.expr.now) c.from_residual.result p.0 c.in_err-value.field-0.0 p.1 p.2 c.in_err-value.ensures
+    let s = work_state g.S.CellStore.state c.args.work.now in
+    let t1 = work_state g.S.CellStore.state c.evaluate.new.work in
+    passed_on (Evaluates s t1 (trees.negative (tree_of c.args.expr.now))) c.from_residual.result p.0 c.in_err-value.field-0.0
+    p.1 p.2 (negative_stopped s t1 (tree_of c.args.expr.now) c.in_err-value.field-0.0 c.in_err-value.ensures)
 
 pub minus-returns : goal.minus-returns
 minus-returns g t c =
@@ -286,19 +295,20 @@ minus-returns g t c =
     c.negative.ensures.keeps in
     negative_gives (work_state g.S.CellStore.state c.args.work.now)
     (work_state g.S.CellStore.state c.evaluate.new.work) (work_state g.S.CellStore.state c.negative.new.work)
-    (tree_of c.args.expr.now) c.in_ok-value.value c.negative.result c.in_ok-value.ensures step
+    (tree_of c.args.expr.now) c.in_ok-value.value c.negative.result c.widen.result c.widen.ensures c.in_ok-value.ensures step
 
 pub times-multiple-requires : goal.times-multiple-requires
 times-multiple-requires g t c =
     stands_is_game (work_state g.S.CellStore.state c.evaluate.new.work) c.in_ok-value.value (can (meaning
-    (tree_of c.args.expr.now))) c.in_ok-value.ensures.0
+    (tree_of c.args.expr.now))) c.in_ok-value.ensures.1.0
 
 pub times-returns-in_err-value : goal.times-returns-in_err-value
 times-returns-in_err-value g t c =
     let p = err_from_is_err_and c.from_residual.result c.from_residual.ensures.1 in
-    multiple_stopped (work_state g.S.CellStore.state c.args.work.now)
-    (work_state g.S.CellStore.state c.evaluate.new.work) c.args.count
-    (tree_of c.args.expr.now) c.from_residual.result p.0 c.in_err-value.field-0.0 p.1 p.2 c.in_err-value.ensures
+    let s = work_state g.S.CellStore.state c.args.work.now in
+    let t1 = work_state g.S.CellStore.state c.evaluate.new.work in
+    passed_on (Evaluates s t1 (trees.multiple c.args.count (tree_of c.args.expr.now))) c.from_residual.result p.0 c.in_err-value.field-0.0
+    p.1 p.2 (multiple_stopped s t1 c.args.count (tree_of c.args.expr.now) c.in_err-value.field-0.0 c.in_err-value.ensures)
 
 pub times-returns : goal.times-returns
 times-returns g t c =
@@ -312,7 +322,7 @@ times-returns g t c =
     multiple_gives (work_state g.S.CellStore.state c.args.work.now)
     (work_state g.S.CellStore.state c.evaluate.new.work)
     (work_state g.S.CellStore.state c.multiple.new.work) c.args.count
-    (tree_of c.args.expr.now) c.in_ok-value.value c.multiple.result c.in_ok-value.ensures step
+    (tree_of c.args.expr.now) c.in_ok-value.value c.multiple.result c.widen.result c.widen.ensures c.in_ok-value.ensures step
 
 -- ---- total
 
@@ -334,7 +344,7 @@ total-further-requires g t c =
     (terms_of c.in-Some.others.now) split in
     let k = stands_is_game (work_state g.S.CellStore.state c.signed.new.work) c.in_ok-start-in-Some.start (can
     (signed c.in-Some.first.now.minus (meaning
-    (tree_of c.in-Some.first.now.expr)))) c.in_ok-start-in-Some.ensures.0 in
+    (tree_of c.in-Some.first.now.expr)))) c.in_ok-start-in-Some.ensures.1.0 in
     search rules
 
 pub total-returns-in_err-start-in-Some : goal.total-returns-in_err-start-in-Some
@@ -343,16 +353,17 @@ total-returns-in_err-start-in-Some g t c =
     (terms_in c.args.terms.now) c.in-Some.first.now c.in-Some.others.now c.as_slice.ensures
     c.in-Some.ensures.cases.0 in
     let p = err_from_is_err_and c.from_residual.result c.from_residual.ensures.1 in
-    let P : List (Bool × Tree) → Type 0 = λ z. Evaluates (work_state g.S.CellStore.state c.args.work.now)
-    (work_state g.S.CellStore.state c.signed.new.work) (trees.sum (terms_from z)) c.from_residual.result in
-    subst P (sym split) (first_term_stopped (work_state g.S.CellStore.state c.args.work.now)
-    (work_state g.S.CellStore.state c.signed.new.work) (terms_of c.in-Some.others.now) c.in-Some.first.now.minus
-    (tree_of c.in-Some.first.now.expr) c.from_residual.result p.0 c.in_err-start-in-Some.field-0.0 p.1 p.2
-    c.in_err-start-in-Some.ensures)
+    let s = work_state g.S.CellStore.state c.args.work.now in
+    let t1 = work_state g.S.CellStore.state c.signed.new.work in
+    let P : List (Bool × Tree) → Type 0 = λ z. Evaluates s t1 (trees.sum (terms_from z)) (Err c.in_err-start-in-Some.field-0.0) in
+    passed_on (Evaluates s t1 (trees.sum (terms_from (terms_in c.args.terms.now)))) c.from_residual.result p.0
+    c.in_err-start-in-Some.field-0.0 p.1 p.2 (subst P (sym split) (first_term_stopped s t1 (terms_of c.in-Some.others.now)
+    c.in-Some.first.now.minus (tree_of c.in-Some.first.now.expr) c.in_err-start-in-Some.field-0.0
+    c.in_err-start-in-Some.ensures))
 
 pub total-returns-in-None : goal.total-returns-in-None
 total-returns-in-None g t c =
-    no_terms_give (work_state g.S.CellStore.state c.args.work.now)
+    no_terms_find (work_state g.S.CellStore.state c.args.work.now)
     (work_state g.S.CellStore.state c.nothing.new.work)
     (terms_in c.args.terms.now) c.nothing.result (sym c.as_slice.ensures ∙ ap (λ
     (z : List Term). terms_of z) (nil_from_length c.as_slice.result.now c.in-None.ensures.cases)) c.nothing.ensures
@@ -393,7 +404,7 @@ further-loop-term-preserved g t c =
     c.args.start c.loop-term.so_far c.in_ok-so_far.so_far c.loop-term-test.true c.term-item.is
     (stands_is_game (work_state g.S.CellStore.state c.added.new.work) c.in_ok-so_far.so_far (can (plus (game_at
     (work_state g.S.CellStore.state c.loop-term.work) c.loop-term.so_far) (signed c.term-item.result.minus
-    (meaning (tree_of c.term-item.result.expr))))) e.0) c.loop-term.invariant
+    (meaning (tree_of c.term-item.result.expr))))) e.1.0) e.0 c.loop-term.invariant
     (adds (work_state g.S.CellStore.state c.loop-term.work)
     (work_state g.S.CellStore.state c.added.new.work) c.loop-term.so_far c.term-item.result.minus
     (tree_of c.term-item.result.expr) (Ok c.in_ok-so_far.so_far) e)
@@ -401,18 +412,16 @@ further-loop-term-preserved g t c =
 pub further-returns-in_err-so_far : goal.further-returns-in_err-so_far
 further-returns-in_err-so_far g t c =
     let p = err_from_is_err_and c.from_residual.result c.from_residual.ensures.1 in
-    λ game stands. gives_stop (work_state g.S.CellStore.state c.args.work.now)
-    (work_state g.S.CellStore.state c.added.new.work) (further_items
-    (work_state g.S.CellStore.state c.args.work.now).rest.limit game (terms_from (terms_of c.args.terms.now)))
-    (total_with game (terms_from (terms_of c.args.terms.now))) c.from_residual.result p.0
-    c.in_err-so_far.field-0.0 p.1 p.2
-    (added-stopped (work_state g.S.CellStore.state c.args.work.now)
-    (work_state g.S.CellStore.state c.loop-term.work)
-    (work_state g.S.CellStore.state c.added.new.work) c.args.terms.now c.loop-term.term-index c.term-item.result
-    c.args.start c.loop-term.so_far c.in_err-so_far.field-0.0 c.loop-term-test.true c.term-item.is
-    c.loop-term.invariant (adds (work_state g.S.CellStore.state c.loop-term.work)
-    (work_state g.S.CellStore.state c.added.new.work) c.loop-term.so_far c.term-item.result.minus
-    (tree_of c.term-item.result.expr) (Err c.in_err-so_far.field-0.0) c.in_err-so_far.ensures) game stands)
+    let s = work_state g.S.CellStore.state c.args.work.now in
+    let t1 = work_state g.S.CellStore.state c.loop-term.work in
+    let t2 = work_state g.S.CellStore.state c.added.new.work in
+    let ts = terms_from (terms_of c.args.terms.now) in
+    λ game stands. passed_on (Finds s t2 (fault_in_terms ts) (further_items s.rest.limit game ts) (total_with game ts))
+    c.from_residual.result p.0 c.in_err-so_far.field-0.0 p.1 p.2
+    (added-stopped s t1 t2 c.args.terms.now c.loop-term.term-index c.term-item.result c.args.start c.loop-term.so_far
+    c.in_err-so_far.field-0.0 c.loop-term-test.true c.term-item.is c.loop-term.invariant
+    (adds t1 t2 c.loop-term.so_far c.term-item.result.minus (tree_of c.term-item.result.expr)
+    (Err c.in_err-so_far.field-0.0) c.in_err-so_far.ensures) game stands)
 
 pub further-returns : goal.further-returns
 further-returns g t c =
@@ -425,17 +434,17 @@ further-returns g t c =
 pub signed-negative-requires : goal.signed-negative-requires
 signed-negative-requires g t c =
     stands_is_game (work_state g.S.CellStore.state c.evaluate.new.work) c.in_ok-value.value (can (meaning
-    (tree_of c.args.expr.now))) c.in_ok-value.ensures.0
+    (tree_of c.args.expr.now))) c.in_ok-value.ensures.1.0
 
 pub signed-returns-in_err-value : goal.signed-returns-in_err-value
 signed-returns-in_err-value g t c =
     let p = err_from_is_err_and c.from_residual.result c.from_residual.ensures.1 in
-    stopped_part (work_state g.S.CellStore.state c.args.work.now)
-    (work_state g.S.CellStore.state c.evaluate.new.work) (signed c.args.subtracted (meaning
-    (tree_of c.args.expr.now))) c.from_residual.result p.0 c.in_err-value.field-0.0
-    (items (work_state g.S.CellStore.state c.args.work.now).rest.limit (tree_of c.args.expr.now)) (signed_items
-    (work_state g.S.CellStore.state c.args.work.now).rest.limit c.args.subtracted (can (meaning
-    (tree_of c.args.expr.now)))) p.1 p.2 c.in_err-value.ensures
+    let s = work_state g.S.CellStore.state c.args.work.now in
+    let t1 = work_state g.S.CellStore.state c.evaluate.new.work in
+    let e = tree_of c.args.expr.now in
+    passed_on (Finds s t1 (fault_in e) (term_part s.rest.limit c.args.subtracted e) (signed c.args.subtracted (meaning e)))
+    c.from_residual.result p.0 c.in_err-value.field-0.0 p.1 p.2
+    (signed_stopped s t1 c.args.subtracted e c.in_err-value.field-0.0 c.in_err-value.ensures)
 
 pub signed-returns-then-subtracted : goal.signed-returns-then-subtracted
 signed-returns-then-subtracted g t c =
@@ -446,18 +455,19 @@ signed-returns-then-subtracted g t c =
     (minus g0) c.negative.result refl
     c.negative.ensures.game c.negative.ensures.charged c.negative.ensures.refused c.negative.ensures.spare
     c.negative.ensures.keeps in
-    let P : Bool → Type 0 = λ b. Gives (work_state g.S.CellStore.state c.args.work.now)
-    (work_state g.S.CellStore.state c.negative.new.work) (term_part
+    let P : Bool → Type 0 = λ b. Finds (work_state g.S.CellStore.state c.args.work.now)
+    (work_state g.S.CellStore.state c.negative.new.work) (fault_in (tree_of c.args.expr.now)) (term_part
     (work_state g.S.CellStore.state c.args.work.now).rest.limit b (tree_of c.args.expr.now)) (signed b (meaning
-    (tree_of c.args.expr.now))) c.negative.result in
+    (tree_of c.args.expr.now))) c.widen.result in
     subst P (sym c.if-subtracted.true) (subtracted_gives (work_state g.S.CellStore.state c.args.work.now)
     (work_state g.S.CellStore.state c.evaluate.new.work) (work_state g.S.CellStore.state c.negative.new.work)
-    (tree_of c.args.expr.now) c.in_ok-value.value c.negative.result c.in_ok-value.ensures step)
+    (tree_of c.args.expr.now) c.in_ok-value.value c.negative.result c.widen.result c.widen.ensures c.in_ok-value.ensures
+    step)
 
 pub signed-returns-else-subtracted : goal.signed-returns-else-subtracted
 signed-returns-else-subtracted g t c =
-    let P : Bool → Type 0 = λ b. Gives (work_state g.S.CellStore.state c.args.work.now)
-    (work_state g.S.CellStore.state c.evaluate.new.work) (term_part
+    let P : Bool → Type 0 = λ b. Finds (work_state g.S.CellStore.state c.args.work.now)
+    (work_state g.S.CellStore.state c.evaluate.new.work) (fault_in (tree_of c.args.expr.now)) (term_part
     (work_state g.S.CellStore.state c.args.work.now).rest.limit b (tree_of c.args.expr.now)) (signed b (meaning
     (tree_of c.args.expr.now))) (Ok c.in_ok-value.value) in
     subst P (sym c.if-subtracted.false) (added_gives (work_state g.S.CellStore.state c.args.work.now)
@@ -469,21 +479,24 @@ added-sum-requires g t c =
     let e = c.in_ok-value.ensures in
     record {
       a = is_game_later (work_state g.S.CellStore.state c.args.work.now)
-          (work_state g.S.CellStore.state c.signed.new.work) e.1.keeps.known c.args.so_far c.requires;
+          (work_state g.S.CellStore.state c.signed.new.work) e.1.1.keeps.known c.args.so_far c.requires;
       b = stands_is_game (work_state g.S.CellStore.state c.signed.new.work) c.in_ok-value.value (can
-          (signed c.args.subtracted (meaning (tree_of c.args.expr.now)))) e.0;
+          (signed c.args.subtracted (meaning (tree_of c.args.expr.now)))) e.1.0;
     }
 
 pub added-returns-in_err-value : goal.added-returns-in_err-value
 added-returns-in_err-value g t c =
     let p = err_from_is_err_and c.from_residual.result c.from_residual.ensures.1 in
-    stopped_part (work_state g.S.CellStore.state c.args.work.now) (work_state g.S.CellStore.state c.signed.new.work)
-    (plus (game_at (work_state g.S.CellStore.state c.args.work.now) c.args.so_far) (signed c.args.subtracted
-    (meaning (tree_of c.args.expr.now)))) c.from_residual.result p.0 c.in_err-value.field-0.0
-    (term_part (work_state g.S.CellStore.state c.args.work.now).rest.limit c.args.subtracted
-    (tree_of c.args.expr.now)) (sum_items (work_state g.S.CellStore.state c.args.work.now).rest.limit (game_at
-    (work_state g.S.CellStore.state c.args.work.now) c.args.so_far) (can (signed c.args.subtracted (meaning
-    (tree_of c.args.expr.now))))) p.1 p.2 c.in_err-value.ensures
+    let s = work_state g.S.CellStore.state c.args.work.now in
+    let t1 = work_state g.S.CellStore.state c.signed.new.work in
+    let e = tree_of c.args.expr.now in
+    let so_far = game_at s c.args.so_far in
+    let m = signed c.args.subtracted (meaning e) in
+    let own = term_part s.rest.limit c.args.subtracted e in
+    passed_on (Finds s t1 (fault_in e) (own ++ sum_items s.rest.limit so_far (can m)) (plus so_far m))
+    c.from_residual.result p.0 c.in_err-value.field-0.0 p.1 p.2
+    (lacks_front s t1 (fault_in e) (fault_in e) own (sum_items s.rest.limit so_far (can m)) c.in_err-value.field-0.0
+    (λ x f. f) c.in_err-value.ensures)
 
 pub added-returns : goal.added-returns
 added-returns g t c =
@@ -496,6 +509,6 @@ added-returns g t c =
     c.sum.ensures.game c.sum.ensures.charged c.sum.ensures.refused c.sum.ensures.spare c.sum.ensures.keeps in
     sum_gives (work_state g.S.CellStore.state c.args.work.now) (work_state g.S.CellStore.state c.signed.new.work)
     (work_state g.S.CellStore.state c.sum.new.work) (signed c.args.subtracted (meaning
-    (tree_of c.args.expr.now))) (term_part (work_state g.S.CellStore.state c.args.work.now).rest.limit
-    c.args.subtracted (tree_of c.args.expr.now)) c.args.so_far c.in_ok-value.value c.sum.result c.requires
-    c.in_ok-value.ensures step
+    (tree_of c.args.expr.now))) (fault_in (tree_of c.args.expr.now)) (term_part
+    (work_state g.S.CellStore.state c.args.work.now).rest.limit c.args.subtracted (tree_of c.args.expr.now)) c.args.so_far
+    c.in_ok-value.value c.sum.result c.widen.result c.widen.ensures c.requires c.in_ok-value.ensures step

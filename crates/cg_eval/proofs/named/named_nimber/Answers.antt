@@ -13,7 +13,7 @@ returns g c =
     let s = work_state g.S.CellStore.state c.args.work.now in
     let t = work_state g.S.CellStore.state c.nimber.new.work in
     let form = nimber_form c.args.count in
-    nimber_gives s t c.args.count c.nimber.result
+    nimber_gives s t c.args.count c.nimber.result c.widen.result c.widen.ensures
     (gives_from s t (form_items s.rest.limit form) form form c.nimber.result (sym (can-fixed form
     (nimber-canonical c.args.count)))
     c.nimber.ensures.game c.nimber.ensures.charged c.nimber.ensures.refused c.nimber.ensures.more

@@ -7,9 +7,10 @@ use Rattle.cg_query.specs.Trees.{tree_of}
 use Rattle.cg_nodes.specs.Can.{can}
 use Rattle.cg_eval.specs.Meaning.{meaning}
 use Rattle.cg_eval.specs.Reply.{IsChecked}
-use Rattle.cg_eval.specs.Shown.{shown}
-use Rattle.cg_eval.proofs.Told.{two-answered, two-halted, two-memory}
-use Rattle.cg_eval.proofs.Replies.{answers-stop}
+use Rattle.cg_eval.proofs.Told.{two-answered, two-memory}
+use Rattle.cg_eval.specs.Shown.{Answers, shown}
+use Rattle.cg_eval.specs.declared.fault.NoValue.TheVariants.{Refused}
+use Rattle.cg_eval.proofs.Steps.{passed_on}
 use Rattle.cg_eval.proofs.question.answer_check.Goals as goal
 
 pub returns-in_err-values : goal.returns-in_err-values
@@ -19,7 +20,7 @@ returns-in_err-values g c =
     let a = tree_of c.args.first.now in
     let b = tree_of c.args.second.now in
     let p = err_from_is_err_and c.from_residual.result c.from_residual.ensures.1 in
-    two-halted s t (check a b c.args.text.now) a b c.from_residual.result p.0 c.in_err-values.field-0.0 p.1 p.2 refl c.in_err-values.ensures
+    passed_on (Answers s t (check a b c.args.text.now)) c.from_residual.result p.0 c.in_err-values.field-0.0 p.1 p.2 c.in_err-values.ensures
 
 pub returns-in_err-told : goal.returns-in_err-told
 returns-in_err-told g c =
@@ -29,8 +30,8 @@ returns-in_err-told g c =
     let a = tree_of c.args.first.now in
     let b = tree_of c.args.second.now in
     let p = err_from_is_err_and c.from_residual-in_err-told.result c.from_residual-in_err-told.ensures.1 in
-    answers-stop s u (check a b c.args.text.now) c.from_residual-in_err-told.result p.0 Memory p.1 p.2
-    (two-memory s t u (check a b c.args.text.now) a b c.in_ok-values.values c.in_ok-values.ensures c.tell_check.ensures.spends refl)
+    passed_on (Answers s u (check a b c.args.text.now)) c.from_residual-in_err-told.result p.0 (Refused Memory) p.1 p.2
+    (two-memory s t u (check a b c.args.text.now) a b c.in_ok-values.values c.in_ok-values.ensures c.tell_check.ensures.spends refl refl)
 
 pub returns : goal.returns
 returns g c =
@@ -41,5 +42,5 @@ returns g c =
     let b = tree_of c.args.second.now in
     let P : List ℕ → Type 0 = λ w. IsChecked (can (meaning a)) (can (meaning b)) w (shown c.in_ok-told.told) in
     two-answered s t u (check a b c.args.text.now) a b c.in_ok-values.values c.in_ok-values.ensures
-    c.tell_check.ensures.spends refl c.in_ok-told.told (λ x y. IsChecked x y c.as_slice.result.now)
+    c.tell_check.ensures.spends refl refl c.in_ok-told.told (λ x y. IsChecked x y c.as_slice.result.now)
     c.in_ok-told.ensures.told refl (λ h. subst P c.as_slice.ensures h)

@@ -5,8 +5,10 @@ use Rattle.cg_canon.specs.declared.fault.ValueFault.TheVariants.{Memory}
 use Rattle.cg_query.specs.Tree.{compare}
 use Rattle.cg_query.specs.Trees.{tree_of}
 use Rattle.cg_eval.specs.Parts.{IsCompared}
-use Rattle.cg_eval.proofs.Told.{compared-answer, two-answered, two-halted, two-memory}
-use Rattle.cg_eval.proofs.Replies.{answers-stop}
+use Rattle.cg_eval.proofs.Told.{compared-answer, two-answered, two-memory}
+use Rattle.cg_eval.specs.Shown.{Answers}
+use Rattle.cg_eval.specs.declared.fault.NoValue.TheVariants.{Refused}
+use Rattle.cg_eval.proofs.Steps.{passed_on}
 use Rattle.cg_eval.proofs.question.answer_comparison.Goals as goal
 
 pub returns-in_err-values : goal.returns-in_err-values
@@ -16,7 +18,7 @@ returns-in_err-values g c =
     let a = tree_of c.args.first.now in
     let b = tree_of c.args.second.now in
     let p = err_from_is_err_and c.from_residual.result c.from_residual.ensures.1 in
-    two-halted s t (compare a b) a b c.from_residual.result p.0 c.in_err-values.field-0.0 p.1 p.2 refl c.in_err-values.ensures
+    passed_on (Answers s t (compare a b)) c.from_residual.result p.0 c.in_err-values.field-0.0 p.1 p.2 c.in_err-values.ensures
 
 pub returns-in_err-told : goal.returns-in_err-told
 returns-in_err-told g c =
@@ -26,8 +28,8 @@ returns-in_err-told g c =
     let a = tree_of c.args.first.now in
     let b = tree_of c.args.second.now in
     let p = err_from_is_err_and c.from_residual-in_err-told.result c.from_residual-in_err-told.ensures.1 in
-    answers-stop s u (compare a b) c.from_residual-in_err-told.result p.0 Memory p.1 p.2
-    (two-memory s t u (compare a b) a b c.in_ok-values.values c.in_ok-values.ensures c.tell_order.ensures.spends refl)
+    passed_on (Answers s u (compare a b)) c.from_residual-in_err-told.result p.0 (Refused Memory) p.1 p.2
+    (two-memory s t u (compare a b) a b c.in_ok-values.values c.in_ok-values.ensures c.tell_order.ensures.spends refl refl)
 
 pub returns : goal.returns
 returns g c =
@@ -36,5 +38,5 @@ returns g c =
     let u = work_state g.S.CellStore.state c.tell_order.new.work in
     let a = tree_of c.args.first.now in
     let b = tree_of c.args.second.now in
-    two-answered s t u (compare a b) a b c.in_ok-values.values c.in_ok-values.ensures c.tell_order.ensures.spends refl c.in_ok-told.told IsCompared
+    two-answered s t u (compare a b) a b c.in_ok-values.values c.in_ok-values.ensures c.tell_order.ensures.spends refl refl c.in_ok-told.told IsCompared
     c.in_ok-told.ensures.told refl (compared-answer a b _)

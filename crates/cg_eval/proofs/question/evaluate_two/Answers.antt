@@ -1,7 +1,9 @@
 use Rattle.std.proofs.lemmas.Result.{err_from_is_err_and}
 use Rattle.cg_canon.specs.Works.{work_state}
 use Rattle.cg_query.specs.Trees.{tree_of}
-use Rattle.cg_eval.proofs.Replies.{both_made, first_stopped, second_stopped, two-stop}
+use Rattle.cg_eval.specs.Progress.{EvaluatesTwo}
+use Rattle.cg_eval.proofs.Replies.{both_made, first_stopped, second_stopped}
+use Rattle.cg_eval.proofs.Steps.{passed_on}
 use Rattle.cg_eval.proofs.question.evaluate_two.Goals as goal
 
 pub returns-in_err-left : goal.returns-in_err-left
@@ -11,7 +13,7 @@ returns-in_err-left g c =
     let a = tree_of c.args.first.now in
     let b = tree_of c.args.second.now in
     let p = err_from_is_err_and c.from_residual.result c.from_residual.ensures.1 in
-    two-stop s t a b c.from_residual.result p.0 c.in_err-left.field-0.0 p.1 p.2
+    passed_on (EvaluatesTwo s t a b) c.from_residual.result p.0 c.in_err-left.field-0.0 p.1 p.2
     (first_stopped s t a b c.in_err-left.field-0.0 c.in_err-left.ensures)
 
 pub returns-in_err-right : goal.returns-in_err-right
@@ -22,7 +24,7 @@ returns-in_err-right g c =
     let a = tree_of c.args.first.now in
     let b = tree_of c.args.second.now in
     let p = err_from_is_err_and c.from_residual-in_err-right.result c.from_residual-in_err-right.ensures.1 in
-    two-stop s u a b c.from_residual-in_err-right.result p.0 c.in_err-right.field-0.0 p.1 p.2
+    passed_on (EvaluatesTwo s u a b) c.from_residual-in_err-right.result p.0 c.in_err-right.field-0.0 p.1 p.2
     (second_stopped s t u a b c.in_ok-left.left c.in_err-right.field-0.0 c.in_ok-left.ensures c.in_err-right.ensures)
 
 pub returns : goal.returns

@@ -1,4 +1,4 @@
-use Rattle.cg_grammar.proofs.WholeTwo.{one_statement, statement_not_blank, statement_not_comment, states_or_not, one_column_two}
+use Rattle.cg_grammar.proofs.Whole.{one_statement, statement_not_blank, statement_not_comment, states_or_not, one_column}
 use Rattle.cg_grammar.proofs.laws.one_statement.Goals as goal
 
 pub returns-clause-unique : goal.returns-clause-unique
@@ -14,4 +14,4 @@ pub returns-clause-decided : goal.returns-clause-decided
 returns-clause-decided c = states_or_not
 
 pub returns-clause-one_column : goal.returns-clause-one_column
-returns-clause-one_column c = one_column_two
+returns-clause-one_column c = one_column

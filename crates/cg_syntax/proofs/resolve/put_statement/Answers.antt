@@ -1,5 +1,5 @@
 use Rattle.std.proofs.Common.{ℕ, subst}
-use Rattle.cg_grammar.specs.Formats.{ReadsIn, StatesNothing}
+use Rattle.cg_grammar.specs.Lines.{ReadsIn, StatesNothing}
 use Rattle.cg_syntax.specs.Session.{Syntax_at}
 use Rattle.cg_syntax.specs.Puts.{IsPut}
 use Rattle.cg_query.specs.Trees.{statement_of}

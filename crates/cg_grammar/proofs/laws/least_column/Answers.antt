@@ -1,0 +1,9 @@
+use Rattle.cg_grammar.proofs.InOrder.{line_order}
+use Rattle.cg_grammar.proofs.LeastFault.{row_least}
+use Rattle.cg_grammar.proofs.laws.least_column.Goals as goal
+
+pub returns-clause-least : goal.returns-clause-least
+returns-clause-least c = row_least
+
+pub returns-clause-in_order : goal.returns-clause-in_order
+returns-clause-in_order c = line_order
