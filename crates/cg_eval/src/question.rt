@@ -9,13 +9,13 @@ ghost use Rattle.cg_query.specs.Trees.{question_of, tree_of};
 use crate::Answered;
 use crate::evaluate::evaluate;
 use crate::fault::NoValue;
+use crate::forms::CgBoards;
 use crate::pictures::Part;
 use crate::telling::{Asked, tell, tell_check, tell_order, tell_proof};
 use cg_canon::Work;
 use cg_cells::CellStore;
 use cg_nodes::{GameFacts, Handle};
 use cg_syntax::{Expr, Query, Text};
-use cg_values::CgBoards;
 use std::alloc::Global;
 
 /// The answer to a question. It makes the question's items in order; the cause is that of the first board or heap that
