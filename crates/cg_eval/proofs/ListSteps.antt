@@ -242,11 +242,7 @@ pub all_made-all : {R : Type 0} (s t : State Meant (WorkRest R)) (es : List Expr
 all_made-all s t es ts i hs is end a =
     let P : List Tree → Type 0 = λ z. (fault_in_all (trees_from z) ≡ None) × (StandFor t hs (map can (to_list
     (meanings (trees_from z)))) × Makes s t (all_items s.rest.limit (trees_from z))) in
-<<<<<<< HEAD
-    subst P (ap trees_of (take_all i es end) ∙ is) (a.sound, (a.games, a.made))
-=======
     subst P (ap (λ (z : List Expr). trees_of z) (take_all i es end) ∙ is) (a.sound, (a.games, a.made))
->>>>>>> 51993e64a478cc74add9b75c5ca8e0f63be508f3
 
 -- ---- lists of terms
 
@@ -376,11 +372,7 @@ pub added-all : {R : Type 0} (s t : State Meant (WorkRest R)) (es : List Term) (
 added-all s t es i start so_far end a g h =
     let P : List (Bool × Tree) → Type 0 = λ z. (fault_in_terms (terms_from z) ≡ None) × (StandsFor t so_far (can (total_with g
     (terms_from z))) × Makes s t (further_items s.rest.limit g (terms_from z))) in
-<<<<<<< HEAD
-    subst P (ap terms_of (take_all i es end)) (a.sound, a.sums g h)
-=======
     subst P (ap (λ (z : List Term). terms_of z) (take_all i es end)) (a.sound, a.sums g h)
->>>>>>> 51993e64a478cc74add9b75c5ca8e0f63be508f3
 
 -- ---- the sum of all terms
 

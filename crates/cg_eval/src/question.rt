@@ -14,12 +14,7 @@ use crate::telling::{Asked, AskedOfTwo, tell, tell_two};
 use cg_canon::Work;
 use cg_cells::CellStore;
 use cg_nodes::{GameFacts, Handle};
-<<<<<<< HEAD
-use cg_syntax::{Expr, Query, Text};
-=======
 use cg_syntax::{Expr, Query};
-use cg_values::CgBoards;
->>>>>>> 51993e64a478cc74add9b75c5ca8e0f63be508f3
 use std::alloc::Global;
 
 /// The answer to a question. It makes the question's items in order; the cause is that of the first board or heap that
