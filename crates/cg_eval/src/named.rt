@@ -1,27 +1,15 @@
 //! Numbers and named games, on handles.
-ghost use Rattle.std.specs.Prelude.{◌≡◌};
 ghost use Rattle.cg_canon.specs.Works.{work_state};
-ghost use Rattle.cg_names.specs.Named.{zero_number};
 ghost use Rattle.cg_eval.specs.Progress.{Evaluates, Gives};
 ghost use Rattle.cg_eval.specs.Zero.{zero_form, zero_items};
 ghost use Rattle.cg_query.specs.Tree as trees;
 
-use cg_canon::{ValueFault, Work, number_item};
+use cg_canon::{ValueFault, Work, number_item, zero};
 use cg_cells::CellStore;
 use cg_dyadic::Dyadic;
 use cg_names::{nimber, switch, tiny, ups};
 use cg_nodes::{BoardForms, GameFacts, Handle};
 use std::alloc::Global;
-
-/// The number 0.
-fn zero() -> Dyadic
-    ensures { result ≡ zero_number }
-{
-    match Dyadic::make(0, 0) {
-        Ok(number) => number,
-        Err(_) => unreachable!(),
-    }
-}
 
 /// 0, as which a sum of no terms counts, and what has no value of its own.
 pub fn nothing<B: BoardForms, S: CellStore<GameFacts<B>>>(
