@@ -7,7 +7,8 @@ ghost use Rattle.cg_amazons.specs.Amazons.{amazons};
 ghost use Rattle.cg_graph.specs.Charts.{chart_read};
 ghost use Rattle.cg_graph.specs.Drawings.{drawing_read};
 ghost use Rattle.cg_strip.specs.Toads.{toads_game};
-ghost use Rattle.cg_eval.specs.Boards.{position_by, position_charted, position_drawn, position_fault, position_of, strip_position};
+ghost use Rattle.cg_eval.specs.Boards.{position_by, position_charted, position_drawn};
+ghost use Rattle.cg_eval.specs.Boards.{position_fault, position_of, strip_position};
 ghost use Rattle.cg_eval.specs.Parts.{IsFaultOf, IsFaulty, set_up};
 
 use crate::fault::{GameFault, is_memory};

@@ -73,7 +73,8 @@ fn fault_in_terms(alloc: Global, terms: &Terms) -> Result<Option<GameFault>, All
 
 /// Why the first ill-formed board or heap of the two expressions is so.
 fn fault_in_two(alloc: Global, first: &Expr, second: &Expr) -> Result<Option<GameFault>, AllocError>
-    ensures { IfOk result (λ fault. fault ≡ first_of_two (fault_in (tree_of first.now)) (fault_in (tree_of second.now))) }
+    ensures { IfOk result (λ fault.
+        fault ≡ first_of_two (fault_in (tree_of first.now)) (fault_in (tree_of second.now))) }
 {
     let left = fault_in(alloc, first)?;
     let right = fault_in(alloc, second)?;

@@ -49,8 +49,8 @@ pub fn one_reply()
 /// A question has exactly one reply, given the share and the positions limit.
 pub fn one_reply_to()
     ensures some { (share limit : ℕ) (q : Question) → (p : Piece) × IsReplyTo share limit q p }
-    ensures unique { (share limit : ℕ) (q : Question) (p r : Piece) → IsReplyTo share limit q p → IsReplyTo share limit q r
-        → p ≡ r }
+    ensures unique { (share limit : ℕ) (q : Question) (p r : Piece) → IsReplyTo share limit q p
+        → IsReplyTo share limit q r → p ≡ r }
 {}
 
 /// A code and a heap are one heap of an octal game, or ill-formed for one cause.

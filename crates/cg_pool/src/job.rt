@@ -51,7 +51,9 @@ pub trait Job<F: Facts>: Sync {
         ensures rest { (pass_state desk.new).rest ≡ (pass_state desk.old).rest }
         ensures held { IfOk result (λ _. holds held.new (pass_state desk.new).known) };
 
-    ghost stays: { (job : Self) (n : ℕ) (answer : Self.Answer) (f g : map.FinMap nat_cmp F.Thing) → Grows (map.get f) (map.get g) → good job n answer f → good job n answer g };
+    ghost stays: { (job : Self) (n : ℕ) (answer : Self.Answer) (f g : map.FinMap nat_cmp F.Thing)
+        → Grows (map.get f) (map.get g) → good job n answer f → good job n answer g };
 
-    ghost holding: { (held : Self.Held) (f g : map.FinMap nat_cmp F.Thing) → Grows (map.get f) (map.get g) → holds held f → holds held g };
+    ghost holding: { (held : Self.Held) (f g : map.FinMap nat_cmp F.Thing) → Grows (map.get f) (map.get g)
+        → holds held f → holds held g };
 }

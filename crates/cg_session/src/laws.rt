@@ -33,7 +33,8 @@ pub fn front_is_not_whole()
         → AppendsFront text (Some before) (Some now) → ¬ Appends (Some before) (Some now) text }
 {}
 
-/// In a session of format 1 the reply to a line that gets one is the reply to that line alone, as `cg_eval::answer` makes it.
+/// In a session of format 1 the reply to a line that gets one is the reply to that line alone, as `cg_eval::answer`
+/// makes it.
 pub fn format_one()
     ensures { (share positions : ℕ) (before behind : Bindings) (line : List ℕ) (made : Resolved) (reply : Piece)
         → is_blank_line line ≡ false → ¬ IsComment line → IsLine formats.One before line made behind
