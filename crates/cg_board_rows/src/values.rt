@@ -2,43 +2,28 @@
 //! what was spent; `name` gives the name alone. `alike SHARE POSITIONS RULES TEXT` gives the names of a row of Toads
 //! and of the row of the strip game of these rules, and tells whether both cost the same.
 ghost use Rattle.std.specs.Prelude.{◌≡◌, IfOk, true};
-ghost use Rattle.cg_values.specs.Forms.{board_form};
+ghost use Rattle.cg_eval.specs.Forms.{board_form};
 ghost use Rattle.cg_values.specs.Notes.{MayNote};
 
 use crate::calls::refusal;
 use crate::rows::cut;
 use cg_amazons::Amazons;
-use cg_canon::{ValueFault, Work};
-use cg_cells::{CellStore, PlainStore};
+use cg_canon::Work;
+use cg_cells::PlainStore;
 use cg_clobber::Clobber;
 use cg_domineering::Domineering;
+use cg_eval::{CgBoards, SumAdder, may_note};
 use cg_moves::{Board, BoardFault, Rules};
 use cg_names::name;
-use cg_nodes::{BoardForms, GameFacts, Handle};
+use cg_nodes::GameFacts;
 use cg_strip::{Strip, Toads, read_toads};
-use cg_sum::sum;
-use cg_values::{Adder, CgBoards, may_note, value_of};
+use cg_values::value_of;
 use std::alloc::{AllocError, Global};
 
 type Store = PlainStore<GameFacts<CgBoards>>;
 
 /// The size of the stores, which is the greatest share, too.
 const CELLS: u64 = 4096;
-
-/// What adds the values of pieces.
-struct Sums;
-
-impl Adder for Sums {
-    fn add<B: BoardForms, S: CellStore<GameFacts<B>>>(
-        &self,
-        alloc: Global,
-        work: &mut Work<'_, B, S>,
-        a: Handle,
-        b: Handle,
-    ) -> Result<Handle, ValueFault> {
-        sum(alloc, work, a, b)
-    }
-}
 
 /// A share, and a limit on positions.
 #[derive(Clone, Copy)]
@@ -68,7 +53,7 @@ fn valued<R: Rules>(
         return Err(AllocError);
     };
     let mut work = Work::new(alloc, &mut store, limits.share.min(CELLS), limits.positions);
-    let answer = value_of(alloc, &mut work, rules, &Sums, board);
+    let answer = value_of(alloc, &mut work, rules, &SumAdder, board);
     let spent = work.spent();
     let text = match answer {
         Ok(value) => name(alloc, &mut work, value)?,

@@ -1,8 +1,8 @@
 -- What a book keeps, as its store and its pages grow.
-use Rattle.std.proofs.Common.{◌≡◌, refl, ℕ, suc, ◌+◌, ◌-◌, ◌<◌, ◌≤◌, arith, ap, sym, ◌∙◌, subst, inl, inr, List, [], ◌∷◌, ◌++◌, length, length-append, take, get_or}
+use Rattle.std.proofs.Common.{◌≡◌, refl, ℕ, suc, ◌+◌, ◌<◌, ◌≤◌, arith, ap, sym, ◌∙◌, subst, inl, inr, List, [], ◌∷◌, ◌++◌, length, length-append, take, get_or}
 use Rattle.std.proofs.lemmas.Bool.Decides.{eqb_tells}
-use Rattle.std.proofs.lemmas.List.{get_or_append_left, get_or-append_right, append_assoc, append-nil}
-use Rattle.cg_form.specs.Game.{Game}
+use Rattle.std.proofs.lemmas.List.{get_or_append_left, get_or_push, append_assoc, append-nil, length_push}
+use Rattle.cg_form.specs.Game.{Game, node}
 use Rattle.cg_cells.specs.Meaning.{Grows}
 use Rattle.cg_cells.specs.Store.{State, thing_at}
 use Rattle.cg_nodes.specs.Games.{AreGames, IsGame, game_at, games_at}
@@ -66,7 +66,7 @@ right_begins gs hs r b h = λ x k.
 pub book_later : {R Q : Type 0} (s : State Meant R) (t : State Meant Q) (b : Book) → Grows (thing_at s) (thing_at t)
     → BookHolds s b → BookHolds t b
 book_later s t b grows h = record {
-  fewer = h.fewer;
+  count = h.count;
   each = λ page k.
       let i = h.each page k in
       record {
@@ -77,87 +77,86 @@ book_later s t b grows h = record {
 }
 
 -- of no games
-pub new_holds : {R : Type 0} (s : State Meant R) (b : Book) → b.handles.items ≡ []
+pub new_holds : {R : Type 0} (s : State Meant R) (b : Book) → b.pages ≡ [] → b.handles.items ≡ []
     → ((x : Answer) → IsKept b.answers x → ⊥) → BookHolds s b
-new_holds s b e empty =
+new_holds s b p e empty =
     let n = ap length e in
     record {
-      fewer = omega arith;
+      count = n ∙ sym (ap length p);
       each = λ page k. absurd (omega arith);
       right = λ x k. absurd (empty x k);
     }
 
--- with more games behind, and the same handles
-pub holds_begins : {R : Type 0} (s : State Meant R) (b c : Book) → BookHolds s b → Begins b.pages c.pages
+-- where nothing was added
+pub holds_same : {R : Type 0} (s : State Meant R) (b c : Book) → BookHolds s b → c.pages ≡ b.pages
     → c.handles.items ≡ b.handles.items → c.answers ≡ b.answers → BookHolds s c
-holds_begins s b c h begins e r =
-    let n = ap length e in
-    let m = length_begins b.pages c.pages begins in
-    let few = h.fewer in
-    let same : (page : ℕ) → handle_of c page ≡ handle_of b page = λ page. ap (λ z. get_or z page 0) e in
-    let A : Recent → Type 0 = λ z. AreRight c.pages z in
-    record {
-      fewer = omega arith;
-      each = λ page k.
-          let i = h.each page (omega arith) in
-          let P : ℕ → Type 0 = λ z. IsGame s z in
-          record {
-            game = subst P (sym (same page)) i.game;
-            same = ap (game_at s) (same page) ∙ i.same ∙ sym (game_begins b.pages c.pages page begins (omega arith));
-          };
-      right = subst A (sym r) (right_begins b.pages c.pages b.answers begins h.right);
-    }
-
-pub last_handle : (b c : Book) (handle page : ℕ) → c.handles.items ≡ b.handles.items ++ (handle ∷ [])
-    → page ≡ length b.handles.items → HasHandle c page handle
-last_handle b c handle page e at =
-    let none : page - length b.handles.items ≡ 0 = omega arith in
-    let n = ap length e in
-    let m = length-append b.handles.items (handle ∷ []) in
-    record {
-      within = omega arith;
-      is = ap (λ z. get_or z page 0) e
-          ∙ get_or-append_right b.handles.items (handle ∷ []) (length b.handles.items) page 0 refl (omega arith)
-          ∙ ap (λ z. get_or (handle ∷ []) z 0) none;
-    }
-
--- with one handle more
-pub holds_pushed : {R : Type 0} (s : State Meant R) (b c : Book) (handle page : ℕ) → BookHolds s b → c.pages ≡ b.pages
-    → c.handles.items ≡ b.handles.items ++ (handle ∷ []) → c.answers ≡ b.answers
-    → IsGame s handle → page ≡ length b.handles.items → IsPage b.pages page → game_of b.pages page ≡ game_at s handle
-    → BookHolds s c
-holds_pushed {R} s b c handle page h p e r game next is_page is =
+holds_same s b c h p e r =
     let P : List Game → Type 0 = λ z. AreRight z c.answers in
     let A : Recent → Type 0 = λ z. AreRight b.pages z in
     let n = ap length e in
-    let m = length-append b.handles.items (handle ∷ []) in
-    let k = ap length p in
+    let count = h.count in
     record {
-      fewer = omega arith;
-      each = λ q less. named q (omega arith);
+      count = ap length e ∙ h.count ∙ ap length (sym p);
+      each = λ page k.
+          let i = h.each page (omega arith) in
+          let own = ap (λ z. get_or z page 0) e in
+          let G : ℕ → Type 0 = λ z. IsGame s z in
+          record {
+            game = subst G (sym own) i.game;
+            same = ap (game_at s) own ∙ i.same ∙ ap (λ z. game_of z page) (sym p);
+          };
       right = subst P (sym p) (subst A (sym r) h.right);
     }
+
+-- with one game more, and its handle
+pub holds_more : {R : Type 0} (s : State Meant R) (b c : Book) (handle : ℕ) (k : Game) → BookHolds s b
+    → c.pages ≡ b.pages ++ (k ∷ []) → game_at s handle ≡ k
+    → c.handles.items ≡ b.handles.items ++ (handle ∷ []) → c.answers ≡ b.answers
+    → IsGame s handle → BookHolds s c
+holds_more {R} s b c handle k h p is e r game =
+    let A : Recent → Type 0 = λ z. AreRight c.pages z in
+    let n = count in
+    record {
+      count = count;
+      each = λ q less. named q (omega (arith, more));
+      right = subst A (sym r) (right_begins b.pages c.pages b.answers begins h.right);
+    }
   where
+    begins : Begins b.pages c.pages
+    begins = begins_one b.pages c.pages k p
+
+    more : length c.handles.items ≡ length b.handles.items + 1
+    more = ap length e ∙ length_push b.handles.items handle
+
+    count : length c.handles.items ≡ length c.pages
+    count = more ∙ ap (λ z. z + 1) h.count ∙ sym (ap length p ∙ length_push b.pages k)
+
     old : (q : ℕ) → q < length b.handles.items → handle_of c q ≡ handle_of b q
     old q less = ap (λ z. get_or z q 0) e ∙ get_or_append_left b.handles.items (handle ∷ []) 0 q less
 
+    last : (q : ℕ) → q ≡ length b.handles.items → handle_of c q ≡ handle
+    last q at = ap (λ z. get_or z q 0) e ∙ get_or_push b.handles.items handle 0 q (sym at)
+
+    last_game : (q : ℕ) → q ≡ length b.handles.items → game_of c.pages q ≡ k
+    last_game q at = ap (λ z. game_of z q) p ∙ get_or_push b.pages k (node [] []) q (sym (at ∙ h.count))
+
     named : (q : ℕ) → q < length b.handles.items + 1 → IsNamed s c q
-    named q less = elim (eqb_tells q page) [
+    named q less = elim (eqb_tells q (length b.handles.items)) [
       | inl t ↦
-          let own = (last_handle b c handle q e (t.1 ∙ next)).is in
           let G : ℕ → Type 0 = λ z. IsGame s z in
           record {
-            game = subst G (sym own) game;
-            same = ap (game_at s) own ∙ sym is ∙ ap (game_of b.pages) (sym t.1) ∙ ap (λ z. game_of z q) (sym p);
+            game = subst G (sym (last q t.1)) game;
+            same = ap (game_at s) (last q t.1) ∙ is ∙ sym (last_game q t.1);
           }
       | inr t ↦
           let d = t.1 in
           let below : q < length b.handles.items = omega arith in
           let i = h.each q below in
+          let same = h.count in
           let G : ℕ → Type 0 = λ z. IsGame s z in
           record {
             game = subst G (sym (old q below)) i.game;
-            same = ap (game_at s) (old q below) ∙ i.same ∙ ap (λ z. game_of z q) (sym p);
+            same = ap (game_at s) (old q below) ∙ i.same ∙ sym (game_begins b.pages c.pages q begins (omega arith));
           }
     ]
 
@@ -165,7 +164,7 @@ holds_pushed {R} s b c handle page h p e r game next is_page is =
 pub holds_answers : {R : Type 0} (s : State Meant R) (b : Book) (r : Recent) → BookHolds s b → AreRight b.pages r
     → BookHolds s (record b { answers = r })
 holds_answers s b r h right = record {
-  fewer = h.fewer;
+  count = h.count;
   each = λ page k. let i = h.each page k in record { game = i.game; same = i.same };
   right = right;
 }
@@ -174,7 +173,7 @@ holds_answers s b r h right = record {
 pub known_page : {R : Type 0} (s : State Meant R) (b : Book) (handle page : ℕ) → BookHolds s b → HasHandle b page handle
     → IsPage b.pages page × (game_of b.pages page ≡ game_at s handle)
 known_page s b handle page h i =
-    let few = h.fewer in
+    let count = h.count in
     let w = i.within in
     (omega arith, sym (h.each page i.within).same ∙ ap (game_at s) i.is)
 

@@ -1,5 +1,5 @@
 -- What a book has of the games of a store.
-use Rattle.std.specs.Prelude.{◌≡◌, ℕ, ◌<◌, ◌≤◌, ◌++◌, List, length, slice_index_or}
+use Rattle.std.specs.Prelude.{◌≡◌, ℕ, ◌<◌, ◌++◌, List, length, slice_index_or}
 use Rattle.cg_form.specs.Game.{Game}
 use Rattle.cg_cells.specs.Store.{State}
 use Rattle.cg_nodes.specs.Games.{IsGame, game_at}
@@ -23,8 +23,8 @@ pub record HasHandle (b : Book) (page handle : ℕ) : Type 0 where
   pub is : handle_of b page ≡ handle
 
 pub record BookHolds {R : Type 0} (s : State Meant R) (b : Book) : Type 0 where
-  -- the first pages have handles
-  pub fewer : length b.handles.items ≤ length b.pages
+  -- each page has a handle
+  pub count : length b.handles.items ≡ length b.pages
   pub each : (page : ℕ) → page < length b.handles.items → IsNamed s b page
   pub right : AreRight b.pages b.answers
 

@@ -1,8 +1,8 @@
 //! The games that a work has met, each on a page of a book.
-ghost use Rattle.std.specs.Prelude.{◌≡◌, ◌≤◌, ◌↔◌, [], length, IfOk, IfSome, OnErr, IsTrue};
-ghost use Rattle.cg_nodes.specs.Games.{IsGame, AreGames, game_at, games_at};
+ghost use Rattle.std.specs.Prelude.{◌≡◌, ◌<◌, ◌++◌, ◌∷◌, [], length, IfOk, IfSome, vec_capacity, vec_len};
+ghost use Rattle.cg_nodes.specs.Games.{AreGames, games_at};
 ghost use Rattle.cg_book.specs.declared.recent.Answer.{Answer as Known};
-ghost use Rattle.cg_book.specs.Pages.{IsPage, game_of, games_of};
+ghost use Rattle.cg_book.specs.Pages.{ArePages, games_of};
 ghost use Rattle.cg_book.specs.Recents.{IsKept};
 ghost use Rattle.cg_canon.specs.Books.{BookHolds, HasHandle};
 
@@ -19,16 +19,15 @@ pub(crate) type PageList = SmallVec<u32, 8>;
 /// A list of handles: up to 8 of them take no memory.
 pub(crate) type HandleList = SmallVec<Handle, 8>;
 
-/// The games that a work has met, each on a page, and the answers to comparisons of them. Each page has a handle, unless
-/// there was want of memory.
+/// The games that a work has met, each on a page with a handle, and the answers to comparisons of them.
 #[derive(Drop)]
 pub(crate) struct Book {
     /// The games.
     pub(crate) pages: Pages,
     /// The answers to comparisons of them.
     pub(crate) answers: Recent,
-    /// The handles of the first pages.
-    handles: Vec<Handle>,
+    /// The handles of the pages.
+    pub(crate) handles: Vec<Handle>,
     /// Where the page of a handle is looked for.
     places: Places,
 }
@@ -69,48 +68,27 @@ impl Book {
         )
     }
 
-    /// The handle of the page. An error comes only after want of memory.
-    pub(crate) fn handle(&self, page: u32) -> Result<Handle, AllocError>
-        ensures handle { IfOk result (λ h. HasHandle self.now page h) }
-        ensures none { OnErr result (length self.now.handles.items ≤ page) }
+    /// The handle of the page.
+    pub(crate) fn handle(&self, page: u32) -> Handle
+        requires { page < length self.now.handles.items }
+        ensures { HasHandle self.now page result }
     {
-        let place = page as usize;
-        if place < self.handles.len() {
-            return Ok(self.handles[place]);
-        }
-        Err(AllocError)
+        self.handles[page as usize]
     }
 
-    /// Whether each page has a handle. It has, unless there was want of memory.
-    pub(crate) fn is_whole(&self) -> bool
-        ensures { IsTrue result ↔ (length self.now.handles.items ≡ length self.now.pages) }
-    {
-        self.handles.len() == self.pages.count()
-    }
-
-    /// Gives the first page without a handle this one.
-    pub(crate) fn name<B: BoardForms, S: CellStore<GameFacts<B>>>(
-        &mut self,
-        store: &S,
-        handle: Handle,
-        page: u32,
-    ) -> Result<u32, AllocError>
-        requires holds { BookHolds (S.state store.now) self.old }
-        requires game { IsGame (S.state store.now) handle }
-        requires next { page ≡ length self.old.handles.items }
-        requires page { IsPage self.old.pages page }
-        requires is { game_of self.old.pages page ≡ game_at (S.state store.now) handle }
-        ensures holds { BookHolds (S.state store.now) self.new }
+    /// Gives the page that was added last this handle. There is room for it.
+    pub(crate) fn name(&mut self, handle: Handle)
+        requires { vec_len self.old.handles < vec_capacity self.old.handles }
+        ensures handles { self.new.handles.items ≡ self.old.handles.items ++ (handle ∷ []) }
         ensures pages { self.new.pages ≡ self.old.pages }
-        ensures page { IfOk result (λ p. p ≡ page) }
+        ensures answers { self.new.answers ≡ self.old.answers }
     {
-        self.handles.push(handle)?;
+        let _there_is_room = self.handles.push(handle);
         self.places.add(number_of_handle(handle));
-        Ok(page)
     }
 }
 
-/// Puts the handles of the pages into the list, which is empty, in their order. An error comes only after want of memory.
+/// Puts the handles of the pages into the list, which is empty, in their order. The only error is want of memory.
 pub(crate) fn put_handles<B: BoardForms, S: CellStore<GameFacts<B>>>(
     store: &S,
     book: &Book,
@@ -118,18 +96,19 @@ pub(crate) fn put_handles<B: BoardForms, S: CellStore<GameFacts<B>>>(
     handles: &mut HandleList,
 ) -> Result<(), AllocError>
     requires holds { BookHolds (S.state store.now) book.now }
+    requires pages { ArePages book.now.pages pages.now }
     requires empty { handles.old.items ≡ [] }
     ensures handles { IfOk result (λ _. AreGames (S.state store.now) handles.new.items
         × (games_at (S.state store.now) handles.new.items ≡ games_of book.now.pages pages.now)) }
 {
     handles.reserve(pages.len())?;
     for page in pages {
-        handles.push_reserved(book.handle(*page)?);
+        handles.push_reserved(book.handle(*page));
     }
     Ok(())
 }
 
-/// The handles of the pages, in their order. An error comes only after want of memory.
+/// The handles of the pages, in their order. The only error is want of memory.
 #[inline(always)]
 pub(crate) fn handles_of<B: BoardForms, S: CellStore<GameFacts<B>>>(
     alloc: Global,
@@ -138,6 +117,7 @@ pub(crate) fn handles_of<B: BoardForms, S: CellStore<GameFacts<B>>>(
     pages: &[u32],
 ) -> Result<HandleList, AllocError>
     requires holds { BookHolds (S.state store.now) book.now }
+    requires pages { ArePages book.now.pages pages.now }
     ensures handles { IfOk result (λ r. AreGames (S.state store.now) r.items
         × (games_at (S.state store.now) r.items ≡ games_of book.now.pages pages.now)) }
 {

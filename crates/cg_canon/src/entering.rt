@@ -28,11 +28,10 @@ pub(crate) fn enter_number<B: BoardForms, S: CellStore<GameFacts<B>>>(
     ensures begins { Begins book.old.pages book.new.pages }
     ensures page { IfOk result (λ p. IsPage book.new.pages p × (game_of book.new.pages p ≡ number x)) }
 {
-    if !book.is_whole() {
-        return Err(AllocError);
-    }
+    book.handles.reserve(1)?;
     let page = book.pages.add_number(x)?;
-    book.name(store, handle, page)
+    book.name(handle);
+    Ok(page)
 }
 
 /// A page for the handle's game, which has these options and this profile.
@@ -58,9 +57,8 @@ pub(crate) fn enter_game<B: BoardForms, S: CellStore<GameFacts<B>>>(
     ensures page { IfOk result (λ p. IsPage book.new.pages p
         × (game_of book.new.pages p ≡ game_at (S.state store.now) handle)) }
 {
-    if !book.is_whole() {
-        return Err(AllocError);
-    }
+    book.handles.reserve(1)?;
     let page = book.pages.add_game(lefts, rights, profile)?;
-    book.name(store, handle, page)
+    book.name(handle);
+    Ok(page)
 }

@@ -40,7 +40,7 @@ fn walk_page<B: BoardForms, S: CellStore<GameFacts<B>>>(
         × (limit < 2 ^ 63) }
 {
     store.apart();
-    let handle = book.handle(page)?;
+    let handle = book.handle(page);
     if found.has(handle) {
         return Ok(());
     }

@@ -1,3 +1,4 @@
+pub mod FormLemmas
 pub mod Below
 pub mod Lasts
 pub mod ReadBoards

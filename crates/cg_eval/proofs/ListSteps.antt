@@ -1,6 +1,7 @@
 -- The steps of lists of expressions and of terms, one after another.
 use Rattle.std.proofs.Common.{◌≡◌, refl, ap, sym, ◌∙◌, subst, ℕ, zero, suc, ◌+◌, ◌<◌, ◌≤◌, arith, Bool, None, List, [], ◌∷◌, ◌++◌, append_assoc}
 use Rattle.std.proofs.Common.{length, get_or, take, drop, map, Result, Ok, Err}
+use Rattle.std.proofs.lemmas.List.{take_all}
 use Rattle.cg_form.specs.Game.{Game, to_list}
 use Rattle.cg_form.specs.Sum.{sum as plus}
 use Rattle.cg_nodes.specs.Can.{can}
@@ -29,7 +30,7 @@ use Rattle.cg_eval.proofs.FaultParts.{all-append, terms-append}
 use Rattle.cg_eval.proofs.Lasts.{append_none}
 use Rattle.cg_eval.proofs.Steps.{finds_game, finds_then, first_none, first_some, lacks_fault, lacks_front, lacks_items, lacks_then}
 use Rattle.cg_eval.proofs.Steps.{makes_items, makes_none, makes_then}
-use Rattle.cg_query.proofs.Walk.{size, term_sizes, trees_of-take_suc, trees_of-all, terms_of-take_suc, terms_of-all}
+use Rattle.cg_query.proofs.Walk.{size, term_sizes, trees_of-take_suc, terms_of-take_suc}
 
 -- ---- the items of lists that are put together
 
@@ -241,7 +242,7 @@ pub all_made-all : {R : Type 0} (s t : State Meant (WorkRest R)) (es : List Expr
 all_made-all s t es ts i hs is end a =
     let P : List Tree → Type 0 = λ z. (fault_in_all (trees_from z) ≡ None) × (StandFor t hs (map can (to_list
     (meanings (trees_from z)))) × Makes s t (all_items s.rest.limit (trees_from z))) in
-    subst P (trees_of-all es i end ∙ is) (a.sound, (a.games, a.made))
+    subst P (ap (λ (z : List Expr). trees_of z) (take_all i es end) ∙ is) (a.sound, (a.games, a.made))
 
 -- ---- lists of terms
 
@@ -371,7 +372,7 @@ pub added-all : {R : Type 0} (s t : State Meant (WorkRest R)) (es : List Term) (
 added-all s t es i start so_far end a g h =
     let P : List (Bool × Tree) → Type 0 = λ z. (fault_in_terms (terms_from z) ≡ None) × (StandsFor t so_far (can (total_with g
     (terms_from z))) × Makes s t (further_items s.rest.limit g (terms_from z))) in
-    subst P (terms_of-all es i end) (a.sound, a.sums g h)
+    subst P (ap (λ (z : List Term). terms_of z) (take_all i es end)) (a.sound, a.sums g h)
 
 -- ---- the sum of all terms
 

@@ -30,11 +30,11 @@ use Rattle.cg_thermo.specs.declared.winner.Outcome.{Outcome}
 use Rattle.cg_thermo.proofs.Wins.{wins}
 use Rattle.cg_cert.specs.Answer.{IsLong, IsShort, proof_answer}
 use Rattle.cg_cert.specs.Proves.{IsProofOf}
-use Rattle.cg_query.specs.Tree.{Question, Tree, compare}
+use Rattle.cg_query.specs.Tree.{Question, Tree}
 use Rattle.cg_eval.specs.Faults.{fault_in, first_of_two, question_fault}
 use Rattle.cg_eval.specs.Items.{items, question_items}
 use Rattle.cg_eval.specs.Meaning.{meaning}
-use Rattle.cg_eval.specs.Parts.{IsCompared, IsDrawn, Tells, TellsTwo, asked_of, part_asked, part_text, winner_of, yes_or_no}
+use Rattle.cg_eval.specs.Parts.{IsCompared, IsDrawn, IsToldOfTwo, Tells, TellsTwo, asked_of, asked_of_two, part_asked, part_text, winner_of, yes_or_no}
 use Rattle.cg_eval.specs.Pictures.{stops_text}
 use Rattle.cg_eval.specs.Progress.{Evaluates, EvaluatesTwo, Makes, Stops as Halts}
 use Rattle.cg_eval.specs.Refused.{IsRefusedBy}
@@ -46,6 +46,8 @@ use Rattle.cg_eval.specs.declared.pictures.Part.{Part}
 use Rattle.cg_eval.specs.declared.pictures.Part.TheVariants as parts
 use Rattle.cg_eval.specs.declared.telling.Asked.{Asked}
 use Rattle.cg_eval.specs.declared.telling.Asked.TheVariants as asking
+use Rattle.cg_eval.specs.declared.telling.AskedOfTwo.{AskedOfTwo}
+use Rattle.cg_eval.specs.declared.telling.AskedOfTwo.TheVariants.{Order, Proof, Check}
 use Rattle.cg_thermo.proofs.EqualThermographs.{equal-thermograph}
 use Rattle.cg_eval.proofs.Replies.{le-forms, le-value_zero, makes_spends, zero-le_value}
 use Rattle.cg_eval.proofs.Steps.{lacks_fault, lacks_items, stops_memory}
@@ -220,38 +222,65 @@ compared-forms a b reply e =
     e ∙ ap (λ k. answer (comparison k (le (can b) (can a)))) (le-forms a b)
     ∙ ap (λ k. answer (comparison (le a b) k)) (le-forms b a)
 
+same-items_of_two : (limit : ℕ) (asked : AskedOfTwo) (a b : Tree)
+    → items limit a ++ items limit b ≡ question_items limit (asked_of_two asked a b)
+same-items_of_two limit Order a b = refl
+same-items_of_two limit Proof a b = refl
+same-items_of_two limit (Check text) a b = refl
+
+same-fault_of_two : (asked : AskedOfTwo) (a b : Tree)
+    → first_of_two (fault_in a) (fault_in b) ≡ question_fault (asked_of_two asked a b)
+same-fault_of_two Order a b = refl
+same-fault_of_two Proof a b = refl
+same-fault_of_two (Check text) a b = refl
+
+same-first_of_two : (asked : AskedOfTwo) (a b : Tree) → a ≡ first_of (asked_of_two asked a b)
+same-first_of_two Order a b = refl
+same-first_of_two Proof a b = refl
+same-first_of_two (Check text) a b = refl
+
+-- what is told of the values is told of what the expressions mean
+told-answer : (asked : AskedOfTwo) (a b : Tree) (reply : Piece) → IsToldOfTwo asked (can (meaning a)) (can (meaning b)) reply
+    → IsAnswerTo (asked_of_two asked a b) reply
+told-answer Order a b reply is = compared-forms (meaning a) (meaning b) reply is
+told-answer Proof a b reply is = is
+told-answer (Check text) a b reply is = is
+
 -- s before, t with the two values, u after what is told of them
-module _ {R : Type 0} (s t u : State Meant (WorkRest R)) (q : Question) (a b : Tree) (hs : ℕ × ℕ)
-    (both : EvaluatesTwo s t a b (Ok hs)) (spends : Spends 0 t u)
-    (same_items : items s.rest.limit a ++ items s.rest.limit b ≡ question_items s.rest.limit q)
-    (same_fault : first_of_two (fault_in a) (fault_in b) ≡ question_fault q) where
-  both_spend : Makes s u (question_items s.rest.limit q)
+module _ {R : Type 0} (s t u : State Meant (WorkRest R)) (asked : AskedOfTwo) (a b : Tree) (hs : ℕ × ℕ)
+    (both : EvaluatesTwo s t a b (Ok hs)) (spends : Spends 0 t u) where
+  both_spend : Makes s u (question_items s.rest.limit (asked_of_two asked a b))
   both_spend =
       let M : List Item → Type 0 = λ k. Makes s u k in
-      subst M same_items (makes_spends s t u (items s.rest.limit a ++ items s.rest.limit b) both.1.1 spends)
+      subst M (same-items_of_two s.rest.limit asked a b)
+      (makes_spends s t u (items s.rest.limit a ++ items s.rest.limit b) both.1.1 spends)
 
-  pub two-answered : (z : Answered) (Is : Game → Game → Piece → Type 0)
-      → TellsTwo hs.0 (Is (game_at t hs.0) (game_at t hs.1)) z → first_of q ≡ a
-      → (Is (can (meaning a)) (can (meaning b)) (shown z) → IsAnswerTo q (shown z)) → Answers s u q (Ok z)
-  two-answered z Is tells first is =
-      let P : Game → Type 0 = λ g. Is g (game_at t hs.1) (shown z) in
-      let Q : Game → Type 0 = λ h. Is (can (meaning a)) h (shown z) in
+  pub two-answered : (z : Answered) → TellsTwo hs.0 (IsToldOfTwo asked (game_at t hs.0) (game_at t hs.1)) z
+      → Answers s u (asked_of_two asked a b) (Ok z)
+  two-answered z tells =
+      let P : Game → Type 0 = λ g. IsToldOfTwo asked g (game_at t hs.1) (shown z) in
+      let Q : Game → Type 0 = λ h. IsToldOfTwo asked (can (meaning a)) h (shown z) in
       let F : Tree → Type 0 = λ e. StandsFor u hs.0 (can (meaning e)) in (
-        sym same_fault ∙ both.0,
+        sym (same-fault_of_two asked a b) ∙ both.0,
         (
           record {
-            text = is (subst Q (stands_game t hs.1 (can (meaning b)) both.1.0.1)
+            text = told-answer asked a b (shown z) (subst Q (stands_game t hs.1 (can (meaning b)) both.1.0.1)
                 (subst P (stands_game t hs.0 (can (meaning a)) both.1.0.0) tells.text));
-            value = handle-told u q hs.0 z.refused z.handle tells.handle
-                (subst F (sym first) (stands_later t u spends.known hs.0 (can (meaning a)) both.1.0.0));
+            value = handle-told u (asked_of_two asked a b) hs.0 z.refused z.handle tells.handle
+                (subst F (same-first_of_two asked a b) (stands_later t u spends.known hs.0 (can (meaning a)) both.1.0.0));
           },
           both_spend,
         ),
       )
 
-  pub two-memory : Halts s u Memory (question_items s.rest.limit q)
-  two-memory = stops_memory s u (question_items s.rest.limit q) (question_items s.rest.limit q) both_spend
+  pub two-memory : Halts s u Memory (question_items s.rest.limit (asked_of_two asked a b))
+  two-memory = stops_memory s u (question_items s.rest.limit (asked_of_two asked a b))
+      (question_items s.rest.limit (asked_of_two asked a b)) both_spend
 
-pub compared-answer : (a b : Tree) (reply : Piece) → IsCompared (can (meaning a)) (can (meaning b)) reply
-    → IsAnswerTo (compare a b) reply
-compared-answer a b reply is = compared-forms (meaning a) (meaning b) reply is
+pub two-halted : {R : Type 0} (s t : State Meant (WorkRest R)) (asked : AskedOfTwo) (a b : Tree) (cause : NoValue)
+    → EvaluatesTwo s t a b (Err cause) → Answers s t (asked_of_two asked a b) (Err cause)
+two-halted s t asked a b cause h =
+    lacks_fault s t (first_of_two (fault_in a) (fault_in b)) (question_fault (asked_of_two asked a b))
+    (question_items s.rest.limit (asked_of_two asked a b)) cause (same-fault_of_two asked a b)
+    (lacks_items s t (first_of_two (fault_in a) (fault_in b)) (items s.rest.limit a ++ items s.rest.limit b)
+    (question_items s.rest.limit (asked_of_two asked a b)) cause (same-items_of_two s.rest.limit asked a b) h)

@@ -1,6 +1,7 @@
 -- what a reader has to believe
 pub mod IllFormed
 pub mod Zero
+pub mod Forms
 pub mod Boards
 pub mod Octals
 pub mod Meaning

@@ -16,11 +16,11 @@ use Rattle.cg_thermo.specs.Thermal.{NeedsMore}
 use Rattle.cg_thermo.specs.Thermographs.{IsThermograph}
 use Rattle.cg_thermo.specs.declared.winner.Outcome.{Outcome}
 use Rattle.cg_thermo.specs.declared.winner.Outcome.TheVariants.{L, R, P, N}
-use Rattle.cg_query.specs.Tree.{Question, Tree, value, outcome, stops, mean, temp, thermo}
+use Rattle.cg_query.specs.Tree.{Question, Tree, value, compare, outcome, stops, mean, temp, thermo, proof, check}
 use Rattle.cg_eval.specs.Boards.{Position, board, faulty}
 use Rattle.cg_eval.specs.Pictures.{mean_text, temp_text, thermograph_text}
 use Rattle.cg_eval.specs.Meaning.{meaning}
-use Rattle.cg_eval.specs.Reply.{IsAnswerTo, Piece, answer, comparison}
+use Rattle.cg_eval.specs.Reply.{IsAnswerTo, IsChecked, IsProofTold, Piece, answer, comparison}
 use Rattle.cg_eval.specs.Shown.{shown}
 use Rattle.cg_eval.specs.declared.answered.Answered.{Answered}
 use Rattle.cg_eval.specs.IllFormed.{is_memory}
@@ -38,6 +38,8 @@ use Rattle.cg_eval.specs.declared.pictures.Part.{Part}
 use Rattle.cg_eval.specs.declared.pictures.Part.TheVariants as parts
 use Rattle.cg_eval.specs.declared.telling.Asked.{Asked}
 use Rattle.cg_eval.specs.declared.telling.Asked.TheVariants as asking
+use Rattle.cg_eval.specs.declared.telling.AskedOfTwo.{AskedOfTwo}
+use Rattle.cg_eval.specs.declared.telling.AskedOfTwo.TheVariants.{Order, Proof, Check}
 
 -- ---- why there is no value
 
@@ -108,6 +110,12 @@ asked_of asking.Outcome t = outcome t
 asked_of asking.Stops t = stops t
 asked_of (asking.Picture part) t = part_asked part t
 
+-- the question about two expressions
+abbrev pub asked_of_two : AskedOfTwo → Tree → Tree → Question
+asked_of_two Order a b = compare a b
+asked_of_two Proof a b = proof a b
+asked_of_two (Check text) a b = check a b text.now
+
 -- the letter of who wins
 abbrev pub winner_of : Outcome → List ℕ
 winner_of L = codes "L"
@@ -128,6 +136,12 @@ pub record TellsTwo (h : ℕ) (Is : Piece → Type 0) (a : Answered) : Type 0 wh
 -- how the two compare
 abbrev pub IsCompared : Game → Game → Piece → Type 0
 IsCompared g h reply = reply ≡ answer (comparison (le g h) (le h g))
+
+-- what is told of two games
+abbrev pub IsToldOfTwo : AskedOfTwo → Game → Game → Piece → Type 0
+IsToldOfTwo Order g h reply = IsCompared g h reply
+IsToldOfTwo Proof g h reply = IsProofTold g h reply
+IsToldOfTwo (Check text) g h reply = IsChecked g h text.now reply
 
 -- whether a text is a proof
 abbrev pub yes_or_no : Bool → List ℕ

@@ -16,6 +16,7 @@ ghost use Rattle.cg_query.specs.Tree as trees;
 ghost use Rattle.cg_query.specs.Trees.{terms_in, terms_of, tree_of, trees_in};
 
 use crate::fault::{NoValue, widen};
+use crate::forms::CgBoards;
 use crate::heaps::heap_value;
 use crate::named::{literal, named_nimber, named_switch, named_tiny, named_ups, nothing};
 use crate::positions::board_value;
@@ -24,7 +25,6 @@ use cg_cells::CellStore;
 use cg_nodes::{GameFacts, Handle};
 use cg_sum::{multiple, negative, sum};
 use cg_syntax::{Expr, Exprs, Term, Terms};
-use cg_values::CgBoards;
 use std::alloc::Global;
 
 /// The canonical form of what the expression means. It goes through the expression from the left, reads each board and

@@ -13,6 +13,7 @@ mod boards;
 mod evaluate;
 mod fault;
 mod faults;
+mod forms;
 mod heaps;
 pub mod laws;
 mod line;
@@ -26,5 +27,6 @@ mod telling;
 
 pub use adder::SumAdder;
 pub use answered::Answered;
+pub use forms::{CgBoards, may_note};
 pub use line::answer;
 pub use reply::{answer_query, answer_query_held};

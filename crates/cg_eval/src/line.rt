@@ -6,13 +6,13 @@ ghost use Rattle.cg_eval.specs.Stores.{KeepsStore};
 ghost use Rattle.cg_grammar.specs.Lines.{is_blank_line, IsComment};
 
 use crate::Answered;
+use crate::forms::CgBoards;
 use crate::refusals::refuse_syntax;
 use crate::reply::answer_query;
 use cg_cells::CellStore;
 use cg_nodes::GameFacts;
 use cg_syntax::laws::one_query;
 use cg_syntax::{Line, SyntaxFault, read_line};
-use cg_values::CgBoards;
 use std::alloc::{AllocError, Global};
 
 /// The reply to a line that gets one, that is, to one that is neither blank nor a comment. It is made on a share of so

@@ -1,28 +1,17 @@
 //! Numbers and named games, on handles.
-ghost use Rattle.std.specs.Prelude.{◌≡◌, None};
+ghost use Rattle.std.specs.Prelude.{None};
 ghost use Rattle.cg_canon.specs.Works.{work_state};
-ghost use Rattle.cg_names.specs.Named.{zero_number};
 ghost use Rattle.cg_eval.specs.Progress.{Evaluates, Finds};
 ghost use Rattle.cg_eval.specs.Zero.{zero_form, zero_items};
 ghost use Rattle.cg_query.specs.Tree as trees;
 
 use crate::fault::{NoValue, widen};
-use cg_canon::{Work, number_item};
+use cg_canon::{Work, number_item, zero};
 use cg_cells::CellStore;
 use cg_dyadic::Dyadic;
 use cg_names::{nimber, switch, tiny, ups};
 use cg_nodes::{BoardForms, GameFacts, Handle};
 use std::alloc::Global;
-
-/// The number 0.
-fn zero() -> Dyadic
-    ensures { result ≡ zero_number }
-{
-    match Dyadic::make(0, 0) {
-        Ok(number) => number,
-        Err(_) => unreachable!(),
-    }
-}
 
 /// 0, as which a sum of no terms counts, and a use of a name.
 pub fn nothing<B: BoardForms, S: CellStore<GameFacts<B>>>(

@@ -1,7 +1,7 @@
 //! Values of boards, on handles.
 ghost use Rattle.std.specs.Prelude.{◌≡◌, true};
 ghost use Rattle.cg_canon.specs.Works.{work_state};
-ghost use Rattle.cg_values.specs.Forms.{board_form};
+ghost use Rattle.cg_eval.specs.Forms.{board_form};
 ghost use Rattle.cg_values.specs.Gives.{Gives};
 ghost use Rattle.cg_values.specs.Notes.{MayNote};
 ghost use Rattle.cg_eval.specs.Boards.{board, position_fault, position_form, position_items, position_of};
@@ -11,6 +11,7 @@ ghost use Rattle.cg_eval.specs.Progress.{Finds};
 use crate::SumAdder;
 use crate::boards::{GameBoard, game_board};
 use crate::fault::{NoValue, is_memory, widen};
+use crate::forms::{CgBoards, may_note};
 use cg_amazons::Amazons;
 use cg_canon::{ValueFault, Work};
 use cg_cells::CellStore;
@@ -20,7 +21,7 @@ use cg_moves::{Board, Rules};
 use cg_nodes::{GameFacts, Handle};
 use cg_strip::Toads;
 use cg_syntax::{GameKind, Text};
-use cg_values::{CgBoards, may_note, value_of};
+use cg_values::value_of;
 use std::alloc::Global;
 
 /// The value of the board by these rules.

@@ -14,13 +14,13 @@ ghost use Rattle.cg_query.specs.Trees.{question_of};
 use crate::Answered;
 use crate::fault::NoValue;
 use crate::faults::question_fault;
+use crate::forms::CgBoards;
 use crate::question::answer_question;
 use crate::refusals::{refuse_board, refuse_value};
 use cg_canon::{Held, ValueFault, Work};
 use cg_cells::CellStore;
 use cg_nodes::GameFacts;
 use cg_syntax::Query;
-use cg_values::CgBoards;
 use std::alloc::{AllocError, Global};
 use std::mem;
 

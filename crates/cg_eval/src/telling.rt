@@ -4,7 +4,7 @@ ghost use Rattle.cg_canon.specs.Works.{work_state};
 ghost use Rattle.cg_cells.specs.Store.{Spends};
 ghost use Rattle.cg_form.specs.Order.{le};
 ghost use Rattle.cg_nodes.specs.Games.{IsGame, game_at};
-ghost use Rattle.cg_eval.specs.Parts.{IsCompared, IsDrawn, Tells, TellsTwo, winner_of, yes_or_no};
+ghost use Rattle.cg_eval.specs.Parts.{IsCompared, IsDrawn, IsToldOfTwo, Tells, TellsTwo, winner_of, yes_or_no};
 ghost use Rattle.cg_eval.specs.Reply.{IsChecked, IsProofTold, comparison};
 
 use crate::Answered;
@@ -29,6 +29,17 @@ pub enum Asked {
     Stops,
     /// For a part of its thermograph.
     Picture(Part),
+}
+
+/// A question for two games.
+#[derive(Clone, Copy)]
+pub enum AskedOfTwo<'a> {
+    /// How they compare.
+    Order,
+    /// For the proof of how they are ordered.
+    Proof,
+    /// Whether a text is a proof that the first is at least the second.
+    Check(&'a [u8]),
 }
 
 /// The name of the game.
@@ -177,7 +188,7 @@ fn compared<B: BoardForms, S: CellStore<GameFacts<B>>>(
 }
 
 /// How the two games compare.
-pub(crate) fn tell_order<B: BoardForms, S: CellStore<GameFacts<B>>>(
+fn tell_order<B: BoardForms, S: CellStore<GameFacts<B>>>(
     alloc: Global,
     work: &mut Work<B, S>,
     a: Handle,
@@ -195,7 +206,7 @@ pub(crate) fn tell_order<B: BoardForms, S: CellStore<GameFacts<B>>>(
 }
 
 /// The proof that the first is at least the second, or that it isn't, or the refusal where that is too long.
-pub(crate) fn tell_proof<B: BoardForms, S: CellStore<GameFacts<B>>>(
+fn tell_proof<B: BoardForms, S: CellStore<GameFacts<B>>>(
     alloc: Global,
     work: &mut Work<B, S>,
     a: Handle,
@@ -222,7 +233,7 @@ fn yes_or_no(proves: bool) -> &'static str
 }
 
 /// Whether the text is a proof that the first is at least the second.
-pub(crate) fn tell_check<B: BoardForms, S: CellStore<GameFacts<B>>>(
+fn tell_check<B: BoardForms, S: CellStore<GameFacts<B>>>(
     alloc: Global,
     work: &mut Work<B, S>,
     a: Handle,
@@ -238,4 +249,25 @@ pub(crate) fn tell_check<B: BoardForms, S: CellStore<GameFacts<B>>>(
     let proves = check(alloc, work, a, b, proof)?;
     let text = String::from_str(alloc, yes_or_no(proves))?;
     Ok(answer_of(text, a))
+}
+
+/// What is asked of the two games.
+pub(crate) fn tell_two<B: BoardForms, S: CellStore<GameFacts<B>>>(
+    alloc: Global,
+    work: &mut Work<B, S>,
+    asked: AskedOfTwo<'_>,
+    a: Handle,
+    b: Handle,
+) -> Result<Answered, AllocError>
+    requires a { IsGame (work_state S.state work.old) a }
+    requires b { IsGame (work_state S.state work.old) b }
+    ensures told { let s = work_state S.state work.old in
+        IfOk result (TellsTwo a (IsToldOfTwo asked.entry (game_at s a) (game_at s b))) }
+    ensures spends { Spends 0 (work_state S.state work.old) (work_state S.state work.new) }
+{
+    match asked {
+        AskedOfTwo::Order => tell_order(alloc, work, a, b),
+        AskedOfTwo::Proof => tell_proof(alloc, work, a, b),
+        AskedOfTwo::Check(proof) => tell_check(alloc, work, a, b, proof),
+    }
 }

@@ -9,6 +9,7 @@ use Rattle.cg_nodes.proofs.Later.{stand_later, stands_game, stands_is_game}
 use Rattle.cg_canon.specs.declared.fault.ValueFault.{ValueFault}
 use Rattle.cg_canon.specs.declared.fault.ValueFault.TheVariants.{Memory}
 use Rattle.cg_canon.specs.declared.rest.WorkRest.{WorkRest}
+use Rattle.cg_canon.proofs.HandleLists.{stand_more}
 use Rattle.cg_canon.proofs.MadeSteps.{made_memory}
 use Rattle.cg_names.specs.Lists.{plain_item}
 use Rattle.cg_names.specs.Making.{FormsMade}
@@ -31,18 +32,6 @@ over-longer (h ∷ gs) g = refl
 pub nimber_form-next : (i : ℕ) → node (nimbers_below (suc i)) (nimbers_below (suc i)) ≡ nimber_form (suc i)
 unfolding nimber_form nimbers_below
 nimber_form-next i = sym (over-longer (nimbers_below i) (nimber_form i))
-
--- one handle more
-pub stand_more : {R : Type 0} (s : State Meant R) (hs : List ℕ) (h : ℕ) (gs : List Game) (g : Game) → StandFor s hs gs
-    → StandsFor s h g → StandFor s (hs ++ (h ∷ [])) (gs ++ (g ∷ []))
-stand_more s [] h gs g a b = (
-  (stands_is_game s h g b, tt),
-  ap (λ z. z ∷ []) (stands_game s h g b) ∙ ap (λ z. z ++ (g ∷ [])) a.1,
-)
-stand_more s (k ∷ hs) h gs g a b =
-    let rest : StandFor s (hs ++ (h ∷ [])) (games_at s hs ++ (g ∷ [])) = stand_more s hs h (games_at s hs) g
-    (a.0.1, refl) b in
-    ((a.0.0, rest.0), ap (λ z. game_at s k ∷ z) rest.1 ∙ ap (λ z. z ++ (g ∷ [])) a.1)
 
 first_only : (back : List Game) → nimbers_below 0 ++ (nimber_form 0 ∷ back) ≡ zero_form ∷ back
 unfolding nimber_form nimbers_below

@@ -12,8 +12,8 @@ ghost use Rattle.cg_names.specs.Making.{FormsMade};
 ghost use Rattle.cg_dyadic.specs.Exact.{number_negative};
 ghost use Rattle.cg_names.specs.Named.{other_numbers, pair_form, pair_positions, first_number, second_number, switch_form, tiny_form, tiny_part, zero_form, zero_number};
 
-use crate::making::{make, make_number, zero};
-use cg_canon::{ValueFault, Work, number_item};
+use crate::making::{make, make_number};
+use cg_canon::{ValueFault, Work, number_item, zero};
 use cg_cells::CellStore;
 use cg_dyadic::Dyadic;
 use cg_nodes::{BoardForms, GameFacts, Handle};

@@ -11,9 +11,9 @@ ghost use Rattle.cg_names.specs.Shapes.{sign_of};
 ghost use Rattle.cg_names.specs.Signs.{IsPositive};
 
 use crate::hot::{is_same, opposite};
-use crate::making::zero;
 use crate::shape::{Numbers, number_at, numbers_of, only};
 use crate::sign::Sign;
+use cg_canon::zero;
 use cg_cells::CellStore;
 use cg_dyadic::Dyadic;
 use cg_nodes::{BoardForms, GameFacts, Handle, ListId, Reading, read};

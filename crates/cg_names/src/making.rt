@@ -5,9 +5,9 @@ ghost use Rattle.cg_form.specs.Game.{Game, number as number_form};
 ghost use Rattle.cg_nodes.specs.Games.{AreGames, StandsFor, games_at};
 ghost use Rattle.cg_canon.specs.Works.{work_state};
 ghost use Rattle.cg_names.specs.Making.{FormsMade};
-ghost use Rattle.cg_names.specs.Named.{mirrored_if, zero_form, zero_number};
+ghost use Rattle.cg_names.specs.Named.{mirrored_if, zero_form};
 
-use cg_canon::{ValueFault, Work, canonical_item, number_item};
+use cg_canon::{ValueFault, Work, canonical_item, number_item, zero};
 use cg_cells::CellStore;
 use cg_dyadic::Dyadic;
 use cg_nodes::{BoardForms, GameFacts, Handle};
@@ -22,16 +22,6 @@ pub(crate) fn within(count: u128, more: u64, limit: u64) -> Option<u64>
         Some(count as u64)
     } else {
         None
-    }
-}
-
-/// The number 0.
-pub(crate) fn zero() -> Dyadic
-    ensures { result ≡ zero_number }
-{
-    match Dyadic::make(0, 0) {
-        Ok(number) => number,
-        Err(_) => unreachable!(),
     }
 }
 

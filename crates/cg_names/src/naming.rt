@@ -12,9 +12,9 @@ ghost use Rattle.cg_names.specs.Signs.{arrows_text, base_text, sign_text, star_t
 
 use crate::hot::is_same;
 use crate::look::{Shape, look};
-use crate::making::zero;
 use crate::memo::Memo;
 use crate::sign::Sign;
+use cg_canon::zero;
 use cg_cells::CellStore;
 use cg_dyadic::Dyadic;
 use cg_nodes::{BoardForms, GameFacts, Handle, ListId, head, known_game};

@@ -8,10 +8,9 @@ use crate::expressions::EXPRESSIONS;
 use crate::names::NAMES;
 use crate::positions::POSITIONS;
 use cg_cells::{CellStore, PlainStore};
-use cg_eval::{Answered, answer};
+use cg_eval::{Answered, CgBoards, answer};
 use cg_nodes::GameFacts;
 use cg_syntax::{Line, read_line};
-use cg_values::CgBoards;
 use std::alloc::Global;
 use std::test::Fail;
 

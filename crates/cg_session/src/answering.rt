@@ -11,12 +11,11 @@ ghost use Rattle.cg_syntax.specs.SessionViews.{line_of};
 
 use crate::job::LineJob;
 use crate::output::{Output, make_output, make_summary};
-use cg_eval::Answered;
+use cg_eval::{Answered, CgBoards};
 use cg_nodes::GameFacts;
 use cg_pool::{Evaluated, Gate, evaluate};
 use cg_syntax::laws::one_session;
 use cg_syntax::{SessionLine, answered_count, read_session};
-use cg_values::CgBoards;
 use cg_words::Settings;
 use std::alloc::{AllocError, Global};
 use std::thread::Threads;

@@ -13,12 +13,11 @@ ghost use Rattle.cg_syntax.specs.SessionViews.{line_of, resolved_of};
 use crate::refusals::{refuse_name, refuse_parts, refuse_syntax};
 use cg_canon::Held;
 use cg_cells::CellStore;
-use cg_eval::{Answered, answer_query_held};
+use cg_eval::{Answered, CgBoards, answer_query_held};
 use cg_nodes::GameFacts;
 use cg_pool::Job;
 use cg_shared::Desk;
 use cg_syntax::{Asked, SessionLine};
-use cg_values::CgBoards;
 use std::alloc::{AllocError, Global};
 
 /// Lines, each on a share of so many cells, with so many positions at most in one list of items.

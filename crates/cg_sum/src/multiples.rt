@@ -1,9 +1,8 @@
 //! Multiples of the game of a handle.
-ghost use Rattle.std.specs.Prelude.{◌≡◌, ◌≤◌, IfErr, IfOk, OnOk, pos};
+ghost use Rattle.std.specs.Prelude.{◌≤◌, IfErr, IfOk, OnOk};
 ghost use Rattle.cg_canon.specs.Items.{AllPass, WasRefused};
 ghost use Rattle.cg_canon.specs.Made.{ItemsMade};
 ghost use Rattle.cg_canon.specs.Works.{Keeps, work_state};
-ghost use Rattle.cg_dyadic.specs.Number.{whole};
 ghost use Rattle.cg_form.specs.Multiple.{multiple as times};
 ghost use Rattle.cg_nodes.specs.Can.{can};
 ghost use Rattle.cg_nodes.specs.Games.{IsGame, StandsFor, game_at};
@@ -12,9 +11,8 @@ ghost use Rattle.cg_sum.specs.Lists.{multiple_items};
 use crate::addition::found_sum;
 use crate::found::Sums;
 use crate::item::LookUp;
-use cg_canon::{ValueFault, Work, number_item};
+use cg_canon::{ValueFault, Work, number_item, zero};
 use cg_cells::CellStore;
-use cg_dyadic::Dyadic;
 use cg_nodes::{BoardForms, GameFacts, Handle, known_game};
 use std::alloc::Global;
 
@@ -86,14 +84,4 @@ fn listed_multiple<B: BoardForms, S: CellStore<GameFacts<B>>>(
         total = found_sum(alloc, work, total, a, &mut sums, LookUp::Kept)?;
     }
     Ok(total)
-}
-
-// The number 0.
-fn zero() -> Dyadic
-    ensures { result ≡ whole (pos 0) }
-{
-    match Dyadic::make(0, 0) {
-        Ok(zero) => zero,
-        Err(_) => unreachable!(),
-    }
 }

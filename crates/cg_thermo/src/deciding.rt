@@ -1,28 +1,16 @@
 //! The outcome of a game.
-ghost use Rattle.std.specs.Prelude.{◌≡◌, IfOk, pos};
+ghost use Rattle.std.specs.Prelude.{◌≡◌, IfOk};
 ghost use Rattle.cg_canon.specs.Works.{work_state};
 ghost use Rattle.cg_cells.specs.Store.{Spends};
-ghost use Rattle.cg_dyadic.specs.Number.{whole};
 ghost use Rattle.cg_form.specs.Outcome.{outcome};
 ghost use Rattle.cg_nodes.specs.Games.{IsGame, game_at};
 ghost use Rattle.cg_thermo.specs.Winners.{told, winner_by};
 
 use crate::winner::Outcome;
-use cg_canon::{Work, le_number, number_le};
+use cg_canon::{Work, le_number, number_le, zero};
 use cg_cells::CellStore;
-use cg_dyadic::Dyadic;
 use cg_nodes::{BoardForms, GameFacts, Handle};
 use std::alloc::{AllocError, Global};
-
-// The number 0.
-fn zero() -> Dyadic
-    ensures { result ≡ whole (pos 0) }
-{
-    match Dyadic::make(0, 0) {
-        Ok(zero) => zero,
-        Err(_) => unreachable!(),
-    }
-}
 
 // Who wins a game, by whether it is at least 0, and at most 0.
 fn by_order(at_least: bool, at_most: bool) -> Outcome

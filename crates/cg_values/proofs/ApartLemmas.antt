@@ -1,5 +1,5 @@
 -- Bits moved apart.
-use Rattle.std.proofs.Common.{◌≡◌, refl, ℕ, zero, suc, ◌+◌, ◌-◌, ◌*◌, ◌/◌, ◌%◌, ◌^◌, ◌<◌, ◌≤◌, ◌==◌, ◌&&◌, ◌⊎◌, inl, inr, Bool, true, ap, sym, ◌∙◌, subst, arith}
+use Rattle.std.proofs.Common.{◌≡◌, refl, ℕ, zero, suc, ◌+◌, ◌-◌, ◌*◌, ◌/◌, ◌%◌, ◌^◌, ◌<◌, ◌≤◌, ◌==◌, true, ap, sym, ◌∙◌, arith}
 use Rattle.cg_moves.specs.declared.planes.Planes.{Planes}
 use Rattle.cg_nodes.specs.Boards.{content_of}
 use Rattle.cg_values.specs.Contents.{apart, places_at}

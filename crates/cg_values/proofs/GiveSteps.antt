@@ -24,8 +24,8 @@ use Rattle.cg_moves.specs.Grid.{Grid}
 use Rattle.cg_moves.specs.Raw.{raw}
 use Rattle.cg_moves.specs.Rules.{GameRules}
 use Rattle.cg_values.specs.Gives.{Gives}
-use Rattle.cg_values.specs.Items.{added, added_items, board_items, sum_up, sum_up_items}
-use Rattle.cg_values.specs.Parts.{joins, part_items, parts_reach}
+use Rattle.cg_values.specs.Items.{added, added_items, board_items, parts_reach, sum_up, sum_up_items}
+use Rattle.cg_values.specs.Parts.{joins, part_items}
 use Rattle.cg_values.proofs.HandleSteps.{stand-first, stand-rest}
 use Rattle.cg_values.proofs.PartLemmas.{items-many, items-within}
 

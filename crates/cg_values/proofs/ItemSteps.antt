@@ -1,6 +1,5 @@
 -- Values of boards, found one after another.
-use Rattle.std.proofs.Common.{◌≡◌, refl, ℕ, ◌*◌, ◌≤◌, ◌==◌, Bool, true, false, if◌then◌else◌, List, [], ◌∷◌, ◌++◌, drop, length, map, take, ap, sym, ◌∙◌, subst, arith}
-use Rattle.std.specs.Prelude.{codes}
+use Rattle.std.proofs.Common.{◌≡◌, ℕ, ◌*◌, ◌≤◌, ◌==◌, Bool, true, false, if◌then◌else◌, List, ◌++◌, drop, length, map, take, ap, sym, ◌∙◌, subst, arith}
 use Rattle.std.proofs.lemmas.List.{length-map, map-append}
 use Rattle.cg_cells.specs.Meaning.{Grows}
 use Rattle.cg_cells.specs.Store.{State, thing_at}
@@ -18,7 +17,7 @@ use Rattle.cg_moves.specs.Raw.{raw}
 use Rattle.cg_moves.specs.Lawful.{IsLawful}
 use Rattle.cg_moves.specs.Rules.{GameRules, boards_after, followers}
 use Rattle.cg_moves.proofs.Bounds.{raw-moves}
-use Rattle.cg_values.specs.Notes.{places, symbol_row}
+use Rattle.cg_values.specs.Notes.{places}
 use Rattle.cg_values.specs.Options.{AreOptions}
 use Rattle.cg_values.specs.Parts.{values_of}
 use Rattle.cg_values.specs.declared.options.Options.{Options}
@@ -70,58 +69,29 @@ value-options s r lawful p ls rs has l k =
 
 -- ---- the contents of a board
 
-abbrev row_by : (a b c d : Bool) → List ℕ
-row_by a b c d = if a then codes ".#" else if b then codes ".xo" else if c then codes ".xo#" else if d then codes ".TF"
-    else []
+pub symbols-few : (n : ℕ) → symbols n ≤ 4
+symbols-few n = count-few (n == 1) (n == 2) (n == 3) (n == 4)
+  where
+    count-few : (a b c d : Bool) → (if a then 2 else if b then 3 else if c then 4 else if d then 3 else 0) ≤ 4
+    count-few true b c d = omega arith
+    count-few false true c d = omega arith
+    count-few false false true d = omega arith
+    count-few false false false true = omega arith
+    count-few false false false false = omega arith
 
-abbrev count_by : (a b c d : Bool) → ℕ
-count_by a b c d = if a then 2 else if b then 3 else if c then 4 else if d then 3 else 0
-
-row-count : (a b c d : Bool) → length (row_by a b c d) ≡ count_by a b c d
-row-count true b c d = refl
-row-count false true c d = refl
-row-count false false true d = refl
-row-count false false false true = refl
-row-count false false false false = refl
-
-pub row-length : (n : ℕ) → length (symbol_row n) ≡ symbols n
-row-length n = row-count (n == 1) (n == 2) (n == 3) (n == 4)
-
-row-few : (a b c d : Bool) → length (row_by a b c d) ≤ 4
-row-few true b c d = omega arith
-row-few false true c d = omega arith
-row-few false false true d = omega arith
-row-few false false false true = omega arith
-row-few false false false false = omega arith
-
-pub row-four : (n : ℕ) → length (symbol_row n) ≤ 4
-row-four n = row-few (n == 1) (n == 2) (n == 3) (n == 4)
-
-length_map : (f : ℕ → ℕ) (xs : List ℕ) → length (map f xs) ≡ length xs
-length_map f [] = refl
-length_map f (x ∷ xs) = let e = length_map f xs in omega arith
-
-count-four : (a b c d : Bool) → count_by a b c d ≤ 4
-count-four true b c d = omega arith
-count-four false true c d = omega arith
-count-four false false true d = omega arith
-count-four false false false true = omega arith
-count-four false false false false = omega arith
-
-pub contents-fit : (p : Grid) (n rows columns : ℕ) (contents : List ℕ) → IsGrid p → p.symbols ≡ symbol_row n
+pub contents-fit : (p : Grid) (n rows columns : ℕ) (contents : List ℕ) → IsGrid p → length p.symbols ≡ symbols n
     → rows ≡ p.rows → columns ≡ p.columns → AreWritten (places p.symbols p.cells) contents
     → are_of_board n rows columns contents ≡ true
 contents-fit p n rows columns contents g row e f w =
     let P : ℕ → Type 0 = λ z. are_contents (symbols n) z contents ≡ true in
     let size : p.rows * p.columns ≡ rows * columns = ap (λ z. z * p.columns) (sym e) ∙ ap (λ z. rows * z) (sym f) in
-    let few : length p.symbols ≤ symbols n = (let a = ap length row in let b = row-length n in omega arith) in
+    let few : length p.symbols ≤ symbols n = omega (arith, row) in
     let some : 1 ≤ rows * columns = (let Q : ℕ → Type 0 = λ z. 1 ≤ z in subst Q (g.size ∙ size) g.some) in
     let within : rows * columns ≤ 64 = (let Q : ℕ → Type 0 = λ z. z ≤ 64 in subst Q (g.size ∙ size) g.few) in
     is-of_board n rows columns contents some within
-    (subst P size ((contents-written (symbols n) (p.rows * p.columns) contents (count-four (n == 1) (n == 2) (n == 3) (n ==
-    4))).1 (record {
+    (subst P size ((contents-written (symbols n) (p.rows * p.columns) contents (symbols-few n)).1 (record {
       cells = places p.symbols p.cells;
-      as_many = length_map _ p.cells ∙ g.size;
+      as_many = length-map p.cells _ ∙ g.size;
       symbols_only = places-below (symbols n) p.symbols p.cells few g.cells;
       written = w;
     })))

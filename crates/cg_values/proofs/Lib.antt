@@ -1,12 +1,12 @@
 pub mod ApartLemmas
 pub mod WrittenLemmas
 pub mod PlaceLemmas
-pub mod FormLemmas
 pub mod SumUp
 pub mod LastPiece
 pub mod Opening
 pub mod HandleSteps
 pub mod PartLemmas
+pub mod NoteSteps
 pub mod ItemSteps
 pub mod GiveSteps
 pub mod AddSteps

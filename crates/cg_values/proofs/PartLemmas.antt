@@ -19,8 +19,8 @@ use Rattle.cg_moves.specs.Reach.{reach_of}
 use Rattle.cg_moves.specs.Lawful.{IsLawful}
 use Rattle.cg_moves.specs.Rules.{GameRules, In, cuts, followers, pieces}
 use Rattle.cg_moves.specs.declared.opened.NextPlaces.{NextPlaces}
-use Rattle.cg_values.specs.Items.{board_items, cut_items, joining_items, piece_items, sum_up, sum_up_items, value_item, value_items, whole_items}
-use Rattle.cg_values.specs.Parts.{joins, part_items, parts_of, parts_reach}
+use Rattle.cg_values.specs.Items.{board_items, cut_items, joining_items, parts_reach, piece_items, sum_up, sum_up_items, value_item, value_items, whole_items}
+use Rattle.cg_values.specs.Parts.{joins, part_items, parts_of}
 use Rattle.cg_values.proofs.SumUp.{board-sum}
 
 -- ---- what comes next

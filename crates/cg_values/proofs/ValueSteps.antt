@@ -1,12 +1,12 @@
 -- The values of the parts that play can come to, made one after another.
-use Rattle.std.proofs.Common.{◌≡◌, ℕ, suc, ◌+◌, ◌≤◌, ◌<◌, arith, ap, sym, ◌∙◌, subst, true, List, [], ◌∷◌, ◌++◌, append_assoc, Result, Ok, Err, take, drop, get_or, length}
-use Rattle.std.specs.Prelude.{All}
+use Rattle.std.proofs.Common.{◌≡◌, ◌≢◌, ℕ, suc, ◌+◌, ◌≤◌, ◌<◌, arith, ap, sym, ◌∙◌, subst, true, List, [], ◌∷◌, ◌++◌, append_assoc, Result, Ok, Err, take, drop, get_or, length}
+use Rattle.std.specs.Prelude.{All, OnOk}
 use Rattle.std.specs.List.{flat_map}
 use Rattle.std.proofs.lemmas.Grind.{flat_map-append}
 use Rattle.std.proofs.lemmas.List.{take_all}
 use Rattle.std.proofs.lemmas.List.Elements.{All-get_or}
-use Rattle.cg_cells.specs.Store.{State}
-use Rattle.cg_canon.proofs.Keeping.{keeps_then}
+use Rattle.cg_cells.specs.Store.{Spends, State}
+use Rattle.cg_canon.proofs.Keeping.{keeps_then, spends_keeps}
 use Rattle.cg_canon.proofs.MadeSteps.{made_as, made_then, passed, stopped}
 use Rattle.cg_canon.specs.Items.{AllPass, Item}
 use Rattle.cg_canon.specs.Made.{ItemsMade}
@@ -25,9 +25,11 @@ use Rattle.cg_moves.specs.Raw.{raw}
 use Rattle.cg_moves.specs.Rules.{GameRules, followers}
 use Rattle.cg_moves.specs.declared.opened.NextPlaces.{NextPlaces}
 use Rattle.cg_moves.specs.declared.opened.Opened.{Opened}
+use Rattle.cg_values.specs.Notes.{AreNoted, IsNoted}
 use Rattle.cg_values.specs.Parts.{HoldAt, IsOpened, part_items, parts_of, values_of}
 use Rattle.cg_values.proofs.HandleSteps.{held, hold-as, stand-more}
 use Rattle.cg_values.proofs.JoinSteps.{flat-next, values-next}
+use Rattle.cg_values.proofs.NoteSteps.{noted-later, noted-more}
 use Rattle.cg_values.proofs.PartLemmas.{next-at}
 
 -- the values of the parts were made, and the handles stand for them
@@ -36,6 +38,7 @@ pub record PartsMade {R : Type 0} (s t : State Meant (WorkRest R)) (r : GameRule
   pub keeps : Keeps s t
   pub passed : AllPass s.rest.share s.rest.spent (flat_map (part_items s.rest.limit r) ps) t.rest.spent
   pub values : StandFor t handles (values_of r ps)
+  pub noted : AreNoted t r ps
   pub spare_kept : spare ≤ t.spare
 
 module _ {R : Type 0} (s : State Meant (WorkRest R)) (r : GameRules) (spare : ℕ) (ps boards : List Grid) (is : ps ≡ boards)
@@ -47,6 +50,18 @@ module _ {R : Type 0} (s : State Meant (WorkRest R)) (r : GameRules) (spare : �
       → PartsMade s t r (take i ps) handles spare → PartsMade s t r boards handles spare
   parts_done t handles i l made =
       let P : List Grid → Type 0 = λ z. PartsMade s t r z handles spare in subst P (take_all i ps l ∙ is) made
+
+  -- the store may be told between what will be asked for
+  pub parts_told : (t u : State Meant (WorkRest R)) (handles : List ℕ) (i : ℕ) → PartsMade s t r (take i ps) handles spare
+      → Spends 0 t u → PartsMade s u r (take i ps) handles spare
+  parts_told t u handles i made told =
+      let P : WorkRest R → Type 0 = λ z. AllPass s.rest.share s.rest.spent (items_of (take i ps)) z.spent in record {
+        keeps = keeps_then s t u made.keeps (spends_keeps 0 t u told);
+        passed = subst P (sym told.rest) made.passed;
+        values = stand_later t u told.known handles (values_of r (take i ps)) made.values;
+        noted = noted-later t u r told.known (take i ps) told.noted made.noted;
+        spare_kept = let e = told.spare in let k = made.spare_kept in omega (arith, e, k);
+      }
 
   are : AreNext r (parts_of r) counts places [] ps ns
   are = let P : List Grid → Type 0 = λ z. AreNext r (parts_of r) counts places [] z ns in subst P (sym is) next_are
@@ -92,17 +107,20 @@ module _ {R : Type 0} (s : State Meant (WorkRest R)) (r : GameRules) (spare : �
           items_made)
 
       pub parts_more : (ks : List ℕ) (h : ℕ) (x : T) → q ≡ Ok x → StandsFor u h (can (raw r p)) → spare ≤ u.spare
-          → ks ≡ handles ++ (h ∷ []) → PartsMade s u r (take (i + 1) ps) ks spare
-      parts_more ks h x ok st kept_spare e =
+          → ks ≡ handles ++ (h ∷ []) → OnOk q (r.number ≢ 0 → IsNoted u r p) → PartsMade s u r (take (i + 1) ps) ks spare
+      parts_more ks h x ok st kept_spare e note =
+          let N : Result T ValueFault → Type 0 = λ z. OnOk z (r.number ≢ 0 → IsNoted u r p) in
           let L : List Item → Type 0 = λ z. AllPass s.rest.share s.rest.spent z u.rest.spent in
           let T : List Grid → Type 0 = λ z. PartsMade s u r z ks spare in
           let K : List ℕ → Type 0 = λ z. StandFor u z (values_of r (take i ps ++ (p ∷ []))) in
+          let before = noted-later t u r item.keeps.known (take i ps) item.keeps.noted made.noted in
           subst T (sym (take_next ps i p within read)) (record {
             keeps = keeps_then s t u made.keeps item.keeps;
             passed = subst L (sym (flat-next (part_items s.rest.limit r) (take i ps) p))
                 (passed s u (items_of (take i ps) ++ part_items s.rest.limit r p) q x ok items_made);
             values = subst K (sym e) (rw (values-next r (take i ps) p) (stand-more u handles (values_of r (take i ps)) h (can (raw r p))
                 (stand_later t u item.keeps.known handles (values_of r (take i ps)) made.values) st));
+            noted = noted-more u r (take i ps) p before (subst N ok note);
             spare_kept = kept_spare;
           })
 

@@ -12,6 +12,10 @@ use Rattle.cg_moves.specs.Raw.{raw}
 use Rattle.cg_moves.specs.Reach.{reach_of}
 use Rattle.cg_moves.specs.Rules.{GameRules, cuts, followers, pieces}
 
+-- what play can come to: pieces where the rules cut, and boards where they don't
+abbrev pub parts_reach : GameRules → Grid → List Grid
+parts_reach r p = if cuts r then piece_reach_of r p else reach_of r p
+
 -- the canonical form of the board's tree, which costs 8 more than the form alone
 abbrev pub value_item : GameRules → Grid → Item
 value_item r p = made (can (raw r p)) 8

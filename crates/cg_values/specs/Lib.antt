@@ -1,7 +1,6 @@
 -- what public contracts cite
 pub mod Items
 pub mod Notes
-pub mod Forms
 -- what private contracts cite, and what proofs need here
 pub mod Parts
 pub mod Options

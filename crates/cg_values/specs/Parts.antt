@@ -11,18 +11,12 @@ use Rattle.cg_nodes.specs.Meant.{Meant}
 use Rattle.cg_moves.specs.declared.opened.Opened.{Opened}
 use Rattle.cg_moves.specs.Grid.{Grid}
 use Rattle.cg_moves.specs.Opened.{AreNext, StandAt, uncut}
-use Rattle.cg_moves.specs.PieceReach.{piece_reach_of}
 use Rattle.cg_moves.specs.Raw.{raw}
-use Rattle.cg_moves.specs.Reach.{reach_of}
 use Rattle.cg_moves.specs.Rules.{GameRules, cuts, followers, pieces}
-use Rattle.cg_values.specs.Items.{sum_up_items, value_item}
+use Rattle.cg_values.specs.Items.{parts_reach, sum_up_items, value_item}
 
 abbrev pub parts_of : GameRules → Grid → List Grid
 parts_of r = if cuts r then pieces r else uncut
-
--- the parts that play can come to
-abbrev pub parts_reach : GameRules → Grid → List Grid
-parts_reach r p = if cuts r then piece_reach_of r p else reach_of r p
 
 -- these are the parts that play can come to, with what comes next after each of them, and the places of the board's own parts
 pub record IsOpened (r : GameRules) (p : Grid) (opened : Opened) : Type 0 where

@@ -1,11 +1,8 @@
 //! The cells on which values of boards are noted.
 ghost use Rattle.std.specs.Prelude.{◌≡◌, ◌+◌, ◌*◌, ◌≤◌, ◌∷◌, ◌++◌, [], true, Some, length, reverse};
-ghost use Rattle.cg_cells.specs.Meaning.{note_for};
-ghost use Rattle.cg_cells.specs.Store.{Known, Spends, thing_at};
+ghost use Rattle.cg_cells.specs.Store.{Spends, thing_at};
 ghost use Rattle.cg_nodes.specs.Boards.{are_of_board};
-ghost use Rattle.cg_nodes.specs.Can.{can};
-ghost use Rattle.cg_nodes.specs.Meant.{form};
-ghost use Rattle.cg_nodes.specs.Spelled.{game_meaning};
+ghost use Rattle.cg_nodes.specs.Meant.{board};
 ghost use Rattle.cg_values.specs.Chunks.{ChunksAs, IsChunks, chunked};
 
 use cg_cells::{CellStore, Id, Key};
@@ -58,9 +55,7 @@ pub(crate) fn board_cell<B: BoardForms, S: CellStore<GameFacts<B>>>(
     requires some { 1 ≤ length contents.now }
     requires written { are_of_board number rows columns contents.now ≡ true }
     requires spare { length contents.now + 1 ≤ (S.state store.old).spare }
-    ensures known { Known (S.state store.new) result }
-    ensures due { note_for (game_meaning B.form) (thing_at (S.state store.new) result)
-        ≡ Some (form (can (B.form number rows columns contents.now))) }
+    ensures stands { thing_at (S.state store.new) result ≡ Some (board number rows columns contents.now) }
     ensures spends { Spends (length contents.now + 1) (S.state store.old) (S.state store.new) }
 {
     let first = chunks(store, contents);

@@ -1,9 +1,9 @@
 //! The item of the value of a board.
-ghost use Rattle.std.specs.Prelude.{◌≡◌, ℕ, ◌+◌, ◌≤◌, true, IfOk, OnOk, IsSome, [], ◌∷◌, Some, length};
+ghost use Rattle.std.specs.Prelude.{◌≡◌, ℕ, ◌+◌, ◌≤◌, true, IfOk, OnOk, IsSome, [], ◌∷◌, ◌≢◌, Some, length};
 ghost use Rattle.cg_canon.specs.Works.{work_state};
 ghost use Rattle.cg_nodes.specs.Boards.{AreWritten};
 ghost use Rattle.cg_cells.specs.Meaning.{note_for};
-ghost use Rattle.cg_cells.specs.Store.{Known, Spends, thing_at};
+ghost use Rattle.cg_cells.specs.Store.{Spends, thing_at};
 ghost use Rattle.cg_nodes.specs.Can.{can};
 ghost use Rattle.cg_nodes.specs.Games.{StandsFor};
 ghost use Rattle.cg_nodes.specs.Meant.{form};
@@ -12,7 +12,7 @@ ghost use Rattle.cg_moves.specs.Grid.{Grid};
 ghost use Rattle.cg_moves.specs.Raw.{raw};
 ghost use Rattle.cg_values.specs.Items.{value_item};
 ghost use Rattle.cg_canon.specs.Made.{ItemsMade};
-ghost use Rattle.cg_values.specs.Notes.{IsNumbered, MayNote, places};
+ghost use Rattle.cg_values.specs.Notes.{IsCellOf, IsNoted, IsNumbered, MayNote, places};
 ghost use Rattle.cg_values.specs.Options.{AreOptions};
 
 use crate::cells::board_cell;
@@ -54,10 +54,11 @@ fn noted_item<B: BoardForms, S: CellStore<GameFacts<B>>, R: Rules>(
 ) -> Result<Handle, ValueFault>
     requires has { (R.game rules.now).has board.now ≡ true }
     requires options { AreOptions (work_state S.state work.old) (R.game rules.now) board.now options.now }
-    requires known { Known (work_state S.state work.old) cell }
+    requires cell { IsCellOf (work_state S.state work.old) (R.game rules.now) board.now cell }
     requires due { note_for (game_meaning B.form) (thing_at (work_state S.state work.old) cell)
         ≡ Some (form (can (raw (R.game rules.now) board.now))) }
     ensures game { IfOk result (λ h. StandsFor (work_state S.state work.new) h (can (raw (R.game rules.now) board.now))) }
+    ensures noted { OnOk result (IsNoted (work_state S.state work.new) (R.game rules.now) board.now) }
     ensures made { ItemsMade (work_state S.state work.old) (work_state S.state work.new) (value_item (R.game rules.now) board.now ∷ []) result }
     ensures more { (work_state S.state work.old).spare ≤ (work_state S.state work.new).spare }
 {
@@ -86,7 +87,7 @@ fn cell_of<B: BoardForms, S: CellStore<GameFacts<B>>, R: Rules>(
     requires numbered { IsNumbered B.form (R.game rules.now) }
     requires written { AreWritten (places board.now.symbols board.now.cells) contents.now }
     requires spare { length contents.now + 1 ≤ (work_state S.state work.old).spare }
-    ensures known { Known (work_state S.state work.new) result }
+    ensures cell { IsCellOf (work_state S.state work.new) (R.game rules.now) board.now result }
     ensures due { note_for (game_meaning B.form) (thing_at (work_state S.state work.new) result)
         ≡ Some (form (can (raw (R.game rules.now) board.now))) }
     ensures spends { Spends (length contents.now + 1) (work_state S.state work.old) (work_state S.state work.new) }
@@ -117,10 +118,11 @@ fn numbered_item<B: BoardForms, S: CellStore<GameFacts<B>>, R: Rules>(
     requires options { AreOptions (work_state S.state work.old) (R.game rules.now) board.now options.now }
     requires spare { start ≤ (work_state S.state work.old).spare }
     ensures game { IfOk result (λ h. StandsFor (work_state S.state work.new) h (can (raw (R.game rules.now) board.now))) }
+    ensures noted { OnOk result (IsNoted (work_state S.state work.new) (R.game rules.now) board.now) }
     ensures made { ItemsMade (work_state S.state work.old) (work_state S.state work.new) (value_item (R.game rules.now) board.now ∷ []) result }
     ensures spare { start ≤ (work_state S.state work.new).spare }
 {
-    // Read for the proof alone: the board's row of symbols is that of its game.
+    // Read for the proof alone: the board has as many symbols as boards of its game.
     let _size = board.size();
     let contents = contents_of(alloc, board)?;
     let claims = contents.len() as u64 + 1;
@@ -148,6 +150,8 @@ pub(crate) fn board_item<B: BoardForms, S: CellStore<GameFacts<B>>, R: Rules>(
     requires options { AreOptions (work_state S.state work.old) (R.game rules.now) board.now options.now }
     requires spare { start ≤ (work_state S.state work.old).spare }
     ensures game { IfOk result (λ h. StandsFor (work_state S.state work.new) h (can (raw (R.game rules.now) board.now))) }
+    ensures noted { OnOk result ((R.game rules.now).number ≢ 0
+        → IsNoted (work_state S.state work.new) (R.game rules.now) board.now) }
     ensures made { ItemsMade (work_state S.state work.old) (work_state S.state work.new) (value_item (R.game rules.now) board.now ∷ []) result }
     ensures spare { start ≤ (work_state S.state work.new).spare }
 {

@@ -5,7 +5,6 @@ mod adder;
 mod cells;
 mod contents;
 mod expecting;
-mod forms;
 mod item;
 mod joining;
 mod options;
@@ -14,5 +13,4 @@ mod reached;
 mod values;
 
 pub use adder::Adder;
-pub use forms::{CgBoards, may_note};
 pub use reached::value_of;

@@ -1,6 +1,7 @@
 //! The parts that play can come to, with what comes next after each of them.
 ghost use Rattle.std.specs.Prelude.{◌≡◌, ◌⊎◌, ◌<◌, ◌≤◌, true, IfErr, IfOk, OnOk, length, Err};
-ghost use Rattle.cg_values.specs.Parts.{IsOpened, parts_reach};
+ghost use Rattle.cg_values.specs.Items.{parts_reach};
+ghost use Rattle.cg_values.specs.Parts.{IsOpened};
 
 use cg_canon::ValueFault;
 use cg_moves::{Board, Opened, Pieces, ReachFault, Rules, open, open_pieces};

@@ -6,8 +6,8 @@ ghost use Rattle.cg_nodes.specs.Can.{can};
 ghost use Rattle.cg_nodes.specs.Games.{StandsFor};
 ghost use Rattle.cg_moves.specs.Raw.{raw};
 ghost use Rattle.cg_values.specs.Gives.{Gives};
-ghost use Rattle.cg_values.specs.Items.{board_items};
-ghost use Rattle.cg_values.specs.Notes.{MayNote};
+ghost use Rattle.cg_values.specs.Items.{board_items, parts_reach};
+ghost use Rattle.cg_values.specs.Notes.{AreNoted, MayNote};
 
 use crate::Adder;
 use crate::joining::joined;
@@ -29,8 +29,10 @@ fn board_value<B: BoardForms, S: CellStore<GameFacts<B>>, R: Rules, A: Adder>(
 ) -> Result<Handle, ValueFault>
     requires has { (R.game rules.now).has start.now ≡ true }
     requires notes { MayNote B.form (R.game rules.now) }
-    ensures { Gives (work_state S.state work.old) (work_state S.state work.new)
+    ensures gives { Gives (work_state S.state work.old) (work_state S.state work.new)
         (board_items work.old.limit (R.game rules.now) start.now) (raw (R.game rules.now) start.now) result }
+    ensures noted { OnOk result (AreNoted (work_state S.state work.new) (R.game rules.now)
+        (parts_reach (R.game rules.now) start.now)) }
 {
     let limit = work.limit();
     let opened = parts_within(alloc, rules, start, limit)?;
@@ -48,8 +50,9 @@ fn board_value<B: BoardForms, S: CellStore<GameFacts<B>>, R: Rules, A: Adder>(
 /// `Positions`, `Range`, `Depth` and `Full` come exactly where the first item that isn't made is refused so; what the items
 /// before it cost is spent. Where there are more such boards or pieces than the limit, the one item is refused by `Positions`.
 ///
-/// Values are noted on the cells of their boards, unless the game's number is 0. So the rules must be such that the note on
-/// a board's cell is the value of that board. A value that is found there isn't made again, but is charged all the same.
+/// Values are noted on the cells of their boards, unless the game's number is 0: in the end the cell of each board, or piece,
+/// that play can come to is known, and a value is noted there. So the rules must be such that the note on a board's cell is
+/// the value of that board. A value that is found there isn't made again, but is charged all the same.
 pub fn value_of<B: BoardForms, S: CellStore<GameFacts<B>>, R: Rules, A: Adder>(
     alloc: Global,
     work: &mut Work<B, S>,
@@ -60,6 +63,8 @@ pub fn value_of<B: BoardForms, S: CellStore<GameFacts<B>>, R: Rules, A: Adder>(
     requires has { (R.game rules.now).has start.now ≡ true }
     requires notes { MayNote B.form (R.game rules.now) }
     ensures game { IfOk result (λ h. StandsFor (work_state S.state work.new) h (can (raw (R.game rules.now) start.now))) }
+    ensures noted { OnOk result (AreNoted (work_state S.state work.new) (R.game rules.now)
+        (parts_reach (R.game rules.now) start.now)) }
     ensures charged { OnOk result (AllPass work.old.share work.old.spent
         (board_items work.old.limit (R.game rules.now) start.now) work.new.spent) }
     ensures refused { IfErr result (λ fault. WasRefused fault work.old.share work.old.spent

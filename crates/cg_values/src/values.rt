@@ -1,5 +1,5 @@
 //! The values of the parts that play can come to, one after another.
-ghost use Rattle.std.specs.Prelude.{◌≡◌, ◌≤◌, [], true, All, IfOk, length, map};
+ghost use Rattle.std.specs.Prelude.{◌≡◌, ◌≢◌, ◌≤◌, [], true, All, IfOk, OnOk, length, map};
 ghost use Rattle.std.specs.List.{flat_map};
 ghost use Rattle.cg_canon.specs.Made.{ItemsMade};
 ghost use Rattle.cg_canon.specs.Works.{work_state};
@@ -9,7 +9,7 @@ ghost use Rattle.cg_moves.specs.declared.player.Player.TheVariants.{Left};
 ghost use Rattle.cg_moves.specs.Opened.{AreNext};
 ghost use Rattle.cg_moves.specs.Raw.{raw};
 ghost use Rattle.cg_moves.specs.Rules.{boards_after, followers};
-ghost use Rattle.cg_values.specs.Notes.{MayNote};
+ghost use Rattle.cg_values.specs.Notes.{AreNoted, IsNoted, MayNote};
 ghost use Rattle.cg_values.specs.Parts.{HoldAt, part_items, parts_of, values_of};
 
 use crate::Adder;
@@ -33,8 +33,6 @@ struct Part<'a> {
     counts: &'a [usize],
     places: &'a [usize],
     handles: &'a [Handle],
-    // The boards of which the store is told before.
-    ahead: &'a [Board],
 }
 
 /// Makes the items of the part, from the handles of the values of those before it.
@@ -55,6 +53,8 @@ fn part_value<B: BoardForms, S: CellStore<GameFacts<B>>, R: Rules, A: Adder>(
         (flat_map (parts_of (R.game rules.now)) (followers (R.game rules.now) part.board.now)) }
     requires spare { start ≤ (work_state S.state work.old).spare }
     ensures game { IfOk result (λ h. StandsFor (work_state S.state work.new) h (can (raw (R.game rules.now) part.entry.board.now))) }
+    ensures noted { OnOk result ((R.game rules.now).number ≢ 0
+        → IsNoted (work_state S.state work.new) (R.game rules.now) part.entry.board.now) }
     ensures made { ItemsMade (work_state S.state work.old) (work_state S.state work.new)
         (part_items work.old.limit (R.game rules.now) part.entry.board.now) result }
     ensures spare { start ≤ (work_state S.state work.new).spare }
@@ -74,33 +74,7 @@ fn part_value<B: BoardForms, S: CellStore<GameFacts<B>>, R: Rules, A: Adder>(
     board_item(alloc, work, rules, part.board, &options, start)
 }
 
-/// Makes the items of the part, from the handles of the values of those before it. Of the boards ahead the store is told before.
-fn expected_value<B: BoardForms, S: CellStore<GameFacts<B>>, R: Rules, A: Adder>(
-    alloc: Global,
-    work: &mut Work<B, S>,
-    rules: &R,
-    adder: &A,
-    part: Part<'_>,
-    start: u64,
-) -> Result<Handle, ValueFault>
-    requires has { (R.game rules.now).has part.board.now ≡ true }
-    requires notes { MayNote B.form (R.game rules.now) }
-    requires lefts { part.lefts ≡ length (boards_after (R.game rules.now) Left part.board.now) }
-    requires counts { part.counts.now
-        ≡ map (λ q. length (parts_of (R.game rules.now) q)) (followers (R.game rules.now) part.board.now) }
-    requires values { HoldAt (work_state S.state work.old) (R.game rules.now) part.handles.now part.places.now
-        (flat_map (parts_of (R.game rules.now)) (followers (R.game rules.now) part.board.now)) }
-    requires spare { start ≤ (work_state S.state work.old).spare }
-    ensures game { IfOk result (λ h. StandsFor (work_state S.state work.new) h (can (raw (R.game rules.now) part.entry.board.now))) }
-    ensures made { ItemsMade (work_state S.state work.old) (work_state S.state work.new)
-        (part_items work.old.limit (R.game rules.now) part.entry.board.now) result }
-    ensures spare { start ≤ (work_state S.state work.new).spare }
-{
-    expect_boards(alloc, work, rules.number(), part.ahead);
-    part_value(alloc, work, rules, adder, part, start)
-}
-
-/// Makes the items of the parts, in order, and gives the handles of their values.
+/// Makes the items of the parts, in order, and gives the handles of their values. Of the boards ahead the store is told before.
 pub(crate) fn part_values<B: BoardForms, S: CellStore<GameFacts<B>>, R: Rules, A: Adder>(
     alloc: Global,
     work: &mut Work<B, S>,
@@ -114,6 +88,7 @@ pub(crate) fn part_values<B: BoardForms, S: CellStore<GameFacts<B>>, R: Rules, A
         opened.now.boards opened.now.next.items }
     ensures values { IfOk result (λ handles. StandFor (work_state S.state work.new) handles.items
         (values_of (R.game rules.now) opened.now.boards)) }
+    ensures noted { OnOk result (AreNoted (work_state S.state work.new) (R.game rules.now) opened.now.boards) }
     ensures made { ItemsMade (work_state S.state work.old) (work_state S.state work.new)
         (flat_map (part_items work.old.limit (R.game rules.now)) opened.now.boards) result }
     ensures more { (work_state S.state work.old).spare ≤ (work_state S.state work.new).spare }
@@ -121,6 +96,8 @@ pub(crate) fn part_values<B: BoardForms, S: CellStore<GameFacts<B>>, R: Rules, A
     let spare = work.spare();
     let mut handles = Vec::with_capacity(alloc, opened.boards.len())?;
     for (place, board) in opened.boards.as_slice().iter().enumerate() {
+        let ahead = boards_ahead(opened.boards.as_slice(), place);
+        expect_boards(alloc, work, rules.number(), ahead);
         let next = opened.next[place];
         let part = Part {
             board,
@@ -128,9 +105,8 @@ pub(crate) fn part_values<B: BoardForms, S: CellStore<GameFacts<B>>, R: Rules, A
             counts: opened.counts_of(next),
             places: opened.places_of(next),
             handles: &handles,
-            ahead: boards_ahead(opened.boards.as_slice(), place),
         };
-        let value = expected_value(alloc, work, rules, adder, part, spare)?;
+        let value = part_value(alloc, work, rules, adder, part, spare)?;
         handles.push(value)?;
     }
     Ok(handles)

@@ -1,4 +1,5 @@
-use Rattle.std.proofs.Common.{ap, arith, length, ◌∙◌}
+use Rattle.std.proofs.Common.{ap, arith, length, refl, ◌∙◌}
+use Rattle.cg_book.proofs.Slices.{page_of_item}
 use Rattle.cg_canon.proofs.Booking.{handled_next, handled_none}
 use Rattle.cg_canon.proofs.Pushed.{pushed_count}
 use Rattle.cg_canon.proofs.book.put_handles.Goals as goal
@@ -14,9 +15,15 @@ loop-page-init g c =
 pub loop-page-preserved : goal.loop-page-preserved
 loop-page-preserved g c = record {
   handled = handled_next (g.S.CellStore.state c.args.store.now) c.args.book.now c.loop-page.handles.items c.push_reserved.new.self.items c.args.pages.now
-      c.loop-page.page-index c.in_ok-handle.field-0 c.requires.holds c.loop-page.invariant.handled c.loop-page-test.true c.in_ok-handle.ensures.handle
+      c.loop-page.page-index c.handle.result c.requires.holds c.loop-page.invariant.handled c.loop-page-test.true c.handle.ensures
       c.push_reserved.ensures.items;
-  count = pushed_count c.loop-page.handles.items c.push_reserved.new.self.items c.in_ok-handle.field-0 c.loop-page.page-index
+  count = pushed_count c.loop-page.handles.items c.push_reserved.new.self.items c.handle.result c.loop-page.page-index
       c.loop-page.invariant.count c.push_reserved.ensures.items;
   room = let e = c.push_reserved.ensures.capacity in let r = c.loop-page.invariant.room in omega arith;
 }
+
+pub handle-requires : goal.handle-requires
+handle-requires g c =
+    let count = c.requires.holds.count in
+    let page = page_of_item c.args.book.now.pages c.args.pages.now c.loop-page.page-index _ c.requires.pages c.loop-page-test.true refl in
+    omega arith

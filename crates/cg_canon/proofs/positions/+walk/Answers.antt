@@ -15,14 +15,14 @@ use Rattle.cg_canon.proofs.positions.+walk.Goals as goal
 
 pub walk_page-returns-then-has-clause-found : goal.walk_page-returns-then-has-clause-found
 walk_page-returns-then-has-clause-found g t c =
-    page_there (g.S.CellStore.state c.args.store.now) c.args.book.now c.args.page c.in_ok-handle.handle c.args.found.now
-    c.requires.holds c.in_ok-handle.ensures.handle c.requires.found (c.has.ensures.0 c.if-has.true)
+    page_there (g.S.CellStore.state c.args.store.now) c.args.book.now c.args.page c.handle-handle.result c.args.found.now
+    c.requires.holds c.handle-handle.ensures c.requires.found (c.has.ensures.0 c.if-has.true)
 
 pub walk_page-returns-in_err-walk_options-clause-refused : goal.walk_page-returns-in_err-walk_options-clause-refused
 walk_page-returns-in_err-walk_options-clause-refused g t c =
-    let p = err_from_is_err_and c.from_residual-in_err-walk_options.result c.from_residual-in_err-walk_options.ensures.1 in λ e.
+    let p = err_from_is_err_and c.from_residual.result c.from_residual.ensures.1 in λ e.
     let r = c.in_err-walk_options.ensures.refused
-    (ap Err (passed_on p.0 c.in_err-walk_options.field-0.0 c.from_residual-in_err-walk_options.result p.1 p.2 e)) in (
+    (ap Err (passed_on p.0 c.in_err-walk_options.field-0.0 c.from_residual.result p.1 p.2 e)) in (
       before_length (games_at (g.S.CellStore.state c.args.store.now) c.args.found.now) (game_of c.args.book.now.pages c.args.page) c.args.limit
           r.0,
       r.1,
@@ -32,22 +32,22 @@ pub walk_page-returns-clause-found : goal.walk_page-returns-clause-found
 walk_page-returns-clause-found g t c =
     let s = g.S.CellStore.state c.args.store.now in
     ok_at (λ more. AreFoundAfter s s c.args.found.now more (all_positions (game_of c.args.book.now.pages c.args.page)))
-    c.add.result c.add.new.self (c.walk_options.new.found ++ (c.in_ok-handle.handle ∷ [])) c.add.ensures.added
-    (page_next s c.args.book.now c.args.page c.in_ok-handle.handle c.args.found.now c.requires.holds c.in_ok-handle.ensures.handle
+    c.add.result c.add.new.self (c.walk_options.new.found ++ (c.handle-handle.result ∷ [])) c.add.ensures.added
+    (page_next s c.args.book.now c.args.page c.handle-handle.result c.args.found.now c.requires.holds c.handle-handle.ensures
     c.requires.found c.walk_options.new.found c.apart.ensures (λ m. let h = c.has.ensures.1 m in let n = c.if-has.false in cc)
     c.in_ok-walk_options.ensures.found)
 
 pub walk_page-returns-clause-within : goal.walk_page-returns-clause-within
 walk_page-returns-clause-within g t c =
-    ok_within c.add.result c.add.new.self c.walk_options.new.found c.in_ok-handle.handle c.args.limit c.add.ensures.added
+    ok_within c.add.result c.add.new.self c.walk_options.new.found c.handle-handle.result c.args.limit c.add.ensures.added
     c.add.ensures.within
 
 pub walk_page-returns-clause-refused : goal.walk_page-returns-clause-refused
 walk_page-returns-clause-refused g t c = λ e.
     let s = g.S.CellStore.state c.args.store.now in
     let (full, small) = c.add.ensures.refused e in
-    let n = page_length s c.args.book.now c.args.page c.in_ok-handle.handle c.args.found.now c.requires.holds
-    c.in_ok-handle.ensures.handle c.requires.found c.walk_options.new.found c.apart.ensures
+    let n = page_length s c.args.book.now c.args.page c.handle-handle.result c.args.found.now c.requires.holds
+    c.handle-handle.ensures c.requires.found c.walk_options.new.found c.apart.ensures
     (λ m. let h = c.has.ensures.1 m in let n = c.if-has.false in cc) c.in_ok-walk_options.ensures.found in
     (omega arith, small)
 

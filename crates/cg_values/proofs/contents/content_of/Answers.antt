@@ -1,4 +1,4 @@
-use Rattle.std.proofs.Common.{◌≡◌, ◌-◌, ◌/◌, ◌^◌, ◌∙◌, ap, arith, ℕ}
+use Rattle.std.proofs.Common.{◌≡◌, ◌-◌, ◌/◌, ◌^◌, ◌∙◌, ap, arith}
 use Rattle.cg_values.specs.Contents.{apart}
 use Rattle.cg_values.proofs.ApartLemmas.{apart_kept, content_apart}
 use Rattle.cg_values.proofs.contents.content_of.Goals as goal

@@ -2,7 +2,7 @@ use Rattle.std.proofs.Common.{rules, ◌<◌, length, ap, ◌∙◌, Err}
 use Rattle.std.proofs.lemmas.Result.{err_from_is_err_and}
 use Rattle.cg_canon.specs.Works.{work_state}
 use Rattle.cg_values.proofs.HandleSteps.{hold-as}
-use Rattle.cg_values.proofs.ValueSteps.{next-within, part-has, part-held, part-next, parts_done, parts_more, parts_stopped}
+use Rattle.cg_values.proofs.ValueSteps.{next-within, part-has, part-held, part-next, parts_done, parts_more, parts_stopped, parts_told}
 use Rattle.cg_values.proofs.values.part_values.Goals as goal
 
 pub index-next-requires : goal.index-next-requires
@@ -24,46 +24,58 @@ places_of-requires g c =
     _ _ c.loop-place.invariant _ c.index-next.ensures in
     next.inside
 
-pub expected_value-requires-clause-has : goal.expected_value-requires-clause-has
-expected_value-requires-clause-has g c =
+pub part_value-requires-clause-has : goal.part_value-requires-clause-has
+part_value-requires-clause-has g c =
     part-has _ _ _ _ _ c.as_slice-board-items.ensures _ _ _ c.requires.next _ _ c.loop-place-test.true c.board-item.is _ _
     c.loop-place.invariant c.requires.has
 
-pub expected_value-requires-clause-lefts : goal.expected_value-requires-clause-lefts
-expected_value-requires-clause-lefts g c =
+pub part_value-requires-clause-lefts : goal.part_value-requires-clause-lefts
+part_value-requires-clause-lefts g c =
     let next = part-next _ _ _ _ _ c.as_slice-board-items.ensures _ _ _ c.requires.next _ _ c.loop-place-test.true c.board-item.is _ _
     c.loop-place.invariant _ c.index-next.ensures in
     next.counted.lefts
 
-pub expected_value-requires-clause-counts : goal.expected_value-requires-clause-counts
-expected_value-requires-clause-counts g c =
+pub part_value-requires-clause-counts : goal.part_value-requires-clause-counts
+part_value-requires-clause-counts g c =
     let next = part-next _ _ _ _ _ c.as_slice-board-items.ensures _ _ _ c.requires.next _ _ c.loop-place-test.true c.board-item.is _ _
     c.loop-place.invariant _ c.index-next.ensures in
     c.counts_of.ensures ∙ next.counted.counts
 
-pub expected_value-requires-clause-values : goal.expected_value-requires-clause-values
-expected_value-requires-clause-values g c =
+pub part_value-requires-clause-values : goal.part_value-requires-clause-values
+part_value-requires-clause-values g c =
+    let made = parts_told _ _ _ _ _ c.as_slice-board-items.ensures _ _ _ c.requires.next _ _ _ _ c.loop-place.invariant
+    c.expect_boards.ensures in
     hold-as _ _ _ _ _ _ _ c.deref.ensures.value c.places_of.ensures
     (part-held _ _ _ _ _ c.as_slice-board-items.ensures _ _ _ c.requires.next _ _ c.loop-place-test.true c.board-item.is _ _
-    c.loop-place.invariant _ c.index-next.ensures)
+    made _ c.index-next.ensures)
 
 pub returns-in_err-value-clause-made : goal.returns-in_err-value-clause-made
 returns-in_err-value-clause-made g c =
+    let made = parts_told _ _ _ _ _ c.as_slice-board-items.ensures _ _ _ c.requires.next _ _ _ _ c.loop-place.invariant
+    c.expect_boards.ensures in
     let p = err_from_is_err_and c.from_residual-in_err-value.result c.from_residual-in_err-value.ensures.1 in
     parts_stopped _ _ _ _ _ c.as_slice-board-items.ensures _ _ _ c.requires.next _ _ c.loop-place-test.true c.board-item.is _ _
-    c.loop-place.invariant _ _ c.expected_value.ensures.made _ _ c.in_err-value.was (p.1 ∙ ap Err p.2)
+    made _ _ c.part_value.ensures.made _ _ c.in_err-value.was (p.1 ∙ ap Err p.2)
 
 pub loop-place-preserved : goal.loop-place-preserved
 loop-place-preserved g c =
+    let made = parts_told _ _ _ _ _ c.as_slice-board-items.ensures _ _ _ c.requires.next _ _ _ _ c.loop-place.invariant
+    c.expect_boards.ensures in
     parts_more _ _ _ _ _ c.as_slice-board-items.ensures _ _ _ c.requires.next _ _ c.loop-place-test.true c.board-item.is _ _
-    c.loop-place.invariant _ _ c.expected_value.ensures.made _ _ _ c.in_ok-value.was c.in_ok-value.ensures.game
-    c.expected_value.ensures.spare c.in_ok-push.ensures.items
+    made _ _ c.part_value.ensures.made _ _ _ c.in_ok-value.was c.in_ok-value.ensures.game
+    c.part_value.ensures.spare c.in_ok-push.ensures.items c.part_value.ensures.noted
 
 pub returns-clause-values : goal.returns-clause-values
 returns-clause-values g c =
     let done = parts_done _ _ _ _ _ c.as_slice-board-items.ensures _ _ _ c.requires.next _ _ _ c.loop-place-test.false
     c.loop-place.invariant in
     done.values
+
+pub returns-clause-noted : goal.returns-clause-noted
+returns-clause-noted g c =
+    let done = parts_done _ _ _ _ _ c.as_slice-board-items.ensures _ _ _ c.requires.next _ _ _ c.loop-place-test.false
+    c.loop-place.invariant in
+    done.noted
 
 pub returns-clause-made : goal.returns-clause-made
 returns-clause-made g c =

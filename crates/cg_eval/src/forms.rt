@@ -3,7 +3,7 @@ ghost use Rattle.cg_amazons.specs.Amazons.{amazons};
 ghost use Rattle.cg_domineering.specs.Moves.{domineering};
 ghost use Rattle.cg_clobber.specs.Moves.{clobber};
 ghost use Rattle.cg_strip.specs.Toads.{toads_game};
-ghost use Rattle.cg_values.specs.Forms.{board_form};
+ghost use Rattle.cg_eval.specs.Forms.{board_form};
 ghost use Rattle.cg_values.specs.Notes.{MayNote};
 
 use cg_nodes::BoardForms;

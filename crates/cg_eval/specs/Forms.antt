@@ -1,5 +1,5 @@
 -- What board cells stand for.
-use Rattle.std.specs.Prelude.{ℕ, ◌*◌, ◌/◌, ◌%◌, ◌==◌, if◌then◌else◌, zero, suc, pos, List, [], ◌∷◌, map, take, slice_index}
+use Rattle.std.specs.Prelude.{ℕ, ◌*◌, ◌/◌, ◌%◌, ◌==◌, if◌then◌else◌, zero, suc, pos, List, [], ◌∷◌, map, take, codes, slice_index}
 use Rattle.std.specs.List.{flat_map}
 use Rattle.cg_dyadic.specs.Number.{whole}
 use Rattle.cg_form.specs.Game.{Game, number}
@@ -9,7 +9,12 @@ use Rattle.cg_domineering.specs.Moves.{domineering}
 use Rattle.cg_clobber.specs.Moves.{clobber}
 use Rattle.cg_amazons.specs.Amazons.{amazons}
 use Rattle.cg_strip.specs.Toads.{toads_game}
-use Rattle.cg_values.specs.Notes.{symbol_row}
+
+-- the row of symbols of the game with this number: 1 is Domineering, 2 Clobber, 3 Amazons, 4 Toads
+abbrev pub symbol_row : ℕ → List ℕ
+symbol_row n =
+    if n == 1 then codes ".#" else if n == 2 then codes ".xo" else if n == 3 then codes ".xo#"
+    else if n == 4 then codes ".TF" else []
 
 -- so many fields of two bits each, from the least on
 abbrev pub fields : ℕ → ℕ → List ℕ

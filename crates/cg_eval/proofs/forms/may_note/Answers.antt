@@ -1,6 +1,6 @@
 use Rattle.std.proofs.Common.{inr}
-use Rattle.cg_values.proofs.FormLemmas.{amazons-numbered, clobber-numbered, domineering-numbered, toads-numbered}
-use Rattle.cg_values.proofs.forms.may_note.Goals as goal
+use Rattle.cg_eval.proofs.FormLemmas.{amazons-numbered, clobber-numbered, domineering-numbered, toads-numbered}
+use Rattle.cg_eval.proofs.forms.may_note.Goals as goal
 
 pub returns-clause-domineering : goal.returns-clause-domineering
 returns-clause-domineering c = inr domineering-numbered

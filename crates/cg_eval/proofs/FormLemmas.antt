@@ -1,11 +1,15 @@
 -- A board is read back from the contents in which it is written.
-use Rattle.std.proofs.Common.{◌≡◌, refl, ℕ, zero, suc, ◌+◌, ◌*◌, ◌/◌, ◌%◌, ◌≤◌, inl, inr, true, List, [], ◌∷◌, ◌++◌, length, map, take, ap, sym, ◌∙◌, subst, arith}
-use Rattle.std.specs.Prelude.{◌==◌, bytes_eq, slice_index, codes}
+use Rattle.std.proofs.Common.{◌≡◌, refl, ℕ, zero, suc, ◌+◌, ◌*◌, ◌/◌, ◌%◌, ◌≤◌, inl, inr, true, false, Bool, List, [], ◌∷◌, ◌++◌, length, map, take, ap, sym, ◌∙◌, subst, arith}
+use Rattle.std.specs.Prelude.{◌==◌, if◌then◌else◌, bytes_eq, slice_index, codes}
+use Rattle.std.proofs.Math.Seq.{take-append-add}
 use Rattle.std.proofs.lemmas.Bool.{and_parts}
+use Rattle.std.proofs.lemmas.List.{append-nil, length-append, length-map, take-append-le, take_all}
 use Rattle.std.specs.List.{flat_map}
-use Rattle.cg_nodes.specs.Boards.{AreBelow, AreWritten, content_of}
+use Rattle.cg_nodes.specs.Boards.{AreBelow, AreWritten, content_of, symbols}
 use Rattle.cg_moves.specs.Grid.{AreCells, Grid, IsGrid}
+use Rattle.cg_moves.specs.PlaneBits.{index_of}
 use Rattle.cg_moves.specs.Raw.{raw}
+use Rattle.cg_moves.proofs.PlaneLemmas.{index-reads}
 use Rattle.cg_moves.proofs.Same.{bytes_eq-back}
 use Rattle.cg_domineering.specs.Moves.{domineering}
 use Rattle.cg_clobber.specs.Moves.{clobber}
@@ -13,10 +17,10 @@ use Rattle.cg_amazons.specs.Amazons.{amazons}
 use Rattle.cg_strip.specs.Toads.{toads_game}
 use Rattle.cg_moves.specs.Grid.{is_in_rows}
 use Rattle.cg_moves.specs.Rules.{GameRules}
-use Rattle.cg_values.specs.Forms.{board_form, board_in, fields}
-use Rattle.cg_values.specs.Notes.{IsNumbered, place_in, places, symbol_row}
-use Rattle.cg_values.proofs.ItemSteps.{row-four}
-use Rattle.cg_values.proofs.PlaceLemmas.{place-read, places-below}
+use Rattle.cg_eval.specs.Forms.{board_form, board_in, fields, symbol_row}
+use Rattle.cg_values.specs.Notes.{IsNumbered, places}
+use Rattle.cg_values.proofs.ItemSteps.{symbols-few}
+use Rattle.cg_values.proofs.PlaceLemmas.{places-below}
 
 -- the fields of a content begin with the cells that it was made of
 fields-content : (n : ℕ) (cells : List ℕ) → length cells ≤ n → AreBelow 4 cells
@@ -35,20 +39,6 @@ length-fields : (n content : ℕ) → length (fields n content) ≡ n
 length-fields zero content = refl
 length-fields (suc n) content = let e = length-fields n (content / 4) in omega arith
 
-take_all : (xs : List ℕ) → take (length xs) xs ≡ xs
-take_all [] = refl
-take_all (x ∷ xs) = ap (λ z. x ∷ z) (take_all xs)
-
-take-append : (xs ys : List ℕ) (n : ℕ) → take (length xs + n) (xs ++ ys) ≡ xs ++ take n ys
-take-append [] ys n = let e : 0 + n ≡ n = omega arith in ap (λ k. take k ys) e
-take-append (x ∷ xs) ys n = let e : suc (length xs) + n ≡ suc (length xs + n) = omega arith in
-    ap (λ k. take k (x ∷ (xs ++ ys))) e ∙ ap (λ z. x ∷ z) (take-append xs ys n)
-
-take-front : (xs ys : List ℕ) (n : ℕ) → n ≤ length xs → take n (xs ++ ys) ≡ take n xs
-take-front xs ys zero h = refl
-take-front [] ys (suc n) h = absurd (omega arith)
-take-front (x ∷ xs) ys (suc n) h = ap (λ z. x ∷ z) (take-front xs ys n (omega arith))
-
 below-front : (xs ys : List ℕ) → AreBelow 4 (xs ++ ys) → AreBelow 4 xs
 below-front [] ys b = tt
 below-front (x ∷ xs) ys b = (b.0, below-front xs ys b.1)
@@ -56,10 +46,6 @@ below-front (x ∷ xs) ys b = (b.0, below-front xs ys b.1)
 below-back : (xs ys : List ℕ) → AreBelow 4 (xs ++ ys) → AreBelow 4 ys
 below-back [] ys b = b
 below-back (x ∷ xs) ys b = below-back xs ys b.1
-
-length_append : (xs ys : List ℕ) → length (xs ++ ys) ≡ length xs + length ys
-length_append [] ys = omega arith
-length_append (x ∷ xs) ys = let e = length_append xs ys in omega arith
 
 -- the cells are read back
 pub read-back : (contents cells : List ℕ) → AreWritten cells contents → AreBelow 4 cells
@@ -72,50 +58,52 @@ read-back (content ∷ rest) cells (front, others, e, which, is, w) b =
     let bf = below-front front others both in
     let bo = below-back front others both in
     let more = flat_map (fields 16) rest in
-    let n = ap length e ∙ length_append front others in
+    let n = ap length e ∙ length-append front others in
     let f = length-fields 16 (content_of front) in
     ap (λ z. take (length z) (fields 16 content ++ more)) e
     ∙ ap (λ z. take (length (front ++ others)) (fields 16 z ++ more)) is
     ∙ elim which [
       | inl full ↦ (
-          let whole : fields 16 (content_of front) ≡ front = (let t = take_all (fields 16 (content_of front)) in
-          sym t ∙ ap (λ k. take k (fields 16 (content_of front))) (f ∙ sym full)
+          let whole : fields 16 (content_of front) ≡ front = (let t = take_all 16 (fields 16 (content_of front)) (omega (arith, f)) in
+          sym t ∙ ap (λ k. take k (fields 16 (content_of front))) (sym full)
           ∙ fields-content 16 front (omega arith) bf) in
           ap (λ z. take (length (front ++ others)) (z ++ more)) whole
-          ∙ ap (λ k. take k (front ++ more)) (length_append front others)
-          ∙ take-append front more (length others)
+          ∙ ap (λ k. take k (front ++ more)) (length-append front others)
+          ∙ take-append-add front more (length others)
           ∙ ap (λ z. front ++ z) (read-back rest others w bo))
       | inr (last, some, few) ↦ (
-          let k : length (front ++ others) ≡ length front = (let a = length_append front others in let l = ap length last
+          let k : length (front ++ others) ≡ length front = (let a = length-append front others in let l = ap length last
           in omega arith) in
           ap (λ m. take m (fields 16 (content_of front) ++ more)) k
-          ∙ take-front (fields 16 (content_of front)) more (length front) (omega arith)
-          ∙ fields-content 16 front (omega arith) bf ∙ sym (append_none front others last))
+          ∙ take-append-le (length front) (fields 16 (content_of front)) more (omega arith)
+          ∙ fields-content 16 front (omega arith) bf ∙ sym (ap (λ z. front ++ z) last ∙ append-nil front))
     ] ∙ sym e
-  where
-    append_none : (xs ys : List ℕ) → ys ≡ [] → xs ++ ys ≡ xs
-    append_none [] ys z = z
-    append_none (x ∷ xs) ys z = ap (λ q. x ∷ q) (append_none xs ys z)
-
-length_map : (f : ℕ → ℕ) (xs : List ℕ) → length (map f xs) ≡ length xs
-length_map f [] = refl
-length_map f (x ∷ xs) = let e = length_map f xs in omega arith
 
 symbols-back : (symbols cells : List ℕ) → AreCells symbols cells
     → map (slice_index symbols) (places symbols cells) ≡ cells
 symbols-back symbols [] h = refl
 symbols-back symbols (c ∷ cells) h =
-    ap (λ z. z ∷ map (slice_index symbols) (places symbols cells)) (place-read symbols c (h 0 (omega arith)))
+    ap (λ z. z ∷ map (slice_index symbols) (places symbols cells)) (index-reads symbols c (h 0 (omega arith)))
     ∙ ap (λ z. c ∷ z) (symbols-back symbols cells (λ k l. h (suc k) (omega arith)))
+
+row-length : (n : ℕ) → length (symbol_row n) ≡ symbols n
+row-length n = row-count (n == 1) (n == 2) (n == 3) (n == 4)
+  where
+    row-count : (a b c d : Bool) → length (if a then codes ".#" else if b then codes ".xo" else if c then codes ".xo#"
+        else if d then codes ".TF" else []) ≡ (if a then 2 else if b then 3 else if c then 4 else if d then 3 else 0)
+    row-count true b c d = refl
+    row-count false true c d = refl
+    row-count false false true d = refl
+    row-count false false false true = refl
+    row-count false false false false = refl
 
 -- and so is the board
 pub board-back : (n : ℕ) (p : Grid) (contents : List ℕ) → IsGrid p → p.symbols ≡ symbol_row n
     → AreWritten (places p.symbols p.cells) contents → board_in n p.rows p.columns contents ≡ p
 board-back n p contents g row w =
-    let few : length p.symbols ≤ 4 = (let a = ap length row in let b = row-four n in omega arith) in
+    let few : length p.symbols ≤ 4 = (let a = ap length row in let b = row-length n in let c = symbols-few n in omega arith) in
     let below = places-below 4 p.symbols p.cells few g.cells in
-    let size : p.rows * p.columns ≡ length (places p.symbols p.cells) = sym g.size ∙ sym (length_map (place_in p.symbols)
-    p.cells) in
+    let size : p.rows * p.columns ≡ length (places p.symbols p.cells) = sym g.size ∙ sym (length-map p.cells (index_of p.symbols)) in
     let cells : map (slice_index (symbol_row n)) (take (p.rows * p.columns) (flat_map (fields 16) contents)) ≡ p.cells =
     ap (λ k. map (slice_index (symbol_row n)) (take k (flat_map (fields 16) contents))) size
     ∙ ap (map (slice_index (symbol_row n))) (read-back contents (places p.symbols p.cells) w below)
@@ -128,12 +116,12 @@ numbered : (r : GameRules) → 1 ≤ r.number → r.number ≤ 4
     → ((rows columns : ℕ) (contents : List ℕ)
     → board_form r.number rows columns contents ≡ raw r (board_in r.number rows columns contents))
     → IsNumbered board_form r
-numbered r some four symbols form = record {
+numbered r some four row form = record {
   some = some;
   four = four;
-  symbols = λ p g has. bytes_eq-back p.symbols (symbol_row r.number) (symbols p has);
+  as_many = λ p g has. ap length (bytes_eq-back p.symbols (symbol_row r.number) (row p has)) ∙ row-length r.number;
   forms = λ p g has contents w. form p.rows p.columns contents ∙ ap (raw r) (board-back r.number p contents g
-      (bytes_eq-back p.symbols (symbol_row r.number) (symbols p has)) w);
+      (bytes_eq-back p.symbols (symbol_row r.number) (row p has)) w);
 }
 
 pub domineering-numbered : IsNumbered board_form domineering
