@@ -5,7 +5,6 @@ use Rattle.cg_query.specs.Trees.{question_of}
 use Rattle.cg_syntax.specs.declared.session.Asked as asked
 use Rattle.cg_syntax.specs.declared.session.Asked.TheVariants as askeds
 use Rattle.cg_syntax.specs.declared.session.SessionLine.{SessionLine}
-use Rattle.cg_syntax.specs.declared.session.SessionLines.{SessionLines}
 
 abbrev pub resolved_of : asked.Asked → Resolved
 resolved_of (askeds.Query query) = Asked_of (question_of query)
@@ -18,5 +17,5 @@ abbrev pub line_of : SessionLine → ℕ × Resolved
 line_of l = (l.number, resolved_of l.asked)
 
 -- the lines in order
-abbrev pub lines_in : SessionLines → List (ℕ × Resolved)
-lines_in ls = map line_of ls.lines.items
+abbrev pub lines_in : List SessionLine → List (ℕ × Resolved)
+lines_in ls = map line_of ls

@@ -68,14 +68,22 @@ pub fn expand(alloc: Global, sheet: &Sheet, expr: &Expr) -> Result<Expr, AllocEr
     }
 }
 
-/// What stands in the place of a use. With no name bound an expression is copied as it stands.
+/// The same expression: with no name bound, each use stays.
+#[cycle(expand)]
+fn copy(alloc: Global, expr: &Expr) -> Result<Expr, AllocError>
+    ensures { IfOk result (λ e. tree_of e ≡ tree_of expr.now) }
+{
+    expand(alloc, &Sheet::new(alloc), expr)
+}
+
+/// What stands in the place of a use.
 #[cycle(expand)]
 fn expand_use(alloc: Global, sheet: &Sheet, name: &Text, column: u64) -> Result<Expr, AllocError>
     requires { IsSound sheet.now }
     ensures { IfOk result (λ e. tree_of e ≡ or_use name.now column (bound_to (bindings_in sheet.now) name.now)) }
 {
     match sheet.get(name.as_slice()) {
-        Some((expr, _)) => expand(alloc, &Sheet::new(alloc), expr),
+        Some((expr, _)) => copy(alloc, expr),
         None => Ok(Expr::Name {
             text: copy_text(alloc, name)?,
             column,

@@ -1,5 +1,5 @@
 //! Sessions of either format.
-ghost use Rattle.std.specs.Prelude.{◌≡◌, IfOk, length};
+ghost use Rattle.std.specs.Prelude.{◌≡◌, ◌↔◌, IfOk, IsTrue, [], length};
 ghost use Rattle.cg_syntax.specs.Session.{AreClosedLines, IsSession, format_number, format_of};
 ghost use Rattle.cg_syntax.specs.SessionViews.{line_of, lines_in};
 
@@ -7,6 +7,7 @@ use crate::marks::behind_mark;
 use crate::resolve::read_lines;
 use cg_query::{Format, Query};
 use std::alloc::{AllocError, Global};
+use std::marker::Model;
 
 /// What a session says.
 #[derive(Debug, Drop)]
@@ -17,25 +18,61 @@ pub struct Session {
     pub lines: SessionLines,
 }
 
-/// A list of lines. Contracts see it by `lines_in`, as a list of numbers and what is made of each line.
+/// Lines that get an answer, in order. Contracts see it as the list of its lines; `lines_in` tells of each its number and
+/// what is made of it.
 #[derive(Debug, Drop)]
 pub struct SessionLines {
     lines: Vec<SessionLine>,
 }
 
+impl Model for SessionLines {
+    ghost use Rattle.std.specs.Prelude.{List};
+    ghost use Rattle.std.specs.Coded.{codes};
+    ghost use Rattle.cg_query.specs.contracts.expr.Expr as expr;
+    ghost use Rattle.cg_syntax.specs.declared.session.SessionLine.{SessionLine};
+
+    ghost Value = { List SessionLine };
+
+    ghost view = { λ s. s.lines.items };
+
+    ghost coded = { Prim.hlevel (codes, expr.the_row.coded) };
+}
+
 impl SessionLines {
     /// The list of these lines.
     pub fn of(lines: Vec<SessionLine>) -> SessionLines
-        ensures { result.lines ≡ lines }
+        ensures { result ≡ lines.items }
     {
         SessionLines { lines }
     }
 
+    /// How many lines there are.
+    pub fn len(&self) -> usize
+        ensures { result ≡ length self.now }
+    {
+        self.lines.len()
+    }
+
+    /// Whether there is no line.
+    pub fn is_empty(&self) -> bool
+        ensures { IsTrue result ↔ (self.now ≡ []) }
+    {
+        self.lines.is_empty()
+    }
+
     /// The lines in order.
     pub fn as_slice(&self) -> &[SessionLine]
-        ensures { result.now ≡ self.now.lines.items }
+        ensures { result.now ≡ self.now }
     {
         &self.lines
+    }
+
+    /// The lines in a vector, in order.
+    pub fn into_vec(self) -> Vec<SessionLine>
+        ensures { result.items ≡ self }
+    {
+        let SessionLines { lines } = self;
+        lines
     }
 }
 

@@ -46,7 +46,7 @@ impl Sheet {
 
     /// The lines.
     pub fn into_lines(self) -> SessionLines
-        ensures { result.lines.items ≡ self.lines.items }
+        ensures { result ≡ self.lines.items }
     {
         SessionLines::of(self.lines)
     }

@@ -47,9 +47,13 @@ expand_terms-expand-requires t c =
     let e : size (tree_of c.term-item.result.expr) ≡ size (term_of c.term-item.result).1 = ap (λ (p : Bool × Tree). size p.1) (sym (term_tree c.term-item.result.minus c.term-item.result.expr)) in
     search rules
 
-pub expand_use-expand-requires : goal.expand_use-expand-requires
-expand_use-expand-requires t c =
+pub copy-expand-requires : goal.copy-expand-requires
+copy-expand-requires t c =
     let r : room_of c.new.result.lines.items ≡ 0 = ap room_of c.new.ensures.lines in
+    search rules
+
+pub expand_use-copy-requires : goal.expand_use-copy-requires
+expand_use-copy-requires t c =
     let w = bound_within c.args.sheet.now.lines.items c.args.sheet.now.bound.items c.args.name.now c.in-Some.expr.now c.requires
     (c.in-Some.ensures.bound ∙ ap (λ (z : List ℕ). bound_to (bindings_in c.args.sheet.now) z) c.as_slice.ensures) in
     search rules
@@ -127,13 +131,16 @@ expand-returns-in-Name t c = IfOk-weaker c.expand_use.result _ _
 
 -- ---- uses and terms
 
+pub copy-returns : goal.copy-returns
+copy-returns t c =
+    let u = tree_of c.args.expr.now in
+    IfOk-weaker c.expand.result _ _ (λ g h. h ∙ ap (λ (z : Bindings). expanded z u) c.new.ensures.bindings ∙ bare u) c.expand.ensures
+
 pub expand_use-returns-in-Some : goal.expand_use-returns-in-Some
 expand_use-returns-in-Some t c =
-    let u = tree_of c.in-Some.expr.now in
-    IfOk-weaker c.expand.result _ _
-    (λ g h. h ∙ ap (λ (z : Bindings). expanded z u) c.new.ensures.bindings ∙ bare u
-    ∙ ap (λ (o : Option Tree). or_use c.args.name.now c.args.column o)
-    (c.in-Some.ensures.bound ∙ ap (λ (z : List ℕ). bound_to (bindings_in c.args.sheet.now) z) c.as_slice.ensures)) c.expand.ensures
+    IfOk-weaker c.copy.result _ _
+    (λ g h. h ∙ ap (λ (o : Option Tree). or_use c.args.name.now c.args.column o)
+    (c.in-Some.ensures.bound ∙ ap (λ (z : List ℕ). bound_to (bindings_in c.args.sheet.now) z) c.as_slice.ensures)) c.copy.ensures
 
 pub expand_use-returns-in_ok-copy_text-in-None : goal.expand_use-returns-in_ok-copy_text-in-None
 expand_use-returns-in_ok-copy_text-in-None t c =

@@ -12,6 +12,9 @@ use Rattle.cg_syntax.proofs.expand.+expand.Given as goal
 abbrev pub decreases-expand : goal.decreases-expand
 decreases-expand l = 4 * (room_of l.sheet.now.lines.items + size (tree_of l.expr.now))
 
+abbrev pub decreases-copy : goal.decreases-copy
+decreases-copy l = 4 * size (tree_of l.expr.now) + 1
+
 abbrev pub decreases-expand_use : goal.decreases-expand_use
 decreases-expand_use l = 4 * room_of l.sheet.now.lines.items + 3
 

@@ -45,5 +45,5 @@ pub returns : goal.returns
 returns c =
     let all = answered_from c.args.first (lines_of c.args.text.now) in
     let none = nil_from_length c.loop-rest.rest.now (eqb-true (length c.loop-rest.rest.now) 0 (sym c.is_empty.ensures ∙ c.loop-rest-test.false)) in
-    goes_last c.args.format all c.loop-rest.number c.loop-rest.sheet c.into_lines.result.lines.items c.into_lines.ensures
+    goes_last c.args.format all c.loop-rest.number c.loop-rest.sheet c.into_lines.result c.into_lines.ensures
     (subst (λ (z : List ℕ). GoesOn c.args.format all c.loop-rest.number (lines_of z) c.loop-rest.sheet) none c.loop-rest.invariant.goes_on)
