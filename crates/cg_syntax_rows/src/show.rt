@@ -1,167 +1,151 @@
 //! What lines read as, in words: a tree is written with all that it holds, a number as `num/den` with its minus, ups and
 //! downs as `up3` and `down3`, a nimber as `nim2`, a sum as its terms with their signs, a board as its game, its rules and
 //! its text, a heap of an octal game as its code and its size, a use of a name as `name at column`.
-use cg_syntax::{Expr, Exprs, Query, Statement, Terms, Text};
+use cg_syntax::{Expr, GameKind, Query, Statement, Term};
 use std::alloc::{AllocError, Global};
 
-/// How many levels of an expression are written.
-const DEPTH: u8 = 70;
+fn kind_text(kind: GameKind) -> &'static str {
+    match kind {
+        GameKind::Domineering => "Domineering",
+        GameKind::Clobber => "Clobber",
+        GameKind::Amazons => "Amazons",
+        GameKind::Toads => "Toads",
+        GameKind::Strip => "Strip",
+        GameKind::Hackenbush => "Hackenbush",
+        GameKind::Col => "Col",
+        GameKind::Snort => "Snort",
+    }
+}
 
-/// Adds the bytes of a text.
-fn put_text(out: &mut String, text: &Text) -> Result<(), AllocError> {
-    for byte in text.as_slice() {
+fn bytes_text(alloc: Global, bytes: &[u8]) -> Result<String, AllocError> {
+    let mut out = String::new(alloc);
+    for byte in bytes {
         out.push(char::from(*byte))?;
     }
-    Ok(())
+    Ok(out)
 }
 
-/// Adds two texts, each in brackets.
-fn put_texts(out: &mut String, first: &Text, second: &Text) -> Result<(), AllocError> {
-    out.push('[')?;
-    put_text(out, first)?;
-    out.push_str("][")?;
-    put_text(out, second)?;
-    out.push(']')
-}
-
-/// Adds an expression that holds no other.
-fn put_leaf(out: &mut String, expr: &Expr) -> Result<(), AllocError> {
-    match expr {
-        Expr::Number {
-            negative: true,
-            num,
-            den,
-        } => write!(out, "-{num}/{den}"),
-        Expr::Number { num, den, .. } => write!(out, "{num}/{den}"),
-        Expr::Ups { down: true, count } => write!(out, "down{count}"),
-        Expr::Ups { count, .. } => write!(out, "up{count}"),
-        Expr::Nimber(count) => write!(out, "nim{count}"),
-        Expr::Switch { num, den } => write!(out, "switch {num}/{den}"),
-        Expr::Tiny {
-            miny: true,
-            num,
-            den,
-        } => write!(out, "miny {num}/{den}"),
-        Expr::Tiny { num, den, .. } => write!(out, "tiny {num}/{den}"),
-        Expr::Game { kind, rules, board } => {
-            write!(out, "{kind:?}")?;
-            put_texts(out, rules, board)
-        }
-        Expr::Name { text, column } => {
-            put_text(out, text)?;
-            write!(out, " at {column}")
-        }
-        Expr::Octal { code, heap } => {
-            out.push_str("octal[")?;
-            put_text(out, code)?;
-            write!(out, "] {heap}")
-        }
-        _ => Ok(()),
-    }
-}
-
-/// Adds expressions, with commas between them.
 #[cycle(show)]
-fn put_exprs(out: &mut String, depth: u8, exprs: &Exprs) -> Result<(), AllocError> {
-    for (i, expr) in exprs.as_slice().iter().enumerate() {
-        if i > 0 {
+fn exprs_text(alloc: Global, depth: u8, exprs: &[Expr]) -> Result<String, AllocError> {
+    let mut out = String::new(alloc);
+    for expr in exprs {
+        let text = expr_text(alloc, depth, expr)?;
+        if !out.is_empty() {
             out.push(',')?;
         }
-        put_expr(out, depth, expr)?;
+        out.push_str(text.as_str())?;
     }
-    Ok(())
+    Ok(out)
 }
 
-/// Adds terms, each behind its sign.
 #[cycle(show)]
-fn put_terms(out: &mut String, depth: u8, terms: &Terms) -> Result<(), AllocError> {
-    for term in terms.as_slice() {
+fn terms_text(alloc: Global, depth: u8, terms: &[Term]) -> Result<String, AllocError> {
+    let mut out = String::new(alloc);
+    for term in terms {
+        let text = expr_text(alloc, depth, &term.expr)?;
         out.push_str(if term.minus { " - " } else { " + " })?;
-        put_expr(out, depth, &term.expr)?;
+        out.push_str(text.as_str())?;
     }
-    Ok(())
+    Ok(out)
 }
 
-/// Adds an expression of at most so many levels.
+/// An expression of at most so many levels.
 #[cycle(show)]
-fn put_expr(out: &mut String, depth: u8, expr: &Expr) -> Result<(), AllocError> {
+fn expr_text(alloc: Global, depth: u8, expr: &Expr) -> Result<String, AllocError> {
     if depth == 0 {
-        return out.push_str("deeper");
+        return format!(in alloc; "deeper");
     }
     match expr {
+        Expr::Number { negative, num, den } => {
+            let minus = if *negative { "-" } else { "" };
+            format!(in alloc; "{minus}{num}/{den}")
+        }
+        Expr::Ups { down, count } => {
+            let name = if *down { "down" } else { "up" };
+            format!(in alloc; "{name}{count}")
+        }
+        Expr::Nimber(count) => format!(in alloc; "nim{count}"),
+        Expr::Switch { num, den } => format!(in alloc; "switch {num}/{den}"),
+        Expr::Tiny { miny, num, den } => {
+            let name = if *miny { "miny" } else { "tiny" };
+            format!(in alloc; "{name} {num}/{den}")
+        }
         Expr::Braces(lefts, rights) => {
-            out.push('{')?;
-            put_exprs(out, depth - 1, lefts)?;
-            out.push('|')?;
-            put_exprs(out, depth - 1, rights)?;
-            out.push('}')
+            let lefts = exprs_text(alloc, depth - 1, lefts.as_slice())?;
+            let rights = exprs_text(alloc, depth - 1, rights.as_slice())?;
+            format!(in alloc; "{{{lefts}|{rights}}}")
         }
         Expr::Negative(operand) => {
-            out.push_str("neg(")?;
-            put_expr(out, depth - 1, operand)?;
-            out.push(')')
+            let operand = expr_text(alloc, depth - 1, operand)?;
+            format!(in alloc; "neg({operand})")
         }
         Expr::Multiple(count, operand) => {
-            write!(out, "{count} times(")?;
-            put_expr(out, depth - 1, operand)?;
-            out.push(')')
+            let operand = expr_text(alloc, depth - 1, operand)?;
+            format!(in alloc; "{count} times({operand})")
         }
         Expr::Sum(terms) => {
-            out.push_str("sum(")?;
-            put_terms(out, depth - 1, terms)?;
-            out.push_str(" )")
+            let terms = terms_text(alloc, depth - 1, terms.as_slice())?;
+            format!(in alloc; "sum({terms} )")
         }
-        _ => put_leaf(out, expr),
-    }
-}
-
-/// Adds a word and an expression.
-fn put_named(out: &mut String, name: &str, expr: &Expr) -> Result<(), AllocError> {
-    out.push_str(name)?;
-    put_expr(out, DEPTH, expr)
-}
-
-/// Adds a word and two expressions.
-fn put_both(out: &mut String, name: &str, first: &Expr, second: &Expr) -> Result<(), AllocError> {
-    put_named(out, name, first)?;
-    put_named(out, " ; ", second)
-}
-
-/// Adds a query.
-pub fn put_query(out: &mut String, query: &Query) -> Result<(), AllocError> {
-    match query {
-        Query::Value(expr) => put_named(out, "value ", expr),
-        Query::Compare(first, second) => put_both(out, "compare ", first, second),
-        Query::Outcome(expr) => put_named(out, "outcome ", expr),
-        Query::Stops(expr) => put_named(out, "stops ", expr),
-        Query::Mean(expr) => put_named(out, "mean ", expr),
-        Query::Temp(expr) => put_named(out, "temp ", expr),
-        Query::Thermo(expr) => put_named(out, "thermo ", expr),
-        Query::Proof(first, second) => put_both(out, "proof ", first, second),
-        Query::Check(first, second, proof) => {
-            put_both(out, "check ", first, second)?;
-            out.push_str(" ; ")?;
-            put_text(out, proof)
+        Expr::Game { kind, rules, board } => {
+            let name = kind_text(*kind);
+            let rules = bytes_text(alloc, rules.as_slice())?;
+            let board = bytes_text(alloc, board.as_slice())?;
+            format!(in alloc; "{name}[{rules}][{board}]")
+        }
+        Expr::Name { text, column } => {
+            let name = bytes_text(alloc, text.as_slice())?;
+            format!(in alloc; "{name} at {column}")
+        }
+        Expr::Octal { code, heap } => {
+            let code = bytes_text(alloc, code.as_slice())?;
+            format!(in alloc; "octal[{code}] {heap}")
         }
     }
 }
 
-/// A query, in words.
+/// Two expressions.
+fn both_text(alloc: Global, first: &Expr, second: &Expr) -> Result<String, AllocError> {
+    let first = expr_text(alloc, 70, first)?;
+    let second = expr_text(alloc, 70, second)?;
+    format!(in alloc; "{first} ; {second}")
+}
+
+/// A query.
 pub fn query_text(alloc: Global, query: &Query) -> Result<String, AllocError> {
-    let mut out = String::new(alloc);
-    put_query(&mut out, query)?;
-    Ok(out)
+    let (name, expr) = match query {
+        Query::Value(expr) => ("value", expr),
+        Query::Compare(first, second) => {
+            let both = both_text(alloc, first, second)?;
+            return format!(in alloc; "compare {both}");
+        }
+        Query::Outcome(expr) => ("outcome", expr),
+        Query::Stops(expr) => ("stops", expr),
+        Query::Mean(expr) => ("mean", expr),
+        Query::Temp(expr) => ("temp", expr),
+        Query::Thermo(expr) => ("thermo", expr),
+        Query::Proof(first, second) => {
+            let both = both_text(alloc, first, second)?;
+            return format!(in alloc; "proof {both}");
+        }
+        Query::Check(first, second, proof) => {
+            let both = both_text(alloc, first, second)?;
+            let proof = bytes_text(alloc, proof.as_slice())?;
+            return format!(in alloc; "check {both} ; {proof}");
+        }
+    };
+    let expr = expr_text(alloc, 70, expr)?;
+    format!(in alloc; "{name} {expr}")
 }
 
-/// What a line of format 2 states, in words.
+/// What a line of format 2 states.
 pub fn statement_text(alloc: Global, statement: &Statement) -> Result<String, AllocError> {
-    let mut out = String::new(alloc);
     match statement {
-        Statement::Ask(query) => put_query(&mut out, query)?,
+        Statement::Ask(query) => query_text(alloc, query),
         Statement::Define(name, expr) => {
-            put_text(&mut out, name)?;
-            put_named(&mut out, " is ", expr)?;
+            let name = bytes_text(alloc, name.as_slice())?;
+            let expr = expr_text(alloc, 70, expr)?;
+            format!(in alloc; "{name} is {expr}")
         }
     }
-    Ok(out)
 }

@@ -3,11 +3,11 @@ use Rattle.cg_syntax_rows.proofs.show.+show.Given as goal
 
 -- each call goes one level down, or from a list to its entries
 
-abbrev pub decreases-put_expr : goal.decreases-put_expr
-decreases-put_expr l = 2 * l.depth
+abbrev pub decreases-expr_text : goal.decreases-expr_text
+decreases-expr_text l = 2 * l.depth
 
-abbrev pub decreases-put_exprs : goal.decreases-put_exprs
-decreases-put_exprs l = 2 * l.depth + 1
+abbrev pub decreases-exprs_text : goal.decreases-exprs_text
+decreases-exprs_text l = 2 * l.depth + 1
 
-abbrev pub decreases-put_terms : goal.decreases-put_terms
-decreases-put_terms l = 2 * l.depth + 1
+abbrev pub decreases-terms_text : goal.decreases-terms_text
+decreases-terms_text l = 2 * l.depth + 1
