@@ -1,9 +1,9 @@
 //! The top call.
 ghost use Rattle.std.specs.Prelude.{◌≡◌, ◌+◌, ◌<◌, ◌≤◌, ◌^◌, [], IfSome, MatchOption, None};
 ghost use Rattle.cg_io.specs.Faults.{Rose};
-ghost use Rattle.cg_words.specs.Accepted.{InRange, IsAccepted, settings_of};
+ghost use Rattle.cg_words.specs.Accepted.{IsAccepted, settings_of};
 ghost use Rattle.cg_session.specs.Ends.{AnswersOrLacksMemory, EndsBeforeAnswers, IsWhole};
-ghost use Rattle.cg_session.specs.Ends.{UsageOrLacksMemory, Writes, WritesSession};
+ghost use Rattle.cg_session.specs.Ends.{UsageOrLacksMemory, Writes};
 ghost use Rattle.cg_session.specs.Input.{TakesAtMost};
 ghost use Rattle.cg_session.specs.Kept.{KeepsSession};
 ghost use Rattle.cg_syntax.specs.Session.{answered_lines};
@@ -83,41 +83,16 @@ pub fn run<R: Threads + Sync, S: Source, K: Sink, G: Gate>(
         KeepsSession (settings_of (texts words.now)) text k.answers.items k.cells k.pass)) }
     ensures not_kept { ¬ IsWhole result → kept.new ≡ None }
 {
-    match Settings::read(alloc, words) {
-        Ok(settings) => serve::<R, S, K, G>(rt, alloc, settings, source, sink, gate, kept),
-        Err(SettingsFault::Memory) => Status::Memory,
-        Err(SettingsFault::Usage) => match write_all(sink, USAGE_LINE) {
-            Ok(()) => Status::Usage,
-            Err(Failed) => Status::Write,
-        },
-    }
-}
-
-/// Reads a whole session with these settings, answers its lines, and writes the whole output.
-fn serve<R: Threads + Sync, S: Source, K: Sink, G: Gate>(
-    rt: &R,
-    alloc: Global,
-    settings: Settings,
-    source: &mut S,
-    sink: &mut K,
-    gate: &G,
-    kept: &mut Option<Kept>,
-) -> Status
-    requires range { InRange settings }
-    requires empty { kept.old ≡ None }
-    ensures written { WritesSession result settings
-        (S.left source.old) (S.left source.new) (K.taken sink.old) (K.taken sink.new) }
-    ensures taken { TakesAtMost (2 ^ 20 + 1) (S.left source.old) (S.left source.new) }
-    ensures unread { 0 < settings.sample → source.new ≡ source.old }
-    ensures read { result ≡ Status.Read → Rose (S.faults source.old) (S.faults source.new) }
-    ensures write { result ≡ Status.Write → Rose (K.faults sink.old) (K.faults sink.new) }
-    ensures source_never_falls { S.faults source.old ≤ S.faults source.new }
-    ensures sink_never_falls { K.faults sink.old ≤ K.faults sink.new }
-    ensures kept { IsWhole result → IfSome (session_text settings (S.left source.old)) (λ text.
-        MatchOption kept.new (answered_lines text ≡ []) (λ k.
-        KeepsSession settings text k.answers.items k.cells k.pass)) }
-    ensures not_kept { ¬ IsWhole result → kept.new ≡ None }
-{
+    let settings = match Settings::read(alloc, words) {
+        Ok(settings) => settings,
+        Err(SettingsFault::Memory) => return Status::Memory,
+        Err(SettingsFault::Usage) => {
+            return match write_all(sink, USAGE_LINE) {
+                Ok(()) => Status::Usage,
+                Err(Failed) => Status::Write,
+            };
+        }
+    };
     let text = match session_text(alloc, settings, source) {
         Ok(text) => text,
         Err(TextFault::Read) => return Status::Read,
