@@ -21,7 +21,9 @@ pub(crate) fn answered(alloc: Global, row: &str) -> Result<String, Stop> {
     let mut words = row.split_whitespace();
     let share = read(words.next().unwrap_or("").parse::<u64>())?;
     let positions = read(words.next().unwrap_or("").parse::<u64>())?;
-    let mut store = read(Store::new(alloc, CELLS))?;
+    let Ok(mut store) = Store::new(alloc, CELLS) else {
+        return Err(Stop::Memory);
+    };
     let work = Work::new(alloc, &mut store, share.min(CELLS), positions);
     let mut desk = Desk::new(alloc, work);
     let mut before = 0;

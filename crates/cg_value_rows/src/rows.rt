@@ -55,7 +55,9 @@ pub(crate) fn answered(alloc: Global, row: &str) -> Result<String, Stop> {
     let mut words = row.split_whitespace();
     let share = read(words.next().unwrap_or("").parse::<u64>())?;
     let positions = read(words.next().unwrap_or("").parse::<u64>())?;
-    let mut store = read(Store::new(alloc, MOST_CELLS))?;
+    let Ok(mut store) = Store::new(alloc, MOST_CELLS) else {
+        return Err(Stop::Memory);
+    };
     let work = Work::new(alloc, &mut store, share.min(MOST_CELLS), positions);
     let mut desk = Desk::new(alloc, work);
     all_told(alloc, &mut desk, words)

@@ -112,7 +112,9 @@ fn told<B: BoardForms, S: CellStore<GameFacts<B>>>(
 /// The answer to the row.
 pub(crate) fn answered(alloc: Global, line: &str) -> Result<String, Stop> {
     let (call, text) = halves(line, ' ')?;
-    let mut store = read(Store::new(alloc, CELLS))?;
+    let Ok(mut store) = Store::new(alloc, CELLS) else {
+        return Err(Stop::Memory);
+    };
     let work = Work::new(alloc, &mut store, CELLS, 65536);
     let mut desk = Desk::new(alloc, work);
     told(alloc, &mut desk, call, text)
