@@ -17,7 +17,8 @@ use Rattle.cg_moves.specs.declared.player.Player.TheVariants.{Left, Right}
 use Rattle.cg_moves.specs.Grid.{Grid, IsLike, with_cells}
 use Rattle.cg_moves.specs.Rules.{In}
 use Rattle.cg_moves.specs.Rising.{IsRising, bytes_cmp, cells_of, rising}
-use Rattle.cg_moves.proofs.Members.{all_from, carry, in-append, in-append_left, in-append_right, in_one}
+use Rattle.cg_form.proofs.Firsts.{in-append, in-append_left, in-append_right}
+use Rattle.cg_moves.proofs.Members.{all_from, carry, in_one}
 use Rattle.cg_moves.proofs.RisingLemmas.{in-rising, rising-in, rising-rises}
 use Rattle.cg_amazons.specs.Amazons.{amazons, amazons_moves, blocked, empty, moves_below, queen}
 use Rattle.cg_amazons.specs.AmazonsMoves.{IsMoveBelow, below_has, below_is}

@@ -10,7 +10,8 @@ use Rattle.cg_moves.specs.Grid.{Grid}
 use Rattle.cg_moves.specs.Lawful.{IsLawful}
 use Rattle.cg_moves.proofs.ForGames.{count-set, one_if}
 use Rattle.cg_moves.specs.Rules.{In}
-use Rattle.cg_moves.proofs.Members.{in-append, in-append_left, in-append_right, in-flat_map, in_flat_mapped, in-map, in_mapped}
+use Rattle.cg_form.proofs.Firsts.{in-append, in-append_left, in-append_right}
+use Rattle.cg_moves.proofs.Members.{in-flat_map, in_flat_mapped, in-map, in_mapped}
 use Rattle.cg_moves.proofs.RisingLemmas.{rising-in, in-rising}
 use Rattle.cg_amazons.specs.Amazons.{empty, blocked, queen, Reaches, with_queen, IsAmazonsMove, line, ways, shots_that_way, shots, moves_that_way, moves_from, moves_below, amazons_moves, empty_cells, amazons}
 use Rattle.cg_amazons.specs.AmazonsLaws.{within, along_ends, line_is, line_has}

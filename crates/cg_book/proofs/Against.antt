@@ -8,26 +8,32 @@ use Rattle.cg_form.specs.Size.{list_size, size}
 use Rattle.cg_form.proofs.Among.{lefts-node, rights-node}
 use Rattle.cg_form.proofs.Order.{le-options, no_one-each}
 use Rattle.cg_form.proofs.Sides.{far-node, near-node, side_turned}
+use Rattle.cg_book.specs.declared.recent.Recent.{Recent}
 use Rattle.cg_book.specs.declared.verdicts.Verdicts.{Verdicts}
 use Rattle.cg_book.specs.declared.whole.Whole.{Whole}
 use Rattle.cg_book.specs.Pages.{ArePages, IsPage, game_of, games_of}
 use Rattle.cg_book.specs.Verdict.{verdict}
-use Rattle.cg_book.specs.Wholes.{AreVerdicts, whole_game}
+use Rattle.cg_book.specs.Wholes.{AreKnown, whole_game}
 
 -- ---- verdicts
 
-pub verdict_more : (gs : List Game) (w : Whole) (v x : Verdicts) (left : Bool) (page : ℕ) (answer : Bool) → AreVerdicts gs w v
-    → IsPage gs page → answer ≡ at_most left (game_of gs page) (whole_game gs w)
+-- with one verdict more
+pub known_more : (gs : List Game) (w : Whole) (answers : Recent) (v x : Verdicts) (left : Bool) (page : ℕ) (answer : Bool)
+    → AreKnown gs w answers v → IsPage gs page → answer ≡ at_most left (game_of gs page) (whole_game gs w)
     → ((l : Bool) (c : ℕ) (r : Bool) → verdict x l c ≡ Some r → (verdict v l c ≡ Some r) ⊎ ((l ≡ left) × (c ≡ page) × (r ≡ answer)))
-    → AreVerdicts gs w x
-verdict_more gs w v x left page answer h here o more = record {
-  each = λ l c r e. elim (more l c r e) [
-    | inl q ↦ h.each l c r q
-    | inr q ↦
-        let P : ℕ → Type 0 = λ z. IsPage gs z × (r ≡ at_most l (game_of gs z) (whole_game gs w)) in
-        let Q : Bool → Type 0 = λ z. IsPage gs page × (r ≡ at_most z (game_of gs page) (whole_game gs w)) in
-        subst P (sym q.1) (subst Q (sym q.0) (here, q.2 ∙ o))
-  ];
+    → AreKnown gs w answers x
+known_more gs w answers v x left page answer h here o more = record {
+  whole = h.whole;
+  verdicts = record {
+    each = λ l c r e. elim (more l c r e) [
+      | inl q ↦ h.verdicts.each l c r q
+      | inr q ↦
+          let P : ℕ → Type 0 = λ z. IsPage gs z × (r ≡ at_most l (game_of gs z) (whole_game gs w)) in
+          let Q : Bool → Type 0 = λ z. IsPage gs page × (r ≡ at_most z (game_of gs page) (whole_game gs w)) in
+          subst P (sym q.1) (subst Q (sym q.0) (here, q.2 ∙ o))
+    ];
+  };
+  right = h.right;
 }
 
 -- ---- the lists of one side

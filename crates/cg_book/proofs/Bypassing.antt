@@ -23,7 +23,7 @@ use Rattle.cg_book.specs.declared.substitutes.Substitutes.{Substitutes}
 use Rattle.cg_book.specs.declared.whole.Whole.{Whole}
 use Rattle.cg_book.specs.Candidates.{alone, pages_of}
 use Rattle.cg_book.specs.Pages.{ArePages, IsPage, game_of, games_of}
-use Rattle.cg_book.specs.Passed.{AreSubstitutes, IsOwn, WasPassed}
+use Rattle.cg_book.specs.Passed.{AreSubstitutes, IsOwn, Replaced, WasPassed}
 use Rattle.cg_book.specs.Wholes.{WholeHolds, whole_game}
 use Rattle.cg_book.proofs.CandidateLaws.{pages_pushed}
 use Rattle.cg_book.proofs.Slices.{games_take_suc, item_among}
@@ -80,20 +80,17 @@ grown_last s g x gs f = record {
   ];
 }
 
-pub grown_same : (s : Bool) (g : Game) (gs : List Game) → Grown s g gs gs
+grown_same : (s : Bool) (g : Game) (gs : List Game) → Grown s g gs gs
 grown_same s g gs = record { keeps = λ x m. m; fine = λ x m. inl m }
-
-pub last_covered : (s : Bool) (g x : Game) (us : List Game) → Among x us → Covered s g us x
-last_covered s g x us m = kept m
 
 -- ---- a candidate that is put at the end of others
 
-pub record Pushed (gs : List Game) (left : Bool) (g x : Game) (os rs : List ℕ) : Type 0 where
+record Pushed (gs : List Game) (left : Bool) (g x : Game) (os rs : List ℕ) : Type 0 where
   pub pages : ArePages gs rs
   pub grown : Grown left g (games_of gs os) (games_of gs rs)
   pub last : Among x (games_of gs rs)
 
-pub pushed_one : (gs : List Game) (left : Bool) (g : Game) (os rs : List Candidate) (h : Candidate)
+pushed_one : (gs : List Game) (left : Bool) (g : Game) (os rs : List Candidate) (h : Candidate)
     → ArePages gs (pages_of os) → IsPage gs h.page → rs ≡ os ++ h ∷ [] → Fine left g (game_of gs h.page)
     → Pushed gs left g (game_of gs h.page) (pages_of os) (pages_of rs)
 pushed_one gs left g os rs h a b e f =
@@ -123,26 +120,42 @@ no_substitutes gs left w o e none =
       own = subst Q (sym e) (All-nil (IsOwn left w));
     }
 
--- with one candidate more, which cover what was covered
-pub more_substitutes : (gs : List Game) (left : Bool) (w : Whole) (o r : Substitutes) (x : Candidate) → AreSubstitutes gs left w o
-    → IsPage gs x.page → r.items.items ≡ o.items.items ++ x ∷ [] → ((page : ℕ) → WasPassed r page → WasPassed o page)
-    → Fine left (whole_game gs w) (game_of gs x.page) → IsOwn left w x → AreSubstitutes gs left w r
-more_substitutes gs left w o r x h known e same fine own =
+-- with one candidate more
+pub replaced_by_one : (gs : List Game) (left : Bool) (w : Whole) (o r : Substitutes) (x : Candidate) (P : Game → Type 0)
+    → AreSubstitutes gs left w o → IsPage gs x.page → r.items.items ≡ o.items.items ++ x ∷ []
+    → ((page : ℕ) → WasPassed r page → WasPassed o page) → Fine left (whole_game gs w) (game_of gs x.page) → IsOwn left w x
+    → (Among (game_of gs x.page) (games_of gs (pages_of r.items.items)) → (a : Game) → P a
+    → Covered left (whole_game gs w) (games_of gs (pages_of r.items.items)) a)
+    → Replaced gs left w o r P
+replaced_by_one gs left w o r x P h known e same fine own covers =
     let p = pushed_one gs left (whole_game gs w) o.items.items r.items.items x h.pages known e fine in
-    let P : List Candidate → Type 0 = λ z. All (IsOwn left w) z in
+    let Q : List Candidate → Type 0 = λ z. All (IsOwn left w) z in
     record {
-      pages = p.pages;
-      passed = λ page q.
-          let before = h.passed page (same page q) in (
-            before.0,
-            covered_more left (whole_game gs w) (games_of gs (pages_of o.items.items)) (games_of gs (pages_of r.items.items))
-                (game_of gs page) p.grown.keeps before.1,
-          );
-      own = subst P (sym e) (All-push (IsOwn left w) o.items.items x h.own own);
+      out = record {
+        pages = p.pages;
+        passed = λ page q.
+            let before = h.passed page (same page q) in (
+              before.0,
+              covered_more left (whole_game gs w) (games_of gs (pages_of o.items.items)) (games_of gs (pages_of r.items.items))
+                  (game_of gs page) p.grown.keeps before.1,
+            );
+        own = subst Q (sym e) (All-push (IsOwn left w) o.items.items x h.own own);
+      };
+      grown = p.grown;
+      covered = covers p.last;
     }
 
+-- as they stand, where they cover the game already
+pub replaced_by_none : (gs : List Game) (left : Bool) (w : Whole) (o : Substitutes) (x : Game) → AreSubstitutes gs left w o
+    → Covered left (whole_game gs w) (games_of gs (pages_of o.items.items)) x → Replaced gs left w o o (λ a. a ≡ x)
+replaced_by_none gs left w o x h c = record {
+  out = h;
+  grown = grown_same left (whole_game gs w) (games_of gs (pages_of o.items.items));
+  covered = λ a e. let P : Game → Type 0 = λ z. Covered left (whole_game gs w) (games_of gs (pages_of o.items.items)) z in subst P (sym e) c;
+}
+
 -- which cover an option that is passed now
-pub passing_substitutes : (gs : List Game) (left : Bool) (w : Whole) (o r : Substitutes) (x : ℕ) → AreSubstitutes gs left w o
+passing_substitutes : (gs : List Game) (left : Bool) (w : Whole) (o r : Substitutes) (x : ℕ) → AreSubstitutes gs left w o
     → IsPage gs x → Covered left (whole_game gs w) (games_of gs (pages_of o.items.items)) (game_of gs x) → r.items.items ≡ o.items.items
     → ((page : ℕ) → WasPassed r page → WasPassed o page ⊎ (page ≡ x)) → AreSubstitutes gs left w r
 passing_substitutes gs left w o r x h known c e updates =
@@ -163,6 +176,26 @@ passing_substitutes gs left w o r x h known c e updates =
               let before = h.passed page old in
               (before.0, subst Q (sym e) before.1))
         ]
+
+pub replaced_and_passed : (gs : List Game) (left : Bool) (w : Whole) (o m r : Substitutes) (x : ℕ)
+    → Replaced gs left w o m (λ a. a ≡ game_of gs x) → IsPage gs x → r.items.items ≡ m.items.items
+    → ((page : ℕ) → WasPassed r page → WasPassed m page ⊎ (page ≡ x)) → Replaced gs left w o r (λ a. a ≡ game_of gs x)
+replaced_and_passed gs left w o m r x d known e updates =
+    let P : List Candidate → Type 0 = λ z. Grown left (whole_game gs w) (games_of gs (pages_of o.items.items)) (games_of gs (pages_of z)) in
+    let Q : List Candidate → Type 0 = λ z. (a : Game) → a ≡ game_of gs x → Covered left (whole_game gs w) (games_of gs (pages_of z)) a in
+    record {
+      out = passing_substitutes gs left w m r x d.out known (d.covered (game_of gs x) refl) e updates;
+      grown = subst P (sym e) d.grown;
+      covered = subst Q (sym e) d.covered;
+    }
+
+-- ---- a game by another name
+
+pub kept_there : (s : Bool) (g x : Game) (us : List Game) (a : Game) → Among x us → a ≡ x → Covered s g us a
+kept_there s g x us a m e = let P : Game → Type 0 = λ z. Covered s g us z in subst P (sym e) (kept m)
+
+pub far_of_same : (s : Bool) (x b a : Game) → a ≡ x → Among b (far s x) → Among b (far s a)
+far_of_same s x b a e m = let P : Game → Type 0 = λ z. Among b (far s z) in subst P (sym e) m
 
 -- ---- over a list of options
 

@@ -1,6 +1,6 @@
 -- Options in whose places others stand.
 use Rattle.std.specs.Prelude.{◌≡◌, ℕ, Bool, All, cond, Contains, Some, List}
-use Rattle.cg_form.specs.Bypass.{Covered}
+use Rattle.cg_form.specs.Bypass.{Covered, Grown}
 use Rattle.cg_form.specs.Game.{Game}
 use Rattle.cg_book.specs.declared.candidate.Candidate.{Candidate}
 use Rattle.cg_book.specs.declared.substitutes.Substitutes.{Substitutes}
@@ -24,3 +24,9 @@ pub record AreSubstitutes (gs : List Game) (left : Bool) (w : Whole) (o : Substi
   pub passed : (page : ℕ) → WasPassed o page
       → IsPage gs page × Covered left (whole_game gs w) (games_of gs (pages_of o.items.items)) (game_of gs page)
   pub own : All (IsOwn left w) o.items.items
+
+-- from the substitutes o the substitutes r were made, in which others stand in the places of the games of P, too
+pub record Replaced (gs : List Game) (left : Bool) (w : Whole) (o r : Substitutes) (P : Game → Type 0) : Type 0 where
+  pub out : AreSubstitutes gs left w r
+  pub grown : Grown left (whole_game gs w) (games_of gs (pages_of o.items.items)) (games_of gs (pages_of r.items.items))
+  pub covered : (a : Game) → P a → Covered left (whole_game gs w) (games_of gs (pages_of r.items.items)) a

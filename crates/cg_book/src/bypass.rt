@@ -6,24 +6,24 @@
 //!
 //! No two of the own options of the whole are comparable: those that stay count as options that come from one term. What a bypass
 //! brings in has none.
-ghost use Rattle.std.specs.Prelude.{[], IfOk, cond};
-ghost use Rattle.cg_form.specs.Bypass.{AllCovered, Covered, Grown};
-ghost use Rattle.cg_form.specs.Game.{Among, Game};
+ghost use Rattle.std.specs.Prelude.{◌≡◌, [], IfOk, cond};
+ghost use Rattle.cg_form.specs.Bypass.{AllCovered, Grown};
+ghost use Rattle.cg_form.specs.Game.{Among};
 ghost use Rattle.cg_form.specs.Known.{EachLess};
 ghost use Rattle.cg_form.specs.Side.{AtMost, far};
 ghost use Rattle.cg_book.specs.Candidates.{AreCandidates, pages_of};
-ghost use Rattle.cg_book.specs.Passed.{AreSubstitutes, IsOwn};
+ghost use Rattle.cg_book.specs.Passed.{AreSubstitutes, IsOwn, Replaced};
 ghost use Rattle.cg_book.specs.Pages.{ArePages, IsPage, game_of, games_of};
-ghost use Rattle.cg_book.specs.Recents.{AreRight};
-ghost use Rattle.cg_book.specs.Wholes.{AreVerdicts, WholeHolds, whole_game};
+ghost use Rattle.cg_book.specs.Wholes.{AreKnown, whole_game};
 
 use crate::candidate::{Candidate, Candidates};
 use crate::pages::{Pages, Read};
 use crate::recent::Recent;
+use crate::staying::reverser;
 use crate::substitutes::Substitutes;
 use crate::terms::Term;
 use crate::verdicts::Verdicts;
-use crate::whole::{Whole, chosen, first_at_most};
+use crate::whole::{Whole, chosen};
 use std::alloc::AllocError;
 
 /// The list with what stands in the place of an option that is reversible through this answer.
@@ -37,19 +37,13 @@ fn bypass_through(
     answer: u32,
     out: &mut Substitutes,
 ) -> Result<(), AllocError>
-    requires whole { WholeHolds pages.now whole.now }
-    requires verdicts { AreVerdicts pages.now whole.now verdicts.old }
+    requires known { AreKnown pages.now whole.now answers.old verdicts.old }
     requires answer { IsPage pages.now answer }
     requires back { AtMost left (game_of pages.now answer) (whole_game pages.now whole.now) }
     requires out { AreSubstitutes pages.now left whole.now out.old }
-    requires right { AreRight pages.now answers.old }
-    ensures out { IfOk result (λ _. AreSubstitutes pages.now left whole.now out.new) }
-    ensures grown { IfOk result (λ _. Grown left (whole_game pages.now whole.now)
-        (games_of pages.now (pages_of out.old.items.items)) (games_of pages.now (pages_of out.new.items.items))) }
-    ensures covered { IfOk result (λ _. (a : Game) → Among (game_of pages.now answer) (far left a)
-        → Covered left (whole_game pages.now whole.now) (games_of pages.now (pages_of out.new.items.items)) a) }
-    ensures verdicts { AreVerdicts pages.now whole.now verdicts.new }
-    ensures right { AreRight pages.now answers.new }
+    ensures done { IfOk result (λ _. Replaced pages.now left whole.now out.old out.new
+        (λ a. Among (game_of pages.now answer) (far left a))) }
+    ensures known { AreKnown pages.now whole.now answers.new verdicts.new }
 {
     match pages.read(answer) {
         Read::Number(_) => out.push(&Candidate::alone(answer)),
@@ -71,30 +65,18 @@ fn bypass(
     option: &Candidate,
     out: &mut Substitutes,
 ) -> Result<(), AllocError>
-    requires whole { WholeHolds pages.now whole.now }
-    requires verdicts { AreVerdicts pages.now whole.now verdicts.old }
+    requires known { AreKnown pages.now whole.now answers.old verdicts.old }
     requires option { IsPage pages.now option.now.page }
     requires own { IsOwn left whole.now option.now }
     requires less { ¬ AtMost left (whole_game pages.now whole.now) (game_of pages.now option.now.page) }
     requires out { AreSubstitutes pages.now left whole.now out.old }
-    requires right { AreRight pages.now answers.old }
-    ensures out { IfOk result (λ _. AreSubstitutes pages.now left whole.now out.new) }
-    ensures grown { IfOk result (λ _. Grown left (whole_game pages.now whole.now)
-        (games_of pages.now (pages_of out.old.items.items)) (games_of pages.now (pages_of out.new.items.items))) }
-    ensures covered { IfOk result (λ _. Covered left (whole_game pages.now whole.now)
-        (games_of pages.now (pages_of out.new.items.items)) (game_of pages.now option.now.page)) }
-    ensures verdicts { AreVerdicts pages.now whole.now verdicts.new }
-    ensures right { AreRight pages.now answers.new }
+    ensures done { IfOk result (λ _. Replaced pages.now left whole.now out.old out.new
+        (λ a. a ≡ game_of pages.now option.now.page)) }
+    ensures known { AreKnown pages.now whole.now answers.new verdicts.new }
 {
-    match pages.read(option.page) {
-        Read::Number(_) => out.push(option),
-        Read::Game(lefts, rights) => {
-            let far = chosen(left, rights, lefts);
-            match first_at_most(pages, answers, whole, verdicts, left, far)? {
-                None => out.push(option),
-                Some(answer) => bypass_through(pages, answers, whole, verdicts, left, answer, out),
-            }
-        }
+    match reverser(pages, answers, whole, verdicts, left, option.page)? {
+        None => out.push(option),
+        Some(answer) => bypass_through(pages, answers, whole, verdicts, left, answer, out),
     }
 }
 
@@ -109,20 +91,14 @@ fn bypass_once(
     option: &Candidate,
     out: &mut Substitutes,
 ) -> Result<(), AllocError>
-    requires whole { WholeHolds pages.now whole.now }
-    requires verdicts { AreVerdicts pages.now whole.now verdicts.old }
+    requires known { AreKnown pages.now whole.now answers.old verdicts.old }
     requires option { IsPage pages.now option.now.page }
     requires own { IsOwn left whole.now option.now }
     requires less { ¬ AtMost left (whole_game pages.now whole.now) (game_of pages.now option.now.page) }
     requires out { AreSubstitutes pages.now left whole.now out.old }
-    requires right { AreRight pages.now answers.old }
-    ensures out { IfOk result (λ _. AreSubstitutes pages.now left whole.now out.new) }
-    ensures grown { IfOk result (λ _. Grown left (whole_game pages.now whole.now)
-        (games_of pages.now (pages_of out.old.items.items)) (games_of pages.now (pages_of out.new.items.items))) }
-    ensures covered { IfOk result (λ _. Covered left (whole_game pages.now whole.now)
-        (games_of pages.now (pages_of out.new.items.items)) (game_of pages.now option.now.page)) }
-    ensures verdicts { AreVerdicts pages.now whole.now verdicts.new }
-    ensures right { AreRight pages.now answers.new }
+    ensures done { IfOk result (λ _. Replaced pages.now left whole.now out.old out.new
+        (λ a. a ≡ game_of pages.now option.now.page)) }
+    ensures known { AreKnown pages.now whole.now answers.new verdicts.new }
 {
     if out.has_passed(option.page) {
         return Ok(());
@@ -142,19 +118,13 @@ fn bypass_list(
     list: &[u32],
     out: &mut Substitutes,
 ) -> Result<(), AllocError>
-    requires whole { WholeHolds pages.now whole.now }
-    requires verdicts { AreVerdicts pages.now whole.now verdicts.old }
+    requires known { AreKnown pages.now whole.now answers.old verdicts.old }
     requires list { ArePages pages.now list.now }
     requires less { EachLess left (whole_game pages.now whole.now) (games_of pages.now list.now) }
     requires out { AreSubstitutes pages.now left whole.now out.old }
-    requires right { AreRight pages.now answers.old }
-    ensures out { IfOk result (λ _. AreSubstitutes pages.now left whole.now out.new) }
-    ensures grown { IfOk result (λ _. Grown left (whole_game pages.now whole.now)
-        (games_of pages.now (pages_of out.old.items.items)) (games_of pages.now (pages_of out.new.items.items))) }
-    ensures covered { IfOk result (λ _. AllCovered left (whole_game pages.now whole.now)
-        (games_of pages.now (pages_of out.new.items.items)) (games_of pages.now list.now)) }
-    ensures verdicts { AreVerdicts pages.now whole.now verdicts.new }
-    ensures right { AreRight pages.now answers.new }
+    ensures done { IfOk result (λ _. Replaced pages.now left whole.now out.old out.new
+        (λ a. Among a (games_of pages.now list.now))) }
+    ensures known { AreKnown pages.now whole.now answers.new verdicts.new }
 {
     for option in list {
         let candidate = Candidate::alone(*option);
@@ -171,15 +141,12 @@ pub(crate) fn candidates(
     verdicts: &mut Verdicts,
     left: bool,
 ) -> Result<Candidates, AllocError>
-    requires whole { WholeHolds pages.now whole.now }
-    requires verdicts { AreVerdicts pages.now whole.now verdicts.old }
-    requires right { AreRight pages.now answers.old }
+    requires known { AreKnown pages.now whole.now answers.old verdicts.old }
     ensures candidates { IfOk result (λ r. AreCandidates pages.now r.items) }
     ensures grown { IfOk result (λ r. Grown left (whole_game pages.now whole.now) [] (games_of pages.now (pages_of r.items))) }
     ensures covered { IfOk result (λ r. AllCovered left (whole_game pages.now whole.now) (games_of pages.now (pages_of r.items))
         (games_of pages.now (cond left whole.now.lefts.now whole.now.rights.now))) }
-    ensures verdicts { AreVerdicts pages.now whole.now verdicts.new }
-    ensures right { AreRight pages.now answers.new }
+    ensures known { AreKnown pages.now whole.now answers.new verdicts.new }
 {
     let mut all = Substitutes::new(answers.alloc());
     for own in whole.own(left) {

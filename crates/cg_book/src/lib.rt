@@ -1,4 +1,4 @@
-//! A book of games in canonical form: their order and the reduction of games of two lists of them, by their pages.
+//! Interned games in canonical form, each on a page of a book: their order, and the canonical forms of games of two lists of them.
 #![tactic(auto)]
 
 mod best;

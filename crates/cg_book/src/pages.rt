@@ -1,4 +1,4 @@
-//! The pages of a book.
+//! The pages of a book: interned games, each with an index, its page.
 ghost use Rattle.std.specs.Prelude.{◌≡◌, ◌≤◌, ◌^◌, ◌++◌, ◌∷◌, [], length, is_ok, if◌then◌else◌, IfOk, OnErr};
 ghost use Rattle.std.specs.List.{slice_range};
 ghost use Rattle.cg_form.specs.Canonical.{Canonical};

@@ -1,4 +1,4 @@
-//! Answers to comparisons that were found of late.
+//! The comparison cache: answers to comparisons that were found of late.
 //!
 //! Each pair of games has two places in a table, which it shares with other pairs. A new answer stands at the first of them, the one
 //! that stood there goes to its neighbour, and the one that stood at the neighbour is forgotten. The table grows with the answers of

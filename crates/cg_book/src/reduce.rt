@@ -12,7 +12,7 @@ ghost use Rattle.cg_book.specs.Pages.{ArePages, games_of};
 ghost use Rattle.cg_book.specs.Profiles.{HasCuts};
 ghost use Rattle.cg_book.specs.Recents.{AreRight};
 ghost use Rattle.cg_book.specs.Tops.{Tops};
-ghost use Rattle.cg_book.specs.Wholes.{AreVerdicts, WholeHolds, whole_game};
+ghost use Rattle.cg_book.specs.Wholes.{AreKnown, WholeHolds, whole_game};
 
 use crate::best::put_tops;
 use crate::bypass::candidates;
@@ -62,16 +62,13 @@ fn put_replaced(
     left: bool,
     list: &mut Options,
 ) -> Result<(), AllocError>
-    requires whole { WholeHolds pages.now whole.now }
+    requires known { AreKnown pages.now whole.now answers.old verdicts.old }
     requires tops { let own = games_of pages.now (cond left whole.now.lefts.now whole.now.rights.now) in Tops left own own }
-    requires verdicts { AreVerdicts pages.now whole.now verdicts.old }
-    requires right { AreRight pages.now answers.old }
     requires empty { list.old.items ≡ [] }
     ensures pages { IfOk result (λ _. ArePages pages.now list.new.items) }
     ensures replaces { IfOk result (λ _. Replaces left (whole_game pages.now whole.now)
         (games_of pages.now (cond left whole.now.lefts.now whole.now.rights.now)) (games_of pages.now list.new.items)) }
-    ensures verdicts { AreVerdicts pages.now whole.now verdicts.new }
-    ensures right { AreRight pages.now answers.new }
+    ensures known { AreKnown pages.now whole.now answers.new verdicts.new }
 {
     if all_stay(pages, answers, whole, verdicts, left)? {
         return put_in_order(pages, whole.own(left), list);

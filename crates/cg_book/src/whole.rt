@@ -4,8 +4,7 @@ ghost use Rattle.cg_form.specs.Game.{Among};
 ghost use Rattle.cg_form.specs.Order.{no_one};
 ghost use Rattle.cg_form.specs.Side.{AtMost, at_most as at_most_for};
 ghost use Rattle.cg_book.specs.Pages.{ArePages, IsPage, game_of, games_of};
-ghost use Rattle.cg_book.specs.Recents.{AreRight};
-ghost use Rattle.cg_book.specs.Wholes.{AreVerdicts, WholeHolds, whole_game};
+ghost use Rattle.cg_book.specs.Wholes.{AreKnown, whole_game};
 
 use crate::keys::Keys;
 use crate::order::none_as_good;
@@ -57,14 +56,11 @@ fn compared_with_whole(
     left: bool,
     page: u32,
 ) -> Result<bool, AllocError>
-    requires whole { WholeHolds pages.now whole.now }
+    requires known { AreKnown pages.now whole.now answers.old verdicts.old }
     requires page { IsPage pages.now page }
-    requires verdicts { AreVerdicts pages.now whole.now verdicts.old }
-    requires right { AreRight pages.now answers.old }
     ensures order { IfOk result (λ answer. answer
         ≡ at_most_for left (game_of pages.now page) (whole_game pages.now whole.now)) }
-    ensures verdicts { AreVerdicts pages.now whole.now verdicts.new }
-    ensures right { AreRight pages.now answers.new }
+    ensures known { AreKnown pages.now whole.now answers.new verdicts.new }
 {
     match pages.read(page) {
         Read::Number(x) => Ok(in_cut(left, &whole.profile.cut(left), x)),
@@ -92,14 +88,11 @@ fn at_most_whole(
     left: bool,
     page: u32,
 ) -> Result<bool, AllocError>
-    requires whole { WholeHolds pages.now whole.now }
+    requires known { AreKnown pages.now whole.now answers.old verdicts.old }
     requires page { IsPage pages.now page }
-    requires verdicts { AreVerdicts pages.now whole.now verdicts.old }
-    requires right { AreRight pages.now answers.old }
     ensures order { IfOk result (λ answer. answer
         ≡ at_most_for left (game_of pages.now page) (whole_game pages.now whole.now)) }
-    ensures verdicts { AreVerdicts pages.now whole.now verdicts.new }
-    ensures right { AreRight pages.now answers.new }
+    ensures known { AreKnown pages.now whole.now answers.new verdicts.new }
 {
     if let Some(answer) = told_for(left, pages.keys(page), &whole.keys) {
         return Ok(answer);
@@ -122,17 +115,14 @@ pub(crate) fn first_at_most(
     left: bool,
     list: &[u32],
 ) -> Result<Option<u32>, AllocError>
-    requires whole { WholeHolds pages.now whole.now }
+    requires known { AreKnown pages.now whole.now answers.old verdicts.old }
     requires list { ArePages pages.now list.now }
-    requires verdicts { AreVerdicts pages.now whole.now verdicts.old }
-    requires right { AreRight pages.now answers.old }
     ensures some { IfOk result (λ r. IfSome r (λ b. IsPage pages.now b
         × Among (game_of pages.now b) (games_of pages.now list.now)
         × AtMost left (game_of pages.now b) (whole_game pages.now whole.now))) }
     ensures none { IfOk result (λ r. IfNone r
         (IsTrue (no_one (λ b. at_most_for left b (whole_game pages.now whole.now)) (games_of pages.now list.now)))) }
-    ensures verdicts { AreVerdicts pages.now whole.now verdicts.new }
-    ensures right { AreRight pages.now answers.new }
+    ensures known { AreKnown pages.now whole.now answers.new verdicts.new }
 {
     for option in list {
         if at_most_whole(pages, answers, whole, verdicts, left, *option)? {

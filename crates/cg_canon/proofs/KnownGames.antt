@@ -1,9 +1,9 @@
 -- Games that are known as sums of a number, of ups or downs, and of a nimber.
 use Rattle.std.proofs.Common.{◌≡◌, ◌⊎◌, ◌∙◌, refl, Bool, true, ◌&&◌, nat_eq, eqb-true, arith, ℕ, ℤ, pos, ◌+ℤ◌, ◌-ℤ◌, [], ◌∷◌, ◌++◌, Option, Some, None, ap, inl, inr, sym, subst}
-use Rattle.std.specs.List.{slice_get}
 use Rattle.std.specs.Ordering.{int_eq}
 use Rattle.std.specs.Prelude.{IfSome, bit_xor}
 use Rattle.std.proofs.lemmas.Int.{ints}
+use Rattle.std.proofs.lemmas.List.Elements.{All-contains, All-nil, All-push, All-same, All-weaker}
 use Rattle.cg_cells.specs.Meaning.{Grows}
 use Rattle.cg_cells.specs.Store.{State, thing_at}
 use Rattle.cg_dyadic.specs.Number.{Number, exp_of, num_of, whole}
@@ -29,8 +29,7 @@ use Rattle.cg_nodes.proofs.Later.{game_later, is_game_later, stands_game, stands
 use Rattle.cg_canon.specs.declared.number_up_star.NumberUpStar.{NumberUpStar}
 use Rattle.cg_canon.specs.declared.number_up_stars.KnownGame.{KnownGame}
 use Rattle.cg_canon.specs.declared.number_up_stars.NumberUpStars.{NumberUpStars}
-use Rattle.cg_canon.specs.NumberUpStars.{AreKnown, IsKnownAs, IsListed, IsPlus, game_of}
-use Rattle.cg_canon.proofs.Pushed.{none_there, pushed_item}
+use Rattle.cg_canon.specs.NumberUpStars.{AreKnown, Holds, IsKnownAs, IsListed, IsPlus, game_of, known_game}
 
 -- with these parts
 pub parts_game : (v : NumberUpStar) (x : Number) (n k m : ℕ) → v.number ≡ x → v.ups ≡ n → v.downs ≡ k → v.star ≡ m
@@ -110,11 +109,6 @@ module _ {R : Type 0} (s : State Meant R) where
         equal = subst Q (sym is) (equal_trans (can both) both (game_of u) (can-equal both) (known_sum a b v w u k l p));
       }
 
-  pub third_told : (o : Option NumberUpStar) (a b h : ℕ) (v w : NumberUpStar) → IsKnownAs s a v → IsKnownAs s b w
-      → IfSome o (IsPlus v w) → StandsFor s h (can (sum (game_at s a) (game_at s b))) → IfSome o (IsKnownAs s h)
-  third_told None a b h v w k l p stands = tt
-  third_told (Some u) a b h v w k l p stands = third_known a b h v w u k l p stands
-
   -- one of two games whose sum is known, as the other is
   pub other_known : (a b h : ℕ) (v w u : NumberUpStar) → IsGame s a → Canonical (game_at s a) → IsKnownAs s b w → IsKnownAs s h u
       → IsPlus v w u → Equal (game_at s h) (sum (game_at s a) (game_at s b)) → IsKnownAs s a v
@@ -130,12 +124,6 @@ module _ {R : Type 0} (s : State Meant R) where
         (equal_back other (game_of u) (equal_trans other (sum (game_of v) (game_of w)) (game_of u)
         (sum_second (game_at s b) (game_of w) (game_of v) l.equal) (plus_equal v w u p))));
   }
-
-  pub other_told : (o : Option NumberUpStar) (a b h : ℕ) (w u : NumberUpStar) → IsGame s a → Canonical (game_at s a)
-      → IsKnownAs s b w → IsKnownAs s h u → IfSome o (λ v. IsPlus v w u) → Equal (game_at s h) (sum (game_at s a) (game_at s b))
-      → IfSome o (IsKnownAs s a)
-  other_told None a b h w u game c l k p e = tt
-  other_told (Some v) a b h w u game c l k p e = other_known a b h v w u game c l k p e
 
   -- the sum of two games equals the game that stands for it, in either order
   pub stands_equal : (a b h : ℕ) → StandsFor s h (can (sum (game_at s a) (game_at s b)))
@@ -170,46 +158,34 @@ same_sum v w b e t =
     same_parts v w (tells_same v.number w.number true (sym first) refl) (eqb-true v.ups w.ups ups)
     (eqb-true v.downs w.downs downs) (eqb-true v.star w.star star)
 
--- a table with one game more
-pub listed_pushed : (t u : NumberUpStars) (a : ℕ) (v : NumberUpStar)
-    → u.games.items ≡ t.games.items ++ ((λ (z : KnownGame). z) (record { handle = a; sum = v }) ∷ [])
-    → (h : ℕ) (w : NumberUpStar) → IsListed u h w → ((h ≡ a) × (w ≡ v)) ⊎ IsListed t h w
-listed_pushed t u a v e h w k = elim (pushed_item t.games.items u.games.items _ _ k.place e k.there) [
-  | inl same ↦ inl (ap (λ (z : KnownGame). z.handle) same, ap (λ (z : KnownGame). z.sum) same)
-  | inr old ↦ inr (record { place = k.place; there = old })
-]
+module _ {R : Type 0} (s : State Meant R) (t : NumberUpStars) where
+  -- of no games
+  pub known_none : t.games.items ≡ [] → AreKnown s t
+  known_none e = All-same (Holds s) t.games.items [] e (All-nil (Holds s))
 
--- a table with the same games
-pub listed_before : (t u : NumberUpStars) → u.games.items ≡ t.games.items → (h : ℕ) (w : NumberUpStar) → IsListed u h w
-    → IsListed t h w
-listed_before t u e h w k = record { place = k.place; there = ap (λ z. slice_get z k.place) (sym e) ∙ k.there }
+  -- a game that was found
+  pub known_found : (h : ℕ) (v : NumberUpStar) → AreKnown s t → IsListed t h v → IsKnownAs s h v
+  known_found h v k at = All-contains (Holds s) t.games.items (known_game h v) k at
 
--- of no games
-pub known_none : {R : Type 0} (s : State Meant R) (t : NumberUpStars) → t.games.items ≡ [] → AreKnown s t
-known_none s t none h v k = absurd (none_there t.games.items k.place _ none k.there)
+  -- with one game more, or the same
+  pub known_more : (u : NumberUpStars) (a : ℕ) (v : NumberUpStar)
+      → (u.games.items ≡ t.games.items) ⊎ (u.games.items ≡ t.games.items ++ (known_game a v ∷ []))
+      → IsKnownAs s a v → AreKnown s t → AreKnown s u
+  known_more u a v (inl e) is k = All-same (Holds s) u.games.items t.games.items e k
+  known_more u a v (inr e) is k = All-same (Holds s) u.games.items (t.games.items ++ (known_game a v ∷ [])) e (All-push (Holds s) t.games.items (known_game a v) k is)
 
 -- what the table says stays so
-pub known_later : {R Q : Type 0} (s : State Meant R) (t : State Meant Q) → Grows (thing_at s) (thing_at t) → (n : NumberUpStars)
-    → AreKnown s n → AreKnown t n
-known_later s t grows n k h v at =
-    let l = k h v at in
-    let same = game_later s t grows h l.game in
-    let P : Game → Type 0 = λ z. Canonical z in
-    let Q : Game → Type 0 = λ z. Equal z (game_of v) in
-    record {
-      game = is_game_later s t grows h l.game;
-      canonical = subst P (sym same) l.canonical;
-      equal = subst Q (sym same) l.equal;
-    }
+module _ {R Q : Type 0} (s : State Meant R) (t : State Meant Q) (grows : Grows (thing_at s) (thing_at t)) where
+  game_known_later : (g : KnownGame) → Holds s g → Holds t g
+  game_known_later g l =
+      let same = game_later s t grows g.handle l.game in
+      let P : Game → Type 0 = λ z. Canonical z in
+      let Q : Game → Type 0 = λ z. Equal z (game_of g.sum) in
+      record {
+        game = is_game_later s t grows g.handle l.game;
+        canonical = subst P (sym same) l.canonical;
+        equal = subst Q (sym same) l.equal;
+      }
 
--- with one game more
-pub known_more : {R : Type 0} (s : State Meant R) (t u : NumberUpStars) (a : ℕ) (v : NumberUpStar)
-    → ((h : ℕ) (w : NumberUpStar) → IsListed u h w → ((h ≡ a) × (w ≡ v)) ⊎ IsListed t h w)
-    → IsKnownAs s a v → AreKnown s t → AreKnown s u
-known_more s t u a v e o k h w at = elim (e h w at) [
-  | inl same ↦
-      let P : ℕ → Type 0 = λ z. IsKnownAs s z w in
-      let Q : NumberUpStar → Type 0 = λ z. IsKnownAs s a z in
-      subst P (sym same.0) (subst Q (sym same.1) o)
-  | inr old ↦ k h w old
-]
+  pub known_later : (n : NumberUpStars) → AreKnown s n → AreKnown t n
+  known_later n k = All-weaker (Holds s) (Holds t) game_known_later n.games.items k

@@ -3,8 +3,6 @@ pub mod AgainItems
 pub mod KnownGames
 pub mod Holding
 pub mod Same
-pub mod Results
-pub mod Pushed
 pub mod Charging
 pub mod Keeping
 pub mod MadeSteps

@@ -1,6 +1,6 @@
 -- Walks over the pages of a book, which find the handles of positions.
-use Rattle.std.proofs.Common.{◌≡◌, ℕ, zero, suc, ◌+◌, ◌<◌, ◌≤◌, arith, ap, sym, ◌∙◌, subst, Some, List, [], ◌∷◌, ◌++◌, length, take, get_or}
-use Rattle.std.proofs.lemmas.List.{append_assoc, append-nil}
+use Rattle.std.proofs.Common.{◌≡◌, refl, ℕ, ◌+◌, ◌<◌, ◌≤◌, arith, ap, sym, ◌∙◌, subst, Some, List, [], ◌∷◌, ◌++◌, length, take, drop, get_or}
+use Rattle.std.proofs.lemmas.List.{append_assoc, append-nil, take-append-drop, take_more}
 use Rattle.cg_form.specs.Extended.{extended, positions_before}
 use Rattle.cg_form.specs.Game.{Game, node, of_list}
 use Rattle.cg_cells.specs.Meaning.{Grows, Has, IsInjective}
@@ -9,11 +9,11 @@ use Rattle.cg_nodes.specs.Games.{IsGame, StandFor, StandsFor, game_at, games_at}
 use Rattle.cg_nodes.specs.Meant.{Meant, form}
 use Rattle.cg_form.specs.Positions.{all_positions, positions_in, positions_of}
 use Rattle.cg_nodes.specs.Walks.{AreFound, AreFoundAfter}
-use Rattle.cg_form.proofs.Extended.{extended-append, extended-length}
+use Rattle.cg_form.proofs.Firsts.{extended-append, extended-length}
+use Rattle.cg_form.proofs.Structure.{games}
 use Rattle.cg_nodes.proofs.Later.{game_later, stands_game, stands_is_game}
 use Rattle.cg_nodes.proofs.Walked.{found_next, found_positions, found_there, found_within, next_length, none_length}
 use Rattle.cg_book.specs.Pages.{game_of, games_of}
-use Rattle.cg_book.proofs.Slices.{games_take_suc}
 use Rattle.cg_canon.specs.declared.book.Book.{Book}
 use Rattle.cg_canon.specs.Books.{BookHolds, HasHandle}
 
@@ -64,36 +64,27 @@ module _ {R : Type 0} (s : State Meant R) (b : Book) (page handle : ℕ) (before
 abbrev pub walk_over : List Game → List ℕ → List Game
 walk_over gs ps = positions_in (of_list (games_of gs ps))
 
-positions_in-last : (gs : List Game) (g : Game)
-    → positions_in (of_list (gs ++ (g ∷ []))) ≡ positions_in (of_list gs) ++ all_positions g
-positions_in-last [] g = append-nil (all_positions g)
-positions_in-last (k ∷ gs) g =
-    ap (λ z. all_positions k ++ z) (positions_in-last gs g)
-    ∙ sym (append_assoc (all_positions k) (positions_in (of_list gs)) (all_positions g))
+walk_split : (gs : List Game) (ps qs : List ℕ) → walk_over gs (ps ++ qs) ≡ walk_over gs ps ++ walk_over gs qs
+walk_split gs [] qs = refl
+walk_split gs (p ∷ ps) qs =
+    ap (λ z. all_positions (game_of gs p) ++ z) (walk_split gs ps qs)
+    ∙ sym (append_assoc (all_positions (game_of gs p)) (walk_over gs ps) (walk_over gs qs))
 
 walk_next : (seen gs : List Game) (ps : List ℕ) (i k : ℕ) → i < length ps → k ≡ get_or ps i 0
     → extended (extended seen (walk_over gs (take i ps))) (all_positions (game_of gs k)) ≡ extended seen (walk_over gs (take (i + 1) ps))
 walk_next seen gs ps i k less e =
-    let one : suc i ≡ i + 1 = omega arith in
     ap (λ z. extended (extended seen (walk_over gs (take i ps))) (all_positions (game_of gs z))) e
-    ∙ sym (extended-append seen (walk_over gs (take i ps)) (all_positions (game_of gs (get_or ps i 0))))
-    ∙ ap (extended seen) (sym (positions_in-last (games_of gs (take i ps)) (game_of gs (get_or ps i 0))))
-    ∙ ap (λ z. extended seen (positions_in (of_list z))) (sym (games_take_suc gs ps i 0 less))
-    ∙ ap (λ n. extended seen (walk_over gs (take n ps))) one
+    ∙ ap (extended (extended seen (walk_over gs (take i ps)))) (sym (append-nil (all_positions (game_of gs (get_or ps i 0)))))
+    ∙ sym (extended-append games seen (walk_over gs (take i ps)) (walk_over gs (get_or ps i 0 ∷ [])))
+    ∙ ap (extended seen) (sym (walk_split gs (take i ps) (get_or ps i 0 ∷ [])))
+    ∙ ap (λ z. extended seen (walk_over gs z)) (sym (take_more ps i 0 less))
 
 -- more than the positions of the first games are more than those of all
 first_length : (seen gs : List Game) (ps : List ℕ) (i limit : ℕ) → limit < length (extended seen (walk_over gs (take i ps)))
     → limit < length (extended seen (walk_over gs ps))
-first_length seen gs [] zero limit l = l
-first_length seen gs [] (suc i) limit l = l
-first_length seen gs (p ∷ ps) zero limit l =
-    let a = extended-length seen [] (walk_over gs (p ∷ ps)) in
-    omega arith
-first_length seen gs (p ∷ ps) (suc i) limit l =
-    let g : List Game = all_positions (game_of gs p) in
-    let a = ap length (extended-append seen g (walk_over gs (take i ps))) in
-    let b = ap length (extended-append seen g (walk_over gs ps)) in
-    let c = first_length (extended seen g) gs ps i limit (omega arith) in
+first_length seen gs ps i limit l =
+    let split = ap (λ z. length (extended seen z)) (ap (walk_over gs) (sym (take-append-drop i ps)) ∙ walk_split gs (take i ps) (drop i ps)) in
+    let more = extended-length games seen (walk_over gs (take i ps)) (walk_over gs (drop i ps)) in
     omega arith
 
 module _ {R : Type 0} (s : State Meant R) (gs : List Game) (before hs ps : List ℕ) (i k : ℕ) (less : i < length ps)
@@ -121,14 +112,14 @@ module _ {R : Type 0} (s : State Meant R) (gs : List Game) (before : List ℕ) (
       → limit < length (extended (games_at s before) (positions_before g))
   left_longer limit l =
       let a = ap (λ z. length (extended (games_at s before) (positions_before z))) is in
-      let b = extended-length (games_at s before) (walk_over gs ls) (walk_over gs rs) in
+      let b = extended-length games (games_at s before) (walk_over gs ls) (walk_over gs rs) in
       omega arith
 
   module _ (hs : List ℕ) (left : AreFoundAfter s s before hs (walk_over gs ls)) where
     both : extended (games_at s hs) (walk_over gs rs) ≡ extended (games_at s before) (positions_before g)
     both =
         ap (λ z. extended z (walk_over gs rs)) left.all
-        ∙ sym (extended-append (games_at s before) (walk_over gs ls) (walk_over gs rs))
+        ∙ sym (extended-append games (games_at s before) (walk_over gs ls) (walk_over gs rs))
         ∙ ap (λ z. extended (games_at s before) (positions_before z)) (sym is)
 
     pub sides_walked : (ms : List ℕ) → AreFoundAfter s s hs ms (walk_over gs rs) → AreFoundAfter s s before ms (positions_before g)

@@ -1,158 +1,166 @@
 -- Items that are made beside a book, and what they leave of a work.
-use Rattle.std.proofs.Common.{◌≡◌, refl, ℕ, ◌+◌, ◌≤◌, arith, ap, sym, subst, List, [], ◌∷◌, Result, Ok, Err}
+use Rattle.std.proofs.Common.{◌≡◌, refl, ℕ, ◌+◌, ◌≤◌, arith, ap, sym, ◌∙◌, subst, [], ◌∷◌, Result, Ok, Err}
 use Rattle.std.specs.Borrow.{MutBor}
-use Rattle.std.specs.Prelude.{IfOk, OnErr, OnOk}
-use Rattle.cg_dyadic.specs.Number.{InRange, Number}
-use Rattle.cg_form.specs.Game.{Game, number}
+use Rattle.cg_form.specs.Game.{Game}
 use Rattle.cg_cells.specs.Store.{Spends, State}
 use Rattle.cg_nodes.specs.Games.{StandsFor}
 use Rattle.cg_nodes.specs.Meant.{Meant}
-use Rattle.cg_nodes.proofs.Later.{spends_then}
-use Rattle.cg_book.specs.declared.settling.NewForm.{NewForm}
-use Rattle.cg_book.specs.Profiles.{IsProfile}
-use Rattle.cg_book.specs.Settled.{IsNewForm}
 use Rattle.cg_canon.specs.declared.fault.ValueFault.{ValueFault}
-use Rattle.cg_canon.specs.declared.fault.ValueFault.TheVariants.{Memory, Range}
 use Rattle.cg_canon.specs.declared.held.Held.{Held}
-use Rattle.cg_canon.specs.declared.memo.KnownSum.{KnownSum}
 use Rattle.cg_canon.specs.declared.memo.Memo.{Memo}
 use Rattle.cg_canon.specs.declared.meter.Meter.{Meter}
+use Rattle.cg_canon.specs.declared.rest.WorkRest.{WorkRest}
 use Rattle.cg_canon.specs.Books.{BookHolds}
 use Rattle.cg_canon.specs.Held.{IsHeld}
 use Rattle.cg_canon.specs.Items.{AllPass, WasRefused, made}
-use Rattle.cg_canon.specs.Made.{ItemsMade}
-use Rattle.cg_canon.specs.Memos.{IsAdded}
-use Rattle.cg_canon.specs.Paid.{IsPaid, written}
-use Rattle.cg_canon.specs.Works.{IsUnspent, MeterHolds, WorkOf, work_state}
-use Rattle.cg_canon.proofs.Charging.{outside_refused}
-use Rattle.cg_canon.proofs.Holding.{held_book, held_later, meter_moved}
-use Rattle.cg_canon.proofs.Results.{on_err, on_ok}
+use Rattle.cg_canon.specs.Made.{FormGiven}
+use Rattle.cg_canon.specs.Paid.{IsPaid, metered}
+use Rattle.cg_canon.specs.Works.{MeterHolds, work_state}
+use Rattle.cg_canon.proofs.Holding.{held_book, held_later}
+use Rattle.cg_canon.proofs.Keeping.{spends_keeps}
+use Rattle.cg_canon.proofs.MadeSteps.{read_then}
+use Rattle.cg_book.proofs.Results.{on_err, on_ok}
 
--- ---- one item
+-- nothing was made, and then an item
+pub form_later : {R : Type 0} (s t u : State Meant (WorkRest R)) (form : Game) (extra : ℕ) (r : Result ℕ ValueFault) → Spends 0 s t
+    → FormGiven t u form extra r → FormGiven s u form extra r
+form_later {R} s t u form extra r k f =
+    let spare = k.spare in
+    let more = f.gives.more in record {
+      gives = record { game = f.gives.game; made = read_then 0 s t u (made form extra ∷ []) r k f.gives.made; more = omega arith };
+      same = on_err r _ _ f.same (λ e. let a = e.spare in record {
+        spent = e.spent ∙ ap (λ (z : WorkRest R). z.spent) k.rest;
+        spare = omega arith;
+      });
+      spare = on_ok r _ _ f.spare (λ a. omega arith);
+    }
 
-module _ {R : Type 0} (s t : State Meant R) (m n : Meter) (form : Game) (extra : ℕ) (r : Result ℕ ValueFault) where
-  -- nothing was charged
-  pub refused_paid : (fault : ValueFault) → r ≡ Err fault → Spends 0 s t → m.spent ≤ m.share → n ≡ m
-      → WasRefused fault m.share m.spent (made form extra ∷ []) n.spent → IsPaid s t m n form extra r
-  refused_paid fault e k within same refused =
-      let P : Result ℕ ValueFault → Type 0 = λ z. IsPaid s t m n form extra z in
-      let spent : n.spent ≡ m.spent = ap (λ (z : Meter). z.spent) same in
-      let share : n.share ≡ m.share = ap (λ (z : Meter). z.share) same in
+-- ---- a store and its meter
+
+module _ {R : Type 0} (s t : State Meant R) (m : Meter) (k : Spends 0 s t) where
+  looked : Spends 0 (metered s m) (metered t m)
+  looked =
+      let spare = k.spare in record {
+        known = k.known;
+        noted = k.noted;
+        spare = omega arith;
+        rest = ap (λ (z : R). (metered (record s { rest = z }) m).rest) k.rest;
+      }
+
+  -- after a search of the store
+  pub paid_later : (u : State Meant R) (n : Meter) (g form : Game) (extra : ℕ) (r : Result ℕ ValueFault) → g ≡ form
+      → IsPaid t u m n form extra r → IsPaid s u m n g extra r
+  paid_later u n g form extra r e p =
+      let P : Game → Type 0 = λ z. IsPaid s u m n z extra r in
+      let spare = k.spare in
+      let fallen = p.fallen in
       subst P (sym e) (record {
-        cells = 0;
-        spends = k;
-        share = share;
-        within = omega arith;
-        paid = omega arith;
-        ok = tt;
-        err = (refl, spent);
-        game = tt;
-        charged = tt;
-        refused = refused;
+        given = form_later (metered s m) (metered t m) (metered u n) form extra r looked p.given;
+        within = p.within;
+        fallen = omega arith;
       })
 
-  pub memory_paid : r ≡ Err Memory → Spends 0 s t → m.spent ≤ m.share → n ≡ m → IsPaid s t m n form extra r
-  memory_paid e k within same = refused_paid Memory e k within same tt
+  -- an item that is refused after it
+  pub none_paid : (form : Game) (extra : ℕ) (fault : ValueFault) → m.spent ≤ m.share
+      → WasRefused fault m.share m.spent (made form extra ∷ []) m.spent → IsPaid s t m m form extra (Err fault)
+  none_paid form extra fault within refused =
+      let spare = k.spare in record {
+        given = record {
+          gives = record {
+            game = tt;
+            made = record { charged = tt; refused = refused; keeps = spends_keeps 0 (metered s m) (metered t m) looked };
+            more = omega arith;
+          };
+          same = record { spent = refl; spare = omega arith };
+          spare = tt;
+        };
+        within = within;
+        fallen = omega arith;
+      }
 
-  pub outside_paid : (x : Number) → r ≡ Err Range → Spends 0 s t → m.spent ≤ m.share → n ≡ m → form ≡ number x → ¬ InRange x
-      → IsPaid s t m n form extra r
-  outside_paid x e k within same is out =
-      let P : Meter → Type 0 = λ z. WasRefused Range m.share m.spent (made form extra ∷ []) z.spent in
-      refused_paid Range e k within same (subst P (sym same) (outside_refused m.share m.spent extra form x is out))
-
-  pub made_paid : (h cells cost : ℕ) → r ≡ Ok h → cells ≤ cost → Spends cells s t → n ≡ record m { spent = m.spent + (cost + extra) }
-      → m.spent + (cost + extra) ≤ m.share → StandsFor t h form → AllPass m.share m.spent (made form extra ∷ []) n.spent
-      → IsPaid s t m n form extra r
-  made_paid h cells cost e fewer k same within game charged =
-      let P : Result ℕ ValueFault → Type 0 = λ z. IsPaid s t m n form extra z in
-      let spent : n.spent ≡ m.spent + (cost + extra) = ap (λ (z : Meter). z.spent) same in
-      let share : n.share ≡ m.share = ap (λ (z : Meter). z.share) same in
-      subst P (sym e) (record {
-        cells = cells;
-        spends = k;
-        share = share;
-        within = omega arith;
-        paid = omega arith;
-        ok = omega arith;
-        err = tt;
-        game = game;
-        charged = charged;
-        refused = tt;
-      })
-
--- after a search of the store
-pub paid_later : {R : Type 0} (s t u : State Meant R) (m n : Meter) (g form : Game) (extra : ℕ) (r : Result ℕ ValueFault)
-    → Spends 0 s t → g ≡ form → IsPaid t u m n form extra r → IsPaid s u m n g extra r
-paid_later s t u m n g form extra r k e p =
-    let P : Game → Type 0 = λ z. IsPaid s u m n z extra r in
-    let Q : ℕ → Type 0 = λ z. Spends z s u in
-    subst P (sym e) (record {
-      cells = p.cells;
-      spends = subst Q (omega arith) (spends_then 0 p.cells s t u k p.spends);
-      share = p.share;
-      within = p.within;
-      paid = p.paid;
-      ok = p.ok;
-      err = p.err;
-      game = p.game;
-      charged = p.charged;
-      refused = p.refused;
-    })
-
-pub new_written : (gs : List Game) (form : Game) (new : NewForm) → IsNewForm gs form new → IsNewForm gs (written gs new) new
-new_written gs form new h =
-    let P : Game → Type 0 = λ z. IsProfile z new.profile in
-    record { lefts = h.lefts; rights = h.rights; is = refl; profile = subst P h.is h.profile }
+-- an item that was made and charged, for no more cells than were charged
+pub made_paid : {R : Type 0} (s t : State Meant R) (m n : Meter) (form : Game) (extra h cells cost : ℕ) → cells ≤ cost → Spends cells s t
+    → n ≡ record m { spent = m.spent + (cost + extra) } → m.spent + (cost + extra) ≤ m.share → StandsFor t h form
+    → AllPass m.share m.spent (made form extra ∷ []) n.spent → IsPaid s t m n form extra (Ok h)
+made_paid s t m n form extra h cells cost fewer k same within game charged =
+    let spare : t.spare + cells ≡ s.spare = k.spare in
+    let spent : n.spent ≡ m.spent + (cost + extra) = ap (λ (z : Meter). z.spent) same in
+    let share : n.share ≡ m.share = ap (λ (z : Meter). z.share) same in record {
+      given = record {
+        gives = record {
+          game = game;
+          made = record {
+            charged = charged;
+            refused = tt;
+            keeps = record {
+              known = k.known;
+              noted = k.noted;
+              of_store = k.rest;
+              name = refl;
+              share = share;
+              start = refl;
+              limit = refl;
+            };
+          };
+          more = omega arith;
+        };
+        same = tt;
+        spare = omega arith;
+      };
+      within = omega arith;
+      fallen = omega arith;
+    }
 
 -- ---- a work
 
 -- what it keeps: its memo has the new book and the same sums
 pub paid_holds : {R : Type 0} (s t : State Meant R) (a b : Meter) (start : ℕ) (h : Held) (n : Memo) (form : Game) (extra : ℕ)
     (r : Result ℕ ValueFault) → MeterHolds s a.spent a.share start × IsHeld s h → IsPaid s t a b form extra r
-    → BookHolds t n.book → ((c d : ℕ) (known : KnownSum) → IsAdded n c d known → IsAdded h.memo c d known)
+    → BookHolds t n.book → n.sums.items ≡ h.memo.sums.items
     → MeterHolds t b.spent b.share start × IsHeld t (record h { memo = n })
 paid_holds s t a b start h n form extra r w p book same =
-    let P : ℕ → Type 0 = λ z. MeterHolds t b.spent z start in
-    let k = p.spends.spare in
-    let c = p.paid in
+    let keeps = p.given.gives.made.keeps in
+    let share : b.share ≡ a.share = keeps.share in
+    let more : s.spare + a.spent ≤ t.spare + b.spent = p.given.gives.more in
+    let below = p.fallen in
     let within = p.within in
-    let e = p.share in
-    let room = w.0.enough in (
-      subst P (sym p.share) (meter_moved p.cells s t a.spent b.spent a.share start w.0 p.spends (omega arith) (omega arith)),
-      held_book t h n (held_later s t h p.spends.known w.1) book same,
+    let room = w.0.room in
+    let small = w.0.small in
+    let fallen = w.0.fallen in
+    let enough = w.0.enough in (
+      record { within = p.within; room = omega arith; small = omega arith; fallen = omega arith; enough = omega arith },
+      held_book t h n (held_later s t h keeps.known w.1) book same,
     )
 
 -- what is seen of it, before and after
-pub record IsItem {S R : Type 0} (state : S → State Meant R) (w v : WorkOf S) (form : Game) (extra : ℕ) (result : Result ℕ ValueFault) : Type 0 where
-  pub game : IfOk result (λ h. StandsFor (work_state state v) h form)
-  pub items : ItemsMade (work_state state w) (work_state state v) (made form extra ∷ []) result
-  pub same : OnErr result (IsUnspent state w v)
-  pub spare : OnOk result ((work_state state w).spare + extra ≤ (work_state state v).spare)
-  pub more : (work_state state w).spare ≤ (work_state state v).spare
-
 pub paid_item : {S R : Type 0} (state : S → State Meant R) (a b : MutBor S) (m n : Meter) (start limit : ℕ) (form : Game) (extra : ℕ)
-    (r : Result ℕ ValueFault) → IsPaid (state a.now) (state b.now) m n form extra r → b.ghost_name ≡ a.ghost_name
+    (r : Result ℕ ValueFault) → FormGiven (metered (state a.now) m) (metered (state b.now) n) form extra r → b.ghost_name ≡ a.ghost_name
     → start ≤ (state a.now).spare + m.spent
-    → IsItem state (record { store = a; spent = m.spent; share = m.share; start = start; limit = limit })
-    (record { store = b; spent = n.spent; share = n.share; start = start; limit = limit }) form extra r
-paid_item state a b m n start limit form extra r p name room =
-    let k = p.spends.spare in
-    let paid = p.paid in record {
-      game = p.game;
-      items = record {
-        charged = p.charged;
-        refused = p.refused;
-        keeps = record {
-          known = p.spends.known;
-          noted = p.spends.noted;
-          of_store = p.spends.rest;
-          name = name;
-          share = p.share;
-          start = refl;
-          limit = refl;
+    → FormGiven (work_state state (record { store = a; spent = m.spent; share = m.share; start = start; limit = limit }))
+    (work_state state (record { store = b; spent = n.spent; share = n.share; start = start; limit = limit })) form extra r
+paid_item state a b m n start limit form extra r f name room =
+    let keeps = f.gives.made.keeps in
+    let more : (state a.now).spare + m.spent ≤ (state b.now).spare + n.spent = f.gives.more in record {
+      gives = record {
+        game = f.gives.game;
+        made = record {
+          charged = f.gives.made.charged;
+          refused = f.gives.made.refused;
+          keeps = record {
+            known = keeps.known;
+            noted = keeps.noted;
+            of_store = keeps.of_store;
+            name = name;
+            share = keeps.share;
+            start = refl;
+            limit = refl;
+          };
         };
+        more = omega arith;
       };
-      same = on_err r _ _ p.err (λ e. let none = e.0 in record { spent = e.1; spare = omega arith });
-      spare = on_ok r _ _ p.ok (λ e. omega arith);
-      more = omega arith;
+      same = on_err r _ _ f.same (λ e.
+          let spare : (state b.now).spare + n.spent ≡ (state a.now).spare + m.spent = e.spare in
+          record { spent = e.spent; spare = omega arith });
+      spare = on_ok r _ _ f.spare (λ e.
+          let paid : (state a.now).spare + m.spent + extra ≤ (state b.now).spare + n.spent = e in omega arith);
     }

@@ -1,5 +1,5 @@
 -- A work's book, as its store is searched.
-use Rattle.std.proofs.Common.{ℕ, arith, sym, subst, ◌∙◌, List}
+use Rattle.std.proofs.Common.{refl, ℕ, arith, sym, subst, ◌∙◌, List}
 use Rattle.cg_form.specs.Canonical.{Canonical}
 use Rattle.cg_form.specs.Game.{Game, node}
 use Rattle.cg_cells.specs.Store.{Spends, State}
@@ -27,8 +27,7 @@ searched s t spent share start h b w k holds =
     let room = w.0.enough in
     let later = work_later 0 s t spent share start h w k (omega arith) in (
       later.0,
-      held_book t h (record { book = b; sums = h.memo.sums; places = h.memo.places }) later.1 holds
-          (λ m n known at. record { place = at.place; there = at.there }),
+      held_book t h (record { book = b; sums = h.memo.sums; places = h.memo.places }) later.1 holds refl,
     )
 
 -- what was made of the pages of a game that is canonical as it is given

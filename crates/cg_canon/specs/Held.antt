@@ -1,21 +1,24 @@
 -- What holds of what a work has found out.
-use Rattle.std.specs.Prelude.{ℕ, []}
+use Rattle.std.specs.Prelude.{[]}
+use Rattle.std.specs.List.{All}
 use Rattle.std.specs.FinMap as map
 use Rattle.std.specs.Ordering.{nat_cmp}
 use Rattle.cg_cells.specs.Store.{State}
 use Rattle.cg_nodes.specs.Meant.{Meant}
 use Rattle.cg_canon.specs.declared.held.Held.{Held}
-use Rattle.cg_canon.specs.declared.memo.KnownSum.{KnownSum}
+use Rattle.cg_canon.specs.declared.memo.AddedSum.{AddedSum}
 use Rattle.cg_canon.specs.declared.memo.Memo.{Memo}
 use Rattle.cg_canon.specs.Added.{IsKnownSum}
 use Rattle.cg_canon.specs.Books.{BookHolds}
 use Rattle.cg_canon.specs.MadeForms.{FormsHold}
-use Rattle.cg_canon.specs.Memos.{IsAdded}
 use Rattle.cg_canon.specs.NumberUpStars.{AreKnown}
+
+abbrev pub SumHolds : {R : Type 0} → State Meant R → AddedSum → Type 0
+SumHolds {R} s x = IsKnownSum s x.a x.b x.known
 
 -- each sum of the memo is that of its two games
 abbrev pub SumsHold : {R : Type 0} → State Meant R → Memo → Type 0
-SumsHold {R} s m = (a b : ℕ) (known : KnownSum) → IsAdded m a b known → IsKnownSum s a b known
+SumsHold {R} s m = All (SumHolds s) m.sums.items
 
 -- the pages, the sums and the forms are those of games that the store knows, and so is what games are known as
 pub record IsHeld {R : Type 0} (s : State Meant R) (h : Held) : Type 0 where

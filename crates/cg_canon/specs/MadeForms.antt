@@ -1,6 +1,6 @@
 -- What a table of forms has, and what holds of it.
-use Rattle.std.specs.Prelude.{◌≡◌, ◌≤◌, ℕ, List, Some, length}
-use Rattle.std.specs.List.{slice_get, slice_range}
+use Rattle.std.specs.Prelude.{◌≡◌, ◌⊎◌, ◌++◌, ◌∷◌, ℕ, List, []}
+use Rattle.std.specs.List.{All, Contains}
 use Rattle.cg_cells.specs.Store.{State}
 use Rattle.cg_form.specs.Game.{node}
 use Rattle.cg_nodes.specs.Can.{can}
@@ -9,24 +9,21 @@ use Rattle.cg_nodes.specs.Meant.{Meant}
 use Rattle.cg_canon.specs.declared.made.MadeForm.{MadeForm}
 use Rattle.cg_canon.specs.declared.made.MadeForms.{MadeForms}
 
--- some place has the form with these options
-pub record IsMade (t : MadeForms) (ls rs : List ℕ) (form : ℕ) : Type 0 where
-  pub place : ℕ
-  pub made : MadeForm
-  pub there : slice_get t.forms.items place ≡ Some made
-  pub lefts : slice_range t.options.items made.lefts made.rights ≡ ls
-  pub rights : slice_range t.options.items made.rights made.end ≡ rs
+-- it is the form, with these options
+pub record IsOf (ls rs : List ℕ) (form : ℕ) (made : MadeForm) : Type 0 where
+  pub lefts : made.lefts.items ≡ ls
+  pub rights : made.rights.items ≡ rs
   pub own : made.form ≡ form
 
--- the options of the form stand among so many
-pub record IsWithin (count : ℕ) (made : MadeForm) : Type 0 where
-  pub first : made.lefts ≤ made.rights
-  pub second : made.rights ≤ made.end
-  pub end : made.end ≤ count
+-- the table has the form with these options
+pub record IsMade (t : MadeForms) (ls rs : List ℕ) (form : ℕ) : Type 0 where
+  pub made : MadeForm
+  pub there : Contains t.forms.items made
+  pub is : IsOf ls rs form made
 
--- the options of each form stand among those of all
-pub record AreWithin (t : MadeForms) : Type 0 where
-  pub each : (place : ℕ) (made : MadeForm) → slice_get t.forms.items place ≡ Some made → IsWithin (length t.options.items) made
+-- the second list is the first, or has the form with these options behind it
+abbrev pub IsKept : List MadeForm → List MadeForm → List ℕ → List ℕ → ℕ → Type 0
+IsKept old new ls rs form = (new ≡ old) ⊎ ((made : MadeForm) × IsOf ls rs form made × (new ≡ old ++ (made ∷ [])))
 
 -- the handle stands for the canonical form of the game of these options
 pub record IsFormOf {R : Type 0} (s : State Meant R) (ls rs : List ℕ) (form : ℕ) : Type 0 where
@@ -34,7 +31,9 @@ pub record IsFormOf {R : Type 0} (s : State Meant R) (ls rs : List ℕ) (form : 
   pub rights : AreGames s rs
   pub stands : StandsFor s form (can (node (games_at s ls) (games_at s rs)))
 
+abbrev pub Holds : {R : Type 0} → State Meant R → MadeForm → Type 0
+Holds {R} s m = IsFormOf s m.lefts.items m.rights.items m.form
+
 -- each form of the table is that of its options
-pub record FormsHold {R : Type 0} (s : State Meant R) (t : MadeForms) : Type 0 where
-  pub each : (ls rs : List ℕ) (form : ℕ) → IsMade t ls rs form → IsFormOf s ls rs form
-  pub within : AreWithin t
+abbrev pub FormsHold : {R : Type 0} → State Meant R → MadeForms → Type 0
+FormsHold {R} s t = All (Holds s) t.forms.items

@@ -1,10 +1,13 @@
 -- What a memo has.
-use Rattle.std.specs.Prelude.{◌≡◌, ℕ, Some}
-use Rattle.std.specs.List.{slice_get}
+use Rattle.std.specs.Prelude.{ℕ}
+use Rattle.std.specs.List.{Contains}
+use Rattle.cg_canon.specs.declared.memo.AddedSum.{AddedSum}
 use Rattle.cg_canon.specs.declared.memo.KnownSum.{KnownSum}
 use Rattle.cg_canon.specs.declared.memo.Memo.{Memo}
 
--- some place has the sum for a pair of ids
-pub record IsAdded (m : Memo) (a b : ℕ) (known : KnownSum) : Type 0 where
-  pub place : ℕ
-  pub there : slice_get m.sums.items place ≡ Some (record { a = a; b = b; known = known })
+abbrev pub added_sum : ℕ → ℕ → KnownSum → AddedSum
+added_sum a b known = record { a = a; b = b; known = known }
+
+-- the memo has the sum for a pair of ids
+abbrev pub IsAdded : Memo → ℕ → ℕ → KnownSum → Type 0
+IsAdded m a b known = Contains m.sums.items (added_sum a b known)

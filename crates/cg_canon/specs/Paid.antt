@@ -1,29 +1,36 @@
 -- What a call that makes an item of a store has done to the store and to its meter.
-use Rattle.std.specs.Prelude.{◌≡◌, ℕ, ◌+◌, ◌≤◌, List, [], ◌∷◌, Result, IfOk, IfErr, OnOk, OnErr}
+use Rattle.std.specs.Prelude.{ℕ, ◌+◌, ◌≤◌, List, Result}
 use Rattle.cg_form.specs.Game.{Game, node}
-use Rattle.cg_cells.specs.Store.{Spends, State}
-use Rattle.cg_nodes.specs.Games.{StandsFor}
+use Rattle.cg_cells.specs.Store.{State}
 use Rattle.cg_nodes.specs.Meant.{Meant}
 use Rattle.cg_book.specs.declared.settling.NewForm.{NewForm}
 use Rattle.cg_book.specs.Pages.{games_of}
 use Rattle.cg_canon.specs.declared.fault.ValueFault.{ValueFault}
 use Rattle.cg_canon.specs.declared.meter.Meter.{Meter}
-use Rattle.cg_canon.specs.Items.{AllPass, WasRefused, made}
+use Rattle.cg_canon.specs.declared.rest.WorkRest.{WorkRest}
+use Rattle.cg_canon.specs.Made.{FormGiven}
 
 -- the game of the pages of the form
 abbrev pub written : List Game → NewForm → Game
 written gs new = node (games_of gs new.form.lefts.items) (games_of gs new.form.rights.items)
 
--- the item of the form was made and charged, for no more cells than were charged, or it was refused; the meter was m before, and
--- is n after
+-- the store has to spare what the meter's share leaves
+pub record MayPay {R : Type 0} (s : State Meant R) (m : Meter) : Type 0 where
+  pub within : m.spent ≤ m.share
+  pub small : m.share ≤ 67108864
+  pub room : m.share ≤ s.spare + m.spent
+
+-- a store and its meter, as a work that began with nothing to spare
+abbrev pub metered : {R : Type 0} → State Meant R → Meter → State Meant (WorkRest R)
+metered {R} s m = record {
+  known = s.known;
+  noted = s.noted;
+  spare = s.spare + m.spent;
+  rest = record { of_store = s.rest; name = 0; spent = m.spent; share = m.share; start = 0; limit = 0 };
+}
+
+-- the item of the form was made and paid for, or it was refused; the meter was m before, and is n after
 pub record IsPaid {R : Type 0} (s t : State Meant R) (m n : Meter) (form : Game) (extra : ℕ) (result : Result ℕ ValueFault) : Type 0 where
-  pub cells : ℕ
-  pub spends : Spends cells s t
-  pub share : n.share ≡ m.share
+  pub given : FormGiven (metered s m) (metered t n) form extra result
   pub within : n.spent ≤ n.share
-  pub paid : m.spent + cells ≤ n.spent
-  pub ok : OnOk result (m.spent + (cells + extra) ≤ n.spent)
-  pub err : OnErr result ((cells ≡ 0) × (n.spent ≡ m.spent))
-  pub game : IfOk result (λ h. StandsFor t h form)
-  pub charged : OnOk result (AllPass m.share m.spent (made form extra ∷ []) n.spent)
-  pub refused : IfErr result (λ fault. WasRefused fault m.share m.spent (made form extra ∷ []) n.spent)
+  pub fallen : t.spare ≤ s.spare

@@ -61,7 +61,7 @@ pub record Keeps {R : Type 0} (s t : State Meant (WorkRest R)) : Type 0 where
   pub start : t.rest.start ≡ s.rest.start
   pub limit : t.rest.limit ≡ s.rest.limit
 
--- nothing was spent, and the store has as much to spare
-pub record IsUnspent {S R : Type 0} (state : S → State Meant R) (w v : WorkOf S) : Type 0 where
-  pub spent : v.spent ≡ w.spent
-  pub spare : (state v.store.now).spare ≡ (state w.store.now).spare
+-- nothing was spent, and there is as much to spare
+pub record IsUnspent {R : Type 0} (s t : State Meant (WorkRest R)) : Type 0 where
+  pub spent : t.rest.spent ≡ s.rest.spent
+  pub spare : t.spare ≡ s.spare

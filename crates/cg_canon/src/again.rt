@@ -1,11 +1,11 @@
 //! Items that were made before, charged again at once.
 //!
 //! The items of a sum depend on its two games alone, so a sum all of whose items were made in a work, or before in one whose
-//! findings it took up, is charged by what they cost together, where that stays within the share: then each of them would be
+//! cache it took up, is charged by what they cost together, where that stays within the share: then each of them would be
 //! made again.
-ghost use Rattle.std.specs.Prelude.{◌≡◌, ◌≤◌, ◌+◌, ◌↔◌, List, IfSome, IfNone, IsTrue, OnSome, false};
-ghost use Rattle.cg_canon.specs.Added.{IsKnownSum};
+ghost use Rattle.std.specs.Prelude.{◌≡◌, ◌≤◌, ◌+◌, ◌↔◌, List, IfSome, IfNone, IsTrue, Ok, false};
 ghost use Rattle.cg_canon.specs.Items.{AllPass, Item};
+ghost use Rattle.cg_canon.specs.Made.{Gives};
 ghost use Rattle.cg_canon.specs.SumItems.{sum_items};
 ghost use Rattle.cg_canon.specs.Works.{Keeps, work_state};
 ghost use Rattle.cg_form.specs.Sum.{sum as sum_of};
@@ -43,13 +43,9 @@ pub fn sum_again<B: BoardForms, S: CellStore<GameFacts<B>>>(
 ) -> Option<Handle>
     requires a { IsGame (work_state S.state work.old) a }
     requires b { IsGame (work_state S.state work.old) b }
-    ensures game { let W = work_state S.state work.old in IfSome result (λ h. StandsFor (work_state S.state work.new) h
-        (can (sum_of (game_at W a) (game_at W b)))) }
-    ensures charged { let W = work_state S.state work.old in OnSome result (AllPass work.old.share work.old.spent
-        (sum_items work.old.limit (game_at W a) (game_at W b)) work.new.spent) }
+    ensures given { let W = work_state S.state work.old in IfSome result (λ h. Gives W (work_state S.state work.new)
+        (sum_items work.old.limit (game_at W a) (game_at W b)) (can (sum_of (game_at W a) (game_at W b))) (Ok h)) }
     ensures none { IfNone result (work.new ≡ work.old) }
-    ensures spare { (work_state S.state work.old).spare ≤ (work_state S.state work.new).spare }
-    ensures keeps { Keeps (work_state S.state work.old) (work_state S.state work.new) }
 {
     match work.added(a, b) {
         Some(known) => {

@@ -83,20 +83,14 @@ impl<'a, B: BoardForms, S: CellStore<GameFacts<B>>> Work<'a, B, S> {
         ensures { self.new ≡ self.old }
     {
         match (self.known_as(a), self.known_as(b)) {
-            (Some(first), Some(second)) => self.learn_third(sum, first.plus(&second)),
+            (Some(first), Some(second)) => {
+                if let Some(both) = first.plus(&second) {
+                    self.learn(sum, both);
+                }
+            }
             (Some(first), None) => self.learn_other(b, a, sum, first),
             (None, Some(second)) => self.learn_other(a, b, sum, second),
             (None, None) => {}
-        }
-    }
-
-    /// Keeps what the game is known as, if it is given.
-    fn learn_third(&mut self, a: Handle, sum: Option<NumberUpStar>)
-        requires { IfSome sum (IsKnownAs (work_state S.state self.old) a) }
-        ensures { self.new ≡ self.old }
-    {
-        if let Some(sum) = sum {
-            self.learn(a, sum);
         }
     }
 
@@ -108,7 +102,9 @@ impl<'a, B: BoardForms, S: CellStore<GameFacts<B>>> Work<'a, B, S> {
         ensures { self.new ≡ self.old }
     {
         if let Some(both) = self.known_as(sum) {
-            self.learn_third(a, both.less(&one));
+            if let Some(own) = both.less(&one) {
+                self.learn(a, own);
+            }
         }
     }
 }

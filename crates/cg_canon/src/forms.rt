@@ -1,14 +1,13 @@
 //! The canonical form of the game of two lists of handles, by the form that was made of them before where it is kept.
-ghost use Rattle.std.specs.Prelude.{◌≡◌, ◌+◌, ◌≤◌, IfOk, IfErr, OnOk, OnErr, [], ◌∷◌};
+ghost use Rattle.std.specs.Prelude.{◌≤◌};
 ghost use Rattle.cg_form.specs.Canonical.{Canonical};
 ghost use Rattle.cg_form.specs.Game.{node};
 ghost use Rattle.cg_nodes.specs.Can.{can};
-ghost use Rattle.cg_nodes.specs.Games.{AreGames, StandsFor, games_at};
-ghost use Rattle.cg_canon.specs.Items.{AllPass, WasRefused, made};
-ghost use Rattle.cg_canon.specs.Made.{ItemsMade};
+ghost use Rattle.cg_nodes.specs.Games.{AreGames, games_at};
 ghost use Rattle.cg_book.specs.Terms.{NoneComparableByTerm};
+ghost use Rattle.cg_canon.specs.Made.{FormGiven};
 ghost use Rattle.cg_canon.specs.Ways.{IsWay};
-ghost use Rattle.cg_canon.specs.Works.{IsUnspent, Keeps, work_state};
+ghost use Rattle.cg_canon.specs.Works.{work_state};
 
 use crate::distinct::distinct;
 use crate::fault::ValueFault;
@@ -20,8 +19,8 @@ use cg_cells::CellStore;
 use cg_nodes::{BoardForms, GameFacts, Handle};
 use std::alloc::Global;
 
-/// Up to so many options of a side are looked up among those that a form was made from.
-const MANY: usize = 32;
+/// Forms are found by their options where no side has more than this.
+const MOST_OPTIONS: usize = 32;
 
 /// Makes the item of the canonical form of the game with these options, by the form that was made from them where it is kept, and
 /// else in this way.
@@ -37,17 +36,11 @@ fn found_item<B: BoardForms, S: CellStore<GameFacts<B>>>(
     requires lefts { AreGames (work_state S.state work.old) lefts.now }
     requires rights { AreGames (work_state S.state work.old) rights.now }
     requires way { let W = work_state S.state work.old in IsWay way (games_at W lefts.now) (games_at W rights.now) }
-    ensures game { let W = work_state S.state work.old in IfOk result (λ h. StandsFor (work_state S.state work.new) h
-        (can (node (games_at W lefts.now) (games_at W rights.now)))) }
-    ensures made { let W = work_state S.state work.old in ItemsMade W (work_state S.state work.new)
-        (made (can (node (games_at W lefts.now) (games_at W rights.now))) extra ∷ []) result }
-    ensures same { OnErr result (IsUnspent S.state work.old work.new) }
-    ensures spare { OnOk result ((work_state S.state work.old).spare + extra ≤ (work_state S.state work.new).spare) }
-    ensures more { (work_state S.state work.old).spare ≤ (work_state S.state work.new).spare }
+    ensures { let W = work_state S.state work.old in FormGiven W (work_state S.state work.new)
+        (can (node (games_at W lefts.now) (games_at W rights.now))) extra result }
 {
     if let Some(form) = work.made_from(lefts, rights) {
-        item_of(alloc, work, form, extra)?;
-        return Ok(form);
+        return item_of(alloc, work, form, extra);
     }
     let form = work.make_value(alloc, lefts, rights, way, extra)?;
     // Where there is no memory for it, it is made anew the next time.
@@ -71,20 +64,11 @@ pub fn canonical<B: BoardForms, S: CellStore<GameFacts<B>>>(
     requires extra { extra ≤ 8 }
     requires lefts { AreGames (work_state S.state work.old) lefts.now }
     requires rights { AreGames (work_state S.state work.old) rights.now }
-    ensures game { let W = work_state S.state work.old in IfOk result (λ h. StandsFor (work_state S.state work.new) h
-        (can (node (games_at W lefts.now) (games_at W rights.now)))) }
-    ensures charged { let W = work_state S.state work.old in OnOk result (AllPass work.old.share work.old.spent
-        (made (can (node (games_at W lefts.now) (games_at W rights.now))) extra ∷ []) work.new.spent) }
-    ensures refused { let W = work_state S.state work.old in IfErr result (λ fault.
-        WasRefused fault work.old.share work.old.spent
-        (made (can (node (games_at W lefts.now) (games_at W rights.now))) extra ∷ []) work.new.spent) }
-    ensures same { OnErr result (IsUnspent S.state work.old work.new) }
-    ensures spare { OnOk result ((work_state S.state work.old).spare + extra ≤ (work_state S.state work.new).spare) }
-    ensures more { (work_state S.state work.old).spare ≤ (work_state S.state work.new).spare }
-    ensures keeps { Keeps (work_state S.state work.old) (work_state S.state work.new) }
+    ensures { let W = work_state S.state work.old in FormGiven W (work_state S.state work.new)
+        (can (node (games_at W lefts.now) (games_at W rights.now))) extra result }
 {
     let search = Way::Search(None);
-    if lefts.len() > MANY || rights.len() > MANY {
+    if lefts.len() > MOST_OPTIONS || rights.len() > MOST_OPTIONS {
         return work.make_value(alloc, lefts, rights, search, extra);
     }
     let own = distinct(alloc, lefts)?;
@@ -115,17 +99,8 @@ pub fn canonical_of_terms<B: BoardForms, S: CellStore<GameFacts<B>>>(
     requires rights { AreGames (work_state S.state work.old) rights.now }
     requires lefts_apart { NoneComparableByTerm first_term.lefts (games_at (work_state S.state work.old) lefts.now) }
     requires rights_apart { NoneComparableByTerm first_term.rights (games_at (work_state S.state work.old) rights.now) }
-    ensures game { let W = work_state S.state work.old in IfOk result (λ h. StandsFor (work_state S.state work.new) h
-        (can (node (games_at W lefts.now) (games_at W rights.now)))) }
-    ensures charged { let W = work_state S.state work.old in OnOk result (AllPass work.old.share work.old.spent
-        (made (can (node (games_at W lefts.now) (games_at W rights.now))) extra ∷ []) work.new.spent) }
-    ensures refused { let W = work_state S.state work.old in IfErr result (λ fault.
-        WasRefused fault work.old.share work.old.spent
-        (made (can (node (games_at W lefts.now) (games_at W rights.now))) extra ∷ []) work.new.spent) }
-    ensures same { OnErr result (IsUnspent S.state work.old work.new) }
-    ensures spare { OnOk result ((work_state S.state work.old).spare + extra ≤ (work_state S.state work.new).spare) }
-    ensures more { (work_state S.state work.old).spare ≤ (work_state S.state work.new).spare }
-    ensures keeps { Keeps (work_state S.state work.old) (work_state S.state work.new) }
+    ensures { let W = work_state S.state work.old in FormGiven W (work_state S.state work.new)
+        (can (node (games_at W lefts.now) (games_at W rights.now))) extra result }
 {
     work.make_value(alloc, lefts, rights, Way::Search(Some(first_term)), extra)
 }
@@ -147,17 +122,8 @@ pub fn canonical_item<B: BoardForms, S: CellStore<GameFacts<B>>>(
     requires lefts { AreGames (work_state S.state work.old) lefts.now }
     requires rights { AreGames (work_state S.state work.old) rights.now }
     requires canonical { let W = work_state S.state work.old in Canonical (node (games_at W lefts.now) (games_at W rights.now)) }
-    ensures game { let W = work_state S.state work.old in
-        IfOk result (λ h. StandsFor (work_state S.state work.new) h (node (games_at W lefts.now) (games_at W rights.now))) }
-    ensures charged { let W = work_state S.state work.old in OnOk result (AllPass work.old.share work.old.spent
-        (made (node (games_at W lefts.now) (games_at W rights.now)) extra ∷ []) work.new.spent) }
-    ensures refused { let W = work_state S.state work.old in IfErr result (λ fault.
-        WasRefused fault work.old.share work.old.spent
-        (made (node (games_at W lefts.now) (games_at W rights.now)) extra ∷ []) work.new.spent) }
-    ensures same { OnErr result (IsUnspent S.state work.old work.new) }
-    ensures spare { OnOk result ((work_state S.state work.old).spare + extra ≤ (work_state S.state work.new).spare) }
-    ensures more { (work_state S.state work.old).spare ≤ (work_state S.state work.new).spare }
-    ensures keeps { Keeps (work_state S.state work.old) (work_state S.state work.new) }
+    ensures { let W = work_state S.state work.old in FormGiven W (work_state S.state work.new)
+        (node (games_at W lefts.now) (games_at W rights.now)) extra result }
 {
     // Each option of a list is a claim, so the form is looked for before it is made.
     found_item(alloc, work, lefts, rights, Way::AsGiven, extra)

@@ -1,26 +1,25 @@
-//! What a work finds out of games, and makes, with the help of what it has found out before.
-ghost use Rattle.std.specs.Prelude.{◌≡◌, ◌+◌, ◌≤◌, IfSome, IfOk, OnOk, OnErr, [], ◌∷◌};
-ghost use Rattle.cg_form.specs.Game.{lefts, node};
+//! What a work finds out of games, and makes, with the help of its cache.
+ghost use Rattle.std.specs.Prelude.{◌≡◌, ◌≤◌, IfSome, IfOk};
+ghost use Rattle.cg_form.specs.Game.{node};
 ghost use Rattle.cg_cells.specs.Store.{Spends};
 ghost use Rattle.cg_nodes.specs.Can.{can};
-ghost use Rattle.cg_nodes.specs.Games.{AreGames, IsGame, IsNode, StandFor, StandsFor, game_at, games_at};
+ghost use Rattle.cg_nodes.specs.Games.{AreGames, IsGame, game_at, games_at};
 ghost use Rattle.cg_book.specs.Profiles.{IsProfile};
 ghost use Rattle.cg_canon.specs.Added.{IsKnownSum};
-ghost use Rattle.cg_canon.specs.Items.{made};
-ghost use Rattle.cg_canon.specs.Made.{ItemsMade};
+ghost use Rattle.cg_canon.specs.Made.{FormGiven};
 ghost use Rattle.cg_canon.specs.MadeForms.{IsFormOf};
 ghost use Rattle.cg_canon.specs.Ways.{IsWay};
 ghost use Rattle.cg_canon.specs.Works.{IsUnspent, work_state};
 
 use crate::fault::ValueFault;
-use crate::making::value_item;
+use crate::making::make_canonical;
 use crate::memo::KnownSum;
 use crate::paging::page_of;
-use crate::value::{Way, lefts_of};
+use crate::value::Way;
 use crate::work::Work;
 use cg_book::Profile;
 use cg_cells::CellStore;
-use cg_nodes::{BoardForms, GameFacts, Handle, Handles};
+use cg_nodes::{BoardForms, GameFacts, Handle};
 use std::alloc::{AllocError, Global};
 
 impl<'a, B: BoardForms, S: CellStore<GameFacts<B>>> Work<'a, B, S> {
@@ -29,23 +28,11 @@ impl<'a, B: BoardForms, S: CellStore<GameFacts<B>>> Work<'a, B, S> {
     pub(crate) fn profile_of(&mut self, alloc: Global, a: Handle) -> Result<Profile, AllocError>
         requires { IsGame (work_state S.state self.old) a }
         ensures profile { IfOk result (λ p. IsProfile (game_at (work_state S.state self.old) a) p) }
-        ensures same { IsUnspent S.state self.old self.new }
+        ensures same { IsUnspent (work_state S.state self.old) (work_state S.state self.new) }
         ensures spends { Spends 0 (work_state S.state self.old) (work_state S.state self.new) }
     {
         let page = page_of(alloc, self.store, &mut self.held.memo.book, a)?;
         Ok(*self.held.memo.book.pages.profile(page))
-    }
-
-    /// The handles of the Left options of a game that is written as no number, in their order. A game that was met before is read
-    /// from the book, and not from its cells. The only error is want of memory.
-    pub fn left_options(&mut self, alloc: Global, a: Handle) -> Result<Handles, AllocError>
-        requires a { IsGame (work_state S.state self.old) a }
-        requires no_number { IsNode (game_at (work_state S.state self.old) a) }
-        ensures lefts { IfOk result (λ hs. StandFor (work_state S.state self.new) hs (lefts (game_at (work_state S.state self.old) a))) }
-        ensures spends { Spends 0 (work_state S.state self.old) (work_state S.state self.new) }
-    {
-        let handles = lefts_of(alloc, self.store, &mut self.held.memo.book, a)?;
-        Ok(Handles::of(handles.into_vec()?))
     }
 
     /// Makes the item of the canonical form of the game with these options, with a cost of `extra` more.
@@ -62,15 +49,10 @@ impl<'a, B: BoardForms, S: CellStore<GameFacts<B>>> Work<'a, B, S> {
         requires rights { AreGames (work_state S.state self.old) rights.now }
         requires way { IsWay way (games_at (work_state S.state self.old) lefts.now)
             (games_at (work_state S.state self.old) rights.now) }
-        ensures game { let W = work_state S.state self.old in IfOk result (λ h. StandsFor (work_state S.state self.new) h
-            (can (node (games_at W lefts.now) (games_at W rights.now)))) }
-        ensures made { let W = work_state S.state self.old in ItemsMade W (work_state S.state self.new)
-            (made (can (node (games_at W lefts.now) (games_at W rights.now))) extra ∷ []) result }
-        ensures same { OnErr result (IsUnspent S.state self.old self.new) }
-        ensures more { (work_state S.state self.old).spare ≤ (work_state S.state self.new).spare }
-        ensures spare { OnOk result ((work_state S.state self.old).spare + extra ≤ (work_state S.state self.new).spare) }
+        ensures { let W = work_state S.state self.old in FormGiven W (work_state S.state self.new)
+            (can (node (games_at W lefts.now) (games_at W rights.now))) extra result }
     {
-        value_item(
+        make_canonical(
             alloc,
             self.store,
             &mut self.held.memo.book,

@@ -1,4 +1,4 @@
-//! What a work has found out, apart from the work.
+//! The cache of a work.
 ghost use Rattle.std.specs.FinMap as map;
 ghost use Rattle.std.specs.Ordering.{nat_cmp};
 ghost use Rattle.cg_nodes.specs.Meant.{Meant};
@@ -9,14 +9,13 @@ use crate::memo::Memo;
 use crate::number_up_stars::NumberUpStars;
 use std::alloc::Global;
 
-/// What a work has found out: the games that it met, their sums, the forms that it made, and which games are a number, ups and a
-/// nimber.
+/// The cache of a work: the games that it met, their sums, the forms that it made, and which games are a number, ups and a nimber.
 ///
 /// It is taken out of a work by [`Work::take_held`](crate::Work::take_held), and taken up by a later one by
 /// [`Work::resume`](crate::Work::resume), on a store that knows at least as much.
 #[derive(Drop)]
 pub struct Held {
-    /// The games, each on a page, and their sums.
+    /// The interned games, and their sums.
     pub(crate) memo: Memo,
     /// The forms.
     pub(crate) made: MadeForms,
@@ -24,8 +23,8 @@ pub struct Held {
     pub(crate) known_as: NumberUpStars,
 }
 
-/// More pages than this, or more sums, are many.
-const MANY: usize = 262_144;
+/// A cache with more interned games than this, or with more sums, is large.
+const LARGE: usize = 262_144;
 
 impl Held {
     /// Of nothing, which holds whatever is known.
@@ -39,7 +38,7 @@ impl Held {
         }
     }
 
-    /// The same for a later question, which asks for few of the answers to comparisons again: they stay only in a small table.
+    /// The cache for a later question, which asks for few of the answers to comparisons again: they stay only in a small table.
     pub(crate) fn for_later(self) -> Held
         ensures { (known : map.FinMap nat_cmp Meant) → IsHeld (knowing known) self → IsHeld (knowing known) result }
     {
@@ -48,9 +47,9 @@ impl Held {
         held
     }
 
-    /// Whether the pages or the sums are so many that a caller would rather begin anew than keep them. Of the forms
+    /// Whether the interned games or the sums are so many that a caller would rather begin anew than keep them. Of the forms
     /// only so many are kept in any case.
     pub fn is_large(&self) -> bool {
-        self.memo.book.pages.count() > MANY || self.memo.count() > MANY
+        self.memo.book.pages.count() > LARGE || self.memo.count() > LARGE
     }
 }

@@ -1,10 +1,9 @@
 //! Items of forms that need no search: a number, and a form that is known.
 ghost use Rattle.std.specs.Prelude.{◌≡◌, ◌+◌, ◌≤◌, IfOk, IfErr, OnOk, OnErr, [], ◌∷◌};
-ghost use Rattle.cg_form.specs.Game.{number};
 ghost use Rattle.cg_nodes.specs.Games.{IsGame, StandsFor, game_at};
-ghost use Rattle.cg_canon.specs.Items.{AllPass, WasRefused, made};
+ghost use Rattle.cg_canon.specs.Made.{FormGiven, ItemsMade};
 ghost use Rattle.cg_canon.specs.NumberItems.{IsForm, number_made};
-ghost use Rattle.cg_canon.specs.Works.{IsUnspent, Keeps, work_state};
+ghost use Rattle.cg_canon.specs.Works.{IsUnspent, work_state};
 
 use crate::fault::ValueFault;
 use crate::work::Work;
@@ -13,25 +12,6 @@ use cg_cells::CellStore;
 use cg_dyadic::Dyadic;
 use cg_nodes::{BoardForms, GameFacts, Handle, number};
 use std::alloc::Global;
-
-/// Makes the item of a number in range, with a cost of `extra` more.
-pub(crate) fn item_of_number<B: BoardForms, S: CellStore<GameFacts<B>>>(
-    work: &mut Work<B, S>,
-    x: Dyadic,
-    extra: u64,
-) -> Result<Handle, ValueFault>
-    requires { extra ≤ 8 }
-    ensures game { IfOk result (λ h. StandsFor (work_state S.state work.new) h (number x)) }
-    ensures charged { OnOk result (AllPass work.old.share work.old.spent (made (number x) extra ∷ []) work.new.spent) }
-    ensures refused { IfErr result (λ fault. WasRefused fault work.old.share work.old.spent (made (number x) extra ∷ []) work.new.spent) }
-    ensures memory { IfErr result (λ fault. ¬ (fault ≡ ValueFault.Memory)) }
-    ensures same { OnErr result (work.new ≡ work.old) }
-    ensures spare { OnOk result ((work_state S.state work.new).spare ≡ (work_state S.state work.old).spare + extra) }
-    ensures keeps { Keeps (work_state S.state work.old) (work_state S.state work.new) }
-{
-    work.charge_form(&Profile::number(x), extra)?;
-    Ok(number(work, x))
-}
 
 /// Makes the item of a number, with a cost of `extra` more, where `extra` is at most 8. None stands for a number out of range.
 ///
@@ -45,21 +25,22 @@ pub fn number_item<B: BoardForms, S: CellStore<GameFacts<B>>>(
 ) -> Result<Handle, ValueFault>
     requires { extra ≤ 8 }
     ensures game { IfOk result (λ h. IsForm x (StandsFor (work_state S.state work.new) h)) }
-    ensures charged { OnOk result (AllPass work.old.share work.old.spent (number_made x extra ∷ []) work.new.spent) }
-    ensures refused { IfErr result (λ fault. WasRefused fault work.old.share work.old.spent (number_made x extra ∷ []) work.new.spent) }
+    ensures made { ItemsMade (work_state S.state work.old) (work_state S.state work.new) (number_made x extra ∷ []) result }
     ensures memory { IfErr result (λ fault. ¬ (fault ≡ ValueFault.Memory)) }
-    ensures same { OnErr result (IsUnspent S.state work.old work.new) }
+    ensures same { OnErr result (IsUnspent (work_state S.state work.old) (work_state S.state work.new)) }
     ensures spare { OnOk result ((work_state S.state work.old).spare + extra ≤ (work_state S.state work.new).spare) }
     ensures more { (work_state S.state work.old).spare ≤ (work_state S.state work.new).spare }
-    ensures keeps { Keeps (work_state S.state work.old) (work_state S.state work.new) }
 {
     match x {
         None => Err(ValueFault::Range),
-        Some(value) => item_of_number(work, value, extra),
+        Some(value) => {
+            work.charge_form(&Profile::number(value), extra)?;
+            Ok(number(work, value))
+        }
     }
 }
 
-/// Charges the item of a form that is known already, with a cost of `extra` more, where `extra` is at most 8.
+/// Makes the item of a form that is known already, at this handle, with a cost of `extra` more, where `extra` is at most 8.
 ///
 /// `Depth` comes exactly where its depth is above 512, and else `Full` exactly where its cost and `extra` together bring the
 /// total cost above the share. After a refusal nothing was spent.
@@ -69,18 +50,13 @@ pub fn item_of<B: BoardForms, S: CellStore<GameFacts<B>>>(
     work: &mut Work<B, S>,
     handle: Handle,
     extra: u64,
-) -> Result<(), ValueFault>
+) -> Result<Handle, ValueFault>
     requires extra { extra ≤ 8 }
     requires game { IsGame (work_state S.state work.old) handle }
-    ensures charged { OnOk result (AllPass work.old.share work.old.spent
-        (made (game_at (work_state S.state work.old) handle) extra ∷ []) work.new.spent) }
-    ensures refused { IfErr result (λ fault. WasRefused fault work.old.share work.old.spent
-        (made (game_at (work_state S.state work.old) handle) extra ∷ []) work.new.spent) }
-    ensures same { OnErr result (IsUnspent S.state work.old work.new) }
-    ensures spare { OnOk result ((work_state S.state work.old).spare + extra ≤ (work_state S.state work.new).spare) }
-    ensures more { (work_state S.state work.old).spare ≤ (work_state S.state work.new).spare }
-    ensures keeps { Keeps (work_state S.state work.old) (work_state S.state work.new) }
+    ensures given { let W = work_state S.state work.old in FormGiven W (work_state S.state work.new) (game_at W handle) extra result }
+    ensures own { IfOk result (λ h. h ≡ handle) }
 {
     let profile = work.profile_of(alloc, handle)?;
-    work.charge_form(&profile, extra)
+    work.charge_form(&profile, extra)?;
+    Ok(handle)
 }

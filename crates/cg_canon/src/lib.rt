@@ -1,4 +1,7 @@
 //! The order of games and their canonical forms, on handles of a store, with exact costs.
+//!
+//! A work interns the games that it meets: each has a page in the work's book, with its handle. The book, the sums and forms that
+//! were made, and what games are known as, are the work's cache, [`Held`]. Its entries are found by indexes.
 #![tactic(auto)]
 
 mod again;

@@ -2,32 +2,28 @@
 //!
 //! Many boards lead to the same values, and what was made of the same options is found again here. A form that isn't kept is
 //! made anew.
-ghost use Rattle.std.specs.Prelude.{◌≡◌, ◌⊎◌, ℕ, List, [], IfOk, IfSome, IsTrue, OnErr};
-ghost use Rattle.std.specs.List.{slice_range};
-ghost use Rattle.cg_canon.specs.MadeForms.{AreWithin, IsMade};
+ghost use Rattle.std.specs.Prelude.{◌≡◌, [], IfSome, IsTrue, OnErr};
+ghost use Rattle.cg_canon.specs.MadeForms.{IsKept, IsMade};
 
+use crate::book::HandleList;
 use crate::places::{Places, half_of, mixed};
 use cg_nodes::Handle;
+use smallvec::SmallVec;
 use std::alloc::{AllocError, Global};
 
-/// A form, with where the options that it was made from stand.
-#[derive(Clone, Copy)]
+/// A form, with the options that it was made from.
+#[derive(Drop)]
 pub(crate) struct MadeForm {
-    /// Where the Left options begin among the options of all forms.
-    lefts: usize,
-    /// Where the Right options begin.
-    rights: usize,
-    /// Where the Right options end.
-    end: usize,
+    lefts: HandleList,
+    rights: HandleList,
     form: Handle,
 }
 
 /// Forms that were made, by their options.
 #[derive(Drop)]
 pub(crate) struct MadeForms {
+    alloc: Global,
     forms: Vec<MadeForm>,
-    /// The options of all forms.
-    options: Vec<Handle>,
     /// Where the form of two lists is looked for.
     places: Places,
 }
@@ -56,21 +52,14 @@ pub(crate) fn are_same(a: &[Handle], b: &[Handle]) -> bool
     a == b
 }
 
-/// Whether the part of the list from one place up to another is this.
-fn is_part(list: &[Handle], from: usize, to: usize, handles: &[Handle]) -> bool
-    ensures { IsTrue result → slice_range list.now from to ≡ handles.now }
-{
-    from <= to && to <= list.len() && are_same(&list[from..to], handles)
-}
-
 impl MadeForms {
     /// Of no forms.
     pub fn new(alloc: Global) -> MadeForms
         ensures { result.forms.items ≡ [] }
     {
         MadeForms {
+            alloc,
             forms: Vec::new(alloc),
-            options: Vec::new(alloc),
             places: Places::new(alloc),
         }
     }
@@ -79,14 +68,8 @@ impl MadeForms {
     fn form_at(&self, entry: u32, lefts: &[Handle], rights: &[Handle]) -> Option<Handle>
         ensures { IfSome result (IsMade self.now lefts.now rights.now) }
     {
-        let place = entry as usize;
-        if place >= self.forms.len() {
-            return None;
-        }
-        let made = self.forms[place];
-        if is_part(&self.options, made.lefts, made.rights, lefts)
-            && is_part(&self.options, made.rights, made.end, rights)
-        {
+        let made = self.forms.get(entry as usize)?;
+        if are_same(made.lefts.as_slice(), lefts) && are_same(made.rights.as_slice(), rights) {
             return Some(made.form);
         }
         None
@@ -109,26 +92,18 @@ impl MadeForms {
         rights: &[Handle],
         form: Handle,
     ) -> Result<(), AllocError>
-        requires { AreWithin self.old }
-        ensures within { AreWithin self.new }
-        ensures ok { IfOk result (λ _. (ls rs : List ℕ) (h : ℕ) → IsMade self.new ls rs h
-            → ((ls ≡ lefts.now) × (rs ≡ rights.now) × (h ≡ form)) ⊎ IsMade self.old ls rs h) }
-        ensures err { OnErr result ((ls rs : List ℕ) (h : ℕ) → IsMade self.new ls rs h → IsMade self.old ls rs h) }
+        ensures kept { IsKept self.old.forms.items self.new.forms.items lefts.now rights.now form }
+        ensures err { OnErr result (self.new.forms.items ≡ self.old.forms.items) }
     {
         if self.forms.len() >= MOST {
             return Ok(());
         }
-        let first = self.options.len();
-        self.options.extend_from_slice(lefts)?;
-        let middle = self.options.len();
-        self.options.extend_from_slice(rights)?;
-        let end = self.options.len();
-        self.forms.push(MadeForm {
-            lefts: first,
-            rights: middle,
-            end,
+        let made = MadeForm {
+            lefts: SmallVec::from_slice(self.alloc, lefts)?,
+            rights: SmallVec::from_slice(self.alloc, rights)?,
             form,
-        })?;
+        };
+        self.forms.push(made)?;
         self.places.add(number_of_both(lefts, rights));
         Ok(())
     }

@@ -8,7 +8,7 @@ ghost use Rattle.cg_nodes.specs.Games.{AreGames, IsGame, ListsAs, StandsFor, gam
 ghost use Rattle.cg_book.specs.Pages.{games_of};
 ghost use Rattle.cg_book.specs.Settled.{IsNewForm};
 ghost use Rattle.cg_canon.specs.Books.{BookHolds};
-ghost use Rattle.cg_canon.specs.Paid.{IsPaid, written};
+ghost use Rattle.cg_canon.specs.Paid.{IsPaid, MayPay, written};
 ghost use Rattle.cg_canon.specs.Ways.{IsWay};
 
 use crate::book::{Book, put_handles};
@@ -64,7 +64,8 @@ fn second_list<B: BoardForms, S: CellStore<GameFacts<B>>>(
     list(store, rights)
 }
 
-/// The handle of the game whose options have these handles.
+/// The handle of the game whose options have these handles. The store is told of all its cells before the first is claimed, so
+/// that it needn't wait for one after another.
 fn claimed_game<B: BoardForms, S: CellStore<GameFacts<B>>>(
     store: &mut S,
     lefts: &[Handle],
@@ -78,28 +79,10 @@ fn claimed_game<B: BoardForms, S: CellStore<GameFacts<B>>>(
         (node (games_at (S.state store.old) lefts.now) (games_at (S.state store.old) rights.now)) }
     ensures spends { (n : ℕ) × (n ≤ 1 + length lefts.now + length rights.now) × Spends n (S.state store.old) (S.state store.new) }
 {
+    expect_game(store, lefts, rights);
     let left_list = list(store, lefts);
     let right_list = second_list(store, lefts, rights, left_list);
     game(store, left_list, right_list)
-}
-
-/// The handle of the game whose options have these handles. The store is told of all its cells before the first is claimed, so
-/// that it needn't wait for one after another.
-fn expected_game<B: BoardForms, S: CellStore<GameFacts<B>>>(
-    store: &mut S,
-    lefts: &[Handle],
-    rights: &[Handle],
-) -> Handle
-    requires lefts { AreGames (S.state store.old) lefts.now }
-    requires rights { AreGames (S.state store.old) rights.now }
-    requires canonical { Canonical (node (games_at (S.state store.old) lefts.now) (games_at (S.state store.old) rights.now)) }
-    requires spare { 1 + length lefts.now + length rights.now ≤ (S.state store.old).spare }
-    ensures game { StandsFor (S.state store.new) result
-        (node (games_at (S.state store.old) lefts.now) (games_at (S.state store.old) rights.now)) }
-    ensures spends { (n : ℕ) × (n ≤ 1 + length lefts.now + length rights.now) × Spends n (S.state store.old) (S.state store.new) }
-{
-    expect_game(store, lefts, rights);
-    claimed_game(store, lefts, rights)
 }
 
 /// The handle of the form, whose options have these handles. It is entered in the book.
@@ -122,13 +105,13 @@ fn claimed<B: BoardForms, S: CellStore<GameFacts<B>>>(
     ensures game { StandsFor (S.state store.new) result (written book.old.pages new.now) }
     ensures spends { (n : ℕ) × (n ≤ new.now.profile.cost) × Spends n (S.state store.old) (S.state store.new) }
 {
-    let handle = expected_game(store, lefts, rights);
+    let handle = claimed_game(store, lefts, rights);
     enter_form(&*store, book, handle, new);
     handle
 }
 
 /// Makes the item of the canonical form that was found, with a cost of `extra` more.
-fn form_item<B: BoardForms, S: CellStore<GameFacts<B>>>(
+fn make_form<B: BoardForms, S: CellStore<GameFacts<B>>>(
     alloc: Global,
     store: &mut S,
     book: &mut Book,
@@ -140,9 +123,7 @@ fn form_item<B: BoardForms, S: CellStore<GameFacts<B>>>(
     requires holds { BookHolds (S.state store.old) book.old }
     requires form { IsNewForm book.old.pages (written book.old.pages new.now) new.now }
     requires canonical { Canonical (written book.old.pages new.now) }
-    requires within { meter.old.spent ≤ meter.old.share }
-    requires small { meter.old.share ≤ 67108864 }
-    requires room { meter.old.share ≤ (S.state store.old).spare + meter.old.spent }
+    requires meter { MayPay (S.state store.old) meter.old }
     ensures holds { BookHolds (S.state store.new) book.new }
     ensures paid { IsPaid (S.state store.old) (S.state store.new) meter.old meter.new (written book.old.pages new.now) extra result }
 {
@@ -155,16 +136,14 @@ fn form_item<B: BoardForms, S: CellStore<GameFacts<B>>>(
 }
 
 /// Makes the item of a number in range, with a cost of `extra` more.
-fn number_item<B: BoardForms, S: CellStore<GameFacts<B>>>(
+fn make_number<B: BoardForms, S: CellStore<GameFacts<B>>>(
     store: &mut S,
     meter: &mut Meter,
     x: Dyadic,
     extra: u64,
 ) -> Result<Handle, ValueFault>
     requires extra { extra ≤ 8 }
-    requires within { meter.old.spent ≤ meter.old.share }
-    requires small { meter.old.share ≤ 67108864 }
-    requires room { meter.old.share ≤ (S.state store.old).spare + meter.old.spent }
+    requires meter { MayPay (S.state store.old) meter.old }
     ensures { IsPaid (S.state store.old) (S.state store.new) meter.old meter.new (number x) extra result }
 {
     meter.charge_form(&Profile::number(x), extra)?;
@@ -172,7 +151,7 @@ fn number_item<B: BoardForms, S: CellStore<GameFacts<B>>>(
 }
 
 /// Makes the item of the canonical form of the game with these options, with a cost of `extra` more.
-pub(crate) fn value_item<B: BoardForms, S: CellStore<GameFacts<B>>>(
+pub(crate) fn make_canonical<B: BoardForms, S: CellStore<GameFacts<B>>>(
     alloc: Global,
     store: &mut S,
     book: &mut Book,
@@ -187,17 +166,15 @@ pub(crate) fn value_item<B: BoardForms, S: CellStore<GameFacts<B>>>(
     requires lefts { AreGames (S.state store.old) lefts.now }
     requires rights { AreGames (S.state store.old) rights.now }
     requires way { IsWay way (games_at (S.state store.old) lefts.now) (games_at (S.state store.old) rights.now) }
-    requires within { meter.old.spent ≤ meter.old.share }
-    requires small { meter.old.share ≤ 67108864 }
-    requires room { meter.old.share ≤ (S.state store.old).spare + meter.old.spent }
+    requires meter { MayPay (S.state store.old) meter.old }
     ensures holds { BookHolds (S.state store.new) book.new }
     ensures paid { IsPaid (S.state store.old) (S.state store.new) meter.old meter.new
         (can (node (games_at (S.state store.old) lefts.now) (games_at (S.state store.old) rights.now))) extra result }
 {
     let settled = value_of_lists(alloc, store, book, lefts, rights, way)?;
     match settled {
-        Settled::Number(x) => number_item(store, meter, x, extra),
+        Settled::Number(x) => make_number(store, meter, x, extra),
         Settled::Outside => Err(ValueFault::Range),
-        Settled::Game(new) => form_item(alloc, store, book, meter, &new, extra),
+        Settled::Game(new) => make_form(alloc, store, book, meter, &new, extra),
     }
 }

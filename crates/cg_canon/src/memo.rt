@@ -1,8 +1,8 @@
 //! What was found out of the games of a work.
-ghost use Rattle.std.specs.Prelude.{◌≡◌, ◌⊎◌, ℕ, [], IfOk, IfSome, OnErr};
+ghost use Rattle.std.specs.Prelude.{◌≡◌, ◌++◌, ◌∷◌, [], IfOk, IfSome, OnErr};
 ghost use Rattle.cg_book.specs.declared.recent.Answer.{Answer as Known};
 ghost use Rattle.cg_book.specs.Recents.{IsKept};
-ghost use Rattle.cg_canon.specs.Memos.{IsAdded};
+ghost use Rattle.cg_canon.specs.Memos.{IsAdded, added_sum};
 
 use crate::book::Book;
 use crate::places::{Places, half_of, mixed};
@@ -83,9 +83,8 @@ impl Memo {
 
     /// Keeps the sum for the first id and the second. Nothing changes where there is no memory.
     pub fn keep_added(&mut self, a: u32, b: u32, known: KnownSum) -> Result<(), AllocError>
-        ensures ok { IfOk result (λ _. (c d : ℕ) (other : KnownSum) → IsAdded self.new c d other
-            → ((c ≡ a) × (d ≡ b) × (other ≡ known)) ⊎ IsAdded self.old c d other) }
-        ensures err { OnErr result ((c d : ℕ) (other : KnownSum) → IsAdded self.new c d other → IsAdded self.old c d other) }
+        ensures ok { IfOk result (λ _. self.new.sums.items ≡ self.old.sums.items ++ (added_sum a b known ∷ [])) }
+        ensures err { OnErr result (self.new.sums.items ≡ self.old.sums.items) }
         ensures book { self.new.book ≡ self.old.book }
     {
         self.sums.push(AddedSum { a, b, known })?;

@@ -1,9 +1,8 @@
 //! Games that are known as sums of a number, of ups or downs, and of a nimber.
 //!
 //! A game that isn't found here is summed by its options.
-ghost use Rattle.std.specs.Prelude.{◌≡◌, ◌⊎◌, ℕ, [], IfSome};
-ghost use Rattle.cg_canon.specs.declared.number_up_star.NumberUpStar.{NumberUpStar as Sum};
-ghost use Rattle.cg_canon.specs.NumberUpStars.{IsListed};
+ghost use Rattle.std.specs.Prelude.{◌≡◌, ◌⊎◌, ◌++◌, ◌∷◌, [], IfSome};
+ghost use Rattle.cg_canon.specs.NumberUpStars.{IsListed, known_game};
 
 use crate::number_up_star::NumberUpStar;
 use crate::places::{Places, half_of, mixed, number_of_handle};
@@ -96,7 +95,8 @@ impl NumberUpStars {
 
     /// Keeps what the game of the handle is known as, unless there is no memory for it.
     pub fn keep(&mut self, handle: Handle, sum: NumberUpStar)
-        ensures { (h : ℕ) (v : Sum) → IsListed self.new h v → ((h ≡ handle) × (v ≡ sum)) ⊎ IsListed self.old h v }
+        ensures { (self.new.games.items ≡ self.old.games.items)
+            ⊎ (self.new.games.items ≡ self.old.games.items ++ (known_game handle sum ∷ [])) }
     {
         if self.games.push(KnownGame { handle, sum }).is_ok() {
             self.by_handle.add(number_of_handle(handle));

@@ -1,18 +1,18 @@
 //! What games of lists of handles are, by the pages of a book.
 ghost use Rattle.std.specs.Prelude.{◌≡◌, IfOk, []};
-ghost use Rattle.cg_form.specs.Game.{lefts, node};
+ghost use Rattle.cg_form.specs.Game.{node};
 ghost use Rattle.cg_form.specs.Order.{le};
 ghost use Rattle.cg_cells.specs.Store.{Spends};
 ghost use Rattle.cg_nodes.specs.Can.{can};
-ghost use Rattle.cg_nodes.specs.Games.{AreGames, IsGame, IsNode, game_at, games_at};
+ghost use Rattle.cg_nodes.specs.Games.{AreGames, IsGame, game_at, games_at};
 ghost use Rattle.cg_book.specs.Pages.{StandFor};
 ghost use Rattle.cg_book.specs.Settled.{IsSettled};
 ghost use Rattle.cg_canon.specs.Books.{BookHolds};
 ghost use Rattle.cg_canon.specs.Ways.{IsWay};
 
-use crate::book::{Book, HandleList, handles_of};
+use crate::book::Book;
 use crate::paging::{page_of, put_pages};
-use cg_book::{FirstTerm, Form, NewForm, Read, Settled, at_most, profile_of_lists, settle};
+use cg_book::{FirstTerm, Form, NewForm, Settled, at_most, profile_of_lists, settle};
 use cg_cells::CellStore;
 use cg_nodes::{BoardForms, GameFacts, Handle};
 use std::alloc::{AllocError, Global};
@@ -35,28 +35,6 @@ pub(crate) fn compare<B: BoardForms, S: CellStore<GameFacts<B>>>(
     let first = page_of(alloc, store, book, a)?;
     let second = page_of(alloc, store, book, b)?;
     at_most(&book.pages, &mut book.answers, true, first, second)
-}
-
-/// The handles of the Left options of a game that is written as no number, in their order. The only error is want of memory.
-pub(crate) fn lefts_of<B: BoardForms, S: CellStore<GameFacts<B>>>(
-    alloc: Global,
-    store: &mut S,
-    book: &mut Book,
-    a: Handle,
-) -> Result<HandleList, AllocError>
-    requires holds { BookHolds (S.state store.old) book.old }
-    requires a { IsGame (S.state store.old) a }
-    requires no_number { IsNode (game_at (S.state store.old) a) }
-    ensures holds { BookHolds (S.state store.new) book.new }
-    ensures lefts { IfOk result (λ r. AreGames (S.state store.new) r.items
-        × (games_at (S.state store.new) r.items ≡ lefts (game_at (S.state store.old) a))) }
-    ensures spends { Spends 0 (S.state store.old) (S.state store.new) }
-{
-    let page = page_of(alloc, store, book, a)?;
-    match book.pages.read(page) {
-        Read::Number(_) => unreachable!(),
-        Read::Game(lefts, _) => handles_of(alloc, store, book, lefts),
-    }
 }
 
 /// Puts the pages of two lists of options into a form that has none.

@@ -1,4 +1,4 @@
-//! A store with a meter, and with what was found out of its games.
+//! A store with a meter, and with a cache of what was found out of its games.
 ghost use Rattle.std.specs.Prelude.{◌≡◌, ◌+◌, ◌<◌, ◌-◌, ◌≤◌, ◌^◌, ◌↔◌, IfOk, IfErr, IsTrue, OnOk, OnErr, [], ◌∷◌, false};
 ghost use Rattle.cg_form.specs.Game.{Game};
 ghost use Rattle.cg_book.specs.Profiles.{IsProfile};
@@ -17,7 +17,7 @@ use std::alloc::Global;
 use std::marker::{Model, PhantomData};
 use std::mem::replace;
 
-/// A store, with a meter of what was spent on it, what was found out of its games, and a limit on positions.
+/// A store, with a meter of what was spent on it, a cache of what was found out of its games, and a limit on positions.
 ///
 /// What is spent is never above the share. The store has at least as much to spare as when the work began, less what is
 /// spent. A work is itself a [`CellStore`]: it knows and has noted what its store has, and its own spare is what was charged
@@ -57,8 +57,8 @@ impl<'a, B: BoardForms, S: CellStore<GameFacts<B>>> Work<'a, B, S> {
         Work::resume(store, share, positions, Held::new(alloc))
     }
 
-    /// A work on the store, as [`Work::new`] begins it, that takes up what was found out before: by an earlier work on this
-    /// store, or on one that knew no more.
+    /// A work on the store, as [`Work::new`] begins it, that takes up the cache of an earlier work on this store, or on one that
+    /// knew no more.
     pub fn resume(store: &'a mut S, share: u64, positions: u64, held: Held) -> Work<'a, B, S>
         requires spare { share ≤ (S.state store.old).spare }
         requires held { IsHeld (S.state store.old) held }
@@ -114,8 +114,8 @@ impl<'a, B: BoardForms, S: CellStore<GameFacts<B>>> Work<'a, B, S> {
         store
     }
 
-    /// What was found out so far, but for most answers to comparisons, for a later work on a store that knows at least as much.
-    /// This work goes on with nothing found out.
+    /// The cache, but for most answers to comparisons, for a later work on a store that knows at least as much. This work goes on
+    /// with an empty one.
     pub fn take_held(&mut self, alloc: Global) -> Held
         ensures held { IsHeld (S.state self.old.store.now) result }
         ensures same { self.new ≡ self.old }

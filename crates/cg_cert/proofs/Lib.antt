@@ -5,10 +5,9 @@ pub mod FirstProof
 pub mod Listing
 pub mod Staging
 pub mod Choosing
-pub mod Replying
+pub mod Moving
 pub mod Walking
 pub mod Writing
-pub mod Winning
 pub mod AnswerWords
 pub mod Readers
 pub mod TextParts

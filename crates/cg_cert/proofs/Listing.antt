@@ -11,7 +11,7 @@ use Rattle.cg_nodes.specs.Meant.{Meant}
 use Rattle.cg_nodes.proofs.Later.{game_later, is_game_later}
 use Rattle.cg_cert.specs.declared.position.Position.{Position}
 use Rattle.cg_cert.specs.declared.position.Position.TheVariants.{Number, Stored}
-use Rattle.cg_cert.specs.Positions.{ArePositions, IsPosition, position_at, positions_at}
+use Rattle.cg_cert.specs.Positions.{ArePositions, IsPosition, ArePositionsOf, position_at, positions_at}
 
 module _ {R : Type 0} (s t : State Meant R) (spends : Spends 0 s t) where
   pub position_later : (p : Position) → IsPosition s p → position_at t p ≡ position_at s p
@@ -56,20 +56,14 @@ own_numbers : (left : Bool) (x : dyadic.Number)
 own_numbers true x = refl
 own_numbers false x = refl
 
-pub numbered_are : {R V E : Type 0} (t : State Meant R) (xs : List dyadic.Number) (f : V → List Position)
-    (result : Result V E) → IfOk result (λ v. f v ≡ map Number xs) → IfOk result (λ v. ArePositions t (f v))
-numbered_are t xs f (Ok v) e =
-    let P : List Position → Type 0 = λ z. ArePositions t z in subst P (sym e) (are_numbers t xs)
-numbered_are t xs f (Err a) e = tt
-
-pub numbered_games : {R V E : Type 0} (t : State Meant R) (left : Bool) (x : dyadic.Number) (g : Game)
-    (f : V → List Position) (result : Result V E) → g ≡ number x
-    → IfOk result (λ v. f v ≡ map Number (cond left (number_lefts x) (number_rights x)))
-    → IfOk result (λ v. positions_at t (f v) ≡ near left g)
-numbered_games t left x g f (Ok v) k e =
-    ap (positions_at t) e ∙ numbers_at t (cond left (number_lefts x) (number_rights x)) ∙ own_numbers left x
-    ∙ ap (near left) (sym k)
-numbered_games t left x g f (Err a) k e = tt
+pub numbered : {R V E : Type 0} (t : State Meant R) (left : Bool) (x : dyadic.Number) (g : Game) (f : V → List Position)
+    (result : Result V E) → g ≡ number x → IfOk result (λ v. f v ≡ map Number (cond left (number_lefts x) (number_rights x)))
+    → IfOk result (λ v. ArePositionsOf t (f v) (near left g))
+numbered t left x g f (Ok v) k e =
+    let P : List Position → Type 0 = λ z. ArePositionsOf t z (near left g) in
+    let xs = cond left (number_lefts x) (number_rights x) in
+    subst P (sym e) (are_numbers t xs, numbers_at t xs ∙ own_numbers left x ∙ ap (near left) (sym k))
+numbered t left x g f (Err a) k e = tt
 
 -- the player's own list
 own_listed : {R : Type 0} (s : State Meant R) (left : Bool) (g : Game) (l r o : Option ℕ)
@@ -89,25 +83,12 @@ own_list s left l r o i j c = let P : Option ℕ → Type 0 = λ z. IsList s z i
     by false = j
 
 -- the handles of the player's own list were read, at t, and their positions made
-pub record Listed {R : Type 0} (s t : State Meant R) (left : Bool) (g : Game) (l r o : Option ℕ) (hs now : List ℕ) :
-    Type 0 where
-  pub game : g ≡ node (listed s l) (listed s r)
-  pub own : o ≡ cond left l r
-  pub stand : StandFor t hs (listed s o)
-  pub same : now ≡ hs
-
-pub listed_are : {R V E : Type 0} (s t : State Meant R) (left : Bool) (g : Game) (l r o : Option ℕ) (hs now : List ℕ)
-    (f : V → List Position) (result : Result V E) → Listed s t left g l r o hs now
-    → IfOk result (λ v. f v ≡ map Stored now) → IfOk result (λ v. ArePositions t (f v))
-listed_are s t left g l r o hs now f (Ok v) h e =
-    let P : List Position → Type 0 = λ z. ArePositions t z in
-    subst P (sym (e ∙ ap (map Stored) h.same)) (are_stored t hs h.stand.0)
-listed_are s t left g l r o hs now f (Err a) h e = tt
-
-pub listed_games : {R V E : Type 0} (s t : State Meant R) (left : Bool) (g : Game) (l r o : Option ℕ) (hs now : List ℕ)
-    (f : V → List Position) (result : Result V E) → Listed s t left g l r o hs now
-    → IfOk result (λ v. f v ≡ map Stored now) → IfOk result (λ v. positions_at t (f v) ≡ near left g)
-listed_games s t left g l r o hs now f (Ok v) h e =
-    ap (positions_at t) (e ∙ ap (map Stored) h.same) ∙ stored_at t hs ∙ h.stand.1
-    ∙ own_listed s left g l r o h.game h.own
-listed_games s t left g l r o hs now f (Err a) h e = tt
+pub listed_own : {R V E : Type 0} (s t : State Meant R) (left : Bool) (g : Game) (l r o : Option ℕ) (hs now : List ℕ)
+    (f : V → List Position) (result : Result V E) → g ≡ node (listed s l) (listed s r) → o ≡ cond left l r
+    → StandFor t hs (listed s o) → now ≡ hs → IfOk result (λ v. f v ≡ map Stored now)
+    → IfOk result (λ v. ArePositionsOf t (f v) (near left g))
+listed_own s t left g l r o hs now f (Ok v) game own stand same e =
+    let P : List Position → Type 0 = λ z. ArePositionsOf t z (near left g) in
+    subst P (sym (e ∙ ap (map Stored) same))
+    (are_stored t hs stand.0, stored_at t hs ∙ stand.1 ∙ own_listed s left g l r o game own)
+listed_own s t left g l r o hs now f (Err a) game own stand same e = tt

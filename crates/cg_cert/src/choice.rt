@@ -1,11 +1,12 @@
-//! The first option that is good enough.
+//! The first option that is good enough, and a player's first move that serves.
 ghost use Rattle.std.specs.Prelude.{IfOk};
 ghost use Rattle.cg_form.specs.Side.{near};
 ghost use Rattle.cg_cells.specs.Store.{Spends};
 ghost use Rattle.cg_canon.specs.Works.{work_state};
-ghost use Rattle.cg_cert.specs.Positions.{ArePositions, IsChoice, IsPosition, position_at, positions_at};
+ghost use Rattle.cg_cert.specs.Positions.{IsChoice, IsMove, IsPosition, IsStage, position_at, stage_at};
 
 use crate::position::{Position, no_better, options};
+use crate::stage::Stage;
 use cg_canon::Work;
 use cg_cells::CellStore;
 use cg_nodes::{BoardForms, GameFacts};
@@ -20,38 +21,20 @@ pub(crate) struct Choice {
     pub position: Position,
 }
 
-/// The first of the options that is for the player at least as good as the other position.
-fn first_of<B: BoardForms, S: CellStore<GameFacts<B>>>(
-    alloc: Global,
-    work: &mut Work<B, S>,
-    left: bool,
-    options: &[Position],
-    other: &Position,
-) -> Result<Option<Choice>, AllocError>
-    requires options { ArePositions (work_state S.state work.old) options.now }
-    requires other { IsPosition (work_state S.state work.old) other.now }
-    ensures choice { IfOk result (λ r. IsChoice (work_state S.state work.new) left
-        (positions_at (work_state S.state work.old) options.now) (position_at (work_state S.state work.old) other.now) r) }
-    ensures spends { Spends 0 (work_state S.state work.old) (work_state S.state work.new) }
-{
-    let mut place = 0;
-    let mut rest = options;
-    while let Some((option, others)) = rest.split_first() {
-        if no_better(alloc, work, left, other, option)? {
-            return Ok(Some(Choice {
-                place,
-                position: *option,
-            }));
-        }
-        place += 1;
-        rest = others;
-    }
-    Ok(None)
+/// A move in one of the two games of a pair, and the pair that it leads to.
+#[derive(Clone, Copy, Debug, PartialEq, Eq)]
+pub(crate) struct Move {
+    /// Whether it is in the first game.
+    pub is_first: bool,
+    /// The place of the option.
+    pub place: u64,
+    /// The pair that it leads to.
+    pub leads: Stage,
 }
 
 /// The player's first option of the game that is for the player at least as good as the other game. The only error is want of
 /// memory.
-pub(crate) fn first_choice<B: BoardForms, S: CellStore<GameFacts<B>>>(
+fn first_choice<B: BoardForms, S: CellStore<GameFacts<B>>>(
     alloc: Global,
     work: &mut Work<B, S>,
     left: bool,
@@ -66,5 +49,52 @@ pub(crate) fn first_choice<B: BoardForms, S: CellStore<GameFacts<B>>>(
     ensures spends { Spends 0 (work_state S.state work.old) (work_state S.state work.new) }
 {
     let all = options(alloc, work, left, game)?;
-    first_of(alloc, work, left, &all, other)
+    let mut place = 0;
+    let mut rest = all.as_slice();
+    while let Some((option, others)) = rest.split_first() {
+        if no_better(alloc, work, left, other, option)? {
+            return Ok(Some(Choice {
+                place,
+                position: *option,
+            }));
+        }
+        place += 1;
+        rest = others;
+    }
+    Ok(None)
+}
+
+/// The player's first move that serves, those in the first game before those in the second. The only error is want of memory.
+pub(crate) fn first_move<B: BoardForms, S: CellStore<GameFacts<B>>>(
+    alloc: Global,
+    work: &mut Work<B, S>,
+    left: bool,
+    stage: &Stage,
+) -> Result<Option<Move>, AllocError>
+    requires { IsStage (work_state S.state work.old) stage.now }
+    ensures found { IfOk result (λ r. IsMove (work_state S.state work.new) left r
+        (stage_at (work_state S.state work.old) stage.now)) }
+    ensures spends { Spends 0 (work_state S.state work.old) (work_state S.state work.new) }
+{
+    if let Some(choice) = first_choice(alloc, work, left, &stage.first, &stage.second)? {
+        return Ok(Some(Move {
+            is_first: true,
+            place: choice.place,
+            leads: Stage {
+                first: choice.position,
+                second: stage.second,
+            },
+        }));
+    }
+    match first_choice(alloc, work, !left, &stage.second, &stage.first)? {
+        None => Ok(None),
+        Some(choice) => Ok(Some(Move {
+            is_first: false,
+            place: choice.place,
+            leads: Stage {
+                first: stage.first,
+                second: choice.position,
+            },
+        })),
+    }
 }

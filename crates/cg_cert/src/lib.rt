@@ -12,7 +12,6 @@ pub mod laws;
 mod place;
 mod position;
 mod proving;
-mod reply;
 mod stage;
 mod text;
 mod token;

@@ -1,5 +1,5 @@
 //! The place that a numeral writes.
-ghost use Rattle.std.specs.Prelude.{◌≡◌, ◌↔◌, ◌<◌, ◌^◌, ℕ, Some, IfOk, IsTrue, decimal};
+ghost use Rattle.std.specs.Prelude.{◌≡◌, ◌<◌, ◌^◌, ℕ, Some, IfOk, decimal};
 ghost use Rattle.cg_cert.specs.Reads.{IsPlace};
 
 use std::alloc::{AllocError, Global};
@@ -15,14 +15,6 @@ fn number_of(digits: &[u8]) -> Option<usize>
     }
 }
 
-/// Whether the digits are those of the place, in decimal without leading zeros.
-fn is_written(alloc: Global, place: usize, digits: &[u8]) -> Result<bool, AllocError>
-    ensures { IfOk result (λ answer. IsTrue answer ↔ (decimal place ≡ digits.now)) }
-{
-    let text = place.to_string(alloc)?;
-    Ok(text.as_bytes() == digits)
-}
-
 /// The place below the count whose digits these are.
 pub(crate) fn place_of(
     alloc: Global,
@@ -34,7 +26,8 @@ pub(crate) fn place_of(
     let Some(place) = number_of(digits) else {
         return Ok(None);
     };
-    if place < count && is_written(alloc, place, digits)? {
+    // A numeral with zeros in front is none: it isn't what is written of its number.
+    if place < count && place.to_string(alloc)?.as_bytes() == digits {
         return Ok(Some(place));
     }
     Ok(None)

@@ -7,7 +7,7 @@ ghost use Rattle.cg_cells.specs.Store.{Spends};
 ghost use Rattle.cg_nodes.specs.Games.{IsRead};
 ghost use Rattle.cg_canon.specs.Works.{work_state};
 ghost use Rattle.cg_cert.specs.Pairs.{is_number};
-ghost use Rattle.cg_cert.specs.Positions.{ArePositions, IsPosition, position_at, positions_at};
+ghost use Rattle.cg_cert.specs.Positions.{IsPosition, ArePositionsOf, position_at};
 
 use cg_canon::{Work, le, le_number, number_le};
 use cg_cells::CellStore;
@@ -143,9 +143,8 @@ pub(crate) fn options<B: BoardForms, S: CellStore<GameFacts<B>>>(
     position: &Position,
 ) -> Result<Vec<Position>, AllocError>
     requires { IsPosition (work_state S.state work.old) position.now }
-    ensures are { IfOk result (λ all. ArePositions (work_state S.state work.new) all.items) }
-    ensures games { IfOk result (λ all. positions_at (work_state S.state work.new) all.items
-        ≡ near left (position_at (work_state S.state work.old) position.now)) }
+    ensures listed { IfOk result (λ all. ArePositionsOf (work_state S.state work.new) all.items
+        (near left (position_at (work_state S.state work.old) position.now))) }
     ensures spends { Spends 0 (work_state S.state work.old) (work_state S.state work.new) }
 {
     match reading_of(work, position) {

@@ -6,16 +6,15 @@ ghost use Rattle.std.specs.Prelude.{◌≤◌, ◌∷◌, ◌++◌, [], decimal,
 ghost use Rattle.cg_cells.specs.Store.{Spends};
 ghost use Rattle.cg_nodes.specs.Games.{IsGame, game_at};
 ghost use Rattle.cg_canon.specs.Works.{work_state};
-ghost use Rattle.cg_cert.specs.Answer.{IsProved, refusal_text, right_text};
+ghost use Rattle.cg_cert.specs.Answer.{IsProved, refusal_text};
 ghost use Rattle.cg_cert.specs.Certificate.{answers_text, certificate_text};
 ghost use Rattle.cg_cert.specs.First.{first_answers, first_proof};
 ghost use Rattle.cg_cert.specs.Positions.{IsStage, stage_at};
 ghost use Rattle.cg_cert.specs.Written.{Wrote};
 
-use crate::choice::first_choice;
+use crate::choice::first_move;
 use crate::fault::CertFault;
 use crate::position::Position;
-use crate::reply::first_reply;
 use crate::stage::{Stage, both_numbers, moves};
 use crate::text::{letter, put};
 use cg_canon::{Work, le};
@@ -63,17 +62,12 @@ fn put_reply<B: BoardForms, S: CellStore<GameFacts<B>>>(
         (answers_text (first_answers first_proof (stage_at (work_state S.state work.old) stage.now ∷ []))) }
     ensures spends { Spends 0 (work_state S.state work.old) (work_state S.state work.new) }
 {
-    match first_reply(alloc, work, stage)? {
+    match first_move(alloc, work, true, stage)? {
         None => Ok(()),
-        Some(reply) => put_move(
-            alloc,
-            work,
-            limit,
-            letter(reply.is_first),
-            reply.place,
-            &reply.leads,
-            text,
-        ),
+        Some(found) => {
+            let word = letter(true, found.is_first);
+            put_move(alloc, work, limit, word, found.place, &found.leads, text)
+        }
     }
 }
 
@@ -105,39 +99,6 @@ fn put_proof<B: BoardForms, S: CellStore<GameFacts<B>>>(
     put(text, limit, ")")
 }
 
-/// Puts Right's first winning move in the pair behind the text, with its proof.
-fn put_winning_move<B: BoardForms, S: CellStore<GameFacts<B>>>(
-    alloc: Global,
-    work: &mut Work<B, S>,
-    limit: usize,
-    stage: &Stage,
-    text: &mut String,
-) -> Result<(), CertFault>
-    requires stage { IsStage (work_state S.state work.old) stage.now }
-    requires within { length (string_bytes text.old) ≤ limit }
-    ensures wrote { Wrote result limit (string_bytes text.old) (string_bytes text.new)
-        (right_text (stage_at (work_state S.state work.old) stage.now)) }
-    ensures spends { Spends 0 (work_state S.state work.old) (work_state S.state work.new) }
-{
-    if let Some(choice) = first_choice(alloc, work, false, &stage.first, &stage.second)? {
-        let leads = Stage {
-            first: stage.second,
-            second: choice.position,
-        };
-        return put_move(alloc, work, limit, "r", choice.place, &leads, text);
-    }
-    match first_choice(alloc, work, true, &stage.second, &stage.first)? {
-        None => Ok(()),
-        Some(choice) => {
-            let leads = Stage {
-                first: choice.position,
-                second: stage.first,
-            };
-            put_move(alloc, work, limit, "l", choice.place, &leads, text)
-        }
-    }
-}
-
 /// Puts what follows `no `: a point where both are numbers, and else Right's first winning move with its proof.
 fn put_refusal<B: BoardForms, S: CellStore<GameFacts<B>>>(
     alloc: Global,
@@ -153,9 +114,18 @@ fn put_refusal<B: BoardForms, S: CellStore<GameFacts<B>>>(
     ensures spends { Spends 0 (work_state S.state work.old) (work_state S.state work.new) }
 {
     if both_numbers(work, stage) {
-        put(text, limit, ".")
-    } else {
-        put_winning_move(alloc, work, limit, stage, text)
+        return put(text, limit, ".");
+    }
+    match first_move(alloc, work, false, stage)? {
+        None => Ok(()),
+        Some(found) => {
+            let leads = Stage {
+                first: found.leads.second,
+                second: found.leads.first,
+            };
+            let word = letter(false, found.is_first);
+            put_move(alloc, work, limit, word, found.place, &leads, text)
+        }
     }
 }
 

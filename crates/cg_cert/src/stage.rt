@@ -1,9 +1,9 @@
 //! Pairs of positions, and Right's moves in them.
-ghost use Rattle.std.specs.Prelude.{◌≡◌, ◌++◌, IfOk, cond, map};
+ghost use Rattle.std.specs.Prelude.{◌≡◌, ◌++◌, IfOk, map};
 ghost use Rattle.cg_cells.specs.Store.{Spends};
 ghost use Rattle.cg_canon.specs.Works.{work_state};
 ghost use Rattle.cg_cert.specs.Pairs.{both_numbers, moves};
-ghost use Rattle.cg_cert.specs.Positions.{AreStages, IsStage, kept, moved, stage_at, staged, stages_at};
+ghost use Rattle.cg_cert.specs.Positions.{IsStage, AreStagesOf, kept, moved, stage_at, staged};
 
 use crate::position::{Position, is_number, options};
 use cg_canon::Work;
@@ -88,9 +88,8 @@ pub(crate) fn moves<B: BoardForms, S: CellStore<GameFacts<B>>>(
     stage: &Stage,
 ) -> Result<Vec<Stage>, AllocError>
     requires { IsStage (work_state S.state work.old) stage.now }
-    ensures are { IfOk result (λ all. AreStages (work_state S.state work.new) all.items) }
-    ensures games { IfOk result (λ all. stages_at (work_state S.state work.new) all.items
-        ≡ moves (stage_at (work_state S.state work.old) stage.now)) }
+    ensures listed { IfOk result (λ all. AreStagesOf (work_state S.state work.new) all.items
+        (moves (stage_at (work_state S.state work.old) stage.now))) }
     ensures spends { Spends 0 (work_state S.state work.old) (work_state S.state work.new) }
 {
     let rights = options(alloc, work, false, &stage.first)?;

@@ -16,9 +16,15 @@ pub(crate) fn put(text: &mut String, limit: usize, piece: &str) -> Result<(), Ce
     Ok(())
 }
 
-/// The letter of an answer in the first game, or in the second.
-pub(crate) fn letter(is_first: bool) -> &'static str
-    ensures { result.now ≡ cond is_first (codes "g") (codes "h") }
+/// The letter of an answer of Left's in the first game or in the second, or of a move of Right's.
+pub(crate) fn letter(left: bool, is_first: bool) -> &'static str
+    ensures { result.now ≡ cond left (cond is_first (codes "g") (codes "h")) (cond is_first (codes "r") (codes "l")) }
 {
-    if is_first { "g" } else { "h" }
+    if left {
+        if is_first { "g" } else { "h" }
+    } else if is_first {
+        "r"
+    } else {
+        "l"
+    }
 }

@@ -10,7 +10,8 @@ use Rattle.cg_moves.specs.Grid.{Grid}
 use Rattle.cg_moves.specs.Rising.{counted, rising}
 use Rattle.cg_moves.specs.Rules.{In}
 use Rattle.cg_moves.proofs.Counted.{counted-below, in_counted}
-use Rattle.cg_moves.proofs.Members.{carry, in-append, in-append_left, in-append_right, in-flat_map, in_flat_mapped}
+use Rattle.cg_form.proofs.Firsts.{in-append, in-append_left, in-append_right}
+use Rattle.cg_moves.proofs.Members.{carry, in-flat_map, in_flat_mapped}
 use Rattle.cg_moves.proofs.Same.{and-true}
 use Rattle.cg_moves.proofs.SameMembers.{HasAll, rising-same}
 use Rattle.cg_clobber.specs.declared.way.Way.{Way}

@@ -12,7 +12,8 @@ use Rattle.cg_moves.specs.Grid.{Grid}
 use Rattle.cg_moves.specs.Rising.{IsRising, bytes_cmp, counted}
 use Rattle.cg_moves.specs.Rules.{In}
 use Rattle.cg_moves.proofs.Counted.{counted-below, counted-from}
-use Rattle.cg_moves.proofs.Members.{in-append, in-flat_map}
+use Rattle.cg_form.proofs.Firsts.{in-append}
+use Rattle.cg_moves.proofs.Members.{in-flat_map}
 use Rattle.cg_moves.proofs.RisingLemmas.{first-less, rises-none, rises-on}
 use Rattle.cg_moves.proofs.Same.{and-true}
 use Rattle.cg_clobber.specs.declared.way.Way.TheVariants.{Up, Down, Back, Forth}

@@ -10,7 +10,8 @@ use Rattle.cg_moves.specs.declared.player.Player.TheVariants.{Left, Right}
 use Rattle.cg_moves.specs.Grid.{Grid}
 use Rattle.cg_moves.specs.Rising.{IsRising, bytes_cmp, counted}
 use Rattle.cg_moves.specs.Rules.{In}
-use Rattle.cg_moves.proofs.Members.{in-append, in-flat_map}
+use Rattle.cg_form.proofs.Firsts.{in-append}
+use Rattle.cg_moves.proofs.Members.{in-flat_map}
 use Rattle.cg_moves.proofs.RisingLemmas.{rises-none, rises-on, rising-kept}
 use Rattle.cg_clobber.specs.declared.way.Way.{Way}
 use Rattle.cg_clobber.specs.declared.way.Way.TheVariants.{Up, Down, Back, Forth}

@@ -1,7 +1,7 @@
 -- What the steps of each kind of expression come to.
-use Rattle.std.proofs.Common.{◌≡◌, refl, ap, sym, ◌∙◌, subst, ℕ, Bool, true, false, List, [], ◌∷◌, ◌++◌, map, Result, Ok, Err, OnOk, Option, Some, None}
+use Rattle.std.proofs.Common.{◌≡◌, refl, ap, sym, ◌∙◌, subst, ℕ, Bool, true, false, List, [], ◌∷◌, ◌++◌, map, Result, Ok, Err, Option, Some, None}
 use Rattle.std.specs.Option.{ForSome}
-use Rattle.std.specs.Prelude.{IfOk, IfErr, IsSomeAnd, ◌≤◌}
+use Rattle.std.specs.Prelude.{IfOk, IsSomeAnd, ◌≤◌}
 use Rattle.cg_dyadic.specs.Number.{Number, NumberLe}
 use Rattle.cg_form.specs.Canonical.{Canonical}
 use Rattle.cg_form.specs.Game.{Game, number as plain_number, node, options, of_list, to_list}
@@ -16,13 +16,12 @@ use Rattle.cg_nodes.specs.Meant.{Meant}
 use Rattle.cg_nodes.proofs.Later.{stands_game, game_later, stand_later}
 use Rattle.cg_canon.specs.declared.fault.ValueFault.{ValueFault}
 use Rattle.cg_canon.specs.declared.rest.WorkRest.{WorkRest}
-use Rattle.cg_canon.specs.Items.{AllPass, Item, WasRefused, made}
+use Rattle.cg_canon.specs.Items.{Item, made}
 use Rattle.cg_canon.specs.NumberItems.{IsForm, number_made}
-use Rattle.cg_canon.specs.Works.{Keeps}
 use Rattle.cg_canon.proofs.ItemLaws.{passes-first}
 use Rattle.cg_canon.specs.SumItems.{sum_items}
 use Rattle.cg_sum.specs.Lists.{negative_items, multiple_items}
-use Rattle.cg_values.specs.Gives.{Gives}
+use Rattle.cg_canon.specs.Made.{Gives, ItemsMade}
 use Rattle.cg_nodes.proofs.Forms.{can-node}
 use Rattle.cg_sum.proofs.Sums.{can-sum_form, can-sum_comm}
 use Rattle.cg_names.specs.Lists.{form_items, number_items}
@@ -49,26 +48,23 @@ module _ {R : Type 0} (s t : State Meant (WorkRest R)) where
   -- ---- numbers and named games
 
   pub ups_gives : (down : Bool) (n : ℕ) (given : Result ℕ ValueFault) (result : Result ℕ NoValue) → result ≡ widened given
-      → Gives s t (form_items s.rest.limit (ups_form down n)) (ups_form down n) given
+      → Gives s t (form_items s.rest.limit (ups_form down n)) (can (ups_form down n)) given
       → Evaluates s t (ups down n) result
   unfolding items meaning_by
   ups_gives down n given result w r = finds s t (form_items s.rest.limit (ups_form down n)) (ups_form down n) given result w r
 
   pub nimber_gives : (n : ℕ) (given : Result ℕ ValueFault) (result : Result ℕ NoValue) → result ≡ widened given
-      → Gives s t (form_items s.rest.limit (nimber_form n)) (nimber_form n) given → Evaluates s t (nimber n) result
+      → Gives s t (form_items s.rest.limit (nimber_form n)) (can (nimber_form n)) given → Evaluates s t (nimber n) result
   unfolding items meaning_by
   nimber_gives n given result w r = finds s t (form_items s.rest.limit (nimber_form n)) (nimber_form n) given result w r
 
   -- 0
   pub zero_gives : (x : Number) (given : Result ℕ ValueFault) (result : Result ℕ NoValue) → result ≡ widened given
-      → x ≡ zero_number → IfOk given (λ h. StandsFor t h (plain_number x))
-      → OnOk given (AllPass s.rest.share s.rest.spent (made (plain_number x) 0 ∷ []) t.rest.spent)
-      → IfErr given (λ fault. WasRefused fault s.rest.share s.rest.spent (made (plain_number x) 0 ∷ []) t.rest.spent)
-      → s.spare ≤ t.spare → Keeps s t → Finds s t None zero_items zero_form result
-  zero_gives x given result w is game passed refused m keeps =
+      → x ≡ zero_number → Gives s t (made (plain_number x) 0 ∷ []) (plain_number x) given → Finds s t None zero_items zero_form result
+  zero_gives x given result w is gives =
       let Q : Number → Type 0 = λ z. Finds s t None (made (plain_number z) 0 ∷ []) (plain_number z) result in
       let r = gives_from s t (made (plain_number x) 0 ∷ []) (plain_number x) (plain_number x) given
-      (sym (can-fixed (plain_number x) tt)) game passed refused m keeps in
+      (sym (can-fixed (plain_number x) tt)) gives in
       subst Q is (finds s t (made (plain_number x) 0 ∷ []) (plain_number x) given result w r)
 
   pub used_gives : (word : List ℕ) (column : ℕ) (result : Result ℕ NoValue) → Finds s t None zero_items zero_form result
@@ -78,32 +74,24 @@ module _ {R : Type 0} (s t : State Meant (WorkRest R)) where
 
   -- the number that is given, or one out of range
   number_of : (o all : Option Number) (result : Result ℕ ValueFault) → ((x : Number) → o ≡ Some x → all ≡ Some x)
-      → IfOk result (λ h. IsForm o (StandsFor t h))
-      → OnOk result (AllPass s.rest.share s.rest.spent (number_made o 0 ∷ []) t.rest.spent)
-      → IfErr result (λ fault. WasRefused fault s.rest.share s.rest.spent (number_made o 0 ∷ []) t.rest.spent)
-      → s.spare ≤ t.spare → Keeps s t → Gives s t (number_made o 0 ∷ []) (plain_number (or_zero all)) result
-  number_of None all (Ok h) e game passed refused m keeps = absurd game
-  number_of (Some x) all (Ok h) e game passed refused m keeps =
+      → IfOk result (λ h. IsForm o (StandsFor t h)) → ItemsMade s t (number_made o 0 ∷ []) result → s.spare ≤ t.spare
+      → Gives s t (number_made o 0 ∷ []) (can (plain_number (or_zero all))) result
+  number_of None all (Ok h) e game done m = absurd game
+  number_of (Some x) all (Ok h) e game done m =
       let k : plain_number x ≡ can (plain_number (or_zero all)) =
       ap (λ z. plain_number (or_zero z)) (sym (e x refl)) ∙ sym (can-fixed (plain_number (or_zero all)) tt) in
-      gives_from s t (made (plain_number x) 0 ∷ []) (plain_number x) (plain_number (or_zero all))
-      (Ok h) k game passed refused m keeps
-  number_of o all (Err fault) e game passed refused m keeps = record {
-    game = tt;
-    made = record { charged = tt; refused = refused; keeps = keeps };
-    more = m;
-  }
+      gives_from s t (made (plain_number x) 0 ∷ []) (plain_number x) (plain_number (or_zero all)) (Ok h) k
+      (record { game = game; made = done; more = m })
+  number_of o all (Err fault) e game done m = record { game = tt; made = done; more = m }
 
   pub literal_gives : (below : Bool) (num den : ℕ) (o : Option Number) (given : Result ℕ ValueFault)
       (result : Result ℕ NoValue) → result ≡ widened given → o ≡ literal below num den
-      → IfOk given (λ h. IsForm o (StandsFor t h))
-      → OnOk given (AllPass s.rest.share s.rest.spent (number_made o 0 ∷ []) t.rest.spent)
-      → IfErr given (λ fault. WasRefused fault s.rest.share s.rest.spent (number_made o 0 ∷ []) t.rest.spent)
-      → s.spare ≤ t.spare → Keeps s t → Evaluates s t (number below num den) result
+      → IfOk given (λ h. IsForm o (StandsFor t h)) → ItemsMade s t (number_made o 0 ∷ []) given → s.spare ≤ t.spare
+      → Evaluates s t (number below num den) result
   unfolding items meaning_by
-  literal_gives below num den o given result w e game passed refused m keeps =
+  literal_gives below num den o given result w e game done m =
       let r = number_of o (fraction below num den) given (λ x f. literal-fraction below num den x (sym e
-      ∙ f)) game passed refused m keeps in
+      ∙ f)) game done m in
       finds_items s t None (number_made o 0 ∷ []) (number_made (literal below num den) 0 ∷ []) (plain_number (or_zero
       (fraction below num den))) result (ap (λ z. number_made z 0 ∷ []) e)
       (finds s t (number_made o 0 ∷ []) (plain_number (or_zero (fraction below num den))) given result w r)
@@ -112,39 +100,30 @@ module _ {R : Type 0} (s t : State Meant (WorkRest R)) where
   game_of_number : (form : Number → Game) (o all : Option Number) (result : Result ℕ ValueFault)
       → ((x : Number) → o ≡ Some x → (all ≡ Some x) × Canonical (form x))
       → IfOk result (λ h. IsSomeAnd o (λ y. StandsFor t h (form y)))
-      → OnOk result (AllPass s.rest.share s.rest.spent (number_items s.rest.limit form o) t.rest.spent)
-      → IfErr result (λ fault. WasRefused fault s.rest.share s.rest.spent
-      (number_items s.rest.limit form o) t.rest.spent)
-      → s.spare ≤ t.spare → Keeps s t → Gives s t (number_items s.rest.limit form o) (form (or_zero all)) result
-  game_of_number form None all (Ok h) e game passed refused m keeps =
-      absurd (passes-first s.rest.share s.rest.spent t.rest.spent _ [] passed)
-  game_of_number form (Some x) all (Ok h) e game passed refused m keeps =
+      → ItemsMade s t (number_items s.rest.limit form o) result → s.spare ≤ t.spare
+      → Gives s t (number_items s.rest.limit form o) (can (form (or_zero all))) result
+  game_of_number form None all (Ok h) e game done m =
+      absurd (passes-first s.rest.share s.rest.spent t.rest.spent _ [] done.charged)
+  game_of_number form (Some x) all (Ok h) e game done m =
       let (same, canonical) = e x refl in
       let k : form x ≡ can (form (or_zero all)) =
       sym (can-fixed (form x) canonical) ∙ ap (λ z. can (form (or_zero z))) (sym same) in
-      gives_from s t (form_items s.rest.limit (form x)) (form x) (form (or_zero all))
-      (Ok h) k game passed refused m keeps
-  game_of_number form o all (Err fault) e game passed refused m keeps = record {
-    game = tt;
-    made = record { charged = tt; refused = refused; keeps = keeps };
-    more = m;
-  }
+      gives_from s t (form_items s.rest.limit (form x)) (form x) (form (or_zero all)) (Ok h) k
+      (record { game = game; made = done; more = m })
+  game_of_number form o all (Err fault) e game done m = record { game = tt; made = done; more = m }
 
   pub switch_gives : (num den : ℕ) (o : Option Number) (given : Result ℕ ValueFault) (result : Result ℕ NoValue)
       → result ≡ widened given → o ≡ literal false num den
       → IfOk given (λ h. IsSomeAnd o (λ y. StandsFor t h (switch_form y)))
-      → OnOk given (AllPass s.rest.share s.rest.spent (number_items s.rest.limit switch_form o) t.rest.spent)
-      → IfErr given (λ fault. WasRefused fault s.rest.share s.rest.spent
-      (number_items s.rest.limit switch_form o) t.rest.spent)
-      → s.spare ≤ t.spare → Keeps s t → Evaluates s t (switch num den) result
+      → ItemsMade s t (number_items s.rest.limit switch_form o) given → s.spare ≤ t.spare → Evaluates s t (switch num den) result
   unfolding items meaning_by
-  switch_gives num den o given result w e game passed refused m keeps =
+  switch_gives num den o given result w e game done m =
       let r = game_of_number switch_form o (fraction false num den) given
       (λ x f. (
         literal-fraction false num den x (sym e ∙ f),
         switch-canonical x (literal_not_negative num den x
             (sym e ∙ f)),
-      )) game passed refused m keeps in
+      )) game done m in
       finds_items s t None (number_items s.rest.limit switch_form o) (number_items s.rest.limit switch_form
       (literal false num den)) (switch_form (or_zero (fraction false num den))) result
       (ap (λ z. number_items s.rest.limit switch_form z) e)
@@ -153,18 +132,15 @@ module _ {R : Type 0} (s t : State Meant (WorkRest R)) where
   pub tiny_gives : (miny : Bool) (num den : ℕ) (o : Option Number) (given : Result ℕ ValueFault)
       (result : Result ℕ NoValue) → result ≡ widened given → o ≡ literal false num den
       → IfOk given (λ h. IsSomeAnd o (λ y. StandsFor t h (tiny_form miny y)))
-      → OnOk given (AllPass s.rest.share s.rest.spent (number_items s.rest.limit (tiny_form miny) o) t.rest.spent)
-      → IfErr given (λ fault. WasRefused fault s.rest.share s.rest.spent (number_items s.rest.limit
-      (tiny_form miny) o) t.rest.spent)
-      → s.spare ≤ t.spare → Keeps s t → Evaluates s t (tiny miny num den) result
+      → ItemsMade s t (number_items s.rest.limit (tiny_form miny) o) given → s.spare ≤ t.spare → Evaluates s t (tiny miny num den) result
   unfolding items meaning_by
-  tiny_gives miny num den o given result w e game passed refused m keeps =
+  tiny_gives miny num den o given result w e game done m =
       let r = game_of_number (tiny_form miny) o (fraction false num den) given
       (λ x f. (
         literal-fraction false num den x (sym e ∙ f),
         tiny-canonical miny x (literal_not_negative num den x
             (sym e ∙ f)),
-      )) game passed refused m keeps in
+      )) game done m in
       finds_items s t None (number_items s.rest.limit (tiny_form miny) o) (number_items s.rest.limit (tiny_form miny)
       (literal false num den)) (tiny_form miny (or_zero (fraction false num den))) result
       (ap (λ z. number_items s.rest.limit (tiny_form miny) z) e)
@@ -183,19 +159,19 @@ module _ {R : Type 0} (s t u : State Meant (WorkRest R)) where
   stepped : (step : ℕ → Game → List Item) (last : Game → Game) (fault : Option GameFault) (is : List Item) (m : Game) (v : ℕ)
       (given : Result ℕ ValueFault) (result : Result ℕ NoValue) → result ≡ widened given
       → can (last (can m)) ≡ can (last m) → (fault ≡ None) × (StandsFor t v (can m) × Makes s t is)
-      → Gives t u (step t.rest.limit (game_at t v)) (last (game_at t v)) given
+      → Gives t u (step t.rest.limit (game_at t v)) (can (last (game_at t v))) given
       → Finds s u fault (is ++ step s.rest.limit (can m)) (last m) result
   stepped step last fault is m v given result w e (none, (game, makes)) r =
-      let P : Game → Type 0 = λ z. Gives t u (step t.rest.limit z) (last z) given in
-      let Q : ℕ → Type 0 = λ n. Gives t u (step n (can m)) (last (can m)) given in
-      let k : Gives t u (step s.rest.limit (can m)) (last (can m)) given = subst Q makes.keeps.limit (subst P
+      let P : Game → Type 0 = λ z. Gives t u (step t.rest.limit z) (can (last z)) given in
+      let Q : ℕ → Type 0 = λ n. Gives t u (step n (can m)) (can (last (can m))) given in
+      let k : Gives t u (step s.rest.limit (can m)) (can (last (can m))) given = subst Q makes.keeps.limit (subst P
       (stands_game t v (can m) game) r) in
       finds_then s t u fault None is (step s.rest.limit (can m)) (last m) result none makes
       (finds_game t u None (step s.rest.limit (can m)) (last (can m)) (last m) result e
       (finds t u (step s.rest.limit (can m)) (last (can m)) given result w k))
 
   pub negative_gives : (e : Tree) (v : ℕ) (given : Result ℕ ValueFault) (result : Result ℕ NoValue) → result ≡ widened given
-      → Evaluates s t e (Ok v) → Gives t u (negative_items t.rest.limit (game_at t v)) (minus (game_at t v)) given
+      → Evaluates s t e (Ok v) → Gives t u (negative_items t.rest.limit (game_at t v)) (can (minus (game_at t v))) given
       → Evaluates s u (negative e) result
   unfolding items meaning_by
   negative_gives e v given result w a r =
@@ -204,7 +180,7 @@ module _ {R : Type 0} (s t u : State Meant (WorkRest R)) where
 
   pub multiple_gives : (n : ℕ) (e : Tree) (v : ℕ) (given : Result ℕ ValueFault) (result : Result ℕ NoValue)
       → result ≡ widened given → Evaluates s t e (Ok v)
-      → Gives t u (multiple_items t.rest.limit n (game_at t v)) (many n (game_at t v)) given
+      → Gives t u (multiple_items t.rest.limit n (game_at t v)) (can (many n (game_at t v))) given
       → Evaluates s u (multiple n e) result
   unfolding items meaning_by
   multiple_gives n e v given result w a r =
@@ -212,7 +188,7 @@ module _ {R : Type 0} (s t u : State Meant (WorkRest R)) where
       (can-multiple_form n (meaning e)) a r
 
   pub subtracted_gives : (e : Tree) (v : ℕ) (given : Result ℕ ValueFault) (result : Result ℕ NoValue) → result ≡ widened given
-      → Evaluates s t e (Ok v) → Gives t u (negative_items t.rest.limit (game_at t v)) (minus (game_at t v)) given
+      → Evaluates s t e (Ok v) → Gives t u (negative_items t.rest.limit (game_at t v)) (can (minus (game_at t v))) given
       → Finds s u (fault_in e) (term_part s.rest.limit true e) (signed true (meaning e)) result
   subtracted_gives e v given result w a r =
       stepped negative_items minus (fault_in e) (items s.rest.limit e) (meaning e) v given result w
@@ -222,11 +198,11 @@ module _ {R : Type 0} (s t u : State Meant (WorkRest R)) where
   pub sum_gives : (m : Game) (fault : Option GameFault) (is : List Item) (so_far v : ℕ) (given : Result ℕ ValueFault)
       (result : Result ℕ NoValue) → result ≡ widened given → IsGame s so_far
       → (fault ≡ None) × (StandsFor t v (can m) × Makes s t is)
-      → Gives t u (sum_items t.rest.limit (game_at t so_far) (game_at t v)) (plus (game_at t so_far) (game_at t v)) given
+      → Gives t u (sum_items t.rest.limit (game_at t so_far) (game_at t v)) (can (plus (game_at t so_far) (game_at t v))) given
       → Finds s u fault (is ++ sum_items s.rest.limit (game_at s so_far) (can m)) (plus (game_at s so_far) m) result
   sum_gives m fault is so_far v given result w known (none, (game, makes)) r =
       let g = game_at s so_far in
-      let P : Game → Type 0 = λ z. Gives t u (sum_items t.rest.limit z (game_at t v)) (plus z (game_at t v)) given in
+      let P : Game → Type 0 = λ z. Gives t u (sum_items t.rest.limit z (game_at t v)) (can (plus z (game_at t v))) given in
       stepped (λ limit h. sum_items limit g h) (λ h. plus g h) fault is m v given result w
       (can-sum_comm g (can m) ∙ can-sum_form m g ∙ can-sum_comm m g)
       (none, (game, makes)) (subst P (game_later s t makes.keeps.known so_far known) r)
@@ -292,7 +268,7 @@ module _ {R : Type 0} (s t u w : State Meant (WorkRest R)) where
       → (fault_in_all rights ≡ None) × (StandFor u rs (map can (to_list (meanings rights))) × Makes t u
       (all_items t.rest.limit rights))
       → hs ≡ ls → ks ≡ rs
-      → Gives u w (made (can (node (games_at u hs) (games_at u ks))) 0 ∷ []) (node (games_at u hs) (games_at u ks)) given
+      → Gives u w (made (can (node (games_at u hs) (games_at u ks))) 0 ∷ []) (can (node (games_at u hs) (games_at u ks))) given
       → Evaluates s w (sides lefts rights) result
   unfolding items meaning_by
   braces_gives lefts rights ls hs rs ks given result v (left_sound, (left_games, left_made))

@@ -19,7 +19,7 @@ use Rattle.cg_moves.specs.Grid.{is_in_rows}
 use Rattle.cg_moves.specs.Rules.{GameRules}
 use Rattle.cg_eval.specs.Forms.{board_form, board_in, fields, symbol_row}
 use Rattle.cg_values.specs.Notes.{IsNumbered, places}
-use Rattle.cg_values.proofs.ItemSteps.{symbols-few}
+use Rattle.cg_nodes.proofs.BoardContents.{symbols-few}
 use Rattle.cg_values.proofs.PlaceLemmas.{places-below}
 
 -- the fields of a content begin with the cells that it was made of

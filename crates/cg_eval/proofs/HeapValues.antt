@@ -21,7 +21,7 @@ use Rattle.cg_names.specs.Lists.{form_items, plain_item}
 use Rattle.cg_names.specs.Named.{nimber_form}
 use Rattle.cg_nimbers.proofs.CanonicalNimbers.{nimber-canonical}
 use Rattle.cg_nimbers.proofs.NimberPositions.{length-nimbers_below, nimber-positions}
-use Rattle.cg_values.specs.Gives.{Gives}
+use Rattle.cg_canon.specs.Made.{Gives}
 use Rattle.cg_octal.specs.Codes.{OctalHeap}
 use Rattle.cg_octal.specs.Heaps.{AreValues, heap}
 use Rattle.cg_eval.specs.Octals.{heap_form, heap_items}
@@ -87,7 +87,7 @@ value-small digits all ks n m e f v c =
 pub nimber-finds : {R : Type 0} (s t : State Meant (WorkRest R)) (o : OctalHeap) (k : ℕ) (given : Result ℕ ValueFault)
     (result : Result ℕ NoValue) → result ≡ widened given
     → o.heap + 1 ≤ s.rest.limit → k ≤ o.heap → Equal (heap o.digits o.heap) (nimber_form k)
-    → Gives s t (form_items s.rest.limit (nimber_form k)) (nimber_form k) given
+    → Gives s t (form_items s.rest.limit (nimber_form k)) (can (nimber_form k)) given
     → Finds s t None (heap_items s.rest.limit (Ok o)) (heap_form (Ok o)) result
 nimber-finds s t o k given result w within small e gives =
     finds_items s t None (form_items s.rest.limit (nimber_form k)) (heap_items s.rest.limit (Ok o)) (heap o.digits o.heap) result

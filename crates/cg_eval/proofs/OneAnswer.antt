@@ -5,6 +5,7 @@ use Rattle.cg_form.specs.Game.{Game}
 use Rattle.cg_form.specs.Stops as form
 use Rattle.cg_form.proofs.Decide.{number-decide}
 use Rattle.cg_form.proofs.StopValues.{stops_unique}
+use Rattle.cg_names.proofs.NameRule.{same_name, some_name}
 use Rattle.cg_nodes.specs.Can.{can}
 use Rattle.cg_thermo.specs.declared.thermo.Walls.{Walls}
 use Rattle.cg_thermo.specs.Thermal.{NeedsMore}
@@ -60,7 +61,7 @@ some-checked g h text = by (proof-or-not g h text)
     by (inr other) = (answer (codes "no"), inr (other, refl))
 
 pub one-answer : (q : Question) (p r : Piece) → IsAnswerTo q p → IsAnswerTo q r → p ≡ r
-one-answer (value t) p r a b = a ∙ sym b
+one-answer (value t) p r (x, n, e) (y, m, f) = e ∙ ap answer (same_name (can (meaning t)) x y n m) ∙ sym f
 one-answer (compare s t) p r a b = a ∙ sym b
 one-answer (outcome t) p r a b = a ∙ sym b
 one-answer (stops t) p r a b = a number-decide ∙ sym (b number-decide)
@@ -71,7 +72,7 @@ one-answer (proof s t) p r a b = one-proved (can (meaning s)) (can (meaning t)) 
 one-answer (check s t text) p r a b = one-checked (can (meaning s)) (can (meaning t)) text p r a b
 
 pub some-answer : (q : Question) → (p : Piece) × IsAnswerTo q p
-some-answer (value t) = (_, refl)
+some-answer (value t) = let (text, n) = some_name (can (meaning t)) in (answer text, (text, n, refl))
 some-answer (compare s t) = (_, refl)
 some-answer (outcome t) = (_, refl)
 some-answer (stops t) = (

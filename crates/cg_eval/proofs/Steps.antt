@@ -1,6 +1,5 @@
 -- Calls on a work that make items, one after another.
-use Rattle.std.proofs.Common.{◌≡◌, refl, sym, subst, ap, ◌∙◌, ℕ, ◌≤◌, arith, List, [], ◌++◌, Option, Some, None, Result, Ok, Err, OnOk}
-use Rattle.std.specs.Prelude.{IfOk, IfErr}
+use Rattle.std.proofs.Common.{◌≡◌, refl, sym, subst, ap, ◌∙◌, ℕ, arith, List, [], ◌++◌, Option, Some, None, Result, Ok, Err}
 use Rattle.cg_form.specs.Game.{Game}
 use Rattle.cg_cells.specs.Store.{State}
 use Rattle.cg_nodes.specs.Can.{can}
@@ -10,10 +9,9 @@ use Rattle.cg_canon.specs.declared.fault.ValueFault.{ValueFault}
 use Rattle.cg_canon.specs.declared.fault.ValueFault.TheVariants.{Memory}
 use Rattle.cg_canon.specs.declared.rest.WorkRest.{WorkRest}
 use Rattle.cg_canon.specs.Items.{AllPass, Item, WasRefused}
-use Rattle.cg_canon.specs.Works.{Keeps}
 use Rattle.cg_canon.proofs.ItemLaws.{all_pass-append, all_pass-none, refused-back, refused-front}
 use Rattle.cg_canon.proofs.Keeping.{keeps_all, keeps_then}
-use Rattle.cg_values.specs.Gives.{Gives}
+use Rattle.cg_canon.specs.Made.{Gives}
 use Rattle.cg_eval.specs.Faults.{first_of_two}
 use Rattle.cg_eval.specs.Parts.{widened}
 use Rattle.cg_eval.specs.Progress.{Finds, Lacks, Makes, Stops}
@@ -36,23 +34,19 @@ passed_on P result x cause e f h = subst P (sym (e ∙ ap Err f)) h
 -- ---- one call
 
 module _ {R : Type 0} (s t : State Meant (WorkRest R)) where
-  -- what the clauses of a call say
-  pub gives_from : (items : List Item) (k g : Game) (result : Result ℕ ValueFault) → k ≡ can g
-      → IfOk result (λ h. StandsFor t h k) → OnOk result (AllPass s.rest.share s.rest.spent items t.rest.spent)
-      → IfErr result (λ fault. WasRefused fault s.rest.share s.rest.spent items t.rest.spent)
-      → s.spare ≤ t.spare → Keeps s t → Gives s t items g result
-  gives_from items k g result e game passed refused m keeps =
-      let P : Game → Type 0 = λ z. IfOk result (λ h. StandsFor t h z) in
-      record { game = subst P e game; made = record { charged = passed; refused = refused; keeps = keeps }; more = m }
+  -- a call that gives the form of a game
+  pub gives_from : (items : List Item) (k g : Game) (result : Result ℕ ValueFault) → k ≡ can g → Gives s t items k result
+      → Gives s t items (can g) result
+  gives_from items k g result e r = let P : Game → Type 0 = λ z. Gives s t items z result in subst P e r
 
-  widened_finds : (is : List Item) (g : Game) (given : Result ℕ ValueFault) → Gives s t is g given
+  widened_finds : (is : List Item) (g : Game) (given : Result ℕ ValueFault) → Gives s t is (can g) given
       → Finds s t None is g (widened given)
   widened_finds is g (Ok h) r = (refl, (r.game, record { passed = r.made.charged; more = r.more; keeps = r.made.keeps }))
   widened_finds is g (Err fault) r = record { refused = r.made.refused; more = r.more; keeps = r.made.keeps }
 
   -- a call that makes the items of a game
   pub finds : (is : List Item) (g : Game) (given : Result ℕ ValueFault) (result : Result ℕ NoValue) → result ≡ widened given
-      → Gives s t is g given → Finds s t None is g result
+      → Gives s t is (can g) given → Finds s t None is g result
   finds is g given result e r =
       let P : Result ℕ NoValue → Type 0 = λ z. Finds s t None is g z in subst P (sym e) (widened_finds is g given r)
 

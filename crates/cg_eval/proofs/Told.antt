@@ -19,7 +19,7 @@ use Rattle.cg_nodes.proofs.Later.{stands_game, stands_later}
 use Rattle.cg_canon.specs.declared.fault.ValueFault.TheVariants.{Memory}
 use Rattle.cg_canon.specs.declared.rest.WorkRest.{WorkRest}
 use Rattle.cg_canon.specs.Items.{Item}
-use Rattle.cg_names.specs.Name.{name_of}
+use Rattle.cg_names.specs.Name.{IsName}
 use Rattle.cg_thermo.specs.StopsOf.{StopsAre}
 use Rattle.cg_thermo.specs.Thermal.{NeedsMore}
 use Rattle.cg_thermo.specs.Thermographs.{IsThermograph}
@@ -62,9 +62,10 @@ tells-answer g h asked text a e f all = record {
   handle = f ∙ ap (λ (b : Bool). if b then None else Some h) (sym (ap (λ (z : Piece). z.refused) e));
 }
 
-pub told-value : (g : Game) (h : ℕ) (text : List ℕ) (a : Answered) → text ≡ name_of g → shown a ≡ answer text
+pub told-value : (g : Game) (h : ℕ) (text : List ℕ) (a : Answered) → IsName g text → shown a ≡ answer text
     → a.handle ≡ Some h → Tells g h asking.Value a
-told-value g h text a n e f = tells-answer g h asking.Value text a e f (λ t is. ap answer (n ∙ ap name_of is))
+told-value g h text a n e f = tells-answer g h asking.Value text a e f
+    (λ t is. let P : Game → Type 0 = λ z. IsName z text in (text, subst P is n, refl))
 
 by_order : (b c : Bool) → winner_of (winner_by b c) ≡ winner b c
 by_order true true = refl

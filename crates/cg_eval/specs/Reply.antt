@@ -9,7 +9,7 @@ use Rattle.cg_nodes.specs.Can.{can}
 use Rattle.cg_canon.specs.declared.fault.ValueFault.{ValueFault}
 use Rattle.cg_canon.specs.declared.fault.ValueFault.TheVariants.{Range, Full, Depth, Positions, Memory}
 use Rattle.cg_canon.specs.Items.{AllPass, IsStopped}
-use Rattle.cg_names.specs.Name.{name_of}
+use Rattle.cg_names.specs.Name.{IsName}
 use Rattle.cg_dyadic.specs.Wide.{places}
 use Rattle.cg_thermo.specs.declared.thermo.Walls.{Walls}
 use Rattle.cg_thermo.specs.Thermal.{NeedsMore}
@@ -100,7 +100,7 @@ IsChecked g h text reply =
 -- canonical form of what it means; stops, mean, temperature and thermograph are those of the very game that it means, with
 -- all its options
 abbrev pub IsAnswerTo : Question → Piece → Type 0
-IsAnswerTo (value t) reply = reply ≡ answer (name_of (can (meaning t)))
+IsAnswerTo (value t) reply = (text : List ℕ) × IsName (can (meaning t)) text × (reply ≡ answer text)
 IsAnswerTo (compare s t) reply = reply ≡ answer (comparison (le (meaning s) (meaning t)) (le (meaning t) (meaning s)))
 IsAnswerTo (outcome t) reply = reply ≡ answer (winner (le nothing (meaning t)) (le (meaning t) nothing))
 IsAnswerTo (stops t) reply =

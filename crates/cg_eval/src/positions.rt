@@ -1,8 +1,9 @@
 //! Values of boards, on handles.
 ghost use Rattle.std.specs.Prelude.{◌≡◌, true};
 ghost use Rattle.cg_canon.specs.Works.{work_state};
+ghost use Rattle.cg_nodes.specs.Can.{can};
 ghost use Rattle.cg_eval.specs.Forms.{board_form};
-ghost use Rattle.cg_values.specs.Gives.{Gives};
+ghost use Rattle.cg_canon.specs.Made.{Gives};
 ghost use Rattle.cg_values.specs.Notes.{MayNote};
 ghost use Rattle.cg_eval.specs.Boards.{board, position_fault, position_form, position_items, position_of};
 ghost use Rattle.cg_eval.specs.Parts.{IsSound, set_up};
@@ -35,7 +36,7 @@ fn value_by<S: CellStore<GameFacts<CgBoards>>, R: Rules>(
     requires notes { MayNote board_form (R.game rules.now) }
     ensures { let p = board (R.game rules.now) start.now in
         Gives (work_state S.state work.old) (work_state S.state work.new) (position_items work.old.limit p)
-        (position_form p) result }
+        (can (position_form p)) result }
 {
     value_of(alloc, work, rules, &SumAdder, start)
 }
@@ -48,7 +49,7 @@ fn value_in<S: CellStore<GameFacts<CgBoards>>>(
 ) -> Result<Handle, ValueFault>
     requires { IsSound (set_up board.now) }
     ensures { Gives (work_state S.state work.old) (work_state S.state work.new)
-        (position_items work.old.limit (set_up board.now)) (position_form (set_up board.now)) result }
+        (position_items work.old.limit (set_up board.now)) (can (position_form (set_up board.now))) result }
 {
     may_note();
     match board {

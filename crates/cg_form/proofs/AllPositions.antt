@@ -8,7 +8,8 @@ use Rattle.cg_form.specs.Extended.{IsClosed, extended, positions_before}
 use Rattle.cg_form.specs.Game.{Among, Game, Games, IsNode, lefts, more, none, number, options, rights, to_list}
 use Rattle.cg_form.specs.Positions.{EachOnce, all_positions, positions_in, positions_of}
 use Rattle.cg_form.proofs.Among.{among-append, among-append_left, among-append_right, carry}
-use Rattle.cg_form.proofs.Extended.{among_or_not, extended-among, extended-append, extended-has, extended-once, extended-there, once-extended, one_more-new, one_more-there}
+use Rattle.cg_form.proofs.Firsts.{extended-among, extended-append, extended-has, extended-once, extended-there, in_or_not, once-extended, one_more-new, one_more-there}
+use Rattle.cg_form.proofs.Structure.{games}
 
 -- ---- all positions
 
@@ -124,15 +125,15 @@ extended-options_first : (before seen gs : List Game) → ((a : Game) → Among 
 extended-options_first before seen [] sub f h = f
 extended-options_first before seen (g ∷ gs) sub f h =
     let P : List Game → Type 0 = λ z. OptionsFirst [] (extended z gs) in
-    elim (among_or_not seen g) [
-      | inl there ↦ subst P (sym (one_more-there seen g there))
+    elim (in_or_not games seen g) [
+      | inl there ↦ subst P (sym (one_more-there games seen g there))
           (extended-options_first (g ∷ before) seen gs
           (λ a m. elim m [
             | inl e ↦ (let Q : Game
                 → Type 0 = λ z. Among z seen in subst Q (sym e) there)
             | inr n ↦ sub a n
           ]) f h.1)
-      | inr out ↦ subst P (sym (one_more-new seen g out))
+      | inr out ↦ subst P (sym (one_more-new games seen g out))
           (extended-options_first (g ∷ before) (seen ++ (g ∷ [])) gs
           (λ a m. elim m [
             | inl e ↦ among-append_right a seen (g ∷ []) (inl e)
@@ -154,11 +155,11 @@ options_first-at seen (g ∷ front) back f a h o = elim (options_first-at (g ∷
 
 pub positions_of-extended : (g : Game) → positions_of g ≡ extended [] (all_positions g)
 unfolding positions_of
-positions_of-extended g = once-extended (all_positions g)
+positions_of-extended g = once-extended games (all_positions g)
 
 -- a game is a position of another exactly where play can come to it
 pub positions_of-among : (g k : Game) → Among k (positions_of g) → Among k (all_positions g)
-positions_of-among g k m = elim (extended-among [] (all_positions g) k (carry k (positions_of g) (extended []
+positions_of-among g k m = elim (extended-among games [] (all_positions g) k (carry k (positions_of g) (extended []
     (all_positions g)) (positions_of-extended g) m)) [
       | inl n ↦ absurd n
       | inr n ↦ n
@@ -166,13 +167,13 @@ positions_of-among g k m = elim (extended-among [] (all_positions g) k (carry k 
 
 pub among-positions_of : (g k : Game) → Among k (all_positions g) → Among k (positions_of g)
 among-positions_of g k m = carry k (extended [] (all_positions g)) (positions_of g) (sym (positions_of-extended g))
-    (extended-has [] (all_positions g) k m)
+    (extended-has games [] (all_positions g) k m)
 
 -- no position stands twice
 pub positions_of-once : (g : Game) → EachOnce (positions_of g)
 positions_of-once g =
     let P : List Game → Type 0 = λ z. EachOnce z in
-    subst P (sym (positions_of-extended g)) (extended-once [] (all_positions g) tt)
+    subst P (sym (positions_of-extended g)) (extended-once games [] (all_positions g) tt)
 
 -- the positions of a canonical game are canonical
 pub positions_of-canonical : (g k : Game) → Canonical g → Among k (positions_of g) → Canonical k
@@ -205,8 +206,8 @@ positions_before-depth (options ls rs) k m = elim (among-append k (positions_in 
 pub extended-last : (seen : List Game) (g : Game) → ¬ Among g seen
     → extended seen (all_positions g) ≡ extended seen (positions_before g) ++ (g ∷ [])
 extended-last seen g out =
-    ap (extended seen) (positions-last g) ∙ extended-append seen (positions_before g) (g ∷ [])
-    ∙ one_more-new (extended seen (positions_before g)) g (λ m. elim (extended-among seen (positions_before g) g m) [
+    ap (extended seen) (positions-last g) ∙ extended-append games seen (positions_before g) (g ∷ [])
+    ∙ one_more-new games (extended seen (positions_before g)) g (λ m. elim (extended-among games seen (positions_before g) g m) [
       | inl n ↦ out n
       | inr n ↦ (let d = positions_before-depth g g n in absurd (omega arith))
     ])
@@ -241,4 +242,4 @@ closed_more seen g closed before h m k n = elim (among-append h seen (g ∷ []) 
 
 -- a closed list that has a game has its positions
 pub closed_there : (seen : List Game) (g : Game) → IsClosed seen → Among g seen → extended seen (all_positions g) ≡ seen
-closed_there seen g closed m = extended-there seen (all_positions g) (closed g m)
+closed_there seen g closed m = extended-there games seen (all_positions g) (closed g m)

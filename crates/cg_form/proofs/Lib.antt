@@ -1,3 +1,4 @@
+pub mod Firsts
 pub mod Among
 pub mod Size
 pub mod Order
@@ -39,7 +40,6 @@ pub mod Temperature
 pub mod Thermal
 pub mod FormLists
 pub mod Depth
-pub mod Extended
 pub mod Once
 pub mod AllPositions
 pub mod CutSteps

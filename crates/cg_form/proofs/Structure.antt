@@ -9,6 +9,7 @@ use Rattle.cg_dyadic.proofs.Values.{less-le, number_le-trans}
 use Rattle.cg_form.specs.Game.{Among, Game, Games, more, none, number, options}
 use Rattle.cg_form.specs.Order.{le}
 use Rattle.cg_form.specs.Structure.{Before, Rises, and_then, game_cmp, is_equal, is_same, list_cmp}
+use Rattle.cg_form.proofs.Firsts.{Test}
 
 less_equal : Less ≡ Equal → ⊥
 less_equal e = cc
@@ -232,3 +233,7 @@ is_same-refl g = ap is_equal (game_cmp-refl g)
 
 pub is_same-both : (g h : Game) → (is_same g h ≡ true → g ≡ h) × (g ≡ h → is_same g h ≡ true)
 is_same-both g h = (is_same-back g h, λ e. subst (λ k. is_same g k ≡ true) e (is_same-refl g))
+
+-- the test of whether two games are one
+abbrev pub games : Test Game
+games = record { same = is_same; back = is_same-back; own = is_same-refl }

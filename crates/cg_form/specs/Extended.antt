@@ -1,22 +1,14 @@
 -- Lists of games that others are put behind, each only where it comes first, and lists that have the positions of each
 -- of their games.
 use Rattle.std.specs.Prelude.{◌||◌, Bool, false, if◌then◌else◌, List, [], ◌∷◌, ◌++◌}
+use Rattle.cg_form.specs.Firsts as firsts
 use Rattle.cg_form.specs.Game.{Among, Game, number, options}
 use Rattle.cg_form.specs.Positions.{all_positions, positions_in}
 use Rattle.cg_form.specs.Structure.{is_same}
 
--- the game is in the list
-abbrev pub is_among : List Game → Game → Bool
-is_among [] h = false
-is_among (g ∷ gs) h = is_same g h || is_among gs h
-
-abbrev pub one_more : List Game → Game → List Game
-one_more seen g = if is_among seen g then seen else seen ++ (g ∷ [])
-
 -- the games of the second list behind the first list, each only where it comes first
 abbrev pub extended : List Game → List Game → List Game
-extended seen [] = seen
-extended seen (g ∷ gs) = extended (one_more seen g) gs
+extended seen gs = firsts.extended is_same seen gs
 
 -- the positions of the options of a game that isn't a number, which come before the game itself
 abbrev pub positions_before : Game → List Game

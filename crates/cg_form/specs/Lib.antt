@@ -1,4 +1,5 @@
 -- the textbook, which is to be believed: games, their order, sums and play
+pub mod Firsts
 pub mod Game
 pub mod Order
 pub mod Sum

@@ -1,17 +1,17 @@
 -- The positions of a game: of a number itself alone, and of another game those of each Left option in order, those of each
 -- Right option in order, then the game itself, each only where it comes first.
 use Rattle.std.specs.Prelude.{not, filter, List, [], ◌∷◌, ◌++◌}
+use Rattle.cg_form.specs.Firsts as firsts
 use Rattle.cg_form.specs.Game.{Among, Game, Games, number, options, none, more}
 use Rattle.cg_form.specs.Structure.{is_same}
 
 -- the games without those that are the first
 abbrev pub without : Game → List Game → List Game
-without g hs = filter (λ h. not (is_same g h)) hs
+without g hs = firsts.without is_same g hs
 
 -- each game only where it comes first
 abbrev pub once : List Game → List Game
-once [] = []
-once (g ∷ gs) = g ∷ without g (once gs)
+once gs = firsts.once is_same gs
 
 -- the positions, as often as play can come to them
 abbrev mutual
@@ -28,5 +28,4 @@ positions_of g = once (all_positions g)
 
 -- no game is in the list twice
 abbrev pub EachOnce : List Game → Type 0
-EachOnce [] = Unit {0}
-EachOnce (g ∷ gs) = (¬ Among g gs) × EachOnce gs
+EachOnce gs = firsts.EachOnce gs

@@ -82,40 +82,37 @@ fn add(links: &mut Vec<Link>, chains: &mut [usize], number: u32) -> Result<(), A
     Ok(())
 }
 
-/// The entries in so many chains.
-fn in_chains(
-    alloc: Global,
-    links: &[Link],
-    size: usize,
-) -> Result<(Vec<Link>, Vec<usize>), AllocError>
-    requires { 0 < size }
-    ensures linked { IfOk result (λ t. AreLinked t.0.items t.1.items) }
-    ensures some { IfOk result (λ t. 0 < length t.1.items) }
-    ensures same { IfOk result (λ t. numbers t.0.items ≡ numbers links.now) }
+/// Puts the entries into chains that have none.
+fn put_all(links: &mut [Link], chains: &mut [usize])
+    requires some { 0 < length chains.old }
+    requires none { AreLinked [] chains.old }
+    ensures linked { AreLinked links.new chains.new }
+    ensures chains { length chains.new ≡ length chains.old }
+    ensures same { numbers links.new ≡ numbers links.old }
 {
-    let mut all = Vec::with_capacity(alloc, links.len())?;
-    let mut chains = vec![in alloc; 0; size]?;
-    for link in links {
-        add(&mut all, &mut chains, link.number)?;
+    for entry in 0..links.len() {
+        let number = links[entry].number;
+        let chain = chain_of(number, chains.len());
+        let before = chains[chain];
+        links[entry] = Link { number, before };
+        chains[chain] = entry + 1;
     }
-    Ok((all, chains))
 }
 
 /// Puts the entries into at least so many chains, and some.
 fn spread(
     alloc: Global,
-    links: &mut Vec<Link>,
+    links: &mut [Link],
     chains: &mut Vec<usize>,
     least: usize,
 ) -> Result<(), AllocError>
-    requires { AreLinked links.old.items chains.old.items }
-    ensures linked { AreLinked links.new.items chains.new.items }
-    ensures same { numbers links.new.items ≡ numbers links.old.items }
+    requires { AreLinked links.old chains.old.items }
+    ensures linked { AreLinked links.new chains.new.items }
+    ensures same { numbers links.new ≡ numbers links.old }
     ensures some { IfOk result (λ _. 0 < length chains.new.items) }
 {
-    let size = size_for(least, chains.len());
-    let (all, heads) = in_chains(alloc, links, size)?;
-    *links = all;
+    let mut heads = vec![in alloc; 0; size_for(least, chains.len())]?;
+    put_all(links, &mut heads);
     *chains = heads;
     Ok(())
 }

@@ -8,7 +8,8 @@ use Rattle.cg_moves.specs.Rules.{GameRules, In, boards_after, followers}
 use Rattle.cg_moves.specs.Lawful.{AreMoves}
 use Rattle.cg_moves.specs.Raw.{IsTreeOfMoves, raw, raw_within}
 use Rattle.cg_moves.specs.Reach.{IsListOfReached, all_reached, reached_within}
-use Rattle.cg_moves.proofs.Members.{flat_map-agree, in-append, in-map, map-agree}
+use Rattle.cg_form.proofs.Firsts.{in-append}
+use Rattle.cg_moves.proofs.Members.{flat_map-agree, in-map, map-agree}
 
 module _ (r : GameRules) (moves : AreMoves r) where
   -- a board that a move leads to is one of the game, with a lower measure

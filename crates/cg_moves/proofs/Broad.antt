@@ -16,9 +16,10 @@ use Rattle.cg_moves.specs.Walks.{AreStarts}
 use Rattle.cg_moves.proofs.Carried.{ok_is}
 use Rattle.cg_moves.proofs.ComesAfter.{reached-has, reached-next, reached-symbols, start-reached}
 use Rattle.cg_moves.proofs.FollowLemmas.{alike-less}
-use Rattle.cg_moves.proofs.KeptLemmas.{kept-among, kept-append, kept-has, kept-longer, one_more-among}
+use Rattle.cg_form.proofs.Firsts.{extended-among, extended-append, extended-has, extended-longer, in-append, in-append_left, in-append_right, one_more-among}
+use Rattle.cg_moves.proofs.Same.{boards}
 use Rattle.cg_moves.proofs.KeptOnce.{kept-fewer_kept}
-use Rattle.cg_moves.proofs.Members.{carry, in-append, in-append_left, in-append_right, in_equal, in_one}
+use Rattle.cg_moves.proofs.Members.{carry, in_equal, in_one}
 use Rattle.cg_moves.proofs.OnWay.{next-parts}
 
 in-reverse : (qs : List Grid) (q : Grid) → In q (reverse qs) → In q qs
@@ -60,7 +61,7 @@ module _ (found : List Grid) (tasks rest : List Task) (t : Task) (popped : tasks
   find-alike_more new e h p q m n =
       let go : (y : Grid) → In y (new ++ map board_of rest) → In y (found ++ map board_of tasks) = λ y k.
       elim (in-append y new (map board_of rest) k) [
-        | inl o ↦ elim (one_more-among found b y (carry y new (one_more found b) e o)) [
+        | inl o ↦ elim (one_more-among boards found b y (carry y new (one_more found b) e o)) [
           | inl there ↦ in-append_left y found (map board_of tasks) there
           | inr same ↦ in-append_right y found (map board_of tasks) (in_equal y b (map board_of tasks) same here)
         ]
@@ -70,7 +71,7 @@ module _ (found : List Grid) (tasks rest : List Task) (t : Task) (popped : tasks
 
   pub find-refused : (limit : ℕ) → limit < length (one_more found b) → limit < length (kept found (reverse (map board_of tasks)))
   find-refused limit many =
-      let l = kept-longer (one_more found b) (reverse (map board_of rest)) in
+      let l = extended-longer boards (one_more found b) (reverse (map board_of rest)) in
       let e = ap length find-next in
       omega arith
 
@@ -86,13 +87,13 @@ module _ (w : Way) where
 
   module _ (found : List Grid) (x : AreFound w found) where
     pub found-among : Among found
-    found-among p m = elim (kept-among [] x.source p (carry p found (kept [] x.source) x.is m)) [
+    found-among p m = elim (extended-among boards [] x.source p (carry p found (kept [] x.source) x.is m)) [
       | inl nothing ↦ absurd nothing
       | inr one ↦ x.among p one
     ]
 
     pub found-alone : AreAlone (parts w) (reached w) → AreAlone (parts w) found
-    found-alone h p m = h p (kept-has [] (flat_map (play w).all w.starts) p (found-among p m))
+    found-alone h p m = h p (extended-has boards [] (flat_map (play w).all w.starts) p (found-among p m))
 
     both-among : (qs : List Grid) → Among qs → Among (x.source ++ qs)
     both-among qs h q m = elim (in-append q x.source qs m) [ inl o ↦ x.among q o | inr o ↦ h q o ]
@@ -100,13 +101,13 @@ module _ (w : Way) where
     pub found-more : (qs new : List Grid) → Among qs → new ≡ kept found qs → AreFound w new
     found-more qs new h e = record {
       source = x.source ++ qs;
-      is = e ∙ ap (λ z. kept z qs) x.is ∙ sym (kept-append [] x.source qs);
+      is = e ∙ ap (λ z. kept z qs) x.is ∙ sym (extended-append boards [] x.source qs);
       among = both-among qs h;
     }
 
     pub found-refused : (qs : List Grid) → Among qs → (limit : ℕ) → limit < length (kept found qs) → limit < length (reached w)
     found-refused qs h limit many =
-        let a = ap length (ap (λ z. kept z qs) x.is ∙ sym (kept-append [] x.source qs)) in
+        let a = ap length (ap (λ z. kept z qs) x.is ∙ sym (extended-append boards [] x.source qs)) in
         let b = kept-fewer_kept (x.source ++ qs) (flat_map (play w).all w.starts) (both-among qs h) in
         omega arith
 

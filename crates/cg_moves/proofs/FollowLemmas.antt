@@ -12,7 +12,8 @@ use Rattle.cg_moves.specs.declared.task.Task.TheVariants.{Enter}
 use Rattle.cg_moves.specs.Found.{AreAlike}
 use Rattle.cg_moves.specs.Grid.{Grid}
 use Rattle.cg_moves.specs.Rules.{GameRules, In, boards_after, followers}
-use Rattle.cg_moves.proofs.Members.{carry, in-append, in-append_left, in-append_right}
+use Rattle.cg_form.proofs.Firsts.{in-append, in-append_left, in-append_right}
+use Rattle.cg_moves.proofs.Members.{carry}
 
 -- fewer boards that are alike
 pub alike-less : (old some all : List Grid) → AreAlike (old ++ all) → ((q : Grid) → In q some → In q all) → AreAlike (old ++ some)

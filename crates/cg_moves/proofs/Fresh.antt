@@ -5,7 +5,8 @@ use Rattle.cg_moves.specs.Grid.{Grid}
 use Rattle.cg_moves.specs.Plays.{IsPlay, Play}
 use Rattle.cg_moves.specs.Rules.{In}
 use Rattle.cg_moves.specs.Walks.{AreOpen, Enters, Leaves, Visit, entered, visit_board}
-use Rattle.cg_moves.proofs.Members.{in-append, in-append_left, in-append_right, in_one}
+use Rattle.cg_form.proofs.Firsts.{in-append, in-append_left, in-append_right}
+use Rattle.cg_moves.proofs.Members.{in_one}
 
 module _ (r : Play) where
   pub open-front : (seen : List Grid) (ts us : List Visit) → AreOpen r seen (ts ++ us) → AreOpen r seen ts

@@ -8,7 +8,8 @@ use Rattle.std.proofs.lemmas.Map.Made.{length-le_from_is_member}
 use Rattle.cg_moves.specs.Grid.{Grid, is_same}
 use Rattle.cg_moves.specs.Kept.{kept, one_more}
 use Rattle.cg_moves.specs.Rules.{In}
-use Rattle.cg_moves.proofs.KeptLemmas.{in_or_not, kept-among, kept-has, one_more-new, one_more-there}
+use Rattle.cg_form.proofs.Firsts.{extended-among, extended-has, in_or_not, one_more-new, one_more-there}
+use Rattle.cg_moves.proofs.Same.{boards}
 use Rattle.cg_moves.proofs.Same.{is_same-back, is_same-refl}
 
 -- ---- how many there are
@@ -45,9 +46,9 @@ kept-distinct : (seen xs : List Grid) → IsDistinct is_same seen → IsDistinct
 kept-distinct seen [] d = d
 kept-distinct seen (x ∷ xs) d =
     let P : List Grid → Type 0 = λ z. IsDistinct is_same z in
-    kept-distinct (one_more seen x) xs (elim (in_or_not seen x) [
-      | inl there ↦ subst P (sym (one_more-there seen x there)) d
-      | inr out ↦ subst P (sym (one_more-new seen x out)) (IsDistinct-push same_laws seen x d
+    kept-distinct (one_more seen x) xs (elim (in_or_not boards seen x) [
+      | inl there ↦ subst P (sym (one_more-there boards seen x there)) d
+      | inr out ↦ subst P (sym (one_more-new boards seen x out)) (IsDistinct-push same_laws seen x d
           (⊎_elim (λ t. absurd (out (member-in x seen t))) (λ f. f) (cases_Bool (list_any (is_same x) seen))))
     ])
 
@@ -58,7 +59,7 @@ kept-fewer xs ys among = length-le_from_is_member same_laws (kept [] xs) ys (kep
     (λ q t. in-member q ys (among q (member-in q (kept [] xs) t)))
 
 pub kept-fewer_kept : (xs ys : List Grid) → ((q : Grid) → In q xs → In q ys) → length (kept [] xs) ≤ length (kept [] ys)
-kept-fewer_kept xs ys among = kept-fewer xs (kept [] ys) (λ q m. elim (kept-among [] xs q m) [
+kept-fewer_kept xs ys among = kept-fewer xs (kept [] ys) (λ q m. elim (extended-among boards [] xs q m) [
   | inl nothing ↦ absurd nothing
-  | inr one ↦ kept-has [] ys q (among q one)
+  | inr one ↦ extended-has boards [] ys q (among q one)
 ])

@@ -16,7 +16,8 @@ use Rattle.cg_moves.specs.Rules.{In, followers}
 use Rattle.cg_moves.specs.Walking.{IsOnWay, IsWalking, Leads, Way, parts, play, reached, visit}
 use Rattle.cg_moves.specs.Walks.{AreOpen, GoesOn, Leaves, Visit, boards_left, load}
 use Rattle.cg_moves.proofs.Fresh.{open-last, open-seen}
-use Rattle.cg_moves.proofs.KeptLemmas.{kept-longer, one_more-new}
+use Rattle.cg_form.proofs.Firsts.{extended-longer, one_more-new}
+use Rattle.cg_moves.proofs.Same.{boards}
 use Rattle.cg_moves.proofs.Leading.{leads-last}
 use Rattle.cg_moves.proofs.Listed.{next-append, nexts-more}
 use Rattle.cg_moves.proofs.OnWay.{entered-back, entered-front, next-parts, visits, walk-last}
@@ -82,14 +83,14 @@ module _ (w : Way) (lawful : IsPlay (play w)) (s : Seen) (tasks : List Task) (e 
   module _ (more : List Grid) (is : more ≡ s.boards ++ (e.board ∷ [])) where
     goes : GoesOn (play w) s.boards more (map visit tasks ++ (Leaves e.board ∷ [])) (map visit tasks)
     goes = leave (play w) lawful s.boards (map visit tasks) e.board more
-        (walk-last w lawful s tasks (Leave e) x) (is ∙ sym (one_more-new s.boards e.board left-new))
+        (walk-last w lawful s tasks (Leave e) x) (is ∙ sym (one_more-new boards s.boards e.board left-new))
 
     left-rest : kept more (boards_left (play w) (map visit tasks)) ≡ reached w
     left-rest = goes.rest ∙ ap (λ z. kept s.boards (boards_left (play w) z)) (sym visits_here) ∙ x.rest
 
     pub left-refused : (limit : ℕ) → limit < length s.boards + 1 → limit < length (reached w)
     left-refused limit many =
-        let l = kept-longer more (boards_left (play w) (map visit tasks)) in
+        let l = extended-longer boards more (boards_left (play w) (map visit tasks)) in
         let all = ap length left-rest in
         let one = ap length is ∙ length-append s.boards (e.board ∷ []) in
         omega arith

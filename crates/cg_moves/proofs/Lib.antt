@@ -1,7 +1,6 @@
 pub mod Members
 pub mod GridFacts
 pub mod Same
-pub mod KeptLemmas
 pub mod Bounds
 pub mod PlaceLemmas
 pub mod SeenLemmas

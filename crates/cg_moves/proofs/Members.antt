@@ -2,6 +2,7 @@
 use Rattle.std.proofs.Common.{◌≡◌, refl, zero, suc, ◌⊎◌, inl, inr, ap, ◌∙◌, subst, sym, List, [], ◌∷◌, ◌++◌, map, arith}
 use Rattle.std.specs.Prelude.{All}
 use Rattle.std.specs.List.{flat_map}
+use Rattle.cg_form.proofs.Firsts.{in-append, in-append_left, in-append_right}
 use Rattle.cg_moves.specs.Rules.{In}
 
 module _ {X : Type 0} where
@@ -11,20 +12,6 @@ module _ {X : Type 0} where
 
   pub in_equal : (x y : X) (xs : List X) → x ≡ y → In y xs → In x xs
   in_equal x y xs e m = let P : X → Type 0 = λ z. In z xs in subst P (sym e) m
-
-  pub in-append_left : (x : X) (xs ys : List X) → In x xs → In x (xs ++ ys)
-  in-append_left x [] ys m = absurd m
-  in-append_left x (z ∷ xs) ys (inl e) = inl e
-  in-append_left x (z ∷ xs) ys (inr m) = inr (in-append_left x xs ys m)
-
-  pub in-append_right : (x : X) (xs ys : List X) → In x ys → In x (xs ++ ys)
-  in-append_right x [] ys m = m
-  in-append_right x (z ∷ xs) ys m = inr (in-append_right x xs ys m)
-
-  pub in-append : (x : X) (xs ys : List X) → In x (xs ++ ys) → In x xs ⊎ In x ys
-  in-append x [] ys m = inr m
-  in-append x (z ∷ xs) ys (inl e) = inl (inl e)
-  in-append x (z ∷ xs) ys (inr m) = elim (in-append x xs ys m) [ inl k ↦ inl (inr k) | inr k ↦ inr k ]
 
   pub in_one : (x y : X) → In x (y ∷ []) → x ≡ y
   in_one x y (inl e) = e

@@ -21,10 +21,11 @@ use Rattle.cg_moves.specs.Walks.{AreOpen, AreStarts, Enters, IsWalk, Leaves, Vis
 use Rattle.cg_moves.proofs.Bounds.{follower-has}
 use Rattle.cg_moves.proofs.ComesAfter.{own-all, reached-symbols}
 use Rattle.cg_moves.proofs.Fresh.{open-entered}
-use Rattle.cg_moves.proofs.KeptLemmas.{kept-among, kept-has, kept-keeps}
+use Rattle.cg_form.proofs.Firsts.{extended-among, extended-has, extended-keeps, in-append, in-append_left}
+use Rattle.cg_moves.proofs.Same.{boards}
 use Rattle.cg_moves.proofs.Leading.{leads-entered}
 use Rattle.cg_moves.proofs.Listed.{counted-more}
-use Rattle.cg_moves.proofs.Members.{carry, in-append, in-append_left, in-flat_map, in_one}
+use Rattle.cg_moves.proofs.Members.{carry, in-flat_map, in_one}
 use Rattle.cg_moves.proofs.PlayLemmas.{part-alone, plays}
 use Rattle.cg_moves.proofs.TaskLemmas.{boards_left-append, boards_left-entered, known-back, known-entered, ready-entered}
 
@@ -61,7 +62,7 @@ module _ (r : GameRules) (lawful : IsLawful r) (course : Course) (may : MayGo r 
 
   pub reached-alone : (starts : List Grid) → AreStarts (play_of r course) starts → AreAlone (parts_of r course) starts
       → AreAlone (parts_of r course) (kept [] (flat_map (play_of r course).all starts))
-  reached-alone starts h own q m = elim (kept-among [] (flat_map (play_of r course).all starts) q m) [
+  reached-alone starts h own q m = elim (extended-among boards [] (flat_map (play_of r course).all starts) q m) [
     | inl nothing ↦ absurd nothing
     | inr one ↦ (let (s, k, i) = in-flat_map (play_of r course).all q starts one in
         all-alone (suc (r.measure s)) s q (h.known s k).1 (omega arith) (own s k) i)
@@ -123,18 +124,18 @@ module _ (w : Way) (lawful : IsPlay (play w)) (s : Seen) (tasks : List Task) (t 
   has-last = (known-back (play w) (map visit tasks) (visit t ∷ []) walk-last.known).0
 
   in-reached : (p : Grid) → In p (kept s.boards (boards_left (play w) (map visit (tasks ++ (t ∷ []))))) → In p (flat_map (play w).all w.starts)
-  in-reached p m = elim (kept-among [] (flat_map (play w).all w.starts) p (carry p _ _ x.rest m)) [
+  in-reached p m = elim (extended-among boards [] (flat_map (play w).all w.starts) p (carry p _ _ x.rest m)) [
     | inl nothing ↦ absurd nothing
     | inr one ↦ one
   ]
 
   pub seen-reached : (p : Grid) → In p s.boards → In p (flat_map (play w).all w.starts)
-  seen-reached p m = in-reached p (kept-keeps s.boards (boards_left (play w) (map visit (tasks ++ (t ∷ [])))) p m)
+  seen-reached p m = in-reached p (extended-keeps boards s.boards (boards_left (play w) (map visit (tasks ++ (t ∷ [])))) p m)
 
   last-reached : In (board_of t) (flat_map (play w).all w.starts)
   last-reached =
       let p = board_of t in
-      in-reached p (kept-has s.boards (boards_left (play w) (map visit (tasks ++ (t ∷ [])))) p
+      in-reached p (extended-has boards s.boards (boards_left (play w) (map visit (tasks ++ (t ∷ [])))) p
       (carry p (visit_boards (play w) (visit t) ++ boards_left (play w) (map visit tasks))
       (boards_left (play w) (map visit (tasks ++ (t ∷ []))))
       (sym (ap (boards_left (play w)) visits ∙ boards_left-append (play w) (map visit tasks) (visit t ∷ [])))
@@ -143,7 +144,7 @@ module _ (w : Way) (lawful : IsPlay (play w)) (s : Seen) (tasks : List Task) (t 
 
   pub seen-alone : AreAlone (λ p. parts_of w.game w.course p) (kept [] (flat_map (play w).all w.starts))
       → AreAlone (λ p. parts_of w.game w.course p) s.boards
-  seen-alone h p m = h p (kept-has [] (flat_map (play w).all w.starts) p (seen-reached p m))
+  seen-alone h p m = h p (extended-has boards [] (flat_map (play w).all w.starts) p (seen-reached p m))
 
   -- boards with the symbols of the last task's
   pub alike-last : (h : AreStarts (play w) w.starts) (qs : List Grid)

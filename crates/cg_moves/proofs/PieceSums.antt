@@ -11,7 +11,7 @@ use Rattle.cg_moves.specs.CutByMoves.{IsCutByMoves, MovesAlike}
 use Rattle.cg_moves.specs.Lawful.{AreMoves, IsCut}
 use Rattle.cg_moves.specs.Raw.{IsSumOfPieces, raw}
 use Rattle.cg_moves.specs.Total.{total}
-use Rattle.cg_moves.proofs.Members.{in-append_right}
+use Rattle.cg_form.proofs.Firsts.{in-append_right}
 use Rattle.cg_moves.proofs.RawOptions.{option_raw, raw_option}
 use Rattle.cg_moves.proofs.Totals.{equal_back, equal_of, map-append, options_of, total-cases, total-in_place, total-option, total-reordered}
 

@@ -16,8 +16,9 @@ use Rattle.cg_moves.specs.Reach.{all_reached, reach_of}
 use Rattle.cg_moves.specs.Rules.{GameRules, In, boards_after, followers, pieces}
 use Rattle.cg_moves.specs.Walks.{AreStarts}
 use Rattle.cg_moves.proofs.Bounds.{follower-has, follower-lowers, reached-moves}
-use Rattle.cg_moves.proofs.KeptLemmas.{once-kept}
-use Rattle.cg_moves.proofs.Members.{flat_map-agree, in-append, in-flat_map, in-map, in_one}
+use Rattle.cg_form.proofs.Firsts.{in-append, once-extended}
+use Rattle.cg_moves.proofs.Same.{boards}
+use Rattle.cg_moves.proofs.Members.{flat_map-agree, in-flat_map, in-map, in_one}
 use Rattle.cg_moves.proofs.PieceBounds.{piece_reached-moves}
 
 module _ {X Y : Type 0} where
@@ -91,7 +92,7 @@ module _ (r : GameRules) (lawful : IsLawful r) where
     pub piece_reach-kept : (p : Grid) → r.has p ≡ true
         → piece_reach_of r p ≡ kept [] (flat_map (play_of r Pieces).all (pieces r p))
     unfolding piece_reach_of
-    piece_reach-kept p has = once-kept (all_piece_reached r p) ∙ ap (kept []) (piece_reached-moves r lawful.moves each p has)
+    piece_reach-kept p has = once-extended boards (all_piece_reached r p) ∙ ap (kept []) (piece_reached-moves r lawful.moves each p has)
 
     pub piece_reach-all : (p : Grid) (starts : List Grid) → r.has p ≡ true → starts ≡ pieces r p
         → piece_reach_of r p ≡ kept [] (flat_map (play_of r Pieces).all starts)
@@ -115,5 +116,5 @@ module _ (r : GameRules) (lawful : IsLawful r) where
       → reach_of r p ≡ kept [] (flat_map (play_of r Moves).all starts)
   unfolding reach_of
   reach-kept_all p starts e =
-      once-kept (all_reached r p)
+      once-extended boards (all_reached r p)
       ∙ ap (kept []) (sym (ap (flat_map (all_reached r)) e ∙ append-nil (all_reached r p)))

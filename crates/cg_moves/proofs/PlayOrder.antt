@@ -6,8 +6,9 @@ use Rattle.cg_moves.specs.Kept.{kept}
 use Rattle.cg_moves.specs.Plays.{IsPlay, Play}
 use Rattle.cg_moves.specs.Rules.{In}
 use Rattle.cg_moves.specs.Walks.{AreStarts}
-use Rattle.cg_moves.proofs.KeptLemmas.{kept-among}
-use Rattle.cg_moves.proofs.Members.{carry, in-append, in-flat_map, in_one}
+use Rattle.cg_form.proofs.Firsts.{extended-among, in-append}
+use Rattle.cg_moves.proofs.Same.{boards}
+use Rattle.cg_moves.proofs.Members.{carry, in-flat_map, in_one}
 
 module _ (w : Play) (lawful : IsPlay w) where
   -- what holds of a board, and with each board of those that its moves lead to, holds of all that play can come to
@@ -29,7 +30,7 @@ module _ (w : Play) (lawful : IsPlay w) where
   seen_all starts = kept [] (flat_map w.all starts)
 
   seen-from : (starts : List Grid) (q : Grid) → In q (seen_all starts) → (p : Grid) × In p starts × In q (w.all p)
-  seen-from starts q m = elim (kept-among [] (flat_map w.all starts) q m) [
+  seen-from starts q m = elim (extended-among boards [] (flat_map w.all starts) q m) [
     | inl nothing ↦ absurd nothing
     | inr n ↦ in-flat_map w.all q starts n
   ]

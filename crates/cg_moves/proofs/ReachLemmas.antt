@@ -9,7 +9,8 @@ use Rattle.cg_moves.specs.Kept.{kept}
 use Rattle.cg_moves.specs.Plays.{Play, play_of}
 use Rattle.cg_moves.specs.Reach.{all_reached, reach_of}
 use Rattle.cg_moves.proofs.Bounds.{follower-has, follower-lowers, reached-moves}
-use Rattle.cg_moves.proofs.KeptLemmas.{kept-among, kept-append, once-kept, one_more-new}
+use Rattle.cg_form.proofs.Firsts.{extended-among, extended-append, once-extended, one_more-new}
+use Rattle.cg_moves.proofs.Same.{boards}
 use Rattle.cg_moves.proofs.Members.{carry, in-flat_map}
 use Rattle.cg_moves.proofs.PlayLemmas.{by-moves}
 use Rattle.cg_moves.proofs.PlayOrder.{all-each}
@@ -17,7 +18,7 @@ use Rattle.cg_moves.proofs.PlayOrder.{all-each}
 module _ (r : GameRules) where
   pub reach-kept : (p : Grid) → reach_of r p ≡ kept [] (all_reached r p)
   unfolding reach_of
-  reach-kept p = once-kept (all_reached r p)
+  reach-kept p = once-extended boards (all_reached r p)
 
   module _ (lawful : IsLawful r) where
     abbrev w : Play
@@ -32,7 +33,7 @@ module _ (r : GameRules) where
     -- ---- the boards that play can come to, each once
 
     in-reach : (p q : Grid) → In q (reach_of r p) → In q (all_reached r p)
-    in-reach p q m = elim (kept-among [] (all_reached r p) q (carry q (reach_of r p) (kept [] (all_reached r p))
+    in-reach p q m = elim (extended-among boards [] (all_reached r p) q (carry q (reach_of r p) (kept [] (all_reached r p))
         (reach-kept p) m)) [
           | inl nothing ↦ absurd nothing
           | inr n ↦ n
@@ -59,8 +60,8 @@ module _ (r : GameRules) where
         → reach_of r p ≡ kept [] (flat_map (all_reached r) (followers r p)) ++ (p ∷ [])
     reach-last p has =
         let before = flat_map (all_reached r) (followers r p) in
-        reach-kept p ∙ ap (kept []) (reached-moves r lawful.moves p has) ∙ kept-append [] before (p ∷ [])
-        ∙ one_more-new (kept [] before) p (λ m. elim (kept-among [] before p m) [
+        reach-kept p ∙ ap (kept []) (reached-moves r lawful.moves p has) ∙ extended-append boards [] before (p ∷ [])
+        ∙ one_more-new boards (kept [] before) p (λ m. elim (extended-among boards [] before p m) [
           | inl nothing ↦ nothing
           | inr n ↦ (let low = before-lower p p has n in absurd (omega arith))
         ])

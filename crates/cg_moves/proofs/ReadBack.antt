@@ -12,7 +12,8 @@ use Rattle.cg_moves.specs.Grid.{AreCells, Grid, IsGrid, all_distinct, is_symbol}
 use Rattle.cg_moves.specs.Rules.{In}
 use Rattle.cg_moves.specs.Texts.{ReadsBack, bar, behind_bars, cells_of, cut, first_row, in_front, in_rows, is_foreign, joined, next_place, ragged, read_of, refused_at, rows_of, text_of}
 use Rattle.cg_moves.proofs.ConnectedLemmas.{or-first, or-second}
-use Rattle.cg_moves.proofs.Members.{all_from, carry, in-append, in-append_left, in-append_right, in_flat_mapped, in_one}
+use Rattle.cg_form.proofs.Firsts.{in-append, in-append_left, in-append_right}
+use Rattle.cg_moves.proofs.Members.{all_from, carry, in_flat_mapped, in_one}
 use Rattle.cg_moves.proofs.Same.{and-true, both-true}
 use Rattle.cg_moves.proofs.TextLemmas.{cut-bar, cut-front}
 

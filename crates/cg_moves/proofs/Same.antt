@@ -3,6 +3,7 @@ use Rattle.std.proofs.Common.{◌≡◌, refl, ℕ, ◌==◌, ◌&&◌, Bool, tr
 use Rattle.std.specs.Str.{bytes_eq}
 use Rattle.std.specs.Cmp.Lexicographic.{bytes_decides}
 use Rattle.std.proofs.lemmas.Bool.{eqb-true, eq-eqb}
+use Rattle.cg_form.proofs.Firsts.{Test}
 use Rattle.cg_moves.specs.Grid.{Grid, is_same}
 
 pub and-true : (a b : Bool) → (a && b) ≡ true → (a ≡ true) × (b ≡ true)
@@ -35,3 +36,7 @@ is_same-refl p =
     (both-true ((p.rows == p.rows) && (p.columns == p.columns)) (bytes_eq p.symbols p.symbols)
     (both-true (p.rows == p.rows) (p.columns == p.columns) (eq-eqb p.rows p.rows refl) (eq-eqb p.columns p.columns refl))
     (bytes_eq-refl p.symbols)) (bytes_eq-refl p.cells)
+
+-- the test of whether two boards are one
+abbrev pub boards : Test Grid
+boards = record { same = is_same; back = is_same-back; own = is_same-refl }

@@ -9,7 +9,8 @@ use Rattle.cg_moves.specs.Opened.{IsAt}
 use Rattle.cg_moves.specs.Rules.{In}
 use Rattle.cg_moves.specs.Seen.{AreGrids, key_number, key_of}
 use Rattle.cg_moves.proofs.KeyLemmas.{one-key}
-use Rattle.cg_moves.proofs.Members.{in-append, in-append_left, in-append_right, in_one}
+use Rattle.cg_form.proofs.Firsts.{in-append, in-append_left, in-append_right}
+use Rattle.cg_moves.proofs.Members.{in_one}
 use Rattle.cg_moves.proofs.PlaceLemmas.{in-at}
 
 -- ---- keys at places

@@ -6,7 +6,8 @@ use Rattle.cg_moves.specs.Grid.{Grid}
 use Rattle.cg_moves.specs.Plays.{Play}
 use Rattle.cg_moves.specs.Rules.{In}
 use Rattle.cg_moves.specs.Walks.{AreKnown, AreReady, Visit, Enters, Leaves, boards_left, entered, load, visit_boards}
-use Rattle.cg_moves.proofs.Members.{carry, in-append, in-append_left, in-append_right}
+use Rattle.cg_form.proofs.Firsts.{in-append, in-append_left, in-append_right}
+use Rattle.cg_moves.proofs.Members.{carry}
 
 module _ (r : Play) where
   -- ---- what is left to see

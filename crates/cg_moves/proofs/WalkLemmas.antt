@@ -8,8 +8,9 @@ use Rattle.cg_moves.specs.Plays.{IsPlay, Play}
 use Rattle.cg_moves.specs.Rules.{In}
 use Rattle.cg_moves.specs.Walks.{AreReady, GoesOn, IsWalk, Visit, Enters, Leaves, boards_left, entered}
 use Rattle.cg_moves.proofs.TaskLemmas.{boards_left-append, boards_left-entered, known-append, known-back, known-entered, known-front, load-append, load-entered, ready-change, ready-entered, ready-last}
-use Rattle.cg_moves.proofs.KeptLemmas.{kept-append, kept-there, one_more-among, one_more-has, one_more-keeps}
-use Rattle.cg_moves.proofs.Members.{carry, in-append, in_one}
+use Rattle.cg_form.proofs.Firsts.{extended-append, extended-there, in-append, one_more-among, one_more-has, one_more-keeps}
+use Rattle.cg_moves.proofs.Same.{boards}
+use Rattle.cg_moves.proofs.Members.{carry, in_one}
 
 module _ (r : Play) where
   module _ (lawful : IsPlay r) (seen : List Grid) (tasks : List Visit) (p : Grid) where
@@ -33,8 +34,8 @@ module _ (r : Play) where
                 (λ q k. inl (w.closed p m q k)) w.ready tt);
           };
           rest = sym (ap (λ z. kept seen z) (boards_left-append r tasks (Enters p ∷ []))
-              ∙ kept-append seen (r.all p) (boards_left r tasks)
-              ∙ ap (λ z. kept z (boards_left r tasks)) (kept-there seen (r.all p) (λ k n. w.closed p m k n)));
+              ∙ extended-append boards seen (r.all p) (boards_left r tasks)
+              ∙ ap (λ z. kept z (boards_left r tasks)) (extended-there boards seen (r.all p) (λ k n. w.closed p m k n)));
           less = omega arith;
         }
 
@@ -89,13 +90,13 @@ module _ (r : Play) where
         let l = load-append r tasks (Leaves p ∷ []) in
         let P : List Visit → Type 0 = λ z. AreReady r more z in
         let has_more : (q : Grid) → In q seen → In q more = λ q m.
-        carry q (one_more seen p) more (sym e) (one_more-keeps seen p q m) in
-        let own : In p more = carry p (one_more seen p) more (sym e) (one_more-has seen p) in
+        carry q (one_more seen p) more (sym e) (one_more-keeps boards seen p q m) in
+        let own : In p more = carry p (one_more seen p) more (sym e) (one_more-has boards seen p) in
         let D : Grid → Type 0 = λ z. In z more in
         record {
           walk = record {
             known = known-front r tasks (Leaves p ∷ []) w.known;
-            closed = λ q m k n. elim (one_more-among seen p q (carry q more (one_more seen p) e m)) [
+            closed = λ q m k n. elim (one_more-among boards seen p q (carry q more (one_more seen p) e m)) [
               | inl there ↦ has_more k (w.closed q there k n)
               | inr same ↦ (let H : Grid → Type 0 = λ z. In k (r.all z) in
                   elim (in-append k (flat_map r.all (r.next p)) (p ∷ []) (carry k (r.all p)

@@ -2,17 +2,17 @@
 -- board itself, each only where it comes first.
 use Rattle.std.specs.Prelude.{◌≡◌, ℕ, zero, suc, not, filter, List, [], ◌∷◌, ◌++◌}
 use Rattle.std.specs.List.{flat_map}
+use Rattle.cg_form.specs.Firsts as firsts
 use Rattle.cg_moves.specs.Grid.{Grid, is_same}
 use Rattle.cg_moves.specs.Rules.{GameRules, followers}
 
 -- the boards without those that are the first
 abbrev pub without : Grid → List Grid → List Grid
-without p qs = filter (λ q. not (is_same p q)) qs
+without p qs = firsts.without is_same p qs
 
 -- each board only where it comes first
 abbrev pub once : List Grid → List Grid
-once [] = []
-once (p ∷ ps) = p ∷ without p (once ps)
+once ps = firsts.once is_same ps
 
 module _ (r : GameRules) where
   -- the boards of so many moves at most, as often as play can come to them

@@ -1,5 +1,6 @@
 -- What the rules of a game mean.
 use Rattle.std.specs.Prelude.{◌≡◌, ◌⊎◌, ℕ, Bool, true, false, Option, Some, None, List, [], ◌∷◌, ◌++◌, map}
+use Rattle.cg_form.specs.Firsts as firsts
 use Rattle.cg_moves.specs.declared.player.Player.{Player}
 use Rattle.cg_moves.specs.declared.player.Player.TheVariants.{Left, Right}
 use Rattle.cg_moves.specs.Grid.{Grid, with_cells}
@@ -18,8 +19,7 @@ pub record GameRules : Type 0 where
 
 -- x is one of the list
 abbrev pub In : {X : Type 0} → X → List X → Type 0
-In {X} x [] = ⊥
-In {X} x (y ∷ ys) = (x ≡ y) ⊎ In x ys
+In {X} x ys = firsts.In x ys
 
 abbrev pub is_some : {X : Type 0} → Option X → Bool
 is_some {X} None = false

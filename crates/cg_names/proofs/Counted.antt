@@ -1,21 +1,19 @@
 -- The braces that are open at once, counted on the text of a name.
-use Rattle.std.proofs.Common.{◌≡◌, refl, ap, sym, ◌∙◌, subst, ℕ, zero, suc, ◌+◌, ◌-◌, ◌^◌, ◌%◌, ◌<◌, ◌≤◌, max, arith, List, [], ◌∷◌, ◌++◌, append-nil, append_assoc, Bool, true, false, cond, Option, Some, None, ◌==◌, nat_eq, ℤ, pos, negsuc, unsigned_abs}
+use Rattle.std.proofs.Common.{◌≡◌, refl, ap, sym, ◌∙◌, subst, ℕ, zero, suc, ◌+◌, ◌-◌, ◌^◌, ◌%◌, ◌<◌, ◌≤◌, max, arith, List, [], ◌∷◌, ◌++◌, append_assoc, Bool, true, false, cond, ◌==◌, nat_eq, ℤ, pos, negsuc, unsigned_abs}
 use Rattle.std.specs.Prelude.{codes, decimal, if◌then◌else◌}
 use Rattle.std.specs.Fmt.{signed_decimal}
 use Rattle.std.proofs.lemmas.Fmt.{decimal_by_steps_wide}
 use Rattle.std.proofs.lemmas.Bool.Decides.{nat_tests}
 use Rattle.cg_dyadic.specs.Exact.{number_text}
 use Rattle.cg_dyadic.specs.Number.{InRange, Number, exp_of, num_of}
-use Rattle.cg_form.specs.Game.{Game, Games, more, none, number, options}
+use Rattle.cg_form.specs.Game.{number}
 use Rattle.cg_form.specs.Structure.{is_same}
-use Rattle.cg_names.specs.Name.{braces_name, further_names, name_of, names_of, sign_or}
+use Rattle.cg_names.specs.Name.{braces_name}
 use Rattle.cg_names.specs.Named.{zero_form}
-use Rattle.cg_names.specs.Reading.{most_open, open_behind}
-use Rattle.cg_names.specs.Shapes.{sign_of}
+use Rattle.cg_names.specs.Reading.{IsSignInRange, most_open, open_behind}
 use Rattle.cg_names.specs.Signs.{arrows_text, base_text, sign_text, star_text, tiny_word}
 use Rattle.cg_names.specs.declared.sign.Sign.{Sign}
 use Rattle.cg_names.specs.declared.sign.Sign.TheVariants.{Star, Arrows, Switch, Tiny}
-use Rattle.cg_names.proofs.Opened.{AreNamesInRange, IsNameInRange, IsSignInRange, SignOr, braces_with, open_braces, open_in}
 use Rattle.cg_names.proofs.Terms.{few_below, few_digits}
 
 -- ---- texts without braces
@@ -24,7 +22,7 @@ use Rattle.cg_names.proofs.Terms.{few_below, few_digits}
 abbrev IsOther : ℕ → Type 0
 IsOther b = ((b == 123) ≡ false) × ((b == 125) ≡ false)
 
-abbrev IsBare : List ℕ → Type 0
+abbrev pub IsBare : List ℕ → Type 0
 IsBare [] = Unit {0}
 IsBare (b ∷ bytes) = IsOther b × IsBare bytes
 
@@ -47,7 +45,7 @@ signed_bare : (n : ℤ) → unsigned_abs n < 10 ^ 30 → IsBare (signed_decimal 
 signed_bare (pos n) l = decimal_bare n l
 signed_bare (negsuc n) l = ((refl, refl), decimal_bare (suc n) l)
 
-number_bare : (x : Number) → InRange x → IsBare (number_text x)
+pub number_bare : (x : Number) → InRange x → IsBare (number_text x)
 number_bare x r = bare_append (signed_decimal (num_of x)) _ (signed_bare (num_of x) (few_digits x r))
     (cond_bare (nat_eq (exp_of x) 0) [] (47 ∷ decimal (2 ^ exp_of x)) tt
     ((refl, refl), decimal_bare (2 ^ exp_of x) (few_below (exp_of x) r.short)))
@@ -76,7 +74,7 @@ word_bare : (miny : Bool) → IsBare (tiny_word miny)
 word_bare false = ((refl, refl), ((refl, refl), ((refl, refl), ((refl, refl), ((refl, refl), tt)))))
 word_bare true = ((refl, refl), ((refl, refl), ((refl, refl), ((refl, refl), ((refl, refl), tt)))))
 
-sign_bare : (s : Sign) → IsSignInRange s → IsBare (sign_text s)
+pub sign_bare : (s : Sign) → IsSignInRange s → IsBare (sign_text s)
 sign_bare (Star x n) r = bare_append (base_text x) (star_text n) (base_bare x r.0) (star_bare n r.1)
 sign_bare (Arrows down starred x n) r =
     bare_append (base_text x) (arrows_text (cond down 118 94) n ++ cond starred (42 ∷ []) []) (base_bare x r.0)
@@ -103,14 +101,14 @@ bare_open n (b ∷ text) rest a =
     subst P (sym (other_open b n a.0)) (omega arith)
 
 -- at least so many braces are open at once, and behind the text as many as before it
-Counted : ℕ → List ℕ → Type 0
+unfoldable pub Counted : ℕ → List ℕ → Type 0
 Counted opened text = (n : ℕ) (rest : List ℕ) → max (n + opened) (most_open n rest) ≤ most_open n (text ++ rest)
 
-bare_counted : (text : List ℕ) → IsBare text → Counted 0 text
+pub bare_counted : (text : List ℕ) → IsBare text → Counted 0 text
 unfolding Counted
 bare_counted text a n rest = let i = bare_open n text rest a in let j = at_least n rest in omega arith
 
-joined_counted : (a b : ℕ) (x y : List ℕ) → Counted a x → Counted b y → Counted (max a b) (x ++ y)
+pub joined_counted : (a b : ℕ) (x y : List ℕ) → Counted a x → Counted b y → Counted (max a b) (x ++ y)
 unfolding Counted
 joined_counted a b x y f h n rest =
     let P : List ℕ → Type 0 = λ z. max (n + max a b) (most_open n rest) ≤ most_open n z in
@@ -129,7 +127,7 @@ closed_open n rest =
     let e : n ≡ suc n - 1 = omega arith in
     subst P e (omega arith)
 
-braces_counted : (a b : ℕ) (left right : List ℕ) → Counted a left → Counted b right
+pub braces_counted : (a b : ℕ) (left right : List ℕ) → Counted a left → Counted b right
     → Counted (suc (max a b)) (braces_name left right)
 unfolding Counted
 braces_counted a b left right f h n rest =
@@ -139,52 +137,6 @@ braces_counted a b left right f h n rest =
     let k = closed_open n rest in
     subst P (sym (braces_text left right rest)) (omega arith)
 
-fewer_counted : (a b : ℕ) (text : List ℕ) → b ≤ a → Counted a text → Counted b text
+pub fewer_counted : (a b : ℕ) (text : List ℕ) → b ≤ a → Counted a text → Counted b text
 unfolding Counted
 fewer_counted a b text l f n rest = let i = f n rest in omega arith
-
--- ---- names
-
-with_sign : (ls rs : Games) (o : Option Sign) → SignOr o (AreNamesInRange ls × AreNamesInRange rs)
-    → (AreNamesInRange ls → Counted (open_in ls) (names_of ls)) → (AreNamesInRange rs → Counted (open_in rs) (names_of rs))
-    → Counted (braces_with o (suc (max (open_in ls) (open_in rs)))) (sign_or o (braces_name (names_of ls) (names_of rs)))
-with_sign ls rs (Some s) q f h = bare_counted (sign_text s) (sign_bare s q)
-with_sign ls rs None q f h = braces_counted (open_in ls) (open_in rs) (names_of ls) (names_of rs) (f q.0) (h q.1)
-
-mutual
-  name_counted : (g : Game) → IsNameInRange g → Counted (open_braces g) (name_of g)
-  name_counted (number x) r = bare_counted (number_text x) (number_bare x r)
-  name_counted (options ls rs) r = by (sign_of (options ls rs)) refl (λ q. names_counted ls q) (λ q. names_counted rs q)
-    where
-      by : (o : Option Sign) → sign_of (options ls rs) ≡ o
-          → (AreNamesInRange ls → Counted (open_in ls) (names_of ls))
-          → (AreNamesInRange rs → Counted (open_in rs) (names_of rs))
-          → Counted (open_braces (options ls rs)) (name_of (options ls rs))
-      by o e f h =
-          let P : Option Sign → Type 0 = λ o. SignOr o (AreNamesInRange ls × AreNamesInRange rs) in
-          let Q : Option Sign → Type 0 = λ o. Counted (braces_with o (suc (max (open_in ls) (open_in rs))))
-          (sign_or o (braces_name (names_of ls) (names_of rs))) in
-          subst Q (sym e) (with_sign ls rs o (subst P e r) f h)
-
-  names_counted : (gs : Games) → AreNamesInRange gs → Counted (open_in gs) (names_of gs)
-  names_counted none r = bare_counted [] tt
-  names_counted (more g gs) r = joined_counted (open_braces g) (open_in gs) (name_of g) (further_names gs)
-      (name_counted g r.0) (further_counted gs r.1)
-
-  further_counted : (gs : Games) → AreNamesInRange gs → Counted (open_in gs) (further_names gs)
-  further_counted none r = bare_counted [] tt
-  further_counted (more g gs) r =
-      let m : ℕ = max (open_braces g) (open_in gs) in
-      fewer_counted (max 0 m) m (further_names (more g gs)) (omega arith)
-      (joined_counted 0 m (codes ",") (name_of g ++ further_names gs)
-      (bare_counted (codes ",") ((refl, refl), tt))
-      (joined_counted (open_braces g) (open_in gs) (name_of g) (further_names gs) (name_counted g r.0)
-      (further_counted gs r.1)))
-
--- a name that opens few braces on its text opens few by its structure
-pub braces-opened : (g : Game) → IsNameInRange g → open_braces g ≤ most_open 0 (name_of g)
-unfolding Counted
-braces-opened g r =
-    let P : List ℕ → Type 0 = λ z. open_braces g ≤ most_open 0 z in
-    let i = name_counted g r 0 [] in
-    subst P (append-nil (name_of g)) (omega arith)

@@ -17,15 +17,15 @@ pub mod NameRule
 pub mod SumWords
 pub mod StarredUps
 pub mod Looks
+pub mod Ends
 pub mod Listing
 pub mod Stars
 pub mod Memos
 pub mod SignSteps
-pub mod Opened
 pub mod Tokens
 pub mod Terms
 pub mod StarTerms
-pub mod HotTerms
+pub mod SignTerms
 pub mod Counted
 pub mod ReadBack
 pub mod Ranges

@@ -1,12 +1,11 @@
 -- A list in a store and a slice of handles, compared one by one.
-use Rattle.std.proofs.Common.{◌≡◌, refl, ap, sym, ◌∙◌, subst, ℕ, zero, suc, ◌+◌, ◌<◌, ◌≤◌, arith, add-one, false, Option, List, [], ◌∷◌, ◌++◌, append_assoc, append-nil, length, take, drop, get_or}
+use Rattle.std.proofs.Common.{◌≡◌, refl, ap, sym, ◌∙◌, subst, ℕ, zero, suc, ◌+◌, ◌<◌, ◌≤◌, arith, add-one, Option, List, [], ◌∷◌, ◌++◌, append_assoc, append-nil, length, take, drop, get_or}
 use Rattle.std.proofs.lemmas.List.{append_cancel_left}
-use Rattle.cg_form.specs.Game.{Game, node}
+use Rattle.cg_form.specs.Game.{Game}
 use Rattle.cg_cells.specs.Store.{Spends, State}
 use Rattle.cg_nodes.specs.Games.{AreGames, IsGame, IsList, game_at, games_at, listed}
 use Rattle.cg_nodes.specs.Meant.{Meant}
-use Rattle.cg_nodes.proofs.Later.{game_later, games_later, listed_later, nothing_spent, spends_then}
-use Rattle.cg_names.proofs.SignForms.{mirrored-others, mirrored-own}
+use Rattle.cg_nodes.proofs.Later.{game_later, nothing_spent, spends_then}
 use Rattle.cg_canon.proofs.HandleLists.{game_of_item, games_take_all, games_take_suc}
 
 -- the first so many of the handles stand in front of what is left of the list
@@ -78,30 +77,3 @@ listed_longer s t list left options i g gs l w e f =
     some_more g gs (append_cancel_left all (g ∷ gs) []
     (ap (λ z. all ++ z) (sym e) ∙ ap (λ z. z ++ listed t left) (sym (games_take_all s options i l)) ∙ sym w.front ∙ f
     ∙ sym (append-nil all)))
-
--- ---- a game of the same handles on both sides
-
-module _ {R : Type 0} (s t u : State Meant R) (options : List ℕ) (known : AreGames s options) (first : Spends 0 s t)
-    (g : Game) (ls rs : Option ℕ) (is : g ≡ node (listed t ls) (listed t rs)) where
-  pub over-found : Spends 0 t u → IsList t rs → listed t ls ≡ games_at t options → listed u rs ≡ games_at u options
-      → g ≡ node (games_at s options) (games_at s options)
-  over-found b r p q =
-      let a : games_at t options ≡ games_at s options = games_later s t first.known options known in
-      let c : games_at u options ≡ games_at s options =
-      games_later s u (spends_then 0 0 s t u first b).known options known in
-      is ∙ ap (λ z. node z (listed t rs)) (p ∙ a)
-      ∙ ap (λ z. node (games_at s options) z) (sym (listed_later t u b.known rs r) ∙ q ∙ c)
-
-  pub over-not_left : ¬ (listed t ls ≡ games_at t options) → ¬ (g ≡ node (games_at s options) (games_at s options))
-  over-not_left n e =
-      let a : games_at t options ≡ games_at s options = games_later s t first.known options known in
-      n (mirrored-own false (listed t ls) (listed t rs) (games_at s options) (games_at s options) (sym is ∙ e) ∙ sym a)
-
-  pub over-not_right : Spends 0 t u → IsList t rs → ¬ (listed u rs ≡ games_at u options)
-      → ¬ (g ≡ node (games_at s options) (games_at s options))
-  over-not_right b r n e =
-      let c : games_at u options ≡ games_at s options =
-      games_later s u (spends_then 0 0 s t u first b).known options known in
-      n (listed_later t u b.known rs r
-      ∙ mirrored-others false (listed t ls) (listed t rs) (games_at s options) (games_at s options) (sym is ∙ e)
-      ∙ sym c)

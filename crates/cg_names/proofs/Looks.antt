@@ -10,8 +10,6 @@ use Rattle.cg_form.specs.Side.{near}
 use Rattle.cg_nodes.specs.Games.{IsNode}
 use Rattle.cg_dyadic.specs.Exact.{number_negative}
 use Rattle.cg_names.specs.Named.{mirrored_if, nimber_form, pair_form, tiny_form, tiny_part, ups_of, zero_form, zero_number}
-use Rattle.std.specs.Prelude.{IfOk, Result}
-use Rattle.std.specs.declared.alloc.AllocError.{AllocError}
 use Rattle.cg_names.specs.Readings.{IsArrows}
 use Rattle.cg_names.specs.declared.look_arrows.ArrowsFound.{ArrowsFound}
 use Rattle.cg_names.specs.Shapes.{leading, sign_of}
@@ -19,18 +17,15 @@ use Rattle.cg_names.specs.declared.sign.Sign.{Sign}
 use Rattle.cg_names.specs.declared.sign.Sign.TheVariants.{Star, Arrows}
 use Rattle.cg_names.proofs.Guessing.{found-form, one_value, sign-found}
 use Rattle.cg_names.proofs.NameRule.{some_is}
-use Rattle.cg_names.proofs.SignForms.{ArrowsShape, IsStep, arrows_shape, both, both_is, level, level_is, mirrored-others, mirrored-own, no_ups, one_star_form, star_above, step, step_is, step_node}
+use Rattle.cg_names.proofs.SignForms.{ArrowsShape, IsStep, arrows_shape, both, both_is, level, level_is, mirrored-others, mirrored-own, no_ups, not_number, one_star_form, star_above, step, step_is}
 
 -- ---- lists of one
 
 pub one_same : (g h : Game) → g ∷ [] ≡ h ∷ [] → g ≡ h
 one_same g h e = cc
 
-one_not_two : (g h k : Game) → ¬ (g ∷ [] ≡ h ∷ (k ∷ []))
+pub one_not_two : (g h k : Game) → ¬ (g ∷ [] ≡ h ∷ (k ∷ []))
 one_not_two g h k e = cc
-
-pub not_both : (g : Game) (x : Number) → IsNode g → ¬ (g ≡ number x)
-not_both g x i e = let P : Game → Type 0 = λ z. IsNode z in subst P e i
 
 -- ---- {x|y}
 
@@ -72,20 +67,6 @@ one_base : (down s t : Bool) (x y : Number) (m n : ℕ)
     → shifted x (ups_of down s m) ≡ shifted y (ups_of down t n) → x ≡ y
 one_base down s t x y m n e = sym (base_is down s x m) ∙ ap (base_in down) e ∙ base_is down t y n
 
--- {x|x} is x + *
-pub level-found : (x y : Number) → x ≡ y → (down : Bool) → mirrored_if down (number x ∷ []) (number y ∷ [])
-    ≡ shifted x (ups_of down true 0)
-level-found x y e down = ap (λ z. mirrored_if down (number x ∷ []) (number z ∷ [])) (sym e) ∙ sym (level_is down x)
-
-pub level-none : (x y : Number) → ¬ (x ≡ y) → (down starred : Bool) (z : Number) (n : ℕ)
-    → ¬ (mirrored_if down (number x ∷ []) (number y ∷ []) ≡ shifted z (ups_of down starred n))
-level-none x y d down starred z n e = by (arrows_shape down starred z n (number x ∷ []) (number y ∷ []) e)
-  where
-    by : ArrowsShape down starred z n (number x ∷ []) (number y ∷ []) → ⊥
-    by (level s m p q) = d (one_value x z (one_same _ _ p) ∙ sym (one_value y z (one_same _ _ q)))
-    by (both s m p q) = one_not_two _ _ _ p
-    by (step m i k p q) = not_both _ y (step_node down starred z m i) (sym (one_same _ _ q))
-
 -- {x|g} is one more than g
 pub more-found : (x y : Number) → x ≡ y → (down s : Bool) (n m : ℕ) → m ≡ n + 1 → (g : Game) → IsNode g
     → g ≡ shifted y (ups_of down s n)
@@ -99,100 +80,31 @@ more-found x y e down s n m c g i f =
     ∙ sym (step_is down (not s) x n (goes_on s n (subst P same i))))
   where
     goes_on : (b : Bool) (k : ℕ) → IsNode (shifted x (ups_of down b k)) → IsStep (not b) k
-    goes_on false zero j = absurd (not_both _ x j (no_ups down x))
+    goes_on false zero j = absurd (not_number _ x j (no_ups down x))
     goes_on true zero j = tt
     goes_on b (suc k) j = tt
+
+-- {x|g} is no more of them where g is none with the number x
+none-more : (x : Number) (down : Bool) (g : Game) → IsNode g → ((s : Bool) (k : ℕ) → ¬ (g ≡ shifted x (ups_of down s k)))
+    → (starred : Bool) (z : Number) (n : ℕ)
+    → ¬ (mirrored_if down (number x ∷ []) (g ∷ []) ≡ shifted z (ups_of down starred n))
+none-more x down g i nil starred z n e = by (arrows_shape down starred z n (number x ∷ []) (g ∷ []) e)
+  where
+    by : ArrowsShape down starred z n (number x ∷ []) (g ∷ []) → ⊥
+    by (level t m p q) = not_number g z i (one_same _ _ q)
+    by (both t m p q) = one_not_two _ _ _ p
+    by (step m j c p q) = nil (not starred) m (one_same _ _ q
+        ∙ ap (λ k. shifted k (ups_of down (not starred) m)) (sym (one_value x z (one_same _ _ p))))
 
 pub more-none : (x y : Number) → ¬ (x ≡ y) → (down s : Bool) (k : ℕ) (g : Game) → IsNode g
     → g ≡ shifted y (ups_of down s k) → (starred : Bool) (z : Number) (n : ℕ)
     → ¬ (mirrored_if down (number x ∷ []) (g ∷ []) ≡ shifted z (ups_of down starred n))
-more-none x y d down s k g i f starred z n e = by (arrows_shape down starred z n (number x ∷ []) (g ∷ []) e)
-  where
-    by : ArrowsShape down starred z n (number x ∷ []) (g ∷ []) → ⊥
-    by (level t m p q) = not_both g z i (one_same _ _ q)
-    by (both t m p q) = one_not_two _ _ _ p
-    by (step m j c p q) = d (one_value x z (one_same _ _ p)
-        ∙ one_base down (not starred) s z y m k (sym (one_same _ _ q) ∙ f))
+more-none x y d down s k g i f = none-more x down g i (λ t m e. d (one_base down t s x y m k (sym e ∙ f)))
 
--- {x|g} is none where g is none
 pub on-none : (x : Number) (down : Bool) (g : Game) → ((s : Bool) (y : Number) (k : ℕ) → ¬ (g ≡ shifted y (ups_of down s k)))
     → IsNode g → (starred : Bool) (z : Number) (n : ℕ)
     → ¬ (mirrored_if down (number x ∷ []) (g ∷ []) ≡ shifted z (ups_of down starred n))
-on-none x down g nil i starred z n e = by (arrows_shape down starred z n (number x ∷ []) (g ∷ []) e)
-  where
-    by : ArrowsShape down starred z n (number x ∷ []) (g ∷ []) → ⊥
-    by (level t m p q) = not_both g z i (one_same _ _ q)
-    by (both t m p q) = one_not_two _ _ _ p
-    by (step m j c p q) = nil (not starred) z m (one_same _ _ q)
-
--- ---- x + ^*
-
-two_first : (a b c d : Game) → a ∷ (b ∷ []) ≡ c ∷ (d ∷ []) → a ≡ c
-two_first a b c d e = cc
-
-two_second : (a b c d : Game) → a ∷ (b ∷ []) ≡ c ∷ (d ∷ []) → b ≡ d
-two_second a b c d e = cc
-
-pub both-found : (x y : Number) (a b c : Game) → a ≡ number x → c ≡ number y → x ≡ y → b ≡ node (a ∷ []) (a ∷ [])
-    → (down : Bool) → mirrored_if down (a ∷ (b ∷ [])) (c ∷ []) ≡ shifted x (ups_of down true 1)
-both-found x y a b c p q e f down =
-    ap (λ z. mirrored_if down (a ∷ (z ∷ [])) (c ∷ [])) f
-    ∙ ap (λ z. mirrored_if down (z ∷ (node (z ∷ []) (z ∷ []) ∷ [])) (c ∷ [])) p
-    ∙ ap (λ z. mirrored_if down (number x ∷ (star_above x ∷ [])) (z ∷ [])) (q ∙ ap number (sym e))
-    ∙ sym (both_is down x)
-
--- such a game has two options on one side, the number and the number and *, and the number on the other
-pub record IsBoth (x : Number) (a b c : Game) : Type 0 where
-  pub first : a ≡ number x
-  pub second : b ≡ node (a ∷ []) (a ∷ [])
-  pub last : c ≡ number x
-
-pub two-both : (a b c : Game) (down starred : Bool) (z : Number) (n : ℕ)
-    → mirrored_if down (a ∷ (b ∷ [])) (c ∷ []) ≡ shifted z (ups_of down starred n) → IsBoth z a b c
-two-both a b c down starred z n e = by (arrows_shape down starred z n (a ∷ (b ∷ [])) (c ∷ []) e)
-  where
-    by : ArrowsShape down starred z n (a ∷ (b ∷ [])) (c ∷ []) → IsBoth z a b c
-    by (level t m p q) = absurd (one_not_two _ _ _ (sym p))
-    by (step m j k p q) = absurd (one_not_two _ _ _ (sym p))
-    by (both t m p q) =
-        let f : a ≡ number z = two_first _ _ _ _ p in
-        record {
-          first = f;
-          second = two_second _ _ _ _ p ∙ sym (ap (λ y. node (y ∷ []) (y ∷ [])) f);
-          last = one_same _ _ q;
-        }
-
--- ---- the lists of any of them
-
-pub own-number : (down starred : Bool) (x : Number) (n : ℕ) (a : Game) (rs : List Game)
-    → mirrored_if down (a ∷ []) rs ≡ shifted x (ups_of down starred n) → a ≡ number x
-own-number down starred x n a rs e = by (arrows_shape down starred x n (a ∷ []) rs e)
-  where
-    by : ArrowsShape down starred x n (a ∷ []) rs → a ≡ number x
-    by (level t m p q) = one_same _ _ p
-    by (both t m p q) = absurd (one_not_two _ _ _ p)
-    by (step m j k p q) = one_same _ _ p
-
--- the other side has one option
-pub one-other : (down starred : Bool) (x : Number) (n : ℕ) (ls rs : List Game)
-    → mirrored_if down ls rs ≡ shifted x (ups_of down starred n) → (a : Game) × (rs ≡ a ∷ [])
-one-other down starred x n ls rs e = by (arrows_shape down starred x n ls rs e)
-  where
-    by : ArrowsShape down starred x n ls rs → (a : Game) × (rs ≡ a ∷ [])
-    by (level t m p q) = (number x, q)
-    by (both t m p q) = (number x, q)
-    by (step m j k p q) = (shifted x (ups_of down (not starred) m), q)
-
--- and the own side one or two
-pub own-few : (down starred : Bool) (x : Number) (n : ℕ) (ls rs : List Game)
-    → mirrored_if down ls rs ≡ shifted x (ups_of down starred n)
-    → ((a : Game) → ¬ (ls ≡ a ∷ [])) → ((a b : Game) → ¬ (ls ≡ a ∷ (b ∷ []))) → ⊥
-own-few down starred x n ls rs e one two = by (arrows_shape down starred x n ls rs e)
-  where
-    by : ArrowsShape down starred x n ls rs → ⊥
-    by (level t m p q) = one (number x) p
-    by (both t m p q) = two (number x) (star_above x) p
-    by (step m j k p q) = one (number x) p
+on-none x down g nil i = none-more x down g i (λ s k. nil s x k)
 
 -- ---- tiny and miny
 
@@ -248,45 +160,6 @@ tiny-parts miny x l r size rest z s t e = by miny s t
       size_is = p ∙ left l r z zero_number f;
     }
 
--- ---- what is found of one game is found of the same game
-
-pub arrows-same : (down : Bool) (o : Option ArrowsFound) (ls rs cs ds : List Game) → ls ≡ cs → rs ≡ ds
-    → IsArrows down (mirrored_if down cs ds) o → IsArrows down (mirrored_if down ls rs) o
-arrows-same down o ls rs cs ds e f i =
-    let P : Game → Type 0 = λ z. IsArrows down z o in
-    subst P (sym (ap (λ z. mirrored_if down z rs) e ∙ ap (λ z. mirrored_if down cs z) f)) i
-
-pub ok-arrows-same : (down : Bool) (r : Result (Option ArrowsFound) AllocError) (g h : Game) → g ≡ h
-    → IfOk r (IsArrows down h) → IfOk r (IsArrows down g)
-ok-arrows-same down r g h e i = let P : Game → Type 0 = λ z. IfOk r (IsArrows down z) in subst P (sym e) i
-
--- the lists of a side
-pub sided : {A : Type 0} (down : Bool) (f : A → List Game) (l r : A) → mirrored_if down (f (cond down r l)) (f (cond down l r))
-    ≡ node (f l) (f r)
-sided false f l r = refl
-sided true f l r = refl
-
--- x, x + *, and x with the same number x
-pub not_same_number : (x y z : Number) (g h : Game) → g ≡ number x → h ≡ number y → g ≡ number z → h ≡ number z → x ≡ y
-not_same_number x y z g h p q a b = one_value x z (sym p ∙ a) ∙ sym (one_value y z (sym q ∙ b))
-
-pub arrows-nothing : (down : Bool) (o : Option ArrowsFound) (k g : Game) → o ≡ None → IsArrows down k o → g ≡ k
-    → (starred : Bool) (x : Number) (n : ℕ) → ¬ (g ≡ shifted x (ups_of down starred n))
-arrows-nothing down o k g e i f starred x n h =
-    let P : Option ArrowsFound → Type 0 = λ z. IsArrows down k z in subst P e i starred x n (sym f ∙ h)
-
-pub arrows-something : (down : Bool) (o : Option ArrowsFound) (a : ArrowsFound) (k g : Game) → o ≡ Some a
-    → IsArrows down k o → g ≡ k → IsArrows down g (Some a)
-arrows-something down o a k g e i f =
-    let P : Option ArrowsFound → Type 0 = λ z. IsArrows down k z in f ∙ subst P e i
-
--- the game of the lists, which are taken the other way round for downs
-pub turned-back : {A : Type 0} (down : Bool) (f : A → List Game) (l r own others : A) (g : Game) → own ≡ cond down r l
-    → others ≡ cond down l r → g ≡ node (f l) (f r) → g ≡ mirrored_if down (f own) (f others)
-turned-back down f l r own others g a b e =
-    e ∙ sym (sided down f l r) ∙ ap (λ z. mirrored_if down (f z) (f (cond down l r))) (sym a)
-    ∙ ap (λ z. mirrored_if down (f own) (f z)) (sym b)
-
 pub is_node : (g : Game) (ls rs : List Game) → g ≡ node ls rs → IsNode g
 is_node g ls rs e = let P : Game → Type 0 = λ z. IsNode z in subst P (sym e) tt
 
@@ -294,7 +167,7 @@ is_node g ls rs e = let P : Game → Type 0 = λ z. IsNode z in subst P (sym e) 
 
 pub told : (down starred : Bool) (g : Game) (x : Number) (n : ℕ) → IsNode g → g ≡ shifted x (ups_of down starred n)
     → (sign_of g ≡ Some (Star x 1)) ⊎ (sign_of g ≡ Some (Arrows down starred x n))
-told down false g x zero i e = absurd (not_both g x i (e ∙ no_ups down x))
+told down false g x zero i e = absurd (not_number g x i (e ∙ no_ups down x))
 told down true g x zero i e =
     inl (sign-found g (Star x 1) (record { proper = some_is 1 (omega arith); form = e ∙ one_star_form down x }))
 told down starred g x (suc n) i e =

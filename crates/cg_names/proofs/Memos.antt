@@ -1,5 +1,5 @@
 -- What a memo recalls, from call to call.
-use Rattle.std.proofs.Common.{◌≡◌, refl, ap, sym, ◌∙◌, subst, inl, inr, ℕ, ◌≤◌, arith, List, [], ◌∷◌, ◌++◌, Option, Some, None, true, nat_eq, eqb-true}
+use Rattle.std.proofs.Common.{◌≡◌, refl, ap, sym, ◌∙◌, subst, inl, inr, ℕ, ◌≤◌, arith, List, [], ◌∷◌, ◌++◌, Option, Some, None, true, Result, Ok, Err, OnOk, nat_eq, eqb-true}
 use Rattle.std.specs.Prelude.{if◌then◌else◌}
 use Rattle.cg_dyadic.proofs.Truth.{true_or_false}
 use Rattle.cg_cells.specs.Meaning.{IsInjective}
@@ -24,6 +24,12 @@ pub recalls_later : {R : Type 0} (s t : State Meant R) (m : Memo) → Spends 0 s
 recalls_later s t m b r h o e =
     let p = r h o e in
     (is_game_later s t b.known h p.0, p.1 ∙ ap sign_of (sym (game_later s t b.known h p.0)))
+
+-- whatever the result of a call that leaves both alone
+pub recalls_then : {A E R : Type 0} (r : Result A E) (s t : State Meant R) (m : Memo) → Spends 0 s t → Recalls s m
+    → OnOk r (Recalls t m)
+recalls_then (Ok x) s t m b n = recalls_later s t m b n
+recalls_then (Err e) s t m b n = tt
 
 some_same : (o p : Option Sign) → Some o ≡ Some p → o ≡ p
 some_same o p e = cc

@@ -7,9 +7,10 @@ use Rattle.cg_dyadic.proofs.Truth.{not_true, true_not}
 use Rattle.cg_form.specs.Canonical.{IsCanonicalForm}
 use Rattle.cg_form.specs.Game.{Game, Games, more, none, number, options}
 use Rattle.cg_form.specs.Sum.{sum}
-use Rattle.cg_names.specs.Name.{AreFurther, AreNames, IsName, braces_name, further_names, name_of, names_of, sign_or}
+use Rattle.cg_names.specs.Name.{AreFurther, AreNames, IsName, braces_name}
 use Rattle.cg_names.specs.Named.{nimber_form, ups_of, zero_number}
 use Rattle.cg_names.specs.Shapes.{HasForm, sign_of}
+use Rattle.cg_names.specs.Spelled.{further_names, name_of, names_of, sign_or}
 use Rattle.cg_names.specs.Signs.{Fits}
 use Rattle.cg_names.specs.declared.sign.Sign.{Sign}
 use Rattle.cg_names.specs.declared.sign.Sign.TheVariants.{Star, Arrows, Switch, Tiny}
@@ -58,13 +59,13 @@ fits_found g s f = sign-found g s (fits-form s g f)
 pub found_fits : (g : Game) (s : Sign) → sign_of g ≡ Some s → Fits s g
 found_fits g s e = form-fits s g (found-form g s e)
 
-no_sign : (g : Game) → sign_of g ≡ None → (s : Sign) → ¬ Fits s g
+pub no_sign : (g : Game) → sign_of g ≡ None → (s : Sign) → ¬ Fits s g
 no_sign g e s f = absurd (let q : None ≡ Some s = sym e ∙ fits_found g s f in cc)
 
 -- ---- the name
 
 mutual
-  pub name-is : (g : Game) → IsName g (name_of g)
+  name-is : (g : Game) → IsName g (name_of g)
   name-is (number x) = refl
   name-is (options ls rs) = by (sign_of (options ls rs)) refl (names-are ls) (names-are rs)
     where
@@ -111,7 +112,7 @@ mutual
   }
 
 mutual
-  pub one_name : (g : Game) (t : List ℕ) → IsName g t → t ≡ name_of g
+  one_name : (g : Game) (t : List ℕ) → IsName g t → t ≡ name_of g
   one_name (number x) t n = n
   one_name (options ls rs) t (inl n) =
       n.spelled ∙ sym (ap (λ o. sign_or o (braces_name (names_of ls) (names_of rs)))
@@ -137,6 +138,12 @@ mutual
   one_further (more g gs) t n = n.spelled ∙ ap (λ z. z ++ n.behind) n.first
       ∙ ap (λ z. codes "," ++ z) (n.second.spelled ∙ ap (λ z. z ++ n.second.behind) (one_name g n.second.before n.second.first)
       ∙ ap (λ z. name_of g ++ z) (one_further gs n.second.behind n.second.second))
+
+pub some_name : (g : Game) → (t : List ℕ) × IsName g t
+some_name g = (name_of g, name-is g)
+
+pub same_name : (g : Game) (s t : List ℕ) → IsName g s → IsName g t → s ≡ t
+same_name g s t n m = one_name g s n ∙ sym (one_name g t m)
 
 pub named-is : (g : Game) (t : List ℕ) → t ≡ name_of g → IsName g t
 named-is g t e = let P : List ℕ → Type 0 = λ z. IsName g z in subst P (sym e) (name-is g)

@@ -1,16 +1,53 @@
 -- The names of a list in a store, one game after another.
-use Rattle.std.proofs.Common.{◌≡◌, refl, ap, sym, ◌∙◌, ℕ, ◌+◌, ◌≤◌, arith, Option, Some, None, List, ◌∷◌, ◌++◌, append_assoc, Result, Ok, Err, OnOk}
+use Rattle.std.proofs.Common.{◌≡◌, refl, ap, sym, ◌∙◌, subst, ℕ, ◌+◌, ◌≤◌, arith, Option, Some, None, List, [], ◌∷◌, ◌++◌, append_assoc, Result, Ok, Err, OnOk}
 use Rattle.std.specs.Prelude.{codes, is_ok, if◌then◌else◌}
-use Rattle.cg_form.specs.Game.{Game, node, of_list}
+use Rattle.cg_dyadic.specs.Number.{InRange, Number}
+use Rattle.cg_form.specs.Game.{Game, node, number, of_list}
 use Rattle.cg_form.specs.Size.{list_size, size}
 use Rattle.cg_cells.specs.Store.{Spends, State}
 use Rattle.cg_nodes.specs.Games.{IsList, game_at, listed}
 use Rattle.cg_nodes.specs.Meant.{Meant}
 use Rattle.cg_nodes.proofs.Later.{is_list_later, listed_later, nothing_spent, spends_then}
-use Rattle.cg_names.specs.Name.{braces_name, further_names, name_of, names_of, sign_or}
+use Rattle.cg_names.specs.Name.{braces_name}
+use Rattle.cg_names.specs.Reading.{AreNamesInRange, IsNameInRange, IsSignInRange}
 use Rattle.cg_names.specs.Shapes.{sign_of}
+use Rattle.cg_names.specs.Spelled.{further_names, name_of, names_of, sign_or}
 use Rattle.cg_names.specs.Signs.{sign_text}
 use Rattle.cg_names.specs.declared.sign.Sign.{Sign}
+use Rattle.cg_names.proofs.NameRule.{found_fits, no_sign, one_sign}
+
+-- ---- ranges
+
+pub more_in_range : (gs : List Game) (g : Game) (hs : List Game) → gs ≡ g ∷ hs → IsNameInRange g → AreNamesInRange (of_list hs)
+    → AreNamesInRange (of_list gs)
+more_in_range gs g hs e q r = let P : List Game → Type 0 = λ z. AreNamesInRange (of_list z) in subst P (sym e) (q, r)
+
+pub number-in_range : {A E : Type 0} (r : Result A E) (g : Game) (x : Number) → g ≡ number x → InRange x
+    → OnOk r (IsNameInRange g)
+number-in_range (Err e) g x is q = tt
+number-in_range (Ok y) g x is q = let P : Game → Type 0 = λ z. IsNameInRange z in subst P (sym is) q
+
+-- of a game that has a sign, and of one that has none
+pub signed-in_range : {A E : Type 0} (r : Result A E) (g : Game) (ls rs : List Game) (o : Option Sign) (s : Sign)
+    → g ≡ node ls rs → o ≡ sign_of g → o ≡ Some s → OnOk r (IsSignInRange s) → OnOk r (IsNameInRange g)
+signed-in_range (Err e) g ls rs o s is sign found q = tt
+signed-in_range (Ok x) g ls rs o s is sign found q =
+    let k : Game = node ls rs in
+    let f = found_fits k s (ap sign_of (sym is) ∙ sym sign ∙ found) in
+    let P : Sign → Type 0 = λ z. IsSignInRange z in
+    let Q : Game → Type 0 = λ z. IsNameInRange z in
+    subst Q (sym is) ((λ t h. subst P (one_sign k s t f h) q), (λ n. absurd (n s f)))
+
+pub braced-in_range : {A E : Type 0} (r : Result A E) (g : Game) (ls rs : List Game) (o : Option Sign)
+    → g ≡ node ls rs → o ≡ sign_of g → o ≡ None → OnOk r (AreNamesInRange (of_list ls))
+    → OnOk r (AreNamesInRange (of_list rs)) → OnOk r (IsNameInRange g)
+braced-in_range (Err e) g ls rs o is sign found p q = tt
+braced-in_range (Ok x) g ls rs o is sign found p q =
+    let k : Game = node ls rs in
+    let Q : Game → Type 0 = λ z. IsNameInRange z in
+    subst Q (sym is) ((λ t h. absurd (no_sign k (ap sign_of (sym is) ∙ sym sign ∙ found) t h)), (λ n. (p, q)))
+
+-- ---- a list, name by name
 
 -- the further names of the list are those that were written since, and those of what is left
 pub record Written {R : Type 0} (s t : State Meant R) (before now : List ℕ) (all left : Option ℕ) : Type 0 where
@@ -18,19 +55,20 @@ pub record Written {R : Type 0} (s t : State Meant R) (before now : List ℕ) (a
   pub spends : Spends 0 s t
   pub names : now ++ further_names (of_list (listed t left)) ≡ before ++ further_names (of_list (listed s all))
   pub smaller : list_size (listed t left) ≤ list_size (listed s all)
+  pub in_range : AreNamesInRange (of_list (listed t left)) → AreNamesInRange (of_list (listed s all))
 
 -- nothing is written yet
 pub written_none : {R : Type 0} (s : State Meant R) (text : List ℕ) (list : Option ℕ) → IsList s list → Written s s
     text text list list
-written_none s text list l = record { is_list = l; spends = nothing_spent s; names = refl; smaller = omega arith }
+written_none s text list l = record { is_list = l; spends = nothing_spent s; names = refl; smaller = omega arith; in_range = λ r. r }
 
 -- a comma and the name of the next game
 pub written_more : {R : Type 0} (s t u v : State Meant R) (before now comma more : List ℕ) (all left rest : Option ℕ)
     (first : ℕ)
     → Written s t before now all left → Spends 0 t u → IsList u rest → listed t left ≡ game_at u first ∷ listed u rest
-    → comma ≡ now ++ codes "," → Spends 0 u v → more ≡ comma ++ name_of (game_at u first)
+    → comma ≡ now ++ codes "," → Spends 0 u v → more ≡ comma ++ name_of (game_at u first) → IsNameInRange (game_at u first)
     → Written s v before more all rest
-written_more s t u v before now comma more all left rest first w a l e c b m =
+written_more s t u v before now comma more all left rest first w a l e c b m q =
     let later : listed v rest ≡ listed u rest = listed_later u v b.known rest l in
     let g : Game = game_at u first in
     let further : List ℕ = further_names (of_list (listed u rest)) in
@@ -45,7 +83,14 @@ written_more s t u v before now comma more all left rest first w a l e c b m =
           ∙ append_assoc (now ++ codes ",") (name_of g) further ∙ append_assoc now (codes ",") (name_of g ++ further)
           ∙ ap (λ z. now ++ further_names (of_list z)) (sym e) ∙ w.names;
       smaller = omega arith;
+      in_range = λ r. w.in_range (more_in_range (listed t left) g (listed v rest) (e ∙ ap (λ z. g ∷ z) (sym later)) q r);
     }
+
+-- all are written
+pub written_all : {R : Type 0} (s t : State Meant R) (before now : List ℕ) (all left : Option ℕ)
+    → Written s t before now all left → listed t left ≡ [] → AreNamesInRange (of_list (listed s all))
+written_all s t before now all left w e =
+    let P : List Game → Type 0 = λ z. AreNamesInRange (of_list z) in w.in_range (subst P (sym e) tt)
 
 -- braces round the names of two lists, part by part
 pub braces-spelled : (left right : List ℕ) (t0 t1 t2 t3 t4 : List ℕ) → t1 ≡ t0 ++ codes "{" → t2 ≡ t1 ++ left

@@ -8,30 +8,20 @@ use Rattle.cg_nodes.specs.Meant.{Meant}
 use Rattle.cg_nodes.proofs.Later.{stand_later, stands_game, stands_is_game}
 use Rattle.cg_canon.specs.declared.fault.ValueFault.{ValueFault}
 use Rattle.cg_canon.specs.declared.fault.ValueFault.TheVariants.{Memory}
+use Rattle.cg_canon.specs.Made.{Gives}
 use Rattle.cg_canon.specs.declared.rest.WorkRest.{WorkRest}
 use Rattle.cg_canon.proofs.HandleLists.{stand_more}
-use Rattle.cg_canon.proofs.MadeSteps.{made_memory}
 use Rattle.cg_names.specs.Lists.{plain_item}
-use Rattle.cg_names.specs.Making.{FormsMade}
-use Rattle.cg_names.specs.Named.{mirrored_if, nimber_form, nimber_over, nimbers_below, zero_form}
+use Rattle.cg_names.specs.Named.{mirrored_if, nimber_form, nimbers_below, zero_form}
 use Rattle.cg_nimbers.proofs.CanonicalNimbers.{nimber-canonical, nimbers_below-front}
 use Rattle.cg_nimbers.proofs.NimberLists.{nimbers_below-next}
-use Rattle.cg_names.proofs.Steps.{forms_after, forms_stopped, forms_with}
+use Rattle.cg_names.proofs.SignForms.{nimber_next}
+use Rattle.cg_names.proofs.Steps.{given_after, given_memory, given_stopped}
 
 -- the handles of 0, *1, .., *(i - 1), and that of *i, which was made last
 pub record NimbersMade {R : Type 0} (w v : State Meant (WorkRest R)) (lesser : List ℕ) (last i : ℕ) : Type 0 where
   pub lesser_stand : StandFor v lesser (nimbers_below i)
-  pub last_stands : StandsFor v last (nimber_form i)
-  pub made : FormsMade w v (nimbers_below (suc i)) (Ok last)
-  pub more : w.spare ≤ v.spare
-
-over-longer : (gs : List Game) (g : Game) → nimber_over (gs ++ (g ∷ [])) ≡ node (gs ++ (g ∷ [])) (gs ++ (g ∷ []))
-over-longer [] g = refl
-over-longer (h ∷ gs) g = refl
-
-pub nimber_form-next : (i : ℕ) → node (nimbers_below (suc i)) (nimbers_below (suc i)) ≡ nimber_form (suc i)
-unfolding nimber_form nimbers_below
-nimber_form-next i = sym (over-longer (nimbers_below i) (nimber_form i))
+  pub given : Gives w v (map plain_item (nimbers_below (suc i))) (nimber_form i) (Ok last)
 
 first_only : (back : List Game) → nimbers_below 0 ++ (nimber_form 0 ∷ back) ≡ zero_form ∷ back
 unfolding nimber_form nimbers_below
@@ -39,17 +29,12 @@ first_only back = refl
 
 module _ {R : Type 0} (w v : State Meant (WorkRest R)) where
   pub nimbers_start : (lesser : List ℕ) (last : ℕ) (r : Result ℕ ValueFault) → lesser ≡ [] → r ≡ Ok last
-      → StandsFor v last zero_form → FormsMade w v (zero_form ∷ []) r → w.spare ≤ v.spare
-      → NimbersMade w v lesser last 0
+      → Gives w v (plain_item zero_form ∷ []) zero_form r → NimbersMade w v lesser last 0
   unfolding nimber_form nimbers_below
-  nimbers_start lesser last r e o s m l =
+  nimbers_start lesser last r e o m =
       let P : List ℕ → Type 0 = λ z. NimbersMade w v z last 0 in
-      subst P (sym e) (record {
-        lesser_stand = (tt, refl);
-        last_stands = s;
-        made = forms_with w v (zero_form ∷ []) r (Ok last) last last o refl m;
-        more = l;
-      })
+      let Q : Result ℕ ValueFault → Type 0 = λ z. Gives w v (plain_item zero_form ∷ []) zero_form z in
+      subst P (sym e) (record { lesser_stand = (tt, refl); given = subst Q o m })
 
   -- with the last one the options of the next, which is what is made of them
   pub nimber_options : (lesser more : List ℕ) (last i : ℕ) → NimbersMade w v lesser last i → more ≡ lesser ++ (last ∷ [])
@@ -58,14 +43,14 @@ module _ {R : Type 0} (w v : State Meant (WorkRest R)) where
       let P : List ℕ → Type 0 = λ z. StandFor v z (nimbers_below (suc i)) in
       let Q : List Game → Type 0 = λ z. StandFor v (lesser ++ (last ∷ [])) z in
       subst P (sym e) (subst Q (sym (nimbers_below-next i))
-      (stand_more v lesser last (nimbers_below i) (nimber_form i) n.lesser_stand n.last_stands))
+      (stand_more v lesser last (nimbers_below i) (nimber_form i) n.lesser_stand n.given.game))
 
   module _ (lesser ls rs : List ℕ) (last i : ℕ) (n : NimbersMade w v lesser last i) (e : ls ≡ lesser ++ (last ∷ []))
       (d : rs ≡ lesser ++ (last ∷ [])) where
     pub nimber_made : mirrored_if false (games_at v ls) (games_at v rs) ≡ nimber_form (suc i)
     nimber_made =
         ap (λ z. node z (games_at v rs)) (nimber_options lesser ls last i n e).1
-        ∙ ap (λ z. node (nimbers_below (suc i)) z) (nimber_options lesser rs last i n d).1 ∙ nimber_form-next i
+        ∙ ap (λ z. node (nimbers_below (suc i)) z) (nimber_options lesser rs last i n d).1 ∙ sym (nimber_next i)
 
     pub nimber_made-canonical : Canonical (mirrored_if false (games_at v ls) (games_at v rs))
     nimber_made-canonical = let P : Game → Type 0 = λ z. Canonical z in subst P (sym nimber_made) (nimber-canonical (suc i))
@@ -73,39 +58,49 @@ module _ {R : Type 0} (w v : State Meant (WorkRest R)) where
   -- ---- one nimber more
 
   module _ (u : State Meant (WorkRest R)) (lesser : List ℕ) (last i : ℕ) (n : NimbersMade w v lesser last i)
-      (r : Result ℕ ValueFault) (m : FormsMade v u (nimber_form (suc i) ∷ []) r) where
-    one_more : FormsMade w u (nimbers_below (suc (suc i))) r
+      (r : Result ℕ ValueFault) (m : Gives v u (plain_item (nimber_form (suc i)) ∷ []) (nimber_form (suc i)) r) where
+    one_more : Gives w u (map plain_item (nimbers_below (suc (suc i)))) (nimber_form (suc i)) r
     one_more =
-        forms_after w v u (nimbers_below (suc i)) (nimber_form (suc i) ∷ []) (nimbers_below (suc (suc i))) (Ok last) last r
-        refl n.made m (nimbers_below-next (suc i))
+        given_after w v u (nimbers_below (suc i)) (nimber_form (suc i) ∷ []) (nimbers_below (suc (suc i))) (nimber_form i)
+        (nimber_form (suc i)) (Ok last) last r refl n.given m (nimbers_below-next (suc i))
 
-    pub nimbers_next : (more : List ℕ) (next j : ℕ) → more ≡ lesser ++ (last ∷ []) → r ≡ Ok next
-        → StandsFor u next (nimber_form (suc i)) → v.spare ≤ u.spare → j ≡ suc i → NimbersMade w u more next j
-    nimbers_next more next j e o s l f =
+    pub nimbers_next : (more : List ℕ) (next j : ℕ) → more ≡ lesser ++ (last ∷ []) → r ≡ Ok next → j ≡ suc i
+        → NimbersMade w u more next j
+    nimbers_next more next j e o f =
         let N : ℕ → Type 0 = λ k. NimbersMade w u more next k in
-        let before = n.more in
+        let Q : Result ℕ ValueFault → Type 0 = λ z. Gives w u (map plain_item (nimbers_below (suc (suc i))))
+        (nimber_form (suc i)) z in
         subst N (sym f) (record {
-          lesser_stand = stand_later v u m.keeps.known more (nimbers_below (suc i)) (nimber_options lesser more last i n e);
-          last_stands = s;
-          made = forms_with w u (nimbers_below (suc (suc i))) r (Ok next) next next o refl one_more;
-          more = omega arith;
+          lesser_stand = stand_later v u m.made.keeps.known more (nimbers_below (suc i))
+              (nimber_options lesser more last i n e);
+          given = subst Q o one_more;
         })
 
     pub nimbers_refused : (count : ℕ) (q : Result ℕ ValueFault) (fault : ValueFault) → r ≡ Err fault → q ≡ Err fault
-        → i < count → FormsMade w u (nimbers_below (suc count)) q
+        → i < count → Gives w u (map plain_item (nimbers_below (suc count))) (nimber_form count) q
     nimbers_refused count q fault e f l =
         let (back, front) = nimbers_below-front (suc i) (suc count) (omega arith) in
-        forms_stopped w u (nimbers_below (suc (suc i))) back (nimbers_below (suc count)) r q fault e f one_more
+        given_stopped w u (nimbers_below (suc (suc i))) back (nimbers_below (suc count)) (nimber_form (suc i))
+        (nimber_form count) r q fault e f one_more
         (front ∙ sym (append_assoc (nimbers_below (suc i)) (nimber_form (suc i) ∷ []) back)
         ∙ ap (λ z. z ++ back) (sym (nimbers_below-next (suc i))))
 
   -- no memory for the options
   pub nimbers_memory : (lesser : List ℕ) (last i count : ℕ) (q : Result ℕ ValueFault) → NimbersMade w v lesser last i
-      → q ≡ Err Memory → FormsMade w v (nimbers_below (suc count)) q
-  nimbers_memory lesser last i count q n e = made_memory w v (map plain_item (nimbers_below (suc count))) q e n.made.keeps
+      → q ≡ Err Memory → Gives w v (map plain_item (nimbers_below (suc count))) (nimber_form count) q
+  nimbers_memory lesser last i count q n e =
+      given_memory w v (map plain_item (nimbers_below (suc count))) (nimber_form count) q e n.given.made.keeps n.given.more
+
+  pub nimbers_all : (lesser : List ℕ) (last i count : ℕ) → NimbersMade w v lesser last i → i ≡ count
+      → Gives w v (map plain_item (nimbers_below (suc count))) (nimber_form count) (Ok last)
+  nimbers_all lesser last i count n e =
+      let P : ℕ → Type 0 = λ k. Gives w v (map plain_item (nimbers_below (suc k))) (nimber_form k) (Ok last) in
+      subst P e n.given
 
   pub nimbers_first_refused : (count : ℕ) (r q : Result ℕ ValueFault) (fault : ValueFault) → r ≡ Err fault
-      → q ≡ Err fault → FormsMade w v (zero_form ∷ []) r → FormsMade w v (nimbers_below (suc count)) q
+      → q ≡ Err fault → Gives w v (plain_item zero_form ∷ []) zero_form r
+      → Gives w v (map plain_item (nimbers_below (suc count))) (nimber_form count) q
   nimbers_first_refused count r q fault e f m =
       let (back, front) = nimbers_below-front 0 (suc count) (omega arith) in
-      forms_stopped w v (zero_form ∷ []) back (nimbers_below (suc count)) r q fault e f m (front ∙ first_only back)
+      given_stopped w v (zero_form ∷ []) back (nimbers_below (suc count)) zero_form (nimber_form count) r q fault e f m
+      (front ∙ first_only back)

@@ -11,10 +11,9 @@ use Rattle.cg_form.specs.Positions.{positions_of}
 use Rattle.cg_nodes.proofs.Later.{stands_game}
 use Rattle.cg_canon.specs.declared.fault.ValueFault.{ValueFault}
 use Rattle.cg_canon.specs.declared.rest.WorkRest.{WorkRest}
-use Rattle.cg_names.specs.Making.{FormsMade}
 use Rattle.cg_dyadic.specs.Exact.{number_negative}
 use Rattle.cg_names.specs.Named.{first_number, mirrored_if, other_numbers, pair_form, pair_positions, second_number, switch_form, tiny_form, tiny_part, zero_form, zero_number}
-use Rattle.cg_names.proofs.Steps.{forms_after, forms_stopped}
+use Rattle.cg_names.proofs.Steps.{FormsMade, forms_after, forms_stopped}
 use Rattle.cg_names.proofs.SwitchForms.{switch-canonical, tiny_part-canonical}
 use Rattle.cg_names.proofs.SwitchPositions.{other_none, other_one, switch-positions, tiny-positions}
 

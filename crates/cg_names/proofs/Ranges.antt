@@ -1,25 +1,21 @@
 -- The numbers and counts of a name are in range where the numbers of the game are, and its depth is.
-use Rattle.std.proofs.Common.{◌≡◌, refl, ap, sym, ◌∙◌, subst, ℕ, zero, suc, ◌^◌, ◌<◌, ◌≤◌, arith, inl, inr, List, [], ◌∷◌, Bool, true, false, Option, Some, None, unsigned_abs, neg_ℤ}
+use Rattle.std.proofs.Common.{◌≡◌, refl, ap, sym, ◌∙◌, subst, ℕ, zero, suc, ◌^◌, ◌<◌, ◌≤◌, arith, inl, inr, List, [], ◌∷◌, Bool, true, false, unsigned_abs, neg_ℤ}
 use Rattle.std.proofs.lemmas.Int.{ints}
 use Rattle.cg_dyadic.specs.Number.{InRange, Number, num_of}
-use Rattle.cg_form.specs.Canonical.{Canonical}
 use Rattle.cg_form.specs.Depth.{deepest_of, depth_of}
 use Rattle.cg_form.specs.Game.{Among, Game, Games, more, node, none, number, of_list, options}
 use Rattle.cg_form.specs.Shifted.{shifted}
-use Rattle.cg_names.specs.Name.{name_of}
 use Rattle.cg_dyadic.specs.Exact.{number_negative}
 use Rattle.cg_names.specs.Named.{mirrored_if, nimber_form, nimbers_below, switch_form, tiny_form, ups_of}
-use Rattle.cg_names.specs.Reading.{ReadsAs, most_open}
+use Rattle.cg_names.specs.Reading.{AreNamesInRange, IsNameInRange, IsSignInRange}
 use Rattle.cg_nodes.specs.Ranges.{AllInRange, AreInRange}
 use Rattle.cg_names.specs.Readings.{stars_above}
-use Rattle.cg_names.specs.Shapes.{HasForm, sign_of}
+use Rattle.cg_names.specs.Shapes.{HasForm}
 use Rattle.cg_names.specs.declared.sign.Sign.{Sign}
 use Rattle.cg_names.specs.declared.sign.Sign.TheVariants.{Star, Arrows, Switch, Tiny}
-use Rattle.cg_names.proofs.Counted.{braces-opened}
-use Rattle.cg_names.proofs.Guessing.{above_zero, found-form}
+use Rattle.cg_names.proofs.Guessing.{above_zero}
+use Rattle.cg_names.proofs.NameRule.{fits-form}
 use Rattle.cg_nimbers.proofs.NimberLists.{nimber_among}
-use Rattle.cg_names.proofs.Opened.{AreNamesInRange, IsNameInRange, IsSignInRange, SignOr}
-use Rattle.cg_names.proofs.ReadBack.{reads-as}
 use Rattle.cg_names.proofs.SignForms.{both_is, depth-shifted, depth-ups, nimber_next, star_above, star_over, stars_first, step_is}
 use Rattle.cg_dyadic.proofs.Negatives.{negative-of}
 
@@ -102,26 +98,13 @@ sign_range g (Tiny miny x) h a d = tiny_range miny x (at g (tiny_form miny x) h.
 -- ---- whole names
 
 mutual
-  name_range : (g : Game) → AllInRange g → depth_of g < 10 ^ 30 → IsNameInRange g
+  pub name_range : (g : Game) → AllInRange g → depth_of g < 10 ^ 30 → IsNameInRange g
   name_range (number x) a d = a
-  name_range (options ls rs) a d = by (sign_of (options ls rs)) refl
-      (names_range ls a.0 (omega arith)) (names_range rs a.1 (omega arith))
-    where
-      by : (o : Option Sign) → sign_of (options ls rs) ≡ o → AreNamesInRange ls → AreNamesInRange rs
-          → SignOr (sign_of (options ls rs)) (AreNamesInRange ls × AreNamesInRange rs)
-      by None e l r = let P : Option Sign → Type 0 = λ o. SignOr o (AreNamesInRange ls × AreNamesInRange rs) in
-          subst P (sym e) (l, r)
-      by (Some s) e l r = let P : Option Sign → Type 0 = λ o. SignOr o (AreNamesInRange ls × AreNamesInRange rs) in
-          subst P (sym e) (sign_range (options ls rs) s (found-form (options ls rs) s e) a d)
+  name_range (options ls rs) a d = (
+    (λ s f. sign_range (options ls rs) s (fits-form s (options ls rs) f) a d),
+    (λ n. (names_range ls a.0 (omega arith), names_range rs a.1 (omega arith))),
+  )
 
   names_range : (gs : Games) → AreInRange gs → deepest_of gs < 10 ^ 30 → AreNamesInRange gs
   names_range none a d = tt
   names_range (more g gs) a d = (name_range g a.0 (omega arith), names_range gs a.1 (omega arith))
-
--- a name reads back where the numbers of its game are in range, and its depth is below 10^30
-pub name_reads : (g : Game) → Canonical g → AllInRange g → depth_of g < 10 ^ 30 → most_open 0 (name_of g) ≤ 64
-    → ReadsAs g (name_of g)
-name_reads g c a d l =
-    let r = name_range g a d in
-    let i = braces-opened g r in
-    reads-as g c r (omega arith)

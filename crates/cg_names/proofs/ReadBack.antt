@@ -1,6 +1,7 @@
 -- Names read back: braces and whole names.
-use Rattle.std.proofs.Common.{◌≡◌, refl, ap, sym, subst, ℕ, zero, suc, ◌+◌, ◌≤◌, max, arith, inl, inr, ◌⊎◌, List, [], ◌∷◌, ◌++◌, append-nil, map, length, Option, Some, None}
+use Rattle.std.proofs.Common.{◌≡◌, refl, ap, sym, ◌∙◌, subst, ℕ, zero, suc, ◌+◌, ◌≤◌, max, arith, inl, inr, ◌⊎◌, List, [], ◌∷◌, ◌++◌, append-nil, map, length, Option, Some, None}
 use Rattle.std.specs.Prelude.{codes}
+use Rattle.cg_dyadic.specs.Exact.{number_text}
 use Rattle.cg_form.specs.Canonical.{Canonical}
 use Rattle.cg_form.specs.Game.{Among, Game, Games, more, none, options, to_list}
 use Rattle.cg_form.specs.Game as tree
@@ -21,13 +22,11 @@ use Rattle.cg_reading.proofs.Texts.{behind_none}
 use Rattle.cg_grammar.proofs.WrittenSpecials.{braces_special}
 use Rattle.cg_grammar.proofs.WrittenTerms.{expr_is, special_is}
 use Rattle.cg_names.specs.Meaning.{PositionForms, meaning, meanings}
-use Rattle.cg_names.specs.Name.{braces_name, further_names, name_of, names_of, sign_or}
-use Rattle.cg_names.specs.Reading.{ReadsAs}
-use Rattle.cg_names.specs.Shapes.{sign_of}
-use Rattle.cg_names.specs.declared.sign.Sign.{Sign}
-use Rattle.cg_names.proofs.NameRule.{found_fits}
-use Rattle.cg_names.proofs.Opened.{AreNamesInRange, IsNameInRange, SignOr, braces_with, open_braces, open_in}
-use Rattle.cg_names.proofs.HotTerms.{sign-reads}
+use Rattle.cg_names.specs.Name.{AreFurther, AreNames, IsName, braces_name}
+use Rattle.cg_names.specs.Reading.{AreNamesInRange, IsNameInRange, ReadsAs, most_open}
+use Rattle.cg_names.specs.Signs.{sign_text}
+use Rattle.cg_names.proofs.Counted.{Counted, IsBare, bare_counted, braces_counted, fewer_counted, joined_counted, number_bare, sign_bare}
+use Rattle.cg_names.proofs.SignTerms.{sign-reads}
 use Rattle.cg_names.proofs.Terms.{Reading, number-reads}
 use Rattle.cg_names.proofs.Tokens.{OtherThanBar, other_append, other_ends}
 
@@ -272,55 +271,87 @@ braces-read k ls rs left right l r = record {
 
 -- ---- whole names
 
-braced : (k : ℕ) (ls rs : Games) → suc (max (open_in ls) (open_in rs)) ≤ k
-    → ((j : ℕ) → open_in ls ≤ j → Sided j ls (names_of ls)) → ((j : ℕ) → open_in rs ≤ j → Sided j rs (names_of rs))
-    → Reading k (options ls rs) (braces_name (names_of ls) (names_of rs))
-braced zero ls rs l f h = absurd (omega arith)
-braced (suc k) ls rs l f h = braces-read k ls rs (names_of ls) (names_of rs) (f k (omega arith)) (h k (omega arith))
+-- how many braces are open at once in a text, and that it reads as so many or more may be open
+record Told (Reads : ℕ → Type 0) (text : List ℕ) : Type 0 where
+  opened : ℕ
+  counted : Counted opened text
+  reads : (k : ℕ) → opened ≤ k → Reads k
+
+bare_told : (Reads : ℕ → Type 0) (text : List ℕ) → IsBare text → ((k : ℕ) → Reads k) → Told Reads text
+bare_told Reads text b r = record { opened = 0; counted = bare_counted text b; reads = λ k l. r k }
+
+-- braces round the names of two lists
+braces_told : (ls rs : Games) (left right : List ℕ) → Told (λ k. Sided k ls left) left → Told (λ k. Sided k rs right) right
+    → Told (λ k. Reading k (options ls rs) (braces_name left right)) (braces_name left right)
+braces_told ls rs left right f h = record {
+  opened = suc (max f.opened h.opened);
+  counted = braces_counted f.opened h.opened left right f.counted h.counted;
+  reads = by;
+}
+  where
+    by : (k : ℕ) → suc (max f.opened h.opened) ≤ k → Reading k (options ls rs) (braces_name left right)
+    by zero l = absurd (omega arith)
+    by (suc k) l = braces-read k ls rs left right (f.reads k (omega arith)) (h.reads k (omega arith))
+
+-- a name, and the names of a list behind it
+joined_told : {Reads : ℕ → Type 0} (g : Game) (gs : Games) (name rest : List ℕ) → Told (λ k. Reading k g name) name
+    → Told (λ k. Further k gs rest) rest → ((k : ℕ) → Reading k g name → Further k gs rest → Reads k)
+    → Told Reads (name ++ rest)
+joined_told g gs name rest f h both = record {
+  opened = max f.opened h.opened;
+  counted = joined_counted f.opened h.opened name rest f.counted h.counted;
+  reads = λ k l. both k (f.reads k (omega arith)) (h.reads k (omega arith));
+}
+
+comma_told : {Reads : ℕ → Type 0} (text : List ℕ) → Told Reads text → Told Reads (codes "," ++ text)
+comma_told text f = record {
+  opened = f.opened;
+  counted = fewer_counted (max 0 f.opened) f.opened (codes "," ++ text) (omega arith)
+      (joined_counted 0 f.opened (codes ",") text (bare_counted (codes ",") ((refl, refl), tt)) f.counted);
+  reads = f.reads;
+}
 
 mutual
-  pub name-reads : (k : ℕ) (g : Game) → open_braces g ≤ k → IsNameInRange g → Reading k g (name_of g)
-  name-reads k (tree.number x) l r = number-reads k x r
-  name-reads k (options ls rs) l r = by (sign_of (options ls rs)) refl
-      (λ j m q. sides-read j ls m q) (λ j m q. sides-read j rs m q)
-    where
-      g : Game
-      g = options ls rs
+  name_told : (g : Game) (text : List ℕ) → IsName g text → IsNameInRange g → Told (λ k. Reading k g text) text
+  name_told (tree.number x) text n r =
+      rw n (bare_told (λ k. Reading k (tree.number x) (number_text x)) (number_text x) (number_bare x r)
+      (λ k. number-reads k x r))
+  name_told (options ls rs) text (inl n) r =
+      let q = r.0 n.sign n.fits in
+      let g : Game = options ls rs in
+      rw n.spelled (bare_told (λ k. Reading k g (sign_text n.sign)) (sign_text n.sign) (sign_bare n.sign q)
+      (λ k. sign-reads k n.sign g n.fits q))
+  name_told (options ls rs) text (inr n) r =
+      let q = r.1 n.unsigned in
+      rw n.spelled (braces_told ls rs n.left n.right (side_told ls n.left n.lefts q.0) (side_told rs n.right n.rights q.1))
 
-      by : (o : Option Sign) → sign_of (options ls rs) ≡ o
-          → ((j : ℕ) → open_in ls ≤ j → AreNamesInRange ls → Sided j ls (names_of ls))
-          → ((j : ℕ) → open_in rs ≤ j → AreNamesInRange rs → Sided j rs (names_of rs))
-          → Reading k (options ls rs) (name_of (options ls rs))
-      by (Some s) e f h =
-          let P : Option Sign → Type 0 = λ o. SignOr o (AreNamesInRange ls × AreNamesInRange rs) in
-          let Q : List ℕ → Type 0 = λ t. Reading k (options ls rs) t in
-          let named = ap (λ o. sign_or o (braces_name (names_of ls) (names_of rs))) e in
-          subst Q (sym named) (sign-reads k s (options ls rs) (found_fits (options ls rs) s e) (subst P e r))
-      by None e f h =
-          let P : Option Sign → Type 0 = λ o. SignOr o (AreNamesInRange ls × AreNamesInRange rs) in
-          let L : Option Sign → Type 0 = λ o. braces_with o (suc (max (open_in ls) (open_in rs))) ≤ k in
-          let Q : List ℕ → Type 0 = λ t. Reading k (options ls rs) t in
-          let named = ap (λ o. sign_or o (braces_name (names_of ls) (names_of rs))) e in
-          let q = subst P e r in
-          subst Q (sym named) (braced k ls rs (subst L e l) (λ j m. f j m q.0) (λ j m. h j m q.1))
+  side_told : (gs : Games) (text : List ℕ) → AreNames gs text → AreNamesInRange gs → Told (λ k. Sided k gs text) text
+  side_told none text n r = rw n (bare_told (λ k. Sided k none []) [] tt sided_none)
+  side_told (more g gs) text n r =
+      rw n.spelled (joined_told g gs n.before n.behind (name_told g n.before n.first r.0)
+      (further_told gs n.behind n.second r.1) (λ k. sided_more k g gs n.before n.behind))
 
-  sides-read : (k : ℕ) (gs : Games) → open_in gs ≤ k → AreNamesInRange gs → Sided k gs (names_of gs)
-  sides-read k none l r = sided_none k
-  sides-read k (more g gs) l r =
-      sided_more k g gs (name_of g) (further_names gs) (name-reads k g (omega arith) r.0)
-      (further-read k gs (omega arith) r.1)
+  further_told : (gs : Games) (text : List ℕ) → AreFurther gs text → AreNamesInRange gs → Told (λ k. Further k gs text) text
+  further_told none text n r = rw n (bare_told (λ k. Further k none []) [] tt further_none)
+  further_told (more g gs) text n r =
+      let m = n.second in
+      let whole : text ≡ codes "," ++ (m.before ++ m.behind) =
+      n.spelled ∙ ap (λ z. z ++ n.behind) n.first ∙ ap (λ z. codes "," ++ z) m.spelled in
+      rw whole (comma_told (m.before ++ m.behind) (joined_told g gs m.before m.behind
+      (name_told g m.before m.first r.0) (further_told gs m.behind m.second r.1)
+      (λ k. further_more k g gs m.before m.behind)))
 
-  further-read : (k : ℕ) (gs : Games) → open_in gs ≤ k → AreNamesInRange gs → Further k gs (further_names gs)
-  further-read k none l r = further_none k
-  further-read k (more g gs) l r =
-      further_more k g gs (name_of g) (further_names gs) (name-reads k g (omega arith) r.0)
-      (further-read k gs (omega arith) r.1)
-
-pub reads-as : (g : Game) → Canonical g → IsNameInRange g → open_braces g ≤ 64 → ReadsAs g (name_of g)
-reads-as g c r l =
-    let n = name-reads 64 g l r in
+-- a name reads back where its numbers and counts are in range, and few braces are open at once in its text
+pub name_reads : (g : Game) (text : List ℕ) → Canonical g → IsName g text → IsNameInRange g → most_open 0 text ≤ 64
+    → ReadsAs g text
+unfolding Counted
+name_reads g text c n r l =
+    let t = name_told g text n r in
+    let P : List ℕ → Type 0 = λ z. max (0 + t.opened) (most_open 0 []) ≤ most_open 0 z in
+    let m = subst P (append-nil text) (t.counted 0 []) in
+    let b = t.reads 64 (omega arith) in
     record {
-      tree = n.tree;
-      is_expr = λ i. expr_is (grammar.special formats.One 64) i n.tree (name_of g) (n.is i);
-      means = λ forms. record { canonical = c; equal = equal_back (meaning forms n.tree) g (n.means forms) };
+      tree = b.tree;
+      is_expr = λ i. expr_is (grammar.special formats.One 64) i b.tree text (b.is i);
+      means = λ forms. record { canonical = c; equal = equal_back (meaning forms b.tree) g (b.means forms) };
     }

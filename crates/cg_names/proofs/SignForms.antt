@@ -139,7 +139,7 @@ pub data ArrowsShape (down starred : Bool) (x : Number) (n : ℕ) (ls rs : List 
   step : (m : ℕ) → IsStep starred m → n ≡ suc m → ls ≡ number x ∷ []
       → rs ≡ shifted x (ups_of down (not starred) m) ∷ [] → ArrowsShape down starred x n ls rs
 
-not_number : (g : Game) (x : Number) → IsNode g → ¬ (g ≡ number x)
+pub not_number : (g : Game) (x : Number) → IsNode g → ¬ (g ≡ number x)
 not_number g x i e = let P : Game → Type 0 = λ z. IsNode z in subst P e i
 
 pub arrows_shape : (down starred : Bool) (x : Number) (n : ℕ) (ls rs : List Game)

@@ -10,6 +10,7 @@ use Rattle.cg_form.proofs.Sides.{equal_side, not_far, not_near, side_equal, side
 use Rattle.cg_names.specs.Named.{star_form, ups_of, zero_form}
 use Rattle.cg_names.proofs.Reducing.{far-mirrored, near-mirrored, near-zero}
 use Rattle.cg_form.proofs.EqualGames.{equal_assoc}
+use Rattle.cg_names.proofs.UpForms.{star_far_is, star_near}
 use Rattle.cg_names.proofs.SumWords.{far_first, far_sum, near_first, near_second, near_sum, two_stars}
 use Rattle.cg_nimbers.proofs.IntegerMultiples.{sum_first, sum_second, sum_zero, zero_sum}
 
@@ -17,19 +18,11 @@ only_one : (a b : Game) → Among a (b ∷ []) → a ≡ b
 only_one a b (inl e) = e
 only_one a b (inr m) = absurd m
 
-star_near : (s : Bool) → near s star_form ≡ zero_form ∷ []
-star_near true = refl
-star_near false = refl
-
-star_far : (s : Bool) → far s star_form ≡ zero_form ∷ []
-star_far true = refl
-star_far false = refl
-
 zero_near_star : (s : Bool) → Among zero_form (near s star_form)
 zero_near_star s = carry zero_form (zero_form ∷ []) (near s star_form) (sym (star_near s)) (inl refl)
 
 zero_far_star : (s : Bool) → Among zero_form (far s star_form)
-zero_far_star s = carry zero_form (zero_form ∷ []) (far s star_form) (sym (star_far s)) (inl refl)
+zero_far_star s = carry zero_form (zero_form ∷ []) (far s star_form) (sym (star_far_is s)) (inl refl)
 
 module _ (down : Bool) where
   -- the side that the ups favour
@@ -246,7 +239,7 @@ module _ (down : Bool) where
               (side_equal s (up n) (sum (starred n) star_form) (equal_back (sum (starred n) star_form) (up n) e))
               (at (λ y. AtMost s y H) b _ t k))
           | inr (c, w, f) ↦
-              let z : c ≡ zero_form = only_one c zero_form (carry c (far s star_form) (zero_form ∷ []) (star_far s) w) in
+              let z : c ≡ zero_form = only_one c zero_form (carry c (far s star_form) (zero_form ∷ []) (star_far_is s) w) in
               let t : b ≡ sum (up (suc n)) zero_form = f ∙ ap (λ y. sum (up (suc n)) y) z in
               (side_unfold s (up (suc n)) H (side_trans s (up (suc n)) (sum (up (suc n)) zero_form) H
               (side_equal s (up (suc n)) (sum (up (suc n)) zero_form)

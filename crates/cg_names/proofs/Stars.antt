@@ -14,9 +14,8 @@ use Rattle.cg_names.specs.Shapes.{sign_of}
 use Rattle.cg_names.specs.declared.sign.Sign.{Sign}
 use Rattle.cg_names.specs.declared.sign.Sign.TheVariants.{Star}
 use Rattle.cg_names.proofs.Guessing.{above_zero, found-form, sign-found}
-use Rattle.cg_names.proofs.Looks.{not_both}
 use Rattle.cg_names.proofs.NameRule.{some_is}
-use Rattle.cg_names.proofs.SignForms.{length-stars, mirrored-node, mirrored-others, mirrored-own, shifted-zero, star_over, stars_first, stars_next}
+use Rattle.cg_names.proofs.SignForms.{length-stars, mirrored-node, mirrored-others, mirrored-own, not_number, shifted-zero, star_over, stars_first, stars_next}
 
 -- ---- handles in front
 
@@ -25,10 +24,6 @@ games_front s [] zero a = tt
 games_front s [] (suc i) a = tt
 games_front s (h ∷ hs) zero a = tt
 games_front s (h ∷ hs) (suc i) a = (a.0, games_front s hs i a.1)
-
-pub length-games : {R : Type 0} (s : State Meant R) (hs : List ℕ) → length (games_at s hs) ≡ length hs
-length-games s [] = refl
-length-games s (h ∷ hs) = ap (λ (n : ℕ). suc n) (length-games s hs)
 
 -- the last game behind the others
 pub games_last : {R : Type 0} (s : State Meant R) (hs : List ℕ) (i k : ℕ) → i < length hs → length hs ≤ suc i
@@ -107,7 +102,7 @@ number_behind x gs n l some y m e =
     by zero z q = some (sym z)
     by (suc k) z q =
         let L : List Game = stars_above y (suc k) in
-        not_both (node L L) x (mirrored-node false L L) (sym (star_over y k) ∙ sym q)
+        not_number (node L L) x (mirrored-node false L L) (sym (star_over y k) ∙ sym q)
 
 -- a game with the Left options ls at the end
 module _ (ls rs hs : List Game) (o : Option Sign) (is : o ≡ sign_of (node ls rs)) where
@@ -127,7 +122,7 @@ module _ (ls rs hs : List Game) (o : Option Sign) (is : o ≡ sign_of (node ls r
     where
       by : (k : ℕ) → hs ≡ stars_above y k → node ls rs ≡ shifted y (nimber_form k)
           → (m : ℕ) × (hs ≡ stars_above y (suc m)) × (node ls rs ≡ shifted y (nimber_form (suc m)))
-      by zero p q = absurd (not_both (node ls rs) y (mirrored-node false ls rs) (q ∙ shifted-zero y))
+      by zero p q = absurd (not_number (node ls rs) y (mirrored-node false ls rs) (q ∙ shifted-zero y))
       by (suc m) p q = (m, p, q)
 
   pub no_star_behind : ((x : Number) (n : ℕ) → ¬ (o ≡ Some (Star x n))) → AreStars (hs ++ (node ls rs ∷ [])) None

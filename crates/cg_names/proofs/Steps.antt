@@ -1,26 +1,31 @@
 -- Forms that are made one after another.
-use Rattle.std.proofs.Common.{◌≡◌, refl, ap, sym, ◌∙◌, subst, ℕ, ◌<◌, ◌≤◌, arith, List, [], ◌∷◌, ◌++◌, map, Result, Ok, Err, OnOk, Bool, true, false}
-use Rattle.std.specs.Prelude.{IfErr, length, nat_lt, if◌then◌else◌}
+use Rattle.std.proofs.Common.{◌≡◌, refl, ap, sym, ◌∙◌, subst, ℕ, ◌<◌, ◌≤◌, arith, List, [], ◌∷◌, ◌++◌, map, Result, Ok, Err, Bool, true, false}
+use Rattle.std.specs.Prelude.{IfOk, length, nat_lt, if◌then◌else◌}
 use Rattle.std.proofs.lemmas.Bool.Decides.{nat_tests}
 use Rattle.std.proofs.lemmas.List.{map-append}
 use Rattle.cg_dyadic.proofs.Truth.{less-nat_lt}
 use Rattle.cg_form.specs.Game.{Game, node}
 use Rattle.cg_cells.specs.Store.{State}
+use Rattle.cg_nodes.specs.Games.{StandsFor}
 use Rattle.cg_nodes.specs.Meant.{Meant}
 use Rattle.cg_form.specs.Positions.{positions_of}
 use Rattle.cg_canon.specs.declared.fault.ValueFault.{ValueFault}
-use Rattle.cg_canon.specs.declared.fault.ValueFault.TheVariants.{Positions}
-use Rattle.cg_canon.specs.Items.{AllPass, IsStopped, Item, WasRefused, made, too_many}
-use Rattle.cg_canon.specs.Made.{ItemsMade}
+use Rattle.cg_canon.specs.declared.fault.ValueFault.TheVariants.{Memory, Positions}
+use Rattle.cg_canon.specs.Items.{IsStopped, Item, too_many}
+use Rattle.cg_canon.specs.Made.{Gives, ItemsMade}
 use Rattle.cg_canon.specs.declared.rest.WorkRest.{WorkRest}
 use Rattle.cg_canon.specs.Works.{Keeps}
 use Rattle.cg_canon.proofs.ItemLaws.{stopped-one}
-use Rattle.cg_canon.proofs.MadeSteps.{made_after, made_as, made_with, stopped}
+use Rattle.cg_canon.proofs.Keeping.{keeps_all}
+use Rattle.cg_canon.proofs.MadeSteps.{made_after, made_as, made_memory, stopped}
 use Rattle.cg_names.specs.Lists.{form_items, plain_item}
-use Rattle.cg_names.specs.Making.{FormsMade}
 use Rattle.cg_names.specs.Named.{mirrored_if}
 
 -- ---- one call after another
+
+abbrev pub FormsMade : {R T : Type 0} → State Meant (WorkRest R) → State Meant (WorkRest R) → List Game
+    → Result T ValueFault → Type 0
+FormsMade {R} {T} s t forms result = ItemsMade s t (map plain_item forms) result
 
 module _ {R T U : Type 0} (s t : State Meant (WorkRest R)) where
   -- the forms of one call, and then those of another
@@ -40,21 +45,37 @@ module _ {R T U : Type 0} (s t : State Meant (WorkRest R)) where
       (sym (map-append plain_item gs back) ∙ ap (map plain_item) (sym is))
       (stopped s t (map plain_item gs) (map plain_item back) r q fault e f m)
 
-  -- the same forms with another result
-  pub forms_with : (gs : List Game) (r : Result T ValueFault) (q : Result U ValueFault) (h : T) (k : U) → r ≡ Ok h
-      → q ≡ Ok k → FormsMade s t gs r → FormsMade s t gs q
-  forms_with gs r q h k e f m = made_with s t (map plain_item gs) r q h k e f m
+module _ {R : Type 0} (s t : State Meant (WorkRest R)) where
+  pub given_game : (items : List Item) (f : Game) (r : Result ℕ ValueFault) (h : ℕ) → r ≡ Ok h → Gives s t items f r
+      → StandsFor t h f
+  given_game items f r h e m =
+      let P : Result ℕ ValueFault → Type 0 = λ z. IfOk z (λ k. StandsFor t k f) in subst P e m.game
 
-module _ {R T : Type 0} (s t : State Meant (WorkRest R)) where
-  pub forms_as : (gs hs : List Game) (r : Result T ValueFault) → gs ≡ hs → FormsMade s t gs r → FormsMade s t hs r
-  forms_as gs hs r e m = made_as s t (map plain_item gs) (map plain_item hs) r (ap (map plain_item) e) m
+  pub given_refused : (items : List Item) (f : Game) (q : Result ℕ ValueFault) (fault : ValueFault) → q ≡ Err fault
+      → ItemsMade s t items q → s.spare ≤ t.spare → Gives s t items f q
+  given_refused items f q fault e m l =
+      let P : Result ℕ ValueFault → Type 0 = λ z. IfOk z (λ k. StandsFor t k f) in
+      record { game = subst P (sym e) tt; made = m; more = l }
 
-  -- one form
-  pub one_form : (k g : Game) (r : Result T ValueFault) → k ≡ g
-      → OnOk r (AllPass s.rest.share s.rest.spent (made k 0 ∷ []) t.rest.spent)
-      → IfErr r (λ fault. WasRefused fault s.rest.share s.rest.spent (made k 0 ∷ []) t.rest.spent) → Keeps s t
-      → FormsMade s t (g ∷ []) r
-  one_form k g r e p q kept = forms_as (k ∷ []) (g ∷ []) r (ap (λ z. z ∷ []) e) (record { charged = p; refused = q; keeps = kept })
+  pub given_memory : (items : List Item) (f : Game) (q : Result ℕ ValueFault) → q ≡ Err Memory → Keeps s t
+      → s.spare ≤ t.spare → Gives s t items f q
+  given_memory items f q e k l = given_refused items f q Memory e (made_memory s t items q e k) l
+
+  -- a refusal, where other forms would have followed
+  pub given_stopped : (gs back all : List Game) (f g : Game) (r q : Result ℕ ValueFault) (fault : ValueFault)
+      → r ≡ Err fault → q ≡ Err fault → Gives s t (map plain_item gs) f r → all ≡ gs ++ back
+      → Gives s t (map plain_item all) g q
+  given_stopped gs back all f g r q fault e d m is =
+      given_refused (map plain_item all) g q fault d (forms_stopped s t gs back all r q fault e d m.made is) m.more
+
+  -- one call, and then another
+  pub given_after : (u : State Meant (WorkRest R)) (gs hs all : List Game) (f g : Game) (r : Result ℕ ValueFault) (h : ℕ)
+      (q : Result ℕ ValueFault) → r ≡ Ok h → Gives s t (map plain_item gs) f r → Gives t u (map plain_item hs) g q
+      → all ≡ gs ++ hs → Gives s u (map plain_item all) g q
+  given_after u gs hs all f g r h q e m n is =
+      let a = m.more in
+      let b = n.more in
+      record { game = n.game; made = forms_after s t u gs hs all r h q e m.made n.made is; more = omega arith }
 
 -- the canonical form of the game that is made
 pub mirrored_is : (mirrored : Bool) (ls rs : List Game) → mirrored ≡ true → node rs ls ≡ mirrored_if mirrored ls rs
@@ -87,7 +108,7 @@ form_items-above limit f l =
     (less-nat_lt limit (length (positions_of f)) l)
 
 -- a list that is longer than the limit is refused, and nothing spent
-pub refused_positions : (share spent limit : ℕ) (f : Game) (forms : List Game) → positions_of f ≡ forms → limit <
+refused_positions : (share spent limit : ℕ) (f : Game) (forms : List Game) → positions_of f ≡ forms → limit <
     length forms
     → IsStopped Positions share spent (form_items limit f) spent
 refused_positions share spent limit f forms e l =
@@ -96,9 +117,23 @@ refused_positions share spent limit f forms e l =
     let P : List Item → Type 0 = λ z. IsStopped Positions share spent z spent in
     subst P (sym (form_items-above limit f n)) (stopped-one Positions share spent too_many [] tt)
 
+pub given_positions : {R : Type 0} (s : State Meant (WorkRest R)) (f : Game) (forms : List Game) → positions_of f ≡ forms
+    → s.rest.limit < length forms → Gives s s (form_items s.rest.limit f) f (Err Positions)
+given_positions s f forms e l = record {
+  game = tt;
+  made = record {
+    charged = tt;
+    refused = refused_positions s.rest.share s.rest.spent s.rest.limit f forms e l;
+    keeps = keeps_all s;
+  };
+  more = omega arith;
+}
+
 -- a list within the limit is made
-pub items_from : {R T : Type 0} (s t : State Meant (WorkRest R)) (r : Result T ValueFault) (f : Game) (forms : List Game)
-    → positions_of f ≡ forms → length forms ≤ s.rest.limit → FormsMade s t forms r
-    → ItemsMade s t (form_items s.rest.limit f) r
-items_from s t r f forms e l m =
-    made_as s t (map plain_item forms) (form_items s.rest.limit f) r (sym (form_items-within s.rest.limit f forms e l)) m
+pub given_from : {R : Type 0} (s t : State Meant (WorkRest R)) (r : Result ℕ ValueFault) (k f : Game) (forms : List Game)
+    → k ≡ f → positions_of f ≡ forms → length forms ≤ s.rest.limit → Gives s t (map plain_item forms) k r
+    → Gives s t (form_items s.rest.limit f) f r
+given_from s t r k f forms e p l m =
+    let P : Game → Type 0 = λ z. Gives s t (map plain_item forms) z r in
+    let Q : List Item → Type 0 = λ z. Gives s t z f r in
+    subst Q (sym (form_items-within s.rest.limit f forms p l)) (subst P e m)

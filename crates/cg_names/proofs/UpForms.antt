@@ -24,11 +24,11 @@ record UpLike (s : Bool) (g : Game) : Type 0 where
   slight : Slight s g
   canonical : Canonical g
 
-star_near : (s : Bool) → near s star_form ≡ zero_form ∷ []
+pub star_near : (s : Bool) → near s star_form ≡ zero_form ∷ []
 star_near true = refl
 star_near false = refl
 
-star_far_is : (s : Bool) → far s star_form ≡ zero_form ∷ []
+pub star_far_is : (s : Bool) → far s star_form ≡ zero_form ∷ []
 star_far_is true = refl
 star_far_is false = refl
 

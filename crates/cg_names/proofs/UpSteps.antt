@@ -1,5 +1,5 @@
 -- Ups and downs, made one after another.
-use Rattle.std.proofs.Common.{◌≡◌, refl, ap, sym, ◌∙◌, subst, ℕ, zero, suc, ◌+◌, ◌-◌, ◌%◌, ◌<◌, ◌≤◌, arith, List, [], ◌∷◌, ◌++◌, append_assoc, append-nil, Bool, true, false, not, ◌&&◌, nat_eq, inl, inr, Result, Ok, Err}
+use Rattle.std.proofs.Common.{◌≡◌, refl, ap, sym, ◌∙◌, subst, ℕ, zero, suc, ◌+◌, ◌-◌, ◌%◌, ◌<◌, ◌≤◌, arith, List, [], ◌∷◌, ◌++◌, append_assoc, append-nil, map, Bool, true, false, not, ◌&&◌, nat_eq, inl, inr, Result, Ok, Err}
 use Rattle.std.proofs.lemmas.Bool.Decides.{nat_tests}
 use Rattle.cg_dyadic.proofs.Truth.{not_not}
 use Rattle.cg_dyadic.proofs.Truth.{true_or_false}
@@ -10,9 +10,10 @@ use Rattle.cg_nodes.specs.Meant.{Meant}
 use Rattle.cg_nodes.proofs.Later.{stands_game, stands_later}
 use Rattle.cg_canon.specs.declared.fault.ValueFault.{ValueFault}
 use Rattle.cg_canon.specs.declared.rest.WorkRest.{WorkRest}
-use Rattle.cg_names.specs.Making.{FormsMade}
+use Rattle.cg_canon.specs.Made.{Gives}
+use Rattle.cg_names.specs.Lists.{plain_item}
 use Rattle.cg_names.specs.Named.{mirrored_if, nimber_form, nimbers_below, star_form, ups_chain, ups_form, ups_last, ups_of, zero_form}
-use Rattle.cg_names.proofs.Steps.{forms_after, forms_stopped, forms_with}
+use Rattle.cg_names.proofs.Steps.{given_after, given_game, given_stopped}
 
 -- ---- which games of the chain have a star
 
@@ -98,10 +99,8 @@ module _ {R : Type 0} (v : State Meant R) where
 pub record UpsMade {R : Type 0} (w v : State Meant (WorkRest R)) (down : Bool) (count z last : ℕ) (starred : Bool)
     (level : ℕ) : Type 0 where
   pub zero_stands : StandsFor v z zero_form
-  pub last_stands : StandsFor v last (ups_last down starred level)
-  pub made : FormsMade w v (ups_chain down starred level) (Ok last)
+  pub given : Gives w v (map plain_item (ups_chain down starred level)) (ups_last down starred level) (Ok last)
   pub parity : starred ≡ odd (count - level)
-  pub more : w.spare ≤ v.spare
 
 -- before the next one
 next_odd : (count level : ℕ) (starred : Bool) → starred ≡ odd (count - level) → level < count → not starred ≡
@@ -117,83 +116,88 @@ last_before v down starred last level s =
 
 -- 0 and *, with which each chain begins
 module _ {R : Type 0} (w v : State Meant (WorkRest R)) (down : Bool) (count : ℕ) where
-  pub ups_first_refused : (r q : Result ℕ ValueFault) (fault : ValueFault) → r ≡ Err fault → q ≡ Err fault
-      → FormsMade w v (zero_form ∷ []) r → FormsMade w v (ups_chain down false count) q
+  begins : (back : List Game) × (ups_chain down false count ≡ zero_form ∷ (star_form ∷ back))
   unfolding ups_chain
-  ups_first_refused r q fault e f m =
+  begins =
       let (back, front) = ups_chain-front down count 0 in
-      forms_stopped w v (zero_form ∷ []) (star_form ∷ back) (ups_chain down false count) r q fault e f m
-      (ap (ups_chain down false) (let e : count ≡ 0 + count = omega arith in e) ∙ front)
+      (back, ap (ups_chain down false) (let e : count ≡ 0 + count = omega arith in e) ∙ front)
+
+  pub ups_first_refused : (r q : Result ℕ ValueFault) (fault : ValueFault) → r ≡ Err fault → q ≡ Err fault
+      → Gives w v (plain_item zero_form ∷ []) zero_form r
+      → Gives w v (map plain_item (ups_chain down false count)) (ups_form down count) q
+  ups_first_refused r q fault e f m =
+      let (back, front) = begins in
+      given_stopped w v (zero_form ∷ []) (star_form ∷ back) (ups_chain down false count) zero_form (ups_form down count) r q
+      fault e f m front
 
   module _ (u : State Meant (WorkRest R)) (r : Result ℕ ValueFault) (z : ℕ) (ok : r ≡ Ok z)
-      (m : FormsMade w v (zero_form ∷ []) r) (q : Result ℕ ValueFault) (n : FormsMade v u (star_form ∷ []) q) where
-    begun : FormsMade w u (zero_form ∷ (star_form ∷ [])) q
-    begun = forms_after w v u (zero_form ∷ []) (star_form ∷ []) (zero_form ∷ (star_form ∷ [])) r z q ok m n refl
+      (m : Gives w v (plain_item zero_form ∷ []) zero_form r) (q : Result ℕ ValueFault)
+      (n : Gives v u (plain_item star_form ∷ []) star_form q) where
+    begun : Gives w u (map plain_item (zero_form ∷ (star_form ∷ []))) star_form q
+    begun = given_after w v u (zero_form ∷ []) (star_form ∷ []) (zero_form ∷ (star_form ∷ [])) zero_form star_form r z q ok m n
+        refl
 
     pub ups_star_refused : (o : Result ℕ ValueFault) (fault : ValueFault) → q ≡ Err fault → o ≡ Err fault
-        → FormsMade w u (ups_chain down false count) o
-    unfolding ups_chain
+        → Gives w u (map plain_item (ups_chain down false count)) (ups_form down count) o
     ups_star_refused o fault e f =
-        let (back, front) = ups_chain-front down count 0 in
-        forms_stopped w u (zero_form ∷ (star_form ∷ [])) back (ups_chain down false count) q o fault e f begun
-        (ap (ups_chain down false) (let e : count ≡ 0 + count = omega arith in e) ∙ front)
+        let (back, front) = begins in
+        given_stopped w u (zero_form ∷ (star_form ∷ [])) back (ups_chain down false count) star_form (ups_form down count) q o
+        fault e f begun front
 
-    pub ups_start : (last : ℕ) (starred : Bool) → q ≡ Ok last → StandsFor v z zero_form → StandsFor u last star_form
-        → w.spare ≤ v.spare → v.spare ≤ u.spare → starred ≡ odd count → UpsMade w u down count z last starred 0
+    pub ups_start : (last : ℕ) (starred : Bool) → q ≡ Ok last → starred ≡ odd count → UpsMade w u down count z last starred 0
     unfolding ups_chain
-    ups_start last starred o a b k l p = record {
-      zero_stands = stands_later v u n.keeps.known z zero_form a;
-      last_stands = b;
-      made = forms_with w u (zero_form ∷ (star_form ∷ [])) q (Ok last) last last o refl begun;
+    ups_start last starred o p = record {
+      zero_stands = stands_later v u n.made.keeps.known z zero_form
+          (given_game w v (plain_item zero_form ∷ []) zero_form r z ok m);
+      given =
+          let P : Result ℕ ValueFault → Type 0 = λ x. Gives w u (map plain_item (zero_form ∷ (star_form ∷ []))) star_form x in
+          subst P o begun;
       parity = p ∙ ap odd (let e : count ≡ count - 0 = omega arith in e);
-      more = omega arith;
     }
 
 -- one game more
 module _ {R : Type 0} (w v u : State Meant (WorkRest R)) (down : Bool) (count z last : ℕ) (starred : Bool) (level : ℕ)
     (i : UpsMade w v down count z last starred level) (r : Result ℕ ValueFault)
-    (m : FormsMade v u (ups_of down (not starred) (suc level) ∷ []) r) (within : level < count) where
-  one_more : FormsMade w u (ups_chain down (not starred) (suc level)) r
+    (m : Gives v u (plain_item (ups_of down (not starred) (suc level)) ∷ []) (ups_of down (not starred) (suc level)) r)
+    (within : level < count) where
+  one_more : Gives w u (map plain_item (ups_chain down (not starred) (suc level))) (ups_of down (not starred) (suc level)) r
   one_more =
-      forms_after w v u (ups_chain down starred level) (ups_of down (not starred) (suc level) ∷ [])
-      (ups_chain down (not starred) (suc level)) (Ok last) last r refl i.made m
-      (ups_chain-next down (not starred) level
-      ∙ ap (λ b. ups_chain down b level ++ (ups_of down (not starred) (suc level) ∷ [])) (not_not starred))
+      let next : Game = ups_of down (not starred) (suc level) in
+      given_after w v u (ups_chain down starred level) (next ∷ []) (ups_chain down (not starred) (suc level))
+      (ups_last down starred level) next (Ok last) last r refl i.given m
+      (ups_chain-next down (not starred) level ∙ ap (λ b. ups_chain down b level ++ (next ∷ [])) (not_not starred))
 
-  pub ups_next : (next after : ℕ) → r ≡ Ok next → StandsFor u next (ups_of down (not starred) (suc level))
-      → v.spare ≤ u.spare → after ≡ suc level → UpsMade w u down count z next (not starred) after
-  ups_next next after o s l e =
+  pub ups_next : (next after : ℕ) → r ≡ Ok next → after ≡ suc level → UpsMade w u down count z next (not starred) after
+  ups_next next after o e =
       let N : ℕ → Type 0 = λ k. UpsMade w u down count z next (not starred) k in
-      let before = i.more in
+      let P : Result ℕ ValueFault → Type 0 = λ x. Gives w u (map plain_item (ups_chain down (not starred) (suc level)))
+      (ups_of down (not starred) (suc level)) x in
       subst N (sym e) (record {
-        zero_stands = stands_later v u m.keeps.known z zero_form i.zero_stands;
-        last_stands = s;
-        made = forms_with w u (ups_chain down (not starred) (suc level)) r (Ok next) next next o refl one_more;
+        zero_stands = stands_later v u m.made.keeps.known z zero_form i.zero_stands;
+        given = subst P o one_more;
         parity = next_odd count level starred i.parity within;
-        more = omega arith;
       })
 
   pub ups_refused : (q : Result ℕ ValueFault) (fault : ValueFault) → r ≡ Err fault → q ≡ Err fault
-      → FormsMade w u (ups_chain down false count) q
+      → Gives w u (map plain_item (ups_chain down false count)) (ups_form down count) q
   ups_refused q fault e f =
       let d : ℕ = count - suc level in
       let (back, front) = ups_chain-front down d (suc level) in
-      forms_stopped w u (ups_chain down (not starred) (suc level)) back (ups_chain down false count) r q fault e f one_more
+      given_stopped w u (ups_chain down (not starred) (suc level)) back (ups_chain down false count)
+      (ups_of down (not starred) (suc level)) (ups_form down count) r q fault e f one_more
       (ap (ups_chain down false) (let e : count ≡ suc level + d = omega arith in e) ∙ front
       ∙ ap (λ b. ups_chain down b (suc level) ++ back) (sym (next_odd count level starred i.parity within)))
 
 -- the end
 pub ups_done : {R : Type 0} (w v : State Meant (WorkRest R)) (down : Bool) (count z last : ℕ) (starred : Bool) (level : ℕ)
     → UpsMade w v down count z last starred level → level ≡ count → 1 ≤ count
-    → StandsFor v last (ups_form down count) × FormsMade w v (ups_chain down false count) (Ok last)
+    → Gives w v (map plain_item (ups_chain down false count)) (ups_form down count) (Ok last)
 ups_done w v down zero z last starred level i e l = absurd (omega arith)
 ups_done w v down (suc n) z last starred level i e l =
     let s : starred ≡ false = i.parity ∙ ap odd (let d : suc n - level ≡ 0 = omega arith in d) in
-    let P : ℕ → Type 0 = λ k. StandsFor v last (ups_last down starred k)
-    × FormsMade w v (ups_chain down starred k) (Ok last) in
-    let Q : Bool → Type 0 = λ b. StandsFor v last (ups_last down b (suc n))
-    × FormsMade w v (ups_chain down b (suc n)) (Ok last) in
-    subst Q s (subst P e (i.last_stands, i.made))
+    let P : ℕ → Type 0 = λ k. Gives w v (map plain_item (ups_chain down starred k)) (ups_last down starred k) (Ok last) in
+    let Q : Bool → Type 0 = λ b. Gives w v (map plain_item (ups_chain down b (suc n))) (ups_last down b (suc n)) (Ok last) in
+    subst Q s (subst P e i.given)
 
 -- with no ups the form is 0, as that of no nimber
 pub none_up : (down : Bool) (count : ℕ) → count ≡ 0 → nimber_form 0 ≡ ups_form down count

@@ -1,37 +1,15 @@
--- The name of a game: a number by its text; any other game by the sign that fits it, and where none fits as braces round the
--- names of its options.
-use Rattle.std.specs.Prelude.{ℕ, ◌≡◌, ◌⊎◌, List, [], ◌++◌, Option, Some, None, codes}
+-- The rule of names: a number by its text; any other game by the sign that fits it, and where none fits as braces round the
+-- names of its options. The law function `names` says that every game has exactly one name.
+-- Siegel, Combinatorial Game Theory (2013), II.1 and II.4.
+use Rattle.std.specs.Prelude.{ℕ, ◌≡◌, ◌⊎◌, List, [], ◌++◌, codes}
 use Rattle.cg_dyadic.specs.Exact.{number_text}
 use Rattle.cg_form.specs.Game.{Game, Games, number, options, none, more}
-use Rattle.cg_names.specs.Shapes.{sign_of}
 use Rattle.cg_names.specs.Signs.{Fits, sign_text}
 use Rattle.cg_names.specs.declared.sign.Sign.{Sign}
-
--- the text of a sign, or where there is none the other text
-abbrev pub sign_or : Option Sign → List ℕ → List ℕ
-sign_or None text = text
-sign_or (Some s) text = sign_text s
 
 -- braces round two texts
 abbrev pub braces_name : List ℕ → List ℕ → List ℕ
 braces_name left right = codes "{" ++ (left ++ (codes "|" ++ (right ++ codes "}")))
-
-abbrev mutual
-  pub name_of : Game → List ℕ
-  name_of (number x) = number_text x
-  name_of (options ls rs) = sign_or (sign_of (options ls rs)) (braces_name (names_of ls) (names_of rs))
-
-  -- the names of a list, with commas between them
-  pub names_of : Games → List ℕ
-  names_of none = []
-  names_of (more g gs) = name_of g ++ further_names gs
-
-  -- the names of a list, each behind a comma
-  pub further_names : Games → List ℕ
-  further_names none = []
-  further_names (more g gs) = codes "," ++ (name_of g ++ further_names gs)
-
--- ---- the rule of names, which says the same without looking for a sign
 
 -- no sign fits, and the text is braces round these two texts
 pub record Braced (g : Game) (Lefts Rights : List ℕ → Type 0) (text : List ℕ) : Type 0 where

@@ -7,26 +7,26 @@ use Rattle.cg_form.specs.Shifted.{shifted}
 use Rattle.cg_cells.specs.Store.{State}
 use Rattle.cg_nodes.specs.Games.{IsGame, IsList, game_at, listed}
 use Rattle.cg_nodes.specs.Meant.{Meant}
-use Rattle.cg_names.specs.Named.{nimber_form, nimbers_below, switch_form, tiny_form, ups_of}
+use Rattle.cg_names.specs.Named.{mirrored_if, nimber_form, nimbers_below, pair_form, tiny_form, ups_of}
+use Rattle.cg_names.specs.Shapes.{HasForm}
 use Rattle.cg_names.specs.Signs.{IsPositive}
-use Rattle.cg_names.specs.declared.shape.Few.{Few}
-use Rattle.cg_names.specs.declared.shape.Few.TheVariants.{One, Two, Other}
 use Rattle.cg_names.specs.declared.shape.Numbers.{Numbers}
+use Rattle.cg_names.specs.declared.shape.Two.{Two}
 use Rattle.cg_names.specs.declared.look_star.StarFound.{StarFound}
 use Rattle.cg_names.specs.declared.look_arrows.ArrowsFound.{ArrowsFound}
 use Rattle.cg_names.specs.declared.sign.Sign.{Sign}
 use Rattle.cg_names.specs.declared.sign.Sign.TheVariants.{Star}
 
--- one game, two games, or another number of games
-abbrev pub IsFew : {R : Type 0} → State Meant R → Few → List tree.Game → Type 0
-IsFew {R} s (One a) gs = IsGame s a × (gs ≡ game_at s a ∷ [])
-IsFew {R} s (Two a b) gs = IsGame s a × IsGame s b × (gs ≡ game_at s a ∷ (game_at s b ∷ []))
-IsFew {R} s Other gs = ((a : tree.Game) → ¬ (gs ≡ a ∷ [])) × ((a b : tree.Game) → ¬ (gs ≡ a ∷ (b ∷ [])))
-
 -- the one game of a list that has one
 abbrev pub IsOnly : {R : Type 0} → State Meant R → Option ℕ → List tree.Game → Type 0
 IsOnly {R} s None gs = (a : tree.Game) → ¬ (gs ≡ a ∷ [])
 IsOnly {R} s (Some h) gs = IsGame s h × (gs ≡ game_at s h ∷ [])
+
+-- the two games of a list that has two
+abbrev pub IsTwo : {R : Type 0} → State Meant R → Option Two → List tree.Game → Type 0
+IsTwo {R} s None gs = (a b : tree.Game) → ¬ (gs ≡ a ∷ (b ∷ []))
+IsTwo {R} s (Some p) gs =
+    IsGame s p.first × IsGame s p.second × (gs ≡ game_at s p.first ∷ (game_at s p.second ∷ []))
 
 -- what is behind the game in a list that begins with it
 abbrev pub IsBehind : {R : Type 0} → State Meant R → tree.Game → List tree.Game → Option (Option ℕ) → Type 0
@@ -62,10 +62,20 @@ abbrev pub IsArrows : Bool → tree.Game → Option ArrowsFound → Type 0
 IsArrows down g None = (starred : Bool) (x : Number) (n : ℕ) → ¬ (g ≡ shifted x (ups_of down starred n))
 IsArrows down g (Some a) = g ≡ shifted a.base (ups_of down a.starred a.count)
 
--- the switch of a number above 0
-abbrev pub IsSwitch : tree.Game → Option Number → Type 0
-IsSwitch g None = (x : Number) → IsPositive x → ¬ (g ≡ switch_form x)
-IsSwitch g (Some x) = IsPositive x × (g ≡ switch_form x)
+-- the sign of {x|g}, or of its mirror image, that is one up more than g
+abbrev pub IsMore : Bool → Number → tree.Game → Option Sign → Type 0
+IsMore down x g None = IsArrows down (mirrored_if down (tree.number x ∷ []) (g ∷ [])) None
+IsMore down x g (Some s) = HasForm (mirrored_if down (tree.number x ∷ []) (g ∷ [])) s
+
+-- x, x + * and x
+pub record AreUpStar (a b c : tree.Game) (x : Number) : Type 0 where
+  pub first : a ≡ tree.number x
+  pub second : b ≡ pair_form x x
+  pub last : c ≡ tree.number x
+
+abbrev pub IsUpStar : tree.Game → tree.Game → tree.Game → Option Number → Type 0
+IsUpStar a b c None = (x : Number) → ¬ AreUpStar a b c x
+IsUpStar a b c (Some x) = AreUpStar a b c x
 
 -- tiny of a number above 0, or miny
 abbrev pub IsTiny : Bool → tree.Game → Option Number → Type 0

@@ -1,5 +1,4 @@
--- Which sign a game has, by its shape. The law function `names` says that it is the one that fits, and none where none fits;
--- that is what a reader needs to believe.
+-- Which sign a game has, by its shape: the one that fits, and none where none fits.
 use Rattle.std.specs.Prelude.{ℕ, zero, suc, ◌≡◌, ◌==◌, ◌&&◌, nat_lt, Bool, true, false, not, cond, if◌then◌else◌, List, [], ◌∷◌, length, Option, Some, None}
 use Rattle.cg_dyadic.specs.Number.{Number, number_le}
 use Rattle.cg_form.specs.Depth.{depth_of}

@@ -1,10 +1,9 @@
 //! Ups and downs.
-ghost use Rattle.std.specs.Prelude.{◌≡◌, ◌==◌, ◌&&◌, ◌≤◌, false, not, suc, IfOk, IfErr, OnOk, [], ◌∷◌};
+ghost use Rattle.std.specs.Prelude.{◌≡◌, ◌==◌, ◌&&◌, ◌≤◌, map, false, not, suc, [], ◌∷◌};
 ghost use Rattle.cg_nodes.specs.Games.{StandsFor};
-ghost use Rattle.cg_canon.specs.Items.{AllPass, WasRefused};
-ghost use Rattle.cg_canon.specs.Works.{Keeps, work_state};
-ghost use Rattle.cg_names.specs.Lists.{form_items};
-ghost use Rattle.cg_names.specs.Making.{FormsMade};
+ghost use Rattle.cg_canon.specs.Made.{Gives};
+ghost use Rattle.cg_canon.specs.Works.{work_state};
+ghost use Rattle.cg_names.specs.Lists.{form_items, plain_item};
 ghost use Rattle.cg_names.specs.Named.{ups_form, ups_of, ups_chain, ups_last, zero_form, star_form};
 
 use crate::making::{make, make_zero, within};
@@ -27,13 +26,8 @@ pub fn ups<B: BoardForms, S: CellStore<GameFacts<B>>>(
     down: bool,
     count: u128,
 ) -> Result<Handle, ValueFault>
-    ensures game { IfOk result (λ h. StandsFor (work_state S.state work.new) h (ups_form down count)) }
-    ensures charged { OnOk result (AllPass work.old.share work.old.spent
-        (form_items work.old.limit (ups_form down count)) work.new.spent) }
-    ensures refused { IfErr result (λ fault. WasRefused fault work.old.share work.old.spent
-        (form_items work.old.limit (ups_form down count)) work.new.spent) }
-    ensures more { (work_state S.state work.old).spare ≤ (work_state S.state work.new).spare }
-    ensures keeps { Keeps (work_state S.state work.old) (work_state S.state work.new) }
+    ensures { Gives (work_state S.state work.old) (work_state S.state work.new)
+        (form_items work.old.limit (ups_form down count)) (ups_form down count) result }
 {
     if count == 0 {
         return nimber(alloc, work, 0);
@@ -53,9 +47,8 @@ fn make_ups<B: BoardForms, S: CellStore<GameFacts<B>>>(
     count: u64,
 ) -> Result<Handle, ValueFault>
     requires { 1 ≤ count }
-    ensures game { IfOk result (λ h. StandsFor (work_state S.state work.new) h (ups_form down count)) }
-    ensures made { FormsMade (work_state S.state work.old) (work_state S.state work.new) (ups_chain down false count) result }
-    ensures more { (work_state S.state work.old).spare ≤ (work_state S.state work.new).spare }
+    ensures { Gives (work_state S.state work.old) (work_state S.state work.new)
+        (map plain_item (ups_chain down false count)) (ups_form down count) result }
 {
     let zero = make_zero(work)?;
     let mut last = make_star(alloc, work, zero)?;
@@ -75,9 +68,8 @@ fn make_star<B: BoardForms, S: CellStore<GameFacts<B>>>(
     zero: Handle,
 ) -> Result<Handle, ValueFault>
     requires { StandsFor (work_state S.state work.old) zero zero_form }
-    ensures game { IfOk result (λ h. StandsFor (work_state S.state work.new) h star_form) }
-    ensures made { FormsMade (work_state S.state work.old) (work_state S.state work.new) (star_form ∷ []) result }
-    ensures more { (work_state S.state work.old).spare ≤ (work_state S.state work.new).spare }
+    ensures { Gives (work_state S.state work.old) (work_state S.state work.new)
+        (plain_item star_form ∷ []) star_form result }
 {
     make(alloc, work, false, &[zero], &[zero])
 }
@@ -101,9 +93,8 @@ fn make_next<B: BoardForms, S: CellStore<GameFacts<B>>>(
 ) -> Result<Handle, ValueFault>
     requires zero { StandsFor (work_state S.state work.old) zero zero_form }
     requires last { StandsFor (work_state S.state work.old) last (ups_last down (not starred) level) }
-    ensures game { IfOk result (λ h. StandsFor (work_state S.state work.new) h (ups_of down starred (suc level))) }
-    ensures made { FormsMade (work_state S.state work.old) (work_state S.state work.new) (ups_of down starred (suc level) ∷ []) result }
-    ensures more { (work_state S.state work.old).spare ≤ (work_state S.state work.new).spare }
+    ensures { Gives (work_state S.state work.old) (work_state S.state work.new)
+        (plain_item (ups_of down starred (suc level)) ∷ []) (ups_of down starred (suc level)) result }
 {
     if has_two(starred, level) {
         make(alloc, work, down, &[zero, last], &[zero])

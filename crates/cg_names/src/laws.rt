@@ -12,8 +12,8 @@ ghost use Rattle.cg_form.specs.Positions.{positions_of};
 ghost use Rattle.cg_nodes.specs.Can.{can};
 ghost use Rattle.cg_nodes.specs.Ranges.{AllInRange};
 ghost use Rattle.cg_names.specs.Meaning.{fraction, literal};
-ghost use Rattle.cg_names.specs.Name.{IsName, name_of};
-ghost use Rattle.cg_names.specs.Reading.{ReadsAs, most_open};
+ghost use Rattle.cg_names.specs.Name.{IsName};
+ghost use Rattle.cg_names.specs.Reading.{IsNameInRange, ReadsAs, most_open};
 ghost use Rattle.cg_names.specs.Signs.{Fits};
 ghost use Rattle.cg_names.specs.declared.sign.Sign.{Sign};
 ghost use Rattle.cg_names.specs.Named.{zero_number, star_form, nimber_form, nimbers_below, ups_of, ups_chain, pair_positions, switch_form, tiny_form, first_number, second_number};
@@ -56,20 +56,22 @@ pub fn literals()
         below num den }
 {}
 
-/// Names: every game has exactly one by the rules, `name_of` gives it, and at most one rule with a sign fits, with one
-/// number and one count. A canonical game with a number added throughout is the canonical form of the sum, so `x + *n`
-/// has the canonical form of `*n` with x in the place of 0; and `n.^*` is `n.^ + *`.
+/// Names: every game has exactly one by the rules, and at most one rule with a sign fits, with one number and one count.
+/// A canonical game with a number added throughout is the canonical form of the sum, so `x + *n` has the canonical form
+/// of `*n` with x in the place of 0; and `n.^*` is `n.^ + *`.
 pub fn names()
-    ensures named { (g : Game) → IsName g (name_of g) }
-    ensures one_name { (g : Game) (text : List ℕ) → IsName g text → text ≡ name_of g }
+    ensures named { (g : Game) → (text : List ℕ) × IsName g text }
+    ensures one_name { (g : Game) (text other : List ℕ) → IsName g text → IsName g other → text ≡ other }
     ensures one_sign { (g : Game) (s t : Sign) → Fits s g → Fits t g → s ≡ t }
     ensures moved { (x : Number) (g : Game) → Canonical g → can (sum (number x) g) ≡ shifted x g }
     ensures starred { (down : Bool) (n : ℕ) → Equal (sum (ups_of down false n) star_form) (ups_of down true n) }
 {}
 
 /// A name in whose text at most 64 braces are open at once is an expression of the grammar, and the game is the canonical
-/// form of what it means; the numbers of the game have to be in range, and its depth below 10^30.
+/// form of what it means; the numbers in the name have to be in range, and its counts to have at most thirty digits. That
+/// is so where the numbers of the game are in range, and its depth is below 10^30.
 pub fn names_read_back()
-    ensures { (g : Game) → Canonical g → AllInRange g → depth_of g < 10 ^ 30 → most_open 0
-        (name_of g) ≤ 64 → ReadsAs g (name_of g) }
+    ensures reads { (g : Game) (text : List ℕ) → Canonical g → IsName g text → IsNameInRange g → most_open 0 text ≤ 64
+        → ReadsAs g text }
+    ensures in_range { (g : Game) → AllInRange g → depth_of g < 10 ^ 30 → IsNameInRange g }
 {}

@@ -7,21 +7,22 @@
 #![tactic(auto)]
 
 mod arrows;
-mod hot;
 pub mod laws;
 mod look;
 mod look_arrows;
-mod look_hot;
+mod look_pairs;
 mod look_star;
 mod making;
 mod memo;
 mod naming;
 mod nimbers;
+mod numbers;
+mod pairs;
 mod shape;
 mod sign;
 
 pub use arrows::ups;
-pub use hot::{switch, tiny};
 pub use naming::name;
 pub use nimbers::nimber;
+pub use pairs::{switch, tiny};
 pub use sign::Sign;

@@ -1,20 +1,19 @@
 //! The sign of a game, by the shape of its options and the signs of those.
 ghost use Rattle.std.specs.Prelude.{◌≡◌, IfOk, OnOk, Some, None, [], ◌∷◌};
+ghost use Rattle.cg_dyadic.specs.Number.{Number};
 ghost use Rattle.cg_form.specs.Game.{node, number as number_form};
 ghost use Rattle.cg_cells.specs.Store.{Spends};
 ghost use Rattle.cg_nodes.specs.Games.{AreGames, IsGame, IsList, game_at, games_at, listed};
 ghost use Rattle.cg_names.specs.Memos.{IsShape, Recalls};
 ghost use Rattle.cg_names.specs.Named.{mirrored_if};
-ghost use Rattle.cg_names.specs.Readings.{AreStars, IsArrows, IsStar};
+ghost use Rattle.cg_names.specs.Readings.{AreStars, IsStar};
 ghost use Rattle.cg_names.specs.Shapes.{sign_of};
 
-use crate::look_arrows::{
-    ArrowsFound, arrows_in, arrows_sign, level_star, one_more, starred_arrow,
-};
-use crate::look_hot::hot;
+use crate::look_arrows::{one_more, starred_arrow};
+use crate::look_pairs::{switch_sign, tiny};
 use crate::look_star::{StarFound, are_one_list, one_star, star_on};
 use crate::memo::Memo;
-use crate::shape::{Few, number_at, one_or_two, only};
+use crate::shape::{number_at, only};
 use crate::sign::Sign;
 use cg_cells::CellStore;
 use cg_dyadic::Dyadic;
@@ -103,7 +102,7 @@ fn sign_by_shape<B: BoardForms, S: CellStore<GameFacts<B>>>(
 {
     match star(alloc, store, memo, lefts, rights)? {
         Some(found) => Ok(Some(Sign::Star(found.base, found.count))),
-        None => arrows_or_hot(alloc, store, memo, lefts, rights),
+        None => sign_by_ends(alloc, store, memo, lefts, rights),
     }
 }
 
@@ -162,7 +161,7 @@ fn stars<B: BoardForms, S: CellStore<GameFacts<B>>>(
 
 /// The sign of a game that has none with a nimber alone.
 #[cycle(look)]
-fn arrows_or_hot<B: BoardForms, S: CellStore<GameFacts<B>>>(
+fn sign_by_ends<B: BoardForms, S: CellStore<GameFacts<B>>>(
     alloc: Global,
     store: &mut S,
     memo: &mut Memo,
@@ -178,69 +177,71 @@ fn arrows_or_hot<B: BoardForms, S: CellStore<GameFacts<B>>>(
     ensures memo { OnOk result (Recalls (S.state store.new) memo.new) }
     ensures spends { Spends 0 (S.state store.old) (S.state store.new) }
 {
-    match arrows(alloc, store, memo, false, lefts, rights)? {
-        Some(found) => Ok(Some(arrows_sign(false, &found))),
-        None => match arrows(alloc, store, memo, true, rights, lefts)? {
-            Some(found) => Ok(Some(arrows_sign(true, &found))),
-            None => Ok(hot(store, lefts, rights)),
+    match only(store, lefts) {
+        None => match only(store, rights) {
+            None => Ok(None),
+            Some(last) => Ok(starred_arrow(store, false, lefts, last)),
+        },
+        Some(first) => match only(store, rights) {
+            None => Ok(starred_arrow(store, true, rights, first)),
+            Some(last) => sign_of_two(alloc, store, memo, first, last),
         },
     }
 }
 
-/// The ups of the game with these lists, or its downs, of which the lists are given the other way round; `x + *` has none
-/// of them, starred. A count past every table's size is answered as want of memory.
+/// The sign of `{first|last}`, which has none with a nimber alone.
 #[cycle(look)]
-fn arrows<B: BoardForms, S: CellStore<GameFacts<B>>>(
+fn sign_of_two<B: BoardForms, S: CellStore<GameFacts<B>>>(
     alloc: Global,
     store: &mut S,
     memo: &mut Memo,
-    down: bool,
-    own: ListId,
-    others: ListId,
-) -> Result<Option<ArrowsFound>, AllocError>
-    requires own { IsList (S.state store.old) own }
-    requires others { IsList (S.state store.old) others }
+    first: Handle,
+    last: Handle,
+) -> Result<Option<Sign>, AllocError>
+    requires first { IsGame (S.state store.old) first }
+    requires last { IsGame (S.state store.old) last }
+    requires no_star { let W = S.state store.old in IsStar (node (game_at W first ∷ []) (game_at W last ∷ [])) None }
     requires memo { Recalls (S.state store.old) memo.old }
-    ensures arrows { let W = S.state store.old in IfOk result (IsArrows down
-        (mirrored_if down (listed W own) (listed W others))) }
+    ensures sign { let W = S.state store.old in IfOk result (λ s. s ≡ sign_of
+        (node (game_at W first ∷ []) (game_at W last ∷ []))) }
     ensures memo { OnOk result (Recalls (S.state store.new) memo.new) }
     ensures spends { Spends 0 (S.state store.old) (S.state store.new) }
 {
-    match only(store, others) {
-        None => Ok(None),
-        Some(last) => match one_or_two(store, own) {
-            Few::One(first) => match number_at(store, first) {
-                None => Ok(None),
-                Some(x) => arrows_on(alloc, store, memo, down, x, last),
-            },
-            Few::Two(first, second) => Ok(starred_arrow(store, first, second, last)),
-            Few::Other => Ok(None),
+    match number_at(store, first) {
+        None => match number_at(store, last) {
+            None => Ok(None),
+            Some(y) => steep(alloc, store, memo, true, y, first),
+        },
+        Some(x) => match number_at(store, last) {
+            None => steep(alloc, store, memo, false, x, last),
+            Some(y) => Ok(switch_sign(x, y)),
         },
     }
 }
 
-/// The ups of `{x|last}`, or the downs of `{last|x}`.
+/// The sign of `{x|last}`, or of `{last|x}` where it is `down`: tiny or miny, ups or downs.
 #[cycle(look)]
-fn arrows_on<B: BoardForms, S: CellStore<GameFacts<B>>>(
+fn steep<B: BoardForms, S: CellStore<GameFacts<B>>>(
     alloc: Global,
     store: &mut S,
     memo: &mut Memo,
     down: bool,
     x: Dyadic,
     last: Handle,
-) -> Result<Option<ArrowsFound>, AllocError>
+) -> Result<Option<Sign>, AllocError>
     requires game { IsGame (S.state store.old) last }
+    requires other { (y : Number) → ¬ (game_at (S.state store.old) last ≡ number_form y) }
     requires memo { Recalls (S.state store.old) memo.old }
-    ensures arrows { IfOk result (IsArrows down
+    ensures sign { IfOk result (λ s. s ≡ sign_of
         (mirrored_if down (number_form x ∷ []) (game_at (S.state store.old) last ∷ []))) }
     ensures memo { OnOk result (Recalls (S.state store.new) memo.new) }
     ensures spends { Spends 0 (S.state store.old) (S.state store.new) }
 {
     match look(alloc, store, memo, last)? {
-        Shape::Number(y) => Ok(level_star(x, y)),
-        Shape::Game(_, _, sign) => match arrows_in(down, &sign) {
-            None => Ok(None),
-            Some(found) => one_more(x, &found),
+        Shape::Number(_) => Ok(None),
+        Shape::Game(lefts, rights, sign) => match tiny(store, down, x, lefts, rights) {
+            Some(size) => Ok(Some(Sign::Tiny(down, size))),
+            None => one_more(down, x, &sign),
         },
     }
 }

@@ -1,42 +1,65 @@
 //! Numbers and ups or downs by the shape of their options.
-ghost use Rattle.std.specs.Prelude.{◌≡◌, Bool, IfOk, Some, [], ◌∷◌};
+ghost use Rattle.std.specs.Prelude.{◌≡◌, Bool, IfOk, MatchOption, None, Some, true, false, [], ◌∷◌};
+ghost use Rattle.cg_dyadic.specs.Number.{Number};
 ghost use Rattle.cg_form.specs.Game.{Game, number as number_form};
 ghost use Rattle.cg_cells.specs.Store.{Spends};
-ghost use Rattle.cg_nodes.specs.Games.{IsGame, IsNode, StandsFor, game_at};
-ghost use Rattle.cg_names.specs.Named.{mirrored_if};
-ghost use Rattle.cg_names.specs.Readings.{IsArrows};
+ghost use Rattle.cg_nodes.specs.Games.{IsGame, IsList, IsNode, game_at, listed};
+ghost use Rattle.cg_names.specs.Named.{mirrored_if, pair_form};
+ghost use Rattle.cg_names.specs.Readings.{IsArrows, IsMore, IsStar, IsUpStar};
 ghost use Rattle.cg_names.specs.Shapes.{sign_of};
 
-use crate::hot::is_same;
-use crate::shape::{is_over, numbers_at};
+use crate::numbers::is_same;
+use crate::shape::{numbers_at, numbers_of, two_of};
 use crate::sign::Sign;
 use cg_cells::CellStore;
 use cg_dyadic::Dyadic;
-use cg_nodes::{BoardForms, GameFacts, Handle};
+use cg_nodes::{BoardForms, GameFacts, Handle, ListId, Reading, read};
 use std::alloc::AllocError;
 
 /// A number and so many ups or downs, and `*` where it is starred.
 #[derive(Clone, Copy, Debug)]
-pub(crate) struct ArrowsFound {
-    pub(crate) base: Dyadic,
-    pub(crate) starred: bool,
-    pub(crate) count: u64,
+struct ArrowsFound {
+    base: Dyadic,
+    starred: bool,
+    count: u64,
 }
 
-/// The sign of these ups, or downs.
-pub(crate) fn arrows_sign(down: bool, found: &ArrowsFound) -> Sign
-    ensures { result ≡ Sign.Arrows down found.now.starred found.now.base found.now.count }
+/// The sign of `{x|g}`, or of `{g|x}` where it is `down`, where g has this sign: one up more than g, or one down. A count
+/// past every table's size is answered as want of memory.
+pub(crate) fn one_more(
+    down: bool,
+    x: Dyadic,
+    sign: &Option<Sign>,
+) -> Result<Option<Sign>, AllocError>
+    ensures { (g : Game) → IsNode g → sign.now ≡ sign_of g → IfOk result (IsMore down x g) }
 {
-    Sign::Arrows {
-        down,
-        starred: found.starred,
-        base: found.base,
-        count: found.count,
+    match arrows_in(down, sign) {
+        None => Ok(None),
+        Some(found) => one_more_than(down, x, &found),
+    }
+}
+
+/// One up more than these, or one down.
+fn one_more_than(down: bool, x: Dyadic, found: &ArrowsFound) -> Result<Option<Sign>, AllocError>
+    ensures { (g : Game) → IsNode g → IsArrows down g (Some found.now) → IfOk result (IsMore down x g) }
+{
+    if is_same(x, found.base) {
+        match found.count.checked_add(1) {
+            None => Err(AllocError),
+            Some(count) => Ok(Some(Sign::Arrows {
+                down,
+                starred: !found.starred,
+                base: x,
+                count,
+            })),
+        }
+    } else {
+        Ok(None)
     }
 }
 
 /// The ups, or the downs, that a game with this sign is, if it has one; `x + *` is none of them, starred.
-pub(crate) fn arrows_in(down: bool, sign: &Option<Sign>) -> Option<ArrowsFound>
+fn arrows_in(down: bool, sign: &Option<Sign>) -> Option<ArrowsFound>
     ensures { (g : Game) → IsNode g → sign.now ≡ sign_of g → IsArrows down g result }
 {
     match sign {
@@ -87,60 +110,55 @@ fn level_at(x: Dyadic, count: u64) -> Option<ArrowsFound>
     }
 }
 
-/// The `x + *` that `{x|y}` is where y is x.
-pub(crate) fn level_star(x: Dyadic, y: Dyadic) -> Option<ArrowsFound>
-    ensures { (down : Bool) → IsArrows down (mirrored_if down (number_form x ∷ []) (number_form y ∷ [])) result }
-{
-    if is_same(x, y) {
-        Some(ArrowsFound {
-            base: x,
-            starred: true,
-            count: 0,
-        })
-    } else {
-        None
-    }
-}
-
-/// The ups of `{x|g}` where those of g are found, or the downs of `{g|x}`.
-pub(crate) fn one_more(x: Dyadic, found: &ArrowsFound) -> Result<Option<ArrowsFound>, AllocError>
-    ensures { (down : Bool) (g : Game) → IsNode g → IsArrows down g (Some found.now) → IfOk result (IsArrows down
-        (mirrored_if down (number_form x ∷ []) (g ∷ []))) }
-{
-    if is_same(x, found.base) {
-        match found.count.checked_add(1) {
-            None => Err(AllocError),
-            Some(count) => Ok(Some(ArrowsFound {
-                base: x,
-                starred: !found.starred,
-                count,
-            })),
-        }
-    } else {
-        Ok(None)
-    }
-}
-
-/// The `x + ^*` that the game `{first,second|last}` is where first and last are x and second is x + *, or the `x + v*`
-/// that its mirror image is.
+/// The sign of `{own|last}` where own has another number of options than one, or of its mirror image where it is `down`:
+/// of these only `{x,x + *|x}` has one, which is `x + ^*`.
 pub(crate) fn starred_arrow<B: BoardForms, S: CellStore<GameFacts<B>>>(
+    store: &mut S,
+    down: bool,
+    own: ListId,
+    last: Handle,
+) -> Option<Sign>
+    requires own { IsList (S.state store.old) own }
+    requires last { IsGame (S.state store.old) last }
+    requires more { (a : Game) → ¬ (listed (S.state store.old) own ≡ a ∷ []) }
+    requires no_star { let W = S.state store.old in IsStar
+        (mirrored_if down (listed W own) (game_at W last ∷ [])) None }
+    ensures sign { let W = S.state store.old in result ≡ sign_of
+        (mirrored_if down (listed W own) (game_at W last ∷ [])) }
+    ensures spends { Spends 0 (S.state store.old) (S.state store.new) }
+{
+    match two_of(store, own) {
+        None => None,
+        Some(pair) => match up_star(store, pair.first, pair.second, last) {
+            None => None,
+            Some(base) => Some(Sign::Arrows {
+                down,
+                starred: true,
+                base,
+                count: 1,
+            }),
+        },
+    }
+}
+
+/// The number x where the three games are x, x + * and x.
+fn up_star<B: BoardForms, S: CellStore<GameFacts<B>>>(
     store: &mut S,
     first: Handle,
     second: Handle,
     last: Handle,
-) -> Option<ArrowsFound>
+) -> Option<Dyadic>
     requires first { IsGame (S.state store.old) first }
     requires second { IsGame (S.state store.old) second }
     requires last { IsGame (S.state store.old) last }
-    ensures arrows { let W = S.state store.old in (down : Bool) → IsArrows down
-        (mirrored_if down (game_at W first ∷ (game_at W second ∷ [])) (game_at W last ∷ [])) result }
+    ensures found { let W = S.state store.old in IsUpStar (game_at W first) (game_at W second) (game_at W last) result }
     ensures spends { Spends 0 (S.state store.old) (S.state store.new) }
 {
     match numbers_at(store, first, last) {
         None => None,
-        Some(pair) => {
-            if is_same(pair.left, pair.right) {
-                starred_on(store, pair.left, first, second)
+        Some(ends) => {
+            if is_same(ends.left, ends.right) && is_pair(store, second, ends.left) {
+                Some(ends.left)
             } else {
                 None
             }
@@ -148,26 +166,22 @@ pub(crate) fn starred_arrow<B: BoardForms, S: CellStore<GameFacts<B>>>(
     }
 }
 
-/// The `x + ^*` that `{first,second|first}` is where first is x and second is x + *, or the `x + v*` that its mirror image is.
-fn starred_on<B: BoardForms, S: CellStore<GameFacts<B>>>(
+/// Whether the game is `{x|x}`.
+fn is_pair<B: BoardForms, S: CellStore<GameFacts<B>>>(
     store: &mut S,
+    handle: Handle,
     x: Dyadic,
-    first: Handle,
-    second: Handle,
-) -> Option<ArrowsFound>
-    requires first { StandsFor (S.state store.old) first (number_form x) }
-    requires second { IsGame (S.state store.old) second }
-    ensures arrows { (down : Bool) → IsArrows down (mirrored_if down
-        (number_form x ∷ (game_at (S.state store.old) second ∷ [])) (number_form x ∷ [])) result }
+) -> bool
+    requires { IsGame (S.state store.old) handle }
+    ensures same { result ≡ true → game_at (S.state store.old) handle ≡ pair_form x x }
+    ensures other { result ≡ false → ¬ (game_at (S.state store.old) handle ≡ pair_form x x) }
     ensures spends { Spends 0 (S.state store.old) (S.state store.new) }
 {
-    if is_over(store, second, &[first]) {
-        Some(ArrowsFound {
-            base: x,
-            starred: true,
-            count: 1,
-        })
-    } else {
-        None
+    match read(store, handle) {
+        Reading::Number(_) => false,
+        Reading::Game(lefts, rights) => match numbers_of(store, lefts, rights) {
+            None => false,
+            Some(pair) => is_same(pair.left, x) && is_same(pair.right, x),
+        },
     }
 }

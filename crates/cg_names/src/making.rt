@@ -1,10 +1,11 @@
 //! The steps of the makers: each makes one item.
-ghost use Rattle.std.specs.Prelude.{◌≡◌, ◌+◌, ◌≤◌, ◌<◌, IfOk, IfErr, OnOk, MatchOption, [], ◌∷◌};
+ghost use Rattle.std.specs.Prelude.{◌≡◌, ◌+◌, ◌≤◌, ◌<◌, MatchOption, [], ◌∷◌};
 ghost use Rattle.cg_form.specs.Canonical.{Canonical};
 ghost use Rattle.cg_form.specs.Game.{Game, number as number_form};
-ghost use Rattle.cg_nodes.specs.Games.{AreGames, StandsFor, games_at};
+ghost use Rattle.cg_nodes.specs.Games.{AreGames, games_at};
+ghost use Rattle.cg_canon.specs.Made.{Gives};
 ghost use Rattle.cg_canon.specs.Works.{work_state};
-ghost use Rattle.cg_names.specs.Making.{FormsMade};
+ghost use Rattle.cg_names.specs.Lists.{plain_item};
 ghost use Rattle.cg_names.specs.Named.{mirrored_if, zero_form};
 
 use cg_canon::{ValueFault, Work, canonical_item, number_item, zero};
@@ -30,9 +31,8 @@ pub(crate) fn make_number<B: BoardForms, S: CellStore<GameFacts<B>>>(
     work: &mut Work<B, S>,
     x: Dyadic,
 ) -> Result<Handle, ValueFault>
-    ensures game { IfOk result (λ h. StandsFor (work_state S.state work.new) h (number_form x)) }
-    ensures made { FormsMade (work_state S.state work.old) (work_state S.state work.new) (number_form x ∷ []) result }
-    ensures more { (work_state S.state work.old).spare ≤ (work_state S.state work.new).spare }
+    ensures { Gives (work_state S.state work.old) (work_state S.state work.new)
+        (plain_item (number_form x) ∷ []) (number_form x) result }
 {
     number_item(work, Some(x), 0)
 }
@@ -41,9 +41,8 @@ pub(crate) fn make_number<B: BoardForms, S: CellStore<GameFacts<B>>>(
 pub(crate) fn make_zero<B: BoardForms, S: CellStore<GameFacts<B>>>(
     work: &mut Work<B, S>,
 ) -> Result<Handle, ValueFault>
-    ensures game { IfOk result (λ h. StandsFor (work_state S.state work.new) h zero_form) }
-    ensures made { FormsMade (work_state S.state work.old) (work_state S.state work.new) (zero_form ∷ []) result }
-    ensures more { (work_state S.state work.old).spare ≤ (work_state S.state work.new).spare }
+    ensures { Gives (work_state S.state work.old) (work_state S.state work.new)
+        (plain_item zero_form ∷ []) zero_form result }
 {
     make_number(work, zero())
 }
@@ -60,11 +59,8 @@ pub(crate) fn make<B: BoardForms, S: CellStore<GameFacts<B>>>(
     requires rights { AreGames (work_state S.state work.old) rights.now }
     requires canonical { let W = work_state S.state work.old in
         Canonical (mirrored_if mirrored (games_at W lefts.now) (games_at W rights.now)) }
-    ensures game { let W = work_state S.state work.old in (g : Game) → mirrored_if mirrored (games_at W lefts.now)
-        (games_at W rights.now) ≡ g → IfOk result (λ h. StandsFor (work_state S.state work.new) h g) }
-    ensures made { let W = work_state S.state work.old in (g : Game) → mirrored_if mirrored (games_at W lefts.now)
-        (games_at W rights.now) ≡ g → FormsMade W (work_state S.state work.new) (g ∷ []) result }
-    ensures more { (work_state S.state work.old).spare ≤ (work_state S.state work.new).spare }
+    ensures { let W = work_state S.state work.old in (g : Game) → mirrored_if mirrored (games_at W lefts.now)
+        (games_at W rights.now) ≡ g → Gives W (work_state S.state work.new) (plain_item g ∷ []) g result }
 {
     if mirrored {
         canonical_item(alloc, work, rights, lefts, 0)

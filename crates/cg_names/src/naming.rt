@@ -1,18 +1,19 @@
 //! Names of games.
-ghost use Rattle.std.specs.Prelude.{◌≡◌, ◌≤◌, ◌<◌, ◌^◌, ◌++◌, IfOk, OnOk, string_bytes, cond, length, slice_index, [], ◌∷◌};
+ghost use Rattle.std.specs.Prelude.{◌≡◌, ◌≤◌, ◌++◌, IfOk, OnOk, string_bytes, cond, length, slice_index, [], ◌∷◌};
 ghost use Rattle.cg_dyadic.specs.Exact.{number_text};
-ghost use Rattle.cg_form.specs.Depth.{depth_of};
+ghost use Rattle.cg_dyadic.specs.Number.{InRange};
 ghost use Rattle.cg_form.specs.Game.{of_list};
 ghost use Rattle.cg_cells.specs.Store.{Spends};
 ghost use Rattle.cg_nodes.specs.Games.{IsGame, IsList, game_at, listed};
 ghost use Rattle.cg_names.specs.Memos.{Recalls};
-ghost use Rattle.cg_names.specs.Name.{IsName, braces_name, name_of, names_of, further_names};
-ghost use Rattle.cg_names.specs.Reading.{ReadsAs, most_open};
+ghost use Rattle.cg_names.specs.Name.{IsName, braces_name};
+ghost use Rattle.cg_names.specs.Reading.{AreNamesInRange, IsNameInRange, IsSignInRange, ReadsAs, most_open};
 ghost use Rattle.cg_names.specs.Signs.{arrows_text, base_text, sign_text, star_text};
+ghost use Rattle.cg_names.specs.Spelled.{further_names, name_of, names_of};
 
-use crate::hot::is_same;
 use crate::look::{Shape, look};
 use crate::memo::Memo;
+use crate::numbers::is_same;
 use crate::sign::Sign;
 use cg_canon::zero;
 use cg_cells::CellStore;
@@ -41,9 +42,8 @@ pub fn name<B: BoardForms, S: CellStore<GameFacts<B>>>(
 ) -> Result<String, AllocError>
     requires { IsGame (S.state store.old) handle }
     ensures name { IfOk result (λ text. IsName (game_at (S.state store.old) handle) (string_bytes text)) }
-    ensures text { IfOk result (λ text. string_bytes text ≡ name_of (game_at (S.state store.old) handle)) }
-    ensures reads { let k = game_at (S.state store.old) handle in IfOk result (λ text. depth_of k < 10 ^ 30 → most_open 0
-        (string_bytes text) ≤ 64 → ReadsAs k (string_bytes text)) }
+    ensures reads { IfOk result (λ text. most_open 0 (string_bytes text) ≤ 64
+        → ReadsAs (game_at (S.state store.old) handle) (string_bytes text)) }
     ensures spends { Spends 0 (S.state store.old) (S.state store.new) }
 {
     known_game(store, handle);
@@ -66,6 +66,7 @@ fn push_name<B: BoardForms, S: CellStore<GameFacts<B>>>(
     requires memo { Recalls (S.state store.old) memo.old }
     ensures text { OnOk result (string_bytes text.new ≡ string_bytes text.old ++ name_of
         (game_at (S.state store.old) handle)) }
+    ensures in_range { OnOk result (IsNameInRange (game_at (S.state store.old) handle)) }
     ensures memo { OnOk result (Recalls (S.state store.new) memo.new) }
     ensures spends { Spends 0 (S.state store.old) (S.state store.new) }
 {
@@ -93,6 +94,8 @@ fn push_braces<B: BoardForms, S: CellStore<GameFacts<B>>>(
     requires memo { Recalls (S.state store.old) memo.old }
     ensures text { let W = S.state store.old in OnOk result (string_bytes text.new ≡ string_bytes text.old
         ++ braces_name (names_of (of_list (listed W lefts))) (names_of (of_list (listed W rights)))) }
+    ensures lefts_in_range { OnOk result (AreNamesInRange (of_list (listed (S.state store.old) lefts))) }
+    ensures rights_in_range { OnOk result (AreNamesInRange (of_list (listed (S.state store.old) rights))) }
     ensures memo { OnOk result (Recalls (S.state store.new) memo.new) }
     ensures spends { Spends 0 (S.state store.old) (S.state store.new) }
 {
@@ -103,18 +106,29 @@ fn push_braces<B: BoardForms, S: CellStore<GameFacts<B>>>(
     text.push_str("}")
 }
 
+/// The number is in range. It does nothing, and its contract is the fact.
+fn known_number(number: Dyadic)
+    ensures { InRange number }
+{
+    let _num = number.num();
+}
+
 /// Puts the number's text at the end.
 fn push_number(alloc: Global, text: &mut String, number: Dyadic) -> Result<(), AllocError>
-    ensures { OnOk result (string_bytes text.new ≡ string_bytes text.old ++ number_text number) }
+    ensures text { OnOk result (string_bytes text.new ≡ string_bytes text.old ++ number_text number) }
+    ensures in_range { InRange number }
 {
+    known_number(number);
     let digits = number.text(alloc)?;
     text.push_str(digits.as_str())
 }
 
 /// Puts the number's text at the end, unless it is 0.
 fn push_base(alloc: Global, text: &mut String, number: Dyadic) -> Result<(), AllocError>
-    ensures { OnOk result (string_bytes text.new ≡ string_bytes text.old ++ base_text number) }
+    ensures text { OnOk result (string_bytes text.new ≡ string_bytes text.old ++ base_text number) }
+    ensures in_range { InRange number }
 {
+    known_number(number);
     if is_same(number, zero()) {
         return Ok(());
     }
@@ -123,7 +137,8 @@ fn push_base(alloc: Global, text: &mut String, number: Dyadic) -> Result<(), All
 
 /// Puts the text of the sign at the end.
 fn push_sign(alloc: Global, text: &mut String, sign: &Sign) -> Result<(), AllocError>
-    ensures { OnOk result (string_bytes text.new ≡ string_bytes text.old ++ sign_text sign.now) }
+    ensures text { OnOk result (string_bytes text.new ≡ string_bytes text.old ++ sign_text sign.now) }
+    ensures in_range { OnOk result (IsSignInRange sign.now) }
 {
     match sign {
         Sign::Star(base, count) => {
@@ -200,6 +215,7 @@ fn push_names<B: BoardForms, S: CellStore<GameFacts<B>>>(
     requires memo { Recalls (S.state store.old) memo.old }
     ensures text { OnOk result (string_bytes text.new ≡ string_bytes text.old ++ names_of
         (of_list (listed (S.state store.old) list))) }
+    ensures in_range { OnOk result (AreNamesInRange (of_list (listed (S.state store.old) list))) }
     ensures memo { OnOk result (Recalls (S.state store.new) memo.new) }
     ensures spends { Spends 0 (S.state store.old) (S.state store.new) }
 {
@@ -225,6 +241,7 @@ fn push_further<B: BoardForms, S: CellStore<GameFacts<B>>>(
     requires memo { Recalls (S.state store.old) memo.old }
     ensures text { OnOk result (string_bytes text.new ≡ string_bytes text.old ++ further_names
         (of_list (listed (S.state store.old) list))) }
+    ensures in_range { OnOk result (AreNamesInRange (of_list (listed (S.state store.old) list))) }
     ensures memo { OnOk result (Recalls (S.state store.new) memo.new) }
     ensures spends { Spends 0 (S.state store.old) (S.state store.new) }
 {

@@ -1,12 +1,9 @@
 //! Nimbers.
-ghost use Rattle.std.specs.Prelude.{◌≤◌, IfOk, IfErr, OnOk};
-ghost use Rattle.cg_nodes.specs.Games.{StandsFor};
-ghost use Rattle.cg_canon.specs.Items.{AllPass, WasRefused};
-ghost use Rattle.cg_canon.specs.Works.{Keeps, work_state};
-ghost use Rattle.cg_names.specs.Lists.{form_items};
-ghost use Rattle.cg_names.specs.Making.{FormsMade};
+ghost use Rattle.std.specs.Prelude.{map, suc};
+ghost use Rattle.cg_canon.specs.Made.{Gives};
+ghost use Rattle.cg_canon.specs.Works.{work_state};
+ghost use Rattle.cg_names.specs.Lists.{form_items, plain_item};
 ghost use Rattle.cg_names.specs.Named.{nimber_form, nimbers_below};
-ghost use Rattle.std.specs.Prelude.{suc};
 
 use crate::making::{make, make_zero, within};
 use cg_canon::{ValueFault, Work};
@@ -25,13 +22,8 @@ pub fn nimber<B: BoardForms, S: CellStore<GameFacts<B>>>(
     work: &mut Work<B, S>,
     count: u128,
 ) -> Result<Handle, ValueFault>
-    ensures game { IfOk result (λ h. StandsFor (work_state S.state work.new) h (nimber_form count)) }
-    ensures charged { OnOk result (AllPass work.old.share work.old.spent
-        (form_items work.old.limit (nimber_form count)) work.new.spent) }
-    ensures refused { IfErr result (λ fault. WasRefused fault work.old.share work.old.spent
-        (form_items work.old.limit (nimber_form count)) work.new.spent) }
-    ensures more { (work_state S.state work.old).spare ≤ (work_state S.state work.new).spare }
-    ensures keeps { Keeps (work_state S.state work.old) (work_state S.state work.new) }
+    ensures { Gives (work_state S.state work.old) (work_state S.state work.new)
+        (form_items work.old.limit (nimber_form count)) (nimber_form count) result }
 {
     let limit = work.limit();
     match within(count, 1, limit) {
@@ -46,15 +38,15 @@ fn make_nimbers<B: BoardForms, S: CellStore<GameFacts<B>>>(
     work: &mut Work<B, S>,
     count: u64,
 ) -> Result<Handle, ValueFault>
-    ensures game { IfOk result (λ h. StandsFor (work_state S.state work.new) h (nimber_form count)) }
-    ensures made { FormsMade (work_state S.state work.old) (work_state S.state work.new) (nimbers_below (suc count)) result }
-    ensures more { (work_state S.state work.old).spare ≤ (work_state S.state work.new).spare }
+    ensures { Gives (work_state S.state work.old) (work_state S.state work.new)
+        (map plain_item (nimbers_below (suc count))) (nimber_form count) result }
 {
     let mut last = make_zero(work)?;
     let mut lesser = Vec::new(alloc);
     for level in 0..count {
         lesser.push(last)?;
         last = make(alloc, work, false, &lesser, &lesser)?;
+        work.learn_nimber(last, level + 1);
     }
     Ok(last)
 }

@@ -5,40 +5,11 @@ ghost use Rattle.cg_cells.specs.Store.{Spends};
 ghost use Rattle.cg_dyadic.specs.Number.{Number};
 ghost use Rattle.cg_nodes.specs.Games.{AreGames, IsGame, IsList, game_at, games_at, listed};
 ghost use Rattle.cg_names.specs.Named.{pair_form};
-ghost use Rattle.cg_names.specs.Readings.{AreNumbers, IsBehind, IsFew, IsOnly};
+ghost use Rattle.cg_names.specs.Readings.{AreNumbers, IsBehind, IsOnly, IsTwo};
 
 use cg_cells::CellStore;
 use cg_dyadic::Dyadic;
-use cg_nodes::{BoardForms, GameFacts, Handle, Kind, ListId, Reading, head, kind, read};
-
-/// One option, or two, or none or more.
-#[derive(Clone, Copy, Debug)]
-pub(crate) enum Few {
-    One(Handle),
-    Two(Handle, Handle),
-    Other,
-}
-
-/// The options of a list that has one or two of them.
-pub(crate) fn one_or_two<B: BoardForms, S: CellStore<GameFacts<B>>>(
-    store: &mut S,
-    list: ListId,
-) -> Few
-    requires { IsList (S.state store.old) list }
-    ensures few { IsFew (S.state store.new) result (listed (S.state store.old) list) }
-    ensures spends { Spends 0 (S.state store.old) (S.state store.new) }
-{
-    let Some(first) = head(store, list) else {
-        return Few::Other;
-    };
-    let Some(second) = head(store, first.rest) else {
-        return Few::One(first.first);
-    };
-    match head(store, second.rest) {
-        None => Few::Two(first.first, second.first),
-        Some(_) => Few::Other,
-    }
-}
+use cg_nodes::{BoardForms, GameFacts, Handle, Kind, ListId, head, kind};
 
 /// The option of a list that has one.
 pub(crate) fn only<B: BoardForms, S: CellStore<GameFacts<B>>>(
@@ -49,11 +20,35 @@ pub(crate) fn only<B: BoardForms, S: CellStore<GameFacts<B>>>(
     ensures only { IsOnly (S.state store.new) result (listed (S.state store.old) list) }
     ensures spends { Spends 0 (S.state store.old) (S.state store.new) }
 {
-    match one_or_two(store, list) {
-        Few::One(handle) => Some(handle),
-        Few::Two(_, _) => None,
-        Few::Other => None,
+    let top = head(store, list)?;
+    match head(store, top.rest) {
+        None => Some(top.first),
+        Some(_) => None,
     }
+}
+
+/// Two options.
+#[derive(Clone, Copy, Debug)]
+pub(crate) struct Two {
+    pub(crate) first: Handle,
+    pub(crate) second: Handle,
+}
+
+/// The options of a list that has two.
+pub(crate) fn two_of<B: BoardForms, S: CellStore<GameFacts<B>>>(
+    store: &mut S,
+    list: ListId,
+) -> Option<Two>
+    requires { IsList (S.state store.old) list }
+    ensures two { IsTwo (S.state store.new) result (listed (S.state store.old) list) }
+    ensures spends { Spends 0 (S.state store.old) (S.state store.new) }
+{
+    let top = head(store, list)?;
+    let second = only(store, top.rest)?;
+    Some(Two {
+        first: top.first,
+        second,
+    })
 }
 
 /// The number that the handle stands for, if it stands for one.
@@ -130,27 +125,6 @@ fn is_same<B: BoardForms, S: CellStore<GameFacts<B>>>(store: &mut S, a: Handle, 
     ensures spends { Spends 0 (S.state store.old) (S.state store.new) }
 {
     store.same(a.id(), b.id())
-}
-
-/// Whether the game is that of these options on both sides.
-pub(crate) fn is_over<B: BoardForms, S: CellStore<GameFacts<B>>>(
-    store: &mut S,
-    handle: Handle,
-    options: &[Handle],
-) -> bool
-    requires game { IsGame (S.state store.old) handle }
-    requires options { AreGames (S.state store.old) options.now }
-    ensures same { let W = S.state store.old in result ≡ true → game_at W handle
-        ≡ node (games_at W options.now) (games_at W options.now) }
-    ensures other { let W = S.state store.old in result ≡ false → ¬ (game_at W handle
-        ≡ node (games_at W options.now) (games_at W options.now)) }
-    ensures spends { Spends 0 (S.state store.old) (S.state store.new) }
-{
-    match read(store, handle) {
-        Reading::Number(_) => false,
-        Reading::Game(lefts, rights) => is_list(store, lefts, options)
-            && is_list(store, rights, options),
-    }
 }
 
 /// Two numbers.

@@ -3,7 +3,6 @@ use Rattle.std.proofs.Common.{◌≡◌, ℕ, ◌+◌, ◌-◌, ◌*◌, ◌/◌
 use Rattle.std.proofs.lemmas.Int.{ints}
 use Rattle.std.specs.Prelude.{if◌then◌else◌}
 use Rattle.cg_dyadic.specs.Number.{InRange, Number, between, exp_of, is_long, is_narrow, num_of, ratio, whole}
-use Rattle.cg_dyadic.specs.Exact.{IsLowest}
 use Rattle.cg_dyadic.proofs.Fractions.{fraction-own, fraction-ratio, fraction-unique}
 use Rattle.cg_form.specs.Game.{Game, number}
 use Rattle.cg_cells.specs.declared.key.KeyParts.TheVariants as key
@@ -12,7 +11,7 @@ use Rattle.cg_cells.proofs.Layouts.{both, both_back, lowest_true, lt_back, lt_tr
 use Rattle.cg_cells.specs.Parts.{parts_of}
 use Rattle.cg_nodes.specs.Games.{contents_from}
 use Rattle.cg_nodes.specs.Inverse.{long_back}
-use Rattle.cg_nodes.specs.LongKeys.{chunks_back, long_written, sign_back}
+use Rattle.cg_nodes.specs.LongKeys.{IsLongFraction, chunks_back, long_written, sign_back}
 use Rattle.cg_nodes.specs.Longs.{bits_of, cells_of, chunks_of, is_long_fraction, is_long_written, is_negative, num_in}
 use Rattle.cg_nodes.specs.Meant.{Meant, contents, form}
 use Rattle.cg_nodes.specs.Spelled.{Map, contents_in, form_if, long_of, spelled}
@@ -49,20 +48,12 @@ bits_small : (n : ℤ) → unsigned_abs n < 2 ^ 64 → bits_of n < 2 ^ 64
 bits_small (pos n) h = omega arith
 bits_small (negsuc n) h = omega arith
 
-is_true : (b : Bool) → IsTrue b → b ≡ true
-is_true true h = refl
-is_true false h = absurd (search (rules, h))
-
-true_is : (b : Bool) → b ≡ true → IsTrue b
-true_is true h = search rules
-true_is false h = cc
-
 module _ (x : Number) (r : InRange x) (long : is_long x ≡ true) where
   fraction_true : IsTrue (is_long_fraction (num_of x) (exp_of x))
   fraction_true =
       let short = r.short in
       both _ _ (both _ _ (both _ _ (lt_true (unsigned_abs (num_of x)) (2 ^ 64) r.small) (lt_true (exp_of x) 41 (omega arith)))
-      (lowest_true (exp_of x) _ (lowest_own x))) (true_is _ (ap is_long (ratio_own x) ∙ long))
+      (lowest_true (exp_of x) _ (lowest_own x))) (ap is_long (ratio_own x) ∙ long)
 
   num_of_chunks : num_in (is_negative (num_of x)) (bits_of (num_of x) % 2 ^ 32 + 2 ^ 32 * (bits_of (num_of x) / 2 ^ 32)) ≡ num_of x
   num_of_chunks =
@@ -73,8 +64,8 @@ module _ (x : Number) (r : InRange x) (long : is_long x ≡ true) where
   written_true =
       let s = bits_small (num_of x) r.small in
       let P : ℤ → Type 0 = λ n. IsTrue (is_long_fraction n (exp_of x)) in
-      is_true _ (both _ _ (both _ _ (lt_true (bits_of (num_of x) % 2 ^ 32) (2 ^ 32) (omega arith)) (lt_true (bits_of (num_of x) / 2 ^ 32) (2 ^ 32) (omega arith)))
-      (subst P (sym num_of_chunks) fraction_true))
+      both _ _ (both _ _ (lt_true (bits_of (num_of x) % 2 ^ 32) (2 ^ 32) (omega arith)) (lt_true (bits_of (num_of x) / 2 ^ 32) (2 ^ 32) (omega arith)))
+      (subst P (sym num_of_chunks) fraction_true)
 
   -- its sign, its exponent and its chunks spell a long number
   pub long_again : (b : Bool) (e : ℕ) (o : Option (List ℕ)) → b ≡ is_negative (num_of x) → e ≡ exp_of x → o ≡ Some (chunks_of (num_of x))
@@ -94,16 +85,9 @@ spells-long k i e bits n b x f r long p same sign exp written c =
 -- ---- the number of two chunks
 
 -- its numerator and exponent are in lowest terms and in range
-pub record ChunksLowest (n : ℤ) (e : ℕ) : Type 0 where
-  pub lowest : IsLowest (unsigned_abs n) e
-  pub small : unsigned_abs n < 2 ^ 64
-  pub short : e ≤ 40
-
-pub chunks_lowest : (b : Bool) (e low high : ℕ) (n : ℤ) → n ≡ num_in b (low + 2 ^ 32 * high) → is_long_written b e low high ≡ true → ChunksLowest n e
+pub chunks_lowest : (b : Bool) (e low high : ℕ) (n : ℤ) → n ≡ num_in b (low + 2 ^ 32 * high) → is_long_written b e low high ≡ true → IsLongFraction n e
 chunks_lowest b e low high n p written =
-    let f = (long_written b e low high written).fraction in
-    let P : ℤ → Type 0 = λ z. ChunksLowest z e in
-    subst P (sym p) (record { lowest = f.lowest; small = f.small; short = f.short })
+    let P : ℤ → Type 0 = λ z. IsLongFraction z e in subst P (sym p) (long_written b e low high written).fraction
 
 -- ---- what two chunks tell that were read
 

@@ -1,9 +1,10 @@
 -- Ids for look-ups beside a list of handles.
-use Rattle.std.proofs.Common.{◌≡◌, ℕ, Bool, true, ◌||◌, IsTrue, ◌↔◌, List, [], ◌∷◌, ◌++◌, cond, ap, sym, ◌∙◌, subst, inl, inr, ◌⊎◌}
+use Rattle.std.proofs.Common.{◌≡◌, ℕ, Bool, true, ◌||◌, IsTrue, ◌↔◌, List, [], ◌∷◌, ◌++◌, cond, ap, sym, ◌∙◌, subst, inl, inr}
 use Rattle.std.proofs.lemmas.Bool.Decides.{eqb_tells}
 use Rattle.std.specs.Bool.{◌==◌}
 use Rattle.std.specs.List.{list_any}
 use Rattle.cg_cells.specs.Meaning.{Has}
+use Rattle.cg_cells.proofs.Entries.{has_both, has_left, has_right}
 
 -- what a search through the handles tells
 any-has : (hs : List ℕ) (h : ℕ) → IsTrue (list_any (λ k. k == h) hs) ↔ Has hs h
@@ -33,20 +34,6 @@ looked_up test handles now n h r e at same told =
       λ m. let P : List ℕ → Type 0 = λ z. Has z h in s ∙ (told h).1 (subst P (sym same) m),
     )
 
-pub has-append_left : (hs ks : List ℕ) (h : ℕ) → Has hs h → Has (hs ++ ks) h
-has-append_left [] ks h m = absurd m
-has-append_left (k ∷ hs) ks h (inl e) = inl e
-has-append_left (k ∷ hs) ks h (inr m) = inr (has-append_left hs ks h m)
-
-pub has-append_right : (hs ks : List ℕ) (h : ℕ) → Has ks h → Has (hs ++ ks) h
-has-append_right [] ks h m = m
-has-append_right (k ∷ hs) ks h m = inr (has-append_right hs ks h m)
-
-pub has-append : (hs ks : List ℕ) (h : ℕ) → Has (hs ++ ks) h → Has hs h ⊎ Has ks h
-has-append [] ks h m = inr m
-has-append (k ∷ hs) ks h (inl e) = inl (inl e)
-has-append (k ∷ hs) ks h (inr m) = elim (has-append hs ks h m) [ inl n ↦ inl (inr n) | inr n ↦ inr n ]
-
 -- with one more handle and its id
 pub looked_up-more : (test more : ℕ → Bool) (handles longer : List ℕ) (n h : ℕ) → n ≡ h → longer ≡ handles ++ (h ∷ [])
     → ((k : ℕ) → more k ≡ cond (n == k) true (test k)) → ((k : ℕ) → IsTrue (test k) ↔ Has handles k)
@@ -56,11 +43,11 @@ looked_up-more test more handles longer n h at same updates told k =
     elim (eqb_tells n k) [
       | inl there ↦ (
           let on : cond (n == k) true (test k) ≡ true = ap (λ b. cond b true (test k)) there.0 in
-          (λ t. subst P (sym same) (has-append_right handles (h ∷ []) k (inl (sym at ∙ there.1))), λ m. updates k ∙ on))
+          (λ t. subst P (sym same) (has_right handles (h ∷ []) k (inl (sym at ∙ there.1))), λ m. updates k ∙ on))
       | inr other ↦ (
           let off : cond (n == k) true (test k) ≡ test k = ap (λ b. cond b true (test k)) other.0 in (
-            λ t. subst P (sym same) (has-append_left handles (h ∷ []) k ((told k).0 (sym off ∙ sym (updates k) ∙ t))),
-            λ m. elim (has-append handles (h ∷ []) k (subst P same m)) [
+            λ t. subst P (sym same) (has_left handles (h ∷ []) k ((told k).0 (sym off ∙ sym (updates k) ∙ t))),
+            λ m. elim (has_both handles (h ∷ []) k (subst P same m)) [
               | inl n ↦ updates k ∙ off ∙ (told k).1 n
               | inr n ↦ elim n [ inl e ↦ absurd (other.1 (at ∙ e)) | inr nothing ↦ absurd nothing ]
             ],

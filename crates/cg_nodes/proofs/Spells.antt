@@ -14,8 +14,7 @@ use Rattle.cg_cells.specs.Parts.{parts_of}
 use Rattle.cg_nodes.specs.CanForms.{is_canonical-true}
 use Rattle.cg_nodes.specs.Meant.{Meant, form}
 use Rattle.cg_nodes.specs.Spelled.{Map, spelled, list_at}
-use Rattle.cg_nodes.specs.Longs.{num_in}
-use Rattle.cg_nodes.specs.Inverse.{inverse}
+use Rattle.cg_nodes.specs.Inverse.{Inverse, inverse}
 use Rattle.cg_nodes.specs.Games.{IsGame, game_at, ListsAs, listed, IsList, StandsFor}
 
 lists_at : {R : Type 0} (s : State Meant R) (o : Option ℕ) (gs : List Game) → ListsAs s o gs
@@ -56,28 +55,23 @@ stands-game k i l r s t e a b c h = h ∙ spells-game k l r s e a b c
 pub some_from : (o : Option Meant) (t : Meant) → o ≡ Some t → IsSome o
 some_from o t e = rw e refl
 
+abbrev IsCanonical : Meant → Type 0
+IsCanonical (form g) = Canonical g
+IsCanonical _ = Unit {0}
+
+parts_canonical : (p : KeyParts) (f : Map) (t : Meant) → Inverse p f t → IsCanonical t
+parts_canonical (key.Number n x) f t h = subst IsCanonical (sym h) tt
+parts_canonical (key.Chunk c o) f t h = subst IsCanonical (sym h.1) tt
+parts_canonical (key.Cons i o) f t h = subst IsCanonical (sym h.2) tt
+parts_canonical (key.Game l r) f t h = subst IsCanonical (sym h.2) h.5
+parts_canonical (key.Pair i j) f t h = subst IsCanonical (sym h.2) tt
+parts_canonical (key.Board n r c i) f t h = subst IsCanonical (sym h.1) tt
+parts_canonical (key.Long i x b) f t h = subst IsCanonical (sym h.2) tt
+
 -- what some parts spell is canonical
 pub canonical_spelled_at : (o : Option KeyParts) (f : Map) (g : Game) → spelled o f ≡ Some (form g) → Canonical g
 canonical_spelled_at None f g e = cc
-canonical_spelled_at (Some (key.Number n x)) f g e =
-    let h = inverse (key.Number n x) f (form g) e in
-    let s : g ≡ number (ratio n x) = cc in
-    let P : Game → Type 0 = λ k. Canonical k in
-    subst P (sym s) tt
-canonical_spelled_at (Some (key.Chunk c o)) f g e = let h = inverse (key.Chunk c o) f (form g) e in cc
-canonical_spelled_at (Some (key.Cons i o)) f g e = let h = inverse (key.Cons i o) f (form g) e in cc
-canonical_spelled_at (Some (key.Game l r)) f g e =
-    let h = inverse (key.Game l r) f (form g) e in
-    let s : g ≡ node h.0 h.1 = cc in
-    let P : Game → Type 0 = λ k. Canonical k in
-    subst P (sym s) h.5
-canonical_spelled_at (Some (key.Pair i j)) f g e = let h = inverse (key.Pair i j) f (form g) e in cc
-canonical_spelled_at (Some (key.Board n r c i)) f g e = let h = inverse (key.Board n r c i) f (form g) e in cc
-canonical_spelled_at (Some (key.Long i x b)) f g e =
-    let h = inverse (key.Long i x b) f (form g) e in
-    let s : g ≡ number (ratio (num_in b (h.0 + 2 ^ 32 * h.1)) x) = cc in
-    let P : Game → Type 0 = λ k. Canonical k in
-    subst P (sym s) tt
+canonical_spelled_at (Some p) f g e = parts_canonical p f (form g) (inverse p f (form g) e)
 
 pub canonical_spelled : {R : Type 0} (k i : ℕ) (f : Map) (s : State Meant R) → IsGame s i
     → spelled (parts_of k) f ≡ thing_at s i → Canonical (game_at s i)

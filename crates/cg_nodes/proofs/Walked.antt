@@ -1,51 +1,43 @@
 -- Handles of positions, found one after another.
 use Rattle.std.proofs.Common.{◌≡◌, refl, ℕ, ◌+◌, ◌<◌, ◌≤◌, inl, inr, Option, Some, List, [], ◌∷◌, ◌++◌, length, length-append, arith, ap, sym, ◌∙◌, subst}
+use Rattle.cg_dyadic.specs.Number.{Number}
 use Rattle.cg_form.specs.Depth.{deepest, depth_of}
 use Rattle.cg_form.specs.Extended.{IsClosed, extended, positions_before}
-use Rattle.cg_form.specs.Game.{Among, Game, node, number, of_list, options}
+use Rattle.cg_form.specs.Game.{Among, Game, node, number, of_list}
 use Rattle.cg_form.proofs.Among.{carry}
 use Rattle.cg_cells.specs.Meaning.{Grows, Has, IsInjective}
 use Rattle.cg_cells.specs.Store.{State, Spends, thing_at}
+use Rattle.cg_cells.proofs.Entries.{has_both}
 use Rattle.cg_nodes.specs.Meant.{Meant, form}
-use Rattle.cg_nodes.specs.Games.{AreDistinct, AreGames, IsGame, IsHead, IsList, IsNode, StandFor, game_at, games_at, listed}
+use Rattle.cg_nodes.specs.Games.{AreDistinct, AreGames, IsGame, IsHead, IsList, StandFor, game_at, games_at, listed}
 use Rattle.cg_form.specs.Positions.{all_positions, positions_in, positions_of}
 use Rattle.cg_nodes.specs.Walks.{AreFound, AreFoundAfter}
 use Rattle.cg_nodes.specs.declared.reading.Split.{Split}
 use Rattle.cg_form.proofs.AllPositions.{closed_more, closed_none, closed_there, extended-last, positions-last, positions_before-depth, positions_of-extended}
-use Rattle.cg_form.proofs.Extended.{extended-among, extended-append, extended-has, extended-length}
+use Rattle.cg_form.proofs.Firsts.{extended-among, extended-append, extended-has, extended-length}
+use Rattle.cg_form.proofs.Structure.{games}
 use Rattle.cg_nodes.proofs.Later.{are_games_later, game_later, games_later, is_game_later, is_list_later, listed_later, nothing_spent, spends_then}
 use Rattle.cg_nodes.proofs.Lists.{are_games-append, games_at-append}
-use Rattle.cg_nodes.proofs.Looked.{has-append}
+use Rattle.cg_nodes.proofs.Members.{among_has, has_among, length_games}
 
 -- ---- handles and games
 
--- the game of a handle of the list is among the games of the list
-pub has-among : {R : Type 0} (s : State Meant R) (hs : List ℕ) (h : ℕ) → Has hs h → Among (game_at s h) (games_at s hs)
-has-among s [] h m = absurd m
-has-among s (k ∷ hs) h (inl e) = inl (ap (game_at s) (sym e))
-has-among s (k ∷ hs) h (inr m) = inr (has-among s hs h m)
-
--- and a handle whose game is among those games is in the list, where different ids have different things
-pub among-has : {R : Type 0} (s : State Meant R) (hs : List ℕ) (h : ℕ) → IsInjective (thing_at s) → AreGames s hs
+-- a handle whose game is among the games of the list is in the list, where different ids have different things
+among-has : {R : Type 0} (s : State Meant R) (hs : List ℕ) (h : ℕ) → IsInjective (thing_at s) → AreGames s hs
     → IsGame s h → Among (game_at s h) (games_at s hs) → Has hs h
-among-has s [] h apart a g m = absurd m
-among-has s (k ∷ hs) h apart a g (inl e) = inl (apart k h (form (game_at s h)) (a.0
-    ∙ ap (λ z. Some (form z)) (sym e)) g)
-among-has s (k ∷ hs) h apart a g (inr m) = inr (among-has s hs h apart a.1 g m)
+among-has s hs h apart a g m =
+    let (p, k, e) = among_has s hs (game_at s h) a m in
+    let P : ℕ → Type 0 = λ z. Has hs z in subst P (apart p h (form (game_at s h)) e g) k
 
 distinct_more : (hs : List ℕ) (h : ℕ) → AreDistinct hs → ¬ Has hs h → AreDistinct (hs ++ (h ∷ []))
 distinct_more [] h d out = (λ m. m, tt)
 distinct_more (k ∷ hs) h d out = (
-  λ m. elim (has-append hs (h ∷ []) k m) [
+  λ m. elim (has_both hs (h ∷ []) k m) [
     | inl n ↦ d.0 n
     | inr n ↦ elim n [ inl e ↦ out (inl (sym e)) | inr nothing ↦ absurd nothing ]
   ],
   distinct_more hs h d.1 (λ m. out (inr m)),
 )
-
-pub length-games_at : {R : Type 0} (s : State Meant R) (hs : List ℕ) → length (games_at s hs) ≡ length hs
-length-games_at s [] = refl
-length-games_at s (h ∷ hs) = let e = length-games_at s hs in omega arith
 
 pub found_none : {R : Type 0} (s : State Meant R) → AreFound s []
 found_none s = record { games = tt; distinct = tt; closed = closed_none }
@@ -68,7 +60,7 @@ pub found_there : {R : Type 0} (s : State Meant R) (hs : List ℕ) (h : ℕ) →
 found_there s hs h f m = record {
   found = f;
   all = sym (closed_there (games_at s hs) (game_at s h) f.closed
-      (has-among s hs h m));
+      (has_among s hs h m));
 }
 
 -- where a game wasn't found, and what comes before it was, it is the next
@@ -83,7 +75,7 @@ module _ {R : Type 0} (s t : State Meant R) (hs ks : List ℕ) (h : ℕ) (grows 
   next_all = ap (λ z. z ++ (game_at s h ∷ [])) walked.all ∙ sym (extended-last (games_at s hs) (game_at s h) unseen)
 
   not_yet : ¬ Among (game_at s h) (games_at t ks)
-  not_yet m = elim (extended-among (games_at s hs) (positions_before (game_at s h)) (game_at s h) (carry (game_at s
+  not_yet m = elim (extended-among games (games_at s hs) (positions_before (game_at s h)) (game_at s h) (carry (game_at s
       h) (games_at t ks) (extended (games_at s hs) (positions_before (game_at s h))) walked.all m)) [
         | inl n ↦ unseen n
         | inr n ↦ (let d = positions_before-depth (game_at s h) (game_at s h) n in absurd (omega arith))
@@ -99,12 +91,12 @@ module _ {R : Type 0} (s t : State Meant R) (hs ks : List ℕ) (h : ℕ) (grows 
       record {
         found = record {
           games = are_games-append t ks (h ∷ []) walked.found.games (g, tt);
-          distinct = distinct_more ks h walked.found.distinct (λ m. not_yet (subst P' same (has-among t ks h m)));
+          distinct = distinct_more ks h walked.found.distinct (λ m. not_yet (subst P' same (has_among t ks h m)));
           closed = subst Q (sym (games_at-append t ks (h ∷ []))) (subst P (sym same) (closed_more (games_at t ks)
               (game_at s h) walked.found.closed
               (λ k m. carry k (extended (games_at s hs) (positions_before (game_at s h))) (games_at t ks) (sym
               walked.all)
-              (extended-has (games_at s hs) (positions_before (game_at s h)) k m))));
+              (extended-has games (games_at s hs) (positions_before (game_at s h)) k m))));
         };
         all = games_at-append t ks (h ∷ []) ∙ ap (λ z. games_at t ks ++ (z ∷ [])) same ∙ next_all;
       }
@@ -114,7 +106,7 @@ module _ {R : Type 0} (s t : State Meant R) (hs ks : List ℕ) (h : ℕ) (grows 
   next_length =
       let a = ap length next_all in
       let b = length-append (games_at t ks) (game_at s h ∷ []) in
-      let c = length-games_at t ks in
+      let c = length_games t ks in
       omega arith
 
 -- more than come before it are more than all of its positions
@@ -122,57 +114,49 @@ pub before_length : (seen : List Game) (g : Game) (limit : ℕ) → limit < leng
     → limit < length (extended seen (all_positions g))
 before_length seen g limit l =
     let a = ap (λ z. length (extended seen z)) (positions-last g) in
-    let b = extended-length seen (positions_before g) (g ∷ []) in
+    let b = extended-length games seen (positions_before g) (g ∷ []) in
     omega arith
 
 -- ---- the positions before a game
 
 -- a number has none
-none_before : (g : Game) → ¬ IsNode g → positions_before g ≡ []
-none_before (number x) n = refl
-none_before (options ls rs) n = absurd (n tt)
-
-pub number_walked : {R : Type 0} (s t : State Meant R) (hs : List ℕ) (h : ℕ)
-    → Grows (thing_at s) (thing_at t) → AreFound s hs → ¬ IsNode (game_at s h)
+pub number_walked : {R : Type 0} (s t : State Meant R) (hs : List ℕ) (h : ℕ) (x : Number)
+    → Grows (thing_at s) (thing_at t) → AreFound s hs → game_at s h ≡ number x
     → AreFoundAfter s t hs hs (positions_before (game_at s h))
-number_walked s t hs h k f n =
-    record {
-      found = found_later s t hs k f;
-      all = games_later s t k hs f.games
-          ∙ ap (extended (games_at s hs)) (sym (none_before (game_at s h) n));
-    }
+number_walked s t hs h x k f e = record {
+  found = found_later s t hs k f;
+  all = games_later s t k hs f.games ∙ ap (λ g. extended (games_at s hs) (positions_before g)) (sym e);
+}
 
 -- those of another game are those of its lists
-module _ {R : Type 0} (s r u v : State Meant R) (hs ks ms : List ℕ) (h : ℕ) (ls rs : Option ℕ) (sr : Grows (thing_at
-    s) (thing_at r)) (ru : Grows (thing_at r) (thing_at u))
-    (before : AreFound s hs) (read : IsList r ls × IsList r rs × (game_at s h ≡ node (listed r ls) (listed r rs))) where
+module _ {R : Type 0} (s r : State Meant R) (hs : List ℕ) (h : ℕ) (ls rs : Option ℕ) (sr : Spends 0 s r) (before : AreFound s hs)
+    (read : IsList r ls × IsList r rs × (game_at s h ≡ node (listed r ls) (listed r rs))) where
   same_before : games_at r hs ≡ games_at s hs
-  same_before = games_later s r sr hs before.games
+  same_before = games_later s r sr.known hs before.games
 
   -- more than the positions of the first list are more than those of the game
   pub left_length : (limit : ℕ) → limit < length (extended (games_at r hs) (positions_in (of_list (listed r ls))))
       → limit < length (extended (games_at s hs) (positions_before (game_at s h)))
   left_length limit l =
       let ps : List Game = positions_in (of_list (listed r ls)) in
-      let qs : List Game = positions_in (of_list (listed r rs)) in
       let a = ap (λ z. length (extended z ps)) same_before in
       let b = ap (λ z. length (extended (games_at s hs) (positions_before z))) read.2 in
-      let c = extended-length (games_at s hs) ps qs in
+      let c = extended-length games (games_at s hs) ps (positions_in (of_list (listed r rs))) in
       omega arith
 
-  module _ (left : AreFoundAfter r u hs ks (positions_in (of_list (listed r ls)))) where
+  module _ (u : State Meant R) (ks : List ℕ) (ru : Spends 0 r u) (left : AreFoundAfter r u hs ks (positions_in (of_list (listed r ls)))) where
     both : extended (games_at u ks) (positions_in (of_list (listed u rs))) ≡ extended (games_at s hs)
         (positions_before (game_at s h))
     both =
         let ps : List Game = positions_in (of_list (listed r ls)) in
-        ap (λ z. extended (games_at u ks) (positions_in (of_list z))) (listed_later r u ru rs read.1)
+        ap (λ z. extended (games_at u ks) (positions_in (of_list z))) (listed_later r u ru.known rs read.1)
         ∙ ap (λ z. extended z (positions_in (of_list (listed r rs)))) (left.all ∙ ap (λ z. extended z ps) same_before)
-        ∙ sym (extended-append (games_at s hs) ps (positions_in (of_list (listed r rs))))
+        ∙ sym (extended-append games (games_at s hs) ps (positions_in (of_list (listed r rs))))
         ∙ ap (λ z. extended (games_at s hs) (positions_before z)) (sym read.2)
 
-    pub lists_walked : AreFoundAfter u v ks ms (positions_in (of_list (listed u rs)))
+    pub lists_walked : (v : State Meant R) (ms : List ℕ) → AreFoundAfter u v ks ms (positions_in (of_list (listed u rs)))
         → AreFoundAfter s v hs ms (positions_before (game_at s h))
-    lists_walked right = record { found = right.found; all = right.all ∙ both }
+    lists_walked v ms right = record { found = right.found; all = right.all ∙ both }
 
     pub right_length : (limit : ℕ) → limit < length (extended (games_at u ks) (positions_in (of_list (listed u rs))))
         → limit < length (extended (games_at s hs) (positions_before (game_at s h)))
@@ -219,7 +203,7 @@ module _ {R : Type 0} (s t u : State Meant R) (list left : Option ℕ) (before f
       → n < length (extended (games_at s before) (positions_in (of_list (listed s list))))
   walking_length n l =
       let a = ap length all_left in
-      let b = extended-length (games_at u found) (all_positions (game_at u top.first)) (positions_in (of_list (listed
+      let b = extended-length games (games_at u found) (all_positions (game_at u top.first)) (positions_in (of_list (listed
       u top.rest))) in
       omega arith
 
@@ -239,7 +223,7 @@ module _ {R : Type 0} (s t u : State Meant R) (list left : Option ℕ) (before f
           rest =
               ap (λ z. extended (games_at v longer) (positions_in (of_list z))) c
               ∙ ap (λ z. extended z (positions_in (of_list (listed u top.rest)))) more.all
-              ∙ sym (extended-append (games_at u found) (all_positions (game_at u top.first)) (positions_in (of_list
+              ∙ sym (extended-append games (games_at u found) (all_positions (game_at u top.first)) (positions_in (of_list
               (listed u top.rest))))
               ∙ all_left;
           depth = omega arith;
@@ -287,5 +271,5 @@ pub found_within : {R : Type 0} (s t : State Meant R) (h : ℕ) (none hs : List 
 found_within s t h none hs limit e f l =
     let a = found_positions s t h none hs hs e refl f in
     let b = ap length a.1 in
-    let c = length-games_at t hs in
+    let c = length_games t hs in
     omega arith

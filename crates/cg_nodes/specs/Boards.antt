@@ -1,6 +1,6 @@
 -- The contents in which a board's cells are written: two bits for each cell, 16 cells in a content, the first cell in the
 -- least bits, and 0 in the bits that are left. A cell's two bits are the index of its symbol in the game's row of symbols.
-use Rattle.std.specs.Prelude.{◌≡◌, ℕ, zero, suc, ◌+◌, ◌-◌, ◌*◌, ◌/◌, ◌%◌, ◌<◌, ◌==◌, ◌&&◌, ◌⊎◌, Bool, nat_lt, if◌then◌else◌, List, [], ◌∷◌, ◌++◌, length}
+use Rattle.std.specs.Prelude.{◌≡◌, ℕ, zero, suc, ◌+◌, ◌-◌, ◌*◌, ◌/◌, ◌%◌, ◌<◌, ◌==◌, ◌&&◌, ◌⊎◌, Bool, min, nat_lt, if◌then◌else◌, List, [], ◌∷◌, ◌++◌, length}
 
 -- how many symbols the game with this number has: 1 is Domineering with `.` `#`, 2 Clobber with `.` `x` `o`, 3 Amazons with
 -- `.` `x` `o` `#`, 4 Toads with `.` `T` `F`, and there is no other
@@ -19,8 +19,7 @@ are_symbols (suc cells) count content = nat_lt (content % 4) count && are_symbol
 abbrev pub are_contents : ℕ → ℕ → List ℕ → Bool
 are_contents count cells [] = cells == 0
 are_contents count cells (content ∷ rest) =
-    if nat_lt cells 17 then nat_lt 0 cells && are_symbols cells count content && are_contents count 0 rest
-    else are_symbols 16 count content && are_contents count (cells - 16) rest
+    nat_lt 0 cells && are_symbols (min 16 cells) count content && are_contents count (cells - 16) rest
 
 -- the contents are those of a board of this game: it has 1 to 64 cells
 abbrev pub are_of_board : ℕ → ℕ → ℕ → List ℕ → Bool

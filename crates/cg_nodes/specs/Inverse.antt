@@ -102,14 +102,15 @@ pair_back None p t e = cc
 pair_back (Some g) None t e = cc
 pair_back (Some g) (Some h) t e = (g, h, cc, refl, refl)
 
-board_if_back : (n r c : ℕ) (cs : List ℕ) (b : Bool) (t : Meant) → board_if n r c cs b ≡ Some t → t ≡ board n r c cs
-board_if_back n r c cs true t e = cc
+pub board_if_back : (n r c : ℕ) (cs : List ℕ) (b : Bool) (t : Meant) → board_if n r c cs b ≡ Some t
+    → (t ≡ board n r c cs) × (b ≡ true)
+board_if_back n r c cs true t e = (cc, refl)
 board_if_back n r c cs false t e = cc
 
 board_back : (n r c : ℕ) (o : Option (List ℕ)) (t : Meant) → board_of n r c o ≡ Some t
     → (cs : List ℕ) × (t ≡ board n r c cs) × (o ≡ Some cs)
 board_back n r c None t e = cc
-board_back n r c (Some cs) t e = (cs, board_if_back n r c cs (are_of_board n r c cs) t e, refl)
+board_back n r c (Some cs) t e = (cs, (board_if_back n r c cs (are_of_board n r c cs) t e).0, refl)
 
 pub long_back : (negative : Bool) (exp : ℕ) (o : Option (List ℕ)) (t : Meant) → long_of negative exp o ≡ Some t
     → (low : ℕ) × (high : ℕ) × (t ≡ form (number (ratio (num_in negative (low + 2 ^ 32 * high)) exp)))

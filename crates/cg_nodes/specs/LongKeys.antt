@@ -18,10 +18,6 @@ pub record IsLongFraction (n : ℤ) (e : ℕ) : Type 0 where
   pub short : e ≤ 40
   pub lowest : IsLowest (unsigned_abs n) e
 
-is_true : (b : Bool) → IsTrue b → b ≡ true
-is_true true h = refl
-is_true false h = absurd (search (rules, h))
-
 pub long_fraction : (n : ℤ) (e : ℕ) → IsTrue (is_long_fraction n e) → IsLongFraction n e
 long_fraction n e h =
     let (a, l) = both_back _ _ h in
@@ -38,7 +34,7 @@ long_fraction n e h =
         small = (let P : ℤ → Type 0 = λ z. unsigned_abs z < 2 ^ 64 in subst P (sym p) small);
         short = (let P : ℕ → Type 0 = λ z. z ≤ 40 in subst P (sym q) f);
       };
-      long = is_true (is_long (ratio n e)) l;
+      long = l;
       small = small;
       short = f;
       lowest = lowest_test e _ o;
@@ -82,8 +78,8 @@ chunks_back negative low high a b =
 
 narrow_from : (x : Number) (n : ℤ) (e : ℕ) → num_of x ≡ n → exp_of x ≡ e → unsigned_abs n < 2 ^ 52 → e ≤ 31 → is_long x ≡ false
 narrow_from x n e p q a b =
-    let s : nat_lt (unsigned_abs (num_of x)) (2 ^ 52) ≡ true = is_true _ (lt_true (unsigned_abs (num_of x)) (2 ^ 52) (rw p a)) in
-    let t : nat_lt (exp_of x) 32 ≡ true = is_true _ (lt_true (exp_of x) 32 (rw q (omega arith))) in
+    let s : nat_lt (unsigned_abs (num_of x)) (2 ^ 52) ≡ true = lt_true (unsigned_abs (num_of x)) (2 ^ 52) (rw p a) in
+    let t : nat_lt (exp_of x) 32 ≡ true = lt_true (exp_of x) 32 (rw q (omega arith)) in
     rw (s, t) refl
 
 -- the number of a key of a narrow one isn't long

@@ -8,12 +8,12 @@ use std::alloc::{AllocError, Global};
 use std::collections::HashSet;
 use std::marker::Model;
 
-// So many handles are searched one by one.
-const FEW: usize = 64;
+// Up to so many handles are searched one by one.
+const MOST_SEARCHED: usize = 64;
 // A set has room for so many ids from the first.
-const MANY: usize = 2 * FEW;
+const ROOM_FOR_IDS: usize = 2 * MOST_SEARCHED;
 // The vector has room for so many handles from the first.
-const ROOM: usize = 16;
+const ROOM_FOR_HANDLES: usize = 16;
 
 /// Handles in the order in which they were found. Few are searched one by one, and more are looked up by their ids.
 /// Contracts see the list of handles.
@@ -46,7 +46,7 @@ impl Found {
         ensures { IfOk result (λ found. found ≡ []) }
     {
         Ok(Found {
-            handles: Vec::with_capacity(alloc, ROOM)?,
+            handles: Vec::with_capacity(alloc, ROOM_FOR_HANDLES)?,
             ids: HashSet::new(alloc),
             by_ids: false,
         })
@@ -79,7 +79,7 @@ impl Found {
             self.by_ids = false;
             self.ids.insert(handle.id().number())?;
             self.by_ids = true;
-        } else if self.handles.len() > FEW {
+        } else if self.handles.len() > MOST_SEARCHED {
             put_ids(&mut self.ids, &self.handles)?;
             self.by_ids = true;
         }
@@ -104,7 +104,7 @@ fn put_ids(ids: &mut HashSet<u32>, handles: &[Handle]) -> Result<(), AllocError>
     ensures { OnOk result ((h : ℕ) → IsTrue (contains (λ a b. a == b) ids.new h) ↔ Has handles.now h) }
 {
     ids.clear();
-    ids.reserve(MANY)?;
+    ids.reserve(ROOM_FOR_IDS)?;
     for handle in handles {
         ids.insert(handle.id().number())?;
     }

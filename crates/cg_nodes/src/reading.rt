@@ -1,5 +1,5 @@
 //! What a handle or a list stands for.
-ghost use Rattle.std.specs.Prelude.{◌≡◌, IfOk, IfSome, IfNone, Some};
+ghost use Rattle.std.specs.Prelude.{◌≡◌, IfOk};
 ghost use Rattle.cg_dyadic.specs.Number.{InRange, ratio};
 ghost use Rattle.cg_form.specs.Canonical.{Canonical};
 ghost use Rattle.cg_form.specs.Game.{lefts, rights};
@@ -7,10 +7,11 @@ ghost use Rattle.cg_cells.specs.Layout.{FieldsFit};
 ghost use Rattle.cg_cells.specs.declared.key.KeyParts.TheVariants as parts;
 ghost use Rattle.cg_cells.specs.Store.{Spends};
 ghost use Rattle.cg_nodes.specs.Games.{IsGame, game_at, IsList, listed, IsRead, IsHead, IsKind, IsNode, IsInRange, StandFor};
+ghost use Rattle.cg_nodes.specs.Ranges.{AllInRange};
 
 use crate::long::read_long;
 use crate::{BoardForms, GameFacts, Handle, Handles, Kind, ListId};
-use cg_cells::{CellStore, Id, KeyParts};
+use cg_cells::{CellStore, KeyParts};
 use cg_dyadic::Dyadic;
 use std::alloc::{AllocError, Global};
 
@@ -30,15 +31,6 @@ pub struct Split {
     pub first: Handle,
     /// The list of the others.
     pub rest: ListId,
-}
-
-/// The lists of the options of a game.
-#[derive(Clone, Copy)]
-pub(crate) struct Lists {
-    /// The list of the Left options.
-    pub(crate) lefts: ListId,
-    /// The list of the Right options.
-    pub(crate) rights: ListId,
 }
 
 /// The options of a game.
@@ -81,30 +73,14 @@ pub fn read<B: BoardForms, S: CellStore<GameFacts<B>>>(store: &mut S, handle: Ha
     }
 }
 
-/// The lists of a game that equals no number. None comes for a number, which isn't made.
-pub(crate) fn lists_of<B: BoardForms, S: CellStore<GameFacts<B>>>(
-    store: &mut S,
-    handle: Handle,
-) -> Option<Lists>
-    requires { IsGame (S.state store.old) handle }
-    ensures game { IfSome result (λ lists. IsRead (S.state store.new) (Reading.Game lists.lefts lists.rights) (game_at (S.state store.old) handle)) }
-    ensures number { IfNone result (¬ IsNode (game_at (S.state store.old) handle)) }
-    ensures spends { Spends 0 (S.state store.old) (S.state store.new) }
+/// A known game is canonical, and each number in its tree is in range. It does nothing, and its contract is the fact: where
+/// [`read`] tells it of the number that is read, this tells it of the whole tree.
+pub fn known_game<B: BoardForms, S: CellStore<GameFacts<B>>>(store: &S, handle: Handle)
+    requires { IsGame (S.state store.now) handle }
+    ensures canonical { Canonical (game_at (S.state store.now) handle) }
+    ensures in_range { AllInRange (game_at (S.state store.now) handle) }
 {
-    let key = store.look(handle.id());
-    match key.parts() {
-        KeyParts::Number { num: _, exp: _ } => None,
-        KeyParts::Long {
-            first: _,
-            exp: _,
-            negative: _,
-        } => None,
-        KeyParts::Game { lefts, rights } => Some(Lists {
-            lefts: ListId { id: lefts },
-            rights: ListId { id: rights },
-        }),
-        _ => unreachable!(),
-    }
+    let _same = store.same(handle.id(), handle.id());
 }
 
 /// The number that the handle stands for, or that it stands for a game that equals no number.
@@ -115,19 +91,9 @@ pub fn kind<B: BoardForms, S: CellStore<GameFacts<B>>>(store: &mut S, handle: Ha
     ensures in_range { IsInRange (game_at (S.state store.old) handle) }
     ensures spends { Spends 0 (S.state store.old) (S.state store.new) }
 {
-    let key = store.look(handle.id());
-    match key.parts() {
-        KeyParts::Number { num, exp } => Kind::Number(number_of(num, exp)),
-        KeyParts::Long {
-            first,
-            exp,
-            negative,
-        } => Kind::Number(read_long(store, first, exp, negative)),
-        KeyParts::Game {
-            lefts: _,
-            rights: _,
-        } => Kind::Game,
-        _ => unreachable!(),
+    match read(store, handle) {
+        Reading::Number(x) => Kind::Number(x),
+        Reading::Game(_, _) => Kind::Game,
     }
 }
 
@@ -137,29 +103,15 @@ pub fn head<B: BoardForms, S: CellStore<GameFacts<B>>>(store: &mut S, list: List
     ensures head { IsHead (S.state store.new) result (listed (S.state store.old) list) }
     ensures spends { Spends 0 (S.state store.old) (S.state store.new) }
 {
-    match list.id {
-        None => None,
-        Some(id) => {
-            let split = split_of(store, id);
-            Some(split)
-        }
-    }
-}
-
-// The first handle of a list cell, and the list of the others.
-fn split_of<B: BoardForms, S: CellStore<GameFacts<B>>>(store: &mut S, id: Id) -> Split
-    requires { IsList (S.state store.old) (Some id) }
-    ensures head { IsHead (S.state store.new) (Some result) (listed (S.state store.old) (Some id)) }
-    ensures spends { Spends 0 (S.state store.old) (S.state store.new) }
-{
+    let Some(id) = list.id else { return None };
     let key = store.look(id);
-    let Some(list) = key.list_parts() else {
+    let Some(parts) = key.list_parts() else {
         unreachable!()
     };
-    Split {
-        first: Handle::of(list.first),
-        rest: ListId { id: list.rest },
-    }
+    Some(Split {
+        first: Handle::of(parts.first),
+        rest: ListId { id: parts.rest },
+    })
 }
 
 /// The handles of the list, in its order. The only error is want of memory.

@@ -9,8 +9,7 @@ ghost use Rattle.cg_form.specs.Positions.{all_positions, positions_in, positions
 ghost use Rattle.cg_nodes.specs.Walks.{AreFound, AreFoundAfter};
 
 use crate::found::Found;
-use crate::reading::lists_of;
-use crate::{BoardForms, GameFacts, Handle, Handles, ListId, PositionsFault, head};
+use crate::{BoardForms, GameFacts, Handle, Handles, ListId, PositionsFault, Reading, head, read};
 use cg_cells::CellStore;
 use std::alloc::Global;
 
@@ -60,11 +59,11 @@ fn walk_options<B: BoardForms, S: CellStore<GameFacts<B>>>(
         (positions_before (game_at (S.state store.old) handle))) }
     ensures spends { Spends 0 (S.state store.old) (S.state store.new) }
 {
-    match lists_of(store, handle) {
-        None => Ok(()),
-        Some(lists) => {
-            walk_list(store, found, lists.lefts, limit)?;
-            walk_list(store, found, lists.rights, limit)
+    match read(store, handle) {
+        Reading::Number(_) => Ok(()),
+        Reading::Game(lefts, rights) => {
+            walk_list(store, found, lefts, limit)?;
+            walk_list(store, found, rights, limit)
         }
     }
 }

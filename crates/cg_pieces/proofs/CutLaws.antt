@@ -6,7 +6,8 @@ use Rattle.cg_moves.specs.CutByMoves.{IsCutByMoves, MoveInPiece, MoveOfBoard, Mo
 use Rattle.cg_moves.specs.Grid.{Grid, with_cells}
 use Rattle.cg_moves.specs.Reordered.{IsReordered}
 use Rattle.cg_moves.specs.Rules.{GameRules, In, boards_after, followers, pieces, pieces_by}
-use Rattle.cg_moves.proofs.Members.{in-append_left, in-append_right, in-map, in_mapped}
+use Rattle.cg_form.proofs.Firsts.{in-append_left, in-append_right}
+use Rattle.cg_moves.proofs.Members.{in-map, in_mapped}
 use Rattle.cg_moves.proofs.Totals.{map-append}
 use Rattle.cg_pieces.specs.Cells.{CellGame, CutsByCells, Distinct, First, IsCellGame, Joined, pieces_of}
 use Rattle.cg_pieces.specs.Cells.Linked.{here}

@@ -4,7 +4,8 @@ use Rattle.cg_dyadic.proofs.Truth.{true-or-not}
 use Rattle.cg_moves.specs.Grid.{Grid}
 use Rattle.cg_moves.specs.Reordered.{IsReordered}
 use Rattle.cg_moves.specs.Rules.{In}
-use Rattle.cg_moves.proofs.Members.{in-append, in-append_left, in-append_right, in-map, in_mapped, map-agree}
+use Rattle.cg_form.proofs.Firsts.{in-append, in-append_left, in-append_right}
+use Rattle.cg_moves.proofs.Members.{in-map, in_mapped, map-agree}
 use Rattle.cg_moves.proofs.Totals.{map-append}
 use Rattle.cg_pieces.specs.Cells.{CellGame, Distinct, First, IsCellGame, Joined, OneSet, pieces_of}
 use Rattle.cg_pieces.specs.Cells.Linked.{here}

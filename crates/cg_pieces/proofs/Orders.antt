@@ -2,7 +2,8 @@
 use Rattle.std.proofs.Common.{◌≡◌, refl, ℕ, ◌⊎◌, inl, inr, ap, sym, ◌∙◌, subst, List, [], ◌∷◌, ◌++◌, map}
 use Rattle.cg_moves.specs.Reordered.{IsReordered}
 use Rattle.cg_moves.specs.Rules.{In}
-use Rattle.cg_moves.proofs.Members.{in-append, in-map, in-append_left, in-append_right}
+use Rattle.cg_form.proofs.Firsts.{in-append, in-append_left, in-append_right}
+use Rattle.cg_moves.proofs.Members.{in-map}
 use Rattle.cg_moves.proofs.Totals.{map-append}
 use Rattle.cg_pieces.specs.Cells.{CellGame, Distinct}
 

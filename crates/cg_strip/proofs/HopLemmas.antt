@@ -15,7 +15,8 @@ use Rattle.cg_moves.specs.PlaneBits.{index_of}
 use Rattle.cg_moves.specs.Rising.{rising}
 use Rattle.cg_moves.specs.Rules.{In}
 use Rattle.cg_moves.specs.Words.{Marks}
-use Rattle.cg_moves.proofs.Members.{carry, in-append, in-append_left, in-append_right, in_one}
+use Rattle.cg_form.proofs.Firsts.{in-append, in-append_left, in-append_right}
+use Rattle.cg_moves.proofs.Members.{carry, in_one}
 use Rattle.cg_moves.proofs.SameMembers.{rising-same}
 use Rattle.cg_moves.proofs.WordBits.{marks_same}
 use Rattle.cg_strip.specs.declared.hopping.HopWords.{HopWords}

@@ -10,7 +10,8 @@ use Rattle.std.proofs.Math.Seq.{take-append_seam, drop-append_seam, drop-drop}
 use Rattle.cg_moves.specs.declared.player.Player.{Player}
 use Rattle.cg_moves.specs.declared.player.Player.TheVariants.{Left, Right}
 use Rattle.cg_moves.specs.Rules.{In}
-use Rattle.cg_moves.proofs.Members.{in-append, in-append_left, in-append_right, in-flat_map, in_flat_mapped}
+use Rattle.cg_form.proofs.Firsts.{in-append, in-append_left, in-append_right}
+use Rattle.cg_moves.proofs.Members.{in-flat_map, in_flat_mapped}
 use Rattle.cg_moves.proofs.RisingLemmas.{rising-in, in-rising}
 use Rattle.cg_strip.specs.Placing.{IsPlacedAt, IsMove, placed_at, placed_below, is_same_player, placements, moves_by}
 use Rattle.cg_strip.specs.declared.rule.Rule.{Rule}

@@ -5,7 +5,7 @@ use Rattle.cg_moves.specs.declared.player.Player.{Player}
 use Rattle.cg_moves.specs.declared.player.Player.TheVariants.{Left, Right}
 use Rattle.cg_moves.specs.Lawful.{IsLawful}
 use Rattle.cg_moves.specs.Rules.{In}
-use Rattle.cg_moves.proofs.Members.{in-append, in-append_left, in-append_right}
+use Rattle.cg_form.proofs.Firsts.{in-append, in-append_left, in-append_right}
 use Rattle.cg_moves.proofs.RisingLemmas.{rising-in, in-rising}
 use Rattle.cg_strip.specs.Placing.{IsPlacedAt, all_placed}
 use Rattle.cg_strip.specs.Weighing.{row_weight, is_lighter}

@@ -4,6 +4,7 @@ use Rattle.std.proofs.Math.Seq.{get_or-append_seam}
 use Rattle.std.proofs.lemmas.List.{get_or-map, get_or_append_left}
 use Rattle.std.specs.Prelude.{bit_xor, OnOk}
 use Rattle.cg_canon.proofs.AgainItems.{pass_alone}
+use Rattle.cg_canon.proofs.HandleLists.{stand_more}
 use Rattle.cg_canon.proofs.MadeSteps.{made_as}
 use Rattle.cg_canon.specs.Items.{AllPass, made}
 use Rattle.cg_canon.specs.Made.{ItemsMade}
@@ -24,14 +25,15 @@ use Rattle.cg_nimbers.proofs.NimberPositions.{length-nimbers_below}
 use Rattle.cg_nimbers.proofs.NimberSums.{nimber_sum}
 use Rattle.cg_nimbers.specs.Nimbers.{nimber_form, nimber_over, nimbers_below}
 use Rattle.cg_nodes.proofs.Forms.{can-same}
-use Rattle.cg_nodes.proofs.Later.{stand_later, stands_game, stands_is_game}
+use Rattle.cg_nodes.proofs.Later.{stand_later, stands_later}
 use Rattle.cg_nodes.proofs.Members.{has_game}
 use Rattle.cg_nodes.specs.CanForms.{can-fixed}
-use Rattle.cg_nodes.specs.Games.{AreGames, StandFor, StandsFor, game_at, games_at}
+use Rattle.cg_nodes.specs.Games.{StandFor, StandsFor, game_at, games_at}
 use Rattle.cg_nodes.specs.Meant.{Meant}
-use Rattle.cg_sum.specs.Firsts.{AreFirst, HoldsCosts, HoldsFirst, nimber_item}
+use Rattle.cg_sum.specs.Firsts.{AreFirst, HoldsCosts, HoldsFirst, IsPair, nimber_item}
 use Rattle.cg_sum.specs.declared.firsts.FirstNimbers.{FirstNimbers}
-use Rattle.cg_sum.proofs.Members.{has_read}
+use Rattle.cg_sum.specs.declared.pair.NimberPair.{NimberPair}
+use Rattle.cg_canon.proofs.DistinctSteps.{has_item}
 
 -- ---- forms
 
@@ -54,18 +56,6 @@ unfolding nimber_form
 node_nimber n l = over-some (nimbers_below n) l
 
 -- ---- the next one is known
-
--- one handle more
-stand_more : {R : Type 0} (s : State Meant R) (hs : List ℕ) (h : ℕ) (gs : List Game) (g : Game) → StandFor s hs gs
-    → StandsFor s h g → StandFor s (hs ++ (h ∷ [])) (gs ++ (g ∷ []))
-stand_more s [] h gs g a b = (
-  (stands_is_game s h g b, tt),
-  ap (λ z. z ∷ []) (stands_game s h g b) ∙ ap (λ z. z ++ (g ∷ [])) a.1,
-)
-stand_more s (k ∷ hs) h gs g a b =
-    let rest : StandFor s (hs ++ (h ∷ [])) (games_at s hs ++ (g ∷ [])) = stand_more s hs h (games_at s hs) g
-    (a.0.1, refl) b in
-    ((a.0.0, rest.0), ap (λ z. game_at s k ∷ z) rest.1 ∙ ap (λ z. z ++ (g ∷ [])) a.1)
 
 pub first_more : {R : Type 0} (s : State Meant R) (hs ks : List ℕ) (h : ℕ) → AreFirst s hs → StandsFor s h (nimber_form (length hs))
     → ks ≡ hs ++ (h ∷ []) → AreFirst s ks
@@ -98,7 +88,7 @@ first_stands s hs n h are l e =
     let at : game_at s h ≡ nimber_form n =
     ap (game_at s) e ∙ sym (get_or-map (game_at s) hs n h g l) ∙ ap (λ z. get_or z n g) are.1 ∙ below_at (length hs) n g l in
     let P : Game → Type 0 = λ z. StandsFor s h z in
-    subst P at (has_game s hs h are.0 (has_read hs n h l e))
+    subst P at (has_game s hs h are.0 (has_item hs n h l e))
 
 -- ---- the next one
 
@@ -114,9 +104,6 @@ module _ {R : Type 0} (s : State Meant R) (hs ls rs : List ℕ) (some : 0 < leng
   pub next_canonical : Canonical (node (games_at s ls) (games_at s rs))
   next_canonical =
       let P : Game → Type 0 = λ z. Canonical z in subst P (sym next_games) (nimber-canonical (length hs))
-
-pub lent_games : {R : Type 0} (s : State Meant R) (hs ls : List ℕ) → AreFirst s hs → ls ≡ hs → AreGames s ls
-lent_games s hs ls are l = let P : List ℕ → Type 0 = λ z. AreGames s z in subst P (sym l) are.0
 
 -- what was made of a game is made of the nimber that it is
 pub nimber_made : {R T : Type 0} (s t : State Meant (WorkRest R)) (g : Game) (n : ℕ) (r : Result T ValueFault) → g ≡ nimber_form n
@@ -182,7 +169,25 @@ first_costs state w v x m n i before after holds same are within count costs b a
       costs_more m.costs.items n.costs.items (after - before) i v.share v.spent x.spent holds.costs count costs k pass;
 }
 
--- none are known
-pub first_none : {R : Type 0} (s : State Meant R) (hs : List ℕ) → hs ≡ [] → AreFirst s hs
-unfolding nimbers_below
-first_none s hs e = let P : List ℕ → Type 0 = λ z. AreFirst s z in subst P (sym e) (tt, refl)
+-- two nimbers that are known, with the nimbers up to both
+pub pair_known : {R Q : Type 0} (s : State Meant R) (t : State Meant Q) → Grows (thing_at s) (thing_at t) → (a b i j : ℕ) (pair : NimberPair)
+    → StandsFor s a (nimber_form i) → StandsFor s b (nimber_form j) → (hs : List ℕ) → AreFirst t hs → i < length hs → j < length hs
+    → pair.first ≡ i → pair.second ≡ j → pair.nimbers.handles.items ≡ hs → pair.nimbers.costs.items ≡ [] → IsPair t a b pair
+pair_known s t grows a b i j pair st sb hs are wi wj fi sj handles costs =
+    let P : ℕ → Type 0 = λ z. StandsFor t a (nimber_form z) in
+    let Q : ℕ → Type 0 = λ z. StandsFor t b (nimber_form z) in
+    let V : List ℕ → Type 0 = λ z. AreFirst t z in
+    let count = ap length handles in
+    let none = ap length costs in
+    record {
+      first = subst P (sym fi) (stands_later s t grows a (nimber_form i) st);
+      second = subst Q (sym sj) (stands_later s t grows b (nimber_form j) sb);
+      first_within = omega arith;
+      second_within = omega arith;
+      holds = record {
+        some = omega arith;
+        first = subst V (sym handles) are;
+        fewer = omega arith;
+        costs = costs_none pair.nimbers.costs.items costs;
+      };
+    }

@@ -1,9 +1,12 @@
 -- The item of a sum, as it is made, found or counted.
-use Rattle.std.proofs.Common.{◌≡◌, ℕ, ◌+◌, refl, ap, sym, ◌∙◌, subst, List, [], ◌∷◌, Option, Some, None, IsSome, Result, Ok, Err}
+use Rattle.std.proofs.Common.{◌≡◌, ℕ, ◌+◌, ◌≤◌, arith, refl, ap, sym, ◌∙◌, subst, [], ◌∷◌, Option, Some, None, IsSome, Result, Ok, Err}
 use Rattle.std.specs.Prelude.{IfErr, IfOk, OnOk}
 use Rattle.std.specs.Result.{result_ok}
-use Rattle.cg_canon.specs.Items.{AllPass, Item, WasRefused, made}
+use Rattle.cg_canon.proofs.MadeSteps.{made_as, read_then, then_read}
+use Rattle.cg_canon.specs.Items.{AllPass, WasRefused, made}
+use Rattle.cg_canon.specs.Made.{Gives, ItemsMade}
 use Rattle.cg_canon.specs.NumberItems.{IsForm, number_made}
+use Rattle.cg_canon.specs.SumItems.{sum_item}
 use Rattle.cg_canon.specs.declared.fault.ValueFault.{ValueFault}
 use Rattle.cg_canon.specs.declared.rest.WorkRest.{WorkRest}
 use Rattle.cg_cells.specs.Meaning.{Grows, Meaning, note_for}
@@ -11,44 +14,16 @@ use Rattle.cg_cells.specs.Store.{Known, Spends, State, thing_at}
 use Rattle.cg_dyadic.specs.Exact.{IsExact, sum_num}
 use Rattle.cg_dyadic.specs.Number.{Number, exp_of}
 use Rattle.cg_dyadic.specs.declared.fault.RangeFault.{RangeFault}
-use Rattle.cg_form.specs.Canonical.{Canonical}
-use Rattle.cg_form.specs.Game.{Game, node, number}
+use Rattle.cg_form.specs.Game.{Game, number}
 use Rattle.cg_form.specs.Sum.{sum}
+use Rattle.cg_nodes.proofs.Later.{stands_later}
 use Rattle.cg_nodes.specs.Can.{can}
-use Rattle.cg_nodes.proofs.Later.{stands_game, stands_later}
-use Rattle.cg_sum.specs.declared.written.Sides.{Sides}
-use Rattle.cg_nodes.specs.CanForms.{can-fixed}
-use Rattle.cg_nodes.specs.Games.{IsGame, IsInRange, StandsFor, game_at, games_at}
+use Rattle.cg_nodes.specs.Games.{IsGame, IsInRange, StandsFor, game_at}
 use Rattle.cg_nodes.specs.Meant.{Meant, form}
-use Rattle.cg_canon.specs.SumItems.{sum_item}
-use Rattle.cg_canon.specs.Made.{ItemsMade}
-use Rattle.cg_sum.specs.Progress.{IsNoteOf, IsSides}
-use Rattle.cg_canon.proofs.MadeSteps.{made_as, read_then}
+use Rattle.cg_sum.specs.Progress.{IsNoteOf, SumGiven}
 use Rattle.cg_sum.proofs.OutsideItems.{number_charged, refused_number}
 use Rattle.cg_sum.proofs.Sums.{can-sum_numbers}
 use Rattle.cg_sum.proofs.SumSteps.{sums_same}
-
--- ---- sides that are read as slices
-
-pub sides_as : {R : Type 0} (s : State Meant R) (sides : Sides) (hl hr : List ℕ) (g : Game) → hl ≡ sides.lefts
-    → hr ≡ sides.rights → IsSides s sides g → can (node (games_at s hl) (games_at s hr)) ≡ can g
-sides_as s sides hl hr g e d is =
-    ap (λ z. can (node (games_at s z) (games_at s hr))) e ∙ ap (λ z. can (node (games_at s sides.lefts) (games_at s z))) d
-    ∙ is.form
-
--- sides that are canonical as they stand
-pub written_canonical : {R : Type 0} (s : State Meant R) (sides : Sides) (hl hr : List ℕ) → hl ≡ sides.lefts → hr ≡ sides.rights
-    → Canonical (node (games_at s sides.lefts) (games_at s sides.rights)) → Canonical (node (games_at s hl) (games_at s hr))
-written_canonical s sides hl hr e d c =
-    let P : List ℕ → Type 0 = λ z. Canonical (node (games_at s z) (games_at s hr)) in
-    let Q : List ℕ → Type 0 = λ z. Canonical (node (games_at s sides.lefts) (games_at s z)) in
-    subst P (sym e) (subst Q (sym d) c)
-
-pub written_as : {R : Type 0} (s : State Meant R) (sides : Sides) (hl hr : List ℕ) (g : Game) → hl ≡ sides.lefts
-    → hr ≡ sides.rights → Canonical (node (games_at s sides.lefts) (games_at s sides.rights)) → IsSides s sides g
-    → node (games_at s hl) (games_at s hr) ≡ can g
-written_as s sides hl hr g e d c is =
-    sym (can-fixed (node (games_at s hl) (games_at s hr)) (written_canonical s sides hl hr e d c)) ∙ sides_as s sides hl hr g e d is
 
 -- ---- a later state
 
@@ -113,57 +88,55 @@ module _ {R : Type 0} (w x : State Meant (WorkRest R)) (f k : ℕ) (a b : Number
   both_numbers : sum (number a) (number b) ≡ sum (game_at w f) (game_at w k)
   both_numbers = ap (λ z. sum z (number b)) (sym isf) ∙ ap (λ z. sum (game_at w f) z) (sym isk)
 
-  pub number_game : IfOk r (λ h. IsForm o (StandsFor x h))
-      → IfOk r (λ h. StandsFor x h (can (sum (game_at w f) (game_at w k))))
-  number_game p =
+  pub number_given : (least : ℕ) → IfOk r (λ h. IsForm o (StandsFor x h)) → ItemsMade w x (number_made o 1 ∷ []) r → least ≤ w.spare
+      → w.spare ≤ x.spare → SumGiven w x least f k r
+  number_given least p m room more =
       let P : Option Number → Type 0 = λ z. IfOk r (λ h. IsForm z (StandsFor x h)) in
       let Q : Game → Type 0 = λ z. IfOk r (λ h. StandsFor x h (can z)) in
-      subst Q both_numbers (exact_game a b x q r exact (subst P is p))
+      let V : Option Number → Type 0 = λ z. OnOk r (AllPass w.rest.share w.rest.spent (number_made z 1 ∷ []) x.rest.spent) in
+      let W : Option Number → Type 0 =
+      λ z. IfErr r (λ fault. WasRefused fault w.rest.share w.rest.spent (number_made z 1 ∷ []) x.rest.spent) in
+      record {
+        game = subst Q both_numbers (exact_game a b x q r exact (subst P is p));
+        made = made_as w x (sum_item (number a) (number b) ∷ []) (sum_item (game_at w f) (game_at w k) ∷ []) r
+            (ap (λ z. made (can z) 1 ∷ []) both_numbers) (record {
+              charged = exact_charged a b w.rest.share w.rest.spent x.rest.spent q r exact (subst V is m.charged);
+              refused = exact_refused a b w.rest.share w.rest.spent x.rest.spent q r exact (subst W is m.refused);
+              keeps = m.keeps;
+            });
+        spare = omega (arith, room, more);
+      }
 
-  pub number_items : ItemsMade w x (number_made o 1 ∷ []) r → ItemsMade w x (sum_item (game_at w f) (game_at w k) ∷ []) r
-  number_items m =
-      let P : Option Number → Type 0 = λ z. OnOk r (AllPass w.rest.share w.rest.spent (number_made z 1 ∷ []) x.rest.spent) in
-      let Q : Option Number → Type 0 = λ z. IfErr r (λ fault. WasRefused fault w.rest.share w.rest.spent (number_made z 1 ∷ []) x.rest.spent) in
-      let item : Game → Item = λ z. made (can z) 1 in
-      made_as w x (sum_item (number a) (number b) ∷ []) (sum_item (game_at w f) (game_at w k) ∷ []) r
-      (ap (λ z. item z ∷ []) both_numbers) (record {
-        charged = exact_charged a b w.rest.share w.rest.spent x.rest.spent q r exact (subst P is m.charged);
-        refused = exact_refused a b w.rest.share w.rest.spent x.rest.spent q r exact (subst Q is m.refused);
-        keeps = m.keeps;
-      })
+-- ---- a sum that was found or made
 
--- ---- the sum that was noted, or is noted
+-- a form that is that of the sum was given, after no more than the claim of a cell
+pub given_sum : {R : Type 0} (w u x : State Meant (WorkRest R)) (n : ℕ) → Spends n w u → (f k least : ℕ) → least + n ≤ w.spare
+    → (g : Game) (r : Result ℕ ValueFault) → g ≡ can (sum (game_at w f) (game_at w k)) → Gives u x (made g 1 ∷ []) g r
+    → SumGiven w x least f k r
+given_sum w u x n wu f k least room g r e given =
+    let P : Game → Type 0 = λ z. Gives u x (made z 1 ∷ []) z r in
+    let is = subst P e given in
+    record { game = is.game; made = read_then n w u x _ r wu is.made; spare = omega (arith, room, wu.spare, is.more) }
 
-module _ {R : Type 0} (w u : State Meant (WorkRest R)) (n : ℕ) (wu : Spends n w u)
-    (f k : ℕ) (gf : IsGame w f) (gk : IsGame w k) where
-  -- a handle that stands for the sum was charged
-  pub known_items : {T : Type 0} (x : State Meant (WorkRest R)) (h : ℕ) (r : Result T ValueFault)
-      → StandsFor u h (can (sum (game_at w f) (game_at w k)))
-      → ItemsMade u x (made (game_at u h) 1 ∷ []) r
-      → ItemsMade w x (sum_item (game_at w f) (game_at w k) ∷ []) r
-  known_items x h r e m =
-      let item : Game → Item = λ z. made z 1 in
-      let g : Game = can (sum (game_at w f) (game_at w k)) in
-      read_then n w u x (item g ∷ []) r wu
-      (made_as u x (item (game_at u h) ∷ []) (item g ∷ []) r
-      (ap (λ z. item z ∷ []) (stands_game u h g e)) m)
+-- the sum was made after such a claim
+pub later_sum : {R : Type 0} (w u x : State Meant (WorkRest R)) (n : ℕ) → Spends n w u → (f k least : ℕ) → least + n ≤ w.spare
+    → IsGame w f → IsGame w k → (r : Result ℕ ValueFault) → SumGiven u x u.spare f k r → SumGiven w x least f k r
+later_sum w u x n wu f k least room gf gk r given =
+    given_sum w u x n wu f k least room _ r (ap can (sums_same w u wu.known f k gf gk))
+    (record { game = given.game; made = given.made; more = given.spare })
 
-  -- the sum was made
-  pub later_items : {T : Type 0} (x : State Meant (WorkRest R)) (r : Result T ValueFault)
-      → ItemsMade u x (sum_item (game_at u f) (game_at u k) ∷ []) r
-      → ItemsMade w x (sum_item (game_at w f) (game_at w k) ∷ []) r
-  later_items x r m =
-      let item : Game → Item = λ z. made (can z) 1 in
-      read_then n w u x (sum_item (game_at w f) (game_at w k) ∷ []) r wu
-      (made_as u x (sum_item (game_at u f) (game_at u k) ∷ [])
-      (sum_item (game_at w f) (game_at w k) ∷ []) r (ap (λ z. item z ∷ []) (sums_same w u wu.known f k gf gk)) m)
+pub sum_as : {R : Type 0} (w x : State Meant (WorkRest R)) (f k least : ℕ) (r q : Result ℕ ValueFault) → q ≡ r
+    → SumGiven w x least f k r → SumGiven w x least f k q
+sum_as w x f k least r q e given = let P : Result ℕ ValueFault → Type 0 = λ z. SumGiven w x least f k z in subst P (sym e) given
 
-  pub later_game : {Q T : Type 0} (t : State Meant Q) (r : Result ℕ T)
-      → IfOk r (λ h. StandsFor t h (can (sum (game_at u f) (game_at u k))))
-      → IfOk r (λ h. StandsFor t h (can (sum (game_at w f) (game_at w k))))
-  later_game t r e =
-      let P : Game → Type 0 = λ z. IfOk r (λ h. StandsFor t h (can z)) in
-      subst P (sums_same w u wu.known f k gf gk) e
+-- and then noted
+pub noted_sum : {R : Type 0} (w x y : State Meant (WorkRest R)) (f k least h : ℕ) → SumGiven w x least f k (Ok h) → Spends 0 x y
+    → SumGiven w y least f k (Ok h)
+noted_sum w x y f k least h given xy = record {
+  game = stands_later x y xy.known h _ given.game;
+  made = then_read 0 w x y _ _ given.made xy;
+  spare = omega (arith, given.spare, xy.spare);
+}
 
 -- the note of a cell stays so
 pub note_of_later : {R Q : Type 0} (m : Meaning Meant) (s : State Meant R) (t : State Meant Q)
@@ -175,9 +148,3 @@ note_of_later m s t grows id g h e n =
 -- a handle that equals another stands for the same
 pub stands_as : {R : Type 0} (s : State Meant R) (a b : ℕ) (g : Game) → a ≡ b → StandsFor s b g → StandsFor s a g
 stands_as s a b g e h = let P : ℕ → Type 0 = λ z. StandsFor s z g in subst P (sym e) h
-
--- what is answered is such a handle, and what it stands for stays so
-pub same_game : {R Q : Type 0} {E : Type 0} (s : State Meant R) (t : State Meant Q) → Grows (thing_at s) (thing_at t)
-    → (r : Result ℕ E) (a : ℕ) (g : Game) → IfOk r (λ h. h ≡ a) → StandsFor s a g → IfOk r (λ h. StandsFor t h g)
-same_game s t grows (Ok h) a g e st = stands_later s t grows h g (stands_as s h a g e st)
-same_game s t grows (Err x) a g e st = tt

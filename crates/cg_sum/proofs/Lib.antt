@@ -5,12 +5,12 @@ pub mod Positions
 pub mod OptionSteps
 pub mod Members
 pub mod Tables
-pub mod NimberSteps
-pub mod SameSums
 pub mod SumSteps
 pub mod OutsideItems
 pub mod ItemLoops
 pub mod PositionSteps
+pub mod WrittenGames
+pub mod NimberSteps
 pub mod ZeroSteps
 pub mod SightSteps
 pub mod DraftSteps

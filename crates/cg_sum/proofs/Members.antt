@@ -6,11 +6,6 @@ use Rattle.cg_nodes.proofs.Lists.{are_games-left}
 use Rattle.cg_nodes.specs.Games.{AreGames}
 use Rattle.cg_nodes.specs.Meant.{Meant}
 
-pub has_read : (hs : List ℕ) (i x : ℕ) → i < length hs → x ≡ get_or hs i x → Has hs x
-has_read [] i x l e = absurd (omega arith)
-has_read (h ∷ hs) zero x l e = inl (sym e)
-has_read (h ∷ hs) (suc i) x l e = inr (has_read hs i x (omega arith) e)
-
 pub has-append : (hs ks : List ℕ) (x : ℕ) → Has (hs ++ ks) x → Has hs x ⊎ Has ks x
 has-append [] ks x m = inr m
 has-append (h ∷ hs) ks x (inl e) = inl (inl e)
@@ -23,10 +18,6 @@ not_none (Some x) s e = cc
 pub some_of : {A : Type 0} (o : Option A) → IsSome o → (x : A) × (o ≡ Some x)
 some_of None s = absurd cc
 some_of (Some x) s = (x, refl)
-
-pub was_some : (o : Option ℕ) (x : ℕ) → o ≡ Some x → IsSome o
-was_some None x e = cc
-was_some (Some y) x e = refl
 
 -- ---- lists that are read up to some place
 

@@ -20,8 +20,9 @@ use Rattle.cg_nodes.specs.Games.{IsGame, StandsFor, game_at}
 use Rattle.cg_nodes.specs.Meant.{Meant}
 use Rattle.cg_canon.specs.SumItems.{sum_items}
 use Rattle.cg_sum.specs.Lists.{multiple_items, step_items}
-use Rattle.cg_canon.specs.Made.{ItemsMade}
+use Rattle.cg_canon.specs.Made.{Gives, ItemsMade}
 use Rattle.cg_canon.proofs.MadeSteps.{made_as, made_then, passed, stopped}
+use Rattle.cg_sum.proofs.SumEnds.{gives_refused}
 use Rattle.cg_sum.proofs.Sums.{can-multiple_more, can-multiple_one, can-multiple_zero}
 
 -- ---- the list
@@ -115,59 +116,60 @@ module _ {R : Type 0} (w : State Meant (WorkRest R)) (a : ℕ) (ga : IsGame w a)
         (made_as v x (sum_items v.rest.limit (game_at v total) (game_at v a))
         (sum_items w.rest.limit (can (multiple n g)) g) r (both_same sum_items) step))
 
-    pub steps_stopped : {T U : Type 0} (x : State Meant (WorkRest R)) (count : ℕ) → n < count → (r : Result T ValueFault) (q : Result U ValueFault)
-        (e : ValueFault) → r ≡ Err e → q ≡ Err e
-        → ItemsMade v x (sum_items v.rest.limit (game_at v total) (game_at v a)) r
-        → ItemsMade w x (multiple_items w.rest.limit count (game_at w a)) q
-    steps_stopped x count l r q e p b step =
+    pub steps_stopped : {T : Type 0} (x : State Meant (WorkRest R)) (count : ℕ) → n < count → (r : Result T ValueFault)
+        (q : Result ℕ ValueFault) (e : ValueFault) → r ≡ Err e → q ≡ Err e
+        → ItemsMade v x (sum_items v.rest.limit (game_at v total) (game_at v a)) r → v.spare ≤ x.spare
+        → Gives w x (multiple_items w.rest.limit count (game_at w a)) (can (multiple count (game_at w a))) q
+    steps_stopped x count l r q e p b step spare =
         let g : Game = game_at w a in
+        let before = done.spare in
         let (rest, is) = list_later w.rest.limit (n + 1) count g (omega arith) (omega arith) in
-        made_as w x (multiple_items w.rest.limit (n + 1) g ++ rest) (multiple_items w.rest.limit count g) q (sym is)
-        (stopped w x (multiple_items w.rest.limit (n + 1) g) rest r q e p b (items_made x r step))
+        gives_refused w x _ _ q e b (made_as w x (multiple_items w.rest.limit (n + 1) g ++ rest)
+        (multiple_items w.rest.limit count g) q (sym is)
+        (stopped w x (multiple_items w.rest.limit (n + 1) g) rest r q e p b (items_made x r step))) (omega arith)
 
     pub steps_more : (x : State Meant (WorkRest R)) (r : Result ℕ ValueFault) (h : ℕ) → r ≡ Ok h
-        → ItemsMade v x (sum_items v.rest.limit (game_at v total) (game_at v a)) r
-        → StandsFor x h (can (sum (game_at v total) (game_at v a)))
-        → v.spare ≤ x.spare → StepsMade w x a h (n + 1)
-    steps_more x r h ok step st spare =
+        → Gives v x (sum_items v.rest.limit (game_at v total) (game_at v a)) (can (sum (game_at v total) (game_at v a))) r
+        → StepsMade w x a h (n + 1)
+    steps_more x r h ok step =
         let g : Game = game_at w a in
         let P : Game → Type 0 = λ z. StandsFor x h z in
+        let Q : Result ℕ ValueFault → Type 0 = λ z. IfOk z (λ k. StandsFor x k (can (sum (game_at v total) (game_at v a)))) in
         let before = done.spare in
         let total_is : can (sum (game_at v total) (game_at v a)) ≡ can (multiple (n + 1) g) =
         ap (λ z. can (sum z (game_at v a))) (stands_game v total (can (multiple n g)) done.stands)
         ∙ (ap (λ z. can (sum (can (multiple n g)) z)) (game_later w v done.keeps.known a ga)
         ∙ (can-multiple_more n g ∙ ap (λ k. can (multiple k g)) (let e : suc n ≡ n + 1 = omega arith in e))) in
         record {
-          keeps = keeps_then w v x done.keeps step.keeps;
-          passed = passed w x (multiple_items w.rest.limit (n + 1) g) r h ok (items_made x r step);
-          stands = subst P total_is st;
-          spare = omega arith;
+          keeps = keeps_then w v x done.keeps step.made.keeps;
+          passed = passed w x (multiple_items w.rest.limit (n + 1) g) r h ok (items_made x r step.made);
+          stands = subst P total_is (subst Q ok step.game);
+          spare = omega (arith, step.more);
         }
 
 -- ---- none at all
 
-module _ {R : Type 0} (w x : State Meant (WorkRest R)) (a : ℕ) (z : Number) (is : z ≡ whole (pos 0))
-    (r : Result ℕ ValueFault) where
-  pub zero_game : IfOk r (λ h. StandsFor x h (number z)) → IfOk r (λ h. StandsFor x h (can (multiple 0 (game_at w a))))
-  zero_game p =
-      let P : Game → Type 0 = λ k. IfOk r (λ h. StandsFor x h k) in
-      subst P (ap number is ∙ sym (can-multiple_zero (game_at w a))) p
-
-  pub zero_items : ItemsMade w x (form_item (number z) 0 ∷ []) r
-      → ItemsMade w x (multiple_items w.rest.limit 0 (game_at w a)) r
-  zero_items m =
-      let item : Number → Item = λ k. form_item (number k) 0 in
-      made_as w x (form_item (number z) 0 ∷ []) (multiple_items w.rest.limit 0 (game_at w a)) r (ap (λ k. item k ∷ []) is) m
+pub zero_given : {R : Type 0} (w x : State Meant (WorkRest R)) (a n : ℕ) (z : Number) (r : Result ℕ ValueFault) → z ≡ whole (pos 0)
+    → n ≡ 0 → Gives w x (form_item (number z) 0 ∷ []) (number z) r
+    → Gives w x (multiple_items w.rest.limit n (game_at w a)) (can (multiple n (game_at w a))) r
+zero_given w x a n z r is none given =
+    let P : Number → Type 0 = λ k. Gives w x (form_item (number k) 0 ∷ []) (number k) r in
+    let Q : Game → Type 0 = λ k. Gives w x (form_item (number (whole (pos 0))) 0 ∷ []) k r in
+    let V : ℕ → Type 0 = λ k. Gives w x (multiple_items w.rest.limit k (game_at w a)) (can (multiple k (game_at w a))) r in
+    subst V (sym none) (subst Q (sym (can-multiple_zero (game_at w a))) (subst P is given))
 
 -- ---- the end
 
 pub same_count : (n count : ℕ) → 1 ≤ count → count ≤ n → (1 ≤ count → n ≤ count) → n ≡ count
 same_count n count some l up = let u : n ≤ count = up some in omega arith
 
-pub steps_done : {R : Type 0} (w v : State Meant (WorkRest R)) (a total n count : ℕ) → n ≡ count
-    → StepsMade w v a total n → StepsMade w v a total count
-steps_done w v a total n count e done = let P : ℕ → Type 0 = λ k. StepsMade w v a total k in subst P e done
-
-pub steps_made : {R : Type 0} (w v : State Meant (WorkRest R)) (a total n : ℕ) → StepsMade w v a total n
-    → ItemsMade w v (multiple_items w.rest.limit n (game_at w a)) (Ok total)
-steps_made w v a total n done = record { charged = done.passed; refused = tt; keeps = done.keeps }
+pub steps_given : {R : Type 0} (w v : State Meant (WorkRest R)) (a total n count : ℕ) → n ≡ count → StepsMade w v a total n
+    → Gives w v (multiple_items w.rest.limit count (game_at w a)) (can (multiple count (game_at w a))) (Ok total)
+steps_given w v a total n count e done =
+    let P : ℕ → Type 0 =
+    λ k. Gives w v (multiple_items w.rest.limit k (game_at w a)) (can (multiple k (game_at w a))) (Ok total) in
+    subst P e (record {
+      game = done.stands;
+      made = record { charged = done.passed; refused = tt; keeps = done.keeps };
+      more = done.spare;
+    })

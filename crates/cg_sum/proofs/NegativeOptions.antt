@@ -10,10 +10,8 @@ use Rattle.cg_nodes.specs.Can.{can}
 use Rattle.cg_nodes.specs.Games.{IsNode, StandFor, StandsFor, game_at, games_at}
 use Rattle.cg_nodes.specs.Meant.{Meant, form}
 use Rattle.cg_sum.specs.Finds.{negative_found, negative_handle}
-use Rattle.cg_sum.specs.declared.written.Sides.{Sides}
-use Rattle.cg_sum.specs.Progress.{HoldsNegatives, IsNegativeReady, IsSides}
+use Rattle.cg_sum.specs.Progress.{HoldsNegatives, IsNegativeReady}
 use Rattle.cg_sum.specs.Written.{written, written_lefts, written_rights}
-use Rattle.cg_sum.specs.declared.found.Negatives.{Negatives}
 use Rattle.cg_nodes.proofs.Members.{has_among, has_game}
 use Rattle.cg_sum.proofs.Members.{some_of}
 use Rattle.cg_sum.proofs.SumSteps.{mapped_stand}
@@ -24,10 +22,10 @@ can-negative_written : (g : Game) → IsNode g
 can-negative_written (number x) n = absurd n
 can-negative_written (options ls rs) n = can-negative (options ls rs)
 
-handle_found : (m : Negatives) (a h : ℕ) → negative_found m a ≡ Some h → negative_handle m a ≡ h
+handle_found : (m : List ((ℕ × ℕ) × ℕ)) (a h : ℕ) → negative_found m a ≡ Some h → negative_handle m a ≡ h
 handle_found m a h e = rw e refl
 
-module _ {R : Type 0} (s : State Meant R) (m : Negatives) (holds : HoldsNegatives s m) where
+module _ {R : Type 0} (s : State Meant R) (m : List ((ℕ × ℕ) × ℕ)) (holds : HoldsNegatives s m) where
   stands_found : (a : ℕ) → IsSome (negative_found m a) → StandsFor s (negative_handle m a) (can (negative (game_at s a)))
   stands_found a some =
       let (h, e) = some_of (negative_found m a) some in
@@ -39,7 +37,7 @@ module _ {R : Type 0} (s : State Meant R) (m : Negatives) (holds : HoldsNegative
   negatives_stand ps each =
       mapped_stand s (λ p. negative_handle m p) (λ a. can (negative a)) ps (λ p i. stands_found p (each p i))
 
-module _ {R Q : Type 0} (s : State Meant R) (t : State Meant Q) (grows : Grows (thing_at s) (thing_at t)) (m : Negatives) where
+module _ {R Q : Type 0} (s : State Meant R) (t : State Meant Q) (grows : Grows (thing_at s) (thing_at t)) (m : List ((ℕ × ℕ) × ℕ)) where
   pub negatives_later : HoldsNegatives s m → HoldsNegatives t m
   negatives_later holds = record {
     of = λ a h e. is_game_later s t grows a (holds.of a h e);
@@ -61,7 +59,7 @@ module _ {R Q : Type 0} (s : State Meant R) (t : State Meant Q) (grows : Grows (
     };
   }
 
-module _ {R : Type 0} (s : State Meant R) (m : Negatives) (f : ℕ) (ready : IsNegativeReady s m f)
+module _ {R : Type 0} (s : State Meant R) (m : List ((ℕ × ℕ) × ℕ)) (f : ℕ) (ready : IsNegativeReady s m f)
     (apart : IsInjective (thing_at s)) where
   -- handles of options of f are those whose negatives were found
   pub negated_found : (hs ps : List ℕ) (gs : List Game) → hs ≡ ps → StandFor s ps gs
@@ -85,14 +83,11 @@ module _ {R : Type 0} (s : State Meant R) (m : Negatives) (f : ℕ) (ready : IsN
       let same : games_at s hs ≡ gs = ap (games_at s) e ∙ a.1 in
       subst P (sym is) (subst Q same (negatives_stand s m ready.holds hs (negated_found hs ps gs e a within)))
 
-  pub sides_negative : (sides : Sides) (g : Game) → g ≡ game_at s f → IsNode (game_at s f)
-      → StandFor s sides.lefts (map (λ b. can (negative b)) (written_rights (game_at s f)))
-      → StandFor s sides.rights (map (λ a. can (negative a)) (written_lefts (game_at s f)))
-      → IsSides s sides (negative g)
-  sides_negative sides g e n l r = record {
-    lefts = l.0;
-    rights = r.0;
-    form = ap (λ z. can (node z (games_at s sides.rights))) l.1
-        ∙ ap (λ z. can (node (map (λ b. can (negative b)) (written_rights (game_at s f))) z)) r.1
-        ∙ can-negative_written (game_at s f) n ∙ ap (λ z. can (negative z)) (sym e);
-  }
+  pub negated_form : (ls rs : List ℕ) → IsNode (game_at s f)
+      → StandFor s ls (map (λ b. can (negative b)) (written_rights (game_at s f)))
+      → StandFor s rs (map (λ a. can (negative a)) (written_lefts (game_at s f)))
+      → can (node (games_at s ls) (games_at s rs)) ≡ can (negative (game_at s f))
+  negated_form ls rs n l r =
+      ap (λ z. can (node z (games_at s rs))) l.1
+      ∙ ap (λ z. can (node (map (λ b. can (negative b)) (written_rights (game_at s f))) z)) r.1
+      ∙ can-negative_written (game_at s f) n

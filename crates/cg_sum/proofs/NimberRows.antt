@@ -1,12 +1,11 @@
 -- The sums of nimbers, row by row.
-use Rattle.std.proofs.Common.{◌≡◌, inl, inr, ap, sym, ◌∙◌, subst, ℕ, suc, ◌+◌, ◌<◌, ◌≤◌, arith, List, [], ◌∷◌, ◌++◌, append_assoc, append-nil, length, map, Result, Ok, Err}
-use Rattle.std.proofs.lemmas.List.{map-append}
+use Rattle.std.proofs.Common.{◌≡◌, inl, inr, ap, sym, ◌∙◌, subst, ℕ, suc, ◌+◌, ◌<◌, ◌≤◌, arith, List, [], ◌∷◌, length, Result, Ok, Err}
 use Rattle.std.proofs.lemmas.Nat.{xor_comm}
 use Rattle.std.specs.List.{flat_map}
 use Rattle.std.specs.Prelude.{bit_xor}
 use Rattle.cg_canon.proofs.ItemLaws.{all_pass-none}
 use Rattle.cg_canon.proofs.Keeping.{keeps_all, keeps_then}
-use Rattle.cg_canon.proofs.MadeSteps.{made_as, made_then, passed, stopped}
+use Rattle.cg_canon.proofs.MadeSteps.{made_as}
 use Rattle.cg_canon.specs.Items.{AllPass, Item}
 use Rattle.cg_canon.specs.Made.{ItemsMade}
 use Rattle.cg_canon.specs.SumItems.{pair_items, row_items, sum_item}
@@ -24,33 +23,19 @@ use Rattle.cg_nodes.specs.Meant.{Meant}
 use Rattle.cg_sum.specs.Firsts.{HoldsFirst, RowsKnown, nimber_item}
 use Rattle.cg_sum.specs.declared.firsts.FirstNimbers.{FirstNimbers}
 use Rattle.cg_sum.proofs.FirstSteps.{nimber_items}
-use Rattle.cg_sum.proofs.ItemLoops.{flat-append}
+use Rattle.cg_sum.proofs.ItemLoops.{flat-map, loop_passed, loop_stopped}
 
 -- ---- the items of a row
 
-row-next : (i j : ℕ) → row_items (nimbers_below (suc j)) (nimber_form i)
-    ≡ row_items (nimbers_below j) (nimber_form i) ++ (nimber_item (bit_xor i j) ∷ [])
-row-next i j =
-    let f : Game → Item = sum_item (nimber_form i) in
-    ap (map f) (nimbers_below-next j) ∙ map-append f (nimbers_below j) (nimber_form j ∷ [])
-    ∙ ap (λ z. row_items (nimbers_below j) (nimber_form i) ++ (z ∷ [])) (nimber_items i j)
-
-row-split : (i j columns : ℕ) → j < columns → (back : List Item) × (row_items (nimbers_below columns) (nimber_form i)
-    ≡ (row_items (nimbers_below j) (nimber_form i) ++ (nimber_item (bit_xor i j) ∷ [])) ++ back)
-row-split i j columns l =
-    let f : Game → Item = sum_item (nimber_form i) in
-    let (rest, e) = nimbers_below-front j columns l in (
-      map f rest,
-      ap (map f) e ∙ map-append f (nimbers_below j) (nimber_form j ∷ rest)
-          ∙ ap (λ z. map f (nimbers_below j) ++ (z ∷ map f rest)) (nimber_items i j)
-          ∙ sym (append_assoc (map f (nimbers_below j)) (nimber_item (bit_xor i j) ∷ []) (map f rest)),
-    )
+-- the item of the sum of the nimber of i and a game
+abbrev pub nimber_row : ℕ → Game → List Item
+nimber_row i h = sum_item (nimber_form i) h ∷ []
 
 -- the sums of the nimber of i and the first nimbers, so many, were made
 pub record RowSoFar {R : Type 0} (w v : State Meant (WorkRest R)) (n : FirstNimbers) (i columns done : ℕ) : Type 0 where
   pub within : done ≤ columns
   pub keeps : Keeps w v
-  pub passed : AllPass w.rest.share w.rest.spent (row_items (nimbers_below done) (nimber_form i)) v.rest.spent
+  pub passed : AllPass w.rest.share w.rest.spent (flat_map (nimber_row i) (nimbers_below done)) v.rest.spent
   pub holds : HoldsFirst v n
   pub known : RowsKnown n i columns
   pub row : (j : ℕ) → j < done → bit_xor i j < length n.handles.items
@@ -90,29 +75,27 @@ module _ {R : Type 0} (w : State Meant (WorkRest R)) (i columns : ℕ) where
 
     module _ {T : Type 0} (x : State Meant (WorkRest R)) (r : Result T ValueFault)
         (item : ItemsMade v x (nimber_item (bit_xor i j) ∷ []) r) where
-      so_made : ItemsMade w x (row_items (nimbers_below j) (nimber_form i) ++ (nimber_item (bit_xor i j) ∷ [])) r
-      so_made =
-          made_then w v x (row_items (nimbers_below j) (nimber_form i)) (nimber_item (bit_xor i j) ∷ []) r so.passed so.keeps item
+      own : ItemsMade v x (nimber_row i (nimber_form j)) r
+      own = made_as v x (nimber_item (bit_xor i j) ∷ []) (nimber_row i (nimber_form j)) r (ap (λ z. z ∷ []) (sym (nimber_items i j))) item
 
       pub row_stop : {U : Type 0} (q : Result U ValueFault) (e : ValueFault) → r ≡ Err e → q ≡ Err e
           → ItemsMade w x (row_items (nimbers_below columns) (nimber_form i)) q
       row_stop q e a b =
-          let (back, s) = row-split i j columns l in
-          let front : List Item = row_items (nimbers_below j) (nimber_form i) ++ (nimber_item (bit_xor i j) ∷ []) in
-          made_as w x (front ++ back) (row_items (nimbers_below columns) (nimber_form i)) q (sym s)
-          (stopped w x front back r q e a b so_made)
+          let (back, is) = nimbers_below-front j columns l in
+          made_as w x _ _ q (flat-map (sum_item (nimber_form i)) (nimbers_below columns))
+          (loop_stopped w v x (nimber_row i) (nimbers_below j) (nimber_form j) so.keeps so.passed r own (nimbers_below columns) back is
+          q e a b)
 
       pub row_next : (o : FirstNimbers) (t : T) → r ≡ Ok t → HoldsFirst x o → bit_xor i j < length o.handles.items
           → length n.handles.items ≤ length o.handles.items → v.spare ≤ x.spare → RowSoFar w x o i columns (j + 1)
       row_next o t ok holds known more spare =
-          let P : List Item → Type 0 = λ z. AllPass w.rest.share w.rest.spent z x.rest.spent in
           let Q : ℕ → Type 0 = λ z. RowSoFar w x o i columns z in
           let next : suc j ≡ j + 1 = omega arith in
           subst Q next (record {
             within = omega arith;
             keeps = keeps_then w v x so.keeps item.keeps;
-            passed = subst P (sym (row-next i j)) (passed w x
-                (row_items (nimbers_below j) (nimber_form i) ++ (nimber_item (bit_xor i j) ∷ [])) r t ok so_made);
+            passed = loop_passed w v x (nimber_row i) (nimbers_below j) (nimber_form j) so.keeps so.passed r own _
+                (nimbers_below-next j) t ok;
             holds = holds;
             known = record { each = λ a b k m. let earlier = so.known.each a b k m in omega arith };
             row = λ b m. elim (le_or_gt j b) [
@@ -131,8 +114,9 @@ module _ {R : Type 0} (w : State Meant (WorkRest R)) (i columns : ℕ) where
   row_end v n j t so past =
       let within = so.within in
       let e : j ≡ columns = omega arith in
-      let P : ℕ → Type 0 = λ z. AllPass w.rest.share w.rest.spent (row_items (nimbers_below z) (nimber_form i)) v.rest.spent in
-      record { charged = subst P e so.passed; refused = tt; keeps = so.keeps }
+      let P : ℕ → Type 0 = λ z. AllPass w.rest.share w.rest.spent (flat_map (nimber_row i) (nimbers_below z)) v.rest.spent in
+      made_as w v _ _ (Ok t) (flat-map (sum_item (nimber_form i)) (nimbers_below columns))
+      (record { charged = subst P e so.passed; refused = tt; keeps = so.keeps })
 
   pub row_known : (v : State Meant (WorkRest R)) (n : FirstNimbers) (j : ℕ) → RowSoFar w v n i columns j → columns ≤ j
       → RowsKnown n (i + 1) columns
@@ -147,23 +131,6 @@ module _ {R : Type 0} (w : State Meant (WorkRest R)) (i columns : ℕ) where
   }
 
 -- ---- the items of all rows
-
-rows-next : (i : ℕ) (ks : List Game) → pair_items (nimbers_below (suc i)) ks
-    ≡ pair_items (nimbers_below i) ks ++ row_items ks (nimber_form i)
-rows-next i ks =
-    let f : Game → List Item = row_items ks in
-    ap (flat_map f) (nimbers_below-next i) ∙ flat-append f (nimbers_below i) (nimber_form i ∷ [])
-    ∙ ap (λ z. flat_map f (nimbers_below i) ++ z) (append-nil (f (nimber_form i)))
-
-rows-split : (i rows : ℕ) (ks : List Game) → i < rows → (back : List Item) × (pair_items (nimbers_below rows) ks
-    ≡ (pair_items (nimbers_below i) ks ++ row_items ks (nimber_form i)) ++ back)
-rows-split i rows ks l =
-    let f : Game → List Item = row_items ks in
-    let (rest, e) = nimbers_below-front i rows l in (
-      flat_map f rest,
-      ap (flat_map f) e ∙ flat-append f (nimbers_below i) (nimber_form i ∷ rest)
-          ∙ sym (append_assoc (flat_map f (nimbers_below i)) (f (nimber_form i)) (flat_map f rest)),
-    )
 
 -- the sums of the first nimbers, so many, and the others were made
 pub record RowsSoFar {R : Type 0} (w v : State Meant (WorkRest R)) (n : FirstNimbers) (rows columns done : ℕ) : Type 0 where
@@ -189,34 +156,22 @@ module _ {R : Type 0} (w : State Meant (WorkRest R)) (rows columns : ℕ) where
   module _ (v : State Meant (WorkRest R)) (n : FirstNimbers) (i : ℕ) (so : RowsSoFar w v n rows columns i) (l : i < rows)
       {T : Type 0} (x : State Meant (WorkRest R)) (r : Result T ValueFault)
       (row : ItemsMade v x (row_items (nimbers_below columns) (nimber_form i)) r) where
-    all_made : ItemsMade w x (pair_items (nimbers_below i) (nimbers_below columns)
-        ++ row_items (nimbers_below columns) (nimber_form i)) r
-    all_made =
-        made_then w v x (pair_items (nimbers_below i) (nimbers_below columns)) (row_items (nimbers_below columns) (nimber_form i)) r
-        so.passed so.keeps row
-
     pub rows_stop : {U : Type 0} (q : Result U ValueFault) (e : ValueFault) → r ≡ Err e → q ≡ Err e
         → ItemsMade w x (pair_items (nimbers_below rows) (nimbers_below columns)) q
     rows_stop q e a b =
-        let (back, s) = rows-split i rows (nimbers_below columns) l in
-        let front : List Item = pair_items (nimbers_below i) (nimbers_below columns)
-        ++ row_items (nimbers_below columns) (nimber_form i) in
-        made_as w x (front ++ back) (pair_items (nimbers_below rows) (nimbers_below columns)) q (sym s)
-        (stopped w x front back r q e a b all_made)
+        let (back, is) = nimbers_below-front i rows l in
+        loop_stopped w v x (row_items (nimbers_below columns)) (nimbers_below i) (nimber_form i) so.keeps so.passed r row
+        (nimbers_below rows) back is q e a b
 
     pub rows_more : (o : FirstNimbers) (t : T) → r ≡ Ok t → HoldsFirst x o → RowsKnown o (i + 1) columns → v.spare ≤ x.spare
         → RowsSoFar w x o rows columns (i + 1)
     rows_more o t ok holds known spare =
-        let P : List Item → Type 0 = λ z. AllPass w.rest.share w.rest.spent z x.rest.spent in
-        let N : ℕ → Type 0 = λ z. AllPass w.rest.share w.rest.spent (pair_items (nimbers_below z) (nimbers_below columns))
-        x.rest.spent in
         let next : suc i ≡ i + 1 = omega arith in
         record {
           within = omega arith;
           keeps = keeps_then w v x so.keeps row.keeps;
-          passed = subst N next (subst P (sym (rows-next i (nimbers_below columns))) (passed w x
-              (pair_items (nimbers_below i) (nimbers_below columns) ++ row_items (nimbers_below columns) (nimber_form i)) r t ok
-              all_made));
+          passed = loop_passed w v x (row_items (nimbers_below columns)) (nimbers_below i) (nimber_form i) so.keeps so.passed r row _
+              (ap nimbers_below (sym next) ∙ nimbers_below-next i) t ok;
           holds = holds;
           known = known;
           spare = let before = so.spare in omega arith;

@@ -8,17 +8,16 @@ use Rattle.cg_cells.specs.Store.{State, thing_at}
 use Rattle.cg_dyadic.specs.Number.{Number}
 use Rattle.cg_form.proofs.Among.{carry}
 use Rattle.cg_form.specs.Game.{Among, Game, number}
-use Rattle.cg_nimbers.specs.Nimbers.{nimber_form}
-use Rattle.cg_nodes.proofs.Later.{game_later, is_game_later, stands_later}
+use Rattle.cg_nodes.proofs.Later.{game_later, is_game_later}
 use Rattle.cg_nodes.proofs.Members.{among_has, has_among, has_game}
-use Rattle.cg_nodes.specs.Can.{can}
 use Rattle.cg_nodes.specs.Games.{AreGames, IsGame, IsNode, game_at, games_at}
 use Rattle.cg_nodes.specs.Meant.{Meant, form}
-use Rattle.cg_sum.specs.Progress.{ArePositions, AreInTurn, HasOption, IsOneNode, IsPosition, handles_of}
+use Rattle.cg_sum.specs.Progress.{ArePositions, AreInTurn, HasOption, IsPosition, handles_of}
 use Rattle.cg_sum.specs.Written.{IsClosed, written, written_lefts, written_rights}
 use Rattle.cg_sum.specs.declared.position.Position.{Position}
 use Rattle.cg_sum.proofs.ItemLoops.{games_split}
-use Rattle.cg_sum.proofs.Members.{are_games-take, has_read, some_of, take_next}
+use Rattle.cg_canon.proofs.DistinctSteps.{has_item}
+use Rattle.cg_sum.proofs.Members.{are_games-take, some_of, take_next}
 use Rattle.cg_sum.proofs.Sums.{IsNumber}
 use Rattle.cg_sum.proofs.SumSteps.{left_written, right_written, written_later}
 
@@ -32,7 +31,7 @@ module _ (ps : List Position) (i : ℕ) (p : Position) (within : i < length ps) 
   handle_read = ap (λ z. z.handle) read ∙ sym (get_or-map (λ z. z.handle) ps i p p.handle within)
 
   pub handle_has : Has (handles_of ps) p.handle
-  handle_has = has_read (handles_of ps) i p.handle handle_within handle_read
+  handle_has = has_item (handles_of ps) i p.handle handle_within handle_read
 
   pub position_read : {R : Type 0} (s : State Meant R) → ArePositions s ps → IsPosition s p
   position_read s are =
@@ -57,8 +56,7 @@ module _ {R Q : Type 0} (s : State Meant R) (t : State Meant Q) (grows : Grows (
       record {
         game = is_game_later s t grows p.handle is.game;
         number = number_later p.handle p.number is.game is.number;
-        nimber = λ n e. stands_later s t grows p.handle (can (nimber_form n)) (is.nimber n e);
-        written = written_later s t p.options p.handle grows is.game is.written;
+        written = written_later s t p.lefts.items p.rights.items p.handle grows is.game is.written;
       }
 
   pub positions_later : (ps : List Position) → ArePositions s ps → ArePositions t ps
@@ -86,15 +84,16 @@ module _ {R : Type 0} (s : State Meant R) (p : Position) (is : IsPosition s p) w
       let P : Option Number → Type 0 = λ z. MatchOption z (IsNode (game_at s p.handle)) (λ y. game_at s p.handle ≡ number y) in
       subst P e is.number
 
-  node_is : p.number ≡ None → IsNode (game_at s p.handle)
+  pub node_is : p.number ≡ None → IsNode (game_at s p.handle)
   node_is e =
       let P : Option Number → Type 0 = λ z. MatchOption z (IsNode (game_at s p.handle)) (λ y. game_at s p.handle ≡ number y) in
       subst P e is.number
 
-pub one_node : {R : Type 0} (s : State Meant R) (f k : Position) → IsPosition s f → IsPosition s k
-    → (f.number ≡ None) ⊎ (k.number ≡ None) → IsOneNode s f.handle k.handle
-one_node s f k isf isk (inl e) = inl (node_is s f isf e)
-one_node s f k isf isk (inr e) = inr (node_is s k isk e)
+-- a position that was read of the handle
+pub read_number_is : {R Q : Type 0} (s : State Meant R) (t : State Meant Q) → Grows (thing_at s) (thing_at t) → (p : Position) (h : ℕ)
+    → IsGame s h → IsPosition t p → p.handle ≡ h → (x : Number) → p.number ≡ Some x → game_at s h ≡ number x
+read_number_is s t grows p h gh is same x e =
+    sym (game_later s t grows h gh) ∙ ap (game_at t) (sym same) ∙ number_is t p is x e
 
 number_at : {R : Type 0} (s : State Meant R) (p : Position) → IsPosition s p → IsSome p.number → IsNumber (game_at s p.handle)
 number_at s p is some =
@@ -111,18 +110,18 @@ one_number s f k isf isk (inr e) = inr (number_at s k isk e)
 
 module _ {R : Type 0} (s : State Meant R) (p : Position) (is : IsPosition s p) where
   option_game : (h : ℕ) → HasOption p h → IsGame s h
-  option_game h (inl i) = has_game s p.options.lefts h is.written.lefts.0 i
-  option_game h (inr i) = has_game s p.options.rights h is.written.rights.0 i
+  option_game h (inl i) = has_game s p.lefts.items h is.written.lefts.0 i
+  option_game h (inr i) = has_game s p.rights.items h is.written.rights.0 i
 
   option_written : (h : ℕ) → HasOption p h → Among (game_at s h) (written (game_at s p.handle))
   option_written h (inl i) =
       left_written (game_at s p.handle) (game_at s h)
-      (carry (game_at s h) (games_at s p.options.lefts) (written_lefts (game_at s p.handle)) is.written.lefts.1
-      (has_among s p.options.lefts h i))
+      (carry (game_at s h) (games_at s p.lefts.items) (written_lefts (game_at s p.handle)) is.written.lefts.1
+      (has_among s p.lefts.items h i))
   option_written h (inr i) =
       right_written (game_at s p.handle) (game_at s h)
-      (carry (game_at s h) (games_at s p.options.rights) (written_rights (game_at s p.handle)) is.written.rights.1
-      (has_among s p.options.rights h i))
+      (carry (game_at s h) (games_at s p.rights.items) (written_rights (game_at s p.handle)) is.written.rights.1
+      (has_among s p.rights.items h i))
 
 -- where the options of a game stand before it, so do their handles
 pub in_turn : {R : Type 0} (s : State Meant R) (ps : List Position) → ArePositions s ps → IsClosed (games_at s (handles_of ps))

@@ -1,6 +1,6 @@
 -- The own list of a sum, whole or too long, and the sum at its end.
-use Rattle.std.proofs.Common.{◌≡◌, ◌⊎◌, inl, inr, ℕ, ◌*◌, ◌≤◌, ◌<◌, arith, ap, sym, ◌∙◌, subst, List, [], ◌∷◌, length, Some, None, false, Result, Err}
-use Rattle.std.specs.Prelude.{IfErr, nat_lt, if◌then◌else◌}
+use Rattle.std.proofs.Common.{◌≡◌, ◌⊎◌, inl, inr, ℕ, ◌*◌, ◌≤◌, ◌<◌, arith, ap, sym, ◌∙◌, subst, List, [], ◌∷◌, length, Some, false, Result, Err}
+use Rattle.std.specs.Prelude.{IfErr, IfOk, nat_lt, if◌then◌else◌}
 use Rattle.std.proofs.lemmas.Bool.Decides.{nat_tests}
 use Rattle.std.proofs.Math.Nat.{mul-le-mul_left}
 use Rattle.cg_canon.proofs.ItemLaws.{refused-one}
@@ -17,9 +17,10 @@ use Rattle.cg_nodes.specs.Can.{can}
 use Rattle.cg_nodes.specs.Games.{IsGame, StandFor, StandsFor, game_at, games_at}
 use Rattle.cg_nodes.specs.Meant.{Meant, form}
 use Rattle.cg_form.specs.Positions.{positions_of}
-use Rattle.cg_sum.specs.Finds.{nimber_found, sum_found, value_found}
+use Rattle.cg_sum.specs.Finds.{sum_found}
+use Rattle.cg_sum.specs.Pairs.{found}
 use Rattle.cg_canon.specs.SumItems.{pair_items, sum_items, within_limit}
-use Rattle.cg_canon.specs.Made.{ItemsMade}
+use Rattle.cg_canon.specs.Made.{Gives, ItemsMade}
 use Rattle.cg_canon.specs.Works.{Keeps}
 use Rattle.cg_sum.specs.Progress.{ArePositions, ArePositionsOf, HoldsSums, handles_of}
 use Rattle.cg_sum.specs.Written.{IsClosed}
@@ -29,7 +30,6 @@ use Rattle.cg_canon.proofs.MadeSteps.{made_as, read_then, was_refused}
 use Rattle.cg_dyadic.proofs.Truth.{less-nat_lt}
 use Rattle.cg_nodes.proofs.Members.{among_has, length_games}
 use Rattle.cg_sum.proofs.Tables.{none_some}
-use Rattle.cg_sum.proofs.NimberSteps.{nimbers_none}
 use Rattle.cg_sum.proofs.Positions.{positions-closed, positions-own}
 use Rattle.cg_sum.proofs.PositionSteps.{in_turn}
 
@@ -70,6 +70,16 @@ pub refused_items : {R T : Type 0} (w v : State Meant (WorkRest R)) (items : Lis
 refused_items w v items q fault e r k =
     let P : Result _ ValueFault → Type 0 = λ z. ItemsMade w v items z in
     subst P (sym e) (record { charged = tt; refused = r; keeps = k })
+
+pub gives_refused : {R : Type 0} (w v : State Meant (WorkRest R)) (items : List Item) (g : Game) (q : Result ℕ ValueFault)
+    (fault : ValueFault) → q ≡ Err fault → ItemsMade w v items q → w.spare ≤ v.spare → Gives w v items g q
+gives_refused w v items g q fault e m more =
+    let P : Result ℕ ValueFault → Type 0 = λ z. IfOk z (λ h. StandsFor v h g) in
+    record { game = subst P (sym e) tt; made = m; more = more }
+
+pub gives_as : {R : Type 0} (w v : State Meant (WorkRest R)) (items : List Item) (g : Game) (r q : Result ℕ ValueFault) → q ≡ r
+    → Gives w v items g r → Gives w v items g q
+gives_as w v items g r q e given = let P : Result ℕ ValueFault → Type 0 = λ z. Gives w v items g z in subst P (sym e) given
 
 -- the same refusal of the same items, as another result
 pub same_refusal : {R T U : Type 0} (w v : State Meant (WorkRest R)) (items : List Item) (r : Result T ValueFault)
@@ -115,13 +125,11 @@ count_of s hs g a = sym (length_games s hs) ∙ ap length a.1
 
 -- ---- the table at first
 
-pub holds_none : {R : Type 0} (s : State Meant R) (m : Sums) → ((a b : ℕ) → sum_found m a b ≡ None)
-    → ((a : ℕ) → value_found m.nimbers a ≡ None) → ((n : ℕ) → nimber_found m.nimbers n ≡ None) → HoldsSums s m
-holds_none s m none_found no_values no_handles = record {
-  first = λ a b h e. absurd (none_some (sum_found m a b) h (none_found a b) e);
-  second = λ a b h e. absurd (none_some (sum_found m a b) h (none_found a b) e);
-  sums = λ a b h e. absurd (none_some (sum_found m a b) h (none_found a b) e);
-  nimbers = nimbers_none s m.nimbers no_values no_handles;
+pub holds_none : {R : Type 0} (s : State Meant R) (m : Sums) → m.table ≡ [] → HoldsSums s m
+holds_none s m none = record {
+  first = λ a b h e. absurd (none_some (sum_found m a b) h (ap (λ z. found z a b) none) e);
+  second = λ a b h e. absurd (none_some (sum_found m a b) h (ap (λ z. found z a b) none) e);
+  sums = λ a b h e. absurd (none_some (sum_found m a b) h (ap (λ z. found z a b) none) e);
 }
 
 -- ---- both lists of positions, as slices

@@ -8,17 +8,15 @@ use Rattle.cg_form.specs.Sum.{sum}
 use Rattle.cg_form.proofs.Among.{among-append_left, among-append_right}
 use Rattle.cg_nodes.proofs.Later.{game_later, is_game_later, stands_game, stands_is_game, stand_later, stands_later}
 use Rattle.cg_nodes.proofs.Lists.{are_games-append, games_at-append}
-use Rattle.cg_sum.specs.declared.written.Sides.{Sides}
 use Rattle.cg_nodes.specs.Can.{can}
 use Rattle.cg_nodes.specs.Games.{IsGame, IsNode, StandFor, StandsFor, game_at, games_at}
 use Rattle.cg_nodes.specs.Meant.{Meant}
 use Rattle.cg_sum.specs.Finds.{sum_found, sum_handle}
-use Rattle.cg_sum.specs.Progress.{HoldsNimbers, HoldsSums, IsOneNode, IsWritten}
+use Rattle.cg_sum.specs.Pairs.{found}
+use Rattle.cg_sum.specs.Progress.{HoldsSums, IsOneNode, IsWritten}
 use Rattle.cg_sum.specs.Written.{written, written_lefts, written_rights}
 use Rattle.cg_sum.specs.declared.found.Sums.{Sums}
-use Rattle.cg_sum.specs.declared.nimbers.Nimbers.{Nimbers}
 use Rattle.cg_sum.proofs.Members.{some_of}
-use Rattle.cg_sum.proofs.NimberSteps.{nimbers_later}
 use Rattle.cg_sum.proofs.Sums.{option_forms}
 
 handle_found : (m : Sums) (a b h : ℕ) → sum_found m a b ≡ Some h → sum_handle m a b ≡ h
@@ -82,15 +80,15 @@ module _ {R Q : Type 0} (s : State Meant R) (t : State Meant Q) (grows : Grows (
         subst P (sym (game_later s t grows a (holds.first a b h e)))
         (subst Q (sym (game_later s t grows b (holds.second a b h e)))
         (stands_later s t grows h (can (sum (game_at s a) (game_at s b))) (holds.sums a b h e)));
-    nimbers = nimbers_later s t grows m.nimbers holds.nimbers;
   }
 
-  -- with more nimbers known
-  pub holds_known : (nimbers : Nimbers) → HoldsSums s m → HoldsNimbers t nimbers
-      → HoldsSums t (record { sums = m.sums; nimbers = nimbers })
-  holds_known nimbers holds known =
-      let later = holds_later holds in
-      record { first = later.first; second = later.second; sums = later.sums; nimbers = known }
+-- a table in which the same sums are found
+pub holds_same : {R : Type 0} (s : State Meant R) (m n : Sums) → n.table ≡ m.table → HoldsSums s m → HoldsSums s n
+holds_same s m n e holds = record {
+  first = λ a b h f. holds.first a b h (sym (ap (λ z. found z a b) e) ∙ f);
+  second = λ a b h f. holds.second a b h (sym (ap (λ z. found z a b) e) ∙ f);
+  sums = λ a b h f. holds.sums a b h (sym (ap (λ z. found z a b) e) ∙ f);
+}
 
 -- the two games later
 module _ {R Q : Type 0} (s : State Meant R) (t : State Meant Q) (grows : Grows (thing_at s) (thing_at t)) (f k : ℕ)
@@ -104,16 +102,16 @@ module _ {R Q : Type 0} (s : State Meant R) (t : State Meant Q) (grows : Grows (
   node_later (inl c) = let P : Game → Type 0 = λ z. IsNode z in inl (subst P (sym (game_later s t grows f gf)) c)
   node_later (inr c) = let P : Game → Type 0 = λ z. IsNode z in inr (subst P (sym (game_later s t grows k gk)) c)
 
-pub written_later : {R Q : Type 0} (s : State Meant R) (t : State Meant Q) (sides : Sides) (f : ℕ) → Grows (thing_at s) (thing_at t)
-    → IsGame s f → IsWritten s sides f → IsWritten t sides f
-written_later s t sides f grows gf w =
-    let P : Game → Type 0 = λ z. StandFor t sides.lefts (written_lefts z) in
-    let Q : Game → Type 0 = λ z. StandFor t sides.rights (written_rights z) in
+pub written_later : {R Q : Type 0} (s : State Meant R) (t : State Meant Q) (ls rs : List ℕ) (f : ℕ) → Grows (thing_at s) (thing_at t)
+    → IsGame s f → IsWritten s ls rs f → IsWritten t ls rs f
+written_later s t ls rs f grows gf w =
+    let P : Game → Type 0 = λ z. StandFor t ls (written_lefts z) in
+    let Q : Game → Type 0 = λ z. StandFor t rs (written_rights z) in
     let V : Game → Type 0 = λ z. Canonical z in
     let e = sym (game_later s t grows f gf) in
     record {
-      lefts = subst P e (stand_later s t grows sides.lefts (written_lefts (game_at s f)) w.lefts);
-      rights = subst Q e (stand_later s t grows sides.rights (written_rights (game_at s f)) w.rights);
+      lefts = subst P e (stand_later s t grows ls (written_lefts (game_at s f)) w.lefts);
+      rights = subst Q e (stand_later s t grows rs (written_rights (game_at s f)) w.rights);
       canonical = subst V e w.canonical;
     }
 

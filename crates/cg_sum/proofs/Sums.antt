@@ -12,7 +12,7 @@ use Rattle.cg_form.specs.Sum.{negative, nothing, sum}
 use Rattle.cg_form.specs.Translate.{translated}
 use Rattle.cg_nodes.specs.Can.{can}
 use Rattle.cg_form.proofs.Negative.{negative-options, sum-negative}
-use Rattle.cg_form.proofs.Order.{le-fold}
+use Rattle.cg_form.proofs.EqualGames.{zero_is}
 use Rattle.cg_form.proofs.Shifted.{canonical-shifted}
 use Rattle.cg_form.proofs.Preorder.{equal_trans, le_trans}
 use Rattle.cg_form.proofs.Sum.{sum-options}
@@ -88,12 +88,6 @@ can-negative g =
     ap (λ z. can (node z (map (λ a. can (negative a)) (lefts g)))) (sym (map-map can negative (rights g)))
     ∙ (ap (λ z. can (node (map can ls) z)) (sym (map-map can negative (lefts g)))
     ∙ (can-node ls rs ∙ ap can (sym (negative-options g))))
-
-pub zero_is : Equal (number (whole (pos 0))) nothing
-zero_is = (
-  le-fold (number (whole (pos 0))) nothing (record { on_left = λ a m. absurd m; on_right = λ b m. absurd m }),
-  le-fold nothing (number (whole (pos 0))) (record { on_left = λ a m. absurd m; on_right = λ b m. absurd m }),
-)
 
 -- both y and -x bring x to 0
 pub can-negative_number : (x y : Number) → IsNegative x y → can (negative (number x)) ≡ number y

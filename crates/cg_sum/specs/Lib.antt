@@ -7,5 +7,4 @@ pub mod Told
 pub mod Finds
 pub mod Progress
 pub mod Firsts
-pub mod Zeros
 pub mod Sight

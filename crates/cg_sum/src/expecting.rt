@@ -3,7 +3,7 @@ ghost use Rattle.std.specs.Prelude.{◌≤◌, length};
 ghost use Rattle.cg_canon.specs.Works.{work_state};
 ghost use Rattle.cg_cells.specs.Store.{Spends};
 
-use crate::item::{LookUp, is_nothing};
+use crate::found::LookUp;
 use crate::pairs::expect_pair;
 use crate::position::Position;
 use cg_canon::Work;
@@ -13,8 +13,8 @@ use cg_nodes::{BoardForms, GameFacts};
 /// Of about so many sums the store is told at once. The words of more wouldn't stay near until they are asked for.
 const TOGETHER: usize = 1_024;
 
-/// The rows from the place on of which the store is to be told when it is reached, where each has so many columns: none, or the next
-/// ones.
+/// The rows from the place on of which the store is to be told when it is reached, where each has so many columns:
+/// none, or the next ones.
 pub(crate) fn rows_ahead(rows: &[Position], place: usize, columns: usize) -> &[Position]
     requires { place ≤ length rows.now }
 {
@@ -35,20 +35,9 @@ pub(crate) fn expect_sums<B: BoardForms, S: CellStore<GameFacts<B>>>(
 )
     ensures { Spends 0 (work_state S.state work.old) (work_state S.state work.new) }
 {
-    match look_up {
-        LookUp::OnCells => expect_rows(work, firsts, seconds),
-        LookUp::Kept => {}
+    if matches!(look_up, LookUp::Kept) {
+        return;
     }
-}
-
-// Tells the store which sums may be looked for.
-fn expect_rows<B: BoardForms, S: CellStore<GameFacts<B>>>(
-    work: &mut Work<B, S>,
-    firsts: &[Position],
-    seconds: &[Position],
-)
-    ensures { Spends 0 (work_state S.state work.old) (work_state S.state work.new) }
-{
     for f in firsts {
         expect_row(work, f, seconds);
     }
@@ -62,15 +51,15 @@ fn expect_row<B: BoardForms, S: CellStore<GameFacts<B>>>(
 )
     ensures { Spends 0 (work_state S.state work.old) (work_state S.state work.new) }
 {
-    let is_zero = is_nothing(f);
+    let is_zero = f.is_zero();
     let is_known = work.known_as(f.handle).is_some();
     for k in seconds {
         expect_sum(work, f, k, is_zero, is_known);
     }
 }
 
-// Tells the store that the sum of the two may be looked for, unless one of them is 0 or both are known by their parts. Whether f is 0 or
-// known is asked once for a row.
+// Tells the store that the sum of the two may be looked for, unless one of them is 0 or both are known by their parts.
+// Whether f is 0 or known is asked once for a row.
 fn expect_sum<B: BoardForms, S: CellStore<GameFacts<B>>>(
     work: &mut Work<B, S>,
     f: &Position,
@@ -81,7 +70,7 @@ fn expect_sum<B: BoardForms, S: CellStore<GameFacts<B>>>(
     ensures { Spends 0 (work_state S.state work.old) (work_state S.state work.new) }
 {
     let is_told = is_known && work.known_as(k.handle).is_some();
-    if is_zero || is_nothing(k) || is_told {
+    if is_zero || k.is_zero() || is_told {
         return;
     }
     expect_pair(work, f.handle, k.handle);

@@ -33,7 +33,8 @@ pub(crate) fn nimber_item<B: BoardForms, S: CellStore<GameFacts<B>>>(
     ensures holds { OnOk result (HoldsFirst (work_state S.state work.new) nimbers.new) }
     ensures known { OnOk result (n < length nimbers.new.handles.items) }
     ensures more { OnOk result (length nimbers.old.handles.items ≤ length nimbers.new.handles.items) }
-    ensures made { ItemsMade (work_state S.state work.old) (work_state S.state work.new) (item_of_nimber n ∷ []) result }
+    ensures made { ItemsMade (work_state S.state work.old) (work_state S.state work.new)
+        (item_of_nimber n ∷ []) result }
     ensures spare { (work_state S.state work.old).spare ≤ (work_state S.state work.new).spare }
 {
     if charged_again(work, nimbers.costs.as_slice(), n) {
@@ -82,11 +83,13 @@ fn first_item<B: BoardForms, S: CellStore<GameFacts<B>>>(
     ensures first { OnOk result (AreFirst (work_state S.state work.new) handles.new.items) }
     ensures known { OnOk result (n < length handles.new.items) }
     ensures more { OnOk result (length handles.old.items ≤ length handles.new.items) }
-    ensures made { ItemsMade (work_state S.state work.old) (work_state S.state work.new) (item_of_nimber n ∷ []) result }
+    ensures made { ItemsMade (work_state S.state work.old) (work_state S.state work.new)
+        (item_of_nimber n ∷ []) result }
     ensures spare { (work_state S.state work.old).spare ≤ (work_state S.state work.new).spare }
 {
     if n < handles.len() {
-        item_of(alloc, work, handles[n], 1)
+        item_of(alloc, work, handles[n], 1)?;
+        Ok(())
     } else {
         next_item(alloc, work, handles)
     }

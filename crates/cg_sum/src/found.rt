@@ -1,82 +1,51 @@
-//! The forms that a call has made so far, by the ids of what they were made of.
-ghost use Rattle.std.specs.Prelude.{◌≡◌, ℕ, ◌==◌, ◌&&◌, IfOk, None, Some, Option, if◌then◌else◌};
-ghost use Rattle.cg_sum.specs.Finds.{negative_found, nimber_found, sum_found, value_found};
+//! The sums that an addition has made so far.
+ghost use Rattle.std.specs.Prelude.{◌≡◌, [], IfSome, Some};
+ghost use Rattle.cg_sum.specs.Finds.{sum_found};
 
-use crate::nimbers::Nimbers;
 use crate::pair_table::PairTable;
 use cg_nodes::Handle;
-use std::alloc::{AllocError, Global};
-use std::collections::HashMap;
+use std::alloc::Global;
 
-/// For pairs of handles the handle of the form of their sum, and the nimbers that are known.
+/// Where a sum that was made before is found.
+#[derive(Clone, Copy, Debug)]
+pub(crate) enum LookUp {
+    /// On the cell of its pair, for other calls too.
+    OnCells,
+    /// Among the sums that the call keeps.
+    Kept,
+}
+
+/// The sums that a call has made.
 #[derive(Drop)]
 pub(crate) struct Sums {
-    sums: PairTable,
-    pub(crate) nimbers: Nimbers,
+    /// For pairs of handles the handle of the form of their sum.
+    pub(crate) table: PairTable,
+    /// Where other sums are looked for.
+    pub(crate) look_up: LookUp,
+    /// What the work had to spare when the addition began.
+    pub(crate) start: u64,
 }
 
 impl Sums {
-    pub(crate) fn new(alloc: Global) -> Sums
-        ensures sums { (a b : ℕ) → sum_found result a b ≡ None }
-        ensures values { (a : ℕ) → value_found result.nimbers a ≡ None }
-        ensures nimbers { (n : ℕ) → nimber_found result.nimbers n ≡ None }
+    /// No sums.
+    pub(crate) fn new(alloc: Global, look_up: LookUp) -> Sums
+        ensures table { result.table ≡ [] }
+        ensures start { result.start ≡ 0 }
     {
         Sums {
-            sums: PairTable::new(alloc),
-            nimbers: Nimbers::new(alloc),
+            table: PairTable::new(alloc),
+            look_up,
+            start: 0,
         }
     }
 
-    /// Takes room for so many more sums at once.
-    pub(crate) fn reserve(&mut self, count: usize) -> Result<(), AllocError>
-        ensures same { (a b : ℕ) → sum_found self.new a b ≡ sum_found self.old a b }
-        ensures nimbers { self.new.nimbers ≡ self.old.nimbers }
+    /// The sum of the two where the call keeps its sums and has made it.
+    pub(crate) fn kept(&self, a: Handle, b: Handle) -> Option<Handle>
+        ensures { IfSome result (λ h. sum_found self.now a b ≡ Some h) }
     {
-        self.sums.reserve(count)
-    }
-
-    pub(crate) fn get(&self, a: Handle, b: Handle) -> Option<Handle>
-        ensures { result ≡ sum_found self.now a b }
-    {
-        self.sums.get(a.id().number(), b.id().number())
-    }
-
-    pub(crate) fn keep(&mut self, a: Handle, b: Handle, sum: Handle) -> Result<(), AllocError>
-        ensures ok { IfOk result (λ _. (c d : ℕ) → sum_found self.new c d
-            ≡ (if (a == c) && (b == d) then Some sum else sum_found self.old c d)) }
-        ensures nimbers { self.new.nimbers ≡ self.old.nimbers }
-    {
-        self.sums.put(a.id().number(), b.id().number(), sum)?;
-        Ok(())
-    }
-}
-
-/// For handles the handle of the form of their negative.
-#[derive(Drop)]
-pub(crate) struct Negatives {
-    negatives: HashMap<u32, Handle>,
-}
-
-impl Negatives {
-    pub(crate) fn new(alloc: Global) -> Negatives
-        ensures { (a : ℕ) → negative_found result a ≡ None }
-    {
-        Negatives {
-            negatives: HashMap::new(alloc),
+        match self.look_up {
+            LookUp::OnCells => None,
+            LookUp::Kept => self.table.get(a, b),
         }
-    }
-
-    pub(crate) fn get(&self, a: Handle) -> Option<Handle>
-        ensures { result ≡ negative_found self.now a }
-    {
-        self.negatives.get(&a.id().number()).copied()
-    }
-
-    pub(crate) fn keep(&mut self, a: Handle, negative: Handle) -> Result<(), AllocError>
-        ensures ok { IfOk result (λ _. (c : ℕ) → negative_found self.new c
-            ≡ (if a == c then Some negative else negative_found self.old c)) }
-    {
-        self.negatives.insert(a.id().number(), negative)?;
-        Ok(())
     }
 }

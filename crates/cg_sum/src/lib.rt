@@ -4,19 +4,16 @@
 //! refused: [`sum`] the sums of all pairs of positions, [`negative`] the negatives of all positions,
 //! [`multiple`] the sums of its steps. A sum is noted on the cell of its pair, so that a second sum of the
 //! same two positions takes the note; the steps of a multiple keep their sums instead. The sum of 0 and
-//! a game is that game, which is charged as it is known. The sum of two nimbers is the nimber of the
-//! exclusive or of their numbers, which is made once in a call. Where both games are nimbers, all sums of
-//! their positions are, and each is charged by what the first that is equal cost. The sum of two games that are
-//! known as a number, ups and a nimber is looked for among those that are known so. The charge is the same.
+//! a game is that game, which is charged as it is known. The sum of two games that are known as a number, ups
+//! and a nimber is looked for among those that are known so. Where both games are nimbers, all sums of
+//! their positions are, and each is charged by what the first that is equal cost. The charge is the same.
 #![tactic(auto)]
 
 mod addition;
 mod expecting;
 mod firsts;
-mod form;
 mod found;
 mod gather;
-mod handle_list;
 mod item;
 mod limits;
 mod multiples;
@@ -29,7 +26,6 @@ mod pairs;
 mod position;
 mod rows;
 mod sight;
-mod written;
 
 pub use addition::sum;
 pub use multiples::multiple;

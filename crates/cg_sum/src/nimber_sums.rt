@@ -1,12 +1,12 @@
 //! The sums of two nimbers and of all their positions, which are nimbers.
-ghost use Rattle.std.specs.Prelude.{◌+◌, ◌≤◌, ◌<◌, IfOk, OnOk};
-ghost use Rattle.cg_canon.specs.Made.{ItemsMade};
+ghost use Rattle.std.specs.Prelude.{◌+◌, ◌≤◌, OnOk};
+ghost use Rattle.cg_canon.specs.Made.{Gives, ItemsMade};
 ghost use Rattle.cg_canon.specs.SumItems.{pair_items, row_items, sum_items};
 ghost use Rattle.cg_canon.specs.Works.{work_state};
 ghost use Rattle.cg_form.specs.Sum.{sum};
 ghost use Rattle.cg_nimbers.specs.Nimbers.{nimber_form, nimbers_below};
 ghost use Rattle.cg_nodes.specs.Can.{can};
-ghost use Rattle.cg_nodes.specs.Games.{StandsFor, game_at};
+ghost use Rattle.cg_nodes.specs.Games.{game_at};
 ghost use Rattle.cg_sum.specs.Firsts.{HoldsFirst, IsPair, RowsKnown};
 
 use crate::firsts::{FirstNimbers, nimber_item};
@@ -17,8 +17,8 @@ use cg_cells::CellStore;
 use cg_nodes::{BoardForms, GameFacts, Handle};
 use std::alloc::Global;
 
-/// Makes the items of the sums of all positions of the two nimbers, which are the nimbers up to both, and gives the handle
-/// of the sum of the two: the nimber of the exclusive or of their numbers.
+/// Makes the items of the sums of all positions of the two nimbers, which are the nimbers up to both, and gives the
+/// handle of the sum of the two: the nimber of the exclusive or of their numbers.
 pub(crate) fn nimber_sum<B: BoardForms, S: CellStore<GameFacts<B>>>(
     alloc: Global,
     work: &mut Work<B, S>,
@@ -27,11 +27,8 @@ pub(crate) fn nimber_sum<B: BoardForms, S: CellStore<GameFacts<B>>>(
     pair: NimberPair,
 ) -> Result<Handle, ValueFault>
     requires pair { IsPair (work_state S.state work.old) a b pair }
-    ensures game { let W = work_state S.state work.old in IfOk result (λ h. StandsFor (work_state S.state work.new) h
-        (can (sum (game_at W a) (game_at W b)))) }
-    ensures made { let W = work_state S.state work.old in ItemsMade W (work_state S.state work.new)
-        (sum_items work.old.limit (game_at W a) (game_at W b)) result }
-    ensures spare { (work_state S.state work.old).spare ≤ (work_state S.state work.new).spare }
+    ensures { let W = work_state S.state work.old in Gives W (work_state S.state work.new)
+        (sum_items work.old.limit (game_at W a) (game_at W b)) (can (sum (game_at W a) (game_at W b))) result }
 {
     let NimberPair {
         first,

@@ -1,6 +1,6 @@
-//! What was found for pairs of ids.
-ghost use Rattle.std.specs.Prelude.{◌≡◌, ◌++◌, ◌∷◌, ◌↔◌, [], IfOk, IsTrue, length};
-ghost use Rattle.cg_sum.specs.Pairs.{HasPair, last_of};
+//! What was found for pairs of handles.
+ghost use Rattle.std.specs.Prelude.{◌≡◌, ◌++◌, ◌∷◌, ◌↔◌, [], IfOk, IsTrue};
+ghost use Rattle.cg_sum.specs.Pairs.{HasPair, found as found_for};
 ghost use Rattle.cg_sum.specs.Told.{pair_number, told};
 
 use cg_links::Links;
@@ -8,18 +8,16 @@ use cg_nodes::Handle;
 use std::alloc::{AllocError, Global};
 use std::marker::Model;
 
-/// A pair of ids.
+/// A pair of handles.
 #[derive(Clone, Copy)]
 pub(crate) struct Pair {
-    /// The first id.
-    first: u32,
-    /// The second id.
-    second: u32,
+    first: Handle,
+    second: Handle,
     /// What was found for them.
     found: Handle,
 }
 
-/// Pairs of ids, in the order in which they were put in. Contracts see each with what was found for it.
+/// Pairs of handles, in the order in which they were put in. Contracts see each with what was found for it.
 #[derive(Drop)]
 pub(crate) struct PairTable {
     pairs: Vec<Pair>,
@@ -42,15 +40,16 @@ impl Model for PairTable {
 }
 
 /// A number for the pair, made from both ids.
-fn number_of(first: u32, second: u32) -> u32
+fn number_of(first: Handle, second: Handle) -> u32
     ensures { result ≡ pair_number first second }
 {
-    let number = first as u64 * 0x5E37_79B1 + second as u64 * 0x75EB_CA77;
+    let number = first.id().number() as u64 * 0x5E37_79B1
+        + second.id().number() as u64 * 0x75EB_CA77;
     ((number >> 20) % 4_294_967_296) as u32
 }
 
 /// Whether the pair at the place, if there is one, is this one.
-fn is_pair(pairs: &[Pair], place: usize, first: u32, second: u32) -> bool
+fn is_pair(pairs: &[Pair], place: usize, first: Handle, second: Handle) -> bool
     ensures { IsTrue result ↔ HasPair (told pairs.now) place (first, second) }
 {
     match pairs.get(place) {
@@ -71,8 +70,8 @@ impl PairTable {
     }
 
     /// What was found last for the pair, if anything was.
-    pub(crate) fn get(&self, first: u32, second: u32) -> Option<Handle>
-        ensures { result ≡ last_of self.now (length self.now) (first, second) }
+    pub(crate) fn get(&self, first: Handle, second: Handle) -> Option<Handle>
+        ensures { result ≡ found_for self.now first second }
     {
         let pairs = self.pairs.as_slice();
         let number = number_of(first, second);
@@ -86,7 +85,13 @@ impl PairTable {
     }
 
     /// Puts in what was found for the pair.
-    pub(crate) fn put(&mut self, first: u32, second: u32, found: Handle) -> Result<(), AllocError>
+    #[inline(always)]
+    pub(crate) fn put(
+        &mut self,
+        first: Handle,
+        second: Handle,
+        found: Handle,
+    ) -> Result<(), AllocError>
         ensures { IfOk result (λ _. self.new ≡ self.old ++ (((first, second), found) ∷ [])) }
     {
         self.pairs.reserve(1)?;

@@ -1,5 +1,5 @@
 //! The cells on which sums are noted.
-ghost use Rattle.std.specs.Prelude.{◌≡◌, ◌≤◌};
+ghost use Rattle.std.specs.Prelude.{◌≤◌};
 ghost use Rattle.cg_cells.specs.Store.{Spends};
 ghost use Rattle.cg_form.specs.Sum.{sum};
 ghost use Rattle.cg_nodes.specs.Games.{IsGame, game_at};

@@ -25,7 +25,8 @@ use Rattle.cg_thermo.specs.declared.ending.Stops.{Stops}
 use Rattle.cg_thermo.specs.Ended.{Ends, AllEnded, BestOf, BestSoFar, HoldsEnds, better_of, ended, far_stop}
 use Rattle.cg_thermo.specs.StopsOf.{StopsAre}
 use Rattle.cg_nodes.proofs.Members.{among_has, has_among}
-use Rattle.cg_thermo.proofs.Members.{has-before, has-next, has-own, some_of, take-all}
+use Rattle.cg_cells.proofs.Notes.{some_is}
+use Rattle.cg_thermo.proofs.Members.{has-before, has-next, has-own, take-all}
 use Rattle.cg_thermo.proofs.Options.{canonical-node}
 
 -- ---- the order as the player sees it
@@ -112,10 +113,10 @@ best-all m left hs i o h k = let P : List ℕ → Type 0 = λ z. BestSoFar m lef
 
 module _ {R : Type 0} (s : State Meant R) (m : Ends) (holds : HoldsEnds s m) (hs : List ℕ) (games : AreGames s hs) (all : AllEnded m hs) where
   right_stop : (h : ℕ) → Has hs h → far_stop true (ended m h) ≡ (stops number-decide (game_at s h)).right
-  right_stop h i = let (c, e) = some_of (ended m h) (all.each h i) in ap (far_stop true) e ∙ (holds.own h c e).right number-decide
+  right_stop h i = let (c, e) = some_is (ended m h) (all.each h i) in ap (far_stop true) e ∙ (holds.own h c e).right number-decide
 
   left_stop : (h : ℕ) → Has hs h → far_stop false (ended m h) ≡ (stops number-decide (game_at s h)).left
-  left_stop h i = let (c, e) = some_of (ended m h) (all.each h i) in ap (far_stop false) e ∙ (holds.own h c e).left number-decide
+  left_stop h i = let (c, e) = some_is (ended m h) (all.each h i) in ap (far_stop false) e ∙ (holds.own h c e).left number-decide
 
   pub top_game : (b : Number) → BestOf m true hs b → TopOf (λ a. (stops number-decide a).right) (games_at s hs) b
   top_game b k = record {

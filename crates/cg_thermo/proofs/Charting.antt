@@ -13,12 +13,12 @@ use Rattle.cg_thermo.specs.declared.fault.ThermoFault.{ThermoFault}
 use Rattle.cg_thermo.specs.declared.fault.ThermoFault.TheVariants.{Range}
 use Rattle.cg_thermo.specs.Progress.{Rough, SomeRough}
 use Rattle.cg_thermo.specs.Thermal.{NeedsMore}
-use Rattle.cg_thermo.proofs.Members.{has-read}
+use Rattle.cg_canon.proofs.DistinctSteps.{has_item}
 
 pub next-rough : {R : Type 0} (s t : State Meant R) (hs : List ℕ) (i f : ℕ) → i < length hs → f ≡ get_or hs i f → AreGames s hs → Spends 0 s t
     → Rough (game_at t f) → SomeRough s hs
 next-rough s t hs i f lt read games spends r =
-    let there = has-read hs i f lt read in
+    let there = has_item hs i f lt read in
     record {
       handle = f;
       among = there;

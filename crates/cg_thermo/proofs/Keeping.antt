@@ -14,7 +14,9 @@ use Rattle.cg_nodes.specs.Meant.{Meant, form}
 use Rattle.cg_form.specs.Positions.{positions_of}
 use Rattle.cg_thermo.specs.Kept.{AllKept, KeepsOwn, OptionsKept}
 use Rattle.cg_thermo.specs.Progress.{OptionsFirst}
-use Rattle.cg_thermo.proofs.Members.{are_take, games_split, has-next, has-read, some_of, take-all}
+use Rattle.cg_cells.proofs.Notes.{some_is}
+use Rattle.cg_canon.proofs.DistinctSteps.{has_item}
+use Rattle.cg_thermo.proofs.Members.{are_take, games_split, has-next, take-all}
 
 -- ---- at a later state
 
@@ -66,7 +68,7 @@ found-none s kept h = record { spends = nothing_spent s; holds = h; all = record
 module _ {R C : Type 0} {Of : Game → C → Type 0} (s t : State Meant R) (kept : ℕ → Option C) (hs : List ℕ) (i f : ℕ) (lt : i < length hs)
     (read : f ≡ get_or hs i f) (games : AreGames s hs) (k : Found Of s t kept (take i hs)) where
   here : IsGame s f
-  here = has_game s hs f games (has-read hs i f lt read)
+  here = has_game s hs f games (has_item hs i f lt read)
 
   pub next-game : IsGame t f
   next-game = is_game_later s t k.spends.known f here
@@ -168,7 +170,7 @@ module _ {R : Type 0} (s t u : State Meant R) (a : ℕ) (game : IsGame s a) (st 
       → KeepsOwn Of u kept → (p : Game) → Among p (positions_of (game_at s a)) → (c : C) × Of p c
   each-kept {C} {Of} kept hs ps found holds p i =
       let (h, e, some) = some-kept kept hs ps found p i in
-      let (c, f) = some_of (kept h) some in
+      let (c, f) = some_is (kept h) some in
       (c, subst (λ (z : Game). Of z c) (stands_game u h p e) (holds.own h c f))
 
 -- ---- a game that was read

@@ -20,10 +20,6 @@ module _ {R : Type 0} (s : State Meant R) where
   are_take (k ∷ hs) zero a = tt
   are_take (k ∷ hs) (suc i) a = (a.0, are_take hs i a.1)
 
-pub some_of : {X : Type 0} (o : Option X) → IsSome o → (x : X) × (o ≡ Some x)
-some_of None s = absurd cc
-some_of (Some x) s = (x, refl)
-
 pub none_found : {X : Type 0} (o : Option X) → IsSome o → o ≡ None → ⊥
 none_found None s e = cc
 none_found (Some x) s e = cc
@@ -62,11 +58,6 @@ module _ (hs : List ℕ) (i h : ℕ) (lt : i < length hs) (read : h ≡ get_or h
 
 pub has-before : (hs : List ℕ) (i x : ℕ) → Has (take i hs) x → Has (take (i + 1) hs) x
 has-before hs i x m = subst (λ (z : ℕ). Has (take z hs) x) (one i) (has-more hs i x m)
-
-pub has-read : (hs : List ℕ) (i x : ℕ) → i < length hs → x ≡ get_or hs i x → Has hs x
-has-read [] i x h e = absurd (omega arith)
-has-read (k ∷ hs) zero x h e = inl (sym e)
-has-read (k ∷ hs) (suc i) x h e = inr (has-read hs i x (omega arith) e)
 
 pub take-all : (hs : List ℕ) (i : ℕ) → length hs ≤ i → take i hs ≡ hs
 take-all [] zero h = refl

@@ -26,7 +26,7 @@ use Rattle.cg_thermo.specs.Smooths.{Smooth}
 use Rattle.cg_thermo.proofs.Drawing.{Tops}
 use Rattle.cg_nodes.proofs.Members.{among_has, has_among}
 use Rattle.cg_thermo.proofs.Keeping.{holds_later, slice_left, slice_right}
-use Rattle.cg_thermo.proofs.Members.{some_of}
+use Rattle.cg_cells.proofs.Notes.{some_is}
 
 pub canonical-node : (g : Game) → Canonical g → IsNode g → NoNumber g
 canonical-node (number x) c n = absurd n
@@ -41,7 +41,7 @@ module _ {R : Type 0} (s : State Meant R) (m : Charts) (holds : HoldsCharts s m)
 
   -- what was found of a handle
   chart_at : (hs : List ℕ) → AllFound m hs → (h : ℕ) → Has hs h → (c : Chart) × (charted m h ≡ Some c)
-  chart_at hs all h i = some_of (charted m h) (all.each h i)
+  chart_at hs all h i = some_is (charted m h) (all.each h i)
 
   right_at : (h t : ℕ) (c : Chart) → charted m h ≡ Some c
       → side_in true (charted m h) t ≡ (walls number-decide places t (game_at s h)).right

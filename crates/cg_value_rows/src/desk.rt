@@ -160,7 +160,8 @@ impl<'a, B: BoardForms, S: CellStore<GameFacts<B>>> Desk<'a, B, S> {
     /// Charges a game again, with a cost of `extra` more, but at most 8.
     pub(crate) fn charge(&mut self, alloc: Global, a: usize, extra: u64) -> Result<(), Stop> {
         let handle = self.game(a)?;
-        Ok(item_of(alloc, &mut self.work, handle, extra.min(8))?)
+        item_of(alloc, &mut self.work, handle, extra.min(8))?;
+        Ok(())
     }
 
     /// Makes the sum of two.

@@ -7,7 +7,7 @@ use Rattle.cg_canon.proofs.ItemLaws.{all_pass-none}
 use Rattle.cg_canon.proofs.Keeping.{keeps_all, keeps_then}
 use Rattle.cg_canon.proofs.MadeSteps.{made_as, made_then, passed, stopped}
 use Rattle.cg_canon.specs.Items.{AllPass, Item}
-use Rattle.cg_canon.specs.Made.{ItemsMade}
+use Rattle.cg_canon.specs.Made.{Gives, ItemsMade}
 use Rattle.cg_canon.specs.SumItems.{sum_items}
 use Rattle.cg_canon.specs.Works.{Keeps}
 use Rattle.cg_canon.specs.declared.fault.ValueFault.{ValueFault}
@@ -19,7 +19,6 @@ use Rattle.cg_nodes.specs.Can.{can}
 use Rattle.cg_nodes.specs.Games.{AreGames, IsGame, StandFor, StandsFor, game_at}
 use Rattle.cg_nodes.specs.Meant.{Meant}
 use Rattle.cg_moves.proofs.Places.{split_read, take_next}
-use Rattle.cg_values.specs.Gives.{Gives}
 use Rattle.cg_values.specs.Items.{added, added_items}
 use Rattle.cg_values.proofs.GiveSteps.{can-sum_forms}
 use Rattle.cg_values.proofs.HandleSteps.{stand-first, stand-length, stand-rest}
@@ -101,7 +100,7 @@ module _ {R : Type 0} (s : State Meant (WorkRest R)) (first : ℕ) (others : Lis
 
   pub adding_done : (t : State Meant (WorkRest R)) (i sum_handle : ℕ) → length others ≤ i
       → Adding s t first others i sum_handle → (g : Game) (hs : List Game) → StandsFor s first (can g)
-      → StandFor s others (map can hs) → Gives s t (added_items s.rest.limit g hs) (added g hs) (Ok sum_handle)
+      → StandFor s others (map can hs) → Gives s t (added_items s.rest.limit g hs) (can (added g hs)) (Ok sum_handle)
   adding_done t i sum_handle end so_far g hs st all =
       let n = stand-length s others (map can hs) all in
       let m = length-map hs can in
@@ -117,9 +116,8 @@ module _ {R : Type 0} (s : State Meant (WorkRest R)) (first : ℕ) (others : Lis
     pub other-game : AreGames s others → IsGame t other
     other-game games = game-other t others i other (are_games_later s t so_far.keeps.known others games) within read
 
-    module _ (u : State Meant (WorkRest R)) (q : Result ℕ ValueFault)
-        (game : IfOk q (λ h. StandsFor u h (can (sum (game_at t sum_handle) (game_at t other)))))
-        (made : ItemsMade t u (sum_items t.rest.limit (game_at t sum_handle) (game_at t other)) q) (more : t.spare ≤ u.spare) where
+    module _ (u : State Meant (WorkRest R)) (q : Result ℕ ValueFault) (gives : Gives t u
+        (sum_items t.rest.limit (game_at t sum_handle) (game_at t other)) (can (sum (game_at t sum_handle) (game_at t other))) q) where
       module _ (g : Game) (hs : List Game) (st : StandsFor s first (can g)) (all : StandFor s others (map can hs)) where
         place : At s hs i other
         place = game-at_place s others hs i other all within read
@@ -154,7 +152,7 @@ module _ {R : Type 0} (s : State Meant (WorkRest R)) (first : ℕ) (others : Lis
             made_then s t u (added_items s.rest.limit g (take i hs)) (sum_items s.rest.limit (can before) (can place.game)) q
             (so_far.adds g hs st all).passed so_far.keeps
             (made_as t u (sum_items t.rest.limit (game_at t sum_handle) (game_at t other))
-            (sum_items s.rest.limit (can before) (can place.game)) q items-read made)
+            (sum_items s.rest.limit (can before) (can place.game)) q items-read gives.made)
 
         one_more : added_items s.rest.limit g (take i hs ++ (place.game ∷ [])) ≡ both_items
         one_more =
@@ -169,7 +167,7 @@ module _ {R : Type 0} (s : State Meant (WorkRest R)) (first : ℕ) (others : Lis
             let L : List Item → Type 0 = λ z. AllPass s.rest.share s.rest.spent z u.rest.spent in
             let T : List Game → Type 0 = λ z. AddedTo s u g z h in
             subst T (sym (take_next hs i place.game place.within place.read)) (record {
-              stands = subst F (sum-is ∙ ap can (sym (added-append g (take i hs) (place.game ∷ [])))) (subst G ok game);
+              stands = subst F (sum-is ∙ ap can (sym (added-append g (take i hs) (place.game ∷ [])))) (subst G ok gives.game);
               passed = subst L (sym one_more) (passed s u both_items q h ok both_made);
             })
 
@@ -182,7 +180,7 @@ module _ {R : Type 0} (s : State Meant (WorkRest R)) (first : ℕ) (others : Lis
             ∙ ap (added_items s.rest.limit g) (sym (split_read hs i place.game place.within place.read))
 
         pub adding_stopped : (v : Result ℕ ValueFault) (e : ValueFault) → q ≡ Err e → v ≡ Err e
-            → Gives s u (added_items s.rest.limit g hs) (added g hs) v
+            → Gives s u (added_items s.rest.limit g hs) (can (added g hs)) v
         adding_stopped v e a b =
             let P : Result ℕ ValueFault → Type 0 = λ z. IfOk z (λ k. StandsFor u k (can (added g hs))) in
             let x = so_far.more in record {
@@ -190,15 +188,15 @@ module _ {R : Type 0} (s : State Meant (WorkRest R)) (first : ℕ) (others : Lis
               made = made_as s u (both_items ++ added_items s.rest.limit (sum before place.game) (drop (suc i) hs))
                   (added_items s.rest.limit g hs) v all_items
                   (stopped s u both_items (added_items s.rest.limit (sum before place.game) (drop (suc i) hs)) q v e a b both_made);
-              more = omega (arith, x, more);
+              more = omega (arith, x, gives.more);
             }
 
       pub adding_more : (h : ℕ) → q ≡ Ok h → Adding s u first others (i + 1) h
       adding_more h ok =
           let G : Result ℕ ValueFault → Type 0 = λ z. IfOk z (λ k. StandsFor u k (can (sum (game_at t sum_handle) (game_at t other)))) in
           let x = so_far.more in record {
-            game = stands_is_game u h (can (sum (game_at t sum_handle) (game_at t other))) (subst G ok game);
-            keeps = keeps_then s t u so_far.keeps made.keeps;
-            more = omega (arith, x, more);
+            game = stands_is_game u h (can (sum (game_at t sum_handle) (game_at t other))) (subst G ok gives.game);
+            keeps = keeps_then s t u so_far.keeps gives.made.keeps;
+            more = omega (arith, x, gives.more);
             adds = λ g hs st all. added-more g hs st all h ok;
           }

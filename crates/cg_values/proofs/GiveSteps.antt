@@ -7,7 +7,7 @@ use Rattle.cg_canon.proofs.ItemLaws.{refused-one}
 use Rattle.cg_canon.proofs.Keeping.{keeps_all}
 use Rattle.cg_canon.proofs.MadeSteps.{made_as, made_then, passed, stopped}
 use Rattle.cg_canon.specs.Items.{Item, WasRefused, made as made_item, too_many}
-use Rattle.cg_canon.specs.Made.{ItemsMade}
+use Rattle.cg_canon.specs.Made.{Gives, ItemsMade}
 use Rattle.cg_canon.specs.declared.fault.ValueFault.{ValueFault}
 use Rattle.cg_canon.specs.declared.fault.ValueFault.TheVariants.{Memory, Positions}
 use Rattle.cg_canon.specs.declared.rest.WorkRest.{WorkRest}
@@ -23,7 +23,6 @@ use Rattle.cg_nodes.specs.Meant.{Meant}
 use Rattle.cg_moves.specs.Grid.{Grid}
 use Rattle.cg_moves.specs.Raw.{raw}
 use Rattle.cg_moves.specs.Rules.{GameRules}
-use Rattle.cg_values.specs.Gives.{Gives}
 use Rattle.cg_values.specs.Items.{added, added_items, board_items, parts_reach, sum_up, sum_up_items}
 use Rattle.cg_values.specs.Parts.{joins, part_items}
 use Rattle.cg_values.proofs.HandleSteps.{stand-first, stand-rest}
@@ -39,7 +38,7 @@ can-sum_forms g h =
 
 module _ {R : Type 0} where
   pub gives_as : (s t : State Meant (WorkRest R)) (xs ys : List Item) (g h : Game) (r : Result ℕ ValueFault) → xs ≡ ys
-      → can g ≡ can h → Gives s t xs g r → Gives s t ys h r
+      → can g ≡ can h → Gives s t xs (can g) r → Gives s t ys (can h) r
   gives_as s t xs ys g h r e f v =
       let P : Game → Type 0 = λ z. IfOk r (λ k. StandsFor t k z) in record {
         game = subst P f v.game;
@@ -49,8 +48,8 @@ module _ {R : Type 0} where
 
   -- items that were made, and then those of a game
   pub gives_then : {T : Type 0} (s t u : State Meant (WorkRest R)) (xs ys : List Item) (g : Game) (q : Result T ValueFault) (x : T)
-      (r : Result ℕ ValueFault) → q ≡ Ok x → ItemsMade s t xs q → s.spare ≤ t.spare → Gives t u ys g r
-      → Gives s u (xs ++ ys) g r
+      (r : Result ℕ ValueFault) → q ≡ Ok x → ItemsMade s t xs q → s.spare ≤ t.spare → Gives t u ys (can g) r
+      → Gives s u (xs ++ ys) (can g) r
   gives_then s t u xs ys g q x r ok first more v =
       let after = v.more in record {
         game = v.game;
@@ -61,7 +60,7 @@ module _ {R : Type 0} where
   -- an item before those of a game was refused
   pub gives_stopped : {T : Type 0} (s t : State Meant (WorkRest R)) (xs ys : List Item) (g : Game) (q : Result T ValueFault)
       (r : Result ℕ ValueFault) (e : ValueFault) → q ≡ Err e → r ≡ Err e → ItemsMade s t xs q → s.spare ≤ t.spare
-      → Gives s t (xs ++ ys) g r
+      → Gives s t (xs ++ ys) (can g) r
   gives_stopped s t xs ys g q r e a b first more =
       let P : Result ℕ ValueFault → Type 0 = λ z. IfOk z (λ k. StandsFor t k (can g)) in record {
         game = subst P (sym b) tt;
@@ -97,25 +96,20 @@ module _ {R : Type 0} where
   -- ---- games that are added up
 
   pub up_none : (s t : State Meant (WorkRest R)) (handles : List ℕ) (gs : List Game) (r : Result ℕ ValueFault) → handles ≡ []
-      → StandFor s handles (map can gs) → IfOk r (λ h. StandsFor t h (can nothing))
-      → ItemsMade s t (made_item (can nothing) 0 ∷ []) r → s.spare ≤ t.spare
-      → Gives s t (sum_up_items s.rest.limit gs) (sum_up gs) r
-  up_none s t handles [] r none all game items more = record {
-    game = game;
-    made = items;
-    more = more;
-  }
-  up_none s t handles (g ∷ gs) r none all game items more =
+      → StandFor s handles (map can gs) → Gives s t (made_item (can nothing) 0 ∷ []) (can nothing) r
+      → Gives s t (sum_up_items s.rest.limit gs) (can (sum_up gs)) r
+  up_none s t handles [] r none all gives = gives
+  up_none s t handles (g ∷ gs) r none all gives =
       let e = all.1 in let f = ap (games_at s) none in absurd (let z : [] ≡ map can (g ∷ gs) = sym f ∙ e in cc)
 
   pub up_some : (s t : State Meant (WorkRest R)) (handles : List ℕ) (first : ℕ) (others : List ℕ) (gs : List Game)
       (r : Result ℕ ValueFault) → handles ≡ first ∷ others → StandFor s handles (map can gs)
       → ((g : Game) (hs : List Game) → StandsFor s first (can g) → StandFor s others (map can hs)
-      → Gives s t (added_items s.rest.limit g hs) (added g hs) r)
-      → Gives s t (sum_up_items s.rest.limit gs) (sum_up gs) r
+      → Gives s t (added_items s.rest.limit g hs) (can (added g hs)) r)
+      → Gives s t (sum_up_items s.rest.limit gs) (can (sum_up gs)) r
   up_some s t handles first others gs r is all add =
       let f = first-of s handles first others gs is all in
-      let P : List Game → Type 0 = λ z. Gives s t (sum_up_items s.rest.limit z) (sum_up z) r in
+      let P : List Game → Type 0 = λ z. Gives s t (sum_up_items s.rest.limit z) (can (sum_up z)) r in
       subst P (sym f.split) (add f.game f.games f.stands f.others)
 
 -- ---- more parts than the limit, and want of memory
@@ -133,9 +127,9 @@ fault-refused fault share spent limit r p (inr (positions, above)) =
 pub board_refused : {R : Type 0} (s : State Meant (WorkRest R)) (r : GameRules) (p : Grid) (fault : ValueFault) (limit : ℕ)
     (result : Result ℕ ValueFault) → limit ≡ s.rest.limit → result ≡ Err fault
     → (fault ≡ Memory) ⊎ ((fault ≡ Positions) × (limit < length (parts_reach r p)))
-    → Gives s s (board_items s.rest.limit r p) (raw r p) result
+    → Gives s s (board_items s.rest.limit r p) (can (raw r p)) result
 board_refused s r p fault limit result is e cause =
-    let P : Result ℕ ValueFault → Type 0 = λ z. Gives s s (board_items s.rest.limit r p) (raw r p) z in
+    let P : Result ℕ ValueFault → Type 0 = λ z. Gives s s (board_items s.rest.limit r p) (can (raw r p)) z in
     let Q : ℕ → Type 0 = λ z. (fault ≡ Memory) ⊎ ((fault ≡ Positions) × (z < length (parts_reach r p))) in
     subst P (sym e) (record {
       game = tt;
@@ -158,16 +152,16 @@ module _ {R X : Type 0} (s t : State Meant (WorkRest R)) (r : GameRules) (p : Gr
       ap (λ z. flat_map (part_items s.rest.limit r) z ++ joins s.rest.limit r p) all ∙ items-within s.rest.limit r p w
 
   pub board_stopped : (v : Result ℕ ValueFault) (e : ValueFault) → q ≡ Err e → v ≡ Err e
-      → Gives s t (board_items s.rest.limit r p) (raw r p) v
+      → Gives s t (board_items s.rest.limit r p) (can (raw r p)) v
   board_stopped v e a b =
       gives_as s t (flat_map (part_items s.rest.limit r) ps ++ joins s.rest.limit r p) (board_items s.rest.limit r p)
       (raw r p) (raw r p) v items_are refl
       (gives_stopped s t (flat_map (part_items s.rest.limit r) ps) (joins s.rest.limit r p) (raw r p) q v e a b first more)
 
   pub board_gives : (u : State Meant (WorkRest R)) (x : X) → q ≡ Ok x → (v : Result ℕ ValueFault)
-      → Gives t u (joins t.rest.limit r p) (raw r p) v → Gives s u (board_items s.rest.limit r p) (raw r p) v
+      → Gives t u (joins t.rest.limit r p) (can (raw r p)) v → Gives s u (board_items s.rest.limit r p) (can (raw r p)) v
   board_gives u x ok v last =
-      let N : ℕ → Type 0 = λ n. Gives t u (joins n r p) (raw r p) v in
+      let N : ℕ → Type 0 = λ n. Gives t u (joins n r p) (can (raw r p)) v in
       gives_as s u (flat_map (part_items s.rest.limit r) ps ++ joins s.rest.limit r p) (board_items s.rest.limit r p)
       (raw r p) (raw r p) v items_are refl
       (gives_then s t u (flat_map (part_items s.rest.limit r) ps) (joins s.rest.limit r p) (raw r p) q x v ok first more

@@ -1,5 +1,5 @@
 -- Values of boards, found one after another.
-use Rattle.std.proofs.Common.{◌≡◌, ℕ, ◌*◌, ◌≤◌, ◌==◌, Bool, true, false, if◌then◌else◌, List, ◌++◌, drop, length, map, take, ap, sym, ◌∙◌, subst, arith}
+use Rattle.std.proofs.Common.{◌≡◌, ℕ, ◌*◌, ◌≤◌, true, List, ◌++◌, drop, length, map, take, ap, sym, ◌∙◌, subst, arith}
 use Rattle.std.proofs.lemmas.List.{length-map, map-append}
 use Rattle.cg_cells.specs.Meaning.{Grows}
 use Rattle.cg_cells.specs.Store.{State, thing_at}
@@ -8,7 +8,7 @@ use Rattle.cg_nodes.specs.Boards.{AreWritten, are_contents, are_of_board, symbol
 use Rattle.cg_nodes.specs.Can.{can}
 use Rattle.cg_nodes.specs.Games.{StandFor, games_at}
 use Rattle.cg_nodes.specs.Meant.{Meant}
-use Rattle.cg_nodes.proofs.BoardContents.{contents-written, is-of_board}
+use Rattle.cg_nodes.proofs.BoardContents.{contents-written, is-of_board, symbols-few}
 use Rattle.cg_nodes.proofs.Forms.{can-node}
 use Rattle.cg_nodes.proofs.Later.{stand_later}
 use Rattle.cg_moves.specs.declared.player.Player.TheVariants.{Left, Right}
@@ -68,16 +68,6 @@ value-options s r lawful p ls rs has l k =
     ∙ ap can (sym (raw-moves r lawful.moves p has))
 
 -- ---- the contents of a board
-
-pub symbols-few : (n : ℕ) → symbols n ≤ 4
-symbols-few n = count-few (n == 1) (n == 2) (n == 3) (n == 4)
-  where
-    count-few : (a b c d : Bool) → (if a then 2 else if b then 3 else if c then 4 else if d then 3 else 0) ≤ 4
-    count-few true b c d = omega arith
-    count-few false true c d = omega arith
-    count-few false false true d = omega arith
-    count-few false false false true = omega arith
-    count-few false false false false = omega arith
 
 pub contents-fit : (p : Grid) (n rows columns : ℕ) (contents : List ℕ) → IsGrid p → length p.symbols ≡ symbols n
     → rows ≡ p.rows → columns ≡ p.columns → AreWritten (places p.symbols p.cells) contents

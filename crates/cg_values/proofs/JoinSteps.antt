@@ -9,7 +9,7 @@ use Rattle.cg_canon.proofs.ItemLaws.{all_pass-none}
 use Rattle.cg_canon.proofs.Keeping.{keeps_all, keeps_then}
 use Rattle.cg_canon.proofs.MadeSteps.{made_as, made_then, passed, stopped}
 use Rattle.cg_canon.specs.Items.{AllPass, Item}
-use Rattle.cg_canon.specs.Made.{ItemsMade}
+use Rattle.cg_canon.specs.Made.{Gives, ItemsMade}
 use Rattle.cg_canon.specs.Works.{Keeps}
 use Rattle.cg_canon.specs.declared.fault.ValueFault.{ValueFault}
 use Rattle.cg_canon.specs.declared.rest.WorkRest.{WorkRest}
@@ -24,7 +24,6 @@ use Rattle.cg_moves.specs.Grid.{Grid}
 use Rattle.cg_moves.specs.Raw.{raw}
 use Rattle.cg_moves.specs.Lawful.{IsLawful}
 use Rattle.cg_moves.specs.Rules.{GameRules, followers}
-use Rattle.cg_values.specs.Gives.{Gives}
 use Rattle.cg_values.specs.Items.{sum_up, sum_up_items, value_item}
 use Rattle.cg_values.specs.Parts.{HoldAt, handles_at, joins, part_items, parts_of, values_of}
 use Rattle.cg_values.proofs.GiveSteps.{gives_as}
@@ -43,8 +42,8 @@ values-next r qs p = ap (map can) (map-append (raw r) qs (p ∷ [])) ∙ map-app
 pub parts_give : {R : Type 0} (t u : State Meant (WorkRest R)) (r : GameRules) (lawful : IsLawful r) (p : Grid)
     → r.has p ≡ true → (handles places : List ℕ) → HoldAt t r handles places (parts_of r p) → (result : Result ℕ ValueFault)
     → ((gs : List Game) → StandFor t (handles_at handles places) (map can gs)
-    → Gives t u (sum_up_items t.rest.limit gs) (sum_up gs) result)
-    → Gives t u (joins t.rest.limit r p) (raw r p) result
+    → Gives t u (sum_up_items t.rest.limit gs) (can (sum_up gs)) result)
+    → Gives t u (joins t.rest.limit r p) (can (raw r p)) result
 parts_give t u r lawful p has handles places own result sums =
     let gs = map (raw r) (parts_of r p) in
     gives_as t u (joins t.rest.limit r p) (joins t.rest.limit r p) (sum_up gs) (raw r p) result refl (parts-sum r lawful p has)
@@ -130,8 +129,8 @@ module _ {R : Type 0} (s : State Meant (WorkRest R)) (r : GameRules) (lawful : I
 
         module _ (u : State Meant (WorkRest R)) (result : Result ℕ ValueFault)
             (sums : (gs : List Game) → StandFor t (handles_at handles own) (map can gs)
-            → Gives t u (sum_up_items t.rest.limit gs) (sum_up gs) result) where
-          pub own_gives : Gives t u (joins t.rest.limit r q) (raw r q) result
+            → Gives t u (sum_up_items t.rest.limit gs) (can (sum_up gs)) result) where
+          pub own_gives : Gives t u (joins t.rest.limit r q) (can (raw r q)) result
           own_gives = parts_give t u r lawful q next-has handles own own_held result sums
 
           both_made : ItemsMade s u (joins_of (take i (followers r p)) ++ joins s.rest.limit r q) result

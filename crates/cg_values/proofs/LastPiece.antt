@@ -2,7 +2,8 @@
 use Rattle.std.proofs.Common.{◌≡◌, refl, suc, ◌<◌, true, inl, inr, List, [], ◌∷◌, ◌++◌, ap, sym, ◌∙◌, arith}
 use Rattle.std.specs.List.{flat_map}
 use Rattle.std.proofs.lemmas.List.{append-nil}
-use Rattle.cg_moves.proofs.KeptLemmas.{kept-among, kept-append, one_more-new}
+use Rattle.cg_form.proofs.Firsts.{extended-among, extended-append, one_more-new}
+use Rattle.cg_moves.proofs.Same.{boards}
 use Rattle.cg_moves.proofs.Members.{carry, in-flat_map}
 use Rattle.cg_moves.proofs.PlayLemmas.{by-pieces, piece_reach-kept}
 use Rattle.cg_moves.proofs.PlayOrder.{all-each}
@@ -27,8 +28,8 @@ module _ (w : Play) (lawful : IsPlay w) where
   last-of_all : (p : Grid) → w.has p ≡ true → kept [] (w.all p) ≡ kept [] (flat_map w.all (w.next p)) ++ (p ∷ [])
   last-of_all p has =
       let before = flat_map w.all (w.next p) in
-      ap (kept []) (lawful.all p has) ∙ kept-append [] before (p ∷ [])
-      ∙ one_more-new (kept [] before) p (λ m. elim (kept-among [] before p m) [
+      ap (kept []) (lawful.all p has) ∙ extended-append boards [] before (p ∷ [])
+      ∙ one_more-new boards (kept [] before) p (λ m. elim (extended-among boards [] before p m) [
         | inl nothing ↦ nothing
         | inr n ↦ (let low = after-lower p p has n in absurd (omega (arith, low)))
       ])

@@ -4,6 +4,5 @@ pub mod Notes
 -- what private contracts cite, and what proofs need here
 pub mod Parts
 pub mod Options
-pub mod Gives
 pub mod Chunks
 pub mod Contents

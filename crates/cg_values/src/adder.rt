@@ -1,10 +1,9 @@
 //! What adds up the values of a board's pieces.
-ghost use Rattle.std.specs.Prelude.{◌≤◌, IfOk};
-ghost use Rattle.cg_canon.specs.Made.{ItemsMade};
+ghost use Rattle.cg_canon.specs.Made.{Gives};
 ghost use Rattle.cg_canon.specs.Works.{work_state};
 ghost use Rattle.cg_form.specs.Sum.{sum as sum_of};
 ghost use Rattle.cg_nodes.specs.Can.{can};
-ghost use Rattle.cg_nodes.specs.Games.{IsGame, StandsFor, game_at};
+ghost use Rattle.cg_nodes.specs.Games.{IsGame, game_at};
 ghost use Rattle.cg_canon.specs.SumItems.{sum_items};
 
 use cg_canon::{ValueFault, Work};
@@ -27,9 +26,6 @@ pub trait Adder {
     ) -> Result<Handle, ValueFault>
         requires a { IsGame (work_state S.state work.old) a }
         requires b { IsGame (work_state S.state work.old) b }
-        ensures game { let W = work_state S.state work.old in IfOk result (λ h. StandsFor (work_state S.state work.new) h
-            (can (sum_of (game_at W a) (game_at W b)))) }
-        ensures made { let W = work_state S.state work.old in ItemsMade W (work_state S.state work.new)
-            (sum_items work.old.limit (game_at W a) (game_at W b)) result }
-        ensures spare { (work_state S.state work.old).spare ≤ (work_state S.state work.new).spare };
+        ensures { let W = work_state S.state work.old in Gives W (work_state S.state work.new)
+            (sum_items work.old.limit (game_at W a) (game_at W b)) (can (sum_of (game_at W a) (game_at W b))) result };
 }

@@ -1,5 +1,5 @@
 //! The item of the value of a board.
-ghost use Rattle.std.specs.Prelude.{◌≡◌, ℕ, ◌+◌, ◌≤◌, true, IfOk, OnOk, IsSome, [], ◌∷◌, ◌≢◌, Some, length};
+ghost use Rattle.std.specs.Prelude.{◌≡◌, ◌+◌, ◌≤◌, true, IfOk, OnOk, [], ◌∷◌, ◌≢◌, Some, length};
 ghost use Rattle.cg_canon.specs.Works.{work_state};
 ghost use Rattle.cg_nodes.specs.Boards.{AreWritten};
 ghost use Rattle.cg_cells.specs.Meaning.{note_for};
@@ -8,10 +8,9 @@ ghost use Rattle.cg_nodes.specs.Can.{can};
 ghost use Rattle.cg_nodes.specs.Games.{StandsFor};
 ghost use Rattle.cg_nodes.specs.Meant.{form};
 ghost use Rattle.cg_nodes.specs.Spelled.{game_meaning};
-ghost use Rattle.cg_moves.specs.Grid.{Grid};
 ghost use Rattle.cg_moves.specs.Raw.{raw};
 ghost use Rattle.cg_values.specs.Items.{value_item};
-ghost use Rattle.cg_canon.specs.Made.{ItemsMade};
+ghost use Rattle.cg_canon.specs.Made.{FormGiven, Gives, ItemsMade};
 ghost use Rattle.cg_values.specs.Notes.{IsCellOf, IsNoted, IsNumbered, MayNote, places};
 ghost use Rattle.cg_values.specs.Options.{AreOptions};
 
@@ -34,10 +33,7 @@ fn made_item<B: BoardForms, S: CellStore<GameFacts<B>>, R: Rules>(
 ) -> Result<Handle, ValueFault>
     requires has { (R.game rules.now).has board.now ≡ true }
     requires options { AreOptions (work_state S.state work.old) (R.game rules.now) board.now options.now }
-    ensures game { IfOk result (λ h. StandsFor (work_state S.state work.new) h (can (raw (R.game rules.now) board.now))) }
-    ensures made { ItemsMade (work_state S.state work.old) (work_state S.state work.new) (value_item (R.game rules.now) board.now ∷ []) result }
-    ensures spare { OnOk result ((work_state S.state work.old).spare + 8 ≤ (work_state S.state work.new).spare) }
-    ensures more { (work_state S.state work.old).spare ≤ (work_state S.state work.new).spare }
+    ensures { FormGiven (work_state S.state work.old) (work_state S.state work.new) (can (raw (R.game rules.now) board.now)) 8 result }
 {
     let (lefts, rights) = options.handles.as_slice().split_at(options.lefts);
     canonical(alloc, work, lefts, rights, 8)
@@ -57,17 +53,12 @@ fn noted_item<B: BoardForms, S: CellStore<GameFacts<B>>, R: Rules>(
     requires cell { IsCellOf (work_state S.state work.old) (R.game rules.now) board.now cell }
     requires due { note_for (game_meaning B.form) (thing_at (work_state S.state work.old) cell)
         ≡ Some (form (can (raw (R.game rules.now) board.now))) }
-    ensures game { IfOk result (λ h. StandsFor (work_state S.state work.new) h (can (raw (R.game rules.now) board.now))) }
+    ensures gives { Gives (work_state S.state work.old) (work_state S.state work.new)
+        (value_item (R.game rules.now) board.now ∷ []) (can (raw (R.game rules.now) board.now)) result }
     ensures noted { OnOk result (IsNoted (work_state S.state work.new) (R.game rules.now) board.now) }
-    ensures made { ItemsMade (work_state S.state work.old) (work_state S.state work.new) (value_item (R.game rules.now) board.now ∷ []) result }
-    ensures more { (work_state S.state work.old).spare ≤ (work_state S.state work.new).spare }
 {
     match work.noted(cell) {
-        Some(noted) => {
-            let value = Handle::of(noted);
-            item_of(alloc, work, value, 8)?;
-            Ok(value)
-        }
+        Some(noted) => item_of(alloc, work, Handle::of(noted), 8),
         None => {
             let value = made_item(alloc, work, rules, board, options)?;
             work.note(cell, value.id());

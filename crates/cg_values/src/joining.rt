@@ -5,7 +5,7 @@ ghost use Rattle.cg_form.specs.Game.{Game};
 ghost use Rattle.cg_nodes.specs.Boards.{AreBelow};
 ghost use Rattle.cg_nodes.specs.Can.{can};
 ghost use Rattle.cg_nodes.specs.Games.{AreGames, IsGame, StandFor, StandsFor};
-ghost use Rattle.cg_values.specs.Gives.{Gives};
+ghost use Rattle.cg_canon.specs.Made.{Gives};
 ghost use Rattle.cg_values.specs.Items.{added, added_items, sum_up, sum_up_items};
 ghost use Rattle.cg_values.specs.Parts.{handles_at};
 
@@ -29,7 +29,7 @@ fn add_all<B: BoardForms, S: CellStore<GameFacts<B>>, A: Adder>(
     requires games { AreGames (work_state S.state work.old) (handles_at handles.now others.now) }
     ensures { (g : Game) (hs : List Game) → StandsFor (work_state S.state work.old) first (can g)
         → StandFor (work_state S.state work.old) (handles_at handles.now others.now) (map can hs)
-        → Gives (work_state S.state work.old) (work_state S.state work.new) (added_items work.old.limit g hs) (added g hs)
+        → Gives (work_state S.state work.old) (work_state S.state work.new) (added_items work.old.limit g hs) (can (added g hs))
         result }
 {
     let mut sum = first;
@@ -52,7 +52,7 @@ pub(crate) fn joined<B: BoardForms, S: CellStore<GameFacts<B>>, A: Adder>(
     requires within { AreBelow (length handles.now) places.now }
     requires games { AreGames (work_state S.state work.old) (handles_at handles.now places.now) }
     ensures { (gs : List Game) → StandFor (work_state S.state work.old) (handles_at handles.now places.now) (map can gs)
-        → Gives (work_state S.state work.old) (work_state S.state work.new) (sum_up_items work.old.limit gs) (sum_up gs)
+        → Gives (work_state S.state work.old) (work_state S.state work.new) (sum_up_items work.old.limit gs) (can (sum_up gs))
         result }
 {
     match places.split_first() {

@@ -1,11 +1,9 @@
 //! The value of a board.
-ghost use Rattle.std.specs.Prelude.{◌≡◌, ◌≤◌, true, IfErr, IfOk, OnOk};
-ghost use Rattle.cg_canon.specs.Items.{AllPass, WasRefused};
-ghost use Rattle.cg_canon.specs.Works.{Keeps, work_state};
+ghost use Rattle.std.specs.Prelude.{◌≡◌, true, OnOk};
+ghost use Rattle.cg_canon.specs.Made.{Gives};
+ghost use Rattle.cg_canon.specs.Works.{work_state};
 ghost use Rattle.cg_nodes.specs.Can.{can};
-ghost use Rattle.cg_nodes.specs.Games.{StandsFor};
 ghost use Rattle.cg_moves.specs.Raw.{raw};
-ghost use Rattle.cg_values.specs.Gives.{Gives};
 ghost use Rattle.cg_values.specs.Items.{board_items, parts_reach};
 ghost use Rattle.cg_values.specs.Notes.{AreNoted, MayNote};
 
@@ -18,27 +16,6 @@ use cg_cells::CellStore;
 use cg_moves::{Board, Rules};
 use cg_nodes::{BoardForms, GameFacts, Handle};
 use std::alloc::Global;
-
-/// Makes the items of the board: those of the parts that play can come to, and those of joining its own parts.
-fn board_value<B: BoardForms, S: CellStore<GameFacts<B>>, R: Rules, A: Adder>(
-    alloc: Global,
-    work: &mut Work<B, S>,
-    rules: &R,
-    adder: &A,
-    start: &Board,
-) -> Result<Handle, ValueFault>
-    requires has { (R.game rules.now).has start.now ≡ true }
-    requires notes { MayNote B.form (R.game rules.now) }
-    ensures gives { Gives (work_state S.state work.old) (work_state S.state work.new)
-        (board_items work.old.limit (R.game rules.now) start.now) (raw (R.game rules.now) start.now) result }
-    ensures noted { OnOk result (AreNoted (work_state S.state work.new) (R.game rules.now)
-        (parts_reach (R.game rules.now) start.now)) }
-{
-    let limit = work.limit();
-    let opened = parts_within(alloc, rules, start, limit)?;
-    let handles = part_values(alloc, work, rules, adder, &opened)?;
-    joined(alloc, work, adder, &handles, &opened.starts)
-}
 
 /// The handle of the canonical form of the tree of all moves from the start, which must be a board of the game.
 ///
@@ -62,15 +39,13 @@ pub fn value_of<B: BoardForms, S: CellStore<GameFacts<B>>, R: Rules, A: Adder>(
 ) -> Result<Handle, ValueFault>
     requires has { (R.game rules.now).has start.now ≡ true }
     requires notes { MayNote B.form (R.game rules.now) }
-    ensures game { IfOk result (λ h. StandsFor (work_state S.state work.new) h (can (raw (R.game rules.now) start.now))) }
+    ensures gives { Gives (work_state S.state work.old) (work_state S.state work.new)
+        (board_items work.old.limit (R.game rules.now) start.now) (can (raw (R.game rules.now) start.now)) result }
     ensures noted { OnOk result (AreNoted (work_state S.state work.new) (R.game rules.now)
         (parts_reach (R.game rules.now) start.now)) }
-    ensures charged { OnOk result (AllPass work.old.share work.old.spent
-        (board_items work.old.limit (R.game rules.now) start.now) work.new.spent) }
-    ensures refused { IfErr result (λ fault. WasRefused fault work.old.share work.old.spent
-        (board_items work.old.limit (R.game rules.now) start.now) work.new.spent) }
-    ensures spare { (work_state S.state work.old).spare ≤ (work_state S.state work.new).spare }
-    ensures keeps { Keeps (work_state S.state work.old) (work_state S.state work.new) }
 {
-    board_value(alloc, work, rules, adder, start)
+    let limit = work.limit();
+    let opened = parts_within(alloc, rules, start, limit)?;
+    let handles = part_values(alloc, work, rules, adder, &opened)?;
+    joined(alloc, work, adder, &handles, &opened.starts)
 }

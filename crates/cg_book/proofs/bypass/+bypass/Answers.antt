@@ -1,16 +1,14 @@
-use Rattle.std.proofs.Common.{◌≡◌, [], ◌∷◌, ◌++◌, ap, get_or, rules, subst, sym, ◌∙◌}
-use Rattle.cg_form.specs.Order.{no_one}
-use Rattle.cg_form.specs.Side.{at_most, far}
-use Rattle.cg_form.proofs.Among.{carry}
+use Rattle.std.proofs.Common.{◌≡◌, [], ◌∷◌, ◌++◌, ap, get_or, refl, rules, subst, sym, ◌∙◌}
+use Rattle.std.proofs.lemmas.Option.{MatchOption-at_none, MatchOption-at_some}
 use Rattle.cg_form.proofs.Sides.{size-far}
 use Rattle.cg_book.specs.declared.candidate.Candidate.{Candidate}
 use Rattle.cg_book.specs.Passed.{IsOwn}
 use Rattle.cg_book.specs.Candidates.{alone, pages_of}
 use Rattle.cg_book.specs.Pages.{game_of, games_of}
 use Rattle.cg_book.specs.Wholes.{whole_game}
-use Rattle.cg_book.proofs.Against.{far_side, near_side}
-use Rattle.cg_book.proofs.Bypassing.{alone_own, bypassed_more, last_covered, more_substitutes, number_fine, passing_substitutes, pushed_one, stays_fine, through_fine, through_less, through_node, through_number}
-use Rattle.cg_book.proofs.Results.{always_ok, at_none, at_some, if_ok}
+use Rattle.cg_book.proofs.Against.{near_side}
+use Rattle.cg_book.proofs.Bypassing.{alone_own, bypassed_more, far_of_same, kept_there, replaced_and_passed, replaced_by_none, replaced_by_one, through_fine, through_less, through_node, through_number}
+use Rattle.cg_book.proofs.Results.{always_ok, if_ok}
 use Rattle.cg_book.proofs.Slices.{item_among, item_size, page_of_item}
 use Rattle.cg_book.proofs.bypass.+bypass.Goals as goal
 
@@ -18,90 +16,25 @@ use Rattle.cg_book.proofs.bypass.+bypass.Goals as goal
 
 pub bypass-bypass_through-requires : goal.bypass-bypass_through-requires
 bypass-bypass_through-requires t c =
-    let gs = c.args.pages.now in
-    let option = game_of gs c.args.option.now.page in
-    let h = at_some c.in_ok-first_at_most-in-Game.field-0 _ c.in-Some.answer c.in-Some.is c.in_ok-first_at_most-in-Game.ensures.some in
-    let side = far_side gs option c.in-Game.lefts.now c.in-Game.rights.now c.chosen-far.result.now c.args.left c.in-Game.ensures.read c.chosen-far.ensures in
-    let less = size-far c.args.left option (game_of gs c.in-Some.answer)
-    (carry (game_of gs c.in-Some.answer) (games_of gs c.chosen-far.result.now) (far c.args.left option) side.same h.1) in
+    let h = MatchOption-at_some _ _ c.in-Some.answer c.in-Some.is c.in_ok-reverser.ensures.some in
+    let less = size-far c.args.left (game_of c.args.pages.now c.args.option.now.page) (game_of c.args.pages.now c.in-Some.answer) h.1 in
     let page = h.0 in
     let back = h.2 in
     search rules
 
-pub bypass-returns-in-Number-clause-out : goal.bypass-returns-in-Number-clause-out
-bypass-returns-in-Number-clause-out t c =
-    let fine = number_fine c.args.left (whole_game c.args.pages.now c.args.whole.now) (game_of c.args.pages.now c.args.option.now.page) c.in-Number.field-0
-    c.in-Number.ensures.read c.requires.less in
+pub bypass-returns-in-None-clause-done : goal.bypass-returns-in-None-clause-done
+bypass-returns-in-None-clause-done t c =
+    let fine = MatchOption-at_none _ _ c.in-None.is c.in_ok-reverser.ensures.none in
     if_ok c.push.result _ _ c.push.ensures.items
-    (λ r e. more_substitutes c.args.pages.now c.args.left c.args.whole.now c.args.out.now c.push.new.self c.args.option.now c.requires.out c.requires.option e
-    c.push.ensures.passed fine c.requires.own)
+    (λ r e. replaced_by_one c.args.pages.now c.args.left c.args.whole.now c.args.out.now c.push.new.self c.args.option.now _ c.requires.out
+    c.requires.option e c.push.ensures.passed fine c.requires.own
+    (λ m a same. kept_there c.args.left (whole_game c.args.pages.now c.args.whole.now) _ _ a m same))
 
-pub bypass-returns-in-Number-clause-grown : goal.bypass-returns-in-Number-clause-grown
-bypass-returns-in-Number-clause-grown t c =
-    let fine = number_fine c.args.left (whole_game c.args.pages.now c.args.whole.now) (game_of c.args.pages.now c.args.option.now.page) c.in-Number.field-0
-    c.in-Number.ensures.read c.requires.less in
-    if_ok c.push.result _ _ c.push.ensures.items
-    (λ r e. (pushed_one c.args.pages.now c.args.left (whole_game c.args.pages.now c.args.whole.now) c.args.out.now.items.items c.push.new.self.items.items
-    c.args.option.now c.requires.out.pages c.requires.option e fine).grown)
-
-pub bypass-returns-in-Number-clause-covered : goal.bypass-returns-in-Number-clause-covered
-bypass-returns-in-Number-clause-covered t c =
-    let fine = number_fine c.args.left (whole_game c.args.pages.now c.args.whole.now) (game_of c.args.pages.now c.args.option.now.page) c.in-Number.field-0
-    c.in-Number.ensures.read c.requires.less in
-    if_ok c.push.result _ _ c.push.ensures.items
-    (λ r e. last_covered c.args.left (whole_game c.args.pages.now c.args.whole.now) (game_of c.args.pages.now c.args.option.now.page)
-    (games_of c.args.pages.now (pages_of c.push.new.self.items.items))
-    (pushed_one c.args.pages.now c.args.left (whole_game c.args.pages.now c.args.whole.now) c.args.out.now.items.items c.push.new.self.items.items
-    c.args.option.now c.requires.out.pages c.requires.option e fine).last)
-
-pub bypass-returns-in-None-clause-out : goal.bypass-returns-in-None-clause-out
-bypass-returns-in-None-clause-out t c =
-    let gs = c.args.pages.now in
-    let whole = whole_game gs c.args.whole.now in
-    let option = game_of gs c.args.option.now.page in
-    let side = far_side gs option c.in-Game.lefts.now c.in-Game.rights.now c.chosen-far.result.now c.args.left c.in-Game.ensures.read c.chosen-far.ensures in
-    let never = at_none c.in_ok-first_at_most-in-Game.field-0 _ c.in-None.is c.in_ok-first_at_most-in-Game.ensures.none in
-    let fine = stays_fine c.args.left whole option c.read.ensures.canonical c.requires.less
-    (sym (ap (no_one (λ b. at_most c.args.left b whole)) side.same) ∙ never) in
-    if_ok c.push-in-None.result _ _ c.push-in-None.ensures.items
-    (λ r e. more_substitutes gs c.args.left c.args.whole.now c.args.out.now c.push-in-None.new.self c.args.option.now c.requires.out c.requires.option e
-    c.push-in-None.ensures.passed fine c.requires.own)
-
-pub bypass-returns-in-None-clause-grown : goal.bypass-returns-in-None-clause-grown
-bypass-returns-in-None-clause-grown t c =
-    let gs = c.args.pages.now in
-    let whole = whole_game gs c.args.whole.now in
-    let option = game_of gs c.args.option.now.page in
-    let side = far_side gs option c.in-Game.lefts.now c.in-Game.rights.now c.chosen-far.result.now c.args.left c.in-Game.ensures.read c.chosen-far.ensures in
-    let never = at_none c.in_ok-first_at_most-in-Game.field-0 _ c.in-None.is c.in_ok-first_at_most-in-Game.ensures.none in
-    let fine = stays_fine c.args.left whole option c.read.ensures.canonical c.requires.less
-    (sym (ap (no_one (λ b. at_most c.args.left b whole)) side.same) ∙ never) in
-    if_ok c.push-in-None.result _ _ c.push-in-None.ensures.items
-    (λ r e. (pushed_one gs c.args.left whole c.args.out.now.items.items c.push-in-None.new.self.items.items
-    c.args.option.now c.requires.out.pages c.requires.option e fine).grown)
-
-pub bypass-returns-in-None-clause-covered : goal.bypass-returns-in-None-clause-covered
-bypass-returns-in-None-clause-covered t c =
-    let gs = c.args.pages.now in
-    let whole = whole_game gs c.args.whole.now in
-    let option = game_of gs c.args.option.now.page in
-    let side = far_side gs option c.in-Game.lefts.now c.in-Game.rights.now c.chosen-far.result.now c.args.left c.in-Game.ensures.read c.chosen-far.ensures in
-    let never = at_none c.in_ok-first_at_most-in-Game.field-0 _ c.in-None.is c.in_ok-first_at_most-in-Game.ensures.none in
-    let fine = stays_fine c.args.left whole option c.read.ensures.canonical c.requires.less
-    (sym (ap (no_one (λ b. at_most c.args.left b whole)) side.same) ∙ never) in
-    if_ok c.push-in-None.result _ _ c.push-in-None.ensures.items
-    (λ r e. last_covered c.args.left whole option (games_of gs (pages_of c.push-in-None.new.self.items.items))
-    (pushed_one gs c.args.left whole c.args.out.now.items.items c.push-in-None.new.self.items.items
-    c.args.option.now c.requires.out.pages c.requires.option e fine).last)
-
-pub bypass-returns-in-Some-clause-covered : goal.bypass-returns-in-Some-clause-covered
-bypass-returns-in-Some-clause-covered t c =
-    let gs = c.args.pages.now in
-    let option = game_of gs c.args.option.now.page in
-    let h = at_some c.in_ok-first_at_most-in-Game.field-0 _ c.in-Some.answer c.in-Some.is c.in_ok-first_at_most-in-Game.ensures.some in
-    let side = far_side gs option c.in-Game.lefts.now c.in-Game.rights.now c.chosen-far.result.now c.args.left c.in-Game.ensures.read c.chosen-far.ensures in
-    let m = carry (game_of gs c.in-Some.answer) (games_of gs c.chosen-far.result.now) (far c.args.left option) side.same h.1 in
-    if_ok c.bypass_through.result _ _ c.bypass_through.ensures.covered (λ r f. f option m)
+pub bypass-returns-in-Some-clause-done : goal.bypass-returns-in-Some-clause-done
+bypass-returns-in-Some-clause-done t c =
+    let h = MatchOption-at_some _ _ c.in-Some.answer c.in-Some.is c.in_ok-reverser.ensures.some in
+    if_ok c.bypass_through.result _ _ c.bypass_through.ensures.done
+    (λ r d. record { out = d.out; grown = d.grown; covered = λ a same. d.covered a (far_of_same c.args.left _ _ a same h.1) })
 
 -- ---- through an answer
 
@@ -115,54 +48,43 @@ bypass_through-bypass_list-requires t c =
     let there = side.pages in
     search rules
 
-pub bypass_through-returns-in-Number-clause-out : goal.bypass_through-returns-in-Number-clause-out
-bypass_through-returns-in-Number-clause-out t c =
+pub bypass_through-returns-in-Number-clause-done : goal.bypass_through-returns-in-Number-clause-done
+bypass_through-returns-in-Number-clause-done t c =
     let gs = c.args.pages.now in
-    let fine = through_fine c.args.left (whole_game gs c.args.whole.now) (game_of gs c.args.answer) c.in-Number.field-0 c.in-Number.ensures.read
-    c.requires.whole.no_number c.requires.back in
+    let whole = whole_game gs c.args.whole.now in
+    let fine = through_fine c.args.left whole (game_of gs c.args.answer) c.in-Number.field-0 c.in-Number.ensures.read
+    c.requires.known.whole.no_number c.requires.back in
     if_ok c.push.result _ _ c.push.ensures.items
-    (λ r e. more_substitutes gs c.args.left c.args.whole.now c.args.out.now c.push.new.self (alone c.args.answer) c.requires.out c.requires.answer
-    (e ∙ ap (λ z. c.args.out.now.items.items ++ (z ∷ [])) c.alone.ensures) c.push.ensures.passed fine
-    (alone_own c.args.left c.args.whole.now c.args.answer))
+    (λ r e. replaced_by_one gs c.args.left c.args.whole.now c.args.out.now c.push.new.self (alone c.args.answer) _ c.requires.out c.requires.answer
+    (e ∙ ap (λ z. c.args.out.now.items.items ++ (z ∷ [])) c.alone.ensures) c.push.ensures.passed fine (alone_own c.args.left c.args.whole.now c.args.answer)
+    (λ m a k. through_number c.args.left whole (game_of gs c.args.answer) c.in-Number.field-0
+    (games_of gs (pages_of c.push.new.self.items.items)) c.in-Number.ensures.read c.requires.back m a k))
 
-pub bypass_through-returns-in-Number-clause-grown : goal.bypass_through-returns-in-Number-clause-grown
-bypass_through-returns-in-Number-clause-grown t c =
-    let gs = c.args.pages.now in
-    let fine = through_fine c.args.left (whole_game gs c.args.whole.now) (game_of gs c.args.answer) c.in-Number.field-0 c.in-Number.ensures.read
-    c.requires.whole.no_number c.requires.back in
-    if_ok c.push.result _ _ c.push.ensures.items
-    (λ r e. (pushed_one gs c.args.left (whole_game gs c.args.whole.now) c.args.out.now.items.items c.push.new.self.items.items
-    (alone c.args.answer) c.requires.out.pages c.requires.answer
-    (e ∙ ap (λ z. c.args.out.now.items.items ++ (z ∷ [])) c.alone.ensures) fine).grown)
-
-pub bypass_through-returns-in-Number-clause-covered : goal.bypass_through-returns-in-Number-clause-covered
-bypass_through-returns-in-Number-clause-covered t c =
-    let gs = c.args.pages.now in
-    let fine = through_fine c.args.left (whole_game gs c.args.whole.now) (game_of gs c.args.answer) c.in-Number.field-0 c.in-Number.ensures.read
-    c.requires.whole.no_number c.requires.back in
-    if_ok c.push.result _ _ c.push.ensures.items
-    (λ r e. through_number c.args.left (whole_game gs c.args.whole.now) (game_of gs c.args.answer) c.in-Number.field-0
-    (games_of gs (pages_of c.push.new.self.items.items)) c.in-Number.ensures.read c.requires.back
-    (pushed_one gs c.args.left (whole_game gs c.args.whole.now) c.args.out.now.items.items c.push.new.self.items.items
-    (alone c.args.answer) c.requires.out.pages c.requires.answer
-    (e ∙ ap (λ z. c.args.out.now.items.items ++ (z ∷ [])) c.alone.ensures) fine).last)
-
-pub bypass_through-returns-in-Game-clause-covered : goal.bypass_through-returns-in-Game-clause-covered
-bypass_through-returns-in-Game-clause-covered t c =
+pub bypass_through-returns-in-Game-clause-done : goal.bypass_through-returns-in-Game-clause-done
+bypass_through-returns-in-Game-clause-done t c =
     let gs = c.args.pages.now in
     let answer = game_of gs c.args.answer in
     let side = near_side gs answer c.in-Game.lefts.now c.in-Game.rights.now c.chosen-near.result.now c.args.left c.in-Game.ensures.read c.chosen-near.ensures in
-    if_ok c.bypass_list.result _ _ c.bypass_list.ensures.covered
-    (λ r all a m. through_node c.args.left (whole_game gs c.args.whole.now) answer (games_of gs c.chosen-near.result.now)
-    (games_of gs (pages_of c.bypass_list.new.out.items.items)) side.same c.requires.back all a m)
+    if_ok c.bypass_list.result _ _ c.bypass_list.ensures.done
+    (λ r d. record {
+      out = d.out;
+      grown = d.grown;
+      covered = λ a m. through_node c.args.left (whole_game gs c.args.whole.now) answer (games_of gs c.chosen-near.result.now)
+          (games_of gs (pages_of c.bypass_list.new.out.items.items)) side.same c.requires.back (record { each = d.covered }) a m;
+    })
 
 -- ---- once
 
-pub bypass_once-returns-clause-out : goal.bypass_once-returns-clause-out
-bypass_once-returns-clause-out t c =
+pub bypass_once-returns-then-has_passed-clause-done : goal.bypass_once-returns-then-has_passed-clause-done
+bypass_once-returns-then-has_passed-clause-done t c =
+    let there = c.requires.out.passed c.args.option.now.page (c.has_passed.ensures c.if-has_passed.true) in
+    replaced_by_none c.args.pages.now c.args.left c.args.whole.now c.args.out.now (game_of c.args.pages.now c.args.option.now.page) c.requires.out there.1
+
+pub bypass_once-returns-clause-done : goal.bypass_once-returns-clause-done
+bypass_once-returns-clause-done t c =
     always_ok c.pass.result _
-    (passing_substitutes c.args.pages.now c.args.left c.args.whole.now c.bypass.new.out c.pass.new.self c.args.option.now.page
-    c.in_ok-bypass.ensures.out c.requires.option c.in_ok-bypass.ensures.covered c.pass.ensures.items c.pass.ensures.passed)
+    (replaced_and_passed c.args.pages.now c.args.left c.args.whole.now c.args.out.now c.bypass.new.out c.pass.new.self c.args.option.now.page
+    c.in_ok-bypass.ensures.done c.requires.option c.pass.ensures.items c.pass.ensures.passed)
 
 -- ---- a list
 
@@ -184,10 +106,10 @@ bypass_list-loop-option-preserved t c =
     let x = c.alone-candidate.result in
     let at : x.page ≡ get_or c.args.list.now c.loop-option.option-index 0 = ap (λ (z : Candidate). z.page) c.alone-candidate.ensures in
     record {
-      right = c.bypass_once.ensures.right;
-      verdicts = c.bypass_once.ensures.verdicts;
-      out = c.in_ok-bypass_once.ensures.out;
+      known = c.bypass_once.ensures.known;
+      out = c.in_ok-bypass_once.ensures.done.out;
       so_far = bypassed_more gs c.args.left (whole_game gs c.args.whole.now) c.args.list.now (pages_of c.args.out.now.items.items)
           (pages_of c.loop-option.out.items.items) (pages_of c.bypass_once.new.out.items.items) c.loop-option.option-index x.page
-          c.loop-option.invariant.so_far c.loop-option-test.true at c.in_ok-bypass_once.ensures.grown c.in_ok-bypass_once.ensures.covered;
+          c.loop-option.invariant.so_far c.loop-option-test.true at c.in_ok-bypass_once.ensures.done.grown
+          (c.in_ok-bypass_once.ensures.done.covered (game_of gs x.page) refl);
     }

@@ -3,8 +3,7 @@ use Rattle.cg_form.specs.Size.{list_size, size}
 use Rattle.cg_book.specs.Candidates.{pages_of}
 use Rattle.cg_book.specs.Pages.{game_of, games_of}
 use Rattle.cg_book.specs.Passed.{AreSubstitutes}
-use Rattle.cg_book.specs.Recents.{AreRight}
-use Rattle.cg_book.specs.Wholes.{AreVerdicts, whole_game}
+use Rattle.cg_book.specs.Wholes.{AreKnown, whole_game}
 use Rattle.cg_book.proofs.Bypassing.{Bypassed}
 use Rattle.cg_book.proofs.bypass.+bypass.Given as goal
 
@@ -22,8 +21,7 @@ decreases-bypass_list l = 4 * list_size (games_of l.pages.now l.list.now) + 3
 
 abbrev pub invariant-bypass_list-loop-option : goal.invariant-bypass_list-loop-option
 invariant-bypass_list-loop-option l = record {
-  right : AreRight l.pages l.answers;
-  verdicts : AreVerdicts l.pages l.whole l.verdicts;
+  known : AreKnown l.pages l.whole l.answers l.verdicts;
   out : AreSubstitutes l.pages l.left l.whole l.out;
   so_far : Bypassed l.pages l.left (whole_game l.pages l.whole) (take l.option-index l.list) (pages_of l.fn.out.items.items) (pages_of l.out.items.items);
 }

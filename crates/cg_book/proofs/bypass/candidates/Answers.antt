@@ -9,7 +9,7 @@ use Rattle.cg_book.proofs.bypass.candidates.Goals as goal
 pub bypass_once-requires-clause-option : goal.bypass_once-requires-clause-option
 bypass_once-requires-clause-option c =
     page_of_item c.args.pages.now c.own-own-items.result.now c.loop-own.own-index _
-    (whole_pages c.args.pages.now c.args.whole.now c.args.left c.own-own-items.result.now c.requires.whole c.own-own-items.ensures)
+    (whole_pages c.args.pages.now c.args.whole.now c.args.left c.own-own-items.result.now c.requires.known.whole c.own-own-items.ensures)
     c.loop-own-test.true refl
 
 pub bypass_once-requires-clause-less : goal.bypass_once-requires-clause-less
@@ -19,8 +19,7 @@ bypass_once-requires-clause-less c =
 
 pub loop-own-init : goal.loop-own-init
 loop-own-init c = record {
-  right = c.requires.right;
-  verdicts = c.requires.verdicts;
+  known = c.requires.known;
   out = no_substitutes c.args.pages.now c.args.left c.args.whole.now c.new-all.result c.new-all.ensures.items c.new-all.ensures.passed;
   so_far = no_items c.args.pages.now c.args.left (whole_game c.args.pages.now c.args.whole.now) (pages_of c.new-all.result.items.items)
       (ap pages_of c.new-all.ensures.items);
@@ -28,16 +27,16 @@ loop-own-init c = record {
 
 pub loop-own-preserved : goal.loop-own-preserved
 loop-own-preserved c = record {
-  right = c.bypass_once.ensures.right;
-  verdicts = c.bypass_once.ensures.verdicts;
-  out = c.in_ok-bypass_once.ensures.out;
+  known = c.bypass_once.ensures.known;
+  out = c.in_ok-bypass_once.ensures.done.out;
   so_far = bypassed_more c.args.pages.now c.args.left (whole_game c.args.pages.now c.args.whole.now) c.own-own-items.result.now _
       (pages_of c.loop-own.all.items.items) (pages_of c.bypass_once.new.out.items.items) c.loop-own.own-index _
-      c.loop-own.invariant.so_far c.loop-own-test.true refl c.in_ok-bypass_once.ensures.grown c.in_ok-bypass_once.ensures.covered;
+      c.loop-own.invariant.so_far c.loop-own-test.true refl c.in_ok-bypass_once.ensures.done.grown
+      (c.in_ok-bypass_once.ensures.done.covered _ refl);
 }
 
 pub returns-clause-candidates : goal.returns-clause-candidates
 returns-clause-candidates c =
     let out = c.loop-own.invariant.out in
     own_candidates c.args.pages.now (λ _. cond c.args.left c.args.whole.now.lefts.now c.args.whole.now.rights.now) c.loop-own.all.items.items
-    (λ _. c.requires.whole.apart c.args.left) (record { pages = out.pages; own = out.own })
+    (λ _. c.requires.known.whole.apart c.args.left) (record { pages = out.pages; own = out.own })

@@ -1,9 +1,12 @@
 use Rattle.cg_book.proofs.Reducing.{formed, no_verdicts}
 use Rattle.cg_book.proofs.reduce.put_bypassed.Goals as goal
 
-pub put_replaced-requires-clause-verdicts : goal.put_replaced-requires-clause-verdicts
-put_replaced-requires-clause-verdicts c =
-    no_verdicts c.args.pages.now c.args.whole.now c.new-verdicts.result c.new-verdicts.ensures
+pub put_replaced-requires-clause-known : goal.put_replaced-requires-clause-known
+put_replaced-requires-clause-known c = record {
+  whole = c.requires.whole;
+  verdicts = no_verdicts c.args.pages.now c.args.whole.now c.new-verdicts.result c.new-verdicts.ensures;
+  right = c.requires.right;
+}
 
 pub returns-clause-form : goal.returns-clause-form
 returns-clause-form c =

@@ -1,4 +1,6 @@
-use Rattle.std.proofs.Common.{◌≡◌, ◌≤◌, arith, ap, length, refl, rules, sym, take, true, ◌∙◌}
+use Rattle.std.proofs.Common.{◌≡◌, ◌≤◌, arith, ap, false, length, refl, rules, sym, take, ◌∙◌}
+use Rattle.std.specs.Option.{is_some}
+use Rattle.std.specs.Prelude.{IfNone, None, Option, Some}
 use Rattle.cg_form.proofs.Among.{carry}
 use Rattle.cg_book.specs.Pages.{games_of}
 use Rattle.cg_book.specs.Wholes.{whole_game}
@@ -6,25 +8,28 @@ use Rattle.cg_book.proofs.Bypassing.{fine_more, own_less, whole_pages}
 use Rattle.cg_book.proofs.Slices.{games_take_all, page_of_item}
 use Rattle.cg_book.proofs.staying.all_stay.Goals as goal
 
-pub stays-requires-clause-option : goal.stays-requires-clause-option
-stays-requires-clause-option c =
+pub reverser-requires-clause-option : goal.reverser-requires-clause-option
+reverser-requires-clause-option c =
     page_of_item c.args.pages.now c.own-option-items.result.now c.loop-option.option-index _
-    (whole_pages c.args.pages.now c.args.whole.now c.args.left c.own-option-items.result.now c.requires.whole c.own-option-items.ensures)
+    (whole_pages c.args.pages.now c.args.whole.now c.args.left c.own-option-items.result.now c.requires.known.whole c.own-option-items.ensures)
     c.loop-option-test.true refl
 
-pub stays-requires-clause-less : goal.stays-requires-clause-less
-stays-requires-clause-less c =
+pub reverser-requires-clause-less : goal.reverser-requires-clause-less
+reverser-requires-clause-less c =
     own_less c.args.pages.now c.args.whole.now c.args.left c.own-option-items.result.now c.loop-option.option-index _
     c.own-option-items.ensures c.loop-option-test.true refl
 
+at_no_some : {T : Type 0} (o : Option T) (P : Type 0) → is_some o ≡ false → IfNone o P → P
+at_no_some None P e h = h
+at_no_some (Some x) P e h = cc
+
 pub loop-option-preserved : goal.loop-option-preserved
 loop-option-preserved c =
-    let yes : c.in_ok-stays.field-0 ≡ true = search (rules, c.if-not-branch.false) in
+    let no : is_some c.in_ok-reverser.field-0 ≡ false = search (rules, c.if-is_some.false) in
     record {
-      right = c.stays.ensures.right;
-      verdicts = c.stays.ensures.verdicts;
+      known = c.reverser.ensures.known;
       fine = fine_more c.args.pages.now c.args.left (whole_game c.args.pages.now c.args.whole.now) c.own-option-items.result.now c.loop-option.option-index _
-          c.loop-option.invariant.fine c.loop-option-test.true refl (c.in_ok-stays.ensures.fine yes);
+          c.loop-option.invariant.fine c.loop-option-test.true refl (at_no_some c.in_ok-reverser.field-0 _ no c.in_ok-reverser.ensures.none);
     }
 
 pub returns-clause-fine : goal.returns-clause-fine

@@ -1,21 +1,21 @@
 use Rattle.std.proofs.Common.{◌≡◌, false, not, refl, rules, sym, true, ◌∙◌}
+use Rattle.std.proofs.lemmas.Option.{MatchOption-at_none, MatchOption-at_some}
 use Rattle.cg_form.specs.Side.{at_most}
 use Rattle.cg_book.specs.Pages.{game_of, games_of}
 use Rattle.cg_book.specs.Wholes.{whole_game}
-use Rattle.cg_book.proofs.Against.{far_own, hindered, near_side, some_passes, turned_list, unhindered, verdict_more}
-use Rattle.cg_book.proofs.Results.{at_none, at_some}
+use Rattle.cg_book.proofs.Against.{far_own, hindered, known_more, near_side, some_passes, turned_list, unhindered}
 use Rattle.cg_book.proofs.Slices.{item_among, item_size, page_of_item, slice_miss}
 use Rattle.cg_book.proofs.whole.+whole.Goals as goal
 
-pub at_most_whole-returns-in_err-remember-clause-verdicts : goal.at_most_whole-returns-in_err-remember-clause-verdicts
-at_most_whole-returns-in_err-remember-clause-verdicts t c =
-    verdict_more c.args.pages.now c.args.whole.now c.compared_with_whole.new.verdicts c.remember.new.self c.args.left c.args.page
-    c.in_ok-answer.answer c.compared_with_whole.ensures.verdicts c.requires.page c.in_ok-answer.ensures.order c.remember.ensures
+pub at_most_whole-returns-in_err-remember-clause-known : goal.at_most_whole-returns-in_err-remember-clause-known
+at_most_whole-returns-in_err-remember-clause-known t c =
+    known_more c.args.pages.now c.args.whole.now c.compared_with_whole.new.answers c.compared_with_whole.new.verdicts c.remember.new.self c.args.left
+    c.args.page c.in_ok-answer.answer c.compared_with_whole.ensures.known c.requires.page c.in_ok-answer.ensures.order c.remember.ensures
 
-pub at_most_whole-returns-clause-verdicts : goal.at_most_whole-returns-clause-verdicts
-at_most_whole-returns-clause-verdicts t c =
-    verdict_more c.args.pages.now c.args.whole.now c.compared_with_whole.new.verdicts c.remember.new.self c.args.left c.args.page
-    c.in_ok-answer.answer c.compared_with_whole.ensures.verdicts c.requires.page c.in_ok-answer.ensures.order c.remember.ensures
+pub at_most_whole-returns-clause-known : goal.at_most_whole-returns-clause-known
+at_most_whole-returns-clause-known t c =
+    known_more c.args.pages.now c.args.whole.now c.compared_with_whole.new.answers c.compared_with_whole.new.verdicts c.remember.new.self c.args.left
+    c.args.page c.in_ok-answer.answer c.compared_with_whole.ensures.known c.requires.page c.in_ok-answer.ensures.order c.remember.ensures
 
 pub compared_with_whole-first_at_most-requires : goal.compared_with_whole-first_at_most-requires
 compared_with_whole-first_at_most-requires t c =
@@ -37,7 +37,7 @@ compared_with_whole-returns-in-None-clause-order t c =
     let yes : c.in_ok-none_as_good-in-Game.field-0 ≡ true = search (rules, c.if-not-branch.false) in
     let side = near_side c.args.pages.now (game_of c.args.pages.now c.args.page) c.in-Game.lefts.now c.in-Game.rights.now c.chosen-own.result.now c.args.left
     c.in-Game.ensures.read c.chosen-own.ensures in
-    sym (at_none c.in_ok-first_at_most-in-Game.field-0 _ c.in-None.is c.in_ok-first_at_most-in-Game.ensures.none)
+    sym (MatchOption-at_none _ _ c.in-None.is c.in_ok-first_at_most-in-Game.ensures.none)
     ∙ unhindered c.args.left (game_of c.args.pages.now c.args.page) (whole_game c.args.pages.now c.args.whole.now) (games_of c.args.pages.now c.own.result.now)
     (games_of c.args.pages.now c.chosen-own.result.now) c.in_ok-none_as_good-in-Game.field-0
     (far_own c.args.pages.now c.args.whole.now c.args.left c.own.result.now c.own.ensures) side.same
@@ -48,7 +48,7 @@ compared_with_whole-returns-in-Some-clause-order t c =
     let yes : c.in_ok-none_as_good-in-Game.field-0 ≡ true = search (rules, c.if-not-branch.false) in
     let side = near_side c.args.pages.now (game_of c.args.pages.now c.args.page) c.in-Game.lefts.now c.in-Game.rights.now c.chosen-own.result.now c.args.left
     c.in-Game.ensures.read c.chosen-own.ensures in
-    let h = at_some c.in_ok-first_at_most-in-Game.field-0 _ c.in-Some.field-0 c.in-Some.is c.in_ok-first_at_most-in-Game.ensures.some in
+    let h = MatchOption-at_some _ _ c.in-Some.field-0 c.in-Some.is c.in_ok-first_at_most-in-Game.ensures.some in
     sym (some_passes (λ a. at_most (not c.args.left) a (whole_game c.args.pages.now c.args.whole.now)) (game_of c.args.pages.now c.in-Some.field-0)
     (games_of c.args.pages.now c.chosen-own.result.now) h.1 h.2)
     ∙ unhindered c.args.left (game_of c.args.pages.now c.args.page) (whole_game c.args.pages.now c.args.whole.now) (games_of c.args.pages.now c.own.result.now)
@@ -71,8 +71,7 @@ first_at_most-returns-then-branch-clause-some t c = (
 
 pub first_at_most-loop-option-preserved : goal.first_at_most-loop-option-preserved
 first_at_most-loop-option-preserved t c = record {
-  right = c.at_most_whole.ensures.right;
-  verdicts = c.at_most_whole.ensures.verdicts;
+  known = c.at_most_whole.ensures.known;
   none = slice_miss c.args.pages.now (λ a. at_most c.args.left a (whole_game c.args.pages.now c.args.whole.now)) c.args.list.now c.loop-option.option-index _
       c.loop-option-test.true refl c.loop-option.invariant.none (sym c.in_ok-at_most_whole.ensures.order ∙ c.if-branch.false);
 }

@@ -3,8 +3,7 @@ use Rattle.cg_form.specs.Order.{no_one}
 use Rattle.cg_form.specs.Side.{at_most}
 use Rattle.cg_form.specs.Size.{list_size, size}
 use Rattle.cg_book.specs.Pages.{game_of, games_of}
-use Rattle.cg_book.specs.Recents.{AreRight}
-use Rattle.cg_book.specs.Wholes.{AreVerdicts, whole_game}
+use Rattle.cg_book.specs.Wholes.{AreKnown, whole_game}
 use Rattle.cg_book.proofs.whole.+whole.Given as goal
 
 abbrev pub decreases-at_most_whole : goal.decreases-at_most_whole
@@ -18,7 +17,6 @@ decreases-first_at_most l = 3 * list_size (games_of l.pages.now l.list.now) + 2
 
 abbrev pub invariant-first_at_most-loop-option : goal.invariant-first_at_most-loop-option
 invariant-first_at_most-loop-option l = record {
-  right : AreRight l.pages l.answers;
-  verdicts : AreVerdicts l.pages l.whole l.verdicts;
+  known : AreKnown l.pages l.whole l.answers l.verdicts;
   none : no_one (λ a. at_most l.left a (whole_game l.pages l.whole)) (games_of l.pages (take l.option-index l.list)) ≡ true;
 }

@@ -1,7 +1,7 @@
 use Rattle.std.proofs.Common.{ap, arith, length, refl, ◌∙◌}
 use Rattle.cg_book.proofs.Slices.{page_of_item}
 use Rattle.cg_canon.proofs.Booking.{handled_next, handled_none}
-use Rattle.cg_canon.proofs.Pushed.{pushed_count}
+use Rattle.cg_canon.proofs.HandleLists.{pushed_count}
 use Rattle.cg_canon.proofs.book.put_handles.Goals as goal
 
 pub loop-page-init : goal.loop-page-init

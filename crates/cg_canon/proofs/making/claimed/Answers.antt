@@ -8,11 +8,11 @@ use Rattle.cg_canon.proofs.Booking.{book_later}
 use Rattle.cg_canon.proofs.Charging.{canonical_node, cost_of_options, same_node}
 use Rattle.cg_canon.proofs.making.claimed.Goals as goal
 
-pub expected_game-handle-requires-clause-canonical : goal.expected_game-handle-requires-clause-canonical
-expected_game-handle-requires-clause-canonical g c = canonical_node _ _ _ _ c.requires.left_games c.requires.right_games c.requires.canonical
+pub claimed_game-handle-requires-clause-canonical : goal.claimed_game-handle-requires-clause-canonical
+claimed_game-handle-requires-clause-canonical g c = canonical_node _ _ _ _ c.requires.left_games c.requires.right_games c.requires.canonical
 
-pub expected_game-handle-requires-clause-spare : goal.expected_game-handle-requires-clause-spare
-expected_game-handle-requires-clause-spare g c =
+pub claimed_game-handle-requires-clause-spare : goal.claimed_game-handle-requires-clause-spare
+claimed_game-handle-requires-clause-spare g c =
     let cost = cost_of_options (g.S.CellStore.state c.args.store.now) c.args.lefts.now c.args.rights.now _ _ c.args.new.now.profile
     c.requires.left_games c.requires.right_games c.requires.form.profile in
     omega (arith, cost, c.requires.spare)
@@ -20,26 +20,26 @@ expected_game-handle-requires-clause-spare g c =
 pub enter_form-requires : goal.enter_form-requires
 enter_form-requires g c =
     let s = g.S.CellStore.state c.args.store.now in
-    let t = g.S.CellStore.state c.expected_game-handle.new.store in
-    let own = stands_game t c.expected_game-handle.result _ c.expected_game-handle.ensures.game
+    let t = g.S.CellStore.state c.claimed_game-handle.new.store in
+    let own = stands_game t c.claimed_game-handle.result _ c.claimed_game-handle.ensures.game
     ∙ same_node _ _ _ _ c.requires.left_games c.requires.right_games in
     let P : Game → Type 0 = λ z. Canonical z in
     let Q : Game → Type 0 = λ z. IsNewForm c.args.book.now.pages z c.args.new.now in
     record {
-      holds = book_later s t c.args.book.now c.expected_game-handle.ensures.spends.2.known c.requires.holds;
-      game = stands_is_game t c.expected_game-handle.result _ c.expected_game-handle.ensures.game;
+      holds = book_later s t c.args.book.now c.claimed_game-handle.ensures.spends.2.known c.requires.holds;
+      game = stands_is_game t c.claimed_game-handle.result _ c.claimed_game-handle.ensures.game;
       canonical = subst P (sym own) c.requires.canonical;
       form = subst Q (sym own) c.requires.form;
     }
 
 pub returns-clause-game : goal.returns-clause-game
 returns-clause-game g c =
-    let P : Game → Type 0 = λ z. StandsFor (g.S.CellStore.state c.expected_game-handle.new.store) c.expected_game-handle.result z in
-    subst P (same_node _ _ _ _ c.requires.left_games c.requires.right_games) c.expected_game-handle.ensures.game
+    let P : Game → Type 0 = λ z. StandsFor (g.S.CellStore.state c.claimed_game-handle.new.store) c.claimed_game-handle.result z in
+    subst P (same_node _ _ _ _ c.requires.left_games c.requires.right_games) c.claimed_game-handle.ensures.game
 
 pub returns-clause-spends : goal.returns-clause-spends
 returns-clause-spends g c =
     let cost = cost_of_options (g.S.CellStore.state c.args.store.now) c.args.lefts.now c.args.rights.now _ _ c.args.new.now.profile
     c.requires.left_games c.requires.right_games c.requires.form.profile in
-    let spends = c.expected_game-handle.ensures.spends in
+    let spends = c.claimed_game-handle.ensures.spends in
     (spends.0, omega (arith, cost, spends.1), spends.2)

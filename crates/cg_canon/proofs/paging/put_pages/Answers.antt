@@ -1,7 +1,7 @@
 use Rattle.std.proofs.Common.{ap, arith, length, ◌∙◌}
 use Rattle.cg_nodes.proofs.Later.{nothing_spent, spends_then}
 use Rattle.cg_canon.proofs.Booking.{begins_none, begins_then}
-use Rattle.cg_canon.proofs.Pushed.{pushed_count}
+use Rattle.cg_canon.proofs.HandleLists.{pushed_count}
 use Rattle.cg_canon.proofs.Turning.{next_game, paged_next, paged_nothing}
 use Rattle.cg_canon.proofs.paging.put_pages.Goals as goal
 

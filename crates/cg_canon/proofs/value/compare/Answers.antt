@@ -4,7 +4,7 @@ use Rattle.cg_nodes.specs.Games.{game_at}
 use Rattle.cg_nodes.proofs.Later.{game_later}
 use Rattle.cg_book.specs.Pages.{game_of}
 use Rattle.cg_canon.proofs.Booking.{game_begins, holds_answers}
-use Rattle.cg_canon.proofs.Results.{if_ok}
+use Rattle.cg_book.proofs.Results.{if_ok}
 use Rattle.cg_canon.proofs.value.compare.Goals as goal
 
 pub returns-clause-holds : goal.returns-clause-holds

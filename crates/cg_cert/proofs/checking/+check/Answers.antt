@@ -31,45 +31,31 @@ check_proof-loop-next-init g t c =
     checking_all s u (stage_at s m) (drop c.args.at c.args.bytes.now) (drop c.in-Some.start c.args.bytes.now) all
     (sym c.both_numbers.ensures.numbers ∙ c.if-both_numbers.false)
     (spends_then 0 0 s (W c.both_numbers.new.work) u c.both_numbers.ensures.spends c.moves.ensures.spends)
-    (subst A (sym c.as_slice-rest.ensures.value) c.in_ok-all.ensures.are)
-    (ap (stages_at u) c.as_slice-rest.ensures.value ∙ c.in_ok-all.ensures.games ∙ ap moves same)
+    (subst A (sym c.as_slice-rest.ensures.value) c.in_ok-all.ensures.listed.0)
+    (ap (stages_at u) c.as_slice-rest.ensures.value ∙ c.in_ok-all.ensures.listed.1 ∙ ap moves same)
     c.in-Some.ensures.reads
 
 pub check_proof-returns-in-None-clause-reads : goal.check_proof-returns-in-None-clause-reads
 check_proof-returns-in-None-clause-reads g t c =
-    let W = work_state g.S.CellStore.state in
-    let s = W c.args.work.now in
-    let v = W c.loop-next.work in
     let p = c.in-Some-split_first.next.now in
-    let now = drop c.loop-next.here c.args.bytes.now in
-    let P : Option ℕ → Type 0 =
-    λ z. Reads (AreAnswerTexts (stage_at v p ∷ [])) now (option_map (λ end. drop end c.args.bytes.now) z) in
-    checking_stop s v (W c.check_reply.new.work) (stage_at s c.args.stage.now) (drop c.args.at c.args.bytes.now) now
-    c.loop-next.rest.now c.in-Some-split_first.others.now p c.loop-next.invariant c.in-Some-split_first.ensures.cases.0
-    c.check_reply.ensures.spends (subst P c.in-None.is c.in_ok-check_reply.ensures.reads)
+    checking_stop _ _ _ _ _ _ _ c.in-Some-split_first.others.now p c.loop-next.invariant c.in-Some-split_first.ensures.cases.0
+    c.check_reply.ensures.spends
+    (subst (λ (z : Option ℕ). Reads (AreAnswerTexts (stage_at (work_state g.S.CellStore.state c.loop-next.work) p ∷ []))
+    (drop c.loop-next.here c.args.bytes.now) (option_map (λ end. drop end c.args.bytes.now) z)) c.in-None.is
+    c.in_ok-check_reply.ensures.reads)
 
 pub check_proof-loop-next-preserved : goal.check_proof-loop-next-preserved
 check_proof-loop-next-preserved g t c =
-    let W = work_state g.S.CellStore.state in
-    let s = W c.args.work.now in
-    let v = W c.loop-next.work in
     let p = c.in-Some-split_first.next.now in
-    let now = drop c.loop-next.here c.args.bytes.now in
-    let P : Option ℕ → Type 0 =
-    λ z. Reads (AreAnswerTexts (stage_at v p ∷ [])) now (option_map (λ end. drop end c.args.bytes.now) z) in
-    checking_more s v (W c.check_reply.new.work) (stage_at s c.args.stage.now) (drop c.args.at c.args.bytes.now) now
-    c.loop-next.rest.now c.in-Some-split_first.others.now p c.loop-next.invariant c.in-Some-split_first.ensures.cases.0
+    checking_more _ _ _ _ _ _ _ c.in-Some-split_first.others.now p c.loop-next.invariant c.in-Some-split_first.ensures.cases.0
     c.check_reply.ensures.spends (drop c.in-Some-2.end c.args.bytes.now)
-    (subst P c.in-Some-2.is c.in_ok-check_reply.ensures.reads)
+    (subst (λ (z : Option ℕ). Reads (AreAnswerTexts (stage_at (work_state g.S.CellStore.state c.loop-next.work) p ∷ []))
+    (drop c.loop-next.here c.args.bytes.now) (option_map (λ end. drop end c.args.bytes.now) z)) c.in-Some-2.is
+    c.in_ok-check_reply.ensures.reads)
 
 pub check_proof-returns-clause-reads : goal.check_proof-returns-clause-reads
 check_proof-returns-clause-reads g t c =
-    let W = work_state g.S.CellStore.state in
-    let s = W c.args.work.now in
-    checking_end s (W c.loop-next.work) (stage_at s c.args.stage.now) (drop c.args.at c.args.bytes.now)
-    (drop c.loop-next.here c.args.bytes.now) c.loop-next.rest.now
-    (option_map (λ end. drop end c.args.bytes.now) c.after-2.result) c.loop-next.invariant
-    c.in_default-split_first.ensures.cases c.after-2.ensures.reads
+    checking_end _ _ _ _ _ _ _ c.loop-next.invariant c.in_default-split_first.ensures.cases c.after-2.ensures.reads
 
 pub check_reply-returns-in_default-clause-reads : goal.check_reply-returns-in_default-clause-reads
 check_reply-returns-in_default-clause-reads g t c =

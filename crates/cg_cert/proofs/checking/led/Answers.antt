@@ -18,8 +18,8 @@ returns-clause-led g c =
     leads_to s (W c.options.new.work) b c.args.stage.now all.items c.len.result (record {
       stage = c.requires;
       spends = c.options.ensures.spends;
-      are = c.in_ok-all.ensures.are;
-      games = c.in_ok-all.ensures.games ∙ ap (λ z. near b (position_at s z)) c.moved.ensures;
+      are = c.in_ok-all.ensures.listed.0;
+      games = c.in_ok-all.ensures.listed.1 ∙ ap (λ z. near b (position_at s z)) c.moved.ensures;
       count_is = count_is;
       small = small;
     }) c.args.digits.now c.in-Some.place c.index.result.now c.kept.result c.staged.result

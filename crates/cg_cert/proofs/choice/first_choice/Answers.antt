@@ -1,34 +1,39 @@
 use Rattle.std.proofs.Common.{sym, ap, ◌∙◌, subst, List}
-use Rattle.std.proofs.lemmas.Result.{IfOk-weaker}
-use Rattle.cg_form.specs.Side.{near}
+use Rattle.cg_form.specs.Side.{at_most, near}
 use Rattle.cg_canon.specs.Works.{work_state}
 use Rattle.cg_cert.specs.declared.position.Position.{Position}
-use Rattle.cg_cert.specs.Positions.{ArePositions, IsChoice, position_at, positions_at}
-use Rattle.cg_cert.proofs.Choosing.{choice_along}
-use Rattle.cg_cert.proofs.Listing.{is_position_later, position_later}
+use Rattle.cg_cert.specs.Positions.{ArePositions, position_at, positions_at}
+use Rattle.cg_cert.proofs.Choosing.{searched_all, searched_found, searched_more, searched_none, tested}
 use Rattle.cg_cert.proofs.choice.first_choice.Goals as goal
 
-pub first_of-requires-clause-options : goal.first_of-requires-clause-options
-first_of-requires-clause-options g c =
-    let P : List Position → Type 0 = λ z. ArePositions (work_state g.S.CellStore.state c.options.new.work) z in
-    subst P (sym c.deref.ensures.value) c.in_ok-all.ensures.are
-
-pub first_of-requires-clause-other : goal.first_of-requires-clause-other
-first_of-requires-clause-other g c =
+pub loop-option-init : goal.loop-option-init
+loop-option-init g c =
     let W = work_state g.S.CellStore.state in
-    is_position_later (W c.args.work.now) (W c.options.new.work) c.options.ensures.spends c.args.other.now c.requires.other
+    let s = W c.args.work.now in
+    let t = W c.options.new.work in
+    let P : List Position → Type 0 = λ z. ArePositions t z in
+    searched_none s t (at_most c.args.left (position_at s c.args.other.now)) (near c.args.left (position_at s c.args.game.now))
+    c.as_slice-rest.result.now c.options.ensures.spends
+    (subst P (sym c.as_slice-rest.ensures.value) c.in_ok-all.ensures.listed.0)
+    (ap (positions_at t) c.as_slice-rest.ensures.value ∙ c.in_ok-all.ensures.listed.1)
+
+pub loop-option-preserved : goal.loop-option-preserved
+loop-option-preserved g c =
+    searched_more _ _ _ c.args.left
+    (position_at (work_state g.S.CellStore.state c.args.work.now) c.args.other.now) _ _ c.in-Some.others.now c.in-Some.option.now _ _ c.loop-option.invariant
+    c.in-Some.ensures.cases.0 c.no_better.ensures.spends
+    (tested _ _ c.args.left _ _ c.args.other.now c.in-Some.option.now c.loop-option.invariant.spends c.requires.other
+    c.in_ok-no_better.ensures.order c.if-branch.false)
+
+pub returns-then-branch-clause-choice : goal.returns-then-branch-clause-choice
+returns-then-branch-clause-choice g c =
+    searched_found _ _ _ c.args.left
+    (position_at (work_state g.S.CellStore.state c.args.work.now) c.args.other.now) _ _ c.in-Some.others.now c.in-Some.option.now _ _ c.loop-option.invariant
+    c.in-Some.ensures.cases.0 c.no_better.ensures.spends
+    (tested _ _ c.args.left _ _ c.args.other.now c.in-Some.option.now c.loop-option.invariant.spends c.requires.other
+    c.in_ok-no_better.ensures.order c.if-branch.true)
 
 pub returns-clause-choice : goal.returns-clause-choice
 returns-clause-choice g c =
-    let W = work_state g.S.CellStore.state in
-    let t = W c.options.new.work in
-    let u = W c.first_of.new.work in
-    let x = position_at (W c.args.work.now) c.args.other.now in
-    let y = position_at t c.args.other.now in
-    let gs = positions_at t c.deref.result.now in
-    let hs = near c.args.left (position_at (W c.args.work.now) c.args.game.now) in
-    IfOk-weaker c.first_of.result (λ r. IsChoice u c.args.left gs y r) (λ r. IsChoice u c.args.left hs x r)
-    (λ r h. choice_along u c.args.left gs hs y x r
-    (ap (positions_at t) c.deref.ensures.value ∙ c.in_ok-all.ensures.games)
-    (position_later (W c.args.work.now) t c.options.ensures.spends c.args.other.now c.requires.other) h)
-    c.first_of.ensures.choice
+    searched_all _ _ c.args.left
+    (position_at (work_state g.S.CellStore.state c.args.work.now) c.args.other.now) _ _ _ _ c.loop-option.invariant c.in_default.ensures.cases

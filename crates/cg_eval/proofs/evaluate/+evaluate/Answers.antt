@@ -16,12 +16,9 @@ use Rattle.cg_eval.specs.Progress.{Evaluates, EvaluatesAll, Finds}
 use Rattle.cg_eval.specs.declared.fault.NoValue.TheVariants.{Refused}
 use Rattle.cg_eval.specs.Items.{all_items, further_items, items, term_part}
 use Rattle.cg_canon.specs.SumItems.{sum_items}
-use Rattle.cg_sum.specs.Lists.{negative_items, multiple_items}
-use Rattle.cg_form.specs.Game.{node}
-use Rattle.cg_form.specs.Multiple.{multiple as many}
 use Rattle.cg_form.specs.Sum.{sum as plus, negative as minus}
 use Rattle.cg_nodes.specs.Can.{can}
-use Rattle.cg_nodes.specs.Games.{AreGames, game_at, games_at}
+use Rattle.cg_nodes.specs.Games.{AreGames, game_at}
 use Rattle.cg_nodes.proofs.Later.{are_games_later, is_game_later, stands_is_game}
 use Rattle.cg_canon.specs.Items.{made}
 use Rattle.std.proofs.lemmas.List.{nil_from_length}
@@ -32,7 +29,7 @@ use Rattle.cg_eval.proofs.ListSteps.{adds, all_made-all, all_made-none, all_made
 use Rattle.cg_eval.proofs.ListSteps.{first_and_rest, first_size, first_term_stopped, no_terms_find, sum_of_terms}
 use Rattle.cg_eval.proofs.Expressions.{added_gives, braces_gives, left_stopped, multiple_gives, multiple_stopped, negative_gives, negative_stopped}
 use Rattle.cg_eval.proofs.Expressions.{right_stopped, signed_stopped, subtracted_gives, sum_gives, used_gives}
-use Rattle.cg_eval.proofs.Steps.{gives_from, lacks_front, passed_on, stops_memory}
+use Rattle.cg_eval.proofs.Steps.{lacks_front, passed_on, stops_memory}
 use Rattle.cg_eval.proofs.evaluate.+evaluate.Goals as goal
 
 -- ---- evaluate
@@ -254,20 +251,13 @@ pub braces-returns : goal.braces-returns
 braces-returns g t c =
     let hs = c.deref.result.now in
     let ks = c.deref-2.result.now in
-    let game = node (games_at (work_state g.S.CellStore.state c.evaluate_all-2.new.work) hs) (games_at
-    (work_state g.S.CellStore.state c.evaluate_all-2.new.work) ks) in
-    let step = gives_from (work_state g.S.CellStore.state c.evaluate_all-2.new.work)
-    (work_state g.S.CellStore.state c.canonical.new.work) (made (can game) 0 ∷ [])
-    (can game) game c.canonical.result refl
-    c.canonical.ensures.game c.canonical.ensures.charged c.canonical.ensures.refused c.canonical.ensures.more
-    c.canonical.ensures.keeps in
     braces_gives (work_state g.S.CellStore.state c.args.work.now)
     (work_state g.S.CellStore.state c.evaluate_all.new.work)
     (work_state g.S.CellStore.state c.evaluate_all-2.new.work)
     (work_state g.S.CellStore.state c.canonical.new.work) (trees_from (trees_in c.args.lefts.now)) (trees_from
     (trees_in c.args.rights.now)) c.in_ok-left_handles.left_handles.items hs
     c.in_ok-right_handles.right_handles.items ks c.canonical.result c.widen.result c.widen.ensures
-    c.in_ok-left_handles.ensures c.in_ok-right_handles.ensures c.deref.ensures.value c.deref-2.ensures.value step
+    c.in_ok-left_handles.ensures c.in_ok-right_handles.ensures c.deref.ensures.value c.deref-2.ensures.value c.canonical.ensures.gives
 
 -- ---- minus and times
 
@@ -286,16 +276,9 @@ minus-returns-in_err-value g t c =
 
 pub minus-returns : goal.minus-returns
 minus-returns g t c =
-    let g0 = game_at (work_state g.S.CellStore.state c.evaluate.new.work) c.in_ok-value.value in
-    let step = gives_from (work_state g.S.CellStore.state c.evaluate.new.work)
-    (work_state g.S.CellStore.state c.negative.new.work) (negative_items
-    (work_state g.S.CellStore.state c.evaluate.new.work).rest.limit g0) (can (minus g0))
-    (minus g0) c.negative.result refl
-    c.negative.ensures.game c.negative.ensures.charged c.negative.ensures.refused c.negative.ensures.spare
-    c.negative.ensures.keeps in
     negative_gives (work_state g.S.CellStore.state c.args.work.now)
     (work_state g.S.CellStore.state c.evaluate.new.work) (work_state g.S.CellStore.state c.negative.new.work)
-    (tree_of c.args.expr.now) c.in_ok-value.value c.negative.result c.widen.result c.widen.ensures c.in_ok-value.ensures step
+    (tree_of c.args.expr.now) c.in_ok-value.value c.negative.result c.widen.result c.widen.ensures c.in_ok-value.ensures c.negative.ensures
 
 pub times-multiple-requires : goal.times-multiple-requires
 times-multiple-requires g t c =
@@ -312,17 +295,10 @@ times-returns-in_err-value g t c =
 
 pub times-returns : goal.times-returns
 times-returns g t c =
-    let g0 = game_at (work_state g.S.CellStore.state c.evaluate.new.work) c.in_ok-value.value in
-    let step = gives_from (work_state g.S.CellStore.state c.evaluate.new.work)
-    (work_state g.S.CellStore.state c.multiple.new.work) (multiple_items
-    (work_state g.S.CellStore.state c.evaluate.new.work).rest.limit c.args.count g0) (can
-    (many c.args.count g0)) (many c.args.count g0) c.multiple.result refl
-    c.multiple.ensures.game c.multiple.ensures.charged c.multiple.ensures.refused c.multiple.ensures.spare
-    c.multiple.ensures.keeps in
     multiple_gives (work_state g.S.CellStore.state c.args.work.now)
     (work_state g.S.CellStore.state c.evaluate.new.work)
     (work_state g.S.CellStore.state c.multiple.new.work) c.args.count
-    (tree_of c.args.expr.now) c.in_ok-value.value c.multiple.result c.widen.result c.widen.ensures c.in_ok-value.ensures step
+    (tree_of c.args.expr.now) c.in_ok-value.value c.multiple.result c.widen.result c.widen.ensures c.in_ok-value.ensures c.multiple.ensures
 
 -- ---- total
 
@@ -448,13 +424,6 @@ signed-returns-in_err-value g t c =
 
 pub signed-returns-then-subtracted : goal.signed-returns-then-subtracted
 signed-returns-then-subtracted g t c =
-    let g0 = game_at (work_state g.S.CellStore.state c.evaluate.new.work) c.in_ok-value.value in
-    let step = gives_from (work_state g.S.CellStore.state c.evaluate.new.work)
-    (work_state g.S.CellStore.state c.negative.new.work) (negative_items
-    (work_state g.S.CellStore.state c.evaluate.new.work).rest.limit g0) (can (minus g0))
-    (minus g0) c.negative.result refl
-    c.negative.ensures.game c.negative.ensures.charged c.negative.ensures.refused c.negative.ensures.spare
-    c.negative.ensures.keeps in
     let P : Bool → Type 0 = λ b. Finds (work_state g.S.CellStore.state c.args.work.now)
     (work_state g.S.CellStore.state c.negative.new.work) (fault_in (tree_of c.args.expr.now)) (term_part
     (work_state g.S.CellStore.state c.args.work.now).rest.limit b (tree_of c.args.expr.now)) (signed b (meaning
@@ -462,7 +431,7 @@ signed-returns-then-subtracted g t c =
     subst P (sym c.if-subtracted.true) (subtracted_gives (work_state g.S.CellStore.state c.args.work.now)
     (work_state g.S.CellStore.state c.evaluate.new.work) (work_state g.S.CellStore.state c.negative.new.work)
     (tree_of c.args.expr.now) c.in_ok-value.value c.negative.result c.widen.result c.widen.ensures c.in_ok-value.ensures
-    step)
+    c.negative.ensures)
 
 pub signed-returns-else-subtracted : goal.signed-returns-else-subtracted
 signed-returns-else-subtracted g t c =
@@ -500,15 +469,8 @@ added-returns-in_err-value g t c =
 
 pub added-returns : goal.added-returns
 added-returns g t c =
-    let g0 = game_at (work_state g.S.CellStore.state c.signed.new.work) c.args.so_far in
-    let h0 = game_at (work_state g.S.CellStore.state c.signed.new.work) c.in_ok-value.value in
-    let step = gives_from (work_state g.S.CellStore.state c.signed.new.work)
-    (work_state g.S.CellStore.state c.sum.new.work) (sum_items
-    (work_state g.S.CellStore.state c.signed.new.work).rest.limit g0 h0) (can (plus g0 h0))
-    (plus g0 h0) c.sum.result refl
-    c.sum.ensures.game c.sum.ensures.charged c.sum.ensures.refused c.sum.ensures.spare c.sum.ensures.keeps in
     sum_gives (work_state g.S.CellStore.state c.args.work.now) (work_state g.S.CellStore.state c.signed.new.work)
     (work_state g.S.CellStore.state c.sum.new.work) (signed c.args.subtracted (meaning
     (tree_of c.args.expr.now))) (fault_in (tree_of c.args.expr.now)) (term_part
     (work_state g.S.CellStore.state c.args.work.now).rest.limit c.args.subtracted (tree_of c.args.expr.now)) c.args.so_far
-    c.in_ok-value.value c.sum.result c.widen.result c.widen.ensures c.requires c.in_ok-value.ensures step
+    c.in_ok-value.value c.sum.result c.widen.result c.widen.ensures c.requires c.in_ok-value.ensures c.sum.ensures

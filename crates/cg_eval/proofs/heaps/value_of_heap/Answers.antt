@@ -37,4 +37,4 @@ returns g c =
     (omega (arith, c.if-limit-count.false, c.limit-limit.ensures, c.heap-count.ensures.value))
     c.in_ok-number.ensures.within c.in_ok-number.ensures.value
     (gives_from s t (form_items s.rest.limit form) form form c.nimber.result (sym (can-fixed form (nimber-canonical k)))
-    c.nimber.ensures.game c.nimber.ensures.charged c.nimber.ensures.refused c.nimber.ensures.more c.nimber.ensures.keeps)
+    c.nimber.ensures)

@@ -10,5 +10,4 @@ returns g c =
     (work_state g.S.CellStore.state c.number_item.new.work) c.args.below c.args.num c.args.den o
     c.number_item.result c.widen.result c.widen.ensures
     (literal-is c.args.below c.args.num c.args.den o c.from_digits.ensures)
-    c.number_item.ensures.game c.number_item.ensures.charged c.number_item.ensures.refused c.number_item.ensures.more
-    c.number_item.ensures.keeps
+    c.number_item.ensures.game c.number_item.ensures.made c.number_item.ensures.more

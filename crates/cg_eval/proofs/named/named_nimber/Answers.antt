@@ -16,5 +16,4 @@ returns g c =
     nimber_gives s t c.args.count c.nimber.result c.widen.result c.widen.ensures
     (gives_from s t (form_items s.rest.limit form) form form c.nimber.result (sym (can-fixed form
     (nimber-canonical c.args.count)))
-    c.nimber.ensures.game c.nimber.ensures.charged c.nimber.ensures.refused c.nimber.ensures.more
-    c.nimber.ensures.keeps)
+    c.nimber.ensures)

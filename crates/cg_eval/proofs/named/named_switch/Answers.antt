@@ -14,4 +14,5 @@ returns g c =
     switch_gives (work_state g.S.CellStore.state c.args.work.now)
     (work_state g.S.CellStore.state c.switch.new.work) c.args.num c.args.den o c.switch.result c.widen.result c.widen.ensures
     (literal-is false c.args.num c.args.den o c.from_digits.ensures)
-    c.switch.ensures.game c.switch.ensures.charged c.switch.ensures.refused c.switch.ensures.more c.switch.ensures.keeps
+    c.switch.ensures.game c.switch.ensures.made
+    c.switch.ensures.more

@@ -14,4 +14,5 @@ returns g c =
     tiny_gives (work_state g.S.CellStore.state c.args.work.now)
     (work_state g.S.CellStore.state c.tiny.new.work) c.args.miny c.args.num c.args.den o c.tiny.result c.widen.result c.widen.ensures
     (literal-is false c.args.num c.args.den o c.from_digits.ensures)
-    c.tiny.ensures.game c.tiny.ensures.charged c.tiny.ensures.refused c.tiny.ensures.more c.tiny.ensures.keeps
+    c.tiny.ensures.game c.tiny.ensures.made
+    c.tiny.ensures.more

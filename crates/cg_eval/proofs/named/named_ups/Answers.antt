@@ -16,4 +16,4 @@ returns g c =
     ups_gives s t c.args.down c.args.count c.ups.result c.widen.result c.widen.ensures
     (gives_from s t (form_items s.rest.limit form) form form c.ups.result (sym (can-fixed form
     (ups-canonical c.args.down false c.args.count)))
-    c.ups.ensures.game c.ups.ensures.charged c.ups.ensures.refused c.ups.ensures.more c.ups.ensures.keeps)
+    c.ups.ensures)

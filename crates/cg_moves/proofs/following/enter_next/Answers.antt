@@ -4,7 +4,7 @@ use Rattle.cg_moves.specs.declared.task.Task.TheVariants.{Enter}
 use Rattle.cg_moves.specs.Plays.{parts_of}
 use Rattle.cg_moves.proofs.Carried.{if_ok}
 use Rattle.cg_moves.proofs.FollowLemmas.{alike-less, both-counts, both-tasks}
-use Rattle.cg_moves.proofs.Members.{in-append_left, in-append_right}
+use Rattle.cg_form.proofs.Firsts.{in-append_left, in-append_right}
 use Rattle.cg_moves.proofs.following.enter_next.Goals as goal
 
 pub enter_followers-requires-clause-has : goal.enter_followers-requires-clause-has

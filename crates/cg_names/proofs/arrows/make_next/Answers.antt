@@ -22,16 +22,10 @@ make-requires-else-has_two-clause-canonical g c =
 
 pub returns-then-has_two : goal.returns-then-has_two
 returns-then-has_two g c =
-    let e = two_made (work_state g.S.CellStore.state c.args.work.now) c.args.down c.args.starred c.args.level c.args.zero c.args.last c.requires.zero
-    c.requires.last (sym c.has_two.ensures ∙ c.if-has_two.true) in
-    record { game = c.make.ensures.game _ e; made = c.make.ensures.made _ e; more = c.make.ensures.more }
+    c.make.ensures _ (two_made (work_state g.S.CellStore.state c.args.work.now) c.args.down c.args.starred c.args.level
+    c.args.zero c.args.last c.requires.zero c.requires.last (sym c.has_two.ensures ∙ c.if-has_two.true))
 
 pub returns-else-has_two : goal.returns-else-has_two
 returns-else-has_two g c =
-    let e = one_made (work_state g.S.CellStore.state c.args.work.now) c.args.down c.args.starred c.args.level c.args.zero c.args.last c.requires.zero
-    c.requires.last (sym c.has_two.ensures ∙ c.if-has_two.false) in
-    record {
-      game = c.make-else-has_two.ensures.game _ e;
-      made = c.make-else-has_two.ensures.made _ e;
-      more = c.make-else-has_two.ensures.more;
-    }
+    c.make-else-has_two.ensures _ (one_made (work_state g.S.CellStore.state c.args.work.now) c.args.down c.args.starred
+    c.args.level c.args.zero c.args.last c.requires.zero c.requires.last (sym c.has_two.ensures ∙ c.if-has_two.false))

@@ -11,8 +11,5 @@ make-requires-clause-canonical g c =
     let P : Game → Type 0 = λ z. Canonical z in
     subst P (sym (star_made (work_state g.S.CellStore.state c.args.work.now) c.args.zero c.requires)) star_canonical
 
-pub returns-clause-game : goal.returns-clause-game
-returns-clause-game g c = c.make.ensures.game _ (star_made (work_state g.S.CellStore.state c.args.work.now) c.args.zero c.requires)
-
-pub returns-clause-made : goal.returns-clause-made
-returns-clause-made g c = c.make.ensures.made _ (star_made (work_state g.S.CellStore.state c.args.work.now) c.args.zero c.requires)
+pub returns : goal.returns
+returns g c = c.make.ensures _ (star_made (work_state g.S.CellStore.state c.args.work.now) c.args.zero c.requires)

@@ -1,46 +1,49 @@
 use Rattle.std.proofs.Common.{refl, add-one, ap, ◌∙◌, Err, arith}
 use Rattle.std.proofs.lemmas.Result.{err_from_is_err_and}
 use Rattle.cg_canon.specs.Works.{work_state}
+use Rattle.cg_names.proofs.Steps.{given_game}
 use Rattle.cg_names.proofs.UpSteps.{last_before, ups_done, ups_first_refused, ups_next, ups_refused, ups_star_refused, ups_start}
 use Rattle.cg_names.proofs.arrows.make_ups.Goals as goal
 
-pub returns-in_err-zero-clause-made : goal.returns-in_err-zero-clause-made
-returns-in_err-zero-clause-made g c =
+pub returns-in_err-zero : goal.returns-in_err-zero
+returns-in_err-zero g c =
     let p = err_from_is_err_and c.from_residual.result c.from_residual.ensures.1 in
-    ups_first_refused _ _ _ _ _ _ _ c.in_err-zero.was (p.1 ∙ ap Err p.2) c.make_zero.ensures.made
+    ups_first_refused _ _ _ _ _ _ _ c.in_err-zero.was (p.1 ∙ ap Err p.2) c.make_zero.ensures
 
-pub returns-in_err-last-clause-made : goal.returns-in_err-last-clause-made
-returns-in_err-last-clause-made g c =
+pub returns-in_err-last : goal.returns-in_err-last
+returns-in_err-last g c =
     let p = err_from_is_err_and c.from_residual-in_err-last.result c.from_residual-in_err-last.ensures.1 in
-    ups_star_refused _ _ _ _ _ _ _ c.in_ok-zero.was c.make_zero.ensures.made _ c.make_star.ensures.made _ _
+    ups_star_refused _ _ _ _ _ _ _ c.in_ok-zero.was c.make_zero.ensures _ c.make_star.ensures _ _
     c.in_err-last.was (p.1 ∙ ap Err p.2)
 
 pub loop-level-init : goal.loop-level-init
 loop-level-init g c =
-    ups_start _ _ _ _ _ _ _ c.in_ok-zero.was c.make_zero.ensures.made _ c.make_star.ensures.made _ _ c.in_ok-last.was
-    c.in_ok-zero.ensures.game c.in_ok-last.ensures.game c.make_zero.ensures.more c.make_star.ensures.more refl
+    ups_start _ _ _ _ _ _ _ c.in_ok-zero.was c.make_zero.ensures _ c.make_star.ensures _ _ c.in_ok-last.was
+    refl
+
+pub make_star-requires : goal.make_star-requires
+make_star-requires g c = given_game _ _ _ _ _ _ c.in_ok-zero.was c.make_zero.ensures
 
 pub make_next-requires-clause-zero : goal.make_next-requires-clause-zero
 make_next-requires-clause-zero g c = c.loop-level.invariant.zero_stands
 
 pub make_next-requires-clause-last : goal.make_next-requires-clause-last
 make_next-requires-clause-last g c =
-    last_before (work_state g.S.CellStore.state c.loop-level.work) _ _ c.loop-level.last _ c.loop-level.invariant.last_stands
+    last_before (work_state g.S.CellStore.state c.loop-level.work) _ _ c.loop-level.last _ c.loop-level.invariant.given.game
 
-pub returns-in_err-last-2-clause-made : goal.returns-in_err-last-2-clause-made
-returns-in_err-last-2-clause-made g c =
+pub returns-in_err-last-2 : goal.returns-in_err-last-2
+returns-in_err-last-2 g c =
     let p = err_from_is_err_and c.from_residual-in_err-last-2.result c.from_residual-in_err-last-2.ensures.1 in
-    ups_refused _ _ _ _ _ _ _ _ _ c.loop-level.invariant _ c.make_next.ensures.made c.loop-level-test.true _ _
+    ups_refused _ _ _ _ _ _ _ _ _ c.loop-level.invariant _ c.make_next.ensures c.loop-level-test.true _ _
     c.in_err-last-2.was (p.1 ∙ ap Err p.2)
 
 pub loop-level-preserved : goal.loop-level-preserved
 loop-level-preserved g c =
-    ups_next _ _ _ _ _ _ _ _ _ c.loop-level.invariant c.make_next.result c.make_next.ensures.made
-    c.loop-level-test.true _ _ c.in_ok-last-2.was c.in_ok-last-2.ensures.game c.make_next.ensures.more
+    ups_next _ _ _ _ _ _ _ _ _ c.loop-level.invariant c.make_next.result c.make_next.ensures
+    c.loop-level-test.true _ _ c.in_ok-last-2.was
     (add-one c.loop-level.level)
 
 pub returns : goal.returns
 returns g c =
-    let done = ups_done _ _ _ _ _ _ _ _ c.loop-level.invariant
-    (omega (arith, c.loop-level-test.false, c.loop-level.auto.level-end)) c.requires in
-    record { game = done.0; made = done.1; more = c.loop-level.invariant.more }
+    ups_done _ _ _ _ _ _ _ _ c.loop-level.invariant
+    (omega (arith, c.loop-level-test.false, c.loop-level.auto.level-end)) c.requires

@@ -1,16 +1,16 @@
-use Rattle.std.proofs.Common.{◌≡◌, ap, sym, ◌∙◌, refl, [], ◌∷◌, ◌++◌, ℕ, ◌-◌, ◌<◌, rules, arith, length, take, true, false}
+use Rattle.std.proofs.Common.{◌≡◌, ap, sym, ◌∙◌, refl, [], ◌∷◌, ◌++◌, ℕ, ◌-◌, ◌<◌, rules, arith, length, take, true, false, Some, None}
 use Rattle.std.proofs.lemmas.List.{length-take-le}
-use Rattle.cg_form.specs.Game.{Game, node, number}
+use Rattle.cg_form.specs.Game.{Game, node}
 use Rattle.cg_form.specs.Size.{list_size, size}
 use Rattle.cg_nodes.specs.Games.{game_at, games_at, listed}
 use Rattle.cg_nodes.proofs.Later.{are_games_later, game_later, games_later, is_game_later, listed_later, spends_then}
 use Rattle.cg_nodes.proofs.Members.{length_games}
-use Rattle.cg_names.specs.Named.{mirrored_if}
 use Rattle.cg_names.specs.Shapes.{sign_of}
+use Rattle.cg_names.proofs.Ends.{more-sign, no_ends, two-none}
 use Rattle.cg_names.proofs.Listing.{item_known}
-use Rattle.cg_names.proofs.Looks.{arrows-same, is_node, on-none, one-other, own-few, own-number}
-use Rattle.cg_names.proofs.Memos.{last_size, recalls_later, told_game, told_number}
-use Rattle.cg_names.proofs.SignSteps.{arrows_at, arrows_none, arrows_some, node_later, sign_arrows, sign_star}
+use Rattle.cg_names.proofs.Looks.{is_node}
+use Rattle.cg_names.proofs.Memos.{last_size, recalls_later, recalls_then, told_game, told_number}
+use Rattle.cg_names.proofs.SignSteps.{sign_star, sign_tiny, tiny_at}
 use Rattle.cg_names.proofs.Stars.{games_front, games_last, no_stars, none_there, some_there, star-is, star-lists, stars_at, stars_none, stars_some}
 use Rattle.cg_names.proofs.look.+look.Goals as goal
 
@@ -108,35 +108,23 @@ stars-returns-in-Game-clause-stars g t c =
     (ap (λ z. z ++ (last ∷ [])) front ∙ ap (λ z. games_at s (take place hs) ++ (z ∷ [])) (sym told.2) ∙ sym split)
     (c.star_on.ensures.stars (listed u c.in-Game.field-1) (told.3 ∙ ap sign_of told.2))
 
--- ---- arrows
+-- ---- one option on a side
 
-pub arrows_or_hot-returns-in-Some-clause-sign : goal.arrows_or_hot-returns-in-Some-clause-sign
-arrows_or_hot-returns-in-Some-clause-sign g t c =
-    sign_arrows false _ c.in_ok-found.field-0 c.in-Some.found c.arrows_sign.result tt c.requires.no_star c.in-Some.is
-    c.in_ok-found.ensures.arrows c.arrows_sign.ensures
-
-pub arrows_or_hot-returns-in-Some-2-clause-sign : goal.arrows_or_hot-returns-in-Some-2-clause-sign
-arrows_or_hot-returns-in-Some-2-clause-sign g t c =
+pub sign_by_ends-returns-in-None-only-clause-sign : goal.sign_by_ends-returns-in-None-only-clause-sign
+sign_by_ends-returns-in-None-only-clause-sign g t c =
     let W = g.S.CellStore.state in
-    sign_arrows true _ c.in_ok-found-in-None.field-0 c.in-Some-2.found c.arrows_sign-in-Some-2.result tt
-    c.requires.no_star c.in-Some-2.is
-    (arrows_at true _ _ c.in_ok-found-in-None.field-0 (node_later (W c.args.store.now) (W c.arrows.new.store)
-    c.args.lefts c.args.rights c.arrows.ensures.spends c.requires.lefts c.requires.rights)
-    c.in_ok-found-in-None.ensures.arrows) c.arrows_sign-in-Some-2.ensures
+    let same = listed_later (W c.args.store.now) (W c.only.new.store) c.only.ensures.spends.known c.args.rights
+    c.requires.rights in
+    no_ends _ _ c.requires.no_star c.in-None.ensures.only (λ a e. c.in-None-only.ensures.only a (same ∙ e))
 
-pub arrows-arrows_on-requires : goal.arrows-arrows_on-requires
-arrows-arrows_on-requires g t c κs within =
+pub sign_of_two-steep-requires : goal.sign_of_two-steep-requires
+sign_of_two-steep-requires g t c κs within =
     let W = g.S.CellStore.state in
-    let all = spends_then 0 0 (W c.only.new.store) (W c.one_or_two.new.store) (W c.number_at.new.store)
-    c.one_or_two.ensures.spends c.number_at.ensures.spends in
-    let last = is_game_later (W c.only.new.store) (W c.number_at.new.store) all.known c.in-Some.last
-    c.in-Some.ensures.only.0 in
-    let whole = spends_then 0 0 (W c.args.store.now) (W c.only.new.store) (W c.number_at.new.store)
-    c.only.ensures.spends all in
-    let same = game_later (W c.only.new.store) (W c.number_at.new.store) all.known c.in-Some.last
-    c.in-Some.ensures.only.0 in
-    let m = ap size same in
-    let n = ap list_size c.in-Some.ensures.only.1 in (
+    let s = W c.args.store.now in
+    let u = W c.number_at-in-None.new.store in
+    let all = spends_then 0 0 s (W c.number_at.new.store) u c.number_at.ensures.spends c.number_at-in-None.ensures.spends in
+    let same = game_later s u all.known c.args.first c.requires.first in
+    let m = ap size same in (
       search rules,
       (
         within.0,
@@ -145,67 +133,84 @@ arrows-arrows_on-requires g t c κs within =
           (
             within.1.1,
             (
-              last,
-              recalls_later (W c.args.store.now) (W c.number_at.new.store) c.args.memo.now whole c.requires.memo,
+              is_game_later s u all.known c.args.first c.requires.first,
+              (
+                (λ y e. c.in-None.ensures.number y (sym same ∙ e)),
+                recalls_later s u c.args.memo.now all c.requires.memo,
+              ),
             ),
           ),
         ),
       ),
     )
 
-pub arrows-returns-in-None-clause-arrows : goal.arrows-returns-in-None-clause-arrows
-arrows-returns-in-None-clause-arrows g t c starred x n e =
-    let (a, p) = one-other c.args.down starred x n _ _ e in c.in-None.ensures.only a p
-
-pub arrows-returns-in-None-number_at-clause-arrows : goal.arrows-returns-in-None-number_at-clause-arrows
-arrows-returns-in-None-number_at-clause-arrows g t c starred x n e =
+pub sign_of_two-steep-requires-in-None-number_at-2 : goal.sign_of_two-steep-requires-in-None-number_at-2
+sign_of_two-steep-requires-in-None-number_at-2 g t c κs within =
     let W = g.S.CellStore.state in
-    let own : listed (W c.args.store.now) c.args.own ≡ game_at (W c.one_or_two.new.store) c.in-One.first ∷ [] =
-    sym (listed_later (W c.args.store.now) (W c.only.new.store) c.only.ensures.spends.known c.args.own c.requires.own)
-    ∙ c.in-One.ensures.few.1 in
-    c.in-None-number_at.ensures.number x (own-number c.args.down starred x n _ _
-    (ap (λ z. mirrored_if c.args.down z (listed (W c.args.store.now) c.args.others)) (sym own) ∙ e))
+    let s = W c.args.store.now in
+    let v = W c.number_at.new.store in
+    let u = W c.number_at-in-Some.new.store in
+    let all = spends_then 0 0 s v u c.number_at.ensures.spends c.number_at-in-Some.ensures.spends in
+    let same = game_later s u all.known c.args.last c.requires.last in
+    let m = ap size same in
+    let before = game_later s v c.number_at.ensures.spends.known c.args.last c.requires.last in (
+      search rules,
+      (
+        within.0,
+        (
+          within.1.0,
+          (
+            within.1.1,
+            (
+              is_game_later s u all.known c.args.last c.requires.last,
+              (
+                (λ y e. c.in-None-number_at-2.ensures.number y (before ∙ sym same ∙ e)),
+                recalls_later s u c.args.memo.now all c.requires.memo,
+              ),
+            ),
+          ),
+        ),
+      ),
+    )
 
-pub arrows-returns-in-Two-clause-arrows : goal.arrows-returns-in-Two-clause-arrows
-arrows-returns-in-Two-clause-arrows g t c =
+pub sign_of_two-returns-in-None-number_at-clause-sign : goal.sign_of_two-returns-in-None-number_at-clause-sign
+sign_of_two-returns-in-None-number_at-clause-sign g t c =
     let W = g.S.CellStore.state in
-    let own = sym (listed_later (W c.args.store.now) (W c.only.new.store) c.only.ensures.spends.known c.args.own
-    c.requires.own) ∙ c.in-Two.ensures.few.2 in
-    let same = game_later (W c.only.new.store) (W c.one_or_two.new.store) c.one_or_two.ensures.spends.known
-    c.in-Some.last c.in-Some.ensures.only.0 in
-    arrows-same c.args.down c.starred_arrow.result _ _ _ _ own
-    (c.in-Some.ensures.only.1 ∙ ap (λ z. z ∷ []) (sym same)) (c.starred_arrow.ensures.arrows c.args.down)
+    let before = game_later (W c.args.store.now) (W c.number_at.new.store) c.number_at.ensures.spends.known c.args.last
+    c.requires.last in
+    two-none _ _ c.requires.no_star c.in-None.ensures.number
+    (λ x e. c.in-None-number_at.ensures.number x (before ∙ e))
 
-pub arrows-returns-in-Other-clause-arrows : goal.arrows-returns-in-Other-clause-arrows
-arrows-returns-in-Other-clause-arrows g t c starred x n e =
+pub steep-returns-in-Number-clause-sign : goal.steep-returns-in-Number-clause-sign
+steep-returns-in-Number-clause-sign g t c =
     let W = g.S.CellStore.state in
-    let own = listed_later (W c.args.store.now) (W c.only.new.store) c.only.ensures.spends.known c.args.own
-    c.requires.own in
-    own-few c.args.down starred x n _ _ e (λ a p. c.in-Other.ensures.few.0 a (own ∙ p))
-    (λ a b p. c.in-Other.ensures.few.1 a b (own ∙ p))
+    absurd (c.requires.other c.in-Number.field-0 (told_number (W c.look.new.store) c.in_ok-look.field-0
+    (game_at (W c.args.store.now) c.args.last) c.in-Number.field-0 c.in-Number.is c.in_ok-look.ensures.look))
 
-pub arrows_on-returns-in-Number-clause-arrows : goal.arrows_on-returns-in-Number-clause-arrows
-arrows_on-returns-in-Number-clause-arrows g t c =
-    let W = g.S.CellStore.state in
-    let is = told_number (W c.look.new.store) c.in_ok-y.field-0 (game_at (W c.args.store.now) c.args.last) c.in-Number.y
-    c.in-Number.is c.in_ok-y.ensures.look in
-    arrows-same c.args.down c.level_star.result (number c.args.x ∷ []) _ (number c.args.x ∷ []) _ refl
-    (ap (λ z. z ∷ []) is) (c.level_star.ensures c.args.down)
-
-pub arrows_on-returns-in-None-clause-arrows : goal.arrows_on-returns-in-None-clause-arrows
-arrows_on-returns-in-None-clause-arrows g t c starred x n e =
-    let W = g.S.CellStore.state in
-    let k = game_at (W c.args.store.now) c.args.last in
-    let told = told_game (W c.look.new.store) c.in_ok-y.field-0 k _ _ _ c.in-Game.is c.in_ok-y.ensures.look in
-    let node = is_node k _ _ told.2 in
-    on-none c.args.x c.args.down k (arrows_none c.args.down k _ c.in-None.is (c.arrows_in.ensures k node told.3)) node
-    starred x n e
-
-pub arrows_on-returns-in-Some-clause-arrows : goal.arrows_on-returns-in-Some-clause-arrows
-arrows_on-returns-in-Some-clause-arrows g t c =
+pub steep-returns-in-Some-clause-sign : goal.steep-returns-in-Some-clause-sign
+steep-returns-in-Some-clause-sign g t c =
     let W = g.S.CellStore.state in
     let k = game_at (W c.args.store.now) c.args.last in
-    let told = told_game (W c.look.new.store) c.in_ok-y.field-0 k _ _ _ c.in-Game.is c.in_ok-y.ensures.look in
+    let told = told_game (W c.look.new.store) c.in_ok-look.field-0 k _ _ _ c.in-Game.is c.in_ok-look.ensures.look in
+    sign_tiny c.args.down _ (Some c.in-Some.size) c.in-Some.size refl
+    (tiny_at c.args.down c.args.x k _ (Some c.in-Some.size) told.2 c.in-Some.ensures.tiny)
+
+pub steep-returns-in-None-clause-sign : goal.steep-returns-in-None-clause-sign
+steep-returns-in-None-clause-sign g t c =
+    let W = g.S.CellStore.state in
+    let k = game_at (W c.args.store.now) c.args.last in
+    let told = told_game (W c.look.new.store) c.in_ok-look.field-0 k _ _ _ c.in-Game.is c.in_ok-look.ensures.look in
     let node = is_node k _ _ told.2 in
-    c.one_more.ensures c.args.down k node
-    (arrows_some c.args.down k _ _ c.in-Some.is (c.arrows_in.ensures k node told.3))
+    more-sign c.args.down c.args.x k node c.one_more.result (c.one_more.ensures k node told.3)
+    (tiny_at c.args.down c.args.x k _ None told.2 c.in-None.ensures.tiny)
+
+pub steep-returns-in-Some-clause-memo : goal.steep-returns-in-Some-clause-memo
+steep-returns-in-Some-clause-memo g t c =
+    let W = g.S.CellStore.state in
+    recalls_later (W c.look.new.store) (W c.tiny.new.store) c.look.new.memo c.tiny.ensures.spends c.in_ok-look.ensures.memo
+
+pub steep-returns-in-None-clause-memo : goal.steep-returns-in-None-clause-memo
+steep-returns-in-None-clause-memo g t c =
+    let W = g.S.CellStore.state in
+    recalls_then c.one_more.result (W c.look.new.store) (W c.tiny.new.store) c.look.new.memo c.tiny.ensures.spends
+    c.in_ok-look.ensures.memo

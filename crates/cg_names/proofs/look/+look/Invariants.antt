@@ -21,12 +21,13 @@ decreases-star g l = 8 * (list_size (listed (g.S.CellStore.state l.store.now) l.
 abbrev pub decreases-stars : goal.decreases-stars
 decreases-stars g l = 8 * list_size (games_at (g.S.CellStore.state l.store.now) l.options.now) + 1
 
-abbrev pub decreases-arrows_or_hot : goal.decreases-arrows_or_hot
-decreases-arrows_or_hot g l = 8 * (list_size (listed (g.S.CellStore.state l.store.now) l.lefts)
+abbrev pub decreases-sign_by_ends : goal.decreases-sign_by_ends
+decreases-sign_by_ends g l = 8 * (list_size (listed (g.S.CellStore.state l.store.now) l.lefts)
     + list_size (listed (g.S.CellStore.state l.store.now) l.rights)) + 5
 
-abbrev pub decreases-arrows : goal.decreases-arrows
-decreases-arrows g l = 8 * list_size (listed (g.S.CellStore.state l.store.now) l.others) + 2
+abbrev pub decreases-sign_of_two : goal.decreases-sign_of_two
+decreases-sign_of_two g l = 8 * (size (game_at (g.S.CellStore.state l.store.now) l.first)
+    + size (game_at (g.S.CellStore.state l.store.now) l.last)) + 2
 
-abbrev pub decreases-arrows_on : goal.decreases-arrows_on
-decreases-arrows_on g l = 8 * size (game_at (g.S.CellStore.state l.store.now) l.last) + 1
+abbrev pub decreases-steep : goal.decreases-steep
+decreases-steep g l = 8 * size (game_at (g.S.CellStore.state l.store.now) l.last) + 1

@@ -1,10 +1,10 @@
-use Rattle.std.proofs.Common.{sym, subst, ◌∙◌}
-use Rattle.std.specs.Prelude.{IfOk}
+use Rattle.std.proofs.Common.{sym, subst, ◌∙◌, [], ◌∷◌}
 use Rattle.cg_form.specs.Canonical.{Canonical}
 use Rattle.cg_form.specs.Game.{Game}
-use Rattle.cg_nodes.specs.Games.{StandsFor}
+use Rattle.cg_canon.specs.Made.{Gives}
+use Rattle.cg_names.specs.Lists.{plain_item}
 use Rattle.cg_canon.specs.Works.{work_state}
-use Rattle.cg_names.proofs.Steps.{mirrored_is, one_form, plain_is}
+use Rattle.cg_names.proofs.Steps.{mirrored_is, plain_is}
 use Rattle.cg_names.proofs.making.make.Goals as goal
 
 pub canonical_item-requires-clause-canonical : goal.canonical_item-requires-clause-canonical
@@ -18,25 +18,15 @@ canonical_item-requires-else-mirrored-clause-canonical g c =
     subst P (sym (plain_is c.args.mirrored _ _ c.if-mirrored.false)) c.requires.canonical
 
 pub returns-then-mirrored : goal.returns-then-mirrored
-returns-then-mirrored g c =
-    let S = work_state g.S.CellStore.state c.canonical_item.new.work in
-    let P : Game → Type 0 = λ z. IfOk c.canonical_item.result (λ h. StandsFor S h z) in
-    record {
-      game = λ k e. subst P (mirrored_is c.args.mirrored _ _ c.if-mirrored.true ∙ e) c.canonical_item.ensures.game;
-      made = λ k e. one_form _ _ _ _ _ (mirrored_is c.args.mirrored _ _ c.if-mirrored.true ∙ e)
-          c.canonical_item.ensures.charged c.canonical_item.ensures.refused c.canonical_item.ensures.keeps;
-      more = c.canonical_item.ensures.more;
-    }
+returns-then-mirrored g c k e =
+    let W = work_state g.S.CellStore.state in
+    let P : Game → Type 0 = λ z. Gives (W c.args.work.now) (W c.canonical_item.new.work) (plain_item z ∷ []) z
+    c.canonical_item.result in
+    subst P (mirrored_is c.args.mirrored _ _ c.if-mirrored.true ∙ e) c.canonical_item.ensures.gives
 
 pub returns-else-mirrored : goal.returns-else-mirrored
-returns-else-mirrored g c =
-    let S = work_state g.S.CellStore.state c.canonical_item-else-mirrored.new.work in
-    let P : Game → Type 0 = λ z. IfOk c.canonical_item-else-mirrored.result (λ h. StandsFor S h z) in
-    record {
-      game = λ k e. subst P (plain_is c.args.mirrored _ _ c.if-mirrored.false ∙ e)
-          c.canonical_item-else-mirrored.ensures.game;
-      made = λ k e. one_form _ _ _ _ _ (plain_is c.args.mirrored _ _ c.if-mirrored.false ∙ e)
-          c.canonical_item-else-mirrored.ensures.charged c.canonical_item-else-mirrored.ensures.refused
-          c.canonical_item-else-mirrored.ensures.keeps;
-      more = c.canonical_item-else-mirrored.ensures.more;
-    }
+returns-else-mirrored g c k e =
+    let W = work_state g.S.CellStore.state in
+    let P : Game → Type 0 = λ z. Gives (W c.args.work.now) (W c.canonical_item-else-mirrored.new.work) (plain_item z ∷ []) z
+    c.canonical_item-else-mirrored.result in
+    subst P (plain_is c.args.mirrored _ _ c.if-mirrored.false ∙ e) c.canonical_item-else-mirrored.ensures.gives

@@ -1,10 +1,11 @@
 use Rattle.std.proofs.Common.{ℕ, ◌++◌, List, arith, ap, ◌∙◌, string_bytes}
 use Rattle.std.specs.Prelude.{length}
-use Rattle.cg_nodes.specs.Games.{listed}
+use Rattle.cg_nodes.specs.Games.{game_at, listed}
 use Rattle.cg_nodes.proofs.Later.{listed_later}
 use Rattle.cg_form.specs.Game.{of_list}
-use Rattle.cg_names.specs.Name.{names_of}
-use Rattle.cg_names.proofs.Names.{braces-spelled, on_ok_written, written_more}
+use Rattle.cg_names.specs.Spelled.{names_of}
+use Rattle.cg_names.proofs.Memos.{told_game}
+use Rattle.cg_names.proofs.Names.{braced-in_range, braces-spelled, more_in_range, number-in_range, on_ok_written, signed-in_range, written_all, written_more}
 use Rattle.cg_names.proofs.naming.+push_name.Goals as goal
 
 pub push_further-loop-top-smaller : goal.push_further-loop-top-smaller
@@ -21,7 +22,7 @@ push_further-loop-top-preserved g t c = record {
       (string_bytes c.loop-top.text) (string_bytes c.push_str.new.self) _ _
       c.loop-top.left c.in-Some.top.rest c.in-Some.top.first c.loop-top.invariant.written c.head.ensures.spends
       c.in-Some.ensures.head.1 c.in-Some.ensures.head.2 c.in_ok-push_str.ensures.bytes
-      c.push_name.ensures.spends c.in_ok-push_name.ensures.text;
+      c.push_name.ensures.spends c.in_ok-push_name.ensures.text c.in_ok-push_name.ensures.in_range;
   recalls = c.in_ok-push_name.ensures.memo;
 }
 
@@ -37,3 +38,18 @@ push_braces-returns-clause-text g t c =
     (braces-spelled left right start _ _ _ _ c.in_ok-push_str.ensures.bytes c.in_ok-push_names.ensures.text
     c.in_ok-push_str-2.ensures.bytes
     (c.in_ok-push_names-2.ensures.text ∙ ap (λ z. string_bytes c.push_str-2.new.self ++ names_of (of_list z)) same))
+
+pub push_name-returns-in-Some-clause-in_range : goal.push_name-returns-in-Some-clause-in_range
+push_name-returns-in-Some-clause-in_range g t c =
+    let W = g.S.CellStore.state in
+    let told = told_game (W c.look.new.store) c.in_ok-number.field-0 (game_at (W c.args.store.now) c.args.handle) _ _ _
+    c.in-Game.is c.in_ok-number.ensures.look in
+    signed-in_range c.push_sign.result _ _ _ _ c.in-Some.sign told.2 told.3 c.in-Some.is c.push_sign.ensures.in_range
+
+pub push_name-returns-in-None-clause-in_range : goal.push_name-returns-in-None-clause-in_range
+push_name-returns-in-None-clause-in_range g t c =
+    let W = g.S.CellStore.state in
+    let told = told_game (W c.look.new.store) c.in_ok-number.field-0 (game_at (W c.args.store.now) c.args.handle) _ _ _
+    c.in-Game.is c.in_ok-number.ensures.look in
+    braced-in_range c.push_braces.result _ _ _ _ told.2 told.3 c.in-None.is c.push_braces.ensures.lefts_in_range
+    c.push_braces.ensures.rights_in_range

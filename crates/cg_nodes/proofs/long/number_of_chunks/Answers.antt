@@ -1,10 +1,11 @@
 use Rattle.std.proofs.Common.{◌∙◌, to_z, of_z}
 use Rattle.std.proofs.lemmas.Int.{to_z-of_z}
 use mir.Syntax.{w128}
-use Rattle.cg_nodes.proofs.LongSteps.{ChunksLowest, chunks_lowest}
+use Rattle.cg_nodes.proofs.LongSteps.{chunks_lowest}
+use Rattle.cg_nodes.specs.LongKeys.{IsLongFraction}
 use Rattle.cg_nodes.proofs.long.number_of_chunks.Goals as goal
 
-terms : (c : goal.After-num_in) → ChunksLowest (to_z w128 (of_z w128 c.num_in.result)) c.args.exp
+terms : (c : goal.After-num_in) → IsLongFraction (to_z w128 (of_z w128 c.num_in.result)) c.args.exp
 terms c =
     chunks_lowest c.args.negative c.args.exp c.args.low c.args.high _
     (to_z-of_z w128 c.num_in.result (record { sfits = c.num_in.type_inv }) ∙ c.num_in.ensures) c.requires

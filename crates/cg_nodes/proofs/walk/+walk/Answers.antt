@@ -53,124 +53,92 @@ walk_game-returns-clause-refused g t c = λ e.
 
 pub walk_list-walk_game-requires : goal.walk_list-walk_game-requires
 walk_list-walk_game-requires g t c κs within =
-    let d = top_depth (g.S.CellStore.state c.args.store.now) (g.S.CellStore.state c.loop-top.store)
-    (g.S.CellStore.state c.head.new.store) c.args.list c.loop-top.left c.args.found.now c.loop-top.found c.args.limit
-    c.in-Some.top
+    let d = top_depth _ _ _ _ _ _ _ _ c.in-Some.top
     c.loop-top.invariant c.head.ensures.spends c.in-Some.ensures.head in
-    let f = found_at_top (g.S.CellStore.state c.args.store.now) (g.S.CellStore.state c.loop-top.store)
-    (g.S.CellStore.state c.head.new.store) c.args.list c.loop-top.left c.args.found.now c.loop-top.found c.args.limit
-    c.in-Some.top
+    let f = found_at_top _ _ _ _ _ _ _ _ c.in-Some.top
     c.loop-top.invariant c.head.ensures.spends c.in-Some.ensures.head in
     (search rules, (within.0, (within.1.0, (within.1.1, (c.in-Some.ensures.head.0, (f, c.loop-top.invariant.within))))))
 
 pub walk_list-returns-in_err-walk_game-clause-refused : goal.walk_list-returns-in_err-walk_game-clause-refused
 walk_list-returns-in_err-walk_game-clause-refused g t c =
     let p = err_from_is_err_and c.from_residual.result c.from_residual.ensures.1 in λ e.
-    walking_length (g.S.CellStore.state c.args.store.now) (g.S.CellStore.state c.loop-top.store) (g.S.CellStore.state
-    c.head.new.store) c.args.list c.loop-top.left c.args.found.now c.loop-top.found c.args.limit c.in-Some.top
+    walking_length _ _ _ _ _ _ _ _ c.in-Some.top
     c.loop-top.invariant c.head.ensures.spends c.in-Some.ensures.head c.args.limit
     (c.in_err-walk_game.ensures.refused (ap Err (passed_on p.0 c.in_err-walk_game.field-0.0 c.from_residual.result p.1 p.2 e)))
 
 pub walk_list-loop-top-smaller : goal.walk_list-loop-top-smaller
 walk_list-loop-top-smaller g t c =
-    walking_shorter (g.S.CellStore.state c.args.store.now) (g.S.CellStore.state c.loop-top.store)
-    (g.S.CellStore.state c.head.new.store) c.args.list c.loop-top.left c.args.found.now c.loop-top.found c.args.limit
-    c.in-Some.top
-    c.loop-top.invariant c.head.ensures.spends c.in-Some.ensures.head (g.S.CellStore.state c.walk_game.new.store)
-    c.walk_game.new.found c.walk_game.ensures.spends c.in_ok-walk_game.ensures.found c.in_ok-walk_game.ensures.within
+    walking_shorter _ _ _ _ _ _ _ _ c.in-Some.top
+    c.loop-top.invariant c.head.ensures.spends c.in-Some.ensures.head _ _
+    c.walk_game.ensures.spends c.in_ok-walk_game.ensures.found c.in_ok-walk_game.ensures.within
 
 pub walk_list-loop-top-preserved : goal.walk_list-loop-top-preserved
 walk_list-loop-top-preserved g t c =
-    walking_more (g.S.CellStore.state c.args.store.now) (g.S.CellStore.state c.loop-top.store) (g.S.CellStore.state
-    c.head.new.store) c.args.list c.loop-top.left c.args.found.now c.loop-top.found c.args.limit c.in-Some.top
-    c.loop-top.invariant c.head.ensures.spends c.in-Some.ensures.head (g.S.CellStore.state c.walk_game.new.store)
-    c.walk_game.new.found c.walk_game.ensures.spends c.in_ok-walk_game.ensures.found c.in_ok-walk_game.ensures.within
+    walking_more _ _ _ _ _ _ _ _ c.in-Some.top
+    c.loop-top.invariant c.head.ensures.spends c.in-Some.ensures.head _ _
+    c.walk_game.ensures.spends c.in_ok-walk_game.ensures.found c.in_ok-walk_game.ensures.within
 
 pub walk_list-returns-clause-found : goal.walk_list-returns-clause-found
 walk_list-returns-clause-found g t c =
-    walking_all (g.S.CellStore.state c.args.store.now) (g.S.CellStore.state c.loop-top.store) (g.S.CellStore.state
-    c.head.new.store) c.args.list c.loop-top.left c.args.found.now c.loop-top.found c.args.limit
-    c.loop-top.invariant c.head.ensures.spends (head_end (g.S.CellStore.state c.head.new.store) c.head.result (listed
-    (g.S.CellStore.state c.loop-top.store) c.loop-top.left) c.in_default.not-Some c.head.ensures.head)
+    walking_all _ _ _ _ _ _ _ _ c.loop-top.invariant c.head.ensures.spends
+    (head_end (g.S.CellStore.state c.head.new.store) c.head.result (listed (g.S.CellStore.state c.loop-top.store) c.loop-top.left)
+    c.in_default.not-Some c.head.ensures.head)
 
 -- ---- the options of a game
 
 pub walk_options-walk_list-requires : goal.walk_options-walk_list-requires
 walk_options-walk_list-requires g t c κs within =
-    let d = ap depth_of c.in-Some.ensures.game.2 in
-    let f = found_later (g.S.CellStore.state c.args.store.now) (g.S.CellStore.state c.lists_of.new.store) c.args.found.now
-    c.lists_of.ensures.spends.known c.requires.found in
-    (search rules, (within.0, (within.1.0, (within.1.1, (c.in-Some.ensures.game.0, (f, c.requires.within))))))
+    let d = ap depth_of c.in-Game.ensures.game.2 in
+    let f = found_later (g.S.CellStore.state c.args.store.now) (g.S.CellStore.state c.read.new.store) c.args.found.now
+    c.read.ensures.spends.known c.requires.found in
+    (search rules, (within.0, (within.1.0, (within.1.1, (c.in-Game.ensures.game.0, (f, c.requires.within))))))
 
-pub walk_options-returns-in_err-walk_list-in-Some-clause-refused :
-    goal.walk_options-returns-in_err-walk_list-in-Some-clause-refused
-walk_options-returns-in_err-walk_list-in-Some-clause-refused g t c =
+pub walk_options-returns-in_err-walk_list-in-Game-clause-refused :
+    goal.walk_options-returns-in_err-walk_list-in-Game-clause-refused
+walk_options-returns-in_err-walk_list-in-Game-clause-refused g t c =
     let p = err_from_is_err_and c.from_residual.result c.from_residual.ensures.1 in λ e.
-    left_length (g.S.CellStore.state c.args.store.now) (g.S.CellStore.state c.lists_of.new.store) (g.S.CellStore.state
-    c.walk_list.new.store) (g.S.CellStore.state c.walk_list.new.store)
-    c.args.found.now c.args.found.now c.args.found.now c.args.handle c.in-Some.lists.lefts c.in-Some.lists.rights c.lists_of.ensures.spends.known
-    c.walk_list.ensures.spends.known c.requires.found c.in-Some.ensures.game c.args.limit
-    (c.in_err-walk_list-in-Some.ensures.refused (ap Err (passed_on p.0 c.in_err-walk_list-in-Some.field-0.0
+    left_length _ _ _ c.args.handle c.in-Game.lefts c.in-Game.rights c.read.ensures.spends c.requires.found
+    c.in-Game.ensures.game c.args.limit
+    (c.in_err-walk_list-in-Game.ensures.refused (ap Err (passed_on p.0 c.in_err-walk_list-in-Game.field-0.0
     c.from_residual.result p.1 p.2 e)))
 
-pub walk_options-returns-in_err-walk_list-in-Some-clause-spends :
-    goal.walk_options-returns-in_err-walk_list-in-Some-clause-spends
-walk_options-returns-in_err-walk_list-in-Some-clause-spends g t c = spends_then 0 0 _ _ _ c.lists_of.ensures.spends
+pub walk_options-returns-in_err-walk_list-in-Game-clause-spends :
+    goal.walk_options-returns-in_err-walk_list-in-Game-clause-spends
+walk_options-returns-in_err-walk_list-in-Game-clause-spends g t c = spends_then 0 0 _ _ _ c.read.ensures.spends
     c.walk_list.ensures.spends
 
-pub walk_options-walk_list-requires-in-Some : goal.walk_options-walk_list-requires-in-Some
-walk_options-walk_list-requires-in-Some g t c κs within =
-    let d = ap depth_of c.in-Some.ensures.game.2 in
-    let e = ap deepest (listed_later (g.S.CellStore.state c.lists_of.new.store) (g.S.CellStore.state
-    c.walk_list.new.store) c.walk_list.ensures.spends.known c.in-Some.lists.rights c.in-Some.ensures.game.1) in
-    let l = is_list_later (g.S.CellStore.state c.lists_of.new.store) (g.S.CellStore.state c.walk_list.new.store)
-    c.walk_list.ensures.spends.known c.in-Some.lists.rights c.in-Some.ensures.game.1 in (
-      search rules,
-      (
-        within.0,
-        (
-          within.1.0,
-          (
-            within.1.1,
-            (
-              l,
-              (
-                c.in_ok-walk_list-in-Some.ensures.found.found,
-                c.in_ok-walk_list-in-Some.ensures.within,
-              ),
-            ),
-          ),
-        ),
-      ),
-    )
+pub walk_options-walk_list-requires-in-Game : goal.walk_options-walk_list-requires-in-Game
+walk_options-walk_list-requires-in-Game g t c κs within =
+    let d = ap depth_of c.in-Game.ensures.game.2 in
+    let known = c.walk_list.ensures.spends.known in
+    let e = ap deepest (listed_later (g.S.CellStore.state c.read.new.store) (g.S.CellStore.state
+    c.walk_list.new.store) known c.in-Game.rights c.in-Game.ensures.game.1) in
+    let l = is_list_later (g.S.CellStore.state c.read.new.store) (g.S.CellStore.state c.walk_list.new.store)
+    known c.in-Game.rights c.in-Game.ensures.game.1 in
+    let ok = c.in_ok-walk_list-in-Game.ensures in
+    (search rules, (within.0, (within.1.0, (within.1.1, (l, (ok.found.found, ok.within))))))
 
-pub walk_options-returns-in-None-clause-found : goal.walk_options-returns-in-None-clause-found
-walk_options-returns-in-None-clause-found g t c =
-    number_walked (g.S.CellStore.state c.args.store.now) (g.S.CellStore.state c.lists_of.new.store) c.args.found.now
-    c.args.handle c.lists_of.ensures.spends.known c.requires.found c.in-None.ensures.number
+pub walk_options-returns-in-Number-clause-found : goal.walk_options-returns-in-Number-clause-found
+walk_options-returns-in-Number-clause-found g t c =
+    number_walked (g.S.CellStore.state c.args.store.now) (g.S.CellStore.state c.read.new.store) c.args.found.now
+    c.args.handle _ c.read.ensures.spends.known c.requires.found c.in-Number.ensures.game
 
-pub walk_options-returns-in_ok-walk_list-in-Some-clause-found :
-    goal.walk_options-returns-in_ok-walk_list-in-Some-clause-found
-walk_options-returns-in_ok-walk_list-in-Some-clause-found g t c =
-    ok_then c.walk_list-in-Some.result
-    (lists_walked (g.S.CellStore.state c.args.store.now) (g.S.CellStore.state c.lists_of.new.store)
-    (g.S.CellStore.state c.walk_list.new.store) (g.S.CellStore.state c.walk_list-in-Some.new.store)
-    c.args.found.now c.walk_list.new.found c.walk_list-in-Some.new.found c.args.handle c.in-Some.lists.lefts c.in-Some.lists.rights
-    c.lists_of.ensures.spends.known c.walk_list.ensures.spends.known c.requires.found c.in-Some.ensures.game
-    c.in_ok-walk_list-in-Some.ensures.found)
-    c.walk_list-in-Some.ensures.found
+pub walk_options-returns-in_ok-walk_list-in-Game-clause-found :
+    goal.walk_options-returns-in_ok-walk_list-in-Game-clause-found
+walk_options-returns-in_ok-walk_list-in-Game-clause-found g t c =
+    ok_then c.walk_list-in-Game.result
+    (lists_walked _ _ _ c.args.handle c.in-Game.lefts c.in-Game.rights c.read.ensures.spends c.requires.found
+    c.in-Game.ensures.game _ _ c.walk_list.ensures.spends c.in_ok-walk_list-in-Game.ensures.found _ _)
+    c.walk_list-in-Game.ensures.found
 
-pub walk_options-returns-in_ok-walk_list-in-Some-clause-refused :
-    goal.walk_options-returns-in_ok-walk_list-in-Some-clause-refused
-walk_options-returns-in_ok-walk_list-in-Some-clause-refused g t c = λ e.
-    right_length (g.S.CellStore.state c.args.store.now) (g.S.CellStore.state c.lists_of.new.store) (g.S.CellStore.state
-    c.walk_list.new.store) (g.S.CellStore.state c.walk_list-in-Some.new.store)
-    c.args.found.now c.walk_list.new.found c.walk_list.new.found c.args.handle c.in-Some.lists.lefts
-    c.in-Some.lists.rights c.lists_of.ensures.spends.known c.walk_list.ensures.spends.known c.requires.found
-    c.in-Some.ensures.game
-    c.in_ok-walk_list-in-Some.ensures.found c.args.limit (c.walk_list-in-Some.ensures.refused e)
+pub walk_options-returns-in_ok-walk_list-in-Game-clause-refused :
+    goal.walk_options-returns-in_ok-walk_list-in-Game-clause-refused
+walk_options-returns-in_ok-walk_list-in-Game-clause-refused g t c = λ e.
+    right_length _ _ _ c.args.handle c.in-Game.lefts c.in-Game.rights c.read.ensures.spends c.requires.found
+    c.in-Game.ensures.game _ _ c.walk_list.ensures.spends c.in_ok-walk_list-in-Game.ensures.found c.args.limit
+    (c.walk_list-in-Game.ensures.refused e)
 
-pub walk_options-returns-in_ok-walk_list-in-Some-clause-spends : goal.walk_options-returns-in_ok-walk_list-in-Some-clause-spends
-walk_options-returns-in_ok-walk_list-in-Some-clause-spends g t c =
-    spends_then 0 0 _ _ _ (spends_then 0 0 _ _ _ c.lists_of.ensures.spends c.walk_list.ensures.spends)
-    c.walk_list-in-Some.ensures.spends
+pub walk_options-returns-in_ok-walk_list-in-Game-clause-spends : goal.walk_options-returns-in_ok-walk_list-in-Game-clause-spends
+walk_options-returns-in_ok-walk_list-in-Game-clause-spends g t c =
+    spends_then 0 0 _ _ _ (spends_then 0 0 _ _ _ c.read.ensures.spends c.walk_list.ensures.spends)
+    c.walk_list-in-Game.ensures.spends

@@ -13,11 +13,11 @@ sum-more-requires-clause-a g c =
 -- the work borrows the store to the end, so what the store is then is what the work had
 pub returns : goal.returns
 returns g c =
-    let n = sym c.new-work.ensures.same_reference ∙ (sym c.sum-more.ensures.keeps.name
+    let n = sym c.new-work.ensures.same_reference ∙ (sym c.sum-more.ensures.made.keeps.name
     ∙ sym c.into_store-store.ensures.same_reference) in
     let e = c.store-1.given.1 n ∙ c.into_store-store.ensures.value in
     let state = g.S.CellStore.state in
     record {
-      rest = ap (λ x. (state x).rest) e ∙ (c.sum-more.ensures.keeps.of_store
+      rest = ap (λ x. (state x).rest) e ∙ (c.sum-more.ensures.made.keeps.of_store
           ∙ (ap (λ x. (state x).rest) c.new-work.ensures.store ∙ c.number-one.ensures.spends.rest));
     }

@@ -20,11 +20,7 @@ returns-in_err-next-clause-made g c =
     same_refusal _ _ _ c.canonical_item.result _ _ c.in_err-next.was (p.1 ∙ ap Err p.2)
     (nimber_made _ _ _ _ c.canonical_item.result
     (next_games (work_state g.S.CellStore.state c.args.work.now) c.args.handles.now.items _ _ c.requires.some
-    c.requires.first c.as_slice.ensures.value c.as_slice-2.ensures.value) (record {
-      charged = c.canonical_item.ensures.charged;
-      refused = c.canonical_item.ensures.refused;
-      keeps = c.canonical_item.ensures.keeps;
-    }))
+    c.requires.first c.as_slice.ensures.value c.as_slice-2.ensures.value) c.canonical_item.ensures.gives.made)
 
 pub returns-clause-first : goal.returns-clause-first
 returns-clause-first g c =
@@ -33,17 +29,13 @@ returns-clause-first g c =
     let x = W c.canonical_item.new.work in
     let P : Game → Type 0 = λ z. StandsFor x c.in_ok-next.next z in
     first_more x c.args.handles.now.items _ _
-    (first_later w x c.canonical_item.ensures.keeps.known c.args.handles.now.items c.requires.first)
+    (first_later w x c.canonical_item.ensures.gives.made.keeps.known c.args.handles.now.items c.requires.first)
     (subst P (next_games w c.args.handles.now.items _ _ c.requires.some c.requires.first c.as_slice.ensures.value
-    c.as_slice-2.ensures.value) c.in_ok-next.ensures.game) c.in_ok-push.ensures.items
+    c.as_slice-2.ensures.value) c.in_ok-next.ensures.gives.game) c.in_ok-push.ensures.items
 
 pub returns-clause-made : goal.returns-clause-made
 returns-clause-made g c =
     made_with _ _ _ c.canonical_item.result (Ok _) _ _ c.in_ok-next.was refl
     (nimber_made _ _ _ _ c.canonical_item.result
     (next_games (work_state g.S.CellStore.state c.args.work.now) c.args.handles.now.items _ _ c.requires.some
-    c.requires.first c.as_slice.ensures.value c.as_slice-2.ensures.value) (record {
-      charged = c.canonical_item.ensures.charged;
-      refused = c.canonical_item.ensures.refused;
-      keeps = c.canonical_item.ensures.keeps;
-    }))
+    c.requires.first c.as_slice.ensures.value c.as_slice-2.ensures.value) c.canonical_item.ensures.gives.made)

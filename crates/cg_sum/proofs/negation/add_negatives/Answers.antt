@@ -21,9 +21,9 @@ returns-in_err-negative-clause-made g c =
     negatives_stopped _ _ _ _ c.loop-f-test.true c.f-item.is c.requires.positions _ _ c.loop-f.invariant _ _
     c.negative_item.ensures.made _ _ c.in_err-negative.was (p.1 ∙ ap Err p.2)
 
-pub returns-in_err-keep-clause-made : goal.returns-in_err-keep-clause-made
-returns-in_err-keep-clause-made g c =
-    let p = err_from_is_err_and c.from_residual-in_err-keep.result c.from_residual-in_err-keep.ensures.1 in
+pub returns-in_err-put-clause-made : goal.returns-in_err-put-clause-made
+returns-in_err-put-clause-made g c =
+    let p = err_from_is_err_and c.from_residual-in_err-put.result c.from_residual-in_err-put.ensures.1 in
     made_memory _ _ _ _ (p.1 ∙ ap Err p.2) (keeps_then _ _ _ c.loop-f.invariant.keeps
     c.negative_item.ensures.made.keeps)
 
@@ -31,7 +31,7 @@ pub loop-f-preserved : goal.loop-f-preserved
 loop-f-preserved g c =
     negatives_more _ _ _ _ c.loop-f-test.true c.f-item.is c.requires.positions _ _ c.loop-f.invariant _ _
     c.negative_item.ensures.made _ _ _ c.in_ok-negative.was c.in_ok-negative.ensures.game
-    c.negative_item.ensures.spare c.in_ok-keep.ensures.ok
+    c.negative_item.ensures.more c.in_ok-put.ensures
 
 pub returns : goal.returns
 returns g c =

@@ -1,44 +1,56 @@
 -- A number's negative, or that of a game from its options.
-use Rattle.std.proofs.Common.{sym, subst}
+use Rattle.std.proofs.Common.{arith, subst, ap, sym, Err, ◌∙◌, ℕ}
+use Rattle.std.proofs.lemmas.Result.{err_from_is_err_and}
 use Rattle.cg_canon.specs.Works.{work_state}
-use Rattle.cg_form.specs.Game.{Game}
+use Rattle.cg_canon.proofs.Keeping.{spends_keeps}
+use Rattle.cg_canon.proofs.MadeSteps.{made_memory}
+use Rattle.cg_form.specs.Sum.{negative}
 use Rattle.cg_nodes.proofs.Later.{game_later}
-use Rattle.cg_nodes.specs.Games.{IsNode}
+use Rattle.cg_nodes.specs.Can.{can}
+use Rattle.cg_nodes.specs.Games.{game_at}
+use Rattle.cg_sum.specs.Progress.{IsNegativeReady}
 use Rattle.cg_sum.proofs.NegativeOptions.{negative_ready_later}
-use Rattle.cg_sum.proofs.NegativeSteps.{later_game, later_items, number_game, number_items}
+use Rattle.cg_sum.proofs.NegativeSteps.{given_negative}
+use Rattle.cg_sum.proofs.PositionSteps.{node_is, read_number_is}
+use Rattle.cg_sum.proofs.SumEnds.{gives_refused}
+use Rattle.cg_sum.proofs.Sums.{can-negative_number}
 use Rattle.cg_sum.proofs.negation.negative_item.Goals as goal
 
-pub returns-in-Number-clause-game : goal.returns-in-Number-clause-game
-returns-in-Number-clause-game g c =
-    let W = work_state g.S.CellStore.state in
-    number_game (W c.args.work.now) (W c.kind.new.store) (W c.number_item.new.work) _ _ _ _ c.in-Number.ensures.kind c.negate.ensures c.kind.ensures.spends
-    c.number_item.ensures.game
+pub returns-in_err-position : goal.returns-in_err-position
+returns-in_err-position g c =
+    let p = err_from_is_err_and c.from_residual.result c.from_residual.ensures.1 in
+    let wv = c.read_one.ensures.spends in
+    gives_refused _ _ _ _ _ _ (p.1 ∙ ap Err p.2) (made_memory _ _ _ _ (p.1 ∙ ap Err p.2) (spends_keeps 0 _ _ wv)) (omega (arith, wv.spare))
 
-pub returns-in-Number-clause-made : goal.returns-in-Number-clause-made
-returns-in-Number-clause-made g c =
-    number_items _ _ _ _ _ _ _ c.in-Number.ensures.kind c.negate.ensures c.kind.ensures.spends (record {
-      charged = c.number_item.ensures.charged;
-      refused = c.number_item.ensures.refused;
-      keeps = c.number_item.ensures.keeps;
-    })
+pub returns-in-Some : goal.returns-in-Some
+returns-in-Some g c =
+    let W = work_state g.S.CellStore.state in
+    let w = W c.args.work.now in
+    let v = W c.read_one.new.work in
+    let made = c.number_item.ensures in
+    let is = read_number_is w v c.read_one.ensures.spends.known _ _ c.requires.game c.in_ok-position.ensures.position
+    c.in_ok-position.ensures.handle _ c.in-Some.is in
+    given_negative w v _ c.read_one.ensures.spends _ _ _
+    (sym (ap (λ z. can (negative z)) is ∙ can-negative_number _ _ c.negate.ensures))
+    (record { game = made.game; made = made.made; more = made.more })
 
 pub game_item-requires : goal.game_item-requires
 game_item-requires g c =
     let W = work_state g.S.CellStore.state in
-    let P : Game → Type 0 = λ z. IsNode z in
+    let v = W c.read_one.new.work in
+    let P : ℕ → Type 0 = λ z. IsNegativeReady v c.args.negatives.now z in
     record {
-      ready = negative_ready_later (W c.args.work.now) (W c.kind.new.store) c.kind.ensures.spends.known
-          c.args.negatives.now c.args.f c.requires;
-      node = subst P (sym (game_later (W c.args.work.now) (W c.kind.new.store) c.kind.ensures.spends.known c.args.f
-          c.requires.game)) c.in-Game.ensures.kind;
+      ready = subst P (sym c.in_ok-position.ensures.handle) (negative_ready_later (W c.args.work.now) v c.read_one.ensures.spends.known
+          c.args.negatives.now c.args.f c.requires);
+      position = c.in_ok-position.ensures.position;
+      node = node_is v _ c.in_ok-position.ensures.position c.in-None.is;
     }
 
-pub returns-in-Game-clause-game : goal.returns-in-Game-clause-game
-returns-in-Game-clause-game g c =
+pub returns : goal.returns
+returns g c =
     let W = work_state g.S.CellStore.state in
-    later_game (W c.args.work.now) (W c.kind.new.store) c.kind.ensures.spends _ c.requires.game (W c.game_item.new.work) _
-    c.game_item.ensures.game
-
-pub returns-in-Game-clause-made : goal.returns-in-Game-clause-made
-returns-in-Game-clause-made g c =
-    later_items _ _ c.kind.ensures.spends _ c.requires.game _ _ c.game_item.ensures.made
+    let w = W c.args.work.now in
+    let v = W c.read_one.new.work in
+    let wv = c.read_one.ensures.spends in
+    given_negative w v _ wv _ _ _ (ap (λ z. can (negative z))
+    (ap (game_at v) c.in_ok-position.ensures.handle ∙ game_later w v wv.known _ c.requires.game)) c.game_item.ensures

@@ -4,39 +4,40 @@ use Rattle.std.proofs.lemmas.Result.{err_from_is_err_and}
 use Rattle.cg_canon.proofs.MadeSteps.{made_with}
 use Rattle.cg_canon.specs.Works.{work_state}
 use Rattle.cg_sum.proofs.PairSteps.{is_within, pair_game, pair_made, pair_refused}
-use Rattle.cg_sum.proofs.SumEnds.{same_refusal}
+use Rattle.cg_sum.proofs.SumEnds.{gives_refused, same_refusal}
 use Rattle.cg_sum.proofs.nimber_sums.nimber_sum.Goals as goal
 
-pub returns-then-is_product_above-clause-made : goal.returns-then-is_product_above-clause-made
-returns-then-is_product_above-clause-made g c =
+pub returns-then-is_product_above : goal.returns-then-is_product_above
+returns-then-is_product_above g c =
     let w = work_state g.S.CellStore.state c.args.work.now in
     let P : ℕ → Type 0 = λ z. z < (c.args.pair.first + 1) * (c.args.pair.second + 1) in
-    pair_refused w _ _ c.args.pair c.requires.pair _ _ refl refl
-    (subst P c.limit.ensures (c.is_product_above.ensures.0 c.if-is_product_above.true)) _ refl
+    gives_refused _ _ _ _ _ _ refl (pair_refused w _ _ c.args.pair c.requires.pair _ _ refl refl
+    (subst P c.limit.ensures (c.is_product_above.ensures.0 c.if-is_product_above.true)) _ refl) (omega arith)
 
-pub returns-in_err-add_nimbers-clause-made : goal.returns-in_err-add_nimbers-clause-made
-returns-in_err-add_nimbers-clause-made g c =
+pub returns-in_err-add_nimbers : goal.returns-in_err-add_nimbers
+returns-in_err-add_nimbers g c =
     let w = work_state g.S.CellStore.state c.args.work.now in
     let P : ℕ → Type 0 = λ z. (c.args.pair.first + 1) * (c.args.pair.second + 1) ≤ z in
     let within = subst P c.limit.ensures (is_within _ _ (λ above.
     let t = c.is_product_above.ensures.1 above in let f = c.if-is_product_above.false in cc)) in
     let p = err_from_is_err_and c.from_residual.result c.from_residual.ensures.1 in
-    same_refusal _ _ _ c.add_nimbers.result _ _ c.in_err-add_nimbers.was (p.1 ∙ ap Err p.2)
-    (pair_made w _ _ c.args.pair c.requires.pair _ _ refl refl within _ c.add_nimbers.result c.add_nimbers.ensures.made)
+    gives_refused _ _ _ _ _ _ (p.1 ∙ ap Err p.2) (same_refusal _ _ _ c.add_nimbers.result _ _ c.in_err-add_nimbers.was (p.1 ∙ ap Err p.2)
+    (pair_made w _ _ c.args.pair c.requires.pair _ _ refl refl within _ c.add_nimbers.result c.add_nimbers.ensures.made))
+    c.add_nimbers.ensures.spare
 
-pub returns-clause-game : goal.returns-clause-game
-returns-clause-game g c =
+pub returns : goal.returns
+returns g c =
     let W = work_state g.S.CellStore.state in
+    let w = W c.args.work.now in
     let known = c.in_ok-add_nimbers.ensures.known in
-    pair_game (W c.args.work.now) _ _ c.args.pair c.requires.pair (W c.add_nimbers.new.work) c.add_nimbers.new.nimbers _
-    c.in_ok-add_nimbers.ensures.holds (known.each c.args.pair.first c.args.pair.second (omega arith) (omega arith))
-    c.index.ensures
-
-pub returns-clause-made : goal.returns-clause-made
-returns-clause-made g c =
-    let w = work_state g.S.CellStore.state c.args.work.now in
     let P : ℕ → Type 0 = λ z. (c.args.pair.first + 1) * (c.args.pair.second + 1) ≤ z in
     let within = subst P c.limit.ensures (is_within _ _ (λ above.
     let t = c.is_product_above.ensures.1 above in let f = c.if-is_product_above.false in cc)) in
-    made_with _ _ _ c.add_nimbers.result (Ok _) _ _ c.in_ok-add_nimbers.was refl
-    (pair_made w _ _ c.args.pair c.requires.pair _ _ refl refl within _ c.add_nimbers.result c.add_nimbers.ensures.made)
+    record {
+      game = pair_game w _ _ c.args.pair c.requires.pair (W c.add_nimbers.new.work) c.add_nimbers.new.nimbers _
+          c.in_ok-add_nimbers.ensures.holds (known.each c.args.pair.first c.args.pair.second (omega arith) (omega arith))
+          c.index.ensures;
+      made = made_with _ _ _ c.add_nimbers.result (Ok _) _ _ c.in_ok-add_nimbers.was refl
+          (pair_made w _ _ c.args.pair c.requires.pair _ _ refl refl within _ c.add_nimbers.result c.add_nimbers.ensures.made);
+      more = c.add_nimbers.ensures.spare;
+    }

@@ -1,10 +1,6 @@
-use Rattle.cg_sum.proofs.PairSteps.{all_same, same_more}
+use Rattle.std.proofs.lemmas.Bool.Decides.{Decides-eqb}
+use Rattle.std.proofs.lemmas.Slice.Eq.{slice_eq-Decides}
 use Rattle.cg_sum.proofs.nimbers.are_same.Goals as goal
 
-pub loop-i-preserved : goal.loop-i-preserved
-loop-i-preserved c =
-    same_more _ _ _ _ _ _ c.loop-i-test.true c.if-a-b.false c.index-a-i.is c.index-b-i.is c.ne.ensures c.if-ne.false
-    c.loop-i.invariant
-
 pub returns : goal.returns
-returns c t = all_same _ _ _ c.if-a-b.false c.loop-i-test.false c.loop-i.invariant
+returns c t = (slice_eq-Decides Decides-eqb c.args.a.now c.args.b.now c.eq.result c.eq.ensures).0 t

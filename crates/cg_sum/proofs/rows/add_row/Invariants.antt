@@ -6,4 +6,5 @@ use Rattle.cg_sum.proofs.rows.add_row.Given as goal
 
 abbrev pub invariant-loop-k : goal.invariant-loop-k
 invariant-loop-k g l =
-    RowMade (work_state g.S.CellStore.state l.initial.work) (work_state g.S.CellStore.state l.work) l.initial.sums l.sums l.f.handle (take l.k-index (handles_of l.seconds)) l.start
+    RowMade (work_state g.S.CellStore.state l.fn.work) (work_state g.S.CellStore.state l.work) l.fn.sums l.sums l.f.handle
+    (take l.k-index (handles_of l.seconds))

@@ -1,7 +1,8 @@
 use Rattle.std.proofs.Common.{◌≡◌, ap, sym, ◌∙◌, cond}
 use Rattle.cg_thermo.specs.Ended.{better_of, ended}
 use Rattle.cg_thermo.proofs.Besting.{best-more}
-use Rattle.cg_thermo.proofs.Members.{has-read, none_found}
+use Rattle.cg_canon.proofs.DistinctSteps.{has_item}
+use Rattle.cg_thermo.proofs.Members.{none_found}
 use Rattle.cg_thermo.proofs.stopping.best.Goals as goal
 use Rattle.cg_thermo.proofs.stopping.best.Goals.{then-left, else-left}
 
@@ -9,7 +10,7 @@ pub unreachable-requires : goal.unreachable-requires
 unreachable-requires c =
     none_found (ended c.args.ends.now c.option-item.result)
     (c.requires.found.each c.option-item.result
-    (has-read c.args.options.now c.loop-option.option-index c.option-item.result c.loop-option-test.true c.option-item.is))
+    (has_item c.args.options.now c.loop-option.option-index c.option-item.result c.loop-option-test.true c.option-item.is))
     (sym c.in_default.ensures)
 
 pub loop-option-preserved : goal.loop-option-preserved

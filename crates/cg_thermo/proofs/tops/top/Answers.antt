@@ -1,7 +1,7 @@
 use Rattle.std.proofs.Common.{◌∙◌, ◌+◌, arith, ap}
 use Rattle.std.specs.Int.{int_max}
 use Rattle.cg_walls.specs.Rises.{value_at}
-use Rattle.cg_thermo.proofs.Members.{has-read}
+use Rattle.cg_canon.proofs.DistinctSteps.{has_item}
 use Rattle.cg_thermo.proofs.Topping.{read-behind, top-all, top-first, top-more}
 use Rattle.cg_thermo.proofs.tops.top.Goals as goal
 
@@ -14,7 +14,7 @@ pub side_of-requires-in-loop-option-clause-found : goal.side_of-requires-in-loop
 side_of-requires-in-loop-option-clause-found c =
     let n = c.in-Some.ensures.cases.1 in
     c.requires.found.each c.option-item.result
-    (has-read c.args.options.now (c.loop-option.option-index + 1) c.option-item.result (let t = c.loop-option-test.true in omega arith)
+    (has_item c.args.options.now (c.loop-option.option-index + 1) c.option-item.result (let t = c.loop-option-test.true in omega arith)
     (read-behind c.args.options.now c.in-Some.others.now c.in-Some.first.now c.loop-option.option-index c.option-item.result
     c.in-Some.ensures.cases.0 c.option-item.is))
 

@@ -1,13 +1,8 @@
-use Rattle.std.proofs.Common.{◌∷◌, [], ap, subst}
-use Rattle.std.specs.Prelude.{IfOk}
-use Rattle.cg_canon.specs.Items.{Item, made}
+use Rattle.std.proofs.Common.{subst}
+use Rattle.cg_canon.specs.Made.{FormGiven}
 use Rattle.cg_canon.specs.Works.{work_state}
-use Rattle.cg_form.specs.Game.{Game, node}
-use Rattle.cg_nodes.specs.Can.{can}
-use Rattle.cg_nodes.specs.Games.{StandsFor, games_at}
-use Rattle.cg_values.specs.Items.{value_item}
+use Rattle.cg_form.specs.Game.{Game}
 use Rattle.cg_values.proofs.ItemSteps.{options-split, value-options}
-use Rattle.cg_canon.proofs.MadeSteps.{made_as}
 use Rattle.cg_values.proofs.item.made_item.Goals as goal
 
 pub canonical-requires-clause-lefts : goal.canonical-requires-clause-lefts
@@ -24,36 +19,16 @@ canonical-requires-clause-rights g c =
     c.split_at.ensures.front c.split_at.ensures.back in
     both.1.0
 
-pub returns-clause-game : goal.returns-clause-game
-returns-clause-game g c =
+pub returns : goal.returns
+returns g c =
     let r = g.R.Rules.game c.args.rules.now in
-    let s = work_state g.S.CellStore.state c.args.work.now in
+    let W = work_state g.S.CellStore.state in
+    let s = W c.args.work.now in
     let p = c.args.board.now in
     let ls = c.split_at.result.0.now in
     let rs = c.split_at.result.1.now in
     let both = options-split s r p c.args.options.now c.requires.options c.as_slice.result.now ls rs c.as_slice.ensures
     c.split_at.ensures.front c.split_at.ensures.back in
     let same = value-options s r (g.met.R.Rules.lawful c.args.rules.now) p ls rs c.requires.has both.0 both.1 in
-    let F : Game → Type 0 = λ z. IfOk c.canonical.result (λ h. StandsFor (work_state g.S.CellStore.state
-    c.canonical.new.work) h z) in
-    subst F same c.canonical.ensures.game
-
-pub returns-clause-made : goal.returns-clause-made
-returns-clause-made g c =
-    let r = g.R.Rules.game c.args.rules.now in
-    let s = work_state g.S.CellStore.state c.args.work.now in
-    let p = c.args.board.now in
-    let ls = c.split_at.result.0.now in
-    let rs = c.split_at.result.1.now in
-    let both = options-split s r p c.args.options.now c.requires.options c.as_slice.result.now ls rs c.as_slice.ensures
-    c.split_at.ensures.front c.split_at.ensures.back in
-    let same = value-options s r (g.met.R.Rules.lawful c.args.rules.now) p ls rs c.requires.has both.0 both.1 in
-    let f : Game → Item = λ z. made z 8 in
-    made_as s (work_state g.S.CellStore.state c.canonical.new.work)
-    (made (can (node (games_at s ls) (games_at s rs))) 8 ∷ [])
-    (value_item r p ∷ []) c.canonical.result (ap (λ z. f z ∷ []) same)
-    (record {
-      charged = c.canonical.ensures.charged;
-      refused = c.canonical.ensures.refused;
-      keeps = c.canonical.ensures.keeps;
-    })
+    let P : Game → Type 0 = λ z. FormGiven s (W c.canonical.new.work) z 8 c.canonical.result in
+    subst P same c.canonical.ensures

@@ -30,13 +30,13 @@ returns-in_err-sum g c = λ k ks st all.
     let p = err_from_is_err_and c.from_residual.result c.from_residual.ensures.1 in
     adding_stopped _ _ _ _ _ _ _ (handle-within _ _ _ c.loop-place-test.true)
     (handle-read _ _ _ _ c.requires.within c.loop-place-test.true c.index-handles-place.is) c.loop-place.invariant
-    _ _ c.add.ensures.game c.add.ensures.made c.add.ensures.spare k ks st all _ _ c.in_err-sum.was (p.1 ∙ ap Err p.2)
+    _ _ c.add.ensures k ks st all _ _ c.in_err-sum.was (p.1 ∙ ap Err p.2)
 
 pub loop-place-preserved : goal.loop-place-preserved
 loop-place-preserved g c =
     adding_more _ _ _ _ _ _ _ (handle-within _ _ _ c.loop-place-test.true)
     (handle-read _ _ _ _ c.requires.within c.loop-place-test.true c.index-handles-place.is) c.loop-place.invariant
-    _ _ c.add.ensures.game c.add.ensures.made c.add.ensures.spare _ c.in_ok-sum.was
+    _ _ c.add.ensures _ c.in_ok-sum.was
 
 pub returns : goal.returns
 returns g c = λ k ks st all.

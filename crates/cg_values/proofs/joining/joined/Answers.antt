@@ -11,11 +11,7 @@ returns-in-None g c = λ gs all.
     up_none (work_state g.S.CellStore.state c.args.work.now) (work_state g.S.CellStore.state c.canonical.new.work)
     (handles_at c.args.handles.now c.args.places.now) gs c.canonical.result
     (ap (handles_at c.args.handles.now) (nil_from_length c.args.places.now c.in-None.ensures.cases)) all
-    c.canonical.ensures.game (record {
-      charged = c.canonical.ensures.charged;
-      refused = c.canonical.ensures.refused;
-      keeps = c.canonical.ensures.keeps;
-    }) c.canonical.ensures.more
+    c.canonical.ensures.gives
 
 pub returns-in-Some : goal.returns-in-Some
 returns-in-Some g c = λ gs all.

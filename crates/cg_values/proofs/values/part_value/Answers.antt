@@ -1,6 +1,6 @@
 use Rattle.std.proofs.Common.{refl, ap, ◌∙◌, Err, arith, length}
 use Rattle.std.proofs.lemmas.Result.{err_from_is_err_and}
-use Rattle.cg_canon.proofs.Pushed.{pushed_count}
+use Rattle.cg_canon.proofs.HandleLists.{pushed_count}
 use Rattle.cg_values.proofs.JoinSteps.{joining_begun, joining_made, joining_more, joining_stopped, joining_values, own_gives, own_held, parts_apart}
 use Rattle.cg_values.proofs.values.part_value.Goals as goal
 

@@ -5,7 +5,7 @@ use Rattle.cg_canon.proofs.held.Held.for_later.Goals as goal
 pub returns : goal.returns
 returns c known h = record {
   book = holds_answers (knowing known) c.args.self.memo.book c.make_ready.new.self h.book (λ x k. h.book.right x (c.make_ready.ensures x k));
-  sums = λ a b k at. let s = h.sums a b k (record { place = at.place; there = at.there }) in s;
+  sums = h.sums;
   forms = h.forms;
   known_as = h.known_as;
 }

@@ -1,24 +1,16 @@
 use Rattle.std.proofs.Common.{sym, subst}
 use Rattle.cg_canon.specs.MadeForms.{IsFormOf}
 use Rattle.cg_canon.specs.Works.{WorkOf}
-use Rattle.cg_canon.proofs.FormTables.{forms_fewer, forms_more}
+use Rattle.cg_canon.proofs.FormTables.{forms_kept}
 use Rattle.cg_canon.proofs.Holding.{held_forms}
 use Rattle.cg_canon.proofs.work.Work.keep_made.Goals as goal
 
 pub invariant_of-self : goal.invariant_of-self
 invariant_of-self g c =
-    let s = g.S.CellStore.state c.self.inside.store.now in (
-      c.self.invariant.0,
-      held_forms s c.self.inside.held c.keep.new.self c.self.invariant.1
-          (forms_fewer s c.self.inside.held.made c.keep.new.self c.self.invariant.1.forms c.keep.ensures.within c.in_err-keep.ensures.err),
-    )
-
-pub invariant_of-self-2 : goal.invariant_of-self-2
-invariant_of-self-2 g c =
     let s = g.S.CellStore.state c.self.inside.store.now in
     let P : WorkOf _ → Type 0 = λ w. IsFormOf (g.S.CellStore.state w.store.now) c.args.lefts.now c.args.rights.now c.args.form in (
       c.self.invariant.0,
       held_forms s c.self.inside.held c.keep.new.self c.self.invariant.1
-          (forms_more s c.self.inside.held.made c.keep.new.self c.self.invariant.1.forms c.keep.ensures.within c.args.lefts.now
-          c.args.rights.now c.args.form c.in_ok-keep.ensures.ok (subst P (sym c.self.view_is) c.requires)),
+          (forms_kept s c.self.inside.held.made c.keep.new.self c.args.lefts.now c.args.rights.now c.args.form c.keep.ensures.kept
+          (subst P (sym c.self.view_is) c.requires) c.self.invariant.1.forms),
     )

@@ -1,12 +1,11 @@
 use Rattle.std.proofs.Common.{◌≡◌, ◌<◌, ◌≤◌, ℕ, false, length, suc}
-use Rattle.cg_links.specs.Chains.{chain_at, number_in}
+use Rattle.cg_links.specs.Chains.{chain_at, chain_in, number_in}
 use Rattle.cg_links.proofs.links.Links.find.Given as goal
 
 abbrev pub invariant-loop-up_to : goal.invariant-loop-up_to
 invariant-loop-up_to g l = record {
   inside : l.up_to ≤ length l.self-inside.links.items;
-  own : (entry : ℕ) → l.up_to ≡ suc entry
-      → chain_at (number_in l.self-inside.links.items entry) (length l.self-inside.chains.items)
+  own : (entry : ℕ) → l.up_to ≡ suc entry → chain_in l.self-inside.links.items (length l.self-inside.chains.items) entry
       ≡ chain_at l.number (length l.self-inside.chains.items);
   others : (m : ℕ) → l.up_to ≤ m → m < length l.self-inside.links.items → number_in l.self-inside.links.items m ≡ l.number
       → g.F.Fn.post l.is (m, tt) false;
