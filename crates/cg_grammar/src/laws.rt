@@ -54,8 +54,9 @@ pub fn repeated_run()
 
 /// The column at which a brace is refused is the least at which a run of bars repeats an earlier one of the brace, or an
 /// expression in it is refused; and there is none exactly where no run does and no expression is. In each line the
-/// expressions and the runs of a brace stand one behind the other, as that asks. So the column of a whole line of the grammar
-/// is the least at which some brace of it, at any depth, repeats a run; and the line has none exactly where no brace does.
+/// expressions and the runs of a brace stand one behind the other, as that asks. So the column of a whole line of the
+/// grammar is the least at which some brace of it, at any depth, repeats a run; and there is none exactly where no brace
+/// does.
 pub fn least_column()
     ensures least { (side : List Found) (rows : List Run_side) (from to : ℕ) → RowLies from side rows to
         → IsLeast (IsFault side rows) (row_fault side rows) }
