@@ -25,4 +25,5 @@ pub mod RowWords
 pub mod Columns
 pub mod FrameWords
 pub mod CropWords
+pub mod SymbolWords
 pub mod TwoSet
