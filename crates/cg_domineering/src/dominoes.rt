@@ -83,20 +83,19 @@ fn put_move(
     Ok(())
 }
 
-/// The boards after the player's dominoes, by their first cells, in the room of these boards, of which there are none. They are
-/// in rising order, since a filled cell is below an empty one.
-fn boards_in(board: &Board, player: Player, room: Vec<Board>) -> Result<Vec<Board>, AllocError>
-    requires has { domineering.has board.now ≡ true }
-    requires room { room.items ≡ [] }
-    ensures { IfOk result (λ boards. boards.items ≡ map (with_cells board.now) (moves_of player board.now)) }
+/// Puts the boards after the player's dominoes, by their first cells, in the place of these boards. They are in rising order,
+/// since a filled cell is below an empty one.
+fn boards_in(board: &Board, player: Player, boards: &mut Vec<Board>) -> Result<(), AllocError>
+    requires { domineering.has board.now ≡ true }
+    ensures { IfOk result (λ _. boards.new.items ≡ map (with_cells board.now) (moves_of player board.now)) }
 {
     let spots = spots(board, player);
-    let mut boards = room;
+    boards.clear();
     boards.reserve(spots.count_ones() as usize)?;
     for first in 0..board.size() {
-        put_move(board, player, spots, first, &mut boards)?;
+        put_move(board, player, spots, first, boards)?;
     }
-    Ok(boards)
+    Ok(())
 }
 
 impl NeighbourRules for Domineering {
@@ -124,7 +123,8 @@ impl Rules for Domineering {
     ghost game = { λ rules. domineering };
 
     fn moves(&self, alloc: Global, board: &Board, player: Player) -> Result<Boards, AllocError> {
-        let boards = boards_in(board, player, Vec::new(alloc))?;
+        let mut boards = Vec::new(alloc);
+        boards_in(board, player, &mut boards)?;
         Ok(Boards::of(boards))
     }
 
@@ -133,8 +133,8 @@ impl Rules for Domineering {
         _alloc: Global,
         board: &Board,
         player: Player,
-        room: Vec<Board>,
-    ) -> Result<Vec<Board>, AllocError> {
+        room: &mut Vec<Board>,
+    ) -> Result<(), AllocError> {
         boards_in(board, player, room)
     }
 
@@ -146,8 +146,8 @@ impl Rules for Domineering {
         &self,
         _alloc: Global,
         board: &Board,
-        room: Vec<Board>,
-    ) -> Result<Vec<Board>, AllocError> {
+        room: &mut Vec<Board>,
+    ) -> Result<(), AllocError> {
         pieces_into(self, board, room)
     }
 

@@ -10,7 +10,7 @@ ghost use Rattle.cg_moves.specs.declared.player.Player.TheVariants.{Left, Right}
 ghost use Rattle.cg_moves.specs.declared.task.Task.TheVariants.{Enter};
 
 use crate::course::Course;
-use crate::found::{Found, emptied};
+use crate::found::Found;
 use crate::pushing::push;
 use crate::task::{Task, enter_all};
 use crate::{Board, Player, Rules};
@@ -42,11 +42,8 @@ pub(crate) fn list_followers<R: Rules>(
     ensures lefts { IfOk result (λ _. all.new.lefts.items ≡ boards_after (R.game rules.now) Left board.now) }
     ensures rights { IfOk result (λ _. all.new.rights.items ≡ boards_after (R.game rules.now) Right board.now) }
 {
-    let lefts = emptied(alloc, &mut all.lefts);
-    all.lefts = rules.moves_into(alloc, board, Player::Left, lefts)?;
-    let rights = emptied(alloc, &mut all.rights);
-    all.rights = rules.moves_into(alloc, board, Player::Right, rights)?;
-    Ok(())
+    rules.moves_into(alloc, board, Player::Left, &mut all.lefts)?;
+    rules.moves_into(alloc, board, Player::Right, &mut all.rights)
 }
 
 /// Puts a task to enter a board that is its own only part behind the tasks.
@@ -78,12 +75,9 @@ fn enter_pieces<R: Rules>(
     ensures tasks { IfOk result (λ _. tasks.new.items
         ≡ tasks.old.items ++ map Enter (reverse (pieces (R.game rules.now) board.now))) }
 {
-    let empty = emptied(alloc, room);
-    let mut pieces = rules.pieces_into(alloc, board, empty)?;
-    push(counts, pieces.len())?;
-    enter_all(tasks, &mut pieces)?;
-    *room = pieces;
-    Ok(())
+    rules.pieces_into(alloc, board, room)?;
+    push(counts, room.len())?;
+    enter_all(tasks, room)
 }
 
 /// Puts tasks to enter the parts of a board behind the tasks, the first part last, and how many there are behind the counts. A
