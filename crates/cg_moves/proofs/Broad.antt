@@ -13,7 +13,7 @@ use Rattle.cg_moves.specs.Walking.{Adds, AreAlone, AreAmong, AreFound, Way, part
 use Rattle.cg_moves.specs.Walks.{AreStarts, Enters, entered}
 use Rattle.cg_moves.proofs.Carried.{ok_is}
 use Rattle.cg_moves.proofs.ComesAfter.{reached-has, reached-next, reached-symbols, start-reached}
-use Rattle.cg_form.proofs.Firsts.{extended-among, extended-append, extended-has, in-append}
+use Rattle.cg_form.proofs.Firsts.{extended-among, extended-append, extended-has, in-append, in-append_left, in-append_right}
 use Rattle.cg_moves.proofs.Fresh.{entered-among}
 use Rattle.cg_moves.proofs.Same.{boards}
 use Rattle.cg_moves.proofs.KeptOnce.{kept-fewer_kept}
@@ -98,6 +98,16 @@ module _ (w : Way) where
           let qs = flat_map (parts w) (followers w.game p) in
           next-among p m q (entered-among (play w) qs (Enters q) (enters-in found some (entered qs) q told
           (carry (Enter q) after some (e ∙ ap (λ z. z ++ some) nothing) n)))
+
+  -- ---- the last task is done
+
+  module _ (tasks rest : List Task) (t : Task) (popped : tasks ≡ rest ++ (t ∷ [])) (all : AreAmong w tasks) where
+    pub popped-among : (p : Grid) → t ≡ Enter p → IsAmong p
+    popped-among p is = all p (carry (Enter p) (rest ++ (t ∷ [])) tasks (sym popped)
+        (in-append_right (Enter p) rest (t ∷ []) (inl (sym is))))
+
+    pub rest-among : AreAmong w rest
+    rest-among p m = all p (carry (Enter p) (rest ++ (t ∷ [])) tasks (sym popped) (in-append_left (Enter p) rest (t ∷ []) m))
 
   -- a start is the first board that is found
   module _ (lawful : IsPlay (play w)) (h : AreStarts (play w) w.starts) (start : Grid) (m : In start w.starts) (none : List Grid)

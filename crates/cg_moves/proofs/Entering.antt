@@ -1,5 +1,5 @@
 -- A board that is entered.
-use Rattle.std.proofs.Common.{◌≡◌, ℕ, ◌+◌, ◌<◌, List, Result, [], ◌∷◌, ◌++◌, length, length-append, map, reverse, take, drop, ap, sym, ◌∙◌, subst, arith}
+use Rattle.std.proofs.Common.{◌≡◌, refl, ℕ, ◌+◌, ◌<◌, List, Result, [], ◌∷◌, ◌++◌, length, length-append, map, reverse, take, drop, ap, sym, ◌∙◌, subst, arith}
 use Rattle.std.specs.List.{flat_map}
 use Rattle.std.specs.Prelude.{IfOk}
 use Rattle.std.proofs.Math.Seq.{drop-append_seam}
@@ -8,7 +8,7 @@ use Rattle.cg_moves.specs.declared.course.Course.{Course}
 use Rattle.cg_moves.specs.declared.player.Player.TheVariants.{Left, Right}
 use Rattle.cg_moves.specs.declared.task.Entered.{Entered}
 use Rattle.cg_moves.specs.declared.task.Task.{Task}
-use Rattle.cg_moves.specs.declared.task.Task.TheVariants.{Enter, Leave}
+use Rattle.cg_moves.specs.declared.task.Task.TheVariants.{Enter, Known, Leave}
 use Rattle.cg_moves.specs.declared.walk.Seen.{Seen}
 use Rattle.cg_moves.specs.Grid.{Grid}
 use Rattle.cg_moves.specs.Kept.{kept}
@@ -27,7 +27,7 @@ use Rattle.cg_moves.proofs.Listed.{nexts-more}
 use Rattle.cg_moves.proofs.OnWay.{entered-append, entered-front, entered-more, entered-none, has-last, next-parts}
 use Rattle.cg_moves.proofs.PlaceLemmas.{at-in, stand-append, stand-size}
 use Rattle.cg_moves.proofs.PlayLemmas.{plays}
-use Rattle.cg_moves.proofs.TaskSteps.{last-enters, less-new, told-append}
+use Rattle.cg_moves.proofs.TaskSteps.{last-enters, last-known, less-last, less-new, some-boards, told-append}
 use Rattle.cg_moves.proofs.WalkLemmas.{enter_new, enter_seen}
 
 -- what comes next after a new board is counted
@@ -66,6 +66,29 @@ module _ (w : Way) (lawful : IsPlay (play w)) (s : Seen) (tasks : List Visit) (p
         leads = subst Q d l;
         fresh = open-front (play w) s.boards tasks (Enters p ∷ []) x.fresh;
       }
+
+module _ (w : Way) (lawful : IsPlay (play w)) (s : Seen) (tasks : List Task) where
+  -- a walk with these pending places
+  abbrev pub HasPending : List ℕ → Type 0
+  HasPending after = (visits : List Visit) × AreTold s.boards tasks visits
+      × IsOnWay w s.boards s.next.items s.counts.items s.places.items after visits
+
+  pub noted : (place : ℕ) → IsWalking w s (tasks ++ (Known place ∷ [])) → (after : List ℕ)
+      → after ≡ s.pending.items ++ (place ∷ []) → HasPending after
+  noted place x after e =
+      let (p, at, (us, front, on)) = last-known w s tasks place x in (us, front, seen-way w lawful s us p on place at after e)
+
+  module _ (p : Grid) (x : IsWalking w s (tasks ++ (Enter p ∷ []))) where
+    pub entered-again : (place : ℕ) → IsAt s.boards place p → (after : List ℕ) → after ≡ s.pending.items ++ (place ∷ [])
+        → HasPending after
+    entered-again place at after e =
+        let (us, front, on) = last-enters w s tasks p x in (us, front, seen-way w lawful s us p on place at after e)
+
+    pub less-again : load (play w) tasks < load (play w) (tasks ++ (Enter p ∷ []))
+    less-again =
+        let (us, front, on) = last-enters w s tasks p x in
+        let l = some-boards (play w) lawful p (has-last w lawful s us (Enters p) on) in
+        less-last (play w) tasks (Enter p) (omega arith)
 
 -- ---- a new board is entered
 
@@ -129,12 +152,12 @@ module _ (r : GameRules) (lawful : IsLawful r) (course : Course) (w : Way) (s : 
       let next = (play v).next p in
       let P : Way → Type 0 = λ z. IsWalking z s (tasks ++ (Enter p ∷ [])) in
       let Q : Way → Type 0 = λ z. (visits : List Visit) × AreTold s.boards after visits
-          × IsOnWay z s.boards s.next.items counts s.places.items s.pending.items visits in
+      × IsOnWay z s.boards s.next.items counts s.places.items s.pending.items visits in
       let L : Way → Type 0 = λ z. load (play z) after < load (play z) (tasks ++ (Enter p ∷ [])) in
       let N : List Grid → Type 0 = λ z. AreTold s.boards some (entered z) in
-      let T : List Task → Type 0 = λ z. AreTold s.boards z _ in
       let M : List Task → Type 0 = λ z. load (play v) z < load (play v) (tasks ++ (Enter p ∷ [])) in
       let (us, front, on) = last-enters v s tasks p (subst P x.0 x.1.1.1.1) in
+      let T : List Task → Type 0 = λ z. AreTold s.boards z ((us ++ (Leaves e ∷ [])) ++ entered next) in
       let entering = subst N (ap (flat_map cut) all ∙ sym (next-parts r course p)) told in
       record {
         walking = if_ok (λ _. counts ≡ s.counts.items ++ reverse turn) (λ _. Q w) result (λ _ k.

@@ -10,7 +10,7 @@ use Rattle.cg_moves.specs.Found.{AreAlike}
 use Rattle.cg_moves.specs.Grid.{Grid}
 use Rattle.cg_moves.specs.Kept.{kept}
 use Rattle.cg_moves.specs.Opened.{uncut}
-use Rattle.cg_moves.specs.Plays.{IsPlay, MayGo, next_of, parts_of, play_of}
+use Rattle.cg_moves.specs.Plays.{IsPlay, MayGo, Play, next_of, parts_of, play_of}
 use Rattle.cg_moves.specs.Lawful.{IsLawful}
 use Rattle.cg_moves.specs.Rules.{GameRules, In, followers}
 use Rattle.cg_moves.specs.Walking.{Adds, AreAlone, AreEntered, AreTold, IsOn, IsOnWay, Way, play}
@@ -137,6 +137,12 @@ module _ (w : Way) (lawful : IsPlay (play w)) (s : Seen) (tasks : List Visit) (t
       go p m ∙ sym (go q n)
 
 -- ---- where a walk begins
+
+pub starts-alike : (r : Play) (none starts same : List Grid) → none ≡ [] → same ≡ starts → AreStarts r starts
+    → AreAlike (none ++ same)
+starts-alike r none starts same e f h =
+    let P : List Grid → Type 0 = λ z. AreAlike z in
+    subst P (sym (ap (λ z. z ++ same) e ∙ f)) (λ p q m n. (h.known p m).0 ∙ sym (h.known q n).0)
 
 module _ (w : Way) (h : AreStarts (play w) w.starts) where
   begun_none : IsOnWay w [] [] [] [] [] (entered w.starts)
