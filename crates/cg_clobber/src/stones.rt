@@ -75,8 +75,8 @@ fn put_all_paired(
     Ok(())
 }
 
-/// Makes the list that of the boards after the player's moves, by the first of the two cells that a move changes. They are in
-/// rising order: a move of Left lowers this cell or raises it, and one of Right lowers it.
+/// Puts the boards after the player's moves, by the first of the two cells that a move changes, in the place of these boards.
+/// They are in rising order: a move of Left lowers this cell or raises it, and one of Right lowers it.
 fn boards_in(board: &Board, player: Player, boards: &mut Vec<Board>) -> Result<(), AllocError>
     requires { clobber.has board.now ≡ true }
     ensures { IfOk result (λ _. boards.new.items ≡ map (with_cells board.now) (by_pairs player board.now)) }
@@ -126,11 +126,9 @@ impl Rules for Clobber {
         _alloc: Global,
         board: &Board,
         player: Player,
-        room: Vec<Board>,
-    ) -> Result<Vec<Board>, AllocError> {
-        let mut boards = room;
-        boards_in(board, player, &mut boards)?;
-        Ok(boards)
+        room: &mut Vec<Board>,
+    ) -> Result<(), AllocError> {
+        boards_in(board, player, room)
     }
 
     fn pieces(&self, alloc: Global, board: &Board) -> Result<Pieces, AllocError> {
@@ -141,11 +139,9 @@ impl Rules for Clobber {
         &self,
         _alloc: Global,
         board: &Board,
-        room: Vec<Board>,
-    ) -> Result<Vec<Board>, AllocError> {
-        let mut boards = room;
-        pieces_into(self, board, &mut boards)?;
-        Ok(boards)
+        room: &mut Vec<Board>,
+    ) -> Result<(), AllocError> {
+        pieces_into(self, board, room)
     }
 
     fn number(&self) -> u8 {

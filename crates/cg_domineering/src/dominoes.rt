@@ -81,8 +81,8 @@ fn put_move(
     Ok(())
 }
 
-/// Makes the list that of the boards after the player's dominoes, by their first cells. They are in rising order, since a
-/// filled cell is below an empty one.
+/// Puts the boards after the player's dominoes, by their first cells, in the place of these boards. They are in rising order,
+/// since a filled cell is below an empty one.
 fn boards_in(board: &Board, player: Player, boards: &mut Vec<Board>) -> Result<(), AllocError>
     requires { domineering.has board.now ≡ true }
     ensures { IfOk result (λ _. boards.new.items ≡ map (with_cells board.now) (moves_of player board.now)) }
@@ -132,11 +132,9 @@ impl Rules for Domineering {
         _alloc: Global,
         board: &Board,
         player: Player,
-        room: Vec<Board>,
-    ) -> Result<Vec<Board>, AllocError> {
-        let mut boards = room;
-        boards_in(board, player, &mut boards)?;
-        Ok(boards)
+        room: &mut Vec<Board>,
+    ) -> Result<(), AllocError> {
+        boards_in(board, player, room)
     }
 
     fn pieces(&self, alloc: Global, board: &Board) -> Result<Pieces, AllocError> {
@@ -147,11 +145,9 @@ impl Rules for Domineering {
         &self,
         _alloc: Global,
         board: &Board,
-        room: Vec<Board>,
-    ) -> Result<Vec<Board>, AllocError> {
-        let mut boards = room;
-        pieces_into(self, board, &mut boards)?;
-        Ok(boards)
+        room: &mut Vec<Board>,
+    ) -> Result<(), AllocError> {
+        pieces_into(self, board, room)
     }
 
     fn number(&self) -> u8 {
