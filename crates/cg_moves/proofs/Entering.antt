@@ -11,13 +11,12 @@ use Rattle.cg_moves.specs.declared.task.Task.{Task}
 use Rattle.cg_moves.specs.declared.task.Task.TheVariants.{Enter, Known, Leave}
 use Rattle.cg_moves.specs.declared.walk.Seen.{Seen}
 use Rattle.cg_moves.specs.Grid.{Grid}
-use Rattle.cg_moves.specs.Kept.{kept}
 use Rattle.cg_moves.specs.Opened.{AreCounted, AreNext, IsAt, StandAt}
 use Rattle.cg_moves.specs.Plays.{IsPlay, parts_of}
 use Rattle.cg_moves.specs.Lawful.{IsLawful}
 use Rattle.cg_moves.specs.Rules.{GameRules, In, boards_after, followers}
-use Rattle.cg_moves.specs.Walking.{Adds, AreEntered, AreTold, IsOn, IsOnWay, IsWalking, Leads, Way, load, parts, play, reached, way_of}
-use Rattle.cg_moves.specs.Walks.{Enters, GoesOn, Leaves, Visit, entered}
+use Rattle.cg_moves.specs.Walking.{Adds, AreEntered, AreTold, IsOn, IsOnWay, IsWalking, Leads, Way, load, parts, play, way_of}
+use Rattle.cg_moves.specs.Walks.{Enters, Leaves, Visit, entered}
 use Rattle.cg_moves.proofs.CanFollow.{IsGoing}
 use Rattle.cg_moves.proofs.Carried.{if_ok, ok_any}
 use Rattle.cg_moves.proofs.FollowLemmas.{both, turned}

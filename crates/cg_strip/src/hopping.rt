@@ -174,8 +174,10 @@ pub(crate) fn hops(
 {
     hops_on(alloc, board, player, boards)?;
     match player {
-        Player::Left => {}
-        Player::Right => boards.reverse(),
+        Player::Left => Ok(()),
+        Player::Right => {
+            boards.reverse();
+            Ok(())
+        }
     }
-    Ok(())
 }

@@ -1,6 +1,6 @@
 use Rattle.std.proofs.Common.{◌∷◌, [], length, arith}
 use Rattle.cg_moves.specs.Plays.{parts_of}
-use Rattle.cg_moves.proofs.FollowLemmas.{alike-less, all-left, last-in, one-counted, parts-entered}
+use Rattle.cg_moves.proofs.FollowLemmas.{alike-less, last-in, one-counted, parts-entered}
 use Rattle.cg_moves.proofs.Members.{in_equal, in_one}
 use Rattle.cg_moves.proofs.following.enter_followers.Goals as goal
 

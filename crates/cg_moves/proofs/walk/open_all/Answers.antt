@@ -1,4 +1,4 @@
-use Rattle.std.proofs.Common.{◌++◌, List, length, ap, sym, ◌∙◌, subst, arith}
+use Rattle.std.proofs.Common.{List, length, ap, sym, ◌∙◌, subst, arith}
 use Rattle.cg_moves.specs.declared.task.Task.{Task}
 use Rattle.cg_moves.specs.Grid.{Grid}
 use Rattle.cg_moves.specs.Plays.{play_of}
