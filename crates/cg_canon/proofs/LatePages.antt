@@ -8,11 +8,16 @@ use Rattle.std.proofs.lemmas.Map.Keys.{IsDistinct-push}
 use Rattle.std.proofs.lemmas.Map.Steps.{length-le_from_distinct_below}
 use Rattle.std.specs.Cmp.{nat_eq_equiv}
 use Rattle.std.specs.List.{IsDistinct, list_any}
-use Rattle.cg_canon.specs.Books.{AreLate, late}
+use Rattle.cg_canon.specs.Books.{AreLate, AreLateApart, late}
 
-pub late_nothing : AreLate []
+late_nothing : AreLate []
 unfolding IsDistinct
 late_nothing = record { distinct = tt; below = λ h e. absurd (cc) }
+
+-- no page
+pub late_first : AreLateApart []
+unfolding AreLateApart
+late_first = late_nothing
 
 one_more : (hs : List ℕ) (h : ℕ) → AreLate hs → list_any (eqb h) hs ≡ false → h < 2 ^ 26 → AreLate (hs ++ (h ∷ []))
 one_more hs h a new small = record {
@@ -24,21 +29,24 @@ one_more hs h a new small = record {
 }
 
 -- of few pages with one more none is late
-pub late_none : (hs : List ℕ) (h : ℕ) → length hs < late → AreLate (drop late (hs ++ (h ∷ [])))
+pub late_none : (hs : List ℕ) (h : ℕ) → length hs < late → AreLateApart (hs ++ (h ∷ []))
+unfolding AreLateApart
 late_none hs h few =
     let n = length-append hs (h ∷ []) in
     subst AreLate (sym (drop_all late (hs ++ (h ∷ [])) (omega arith))) late_nothing
 
-pub late_more : (hs : List ℕ) (h : ℕ) → late ≤ length hs → AreLate (drop late hs) → list_any (eqb h) (drop late hs) ≡ false
-    → h < 2 ^ 26 → AreLate (drop late (hs ++ (h ∷ [])))
+pub late_more : (hs : List ℕ) (h : ℕ) → late ≤ length hs → AreLateApart hs → list_any (eqb h) (drop late hs) ≡ false
+    → h < 2 ^ 26 → AreLateApart (hs ++ (h ∷ []))
+unfolding AreLateApart
 late_more hs h many a new small =
     subst AreLate (sym (drop-append-le late hs (h ∷ []) many)) (one_more (drop late hs) h a new small)
 
-pub late_few : (hs : List ℕ) → AreLate (drop late hs) → length (drop late hs) ≤ 2 ^ 26
+pub late_few : (hs : List ℕ) → AreLateApart hs → length (drop late hs) ≤ 2 ^ 26
+unfolding AreLateApart
 late_few hs a = length-le_from_distinct_below (drop late hs) (2 ^ 26) a.distinct a.below
 
 -- where a handle more is none too many, there is room for its page
-pub room : (hs : List ℕ) (h : ℕ) → AreLate (drop late (hs ++ (h ∷ []))) → length hs < 2 ^ 32
+pub room : (hs : List ℕ) (h : ℕ) → AreLateApart (hs ++ (h ∷ [])) → length hs < 2 ^ 32
 room hs h a =
     let few = late_few (hs ++ (h ∷ [])) a in
     let n = length-drop late (hs ++ (h ∷ [])) in

@@ -28,17 +28,21 @@ pub record HasHandle (b : Book) (page handle : ℕ) : Type 0 where
 abbrev pub late : ℕ
 late = 2 ^ 32 - 2 ^ 26
 
--- the handles of late pages: no two are one
+-- no two of these are one, and each is a handle
 pub record AreLate (hs : List ℕ) : Type 0 where
   pub distinct : IsDistinct eqb hs
   pub below : (h : ℕ) → list_any (eqb h) hs ≡ true → h < 2 ^ 26
+
+-- of all these handles of pages no two late ones are one
+unfoldable pub AreLateApart : List ℕ → Type 0
+AreLateApart hs = AreLate (drop late hs)
 
 pub record BookHolds {R : Type 0} (s : State Meant R) (b : Book) : Type 0 where
   -- each page has a handle
   pub count : length b.handles.items ≡ length b.pages
   pub each : (page : ℕ) → page < length b.handles.items → IsNamed s b page
   pub right : AreRight b.pages b.answers
-  pub apart : AreLate (drop late b.handles.items)
+  pub apart : AreLateApart b.handles.items
 
 -- the first games of the second list are those of the first
 pub record Begins (gs hs : List Game) : Type 0 where

@@ -1,13 +1,13 @@
 //! The games that a work has met, each on a page of a book.
 ghost use lib.Dec.{eqb};
-ghost use Rattle.std.specs.Prelude.{◌≡◌, ◌<◌, ◌^◌, ◌++◌, ◌∷◌, [], length, drop, slice_index, vec_capacity, vec_len};
+ghost use Rattle.std.specs.Prelude.{◌≡◌, ◌<◌, ◌^◌, ◌++◌, ◌∷◌, [], length, slice_index, vec_capacity, vec_len};
 ghost use Rattle.std.specs.Prelude.{false, IfOk, IfNone, IfSome};
 ghost use Rattle.std.specs.List.{list_any};
 ghost use Rattle.cg_nodes.specs.Games.{AreGames, games_at};
 ghost use Rattle.cg_book.specs.declared.recent.Answer.{Answer as Known};
 ghost use Rattle.cg_book.specs.Pages.{ArePages, games_of};
 ghost use Rattle.cg_book.specs.Recents.{IsKept};
-ghost use Rattle.cg_canon.specs.Books.{AreLate, BookHolds, HasHandle, late};
+ghost use Rattle.cg_canon.specs.Books.{AreLateApart, BookHolds, HasHandle};
 
 use crate::places::{Places, number_of_handle};
 use cg_book::{Pages, Recent};
@@ -78,9 +78,9 @@ impl Book {
     /// one; but of late pages it gets one only, so there is always a place for a page.
     #[inline(always)]
     pub(crate) fn late_page(&self, handle: Handle) -> Option<u32>
-        requires { AreLate (drop late self.now.handles.items) }
+        requires { AreLateApart self.now.handles.items }
         ensures page { IfSome result (λ page. HasHandle self.now page handle) }
-        ensures none { IfNone result (AreLate (drop late (self.now.handles.items ++ (handle ∷ [])))) }
+        ensures none { IfNone result (AreLateApart (self.now.handles.items ++ (handle ∷ []))) }
     {
         if self.handles.len() < LATE {
             return None;
