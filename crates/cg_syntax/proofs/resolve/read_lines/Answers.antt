@@ -11,6 +11,7 @@ use Rattle.cg_syntax.proofs.resolve.read_lines.Goals.{then-is_first_answered+in_
 pub loop-rest-init : goal.loop-rest-init
 loop-rest-init c = record {
   bound = omega (arith, c.requires);
+  within = search rules;
   sound = c.new-sheet.ensures.sound;
   goes_on = goes_first c.args.format c.args.first (lines_of c.args.text.now) c.new-sheet.result c.new-sheet.ensures.lines c.new-sheet.ensures.bindings;
 }

@@ -15,7 +15,7 @@ returns-clause-bindings c =
     let bound : Bound = record { name = c.args.name; line = c.len-line.result; size = c.args.size } in
     ap (λ (z : List SessionLine). bindings_at z c.push-2.new.self.items) c.in_ok-push.ensures.items
     ∙ ap (λ (z : List Bound). bindings_at (old.lines.items ++ line ∷ []) z) c.in_ok-push-2.ensures.items
-    ∙ defined_bound old.lines.items line old.bound.items bound c.args.expr long refl c.requires.sound
+    ∙ defined_bound old.lines.items line old.bound.items bound c.args.expr long refl c.requires.sound.bound
 
 pub returns-clause-sound : goal.returns-clause-sound
 returns-clause-sound c =
@@ -25,4 +25,4 @@ returns-clause-sound c =
     let bound : Bound = record { name = c.args.name; line = c.len-line.result; size = c.args.size } in
     subst (λ (z : List SessionLine). AreBoundAt z c.push-2.new.self.items) (sym c.in_ok-push.ensures.items)
     (subst (λ (z : List Bound). AreBoundAt (old.lines.items ++ line ∷ []) z) (sym c.in_ok-push-2.ensures.items)
-    (defined_sound old.lines.items line old.bound.items bound c.args.expr long refl c.requires.measures c.requires.sound))
+    (defined_sound old.lines.items line old.bound.items bound c.args.expr long refl c.requires.measures c.requires.sound.bound))
