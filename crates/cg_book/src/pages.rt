@@ -1,5 +1,5 @@
 //! The pages of a book: interned games, each with an index, its page.
-ghost use Rattle.std.specs.Prelude.{◌≡◌, ◌≤◌, ◌^◌, ◌++◌, ◌∷◌, [], length, is_ok, if◌then◌else◌, IfOk, OnErr};
+ghost use Rattle.std.specs.Prelude.{◌≡◌, ◌<◌, ◌≤◌, ◌^◌, ◌++◌, ◌∷◌, [], length, is_ok, if◌then◌else◌, IfOk, OnErr};
 ghost use Rattle.std.specs.List.{slice_range};
 ghost use Rattle.cg_form.specs.Canonical.{Canonical};
 ghost use Rattle.cg_form.specs.Game.{node, number};
@@ -46,9 +46,6 @@ pub struct Pages {
     profiles: Vec<Profile>,
     options: Vec<u32>,
 }
-
-/// The greatest number of pages.
-const MOST: usize = 4_294_967_296;
 
 /// The greatest weight of a light game. Two light games are compared in a few steps.
 const LIGHT: u8 = 8;
@@ -124,17 +121,15 @@ impl Pages {
         }
     }
 
-    /// Adds a number, on the next page.
+    /// Adds a number, on the next page. The only error is want of memory.
     pub fn add_number(&mut self, x: Dyadic) -> Result<u32, AllocError>
+        requires few { length self.old < 2 ^ 32 }
         ensures page { IfOk result (λ p. p ≡ length self.old) }
         ensures games { IfOk result (λ _. self.new ≡ self.old ++ (number x ∷ [])) }
         ensures same { OnErr result (self.new ≡ self.old) }
     {
         let count = self.pages.len();
         let end = self.options.len();
-        if count >= MOST {
-            return Err(AllocError);
-        }
         let profile = Profile::number(x);
         let page = Page {
             keys: Keys::of(&profile),
@@ -148,7 +143,7 @@ impl Pages {
         Ok(count as u32)
     }
 
-    /// Adds the game with these options and this profile, on the next page.
+    /// Adds the game with these options and this profile, on the next page. The only error is want of memory.
     #[inline(always)]
     pub fn add_game(
         &mut self,
@@ -156,6 +151,7 @@ impl Pages {
         rights: &[u32],
         profile: &Profile,
     ) -> Result<u32, AllocError>
+        requires few { length self.old < 2 ^ 32 }
         requires lefts { ArePages self.old lefts.now }
         requires rights { ArePages self.old rights.now }
         requires canonical { Canonical (node (games_of self.old lefts.now) (games_of self.old rights.now)) }
@@ -169,9 +165,6 @@ impl Pages {
         let first = self.options.len();
         let middle = first + lefts.len();
         let end = middle + rights.len();
-        if count >= MOST {
-            return Err(AllocError);
-        }
         let weight = weight_with(&self.pages, rights, weight_with(&self.pages, lefts, 1));
         self.options.extend_from_slice(lefts)?;
         self.options.extend_from_slice(rights)?;

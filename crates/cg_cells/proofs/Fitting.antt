@@ -6,7 +6,8 @@ use Rattle.std.proofs.lemmas.Bool.Decides.{nat_tests}
 use Rattle.cg_cells.specs.Meaning.{Meaning, Grows, IsLawful, Stands}
 use Rattle.cg_cells.specs.Words.{filled}
 use Rattle.cg_cells.specs.Views.{Sizes, ViewOf, cells_of, knows}
-use Rattle.cg_cells.specs.Table.{Fits, Whole, Sure, Tells, IsLive, key_at, value_at, times, passes_of}
+use Rattle.cg_cells.specs.Table.{Fits, Whole, Tells, IsLive, key_at, value_at, times, passes_of}
+use Rattle.cg_cells.specs.Sure.{Sure, IsReached}
 use Rattle.cg_cells.proofs.Levels.{KeepsKeys, stands_one, stands_keeps, stands_key}
 use Rattle.cg_cells.proofs.Entries.{knows_tells, tells_some}
 use Rattle.cg_cells.proofs.Rows.{key_inside}
@@ -73,8 +74,8 @@ module _ {X : Type 0} (m : Meaning X) (L : IsLawful m) where
         sym alone ∙ W.drawn n ∙ ap (λ c. if nat_lt n c then 1 else 0) past
 
     -- the rule tells of a live view that it is sure of what it knows
-    pub is_sure : Sure m v
-    is_sure = record {
+    pub is_sure : IsReached m v → Sure m v
+    is_sure reached = record {
       one = tells_knows;
       apart = λ i k t a b. W.cells.sound.apart i k t (knows_stands i t a) (knows_stands k t b);
       inside = λ i t e. subst (λ y. i < cells_of y) (sym F.sized) (known_inside i t e);
@@ -84,6 +85,7 @@ module _ {X : Type 0} (m : Meaning X) (L : IsLawful m) where
       few_spare = let s = total_at (λ u. u.spare) views j v at in let e = W.enough in let a = most in let b = W.allowed.cells in omega arith;
       few_heirs = let s = total_at passes_of views j v at in let e = W.counted in let b = W.allowed.passes in omega arith;
       few_passes = let s = total_at passes_of views j v at in let e = W.counted in let p = ap (λ y. y.passes) F.sized in omega arith;
+      reached = reached;
     }
 
 -- what is in the list stays known where the list grows and the view is sure

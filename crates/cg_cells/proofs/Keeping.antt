@@ -7,8 +7,8 @@ use Rattle.cg_cells.specs.Parts.{names_of}
 use Rattle.cg_cells.specs.Meaning.{Meaning, Has, IsLawful, Stands, Sound, level}
 use Rattle.cg_cells.specs.Index.{place}
 use Rattle.cg_cells.specs.Words.{filled}
-use Rattle.cg_cells.specs.Views.{Sizes, ViewOf, cells_of, knows, searched, after_look, after_read, after_claim, after_pass, after_note}
-use Rattle.cg_cells.specs.Table.{Fits, Whole, Sure, IsLive, IsPlaced, HasPassed, key_at, value_at, total, times, passes_of, may_draw}
+use Rattle.cg_cells.specs.Views.{Sizes, ViewOf, Action, makes, cells_of, knows, searched, after_look, after_read, after_claim, after_pass, after_note}
+use Rattle.cg_cells.specs.Table.{Fits, Whole, Tells, IsLive, IsPlaced, HasPassed, key_at, value_at, total, times, passes_of, may_draw}
 use Rattle.cg_cells.specs.Steps.{GoesOn}
 use Rattle.cg_cells.proofs.Levels.{same_Some, None_not, KeepsKeys, stands_one, stands_keeps, stands_key, stands_spells, part_stands, spells_stands}
 use Rattle.cg_cells.proofs.Claims.{filled-new, claimed_sound, keeps, new_stands}
@@ -69,6 +69,12 @@ module _ {X : Type 0} (m : Meaning X) (L : IsLawful m) (z : Sizes) (words : List
   viewed : (w : ViewOf X) → Fits m z (slice_index words 0) keys values w → Owns w → Whole m z words (set views j w)
   viewed w fits O = kept words w refl refl (λ i h. refl) (λ i h. refl) W.cells.sound W.cells.placed fits O (let s = O.spare in omega arith)
 
+  -- a pass keeps the steps that it makes
+  pub makes_keeps : (ds : List Action) → Whole m z words (set views j (makes ds v))
+  makes_keeps ds = viewed (makes ds v)
+      (record { sized = F.sized; stands = F.stands; over = F.over; probes = F.probes; noted = F.noted })
+      (record { alive = at.1; spare = omega arith; passes = refl; draws = refl; tickets = refl })
+
   module _ (id : ℕ) (t : X) (known : knows v id ≡ Some t) where
     here : Stands m keys id t
     here = knows_stands m L z words views W j v at id t known
@@ -92,11 +98,12 @@ module _ {X : Type 0} (m : Meaning X) (L : IsLawful m) (z : Sizes) (words : List
     pub looked_key : keys id ≢ 0
     looked_key = stands_key m L keys id t here
 
-    pub looked_spells : Sure m (after_look m v (keys id) t) → m.spells (keys id) (knows (after_look m v (keys id) t)) ≡ Some t
-    looked_spells S =
+    pub looked_spells : ((i : ℕ) (u : X) → Tells (after_look m v (keys id) t).known i u → knows (after_look m v (keys id) t) i ≡ Some u)
+        → m.spells (keys id) (knows (after_look m v (keys id) t)) ≡ Some t
+    looked_spells one =
         let r = stands_spells m L keys id t here in
         L.reads_parts (keys id) (level m keys r.0) (knows (after_look m v (keys id) t)) t r.1
-        (λ i h. S.one i _ (learn_has v.known (names_of (keys id)) (m.part (keys id) t) i h) ∙ sym (L.names_parts (keys id) (level m keys r.0) t r.1 i h))
+        (λ i h. one i _ (learn_has v.known (names_of (keys id)) (m.part (keys id) t) i h) ∙ sym (L.names_parts (keys id) (level m keys r.0) t r.1 i h))
 
     -- what a value word that isn't 0 tells
     pub record IsValue (value : ℕ) : Type 0 where

@@ -18,6 +18,7 @@ pub mod Fitting
 pub mod Keeping
 pub mod Moving
 pub mod Runs
+pub mod Making
 pub mod Finishing
 pub mod Tickets
 pub mod Divisors

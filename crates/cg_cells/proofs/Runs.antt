@@ -1,18 +1,20 @@
 -- Every list of steps keeps the rule.
-use Rattle.std.proofs.Common.{◌≡◌, ◌≢◌, ℕ, ◌+◌, List, [], ◌∷◌, ◌++◌, set, false, refl, sym, ap, ◌∙◌, subst, ⊎_elim, arith, true≢false}
+use Rattle.std.proofs.Common.{◌≡◌, ◌≢◌, ℕ, ◌+◌, List, [], ◌∷◌, ◌++◌, set, false, Some, refl, sym, ap, ◌∙◌, subst, ⊎_elim, arith, true≢false}
 use Rattle.std.specs.Prelude.{if◌then◌else◌, ◌==◌}
 use mathlib.Core.Logic.{dite}
 use native.Mathlib.Decide.{ℕ_discrete}
 use Rattle.std.proofs.lemmas.Bool.Decides.{nat_tests}
 use Rattle.cg_cells.specs.Meaning.{Meaning, IsLawful}
-use Rattle.cg_cells.specs.Views.{Sizes, ViewOf, cells_of, ended, after_note}
+use Rattle.cg_cells.specs.Index.{place}
+use Rattle.cg_cells.specs.Views.{Sizes, ViewOf, Action, a_split, a_join, a_draw, a_look, a_read, a_probe, a_claim, a_note, makes, cells_of, knows, split_off, ended, after_note}
 use Rattle.cg_cells.specs.Table.{IsAllowed, SoundAndPlaced, Whole, IsLive, value_at}
-use Rattle.cg_cells.specs.Steps.{Table, Step, split, join, draw, check, look, read, probe, claim, note, close, Leads, Run, opening, is_close, IsOpen, IsReachable}
-use Rattle.cg_cells.proofs.Keeping.{looks, reads, found, passes, won, notes, renotes}
+use Rattle.cg_cells.specs.Steps.{Table, Step, split, join, draw, check, look, read, probe, claim, note, close, Leads, Finds, IsSearching, Run, opening, is_close, IsOpen, IsReachable}
+use Rattle.cg_cells.specs.Sure.{Sure}
+use Rattle.cg_cells.proofs.Keeping.{makes_keeps, looks, reads, found, passes, won, notes, renotes}
 use Rattle.cg_cells.proofs.Moving.{draws, splits, joins, opens}
 use Rattle.cg_cells.proofs.Rows.{word_again, value_in}
-use Rattle.cg_cells.proofs.Fitting.{known_inside}
-use Rattle.cg_cells.proofs.Totals.{none_live}
+use Rattle.cg_cells.proofs.Fitting.{known_inside, is_sure}
+use Rattle.cg_cells.proofs.Totals.{none_live, at_after, at_else, set_twice}
 
 module _ {X : Type 0} (m : Meaning X) (L : IsLawful m) (z : Sizes) where
   abbrev Holds : Table X → Type 0
@@ -21,41 +23,60 @@ module _ {X : Type 0} (m : Meaning X) (L : IsLawful m) (z : Sizes) where
   from : (s t : Table X) → t ≡ s → Holds s → Holds t
   from s t e h = subst Holds (sym e) h
 
-  noted_by : (s t : Table X) (word old value : ℕ) (views : List (ViewOf X)) → (old ≡ 0 → Whole m z (set s.words word (value + 1)) views) → (old ≢ 0 → Whole m z (set s.words word old) views)
-      → Whole m z (set s.words word (if old == 0 then value + 1 else old)) views
-  noted_by s t word old value views a b = dite (ℕ_discrete old 0)
-      (λ is. subst (λ x. Whole m z (set s.words word x) views) (let e : value + 1 ≡ (if old == 0 then value + 1 else old) = grind (arith, nat_tests) in e) (a is))
-      (λ far. subst (λ x. Whole m z (set s.words word x) views) (let e : old ≡ (if old == 0 then value + 1 else old) = grind (arith, nat_tests) in e) (b far))
+  module _ (s t : Table X) (W : Holds s) (j : ℕ) (v : ViewOf X) (at : IsLive s.views j v) where
+    -- a step of a live pass, which the pass keeps first
+    keeps : (ds : List Action) (words : List ℕ) (w : ViewOf X) (f : List (ViewOf X) → List (ViewOf X)) → t ≡ record { words = words; views = f (set s.views j w) }
+        → (Whole m z s.words (set s.views j (makes ds v)) → IsLive (set s.views j (makes ds v)) j (makes ds v)
+        → Whole m z words (f (set (set s.views j (makes ds v)) j w)))
+        → Holds t
+    keeps ds words w f e step = from _ t e (subst (λ l. Whole m z words (f l)) (set_twice s.views j (makes ds v) w)
+        (step (makes_keeps m L z s.words s.views W j v at ds) (at_after s.views j v (makes ds v) at.0, at.1)))
+
+    finds : (ds : List Action) (key steps : ℕ) (thing : X) → IsSearching m v key steps → m.spells key (knows v) ≡ Some thing
+        → Finds m z s j key (makes ds v) (place (cells_of z) (m.home key (cells_of z)) steps) thing t → Holds t
+    finds ds key steps thing S spells = ⊎_elim
+        (λ same. keeps ds s.words _ (λ l. l) same.1
+        (λ M here. found m L z s.words _ M j (makes ds v) here key steps thing S.is_key S.spare spells S.goes same.0))
+        (λ other. keeps ds s.words _ (λ l. l) other.2
+        (λ M here. passes m L z s.words _ M j (makes ds v) here key steps thing S.is_key S.spare spells S.goes other.0 other.1))
+
+  noted_by : (words : List ℕ) (word old value : ℕ) (views : List (ViewOf X)) → (old ≡ 0 → Whole m z (set words word (value + 1)) views)
+      → (old ≢ 0 → Whole m z (set words word old) views)
+      → Whole m z (set words word (if old == 0 then value + 1 else old)) views
+  noted_by words word old value views a b = dite (ℕ_discrete old 0)
+      (λ is. subst (λ x. Whole m z (set words word x) views) (let e : value + 1 ≡ (if old == 0 then value + 1 else old) = grind (arith, nat_tests) in e) (a is))
+      (λ far. subst (λ x. Whole m z (set words word x) views) (let e : old ≡ (if old == 0 then value + 1 else old) = grind (arith, nat_tests) in e) (b far))
 
   -- each step but a close keeps the rule
   pub step_keeps : (s t : Table X) (x : Step) → is_close x ≡ false → Holds s → Leads m z s x t → Holds t
-  step_keeps s t (split j heirs) opened W (v, at, (few, e)) = from _ t e (splits m z s.words s.views W j v at heirs few)
-  step_keeps s t (join j other) opened W (v, at, (w, there, (far, p, q, e))) = from _ t e (joins m z s.words s.views W j v at other w far there)
-  step_keeps s t (draw j) opened W (v, at, (more, e)) = from _ t e (draws m z s.words s.views W j v at more)
+  step_keeps s t (split j heirs) opened W (v, at, (few, e)) = keeps s t W j v at (a_split heirs ∷ []) s.words _ (λ l. l ++ split_off heirs v ∷ []) e
+      (λ M here. splits m z s.words _ M j _ here heirs few)
+  step_keeps s t (join j other) opened W (v, at, (w, there, (far, p, q, e))) = keeps s t W j v at (a_join ∷ []) s.words _ (λ l. set l other ended) e
+      (λ M here. joins m z s.words _ M j _ here other w far (at_else s.views j other (makes (a_join ∷ []) v) far ∙ there.0, there.1))
+  step_keeps s t (draw j) opened W (v, at, (more, e)) = keeps s t W j v at (a_draw ∷ []) _ _ (λ l. l) e (λ M here. draws m z s.words _ M j _ here more)
   step_keeps s t (check j) opened W (v, at, e) = from _ t e W
-  step_keeps s t (look j id) opened W (v, at, (thing, known, e)) = from _ t e (looks m L z s.words s.views W j v at id thing known)
-  step_keeps s t (read j id) opened W (v, at, (thing, known, e)) = from _ t e (reads m L z s.words s.views W j v at id thing known)
+  step_keeps s t (look j id) opened W (v, at, (thing, known, e)) = keeps s t W j v at (a_look id ∷ []) s.words _ (λ l. l) e
+      (λ M here. looks m L z s.words _ M j _ here id thing known)
+  step_keeps s t (read j id) opened W (v, at, (thing, known, e)) = keeps s t W j v at (a_read id ∷ []) s.words _ (λ l. l) e
+      (λ M here. reads m L z s.words _ M j _ here id thing known)
   step_keeps s t (probe j key) opened W (v, at, (thing, steps, S, spells, how)) = ⊎_elim
-      (λ empty. from _ t empty.1 W)
-      (λ full. ⊎_elim
-      (λ same. from _ t same.1 (found m L z s.words s.views W j v at key steps thing S.is_key S.spare spells S.goes same.0))
-      (λ other. from _ t other.2 (passes m L z s.words s.views W j v at key steps thing S.is_key S.spare spells S.goes other.0 other.1))
-      full)
+      (λ empty. from _ t empty.1 (makes_keeps m L z s.words s.views W j v at (a_probe key ∷ [])))
+      (finds s t W j v at (a_probe key ∷ []) key steps thing S spells)
       how
   step_keeps s t (claim j key) opened W (v, at, (thing, steps, S, spells, how)) = ⊎_elim
-      (λ new. from _ t new.1 (won m L z s.words s.views W j v at key steps thing S.is_key S.spare spells S.goes new.0))
-      (λ full. ⊎_elim
-      (λ same. from _ t same.1 (found m L z s.words s.views W j v at key steps thing S.is_key S.spare spells S.goes same.0))
-      (λ other. from _ t other.2 (passes m L z s.words s.views W j v at key steps thing S.is_key S.spare spells S.goes other.0 other.1))
-      full)
+      (λ new. keeps s t W j v at (a_claim key ∷ []) _ _ (λ l. l) new.1
+      (λ M here. won m L z s.words _ M j _ here key steps thing S.is_key S.spare spells S.goes new.0))
+      (finds s t W j v at (a_claim key ∷ []) key steps thing S spells)
       how
-  step_keeps s t (note j id value) opened W (v, at, (thing, due, known, known_value, must, e)) = from _ t e
-      (noted_by s t (1 + cells_of z + id) (value_at (cells_of z) s.words id) value (set s.views j (after_note v id))
-      (λ empty. notes m L z s.words s.views W j v at id thing known value due known_value must empty)
+  step_keeps s t (note j id value) opened W (v, at, (thing, due, known, known_value, must, e)) = keeps s t W j v at (a_note id value ∷ []) _ _ (λ l. l) e
+      (λ M here.
+      noted_by s.words (1 + cells_of z + id) (value_at (cells_of z) s.words id) value _
+      (λ empty. notes m L z s.words _ M j _ here id thing known value due known_value must empty)
       (λ has.
       let inside = known_inside m L z s.words s.views W j v at id thing known in
-      subst (λ ws. Whole m z ws (set s.views j (after_note v id))) (sym (ap (set s.words (1 + cells_of z + id)) (value_in (cells_of z) s.words id inside) ∙ word_again s.words (1 + cells_of z + id)))
-      (renotes m L z s.words s.views W j v at id thing known value due known_value must has)))
+      subst (λ ws. Whole m z ws (set (set s.views j (makes (a_note id value ∷ []) v)) j (after_note (makes (a_note id value ∷ []) v) id)))
+      (sym (ap (set s.words (1 + cells_of z + id)) (value_in (cells_of z) s.words id inside) ∙ word_again s.words (1 + cells_of z + id)))
+      (renotes m L z s.words _ M j _ here id thing known value due known_value must has)))
   step_keeps s t (close j) opened W h = absurd (true≢false opened)
 
   pub run_keeps : (xs : List Step) (s t : Table X) → IsOpen xs → Holds s → Run m z s xs t → Holds t
@@ -68,6 +89,12 @@ module _ {X : Type 0} (m : Meaning X) (L : IsLawful m) (z : Sizes) where
 
   pub whole_of : (t : Table X) → IsReachable m z t → Whole m z t.words t.views
   whole_of t R = keeps_rule R.allowed R.steps t R.opened R.run
+
+  -- a pass of a table that is reached is sure of its view
+  pub sure_of : (t : Table X) → IsReachable m z t → (j : ℕ) (v : ViewOf X) → IsLive t.views j v → Sure m v
+  sure_of t R j v at =
+      let W = whole_of t R in
+      is_sure m L z t.words t.views W j v at (t, subst (λ y. IsReachable m y t) (sym (W.each j v at).sized) R, (j, at))
 
   -- a close leaves sound words and no live pass
   pub closes : IsAllowed z → (xs : List Step) (j : ℕ) (s t : Table X) → IsOpen xs → Run m z (opening z) xs s → Leads m z s (close j) t

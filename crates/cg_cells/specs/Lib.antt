@@ -8,5 +8,6 @@ pub mod Index
 pub mod Views
 pub mod Table
 pub mod Steps
+pub mod Sure
 -- what private contracts cite
 pub mod Codes

@@ -2,7 +2,7 @@
 use Rattle.std.specs.Prelude.{◌≡◌, ◌≢◌, ◌⊎◌, ℕ, ◌+◌, ◌<◌, ◌≤◌, List, [], ◌∷◌, ◌++◌, map, replicate, Bool, true, false, Option, Some, None, IsSome, if◌then◌else◌, ◌==◌, slice_index, slice_set}
 use Rattle.cg_cells.specs.Meaning.{Meaning}
 use Rattle.cg_cells.specs.Index.{place}
-use Rattle.cg_cells.specs.Views.{Sizes, ViewOf, cells_of, knows, first_view, after_split, split_off, after_meet, ended, after_draw, after_claim, after_pass, after_note, after_look, after_read}
+use Rattle.cg_cells.specs.Views.{Sizes, ViewOf, Action, a_split, a_join, a_draw, a_look, a_read, a_probe, a_claim, a_note, cells_of, knows, makes, first_view, after_split, split_off, after_meet, ended, after_draw, after_claim, after_pass, after_note, after_look, after_read}
 use Rattle.cg_cells.specs.Table.{IsAllowed, IsLive, key_at, value_at}
 
 -- a table's words, and the views of all its passes
@@ -65,10 +65,10 @@ module _ {X : Type 0} (m : Meaning X) (z : Sizes) where
       ((key_at (cells_of z) s.words cell ≡ key) × (t ≡ seen s j (after_claim v cell thing)))
       ⊎ ((key_at (cells_of z) s.words cell ≢ 0) × (key_at (cells_of z) s.words cell ≢ key) × (t ≡ seen s j (after_pass v key)))
 
-  -- A probe: at the cell there is no key, which changes nothing, or there is one
+  -- A probe: at the cell there is no key, and nothing is learnt, or there is one
   abbrev pub ProbeLeads : Table X → ℕ → ℕ → ViewOf X → ℕ → X → Table X → Type 0
   ProbeLeads s j key v cell thing t =
-      ((key_at (cells_of z) s.words cell ≡ 0) × (t ≡ s)) ⊎ Finds s j key v cell thing t
+      ((key_at (cells_of z) s.words cell ≡ 0) × (t ≡ seen s j v)) ⊎ Finds s j key v cell thing t
 
   -- A claim: at the cell there is no key, which becomes this key, or there is one
   abbrev pub ClaimLeads : Table X → ℕ → ℕ → ViewOf X → ℕ → X → Table X → Type 0
@@ -76,29 +76,29 @@ module _ {X : Type 0} (m : Meaning X) (z : Sizes) where
       ((key_at (cells_of z) s.words cell ≡ 0) × (t ≡ stepped s (1 + cell) key j (after_claim v cell thing)))
       ⊎ Finds s j key v cell thing t
 
-  -- the step may be made at s, and leads to t
+  -- The step may be made at s, and leads to t. Its pass keeps it, but for a check
   abbrev pub Leads : Table X → Step → Table X → Type 0
   Leads s (split j heirs) t = OfLive (λ v. (heirs < v.heirs)
-      × (t ≡ record s { views = slice_set s.views j (after_split heirs v) ++ split_off heirs v ∷ [] })) s j
+      × (t ≡ record s { views = slice_set s.views j (after_split heirs (makes (a_split heirs ∷ []) v)) ++ split_off heirs v ∷ [] })) s j
   Leads s (join j other) t = OfLive (λ v. OfLive (λ w. (other ≢ j) × (v.probe ≡ None) × (w.probe ≡ None)
-      × (t ≡ record s { views = slice_set (slice_set s.views j (after_meet v w)) other ended })) s other) s j
+      × (t ≡ record s { views = slice_set (slice_set s.views j (after_meet (makes (a_join ∷ []) v) w)) other ended })) s other) s j
   Leads s (draw j) t = OfLive (λ v. (v.over ≡ false)
-      × (t ≡ stepped s 0 (slice_index s.words 0 + 1) j (after_draw v (slice_index s.words 0)))) s j
+      × (t ≡ stepped s 0 (slice_index s.words 0 + 1) j (after_draw (makes (a_draw ∷ []) v) (slice_index s.words 0)))) s j
   Leads s (check j) t = OfLive (λ v. t ≡ s) s j
   Leads s (look j id) t = OfLive (λ v. (thing : X) × (knows v id ≡ Some thing)
-      × (t ≡ seen s j (after_look m v (key_at (cells_of z) s.words id) thing))) s j
+      × (t ≡ seen s j (after_look m (makes (a_look id ∷ []) v) (key_at (cells_of z) s.words id) thing))) s j
   Leads s (read j id) t = OfLive (λ v. (thing : X) × (knows v id ≡ Some thing)
-      × (t ≡ seen s j (after_read m v id (value_at (cells_of z) s.words id) thing))) s j
+      × (t ≡ seen s j (after_read m (makes (a_read id ∷ []) v) id (value_at (cells_of z) s.words id) thing))) s j
   Leads s (probe j key) t = OfLive (λ v. (thing : X) × (steps : ℕ) × IsSearching m v key steps
       × (m.spells key (knows v) ≡ Some thing)
-      × ProbeLeads s j key v (place (cells_of z) (m.home key (cells_of z)) steps) thing t) s j
+      × ProbeLeads s j key (makes (a_probe key ∷ []) v) (place (cells_of z) (m.home key (cells_of z)) steps) thing t) s j
   Leads s (claim j key) t = OfLive (λ v. (thing : X) × (steps : ℕ) × IsSearching m v key steps
       × (m.spells key (knows v) ≡ Some thing)
-      × ClaimLeads s j key v (place (cells_of z) (m.home key (cells_of z)) steps) thing t) s j
+      × ClaimLeads s j key (makes (a_claim key ∷ []) v) (place (cells_of z) (m.home key (cells_of z)) steps) thing t) s j
   Leads s (note j id value) t = OfLive (λ v. (thing : X) × (due : X) × (knows v id ≡ Some thing) × (knows v value ≡ Some due)
       × (m.note_of thing ≡ Some due)
       × (t ≡ stepped s (1 + cells_of z + id)
-      (if value_at (cells_of z) s.words id == 0 then value + 1 else value_at (cells_of z) s.words id) j (after_note v id))) s j
+      (if value_at (cells_of z) s.words id == 0 then value + 1 else value_at (cells_of z) s.words id) j (after_note (makes (a_note id value ∷ []) v) id))) s j
   Leads s (close j) t = OfLive (λ v. t ≡ record s { views = map (λ u. ended) s.views }) s j
 
   -- these steps, one after the other, lead from s to t
@@ -129,6 +129,28 @@ pub record IsReachable {X : Type 0} (m : Meaning X) (z : Sizes) (t : Table X) : 
   pub steps : List Step
   pub opened : IsOpen steps
   pub run : Run m z (opening z) steps t
+
+-- the lists of all passes, where that of the pass j becomes ds
+abbrev pub puts : ℕ → List Action → (ℕ → List Action) → ℕ → List Action
+puts j ds f i = if i == j then ds else f i
+
+-- what each pass, with those that were met into it, has made after one step more
+abbrev pub adds : Step → (ℕ → List Action) → ℕ → List Action
+adds (split j heirs) f = puts j (a_split heirs ∷ f j) f
+adds (join j other) f = puts j (a_join ∷ f j ++ f other) f
+adds (draw j) f = puts j (a_draw ∷ f j) f
+adds (check j) f = f
+adds (look j id) f = puts j (a_look id ∷ f j) f
+adds (read j id) f = puts j (a_read id ∷ f j) f
+adds (probe j key) f = puts j (a_probe key ∷ f j) f
+adds (claim j key) f = puts j (a_claim key ∷ f j) f
+adds (note j id value) f = puts j (a_note id value ∷ f j) f
+adds (close j) f = f
+
+-- what each pass has made after these steps
+abbrev pub made_by : List Step → (ℕ → List Action) → ℕ → List Action
+made_by [] f = f
+made_by (x ∷ xs) f = made_by xs (adds x f)
 
 module _ {X : Type 0} where
   -- the table has these key words and value words

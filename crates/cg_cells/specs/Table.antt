@@ -2,10 +2,10 @@
 use Rattle.std.specs.Prelude.{◌≡◌, ◌≢◌, ◌⊎◌, ℕ, ◌+◌, ◌-◌, ◌*◌, ◌^◌, ◌<◌, ◌≤◌, min, List, [], ◌∷◌, length, true, false, Some, if◌then◌else◌, nat_lt, ◌==◌, slice_index}
 use mathlib.Core.Option.{some}
 use lib.ListN.{get_elem?}
-use Rattle.cg_cells.specs.Meaning.{Meaning, Has, Stands, Sound, IsInjective, IsReal}
+use Rattle.cg_cells.specs.Meaning.{Meaning, Has, Stands, Sound}
 use Rattle.cg_cells.specs.Index.{place}
 use Rattle.cg_cells.specs.Words.{filled}
-use Rattle.cg_cells.specs.Views.{Sizes, ViewOf, cells_of, knows}
+use Rattle.cg_cells.specs.Views.{Sizes, ViewOf, cells_of}
 
 -- what a table may be started with
 pub record IsAllowed (z : Sizes) : Type 0 where
@@ -102,18 +102,3 @@ module _ {X : Type 0} (m : Meaning X) where
     pub counted : total passes_of views ≡ z.passes
     -- what the counter has above the lines, and the draws that may still come
     pub excess : (slice_index words 0 - z.lines) + total may_draw views ≤ z.passes
-
-  -- What the rule tells of one live view
-  pub record Sure (v : ViewOf X) : Type 0 where
-    -- no id is taken for two things, and different ids are different things
-    pub one : (i : ℕ) (t : X) → Tells v.known i t → knows v i ≡ Some t
-    pub apart : IsInjective (knows v)
-    -- a known id is a cell of the table, and its thing is one that some cells stand for
-    pub inside : (i : ℕ) (t : X) → knows v i ≡ Some t → i < cells_of v.sizes
-    pub real : (i : ℕ) → IsReal m (knows v i)
-    -- no line was drawn twice, and all were drawn where no other pass may have drawn and none is left
-    pub once : (n : ℕ) → times n v.tickets ≤ (if nat_lt n v.sizes.lines then 1 else 0)
-    pub all : v.over ≡ true → passes_of v ≡ v.sizes.passes → HasAllTickets v
-    pub few_spare : v.spare ≤ 2 ^ 26
-    pub few_heirs : v.heirs ≤ 65536
-    pub few_passes : passes_of v ≤ v.sizes.passes

@@ -15,6 +15,21 @@ pub record Sizes : Type 0 where
 abbrev pub cells_of : Sizes → ℕ
 cells_of z = z.lines * z.share
 
+-- A step without the number of its pass, as its pass keeps it. A look of which nothing is learnt isn't kept
+pub data Action : Type 0 where
+  -- the heirs of the new pass
+  a_split : ℕ → Action
+  a_join : Action
+  a_draw : Action
+  -- a look at the key word of an id, at the value word of an id
+  a_look : ℕ → Action
+  a_read : ℕ → Action
+  -- of a key
+  a_probe : ℕ → Action
+  a_claim : ℕ → Action
+  -- the id and its value
+  a_note : ℕ → ℕ → Action
+
 pub record ViewOf (X : Type 0) : Type 0 where
   -- those of the table
   pub sizes : Sizes
@@ -32,6 +47,8 @@ pub record ViewOf (X : Type 0) : Type 0 where
   pub over : Bool
   -- the key that is searched for, and how many cells from its home on had another key
   pub probe : Option (ℕ × ℕ)
+  -- what the pass has made, and those that were met into it, the latest first
+  pub made : List Action
   -- the pass has ended
   pub gone : Bool
 
@@ -53,6 +70,10 @@ module _ {X : Type 0} where
   learn k [] f = k
   learn k (i ∷ is) f = (i, f i) ∷ learn k is f
 
+  -- the pass makes these steps
+  abbrev pub makes : List Action → ViewOf X → ViewOf X
+  makes ds v = record v { made = ds ++ v.made }
+
   -- Make
   abbrev pub first_view : Sizes → ViewOf X
   first_view z = record {
@@ -66,6 +87,7 @@ module _ {X : Type 0} where
     met = 0;
     over = false;
     probe = None;
+    made = [];
     gone = false;
   }
 
@@ -85,6 +107,7 @@ module _ {X : Type 0} where
     met = 0;
     over = false;
     probe = None;
+    made = [];
     gone = false;
   }
 
@@ -99,6 +122,7 @@ module _ {X : Type 0} where
     heirs = v.heirs + w.heirs;
     met = v.met + w.met + 1;
     over = v.over || w.over;
+    made = v.made ++ w.made;
   }
 
   -- the view of a pass that has ended, which counts for nothing
@@ -114,6 +138,7 @@ module _ {X : Type 0} where
     met = 0;
     over = false;
     probe = None;
+    made = [];
     gone = true;
   }
 

@@ -1,9 +1,9 @@
 //! Laws of a shared table: whatever the passes of a table do, in whatever order, its rule holds,
-//! and what the rule says of tickets.
-ghost use Rattle.std.specs.Prelude.{◌≡◌, ℕ, ◌<◌, ◌≤◌, min, List, slice_index};
+//! and what the rule says of tickets. Each pass keeps the list of the steps that it makes.
+ghost use Rattle.std.specs.Prelude.{◌≡◌, ℕ, ◌<◌, ◌≤◌, min, List, [], slice_index};
 ghost use Rattle.cg_cells.specs.Views.{Sizes, ViewOf, cells_of};
 ghost use Rattle.cg_cells.specs.Table.{IsAllowed, IsLive, SoundAndPlaced, Whole, times};
-ghost use Rattle.cg_cells.specs.Steps.{Table, Step, close, opening, Leads, Run, IsOpen};
+ghost use Rattle.cg_cells.specs.Steps.{Table, Step, close, opening, Leads, Run, IsOpen, made_by};
 
 use crate::Facts;
 
@@ -22,6 +22,14 @@ pub fn steps<F: Facts>()
         × ((i : ℕ) (v : ViewOf F.Thing) → ¬ IsLive t.views i v) }
     ensures last { (z : Sizes) (s t : Table F.Thing) (step : Step)
         → ((i : ℕ) (v : ViewOf F.Thing) → ¬ IsLive s.views i v) → ¬ Leads F.meaning z s step t }
+{}
+
+/// After every list of steps from the start of a table, what a live pass's view has as made are the
+/// steps of the list that this pass made, and those of the passes that were met into it, the latest first.
+pub fn made<F: Facts>()
+    ensures { (z : Sizes) (steps : List Step) (t : Table F.Thing) (i : ℕ) (v : ViewOf F.Thing)
+        → Run F.meaning z (opening z) steps t → IsLive t.views i v
+        → v.made ≡ made_by steps (λ j. []) i }
 {}
 
 /// Where the rule holds, each line that was drawn is the ticket of one live pass, which has it

@@ -13,15 +13,15 @@ use Rattle.cg_query.specs.declared.format.Format.TheVariants as formats
 use Rattle.cg_grammar.proofs.LeastFault.{row_within}
 
 -- the fault of each value of the piece lies within the value's text
-record AllLie {A : Type 0} (fault : A → Option ℕ) (R : Piece A) : Type 0 where
-  lie : (i : ℕ) (v : A) (text : List ℕ) → R i v text → (c : ℕ) → fault v ≡ Some c → (i ≤ c) × (c < i + length text)
+pub record AllLie {A : Type 0} (fault : A → Option ℕ) (R : Piece A) : Type 0 where
+  pub lie : (i : ℕ) (v : A) (text : List ℕ) → R i v text → (c : ℕ) → fault v ≡ Some c → (i ≤ c) × (c < i + length text)
 
 none_lies : {A : Type 0} {R : Piece A} → AllLie (λ v. None) R
 none_lies = record { lie = λ i v text is c e. absurd cc }
 
 -- ---- pieces of pieces
 
-or_lie : {A : Type 0} (f : A → Option ℕ) {R S : Piece A} → AllLie f R → AllLie f S → AllLie f (Or R S)
+pub or_lie : {A : Type 0} (f : A → Option ℕ) {R S : Piece A} → AllLie f R → AllLie f S → AllLie f (Or R S)
 or_lie {A} f {R} {S} r s = record { lie = by }
   where
     by : (i : ℕ) (v : A) (text : List ℕ) → Or R S i v text → (c : ℕ) → f v ≡ Some c → (i ≤ c) × (c < i + length text)
@@ -29,30 +29,30 @@ or_lie {A} f {R} {S} r s = record { lie = by }
     by i v text (inr is) c e = s.lie i v text is c e
 
 module _ {A B : Type 0} (f : A → Option ℕ) {R : Piece A} (S : Piece B) (r : AllLie f R) where
-  first_lies : AllLie (λ v. f v.0) (Then R S)
+  pub first_lies : AllLie (λ v. f v.0) (Then R S)
   first_lies = record { lie = λ i v text is c e. let p = r.lie i v.0 is.before is.first c e in (p.0, omega (arith, p.1, ap length is.spelled, length-append is.before is.behind)) }
 
   longest_lies : {goes_on : A → Class} → AllLie (λ v. f v.0) (Longest goes_on R S)
   longest_lies = record { lie = λ i v text is c e. let p = r.lie i v.0 is.before is.first c e in (p.0, omega (arith, p.1, ap length is.spelled, length-append is.before is.behind)) }
 
-  second_lies : AllLie (λ v. f v.1) (Then S R)
+  pub second_lies : AllLie (λ v. f v.1) (Then S R)
   second_lies = record {
     lie = λ i v text is c e. let p = r.lie (i + length is.before) v.1 is.behind is.second c e in (omega (arith, p.0), omega (arith, p.1, ap length is.spelled, length-append is.before is.behind));
   }
 
-made_lie : {A B : Type 0} (f : B → Option ℕ) (h : A → B) {R : Piece A} → AllLie (λ v. f (h v)) R → AllLie f (Made h R)
+pub made_lie : {A B : Type 0} (f : B → Option ℕ) (h : A → B) {R : Piece A} → AllLie (λ v. f (h v)) R → AllLie f (Made h R)
 made_lie f h r = record { lie = λ i v text is c e. r.lie i is.made_of text is.is c (ap f (sym is.same) ∙ e) }
 
-spaced_lies : {A : Type 0} (f : A → Option ℕ) {R : Piece A} → AllLie f R → AllLie f (behind_blanks R)
+pub spaced_lies : {A : Type 0} (f : A → Option ℕ) {R : Piece A} → AllLie f R → AllLie f (behind_blanks R)
 spaced_lies f r = made_lie f (λ v. v.1) (second_lies f _ r)
 
-abbrev fault_of : Found → Option ℕ
+abbrev pub fault_of : Found → Option ℕ
 fault_of e = e.fault
 
-abbrev fault_with : Found × Last → Option ℕ
+abbrev pub fault_with : Found × Last → Option ℕ
 fault_with v = v.0.fault
 
-first_cases : (x y : Option ℕ) (c : ℕ) → first x y ≡ Some c → (x ≡ Some c) ⊎ (y ≡ Some c)
+pub first_cases : (x y : Option ℕ) (c : ℕ) → first x y ≡ Some c → (x ≡ Some c) ⊎ (y ≡ Some c)
 first_cases (Some d) y c e = inl e
 first_cases None y c e = inr e
 
@@ -86,7 +86,7 @@ module _ {S : Piece (Found × Last)} (s : AllLie fault_with S) where
       or_lie fault_of (made_lie fault_of _ (second_lies fault_of _ (counted_tail_lies false)))
       (spaced_lies fault_of (others_lie (made_lie fault_of _ none_lies)))
 
-  term_lies : AllLie fault_of (g.term S)
+  pub term_lies : AllLie fault_of (g.term S)
   term_lies =
       or_lie fault_of (or_lie fault_of (made_lie fault_of _ (second_lies fault_of _ (counted_tail_lies true))) (counted_tail_lies false))
       (others_lie (or_lie fault_of (made_lie fault_of _ none_lies) (made_lie fault_of _ (second_lies fault_of _ body_lies))))
@@ -104,8 +104,11 @@ module _ {S : Piece (Found × Last)} (s : AllLie fault_with S) where
   terms_lie : {R : Piece (Bool × Found)} → AllLie (λ v. v.1.fault) R → AllLie first_fault (Many R)
   terms_lie r = record { lie = all_lie r }
 
+  pub next_lies : AllLie (λ u. u.1.fault) (behind_blanks (Then g.sign (behind_blanks (g.term S))))
+  next_lies = spaced_lies (λ u. u.1.fault) (second_lies fault_of g.sign (spaced_lies fault_of term_lies))
+
   further_lie : AllLie first_fault (Many (behind_blanks (Then g.sign (behind_blanks (g.term S)))))
-  further_lie = terms_lie (spaced_lies (λ u. u.1.fault) (second_lies fault_of g.sign (spaced_lies fault_of term_lies)))
+  further_lie = terms_lie next_lies
 
   sum_lies : (i : ℕ) (e : Found) (vs : List (Bool × Found)) (x y text : List ℕ) → g.term S i e x → Many (behind_blanks (Then g.sign (behind_blanks (g.term S)))) (i + length x) vs y
       → text ≡ x ++ y → (c : ℕ) → (sum_of e vs).fault ≡ Some c → (i ≤ c) × (c < i + length text)
@@ -118,7 +121,7 @@ module _ {S : Piece (Found × Last)} (s : AllLie fault_with S) where
           let p = further_lie.lie (i + length x) (v ∷ vs) y m c k in
           (omega (arith, p.0), omega (arith, p.1, ap length s, length-append x y))
 
-  expr_lies : AllLie fault_of (g.expr S)
+  pub expr_lies : AllLie fault_of (g.expr S)
   expr_lies = made_lie fault_of (λ v. sum_of v.0 v.1) (record { lie = λ i v text is c e. sum_lies i v.0 v.1 is.before is.behind text is.first is.second is.spelled c e })
 
 -- ---- sides and rows
@@ -138,6 +141,9 @@ many_order r i (e ∷ es) text is =
     (m, omega arith, r.lie i e is.before is.first, side_wide m (m + length is.behind) es m (i + length text) (many_order r m es is.behind is.second) (omega arith) (omega (arith, ap length is.spelled, length-append is.before is.behind)))
 
 module _ {E : Piece Found} (x : AllLie fault_of E) where
+  pub items_lie : AllLie fault_of (behind_blanks (Made (λ v. v.1) (Then (One g.comma) (behind_blanks E))))
+  items_lie = spaced_lies fault_of (made_lie fault_of _ (second_lies fault_of _ (spaced_lies fault_of x)))
+
   exprs_order : InOrder (g.exprs E)
   exprs_order i es text is =
       let P : List Found → Type 0 = λ z. SideLies i z (i + length text) in
@@ -148,10 +154,10 @@ module _ {E : Piece Found} (x : AllLie fault_of E) where
         omega arith,
         x.lie i is.made_of.0 t.before t.first,
         side_wide m (m + length t.behind) is.made_of.1 m (i + length text)
-            (many_order (spaced_lies fault_of (made_lie fault_of _ (second_lies fault_of _ (spaced_lies fault_of x)))) m is.made_of.1 t.behind t.second) (omega arith) (omega (arith, ap length t.spelled, length-append t.before t.behind)),
+            (many_order items_lie m is.made_of.1 t.behind t.second) (omega arith) (omega (arith, ap length t.spelled, length-append t.before t.behind)),
       )
 
-  side_order : InOrder (g.side E)
+  pub side_order : InOrder (g.side E)
   side_order i es text is =
       let t = is.is in
       let m = i + length t.before in
@@ -216,7 +222,7 @@ named_lies : (format : Format) {R : Piece Found} → AllLie fault_of R → AllLi
 named_lies formats.One r = made_lie fault_with _ r
 named_lies formats.Two r = or_lie fault_with (made_lie fault_with _ r) (made_lie fault_with _ none_lies)
 
-special_lies : (format : Format) (most : ℕ) → AllLie fault_with (g.special format most)
+pub special_lies : (format : Format) (most : ℕ) → AllLie fault_with (g.special format most)
 unfolding g.special
 special_lies format zero =
     named_lies format (or_lie fault_of (made_lie fault_of _ none_lies) (or_lie fault_of (made_lie fault_of _ none_lies) board_lies))

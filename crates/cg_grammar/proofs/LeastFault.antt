@@ -5,10 +5,10 @@ use Rattle.cg_grammar.specs.Braces.{Run_side, repeats, side_fault, runs_fault, r
 use Rattle.cg_grammar.specs.Splitting.{IsFault, IsLeast, IsRepeatAt, IsRunsFault, IsSideFault, RowLies, RunsLie, SideLies}
 use Rattle.cg_grammar.proofs.RepeatedRuns.{repeats_exactly}
 
-some_same : (c d : ℕ) → Some c ≡ Some d → c ≡ d
+pub some_same : (c d : ℕ) → Some c ≡ Some d → c ≡ d
 some_same c d e = cc
 
-none_some : {c : ℕ} → None ≡ Some c → ⊥
+pub none_some : {c : ℕ} → None ≡ Some c → ⊥
 none_some e = cc
 
 -- ---- the least of two lots of columns, where none of the second is before one of the first

@@ -102,7 +102,7 @@ module _ (format : Format) (text : List ℕ) where
   unfolding read_at
   read_left n h = whole_left (line_of format) (line_at format) line_begin false line_follow (line_lawful format) text n h
 
-  one_stated : (a b : Stated) → line_of format 1 a text → line_of format 1 b text → a ≡ b
+  pub one_stated : (a b : Stated) → line_of format 1 a text → line_of format 1 b text → a ≡ b
   one_stated a b x y = whole_once (line_of format) (line_at format) line_begin false line_follow (line_lawful format) text a b x y
 
   found : (a : Stated) → read_at format text ≡ Ok a → line_of format 1 a text

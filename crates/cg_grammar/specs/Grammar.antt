@@ -301,13 +301,16 @@ module _ (expr : Piece Found) where
       (Or (Made (λ v. asked_of_both v.0 v.1.1.0 v.1.1.1) (Then asking_both (Then gap (with_semicolon expr expr))))
       (Made (λ v. checked v.1.1.0.0 v.1.1.0.1 v.1.1.1) (Then (Word (codes "check") (tt {0})) (Then gap (with_semicolon (with_semicolon expr expr) string)))))
 
+  -- a definition
+  abbrev pub define_by : Piece Stated
+  define_by = Made (λ v. defined v.0 v.1.1.1.1) (Then name (Then blanks (Then (Word (codes ":=") (tt {0})) (Then blanks expr))))
+
 -- a line of format 1, with 64 brackets at most open at once
 abbrev pub line : Piece Asked
 line = behind_blanks (with_blanks (query (expr (special formats.One 64))))
 
--- a definition
 abbrev pub define : Piece Stated
-define = Made (λ v. defined v.0 v.1.1.1.1) (Then name (Then blanks (Then (Word (codes ":=") (tt {0})) (Then blanks (expr (special formats.Two 64))))))
+define = define_by (expr (special formats.Two 64))
 
 -- a line of format 2
 abbrev pub line_two : Piece Stated

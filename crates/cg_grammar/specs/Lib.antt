@@ -5,4 +5,5 @@ pub mod Grammar
 pub mod Reading
 pub mod Lines
 pub mod Splitting
+pub mod Repeated
 pub mod Written

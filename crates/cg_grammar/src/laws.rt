@@ -3,9 +3,10 @@ ghost use Rattle.std.specs.Prelude.{◌≡◌, ◌≤◌, ◌+◌, ◌↔◌, �
 ghost use Rattle.cg_query.specs.Tree.{Question, Statement};
 ghost use Rattle.cg_query.specs.declared.format.Format.{Format};
 ghost use Rattle.cg_grammar.specs.Braces.{Run_side, part_of, repeats, row_fault, row_tree};
-ghost use Rattle.cg_grammar.specs.Found.{Found};
+ghost use Rattle.cg_grammar.specs.Found.{Found, Stated};
 ghost use Rattle.cg_grammar.specs.Grammar.{Some_rows, expr, side as side_piece, special};
-ghost use Rattle.cg_grammar.specs.Lines.{is_blank_line, IsColumn, IsColumnIn, IsComment, Reads, ReadsIn};
+ghost use Rattle.cg_grammar.specs.Lines.{is_blank_line, IsColumn, IsColumnIn, IsComment, Reads, ReadsIn, line_of};
+ghost use Rattle.cg_grammar.specs.Repeated.{RepeatsAt};
 ghost use Rattle.cg_grammar.specs.Splitting.{AllWithin, IsFault, IsLeast, IsSplit, NoneRepeats, Repeats, RowLies};
 ghost use Rattle.cg_grammar.specs.Values.{run_side};
 
@@ -53,7 +54,9 @@ pub fn repeated_run()
 
 /// The column at which a brace is refused is the least at which a run of bars repeats an earlier one of the brace, or an
 /// expression in it is refused; and there is none exactly where no run does and no expression is. In each line the
-/// expressions and the runs of a brace stand one behind the other, as that asks.
+/// expressions and the runs of a brace stand one behind the other, as that asks. So the column of a whole line of the
+/// grammar is the least at which some brace of it, at any depth, repeats a run; and there is none exactly where no brace
+/// does.
 pub fn least_column()
     ensures least { (side : List Found) (rows : List Run_side) (from to : ℕ) → RowLies from side rows to
         → IsLeast (IsFault side rows) (row_fault side rows) }
@@ -62,4 +65,6 @@ pub fn least_column()
         → side_piece (expr (special format most)) at side front
         → Some_rows (side_piece (expr (special format most))) (at + length front) (row, rows) behind
         → RowLies at side (map run_side (row ∷ rows)) (at + length front + length behind) }
+    ensures whole { (format : Format) (line : List ℕ) (a : Stated) → line_of format 1 a line
+        → IsLeast (RepeatsAt format line) a.fault }
 {}

@@ -1,5 +1,5 @@
 //! Handles that were found, each once.
-ghost use Rattle.std.specs.Prelude.{◌≡◌, ◌==◌, ℕ, ◌<◌, ◌≤◌, ◌^◌, ◌∷◌, ◌++◌, [], IfOk, OnOk, IsTrue, ◌↔◌, length, Err};
+ghost use Rattle.std.specs.Prelude.{◌≡◌, ◌==◌, ℕ, ◌<◌, ◌≤◌, ◌^◌, ◌∷◌, ◌++◌, [], IfOk, OnOk, OnErr, IsTrue, ◌↔◌, length, Err};
 ghost use Rattle.std.specs.HashSet.{contains};
 ghost use Rattle.cg_cells.specs.Meaning.{Has};
 
@@ -63,10 +63,11 @@ impl Found {
         }
     }
 
-    /// Puts one more handle behind those that were found, of which there may be so many.
+    /// Puts one more handle behind those that were found, of which there may be so many. After an error they are as before.
     pub fn add(&mut self, handle: Handle, limit: u64) -> Result<(), PositionsFault>
         requires { length self.old ≤ limit }
         ensures added { OnOk result (self.new ≡ self.old ++ (handle ∷ [])) }
+        ensures same { OnErr result (self.new ≡ self.old) }
         ensures within { OnOk result (length self.old < limit) }
         ensures refused { result ≡ Err PositionsFault.Positions → (limit ≡ length self.old) × (limit < 2 ^ 63) }
     {
@@ -77,10 +78,16 @@ impl Found {
         if self.by_ids {
             // Without room for the id, the handles are searched one by one again.
             self.by_ids = false;
-            self.ids.insert(handle.id().number())?;
+            if self.ids.insert(handle.id().number()).is_err() {
+                self.handles.pop();
+                return Err(PositionsFault::Memory);
+            }
             self.by_ids = true;
         } else if self.handles.len() > MOST_SEARCHED {
-            put_ids(&mut self.ids, &self.handles)?;
+            if put_ids(&mut self.ids, &self.handles).is_err() {
+                self.handles.pop();
+                return Err(PositionsFault::Memory);
+            }
             self.by_ids = true;
         }
         Ok(())

@@ -1,6 +1,6 @@
 //! Blanks, single bytes, words and digits: each function reads one of them from the front of the
 //! bytes, and gives what is left behind it.
-ghost use Rattle.std.specs.Prelude.{◌≡◌, ◌<◌, ◌≤◌, ◌^◌, length, IfOk, IsTrue, ℕ};
+ghost use Rattle.std.specs.Prelude.{◌≡◌, ◌≢◌, ◌<◌, ◌≤◌, ◌^◌, length, IfErr, IfOk, IsTrue, ℕ};
 ghost use Rattle.cg_reading.specs.Bytes.{has};
 ghost use Rattle.cg_reading.specs.Tokens.{blank, digit, only};
 ghost use Rattle.cg_reading.specs.Readers.{skipped};
@@ -67,6 +67,7 @@ pub fn is_byte(byte: u8, other: u8) -> bool
 pub fn after_byte(byte: u8, bytes: &[u8]) -> Result<&[u8], ReadFault>
     ensures read { (end : ℕ) → Gives (λ x. (byte, x.now)) result (byte_at byte end bytes.now) }
     ensures shorter { IfOk result (λ x. length x.now < length bytes.now) }
+    ensures no_memory { IfErr result (λ fault. fault ≢ ReadFault.Memory) }
 {
     let Some((first, rest)) = bytes.split_first() else {
         return Err(ReadFault::Stuck(0));
@@ -83,6 +84,7 @@ pub fn after_word<'a>(word: &[u8], bytes: &'a [u8]) -> Result<&'a [u8], ReadFaul
     ensures read { (end : ℕ) → Gives (λ x. (tt {0}, x.now)) result
         (this_word_at word.now end bytes.now) }
     ensures shorter { IfOk result (λ x. length x.now ≤ length bytes.now) }
+    ensures no_memory { IfErr result (λ fault. fault ≢ ReadFault.Memory) }
 {
     let mut rest = bytes;
     for want in word {
@@ -107,6 +109,7 @@ pub fn word_of<'a, T: Copy>(
     ensures read { (end : ℕ) → Gives (λ x. (x.0, x.1.now)) result
         (among_at (words_of table.now) end bytes.now) }
     ensures shorter { IfOk result (λ x. length x.1.now ≤ length bytes.now) }
+    ensures no_memory { IfErr result (λ fault. fault ≢ ReadFault.Memory) }
 {
     let mut left = bytes.len();
     for entry in table {
@@ -124,6 +127,7 @@ pub fn word_of<'a, T: Copy>(
 pub fn after_gap(bytes: &[u8]) -> Result<&[u8], ReadFault>
     ensures read { (end : ℕ) → Gives (λ x. (tt {0}, x.now)) result (gap_at end bytes.now) }
     ensures shorter { IfOk result (λ x. length x.now ≤ length bytes.now) }
+    ensures no_memory { IfErr result (λ fault. fault ≢ ReadFault.Memory) }
 {
     let Some((first, rest)) = bytes.split_first() else {
         return Err(ReadFault::Stuck(0));
@@ -139,6 +143,7 @@ pub fn digits(bytes: &[u8]) -> Result<(u128, &[u8]), ReadFault>
     ensures read { (end : ℕ) → Gives (λ x. (x.0, x.1.now)) result (digits_at end bytes.now) }
     ensures below { IfOk result (λ x. x.0 < 10 ^ 30) }
     ensures shorter { IfOk result (λ x. length x.1.now < length bytes.now) }
+    ensures no_memory { IfErr result (λ fault. fault ≢ ReadFault.Memory) }
 {
     few_digits(30, bytes)
 }
@@ -151,6 +156,7 @@ pub fn few_digits(most: u8, bytes: &[u8]) -> Result<(u128, &[u8]), ReadFault>
     ensures read { (end : ℕ) → Gives (λ x. (x.0, x.1.now)) result (few_digits_at most end bytes.now) }
     ensures below { IfOk result (λ x. x.0 < 10 ^ most) }
     ensures shorter { IfOk result (λ x. length x.1.now < length bytes.now) }
+    ensures no_memory { IfErr result (λ fault. fault ≢ ReadFault.Memory) }
 {
     let Some((first, after)) = bytes.split_first() else {
         return Err(ReadFault::Stuck(0));

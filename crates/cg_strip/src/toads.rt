@@ -1,5 +1,5 @@
 //! Toads and Frogs.
-ghost use Rattle.std.specs.Prelude.{IfOk, IfErr};
+ghost use Rattle.std.specs.Prelude.{◌≢◌, IfOk, IfErr};
 ghost use Rattle.cg_strip.specs.ToadsBoards.{IsToadsBoard, IsNoToadsBoard};
 
 use crate::hopping::hops;
@@ -44,10 +44,11 @@ impl Rules for Toads {
 }
 
 /// The board of a text: one row of toads, frogs and empty cells. Where it is refused, it is for the first of the causes by
-/// which any row of these symbols is.
+/// which any row of these symbols is. It takes no memory.
 pub fn read_toads(alloc: Global, text: &[u8]) -> Result<Board, BoardFault>
     ensures read { IfOk result (IsToadsBoard text.now) }
     ensures refused { IfErr result (IsNoToadsBoard text.now) }
+    ensures no_memory { IfErr result (λ fault. fault ≢ BoardFault.Memory) }
 {
     read_grid(alloc, text, b".TF", true)
 }

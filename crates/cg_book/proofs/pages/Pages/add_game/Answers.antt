@@ -1,4 +1,4 @@
-use Rattle.std.proofs.Common.{◌≡◌, ◌<◌, ◌+◌, ◌^◌, ◌++◌, ◌∷◌, [], ℕ, List, ap, append_assoc, false, length, refl, rules, subst, sym, zip, ◌∙◌}
+use Rattle.std.proofs.Common.{◌≡◌, ◌+◌, ◌++◌, ◌∷◌, [], ℕ, List, ap, append_assoc, false, length, refl, rules, subst, sym, zip, ◌∙◌}
 use Rattle.cg_form.specs.Game.{node}
 use Rattle.cg_book.specs.declared.pages.Page.{Page}
 use Rattle.cg_book.specs.declared.profile.Profile.{Profile}
@@ -45,11 +45,6 @@ page_of c = record {
   weight = c.weight_with-weight.result;
 }
 
-fewer : (c : goal.In_ok-add) → length c.args.self.now < 2 ^ 32
-fewer c =
-    let n = counted c.self.inside c.args.self.now c.self.invariant c.self.view_is in
-    search rules
-
 pushed : (c : goal.In_ok-add) → IsBook c.extend_from_slice-2.new.self.items c.add.new.pages.items c.add.new.profiles.items
     × (said_by c.extend_from_slice-2.new.self.items [] (zip c.add.new.pages.items c.add.new.profiles.items)
     ≡ c.args.self.now ++ (node (games_of c.args.self.now c.args.lefts.now) (games_of c.args.self.now c.args.rights.now) ∷ []))
@@ -69,7 +64,7 @@ pushed c =
     let adds = subst A (sym e) (adds_game opts ls rs gs (page_of c) c.args.profile.now refl first middle end c.requires.lefts c.requires.rights
     c.requires.canonical c.requires.profile c.of.ensures) in
     one_page all c.self.inside.pages.items c.add.new.pages.items c.self.inside.profiles.items c.add.new.profiles.items gs (page_of c) c.args.profile.now g
-    more.0 more.1 adds c.in_ok-add.ensures.pages c.in_ok-add.ensures.profiles (fewer c)
+    more.0 more.1 adds c.in_ok-add.ensures.pages c.in_ok-add.ensures.profiles c.requires.few
 
 pub invariant_of-self-2 : goal.invariant_of-self-2
 invariant_of-self-2 c = (pushed c).0
@@ -81,3 +76,9 @@ returns-clause-page c =
 
 pub returns-clause-games : goal.returns-clause-games
 returns-clause-games c = (pushed c).1
+
+pub overflow_cast-result : goal.overflow_cast-result
+overflow_cast-result c =
+    let n = counted c.self.inside c.args.self.now c.self.invariant c.self.view_is in
+    let few = c.requires.few in
+    search rules
