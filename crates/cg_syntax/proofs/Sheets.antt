@@ -1,5 +1,5 @@
 -- What a sheet binds names to.
-use Rattle.std.proofs.Common.{rules, ◌≡◌, ◌<◌, refl, ap, sym, subst, ◌∙◌, ℕ, zero, suc, Bool, true, false, cond, List, [], ◌∷◌, ◌++◌, map, reverse, length, get_or, Option, Some, None}
+use Rattle.std.proofs.Common.{rules, arith, ◌≡◌, ◌<◌, refl, ap, sym, subst, ◌∙◌, ℕ, zero, suc, Bool, true, false, cond, List, [], ◌∷◌, ◌++◌, map, reverse, length, get_or, Option, Some, None}
 use Rattle.std.specs.Prelude.{slice_get}
 use Rattle.std.specs.Str.{bytes_eq}
 use Rattle.std.proofs.lemmas.List.{map-append, reverse-append}
@@ -34,7 +34,7 @@ sound_both lines (d ∷ bs) b a c = (a.0, sound_both lines bs b a.1 c)
 
 -- ---- looking a name up
 
-otherwise : Option Tree → Option Tree → Option Tree
+abbrev otherwise : Option Tree → Option Tree → Option Tree
 otherwise (Some t) later = Some t
 otherwise None later = later
 
@@ -83,14 +83,21 @@ found_last lines (c ∷ bs) (suc n) b name at same other =
 -- a binding with another number has another name
 pub other_number : (bs : List Bound) (numbers : List ℕ) (m : ℕ) (name : List ℕ) → numbers ≡ map (λ b. number_of b.name) bs → m < length bs
     → (get_or numbers m 0 ≡ number_of name → has_name (slice_get bs m) name ≡ false) → has_name (slice_get bs m) name ≡ false
-other_number [] numbers m name is low other = absurd cc
+other_number [] numbers m name is low other = absurd (omega arith)
 other_number (b ∷ bs) numbers zero name is low other = by (bytes_eq b.name name) refl
   where
     by : (same : Bool) → bytes_eq b.name name ≡ same → bytes_eq b.name name ≡ false
-    by true e = other (ap (λ (z : List ℕ). get_or z 0 0) is ∙ ap number_of ((bytes_eq-Decides b.name name).when_true e))
+    by true e = other (ap (λ (z : List ℕ). get_or z 0 0) is ∙ ap number_of ((bytes_eq-Decides b.name name).0 e))
     by false e = e
 other_number (b ∷ bs) numbers (suc m) name is low other =
     other_number bs (map (λ c. number_of c.name) bs) m name refl (search rules) (λ e. other (ap (λ (z : List ℕ). get_or z (suc m) 0) is ∙ e))
+
+-- the numbers of the names with one binding more
+pub numbers_more : (numbers more : List ℕ) (bs all : List Bound) (b : Bound) (number : ℕ) → more ≡ numbers ++ number ∷ [] → number ≡ number_of b.name
+    → numbers ≡ map (λ b. number_of b.name) bs → all ≡ bs ++ b ∷ [] → more ≡ map (λ b. number_of b.name) all
+numbers_more numbers more bs all b number one own is last =
+    one ∙ ap (λ (z : List ℕ). z ++ number ∷ []) is ∙ ap (λ (n : ℕ). map (λ b. number_of b.name) bs ++ n ∷ []) own
+    ∙ sym (map-append (λ b. number_of b.name) bs (b ∷ [])) ∙ ap (map (λ b. number_of b.name)) (sym last)
 
 -- ---- one line more
 

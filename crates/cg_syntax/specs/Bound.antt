@@ -76,9 +76,13 @@ abbrev pub AreBoundAt : List SessionLine → List Bound → Type 0
 AreBoundAt lines [] = Unit {0}
 AreBoundAt lines (b ∷ bs) = IsBoundAt lines b × AreBoundAt lines bs
 
--- the number by which a name is looked up: its bytes as digits, of which the last 32 bits count
+-- one digit more at the end of a number, of which the last 32 bits count
+abbrev pub with_digit : ℕ → ℕ → ℕ
+with_digit before byte = (before * 257 % 2 ^ 32 + byte) % 2 ^ 32
+
+-- the number by which a name is looked up: its bytes are the digits
 abbrev pub number_of : List ℕ → ℕ
-number_of name = fold (λ number byte. (number * 257 % 2 ^ 32 + byte) % 2 ^ 32) 0 name
+number_of name = fold with_digit 0 name
 
 -- whether this is a binding of the name
 abbrev pub has_name : Option Bound → List ℕ → Bool

@@ -1,2 +1,2 @@
-use Rattle.std.proofs.Common.{ap, sym}
+use Rattle.std.proofs.Common.{rules, ap, sym}
 use Rattle.cg_syntax.proofs.session.read_session_within.Goals as goal

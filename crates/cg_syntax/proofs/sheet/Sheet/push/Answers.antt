@@ -13,5 +13,8 @@ returns-clause-bindings c =
 pub returns-clause-sound : goal.returns-clause-sound
 returns-clause-sound c =
     let old = c.args.self.now in
-    subst (λ (z : List SessionLine). AreBoundAt z old.bound.items) (sym c.in_ok-push.ensures.items)
-    (sound_kept old.lines.items (record { number = c.args.number; asked = c.args.asked }) old.bound.items c.requires.bound)
+    record {
+      bound = subst (λ (z : List SessionLine). AreBoundAt z old.bound.items) (sym c.in_ok-push.ensures.items)
+          (sound_kept old.lines.items (record { number = c.args.number; asked = c.args.asked }) old.bound.items c.requires.bound);
+      places = c.requires.places;
+    }
