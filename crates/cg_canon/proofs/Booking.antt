@@ -1,5 +1,5 @@
 -- What a book keeps, as its store and its pages grow.
-use Rattle.std.proofs.Common.{◌≡◌, refl, ℕ, suc, ◌+◌, ◌<◌, ◌≤◌, arith, ap, sym, ◌∙◌, subst, inl, inr, List, [], ◌∷◌, ◌++◌, length, length-append, take, get_or}
+use Rattle.std.proofs.Common.{◌≡◌, refl, ℕ, suc, ◌+◌, ◌<◌, ◌≤◌, arith, ap, sym, ◌∙◌, subst, inl, inr, List, [], ◌∷◌, ◌++◌, drop, length, length-append, take, get_or}
 use Rattle.std.proofs.lemmas.Bool.Decides.{eqb_tells}
 use Rattle.std.proofs.lemmas.List.{get_or_append_left, get_or_push, append_assoc, append-nil, length_push}
 use Rattle.cg_form.specs.Game.{Game, node}
@@ -15,7 +15,8 @@ use Rattle.cg_book.specs.Recents.{AreRight, IsKept}
 use Rattle.cg_book.proofs.Paging.{game_before, games_before, page_before, pages_before}
 use Rattle.cg_book.proofs.Slices.{games_take_suc}
 use Rattle.cg_canon.specs.declared.book.Book.{Book}
-use Rattle.cg_canon.specs.Books.{Begins, BookHolds, HasHandle, IsNamed, handle_of}
+use Rattle.cg_canon.specs.Books.{AreLate, Begins, BookHolds, HasHandle, IsNamed, handle_of, late}
+use Rattle.cg_canon.proofs.LatePages.{late_nothing}
 
 -- ---- more games behind
 
@@ -74,6 +75,7 @@ book_later s t b grows h = record {
         same = game_later s t grows (handle_of b page) i.game ∙ i.same;
       };
   right = h.right;
+  apart = h.apart;
 }
 
 -- of no games
@@ -85,6 +87,7 @@ new_holds s b p e empty =
       count = n ∙ sym (ap length p);
       each = λ page k. absurd (omega arith);
       right = λ x k. absurd (empty x k);
+      apart = subst (λ (z : List ℕ). AreLate (drop late z)) (sym e) late_nothing;
     }
 
 -- where nothing was added
@@ -106,20 +109,22 @@ holds_same s b c h p e r =
             same = ap (game_at s) own ∙ i.same ∙ ap (λ z. game_of z page) (sym p);
           };
       right = subst P (sym p) (subst A (sym r) h.right);
+      apart = subst (λ (z : List ℕ). AreLate (drop late z)) (sym e) h.apart;
     }
 
 -- with one game more, and its handle
 pub holds_more : {R : Type 0} (s : State Meant R) (b c : Book) (handle : ℕ) (k : Game) → BookHolds s b
     → c.pages ≡ b.pages ++ (k ∷ []) → game_at s handle ≡ k
     → c.handles.items ≡ b.handles.items ++ (handle ∷ []) → c.answers ≡ b.answers
-    → IsGame s handle → BookHolds s c
-holds_more {R} s b c handle k h p is e r game =
+    → AreLate (drop late (b.handles.items ++ (handle ∷ []))) → IsGame s handle → BookHolds s c
+holds_more {R} s b c handle k h p is e r new game =
     let A : Recent → Type 0 = λ z. AreRight c.pages z in
     let n = count in
     record {
       count = count;
       each = λ q less. named q (omega (arith, more));
       right = subst A (sym r) (right_begins b.pages c.pages b.answers begins h.right);
+      apart = subst (λ (z : List ℕ). AreLate (drop late z)) (sym e) new;
     }
   where
     begins : Begins b.pages c.pages
@@ -167,6 +172,7 @@ holds_answers s b r h right = record {
   count = h.count;
   each = λ page k. let i = h.each page k in record { game = i.game; same = i.same };
   right = right;
+  apart = h.apart;
 }
 
 -- the page that has a handle

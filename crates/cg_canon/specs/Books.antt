@@ -1,5 +1,7 @@
 -- What a book has of the games of a store.
-use Rattle.std.specs.Prelude.{◌≡◌, ℕ, ◌<◌, ◌++◌, List, length, slice_index_or}
+use lib.Dec.{eqb}
+use Rattle.std.specs.Prelude.{◌≡◌, ℕ, ◌<◌, ◌-◌, ◌^◌, ◌++◌, List, length, drop, slice_index_or, true}
+use Rattle.std.specs.List.{IsDistinct, list_any}
 use Rattle.cg_form.specs.Game.{Game}
 use Rattle.cg_cells.specs.Store.{State}
 use Rattle.cg_nodes.specs.Games.{IsGame, game_at}
@@ -22,11 +24,21 @@ pub record HasHandle (b : Book) (page handle : ℕ) : Type 0 where
   pub within : page < length b.handles.items
   pub is : handle_of b page ≡ handle
 
+-- of the 2^32 places for pages the last 2^26, as many as there are handles, are from here on
+abbrev pub late : ℕ
+late = 2 ^ 32 - 2 ^ 26
+
+-- the handles of late pages: no two are one
+pub record AreLate (hs : List ℕ) : Type 0 where
+  pub distinct : IsDistinct eqb hs
+  pub below : (h : ℕ) → list_any (eqb h) hs ≡ true → h < 2 ^ 26
+
 pub record BookHolds {R : Type 0} (s : State Meant R) (b : Book) : Type 0 where
   -- each page has a handle
   pub count : length b.handles.items ≡ length b.pages
   pub each : (page : ℕ) → page < length b.handles.items → IsNamed s b page
   pub right : AreRight b.pages b.answers
+  pub apart : AreLate (drop late b.handles.items)
 
 -- the first games of the second list are those of the first
 pub record Begins (gs hs : List Game) : Type 0 where

@@ -1,10 +1,13 @@
 //! The games that a work has met, each on a page of a book.
-ghost use Rattle.std.specs.Prelude.{◌≡◌, ◌<◌, ◌++◌, ◌∷◌, [], length, IfOk, IfSome, vec_capacity, vec_len};
+ghost use lib.Dec.{eqb};
+ghost use Rattle.std.specs.Prelude.{◌≡◌, ◌<◌, ◌^◌, ◌++◌, ◌∷◌, [], length, drop, slice_index, vec_capacity, vec_len};
+ghost use Rattle.std.specs.Prelude.{false, IfOk, IfNone, IfSome};
+ghost use Rattle.std.specs.List.{list_any};
 ghost use Rattle.cg_nodes.specs.Games.{AreGames, games_at};
 ghost use Rattle.cg_book.specs.declared.recent.Answer.{Answer as Known};
 ghost use Rattle.cg_book.specs.Pages.{ArePages, games_of};
 ghost use Rattle.cg_book.specs.Recents.{IsKept};
-ghost use Rattle.cg_canon.specs.Books.{BookHolds, HasHandle};
+ghost use Rattle.cg_canon.specs.Books.{AreLate, BookHolds, HasHandle, late};
 
 use crate::places::{Places, number_of_handle};
 use cg_book::{Pages, Recent};
@@ -18,6 +21,9 @@ pub(crate) type PageList = SmallVec<u32, 8>;
 
 /// A list of handles: up to 8 of them take no memory.
 pub(crate) type HandleList = SmallVec<Handle, 8>;
+
+/// Of the 2^32 places for pages the last 2^26, as many as there are handles, are from here on.
+const LATE: usize = 4_227_858_432;
 
 /// The games that a work has met, each on a page with a handle, and the answers to comparisons of them.
 #[derive(Drop)]
@@ -68,6 +74,23 @@ impl Book {
         )
     }
 
+    /// The page of the handle's game, if it has a late one. [`Book::page`] may miss a page, and then the handle gets another
+    /// one; but of late pages it gets one only, so there is always a place for a page.
+    #[inline(always)]
+    pub(crate) fn late_page(&self, handle: Handle) -> Option<u32>
+        requires { AreLate (drop late self.now.handles.items) }
+        ensures page { IfSome result (λ page. HasHandle self.now page handle) }
+        ensures none { IfNone result (AreLate (drop late (self.now.handles.items ++ (handle ∷ [])))) }
+    {
+        if self.handles.len() < LATE {
+            return None;
+        }
+        match place_of(&self.handles[LATE..], handle) {
+            None => None,
+            Some(place) => Some((LATE + place) as u32),
+        }
+    }
+
     /// The handle of the page.
     pub(crate) fn handle(&self, page: u32) -> Handle
         requires { page < length self.now.handles.items }
@@ -86,6 +109,23 @@ impl Book {
         let _there_is_room = self.handles.push(handle);
         self.places.add(number_of_handle(handle));
     }
+}
+
+/// Where the handle stands in the list, which is searched from its front.
+#[cold]
+#[inline(never)]
+fn place_of(handles: &[Handle], handle: Handle) -> Option<usize>
+    ensures found { IfSome result (λ i. (i < length handles.now) × (slice_index handles.now i ≡ handle)) }
+    ensures none { IfNone result (list_any (eqb handle) handles.now ≡ false) }
+    ensures small { handle < 2 ^ 26 }
+{
+    let number = handle.id().number();
+    for i in 0..handles.len() {
+        if handles[i].id().number() == number {
+            return Some(i);
+        }
+    }
+    None
 }
 
 /// Puts the handles of the pages into the list, which is empty, in their order. The only error is want of memory.

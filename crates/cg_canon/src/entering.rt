@@ -14,7 +14,7 @@ use cg_dyadic::Dyadic;
 use cg_nodes::{BoardForms, GameFacts, Handle};
 use std::alloc::AllocError;
 
-/// A page for the handle's game, which is this number.
+/// A page for the handle's game, which is this number. The only error is want of memory.
 pub(crate) fn enter_number<B: BoardForms, S: CellStore<GameFacts<B>>>(
     store: &S,
     book: &mut Book,
@@ -28,13 +28,16 @@ pub(crate) fn enter_number<B: BoardForms, S: CellStore<GameFacts<B>>>(
     ensures begins { Begins book.old.pages book.new.pages }
     ensures page { IfOk result (λ p. IsPage book.new.pages p × (game_of book.new.pages p ≡ number x)) }
 {
+    if let Some(page) = book.late_page(handle) {
+        return Ok(page);
+    }
     book.handles.reserve(1)?;
     let page = book.pages.add_number(x)?;
     book.name(handle);
     Ok(page)
 }
 
-/// A page for the handle's game, which has these options and this profile.
+/// A page for the handle's game, which has these options and this profile. The only error is want of memory.
 #[inline(always)]
 pub(crate) fn enter_game<B: BoardForms, S: CellStore<GameFacts<B>>>(
     store: &S,
@@ -57,6 +60,9 @@ pub(crate) fn enter_game<B: BoardForms, S: CellStore<GameFacts<B>>>(
     ensures page { IfOk result (λ p. IsPage book.new.pages p
         × (game_of book.new.pages p ≡ game_at (S.state store.now) handle)) }
 {
+    if let Some(page) = book.late_page(handle) {
+        return Ok(page);
+    }
     book.handles.reserve(1)?;
     let page = book.pages.add_game(lefts, rights, profile)?;
     book.name(handle);

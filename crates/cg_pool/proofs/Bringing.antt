@@ -7,7 +7,7 @@ use Rattle.std.specs.Prelude.{◌||◌}
 use Rattle.std.proofs.lemmas.List.Elements.{All-nil, All-push, All-append, All-weaker}
 use Rattle.cg_cells.specs.Meaning.{Grows}
 use Rattle.cg_cells.specs.Store.{thing_at}
-use Rattle.cg_cells.specs.Views.{ViewOf, known_of, knows, after_split, split_off, after_meet}
+use Rattle.cg_cells.specs.Views.{ViewOf, a_split, a_join, makes, known_of, knows, after_split, split_off, after_meet}
 use Rattle.cg_cells.specs.Table.{passes_of}
 use Rattle.cg_shared.specs.Passes.{CellsOf, PassOf, IsPassOf, pass_state}
 use Rattle.cg_pool.specs.Answers.{numbers, AllAreGood, HasAnswered, IsBrought, line_at}
@@ -22,7 +22,7 @@ module _ {A : Type 0} where
   numbers_append (x ∷ xs) ys = ap (λ ns. x.0 ∷ ns) (numbers_append xs ys)
 
 -- what was known before a draw that gave a ticket is known after it
-pub drawn_knows : {X : Type 0} (n spare : ℕ) (v w : ViewOf X) → w ≡ record v { spare = spare; tickets = v.tickets ++ n ∷ [] } → Grows (knows v) (knows w)
+pub drawn_knows : {X : Type 0} (n spare : ℕ) (v w : ViewOf X) → w ≡ record v { spare = spare; tickets = v.tickets ++ n ∷ []; made = w.made } → Grows (knows v) (knows w)
 drawn_knows {X} n spare v w drew i t e = subst (λ (u : ViewOf X). knows u i ≡ Rattle.std.proofs.Common.Some t) (sym drew) e
 
 module _ {X A : Type 0} (good : ℕ → A → map.FinMap nat_cmp X → Type 0) (order : List ℕ) (cells : CellsOf) where
@@ -48,7 +48,7 @@ module _ {X A : Type 0} (good : ℕ → A → map.FinMap nat_cmp X → Type 0) (
 
   -- a draw that gave a ticket
   module _ (passes n spare : ℕ) (all all' : List (ℕ × A)) (a : A) (p q r : PassOf X) (U : IsUnderWay good order cells passes all p)
-      (drew : q.sees ≡ record p.sees { spare = spare; tickets = p.sees.tickets ++ n ∷ [] }) (N : HasAnswered good cells (line_at order n) q a r) (pushed : all' ≡ all
+      (drew : q.sees ≡ record p.sees { spare = spare; tickets = p.sees.tickets ++ n ∷ []; made = q.sees.made }) (N : HasAnswered good cells (line_at order n) q a r) (pushed : all' ≡ all
       ++ (line_at order n, a) ∷ []) where
     grown : Grows (knows p.sees) (knows r.sees)
     grown i t e = N.known i t (drawn_knows n spare p.sees q.sees drew i t e)
@@ -67,7 +67,7 @@ module _ {X A : Type 0} (good : ℕ → A → map.FinMap nat_cmp X → Type 0) (
 
   -- a draw that gave none
   pub comes_back : (passes : ℕ) (all : List (ℕ × A)) (p q : PassOf X) → IsUnderWay good order cells passes all p → IsPassOf cells q → q.sees ≡ record
-      p.sees { over = true } → IsBrought good order cells passes all q
+      p.sees { over = true; made = q.sees.made } → IsBrought good order cells passes all q
   comes_back passes all p q U own is = record {
     own = own;
     tickets = U.tickets ∙ sym (ap (λ v. list.map (line_at order) v.tickets) is);
@@ -77,7 +77,7 @@ module _ {X A : Type 0} (good : ℕ → A → map.FinMap nat_cmp X → Type 0) (
   }
 
   pub brought_both : (m n : ℕ) (xs ys all : List (ℕ × A)) (p q r : PassOf X) → IsBrought good order cells m xs p → IsBrought good order cells n ys q → IsPassOf
-      cells r → r.sees ≡ after_meet p.sees q.sees
+      cells r → r.sees ≡ after_meet (makes (a_join ∷ []) p.sees) q.sees
       → Grows (thing_at (pass_state p)) (thing_at (pass_state r)) × Grows (thing_at (pass_state q)) (thing_at (pass_state r)) → all ≡ xs ++ ys →
       IsBrought good order cells (m + n) all r
   brought_both m n xs ys all p q r P Q own is grows same = record {
@@ -92,6 +92,6 @@ module _ {X A : Type 0} (good : ℕ → A → map.FinMap nat_cmp X → Type 0) (
   }
 
 -- the passes of a pass and of one that was split off it
-pub split_passes : {X : Type 0} (workers : ℕ) (v a b : ViewOf X) → workers ≡ v.heirs + 1 → 1 < workers → a ≡ after_split (workers - 2) v → b ≡
+pub split_passes : {X : Type 0} (workers : ℕ) (v a b : ViewOf X) → workers ≡ v.heirs + 1 → 1 < workers → a ≡ after_split (workers - 2) (makes (a_split (workers - 2) ∷ []) v) → b ≡
     split_off (workers - 2) v → passes_of a + passes_of b ≡ passes_of v
 split_passes workers v a b is more p q = let e = ap passes_of p in let f = ap passes_of q in omega arith

@@ -1,4 +1,5 @@
 pub mod Allowed
 pub mod Starting
 pub mod Telling
+pub mod Turning
 pub mod Ending

@@ -1,14 +1,20 @@
 -- What a step's view says of a pass as a store of cells.
-use Rattle.std.proofs.Common.{◌≡◌, ℕ, zero, suc, ◌+◌, ◌<◌, ◌≤◌, true≢false, Some, IsSome, refl, sym, ap, ◌∙◌, subst, inl, inr, arith}
+use Rattle.std.proofs.Common.{◌≡◌, ℕ, zero, suc, ◌+◌, ◌<◌, ◌≤◌, List, [], ◌∷◌, ◌++◌, set, length, false, Some, IsSome, refl, sym, ap, ◌∙◌, subst, inl, inr, arith}
+use lib.ListN.{get_elem?}
+use mathlib.Core.Option as option
 use Rattle.atomic_table.specs.Seated.{TableId}
 use Rattle.cg_cells.specs.Parts.{names_of}
-use Rattle.cg_cells.specs.Meaning.{Meaning, Has, Grows}
+use Rattle.cg_cells.specs.Meaning.{Meaning, Has, Grows, IsLawful}
 use Rattle.cg_cells.specs.Store.{Spends, IsSublist}
-use Rattle.cg_cells.specs.Views.{ViewOf, knows, after_split, split_off, after_look, after_read, after_claim, after_note, after_meet}
-use Rattle.cg_cells.specs.Table.{Sure, Tells}
+use Rattle.cg_cells.specs.Views.{ViewOf, Action, a_split, makes, knows, after_split, split_off, after_look, after_read, after_claim, after_note, after_meet}
+use Rattle.cg_cells.specs.Table.{Tells}
+use Rattle.cg_cells.specs.Steps.{Table, split}
+use Rattle.cg_cells.specs.Sure.{Sure}
 use Rattle.cg_cells.proofs.Notes.{some_is, is_some}
 use Rattle.cg_cells.proofs.Entries.{learn_has, learn_keeps, enter_has, enter_keeps, tells_left, tells_right, has_left, has_right}
+use Rattle.cg_cells.proofs.Totals.{at_after}
 use Rattle.cg_cells.proofs.Fitting.{sure_grows}
+use Rattle.cg_cells.proofs.Runs.{sure_of, one_more}
 use Rattle.cg_shared.specs.Passes.{state_by, IsStill}
 
 module _ {X : Type 0} (m : Meaning X) (a b : TableId) (same : b ≡ a) (v w : ViewOf X) (S : Sure m w) where
@@ -75,12 +81,12 @@ module _ {X : Type 0} (m : Meaning X) (a b : TableId) (v w : ViewOf X) (key id :
     pub again : (i : ℕ) → knows v i ≡ m.spells key (knows v) → id ≡ i
 
   pub claim_tells : b ≡ a → 1 ≤ v.spare → IsSome (m.spells key (knows v))
-      → ((t : X) → m.spells key (knows v) ≡ Some t → (w ≡ after_claim v id t) × Sure m w) → ClaimTells
+      → ((t : X) → m.spells key (knows v) ≡ Some t → (w ≡ after_claim (record v { made = w.made }) id t) × Sure m w) → ClaimTells
   claim_tells same some spells hit =
       let s = some_is _ spells in
       let r = hit s.0 s.1 in
-      let here = claim_stands m a b same v w r.1 id s.0 r.0 some in
-      let spends = claim_spends m a b same v w r.1 id s.0 r.0 some in
+      let here = claim_stands m a b same (record v { made = w.made }) w r.1 id s.0 r.0 some in
+      let spends = claim_spends m a b same (record v { made = w.made }) w r.1 id s.0 r.0 some in
       record {
         stands = here ∙ sym s.1;
         spends = spends;
@@ -100,8 +106,8 @@ meet_noted {X} v w u is = (
   (λ i h. subst (λ (x : ViewOf X). Has x.noted i) (sym is) (has_right v.noted w.noted i h)),
 )
 
-pub still_look : {X : Type 0} (m : Meaning X) (v w : ViewOf X) (key : ℕ) (t : X) → w ≡ after_look m v key t → IsStill v w
-still_look {X} m v w key t is = record {
+pub still_look : {X : Type 0} (m : Meaning X) (ds : List Action) (v w : ViewOf X) (key : ℕ) (t : X) → w ≡ after_look m (makes ds v) key t → IsStill v w
+still_look {X} m ds v w key t is = record {
   sizes = ap (λ x. x.sizes) is;
   spare = ap (λ x. x.spare) is;
   tickets = ap (λ x. x.tickets) is;
@@ -112,33 +118,31 @@ still_look {X} m v w key t is = record {
   gone = ap (λ x. x.gone) is;
 }
 
-pub still_read : {X : Type 0} (m : Meaning X) (v w : ViewOf X) (id word : ℕ) (t : X) → w ≡ after_read m v id word t → IsStill v w
-still_read {X} m v w id zero t is = subst (IsStill v) (sym is) (record { sizes = refl; spare = refl; tickets = refl; heirs = refl; met = refl; over = refl; probe = refl; gone = refl })
-still_read {X} m v w id (suc value) t is = subst (IsStill v) (sym is) (record { sizes = refl; spare = refl; tickets = refl; heirs = refl; met = refl; over = refl; probe = refl; gone = refl })
+pub still_read : {X : Type 0} (m : Meaning X) (ds : List Action) (v w : ViewOf X) (id word : ℕ) (t : X) → w ≡ after_read m (makes ds v) id word t → IsStill v w
+still_read {X} m ds v w id zero t is = subst (IsStill v) (sym is) (record { sizes = refl; spare = refl; tickets = refl; heirs = refl; met = refl; over = refl; probe = refl; gone = refl })
+still_read {X} m ds v w id (suc value) t is = subst (IsStill v) (sym is) (record { sizes = refl; spare = refl; tickets = refl; heirs = refl; met = refl; over = refl; probe = refl; gone = refl })
 
 -- a pass is sure of its view after a split, and so is the new one
-pub split_sure : {X : Type 0} (m : Meaning X) (heirs : ℕ) (v : ViewOf X) → heirs < v.heirs → Sure m v → Sure m (after_split heirs v) × Sure m (split_off heirs v)
-split_sure {X} m heirs v less S = (
-  record {
-    one = S.one;
-    apart = S.apart;
-    inside = S.inside;
-    real = S.real;
-    once = S.once;
-    all = λ over whole. let p = S.few_passes in absurd (omega arith);
-    few_spare = S.few_spare;
-    few_heirs = let h = S.few_heirs in omega arith;
-    few_passes = let p = S.few_passes in omega arith;
-  },
-  record {
-    one = S.one;
-    apart = S.apart;
-    inside = S.inside;
-    real = S.real;
-    once = λ n. omega arith;
-    all = λ over whole. absurd (true≢false (sym over));
-    few_spare = omega arith;
-    few_heirs = let h = S.few_heirs in omega arith;
-    few_passes = let p = S.few_passes in omega arith;
-  },
-)
+pub split_sure : {X : Type 0} (m : Meaning X) → IsLawful m → (heirs : ℕ) (v : ViewOf X) → v.gone ≡ false → heirs < v.heirs → Sure m v
+    → Sure m (after_split heirs (makes (a_split heirs ∷ []) v)) × Sure m (split_off heirs v)
+split_sure {X} m L heirs v alive less S =
+    let t = S.reached.0 in
+    let R = S.reached.1 in
+    let j = S.reached.2.0 in
+    let at = S.reached.2.1 in
+    let left : ViewOf X = after_split heirs (makes (a_split heirs ∷ []) v) in
+    let views : List (ViewOf X) = set t.views j left in
+    let u : Table X = record { words = t.words; views = views ++ split_off heirs v ∷ [] } in
+    let K = one_more m v.sizes t u (split j heirs) R (v, at, (less, refl)) refl in (
+      sure_of m L v.sizes u K j left (before views (split_off heirs v) j left (at_after t.views j v left at.0), alive),
+      sure_of m L v.sizes u K (length views) (split_off heirs v) (last views (split_off heirs v), refl),
+    )
+  where
+    before : {A : Type 0} (l : List A) (a : A) (i : ℕ) (b : A) → get_elem? l i ≡ option.some b → get_elem? (l ++ a ∷ []) i ≡ option.some b
+    before [] a i b e = absurd (option.some-ne-none b (sym e))
+    before (x ∷ xs) a zero b e = e
+    before (x ∷ xs) a (suc i) b e = before xs a i b e
+
+    last : {A : Type 0} (l : List A) (a : A) → get_elem? (l ++ a ∷ []) (length l) ≡ option.some a
+    last [] a = refl
+    last (x ∷ xs) a = last xs a

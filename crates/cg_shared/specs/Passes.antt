@@ -1,13 +1,13 @@
 -- A shared table, its passes, and a desk, as clauses see them.
-use Rattle.std.specs.Prelude.{◌≡◌, ℕ, List, [], Bool, false, None}
-use Rattle.std.specs.Coded.{Coded, coded×, coded_ℕ, coded_list, coded_option, coded_bool}
+use Rattle.std.specs.Prelude.{◌≡◌, ℕ, ◌==◌, List, [], Bool, false, None, if◌then◌else◌, refl}
+use Rattle.std.specs.Coded.{Coded, coded×, coded_ℕ, coded_list, coded_option, coded_bool, code_by}
 use base.Stored.{coded_via}
 use Rattle.atomic_table.specs.Table.{Me}
 use Rattle.atomic_table.specs.Seated.{TableId, table_id_coded}
 use Rattle.cg_cells.specs.Meaning.{Meaning}
 use Rattle.cg_cells.specs.Store.{State}
-use Rattle.cg_cells.specs.Views.{Sizes, ViewOf, known_of}
-use Rattle.cg_cells.specs.Table.{Sure}
+use Rattle.cg_cells.specs.Views.{Sizes, ViewOf, Action, a_split, a_join, a_draw, a_look, a_read, a_probe, a_claim, a_note, known_of}
+use Rattle.cg_cells.specs.Sure.{Sure}
 
 -- which table it is, and its sizes
 pub record CellsOf : Type 0 where
@@ -80,10 +80,45 @@ rest_code = coded_via (coded× cells_code (coded× (coded_list coded_ℕ) (coded
     (λ (r : RestOf). (r.cells, (r.tickets, (r.heirs, r.met))))
     (λ x y e i. record { cells = (e i).0; tickets = (e i).1.0; heirs = (e i).1.1.0; met = (e i).1.1.1 })
 
+-- a step by its kind and two numbers
+abbrev numbers_of : Action → ℕ × (ℕ × ℕ)
+numbers_of (a_split heirs) = (0, (heirs, 0))
+numbers_of a_join = (1, (0, 0))
+numbers_of a_draw = (2, (0, 0))
+numbers_of (a_look id) = (3, (id, 0))
+numbers_of (a_read id) = (4, (id, 0))
+numbers_of (a_probe key) = (5, (key, 0))
+numbers_of (a_claim key) = (6, (key, 0))
+numbers_of (a_note id value) = (7, (id, value))
+
+abbrev action_of : ℕ × (ℕ × ℕ) → Action
+action_of (kind, (first, second)) =
+    if kind == 0 then a_split first
+    else if kind == 1 then a_join
+    else if kind == 2 then a_draw
+    else if kind == 3 then a_look first
+    else if kind == 4 then a_read first
+    else if kind == 5 then a_probe first
+    else if kind == 6 then a_claim first
+    else a_note first second
+
+pub same_action : (d : Action) → action_of (numbers_of d) ≡ d
+same_action (a_split heirs) = refl
+same_action a_join = refl
+same_action a_draw = refl
+same_action (a_look id) = refl
+same_action (a_read id) = refl
+same_action (a_probe key) = refl
+same_action (a_claim key) = refl
+same_action (a_note id value) = refl
+
+abbrev pub action_code : Coded Action
+action_code = code_by (ℕ × (ℕ × ℕ)) (coded× coded_ℕ (coded× coded_ℕ coded_ℕ)) numbers_of action_of same_action
+
 abbrev pub view_code : {X : Type 0} → Coded X → Coded (ViewOf X)
 view_code {X} c =
-    coded_via (coded× sizes_code (coded× (coded_list (coded× coded_ℕ c)) (coded× (coded_list coded_ℕ) (coded× (coded_list coded_ℕ) (coded× coded_ℕ (coded× (coded_list coded_ℕ) (coded× coded_ℕ (coded× coded_ℕ (coded× coded_bool (coded× (coded_option (coded× coded_ℕ coded_ℕ)) coded_bool))))))))))
-    (λ (v : ViewOf X). (v.sizes, (v.known, (v.noted, (v.empties, (v.spare, (v.tickets, (v.heirs, (v.met, (v.over, (v.probe, v.gone)))))))))))
+    coded_via (coded× sizes_code (coded× (coded_list (coded× coded_ℕ c)) (coded× (coded_list coded_ℕ) (coded× (coded_list coded_ℕ) (coded× coded_ℕ (coded× (coded_list coded_ℕ) (coded× coded_ℕ (coded× coded_ℕ (coded× coded_bool (coded× (coded_option (coded× coded_ℕ coded_ℕ)) (coded× (coded_list action_code) coded_bool)))))))))))
+    (λ (v : ViewOf X). (v.sizes, (v.known, (v.noted, (v.empties, (v.spare, (v.tickets, (v.heirs, (v.met, (v.over, (v.probe, (v.made, v.gone))))))))))))
     (λ x y e i. record {
       sizes = (e i).0;
       known = (e i).1.0;
@@ -95,7 +130,8 @@ view_code {X} c =
       met = (e i).1.1.1.1.1.1.1.0;
       over = (e i).1.1.1.1.1.1.1.1.0;
       probe = (e i).1.1.1.1.1.1.1.1.1.0;
-      gone = (e i).1.1.1.1.1.1.1.1.1.1;
+      made = (e i).1.1.1.1.1.1.1.1.1.1.0;
+      gone = (e i).1.1.1.1.1.1.1.1.1.1.1;
     })
 
 abbrev pub pass_code : {X : Type 0} → Coded X → Coded (PassOf X)

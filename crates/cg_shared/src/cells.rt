@@ -1,10 +1,13 @@
 // The calls on cells.
-ghost use Rattle.std.specs.Prelude.{◌≡◌, ◌≢◌, ℕ, ◌+◌, ◌<◌, ◌≤◌, ◌∷◌, Some, IfSome, IfNone, IsSome};
+ghost use Rattle.std.specs.Prelude.{◌≡◌, ℕ, suc, ◌≤◌, [], ◌∷◌, Some, IfSome, IfNone, IsSome};
+ghost use Rattle.cg_cells.specs.Layout.{id_field};
 ghost use Rattle.cg_cells.specs.Parts.{names_of};
 ghost use Rattle.cg_cells.specs.Meaning.{Has, note_for};
 ghost use Rattle.cg_cells.specs.Store.{Spends, Known, thing_at};
-ghost use Rattle.cg_cells.specs.Views.{knows, cells_of, after_look, after_claim, after_note};
+ghost use Rattle.cg_cells.specs.Views.{a_look, a_read, a_note, knows, cells_of, makes};
+ghost use Rattle.cg_cells.specs.Views.{after_look, after_read, after_claim, after_note};
 ghost use Rattle.cg_shared.specs.Passes.{IsPassOf, pass_state};
+ghost use Rattle.cg_shared.specs.Searches.{AreTurns};
 
 use crate::pass::Pass;
 use crate::table::SharedCells;
@@ -25,7 +28,7 @@ impl<F: Facts> SharedCells<F> {
         requires known { Known (pass_state pass.old) id }
         ensures own { IsPassOf self.now pass.new }
         ensures view { (t : F.Thing) → knows pass.old.sees id ≡ Some t
-            → pass.new.sees ≡ after_look F.meaning pass.old.sees result t }
+            → pass.new.sees ≡ after_look F.meaning (makes (a_look id ∷ []) pass.old.sees) result t }
         ensures spells { F.meaning.spells result (thing_at (pass_state pass.new))
             ≡ thing_at (pass_state pass.old) id }
         ensures named { (i : ℕ) → Has (names_of result) i → Known (pass_state pass.new) i }
@@ -47,7 +50,9 @@ impl<F: Facts> SharedCells<F> {
         requires spells { IsSome (F.meaning.spells key (thing_at (pass_state pass.old))) }
         ensures own { IsPassOf self.now pass.new }
         ensures view { (t : F.Thing) → F.meaning.spells key (knows pass.old.sees) ≡ Some t
-            → pass.new.sees ≡ after_claim pass.old.sees result t }
+            → pass.new.sees
+            ≡ after_claim (record pass.old.sees { made = pass.new.sees.made }) result t }
+        ensures made { (n : ℕ) × AreTurns key (suc n) pass.old.sees.made pass.new.sees.made }
         ensures stands { thing_at (pass_state pass.new) result
             ≡ F.meaning.spells key (thing_at (pass_state pass.old)) }
         ensures again { (known : ℕ)
@@ -71,7 +76,7 @@ impl<F: Facts> SharedCells<F> {
         requires due { thing_at (pass_state pass.old) value
             ≡ note_for F.meaning (thing_at (pass_state pass.old) id) }
         ensures own { IsPassOf self.now pass.new }
-        ensures view { pass.new.sees ≡ after_note pass.old.sees id }
+        ensures view { pass.new.sees ≡ after_note (makes (a_note id value ∷ []) pass.old.sees) id }
         ensures noted { Has (pass_state pass.new).noted id }
         ensures spends { Spends 0 (pass_state pass.old) (pass_state pass.new) }
     {
@@ -87,6 +92,7 @@ impl<F: Facts> SharedCells<F> {
 
     /// The value that is noted on a cell, as a store of cells tells it. It is one load. None comes
     /// only where this load read an empty word, and the id is then one more of the pass's empties.
+    /// With a value the pass has noted the id, and knows the value as the thing of this note.
     pub fn noted(&self, pass: &mut Pass<F>, id: Id) -> Option<Id>
         requires own { IsPassOf self.now pass.old }
         requires known { Known (pass_state pass.old) id }
@@ -96,8 +102,14 @@ impl<F: Facts> SharedCells<F> {
             ≡ note_for F.meaning (thing_at (pass_state pass.old) id))) }
         ensures some { IfSome result (λ value. Has (pass_state pass.new).noted id) }
         ensures none { IfNone result (¬ Has (pass_state pass.old).noted id) }
+        ensures view { (t : F.Thing) → knows pass.old.sees id ≡ Some t
+            → pass.new.sees ≡ after_read F.meaning (makes (a_read id ∷ []) pass.old.sees) id
+            (id_field result) t }
         ensures empty { IfNone result
-            (pass.new.sees ≡ record pass.old.sees { empties = id ∷ pass.old.sees.empties }) }
+            (pass.new.sees ≡ record pass.old.sees {
+              empties = id ∷ pass.old.sees.empties;
+              made = a_read id ∷ pass.old.sees.made;
+            }) }
         ensures spends { Spends 0 (pass_state pass.old) (pass_state pass.new) }
     {
         let size = self.size() as usize;
@@ -112,6 +124,7 @@ impl<F: Facts> SharedCells<F> {
         }
         Some(Id::new((word - 1) as u32))
     }
+
     /// Loads the word of the cell where the search for this key begins, so that it is near when the
     /// key is claimed, and answers the id of that cell. Nothing is learnt.
     pub fn expect_claim(&self, pass: &mut Pass<F>, key: Key) -> Id

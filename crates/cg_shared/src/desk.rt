@@ -1,6 +1,10 @@
 // A table with one pass of it, as a store of cells.
 ghost use base.Fml.{ftrue};
-ghost use Rattle.std.specs.Prelude.{◌≡◌};
+ghost use Rattle.std.specs.Prelude.{◌≡◌, ℕ, [], ◌∷◌, Some, IfSome, IfNone};
+ghost use Rattle.cg_cells.specs.Layout.{id_field};
+ghost use Rattle.cg_cells.specs.Meaning.{Has, note_for};
+ghost use Rattle.cg_cells.specs.Store.{Spends, Known, thing_at};
+ghost use Rattle.cg_cells.specs.Views.{a_read, knows, makes, after_read};
 ghost use Rattle.cg_shared.specs.Passes.{PassOf, pass_code, RestOf, rest_code, IsPassOf};
 ghost use Rattle.cg_shared.specs.Passes.{pass_state};
 
@@ -76,7 +80,25 @@ impl<'a, F: Facts> CellStore<F> for Desk<'a, F> {
         self.cells.note(&mut self.pass, id, value);
     }
 
-    fn noted(&mut self, id: Id) -> Option<Id> {
+    /// The value that is noted on the cell. None comes only where this call read an empty word, and
+    /// the id is then one more of the pass's empties.
+    fn noted(&mut self, id: Id) -> Option<Id>
+        requires { Known (pass_state self.old) id }
+        ensures value { IfSome result (λ value. Known (pass_state self.new) value
+            × (thing_at (pass_state self.new) value
+            ≡ note_for F.meaning (thing_at (pass_state self.old) id))) }
+        ensures some { IfSome result (λ value. Has (pass_state self.new).noted id) }
+        ensures none { IfNone result (¬ Has (pass_state self.old).noted id) }
+        ensures view { (t : F.Thing) → knows self.old.sees id ≡ Some t
+            → self.new.sees ≡ after_read F.meaning (makes (a_read id ∷ []) self.old.sees) id
+            (id_field result) t }
+        ensures empty { IfNone result
+            (self.new.sees ≡ record self.old.sees {
+              empties = id ∷ self.old.sees.empties;
+              made = a_read id ∷ self.old.sees.made;
+            }) }
+        ensures spends { Spends 0 (pass_state self.old) (pass_state self.new) }
+    {
         self.cells.noted(&mut self.pass, id)
     }
 

@@ -3,6 +3,7 @@ ghost use Rattle.std.specs.Prelude.{◌≡◌, ℕ, ◌≤◌, ◌^◌, ◌↔�
 ghost use Rattle.std.specs.Prelude.{true};
 ghost use Rattle.cg_cells.specs.Meaning.{IsInjective, IsReal};
 ghost use Rattle.cg_cells.specs.Store.{Known, thing_at};
+ghost use Rattle.cg_cells.specs.Sure.{IsReached};
 ghost use Rattle.cg_cells.specs.Table.{times, passes_of, HasAllTickets};
 ghost use Rattle.cg_shared.specs.Passes.{PassOf, pass_code, pass_state, IsKeptPass};
 
@@ -78,6 +79,16 @@ impl<F: Facts> Pass<F> {
         ensures few { length self.now.sees.tickets ≤ self.now.sees.sizes.lines }
         ensures all { self.now.sees.over ≡ true
             → passes_of self.now.sees ≡ self.now.sees.sizes.passes → HasAllTickets self.now.sees }
+    {
+        // Read for the proof alone: what holds of a pass is known where a field is read.
+        let _seat = &self.seat;
+    }
+
+    /// Fact: some list of steps that closes nothing leads from the start to a table of which a live
+    /// pass has this view. What the view has as made are that pass's steps in the list, as the law
+    /// `made` of cg_cells says. The call does nothing.
+    pub fn reached(&self)
+        ensures { IsReached F.meaning self.now.sees }
     {
         // Read for the proof alone: what holds of a pass is known where a field is read.
         let _seat = &self.seat;

@@ -1,9 +1,10 @@
 // The calls on passes: tickets, new passes, and passes that meet.
 ghost use Rattle.std.specs.Prelude.{◌≡◌, ◌+◌, ◌<◌, ◌++◌, [], ◌∷◌, true, MatchOption, IfNone};
-ghost use Rattle.std.specs.Prelude.{IsNone};
+ghost use Rattle.std.specs.Prelude.{IsNone, if◌then◌else◌};
 ghost use Rattle.cg_cells.specs.Meaning.{Grows};
 ghost use Rattle.cg_cells.specs.Store.{IsSublist, thing_at};
-ghost use Rattle.cg_cells.specs.Views.{after_split, split_off, after_meet};
+ghost use Rattle.cg_cells.specs.Views.{a_split, a_join, a_draw, makes, after_split, split_off};
+ghost use Rattle.cg_cells.specs.Views.{after_meet};
 ghost use Rattle.cg_cells.specs.Table.{HasAllTickets, passes_of};
 ghost use Rattle.cg_shared.specs.Passes.{IsPassOf, pass_state};
 
@@ -22,16 +23,19 @@ impl<F: Facts> SharedCells<F> {
     /// A line that no pass has drawn yet, and its share of claims. None comes exactly where none is
     /// left: where the counter was at `lines` at this step, or at an earlier draw of this pass or
     /// of one that was met into it. If none is left and no other pass is about, this one has the
-    /// tickets of all lines, each once.
+    /// tickets of all lines, each once. It is one addition, or none after an earlier draw that came to None.
     pub fn draw(&self, pass: &mut Pass<F>) -> Option<Ticket>
         requires own { IsPassOf self.now pass.old }
         ensures own { IsPassOf self.now pass.new }
         ensures drew { MatchOption result
-            (pass.new.sees ≡ record pass.old.sees { over = true })
+            (pass.new.sees ≡ record pass.old.sees { over = true; made = pass.new.sees.made })
             (λ ticket. (ticket.0 < self.now.sizes.lines) × (pass.new.sees ≡ record pass.old.sees {
               spare = pass.old.sees.spare + self.now.sizes.share;
               tickets = pass.old.sees.tickets ++ ticket.0 ∷ [];
+              made = pass.new.sees.made;
             })) }
+        ensures made { pass.new.sees.made
+            ≡ (if pass.old.sees.over then pass.old.sees.made else a_draw ∷ pass.old.sees.made) }
         ensures over { pass.old.sees.over ≡ true → IsNone result }
         ensures all { IfNone result
             (passes_of pass.new.sees ≡ self.now.sizes.passes → HasAllTickets pass.new.sees) }
@@ -54,7 +58,7 @@ impl<F: Facts> SharedCells<F> {
         requires few { heirs < pass.old.sees.heirs }
         requires heirs { heirs ≡ H.heirs }
         ensures old { IsPassOf self.now pass.new
-            × (pass.new.sees ≡ after_split heirs pass.old.sees) }
+            × (pass.new.sees ≡ after_split heirs (makes (a_split heirs ∷ []) pass.old.sees)) }
         ensures new { IsPassOf self.now result × (result.sees ≡ split_off heirs pass.old.sees) }
     {
         let seat = steps::split::<F, H>(&self.table.shared, &mut pass.seat);
@@ -72,7 +76,7 @@ impl<F: Facts> SharedCells<F> {
         requires own { IsPassOf self.now pass.old }
         requires few { heirs < pass.old.sees.heirs }
         ensures old { IsPassOf self.now pass.new
-            × (pass.new.sees ≡ after_split heirs pass.old.sees) }
+            × (pass.new.sees ≡ after_split heirs (makes (a_split heirs ∷ []) pass.old.sees)) }
         ensures new { IsPassOf self.now result × (result.sees ≡ split_off heirs pass.old.sees) }
     {
         self.split_by::<Brand>(pass, heirs)
@@ -82,7 +86,7 @@ impl<F: Facts> SharedCells<F> {
     pub fn meet(&self, pass: &mut Pass<F>, other: Pass<F>)
         requires own { IsPassOf self.now pass.old × IsPassOf self.now other }
         ensures own { IsPassOf self.now pass.new }
-        ensures view { pass.new.sees ≡ after_meet pass.old.sees other.sees }
+        ensures view { pass.new.sees ≡ after_meet (makes (a_join ∷ []) pass.old.sees) other.sees }
         ensures known { Grows (thing_at (pass_state pass.old)) (thing_at (pass_state pass.new))
             × Grows (thing_at (pass_state other)) (thing_at (pass_state pass.new)) }
         ensures noted { IsSublist (pass_state pass.old).noted (pass_state pass.new).noted

@@ -1,6 +1,7 @@
 // The rule of a table, and what each step tells.
-ghost use Rattle.std.specs.Prelude.{ℕ};
-ghost use Rattle.cg_cells.specs.Views.{first_view, after_split, split_off, after_meet, ended};
+ghost use Rattle.std.specs.Prelude.{ℕ, [], ◌∷◌};
+ghost use Rattle.cg_cells.specs.Views.{a_split, a_join, makes, first_view, after_split};
+ghost use Rattle.cg_cells.specs.Views.{split_off, after_meet, ended};
 ghost use Rattle.cg_shared.specs.Plays.{sizes_of, Kept, Drew, Checked, Looked, Read, Probed};
 ghost use Rattle.cg_shared.specs.Plays.{Claimed, Noted};
 
@@ -99,7 +100,7 @@ pub(crate) struct Cuts<H> {
 }
 
 impl<X, H: Heirs> Split<View<X>> for Cuts<H> {
-    ghost left = { after_split H.heirs };
+    ghost left = { λ v. after_split H.heirs (makes (a_split H.heirs ∷ []) v) };
 
     ghost right = { split_off H.heirs };
 }
@@ -107,7 +108,7 @@ impl<X, H: Heirs> Split<View<X>> for Cuts<H> {
 pub(crate) struct Meets;
 
 impl<X> Join<View<X>> for Meets {
-    ghost both = { after_meet };
+    ghost both = { λ v w. after_meet (makes (a_join ∷ []) v) w };
 
     ghost spent = { ended };
 }

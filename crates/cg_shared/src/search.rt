@@ -1,13 +1,14 @@
 // The search for a key.
-ghost use Rattle.std.specs.Prelude.{◌≡◌, ℕ, ◌+◌, ◌-◌, ◌^◌, ◌<◌, ◌≤◌, false, IsTrue, IfSome, IfNone};
+ghost use Rattle.std.specs.Prelude.{◌≡◌, ℕ, suc, ◌+◌, ◌-◌, ◌^◌, ◌<◌, ◌≤◌, ◌∷◌, false, IsTrue};
+ghost use Rattle.std.specs.Prelude.{IfSome, IfNone, MatchOption};
 ghost use Rattle.cg_cells.specs.Index.{place};
 ghost use Rattle.cg_cells.specs.Store.{Spends};
-ghost use Rattle.cg_cells.specs.Views.{knows, cells_of};
-ghost use Rattle.cg_cells.specs.Table.{Sure};
+ghost use Rattle.cg_cells.specs.Views.{a_claim, knows, cells_of};
 ghost use Rattle.cg_cells.specs.Steps.{GoesOn, IsSearching};
+ghost use Rattle.cg_cells.specs.Sure.{Sure};
 ghost use Rattle.cg_shared.specs.Passes.{state_by};
 ghost use Rattle.cg_shared.specs.Plays.{sizes_of};
-ghost use Rattle.cg_shared.specs.Searches.{IsAt, EndsAt, GoesPast};
+ghost use Rattle.cg_shared.specs.Searches.{IsAt, EndsAt, GoesPast, IsTurn, AreTurns};
 
 use crate::plays::Rule;
 use crate::steps;
@@ -28,6 +29,7 @@ fn takes<F: Facts>(
     requires at { IsAt F.meaning
         (sizes_of shared.now.key) shared.now.table_id.words seat.old.me.0 key steps cell }
     ensures same { (seat.new.table_id ≡ seat.old.table_id) × (seat.new.me.1 ≡ seat.old.me.1) }
+    ensures made { seat.new.me.0.made ≡ a_claim key ∷ seat.old.me.0.made }
     ensures hit { IsTrue result → EndsAt F.meaning seat.old.me.0 key cell seat.new.me.0 }
     ensures miss { result ≡ false → GoesPast seat.old.me.0 key seat.new.me.0 }
 {
@@ -48,6 +50,7 @@ fn ends<F: Facts>(
     requires at { IsAt F.meaning
         (sizes_of shared.now.key) shared.now.table_id.words seat.old.me.0 key steps cell }
     ensures same { (seat.new.table_id ≡ seat.old.table_id) × (seat.new.me.1 ≡ seat.old.me.1) }
+    ensures made { IsTurn key seat.old.me.0.made seat.new.me.0.made }
     ensures hit { IsTrue result → EndsAt F.meaning seat.old.me.0 key cell seat.new.me.0 }
     ensures miss { result ≡ false → GoesPast seat.old.me.0 key seat.new.me.0 }
 {
@@ -83,7 +86,13 @@ fn claim_among<F: Facts>(
     ensures hit { IfSome result (λ cell. EndsAt F.meaning seat.old.me.0 key cell seat.new.me.0) }
     ensures inside { IfSome result (λ cell. cell < end) }
     ensures still { IfNone result
-        (seat.new.me.0 ≡ record seat.old.me.0 { probe = seat.new.me.0.probe }) }
+        (seat.new.me.0 ≡ record seat.old.me.0 {
+          probe = seat.new.me.0.probe;
+          made = seat.new.me.0.made;
+        }) }
+    ensures made { MatchOption result
+        ((n : ℕ) × AreTurns key n seat.old.me.0.made seat.new.me.0.made)
+        (λ cell. (n : ℕ) × AreTurns key (suc n) seat.old.me.0.made seat.new.me.0.made) }
     ensures goes { IfNone result (GoesOn seat.new.me.0.probe key (steps + (end - first))) }
     ensures left { IfNone result (steps + (end - first) < cells_of (sizes_of shared.now.key)) }
 {
@@ -115,6 +124,7 @@ fn search<F: Facts>(
     ensures same { (seat.new.table_id ≡ seat.old.table_id) × (seat.new.me.1 ≡ seat.old.me.1) }
     ensures hit { EndsAt F.meaning seat.old.me.0 key result seat.new.me.0 }
     ensures inside { result < size }
+    ensures made { (n : ℕ) × AreTurns key (suc n) seat.old.me.0.made seat.new.me.0.made }
 {
     if let Some(cell) = claim_among::<F>(shared, seat, key, 0, home, size) {
         return cell;
@@ -150,6 +160,7 @@ pub(crate) fn claim<F: Facts>(
     ensures spends { Spends 1 (state_by seat.old.table_id seat.old.me.0)
         (state_by seat.new.table_id seat.new.me.0) }
     ensures inside { result < size }
+    ensures made { (n : ℕ) × AreTurns key (suc n) seat.old.me.0.made seat.new.me.0.made }
 {
     search::<F>(shared, seat, key, home, size)
 }

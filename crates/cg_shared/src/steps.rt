@@ -4,9 +4,11 @@ ghost use Rattle.std.specs.Prelude.{None, Some, IsSome};
 ghost use Rattle.cg_cells.specs.Meaning.{Has, note_for};
 ghost use Rattle.cg_cells.specs.Parts.{names_of};
 ghost use Rattle.cg_cells.specs.Store.{Spends};
-ghost use Rattle.cg_cells.specs.Views.{knows, cells_of, after_draw, after_look, after_note};
-ghost use Rattle.cg_cells.specs.Views.{after_split, split_off, after_meet};
-ghost use Rattle.cg_cells.specs.Table.{Sure};
+ghost use Rattle.cg_cells.specs.Views.{a_split, a_join, a_draw, a_look, a_read, a_probe};
+ghost use Rattle.cg_cells.specs.Views.{a_claim, a_note, knows, cells_of, makes, after_draw};
+ghost use Rattle.cg_cells.specs.Views.{after_look, after_read, after_note, after_split, split_off};
+ghost use Rattle.cg_cells.specs.Views.{after_meet};
+ghost use Rattle.cg_cells.specs.Sure.{Sure};
 ghost use Rattle.cg_shared.specs.Passes.{IsStill, state_by};
 ghost use Rattle.cg_shared.specs.Plays.{sizes_of};
 ghost use Rattle.cg_shared.specs.Searches.{IsAt, EndsAt, GoesPast};
@@ -26,7 +28,7 @@ pub(crate) fn draw<F: Facts>(
     requires live { seat.old.me.0.gone ≡ false }
     requires more { seat.old.me.0.over ≡ false }
     ensures same { (seat.new.table_id ≡ seat.old.table_id) × (seat.new.me.1 ≡ seat.old.me.1) }
-    ensures view { seat.new.me.0 ≡ after_draw seat.old.me.0 result }
+    ensures view { seat.new.me.0 ≡ after_draw (makes (a_draw ∷ []) seat.old.me.0) result }
     ensures sure { Sure F.meaning seat.new.me.0 }
 {
     shared.fetch_add::<Draws<F>>(seat, 0, 1)
@@ -44,7 +46,7 @@ pub(crate) fn look<F: Facts>(
     requires known { IsSome (knows seat.old.me.0 cell) }
     ensures same { (seat.new.table_id ≡ seat.old.table_id) × (seat.new.me.1 ≡ seat.old.me.1) }
     ensures view { (t : F.Thing) → knows seat.old.me.0 cell ≡ Some t
-        → seat.new.me.0 ≡ after_look F.meaning seat.old.me.0 result t }
+        → seat.new.me.0 ≡ after_look F.meaning (makes (a_look cell ∷ []) seat.old.me.0) result t }
     ensures still { IsStill seat.old.me.0 seat.new.me.0 }
     ensures sure { Sure F.meaning seat.new.me.0 }
     ensures key { result ≢ 0 }
@@ -70,6 +72,8 @@ pub(crate) fn read<F: Facts>(
     requires live { seat.old.me.0.gone ≡ false }
     requires known { IsSome (knows seat.old.me.0 cell) }
     ensures same { (seat.new.table_id ≡ seat.old.table_id) × (seat.new.me.1 ≡ seat.old.me.1) }
+    ensures view { (t : F.Thing) → knows seat.old.me.0 cell ≡ Some t
+        → seat.new.me.0 ≡ after_read F.meaning (makes (a_read cell ∷ []) seat.old.me.0) cell result t }
     ensures still { IsStill seat.old.me.0 seat.new.me.0 }
     ensures sure { Sure F.meaning seat.new.me.0 }
     ensures value { (value : ℕ) → result ≡ suc value → (value < size)
@@ -77,7 +81,10 @@ pub(crate) fn read<F: Facts>(
         × (knows seat.new.me.0 value ≡ note_for F.meaning (knows seat.old.me.0 cell))
         × Has seat.new.me.0.noted cell }
     ensures empty { result ≡ 0
-        → seat.new.me.0 ≡ record seat.old.me.0 { empties = cell ∷ seat.old.me.0.empties } }
+        → seat.new.me.0 ≡ record seat.old.me.0 {
+          empties = cell ∷ seat.old.me.0.empties;
+          made = a_read cell ∷ seat.old.me.0.made;
+        } }
     ensures none { result ≡ 0 → ¬ Has seat.old.me.0.noted cell }
     ensures spends { Spends 0 (state_by seat.old.table_id seat.old.me.0)
         (state_by seat.new.table_id seat.new.me.0) }
@@ -97,7 +104,8 @@ pub(crate) fn probe<F: Facts, K: Sought>(
         (sizes_of shared.now.key) shared.now.table_id.words seat.old.me.0 key steps cell }
     requires sought { key ≡ K.key }
     ensures same { (seat.new.table_id ≡ seat.old.table_id) × (seat.new.me.1 ≡ seat.old.me.1) }
-    ensures empty { result ≡ 0 → seat.new.me.0 ≡ seat.old.me.0 }
+    ensures made { seat.new.me.0.made ≡ a_probe key ∷ seat.old.me.0.made }
+    ensures empty { result ≡ 0 → seat.new.me.0 ≡ makes (a_probe key ∷ []) seat.old.me.0 }
     ensures hit { result ≡ key → EndsAt F.meaning seat.old.me.0 key cell seat.new.me.0 }
     ensures miss { result ≢ 0 → result ≢ key → GoesPast seat.old.me.0 key seat.new.me.0 }
 {
@@ -115,6 +123,7 @@ pub(crate) fn claim<F: Facts>(
     requires at { IsAt F.meaning
         (sizes_of shared.now.key) shared.now.table_id.words seat.old.me.0 key steps cell }
     ensures same { (seat.new.table_id ≡ seat.old.table_id) × (seat.new.me.1 ≡ seat.old.me.1) }
+    ensures made { seat.new.me.0.made ≡ a_claim key ∷ seat.old.me.0.made }
     ensures hit { (result ≡ 0) ⊎ (result ≡ key)
         → EndsAt F.meaning seat.old.me.0 key cell seat.new.me.0 }
     ensures miss { result ≢ 0 → result ≢ key → GoesPast seat.old.me.0 key seat.new.me.0 }
@@ -139,7 +148,7 @@ pub(crate) fn note<F: Facts>(
     requires due { (t : F.Thing) × (knows seat.old.me.0 cell ≡ Some t)
         × (F.meaning.note_of t ≡ knows seat.old.me.0 value) }
     ensures same { (seat.new.table_id ≡ seat.old.table_id) × (seat.new.me.1 ≡ seat.old.me.1) }
-    ensures view { seat.new.me.0 ≡ after_note seat.old.me.0 cell }
+    ensures view { seat.new.me.0 ≡ after_note (makes (a_note cell value ∷ []) seat.old.me.0) cell }
     ensures sure { Sure F.meaning seat.new.me.0 }
 {
     shared.compare_exchange::<Notes<F>>(seat, 1 + size + cell, 0, value + 1);
@@ -155,7 +164,7 @@ pub(crate) fn split<F: Facts, H: Heirs>(
     requires sure { Sure F.meaning seat.old.me.0 }
     ensures sure { Sure F.meaning seat.new.me.0 × Sure F.meaning result.me.0 }
     ensures old { (seat.new.table_id ≡ seat.old.table_id)
-        × (seat.new.me ≡ (after_split H.heirs seat.old.me.0, seat.old.me.1)) }
+        × (seat.new.me ≡ (after_split H.heirs (makes (a_split H.heirs ∷ []) seat.old.me.0), seat.old.me.1)) }
     ensures new { (result.table_id ≡ seat.old.table_id)
         × (result.me ≡ (split_off H.heirs seat.old.me.0, [])) }
 {
@@ -189,7 +198,7 @@ pub(crate) fn meet<F: Facts>(
     requires free { other.me.1 ≡ [] }
     requires search { (seat.old.me.0.probe ≡ None) × (other.me.0.probe ≡ None) }
     ensures same { (seat.new.table_id ≡ seat.old.table_id) × (seat.new.me.1 ≡ seat.old.me.1) }
-    ensures view { seat.new.me.0 ≡ after_meet seat.old.me.0 other.me.0 }
+    ensures view { seat.new.me.0 ≡ after_meet (makes (a_join ∷ []) seat.old.me.0) other.me.0 }
     ensures sure { Sure F.meaning seat.new.me.0 }
 {
     shared.join_seat::<Meets>(seat, other);

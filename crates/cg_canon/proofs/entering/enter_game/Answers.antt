@@ -1,7 +1,8 @@
-use Rattle.std.proofs.Common.{ap, refl, ◌∙◌, ◌++◌, ◌∷◌, []}
+use Rattle.std.proofs.Common.{ap, arith, refl, ◌∙◌, ◌++◌, ◌∷◌, []}
 use Rattle.cg_form.specs.Game.{node}
 use Rattle.cg_book.specs.Pages.{games_of}
-use Rattle.cg_canon.proofs.Booking.{holds_more, holds_same}
+use Rattle.cg_canon.proofs.Booking.{holds_more, holds_same, known_page}
+use Rattle.cg_canon.proofs.LatePages.{room}
 use Rattle.cg_canon.proofs.entering.enter_game.Goals as goal
 
 pub returns-in_err-reserve-clause-holds : goal.returns-in_err-reserve-clause-holds
@@ -20,4 +21,15 @@ returns-clause-holds g c =
     let b = c.args.book.now in
     holds_more (g.S.CellStore.state c.args.store.now) b c.name.new.self c.args.handle (node (games_of b.pages c.args.lefts.now) (games_of b.pages c.args.rights.now)) c.requires.holds
     (c.name.ensures.pages ∙ c.in_ok-page.ensures.games) c.requires.is
-    (c.name.ensures.handles ∙ ap (λ z. z ++ (c.args.handle ∷ [])) c.reserve.ensures.items) c.name.ensures.answers c.requires.game
+    (c.name.ensures.handles ∙ ap (λ z. z ++ (c.args.handle ∷ [])) c.reserve.ensures.items) c.name.ensures.answers c.in_default.ensures.none c.requires.game
+
+pub returns-in-Some-clause-page : goal.returns-in-Some-clause-page
+returns-in-Some-clause-page g c =
+    let k = known_page (g.S.CellStore.state c.args.store.now) c.args.book.now c.args.handle c.in-Some.page c.requires.holds c.in-Some.ensures.page in
+    (k.0, k.1)
+
+pub add_game-requires-clause-few : goal.add_game-requires-clause-few
+add_game-requires-clause-few g c =
+    let count = c.requires.holds.count in
+    let few = room c.args.book.now.handles.items c.args.handle c.in_default.ensures.none in
+    omega arith

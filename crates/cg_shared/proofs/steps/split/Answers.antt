@@ -1,5 +1,5 @@
 use Rattle.std.proofs.Common.{sym, subst}
-use Rattle.cg_cells.specs.Table.{Sure}
+use Rattle.cg_cells.specs.Sure.{Sure}
 use Rattle.cg_shared.proofs.Telling.{split_sure}
 use Rattle.cg_shared.proofs.Allowed.{split_allowed}
 use Rattle.cg_shared.proofs.steps.split.Goals as goal
@@ -9,5 +9,5 @@ split_seat-requires g c = (c.requires.table.0, c.requires.table.1, split_allowed
 
 pub returns-clause-sure : goal.returns-clause-sure
 returns-clause-sure g c =
-    let r = split_sure g.F.Facts.meaning g.H.Heirs.heirs c.args.seat.now.me.0 c.requires.heirs c.requires.sure in
+    let r = split_sure g.F.Facts.meaning g.met.F.Facts.lawful g.H.Heirs.heirs c.args.seat.now.me.0 c.requires.live c.requires.heirs c.requires.sure in
     (subst (λ me. Sure g.F.Facts.meaning me.0) (sym c.split_seat.ensures.2) r.0, subst (λ me. Sure g.F.Facts.meaning me.0) (sym c.split_seat.ensures.4) r.1)
