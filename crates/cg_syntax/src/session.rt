@@ -110,7 +110,7 @@ pub fn read_session(alloc: Global, text: &[u8]) -> Result<Session, AllocError>
     ensures lines { IfOk result (λ s. IsSession text.now (lines_in s.lines)) }
     ensures closed { IfOk result (λ s. AreClosedLines (lines_in s.lines)) }
 {
-    match read_session_within(alloc, text, u64::MAX)? {
+    match read_session_within(alloc, text, text.len() as u64)? {
         Some(session) => Ok(session),
         None => unreachable!(),
     }

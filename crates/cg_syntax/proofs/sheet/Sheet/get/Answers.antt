@@ -1,4 +1,4 @@
-use Rattle.std.proofs.Common.{rules, ◌≡◌, ◌<◌, refl, ap, sym, subst, ◌∙◌, ℕ, List, true, false, length, map, get_or, Some, None, Option}
+use Rattle.std.proofs.Common.{rules, ◌≡◌, ◌<◌, refl, ap, sym, subst, ◌∙◌, ℕ, List, true, length, map, get_or, Some, Option}
 use Rattle.std.specs.Prelude.{slice_get, option_map}
 use Rattle.std.proofs.lemmas.List.{length-map}
 use Rattle.std.proofs.lemmas.Option.{slice_get_read}
