@@ -1,20 +1,14 @@
 -- Boards after captures, by their words.
 use Rattle.std.proofs.Common.{◌≡◌, ℕ, ◌<◌, true, length, sym, subst}
 use Rattle.std.specs.Prelude.{codes, slice_set}
-use Rattle.std.specs.Str.{bytes_eq}
 use Rattle.cg_moves.specs.declared.planes.Planes.{Planes}
 use Rattle.cg_moves.specs.declared.player.Player.{Player}
-use Rattle.cg_moves.specs.Grid.{Grid, IsGrid, is_in_rows, with_cells}
+use Rattle.cg_moves.specs.Grid.{Grid, IsGrid, with_cells}
 use Rattle.cg_moves.specs.PlaneBits.{ArePlanes, IsWithIndex, index_of}
 use Rattle.cg_moves.proofs.PlaneLemmas.{SetBy}
-use Rattle.cg_moves.proofs.Same.{and-true, bytes_eq-back}
 use Rattle.cg_pieces.proofs.TwoSet.{two_set}
 use Rattle.cg_clobber.specs.Moves.{clobber, empty, own}
-use Rattle.cg_clobber.proofs.Placing.{has-empty, has-own}
-
-symbols-are : (p : Grid) → clobber.has p ≡ true → codes ".xo" ≡ p.symbols
-symbols-are p has =
-    sym (bytes_eq-back p.symbols (codes ".xo") (and-true (is_in_rows p) (bytes_eq p.symbols (codes ".xo")) has).1)
+use Rattle.cg_clobber.proofs.Placing.{has-empty, has-own, symbols-are}
 
 -- the words in which the one cell got the index of an empty one, and then the other that of the player's stone
 pub capture_by : (rows columns : ℕ) (player : Player) (p : Grid) (w one both : Planes) (i j : ℕ) → rows ≡ p.rows
@@ -23,7 +17,7 @@ pub capture_by : (rows columns : ℕ) (player : Player) (p : Grid) (w one both :
     → IsWithIndex one both j (index_of (codes ".xo") (own player))
     → SetBy rows columns p.symbols both (with_cells p (slice_set p.cells i empty)) j (own player)
 capture_by rows columns player p w one both i j high wide has inside below g are put next =
-    let e = symbols-are p has in
+    let e = sym (symbols-are p has) in
     two_set rows columns p w one both i j empty (own player) high wide g are inside below (has-empty p has)
     (has-own player p has) (subst (λ z. IsWithIndex w one i (index_of z empty)) e put)
     (subst (λ z. IsWithIndex one both j (index_of z (own player))) e next)

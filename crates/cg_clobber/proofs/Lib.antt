@@ -5,3 +5,4 @@ pub mod PairOrder
 pub mod PairRise
 pub mod CaptureBoards
 pub mod StoneWords
+pub mod Moving

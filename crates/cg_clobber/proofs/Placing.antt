@@ -12,6 +12,9 @@ use Rattle.cg_moves.proofs.MoveLemmas.{listed_next}
 use Rattle.cg_moves.proofs.Same.{and-true, bytes_eq-back}
 use Rattle.cg_clobber.specs.Moves.{clobber, empty, own}
 
+pub symbols-are : (p : Grid) → clobber.has p ≡ true → p.symbols ≡ codes ".xo"
+symbols-are p has = bytes_eq-back p.symbols (codes ".xo") (and-true (is_in_rows p) (bytes_eq p.symbols (codes ".xo")) has).1
+
 own-contained : (player : Player) → Contains (codes ".xo") (own player)
 own-contained Left = (1, omega arith, refl)
 own-contained Right = (2, omega arith, refl)
@@ -20,9 +23,7 @@ empty-contained : Contains (codes ".xo") empty
 empty-contained = (0, omega arith, refl)
 
 has-symbol : (p : Grid) (s : ℕ) → clobber.has p ≡ true → Contains (codes ".xo") s → Contains p.symbols s
-has-symbol p s has is =
-    let P : List ℕ → Type 0 = λ z. Contains z s in
-    subst P (sym (bytes_eq-back p.symbols (codes ".xo") (and-true (is_in_rows p) (bytes_eq p.symbols (codes ".xo")) has).1)) is
+has-symbol p s has is = let P : List ℕ → Type 0 = λ z. Contains z s in subst P (sym (symbols-are p has)) is
 
 pub has-empty : (p : Grid) → clobber.has p ≡ true → Contains p.symbols empty
 has-empty p has = has-symbol p empty has empty-contained

@@ -11,7 +11,7 @@ use Rattle.cg_moves.specs.Rules.{In}
 use Rattle.cg_moves.proofs.ConnectedLemmas.{or-cases, or-first, or-second}
 use Rattle.cg_moves.proofs.Members.{in_flat_mapped}
 use Rattle.cg_moves.proofs.ForGames.{at-listed, board-wide, choice-in}
-use Rattle.cg_pieces.specs.Neighbours.{CutsNeighbours, IsNeighbours, is_below, is_beside, is_next}
+use Rattle.cg_pieces.specs.Neighbours.{CutsNeighbours, IsNeighbours, is_below, is_beside, is_next, may_move}
 use Rattle.cg_pieces.proofs.Lines.{below-is, beside-inside, beside-is, before-beside, is-below, is-beside, second-column}
 use Rattle.cg_pieces.proofs.NeighbourSets.{piece-cell-below}
 use Rattle.cg_clobber.specs.declared.way.Way.{Way}
@@ -83,6 +83,18 @@ module _ (p : Grid) (k l : ℕ) where
       let P : ℕ → Type 0 = λ z. IsTrue (is_beside w k z) in
       by-forth (subst P h.1 (is-beside w k (ltb-true (k % w + 1) w h.0)))
 
+  pub next-down : l < length p.cells → is_below w k l ≡ true → next_cell Down p k ≡ Some l
+  next-down below a =
+      let e = below-is w k l a in
+      let t = lt-ltb (k + w) (length p.cells) (omega (arith, e, below)) in
+      ap (λ b. if b then Some (k + w) else None) t ∙ ap Some (sym e)
+
+  pub next-forth : 0 < w → is_beside w k l ≡ true → next_cell Forth p k ≡ Some l
+  next-forth wide a =
+      let e = beside-is w k l a in
+      let t = lt-ltb (k % w + 1) w (beside-inside w k l wide a) in
+      ap (λ b. if b then Some (k + 1) else None) t ∙ ap Some (sym e)
+
   -- the way to an adjacent cell
   record Toward : Type 0 where
     way : Way
@@ -93,13 +105,7 @@ module _ (p : Grid) (k l : ℕ) where
   next-way wide below h =
       elim (or-cases (is_below w k l || is_below w l k) (is_beside w k l || is_beside w l k) h) [
         | inl x ↦ elim (or-cases (is_below w k l) (is_below w l k) x) [
-          | inl a ↦
-              let e = below-is w k l a in
-              let t = lt-ltb (k + w) (length p.cells) (omega (arith, e, below)) in record {
-                way = Down;
-                listed = inr (inl refl);
-                is = ap (λ b. if b then Some (k + w) else None) t ∙ ap Some (sym e);
-              }
+          | inl a ↦ record { way = Down; listed = inr (inl refl); is = next-down below a }
           | inr a ↦
               let e = below-is w l k a in
               let f = false-from (nat_lt k w) (λ t. let g = ltb-true k w t in omega (arith, e, g)) in
@@ -110,13 +116,7 @@ module _ (p : Grid) (k l : ℕ) where
               }
         ]
         | inr y ↦ elim (or-cases (is_beside w k l) (is_beside w l k) y) [
-          | inl a ↦
-              let e = beside-is w k l a in
-              let t = lt-ltb (k % w + 1) w (beside-inside w k l wide a) in record {
-                way = Forth;
-                listed = inr (inr (inr (inl refl)));
-                is = ap (λ b. if b then Some (k + 1) else None) t ∙ ap Some (sym e);
-              }
+          | inl a ↦ record { way = Forth; listed = inr (inr (inr (inl refl))); is = next-forth wide a }
           | inr a ↦
               let e = beside-is w l k a in
               let c = second-column w l k a in
@@ -128,6 +128,17 @@ module _ (p : Grid) (k l : ℕ) where
               }
         ]
       ]
+
+-- a capture on the next cell some way is a move of the player
+pub capture-may : (player : Player) (p : Grid) (k l : ℕ) (way : Way) → 0 < p.columns → next_cell way p k ≡ Some l
+    → captures player p k l ≡ true → may_move stones player p k l ≡ true
+capture-may player p k l way wide n t =
+    let both = and-split (has_stone p.cells k (own player)) (has_stone p.cells l (other player)) t in
+    let x = own-is player (slice_index p.cells k) (eqb-true (slice_index p.cells k) (own player) both.0) in
+    let y = other-is player (slice_index p.cells l) (eqb-true (slice_index p.cells l) (other player) both.1) in
+    and-both (is_stone (slice_index p.cells k) && is_stone (slice_index p.cells l)) (is_next p.columns k l && captures player p k l)
+    (and-both (is_stone (slice_index p.cells k)) (is_stone (slice_index p.cells l)) x y)
+    (and-both (is_next p.columns k l) (captures player p k l) (way-next p k l way wide n) t)
 
 pub clobber_cuts : CutsNeighbours stones clobber
 clobber_cuts = record {
@@ -142,15 +153,10 @@ clobber_cuts = record {
       (eq-eqb (length q.cells) (q.rows * q.columns) size))
       (subst P (sym symbols) a.1);
   legal_move = λ player p cells has m.
-      let (i, way, j, n, f, e) = is_capture player p cells m in
-      let both = and-split (has_stone p.cells i (own player)) (has_stone p.cells j (other player)) f in
-      let x = own-is player (slice_index p.cells i) (eqb-true (slice_index p.cells i) (own player) both.0) in
-      let y = other-is player (slice_index p.cells j) (eqb-true (slice_index p.cells j) (other player) both.1) in record {
+      let (i, way, j, n, f, e) = is_capture player p cells m in record {
         one = i;
         other = j;
-        legal = and-both (is_stone (slice_index p.cells i) && is_stone (slice_index p.cells j)) (is_next p.columns i j && captures player p i j)
-            (and-both (is_stone (slice_index p.cells i)) (is_stone (slice_index p.cells j)) x y)
-            (and-both (is_next p.columns i j) (captures player p i j) (way-next p i j way (board-wide (codes ".xo") p has) n) f);
+        legal = capture-may player p i j way (board-wide (codes ".xo") p has) n f;
         is = e;
       };
   move = λ player p k l has t.

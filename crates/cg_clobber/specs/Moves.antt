@@ -78,6 +78,7 @@ is_stone c = (c == own Left) || (c == own Right)
 -- stones form pieces, in which the other cells are empty; a move is one on two adjacent stones
 abbrev pub stones : Neighbours
 stones = record {
+  symbols = codes ".xo";
   blank = empty;
   forms_pieces = is_stone;
   allowed = λ player below beside x y. (x == own player) && (y == other player);

@@ -1,9 +1,10 @@
 //! Captures, in words.
-ghost use Rattle.std.specs.Prelude.{◌≡◌, true};
+ghost use Rattle.std.specs.Prelude.{◌≡◌, ◌%◌, ◌==◌, ◌&&◌, codes, length, nat_lt, true};
 ghost use Rattle.cg_moves.specs.Words.{Marks};
 ghost use Rattle.cg_clobber.specs.declared.way.Way.TheVariants.{Up, Down, Back, Forth};
 ghost use Rattle.cg_clobber.specs.CaptureWords.{AreCaptureWords, AreStones};
-ghost use Rattle.cg_clobber.specs.Moves.{captures_that_way, clobber};
+ghost use Rattle.cg_clobber.specs.Moves.{captures_that_way, clobber, stones};
+ghost use Rattle.cg_pieces.specs.Moving.{AreMoving};
 
 use crate::Way;
 use crate::putting::CaptureWords;
@@ -24,24 +25,25 @@ pub(crate) struct Stones {
 }
 
 /// The stones on the board, as the player sees them. The index of `x` is 1, and that of `o` is 2, so each has a word of its own.
-fn stones_of(board: &Board, player: Player) -> Stones
-    requires { clobber.has board.now ≡ true }
+#[inline(always)]
+fn stones_of(board: &Board, player: Player, first_column: u64) -> Stones
+    requires symbols { board.now.symbols ≡ codes ".xo" }
+    requires first { Marks first_column (λ i. nat_lt i (length board.now.cells) && (i % board.now.columns == 0)) }
     ensures { AreStones player board.now result }
 {
     let planes = board.planes();
-    let first = board.first_column();
     let columns = board.columns();
     match player {
         Player::Left => Stones {
             own: planes.a,
             others: planes.b,
-            first_column: first,
+            first_column,
             columns,
         },
         Player::Right => Stones {
             own: planes.b,
             others: planes.a,
-            first_column: first,
+            first_column,
             columns,
         },
     }
@@ -95,12 +97,26 @@ fn captures_forth(board: &Board, player: Player, stones: Stones) -> u64
     stones.own & moved
 }
 
+/// The stones with which some player has a capture together with the cell below or the next one in the row, whichever of the
+/// two is the one that moves.
+pub(crate) fn moving_stones(board: &Board, first_column: u64) -> u64
+    requires symbols { board.now.symbols ≡ codes ".xo" }
+    requires first { Marks first_column (λ i. nat_lt i (length board.now.cells) && (i % board.now.columns == 0)) }
+    ensures { AreMoving stones board.now result }
+{
+    let xs = stones_of(board, Player::Left, first_column);
+    let os = stones_of(board, Player::Right, first_column);
+    let below = captures_down(board, Player::Left, xs) | captures_down(board, Player::Right, os);
+    let beside = captures_forth(board, Player::Left, xs) | captures_forth(board, Player::Right, os);
+    below | beside
+}
+
 /// The player's captures, by the first of the two cells that a move changes.
 pub(crate) fn captures_of(board: &Board, player: Player) -> CaptureWords
     requires { clobber.has board.now ≡ true }
     ensures { AreCaptureWords player board.now result }
 {
-    let stones = stones_of(board, player);
+    let stones = stones_of(board, player, board.first_column());
     let up = captures_up(board, player, stones);
     let back = captures_back(board, player, stones);
     CaptureWords {
@@ -117,7 +133,7 @@ pub fn captures(board: &Board, player: Player, way: Way) -> u64
     requires { clobber.has board.now ≡ true }
     ensures { Marks result (captures_that_way player board.now way) }
 {
-    let stones = stones_of(board, player);
+    let stones = stones_of(board, player, board.first_column());
     match way {
         Way::Up => captures_up(board, player, stones),
         Way::Down => captures_down(board, player, stones),

@@ -6,7 +6,6 @@ pub mod laws;
 mod putting;
 mod reading;
 mod stones;
-mod symbols;
 mod way;
 
 pub use capturing::captures;

@@ -9,9 +9,8 @@ ghost use Rattle.cg_clobber.specs.Lawful.{clobber_lawful};
 ghost use Rattle.cg_clobber.specs.Moves.{clobber, stones};
 ghost use Rattle.cg_clobber.specs.Pairs.{by_pairs, onward, paired, toward_back};
 
-use crate::capturing::captures_of;
+use crate::capturing::{captures_of, moving_stones};
 use crate::putting::{CaptureWords, put_onward, put_toward};
-use crate::symbols::{EMPTY, other, own};
 use cg_moves::{Board, Boards, Pieces, Player, Rules};
 use cg_pieces::{NeighbourRules, pieces, pieces_into};
 use std::alloc::{AllocError, Global};
@@ -76,42 +75,38 @@ fn put_all_paired(
     Ok(())
 }
 
-/// The boards after the player's moves, by the first of the two cells that a move changes, in the room of these boards, of
-/// which there are none. They are in rising order: a move of Left lowers this cell or raises it, and one of Right lowers it.
-fn boards_in(board: &Board, player: Player, room: Vec<Board>) -> Result<Vec<Board>, AllocError>
-    requires has { clobber.has board.now ≡ true }
-    requires room { room.items ≡ [] }
-    ensures { IfOk result (λ boards. boards.items ≡ map (with_cells board.now) (by_pairs player board.now)) }
+/// Puts the boards after the player's moves, by the first of the two cells that a move changes, in the place of these boards.
+/// They are in rising order: a move of Left lowers this cell or raises it, and one of Right lowers it.
+fn boards_in(board: &Board, player: Player, boards: &mut Vec<Board>) -> Result<(), AllocError>
+    requires { clobber.has board.now ≡ true }
+    ensures { IfOk result (λ _. boards.new.items ≡ map (with_cells board.now) (by_pairs player board.now)) }
 {
     let words = captures_of(board, player);
-    let mut boards = room;
+    boards.clear();
     boards.reserve(words.count())?;
     match player {
         Player::Left => {
-            put_all_onward(board, player, &words, &mut boards)?;
-            put_all_toward(board, player, &words, &mut boards)?;
-            Ok(boards)
+            put_all_onward(board, player, &words, boards)?;
+            put_all_toward(board, player, &words, boards)
         }
-        Player::Right => {
-            put_all_paired(board, player, &words, &mut boards)?;
-            Ok(boards)
-        }
+        Player::Right => put_all_paired(board, player, &words, boards),
     }
 }
 
 impl NeighbourRules for Clobber {
     ghost neighbours = { λ rules. stones };
 
-    fn blank(&self) -> u8 {
-        EMPTY
+    fn blank_index(&self) -> u8 {
+        0
     }
 
-    fn forms_pieces(&self, symbol: u8) -> bool {
-        symbol == own(Player::Left) || symbol == own(Player::Right)
+    fn piece_cells(&self, board: &Board) -> u64 {
+        let planes = board.planes();
+        planes.a | planes.b
     }
 
-    fn allows(&self, player: Player, _below: bool, _beside: bool, one: u8, second: u8) -> bool {
-        one == own(player) && second == other(player)
+    fn moving_cells(&self, board: &Board, _cells: u64, first_column: u64) -> u64 {
+        moving_stones(board, first_column)
     }
 
     ghost lawful = { λ rules. stones-are };
@@ -121,7 +116,8 @@ impl Rules for Clobber {
     ghost game = { λ rules. clobber };
 
     fn moves(&self, alloc: Global, board: &Board, player: Player) -> Result<Boards, AllocError> {
-        let boards = boards_in(board, player, Vec::new(alloc))?;
+        let mut boards = Vec::new(alloc);
+        boards_in(board, player, &mut boards)?;
         Ok(Boards::of(boards))
     }
 
@@ -130,8 +126,8 @@ impl Rules for Clobber {
         _alloc: Global,
         board: &Board,
         player: Player,
-        room: Vec<Board>,
-    ) -> Result<Vec<Board>, AllocError> {
+        room: &mut Vec<Board>,
+    ) -> Result<(), AllocError> {
         boards_in(board, player, room)
     }
 
@@ -143,8 +139,8 @@ impl Rules for Clobber {
         &self,
         _alloc: Global,
         board: &Board,
-        room: Vec<Board>,
-    ) -> Result<Vec<Board>, AllocError> {
+        room: &mut Vec<Board>,
+    ) -> Result<(), AllocError> {
         pieces_into(self, board, room)
     }
 

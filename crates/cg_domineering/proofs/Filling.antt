@@ -1,21 +1,17 @@
 -- Dominoes by the words of the board.
 use Rattle.std.proofs.Common.{◌≡◌, ℕ, true, ap, sym, subst}
-use Rattle.std.specs.Prelude.{codes, slice_set}
-use Rattle.std.specs.Str.{bytes_eq}
+use Rattle.std.specs.Prelude.{slice_set}
 use Rattle.cg_moves.specs.declared.planes.Planes.{Planes}
 use Rattle.cg_moves.specs.declared.player.Player.{Player}
-use Rattle.cg_moves.specs.Grid.{Grid, IsGrid, is_in_rows, with_cells}
+use Rattle.cg_moves.specs.Grid.{Grid, IsGrid, with_cells}
 use Rattle.cg_moves.specs.PlaneBits.{ArePlanes, IsWithIndex, index_of}
 use Rattle.cg_moves.proofs.PlaneLemmas.{SetBy}
-use Rattle.cg_moves.proofs.Same.{and-true, bytes_eq-back}
 use Rattle.cg_pieces.proofs.TwoSet.{two_set}
 use Rattle.cg_domineering.specs.Moves.{domineering, filled, fits, other_cell}
-use Rattle.cg_domineering.proofs.Placing.{first-inside, has-filled, other-inside}
+use Rattle.cg_domineering.proofs.Placing.{first-inside, has-filled, other-inside, symbols-are}
 
 filled-index : (p : Grid) → domineering.has p ≡ true → index_of p.symbols filled ≡ 1
-filled-index p has =
-    ap (λ z. index_of z filled)
-    (bytes_eq-back p.symbols (codes ".#") (and-true (is_in_rows p) (bytes_eq p.symbols (codes ".#")) has).1)
+filled-index p has = ap (λ z. index_of z filled) (symbols-are p has)
 
 -- the words in which both cells of a domino that fits got the index of a filled one
 pub domino_by : (rows columns : ℕ) (player : Player) (p : Grid) (w one both : Planes) (i j : ℕ) → rows ≡ p.rows

@@ -5,12 +5,13 @@ use Rattle.std.specs.Int.{bit_at}
 use Rattle.std.specs.List.{flat_map}
 use Rattle.std.specs.Str.{bytes_eq}
 use Rattle.std.specs.declared.cmp.Ordering.TheVariants.{Less}
-use Rattle.std.proofs.lemmas.Bool.{eqb-true, lt-ltb, ltb-true}
+use Rattle.std.proofs.lemmas.Bool.{eqb-true, le-ltb, lt-ltb, ltb-true}
 use Rattle.std.proofs.lemmas.Bool.Decides.{leb_tells}
 use Rattle.std.proofs.lemmas.List.{get_or_past}
 use Rattle.cg_moves.specs.declared.player.Player.{Player}
 use Rattle.cg_moves.specs.declared.player.Player.TheVariants.{Left, Right}
-use Rattle.cg_moves.specs.Grid.{Grid, is_in_rows, with_cells}
+use Rattle.cg_moves.specs.Grid.{Grid, IsGrid, is_in_rows, with_cells}
+use Rattle.cg_moves.specs.PlaneBits.{index_of, plane_bit}
 use Rattle.cg_moves.specs.Rising.{IsRising, bytes_cmp, counted}
 use Rattle.cg_moves.specs.Rules.{In}
 use Rattle.cg_moves.specs.Words.{Marks}
@@ -19,18 +20,15 @@ use Rattle.cg_moves.proofs.Members.{in-flat_map, in_one}
 use Rattle.cg_moves.proofs.RisingLemmas.{first-less, rises-none, rises-on, rising-kept}
 use Rattle.cg_moves.proofs.Same.{and-true, bytes_eq-back}
 use Rattle.cg_moves.proofs.WordBits.{marks_both, marks_same, marks_without, row_end}
+use Rattle.cg_pieces.proofs.SymbolWords.{Tells, symbol-marks}
 use Rattle.cg_domineering.specs.Moves.{domineering, empty, filled, fits, has_other, is_empty, moves_at, moves_of, other_cell, with_domino}
 
-has-symbol : (p : Grid) (s : ℕ) → domineering.has p ≡ true → Contains (codes ".#") s → Contains p.symbols s
-has-symbol p s has is =
-    let P : List ℕ → Type 0 = λ z. Contains z s in
-    subst P (sym (bytes_eq-back p.symbols (codes ".#") (and-true (is_in_rows p) (bytes_eq p.symbols (codes ".#")) has).1)) is
-
-pub has-empty : (p : Grid) → domineering.has p ≡ true → Contains p.symbols empty
-has-empty p has = has-symbol p empty has (0, omega arith, refl)
+pub symbols-are : (p : Grid) → domineering.has p ≡ true → p.symbols ≡ codes ".#"
+symbols-are p has = bytes_eq-back p.symbols (codes ".#") (and-true (is_in_rows p) (bytes_eq p.symbols (codes ".#")) has).1
 
 pub has-filled : (p : Grid) → domineering.has p ≡ true → Contains p.symbols filled
-has-filled p has = has-symbol p filled has (1, omega arith, refl)
+has-filled p has =
+    let P : List ℕ → Type 0 = λ z. Contains z filled in subst P (sym (symbols-are p has)) (1, omega arith, refl)
 
 pub wide : (p : Grid) → domineering.has p ≡ true → 0 < p.columns
 wide p has =
@@ -62,7 +60,7 @@ first-inside player p i f = empty-inside p.cells i (fits-placed player p i f).fi
 pub other-inside : (player : Player) (p : Grid) (i : ℕ) → fits player p i ≡ true → other_cell player p i < length p.cells
 other-inside player p i f = empty-inside p.cells (other_cell player p i) (fits-placed player p i f).other_empty
 
-other-after : (player : Player) (p : Grid) (i : ℕ) → 0 < p.columns → i < other_cell player p i
+pub other-after : (player : Player) (p : Grid) (i : ℕ) → 0 < p.columns → i < other_cell player p i
 other-after Left p i some = omega arith
 other-after Right p i some = omega arith
 
@@ -136,6 +134,39 @@ left-test false e true h = absurd (no (h refl))
     no g = cc
 left-test false true false h = refl
 left-test false false false h = refl
+
+filled-tells : Tells (codes ".#") 0 filled
+filled-tells c (zero, l, e) = let P : ℕ → Type 0 = λ z. bit_at (index_of (codes ".#") z) 0 ≡ (if z == 35 then 1 else 0) in subst P e refl
+filled-tells c (suc zero, l, e) = let P : ℕ → Type 0 = λ z. bit_at (index_of (codes ".#") z) 0 ≡ (if z == 35 then 1 else 0) in subst P e refl
+filled-tells c (suc (suc k), l, e) = absurd (omega (arith, l))
+
+-- the cells that aren't filled
+pub empty_marks : (p : Grid) (word all : ℕ) → p.symbols ≡ codes ".#" → IsGrid p → word < 2 ^ 64 → all < 2 ^ 64
+    → ((i : ℕ) → bit_at word i ≡ plane_bit p.symbols p.cells 0 i) → Marks all (λ i. nat_lt i (length p.cells))
+    → Marks (bit_and all (18446744073709551615 - word)) (λ i. is_empty p.cells i)
+empty_marks p word all e g fits below are cells =
+    let P : List ℕ → Type 0 = λ z. Tells z 0 filled in
+    marks_same (bit_and all (18446744073709551615 - word))
+    (λ i. nat_lt i (length p.cells) && not (slice_index p.cells i == filled)) (λ i. is_empty p.cells i) same
+    (marks_without all word (λ i. nat_lt i (length p.cells)) (λ i. slice_index p.cells i == filled) cells
+    (symbol-marks p word 0 filled g (subst P (sym e) filled-tells) (λ z. omega (arith, z)) are) below fits)
+  where
+    other : (c : ℕ) → Contains (codes ".#") c → not (c == filled) ≡ (c == empty)
+    other c (zero, l, h) = let P : ℕ → Type 0 = λ z. not (z == 35) ≡ (z == 46) in subst P h refl
+    other c (suc zero, l, h) = let P : ℕ → Type 0 = λ z. not (z == 35) ≡ (z == 46) in subst P h refl
+    other c (suc (suc k), l, h) = absurd (omega (arith, l))
+
+    same : (i : ℕ) → (nat_lt i (length p.cells) && not (slice_index p.cells i == filled)) ≡ is_empty p.cells i
+    same i = elim (leb_tells (length p.cells) i) [
+      | inl h ↦
+          let P : ℕ → Type 0 = λ c. (nat_lt i (length p.cells) && not (c == 35)) ≡ (c == 46) in
+          let none : (nat_lt i (length p.cells) && true) ≡ false = ap (λ t. t && true) (le-ltb i (length p.cells) h.1) in
+          subst P (sym (get_or_past p.cells i 0 h.1)) none
+      | inr h ↦
+          let P : List ℕ → Type 0 = λ z. Contains z (slice_index p.cells i) in
+          ap (λ t. t && not (slice_index p.cells i == filled)) (lt-ltb i (length p.cells) h.1)
+          ∙ other (slice_index p.cells i) (subst P e (g.cells i h.1))
+    ]
 
 pub left_marks : (p : Grid) (word below : ℕ) → Marks word (λ i. is_empty p.cells i)
     → ((i : ℕ) → bit_at below i ≡ bit_at word (i + p.columns)) → Marks (bit_and word below) (fits Left p)

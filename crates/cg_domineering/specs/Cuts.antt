@@ -20,7 +20,7 @@ pub dominoes-are : IsNeighbours dominoes
 dominoes-are = record { blank = refl; past = refl }
 
 -- where a domino fits, the player may move on its two cells
-fits-may : (player : Player) (p : Grid) (k : ℕ) → 0 < p.columns → fits player p k ≡ true
+pub fits-may : (player : Player) (p : Grid) (k : ℕ) → 0 < p.columns → fits player p k ≡ true
     → may_move dominoes player p k (other_cell player p k) ≡ true
 fits-may player p k wide f =
     let both = and-split (has_other player p k && is_empty p.cells k) (is_empty p.cells (other_cell player p k)) f in
@@ -49,11 +49,11 @@ fits-may player p k wide f =
         (and-both (is_next p.columns k l) (is_beside p.columns k l) next beside)
 
 -- and where the player may move, a domino fits there
-record Fitting (player : Player) (p : Grid) (k l : ℕ) : Type 0 where
-  fits : fits player p k ≡ true
-  other : l ≡ other_cell player p k
+pub record Fitting (player : Player) (p : Grid) (k l : ℕ) : Type 0 where
+  pub fits : fits player p k ≡ true
+  pub other : l ≡ other_cell player p k
 
-may-fits : (player : Player) (p : Grid) (k l : ℕ) → 0 < p.columns → may_move dominoes player p k l ≡ true
+pub may-fits : (player : Player) (p : Grid) (k l : ℕ) → 0 < p.columns → may_move dominoes player p k l ≡ true
     → Fitting player p k l
 may-fits player p k l wide t =
     let both = and-split (is_empty p.cells k && is_empty p.cells l) (is_next p.columns k l && lies player (is_below p.columns k l) (is_beside p.columns k l)) t in

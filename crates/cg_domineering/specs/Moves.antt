@@ -55,6 +55,7 @@ lies Right below beside = beside
 -- empty cells form pieces, in which the other cells are filled; a move fills two that are adjacent
 abbrev pub dominoes : Neighbours
 dominoes = record {
+  symbols = codes ".#";
   blank = filled;
   forms_pieces = λ c. c == empty;
   allowed = λ player below beside x y. lies player below beside;

@@ -7,13 +7,11 @@ ghost use Rattle.cg_domineering.specs.Cuts.{dominoes-are};
 ghost use Rattle.cg_domineering.specs.Lawful.{domineering_lawful};
 ghost use Rattle.cg_domineering.specs.Moves.{domineering, dominoes, fits, moves_at, moves_of, other_cell, with_domino};
 
-use crate::fitting::{EMPTY, spots};
+use crate::fitting::{empty_cells, left_spots, right_spots, spots};
 use cg_moves::words::{bit, with_bit};
 use cg_moves::{Board, Boards, Pieces, Planes, Player, Rules};
 use cg_pieces::{NeighbourRules, pieces, pieces_into};
 use std::alloc::{AllocError, Global};
-
-const FILLED: u8 = b'#';
 
 /// The rules of Domineering. The symbols are `.` for an empty cell and `#` for a filled one. Left fills two empty cells, one
 /// above the other, and Right two empty cells side by side.
@@ -83,38 +81,38 @@ fn put_move(
     Ok(())
 }
 
-/// The boards after the player's dominoes, by their first cells, in the room of these boards, of which there are none. They are
-/// in rising order, since a filled cell is below an empty one.
-fn boards_in(board: &Board, player: Player, room: Vec<Board>) -> Result<Vec<Board>, AllocError>
-    requires has { domineering.has board.now ≡ true }
-    requires room { room.items ≡ [] }
-    ensures { IfOk result (λ boards. boards.items ≡ map (with_cells board.now) (moves_of player board.now)) }
+/// Puts the boards after the player's dominoes, by their first cells, in the place of these boards. They are in rising order,
+/// since a filled cell is below an empty one.
+fn boards_in(board: &Board, player: Player, boards: &mut Vec<Board>) -> Result<(), AllocError>
+    requires { domineering.has board.now ≡ true }
+    ensures { IfOk result (λ _. boards.new.items ≡ map (with_cells board.now) (moves_of player board.now)) }
 {
     let spots = spots(board, player);
-    let mut boards = room;
+    boards.clear();
     boards.reserve(spots.count_ones() as usize)?;
     for first in 0..board.size() {
-        put_move(board, player, spots, first, &mut boards)?;
+        put_move(board, player, spots, first, boards)?;
     }
-    Ok(boards)
+    Ok(())
 }
 
 impl NeighbourRules for Domineering {
     ghost neighbours = { λ rules. dominoes };
 
-    fn blank(&self) -> u8 {
-        FILLED
+    fn blank_index(&self) -> u8 {
+        1
     }
 
-    fn forms_pieces(&self, symbol: u8) -> bool {
-        symbol == EMPTY
+    fn piece_cells(&self, board: &Board) -> u64 {
+        empty_cells(board)
     }
 
-    fn allows(&self, player: Player, below: bool, beside: bool, _one: u8, _other: u8) -> bool {
-        match player {
-            Player::Left => below,
-            Player::Right => beside,
-        }
+    fn moving_cells(&self, board: &Board, cells: u64, first_column: u64) -> u64 {
+        // Read for the proof alone: the board has columns.
+        let _size = board.size();
+        let below = left_spots(board, cells);
+        let beside = right_spots(board, cells, first_column);
+        below | beside
     }
 
     ghost lawful = { λ rules. dominoes-are };
@@ -124,7 +122,8 @@ impl Rules for Domineering {
     ghost game = { λ rules. domineering };
 
     fn moves(&self, alloc: Global, board: &Board, player: Player) -> Result<Boards, AllocError> {
-        let boards = boards_in(board, player, Vec::new(alloc))?;
+        let mut boards = Vec::new(alloc);
+        boards_in(board, player, &mut boards)?;
         Ok(Boards::of(boards))
     }
 
@@ -133,8 +132,8 @@ impl Rules for Domineering {
         _alloc: Global,
         board: &Board,
         player: Player,
-        room: Vec<Board>,
-    ) -> Result<Vec<Board>, AllocError> {
+        room: &mut Vec<Board>,
+    ) -> Result<(), AllocError> {
         boards_in(board, player, room)
     }
 
@@ -146,8 +145,8 @@ impl Rules for Domineering {
         &self,
         _alloc: Global,
         board: &Board,
-        room: Vec<Board>,
-    ) -> Result<Vec<Board>, AllocError> {
+        room: &mut Vec<Board>,
+    ) -> Result<(), AllocError> {
         pieces_into(self, board, room)
     }
 

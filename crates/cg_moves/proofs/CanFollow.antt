@@ -1,5 +1,5 @@
 -- What is known before the boards that come next after a board are entered.
-use Rattle.std.proofs.Common.{◌≡◌, true, List, Result, [], ◌∷◌, ◌++◌, map, reverse, ap, sym, ◌∙◌, subst}
+use Rattle.std.proofs.Common.{◌≡◌, true, List, Result, [], ◌∷◌, ◌++◌, ap, sym, ◌∙◌, subst}
 use Rattle.std.specs.List.{flat_map}
 use Rattle.std.specs.Prelude.{IfOk}
 use Rattle.cg_moves.specs.declared.course.Course.{Course}
@@ -12,27 +12,22 @@ use Rattle.cg_moves.specs.Grid.{Grid}
 use Rattle.cg_moves.specs.Plays.{IsPlay, MayGo, parts_of, play_of}
 use Rattle.cg_moves.specs.Lawful.{IsLawful}
 use Rattle.cg_moves.specs.Rules.{GameRules, In, boards_after}
-use Rattle.cg_moves.specs.Walking.{AreAlone, AreFound, IsWalking, Way, board_of, parts, play, reached, way_of}
-use Rattle.cg_moves.specs.Walks.{AreStarts}
+use Rattle.cg_moves.specs.Walking.{Adds, AreAlone, AreAmong, AreFound, CanEnter, IsWalking, Way, parts, play, reached, way_of}
+use Rattle.cg_moves.specs.Walks.{AreStarts, Enters, entered}
 use Rattle.cg_moves.proofs.Bounds.{follower-has}
-use Rattle.cg_moves.proofs.Broad.{found-alike, found-alone, found-has, found-symbols, tasks-among}
+use Rattle.cg_moves.proofs.Broad.{added-among, found-alike, found-alone, found-has, found-symbols}
 use Rattle.cg_moves.proofs.Carried.{if_ok}
 use Rattle.cg_moves.proofs.FollowLemmas.{both}
 use Rattle.cg_moves.proofs.Members.{carry, in_one}
 use Rattle.cg_moves.proofs.OnWay.{alike-last, has-last, reached-alone, seen-alone}
 use Rattle.cg_moves.proofs.PlayLemmas.{follower-symbols, plays}
+use Rattle.cg_moves.proofs.TaskSteps.{last-enters}
 
 -- the board is one of the game; each board that was found is its own only part, and has the board's symbols
 pub record CanFollow (r : GameRules) (course : Course) (found : List Grid) (p : Grid) : Type 0 where
   pub has : r.has p ≡ true
   pub alone : AreAlone (parts_of r course) found
   pub alike : (qs : List Grid) → ((q : Grid) → In q qs → q.symbols ≡ p.symbols) → AreAlike (found ++ qs)
-
--- what `enter_next` asks of the boards that moves lead to
-pub record CanEnter (r : GameRules) (course : Course) (found qs : List Grid) : Type 0 where
-  pub has : (q : Grid) → In q qs → r.has q ≡ true
-  pub alone : AreAlone (parts_of r course) found
-  pub alike : AreAlike (found ++ qs)
 
 pub own-alike : (r : GameRules) (course : Course) (found : List Grid) (p : Grid) → CanFollow r course found p
     → AreAlike (found ++ (p ∷ []))
@@ -101,8 +96,9 @@ module _ (r : GameRules) (lawful : IsLawful r) (course : Course) where
         → CanFollow r course s.boards p
     walk-follow s tasks p (is, (may, (h, (own, x)))) =
         let is_play = way-lawful is may in
-        can-follow is s.boards p (has-last w is_play s tasks (Enter p) x) (seen-alone w is_play s tasks (Enter p) x own)
-        (alike-last w is_play s tasks (Enter p) x h)
+        let (us, front, on) = last-enters w s tasks p x in
+        can-follow is s.boards p (has-last w is_play s us (Enters p) on) (seen-alone w is_play s us (Enters p) on own)
+        (alike-last w is_play s us (Enters p) on h)
 
     pub look-follow : (found : List Grid) (p : Grid) (tasks : List Task) → IsLooking r course w found p tasks
         → CanFollow r course found p
@@ -115,15 +111,15 @@ module _ (r : GameRules) (lawful : IsLawful r) (course : Course) where
     pub next-found : {A E : Type 0} (found : List Grid) (p : Grid) (tasks : List Task) → IsLooking r course w found p tasks
         → (after : List Task) {lefts rights : List Grid} → lefts ≡ boards_after r Left p → rights ≡ boards_after r Right p
         → (result : Result A E)
-        → IfOk result (λ _. after ≡ tasks ++ map Enter (reverse (flat_map (parts_of r course) (lefts ++ rights))))
-        → IfOk result (λ _. (q : Grid) → In q (map board_of after) → In q (flat_map (play w).all w.starts))
+        → IfOk result (λ _. Adds found tasks after (entered (flat_map (parts_of r course) (lefts ++ rights))))
+        → IfOk result (λ _. AreAmong w after)
     next-found {A} {E} found p tasks (is, (may, (h, (own, (x, (m, none)))))) after {lefts} {rights} l t result put =
         let v = way_of r course w.starts in
         let cut = parts_of r course in
-        let rest = map Enter (reverse (flat_map cut (lefts ++ rights))) in
         let F : Way → Type 0 = λ z. AreFound z found in
         let S : Way → Type 0 = λ z. AreStarts (play z) z.starts in
-        let Q : Way → Type 0 = λ z. (q : Grid) → In q (map board_of after) → In q (flat_map (play z).all z.starts) in
-        if_ok (λ _. after ≡ tasks ++ rest) (λ _. Q w) result (λ _ e. subst Q (sym is)
-        (tasks-among v found (subst F is x) (plays r lawful course may) (subst S is h) p m after
-        (e ∙ ap (λ z. z ++ rest) none ∙ ap (λ z. map Enter (reverse (flat_map cut z))) (both r p lefts rights l t)))) put
+        let Q : Way → Type 0 = λ z. AreAmong z after in
+        let D : List Grid → Type 0 = λ z. Adds found tasks after (entered (flat_map cut z)) in
+        if_ok (λ _. D (lefts ++ rights)) (λ _. Q w) result (λ _ e. subst Q (sym is)
+        (added-among v found (subst F is x) (plays r lawful course may) (subst S is h) p m tasks after none
+        (subst D (both r p lefts rights l t) e))) put

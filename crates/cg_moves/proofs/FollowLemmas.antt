@@ -1,19 +1,23 @@
 -- The parts of boards that moves lead to, one board after another.
-use Rattle.std.proofs.Common.{◌≡◌, refl, ℕ, inl, inr, List, [], ◌∷◌, ◌++◌, map, reverse, append_assoc, ap, sym, ◌∙◌}
+use Rattle.std.proofs.Common.{◌≡◌, refl, ℕ, ◌+◌, ◌-◌, ◌<◌, ◌≤◌, inl, inr, List, [], ◌∷◌, ◌++◌, length, map, reverse, drop, get_or, append_assoc, ap, sym, ◌∙◌, subst, arith}
 use Rattle.std.specs.List.{flat_map}
 use Rattle.std.specs.Prelude.{Err, IsErrAnd, Ok, Result}
 use Rattle.std.proofs.lemmas.Grind.{flat_map-append, reverse_onto}
-use Rattle.std.proofs.lemmas.List.{append-nil, map-append, reverse-append}
+use Rattle.std.proofs.lemmas.List.{drop_more, map-append, reverse-append}
+use Rattle.cg_moves.specs.declared.course.Course.{Course}
 use Rattle.cg_moves.specs.declared.fault.ReachFault.{ReachFault}
 use Rattle.cg_moves.specs.declared.fault.ReachFault.TheVariants.{Positions}
 use Rattle.cg_moves.specs.declared.player.Player.TheVariants.{Left, Right}
 use Rattle.cg_moves.specs.declared.task.Task.{Task}
-use Rattle.cg_moves.specs.declared.task.Task.TheVariants.{Enter}
 use Rattle.cg_moves.specs.Found.{AreAlike}
 use Rattle.cg_moves.specs.Grid.{Grid}
 use Rattle.cg_moves.specs.Rules.{GameRules, In, boards_after, followers}
+use Rattle.cg_moves.specs.Walking.{Adds, CanEnter}
+use Rattle.cg_moves.specs.Walks.{Enters, Visit, entered}
 use Rattle.cg_form.proofs.Firsts.{in-append, in-append_left, in-append_right}
-use Rattle.cg_moves.proofs.Members.{carry}
+use Rattle.cg_moves.proofs.PlaceLemmas.{at-in, board-read}
+use Rattle.cg_moves.proofs.TaskLemmas.{entered-append}
+use Rattle.cg_moves.proofs.TaskSteps.{adds-more}
 
 -- fewer boards that are alike
 pub alike-less : (old some all : List Grid) → AreAlike (old ++ all) → ((q : Grid) → In q some → In q all) → AreAlike (old ++ some)
@@ -23,52 +27,88 @@ alike-less old some all h s p q m n =
       | inr o ↦ in-append_right x old all (s x o)
     ] in h p q (go p m) (go q n)
 
+-- fewer boards that may be entered
+pub can-enter-some : (r : GameRules) (course : Course) (found some all : List Grid) → CanEnter r course found all
+    → ((q : Grid) → In q some → In q all) → CanEnter r course found some
+can-enter-some r course found some all x s = record {
+  has = λ q m. x.has q (s q m);
+  alone = x.alone;
+  alike = alike-less found some all x.alike s;
+}
+
 -- where a call hands on that there are too many boards, the call within it told so
 pub passed_on : {A B : Type 0} (x : ReachFault) (r : Result A ReachFault) → IsErrAnd r (λ y. y ≡ x) → r ≡ Err Positions
     → ◌≡◌ {A = Result B ReachFault} (Err x) (Err Positions)
 passed_on x (Err y) told e = cc
 passed_on x (Ok y) told e = absurd told
 
+-- boards with the symbols of one that is alike
+pub alike-same : (old qs : List Grid) (p : Grid) → AreAlike (old ++ (p ∷ [])) → ((q : Grid) → In q qs → q.symbols ≡ p.symbols)
+    → AreAlike (old ++ qs)
+alike-same old qs p h s x y m n =
+    let last = in-append_right p old (p ∷ []) (inl refl) in
+    let go : (z : Grid) → In z (old ++ qs) → z.symbols ≡ p.symbols = λ z k. elim (in-append z old qs k) [
+      | inl o ↦ h z p (in-append_left z old (p ∷ []) o) last
+      | inr o ↦ s z o
+    ] in go x m ∙ sym (go y n)
+
 -- ---- one board after another, the last first
 
-module _ (boards rest : List Grid) (p : Grid) (popped : boards ≡ rest ++ (p ∷ [])) where
-  pub pop-among : In p boards
-  pop-among = carry p (rest ++ (p ∷ [])) boards (sym popped) (in-append_right p rest (p ∷ []) (inl refl))
+pub all-left : (boards : List Grid) (left : ℕ) → ¬ 0 < left → drop left boards ≡ boards
+all-left boards left none = let e : left ≡ 0 = omega (arith, none) in ap (λ z. drop z boards) e
 
-  pub pop-rest : (q : Grid) → In q rest → In q boards
-  pop-rest q m = carry q (rest ++ (p ∷ [])) boards (sym popped) (in-append_left q rest (p ∷ []) m)
+module _ (boards : List Grid) (left : ℕ) (p : Grid) (some : 0 < left) (inside : left ≤ length boards)
+    (is : p ≡ get_or boards (left - 1) p) where
+  pub last-in : In p boards
+  last-in = at-in boards (left - 1) p (board-read boards (left - 1) p (omega (arith, some, inside)) is)
 
-  pub pop-counts : (f : Grid → ℕ) (now after all : List ℕ) → now ++ map f (reverse boards) ≡ all → after ≡ now ++ (f p ∷ [])
-      → after ++ map f (reverse rest) ≡ all
-  pop-counts f now after all e g =
-      ap (λ z. z ++ map f (reverse rest)) g ∙ append_assoc now (f p ∷ []) (map f (reverse rest))
-      ∙ ap (λ z. now ++ map f z) (sym (ap reverse popped ∙ reverse-append rest (p ∷ []))) ∙ e
+  one-more : drop (left - 1) boards ≡ p ∷ drop left boards
+  one-more =
+      let e : left - 1 + 1 ≡ left = omega (arith, some) in
+      drop_more boards (left - 1) p (omega (arith, some, inside)) ∙ ap (λ z. z ∷ drop (left - 1 + 1) boards) (sym is)
+      ∙ ap (λ z. p ∷ drop z boards) e
 
-  pub pop-tasks : (cut : Grid → List Grid) (now after all : List Task) → now ++ map Enter (reverse (flat_map cut boards)) ≡ all
-      → after ≡ now ++ map Enter (reverse (cut p)) → after ++ map Enter (reverse (flat_map cut rest)) ≡ all
-  pop-tasks cut now after all e g =
-      ap (λ z. z ++ map Enter (reverse (flat_map cut rest))) g
-      ∙ append_assoc now (map Enter (reverse (cut p))) (map Enter (reverse (flat_map cut rest)))
-      ∙ ap (λ z. now ++ z) (sym (map-append Enter (reverse (cut p)) (reverse (flat_map cut rest)))
-      ∙ ap (map Enter) (sym (reverse-append (flat_map cut rest) (cut p))
-      ∙ ap reverse (sym (ap (flat_map cut) popped ∙ flat_map-append cut rest (p ∷ [])
-      ∙ ap (λ z. flat_map cut rest ++ z) (append-nil (cut p)))))) ∙ e
+  pub one-counted : (f : Grid → ℕ) (start now after : List ℕ) → now ≡ start ++ map f (reverse (drop left boards))
+      → after ≡ now ++ (f p ∷ []) → after ≡ start ++ map f (reverse (drop (left - 1) boards))
+  one-counted f start now after e g =
+      let rest = drop left boards in
+      g ∙ ap (λ z. z ++ (f p ∷ [])) e ∙ append_assoc start (map f (reverse rest)) (f p ∷ [])
+      ∙ ap (λ z. start ++ z) (sym (map-append f (reverse rest) (p ∷ [])))
+      ∙ ap (λ z. start ++ map f z) (sym (ap reverse one-more ∙ reverse_onto rest p []))
+
+  module _ (found : List Grid) (start now after : List Task) where
+    pub one-entered : Adds found start now (entered (drop left boards)) → Adds found now after (Enters p ∷ [])
+        → Adds found start after (entered (drop (left - 1) boards))
+    one-entered e g =
+        let P : List Grid → Type 0 = λ z. Adds found start after (entered z) in
+        subst P (sym one-more) (adds-more found start now after (entered (drop left boards)) (Enters p ∷ []) e g)
+
+    pub parts-entered : (cut : Grid → List Grid) → Adds found start now (entered (flat_map cut (drop left boards)))
+        → Adds found now after (entered (cut p)) → Adds found start after (entered (flat_map cut (drop (left - 1) boards)))
+    parts-entered cut e g =
+        let P : List Grid → Type 0 = λ z. Adds found start after (entered (flat_map cut z)) in
+        let Q : List Visit → Type 0 = λ z. Adds found start after z in
+        let rest = flat_map cut (drop left boards) in
+        subst P (sym one-more) (subst Q (sym (entered-append (cut p) rest))
+        (adds-more found start now after (entered rest) (entered (cut p)) e g))
 
 -- ---- the boards after Left's moves, and then those after Right's
 
+pub both-same : (lefts rights some others : List Grid) → lefts ≡ some → rights ≡ others → lefts ++ rights ≡ some ++ others
+both-same lefts rights some others e f = ap (λ z. z ++ rights) e ∙ ap (λ z. some ++ z) f
+
 pub both : (r : GameRules) (p : Grid) (lefts rights : List Grid) → lefts ≡ boards_after r Left p → rights ≡ boards_after r Right p
     → lefts ++ rights ≡ followers r p
-both r p lefts rights e f = ap (λ z. z ++ rights) e ∙ ap (λ z. boards_after r Left p ++ z) f
+both r p lefts rights e f = both-same lefts rights (boards_after r Left p) (boards_after r Right p) e f
 
 module _ (lefts rights : List Grid) where
-  pub both-tasks : (cut : Grid → List Grid) (a b c : List Task) → b ≡ a ++ map Enter (reverse (flat_map cut rights))
-      → c ≡ b ++ map Enter (reverse (flat_map cut lefts)) → c ≡ a ++ map Enter (reverse (flat_map cut (lefts ++ rights)))
-  both-tasks cut a b c e g =
-      g ∙ ap (λ z. z ++ map Enter (reverse (flat_map cut lefts))) e
-      ∙ append_assoc a (map Enter (reverse (flat_map cut rights))) (map Enter (reverse (flat_map cut lefts)))
-      ∙ ap (λ z. a ++ z) (sym (map-append Enter (reverse (flat_map cut rights)) (reverse (flat_map cut lefts)))
-      ∙ ap (map Enter) (sym (reverse-append (flat_map cut lefts) (flat_map cut rights))
-      ∙ ap reverse (sym (flat_map-append cut lefts rights))))
+  pub both-tasks : (found : List Grid) (cut : Grid → List Grid) (a b c : List Task)
+      → Adds found a b (entered (flat_map cut rights)) → Adds found b c (entered (flat_map cut lefts))
+      → Adds found a c (entered (flat_map cut (lefts ++ rights)))
+  both-tasks found cut a b c e g =
+      let P : List Visit → Type 0 = λ z. Adds found a c z in
+      subst P (sym (ap entered (flat_map-append cut lefts rights) ∙ entered-append (flat_map cut lefts) (flat_map cut rights)))
+      (adds-more found a b c (entered (flat_map cut rights)) (entered (flat_map cut lefts)) e g)
 
   pub both-counts : (f : Grid → ℕ) (a b c : List ℕ) → a ≡ [] → b ≡ a ++ map f (reverse rights) → c ≡ b ++ map f (reverse lefts)
       → c ≡ map f (reverse (lefts ++ rights))

@@ -1,6 +1,7 @@
 -- Boards that are to be left: above each stand tasks of boards with a lower measure, and it wasn't seen.
 use Rattle.std.proofs.Common.{◌≡◌, refl, true, inl, inr, List, [], ◌∷◌, ◌++◌, append_assoc, ap, sym, subst, arith}
 use Rattle.std.proofs.lemmas.List.{append-nil}
+use Rattle.cg_moves.specs.declared.task.Entered.{Entered}
 use Rattle.cg_moves.specs.Grid.{Grid}
 use Rattle.cg_moves.specs.Plays.{IsPlay, Play}
 use Rattle.cg_moves.specs.Rules.{In}
@@ -12,12 +13,12 @@ module _ (r : Play) where
   pub open-front : (seen : List Grid) (ts us : List Visit) → AreOpen r seen (ts ++ us) → AreOpen r seen ts
   open-front seen [] us h = tt
   open-front seen (Enters p ∷ ts) us h = open-front seen ts us h
-  open-front seen (Leaves p ∷ ts) us h = (h.0, (λ t m. h.1 t (in-append_left t ts us m)), open-front seen ts us h.2)
+  open-front seen (Leaves e ∷ ts) us h = (h.0, (λ t m. h.1 t (in-append_left t ts us m)), open-front seen ts us h.2)
 
-  pub open-last : (seen : List Grid) (ts : List Visit) (p : Grid) → AreOpen r seen (ts ++ (Leaves p ∷ [])) → ¬ In p seen
-  open-last seen [] p h = h.0
-  open-last seen (Enters q ∷ ts) p h = open-last seen ts p h
-  open-last seen (Leaves q ∷ ts) p h = open-last seen ts p h.2
+  pub open-last : (seen : List Grid) (ts : List Visit) (e : Entered) → AreOpen r seen (ts ++ (Leaves e ∷ [])) → ¬ In e.board seen
+  open-last seen [] e h = h.0
+  open-last seen (Enters q ∷ ts) e h = open-last seen ts e h
+  open-last seen (Leaves f ∷ ts) e h = open-last seen ts e h.2
 
   open-append : (seen : List Grid) (ps : List Grid) (ts : List Visit) → AreOpen r seen ts → AreOpen r seen (entered ps ++ ts)
   open-append seen [] ts h = h
@@ -29,7 +30,7 @@ module _ (r : Play) where
   open-entered seen ps = let P : List Visit → Type 0 = λ z. AreOpen r seen z in
       subst P (append-nil (entered ps)) (open-append seen ps [] tt)
 
-  entered-among : (ps : List Grid) (t : Visit) → In t (entered ps) → In (visit_board t) ps
+  pub entered-among : (ps : List Grid) (t : Visit) → In t (entered ps) → In (visit_board t) ps
   entered-among [] t m = absurd m
   entered-among (p ∷ ps) t m = elim (in-append t (entered ps) (Enters p ∷ []) m) [
     | inl o ↦ inr (entered-among ps t o)
@@ -37,38 +38,39 @@ module _ (r : Play) where
   ]
 
   -- a new board is entered
-  pub open-new : IsPlay r → (seen : List Grid) (ts : List Visit) (p : Grid) → r.has p ≡ true → ¬ In p seen
-      → AreOpen r seen (ts ++ (Enters p ∷ [])) → AreOpen r seen ((ts ++ (Leaves p ∷ [])) ++ entered (r.next p))
-  open-new lawful seen [] p has out h = (
+  pub open-new : IsPlay r → (seen : List Grid) (ts : List Visit) (e : Entered) → r.has e.board ≡ true → ¬ In e.board seen
+      → AreOpen r seen (ts ++ (Enters e.board ∷ [])) → AreOpen r seen ((ts ++ (Leaves e ∷ [])) ++ entered (r.next e.board))
+  open-new lawful seen [] e has out h = (
     out,
-    (λ t m. lawful.lowers p (visit_board t) has (entered-among (r.next p) t m)),
-    open-entered seen (r.next p),
+    (λ t m. lawful.lowers e.board (visit_board t) has (entered-among (r.next e.board) t m)),
+    open-entered seen (r.next e.board),
   )
-  open-new lawful seen (Enters q ∷ ts) p has out h = open-new lawful seen ts p has out h
-  open-new lawful seen (Leaves q ∷ ts) p has out h = (
+  open-new lawful seen (Enters q ∷ ts) e has out h = open-new lawful seen ts e has out h
+  open-new lawful seen (Leaves f ∷ ts) e has out h = (
     h.0,
-    (λ t m. (let low = h.1 (Enters p) (in-append_right (Enters p) ts (Enters p ∷ []) (inl refl)) in
-        elim (in-append t (ts ++ (Leaves p ∷ [])) (entered (r.next p)) m) [
-          | inl o ↦ elim (in-append t ts (Leaves p ∷ []) o) [
+    (λ t m. (let p = e.board in
+        let low = h.1 (Enters p) (in-append_right (Enters p) ts (Enters p ∷ []) (inl refl)) in
+        elim (in-append t (ts ++ (Leaves e ∷ [])) (entered (r.next p)) m) [
+          | inl o ↦ elim (in-append t ts (Leaves e ∷ []) o) [
             | inl there ↦ h.1 t (in-append_left t ts (Enters p ∷ []) there)
-            | inr last ↦ (let same = ap (λ z. r.measure (visit_board z)) (in_one t (Leaves p) last) in omega (arith, low, same))
+            | inr last ↦ (let same = ap (λ z. r.measure (visit_board z)) (in_one t (Leaves e) last) in omega (arith, low, same))
           ]
           | inr o ↦ (let lower = lawful.lowers p (visit_board t) has (entered-among (r.next p) t o) in omega (arith, low, lower))
         ])),
-    open-new lawful seen ts p has out h.2,
+    open-new lawful seen ts e has out h.2,
   )
 
   -- the last board is seen
-  pub open-seen : (seen : List Grid) (ts : List Visit) (p : Grid) → AreOpen r seen (ts ++ (Leaves p ∷ []))
-      → AreOpen r (seen ++ (p ∷ [])) ts
-  open-seen seen [] p h = tt
-  open-seen seen (Enters q ∷ ts) p h = open-seen seen ts p h
-  open-seen seen (Leaves q ∷ ts) p h = (
-    λ m. elim (in-append q seen (p ∷ []) m) [
+  pub open-seen : (seen : List Grid) (ts : List Visit) (e : Entered) → AreOpen r seen (ts ++ (Leaves e ∷ []))
+      → AreOpen r (seen ++ (e.board ∷ [])) ts
+  open-seen seen [] e h = tt
+  open-seen seen (Enters q ∷ ts) e h = open-seen seen ts e h
+  open-seen seen (Leaves f ∷ ts) e h = (
+    λ m. elim (in-append f.board seen (e.board ∷ []) m) [
       | inl there ↦ h.0 there
-      | inr last ↦ (let low = h.1 (Leaves p) (in-append_right (Leaves p) ts (Leaves p ∷ []) (inl refl)) in
-          let same = ap r.measure (in_one q p last) in absurd (omega (arith, low, same)))
+      | inr last ↦ (let low = h.1 (Leaves e) (in-append_right (Leaves e) ts (Leaves e ∷ []) (inl refl)) in
+          let same = ap r.measure (in_one f.board e.board last) in absurd (omega (arith, low, same)))
     ],
-    (λ t m. h.1 t (in-append_left t ts (Leaves p ∷ []) m)),
-    open-seen seen ts p h.2,
+    (λ t m. h.1 t (in-append_left t ts (Leaves e ∷ []) m)),
+    open-seen seen ts e h.2,
   )

@@ -1,47 +1,31 @@
 -- A board that is left.
-use Rattle.std.proofs.Common.{◌≡◌, ℕ, ◌+◌, ◌-◌, ◌<◌, ◌≤◌, List, [], ◌∷◌, ◌++◌, length, length-append, map, take, drop, ap, sym, ◌∙◌, subst, arith}
+use Rattle.std.proofs.Common.{◌≡◌, ℕ, ◌+◌, ◌-◌, ◌<◌, ◌≤◌, List, [], ◌∷◌, ◌++◌, length, length-append, take, drop, ap, sym, ◌∙◌, subst, arith}
 use Rattle.std.specs.List.{flat_map}
 use Rattle.std.proofs.Math.Seq.{drop-append_seam}
-use Rattle.std.proofs.lemmas.List.{append-nil, length-drop, map-append, take_all}
+use Rattle.std.proofs.lemmas.List.{append-nil, length-drop, take_all}
 use Rattle.cg_moves.specs.declared.opened.NextPlaces.{NextPlaces}
 use Rattle.cg_moves.specs.declared.task.Entered.{Entered}
-use Rattle.cg_moves.specs.declared.task.Task.{Task}
-use Rattle.cg_moves.specs.declared.task.Task.TheVariants.{Leave}
 use Rattle.cg_moves.specs.declared.walk.Seen.{Seen}
 use Rattle.cg_moves.specs.Grid.{Grid}
 use Rattle.cg_moves.specs.Kept.{kept}
 use Rattle.cg_moves.specs.Opened.{AreNext, IsAt, IsNext, StandAt}
 use Rattle.cg_moves.specs.Plays.{IsPlay}
 use Rattle.cg_moves.specs.Rules.{In, followers}
-use Rattle.cg_moves.specs.Walking.{IsOnWay, IsWalking, Leads, Way, parts, play, reached, visit}
-use Rattle.cg_moves.specs.Walks.{AreOpen, GoesOn, Leaves, Visit, boards_left, load}
+use Rattle.cg_moves.specs.Walking.{IsOn, IsOnWay, Leads, Way, parts, play, reached}
+use Rattle.cg_moves.specs.Walks.{AreOpen, GoesOn, Leaves, Visit, boards_left}
 use Rattle.cg_moves.proofs.Fresh.{open-last, open-seen}
 use Rattle.cg_form.proofs.Firsts.{extended-longer, one_more-new}
 use Rattle.cg_moves.proofs.Same.{boards}
 use Rattle.cg_moves.proofs.Leading.{leads-last}
 use Rattle.cg_moves.proofs.Listed.{next-append, nexts-more}
-use Rattle.cg_moves.proofs.OnWay.{entered-back, entered-front, next-parts, visits, walk-last}
+use Rattle.cg_moves.proofs.OnWay.{entered-back, entered-front, next-parts}
 use Rattle.cg_moves.proofs.PlaceLemmas.{at-append, at-last, stand-append, stand-behind, stand-front, stand-size, stand-wider}
-use Rattle.cg_moves.proofs.TaskLemmas.{load-append}
 use Rattle.cg_moves.proofs.WalkLemmas.{leave}
 
-pub left-less : (w : Way) (tasks : List Task) (e : Entered)
-    → load (play w) (map visit tasks) < load (play w) (map visit (tasks ++ (Leave e ∷ [])))
-left-less w tasks e =
-    let a = ap (load (play w)) (map-append visit tasks (Leave e ∷ [])) in
-    let b = load-append (play w) (map visit tasks) (Leaves e.board ∷ []) in
-    omega arith
-
-module _ (w : Way) (lawful : IsPlay (play w)) (s : Seen) (tasks : List Task) (e : Entered)
-    (x : IsWalking w s (tasks ++ (Leave e ∷ []))) where
-  visits_here : map visit (tasks ++ (Leave e ∷ [])) ≡ map visit tasks ++ (Leaves e.board ∷ [])
-  visits_here = visits w lawful s tasks (Leave e) x
-
-  fresh_here : AreOpen (play w) s.boards (map visit tasks ++ (Leaves e.board ∷ []))
-  fresh_here = let P : List Visit → Type 0 = λ z. AreOpen (play w) s.boards z in subst P visits_here x.fresh
-
+module _ (w : Way) (lawful : IsPlay (play w)) (s : Seen) (tasks : List Visit) (e : Entered)
+    (x : IsOn w s (tasks ++ (Leaves e ∷ []))) where
   pub left-new : ¬ In e.board s.boards
-  left-new = open-last (play w) s.boards (map visit tasks) e.board fresh_here
+  left-new = open-last (play w) s.boards tasks e x.fresh
 
   -- the boards ahead of those that come next
   record Ahead : Type 0 where
@@ -53,7 +37,7 @@ module _ (w : Way) (lawful : IsPlay (play w)) (s : Seen) (tasks : List Task) (e 
   ahead_here : Ahead
   ahead_here =
       let Q : List Grid → Type 0 = λ z. Leads (play w) tasks z w.starts in
-      let (some, d, l) = leads-last (play w) tasks (Leave e) x.ahead w.starts x.leads in
+      let (some, d, l) = leads-last (play w) tasks (Leaves e) x.ahead w.starts x.leads in
       record { front = d.0; split = d.1; size = d.3; leads = subst Q d.2 l }
 
   stand_here : StandAt s.boards s.pending.items (ahead_here.front ++ (play w).next e.board)
@@ -81,21 +65,20 @@ module _ (w : Way) (lawful : IsPlay (play w)) (s : Seen) (tasks : List Task) (e 
   -- ---- it is seen then
 
   module _ (more : List Grid) (is : more ≡ s.boards ++ (e.board ∷ [])) where
-    goes : GoesOn (play w) s.boards more (map visit tasks ++ (Leaves e.board ∷ [])) (map visit tasks)
-    goes = leave (play w) lawful s.boards (map visit tasks) e.board more
-        (walk-last w lawful s tasks (Leave e) x) (is ∙ sym (one_more-new boards s.boards e.board left-new))
+    goes : GoesOn (play w) s.boards more (tasks ++ (Leaves e ∷ [])) tasks
+    goes = leave (play w) lawful s.boards tasks e more x.walk (is ∙ sym (one_more-new boards s.boards e.board left-new))
 
-    left-rest : kept more (boards_left (play w) (map visit tasks)) ≡ reached w
-    left-rest = goes.rest ∙ ap (λ z. kept s.boards (boards_left (play w) z)) (sym visits_here) ∙ x.rest
+    left-rest : kept more (boards_left (play w) tasks) ≡ reached w
+    left-rest = goes.rest ∙ x.rest
 
     pub left-refused : (limit : ℕ) → limit < length s.boards + 1 → limit < length (reached w)
     left-refused limit many =
-        let l = extended-longer boards more (boards_left (play w) (map visit tasks)) in
+        let l = extended-longer boards more (boards_left (play w) tasks) in
         let all = ap length left-rest in
         let one = ap length is ∙ length-append s.boards (e.board ∷ []) in
         omega arith
 
-    wider : (n : ℕ) (q : Grid) → IsAt s.boards n q → IsAt more n q
+    pub wider : (n : ℕ) (q : Grid) → IsAt s.boards n q → IsAt more n q
     wider n q m = let P : List Grid → Type 0 = λ z. IsAt z n q in subst P (sym is) (at-append s.boards (e.board ∷ []) n q m)
 
     left_stand : (place : ℕ) (after : List ℕ) → place ≡ length s.boards
@@ -127,7 +110,7 @@ module _ (w : Way) (lawful : IsPlay (play w)) (s : Seen) (tasks : List Task) (e 
         let N : List Grid → Type 0 = λ z. StandAt s.boards (drop (length ahead_here.front) s.pending.items) z in
         let M : NextPlaces → Type 0 = λ z. IsNext r (parts w) s.counts.items (s.places.items ++ rest) s.boards e.board z in
         subst M (sym fields) (record {
-          counted = (entered-back w s.counts.items tasks (Leave e ∷ []) x.entered).0;
+          counted = (entered-back w s.counts.items tasks (Leaves e ∷ []) x.entered).0;
           inside = omega arith;
           places = subst P (sym here) (subst N (next-parts r w.course e.board)
               (stand-behind s.boards s.pending.items ahead_here.front ((play w).next e.board) stand_here));
@@ -148,16 +131,16 @@ module _ (w : Way) (lawful : IsPlay (play w)) (s : Seen) (tasks : List Task) (e 
         let B : List NextPlaces → Type 0 = λ z. AreNext r (parts w) s.counts.items lists [] (s.boards ++ (e.board ∷ [])) z in
         let C : List ℕ → Type 0 = λ z. AreNext r (parts w) s.counts.items z [] (s.boards ++ (e.board ∷ [])) (s.next.items ++ (n ∷ [])) in
         let D : List ℕ → Type 0 = λ z. AreNext r (parts w) z (s.places.items ++ rest) [] s.boards s.next.items in
-        let F : List Grid → Type 0 = λ z. AreOpen (play w) z (map visit tasks) in
+        let F : List Grid → Type 0 = λ z. AreOpen (play w) z tasks in
         record {
           walk = goes.walk;
           rest = left-rest;
           next = subst A (sym is) (subst B (sym g) (subst C (sym k) (next-append r (parts w) s.counts.items
               (s.places.items ++ rest) [] s.boards s.next.items e.board n (subst D (append-nil s.counts.items)
               (nexts-more r (parts w) s.counts.items s.places.items [] rest [] s.boards s.next.items x.next)) (next_here n fields))));
-          entered = entered-front w s.counts.items tasks (Leave e ∷ []) x.entered;
+          entered = entered-front w s.counts.items tasks (Leaves e ∷ []) x.entered;
           ahead = ahead_here.front ++ (e.board ∷ []);
           stand = left_stand place after last f;
           leads = ahead_here.leads;
-          fresh = subst F (sym is) (open-seen (play w) s.boards (map visit tasks) e.board fresh_here);
+          fresh = subst F (sym is) (open-seen (play w) s.boards tasks e x.fresh);
         }

@@ -9,6 +9,7 @@ pub mod ComesAfter
 pub mod FollowLemmas
 pub mod Listed
 pub mod TaskLemmas
+pub mod TaskSteps
 pub mod WalkLemmas
 pub mod Leading
 pub mod Fresh

@@ -1,23 +1,20 @@
 -- What holds on the way of a walk: which boards were seen, and which are left.
-use Rattle.std.proofs.Common.{◌≡◌, refl, ℕ, zero, suc, ◌<◌, true, inl, inr, List, [], ◌∷◌, ◌++◌, map, reverse, ap, sym, ◌∙◌, subst, arith}
+use Rattle.std.proofs.Common.{◌≡◌, refl, ℕ, zero, suc, ◌<◌, true, inl, inr, List, [], ◌∷◌, ◌++◌, ap, sym, ◌∙◌, subst, arith}
 use Rattle.std.specs.List.{flat_map}
-use Rattle.std.proofs.lemmas.Grind.{reverse_onto}
-use Rattle.std.proofs.lemmas.List.{map-append}
 use Rattle.cg_moves.specs.declared.course.Course.{Course}
 use Rattle.cg_moves.specs.declared.course.Course.TheVariants.{Moves, Pieces}
 use Rattle.cg_moves.specs.declared.opened.NextPlaces.{NextPlaces}
 use Rattle.cg_moves.specs.declared.walk.Seen.{Seen}
 use Rattle.cg_moves.specs.declared.task.Task.{Task}
-use Rattle.cg_moves.specs.declared.task.Task.TheVariants.{Enter, Leave}
 use Rattle.cg_moves.specs.Found.{AreAlike}
 use Rattle.cg_moves.specs.Grid.{Grid}
 use Rattle.cg_moves.specs.Kept.{kept}
 use Rattle.cg_moves.specs.Opened.{uncut}
-use Rattle.cg_moves.specs.Plays.{IsPlay, MayGo, next_of, parts_of, play_of}
+use Rattle.cg_moves.specs.Plays.{IsPlay, MayGo, Play, next_of, parts_of, play_of}
 use Rattle.cg_moves.specs.Lawful.{IsLawful}
 use Rattle.cg_moves.specs.Rules.{GameRules, In, followers}
-use Rattle.cg_moves.specs.Walking.{AreAlone, AreEntered, IsOnWay, IsWalking, Way, board_of, play, visit}
-use Rattle.cg_moves.specs.Walks.{AreOpen, AreStarts, Enters, IsWalk, Leaves, Visit, boards_left, entered, visit_board, visit_boards}
+use Rattle.cg_moves.specs.Walking.{Adds, AreAlone, AreEntered, AreTold, IsOn, IsOnWay, Way, play}
+use Rattle.cg_moves.specs.Walks.{AreStarts, Enters, Leaves, Visit, boards_left, entered, visit_board, visit_boards}
 use Rattle.cg_moves.proofs.Bounds.{follower-has}
 use Rattle.cg_moves.proofs.ComesAfter.{own-all, reached-symbols}
 use Rattle.cg_moves.proofs.Fresh.{open-entered}
@@ -70,38 +67,30 @@ module _ (r : GameRules) (lawful : IsLawful r) (course : Course) (may : MayGo r 
 
 -- ---- tasks
 
-pub visits-enter : (ps : List Grid) → map visit (map Enter (reverse ps)) ≡ entered ps
-visits-enter [] = refl
-visits-enter (p ∷ ps) =
-    ap (λ z. map visit (map Enter z)) (reverse_onto ps p [])
-    ∙ ap (map visit) (map-append Enter (reverse ps) (p ∷ []))
-    ∙ map-append visit (map Enter (reverse ps)) (Enter p ∷ [])
-    ∙ ap (λ z. z ++ (Enters p ∷ [])) (visits-enter ps)
-
 module _ (w : Way) (counts : List ℕ) where
-  pub entered-append : (ts us : List Task) → AreEntered w counts ts → AreEntered w counts us → AreEntered w counts (ts ++ us)
+  pub entered-append : (ts us : List Visit) → AreEntered w counts ts → AreEntered w counts us → AreEntered w counts (ts ++ us)
   entered-append [] us h k = k
-  entered-append (Enter p ∷ ts) us h k = entered-append ts us h k
-  entered-append (Leave e ∷ ts) us h k = (h.0, entered-append ts us h.1 k)
+  entered-append (Enters p ∷ ts) us h k = entered-append ts us h k
+  entered-append (Leaves e ∷ ts) us h k = (h.0, entered-append ts us h.1 k)
 
-  pub entered-front : (ts us : List Task) → AreEntered w counts (ts ++ us) → AreEntered w counts ts
+  pub entered-front : (ts us : List Visit) → AreEntered w counts (ts ++ us) → AreEntered w counts ts
   entered-front [] us h = tt
-  entered-front (Enter p ∷ ts) us h = entered-front ts us h
-  entered-front (Leave e ∷ ts) us h = (h.0, entered-front ts us h.1)
+  entered-front (Enters p ∷ ts) us h = entered-front ts us h
+  entered-front (Leaves e ∷ ts) us h = (h.0, entered-front ts us h.1)
 
-  pub entered-back : (ts us : List Task) → AreEntered w counts (ts ++ us) → AreEntered w counts us
+  pub entered-back : (ts us : List Visit) → AreEntered w counts (ts ++ us) → AreEntered w counts us
   entered-back [] us h = h
-  entered-back (Enter p ∷ ts) us h = entered-back ts us h
-  entered-back (Leave e ∷ ts) us h = entered-back ts us h.1
+  entered-back (Enters p ∷ ts) us h = entered-back ts us h
+  entered-back (Leaves e ∷ ts) us h = entered-back ts us h.1
 
-  pub entered-none : (ps : List Grid) → AreEntered w counts (map Enter ps)
+  pub entered-none : (ps : List Grid) → AreEntered w counts (entered ps)
   entered-none [] = tt
-  entered-none (p ∷ ps) = entered-none ps
+  entered-none (p ∷ ps) = entered-append (entered ps) (Enters p ∷ []) (entered-none ps) tt
 
-  pub entered-more : (more : List ℕ) (ts : List Task) → AreEntered w counts ts → AreEntered w (counts ++ more) ts
+  pub entered-more : (more : List ℕ) (ts : List Visit) → AreEntered w counts ts → AreEntered w (counts ++ more) ts
   entered-more more [] h = tt
-  entered-more more (Enter p ∷ ts) h = entered-more more ts h
-  entered-more more (Leave e ∷ ts) h = (
+  entered-more more (Enters p ∷ ts) h = entered-more more ts h
+  entered-more more (Leaves e ∷ ts) h = (
     counted-more w.game (λ p. parts_of w.game w.course p) counts more e.board e.lefts e.first_count e.moves h.0,
     entered-more more ts h.1,
   )
@@ -110,37 +99,28 @@ module _ (w : Way) (counts : List ℕ) where
 
 own-board : (w : Way) → IsPlay (play w) → (t : Visit) → (play w).has (visit_board t) ≡ true → In (visit_board t) (visit_boards (play w) t)
 own-board w lawful (Enters p) has = own-all (play w) lawful p has
-own-board w lawful (Leaves p) has = inl refl
+own-board w lawful (Leaves e) has = inl refl
 
-module _ (w : Way) (lawful : IsPlay (play w)) (s : Seen) (tasks : List Task) (t : Task)
-    (x : IsWalking w s (tasks ++ (t ∷ []))) where
-  pub visits : map visit (tasks ++ (t ∷ [])) ≡ map visit tasks ++ (visit t ∷ [])
-  visits = map-append visit tasks (t ∷ [])
+module _ (w : Way) (lawful : IsPlay (play w)) (s : Seen) (tasks : List Visit) (t : Visit) (x : IsOn w s (tasks ++ (t ∷ []))) where
+  pub has-last : (play w).has (visit_board t) ≡ true
+  has-last = (known-back (play w) tasks (t ∷ []) x.walk.known).0
 
-  pub walk-last : IsWalk (play w) s.boards (map visit tasks ++ (visit t ∷ []))
-  walk-last = let P : List Visit → Type 0 = λ z. IsWalk (play w) s.boards z in subst P visits x.walk
-
-  pub has-last : (play w).has (board_of t) ≡ true
-  has-last = (known-back (play w) (map visit tasks) (visit t ∷ []) walk-last.known).0
-
-  in-reached : (p : Grid) → In p (kept s.boards (boards_left (play w) (map visit (tasks ++ (t ∷ []))))) → In p (flat_map (play w).all w.starts)
+  in-reached : (p : Grid) → In p (kept s.boards (boards_left (play w) (tasks ++ (t ∷ [])))) → In p (flat_map (play w).all w.starts)
   in-reached p m = elim (extended-among boards [] (flat_map (play w).all w.starts) p (carry p _ _ x.rest m)) [
     | inl nothing ↦ absurd nothing
     | inr one ↦ one
   ]
 
   pub seen-reached : (p : Grid) → In p s.boards → In p (flat_map (play w).all w.starts)
-  seen-reached p m = in-reached p (extended-keeps boards s.boards (boards_left (play w) (map visit (tasks ++ (t ∷ [])))) p m)
+  seen-reached p m = in-reached p (extended-keeps boards s.boards (boards_left (play w) (tasks ++ (t ∷ []))) p m)
 
-  last-reached : In (board_of t) (flat_map (play w).all w.starts)
+  last-reached : In (visit_board t) (flat_map (play w).all w.starts)
   last-reached =
-      let p = board_of t in
-      in-reached p (extended-has boards s.boards (boards_left (play w) (map visit (tasks ++ (t ∷ [])))) p
-      (carry p (visit_boards (play w) (visit t) ++ boards_left (play w) (map visit tasks))
-      (boards_left (play w) (map visit (tasks ++ (t ∷ []))))
-      (sym (ap (boards_left (play w)) visits ∙ boards_left-append (play w) (map visit tasks) (visit t ∷ [])))
-      (in-append_left p (visit_boards (play w) (visit t)) (boards_left (play w) (map visit tasks))
-      (own-board w lawful (visit t) has-last))))
+      let p = visit_board t in
+      in-reached p (extended-has boards s.boards (boards_left (play w) (tasks ++ (t ∷ []))) p
+      (carry p (visit_boards (play w) t ++ boards_left (play w) tasks) (boards_left (play w) (tasks ++ (t ∷ [])))
+      (sym (boards_left-append (play w) tasks (t ∷ [])))
+      (in-append_left p (visit_boards (play w) t) (boards_left (play w) tasks) (own-board w lawful t has-last))))
 
   pub seen-alone : AreAlone (λ p. parts_of w.game w.course p) (kept [] (flat_map (play w).all w.starts))
       → AreAlone (λ p. parts_of w.game w.course p) s.boards
@@ -148,46 +128,51 @@ module _ (w : Way) (lawful : IsPlay (play w)) (s : Seen) (tasks : List Task) (t 
 
   -- boards with the symbols of the last task's
   pub alike-last : (h : AreStarts (play w) w.starts) (qs : List Grid)
-      → ((q : Grid) → In q qs → q.symbols ≡ (board_of t).symbols) → AreAlike (s.boards ++ qs)
+      → ((q : Grid) → In q qs → q.symbols ≡ (visit_board t).symbols) → AreAlike (s.boards ++ qs)
   alike-last h qs same p q m n =
       let go : (y : Grid) → In y (s.boards ++ qs) → y.symbols ≡ h.symbols = λ y k. elim (in-append y s.boards qs k) [
         | inl o ↦ reached-symbols (play w) lawful w.starts h y (seen-reached y o)
-        | inr o ↦ same y o ∙ reached-symbols (play w) lawful w.starts h (board_of t) last-reached
+        | inr o ↦ same y o ∙ reached-symbols (play w) lawful w.starts h (visit_board t) last-reached
       ] in
       go p m ∙ sym (go q n)
 
 -- ---- where a walk begins
 
+pub starts-alike : (r : Play) (none starts same : List Grid) → none ≡ [] → same ≡ starts → AreStarts r starts
+    → AreAlike (none ++ same)
+starts-alike r none starts same e f h =
+    let P : List Grid → Type 0 = λ z. AreAlike z in
+    subst P (sym (ap (λ z. z ++ same) e ∙ f)) (λ p q m n. (h.known p m).0 ∙ sym (h.known q n).0)
+
 module _ (w : Way) (h : AreStarts (play w) w.starts) where
-  begun_none : IsOnWay w [] [] [] [] [] (map Enter (reverse w.starts))
-  begun_none =
-      let P : List Visit → Type 0 = λ z. IsWalk (play w) [] z in
-      let F : List Visit → Type 0 = λ z. AreOpen (play w) [] z in
-      let e = visits-enter w.starts in
-      record {
-        walk = subst P (sym e) (record {
-          known = known-entered (play w) w.starts (λ p m. (h.known p m).1);
-          closed = λ p m. absurd m;
-          ready = ready-entered (play w) [] w.starts;
-        });
-        rest = ap (λ z. kept [] (boards_left (play w) z)) e ∙ ap (kept []) (boards_left-entered (play w) w.starts);
-        next = tt;
-        entered = entered-none w [] (reverse w.starts);
-        ahead = [];
-        stand = tt;
-        leads = leads-entered (play w) w.starts [];
-        fresh = subst F (sym e) (open-entered (play w) [] w.starts);
-      }
+  begun_none : IsOnWay w [] [] [] [] [] (entered w.starts)
+  begun_none = record {
+    walk = record {
+      known = known-entered (play w) w.starts (λ p m. (h.known p m).1);
+      closed = λ p m. absurd m;
+      ready = ready-entered (play w) [] w.starts;
+    };
+    rest = ap (kept []) (boards_left-entered (play w) w.starts);
+    next = tt;
+    entered = entered-none w [] w.starts;
+    ahead = [];
+    stand = tt;
+    leads = leads-entered (play w) w.starts [];
+    fresh = open-entered (play w) [] w.starts;
+  }
 
   pub begun : (boards : List Grid) (nexts : List NextPlaces) (counts places pending : List ℕ) (none tasks : List Task)
-      → boards ≡ [] → nexts ≡ [] → counts ≡ [] → places ≡ [] → pending ≡ [] → none ≡ []
-      → tasks ≡ none ++ map Enter (reverse w.starts) → IsOnWay w boards nexts counts places pending tasks
-  begun boards nexts counts places pending none tasks b n c p o k f =
-      let B : List Grid → Type 0 = λ z. IsOnWay w z nexts counts places pending tasks in
-      let N : List NextPlaces → Type 0 = λ z. IsOnWay w [] z counts places pending tasks in
-      let C : List ℕ → Type 0 = λ z. IsOnWay w [] [] z places pending tasks in
-      let P : List ℕ → Type 0 = λ z. IsOnWay w [] [] [] z pending tasks in
-      let O : List ℕ → Type 0 = λ z. IsOnWay w [] [] [] [] z tasks in
-      let T : List Task → Type 0 = λ z. IsOnWay w [] [] [] [] [] z in
-      subst B (sym b) (subst N (sym n) (subst C (sym c) (subst P (sym p) (subst O (sym o) (subst T
-      (sym (f ∙ ap (λ z. z ++ map Enter (reverse w.starts)) k)) begun_none)))))
+      → boards ≡ [] → nexts ≡ [] → counts ≡ [] → places ≡ [] → pending ≡ [] → none ≡ [] → Adds boards none tasks (entered w.starts)
+      → (visits : List Visit) × AreTold boards tasks visits × IsOnWay w boards nexts counts places pending visits
+  begun boards nexts counts places pending none tasks b n c p o k (some, e, told) =
+      let visits = entered w.starts in
+      let B : List Grid → Type 0 = λ z. IsOnWay w z nexts counts places pending visits in
+      let N : List NextPlaces → Type 0 = λ z. IsOnWay w [] z counts places pending visits in
+      let C : List ℕ → Type 0 = λ z. IsOnWay w [] [] z places pending visits in
+      let P : List ℕ → Type 0 = λ z. IsOnWay w [] [] [] z pending visits in
+      let O : List ℕ → Type 0 = λ z. IsOnWay w [] [] [] [] z visits in
+      let T : List Task → Type 0 = λ z. AreTold boards z visits in (
+        visits,
+        subst T (sym (e ∙ ap (λ z. z ++ some) k)) told,
+        subst B (sym b) (subst N (sym n) (subst C (sym c) (subst P (sym p) (subst O (sym o) begun_none)))),
+      )

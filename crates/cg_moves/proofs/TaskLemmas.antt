@@ -1,13 +1,19 @@
 -- The tasks of a walk.
-use Rattle.std.proofs.Common.{◌≡◌, refl, ◌+◌, ◌*◌, true, ◌⊎◌, inl, inr, List, [], ◌∷◌, ◌++◌, length, length-append, append_assoc, ap, sym, ◌∙◌, subst, arith}
+use Rattle.std.proofs.Common.{◌≡◌, refl, true, ◌⊎◌, inl, inr, List, [], ◌∷◌, ◌++◌, append_assoc, ap, sym, ◌∙◌, subst}
 use Rattle.std.specs.List.{flat_map}
 use Rattle.std.proofs.lemmas.List.{append-nil}
+use Rattle.cg_moves.specs.declared.task.Entered.{Entered}
 use Rattle.cg_moves.specs.Grid.{Grid}
 use Rattle.cg_moves.specs.Plays.{Play}
 use Rattle.cg_moves.specs.Rules.{In}
-use Rattle.cg_moves.specs.Walks.{AreKnown, AreReady, Visit, Enters, Leaves, boards_left, entered, load, visit_boards}
+use Rattle.cg_moves.specs.Walks.{AreKnown, AreReady, Visit, Enters, Leaves, boards_left, entered, visit_boards}
 use Rattle.cg_form.proofs.Firsts.{in-append, in-append_left, in-append_right}
 use Rattle.cg_moves.proofs.Members.{carry}
+
+pub entered-append : (ps qs : List Grid) → entered (ps ++ qs) ≡ entered qs ++ entered ps
+entered-append [] qs = sym (append-nil (entered qs))
+entered-append (p ∷ ps) qs = ap (λ z. z ++ (Enters p ∷ [])) (entered-append ps qs)
+    ∙ append_assoc (entered qs) (entered ps) (Enters p ∷ [])
 
 module _ (r : Play) where
   -- ---- what is left to see
@@ -21,18 +27,6 @@ module _ (r : Play) where
   boards_left-entered [] = refl
   boards_left-entered (p ∷ ps) = boards_left-append (entered ps) (Enters p ∷ [])
       ∙ ap (λ z. r.all p ++ z) (boards_left-entered ps)
-
-  pub load-append : (ts us : List Visit) → load r (ts ++ us) ≡ load r ts + load r us
-  load-append [] us = omega arith
-  load-append (t ∷ ts) us = let e = load-append ts us in omega arith
-
-  pub load-entered : (ps : List Grid) → load r (entered ps) ≡ 2 * length (flat_map r.all ps)
-  load-entered [] = omega arith
-  load-entered (p ∷ ps) =
-      let a = load-append (entered ps) (Enters p ∷ []) in
-      let b = load-entered ps in
-      let c = length-append (r.all p) (flat_map r.all ps) in
-      omega arith
 
   -- ---- tasks that are ready
 
@@ -51,7 +45,7 @@ module _ (r : Play) where
       → AreReady r seen (ts ++ (t ∷ [])) → AreReady r wider us → AreReady r wider (ts ++ us)
   ready-change seen wider t [] us sub cover h k = k
   ready-change seen wider t (Enters p ∷ ts) us sub cover h k = (tt, ready-change seen wider t ts us sub cover h.1 k)
-  ready-change seen wider t (Leaves p ∷ ts) us sub cover h k = (
+  ready-change seen wider t (Leaves e ∷ ts) us sub cover h k = (
     λ q m. elim (h.0 q m) [
       | inl there ↦ inl (sub q there)
       | inr ahead ↦ elim (in-append q (visit_boards r t) (boards_left r ts) (carry q (boards_left r (ts ++ (t ∷ [])))
@@ -68,10 +62,10 @@ module _ (r : Play) where
     ready-change seen wider t ts us sub cover h.1 k,
   )
 
-  pub ready-last : (seen : List Grid) (p : Grid) (ts : List Visit) → AreReady r seen (ts ++ (Leaves p ∷ [])) → (q : Grid)
-      → In q (flat_map r.all (r.next p)) → In q seen
-  ready-last seen p [] h q m = elim (h.0 q m) [ inl there ↦ there | inr nothing ↦ absurd nothing ]
-  ready-last seen p (t ∷ ts) h q m = ready-last seen p ts h.1 q m
+  pub ready-last : (seen : List Grid) (e : Entered) (ts : List Visit) → AreReady r seen (ts ++ (Leaves e ∷ [])) → (q : Grid)
+      → In q (flat_map r.all (r.next e.board)) → In q seen
+  ready-last seen e [] h q m = elim (h.0 q m) [ inl there ↦ there | inr nothing ↦ absurd nothing ]
+  ready-last seen e (t ∷ ts) h q m = ready-last seen e ts h.1 q m
 
   -- ---- tasks whose boards are known
 

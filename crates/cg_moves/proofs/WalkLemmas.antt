@@ -1,30 +1,24 @@
 -- What each task of a walk leaves to do.
-use Rattle.std.proofs.Common.{◌≡◌, ◌+◌, true, inl, inr, List, [], ◌∷◌, ◌++◌, length, length-append, append_assoc, ap, sym, ◌∙◌, subst, arith}
+use Rattle.std.proofs.Common.{◌≡◌, true, inl, inr, List, [], ◌∷◌, ◌++◌, append_assoc, ap, sym, ◌∙◌, subst}
 use Rattle.std.specs.List.{flat_map}
 use Rattle.std.proofs.lemmas.List.{append-nil}
+use Rattle.cg_moves.specs.declared.task.Entered.{Entered}
 use Rattle.cg_moves.specs.Grid.{Grid}
 use Rattle.cg_moves.specs.Kept.{kept, one_more}
 use Rattle.cg_moves.specs.Plays.{IsPlay, Play}
 use Rattle.cg_moves.specs.Rules.{In}
 use Rattle.cg_moves.specs.Walks.{AreReady, GoesOn, IsWalk, Visit, Enters, Leaves, boards_left, entered}
-use Rattle.cg_moves.proofs.TaskLemmas.{boards_left-append, boards_left-entered, known-append, known-back, known-entered, known-front, load-append, load-entered, ready-change, ready-entered, ready-last}
+use Rattle.cg_moves.proofs.TaskLemmas.{boards_left-append, boards_left-entered, known-append, known-back, known-entered, known-front, ready-change, ready-entered, ready-last}
 use Rattle.cg_form.proofs.Firsts.{extended-append, extended-there, in-append, one_more-among, one_more-has, one_more-keeps}
 use Rattle.cg_moves.proofs.Same.{boards}
 use Rattle.cg_moves.proofs.Members.{carry, in_one}
 
 module _ (r : Play) where
   module _ (lawful : IsPlay r) (seen : List Grid) (tasks : List Visit) (p : Grid) where
-    some-boards : r.has p ≡ true → length (r.all p) ≡ length (flat_map r.all (r.next p)) + 1
-    some-boards has = ap length (lawful.all p has)
-        ∙ length-append (flat_map r.all (r.next p)) (p ∷ [])
-
     -- a board that was seen is entered
     pub enter_seen : IsWalk r seen (tasks ++ (Enters p ∷ [])) → In p seen
         → GoesOn r seen seen (tasks ++ (Enters p ∷ [])) tasks
     enter_seen w m =
-        let known = known-back r tasks (Enters p ∷ []) w.known in
-        let n = some-boards known.0 in
-        let l = load-append r tasks (Enters p ∷ []) in
         let P : List Visit → Type 0 = λ z. AreReady r seen z in
         record {
           walk = record {
@@ -36,35 +30,31 @@ module _ (r : Play) where
           rest = sym (ap (λ z. kept seen z) (boards_left-append r tasks (Enters p ∷ []))
               ∙ extended-append boards seen (r.all p) (boards_left r tasks)
               ∙ ap (λ z. kept z (boards_left r tasks)) (extended-there boards seen (r.all p) (λ k n. w.closed p m k n)));
-          less = omega arith;
         }
 
+  module _ (lawful : IsPlay r) (seen : List Grid) (tasks : List Visit) (e : Entered) where
     entered_tasks : List Visit
-    entered_tasks = (Leaves p ∷ []) ++ entered (r.next p)
+    entered_tasks = (Leaves e ∷ []) ++ entered (r.next e.board)
 
     -- the boards that are left are those of the board
-    entered_left : r.has p ≡ true → boards_left r entered_tasks ≡ r.all p
+    entered_left : r.has e.board ≡ true → boards_left r entered_tasks ≡ r.all e.board
     unfolding entered_tasks
-    entered_left has = ap (λ z. z ++ (p ∷ [])) (boards_left-entered r (r.next p)) ∙ sym (lawful.all p has)
+    entered_left has = ap (λ z. z ++ (e.board ∷ [])) (boards_left-entered r (r.next e.board)) ∙ sym (lawful.all e.board has)
 
-    entered_rest : r.has p ≡ true
-        → kept seen (boards_left r (tasks ++ entered_tasks)) ≡ kept seen (boards_left r (tasks ++ (Enters p ∷ [])))
+    entered_rest : r.has e.board ≡ true
+        → kept seen (boards_left r (tasks ++ entered_tasks)) ≡ kept seen (boards_left r (tasks ++ (Enters e.board ∷ [])))
     entered_rest has = ap (kept seen) (boards_left-append r tasks entered_tasks
-        ∙ ap (λ z. z ++ boards_left r tasks) (entered_left has) ∙ sym (boards_left-append r tasks (Enters p ∷ [])))
+        ∙ ap (λ z. z ++ boards_left r tasks) (entered_left has) ∙ sym (boards_left-append r tasks (Enters e.board ∷ [])))
 
     -- another board is entered
-    pub enter_new : (after : List Visit) → IsWalk r seen (tasks ++ (Enters p ∷ []))
-        → after ≡ (tasks ++ (Leaves p ∷ [])) ++ entered (r.next p)
-        → GoesOn r seen seen (tasks ++ (Enters p ∷ [])) after
+    pub enter_new : IsWalk r seen (tasks ++ (Enters e.board ∷ []))
+        → GoesOn r seen seen (tasks ++ (Enters e.board ∷ [])) ((tasks ++ (Leaves e ∷ [])) ++ entered (r.next e.board))
     unfolding entered_tasks
-    enter_new after w shape =
+    enter_new w =
+        let p = e.board in
         let known = known-back r tasks (Enters p ∷ []) w.known in
-        let n = some-boards known.0 in
-        let l = load-append r tasks (Enters p ∷ []) in
-        let k = load-append r tasks entered_tasks in
-        let e = load-entered r (r.next p) in
         let Q : List Visit → Type 0 = λ z. GoesOn r seen seen (tasks ++ (Enters p ∷ [])) z in
-        subst Q (sym (shape ∙ append_assoc tasks (Leaves p ∷ []) (entered (r.next p)))) (record {
+        subst Q (sym (append_assoc tasks (Leaves e ∷ []) (entered (r.next p)))) (record {
           walk = record {
             known = known-append r tasks entered_tasks (known-front r tasks (Enters p ∷ []) w.known) (
               known.0,
@@ -79,36 +69,34 @@ module _ (r : Play) where
                 );
           };
           rest = entered_rest known.0;
-          less = omega arith;
         })
 
     -- a board is left
-    pub leave : (more : List Grid) → IsWalk r seen (tasks ++ (Leaves p ∷ [])) → more ≡ one_more seen p
-        → GoesOn r seen more (tasks ++ (Leaves p ∷ [])) tasks
-    leave more w e =
-        let known = known-back r tasks (Leaves p ∷ []) w.known in
-        let l = load-append r tasks (Leaves p ∷ []) in
+    pub leave : (more : List Grid) → IsWalk r seen (tasks ++ (Leaves e ∷ [])) → more ≡ one_more seen e.board
+        → GoesOn r seen more (tasks ++ (Leaves e ∷ [])) tasks
+    leave more w is =
+        let p = e.board in
+        let known = known-back r tasks (Leaves e ∷ []) w.known in
         let P : List Visit → Type 0 = λ z. AreReady r more z in
         let has_more : (q : Grid) → In q seen → In q more = λ q m.
-        carry q (one_more seen p) more (sym e) (one_more-keeps boards seen p q m) in
-        let own : In p more = carry p (one_more seen p) more (sym e) (one_more-has boards seen p) in
+        carry q (one_more seen p) more (sym is) (one_more-keeps boards seen p q m) in
+        let own : In p more = carry p (one_more seen p) more (sym is) (one_more-has boards seen p) in
         let D : Grid → Type 0 = λ z. In z more in
         record {
           walk = record {
-            known = known-front r tasks (Leaves p ∷ []) w.known;
-            closed = λ q m k n. elim (one_more-among boards seen p q (carry q more (one_more seen p) e m)) [
+            known = known-front r tasks (Leaves e ∷ []) w.known;
+            closed = λ q m k n. elim (one_more-among boards seen p q (carry q more (one_more seen p) is m)) [
               | inl there ↦ has_more k (w.closed q there k n)
               | inr same ↦ (let H : Grid → Type 0 = λ z. In k (r.all z) in
                   elim (in-append k (flat_map r.all (r.next p)) (p ∷ []) (carry k (r.all p)
                   (flat_map r.all (r.next p) ++ (p ∷ [])) (lawful.all p known.0) (subst H same n))) [
-                    | inl o ↦ has_more k (ready-last r seen p tasks w.ready k o)
+                    | inl o ↦ has_more k (ready-last r seen e tasks w.ready k o)
                     | inr o ↦ subst D (sym (in_one k p o)) own
                   ])
             ];
-            ready = subst P (append-nil tasks) (ready-change r seen more (Leaves p) tasks [] has_more (λ q m. inl (subst D
+            ready = subst P (append-nil tasks) (ready-change r seen more (Leaves e) tasks [] has_more (λ q m. inl (subst D
                 (sym (in_one q p m)) own)) w.ready tt);
           };
-          rest = ap (λ z. kept z (boards_left r tasks)) e
-              ∙ sym (ap (λ z. kept seen z) (boards_left-append r tasks (Leaves p ∷ [])));
-          less = omega arith;
+          rest = ap (λ z. kept z (boards_left r tasks)) is
+              ∙ sym (ap (λ z. kept seen z) (boards_left-append r tasks (Leaves e ∷ [])));
         }

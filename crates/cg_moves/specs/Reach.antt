@@ -1,6 +1,6 @@
 -- The boards that play can come to from a board: those of each Left move in order, those of each Right move in order, then the
 -- board itself, each only where it comes first.
-use Rattle.std.specs.Prelude.{◌≡◌, ℕ, zero, suc, not, filter, List, [], ◌∷◌, ◌++◌}
+use Rattle.std.specs.Prelude.{◌≡◌, ℕ, zero, suc, List, [], ◌∷◌, ◌++◌}
 use Rattle.std.specs.List.{flat_map}
 use Rattle.cg_form.specs.Firsts as firsts
 use Rattle.cg_moves.specs.Grid.{Grid, is_same}

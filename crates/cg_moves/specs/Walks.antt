@@ -1,20 +1,21 @@
 -- A walk over boards: what is left to do, and what it adds to what was seen.
-use Rattle.std.specs.Prelude.{◌≡◌, ◌⊎◌, ℕ, ◌+◌, ◌*◌, ◌<◌, true, List, [], ◌∷◌, ◌++◌, length}
+use Rattle.std.specs.Prelude.{◌≡◌, ◌⊎◌, ℕ, ◌<◌, true, List, [], ◌∷◌, ◌++◌}
 use Rattle.std.specs.List.{flat_map}
+use Rattle.cg_moves.specs.declared.task.Entered.{Entered}
 use Rattle.cg_moves.specs.Grid.{Grid}
 use Rattle.cg_moves.specs.Kept.{kept}
 use Rattle.cg_moves.specs.Plays.{Play}
 use Rattle.cg_moves.specs.Rules.{In}
 
--- a task: to enter a board is to see all that come after it and the board itself, and to leave it is to see it alone
+-- what a task does: to enter a board is to see all that come after it and the board itself, and to leave it is to see it alone
 pub data Visit : Type 0 where
   Enters : Grid → Visit
-  Leaves : Grid → Visit
+  Leaves : Entered → Visit
 
 -- the boards of a task
 abbrev pub visit_boards : Play → Visit → List Grid
 visit_boards r (Enters p) = r.all p
-visit_boards r (Leaves p) = p ∷ []
+visit_boards r (Leaves e) = e.board ∷ []
 
 -- the boards of the tasks, the last task first
 abbrev pub boards_left : Play → List Visit → List Grid
@@ -33,7 +34,7 @@ IsClosed r seen = (p : Grid) → In p seen → (q : Grid) → In q (r.all p) →
 -- where a board is to be left, those that come after its next boards were seen or are left to see before
 abbrev pub IsReady : Play → List Grid → Visit → List Visit → Type 0
 IsReady r seen (Enters p) before = Unit {0}
-IsReady r seen (Leaves p) before = (q : Grid) → In q (flat_map r.all (r.next p))
+IsReady r seen (Leaves e) before = (q : Grid) → In q (flat_map r.all (r.next e.board))
     → In q seen ⊎ In q (boards_left r before)
 
 abbrev pub AreReady : Play → List Grid → List Visit → Type 0
@@ -42,7 +43,7 @@ AreReady r seen (t ∷ ts) = IsReady r seen t ts × AreReady r seen ts
 
 abbrev pub visit_board : Visit → Grid
 visit_board (Enters p) = p
-visit_board (Leaves p) = p
+visit_board (Leaves e) = e.board
 
 -- the boards of the tasks are such boards
 abbrev pub AreKnown : Play → List Visit → Type 0
@@ -54,29 +55,20 @@ pub record AreStarts (r : Play) (starts : List Grid) : Type 0 where
   pub symbols : List ℕ
   pub known : (p : Grid) → In p starts → (p.symbols ≡ symbols) × (r.has p ≡ true)
 
--- a number that falls with each task that is done
-abbrev pub visit_load : Play → Visit → ℕ
-visit_load r (Enters p) = 2 * length (r.all p)
-visit_load r (Leaves p) = 1
-
-abbrev pub load : Play → List Visit → ℕ
-load r [] = 0
-load r (t ∷ ts) = load r ts + visit_load r t
-
 -- what holds of a walk: the boards that were seen, each with all that come after it, and the tasks that are left
 pub record IsWalk (r : Play) (seen : List Grid) (tasks : List Visit) : Type 0 where
   pub known : AreKnown r tasks
   pub closed : IsClosed r seen
   pub ready : AreReady r seen tasks
 
--- the walk after some task: it sees the same boards in the end, and there is less to do
+-- the walk after some task: it sees the same boards in the end
 pub record GoesOn (r : Play) (old new : List Grid) (before after : List Visit) : Type 0 where
   pub walk : IsWalk r new after
   pub rest : kept new (boards_left r after) ≡ kept old (boards_left r before)
-  pub less : load r after < load r before
 
 -- above each task to leave a board stand tasks of boards with a lower measure, and the board wasn't seen
 abbrev pub AreOpen : Play → List Grid → List Visit → Type 0
 AreOpen r seen [] = Unit {0}
 AreOpen r seen (Enters p ∷ ts) = AreOpen r seen ts
-AreOpen r seen (Leaves p ∷ ts) = (¬ In p seen) × ((t : Visit) → In t ts → r.measure (visit_board t) < r.measure p) × AreOpen r seen ts
+AreOpen r seen (Leaves e ∷ ts) = (¬ In e.board seen) × ((t : Visit) → In t ts → r.measure (visit_board t) < r.measure e.board)
+    × AreOpen r seen ts

@@ -1,12 +1,8 @@
 //! A look in breadth, which tells early of wide boards that there are too many.
-ghost use Rattle.std.specs.Prelude.{◌≡◌, ◌<◌, ◌≤◌, ◌++◌, [], IfOk, length, map, reverse, Err};
-ghost use Rattle.cg_moves.specs.Found.{AreAlike};
-ghost use Rattle.cg_moves.specs.Kept.{kept};
-ghost use Rattle.std.specs.List.{flat_map};
-ghost use Rattle.cg_moves.specs.Plays.{MayGo};
-ghost use Rattle.cg_moves.specs.Grid.{Grid};
+ghost use Rattle.std.specs.Prelude.{◌≡◌, ◌<◌, ◌≤◌, [], IfOk, length, Err};
+ghost use Rattle.cg_moves.specs.Plays.{IsPlay, MayGo};
 ghost use Rattle.cg_moves.specs.Rules.{In};
-ghost use Rattle.cg_moves.specs.Walking.{AreAlone, AreFound, Way, board_of, parts, play, reached, way_of};
+ghost use Rattle.cg_moves.specs.Walking.{AreAlone, AreAmong, AreFound, Way, parts, play, reached, way_of};
 ghost use Rattle.cg_moves.specs.Walks.{AreStarts};
 
 use crate::course::Course;
@@ -22,18 +18,24 @@ const WIDE: usize = 64;
 /// The greatest number of boards after which is looked.
 const LOOKS: usize = 2_048;
 
-/// Finds the boards of the tasks. None of the tasks is left.
+/// Finds the boards that the tasks enter. None of the tasks is left.
 fn find_all(found: &mut Found, tasks: &mut Vec<Task>, limit: u64) -> Result<(), ReachFault>
-    requires alike { AreAlike (found.old ++ map board_of tasks.old.items) }
+    ghost way: { Way }
+    requires lawful { IsPlay (play way) }
+    requires known { AreStarts (play way) way.starts }
+    requires found { AreFound way found.old }
+    requires entered { AreAmong way tasks.old.items }
     requires within { length found.old ≤ limit }
-    ensures found { IfOk result (λ _. found.new ≡ kept found.old (reverse (map board_of tasks.old.items))) }
+    ensures found { IfOk result (λ _. AreFound way found.new) }
     ensures within { IfOk result (λ _. length found.new ≤ limit) }
     ensures none { IfOk result (λ _. tasks.new.items ≡ []) }
-    ensures refused { result ≡ Err ReachFault.Positions
-        → limit < length (kept found.old (reverse (map board_of tasks.old.items))) }
+    ensures refused { result ≡ Err ReachFault.Positions → limit < length (reached way) }
 {
     while let Some(task) = tasks.pop() {
-        found.find(task.into_board(), limit)?;
+        match task {
+            Task::Enter(board) => found.find(board, limit)?,
+            Task::Known(_) | Task::Leave(_) => {}
+        }
     }
     Ok(())
 }
@@ -56,7 +58,7 @@ fn look<R: Rules>(
     requires found { AreFound way found.now }
     requires board { In board.now found.now }
     requires none { tasks.old.items ≡ [] }
-    ensures { IfOk result (λ _. (q : Grid) → In q (map board_of tasks.new.items) → In q (flat_map (play way).all way.starts)) }
+    ensures { IfOk result (λ _. AreAmong way tasks.new.items) }
 {
     list_followers(alloc, rules, board, all)?;
     enter_next(alloc, rules, course, found, all, tasks)

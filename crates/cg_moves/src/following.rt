@@ -2,15 +2,14 @@
 ghost use Rattle.std.specs.Prelude.{◌≡◌, ◌∷◌, ◌++◌, [], true, IfOk, length, map, reverse};
 ghost use Rattle.std.specs.List.{flat_map};
 ghost use Rattle.cg_moves.specs.Found.{AreAlike};
-ghost use Rattle.cg_moves.specs.Grid.{Grid};
 ghost use Rattle.cg_moves.specs.Plays.{MayGo, parts_of};
-ghost use Rattle.cg_moves.specs.Rules.{In, boards_after, cuts, pieces};
-ghost use Rattle.cg_moves.specs.Walking.{AreAlone};
+ghost use Rattle.cg_moves.specs.Rules.{boards_after, cuts, pieces};
+ghost use Rattle.cg_moves.specs.Walking.{Adds, AreAlone, CanEnter};
+ghost use Rattle.cg_moves.specs.Walks.{entered};
 ghost use Rattle.cg_moves.specs.declared.player.Player.TheVariants.{Left, Right};
-ghost use Rattle.cg_moves.specs.declared.task.Task.TheVariants.{Enter};
 
 use crate::course::Course;
-use crate::found::{Found, emptied};
+use crate::found::Found;
 use crate::pushing::push;
 use crate::task::{Task, enter_all};
 use crate::{Board, Player, Rules};
@@ -42,31 +41,15 @@ pub(crate) fn list_followers<R: Rules>(
     ensures lefts { IfOk result (λ _. all.new.lefts.items ≡ boards_after (R.game rules.now) Left board.now) }
     ensures rights { IfOk result (λ _. all.new.rights.items ≡ boards_after (R.game rules.now) Right board.now) }
 {
-    let lefts = emptied(alloc, &mut all.lefts);
-    all.lefts = rules.moves_into(alloc, board, Player::Left, lefts)?;
-    let rights = emptied(alloc, &mut all.rights);
-    all.rights = rules.moves_into(alloc, board, Player::Right, rights)?;
-    Ok(())
-}
-
-/// Puts a task to enter a board that is its own only part behind the tasks.
-#[inline(always)]
-fn enter_alone(
-    board: Board,
-    tasks: &mut Vec<Task>,
-    counts: &mut Vec<usize>,
-) -> Result<(), AllocError>
-    ensures counts { IfOk result (λ _. counts.new.items ≡ counts.old.items ++ (1 ∷ [])) }
-    ensures tasks { IfOk result (λ _. tasks.new.items ≡ tasks.old.items ++ (Enter board ∷ [])) }
-{
-    push(counts, 1)?;
-    push(tasks, Task::Enter(board))
+    rules.moves_into(alloc, board, Player::Left, &mut all.lefts)?;
+    rules.moves_into(alloc, board, Player::Right, &mut all.rights)
 }
 
 /// Puts tasks to enter the pieces of a board behind the tasks, the first piece last, and how many there are behind the counts.
 fn enter_pieces<R: Rules>(
     alloc: Global,
     rules: &R,
+    found: &Found,
     board: &Board,
     room: &mut Vec<Board>,
     tasks: &mut Vec<Task>,
@@ -74,77 +57,82 @@ fn enter_pieces<R: Rules>(
 ) -> Result<(), AllocError>
     requires has { (R.game rules.now).has board.now ≡ true }
     requires cuts { cuts (R.game rules.now) ≡ true }
+    requires alike { AreAlike (found.now ++ pieces (R.game rules.now) board.now) }
     ensures counts { IfOk result (λ _. counts.new.items ≡ counts.old.items ++ (length (pieces (R.game rules.now) board.now) ∷ [])) }
-    ensures tasks { IfOk result (λ _. tasks.new.items
-        ≡ tasks.old.items ++ map Enter (reverse (pieces (R.game rules.now) board.now))) }
+    ensures tasks { IfOk result (λ _. Adds found.now tasks.old.items tasks.new.items
+        (entered (pieces (R.game rules.now) board.now))) }
 {
-    let empty = emptied(alloc, room);
-    let mut pieces = rules.pieces_into(alloc, board, empty)?;
-    push(counts, pieces.len())?;
-    enter_all(tasks, &mut pieces)?;
-    *room = pieces;
-    Ok(())
+    rules.pieces_into(alloc, board, room)?;
+    push(counts, room.len())?;
+    enter_all(alloc, found, room, tasks)
 }
 
 /// Puts tasks to enter the parts of a board behind the tasks, the first part last, and how many there are behind the counts. A
-/// board that was found is its own only part.
+/// board that was found is its own only part, and where boards are cut it is entered by its place.
 fn enter_parts<R: Rules>(
     alloc: Global,
     rules: &R,
     course: Course,
     found: &Found,
-    board: Board,
+    board: &Board,
     room: &mut Vec<Board>,
     tasks: &mut Vec<Task>,
     counts: &mut Vec<usize>,
 ) -> Result<(), AllocError>
-    requires has { (R.game rules.now).has board ≡ true }
+    requires has { (R.game rules.now).has board.now ≡ true }
     requires may { MayGo (R.game rules.now) course }
     requires alone { AreAlone (parts_of (R.game rules.now) course) found.now }
-    requires alike { AreAlike (found.now ++ (board ∷ [])) }
+    requires alike { AreAlike (found.now ++ (board.now ∷ [])) }
     ensures counts { IfOk result (λ _. counts.new.items
-        ≡ counts.old.items ++ (length (parts_of (R.game rules.now) course board) ∷ [])) }
-    ensures tasks { IfOk result (λ _. tasks.new.items
-        ≡ tasks.old.items ++ map Enter (reverse (parts_of (R.game rules.now) course board))) }
+        ≡ counts.old.items ++ (length (parts_of (R.game rules.now) course board.now) ∷ [])) }
+    ensures tasks { IfOk result (λ _. Adds found.now tasks.old.items tasks.new.items
+        (entered (parts_of (R.game rules.now) course board.now))) }
 {
     match course {
-        Course::Moves => enter_alone(board, tasks, counts),
-        Course::Pieces => match found.known(&board) {
-            Some(_) => enter_alone(board, tasks, counts),
-            None => enter_pieces(alloc, rules, &board, room, tasks, counts),
+        Course::Moves => {
+            push(counts, 1)?;
+            push(tasks, Task::Enter(board.copy(alloc)?))
+        }
+        Course::Pieces => match found.known(board) {
+            Some(place) => {
+                push(counts, 1)?;
+                push(tasks, Task::Known(place))
+            }
+            None => enter_pieces(alloc, rules, found, board, room, tasks, counts),
         },
     }
 }
 
 /// Puts tasks to enter the parts of the boards behind the tasks, the first part last, and how many parts each board has behind the
-/// counts, the first board last. None of the boards is left.
+/// counts, the first board last.
 fn enter_followers<R: Rules>(
     alloc: Global,
     rules: &R,
     course: Course,
     found: &Found,
-    boards: &mut Vec<Board>,
+    boards: &[Board],
     room: &mut Vec<Board>,
     tasks: &mut Vec<Task>,
     counts: &mut Vec<usize>,
 ) -> Result<(), AllocError>
-    requires has { (p : Grid) → In p boards.old.items → (R.game rules.now).has p ≡ true }
     requires may { MayGo (R.game rules.now) course }
-    requires alone { AreAlone (parts_of (R.game rules.now) course) found.now }
-    requires alike { AreAlike (found.now ++ boards.old.items) }
+    requires enter { CanEnter (R.game rules.now) course found.now boards.now }
     ensures counts { IfOk result (λ _. counts.new.items
-        ≡ counts.old.items ++ map (λ q. length (parts_of (R.game rules.now) course q)) (reverse boards.old.items)) }
-    ensures tasks { IfOk result (λ _. tasks.new.items
-        ≡ tasks.old.items ++ map Enter (reverse (flat_map (parts_of (R.game rules.now) course) boards.old.items))) }
+        ≡ counts.old.items ++ map (λ q. length (parts_of (R.game rules.now) course q)) (reverse boards.now)) }
+    ensures tasks { IfOk result (λ _. Adds found.now tasks.old.items tasks.new.items
+        (entered (flat_map (parts_of (R.game rules.now) course) boards.now))) }
 {
-    while let Some(board) = boards.pop() {
+    let mut left = boards.len();
+    while left > 0 {
+        left -= 1;
+        let board = &boards[left];
         enter_parts(alloc, rules, course, found, board, room, tasks, counts)?;
     }
     Ok(())
 }
 
 /// Puts tasks to enter the parts of all boards that moves lead to behind the tasks, the first part last, and counts the parts of
-/// each, the first board last. None of the boards is left.
+/// each, the first board last.
 pub(crate) fn enter_next<R: Rules>(
     alloc: Global,
     rules: &R,
@@ -153,14 +141,12 @@ pub(crate) fn enter_next<R: Rules>(
     all: &mut Followers,
     tasks: &mut Vec<Task>,
 ) -> Result<(), AllocError>
-    requires has { (p : Grid) → In p (all.old.lefts.items ++ all.old.rights.items) → (R.game rules.now).has p ≡ true }
     requires may { MayGo (R.game rules.now) course }
-    requires alone { AreAlone (parts_of (R.game rules.now) course) found.now }
-    requires alike { AreAlike (found.now ++ (all.old.lefts.items ++ all.old.rights.items)) }
+    requires enter { CanEnter (R.game rules.now) course found.now (all.old.lefts.items ++ all.old.rights.items) }
     ensures counts { IfOk result (λ _. all.new.counts.items ≡ map (λ q. length (parts_of (R.game rules.now) course q))
         (reverse (all.old.lefts.items ++ all.old.rights.items))) }
-    ensures tasks { IfOk result (λ _. tasks.new.items ≡ tasks.old.items
-        ++ map Enter (reverse (flat_map (parts_of (R.game rules.now) course) (all.old.lefts.items ++ all.old.rights.items)))) }
+    ensures tasks { IfOk result (λ _. Adds found.now tasks.old.items tasks.new.items
+        (entered (flat_map (parts_of (R.game rules.now) course) (all.old.lefts.items ++ all.old.rights.items)))) }
 {
     all.counts.clear();
     enter_followers(
@@ -168,7 +154,7 @@ pub(crate) fn enter_next<R: Rules>(
         rules,
         course,
         found,
-        &mut all.rights,
+        &all.rights,
         &mut all.pieces,
         tasks,
         &mut all.counts,
@@ -178,7 +164,7 @@ pub(crate) fn enter_next<R: Rules>(
         rules,
         course,
         found,
-        &mut all.lefts,
+        &all.lefts,
         &mut all.pieces,
         tasks,
         &mut all.counts,

@@ -9,16 +9,6 @@ use crate::{Board, BoardKey, ReachFault};
 use cg_links::Links;
 use std::alloc::Global;
 use std::marker::Model;
-use std::mem;
-
-/// The room without boards. Until it comes back, a new one stands in its place.
-pub(crate) fn emptied(alloc: Global, room: &mut Vec<Board>) -> Vec<Board>
-    ensures { result.items ≡ [] }
-{
-    let mut boards = mem::replace(room, Vec::new(alloc));
-    boards.clear();
-    boards
-}
 
 /// Whether the board with the number, if there is one, has this key.
 fn has_key(boards: &[Board], number: usize, key: &BoardKey) -> bool

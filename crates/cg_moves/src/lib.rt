@@ -35,6 +35,7 @@ pub use ordering::{in_order, risen};
 pub use pieces::Pieces;
 pub use planes::Planes;
 pub use player::Player;
+pub use pushing::push;
 pub use reaching::{open, open_pieces, reach, reach_pieces};
 pub use rules::Rules;
 pub use writing::text;

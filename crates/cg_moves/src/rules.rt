@@ -1,5 +1,5 @@
 //! The rules of games on boards.
-ghost use Rattle.std.specs.Prelude.{◌≡◌, ◌<◌, [], true, IfOk};
+ghost use Rattle.std.specs.Prelude.{◌≡◌, ◌<◌, true, IfOk};
 ghost use Rattle.cg_moves.specs.Cutting.{cutting};
 ghost use Rattle.cg_moves.specs.Lawful.{IsLawful};
 ghost use Rattle.cg_moves.specs.Rules.{GameRules, boards_after, cuts, pieces};
@@ -24,22 +24,20 @@ pub trait Rules {
         requires { (game self.now).has board.now ≡ true }
         ensures { IfOk result (λ boards. boards ≡ boards_after (game self.now) player board.now) };
 
-    /// The boards that the player's moves lead to, in the order of the moves, in the room of these boards, of which there are
-    /// none. The board must be one of the game.
+    /// Puts the boards that the player's moves lead to, in the order of the moves, into the room, in the place of those that are
+    /// there. The board must be one of the game.
     fn moves_into(
         &self,
         alloc: Global,
         board: &Board,
         player: Player,
-        room: Vec<Board>,
-    ) -> Result<Vec<Board>, AllocError>
-        requires has { (game self.now).has board.now ≡ true }
-        requires room { room.items ≡ [] }
-        ensures { IfOk result (λ boards. boards.items ≡ boards_after (game self.now) player board.now) }
+        room: &mut Vec<Board>,
+    ) -> Result<(), AllocError>
+        requires { (game self.now).has board.now ≡ true }
+        ensures { IfOk result (λ _. room.new.items ≡ boards_after (game self.now) player board.now) }
     {
-        // Read for the proof alone: these rules make vectors of their own.
-        let _ = room;
-        Ok(self.moves(alloc, board, player)?.into_vec())
+        *room = self.moves(alloc, board, player)?.into_vec();
+        Ok(())
     }
 
     /// The pieces of the board where the rules cut, and `Whole` where they don't. The board must be one of the game.
@@ -47,22 +45,22 @@ pub trait Rules {
         requires { (game self.now).has board.now ≡ true }
         ensures { IfOk result (λ pieces. pieces ≡ cutting (game self.now) board.now) };
 
-    /// Where the rules cut, the pieces of the board, in order, in the room of these boards, of which there are none. Where they
-    /// don't, nothing is said of the answer. The board must be one of the game.
+    /// Where the rules cut, puts the pieces of the board, in order, into the room, in the place of the boards that are there. Where
+    /// they don't, nothing is said of the room. The board must be one of the game.
     fn pieces_into(
         &self,
         alloc: Global,
         board: &Board,
-        room: Vec<Board>,
-    ) -> Result<Vec<Board>, AllocError>
-        requires has { (game self.now).has board.now ≡ true }
-        requires room { room.items ≡ [] }
-        ensures { cuts (game self.now) ≡ true → IfOk result (λ boards. boards.items ≡ pieces (game self.now) board.now) }
+        room: &mut Vec<Board>,
+    ) -> Result<(), AllocError>
+        requires { (game self.now).has board.now ≡ true }
+        ensures { cuts (game self.now) ≡ true → IfOk result (λ _. room.new.items ≡ pieces (game self.now) board.now) }
     {
         match self.pieces(alloc, board)? {
-            Pieces::Cut(boards) => Ok(boards.into_vec()),
-            Pieces::Whole => Ok(room),
+            Pieces::Cut(boards) => *room = boards.into_vec(),
+            Pieces::Whole => {}
         }
+        Ok(())
     }
 
     /// The game's number.

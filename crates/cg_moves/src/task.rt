@@ -1,11 +1,13 @@
 //! What is left to do in a walk over boards.
-ghost use Rattle.std.specs.Prelude.{◌≡◌, ◌++◌, [], IfOk, map, reverse};
-ghost use Rattle.cg_moves.specs.Walking.{board_of};
-ghost use Rattle.cg_moves.specs.declared.task.Task.TheVariants.{Enter};
+ghost use Rattle.std.specs.Prelude.{◌∷◌, ◌++◌, [], IfOk};
+ghost use Rattle.cg_moves.specs.Found.{AreAlike};
+ghost use Rattle.cg_moves.specs.Walking.{Adds};
+ghost use Rattle.cg_moves.specs.Walks.{Enters, entered};
 
 use crate::Board;
+use crate::found::Found;
 use crate::pushing::push;
-use std::alloc::AllocError;
+use std::alloc::{AllocError, Global};
 
 /// A board that was entered, and how much comes next after it.
 #[derive(Drop)]
@@ -22,43 +24,46 @@ pub(crate) struct Entered {
     pub(crate) pending: usize,
 }
 
-/// What is left to do in a walk: to see all boards that come after a board, and then the board itself; or to see the board
-/// itself, where the others were seen.
+/// What is left to do in a walk: to note the place of a board that was visited; to visit all boards that come after a board, and
+/// then the board itself; or to visit the board itself, where the others were visited.
 #[derive(Drop)]
 pub(crate) enum Task {
+    Known(usize),
     Enter(Board),
     Leave(Entered),
 }
 
-/// Puts tasks to enter these boards behind the tasks, the first board last. None of the boards is left.
+/// Puts a task to enter the board behind the tasks: by its place, if it was found.
 #[inline(always)]
-pub(crate) fn enter_all(tasks: &mut Vec<Task>, boards: &mut Vec<Board>) -> Result<(), AllocError>
-    ensures tasks { IfOk result (λ _. tasks.new.items ≡ tasks.old.items ++ map Enter (reverse boards.old.items)) }
-    ensures none { IfOk result (λ _. boards.new.items ≡ []) }
+fn enter_one(
+    alloc: Global,
+    found: &Found,
+    board: &Board,
+    tasks: &mut Vec<Task>,
+) -> Result<(), AllocError>
+    requires { AreAlike (found.now ++ (board.now ∷ [])) }
+    ensures { IfOk result (λ _. Adds found.now tasks.old.items tasks.new.items (Enters board.now ∷ [])) }
 {
-    while let Some(board) = boards.pop() {
-        push(tasks, Task::Enter(board))?;
+    match found.known(board) {
+        Some(place) => push(tasks, Task::Known(place)),
+        None => push(tasks, Task::Enter(board.copy(alloc)?)),
     }
-    Ok(())
 }
 
-impl Task {
-    /// The board of the task.
-    pub(crate) fn into_board(self) -> Board
-        ensures { result ≡ board_of self }
-    {
-        match self {
-            Task::Enter(board) => board,
-            Task::Leave(entered) => {
-                let Entered {
-                    board,
-                    lefts: _,
-                    first_count: _,
-                    moves: _,
-                    pending: _,
-                } = entered;
-                board
-            }
-        }
+/// Puts tasks to enter these boards behind the tasks, the first board last: by their places, where they were found.
+pub(crate) fn enter_all(
+    alloc: Global,
+    found: &Found,
+    boards: &[Board],
+    tasks: &mut Vec<Task>,
+) -> Result<(), AllocError>
+    requires { AreAlike (found.now ++ boards.now) }
+    ensures { IfOk result (λ _. Adds found.now tasks.old.items tasks.new.items (entered boards.now)) }
+{
+    let mut left = boards.len();
+    while left > 0 {
+        left -= 1;
+        enter_one(alloc, found, &boards[left], tasks)?;
     }
+    Ok(())
 }

@@ -1,10 +1,10 @@
 //! A walk over the boards that play comes to: each is seen as soon as all that come after it were.
-ghost use Rattle.std.specs.Prelude.{◌≡◌, ◌<◌, ◌≤◌, ◌∷◌, ◌++◌, [], IfOk, OnOk, drop, length, map, take, Err};
+ghost use Rattle.std.specs.Prelude.{◌≡◌, ◌<◌, ◌≤◌, ◌∷◌, ◌++◌, [], IfOk, OnOk, drop, length, take, Err};
 ghost use Rattle.cg_moves.specs.Opened.{AreNext, StandAt};
 ghost use Rattle.cg_moves.specs.Plays.{IsPlay, MayGo, parts_of, play_of};
-ghost use Rattle.cg_moves.specs.Walking.{AreAlone, IsWalking, Way, parts, play, reached, visit, way_of};
-ghost use Rattle.cg_moves.specs.Walks.{AreStarts, load};
-ghost use Rattle.cg_moves.specs.declared.task.Task.TheVariants.{Enter, Leave};
+ghost use Rattle.cg_moves.specs.Walking.{AreAlone, IsWalking, Way, load, parts, play, reached, way_of};
+ghost use Rattle.cg_moves.specs.Walks.{AreStarts};
+ghost use Rattle.cg_moves.specs.declared.task.Task.TheVariants.{Enter, Known, Leave};
 
 use crate::breadth::look_in_breadth;
 use crate::course::Course;
@@ -45,8 +45,8 @@ fn enter<R: Rules>(
     requires walking { IsWalking way seen.old (tasks.old.items ++ (Enter board ∷ [])) }
     ensures boards { seen.new.boards ≡ seen.old.boards }
     ensures walking { IfOk result (λ _. IsWalking way seen.new tasks.new.items) }
-    ensures less { IfOk result (λ _. load (play way) (map visit tasks.new.items)
-        < load (play way) (map visit (tasks.old.items ++ (Enter board ∷ [])))) }
+    ensures less { IfOk result (λ _. load (play way) tasks.new.items
+        < load (play way) (tasks.old.items ++ (Enter board ∷ []))) }
 {
     if let Some(place) = seen.boards.known(&board) {
         push(&mut seen.pending, place)?;
@@ -63,6 +63,20 @@ fn enter<R: Rules>(
     push(tasks, Task::Leave(entered))?;
     enter_next(alloc, rules, course, &seen.boards, all, tasks)?;
     put_turned(&mut all.counts, &mut seen.counts)
+}
+
+/// Notes the place of a board that was visited as a pending one.
+#[inline(always)]
+fn note(seen: &mut Seen, tasks: &[Task], place: usize) -> Result<(), AllocError>
+    ghost way: { Way }
+    requires lawful { IsPlay (play way) }
+    requires walking { IsWalking way seen.old (tasks.now ++ (Known place ∷ [])) }
+    ensures boards { seen.new.boards ≡ seen.old.boards }
+    ensures walking { IfOk result (λ _. IsWalking way seen.new tasks.now) }
+{
+    // Read for the proof alone: these tasks are left.
+    let _ = tasks;
+    push(&mut seen.pending, place)
 }
 
 /// Moves the pending places, from the one that stands at `first` on, behind the places.
@@ -137,11 +151,12 @@ fn step<R: Rules>(
     requires within { length seen.old.boards ≤ limit }
     ensures walking { IfOk result (λ _. IsWalking way seen.new tasks.new.items) }
     ensures within { IfOk result (λ _. length seen.new.boards ≤ limit) }
-    ensures less { IfOk result (λ _. load (play way) (map visit tasks.new.items)
-        < load (play way) (map visit (tasks.old.items ++ (task ∷ [])))) }
+    ensures less { IfOk result (λ _. load (play way) tasks.new.items
+        < load (play way) (tasks.old.items ++ (task ∷ []))) }
     ensures refused { result ≡ Err ReachFault.Positions → limit < length (reached way) }
 {
     match task {
+        Task::Known(place) => Ok(note(seen, tasks, place)?),
         Task::Enter(board) => Ok(enter(alloc, rules, course, seen, tasks, all, board)?),
         Task::Leave(entered) => leave(seen, tasks, entered, limit),
     }
@@ -184,9 +199,8 @@ pub(crate) fn open_all<R: Rules>(
     if let Some(start) = starts.first() {
         look_in_breadth(alloc, rules, course, start, &mut all, limit)?;
     }
-    let mut starts = starts;
     let mut tasks = Vec::new(alloc);
-    enter_all(&mut tasks, &mut starts)?;
+    enter_all(alloc, &seen.boards, &starts, &mut tasks)?;
     while let Some(task) = tasks.pop() {
         step(
             alloc, rules, course, &mut seen, &mut tasks, &mut all, task, limit,

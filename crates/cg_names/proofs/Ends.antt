@@ -1,7 +1,5 @@
 -- The games with a sign that have none with a nimber, by the lists of their options.
-use Rattle.std.proofs.Common.{◌≡◌, refl, ap, sym, ◌∙◌, subst, ℕ, zero, suc, arith, inl, inr, ◌⊎◌, List, [], ◌∷◌, Bool, true, false, not, Option, Some, None, Result, Ok, Err}
-use Rattle.std.specs.Prelude.{IfOk}
-use Rattle.std.specs.declared.alloc.AllocError.{AllocError}
+use Rattle.std.proofs.Common.{◌≡◌, refl, ap, sym, ◌∙◌, subst, ℕ, zero, suc, arith, inl, inr, ◌⊎◌, List, [], ◌∷◌, Bool, true, false, not, Option, Some, None}
 use Rattle.cg_dyadic.specs.Exact.{number_negative}
 use Rattle.cg_dyadic.specs.Number.{Number, NumberLe, number_le}
 use Rattle.cg_dyadic.proofs.Truth.{not_true, true_not}
@@ -202,9 +200,7 @@ module _ (down : Bool) (x : Number) (h : Game) (is : IsNode h) where
         | inr q ↦ one_not_two h (number z) (star_above z) q.1
       ]
 
-  pub more-sign : (r : Result (Option Sign) AllocError) → IfOk r (IsMore down x h)
-      → IsTiny down (mirrored_if down (number x ∷ []) (h ∷ [])) None
-      → IfOk r (λ s. s ≡ sign_of (mirrored_if down (number x ∷ []) (h ∷ [])))
-  more-sign (Err e) m n = tt
-  more-sign (Ok None) m n = steep-none m n
-  more-sign (Ok (Some s)) m n = sym (sign-found (mirrored_if down (number x ∷ []) (h ∷ [])) s m)
+  pub more-sign : (o : Option Sign) → IsMore down x h o → IsTiny down (mirrored_if down (number x ∷ []) (h ∷ [])) None
+      → o ≡ sign_of (mirrored_if down (number x ∷ []) (h ∷ []))
+  more-sign None m n = steep-none m n
+  more-sign (Some s) m n = sym (sign-found (mirrored_if down (number x ∷ []) (h ∷ [])) s m)

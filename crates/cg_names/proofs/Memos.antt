@@ -1,6 +1,6 @@
 -- What a memo recalls, from call to call.
-use Rattle.std.proofs.Common.{◌≡◌, refl, ap, sym, ◌∙◌, subst, inl, inr, ℕ, ◌≤◌, arith, List, [], ◌∷◌, ◌++◌, Option, Some, None, true, Result, Ok, Err, OnOk, nat_eq, eqb-true}
-use Rattle.std.specs.Prelude.{if◌then◌else◌}
+use Rattle.std.proofs.Common.{◌≡◌, refl, ap, sym, ◌∙◌, subst, inl, inr, ℕ, ◌+◌, ◌≤◌, arith, List, [], ◌∷◌, ◌++◌, Option, Some, None, true, Result, Ok, Err, OnOk, nat_eq, eqb-true}
+use Rattle.std.specs.Prelude.{if◌then◌else◌, is_some}
 use Rattle.cg_dyadic.proofs.Truth.{true_or_false}
 use Rattle.cg_cells.specs.Meaning.{IsInjective}
 use Rattle.cg_cells.specs.Store.{Spends, State, thing_at}
@@ -10,7 +10,7 @@ use Rattle.cg_form.specs.Size.{list_size, size}
 use Rattle.cg_nodes.specs.Games.{IsGame, IsList, ListsAs, game_at, listed}
 use Rattle.cg_nodes.specs.Meant.{Meant, list}
 use Rattle.cg_nodes.proofs.Later.{game_later, is_game_later}
-use Rattle.cg_names.specs.Memos.{IsShape, Recalls, recalled}
+use Rattle.cg_names.specs.Memos.{HasFewArrows, IsShape, Recalls, arrow_count, kept, recalled}
 use Rattle.cg_names.specs.Shapes.{sign_of}
 use Rattle.cg_names.specs.declared.look.Shape.{Shape}
 use Rattle.cg_names.specs.declared.look.Shape.TheVariants as shape
@@ -23,7 +23,7 @@ recalls_none s m n h o e = absurd (let q : None ≡ Some o = sym (n h) ∙ e in 
 pub recalls_later : {R : Type 0} (s t : State Meant R) (m : Memo) → Spends 0 s t → Recalls s m → Recalls t m
 recalls_later s t m b r h o e =
     let p = r h o e in
-    (is_game_later s t b.known h p.0, p.1 ∙ ap sign_of (sym (game_later s t b.known h p.0)))
+    (is_game_later s t b.known h p.0, p.1 ∙ ap sign_of (sym (game_later s t b.known h p.0)), p.2)
 
 -- whatever the result of a call that leaves both alone
 pub recalls_then : {A E R : Type 0} (r : Result A E) (s t : State Meant R) (m : Memo) → Spends 0 s t → Recalls s m
@@ -34,28 +34,50 @@ recalls_then (Err e) s t m b n = tt
 some_same : (o p : Option Sign) → Some o ≡ Some p → o ≡ p
 some_same o p e = cc
 
+-- with one sign more, or one that was there, there are no more ups than signs
+pub few_more : {R : Type 0} (s : State Meant R) (m n : Memo) (a : ℕ) (o : Option Sign) → Recalls s m → o ≡ sign_of (game_at s a)
+    → arrow_count o ≤ kept m + 1 → kept n ≡ kept m + (if is_some (recalled m a) then 0 else 1)
+    → (arrow_count o ≤ kept n) × (kept m ≤ kept n)
+few_more s m n a o r e few count = by (recalled m a) refl count
+  where
+    by : (v : Option (Option Sign)) → recalled m a ≡ v → kept n ≡ kept m + (if is_some v then 0 else 1)
+        → (arrow_count o ≤ kept n) × (kept m ≤ kept n)
+    by None f k = (omega arith, omega arith)
+    by (Some p) f k =
+        let old = r a p f in
+        let same = ap arrow_count (old.1 ∙ sym e) in
+        let own = old.2 in
+        (omega arith, omega arith)
+
 -- one sign more
 pub recalls_more : {R : Type 0} (s : State Meant R) (m n : Memo) (a : ℕ) (o : Option Sign) → Recalls s m → IsGame s a
     → o ≡ sign_of (game_at s a) → ((b : ℕ) → recalled n b ≡ (if nat_eq a b then Some o else recalled m b))
-    → Recalls s n
-recalls_more {R} s m n a o r i e grown h p f = elim (true_or_false (nat_eq a h)) [
+    → (arrow_count o ≤ kept n) × (kept m ≤ kept n) → Recalls s n
+recalls_more {R} s m n a o r i e grown few h p f = elim (true_or_false (nat_eq a h)) [
   | inl t ↦ here t
-  | inr t ↦ r h p (sym (grown h ∙ ap (λ b. if b then Some o else recalled m h) t) ∙ f)
+  | inr t ↦
+      let old = r h p (sym (grown h ∙ ap (λ b. if b then Some o else recalled m h) t) ∙ f) in
+      let own = old.2 in
+      let more = few.1 in
+      (old.0, old.1, omega arith)
 ]
   where
-    here : nat_eq a h ≡ true → IsGame s h × (p ≡ sign_of (game_at s h))
+    here : nat_eq a h ≡ true → IsGame s h × (p ≡ sign_of (game_at s h)) × (arrow_count p ≤ kept n)
     here t =
         let same : a ≡ h = eqb-true a h t in
-        let Q : ℕ → Type 0 = λ z. IsGame s z in (
-          subst Q same i,
-          some_same p o (sym f ∙ grown h ∙ ap (λ b. if b then Some o else recalled m h) t) ∙ e
-              ∙ ap (λ z. sign_of (game_at s z)) same,
-        )
+        let own : p ≡ o = some_same p o (sym f ∙ grown h ∙ ap (λ b. if b then Some o else recalled m h) t) in
+        let Q : ℕ → Type 0 = λ z. IsGame s z in
+        let N : Option Sign → Type 0 = λ z. arrow_count z ≤ kept n in
+        (subst Q same i, own ∙ e ∙ ap (λ z. sign_of (game_at s z)) same, subst N (sym own) few.0)
 
 -- what was found for a handle, by its id
 pub recalled_sign : {R : Type 0} (s : State Meant R) (m : Memo) (a h : ℕ) (o : Option Sign) → a ≡ h
     → recalled m a ≡ Some o → Recalls s m → o ≡ sign_of (game_at s h)
 recalled_sign s m a h o e p r = (r a o p).1 ∙ ap (λ (z : ℕ). sign_of (game_at s z)) e
+
+pub recalled_few : {R : Type 0} (s : State Meant R) (m : Memo) (a : ℕ) (o : Option Sign) → recalled m a ≡ Some o → Recalls s m
+    → arrow_count o ≤ kept m
+recalled_few s m a o p r = (r a o p).2
 
 -- ---- what was found of a game
 
@@ -67,6 +89,10 @@ pub told_game : {R : Type 0} (s : State Meant R) (l : Shape) (g : Game) (ls rs :
     → l ≡ shape.Game ls rs o → IsShape s l g
     → IsList s ls × IsList s rs × (g ≡ node (listed s ls) (listed s rs)) × (o ≡ sign_of g)
 told_game s l g ls rs o e i = let P : Shape → Type 0 = λ z. IsShape s z g in subst P e i
+
+pub told_few : (m : Memo) (l : Shape) (ls rs : Option ℕ) (o : Option Sign) → l ≡ shape.Game ls rs o → HasFewArrows m l
+    → arrow_count o ≤ kept m
+told_few m l ls rs o e i = let P : Shape → Type 0 = λ z. HasFewArrows m z in subst P e i
 
 -- ---- one list, or two lists of different games
 

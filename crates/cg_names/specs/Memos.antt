@@ -1,6 +1,6 @@
 -- What a memo has.
-use Rattle.std.specs.Prelude.{ℕ, ◌≡◌, Option, Some, nat_eq}
-use Rattle.std.specs.HashMap.{get}
+use Rattle.std.specs.Prelude.{ℕ, ◌≡◌, ◌≤◌, Option, Some, None, nat_eq}
+use Rattle.std.specs.HashMap.{get, hash_map_len}
 use Rattle.cg_form.specs.Game as tree
 use Rattle.cg_form.specs.Game.{node}
 use Rattle.cg_cells.specs.Store.{State}
@@ -11,16 +11,36 @@ use Rattle.cg_names.specs.declared.look.Shape.{Shape}
 use Rattle.cg_names.specs.declared.look.Shape.TheVariants.{Number, Game}
 use Rattle.cg_names.specs.declared.memo.Memo.{Memo}
 use Rattle.cg_names.specs.declared.sign.Sign.{Sign}
+use Rattle.cg_names.specs.declared.sign.Sign.TheVariants.{Star, Arrows, Switch, Tiny}
 
 -- what was found for an id
 abbrev pub recalled : Memo → ℕ → Option (Option Sign)
 recalled m a = get nat_eq m.signs a
 
--- what was found for an id is the sign of its game, or that it has none
+-- how many signs are kept
+abbrev pub kept : Memo → ℕ
+kept m = hash_map_len m.signs
+
+-- how many ups or downs a sign has
+abbrev pub arrow_count : Option Sign → ℕ
+arrow_count None = 0
+arrow_count (Some (Star x n)) = 0
+arrow_count (Some (Arrows down starred x n)) = n
+arrow_count (Some (Switch x)) = 0
+arrow_count (Some (Tiny miny x)) = 0
+
+-- what was found for an id is the sign of its game, or that it has none; as each up has the one before it as its option, there
+-- are no more of them than signs
 abbrev pub Recalls : {R : Type 0} → State Meant R → Memo → Type 0
-Recalls {R} s m = (h : ℕ) (o : Option Sign) → recalled m h ≡ Some o → IsGame s h × (o ≡ sign_of (game_at s h))
+Recalls {R} s m = (h : ℕ) (o : Option Sign) → recalled m h ≡ Some o
+    → IsGame s h × (o ≡ sign_of (game_at s h)) × (arrow_count o ≤ kept m)
 
 -- what was found of a game: the number, or its lists and its sign
 abbrev pub IsShape : {R : Type 0} → State Meant R → Shape → tree.Game → Type 0
 IsShape {R} s (Number x) g = g ≡ tree.number x
 IsShape {R} s (Game ls rs o) g = IsList s ls × IsList s rs × (g ≡ node (listed s ls) (listed s rs)) × (o ≡ sign_of g)
+
+-- no more ups than signs
+abbrev pub HasFewArrows : Memo → Shape → Type 0
+HasFewArrows m (Number x) = Unit {0}
+HasFewArrows m (Game ls rs o) = arrow_count o ≤ kept m

@@ -1,10 +1,10 @@
 //! The sign of a game, by the shape of its options and the signs of those.
-ghost use Rattle.std.specs.Prelude.{◌≡◌, IfOk, OnOk, Some, None, [], ◌∷◌};
+ghost use Rattle.std.specs.Prelude.{◌≡◌, ◌+◌, ◌≤◌, IfOk, OnOk, Some, None, [], ◌∷◌};
 ghost use Rattle.cg_dyadic.specs.Number.{Number};
 ghost use Rattle.cg_form.specs.Game.{node, number as number_form};
 ghost use Rattle.cg_cells.specs.Store.{Spends};
 ghost use Rattle.cg_nodes.specs.Games.{AreGames, IsGame, IsList, game_at, games_at, listed};
-ghost use Rattle.cg_names.specs.Memos.{IsShape, Recalls};
+ghost use Rattle.cg_names.specs.Memos.{HasFewArrows, IsShape, Recalls, arrow_count, kept};
 ghost use Rattle.cg_names.specs.Named.{mirrored_if};
 ghost use Rattle.cg_names.specs.Readings.{AreStars, IsStar};
 ghost use Rattle.cg_names.specs.Shapes.{sign_of};
@@ -41,6 +41,7 @@ pub(crate) fn look<B: BoardForms, S: CellStore<GameFacts<B>>>(
     requires game { IsGame (S.state store.old) handle }
     requires memo { Recalls (S.state store.old) memo.old }
     ensures look { IfOk result (λ l. IsShape (S.state store.new) l (game_at (S.state store.old) handle)) }
+    ensures few { IfOk result (HasFewArrows memo.new) }
     ensures memo { OnOk result (Recalls (S.state store.new) memo.new) }
     ensures spends { Spends 0 (S.state store.old) (S.state store.new) }
 {
@@ -69,6 +70,7 @@ fn sign<B: BoardForms, S: CellStore<GameFacts<B>>>(
     requires options { let W = S.state store.old in game_at W handle ≡ node (listed W lefts) (listed W rights) }
     requires memo { Recalls (S.state store.old) memo.old }
     ensures sign { IfOk result (λ s. s ≡ sign_of (game_at (S.state store.old) handle)) }
+    ensures few { IfOk result (λ s. arrow_count s ≤ kept memo.new) }
     ensures memo { OnOk result (Recalls (S.state store.new) memo.new) }
     ensures spends { Spends 0 (S.state store.old) (S.state store.new) }
 {
@@ -97,6 +99,7 @@ fn sign_by_shape<B: BoardForms, S: CellStore<GameFacts<B>>>(
     requires memo { Recalls (S.state store.old) memo.old }
     ensures sign { let W = S.state store.old in IfOk result (λ s. s ≡ sign_of
         (node (listed W lefts) (listed W rights))) }
+    ensures few { IfOk result (λ s. arrow_count s ≤ kept memo.new + 1) }
     ensures memo { OnOk result (Recalls (S.state store.new) memo.new) }
     ensures spends { Spends 0 (S.state store.old) (S.state store.new) }
 {
@@ -174,6 +177,7 @@ fn sign_by_ends<B: BoardForms, S: CellStore<GameFacts<B>>>(
     requires memo { Recalls (S.state store.old) memo.old }
     ensures sign { let W = S.state store.old in IfOk result (λ s. s ≡ sign_of
         (node (listed W lefts) (listed W rights))) }
+    ensures few { IfOk result (λ s. arrow_count s ≤ kept memo.new + 1) }
     ensures memo { OnOk result (Recalls (S.state store.new) memo.new) }
     ensures spends { Spends 0 (S.state store.old) (S.state store.new) }
 {
@@ -204,6 +208,7 @@ fn sign_of_two<B: BoardForms, S: CellStore<GameFacts<B>>>(
     requires memo { Recalls (S.state store.old) memo.old }
     ensures sign { let W = S.state store.old in IfOk result (λ s. s ≡ sign_of
         (node (game_at W first ∷ []) (game_at W last ∷ []))) }
+    ensures few { IfOk result (λ s. arrow_count s ≤ kept memo.new + 1) }
     ensures memo { OnOk result (Recalls (S.state store.new) memo.new) }
     ensures spends { Spends 0 (S.state store.old) (S.state store.new) }
 {
@@ -234,6 +239,7 @@ fn steep<B: BoardForms, S: CellStore<GameFacts<B>>>(
     requires memo { Recalls (S.state store.old) memo.old }
     ensures sign { IfOk result (λ s. s ≡ sign_of
         (mirrored_if down (number_form x ∷ []) (game_at (S.state store.old) last ∷ []))) }
+    ensures few { IfOk result (λ s. arrow_count s ≤ kept memo.new + 1) }
     ensures memo { OnOk result (Recalls (S.state store.new) memo.new) }
     ensures spends { Spends 0 (S.state store.old) (S.state store.new) }
 {
@@ -241,7 +247,10 @@ fn steep<B: BoardForms, S: CellStore<GameFacts<B>>>(
         Shape::Number(_) => Ok(None),
         Shape::Game(lefts, rights, sign) => match tiny(store, down, x, lefts, rights) {
             Some(size) => Ok(Some(Sign::Tiny(down, size))),
-            None => one_more(down, x, &sign),
+            None => {
+                memo.has_room();
+                Ok(one_more(down, x, &sign))
+            }
         },
     }
 }

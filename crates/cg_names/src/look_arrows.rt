@@ -1,9 +1,10 @@
 //! Numbers and ups or downs by the shape of their options.
-ghost use Rattle.std.specs.Prelude.{◌≡◌, Bool, IfOk, MatchOption, None, Some, true, false, [], ◌∷◌};
+ghost use Rattle.std.specs.Prelude.{◌≡◌, ◌+◌, ◌<◌, ◌≤◌, ◌^◌, Bool, IfSome, None, Some, true, false, [], ◌∷◌};
 ghost use Rattle.cg_dyadic.specs.Number.{Number};
 ghost use Rattle.cg_form.specs.Game.{Game, number as number_form};
 ghost use Rattle.cg_cells.specs.Store.{Spends};
 ghost use Rattle.cg_nodes.specs.Games.{IsGame, IsList, IsNode, game_at, listed};
+ghost use Rattle.cg_names.specs.Memos.{arrow_count};
 ghost use Rattle.cg_names.specs.Named.{mirrored_if, pair_form};
 ghost use Rattle.cg_names.specs.Readings.{IsArrows, IsMore, IsStar, IsUpStar};
 ghost use Rattle.cg_names.specs.Shapes.{sign_of};
@@ -14,7 +15,6 @@ use crate::sign::Sign;
 use cg_cells::CellStore;
 use cg_dyadic::Dyadic;
 use cg_nodes::{BoardForms, GameFacts, Handle, ListId, Reading, read};
-use std::alloc::AllocError;
 
 /// A number and so many ups or downs, and `*` where it is starred.
 #[derive(Clone, Copy, Debug)]
@@ -24,43 +24,40 @@ struct ArrowsFound {
     count: u64,
 }
 
-/// The sign of `{x|g}`, or of `{g|x}` where it is `down`, where g has this sign: one up more than g, or one down. A count
-/// past every table's size is answered as want of memory.
-pub(crate) fn one_more(
-    down: bool,
-    x: Dyadic,
-    sign: &Option<Sign>,
-) -> Result<Option<Sign>, AllocError>
-    ensures { (g : Game) → IsNode g → sign.now ≡ sign_of g → IfOk result (IsMore down x g) }
+/// The sign of `{x|g}`, or of `{g|x}` where it is `down`, where g has this sign: one up more than g, or one down.
+pub(crate) fn one_more(down: bool, x: Dyadic, sign: &Option<Sign>) -> Option<Sign>
+    requires { arrow_count sign.now < 2 ^ 63 }
+    ensures more { (g : Game) → IsNode g → sign.now ≡ sign_of g → IsMore down x g result }
+    ensures few { arrow_count result ≤ arrow_count sign.now + 1 }
 {
     match arrows_in(down, sign) {
-        None => Ok(None),
+        None => None,
         Some(found) => one_more_than(down, x, &found),
     }
 }
 
 /// One up more than these, or one down.
-fn one_more_than(down: bool, x: Dyadic, found: &ArrowsFound) -> Result<Option<Sign>, AllocError>
-    ensures { (g : Game) → IsNode g → IsArrows down g (Some found.now) → IfOk result (IsMore down x g) }
+fn one_more_than(down: bool, x: Dyadic, found: &ArrowsFound) -> Option<Sign>
+    requires { found.now.count < 2 ^ 63 }
+    ensures more { (g : Game) → IsNode g → IsArrows down g (Some found.now) → IsMore down x g result }
+    ensures few { arrow_count result ≤ found.now.count + 1 }
 {
     if is_same(x, found.base) {
-        match found.count.checked_add(1) {
-            None => Err(AllocError),
-            Some(count) => Ok(Some(Sign::Arrows {
-                down,
-                starred: !found.starred,
-                base: x,
-                count,
-            })),
-        }
+        Some(Sign::Arrows {
+            down,
+            starred: !found.starred,
+            base: x,
+            count: found.count + 1,
+        })
     } else {
-        Ok(None)
+        None
     }
 }
 
 /// The ups, or the downs, that a game with this sign is, if it has one; `x + *` is none of them, starred.
 fn arrows_in(down: bool, sign: &Option<Sign>) -> Option<ArrowsFound>
-    ensures { (g : Game) → IsNode g → sign.now ≡ sign_of g → IsArrows down g result }
+    ensures arrows { (g : Game) → IsNode g → sign.now ≡ sign_of g → IsArrows down g result }
+    ensures few { IfSome result (λ a. a.count ≤ arrow_count sign.now) }
 {
     match sign {
         None => None,
@@ -70,7 +67,8 @@ fn arrows_in(down: bool, sign: &Option<Sign>) -> Option<ArrowsFound>
 
 /// The ups, or the downs, that a game with this sign is.
 fn arrows_of(down: bool, sign: &Sign) -> Option<ArrowsFound>
-    ensures { (g : Game) → IsNode g → Some sign.now ≡ sign_of g → IsArrows down g result }
+    ensures arrows { (g : Game) → IsNode g → Some sign.now ≡ sign_of g → IsArrows down g result }
+    ensures few { IfSome result (λ a. a.count ≤ arrow_count (Some sign.now)) }
 {
     match sign {
         Sign::Star(base, count) => level_at(*base, *count),
@@ -97,7 +95,8 @@ fn arrows_of(down: bool, sign: &Sign) -> Option<ArrowsFound>
 
 /// The `x + *` that `x + *n` is where n is 1.
 fn level_at(x: Dyadic, count: u64) -> Option<ArrowsFound>
-    ensures { (down : Bool) (g : Game) → IsNode g → Some (Sign.Star x count) ≡ sign_of g → IsArrows down g result }
+    ensures arrows { (down : Bool) (g : Game) → IsNode g → Some (Sign.Star x count) ≡ sign_of g → IsArrows down g result }
+    ensures few { IfSome result (λ a. a.count ≡ 0) }
 {
     if count == 1 {
         Some(ArrowsFound {
@@ -125,6 +124,7 @@ pub(crate) fn starred_arrow<B: BoardForms, S: CellStore<GameFacts<B>>>(
         (mirrored_if down (listed W own) (game_at W last ∷ [])) None }
     ensures sign { let W = S.state store.old in result ≡ sign_of
         (mirrored_if down (listed W own) (game_at W last ∷ [])) }
+    ensures few { arrow_count result ≤ 1 }
     ensures spends { Spends 0 (S.state store.old) (S.state store.new) }
 {
     match two_of(store, own) {

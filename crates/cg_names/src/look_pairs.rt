@@ -4,6 +4,7 @@ ghost use Rattle.cg_form.specs.Game.{node, number as number_form};
 ghost use Rattle.cg_cells.specs.Store.{Spends};
 ghost use Rattle.cg_nodes.specs.Games.{IsList, listed};
 ghost use Rattle.cg_dyadic.specs.Exact.{number_negative};
+ghost use Rattle.cg_names.specs.Memos.{arrow_count};
 ghost use Rattle.cg_names.specs.Named.{mirrored_if, pair_form, zero_number};
 ghost use Rattle.cg_names.specs.Readings.{IsStar, IsTiny};
 ghost use Rattle.cg_names.specs.Shapes.{sign_of};
@@ -19,7 +20,8 @@ use cg_nodes::{BoardForms, GameFacts, ListId};
 
 /// The sign of `{x|y}`, which has none with a nimber.
 pub(crate) fn switch_sign(x: Dyadic, y: Dyadic) -> Option<Sign>
-    ensures { IsStar (pair_form x y) None → result ≡ sign_of (pair_form x y) }
+    ensures sign { IsStar (pair_form x y) None → result ≡ sign_of (pair_form x y) }
+    ensures few { arrow_count result ≡ 0 }
 {
     if is_positive(x) && is_same(y, opposite(x)) {
         Some(Sign::Switch(x))

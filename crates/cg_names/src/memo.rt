@@ -1,6 +1,6 @@
 //! The signs that were found.
-ghost use Rattle.std.specs.Prelude.{◌≡◌, ℕ, ◌==◌, IfOk, None, Some, if◌then◌else◌};
-ghost use Rattle.cg_names.specs.Memos.{recalled};
+ghost use Rattle.std.specs.Prelude.{◌≡◌, ℕ, ◌==◌, ◌+◌, ◌<◌, ◌^◌, IfOk, None, OnOk, Some, if◌then◌else◌, is_some};
+ghost use Rattle.cg_names.specs.Memos.{kept, recalled};
 
 use crate::sign::Sign;
 use std::alloc::{AllocError, Global};
@@ -33,8 +33,16 @@ impl Memo {
     pub fn remember(&mut self, a: u32, sign: &Option<Sign>) -> Result<(), AllocError>
         ensures ok { IfOk result (λ _. (b : ℕ) → recalled self.new b
             ≡ (if a == b then Some sign.now else recalled self.old b)) }
+        ensures count { OnOk result (kept self.new ≡ kept self.old + (if is_some (recalled self.old a) then 0 else 1)) }
     {
         self.signs.insert(a, *sign)?;
         Ok(())
+    }
+
+    /// Fewer signs are kept than memory has room for. It does nothing, and its contract is the fact.
+    pub fn has_room(&self)
+        ensures { kept self.now < 2 ^ 63 }
+    {
+        let _count = self.signs.len();
     }
 }

@@ -1,5 +1,5 @@
 -- The board of a set of cells, by its words.
-use Rattle.std.proofs.Common.{◌≡◌, refl, ℕ, ◌*◌, ◌<◌, ◌≤◌, inl, inr, true, if◌then◌else◌, List, length, slice_index, ap, sym, ◌∙◌, arith}
+use Rattle.std.proofs.Common.{◌≡◌, refl, ℕ, ◌*◌, ◌<◌, ◌≤◌, inl, inr, true, if◌then◌else◌, List, length, slice_index, ap, sym, ◌∙◌, subst, arith}
 use Rattle.std.specs.Prelude.{Contains}
 use Rattle.std.specs.Int.{bit_at}
 use Rattle.std.proofs.lemmas.Bool.{le-ltb, lt-ltb}
@@ -8,10 +8,12 @@ use Rattle.cg_dyadic.proofs.Truth.{false-from, true-or-not}
 use Rattle.cg_moves.specs.declared.planes.Planes.{Planes}
 use Rattle.cg_moves.specs.Grid.{Grid, IsGrid}
 use Rattle.cg_moves.specs.PlaneBits.{ArePlanes, IsGridBy, grid_by, index_of, plane_bit}
-use Rattle.cg_moves.proofs.PlaneLemmas.{grid-is, is_grid-by}
+use Rattle.cg_moves.proofs.PlaneLemmas.{grid-is, index-reads, is_grid-by}
 use Rattle.cg_pieces.specs.declared.frame.Frame.{Frame}
 use Rattle.cg_pieces.specs.Boxes.{cropped, set_box, shown_cell, unboxed}
 use Rattle.cg_pieces.specs.Frames.{box_from}
+use Rattle.cg_pieces.specs.Moving.{IsIndex}
+use Rattle.cg_pieces.specs.Neighbours.{Neighbours}
 use Rattle.cg_pieces.specs.Words.{IsSetFrom, in_word}
 use Rattle.cg_pieces.proofs.Crops.{crop-at}
 use Rattle.cg_pieces.proofs.Frames.{board-is, cropped-cells, cropped-size, few-cells, frame-cells, made, some-cells, unboxed-below, wide-grid}
@@ -26,6 +28,22 @@ plane-in symbols cells b i l =
 plane-past : (symbols cells : List ℕ) (b i : ℕ) → length cells ≤ i → plane_bit symbols cells b i ≡ 0
 plane-past symbols cells b i l =
     ap (λ t. if t then bit_at (index_of symbols (slice_index cells i)) b else 0) (le-ltb i (length cells) l)
+
+-- the index shows the blank of the game
+pub record Shows (n : Neighbours) (p : Grid) (index : ℕ) : Type 0 where
+  pub shows : slice_index p.symbols index ≡ n.blank
+  pub is : IsIndex p.symbols (slice_index p.symbols index) index
+
+pub index-shows : (n : Neighbours) (p : Grid) (index : ℕ) → p.symbols ≡ n.symbols → IsIndex n.symbols n.blank index
+    → Shows n p index
+index-shows n p index e is =
+    let shows : slice_index p.symbols index ≡ n.blank =
+    ap (slice_index p.symbols) is.value ∙ ap (λ z. slice_index z (index_of n.symbols n.blank)) e
+    ∙ index-reads n.symbols n.blank is.contained in
+    record {
+      shows = shows;
+      is = subst (λ z. IsIndex p.symbols z index) (sym shows) (subst (λ z. IsIndex z n.blank index) (sym e) is);
+    }
 
 module _ (p : Grid) (grid : IsGrid p) (set first blank : ℕ) (from : IsSetFrom p set first)
     (has : Contains p.symbols blank) (f : Frame) (frame : box_from f ≡ set_box (in_word set) p) where

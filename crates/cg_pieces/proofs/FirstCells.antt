@@ -1,5 +1,6 @@
 -- Joined sets in which some player has a move, and what is taken of their first cells.
 use Rattle.std.proofs.Common.{◌≡◌, refl, ℕ, suc, ◌+◌, ◌<◌, ◌&&◌, ◌||◌, ◌⊎◌, inl, inr, Bool, true, false, if◌then◌else◌, IsTrue, List, [], ◌∷◌, ◌++◌, cond, filter, length, map, ap, sym, ◌∙◌, subst, arith}
+use Rattle.std.specs.Int.{bit_at}
 use Rattle.std.proofs.lemmas.List.{append-nil}
 use Rattle.cg_dyadic.proofs.Truth.{and-both, and-split}
 use Rattle.cg_moves.specs.declared.player.Player.{Player}
@@ -11,8 +12,8 @@ use Rattle.cg_moves.proofs.Counted.{counted-next}
 use Rattle.cg_moves.proofs.Totals.{map-append}
 use Rattle.cg_pieces.specs.Cells.{Joined}
 use Rattle.cg_pieces.specs.Cells.Linked.{step}
-use Rattle.cg_pieces.specs.Moving.{MovesWith, is_behind, moves_between}
-use Rattle.cg_pieces.specs.Neighbours.{IsNeighbours, Neighbours, are_joined, cell_game, has_move, has_move_at, is_below, is_beside, is_piece_cell, may_move}
+use Rattle.cg_pieces.specs.Moving.{AreMoving, MovesWith, is_behind, moves_between}
+use Rattle.cg_pieces.specs.Neighbours.{IsNeighbours, Neighbours, are_joined, cell_game, has_move, has_move_at, is_below, is_beside, may_move}
 use Rattle.cg_pieces.proofs.NeighbourSets.{any-one, at-cell, either, joined-so, may-parts, next-sym, one-any, piece-cell-below, so-joined}
 
 module _ (n : Neighbours) (laws : IsNeighbours n) (p : Grid) where
@@ -37,16 +38,29 @@ module _ (n : Neighbours) (laws : IsNeighbours n) (p : Grid) where
         ]
       ]
 
-  -- cells on which some player has a move form pieces
-  pub moves-open : (k l : ℕ) → moves_between n p k l ≡ true → (is_piece_cell n p k ≡ true) × (is_piece_cell n p l ≡ true)
-  moves-open k l t =
-      let s = some-move k l t in
-      let parts = may-parts n laws s.player p s.one s.other s.legal in
-      let P : ℕ → Type 0 = λ z. is_piece_cell n p z ≡ true in
-      elim s.cells [
-        | inl same ↦ (subst P same.0 parts.0, subst P same.1 parts.1)
-        | inr same ↦ (subst P same.1 parts.1, subst P same.0 parts.0)
-      ]
+  -- the word of the cells with moves, by the players' moves between a cell and one behind it
+  pub moving-by : (word : ℕ)
+      → ((k : ℕ) → bit_at word k ≡ 1 → (player : Player) × (l : ℕ) × (may_move n player p k l ≡ true))
+      → ((player : Player) (k l : ℕ) → is_behind p k l ≡ true → may_move n player p k l ≡ true → bit_at word k ≡ 1)
+      → ((player : Player) (k l : ℕ) → is_behind p k l ≡ true → may_move n player p l k ≡ true → bit_at word k ≡ 1)
+      → AreMoving n p word
+  moving-by word some forth back = record {
+    only = λ k t.
+        let (player, l, m) = some k t in record {
+          other = l;
+          inside = piece-cell-below n laws p l (may-parts n laws player p k l m).1;
+          move = or-first (may_move n Left p k l || may_move n Right p k l) (may_move n Left p l k || may_move n Right p l k)
+              (either n laws player p k l m);
+        };
+    all = λ k l b t.
+        let s = some-move k l t in
+        let P : ℕ → Type 0 = λ z. may_move n s.player p z s.other ≡ true in
+        let Q : ℕ → ℕ → Type 0 = λ x z. may_move n s.player p x z ≡ true in
+        elim s.cells [
+          | inl same ↦ forth s.player k l b (subst (Q k) same.1 (subst P same.0 s.legal))
+          | inr same ↦ back s.player k l b (subst (Q l) same.1 (subst P same.0 s.legal))
+        ];
+  }
 
   -- a player who may move on two adjacent cells, of which one is behind the other
   record Behind (one other : ℕ) : Type 0 where

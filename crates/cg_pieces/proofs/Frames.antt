@@ -165,3 +165,14 @@ wide-grid p grid =
     let y : p.rows * 0 ≡ 0 = omega arith in
     omega (arith, s, o, z, y)) in
     omega (arith, n)
+
+pub few-columns : (p : Grid) → IsGrid p → p.columns ≤ 64
+few-columns p grid =
+    let n : ¬ (p.rows ≡ 0) = λ e. (let s = grid.size in let o = grid.some in
+    let z : p.rows * p.columns ≡ 0 * p.columns = ap (λ r. r * p.columns) e in
+    let y : 0 * p.columns ≡ 0 = omega arith in
+    omega (arith, s, o, z, y)) in
+    let a : 1 * p.columns ≤ p.rows * p.columns = mul-le-mul_right p.columns (omega (arith, n)) in
+    let s = grid.size in
+    let f = grid.few in
+    omega (arith, a, s, f)

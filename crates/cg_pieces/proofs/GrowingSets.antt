@@ -1,10 +1,12 @@
 -- Sets of cells in words that grow by the cells adjacent to them.
-use Rattle.std.proofs.Common.{◌≡◌, ℕ, ◌+◌, ◌-◌, ◌<◌, ◌≤◌, ◌^◌, ◌||◌, ◌⊎◌, inl, inr, Bool, true, refl, ap, sym, ◌∙◌, subst, arith, bit_and, bit_or, w64}
+use Rattle.std.proofs.Common.{◌≡◌, ℕ, ◌+◌, ◌-◌, ◌*◌, ◌/◌, ◌%◌, ◌<◌, ◌≤◌, ◌^◌, ◌||◌, ◌⊎◌, inl, inr, Bool, true, refl, ap, sym, ◌∙◌, subst, arith, bit_and, bit_or, w64}
 use Rattle.std.specs.Int.{bit_at}
+use Rattle.std.proofs.Math.Nat.{mod-eq_of_lt}
 use Rattle.std.proofs.lemmas.Bool.{eq-eqb}
 use Rattle.std.proofs.lemmas.Bool.Decides.{eqb_tells, leb_tells}
 use Rattle.std.proofs.lemmas.Nat.Bits.{bit_at-lt, bit_at_above, bit_at_and, bit_at_not, bit_at_or}
 use Rattle.cg_moves.proofs.ConnectedLemmas.{or-cases, or-first, or-second}
+use Rattle.cg_moves.proofs.WordBits.{shifted_back, shifted_on, shifted_on_first}
 use Rattle.cg_pieces.specs.declared.field.Field.{Field}
 use Rattle.cg_pieces.specs.Boxes.{column_of}
 use Rattle.cg_pieces.specs.Cells.Linked.{here, step}
@@ -38,6 +40,13 @@ or-parts a b i t =
       | inl e ↦ inl e.1
       | inr o ↦ let no = o.1 in inr (omega (arith, h, x, y, t, no))
     ]
+
+-- the words `a << by` and `a >> by`
+abbrev pub moved_on : ℕ → ℕ → ℕ
+moved_on a by = a * 2 ^ by % 18446744073709551616
+
+abbrev pub moved_back : ℕ → ℕ → ℕ
+moved_back a by = a / 2 ^ by
 
 -- the word `!b`
 abbrev pub other_bits : ℕ → ℕ
@@ -82,7 +91,7 @@ back-next w k l t =
 module _ (f : Field) (set : ℕ) (is : IsField f) (within : IsWithin set f.cells) (open_fits : f.cells < 2 ^ 64) where
   -- the open cells of the set, and of one that is put to it
   module _ (stands : ℕ → ℕ → Bool) (beside : ℕ)
-      (beside_only : (k : ℕ) → k < 64 → bit_at f.cells k ≡ 1 → bit_at beside k ≡ 1 → NextIn f set k)
+      (beside_only : (k : ℕ) → k < 64 → bit_at f.cells k ≡ 1 → bit_at beside k ≡ 1 → (bit_at set k ≡ 1) ⊎ NextIn f set k)
       (beside_all : (k l : ℕ) → bit_at set k ≡ 1 → bit_at f.cells l ≡ 1 → stands k l ≡ true → bit_at beside l ≡ 1) where
     next-by : IsNextBy f stands set (bit_and (bit_or set beside) f.cells)
     next-by = record {
@@ -92,10 +101,17 @@ module _ (f : Field) (set : ℕ) (is : IsField f) (within : IsWithin set f.cells
           let both = and-parts (bit_or set beside) f.cells k t in
           elim (or-parts set beside k both.0) [
             | inl x ↦ inl x
-            | inr x ↦ inr (beside_only k (bit-below f.cells k open_fits both.1) both.1 x)
+            | inr x ↦ beside_only k (bit-below f.cells k open_fits both.1) both.1 x
           ];
       all = λ k l s o t. and-one (bit_or set beside) f.cells l (or-right set beside l (beside_all k l s o t)) o;
     }
+
+  -- a row with all 64 cells has none above or below it
+  no-below : 64 ≤ f.columns → (k l : ℕ) → bit_at f.cells l ≡ 1 → is_below f.columns k l ≡ true → ⊥
+  no-below many k l o b =
+      let e = below-is f.columns k l b in
+      let few = bit-below f.cells l open_fits o in
+      omega (arith, e, few, many)
 
   module _ (down up : ℕ) (down_first : (i : ℕ) → i < f.columns → bit_at down i ≡ 0)
       (down_others : (i : ℕ) → f.columns ≤ i → i < 64 → bit_at down i ≡ bit_at set (i - f.columns))
@@ -129,16 +145,45 @@ module _ (f : Field) (set : ℕ) (is : IsField f) (within : IsWithin set f.cells
     all-up : (k l : ℕ) → bit_at set k ≡ 1 → is_below f.columns l k ≡ true → bit_at up l ≡ 1
     all-up k l s b = let e = below-is f.columns l k b in up_is l ∙ ap (bit_at set) (sym e) ∙ s
 
-    pub column-set : IsNextBy f (is_in_column f.columns) set (bit_and (bit_or set (bit_or down up)) f.cells)
-    column-set = next-by (is_in_column f.columns) (bit_or down up)
+    column-moved : IsNextBy f (is_in_column f.columns) set (bit_and (bit_or set (bit_or down up)) f.cells)
+    column-moved = next-by (is_in_column f.columns) (bit_or down up)
         (λ k few o t. elim (or-parts down up k t) [
-          | inl x ↦ next-down k few x
-          | inr x ↦ next-up k x
+          | inl x ↦ inr (next-down k few x)
+          | inr x ↦ inr (next-up k x)
         ])
         (λ k l s o t. elim (or-cases (is_below f.columns k l) (is_below f.columns l k) t) [
           | inl a ↦ or-left down up l (all-down k l s o a)
           | inr a ↦ or-right down up l (all-up k l s a)
         ])
+
+  -- a step of as many places as there are columns, and of none where there are 64
+  pub column-set : (by : ℕ) → by ≡ f.columns % 64
+      → IsNextBy f (is_in_column f.columns) set (bit_and (bit_or set (bit_or (moved_on set by) (moved_back set by))) f.cells)
+  column-set by is_by = elim (leb_tells 64 f.columns) [
+    | inl h ↦
+        let many = h.1 in
+        let most = is.few in
+        let all : f.columns ≡ 64 = omega (arith, many, most) in
+        let none : by ≡ 0 = is_by ∙ ap (λ w. w % 64) all in
+        let stays : (k : ℕ) → k - by ≡ k = λ k. omega (arith, none) in
+        let stays_too : (k : ℕ) → k + by ≡ k = λ k. omega (arith, none) in
+        next-by (is_in_column f.columns) (bit_or (moved_on set by) (moved_back set by))
+        (λ k few o t. inl (elim (or-parts (moved_on set by) (moved_back set by) k t) [
+          | inl x ↦ ap (bit_at set) (sym (stays k)) ∙ sym (shifted_on set by k (omega (arith, none)) few) ∙ x
+          | inr x ↦ ap (bit_at set) (sym (stays_too k)) ∙ sym (shifted_back set by k) ∙ x
+        ]))
+        (λ k l s o t. elim (or-cases (is_below f.columns k l) (is_below f.columns l k) t) [
+          | inl a ↦ absurd (no-below many k l o a)
+          | inr a ↦ absurd (no-below many l k (within k s) a)
+        ])
+    | inr h ↦
+        let few = h.1 in
+        let same : by ≡ f.columns = is_by ∙ mod-eq_of_lt few in
+        column-moved (moved_on set by) (moved_back set by)
+        (λ i l. shifted_on_first set by i (omega (arith, l, same)) (omega (arith, few, same)))
+        (λ i l m. shifted_on set by i (omega (arith, l, same)) m ∙ ap (λ w. bit_at set (i - w)) same)
+        (λ i. shifted_back set by i ∙ ap (λ w. bit_at set (i + w)) same)
+  ]
 
   module _ (on back : ℕ) (first_fits : f.first_column < 2 ^ 64) (on_first : (i : ℕ) → i < 1 → bit_at on i ≡ 0)
       (on_others : (i : ℕ) → 1 ≤ i → i < 64 → bit_at on i ≡ bit_at set (i - 1))
@@ -197,8 +242,8 @@ module _ (f : Field) (set : ℕ) (is : IsField f) (within : IsWithin set f.cells
     pub row-set : IsNextBy f (is_in_row f.columns) set (bit_and (bit_or set (bit_or forth back)) f.cells)
     row-set = next-by (is_in_row f.columns) (bit_or forth back)
         (λ k few o t. elim (or-parts forth back k t) [
-          | inl x ↦ next-forth k few o x
-          | inr x ↦ next-back k x
+          | inl x ↦ inr (next-forth k few o x)
+          | inr x ↦ inr (next-back k x)
         ])
         (λ k l s o t. elim (or-cases (is_beside f.columns k l) (is_beside f.columns l k) t) [
           | inl a ↦ or-left forth back l (all-forth k l s o a)

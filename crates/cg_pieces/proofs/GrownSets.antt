@@ -1,5 +1,5 @@
 -- Sets of cells in words that have grown to all joined cells.
-use Rattle.std.proofs.Common.{◌≡◌, ◌≢◌, ◌↔◌, refl, ℕ, ◌<◌, ◌≤◌, ◌-◌, inl, inr, if◌then◌else◌, ap, sym, ◌∙◌, subst, arith, bit_or}
+use Rattle.std.proofs.Common.{◌≡◌, ◌≢◌, ◌↔◌, refl, ℕ, ◌<◌, ◌≤◌, ◌-◌, ◌⊎◌, inl, inr, if◌then◌else◌, ap, sym, ◌∙◌, subst, arith, bit_or}
 use Rattle.std.specs.Int.{bit_at}
 use Rattle.std.proofs.lemmas.Bool.{eqb-true}
 use Rattle.std.proofs.lemmas.Bool.Decides.{eqb_tells}
@@ -57,11 +57,19 @@ growing-more f cell set more g next = record {
   joined = λ k t. let (l, s, j) = next.only k t in linked-on f cell l k (g.joined l s) j;
 }
 
--- a set that grows no more has all joined cells
-pub grown : (f : Field) (cell set : ℕ) → IsGrowing f cell set → IsNextSet f set set → (k : ℕ)
-    → (bit_at set k ≡ 1) ↔ JoinedIn f cell k
-grown f cell set g next k = (g.joined k, go k)
+-- a set that grows no more, or has all open cells, has all joined cells
+pub grown : (f : Field) (cell set more : ℕ) → IsGrowing f cell set → IsNextSet f set more → (more ≡ set) ⊎ (more ≡ f.cells)
+    → (k : ℕ) → (bit_at more k ≡ 1) ↔ JoinedIn f cell k
+grown f cell set more g next ends k = (all.joined k, go k)
   where
-    go : (k : ℕ) → JoinedIn f cell k → bit_at set k ≡ 1
-    go k (here m e) = let P : ℕ → Type 0 = λ z. bit_at set z ≡ 1 in subst P e g.here
-    go k (step m l r m_open l_open adjacent) = next.all m k (go m r) (eqb-true (bit_at f.cells k) 1 l_open) adjacent
+    all : IsGrowing f cell more
+    all = growing-more f cell set more g next
+
+    go : (k : ℕ) → JoinedIn f cell k → bit_at more k ≡ 1
+    go k (here m e) = let P : ℕ → Type 0 = λ z. bit_at more z ≡ 1 in subst P e all.here
+    go k (step m l r m_open l_open adjacent) =
+        let open_k = eqb-true (bit_at f.cells k) 1 l_open in
+        elim ends [
+          | inl e ↦ next.all m k (ap (λ z. bit_at z m) (sym e) ∙ go m r) open_k adjacent
+          | inr e ↦ ap (λ z. bit_at z k) e ∙ open_k
+        ]

@@ -21,9 +21,9 @@ pub mod TakenSets
 pub mod Taking
 pub mod ShownWords
 pub mod LastBits
-pub mod MovingWords
-pub mod MovingPairs
 pub mod RowWords
+pub mod Columns
 pub mod FrameWords
 pub mod CropWords
+pub mod SymbolWords
 pub mod TwoSet

@@ -1,97 +1,22 @@
--- Rows of cells in words: put over each other, and cut out.
+-- Rows of cells in words, cut out.
 use Rattle.std.proofs.Common.{◌≡◌, ℕ, ◌+◌, ◌-◌, ◌*◌, ◌<◌, ◌≤◌, ◌^◌, inl, inr, nat_lt, if◌then◌else◌, ap, sym, ◌∙◌, arith, bit_and, bit_or}
 use Rattle.std.specs.Int.{bit_at}
-use Rattle.std.proofs.Math.Nat.{mod-lt, mul-le-mul_left, mul-le-mul_right}
-use Rattle.std.proofs.lemmas.Bool.{le-ltb, lt-ltb, ltb-true}
+use Rattle.std.proofs.Math.Nat.{mul-le-mul_left, mul-le-mul_right}
+use Rattle.std.proofs.lemmas.Bool.{le-ltb, lt-ltb}
 use Rattle.std.proofs.lemmas.Bool.Decides.{leb_tells}
 use Rattle.std.proofs.lemmas.Nat.Bits.{bit_at-lt, bit_at-zero, bit_at_above, bit_at_and, bit_at_or}
 use Rattle.cg_moves.specs.Words.{Marks}
+use Rattle.cg_moves.proofs.WordBits.{shifted_back}
 use Rattle.cg_pieces.specs.declared.frame.Frame.{Frame}
 use Rattle.cg_pieces.specs.Boxes.{cell_at, column_of, row_of, unboxed}
 use Rattle.cg_pieces.specs.Frames.{IsBoxIn, box_from}
-use Rattle.cg_pieces.specs.Words.{IsInOneRow}
 use Rattle.cg_pieces.proofs.Bounds.{cell-of, column-cell, row-cell}
-use Rattle.cg_pieces.proofs.GrowingSets.{and-one, and-parts, or-left, or-parts, or-right}
-use Rattle.cg_pieces.proofs.OpenWords.{marks-test, test-marks}
+use Rattle.cg_pieces.proofs.GrowingSets.{moved_back}
+use Rattle.cg_pieces.proofs.OpenWords.{test-marks}
 
 -- a cell of a row is so many cells behind its first
 row-cells : (width row k : ℕ) → row * width ≤ k → k ≡ cell_at width row (k - row * width)
 row-cells width row k low = omega arith
-
--- ---- all rows as one
-
--- the rows from each on are put over each other, so many of them
-pub record AreOver (width set found height : ℕ) : Type 0 where
-  pub many : ℕ
-  pub height_is : height ≡ many * width
-  pub all : (k j : ℕ) → j < many → bit_at set (k + j * width) ≡ 1 → bit_at found k ≡ 1
-  pub only : (k : ℕ) → bit_at found k ≡ 1 → (j : ℕ) × (bit_at set (k + j * width) ≡ 1)
-
-pub one-over : (width set : ℕ) → AreOver width set set width
-one-over width set = record {
-  many = 1;
-  height_is = omega arith;
-  all = λ k j h t.
-      let e : k + j * width ≡ k = (let z : j ≡ 0 = omega (arith, h) in
-      ap (λ x. k + x * width) z ∙ (let f : k + 0 * width ≡ k = omega arith in f)) in
-      ap (bit_at set) (sym e) ∙ t;
-  only = λ k t. let e : k + 0 * width ≡ k = omega arith in (0, ap (bit_at set) e ∙ t);
-}
-
-pub twice-over : (width set found height moved : ℕ) → AreOver width set found height
-    → ((i : ℕ) → bit_at moved i ≡ bit_at found (i + height)) → AreOver width set (bit_or found moved) (height * 2)
-twice-over width set found height moved old moved_is = record {
-  many = old.many * 2;
-  height_is = let e = old.height_is in omega (arith, e);
-  all = λ k j h t. elim (leb_tells old.many j) [
-    | inl low ↦
-        let far = low.1 in
-        let d : ℕ = j - old.many in
-        let j_is : j ≡ old.many + d = omega (arith, far) in
-        let e : k + j * width ≡ (k + height) + d * width =
-        (let h = old.height_is in let f : k + (old.many + d) * width ≡ (k + old.many * width) + d * width = omega arith in
-        ap (λ x. k + x * width) j_is ∙ f ∙ ap (λ x. (k + x) + d * width) (sym h)) in
-        or-right found moved k (moved_is k
-        ∙ old.all (k + height) d (omega (arith, h, far)) (ap (bit_at set) (sym e) ∙ t))
-    | inr near ↦ or-left found moved k (old.all k j near.1 t)
-  ];
-  only = λ k t. elim (or-parts found moved k t) [
-    | inl x ↦ old.only k x
-    | inr x ↦
-        let (j, s) = old.only (k + height) (sym (moved_is k) ∙ x) in
-        let e : k + (old.many + j) * width ≡ (k + height) + j * width =
-        (let h = old.height_is in let f : k + (old.many + j) * width ≡ (k + old.many * width) + j * width = omega arith in
-        f ∙ ap (λ x. (k + x) + j * width) (sym h)) in
-        (old.many + j, ap (bit_at set) e ∙ s)
-  ];
-}
-
-pub all-over : (width set size found height mask : ℕ) → 1 ≤ width → AreOver width set found height → size ≤ height
-    → Marks mask (λ i. nat_lt i width) → IsInOneRow width size set (bit_and found mask)
-all-over width set size found height mask wide over enough mask_is = record {
-  all = λ k h t.
-      let c : ℕ = column_of width k in
-      let r : ℕ = row_of width k in
-      let few : c < width = mod-lt k wide in
-      let cell : c + r * width ≡ k = (let e = cell-of width k in omega (arith, e)) in
-      let is = over.height_is in
-      let low : r * width < over.many * width = omega (arith, cell, h, enough, is) in
-      let below : r < over.many = rows-below r over.many width low in
-      and-one found mask c (over.all c r below (ap (bit_at set) cell ∙ t))
-      (test-marks mask (λ i. nat_lt i width) mask_is c (lt-ltb c width few));
-  only = λ c t.
-      let both = and-parts found mask c t in
-      let few = ltb-true c width (marks-test mask (λ i. nat_lt i width) mask_is c both.1) in
-      let (j, s) = over.only c both.0 in
-      let e : c + j * width ≡ cell_at width j c = omega arith in
-      (c + j * width, s, ap (column_of width) e ∙ column-cell width j c few);
-}
-  where
-    rows-below : (r many width : ℕ) → r * width < many * width → r < many
-    rows-below r many width h = elim (leb_tells many r) [
-      | inl above ↦ (let more : many * width ≤ r * width = mul-le-mul_right width above.1 in absurd (omega (arith, h, more)))
-      | inr below ↦ below.1
-    ]
 
 -- ---- the rows of a box, one after another
 
@@ -112,12 +37,18 @@ module _ (word columns : ℕ) (f : Frame) where
   abbrev pub IsLater : ℕ → ℕ → Type 0
   IsLater row rest = (i : ℕ) → bit_at rest i ≡ bit_at word ((i + (f.top * columns + f.left)) + row * columns)
 
-  pub rest-later : (row rest moved : ℕ) → IsLater row rest → ((i : ℕ) → bit_at moved i ≡ bit_at rest (i + columns))
-      → IsLater (row + 1) moved
-  rest-later row rest moved old moved_is i =
-      let e : ((i + columns) + (f.top * columns + f.left)) + row * columns
-      ≡ (i + (f.top * columns + f.left)) + (row + 1) * columns = omega arith in
-      moved_is i ∙ old (i + columns) ∙ ap (bit_at word) e
+  pub first-later : IsLater 0 (moved_back word (f.top * columns + f.left))
+  first-later i =
+      let e : i + (f.top * columns + f.left) ≡ (i + (f.top * columns + f.left)) + 0 * columns = omega arith in
+      shifted_back word (f.top * columns + f.left) i ∙ ap (bit_at word) e
+
+  pub later-row : (row rest : ℕ) → 1 ≤ row → IsLater (row - 1) rest → IsLater row (moved_back rest columns)
+  later-row row rest some old i =
+      let same : (row - 1) + 1 ≡ row = omega (arith, some) in
+      let e : ((i + columns) + (f.top * columns + f.left)) + (row - 1) * columns
+      ≡ (i + (f.top * columns + f.left)) + ((row - 1) + 1) * columns = omega arith in
+      shifted_back rest columns i ∙ old (i + columns) ∙ ap (bit_at word) e
+      ∙ ap (λ r. bit_at word ((i + (f.top * columns + f.left)) + r * columns)) same
 
   -- nothing is cut out of the word 0
   pub cut-zero : word ≡ 0 → (m : ℕ) → bit_at 0 m ≡ cut f.rows m
@@ -197,6 +128,42 @@ module _ (word columns : ℕ) (f : Frame) where
                   let is : bit_at (bit_or found on) m ≡ bit_at found m = omega (arith, either, none) in
                   is ∙ found_is m ∙ cut-inside row m before ∙ sym (cut-inside (row + 1) m (omega (arith, before)))
             ]
+
+    -- the first row
+    pub first-row : (rest mask : ℕ) → bit_and rest mask < 2 ^ 64 → IsLater 0 rest → Marks mask (λ i. nat_lt i f.columns)
+        → (m : ℕ) → bit_at (bit_and rest mask) m ≡ cut 1 m
+    first-row rest mask fits later mask_is m =
+        let x : ℕ = bit_and rest mask in
+        let either = bit_at_or 0 x m in
+        let none = bit_at-zero m in
+        let is : bit_at x m ≡ bit_at (bit_or 0 x) m = omega (arith, either, none) in
+        let from : (i : ℕ) → i - 0 * f.columns ≡ i = λ i. omega arith in
+        is ∙ cut-more 0 0 rest mask x inside.some_rows fits (λ i. bit_at-zero i ∙ sym (cut-outside 0 i (omega arith))) later
+        mask_is (λ i l. absurd (omega (arith, l))) (λ i l h. ap (bit_at x) (sym (from i))) m
+
+    -- ---- the shifts are by fewer than 64 places
+
+    pub start-few : f.top * columns + f.left < 64
+    start-few =
+        let w = inside.wide in
+        let c = inside.some_columns in
+        let a : (f.top + 1) * columns ≤ (f.top + f.rows) * columns =
+        mul-le-mul_right columns (let r = inside.some_rows in omega (arith, r)) in
+        let b = inside.few in
+        omega (arith, a, b, w, c)
+
+    pub row-few : (row : ℕ) → row < f.rows → row * f.columns < 64
+    row-few row below =
+        let a : (row + 1) * f.columns ≤ f.rows * f.columns = mul-le-mul_right f.columns (omega (arith, below)) in
+        let b = few-cut in
+        let c = inside.some_columns in
+        omega (arith, a, b, c)
+
+    pub columns-few : (row : ℕ) → 1 ≤ row → row < f.rows → columns < 64
+    columns-few row later below =
+        let a : 2 * columns ≤ (f.top + f.rows) * columns = mul-le-mul_right columns (omega (arith, later, below)) in
+        let b = inside.few in
+        omega (arith, a, b)
 
     -- the rows of a box with all columns
     pub cut-whole : f.columns ≡ columns → (moved mask : ℕ) → ((i : ℕ) → bit_at moved i ≡ bit_at word (i + f.top * columns))

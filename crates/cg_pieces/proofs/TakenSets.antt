@@ -15,9 +15,9 @@ use Rattle.cg_pieces.specs.declared.field.Field.{Field}
 use Rattle.cg_pieces.specs.Boxes.{cropped}
 use Rattle.cg_pieces.specs.Cells.{Joined}
 use Rattle.cg_pieces.specs.Cells.Linked.{here, step}
-use Rattle.cg_pieces.specs.Moving.{piece_at}
+use Rattle.cg_pieces.specs.Moving.{AreMoving, piece_at}
 use Rattle.cg_pieces.specs.Neighbours.{IsNeighbours, Neighbours, are_joined, cell_game, has_move, is_first, is_least, is_next, is_piece_cell}
-use Rattle.cg_pieces.specs.Words.{AreLeft, AreMoving, IsFieldOf, IsSetFrom, IsTaken, JoinedIn, in_word}
+use Rattle.cg_pieces.specs.Words.{AreLeft, IsFieldOf, IsSetFrom, IsTaken, JoinedIn, in_word}
 use Rattle.cg_pieces.proofs.FirstCells.{joined-move, move-joined}
 use Rattle.cg_pieces.proofs.GrowingSets.{and-one, and-parts, bit-below, not-one, not-zero, other_bits}
 use Rattle.cg_pieces.proofs.NeighbourSets.{all-each, each-all, joined-so, neighbours-cell_game, piece-cell-below, so-joined}

@@ -9,9 +9,9 @@ use Rattle.cg_moves.specs.Rising.{counted}
 use Rattle.cg_pieces.specs.declared.field.Field.{Field}
 use Rattle.cg_pieces.specs.Boxes.{cropped}
 use Rattle.cg_pieces.specs.Cells.Linked.{here}
-use Rattle.cg_pieces.specs.Moving.{piece_at}
+use Rattle.cg_pieces.specs.Moving.{AreMoving, piece_at}
 use Rattle.cg_pieces.specs.Neighbours.{IsNeighbours, Neighbours, are_joined, is_first}
-use Rattle.cg_pieces.specs.Words.{AreLeft, AreMoving, IsFieldOf, IsTaken, JoinedIn}
+use Rattle.cg_pieces.specs.Words.{AreLeft, IsFieldOf, IsTaken, JoinedIn}
 use Rattle.cg_pieces.proofs.FirstCells.{none-more, one-more}
 use Rattle.cg_pieces.proofs.GrowingSets.{and-parts, bit-below, not-zero, other_bits}
 use Rattle.cg_pieces.proofs.LastBits.{first-first, first-one}

@@ -2,7 +2,7 @@
 pub mod Cells
 pub mod Boxes
 pub mod Neighbours
--- what private contracts cite, and what proofs need here
 pub mod Moving
+-- what private contracts cite, and what proofs need here
 pub mod Frames
 pub mod Words

@@ -23,6 +23,8 @@ is_next width k l =
     (is_below width k l || is_below width l k) || (is_beside width k l || is_beside width l k)
 
 pub record Neighbours : Type 0 where
+  -- the symbols of the boards
+  pub symbols : List ℕ
   -- the symbol of the other cells of a piece
   pub blank : ℕ
   -- cells with this symbol form pieces

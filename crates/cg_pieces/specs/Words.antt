@@ -1,22 +1,21 @@
 -- Sets of cells in words: bit i is 1 exactly where cell i is in the set.
-use Rattle.std.specs.Prelude.{◌≡◌, ◌⊎◌, ℕ, ◌<◌, ◌≤◌, ◌==◌, ◌||◌, Bool, false, true, List, length, slice_index}
+use Rattle.std.specs.Prelude.{◌≡◌, ◌⊎◌, ℕ, ◌<◌, ◌≤◌, ◌==◌, ◌||◌, Bool, true, length}
 use Rattle.std.specs.Int.{bit_at}
-use Rattle.cg_moves.specs.declared.player.Player.TheVariants.{Left, Right}
 use Rattle.cg_moves.specs.Grid.{Grid}
 use Rattle.cg_moves.specs.Words.{Marks}
 use Rattle.cg_pieces.specs.declared.field.Field.{Field}
 use Rattle.cg_pieces.specs.Boxes.{column_of}
 use Rattle.cg_pieces.specs.Cells.{Linked}
-use Rattle.cg_pieces.specs.Moving.{MovesWith, is_behind, moves_between}
 use Rattle.cg_pieces.specs.Neighbours.{Neighbours, are_joined, is_below, is_beside, is_least, is_next, is_piece_cell}
 
 -- the bits of the first word are bits of the second
 abbrev pub IsWithin : ℕ → ℕ → Type 0
 IsWithin a b = (k : ℕ) → bit_at a k ≡ 1 → bit_at b k ≡ 1
 
--- there are columns, and of the open cells those of the first column are known
+-- there are 1 to 64 columns, and of the open cells those of the first column are known
 pub record IsField (f : Field) : Type 0 where
   pub wide : 0 < f.columns
+  pub few : f.columns ≤ 64
   pub starts : (k : ℕ) → bit_at f.cells k ≡ 1 → column_of f.columns k ≡ 0 → bit_at f.first_column k ≡ 1
   pub others : (k : ℕ) → bit_at f.cells k ≡ 1 → ¬ (column_of f.columns k ≡ 0) → bit_at f.first_column k ≡ 0
 
@@ -64,53 +63,6 @@ pub record IsGrowing (f : Field) (cell set : ℕ) : Type 0 where
   pub within : IsWithin set f.cells
   pub joined : (k : ℕ) → bit_at set k ≡ 1 → JoinedIn f cell k
 
--- the word has the cells that form pieces and have one of the first so many symbols, and no others
-pub record IsOpenTo (n : Neighbours) (p : Grid) (end word : ℕ) : Type 0 where
-  pub only : (k : ℕ) → bit_at word k ≡ 1 → is_piece_cell n p k ≡ true
-  pub done : (k j : ℕ) → j < end → slice_index p.cells k ≡ slice_index p.symbols j → is_piece_cell n p k ≡ true
-      → bit_at word k ≡ 1
-
--- the cells with this symbol if they form pieces, and else none
-pub record IsPlaces (n : Neighbours) (p : Grid) (symbol word : ℕ) : Type 0 where
-  pub some : n.forms_pieces symbol ≡ true → Marks word (λ i. slice_index p.cells i == symbol)
-  pub none : n.forms_pieces symbol ≡ false → word ≡ 0
-
--- the words are those of the first so many symbols
-abbrev pub ArePlacesTo : Neighbours → Grid → ℕ → List ℕ → Type 0
-ArePlacesTo n p end words = (j : ℕ) → j < end → IsPlaces n p (slice_index p.symbols j) (slice_index words j)
-
-abbrev pub ArePlaces : Neighbours → Grid → List ℕ → Type 0
-ArePlaces n p words = ArePlacesTo n p (length p.symbols) words
-
--- the cells on which some player has a move together with the cell below or the next one in the row
-pub record AreMoving (n : Neighbours) (p : Grid) (word : ℕ) : Type 0 where
-  pub only : (k : ℕ) → bit_at word k ≡ 1 → MovesWith n p k
-  pub all : (k l : ℕ) → is_behind p k l ≡ true → moves_between n p k l ≡ true → bit_at word k ≡ 1
-
--- of these, those with this symbol
-pub record AreMovingFrom (n : Neighbours) (p : Grid) (one word : ℕ) : Type 0 where
-  pub only : (k : ℕ) → bit_at word k ≡ 1 → MovesWith n p k
-  pub all : (k l : ℕ) → slice_index p.cells k ≡ one → is_behind p k l ≡ true → moves_between n p k l ≡ true
-      → bit_at word k ≡ 1
-
--- of the cells with the one symbol, those on which some player has a move together with a cell of the other symbol that stands
--- behind it so
-pub record AreMovingBy (n : Neighbours) (p : Grid) (behind : ℕ → ℕ → Bool) (one other word : ℕ) : Type 0 where
-  pub only : (k : ℕ) → bit_at word k ≡ 1 → MovesWith n p k
-  pub all : (k l : ℕ) → slice_index p.cells k ≡ one → slice_index p.cells l ≡ other → behind k l ≡ true
-      → moves_between n p k l ≡ true → bit_at word k ≡ 1
-
--- of these, those where it is below or next in the row
-abbrev pub AreMovingPair : Neighbours → Grid → ℕ → ℕ → ℕ → Type 0
-AreMovingPair n p one other word = AreMovingBy n p (is_behind p) one other word
-
--- some player has a move on adjacent cells with these symbols, of which the second is below the first, or beside it,
--- whichever is the first of the move
-abbrev pub some_allowed : Neighbours → Bool → Bool → ℕ → ℕ → Bool
-some_allowed n below beside one other =
-    (n.allowed Left below beside one other || n.allowed Right below beside one other)
-    || (n.allowed Left false false other one || n.allowed Right false false other one)
-
 -- the cells that form pieces and are joined with none of the cells before this one
 pub record AreLeft (n : Neighbours) (p : Grid) (end word : ℕ) : Type 0 where
   pub only : (k : ℕ) → bit_at word k ≡ 1 → is_piece_cell n p k ≡ true
@@ -131,26 +83,9 @@ IsSet p set = (first : ℕ) × IsSetFrom p set first
 abbrev pub in_word : ℕ → ℕ → Bool
 in_word set k = bit_at set k == 1
 
--- the cells of a set in rows of this width, of which there are so many cells, as if all rows were one
-pub record IsInOneRow (width size set line : ℕ) : Type 0 where
-  pub all : (k : ℕ) → k < size → bit_at set k ≡ 1 → bit_at line (column_of width k) ≡ 1
-  pub only : (c : ℕ) → bit_at line c ≡ 1 → (k : ℕ) × (bit_at set k ≡ 1) × (column_of width k ≡ c)
-
 -- the joined set of the cell if it is the first of it, and else no cells
 pub record IsTaken (n : Neighbours) (p : Grid) (cell set : ℕ) : Type 0 where
   pub only : (k : ℕ) → bit_at set k ≡ 1
       → (is_piece_cell n p cell ≡ true) × (is_least n p cell ≡ true) × (are_joined n p cell k ≡ true)
   pub all : (k : ℕ) → is_piece_cell n p cell ≡ true → is_least n p cell ≡ true → are_joined n p cell k ≡ true
       → bit_at set k ≡ 1
-
--- of the moving cells with this symbol, those with one of the first so many symbols on the other cell
-pub record AreMovingTo (n : Neighbours) (p : Grid) (one end word : ℕ) : Type 0 where
-  pub only : (k : ℕ) → bit_at word k ≡ 1 → MovesWith n p k
-  pub all : (k l j : ℕ) → slice_index p.cells k ≡ one → j < end → slice_index p.cells l ≡ slice_index p.symbols j
-      → is_behind p k l ≡ true → moves_between n p k l ≡ true → bit_at word k ≡ 1
-
--- the moving cells with one of the first so many symbols
-pub record AreMovingBefore (n : Neighbours) (p : Grid) (end word : ℕ) : Type 0 where
-  pub only : (k : ℕ) → bit_at word k ≡ 1 → MovesWith n p k
-  pub all : (k l j : ℕ) → j < end → slice_index p.cells k ≡ slice_index p.symbols j → is_behind p k l ≡ true
-      → moves_between n p k l ≡ true → bit_at word k ≡ 1

@@ -1,63 +1,66 @@
 //! The pieces of a board.
-ghost use Rattle.std.specs.Prelude.{◌≡◌, ◌++◌, [], Contains, IfOk};
+ghost use Rattle.std.specs.Prelude.{◌≡◌, ◌++◌, ◌%◌, ◌==◌, ◌&&◌, IfOk, length, nat_lt};
+ghost use Rattle.cg_moves.specs.Words.{Marks};
 ghost use Rattle.cg_pieces.specs.Cells.{pieces_of};
-ghost use Rattle.cg_pieces.specs.Moving.{piece_at};
+ghost use Rattle.cg_pieces.specs.Moving.{AreMoving, piece_at};
 ghost use Rattle.cg_pieces.specs.Neighbours.{cell_game};
-ghost use Rattle.cg_pieces.specs.Words.{AreMoving, IsTaken};
+ghost use Rattle.cg_pieces.specs.Words.{IsTaken};
 
 use crate::NeighbourRules;
 use crate::field::field_of;
 use crate::frame::crop;
-use crate::moving::moving_cells;
-use crate::places::places_of;
 use cg_moves::{Board, Boards};
 use std::alloc::{AllocError, Global};
 
-/// The boards, with the piece of this set behind them, if some player has a move in it.
-fn with_piece<N: NeighbourRules>(
+/// Puts the piece of this set behind the boards, if some player has a move in it.
+#[inline(always)]
+fn put_piece<N: NeighbourRules>(
     rules: &N,
     board: &Board,
+    first_column: u64,
     moving: u64,
     set: u64,
     cell: u8,
-    boards: Vec<Board>,
-) -> Result<Vec<Board>, AllocError>
-    requires blank { Contains board.now.symbols (N.neighbours rules.now).blank }
+    boards: &mut Vec<Board>,
+) -> Result<(), AllocError>
+    requires symbols { board.now.symbols ≡ (N.neighbours rules.now).symbols }
+    requires first { Marks first_column (λ i. nat_lt i (length board.now.cells) && (i % board.now.columns == 0)) }
     requires moving { AreMoving (N.neighbours rules.now) board.now moving }
     requires set { IsTaken (N.neighbours rules.now) board.now cell set }
-    ensures { IfOk result (λ more. more.items ≡ boards.items ++ piece_at (N.neighbours rules.now) board.now cell) }
+    ensures { IfOk result (λ _. boards.new.items ≡
+        boards.old.items ++ piece_at (N.neighbours rules.now) board.now cell) }
 {
     if set & moving == 0 {
-        return Ok(boards);
+        return Ok(());
     }
-    let piece = crop(board, set, cell, rules.blank());
-    let mut boards = boards;
+    let blank = rules.blank_index();
+    let piece = crop(board, first_column, set, cell, blank);
     boards.push(piece)?;
-    Ok(boards)
+    Ok(())
 }
 
-/// The pieces of the board, as [`pieces`] lists them, in the room of these boards, of which there are none.
+/// Makes the list that of the pieces of the board, as [`pieces`] lists them.
 pub fn pieces_into<N: NeighbourRules>(
     rules: &N,
     board: &Board,
-    room: Vec<Board>,
-) -> Result<Vec<Board>, AllocError>
-    requires blank { Contains board.now.symbols (N.neighbours rules.now).blank }
-    requires room { room.items ≡ [] }
-    ensures { IfOk result (λ boards. boards.items ≡ pieces_of (cell_game (N.neighbours rules.now)) board.now) }
+    room: &mut Vec<Board>,
+) -> Result<(), AllocError>
+    requires { board.now.symbols ≡ (N.neighbours rules.now).symbols }
+    ensures { IfOk result (λ _. room.new.items ≡ pieces_of (cell_game (N.neighbours rules.now)) board.now) }
 {
-    let places = places_of(rules, board);
-    let field = field_of(rules, board, &places);
-    let moving = moving_cells(rules, board, field, &places);
-    let mut found = room;
-    let mut left = field.cells;
+    room.clear();
+    let first_column = board.first_column();
+    let cells = rules.piece_cells(board);
+    let moving = rules.moving_cells(board, cells, first_column);
+    let field = field_of(rules, board, cells, first_column);
+    let mut left = cells;
     while left & moving != 0 {
         let cell = left.trailing_zeros() as u8;
         let set = field.joined(cell);
-        found = with_piece(rules, board, moving, set, cell, found)?;
+        put_piece(rules, board, first_column, moving, set, cell, room)?;
         left &= !set;
     }
-    Ok(found)
+    Ok(())
 }
 
 /// The pieces of the board: for each joined set of cells that form pieces in which some player has a move, the board of the
@@ -67,9 +70,10 @@ pub fn pieces<N: NeighbourRules>(
     rules: &N,
     board: &Board,
 ) -> Result<Boards, AllocError>
-    requires { Contains board.now.symbols (N.neighbours rules.now).blank }
+    requires { board.now.symbols ≡ (N.neighbours rules.now).symbols }
     ensures { IfOk result (λ boards. boards ≡ pieces_of (cell_game (N.neighbours rules.now)) board.now) }
 {
-    let boards = pieces_into(rules, board, Vec::new(alloc))?;
+    let mut boards = Vec::new(alloc);
+    pieces_into(rules, board, &mut boards)?;
     Ok(Boards::of(boards))
 }

@@ -5,8 +5,6 @@ mod cutting;
 mod field;
 mod frame;
 pub mod laws;
-mod moving;
-mod places;
 mod rules;
 
 pub use cutting::{pieces, pieces_into};

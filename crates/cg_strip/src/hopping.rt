@@ -134,52 +134,50 @@ fn put_hops_at(
     }
 }
 
-/// The boards after the player's hops, from the first cell on, put into the room.
+/// Puts the boards after the player's hops, from the first cell on, in the place of these boards.
 fn hops_on(
     alloc: Global,
     board: &Board,
     player: Player,
-    room: Vec<Board>,
-) -> Result<Vec<Board>, AllocError>
-    requires has { toads_game.has board.now ≡ true }
-    requires room { room.items ≡ [] }
-    ensures { IfOk result (λ boards. boards.items ≡
+    boards: &mut Vec<Board>,
+) -> Result<(), AllocError>
+    requires { toads_game.has board.now ≡ true }
+    ensures { IfOk result (λ _. boards.new.items ≡
         map (with_cells board.now) (hops_below player board.now.cells (length board.now.cells))) }
 {
     // Read for the proof alone: the board has at most 64 cells.
     let _size = board.size();
     let words = hop_words(board, player);
-    let mut boards = room;
+    boards.clear();
     let all = words.steps | words.jumps;
     let mut next = 0;
     let mut left = moved_back(all, next);
     while left != 0 {
         let cell = next + left.trailing_zeros() as u8;
-        put_hops_at(alloc, board, player, words, cell, &mut boards)?;
+        put_hops_at(alloc, board, player, words, cell, boards)?;
         next = cell + 1;
         left = moved_back(all, next);
     }
-    Ok(boards)
+    Ok(())
 }
 
-/// The boards after the player's hops, put into the room: Left's from the first cell on, and Right's from the last one back, so
-/// that they rise.
+/// Puts the boards after the player's hops in the place of these boards: Left's from the first cell on, and Right's from the
+/// last one back, so that they rise.
 pub(crate) fn hops(
     alloc: Global,
     board: &Board,
     player: Player,
-    room: Vec<Board>,
-) -> Result<Vec<Board>, AllocError>
-    requires has { toads_game.has board.now ≡ true }
-    requires room { room.items ≡ [] }
-    ensures { IfOk result (λ boards. boards.items ≡ map (with_cells board.now) (hops_made player board.now.cells)) }
+    boards: &mut Vec<Board>,
+) -> Result<(), AllocError>
+    requires { toads_game.has board.now ≡ true }
+    ensures { IfOk result (λ _. boards.new.items ≡ map (with_cells board.now) (hops_made player board.now.cells)) }
 {
-    let mut boards = hops_on(alloc, board, player, room)?;
+    hops_on(alloc, board, player, boards)?;
     match player {
-        Player::Left => Ok(boards),
+        Player::Left => Ok(()),
         Player::Right => {
             boards.reverse();
-            Ok(boards)
+            Ok(())
         }
     }
 }

@@ -5,6 +5,7 @@ ghost use Rattle.cg_strip.specs.ToadsBoards.{IsToadsBoard, IsNoToadsBoard};
 use crate::hopping::hops;
 use cg_moves::{Board, BoardFault, Boards, Pieces, Player, Rules, read_grid, risen};
 use std::alloc::{AllocError, Global};
+use std::mem;
 
 /// Toads and Frogs: toads, which are Left's, step and jump to the right, and frogs, which are Right's, to the left.
 #[derive(Clone, Copy, Debug, PartialEq, Eq)]
@@ -19,7 +20,8 @@ impl Rules for Toads {
     ghost lawful = { λ _. toads_lawful };
 
     fn moves(&self, alloc: Global, board: &Board, player: Player) -> Result<Boards, AllocError> {
-        let boards = hops(alloc, board, player, Vec::new(alloc))?;
+        let mut boards = Vec::new(alloc);
+        hops(alloc, board, player, &mut boards)?;
         risen(alloc, board, boards)
     }
 
@@ -28,10 +30,12 @@ impl Rules for Toads {
         alloc: Global,
         board: &Board,
         player: Player,
-        room: Vec<Board>,
-    ) -> Result<Vec<Board>, AllocError> {
-        let boards = hops(alloc, board, player, room)?;
-        Ok(risen(alloc, board, boards)?.into_vec())
+        room: &mut Vec<Board>,
+    ) -> Result<(), AllocError> {
+        hops(alloc, board, player, room)?;
+        let boards = mem::replace(room, Vec::new(alloc));
+        *room = risen(alloc, board, boards)?.into_vec();
+        Ok(())
     }
 
     fn pieces(&self, _alloc: Global, _board: &Board) -> Result<Pieces, AllocError> {

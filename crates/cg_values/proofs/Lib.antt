@@ -11,4 +11,5 @@ pub mod ItemSteps
 pub mod GiveSteps
 pub mod AddSteps
 pub mod JoinSteps
+pub mod Fronts
 pub mod ValueSteps

@@ -1,17 +1,19 @@
 -- The values of the parts that play can come to, made one after another.
-use Rattle.std.proofs.Common.{◌≡◌, ◌≢◌, ℕ, suc, ◌+◌, ◌≤◌, ◌<◌, arith, ap, sym, ◌∙◌, subst, true, List, [], ◌∷◌, ◌++◌, append_assoc, Result, Ok, Err, take, drop, get_or, length}
-use Rattle.std.specs.Prelude.{All, OnOk}
+use Rattle.std.proofs.Common.{◌≡◌, ◌≢◌, ℕ, suc, ◌+◌, ◌≤◌, ◌<◌, arith, ap, sym, ◌∙◌, subst, true, ◌⊎◌, inl, inr, List, [], ◌∷◌, ◌++◌, append_assoc, Result, Ok, Err, take, drop, get_or, length}
+use Rattle.std.specs.Prelude.{All, IfErr, OnOk}
 use Rattle.std.specs.List.{flat_map}
 use Rattle.std.proofs.lemmas.Grind.{flat_map-append}
 use Rattle.std.proofs.lemmas.List.{take_all}
 use Rattle.std.proofs.lemmas.List.Elements.{All-get_or}
 use Rattle.cg_cells.specs.Store.{Spends, State}
+use Rattle.cg_canon.proofs.ItemLaws.{refused-front}
 use Rattle.cg_canon.proofs.Keeping.{keeps_then, spends_keeps}
 use Rattle.cg_canon.proofs.MadeSteps.{made_as, made_then, passed, stopped}
-use Rattle.cg_canon.specs.Items.{AllPass, Item}
+use Rattle.cg_canon.specs.Items.{AllPass, Item, WasRefused}
 use Rattle.cg_canon.specs.Made.{ItemsMade}
 use Rattle.cg_canon.specs.Works.{Keeps}
 use Rattle.cg_canon.specs.declared.fault.ValueFault.{ValueFault}
+use Rattle.cg_canon.specs.declared.fault.ValueFault.TheVariants.{Memory}
 use Rattle.cg_canon.specs.declared.rest.WorkRest.{WorkRest}
 use Rattle.cg_nodes.proofs.Later.{stand_later}
 use Rattle.cg_nodes.specs.Can.{can}
@@ -26,7 +28,8 @@ use Rattle.cg_moves.specs.Rules.{GameRules, followers}
 use Rattle.cg_moves.specs.declared.opened.NextPlaces.{NextPlaces}
 use Rattle.cg_moves.specs.declared.opened.Opened.{Opened}
 use Rattle.cg_values.specs.Notes.{AreNoted, IsNoted}
-use Rattle.cg_values.specs.Parts.{HoldAt, IsOpened, part_items, parts_of, values_of}
+use Rattle.cg_values.specs.Parts.{FrontsNoted, HoldAt, IsOpened, part_items, parts_of, values_of}
+use Rattle.cg_values.proofs.Fronts.{front-cut, noted-front, refused-apart}
 use Rattle.cg_values.proofs.HandleSteps.{held, hold-as, stand-more}
 use Rattle.cg_values.proofs.JoinSteps.{flat-next, values-next}
 use Rattle.cg_values.proofs.NoteSteps.{noted-later, noted-more}
@@ -105,6 +108,29 @@ module _ {R : Type 0} (s : State Meant (WorkRest R)) (r : GameRules) (spare : �
           made_as s u ((items_of (take i ps) ++ part_items s.rest.limit r p) ++ items_of (drop (suc i) ps)) (items_of boards) v
           (all_items ∙ ap items_of is) (stopped s u (items_of (take i ps) ++ part_items s.rest.limit r p) (items_of (drop (suc i) ps)) q v e a b
           items_made)
+
+      -- what was made before the part is noted, and no front with the part passes
+      pub parts_fronts : (e : ValueFault) → q ≡ Err e → e ≢ Memory → FrontsNoted s u r boards
+      parts_fronts e a other front behind cost split passes =
+          by (front-cut (take i ps) p (drop (suc i) ps) front behind (sym (split_read ps i p within read) ∙ is ∙ split))
+        where
+          upto : List Item
+          upto = items_of (take i ps) ++ part_items s.rest.limit r p
+
+          refused : WasRefused e s.rest.share s.rest.spent upto u.rest.spent
+          refused =
+              let P : Result T ValueFault → Type 0 = λ z. IfErr z (λ f. WasRefused f s.rest.share s.rest.spent upto u.rest.spent) in
+              subst P a items_made.refused
+
+          by : ((m : List Grid) × (take i ps ≡ front ++ m)) ⊎ ((m : List Grid) × (front ≡ take i ps ++ p ∷ m)) → AreNoted u r front
+          by (inl m) = noted-front u r (take i ps) front m.0 m.1 (noted-later t u r item.keeps.known (take i ps) item.keeps.noted made.noted)
+          by (inr m) =
+              let all : items_of front ≡ upto ++ items_of m.0 =
+              ap items_of m.1 ∙ flat_map-append (part_items s.rest.limit r) (take i ps) (p ∷ m.0)
+              ∙ sym (append_assoc (items_of (take i ps)) (part_items s.rest.limit r p) (items_of m.0)) in
+              let P : List Item → Type 0 = λ z. AllPass s.rest.share s.rest.spent z cost in
+              absurd (refused-apart e s.rest.share s.rest.spent (upto ++ items_of m.0) cost u.rest.spent other (subst P all passes)
+              (refused-front e s.rest.share s.rest.spent u.rest.spent upto (items_of m.0) refused))
 
       pub parts_more : (ks : List ℕ) (h : ℕ) (x : T) → q ≡ Ok x → StandsFor u h (can (raw r p)) → spare ≤ u.spare
           → ks ≡ handles ++ (h ∷ []) → OnOk q (r.number ≢ 0 → IsNoted u r p) → PartsMade s u r (take (i + 1) ps) ks spare

@@ -1,7 +1,8 @@
 -- Boards in parts: a part is a piece of a board where the rules cut, and the board itself where they don't.
 use Rattle.std.specs.Prelude.{◌≡◌, ℕ, List, [], ◌∷◌, ◌++◌, map, length, slice_index, if◌then◌else◌}
 use Rattle.std.specs.List.{flat_map}
-use Rattle.cg_canon.specs.Items.{Item}
+use Rattle.cg_canon.specs.Items.{AllPass, Item}
+use Rattle.cg_canon.specs.declared.rest.WorkRest.{WorkRest}
 use Rattle.cg_cells.specs.Store.{State}
 use Rattle.cg_form.specs.Game.{Game}
 use Rattle.cg_nodes.specs.Boards.{AreBelow}
@@ -13,6 +14,7 @@ use Rattle.cg_moves.specs.Grid.{Grid}
 use Rattle.cg_moves.specs.Opened.{AreNext, StandAt, uncut}
 use Rattle.cg_moves.specs.Raw.{raw}
 use Rattle.cg_moves.specs.Rules.{GameRules, cuts, followers, pieces}
+use Rattle.cg_values.specs.Notes.{AreNoted}
 use Rattle.cg_values.specs.Items.{parts_reach, sum_up_items, value_item}
 
 abbrev pub parts_of : GameRules → Grid → List Grid
@@ -47,3 +49,9 @@ joins limit r p = sum_up_items limit (map (raw r) (parts_of r p))
 -- of a part: of joining the parts of each board that a move leads to, Left's moves first, and its own value
 abbrev pub part_items : ℕ → GameRules → Grid → List Item
 part_items limit r p = flat_map (joins limit r) (followers r p) ++ (value_item r p ∷ [])
+
+-- of these parts, made in their order, each front all of whose items pass is noted: so each part is whose own item was charged
+abbrev pub FrontsNoted : {R : Type 0} → State Meant (WorkRest R) → State Meant (WorkRest R) → GameRules → List Grid → Type 0
+FrontsNoted {R} s t r ps =
+    (front behind : List Grid) (total : ℕ) → ps ≡ front ++ behind
+    → AllPass s.rest.share s.rest.spent (flat_map (part_items s.rest.limit r) front) total → AreNoted t r front

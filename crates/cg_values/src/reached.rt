@@ -1,11 +1,12 @@
 //! The value of a board.
-ghost use Rattle.std.specs.Prelude.{◌≡◌, true, OnOk};
+ghost use Rattle.std.specs.Prelude.{◌≡◌, ◌≢◌, ◌≤◌, true, IfErr, OnOk, length};
 ghost use Rattle.cg_canon.specs.Made.{Gives};
 ghost use Rattle.cg_canon.specs.Works.{work_state};
 ghost use Rattle.cg_nodes.specs.Can.{can};
 ghost use Rattle.cg_moves.specs.Raw.{raw};
 ghost use Rattle.cg_values.specs.Items.{board_items, parts_reach};
 ghost use Rattle.cg_values.specs.Notes.{AreNoted, MayNote};
+ghost use Rattle.cg_values.specs.Parts.{FrontsNoted};
 
 use crate::Adder;
 use crate::joining::joined;
@@ -28,7 +29,8 @@ use std::alloc::Global;
 /// before it cost is spent. Where there are more such boards or pieces than the limit, the one item is refused by `Positions`.
 ///
 /// Values are noted on the cells of their boards, unless the game's number is 0: in the end the cell of each board, or piece,
-/// that play can come to is known, and a value is noted there. So the rules must be such that the note on a board's cell is
+/// that play can come to is known, and a value is noted there. Where an item is refused, that holds of each board, or piece,
+/// whose own item was charged before. So the rules must be such that the note on a board's cell is
 /// the value of that board. A value that is found there isn't made again, but is charged all the same.
 pub fn value_of<B: BoardForms, S: CellStore<GameFacts<B>>, R: Rules, A: Adder>(
     alloc: Global,
@@ -42,6 +44,10 @@ pub fn value_of<B: BoardForms, S: CellStore<GameFacts<B>>, R: Rules, A: Adder>(
     ensures gives { Gives (work_state S.state work.old) (work_state S.state work.new)
         (board_items work.old.limit (R.game rules.now) start.now) (can (raw (R.game rules.now) start.now)) result }
     ensures noted { OnOk result (AreNoted (work_state S.state work.new) (R.game rules.now)
+        (parts_reach (R.game rules.now) start.now)) }
+    ensures noted_before { IfErr result (λ fault. fault ≢ ValueFault.Memory
+        → length (parts_reach (R.game rules.now) start.now) ≤ work.old.limit
+        → FrontsNoted (work_state S.state work.old) (work_state S.state work.new) (R.game rules.now)
         (parts_reach (R.game rules.now) start.now)) }
 {
     let limit = work.limit();

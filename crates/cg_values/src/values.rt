@@ -1,5 +1,5 @@
 //! The values of the parts that play can come to, one after another.
-ghost use Rattle.std.specs.Prelude.{◌≡◌, ◌≢◌, ◌≤◌, [], true, All, IfOk, OnOk, length, map};
+ghost use Rattle.std.specs.Prelude.{◌≡◌, ◌≢◌, ◌≤◌, [], true, All, IfErr, IfOk, OnOk, length, map};
 ghost use Rattle.std.specs.List.{flat_map};
 ghost use Rattle.cg_canon.specs.Made.{ItemsMade};
 ghost use Rattle.cg_canon.specs.Works.{work_state};
@@ -10,7 +10,7 @@ ghost use Rattle.cg_moves.specs.Opened.{AreNext};
 ghost use Rattle.cg_moves.specs.Raw.{raw};
 ghost use Rattle.cg_moves.specs.Rules.{boards_after, followers};
 ghost use Rattle.cg_values.specs.Notes.{AreNoted, IsNoted, MayNote};
-ghost use Rattle.cg_values.specs.Parts.{HoldAt, part_items, parts_of, values_of};
+ghost use Rattle.cg_values.specs.Parts.{FrontsNoted, HoldAt, part_items, parts_of, values_of};
 
 use crate::Adder;
 use crate::expecting::{boards_ahead, expect_boards};
@@ -89,6 +89,8 @@ pub(crate) fn part_values<B: BoardForms, S: CellStore<GameFacts<B>>, R: Rules, A
     ensures values { IfOk result (λ handles. StandFor (work_state S.state work.new) handles.items
         (values_of (R.game rules.now) opened.now.boards)) }
     ensures noted { OnOk result (AreNoted (work_state S.state work.new) (R.game rules.now) opened.now.boards) }
+    ensures fronts { IfErr result (λ fault. fault ≢ ValueFault.Memory → FrontsNoted (work_state S.state work.old)
+        (work_state S.state work.new) (R.game rules.now) opened.now.boards) }
     ensures made { ItemsMade (work_state S.state work.old) (work_state S.state work.new)
         (flat_map (part_items work.old.limit (R.game rules.now)) opened.now.boards) result }
     ensures more { (work_state S.state work.old).spare ≤ (work_state S.state work.new).spare }

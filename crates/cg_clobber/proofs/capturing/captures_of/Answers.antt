@@ -1,5 +1,6 @@
 use Rattle.std.proofs.Common.{◌+◌, ◌∙◌, ap}
 use Rattle.std.specs.Int.{bit_at}
+use Rattle.cg_clobber.proofs.Placing.{symbols-are}
 use Rattle.cg_clobber.proofs.capturing.captures_of.Goals as goal
 
 pub returns : goal.returns
@@ -12,3 +13,6 @@ returns c =
           ∙ c.captures_up-up.ensures (i + p.columns);
       from_next = λ i. c.moved_back-2.ensures i ∙ c.captures_back-back.ensures (i + 1);
     }
+
+pub stones_of-stones-requires-clause-symbols : goal.stones_of-stones-requires-clause-symbols
+stones_of-stones-requires-clause-symbols c = symbols-are c.args.board.now c.requires

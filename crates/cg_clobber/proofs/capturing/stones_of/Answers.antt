@@ -2,8 +2,8 @@ use Rattle.std.proofs.Common.{arith, subst, sym}
 use Rattle.cg_moves.specs.declared.player.Player.{Player}
 use Rattle.cg_moves.specs.Words.{Marks}
 use Rattle.cg_clobber.specs.Moves.{has_stone, other, own}
-use Rattle.cg_clobber.proofs.CaptureMarks.{wide}
-use Rattle.cg_clobber.proofs.StoneWords.{o-fits, o-marks, x-fits, x-marks}
+use Rattle.cg_pieces.proofs.Frames.{wide-grid}
+use Rattle.cg_clobber.proofs.StoneWords.{o-marks, x-marks}
 use Rattle.cg_clobber.proofs.capturing.stones_of.Goals as goal
 
 pub returns-in-Left : goal.returns-in-Left
@@ -14,14 +14,14 @@ returns-in-Left c =
     let are = c.planes-planes.ensures.planes in
     let P : Player → Type 0 = λ q. Marks w.a (λ i. has_stone p.cells i (own q)) in
     let Q : Player → Type 0 = λ q. Marks w.b (λ i. has_stone p.cells i (other q)) in record {
-      wide = wide p c.requires;
+      wide = wide-grid p g;
       columns = c.columns-columns.ensures.value;
-      own = subst P (sym c.in-Left.is) (x-marks p c.requires g w are);
-      others = subst Q (sym c.in-Left.is) (o-marks p c.requires g w are);
-      first = c.first_column-first.ensures.column;
-      own_fits = x-fits p c.requires g w are;
-      others_fit = o-fits p c.requires g w are;
-      first_fits = omega (arith, c.first_column-first.type_inv);
+      own = subst P (sym c.in-Left.is) (x-marks p c.requires.symbols g w are);
+      others = subst Q (sym c.in-Left.is) (o-marks p c.requires.symbols g w are);
+      first = c.requires.first;
+      own_fits = omega (arith, c.planes-planes.type_inv);
+      others_fit = omega (arith, c.planes-planes.type_inv);
+      first_fits = omega (arith, c.ranges.first_column.fits);
     }
 
 pub returns-in-Right : goal.returns-in-Right
@@ -32,12 +32,12 @@ returns-in-Right c =
     let are = c.planes-planes.ensures.planes in
     let P : Player → Type 0 = λ q. Marks w.b (λ i. has_stone p.cells i (own q)) in
     let Q : Player → Type 0 = λ q. Marks w.a (λ i. has_stone p.cells i (other q)) in record {
-      wide = wide p c.requires;
+      wide = wide-grid p g;
       columns = c.columns-columns.ensures.value;
-      own = subst P (sym c.in-Right.is) (o-marks p c.requires g w are);
-      others = subst Q (sym c.in-Right.is) (x-marks p c.requires g w are);
-      first = c.first_column-first.ensures.column;
-      own_fits = o-fits p c.requires g w are;
-      others_fit = x-fits p c.requires g w are;
-      first_fits = omega (arith, c.first_column-first.type_inv);
+      own = subst P (sym c.in-Right.is) (o-marks p c.requires.symbols g w are);
+      others = subst Q (sym c.in-Right.is) (x-marks p c.requires.symbols g w are);
+      first = c.requires.first;
+      own_fits = omega (arith, c.planes-planes.type_inv);
+      others_fit = omega (arith, c.planes-planes.type_inv);
+      first_fits = omega (arith, c.ranges.first_column.fits);
     }

@@ -15,4 +15,4 @@ returns c =
     let a = c.loop-first.auto.first-end in
     let t = c.loop-first-test.false in
     all_listed c.args.player c.args.board.now c.loop-first.first c.size-first-end.result c.loop-first.boards.items
-    (wide c.args.board.now c.requires.has) (omega (arith, a, t)) c.size-first-end.ensures.value c.loop-first.invariant
+    (wide c.args.board.now c.requires) (omega (arith, a, t)) c.size-first-end.ensures.value c.loop-first.invariant

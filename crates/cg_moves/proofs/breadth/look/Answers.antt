@@ -12,7 +12,7 @@ enter_next-requires g c =
     (look-follow (g.R.Rules.game c.args.rules.now) (g.met.R.Rules.lawful c.args.rules.now) c.args.course g.way
     c.args.found.now c.args.board.now c.args.tasks.now.items c.requires.1) _ _
     c.in_ok-list_followers.ensures.lefts c.in_ok-list_followers.ensures.rights in
-    record { has = next.has; may = c.requires.1.1.0; alone = next.alone; alike = next.alike }
+    record { may = c.requires.1.1.0; enter = next }
 
 pub returns : goal.returns
 returns g c =

@@ -1,6 +1,4 @@
-use Rattle.std.proofs.Common.{map}
-use Rattle.cg_moves.specs.Walking.{board_of}
-use Rattle.cg_moves.proofs.Broad.{among-alike, start-found, start-refused, turned-more, turned-refused}
+use Rattle.cg_moves.proofs.Broad.{start-found, start-refused}
 use Rattle.cg_moves.proofs.CanFollow.{way-lawful, with_rest}
 use Rattle.cg_moves.proofs.FollowLemmas.{passed_on}
 use Rattle.cg_moves.proofs.PlaceLemmas.{at-in}
@@ -34,24 +32,18 @@ look-requires g c κs inside = (
   ),
 )
 
-pub find_all-requires-clause-alike : goal.find_all-requires-clause-alike
-find_all-requires-clause-alike g c =
-    let lawful = way-lawful (g.R.Rules.game c.args.rules.now) (g.met.R.Rules.lawful c.args.rules.now) c.args.course g.way
-    c.requires.1.0 c.requires.1.1.0 in
-    among-alike g.way c.loop-number.found c.loop-number.invariant.found lawful c.requires.1.1.1.0
-    (map board_of c.look.new.tasks.items) c.in_ok-look.ensures
+pub find_all-requires : goal.find_all-requires
+find_all-requires g c = (
+  way-lawful (g.R.Rules.game c.args.rules.now) (g.met.R.Rules.lawful c.args.rules.now) c.args.course g.way c.requires.1.0
+      c.requires.1.1.0,
+  (
+    c.requires.1.1.1.0,
+    (c.loop-number.invariant.found, (c.in_ok-look.ensures, c.loop-number.invariant.within)),
+  ),
+)
 
 pub returns-in_err-find_all : goal.returns-in_err-find_all
 returns-in_err-find_all g c = record {
-  refused = λ e. turned-refused g.way c.loop-number.found c.loop-number.invariant.found (map board_of c.look.new.tasks.items)
-      c.in_ok-look.ensures c.args.limit (c.in_err-find_all.ensures.refused (passed_on c.in_err-find_all.field-0.0
-      c.from_residual-in_err-find_all.result c.from_residual-in_err-find_all.ensures.1 e));
-}
-
-pub loop-number-preserved : goal.loop-number-preserved
-loop-number-preserved g c = record {
-  found = turned-more g.way c.loop-number.found c.loop-number.invariant.found (map board_of c.look.new.tasks.items)
-      c.find_all.new.found c.in_ok-look.ensures c.in_ok-find_all.ensures.found;
-  within = c.in_ok-find_all.ensures.within;
-  none = c.in_ok-find_all.ensures.none;
+  refused = λ e. c.in_err-find_all.ensures.refused (passed_on c.in_err-find_all.field-0.0
+      c.from_residual-in_err-find_all.result c.from_residual-in_err-find_all.ensures.1 e);
 }

@@ -1,6 +1,6 @@
 use Rattle.std.proofs.Common.{refl, arith}
 use Rattle.cg_moves.proofs.CanFollow.{can-enter, own-alike, walk-follow, way-lawful}
-use Rattle.cg_moves.proofs.Entering.{is-entered, seen-less, seen-way}
+use Rattle.cg_moves.proofs.Entering.{entered-again, is-entered, less-again}
 use Rattle.cg_moves.proofs.walk.enter.Goals as goal
 
 pub known-requires : goal.known-requires
@@ -14,10 +14,9 @@ returns-in-Some g c =
     c.requires.1.0 c.requires.1.1.0 in
     record {
       boards = refl;
-      walking = seen-way g.way lawful c.args.seen.now c.args.tasks.now.items c.args.board c.requires.1.1.1.1.1 c.in-Some.place
+      walking = entered-again g.way lawful c.args.seen.now c.args.tasks.now.items c.args.board c.requires.1.1.1.1.1 c.in-Some.place
           c.in-Some.ensures.number c.push.new.items.items c.in_ok-push.ensures;
-      less = seen-less g.way lawful c.args.seen.now c.args.tasks.now.items c.args.board c.requires.1.1.1.1.1 c.in-Some.place
-          c.in-Some.ensures.number;
+      less = less-again g.way lawful c.args.seen.now c.args.tasks.now.items c.args.board c.requires.1.1.1.1.1;
     }
 
 pub list_followers-requires : goal.list_followers-requires
@@ -31,7 +30,7 @@ enter_next-requires g c =
     (walk-follow (g.R.Rules.game c.args.rules.now) (g.met.R.Rules.lawful c.args.rules.now) c.args.course g.way
     c.args.seen.now c.args.tasks.now.items c.args.board c.requires.1) _ _
     c.in_ok-list_followers.ensures.lefts c.in_ok-list_followers.ensures.rights in
-    record { has = next.has; may = c.requires.1.1.0; alone = next.alone; alike = next.alike }
+    record { may = c.requires.1.1.0; enter = next }
 
 pub returns : goal.returns
 returns g c =

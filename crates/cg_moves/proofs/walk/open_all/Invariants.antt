@@ -1,6 +1,5 @@
-use Rattle.std.proofs.Common.{◌≤◌, length, map}
-use Rattle.cg_moves.specs.Walking.{IsWalking, play, visit}
-use Rattle.cg_moves.specs.Walks.{load}
+use Rattle.std.proofs.Common.{◌≤◌, length}
+use Rattle.cg_moves.specs.Walking.{IsWalking, load, play}
 use Rattle.cg_moves.proofs.walk.open_all.Given as goal
 
 abbrev pub ghost-step : goal.ghost-step
@@ -16,4 +15,4 @@ invariant-loop-task g l = record {
 }
 
 abbrev pub decreases-loop-task : goal.decreases-loop-task
-decreases-loop-task g l = load (play g.way) (map visit l.tasks.items)
+decreases-loop-task g l = load (play g.way) l.tasks.items

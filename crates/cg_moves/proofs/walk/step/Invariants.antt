@@ -3,5 +3,8 @@ use Rattle.cg_moves.proofs.walk.step.Given as goal
 abbrev pub ghost-enter : goal.ghost-enter
 ghost-enter g a = g.way
 
+abbrev pub ghost-note : goal.ghost-note
+ghost-note g a = g.way
+
 abbrev pub ghost-leave : goal.ghost-leave
 ghost-leave g a = g.way

@@ -9,7 +9,7 @@ use Rattle.cg_names.specs.Shapes.{sign_of}
 use Rattle.cg_names.proofs.Ends.{more-sign, no_ends, two-none}
 use Rattle.cg_names.proofs.Listing.{item_known}
 use Rattle.cg_names.proofs.Looks.{is_node}
-use Rattle.cg_names.proofs.Memos.{last_size, recalls_later, recalls_then, told_game, told_number}
+use Rattle.cg_names.proofs.Memos.{last_size, recalls_later, told_few, told_game, told_number}
 use Rattle.cg_names.proofs.SignSteps.{sign_star, sign_tiny, tiny_at}
 use Rattle.cg_names.proofs.Stars.{games_front, games_last, no_stars, none_there, some_there, star-is, star-lists, stars_at, stars_none, stars_some}
 use Rattle.cg_names.proofs.look.+look.Goals as goal
@@ -201,7 +201,7 @@ steep-returns-in-None-clause-sign g t c =
     let k = game_at (W c.args.store.now) c.args.last in
     let told = told_game (W c.look.new.store) c.in_ok-look.field-0 k _ _ _ c.in-Game.is c.in_ok-look.ensures.look in
     let node = is_node k _ _ told.2 in
-    more-sign c.args.down c.args.x k node c.one_more.result (c.one_more.ensures k node told.3)
+    more-sign c.args.down c.args.x k node c.one_more.result (c.one_more.ensures.more k node told.3)
     (tiny_at c.args.down c.args.x k _ None told.2 c.in-None.ensures.tiny)
 
 pub steep-returns-in-Some-clause-memo : goal.steep-returns-in-Some-clause-memo
@@ -212,5 +212,16 @@ steep-returns-in-Some-clause-memo g t c =
 pub steep-returns-in-None-clause-memo : goal.steep-returns-in-None-clause-memo
 steep-returns-in-None-clause-memo g t c =
     let W = g.S.CellStore.state in
-    recalls_then c.one_more.result (W c.look.new.store) (W c.tiny.new.store) c.look.new.memo c.tiny.ensures.spends
-    c.in_ok-look.ensures.memo
+    recalls_later (W c.look.new.store) (W c.tiny.new.store) c.look.new.memo c.tiny.ensures.spends c.in_ok-look.ensures.memo
+
+pub steep-one_more-requires : goal.steep-one_more-requires
+steep-one_more-requires g t c =
+    let few = told_few c.look.new.memo c.in_ok-look.field-0 _ _ _ c.in-Game.is c.in_ok-look.ensures.few in
+    let room = c.has_room.ensures in
+    omega arith
+
+pub steep-returns-in-None-clause-few : goal.steep-returns-in-None-clause-few
+steep-returns-in-None-clause-few g t c =
+    let few = told_few c.look.new.memo c.in_ok-look.field-0 _ _ _ c.in-Game.is c.in_ok-look.ensures.few in
+    let more = c.one_more.ensures.few in
+    omega arith

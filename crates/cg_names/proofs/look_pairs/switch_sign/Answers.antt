@@ -6,13 +6,13 @@ use Rattle.cg_names.proofs.Ends.{switch-found, switch-none}
 use Rattle.cg_names.proofs.look_pairs.switch_sign.Goals as goal
 use Rattle.cg_names.proofs.look_pairs.switch_sign.Goals.{else-is_positive-via-then-is_positive+else-is_same, else-is_positive-via-else-is_positive}
 
-pub returns-then-is_same : goal.returns-then-is_same
-returns-then-is_same c i =
+pub returns-then-is_same-clause-sign : goal.returns-then-is_same-clause-sign
+returns-then-is_same-clause-sign c i =
     switch-found c.args.x c.args.y (sym c.is_positive.ensures ∙ c.if-is_positive.true)
     (c.is_same.ensures.same c.if-is_same.true ∙ c.opposite.ensures)
 
-pub returns-else-is_positive : goal.returns-else-is_positive
-returns-else-is_positive c i = switch-none c.args.x c.args.y i (λ p e. elim c.else-is_positive.branch [
+pub returns-else-is_positive-clause-sign : goal.returns-else-is_positive-clause-sign
+returns-else-is_positive-clause-sign c i = switch-none c.args.x c.args.y i (λ p e. elim c.else-is_positive.branch [
   | else-is_positive-via-then-is_positive+else-is_same w ↦
       w.is_same.ensures.other w.if-is_same.false (e ∙ sym w.opposite.ensures)
   | else-is_positive-via-else-is_positive w ↦ differ c.is_positive.result

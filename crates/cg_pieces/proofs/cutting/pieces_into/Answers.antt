@@ -7,15 +7,15 @@ joined-set-requires-clause-inside g c =
     let some = some-left (g.N.NeighbourRules.neighbours c.args.rules.now) (g.met.N.NeighbourRules.lawful c.args.rules.now)
     c.args.board.now c.loop-left.left c.moving_cells-moving.result c.loop-left-test.true in
     cell-open (g.N.NeighbourRules.neighbours c.args.rules.now) (g.met.N.NeighbourRules.lawful c.args.rules.now)
-    c.args.board.now c.loop-left.found.items c.loop-left.left some
+    c.args.board.now c.loop-left.room.items c.loop-left.left some
     (omega (arith, c.loop-left.auto.left-fits)) c.loop-left.invariant c.field_of-field.result c.field_of-field.ensures
 
-pub with_piece-requires-clause-set : goal.with_piece-requires-clause-set
-with_piece-requires-clause-set g c =
+pub put_piece-requires-clause-set : goal.put_piece-requires-clause-set
+put_piece-requires-clause-set g c =
     let some = some-left (g.N.NeighbourRules.neighbours c.args.rules.now) (g.met.N.NeighbourRules.lawful c.args.rules.now)
     c.args.board.now c.loop-left.left c.moving_cells-moving.result c.loop-left-test.true in
     set-taken (g.N.NeighbourRules.neighbours c.args.rules.now) (g.met.N.NeighbourRules.lawful c.args.rules.now)
-    c.args.board.now c.loop-left.found.items c.loop-left.left some
+    c.args.board.now c.loop-left.room.items c.loop-left.left some
     (omega (arith, c.loop-left.auto.left-fits)) c.loop-left.invariant c.field_of-field.result c.field_of-field.ensures
     c.joined-set.result (omega (arith, c.joined-set.type_inv)) c.joined-set.ensures
 
@@ -24,7 +24,7 @@ loop-left-smaller g c =
     let some = some-left (g.N.NeighbourRules.neighbours c.args.rules.now) (g.met.N.NeighbourRules.lawful c.args.rules.now)
     c.args.board.now c.loop-left.left c.moving_cells-moving.result c.loop-left-test.true in
     left-less (g.N.NeighbourRules.neighbours c.args.rules.now) (g.met.N.NeighbourRules.lawful c.args.rules.now)
-    c.args.board.now c.loop-left.found.items c.loop-left.left some
+    c.args.board.now c.loop-left.room.items c.loop-left.left some
     (omega (arith, c.loop-left.auto.left-fits)) c.loop-left.invariant c.field_of-field.result c.field_of-field.ensures
     c.joined-set.result (omega (arith, c.joined-set.type_inv)) c.joined-set.ensures
 
@@ -33,13 +33,13 @@ loop-left-preserved g c =
     let some = some-left (g.N.NeighbourRules.neighbours c.args.rules.now) (g.met.N.NeighbourRules.lawful c.args.rules.now)
     c.args.board.now c.loop-left.left c.moving_cells-moving.result c.loop-left-test.true in
     taken-more (g.N.NeighbourRules.neighbours c.args.rules.now) (g.met.N.NeighbourRules.lawful c.args.rules.now)
-    c.args.board.now c.loop-left.found.items c.loop-left.left some
+    c.args.board.now c.loop-left.room.items c.loop-left.left some
     (omega (arith, c.loop-left.auto.left-fits)) c.loop-left.invariant c.field_of-field.result c.field_of-field.ensures
-    c.joined-set.result (omega (arith, c.joined-set.type_inv)) c.joined-set.ensures c.in_ok-found.found.items
-    c.in_ok-found.ensures
+    c.joined-set.result (omega (arith, c.joined-set.type_inv)) c.joined-set.ensures c.put_piece.new.boards.items
+    c.in_ok-put_piece.ensures
 
 pub returns : goal.returns
 returns g c =
     taken-all (g.N.NeighbourRules.neighbours c.args.rules.now) (g.met.N.NeighbourRules.lawful c.args.rules.now)
-    c.args.board.now c.loop-left.found.items c.loop-left.left c.moving_cells-moving.result c.loop-left-test.false
+    c.args.board.now c.loop-left.room.items c.loop-left.left c.moving_cells-moving.result c.loop-left-test.false
     c.moving_cells-moving.ensures c.loop-left.invariant

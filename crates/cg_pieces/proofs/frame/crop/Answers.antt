@@ -7,11 +7,11 @@ planes_in-planes-requires-clause-set c = (c.args.first, c.requires.set)
 
 pub with_planes-requires : goal.with_planes-requires
 with_planes-requires c =
-    crop-grid c.args.board.now c.size-size.ensures.grid c.args.set c.args.first c.args.blank c.requires.set c.requires.blank
+    crop-grid c.args.board.now c.size-size.ensures.grid c.args.set c.args.first _ c.requires.set c.requires.blank.contained
     c.frame_of-frame.result c.frame_of-frame.ensures c.planes_in-planes.result c.planes_in-planes.ensures
 
 pub returns : goal.returns
 returns c =
     c.with_planes.ensures
-    ∙ crop-is c.args.board.now c.size-size.ensures.grid c.args.set c.args.first c.args.blank c.requires.set c.requires.blank
+    ∙ crop-is c.args.board.now c.size-size.ensures.grid c.args.set c.args.first _ c.requires.set c.requires.blank.contained
     c.frame_of-frame.result c.frame_of-frame.ensures c.planes_in-planes.result c.planes_in-planes.ensures

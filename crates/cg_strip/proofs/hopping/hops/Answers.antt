@@ -10,7 +10,7 @@ pub returns-in-Left : goal.returns-in-Left
 returns-in-Left c =
     let p = c.args.board.now in
     let P : Player → Type 0 = λ q. map (with_cells p) (hops_below q p.cells (length p.cells)) ≡ map (with_cells p) (hops_made q p.cells) in
-    c.in_ok-boards.ensures ∙ subst P (sym c.in-Left.is) (ap (map (with_cells p)) (left p.cells))
+    c.in_ok-hops_on.ensures ∙ subst P (sym c.in-Left.is) (ap (map (with_cells p)) (left p.cells))
   where
     left : (row : List ℕ) → hops_below Left row (length row) ≡ hops_made Left row
     left row = refl
@@ -19,7 +19,7 @@ pub returns-in-Right : goal.returns-in-Right
 returns-in-Right c =
     let p = c.args.board.now in
     let P : Player → Type 0 = λ q. map (with_cells p) (reverse (hops_below q p.cells (length p.cells))) ≡ map (with_cells p) (hops_made q p.cells) in
-    c.reverse.ensures.items ∙ ap reverse c.in_ok-boards.ensures
+    c.reverse.ensures.items ∙ ap reverse c.in_ok-hops_on.ensures
     ∙ map_reversed (with_cells p) (hops_below c.args.player p.cells (length p.cells))
     ∙ subst P (sym c.in-Right.is) (ap (map (with_cells p)) (right p.cells))
   where

@@ -1,8 +1,9 @@
 use Rattle.std.proofs.Common.{rules, ◌<◌, length, ap, ◌∙◌, Err}
 use Rattle.std.proofs.lemmas.Result.{err_from_is_err_and}
 use Rattle.cg_canon.specs.Works.{work_state}
+use Rattle.cg_values.proofs.Fronts.{if_err}
 use Rattle.cg_values.proofs.HandleSteps.{hold-as}
-use Rattle.cg_values.proofs.ValueSteps.{next-within, part-has, part-held, part-next, parts_done, parts_more, parts_stopped, parts_told}
+use Rattle.cg_values.proofs.ValueSteps.{next-within, part-has, part-held, part-next, parts_done, parts_fronts, parts_more, parts_stopped, parts_told}
 use Rattle.cg_values.proofs.values.part_values.Goals as goal
 
 pub index-next-requires : goal.index-next-requires
@@ -56,6 +57,15 @@ returns-in_err-value-clause-made g c =
     let p = err_from_is_err_and c.from_residual-in_err-value.result c.from_residual-in_err-value.ensures.1 in
     parts_stopped _ _ _ _ _ c.as_slice-board-items.ensures _ _ _ c.requires.next _ _ c.loop-place-test.true c.board-item.is _ _
     made _ _ c.part_value.ensures.made _ _ c.in_err-value.was (p.1 ∙ ap Err p.2)
+
+pub returns-in_err-value-clause-fronts : goal.returns-in_err-value-clause-fronts
+returns-in_err-value-clause-fronts g c =
+    let made = parts_told _ _ _ _ _ c.as_slice-board-items.ensures _ _ _ c.requires.next _ _ _ _ c.loop-place.invariant
+    c.expect_boards.ensures in
+    let p = err_from_is_err_and c.from_residual-in_err-value.result c.from_residual-in_err-value.ensures.1 in
+    if_err c.from_residual-in_err-value.result _ _ (p.1 ∙ ap Err p.2)
+    (parts_fronts _ _ _ _ _ c.as_slice-board-items.ensures _ _ _ c.requires.next _ _ c.loop-place-test.true c.board-item.is _ _
+    made _ _ c.part_value.ensures.made _ c.in_err-value.was)
 
 pub loop-place-preserved : goal.loop-place-preserved
 loop-place-preserved g c =

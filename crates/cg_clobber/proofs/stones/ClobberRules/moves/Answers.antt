@@ -7,4 +7,4 @@ use Rattle.cg_clobber.proofs.stones.ClobberRules.moves.Goals as goal
 pub returns : goal.returns
 returns c =
     let p = c.args.board.now in
-    c.of.ensures ∙ c.in_ok-boards.ensures ∙ ap (map (with_cells p)) (pairs-are c.args.player p (wide p c.requires))
+    c.of.ensures ∙ c.in_ok-boards_in.ensures ∙ ap (map (with_cells p)) (pairs-are c.args.player p (wide p c.requires))

@@ -11,6 +11,6 @@ use Rattle.cg_clobber.proofs.stones.ClobberRules.moves_into.Goals as goal
 pub returns : goal.returns
 returns c =
     let p = c.args.board.now in
-    IfOk-weaker c.boards_in.result (λ boards. boards.items ≡ map (with_cells p) (by_pairs c.args.player p))
-    (λ boards. boards.items ≡ boards_after clobber c.args.player p)
-    (λ boards e. e ∙ ap (map (with_cells p)) (pairs-are c.args.player p (wide p c.requires.has))) c.boards_in.ensures
+    IfOk-weaker c.boards_in.result (λ _. c.boards_in.new.boards.items ≡ map (with_cells p) (by_pairs c.args.player p))
+    (λ _. c.boards_in.new.boards.items ≡ boards_after clobber c.args.player p)
+    (λ _ e. e ∙ ap (map (with_cells p)) (pairs-are c.args.player p (wide p c.requires))) c.boards_in.ensures

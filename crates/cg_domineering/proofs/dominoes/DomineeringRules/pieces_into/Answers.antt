@@ -1,5 +1,5 @@
-use Rattle.cg_domineering.proofs.Placing.{has-filled}
+use Rattle.cg_domineering.proofs.Placing.{symbols-are}
 use Rattle.cg_domineering.proofs.dominoes.DomineeringRules.pieces_into.Goals as goal
 
-pub pieces_into-requires-clause-blank : goal.pieces_into-requires-clause-blank
-pieces_into-requires-clause-blank c = has-filled c.args.board.now c.requires.has
+pub pieces_into-requires : goal.pieces_into-requires
+pieces_into-requires c = symbols-are c.args.board.now c.requires

@@ -1,7 +1,5 @@
-use Rattle.std.proofs.Common.{List, ◌∷◌, [], ◌++◌, ap, rules, subst, sym, ◌∙◌}
-use Rattle.cg_moves.specs.Found.{AreAlike}
+use Rattle.std.proofs.Common.{List, ap, rules, subst, sym, ◌∙◌}
 use Rattle.cg_moves.specs.Grid.{Grid}
-use Rattle.cg_moves.specs.Opened.{IsAt}
 use Rattle.cg_moves.specs.Rules.{In}
 use Rattle.cg_moves.specs.Seen.{key_number}
 use Rattle.cg_moves.proofs.SeenLemmas.{if_none_then, if_some_then, known-at, not-numbered}

@@ -1,5 +1,4 @@
-use Rattle.std.proofs.Common.{ℕ, subst}
-use Rattle.cg_pieces.specs.Words.{IsNextSet}
+use Rattle.std.proofs.Common.{inl, inr}
 use Rattle.cg_pieces.proofs.GrownSets.{growing-more, growing-start, grown, grows-down}
 use Rattle.cg_pieces.proofs.field.Field.joined.Goals as goal
 
@@ -21,8 +20,12 @@ loop-more-preserved c = record {
   next = c.with_next-more-in-loop-more.ensures;
 }
 
-pub returns : goal.returns
-returns c =
-    let P : ℕ → Type 0 = λ z. IsNextSet c.args.self c.loop-more.set z in
-    grown c.args.self c.args.cell c.loop-more.set c.loop-more.invariant.growing
-    (subst P c.loop-more-test.false c.loop-more.invariant.next)
+pub returns-after-loop-more : goal.returns-after-loop-more
+returns-after-loop-more c =
+    grown c.args.self c.args.cell c.loop-more.set c.loop-more.more c.loop-more.invariant.growing c.loop-more.invariant.next
+    (inl c.loop-more-test.false)
+
+pub returns-else-more-self : goal.returns-else-more-self
+returns-else-more-self c =
+    grown c.args.self c.args.cell c.loop-more.set c.loop-more.more c.loop-more.invariant.growing c.loop-more.invariant.next
+    (inr c.if-more-self.false)
