@@ -32,6 +32,20 @@ none_in lo hi h = dite (dec_lt lo hi)
     (λ lt. let a = inside_one lo hi lo (omega arith) lt in let b : 0 ≡ inside lo hi lo = h lo in absurd (omega arith))
     (λ ge. omega arith)
 
+-- in a permutation each number stands as often
+module _ {A : Type 0} (number : A → ℕ) where
+  summed : (n c : ℕ) (xs : List A) → fold (λ s (a : A). s + (if number a == n then 1 else 0)) c xs ≡ c + times n (map number xs)
+  summed n c [] = omega arith
+  summed n c (x ∷ xs) = let p = summed n (c + (if number x == n then 1 else 0)) xs in omega arith
+
+  pub times_permuted : (n : ℕ) (xs ys : List A) → IsPermutation xs ys → times n (map number ys) ≡ times n (map number xs)
+  times_permuted n xs ys P =
+      let f : A → ℕ = λ a. if number a == n then 1 else 0 in
+      let a = sum_by-IsPermutation f xs ys P in
+      let b = summed n 0 xs in
+      let c = summed n 0 ys in
+      omega arith
+
 module _ {A : Type 0} where
   found : (xs : List (ℕ × A)) (y : ℕ) → 1 ≤ times y (numbers xs) → (k : ℕ) × (k < length xs) × ((d : ℕ × A) → (slice_index_or xs k d).0 ≡ y)
   found [] y h = absurd (omega arith)
@@ -73,24 +87,12 @@ module _ {A : Type 0} where
   plain_length [] = refl
   plain_length (x ∷ xs) = ap suc (plain_length xs)
 
-  summed : (n c : ℕ) (xs : List (ℕ × A)) → fold (λ s (a : ℕ × A). s + (if a.0 == n then 1 else 0)) c xs ≡ c + times n (numbers xs)
-  summed n c [] = omega arith
-  summed n c (x ∷ xs) = let p = summed n (c + (if x.0 == n then 1 else 0)) xs in omega arith
-
-  same_times : (xs ys : List (ℕ × A)) → IsPermutation xs ys → (n : ℕ) → times n (numbers ys) ≡ times n (numbers xs)
-  same_times xs ys P n =
-      let f : ℕ × A → ℕ = λ a. if a.0 == n then 1 else 0 in
-      let a = sum_by-IsPermutation f xs ys P in
-      let b = summed n 0 xs in
-      let c = summed n 0 ys in
-      omega arith
-
   -- sorted by their numbers, the answers are in order
   pub sorted_ordered : (count : ℕ) (all sorted : List (ℕ × A)) → IsPermutation all sorted → IsNonDecreasingBy (λ (a : ℕ × A). a.0) sorted → ((n : ℕ)
       → times n (numbers all) ≡ (if nat_lt n count then 1 else 0))
       → AreOrdered count all (map (λ p. p.1) sorted)
   sorted_ordered count all sorted P S h =
-      let r = in_order sorted 0 count S (λ n. same_times all sorted P n ∙ h n ∙ from_none n) in
+      let r = in_order sorted 0 count S (λ n. times_permuted (λ a. a.0) n all sorted P ∙ h n ∙ from_none n) in
       record {
         long = plain_length sorted ∙ r.0 ∙ (let e : count - 0 ≡ count = omega arith in e);
         each = λ n a e.

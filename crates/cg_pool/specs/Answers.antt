@@ -1,21 +1,31 @@
 -- Answers, each with the number of its line, and what workers bring back.
-use Rattle.std.specs.Prelude.{◌≡◌, ◌≤◌, ℕ, List, [], length, true, Some, slice_get, All, Contains}
+use Rattle.std.specs.Prelude.{◌≡◌, ◌≤◌, ℕ, List, [], length, true, Some, slice_get, get_or, All, Contains, if◌then◌else◌, nat_lt}
 use Rattle.std.specs.Prelude as list
 use Rattle.std.specs.FinMap as map
 use Rattle.std.specs.Ordering.{nat_cmp}
 use Rattle.cg_cells.specs.Meaning.{Grows}
 use Rattle.cg_cells.specs.Store.{thing_at}
-use Rattle.cg_cells.specs.Table.{passes_of}
+use Rattle.cg_cells.specs.Table.{passes_of, times}
 use Rattle.cg_shared.specs.Passes.{CellsOf, PassOf, IsPassOf, pass_state}
 
 abbrev pub numbers : {A : Type 0} → List (ℕ × A) → List ℕ
 numbers {A} all = list.map (λ a. a.0) all
 
--- A pass of this table with which a worker begins: it has drawn no line, the table has at most so many lines, and a line's share
--- is at least what an answer needs
-pub record IsReady {X : Type 0} (count needs : ℕ) (cells : CellsOf) (p : PassOf X) : Type 0 where
+-- An order in which so many lines are answered: each stands in it once
+pub record IsOrder (count : ℕ) (order : List ℕ) : Type 0 where
+  pub long : length order ≡ count
+  pub once : (n : ℕ) → times n order ≡ (if nat_lt n count then 1 else 0)
+
+-- the line that is answered for a ticket
+abbrev pub line_at : List ℕ → ℕ → ℕ
+line_at order ticket = get_or order ticket 0
+
+-- A pass of this table with which a worker begins: it has drawn no line, the order is one of the table's lines, which are at most so
+-- many, and a line's share is at least what an answer needs
+pub record IsReady {X : Type 0} (count needs : ℕ) (order : List ℕ) (cells : CellsOf) (p : PassOf X) : Type 0 where
   pub own : IsPassOf cells p
   pub new : p.sees.tickets ≡ []
+  pub each : IsOrder cells.sizes.lines order
   pub lines : cells.sizes.lines ≤ count
   pub share : needs ≤ cells.sizes.share
 
@@ -32,17 +42,18 @@ module _ {X A : Type 0} (good : ℕ → A → map.FinMap nat_cmp X → Type 0) w
     pub tickets : after.sees.tickets ≡ before.sees.tickets
     pub passes : passes_of after.sees ≡ passes_of before.sees
 
-  -- What workers bring back: a pass that stands for so many, and its answers, one for each ticket, each good. No line is left
-  pub record IsBrought (cells : CellsOf) (passes : ℕ) (all : List (ℕ × A)) (p : PassOf X) : Type 0 where
+  -- What workers bring back: a pass that stands for so many, and its answers, one for the line of each ticket, each good. No line is
+  -- left
+  pub record IsBrought (order : List ℕ) (cells : CellsOf) (passes : ℕ) (all : List (ℕ × A)) (p : PassOf X) : Type 0 where
     pub own : IsPassOf cells p
-    pub tickets : numbers all ≡ p.sees.tickets
+    pub tickets : numbers all ≡ list.map (line_at order) p.sees.tickets
     pub are_good : AllAreGood (pass_state p).known all
     pub stands_for : passes_of p.sees ≡ passes
     pub over : p.sees.over ≡ true
 
   -- workers that begin with a pass bring back as much as that pass stands for
-  abbrev pub BringsBack : CellsOf → PassOf X → List (ℕ × A) → PassOf X → Type 0
-  BringsBack cells before all p = IsBrought cells (passes_of before.sees) all p
+  abbrev pub BringsBack : List ℕ → CellsOf → PassOf X → List (ℕ × A) → PassOf X → Type 0
+  BringsBack order cells before all p = IsBrought order cells (passes_of before.sees) all p
 
 -- so many answers in the order of their numbers
 pub record AreOrdered {A : Type 0} (count : ℕ) (all : List (ℕ × A)) (ordered : List A) : Type 0 where

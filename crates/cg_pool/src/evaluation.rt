@@ -3,7 +3,7 @@ ghost use Rattle.std.specs.Prelude.{◌≡◌, ℕ, ◌*◌, ◌^◌, ◌≤◌,
 ghost use Rattle.cg_cells.specs.Table.{HasAllTickets};
 ghost use Rattle.cg_shared.specs.Passes.{IsPassOf, pass_state};
 
-use crate::order::put_in_order;
+use crate::order::{by_weight, put_in_order};
 use crate::workers::answer_side_by_side;
 use crate::{Gate, Job};
 use cg_cells::Facts;
@@ -20,36 +20,38 @@ pub struct Evaluated<F: Facts, A: Drop> {
     pub pass: Pass<F>,
 }
 
-/// Answers so many lines of a job, each on so many cells of one new table, by so many workers. Which worker takes which
-/// line is left open.
+/// Answers the lines of a job that have these weights, each on so many cells of one new table, by so many workers. Lines
+/// of greater weight are begun first. Which worker takes which line is left open.
 pub fn evaluate<R: Threads + Sync, F: Facts + Sync, J: Job<F>, G: Gate>(
     rt: &R,
     alloc: Global,
-    count: u64,
+    weights: &[u64],
     share: u64,
     workers: u64,
     job: &J,
     gate: &G,
 ) -> Result<Evaluated<F, J::Answer>, AllocError>
-    requires cells { (1 ≤ count * share) × (count * share ≤ 2 ^ 26) }
+    requires cells { (1 ≤ length weights.now * share) × (length weights.now * share ≤ 2 ^ 26) }
     requires workers { (1 ≤ workers) × (workers ≤ 64) }
-    requires lines { count ≤ J.count job.now }
+    requires lines { length weights.now ≤ J.count job.now }
     requires share { J.needs job.now ≤ share }
     ensures table { IfOk result
-        (λ e. e.cells.sizes ≡ record { lines = count; share = share; passes = workers }) }
+        (λ e. e.cells.sizes ≡ record { lines = length weights.now; share = share; passes = workers }) }
     ensures pass { IfOk result (λ e. IsPassOf e.cells e.pass × HasAllTickets e.pass.sees) }
-    ensures long { IfOk result (λ e. length e.answers.items ≡ count) }
+    ensures long { IfOk result (λ e. length e.answers.items ≡ length weights.now) }
     ensures good { IfOk result
         (λ e. (n : ℕ) (answer : J.Answer) → slice_get e.answers.items n ≡ Some answer
         → J.good job.now n answer (pass_state e.pass).known) }
 {
+    let count = weights.len() as u64;
+    let order = by_weight(alloc, weights)?;
     let (cells, pass) = match SharedCells::start(alloc, count, share, workers) {
         Ok(made) => made,
         Err(StartFault::Size) => unreachable!(),
         Err(StartFault::Memory) => return Err(AllocError),
     };
     let (answers, pass) = answer_side_by_side::<R, F, J, G>(
-        rt, &cells, alloc, job, gate, pass, workers,
+        rt, &cells, alloc, &order, job, gate, pass, workers,
     )?;
     pass.each_ticket_once();
     let answers = put_in_order(alloc, answers, count)?;

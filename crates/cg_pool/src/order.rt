@@ -1,9 +1,22 @@
-//! Answers in the order of their lines.
-ghost use Rattle.std.specs.Prelude.{◌≡◌, ℕ, IfOk, if◌then◌else◌, nat_lt};
+//! The order in which lines are answered, and answers in the order of their lines.
+ghost use Rattle.std.specs.Prelude.{◌≡◌, ℕ, IfOk, if◌then◌else◌, length, nat_lt};
 ghost use Rattle.cg_cells.specs.Table.{times};
-ghost use Rattle.cg_pool.specs.Answers.{numbers, AreOrdered};
+ghost use Rattle.cg_pool.specs.Answers.{numbers, AreOrdered, IsOrder};
 
 use std::alloc::{AllocError, Global};
+use std::cmp::Reverse;
+
+/// The lines that have these weights, in falling order of them. Lines of one weight stay as they stand.
+pub(crate) fn by_weight(alloc: Global, weights: &[u64]) -> Result<Vec<u64>, AllocError>
+    ensures { IfOk result (λ order. IsOrder (length weights.now) order.items) }
+{
+    let mut order = Vec::with_capacity(alloc, weights.len())?;
+    for line in 0..weights.len() as u64 {
+        order.push(line)?;
+    }
+    order.sort_unstable_by_key(|line| (Reverse(weights.get(*line as usize).copied()), *line));
+    Ok(order)
+}
 
 // The answers without their numbers.
 fn drop_numbers<A: Drop>(alloc: Global, answers: Vec<(u64, A)>) -> Result<Vec<A>, AllocError>

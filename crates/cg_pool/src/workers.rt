@@ -32,24 +32,26 @@ fn answer_line<F: Facts, J: Job<F>>(
     Ok((answer, desk.into_pass()))
 }
 
-// Draws lines and answers them until none is left, and holds one thing for all of them.
+// Draws lines in this order and answers them until none is left, and holds one thing for all of them.
 fn answer_lines<F: Facts, J: Job<F>, G: Gate>(
     cells: &SharedCells<F>,
     alloc: Global,
+    order: &[u64],
     job: &J,
     gate: &G,
     mut pass: Pass<F>,
 ) -> Result<(Vec<(u64, J::Answer)>, Pass<F>), AllocError>
-    requires { IsReady (J.count job.now) (J.needs job.now) cells.now pass }
-    ensures { IfOk result (λ r. BringsBack (J.good job.now) cells.now pass r.0.items r.1) }
+    requires { IsReady (J.count job.now) (J.needs job.now) order.now cells.now pass }
+    ensures { IfOk result (λ r. BringsBack (J.good job.now) order.now cells.now pass r.0.items r.1) }
 {
     let mut answers = Vec::new(alloc);
     let mut held = job.start(alloc);
     loop {
-        let Some(Ticket(index)) = cells.draw(&mut pass) else {
+        let Some(Ticket(ticket)) = cells.draw(&mut pass) else {
             return Ok((answers, pass));
         };
         pass.each_ticket_once();
+        let index = order[ticket as usize];
         gate.enter(index);
         let done = answer_line::<F, J>(cells, alloc, job, pass, &mut held, index);
         gate.leave(index);
@@ -75,32 +77,33 @@ pub(crate) fn answer_side_by_side<R: Threads + Sync, F: Facts + Sync, J: Job<F>,
     rt: &R,
     cells: &SharedCells<F>,
     alloc: Global,
+    order: &[u64],
     job: &J,
     gate: &G,
     mut pass: Pass<F>,
     workers: u64,
 ) -> Result<(Vec<(u64, J::Answer)>, Pass<F>), AllocError>
-    requires ready { IsReady (J.count job.now) (J.needs job.now) cells.now pass }
+    requires ready { IsReady (J.count job.now) (J.needs job.now) order.now cells.now pass }
     requires workers { workers ≡ pass.sees.heirs + 1 }
-    ensures { IfOk result (λ r. BringsBack (J.good job.now) cells.now pass r.0.items r.1) }
+    ensures { IfOk result (λ r. BringsBack (J.good job.now) order.now cells.now pass r.0.items r.1) }
 {
     if workers <= 1 {
-        return answer_lines::<F, J, G>(cells, alloc, job, gate, pass);
+        return answer_lines::<F, J, G>(cells, alloc, order, job, gate, pass);
     }
     let other = cells.split(&mut pass, workers - 2);
     let rest = workers - 1;
     let (mine, theirs) = thread::join(
         rt,
         move ||
-            requires { IsReady (J.count job.now) (J.needs job.now) cells.now pass }
-            ensures { IfOk result (λ r. BringsBack (J.good job.entry.now) cells.entry.now pass r.0.items r.1) }
-        { answer_lines::<F, J, G>(cells, alloc, job, gate, pass) },
+            requires { IsReady (J.count job.now) (J.needs job.now) order.now cells.now pass }
+            ensures { IfOk result (λ r. BringsBack (J.good job.entry.now) order.entry.now cells.entry.now pass r.0.items r.1) }
+        { answer_lines::<F, J, G>(cells, alloc, order, job, gate, pass) },
         move ||
-            requires ready { IsReady (J.count job.now) (J.needs job.now) cells.now other }
+            requires ready { IsReady (J.count job.now) (J.needs job.now) order.now cells.now other }
             requires workers { rest ≡ other.sees.heirs + 1 }
             requires sync { IsSync R.row }
-            ensures { IfOk result (λ r. BringsBack (J.good job.entry.now) cells.entry.now other r.0.items r.1) }
-        { answer_side_by_side::<R, F, J, G>(rt, cells, alloc, job, gate, other, rest) },
+            ensures { IfOk result (λ r. BringsBack (J.good job.entry.now) order.entry.now cells.entry.now other r.0.items r.1) }
+        { answer_side_by_side::<R, F, J, G>(rt, cells, alloc, order, job, gate, other, rest) },
     );
     let (answers, mut pass) = mine?;
     let (more, met) = theirs?;

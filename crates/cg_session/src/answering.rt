@@ -1,5 +1,5 @@
 //! What a session comes to: its limits, the answers of its lines, and what is written of them.
-ghost use Rattle.std.specs.Prelude.{◌≡◌, ◌≤◌, ◌↔◌, ℕ, [], IfOk, IsTrue, MatchOption, length, map};
+ghost use Rattle.std.specs.Prelude.{◌≡◌, ◌≤◌, ℕ, [], IfOk, IfSome, MatchOption, length, map};
 ghost use Rattle.cg_words.specs.Accepted.{InRange};
 ghost use Rattle.cg_session.specs.Kept.{KeepsAnswers, KeepsSession};
 ghost use Rattle.cg_session.specs.Output.{IsOutput, IsOutputOf, IsWritten, written_of};
@@ -11,11 +11,12 @@ ghost use Rattle.cg_syntax.specs.SessionViews.{line_of};
 
 use crate::job::LineJob;
 use crate::output::{Output, make_output, make_summary};
+use crate::weighing::weights_of;
 use cg_eval::{Answered, CgBoards};
 use cg_nodes::GameFacts;
 use cg_pool::{Evaluated, Gate, evaluate};
 use cg_syntax::laws::one_session;
-use cg_syntax::{SessionLine, answered_count, read_session};
+use cg_syntax::{SessionLine, read_session_within};
 use cg_words::Settings;
 use std::alloc::{AllocError, Global};
 use std::thread::Threads;
@@ -34,32 +35,30 @@ pub struct Answers {
     pub kept: Option<Kept>,
 }
 
-/// Whether a session that has few enough bytes has few enough answered lines, too.
-pub fn is_within_limits(settings: Settings, text: &[u8]) -> bool
-    requires { IsWithinBytes text.now }
-    ensures { IsTrue result ↔ IsWithinLimits settings text.now }
-{
-    let count = answered_count(text);
-    count <= MOST_ANSWERED && count <= settings.cells
-}
-
-/// Answers a whole session, with the output that is to be written. It fails only for want of memory.
+/// Answers a whole session that has few enough bytes, with the output that is to be written, unless it has too many answered
+/// lines. It fails only for want of memory.
 pub fn answer_session<R: Threads + Sync, G: Gate>(
     rt: &R,
     alloc: Global,
     settings: Settings,
     text: &[u8],
     gate: &G,
-) -> Result<Answers, AllocError>
+) -> Result<Option<Answers>, AllocError>
     requires range { InRange settings }
-    requires within { IsWithinLimits settings text.now }
-    ensures written { IfOk result (λ a. IsWritten settings text.now (output_of a.output)) }
-    ensures kept { IfOk result (λ a. MatchOption a.kept (answered_lines text.now ≡ [])
-        (λ k. KeepsSession settings text.now k.answers.items k.cells k.pass)) }
+    requires bytes { IsWithinBytes text.now }
+    ensures within { IfOk result (λ o. MatchOption o (¬ IsWithinLimits settings text.now)
+        (λ a. IsWithinLimits settings text.now)) }
+    ensures written { IfOk result (λ o. IfSome o (λ a. IsWritten settings text.now (output_of a.output))) }
+    ensures kept { IfOk result (λ o. IfSome o (λ a. MatchOption a.kept (answered_lines text.now ≡ [])
+        (λ k. KeepsSession settings text.now k.answers.items k.cells k.pass))) }
 {
-    let session = read_session(alloc, text)?;
+    let most = settings.cells.min(MOST_ANSWERED);
+    let Some(session) = read_session_within(alloc, text, most)? else {
+        return Ok(None);
+    };
     one_session();
-    answer_lines::<R, G>(rt, alloc, settings, session.lines.as_slice(), gate)
+    let answers = answer_lines::<R, G>(rt, alloc, settings, session.lines.as_slice(), gate)?;
+    Ok(Some(answers))
 }
 
 /// Answers these lines, with what is to be written of them.
@@ -81,16 +80,16 @@ fn answer_lines<R: Threads + Sync, G: Gate>(
         let output = make_written(alloc, settings.sample, lines, &[])?;
         return Ok(Answers { output, kept: None });
     }
-    let count = lines.len() as u64;
+    let weights = weights_of(alloc, lines, settings.workers)?;
     let job = LineJob {
         lines,
-        share: settings.cells / count,
+        share: settings.cells / lines.len() as u64,
         positions: settings.positions,
     };
     let kept = evaluate::<R, GameFacts<CgBoards>, LineJob<'_>, G>(
         rt,
         alloc,
-        count,
+        &weights,
         job.share,
         settings.workers,
         &job,

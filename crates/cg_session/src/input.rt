@@ -15,7 +15,7 @@ use std::alloc::{AllocError, Global};
 const MOST_BYTES: usize = 1_048_576;
 
 /// How many bytes are asked for at once.
-const BUFFER_BYTES: usize = 4096;
+const BUFFER_BYTES: usize = 32_768;
 
 /// Why there is no text of a session.
 #[derive(Clone, Copy, Debug, PartialEq, Eq)]

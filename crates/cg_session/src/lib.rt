@@ -15,6 +15,7 @@ mod output;
 mod refusals;
 mod session;
 mod status;
+mod weighing;
 mod writing;
 
 pub use answering::Kept;

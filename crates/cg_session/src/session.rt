@@ -10,14 +10,14 @@ ghost use Rattle.cg_syntax.specs.Session.{answered_lines};
 ghost use Rattle.cg_session.specs.Settings.{IsWithinLimits, session_text};
 ghost use Rattle.cg_session.specs.Words.{texts};
 
-use crate::answering::{Kept, answer_session, is_within_limits};
+use crate::answering::{Kept, answer_session};
 use crate::input::{TextFault, session_text};
 use crate::status::Status;
 use crate::writing::write_all;
 use cg_io::{Failed, Sink, Source};
 use cg_pool::Gate;
 use cg_words::{Settings, SettingsFault};
-use std::alloc::Global;
+use std::alloc::{AllocError, Global};
 use std::thread::Threads;
 
 /// What is written where the words are not accepted.
@@ -99,11 +99,10 @@ pub fn run<R: Threads + Sync, S: Source, K: Sink, G: Gate>(
         Err(TextFault::Memory) => return Status::Memory,
         Err(TextFault::TooLong) => return Status::TooLong,
     };
-    if !is_within_limits(settings, &text) {
-        return Status::TooLong;
-    }
-    let Ok(answers) = answer_session::<R, G>(rt, alloc, settings, &text, gate) else {
-        return Status::Memory;
+    let answers = match answer_session::<R, G>(rt, alloc, settings, &text, gate) {
+        Ok(Some(answers)) => answers,
+        Ok(None) => return Status::TooLong,
+        Err(AllocError) => return Status::Memory,
     };
     if write_all(sink, &answers.output.text).is_err() {
         return Status::Write;

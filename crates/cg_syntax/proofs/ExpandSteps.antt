@@ -5,7 +5,7 @@ use Rattle.std.specs.Str.{bytes_eq}
 use Rattle.std.specs.Global.{Box}
 use Rattle.std.proofs.lemmas.List.{map-append, reverse-append}
 use Rattle.cg_query.specs.Tree.{Tree, braces, negative, multiple, sum, used, game, octal, trees_from, terms_from, Trees, Terms as TermTrees}
-use Rattle.cg_query.specs.Trees.{tree_of, trees_in, trees_of, term_of, terms_in, terms_of}
+use Rattle.cg_query.specs.Trees.{tree_of, trees_in, term_of, terms_in, terms_of}
 use Rattle.cg_syntax.specs.Naming.{Bindings, bound_to, expanded, expanded_all, expanded_terms, or_use}
 use Rattle.cg_syntax.specs.Bound.{AreBoundAt, bindings_at, binding_at, tree_or_zero, value_at, value_of}
 use Rattle.cg_query.specs.declared.kind.GameKind.{GameKind}

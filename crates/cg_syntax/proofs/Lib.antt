@@ -7,6 +7,5 @@ pub mod SessionSteps
 pub mod LineCuts
 pub mod FirstPlace
 pub mod OtherLines
-pub mod Counting
 pub mod ClosedSessions
 pub mod OneSession

@@ -41,14 +41,14 @@ lines_once format before lines rs qs (next b between number text r more others i
 pub session_once : (text : List ℕ) (rs qs : Made) → IsSession text rs → IsSession text qs → rs ≡ qs
 session_once text rs qs a b = lines_once _ [] _ rs qs a b
 
-lines_long : (format : Format) (before : Bindings) (lines : List (ℕ × List ℕ)) (rs : Made) → AreLines format before lines rs → length rs ≡ length lines
+pub lines_long : (format : Format) (before : Bindings) (lines : List (ℕ × List ℕ)) (rs : Made) → AreLines format before lines rs → length rs ≡ length lines
 lines_long format before lines rs (none b) = refl
 lines_long format before lines rs (next b between number text r more others is are) = ap suc (lines_long format between more others are)
 
 pub session_long : (text : List ℕ) (rs : Made) → IsSession text rs → length rs ≡ length (answered_lines text)
 session_long text rs a = lines_long _ [] _ rs a
 
-lines_some : (format : Format) (before : Bindings) (lines : List (ℕ × List ℕ)) → (rs : Made) × AreLines format before lines rs
+pub lines_some : (format : Format) (before : Bindings) (lines : List (ℕ × List ℕ)) → (rs : Made) × AreLines format before lines rs
 lines_some format before [] = ([], none before)
 lines_some format before ((number, text) ∷ lines) =
     let (r, between, is) = line_some format before text in

@@ -1,11 +1,12 @@
 -- A session line after line.
-use Rattle.std.proofs.Common.{◌≡◌, ℕ, ◌+◌, Bool, true, false, cond, List, [], ◌∷◌, ◌++◌, map, refl, ap, sym, subst, ◌∙◌, append-nil, Result, Ok, Err}
-use Rattle.std.specs.Prelude.{OnOk, not}
+use Rattle.std.proofs.Common.{◌≡◌, ℕ, suc, ◌+◌, ◌<◌, arith, length, Bool, true, false, cond, List, [], ◌∷◌, ◌++◌, map, refl, ap, sym, subst, ◌∙◌, append-nil, Result, Ok, Err}
+use Rattle.std.specs.Prelude.{OnOk, ◌≤◌, ◌==◌, not}
+use Rattle.std.proofs.lemmas.List.{length-append, length-map}
 use Rattle.cg_query.specs.Tree.{Question, Statement, asks}
 use Rattle.cg_syntax.specs.Naming.{Bindings, question_asked}
 use Rattle.cg_grammar.specs.Lines.{Reads, ReadsIn, IsColumnIn}
-use Rattle.cg_syntax.specs.Session.{Resolved, Asked_of, Syntax_at, AreLines, IsLine, IsSession, after, answered_in, format_of, none, next, refused, resolved, stated}
-use Rattle.cg_syntax.specs.SessionLines.{lines_of, is_answered, answered_from}
+use Rattle.cg_syntax.specs.Session.{Resolved, Asked_of, Syntax_at, AreLines, IsLine, IsSession, after, answered_in, answered_lines, format_of, none, next, refused, resolved, stated}
+use Rattle.cg_syntax.specs.SessionLines.{lines_of, is_answered, answered_from, onto_first}
 use Rattle.cg_syntax.specs.Puts.{IsPut, Puts, PutsStatement}
 use Rattle.cg_syntax.specs.SessionViews.{line_of, resolved_of}
 use Rattle.cg_syntax.specs.Bound.{bindings_in}
@@ -15,6 +16,7 @@ use Rattle.cg_syntax.specs.declared.session.SessionLine.{SessionLine}
 use Rattle.cg_syntax.specs.declared.sheet.Sheet.{Sheet}
 use Rattle.cg_writer.proofs.Writable.{line_writable}
 use Rattle.cg_syntax.proofs.Closed.{askable_closed}
+use Rattle.cg_syntax.proofs.OneSession.{lines_long, lines_some}
 use Rattle.cg_syntax.proofs.Resolving.{is_closed}
 
 -- ---- one line
@@ -74,6 +76,22 @@ goes_first format number left sheet e b rs a =
     let c : AreLines format [] all rs = subst (λ (z : Bindings). AreLines format z all rs) b a in
     subst (λ (z : Made). AreLines format [] all (z ++ rs)) (sym (ap (λ (z : List SessionLine). map line_of z) e)) c
 
+-- a further line that gets an answer
+pub goes_beyond : (format : Format) (all : List (ℕ × List ℕ)) (number : ℕ) (text : List ℕ) (left : List (List ℕ)) (sheet : Sheet)
+    → is_answered text ≡ true → GoesOn format all number (text ∷ left) sheet → length sheet.lines.items < length all
+goes_beyond format all number text left sheet h g =
+    let (rs, are) = lines_some format (bindings_in sheet) (answered_from number (text ∷ left)) in
+    let some : length (answered_from number (text ∷ left)) ≡ suc (length (answered_from (number + 1) left)) =
+    ap (λ (t : Bool). length (cond {A = List (ℕ × List ℕ)} t ((number, text) ∷ []) [] ++ answered_from (number + 1) left)) h in
+    let long = lines_long format (bindings_in sheet) (answered_from number (text ∷ left)) rs are in
+    let both = lines_long format [] all (map line_of sheet.lines.items ++ rs) (g rs are) in
+    omega (arith, some, long, both, length-append (map line_of sheet.lines.items) rs, length-map sheet.lines.items line_of)
+
+-- a sheet with a line more
+pub one_longer : (number most : ℕ) (r : Resolved) (old new : Sheet) → IsPut number r old new → length old.lines.items < most
+    → length new.lines.items ≤ most
+one_longer number most r old new put low = omega (arith, low, ap length put.lines, length-append old.lines.items (put.line ∷ []))
+
 pub goes_last : (format : Format) (all : List (ℕ × List ℕ)) (number : ℕ) (sheet : Sheet) (made : List SessionLine)
     → made ≡ sheet.lines.items → GoesOn format all number [] sheet → AreLines format [] all (map line_of made)
 goes_last format all number sheet made e g =
@@ -117,11 +135,47 @@ pub session_one : (text : List ℕ) (rs : Made) → format_of text ≡ formats.O
     → IsSession text rs
 session_one text rs e a = subst (λ (f : Format). AreLines f [] (answered_in f (lines_of text)) rs) (sym e) a
 
+pub answered_two : (text line rest : List ℕ) → lines_of text ≡ line ∷ lines_of rest → format_of text ≡ formats.Two
+    → answered_lines text ≡ answered_from 2 (lines_of rest)
+answered_two text line rest l e =
+    ap (λ (f : Format). answered_in f (lines_of text)) e ∙ ap (λ (ls : List (List ℕ)). answered_in formats.Two ls) l
+
 pub session_two : (text line rest : List ℕ) (rs : Made) → lines_of text ≡ line ∷ lines_of rest → format_of text ≡ formats.Two
     → AreLines formats.Two [] (answered_from 2 (lines_of rest)) rs → IsSession text rs
 session_two text line rest rs l e a =
-    subst (λ (f : Format). AreLines f [] (answered_in f (lines_of text)) rs) (sym e)
-    (subst (λ (ls : List (List ℕ)). AreLines formats.Two [] (answered_in formats.Two ls) rs) (sym l) a)
+    subst (λ (f : Format). AreLines f [] (answered_lines text) rs) (sym e)
+    (subst (λ (ls : List (ℕ × List ℕ)). AreLines formats.Two [] ls rs) (sym (answered_two text line rest l e)) a)
+
+-- a text has no more lines that get an answer than bytes
+onto_few : (b n : ℕ) (lines : List (List ℕ)) → length lines ≤ n → length (onto_first b lines) ≤ suc n
+onto_few b n [] few = omega arith
+onto_few b n (line ∷ lines) few = omega (arith, few)
+
+lines_few : (text : List ℕ) → length (lines_of text) ≤ length text
+lines_few [] = omega arith
+lines_few (b ∷ bytes) = by (b == 10) (lines_few bytes)
+  where
+    by : (ends : Bool) → length (lines_of bytes) ≤ length bytes
+        → length (cond ends ([] ∷ lines_of bytes) (onto_first b (lines_of bytes))) ≤ suc (length bytes)
+    by true few = omega (arith, few)
+    by false few = onto_few b (length bytes) (lines_of bytes) few
+
+from_few : (n : ℕ) (lines : List (List ℕ)) → length (answered_from n lines) ≤ length lines
+from_few n [] = omega arith
+from_few n (line ∷ lines) = by (is_answered line) (from_few (n + 1) lines)
+  where
+    by : (t : Bool) → length (answered_from (n + 1) lines) ≤ length lines
+        → length (cond {A = List (ℕ × List ℕ)} t ((n, line) ∷ []) [] ++ answered_from (n + 1) lines) ≤ suc (length lines)
+    by true few = omega (arith, few)
+    by false few = omega (arith, few)
+
+answered_by : (format : Format) (lines : List (List ℕ)) → length (answered_in format lines) ≤ length lines
+answered_by formats.One lines = from_few 1 lines
+answered_by formats.Two [] = omega arith
+answered_by formats.Two (line ∷ lines) = omega (arith, from_few 2 lines)
+
+pub answered_few : (text : List ℕ) → length (answered_lines text) ≤ length text
+answered_few text = omega (arith, answered_by (format_of text) (lines_of text), lines_few text)
 
 -- ---- two clauses of one call
 

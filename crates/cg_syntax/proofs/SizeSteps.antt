@@ -1,10 +1,10 @@
 -- The size of trees beside each other, and of a tree from its parts.
-use Rattle.std.proofs.Common.{◌≡◌, refl, ap, sym, ◌∙◌, subst, ℕ, zero, suc, ◌+◌, ◌<◌, min, max, arith, Bool, true, false, List, [], ◌∷◌, ◌++◌, map, length, get_or, take, drop, Option, Some, None, Result, Err, append_assoc, append-nil}
+use Rattle.std.proofs.Common.{◌≡◌, refl, ap, sym, ◌∙◌, subst, ℕ, zero, suc, ◌+◌, ◌<◌, min, max, arith, Bool, false, List, [], ◌∷◌, ◌++◌, map, length, get_or, take, drop, Option, Some, None, Result, Err, append_assoc, append-nil}
 use Rattle.std.specs.Prelude.{◌||◌}
 use Rattle.std.proofs.lemmas.List.{map-append}
-use Rattle.cg_query.specs.Tree.{Tree, braces, negative, multiple, sum, used, trees_from, terms_from}
+use Rattle.cg_query.specs.Tree.{Tree, braces, negative, multiple, sum, trees_from, terms_from}
 use Rattle.cg_query.specs.Trees.{tree_of, trees_of, term_of, terms_of}
-use Rattle.cg_syntax.specs.Naming.{Bindings, bound_to, expanded, expanded_all, expanded_terms, first_unknown, or_use, parts, parts_all, parts_terms, sum_of_parts, unless_bound, uses, uses_all, uses_of, uses_terms}
+use Rattle.cg_syntax.specs.Naming.{Bindings, bound_to, expanded, expanded_all, expanded_terms, first_unknown, parts, parts_all, parts_terms, sum_of_parts, unless_bound, uses, uses_all, uses_of, uses_terms}
 use Rattle.cg_syntax.specs.Session.{has_some}
 use Rattle.cg_query.specs.Heights.{height, heights, term_heights}
 use Rattle.cg_syntax.specs.Bound.{IsMeasured, IsSizeOf, Measures, heights_of}

@@ -1,5 +1,7 @@
 -- What a sheet of the code binds names to, and what is told of sizes.
-use Rattle.std.specs.Prelude.{ℕ, ◌≡◌, false, min, max, List, [], ◌∷◌, map, reverse, Option, Some, None, Result, Ok, Err, slice_get}
+use Rattle.std.specs.Prelude.{ℕ, ◌≡◌, ◌+◌, ◌*◌, ◌%◌, ◌^◌, Bool, false, min, max, List, [], ◌∷◌, map, reverse, Option, Some, None, Result, Ok, Err, slice_get}
+use Rattle.std.specs.List.{fold}
+use Rattle.std.specs.Str.{bytes_eq}
 use Rattle.cg_query.specs.Tree.{Tree, number}
 use Rattle.cg_syntax.specs.Naming.{Bindings, expanded, uses_of, first_unknown, sum_of_parts}
 use Rattle.cg_syntax.specs.Session.{has_some}
@@ -74,6 +76,20 @@ abbrev pub AreBoundAt : List SessionLine → List Bound → Type 0
 AreBoundAt lines [] = Unit {0}
 AreBoundAt lines (b ∷ bs) = IsBoundAt lines b × AreBoundAt lines bs
 
--- each name is bound by a line of the sheet
-abbrev pub IsSound : Sheet → Type 0
-IsSound s = AreBoundAt s.lines.items s.bound.items
+-- one digit more at the end of a number, of which the last 32 bits count
+abbrev pub with_digit : ℕ → ℕ → ℕ
+with_digit before byte = (before * 257 % 2 ^ 32 + byte) % 2 ^ 32
+
+-- the number by which a name is looked up: its bytes are the digits
+abbrev pub number_of : List ℕ → ℕ
+number_of name = fold with_digit 0 name
+
+-- whether this is a binding of the name
+abbrev pub has_name : Option Bound → List ℕ → Bool
+has_name None name = false
+has_name (Some b) name = bytes_eq b.name name
+
+-- each name is bound by a line of the sheet, and is looked for by its number
+pub record IsSound (s : Sheet) : Type 0 where
+  pub bound : AreBoundAt s.lines.items s.bound.items
+  pub places : s.places ≡ map (λ b. number_of b.name) s.bound.items

@@ -45,7 +45,6 @@
 //! one option, the brace of that side.
 #![tactic(auto)]
 
-mod count;
 mod expand;
 pub mod laws;
 mod marks;
@@ -60,5 +59,4 @@ pub use cg_query::{
 };
 pub use cg_reader::{read_line, read_statement};
 pub use cg_writer::write_query;
-pub use count::answered_count;
-pub use session::{Asked, Session, SessionLine, SessionLines, read_session};
+pub use session::{Asked, Session, SessionLine, SessionLines, read_session, read_session_within};

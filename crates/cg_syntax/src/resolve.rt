@@ -1,5 +1,5 @@
 //! What the lines of a session ask, one after the other.
-ghost use Rattle.std.specs.Prelude.{◌≡◌, ◌∷◌, ◌≤◌, ◌||◌, IfOk, OnOk, [], ltb, true};
+ghost use Rattle.std.specs.Prelude.{◌≡◌, ◌∷◌, ◌<◌, ◌≤◌, ◌||◌, IfOk, MatchOption, OnOk, [], length, ltb, true};
 ghost use Rattle.cg_syntax.specs.Bound.{IsMeasured, IsSound, bindings_in};
 ghost use Rattle.cg_syntax.specs.Naming.{question_expanded, trees_of_question};
 ghost use Rattle.cg_syntax.specs.Session.{AreLines};
@@ -25,15 +25,18 @@ const MOST_PARTS: u64 = 4096;
 /// How many nodes a path of an expanded expression may have.
 const MOST_LEVELS: u64 = 1024;
 
-/// What the lines of this text ask in this format, where the first of them has this number. Before it no name is bound.
+/// What the lines of this text ask in this format, where the first of them has this number, unless more than so many get
+/// an answer. Before the first line no name is bound.
 pub fn read_lines(
     alloc: Global,
     format: Format,
     first: u64,
     text: &[u8],
-) -> Result<SessionLines, AllocError>
+    most: u64,
+) -> Result<Option<SessionLines>, AllocError>
     requires { first ≤ 2 }
-    ensures { IfOk result (λ ls. AreLines format [] (answered_from first (lines_of text.now)) (lines_in ls)) }
+    ensures { IfOk result (λ o. MatchOption o (most < length (answered_from first (lines_of text.now)))
+        (λ ls. AreLines format [] (answered_from first (lines_of text.now)) (lines_in ls) × (length ls ≤ most))) }
 {
     let mut sheet = Sheet::new(alloc);
     let mut number = first;
@@ -41,12 +44,15 @@ pub fn read_lines(
     while !rest.is_empty() {
         let (line, behind) = first_line(rest);
         if is_first_answered(rest, line) {
+            if sheet.len() as u64 >= most {
+                return Ok(None);
+            }
             put_line(alloc, format, &mut sheet, number, line)?;
         }
         number += 1;
         rest = behind;
     }
-    Ok(sheet.into_lines())
+    Ok(Some(sheet.into_lines()))
 }
 
 /// Puts what a line that gets an answer asks at the end of the sheet.

@@ -1,7 +1,7 @@
 //! Sessions of either format.
-ghost use Rattle.std.specs.Prelude.{◌≡◌, ◌↔◌, IfOk, IsTrue, [], length};
-ghost use Rattle.cg_syntax.specs.Session.{AreClosedLines, IsSession, format_number, format_of};
-ghost use Rattle.cg_syntax.specs.SessionViews.{line_of, lines_in};
+ghost use Rattle.std.specs.Prelude.{◌≡◌, ◌<◌, ◌≤◌, ◌↔◌, IfOk, IsTrue, MatchOption, [], length};
+ghost use Rattle.cg_syntax.specs.Session.{AreClosedLines, IsSession, answered_lines, format_number, format_of};
+ghost use Rattle.cg_syntax.specs.SessionViews.{IsRead, line_of, lines_in};
 
 use crate::marks::behind_mark;
 use crate::resolve::read_lines;
@@ -110,14 +110,34 @@ pub fn read_session(alloc: Global, text: &[u8]) -> Result<Session, AllocError>
     ensures lines { IfOk result (λ s. IsSession text.now (lines_in s.lines)) }
     ensures closed { IfOk result (λ s. AreClosedLines (lines_in s.lines)) }
 {
+    match read_session_within(alloc, text, text.len() as u64)? {
+        Some(session) => Ok(session),
+        None => unreachable!(),
+    }
+}
+
+/// The same where at most so many lines get an answer. Where more do, there is no session, and none of the lines behind
+/// the first so many is read.
+pub fn read_session_within(
+    alloc: Global,
+    text: &[u8],
+    most: u64,
+) -> Result<Option<Session>, AllocError>
+    ensures { IfOk result (λ o. MatchOption o (most < length (answered_lines text.now))
+        (λ s. IsRead text.now s × (length (answered_lines text.now) ≤ most))) }
+{
     match behind_mark(text) {
-        None => Ok(Session {
-            format: 1,
-            lines: read_lines(alloc, Format::One, 1, text)?,
-        }),
-        Some(rest) => Ok(Session {
-            format: 2,
-            lines: read_lines(alloc, Format::Two, 2, rest)?,
-        }),
+        None => {
+            let Some(lines) = read_lines(alloc, Format::One, 1, text, most)? else {
+                return Ok(None);
+            };
+            Ok(Some(Session { format: 1, lines }))
+        }
+        Some(rest) => {
+            let Some(lines) = read_lines(alloc, Format::Two, 2, rest, most)? else {
+                return Ok(None);
+            };
+            Ok(Some(Session { format: 2, lines }))
+        }
     }
 }

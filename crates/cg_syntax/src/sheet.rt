@@ -1,6 +1,6 @@
 //! What is made of the lines of a session so far.
-ghost use Rattle.std.specs.Prelude.{◌≡◌, ◌∷◌, ◌++◌, [], OnOk, IfSome, Some, option_map};
-ghost use Rattle.cg_syntax.specs.Bound.{IsBoundAt, IsSound, Measures, binding_at, bindings_in};
+ghost use Rattle.std.specs.Prelude.{◌≡◌, ◌∷◌, ◌++◌, [], OnOk, IfSome, Some, length, option_map, slice_get};
+ghost use Rattle.cg_syntax.specs.Bound.{IsBoundAt, IsSound, Measures, binding_at, bindings_in, has_name, number_of};
 ghost use Rattle.cg_syntax.specs.Naming.{bound_to};
 ghost use Rattle.cg_syntax.specs.Puts.{IsPut};
 ghost use Rattle.cg_syntax.specs.SessionViews.{resolved_of};
@@ -10,6 +10,7 @@ ghost use Rattle.cg_query.specs.Trees.{tree_of};
 
 use crate::session::{Asked, SessionLine, SessionLines};
 use crate::sizes::Size;
+use cg_links::Links;
 use cg_query::{Expr, Query, Text};
 use std::alloc::{AllocError, Global};
 
@@ -23,12 +24,35 @@ pub struct Bound {
     pub size: Size,
 }
 
+/// The number by which a name is looked up. Two names may have the same number.
+fn number_of(name: &[u8]) -> u32
+    ensures { result ≡ number_of name.now }
+{
+    let mut number = 0u32;
+    for byte in name {
+        number = number.wrapping_mul(257).wrapping_add(u32::from(*byte));
+    }
+    number
+}
+
+/// Whether a binding stands at this place and has this name.
+fn has_name(bound: &[Bound], place: usize, name: &[u8]) -> bool
+    ensures { result ≡ has_name (slice_get bound.now place) name.now }
+{
+    match bound.get(place) {
+        Some(bound) => bound.name.as_slice() == name,
+        None => false,
+    }
+}
+
 /// The lines so far with what they ask, and the names that they bind, one behind the other. An expression that a name is
 /// bound to stands in its line alone. Contracts see what names are bound to by `bindings_in`, the last binding first.
-#[derive(Debug, Drop)]
+#[derive(Drop)]
 pub struct Sheet {
     lines: Vec<SessionLine>,
     bound: Vec<Bound>,
+    /// Where bindings are looked for, by the numbers of their names.
+    places: Links,
 }
 
 impl Sheet {
@@ -41,7 +65,15 @@ impl Sheet {
         Sheet {
             lines: Vec::new(alloc),
             bound: Vec::new(alloc),
+            places: Links::new(alloc),
         }
+    }
+
+    /// How many lines there are.
+    pub fn len(&self) -> usize
+        ensures { result ≡ length self.now.lines.items }
+    {
+        self.lines.len()
     }
 
     /// The lines.
@@ -57,14 +89,11 @@ impl Sheet {
         ensures bound { option_map (λ f. tree_of f.0.now) result ≡ bound_to (bindings_in self.now) name.now }
         ensures measures { IfSome result (λ f. Measures f.1 (tree_of f.0.now ∷ [])) }
     {
-        let mut rest = self.bound.as_slice();
-        while let Some((last, before)) = rest.split_last() {
-            if last.name.as_slice() == name {
-                return self.value_of(last);
-            }
-            rest = before;
-        }
-        None
+        let bound = self.bound.as_slice();
+        let place = self
+            .places
+            .find(number_of(name), |place| has_name(bound, place, name))?;
+        self.value_of(&bound[place])
     }
 
     /// The expression of the line that binds a name, and how large it is.
@@ -106,6 +135,7 @@ impl Sheet {
     {
         let line = self.lines.len();
         let asked = Asked::Query(Query::Value(expr));
+        self.places.add(number_of(name.as_slice()))?;
         self.lines.push(SessionLine { number, asked })?;
         self.bound.push(Bound { name, line, size })?;
         Ok(())

@@ -4,9 +4,9 @@ use Rattle.cg_shared.specs.Passes.{pass_state}
 use Rattle.cg_pool.proofs.Bringing.{IsUnderWay}
 use Rattle.cg_pool.proofs.workers.answer_lines.Given as goal
 
-abbrev pub invariant-loop-index : goal.invariant-loop-index
-invariant-loop-index g l = IsUnderWay (g.J.Job.good l.job) l.cells (passes_of l.fn.pass.sees) l.answers.items l.pass × g.J.Job.holds l.held
+abbrev pub invariant-loop-ticket : goal.invariant-loop-ticket
+invariant-loop-ticket g l = IsUnderWay (g.J.Job.good l.job) l.order l.cells (passes_of l.fn.pass.sees) l.answers.items l.pass × g.J.Job.holds l.held
     (pass_state l.pass).known
 
-abbrev pub decreases-loop-index : goal.decreases-loop-index
-decreases-loop-index g l = l.cells.sizes.lines - length l.pass.sees.tickets
+abbrev pub decreases-loop-ticket : goal.decreases-loop-ticket
+decreases-loop-ticket g l = l.cells.sizes.lines - length l.pass.sees.tickets

@@ -54,7 +54,7 @@ copy-expand-requires t c =
 
 pub expand_use-copy-requires : goal.expand_use-copy-requires
 expand_use-copy-requires t c =
-    let w = bound_within c.args.sheet.now.lines.items c.args.sheet.now.bound.items c.args.name.now c.in-Some.expr.now c.requires
+    let w = bound_within c.args.sheet.now.lines.items c.args.sheet.now.bound.items c.args.name.now c.in-Some.expr.now c.requires.bound
     (c.in-Some.ensures.bound ∙ ap (λ (z : List ℕ). bound_to (bindings_in c.args.sheet.now) z) c.as_slice.ensures) in
     search rules
 

@@ -8,10 +8,13 @@ pub returns-clause-bindings : goal.returns-clause-bindings
 returns-clause-bindings c =
     let old = c.args.self.now in
     ap (λ (z : List SessionLine). bindings_at z old.bound.items) c.in_ok-push.ensures.items
-    ∙ bindings_kept old.lines.items (record { number = c.args.number; asked = c.args.asked }) old.bound.items c.requires
+    ∙ bindings_kept old.lines.items (record { number = c.args.number; asked = c.args.asked }) old.bound.items c.requires.bound
 
 pub returns-clause-sound : goal.returns-clause-sound
 returns-clause-sound c =
     let old = c.args.self.now in
-    subst (λ (z : List SessionLine). AreBoundAt z old.bound.items) (sym c.in_ok-push.ensures.items)
-    (sound_kept old.lines.items (record { number = c.args.number; asked = c.args.asked }) old.bound.items c.requires)
+    record {
+      bound = subst (λ (z : List SessionLine). AreBoundAt z old.bound.items) (sym c.in_ok-push.ensures.items)
+          (sound_kept old.lines.items (record { number = c.args.number; asked = c.args.asked }) old.bound.items c.requires.bound);
+      places = c.requires.places;
+    }
