@@ -66,7 +66,7 @@ fn agree(first: &[Id; 4], ids: &[Id; 4], line: usize) -> bool
 
 #[test]
 fn keys_claimed_in_other_orders_have_one_cell_each(rt: HostRuntime) -> Result<(), Fail> {
-    let made = evaluate(&rt, rt.alloc(), 64, 4, 64, &Turns, &NoGate)?;
+    let made = evaluate(&rt, rt.alloc(), &[0; 64], 4, 64, &Turns, &NoGate)?;
     let Some(first) = made.answers.first() else {
         return Err("no answer")?;
     };

@@ -44,7 +44,14 @@ impl Job<Spread> for Earlier {
 
 #[test]
 fn a_worker_holds_what_the_line_before_left(rt: HostRuntime) -> Result<(), Fail> {
-    let made = evaluate(&rt, rt.alloc(), 4, 1, 1, &Earlier, &NoGate)?;
+    let made = evaluate(&rt, rt.alloc(), &[0; 4], 1, 1, &Earlier, &NoGate)?;
     assert_eq!(rt; made.answers.as_slice(), [0, 1, 2, 3].as_slice());
+    Ok(())
+}
+
+#[test]
+fn lines_of_greater_weight_come_first(rt: HostRuntime) -> Result<(), Fail> {
+    let made = evaluate(&rt, rt.alloc(), &[5, 0, 7, 5], 1, 1, &Earlier, &NoGate)?;
+    assert_eq!(rt; made.answers.as_slice(), [1, 3, 0, 2].as_slice());
     Ok(())
 }

@@ -66,7 +66,8 @@ pub(crate) fn evaluated<R: Threads + Sync, G: Gate>(
     ensures own { IfOk result (λ e. IsPassOf e.cells e.pass) }
     ensures long { IfOk result (λ e. length e.answers.items ≡ lines) }
 {
-    evaluate::<R, Spread, Numbers, G>(rt, alloc, lines, 2, workers, job, gate)
+    let weights = vec![in alloc; 0u64; lines as usize]?;
+    evaluate::<R, Spread, Numbers, G>(rt, alloc, &weights, 2, workers, job, gate)
 }
 
 /// Whether each answer is the cell of its number.

@@ -10,7 +10,7 @@ use Rattle.cg_syntax.specs.SessionViews.{line_of}
 use Rattle.cg_session.specs.Settings.{share_of}
 use Rattle.cg_session.proofs.Shares.{share_is}
 use denote.Param.Send.{param_sync, sendable}
-use Rattle.cg_session.proofs.answering.answer_lines.Lts.{arg-4-2}
+use Rattle.cg_session.proofs.answering.answer_lines.Lts.{arg-7-2}
 use Rattle.cg_session.proofs.Crossing.{job_sync}
 use Rattle.cg_session.proofs.answering.answer_lines.Goals as goal
 
@@ -32,7 +32,7 @@ returns-clause-written g c =
     ap (share_of cells) long ∙ share_is cells (length c.args.lines.now) some in
     let (out, is, same) = c.in_ok-output-2.ensures (cells / length c.args.lines.now) positions
     (λ n line answer at has.
-    (c.in_ok-kept.ensures.good n answer (ap (λ (l : List Answered). slice_get l n) (sym c.deref.ensures.value) ∙ has) line at).reply) in
+    (c.in_ok-kept.ensures.good n answer (ap (λ (l : List Answered). slice_get l n) (sym c.deref-2.ensures.value) ∙ has) line at).reply) in
     (out, subst (λ (m : ℕ). IsOutputOf m positions lines out) (sym share) is, same)
 
 pub returns-clause-kept : goal.returns-clause-kept
@@ -46,13 +46,14 @@ returns-clause-kept g c =
     let some : 0 < length c.args.lines.now = search rules in
     let share : share_of cells (length lines) ≡ cells / length c.args.lines.now =
     ap (share_of cells) long ∙ share_is cells (length c.args.lines.now) some in
+    let weighed : length c.deref.result.now ≡ length c.args.lines.now = ap length c.deref.ensures.value ∙ c.in_ok-weights.ensures in
     let sizes : ℕ → ℕ → Sizes = λ n m. record { lines = n; share = m; passes = c.args.settings.workers } in
     record {
       some = subst (λ (n : ℕ). 0 < n) (sym long) some;
-      table = of.table ∙ ap₂ sizes (sym long) (sym share);
+      table = of.table ∙ ap₂ sizes (weighed ∙ sym long) (sym share);
       own = of.pass.0;
       tickets = of.pass.1;
-      long = of.long ∙ sym long;
+      long = of.long ∙ weighed ∙ sym long;
       good = λ n line answer at has.
           subst (λ (m : ℕ). IsGood m positions line.1 answer (pass_state kept.pass).known) (sym share)
           (of.good n answer has line at);
@@ -60,4 +61,4 @@ returns-clause-kept g c =
 
 pub evaluate-requires-sync-J : goal.evaluate-requires-sync-J
 evaluate-requires-sync-J g c κs within =
-    param_sync 2 (arg-4-2 g.row.R g.row.G g.R.laws g.G.laws g.R.Threads-dict g.G.Gate-dict κs) (search (sendable, job_sync) depth 4)
+    param_sync 2 (arg-7-2 g.row.R g.row.G g.R.laws g.G.laws g.R.Threads-dict g.G.Gate-dict κs) (search (sendable, job_sync) depth 4)
