@@ -39,7 +39,7 @@ def number(value):
 
 def node(lefts, rights):
     """The form with these options, which are put in order and of which equal ones are one."""
-    lefts, rights = (tuple(sorted(set(side), key=lambda option: option.key)) for side in (lefts, rights))
+    lefts, rights = (tuple(sorted(dict.fromkeys(side), key=lambda option: option.key)) for side in (lefts, rights))
     form = NODES.get((lefts, rights))
     if form is None:
         key = (1, tuple(option.key for option in lefts), tuple(option.key for option in rights))
