@@ -18,10 +18,11 @@ OPTIONS = {"workers": (1, 64), "cells": (1, 67108864), "positions": (1, 1048576)
 
 def deep(dice):
     """Forms of about the greatest depth, which is 512."""
-    count = dice.choice([509, 510, 511, 512, 513])
     forms = ["^{0}", "v{0}", "^{0}*", "-v{0}*", "{{0|^{0}}}", "{{v{0}*|0}}", "1/2^{0}", "{{^{0}|1}}", "2 + ^{0}", "{{0|^{0}*,1}}"]
-    text = dice.choice(["value ", "outcome ", "stops "]) + dice.choice(forms).format(count)
-    return [(words(dice.choice([20000, 20000, 2000]), MANY), text + "\n")]
+    lines = []
+    for count in (dice.choice([509, 510]), 511, dice.choice([512, 513])):
+        lines.append(dice.choice(["value ", "outcome ", "stops "]) + dice.choice(forms).format(count))
+    return [(words(dice.choice([60000, 60000, 6000]), MANY), "\n".join(lines) + "\n")]
 
 
 def deep_nimbers(dice):
@@ -46,11 +47,10 @@ def nimbers_of_hundreds(dice):
 
 
 def large_heaps(dice):
-    """Octal heaps of up to a thousand tokens and above, at their limits."""
-    text = octal(dice, True)
-    if dice.random() < 0.3:
-        text = text[: text.index(",")] + "," + dice.choice(["1001", "01000", "1000000", "0" * 30, "9" * 30]) + ")"
-    return at_its_limits("value " + text, MANY)
+    """Octal heaps of up to a thousand tokens, at their limits, and larger ones."""
+    text = "value " + octal(dice, True)
+    larger = text[: text.index(",")] + "," + dice.choice(["1001", "01000", "1000000", "0" * 30, "9" * 30]) + ")"
+    return at_its_limits(text, MANY) + [(words(20000, MANY), f"{larger}\nvalue Octal(\"0.7\",1001)\n")]
 
 
 def many_levels(dice):
@@ -167,10 +167,10 @@ def edge_words(dice):
         if at == 0 and dice.random() < 0.1:
             value = dice.choice(["", "+", "-1", "+-1", "1 ", " 1", "1_0", "0x1", "1.", "18446744073709551616", "\xb2", "--", "-"])
         line += [f"--{name}={value}"] if dice.random() < 0.5 else [f"--{name}", value]
-    if dice.random() < 0.3:
-        odd = ["--", "-", "", "extra", "--help", "-h", "--cells", "--Cells=5", "--cell=5", "--version", "\xe9"]
-        odd += ["\udcff", "--cells=\udcc3", "--\udce9=1", "\udcf0\udc9f"] * 2
-        line.insert(dice.randrange(len(line) + 1), dice.choice(odd))
+    odd = ["--", "-", "", "extra", "--help", "-h", "--cells", "--Cells=5", "--cell=5", "--version", "\xe9"]
+    no_letters = ["\udcff", "--cells=\udcc3", "--\udce9=1", "\udcf0\udc9f"]
+    if dice.random() < 0.4:
+        line.insert(dice.randrange(len(line) + 1), dice.choice(dice.choice([odd, no_letters])))
     if dice.random() < 0.2:
         line.append("--")
     return [(line, "value {0|0}\nvalue *2\n" + dice.choice(["", "value 1/2^\n" * 20]))]

@@ -11,7 +11,7 @@ from .sessions import (
 )
 
 KINDS = (
-    usual, boards, exact_positions, exact_positions, exact_expressions, broken_lines, broken_positions, names, exact_positions,
+    usual, boards, exact_positions, exact_positions, exact_expressions, broken_lines, broken_positions, names, None, exact_positions,
     certificates, edge_words, exact_expressions, odd_words, exact_positions, long_numbers, blanked, checked_names, hundreds,
     second_boards, None,
 )
@@ -25,5 +25,5 @@ RARE = (
 def sessions_of(seed):
     """The sessions of a seed, each its words and its text."""
     turn, place = divmod(seed, len(KINDS))
-    kind = KINDS[place] or RARE[turn % len(RARE)]
+    kind = KINDS[place] or RARE[(turn * KINDS.count(None) + KINDS[:place].count(None)) % len(RARE)]
     return kind(random.Random(seed))

@@ -183,6 +183,7 @@ def long_proofs(dice):
             arrows = f"^{dice.randint(1, 4)}*{dice.randint(2, 6)}"
             pair.append(dice.choice([f"*{dice.randint(5, 11)}", f"*{dice.randint(5, 11)}", arrows, "2.{3|1||-2}", "+-2 + +-1"]))
         lines.append(f"proof {pair[0]}{tail} ; {dice.choice([pair[0] + tail, pair[1], pair[1] + ' - 1'])}")
+    lines.append(f"proof *{dice.randint(8, 10)} ; *{dice.randint(8, 10)}" + dice.choice(["", " + 0"]))
     return [(words(len(lines) * 100000, 4000), "\n".join(lines) + "\n")]
 
 
