@@ -17,13 +17,20 @@ class Form:
         self.number, self.lefts, self.rights, self.depth = number, lefts, rights, depth
 
 
-NUMBERS, NODES, ORDER, CANONICAL, SUMS, NEGATIVES, POSITIONS, STOPS = TABLES = tuple({} for _ in range(8))
-NIMBERS = []
+NUMBERS: dict = {}
+NODES: dict = {}
+ORDER: dict = {}
+CANONICAL: dict = {}
+SUMS: dict = {}
+NEGATIVES: dict = {}
+POSITIONS: dict = {}
+STOPS: dict = {}
+NIMBERS: list = []
 
 
 def forget():
     """Forgets all forms and what was found out of them."""
-    for table in TABLES + (NIMBERS,):
+    for table in (NUMBERS, NODES, ORDER, CANONICAL, SUMS, NEGATIVES, POSITIONS, STOPS, NIMBERS):
         table.clear()
 
 
