@@ -38,10 +38,18 @@ def minutes(text):
     return found
 
 
-def program():
-    """The program that CG names, else the one that stands built; where there is none, one line and status 2."""
-    path = os.path.abspath(os.environ.get("CG") or os.path.join(ROOT, "crates", "cg", "out", "cg"))
-    if not (os.path.isfile(path) and os.access(path, os.X_OK)):
-        print(f"{os.path.basename(sys.argv[0])}: {path} isn't built", file=sys.stderr)
-        sys.exit(BAD_USE)
-    return path
+PROGRAM = os.path.abspath(os.environ.get("CG") or os.path.join(ROOT, "crates", "cg", "out", "cg"))
+"""The program that CG names, else the one that stands built."""
+
+
+def refuse(message):
+    """Ends the tool with one line and status 2."""
+    print(f"{os.path.basename(sys.argv[0])}: {message}", file=sys.stderr)
+    sys.exit(BAD_USE)
+
+
+def need_program():
+    """Ends the tool where the program isn't there; else gives its path."""
+    if not (os.path.isfile(PROGRAM) and os.access(PROGRAM, os.X_OK)):
+        refuse(f"{PROGRAM} isn't built")
+    return PROGRAM

@@ -8,7 +8,7 @@ from reference.grammar import read_line
 from reference.items import Meter, Refused
 
 from .positions import GAMES, octal, position, spoiled
-from .sessions import GOOD, LIMIT, at_its_limits, room, words
+from .sessions import GOOD, LIMIT, at_its_limits, words
 from .texts import edge_number, expression, question, simple, term
 
 MANY = 2000
@@ -35,7 +35,8 @@ def deep_nimbers(dice):
 def hundreds(dice):
     """Ups, nimbers and multiples of dozens and of hundreds, at their limits."""
     count, small = dice.choice([99, 150, 200, 250, 400]), dice.choice([6, 7, 10, 25, 40])
-    forms = ["^{0}", "v{0}*", "1/2^{0}*2", "-^{0}", "v{0}", "{0}.*", "{0}.1*", "{0}.(1/2)", "{0}.+-1", "{1}.^", "{1}.v*", "{1}.{{1|0}}",
+    forms = ["^{0}", "v{0}*", "1/2^{0}*2", "-^{0}", "v{0}",
+             "{0}.*", "{0}.1*", "{0}.(1/2)", "{0}.+-1", "{1}.^", "{1}.v*", "{1}.{{1|0}}",
              "{1}.*2", "*{1}", "{1}.Tiny(1)", "{1}.{{2|1||-1}}", "00{1}.(*2 - 3/4)", "*{1} + *{1}", "{1}.Clobber(\"xo\")"]
     text = dice.choice(forms).format(count, small)
     return at_its_limits("value " + text, MANY)
@@ -109,7 +110,8 @@ def checked_names(dice):
             text = prove(*(Meter(20000, LIMIT).value(one) for one in stated[1])).partition(" ")[2]
         except (Fault, Refused, Long):
             pass
-    lines += [f'check g ; h2 ; "{text}"', f'check {first};h2\t;\t"{text}"', f'check g - h2 ; 0 ; "{text}"', f'check g ; k ; "{text}"']
+    lines += [f'check g ; h2 ; "{text}"', f'check {first};h2\t;\t"{text}"', f'check g - h2 ; 0 ; "{text}"',
+              f'check g ; k ; "{text}"']
     for at in dice.sample(range(len(text) + 1), min(len(text) + 1, 4)):
         lines.append(f'check g ; h2 ; "{text[:at]}{dice.choice("gh01.()")}{text[at + 1 :]}"')
     lines += ["g := g - h2", f'check g ; 0 ; "{text}"', f'check h2 ; g ; "{text}"']
@@ -118,7 +120,8 @@ def checked_names(dice):
 
 def long_numbers(dice):
     """Numbers at the edges of the narrow ones, of those in range, and of thirty digits."""
-    forms = ["{0}", "-{0}", "{0} + {1}", "{0} - {1}", "{{{0}|{1}}}", "+-{0}", "Tiny({0})", "Miny( {0} )", "{0}*", "2.({0})", "{{{0}|}}",
+    forms = ["{0}", "-{0}", "{0} + {1}", "{0} - {1}", "{{{0}|{1}}}", "+-{0}", "Tiny({0})", "Miny( {0} )", "{0}*", "2.({0})",
+             "{{{0}|}}",
              "{{|-{0}}}", "{{-{0}|{1}}}", "{0}^", "{{{0}|-{1}}} + {1}"]
     lines = []
     for _ in range(12):

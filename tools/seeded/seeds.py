@@ -2,8 +2,8 @@
 import random
 
 from .edges import (
-    blanked, checked_names, crowded, deep, deep_nimbers, edge_words, full_sessions, hundreds, large_heaps, long_numbers, many_levels,
-    nimbers_of_hundreds, odd_words, second_boards,
+    blanked, checked_names, crowded, deep, deep_nimbers, edge_words, full_sessions, hundreds, large_heaps, long_numbers,
+    many_levels, nimbers_of_hundreds, odd_words, second_boards,
 )
 from .sessions import (
     boards, broken_lines, broken_positions, certificates, dealt, default_words, exact_expressions, exact_positions, far_numbers,
@@ -11,9 +11,9 @@ from .sessions import (
 )
 
 KINDS = (
-    usual, boards, exact_positions, exact_positions, exact_expressions, broken_lines, broken_positions, names, None, exact_positions,
-    certificates, edge_words, exact_expressions, odd_words, exact_positions, long_numbers, blanked, checked_names, hundreds,
-    second_boards, None,
+    usual, boards, exact_positions, exact_positions, exact_expressions, broken_lines, broken_positions, names, None,
+    exact_positions, certificates, edge_words, exact_expressions, odd_words, exact_positions, long_numbers, blanked,
+    checked_names, hundreds, second_boards, None,
 )
 # These take long, or need not come often.
 RARE = (

@@ -25,9 +25,9 @@ class Rows(unittest.TestCase):
     def test_rows(self):
         rows = read_rows(os.path.join(FOLDER, "rows.txt"))
         self.assertGreater(len(rows), 50)
-        for words, session, wanted in rows:
-            with self.subTest(words=words, session=session):
-                self.assertEqual(self.answered(words, session), wanted)
+        for words, text, wanted in rows:
+            with self.subTest(words=words, session=text):
+                self.assertEqual(self.answered(words, text), wanted)
 
     def test_blanks_and_a_last_line_without_its_end(self):
         self.assertEqual(self.answered([], "# a\n\nvalue 1/2*\r"), ("3: 1/2*\n", 0))
