@@ -179,9 +179,9 @@ class Generator(Tried):
         return top
 
     def test_a_generator_without_heaps(self):
-        heap = 'return position(dice, "{}", wide)'
-        top = self.spoilt("seeded/positions.py", heap.format("Octal"), heap.format("Col"))
-        self.fails("never came: cause 'octal', cause 'heap', game 'Octal'", "compare-reference", "--sessions", "400", top=top)
+        made = "kind(random.Random(seed))"
+        top = self.spoilt("seeded/seeds.py", made, f'[one for one in {made} if "Octal" not in one[1]]')
+        self.fails("cause 'octal', cause 'heap', game 'Octal'", "compare-reference", "--sessions", "400", top=top)
 
     def test_a_process_that_dies(self):
         dies = "    if seed > 20:\n        import os; os._exit(0)\n    turn, place ="
