@@ -244,6 +244,20 @@ class Tests(Tried):
         path = os.pathsep.join([needed, *places])
         self.fails("is left out: vim isn't there", "check-python", "test_editors", path=path)
 
+    def test_a_vim_that_shows_no_line(self):
+        folder = os.path.join(self.folder, "bin")
+        os.mkdir(folder)
+        vim = os.path.join(folder, "vim")
+        with open(vim, "w", encoding="utf-8") as file:
+            file.write("""#!/bin/sh
+if [ "$1" = --version ]; then echo +syntax; exit; fi
+for script; do :; done
+echo cgsession > "$(sed -n "s/.*writefile(said, '\\(.*\\)').*/\\1/p" "$script")"
+""")
+        os.chmod(vim, 0o755)
+        path = folder + os.pathsep + os.environ["PATH"]
+        self.fails("2 tests, 2 failed", "check-python", "test_editors.Vim", path=path)
+
 
 class Style(Tried):
     """check-style."""
