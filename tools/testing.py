@@ -1,6 +1,7 @@
 """Runs tests, and fails where one fails, where one is left out, and where there is none."""
 import faulthandler
 import io
+import signal
 import sys
 import unittest
 
@@ -29,6 +30,7 @@ def run_tests(name, places, words, seconds):
     """Runs the tests of some folders, each with the folder that its modules are named from, that words choose. It prints what
     fails and a line with counts, and gives 0, or 1 where not all is well."""
     tests, errors = chosen(places, words)
+    signal.signal(signal.SIGINT, signal.default_int_handler)  # a shell lets what it starts in the background ignore it
     faulthandler.dump_traceback_later(seconds, exit=True)
     told = io.StringIO()
     result = unittest.TextTestRunner(told).run(unittest.TestSuite(tests))
