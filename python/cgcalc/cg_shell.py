@@ -9,6 +9,8 @@ import sys
 from pathlib import Path
 from typing import Callable, Iterable, Iterator, Optional, Sequence
 
+from cgcalc.games import FORMS, GAMES
+from cgcalc.limits import SHELL_SHARE
 from cgcalc.program import CgError, ProgramFailed
 from cgcalc.refusals import Refusal
 from cgcalc.replies import BLANKS, READERS, Reply
@@ -31,19 +33,6 @@ except ImportError:  # a Python without it has neither history nor completion
 
 COMMAND = "cg-shell"
 PROMPT = "cg> "
-SHARE = 1_048_576
-GAMES = (
-    "Amazons",
-    "Clobber",
-    "Col",
-    "Domineering",
-    "Hackenbush",
-    "Octal",
-    "Snort",
-    "Strip",
-    "Toads",
-)
-FORMS = ("Tiny", "Miny")
 COMMANDS = (":help", ":names", ":positions ", ":quit", ":share ")
 PLACELESS = ("lowering", "heap")
 MOST_HISTORY = 2_000
@@ -91,7 +80,7 @@ def read_words(words: Optional[Sequence[str]]) -> argparse.Namespace:
         description="Answers questions one by one, and keeps definitions; `:help` tells more.",
         epilog="The history is kept in ~/.cg_history, or in the file that CG_HISTORY names.",
     )
-    reader.add_limits(SHARE)
+    reader.add_limits(SHELL_SHARE)
     return reader.parse_args(words)
 
 

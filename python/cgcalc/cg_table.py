@@ -11,6 +11,7 @@ from typing import Optional, Sequence
 
 from cgcalc.columns import headings_of
 from cgcalc.kept import Kept
+from cgcalc.limits import CELLS, SHARE
 from cgcalc.program import CgError, ProgramFailed
 from cgcalc.questions import Questions, questions_of_boards, questions_of_sizes, read_boards
 from cgcalc.session import Session, check_question
@@ -58,11 +59,9 @@ def read_words(words: Optional[Sequence[str]]) -> argparse.Namespace:
     forms = ["tsv", "aligned", "grid"]
     add("--format", choices=forms, help="tabs, aligned columns, or rows by columns")
     add("--processes", type=int, metavar="N", help="runs of cg at once (one for each processor)")
-    reader.add_limits(262_144)
-    cells = 4_194_304
-    add(
-        "--cells", type=int, default=cells, metavar="C", help=f"cells of each run's table ({cells})"
-    )
+    reader.add_limits(SHARE)
+    cells = f"cells of each run's table ({CELLS})"
+    add("--cells", type=int, default=CELLS, metavar="C", help=cells)
     return reader.parse_args(words)
 
 

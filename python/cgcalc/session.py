@@ -7,6 +7,17 @@ from concurrent.futures import Future, ThreadPoolExecutor
 from dataclasses import dataclass
 from typing import Iterable, Iterator, Optional, Sequence
 
+from cgcalc.limits import (
+    CELLS,
+    MOST_BYTES,
+    MOST_CELLS,
+    MOST_LINES,
+    MOST_POSITIONS,
+    MOST_PROCESSES,
+    MOST_WORKERS,
+    POSITIONS,
+    SHARE,
+)
 from cgcalc.program import CgError, Program, find_program
 from cgcalc.refusals import Refusal
 from cgcalc.replies import BLANKS, Reply, read_reply
@@ -16,13 +27,6 @@ NAME = re.compile(r"[a-uw-z][a-z0-9]{0,15}")
 WORD = re.compile(r"[a-z][a-z0-9]*")
 DEFINITION = re.compile(rf"[{BLANKS}]*({NAME.pattern})[{BLANKS}]*:=[{BLANKS}]*(.*)", re.DOTALL)
 BINDS_NOTHING = ("syntax", "name", "parts")
-
-MOST_BYTES = 1_048_576
-MOST_LINES = 4_096
-MOST_CELLS = 67_108_864
-MOST_POSITIONS = 1_048_576
-MOST_WORKERS = 64
-MOST_PROCESSES = 1_024
 
 
 @dataclass(frozen=True)
@@ -79,9 +83,9 @@ class Session:
     def __init__(
         self,
         *,
-        share: int = 262_144,
-        positions: int = 65_536,
-        cells: int = 4_194_304,
+        share: int = SHARE,
+        positions: int = POSITIONS,
+        cells: int = CELLS,
         processes: Optional[int] = None,
         program: Optional[str] = None,
     ) -> None:

@@ -8,6 +8,8 @@ import sys
 from pathlib import Path
 from typing import NoReturn
 
+from cgcalc.limits import POSITIONS
+
 REFUSED = 1
 BAD_USE = 2
 WRITE_FAILED = 4
@@ -28,9 +30,9 @@ class Words(argparse.ArgumentParser):
     def add_limits(self, share: int) -> None:
         """Adds the options that say how much a question may take."""
         cells = f"cells of the table for each line ({share})"
-        items = "the most items of one list (65536)"
+        items = f"the most items of one list ({POSITIONS})"
         self.add_argument("--share", type=int, default=share, metavar="N", help=cells)
-        self.add_argument("--positions", type=int, default=65_536, metavar="P", help=items)
+        self.add_argument("--positions", type=int, default=POSITIONS, metavar="P", help=items)
 
 
 def tell(command: str, message: str) -> None:

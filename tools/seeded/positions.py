@@ -1,7 +1,6 @@
-"""Texts of positions, made by dice: usual small ones, and wide, sparse and cornered ones of up to 64 cells."""
+"""Texts of positions, made by dice: usual small ones, and wide, sparse and cornered ones of up to 64 cells, or large heaps."""
 
 GRIDS = {"Domineering": ".#", "Clobber": "xo.", "Amazons": ".xo#", "Toads": "TF."}
-GAMES = ("Domineering", "Clobber", "Amazons", "Toads", "Strip", "Hackenbush", "Col", "Snort")
 SIZES = ((1, 64), (64, 1), (8, 8), (2, 32), (32, 2), (4, 16), (16, 4), (3, 21), (7, 9), (5, 12), (1, 33), (9, 7), (1, 17),
          (2, 17))
 LETTERS = "abcdefghijklmnopqrstuvwxyzABCDEFGHIJKLMNOPQRSTUVWXYZ"
@@ -81,7 +80,7 @@ def bent(dice, game):
 
 def sized(dice):
     """A board of about as many cells as there may be."""
-    game = dice.choice(list(GRIDS))
+    game = dice.choice(tuple(GRIDS))
     rows, columns = dice.choice([(1, 64), (1, 65), (5, 13), (13, 5), (65, 1), (8, 8), (8, 9), (9, 8), (66, 1)])
     if game == "Toads":
         rows, columns = 1, dice.choice([63, 64, 65, 66])
@@ -146,26 +145,49 @@ def graph(dice, wide):
     return "".join(vertices), ",".join(edges)
 
 
+def grid(game):
+    """What makes the text of a board of a game on a grid."""
+
+    def made(dice, wide):
+        if wide and game in ("Domineering", "Clobber") and dice.random() < 0.5:
+            return (bent(dice, game),)
+        return ((sparse if wide else small)(dice, game),)
+
+    return made
+
+
+def heap(dice, wide):
+    """The code of an octal game, and a heap; a wide one has hundreds of tokens."""
+    code = "0." + "".join(dice.choice("01234567") for _ in range(dice.choice([1, 2, 2, 3, 16])))
+    tokens = dice.choice([100, 250, 500, 999, 1000, dice.randint(100, 1000)] if wide else [0, 1, 2, 5, 9, 20, 70])
+    return dice.choice([code, "0.77", "0.137", "0.07"]), tokens
+
+
+# For each game of the program what makes the texts of a position, a usual or a wide one.
+MAKERS = {
+    "Domineering": grid("Domineering"),
+    "Clobber": grid("Clobber"),
+    "Amazons": grid("Amazons"),
+    "Toads": grid("Toads"),
+    "Strip": strip,
+    "Hackenbush": lambda dice, wide: (drawing(dice, wide),),
+    "Col": graph,
+    "Snort": graph,
+    "Octal": heap,
+}
+GAMES = tuple(game for game in MAKERS if game != "Octal")
+
+
 def position(dice, game=None, wide=False):
     """A position as an expression."""
     game = game or dice.choice(GAMES)
-    if game == "Strip":
-        texts = strip(dice, wide)
-    elif game == "Hackenbush":
-        texts = (drawing(dice, wide),)
-    elif game in ("Col", "Snort"):
-        texts = graph(dice, wide)
-    elif wide and game in ("Domineering", "Clobber") and dice.random() < 0.5:
-        texts = (bent(dice, game),)
-    else:
-        texts = ((sparse if wide else small)(dice, game),)
-    return game + "(" + ",".join(f'"{text}"' for text in texts) + ")"
+    texts = MAKERS[game](dice, wide)
+    return game + "(" + ",".join(f'"{text}"' if isinstance(text, str) else str(text) for text in texts) + ")"
 
 
-def octal(dice):
+def octal(dice, wide=False):
     """A heap of an octal game."""
-    code = "0." + "".join(dice.choice("01234567") for _ in range(dice.choice([1, 2, 2, 3, 16])))
-    return f'Octal("{dice.choice([code, "0.77", "0.137", "0.07"])}",{dice.choice([0, 1, 2, 5, 9, 20, 70])})'
+    return position(dice, "Octal", wide)
 
 
 def many_rules(dice):
