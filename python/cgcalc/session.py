@@ -21,6 +21,7 @@ from cgcalc.limits import (
 from cgcalc.program import CgError, Program, find_program
 from cgcalc.refusals import Refusal
 from cgcalc.replies import BLANKS, Reply, read_reply
+from cgcalc.typed import TypedCalls
 
 FORMAT = "cg 2"
 NAME = re.compile(r"[a-uw-z][a-z0-9]{0,15}")
@@ -54,7 +55,7 @@ class Definition:
         return cls(*found.groups()) if found else None
 
 
-class Session:
+class Session(TypedCalls):
     """Asks the program questions.
 
     Each question and each definition that it needs has `share` cells of a table, and no list of a
