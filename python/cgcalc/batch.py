@@ -1,8 +1,8 @@
 """Batches: many lines, cut into runs of the program, answered side by side and put in order.
 
 What a line is answered depends on its share by `! full` alone, and a share costs time even where a
-line doesn't need it: its cells have to be laid out. So lines are asked with a small share first, and
-what is full with more, up to the share that each of them has.
+line doesn't need it: its cells have to be laid out. So lines are asked with a small share first,
+and what is full with more, up to the share that each of them has.
 """
 from __future__ import annotations
 
@@ -44,16 +44,18 @@ class Limits:
     memory: Optional[int]
     executor: Optional[Executor]
 
-    def shares(self, lines: int) -> list[int]:
-        """The shares that so many lines are asked with, one after the other."""
-        if lines <= max(self.table // self.share, 1):
+    def shares(self, lines: int, before: int) -> list[int]:
+        """The shares that so many lines, with others before them, are asked with in turn."""
+        if lines == 1 or lines + before <= self.table // self.share:
             return [self.share]
         return [share for share in SMALL_SHARES if 2 * share <= self.share] + [self.share]
 
     @property
     def table(self) -> int:
         """The most cells of a run that has several lines."""
-        return self.cells if self.memory is None else min(self.cells, self.memory // 2 // START_BYTES)
+        if self.memory is None:
+            return self.cells
+        return min(self.cells, self.memory // 2 // START_BYTES)
 
     @property
     def fewest(self) -> int:
@@ -88,7 +90,7 @@ class Batch:
         before = prefix(lines)
         self._longest_prefix = len(before)
         self._space = MOST_BYTES - len(session_bytes(before))
-        self._shares = limits.shares(len(lines) + len(before))
+        self._shares = limits.shares(len(lines), len(before))
         self._waiting: list[dict[int, None]] = [{} for _ in self._shares]
         self._alone: list[tuple[int, int]] = []
         self._seen = [0] * len(self._shares)
@@ -133,7 +135,7 @@ class Batch:
             raise CgError(f"the executor takes no run: {error}") from error
 
     def _take(self, executor: Executor) -> None:
-        """Waits for a run, and takes what it answered. A run that an executor lost is sent again."""
+        """Waits for a run, and takes its answers. A run that an executor lost is sent again."""
         ended, _ = wait(self._flying, return_when=FIRST_COMPLETED)
         for future in ended:
             piece = self._flying.pop(future)

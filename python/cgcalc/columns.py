@@ -4,7 +4,8 @@ from __future__ import annotations
 import re
 from typing import Iterable
 
-from cgcalc.replies import Proof, Reply, Stops, Thermograph, word_of
+from cgcalc.replies import Proof, Reply, Stops, word_of
+from cgcalc.thermographs import Thermograph
 
 NUMERIC = re.compile("-?[0-9]*(/[0-9]+)?|!.*")
 HEADINGS = {

@@ -37,8 +37,8 @@ class ProgramFailed(CgError):
     >>> failed = ProgramFailed(5)
     >>> failed.status, str(failed)
     (5, 'cg ended with status 5: memory was wanting')
-    >>> str(ProgramFailed(-9)), str(ProgramFailed(3, "no such device"))
-    ('cg was ended by signal 9', 'cg ended with status 3: reading the input failed (no such device)')
+    >>> str(ProgramFailed(-9)), str(ProgramFailed(5, "no pages"))
+    ('cg was ended by signal 9', 'cg ended with status 5: memory was wanting (no pages)')
     """
 
     def __init__(self, status: int, told: str = "") -> None:

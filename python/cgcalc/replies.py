@@ -7,12 +7,13 @@ from __future__ import annotations
 import re
 from dataclasses import dataclass, field
 from fractions import Fraction
-from typing import Callable, ClassVar, Optional, Union
+from typing import Callable, ClassVar, Iterator, Optional, Union
 
 from cgcalc.program import ProgramFailed
 from cgcalc.refusals import Refusal
+from cgcalc.thermographs import Corner, Thermograph
+from cgcalc.values import Value
 
-NUMBER = re.compile(r"-?[0-9]+(/[0-9]+)?")
 BLANKS = " \t\r"
 FAILED = "! failed "
 
@@ -24,25 +25,6 @@ class _Answer:
     def refused(self) -> bool:
         """Whether the line was refused: here never."""
         return False
-
-
-@dataclass(frozen=True)
-class Value(_Answer):
-    """The name of a canonical form.
-
-    >>> Value("3/4").number, Value("{2|0}").number
-    (Fraction(3, 4), None)
-    """
-
-    name: str
-
-    @property
-    def number(self) -> Optional[Fraction]:
-        """The number that the form is, or None for other forms."""
-        return Fraction(self.name) if NUMBER.fullmatch(self.name) else None
-
-    def __str__(self) -> str:
-        return self.name
 
 
 @dataclass(frozen=True)
@@ -72,6 +54,9 @@ class Stops(_Answer):
     left: Fraction
     right: Fraction
 
+    def __iter__(self) -> Iterator[Fraction]:
+        return iter((self.left, self.right))
+
     def __str__(self) -> str:
         return f"left {self.left} right {self.right}"
 
@@ -94,36 +79,6 @@ class Temperature(_Answer):
 
     def __str__(self) -> str:
         return str(self.temperature)
-
-
-@dataclass(frozen=True)
-class Corner:
-    """A corner of a wall: the wall's value at a temperature."""
-
-    value: Fraction
-    temperature: Fraction
-
-    def __str__(self) -> str:
-        return f"{self.value}@{self.temperature}"
-
-
-@dataclass(frozen=True)
-class Thermograph(_Answer):
-    """The mean, the temperature, and the corners of the walls, from the temperature 0 on.
-
-    >>> thermograph = read_reply("thermo +-1", "mean 0 temp 1 left 1@0 0@1 right -1@0 0@1")
-    >>> thermograph.temperature, thermograph.left[0].value
-    (Fraction(1, 1), Fraction(1, 1))
-    """
-
-    mean: Fraction
-    temperature: Fraction
-    left: tuple[Corner, ...]
-    right: tuple[Corner, ...]
-
-    def __str__(self) -> str:
-        left, right = (" ".join(str(corner) for corner in wall) for wall in (self.left, self.right))
-        return f"mean {self.mean} temp {self.temperature} left {left} right {right}"
 
 
 @dataclass(frozen=True)

@@ -14,12 +14,14 @@ from cgcalc.program import find_program
 from cgcalc.refusals import Refusal
 from cgcalc.replies import BLANKS, Failed, Reply
 from cgcalc.stream import Progress, Replies, read_text
+from cgcalc.typed import TypedCalls
 
 FORMAT = "cg 2"
 NAME = re.compile(r"[a-uw-z][a-z0-9]{0,15}")
 WORD = re.compile(r"[a-z][a-z0-9]*")
 DEFINITION = re.compile(rf"[{BLANKS}]*({NAME.pattern})[{BLANKS}]*:=[{BLANKS}]*(.*)", re.DOTALL)
 BINDS_NOTHING = ("syntax", "name", "parts")
+MOST_MEMORY = 1 << 62
 
 
 @dataclass(frozen=True)
@@ -47,7 +49,7 @@ class Definition:
         return cls(*found.groups()) if found else None
 
 
-class Session:
+class Session(TypedCalls):
     """Asks the program questions.
 
     Each question and each definition that it needs has `share` cells of a table, and no list of a
@@ -93,13 +95,13 @@ class Session:
         executor: Optional[Executor] = None,
     ) -> None:
         self.timeout = timeout
-        self.memory = memory
+        self.memory = memory if memory is None else _within("memory", memory, MOST_MEMORY)
         self.set_limits(share=share, positions=positions)
         self.cells = _within("cells", cells, MOST_CELLS)
         self.processes = _within("processes", os.cpu_count() or 1, MOST_PROCESSES)
         if processes is not None:
             self.processes = _within("processes", processes, MOST_PROCESSES)
-        if timeout is not None and not timeout > 0:
+        if timeout is not None and not (isinstance(timeout, (int, float)) and timeout > 0):
             raise WrongCall(f"timeout is a number of seconds above 0, not {timeout!r}")
         if executor is not None and not isinstance(executor, Executor):
             raise WrongCall("executor is one of concurrent.futures, or made like those")
