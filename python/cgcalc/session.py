@@ -5,15 +5,17 @@ import os
 import re
 from concurrent.futures import Executor
 from dataclasses import dataclass
-from typing import Iterable, Optional, Sequence
+from typing import Iterable, Optional, Sequence, Union
 
 from cgcalc.batch import START_BYTES, Batch, Limits
 from cgcalc.errors import WrongCall
 from cgcalc.limits import CELLS, MOST_CELLS, MOST_POSITIONS, MOST_PROCESSES, POSITIONS, SHARE
 from cgcalc.program import find_program
+from cgcalc.questions import Sizes, questions_of
 from cgcalc.refusals import Refusal
 from cgcalc.replies import BLANKS, Failed, Reply
 from cgcalc.stream import Progress, Replies, read_text
+from cgcalc.table import Table
 from cgcalc.typed import TypedCalls
 
 FORMAT = "cg 2"
@@ -173,6 +175,31 @@ class Session(TypedCalls):
         for question in questions:
             check_question(question)
         return Replies(questions, self._batch(questions), progress)
+
+    def table(
+        self,
+        questions: Union[str, Iterable[str]],
+        *,
+        boards: Optional[Iterable[object]] = None,
+        rows: Optional[Sizes] = None,
+        columns: Optional[Sizes] = None,
+        fill: Optional[str] = None,
+        progress: Optional[Progress] = None,
+    ) -> Table:
+        """The replies to questions that are asked of each of many boards or sizes, as a table.
+
+        A question is a template in which `{board}` stands for each of the boards, or for a board of
+        each size filled with `fill`, and `{rows}` and `{columns}` for the sizes.
+
+        >>> questions = ['value Toads("{board}")', 'outcome Toads("{board}")']
+        >>> print(Session().table(questions, boards=["T.F", "TT.FF"]))
+        board  value  outcome
+        T.F    *      N
+        TT.FF  0      P
+        """
+        table = Table(questions_of(questions, boards, rows, columns, fill))
+        table.replies = self.ask([entry.question for entry in table.entries], progress=progress)
+        return table
 
     def _batch(self, lines: Sequence[str]) -> Batch:
         """The lines on their way to the program, with what this session says from now on."""
