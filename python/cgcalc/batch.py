@@ -16,6 +16,8 @@ from cgcalc.program import CgError
 from cgcalc.replies import Failed
 from cgcalc.runs import Ended, Job, Runs, Threads, run
 
+SESSION_FORMAT = "cg 2"
+"""The line that begins a session with names."""
 FULL = "! full"
 SMALL_SHARES = {1_024: 3, 8_192: 1, 65_536: 1}
 """The shares that are tried first, with the quarters of the lines that make each worth its time."""
@@ -284,7 +286,7 @@ def session_bytes(lines: Sequence[str]) -> bytes:
     >>> session_bytes(["value ^"])
     b'cg 2\\nvalue ^\\n'
     """
-    return b"".join(encoded(line) + b"\n" for line in ("cg 2", *lines))
+    return b"".join(encoded(line) + b"\n" for line in (SESSION_FORMAT, *lines))
 
 
 def cut_output(written: bytes, lines: int) -> list[str]:

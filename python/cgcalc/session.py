@@ -18,7 +18,6 @@ from cgcalc.stream import Progress, Replies, read_text
 from cgcalc.table import Table
 from cgcalc.typed import TypedCalls
 
-FORMAT = "cg 2"
 NAME = re.compile(r"[a-uw-z][a-z0-9]{0,15}")
 WORD = re.compile(r"[a-z][a-z0-9]*")
 DEFINITION = re.compile(rf"[{BLANKS}]*({NAME.pattern})[{BLANKS}]*:=[{BLANKS}]*(.*)", re.DOTALL)
