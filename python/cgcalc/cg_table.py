@@ -88,7 +88,7 @@ def read_words(words: Optional[Sequence[str]]) -> argparse.Namespace:
     cells = f"the most cells of a run's table ({CELLS})"
     add("--cells", type=int, default=CELLS, metavar="C", help=cells)
     reader.add_version()
-    return reader.parse_args(words)
+    return reader.parse_intermixed_args(words)
 
 
 def asked(options: argparse.Namespace) -> Questions:

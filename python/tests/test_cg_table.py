@@ -153,7 +153,7 @@ class BadUse(unittest.TestCase):
     def test_words(self) -> None:
         board = 'temp Clobber("{board}")'
         rows: list[tuple[list[str], str]] = [
-            ([], "required: template"),
+            ([], "required: question"),
             (["value 1"], "give either --rows and --columns, or --boards"),
             ([board, "--rows", "1", "--boards", "-"], "give either --rows and --columns, or"),
             ([board, "--rows", "1"], "fill has to say"),
