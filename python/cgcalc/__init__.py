@@ -27,6 +27,7 @@ from cgcalc.program import CgError, ProgramFailed, ProgramMissing, find_program
 from cgcalc.refusals import Refusal
 from cgcalc.replies import (
     Check,
+    Failed,
     Mean,
     Order,
     Outcome,
@@ -37,6 +38,7 @@ from cgcalc.replies import (
     read_reply,
 )
 from cgcalc.session import Definition, Session
+from cgcalc.stream import Replies
 from cgcalc.thermographs import Corner, Thermograph, Walls
 from cgcalc.typed import Comparison
 from cgcalc.values import Value
@@ -49,6 +51,7 @@ __all__ = [
     "Comparison",
     "Corner",
     "Definition",
+    "Failed",
     "Game",
     "Mean",
     "Order",
@@ -58,6 +61,7 @@ __all__ = [
     "Proof",
     "Refusal",
     "Refused",
+    "Replies",
     "Reply",
     "Session",
     "Stops",

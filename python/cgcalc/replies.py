@@ -5,15 +5,17 @@
 from __future__ import annotations
 
 import re
-from dataclasses import dataclass
+from dataclasses import dataclass, field
 from fractions import Fraction
-from typing import Callable, Iterator, Union
+from typing import Callable, ClassVar, Iterator, Optional, Union
 
+from cgcalc.program import ProgramFailed
 from cgcalc.refusals import Refusal
 from cgcalc.thermographs import Corner, Thermograph
 from cgcalc.values import Value
 
 BLANKS = " \t\r"
+FAILED = "! failed "
 
 
 class _Answer:
@@ -100,7 +102,47 @@ class Check(_Answer):
         return "yes" if self.accepted else "no"
 
 
-Reply = Union[Value, Order, Outcome, Stops, Mean, Temperature, Thermograph, Proof, Check, Refusal]
+@dataclass(frozen=True)
+class Failed:
+    """Why a question got no answer, asked alone: how the run of the program ended.
+
+    `status` is that of the run, 124 where it took too long, and `told` the last line that it wrote
+    to standard error.
+
+    >>> failed = Failed.read("! failed 5")
+    >>> failed.status, failed.explain()
+    (5, 'cg ended with status 5: memory was wanting')
+    """
+
+    status: int
+    told: str = field(default="", compare=False)
+    kind: ClassVar[str] = "failed"
+
+    @property
+    def refused(self) -> bool:
+        """Whether the line got no answer: here always."""
+        return True
+
+    @classmethod
+    def read(cls, text: str) -> Failed:
+        """The failure that a table writes as this text."""
+        return cls(int(text[len(FAILED) :]))
+
+    def error(self) -> ProgramFailed:
+        """The exception that says the same."""
+        return ProgramFailed(self.status, self.told)
+
+    def explain(self, line: Optional[str] = None) -> str:
+        """What happened, in a sentence."""
+        return str(self.error())
+
+    def __str__(self) -> str:
+        return f"{FAILED}{self.status}"
+
+
+Reply = Union[
+    Value, Order, Outcome, Stops, Mean, Temperature, Thermograph, Proof, Check, Refusal, Failed
+]
 
 
 def word_of(question: str) -> str:
@@ -122,7 +164,9 @@ def read_reply(question: str, text: str) -> Reply:
     >>> read_reply("value {2|", "! syntax 10")
     Refusal(kind='syntax', column=10, cause=None, place=None)
     """
-    reader = Refusal.read if text.startswith("! ") else READERS.get(word_of(question))
+    reader: Optional[Callable[[str], Reply]] = READERS.get(word_of(question))
+    if text.startswith("! "):
+        reader = Failed.read if text.startswith(FAILED) else Refusal.read
     try:
         reply = reader(text) if reader else None
     except (ValueError, ZeroDivisionError):

@@ -12,6 +12,7 @@ from cgcalc.program import CgError
 from cgcalc.refusals import Refusal
 from cgcalc.replies import (
     Check,
+    Failed,
     Mean,
     Order,
     Outcome,
@@ -100,6 +101,8 @@ class TypedCalls:
         (reply,) = self.ask([line])
         if isinstance(reply, Refusal):
             raise Refused(line, reply)
+        if isinstance(reply, Failed):
+            raise reply.error()
         if not isinstance(reply, kind):
             raise CgError(f"{line!r} asks for {kind.__name__}, and the reply is {reply!r}")
         return reply
