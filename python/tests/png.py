@@ -4,6 +4,7 @@ from __future__ import annotations
 import struct
 import subprocess
 import zlib
+from functools import cached_property
 from itertools import accumulate
 
 Pixel = tuple[int, int, int]
@@ -17,15 +18,18 @@ class Png:
         self.size = {2: 3, 6: 4}[kind]
         if depth != 8:
             raise ValueError(f"{depth} bits a colour")
-        packed, at = b"", 8
-        while at < len(content):
-            (length,) = struct.unpack(">I", content[at : at + 4])
-            if content[at + 4 : at + 8] == b"IDAT":
-                packed += content[at + 8 : at + 8 + length]
-            at += length + 12
-        self.rows = self._unfiltered(zlib.decompress(packed))
+        self.content = content
 
-    def _unfiltered(self, written: bytes) -> list[bytes]:
+    @cached_property
+    def rows(self) -> list[bytes]:
+        """The rows, each with the colours of its pixels."""
+        packed, at = b"", 8
+        while at < len(self.content):
+            (length,) = struct.unpack(">I", self.content[at : at + 4])
+            if self.content[at + 4 : at + 8] == b"IDAT":
+                packed += self.content[at + 8 : at + 8 + length]
+            at += length + 12
+        written = zlib.decompress(packed)
         rows, above, length = [], bytes(self.width * self.size), self.width * self.size + 1
         for at in range(0, len(written), length):
             above = self._row(written[at], bytearray(written[at + 1 : at + length]), above)

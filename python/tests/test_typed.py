@@ -18,6 +18,7 @@ from cgcalc import (
     Value,
     WrongCall,
 )
+from cgcalc.operands import Expression
 from tests.places import program
 
 
@@ -26,7 +27,8 @@ class TypedCalls(unittest.TestCase):
 
     def test_answers(self) -> None:
         session = Session()
-        for text in ("{4||2|0}", Game("{4|{2|0}}"), Value("{4|{2|0}}")):
+        same: list[Expression] = ["{4||2|0}", Game("{4|{2|0}}"), Value("{4|{2|0}}")]
+        for text in same:
             self.assertEqual(session.value(text), Value("{4|{2|0}}"))
             self.assertEqual(session.outcome(text), "L")
             self.assertEqual(session.stops(text), Stops(Fraction(4), Fraction(2)))
