@@ -10,6 +10,10 @@ from cgcalc.errors import WrongCall
 from cgcalc.games import GAMES
 
 TEXT = re.compile(r"[\x20\x21\x23-\x7e]*")
+WRITTEN = re.compile(
+    r"""\s*([A-Z][a-z]+)\s*\(\s*"([^"]*)"\s*(?:,\s*(?:"([^"]*)"|([0-9]{1,30}))\s*)?\)\s*"""
+)
+NUMBER_OF_TEXTS = {"Strip": 2, "Col": 2, "Snort": 2}
 
 
 @dataclass(frozen=True)
@@ -53,3 +57,23 @@ class Board:
         """The picture, for notebooks; none of what is no position."""
         picture = board_picture(self)
         return None if picture is None else picture.svg()
+
+
+def read_board(expression: str) -> Optional[Board]:
+    """The position that an expression is, or None where it is none.
+
+    >>> read_board('Octal("0.77", 9)')
+    Board(game='Octal', texts=('0.77',), tokens=9)
+    >>> read_board("{2|-1}") is None
+    True
+    """
+    found = WRITTEN.fullmatch(expression)
+    if not found or found[1] not in GAMES:
+        return None
+    texts = (found[2],) if found[3] is None else (found[2], found[3])
+    tokens = None if found[4] is None else int(found[4])
+    if len(texts) != NUMBER_OF_TEXTS.get(found[1], 1) or (tokens is None) == (found[1] == "Octal"):
+        return None
+    if not all(TEXT.fullmatch(text) for text in texts):
+        return None
+    return Board(found[1], texts, tokens)

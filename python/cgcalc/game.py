@@ -6,7 +6,7 @@ from fractions import Fraction
 from numbers import Integral, Rational
 from typing import Any, Callable, Iterable, Optional, TypeVar, Union
 
-from cgcalc.board import Board
+from cgcalc.board import Board, read_board
 from cgcalc.errors import WrongCall
 from cgcalc.latex import latex_of
 from cgcalc.operands import Expression, Operand, text_of
@@ -23,8 +23,10 @@ Term = tuple[bool, str]
 NUMBER = re.compile(r"(-?)([0-9]+(?:/[0-9]+)?)")
 SINGLE = re.compile(r"(?:\^|v)[0-9]+|\^+|v+|\*[0-9]*|\+-[0-9]+(?:/[0-9]+)?|[a-uw-z][a-z0-9]*")
 OPENING = re.compile(r"[A-Z]?[a-z]*[{(]")
-BRACKET = re.compile(r'"[^"]*"|[{}()]')
-SIGN = re.compile(r"[ \t]|[-+;,]|:=")
+BRACKET = re.compile(r'"[^"]*"|["{}()]')
+CLOSING = {"{": "}", "(": ")"}
+SIGN = re.compile(r"[- \t+]")
+MORE = re.compile(r"[,;|]|:=")
 
 _defaults: list[Session] = []
 
@@ -92,7 +94,8 @@ class Game(Operand):
     def __setattr__(self, name: str, content: object) -> None:
         raise WrongCall(f"a game never changes, so its {name} can't be set: make another game")
 
-    __delattr__ = __setattr__  # type: ignore[assignment]
+    def __delattr__(self, name: str) -> None:
+        raise WrongCall(f"a game never changes, so its {name} can't be deleted")
 
     @property
     def expression(self) -> str:
@@ -275,26 +278,32 @@ def _parts_of(made_of: object) -> tuple[tuple[Term, ...], Optional[Board], dict[
     if number:
         return ((bool(number[1]) and number[2] != "0", number[2]),), None, {}
     known = {"value": made_of} if isinstance(made_of, Value) else {}
-    return ((False, text if _stands_alone(text) else f"({text})"),), None, known
+    outside = _outside_of_brackets(text)
+    single = not SIGN.search(outside[2:] if outside.startswith("+-") else outside)
+    return ((False, text if single else f"({text})"),), read_board(text), known
 
 
-def _stands_alone(text: str) -> bool:
-    """Whether a text is a term without signs of sums, or isn't well formed anyway.
+def _outside_of_brackets(text: str) -> str:
+    """What of a text stands in no brackets; it has to be one expression for whoever adds to it.
 
-    >>> _stands_alone("{2|-1}^*"), _stands_alone("+-1"), _stands_alone("1 - ^")
-    (True, True, False)
+    >>> _outside_of_brackets('{2|-1}^ + 2.(1 - *) - Toads("T.F")')
+    '^ + 2. - Toads'
     """
-    start = 2 if text.startswith("+-") else 0
-    depth = 0
-    outside = ""
-    for found in BRACKET.finditer(text, start):
-        if depth == 0:
+    outside, start = "", 0
+    closing: list[str] = []
+    for found in BRACKET.finditer(text):
+        sign = found[0]
+        if not closing:
             outside += text[start : found.start()]
-        depth += {"{": 1, "(": 1, "}": -1, ")": -1}.get(found[0], 0)
         start = found.end()
-        if depth < 0:
-            return True
-    return depth != 0 or not SIGN.search(outside + text[start:])
+        if sign in CLOSING:
+            closing.append(CLOSING[sign])
+        elif sign in ('"', "}", ")") and (not closing or closing.pop() != sign):
+            raise WrongCall(f"brackets or quotation marks of {text!r} don't match: mend them")
+    outside += "" if closing else text[start:]
+    if closing or MORE.search(outside):
+        raise WrongCall(f"{text!r} isn't one expression: give a text such as '{{2|-1}} + ^'")
+    return outside
 
 
 def _is_primary(text: str) -> bool:

@@ -6,7 +6,19 @@ from fractions import Fraction
 from math import ceil, floor
 from typing import TYPE_CHECKING, Optional, Sequence
 
-from cgcalc.svg import FAINT, INK, LEFT, RIGHT, TITLE_SIZE, Picture, path, tag, width_of, words
+from cgcalc.svg import (
+    FAINT,
+    FONT_SIZE,
+    INK,
+    LEFT,
+    RIGHT,
+    TITLE_SIZE,
+    Picture,
+    path,
+    tag,
+    width_of,
+    words,
+)
 
 if TYPE_CHECKING:
     from cgcalc.thermographs import Corner, Thermograph
@@ -16,6 +28,7 @@ ABOVE = Fraction(3, 10)
 NARROWEST = 150
 GAP = 9
 LINE = 15
+LONGEST = 80
 HEAD = 30
 TITLE = 24
 FOOT = 44
@@ -167,8 +180,12 @@ def thermograph_picture(
 ) -> Picture:
     """The picture of a thermograph: both axes, the walls, the mast, and the corners' labels."""
     plot = Plot(thermograph, height, HEAD + (TITLE if title else 0))
+    title = title if title is None or len(title) <= LONGEST else f"{title[: LONGEST - 2]}.."
     margin = max(width_of(str(number)) for number in plot.temperatures()) + TICK + 2 * GAP
     width = margin + plot.end - plot.start + GAP
+    wide = width_of(title or "") * TITLE_SIZE / FONT_SIZE + 2 * GAP
+    if wide > width:
+        margin, width = margin + (wide - width) / 2, wide
     body = tag("g", f"\n{plot.drawn()}\n", transform=f"translate({margin:.2f},0)")
     shows = f"Thermograph: mean {thermograph.mean}, temperature {thermograph.temperature}"
     if title:

@@ -10,6 +10,10 @@ from cgcalc.errors import WrongCall
 from cgcalc.pictures import thermograph_picture
 
 
+LEAST_HEIGHT = 40
+MOST_HEIGHT = 4_000
+
+
 @dataclass(frozen=True)
 class Corner:
     """A corner of a wall: the wall's value at a temperature."""
@@ -61,8 +65,11 @@ class Thermograph:
     def svg(self, *, title: Optional[str] = None, height: int = 260) -> str:
         """A picture in SVG: Left's values to the left, Left's wall blue and Right's red.
 
-        `height` is about how many pixels high the drawing is; the `title` stands above it.
+        The walls and the mast are `height` pixels high together; the `title` stands above them.
         """
+        if not isinstance(height, int) or not LEAST_HEIGHT <= height <= MOST_HEIGHT:
+            most = f"from {LEAST_HEIGHT} to {MOST_HEIGHT}"
+            raise WrongCall(f"the height is a number of pixels {most}, not {height!r}")
         return thermograph_picture(self, title=title, height=height).svg()
 
     def _repr_svg_(self) -> str:

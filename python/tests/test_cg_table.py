@@ -184,7 +184,7 @@ class BadUse(unittest.TestCase):
             (["g := {columns}", "--columns", "1"], "this defines a name"),
             (["# {columns}", "--columns", "1"], "this asks nothing"),
             (["value\n{columns}", "--columns", "1"], "this has several lines"),
-            ([*SQUARES, "more"], "unrecognized arguments: more"),
+            ([*SQUARES, "--more"], "unrecognized arguments: --more"),
         ]
         for words, told in rows:
             with self.subTest(words=words):
