@@ -137,6 +137,7 @@ class TextMate(unittest.TestCase):
 
     def test_rows(self) -> None:
         lines = ROWS.replace("\\t", "\t").splitlines()
+        self.assertEqual([len(line) for line in lines[::2]], [len(line) for line in lines[1::2]])
         for number, (line, letters) in enumerate(zip(lines[::2], lines[1::2])):
             with self.subTest(line=line):
                 classes = {CLASSES[name]: letter for letter, name in LETTERS.items()}
@@ -175,6 +176,7 @@ class Vim(unittest.TestCase):
     def test_rows(self) -> None:
         lines = ROWS.replace("\\t", "\t").splitlines()
         groups = self.groups("".join(f"{line}\n" for line in lines[::2]))
+        self.assertEqual(len(groups), len(lines[::2]))
         for line, letters, names in zip(lines[::2], lines[1::2], groups):
             with self.subTest(line=line):
                 classes = {name: letter for letter, name in LETTERS.items()}
@@ -183,6 +185,8 @@ class Vim(unittest.TestCase):
     def test_the_examples_are_coloured_as_by_the_other_grammar(self) -> None:
         for path in SESSIONS:
             text = path.read_text()
-            for number, (line, found) in enumerate(zip(text.splitlines(), self.groups(text))):
+            groups = self.groups(text)
+            self.assertEqual(len(groups), len(text.splitlines()))
+            for number, (line, found) in enumerate(zip(text.splitlines(), groups)):
                 with self.subTest(path=path.name, line=line):
                     self.assertEqual([CLASSES[group] for group in found], scopes(line, number == 0))

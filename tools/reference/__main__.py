@@ -23,10 +23,8 @@ def read():
 def main():
     """Writes what the session writes, and gives its status."""
     try:
-        words = [os.fsencode(word).decode("utf-8") for word in sys.argv[1:]]
+        words = [os.fsencode(word).decode("utf-8", "surrogateescape") for word in sys.argv[1:]]
         output, status = run(words, read)
-    except UnicodeDecodeError:
-        return 7
     except Unread:
         return 3
     try:

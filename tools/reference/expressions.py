@@ -14,13 +14,13 @@ class Ups(NamedTuple):
     """So many ups, or downs."""
 
     down: bool
-    count: int
+    times: int
 
 
 class Nimber(NamedTuple):
     """A star with its count."""
 
-    count: int
+    times: int
 
 
 class Switch(NamedTuple):
@@ -54,7 +54,7 @@ class Negative(NamedTuple):
 class Multiple(NamedTuple):
     """So many copies of an expression."""
 
-    count: int
+    times: int
     inner: tuple
 
 
@@ -106,7 +106,7 @@ def expanded(expression, bound):
     if isinstance(expression, Negative):
         return Negative(expanded(expression.inner, bound))
     if isinstance(expression, Multiple):
-        return Multiple(expression.count, expanded(expression.inner, bound))
+        return Multiple(expression.times, expanded(expression.inner, bound))
     if isinstance(expression, Sum):
         return Sum(tuple((minus, expanded(term, bound)) for minus, term in expression.terms))
     return expression

@@ -4,26 +4,33 @@ A form is a number or two lists of forms. Equal trees are one object, so what wa
 lists of every form that is made here rise strictly in the structural order.
 """
 from fractions import Fraction
+from functools import cmp_to_key
 from math import ceil, floor
 
 
 class Form:
-    """A number, or the lists of Left's and Right's options. `key` orders forms by structure: numbers by value come first,
-    then other forms by their lists, entry by entry."""
+    """A number, or the lists of Left's and Right's options; and the depth."""
 
-    __slots__ = ("number", "lefts", "rights", "key", "depth")
+    __slots__ = ("number", "lefts", "rights", "depth")
 
-    def __init__(self, number, lefts, rights, key, depth):
-        self.number, self.lefts, self.rights, self.key, self.depth = number, lefts, rights, key, depth
+    def __init__(self, number, lefts, rights, depth):
+        self.number, self.lefts, self.rights, self.depth = number, lefts, rights, depth
 
 
-NUMBERS, NODES, ORDER, CANONICAL, SUMS, NEGATIVES, POSITIONS, STOPS = TABLES = tuple({} for _ in range(8))
-NIMBERS = []
+NUMBERS: dict = {}
+NODES: dict = {}
+ORDER: dict = {}
+CANONICAL: dict = {}
+SUMS: dict = {}
+NEGATIVES: dict = {}
+POSITIONS: dict = {}
+STOPS: dict = {}
+NIMBERS: list = []
 
 
 def forget():
     """Forgets all forms and what was found out of them."""
-    for table in TABLES + (NIMBERS,):
+    for table in (NUMBERS, NODES, ORDER, CANONICAL, SUMS, NEGATIVES, POSITIONS, STOPS, NIMBERS):
         table.clear()
 
 
@@ -33,18 +40,39 @@ def number(value):
     place = (value.numerator, value.denominator)
     form = NUMBERS.get(place)
     if form is None:
-        form = NUMBERS[place] = Form(value, None, None, (0, value), 0)
+        form = NUMBERS[place] = Form(value, None, None, 0)
     return form
+
+
+def by_structure(g, h):
+    """-1, 0 or 1: numbers by value come first, then other forms by their lists, entry by entry, a list before those that it
+    begins. Equal trees are one object, so the first entries that aren't one decide."""
+    while g is not h:
+        if g.number is not None or h.number is not None:
+            return -1 if h.number is None or g.number is not None and g.number < h.number else 1
+        for side, other in ((g.lefts, h.lefts), (g.rights, h.rights)):
+            common = min(len(side), len(other))
+            if side[:common] != other[:common]:
+                g, h = next((a, b) for a, b in zip(side, other) if a is not b)
+                break
+            if len(side) != len(other):
+                return -1 if len(side) < len(other) else 1
+    return 0
+
+
+def in_order(options):
+    """The options in the structural order, each once."""
+    once = tuple(dict.fromkeys(options))
+    return once if len(once) < 2 else tuple(sorted(once, key=cmp_to_key(by_structure)))
 
 
 def node(lefts, rights):
     """The form with these options, which are put in order and of which equal ones are one."""
-    lefts, rights = (tuple(sorted(set(side), key=lambda option: option.key)) for side in (lefts, rights))
+    lefts, rights = in_order(lefts), in_order(rights)
     form = NODES.get((lefts, rights))
     if form is None:
-        key = (1, tuple(option.key for option in lefts), tuple(option.key for option in rights))
         depth = 1 + max((option.depth for option in lefts + rights), default=0)
-        form = NODES[lefts, rights] = Form(None, lefts, rights, key, depth)
+        form = NODES[lefts, rights] = Form(None, lefts, rights, depth)
     return form
 
 

@@ -116,7 +116,7 @@ def of_number(expression, _meter):
 
 def of_ups(expression, meter):
     """The positions of so many ups or downs, which are two more."""
-    count = expression.count
+    count = expression.times
     if count == 0:
         return (yield from of_form(forms.number(0), meter))
     made = forms.ups(count)
@@ -125,7 +125,7 @@ def of_ups(expression, meter):
 
 def of_nimber(expression, meter):
     """The positions of a nimber, which are one more than its number."""
-    return (yield from listed(forms.nimbers(expression.count), expression.count + 1, meter))
+    return (yield from listed(forms.nimbers(expression.times), expression.times + 1, meter))
 
 
 def of_switch(expression, meter):
@@ -179,11 +179,11 @@ def of_negative(expression, meter):
 def of_multiple(expression, meter):
     """The items of the expression; then 0 for no copy, nothing for one, and else a list of sums for each further copy."""
     form = yield from items_of(expression.inner, meter)
-    if expression.count == 0:
+    if expression.times == 0:
         yield Item(forms.number(0))
         return forms.number(0)
     so_far, copies = form, 1
-    while copies < expression.count:
+    while copies < expression.times:
         so_far = yield from sums(so_far, form, meter)
         copies += 1
     return so_far

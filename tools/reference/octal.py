@@ -1,4 +1,5 @@
 """Octal games: what a heap equals, by the least nimber that none of its options is."""
+from . import forms, whole
 from .boards import Fault
 from .recognise import Grammar
 
@@ -32,19 +33,22 @@ def read_octal(code, heap):
     return [int(one) for one in code[2:]]
 
 
-VALUES = {}
+VALUES: dict = {}
+WHOLE: dict = {}
 
 
 def forget():
     """Forgets the values of all heaps."""
     VALUES.clear()
+    WHOLE.clear()
 
 
 def values(code, heap):
     """The numbers of the nimbers that the heaps from 0 up to this one equal.
 
     For m tokens that are taken, a digit with 1 allows to leave nothing, one with 2 one heap, and one with 4 two heaps, which
-    together equal the nimber of the exclusive or of theirs.
+    together equal the nimber of the exclusive or of theirs. That of a small heap has to be what its whole tree reduces to by
+    the definition.
     """
     digits = read_octal(code, heap)
     found = VALUES.setdefault(code, [])
@@ -58,5 +62,10 @@ def values(code, heap):
                 options.add(found[rest])
             if allowed & 4:
                 options |= {found[a] ^ found[rest - a] for a in range(1, rest // 2 + 1)}
-        found.append(next(count for count in range(len(options) + 1) if count not in options))
+        least = next(count for count in range(len(options) + 1) if count not in options)
+        if len(found) <= whole.MOST_TOKENS:
+            tree = whole.heaps_value(digits, (len(found),) if found else (), WHOLE.setdefault(code, {}))
+            if tree is not forms.last(forms.nimbers(least)):
+                raise whole.Differs(f"the least nimber of {len(found)} tokens of {code} and its whole tree")
+        found.append(least)
     return found[: heap + 1]

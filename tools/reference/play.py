@@ -1,5 +1,5 @@
 """Positions: their rules and boards, and what play comes to."""
-from . import forms
+from . import forms, whole
 from .boards import SYMBOLS, Grid, read_grid
 from .expressions import Board, Octal, leaves
 from .graphs import Colouring, Hackenbush
@@ -7,7 +7,7 @@ from .octal import read_octal
 from .strips import Strip
 
 
-FOUND = {}
+FOUND: dict = {}
 
 
 def forget():
@@ -52,7 +52,7 @@ class Play:
     """The positions that play by some rules can come to, and their values."""
 
     def __init__(self, rules):
-        self.rules, self.after, self.cut, self.made = rules, {}, {}, {}
+        self.rules, self.after, self.cut, self.made, self.whole = rules, {}, {}, {}, {}
 
     def moves(self, board):
         """The boards after Left's moves, and those after Right's."""
@@ -91,7 +91,8 @@ class Play:
         return list(reached)
 
     def value(self, board):
-        """The canonical form of the tree of all moves; a board that is cut equals the sum of its pieces."""
+        """The canonical form of the tree of all moves; a board that is cut equals the sum of its pieces. That of a small board
+        has to be what its whole tree reduces to by the definition."""
         if board not in self.made:
             if self.rules.cuts and self.pieces(board) != [board]:
                 form = forms.number(0)
@@ -99,5 +100,7 @@ class Play:
                     form = forms.plus(form, self.value(piece))
             else:
                 form = forms.canonical(*([self.value(after) for after in side] for side in self.moves(board)))
+            if whole.small(board) and form is not whole.value(self.rules, board, self.whole):
+                raise whole.Differs(f"the pieces of {board} and its whole tree")
             self.made[board] = form
         return self.made[board]

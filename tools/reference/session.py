@@ -19,7 +19,12 @@ def forget():
 
 
 def run(words, read):
-    """What is written and the status, for the words and a function that reads the input as text, a letter for each byte."""
+    """What is written and the status, for the words and a function that reads the input as text, a letter for each byte.
+
+    A byte of a word that is no part of UTF-8 stands there as a half of a surrogate pair.
+    """
+    if any("\ud800" <= letter <= "\udfff" for word in words for letter in word):
+        return "", 7
     settings = settings_of(words)
     if settings is None:
         return USAGE, 2

@@ -14,7 +14,7 @@ class Thermograph(NamedTuple):
     right: tuple
 
 
-FOUND = {}
+FOUND: dict = {}
 
 
 def forget():

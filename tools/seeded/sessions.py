@@ -1,5 +1,4 @@
-"""Sessions of all kinds, each with its words, made from seeds."""
-import random
+"""Sessions of the usual kinds, each with its words, made by dice."""
 
 from reference.certificates import Long, prove
 from reference.grammar import read_line
@@ -48,11 +47,11 @@ def boards(dice):
     return [(words(room(dice, len(lines)) + len(lines)), "\n".join(lines) + "\n")]
 
 
-def needs(text):
+def needs(text, limit=LIMIT):
     """What a line is charged before it is answered or refused, and the length of its longest list; or None where it isn't
     in the grammar or has an ill-formed board."""
     stated, _ = read_line(text, 1)
-    meter = Meter(10**6, LIMIT)
+    meter = Meter(10**6, limit)
     try:
         for one in stated[1] if stated else ():
             meter.value(one)
@@ -63,12 +62,12 @@ def needs(text):
     return (meter.charged, meter.longest) if stated else None
 
 
-def at_its_limits(text):
+def at_its_limits(text, limit=LIMIT):
     """A line at exactly what it is charged and one cell below, and at its least positions limit and one below."""
-    cost, longest = needs(text) or (0, 0)
-    settings = [words(max(cost, 1), min(max(longest, 1), LIMIT))]
-    settings += [words(cost - 1)] if cost > 1 else []
-    settings += [words(max(cost, 1), longest - 1)] if 1 < longest <= LIMIT else []
+    cost, longest = needs(text, limit) or (0, 0)
+    settings = [words(max(cost, 1), min(max(longest, 1), limit))]
+    settings += [words(cost - 1, limit)] if cost > 1 else []
+    settings += [words(max(cost, 1), longest - 1)] if 1 < longest <= limit else []
     return [(one, text + "\n") for one in settings]
 
 
@@ -143,16 +142,6 @@ def many_parts(dice):
     return [(words(len(lines) * dice.choice([20, 400]), 40), "\n".join(lines) + "\n")]
 
 
-def many_levels(dice):
-    """A name that is bound anew four times to what stands some 256 levels above it."""
-    lines = ["cg 2", "a := 1"]
-    for depth in (64, 64, 64, dice.choice([62, 63, 63, 64])):
-        lines.append("a := " + "1+-2.{" * depth + "a" + "|}" * depth)
-    above = ["a", "-a", "{a|}", "1.(-a)", "0.(a - 1)", "0.(2.a - 1)", "-0.(2.a - 1)", "{-0.(2.a - 1)|}"]
-    lines += ["value " + text for text in dice.sample(above, 4)]
-    return [(words(len(lines) * dice.choice([20, 3000]), 40), "\n".join(lines) + "\n")]
-
-
 def certificates(dice):
     """A proof of the order, and what it becomes when it is changed at each of its bytes."""
     first, second = dice.choice([simple, lambda d: expression(d, 1)])(dice), simple(dice)
@@ -179,24 +168,10 @@ def far_numbers(dice):
     return [(words(len(lines) * 2000), "\n".join(lines) + "\n")]
 
 
-def odd_words(dice):
-    """Words of the command line, good and bad, and the sample."""
-    good = ["--workers", "--cells", "--positions", "--sample", "--workers=2", "--cells=30", "--positions=+9", "--sample=7"]
-    values = ["1", "03", "+5", "64", "65", "0", "4096", "4097", "-1", "", "9x", "67108865", "1048577", "99999999999999999999"]
-    line = []
-    for _ in range(dice.randint(0, 3)):
-        if dice.random() < 0.8:
-            line += [dice.choice(good), dice.choice(values)]
-        else:
-            line.append(dice.choice(good + ["--", "--help", "-", "extra"]))
-    if dice.random() < 0.3:
-        line = ["--sample", str(dice.randint(1, 24)), "--cells", str(dice.choice([5, 300, 40000])), "--positions", "60"]
-    return [(line + dice.choice([[], [], ["--"]]), "value {0|0}\nvalue *2\n")]
-
-
 def default_words(dice):
-    """A usual session with the default table."""
-    return [([], usual(dice)[0][1])]
+    """A session with the default table and the default positions limit."""
+    lines = [question(dice, dice.choice([simple, position])(dice), simple(dice)) for _ in range(dice.randint(1, 5))]
+    return [([], "\n".join(lines) + dice.choice(["", "\n"]))]
 
 
 def long_proofs(dice):
@@ -208,6 +183,7 @@ def long_proofs(dice):
             arrows = f"^{dice.randint(1, 4)}*{dice.randint(2, 6)}"
             pair.append(dice.choice([f"*{dice.randint(5, 11)}", f"*{dice.randint(5, 11)}", arrows, "2.{3|1||-2}", "+-2 + +-1"]))
         lines.append(f"proof {pair[0]}{tail} ; {dice.choice([pair[0] + tail, pair[1], pair[1] + ' - 1'])}")
+    lines.append(f"proof *{dice.randint(8, 10)} ; *{dice.randint(8, 10)}" + dice.choice(["", " + 0"]))
     return [(words(len(lines) * 100000, 4000), "\n".join(lines) + "\n")]
 
 
@@ -217,20 +193,3 @@ def dealt(dice):
     lines = ["".join(dice.choice(odd) for _ in range(dice.choice([0, 1, 2, 5, 20, 60]))) for _ in range(8)]
     lines += ["value " + "".join(dice.choice("({[-12.^*v|}),") for _ in range(dice.choice([3, 6, 12]))) for _ in range(8)]
     return [(words(len(lines) * 200), dice.choice(["", "cg 2\n"]) + "\n".join(lines))]
-
-
-def rare(dice):
-    """Sessions that take long: with the default table, of long proofs, of many levels, of walls with many binary places."""
-    kinds = (default_words, dealt, dealt, many_parts, many_parts, far_numbers, far_numbers, long_proofs, boards)
-    return (many_levels if dice.random() < 0.01 else dice.choice(kinds))(dice)
-
-
-KINDS = (
-    usual, boards, exact_positions, exact_positions, exact_expressions, broken_lines, broken_positions, names,
-    exact_positions, certificates, usual, exact_expressions, odd_words, exact_positions, boards, rare,
-)
-
-
-def sessions_of(seed):
-    """The sessions of a seed, each its words and its text."""
-    return KINDS[seed % len(KINDS)](random.Random(seed))

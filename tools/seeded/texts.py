@@ -1,7 +1,7 @@
 """Texts of expressions, made by dice."""
 from .positions import GAMES, octal, position
 
-BLANKS = ("", "", "", " ", "\t", "  ")
+BLANKS = ("", "", "", "", " ", " ", "\t", "  ", "\r", "\t \r")
 NUMBERS = ("0", "1", "2", "3", "5", "1/2", "3/4", "5/8", "7/2", "1/16", "12", "007/08")
 GREATEST = ("18446744073709551615",)
 FAR = ("6/3", "1/3", "1/0", "18446744073709551615", "18446744073709551616", "1/1099511627776", "1/2199023255552",
@@ -11,17 +11,36 @@ FAR = ("6/3", "1/3", "1/0", "18446744073709551615", "18446744073709551616", "1/1
 
 def number(dice):
     """A literal."""
-    return dice.choice(FAR) if dice.random() < 0.03 else dice.choice(NUMBERS)
+    if dice.random() < 0.03:
+        return dice.choice([dice.choice(FAR), edge_number(dice)])
+    return dice.choice(NUMBERS)
+
+
+def edge_number(dice):
+    """A literal near one of the edges: of narrow numbers, of those in range, and of thirty digits."""
+    above = 2 ** dice.choice([0, 31, 40, 52, 53, 63, 64]) + dice.choice([-1, 0, 1])
+    shift = dice.choice([0, 0, 0, 1, 5, 20])
+    below = dice.choice([1, 1] + [2**power for power in (1, 30, 31, 32, 39, 40, 41, 64)]) << shift
+    below = dice.choice([below] * 8 + [below + 1, 0])
+    digits = [str(above << shift), str(below)][: 1 if below == 1 and dice.random() < 0.5 else 2]
+    return "/".join(digit.zfill(dice.choice([1, 1, 1, 1, 3, 29, 30, 30, 31])) for digit in digits)
 
 
 def arrows(dice):
     """Ups or downs."""
+    if dice.random() < 0.02:
+        return dice.choice("^v") + str(dice.choice([7, 17, 40, 120, 300]))
     return dice.choice(["^", "v", "^^", "vv", "^3", "v2", "^^^", "^0", "v5"])
 
 
 def nimber(dice):
     """A nimber."""
-    return dice.choice(["*", "*", "*2", "*3", "*0", "*4"])
+    return "*" + str(dice.choice([7, 9, 30, 100])) if dice.random() < 0.02 else dice.choice(["*", "*", "*2", "*3", "*0", "*4"])
+
+
+def copies(dice):
+    """The count of a multiple."""
+    return dice.choice(["6", "7", "12", "40", "0009", "300"]) if dice.random() < 0.05 else dice.choice(["0", "1", "2", "3", "5"])
 
 
 def special(dice, depth, names=()):
@@ -44,7 +63,10 @@ def special(dice, depth, names=()):
 
 def braces(dice, depth, names=()):
     """Braces with one run of bars, or with runs of several lengths."""
-    blank = lambda: dice.choice(BLANKS)
+
+    def blank():
+        return dice.choice(BLANKS)
+
     if depth and dice.random() < 0.2:
         runs = dice.choice([("||", "|"), ("|", "||"), ("|", "||", "|"), ("|||", "||", "|"), ("|", "|"), ("||||||||", "|")])
         return "{" + "".join(options(dice, depth - 1, names) + run for run in runs) + options(dice, depth - 1, names) + "}"
@@ -72,7 +94,7 @@ def term(dice, depth, names=()):
     tail = dice.choice(["", "", "", arrows(dice), nimber(dice), "^*2"])
     if way == 3:
         inner = special(dice, depth, names) if dice.random() < 0.5 else dice.choice([arrows(dice), nimber(dice)])
-        return dice.choice(["", "", "-"]) + dice.choice(["0", "1", "2", "3", "5"]) + "." + inner + tail
+        return dice.choice(["", "", "-"]) + copies(dice) + "." + inner + tail
     if way == 4:
         return "-" + dice.choice(["", " "]) + special(dice, depth, names) + tail
     if way == 5:
