@@ -8,6 +8,7 @@ from typing import Optional
 from cgcalc.board_pictures import board_picture
 from cgcalc.errors import WrongCall
 from cgcalc.games import GAMES
+from cgcalc.operands import Operand
 
 TEXT = re.compile(r"[\x20\x21\x23-\x7e]*")
 WRITTEN = re.compile(
@@ -17,7 +18,7 @@ NUMBER_OF_TEXTS = {"Strip": 2, "Col": 2, "Snort": 2}
 
 
 @dataclass(frozen=True)
-class Board:
+class Board(Operand):
     """A position: the game's name, its texts, and in octal games the number of tokens.
 
     >>> Board("Snort", ("..", "ab")).expression

@@ -66,9 +66,9 @@ class Game(Operand):
     _session: Optional[Session]
     _answers: dict[str, Any]
 
-    def __init__(
-        self, made_of: Union[Expression, Board], *, session: Optional[Session] = None
-    ) -> None:
+    def __init__(self, made_of: Expression, *, session: Optional[Session] = None) -> None:
+        if session is not None and not isinstance(session, Session):
+            raise WrongCall(f"{session!r} is no session: give one such as Session()")
         terms, board, answers = _parts_of(made_of)
         if isinstance(made_of, Game):
             session = session or made_of._session
@@ -267,13 +267,13 @@ def _shared(game: Game, other: Union[Game, Session, None]) -> Optional[Session]:
     )
 
 
-def _parts_of(made_of: object) -> tuple[tuple[Term, ...], Optional[Board], dict[str, Any]]:
+def _parts_of(made_of: Expression) -> tuple[tuple[Term, ...], Optional[Board], dict[str, Any]]:
     """The terms of a game, its board, and the answers that are known already."""
     if isinstance(made_of, Game):
         return made_of._terms, made_of._board, made_of._answers
     if isinstance(made_of, Board):
         return ((False, made_of.expression),), made_of, {}
-    text = text_of(made_of)  # type: ignore[arg-type]
+    text = text_of(made_of)
     number = NUMBER.fullmatch(text)
     if number:
         return ((bool(number[1]) and number[2] != "0", number[2]),), None, {}

@@ -14,6 +14,7 @@ SWITCH = re.compile(rf"\+-({NUMBER})")
 TINY = re.compile(rf"(Tiny|Miny)\(({NUMBER})\)")
 TOKEN = re.compile(r"[{},|]|[^{},|]+")
 MOST_BARS = 3
+MOST_DEPTH = 512
 
 Names = tuple[str, ...]
 
@@ -53,11 +54,11 @@ def read_plain(name: str) -> Optional[Plain]:
     if not found or not name:
         return None
     number, arrows, count, star = found.groups()
-    ups = int(count) if count else len(arrows or "")
-    nim = int(star[1:] or "1") if star else 0
     try:
+        ups = int(count) if count else len(arrows or "")
+        nim = int(star[1:] or "1") if star else 0
         return Plain(Fraction(number or 0), ups if (arrows or "^")[0] == "^" else -ups, nim)
-    except ZeroDivisionError:
+    except (ValueError, ZeroDivisionError):
         return None
 
 
@@ -75,7 +76,7 @@ def options_of(name: str) -> tuple[Names, Names]:
     if tiny:
         word, size = tiny.groups()
         return (("0",), (f"{{0|-{size}}}",)) if word == "Tiny" else ((f"{{{size}|0}}",), ("0",))
-    if plain is None:
+    if plain is None or plain.nim > MOST_DEPTH:
         raise _no_name(name)
     if plain.is_number:
         return _options_of_number(plain.number)

@@ -60,6 +60,7 @@ class Boards(unittest.TestCase):
     def test_sums_of_boards_are_no_boards(self) -> None:
         total = domineering("..") + clobber("xo")
         self.assertIsNone(total.board)
+        self.assertEqual(Board("Toads", ("T.F",)) - Game("*"), 0)
         self.assertIsNone(total._repr_svg_())
         self.assertIsNotNone(total._repr_latex_())
 

@@ -233,6 +233,7 @@ class WrongCalls(unittest.TestCase):
             (lambda: Game(0.5), "0.5 is no game"),  # type: ignore[arg-type]
             (lambda: Game(None), "None is no game"),  # type: ignore[arg-type]
             (lambda: Game(""), "is blank"),
+            (lambda: Game("1", session="s"), "is no session"),  # type: ignore[arg-type]
             (lambda: Game("1\n2"), "stands on one line"),
             (lambda: g.compare([1]), r"\[1\] is no game"),  # type: ignore[arg-type]
             (lambda: game(None, 1), "a list of games, not None"),  # type: ignore[arg-type]

@@ -172,6 +172,7 @@ class AsObjects(unittest.TestCase):
             "a|b",
             "1/0",
             "{x|}",
+            "*9999999999",
         ):
             with self.subTest(name=name), self.assertRaisesRegex(
                 WrongCall, "is no name of a value"
