@@ -19,7 +19,7 @@ from cgcalc.runs import Ended, Job, Runs, Threads, run
 SESSION_FORMAT = "cg 2"
 """The line that begins a session with names."""
 FULL = "! full"
-SMALL_SHARES = {1_024: 3, 8_192: 1, 65_536: 1}
+SMALL_SHARES = {1_024: 3, 8_192: 1, 65_536: 1, 524_288: 1, 4_194_304: 1}
 """The shares that are tried first, with the quarters of the lines that make each worth its time."""
 FEWEST_LINES = 16
 """A run isn't cut to fewer lines than these only to keep all processors busy."""

@@ -84,11 +84,14 @@ class Runs:
 _ALIVE: weakref.WeakSet[Runs] = weakref.WeakSet()
 
 
-@atexit.register
 def _stop_all() -> None:
     """Ends what runs where the interpreter exits."""
     for runs in list(_ALIVE):
         runs.stop()
+
+
+# Pools of concurrent.futures wait for their threads before what atexit registers is called.
+getattr(threading, "_register_atexit", atexit.register)(_stop_all)
 
 
 @dataclass(frozen=True)

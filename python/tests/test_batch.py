@@ -175,17 +175,19 @@ class Leaving(unittest.TestCase):
 
     def test_the_interpreter_ends(self) -> None:
         script = f"""
-import sys, time
+import time
+from concurrent.futures import ThreadPoolExecutor
 from cgcalc import Session
-replies = Session(share=10, cells=10, processes=3, program={self.slow!r}).replies(
-    ["value 1", *["value 2"] * 40])
+limits = dict(share=10, cells=10, processes=3, program={self.slow!r})
+replies = Session(executor=EXECUTOR, **limits).replies(["value 1", *["value 2"] * 40])
 print(next(replies), flush=True)
 while len(open({str(self.noted)!r}).read().split()) < 2: time.sleep(0.02)
 """
-        for ending in ("", "import os, signal; os.kill(os.getpid(), signal.SIGKILL)"):
+        killed = "import os, signal; os.kill(os.getpid(), signal.SIGKILL)"
+        for executor, ending in [("None", ""), ("ThreadPoolExecutor(3)", ""), ("None", killed)]:
             self.noted.write_text("")
             done = subprocess.run(
-                [sys.executable, "-c", script + ending],
+                [sys.executable, "-c", script.replace("EXECUTOR", executor) + ending],
                 env={**os.environ, "PYTHONPATH": str(ROOT / "python")},
                 stdout=subprocess.PIPE,
                 timeout=60,
