@@ -6,18 +6,17 @@ and what is full with more, up to the share that each of them has.
 """
 from __future__ import annotations
 
+import sys
 from concurrent.futures import FIRST_COMPLETED, Executor, Future, wait
 from dataclasses import dataclass, replace
 from typing import Callable, Generator, Optional, Sequence, Union
 
-from cgcalc.errors import WrongCall
-from cgcalc.limits import MOST_BYTES, MOST_CELLS, MOST_LINES, MOST_WORKERS
+from cgcalc.limits import MOST_BYTES, MOST_LINES, MOST_WORKERS
+from cgcalc.lines import cut_output, encoded, session_bytes, table_of
 from cgcalc.program import CgError
 from cgcalc.replies import Failed
 from cgcalc.runs import Ended, Job, Runs, Threads, run
 
-SESSION_FORMAT = "cg 2"
-"""The line that begins a session with names."""
 FULL = "! full"
 SMALL_SHARES = {1_024: 3, 8_192: 1, 65_536: 1, 524_288: 1, 4_194_304: 1}
 """The shares that are tried first, with the quarters of the lines that make each worth its time."""
@@ -116,11 +115,16 @@ class Batch:
                 self._next += 1
                 yield self._texts.pop(self._next - 1)
         finally:
-            for future in self._flying:
-                future.cancel()
-            self._runs.stop()
-            if self._limits.executor is None:
-                executor.shutdown()
+            if not sys.is_finalizing():  # else all runs are stopped, and no thread goes on
+                self._leave(executor)
+
+    def _leave(self, executor: Executor) -> None:
+        """Stops what runs."""
+        for future in self._flying:
+            future.cancel()
+        self._runs.stop()
+        if self._limits.executor is None:
+            executor.shutdown()
 
     def _send(self, executor: Executor) -> None:
         """Sends runs until there are twice as many as run at once, or no line is left to send."""
@@ -261,42 +265,3 @@ class Batch:
             self._runs,
         )
         return Piece(step, lines, job, len(before))
-
-
-def table_of(share: int, lines: int) -> int:
-    """The cells of which each line has the share, an odd number where it can be, for speed."""
-    cells = share * lines
-    if cells > MOST_CELLS:
-        raise WrongCall(
-            f"{lines} lines, a question and the definitions that it needs, have a share of"
-            f" {share} only in a table of {cells} cells, and {MOST_CELLS} are the most: give a"
-            " smaller share"
-        )
-    return cells + 1 if lines > 1 and cells % 2 == 0 and cells < MOST_CELLS else cells
-
-
-def encoded(line: str) -> bytes:
-    """The bytes of a line."""
-    return line.encode(errors="surrogateescape")
-
-
-def session_bytes(lines: Sequence[str]) -> bytes:
-    """The bytes of a session with names.
-
-    >>> session_bytes(["value ^"])
-    b'cg 2\\nvalue ^\\n'
-    """
-    return b"".join(encoded(line) + b"\n" for line in (SESSION_FORMAT, *lines))
-
-
-def cut_output(written: bytes, lines: int) -> list[str]:
-    """The replies in what the program wrote, one for each line behind the first.
-
-    >>> cut_output(b"2: 1\\n3: ! full\\n", 2)
-    ['1', '! full']
-    """
-    cut = [line.partition(": ") for line in written.decode(errors="replace").split("\n")]
-    numbers = [number for number, _, _ in cut]
-    if numbers != [*(str(number) for number in range(2, lines + 2)), ""]:
-        raise CgError(f"the program wrote what are no answers to {lines} lines: is it cg?")
-    return [text for _, _, text in cut[:-1]]

@@ -9,12 +9,12 @@ import sys
 from pathlib import Path
 from typing import Iterable, Iterator, Optional, Sequence
 
-from cgcalc.batch import SESSION_FORMAT
 from cgcalc.completion import start_completion
 from cgcalc.drawing import drawn
 from cgcalc.errors import WrongCall
 from cgcalc.help import help_on, overview
 from cgcalc.limits import SHELL_SHARE
+from cgcalc.lines import SESSION_FORMAT
 from cgcalc.program import CgError, ProgramFailed
 from cgcalc.refusals import Refusal
 from cgcalc.replies import BLANKS, Failed, Reply, word_of
