@@ -33,6 +33,7 @@ from cgcalc.tool import (
     tell,
     write_output,
 )
+from cgcalc.version import add_version
 
 try:
     import readline
@@ -95,7 +96,7 @@ def read_words(words: Optional[Sequence[str]]) -> argparse.Namespace:
     reader.add_argument("files", nargs="*", metavar="FILE", help=files)
     reader.add_limits(SHELL_SHARE)
     reader.add_runs()
-    reader.add_version()
+    add_version(reader)
     return reader.parse_args(words)
 
 

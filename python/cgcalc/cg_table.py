@@ -31,6 +31,7 @@ from cgcalc.tool import (
     status_of,
     tell,
 )
+from cgcalc.version import add_version
 
 COMMAND = "cg-table"
 
@@ -87,8 +88,8 @@ def read_words(words: Optional[Sequence[str]]) -> argparse.Namespace:
     reader.add_runs()
     cells = f"the most cells of a run's table ({CELLS})"
     add("--cells", type=int, default=CELLS, metavar="C", help=cells)
-    reader.add_version()
-    return reader.parse_args(words)
+    add_version(reader)
+    return reader.parse_intermixed_args(words)
 
 
 def asked(options: argparse.Namespace) -> Questions:

@@ -191,10 +191,10 @@ class Session(TypedCalls):
         each size filled with `fill`, and `{rows}` and `{columns}` for the sizes.
 
         >>> questions = ['value Toads("{board}")', 'outcome Toads("{board}")']
-        >>> print(Session().table(questions, boards=["T.F", "TT.FF"]))
-        board  value  outcome
-        T.F    *      N
-        TT.FF  0      P
+        >>> print(Session().table(questions, boards=["T.F", "TT..FF"]))
+        board   value  outcome
+        T.F     *      N
+        TT..FF  *      N
         """
         table = Table(questions_of(questions, boards, rows, columns, fill))
         table.replies = self.ask([entry.question for entry in table.entries], progress=progress)

@@ -6,11 +6,10 @@ import os
 import signal
 import sys
 from pathlib import Path
-from typing import NoReturn, Optional
+from typing import NoReturn
 
 from cgcalc.errors import WrongCall
 from cgcalc.limits import POSITIONS
-from cgcalc.version import version_text
 
 REFUSED = 1
 BAD_USE = 2
@@ -44,25 +43,6 @@ class Words(argparse.ArgumentParser):
         size = "how much memory a run may take, as 500M or 2G"
         self.add_argument("--timeout", type=float, metavar="S", help=seconds)
         self.add_argument("--memory", type=bytes_of, metavar="SIZE", help=size)
-
-    def add_version(self) -> None:
-        """Adds the option that tells the version."""
-        told = "tells the version, the program and what it is proved with"
-        self.add_argument("--version", action=Version, nargs=0, help=told)
-
-
-class Version(argparse.Action):
-    """Tells the version, and ends the command."""
-
-    def __call__(
-        self,
-        parser: argparse.ArgumentParser,
-        namespace: argparse.Namespace,
-        values: object,
-        option_string: Optional[str] = None,
-    ) -> None:
-        print(version_text(parser.prog))
-        parser.exit()
 
 
 def bytes_of(text: str) -> int:

@@ -11,12 +11,12 @@ import time
 import unittest
 from concurrent.futures import Executor, ProcessPoolExecutor, ThreadPoolExecutor
 from pathlib import Path
-from typing import Any, Callable
+from typing import Any
 from unittest import mock
 
 from cgcalc import CgError, Failed, Refusal, Session, Value, WrongCall, find_program
 from cgcalc.runs import environment
-from tests.places import ROOT, program
+from tests.places import ROOT, ended, program, waits
 
 FULL = Refusal("full")
 
@@ -43,22 +43,6 @@ def cost_of(line: str, most: int = 1 << 17) -> int:
         share = (least + most) // 2
         least, most = (share + 1, most) if at_once([line], share) == ["! full"] else (least, share)
     return least
-
-
-def waits(check: Callable[[], bool]) -> bool:
-    """Whether something comes true within half a minute."""
-    end = time.monotonic() + 30
-    while not check() and time.monotonic() < end:
-        time.sleep(0.02)
-    return check()
-
-
-def ended(process: int) -> bool:
-    """Whether a process has ended."""
-    try:
-        return Path(f"/proc/{process}/stat").read_text().split()[2] == "Z"
-    except OSError:
-        return True
 
 
 class SmallSharesFirst(unittest.TestCase):

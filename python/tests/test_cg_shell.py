@@ -252,7 +252,8 @@ class InAPipe(unittest.TestCase):
 
     def test_commands_that_are_none(self) -> None:
         rows = [
-            (":help more", "`:help more` is no command; `:help` tells them"),
+            (":help more", "there is nothing to tell of `more`; `:help` tells what can be typed"),
+            (":names more", "`:names more` is no command; `:help` tells them"),
             (":what", "`:what` is no command; `:help` tells them"),
             (":share", "`:share` is no command; `:help` tells them"),
             (":share x", "share must be a number from 1 to 67108864"),
@@ -275,7 +276,8 @@ class InAPipe(unittest.TestCase):
         for words, told in [
             (["--share", "0"], "share must be a number from 1 to 67108864"),
             (["--positions", "many"], "invalid int value: 'many'"),
-            (["file"], "unrecognized arguments: file"),
+            (["nowhere"], "nowhere can't be read: No such file or directory"),
+            (["--what"], "unrecognized arguments: --what"),
         ]:
             with self.subTest(words=words):
                 status, written, message = run("cg-shell", words)
