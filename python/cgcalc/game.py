@@ -41,7 +41,8 @@ class Game(Operand):
     """A game, made of a text in the notation, a number, a value, a board or another game.
 
     A game never changes. What it is asked for, it asks the program once, when it is wanted: it
-    asks `session`, or where that isn't given the default session. Refusals raise `Refused`.
+    asks `session`, or where that isn't given the default session. Names in its text mean what that
+    session binds them to then. Refusals raise `Refused`.
 
     >>> g = Game("{2|-1}")
     >>> g.mean, g.temperature, g.outcome
@@ -183,7 +184,8 @@ class Game(Operand):
         if isinstance(other, str):
             raise WrongCall(f"a text is no game by itself: write Game({other!r}) behind the ==")
         if isinstance(other, Game):
-            return self._terms == other._terms or self.value == other.value
+            same = self._terms == other._terms and self._session is other._session
+            return same or self.value == other.value
         return self.value == other
 
     def __hash__(self) -> int:
@@ -195,7 +197,14 @@ class Game(Operand):
     def __repr__(self) -> str:
         return f"Game({self.expression!r})"
 
+    def __copy__(self) -> Game:
+        return self
+
+    def __deepcopy__(self, memo: object) -> Game:
+        return self
+
     def __reduce__(self) -> tuple[Any, ...]:
+        """What is sent to another process, where the game asks the default session."""
         if self._board is not None:
             return Game, (self._board,)
         return Game._made, (self._terms, None)
