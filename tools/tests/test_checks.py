@@ -1,0 +1,353 @@
+"""Each check of .ci/run fails on what it is there for, and on nothing to check."""
+import os
+import shlex
+import shutil
+import subprocess
+import sys
+import tempfile
+import unittest
+
+FOLDER = os.path.dirname(os.path.abspath(__file__))
+ROOT = os.path.dirname(os.path.dirname(FOLDER))
+REAL = os.environ["CG"]
+GOOD_PAGE = "```console\n$ echo 1\n1\n```\n"
+
+
+class Tried(unittest.TestCase):
+    """A check, run in a folder of its own with programs that stand in for the real one."""
+
+    def setUp(self):
+        holder = tempfile.TemporaryDirectory()
+        self.addCleanup(holder.cleanup)
+        self.folder = holder.name
+
+    def program(self, script):
+        """A program that is a shell script, in which $REAL is the real one."""
+        path = os.path.join(self.folder, "program")
+        with open(path, "w", encoding="utf-8") as file:
+            file.write(f"#!/bin/sh\nREAL={shlex.quote(REAL)}\n{script}\n")
+        os.chmod(path, 0o755)
+        return path
+
+    def copied(self, *parts):
+        """The tools with these parts of the repository, as a repository of its own."""
+        top = os.path.join(self.folder, "copy")
+        for part in ("tools", *parts):
+            source, place = os.path.join(ROOT, part), os.path.join(top, part)
+            os.makedirs(os.path.dirname(place), exist_ok=True)
+            if os.path.isdir(source):
+                shutil.copytree(source, place, ignore=shutil.ignore_patterns("out", "__pycache__", ".mypy_cache"))
+            else:
+                shutil.copy(source, place)
+        return top
+
+    def run_tool(self, *words, top=ROOT, program=REAL, path=None):
+        """Runs a tool: its status, and all that it wrote."""
+        environment = dict(os.environ, CG=program, **({"PATH": path} if path else {}))
+        command = [sys.executable, "-B", os.path.join(top, "tools", words[0]), *words[1:]]
+        done = subprocess.run(command, cwd=top, env=environment, capture_output=True, timeout=300, check=False)
+        return done.returncode, done.stdout.decode() + done.stderr.decode()
+
+    def fails(self, told, *words, status=1, **given):
+        """A tool ends with the status, and says so; where it is bad use, in one line."""
+        ended, written = self.run_tool(*words, **given)
+        self.assertEqual(ended, status, written)
+        self.assertIn(told, written)
+        if status == 2:
+            self.assertEqual(written.count("\n"), 1, written)
+
+    def page(self, text):
+        """The path of a document."""
+        path = os.path.join(self.folder, "page.md")
+        with open(path, "w", encoding="utf-8") as file:
+            file.write(text)
+        return path
+
+
+class BadUse(Tried):
+    """One clear line, and status 2."""
+
+    def test_words_that_are_none(self):
+        for name in sorted(os.listdir(os.path.join(ROOT, "tools"))):
+            path = os.path.join(ROOT, "tools", name)
+            if os.path.isfile(path) and "." not in name:
+                with self.subTest(name=name):
+                    self.fails("(--help tells the words)", name, "--nosuchword", status=2)
+                    ended, written = self.run_tool(name, "--help")
+                    self.assertEqual((ended, written[:6]), (0, "usage:"))
+
+    def test_nothing_is_asked_for(self):
+        self.fails("'0' is no whole number from 1 on", "compare-workers", "0", status=2)
+        self.fails("'0' is no whole number from 1 on", "compare-workers", "5", "0", status=2)
+        self.fails("'0' is no whole number from 1 on", "compare-reference", "--sessions", "0", status=2)
+        self.fails("'0' is no number above 0", "compare-reference", "--minutes", "0", status=2)
+        self.fails("'0' is no whole number from 1 on", "refuse-allocations", "0", status=2)
+        self.fails("unrecognized arguments: --session", "compare-reference", "--session", "5", status=2)
+        self.fails("required: DOCUMENT", "check-examples", status=2)
+
+    def test_a_program_that_is_not_there(self):
+        documents = {"check-examples": [self.page(GOOD_PAGE)]}
+        for name in ("check-examples", "check-python", "check-tools", "check-words", "compare-reference", "compare-workers",
+                     "refuse-allocations", "fuzz-sessions", "bench", "board-sizes", "worst-inputs"):
+            with self.subTest(name=name):
+                self.fails("/nowhere isn't built", name, *documents.get(name, []), program="/nowhere", status=2)
+
+
+class Examples(Tried):
+    """check-examples."""
+
+    def test_a_good_page(self):
+        self.assertEqual(self.run_tool("check-examples", self.page(GOOD_PAGE))[0], 0)
+
+    def test_pages_without_examples(self):
+        for told, text in [
+            (":1: there is no console block", ""),
+            (":1: there is no console block", "```\n$ echo 1\n1\n```\n"),
+            (":2: the block begins with no command", "```console\n```\n"),
+            (":2: the block begins with no command", "```console\n1\n$ echo 1\n1\n```\n"),
+            (":1: the fence isn't closed", "```console\n$ echo 1\n1\n"),
+            (":5: the fence isn't closed", GOOD_PAGE + "```console\n$ echo 1\n1\n"),
+            (":1: the fence isn't closed before line 4", "```console\n$ echo 1\n1\n" + GOOD_PAGE),
+            (":2: the fence is indented", "- a list\n  ```console\n  $ echo 1\n  1\n  ```\n" + GOOD_PAGE),
+        ]:
+            with self.subTest(text=text):
+                self.fails(told, "check-examples", self.page(text))
+                self.fails(told, "check-examples", "README.md", self.page(text))
+
+    def test_a_page_that_is_not_there(self):
+        self.fails("nowhere/*.md can't be read", "check-examples", "nowhere/*.md", status=2)
+
+    def test_what_commands_do(self):
+        for told, text in [
+            ("wanted:\n2\nprinted, with status 0:\n1\n", "$ echo 1\n2\n"),
+            ("with status 3", "$ (exit 3)\n"),
+            ("with status none", "$ exit 0\n$ echo 1\n1\n"),
+            ("written to standard error:\n1\n", "$ echo 1 >&2\n"),
+            ("with status 139", "$ (kill -11 $BASHPID)\n"),
+        ]:
+            with self.subTest(text=text):
+                self.fails(told, "check-examples", self.page(f"```console\n{text}```\n"))
+
+
+class Programs(Tried):
+    """Programs that answer otherwise than they should."""
+
+    CHECKS = (("compare-reference", "--rows"), ("compare-reference", "--sessions", "5"), ("compare-workers", "2"))
+
+    def test_a_program_that_writes_to_standard_error(self):
+        for check in self.CHECKS + (("check-words",),):
+            with self.subTest(check=check):
+                self.fails("", *check, program=self.program('echo "a word" >&2; exec "$REAL" "$@"'))
+                self.fails("", *check, program=self.program('exec "$REAL" "$@" >&2'))
+
+    def test_a_program_that_dies_of_a_signal(self):
+        for check in self.CHECKS + (("check-words",), ("refuse-allocations", "1")):
+            with self.subTest(check=check):
+                self.fails("", *check, program=self.program('"$REAL" "$@"; kill -9 $$'))
+
+    def test_a_program_with_another_status(self):
+        for check in self.CHECKS[:2]:
+            with self.subTest(check=check):
+                self.fails("", *check, program=self.program('"$REAL" "$@"; exit 0'))
+
+    def test_a_program_that_answers_nothing(self):
+        for check in self.CHECKS[:2] + (("check-words",), ("refuse-allocations", "1")):
+            with self.subTest(check=check):
+                self.fails("", *check, program=self.program("cat > /dev/null"))
+
+    def test_answers_that_depend_on_the_workers(self):
+        script = '"$REAL" "$@" | case "$*" in *"--workers 64"*) sed "s/1/2/";; *) cat;; esac'
+        self.fails("differs with 64 workers", "compare-workers", "3", program=self.program(script))
+
+    def test_no_allocation_that_is_refused(self):
+        program = self.program('unset LD_PRELOAD; exec "$REAL" "$@"')
+        self.fails("no run ended for want of memory", "refuse-allocations", "1", program=program)
+
+
+class Generator(Tried):
+    """compare-reference, where the generator or the reference is spoilt."""
+
+    def spoilt(self, name, before, behind):
+        """The tools, with a text of one file replaced."""
+        top = self.copied()
+        path = os.path.join(top, "tools", name)
+        with open(path, encoding="utf-8") as file:
+            text = file.read()
+        self.assertEqual(text.count(before), 1, before)
+        with open(path, "w", encoding="utf-8") as file:
+            file.write(text.replace(before, behind))
+        return top
+
+    def test_a_generator_without_heaps(self):
+        top = self.spoilt("seeded/positions.py", 'return position(dice, "Octal", wide)', 'return position(dice, "Col", wide)')
+        self.fails("never came: cause 'octal', cause 'heap', game 'Octal'", "compare-reference", "--sessions", "400", top=top)
+
+    def test_a_process_that_dies(self):
+        top = self.spoilt("seeded/seeds.py", "    turn, place =", "    if seed > 20:\n        import os; os._exit(0)\n    turn, place =")
+        self.fails("a process that compares died", "compare-reference", "--sessions", "400", top=top)
+
+    def test_a_generator_that_fails(self):
+        top = self.spoilt("seeded/seeds.py", "    turn, place =", "    turn, place = 1 // 0,")
+        self.fails("can't be compared: ZeroDivisionError", "compare-reference", "--sessions", "5", top=top)
+
+    def test_pieces_that_are_lost(self):
+        top = self.spoilt("reference/boards.py", "                    found.append(piece)", "                    found[:] = [piece]")
+        self.fails("Differs", "compare-reference", "--sessions", "100", top=top)
+
+    def test_no_rows(self):
+        top = self.copied()
+        with open(os.path.join(top, "tools", "reference", "tests", "rows.txt"), "w", encoding="utf-8"):
+            pass
+        self.fails("there are no rows", "compare-reference", "--rows", top=top)
+
+
+class Tests(Tried):
+    """check-python and check-tools."""
+
+    def tests(self, text):
+        """The repository with one file of tests for the package."""
+        top = self.copied("python/cgcalc")
+        os.makedirs(os.path.join(top, "python", "tests"))
+        for name, written in [("__init__.py", ""), ("test_one.py", text)]:
+            with open(os.path.join(top, "python", "tests", name), "w", encoding="utf-8") as file:
+                file.write(written)
+        return top
+
+    def test_words_that_no_test_has(self):
+        for check in ("check-python", "check-tools"):
+            with self.subTest(check=check):
+                self.fails("there is no such test", check, "nosuchword")
+
+    def test_folders_without_tests(self):
+        self.fails("there is no such test", "check-python", top=self.tests(""))
+
+    def test_tests_that_fail_or_are_left_out_or_can_not_be_loaded(self):
+        case = "import unittest\n\n\nclass One(unittest.TestCase):\n    def test_it(self):\n        "
+        for told, text in [
+            ("1 tests, 1 failed", case + "self.fail()\n"),
+            ("is left out: no vim", case + "self.skipTest('no vim')\n"),
+            ("can't be loaded", "import nosuchmodule\n"),
+        ]:
+            with self.subTest(told=told):
+                self.fails(told, "check-python", top=self.tests(text))
+                shutil.rmtree(os.path.join(self.folder, "copy"))
+        self.assertEqual(self.run_tool("check-python", top=self.tests(case + "pass\n"))[0], 0)
+
+    def test_a_missing_vim(self):
+        places = [place for place in os.environ["PATH"].split(os.pathsep) if not os.path.exists(os.path.join(place, "vim"))]
+        needed = os.path.join(self.folder, "bin")
+        os.mkdir(needed)
+        for name in ("sh", "env", "python3", "cat", "bash"):
+            os.symlink(shutil.which(name), os.path.join(needed, name))
+        path = os.pathsep.join([needed, *places])
+        self.fails("is left out: vim isn't there", "check-python", "test_editors", path=path)
+
+
+class Style(Tried):
+    """check-style."""
+
+    def test_nothing_to_count(self):
+        top = self.copied("docs/GATE.md", "crates.txt")
+        self.fails("no file .rt in src/ was found", "check-style", top=top)
+
+    def test_a_count_that_the_page_does_not_state(self):
+        top = self.copied("docs/GATE.md", "crates.txt", "crates/cg_dyadic")
+        page = os.path.join(top, "docs", "GATE.md")
+        with open(page, "w", encoding="utf-8"):
+            pass
+        self.fails("counts above what docs/GATE.md states", "check-style", top=top)
+
+
+class Lint(Tried):
+    """check-lint."""
+
+    def test_an_import_that_is_not_used_and_a_wrong_type(self):
+        top = self.copied("python/cgcalc")
+        for name, text, told in [
+            ("python/cgcalc/spoilt.py", "import os\n", "F401"),
+            ("python/cgcalc/spoilt.py", 'NUMBER: int = "one"\n', "Incompatible types"),
+            ("tools/spoilt.py", "import os\n", "F401"),
+        ]:
+            with self.subTest(told=told):
+                path = os.path.join(top, name)
+                with open(path, "w", encoding="utf-8") as file:
+                    file.write(text)
+                self.fails(told, "check-lint", top=top)
+                os.remove(path)
+
+    def test_linters_that_are_not_there(self):
+        self.fails("flake8 isn't there (Debian's package flake8)", "check-lint", path="/nowhere", status=2)
+
+
+class Gate(Tried):
+    """`.ci/run` itself, with stand-ins for all that it runs."""
+
+    def gate(self, python="exit 0", ends=(), prover=0):
+        """Runs it: its status, what it wrote, and the tools that it ran. Each tool of `ends` ends with status 5."""
+        top = os.path.join(self.folder, "gate")
+        places = [os.path.join(top, ".ci"), os.path.join(top, "tools"), os.path.join(top, "bin")]
+        for place in places:
+            os.makedirs(place, exist_ok=True)
+        with open(os.path.join(ROOT, ".ci", "run"), encoding="utf-8") as file:
+            script = file.read()
+        self.assertIn("PATH=/usr/bin:", script)
+        scripts = {".ci/run": script.replace("PATH=/usr/bin:", f"PATH={top}/bin:"), "bin/rt": f"#!/bin/sh\nexit {prover}\n",
+                   "bin/python3": f"#!/bin/sh\n{python}\n"}
+        for name in os.listdir(os.path.join(ROOT, "tools")):
+            scripts[f"tools/{name}"] = f'#!/bin/sh\necho "ran $0 $*"\nexit {5 if name in ends else 0}\n'
+        for name, text in scripts.items():
+            path = os.path.join(top, name)
+            if os.path.isdir(os.path.join(ROOT, name)):
+                continue
+            with open(path, "w", encoding="utf-8") as file:
+                file.write(text)
+            os.chmod(path, 0o755)
+        environment = dict(os.environ, PATH=os.path.join(top, "bin") + os.pathsep + os.environ["PATH"])
+        done = subprocess.run([os.path.join(top, ".ci", "run")], env=environment, capture_output=True, timeout=60, check=False)
+        written = done.stdout.decode()
+        ran = [line.split()[1].rpartition("/")[2] for line in written.splitlines() if line.startswith("ran ")]
+        return done.returncode, written, ran
+
+    def test_the_prover_fails(self):
+        self.assertEqual(self.gate(prover=3), (3, "", []))
+
+    def test_an_old_python(self):
+        ended, written, ran = self.gate(python="exit 1")
+        self.assertEqual((ended, ran, written.count("\n")), (1, [], 1))
+        self.assertIn("Python 3.9 or later is needed", written)
+
+    def test_each_step_fails_the_gate(self):
+        ended, _, steps = self.gate()
+        self.assertEqual(ended, 0)
+        for name in ("install-packages", "check-lint", "check-examples", "check-python", "check-tools", "compare-reference",
+                     "check-words", "compare-workers", "refuse-allocations", "check-style"):
+            with self.subTest(name=name):
+                self.assertIn(name, steps)
+                ended, _, ran = self.gate(ends=[name])
+                self.assertEqual((ended, ran[-1]), (5, name))
+
+
+class Packages(Tried):
+    """install-packages."""
+
+    def tried(self, apt_get, known="exit 1"):
+        """Runs it with a stand-in for apt-get, and one for dpkg-query."""
+        folder = os.path.join(self.folder, "bin")
+        os.makedirs(folder, exist_ok=True)
+        for name, script in [("apt-get", apt_get), ("dpkg-query", known)]:
+            with open(os.path.join(folder, name), "w", encoding="utf-8") as file:
+                file.write(f"#!/bin/sh\n{script}\n")
+            os.chmod(os.path.join(folder, name), 0o755)
+        return self.run_tool("install-packages", path=folder + os.pathsep + os.environ["PATH"])
+
+    def test_all_are_there(self):
+        self.assertEqual(self.tried("exit 1", known="echo install ok installed"), (0, ""))
+
+    def test_they_can_not_be_installed(self):
+        ended, written = self.tried("echo no network; exit 100")
+        self.assertEqual((ended, written.count("\n")), (1, 1))
+        self.assertRegex(written, "^install-packages: apt-get couldn't install flake8 .*: no network$")
+
+    def test_they_are_not_there_all_the_same(self):
+        ended, written = self.tried("exit 0")
+        self.assertEqual((ended, written.count("\n")), (1, 1))
