@@ -14,16 +14,21 @@ def cases(suite):
             yield test
 
 
-def chosen(folder, top, words):
-    """The tests of a folder in whose names one of the words stands, docstrings too, or all; and what couldn't be loaded."""
-    loader = unittest.TestLoader()
-    found = list(cases(loader.discover(folder, top_level_dir=top)))
-    return [test for test in found if not words or any(word in test.id() for word in words)], loader.errors
+def chosen(places, words):
+    """The tests of some folders in whose names one of the words stands, docstrings too, or all; and what couldn't be loaded."""
+    found, errors = [], []
+    for folder, top in places:
+        loader = unittest.TestLoader()
+        tests = cases(loader.discover(folder, top_level_dir=top))
+        found += [test for test in tests if not words or any(word in test.id() for word in words)]
+        errors += loader.errors
+    return found, errors
 
 
-def run_tests(name, folder, top, words, seconds):
-    """Runs the tests of a folder that words choose, and prints what fails and a line with counts: 0, or 1 where not all is well."""
-    tests, errors = chosen(folder, top, words)
+def run_tests(name, places, words, seconds):
+    """Runs the tests of some folders, each with the folder that its modules are named from, that words choose. It prints what
+    fails and a line with counts, and gives 0, or 1 where not all is well."""
+    tests, errors = chosen(places, words)
     faulthandler.dump_traceback_later(seconds, exit=True)
     told = io.StringIO()
     result = unittest.TextTestRunner(told).run(unittest.TestSuite(tests))

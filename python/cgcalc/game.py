@@ -1,13 +1,13 @@
 """Games: immutable objects that are added and compared, and that ask the program when they must."""
 from __future__ import annotations
 
-import re
 from fractions import Fraction
 from numbers import Integral, Rational
 from typing import Any, Callable, Iterable, Optional, TypeVar, Union
 
 from cgcalc.board import Board, read_board
 from cgcalc.errors import WrongCall
+from cgcalc.expressions import NUMBER, SIGN, is_primary, outside_of_brackets
 from cgcalc.latex import latex_of
 from cgcalc.operands import Expression, Operand, text_of
 from cgcalc.replies import Proof, Stops
@@ -19,14 +19,6 @@ from cgcalc.values import Value
 Answer = TypeVar("Answer")
 Options = Union[Expression, Iterable[Expression]]
 Term = tuple[bool, str]
-
-NUMBER = re.compile(r"(-?)([0-9]+(?:/[0-9]+)?)")
-SINGLE = re.compile(r"(?:\^|v)[0-9]+|\^+|v+|\*[0-9]*|\+-[0-9]+(?:/[0-9]+)?|[a-uw-z][a-z0-9]*")
-OPENING = re.compile(r"[A-Z]?[a-z]*[{(]")
-BRACKET = re.compile(r'"[^"]*"|["{}()]')
-CLOSING = {"{": "}", "(": ")"}
-SIGN = re.compile(r"[- \t+]")
-MORE = re.compile(r"[,;|]|:=")
 
 _defaults: list[Session] = []
 
@@ -49,7 +41,8 @@ class Game(Operand):
     """A game, made of a text in the notation, a number, a value, a board or another game.
 
     A game never changes. What it is asked for, it asks the program once, when it is wanted: it
-    asks `session`, or where that isn't given the default session. Refusals raise `Refused`.
+    asks `session`, or where that isn't given the default session. Names in its text mean what that
+    session binds them to then. Refusals raise `Refused`.
 
     >>> g = Game("{2|-1}")
     >>> g.mean, g.temperature, g.outcome
@@ -184,14 +177,15 @@ class Game(Operand):
         if not isinstance(count, Integral):
             raise WrongCall(f"a game is multiplied by a whole number, and {count!r} is none")
         minus, text = self._terms[0] if len(self._terms) == 1 else (False, f"({self.expression})")
-        copies = f"{abs(int(count))}.{text if _is_primary(text) else f'({text})'}"
+        copies = f"{abs(int(count))}.{text if is_primary(text) else f'({text})'}"
         return Game._made(((minus != (count < 0), copies),), self._session)
 
     def __eq__(self, other: object) -> bool:
         if isinstance(other, str):
             raise WrongCall(f"a text is no game by itself: write Game({other!r}) behind the ==")
         if isinstance(other, Game):
-            return self._terms == other._terms or self.value == other.value
+            same = self._terms == other._terms and self._session is other._session
+            return same or self.value == other.value
         return self.value == other
 
     def __hash__(self) -> int:
@@ -203,7 +197,14 @@ class Game(Operand):
     def __repr__(self) -> str:
         return f"Game({self.expression!r})"
 
+    def __copy__(self) -> Game:
+        return self
+
+    def __deepcopy__(self, memo: object) -> Game:
+        return self
+
     def __reduce__(self) -> tuple[Any, ...]:
+        """What is sent to another process, where the game asks the default session."""
         if self._board is not None:
             return Game, (self._board,)
         return Game._made, (self._terms, None)
@@ -278,47 +279,6 @@ def _parts_of(made_of: Expression) -> tuple[tuple[Term, ...], Optional[Board], d
     if number:
         return ((bool(number[1]) and number[2] != "0", number[2]),), None, {}
     known = {"value": made_of} if isinstance(made_of, Value) else {}
-    outside = _outside_of_brackets(text)
+    outside = outside_of_brackets(text)
     single = not SIGN.search(outside[2:] if outside.startswith("+-") else outside)
     return ((False, text if single else f"({text})"),), read_board(text), known
-
-
-def _outside_of_brackets(text: str) -> str:
-    """What of a text stands in no brackets; it has to be one expression for whoever adds to it.
-
-    >>> _outside_of_brackets('{2|-1}^ + 2.(1 - *) - Toads("T.F")')
-    '^ + 2. - Toads'
-    """
-    outside, start = "", 0
-    closing: list[str] = []
-    for found in BRACKET.finditer(text):
-        sign = found[0]
-        if not closing:
-            outside += text[start : found.start()]
-        start = found.end()
-        if sign in CLOSING:
-            closing.append(CLOSING[sign])
-        elif sign in ('"', "}", ")") and (not closing or closing.pop() != sign):
-            raise WrongCall(f"brackets or quotation marks of {text!r} don't match: mend them")
-    outside += "" if closing else text[start:]
-    if closing or MORE.search(outside):
-        raise WrongCall(f"{text!r} isn't one expression: give a text such as '{{2|-1}} + ^'")
-    return outside
-
-
-def _is_primary(text: str) -> bool:
-    """Whether a text may stand behind the point of a multiple.
-
-    >>> _is_primary("{2|0}"), _is_primary("{2|0}^"), _is_primary("3")
-    (True, False, False)
-    """
-    if SINGLE.fullmatch(text):
-        return True
-    if not OPENING.match(text):
-        return False
-    depth = 0
-    for found in BRACKET.finditer(text):
-        depth += {"{": 1, "(": 1, "}": -1, ")": -1}.get(found[0], 0)
-        if depth == 0 and found[0] in ")}":
-            return found.end() == len(text)
-    return False

@@ -49,7 +49,7 @@ class Plots(unittest.TestCase):
         self.assertEqual((status, titles(written), told), (0, boards, ""))
 
     def test_refusals_and_bad_use(self) -> None:
-        for words, status, message in [
+        rows: list[tuple[list[str], int, str]] = [
             (["{1,2}"], 1, "no line of the notation goes on like this at column 12"),
             (["*70", "--share", "5"], 1, "more than its share of the table"),
             (["6/3"], 1, "its denominator isn't a power of two"),
@@ -61,7 +61,8 @@ class Plots(unittest.TestCase):
             (["--board", "{1|0}"], 2, "is no board that can be drawn"),
             (["--board", 'Clobber("xo|o")'], 2, "is no board that can be drawn"),
             (["1", "-o", str(self.folder / "none" / "x")], 4, "No such file or directory"),
-        ]:
+        ]
+        for words, status, message in rows:
             with self.subTest(words=words):
                 found, written, told = run("cg-plot", words)
                 self.assertEqual((found, written), (status, ""))

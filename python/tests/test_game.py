@@ -112,6 +112,8 @@ class Made(unittest.TestCase):
         for g in (domineering("..|.."), Game("1 + ^") - Game("2*")):
             for other in (copy.copy(g), copy.deepcopy(g), pickle.loads(pickle.dumps(g)), Game(g)):
                 self.assertEqual((str(other), other.board), (str(g), g.board))
+        own = Game("^", session=Session())
+        self.assertIs(copy.deepcopy(own).session, own.session)
         value = pickle.loads(pickle.dumps(Value("*")))
         self.assertEqual(value, Value("*"))
 
@@ -211,6 +213,9 @@ class Sessions(unittest.TestCase):
         session = Session()
         session.define("room", "{2|-1}")
         self.assertEqual(Game("room + 1", session=session).value, Value("{3|0}"))
+        other = Session()
+        other.define("room", "*")
+        self.assertNotEqual(Game("room", session=session), Game("room", session=other))
         with self.assertRaisesRegex(Refused, "define the name") as caught:
             self.assertIsNotNone(Game("room").value)
         self.assertEqual((caught.exception.kind, caught.exception.place), ("name", 7))

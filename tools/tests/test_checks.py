@@ -204,7 +204,7 @@ class Generator(Tried):
 class Tests(Tried):
     """check-python and check-tools."""
 
-    def tests(self, text):
+    def with_tests(self, text):
         """The repository with one file of tests for the package."""
         top = self.copied("python/cgcalc")
         os.makedirs(os.path.join(top, "python", "tests"))
@@ -219,7 +219,7 @@ class Tests(Tried):
                 self.fails("there is no such test", check, "nosuchword")
 
     def test_folders_without_tests(self):
-        self.fails("there is no such test", "check-python", top=self.tests(""))
+        self.fails("there is no such test", "check-python", top=self.with_tests(""))
 
     def test_tests_that_fail_or_are_left_out_or_can_not_be_loaded(self):
         case = "import unittest\n\n\nclass One(unittest.TestCase):\n    def test_it(self):\n        "
@@ -229,9 +229,9 @@ class Tests(Tried):
             ("can't be loaded", "import nosuchmodule\n"),
         ]:
             with self.subTest(told=told):
-                self.fails(told, "check-python", top=self.tests(text))
+                self.fails(told, "check-python", top=self.with_tests(text))
                 shutil.rmtree(os.path.join(self.folder, "copy"))
-        self.assertEqual(self.run_tool("check-python", top=self.tests(case + "pass\n"))[0], 0)
+        self.assertEqual(self.run_tool("check-python", top=self.with_tests(case + "pass\n"))[0], 0)
 
     def test_a_missing_vim(self):
         places = [place for place in os.environ["PATH"].split(os.pathsep) if not os.path.exists(os.path.join(place, "vim"))]
