@@ -2,10 +2,12 @@
 import collections
 import re
 
+from .positions import MAKERS
+
 QUESTIONS = ("value", "compare", "outcome", "stops", "mean", "temp", "thermo", "proof", "check", "a definition")
 REFUSALS = ("syntax", "name", "parts", "positions", "range", "depth", "full", "long")
 CAUSES = ("rules", "symbol", "empty", "ragged", "large", "lowering", "edges", "octal", "heap")
-GAMES = ("Amazons", "Clobber", "Col", "Domineering", "Hackenbush", "Octal", "Snort", "Strip", "Toads")
+GAMES = tuple(sorted(MAKERS))
 STATUSES = ("0", "1", "2", "6", "7")
 
 # The kinds of literals, in the order in which they are looked for; a text in quotes stands for none.

@@ -179,11 +179,13 @@ class Generator(Tried):
         return top
 
     def test_a_generator_without_heaps(self):
-        top = self.spoilt("seeded/positions.py", 'return position(dice, "Octal", wide)', 'return position(dice, "Col", wide)')
-        self.fails("never came: cause 'octal', cause 'heap', game 'Octal'", "compare-reference", "--sessions", "400", top=top)
+        made = "kind(random.Random(seed))"
+        top = self.spoilt("seeded/seeds.py", made, f'[one for one in {made} if "Octal" not in one[1]]')
+        self.fails("cause 'octal', cause 'heap', game 'Octal'", "compare-reference", "--sessions", "400", top=top)
 
     def test_a_process_that_dies(self):
-        top = self.spoilt("seeded/seeds.py", "    turn, place =", "    if seed > 20:\n        import os; os._exit(0)\n    turn, place =")
+        dies = "    if seed > 20:\n        import os; os._exit(0)\n    turn, place ="
+        top = self.spoilt("seeded/seeds.py", "    turn, place =", dies)
         self.fails("a process that compares died", "compare-reference", "--sessions", "400", top=top)
 
     def test_a_generator_that_fails(self):
@@ -191,7 +193,7 @@ class Generator(Tried):
         self.fails("can't be compared: ZeroDivisionError", "compare-reference", "--sessions", "5", top=top)
 
     def test_pieces_that_are_lost(self):
-        top = self.spoilt("reference/boards.py", "                    found.append(piece)", "                    found[:] = [piece]")
+        top = self.spoilt("reference/boards.py", "found.append(piece)", "found[:] = [piece]")
         self.fails("Differs", "compare-reference", "--sessions", "100", top=top)
 
     def test_no_rows(self):
@@ -242,6 +244,20 @@ class Tests(Tried):
         path = os.pathsep.join([needed, *places])
         self.fails("is left out: vim isn't there", "check-python", "test_editors", path=path)
 
+    def test_a_vim_that_shows_no_line(self):
+        folder = os.path.join(self.folder, "bin")
+        os.mkdir(folder)
+        vim = os.path.join(folder, "vim")
+        with open(vim, "w", encoding="utf-8") as file:
+            file.write("""#!/bin/sh
+if [ "$1" = --version ]; then echo +syntax; exit; fi
+for script; do :; done
+echo cgsession > "$(sed -n "s/.*writefile(said, '\\(.*\\)').*/\\1/p" "$script")"
+""")
+        os.chmod(vim, 0o755)
+        path = folder + os.pathsep + os.environ["PATH"]
+        self.fails("2 tests, 2 failed", "check-python", "test_editors.Vim", path=path)
+
 
 class Style(Tried):
     """check-style."""
@@ -261,19 +277,21 @@ class Style(Tried):
 class Lint(Tried):
     """check-lint."""
 
-    def test_an_import_that_is_not_used_and_a_wrong_type(self):
+    def test_what_is_spoilt(self):
         top = self.copied("python/cgcalc")
-        for name, text, told in [
-            ("python/cgcalc/spoilt.py", "import os\n", "F401"),
-            ("python/cgcalc/spoilt.py", 'NUMBER: int = "one"\n', "Incompatible types"),
-            ("tools/spoilt.py", "import os\n", "F401"),
+        for name, text in [
+            ("python/cgcalc/spoilt.py", 'import os\nNUMBER: int = "one"\n'),
+            ("python/cgcalc/untyped.py", "def untyped(number):\n    return number\n"),
+            ("tools/spoilt.py", "import sys\n"),
         ]:
-            with self.subTest(told=told):
-                path = os.path.join(top, name)
-                with open(path, "w", encoding="utf-8") as file:
-                    file.write(text)
-                self.fails(told, "check-lint", top=top)
-                os.remove(path)
+            with open(os.path.join(top, name), "w", encoding="utf-8") as file:
+                file.write(text)
+        ended, written = self.run_tool("check-lint", top=top)
+        self.assertEqual(ended, 1)
+        self.assertIn("./cgcalc/spoilt.py:1:1: F401 'os' imported but unused", written)
+        self.assertIn("cgcalc/spoilt.py:2: error: Incompatible types in assignment", written)
+        self.assertIn("cgcalc/untyped.py:1: error: Function is missing a type annotation", written)
+        self.assertIn("./spoilt.py:1:1: F401 'sys' imported but unused", written)
 
     def test_linters_that_are_not_there(self):
         self.fails("flake8 isn't there (Debian's package flake8)", "check-lint", path="/nowhere", status=2)
