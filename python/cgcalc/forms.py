@@ -6,7 +6,7 @@ import io
 import json
 from fractions import Fraction
 from html import escape
-from typing import Any, Callable, Sequence
+from typing import Any, Callable, Optional, Sequence
 
 from cgcalc.refusals import Refusal
 from cgcalc.replies import (
@@ -84,8 +84,8 @@ def html_table(lines: Sequence[Cells]) -> str:
     return f"<table>{text}</table>"
 
 
-def fields_of(reply: Reply) -> Record:
-    """The kind of a reply, and its fields, as a record has them.
+def fields_of(reply: Reply, question: Optional[str] = None) -> Record:
+    """The kind of a reply, and its fields, as a record has them; a refusal also in a sentence.
 
     >>> fields_of(Stops(Fraction(1), Fraction(0)))
     {'kind': 'stops', 'left': Fraction(1, 1), 'right': Fraction(0, 1)}
@@ -100,6 +100,8 @@ def fields_of(reply: Reply) -> Record:
         return {"kind": kind, "left": reply.left, "right": reply.right}
     if isinstance(reply, Proof):
         return {"kind": kind, "holds": reply.holds, "proof": reply.text}
+    if isinstance(reply, (Refusal, Failed)):
+        return {"kind": kind, "refusal": str(reply), "sentence": reply.explain(question)}
     return {"kind": kind, **_field_of(reply)}
 
 
@@ -114,8 +116,6 @@ def _field_of(reply: Reply) -> Record:
         return {"winner": reply.winner}
     if isinstance(reply, Check):
         return {"accepted": reply.accepted}
-    if isinstance(reply, (Refusal, Failed)):
-        return {"refusal": str(reply), "sentence": reply.explain()}
     return {}
 
 

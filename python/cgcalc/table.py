@@ -68,7 +68,8 @@ class Table:
             heading: int(label) if heading in NUMBERS else label
             for heading, label in zip(self.labels, entry.labels)
         }
-        return {**labels, "question": entry.question, **fields_of(self.replies[number])}
+        fields = fields_of(self.replies[number], entry.question)
+        return {**labels, "question": entry.question, **fields}
 
     def text(self, form: str = "aligned") -> str:
         """The table as far as it came, in one of its forms."""
