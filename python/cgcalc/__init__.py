@@ -1,21 +1,33 @@
-"""Asks `cg`, a proved calculator for short partizan games, from Python.
+"""Short partizan games in Python: every answer is that of `cg`, a proved calculator.
 
->>> from cgcalc import Session
->>> session = Session()
->>> value, thermograph = session.ask(['value {2,1|0}', 'thermo Domineering("...|...")'])
->>> value.name
-'{2|0}'
->>> thermograph.mean, thermograph.temperature
-(Fraction(3, 4), Fraction(5, 4))
+>>> from cgcalc import Game, domineering
+>>> g = domineering("...|...")
+>>> g.value, g.mean, g.temperature
+(Value(name='{2|-1/2}'), Fraction(3, 4), Fraction(5, 4))
+>>> g > 0, (g + Game("^")).outcome
+(False, 'N')
 
-Every answer is the program's; nothing is computed here. docs/LANGUAGE.md is the manual of the
-notation, and docs/TOOLS.md that of this package.
+docs/LANGUAGE.md is the manual of the notation, and docs/TOOLS.md that of this package.
 """
+from cgcalc.board import Board
+from cgcalc.boards import (
+    amazons,
+    clobber,
+    col,
+    domineering,
+    hackenbush,
+    octal,
+    snort,
+    strip,
+    toads,
+)
+from cgcalc.errors import Refused, WrongCall
+from cgcalc.game import Game, default_session, game, use_session
 from cgcalc.program import CgError, ProgramFailed, ProgramMissing, find_program
 from cgcalc.refusals import Refusal
 from cgcalc.replies import (
     Check,
-    Corner,
+    Failed,
     Mean,
     Order,
     Outcome,
@@ -23,17 +35,24 @@ from cgcalc.replies import (
     Reply,
     Stops,
     Temperature,
-    Thermograph,
-    Value,
     read_reply,
 )
 from cgcalc.session import Definition, Session
+from cgcalc.stream import Replies
+from cgcalc.thermographs import Corner, Thermograph, Walls
+from cgcalc.typed import Comparison
+from cgcalc.values import Value
+from cgcalc.version import VERSION as __version__
 
 __all__ = [
+    "Board",
     "CgError",
     "Check",
+    "Comparison",
     "Corner",
     "Definition",
+    "Failed",
+    "Game",
     "Mean",
     "Order",
     "Outcome",
@@ -41,12 +60,29 @@ __all__ = [
     "ProgramMissing",
     "Proof",
     "Refusal",
+    "Refused",
+    "Replies",
     "Reply",
     "Session",
     "Stops",
     "Temperature",
     "Thermograph",
     "Value",
+    "Walls",
+    "WrongCall",
+    "__version__",
+    "amazons",
+    "clobber",
+    "col",
+    "default_session",
+    "domineering",
     "find_program",
+    "game",
+    "hackenbush",
+    "octal",
     "read_reply",
+    "snort",
+    "strip",
+    "toads",
+    "use_session",
 ]

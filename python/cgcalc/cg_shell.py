@@ -7,24 +7,33 @@ import os
 import shutil
 import sys
 from pathlib import Path
-from typing import Callable, Iterable, Iterator, Optional, Sequence
+from typing import Iterable, Iterator, Optional, Sequence
 
-from cgcalc.games import FORMS, GAMES
+from cgcalc.completion import start_completion
+from cgcalc.drawing import drawn
+from cgcalc.errors import WrongCall
+from cgcalc.help import help_on, overview
 from cgcalc.limits import SHELL_SHARE
+from cgcalc.lines import SESSION_FORMAT
 from cgcalc.program import CgError, ProgramFailed
 from cgcalc.refusals import Refusal
-from cgcalc.replies import BLANKS, READERS, Reply
-from cgcalc.session import FORMAT, Definition, Session, words_in
+from cgcalc.replies import BLANKS, Failed, Reply, word_of
+from cgcalc.session import Definition, Session, words_in
+from cgcalc.thermographs import Thermograph
 from cgcalc.tool import (
     BAD_USE,
+    PIPE_CLOSED,
     REFUSED,
     STOPPED,
     WRITE_FAILED,
     Words,
     end_by_signals,
+    place_whole,
+    status_of,
     tell,
     write_output,
 )
+from cgcalc.version import add_version
 
 try:
     import readline
@@ -33,18 +42,8 @@ except ImportError:  # a Python without it has neither history nor completion
 
 COMMAND = "cg-shell"
 PROMPT = "cg> "
-COMMANDS = (":help", ":names", ":positions ", ":quit", ":share ")
 PLACELESS = ("lowering", "heap")
 MOST_HISTORY = 2_000
-HELP = """\
-A question:    value E, outcome E, stops E, mean E, temp E, thermo E, compare E ; F,
-               proof E ; F, check E ; F ; "P"    (docs/LANGUAGE.md is the manual)
-A definition:  g := E, and from then on g stands for E
-:names         the definitions
-:share N       from now on each line may take N cells of the table
-:positions P   from now on no list of a line may have more than P items
-:help          this text
-:quit          ends the shell, as Ctrl-D does; Ctrl-C stops a question"""
 ADVICE = {
     "full": "; `:share N` gives a line more, and N was {share}",
     "positions": "; `:positions P` sets the limit, and P was {positions}",
@@ -52,6 +51,7 @@ ADVICE = {
 FAILURE_ADVICE = {
     5: "; `:share N` with a smaller N takes less memory",
     6: "; the line and the definitions that it needs are one session",
+    124: "; --timeout sets the limit",
 }
 
 
@@ -60,14 +60,24 @@ def main(words: Optional[Sequence[str]] = None) -> int:
     options = read_words(words)
     end_by_signals()
     try:
-        shell = Shell(Session(share=options.share, positions=options.positions))
-    except (CgError, ValueError) as error:
+        session = Session(
+            share=options.share,
+            positions=options.positions,
+            timeout=options.timeout,
+            memory=options.memory,
+        )
+        shell = Shell(session)
+        if options.line or options.files:
+            return serve_given(shell, options.line, options.files)
+        at_terminal = sys.stdin.isatty() and sys.stdout.isatty()
+        return serve_terminal(shell) if at_terminal else serve_pipe(shell)
+    except CgError as error:
         tell(COMMAND, str(error))
         return BAD_USE
-    try:
-        return serve_terminal(shell) if sys.stdin.isatty() else serve_pipe(shell)
     except KeyboardInterrupt:
         return STOPPED
+    except BrokenPipeError:
+        return PIPE_CLOSED
     except OSError as error:
         tell(COMMAND, f"writing failed: {error.strerror}")
         return WRITE_FAILED
@@ -80,8 +90,28 @@ def read_words(words: Optional[Sequence[str]]) -> argparse.Namespace:
         description="Answers questions one by one, and keeps definitions; `:help` tells more.",
         epilog="The history is kept in ~/.cg_history, or in the file that CG_HISTORY names.",
     )
+    line = "answer this line, then the files; it may be given several times"
+    files = "answer the lines of these files (- for standard input)"
+    reader.add_argument("-c", dest="line", metavar="LINE", action="append", default=[], help=line)
+    reader.add_argument("files", nargs="*", metavar="FILE", help=files)
     reader.add_limits(SHELL_SHARE)
+    reader.add_runs()
+    add_version(reader)
     return reader.parse_args(words)
+
+
+def serve_given(shell: Shell, given: Sequence[str], files: Sequence[str]) -> int:
+    """Answers lines that the command line gives, then those of files, and gives the status."""
+    texts = []
+    for name in files:
+        try:
+            texts.append(sys.stdin.buffer.read() if name == "-" else Path(name).read_bytes())
+        except OSError as error:
+            tell(COMMAND, f"{name} can't be read: {error.strerror}")
+            return BAD_USE
+    lines = [line for text in texts for line in text.decode(errors="surrogateescape").split("\n")]
+    shell.serve([part for line in given for part in line.split("\n")] + lines)
+    return shell.status
 
 
 def serve_pipe(shell: Shell) -> int:
@@ -93,7 +123,8 @@ def serve_pipe(shell: Shell) -> int:
 def serve_terminal(shell: Shell) -> int:
     """Answers the lines that are typed, and gives the status."""
     history = Path(os.environ.get("CG_HISTORY") or Path.home() / ".cg_history")
-    start_editing(shell.words, history)
+    start_editing(shell, history)
+    shell.is_typed = True
     say(f"{COMMAND}: a question on each line; `:help` tells more, Ctrl-D ends")
     try:
         shell.serve(typed_lines())
@@ -116,32 +147,15 @@ def typed_lines() -> Iterator[str]:
             return
 
 
-def start_editing(words: Callable[[], list[str]], history: Path) -> None:
+def start_editing(shell: Shell, history: Path) -> None:
     """Lets the arrow keys find earlier lines, and the tab key complete words."""
     if readline is None:
         return
-    readline.set_completer_delims(' \t\r{}|,;()+-*^/."')
-    readline.set_completer(completer(words))
-    readline.parse_and_bind("tab: complete")
+    start_completion(readline, lambda: shell.session.definitions)
     try:
         readline.read_history_file(str(history))
     except OSError:
         pass  # there is none yet
-
-
-def completer(words: Callable[[], list[str]]) -> Callable[[str, int], Optional[str]]:
-    """What readline asks for the words that begin with a text, one after the other.
-
-    >>> complete = completer(lambda: ["temp ", "thermo ", "value "])
-    >>> complete("t", 0), complete("t", 1), complete("t", 2)
-    ('temp ', 'thermo ', None)
-    """
-
-    def complete(text: str, number: int) -> Optional[str]:
-        fitting = [word for word in words() if word.startswith(text)]
-        return fitting[number] if number < len(fitting) else None
-
-    return complete
 
 
 def keep_history(history: Path) -> None:
@@ -152,7 +166,7 @@ def keep_history(history: Path) -> None:
     try:
         readline.set_history_length(MOST_HISTORY)
         readline.write_history_file(str(beside))
-        os.replace(beside, history)
+        place_whole(beside, history)
     except OSError as error:
         tell(COMMAND, f"the history isn't kept in {history}: {error.strerror}")
 
@@ -163,6 +177,7 @@ class Shell:
     def __init__(self, session: Session) -> None:
         self.session = session
         self.status = 0
+        self.is_typed = False
 
     def serve(self, lines: Iterable[str]) -> None:
         """Answers each line; `status` tells of refusals and failures.
@@ -171,18 +186,12 @@ class Shell:
         """
         for line in lines:
             text = line.strip(BLANKS)
-            if text == ":quit":
+            if text in (":quit", "quit", "exit"):
                 return
-            if text.startswith(":"):
+            if text.startswith(":") or word_of(text) in ("help", "?") and ":=" not in text:
                 self.obey(*text.split())
-            elif text and text != FORMAT and not text.startswith("#"):
+            elif text and text != SESSION_FORMAT and not text.startswith("#"):
                 self.answer(line)
-
-    def words(self) -> list[str]:
-        """The words that the tab key completes."""
-        questions = [f"{word} " for word in READERS]
-        games = [f'{game}("' for game in GAMES] + [f"{form}(" for form in FORMS]
-        return sorted([*questions, *games, *COMMANDS, *self.session.definitions])
 
     def answer(self, line: str) -> None:
         """Asks a line, and writes the reply."""
@@ -190,21 +199,38 @@ class Shell:
         try:
             if definition:
                 self.write(definition.line, self.session.define(definition.name, definition.text))
+            elif word_of(line) == "plot":
+                self.plot("thermo" + line.lstrip(BLANKS)[len("plot") :])
             else:
                 self.write(line, *self.session.ask([line]))
         except ProgramFailed as failed:
-            self.status = failed.status
-            say(f"{failed}{FAILURE_ADVICE.get(failed.status, '')}")
-        except (CgError, ValueError) as error:
+            self.tell_failure(failed)
+        except CgError as error:
             self.status = BAD_USE
             say(str(error))
         except KeyboardInterrupt:
-            if not sys.stdin.isatty():
+            if not self.is_typed:
                 raise
             say("stopped")
 
+    def plot(self, question: str) -> None:
+        """Draws the thermograph that a question asks for."""
+        (reply,) = self.session.ask([question])
+        if isinstance(reply, Thermograph):
+            say(drawn(reply))
+        else:
+            self.write(question, reply)
+
+    def tell_failure(self, failed: ProgramFailed) -> None:
+        """Says how a run failed."""
+        self.status = status_of(failed.status)
+        say(f"{failed}{FAILURE_ADVICE.get(failed.status, '')}")
+
     def write(self, line: str, reply: Reply) -> None:
         """Writes a reply. A refusal has its line, a caret where it points, and what it means."""
+        if isinstance(reply, Failed):
+            self.tell_failure(reply.error())
+            return
         if not isinstance(reply, Refusal):
             say(str(reply))
             return
@@ -219,8 +245,8 @@ class Shell:
 
     def obey(self, command: str, *words: str) -> None:
         """Does what a command of the shell's own says."""
-        if command == ":help" and not words:
-            say(HELP)
+        if command in (":help", "help", "?", ":?") and len(words) < 2:
+            self.help(*words)
         elif command == ":names" and not words:
             for name, text in self.session.definitions.items():
                 say(f"{name} := {text}")
@@ -230,13 +256,21 @@ class Shell:
             self.status = BAD_USE
             say(f"`{' '.join([command, *words])}` is no command; `:help` tells them")
 
+    def help(self, topic: str = "") -> None:
+        """Tells what can be typed, or what there is to tell of a topic."""
+        told = help_on(topic) if topic else overview()
+        if told is None:
+            self.status = BAD_USE
+            told = f"there is nothing to tell of `{topic}`; `:help` tells what can be typed"
+        say(told)
+
     def set_limit(self, name: str, text: str) -> None:
         """Sets what a line may take."""
         limits = {"share": self.session.share, "positions": self.session.positions}
         limits[name] = int(text) if text.isdecimal() else 0
         try:
             self.session.set_limits(**limits)
-        except ValueError as error:
+        except WrongCall as error:
             self.status = BAD_USE
             say(str(error))
 

@@ -1,4 +1,4 @@
-"""The command cg-table: asks one question of many boards and writes a table of the answers.
+"""The command cg-table: asks questions of many boards and writes a table of the answers.
 
     cg-table 'temp Domineering("{board}")' --rows 1-4 --columns 1-4 --fill .
 """
@@ -9,14 +9,29 @@ import sys
 from pathlib import Path
 from typing import Optional, Sequence
 
-from cgcalc.columns import headings_of
+from cgcalc.forms import FORMS
 from cgcalc.kept import Kept
 from cgcalc.limits import CELLS, SHARE
 from cgcalc.program import CgError, ProgramFailed
-from cgcalc.questions import Questions, questions_of_boards, questions_of_sizes, read_boards
-from cgcalc.session import Session, check_question
-from cgcalc.table import FiledTable, PrintedTable, Sink, Table
-from cgcalc.tool import BAD_USE, STOPPED, WRITE_FAILED, BadUse, Words, end_by_signals, tell
+from cgcalc.questions import Questions, questions_of, read_boards
+from cgcalc.refusals import Refusal
+from cgcalc.replies import Failed
+from cgcalc.session import BINDS_NOTHING, Definition, Session, check_question
+from cgcalc.sinks import FiledTable, PrintedTable, Sink
+from cgcalc.table import Table
+from cgcalc.tool import (
+    BAD_USE,
+    PIPE_CLOSED,
+    REFUSED,
+    STOPPED,
+    WRITE_FAILED,
+    BadUse,
+    Words,
+    end_by_signals,
+    status_of,
+    tell,
+)
+from cgcalc.version import add_version
 
 COMMAND = "cg-table"
 
@@ -26,13 +41,15 @@ def main(words: Optional[Sequence[str]] = None) -> int:
     options = read_words(words)
     end_by_signals()
     try:
-        questions = questions_of(options)
+        questions = asked(options)
         session = session_of(options, questions)
         sink = sink_of(options, questions)
-        return make(sink, session)
-    except BadUse as bad:
+        return make(sink, session, options.keep_going)
+    except CgError as bad:
         tell(COMMAND, str(bad))
         return BAD_USE
+    except BrokenPipeError:
+        return PIPE_CLOSED
     except OSError as error:
         tell(COMMAND, f"writing failed: {error.strerror}")
         return WRITE_FAILED
@@ -45,49 +62,70 @@ def read_words(words: Optional[Sequence[str]]) -> argparse.Namespace:
     """The options that the words of the command line give."""
     reader = Words(
         prog=COMMAND,
-        description="Asks one question of many boards and writes a table of the answers.",
+        description="Asks questions of many boards and writes a table of the answers.",
         epilog="The status is 1 where a question was refused; standard error then tells why.",
     )
     add = reader.add_argument
-    add("template", help="a question with {board}, {rows} or {columns} in it")
-    add("--rows", metavar="A-B", help="ask of boards with A to B rows")
-    add("--columns", metavar="A-B", help="ask of boards with A to B columns")
+    add(
+        "questions",
+        nargs="+",
+        metavar="question",
+        help="a question with {board}, {rows} or {columns} in it",
+    )
+    sizes = "ask of boards with so many {}, as 3, 1-4 or 0,2,5"
+    add("--rows", metavar="SIZES", help=sizes.format("rows"))
+    add("--columns", metavar="SIZES", help=sizes.format("columns"))
     add("--fill", metavar="TEXT", help="the symbol that fills the boards, or several in turn")
     add("--boards", metavar="FILE", help="ask of the boards in a file, one a line (- for stdin)")
+    named = "a definition, as 'g := {2|-1}', whose name the questions may use"
+    add("--define", metavar="DEFINITION", action="append", default=[], help=named)
     add("--output", metavar="FILE", help="write to FILE, by way of FILE.part")
     add("--resume", metavar="FILE", help="write to FILE, and go on from FILE.part if it is there")
-    forms = ["tsv", "aligned", "grid"]
-    add("--format", choices=forms, help="tabs, aligned columns, or rows by columns")
+    add("--keep-going", action="store_true", help="go on where a question fails or takes too long")
+    add("--format", choices=FORMS, help="the form of the table")
     add("--processes", type=int, metavar="N", help="runs of cg at once (one for each processor)")
     reader.add_limits(SHARE)
-    cells = f"cells of each run's table ({CELLS})"
+    reader.add_runs()
+    cells = f"the most cells of a run's table ({CELLS})"
     add("--cells", type=int, default=CELLS, metavar="C", help=cells)
-    return reader.parse_args(words)
+    add_version(reader)
+    return reader.parse_intermixed_args(words)
 
 
-def questions_of(options: argparse.Namespace) -> Questions:
+def asked(options: argparse.Namespace) -> Questions:
     """The questions that the options ask for."""
     by_size = options.rows is not None or options.columns is not None
     if by_size == (options.boards is not None):
         raise BadUse("give either --rows and --columns, or --boards")
-    if options.boards is not None:
-        return questions_of_boards(options.template, read_boards(options.boards))
-    return questions_of_sizes(options.template, options.rows, options.columns, options.fill)
+    boards = None if by_size else read_boards(options.boards)
+    return questions_of(options.questions, boards, options.rows, options.columns, options.fill)
 
 
 def session_of(options: argparse.Namespace, questions: Questions) -> Session:
     """The session that answers the questions, once they are seen to be some."""
-    try:
-        for entry in questions.entries:
-            check_question(entry.question)
-        return Session(
-            share=options.share,
-            positions=options.positions,
-            cells=options.cells,
-            processes=options.processes,
-        )
-    except (CgError, ValueError) as error:
-        raise BadUse(str(error)) from error
+    for entry in questions.entries:
+        check_question(entry.question)
+    session = Session(
+        share=options.share,
+        positions=options.positions,
+        cells=options.cells,
+        processes=options.processes,
+        timeout=options.timeout,
+        memory=options.memory,
+    )
+    for line in options.define:
+        define(session, line)
+    return session
+
+
+def define(session: Session, line: str) -> None:
+    """Defines what a definition of the command line says."""
+    definition = Definition.read(line)
+    if definition is None:
+        raise BadUse(f"--define is a name, := and a game, not {line!r}")
+    reply = session.define(definition.name, definition.text)
+    if isinstance(reply, Refusal) and reply.kind in BINDS_NOTHING:
+        raise BadUse(f"{definition.line} is refused by {reply}: {reply.explain(definition.line)}")
 
 
 def sink_of(options: argparse.Namespace, questions: Questions) -> Sink:
@@ -95,45 +133,60 @@ def sink_of(options: argparse.Namespace, questions: Questions) -> Sink:
     resumes = options.resume is not None
     if resumes and options.output is not None:
         raise BadUse("give either --output or --resume")
-    if options.format == "grid" and questions.headings != ["rows", "columns"]:
-        raise BadUse("--format grid needs --rows and --columns")
+    one = len(questions.templates) == 1
+    if options.format == "grid" and not (one and questions.headings == ["rows", "columns"]):
+        raise BadUse("--format grid needs --rows and --columns, and one question")
     name = options.resume if resumes else options.output
     form = options.format or ("tsv" if name or not sys.stdout.isatty() else "aligned")
-    table = Table(questions, headings_of(options.template), form)
+    table = Table(questions)
     if name is None:
-        return PrintedTable(table)
+        return PrintedTable(table, form)
     if not name or Path(name).is_dir():
         raise BadUse(f"{name!r} is no name of a file")
-    kept = Kept(Path(name), f"--share {options.share} --positions {options.positions}")
-    return FiledTable(table, Path(name), kept, resumes)
+    limits = [f"--share {options.share} --positions {options.positions}"]
+    limits += [f"--define {line!r}" for line in options.define]
+    return FiledTable(table, form, Path(name), Kept(Path(name), " ".join(limits)), resumes)
 
 
-def make(sink: Sink, session: Session) -> int:
+def make(sink: Sink, session: Session, keeps_going: bool) -> int:
     """Asks what is left to ask, writes the table, and gives the status."""
     try:
-        ask(sink, session)
-    except (KeyboardInterrupt, SystemExit):
+        ask(sink, session, keeps_going)
+    except KeyboardInterrupt:
         return stop(sink, "stopped", STOPPED)
+    except SystemExit as ended:
+        return stop(sink, "stopped", int(ended.code or 0))
+    except ProgramFailed as failed:
+        question = sink.table.left[0].question
+        why = f"{failed}, on {question}; --keep-going goes on beyond it"
+        return stop(sink, why, status_of(failed.status))
     except CgError as error:
-        status = error.status if isinstance(error, ProgramFailed) else BAD_USE
-        return stop(sink, str(error), max(status, BAD_USE))
+        return stop(sink, str(error), BAD_USE)
     sink.end()
     for explanation in sink.table.explanations():
         tell(COMMAND, explanation)
-    return sink.table.status
+    return status_at_end(sink.table)
 
 
-def ask(sink: Sink, session: Session) -> None:
+def status_at_end(table: Table) -> int:
+    """The status where all is asked: that of the first failure, or else whether one is refused."""
+    failed = (reply.status for reply in table.replies if isinstance(reply, Failed))
+    refused = any(reply.refused for reply in table.replies)
+    return next(map(status_of, failed), REFUSED if refused else 0)
+
+
+def ask(sink: Sink, session: Session, keeps_going: bool) -> None:
     """Asks what is left to ask, and shows at a terminal how far the table is."""
     table = sink.table
-    left = table.left
     sink.begin()
     show(table.progress())
-    for reply, entry in zip(session.replies(entry.question for entry in left), left):
-        table.replies.append(reply)
-        show("")
-        sink.add(entry, reply)
-        show(table.progress())
+    with session.replies([entry.question for entry in table.left]) as replies:
+        for reply in replies:
+            show("")
+            if isinstance(reply, Failed) and not keeps_going:
+                raise reply.error()
+            sink.add(reply)
+            show(table.progress())
     show("")
 
 

@@ -1,10 +1,11 @@
-"""The text of a table: tab-separated, in aligned columns, or rows by columns."""
+"""The columns of a table: their headings, their cells, aligned, or answers by rows and columns."""
 from __future__ import annotations
 
 import re
-from typing import Iterable
+from typing import Iterable, Sequence
 
-from cgcalc.replies import Proof, Reply, Stops, Thermograph, word_of
+from cgcalc.replies import Proof, Reply, Stops, word_of
+from cgcalc.thermographs import Thermograph
 
 NUMERIC = re.compile("-?[0-9]*(/[0-9]+)?|!.*")
 HEADINGS = {
@@ -24,6 +25,24 @@ def headings_of(template: str) -> list[str]:
     return HEADINGS.get(word, [word])
 
 
+def headings_of_all(templates: Sequence[str]) -> list[list[str]]:
+    """The headings of the answers to several questions, each with its word where it is needed.
+
+    >>> headings_of_all(["temp ^"]), headings_of_all(["value ^", "stops ^", "value *"])
+    ([['temp']], [['value'], ['stops left', 'stops right'], ['value 2']])
+    """
+    if len(templates) == 1:
+        return [headings_of(templates[0])]
+    words = [word_of(template) for template in templates]
+    headings = []
+    for number, (word, template) in enumerate(zip(words, templates)):
+        count = words[: number + 1].count(word)
+        name = word if count == 1 else f"{word} {count}"
+        parts = headings_of(template)
+        headings.append([name] if parts == [word] else [f"{name} {part}" for part in parts])
+    return headings
+
+
 def cells_of(reply: Reply, count: int) -> list[str]:
     """A reply in so many cells; a refusal stands in the first."""
     if isinstance(reply, Thermograph):
@@ -34,11 +53,6 @@ def cells_of(reply: Reply, count: int) -> list[str]:
     if isinstance(reply, Proof):
         return ["yes" if reply.holds else "no", reply.text]
     return [str(reply)] + [""] * (count - 1)
-
-
-def separated(line: list[str]) -> str:
-    """The cells of a line with tabs between them."""
-    return "\t".join(cell.replace("\t", " ") for cell in line) + "\n"
 
 
 def aligned(lines: list[list[str]]) -> str:

@@ -1,7 +1,9 @@
 """Replies that are kept beside a table's file until the table is whole."""
 from __future__ import annotations
 
+import io
 from pathlib import Path
+from typing import Optional
 
 from cgcalc.questions import Entry
 from cgcalc.replies import Reply, read_reply
@@ -11,14 +13,15 @@ from cgcalc.tool import BadUse
 class Kept:
     """The file in which the replies are kept: FILE.part beside FILE.
 
-    Its first line tells what each question may take. Each further line has a question, a tab and
-    the reply. A last line that is broken off doesn't count.
+    Its first line tells on what the replies depend beside the question. Each further line has a
+    question, a tab and the reply. A last line that is broken off doesn't count.
     """
 
     def __init__(self, table: Path, limits: str) -> None:
         self.path = table.with_name(table.name + ".part")
         self._table = table
         self._header = f"cg-table {limits}"
+        self._file: Optional[io.FileIO] = None
 
     def begin(self) -> list[Reply]:
         """Makes the file, which must not be there, with no replies."""
@@ -44,7 +47,7 @@ class Kept:
             raise BadUse(f"{self.path} can't be read: {error.strerror}") from error
         header, *lines = text.split("\n")[:-1] or [""]
         if header != self._header:
-            raise BadUse(f"{self.path} was kept with other limits: {header!r}")
+            raise BadUse(f"{self.path} was kept with other limits or definitions: {header!r}")
         if len(lines) > len(entries):
             raise BadUse(f"{self.path} is of another table: it has more replies than this one")
         replies = [self._read(entry, line) for entry, line in zip(entries, lines)]
@@ -63,11 +66,14 @@ class Kept:
 
     def add(self, entry: Entry, reply: Reply) -> None:
         """Keeps one more reply."""
-        with open(self.path, "ab") as file:
-            file.write(_line(f"{entry.question}\t{reply}"))
+        if self._file is None:
+            self._file = open(self.path, "ab", buffering=0)
+        self._file.write(_line(f"{entry.question}\t{reply}"))
 
     def remove(self) -> None:
         """Removes the file."""
+        if self._file is not None:
+            self._file.close()
         self.path.unlink()
 
 

@@ -1,10 +1,8 @@
-"""The built program: where it is found, how it is run, and how a run can fail."""
+"""The built program: where it is found, and how a run of it can fail."""
 from __future__ import annotations
 
 import os
 import shutil
-import subprocess
-import threading
 from pathlib import Path
 from typing import Iterator
 
@@ -19,6 +17,8 @@ MEANINGS = {
     " get an answer, or more of them than cells",
     7: "the words of the command line couldn't be got, as where one isn't UTF-8",
 }
+OUT_OF_TIME = 124
+"""The status of a run that was stopped since it took too long."""
 
 
 class CgError(Exception):
@@ -32,20 +32,28 @@ class ProgramMissing(CgError):
 class ProgramFailed(CgError):
     """A run ended with a status that comes with no answers.
 
+    `told` is the last line that the program wrote to standard error.
+
     >>> failed = ProgramFailed(5)
     >>> failed.status, str(failed)
     (5, 'cg ended with status 5: memory was wanting')
-    >>> str(ProgramFailed(-9))
-    'cg was ended by signal 9'
+    >>> str(ProgramFailed(-9)), str(ProgramFailed(5, "no pages"))
+    ('cg was ended by signal 9', 'cg ended with status 5: memory was wanting (no pages)')
     """
 
-    def __init__(self, status: int) -> None:
+    def __init__(self, status: int, told: str = "") -> None:
+        super().__init__(status, told)
         self.status = status
+        self.told = told
         self.meaning = MEANINGS.get(status, "a status that cg doesn't have")
-        if status < 0:
-            super().__init__(f"cg was ended by signal {-status}")
-        else:
-            super().__init__(f"cg ended with status {status}: {self.meaning}")
+
+    def __str__(self) -> str:
+        if self.status == OUT_OF_TIME:
+            return "cg was stopped, since it took too long"
+        told = f" ({self.told})" if self.told else ""
+        if self.status < 0:
+            return f"cg was ended by signal {-self.status}{told}"
+        return f"cg ended with status {self.status}: {self.meaning}{told}"
 
 
 def find_program() -> str:
@@ -75,50 +83,3 @@ def _built() -> Iterator[str]:
     for folder in [here, *here.parents, *Path(__file__).resolve().parents]:
         if os.access(folder / BUILT, os.X_OK):
             yield str(folder / BUILT)
-
-
-class Program:
-    """The program at a path, with its runs that are under way, which can be stopped together."""
-
-    def __init__(self, path: str) -> None:
-        self.path = path
-        self._running: set[subprocess.Popen[bytes]] = set()
-        self._stopped = False
-        self._lock = threading.Lock()
-
-    def run(self, session: bytes, *, cells: int, positions: int, workers: int) -> bytes:
-        """What the program writes on a session that it answers."""
-        words = ["--cells", str(cells), "--positions", str(positions), "--workers", str(workers)]
-        process = self._start(words)
-        try:
-            written, _ = process.communicate(session)
-        finally:
-            with self._lock:
-                self._running.discard(process)
-        if process.returncode not in (0, 1):
-            raise ProgramFailed(process.returncode)
-        return written
-
-    def _start(self, words: list[str]) -> subprocess.Popen[bytes]:
-        with self._lock:
-            if self._stopped:
-                raise CgError("the runs were stopped")
-            try:
-                process = subprocess.Popen(
-                    [self.path, *words],
-                    stdin=subprocess.PIPE,
-                    stdout=subprocess.PIPE,
-                    stderr=subprocess.DEVNULL,
-                    start_new_session=True,
-                )
-            except OSError as error:
-                raise CgError(f"{self.path} can't be run: {error.strerror}") from error
-            self._running.add(process)
-            return process
-
-    def stop(self) -> None:
-        """Ends the runs that are under way, and lets no other begin."""
-        with self._lock:
-            self._stopped = True
-            for process in self._running:
-                process.kill()

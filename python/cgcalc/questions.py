@@ -1,15 +1,17 @@
-"""The questions of a table: a template, and the boards or sizes that it is filled with."""
+"""The questions of a table: templates, and the boards or sizes that they are filled with."""
 from __future__ import annotations
 
 import re
 import sys
 from dataclasses import dataclass
 from pathlib import Path
-from typing import Optional
+from typing import Iterable, Optional, Sequence, Union
 
-from cgcalc.tool import BadUse
+from cgcalc.errors import WrongCall
 
 PLACES = ("board", "rows", "columns")
+RANGE = re.compile(r"([0-9]{1,6})(?:-([0-9]{1,6}))?")
+Sizes = Union[int, str, Iterable[int]]
 
 
 @dataclass(frozen=True)
@@ -22,45 +24,79 @@ class Entry:
 
 @dataclass(frozen=True)
 class Questions:
-    """The questions of a table, with the headings of what they are asked of."""
+    """The questions of a table, with the headings of what they are asked of.
 
+    Each of the templates is asked of the first board or size, then of the next.
+    """
+
+    templates: list[str]
     headings: list[str]
     entries: list[Entry]
 
 
-def questions_of_boards(template: str, boards: list[str]) -> Questions:
-    """The template filled with each of the boards.
+def questions_of(
+    templates: Union[str, Iterable[str]],
+    boards: Optional[Iterable[object]] = None,
+    rows: Optional[Sizes] = None,
+    columns: Optional[Sizes] = None,
+    fill: Optional[str] = None,
+) -> Questions:
+    """The templates filled with each of the boards or sizes."""
+    asked = [templates] if isinstance(templates, str) else list(templates)
+    if not asked or not all(isinstance(template, str) for template in asked):
+        raise WrongCall("give a question, or several, as texts with {board} in them")
+    by_size = rows is not None or columns is not None
+    if by_size == (boards is not None):
+        raise WrongCall("give either rows and columns, or boards")
+    if boards is None:
+        return questions_of_sizes(asked, rows, columns, fill)
+    if isinstance(boards, str):
+        raise WrongCall("boards are a list of texts, not one text: put it in brackets")
+    texts = [str(getattr(board, "expression", board)) for board in boards]
+    return questions_of_boards(asked, texts)
 
-    >>> questions_of_boards('value Toads("{board}")', ["T.F"]).entries
+
+def questions_of_boards(templates: Sequence[str], boards: list[str]) -> Questions:
+    """The templates filled with each of the boards.
+
+    >>> questions_of_boards(['value Toads("{board}")'], ["T.F"]).entries
     [Entry(labels=['T.F'], question='value Toads("T.F")')]
     """
-    if "{board}" not in template:
-        raise BadUse("the template has no {board}")
-    return Questions(["board"], [Entry([board], filled(template, board=board)) for board in boards])
+    for template in templates:
+        if "{board}" not in template:
+            raise WrongCall(f"the question {template!r} has no {{board}}")
+    entries = []
+    for board in boards:
+        entries += [Entry([board], filled(template, board=board)) for template in templates]
+    return Questions(list(templates), ["board"], entries)
 
 
 def questions_of_sizes(
-    template: str, rows: Optional[str], columns: Optional[str], fill: Optional[str]
+    templates: Sequence[str],
+    rows: Optional[Sizes],
+    columns: Optional[Sizes],
+    fill: Optional[str],
 ) -> Questions:
-    """The template filled with each of the sizes, and with a board of that size.
+    """The templates filled with each of the sizes, and with a board of that size.
 
-    >>> questions_of_sizes('value Octal("0.77",{columns})', None, "8-9", None).entries[0]
+    >>> questions_of_sizes(['value Octal("0.77",{columns})'], None, "8-9", None).entries[0]
     Entry(labels=['8'], question='value Octal("0.77",8)')
     """
-    if not any("{" + place + "}" in template for place in PLACES):
-        raise BadUse("the template has no {board}, {rows} or {columns}")
-    if "{board}" in template and not fill:
-        raise BadUse("--fill has to say what the {board} is filled with")
+    for template in templates:
+        if not any("{" + place + "}" in template for place in PLACES):
+            raise WrongCall(f"the question {template!r} has no {{board}}, {{rows}} or {{columns}}")
+        if "{board}" in template and not fill:
+            raise WrongCall("fill has to say what the {board} is filled with")
     headings = [name for name, text in (("rows", rows), ("columns", columns)) if text is not None]
     entries = []
-    for height in numbers_in("--rows", rows or "1"):
-        for width in numbers_in("--columns", columns or "1"):
+    for height in sizes_of("rows", 1 if rows is None else rows):
+        for width in sizes_of("columns", 1 if columns is None else columns):
             texts = {"rows": str(height), "columns": str(width)}
             labels = [texts[heading] for heading in headings]
             if fill:
                 texts["board"] = board_of(height, width, fill)
-            entries.append(Entry(labels, filled(template, **texts)))
-    return Questions(headings, entries)
+            entries += [Entry(labels, filled(template, **texts)) for template in templates]
+    return Questions(list(templates), headings, entries)
 
 
 def filled(template: str, **texts: str) -> str:
@@ -86,17 +122,27 @@ def board_of(rows: int, columns: int, fill: str) -> str:
     return "|".join(lines)
 
 
-def numbers_in(option: str, text: str) -> range:
-    """The numbers of a range.
+def sizes_of(what: str, given: Sizes) -> list[int]:
+    """The sizes that a number, a text or a list of numbers gives.
 
-    >>> list(numbers_in("--rows", "2-4")), list(numbers_in("--rows", "3"))
-    ([2, 3, 4], [3])
+    >>> sizes_of("rows", "0,2-4"), sizes_of("rows", 3), sizes_of("rows", range(2))
+    ([0, 2, 3, 4], [3], [0, 1])
     """
-    found = re.fullmatch(r"([0-9]{1,6})(?:-([0-9]{1,6}))?", text)
-    first, last = (int(found[1]), int(found[2] or found[1])) if found else (0, 0)
-    if not 1 <= first <= last:
-        raise BadUse(f"{option} is a number or a range such as 1-4, not {text!r}")
-    return range(first, last + 1)
+    if isinstance(given, str):
+        sizes = [size for part in given.split(",") for size in _range(part)]
+    else:
+        sizes = [given] if isinstance(given, int) else list(given)
+    if not sizes or not all(isinstance(size, int) and size >= 0 for size in sizes):
+        shapes = "a number, a range such as 1-4, or a list such as 1,3,5"
+        raise WrongCall(f"{what} is {shapes}, not {given!r}")
+    return sizes
+
+
+def _range(text: str) -> list[int]:
+    """The numbers of a range; -1 where it is none."""
+    found = RANGE.fullmatch(text)
+    numbers = range(int(found[1]), int(found[2] or found[1]) + 1) if found else range(0)
+    return list(numbers) or [-1]
 
 
 def read_boards(path: str) -> list[str]:
@@ -104,9 +150,9 @@ def read_boards(path: str) -> list[str]:
     try:
         read = sys.stdin.buffer.read() if path == "-" else Path(path).read_bytes()
     except OSError as error:
-        raise BadUse(f"the boards can't be read from {path}: {error.strerror}") from error
+        raise WrongCall(f"the boards can't be read from {path}: {error.strerror}") from error
     lines = (line.strip(" \t\r") for line in read.decode(errors="surrogateescape").split("\n"))
     boards = [line for line in lines if line]
     if not boards:
-        raise BadUse(f"there are no boards in {path}")
+        raise WrongCall(f"there are no boards in {path}")
     return boards

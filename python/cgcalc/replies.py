@@ -5,14 +5,17 @@
 from __future__ import annotations
 
 import re
-from dataclasses import dataclass
+from dataclasses import dataclass, field
 from fractions import Fraction
-from typing import Callable, Optional, Union
+from typing import Callable, ClassVar, Iterator, Optional, Union
 
+from cgcalc.program import ProgramFailed
 from cgcalc.refusals import Refusal
+from cgcalc.thermographs import Corner, Thermograph
+from cgcalc.values import Value
 
-NUMBER = re.compile(r"-?[0-9]+(/[0-9]+)?")
 BLANKS = " \t\r"
+FAILED = "! failed "
 
 
 class _Answer:
@@ -22,25 +25,6 @@ class _Answer:
     def refused(self) -> bool:
         """Whether the line was refused: here never."""
         return False
-
-
-@dataclass(frozen=True)
-class Value(_Answer):
-    """The name of a canonical form.
-
-    >>> Value("3/4").number, Value("{2|0}").number
-    (Fraction(3, 4), None)
-    """
-
-    name: str
-
-    @property
-    def number(self) -> Optional[Fraction]:
-        """The number that the form is, or None for other forms."""
-        return Fraction(self.name) if NUMBER.fullmatch(self.name) else None
-
-    def __str__(self) -> str:
-        return self.name
 
 
 @dataclass(frozen=True)
@@ -70,6 +54,9 @@ class Stops(_Answer):
     left: Fraction
     right: Fraction
 
+    def __iter__(self) -> Iterator[Fraction]:
+        return iter((self.left, self.right))
+
     def __str__(self) -> str:
         return f"left {self.left} right {self.right}"
 
@@ -95,36 +82,6 @@ class Temperature(_Answer):
 
 
 @dataclass(frozen=True)
-class Corner:
-    """A corner of a wall: the wall's value at a temperature."""
-
-    value: Fraction
-    temperature: Fraction
-
-    def __str__(self) -> str:
-        return f"{self.value}@{self.temperature}"
-
-
-@dataclass(frozen=True)
-class Thermograph(_Answer):
-    """The mean, the temperature, and the corners of the walls, from the temperature 0 on.
-
-    >>> thermograph = read_reply("thermo +-1", "mean 0 temp 1 left 1@0 0@1 right -1@0 0@1")
-    >>> thermograph.temperature, thermograph.left[0].value
-    (Fraction(1, 1), Fraction(1, 1))
-    """
-
-    mean: Fraction
-    temperature: Fraction
-    left: tuple[Corner, ...]
-    right: tuple[Corner, ...]
-
-    def __str__(self) -> str:
-        left, right = (" ".join(str(corner) for corner in wall) for wall in (self.left, self.right))
-        return f"mean {self.mean} temp {self.temperature} left {left} right {right}"
-
-
-@dataclass(frozen=True)
 class Proof(_Answer):
     """Whether the first game is at least the second, and the text of a proof of it."""
 
@@ -145,7 +102,47 @@ class Check(_Answer):
         return "yes" if self.accepted else "no"
 
 
-Reply = Union[Value, Order, Outcome, Stops, Mean, Temperature, Thermograph, Proof, Check, Refusal]
+@dataclass(frozen=True)
+class Failed:
+    """Why a question got no answer, asked alone: how the run of the program ended.
+
+    `status` is that of the run, 124 where it took too long, and `told` the last line that it wrote
+    to standard error.
+
+    >>> failed = Failed.read("! failed 5")
+    >>> failed.status, failed.explain()
+    (5, 'cg ended with status 5: memory was wanting')
+    """
+
+    status: int
+    told: str = field(default="", compare=False)
+    kind: ClassVar[str] = "failed"
+
+    @property
+    def refused(self) -> bool:
+        """Whether the line got no answer: here always."""
+        return True
+
+    @classmethod
+    def read(cls, text: str) -> Failed:
+        """The failure that a table writes as this text."""
+        return cls(int(text[len(FAILED) :]))
+
+    def error(self) -> ProgramFailed:
+        """The exception that says the same."""
+        return ProgramFailed(self.status, self.told)
+
+    def explain(self, line: Optional[str] = None) -> str:
+        """What happened, in a sentence."""
+        return str(self.error())
+
+    def __str__(self) -> str:
+        return f"{FAILED}{self.status}"
+
+
+Reply = Union[
+    Value, Order, Outcome, Stops, Mean, Temperature, Thermograph, Proof, Check, Refusal, Failed
+]
 
 
 def word_of(question: str) -> str:
@@ -167,7 +164,9 @@ def read_reply(question: str, text: str) -> Reply:
     >>> read_reply("value {2|", "! syntax 10")
     Refusal(kind='syntax', column=10, cause=None, place=None)
     """
-    reader = Refusal.read if text.startswith("! ") else READERS.get(word_of(question))
+    reader: Optional[Callable[[str], Reply]] = READERS.get(word_of(question))
+    if text.startswith("! "):
+        reader = Failed.read if text.startswith(FAILED) else Refusal.read
     try:
         reply = reader(text) if reader else None
     except (ValueError, ZeroDivisionError):

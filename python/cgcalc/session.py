@@ -3,30 +3,26 @@ from __future__ import annotations
 
 import os
 import re
-from concurrent.futures import Future, ThreadPoolExecutor
+from concurrent.futures import Executor
 from dataclasses import dataclass
-from typing import Iterable, Iterator, Optional, Sequence
+from typing import Iterable, Optional, Sequence, Union
 
-from cgcalc.limits import (
-    CELLS,
-    MOST_BYTES,
-    MOST_CELLS,
-    MOST_LINES,
-    MOST_POSITIONS,
-    MOST_PROCESSES,
-    MOST_WORKERS,
-    POSITIONS,
-    SHARE,
-)
-from cgcalc.program import CgError, Program, find_program
+from cgcalc.batch import START_BYTES, Batch, Limits
+from cgcalc.errors import WrongCall
+from cgcalc.limits import CELLS, MOST_CELLS, MOST_POSITIONS, MOST_PROCESSES, POSITIONS, SHARE
+from cgcalc.program import find_program
+from cgcalc.questions import Sizes, questions_of
 from cgcalc.refusals import Refusal
-from cgcalc.replies import BLANKS, Reply, read_reply
+from cgcalc.replies import BLANKS, Failed, Reply
+from cgcalc.stream import Progress, Replies, read_text
+from cgcalc.table import Table
+from cgcalc.typed import TypedCalls
 
-FORMAT = "cg 2"
 NAME = re.compile(r"[a-uw-z][a-z0-9]{0,15}")
 WORD = re.compile(r"[a-z][a-z0-9]*")
 DEFINITION = re.compile(rf"[{BLANKS}]*({NAME.pattern})[{BLANKS}]*:=[{BLANKS}]*(.*)", re.DOTALL)
 BINDS_NOTHING = ("syntax", "name", "parts")
+MOST_MEMORY = 1 << 62
 
 
 @dataclass(frozen=True)
@@ -54,14 +50,21 @@ class Definition:
         return cls(*found.groups()) if found else None
 
 
-class Session:
+class Session(TypedCalls):
     """Asks the program questions.
 
     Each question and each definition that it needs has `share` cells of a table, and no list of a
     line has more than `positions` items; a reply depends on these, on the line and on the
-    definitions, and on nothing else. Long lists of questions are cut into sessions of the program
-    with tables of `cells` cells at most, or as many as one question needs, and up to `processes` of
-    them run at once. A cell takes 16 bytes.
+    definitions, and on nothing else. Long lists of questions are cut into runs of the program with
+    tables of `cells` cells at most, or as many as one question needs, and up to `processes` of them
+    are made at once. A cell takes 16 bytes, and twice that at the start. Lines are asked with a
+    smaller share first where that saves time.
+
+    A question may take `timeout` seconds, and a run `memory` bytes. A run that fails or takes too
+    long is asked again line by line, and a line that fails alone gets the reply `Failed`.
+
+    `executor` makes the runs, as any of `concurrent.futures` does whose workers have the program:
+    `processes` says how many of them there are, and without `program` each finds its own.
 
     >>> session = Session()
     >>> session.define("g", "{2|-1} + ^")
@@ -76,8 +79,8 @@ class Session:
 
     A question is a line of the program's notation, always read as one of a session with names. A
     blank line, a comment, a definition and a text of several lines are no questions, and raise
-    ValueError. `CgError` is raised where there are no answers: where the program isn't found, or
-    where a run of it fails.
+    WrongCall. `CgError` is raised where there are no answers at all: where the program isn't found,
+    or is another one.
     """
 
     def __init__(
@@ -88,13 +91,23 @@ class Session:
         cells: int = CELLS,
         processes: Optional[int] = None,
         program: Optional[str] = None,
+        timeout: Optional[float] = None,
+        memory: Optional[int] = None,
+        executor: Optional[Executor] = None,
     ) -> None:
+        self.timeout = timeout
+        self.memory = memory if memory is None else _within("memory", memory, MOST_MEMORY)
         self.set_limits(share=share, positions=positions)
         self.cells = _within("cells", cells, MOST_CELLS)
         self.processes = _within("processes", os.cpu_count() or 1, MOST_PROCESSES)
         if processes is not None:
             self.processes = _within("processes", processes, MOST_PROCESSES)
-        self.program = program or find_program()
+        if timeout is not None and not (isinstance(timeout, (int, float)) and timeout > 0):
+            raise WrongCall(f"timeout is a number of seconds above 0, not {timeout!r}")
+        if executor is not None and not isinstance(executor, Executor):
+            raise WrongCall("executor is one of concurrent.futures, or made like those")
+        self.executor = executor
+        self.program = program or (find_program() if executor is None else None)
         self._definitions: list[Definition] = []
 
     @property
@@ -104,8 +117,14 @@ class Session:
 
     def set_limits(self, *, share: int, positions: int) -> None:
         """Says what each line may take from now on."""
-        self.share = _within("share", share, MOST_CELLS)
+        share = _within("share", share, MOST_CELLS)
+        if self.memory is not None and share * START_BYTES > self.memory:
+            raise WrongCall(
+                f"a line with a share of {share} takes {share * START_BYTES} bytes at the start,"
+                f" and memory allows {self.memory}: give more memory, or a smaller share"
+            )
         self.positions = _within("positions", positions, MOST_POSITIONS)
+        self.share = share
 
     def define(self, name: str, text: str) -> Reply:
         """Defines a name for the questions and definitions that follow, and answers with its value.
@@ -118,110 +137,102 @@ class Session:
         >>> session.definitions
         {}
         """
-        if not NAME.fullmatch(name):
+        if not isinstance(name, str) or not NAME.fullmatch(name):
             shape = "a small letter but v, then up to 15 small letters and digits"
-            raise ValueError(f"{name!r} is no name, which is {shape}")
+            raise WrongCall(f"{name!r} is no name, which is {shape}")
         definition = Definition(name, text)
         _check_one_line(definition.line)
-        ((written,),) = self._run([[definition.line]])
-        reply = _read("value", written)
+        (written,) = self._batch([definition.line]).texts()
+        if isinstance(written, Failed):
+            raise written.error()
+        reply = read_text("value", written)
         if not (isinstance(reply, Refusal) and reply.kind in BINDS_NOTHING):
             self._definitions.append(definition)
         return reply
 
-    def ask(self, lines: Iterable[str]) -> list[Reply]:
+    def ask(self, lines: Iterable[str], *, progress: Optional[Progress] = None) -> list[Reply]:
         """The replies to questions, in their order.
 
         >>> Session().ask(["mean {4||2|0}", "stops {0|1/2}"])
         [Mean(mean=Fraction(5, 2)), Stops(left=Fraction(1, 4), right=Fraction(1, 4))]
         """
-        return list(self.replies(lines))
+        with self.replies(lines, progress=progress) as replies:
+            return list(replies)
 
-    def replies(self, lines: Iterable[str]) -> Iterator[Reply]:
+    def replies(self, lines: Iterable[str], *, progress: Optional[Progress] = None) -> Replies:
         """The replies to questions, in their order, each as soon as those before it are there.
+
+        `progress` is a function that is told how many replies there are and are to be, or a class
+        such as tqdm.
 
         >>> list(Session().replies(f"outcome {n}" for n in (-1, 0, 1)))
         [Outcome(winner='R'), Outcome(winner='P'), Outcome(winner='L')]
         """
         if isinstance(lines, str):
-            raise TypeError("questions are a list of lines, not one text")
+            raise WrongCall("questions are a list of lines, not one text: put it in brackets")
         questions = list(lines)
         for question in questions:
             check_question(question)
-        return self._replies(questions)
+        return Replies(questions, self._batch(questions), progress)
 
-    def _replies(self, questions: list[str]) -> Iterator[Reply]:
-        pieces = self._cut(questions)
-        for piece, written in zip(pieces, self._run(pieces)):
-            for question, text in zip(piece, written):
-                yield _read(question, text)
+    def table(
+        self,
+        questions: Union[str, Iterable[str]],
+        *,
+        boards: Optional[Iterable[object]] = None,
+        rows: Optional[Sizes] = None,
+        columns: Optional[Sizes] = None,
+        fill: Optional[str] = None,
+        progress: Optional[Progress] = None,
+    ) -> Table:
+        """The replies to questions that are asked of each of many boards or sizes, as a table.
 
-    def _cut(self, questions: list[str]) -> list[list[str]]:
-        """The questions in pieces, each for one run of the program."""
-        definitions = self._needed(questions)
-        room = min(self.cells // self.share, MOST_LINES) - len(definitions)
-        runs = -(-len(questions) // max(room, 1)) or 1
-        most = -(-len(questions) // runs)
-        space = MOST_BYTES - len(_session(definitions, []))
-        pieces: list[list[str]] = []
-        used = 0
-        for question in questions:
-            size = len(_encoded(question)) + 1
-            if not pieces or len(pieces[-1]) == most or used + size > space:
-                pieces.append([])
-                used = 0
-            pieces[-1].append(question)
-            used += size
-        return pieces
+        A question is a template in which `{board}` stands for each of the boards, or for a board of
+        each size filled with `fill`, and `{rows}` and `{columns}` for the sizes.
 
-    def _run(self, pieces: list[list[str]]) -> Iterator[list[str]]:
-        """What the program writes to the lines of each piece, behind the needed definitions."""
-        definitions = self._needed([line for piece in pieces for line in piece])
-        program = Program(self.program)
-        workers = min(max(self.processes // max(len(pieces), 1), 1), MOST_WORKERS)
-
-        def run(piece: list[str]) -> list[str]:
-            lines = len(definitions) + len(piece)
-            session = _session(definitions, piece)
-            cells = self._table(lines)
-            written = program.run(session, cells=cells, positions=self.positions, workers=workers)
-            return _cut_output(written, lines)[len(definitions) :]
-
-        pool = ThreadPoolExecutor(self.processes)
-        runs: list[Future[list[str]]] = []
-        try:
-            for piece in pieces:
-                runs.append(pool.submit(run, piece))
-            for answered in runs:
-                yield answered.result()
-        finally:
-            for waiting in runs:
-                waiting.cancel()
-            program.stop()
-            pool.shutdown()
-
-    def _table(self, lines: int) -> int:
-        """The cells of which each line has the share, an odd number where it can be, for speed."""
-        cells = self.share * lines
-        if cells > MOST_CELLS:
-            raise ValueError(
-                f"{lines} lines, a question and the definitions that it needs, have a share of"
-                f" {self.share} only in a table of {cells} cells, and {MOST_CELLS} are the most"
-            )
-        return cells + 1 if lines > 1 and cells % 2 == 0 and cells < MOST_CELLS else cells
-
-    def _needed(self, lines: Sequence[str]) -> list[Definition]:
-        """The definitions that lines may use, themselves or by other definitions.
-
-        A definition whose name is no word of a text isn't used there.
+        >>> questions = ['value Toads("{board}")', 'outcome Toads("{board}")']
+        >>> print(Session().table(questions, boards=["T.F", "TT..FF"]))
+        board   value  outcome
+        T.F     *      N
+        TT..FF  *      N
         """
-        words = set().union(*map(words_in, lines))
-        needed = []
-        for definition in reversed(self._definitions):
-            if definition.name in words:
-                needed.append(definition)
-                words |= words_in(definition.text)
-        return needed[::-1]
+        table = Table(questions_of(questions, boards, rows, columns, fill))
+        table.replies = self.ask([entry.question for entry in table.entries], progress=progress)
+        return table
+
+    def _batch(self, lines: Sequence[str]) -> Batch:
+        """The lines on their way to the program, with what this session says from now on."""
+        limits = Limits(
+            self.share,
+            self.positions,
+            self.cells,
+            self.processes,
+            self.program,
+            self.timeout,
+            self.memory,
+            self.executor,
+        )
+        definitions = tuple(self._definitions)
+        return Batch(lines, lambda some: needed(definitions, some), limits)
+
+
+def needed(definitions: Sequence[Definition], lines: Sequence[str]) -> list[str]:
+    """The lines of the definitions that lines may use, themselves or by other definitions.
+
+    A definition whose name is no word of a text isn't used there.
+
+    >>> needed([Definition("a", "1"), Definition("b", "a"), Definition("c", "2")], ["value b"])
+    ['a := 1', 'b := a']
+    """
+    if not definitions:
+        return []
+    words = set().union(*map(words_in, lines))
+    found = []
+    for definition in reversed(definitions):
+        if definition.name in words:
+            found.append(definition.line)
+            words |= words_in(definition.text)
+    return found[::-1]
 
 
 def words_in(text: str) -> set[str]:
@@ -234,47 +245,23 @@ def words_in(text: str) -> set[str]:
 
 
 def _within(what: str, number: int, most: int) -> int:
-    if not 1 <= number <= most:
-        raise ValueError(f"{what} must be a number from 1 to {most}")
+    if not isinstance(number, int) or not 1 <= number <= most:
+        raise WrongCall(f"{what} must be a number from 1 to {most}")
     return number
-
-
-def _encoded(line: str) -> bytes:
-    return line.encode(errors="surrogateescape")
 
 
 def _check_one_line(line: str) -> None:
     if "\n" in line:
-        raise ValueError(f"this has several lines: {line!r}")
+        raise WrongCall(f"this has several lines: {line!r}")
 
 
 def check_question(line: str) -> None:
-    """Raises ValueError for a text that is no question."""
+    """Raises WrongCall for a text that is no question."""
+    if not isinstance(line, str):
+        raise WrongCall(f"a question is a line of text, not {line!r}")
     _check_one_line(line)
     text = line.strip(BLANKS)
     if not text or text.startswith("#"):
-        raise ValueError(f"this asks nothing: {line!r}")
+        raise WrongCall(f"this asks nothing: {line!r}")
     if Definition.read(line):
-        raise ValueError(f"this defines a name, which `define` does: {line!r}")
-
-
-def _session(definitions: list[Definition], questions: list[str]) -> bytes:
-    """The bytes of a session with names."""
-    lines = [FORMAT, *(definition.line for definition in definitions), *questions]
-    return b"".join(_encoded(line) + b"\n" for line in lines)
-
-
-def _cut_output(written: bytes, lines: int) -> list[str]:
-    """The replies in what the program wrote, one for each line behind the first."""
-    cut = [line.partition(": ") for line in written.decode(errors="replace").split("\n")]
-    numbers = [number for number, _, _ in cut]
-    if numbers != [*(str(number) for number in range(2, lines + 2)), ""]:
-        raise CgError(f"the program wrote what are no answers to {lines} lines: is it cg?")
-    return [text for _, _, text in cut[:-1]]
-
-
-def _read(question: str, text: str) -> Reply:
-    try:
-        return read_reply(question, text)
-    except ValueError as error:
-        raise CgError(f"the program wrote what is no reply: {text!r}") from error
+        raise WrongCall(f"this defines a name, which `define` does: {line!r}")

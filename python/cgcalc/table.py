@@ -1,27 +1,34 @@
-"""A table on its way: its questions, the replies so far, and where they go."""
+"""A table: its questions, the replies so far, and its text in each of its forms."""
 from __future__ import annotations
 
-from pathlib import Path
-from typing import Iterator, Union
+from typing import Iterator
 
-from cgcalc.columns import aligned, cells_of, grid, separated
-from cgcalc.kept import Kept
+from cgcalc.columns import aligned, cells_of, grid, headings_of_all
+from cgcalc.forms import JSON_LINES, LINES, Record, fields_of, html_table, json_line
 from cgcalc.questions import Entry, Questions
-from cgcalc.refusals import Refusal
-from cgcalc.replies import Reply
-from cgcalc.tool import REFUSED, write_output, write_whole
+from cgcalc.replies import Failed, Reply
 
-ADVICE = {"full": " (--share gives each line more)", "positions": " (--positions sets the limit)"}
+NUMBERS = ("rows", "columns")
 
 
 class Table:
-    """A table on its way: the questions, and the replies so far."""
+    """A table: what was asked, and the replies, as far as there are any.
 
-    def __init__(self, questions: Questions, headings: list[str], form: str) -> None:
+    >>> from cgcalc import Session
+    >>> table = Session().table('temp Domineering("{board}")', rows="1,3", columns=3, fill=".")
+    >>> print(table)
+    rows  columns  temp
+       1        3    -1
+       3        3     1
+    >>> table.records()[1]["temperature"]
+    Fraction(1, 1)
+    """
+
+    def __init__(self, questions: Questions) -> None:
         self.entries = questions.entries
+        self.templates = questions.templates
         self.labels = questions.headings
-        self.headings = headings
-        self.form = form
+        self.headings = headings_of_all(questions.templates)
         self.replies: list[Reply] = []
 
     @property
@@ -30,99 +37,80 @@ class Table:
         return self.entries[len(self.replies) :]
 
     @property
-    def status(self) -> int:
-        """The status where all is asked."""
-        return REFUSED if any(reply.refused for reply in self.replies) else 0
-
-    @property
     def header(self) -> list[str]:
         """The headings of the columns."""
-        return self.labels + self.headings
+        return self.labels + [name for names in self.headings for name in names]
 
-    def line(self, entry: Entry, reply: Reply) -> list[str]:
-        """The cells of one line."""
-        return entry.labels + cells_of(reply, len(self.headings))
+    def row(self, number: int) -> list[str]:
+        """The cells of a row, with nothing where there is no reply yet."""
+        first = number * len(self.headings)
+        cells = list(self.entries[first].labels)
+        for at, names in enumerate(self.headings, first):
+            known = at < len(self.replies)
+            cells += cells_of(self.replies[at], len(names)) if known else [""] * len(names)
+        return cells
 
-    def text(self) -> str:
-        """The table as far as it came."""
-        if self.form == "grid":
+    def rows(self) -> list[list[str]]:
+        """The cells of all rows, as far as there are replies."""
+        return [self.row(number) for number in range(-(-len(self.replies) // len(self.headings)))]
+
+    def records(self) -> list[Record]:
+        """A dictionary for each reply: its board or size, the question, the kind, and its fields.
+
+        `pandas.DataFrame(table.records())` is a frame of them.
+        """
+        return [self.record(number) for number in range(len(self.replies))]
+
+    def record(self, number: int) -> Record:
+        """The dictionary of one reply."""
+        entry = self.entries[number]
+        labels: Record = {
+            heading: int(label) if heading in NUMBERS else label
+            for heading, label in zip(self.labels, entry.labels)
+        }
+        fields = fields_of(self.replies[number], entry.question)
+        return {**labels, "question": entry.question, **fields}
+
+    def text(self, form: str = "aligned") -> str:
+        """The table as far as it came, in one of its forms."""
+        if form == "grid":
             labels = [entry.labels for entry in self.entries]
             return grid(labels, [str(reply) for reply in self.replies])
-        lines = [self.header]
-        lines += [self.line(entry, reply) for entry, reply in zip(self.entries, self.replies)]
-        return aligned(lines) if self.form == "aligned" else "".join(map(separated, lines))
+        if form == JSON_LINES:
+            return "".join(map(json_line, self.records()))
+        if form == "aligned":
+            return aligned([self.header, *self.rows()])
+        head, line = LINES[form]
+        return head(self.header) + "".join(map(line, self.rows()))
+
+    def __str__(self) -> str:
+        return self.text().rstrip("\n")
+
+    def _repr_html_(self) -> str:
+        """The table for notebooks."""
+        return html_table([self.header, *self.rows()])
 
     def progress(self) -> str:
         """How far the table is."""
         return f"{len(self.replies)} of {len(self.entries)}"
 
     def explanations(self) -> Iterator[str]:
-        """What the refusals mean, once for each kind."""
-        refused: dict[str, list[tuple[Entry, Refusal]]] = {}
-        for entry, reply in zip(self.entries, self.replies):
-            if isinstance(reply, Refusal):
-                refused.setdefault(reply.cause or reply.kind, []).append((entry, reply))
-        for found in refused.values():
-            entry, refusal = found[0]
-            says = refusal.explain(entry.question) + ADVICE.get(refusal.kind, "")
-            count = f"{len(found)} of {len(self.entries)}"
-            yield f"{count} refused, as {entry.question} by {refusal}: {says}"
+        """What the refusals and failures mean, once for each kind."""
+        found: dict[str, list[int]] = {}
+        for number, reply in enumerate(self.replies):
+            if reply.refused:
+                kind = getattr(reply, "cause", None) or getattr(reply, "kind")
+                found.setdefault(kind, []).append(number)
+        for numbers in found.values():
+            entry, reply = self.entries[numbers[0]], self.replies[numbers[0]]
+            word = "failed" if isinstance(reply, Failed) else "refused"
+            says = getattr(reply, "explain")(entry.question)
+            count = f"{len(numbers)} of {len(self.entries)} {word}"
+            yield f"{count}, as {entry.question} by {reply}: {says}{ADVICE.get(_kind(reply), '')}"
 
 
-class PrintedTable:
-    """A table that goes to standard output: with tabs line by line, and else at the end."""
-
-    def __init__(self, table: Table) -> None:
-        self.table = table
-        self.by_lines = table.form == "tsv"
-
-    def begin(self) -> None:
-        """Begins the output."""
-        if self.by_lines:
-            write_output(separated(self.table.header))
-
-    def add(self, entry: Entry, reply: Reply) -> None:
-        """Writes what one more reply allows to write."""
-        if self.by_lines:
-            write_output(separated(self.table.line(entry, reply)))
-
-    def end(self) -> None:
-        """Writes what is left to write."""
-        if not self.by_lines:
-            write_output(self.table.text())
-
-    def stop(self) -> str:
-        """Writes the table as far as it came, and says how a later run goes on."""
-        self.end()
-        return "with --output a later run could go on from there"
+ADVICE = {"full": " (--share gives each line more)", "positions": " (--positions sets the limit)"}
 
 
-class FiledTable:
-    """A table that goes to a file; until it is whole its replies are kept beside it."""
-
-    def __init__(self, table: Table, file: Path, kept: Kept, resumes: bool) -> None:
-        self.table = table
-        self.file = file
-        self.kept = kept
-        table.replies = kept.take_up(table.entries) if resumes else kept.begin()
-
-    def begin(self) -> None:
-        """Begins the output, which has begun."""
-
-    def add(self, entry: Entry, reply: Reply) -> None:
-        """Keeps one more reply."""
-        self.kept.add(entry, reply)
-
-    def end(self) -> None:
-        """Writes the file, and drops what was kept."""
-        write_whole(self.file, self.table.text())
-        self.kept.remove()
-
-    def stop(self) -> str:
-        """Keeps what there is, and says how a later run goes on."""
-        if not self.table.replies:
-            self.kept.remove()
-        return f"--resume {self.file} goes on from there"
-
-
-Sink = Union[PrintedTable, FiledTable]
+def _kind(reply: Reply) -> str:
+    return str(getattr(reply, "kind", ""))

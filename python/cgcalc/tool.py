@@ -8,15 +8,18 @@ import sys
 from pathlib import Path
 from typing import NoReturn
 
+from cgcalc.errors import WrongCall
 from cgcalc.limits import POSITIONS
 
 REFUSED = 1
 BAD_USE = 2
 WRITE_FAILED = 4
 STOPPED = 130
+PIPE_CLOSED = 141
+UNITS = {"": 1, "K": 1 << 10, "M": 1 << 20, "G": 1 << 30}
 
 
-class BadUse(Exception):
+class BadUse(WrongCall):
     """What is wrong with how a command was called, in one line."""
 
 
@@ -33,6 +36,25 @@ class Words(argparse.ArgumentParser):
         items = f"the most items of one list ({POSITIONS})"
         self.add_argument("--share", type=int, default=share, metavar="N", help=cells)
         self.add_argument("--positions", type=int, default=POSITIONS, metavar="P", help=items)
+
+    def add_runs(self) -> None:
+        """Adds the options that say how much a run may take."""
+        seconds = "how long a question may take, in seconds"
+        size = "how much memory a run may take, as 500M or 2G"
+        self.add_argument("--timeout", type=float, metavar="S", help=seconds)
+        self.add_argument("--memory", type=bytes_of, metavar="SIZE", help=size)
+
+
+def bytes_of(text: str) -> int:
+    """The bytes that a size such as 500M tells.
+
+    >>> bytes_of("2G"), bytes_of("4096")
+    (2147483648, 4096)
+    """
+    number, unit = (text, "") if text.isdecimal() else (text[:-1], text[-1:].upper())
+    if not number.isdecimal() or unit not in UNITS:
+        raise argparse.ArgumentTypeError(f"a size is a number of bytes, or as 500M, not {text!r}")
+    return int(number) * UNITS[unit]
 
 
 def tell(command: str, message: str) -> None:
@@ -68,7 +90,32 @@ def write_whole(path: Path, text: str) -> None:
     beside = path.with_name(path.name + ".new")
     try:
         beside.write_bytes(text.encode(errors="surrogateescape"))
-        os.replace(beside, path)
+        place_whole(beside, path)
     except BaseException:
         beside.unlink(missing_ok=True)
         raise
+
+
+def place_whole(beside: Path, path: Path) -> None:
+    """Gives a file its name when all of it is on the disk, so that no crash leaves a part of it."""
+    sync(beside)
+    os.replace(beside, path)
+    sync(path.parent)
+
+
+def sync(path: Path) -> None:
+    """Waits until a file, or the names in a folder, are on the disk."""
+    handle = os.open(path, os.O_RDONLY)
+    try:
+        os.fsync(handle)
+    finally:
+        os.close(handle)
+
+
+def status_of(failed: int) -> int:
+    """The status of a command whose run of the program ended with this one.
+
+    >>> status_of(5), status_of(-9)
+    (5, 137)
+    """
+    return 128 - failed if failed < 0 else max(failed, BAD_USE)

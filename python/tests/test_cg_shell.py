@@ -3,6 +3,7 @@ from __future__ import annotations
 
 import os
 import pty
+import re
 import select
 import signal
 import subprocess
@@ -12,8 +13,13 @@ import unittest
 from importlib.util import find_spec
 from pathlib import Path
 from typing import Sequence
+from unittest import mock
 
 from cgcalc import find_program
+from cgcalc.completion import fitting, start_completion
+from cgcalc.games import FORMS, GAMES
+from cgcalc.help import BOARDS, EXPRESSIONS, QUESTIONS
+from cgcalc.replies import READERS
 from tests.places import ROOT, command, environment, program, run
 
 PROMPT = "cg> "
@@ -192,6 +198,38 @@ class AtATerminal(unittest.TestCase):
         self.assertIn("! name 167", refusal)
 
 
+class Editing(unittest.TestCase):
+    """What the tab key is told, by GNU readline and by libedit."""
+
+    def test_words_by_what_stands_before_them(self) -> None:
+        for before, begun, wanted in [
+            ("", "out", ["outcome "]),
+            ("", ":s", [":share "]),
+            ("", "ga", ["gaz := "]),
+            ("value 1 + ", "g", ["gaz"]),
+            ("h := ", "Dom", ['Domineering("']),
+            (":help ", "ther", ["thermo"]),
+            (":share ", "", []),
+            ('value Toads("T.', "g", []),
+            ('value Toads("T.") + ', "To", ['Toads("']),
+            ("plot ", "Sno", ['Snort("']),
+        ]:
+            with self.subTest(before=before):
+                self.assertEqual(fitting(before, begun, ["gaz"]), wanted)
+
+    def test_libedit_is_told_in_its_own_words(self) -> None:
+        for text, wanted in [
+            ("command line editing using GNU readline.", "tab: complete"),
+            ("command line editing using libedit readline.", "bind ^I rl_complete"),
+        ]:
+            module = mock.Mock(__doc__=text, backend=None)
+            module.get_line_buffer.return_value, module.get_begidx.return_value = "value g", 6
+            start_completion(module, lambda: ["gaz"])
+            module.parse_and_bind.assert_called_once_with(wanted)
+            (complete,) = module.set_completer.call_args[0]
+            self.assertEqual((complete("g", 0), complete("g", 1)), ("gaz", None))
+
+
 class InAPipe(unittest.TestCase):
     """What is written where standard input is no terminal."""
 
@@ -252,7 +290,8 @@ class InAPipe(unittest.TestCase):
 
     def test_commands_that_are_none(self) -> None:
         rows = [
-            (":help more", "`:help more` is no command; `:help` tells them"),
+            (":help more", "there is nothing to tell of `more`; `:help` tells what can be typed"),
+            (":names more", "`:names more` is no command; `:help` tells them"),
             (":what", "`:what` is no command; `:help` tells them"),
             (":share", "`:share` is no command; `:help` tells them"),
             (":share x", "share must be a number from 1 to 67108864"),
@@ -263,6 +302,79 @@ class InAPipe(unittest.TestCase):
         self.assertEqual(status, 2)
         self.assertEqual(written.splitlines(), [told for _, told in rows])
         self.assertIn(":quit ", run("cg-shell", [], ":help\n")[1])
+
+    def test_help(self) -> None:
+        for typed in ("help", ":help", "?"):
+            status, written, _ = run("cg-shell", [], f"{typed}\n")
+            self.assertEqual(status, 0)
+            for word in ("check E ; F", "plot E", "g := E", ":positions P", ":quit"):
+                self.assertIn(word, written)
+        for topic, told in [
+            ("thermo", "thermo E: `mean m temp t left C right D`, with C and D the corners"),
+            ("clobber", "Left: move an `x` onto an adjacent `o`, which is removed"),
+            ("full", "! full: it would take more than its share"),
+            ("ragged", "! ragged: the row that starts at place P"),
+            (":share", ":share: `:share N` gives each line N cells"),
+        ]:
+            self.assertIn(told, run("cg-shell", [], f"help {topic}\n")[1])
+
+    def test_help_is_what_the_manual_says(self) -> None:
+        manual = (ROOT / "docs" / "LANGUAGE.md").read_text().replace("\\|", "|")
+        for form, says in [*QUESTIONS.values(), *EXPRESSIONS.values()]:
+            self.assertRegex(manual, rf"\| .*`{re.escape(form)}`.* \| {re.escape(says)} \|")
+        for game, columns in BOARDS.items():
+            self.assertIn(f"| `{game}` | {' | '.join(columns)} |", manual)
+        self.assertEqual(sorted([*EXPRESSIONS, *BOARDS]), sorted([*GAMES, *FORMS]))
+        self.assertEqual(list(QUESTIONS), list(READERS))
+
+    def test_lines_and_files_of_the_command_line(self) -> None:
+        words = ["-c", "g := {2|0}", "-c", "temp g"]
+        self.assertEqual(run("cg-shell", words), (0, "{2|0}\n1\n", ""))
+        words = ["-c", "value 1", "examples/names.txt", "-"]
+        status, written, _ = run("cg-shell", words, "value hall")
+        self.assertEqual((status, written.splitlines()[0]), (1, "1"))
+        self.assertEqual(written.count("! name"), 2)
+        self.assertEqual(run("cg-shell", ["-c", "value 1\nvalue 2"]), (0, "1\n2\n", ""))
+        self.assertRegex(run("cg-shell", ["--version"])[1], r"^cg-shell \(cgcalc\) [0-9.]+\n")
+
+    def test_plots(self) -> None:
+        status, written, _ = run("cg-shell", [], "g := +-1\nplot g\nplot {1|\n")
+        mast = " " * 12
+        wanted = [f" {mast}0", f" {mast}|", f"1{mast}|"]
+        self.assertEqual((status, written.splitlines()[1:4]), (1, wanted))
+        self.assertIn("0    /               \\\n     1              -1\nthermo {1|\n", written)
+
+    def test_output_that_is_closed(self) -> None:
+        running = subprocess.Popen(
+            [*command("cg-shell"), "--share", "9", "-c", "value 1\n" * 100],
+            stdout=subprocess.PIPE,
+            stderr=subprocess.PIPE,
+            env=environment(),
+        )
+        assert running.stdout and running.stderr
+        running.stdout.readline()
+        running.stdout.close()
+        with running.stderr as told:
+            self.assertEqual((running.wait(300), told.read()), (141, b""))
+
+    def test_a_question_that_takes_too_long(self) -> None:
+        with tempfile.TemporaryDirectory() as folder:
+            slow = {"CG": program(Path(folder), "exec sleep 1000")}
+            words = ["--timeout", "0.5", "-c", "value 1"]
+            status, written, _ = run("cg-shell", words, changes=slow)
+        told = "cg was stopped, since it took too long; --timeout sets the limit\n"
+        self.assertEqual((status, written), (124, told))
+
+    def test_no_prompt_where_one_end_is_no_terminal(self) -> None:
+        here, there = pty.openpty()
+        running = subprocess.Popen(
+            command("cg-shell"), stdin=there, stdout=subprocess.PIPE, env=environment(TERM="dumb")
+        )
+        os.close(there)
+        os.write(here, b"value 1\n:quit\n")
+        written, _ = running.communicate(timeout=300)
+        os.close(here)
+        self.assertEqual((running.returncode, written), (0, b"1\n"))
 
     def test_a_program_that_fails(self) -> None:
         with tempfile.TemporaryDirectory() as folder:
@@ -275,7 +387,8 @@ class InAPipe(unittest.TestCase):
         for words, told in [
             (["--share", "0"], "share must be a number from 1 to 67108864"),
             (["--positions", "many"], "invalid int value: 'many'"),
-            (["file"], "unrecognized arguments: file"),
+            (["nowhere"], "nowhere can't be read: No such file or directory"),
+            (["--what"], "unrecognized arguments: --what"),
         ]:
             with self.subTest(words=words):
                 status, written, message = run("cg-shell", words)

@@ -9,7 +9,7 @@ import unittest
 from pathlib import Path
 
 from cgcalc import Refusal, Session, find_program
-from cgcalc.cg_shell import Shell
+from cgcalc.completion import fitting
 from cgcalc.games import FORMS, GAMES
 from cgcalc.limits import CELLS, MOST_LINES, POSITIONS
 from tests.places import ROOT
@@ -50,7 +50,7 @@ class Games(unittest.TestCase):
         self.assertEqual(sorted([*GAMES, *FORMS]), sorted(words_of_the_program()))
 
     def test_the_completion(self) -> None:
-        words = [word.rstrip('("') for word in Shell(Session()).words() if word[0].isupper()]
+        words = [word.rstrip('("') for word in fitting("value ", "", [])]
         self.assertEqual(sorted(words), sorted([*GAMES, *FORMS]))
 
     def test_the_editors(self) -> None:

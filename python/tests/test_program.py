@@ -7,7 +7,15 @@ import unittest
 from pathlib import Path
 from unittest import mock
 
-from cgcalc import CgError, ProgramFailed, ProgramMissing, Session, find_program
+from cgcalc import (
+    CgError,
+    Failed,
+    ProgramFailed,
+    ProgramMissing,
+    Reply,
+    Session,
+    find_program,
+)
 from tests.places import program
 
 
@@ -62,12 +70,10 @@ class FindProgram(unittest.TestCase):
 class Failures(unittest.TestCase):
     """Runs that give no answers."""
 
-    def failure(self, script: str, question: str = "value 1") -> CgError:
+    def failed(self, script: str, question: str = "value 1") -> Reply:
         with tempfile.TemporaryDirectory() as folder:
-            session = Session(program=program(Path(folder), script))
-            with self.assertRaises(CgError) as caught:
-                session.ask([question])
-        return caught.exception
+            (reply,) = Session(program=program(Path(folder), script)).ask([question])
+        return reply
 
     def test_each_status_has_its_meaning(self) -> None:
         words = {
@@ -80,26 +86,45 @@ class Failures(unittest.TestCase):
             99: "doesn't have",
         }
         for status, meaning in words.items():
-            error = self.failure(f"exit {status}")
-            self.assertIsInstance(error, ProgramFailed)
-            self.assertEqual(getattr(error, "status"), status)
-            self.assertRegex(str(error), f"^cg ended with status {status}: .*{meaning}")
+            failed = self.failed(f"exit {status}")
+            self.assertEqual(failed, Failed(status))
+            assert isinstance(failed, Failed)
+            self.assertRegex(failed.explain(), f"^cg ended with status {status}: .*{meaning}")
 
     def test_a_signal(self) -> None:
-        self.assertEqual(str(self.failure("kill -9 $$")), "cg was ended by signal 9")
+        failed = self.failed("kill -9 $$")
+        assert isinstance(failed, Failed)
+        self.assertEqual(failed.explain(), "cg was ended by signal 9")
+
+    def test_the_last_line_of_standard_error_is_told(self) -> None:
+        failed = self.failed("echo first >&2; echo last >&2; exit 5")
+        assert isinstance(failed, Failed)
+        self.assertEqual(failed.explain(), "cg ended with status 5: memory was wanting (last)")
 
     def test_a_session_that_is_too_long(self) -> None:
-        error = self.failure('exec "$REAL" "$@"', "value " + " " * 1_048_576 + "1")
-        self.assertEqual(getattr(error, "status"), 6)
+        failed = self.failed('exec "$REAL" "$@"', "value " + " " * 1_048_576 + "1")
+        self.assertEqual(failed, Failed(6))
+
+    def test_a_definition_that_fails(self) -> None:
+        with tempfile.TemporaryDirectory() as folder:
+            session = Session(program=program(Path(folder), "exit 5"))
+            with self.assertRaises(ProgramFailed) as caught:
+                session.define("g", "1")
+        self.assertEqual((caught.exception.status, session.definitions), (5, {}))
 
     def test_another_program(self) -> None:
-        self.assertRegex(str(self.failure("exec cat")), "is it cg")
-        self.assertRegex(str(self.failure("echo 2: 3/0", "mean 1")), "is no reply: '3/0'")
+        for script, question, told in [
+            ("exec cat", "value 1", "is it cg"),
+            ("echo 2: 3/0", "mean 1", "is no reply: '3/0'"),
+        ]:
+            with self.assertRaisesRegex(CgError, told):
+                self.failed(script, question)
 
     def test_a_file_that_is_no_program(self) -> None:
         with tempfile.TemporaryDirectory() as folder:
             path = Path(folder, "broken")
             path.write_bytes(b"\x7fELF")
             path.chmod(0o755)
-            with self.assertRaisesRegex(CgError, "broken can't be run: "):
-                Session(program=str(path)).ask(["value 1"])
+            for memory in (None, 1 << 30):
+                with self.assertRaisesRegex(CgError, "broken can't be run: "):
+                    Session(program=str(path), memory=memory).ask(["value 1"])

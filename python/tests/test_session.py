@@ -132,8 +132,9 @@ class Cutting(unittest.TestCase):
         numbers = range(40)
         replies = session.ask(f"mean {number}/2" for number in numbers)
         self.assertEqual(replies, [Mean(Fraction(number, 2)) for number in numbers])
-        cells = sorted(words[1] for words in self.runs())
-        self.assertEqual(cells, ["5001", "7001", "7001", "7001", "7001", "7001"])
+        cells = [int(words[1]) for words in self.runs()]
+        self.assertLessEqual(max(cells), 7_001)
+        self.assertEqual(sum(cell // 1_000 for cell in cells), 40)
 
     def test_few_questions_share_one_run_and_all_processors(self) -> None:
         session = Session(share=1_000, processes=3, program=self.program)
@@ -143,12 +144,12 @@ class Cutting(unittest.TestCase):
         )
 
     def test_no_run_has_too_many_lines(self) -> None:
-        session = Session(share=1, program=self.program)
+        session = Session(share=1, processes=1, program=self.program)
         self.assertEqual(len(session.ask(["value 1"] * 5_000)), 5_000)
-        self.assertEqual(sorted(text.count("\n") for text in self.sessions()), [2_501, 2_501])
+        self.assertEqual(sorted(text.count("\n") for text in self.sessions()), [905, 4_097])
 
     def test_no_run_has_too_many_bytes(self) -> None:
-        session = Session(share=10, program=self.program)
+        session = Session(share=10, processes=1, program=self.program)
         lines = ["value 1" + " " * 300_000] * 7
         self.assertEqual(set(session.ask(lines)), {Value("1")})
         self.assertEqual(sorted(text.count("\n") for text in self.sessions()), [2, 4, 4])

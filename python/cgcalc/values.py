@@ -1,0 +1,91 @@
+"""Values: canonical forms, each by its name."""
+from __future__ import annotations
+
+from dataclasses import dataclass
+from fractions import Fraction
+from numbers import Rational
+from typing import Optional
+
+from cgcalc.errors import WrongCall
+from cgcalc.latex import latex_of
+from cgcalc.names import birthday_of, options_of, read_plain, with_bars
+from cgcalc.operands import Operand
+
+
+@dataclass(frozen=True, eq=False)
+class Value(Operand):
+    """A canonical form, by its name. Equal games have equal values.
+
+    A value stands wherever a game can, and a sum with a value is a game. The options are those of
+    the canonical form, in the order of the program.
+
+    >>> value = Value("{2|^*}")
+    >>> value.left_options, value.right_options
+    ((Value(name='2'),), (Value(name='^*'),))
+    >>> Value("3/4").number, Value("{2|0}").number
+    (Fraction(3, 4), None)
+    """
+
+    name: str
+
+    @property
+    def expression(self) -> str:
+        """The name, which can be typed back in."""
+        return self.name
+
+    @property
+    def refused(self) -> bool:
+        """Whether the line was refused: here never."""
+        return False
+
+    @property
+    def number(self) -> Optional[Fraction]:
+        """The number that the form is, or None for other forms."""
+        plain = read_plain(self.name)
+        return plain.number if plain and plain.is_number else None
+
+    @property
+    def left_options(self) -> tuple[Value, ...]:
+        """Left's options in the canonical form.
+
+        >>> Value("1/2*2").left_options
+        (Value(name='1/2'), Value(name='1/2*'))
+        """
+        return tuple(Value(name) for name in options_of(self.name)[0])
+
+    @property
+    def right_options(self) -> tuple[Value, ...]:
+        """Right's options in the canonical form.
+
+        >>> Value("^^").right_options, Value("2").right_options
+        ((Value(name='^*'),), ())
+        """
+        return tuple(Value(name) for name in options_of(self.name)[1])
+
+    @property
+    def birthday(self) -> int:
+        """The birthday: 0 where there are no options, else 1 more than the latest of an option.
+
+        >>> Value("{2|-1/2}").birthday
+        3
+        """
+        return birthday_of(self.name)
+
+    def __eq__(self, other: object) -> bool:
+        if isinstance(other, Value):
+            return self.name == other.name
+        if isinstance(other, Rational):
+            return self.number == other
+        if isinstance(other, str):
+            raise WrongCall(f"a text is no value by itself: write Value({other!r}) behind the ==")
+        return NotImplemented
+
+    def __hash__(self) -> int:
+        return hash(self.name if self.number is None else self.number)
+
+    def __str__(self) -> str:
+        return self.name
+
+    def _repr_latex_(self) -> str:
+        """The value as papers write it, for notebooks."""
+        return f"${latex_of(with_bars(self.name))}$"
