@@ -8,7 +8,7 @@ use Rattle.cg_grammar.proofs.Whole.{defines_none, stated_or_column}
 use Rattle.cg_syntax.specs.Naming.{Bindings, IsClosedQuestion, are_too_large, first_unknown, question_expanded, trees_of_question, uses_of}
 use Rattle.cg_syntax.specs.Session.{Asked_of, IsLine, Resolved, Too_large, by_names, has_some, refused, resolved, stated}
 use Rattle.cg_syntax.proofs.Closed.{closed_unused, same_question}
-use Rattle.cg_eval.specs.Reply.{IsReply, IsReplyTo, Piece, syntax_at}
+use Rattle.cg_eval.specs.Reply.{IsReply, Piece}
 use Rattle.cg_eval.proofs.Replies.{reply-read, reply-unread}
 use Rattle.cg_session.specs.Replies.{IsReplyFor}
 

@@ -1,4 +1,4 @@
-use Rattle.std.proofs.Common.{◌∙◌, ap, sym}
+use Rattle.std.proofs.Common.{ap}
 use Rattle.cg_syntax.specs.Session.{Asked_of, Syntax_at, Too_large, Unknown_at}
 use Rattle.cg_syntax.specs.SessionViews.{resolved_of}
 use Rattle.cg_query.specs.Trees.{question_of}
