@@ -28,11 +28,12 @@ use Rattle.cg_eval.specs.Items.{items, question_items}
 use Rattle.cg_eval.specs.Progress.{Evaluates, EvaluatesTwo, Lacks, Makes, Stops}
 use Rattle.cg_eval.specs.Refused.{IsRefusedBy, IsRefusedFor, IsRefusedOver}
 use Rattle.cg_eval.specs.Reply.{IsReply, IsReplyBy, IsReplyTo, Piece, ill_formed, refusal_of, syntax_at}
-use Rattle.cg_eval.specs.Shown.{Answers, HandleIs, HandleOf, IsAnswered, shown}
+use Rattle.cg_eval.specs.Shown.{Answers, HandleIs, HandleOf, IsAnswered, IsDeep, shown}
 use Rattle.cg_eval.specs.Stores.{KeepsStore}
 use Rattle.cg_eval.proofs.Steps.{first_none, first_some, lacks_fault, lacks_front, lacks_then, makes_then}
 use Rattle.cg_eval.proofs.OneAnswer.{one-answer, some-answer}
-use Rattle.cg_eval.proofs.Verdicts.{verdict-apart, verdict-decided, verdict-stopped}
+use Rattle.cg_values.proofs.Fronts.{verdict-apart}
+use Rattle.cg_eval.proofs.Verdicts.{verdict-decided, verdict-stopped}
 
 -- ---- what compares games spends nothing and says how the games compare
 
@@ -62,6 +63,9 @@ handle-none : {R : Type 0} (s : State Meant R) (q : Question) (refused : Bool) (
     → HandleIs s q refused handle
 handle-none s q refused handle e h = let P : Bool → Type 0 = λ b. HandleIs s q b handle in subst P (sym e) h
 
+some_none : {A : Type 0} {x : A} → Some x ≡ None → ⊥
+some_none e = cc
+
 -- of a question with an ill-formed board
 pub answered-ill_formed : {R : Type 0} (share limit : ℕ) (s : State Meant R) (q : Question) (a : Answered)
     (fault : GameFault) → question_fault q ≡ Some fault
@@ -71,6 +75,7 @@ answered-ill_formed share limit s q a fault e r =
     record {
       reply = subst P (sym e) r.text;
       handle = handle-none s q a.refused a.handle (ap (λ (p : Piece). p.refused) r.text) r.handle;
+      deep = λ none total passed. absurd (some_none (sym e ∙ none));
     }
 
 pub answered-made : {R : Type 0} (s t : State Meant (WorkRest R)) (q : Question) (a : Answered) → s.rest.spent ≡ 0
@@ -81,6 +86,7 @@ answered-made s t q a none (e, (is, made_items)) =
     record {
       reply = subst P (sym e) (inl (t.rest.spent, subst N none made_items.passed, is.text));
       handle = is.value;
+      deep = λ _ total passed. is.deep;
     }
 
 stopped-reply : {R : Type 0} (s t : State Meant (WorkRest R)) (q : Question) (a : Answered) (fault : ValueFault)
@@ -93,6 +99,8 @@ stopped-reply s t q a fault none e stopped r is_refusal =
     record {
       reply = subst P (sym e) (inr (fault, t.rest.spent, subst N none stopped, r.text));
       handle = handle-none t q a.refused a.handle (ap (λ (p : Piece). p.refused) r.text ∙ is_refusal) r.handle;
+      deep = λ _ total passed.
+          absurd (verdict-apart fault s.rest.share 0 (question_items s.rest.limit q) total t.rest.spent passed (subst N none stopped));
     }
 
 refused-item : {R : Type 0} (s t : State Meant (WorkRest R)) (q : Question) (a : Answered)
@@ -242,9 +250,12 @@ pub answered-store : {S R : Type 0} (state : S
 answered-store state w x q a share limit m n e f g is =
     let P : ℕ → Type 0 = λ i. IsReplyTo i n q (shown a) in
     let Q : ℕ → Type 0 = λ i. IsReplyTo share i q (shown a) in
+    let D : ℕ → Type 0 = λ i. question_fault q ≡ None → (total : ℕ) → AllPass i 0 (question_items n q) total → IsDeep q in
+    let E : ℕ → Type 0 = λ i. question_fault q ≡ None → (total : ℕ) → AllPass share 0 (question_items i q) total → IsDeep q in
     record {
       reply = subst Q g (subst P f is.reply);
       handle = rw e (handle-store state w q a.refused a.handle is.handle);
+      deep = subst E g (subst D f is.deep);
     }
 
 pub keeps-store : {S R : Type 0} (state : S → State Meant R) (w v : WorkOf S) (x y : S) → w.store.now ≡ x

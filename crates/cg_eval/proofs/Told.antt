@@ -1,10 +1,11 @@
 -- Answers from what is told of the games of handles.
-use Rattle.std.proofs.Common.{◌≡◌, refl, ap, sym, ◌∙◌, subst, ℕ, arith, Bool, true, false, List, ◌++◌, Option, Some, None, Ok, Err}
+use Rattle.std.proofs.Common.{◌≡◌, ◌<◌, refl, ap, sym, ◌∙◌, subst, ℕ, arith, Bool, true, false, List, ◌++◌, Option, Some, None, Ok, Err}
 use Rattle.std.proofs.Common.{if◌then◌else◌, pos, inl, inr}
 use Rattle.std.specs.Prelude.{◌↔◌, IsTrue, String, string_bytes}
 use Rattle.cg_cells.specs.Store.{Spends, State}
 use Rattle.cg_dyadic.specs.Number.{whole}
 use Rattle.cg_dyadic.specs.Wide.{places}
+use Rattle.cg_form.specs.Depth.{depth_of}
 use Rattle.cg_form.specs.Game.{Game, number}
 use Rattle.cg_form.specs.Order.{le}
 use Rattle.cg_form.specs.Outcome as form
@@ -39,7 +40,7 @@ use Rattle.cg_eval.specs.Pictures.{stops_text}
 use Rattle.cg_eval.specs.Progress.{Evaluates, EvaluatesTwo, Makes, Stops as Halts}
 use Rattle.cg_eval.specs.Refused.{IsRefusedBy}
 use Rattle.cg_eval.specs.Reply.{IsAnswerTo, IsChecked, IsProofTold, Piece, answer, comparison, too_fine, too_long, winner}
-use Rattle.cg_eval.specs.Shown.{Answers, HandleIs, first_of, shown}
+use Rattle.cg_eval.specs.Shown.{Answers, HandleIs, IsDeep, first_of, shown}
 use Rattle.cg_eval.specs.declared.answered.Answered.{Answered}
 use Rattle.cg_eval.specs.declared.fault.NoValue.{NoValue}
 use Rattle.cg_eval.specs.declared.pictures.Part.{Part}
@@ -55,16 +56,17 @@ use Rattle.cg_eval.proofs.Steps.{lacks_fault, lacks_items, stops_memory}
 -- ---- what is told
 
 tells-answer : (g : Game) (h : ℕ) (asked : Asked) (text : List ℕ) (a : Answered) → shown a ≡ answer text
-    → a.handle ≡ Some h → ((t : Tree) → g ≡ can (meaning t) → IsAnswerTo (asked_of asked t) (answer text))
-    → Tells g h asked a
-tells-answer g h asked text a e f all = record {
+    → a.handle ≡ Some h → ((t : Tree) → g ≡ can (meaning t) → IsDeep (asked_of asked t))
+    → ((t : Tree) → g ≡ can (meaning t) → IsAnswerTo (asked_of asked t) (answer text)) → Tells g h asked a
+tells-answer g h asked text a e f deep all = record {
   text = λ t is. let P : Piece → Type 0 = λ z. IsAnswerTo (asked_of asked t) z in subst P (sym e) (all t is);
+  deep = deep;
   handle = f ∙ ap (λ (b : Bool). if b then None else Some h) (sym (ap (λ (z : Piece). z.refused) e));
 }
 
 pub told-value : (g : Game) (h : ℕ) (text : List ℕ) (a : Answered) → IsName g text → shown a ≡ answer text
     → a.handle ≡ Some h → Tells g h asking.Value a
-told-value g h text a n e f = tells-answer g h asking.Value text a e f
+told-value g h text a n e f = tells-answer g h asking.Value text a e f (λ t is. tt)
     (λ t is. let P : Game → Type 0 = λ z. IsName z text in (text, subst P is n, refl))
 
 by_order : (b c : Bool) → winner_of (winner_by b c) ≡ winner b c
@@ -81,12 +83,12 @@ wins-order m =
 
 pub told-outcome : (g : Game) (h : ℕ) (o : Outcome) (text : List ℕ) (a : Answered) → o ≡ told (form.outcome g)
     → text ≡ winner_of o → shown a ≡ answer text → a.handle ≡ Some h → Tells g h asking.Outcome a
-told-outcome g h o text a w n e f = tells-answer g h asking.Outcome text a e f (λ t is.
+told-outcome g h o text a w n e f = tells-answer g h asking.Outcome text a e f (λ t is. tt) (λ t is.
     ap answer (n ∙ ap winner_of (w ∙ ap (λ z. told (form.outcome z)) is) ∙ wins-order (meaning t)))
 
 pub told-stops : (g : Game) (h : ℕ) (s : Stops) (text : List ℕ) (a : Answered) → StopsAre g s
     → text ≡ stops_text s.left s.right → shown a ≡ answer text → a.handle ≡ Some h → Tells g h asking.Stops a
-told-stops g h s text a w n e f = tells-answer g h asking.Stops text a e f (λ t is d.
+told-stops g h s text a w n e f = tells-answer g h asking.Stops text a e f (λ t is. tt) (λ t is d.
     let k = ap (form_stops.stops d) is ∙ equal_stops d d (can (meaning t)) (meaning t) (can-equal (meaning t)) in
     ap answer (n ∙ ap (λ z. stops_text z s.right) (w.left d ∙ ap (λ (z : form_stops.Stops). z.left) k)
     ∙ ap (stops_text (form_stops.stops d (meaning t)).left) (w.right d ∙ ap (λ (z : form_stops.Stops). z.right) k)))
@@ -95,7 +97,8 @@ pub drawn-some : {A : Type 0} (part : Part) (g : Game) (o : Option (String A)) (
     → (¬ NeedsMore places g) × ((p : Walls) × IsThermograph g p × (string_bytes text ≡ part_text part p))
 drawn-some {A} part g o text e d = let P : Option (String A) → Type 0 = λ z. IsDrawn part g z in subst P e d
 
-pub drawn-none : {A : Type 0} (part : Part) (g : Game) (o : Option (String A)) → o ≡ None → IsDrawn part g o → NeedsMore places g
+pub drawn-none : {A : Type 0} (part : Part) (g : Game) (o : Option (String A)) → o ≡ None → IsDrawn part g o
+    → NeedsMore places g × (20 < depth_of g)
 drawn-none {A} part g o e d = let P : Option (String A) → Type 0 = λ z. IsDrawn part g z in subst P e d
 
 part-answer : (part : Part) (t : Tree) (text : List ℕ) → ¬ NeedsMore places (can (meaning t))
@@ -109,21 +112,28 @@ part-refusal parts.Mean t n = inl (n, refl)
 part-refusal parts.Temp t n = inl (n, refl)
 part-refusal parts.Whole t n = inl (n, refl)
 
+part-deep : (part : Part) (t : Tree) → (NeedsMore places (can (meaning t)) → 20 < depth_of (can (meaning t))) → IsDeep (part_asked part t)
+part-deep parts.Mean t h = h
+part-deep parts.Temp t h = h
+part-deep parts.Whole t h = h
+
 pub told-part : (g : Game) (h : ℕ) (part : Part) (text : List ℕ) (a : Answered)
     → (¬ NeedsMore places g) × ((p : Walls) × IsThermograph g p × (text ≡ part_text part p)) → shown a ≡ answer text
     → a.handle ≡ Some h → Tells g h (asking.Picture part) a
-told-part g h part text a (n, (p, is, e)) s f = tells-answer g h (asking.Picture part) text a s f (λ t k.
+told-part g h part text a (n, (p, is, e)) s f = tells-answer g h (asking.Picture part) text a s f
+    (λ t k. part-deep part t (λ m. let N : Game → Type 0 = λ z. ¬ NeedsMore places z in absurd (subst N k n m))) (λ t k.
     let N : Game → Type 0 = λ z. ¬ NeedsMore places z in
     let P : Game → Type 0 = λ z. IsThermograph z p in
     part-answer part t text (subst N k n) p (equal-thermograph (can (meaning t)) (meaning t) p (can-equal (meaning t)) (subst P k is)) e)
 
-pub told-too_fine : (g : Game) (h : ℕ) (part : Part) (a : Answered) → NeedsMore places g → IsRefusedBy too_fine a
+pub told-too_fine : (g : Game) (h : ℕ) (part : Part) (a : Answered) → NeedsMore places g × (20 < depth_of g) → IsRefusedBy too_fine a
     → Tells g h (asking.Picture part) a
-told-too_fine g h part a n r = record {
+told-too_fine g h part a (n, deep) r = record {
   text = λ t k.
       let N : Game → Type 0 = λ z. NeedsMore places z in
       let P : Piece → Type 0 = λ z. IsAnswerTo (part_asked part t) z in
       subst P (sym r.text) (part-refusal part t (subst N k n));
+  deep = λ t k. part-deep part t (λ _. let D : Game → Type 0 = λ z. 20 < depth_of z in subst D k deep);
   handle = r.handle ∙ ap (λ (b : Bool). if b then None else Some h) (sym (ap (λ (z : Piece). z.refused) r.text));
 }
 
@@ -175,6 +185,7 @@ module _ {R : Type 0} (s t u : State Meant (WorkRest R)) (asked : Asked) (e : Tr
             text = is.text e (stands_game t h (can (meaning e)) evaluated.1.0);
             value = handle-told u (asked_of asked e) h a.refused a.handle is.handle
                 (subst P (same-first asked e) (stands_later t u spends.known h (can (meaning e)) evaluated.1.0));
+            deep = is.deep e (stands_game t h (can (meaning e)) evaluated.1.0);
           },
           made_for,
         ),
@@ -247,6 +258,11 @@ told-answer Order a b reply is = compared-forms (meaning a) (meaning b) reply is
 told-answer Proof a b reply is = is
 told-answer (Check text) a b reply is = is
 
+no-deep : (asked : AskedOfTwo) (a b : Tree) → IsDeep (asked_of_two asked a b)
+no-deep Order a b = tt
+no-deep Proof a b = tt
+no-deep (Check text) a b = tt
+
 -- s before, t with the two values, u after what is told of them
 module _ {R : Type 0} (s t u : State Meant (WorkRest R)) (asked : AskedOfTwo) (a b : Tree) (hs : ℕ × ℕ)
     (both : EvaluatesTwo s t a b (Ok hs)) (spends : Spends 0 t u) where
@@ -269,6 +285,7 @@ module _ {R : Type 0} (s t u : State Meant (WorkRest R)) (asked : AskedOfTwo) (a
                 (subst P (stands_game t hs.0 (can (meaning a)) both.1.0.0) tells.text));
             value = handle-told u (asked_of_two asked a b) hs.0 z.refused z.handle tells.handle
                 (subst F (same-first_of_two asked a b) (stands_later t u spends.known hs.0 (can (meaning a)) both.1.0.0));
+            deep = no-deep asked a b;
           },
           both_spend,
         ),

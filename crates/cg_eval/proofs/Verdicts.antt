@@ -10,6 +10,7 @@ use Rattle.cg_canon.specs.declared.fault.ValueFault.{ValueFault}
 use Rattle.cg_canon.specs.declared.fault.ValueFault.TheVariants.{Depth, Full, Memory, Positions, Range}
 use Rattle.cg_canon.specs.Items.{AllPass, IsRefusal, IsStopped, Item, Passes, item_cost, made, outside, too_many, total}
 use Rattle.cg_canon.proofs.ItemLaws.{all_pass-back, all_pass-more, all_pass-none, all_pass-one, passes-first, stopped-back, stopped-one}
+use Rattle.cg_values.proofs.Fronts.{not_both}
 use Rattle.cg_eval.proofs.Below.{below_or_not}
 
 -- ---- one item
@@ -36,16 +37,6 @@ decided-item (made g extra) sum share = elim (in_range_or_not g) [
     ]
   ]
 ]
-
-not_both : (fault : ValueFault) (item : Item) (sum share : ℕ) → Passes item sum share
-    → IsRefusal fault item sum share → ⊥
-not_both fault too_many sum share p r = p
-not_both fault outside sum share p r = p
-not_both Range (made g extra) sum share p r = r p.0
-not_both (Depth d) (made g extra) sum share p r = let a = p.1 in let b = r.1 in let l = r.2 in absurd (omega arith)
-not_both (Full n) (made g extra) sum share p r = let a = p.2 in let b = r.2 in let l = r.3 in absurd (omega arith)
-not_both Positions (made g extra) sum share p r = r
-not_both Memory (made g extra) sum share p r = r
 
 only_positions : (fault : ValueFault) (sum share : ℕ) → IsRefusal fault too_many sum share → fault ≡ Positions
 only_positions Positions sum share r = refl
@@ -116,13 +107,6 @@ verdict-decided share before (item ∷ items) =
 pub verdict-passed : (share before : ℕ) (items : List Item) (a b : ℕ) → AllPass share before items a
     → AllPass share before items b → a ≡ b
 verdict-passed share before items a b p q = p.spent ∙ sym q.spent
-
-pub verdict-apart : (fault : ValueFault) (share before : ℕ) (items : List Item) (a b : ℕ) → AllPass share before items a
-    → IsStopped fault share before items b → ⊥
-verdict-apart fault share before items a b p s =
-    let Q : ℕ → Type 0 = λ n. IsRefusal fault s.item (n + item_cost s.item) share in
-    not_both fault s.item (before + total s.front + item_cost s.item) share (p.each s.front s.item s.back s.split)
-    (subst Q s.passed.spent s.refused)
 
 -- what was refused stands at one place
 one_place : (f e : ValueFault) (share before : ℕ) (xs : List Item) (x : Item) (rest ys : List Item) (y : Item)

@@ -1,6 +1,7 @@
 -- What private contracts say of boards that were read and of what is shown.
-use Rattle.std.specs.Prelude.{◌≡◌, ◌⊎◌, ℕ, Bool, List, Option, Some, None, Result, Ok, Err, true, false, codes, if◌then◌else◌, String, string_bytes}
+use Rattle.std.specs.Prelude.{◌≡◌, ◌⊎◌, ◌<◌, ℕ, Bool, List, Option, Some, None, Result, Ok, Err, true, false, codes, if◌then◌else◌, String, string_bytes}
 use Rattle.cg_dyadic.specs.Wide.{places}
+use Rattle.cg_form.specs.Depth.{depth_of}
 use Rattle.cg_form.specs.Game.{Game}
 use Rattle.cg_form.specs.Order.{le}
 use Rattle.cg_nodes.specs.Can.{can}
@@ -21,7 +22,7 @@ use Rattle.cg_eval.specs.Boards.{Position, board, faulty}
 use Rattle.cg_eval.specs.Pictures.{mean_text, temp_text, thermograph_text}
 use Rattle.cg_eval.specs.Meaning.{meaning}
 use Rattle.cg_eval.specs.Reply.{IsAnswerTo, IsChecked, IsProofTold, Piece, answer, comparison}
-use Rattle.cg_eval.specs.Shown.{shown}
+use Rattle.cg_eval.specs.Shown.{IsDeep, shown}
 use Rattle.cg_eval.specs.declared.answered.Answered.{Answered}
 use Rattle.cg_eval.specs.IllFormed.{is_memory}
 use Rattle.cg_octal.specs.Codes.{OctalHeap}
@@ -95,9 +96,9 @@ part_asked parts.Mean t = mean t
 part_asked parts.Temp t = temp t
 part_asked parts.Whole t = thermo t
 
--- the text of this part of the thermograph; or none, where a position needs too many binary places
+-- the text of this part of the thermograph; or none, where a position needs too many binary places, and the game is deep
 abbrev pub IsDrawn : {A : Type 0} → Part → Game → Option (String A) → Type 0
-IsDrawn {A} part g None = NeedsMore places g
+IsDrawn {A} part g None = NeedsMore places g × (20 < depth_of g)
 IsDrawn {A} part g (Some text) =
     (¬ NeedsMore places g) × ((w : Walls) × IsThermograph g w × (string_bytes text ≡ part_text part w))
 
@@ -126,6 +127,7 @@ winner_of N = codes "N"
 -- the answer to the question for the game, with its handle unless it is a refusal
 pub record Tells (g : Game) (h : ℕ) (asked : Asked) (a : Answered) : Type 0 where
   pub text : (t : Tree) → g ≡ can (meaning t) → IsAnswerTo (asked_of asked t) (shown a)
+  pub deep : (t : Tree) → g ≡ can (meaning t) → IsDeep (asked_of asked t)
   pub handle : a.handle ≡ (if a.refused then None else Some h)
 
 -- the answer to a question about two games, with the first one's handle unless it is a refusal

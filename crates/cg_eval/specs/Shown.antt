@@ -1,10 +1,14 @@
 -- An answer, without where it lies in memory.
-use Rattle.std.specs.Prelude.{◌≡◌, ℕ, Bool, true, false, List, Option, Some, None, Result}
+use Rattle.std.specs.Prelude.{◌≡◌, ℕ, ◌<◌, Bool, true, false, List, Option, Some, None, Result}
 use Rattle.cg_cells.specs.Store.{State}
+use Rattle.cg_dyadic.specs.Wide.{places}
+use Rattle.cg_form.specs.Depth.{depth_of}
 use Rattle.cg_nodes.specs.Can.{can}
 use Rattle.cg_nodes.specs.Meant.{Meant}
 use Rattle.cg_nodes.specs.Games.{StandsFor}
+use Rattle.cg_canon.specs.Items.{AllPass}
 use Rattle.cg_canon.specs.declared.rest.WorkRest.{WorkRest}
+use Rattle.cg_thermo.specs.Thermal.{NeedsMore}
 use Rattle.cg_eval.specs.Meaning.{meaning}
 use Rattle.cg_query.specs.Tree.{Tree, Question, value, compare, outcome, stops, mean, temp, thermo, proof, check}
 use Rattle.cg_grammar.specs.Lines.{Reads}
@@ -41,10 +45,19 @@ pub record HandleOf {R : Type 0} (s : State Meant R) (line : List ℕ) (refused 
   pub read : (q : Question) → Reads line q → HandleIs s q refused handle
   pub refusal : refused ≡ true → handle ≡ None
 
+-- where the question is for a mean, a temperature or a thermograph, and one of these needs too many binary places, the value of its
+-- expression has a depth of more than 20
+abbrev pub IsDeep : Question → Type 0
+IsDeep (mean t) = NeedsMore places (can (meaning t)) → 20 < depth_of (can (meaning t))
+IsDeep (temp t) = NeedsMore places (can (meaning t)) → 20 < depth_of (can (meaning t))
+IsDeep (thermo t) = NeedsMore places (can (meaning t)) → 20 < depth_of (can (meaning t))
+IsDeep _ = Unit {0}
+
 -- the answer to the question, with the value of its first expression exactly where it is no refusal
 pub record IsAnswer {R : Type 0} (s : State Meant R) (q : Question) (a : Answered) : Type 0 where
   pub text : IsAnswerTo q (shown a)
   pub value : HandleIs s q a.refused a.handle
+  pub deep : IsDeep q
 
 -- the answer to the question, with all of its items made; or why there is none
 abbrev pub Answers : {R : Type 0} → State Meant (WorkRest R) → State Meant (WorkRest R) → Question
@@ -55,3 +68,5 @@ Answers {R} s t q result = Ends s t (question_fault q) (question_items s.rest.li
 pub record IsAnswered {R : Type 0} (share limit : ℕ) (s : State Meant R) (q : Question) (a : Answered) : Type 0 where
   pub reply : IsReplyTo share limit q (shown a)
   pub handle : HandleIs s q a.refused a.handle
+  -- where all items pass, the refusal of a mean or a temperature that needs too many places comes at a depth of more than 20 alone
+  pub deep : question_fault q ≡ None → (total : ℕ) → AllPass share 0 (question_items limit q) total → IsDeep q

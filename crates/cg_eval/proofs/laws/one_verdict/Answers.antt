@@ -1,4 +1,5 @@
-use Rattle.cg_eval.proofs.Verdicts.{verdict-apart, verdict-decided, verdict-passed, verdict-stopped}
+use Rattle.cg_values.proofs.Fronts.{verdict-apart}
+use Rattle.cg_eval.proofs.Verdicts.{verdict-decided, verdict-passed, verdict-stopped}
 use Rattle.cg_eval.proofs.laws.one_verdict.Goals as goal
 
 pub returns-clause-decided : goal.returns-clause-decided
