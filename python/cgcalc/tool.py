@@ -6,7 +6,7 @@ import os
 import signal
 import sys
 from pathlib import Path
-from typing import NoReturn
+from typing import Any, NoReturn
 
 from cgcalc.errors import WrongCall
 from cgcalc.limits import POSITIONS
@@ -24,7 +24,10 @@ class BadUse(WrongCall):
 
 
 class Words(argparse.ArgumentParser):
-    """A reader of the words of a command line that refuses them in one line."""
+    """A reader of words that refuses them in one line, and takes no front of an option for it."""
+
+    def __init__(self, **given: Any) -> None:
+        super().__init__(allow_abbrev=False, **given)
 
     def error(self, message: str) -> NoReturn:
         tell(self.prog, f"{message} ({self.prog} --help tells the words)")

@@ -72,7 +72,7 @@ class BadUse(Tried):
             path = os.path.join(ROOT, "tools", name)
             if os.path.isfile(path) and "." not in name:
                 with self.subTest(name=name):
-                    self.fails("(--help tells the words)", name, "--nosuchword", status=2)
+                    self.fails("--help tells the words)", name, "--nosuchword", status=2)
                     ended, written = self.run_tool(name, "--help")
                     self.assertEqual((ended, written[:6]), (0, "usage:"))
 
