@@ -1,9 +1,7 @@
 -- What stands in the places of options.
 use Rattle.std.proofs.Common.{◌≡◌, refl, ℕ, suc, ◌+◌, ◌<◌, inl, inr, arith, ap, sym, ◌∙◌, subst, List, [], ◌∷◌, ◌++◌, take, get_or, length, Bool, true, false, cond, IsTrue}
-use Rattle.std.specs.List.{All}
 use Rattle.std.specs.Prelude.{◌⊎◌}
-use Rattle.std.proofs.lemmas.List.{map-append}
-use Rattle.std.proofs.lemmas.List.Elements.{All-nil, All-push}
+use Rattle.std.proofs.lemmas.List.Elements.{All-nil}
 use Rattle.cg_dyadic.specs.Number.{Number}
 use Rattle.cg_dyadic.proofs.Truth.{differ}
 use Rattle.cg_form.specs.Bypass.{AllCovered, Covered, Fine, Grown, bypassed, kept, under}
@@ -18,15 +16,12 @@ use Rattle.cg_form.proofs.Bypass.{covered_more}
 use Rattle.cg_form.proofs.BypassSteps.{grown_trans}
 use Rattle.cg_form.proofs.Order.{no_one-each}
 use Rattle.cg_form.proofs.Sides.{near_number, not_both, not_near, side_trans}
-use Rattle.cg_book.specs.declared.candidate.Candidate.{Candidate}
 use Rattle.cg_book.specs.declared.substitutes.Substitutes.{Substitutes}
 use Rattle.cg_book.specs.declared.whole.Whole.{Whole}
-use Rattle.cg_book.specs.Candidates.{alone, pages_of}
 use Rattle.cg_book.specs.Pages.{ArePages, IsPage, game_of, games_of}
-use Rattle.cg_book.specs.Passed.{AreSubstitutes, IsOwn, Replaced, WasPassed}
+use Rattle.cg_book.specs.Passed.{AreSubstitutes, Replaced, WasPassed}
 use Rattle.cg_book.specs.Wholes.{WholeHolds, whole_game}
-use Rattle.cg_book.proofs.CandidateLaws.{pages_pushed}
-use Rattle.cg_book.proofs.Slices.{games_take_suc, item_among}
+use Rattle.cg_book.proofs.Slices.{games_pushed, games_take_suc, pages_pushed}
 
 -- ---- games that may stand as options
 
@@ -90,21 +85,17 @@ record Pushed (gs : List Game) (left : Bool) (g x : Game) (os rs : List ℕ) : T
   pub grown : Grown left g (games_of gs os) (games_of gs rs)
   pub last : Among x (games_of gs rs)
 
-pushed_one : (gs : List Game) (left : Bool) (g : Game) (os rs : List Candidate) (h : Candidate)
-    → ArePages gs (pages_of os) → IsPage gs h.page → rs ≡ os ++ h ∷ [] → Fine left g (game_of gs h.page)
-    → Pushed gs left g (game_of gs h.page) (pages_of os) (pages_of rs)
+pushed_one : (gs : List Game) (left : Bool) (g : Game) (os rs : List ℕ) (h : ℕ) → ArePages gs os → IsPage gs h → rs ≡ os ++ h ∷ []
+    → Fine left g (game_of gs h) → Pushed gs left g (game_of gs h) os rs
 pushed_one gs left g os rs h a b e f =
-    let us = pages_of os in
-    let last = pages_pushed os rs h e in
-    let x = game_of gs h.page in
-    let same : games_of gs (pages_of rs) ≡ games_of gs us ++ x ∷ [] = ap (games_of gs) last ∙ map-append (game_of gs) us (h.page ∷ []) in
-    let P : List ℕ → Type 0 = λ z. ArePages gs z in
-    let Q : List Game → Type 0 = λ z. Grown left g (games_of gs us) z in
+    let x = game_of gs h in
+    let same = games_pushed gs os rs h e in
+    let Q : List Game → Type 0 = λ z. Grown left g (games_of gs os) z in
     record {
-      pages = subst P (sym last) (All-push (IsPage gs) us h.page a b);
-      grown = subst Q (sym same) (grown_last left g x (games_of gs us) f);
-      last = carry x (games_of gs us ++ x ∷ []) (games_of gs (pages_of rs)) (sym same)
-          (among-append_right x (games_of gs us) (x ∷ []) (inl refl));
+      pages = pages_pushed gs os rs h a b e;
+      grown = subst Q (sym same) (grown_last left g x (games_of gs os) f);
+      last = carry x (games_of gs os ++ x ∷ []) (games_of gs rs) (sym same)
+          (among-append_right x (games_of gs os) (x ∷ []) (inl refl));
     }
 
 -- ---- options in whose places others stand
@@ -112,34 +103,27 @@ pushed_one gs left g os rs h a b e f =
 pub no_substitutes : (gs : List Game) (left : Bool) (w : Whole) (o : Substitutes) → o.items.items ≡ []
     → ((page : ℕ) → ¬ WasPassed o page) → AreSubstitutes gs left w o
 no_substitutes gs left w o e none =
-    let P : List Candidate → Type 0 = λ z. ArePages gs (pages_of z) in
-    let Q : List Candidate → Type 0 = λ z. All (IsOwn left w) z in
-    record {
-      pages = subst P (sym e) (All-nil (IsPage gs));
-      passed = λ page p. absurd (none page p);
-      own = subst Q (sym e) (All-nil (IsOwn left w));
-    }
+    let P : List ℕ → Type 0 = λ z. ArePages gs z in
+    record { pages = subst P (sym e) (All-nil (IsPage gs)); passed = λ page p. absurd (none page p) }
 
 -- with one candidate more
-pub replaced_by_one : (gs : List Game) (left : Bool) (w : Whole) (o r : Substitutes) (x : Candidate) (P : Game → Type 0)
-    → AreSubstitutes gs left w o → IsPage gs x.page → r.items.items ≡ o.items.items ++ x ∷ []
-    → ((page : ℕ) → WasPassed r page → WasPassed o page) → Fine left (whole_game gs w) (game_of gs x.page) → IsOwn left w x
-    → (Among (game_of gs x.page) (games_of gs (pages_of r.items.items)) → (a : Game) → P a
-    → Covered left (whole_game gs w) (games_of gs (pages_of r.items.items)) a)
+pub replaced_by_one : (gs : List Game) (left : Bool) (w : Whole) (o r : Substitutes) (x : ℕ) (P : Game → Type 0)
+    → AreSubstitutes gs left w o → IsPage gs x → r.items.items ≡ o.items.items ++ x ∷ []
+    → ((page : ℕ) → WasPassed r page → WasPassed o page) → Fine left (whole_game gs w) (game_of gs x)
+    → (Among (game_of gs x) (games_of gs r.items.items) → (a : Game) → P a
+    → Covered left (whole_game gs w) (games_of gs r.items.items) a)
     → Replaced gs left w o r P
-replaced_by_one gs left w o r x P h known e same fine own covers =
+replaced_by_one gs left w o r x P h known e same fine covers =
     let p = pushed_one gs left (whole_game gs w) o.items.items r.items.items x h.pages known e fine in
-    let Q : List Candidate → Type 0 = λ z. All (IsOwn left w) z in
     record {
       out = record {
         pages = p.pages;
         passed = λ page q.
             let before = h.passed page (same page q) in (
               before.0,
-              covered_more left (whole_game gs w) (games_of gs (pages_of o.items.items)) (games_of gs (pages_of r.items.items))
+              covered_more left (whole_game gs w) (games_of gs o.items.items) (games_of gs r.items.items)
                   (game_of gs page) p.grown.keeps before.1,
             );
-        own = subst Q (sym e) (All-push (IsOwn left w) o.items.items x h.own own);
       };
       grown = p.grown;
       covered = covers p.last;
@@ -147,30 +131,29 @@ replaced_by_one gs left w o r x P h known e same fine own covers =
 
 -- as they stand, where they cover the game already
 pub replaced_by_none : (gs : List Game) (left : Bool) (w : Whole) (o : Substitutes) (x : Game) → AreSubstitutes gs left w o
-    → Covered left (whole_game gs w) (games_of gs (pages_of o.items.items)) x → Replaced gs left w o o (λ a. a ≡ x)
+    → Covered left (whole_game gs w) (games_of gs o.items.items) x → Replaced gs left w o o (λ a. a ≡ x)
 replaced_by_none gs left w o x h c = record {
   out = h;
-  grown = grown_same left (whole_game gs w) (games_of gs (pages_of o.items.items));
-  covered = λ a e. let P : Game → Type 0 = λ z. Covered left (whole_game gs w) (games_of gs (pages_of o.items.items)) z in subst P (sym e) c;
+  grown = grown_same left (whole_game gs w) (games_of gs o.items.items);
+  covered = λ a e. let P : Game → Type 0 = λ z. Covered left (whole_game gs w) (games_of gs o.items.items) z in subst P (sym e) c;
 }
 
 -- which cover an option that is passed now
 passing_substitutes : (gs : List Game) (left : Bool) (w : Whole) (o r : Substitutes) (x : ℕ) → AreSubstitutes gs left w o
-    → IsPage gs x → Covered left (whole_game gs w) (games_of gs (pages_of o.items.items)) (game_of gs x) → r.items.items ≡ o.items.items
+    → IsPage gs x → Covered left (whole_game gs w) (games_of gs o.items.items) (game_of gs x) → r.items.items ≡ o.items.items
     → ((page : ℕ) → WasPassed r page → WasPassed o page ⊎ (page ≡ x)) → AreSubstitutes gs left w r
 passing_substitutes gs left w o r x h known c e updates =
-    let P : List Candidate → Type 0 = λ z. ArePages gs (pages_of z) in
-    let Q : List Candidate → Type 0 = λ z. All (IsOwn left w) z in
-    record { pages = subst P (sym e) h.pages; passed = one; own = subst Q (sym e) h.own }
+    let P : List ℕ → Type 0 = λ z. ArePages gs z in
+    record { pages = subst P (sym e) h.pages; passed = one }
   where
     one : (page : ℕ) → WasPassed r page
-        → IsPage gs page × Covered left (whole_game gs w) (games_of gs (pages_of r.items.items)) (game_of gs page)
+        → IsPage gs page × Covered left (whole_game gs w) (games_of gs r.items.items) (game_of gs page)
     one page p =
-        let Q : List Candidate → Type 0 = λ z. Covered left (whole_game gs w) (games_of gs (pages_of z)) (game_of gs page) in
+        let Q : List ℕ → Type 0 = λ z. Covered left (whole_game gs w) (games_of gs z) (game_of gs page) in
         elim (updates page p) [
           | inr same ↦ (
               let V : ℕ → Type 0 = λ z. IsPage gs z in
-              let U : ℕ → Type 0 = λ z. Covered left (whole_game gs w) (games_of gs (pages_of o.items.items)) (game_of gs z) in
+              let U : ℕ → Type 0 = λ z. Covered left (whole_game gs w) (games_of gs o.items.items) (game_of gs z) in
               (subst V (sym same) known, subst Q (sym e) (subst U (sym same) c)))
           | inl old ↦ (
               let before = h.passed page old in
@@ -181,8 +164,8 @@ pub replaced_and_passed : (gs : List Game) (left : Bool) (w : Whole) (o m r : Su
     → Replaced gs left w o m (λ a. a ≡ game_of gs x) → IsPage gs x → r.items.items ≡ m.items.items
     → ((page : ℕ) → WasPassed r page → WasPassed m page ⊎ (page ≡ x)) → Replaced gs left w o r (λ a. a ≡ game_of gs x)
 replaced_and_passed gs left w o m r x d known e updates =
-    let P : List Candidate → Type 0 = λ z. Grown left (whole_game gs w) (games_of gs (pages_of o.items.items)) (games_of gs (pages_of z)) in
-    let Q : List Candidate → Type 0 = λ z. (a : Game) → a ≡ game_of gs x → Covered left (whole_game gs w) (games_of gs (pages_of z)) a in
+    let P : List ℕ → Type 0 = λ z. Grown left (whole_game gs w) (games_of gs o.items.items) (games_of gs z) in
+    let Q : List ℕ → Type 0 = λ z. (a : Game) → a ≡ game_of gs x → Covered left (whole_game gs w) (games_of gs z) a in
     record {
       out = passing_substitutes gs left w m r x d.out known (d.covered (game_of gs x) refl) e updates;
       grown = subst P (sym e) d.grown;
@@ -243,20 +226,17 @@ near_own gs w left own e = ap (games_of gs) e ∙ by left
     by true = sym (lefts-node (games_of gs w.lefts.now) (games_of gs w.rights.now))
     by false = sym (rights-node (games_of gs w.lefts.now) (games_of gs w.rights.now))
 
--- an own option isn't as good as the whole
-pub own_less : (gs : List Game) (w : Whole) (left : Bool) (own : List ℕ) (i k : ℕ) → own ≡ cond left w.lefts.now w.rights.now
-    → i < length own → k ≡ get_or own i 0 → ¬ AtMost left (whole_game gs w) (game_of gs k)
-own_less gs w left own i k e h q =
-    not_near left (whole_game gs w) (game_of gs k)
-    (carry (game_of gs k) (games_of gs own) (near left (whole_game gs w)) (near_own gs w left own e) (item_among gs own i k h q))
+-- no own option is as good as the whole
+pub own_less : (gs : List Game) (w : Whole) (left : Bool) (own : List ℕ) → own ≡ cond left w.lefts.now w.rights.now
+    → EachLess left (whole_game gs w) (games_of gs own)
+own_less gs w left own e = record {
+  each = λ c m. not_near left (whole_game gs w) c (carry c (games_of gs own) (near left (whole_game gs w)) (near_own gs w left own e) m);
+}
 
 pub whole_pages : (gs : List Game) (w : Whole) (left : Bool) (own : List ℕ) → WholeHolds gs w → own ≡ cond left w.lefts.now w.rights.now
     → ArePages gs own
 whole_pages gs w true own h e = let P : List ℕ → Type 0 = λ z. ArePages gs z in subst P (sym e) h.lefts
 whole_pages gs w false own h e = let P : List ℕ → Type 0 = λ z. ArePages gs z in subst P (sym e) h.rights
-
-pub alone_own : (left : Bool) (w : Whole) (page : ℕ) → IsOwn left w (alone page)
-alone_own left w page = λ t e. cc
 
 -- ---- where nothing is bypassed
 
@@ -274,6 +254,3 @@ fine_more gs left g ps i k h l e f = λ x m.
         | inr n ↦ absurd n
       ]
     ]
-
-pub no_items : (gs : List Game) (left : Bool) (g : Game) (us : List ℕ) → us ≡ [] → Bypassed gs left g [] [] us
-no_items gs left g us e = let P : List ℕ → Type 0 = λ z. Bypassed gs left g [] [] z in subst P (sym e) (bypassed_none gs left g [])

@@ -1,12 +1,16 @@
 -- The games of a list of pages that are kept, and the best of them.
 use Rattle.std.proofs.Common.{◌≡◌, ℕ, suc, ◌+◌, ◌<◌, arith, ap, sym, ◌∙◌, subst, List, [], ◌∷◌, ◌++◌, take, get_or, length, Bool, true, false, cond}
+use Rattle.std.specs.List.{Contains}
+use Rattle.std.proofs.lemmas.List.Elements.{All-contains, All-contains_itself}
+use Rattle.std.specs.List.Sorted.{IsPermutation}
+use Rattle.std.proofs.lemmas.List.Sorted.{All-permutation, IsPermutation-sym}
 use Rattle.cg_form.specs.Best.{keep}
-use Rattle.cg_form.specs.Game.{Game}
+use Rattle.cg_form.specs.Game.{Among, Game}
 use Rattle.cg_form.proofs.Best.{append_nil}
-use Rattle.cg_book.specs.Pages.{game_of, games_of}
+use Rattle.cg_book.specs.Pages.{ArePages, IsPage, game_of, games_of}
 use Rattle.cg_book.specs.Tops.{Tops, with_last}
-use Rattle.cg_book.proofs.Slices.{games_take_suc}
-use Rattle.cg_book.proofs.Topping.{keep-last, tops_step}
+use Rattle.cg_book.proofs.Slices.{game_there, games_take_suc, member_of}
+use Rattle.cg_book.proofs.Topping.{keep-last, tops_same_games, tops_step}
 
 pub games_take_more : (gs : List Game) (ps : List ℕ) (i k : ℕ) → i < length ps → k ≡ get_or ps i 0
     → games_of gs (take (i + 1) ps) ≡ games_of gs (take i ps) ++ game_of gs k ∷ []
@@ -44,3 +48,19 @@ tops_next gs left ps us ws i k h l e q =
     let P : List Game → Type 0 = λ z. Tops left z ws in
     let Q : List Game → Type 0 = λ z. Tops left (games_of gs (take i ps) ++ game_of gs k ∷ []) z in
     subst P (sym (games_take_more gs ps i k l e)) (subst Q (sym q) (tops_step left (games_of gs (take i ps)) us (game_of gs k) h))
+
+-- ---- the same pages in another order
+
+pub pages_moved : (gs : List Game) (ps qs : List ℕ) → IsPermutation ps qs → ArePages gs ps → ArePages gs qs
+pages_moved gs ps qs p a = All-permutation (IsPage gs) ps qs p a
+
+games_moved : (gs : List Game) (ps qs : List ℕ) → IsPermutation ps qs → (x : Game) → Among x (games_of gs qs) → Among x (games_of gs ps)
+games_moved gs ps qs p x m =
+    let (k, there, e) = member_of gs qs x m in
+    let P : Game → Type 0 = λ z. Among z (games_of gs ps) in
+    subst P (sym e) (game_there gs ps k (All-contains (Contains ps) qs k (All-permutation (Contains ps) ps qs p (All-contains_itself ps)) there))
+
+pub tops_moved : (gs : List Game) (left : Bool) (ps qs : List ℕ) (us : List Game) → IsPermutation ps qs → Tops left (games_of gs qs) us
+    → Tops left (games_of gs ps) us
+tops_moved gs left ps qs us p t =
+    tops_same_games left (games_of gs qs) (games_of gs ps) us (games_moved gs ps qs p) (games_moved gs qs ps (IsPermutation-sym ps qs p)) t

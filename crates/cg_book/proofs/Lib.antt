@@ -8,8 +8,7 @@ pub mod Comparing
 pub mod Against
 pub mod Bypassing
 pub mod Topping
-pub mod CandidateLaws
-pub mod TermLaws
+pub mod Antichains
 pub mod Keeping
 pub mod Noting
 pub mod Halving

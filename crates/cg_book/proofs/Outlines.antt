@@ -1,5 +1,5 @@
 -- The cuts and the depth of a list of pages, and what they tell of the game of two lists.
-use Rattle.std.proofs.Common.{◌≡◌, refl, ℕ, ◌+◌, ◌<◌, ◌≤◌, arith, suc, ap, sym, ◌∙◌, subst, inl, inr, max, Option, Some, None, List, [], ◌∷◌, ◌++◌, get_or, length, take, Bool, true, false, not}
+use Rattle.std.proofs.Common.{◌≡◌, refl, ℕ, ◌+◌, ◌<◌, ◌≤◌, arith, suc, ap, sym, ◌∙◌, subst, inl, inr, max, Option, Some, List, [], ◌∷◌, ◌++◌, get_or, length, take, Bool, true, false, not}
 use Rattle.cg_dyadic.specs.Cut.{in_gap, in_cut}
 use Rattle.cg_dyadic.specs.Number.{Number}
 use Rattle.cg_dyadic.specs.Simplest.{NoOptionPasses, NonePasses}
@@ -19,16 +19,12 @@ use Rattle.cg_form.proofs.Simplicity.{equal-fits}
 use Rattle.cg_form.proofs.Unique.{canonical_form-same}
 use Rattle.cg_book.specs.declared.profile.Profile.{Profile}
 use Rattle.cg_book.specs.declared.settling.NewForm.{NewForm}
-use Rattle.cg_book.specs.declared.terms.FirstTerm.{FirstTerm}
-use Rattle.cg_book.specs.Candidates.{AreApartByTerm}
 use Rattle.cg_book.specs.Pages.{ArePages, IsPage, game_of, games_of}
 use Rattle.cg_book.specs.Profiles.{HasCuts, IsProfile, chosen_cut}
 use Rattle.cg_book.specs.Settled.{IsNewForm}
-use Rattle.cg_book.specs.Terms.{ApartByTerm}
 use Rattle.cg_book.specs.Told.{NoFurther}
 use Rattle.cg_book.proofs.Profiling.{deepest-last, equal_cuts, profile_cut}
 use Rattle.cg_book.proofs.Slices.{games_take_all, games_take_suc, item_among, page_of_item}
-use Rattle.cg_book.proofs.TermLaws.{no_terms, two_terms}
 use Rattle.cg_book.proofs.Topping.{among_last}
 
 -- ---- the option that reaches furthest
@@ -144,10 +140,3 @@ new_form gs g new us vs a b c e f h form k =
       is = is;
       profile = subst P (ap (λ z. node (games_of gs z) (games_of gs vs)) e ∙ ap (λ z. node (games_of gs new.form.lefts.items) (games_of gs z)) f ∙ sym is) h;
     }
-
--- ---- terms
-
-pub terms_of_pages : (gs : List Game) (o : Option FirstTerm) (ps qs : List ℕ) → ApartByTerm o (games_of gs ps) (games_of gs qs)
-    → AreApartByTerm gs o ps qs
-terms_of_pages gs None ps qs h = no_terms gs ps qs
-terms_of_pages gs (Some f) ps qs h = two_terms gs f ps qs h.0 h.1

@@ -1,5 +1,5 @@
 -- The canonical form of a whole: what stays of its value where dominated options are left out, and what replaces the others.
-use Rattle.std.proofs.Common.{◌≡◌, ℕ, inl, inr, sym, ◌∙◌, subst, None, Option, Some, List, [], Bool, true, false, cond}
+use Rattle.std.proofs.Common.{◌≡◌, ℕ, inl, inr, sym, ◌∙◌, subst, None, Option, Some, List, [], Bool, true, false}
 use Rattle.cg_form.specs.Best.{Best}
 use Rattle.cg_form.specs.Canonical.{IsCanonicalForm}
 use Rattle.cg_form.specs.Bypass.{AllCovered, Fine, Grown, Replaces, kept}
@@ -17,11 +17,9 @@ use Rattle.cg_book.specs.declared.whole.Whole.{Whole}
 use Rattle.cg_book.specs.Keys.{AreKeys}
 use Rattle.cg_book.specs.Pages.{ArePages, games_of}
 use Rattle.cg_book.specs.Profiles.{HasCuts}
-use Rattle.cg_book.specs.Terms.{NoneComparable}
 use Rattle.cg_book.specs.Tops.{Tops}
 use Rattle.cg_book.specs.Verdict.{verdict}
 use Rattle.cg_book.specs.Wholes.{AreVerdicts, WholeHolds, whole_game}
-use Rattle.cg_book.proofs.Topping.{none_comparable}
 
 -- ---- the value without dominated options
 
@@ -77,17 +75,11 @@ undominated gs ls rs us vs w e f a b l r never cuts keys =
         no_number = no_number_equal (whole_game gs w) h equal never;
         cuts = cuts_equal (whole_game gs w) h w.profile equal cuts;
         keys = keys;
-        apart = λ s. by s left right;
       };
       lefts = tops_again true (games_of gs ls) (games_of gs w.lefts.now) left;
       rights = tops_again false (games_of gs rs) (games_of gs w.rights.now) right;
       same = equal;
     }
-  where
-    by : (s : Bool) → Tops true (games_of gs ls) (games_of gs w.lefts.now) → Tops false (games_of gs rs) (games_of gs w.rights.now)
-        → NoneComparable (games_of gs (cond s w.lefts.now w.rights.now))
-    by true l r = none_comparable (games_of gs w.lefts.now) l.apart
-    by false l r = none_comparable (games_of gs w.rights.now) r.apart
 
 -- ---- the options of one side
 

@@ -1,5 +1,8 @@
 -- Searches through lists of pages.
 use Rattle.std.proofs.Common.{◌≡◌, refl, ℕ, zero, suc, ◌+◌, ◌<◌, ◌≤◌, arith, ap, sym, ◌∙◌, subst, List, [], ◌∷◌, ◌++◌, take, get_or, length, Bool, true, false, not, ◌&&◌, inl, inr}
+use Rattle.std.specs.List.{Contains}
+use Rattle.std.proofs.lemmas.List.{get_or_default, map-append}
+use Rattle.std.proofs.lemmas.List.Elements.{All-push, Contains-append_right, Contains-get_or}
 use Rattle.cg_form.specs.Game.{Among, Game}
 use Rattle.cg_form.specs.Order.{no_one}
 use Rattle.cg_form.specs.Size.{list_size, size}
@@ -56,3 +59,23 @@ pub item_among : (gs : List Game) (ps : List ℕ) (i k : ℕ) → i < length ps 
 item_among gs [] i k h e = absurd (omega arith)
 item_among gs (m ∷ ps) zero k h e = inl (ap (game_of gs) e)
 item_among gs (m ∷ ps) (suc i) k h e = inr (item_among gs ps i k (omega arith) e)
+
+-- ---- a page more at the end
+
+pub games_pushed : (gs : List Game) (ps qs : List ℕ) (p : ℕ) → qs ≡ ps ++ p ∷ [] → games_of gs qs ≡ games_of gs ps ++ game_of gs p ∷ []
+games_pushed gs ps qs p e = ap (games_of gs) e ∙ map-append (game_of gs) ps (p ∷ [])
+
+pub pages_pushed : (gs : List Game) (ps qs : List ℕ) (p : ℕ) → ArePages gs ps → IsPage gs p → qs ≡ ps ++ p ∷ [] → ArePages gs qs
+pages_pushed gs ps qs p a l e =
+    let P : List ℕ → Type 0 = λ z. ArePages gs z in
+    subst P (sym e) (All-push (IsPage gs) ps p a l)
+
+-- ---- the games of pages
+
+pub member_of : (gs : List Game) (ps : List ℕ) (g : Game) → Among g (games_of gs ps) → (p : ℕ) × Contains ps p × (g ≡ game_of gs p)
+member_of gs [] g m = absurd m
+member_of gs (p ∷ ps) g (inl e) = (p, Contains-get_or (p ∷ ps) 0 p (omega arith), e)
+member_of gs (p ∷ ps) g (inr m) = let (q, k, e) = member_of gs ps g m in (q, Contains-append_right (p ∷ []) ps q k, e)
+
+pub game_there : (gs : List Game) (ps : List ℕ) (p : ℕ) → Contains ps p → Among (game_of gs p) (games_of gs ps)
+game_there gs ps p m = item_among gs ps m.0 p m.1 (sym (get_or_default ps m.0 0 p m.1 ∙ m.2))

@@ -1,5 +1,6 @@
 -- The best games of a list, in no order: one game more at a time.
-use Rattle.std.proofs.Common.{◌≡◌, refl, ℕ, zero, suc, ◌<◌, ◌⊎◌, inl, inr, arith, ap, sym, ◌∙◌, subst, List, [], ◌∷◌, ◌++◌, get_or, length, Bool, true, false, not, cond}
+use Rattle.std.proofs.Common.{◌≡◌, refl, ℕ, suc, ◌<◌, ◌⊎◌, inl, inr, arith, ap, sym, ◌∙◌, subst, List, [], ◌∷◌, ◌++◌, get_or, length, Bool, true, false, not, cond}
+use Rattle.std.proofs.lemmas.List.{append_assoc}
 use Rattle.cg_dyadic.proofs.Truth.{differ, false-from, not_true, true-or-not}
 use Rattle.cg_form.specs.Best.{Best, keep}
 use Rattle.cg_form.specs.Game.{Among, Game}
@@ -80,22 +81,24 @@ apart-same s (g ∷ gs) a b h m n l = elim m [
   ]
 ]
 
-game_there : (gs : List Game) (i : ℕ) (d : Game) → i < length gs → Among (get_or gs i d) gs
-game_there [] i d l = absurd (omega arith)
-game_there (g ∷ gs) zero d l = inl refl
-game_there (g ∷ gs) (suc i) d l = inr (game_there gs i d (omega arith))
+-- lists of games of which no two at different places are comparable
+pub apart_of : (gs : List Game) → NoneComparable gs → AreApart gs
+apart_of [] h = tt
+apart_of (g ∷ gs) h = (
+  λ c m.
+      let (i, l, e) = place_in gs c m in
+      let P : Game → Type 0 = λ z. (¬ Le g z) × (¬ Le z g) in
+      subst P e (h.each 0 (suc i) c (omega arith) (omega arith) (omega arith), h.each (suc i) 0 c (omega arith) (omega arith) (omega arith)),
+  apart_of gs (record { each = λ i j d l n o. h.each (suc i) (suc j) d (omega arith) (omega arith) (λ e. o (suc_inj e)) }),
+)
+  where
+    place_in : (gs : List Game) (c : Game) → Among c gs → (i : ℕ) × (i < length gs) × (get_or gs i c ≡ c)
+    place_in [] c m = absurd m
+    place_in (g ∷ gs) c (inl e) = (0, omega arith, sym e)
+    place_in (g ∷ gs) c (inr m) = let (i, l, e) = place_in gs c m in (suc i, omega arith, e)
 
-apart-places : (gs : List Game) (i j : ℕ) (d : Game) → AreApart gs → i < length gs → j < length gs → ¬ (i ≡ j)
-    → ¬ Le (get_or gs i d) (get_or gs j d)
-apart-places [] i j d h l n o = absurd (omega arith)
-apart-places (g ∷ gs) zero zero d h l n o = absurd (o refl)
-apart-places (g ∷ gs) zero (suc j) d h l n o = (h.0 (get_or gs j d) (game_there gs j d (omega arith))).0
-apart-places (g ∷ gs) (suc i) zero d h l n o = (h.0 (get_or gs i d) (game_there gs i d (omega arith))).1
-apart-places (g ∷ gs) (suc i) (suc j) d h l n o =
-    apart-places gs i j d h.1 (omega arith) (omega arith) (λ e. o (ap suc e))
-
-pub none_comparable : (gs : List Game) → AreApart gs → NoneComparable gs
-none_comparable gs h = record { each = λ i j d l n o. apart-places gs i j d h l n o }
+    suc_inj : {i j : ℕ} → suc i ≡ suc j → i ≡ j
+    suc_inj e = omega (arith, e)
 
 -- ---- the best
 
@@ -160,19 +163,37 @@ keep-all p [] h = refl
 keep-all p (g ∷ gs) h =
     ap (λ z. cond z (g ∷ keep p gs) (keep p gs)) (h g (inl refl)) ∙ ap (λ z. g ∷ z) (keep-all p gs (λ c m. h c (inr m)))
 
--- a game that is there
-pub with_last_there : (s : Bool) (gs : List Game) (x : Game) → Among x gs → gs ≡ with_last s gs x
-with_last_there s gs x m =
-    with_last_not s gs x (no_one (at_most s x) gs) refl (false-from (no_one (at_most s x) gs)
-    (λ k. differ (at_most s x x) (side_refl s x) (no_one-each (at_most s x) gs k x m)))
+keep-append : (p : Game → Bool) (us vs : List Game) → ((c : Game) → Among c vs → p c ≡ true) → keep p (us ++ vs) ≡ keep p us ++ vs
+keep-append p [] vs h = keep-all p vs h
+keep-append p (u ∷ us) vs h =
+    ap (λ z. cond (p u) (u ∷ z) z) (keep-append p us vs h) ∙ pull (p u)
+  where
+    pull : (b : Bool) → cond b (u ∷ (keep p us ++ vs)) (keep p us ++ vs) ≡ cond b (u ∷ keep p us) (keep p us) ++ vs
+    pull true = refl
+    pull false = refl
 
--- a game that is comparable with none
-pub with_last_apart : (s : Bool) (gs : List Game) (x : Game) → ((c : Game) → Among c gs → ¬ AtMost s x c)
-    → ((c : Game) → Among c gs → ¬ AtMost s c x) → gs ++ x ∷ [] ≡ with_last s gs x
-with_last_apart s gs x under over =
-    ap (λ z. z ++ x ∷ []) (sym (keep-all (λ c. not (at_most s c x)) gs (λ c m. ap not (false-from (at_most s c x) (over c m)))))
-    ∙ with_last_put s gs x (no_one (at_most s x) gs) refl
-    (no_one-all (at_most s x) gs (λ c m. false-from (at_most s x c) (under c m)))
+-- ---- one game more, which is comparable with none of the second list
+
+pub terms_put : (s : Bool) (all us vs : List Game) (x : Game) → Tops s all (us ++ vs) → no_one (at_most s x) us ≡ true
+    → ((c : Game) → Among c vs → (¬ AtMost s c x) × (¬ AtMost s x c))
+    → Tops s (all ++ x ∷ []) (keep (λ c. not (at_most s c x)) us ++ (vs ++ x ∷ []))
+terms_put s all us vs x b none other =
+    let p : Game → Bool = λ c. not (at_most s c x) in
+    let P : List Game → Type 0 = λ z. Tops s (all ++ x ∷ []) z in
+    subst P (ap (λ z. z ++ x ∷ []) (keep-append p us vs (λ c m. ap not (false-from (at_most s c x) ((other c m).0))))
+    ∙ append_assoc (keep p us) vs (x ∷ []))
+    (tops_more s all (us ++ vs) x b (λ c m k. elim (among-append c us vs m) [
+      | inl i ↦ differ (at_most s x c) k (no_one-each (at_most s x) us none c i)
+      | inr i ↦ (other c i).1 k
+    ]))
+
+pub terms_same : (s : Bool) (all us vs : List Game) (x : Game) → Tops s all (us ++ vs) → no_one (at_most s x) us ≡ false
+    → Tops s (all ++ x ∷ []) (us ++ vs)
+terms_same s all us vs x b some =
+    elim (all-or-some (λ c. at_most s x c) us) [
+      | inl each ↦ absurd (differ (no_one (at_most s x) us) (no_one-all (at_most s x) us each) some)
+      | inr (c, m, t) ↦ tops_same s all (us ++ vs) x c b (among-append_left c us vs m) t
+    ]
 
 -- ---- of other lists
 

@@ -6,7 +6,6 @@ pub mod Recents
 pub mod Told
 pub mod Keys
 pub mod Terms
-pub mod Candidates
 pub mod Tops
 pub mod Settled
 pub mod Verdict

@@ -1,5 +1,5 @@
--- Lists of games of which no two are comparable.
-use Rattle.std.specs.Prelude.{◌≡◌, ℕ, Option, Some, None, ◌<◌, List, length, slice_index_or, take, drop}
+-- Lists of games of which no two are comparable, and the two terms of a sum.
+use Rattle.std.specs.Prelude.{◌≡◌, ℕ, Bool, cond, Option, Some, None, ◌<◌, List, length, slice_index_or, take, drop}
 use Rattle.cg_book.specs.declared.terms.FirstTerm.{FirstTerm}
 use Rattle.cg_form.specs.Game.{Game}
 use Rattle.cg_form.specs.Order.{Le}
@@ -18,3 +18,7 @@ pub record NoneComparableByTerm (n : ℕ) (gs : List Game) : Type 0 where
 abbrev pub ApartByTerm : Option FirstTerm → List Game → List Game → Type 0
 ApartByTerm None ls rs = Unit {0}
 ApartByTerm (Some f) ls rs = NoneComparableByTerm f.lefts ls × NoneComparableByTerm f.rights rs
+
+-- how many of the player's options come from the first term
+abbrev pub count_for : Bool → FirstTerm → ℕ
+count_for left f = cond left f.lefts f.rights

@@ -1,5 +1,5 @@
 -- A game of two lists of pages, while it is made canonical.
-use Rattle.std.specs.Prelude.{◌≡◌, ℕ, Bool, cond, Some, List}
+use Rattle.std.specs.Prelude.{◌≡◌, ℕ, Bool, Some, List}
 use Rattle.cg_form.specs.Game.{Game, node}
 use Rattle.cg_form.specs.Side.{at_most}
 use Rattle.cg_form.specs.Simple.{NoNumber}
@@ -10,21 +10,18 @@ use Rattle.cg_book.specs.Keys.{AreKeys}
 use Rattle.cg_book.specs.Pages.{ArePages, IsPage, game_of, games_of}
 use Rattle.cg_book.specs.Profiles.{HasCuts}
 use Rattle.cg_book.specs.Recents.{AreRight}
-use Rattle.cg_book.specs.Terms.{NoneComparable}
 use Rattle.cg_book.specs.Verdict.{verdict}
 
 abbrev pub whole_game : List Game → Whole → Game
 whole_game gs w = node (games_of gs w.lefts.now) (games_of gs w.rights.now)
 
--- the whole equals no number, the cuts of its profile are its own, with their keys, and of its options on one side no two are
--- comparable
+-- the whole equals no number, and the cuts of its profile are its own, with their keys
 pub record WholeHolds (gs : List Game) (w : Whole) : Type 0 where
   pub lefts : ArePages gs w.lefts.now
   pub rights : ArePages gs w.rights.now
   pub no_number : NoNumber (whole_game gs w)
   pub cuts : HasCuts (whole_game gs w) w.profile
   pub keys : AreKeys w.profile w.keys
-  pub apart : (left : Bool) → NoneComparable (games_of gs (cond left w.lefts.now w.rights.now))
 
 -- each verdict is right
 pub record AreVerdicts (gs : List Game) (w : Whole) (v : Verdicts) : Type 0 where

@@ -3,25 +3,19 @@
 //! An option that is reversible through a number is replaced by that number itself: the number is at least as good as what
 //! the bypass would bring in, and adds nothing, since another option is at least as good as the number. So no number is
 //! counted down. Each option is bypassed once, however many ways lead to it.
-//!
-//! No two of the own options of the whole are comparable: those that stay count as options that come from one term. What a bypass
-//! brings in has none.
 ghost use Rattle.std.specs.Prelude.{◌≡◌, [], IfOk, cond};
 ghost use Rattle.cg_form.specs.Bypass.{AllCovered, Grown};
 ghost use Rattle.cg_form.specs.Game.{Among};
 ghost use Rattle.cg_form.specs.Known.{EachLess};
 ghost use Rattle.cg_form.specs.Side.{AtMost, far};
-ghost use Rattle.cg_book.specs.Candidates.{AreCandidates, pages_of};
-ghost use Rattle.cg_book.specs.Passed.{AreSubstitutes, IsOwn, Replaced};
+ghost use Rattle.cg_book.specs.Passed.{AreSubstitutes, Replaced};
 ghost use Rattle.cg_book.specs.Pages.{ArePages, IsPage, game_of, games_of};
 ghost use Rattle.cg_book.specs.Wholes.{AreKnown, whole_game};
 
-use crate::candidate::{Candidate, Candidates};
 use crate::pages::{Pages, Read};
 use crate::recent::Recent;
 use crate::staying::reverser;
-use crate::substitutes::Substitutes;
-use crate::terms::Term;
+use crate::substitutes::{Options, Substitutes};
 use crate::verdicts::Verdicts;
 use crate::whole::{Whole, chosen};
 use std::alloc::AllocError;
@@ -46,7 +40,7 @@ fn bypass_through(
     ensures known { AreKnown pages.now whole.now answers.new verdicts.new }
 {
     match pages.read(answer) {
-        Read::Number(_) => out.push(&Candidate::alone(answer)),
+        Read::Number(_) => out.push(answer),
         Read::Game(lefts, rights) => {
             let near = chosen(left, lefts, rights);
             bypass_list(pages, answers, whole, verdicts, left, near, out)
@@ -62,19 +56,18 @@ fn bypass(
     whole: &Whole,
     verdicts: &mut Verdicts,
     left: bool,
-    option: &Candidate,
+    option: u32,
     out: &mut Substitutes,
 ) -> Result<(), AllocError>
     requires known { AreKnown pages.now whole.now answers.old verdicts.old }
-    requires option { IsPage pages.now option.now.page }
-    requires own { IsOwn left whole.now option.now }
-    requires less { ¬ AtMost left (whole_game pages.now whole.now) (game_of pages.now option.now.page) }
+    requires option { IsPage pages.now option }
+    requires less { ¬ AtMost left (whole_game pages.now whole.now) (game_of pages.now option) }
     requires out { AreSubstitutes pages.now left whole.now out.old }
     ensures done { IfOk result (λ _. Replaced pages.now left whole.now out.old out.new
-        (λ a. a ≡ game_of pages.now option.now.page)) }
+        (λ a. a ≡ game_of pages.now option)) }
     ensures known { AreKnown pages.now whole.now answers.new verdicts.new }
 {
-    match reverser(pages, answers, whole, verdicts, left, option.page)? {
+    match reverser(pages, answers, whole, verdicts, left, option)? {
         None => out.push(option),
         Some(answer) => bypass_through(pages, answers, whole, verdicts, left, answer, out),
     }
@@ -88,23 +81,22 @@ fn bypass_once(
     whole: &Whole,
     verdicts: &mut Verdicts,
     left: bool,
-    option: &Candidate,
+    option: u32,
     out: &mut Substitutes,
 ) -> Result<(), AllocError>
     requires known { AreKnown pages.now whole.now answers.old verdicts.old }
-    requires option { IsPage pages.now option.now.page }
-    requires own { IsOwn left whole.now option.now }
-    requires less { ¬ AtMost left (whole_game pages.now whole.now) (game_of pages.now option.now.page) }
+    requires option { IsPage pages.now option }
+    requires less { ¬ AtMost left (whole_game pages.now whole.now) (game_of pages.now option) }
     requires out { AreSubstitutes pages.now left whole.now out.old }
     ensures done { IfOk result (λ _. Replaced pages.now left whole.now out.old out.new
-        (λ a. a ≡ game_of pages.now option.now.page)) }
+        (λ a. a ≡ game_of pages.now option)) }
     ensures known { AreKnown pages.now whole.now answers.new verdicts.new }
 {
-    if out.has_passed(option.page) {
+    if out.has_passed(option) {
         return Ok(());
     }
     bypass(pages, answers, whole, verdicts, left, option, out)?;
-    out.pass(option.page)
+    out.pass(option)
 }
 
 /// The list with what stands in the places of the options in the list.
@@ -127,8 +119,7 @@ fn bypass_list(
     ensures known { AreKnown pages.now whole.now answers.new verdicts.new }
 {
     for option in list {
-        let candidate = Candidate::alone(*option);
-        bypass_once(pages, answers, whole, verdicts, left, &candidate, out)?;
+        bypass_once(pages, answers, whole, verdicts, left, *option, out)?;
     }
     Ok(())
 }
@@ -140,22 +131,24 @@ pub(crate) fn candidates(
     whole: &Whole,
     verdicts: &mut Verdicts,
     left: bool,
-) -> Result<Candidates, AllocError>
+) -> Result<Options, AllocError>
     requires known { AreKnown pages.now whole.now answers.old verdicts.old }
-    ensures candidates { IfOk result (λ r. AreCandidates pages.now r.items) }
-    ensures grown { IfOk result (λ r. Grown left (whole_game pages.now whole.now) [] (games_of pages.now (pages_of r.items))) }
-    ensures covered { IfOk result (λ r. AllCovered left (whole_game pages.now whole.now) (games_of pages.now (pages_of r.items))
+    ensures pages { IfOk result (λ r. ArePages pages.now r.items) }
+    ensures grown { IfOk result (λ r. Grown left (whole_game pages.now whole.now) [] (games_of pages.now r.items)) }
+    ensures covered { IfOk result (λ r. AllCovered left (whole_game pages.now whole.now) (games_of pages.now r.items)
         (games_of pages.now (cond left whole.now.lefts.now whole.now.rights.now))) }
     ensures known { AreKnown pages.now whole.now answers.new verdicts.new }
 {
     let mut all = Substitutes::new(answers.alloc());
-    for own in whole.own(left) {
-        let option = Candidate {
-            page: *own,
-            term: Some(Term::First),
-        };
-        bypass_once(pages, answers, whole, verdicts, left, &option, &mut all)?;
-    }
+    bypass_list(
+        pages,
+        answers,
+        whole,
+        verdicts,
+        left,
+        whole.own(left),
+        &mut all,
+    )?;
     let Substitutes { items, passed: _ } = all;
     Ok(items)
 }

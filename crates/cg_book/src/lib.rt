@@ -3,7 +3,6 @@
 
 mod best;
 mod bypass;
-mod candidate;
 mod keys;
 mod order;
 mod outlining;
@@ -23,7 +22,6 @@ mod terms;
 mod told;
 mod verdicts;
 mod whole;
-mod wide;
 
 pub use order::at_most;
 pub use outlining::profile_of_lists;

@@ -87,6 +87,28 @@ pub(crate) fn profile_with(
     }
 }
 
+/// The profile of the game with these options, which equals no number, where these are the cuts of its options.
+pub(crate) fn profile_between(
+    pages: &Pages,
+    low: &Option<Cut>,
+    high: &Option<Cut>,
+    lefts: &[u32],
+    rights: &[u32],
+) -> Profile
+    requires lefts { ArePages pages.now lefts.now }
+    requires rights { ArePages pages.now rights.now }
+    requires no_number { NoNumber (node (games_of pages.now lefts.now) (games_of pages.now rights.now)) }
+    requires low { CutOf AnyNumber true low.now (games_of pages.now lefts.now) }
+    requires high { CutOf AnyNumber false high.now (games_of pages.now rights.now) }
+    ensures { IsProfile (node (games_of pages.now lefts.now) (games_of pages.now rights.now)) result }
+{
+    let Some(lower) = low else { unreachable!() };
+    let Some(upper) = high else { unreachable!() };
+    let above = turned(true, lower, upper);
+    let below = turned(false, lower, upper);
+    profile_with(pages, above, below, lefts, rights)
+}
+
 /// The profile of the game with these options, which equals no number.
 pub fn profile_of_lists(pages: &Pages, lefts: &[u32], rights: &[u32]) -> Profile
     requires lefts { ArePages pages.now lefts.now }
@@ -96,9 +118,5 @@ pub fn profile_of_lists(pages: &Pages, lefts: &[u32], rights: &[u32]) -> Profile
 {
     let low = cut_of(pages, true, lefts);
     let high = cut_of(pages, false, rights);
-    let Some(lower) = low else { unreachable!() };
-    let Some(upper) = high else { unreachable!() };
-    let above = turned(true, &lower, &upper);
-    let below = turned(false, &lower, &upper);
-    profile_with(pages, above, below, lefts, rights)
+    profile_between(pages, &low, &high, lefts, rights)
 }

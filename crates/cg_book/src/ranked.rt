@@ -1,11 +1,10 @@
-//! Candidates in order, those first that go furthest.
+//! Games in order, those first that go furthest.
 //!
 //! Of games that the numbers tell apart, each goes further than all before it to one side and less far to the other, so it
 //! is enough to look at how far those before it go together.
 ghost use Rattle.std.specs.Prelude.{IfOk};
 ghost use Rattle.std.specs.List.Sorted.{IsPermutation};
 
-use crate::candidate::Candidate;
 use crate::pages::Pages;
 use std::alloc::{AllocError, Global};
 use std::cmp::Ordering;
@@ -29,11 +28,11 @@ pub(crate) fn furthest_first(
     alloc: Global,
     pages: &Pages,
     left: bool,
-    items: &[Candidate],
-) -> Result<Vec<Candidate>, AllocError>
+    items: &[u32],
+) -> Result<Vec<u32>, AllocError>
     ensures { IfOk result (λ r. IsPermutation items.now r.items) }
 {
     let mut all = items.to_vec(alloc)?;
-    all.sort_unstable_by(|a, b| compare_reach(pages, left, a.page, b.page));
+    all.sort_unstable_by(|a, b| compare_reach(pages, left, *a, *b));
     Ok(all)
 }

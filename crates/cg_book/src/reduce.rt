@@ -7,17 +7,17 @@ ghost use Rattle.cg_form.specs.Bypass.{Replaces};
 ghost use Rattle.cg_form.specs.Canonical.{IsCanonicalForm};
 ghost use Rattle.cg_form.specs.Game.{node};
 ghost use Rattle.cg_form.specs.Simple.{NoNumber};
-ghost use Rattle.cg_book.specs.Candidates.{AreApartByTerm};
+ghost use Rattle.cg_book.specs.Terms.{ApartByTerm};
 ghost use Rattle.cg_book.specs.Pages.{ArePages, games_of};
 ghost use Rattle.cg_book.specs.Profiles.{HasCuts};
 ghost use Rattle.cg_book.specs.Recents.{AreRight};
 ghost use Rattle.cg_book.specs.Tops.{Tops};
 ghost use Rattle.cg_book.specs.Wholes.{AreKnown, WholeHolds, whole_game};
 
-use crate::best::put_tops;
+use crate::best::tops;
 use crate::bypass::candidates;
 use crate::keys::Keys;
-use crate::owning::put_own_tops;
+use crate::owning::own_tops;
 use crate::pages::Pages;
 use crate::placing::put_in_order;
 use crate::profile::Profile;
@@ -74,8 +74,7 @@ fn put_replaced(
         return put_in_order(pages, whole.own(left), list);
     }
     let all = candidates(pages, answers, whole, verdicts, left)?;
-    let mut best = SmallVec::new(answers.alloc());
-    put_tops(pages, answers, left, all.as_slice(), &mut best)?;
+    let best = tops(pages, answers, left, all.as_slice())?;
     put_in_order(pages, best.as_slice(), list)
 }
 
@@ -122,7 +121,7 @@ pub(crate) fn put_reduced(
     requires rights { ArePages pages.now rights.now }
     requires no_number { NoNumber (node (games_of pages.now lefts.now) (games_of pages.now rights.now)) }
     requires cuts { HasCuts (node (games_of pages.now lefts.now) (games_of pages.now rights.now)) profile.now }
-    requires terms { AreApartByTerm pages.now first_term lefts.now rights.now }
+    requires terms { ApartByTerm first_term (games_of pages.now lefts.now) (games_of pages.now rights.now) }
     requires right { AreRight pages.now answers.old }
     requires no_lefts { form.old.lefts.items ≡ [] }
     requires no_rights { form.old.rights.items ≡ [] }
@@ -132,14 +131,11 @@ pub(crate) fn put_reduced(
         (node (games_of pages.now form.new.lefts.items) (games_of pages.now form.new.rights.items))) }
     ensures right { AreRight pages.now answers.new }
 {
-    let mut best = Form::new(answers.alloc());
-    let own = &mut best.lefts;
-    put_own_tops(pages, answers, true, lefts, rights, first_term, own)?;
-    let own = &mut best.rights;
-    put_own_tops(pages, answers, false, lefts, rights, first_term, own)?;
+    let own_lefts = own_tops(pages, answers, true, lefts, rights, first_term)?;
+    let own_rights = own_tops(pages, answers, false, lefts, rights, first_term)?;
     let whole = Whole {
-        lefts: best.lefts.as_slice(),
-        rights: best.rights.as_slice(),
+        lefts: own_lefts.as_slice(),
+        rights: own_rights.as_slice(),
         profile: *profile,
         keys: Keys::of(profile),
     };

@@ -3,14 +3,13 @@ ghost use Rattle.std.specs.Prelude.{IfOk, ◌≡◌};
 ghost use Rattle.cg_form.specs.Canonical.{IsCanonicalForm};
 ghost use Rattle.cg_form.specs.Game.{Game, node};
 ghost use Rattle.cg_form.specs.Simple.{NoNumber};
-ghost use Rattle.cg_book.specs.Candidates.{AreApartByTerm};
 ghost use Rattle.cg_book.specs.Pages.{ArePages, games_of};
 ghost use Rattle.cg_book.specs.Profiles.{HasCuts, IsProfile};
 ghost use Rattle.cg_book.specs.Recents.{AreRight};
 ghost use Rattle.cg_book.specs.Settled.{IsNewForm, IsSettled};
 ghost use Rattle.cg_book.specs.Terms.{ApartByTerm};
 
-use crate::outlining::{cut_of, profile_of_lists, profile_with};
+use crate::outlining::{cut_of, profile_between, profile_with};
 use crate::pages::Pages;
 use crate::profile::Profile;
 use crate::recent::Recent;
@@ -55,7 +54,7 @@ fn form_of(
     requires rights { ArePages pages.now rights.now }
     requires no_number { NoNumber (node (games_of pages.now lefts.now) (games_of pages.now rights.now)) }
     requires cuts { HasCuts (node (games_of pages.now lefts.now) (games_of pages.now rights.now)) profile.now }
-    requires terms { AreApartByTerm pages.now first_term lefts.now rights.now }
+    requires terms { ApartByTerm first_term (games_of pages.now lefts.now) (games_of pages.now rights.now) }
     requires right { AreRight pages.now answers.old }
     ensures form { (k : Game) → IsCanonicalForm (node (games_of pages.now lefts.now) (games_of pages.now rights.now)) k
         → IfOk result (IsNewForm pages.now k) }
@@ -108,7 +107,7 @@ pub fn settle(
         Found::Number(x) => Ok(Settled::Number(x)),
         Found::Outside(_) => Ok(Settled::Outside),
         Found::Nothing => {
-            let profile = profile_of_lists(pages, lefts, rights);
+            let profile = profile_between(pages, &low, &high, lefts, rights);
             let new = form_of(pages, answers, lefts, rights, &profile, first_term)?;
             Ok(Settled::Game(new))
         }

@@ -1,6 +1,6 @@
 //! Which options of a sum come from which of its two terms.
 ghost use Rattle.std.specs.Prelude.{◌≡◌};
-ghost use Rattle.cg_book.specs.Candidates.{count_for};
+ghost use Rattle.cg_book.specs.Terms.{count_for};
 
 /// How many of the Left and of the Right options of a sum come from its first term. In their lists, these stand before those
 /// that come from its second.
@@ -19,11 +19,4 @@ impl FirstTerm {
     {
         if left { self.lefts } else { self.rights }
     }
-}
-
-/// One of the two terms of a sum.
-#[derive(Clone, Copy)]
-pub(crate) enum Term {
-    First,
-    Second,
 }

@@ -1,13 +1,10 @@
-use Rattle.std.proofs.Common.{◌≡◌, [], ◌∷◌, ◌++◌, ap, get_or, refl, rules, subst, sym, ◌∙◌}
+use Rattle.std.proofs.Common.{get_or, refl, rules}
 use Rattle.std.proofs.lemmas.Option.{MatchOption-at_none, MatchOption-at_some}
 use Rattle.cg_form.proofs.Sides.{size-far}
-use Rattle.cg_book.specs.declared.candidate.Candidate.{Candidate}
-use Rattle.cg_book.specs.Passed.{IsOwn}
-use Rattle.cg_book.specs.Candidates.{alone, pages_of}
 use Rattle.cg_book.specs.Pages.{game_of, games_of}
 use Rattle.cg_book.specs.Wholes.{whole_game}
 use Rattle.cg_book.proofs.Against.{near_side}
-use Rattle.cg_book.proofs.Bypassing.{alone_own, bypassed_more, far_of_same, kept_there, replaced_and_passed, replaced_by_none, replaced_by_one, through_fine, through_less, through_node, through_number}
+use Rattle.cg_book.proofs.Bypassing.{bypassed_more, far_of_same, kept_there, replaced_and_passed, replaced_by_none, replaced_by_one, through_fine, through_less, through_node, through_number}
 use Rattle.cg_book.proofs.Results.{always_ok, if_ok}
 use Rattle.cg_book.proofs.Slices.{item_among, item_size, page_of_item}
 use Rattle.cg_book.proofs.bypass.+bypass.Goals as goal
@@ -17,7 +14,7 @@ use Rattle.cg_book.proofs.bypass.+bypass.Goals as goal
 pub bypass-bypass_through-requires : goal.bypass-bypass_through-requires
 bypass-bypass_through-requires t c =
     let h = MatchOption-at_some _ _ c.in-Some.answer c.in-Some.is c.in_ok-reverser.ensures.some in
-    let less = size-far c.args.left (game_of c.args.pages.now c.args.option.now.page) (game_of c.args.pages.now c.in-Some.answer) h.1 in
+    let less = size-far c.args.left (game_of c.args.pages.now c.args.option) (game_of c.args.pages.now c.in-Some.answer) h.1 in
     let page = h.0 in
     let back = h.2 in
     search rules
@@ -26,8 +23,8 @@ pub bypass-returns-in-None-clause-done : goal.bypass-returns-in-None-clause-done
 bypass-returns-in-None-clause-done t c =
     let fine = MatchOption-at_none _ _ c.in-None.is c.in_ok-reverser.ensures.none in
     if_ok c.push.result _ _ c.push.ensures.items
-    (λ r e. replaced_by_one c.args.pages.now c.args.left c.args.whole.now c.args.out.now c.push.new.self c.args.option.now _ c.requires.out
-    c.requires.option e c.push.ensures.passed fine c.requires.own
+    (λ r e. replaced_by_one c.args.pages.now c.args.left c.args.whole.now c.args.out.now c.push.new.self c.args.option _ c.requires.out
+    c.requires.option e c.push.ensures.passed fine
     (λ m a same. kept_there c.args.left (whole_game c.args.pages.now c.args.whole.now) _ _ a m same))
 
 pub bypass-returns-in-Some-clause-done : goal.bypass-returns-in-Some-clause-done
@@ -55,10 +52,10 @@ bypass_through-returns-in-Number-clause-done t c =
     let fine = through_fine c.args.left whole (game_of gs c.args.answer) c.in-Number.field-0 c.in-Number.ensures.read
     c.requires.known.whole.no_number c.requires.back in
     if_ok c.push.result _ _ c.push.ensures.items
-    (λ r e. replaced_by_one gs c.args.left c.args.whole.now c.args.out.now c.push.new.self (alone c.args.answer) _ c.requires.out c.requires.answer
-    (e ∙ ap (λ z. c.args.out.now.items.items ++ (z ∷ [])) c.alone.ensures) c.push.ensures.passed fine (alone_own c.args.left c.args.whole.now c.args.answer)
+    (λ r e. replaced_by_one gs c.args.left c.args.whole.now c.args.out.now c.push.new.self c.args.answer _ c.requires.out c.requires.answer
+    e c.push.ensures.passed fine
     (λ m a k. through_number c.args.left whole (game_of gs c.args.answer) c.in-Number.field-0
-    (games_of gs (pages_of c.push.new.self.items.items)) c.in-Number.ensures.read c.requires.back m a k))
+    (games_of gs c.push.new.self.items.items) c.in-Number.ensures.read c.requires.back m a k))
 
 pub bypass_through-returns-in-Game-clause-done : goal.bypass_through-returns-in-Game-clause-done
 bypass_through-returns-in-Game-clause-done t c =
@@ -70,20 +67,20 @@ bypass_through-returns-in-Game-clause-done t c =
       out = d.out;
       grown = d.grown;
       covered = λ a m. through_node c.args.left (whole_game gs c.args.whole.now) answer (games_of gs c.chosen-near.result.now)
-          (games_of gs (pages_of c.bypass_list.new.out.items.items)) side.same c.requires.back (record { each = d.covered }) a m;
+          (games_of gs c.bypass_list.new.out.items.items) side.same c.requires.back (record { each = d.covered }) a m;
     })
 
 -- ---- once
 
 pub bypass_once-returns-then-has_passed-clause-done : goal.bypass_once-returns-then-has_passed-clause-done
 bypass_once-returns-then-has_passed-clause-done t c =
-    let there = c.requires.out.passed c.args.option.now.page (c.has_passed.ensures c.if-has_passed.true) in
-    replaced_by_none c.args.pages.now c.args.left c.args.whole.now c.args.out.now (game_of c.args.pages.now c.args.option.now.page) c.requires.out there.1
+    let there = c.requires.out.passed c.args.option (c.has_passed.ensures c.if-has_passed.true) in
+    replaced_by_none c.args.pages.now c.args.left c.args.whole.now c.args.out.now (game_of c.args.pages.now c.args.option) c.requires.out there.1
 
 pub bypass_once-returns-clause-done : goal.bypass_once-returns-clause-done
 bypass_once-returns-clause-done t c =
     always_ok c.pass.result _
-    (replaced_and_passed c.args.pages.now c.args.left c.args.whole.now c.args.out.now c.bypass.new.out c.pass.new.self c.args.option.now.page
+    (replaced_and_passed c.args.pages.now c.args.left c.args.whole.now c.args.out.now c.bypass.new.out c.pass.new.self c.args.option
     c.in_ok-bypass.ensures.done c.requires.option c.pass.ensures.items c.pass.ensures.passed)
 
 -- ---- a list
@@ -91,25 +88,21 @@ bypass_once-returns-clause-done t c =
 pub bypass_list-bypass_once-requires : goal.bypass_list-bypass_once-requires
 bypass_list-bypass_once-requires t c =
     let gs = c.args.pages.now in
-    let x = c.alone-candidate.result in
-    let at : x.page ≡ get_or c.args.list.now c.loop-option.option-index 0 = ap (λ (z : Candidate). z.page) c.alone-candidate.ensures in
-    let page = page_of_item gs c.args.list.now c.loop-option.option-index x.page c.requires.list c.loop-option-test.true at in
-    let smaller = item_size gs c.args.list.now c.loop-option.option-index x.page c.loop-option-test.true at in
-    let less = c.requires.less.each (game_of gs x.page) (item_among gs c.args.list.now c.loop-option.option-index x.page c.loop-option-test.true at) in
-    let P : Candidate → Type 0 = λ z. IsOwn c.args.left c.args.whole.now z in
-    let own = subst P (sym c.alone-candidate.ensures) (alone_own c.args.left c.args.whole.now (get_or c.args.list.now c.loop-option.option-index 0)) in
+    let x = get_or c.args.list.now c.loop-option.option-index 0 in
+    let page = page_of_item gs c.args.list.now c.loop-option.option-index x c.requires.list c.loop-option-test.true refl in
+    let smaller = item_size gs c.args.list.now c.loop-option.option-index x c.loop-option-test.true refl in
+    let less = c.requires.less.each (game_of gs x) (item_among gs c.args.list.now c.loop-option.option-index x c.loop-option-test.true refl) in
     search rules
 
 pub bypass_list-loop-option-preserved : goal.bypass_list-loop-option-preserved
 bypass_list-loop-option-preserved t c =
     let gs = c.args.pages.now in
-    let x = c.alone-candidate.result in
-    let at : x.page ≡ get_or c.args.list.now c.loop-option.option-index 0 = ap (λ (z : Candidate). z.page) c.alone-candidate.ensures in
+    let x = get_or c.args.list.now c.loop-option.option-index 0 in
     record {
       known = c.bypass_once.ensures.known;
       out = c.in_ok-bypass_once.ensures.done.out;
-      so_far = bypassed_more gs c.args.left (whole_game gs c.args.whole.now) c.args.list.now (pages_of c.args.out.now.items.items)
-          (pages_of c.loop-option.out.items.items) (pages_of c.bypass_once.new.out.items.items) c.loop-option.option-index x.page
-          c.loop-option.invariant.so_far c.loop-option-test.true at c.in_ok-bypass_once.ensures.done.grown
-          (c.in_ok-bypass_once.ensures.done.covered (game_of gs x.page) refl);
+      so_far = bypassed_more gs c.args.left (whole_game gs c.args.whole.now) c.args.list.now c.args.out.now.items.items
+          c.loop-option.out.items.items c.bypass_once.new.out.items.items c.loop-option.option-index x
+          c.loop-option.invariant.so_far c.loop-option-test.true refl c.in_ok-bypass_once.ensures.done.grown
+          (c.in_ok-bypass_once.ensures.done.covered (game_of gs x) refl);
     }

@@ -1,6 +1,5 @@
 use Rattle.std.proofs.Common.{◌+◌, ◌*◌, take}
 use Rattle.cg_form.specs.Size.{list_size, size}
-use Rattle.cg_book.specs.Candidates.{pages_of}
 use Rattle.cg_book.specs.Pages.{game_of, games_of}
 use Rattle.cg_book.specs.Passed.{AreSubstitutes}
 use Rattle.cg_book.specs.Wholes.{AreKnown, whole_game}
@@ -11,10 +10,10 @@ abbrev pub decreases-bypass_through : goal.decreases-bypass_through
 decreases-bypass_through l = 4 * size (game_of l.pages.now l.answer)
 
 abbrev pub decreases-bypass : goal.decreases-bypass
-decreases-bypass l = 4 * size (game_of l.pages.now l.option.now.page) + 1
+decreases-bypass l = 4 * size (game_of l.pages.now l.option) + 1
 
 abbrev pub decreases-bypass_once : goal.decreases-bypass_once
-decreases-bypass_once l = 4 * size (game_of l.pages.now l.option.now.page) + 2
+decreases-bypass_once l = 4 * size (game_of l.pages.now l.option) + 2
 
 abbrev pub decreases-bypass_list : goal.decreases-bypass_list
 decreases-bypass_list l = 4 * list_size (games_of l.pages.now l.list.now) + 3
@@ -23,5 +22,5 @@ abbrev pub invariant-bypass_list-loop-option : goal.invariant-bypass_list-loop-o
 invariant-bypass_list-loop-option l = record {
   known : AreKnown l.pages l.whole l.answers l.verdicts;
   out : AreSubstitutes l.pages l.left l.whole l.out;
-  so_far : Bypassed l.pages l.left (whole_game l.pages l.whole) (take l.option-index l.list) (pages_of l.fn.out.items.items) (pages_of l.out.items.items);
+  so_far : Bypassed l.pages l.left (whole_game l.pages l.whole) (take l.option-index l.list) l.fn.out.items.items l.out.items.items;
 }

@@ -1,6 +1,4 @@
 use Rattle.std.proofs.Common.{List, ℕ, cond, subst, sym}
-use Rattle.cg_book.specs.declared.candidate.Candidate.{Candidate}
-use Rattle.cg_book.specs.Candidates.{pages_of}
 use Rattle.cg_book.specs.Pages.{games_of}
 use Rattle.cg_book.specs.Tops.{Tops}
 use Rattle.cg_book.specs.Wholes.{whole_game}
@@ -21,10 +19,10 @@ pub returns-clause-replaces : goal.returns-clause-replaces
 returns-clause-replaces c =
     let gs = c.args.pages.now in
     let own = cond c.args.left c.args.whole.now.lefts.now c.args.whole.now.rights.now in
-    let us = games_of gs (pages_of c.in_ok-all.all.items) in
+    let us = games_of gs c.in_ok-all.all.items in
     let P : List ℕ → Type 0 = λ z. Tops c.args.left us (games_of gs z) in
-    let Q : List Candidate → Type 0 = λ z. Tops c.args.left (games_of gs (pages_of z)) (games_of gs c.put_tops.new.list.items) in
+    let Q : List ℕ → Type 0 = λ z. Tops c.args.left (games_of gs z) (games_of gs c.in_ok-best.best.items) in
     if_ok c.put_in_order-2.result _ _
-    (c.put_in_order-2.ensures.best c.args.left us (subst P (sym c.as_slice-2.ensures) (subst Q c.as_slice.ensures c.in_ok-put_tops.ensures.tops)))
+    (c.put_in_order-2.ensures.best c.args.left us (subst P (sym c.as_slice-2.ensures) (subst Q c.as_slice.ensures c.in_ok-best.ensures.tops)))
     (λ r b. candidates_replace c.args.left (whole_game gs c.args.whole.now) (games_of gs own) us (games_of gs c.put_in_order-2.new.list.items)
     c.in_ok-all.ensures.grown c.in_ok-all.ensures.covered b)

@@ -1,9 +1,9 @@
 use Rattle.cg_book.specs.Pages.{games_of}
-use Rattle.cg_book.proofs.Outlines.{nothing_case, number_case, terms_of_pages}
+use Rattle.cg_book.proofs.Outlines.{nothing_case, number_case}
 use Rattle.cg_book.proofs.settling.settle.Goals as goal
 
-pub profile_of_lists-profile-requires-clause-no_number : goal.profile_of_lists-profile-requires-clause-no_number
-profile_of_lists-profile-requires-clause-no_number c =
+pub profile_between-profile-requires-clause-no_number : goal.profile_between-profile-requires-clause-no_number
+profile_between-profile-requires-clause-no_number c =
     nothing_case (games_of c.args.pages.now c.args.lefts.now) (games_of c.args.pages.now c.args.rights.now) c.cut_of-low.result c.cut_of-high.result
     c.cut_of-low.ensures c.cut_of-high.ensures c.in-Nothing.ensures
 
@@ -13,10 +13,7 @@ form_of-requires-clause-no_number c =
     c.cut_of-low.ensures c.cut_of-high.ensures c.in-Nothing.ensures
 
 pub form_of-requires-clause-cuts : goal.form_of-requires-clause-cuts
-form_of-requires-clause-cuts c = c.profile_of_lists-profile.ensures.cuts
-
-pub form_of-requires-clause-terms : goal.form_of-requires-clause-terms
-form_of-requires-clause-terms c = terms_of_pages c.args.pages.now c.args.first_term c.args.lefts.now c.args.rights.now c.requires.terms
+form_of-requires-clause-cuts c = c.profile_between-profile.ensures.cuts
 
 pub returns-in-Number-clause-settled : goal.returns-in-Number-clause-settled
 returns-in-Number-clause-settled c =

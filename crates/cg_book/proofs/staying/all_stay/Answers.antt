@@ -5,7 +5,7 @@ use Rattle.cg_form.proofs.Among.{carry}
 use Rattle.cg_book.specs.Pages.{games_of}
 use Rattle.cg_book.specs.Wholes.{whole_game}
 use Rattle.cg_book.proofs.Bypassing.{fine_more, own_less, whole_pages}
-use Rattle.cg_book.proofs.Slices.{games_take_all, page_of_item}
+use Rattle.cg_book.proofs.Slices.{games_take_all, item_among, page_of_item}
 use Rattle.cg_book.proofs.staying.all_stay.Goals as goal
 
 pub reverser-requires-clause-option : goal.reverser-requires-clause-option
@@ -16,8 +16,8 @@ reverser-requires-clause-option c =
 
 pub reverser-requires-clause-less : goal.reverser-requires-clause-less
 reverser-requires-clause-less c =
-    own_less c.args.pages.now c.args.whole.now c.args.left c.own-option-items.result.now c.loop-option.option-index _
-    c.own-option-items.ensures c.loop-option-test.true refl
+    (own_less c.args.pages.now c.args.whole.now c.args.left c.own-option-items.result.now c.own-option-items.ensures).each _
+    (item_among c.args.pages.now c.own-option-items.result.now c.loop-option.option-index _ c.loop-option-test.true refl)
 
 at_no_some : {T : Type 0} (o : Option T) (P : Type 0) → is_some o ≡ false → IfNone o P → P
 at_no_some None P e h = h
