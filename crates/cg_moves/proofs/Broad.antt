@@ -12,11 +12,11 @@ use Rattle.cg_moves.specs.Rules.{In, followers}
 use Rattle.cg_moves.specs.Walking.{Adds, AreAlone, AreAmong, AreFound, Way, parts, play, reached}
 use Rattle.cg_moves.specs.Walks.{AreStarts, Enters, entered}
 use Rattle.cg_moves.proofs.Carried.{ok_is}
-use Rattle.cg_moves.proofs.ComesAfter.{reached-has, reached-next, reached-symbols, start-reached}
+use Rattle.cg_moves.proofs.PlayOrder.{reached-has, reached-next, reached-symbols, start-reached}
 use Rattle.cg_form.proofs.Firsts.{extended-among, extended-append, extended-has, in-append, in-append_left, in-append_right}
 use Rattle.cg_moves.proofs.Fresh.{entered-among}
 use Rattle.cg_moves.proofs.Same.{boards}
-use Rattle.cg_moves.proofs.KeptOnce.{kept-fewer_kept}
+use Rattle.cg_moves.proofs.Middles.{kept-fewer_kept}
 use Rattle.cg_moves.proofs.Members.{carry, in_one}
 use Rattle.cg_moves.proofs.OnWay.{next-parts}
 use Rattle.cg_moves.proofs.TaskSteps.{enters-in}

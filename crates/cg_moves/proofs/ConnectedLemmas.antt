@@ -35,22 +35,15 @@ over-cases e es u v h =
     ]
 
 over-none : (e : Edge) (es : List Edge) (u v : ℕ) → IsTrue (connected es u v) → IsTrue (connected (e ∷ es) u v)
-over-none e es u v h =
-    or-first (connected es u v || (connected es u e.one && connected es e.other v)) (connected es u e.other && connected es e.one v)
-    (or-first (connected es u v) (connected es u e.one && connected es e.other v) h)
+over-none e es u v h = or-first _ _ (or-first _ _ h)
 
 over-forth : (e : Edge) (es : List Edge) (u v : ℕ) → IsTrue (connected es u e.one) → IsTrue (connected es e.other v)
     → IsTrue (connected (e ∷ es) u v)
-over-forth e es u v h k =
-    or-first (connected es u v || (connected es u e.one && connected es e.other v)) (connected es u e.other && connected es e.one v)
-    (or-second (connected es u v) (connected es u e.one && connected es e.other v)
-    (and-both (connected es u e.one) (connected es e.other v) h k))
+over-forth e es u v h k = or-first _ _ (or-second _ _ (and-both (connected es u e.one) (connected es e.other v) h k))
 
 over-back : (e : Edge) (es : List Edge) (u v : ℕ) → IsTrue (connected es u e.other) → IsTrue (connected es e.one v)
     → IsTrue (connected (e ∷ es) u v)
-over-back e es u v h k =
-    or-second (connected es u v || (connected es u e.one && connected es e.other v)) (connected es u e.other && connected es e.one v)
-    (and-both (connected es u e.other) (connected es e.one v) h k)
+over-back e es u v h k = or-second _ _ (and-both (connected es u e.other) (connected es e.one v) h k)
 
 pub connected-refl : (es : List Edge) (u : ℕ) → IsTrue (connected es u u)
 connected-refl [] u = eq-eqb u u refl

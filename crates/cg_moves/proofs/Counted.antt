@@ -1,5 +1,5 @@
 -- Numbers in their order.
-use Rattle.std.proofs.Common.{◌≡◌, ◌≢◌, ◌⊎◌, inl, inr, ℕ, zero, suc, ◌+◌, ◌<◌, ◌≤◌, ◌==◌, [], ◌∷◌, ◌++◌, ap, sym, ◌∙◌, arith}
+use Rattle.std.proofs.Common.{◌≡◌, ◌≢◌, ◌⊎◌, inl, inr, ℕ, zero, suc, ◌+◌, ◌<◌, ◌≤◌, ◌==◌, [], ◌∷◌, ◌++◌, ap, sym, ◌∙◌, arith, length, refl}
 use Rattle.std.proofs.lemmas.Bool.{eqb-true, eq-eqb}
 use Rattle.std.proofs.Math.Nat.{eq-or-lt_of_le}
 use Rattle.cg_dyadic.proofs.Truth.{true-or-not}
@@ -37,3 +37,7 @@ pub counted-from : (i n k : ℕ) → In k (counted i n) → i ≤ k
 counted-from i zero k m = absurd m
 counted-from i (suc n) k (inl e) = omega (arith, e)
 counted-from i (suc n) k (inr m) = let h = counted-from (suc i) n k m in omega arith
+
+pub counted-length : (i n : ℕ) → length (counted i n) ≡ n
+counted-length i zero = refl
+counted-length i (suc n) = ap suc (counted-length (suc i) n)

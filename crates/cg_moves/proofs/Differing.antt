@@ -36,51 +36,12 @@ differing-bits u v i =
     ∙ ap (λ z. max z (bit_at n i)) (bit_at_or (bit_xor u.a v.a) (bit_xor u.b v.b) i ∙ ap (λ z. max z (bit_at (bit_xor u.b v.b) i)) a ∙ ap (max ((bit_at u.a i + bit_at v.a i) % 2)) b)
     ∙ ap (max (max ((bit_at u.a i + bit_at v.a i) % 2) ((bit_at u.b i + bit_at v.b i) % 2))) (bit_at_or (bit_xor u.c v.c) (bit_xor u.d v.d) i ∙ ap (λ z. max z (bit_at (bit_xor u.d v.d) i)) c ∙ ap (max ((bit_at u.c i + bit_at v.c i) % 2)) d)
 
-two-bits : (x y : ℕ) → x < 2 → y < 2 → x ≢ y → (x + y) % 2 ≡ 1
-two-bits x y l m apart = omega (arith, apart)
-
-one-bit : (x y : ℕ) → x ≡ y → (x + y) % 2 ≡ 0
-one-bit x y e = omega arith
-
-max-left : (m n : ℕ) → n < 2 → m ≡ 1 → max m n ≡ 1
-max-left m n l e = omega arith
-
-max-right : (m n : ℕ) → m < 2 → n ≡ 1 → max m n ≡ 1
-max-right m n l e = omega arith
-
 all-same : (a b c d e f g h : ℕ) → a ≡ e → b ≡ f → c ≡ g → d ≡ h → some_apart a b c d e f g h ≡ 0
-all-same a b c d e f g h p q r s =
-    ap (λ z. max (max z ((b + f) % 2)) (max ((c + g) % 2) ((d + h) % 2))) (one-bit a e p)
-    ∙ ap (λ z. max (max 0 z) (max ((c + g) % 2) ((d + h) % 2))) (one-bit b f q)
-    ∙ ap (λ z. max (max 0 0) (max z ((d + h) % 2))) (one-bit c g r)
-    ∙ ap (λ z. max (max 0 0) (max 0 z)) (one-bit d h s)
+all-same a b c d e f g h p q r s = omega arith
 
 not-same : (a b c d e f g h : ℕ) → a < 2 → b < 2 → c < 2 → d < 2 → e < 2 → f < 2 → g < 2 → h < 2
-    → ((a ≡ e) → (b ≡ f) → (c ≡ g) → (d ≡ h) → ⊥) → some_apart a b c d e f g h ≡ 1
-not-same a b c d e f g h la lb lc ld le lf lg lh apart =
-    let first = (a + e) % 2 in
-    let second = (b + f) % 2 in
-    let third = (c + g) % 2 in
-    let fourth = (d + h) % 2 in
-    let left : max first second < 2 = omega arith in
-    let right : max third fourth < 2 = omega arith in
-    elim (eqb_tells a e) [
-      | inr p ↦ max-left (max first second) (max third fourth) right
-          (max-left first second (omega arith) (two-bits a e la le p.1))
-      | inl p ↦ elim (eqb_tells b f) [
-        | inr q ↦ max-left (max first second) (max third fourth) right
-            (max-right first second (omega arith) (two-bits b f lb lf q.1))
-        | inl q ↦ elim (eqb_tells c g) [
-          | inr r ↦ max-right (max first second) (max third fourth) left
-              (max-left third fourth (omega arith) (two-bits c g lc lg r.1))
-          | inl r ↦ elim (eqb_tells d h) [
-            | inr s ↦ max-right (max first second) (max third fourth) left
-                (max-right third fourth (omega arith) (two-bits d h ld lh s.1))
-            | inl s ↦ absurd (apart p.1 q.1 r.1 s.1)
-          ]
-        ]
-      ]
-    ]
+    → (a + 2 * b + 4 * c + 8 * d ≡ e + 2 * f + 4 * g + 8 * h → ⊥) → some_apart a b c d e f g h ≡ 1
+not-same a b c d e f g h la lb lc ld le lf lg lh apart = omega (arith, apart)
 
 module _ (symbols cells others : List ℕ) (u v : Planes) (here : ArePlanes symbols cells u)
     (there : ArePlanes symbols others v) (long : length cells ≡ length others) (i : ℕ) where
@@ -109,7 +70,7 @@ module _ (symbols cells others : List ℕ) (u v : Planes) (here : ArePlanes symb
         | inr h ↦ (let l : i < length cells = inside h.1 in
             not-same _ _ _ _ _ _ _ _ (bit_at-lt u.a i) (bit_at-lt u.b i) (bit_at-lt u.c i) (bit_at-lt u.d i)
             (bit_at-lt v.a i) (bit_at-lt v.b i) (bit_at-lt v.c i) (bit_at-lt v.d i)
-            (λ a b c d. h.1 (same-cell are all few l (omega (arith, a, b, c, d))))
+            (λ e. h.1 (same-cell are all few l e))
             ∙ ap (λ t. if not t then 1 else 0) (sym h.0))
       ]
     where

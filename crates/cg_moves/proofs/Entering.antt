@@ -20,8 +20,7 @@ use Rattle.cg_moves.specs.Walks.{Enters, Leaves, Visit, entered}
 use Rattle.cg_moves.proofs.CanFollow.{IsGoing}
 use Rattle.cg_moves.proofs.Carried.{if_ok, ok_any}
 use Rattle.cg_moves.proofs.FollowLemmas.{both, turned}
-use Rattle.cg_moves.proofs.Fresh.{open-front, open-new}
-use Rattle.cg_moves.proofs.Leading.{leads-last, leads-new}
+use Rattle.cg_moves.proofs.Fresh.{leads-last, leads-new, open-front, open-new}
 use Rattle.cg_moves.proofs.Listed.{nexts-more}
 use Rattle.cg_moves.proofs.OnWay.{entered-append, entered-front, entered-more, entered-none, has-last, next-parts}
 use Rattle.cg_moves.proofs.PlaceLemmas.{at-in, stand-append, stand-size}

@@ -3,7 +3,7 @@ use Rattle.std.proofs.Common.{◌≡◌, refl, ℕ, ◌+◌, ◌-◌, ◌<◌, �
 use Rattle.std.specs.List.{flat_map}
 use Rattle.std.specs.Prelude.{Err, IsErrAnd, Ok, Result}
 use Rattle.std.proofs.lemmas.Grind.{flat_map-append, reverse_onto}
-use Rattle.std.proofs.lemmas.List.{drop_more, map-append, reverse-append}
+use Rattle.std.proofs.lemmas.List.{drop_more, map-append, reverse-append, reverse-reverse}
 use Rattle.cg_moves.specs.declared.course.Course.{Course}
 use Rattle.cg_moves.specs.declared.fault.ReachFault.{ReachFault}
 use Rattle.cg_moves.specs.declared.fault.ReachFault.TheVariants.{Positions}
@@ -118,11 +118,6 @@ module _ (lefts rights : List Grid) where
 
 -- ---- in reverse
 
-reverse_twice : (xs : List Grid) → reverse (reverse xs) ≡ xs
-reverse_twice [] = refl
-reverse_twice (x ∷ xs) =
-    ap reverse (reverse_onto xs x []) ∙ reverse-append (reverse xs) (x ∷ []) ∙ ap (λ z. x ∷ z) (reverse_twice xs)
-
 reverse_map : (f : Grid → ℕ) (xs : List Grid) → reverse (map f xs) ≡ map f (reverse xs)
 reverse_map f [] = refl
 reverse_map f (x ∷ xs) =
@@ -130,4 +125,4 @@ reverse_map f (x ∷ xs) =
     ∙ sym (ap (map f) (reverse_onto xs x []) ∙ map-append f (reverse xs) (x ∷ []))
 
 pub turned : (f : Grid → ℕ) (xs : List Grid) → reverse (map f (reverse xs)) ≡ map f xs
-turned f xs = reverse_map f (reverse xs) ∙ ap (map f) (reverse_twice xs)
+turned f xs = reverse_map f (reverse xs) ∙ ap (map f) (reverse-reverse xs)

@@ -9,6 +9,7 @@ use Rattle.cg_moves.specs.Grid.{Grid}
 use Rattle.cg_moves.specs.Rising.{counted}
 use Rattle.cg_moves.specs.Texts.{bar, cell_places, cells_of, cut, first_row, in_front, is_foreign, next_place, ragged, read_of, refused_at, rows_of}
 use Rattle.cg_moves.proofs.TextLemmas.{not-ragged}
+use Rattle.cg_moves.proofs.Counted.{counted-length}
 
 -- ---- elements of joined lists
 
@@ -27,10 +28,6 @@ at-counted i zero k h = absurd (omega (arith, h))
 at-counted i (suc n) zero h = let e : i ≡ i + 0 = omega arith in ap Some e
 at-counted i (suc n) (suc k) h =
     let e : suc i + k ≡ i + suc k = omega arith in at-counted (suc i) n k (omega (arith, h)) ∙ ap Some e
-
-counted-length : (i n : ℕ) → length (counted i n) ≡ n
-counted-length i zero = refl
-counted-length i (suc n) = ap suc (counted-length (suc i) n)
 
 -- ---- the places of the cells, row by row
 

@@ -16,11 +16,10 @@ use Rattle.cg_moves.specs.Rules.{GameRules, In, followers}
 use Rattle.cg_moves.specs.Walking.{Adds, AreAlone, AreEntered, AreTold, IsOn, IsOnWay, Way, play}
 use Rattle.cg_moves.specs.Walks.{AreStarts, Enters, Leaves, Visit, boards_left, entered, visit_board, visit_boards}
 use Rattle.cg_moves.proofs.Bounds.{follower-has}
-use Rattle.cg_moves.proofs.ComesAfter.{own-all, reached-symbols}
-use Rattle.cg_moves.proofs.Fresh.{open-entered}
+use Rattle.cg_moves.proofs.PlayOrder.{own-all, reached-symbols}
+use Rattle.cg_moves.proofs.Fresh.{leads-entered, open-entered}
 use Rattle.cg_form.proofs.Firsts.{extended-among, extended-has, extended-keeps, in-append, in-append_left}
 use Rattle.cg_moves.proofs.Same.{boards}
-use Rattle.cg_moves.proofs.Leading.{leads-entered}
 use Rattle.cg_moves.proofs.Listed.{counted-more}
 use Rattle.cg_moves.proofs.Members.{carry, in-flat_map, in_one}
 use Rattle.cg_moves.proofs.PlayLemmas.{part-alone, plays}

@@ -15,11 +15,10 @@ use Rattle.cg_moves.specs.Plays.{IsPlay, MayGo, next_pieces, parts_of, pieces_af
 use Rattle.cg_moves.specs.Reach.{all_reached, reach_of}
 use Rattle.cg_moves.specs.Rules.{GameRules, In, boards_after, followers, pieces}
 use Rattle.cg_moves.specs.Walks.{AreStarts}
-use Rattle.cg_moves.proofs.Bounds.{follower-has, follower-lowers, reached-moves}
+use Rattle.cg_moves.proofs.Bounds.{follower-has, follower-lowers, piece_reached-moves, reached-moves}
 use Rattle.cg_form.proofs.Firsts.{in-append, once-extended}
 use Rattle.cg_moves.proofs.Same.{boards}
 use Rattle.cg_moves.proofs.Members.{flat_map-agree, in-flat_map, in-map, in_one}
-use Rattle.cg_moves.proofs.PieceBounds.{piece_reached-moves}
 
 module _ {X Y : Type 0} where
   flat_map-twice : {Z : Type 0} (f : X → List Y) (g : Z → List X) (zs : List Z)

@@ -1,6 +1,6 @@
 -- The text of a board reads back as the board.
 use Rattle.std.proofs.Common.{◌≡◌, refl, ℕ, zero, suc, ◌+◌, ◌-◌, ◌*◌, ◌/◌, ◌<◌, ◌≤◌, ◌==◌, ◌||◌, ◌&&◌, not, Bool, true, false, cond, if◌then◌else◌, ◌⊎◌, inl, inr, Some, None, List, [], ◌∷◌, ◌++◌, length, take, drop, ap, sym, ◌∙◌, subst, arith, length-drop, append-nil, append_assoc}
-use Rattle.std.specs.Prelude.{All, Contains, Ok, Result, nat_le, nat_lt, position}
+use Rattle.std.specs.Prelude.{All, Contains, Ok, Result, nat_le, nat_lt, position, slice_index}
 use Rattle.std.specs.List.{list_all, list_any, position_or_len, prefix_len}
 use Rattle.std.proofs.Math.Seq.{take-length}
 use Rattle.std.proofs.lemmas.Bool.{eq-eqb, leb-true}
@@ -15,7 +15,8 @@ use Rattle.cg_moves.proofs.ConnectedLemmas.{or-first, or-second}
 use Rattle.cg_form.proofs.Firsts.{in-append, in-append_left, in-append_right}
 use Rattle.cg_moves.proofs.Members.{all_from, carry, in_flat_mapped, in_one}
 use Rattle.cg_moves.proofs.Same.{and-true, both-true}
-use Rattle.cg_moves.proofs.TextLemmas.{cut-bar, cut-front}
+use Rattle.cg_moves.proofs.TextLemmas.{cut-bar, cut-front, read-in}
+use Rattle.std.proofs.lemmas.List.Sums.{prefix_len_is}
 
 -- no byte of these is a bar
 abbrev HasNoBar : List ℕ → Type 0
@@ -184,15 +185,6 @@ module _ (p : Grid) (g : IsGrid p) where
 
 -- ---- no byte is foreign
 
-all-prefix : (q : ℕ → Bool) (xs : List ℕ) → ((c : ℕ) → In c xs → q c ≡ true) → prefix_len q xs ≡ length xs
-all-prefix q [] h = refl
-all-prefix q (x ∷ xs) h =
-    ap (λ b. cond b (1 + prefix_len q xs) 0) (h x (inl refl)) ∙ ap (λ n. 1 + n) (all-prefix q xs (λ c m. h c (inr m)))
-    ∙ up (length xs)
-  where
-    up : (n : ℕ) → 1 + n ≡ suc n
-    up n = omega arith
-
 not-false : (b : Bool) → b ≡ false → not b ≡ true
 not-false true e = cc
 not-false false e = refl
@@ -202,7 +194,8 @@ not-less a b h = grind (arith, nat_tests)
 
 none-found : (p : ℕ → Bool) (xs : List ℕ) → ((c : ℕ) → In c xs → p c ≡ false) → position p xs ≡ None
 none-found p xs h =
-    let all = all-prefix (λ x. not (p x)) xs (λ c m. not-false (p c) (h c m)) in
+    let all = prefix_len_is (λ x. not (p x)) xs (length xs) 0 (omega arith)
+    (λ k l. not-false (p (slice_index xs k)) (h (slice_index xs k) (read-in xs k l))) (λ l. absurd (omega (arith, l))) in
     let few : nat_lt (position_or_len p xs) (length xs) ≡ false = not-less (position_or_len p xs) (length xs) (omega (arith, all)) in
     ap (λ b. cond b (Some (position_or_len p xs)) None) few
 

@@ -1,14 +1,17 @@
 -- Texts, cut at bars.
-use Rattle.std.proofs.Common.{◌≡◌, refl, ℕ, zero, suc, ◌+◌, ◌-◌, ◌*◌, ◌<◌, ◌≤◌, ◌==◌, ◌||◌, ◌&&◌, not, Bool, true, false, if◌then◌else◌, ◌⊎◌, inl, inr, Option, Some, None, List, [], ◌∷◌, ◌++◌, append_assoc, cond, length, length-append, take, drop, get_or, ap, sym, ◌∙◌, arith}
-use Rattle.std.specs.List.{list_any, position_or_len, prefix_len}
+use Rattle.std.proofs.Common.{◌≡◌, refl, ℕ, zero, suc, ◌+◌, ◌-◌, ◌*◌, ◌<◌, ◌≤◌, ◌==◌, ◌||◌, ◌&&◌, not, Bool, true, false, if◌then◌else◌, ◌⊎◌, inl, inr, Option, Some, None, List, [], ◌∷◌, ◌++◌, append_assoc, cond, length, length-append, take, drop, get_or, ap, sym, ◌∙◌, arith, ◌/◌}
+use Rattle.std.specs.List.{list_any, position_or_len}
 use Rattle.std.specs.Prelude.{Contains, nat_lt, position, slice_index}
 use Rattle.std.proofs.Math.Nat.{mul-le-mul_left}
-use Rattle.std.proofs.lemmas.Bool.Decides.{eqb_tells, nat_tests}
+use Rattle.std.proofs.lemmas.Bool.Decides.{eqb_tells, leb_tells}
 use Rattle.std.proofs.lemmas.List.{append-nil, length-take-le}
 use Rattle.cg_moves.specs.Texts.{bar, cells_of, cut, first_row, in_front, is_foreign, ragged, rows_of}
 use Rattle.cg_moves.specs.Grid.{AreCells}
 use Rattle.cg_moves.specs.Rules.{In}
 use Rattle.cg_moves.proofs.Members.{carry}
+use Rattle.std.proofs.lemmas.Bool.{lt-ltb}
+use Rattle.std.proofs.lemmas.List.Sums.{fails_before_first}
+use Rattle.std.proofs.lemmas.Nat.{div-mul-add}
 
 -- a text is cut at a bar
 pub cut-bar : (c : ℕ) (cs : List ℕ) → c ≡ bar → cut (c ∷ cs) ≡ [] ∷ cut cs
@@ -54,16 +57,6 @@ drop-next xs i c l e = let s : i + 1 ≡ suc i = omega arith in
 -- ---- a text from a place on
 
 module _ (text : List ℕ) (i c : ℕ) (within : i < length text) (read : c ≡ get_or text i 0) where
-  pub rows-bar : c ≡ bar → length (cut (drop i text)) ≡ length (cut (drop (i + 1) text)) + 1
-  rows-bar e =
-      let a = ap (λ z. length (cut z)) (drop-next text i c within read) in
-      let b = ap length (cut-bar c (drop (i + 1) text) e) in
-      omega arith
-
-  pub rows-more : (c ≡ bar → ⊥) → length (cut (drop i text)) ≡ length (cut (drop (i + 1) text))
-  rows-more n = ap (λ z. length (cut z)) (drop-next text i c within read) ∙ ap length (cut-front c (drop (i + 1) text) n)
-      ∙ front-rows c (cut (drop (i + 1) text)) (some-row (drop (i + 1) text))
-
   cells-more : (c ≡ bar → ⊥) → cells_of (cut (drop i text)) ≡ c ∷ cells_of (cut (drop (i + 1) text))
   cells-more n = ap (λ z. cells_of (cut z)) (drop-next text i c within read) ∙ ap cells_of (cut-front c (drop (i + 1) text)
       n) ∙ front-cells c (cut (drop (i + 1) text))
@@ -175,6 +168,12 @@ not-ragged columns start (row ∷ rows) e = elim (eqb_tells (length row) columns
     some_none : (x : ℕ) → Some x ≡ None → ⊥
     some_none x h = cc
 
+-- and so many rows
+pub rows-by : (rows columns n : ℕ) → n ≡ rows * columns → (columns ≡ 0 → ⊥) → n / columns ≡ rows
+rows-by rows columns n e some =
+    let whole : n ≡ rows * columns + 0 = omega (arith, e) in
+    ap (λ z. z / columns) whole ∙ div-mul-add rows columns 0 (omega (arith, some))
+
 pub few-rows : (rows columns n : ℕ) → n ≡ rows * columns → n ≤ 64 → (columns ≡ 0 → ⊥) → rows ≤ 64
 few-rows rows columns n e few some =
     let m : rows * 1 ≤ rows * columns = mul-le-mul_left rows (omega arith) in
@@ -217,36 +216,24 @@ symbol-of false false false e (inr h) = cc
 bar-false : (c : ℕ) → (c ≡ bar → ⊥) → (c == bar) ≡ false
 bar-false c n = elim (eqb_tells c bar) [ inl p ↦ absurd (n p.1) | inr p ↦ p.0 ]
 
-all-pass : (q : ℕ → Bool) (xs : List ℕ) → length xs ≤ prefix_len q xs → (c : ℕ) → In c xs → q c ≡ true
-all-pass q [] h c m = absurd m
-all-pass q (x ∷ xs) h c m = (elim (q x) as (λ b. q x ≡ b → length (x ∷ xs) ≤ cond b (1 + prefix_len q xs) 0 → q c
-    ≡ true) [
-      | true ↦ λ e l. elim m [
-        | inl s ↦ ap q s ∙ e
-        | inr k ↦ all-pass q xs (omega arith) c k
-      ]
-      | false ↦ λ e l. absurd (omega arith)
-    ]) refl h
-
-none-foreign : (p : ℕ → Bool) (xs : List ℕ) → position p xs ≡ None → (c : ℕ) → In c xs → p c ≡ false
-none-foreign p xs e c m = (elim (nat_lt (position_or_len p xs) (length xs)) as (λ b. nat_lt (position_or_len p xs)
-    (length xs) ≡ b → cond b (Some (position_or_len p xs)) None ≡ None → p c ≡ false) [
-      | true ↦ λ t f. absurd (clash (position_or_len p xs) f)
-      | false ↦ λ t f. (let l : length xs ≤ position_or_len p xs = grind (arith, nat_tests) in
-          turned (p c) (all-pass (λ x. not (p x)) xs l c m))
-    ]) refl e
-  where
-    clash : (x : ℕ) → Some x ≡ None → ⊥
-    clash x h = cc
-
-    turned : (b : Bool) → not b ≡ true → b ≡ false
-    turned true h = cc
-    turned false h = refl
-
-read-in : (cells : List ℕ) (k : ℕ) → k < length cells → In (slice_index cells k) cells
+pub read-in : (cells : List ℕ) (k : ℕ) → k < length cells → In (slice_index cells k) cells
 read-in [] k l = absurd (omega arith)
 read-in (c ∷ cells) zero l = inl refl
 read-in (c ∷ cells) (suc k) l = inr (read-in cells k (omega arith))
+
+in-read : (cells : List ℕ) (c : ℕ) → In c cells → (k : ℕ) × (k < length cells) × (slice_index cells k ≡ c)
+in-read [] c m = absurd m
+in-read (d ∷ cells) c (inl e) = (0, omega arith, sym e)
+in-read (d ∷ cells) c (inr m) = let (k, l, e) = in-read cells c m in (suc k, omega (arith, l), e)
+
+none-foreign : (p : ℕ → Bool) (xs : List ℕ) → position p xs ≡ None → (c : ℕ) → In c xs → p c ≡ false
+none-foreign p xs e c m =
+    let (k, l, f) = in-read xs c m in
+    ap p (sym f) ∙ fails_before_first p xs k 0 (elim (leb_tells (length xs) (position_or_len p xs)) [
+      | inl h ↦ omega (arith, h.1, l)
+      | inr h ↦ (let g : Some (position_or_len p xs) ≡ None = sym (ap (λ b. cond b (Some (position_or_len p xs)) None)
+          (lt-ltb (position_or_len p xs) (length xs) h.1)) ∙ e in absurd cc)
+    ])
 
 pub cells-symbols : (one_row : Bool) (symbols text cells : List ℕ) → cells ≡ cells_of (rows_of one_row text)
     → position (is_foreign one_row symbols) text ≡ None → AreCells symbols cells

@@ -11,6 +11,7 @@ use Rattle.cg_moves.specs.declared.player.Player.{Player}
 use Rattle.cg_moves.specs.declared.player.Player.TheVariants.{Left, Right}
 use Rattle.cg_moves.specs.Reordered.{IsReordered}
 use Rattle.cg_moves.specs.Total.{total}
+use Rattle.std.proofs.lemmas.List.{map-append}
 
 -- ---- equality of games
 
@@ -146,10 +147,6 @@ total-middle (u ∷ us) g vs =
     (equal_trans (sum (sum u g) rest) (sum (sum g u) rest) (sum g (sum u rest))
     (equal_sum (sum u g) (sum g u) rest rest (equal_comm u g) (equal_refl rest))
     (equal_assoc g u rest)))
-
-pub map-append : {X Y : Type 0} (f : X → Y) (us vs : List X) → map f (us ++ vs) ≡ map f us ++ map f vs
-map-append f [] vs = refl
-map-append f (u ∷ us) vs = ap (λ z. f u ∷ z) (map-append f us vs)
 
 pub total-reordered : {X : Type 0} (f : X → Game) (xs ys : List X) → IsReordered xs ys
     → Equal (total (map f xs)) (total (map f ys))

@@ -8,12 +8,13 @@ use Rattle.cg_moves.specs.Reordered.{IsReordered}
 use Rattle.cg_moves.specs.Rules.{GameRules, In, boards_after, followers, pieces, pieces_by}
 use Rattle.cg_form.proofs.Firsts.{in-append_left, in-append_right}
 use Rattle.cg_moves.proofs.Members.{in-map, in_mapped}
-use Rattle.cg_moves.proofs.Totals.{map-append}
 use Rattle.cg_pieces.specs.Cells.{CellGame, CutsByCells, Distinct, First, IsCellGame, Joined, pieces_of}
 use Rattle.cg_pieces.specs.Cells.Linked.{here}
 use Rattle.cg_pieces.proofs.OneMove.{pieces-after}
-use Rattle.cg_pieces.proofs.Orders.{in-middle}
 use Rattle.cg_pieces.proofs.Sets.{first-placed, joined-sym, joined-trans, legal-joined, open-along, placed-first, placed-piece}
+use Rattle.std.proofs.lemmas.List.{map-append}
+use Rattle.std.proofs.lemmas.Bool.Decides.{leb_tells}
+use Rattle.cg_moves.proofs.Middles.{in-middle}
 
 -- a list of mapped cells that is cut is cut at a cell
 record MappedCut {Y : Type 0} (f : ℕ → Y) (ks : List ℕ) (us : List Y) (y : Y) (vs : List Y) : Type 0 where
@@ -70,20 +71,14 @@ module _ (g : CellGame) (r : GameRules) (laws : IsCellGame g) (cuts : CutsByCell
       | inl j ↦ inl (record {
         cell = n;
         joined = j;
-        least = λ m i. elim (below-or-not m n) [ inl h ↦ absurd (none m h i) | inr h ↦ h ];
+        least = λ m i. elim (leb_tells n m) [ inl h ↦ h.1 | inr h ↦ absurd (none m h.1 i) ];
       })
-      | inr out ↦ inr (λ m h i. elim (below-or-not m n) [
-        | inl b ↦ none m b i
-        | inr b ↦ (let e : m ≡ n = omega arith in let P : ℕ → Type 0 = λ z. Joined g p z k in out (subst P e i))
+      | inr out ↦ inr (λ m h i. elim (leb_tells n m) [
+        | inl b ↦ (let e : m ≡ n = omega (arith, h, b.1) in out (subst (λ (z : ℕ). Joined g p z k) e i))
+        | inr b ↦ none m b.1 i
       ])
     ]
   ]
-    where
-      below-or-not : (m n : ℕ) → (m < n) ⊎ (n ≤ m)
-      below-or-not zero zero = inr (omega arith)
-      below-or-not zero (suc n) = inl (omega arith)
-      below-or-not (suc m) zero = inr (omega arith)
-      below-or-not (suc m) (suc n) = elim (below-or-not m n) [ inl h ↦ inl (omega arith) | inr h ↦ inr (omega arith) ]
 
   least-of : (p : Grid) (k : ℕ) → Least p k
   least-of p k = elim (least-below p k (suc k)) [

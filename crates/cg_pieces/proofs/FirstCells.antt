@@ -1,7 +1,7 @@
 -- Joined sets in which some player has a move, and what is taken of their first cells.
 use Rattle.std.proofs.Common.{◌≡◌, refl, ℕ, suc, ◌+◌, ◌<◌, ◌&&◌, ◌||◌, ◌⊎◌, inl, inr, Bool, true, false, if◌then◌else◌, IsTrue, List, [], ◌∷◌, ◌++◌, cond, filter, length, map, ap, sym, ◌∙◌, subst, arith}
 use Rattle.std.specs.Int.{bit_at}
-use Rattle.std.proofs.lemmas.List.{append-nil}
+use Rattle.std.proofs.lemmas.List.{append-nil, map-append}
 use Rattle.cg_dyadic.proofs.Truth.{and-both, and-split}
 use Rattle.cg_moves.specs.declared.player.Player.{Player}
 use Rattle.cg_moves.specs.declared.player.Player.TheVariants.{Left, Right}
@@ -9,7 +9,6 @@ use Rattle.cg_moves.specs.Grid.{Grid}
 use Rattle.cg_moves.specs.Rising.{counted}
 use Rattle.cg_moves.proofs.ConnectedLemmas.{or-cases, or-first, or-second}
 use Rattle.cg_moves.proofs.Counted.{counted-next}
-use Rattle.cg_moves.proofs.Totals.{map-append}
 use Rattle.cg_pieces.specs.Cells.{Joined}
 use Rattle.cg_pieces.specs.Cells.Linked.{step}
 use Rattle.cg_pieces.specs.Moving.{AreMoving, MovesWith, is_behind, moves_between}

@@ -11,10 +11,7 @@ use Rattle.cg_pieces.specs.Boxes.{Box, column_of, cropped, row_of, set_box, show
 use Rattle.cg_pieces.specs.Frames.{box_from}
 use Rattle.cg_pieces.proofs.Bounds.{Bounds, BoundsBy, cell-of, set-bounds}
 use Rattle.cg_pieces.proofs.Crops.{cell-below, crop-at, inner-column}
-
-counted-length : (i n : ℕ) → length (counted i n) ≡ n
-counted-length i zero = refl
-counted-length i (suc n) = ap suc (counted-length (suc i) n)
+use Rattle.cg_moves.proofs.Counted.{counted-length}
 
 -- a board of these parts
 abbrev pub made : ℕ → ℕ → List ℕ → List ℕ → Grid

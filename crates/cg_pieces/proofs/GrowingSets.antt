@@ -67,24 +67,16 @@ bit-below a i fits t = elim (leb_tells 64 i) [
 -- ---- adjacent cells
 
 pub down-next : (w k l : ℕ) → is_below w k l ≡ true → is_next w k l ≡ true
-down-next w k l t =
-    or-first (is_below w k l || is_below w l k) (is_beside w k l || is_beside w l k)
-    (or-first (is_below w k l) (is_below w l k) t)
+down-next w k l t = or-first _ _ (or-first _ _ t)
 
 up-next : (w k l : ℕ) → is_below w l k ≡ true → is_next w k l ≡ true
-up-next w k l t =
-    or-first (is_below w k l || is_below w l k) (is_beside w k l || is_beside w l k)
-    (or-second (is_below w k l) (is_below w l k) t)
+up-next w k l t = or-first _ _ (or-second _ _ t)
 
 pub forth-next : (w k l : ℕ) → is_beside w k l ≡ true → is_next w k l ≡ true
-forth-next w k l t =
-    or-second (is_below w k l || is_below w l k) (is_beside w k l || is_beside w l k)
-    (or-first (is_beside w k l) (is_beside w l k) t)
+forth-next w k l t = or-second _ _ (or-first _ _ t)
 
 back-next : (w k l : ℕ) → is_beside w l k ≡ true → is_next w k l ≡ true
-back-next w k l t =
-    or-second (is_below w k l || is_below w l k) (is_beside w k l || is_beside w l k)
-    (or-second (is_beside w k l) (is_beside w l k) t)
+back-next w k l t = or-second _ _ (or-second _ _ t)
 
 -- ---- the set and what is adjacent to it
 

@@ -23,10 +23,8 @@ swap-or a b h = elim (or-cases a b h) [ inl x ↦ or-second b a x | inr y ↦ or
 
 pub next-sym : (w k l : ℕ) → is_next w k l ≡ true → is_next w l k ≡ true
 next-sym w k l h = elim (or-cases (is_below w k l || is_below w l k) (is_beside w k l || is_beside w l k) h) [
-  | inl x ↦ or-first (is_below w l k || is_below w k l) (is_beside w l k || is_beside w k l)
-      (swap-or (is_below w k l) (is_below w l k) x)
-  | inr y ↦ or-second (is_below w l k || is_below w k l) (is_beside w l k || is_beside w k l)
-      (swap-or (is_beside w k l) (is_beside w l k) y)
+  | inl x ↦ or-first _ _ (swap-or (is_below w k l) (is_below w l k) x)
+  | inr y ↦ or-second _ _ (swap-or (is_beside w k l) (is_beside w l k) y)
 ]
 
 -- ---- tests of lists

@@ -6,11 +6,12 @@ use Rattle.cg_moves.specs.Reordered.{IsReordered}
 use Rattle.cg_moves.specs.Rules.{In}
 use Rattle.cg_form.proofs.Firsts.{in-append, in-append_left, in-append_right}
 use Rattle.cg_moves.proofs.Members.{in-map, in_mapped, map-agree}
-use Rattle.cg_moves.proofs.Totals.{map-append}
 use Rattle.cg_pieces.specs.Cells.{CellGame, Distinct, First, IsCellGame, Joined, OneSet, pieces_of}
 use Rattle.cg_pieces.specs.Cells.Linked.{here}
-use Rattle.cg_pieces.proofs.Orders.{distinct-append, distinct-apart, distinct-left, distinct-map, distinct-middle, distinct-right, in_middle, middle-in, reordered-map, same-members}
+use Rattle.cg_pieces.proofs.Orders.{distinct-append, distinct-apart, distinct-left, distinct-map, distinct-middle, distinct-right, reordered-map, same-members}
 use Rattle.cg_pieces.proofs.Sets.{apart-first, apart-piece, first-apart, first-placed, joined-sym, place-same, placed-first, placed-piece}
+use Rattle.std.proofs.lemmas.List.{map-append}
+use Rattle.cg_moves.proofs.Middles.{in_middle, middle-in}
 
 map-twice : {Y : Type 0} (f : ℕ → Y) (h : ℕ → Y) (back : ℕ → ℕ) (ks : List ℕ)
     → ((m : ℕ) → In m ks → f (back m) ≡ h m) → map f (map back ks) ≡ map h ks

@@ -4,40 +4,9 @@ use Rattle.cg_moves.specs.Reordered.{IsReordered}
 use Rattle.cg_moves.specs.Rules.{In}
 use Rattle.cg_form.proofs.Firsts.{in-append, in-append_left, in-append_right}
 use Rattle.cg_moves.proofs.Members.{in-map}
-use Rattle.cg_moves.proofs.Totals.{map-append}
 use Rattle.cg_pieces.specs.Cells.{CellGame, Distinct}
-
--- a member in the middle
-pub record Middle (k : ℕ) (ks : List ℕ) : Type 0 where
-  pub before : List ℕ
-  pub behind : List ℕ
-  pub cut : ks ≡ before ++ (k ∷ behind)
-
-pub in-middle : (k : ℕ) (ks : List ℕ) → In k ks → Middle k ks
-in-middle k [] m = absurd m
-in-middle k (l ∷ ks) (inl e) = record {
-  before = [];
-  behind = ks;
-  cut = ap (λ z. z ∷ ks) (sym e);
-}
-in-middle k (l ∷ ks) (inr m) = let w = in-middle k ks m in record {
-  before = l ∷ w.before;
-  behind = w.behind;
-  cut = ap (λ z. l ∷ z) w.cut;
-}
-
-pub middle-in : (k l : ℕ) (us vs : List ℕ) → In k (us ++ (l ∷ vs)) → (k ≡ l) ⊎ In k (us ++ vs)
-middle-in k l us vs m = elim (in-append k us (l ∷ vs) m) [
-  | inl i ↦ inr (in-append_left k us vs i)
-  | inr (inl e) ↦ inl e
-  | inr (inr i) ↦ inr (in-append_right k us vs i)
-]
-
-pub in_middle : (k l : ℕ) (us vs : List ℕ) → In k (us ++ vs) → In k (us ++ (l ∷ vs))
-in_middle k l us vs m = elim (in-append k us vs m) [
-  | inl i ↦ in-append_left k us (l ∷ vs) i
-  | inr i ↦ in-append_right k us (l ∷ vs) (inr i)
-]
+use Rattle.std.proofs.lemmas.List.{map-append}
+use Rattle.cg_moves.proofs.Middles.{in-middle, in_middle, middle-in}
 
 module _ (g : CellGame) where
   pub distinct-middle : (us vs : List ℕ) (k : ℕ) → Distinct g (us ++ (k ∷ vs)) → (¬ In k (us ++ vs)) × Distinct g (us ++ vs)

@@ -1,5 +1,5 @@
 -- The board of a joined set shows the set, before and after a move in it.
-use Rattle.std.proofs.Common.{◌≡◌, refl, ℕ, zero, suc, ◌+◌, ◌-◌, ◌*◌, ◌<◌, ◌≤◌, ◌==◌, ◌&&◌, ◌||◌, ◌⊎◌, ◌↔◌, inl, inr, Bool, true, length, map, ap, sym, ◌∙◌, subst, arith}
+use Rattle.std.proofs.Common.{◌≡◌, refl, ℕ, suc, ◌+◌, ◌-◌, ◌*◌, ◌<◌, ◌≤◌, ◌==◌, ◌&&◌, ◌||◌, ◌⊎◌, ◌↔◌, inl, inr, Bool, true, length, ap, sym, ◌∙◌, subst, arith}
 use Rattle.std.proofs.Math.Nat.{mod-lt, mul-le-mul_left}
 use Rattle.std.proofs.lemmas.Bool.{eqb-true, eq-eqb}
 use Rattle.cg_form.proofs.Cut.{same_when}
@@ -13,6 +13,9 @@ use Rattle.cg_pieces.proofs.Bounds.{cell-of, set-bounds}
 use Rattle.cg_pieces.proofs.Crops.{column-low, place-column, place-row, row-low}
 use Rattle.cg_pieces.proofs.NeighbourSets.{joined-so, neighbours-cell_game, piece-cell-below, so-joined}
 use Rattle.cg_pieces.proofs.Sets.{open-along}
+use Rattle.std.proofs.lemmas.List.{length-map}
+use Rattle.cg_moves.proofs.Counted.{counted-length, same-or-not}
+use Rattle.std.proofs.lemmas.Bool.Decides.{leb_tells}
 
 -- ---- places in rows and columns
 
@@ -29,27 +32,18 @@ moved-next a b t la lb = same_when ((a - t) + 1 == b - t) (a + 1 == b)
 
 -- the order of cells is that of their rows, and in a row that of their columns
 order-by-lines : (w a b c d : ℕ) → b < w → d < w → (cell_at w a b ≤ cell_at w c d) → (a < c) ⊎ ((a ≡ c) × (b ≤ d))
-order-by-lines w a b c d hb hd h = elim (compared a c) [
-  | inl l ↦ inl l
-  | inr (inl e) ↦
-      let P : ℕ → Type 0 = λ z. cell_at w a b ≤ cell_at w z d in
-      let k : cell_at w a b ≤ cell_at w a d = subst P (sym e) h in inr (e, omega arith)
-  | inr (inr g) ↦ let m : w * (c + 1) ≤ w * a = mul-le-mul_left w (omega arith) in
-      let x : w * (c + 1) ≡ w * c + w = times-next w c in absurd (omega (arith, m, x))
+order-by-lines w a b c d hb hd h = elim (leb_tells c a) [
+  | inr l ↦ inl l.1
+  | inl k ↦ elim (same-or-not a c) [
+    | inl e ↦
+        let P : ℕ → Type 0 = λ z. cell_at w a b ≤ cell_at w z d in
+        let l : cell_at w a b ≤ cell_at w a d = subst P (sym e) h in inr (e, omega arith)
+    | inr other ↦
+        let m : w * (c + 1) ≤ w * a = mul-le-mul_left w (omega (arith, k.1, other)) in
+        let x : w * (c + 1) ≡ w * c + w = omega arith in
+        absurd (omega (arith, m, x, h))
+  ]
 ]
-  where
-    compared : (a c : ℕ) → (a < c) ⊎ ((a ≡ c) ⊎ (c < a))
-    compared zero zero = inr (inl refl)
-    compared zero (suc c) = inl (omega arith)
-    compared (suc a) zero = inr (inr (omega arith))
-    compared (suc a) (suc c) = elim (compared a c) [
-      | inl h ↦ inl (omega arith)
-      | inr (inl e) ↦ inr (inl (ap suc e))
-      | inr (inr h) ↦ inr (inr (omega arith))
-    ]
-
-    times-next : (w c : ℕ) → w * (c + 1) ≡ w * c + w
-    times-next w c = omega arith
 
 lines-order : (w a b c d : ℕ) → b < w → (a < c) ⊎ ((a ≡ c) × (b ≤ d)) → cell_at w a b ≤ cell_at w c d
 lines-order w a b c d hb (inl l) =
@@ -58,10 +52,6 @@ lines-order w a b c d hb (inl l) =
     omega (arith, m, x)
 lines-order w a b c d hb (inr (e, l)) =
     let P : ℕ → Type 0 = λ z. cell_at w a b ≤ cell_at w z d in subst P e (omega arith)
-
-length-map-counted : (f : ℕ → ℕ) (i n : ℕ) → length (map f (counted i n)) ≡ n
-length-map-counted f i zero = refl
-length-map-counted f i (suc n) = let h = length-map-counted f (suc i) n in omega arith
 
 module _ (n : Neighbours) (laws : IsNeighbours n) (p : Grid) (s : ℕ) (wide : 0 < p.columns)
     (some : is_piece_cell n p s ≡ true) where
@@ -91,7 +81,7 @@ module _ (n : Neighbours) (laws : IsNeighbours n) (p : Grid) (s : ℕ) (wide : 0
 
   pub piece-length : length piece.cells ≡ box.rows * box.columns
   unfolding cropped
-  piece-length = length-map-counted _ 0 (box.rows * box.columns)
+  piece-length = length-map (counted 0 (box.rows * box.columns)) _ ∙ counted-length 0 (box.rows * box.columns)
 
   -- ---- adjacent in the piece as on the board
 

@@ -11,7 +11,7 @@ use Rattle.cg_pieces.specs.Neighbours.{IsNeighbours, Neighbours, are_joined, cel
 use Rattle.cg_pieces.proofs.Crops.{crop-back, crop-symbol, place-below}
 use Rattle.cg_pieces.proofs.NeighbourSets.{joined-so, neighbours-cell_game, piece-cell-below, so-joined}
 use Rattle.cg_pieces.proofs.Parts.{PartShown, crop-part, crop-same}
-use Rattle.cg_pieces.proofs.Sets.{joined-sym, joined-trans}
+use Rattle.cg_pieces.proofs.Sets.{joined-sym, joined-trans, linked-along}
 use Rattle.cg_pieces.proofs.Shown.{below-placed, beside-placed, next-placed, order-placed, piece-length, self, within}
 
 module _ (n : Neighbours) (laws : IsNeighbours n) (p : Grid) (s : ℕ) (wide : 0 < p.columns)
@@ -53,8 +53,7 @@ module _ (n : Neighbours) (laws : IsNeighbours n) (p : Grid) (s : ℕ) (wide : 0
 
     -- joined cells were joined before
     before : (k l : ℕ) → Joined game after k l → Joined game p k l
-    before k l (here m e) = here m e
-    before k l (step x m b x_open m_open next) = step x m (before k x b) (a.fewer x x_open) (a.fewer m m_open) next
+    before = linked-along (is_piece_cell n after) (is_piece_cell n p) (is_next p.columns) (is_next p.columns) a.fewer (λ x m t. t)
 
     apart-piece : (k : ℕ) → ¬ Joined game p s k → ((l : ℕ) → Joined game after k l ↔ Joined game p k l)
         → cropped n.blank (are_joined n after k) after ≡ cropped n.blank (are_joined n p k) p
