@@ -54,26 +54,28 @@ module _ (left new place : ℕ) (is : IsWithBit left new place 0) where
 
 -- ---- what belongs to the places
 
-where_set : {Y : Type 0} → ℕ → List Y → List Y
+abbrev pub where_set : {Y : Type 0} → ℕ → List Y → List Y
 where_set zero ys = []
 where_set (suc b) ys = ys
 
--- the n things, of which the one at k belongs to the place of k
-module _ {X Y : Type 0} (f : Y → X) (h : ℕ → List Y) (place : ℕ → ℕ) (n : ℕ) where
-  at_bits : ℕ → ℕ → List Y
+-- n things in their order, of which the one at k belongs to the place of k
+module _ {X Y : Type 0} (f : Y → X) (h : ℕ → List Y) (place : ℕ → ℕ) (n : ℕ) (Has : ℕ → Type 0) where
+  abbrev pub at_bits : ℕ → ℕ → List Y
   at_bits word j = where_set (bit_at word (place j)) (h j)
 
-  -- those of the places that are cleared are listed behind the others
-  pub record AreListed (word left : ℕ) (before now : List X) : Type 0 where
-    pub within : (i : ℕ) → bit_at left i ≡ 1 → bit_at word i ≡ 1
+  -- those of the places that are left are still to be listed behind these, and then all are; and so it is with each place left
+  pub record AreListed (left : ℕ) (before now : List X) : Type 0 where
+    pub within : (i : ℕ) → bit_at left i ≡ 1 → Has i
     pub listed : now ++ map f (flat_map (at_bits left) (counted 0 n)) ≡ before ++ map f (flat_map h (counted 0 n))
 
-  pub listed-none : (word : ℕ) (before : List X) → ((j : ℕ) → bit_at word (place j) ≡ 0 → h j ≡ []) → AreListed word word before before
-  unfolding where_set at_bits
-  listed-none word before none = record {
-    within = λ i t. t;
-    listed = ap (λ z. before ++ map f z) (flat_map-agree (at_bits word) h (counted 0 n)
-        (λ j m. go (bit_at word (place j)) (h j) (none j)));
+  -- nothing belongs to the other places
+  pub listed-none : (left : ℕ) (before now : List X) → now ≡ before → ((i : ℕ) → bit_at left i ≡ 1 → Has i)
+      → ((j : ℕ) → bit_at left (place j) ≡ 0 → h j ≡ []) → AreListed left before now
+  listed-none left before now same each none = record {
+    within = each;
+    listed = ap (λ z. z ++ map f (flat_map (at_bits left) (counted 0 n))) same
+        ∙ ap (λ z. before ++ map f z) (flat_map-agree (at_bits left) h (counted 0 n)
+        (λ j m. go (bit_at left (place j)) (h j) (none j)));
   }
     where
       go : (b : ℕ) (ys : List Y) → (b ≡ 0 → ys ≡ []) → where_set b ys ≡ ys
@@ -85,7 +87,6 @@ module _ {X Y : Type 0} (f : Y → X) (h : ℕ → List Y) (place : ℕ → ℕ)
       → ((j : ℕ) → j < k → bit_at left (place j) ≡ 0)
       → ((j : ℕ) → j ≢ k → j < i + m → bit_at new (place j) ≡ bit_at left (place j))
       → flat_map (at_bits left) (counted i m) ≡ h k ++ flat_map (at_bits new) (counted i m)
-  unfolding where_set at_bits
   first-listed left new k i zero low high here gone before same = absurd (omega arith)
   first-listed left new k i (suc m) low high here gone before same =
       let others = flat_map (at_bits left) (counted (suc i) m) in
@@ -104,26 +105,23 @@ module _ {X Y : Type 0} (f : Y → X) (h : ℕ → List Y) (place : ℕ → ℕ)
             ∙ ap (λ z. h k ++ z) (sym (ap (λ b. where_set b (h i) ++ rest) (same i other (omega arith) ∙ none))))
       ]
 
-  pub listed-more : (word left new k : ℕ) (before now more : List X) → k < n → bit_at left (place k) ≡ 1
-      → IsWithBit left new (place k) 0 → ((j : ℕ) → j < k → bit_at left (place j) ≡ 0)
-      → ((j : ℕ) → j ≢ k → j < n → place j ≢ place k) → AreListed word left before now → more ≡ now ++ map f (h k)
-      → AreListed word new before more
-  listed-more word left new k before now more inside here is none apart old put = record {
-    within = λ i t. old.within i (cleared-kept left new (place k) is i t);
+  pub listed-more : (left new k cell : ℕ) (before now more : List X) → k < n → place k ≡ cell → bit_at left cell ≡ 1
+      → IsWithBit left new cell 0 → ((j : ℕ) → j < k → bit_at left (place j) ≡ 0)
+      → ((j : ℕ) → j ≢ k → j < n → place j ≢ cell) → AreListed left before now → more ≡ now ++ map f (h k)
+      → AreListed new before more
+  listed-more left new k cell before now more inside at here is none apart old put = record {
+    within = λ i t. old.within i (cleared-kept left new cell is i t);
     listed = ap (λ z. z ++ map f (flat_map (at_bits new) (counted 0 n))) put
         ∙ append_assoc now (map f (h k)) (map f (flat_map (at_bits new) (counted 0 n)))
-        ∙ ap (λ z. now ++ z) (sym (ap (map f) (first-listed left new k 0 n (omega arith) inside here
-        (cleared-here left new (place k) is) none
-        (λ j other l. cleared-other left new (place k) is (place j) (apart j other l)))
-        ∙ map-append f (h k) (flat_map (at_bits new) (counted 0 n))))
-        ∙ old.listed;
+        ∙ ap (λ z. now ++ z) (sym (ap (map f) (first-listed left new k 0 n (omega arith) inside
+        (ap (bit_at left) at ∙ here) (ap (bit_at new) at ∙ cleared-here left new cell is) none
+        (λ j other l. cleared-other left new cell is (place j) (apart j other l)))
+        ∙ map-append f (h k) (flat_map (at_bits new) (counted 0 n)))) ∙ old.listed;
   }
 
-  pub listed-all : (word left : ℕ) (before now : List X) → left ≡ 0 → AreListed word left before now
+  pub listed-all : (left : ℕ) (before now : List X) → left ≡ 0 → AreListed left before now
       → now ≡ before ++ map f (flat_map h (counted 0 n))
-  unfolding where_set at_bits
-  listed-all word left before now none old =
-      sym (ap (λ z. now ++ map f z) (go 0 n) ∙ append-nil now) ∙ old.listed
+  listed-all left before now none old = sym (ap (λ z. now ++ map f z) (go 0 n) ∙ append-nil now) ∙ old.listed
     where
       go : (i m : ℕ) → flat_map (at_bits left) (counted i m) ≡ []
       go i zero = refl

@@ -1,4 +1,4 @@
-use Rattle.std.proofs.Common.{◌*◌, length, ap, sym, ◌∙◌, arith}
+use Rattle.std.proofs.Common.{◌*◌, rules, length, ap, sym, ◌∙◌, arith}
 use Rattle.cg_moves.specs.Texts.{rows_of}
 use Rattle.cg_moves.proofs.TextLemmas.{cells-symbols, few-rows, not-ragged, taken, rows-by}
 use Rattle.cg_moves.proofs.grid.read_grid.Goals as goal
@@ -25,3 +25,11 @@ make-requires-clause-size c =
 pub make-requires-clause-cells : goal.make-requires-clause-cells
 make-requires-clause-cells c =
     cells-symbols c.args.one_row c.args.symbols.now c.args.text.now _ (taken _ _ _ c.size_of-size.ensures c.cells_in-cells.ensures) (sym c.first_foreign.ensures ∙ c.in_default.is)
+
+pub returns-clause-read : goal.returns-clause-read
+returns-clause-read c =
+    let rows = rows_of c.args.one_row c.args.text.now in
+    let size = c.size_of-size.ensures ∙ not-ragged c.columns_in-columns.result 1 rows (sym c.ragged_in.ensures
+    ∙ c.in_default-ragged_in.is) in
+    let is = rows-by (length rows) c.columns_in-columns.result c.size_of-size.result size c.if-columns-eq0.false in
+    search rules
