@@ -113,9 +113,9 @@ module _ {X Y : Type 0} (f : Y → X) (h : ℕ → List Y) (place : ℕ → ℕ)
     within = λ i t. old.within i (cleared-kept left new cell is i t);
     listed = ap (λ z. z ++ map f (flat_map (at_bits new) (counted 0 n))) put
         ∙ append_assoc now (map f (h k)) (map f (flat_map (at_bits new) (counted 0 n)))
-        ∙ ap (λ z. now ++ z) (sym (ap (map f) (first-listed left new k 0 n (omega arith) inside
+        ∙ ap (λ z. now ++ z) (sym (ap (map f) (first-listed left new k 0 n (omega arith) (omega (arith, inside))
         (ap (bit_at left) at ∙ here) (ap (bit_at new) at ∙ cleared-here left new cell is) none
-        (λ j other l. cleared-other left new cell is (place j) (apart j other l)))
+        (λ j other l. cleared-other left new cell is (place j) (apart j other (omega (arith, l)))))
         ∙ map-append f (h k) (flat_map (at_bits new) (counted 0 n)))) ∙ old.listed;
   }
 

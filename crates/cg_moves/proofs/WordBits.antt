@@ -1,7 +1,7 @@
 -- Words by their bits.
 use Rattle.std.proofs.Common.{◌≡◌, ◌≢◌, refl, Bool, true, false, not, ◌&&◌, ℕ, suc, ◌+◌, ◌-◌, ◌*◌, ◌/◌, ◌%◌, ◌^◌, ◌<◌, ◌≤◌, ◌==◌, ◌⊎◌, inl, inr, if◌then◌else◌, ap, sym, ◌∙◌, arith, bit_and, bit_or, min, nat_lt, w64}
 use Rattle.std.specs.Int.{bit_at}
-use Rattle.std.proofs.lemmas.Bool.Decides.{eqb_tells, leb_tells}
+use Rattle.std.proofs.lemmas.Bool.Decides.{eqb_tells, leb_tells, nat_tests}
 use Rattle.std.proofs.Math.Nat.{mod-eq_of_lt, mod-lt, mod_self, suc-mod}
 use Rattle.std.proofs.lemmas.Bool.{eq-eqb, le-ltb, lt-ltb}
 use Rattle.std.proofs.lemmas.Nat.{pow_pos, shr-shr}
@@ -157,38 +157,11 @@ alike_not word bit i fits e l =
 abbrev alike : ℕ → ℕ → ℕ
 alike x y = if x == y then 1 else 0
 
-same-four : (a b c d p q r s : ℕ) → a < 2 → b < 2 → c < 2 → d < 2 → p < 2 → q < 2 → r < 2 → s < 2
-    → a + 2 * b + 4 * c + 8 * d ≡ p + 2 * q + 4 * r + 8 * s → (a ≡ p) × (b ≡ q) × (c ≡ r) × (d ≡ s)
-same-four a b c d p q r s la lb lc ld lp lq lr ls e = (omega arith, omega arith, omega arith, omega arith)
-
 -- all four are alike where the numbers of these bits are
 pub four_alike : (a b c d p q r s : ℕ) → a < 2 → b < 2 → c < 2 → d < 2 → p < 2 → q < 2 → r < 2 → s < 2
     → min (min (alike a p) (alike b q)) (min (alike c r) (alike d s))
     ≡ alike (a + 2 * b + 4 * c + 8 * d) (p + 2 * q + 4 * r + 8 * s)
-four_alike a b c d p q r s la lb lc ld lp lq lr ls = elim (eqb_tells (a + 2 * b + 4 * c + 8 * d) (p + 2 * q + 4 * r + 8 * s)) [
-  | inl h ↦ (let e = same-four a b c d p q r s la lb lc ld lp lq lr ls h.1 in
-      let x : alike a p ≡ 1 = ap one (eq-eqb a p e.0) in
-      let y : alike b q ≡ 1 = ap one (eq-eqb b q e.1) in
-      let z : alike c r ≡ 1 = ap one (eq-eqb c r e.2) in
-      let w : alike d s ≡ 1 = ap one (eq-eqb d s e.3) in
-      let all : min (min (alike a p) (alike b q)) (min (alike c r) (alike d s)) ≡ 1 = omega arith in
-      all ∙ ap one (sym h.0))
-  | inr h ↦ differ (eqb_tells a p) (eqb_tells b q) (eqb_tells c r) (eqb_tells d s) h.1 ∙ ap one (sym h.0)
-]
-  where
-    Tells : ℕ → ℕ → Type 0
-    Tells x y = (((x == y) ≡ true) × (x ≡ y)) ⊎ (((x == y) ≡ false) × (x ≢ y))
-
-    none : (x y : ℕ) → (x == y) ≡ false → alike x y ≡ 0
-    none x y e = ap (λ t. if t then 1 else 0) e
-
-    differ : Tells a p → Tells b q → Tells c r → Tells d s → a + 2 * b + 4 * c + 8 * d ≢ p + 2 * q + 4 * r + 8 * s
-        → min (min (alike a p) (alike b q)) (min (alike c r) (alike d s)) ≡ 0
-    differ (inr x) y z w n = let e = none a p x.0 in omega arith
-    differ (inl x) (inr y) z w n = let e = none b q y.0 in omega arith
-    differ (inl x) (inl y) (inr z) w n = let e = none c r z.0 in omega arith
-    differ (inl x) (inl y) (inl z) (inr w) n = let e = none d s w.0 in omega arith
-    differ (inl x) (inl y) (inl z) (inl w) n = absurd (n (omega (arith, x.1, y.1, z.1, w.1)))
+four_alike a b c d p q r s la lb lc ld lp lq lr ls = grind (arith, nat_tests)
 
 -- ---- the cells of the first column
 
