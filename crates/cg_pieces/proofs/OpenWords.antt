@@ -24,6 +24,9 @@ marks-test word test are k t = go (test k) (sym (are k) ∙ t)
 pub test-marks : (word : ℕ) (test : ℕ → Bool) → Marks word test → (k : ℕ) → test k ≡ true → bit_at word k ≡ 1
 test-marks word test are k t = are k ∙ ap one t
 
+pub unmarked : (word : ℕ) (test : ℕ → Bool) → Marks word test → (k : ℕ) → bit_at word k ≡ 0 → test k ≡ false
+unmarked word test are k none = false-from (test k) (λ t. let one = test-marks word test are k t in omega (arith, one, none))
+
 pub test-off : (word : ℕ) (test : ℕ → Bool) → Marks word test → (k : ℕ) → ¬ (test k ≡ true) → bit_at word k ≡ 0
 test-off word test are k f = are k ∙ ap one (false-from (test k) f)
 
