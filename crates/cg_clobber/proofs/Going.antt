@@ -1,5 +1,5 @@
 -- Going over the cells with captures: from and onto the others no moves lead.
-use Rattle.std.proofs.Common.{◌≡◌, refl, ℕ, ◌+◌, ◌-◌, ◌<◌, inl, inr, false, if◌then◌else◌, Option, Some, None, List, [], ◌∷◌, ◌++◌, length, map, ap, ◌∙◌, arith, bit_or, sym}
+use Rattle.std.proofs.Common.{◌≡◌, refl, ℕ, ◌+◌, ◌-◌, ◌^◌, ◌<◌, inl, inr, false, if◌then◌else◌, Option, Some, None, List, [], ◌∷◌, ◌++◌, length, map, ap, ◌∙◌, arith, bit_or, sym}
 use Rattle.std.specs.Int.{bit_at}
 use Rattle.std.proofs.lemmas.Nat.Bits.{bit_at-lt, bit_at_or}
 use Rattle.cg_moves.specs.declared.player.Player.{Player}
@@ -74,31 +74,32 @@ module _ (player : Player) (p : Grid) (words : CaptureWords) (are : AreCaptureWo
   Begins moves place left boards =
       AreListed (with_cells p) moves place (length p.cells) (λ k. k < length p.cells) left boards boards
 
-  pub onward_begun : (boards : List Grid) → Begins (onward player p) (λ k. k) (bit_or words.down words.forth) boards
-  onward_begun boards = listed-none _ _ _ _ _ _ boards boards refl onward-inside onward-none
+  pub onward_begun : (boards : List Grid) → bit_or words.down words.forth < 2 ^ 64 → Begins (onward player p) (λ k. k) (bit_or words.down words.forth) boards
+  onward_begun boards low = listed-none _ _ _ _ _ _ boards boards refl low onward-inside onward-none
 
-  pub toward_begun : (boards : List Grid)
+  pub toward_begun : (boards : List Grid) → bit_or words.from_below words.from_next < 2 ^ 64
       → Begins (toward_back player p) (λ k. length p.cells - 1 - k) (bit_or words.from_below words.from_next) boards
-  toward_begun boards =
-      listed-none _ _ _ _ _ _ boards boards refl toward-inside (λ j. toward-none (length p.cells - 1 - j))
+  toward_begun boards low =
+      listed-none _ _ _ _ _ _ boards boards refl low toward-inside (λ j. toward-none (length p.cells - 1 - j))
 
-  pub paired_begun : (boards : List Grid) → Begins (paired player p) (λ k. k)
+  pub paired_begun : (boards : List Grid)
+      → bit_or (bit_or words.down words.forth) (bit_or words.from_below words.from_next) < 2 ^ 64 → Begins (paired player p) (λ k. k)
       (bit_or (bit_or words.down words.forth) (bit_or words.from_below words.from_next)) boards
-  paired_begun boards =
+  paired_begun boards low =
       let one = bit_or words.down words.forth in
       let other = bit_or words.from_below words.from_next in
-      listed-none _ _ _ _ _ _ boards boards refl
+      listed-none _ _ _ _ _ _ boards boards refl low
       (λ c t. elim (or-parts one other c t) [ inl x ↦ onward-inside c x | inr x ↦ toward-inside c x ])
       (λ c e. let off = or-none one other c e in both-none _ _ (onward-none c off.0) (toward-none c off.1))
 
 pub toward_more : (player : Player) (p : Grid) (left new cell : ℕ) (before now more : List Grid) → bit_at left cell ≡ 1
-    → IsWithBit left new cell 0 → ((k : ℕ) → cell < k → bit_at left k ≡ 0)
+    → IsWithBit left new cell 0 → ((k : ℕ) → cell < k → bit_at left k ≡ 0) → new < 2 ^ 64
     → AreListed (with_cells p) (toward_back player p) (λ k. length p.cells - 1 - k) (length p.cells) (λ k. k < length p.cells) left before now
     → more ≡ now ++ map (with_cells p) (toward player p cell)
     → AreListed (with_cells p) (toward_back player p) (λ k. length p.cells - 1 - k) (length p.cells) (λ k. k < length p.cells) new before more
-toward_more player p left new cell before now more here is past old put =
+toward_more player p left new cell before now more here is past low old put =
     let inside = old.within cell here in
     let at : length p.cells - 1 - (length p.cells - 1 - cell) ≡ cell = omega (arith, inside) in
     listed-more _ _ _ _ _ left new (length p.cells - 1 - cell) cell before now more (omega (arith, inside)) at here is
-    (λ j l. past (length p.cells - 1 - j) (omega (arith, l, inside))) (λ j other l e. other (omega (arith, e, l, inside))) old
+    (λ j l. past (length p.cells - 1 - j) (omega (arith, l, inside))) (λ j other l e. other (omega (arith, e, l, inside))) low old
     (put ∙ ap (λ z. now ++ map (with_cells p) (toward player p z)) (sym at))

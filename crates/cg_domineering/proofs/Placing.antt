@@ -215,10 +215,11 @@ right_marks p word first beside some fit below are column moved =
 
 -- ---- what a bit of the word tells
 
-pub dominoes_begun : (player : Player) (p : Grid) (spots : ℕ) (boards : List Grid) → boards ≡ [] → Marks spots (fits player p)
+pub dominoes_begun : (player : Player) (p : Grid) (spots : ℕ) (boards : List Grid) → boards ≡ [] → spots < 2 ^ 64
+    → Marks spots (fits player p)
     → AreListed (with_cells p) (moves_at player p) (λ k. k) (length p.cells) (λ k. fits player p k ≡ true) spots [] boards
-dominoes_begun player p spots boards none are =
-    listed-none (with_cells p) (moves_at player p) (λ k. k) (length p.cells) (λ k. fits player p k ≡ true) spots [] boards none
+dominoes_begun player p spots boards none low are =
+    listed-none (with_cells p) (moves_at player p) (λ k. k) (length p.cells) (λ k. fits player p k ≡ true) spots [] boards none low
     (marks-test spots (fits player p) are)
     (λ j e. ap (λ b. if b then with_domino player p j ∷ [] else []) (unmarked spots (fits player p) are j e))
 

@@ -1,4 +1,5 @@
 -- The tree of moves and the boards that are reached, also piece by piece, don't depend on the bound that they are defined by.
+use Rattle.std.proofs.lemmas.Bool.Decides.{nat_tests}
 use Rattle.std.proofs.Common.{◌≡◌, ℕ, zero, suc, ◌<◌, true, [], ◌∷◌, ◌++◌, map, ap, sym, ◌∙◌, subst, arith, inl, inr, List}
 use Rattle.cg_form.specs.Game.{node, Game}
 use Rattle.cg_moves.specs.declared.player.Player.{Player}
@@ -16,29 +17,17 @@ use Rattle.cg_moves.specs.PieceReach.{IsListOfPieceReached, all_piece_reached, p
 module _ (r : GameRules) (moves : AreMoves r) where
   -- a board that a move leads to is one of the game, with a lower measure
   pub after-has : (player : Player) (p q : Grid) → r.has p ≡ true → In q (boards_after r player p) → r.has q ≡ true
-  after-has player p q has m =
-      let (cells, k, e) = in-map (with_cells p) q (r.moves player p) m in
-      let P : Grid → Type 0 = λ z. r.has z ≡ true in
-      subst P (sym e) (moves.stays player p cells has k)
+  after-has player p q has m = grind (arith, nat_tests, in-map)
 
   pub after-lowers : (player : Player) (p q : Grid) → r.has p ≡ true → In q (boards_after r player p)
       → r.measure q < r.measure p
-  after-lowers player p q has m =
-      let (cells, k, e) = in-map (with_cells p) q (r.moves player p) m in
-      let P : Grid → Type 0 = λ z. r.measure z < r.measure p in
-      subst P (sym e) (moves.lowers player p cells has k)
+  after-lowers player p q has m = grind (arith, nat_tests, in-map)
 
   pub follower-has : (p q : Grid) → r.has p ≡ true → In q (followers r p) → r.has q ≡ true
-  follower-has p q has m = elim (in-append q (boards_after r Left p) (boards_after r Right p) m) [
-    | inl k ↦ after-has Left p q has k
-    | inr k ↦ after-has Right p q has k
-  ]
+  follower-has p q has m = grind (arith, nat_tests, in-append, after-has)
 
   pub follower-lowers : (p q : Grid) → r.has p ≡ true → In q (followers r p) → r.measure q < r.measure p
-  follower-lowers p q has m = elim (in-append q (boards_after r Left p) (boards_after r Right p) m) [
-    | inl k ↦ after-lowers Left p q has k
-    | inr k ↦ after-lowers Right p q has k
-  ]
+  follower-lowers p q has m = grind (arith, nat_tests, in-append, after-lowers)
 
   -- ---- the tree
 

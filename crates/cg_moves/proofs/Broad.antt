@@ -1,4 +1,5 @@
 -- Boards that are found in breadth.
+use Rattle.std.proofs.lemmas.Bool.Decides.{nat_tests}
 use Rattle.std.proofs.Common.{◌≡◌, ℕ, ◌<◌, true, inl, inr, List, [], ◌∷◌, ◌++◌, length, ap, sym, ◌∙◌, subst, arith}
 use Rattle.std.specs.List.{flat_map}
 use Rattle.std.specs.Prelude.{None, Ok, Option, Result, Some, slice_get}
@@ -63,10 +64,7 @@ module _ (w : Way) where
       found-more new e = record { source = x.source ++ (p ∷ []); is = e ∙ more-kept; among = both-among }
 
       pub found-refused : (limit : ℕ) → limit < length (one_more found p) → limit < length (reached w)
-      found-refused limit many =
-          let a = ap length more-kept in
-          let b = kept-fewer_kept (x.source ++ (p ∷ [])) (flat_map (play w).all w.starts) both-among in
-          omega arith
+      found-refused limit many = grind (arith, nat_tests, more-kept, kept-fewer_kept, both-among)
 
     module _ (lawful : IsPlay (play w)) (h : AreStarts (play w) w.starts) where
       pub found-has : (p : Grid) → In p found → (play w).has p ≡ true

@@ -1,4 +1,5 @@
 -- Numbers in their order.
+use Rattle.std.proofs.lemmas.Bool.Decides.{nat_tests}
 use Rattle.std.proofs.Common.{◌≡◌, ◌≢◌, ◌⊎◌, inl, inr, ℕ, zero, suc, ◌+◌, ◌<◌, ◌≤◌, ◌==◌, [], ◌∷◌, ◌++◌, ap, sym, ◌∙◌, arith, length, refl}
 use Rattle.std.proofs.lemmas.Bool.{eqb-true, eq-eqb}
 use Rattle.std.proofs.Math.Nat.{eq-or-lt_of_le}
@@ -7,10 +8,7 @@ use Rattle.cg_moves.specs.Rising.{counted}
 use Rattle.cg_moves.specs.Rules.{In}
 
 pub same-or-not : (k j : ℕ) → (k ≡ j) ⊎ (k ≢ j)
-same-or-not k j = elim (true-or-not (k == j)) [
-  | inl t ↦ inl (eqb-true k j t)
-  | inr f ↦ inr (λ e. f (eq-eqb k j e))
-]
+same-or-not k j = grind (arith, nat_tests, true-or-not, eqb-true, eq-eqb)
 
 pub in_counted : (i n k : ℕ) → i ≤ k → k < i + n → In k (counted i n)
 in_counted i zero k low high = absurd (omega arith)

@@ -5,7 +5,7 @@ use Rattle.std.specs.Int.{bit_at, trailing_zeros}
 use Rattle.std.specs.Int.Bits.{bit_xor}
 use Rattle.std.specs.Ordering.{nat_cmp}
 use Rattle.std.specs.declared.cmp.Ordering.TheVariants.{Equal as Same}
-use Rattle.std.proofs.lemmas.Bool.Decides.{eqb_tells, leb_tells}
+use Rattle.std.proofs.lemmas.Bool.Decides.{eqb_tells, leb_tells, nat_tests}
 use Rattle.std.proofs.lemmas.List.{ext_get_or, get_or_past}
 use Rattle.std.proofs.lemmas.Nat.Bits.{bit_at-lt, bit_at-trailing_zeros, bit_at-zero, bit_at_or, bit_at_xor}
 use Rattle.cg_moves.specs.declared.planes.Planes.{Planes}
@@ -25,16 +25,7 @@ some_apart a b c d e f g h = max (max ((a + e) % 2) ((b + f) % 2)) (max ((c + g)
 differing-bits : (u v : Planes) (i : ℕ)
     → bit_at (bit_or (bit_or (bit_xor u.a v.a) (bit_xor u.b v.b)) (bit_or (bit_xor u.c v.c) (bit_xor u.d v.d))) i
     ≡ some_apart (bit_at u.a i) (bit_at u.b i) (bit_at u.c i) (bit_at u.d i) (bit_at v.a i) (bit_at v.b i) (bit_at v.c i) (bit_at v.d i)
-differing-bits u v i =
-    let m = bit_or (bit_xor u.a v.a) (bit_xor u.b v.b) in
-    let n = bit_or (bit_xor u.c v.c) (bit_xor u.d v.d) in
-    let a = bit_at_xor u.a v.a i in
-    let b = bit_at_xor u.b v.b i in
-    let c = bit_at_xor u.c v.c i in
-    let d = bit_at_xor u.d v.d i in
-    bit_at_or m n i
-    ∙ ap (λ z. max z (bit_at n i)) (bit_at_or (bit_xor u.a v.a) (bit_xor u.b v.b) i ∙ ap (λ z. max z (bit_at (bit_xor u.b v.b) i)) a ∙ ap (max ((bit_at u.a i + bit_at v.a i) % 2)) b)
-    ∙ ap (max (max ((bit_at u.a i + bit_at v.a i) % 2) ((bit_at u.b i + bit_at v.b i) % 2))) (bit_at_or (bit_xor u.c v.c) (bit_xor u.d v.d) i ∙ ap (λ z. max z (bit_at (bit_xor u.d v.d) i)) c ∙ ap (max ((bit_at u.c i + bit_at v.c i) % 2)) d)
+differing-bits u v i = grind (arith, nat_tests, bit_at_xor, bit_at_or)
 
 all-same : (a b c d e f g h : ℕ) → a ≡ e → b ≡ f → c ≡ g → d ≡ h → some_apart a b c d e f g h ≡ 0
 all-same a b c d e f g h p q r s = omega arith
@@ -85,10 +76,7 @@ module _ (symbols cells others : List ℕ) (u v : Planes) (here : ArePlanes symb
 module _ (cells others : List ℕ) (word : ℕ) (marks : Marks word (λ i. not (slice_index cells i == slice_index others i)))
     (long : length cells ≡ length others) where
   unmarked : (i : ℕ) → bit_at word i ≡ 0 → slice_index cells i ≡ slice_index others i
-  unmarked i e = elim (eqb_tells (slice_index cells i) (slice_index others i)) [
-    | inl h ↦ h.1
-    | inr h ↦ (let one = marks i ∙ ap (λ t. if not t then 1 else 0) h.0 in absurd (omega (arith, e, one)))
-  ]
+  unmarked i e = grind (arith, nat_tests, eqb_tells)
 
   marked : (i : ℕ) → bit_at word i ≡ 1 → slice_index cells i ≢ slice_index others i
   marked i e same = elim (eqb_tells (slice_index cells i) (slice_index others i)) [

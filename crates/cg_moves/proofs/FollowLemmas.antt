@@ -1,4 +1,5 @@
 -- The parts of boards that moves lead to, one board after another.
+use Rattle.std.proofs.lemmas.Bool.Decides.{nat_tests}
 use Rattle.std.proofs.Common.{◌≡◌, refl, ℕ, ◌+◌, ◌-◌, ◌<◌, ◌≤◌, inl, inr, List, [], ◌∷◌, ◌++◌, length, map, reverse, drop, get_or, append_assoc, ap, sym, ◌∙◌, subst, arith}
 use Rattle.std.specs.List.{flat_map}
 use Rattle.std.specs.Prelude.{Err, IsErrAnd, Ok, Result}
@@ -63,10 +64,7 @@ module _ (boards : List Grid) (left : ℕ) (p : Grid) (some : 0 < left) (inside 
   last-in = at-in boards (left - 1) p (board-read boards (left - 1) p (omega (arith, some, inside)) is)
 
   one-more : drop (left - 1) boards ≡ p ∷ drop left boards
-  one-more =
-      let e : left - 1 + 1 ≡ left = omega (arith, some) in
-      drop_more boards (left - 1) p (omega (arith, some, inside)) ∙ ap (λ z. z ∷ drop (left - 1 + 1) boards) (sym is)
-      ∙ ap (λ z. p ∷ drop z boards) e
+  one-more = grind (arith, nat_tests, drop_more)
 
   pub one-counted : (f : Grid → ℕ) (start now after : List ℕ) → now ≡ start ++ map f (reverse (drop left boards))
       → after ≡ now ++ (f p ∷ []) → after ≡ start ++ map f (reverse (drop (left - 1) boards))

@@ -4,7 +4,7 @@ use Rattle.std.specs.Prelude.{nat_le, slice_index, slice_set, Contains}
 use Rattle.std.specs.List.{list_all}
 use Rattle.std.proofs.lemmas.Bool.{leb-true}
 use Rattle.std.proofs.lemmas.List.{length-set}
-use Rattle.std.proofs.lemmas.Bool.Decides.{eqb_tells}
+use Rattle.std.proofs.lemmas.Bool.Decides.{eqb_tells, nat_tests}
 use Rattle.cg_moves.specs.Grid.{AreCells, Grid, IsGrid, all_distinct, are_symbols, is_symbol, with_cells}
 use Rattle.cg_moves.proofs.Same.{and-true}
 
@@ -35,10 +35,7 @@ set-grid p i s is g =
     }
 
 pub few-symbols : (symbols : List ℕ) → are_symbols symbols ≡ true → length symbols ≤ 16
-few-symbols symbols e =
-    let a = and-true (nat_le 1 (length symbols) && nat_le (length symbols) 16 && list_all is_symbol symbols) (all_distinct symbols) e in
-    let b = and-true (nat_le 1 (length symbols) && nat_le (length symbols) 16) (list_all is_symbol symbols) a.0 in
-    leb-true (length symbols) 16 (and-true (nat_le 1 (length symbols)) (nat_le (length symbols) 16) b.0).1
+few-symbols symbols e = grind (arith, nat_tests, and-true, leb-true)
 
 -- each symbol is a printable byte
 pub symbol-above : (symbols : List ℕ) (k : ℕ) → are_symbols symbols ≡ true → k < length symbols → 32 ≤ slice_index symbols k

@@ -1,4 +1,5 @@
 -- Where a text is refused as too large, the place is that of the 65th cell.
+use Rattle.std.proofs.lemmas.Bool.Decides.{nat_tests}
 use Rattle.std.proofs.Common.{◌≡◌, refl, ℕ, zero, suc, ◌+◌, ◌*◌, ◌/◌, ◌%◌, ◌<◌, ◌≤◌, ◌==◌, ◌||◌, Bool, true, false, not, nat_lt, if◌then◌else◌, Option, Some, None, Result, Ok, Err, List, [], ◌∷◌, ◌++◌, length, ap, sym, ◌∙◌, arith, append-nil}
 use Rattle.std.specs.Prelude.{position, slice_get}
 use Rattle.std.proofs.Math.Nat.{mod-lt, mul-le-mul_left}
@@ -45,13 +46,7 @@ places-front place c (row ∷ rows) =
 cut-places : (place : ℕ) (text : List ℕ) → cell_places false place text ≡ row_places place (cut text)
 unfolding row_places
 cut-places place [] = refl
-cut-places place (c ∷ cs) = go (c == bar) (cut-places (suc place) cs)
-  where
-    go : (b : Bool) → cell_places false (suc place) cs ≡ row_places (suc place) (cut cs)
-        → (if false || not b then place ∷ cell_places false (suc place) cs else cell_places false (suc place) cs)
-        ≡ row_places place (if b then [] ∷ cut cs else in_front c (cut cs))
-    go true h = let e : suc place ≡ place + 0 + 1 = omega arith in h ∙ ap (λ z. row_places z (cut cs)) e
-    go false h = ap (λ z. place ∷ z) h ∙ sym (places-front place c (cut cs))
+cut-places place (c ∷ cs) = grind (arith, nat_tests, row_places, places-front, cut-places (suc place) cs)
 
 row-places : (place : ℕ) (text : List ℕ) → cell_places true place text ≡ counted place (length text)
 row-places place [] = refl

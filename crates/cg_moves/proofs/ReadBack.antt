@@ -77,11 +77,7 @@ rows-cells (suc rows) columns cells e =
 
 -- one more row
 drop-rows : (n columns : ℕ) (cells : List ℕ) → drop (n * columns) (drop columns cells) ≡ drop (suc n * columns) cells
-drop-rows n columns cells =
-    drop-drop (n * columns) columns cells ∙ ap (λ k. drop k cells) (m_is n columns)
-  where
-    m_is : (n columns : ℕ) → columns + n * columns ≡ suc n * columns
-    m_is n columns = omega arith
+drop-rows n columns cells = grind (arith, nat_tests, drop-drop)
 
 behind-next : (n columns : ℕ) (cells : List ℕ)
     → behind_bars (in_rows (suc n) columns cells) ≡ behind_bars (in_rows n columns cells) ++ (bar ∷ take columns (drop (n * columns) cells))
@@ -156,17 +152,10 @@ symbol-is (s ∷ symbols) all c (suc k, l, e) =
 
 -- a symbol is ASCII, and no bar
 pub symbol-ascii : (c : ℕ) → is_symbol c ≡ true → c < 128
-symbol-ascii c e =
-    let a = and-true (nat_le 32 c && nat_le c 126) (not (c == bar)) e in
-    let b = leb-true c 126 (and-true (nat_le 32 c) (nat_le c 126) a.0).1 in
-    omega (arith, b)
+symbol-ascii c e = grind (arith, nat_tests, and-true, leb-true)
 
 symbol-no_bar : (c : ℕ) → is_symbol c ≡ true → c ≡ bar → ⊥
-symbol-no_bar c e f = clash (c == bar) (eq-eqb c bar f) (and-true (nat_le 32 c && nat_le c 126) (not (c == bar)) e).1
-  where
-    clash : (b : Bool) → b ≡ true → not b ≡ true → ⊥
-    clash true x y = cc
-    clash false x y = cc
+symbol-no_bar c e f = grind (arith, nat_tests, eq-eqb, and-true)
 
 module _ (p : Grid) (g : IsGrid p) where
   grid-symbols : list_all is_symbol p.symbols ≡ true
@@ -229,70 +218,28 @@ read-rows : (symbols : List ℕ) (one_row : Bool) (text : List ℕ) (rows : List
     → rows_of one_row text ≡ rows → position (is_foreign one_row symbols) text ≡ None → length (first_row rows) ≡ columns
     → 1 ≤ columns → ((row : List ℕ) → In row rows → length row ≡ columns) → length (cells_of rows) ≤ 64
     → read_of symbols one_row text ≡ Ok (grid_of symbols columns rows)
-read-rows symbols one_row text rows columns are none first some long few =
-    let some_columns : (columns == 0) ≡ false = is_some columns some in
-    let not_large : nat_lt 64 (length (cells_of rows)) ≡ false = not-less 64 (length (cells_of rows)) few in
-    ap (λ o. refused_at Symbol (next_place o) (later_refusals symbols (length (first_row (rows_of one_row text))) (rows_of one_row text))) none
-    ∙ ap (λ z. later_refusals symbols (length (first_row z)) z) are
-    ∙ ap (λ k. later_refusals symbols k rows) first
-    ∙ ap (λ b. refused_at Empty (if b then Some 1 else None) (refused_at Ragged (ragged columns 1 rows) (last_refusal symbols columns rows))) some_columns
-    ∙ ap (λ o. refused_at Ragged o (last_refusal symbols columns rows)) (ragged-none columns 1 rows long)
-    ∙ ap (λ b. refused_at Large (if b then Some (65 + 64 / columns) else None) (Ok (grid_of symbols columns rows))) not_large
-  where
-    is_some : (n : ℕ) → 1 ≤ n → (n == 0) ≡ false
-    is_some n h = elim (eqb_tells n 0) [
-      | inl p ↦ absurd (omega (arith, p.1, h))
-      | inr p ↦ p.0
-    ]
+read-rows symbols one_row text rows columns are none first some long few = grind (arith, nat_tests, not-less, ragged-none, eqb_tells)
 
 module _ (p : Grid) (g : IsGrid p) where
   some-columns : 1 ≤ p.columns
-  some-columns = by p.columns (g.size) (g.some)
-    where
-      by : (n : ℕ) → length p.cells ≡ p.rows * n → 1 ≤ length p.cells → 1 ≤ n
-      by zero e some = absurd (omega (arith, e, some))
-      by (suc n) e some = omega arith
+  some-columns = grind (arith, nat_tests)
 
   pub some-rows : 1 ≤ p.rows
-  some-rows = by p.rows (g.size) (g.some)
-    where
-      by : (n : ℕ) → length p.cells ≡ n * p.columns → 1 ≤ length p.cells → 1 ≤ n
-      by zero e some = absurd (omega (arith, e, some))
-      by (suc n) e some = omega arith
+  some-rows = grind (arith, nat_tests)
 
   no-bars : (row : List ℕ) → In row (in_rows p.rows p.columns p.cells) → HasNoBar row
   no-bars row m c k = symbol-no_bar c (cell-is p g c (carry c (cells_of (in_rows p.rows p.columns p.cells)) p.cells
       (rows-cells p.rows p.columns p.cells g.size) (in-cells_of row (in_rows p.rows p.columns p.cells) c m k)))
 
   known : (one_row : Bool) (c : ℕ) → ((one_row ≡ false) × (c ≡ bar)) ⊎ In c p.cells → is_foreign one_row p.symbols c ≡ false
-  known one_row c (inl h) = turned (list_any (λ s. s == c) p.symbols || (not one_row && (c == bar)))
-      (or-second (list_any (λ s. s == c) p.symbols) (not one_row && (c == bar))
-      (both-true (not one_row) (c == bar) (not-false one_row h.0) (eq-eqb c bar h.1)))
-    where
-      turned : (b : Bool) → b ≡ true → not b ≡ false
-      turned true e = refl
-      turned false e = cc
-  known one_row c (inr m) = turned (list_any (λ s. s == c) p.symbols || (not one_row && (c == bar)))
-      (or-first (list_any (λ s. s == c) p.symbols) (not one_row && (c == bar)) (cell-any p g c m))
-    where
-      turned : (b : Bool) → b ≡ true → not b ≡ false
-      turned true e = refl
-      turned false e = cc
+  known one_row c (inl h) = grind (arith, nat_tests, or-second, both-true, not-false, eq-eqb)
+  known one_row c (inr m) = grind (arith, nat_tests, or-first, cell-any)
 
   rows-text : cut (text_of p) ≡ in_rows p.rows p.columns p.cells
-  rows-text = go p.rows no-bars g.size
-    where
-      go : (rows : ℕ) → ((row : List ℕ) → In row (in_rows rows p.columns p.cells) → HasNoBar row)
-          → length p.cells ≡ rows * p.columns → cut (joined (in_rows rows p.columns p.cells)) ≡ in_rows rows p.columns p.cells
-      go zero none e = absurd (omega (arith, e, g.some))
-      go (suc rows) none e = cut-joined (take p.columns p.cells) (in_rows rows p.columns (drop p.columns p.cells)) none
+  rows-text = grind (arith, nat_tests, no-bars, cut-joined)
 
   first-columns : length (first_row (in_rows p.rows p.columns p.cells)) ≡ p.columns
-  first-columns = go p.rows g.size
-    where
-      go : (rows : ℕ) → length p.cells ≡ rows * p.columns → length (first_row (in_rows rows p.columns p.cells)) ≡ p.columns
-      go zero e = absurd (omega (arith, e, g.some))
-      go (suc rows) e = first-long rows p.columns p.cells e
+  first-columns = grind (arith, nat_tests, first-long)
 
   pub text-reads_back : ReadsBack p false (text_of p)
   text-reads_back =

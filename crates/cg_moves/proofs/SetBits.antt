@@ -1,8 +1,8 @@
 -- Going over the places at which a word has a 1, one after another: each is cleared, and what belongs to it is listed.
-use Rattle.std.proofs.Common.{◌≡◌, ◌≢◌, refl, ℕ, zero, suc, ◌+◌, ◌<◌, ◌≤◌, ◌==◌, inl, inr, if◌then◌else◌, List, [], ◌∷◌, ◌++◌, append-nil, append_assoc, map, ap, sym, subst, ◌∙◌, arith, bit_or}
+use Rattle.std.proofs.Common.{◌≡◌, ◌≢◌, refl, ℕ, zero, suc, ◌+◌, ◌<◌, ◌≤◌, ◌==◌, inl, inr, if◌then◌else◌, List, [], ◌∷◌, ◌++◌, append-nil, append_assoc, map, ap, sym, subst, ◌∙◌, arith, bit_or, ◌^◌}
 use Rattle.std.specs.Int.{bit_at}
 use Rattle.std.specs.List.{flat_map}
-use Rattle.std.proofs.lemmas.Bool.Decides.{eqb_tells}
+use Rattle.std.proofs.lemmas.Bool.Decides.{eqb_tells, nat_tests}
 use Rattle.std.proofs.lemmas.List.{map-append}
 use Rattle.std.proofs.lemmas.Nat.{le_or_l}
 use Rattle.std.proofs.lemmas.Nat.Bits.{bit_at-lt, bit_at-zero, bit_at_or, same_from_bits}
@@ -29,22 +29,13 @@ within-le a b w = subst (λ (z : ℕ). a ≤ z) (same_from_bits (bit_or a b) b b
 
 module _ (left new place : ℕ) (is : IsWithBit left new place 0) where
   cleared-here : bit_at new place ≡ 0
-  cleared-here = elim (eqb_tells place place) [
-    | inl h ↦ is place ∙ ap (λ b. if b then 0 else bit_at left place) h.0
-    | inr h ↦ absurd (h.1 refl)
-  ]
+  cleared-here = grind (arith, nat_tests, eqb_tells)
 
   cleared-other : (i : ℕ) → i ≢ place → bit_at new i ≡ bit_at left i
-  cleared-other i other = elim (eqb_tells i place) [
-    | inl h ↦ absurd (other h.1)
-    | inr h ↦ is i ∙ ap (λ b. if b then 0 else bit_at left i) h.0
-  ]
+  cleared-other i other = grind (arith, nat_tests, eqb_tells)
 
   cleared-kept : (i : ℕ) → bit_at new i ≡ 1 → bit_at left i ≡ 1
-  cleared-kept i t = elim (same-or-not i place) [
-    | inl e ↦ (let none = ap (bit_at new) e ∙ cleared-here in absurd (omega (arith, none, t)))
-    | inr other ↦ sym (cleared-other i other) ∙ t
-  ]
+  cleared-kept i t = grind (arith, nat_tests, same-or-not, cleared-here, cleared-other)
 
   pub cleared-less : bit_at left place ≡ 1 → new < left
   cleared-less one =
@@ -65,13 +56,15 @@ module _ {X Y : Type 0} (f : Y → X) (h : ℕ → List Y) (place : ℕ → ℕ)
 
   -- those of the places that are left are still to be listed behind these, and then all are; and so it is with each place left
   pub record AreListed (left : ℕ) (before now : List X) : Type 0 where
+    pub fits : left < 2 ^ 64
     pub within : (i : ℕ) → bit_at left i ≡ 1 → Has i
     pub listed : now ++ map f (flat_map (at_bits left) (counted 0 n)) ≡ before ++ map f (flat_map h (counted 0 n))
 
   -- nothing belongs to the other places
-  pub listed-none : (left : ℕ) (before now : List X) → now ≡ before → ((i : ℕ) → bit_at left i ≡ 1 → Has i)
+  pub listed-none : (left : ℕ) (before now : List X) → now ≡ before → left < 2 ^ 64 → ((i : ℕ) → bit_at left i ≡ 1 → Has i)
       → ((j : ℕ) → bit_at left (place j) ≡ 0 → h j ≡ []) → AreListed left before now
-  listed-none left before now same each none = record {
+  listed-none left before now same low each none = record {
+    fits = low;
     within = each;
     listed = ap (λ z. z ++ map f (flat_map (at_bits left) (counted 0 n))) same
         ∙ ap (λ z. before ++ map f z) (flat_map-agree (at_bits left) h (counted 0 n)
@@ -107,9 +100,10 @@ module _ {X Y : Type 0} (f : Y → X) (h : ℕ → List Y) (place : ℕ → ℕ)
 
   pub listed-more : (left new k cell : ℕ) (before now more : List X) → k < n → place k ≡ cell → bit_at left cell ≡ 1
       → IsWithBit left new cell 0 → ((j : ℕ) → j < k → bit_at left (place j) ≡ 0)
-      → ((j : ℕ) → j ≢ k → j < n → place j ≢ cell) → AreListed left before now → more ≡ now ++ map f (h k)
-      → AreListed new before more
-  listed-more left new k cell before now more inside at here is none apart old put = record {
+      → ((j : ℕ) → j ≢ k → j < n → place j ≢ cell) → new < 2 ^ 64 → AreListed left before now
+      → more ≡ now ++ map f (h k) → AreListed new before more
+  listed-more left new k cell before now more inside at here is none apart low old put = record {
+    fits = low;
     within = λ i t. old.within i (cleared-kept left new cell is i t);
     listed = ap (λ z. z ++ map f (flat_map (at_bits new) (counted 0 n))) put
         ∙ append_assoc now (map f (h k)) (map f (flat_map (at_bits new) (counted 0 n)))

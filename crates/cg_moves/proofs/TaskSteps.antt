@@ -1,4 +1,5 @@
 -- What tasks do, where a board may be entered by its place.
+use Rattle.std.proofs.lemmas.Bool.Decides.{nat_tests}
 use Rattle.std.proofs.Common.{◌≡◌, refl, ℕ, ◌+◌, ◌*◌, ◌<◌, ◌≤◌, true, inl, inr, List, [], ◌∷◌, ◌++◌, length, length-append, append_assoc, ap, sym, ◌∙◌, subst, arith}
 use Rattle.std.specs.List.{flat_map}
 use Rattle.std.proofs.lemmas.List.{append-nil}
@@ -62,11 +63,7 @@ module _ (found : List Grid) where
       (x ++ y, g ∙ ap (λ z. z ++ y) e ∙ append_assoc a x y, told-append x y us vs h k)
 
   one-enters : (q : Grid) (t : Task) (v : Visit) → Enter q ≡ t → IsTold found t v → Enters q ≡ v
-  one-enters q t v e h = go v (subst (λ (z : Task). IsTold found z v) (sym e) h)
-    where
-      go : (v : Visit) → IsTold found (Enter q) v → Enters q ≡ v
-      go (Enters p) h = ap Enters h
-      go (Leaves e) h = absurd h
+  one-enters q t v e h = grind (arith, nat_tests)
 
   pub enters-in : (ts : List Task) (vs : List Visit) (q : Grid) → AreTold found ts vs → In (Enter q) ts → In (Enters q) vs
   enters-in [] vs q h m = absurd m

@@ -3,7 +3,7 @@ use Rattle.std.proofs.Common.{◌≡◌, refl, ℕ, zero, suc, ◌+◌, ◌-◌,
 use Rattle.std.specs.List.{list_any, position_or_len}
 use Rattle.std.specs.Prelude.{Contains, nat_lt, position, slice_index}
 use Rattle.std.proofs.Math.Nat.{mul-le-mul_left}
-use Rattle.std.proofs.lemmas.Bool.Decides.{eqb_tells, leb_tells}
+use Rattle.std.proofs.lemmas.Bool.Decides.{eqb_tells, leb_tells, nat_tests}
 use Rattle.std.proofs.lemmas.List.{append-nil, length-take-le}
 use Rattle.cg_moves.specs.Texts.{bar, cells_of, cut, first_row, in_front, is_foreign, ragged, rows_of}
 use Rattle.cg_moves.specs.Grid.{AreCells}
@@ -15,16 +15,10 @@ use Rattle.std.proofs.lemmas.Nat.{div-mul-add}
 
 -- a text is cut at a bar
 pub cut-bar : (c : ℕ) (cs : List ℕ) → c ≡ bar → cut (c ∷ cs) ≡ [] ∷ cut cs
-cut-bar c cs e = elim (eqb_tells c bar) [
-  | inl p ↦ ap (λ b. if b then [] ∷ cut cs else in_front c (cut cs)) p.0
-  | inr p ↦ absurd (p.1 e)
-]
+cut-bar c cs e = grind (arith, nat_tests, eqb_tells)
 
 pub cut-front : (c : ℕ) (cs : List ℕ) → (c ≡ bar → ⊥) → cut (c ∷ cs) ≡ in_front c (cut cs)
-cut-front c cs n = elim (eqb_tells c bar) [
-  | inl p ↦ absurd (n p.1)
-  | inr p ↦ ap (λ b. if b then [] ∷ cut cs else in_front c (cut cs)) p.0
-]
+cut-front c cs n = grind (arith, nat_tests, eqb_tells)
 
 abbrev pub rows_behind : List (List ℕ) → List (List ℕ)
 rows_behind [] = []
@@ -40,10 +34,7 @@ front-rows c (row ∷ rows) h = refl
 
 pub some-row : (text : List ℕ) → 1 ≤ length (cut text)
 some-row [] = omega arith
-some-row (c ∷ cs) = elim (eqb_tells c bar) [
-  | inl p ↦ (let e = ap length (cut-bar c cs p.1) in omega arith)
-  | inr p ↦ (let e = ap length (cut-front c cs p.1) in let h = some-row cs in let f = front-rows c (cut cs) h in omega arith)
-]
+some-row (c ∷ cs) = grind (arith, nat_tests, eqb_tells, cut-bar, cut-front, front-rows, some-row cs)
 
 pub drop-read : (xs : List ℕ) (i : ℕ) → i < length xs → drop i xs ≡ get_or xs i 0 ∷ drop (suc i) xs
 drop-read [] i l = absurd (omega arith)
@@ -67,10 +58,7 @@ module _ (text : List ℕ) (i c : ℕ) (within : i < length text) (read : c ≡ 
       → all ≡ more ++ cells_of (rows_of one_row (drop (i + 1) text))
   cell-put true all cells more e f which = e ∙ ap (λ z. cells ++ (z ++ [])) (drop-next text i c within read)
       ∙ sym (append_assoc cells (c ∷ []) (drop (i + 1) text ++ [])) ∙ ap (λ z. z ++ (drop (i + 1) text ++ [])) (sym f)
-  cell-put false all cells more e f (inl no_row) = absurd (no_bool no_row)
-    where
-      no_bool : false ≡ true → ⊥
-      no_bool h = cc
+  cell-put false all cells more e f (inl no_row) = grind (arith, nat_tests)
   cell-put false all cells more e f (inr n) = e ∙ ap (λ z. cells ++ z) (cells-more n)
       ∙ sym (append_assoc cells (c ∷ []) (cells_of (cut (drop (i + 1) text))))
       ∙ ap (λ z. z ++ cells_of (cut (drop (i + 1) text))) (sym f)
@@ -79,10 +67,7 @@ module _ (text : List ℕ) (i c : ℕ) (within : i < length text) (read : c ≡ 
 
 pub which_cell : (one_row : Bool) (c : ℕ) → (one_row || not (c == bar)) ≡ true → (one_row ≡ true) ⊎ (c ≡ bar → ⊥)
 which_cell true c e = inl refl
-which_cell false c e = elim (eqb_tells c bar) [
-  | inl p ↦ (let f : (false || not (c == bar)) ≡ false = ap (λ b. false || not b) p.0 in absurd cc)
-  | inr p ↦ inr p.1
-]
+which_cell false c e = grind (arith, nat_tests, eqb_tells)
 
 -- there is room where a cell more is among few
 pub room : (all cells rest : List ℕ) (n c : ℕ) → length all ≤ 64 → n ≤ length cells
@@ -227,13 +212,7 @@ in-read (d ∷ cells) c (inl e) = (0, omega arith, sym e)
 in-read (d ∷ cells) c (inr m) = let (k, l, e) = in-read cells c m in (suc k, omega (arith, l), e)
 
 none-foreign : (p : ℕ → Bool) (xs : List ℕ) → position p xs ≡ None → (c : ℕ) → In c xs → p c ≡ false
-none-foreign p xs e c m =
-    let (k, l, f) = in-read xs c m in
-    ap p (sym f) ∙ fails_before_first p xs k 0 (elim (leb_tells (length xs) (position_or_len p xs)) [
-      | inl h ↦ omega (arith, h.1, l)
-      | inr h ↦ (let g : Some (position_or_len p xs) ≡ None = sym (ap (λ b. cond b (Some (position_or_len p xs)) None)
-          (lt-ltb (position_or_len p xs) (length xs) h.1)) ∙ e in absurd cc)
-    ])
+none-foreign p xs e c m = grind (arith, nat_tests, in-read, fails_before_first, leb_tells, lt-ltb)
 
 pub cells-symbols : (one_row : Bool) (symbols text cells : List ℕ) → cells ≡ cells_of (rows_of one_row text)
     → position (is_foreign one_row symbols) text ≡ None → AreCells symbols cells

@@ -11,10 +11,7 @@ use Rattle.cg_moves.specs.Words.{IsWithBit, Marks}
 -- what a word is with a bit, where it has that bit at the place and its own elsewhere
 with_bit : (word new place bit i : ℕ) → bit_at new place ≡ bit → (i ≢ place → bit_at new i ≡ bit_at word i)
     → bit_at new i ≡ (if i == place then bit else bit_at word i)
-with_bit word new place bit i here others = elim (eqb_tells i place) [
-  | inl h ↦ ap (bit_at new) h.1 ∙ here ∙ ap (λ b. if b then bit else bit_at word i) (sym h.0)
-  | inr h ↦ others h.1 ∙ ap (λ b. if b then bit else bit_at word i) (sym h.0)
-]
+with_bit word new place bit i here others = grind (arith, nat_tests, eqb_tells)
 
 -- the word `word & !(1 << place)`
 abbrev pub cleared : ℕ → ℕ → ℕ
@@ -167,23 +164,4 @@ four_alike a b c d p q r s la lb lc ld lp lq lr ls = grind (arith, nat_tests)
 
 -- the next place isn't in the first column where this one isn't in the last
 pub row_end : (columns i : ℕ) → 1 ≤ columns → ((i + 1) % columns == 0) ≡ not (nat_lt (i % columns + 1) columns)
-row_end columns i some =
-    let step : (i + 1) % columns ≡ (i % columns + 1) % columns = (let a : i + 1 ≡ suc i = omega arith in
-    let b : suc (i % columns) ≡ i % columns + 1 = omega arith in
-    ap (λ z. z % columns) a ∙ suc-mod i columns ∙ ap (λ z. z % columns) b) in
-    elim (leb_tells (suc (i % columns + 1)) columns) [
-      | inl h ↦ (let below : i % columns + 1 < columns = omega (arith, h.1) in
-          let stays : (i % columns + 1) % columns ≡ i % columns + 1 = mod-eq_of_lt below in
-          let other : (i + 1) % columns ≢ 0 = (let e = step ∙ stays in omega arith) in
-          not_zero ((i + 1) % columns) other ∙ sym (ap not h.0))
-      | inr h ↦ (let low = mod-lt i (positive columns some) in
-          let last : i % columns + 1 ≡ columns = omega (arith, h.1, low) in
-          let first : (i + 1) % columns ≡ 0 = step ∙ ap (λ z. z % columns) last ∙ mod_self columns in
-          eq-eqb ((i + 1) % columns) 0 first ∙ sym (ap not h.0))
-    ]
-  where
-    positive : (n : ℕ) → 1 ≤ n → 0 < n
-    positive n h = omega arith
-
-    not_zero : (n : ℕ) → n ≢ 0 → (n == 0) ≡ false
-    not_zero n h = elim (eqb_tells n 0) [ inl e ↦ absurd (h e.1) | inr e ↦ e.0 ]
+row_end columns i some = grind (arith, nat_tests, suc-mod, leb_tells, mod-eq_of_lt, mod-lt, mod_self, eq-eqb, eqb_tells)

@@ -5,24 +5,28 @@ use Rattle.cg_clobber.proofs.Going.{toward_begun, toward_more}
 use Rattle.cg_clobber.proofs.stones.put_all_toward.Goals as goal
 
 pub loop-left-init : goal.loop-left-init
-loop-left-init c = toward_begun c.args.player c.args.board.now c.args.words.now c.requires.words c.args.boards.now.items
+loop-left-init c = toward_begun c.args.player c.args.board.now c.args.words.now c.requires.words c.args.boards.now.items (omega (arith, c.well_formed))
+
+pub with_bit-left-requires-clause-place : goal.with_bit-left-requires-clause-place
+with_bit-left-requires-clause-place c = omega arith
 
 pub put_toward-requires-clause-cell : goal.put_toward-requires-clause-cell
 put_toward-requires-clause-cell c =
-    let here = last-one c.loop-left.left (omega (arith, c.loop-left-test.true)) (omega (arith, c.loop-left.auto.left-fits)) in
+    let here = last-one c.loop-left.left (omega (arith, c.loop-left-test.true)) c.loop-left.invariant.fits in
     c.loop-left.invariant.within _ here
 
 pub loop-left-smaller : goal.loop-left-smaller
 loop-left-smaller c =
-    let here = last-one c.loop-left.left (omega (arith, c.loop-left-test.true)) (omega (arith, c.loop-left.auto.left-fits)) in
+    let here = last-one c.loop-left.left (omega (arith, c.loop-left-test.true)) c.loop-left.invariant.fits in
     cleared-less c.loop-left.left _ _ c.with_bit-left.ensures here
 
 pub loop-left-preserved : goal.loop-left-preserved
 loop-left-preserved c =
-    let here = last-one c.loop-left.left (omega (arith, c.loop-left-test.true)) (omega (arith, c.loop-left.auto.left-fits)) in
-    let past = last-past c.loop-left.left (omega (arith, c.loop-left-test.true)) (omega (arith, c.loop-left.auto.left-fits)) in
+    let here = last-one c.loop-left.left (omega (arith, c.loop-left-test.true)) c.loop-left.invariant.fits in
+    let past = last-past c.loop-left.left (omega (arith, c.loop-left-test.true)) c.loop-left.invariant.fits in
     toward_more c.args.player c.args.board.now c.loop-left.left c.with_bit-left.result _ c.args.boards.now.items
-    c.loop-left.boards.items c.put_toward.new.boards.items here c.with_bit-left.ensures past c.loop-left.invariant
+    c.loop-left.boards.items c.put_toward.new.boards.items here c.with_bit-left.ensures past (omega (arith, c.with_bit-left.type_inv))
+    c.loop-left.invariant
     c.in_ok-put_toward.ensures
 
 pub returns : goal.returns
