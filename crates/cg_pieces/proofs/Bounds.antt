@@ -1,4 +1,5 @@
 -- The rows and columns that bound a set of cells.
+use Rattle.std.proofs.lemmas.Bool.Decides.{nat_tests}
 use Rattle.std.proofs.Common.{◌≡◌, refl, ℕ, suc, ◌+◌, ◌-◌, ◌/◌, ◌<◌, ◌≤◌, inl, inr, Bool, true, false, cond, nat_le, if◌then◌else◌, List, [], ◌∷◌, filter, length, map, ap, sym, ◌∙◌, subst, arith, mul_comm}
 use Rattle.std.proofs.Math.Nat.{mod-eq_of_lt, mul-add-mod_self_left}
 use Rattle.std.proofs.lemmas.Bool.{le-leb, leb-true}
@@ -82,17 +83,11 @@ module _ (R : ℕ → ℕ → Type 0) (own : (x : ℕ) → R x x) (along : (x y 
 
 least-is : (x : ℕ) (xs : List ℕ) → IsEnd (λ a b. a ≤ b) (least_of (x ∷ xs)) (x ∷ xs)
 least-is x [] = end-one (λ a b. a ≤ b) (λ a. omega arith) (λ a b c l m. omega (arith, l, m)) x
-least-is x (y ∷ ys) =
-    let m : ℕ = least_of (y ∷ ys) in
-    end-more (λ a b. a ≤ b) (λ a. omega arith) (λ a b c l m. omega (arith, l, m)) (nat_le x m) x m (y ∷ ys) (least-is y ys)
-    (leb-true x m) (λ f. let l = not_le-test x m f in omega (arith, l))
+least-is x (y ∷ ys) = grind (arith, nat_tests, end-more, leb-true, not_le-test, least-is y ys)
 
 greatest-is : (x : ℕ) (xs : List ℕ) → IsEnd (λ a b. b ≤ a) (greatest_of (x ∷ xs)) (x ∷ xs)
 greatest-is x [] = end-one (λ a b. b ≤ a) (λ a. omega arith) (λ a b c l m. omega (arith, l, m)) x
-greatest-is x (y ∷ ys) =
-    let m : ℕ = greatest_of (y ∷ ys) in
-    end-more (λ a b. b ≤ a) (λ a. omega arith) (λ a b c l m. omega (arith, l, m)) (nat_le m x) x m (y ∷ ys) (greatest-is y ys)
-    (leb-true m x) (λ f. let l = not_le-test m x f in omega (arith, l))
+greatest-is x (y ∷ ys) = grind (arith, nat_tests, end-more, leb-true, not_le-test, greatest-is y ys)
 
 -- ---- the box of a set
 

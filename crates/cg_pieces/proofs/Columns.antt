@@ -4,7 +4,7 @@ use Rattle.std.specs.Int.{bit_at}
 use Rattle.std.specs.Int.Count.{count_trailing_zeros}
 use Rattle.std.proofs.Math.Nat.{mod-lt}
 use Rattle.std.proofs.lemmas.Bool.{eq-eqb, eqb-true, lt-ltb}
-use Rattle.std.proofs.lemmas.Bool.Decides.{leb_tells}
+use Rattle.std.proofs.lemmas.Bool.Decides.{leb_tells, nat_tests}
 use Rattle.std.proofs.lemmas.Nat.{and_le_l}
 use Rattle.std.proofs.lemmas.Nat.Bits.{bit_at-zero}
 use Rattle.cg_dyadic.proofs.Truth.{and-both, and-split}
@@ -126,10 +126,7 @@ module _ (p : Grid) (grid : IsGrid p) (set : ℕ) (some : IsSet p set) where
       }
 
   whole : column_of p.columns (length p.cells) ≡ 0
-  whole =
-      let s = grid.size in
-      let e : length p.cells ≡ cell_at p.columns p.rows 0 = omega (arith, s) in
-      ap (column_of p.columns) e ∙ column-cell p.columns p.rows 0 (wide-grid p grid)
+  whole = grind (arith, nat_tests, column-cell, wide-grid)
 
   pub right-later : (right word : ℕ) → IsReached p set (λ edge column. column ≤ edge) right word → bit_and set word ≡ 0 → 1 ≤ right
   right-later right word old none =

@@ -3,7 +3,7 @@ use Rattle.std.proofs.Common.{◌≡◌, refl, ℕ, ◌*◌, ◌<◌, ◌≤◌,
 use Rattle.std.specs.Prelude.{Contains}
 use Rattle.std.specs.Int.{bit_at}
 use Rattle.std.proofs.lemmas.Bool.{le-ltb, lt-ltb}
-use Rattle.std.proofs.lemmas.Bool.Decides.{leb_tells, eqb_tells}
+use Rattle.std.proofs.lemmas.Bool.Decides.{leb_tells, eqb_tells, nat_tests}
 use Rattle.cg_dyadic.proofs.Truth.{false-from, true-or-not}
 use Rattle.cg_moves.specs.declared.planes.Planes.{Planes}
 use Rattle.cg_moves.specs.Grid.{Grid, IsGrid}
@@ -23,18 +23,7 @@ use Rattle.std.proofs.lemmas.Nat.Bits.{bit_at-lt, bit_at_and, bit_at_not, bit_at
 use Rattle.cg_pieces.proofs.GrowingSets.{other_bits}
 
 pub shown-off : (word set bit k : ℕ) → bit ≡ 0 → bit_at (bit_and word set) k ≡ (if in_word set k then bit_at word k else bit)
-shown-off word set bit k off =
-    let h = bit_at_and word set k in
-    let x = bit_at-lt word k in
-    let y = bit_at-lt set k in
-    elim (eqb_tells (bit_at set k) 1) [
-      | inl e ↦ let one = e.1 in
-          let is : bit_at (bit_and word set) k ≡ bit_at word k = omega (arith, h, x, one) in
-          is ∙ ap (λ b. if b then bit_at word k else bit) (sym e.0)
-      | inr e ↦ let other = e.1 in
-          let is : bit_at (bit_and word set) k ≡ bit = omega (arith, h, x, y, other, off) in
-          is ∙ ap (λ b. if b then bit_at word k else bit) (sym e.0)
-    ]
+shown-off word set bit k off = grind (arith, nat_tests, bit_at_and, bit_at-lt, eqb_tells)
 
 pub shown-on : (word set bit k : ℕ) → bit ≡ 1 → set < 2 ^ 64 → k < 64
     → bit_at (bit_or word (other_bits set)) k ≡ (if in_word set k then bit_at word k else bit)

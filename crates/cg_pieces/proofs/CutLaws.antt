@@ -13,7 +13,7 @@ use Rattle.cg_pieces.specs.Cells.Linked.{here}
 use Rattle.cg_pieces.proofs.OneMove.{pieces-after}
 use Rattle.cg_pieces.proofs.Sets.{first-placed, joined-sym, joined-trans, legal-joined, open-along, placed-first, placed-piece}
 use Rattle.std.proofs.lemmas.List.{map-append}
-use Rattle.std.proofs.lemmas.Bool.Decides.{leb_tells}
+use Rattle.std.proofs.lemmas.Bool.Decides.{leb_tells, nat_tests}
 use Rattle.cg_moves.proofs.Middles.{in-middle}
 
 -- a list of mapped cells that is cut is cut at a cell
@@ -212,16 +212,7 @@ module _ (g : CellGame) (r : GameRules) (laws : IsCellGame g) (cuts : CutsByCell
       ∙ ap (λ z. z ∷ []) (placed-piece g laws p s p (g.piece p s) o s self)
 
   a-move : (player : Player) (q : Grid) (cells : List ℕ) → In cells (r.moves player q) → ¬ (followers r q ≡ [])
-  a-move player q cells m e =
-      let P : List Grid → Type 0 = λ z. In (with_cells q cells) z in
-      let there : In (with_cells q cells) (followers r q) = by-player player m in
-      subst P e there
-    where
-      by-player : (player : Player) → In cells (r.moves player q) → In (with_cells q cells) (followers r q)
-      by-player Left i = in-append_left (with_cells q cells) (boards_after r Left q) (boards_after r Right q)
-          (in_mapped (with_cells q) cells (r.moves Left q) i)
-      by-player Right i = in-append_right (with_cells q cells) (boards_after r Left q) (boards_after r Right q)
-          (in_mapped (with_cells q) cells (r.moves Right q) i)
+  a-move player q cells m e = grind (arith, nat_tests, in-append_left, in_mapped, in-append_right)
 
   some-move : (p : Grid) (s : ℕ) → r.has p ≡ true → In s (g.firsts p) → ¬ (followers r (g.piece p s) ≡ [])
   some-move p s has among =

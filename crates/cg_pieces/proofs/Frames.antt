@@ -1,4 +1,5 @@
 -- The rows and columns that bound cells, and the cells inside.
+use Rattle.std.proofs.lemmas.Bool.Decides.{nat_tests}
 use Rattle.std.proofs.Common.{◌≡◌, refl, ℕ, zero, suc, ◌+◌, ◌-◌, ◌*◌, ◌<◌, ◌≤◌, inl, inr, Bool, true, if◌then◌else◌, List, length, slice_index, ap, sym, ◌∙◌, subst, arith, mul_comm}
 use Rattle.std.specs.Prelude.{Contains}
 use Rattle.std.proofs.Math.Nat.{mod-lt, mul-le-mul_left, mul-le-mul_right}
@@ -61,13 +62,7 @@ module _ (p : Grid) (set : ℕ → Bool) (within : (k : ℕ) → set k ≡ true 
   -- ---- the cells of the box stand on the board
 
   row-inside : (w r m : ℕ) → m < r * w → row_of w m < r
-  row-inside w r m h =
-      let n : ¬ (r ≤ row_of w m) = λ le.
-      (let a : w * r ≤ w * row_of w m = mul-le-mul_left w le in
-      let e : w * r ≡ r * w = mul_comm w r in
-      let c = cell-of w m in
-      omega (arith, h, a, e, c)) in
-      omega (arith, n)
+  row-inside w r m h = grind (arith, nat_tests, mul-le-mul_left, cell-of)
 
   module _ (wide : 0 < p.columns) (size : length p.cells ≡ p.rows * p.columns) where
     pub rows-inside : box.top + box.rows ≤ p.rows
@@ -102,10 +97,7 @@ module _ (p : Grid) (set : ℕ → Bool) (within : (k : ℕ) → set k ≡ true 
         omega (arith, a, b, size)
 
     pub some-cells : 1 ≤ box.rows * box.columns
-    some-cells =
-        let a : box.rows * 1 ≤ box.rows * box.columns = mul-le-mul_left box.rows some-columns in
-        let r = some-rows in
-        omega (arith, a, r)
+    some-cells = grind (arith, nat_tests, mul-le-mul_left, some-columns, some-rows)
 
     pub inner-row : (m : ℕ) → m < box.rows * box.columns → box.top + row_of box.columns m < p.rows
     inner-row m h =
@@ -146,30 +138,11 @@ module _ (p : Grid) (set : ℕ → Bool) (within : (k : ℕ) → set k ≡ true 
       pub board-is : (blank : ℕ) (symbols cells : List ℕ) → symbols ≡ p.symbols → cells ≡ (cropped blank set p).cells
           → made b.rows b.columns symbols cells ≡ cropped blank set p
       unfolding cropped
-      board-is blank symbols cells e f =
-          λ i. record {
-            rows = (frame i).rows;
-            columns = (frame i).columns;
-            symbols = e i;
-            cells = f i;
-          }
+      board-is blank symbols cells e f = grind (arith, nat_tests)
 
 -- a board has columns
 pub wide-grid : (p : Grid) → IsGrid p → 0 < p.columns
-wide-grid p grid =
-    let n : ¬ (p.columns ≡ 0) = λ e. (let s = grid.size in let o = grid.some in
-    let z : p.rows * p.columns ≡ p.rows * 0 = ap (λ w. p.rows * w) e in
-    let y : p.rows * 0 ≡ 0 = omega arith in
-    omega (arith, s, o, z, y)) in
-    omega (arith, n)
+wide-grid p grid = grind (arith, nat_tests)
 
 pub few-columns : (p : Grid) → IsGrid p → p.columns ≤ 64
-few-columns p grid =
-    let n : ¬ (p.rows ≡ 0) = λ e. (let s = grid.size in let o = grid.some in
-    let z : p.rows * p.columns ≡ 0 * p.columns = ap (λ r. r * p.columns) e in
-    let y : 0 * p.columns ≡ 0 = omega arith in
-    omega (arith, s, o, z, y)) in
-    let a : 1 * p.columns ≤ p.rows * p.columns = mul-le-mul_right p.columns (omega (arith, n)) in
-    let s = grid.size in
-    let f = grid.few in
-    omega (arith, a, s, f)
+few-columns p grid = grind (arith, nat_tests, mul-le-mul_right)

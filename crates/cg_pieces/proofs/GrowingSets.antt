@@ -3,7 +3,7 @@ use Rattle.std.proofs.Common.{◌≡◌, ℕ, ◌+◌, ◌-◌, ◌*◌, ◌/◌
 use Rattle.std.specs.Int.{bit_at}
 use Rattle.std.proofs.Math.Nat.{mod-eq_of_lt}
 use Rattle.std.proofs.lemmas.Bool.{eq-eqb}
-use Rattle.std.proofs.lemmas.Bool.Decides.{eqb_tells, leb_tells}
+use Rattle.std.proofs.lemmas.Bool.Decides.{eqb_tells, leb_tells, nat_tests}
 use Rattle.std.proofs.lemmas.Nat.Bits.{bit_at-lt, bit_at_above, bit_at_and, bit_at_not, bit_at_or}
 use Rattle.cg_moves.proofs.ConnectedLemmas.{or-cases, or-first, or-second}
 use Rattle.cg_moves.proofs.WordBits.{shifted_back, shifted_on, shifted_on_first}
@@ -32,14 +32,7 @@ pub or-right : (a b i : ℕ) → bit_at b i ≡ 1 → bit_at (bit_or a b) i ≡ 
 or-right a b i y = let h = bit_at_or a b i in let x = bit_at-lt a i in omega (arith, h, x, y)
 
 pub or-parts : (a b i : ℕ) → bit_at (bit_or a b) i ≡ 1 → (bit_at a i ≡ 1) ⊎ (bit_at b i ≡ 1)
-or-parts a b i t =
-    let h = bit_at_or a b i in
-    let x = bit_at-lt a i in
-    let y = bit_at-lt b i in
-    elim (eqb_tells (bit_at a i) 1) [
-      | inl e ↦ inl e.1
-      | inr o ↦ let no = o.1 in inr (omega (arith, h, x, y, t, no))
-    ]
+or-parts a b i t = grind (arith, nat_tests, bit_at_or, bit_at-lt, eqb_tells)
 
 -- the words `a << by` and `a >> by`
 abbrev pub moved_on : ℕ → ℕ → ℕ
@@ -212,24 +205,10 @@ module _ (f : Field) (set : ℕ) (is : IsField f) (within : IsWithin set f.cells
         }
 
     all-forth : (k l : ℕ) → bit_at set k ≡ 1 → bit_at f.cells l ≡ 1 → is_beside f.columns k l ≡ true → bit_at forth l ≡ 1
-    all-forth k l s o b =
-        let e = beside-is f.columns k l b in
-        let c = second-column f.columns k l b in
-        let few = bit-below f.cells l open_fits o in
-        let same : l - 1 ≡ k = omega (arith, e) in
-        let none = is.others l o (λ z. omega (arith, c, z)) in
-        and-one on (other_bits f.first_column) l
-        (on_others l (omega (arith, e)) few ∙ ap (bit_at set) same ∙ s) (not-one f.first_column l first_fits few none)
+    all-forth k l s o b = grind (arith, nat_tests, beside-is, second-column, bit-below, and-one, not-one)
 
     all-back : (k l : ℕ) → bit_at set k ≡ 1 → is_beside f.columns l k ≡ true → bit_at back l ≡ 1
-    all-back k l s b =
-        let e = beside-is f.columns l k b in
-        let c = second-column f.columns l k b in
-        let open_k = within k s in
-        let few = bit-below f.cells k open_fits open_k in
-        let none = is.others k open_k (λ z. omega (arith, c, z)) in
-        back_is l ∙ ap (bit_at (bit_and set (other_bits f.first_column))) (sym e)
-        ∙ and-one set (other_bits f.first_column) k s (not-one f.first_column k first_fits few none)
+    all-back k l s b = grind (arith, nat_tests, beside-is, second-column, bit-below, and-one, not-one)
 
     pub row-set : IsNextBy f (is_in_row f.columns) set (bit_and (bit_or set (bit_or forth back)) f.cells)
     row-set = next-by (is_in_row f.columns) (bit_or forth back)

@@ -2,7 +2,7 @@
 use Rattle.std.proofs.Common.{◌≡◌, ◌≢◌, ◌↔◌, refl, ℕ, ◌<◌, ◌≤◌, ◌-◌, ◌⊎◌, inl, inr, if◌then◌else◌, ap, sym, ◌∙◌, subst, arith}
 use Rattle.std.specs.Int.{bit_at}
 use Rattle.std.proofs.lemmas.Bool.{eqb-true}
-use Rattle.std.proofs.lemmas.Bool.Decides.{eqb_tells}
+use Rattle.std.proofs.lemmas.Bool.Decides.{eqb_tells, nat_tests}
 use Rattle.std.proofs.lemmas.Nat.Bits.{bit_at-zero}
 use Rattle.cg_moves.specs.Words.{IsWithBit}
 use Rattle.cg_pieces.specs.declared.field.Field.{Field}
@@ -27,10 +27,7 @@ growing-start f cell set is inside = record {
 }
   where
     only : (k : ℕ) → bit_at set k ≡ 1 → k ≡ cell
-    only k t = elim (eqb_tells k cell) [
-      | inl h ↦ h.1
-      | inr h ↦ let none = is k ∙ ap (λ b. if b then 1 else bit_at 0 k) h.0 ∙ bit_at-zero k in absurd (omega (arith, none, t))
-    ]
+    only k t = grind (arith, nat_tests, eqb_tells, bit_at-zero)
 
 pub growing-more : (f : Field) (cell set more : ℕ) → IsGrowing f cell set → IsNextSet f set more → IsGrowing f cell more
 growing-more f cell set more g next = record {

@@ -1,4 +1,5 @@
 -- Joined sets of adjacent cells: what is computed is what is so.
+use Rattle.std.proofs.lemmas.Bool.Decides.{nat_tests}
 use Rattle.std.proofs.Common.{◌≡◌, refl, ℕ, zero, suc, ◌<◌, ◌≤◌, ◌&&◌, ◌||◌, ◌⊎◌, inl, inr, Bool, true, cond, not, IsTrue, nat_le, List, [], ◌∷◌, filter, length, slice_index, sym, subst, arith}
 use Rattle.std.specs.List.{flat_map, list_all, list_any}
 use Rattle.std.proofs.lemmas.Bool.{le-leb, leb-true}
@@ -22,10 +23,7 @@ pub swap-or : (a b : Bool) → IsTrue (a || b) → IsTrue (b || a)
 swap-or a b h = elim (or-cases a b h) [ inl x ↦ or-second b a x | inr y ↦ or-first b a y ]
 
 pub next-sym : (w k l : ℕ) → is_next w k l ≡ true → is_next w l k ≡ true
-next-sym w k l h = elim (or-cases (is_below w k l || is_below w l k) (is_beside w k l || is_beside w l k) h) [
-  | inl x ↦ or-first _ _ (swap-or (is_below w k l) (is_below w l k) x)
-  | inr y ↦ or-second _ _ (swap-or (is_beside w k l) (is_beside w l k) y)
-]
+next-sym w k l h = grind (arith, nat_tests, or-cases, or-first, swap-or, or-second)
 
 -- ---- tests of lists
 

@@ -1,4 +1,5 @@
 -- The cells that form pieces, in a word.
+use Rattle.std.proofs.lemmas.Bool.Decides.{nat_tests}
 use Rattle.std.proofs.Common.{◌≡◌, refl, ℕ, ◌%◌, ◌==◌, ◌&&◌, Bool, true, false, nat_lt, if◌then◌else◌, length, ap, sym, ◌∙◌, arith}
 use Rattle.std.specs.Int.{bit_at}
 use Rattle.std.proofs.lemmas.Bool.{eq-eqb, eqb-true, lt-ltb}
@@ -15,11 +16,7 @@ abbrev one : Bool → ℕ
 one b = if b then 1 else 0
 
 pub marks-test : (word : ℕ) (test : ℕ → Bool) → Marks word test → (k : ℕ) → bit_at word k ≡ 1 → test k ≡ true
-marks-test word test are k t = go (test k) (sym (are k) ∙ t)
-  where
-    go : (b : Bool) → one b ≡ 1 → b ≡ true
-    go true e = refl
-    go false e = absurd (omega (arith, e))
+marks-test word test are k t = grind (arith, nat_tests)
 
 pub test-marks : (word : ℕ) (test : ℕ → Bool) → Marks word test → (k : ℕ) → test k ≡ true → bit_at word k ≡ 1
 test-marks word test are k t = are k ∙ ap one t

@@ -1,4 +1,5 @@
 -- Sets of joined cells, before and after a move in one of them.
+use Rattle.std.proofs.lemmas.Bool.Decides.{nat_tests}
 use Rattle.std.proofs.Common.{◌≡◌, refl, ℕ, ◌≤◌, true, ap, sym, ◌∙◌, subst, arith, Bool}
 use Rattle.cg_moves.specs.declared.player.Player.{Player}
 use Rattle.cg_moves.specs.Grid.{Grid}
@@ -90,10 +91,7 @@ module _ (g : CellGame) (laws : IsCellGame g) where
     put = g.place p s
 
     pub place-same : (k l : ℕ) → Joined g p s k → Joined g p s l → put k ≡ put l → k ≡ l
-    place-same k l j_k j_l e =
-        let a : k ≤ l = (o.place_order k l j_k j_l).1 (omega (arith, e)) in
-        let b : l ≤ k = (o.place_order l k j_l j_k).1 (omega (arith, e)) in
-        omega arith
+    place-same k l j_k j_l e = grind (arith, nat_tests)
 
     in_set : (k l : ℕ) → Joined g p s k → Joined g after k l → Joined g p s l
     in_set k l j_k j = joined-trans p s k l j_k (joined-before k l j)

@@ -2,7 +2,7 @@
 use Rattle.std.proofs.Common.{◌≡◌, ◌≢◌, ◌↔◌, refl, ℕ, ◌+◌, ◌<◌, ◌≤◌, ◌^◌, ◌&&◌, ◌||◌, inl, inr, Bool, true, false, not, nat_le, if◌then◌else◌, IsTrue, List, [], ◌∷◌, ◌++◌, length, ap, sym, ◌∙◌, subst, arith, bit_and, w64, ◌==◌}
 use Rattle.std.specs.Int.{bit_at, trailing_zeros}
 use Rattle.std.proofs.lemmas.Bool.{eq-eqb, eqb-true, le-leb, leb-true}
-use Rattle.std.proofs.lemmas.Bool.Decides.{leb_tells}
+use Rattle.std.proofs.lemmas.Bool.Decides.{leb_tells, nat_tests}
 use Rattle.std.proofs.lemmas.List.{append-nil}
 use Rattle.std.proofs.lemmas.Nat.Bits.{bit_at-lt, bit_at-trailing_zeros, bit_at-zero}
 use Rattle.std.proofs.lemmas.Nat.{and_le_l}
@@ -98,11 +98,7 @@ module _ (n : Neighbours) (laws : IsNeighbours n) (p : Grid) where
   }
 
   pub not-first : (cell left : ℕ) → AreLeft n p cell left → ¬ (bit_at left cell ≡ 1) → is_first n p cell ≡ false
-  not-first cell left are other = false-from (is_first n p cell) (λ t.
-      let a = and-split (is_piece_cell n p cell) (is_least n p cell && has_move n p cell) t in
-      let b = and-split (is_least n p cell) (has_move n p cell) a.1 in
-      other (are.all cell a.0 (λ l h j.
-      let low = of-least cell a.0 b.0 l (flipped l cell j) in omega (arith, low, h))))
+  not-first cell left are other = grind (arith, nat_tests, false-from, and-split, of-least, flipped)
 
   -- where no cell with a move is left, none is the first of a set with a move
   pub none-first : (end cell left moving : ℕ) → AreLeft n p end left → AreMoving n p moving → bit_and left moving ≡ 0
