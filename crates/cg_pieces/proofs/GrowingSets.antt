@@ -205,7 +205,14 @@ module _ (f : Field) (set : ℕ) (is : IsField f) (within : IsWithin set f.cells
         }
 
     all-forth : (k l : ℕ) → bit_at set k ≡ 1 → bit_at f.cells l ≡ 1 → is_beside f.columns k l ≡ true → bit_at forth l ≡ 1
-    all-forth k l s o b = grind (arith, nat_tests, beside-is, second-column, bit-below, and-one, not-one)
+    all-forth k l s o b =
+        let e = beside-is f.columns k l b in
+        let c = second-column f.columns k l b in
+        let few = bit-below f.cells l open_fits o in
+        let same : l - 1 ≡ k = omega (arith, e) in
+        let none = is.others l o (λ z. omega (arith, c, z)) in
+        and-one on (other_bits f.first_column) l
+        (on_others l (omega (arith, e)) few ∙ ap (bit_at set) same ∙ s) (not-one f.first_column l first_fits few none)
 
     all-back : (k l : ℕ) → bit_at set k ≡ 1 → is_beside f.columns l k ≡ true → bit_at back l ≡ 1
     all-back k l s b = grind (arith, nat_tests, beside-is, second-column, bit-below, and-one, not-one)

@@ -104,11 +104,55 @@ module _ (n : Neighbours) (laws : IsNeighbours n) (p : Grid) (s : ℕ) (wide : 0
   pub beside-placed : (k l : ℕ) → set k ≡ true → set l ≡ true
       → is_beside piece.columns (place k) (place l) ≡ is_beside p.columns k l
   unfolding cropped
-  beside-placed k l tk tl = grind (arith, nat_tests, place-row, within, self, place-column, moved-equal, row-low, moved-next, column-low)
+  beside-placed k l tk tl =
+      let rk = place-row n.blank p set within s self wide k tk in
+      let rl = place-row n.blank p set within s self wide l tl in
+      let ck = place-column n.blank p set within s self wide k tk in
+      let cl = place-column n.blank p set within s self wide l tl in
+      (λ i. (rk i == rl i) && (ck i + 1 == cl i))
+      ∙ ap (λ z. z && ((column_of p.columns k - box.left) + 1 == column_of p.columns l - box.left))
+      (moved-equal (row_of p.columns k) (row_of p.columns l) box.top (row-low n.blank p set within s self wide k tk)
+      (row-low n.blank p set within s self wide l tl))
+      ∙ ap (λ z. (row_of p.columns k == row_of p.columns l) && z)
+      (moved-next (column_of p.columns k) (column_of p.columns l) box.left
+      (column-low n.blank p set within s self wide k tk) (column-low n.blank p set within s self wide l tl))
 
   pub next-placed : (k l : ℕ) → set k ≡ true → set l ≡ true
       → is_next piece.columns (place k) (place l) ≡ is_next p.columns k l
-  next-placed k l tk tl = grind (arith, nat_tests, below-placed, beside-placed)
+  next-placed k l tk tl =
+      let a = below-placed k l tk tl in
+      let b = below-placed l k tl tk in
+      let c = beside-placed k l tk tl in
+      let d = beside-placed l k tl tk in
+      λ i. (a i || b i) || (c i || d i)
 
   pub order-placed : (k l : ℕ) → set k ≡ true → set l ≡ true → (k ≤ l) ↔ (place k ≤ place l)
-  order-placed k l tk tl = grind (arith, nat_tests, row-low, within, self, column-low, mod-lt, set-bounds, cell-of, lines-order, order-by-lines)
+  order-placed k l tk tl =
+      let w : ℕ = p.columns in
+      let ra = row-low n.blank p set within s self wide k tk in
+      let rb = row-low n.blank p set within s self wide l tl in
+      let ca = column-low n.blank p set within s self wide k tk in
+      let cb = column-low n.blank p set within s self wide l tl in
+      let k_below = mod-lt k wide in
+      let l_below = mod-lt l wide in
+      let k_high = (set-bounds p set s within self).columns.high k tk in
+      let l_high = (set-bounds p set s within self).columns.high l tl in
+      let ek = cell-of w k in
+      let el = cell-of w l in (
+        λ h. let h2 : cell_at w (row_of w k) (column_of w k) ≤ cell_at w (row_of w l) (column_of w l) =
+            omega (arith, h, ek, el) in
+            lines-order box.columns (row_of w k - box.top) (column_of w k - box.left) (row_of w l - box.top)
+            (column_of w l - box.left) (omega arith)
+            (elim (order-by-lines w (row_of w k) (column_of w k) (row_of w l) (column_of w l) k_below l_below h2) [
+              | inl x ↦ inl (omega arith)
+              | inr (e, x) ↦ inr (ap (λ z. z - box.top) e, omega arith)
+            ]),
+        λ h. let h2 : cell_at w (row_of w k) (column_of w k) ≤ cell_at w (row_of w l) (column_of w l) =
+            lines-order w (row_of w k) (column_of w k) (row_of w l) (column_of w l) k_below
+            (elim (order-by-lines box.columns (row_of w k - box.top) (column_of w k - box.left) (row_of w l - box.top)
+            (column_of w l - box.left) (omega arith) (omega arith) h) [
+              | inl x ↦ inl (omega arith)
+              | inr (e, x) ↦ inr (omega (arith, e), omega arith)
+            ]) in
+            omega (arith, h2, ek, el),
+      )
