@@ -10,7 +10,6 @@ use Rattle.cg_moves.proofs.SetBits.{AreListed, listed-more, listed-none}
 use Rattle.cg_pieces.proofs.GrowingSets.{or-parts}
 use Rattle.cg_pieces.proofs.OpenWords.{marks-test, unmarked}
 use Rattle.cg_clobber.specs.declared.putting.CaptureWords.{CaptureWords}
-use Rattle.cg_clobber.specs.declared.way.Way.{Way}
 use Rattle.cg_clobber.specs.declared.way.Way.TheVariants.{Up, Down, Back, Forth}
 use Rattle.cg_clobber.specs.CaptureWords.{AreCaptureWords}
 use Rattle.cg_clobber.specs.Moves.{captures_onto, captures_that_way, moves_onto, moves_that_way, next_cell, with_capture}

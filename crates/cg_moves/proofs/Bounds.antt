@@ -1,10 +1,10 @@
 -- The tree of moves and the boards that are reached, also piece by piece, don't depend on the bound that they are defined by.
 use Rattle.std.proofs.lemmas.Bool.Decides.{nat_tests}
-use Rattle.std.proofs.Common.{◌≡◌, ℕ, zero, suc, ◌<◌, true, [], ◌∷◌, ◌++◌, map, ap, sym, ◌∙◌, subst, arith, inl, inr, List}
+use Rattle.std.proofs.Common.{◌≡◌, ℕ, zero, suc, ◌<◌, true, [], ◌∷◌, ◌++◌, map, ap, ◌∙◌, arith, List}
 use Rattle.cg_form.specs.Game.{node, Game}
 use Rattle.cg_moves.specs.declared.player.Player.{Player}
 use Rattle.cg_moves.specs.declared.player.Player.TheVariants.{Left, Right}
-use Rattle.cg_moves.specs.Grid.{Grid, with_cells}
+use Rattle.cg_moves.specs.Grid.{Grid}
 use Rattle.cg_moves.specs.Rules.{GameRules, In, boards_after, followers, pieces}
 use Rattle.cg_moves.specs.Lawful.{AreMoves, ArePieces}
 use Rattle.cg_moves.specs.Raw.{IsTreeOfMoves, raw, raw_within}

@@ -55,9 +55,6 @@ alike-same old qs p h s x y m n =
 
 -- ---- one board after another, the last first
 
-pub all-left : (boards : List Grid) (left : ℕ) → ¬ 0 < left → drop left boards ≡ boards
-all-left boards left none = let e : left ≡ 0 = omega (arith, none) in ap (λ z. drop z boards) e
-
 module _ (boards : List Grid) (left : ℕ) (p : Grid) (some : 0 < left) (inside : left ≤ length boards)
     (is : p ≡ get_or boards (left - 1) p) where
   pub last-in : In p boards

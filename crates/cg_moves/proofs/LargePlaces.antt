@@ -1,6 +1,6 @@
 -- Where a text is refused as too large, the place is that of the 65th cell.
 use Rattle.std.proofs.lemmas.Bool.Decides.{nat_tests}
-use Rattle.std.proofs.Common.{◌≡◌, refl, ℕ, zero, suc, ◌+◌, ◌*◌, ◌/◌, ◌%◌, ◌<◌, ◌≤◌, ◌==◌, ◌||◌, Bool, true, false, not, nat_lt, if◌then◌else◌, Option, Some, None, Result, Ok, Err, List, [], ◌∷◌, ◌++◌, length, ap, sym, ◌∙◌, arith, append-nil}
+use Rattle.std.proofs.Common.{◌≡◌, refl, ℕ, zero, suc, ◌+◌, ◌*◌, ◌/◌, ◌%◌, ◌<◌, ◌≤◌, ◌==◌, Bool, true, false, nat_lt, if◌then◌else◌, Option, Some, None, Result, Ok, Err, List, [], ◌∷◌, ◌++◌, length, ap, sym, ◌∙◌, arith, append-nil}
 use Rattle.std.specs.Prelude.{position, slice_get}
 use Rattle.std.proofs.Math.Nat.{mod-lt, mul-le-mul_left}
 use Rattle.std.proofs.lemmas.Bool.{eqb-true, ltb-true}
@@ -8,7 +8,7 @@ use Rattle.cg_moves.specs.declared.fault.BoardFault.{BoardFault}
 use Rattle.cg_moves.specs.declared.fault.BoardFault.TheVariants.{Symbol, Empty, Ragged, Large}
 use Rattle.cg_moves.specs.Grid.{Grid}
 use Rattle.cg_moves.specs.Rising.{counted}
-use Rattle.cg_moves.specs.Texts.{bar, cell_places, cells_of, cut, first_row, in_front, is_foreign, next_place, ragged, read_of, refused_at, rows_of}
+use Rattle.cg_moves.specs.Texts.{cell_places, cells_of, cut, first_row, in_front, is_foreign, next_place, ragged, read_of, refused_at, rows_of}
 use Rattle.cg_moves.proofs.TextLemmas.{not-ragged}
 use Rattle.cg_moves.proofs.Counted.{counted-length}
 

@@ -1,5 +1,5 @@
 -- The options of the tree of a board are the trees of the boards that its moves lead to, and a board is the sum of its pieces.
-use Rattle.std.proofs.Common.{◌≡◌, ℕ, zero, suc, ◌<◌, true, List, ◌∷◌, ◌++◌, map, ap, sym, ◌∙◌, subst, arith, inl, refl, []}
+use Rattle.std.proofs.Common.{◌≡◌, ℕ, zero, suc, ◌<◌, true, List, ◌∷◌, ◌++◌, map, ap, sym, ◌∙◌, subst, arith, inl, refl}
 use Rattle.cg_form.specs.Game.{Among, Game}
 use Rattle.cg_form.specs.Order.{Equal}
 use Rattle.cg_form.proofs.Preorder.{equal_trans, le-cofinal}

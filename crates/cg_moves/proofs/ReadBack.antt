@@ -1,16 +1,14 @@
 -- The text of a board reads back as the board.
-use Rattle.std.proofs.Common.{◌≡◌, refl, ℕ, zero, suc, ◌+◌, ◌-◌, ◌*◌, ◌/◌, ◌<◌, ◌≤◌, ◌==◌, ◌||◌, ◌&&◌, not, Bool, true, false, cond, if◌then◌else◌, ◌⊎◌, inl, inr, Some, None, List, [], ◌∷◌, ◌++◌, length, take, drop, ap, sym, ◌∙◌, subst, arith, length-drop, append-nil, append_assoc}
-use Rattle.std.specs.Prelude.{All, Contains, Ok, Result, nat_le, nat_lt, position, slice_index}
-use Rattle.std.specs.List.{list_all, list_any, position_or_len, prefix_len}
+use Rattle.std.proofs.Common.{◌≡◌, refl, ℕ, zero, suc, ◌+◌, ◌-◌, ◌*◌, ◌<◌, ◌≤◌, ◌==◌, ◌&&◌, not, Bool, true, false, cond, if◌then◌else◌, ◌⊎◌, inl, inr, Some, None, List, [], ◌∷◌, ◌++◌, length, take, drop, ap, sym, ◌∙◌, subst, arith, length-drop, append-nil, append_assoc}
+use Rattle.std.specs.Prelude.{All, Contains, Ok, nat_le, nat_lt, position, slice_index}
+use Rattle.std.specs.List.{list_all, list_any, position_or_len}
 use Rattle.std.proofs.Math.Seq.{take-length}
 use Rattle.std.proofs.lemmas.Bool.{eq-eqb, leb-true}
 use Rattle.std.proofs.lemmas.Bool.Decides.{eqb_tells, nat_tests}
 use Rattle.std.proofs.lemmas.List.{drop-drop, length-take-le, take-append-drop}
-use Rattle.cg_moves.specs.declared.fault.BoardFault.{BoardFault}
-use Rattle.cg_moves.specs.declared.fault.BoardFault.TheVariants.{Symbol, Empty, Ragged, Large}
 use Rattle.cg_moves.specs.Grid.{AreCells, Grid, IsGrid, all_distinct, is_symbol}
 use Rattle.cg_moves.specs.Rules.{In}
-use Rattle.cg_moves.specs.Texts.{ReadsBack, bar, behind_bars, cells_of, cut, first_row, in_front, in_rows, is_foreign, joined, next_place, ragged, read_of, refused_at, rows_of, text_of}
+use Rattle.cg_moves.specs.Texts.{ReadsBack, bar, behind_bars, cells_of, cut, first_row, in_front, in_rows, is_foreign, joined, ragged, read_of, rows_of, text_of}
 use Rattle.cg_moves.proofs.ConnectedLemmas.{or-first, or-second}
 use Rattle.cg_form.proofs.Firsts.{in-append, in-append_left, in-append_right}
 use Rattle.cg_moves.proofs.Members.{all_from, carry, in_flat_mapped, in_one}
@@ -204,15 +202,6 @@ grid_of symbols columns rows = record {
   symbols = symbols;
   cells = cells_of rows;
 }
-
-abbrev last_refusal : List ℕ → ℕ → List (List ℕ) → Result Grid BoardFault
-last_refusal symbols columns rows =
-    refused_at Large (if nat_lt 64 (length (cells_of rows)) then Some (65 + 64 / columns) else None) (Ok (grid_of symbols columns rows))
-
-abbrev later_refusals : List ℕ → ℕ → List (List ℕ) → Result Grid BoardFault
-later_refusals symbols columns rows =
-    refused_at Empty (if columns == 0 then Some 1 else None)
-    (refused_at Ragged (ragged columns 1 rows) (last_refusal symbols columns rows))
 
 read-rows : (symbols : List ℕ) (one_row : Bool) (text : List ℕ) (rows : List (List ℕ)) (columns : ℕ)
     → rows_of one_row text ≡ rows → position (is_foreign one_row symbols) text ≡ None → length (first_row rows) ≡ columns

@@ -2,7 +2,6 @@
 use Rattle.std.proofs.lemmas.Bool.Decides.{nat_tests}
 use Rattle.std.proofs.Common.{◌≡◌, refl, ℕ, ◌+◌, ◌*◌, ◌<◌, ◌≤◌, true, inl, inr, List, [], ◌∷◌, ◌++◌, length, length-append, append_assoc, ap, sym, ◌∙◌, subst, arith}
 use Rattle.std.specs.List.{flat_map}
-use Rattle.std.proofs.lemmas.List.{append-nil}
 use Rattle.cg_moves.specs.declared.task.Entered.{Entered}
 use Rattle.cg_moves.specs.declared.task.Task.{Task}
 use Rattle.cg_moves.specs.declared.task.Task.TheVariants.{Known, Enter, Leave}
@@ -50,9 +49,6 @@ module _ (found : List Grid) where
   told-wider wider w (t ∷ ts) (v ∷ vs) h = (one-wider wider w t v h.0, told-wider wider w ts vs h.1)
 
   -- ---- tasks that are put behind others
-
-  pub adds-none : (ts : List Task) → Adds found ts ts []
-  adds-none ts = ([], sym (append-nil ts), tt)
 
   pub adds-one : (ts after : List Task) (t : Task) (v : Visit) → after ≡ ts ++ (t ∷ []) → IsTold found t v
       → Adds found ts after (v ∷ [])

@@ -1,7 +1,7 @@
 -- Texts, cut at bars.
-use Rattle.std.proofs.Common.{◌≡◌, refl, ℕ, zero, suc, ◌+◌, ◌-◌, ◌*◌, ◌<◌, ◌≤◌, ◌==◌, ◌||◌, ◌&&◌, not, Bool, true, false, if◌then◌else◌, ◌⊎◌, inl, inr, Option, Some, None, List, [], ◌∷◌, ◌++◌, append_assoc, cond, length, length-append, take, drop, get_or, ap, sym, ◌∙◌, arith, ◌/◌}
-use Rattle.std.specs.List.{list_any, position_or_len}
-use Rattle.std.specs.Prelude.{Contains, nat_lt, position, slice_index}
+use Rattle.std.proofs.Common.{◌≡◌, refl, ℕ, zero, suc, ◌+◌, ◌-◌, ◌*◌, ◌<◌, ◌≤◌, ◌==◌, ◌||◌, ◌&&◌, not, Bool, true, false, if◌then◌else◌, ◌⊎◌, inl, inr, Option, Some, None, List, [], ◌∷◌, ◌++◌, append_assoc, length, length-append, take, drop, get_or, ap, sym, ◌∙◌, arith, ◌/◌}
+use Rattle.std.specs.List.{list_any}
+use Rattle.std.specs.Prelude.{Contains, position, slice_index}
 use Rattle.std.proofs.Math.Nat.{mul-le-mul_left}
 use Rattle.std.proofs.lemmas.Bool.Decides.{eqb_tells, leb_tells, nat_tests}
 use Rattle.std.proofs.lemmas.List.{append-nil, length-take-le}

@@ -1,5 +1,5 @@
 -- The board of a set of cells, by its words.
-use Rattle.std.proofs.Common.{◌≡◌, refl, ℕ, ◌*◌, ◌<◌, ◌≤◌, inl, inr, true, if◌then◌else◌, List, length, slice_index, ap, sym, ◌∙◌, subst, arith, ◌^◌, bit_and, bit_or, w64}
+use Rattle.std.proofs.Common.{◌≡◌, refl, ℕ, ◌*◌, ◌<◌, inl, inr, true, if◌then◌else◌, length, slice_index, ap, sym, ◌∙◌, subst, arith, ◌^◌, bit_and, bit_or, w64}
 use Rattle.std.specs.Prelude.{Contains}
 use Rattle.std.specs.Int.{bit_at}
 use Rattle.std.proofs.lemmas.Bool.{le-ltb, lt-ltb}

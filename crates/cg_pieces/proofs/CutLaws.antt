@@ -1,11 +1,10 @@
 -- Rules that cut boards into the sets of joined cells.
 use Rattle.std.proofs.Common.{◌≡◌, refl, ℕ, zero, suc, ◌<◌, ◌≤◌, ◌⊎◌, inl, inr, true, List, [], ◌∷◌, ◌++◌, map, ap, sym, ◌∙◌, subst, arith}
 use Rattle.cg_moves.specs.declared.player.Player.{Player}
-use Rattle.cg_moves.specs.declared.player.Player.TheVariants.{Left, Right}
 use Rattle.cg_moves.specs.CutByMoves.{IsCutByMoves, MoveInPiece, MoveOfBoard, MovesAlike}
 use Rattle.cg_moves.specs.Grid.{Grid, with_cells}
 use Rattle.cg_moves.specs.Reordered.{IsReordered}
-use Rattle.cg_moves.specs.Rules.{GameRules, In, boards_after, followers, pieces, pieces_by}
+use Rattle.cg_moves.specs.Rules.{GameRules, In, followers, pieces, pieces_by}
 use Rattle.cg_form.proofs.Firsts.{in-append_left, in-append_right}
 use Rattle.cg_moves.proofs.Members.{in-map, in_mapped}
 use Rattle.cg_pieces.specs.Cells.{CellGame, CutsByCells, Distinct, First, IsCellGame, Joined, pieces_of}

@@ -130,14 +130,8 @@ module _ (word columns : ℕ) (f : Frame) where
 
     -- ---- the shifts are by fewer than 64 places
 
-    pub start-few : f.top * columns + f.left < 64
-    start-few = grind (arith, nat_tests, mul-le-mul_right)
-
     pub row-few : (row : ℕ) → row < f.rows → row * f.columns < 64
     row-few row below = grind (arith, nat_tests, mul-le-mul_right, few-cut)
-
-    pub columns-few : (row : ℕ) → 1 ≤ row → row < f.rows → columns < 64
-    columns-few row later below = grind (arith, nat_tests, mul-le-mul_right)
 
     -- the rows of a box with all columns
     pub cut-whole : f.columns ≡ columns → (moved mask : ℕ) → ((i : ℕ) → bit_at moved i ≡ bit_at word (i + f.top * columns))

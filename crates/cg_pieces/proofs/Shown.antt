@@ -1,5 +1,5 @@
 -- The board of a joined set shows the set, before and after a move in it.
-use Rattle.std.proofs.Common.{◌≡◌, refl, ℕ, suc, ◌+◌, ◌-◌, ◌*◌, ◌<◌, ◌≤◌, ◌==◌, ◌&&◌, ◌||◌, ◌⊎◌, ◌↔◌, inl, inr, Bool, true, length, ap, sym, ◌∙◌, subst, arith}
+use Rattle.std.proofs.Common.{◌≡◌, refl, ℕ, ◌+◌, ◌-◌, ◌*◌, ◌<◌, ◌≤◌, ◌==◌, ◌&&◌, ◌||◌, ◌⊎◌, ◌↔◌, inl, inr, Bool, true, length, ap, sym, ◌∙◌, subst, arith}
 use Rattle.std.proofs.Math.Nat.{mod-lt, mul-le-mul_left}
 use Rattle.std.proofs.lemmas.Bool.{eqb-true, eq-eqb}
 use Rattle.cg_form.proofs.Cut.{same_when}
@@ -15,7 +15,7 @@ use Rattle.cg_pieces.proofs.NeighbourSets.{joined-so, neighbours-cell_game, piec
 use Rattle.cg_pieces.proofs.Sets.{open-along}
 use Rattle.std.proofs.lemmas.List.{length-map}
 use Rattle.cg_moves.proofs.Counted.{counted-length, same-or-not}
-use Rattle.std.proofs.lemmas.Bool.Decides.{leb_tells, nat_tests}
+use Rattle.std.proofs.lemmas.Bool.Decides.{leb_tells}
 
 -- ---- places in rows and columns
 
