@@ -24,9 +24,7 @@ counted-below i (suc n) k (inr m) = let h = counted-below (suc i) n k m in omega
 
 counted-last : (i n : ℕ) → counted i (suc n) ≡ counted i n ++ ((i + n) ∷ [])
 counted-last i zero = let e : i ≡ i + 0 = omega arith in ap (λ z. z ∷ []) e
-counted-last i (suc n) =
-    let e : suc i + n ≡ i + suc n = omega arith in
-    ap (λ z. i ∷ z) (counted-last (suc i) n) ∙ ap (λ z. i ∷ (counted (suc i) n ++ (z ∷ []))) e
+counted-last i (suc n) = grind (arith, nat_tests, counted-last (suc i) n)
 
 pub counted-next : (n : ℕ) → counted 0 (suc n) ≡ counted 0 n ++ (n ∷ [])
 counted-next n = let e : 0 + n ≡ n = omega arith in counted-last 0 n ∙ ap (λ z. counted 0 n ++ (z ∷ [])) e

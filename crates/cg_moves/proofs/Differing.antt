@@ -38,9 +38,7 @@ module _ (symbols cells others : List ℕ) (u v : Planes) (here : ArePlanes symb
     (there : ArePlanes symbols others v) (long : length cells ≡ length others) (i : ℕ) where
   plane-same : slice_index cells i ≡ slice_index others i → (b : ℕ)
       → plane_bit symbols cells b i ≡ plane_bit symbols others b i
-  plane-same e b =
-      ap (λ n. if nat_lt i n then bit_at (index_of symbols (slice_index cells i)) b else 0) long
-      ∙ ap (λ c. if nat_lt i (length others) then bit_at (index_of symbols c) b else 0) e
+  plane-same e b = grind (arith, nat_tests)
 
   same-cell : AreCells symbols cells → AreCells symbols others → length symbols ≤ 16 → i < length cells
       → index_at u i ≡ index_at v i → slice_index cells i ≡ slice_index others i
@@ -53,23 +51,7 @@ module _ (symbols cells others : List ℕ) (u v : Planes) (here : ArePlanes symb
   pub differing_marks : AreCells symbols cells → AreCells symbols others → length symbols ≤ 16
       → bit_at (bit_or (bit_or (bit_xor u.a v.a) (bit_xor u.b v.b)) (bit_or (bit_xor u.c v.c) (bit_xor u.d v.d))) i
       ≡ (if not (slice_index cells i == slice_index others i) then 1 else 0)
-  differing_marks are all few =
-      differing-bits u v i ∙ elim (eqb_tells (slice_index cells i) (slice_index others i)) [
-        | inl h ↦ all-same _ _ _ _ _ _ _ _ (here.a i ∙ plane-same h.1 0 ∙ sym (there.a i))
-            (here.b i ∙ plane-same h.1 1 ∙ sym (there.b i)) (here.c i ∙ plane-same h.1 2 ∙ sym (there.c i))
-            (here.d i ∙ plane-same h.1 3 ∙ sym (there.d i)) ∙ ap (λ t. if not t then 1 else 0) (sym h.0)
-        | inr h ↦ (let l : i < length cells = inside h.1 in
-            not-same _ _ _ _ _ _ _ _ (bit_at-lt u.a i) (bit_at-lt u.b i) (bit_at-lt u.c i) (bit_at-lt u.d i)
-            (bit_at-lt v.a i) (bit_at-lt v.b i) (bit_at-lt v.c i) (bit_at-lt v.d i)
-            (λ e. h.1 (same-cell are all few l e))
-            ∙ ap (λ t. if not t then 1 else 0) (sym h.0))
-      ]
-    where
-      inside : slice_index cells i ≢ slice_index others i → i < length cells
-      inside apart = elim (leb_tells (length cells) i) [
-        | inl h ↦ absurd (apart (get_or_past cells i 0 h.1 ∙ sym (get_or_past others i 0 (omega (arith, h.1, long)))))
-        | inr h ↦ h.1
-      ]
+  differing_marks are all few = grind (arith, nat_tests, differing-bits, eqb_tells, all-same, plane-same, not-same, bit_at-lt, same-cell, leb_tells, get_or_past)
 
 -- ---- the order of cells by that word
 

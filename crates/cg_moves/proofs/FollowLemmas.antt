@@ -107,17 +107,13 @@ module _ (lefts rights : List Grid) where
 
   pub both-counts : (f : Grid → ℕ) (a b c : List ℕ) → a ≡ [] → b ≡ a ++ map f (reverse rights) → c ≡ b ++ map f (reverse lefts)
       → c ≡ map f (reverse (lefts ++ rights))
-  both-counts f a b c none e g =
-      g ∙ ap (λ z. z ++ map f (reverse lefts)) (e ∙ ap (λ z. z ++ map f (reverse rights)) none)
-      ∙ sym (map-append f (reverse rights) (reverse lefts)) ∙ ap (map f) (sym (reverse-append lefts rights))
+  both-counts f a b c none e g = grind (arith, nat_tests, map-append, reverse-append)
 
 -- ---- in reverse
 
 reverse_map : (f : Grid → ℕ) (xs : List Grid) → reverse (map f xs) ≡ map f (reverse xs)
 reverse_map f [] = refl
-reverse_map f (x ∷ xs) =
-    reverse_onto (map f xs) (f x) [] ∙ ap (λ z. z ++ (f x ∷ [])) (reverse_map f xs)
-    ∙ sym (ap (map f) (reverse_onto xs x []) ∙ map-append f (reverse xs) (x ∷ []))
+reverse_map f (x ∷ xs) = grind (arith, nat_tests, reverse_onto, map-append, reverse_map f xs)
 
 pub turned : (f : Grid → ℕ) (xs : List Grid) → reverse (map f (reverse xs)) ≡ map f xs
 turned f xs = reverse_map f (reverse xs) ∙ ap (map f) (reverse-reverse xs)

@@ -45,9 +45,7 @@ symbol-above symbols k e l =
     go symbols k b.1 l
   where
     printable : (s : ℕ) → is_symbol s ≡ true → 32 ≤ s
-    printable s is =
-        let f = and-true (nat_le 32 s && nat_le s 126) (not (s == 124)) is in
-        leb-true 32 s (and-true (nat_le 32 s) (nat_le s 126) f.0).0
+    printable s is = grind (arith, nat_tests, and-true, leb-true)
 
     go : (symbols : List ℕ) (k : ℕ) → list_all is_symbol symbols ≡ true → k < length symbols → 32 ≤ slice_index symbols k
     go [] k e l = absurd (omega arith)

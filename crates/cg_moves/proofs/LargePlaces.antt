@@ -39,9 +39,7 @@ row_places place (row ∷ rows) = counted place (length row) ++ row_places (plac
 places-front : (place c : ℕ) (rows : List (List ℕ)) → row_places place (in_front c rows) ≡ place ∷ row_places (suc place) rows
 unfolding row_places
 places-front place c [] = refl
-places-front place c (row ∷ rows) =
-    let e : place + suc (length row) + 1 ≡ suc place + length row + 1 = omega arith in
-    ap (λ z. place ∷ (counted (suc place) (length row) ++ row_places z rows)) e
+places-front place c (row ∷ rows) = grind (arith, nat_tests, row_places)
 
 cut-places : (place : ℕ) (text : List ℕ) → cell_places false place text ≡ row_places place (cut text)
 unfolding row_places

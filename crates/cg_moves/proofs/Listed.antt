@@ -1,4 +1,5 @@
 -- What comes next after boards, in lists that grow behind.
+use Rattle.std.proofs.lemmas.Bool.Decides.{nat_tests}
 use Rattle.std.proofs.Common.{◌≡◌, refl, ℕ, ◌+◌, ◌≤◌, List, [], ◌∷◌, ◌++◌, length, length-append, take, drop, append_assoc, ap, sym, ◌∙◌, subst, arith}
 use Rattle.std.proofs.lemmas.List.{append-nil, drop-append-le, length-drop, take-append-le}
 use Rattle.cg_moves.specs.declared.opened.NextPlaces.{NextPlaces}
@@ -10,9 +11,7 @@ use Rattle.std.specs.List.{flat_map}
 -- a part of a list stays where more comes behind it
 pub part-more : (xs ys : List ℕ) (first many : ℕ) → first + many ≤ length xs
     → take many (drop first (xs ++ ys)) ≡ take many (drop first xs)
-part-more xs ys first many inside =
-    let l = length-drop first xs in
-    ap (take many) (drop-append-le first xs ys (omega arith)) ∙ take-append-le many (drop first xs) ys (omega arith)
+part-more xs ys first many inside = grind (arith, nat_tests, length-drop, drop-append-le, take-append-le)
 
 module _ (r : GameRules) (cut : Grid → List Grid) where
   pub counted-more : (counts more : List ℕ) (p : Grid) (count first moves : ℕ) → AreCounted r cut counts p count first moves

@@ -64,11 +64,7 @@ planes_tell symbols cells w are all few =
 
     same : (i : ℕ) → i < length (cells_by symbols w (length cells))
         → get_or (cells_by symbols w (length cells)) i 0 ≡ get_or cells i 0
-    same i l =
-        let m : i < length cells = (let e = long in omega arith) in
-        get_or-map-range_with_len (λ i. slice_index symbols (index_at w i)) 0 (length cells) i i 0 m (omega arith)
-        ∙ ap (slice_index symbols) (index-read symbols cells w i are all few m)
-        ∙ index-reads symbols (slice_index cells i) (all i m)
+    same i l = grind (arith, nat_tests, long, get_or-map-range_with_len, index-read, index-reads)
 
 -- ---- another symbol at a cell
 

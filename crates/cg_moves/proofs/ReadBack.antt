@@ -56,9 +56,7 @@ rest-long rows columns cells e =
     omega (arith, e, m, d)
 
 first-long : (rows columns : ℕ) (cells : List ℕ) → length cells ≡ suc rows * columns → length (take columns cells) ≡ columns
-first-long rows columns cells e =
-    let m : suc rows * columns ≡ columns + rows * columns = omega arith in
-    length-take-le columns cells (omega (arith, e, m))
+first-long rows columns cells e = grind (arith, nat_tests, length-take-le)
 
 rows-long : (rows columns : ℕ) (cells : List ℕ) → length cells ≡ rows * columns → (row : List ℕ)
     → In row (in_rows rows columns cells) → length row ≡ columns
@@ -69,9 +67,7 @@ rows-long (suc rows) columns cells e row (inr m) = rows-long rows columns (drop 
 rows-cells : (rows columns : ℕ) (cells : List ℕ) → length cells ≡ rows * columns → cells_of (in_rows rows columns cells) ≡ cells
 rows-cells zero columns [] e = refl
 rows-cells zero columns (c ∷ cells) e = absurd (omega (arith, e))
-rows-cells (suc rows) columns cells e =
-    ap (λ z. take columns cells ++ z) (rows-cells rows columns (drop columns cells) (rest-long rows columns cells e))
-    ∙ take-append-drop columns cells
+rows-cells (suc rows) columns cells e = grind (arith, nat_tests, rest-long, take-append-drop, rows-cells rows columns (drop columns cells) (rest-long rows columns cells e))
 
 -- one more row
 drop-rows : (n columns : ℕ) (cells : List ℕ) → drop (n * columns) (drop columns cells) ≡ drop (suc n * columns) cells
@@ -157,9 +153,7 @@ symbol-no_bar c e f = grind (arith, nat_tests, eq-eqb, and-true)
 
 module _ (p : Grid) (g : IsGrid p) where
   grid-symbols : list_all is_symbol p.symbols ≡ true
-  grid-symbols =
-      let a = and-true (nat_le 1 (length p.symbols) && nat_le (length p.symbols) 16 && list_all is_symbol p.symbols) (all_distinct p.symbols) g.symbols in
-      (and-true (nat_le 1 (length p.symbols) && nat_le (length p.symbols) 16) (list_all is_symbol p.symbols) a.0).1
+  grid-symbols = grind (arith, nat_tests, and-true)
 
   pub cell-is : (c : ℕ) → In c p.cells → is_symbol c ≡ true
   cell-is c m = symbol-is p.symbols grid-symbols c (cell-symbol p.symbols p.cells g.cells c m)
@@ -191,9 +185,7 @@ none-found p xs h =
 ragged-none : (columns start : ℕ) (rows : List (List ℕ)) → ((row : List ℕ) → In row rows → length row ≡ columns)
     → ragged columns start rows ≡ None
 ragged-none columns start [] h = refl
-ragged-none columns start (row ∷ rows) h =
-    ap (λ b. if b then ragged columns (start + length row + 1) rows else Some start) (eq-eqb (length row) columns (h row (inl refl)))
-    ∙ ragged-none columns (start + length row + 1) rows (λ r m. h r (inr m))
+ragged-none columns start (row ∷ rows) h = grind (arith, nat_tests, eq-eqb, ragged-none columns (start + length row + 1) rows)
 
 abbrev grid_of : List ℕ → ℕ → List (List ℕ) → Grid
 grid_of symbols columns rows = record {

@@ -16,14 +16,7 @@ pub within-le : (a b : ℕ) → ((k : ℕ) → bit_at a k ≡ 1 → bit_at b k �
 within-le a b w = subst (λ (z : ℕ). a ≤ z) (same_from_bits (bit_or a b) b bits) (le_or_l a b)
   where
     bits : (i : ℕ) → bit_at (bit_or a b) i ≡ bit_at b i
-    bits i =
-        let h = bit_at_or a b i in
-        let x = bit_at-lt a i in
-        let y = bit_at-lt b i in
-        elim (eqb_tells (bit_at a i) 1) [
-          | inl e ↦ (let one = w i e.1 in omega (arith, h, y, one))
-          | inr o ↦ (let no = o.1 in omega (arith, no, h, x, y))
-        ]
+    bits i = grind (arith, nat_tests, bit_at_or, bit_at-lt, eqb_tells)
 
 -- ---- a word with one place cleared
 

@@ -155,14 +155,10 @@ not-ragged columns start (row ∷ rows) e = elim (eqb_tells (length row) columns
 
 -- and so many rows
 pub rows-by : (rows columns n : ℕ) → n ≡ rows * columns → (columns ≡ 0 → ⊥) → n / columns ≡ rows
-rows-by rows columns n e some =
-    let whole : n ≡ rows * columns + 0 = omega (arith, e) in
-    ap (λ z. z / columns) whole ∙ div-mul-add rows columns 0 (omega (arith, some))
+rows-by rows columns n e some = grind (arith, nat_tests, div-mul-add)
 
 pub few-rows : (rows columns n : ℕ) → n ≡ rows * columns → n ≤ 64 → (columns ≡ 0 → ⊥) → rows ≤ 64
-few-rows rows columns n e few some =
-    let m : rows * 1 ≤ rows * columns = mul-le-mul_left rows (omega arith) in
-    omega (arith, m)
+few-rows rows columns n e few some = grind (arith, nat_tests, mul-le-mul_left)
 
 -- ---- the cells of a board
 

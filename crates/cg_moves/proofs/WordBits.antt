@@ -102,9 +102,7 @@ shifted_on word by i l few =
     low-bits (word * 2 ^ by) i few ∙ ap (λ z. bit_at z i) (sym e) ∙ bit_at_cat_high word by 0 i (pow_pos by) l
 
 pub shifted_back : (word by i : ℕ) → bit_at (word / 2 ^ by) i ≡ bit_at word (i + by)
-shifted_back word by i =
-    let e : by + i ≡ i + by = omega arith in
-    ap (λ z. z % 2) (shr-shr word by i) ∙ ap (bit_at word) e
+shifted_back word by i = grind (arith, nat_tests, shr-shr)
 
 -- the tests after a shift
 pub marks_moved_on : (word by result : ℕ) (p : ℕ → Bool) → result < 2 ^ 64 → Marks word p
