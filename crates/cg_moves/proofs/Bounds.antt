@@ -19,8 +19,7 @@ module _ (r : GameRules) (moves : AreMoves r) where
   pub after-has : (player : Player) (p q : Grid) → r.has p ≡ true → In q (boards_after r player p) → r.has q ≡ true
   after-has player p q has m = grind (arith, nat_tests, in-map)
 
-  pub after-lowers : (player : Player) (p q : Grid) → r.has p ≡ true → In q (boards_after r player p)
-      → r.measure q < r.measure p
+  pub after-lowers : (player : Player) (p q : Grid) → r.has p ≡ true → In q (boards_after r player p) → r.measure q < r.measure p
   after-lowers player p q has m = grind (arith, nat_tests, in-map)
 
   pub follower-has : (p q : Grid) → r.has p ≡ true → In q (followers r p) → r.has q ≡ true
@@ -32,16 +31,14 @@ module _ (r : GameRules) (moves : AreMoves r) where
   -- ---- the tree
 
   -- trees that agree on the boards that moves lead to
-  trees-agree : (f k : Grid → Game) (p : Grid)
-      → ((player : Player) (q : Grid) → In q (boards_after r player p) → f q ≡ k q)
+  trees-agree : (f k : Grid → Game) (p : Grid) → ((player : Player) (q : Grid) → In q (boards_after r player p) → f q ≡ k q)
       → node (map f (boards_after r Left p)) (map f (boards_after r Right p))
       ≡ node (map k (boards_after r Left p)) (map k (boards_after r Right p))
   trees-agree f k p same =
       ap (λ z. node z (map f (boards_after r Right p))) (map-agree f k (boards_after r Left p) (same Left))
       ∙ ap (node (map k (boards_after r Left p))) (map-agree f k (boards_after r Right p) (same Right))
 
-  raw_within-bound : (n m : ℕ) (p : Grid) → r.has p ≡ true → r.measure p < n → r.measure p < m
-      → raw_within r n p ≡ raw_within r m p
+  raw_within-bound : (n m : ℕ) (p : Grid) → r.has p ≡ true → r.measure p < n → r.measure p < m → raw_within r n p ≡ raw_within r m p
   unfolding raw_within
   raw_within-bound zero m p has n_is m_is = absurd (omega arith)
   raw_within-bound (suc n) zero p has n_is m_is = absurd (omega arith)

@@ -82,8 +82,7 @@ module _ (w : Way) where
           go p m ∙ sym (go q n)
 
       pub among-alike : (p : Grid) → IsAmong p → AreAlike (found ++ (p ∷ []))
-      among-alike p m = found-alike (p ∷ []) (λ q n. reached-symbols (play w) lawful w.starts h q
-          (subst IsAmong (sym (in_one q p n)) m))
+      among-alike p m = found-alike (p ∷ []) (λ q n. reached-symbols (play w) lawful w.starts h q (subst IsAmong (sym (in_one q p n)) m))
 
       -- what comes next after a board that was found
       next-among : (p : Grid) → In p found → (q : Grid) → In q (flat_map (parts w) (followers w.game p)) → IsAmong q

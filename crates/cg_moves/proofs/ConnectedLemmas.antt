@@ -49,8 +49,7 @@ pub connected-refl : (es : List Edge) (u : ℕ) → IsTrue (connected es u u)
 connected-refl [] u = eq-eqb u u refl
 connected-refl (e ∷ es) u = over-none e es u u (connected-refl es u)
 
-pub connected-trans : (es : List Edge) (u v w : ℕ) → IsTrue (connected es u v) → IsTrue (connected es v w)
-    → IsTrue (connected es u w)
+pub connected-trans : (es : List Edge) (u v w : ℕ) → IsTrue (connected es u v) → IsTrue (connected es v w) → IsTrue (connected es u w)
 connected-trans [] u v w h k = eq-eqb u w (eqb-true u v h ∙ eqb-true v w k)
 connected-trans (e ∷ es) u v w h k = elim ((over-cases e es u v h).way) [
   | inl a ↦ elim ((over-cases e es v w k).way) [
@@ -85,8 +84,7 @@ connected_along e (f ∷ es) (inr m) = let h = connected_along e es m in (
 )
 
 -- what holds at one end of each edge if at the other
-pub connected-closed : (R : ℕ → Type 0) (es : List Edge)
-    → ((e : Edge) → In e es → (R e.one → R e.other) × (R e.other → R e.one))
+pub connected-closed : (R : ℕ → Type 0) (es : List Edge) → ((e : Edge) → In e es → (R e.one → R e.other) × (R e.other → R e.one))
     → (u v : ℕ) → IsTrue (connected es u v) → R u → R v
 connected-closed R [] closed u v h r = subst R (eqb-true u v h) r
 connected-closed R (e ∷ es) closed u v h r =

@@ -1,5 +1,5 @@
 -- The cells in which boards differ, by their planes.
-use Rattle.std.proofs.Common.{◌≡◌, ◌≢◌, ℕ, ◌+◌, ◌*◌, ◌%◌, ◌<◌, ◌≤◌, ◌==◌, ◌^◌, inl, inr, not, if◌then◌else◌, nat_lt, List, length, ap, sym, ◌∙◌, arith, max, bit_or, w64}
+use Rattle.std.proofs.Common.{◌≡◌, ◌≢◌, ℕ, ◌+◌, ◌*◌, ◌%◌, ◌<◌, ◌≤◌, ◌==◌, ◌^◌, inl, inr, not, if◌then◌else◌, List, length, ap, sym, ◌∙◌, arith, max, bit_or, w64}
 use Rattle.std.specs.Prelude.{slice_index}
 use Rattle.std.specs.Int.{bit_at, trailing_zeros}
 use Rattle.std.specs.Int.Bits.{bit_xor}
@@ -10,7 +10,7 @@ use Rattle.std.proofs.lemmas.List.{ext_get_or, get_or_past}
 use Rattle.std.proofs.lemmas.Nat.Bits.{bit_at-lt, bit_at-trailing_zeros, bit_at-zero, bit_at_or, bit_at_xor}
 use Rattle.cg_moves.specs.declared.planes.Planes.{Planes}
 use Rattle.cg_moves.specs.Grid.{AreCells}
-use Rattle.cg_moves.specs.PlaneBits.{ArePlanes, index_at, index_of, plane_bit}
+use Rattle.cg_moves.specs.PlaneBits.{ArePlanes, index_at, plane_bit}
 use Rattle.cg_moves.specs.Rising.{bytes_cmp}
 use Rattle.cg_moves.specs.Words.{Marks}
 use Rattle.cg_moves.proofs.PlaneLemmas.{index-read, index-reads}
@@ -36,8 +36,7 @@ not-same a b c d e f g h la lb lc ld le lf lg lh apart = omega (arith, apart)
 
 module _ (symbols cells others : List ℕ) (u v : Planes) (here : ArePlanes symbols cells u)
     (there : ArePlanes symbols others v) (long : length cells ≡ length others) (i : ℕ) where
-  plane-same : slice_index cells i ≡ slice_index others i → (b : ℕ)
-      → plane_bit symbols cells b i ≡ plane_bit symbols others b i
+  plane-same : slice_index cells i ≡ slice_index others i → (b : ℕ) → plane_bit symbols cells b i ≡ plane_bit symbols others b i
   plane-same e b = grind (arith, nat_tests)
 
   same-cell : AreCells symbols cells → AreCells symbols others → length symbols ≤ 16 → i < length cells

@@ -77,8 +77,7 @@ module _ (w : Way) (lawful : IsPlay (play w)) (s : Seen) (tasks : List Task) whe
       let (p, at, (us, front, on)) = last-known w s tasks place x in (us, front, seen-way w lawful s us p on place at after e)
 
   module _ (p : Grid) (x : IsWalking w s (tasks ++ (Enter p ∷ []))) where
-    pub entered-again : (place : ℕ) → IsAt s.boards place p → (after : List ℕ) → after ≡ s.pending.items ++ (place ∷ [])
-        → HasPending after
+    pub entered-again : (place : ℕ) → IsAt s.boards place p → (after : List ℕ) → after ≡ s.pending.items ++ (place ∷ []) → HasPending after
     entered-again place at after e =
         let (us, front, on) = last-enters w s tasks p x in (us, front, seen-way w lawful s us p on place at after e)
 

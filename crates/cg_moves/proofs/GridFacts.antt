@@ -1,5 +1,5 @@
 -- Boards with their parts put together.
-use Rattle.std.proofs.Common.{◌≡◌, ℕ, zero, suc, ◌*◌, ◌<◌, ◌≤◌, ◌==◌, ◌&&◌, true, not, List, [], ◌∷◌, length, sym, ap, ◌∙◌, subst, arith, inl, inr, get_or-set_same, get_or-set_other}
+use Rattle.std.proofs.Common.{◌≡◌, ℕ, zero, suc, ◌*◌, ◌<◌, ◌≤◌, ◌&&◌, true, List, [], ◌∷◌, length, sym, ap, ◌∙◌, subst, arith, inl, inr, get_or-set_same, get_or-set_other}
 use Rattle.std.specs.Prelude.{nat_le, slice_index, slice_set, Contains}
 use Rattle.std.specs.List.{list_all}
 use Rattle.std.proofs.lemmas.Bool.{leb-true}
@@ -9,8 +9,7 @@ use Rattle.cg_moves.specs.Grid.{AreCells, Grid, IsGrid, all_distinct, are_symbol
 use Rattle.cg_moves.proofs.Same.{and-true}
 
 -- cells with one of them changed to a symbol
-pub set-cells : (symbols cells : List ℕ) (i s : ℕ) → AreCells symbols cells → Contains symbols s
-    → AreCells symbols (slice_set cells i s)
+pub set-cells : (symbols cells : List ℕ) (i s : ℕ) → AreCells symbols cells → Contains symbols s → AreCells symbols (slice_set cells i s)
 set-cells symbols cells i s all is k in_set =
     let e = length-set cells i s in
     let P : ℕ → Type 0 = λ z. Contains symbols z in

@@ -137,8 +137,7 @@ module _ (w : Way) (lawful : IsPlay (play w)) (s : Seen) (tasks : List Visit) (t
 
 -- ---- where a walk begins
 
-pub starts-alike : (r : Play) (none starts same : List Grid) → none ≡ [] → same ≡ starts → AreStarts r starts
-    → AreAlike (none ++ same)
+pub starts-alike : (r : Play) (none starts same : List Grid) → none ≡ [] → same ≡ starts → AreStarts r starts → AreAlike (none ++ same)
 starts-alike r none starts same e f h =
     let P : List Grid → Type 0 = λ z. AreAlike z in
     subst P (sym (ap (λ z. z ++ same) e ∙ f)) (λ p q m n. (h.known p m).0 ∙ sym (h.known q n).0)

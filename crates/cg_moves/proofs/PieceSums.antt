@@ -20,8 +20,7 @@ use Rattle.cg_moves.proofs.Members.{in-map, in_mapped}
 
 module _ (r : GameRules) (moves : AreMoves r) where
   -- the options are the trees of the moves
-  pub options-raw : (player : Player) (p : Grid) → r.has p ≡ true
-      → options_of player (raw r p) ≡ map (raw r) (boards_after r player p)
+  pub options-raw : (player : Player) (p : Grid) → r.has p ≡ true → options_of player (raw r p) ≡ map (raw r) (boards_after r player p)
   options-raw Left p has = ap (options_of Left) (raw-moves r moves p has)
       ∙ lefts-node (map (raw r) (boards_after r Left p)) (map (raw r) (boards_after r Right p))
   options-raw Right p has = ap (options_of Right) (raw-moves r moves p has)

@@ -62,8 +62,7 @@ planes_tell symbols cells w are all few =
     long : length (cells_by symbols w (length cells)) ≡ length cells
     long = length-map-range_with_len (λ i. slice_index symbols (index_at w i)) 0 (length cells)
 
-    same : (i : ℕ) → i < length (cells_by symbols w (length cells))
-        → get_or (cells_by symbols w (length cells)) i 0 ≡ get_or cells i 0
+    same : (i : ℕ) → i < length (cells_by symbols w (length cells)) → get_or (cells_by symbols w (length cells)) i 0 ≡ get_or cells i 0
     same i l = grind (arith, nat_tests, long, get_or-map-range_with_len, index-read, index-reads)
 
 -- ---- another symbol at a cell

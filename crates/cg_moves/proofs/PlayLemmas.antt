@@ -75,8 +75,7 @@ module _ (r : GameRules) (lawful : IsLawful r) where
           let a = each.measure s.board q (follower-has r lawful.moves p s.board has s.follows) s.piece in
           let b = follower-lowers r lawful.moves p s.board has s.follows in
           omega (arith, a, b);
-      all = λ p has.
-          ap (λ z. z ++ (p ∷ []))
+      all = λ p has. ap (λ z. z ++ (p ∷ []))
           (flat_map-agree (all_piece_reached r) (λ s. flat_map (pieces_after r) (pieces r s)) (followers r p)
           (λ s l. piece_reached-moves r lawful.moves each s (follower-has r lawful.moves p s has l))
           ∙ sym (flat_map-twice (pieces_after r) (pieces r) (followers r p)));
@@ -88,8 +87,7 @@ module _ (r : GameRules) (lawful : IsLawful r) where
       known = λ q m. (each.symbols p q has m, each.has p q has m);
     }
 
-    pub piece_reach-kept : (p : Grid) → r.has p ≡ true
-        → piece_reach_of r p ≡ kept [] (flat_map (play_of r Pieces).all (pieces r p))
+    pub piece_reach-kept : (p : Grid) → r.has p ≡ true → piece_reach_of r p ≡ kept [] (flat_map (play_of r Pieces).all (pieces r p))
     unfolding piece_reach_of
     piece_reach-kept p has = once-extended boards (all_piece_reached r p) ∙ ap (kept []) (piece_reached-moves r lawful.moves each p has)
 
@@ -111,8 +109,7 @@ module _ (r : GameRules) (lawful : IsLawful r) where
         known = λ q m. subst Q (sym (in_one q p m)) (refl, has);
       })
 
-  pub reach-kept_all : (p : Grid) (starts : List Grid) → starts ≡ p ∷ []
-      → reach_of r p ≡ kept [] (flat_map (play_of r Moves).all starts)
+  pub reach-kept_all : (p : Grid) (starts : List Grid) → starts ≡ p ∷ [] → reach_of r p ≡ kept [] (flat_map (play_of r Moves).all starts)
   unfolding reach_of
   reach-kept_all p starts e =
       once-extended boards (all_reached r p)

@@ -50,8 +50,7 @@ module _ (found : List Grid) where
 
   -- ---- tasks that are put behind others
 
-  pub adds-one : (ts after : List Task) (t : Task) (v : Visit) → after ≡ ts ++ (t ∷ []) → IsTold found t v
-      → Adds found ts after (v ∷ [])
+  pub adds-one : (ts after : List Task) (t : Task) (v : Visit) → after ≡ ts ++ (t ∷ []) → IsTold found t v → Adds found ts after (v ∷ [])
   adds-one ts after t v e h = (t ∷ [], e, (h, tt))
 
   pub adds-more : (a b c : List Task) (us vs : List Visit) → Adds found a b us → Adds found b c vs → Adds found a c (us ++ vs)
@@ -115,8 +114,7 @@ module _ (r : Play) where
   some-boards lawful p has = ap length (lawful.all p has) ∙ length-append (flat_map r.all (r.next p)) (p ∷ [])
 
   module _ (lawful : IsPlay r) (found : List Grid) where
-    one-load : (t : Task) (v : Visit) → r.has (visit_board v) ≡ true → IsTold found t v
-        → task_load r t ≤ 2 * length (visit_boards r v)
+    one-load : (t : Task) (v : Visit) → r.has (visit_board v) ≡ true → IsTold found t v → task_load r t ≤ 2 * length (visit_boards r v)
     one-load (Known n) (Enters p) has h = let l = some-boards lawful p has in omega arith
     one-load (Known n) (Leaves e) has h = absurd h
     one-load (Enter q) (Enters p) has h = let l = ap (λ z. length (r.all z)) h in omega arith
@@ -124,8 +122,7 @@ module _ (r : Play) where
     one-load (Leave f) (Enters p) has h = absurd h
     one-load (Leave f) (Leaves e) has h = omega arith
 
-    told-load : (ts : List Task) (vs : List Visit) → AreKnown r vs → AreTold found ts vs
-        → load r ts ≤ 2 * length (boards_left r vs)
+    told-load : (ts : List Task) (vs : List Visit) → AreKnown r vs → AreTold found ts vs → load r ts ≤ 2 * length (boards_left r vs)
     told-load [] [] known h = omega arith
     told-load [] (v ∷ vs) known h = absurd h
     told-load (t ∷ ts) [] known h = absurd h

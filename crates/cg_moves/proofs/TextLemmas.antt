@@ -70,8 +70,7 @@ which_cell true c e = inl refl
 which_cell false c e = grind (arith, nat_tests, eqb_tells)
 
 -- there is room where a cell more is among few
-pub room : (all cells rest : List ℕ) (n c : ℕ) → length all ≤ 64 → n ≤ length cells
-    → all ≡ (take n cells ++ (c ∷ [])) ++ rest → n < 64
+pub room : (all cells rest : List ℕ) (n c : ℕ) → length all ≤ 64 → n ≤ length cells → all ≡ (take n cells ++ (c ∷ [])) ++ rest → n < 64
 room all cells rest n c few inside e =
     let a = ap length e ∙ length-append (take n cells ++ (c ∷ [])) rest in
     let b = length-append (take n cells) (c ∷ []) in
@@ -105,8 +104,7 @@ module _ (columns : ℕ) (text : List ℕ) (start row : ℕ) (later : Option ℕ
     here : cut (drop (start - 1) text) ≡ [] ∷ cut (drop start text)
     here = ap cut at ∙ cut-bar (get_or text (start - 1) 0) (drop start text) b
 
-    there : (o : Option ℕ) → o ≡ (if row == columns then later else Some (start + 1))
-        → RaggedFrom columns text (start - 1) 0 o
+    there : (o : Option ℕ) → o ≡ (if row == columns then later else Some (start + 1)) → RaggedFrom columns text (start - 1) 0 o
     there o e =
         let l = so_far.inside in
         let s : start - 1 + 0 + 2 ≡ start + 1 = omega arith in
@@ -174,8 +172,7 @@ in-cut (d ∷ ds) c m = elim (eqb_tells d bar) [
       ]
 ]
 
-in-rows : (one_row : Bool) (text : List ℕ) (c : ℕ) → In c (cells_of (rows_of one_row text))
-    → In c text × ((one_row ≡ true) ⊎ (c ≡ bar → ⊥))
+in-rows : (one_row : Bool) (text : List ℕ) (c : ℕ) → In c (cells_of (rows_of one_row text)) → In c text × ((one_row ≡ true) ⊎ (c ≡ bar → ⊥))
 in-rows true text c m = (carry c (text ++ []) text (append-nil text) m, inl refl)
 in-rows false text c m = let h = in-cut text c m in (h.0, inr h.1)
 

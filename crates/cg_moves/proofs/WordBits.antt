@@ -21,8 +21,7 @@ cleared word place = bit_and word (18446744073709551615 - 1 * 2 ^ place % 184467
 abbrev pub raised : ℕ → ℕ → ℕ
 raised word place = bit_or word (1 * 2 ^ place % 18446744073709551616)
 
-pub bit_cleared : (word place bit : ℕ) → word < 2 ^ 64 → place < 64 → bit ≡ 0
-    → IsWithBit word (cleared word place) place bit
+pub bit_cleared : (word place bit : ℕ) → word < 2 ^ 64 → place < 64 → bit ≡ 0 → IsWithBit word (cleared word place) place bit
 bit_cleared word place bit fits within e i =
     with_bit word (cleared word place) place bit i (bit_at_clear_same w64 word place within ∙ sym e) others
   where
@@ -58,8 +57,7 @@ without false false = refl
 
 module _ (a b : ℕ) (p q : ℕ → Bool) (are : Marks a p) (others : Marks b q) where
   pub marks_both : Marks (bit_and a b) (λ i. p i && q i)
-  marks_both i = bit_at_and a b i ∙ ap (λ z. min z (bit_at b i)) (are i) ∙ ap (min (if p i then 1 else 0)) (others i)
-      ∙ both (p i) (q i)
+  marks_both i = bit_at_and a b i ∙ ap (λ z. min z (bit_at b i)) (are i) ∙ ap (min (if p i then 1 else 0)) (others i) ∙ both (p i) (q i)
 
   -- the word `a & !b`
   pub marks_without : a < 2 ^ 64 → b < 2 ^ 64 → Marks (bit_and a (18446744073709551615 - b)) (λ i. p i && not (q i))
@@ -105,8 +103,7 @@ pub shifted_back : (word by i : ℕ) → bit_at (word / 2 ^ by) i ≡ bit_at wor
 shifted_back word by i = grind (arith, nat_tests, shr-shr)
 
 -- the tests after a shift
-pub marks_moved_on : (word by result : ℕ) (p : ℕ → Bool) → result < 2 ^ 64 → Marks word p
-    → ((i : ℕ) → i < by → bit_at result i ≡ 0)
+pub marks_moved_on : (word by result : ℕ) (p : ℕ → Bool) → result < 2 ^ 64 → Marks word p → ((i : ℕ) → i < by → bit_at result i ≡ 0)
     → ((i : ℕ) → by ≤ i → i < 64 → bit_at result i ≡ bit_at word (i - by))
     → Marks result (λ i. nat_lt i 64 && (not (nat_lt i by) && p (i - by)))
 marks_moved_on word by result p fits are first others i = elim (leb_tells 64 i) [
@@ -118,10 +115,8 @@ marks_moved_on word by result p fits are first others i = elim (leb_tells 64 i) 
   ]
 ]
   where
-    inside : i < 64 → (b : Bool) → nat_lt i by ≡ b
-        → one (nat_lt i 64 && (not (nat_lt i by) && p (i - by))) ≡ one (not b && p (i - by))
-    inside l b e = ap (λ t. one (t && (not (nat_lt i by) && p (i - by)))) (lt-ltb i 64 l)
-        ∙ ap (λ t. one (true && (not t && p (i - by)))) e
+    inside : i < 64 → (b : Bool) → nat_lt i by ≡ b → one (nat_lt i 64 && (not (nat_lt i by) && p (i - by))) ≡ one (not b && p (i - by))
+    inside l b e = ap (λ t. one (t && (not (nat_lt i by) && p (i - by)))) (lt-ltb i 64 l) ∙ ap (λ t. one (true && (not t && p (i - by)))) e
 
 -- ---- masks
 
