@@ -136,8 +136,7 @@ bounds-list : (width : ℕ) (in_set : ℕ → Bool) (n : ℕ) (k : ℕ) (ks : Li
 unfolding box_of
 bounds-list width in_set n k ks within e = record {
   rows = bounds-by (row_of width) in_set n (row_of width k) (map (row_of width) ks) within (ap (map (row_of width)) e);
-  columns = bounds-by (column_of width) in_set n (column_of width k) (map (column_of width) ks) within
-      (ap (map (column_of width)) e);
+  columns = bounds-by (column_of width) in_set n (column_of width k) (map (column_of width) ks) within (ap (map (column_of width)) e);
 }
 
 pub set-bounds : (p : Grid) (in_set : ℕ → Bool) (k : ℕ) → ((l : ℕ) → in_set l ≡ true → l < length p.cells)

@@ -23,17 +23,14 @@ use Rattle.cg_pieces.proofs.OpenWords.{marks-test, test-marks}
 module _ (w size : ℕ) (few : w ≤ 64) (below : size ≤ 64) where
   first-column : (word : ℕ) → Marks word (λ i. nat_lt i size && (i % w == 0)) → IsColumn w size 0 word
   first-column word are = record {
-    only = λ k t.
-        eqb-true (k % w) 0
+    only = λ k t. eqb-true (k % w) 0
         (and-split (nat_lt k size) (k % w == 0) (marks-test word (λ i. nat_lt i size && (i % w == 0)) are k t)).1;
-    all = λ k h e.
-        test-marks word (λ i. nat_lt i size && (i % w == 0)) are k
+    all = λ k h e. test-marks word (λ i. nat_lt i size && (i % w == 0)) are k
         (and-both (nat_lt k size) (k % w == 0) (lt-ltb k size h) (eq-eqb (k % w) 0 e));
   }
 
   -- so many columns on
-  column-on : (column by word : ℕ) → IsColumn w size column word → column + by < w
-      → IsColumn w size (column + by) (moved_on word by)
+  column-on : (column by word : ℕ) → IsColumn w size column word → column + by < w → IsColumn w size (column + by) (moved_on word by)
   column-on column by word is inside = record {
     only = λ k t. elim (leb_tells by k) [
       | inl h ↦

@@ -46,8 +46,7 @@ pub record Shows (n : Neighbours) (p : Grid) (index : ℕ) : Type 0 where
   pub shows : slice_index p.symbols index ≡ n.blank
   pub is : IsIndex p.symbols (slice_index p.symbols index) index
 
-pub index-shows : (n : Neighbours) (p : Grid) (index : ℕ) → p.symbols ≡ n.symbols → IsIndex n.symbols n.blank index
-    → Shows n p index
+pub index-shows : (n : Neighbours) (p : Grid) (index : ℕ) → p.symbols ≡ n.symbols → IsIndex n.symbols n.blank index → Shows n p index
 index-shows n p index e is =
     let shows : slice_index p.symbols index ≡ n.blank =
     ap (slice_index p.symbols) is.value ∙ ap (λ z. slice_index z (index_of n.symbols n.blank)) e
@@ -79,8 +78,7 @@ module _ (p : Grid) (grid : IsGrid p) (set first blank : ℕ) (from : IsSetFrom 
       (word_is : (k : ℕ) → bit_at word k ≡ plane_bit p.symbols p.cells b k) (index_is : index ≡ index_of p.symbols blank)
       (bit_is : bit ≡ bit_at index b)
       (shown_is : (k : ℕ) → k < 64 → bit_at shown k ≡ (if in_word set k then bit_at word k else bit)) where
-    shown-at : (k : ℕ) → k < length p.cells
-        → bit_at shown k ≡ bit_at (index_of p.symbols (shown_cell blank (in_word set) p.cells k)) b
+    shown-at : (k : ℕ) → k < length p.cells → bit_at shown k ≡ bit_at (index_of p.symbols (shown_cell blank (in_word set) p.cells k)) b
     shown-at k below =
         let few = grid.few in
         shown_is k (omega (arith, below, few)) ∙ elim (true-or-not (in_word set k)) [

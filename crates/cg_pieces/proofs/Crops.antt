@@ -55,14 +55,10 @@ module _ (blank : ℕ) (p : Grid) (set : ℕ → Bool) (within : (k : ℕ) → s
   bounds = set-bounds p set some within some_in
 
   pub place-row : (k : ℕ) → set k ≡ true → row_of box.columns (place k) ≡ row_of p.columns k - box.top
-  place-row k t =
-      let low = bounds.columns.low k t in let high = bounds.columns.high k t in
-      row-cell box.columns (row_of p.columns k - box.top) (column_of p.columns k - box.left) (omega arith)
+  place-row k t = grind (arith, nat_tests, bounds, row-cell)
 
   pub place-column : (k : ℕ) → set k ≡ true → column_of box.columns (place k) ≡ column_of p.columns k - box.left
-  place-column k t =
-      let low = bounds.columns.low k t in let high = bounds.columns.high k t in
-      column-cell box.columns (row_of p.columns k - box.top) (column_of p.columns k - box.left) (omega arith)
+  place-column k t = grind (arith, nat_tests, bounds, column-cell)
 
   pub row-low : (k : ℕ) → set k ≡ true → box.top ≤ row_of p.columns k
   row-low k t = bounds.rows.low k t
@@ -95,11 +91,8 @@ module _ (blank : ℕ) (p : Grid) (set : ℕ → Bool) (within : (k : ℕ) → s
   crop-at m h = counted-get (λ m. shown_cell blank set p.cells (unboxed box p.columns m)) 0 (box.rows * box.columns) m h
       ∙ (let e : 0 + m ≡ m = omega arith in ap (λ z. shown_cell blank set p.cells (unboxed box p.columns z)) e)
 
-  pub crop-symbol : (k : ℕ) → set k ≡ true
-      → slice_index (cropped blank set p).cells (place k) ≡ slice_index p.cells k
-  crop-symbol k t =
-      crop-at (place k) (place-below k t) ∙ ap (shown_cell blank set p.cells) (unplace k t)
-      ∙ ap (λ b. if b then slice_index p.cells k else blank) t
+  pub crop-symbol : (k : ℕ) → set k ≡ true → slice_index (cropped blank set p).cells (place k) ≡ slice_index p.cells k
+  crop-symbol k t = grind (arith, nat_tests, crop-at, place-below, unplace)
 
   pub crop-back : (m : ℕ) → m < box.rows * box.columns → slice_index (cropped blank set p).cells m ≢ blank
       → (k : ℕ) × (set k ≡ true) × (m ≡ place k)

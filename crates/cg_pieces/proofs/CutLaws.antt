@@ -25,8 +25,7 @@ record MappedCut {Y : Type 0} (f : ℕ → Y) (ks : List ℕ) (us : List Y) (y :
   middle : y ≡ f cell
   right : vs ≡ map f behind
 
-mapped-cut : {Y : Type 0} (f : ℕ → Y) (ks : List ℕ) (us : List Y) (y : Y) (vs : List Y) → map f ks ≡ us ++ (y ∷ vs)
-    → MappedCut f ks us y vs
+mapped-cut : {Y : Type 0} (f : ℕ → Y) (ks : List ℕ) (us : List Y) (y : Y) (vs : List Y) → map f ks ≡ us ++ (y ∷ vs) → MappedCut f ks us y vs
 mapped-cut {Y} f [] [] y vs e = absurd (cc)
 mapped-cut {Y} f [] (u ∷ us) y vs e = absurd (cc)
 mapped-cut {Y} f (k ∷ ks) [] y vs e = record {
@@ -128,8 +127,7 @@ module _ (g : CellGame) (r : GameRules) (laws : IsCellGame g) (cuts : CutsByCell
   piece-legal player p s one other has among legal j =
       (cuts.shown p s has among).place_legal player one other j (legal-joined g laws player p s one other legal j) ∙ legal
 
-  in-piece : (player : Player) (p : Grid) (cells : List ℕ) → r.has p ≡ true → In cells (r.moves player p)
-      → MoveInPiece r player p cells
+  in-piece : (player : Player) (p : Grid) (cells : List ℕ) → r.has p ≡ true → In cells (r.moves player p) → MoveInPiece r player p cells
   in-piece player p cells has m =
       let w = cuts.legal_move player p cells has m in
       let (s, among, j) = first-of-move player p w.one w.other w.legal in
@@ -221,8 +219,7 @@ module _ (g : CellGame) (r : GameRules) (laws : IsCellGame g) (cuts : CutsByCell
       (piece-legal f.player p s f.one f.other has among f.legal f.joined))
 
   -- what holds of the board of each first cell holds of each piece
-  each-piece : (P : Grid → Type 0) (p q : Grid) → ((s : ℕ) → In s (g.firsts p) → P (g.piece p s))
-      → In q (pieces r p) → P q
+  each-piece : (P : Grid → Type 0) (p q : Grid) → ((s : ℕ) → In s (g.firsts p) → P (g.piece p s)) → In q (pieces r p) → P q
   each-piece P p q each m =
       let Q : List Grid → Type 0 = λ z. In q z in
       let (s, i, e) = in-map (g.piece p) q (g.firsts p) (subst Q (pieces-are p) m) in

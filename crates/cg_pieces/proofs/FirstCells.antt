@@ -39,8 +39,7 @@ module _ (n : Neighbours) (laws : IsNeighbours n) (p : Grid) where
       ]
 
   -- the word of the cells with moves, by the players' moves between a cell and one behind it
-  pub moving-by : (word : ℕ)
-      → ((k : ℕ) → bit_at word k ≡ 1 → (player : Player) × (l : ℕ) × (may_move n player p k l ≡ true))
+  pub moving-by : (word : ℕ) → ((k : ℕ) → bit_at word k ≡ 1 → (player : Player) × (l : ℕ) × (may_move n player p k l ≡ true))
       → ((player : Player) (k l : ℕ) → is_behind p k l ≡ true → may_move n player p k l ≡ true → bit_at word k ≡ 1)
       → ((player : Player) (k l : ℕ) → is_behind p k l ≡ true → may_move n player p l k ≡ true → bit_at word k ≡ 1)
       → AreMoving n p word

@@ -1,14 +1,13 @@
 -- The rows and columns that bound cells, and the cells inside.
 use Rattle.std.proofs.lemmas.Bool.Decides.{nat_tests}
-use Rattle.std.proofs.Common.{◌≡◌, ℕ, suc, ◌+◌, ◌-◌, ◌*◌, ◌<◌, ◌≤◌, inl, inr, Bool, true, if◌then◌else◌, List, length, slice_index, ap, sym, ◌∙◌, subst, arith}
+use Rattle.std.proofs.Common.{◌≡◌, ℕ, suc, ◌+◌, ◌-◌, ◌*◌, ◌<◌, ◌≤◌, inl, inr, Bool, true, if◌then◌else◌, List, length, slice_index, ap, sym, subst, arith}
 use Rattle.std.specs.Prelude.{Contains}
 use Rattle.std.proofs.Math.Nat.{mod-lt, mul-le-mul_left, mul-le-mul_right}
 use Rattle.std.proofs.lemmas.List.{length-map}
 use Rattle.cg_dyadic.proofs.Truth.{false-from, true-or-not}
 use Rattle.cg_moves.specs.Grid.{AreCells, Grid, IsGrid}
-use Rattle.cg_moves.specs.Rising.{counted}
 use Rattle.cg_pieces.specs.declared.frame.Frame.{Frame}
-use Rattle.cg_pieces.specs.Boxes.{Box, column_of, cropped, row_of, set_box, shown_cell, unboxed}
+use Rattle.cg_pieces.specs.Boxes.{Box, column_of, cropped, row_of, set_box, unboxed}
 use Rattle.cg_pieces.specs.Frames.{box_from}
 use Rattle.cg_pieces.proofs.Bounds.{Bounds, BoundsBy, cell-of, set-bounds}
 use Rattle.cg_pieces.proofs.Crops.{cell-below, crop-at, inner-column}
@@ -89,12 +88,7 @@ module _ (p : Grid) (set : ℕ → Bool) (within : (k : ℕ) → set k ≡ true 
         let a = bounds.columns.low first some in let b = bounds.columns.high first some in omega (arith, a, b)
 
     pub few-cells : box.rows * box.columns ≤ length p.cells
-    few-cells =
-        let a : box.rows * box.columns ≤ box.rows * p.columns =
-        mul-le-mul_left box.rows (let h = columns-inside in omega (arith, h)) in
-        let b : box.rows * p.columns ≤ p.rows * p.columns =
-        mul-le-mul_right p.columns (let h = rows-inside in omega (arith, h)) in
-        omega (arith, a, b, size)
+    few-cells = grind (arith, nat_tests, mul-le-mul_left, columns-inside, mul-le-mul_right, rows-inside)
 
     pub some-cells : 1 ≤ box.rows * box.columns
     some-cells = grind (arith, nat_tests, mul-le-mul_left, some-columns, some-rows)
@@ -113,12 +107,9 @@ module _ (p : Grid) (set : ℕ → Bool) (within : (k : ℕ) → set k ≡ true 
 
     pub cropped-size : (blank : ℕ) → length (cropped blank set p).cells ≡ box.rows * box.columns
     unfolding cropped
-    cropped-size blank =
-        length-map (counted 0 (box.rows * box.columns)) (λ m. shown_cell blank set p.cells (unboxed box p.columns m))
-        ∙ counted-length 0 (box.rows * box.columns)
+    cropped-size blank = grind (arith, nat_tests, length-map, counted-length)
 
-    pub cropped-cells : (blank : ℕ) → AreCells p.symbols p.cells → Contains p.symbols blank
-        → AreCells p.symbols (cropped blank set p).cells
+    pub cropped-cells : (blank : ℕ) → AreCells p.symbols p.cells → Contains p.symbols blank → AreCells p.symbols (cropped blank set p).cells
     cropped-cells blank cells has m below =
         let z = cropped-size blank in
         let h : m < box.rows * box.columns = omega (arith, below, z) in

@@ -93,10 +93,7 @@ module _ (f : Field) (set : ℕ) (is : IsField f) (within : IsWithin set f.cells
 
   -- a row with all 64 cells has none above or below it
   no-below : 64 ≤ f.columns → (k l : ℕ) → bit_at f.cells l ≡ 1 → is_below f.columns k l ≡ true → ⊥
-  no-below many k l o b =
-      let e = below-is f.columns k l b in
-      let few = bit-below f.cells l open_fits o in
-      omega (arith, e, few, many)
+  no-below many k l o b = grind (arith, nat_tests, below-is, bit-below)
 
   module _ (down up : ℕ) (down_first : (i : ℕ) → i < f.columns → bit_at down i ≡ 0)
       (down_others : (i : ℕ) → f.columns ≤ i → i < 64 → bit_at down i ≡ bit_at set (i - f.columns))
@@ -121,11 +118,7 @@ module _ (f : Field) (set : ℕ) (is : IsField f) (within : IsWithin set f.cells
     }
 
     all-down : (k l : ℕ) → bit_at set k ≡ 1 → bit_at f.cells l ≡ 1 → is_below f.columns k l ≡ true → bit_at down l ≡ 1
-    all-down k l s o b =
-        let e = below-is f.columns k l b in
-        let few = bit-below f.cells l open_fits o in
-        let same : l - f.columns ≡ k = omega (arith, e) in
-        down_others l (omega (arith, e)) few ∙ ap (bit_at set) same ∙ s
+    all-down k l s o b = grind (arith, nat_tests, below-is, bit-below)
 
     all-up : (k l : ℕ) → bit_at set k ≡ 1 → is_below f.columns l k ≡ true → bit_at up l ≡ 1
     all-up k l s b = let e = below-is f.columns l k b in up_is l ∙ ap (bit_at set) (sym e) ∙ s

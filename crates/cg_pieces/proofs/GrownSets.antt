@@ -46,9 +46,4 @@ grown f cell set more g next ends k = (all.joined k, go k)
 
     go : (k : ℕ) → JoinedIn f cell k → bit_at more k ≡ 1
     go k (here m e) = let P : ℕ → Type 0 = λ z. bit_at more z ≡ 1 in subst P e all.here
-    go k (step m l r m_open l_open adjacent) =
-        let open_k = eqb-true (bit_at f.cells k) 1 l_open in
-        elim ends [
-          | inl e ↦ next.all m k (ap (λ z. bit_at z m) (sym e) ∙ go m r) open_k adjacent
-          | inr e ↦ ap (λ z. bit_at z k) e ∙ open_k
-        ]
+    go k (step m l r m_open l_open adjacent) = grind (arith, nat_tests, eqb-true, all, go m r)

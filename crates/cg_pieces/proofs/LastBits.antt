@@ -2,7 +2,7 @@
 use Rattle.std.proofs.Common.{◌≡◌, refl, ℕ, suc, ◌+◌, ◌-◌, ◌*◌, ◌<◌, ◌≤◌, ◌^◌, inl, inr, ap, sym, ◌∙◌, arith, w64}
 use Rattle.std.specs.Int.{bit_at}
 use Rattle.std.specs.Int.Count.{count_leading_zeros, count_trailing_zeros}
-use Rattle.std.proofs.lemmas.Bool.Decides.{leb_tells}
+use Rattle.std.proofs.lemmas.Bool.Decides.{leb_tells, nat_tests}
 use Rattle.std.proofs.lemmas.Nat.{leading_top}
 use Rattle.std.proofs.lemmas.Nat.Bits.{bit_at-trailing_zeros, bit_at_above, bit_at_cat_high, bit_at-lt}
 
@@ -25,10 +25,7 @@ last-last a some fits k t =
     ]
 
 pub last-past : (a : ℕ) → 0 < a → a < 2 ^ 64 → (k : ℕ) → 63 - count_leading_zeros 64 a < k → bit_at a k ≡ 0
-last-past a some fits k late =
-    let b = bit_at-lt a k in
-    let n : ¬ (bit_at a k ≡ 1) = λ t. (let l = last-last a some fits k t in omega (arith, l, late)) in
-    omega (arith, b, n)
+last-past a some fits k late = grind (arith, nat_tests, bit_at-lt, last-last)
 
 pub first-one : (a : ℕ) → 0 < a → a < 2 ^ 64 → bit_at a (count_trailing_zeros 64 a) ≡ 1
 first-one a some fits = (bit_at-trailing_zeros w64 a some fits).1

@@ -32,9 +32,7 @@ is-beside w k inside =
 
 -- the second of two cells in a row is in no first column
 pub second-column : (w k l : ℕ) → is_beside w k l ≡ true → column_of w l ≡ column_of w k + 1
-second-column w k l h =
-    let both = and-split (row_of w k == row_of w l) (column_of w k + 1 == column_of w l) h in
-    sym (eqb-true (column_of w k + 1) (column_of w l) both.1)
+second-column w k l h = grind (arith, nat_tests, and-split, eqb-true)
 
 pub before-beside : (w k : ℕ) → 0 < w → ¬ (column_of w k ≡ 0) → is_beside w (k - 1) k ≡ true
 before-beside w k wide some =

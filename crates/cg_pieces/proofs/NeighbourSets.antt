@@ -93,8 +93,7 @@ module _ (n : Neighbours) (laws : IsNeighbours n) where
 
   pub joined-so : (p : Grid) (k l : ℕ) → are_joined n p k l ≡ true → Joined (cell_game n) p k l
   unfolding are_joined
-  joined-so p k l h = connected-closed (Joined (cell_game n) p k) (links n p)
-      (λ e m.
+  joined-so p k l h = connected-closed (Joined (cell_game n) p k) (links n p) (λ e m.
       let t = in-links p e m in
       let both = and-split (is_piece_cell n p e.one && is_piece_cell n p e.other) (is_next p.columns e.one e.other) t in
       let cells = and-split (is_piece_cell n p e.one) (is_piece_cell n p e.other) both.0 in (

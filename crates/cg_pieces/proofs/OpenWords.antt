@@ -40,8 +40,7 @@ module _ (n : Neighbours) (laws : IsNeighbours n) (p : Grid) where
           test-marks f.first_column (λ i. nat_lt i (length p.cells) && (i % p.columns == 0)) first k
           (and-both (nat_lt k (length p.cells)) (k % p.columns == 0) (lt-ltb k (length p.cells) below)
           (eq-eqb (k % p.columns) 0 (ap (λ w. k % w) (sym columns) ∙ z)));
-      others = λ k t some.
-          test-off f.first_column (λ i. nat_lt i (length p.cells) && (i % p.columns == 0)) first k
+      others = λ k t some. test-off f.first_column (λ i. nat_lt i (length p.cells) && (i % p.columns == 0)) first k
           (λ b. some (ap (λ w. k % w) columns
           ∙ eqb-true (k % p.columns) 0 (and-split (nat_lt k (length p.cells)) (k % p.columns == 0) b).1));
     };

@@ -21,8 +21,7 @@ module _ (g : CellGame) where
         (λ m. d.0 (in_middle u k us vs m), h.1),
       )
 
-  pub distinct-append : (us vs : List ℕ) → Distinct g us → Distinct g vs → ((k : ℕ) → In k us → In k vs → ⊥)
-      → Distinct g (us ++ vs)
+  pub distinct-append : (us vs : List ℕ) → Distinct g us → Distinct g vs → ((k : ℕ) → In k us → In k vs → ⊥) → Distinct g (us ++ vs)
   distinct-append [] vs d e apart = e
   distinct-append (u ∷ us) vs d e apart = (
     λ m. elim (in-append u us vs m) [ inl i ↦ d.0 i | inr i ↦ apart u (inl refl) i ],
@@ -43,8 +42,7 @@ module _ (g : CellGame) where
       let P : ℕ → Type 0 = λ z. In z vs in d.0 (in-append_right u us vs (subst P e j))
   distinct-apart (u ∷ us) vs d k (inr i) j = distinct-apart us vs d.1 k i j
 
-  pub distinct-map : (f : ℕ → ℕ) (ks : List ℕ) → Distinct g ks
-      → ((k l : ℕ) → In k ks → In l ks → f k ≡ f l → k ≡ l) → Distinct g (map f ks)
+  pub distinct-map : (f : ℕ → ℕ) (ks : List ℕ) → Distinct g ks → ((k l : ℕ) → In k ks → In l ks → f k ≡ f l → k ≡ l) → Distinct g (map f ks)
   distinct-map f [] d h = tt
   distinct-map f (k ∷ ks) d h = (
     λ m. let (l, i, e) = in-map f (f k) ks m in

@@ -68,8 +68,7 @@ module _ (word columns : ℕ) (f : Frame) where
         few-row : (row + 1) * f.columns ≤ 64
         few-row = grind (arith, nat_tests, mul-le-mul_right, few-cut)
 
-        in-row : (m : ℕ) → row * f.columns ≤ m → m < (row + 1) * f.columns
-            → bit_at on m ≡ bit_at word (unboxed (box_from f) columns m)
+        in-row : (m : ℕ) → row * f.columns ≤ m → m < (row + 1) * f.columns → bit_at on m ≡ bit_at word (unboxed (box_from f) columns m)
         in-row m low high =
             let d : ℕ = m - row * f.columns in
             let few : d < f.columns = omega (arith, low, high) in

@@ -64,8 +64,7 @@ module _ (g : CellGame) (laws : IsCellGame g) where
           player = f.player;
           one = f.one;
           other = f.other;
-          legal = sym (o.apart_legal f.player f.one f.other (stays-apart k f.one out one) (stays-apart k f.other out other))
-              ∙ f.legal;
+          legal = sym (o.apart_legal f.player f.one f.other (stays-apart k f.one out one) (stays-apart k f.other out other)) ∙ f.legal;
           joined = one;
         }
 
@@ -77,8 +76,7 @@ module _ (g : CellGame) (laws : IsCellGame g) where
           player = f.player;
           one = f.one;
           other = f.other;
-          legal = o.apart_legal f.player f.one f.other (stays-apart k f.one out f.joined) (stays-apart k f.other out other)
-              ∙ f.legal;
+          legal = o.apart_legal f.player f.one f.other (stays-apart k f.one out f.joined) (stays-apart k f.other out other) ∙ f.legal;
           joined = joined-apart k f.one out f.joined;
         }
 

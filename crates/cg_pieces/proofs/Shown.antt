@@ -15,20 +15,16 @@ use Rattle.cg_pieces.proofs.NeighbourSets.{joined-so, neighbours-cell_game, piec
 use Rattle.cg_pieces.proofs.Sets.{open-along}
 use Rattle.std.proofs.lemmas.List.{length-map}
 use Rattle.cg_moves.proofs.Counted.{counted-length, same-or-not}
-use Rattle.std.proofs.lemmas.Bool.Decides.{leb_tells}
+use Rattle.std.proofs.lemmas.Bool.Decides.{leb_tells, nat_tests}
 
 -- ---- places in rows and columns
 
 -- lines that are moved by as many lines keep whether one follows another
 moved-equal : (a b t : ℕ) → t ≤ a → t ≤ b → (a - t == b - t) ≡ (a == b)
-moved-equal a b t la lb = same_when (a - t == b - t) (a == b)
-    (λ h. let e = eqb-true (a - t) (b - t) h in eq-eqb a b (omega (arith, e)))
-    (λ h. let e = eqb-true a b h in eq-eqb (a - t) (b - t) (omega (arith, e)))
+moved-equal a b t la lb = grind (arith, nat_tests, same_when, eqb-true, eq-eqb)
 
 moved-next : (a b t : ℕ) → t ≤ a → t ≤ b → ((a - t) + 1 == b - t) ≡ (a + 1 == b)
-moved-next a b t la lb = same_when ((a - t) + 1 == b - t) (a + 1 == b)
-    (λ h. let e = eqb-true ((a - t) + 1) (b - t) h in eq-eqb (a + 1) b (omega (arith, e)))
-    (λ h. let e = eqb-true (a + 1) b h in eq-eqb ((a - t) + 1) (b - t) (omega (arith, e)))
+moved-next a b t la lb = grind (arith, nat_tests, same_when, eqb-true, eq-eqb)
 
 -- the order of cells is that of their rows, and in a row that of their columns
 order-by-lines : (w a b c d : ℕ) → b < w → d < w → (cell_at w a b ≤ cell_at w c d) → (a < c) ⊎ ((a ≡ c) × (b ≤ d))
@@ -85,8 +81,7 @@ module _ (n : Neighbours) (laws : IsNeighbours n) (p : Grid) (s : ℕ) (wide : 0
 
   -- ---- adjacent in the piece as on the board
 
-  pub below-placed : (k l : ℕ) → set k ≡ true → set l ≡ true
-      → is_below piece.columns (place k) (place l) ≡ is_below p.columns k l
+  pub below-placed : (k l : ℕ) → set k ≡ true → set l ≡ true → is_below piece.columns (place k) (place l) ≡ is_below p.columns k l
   unfolding cropped
   below-placed k l tk tl =
       let rk = place-row n.blank p set within s self wide k tk in
@@ -101,8 +96,7 @@ module _ (n : Neighbours) (laws : IsNeighbours n) (p : Grid) (s : ℕ) (wide : 0
       (moved-equal (column_of p.columns k) (column_of p.columns l) box.left
       (column-low n.blank p set within s self wide k tk) (column-low n.blank p set within s self wide l tl))
 
-  pub beside-placed : (k l : ℕ) → set k ≡ true → set l ≡ true
-      → is_beside piece.columns (place k) (place l) ≡ is_beside p.columns k l
+  pub beside-placed : (k l : ℕ) → set k ≡ true → set l ≡ true → is_beside piece.columns (place k) (place l) ≡ is_beside p.columns k l
   unfolding cropped
   beside-placed k l tk tl =
       let rk = place-row n.blank p set within s self wide k tk in
@@ -117,8 +111,7 @@ module _ (n : Neighbours) (laws : IsNeighbours n) (p : Grid) (s : ℕ) (wide : 0
       (moved-next (column_of p.columns k) (column_of p.columns l) box.left
       (column-low n.blank p set within s self wide k tk) (column-low n.blank p set within s self wide l tl))
 
-  pub next-placed : (k l : ℕ) → set k ≡ true → set l ≡ true
-      → is_next piece.columns (place k) (place l) ≡ is_next p.columns k l
+  pub next-placed : (k l : ℕ) → set k ≡ true → set l ≡ true → is_next piece.columns (place k) (place l) ≡ is_next p.columns k l
   next-placed k l tk tl =
       let a = below-placed k l tk tl in
       let b = below-placed l k tl tk in

@@ -69,8 +69,7 @@ module _ (n : Neighbours) (laws : IsNeighbours n) (p : Grid) (s : ℕ) (wide : 0
     end-of q k l (here m e) = inl e
     end-of q k l (step x m b x_open m_open next) = inr m_open
 
-    part-shown : (k : ℕ) → Joined game p s k
-        → ((l : ℕ) → Joined game p s l → Joined game after k l ↔ Joined game small (place k) (place l))
+    part-shown : (k : ℕ) → Joined game p s k → ((l : ℕ) → Joined game p s l → Joined game after k l ↔ Joined game small (place k) (place l))
         → PartShown n.blank p set (within n laws p s wide some) s (self n laws p s wide some) wide (are_joined n after k) cells
         (are_joined n small (place k)) shown
     part-shown k j alike =
@@ -81,8 +80,7 @@ module _ (n : Neighbours) (laws : IsNeighbours n) (p : Grid) (s : ℕ) (wide : 0
           | inr m_open ↦ a.placed m m_open
         ] in record {
           long = a.long;
-          inside = λ l t. in-set l (joined-trans game (neighbours-cell_game n laws) p s k l j (before k l (joined-so n laws after
-              k l t)));
+          inside = λ l t. in-set l (joined-trans game (neighbours-cell_game n laws) p s k l j (before k l (joined-so n laws after k l t)));
           member = k;
           member_in = so-joined n laws after k k (here k refl);
           same = λ l t. let j_l = joined-so n laws p s l t in

@@ -169,8 +169,7 @@ module _ (n : Neighbours) (laws : IsNeighbours n) (p : Grid) where
           };
           first = and-both (is_piece_cell n p cell) (is_least n p cell && has_move n p cell) inside
               (and-both (is_least n p cell) (has_move n p cell) least moves);
-          same = λ l. same-tests (in_word set l) (are_joined n p cell l)
-              (λ s. (taken.only l (eqb-true (bit_at set l) 1 s)).2)
+          same = λ l. same-tests (in_word set l) (are_joined n p cell l) (λ s. (taken.only l (eqb-true (bit_at set l) 1 s)).2)
               (λ j. eq-eqb (bit_at set l) 1 (taken.all l inside least j));
         }
 

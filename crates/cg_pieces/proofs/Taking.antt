@@ -96,14 +96,12 @@ module _ (n : Neighbours) (laws : IsNeighbours n) (p : Grid) where
             ((joined cell).1 (here cell refl)) in
             omega (arith, most, other)
 
-        pub taken-more : (more : List Grid) → more ≡ boards ++ piece_at n p cell
-            → AreTaken n p more (bit_and left (other_bits set))
+        pub taken-more : (more : List Grid) → more ≡ boards ++ piece_at n p cell → AreTaken n p more (bit_and left (other_bits set))
         taken-more more put = record {
           end = cell + 1;
           inside = let below = piece-cell-below n laws p cell (taken-to.left_are.only cell cell-left) in omega (arith, below);
           to = record {
-            boards_are = one-more (is_first n p) (λ k. cropped n.blank (are_joined n p k) p) cell boards more
-                taken-to.boards_are put;
+            boards_are = one-more (is_first n p) (λ k. cropped n.blank (are_joined n p k) p) cell boards more taken-to.boards_are put;
             left_are = left-next n laws p cell left set fits set_fits taken-to.left_are set-taken;
           };
         }
