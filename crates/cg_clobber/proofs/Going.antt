@@ -1,12 +1,12 @@
 -- Going over the cells with captures: from and onto the others no moves lead.
 use Rattle.std.proofs.Common.{◌≡◌, refl, ℕ, ◌+◌, ◌-◌, ◌^◌, ◌<◌, inl, inr, false, if◌then◌else◌, Option, Some, None, List, [], ◌∷◌, ◌++◌, length, map, ap, ◌∙◌, arith, bit_or, sym}
 use Rattle.std.specs.Int.{bit_at}
-use Rattle.std.proofs.lemmas.Nat.Bits.{bit_at-lt, bit_at_or}
+use Rattle.std.proofs.lemmas.Nat.Bits.{bit_at-lt, bit_at_or, bit_at_ones}
 use Rattle.cg_moves.specs.declared.player.Player.{Player}
 use Rattle.cg_moves.specs.declared.player.Player.TheVariants.{Left, Right}
 use Rattle.cg_moves.specs.Grid.{Grid, with_cells}
 use Rattle.cg_moves.specs.Words.{IsWithBit}
-use Rattle.cg_moves.proofs.SetBits.{AreListed, listed-more, listed-none}
+use Rattle.cg_moves.proofs.SetBits.{AreListed, listed-more, listed-none, within-le}
 use Rattle.cg_pieces.proofs.GrowingSets.{or-parts}
 use Rattle.cg_pieces.proofs.OpenWords.{marks-test, unmarked}
 use Rattle.cg_clobber.specs.declared.putting.CaptureWords.{CaptureWords}
@@ -69,26 +69,32 @@ module _ (player : Player) (p : Grid) (words : CaptureWords) (are : AreCaptureWo
         (marks-test words.from_next (λ k. captures_that_way player p Back (k + 1)) are.from_next c x) in omega (arith, l))
   ]
 
+  fits : (word : ℕ) → ((c : ℕ) → bit_at word c ≡ 1 → c < length p.cells) → word < 2 ^ 64
+  fits word low =
+      let few = are.few in
+      let most = within-le word (2 ^ 64 - 1) (λ c t. bit_at_ones 64 c (let l = low c t in omega (arith, l, few))) in
+      omega (arith, most)
+
   abbrev Begins : (ℕ → List (List ℕ)) → (ℕ → ℕ) → ℕ → List Grid → Type 0
   Begins moves place left boards =
       AreListed (with_cells p) moves place (length p.cells) (λ k. k < length p.cells) left boards boards
 
-  pub onward_begun : (boards : List Grid) → bit_or words.down words.forth < 2 ^ 64 → Begins (onward player p) (λ k. k) (bit_or words.down words.forth) boards
-  onward_begun boards low = listed-none _ _ _ _ _ _ boards boards refl low onward-inside onward-none
+  pub onward_begun : (boards : List Grid) → Begins (onward player p) (λ k. k) (bit_or words.down words.forth) boards
+  onward_begun boards = listed-none _ _ _ _ _ _ boards boards refl (fits _ onward-inside) onward-inside onward-none
 
-  pub toward_begun : (boards : List Grid) → bit_or words.from_below words.from_next < 2 ^ 64
+  pub toward_begun : (boards : List Grid)
       → Begins (toward_back player p) (λ k. length p.cells - 1 - k) (bit_or words.from_below words.from_next) boards
-  toward_begun boards low =
-      listed-none _ _ _ _ _ _ boards boards refl low toward-inside (λ j. toward-none (length p.cells - 1 - j))
+  toward_begun boards =
+      listed-none _ _ _ _ _ _ boards boards refl (fits _ toward-inside) toward-inside (λ j. toward-none (length p.cells - 1 - j))
 
-  pub paired_begun : (boards : List Grid)
-      → bit_or (bit_or words.down words.forth) (bit_or words.from_below words.from_next) < 2 ^ 64 → Begins (paired player p) (λ k. k)
+  pub paired_begun : (boards : List Grid) → Begins (paired player p) (λ k. k)
       (bit_or (bit_or words.down words.forth) (bit_or words.from_below words.from_next)) boards
-  paired_begun boards low =
+  paired_begun boards =
       let one = bit_or words.down words.forth in
       let other = bit_or words.from_below words.from_next in
-      listed-none _ _ _ _ _ _ boards boards refl low
-      (λ c t. elim (or-parts one other c t) [ inl x ↦ onward-inside c x | inr x ↦ toward-inside c x ])
+      let inside : (c : ℕ) → bit_at (bit_or one other) c ≡ 1 → c < length p.cells = λ c t.
+      elim (or-parts one other c t) [ inl x ↦ onward-inside c x | inr x ↦ toward-inside c x ] in
+      listed-none _ _ _ _ _ _ boards boards refl (fits _ inside) inside
       (λ c e. let off = or-none one other c e in both-none _ _ (onward-none c off.0) (toward-none c off.1))
 
 pub toward_more : (player : Player) (p : Grid) (left new cell : ℕ) (before now more : List Grid) → bit_at left cell ≡ 1

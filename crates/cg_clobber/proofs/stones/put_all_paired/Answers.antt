@@ -6,7 +6,7 @@ use Rattle.cg_clobber.proofs.Placing.{listed_then}
 use Rattle.cg_clobber.proofs.stones.put_all_paired.Goals as goal
 
 pub loop-left-init : goal.loop-left-init
-loop-left-init c = paired_begun c.args.player c.args.board.now c.args.words.now c.requires.words c.args.boards.now.items (omega (arith, c.well_formed))
+loop-left-init c = paired_begun c.args.player c.args.board.now c.args.words.now c.requires.words c.args.boards.now.items
 
 pub with_bit-left-requires-clause-place : goal.with_bit-left-requires-clause-place
 with_bit-left-requires-clause-place c =
