@@ -6,7 +6,7 @@ use Rattle.cg_moves.specs.declared.player.Player.{Player}
 use Rattle.cg_moves.specs.Grid.{Grid, IsGrid, with_cells}
 use Rattle.cg_moves.specs.PlaneBits.{ArePlanes, IsWithIndex, index_of}
 use Rattle.cg_moves.proofs.PlaneLemmas.{SetBy}
-use Rattle.cg_pieces.proofs.TwoSet.{two_set}
+use Rattle.cg_pieces.proofs.SymbolWords.{two_set}
 use Rattle.cg_clobber.specs.Moves.{clobber, empty, own}
 use Rattle.cg_clobber.proofs.Placing.{has-empty, has-own, symbols-are}
 

@@ -6,3 +6,4 @@ pub mod PairRise
 pub mod CaptureBoards
 pub mod StoneWords
 pub mod Moving
+mod Going

@@ -1,14 +1,11 @@
 -- The symbols of the stones, and boards that are put behind others.
 use Rattle.std.proofs.Common.{◌≡◌, refl, ℕ, ◌+◌, true, List, ◌++◌, Result, Ok, Err, map, ap, sym, ◌∙◌, subst, arith, append_assoc}
 use Rattle.std.specs.Prelude.{Contains, IfOk, codes}
-use Rattle.std.specs.List.{flat_map}
 use Rattle.std.specs.Str.{bytes_eq}
 use Rattle.std.proofs.lemmas.List.{map-append}
 use Rattle.cg_moves.specs.declared.player.Player.{Player}
 use Rattle.cg_moves.specs.declared.player.Player.TheVariants.{Left, Right}
 use Rattle.cg_moves.specs.Grid.{Grid, is_in_rows}
-use Rattle.cg_moves.specs.Rising.{counted}
-use Rattle.cg_moves.proofs.MoveLemmas.{listed_next}
 use Rattle.cg_moves.proofs.Same.{and-true, bytes_eq-back}
 use Rattle.cg_clobber.specs.Moves.{clobber, empty, own}
 
@@ -46,12 +43,3 @@ module _ (f : List ℕ → Grid) where
   two_listed (Ok x) old one new xs ys all is first later =
       listed_then old one new xs ys first later ∙ ap (λ z. old ++ map f z) (sym is)
   two_listed (Err e) old one new xs ys all is first later = tt
-
-  -- number by number, behind others
-  pub later_next : (g : ℕ → List (List ℕ)) (i : ℕ) (before old new : List Grid)
-      → old ≡ before ++ map f (flat_map g (counted 0 i)) → new ≡ old ++ map f (g i)
-      → new ≡ before ++ map f (flat_map g (counted 0 (i + 1)))
-  later_next g i before old new so_far put =
-      put ∙ ap (λ z. z ++ map f (g i)) so_far ∙ append_assoc before (map f (flat_map g (counted 0 i))) (map f (g i))
-      ∙ ap (λ z. before ++ z) (listed_next f g i (map f (flat_map g (counted 0 i)))
-      (map f (flat_map g (counted 0 i)) ++ map f (g i)) refl refl)

@@ -1,6 +1,6 @@
 -- The stones of both players in words, and the captures of a player, by the first of the two cells that
 -- a move changes.
-use Rattle.std.specs.Prelude.{◌≡◌, ◌+◌, ◌%◌, ◌^◌, ◌<◌, ◌==◌, ◌&&◌, nat_lt, length}
+use Rattle.std.specs.Prelude.{◌≡◌, ◌+◌, ◌%◌, ◌^◌, ◌<◌, ◌==◌, ◌&&◌, nat_lt, length, ◌≤◌}
 use Rattle.cg_moves.specs.declared.player.Player.{Player}
 use Rattle.cg_moves.specs.Grid.{Grid}
 use Rattle.cg_moves.specs.Words.{Marks}
@@ -14,6 +14,8 @@ pub record AreCaptureWords (player : Player) (p : Grid) (words : CaptureWords) :
   pub forth : Marks words.forth (captures_that_way player p Forth)
   pub from_below : Marks words.from_below (λ c. captures_that_way player p Up (c + p.columns))
   pub from_next : Marks words.from_next (λ c. captures_that_way player p Back (c + 1))
+  -- the board has a bit for each cell
+  pub few : length p.cells ≤ 64
 
 -- the player's stones and those of the other player, and the cells of the first column
 pub record AreStones (player : Player) (p : Grid) (s : Stones) : Type 0 where

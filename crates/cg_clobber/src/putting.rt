@@ -9,7 +9,7 @@ ghost use Rattle.cg_clobber.specs.Pairs.{onward, toward};
 
 use crate::Way;
 use cg_moves::words::{bit, with_bit};
-use cg_moves::{Board, Planes, Player};
+use cg_moves::{Board, Planes, Player, push};
 use std::alloc::AllocError;
 
 /// The player's captures in each way, as words.
@@ -23,15 +23,6 @@ pub(crate) struct CaptureWords {
     pub(crate) from_below: u64,
     /// On which the stone on the next cell in the row captures.
     pub(crate) from_next: u64,
-}
-
-impl CaptureWords {
-    /// How many captures there are.
-    pub(crate) fn count(&self) -> usize {
-        let onward = self.down.count_ones() as usize + self.forth.count_ones() as usize;
-        let toward = self.from_below.count_ones() as usize + self.from_next.count_ones() as usize;
-        onward + toward
-    }
 }
 
 /// The cell onto which the player's stone on this cell captures that way.
@@ -120,7 +111,7 @@ fn put_capture(
         boards.old.items ++ map (with_cells board.now) (moves_that_way player board.now from way)) }
 {
     let onto = captured(board, player, from, way);
-    boards.push(moved(board, player, from, onto))?;
+    push(boards, moved(board, player, from, onto))?;
     Ok(())
 }
 

@@ -11,6 +11,7 @@ ghost use Rattle.cg_clobber.specs.Pairs.{by_pairs, onward, paired, toward_back};
 
 use crate::capturing::{captures_of, moving_stones};
 use crate::putting::{CaptureWords, put_onward, put_toward};
+use cg_moves::words::with_bit;
 use cg_moves::{Board, Boards, Pieces, Player, Rules};
 use cg_pieces::{NeighbourRules, pieces, pieces_into};
 use std::alloc::{AllocError, Global};
@@ -31,7 +32,10 @@ fn put_all_onward(
     ensures { IfOk result (λ _. boards.new.items ≡ boards.old.items
         ++ map (with_cells board.now) (flat_map (onward player board.now) (counted 0 (length board.now.cells)))) }
 {
-    for cell in 0..board.size() {
+    let mut left = words.down | words.forth;
+    while left != 0 {
+        let cell = left.trailing_zeros() as u8;
+        left = with_bit(left, cell, 0);
         put_onward(board, player, cell, words, boards)?;
     }
     Ok(())
@@ -49,9 +53,11 @@ fn put_all_toward(
     ensures { IfOk result (λ _. boards.new.items ≡ boards.old.items
         ++ map (with_cells board.now) (flat_map (toward_back player board.now) (counted 0 (length board.now.cells)))) }
 {
-    let last = board.size() - 1;
-    for later in 0..board.size() {
-        put_toward(board, player, last - later, words, boards)?;
+    let mut left = words.from_below | words.from_next;
+    while left != 0 {
+        let cell = 63 - left.leading_zeros() as u8;
+        left = with_bit(left, cell, 0);
+        put_toward(board, player, cell, words, boards)?;
     }
     Ok(())
 }
@@ -68,7 +74,10 @@ fn put_all_paired(
     ensures { IfOk result (λ _. boards.new.items ≡ boards.old.items
         ++ map (with_cells board.now) (flat_map (paired player board.now) (counted 0 (length board.now.cells)))) }
 {
-    for cell in 0..board.size() {
+    let mut left = (words.down | words.forth) | (words.from_below | words.from_next);
+    while left != 0 {
+        let cell = left.trailing_zeros() as u8;
+        left = with_bit(left, cell, 0);
         put_onward(board, player, cell, words, boards)?;
         put_toward(board, player, cell, words, boards)?;
     }
@@ -83,7 +92,6 @@ fn boards_in(board: &Board, player: Player, boards: &mut Vec<Board>) -> Result<(
 {
     let words = captures_of(board, player);
     boards.clear();
-    boards.reserve(words.count())?;
     match player {
         Player::Left => {
             put_all_onward(board, player, &words, boards)?;

@@ -22,6 +22,8 @@ use Rattle.cg_moves.proofs.Same.{and-true, bytes_eq-back}
 use Rattle.cg_moves.proofs.WordBits.{marks_both, marks_same, marks_without, row_end}
 use Rattle.cg_pieces.proofs.SymbolWords.{Tells, symbol-marks}
 use Rattle.cg_domineering.specs.Moves.{domineering, empty, filled, fits, has_other, is_empty, moves_at, moves_of, other_cell, with_domino}
+use Rattle.cg_moves.proofs.SetBits.{AreListed, listed-all, listed-none}
+use Rattle.cg_pieces.proofs.OpenWords.{marks-test, unmarked}
 
 pub symbols-are : (p : Grid) → domineering.has p ≡ true → p.symbols ≡ codes ".#"
 symbols-are p has = bytes_eq-back p.symbols (codes ".#") (and-true (is_in_rows p) (bytes_eq p.symbols (codes ".#")) has).1
@@ -213,13 +215,13 @@ right_marks p word first beside some fit below are column moved =
 
 -- ---- what a bit of the word tells
 
-pub bit-fits : (player : Player) (p : Grid) (word i : ℕ) → Marks word (fits player p) → (bit_at word i ≡ 0 → ⊥)
-    → fits player p i ≡ true
-bit-fits player p word i are some = go (fits player p i) refl
-  where
-    go : (b : Bool) → fits player p i ≡ b → fits player p i ≡ true
-    go true e = e
-    go false e = absurd (some (are i ∙ ap (λ t. if t then 1 else 0) e))
+pub dominoes_begun : (player : Player) (p : Grid) (spots : ℕ) (boards : List Grid) → boards ≡ [] → spots < 2 ^ 64
+    → Marks spots (fits player p)
+    → AreListed (with_cells p) (moves_at player p) (λ k. k) (length p.cells) (λ k. fits player p k ≡ true) spots [] boards
+dominoes_begun player p spots boards none low are =
+    listed-none (with_cells p) (moves_at player p) (λ k. k) (length p.cells) (λ k. fits player p k ≡ true) spots [] boards none low
+    (marks-test spots (fits player p) are)
+    (λ j e. ap (λ b. if b then with_domino player p j ∷ [] else []) (unmarked spots (fits player p) are j e))
 
 pub one_listed : (player : Player) (p after : Grid) (i : ℕ) (old new : List Grid) → fits player p i ≡ true
     → after ≡ with_cells p (with_domino player p i) → new ≡ old ++ (after ∷ [])
@@ -229,10 +231,10 @@ one_listed player p after i old new f is put =
     ∙ ap (λ b. old ++ map (with_cells p) (if b then with_domino player p i ∷ [] else [])) (sym f)
 
 -- all of them
-pub all_listed : (player : Player) (p : Grid) (i n : ℕ) (boards : List Grid) → 0 < p.columns → i ≡ n → n ≡ length p.cells
-    → boards ≡ map (with_cells p) (flat_map (moves_at player p) (counted 0 i))
+pub all_listed : (player : Player) (p : Grid) (left : ℕ) (boards : List Grid) → 0 < p.columns → left ≡ 0
+    → AreListed (with_cells p) (moves_at player p) (λ k. k) (length p.cells) (λ k. fits player p k ≡ true) left [] boards
     → boards ≡ map (with_cells p) (moves_of player p)
-all_listed player p i n boards some end size all =
-    all ∙ ap (λ k. map (with_cells p) (flat_map (moves_at player p) (counted 0 k))) (end ∙ size)
+all_listed player p left boards some none all =
+    listed-all _ _ _ _ _ left [] boards none all
     ∙ ap (map (with_cells p)) (sym (rising-kept (flat_map (moves_at player p) (counted 0 (length p.cells)))
     (dominoes-rise player p 0 (length p.cells) some)))

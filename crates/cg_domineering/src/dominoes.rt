@@ -1,15 +1,13 @@
 //! The moves of Domineering.
-ghost use Rattle.std.specs.Prelude.{◌≡◌, ◌++◌, ◌<◌, [], IfOk, length, map, true};
+ghost use Rattle.std.specs.Prelude.{◌≡◌, ◌<◌, IfOk, length, map, true};
 ghost use Rattle.cg_moves.specs.Grid.{with_cells};
-ghost use Rattle.cg_moves.specs.PlaneBits.{IsWithIndex};
-ghost use Rattle.cg_moves.specs.Words.{Marks};
 ghost use Rattle.cg_domineering.specs.Cuts.{dominoes-are};
 ghost use Rattle.cg_domineering.specs.Lawful.{domineering_lawful};
-ghost use Rattle.cg_domineering.specs.Moves.{domineering, dominoes, fits, moves_at, moves_of, other_cell, with_domino};
+ghost use Rattle.cg_domineering.specs.Moves.{domineering, dominoes, fits, moves_of, other_cell, with_domino};
 
 use crate::fitting::{empty_cells, left_spots, right_spots, spots};
-use cg_moves::words::{bit, with_bit};
-use cg_moves::{Board, Boards, Pieces, Planes, Player, Rules};
+use cg_moves::words::with_bit;
+use cg_moves::{Board, Boards, Pieces, Planes, Player, Rules, push};
 use cg_pieces::{NeighbourRules, pieces, pieces_into};
 use std::alloc::{AllocError, Global};
 
@@ -31,54 +29,24 @@ fn other_cell(board: &Board, player: Player, first: u8) -> u8
     }
 }
 
-/// The words with the cell filled: its index is 1.
+/// The board after the player's domino with this first cell, which fits. The index of a filled cell is 1, so that the other
+/// words have no bits.
 #[inline(always)]
-fn filled(planes: Planes, cell: u8) -> Planes
-    requires { cell < 64 }
-    ensures { IsWithIndex planes result cell 1 }
-{
-    Planes {
-        a: with_bit(planes.a, cell, 1),
-        b: with_bit(planes.b, cell, 0),
-        c: with_bit(planes.c, cell, 0),
-        d: with_bit(planes.d, cell, 0),
-    }
-}
-
-/// The board after the player's domino with this first cell, which fits.
 fn placed(board: &Board, player: Player, first: u8) -> Board
     requires has { domineering.has board.now ≡ true }
     requires fits { fits player board.now first ≡ true }
     ensures { result ≡ with_cells board.now (with_domino player board.now first) }
 {
     let other = other_cell(board, player, first);
-    let planes = board.planes();
-    let one = filled(planes, first);
-    let both = filled(one, other);
-    board.with_planes(board.rows(), board.columns(), both)
-}
-
-/// Puts the board after the player's domino with this first cell behind the boards, if one fits.
-#[inline(always)]
-fn put_move(
-    board: &Board,
-    player: Player,
-    spots: u64,
-    first: u8,
-    boards: &mut Vec<Board>,
-) -> Result<(), AllocError>
-    requires has { domineering.has board.now ≡ true }
-    requires spots { Marks spots (fits player board.now) }
-    requires first { first < 64 }
-    ensures { IfOk result (λ _. boards.new.items ≡
-        boards.old.items ++ map (with_cells board.now) (moves_at player board.now first)) }
-{
-    if bit(spots, first) == 0 {
-        return Ok(());
-    }
-    let after = placed(board, player, first);
-    boards.push(after)?;
-    Ok(())
+    let one = with_bit(board.planes().a, first, 1);
+    let both = with_bit(one, other, 1);
+    let planes = Planes {
+        a: both,
+        b: 0,
+        c: 0,
+        d: 0,
+    };
+    board.with_planes(board.rows(), board.columns(), planes)
 }
 
 /// Puts the boards after the player's dominoes, by their first cells, in the place of these boards. They are in rising order,
@@ -89,9 +57,11 @@ fn boards_in(board: &Board, player: Player, boards: &mut Vec<Board>) -> Result<(
 {
     let spots = spots(board, player);
     boards.clear();
-    boards.reserve(spots.count_ones() as usize)?;
-    for first in 0..board.size() {
-        put_move(board, player, spots, first, boards)?;
+    let mut left = spots;
+    while left != 0 {
+        let first = left.trailing_zeros() as u8;
+        left = with_bit(left, first, 0);
+        push(boards, placed(board, player, first))?;
     }
     Ok(())
 }

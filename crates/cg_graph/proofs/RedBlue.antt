@@ -12,7 +12,7 @@ use Rattle.cg_moves.specs.Raw.{raw}
 use Rattle.cg_moves.specs.Rising.{counted}
 use Rattle.cg_moves.specs.Rules.{In, boards_after}
 use Rattle.cg_moves.proofs.Members.{in-map, in_flat_mapped}
-use Rattle.cg_moves.proofs.RawOptions.{option_raw, raw_option}
+use Rattle.cg_moves.proofs.PieceSums.{option_raw, raw_option}
 use Rattle.cg_moves.proofs.RisingLemmas.{in-rising}
 use Rattle.cg_moves.proofs.Totals.{options_of}
 use Rattle.cg_moves.proofs.Counted.{in_counted}

@@ -1,4 +1,5 @@
 -- Boards that are found in breadth.
+use Rattle.std.proofs.lemmas.Bool.Decides.{nat_tests}
 use Rattle.std.proofs.Common.{◌≡◌, ℕ, ◌<◌, true, inl, inr, List, [], ◌∷◌, ◌++◌, length, ap, sym, ◌∙◌, subst, arith}
 use Rattle.std.specs.List.{flat_map}
 use Rattle.std.specs.Prelude.{None, Ok, Option, Result, Some, slice_get}
@@ -12,11 +13,11 @@ use Rattle.cg_moves.specs.Rules.{In, followers}
 use Rattle.cg_moves.specs.Walking.{Adds, AreAlone, AreAmong, AreFound, Way, parts, play, reached}
 use Rattle.cg_moves.specs.Walks.{AreStarts, Enters, entered}
 use Rattle.cg_moves.proofs.Carried.{ok_is}
-use Rattle.cg_moves.proofs.ComesAfter.{reached-has, reached-next, reached-symbols, start-reached}
+use Rattle.cg_moves.proofs.PlayOrder.{reached-has, reached-next, reached-symbols, start-reached}
 use Rattle.cg_form.proofs.Firsts.{extended-among, extended-append, extended-has, in-append, in-append_left, in-append_right}
 use Rattle.cg_moves.proofs.Fresh.{entered-among}
 use Rattle.cg_moves.proofs.Same.{boards}
-use Rattle.cg_moves.proofs.KeptOnce.{kept-fewer_kept}
+use Rattle.cg_moves.proofs.Middles.{kept-fewer_kept}
 use Rattle.cg_moves.proofs.Members.{carry, in_one}
 use Rattle.cg_moves.proofs.OnWay.{next-parts}
 use Rattle.cg_moves.proofs.TaskSteps.{enters-in}
@@ -63,10 +64,7 @@ module _ (w : Way) where
       found-more new e = record { source = x.source ++ (p ∷ []); is = e ∙ more-kept; among = both-among }
 
       pub found-refused : (limit : ℕ) → limit < length (one_more found p) → limit < length (reached w)
-      found-refused limit many =
-          let a = ap length more-kept in
-          let b = kept-fewer_kept (x.source ++ (p ∷ [])) (flat_map (play w).all w.starts) both-among in
-          omega arith
+      found-refused limit many = grind (arith, nat_tests, more-kept, kept-fewer_kept, both-among)
 
     module _ (lawful : IsPlay (play w)) (h : AreStarts (play w) w.starts) where
       pub found-has : (p : Grid) → In p found → (play w).has p ≡ true
@@ -84,8 +82,7 @@ module _ (w : Way) where
           go p m ∙ sym (go q n)
 
       pub among-alike : (p : Grid) → IsAmong p → AreAlike (found ++ (p ∷ []))
-      among-alike p m = found-alike (p ∷ []) (λ q n. reached-symbols (play w) lawful w.starts h q
-          (subst IsAmong (sym (in_one q p n)) m))
+      among-alike p m = found-alike (p ∷ []) (λ q n. reached-symbols (play w) lawful w.starts h q (subst IsAmong (sym (in_one q p n)) m))
 
       -- what comes next after a board that was found
       next-among : (p : Grid) → In p found → (q : Grid) → In q (flat_map (parts w) (followers w.game p)) → IsAmong q

@@ -29,8 +29,7 @@ pub record CanFollow (r : GameRules) (course : Course) (found : List Grid) (p : 
   pub alone : AreAlone (parts_of r course) found
   pub alike : (qs : List Grid) → ((q : Grid) → In q qs → q.symbols ≡ p.symbols) → AreAlike (found ++ qs)
 
-pub own-alike : (r : GameRules) (course : Course) (found : List Grid) (p : Grid) → CanFollow r course found p
-    → AreAlike (found ++ (p ∷ []))
+pub own-alike : (r : GameRules) (course : Course) (found : List Grid) (p : Grid) → CanFollow r course found p → AreAlike (found ++ (p ∷ []))
 own-alike r course found p x = x.alike (p ∷ []) (λ q m. ap (λ z. z.symbols) (in_one q p m))
 
 -- the clauses that `enter` asks for
@@ -65,8 +64,7 @@ module _ (r : GameRules) (lawful : IsLawful r) (course : Course) where
     way-lawful is may = let P : Way → Type 0 = λ z. IsPlay (play z) in subst P (sym is) (plays r lawful course may)
 
     -- what is known where a walk begins
-    pub begins : {X : Type 0} (starts : List Grid)
-        → (w ≡ way_of r course starts) × (MayGo r course × (AreStarts (play_of r course) starts
+    pub begins : {X : Type 0} (starts : List Grid) → (w ≡ way_of r course starts) × (MayGo r course × (AreStarts (play_of r course) starts
         × AreAlone (parts_of r course) starts))
         → X → (w ≡ way_of r course w.starts) × (MayGo r course × (AreStarts (play w) w.starts
         × (AreAlone (parts w) (reached w) × X)))
@@ -83,8 +81,7 @@ module _ (r : GameRules) (lawful : IsLawful r) (course : Course) where
           ),
         )
 
-    can-follow : w ≡ way_of r course w.starts → (found : List Grid) (p : Grid) → (play w).has p ≡ true
-        → AreAlone (parts w) found
+    can-follow : w ≡ way_of r course w.starts → (found : List Grid) (p : Grid) → (play w).has p ≡ true → AreAlone (parts w) found
         → ((qs : List Grid) → ((q : Grid) → In q qs → q.symbols ≡ p.symbols) → AreAlike (found ++ qs))
         → CanFollow r course found p
     can-follow is found p has alone alike =
@@ -100,8 +97,7 @@ module _ (r : GameRules) (lawful : IsLawful r) (course : Course) where
         can-follow is s.boards p (has-last w is_play s us (Enters p) on) (seen-alone w is_play s us (Enters p) on own)
         (alike-last w is_play s us (Enters p) on h)
 
-    pub look-follow : (found : List Grid) (p : Grid) (tasks : List Task) → IsLooking r course w found p tasks
-        → CanFollow r course found p
+    pub look-follow : (found : List Grid) (p : Grid) (tasks : List Task) → IsLooking r course w found p tasks → CanFollow r course found p
     look-follow found p tasks (is, (may, (h, (own, (x, (m, none)))))) =
         let is_play = way-lawful is may in
         can-follow is found p (found-has w found x is_play h p m) (found-alone w found x own)

@@ -3,7 +3,7 @@ use Rattle.std.proofs.Common.{◌≡◌, ◌≢◌, ◌&&◌, ℕ, zero, suc, �
 use Rattle.std.specs.Int.{bit_at}
 use Rattle.std.proofs.Math.Nat.{add-mul-mod_self_right, mod-eq_of_lt, zero-mod}
 use Rattle.std.proofs.lemmas.Bool.{eq-eqb, le-ltb, lt-ltb}
-use Rattle.std.proofs.lemmas.Bool.Decides.{eqb_tells, leb_tells}
+use Rattle.std.proofs.lemmas.Bool.Decides.{eqb_tells, leb_tells, nat_tests}
 use Rattle.std.proofs.lemmas.Nat.Bits.{bit_at-lt, bit_at-zero, bit_at_above, bit_at_and, bit_at_or}
 use Rattle.cg_moves.specs.Words.{Marks}
 
@@ -82,13 +82,7 @@ twice-rows columns word height on old first others = record {
 
     ap2 : (i : ℕ) → height ≤ i → (i - height) % columns ≡ i % columns
         → in_first columns height (i - height) ≡ in_first columns (height * 2) i
-    ap2 i low same = elim (leb_tells (height * 2) i) [
-      | inl h ↦ let high = h.1 in
-          far columns height (i - height) (omega (arith, high)) ∙ sym (far columns (height * 2) i high)
-      | inr h ↦ let below = h.1 in
-          near columns height (i - height) (omega (arith, below, low)) ∙ ap (λ z. z == 0) same
-          ∙ sym (near columns (height * 2) i below)
-    ]
+    ap2 i low same = grind (arith, nat_tests, leb_tells, far, near)
 
 pub all-rows : (columns size word height mask : ℕ) → size ≤ 64 → size ≤ height → IsColumn columns word height
     → Marks mask (λ i. nat_lt i size) → Marks (bit_and word mask) (in_first columns size)

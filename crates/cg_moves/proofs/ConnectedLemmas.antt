@@ -35,29 +35,21 @@ over-cases e es u v h =
     ]
 
 over-none : (e : Edge) (es : List Edge) (u v : ℕ) → IsTrue (connected es u v) → IsTrue (connected (e ∷ es) u v)
-over-none e es u v h =
-    or-first (connected es u v || (connected es u e.one && connected es e.other v)) (connected es u e.other && connected es e.one v)
-    (or-first (connected es u v) (connected es u e.one && connected es e.other v) h)
+over-none e es u v h = or-first _ _ (or-first _ _ h)
 
 over-forth : (e : Edge) (es : List Edge) (u v : ℕ) → IsTrue (connected es u e.one) → IsTrue (connected es e.other v)
     → IsTrue (connected (e ∷ es) u v)
-over-forth e es u v h k =
-    or-first (connected es u v || (connected es u e.one && connected es e.other v)) (connected es u e.other && connected es e.one v)
-    (or-second (connected es u v) (connected es u e.one && connected es e.other v)
-    (and-both (connected es u e.one) (connected es e.other v) h k))
+over-forth e es u v h k = or-first _ _ (or-second _ _ (and-both (connected es u e.one) (connected es e.other v) h k))
 
 over-back : (e : Edge) (es : List Edge) (u v : ℕ) → IsTrue (connected es u e.other) → IsTrue (connected es e.one v)
     → IsTrue (connected (e ∷ es) u v)
-over-back e es u v h k =
-    or-second (connected es u v || (connected es u e.one && connected es e.other v)) (connected es u e.other && connected es e.one v)
-    (and-both (connected es u e.other) (connected es e.one v) h k)
+over-back e es u v h k = or-second _ _ (and-both (connected es u e.other) (connected es e.one v) h k)
 
 pub connected-refl : (es : List Edge) (u : ℕ) → IsTrue (connected es u u)
 connected-refl [] u = eq-eqb u u refl
 connected-refl (e ∷ es) u = over-none e es u u (connected-refl es u)
 
-pub connected-trans : (es : List Edge) (u v w : ℕ) → IsTrue (connected es u v) → IsTrue (connected es v w)
-    → IsTrue (connected es u w)
+pub connected-trans : (es : List Edge) (u v w : ℕ) → IsTrue (connected es u v) → IsTrue (connected es v w) → IsTrue (connected es u w)
 connected-trans [] u v w h k = eq-eqb u w (eqb-true u v h ∙ eqb-true v w k)
 connected-trans (e ∷ es) u v w h k = elim ((over-cases e es u v h).way) [
   | inl a ↦ elim ((over-cases e es v w k).way) [
@@ -92,8 +84,7 @@ connected_along e (f ∷ es) (inr m) = let h = connected_along e es m in (
 )
 
 -- what holds at one end of each edge if at the other
-pub connected-closed : (R : ℕ → Type 0) (es : List Edge)
-    → ((e : Edge) → In e es → (R e.one → R e.other) × (R e.other → R e.one))
+pub connected-closed : (R : ℕ → Type 0) (es : List Edge) → ((e : Edge) → In e es → (R e.one → R e.other) × (R e.other → R e.one))
     → (u v : ℕ) → IsTrue (connected es u v) → R u → R v
 connected-closed R [] closed u v h r = subst R (eqb-true u v h) r
 connected-closed R (e ∷ es) closed u v h r =

@@ -1,16 +1,16 @@
 -- The cells in which boards differ, by their planes.
-use Rattle.std.proofs.Common.{◌≡◌, ◌≢◌, ℕ, ◌+◌, ◌%◌, ◌<◌, ◌≤◌, ◌==◌, ◌^◌, inl, inr, not, if◌then◌else◌, nat_lt, List, length, ap, sym, ◌∙◌, arith, max, bit_or, w64}
+use Rattle.std.proofs.Common.{◌≡◌, ◌≢◌, ℕ, ◌+◌, ◌*◌, ◌%◌, ◌<◌, ◌≤◌, ◌==◌, ◌^◌, inl, inr, not, if◌then◌else◌, List, length, ap, sym, ◌∙◌, arith, max, bit_or, w64}
 use Rattle.std.specs.Prelude.{slice_index}
 use Rattle.std.specs.Int.{bit_at, trailing_zeros}
 use Rattle.std.specs.Int.Bits.{bit_xor}
 use Rattle.std.specs.Ordering.{nat_cmp}
 use Rattle.std.specs.declared.cmp.Ordering.TheVariants.{Equal as Same}
-use Rattle.std.proofs.lemmas.Bool.Decides.{eqb_tells, leb_tells}
+use Rattle.std.proofs.lemmas.Bool.Decides.{eqb_tells, leb_tells, nat_tests}
 use Rattle.std.proofs.lemmas.List.{ext_get_or, get_or_past}
 use Rattle.std.proofs.lemmas.Nat.Bits.{bit_at-lt, bit_at-trailing_zeros, bit_at-zero, bit_at_or, bit_at_xor}
 use Rattle.cg_moves.specs.declared.planes.Planes.{Planes}
 use Rattle.cg_moves.specs.Grid.{AreCells}
-use Rattle.cg_moves.specs.PlaneBits.{ArePlanes, index_at, index_of, plane_bit}
+use Rattle.cg_moves.specs.PlaneBits.{ArePlanes, index_at, plane_bit}
 use Rattle.cg_moves.specs.Rising.{bytes_cmp}
 use Rattle.cg_moves.specs.Words.{Marks}
 use Rattle.cg_moves.proofs.PlaneLemmas.{index-read, index-reads}
@@ -25,70 +25,19 @@ some_apart a b c d e f g h = max (max ((a + e) % 2) ((b + f) % 2)) (max ((c + g)
 differing-bits : (u v : Planes) (i : ℕ)
     → bit_at (bit_or (bit_or (bit_xor u.a v.a) (bit_xor u.b v.b)) (bit_or (bit_xor u.c v.c) (bit_xor u.d v.d))) i
     ≡ some_apart (bit_at u.a i) (bit_at u.b i) (bit_at u.c i) (bit_at u.d i) (bit_at v.a i) (bit_at v.b i) (bit_at v.c i) (bit_at v.d i)
-differing-bits u v i =
-    let m = bit_or (bit_xor u.a v.a) (bit_xor u.b v.b) in
-    let n = bit_or (bit_xor u.c v.c) (bit_xor u.d v.d) in
-    let a = bit_at_xor u.a v.a i in
-    let b = bit_at_xor u.b v.b i in
-    let c = bit_at_xor u.c v.c i in
-    let d = bit_at_xor u.d v.d i in
-    bit_at_or m n i
-    ∙ ap (λ z. max z (bit_at n i)) (bit_at_or (bit_xor u.a v.a) (bit_xor u.b v.b) i ∙ ap (λ z. max z (bit_at (bit_xor u.b v.b) i)) a ∙ ap (max ((bit_at u.a i + bit_at v.a i) % 2)) b)
-    ∙ ap (max (max ((bit_at u.a i + bit_at v.a i) % 2) ((bit_at u.b i + bit_at v.b i) % 2))) (bit_at_or (bit_xor u.c v.c) (bit_xor u.d v.d) i ∙ ap (λ z. max z (bit_at (bit_xor u.d v.d) i)) c ∙ ap (max ((bit_at u.c i + bit_at v.c i) % 2)) d)
-
-two-bits : (x y : ℕ) → x < 2 → y < 2 → x ≢ y → (x + y) % 2 ≡ 1
-two-bits x y l m apart = omega (arith, apart)
-
-one-bit : (x y : ℕ) → x ≡ y → (x + y) % 2 ≡ 0
-one-bit x y e = omega arith
-
-max-left : (m n : ℕ) → n < 2 → m ≡ 1 → max m n ≡ 1
-max-left m n l e = omega arith
-
-max-right : (m n : ℕ) → m < 2 → n ≡ 1 → max m n ≡ 1
-max-right m n l e = omega arith
+differing-bits u v i = grind (arith, nat_tests, bit_at_xor, bit_at_or)
 
 all-same : (a b c d e f g h : ℕ) → a ≡ e → b ≡ f → c ≡ g → d ≡ h → some_apart a b c d e f g h ≡ 0
-all-same a b c d e f g h p q r s =
-    ap (λ z. max (max z ((b + f) % 2)) (max ((c + g) % 2) ((d + h) % 2))) (one-bit a e p)
-    ∙ ap (λ z. max (max 0 z) (max ((c + g) % 2) ((d + h) % 2))) (one-bit b f q)
-    ∙ ap (λ z. max (max 0 0) (max z ((d + h) % 2))) (one-bit c g r)
-    ∙ ap (λ z. max (max 0 0) (max 0 z)) (one-bit d h s)
+all-same a b c d e f g h p q r s = omega arith
 
 not-same : (a b c d e f g h : ℕ) → a < 2 → b < 2 → c < 2 → d < 2 → e < 2 → f < 2 → g < 2 → h < 2
-    → ((a ≡ e) → (b ≡ f) → (c ≡ g) → (d ≡ h) → ⊥) → some_apart a b c d e f g h ≡ 1
-not-same a b c d e f g h la lb lc ld le lf lg lh apart =
-    let first = (a + e) % 2 in
-    let second = (b + f) % 2 in
-    let third = (c + g) % 2 in
-    let fourth = (d + h) % 2 in
-    let left : max first second < 2 = omega arith in
-    let right : max third fourth < 2 = omega arith in
-    elim (eqb_tells a e) [
-      | inr p ↦ max-left (max first second) (max third fourth) right
-          (max-left first second (omega arith) (two-bits a e la le p.1))
-      | inl p ↦ elim (eqb_tells b f) [
-        | inr q ↦ max-left (max first second) (max third fourth) right
-            (max-right first second (omega arith) (two-bits b f lb lf q.1))
-        | inl q ↦ elim (eqb_tells c g) [
-          | inr r ↦ max-right (max first second) (max third fourth) left
-              (max-left third fourth (omega arith) (two-bits c g lc lg r.1))
-          | inl r ↦ elim (eqb_tells d h) [
-            | inr s ↦ max-right (max first second) (max third fourth) left
-                (max-right third fourth (omega arith) (two-bits d h ld lh s.1))
-            | inl s ↦ absurd (apart p.1 q.1 r.1 s.1)
-          ]
-        ]
-      ]
-    ]
+    → (a + 2 * b + 4 * c + 8 * d ≡ e + 2 * f + 4 * g + 8 * h → ⊥) → some_apart a b c d e f g h ≡ 1
+not-same a b c d e f g h la lb lc ld le lf lg lh apart = omega (arith, apart)
 
 module _ (symbols cells others : List ℕ) (u v : Planes) (here : ArePlanes symbols cells u)
     (there : ArePlanes symbols others v) (long : length cells ≡ length others) (i : ℕ) where
-  plane-same : slice_index cells i ≡ slice_index others i → (b : ℕ)
-      → plane_bit symbols cells b i ≡ plane_bit symbols others b i
-  plane-same e b =
-      ap (λ n. if nat_lt i n then bit_at (index_of symbols (slice_index cells i)) b else 0) long
-      ∙ ap (λ c. if nat_lt i (length others) then bit_at (index_of symbols c) b else 0) e
+  plane-same : slice_index cells i ≡ slice_index others i → (b : ℕ) → plane_bit symbols cells b i ≡ plane_bit symbols others b i
+  plane-same e b = grind (arith, nat_tests)
 
   same-cell : AreCells symbols cells → AreCells symbols others → length symbols ≤ 16 → i < length cells
       → index_at u i ≡ index_at v i → slice_index cells i ≡ slice_index others i
@@ -101,33 +50,14 @@ module _ (symbols cells others : List ℕ) (u v : Planes) (here : ArePlanes symb
   pub differing_marks : AreCells symbols cells → AreCells symbols others → length symbols ≤ 16
       → bit_at (bit_or (bit_or (bit_xor u.a v.a) (bit_xor u.b v.b)) (bit_or (bit_xor u.c v.c) (bit_xor u.d v.d))) i
       ≡ (if not (slice_index cells i == slice_index others i) then 1 else 0)
-  differing_marks are all few =
-      differing-bits u v i ∙ elim (eqb_tells (slice_index cells i) (slice_index others i)) [
-        | inl h ↦ all-same _ _ _ _ _ _ _ _ (here.a i ∙ plane-same h.1 0 ∙ sym (there.a i))
-            (here.b i ∙ plane-same h.1 1 ∙ sym (there.b i)) (here.c i ∙ plane-same h.1 2 ∙ sym (there.c i))
-            (here.d i ∙ plane-same h.1 3 ∙ sym (there.d i)) ∙ ap (λ t. if not t then 1 else 0) (sym h.0)
-        | inr h ↦ (let l : i < length cells = inside h.1 in
-            not-same _ _ _ _ _ _ _ _ (bit_at-lt u.a i) (bit_at-lt u.b i) (bit_at-lt u.c i) (bit_at-lt u.d i)
-            (bit_at-lt v.a i) (bit_at-lt v.b i) (bit_at-lt v.c i) (bit_at-lt v.d i)
-            (λ a b c d. h.1 (same-cell are all few l (omega (arith, a, b, c, d))))
-            ∙ ap (λ t. if not t then 1 else 0) (sym h.0))
-      ]
-    where
-      inside : slice_index cells i ≢ slice_index others i → i < length cells
-      inside apart = elim (leb_tells (length cells) i) [
-        | inl h ↦ absurd (apart (get_or_past cells i 0 h.1 ∙ sym (get_or_past others i 0 (omega (arith, h.1, long)))))
-        | inr h ↦ h.1
-      ]
+  differing_marks are all few = grind (arith, nat_tests, differing-bits, eqb_tells, all-same, plane-same, not-same, bit_at-lt, same-cell, leb_tells, get_or_past)
 
 -- ---- the order of cells by that word
 
 module _ (cells others : List ℕ) (word : ℕ) (marks : Marks word (λ i. not (slice_index cells i == slice_index others i)))
     (long : length cells ≡ length others) where
   unmarked : (i : ℕ) → bit_at word i ≡ 0 → slice_index cells i ≡ slice_index others i
-  unmarked i e = elim (eqb_tells (slice_index cells i) (slice_index others i)) [
-    | inl h ↦ h.1
-    | inr h ↦ (let one = marks i ∙ ap (λ t. if not t then 1 else 0) h.0 in absurd (omega (arith, e, one)))
-  ]
+  unmarked i e = grind (arith, nat_tests, eqb_tells)
 
   marked : (i : ℕ) → bit_at word i ≡ 1 → slice_index cells i ≢ slice_index others i
   marked i e same = elim (eqb_tells (slice_index cells i) (slice_index others i)) [

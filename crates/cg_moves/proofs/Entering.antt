@@ -20,8 +20,7 @@ use Rattle.cg_moves.specs.Walks.{Enters, Leaves, Visit, entered}
 use Rattle.cg_moves.proofs.CanFollow.{IsGoing}
 use Rattle.cg_moves.proofs.Carried.{if_ok, ok_any}
 use Rattle.cg_moves.proofs.FollowLemmas.{both, turned}
-use Rattle.cg_moves.proofs.Fresh.{open-front, open-new}
-use Rattle.cg_moves.proofs.Leading.{leads-last, leads-new}
+use Rattle.cg_moves.proofs.Fresh.{leads-last, leads-new, open-front, open-new}
 use Rattle.cg_moves.proofs.Listed.{nexts-more}
 use Rattle.cg_moves.proofs.OnWay.{entered-append, entered-front, entered-more, entered-none, has-last, next-parts}
 use Rattle.cg_moves.proofs.PlaceLemmas.{at-in, stand-append, stand-size}
@@ -78,8 +77,7 @@ module _ (w : Way) (lawful : IsPlay (play w)) (s : Seen) (tasks : List Task) whe
       let (p, at, (us, front, on)) = last-known w s tasks place x in (us, front, seen-way w lawful s us p on place at after e)
 
   module _ (p : Grid) (x : IsWalking w s (tasks ++ (Enter p ∷ []))) where
-    pub entered-again : (place : ℕ) → IsAt s.boards place p → (after : List ℕ) → after ≡ s.pending.items ++ (place ∷ [])
-        → HasPending after
+    pub entered-again : (place : ℕ) → IsAt s.boards place p → (after : List ℕ) → after ≡ s.pending.items ++ (place ∷ []) → HasPending after
     entered-again place at after e =
         let (us, front, on) = last-enters w s tasks p x in (us, front, seen-way w lawful s us p on place at after e)
 

@@ -1,9 +1,10 @@
 -- The parts of boards that moves lead to, one board after another.
+use Rattle.std.proofs.lemmas.Bool.Decides.{nat_tests}
 use Rattle.std.proofs.Common.{◌≡◌, refl, ℕ, ◌+◌, ◌-◌, ◌<◌, ◌≤◌, inl, inr, List, [], ◌∷◌, ◌++◌, length, map, reverse, drop, get_or, append_assoc, ap, sym, ◌∙◌, subst, arith}
 use Rattle.std.specs.List.{flat_map}
 use Rattle.std.specs.Prelude.{Err, IsErrAnd, Ok, Result}
 use Rattle.std.proofs.lemmas.Grind.{flat_map-append, reverse_onto}
-use Rattle.std.proofs.lemmas.List.{drop_more, map-append, reverse-append}
+use Rattle.std.proofs.lemmas.List.{drop_more, map-append, reverse-append, reverse-reverse}
 use Rattle.cg_moves.specs.declared.course.Course.{Course}
 use Rattle.cg_moves.specs.declared.fault.ReachFault.{ReachFault}
 use Rattle.cg_moves.specs.declared.fault.ReachFault.TheVariants.{Positions}
@@ -54,19 +55,13 @@ alike-same old qs p h s x y m n =
 
 -- ---- one board after another, the last first
 
-pub all-left : (boards : List Grid) (left : ℕ) → ¬ 0 < left → drop left boards ≡ boards
-all-left boards left none = let e : left ≡ 0 = omega (arith, none) in ap (λ z. drop z boards) e
-
 module _ (boards : List Grid) (left : ℕ) (p : Grid) (some : 0 < left) (inside : left ≤ length boards)
     (is : p ≡ get_or boards (left - 1) p) where
   pub last-in : In p boards
   last-in = at-in boards (left - 1) p (board-read boards (left - 1) p (omega (arith, some, inside)) is)
 
   one-more : drop (left - 1) boards ≡ p ∷ drop left boards
-  one-more =
-      let e : left - 1 + 1 ≡ left = omega (arith, some) in
-      drop_more boards (left - 1) p (omega (arith, some, inside)) ∙ ap (λ z. z ∷ drop (left - 1 + 1) boards) (sym is)
-      ∙ ap (λ z. p ∷ drop z boards) e
+  one-more = grind (arith, nat_tests, drop_more)
 
   pub one-counted : (f : Grid → ℕ) (start now after : List ℕ) → now ≡ start ++ map f (reverse (drop left boards))
       → after ≡ now ++ (f p ∷ []) → after ≡ start ++ map f (reverse (drop (left - 1) boards))
@@ -112,22 +107,13 @@ module _ (lefts rights : List Grid) where
 
   pub both-counts : (f : Grid → ℕ) (a b c : List ℕ) → a ≡ [] → b ≡ a ++ map f (reverse rights) → c ≡ b ++ map f (reverse lefts)
       → c ≡ map f (reverse (lefts ++ rights))
-  both-counts f a b c none e g =
-      g ∙ ap (λ z. z ++ map f (reverse lefts)) (e ∙ ap (λ z. z ++ map f (reverse rights)) none)
-      ∙ sym (map-append f (reverse rights) (reverse lefts)) ∙ ap (map f) (sym (reverse-append lefts rights))
+  both-counts f a b c none e g = grind (arith, nat_tests, map-append, reverse-append)
 
 -- ---- in reverse
 
-reverse_twice : (xs : List Grid) → reverse (reverse xs) ≡ xs
-reverse_twice [] = refl
-reverse_twice (x ∷ xs) =
-    ap reverse (reverse_onto xs x []) ∙ reverse-append (reverse xs) (x ∷ []) ∙ ap (λ z. x ∷ z) (reverse_twice xs)
-
 reverse_map : (f : Grid → ℕ) (xs : List Grid) → reverse (map f xs) ≡ map f (reverse xs)
 reverse_map f [] = refl
-reverse_map f (x ∷ xs) =
-    reverse_onto (map f xs) (f x) [] ∙ ap (λ z. z ++ (f x ∷ [])) (reverse_map f xs)
-    ∙ sym (ap (map f) (reverse_onto xs x []) ∙ map-append f (reverse xs) (x ∷ []))
+reverse_map f (x ∷ xs) = grind (arith, nat_tests, reverse_onto, map-append, reverse_map f xs)
 
 pub turned : (f : Grid → ℕ) (xs : List Grid) → reverse (map f (reverse xs)) ≡ map f xs
-turned f xs = reverse_map f (reverse xs) ∙ ap (map f) (reverse_twice xs)
+turned f xs = reverse_map f (reverse xs) ∙ ap (map f) (reverse-reverse xs)

@@ -1,5 +1,6 @@
 -- For whoever writes the rules of a game: members of lists of moves, and what a move does to a count of cells.
-use Rattle.std.proofs.Common.{◌≡◌, refl, ℕ, zero, suc, ◌+◌, ◌*◌, ◌<◌, ◌≤◌, ◌==◌, ◌&&◌, Bool, true, false, if◌then◌else◌, inl, List, [], ◌∷◌, get_or, length, nat_lt, ap, sym, ◌∙◌, subst, arith}
+use Rattle.std.proofs.lemmas.Bool.Decides.{nat_tests}
+use Rattle.std.proofs.Common.{◌≡◌, refl, ℕ, zero, suc, ◌+◌, ◌<◌, ◌≤◌, ◌&&◌, Bool, true, false, if◌then◌else◌, inl, List, [], ◌∷◌, get_or, length, ap, sym, subst, arith}
 use Rattle.std.specs.Prelude.{count_by, slice_set}
 use Rattle.std.specs.List.{flat_map}
 use Rattle.std.specs.Str.{bytes_eq}
@@ -57,11 +58,7 @@ module _ (test : ℕ → Bool) where
       → count_by test (slice_set cells i v) + one_if (test (get_or cells i d)) ≡ count_by test cells + one_if (test v)
   count-set d [] i v h = absurd (omega arith)
   count-set d (c ∷ cells) zero v h = let a = count-cons c cells in let b = count-cons v cells in omega (arith, a, b)
-  count-set d (c ∷ cells) (suc i) v h =
-      let a = count-cons c cells in
-      let b = count-cons c (slice_set cells i v) in
-      let r = count-set d cells i v (omega arith) in
-      omega (arith, a, b, r)
+  count-set d (c ∷ cells) (suc i) v h = grind (arith, nat_tests, count-cons, count-set d cells i v)
 
   pub inside : (d : ℕ) (cells : List ℕ) (i : ℕ) → test d ≡ false → test (get_or cells i d) ≡ true → i < length cells
   inside d [] zero none some = absurd (cc)
@@ -83,11 +80,7 @@ module _ (test : ℕ → Bool) where
       → count_by test (slice_set cells i v) ≤ count_by test cells
   set-least d [] i v less = omega arith
   set-least d (c ∷ cells) zero v less = let a = count-cons c cells in let b = count-cons v cells in omega (arith, a, b, less)
-  set-least d (c ∷ cells) (suc i) v less =
-      let a = count-cons c cells in
-      let b = count-cons c (slice_set cells i v) in
-      let h = set-least d cells i v less in
-      omega (arith, a, b, h)
+  set-least d (c ∷ cells) (suc i) v less = grind (arith, nat_tests, count-cons, set-least d cells i v less)
 
 -- ---- boards in rows and columns of these symbols
 
@@ -95,17 +88,9 @@ abbrev pub is_board_of : List ℕ → Grid → Bool
 is_board_of symbols p = is_in_rows p && bytes_eq p.symbols symbols
 
 pub board-wide : (symbols : List ℕ) (p : Grid) → is_board_of symbols p ≡ true → 0 < p.columns
-board-wide symbols p has =
-    let a = and_parts (is_in_rows p) (bytes_eq p.symbols symbols) has in
-    let b = and_parts (nat_lt 0 p.columns) (length p.cells == p.rows * p.columns) a.0 in
-    ltb-true 0 p.columns b.0
+board-wide symbols p has = grind (arith, nat_tests, and_parts, ltb-true)
 
 -- a move that leaves as many cells leads to such a board
 pub board-stays : (symbols : List ℕ) (p : Grid) (cells : List ℕ) → is_board_of symbols p ≡ true → length cells ≡ length p.cells
     → is_board_of symbols (with_cells p cells) ≡ true
-board-stays symbols p cells has long =
-    let both = and_parts (is_in_rows p) (bytes_eq p.symbols symbols) has in
-    let rows = and_parts (nat_lt 0 p.columns) (length p.cells == p.rows * p.columns) both.0 in
-    and_from (is_in_rows (with_cells p cells)) (bytes_eq p.symbols symbols)
-    (and_from (nat_lt 0 p.columns) (length cells == p.rows * p.columns) rows.0
-    (eq-eqb (length cells) (p.rows * p.columns) (long ∙ eqb-true (length p.cells) (p.rows * p.columns) rows.1))) both.1
+board-stays symbols p cells has long = grind (arith, nat_tests, and_parts, and_from, eq-eqb, eqb-true)

@@ -1,16 +1,15 @@
 -- Boards with their parts put together.
-use Rattle.std.proofs.Common.{◌≡◌, ℕ, zero, suc, ◌*◌, ◌<◌, ◌≤◌, ◌==◌, ◌&&◌, true, not, List, [], ◌∷◌, length, sym, ap, ◌∙◌, subst, arith, inl, inr, get_or-set_same, get_or-set_other}
+use Rattle.std.proofs.Common.{◌≡◌, ℕ, zero, suc, ◌*◌, ◌<◌, ◌≤◌, ◌&&◌, true, List, [], ◌∷◌, length, sym, ap, ◌∙◌, subst, arith, inl, inr, get_or-set_same, get_or-set_other}
 use Rattle.std.specs.Prelude.{nat_le, slice_index, slice_set, Contains}
 use Rattle.std.specs.List.{list_all}
 use Rattle.std.proofs.lemmas.Bool.{leb-true}
 use Rattle.std.proofs.lemmas.List.{length-set}
-use Rattle.std.proofs.lemmas.Bool.Decides.{eqb_tells}
+use Rattle.std.proofs.lemmas.Bool.Decides.{eqb_tells, nat_tests}
 use Rattle.cg_moves.specs.Grid.{AreCells, Grid, IsGrid, all_distinct, are_symbols, is_symbol, with_cells}
 use Rattle.cg_moves.proofs.Same.{and-true}
 
 -- cells with one of them changed to a symbol
-pub set-cells : (symbols cells : List ℕ) (i s : ℕ) → AreCells symbols cells → Contains symbols s
-    → AreCells symbols (slice_set cells i s)
+pub set-cells : (symbols cells : List ℕ) (i s : ℕ) → AreCells symbols cells → Contains symbols s → AreCells symbols (slice_set cells i s)
 set-cells symbols cells i s all is k in_set =
     let e = length-set cells i s in
     let P : ℕ → Type 0 = λ z. Contains symbols z in
@@ -35,10 +34,7 @@ set-grid p i s is g =
     }
 
 pub few-symbols : (symbols : List ℕ) → are_symbols symbols ≡ true → length symbols ≤ 16
-few-symbols symbols e =
-    let a = and-true (nat_le 1 (length symbols) && nat_le (length symbols) 16 && list_all is_symbol symbols) (all_distinct symbols) e in
-    let b = and-true (nat_le 1 (length symbols) && nat_le (length symbols) 16) (list_all is_symbol symbols) a.0 in
-    leb-true (length symbols) 16 (and-true (nat_le 1 (length symbols)) (nat_le (length symbols) 16) b.0).1
+few-symbols symbols e = grind (arith, nat_tests, and-true, leb-true)
 
 -- each symbol is a printable byte
 pub symbol-above : (symbols : List ℕ) (k : ℕ) → are_symbols symbols ≡ true → k < length symbols → 32 ≤ slice_index symbols k
@@ -48,9 +44,7 @@ symbol-above symbols k e l =
     go symbols k b.1 l
   where
     printable : (s : ℕ) → is_symbol s ≡ true → 32 ≤ s
-    printable s is =
-        let f = and-true (nat_le 32 s && nat_le s 126) (not (s == 124)) is in
-        leb-true 32 s (and-true (nat_le 32 s) (nat_le s 126) f.0).0
+    printable s is = grind (arith, nat_tests, and-true, leb-true)
 
     go : (symbols : List ℕ) (k : ℕ) → list_all is_symbol symbols ≡ true → k < length symbols → 32 ≤ slice_index symbols k
     go [] k e l = absurd (omega arith)

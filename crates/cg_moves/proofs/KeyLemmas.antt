@@ -1,8 +1,8 @@
 -- Keys of boards.
-use Rattle.std.proofs.Common.{◌≡◌, refl, ℕ, zero, suc, ◌+◌, ◌*◌, ◌/◌, ◌%◌, ◌<◌, ◌==◌, bit_xor, true, inl, inr, List, [], ◌∷◌, length, ap, sym, ◌∙◌, arith}
+use Rattle.std.proofs.Common.{◌≡◌, refl, ℕ, zero, suc, ◌/◌, ◌<◌, bit_xor, true, List, [], ◌∷◌, ap, sym, ◌∙◌, arith}
 use Rattle.std.specs.Int.{bit_at}
 use Rattle.std.proofs.lemmas.Bool.{eq-eqb, eqb-true}
-use Rattle.std.proofs.lemmas.Bool.Decides.{leb_tells}
+use Rattle.std.proofs.lemmas.Bool.Decides.{leb_tells, nat_tests}
 use Rattle.std.proofs.lemmas.Nat.{xor_lt}
 use Rattle.std.proofs.lemmas.Nat.Bits.{bit_at-lt, bit_at-suc, bit_at-zero, bit_at_lowest, same_from_bits}
 use Rattle.cg_moves.specs.declared.key.BoardKey.{BoardKey}
@@ -19,22 +19,12 @@ plane-first : (symbols cells : List ℕ) (c b : ℕ) → plane_bit symbols (c �
 plane-first symbols cells c b = plane-inside symbols (c ∷ cells) b 0 (omega arith)
 
 plane-rest : (symbols cells : List ℕ) (c b i : ℕ) → plane_bit symbols (c ∷ cells) b (suc i) ≡ plane_bit symbols cells b i
-plane-rest symbols cells c b i = elim (leb_tells (length cells) i) [
-  | inl h ↦ plane-outside symbols (c ∷ cells) b (suc i) (omega (arith, h.1)) ∙ sym (plane-outside symbols cells b i h.1)
-  | inr h ↦ plane-inside symbols (c ∷ cells) b (suc i) (omega (arith, h.1)) ∙ sym (plane-inside symbols cells b i h.1)
-]
+plane-rest symbols cells c b i = grind (arith, nat_tests, leb_tells, plane-outside, plane-inside)
 
 word-bits : (symbols cells : List ℕ) (b i : ℕ) → bit_at (word_of symbols b cells) i ≡ plane_bit symbols cells b i
 word-bits symbols [] b i = bit_at-zero i ∙ sym (plane-outside symbols [] b i (omega arith))
-word-bits symbols (c ∷ cells) b zero =
-    let first = bit_at-lt (index_of symbols c) b in
-    let rest : (bit_at (index_of symbols c) b + 2 * word_of symbols b cells) % 2 ≡ bit_at (index_of symbols c) b = omega arith in
-    bit_at_lowest (word_of symbols b (c ∷ cells)) ∙ rest ∙ sym (plane-first symbols cells c b)
-word-bits symbols (c ∷ cells) b (suc i) =
-    let first = bit_at-lt (index_of symbols c) b in
-    let rest : (bit_at (index_of symbols c) b + 2 * word_of symbols b cells) / 2 ≡ word_of symbols b cells = omega arith in
-    bit_at-suc (word_of symbols b (c ∷ cells)) i ∙ ap (λ z. bit_at z i) rest ∙ word-bits symbols cells b i
-    ∙ sym (plane-rest symbols cells c b i)
+word-bits symbols (c ∷ cells) b zero = grind (arith, nat_tests, bit_at-lt, bit_at_lowest, plane-first)
+word-bits symbols (c ∷ cells) b (suc i) = grind (arith, nat_tests, bit_at-lt, bit_at-suc, plane-rest, word-bits symbols cells b i)
 
 words-are : (symbols cells : List ℕ) → ArePlanes symbols cells (words_of symbols cells)
 words-are symbols cells = record {
@@ -56,31 +46,10 @@ only-words symbols cells w are =
 -- ---- the test of keys
 
 pub key_eq-back : (j k : BoardKey) → key_eq j k ≡ true → j ≡ k
-key_eq-back j k e =
-    let r = and-true (j.rows == k.rows) _ e in
-    let s = and-true (j.columns == k.columns) _ r.1 in
-    let t = and-true (j.planes.a == k.planes.a) _ s.1 in
-    let u = and-true (j.planes.b == k.planes.b) _ t.1 in
-    let v = and-true (j.planes.c == k.planes.c) _ u.1 in
-    let rows = eqb-true j.rows k.rows r.0 in
-    let columns = eqb-true j.columns k.columns s.0 in
-    let a = eqb-true j.planes.a k.planes.a t.0 in
-    let b = eqb-true j.planes.b k.planes.b u.0 in
-    let c = eqb-true j.planes.c k.planes.c v.0 in
-    let d = eqb-true j.planes.d k.planes.d v.1 in
-    λ i. record {
-      rows = rows i;
-      columns = columns i;
-      planes = record { a = a i; b = b i; c = c i; d = d i };
-    }
+key_eq-back j k e = grind (arith, nat_tests, and-true, eqb-true)
 
 pub key_eq-refl : (k : BoardKey) → key_eq k k ≡ true
-key_eq-refl k =
-    both-true (k.rows == k.rows) _ (eq-eqb k.rows k.rows refl)
-    (both-true (k.columns == k.columns) _ (eq-eqb k.columns k.columns refl)
-    (both-true (k.planes.a == k.planes.a) _ (eq-eqb k.planes.a k.planes.a refl)
-    (both-true (k.planes.b == k.planes.b) _ (eq-eqb k.planes.b k.planes.b refl)
-    (both-true (k.planes.c == k.planes.c) _ (eq-eqb k.planes.c k.planes.c refl) (eq-eqb k.planes.d k.planes.d refl)))))
+key_eq-refl k = grind (arith, nat_tests, both-true, eq-eqb)
 
 pub key_eq-same : (j k : BoardKey) → j ≡ k → key_eq j k ≡ true
 key_eq-same j k e = ap (key_eq j) (sym e) ∙ key_eq-refl j

@@ -1,5 +1,6 @@
 -- Where a text is refused as too large, the place is that of the 65th cell.
-use Rattle.std.proofs.Common.{◌≡◌, refl, ℕ, zero, suc, ◌+◌, ◌*◌, ◌/◌, ◌%◌, ◌<◌, ◌≤◌, ◌==◌, ◌||◌, Bool, true, false, not, nat_lt, if◌then◌else◌, Option, Some, None, Result, Ok, Err, List, [], ◌∷◌, ◌++◌, length, ap, sym, ◌∙◌, arith, append-nil}
+use Rattle.std.proofs.lemmas.Bool.Decides.{nat_tests}
+use Rattle.std.proofs.Common.{◌≡◌, refl, ℕ, zero, suc, ◌+◌, ◌*◌, ◌/◌, ◌%◌, ◌<◌, ◌≤◌, ◌==◌, Bool, true, false, nat_lt, if◌then◌else◌, Option, Some, None, Result, Ok, Err, List, [], ◌∷◌, ◌++◌, length, ap, sym, ◌∙◌, arith, append-nil}
 use Rattle.std.specs.Prelude.{position, slice_get}
 use Rattle.std.proofs.Math.Nat.{mod-lt, mul-le-mul_left}
 use Rattle.std.proofs.lemmas.Bool.{eqb-true, ltb-true}
@@ -7,8 +8,9 @@ use Rattle.cg_moves.specs.declared.fault.BoardFault.{BoardFault}
 use Rattle.cg_moves.specs.declared.fault.BoardFault.TheVariants.{Symbol, Empty, Ragged, Large}
 use Rattle.cg_moves.specs.Grid.{Grid}
 use Rattle.cg_moves.specs.Rising.{counted}
-use Rattle.cg_moves.specs.Texts.{bar, cell_places, cells_of, cut, first_row, in_front, is_foreign, next_place, ragged, read_of, refused_at, rows_of}
+use Rattle.cg_moves.specs.Texts.{cell_places, cells_of, cut, first_row, in_front, is_foreign, next_place, ragged, read_of, refused_at, rows_of}
 use Rattle.cg_moves.proofs.TextLemmas.{not-ragged}
+use Rattle.cg_moves.proofs.Counted.{counted-length}
 
 -- ---- elements of joined lists
 
@@ -28,10 +30,6 @@ at-counted i (suc n) zero h = let e : i ≡ i + 0 = omega arith in ap Some e
 at-counted i (suc n) (suc k) h =
     let e : suc i + k ≡ i + suc k = omega arith in at-counted (suc i) n k (omega (arith, h)) ∙ ap Some e
 
-counted-length : (i n : ℕ) → length (counted i n) ≡ n
-counted-length i zero = refl
-counted-length i (suc n) = ap suc (counted-length (suc i) n)
-
 -- ---- the places of the cells, row by row
 
 row_places : ℕ → List (List ℕ) → List ℕ
@@ -41,20 +39,12 @@ row_places place (row ∷ rows) = counted place (length row) ++ row_places (plac
 places-front : (place c : ℕ) (rows : List (List ℕ)) → row_places place (in_front c rows) ≡ place ∷ row_places (suc place) rows
 unfolding row_places
 places-front place c [] = refl
-places-front place c (row ∷ rows) =
-    let e : place + suc (length row) + 1 ≡ suc place + length row + 1 = omega arith in
-    ap (λ z. place ∷ (counted (suc place) (length row) ++ row_places z rows)) e
+places-front place c (row ∷ rows) = grind (arith, nat_tests, row_places)
 
 cut-places : (place : ℕ) (text : List ℕ) → cell_places false place text ≡ row_places place (cut text)
 unfolding row_places
 cut-places place [] = refl
-cut-places place (c ∷ cs) = go (c == bar) (cut-places (suc place) cs)
-  where
-    go : (b : Bool) → cell_places false (suc place) cs ≡ row_places (suc place) (cut cs)
-        → (if false || not b then place ∷ cell_places false (suc place) cs else cell_places false (suc place) cs)
-        ≡ row_places place (if b then [] ∷ cut cs else in_front c (cut cs))
-    go true h = let e : suc place ≡ place + 0 + 1 = omega arith in h ∙ ap (λ z. row_places z (cut cs)) e
-    go false h = ap (λ z. place ∷ z) h ∙ sym (places-front place c (cut cs))
+cut-places place (c ∷ cs) = grind (arith, nat_tests, row_places, places-front, cut-places (suc place) cs)
 
 row-places : (place : ℕ) (text : List ℕ) → cell_places true place text ≡ counted place (length text)
 row-places place [] = refl

@@ -13,10 +13,9 @@ use Rattle.cg_moves.specs.Plays.{IsPlay}
 use Rattle.cg_moves.specs.Rules.{In, followers}
 use Rattle.cg_moves.specs.Walking.{IsOn, IsOnWay, Leads, Way, parts, play, reached}
 use Rattle.cg_moves.specs.Walks.{AreOpen, GoesOn, Leaves, Visit, boards_left}
-use Rattle.cg_moves.proofs.Fresh.{open-last, open-seen}
+use Rattle.cg_moves.proofs.Fresh.{leads-last, open-last, open-seen}
 use Rattle.cg_form.proofs.Firsts.{extended-longer, one_more-new}
 use Rattle.cg_moves.proofs.Same.{boards}
-use Rattle.cg_moves.proofs.Leading.{leads-last}
 use Rattle.cg_moves.proofs.Listed.{next-append, nexts-more}
 use Rattle.cg_moves.proofs.OnWay.{entered-back, entered-front, next-parts}
 use Rattle.cg_moves.proofs.PlaceLemmas.{at-append, at-last, stand-append, stand-behind, stand-front, stand-size, stand-wider}

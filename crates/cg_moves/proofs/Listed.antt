@@ -1,5 +1,6 @@
 -- What comes next after boards, in lists that grow behind.
-use Rattle.std.proofs.Common.{◌≡◌, refl, ℕ, ◌+◌, ◌≤◌, List, [], ◌∷◌, ◌++◌, length, length-append, take, drop, append_assoc, ap, sym, ◌∙◌, subst, arith}
+use Rattle.std.proofs.lemmas.Bool.Decides.{nat_tests}
+use Rattle.std.proofs.Common.{◌≡◌, refl, ℕ, ◌+◌, ◌≤◌, List, [], ◌∷◌, ◌++◌, length, length-append, take, drop, append_assoc, sym, ◌∙◌, subst, arith}
 use Rattle.std.proofs.lemmas.List.{append-nil, drop-append-le, length-drop, take-append-le}
 use Rattle.cg_moves.specs.declared.opened.NextPlaces.{NextPlaces}
 use Rattle.cg_moves.specs.Grid.{Grid}
@@ -8,11 +9,8 @@ use Rattle.cg_moves.specs.Rules.{GameRules, followers}
 use Rattle.std.specs.List.{flat_map}
 
 -- a part of a list stays where more comes behind it
-pub part-more : (xs ys : List ℕ) (first many : ℕ) → first + many ≤ length xs
-    → take many (drop first (xs ++ ys)) ≡ take many (drop first xs)
-part-more xs ys first many inside =
-    let l = length-drop first xs in
-    ap (take many) (drop-append-le first xs ys (omega arith)) ∙ take-append-le many (drop first xs) ys (omega arith)
+pub part-more : (xs ys : List ℕ) (first many : ℕ) → first + many ≤ length xs → take many (drop first (xs ++ ys)) ≡ take many (drop first xs)
+part-more xs ys first many inside = grind (arith, nat_tests, length-drop, drop-append-le, take-append-le)
 
 module _ (r : GameRules) (cut : Grid → List Grid) where
   pub counted-more : (counts more : List ℕ) (p : Grid) (count first moves : ℕ) → AreCounted r cut counts p count first moves
@@ -55,8 +53,7 @@ module _ (r : GameRules) (cut : Grid → List Grid) where
         let P : List Grid → Type 0 = λ z. IsNext r cut counts places z p n in
         (h.0, next-append (before ++ (q ∷ [])) ps ns p n h.1 (subst P (sym (append_assoc before (q ∷ []) ps)) i))
 
-    pub next-size : (before ps : List Grid) (ns : List NextPlaces) → AreNext r cut counts places before ps ns
-        → length ns ≡ length ps
+    pub next-size : (before ps : List Grid) (ns : List NextPlaces) → AreNext r cut counts places before ps ns → length ns ≡ length ps
     next-size before [] [] h = refl
     next-size before [] (n ∷ ns) h = absurd h
     next-size before (p ∷ ps) [] h = absurd h

@@ -39,8 +39,7 @@ module _ {X Y : Type 0} where
   map-agree f k (x ∷ xs) h =
       ap (λ z. z ∷ map f xs) (h x (inl refl)) ∙ ap (λ z. k x ∷ z) (map-agree f k xs (λ y m. h y (inr m)))
 
-  pub flat_map-agree : (f k : X → List Y) (xs : List X) → ((x : X) → In x xs → f x ≡ k x)
-      → flat_map f xs ≡ flat_map k xs
+  pub flat_map-agree : (f k : X → List Y) (xs : List X) → ((x : X) → In x xs → f x ≡ k x) → flat_map f xs ≡ flat_map k xs
   flat_map-agree f k [] h = refl
   flat_map-agree f k (x ∷ xs) h =
       ap (λ z. z ++ flat_map f xs) (h x (inl refl)) ∙ ap (λ z. k x ++ z) (flat_map-agree f k xs (λ y m. h y (inr m)))

@@ -1,5 +1,6 @@
 -- Moves gathered cell by cell.
-use Rattle.std.proofs.Common.{◌≡◌, ℕ, suc, ◌+◌, ◌*◌, ◌/◌, ◌%◌, ◌<◌, ◌≤◌, List, [], ◌∷◌, ◌++◌, map, ap, sym, ◌∙◌, arith, append-nil}
+use Rattle.std.proofs.lemmas.Bool.Decides.{nat_tests}
+use Rattle.std.proofs.Common.{◌≡◌, ℕ, suc, ◌+◌, ◌*◌, ◌%◌, ◌<◌, List, [], ◌∷◌, ◌++◌, map, ap, sym, ◌∙◌, arith, append-nil}
 use Rattle.std.specs.List.{flat_map}
 use Rattle.std.proofs.Math.Nat.{mul-le-mul_left}
 use Rattle.std.proofs.lemmas.Grind.{flat_map-append}
@@ -9,20 +10,7 @@ use Rattle.cg_moves.proofs.Counted.{counted-next}
 
 -- where a cell isn't the last of its row, there is a next one
 pub next_in_row : (i rows columns : ℕ) → i < rows * columns → i % columns + 1 < columns → i + 1 < rows * columns
-next_in_row i rows columns below inside =
-    let q : ℕ = i / columns in
-    let whole : columns * q + i % columns ≡ i = omega arith in
-    let few : q < rows = least q rows columns i below whole in
-    let m : columns * (q + 1) ≤ columns * rows = mul-le-mul_left columns (omega arith) in
-    omega (arith, m)
-  where
-    least : (q rows columns i : ℕ) → i < rows * columns → columns * q + i % columns ≡ i → q < rows
-    least q rows columns i below whole =
-        let go : (rows ≤ q) → ⊥ = λ h. (let m : columns * rows ≤ columns * q = mul-le-mul_left columns h in omega (
-          arith,
-          m,
-        )) in
-        omega (arith, go)
+next_in_row i rows columns below inside = grind (arith, nat_tests, mul-le-mul_left)
 
 -- ---- boards that are listed, number by number
 

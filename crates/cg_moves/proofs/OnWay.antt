@@ -16,11 +16,10 @@ use Rattle.cg_moves.specs.Rules.{GameRules, In, followers}
 use Rattle.cg_moves.specs.Walking.{Adds, AreAlone, AreEntered, AreTold, IsOn, IsOnWay, Way, play}
 use Rattle.cg_moves.specs.Walks.{AreStarts, Enters, Leaves, Visit, boards_left, entered, visit_board, visit_boards}
 use Rattle.cg_moves.proofs.Bounds.{follower-has}
-use Rattle.cg_moves.proofs.ComesAfter.{own-all, reached-symbols}
-use Rattle.cg_moves.proofs.Fresh.{open-entered}
+use Rattle.cg_moves.proofs.PlayOrder.{own-all, reached-symbols}
+use Rattle.cg_moves.proofs.Fresh.{leads-entered, open-entered}
 use Rattle.cg_form.proofs.Firsts.{extended-among, extended-has, extended-keeps, in-append, in-append_left}
 use Rattle.cg_moves.proofs.Same.{boards}
-use Rattle.cg_moves.proofs.Leading.{leads-entered}
 use Rattle.cg_moves.proofs.Listed.{counted-more}
 use Rattle.cg_moves.proofs.Members.{carry, in-flat_map, in_one}
 use Rattle.cg_moves.proofs.PlayLemmas.{part-alone, plays}
@@ -138,8 +137,7 @@ module _ (w : Way) (lawful : IsPlay (play w)) (s : Seen) (tasks : List Visit) (t
 
 -- ---- where a walk begins
 
-pub starts-alike : (r : Play) (none starts same : List Grid) → none ≡ [] → same ≡ starts → AreStarts r starts
-    → AreAlike (none ++ same)
+pub starts-alike : (r : Play) (none starts same : List Grid) → none ≡ [] → same ≡ starts → AreStarts r starts → AreAlike (none ++ same)
 starts-alike r none starts same e f h =
     let P : List Grid → Type 0 = λ z. AreAlike z in
     subst P (sym (ap (λ z. z ++ same) e ∙ f)) (λ p q m n. (h.known p m).0 ∙ sym (h.known q n).0)

@@ -1,4 +1,4 @@
--- A board is the sum of its pieces.
+-- The options of the tree of a board are the trees of the boards that its moves lead to, and a board is the sum of its pieces.
 use Rattle.std.proofs.Common.{◌≡◌, ℕ, zero, suc, ◌<◌, true, List, ◌∷◌, ◌++◌, map, ap, sym, ◌∙◌, subst, arith, inl, refl}
 use Rattle.cg_form.specs.Game.{Among, Game}
 use Rattle.cg_form.specs.Order.{Equal}
@@ -6,14 +6,40 @@ use Rattle.cg_form.proofs.Preorder.{equal_trans, le-cofinal}
 use Rattle.cg_moves.specs.declared.player.Player.{Player}
 use Rattle.cg_moves.specs.declared.player.Player.TheVariants.{Left, Right}
 use Rattle.cg_moves.specs.Grid.{Grid, with_cells}
-use Rattle.cg_moves.specs.Rules.{GameRules, In, pieces}
+use Rattle.cg_moves.specs.Rules.{GameRules, In, pieces, boards_after}
 use Rattle.cg_moves.specs.CutByMoves.{IsCutByMoves, MovesAlike}
 use Rattle.cg_moves.specs.Lawful.{AreMoves, IsCut}
 use Rattle.cg_moves.specs.Raw.{IsSumOfPieces, raw}
 use Rattle.cg_moves.specs.Total.{total}
 use Rattle.cg_form.proofs.Firsts.{in-append_right}
-use Rattle.cg_moves.proofs.RawOptions.{option_raw, raw_option}
-use Rattle.cg_moves.proofs.Totals.{equal_back, equal_of, map-append, options_of, total-cases, total-in_place, total-option, total-reordered}
+use Rattle.cg_moves.proofs.Totals.{equal_back, equal_of, options_of, total-cases, total-in_place, total-option, total-reordered}
+use Rattle.std.proofs.lemmas.List.{map-append}
+use Rattle.cg_form.proofs.Among.{lefts-node, rights-node}
+use Rattle.cg_moves.proofs.Bounds.{raw-moves}
+use Rattle.cg_moves.proofs.Members.{in-map, in_mapped}
+
+module _ (r : GameRules) (moves : AreMoves r) where
+  -- the options are the trees of the moves
+  pub options-raw : (player : Player) (p : Grid) → r.has p ≡ true → options_of player (raw r p) ≡ map (raw r) (boards_after r player p)
+  options-raw Left p has = ap (options_of Left) (raw-moves r moves p has)
+      ∙ lefts-node (map (raw r) (boards_after r Left p)) (map (raw r) (boards_after r Right p))
+  options-raw Right p has = ap (options_of Right) (raw-moves r moves p has)
+      ∙ rights-node (map (raw r) (boards_after r Left p)) (map (raw r) (boards_after r Right p))
+
+  pub raw_option : (player : Player) (p : Grid) (cells : List ℕ) → r.has p ≡ true → In cells (r.moves player p)
+      → Among (raw r (with_cells p cells)) (options_of player (raw r p))
+  raw_option player p cells has m =
+      let P : List Game → Type 0 = λ z. Among (raw r (with_cells p cells)) z in
+      subst P (sym (options-raw player p has))
+      (in_mapped (raw r) (with_cells p cells) (boards_after r player p) (in_mapped (with_cells p) cells (r.moves player p) m))
+
+  pub option_raw : (player : Player) (p : Grid) (g : Game) → r.has p ≡ true → Among g (options_of player (raw r p))
+      → (cells : List ℕ) × In cells (r.moves player p) × (g ≡ raw r (with_cells p cells))
+  option_raw player p g has m =
+      let P : List Game → Type 0 = λ z. Among g z in
+      let (q, k, e) = in-map (raw r) g (boards_after r player p) (subst P (options-raw player p has) m) in
+      let (cells, n, f) = in-map (with_cells p) q (r.moves player p) k in
+      (cells, n, e ∙ ap (raw r) f)
 
 middle_in : {X : Type 0} (x : X) (us vs : List X) (xs : List X) → xs ≡ us ++ (x ∷ vs) → In x xs
 middle_in {X} x us vs xs e =

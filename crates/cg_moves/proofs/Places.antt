@@ -9,14 +9,12 @@ module _ {X : Type 0} where
   in_read (y ∷ xs) (suc i) x l e = inr (in_read xs i x (omega arith) e)
 
   -- the list at the place of one of its members
-  pub split_read : (xs : List X) (i : ℕ) (x : X) → i < length xs → x ≡ get_or xs i x
-      → xs ≡ take i xs ++ (x ∷ drop (suc i) xs)
+  pub split_read : (xs : List X) (i : ℕ) (x : X) → i < length xs → x ≡ get_or xs i x → xs ≡ take i xs ++ (x ∷ drop (suc i) xs)
   split_read [] i x l e = absurd (omega arith)
   split_read (y ∷ xs) zero x l e = ap (λ z. z ∷ xs) (sym e)
   split_read (y ∷ xs) (suc i) x l e = ap (λ z. y ∷ z) (split_read xs i x (omega arith) e)
 
-  pub take_next : (xs : List X) (i : ℕ) (x : X) → i < length xs → x ≡ get_or xs i x
-      → take (i + 1) xs ≡ take i xs ++ (x ∷ [])
+  pub take_next : (xs : List X) (i : ℕ) (x : X) → i < length xs → x ≡ get_or xs i x → take (i + 1) xs ≡ take i xs ++ (x ∷ [])
   take_next xs i x l e = go xs i l e ∙ refl
     where
       go : (ys : List X) (k : ℕ) → k < length ys → x ≡ get_or ys k x → take (k + 1) ys ≡ take k ys ++ (x ∷ [])

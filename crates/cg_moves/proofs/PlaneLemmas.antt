@@ -1,10 +1,10 @@
 -- The cells of boards in words.
-use Rattle.std.proofs.Common.{◌≡◌, ◌≢◌, refl, ℕ, suc, ◌+◌, ◌-◌, ◌*◌, ◌<◌, ◌≤◌, ◌==◌, inl, inr, Some, None, cond, true, false, if◌then◌else◌, nat_lt, List, [], ◌∷◌, ◌++◌, length, take, get_or, ap, sym, subst, ◌∙◌, arith, length-set, get_or-set_same, get_or-set_other, bit_and, min}
+use Rattle.std.proofs.Common.{◌≡◌, ◌≢◌, refl, ℕ, suc, ◌+◌, ◌-◌, ◌*◌, ◌<◌, ◌≤◌, ◌==◌, inl, inr, None, true, false, if◌then◌else◌, nat_lt, List, [], ◌∷◌, ◌++◌, length, take, get_or, ap, sym, subst, ◌∙◌, arith, length-set, get_or-set_same, get_or-set_other, bit_and, min}
 use Rattle.std.specs.Prelude.{Contains, slice_index, slice_set}
 use Rattle.std.specs.Int.{bit_at}
 use Rattle.std.specs.List.{position}
 use Rattle.std.proofs.lemmas.Bool.{eq-eqb, eqb-true, le-ltb, lt-ltb}
-use Rattle.std.proofs.lemmas.Bool.Decides.{eqb_tells, leb_tells}
+use Rattle.std.proofs.lemmas.Bool.Decides.{eqb_tells, leb_tells, nat_tests}
 use Rattle.std.proofs.Math.Seq.{take-suc}
 use Rattle.std.proofs.lemmas.List.{ext_get_or, get_or-append_right, get_or-take, get_or_append_left, get_or_past, length-append, length-take-le}
 use Rattle.std.proofs.lemmas.List.FromFn.{get_or-map-range_with_len, length-map-range_with_len}
@@ -21,12 +21,7 @@ use Rattle.cg_moves.proofs.WordBits.{four_alike}
 -- ---- indices of symbols
 
 pub index-below : (symbols : List ℕ) (c : ℕ) → Contains symbols c → index_of symbols c < length symbols
-index-below symbols c (k, l, e) = elim (leb_tells (length symbols) (index_of symbols c)) [
-  | inl h ↦ (let f : (get_or symbols k c == c) ≡ false = fails_before_first (λ s. s == c) symbols k c (omega (arith, h.1)) in
-      let t : (get_or symbols k c == c) ≡ true = eq-eqb (get_or symbols k c) c e in
-      absurd cc)
-  | inr h ↦ h.1
-]
+index-below symbols c (k, l, e) = grind (arith, nat_tests, leb_tells, fails_before_first, eq-eqb)
 
 pub index-reads : (symbols : List ℕ) (c : ℕ) → Contains symbols c → slice_index symbols (index_of symbols c) ≡ c
 index-reads symbols c h =
@@ -34,10 +29,7 @@ index-reads symbols c h =
 
 -- a symbol that is there is found
 pub index-found : (symbols : List ℕ) (c : ℕ) → Contains symbols c → position (λ s. s == c) symbols ≡ None → ⊥
-index-found symbols c h e =
-    let below : nat_lt (index_of symbols c) (length symbols) ≡ true = lt-ltb (index_of symbols c) (length symbols) (index-below symbols c h) in
-    let found : position (λ s. s == c) symbols ≡ Some (index_of symbols c) = ap (λ t. cond t (Some (index_of symbols c)) None) below in
-    cc
+index-found symbols c h e = grind (arith, nat_tests, lt-ltb, index-below)
 
 -- a number below 16 by its bits
 sum-bits : (n : ℕ) → n < 16 → bit_at n 0 + 2 * bit_at n 1 + 4 * bit_at n 2 + 8 * bit_at n 3 ≡ n
@@ -56,15 +48,7 @@ plane-outside symbols cells b i l =
 
 pub index-read : (symbols cells : List ℕ) (w : Planes) (i : ℕ) → ArePlanes symbols cells w → AreCells symbols cells
     → length symbols ≤ 16 → i < length cells → index_at w i ≡ index_of symbols (slice_index cells i)
-index-read symbols cells w i are all few l =
-    let n = index_of symbols (slice_index cells i) in
-    let below : n < 16 = (let h = index-below symbols (slice_index cells i) (all i l) in omega arith) in
-    let s = sum-bits n below in
-    let a = are.a i ∙ plane-inside symbols cells 0 i l in
-    let b = are.b i ∙ plane-inside symbols cells 1 i l in
-    let c = are.c i ∙ plane-inside symbols cells 2 i l in
-    let d = are.d i ∙ plane-inside symbols cells 3 i l in
-    omega arith
+index-read symbols cells w i are all few l = grind (arith, nat_tests, index-below, sum-bits, plane-inside)
 
 -- the planes tell the cells
 pub planes_tell : (symbols cells : List ℕ) (w : Planes) → ArePlanes symbols cells w → AreCells symbols cells
@@ -78,13 +62,8 @@ planes_tell symbols cells w are all few =
     long : length (cells_by symbols w (length cells)) ≡ length cells
     long = length-map-range_with_len (λ i. slice_index symbols (index_at w i)) 0 (length cells)
 
-    same : (i : ℕ) → i < length (cells_by symbols w (length cells))
-        → get_or (cells_by symbols w (length cells)) i 0 ≡ get_or cells i 0
-    same i l =
-        let m : i < length cells = (let e = long in omega arith) in
-        get_or-map-range_with_len (λ i. slice_index symbols (index_at w i)) 0 (length cells) i i 0 m (omega arith)
-        ∙ ap (slice_index symbols) (index-read symbols cells w i are all few m)
-        ∙ index-reads symbols (slice_index cells i) (all i m)
+    same : (i : ℕ) → i < length (cells_by symbols w (length cells)) → get_or (cells_by symbols w (length cells)) i 0 ≡ get_or cells i 0
+    same i l = grind (arith, nat_tests, long, get_or-map-range_with_len, index-read, index-reads)
 
 -- ---- another symbol at a cell
 
@@ -225,22 +204,7 @@ pub places_by : (w : Planes) (index e f g h x y z u i : ℕ) → index < 16 → 
     → bit_at y i ≡ (if bit_at w.b i == f then 1 else 0) → bit_at z i ≡ (if bit_at w.c i == g then 1 else 0)
     → bit_at u i ≡ (if bit_at w.d i == h then 1 else 0)
     → bit_at (bit_and (bit_and x y) (bit_and z u)) i ≡ (if index_at w i == index then 1 else 0)
-places_by w index e f g h x y z u i l ie jf ig ih ax ay az au =
-    let kp = bit_at-lt w.a i in
-    let kq = bit_at-lt w.b i in
-    let kr = bit_at-lt w.c i in
-    let ks = bit_at-lt w.d i in
-    let ke : e < 2 = (let k = bit_at-lt index 0 in omega arith) in
-    let kf : f < 2 = (let k = bit_at-lt index 1 in omega arith) in
-    let kg : g < 2 = (let k = bit_at-lt index 2 in omega arith) in
-    let kh : h < 2 = (let k = bit_at-lt index 3 in omega arith) in
-    let sum : e + 2 * f + 4 * g + 8 * h ≡ index = (let k = sum-bits index l in omega arith) in
-    let pair = bit_at_and x y i ∙ ap (λ m. min m (bit_at y i)) ax ∙ ap (min (if bit_at w.a i == e then 1 else 0)) ay in
-    let other = bit_at_and z u i ∙ ap (λ m. min m (bit_at u i)) az ∙ ap (min (if bit_at w.c i == g then 1 else 0)) au in
-    bit_at_and (bit_and x y) (bit_and z u) i ∙ ap (λ m. min m (bit_at (bit_and z u) i)) pair
-    ∙ ap (min (min (if bit_at w.a i == e then 1 else 0) (if bit_at w.b i == f then 1 else 0))) other
-    ∙ four_alike (bit_at w.a i) (bit_at w.b i) (bit_at w.c i) (bit_at w.d i) e f g h kp kq kr ks ke kf kg kh
-    ∙ ap (λ n. if index_at w i == n then 1 else 0) sum
+places_by w index e f g h x y z u i l ie jf ig ih ax ay az au = grind (arith, nat_tests, bit_at-lt, sum-bits, bit_at_and, four_alike)
 
 -- no cell past the last one has a symbol
 no-symbol : (symbols cells : List ℕ) (symbol i : ℕ) → are_symbols symbols ≡ true → Contains symbols symbol → length cells ≤ i

@@ -15,11 +15,10 @@ use Rattle.cg_moves.specs.Plays.{IsPlay, MayGo, next_pieces, parts_of, pieces_af
 use Rattle.cg_moves.specs.Reach.{all_reached, reach_of}
 use Rattle.cg_moves.specs.Rules.{GameRules, In, boards_after, followers, pieces}
 use Rattle.cg_moves.specs.Walks.{AreStarts}
-use Rattle.cg_moves.proofs.Bounds.{follower-has, follower-lowers, reached-moves}
+use Rattle.cg_moves.proofs.Bounds.{follower-has, follower-lowers, piece_reached-moves, reached-moves}
 use Rattle.cg_form.proofs.Firsts.{in-append, once-extended}
 use Rattle.cg_moves.proofs.Same.{boards}
 use Rattle.cg_moves.proofs.Members.{flat_map-agree, in-flat_map, in-map, in_one}
-use Rattle.cg_moves.proofs.PieceBounds.{piece_reached-moves}
 
 module _ {X Y : Type 0} where
   flat_map-twice : {Z : Type 0} (f : X → List Y) (g : Z → List X) (zs : List Z)
@@ -76,8 +75,7 @@ module _ (r : GameRules) (lawful : IsLawful r) where
           let a = each.measure s.board q (follower-has r lawful.moves p s.board has s.follows) s.piece in
           let b = follower-lowers r lawful.moves p s.board has s.follows in
           omega (arith, a, b);
-      all = λ p has.
-          ap (λ z. z ++ (p ∷ []))
+      all = λ p has. ap (λ z. z ++ (p ∷ []))
           (flat_map-agree (all_piece_reached r) (λ s. flat_map (pieces_after r) (pieces r s)) (followers r p)
           (λ s l. piece_reached-moves r lawful.moves each s (follower-has r lawful.moves p s has l))
           ∙ sym (flat_map-twice (pieces_after r) (pieces r) (followers r p)));
@@ -89,8 +87,7 @@ module _ (r : GameRules) (lawful : IsLawful r) where
       known = λ q m. (each.symbols p q has m, each.has p q has m);
     }
 
-    pub piece_reach-kept : (p : Grid) → r.has p ≡ true
-        → piece_reach_of r p ≡ kept [] (flat_map (play_of r Pieces).all (pieces r p))
+    pub piece_reach-kept : (p : Grid) → r.has p ≡ true → piece_reach_of r p ≡ kept [] (flat_map (play_of r Pieces).all (pieces r p))
     unfolding piece_reach_of
     piece_reach-kept p has = once-extended boards (all_piece_reached r p) ∙ ap (kept []) (piece_reached-moves r lawful.moves each p has)
 
@@ -112,8 +109,7 @@ module _ (r : GameRules) (lawful : IsLawful r) where
         known = λ q m. subst Q (sym (in_one q p m)) (refl, has);
       })
 
-  pub reach-kept_all : (p : Grid) (starts : List Grid) → starts ≡ p ∷ []
-      → reach_of r p ≡ kept [] (flat_map (play_of r Moves).all starts)
+  pub reach-kept_all : (p : Grid) (starts : List Grid) → starts ≡ p ∷ [] → reach_of r p ≡ kept [] (flat_map (play_of r Moves).all starts)
   unfolding reach_of
   reach-kept_all p starts e =
       once-extended boards (all_reached r p)

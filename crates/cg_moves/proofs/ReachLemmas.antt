@@ -40,11 +40,9 @@ module _ (r : GameRules) where
         ]
 
     pub reach-has : (p q : Grid) → r.has p ≡ true → In q (reach_of r p) → r.has q ≡ true
-    reach-has p q has m = each-reached (λ z. r.has z ≡ true) (λ s t h k l. follower-has r lawful.moves s t h l) p has has q
-        (in-reach p q m)
+    reach-has p q has m = each-reached (λ z. r.has z ≡ true) (λ s t h k l. follower-has r lawful.moves s t h l) p has has q (in-reach p q m)
 
-    before-lower : (p q : Grid) → r.has p ≡ true → In q (flat_map (all_reached r) (followers r p))
-        → r.measure q < r.measure p
+    before-lower : (p q : Grid) → r.has p ≡ true → In q (flat_map (all_reached r) (followers r p)) → r.measure q < r.measure p
     before-lower p q has m =
         let (s, l, o) = in-flat_map (all_reached r) q (followers r p) m in
         let shas = follower-has r lawful.moves p s has l in
@@ -56,8 +54,7 @@ module _ (r : GameRules) where
         both.0
 
     -- the board itself is the last
-    pub reach-last : (p : Grid) → r.has p ≡ true
-        → reach_of r p ≡ kept [] (flat_map (all_reached r) (followers r p)) ++ (p ∷ [])
+    pub reach-last : (p : Grid) → r.has p ≡ true → reach_of r p ≡ kept [] (flat_map (all_reached r) (followers r p)) ++ (p ∷ [])
     reach-last p has =
         let before = flat_map (all_reached r) (followers r p) in
         reach-kept p ∙ ap (kept []) (reached-moves r lawful.moves p has) ∙ extended-append boards [] before (p ∷ [])

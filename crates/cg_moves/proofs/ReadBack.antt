@@ -1,21 +1,20 @@
 -- The text of a board reads back as the board.
-use Rattle.std.proofs.Common.{◌≡◌, refl, ℕ, zero, suc, ◌+◌, ◌-◌, ◌*◌, ◌/◌, ◌<◌, ◌≤◌, ◌==◌, ◌||◌, ◌&&◌, not, Bool, true, false, cond, if◌then◌else◌, ◌⊎◌, inl, inr, Some, None, List, [], ◌∷◌, ◌++◌, length, take, drop, ap, sym, ◌∙◌, subst, arith, length-drop, append-nil, append_assoc}
-use Rattle.std.specs.Prelude.{All, Contains, Ok, Result, nat_le, nat_lt, position}
-use Rattle.std.specs.List.{list_all, list_any, position_or_len, prefix_len}
+use Rattle.std.proofs.Common.{◌≡◌, refl, ℕ, zero, suc, ◌+◌, ◌-◌, ◌*◌, ◌<◌, ◌≤◌, ◌==◌, not, Bool, true, false, cond, ◌⊎◌, inl, inr, Some, None, List, [], ◌∷◌, ◌++◌, length, take, drop, ap, sym, ◌∙◌, subst, arith, length-drop, append-nil, append_assoc}
+use Rattle.std.specs.Prelude.{All, Contains, Ok, nat_lt, position, slice_index}
+use Rattle.std.specs.List.{list_all, list_any, position_or_len}
 use Rattle.std.proofs.Math.Seq.{take-length}
 use Rattle.std.proofs.lemmas.Bool.{eq-eqb, leb-true}
 use Rattle.std.proofs.lemmas.Bool.Decides.{eqb_tells, nat_tests}
 use Rattle.std.proofs.lemmas.List.{drop-drop, length-take-le, take-append-drop}
-use Rattle.cg_moves.specs.declared.fault.BoardFault.{BoardFault}
-use Rattle.cg_moves.specs.declared.fault.BoardFault.TheVariants.{Symbol, Empty, Ragged, Large}
-use Rattle.cg_moves.specs.Grid.{AreCells, Grid, IsGrid, all_distinct, is_symbol}
+use Rattle.cg_moves.specs.Grid.{AreCells, Grid, IsGrid, is_symbol}
 use Rattle.cg_moves.specs.Rules.{In}
-use Rattle.cg_moves.specs.Texts.{ReadsBack, bar, behind_bars, cells_of, cut, first_row, in_front, in_rows, is_foreign, joined, next_place, ragged, read_of, refused_at, rows_of, text_of}
+use Rattle.cg_moves.specs.Texts.{ReadsBack, bar, behind_bars, cells_of, cut, first_row, in_front, in_rows, is_foreign, joined, ragged, read_of, rows_of, text_of}
 use Rattle.cg_moves.proofs.ConnectedLemmas.{or-first, or-second}
 use Rattle.cg_form.proofs.Firsts.{in-append, in-append_left, in-append_right}
 use Rattle.cg_moves.proofs.Members.{all_from, carry, in_flat_mapped, in_one}
 use Rattle.cg_moves.proofs.Same.{and-true, both-true}
-use Rattle.cg_moves.proofs.TextLemmas.{cut-bar, cut-front}
+use Rattle.cg_moves.proofs.TextLemmas.{cut-bar, cut-front, read-in}
+use Rattle.std.proofs.lemmas.List.Sums.{prefix_len_is}
 
 -- no byte of these is a bar
 abbrev HasNoBar : List ℕ → Type 0
@@ -57,9 +56,7 @@ rest-long rows columns cells e =
     omega (arith, e, m, d)
 
 first-long : (rows columns : ℕ) (cells : List ℕ) → length cells ≡ suc rows * columns → length (take columns cells) ≡ columns
-first-long rows columns cells e =
-    let m : suc rows * columns ≡ columns + rows * columns = omega arith in
-    length-take-le columns cells (omega (arith, e, m))
+first-long rows columns cells e = grind (arith, nat_tests, length-take-le)
 
 rows-long : (rows columns : ℕ) (cells : List ℕ) → length cells ≡ rows * columns → (row : List ℕ)
     → In row (in_rows rows columns cells) → length row ≡ columns
@@ -70,17 +67,11 @@ rows-long (suc rows) columns cells e row (inr m) = rows-long rows columns (drop 
 rows-cells : (rows columns : ℕ) (cells : List ℕ) → length cells ≡ rows * columns → cells_of (in_rows rows columns cells) ≡ cells
 rows-cells zero columns [] e = refl
 rows-cells zero columns (c ∷ cells) e = absurd (omega (arith, e))
-rows-cells (suc rows) columns cells e =
-    ap (λ z. take columns cells ++ z) (rows-cells rows columns (drop columns cells) (rest-long rows columns cells e))
-    ∙ take-append-drop columns cells
+rows-cells (suc rows) columns cells e = grind (arith, nat_tests, rest-long, take-append-drop, rows-cells rows columns (drop columns cells) (rest-long rows columns cells e))
 
 -- one more row
 drop-rows : (n columns : ℕ) (cells : List ℕ) → drop (n * columns) (drop columns cells) ≡ drop (suc n * columns) cells
-drop-rows n columns cells =
-    drop-drop (n * columns) columns cells ∙ ap (λ k. drop k cells) (m_is n columns)
-  where
-    m_is : (n columns : ℕ) → columns + n * columns ≡ suc n * columns
-    m_is n columns = omega arith
+drop-rows n columns cells = grind (arith, nat_tests, drop-drop)
 
 behind-next : (n columns : ℕ) (cells : List ℕ)
     → behind_bars (in_rows (suc n) columns cells) ≡ behind_bars (in_rows n columns cells) ++ (bar ∷ take columns (drop (n * columns) cells))
@@ -155,23 +146,14 @@ symbol-is (s ∷ symbols) all c (suc k, l, e) =
 
 -- a symbol is ASCII, and no bar
 pub symbol-ascii : (c : ℕ) → is_symbol c ≡ true → c < 128
-symbol-ascii c e =
-    let a = and-true (nat_le 32 c && nat_le c 126) (not (c == bar)) e in
-    let b = leb-true c 126 (and-true (nat_le 32 c) (nat_le c 126) a.0).1 in
-    omega (arith, b)
+symbol-ascii c e = grind (arith, nat_tests, and-true, leb-true)
 
 symbol-no_bar : (c : ℕ) → is_symbol c ≡ true → c ≡ bar → ⊥
-symbol-no_bar c e f = clash (c == bar) (eq-eqb c bar f) (and-true (nat_le 32 c && nat_le c 126) (not (c == bar)) e).1
-  where
-    clash : (b : Bool) → b ≡ true → not b ≡ true → ⊥
-    clash true x y = cc
-    clash false x y = cc
+symbol-no_bar c e f = grind (arith, nat_tests, eq-eqb, and-true)
 
 module _ (p : Grid) (g : IsGrid p) where
   grid-symbols : list_all is_symbol p.symbols ≡ true
-  grid-symbols =
-      let a = and-true (nat_le 1 (length p.symbols) && nat_le (length p.symbols) 16 && list_all is_symbol p.symbols) (all_distinct p.symbols) g.symbols in
-      (and-true (nat_le 1 (length p.symbols) && nat_le (length p.symbols) 16) (list_all is_symbol p.symbols) a.0).1
+  grid-symbols = grind (arith, nat_tests, and-true)
 
   pub cell-is : (c : ℕ) → In c p.cells → is_symbol c ≡ true
   cell-is c m = symbol-is p.symbols grid-symbols c (cell-symbol p.symbols p.cells g.cells c m)
@@ -184,15 +166,6 @@ module _ (p : Grid) (g : IsGrid p) where
 
 -- ---- no byte is foreign
 
-all-prefix : (q : ℕ → Bool) (xs : List ℕ) → ((c : ℕ) → In c xs → q c ≡ true) → prefix_len q xs ≡ length xs
-all-prefix q [] h = refl
-all-prefix q (x ∷ xs) h =
-    ap (λ b. cond b (1 + prefix_len q xs) 0) (h x (inl refl)) ∙ ap (λ n. 1 + n) (all-prefix q xs (λ c m. h c (inr m)))
-    ∙ up (length xs)
-  where
-    up : (n : ℕ) → 1 + n ≡ suc n
-    up n = omega arith
-
 not-false : (b : Bool) → b ≡ false → not b ≡ true
 not-false true e = cc
 not-false false e = refl
@@ -202,7 +175,8 @@ not-less a b h = grind (arith, nat_tests)
 
 none-found : (p : ℕ → Bool) (xs : List ℕ) → ((c : ℕ) → In c xs → p c ≡ false) → position p xs ≡ None
 none-found p xs h =
-    let all = all-prefix (λ x. not (p x)) xs (λ c m. not-false (p c) (h c m)) in
+    let all = prefix_len_is (λ x. not (p x)) xs (length xs) 0 (omega arith)
+    (λ k l. not-false (p (slice_index xs k)) (h (slice_index xs k) (read-in xs k l))) (λ l. absurd (omega (arith, l))) in
     let few : nat_lt (position_or_len p xs) (length xs) ≡ false = not-less (position_or_len p xs) (length xs) (omega (arith, all)) in
     ap (λ b. cond b (Some (position_or_len p xs)) None) few
 
@@ -211,9 +185,7 @@ none-found p xs h =
 ragged-none : (columns start : ℕ) (rows : List (List ℕ)) → ((row : List ℕ) → In row rows → length row ≡ columns)
     → ragged columns start rows ≡ None
 ragged-none columns start [] h = refl
-ragged-none columns start (row ∷ rows) h =
-    ap (λ b. if b then ragged columns (start + length row + 1) rows else Some start) (eq-eqb (length row) columns (h row (inl refl)))
-    ∙ ragged-none columns (start + length row + 1) rows (λ r m. h r (inr m))
+ragged-none columns start (row ∷ rows) h = grind (arith, nat_tests, eq-eqb, ragged-none columns (start + length row + 1) rows)
 
 abbrev grid_of : List ℕ → ℕ → List (List ℕ) → Grid
 grid_of symbols columns rows = record {
@@ -223,83 +195,32 @@ grid_of symbols columns rows = record {
   cells = cells_of rows;
 }
 
-abbrev last_refusal : List ℕ → ℕ → List (List ℕ) → Result Grid BoardFault
-last_refusal symbols columns rows =
-    refused_at Large (if nat_lt 64 (length (cells_of rows)) then Some (65 + 64 / columns) else None) (Ok (grid_of symbols columns rows))
-
-abbrev later_refusals : List ℕ → ℕ → List (List ℕ) → Result Grid BoardFault
-later_refusals symbols columns rows =
-    refused_at Empty (if columns == 0 then Some 1 else None)
-    (refused_at Ragged (ragged columns 1 rows) (last_refusal symbols columns rows))
-
 read-rows : (symbols : List ℕ) (one_row : Bool) (text : List ℕ) (rows : List (List ℕ)) (columns : ℕ)
     → rows_of one_row text ≡ rows → position (is_foreign one_row symbols) text ≡ None → length (first_row rows) ≡ columns
     → 1 ≤ columns → ((row : List ℕ) → In row rows → length row ≡ columns) → length (cells_of rows) ≤ 64
     → read_of symbols one_row text ≡ Ok (grid_of symbols columns rows)
-read-rows symbols one_row text rows columns are none first some long few =
-    let some_columns : (columns == 0) ≡ false = is_some columns some in
-    let not_large : nat_lt 64 (length (cells_of rows)) ≡ false = not-less 64 (length (cells_of rows)) few in
-    ap (λ o. refused_at Symbol (next_place o) (later_refusals symbols (length (first_row (rows_of one_row text))) (rows_of one_row text))) none
-    ∙ ap (λ z. later_refusals symbols (length (first_row z)) z) are
-    ∙ ap (λ k. later_refusals symbols k rows) first
-    ∙ ap (λ b. refused_at Empty (if b then Some 1 else None) (refused_at Ragged (ragged columns 1 rows) (last_refusal symbols columns rows))) some_columns
-    ∙ ap (λ o. refused_at Ragged o (last_refusal symbols columns rows)) (ragged-none columns 1 rows long)
-    ∙ ap (λ b. refused_at Large (if b then Some (65 + 64 / columns) else None) (Ok (grid_of symbols columns rows))) not_large
-  where
-    is_some : (n : ℕ) → 1 ≤ n → (n == 0) ≡ false
-    is_some n h = elim (eqb_tells n 0) [
-      | inl p ↦ absurd (omega (arith, p.1, h))
-      | inr p ↦ p.0
-    ]
+read-rows symbols one_row text rows columns are none first some long few = grind (arith, nat_tests, not-less, ragged-none, eqb_tells)
 
 module _ (p : Grid) (g : IsGrid p) where
   some-columns : 1 ≤ p.columns
-  some-columns = by p.columns (g.size) (g.some)
-    where
-      by : (n : ℕ) → length p.cells ≡ p.rows * n → 1 ≤ length p.cells → 1 ≤ n
-      by zero e some = absurd (omega (arith, e, some))
-      by (suc n) e some = omega arith
+  some-columns = grind (arith, nat_tests)
 
   pub some-rows : 1 ≤ p.rows
-  some-rows = by p.rows (g.size) (g.some)
-    where
-      by : (n : ℕ) → length p.cells ≡ n * p.columns → 1 ≤ length p.cells → 1 ≤ n
-      by zero e some = absurd (omega (arith, e, some))
-      by (suc n) e some = omega arith
+  some-rows = grind (arith, nat_tests)
 
   no-bars : (row : List ℕ) → In row (in_rows p.rows p.columns p.cells) → HasNoBar row
   no-bars row m c k = symbol-no_bar c (cell-is p g c (carry c (cells_of (in_rows p.rows p.columns p.cells)) p.cells
       (rows-cells p.rows p.columns p.cells g.size) (in-cells_of row (in_rows p.rows p.columns p.cells) c m k)))
 
   known : (one_row : Bool) (c : ℕ) → ((one_row ≡ false) × (c ≡ bar)) ⊎ In c p.cells → is_foreign one_row p.symbols c ≡ false
-  known one_row c (inl h) = turned (list_any (λ s. s == c) p.symbols || (not one_row && (c == bar)))
-      (or-second (list_any (λ s. s == c) p.symbols) (not one_row && (c == bar))
-      (both-true (not one_row) (c == bar) (not-false one_row h.0) (eq-eqb c bar h.1)))
-    where
-      turned : (b : Bool) → b ≡ true → not b ≡ false
-      turned true e = refl
-      turned false e = cc
-  known one_row c (inr m) = turned (list_any (λ s. s == c) p.symbols || (not one_row && (c == bar)))
-      (or-first (list_any (λ s. s == c) p.symbols) (not one_row && (c == bar)) (cell-any p g c m))
-    where
-      turned : (b : Bool) → b ≡ true → not b ≡ false
-      turned true e = refl
-      turned false e = cc
+  known one_row c (inl h) = grind (arith, nat_tests, or-second, both-true, not-false, eq-eqb)
+  known one_row c (inr m) = grind (arith, nat_tests, or-first, cell-any)
 
   rows-text : cut (text_of p) ≡ in_rows p.rows p.columns p.cells
-  rows-text = go p.rows no-bars g.size
-    where
-      go : (rows : ℕ) → ((row : List ℕ) → In row (in_rows rows p.columns p.cells) → HasNoBar row)
-          → length p.cells ≡ rows * p.columns → cut (joined (in_rows rows p.columns p.cells)) ≡ in_rows rows p.columns p.cells
-      go zero none e = absurd (omega (arith, e, g.some))
-      go (suc rows) none e = cut-joined (take p.columns p.cells) (in_rows rows p.columns (drop p.columns p.cells)) none
+  rows-text = grind (arith, nat_tests, no-bars, cut-joined)
 
   first-columns : length (first_row (in_rows p.rows p.columns p.cells)) ≡ p.columns
-  first-columns = go p.rows g.size
-    where
-      go : (rows : ℕ) → length p.cells ≡ rows * p.columns → length (first_row (in_rows rows p.columns p.cells)) ≡ p.columns
-      go zero e = absurd (omega (arith, e, g.some))
-      go (suc rows) e = first-long rows p.columns p.cells e
+  first-columns = grind (arith, nat_tests, first-long)
 
   pub text-reads_back : ReadsBack p false (text_of p)
   text-reads_back =

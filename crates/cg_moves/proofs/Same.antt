@@ -1,5 +1,6 @@
 -- The test of whether two boards are one.
-use Rattle.std.proofs.Common.{◌≡◌, refl, ℕ, ◌==◌, ◌&&◌, Bool, true, false, List, ap, ◌∙◌}
+use Rattle.std.proofs.lemmas.Bool.Decides.{nat_tests}
+use Rattle.std.proofs.Common.{◌≡◌, refl, ℕ, ◌==◌, ◌&&◌, Bool, true, false, List, ap, ◌∙◌, arith}
 use Rattle.std.specs.Str.{bytes_eq}
 use Rattle.std.specs.Cmp.Lexicographic.{bytes_decides}
 use Rattle.std.proofs.lemmas.Bool.{eqb-true, eq-eqb}
@@ -31,11 +32,7 @@ is_same-back p q e =
     λ i. record { rows = rows i; columns = columns i; symbols = symbols i; cells = cells i }
 
 pub is_same-refl : (p : Grid) → is_same p p ≡ true
-is_same-refl p =
-    both-true ((p.rows == p.rows) && (p.columns == p.columns) && bytes_eq p.symbols p.symbols) (bytes_eq p.cells p.cells)
-    (both-true ((p.rows == p.rows) && (p.columns == p.columns)) (bytes_eq p.symbols p.symbols)
-    (both-true (p.rows == p.rows) (p.columns == p.columns) (eq-eqb p.rows p.rows refl) (eq-eqb p.columns p.columns refl))
-    (bytes_eq-refl p.symbols)) (bytes_eq-refl p.cells)
+is_same-refl p = grind (arith, nat_tests, both-true, eq-eqb, bytes_eq-refl)
 
 -- the test of whether two boards are one
 abbrev pub boards : Test Grid

@@ -1,10 +1,9 @@
 -- Lists of cells with the same members have the same rising order.
-use Rattle.std.proofs.Common.{◌≡◌, refl, ℕ, inl, inr, List, [], ◌∷◌, ap, sym, subst, ◌∙◌}
+use Rattle.std.proofs.lemmas.Bool.Decides.{nat_tests}
+use Rattle.std.proofs.Common.{◌≡◌, refl, ℕ, inl, inr, List, [], ◌∷◌, ap, sym, subst, ◌∙◌, arith}
 use Rattle.std.specs.List.{AllByRecursion}
 use Rattle.std.specs.List.Sorted.{IsStrictlySortedBy}
-use Rattle.std.specs.Ordering.{ordering_reverse}
-use Rattle.std.specs.declared.cmp.Ordering.TheVariants.{Less, Greater}
-use Rattle.std.specs.Cmp.{IsTotalOrder}
+use Rattle.std.specs.declared.cmp.Ordering.TheVariants.{Less}
 use Rattle.std.proofs.lemmas.Cmp.{nat_list_cmp_total}
 use Rattle.cg_moves.specs.Rising.{IsRising, bytes_cmp, rising}
 use Rattle.cg_moves.specs.Rules.{In}
@@ -20,11 +19,7 @@ each-in P (x ∷ xs) z a (inl e) = subst P (sym e) a.0
 each-in P (x ∷ xs) z a (inr m) = each-in P xs z a.1 m
 
 not-before : (x y : List ℕ) → bytes_cmp x y ≡ Less → bytes_cmp y x ≡ Less → ⊥
-not-before x y a b =
-    let t : IsTotalOrder bytes_cmp = nat_list_cmp_total in
-    let more : bytes_cmp x y ≡ Greater = t.antisymm x y ∙ ap ordering_reverse b in
-    let e : Less ≡ Greater = sym a ∙ more in
-    cc
+not-before x y a b = grind (arith, nat_tests, nat_list_cmp_total)
 
 not-itself : (x : List ℕ) → bytes_cmp x x ≡ Less → ⊥
 not-itself x a = not-before x x a a

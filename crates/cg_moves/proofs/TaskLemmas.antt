@@ -12,8 +12,7 @@ use Rattle.cg_moves.proofs.Members.{carry}
 
 pub entered-append : (ps qs : List Grid) → entered (ps ++ qs) ≡ entered qs ++ entered ps
 entered-append [] qs = sym (append-nil (entered qs))
-entered-append (p ∷ ps) qs = ap (λ z. z ++ (Enters p ∷ [])) (entered-append ps qs)
-    ∙ append_assoc (entered qs) (entered ps) (Enters p ∷ [])
+entered-append (p ∷ ps) qs = ap (λ z. z ++ (Enters p ∷ [])) (entered-append ps qs) ∙ append_assoc (entered qs) (entered ps) (Enters p ∷ [])
 
 module _ (r : Play) where
   -- ---- what is left to see
@@ -25,8 +24,7 @@ module _ (r : Play) where
 
   pub boards_left-entered : (ps : List Grid) → boards_left r (entered ps) ≡ flat_map r.all ps
   boards_left-entered [] = refl
-  boards_left-entered (p ∷ ps) = boards_left-append (entered ps) (Enters p ∷ [])
-      ∙ ap (λ z. r.all p ++ z) (boards_left-entered ps)
+  boards_left-entered (p ∷ ps) = boards_left-append (entered ps) (Enters p ∷ []) ∙ ap (λ z. r.all p ++ z) (boards_left-entered ps)
 
   -- ---- tasks that are ready
 

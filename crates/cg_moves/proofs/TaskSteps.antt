@@ -1,7 +1,7 @@
 -- What tasks do, where a board may be entered by its place.
+use Rattle.std.proofs.lemmas.Bool.Decides.{nat_tests}
 use Rattle.std.proofs.Common.{◌≡◌, refl, ℕ, ◌+◌, ◌*◌, ◌<◌, ◌≤◌, true, inl, inr, List, [], ◌∷◌, ◌++◌, length, length-append, append_assoc, ap, sym, ◌∙◌, subst, arith}
 use Rattle.std.specs.List.{flat_map}
-use Rattle.std.proofs.lemmas.List.{append-nil}
 use Rattle.cg_moves.specs.declared.task.Entered.{Entered}
 use Rattle.cg_moves.specs.declared.task.Task.{Task}
 use Rattle.cg_moves.specs.declared.task.Task.TheVariants.{Known, Enter, Leave}
@@ -50,11 +50,7 @@ module _ (found : List Grid) where
 
   -- ---- tasks that are put behind others
 
-  pub adds-none : (ts : List Task) → Adds found ts ts []
-  adds-none ts = ([], sym (append-nil ts), tt)
-
-  pub adds-one : (ts after : List Task) (t : Task) (v : Visit) → after ≡ ts ++ (t ∷ []) → IsTold found t v
-      → Adds found ts after (v ∷ [])
+  pub adds-one : (ts after : List Task) (t : Task) (v : Visit) → after ≡ ts ++ (t ∷ []) → IsTold found t v → Adds found ts after (v ∷ [])
   adds-one ts after t v e h = (t ∷ [], e, (h, tt))
 
   pub adds-more : (a b c : List Task) (us vs : List Visit) → Adds found a b us → Adds found b c vs → Adds found a c (us ++ vs)
@@ -62,11 +58,7 @@ module _ (found : List Grid) where
       (x ++ y, g ∙ ap (λ z. z ++ y) e ∙ append_assoc a x y, told-append x y us vs h k)
 
   one-enters : (q : Grid) (t : Task) (v : Visit) → Enter q ≡ t → IsTold found t v → Enters q ≡ v
-  one-enters q t v e h = go v (subst (λ (z : Task). IsTold found z v) (sym e) h)
-    where
-      go : (v : Visit) → IsTold found (Enter q) v → Enters q ≡ v
-      go (Enters p) h = ap Enters h
-      go (Leaves e) h = absurd h
+  one-enters q t v e h = grind (arith, nat_tests)
 
   pub enters-in : (ts : List Task) (vs : List Visit) (q : Grid) → AreTold found ts vs → In (Enter q) ts → In (Enters q) vs
   enters-in [] vs q h m = absurd m
@@ -122,8 +114,7 @@ module _ (r : Play) where
   some-boards lawful p has = ap length (lawful.all p has) ∙ length-append (flat_map r.all (r.next p)) (p ∷ [])
 
   module _ (lawful : IsPlay r) (found : List Grid) where
-    one-load : (t : Task) (v : Visit) → r.has (visit_board v) ≡ true → IsTold found t v
-        → task_load r t ≤ 2 * length (visit_boards r v)
+    one-load : (t : Task) (v : Visit) → r.has (visit_board v) ≡ true → IsTold found t v → task_load r t ≤ 2 * length (visit_boards r v)
     one-load (Known n) (Enters p) has h = let l = some-boards lawful p has in omega arith
     one-load (Known n) (Leaves e) has h = absurd h
     one-load (Enter q) (Enters p) has h = let l = ap (λ z. length (r.all z)) h in omega arith
@@ -131,8 +122,7 @@ module _ (r : Play) where
     one-load (Leave f) (Enters p) has h = absurd h
     one-load (Leave f) (Leaves e) has h = omega arith
 
-    told-load : (ts : List Task) (vs : List Visit) → AreKnown r vs → AreTold found ts vs
-        → load r ts ≤ 2 * length (boards_left r vs)
+    told-load : (ts : List Task) (vs : List Visit) → AreKnown r vs → AreTold found ts vs → load r ts ≤ 2 * length (boards_left r vs)
     told-load [] [] known h = omega arith
     told-load [] (v ∷ vs) known h = absurd h
     told-load (t ∷ ts) [] known h = absurd h

@@ -1,27 +1,24 @@
 -- Texts, cut at bars.
-use Rattle.std.proofs.Common.{◌≡◌, refl, ℕ, zero, suc, ◌+◌, ◌-◌, ◌*◌, ◌<◌, ◌≤◌, ◌==◌, ◌||◌, ◌&&◌, not, Bool, true, false, if◌then◌else◌, ◌⊎◌, inl, inr, Option, Some, None, List, [], ◌∷◌, ◌++◌, append_assoc, cond, length, length-append, take, drop, get_or, ap, sym, ◌∙◌, arith}
-use Rattle.std.specs.List.{list_any, position_or_len, prefix_len}
-use Rattle.std.specs.Prelude.{Contains, nat_lt, position, slice_index}
+use Rattle.std.proofs.Common.{◌≡◌, refl, ℕ, zero, suc, ◌+◌, ◌-◌, ◌*◌, ◌<◌, ◌≤◌, ◌==◌, ◌||◌, ◌&&◌, not, Bool, true, false, if◌then◌else◌, ◌⊎◌, inl, inr, Option, Some, None, List, [], ◌∷◌, ◌++◌, append_assoc, length, length-append, take, drop, get_or, ap, sym, ◌∙◌, arith, ◌/◌}
+use Rattle.std.specs.List.{list_any}
+use Rattle.std.specs.Prelude.{Contains, position, slice_index}
 use Rattle.std.proofs.Math.Nat.{mul-le-mul_left}
-use Rattle.std.proofs.lemmas.Bool.Decides.{eqb_tells, nat_tests}
+use Rattle.std.proofs.lemmas.Bool.Decides.{eqb_tells, leb_tells, nat_tests}
 use Rattle.std.proofs.lemmas.List.{append-nil, length-take-le}
 use Rattle.cg_moves.specs.Texts.{bar, cells_of, cut, first_row, in_front, is_foreign, ragged, rows_of}
 use Rattle.cg_moves.specs.Grid.{AreCells}
 use Rattle.cg_moves.specs.Rules.{In}
 use Rattle.cg_moves.proofs.Members.{carry}
+use Rattle.std.proofs.lemmas.Bool.{lt-ltb}
+use Rattle.std.proofs.lemmas.List.Sums.{fails_before_first}
+use Rattle.std.proofs.lemmas.Nat.{div-mul-add}
 
 -- a text is cut at a bar
 pub cut-bar : (c : ℕ) (cs : List ℕ) → c ≡ bar → cut (c ∷ cs) ≡ [] ∷ cut cs
-cut-bar c cs e = elim (eqb_tells c bar) [
-  | inl p ↦ ap (λ b. if b then [] ∷ cut cs else in_front c (cut cs)) p.0
-  | inr p ↦ absurd (p.1 e)
-]
+cut-bar c cs e = grind (arith, nat_tests, eqb_tells)
 
 pub cut-front : (c : ℕ) (cs : List ℕ) → (c ≡ bar → ⊥) → cut (c ∷ cs) ≡ in_front c (cut cs)
-cut-front c cs n = elim (eqb_tells c bar) [
-  | inl p ↦ absurd (n p.1)
-  | inr p ↦ ap (λ b. if b then [] ∷ cut cs else in_front c (cut cs)) p.0
-]
+cut-front c cs n = grind (arith, nat_tests, eqb_tells)
 
 abbrev pub rows_behind : List (List ℕ) → List (List ℕ)
 rows_behind [] = []
@@ -37,10 +34,7 @@ front-rows c (row ∷ rows) h = refl
 
 pub some-row : (text : List ℕ) → 1 ≤ length (cut text)
 some-row [] = omega arith
-some-row (c ∷ cs) = elim (eqb_tells c bar) [
-  | inl p ↦ (let e = ap length (cut-bar c cs p.1) in omega arith)
-  | inr p ↦ (let e = ap length (cut-front c cs p.1) in let h = some-row cs in let f = front-rows c (cut cs) h in omega arith)
-]
+some-row (c ∷ cs) = grind (arith, nat_tests, eqb_tells, cut-bar, cut-front, front-rows, some-row cs)
 
 pub drop-read : (xs : List ℕ) (i : ℕ) → i < length xs → drop i xs ≡ get_or xs i 0 ∷ drop (suc i) xs
 drop-read [] i l = absurd (omega arith)
@@ -54,16 +48,6 @@ drop-next xs i c l e = let s : i + 1 ≡ suc i = omega arith in
 -- ---- a text from a place on
 
 module _ (text : List ℕ) (i c : ℕ) (within : i < length text) (read : c ≡ get_or text i 0) where
-  pub rows-bar : c ≡ bar → length (cut (drop i text)) ≡ length (cut (drop (i + 1) text)) + 1
-  rows-bar e =
-      let a = ap (λ z. length (cut z)) (drop-next text i c within read) in
-      let b = ap length (cut-bar c (drop (i + 1) text) e) in
-      omega arith
-
-  pub rows-more : (c ≡ bar → ⊥) → length (cut (drop i text)) ≡ length (cut (drop (i + 1) text))
-  rows-more n = ap (λ z. length (cut z)) (drop-next text i c within read) ∙ ap length (cut-front c (drop (i + 1) text) n)
-      ∙ front-rows c (cut (drop (i + 1) text)) (some-row (drop (i + 1) text))
-
   cells-more : (c ≡ bar → ⊥) → cells_of (cut (drop i text)) ≡ c ∷ cells_of (cut (drop (i + 1) text))
   cells-more n = ap (λ z. cells_of (cut z)) (drop-next text i c within read) ∙ ap cells_of (cut-front c (drop (i + 1) text)
       n) ∙ front-cells c (cut (drop (i + 1) text))
@@ -74,10 +58,7 @@ module _ (text : List ℕ) (i c : ℕ) (within : i < length text) (read : c ≡ 
       → all ≡ more ++ cells_of (rows_of one_row (drop (i + 1) text))
   cell-put true all cells more e f which = e ∙ ap (λ z. cells ++ (z ++ [])) (drop-next text i c within read)
       ∙ sym (append_assoc cells (c ∷ []) (drop (i + 1) text ++ [])) ∙ ap (λ z. z ++ (drop (i + 1) text ++ [])) (sym f)
-  cell-put false all cells more e f (inl no_row) = absurd (no_bool no_row)
-    where
-      no_bool : false ≡ true → ⊥
-      no_bool h = cc
+  cell-put false all cells more e f (inl no_row) = grind (arith, nat_tests)
   cell-put false all cells more e f (inr n) = e ∙ ap (λ z. cells ++ z) (cells-more n)
       ∙ sym (append_assoc cells (c ∷ []) (cells_of (cut (drop (i + 1) text))))
       ∙ ap (λ z. z ++ cells_of (cut (drop (i + 1) text))) (sym f)
@@ -86,14 +67,10 @@ module _ (text : List ℕ) (i c : ℕ) (within : i < length text) (read : c ≡ 
 
 pub which_cell : (one_row : Bool) (c : ℕ) → (one_row || not (c == bar)) ≡ true → (one_row ≡ true) ⊎ (c ≡ bar → ⊥)
 which_cell true c e = inl refl
-which_cell false c e = elim (eqb_tells c bar) [
-  | inl p ↦ (let f : (false || not (c == bar)) ≡ false = ap (λ b. false || not b) p.0 in absurd cc)
-  | inr p ↦ inr p.1
-]
+which_cell false c e = grind (arith, nat_tests, eqb_tells)
 
 -- there is room where a cell more is among few
-pub room : (all cells rest : List ℕ) (n c : ℕ) → length all ≤ 64 → n ≤ length cells
-    → all ≡ (take n cells ++ (c ∷ [])) ++ rest → n < 64
+pub room : (all cells rest : List ℕ) (n c : ℕ) → length all ≤ 64 → n ≤ length cells → all ≡ (take n cells ++ (c ∷ [])) ++ rest → n < 64
 room all cells rest n c few inside e =
     let a = ap length e ∙ length-append (take n cells ++ (c ∷ [])) rest in
     let b = length-append (take n cells) (c ∷ []) in
@@ -127,8 +104,7 @@ module _ (columns : ℕ) (text : List ℕ) (start row : ℕ) (later : Option ℕ
     here : cut (drop (start - 1) text) ≡ [] ∷ cut (drop start text)
     here = ap cut at ∙ cut-bar (get_or text (start - 1) 0) (drop start text) b
 
-    there : (o : Option ℕ) → o ≡ (if row == columns then later else Some (start + 1))
-        → RaggedFrom columns text (start - 1) 0 o
+    there : (o : Option ℕ) → o ≡ (if row == columns then later else Some (start + 1)) → RaggedFrom columns text (start - 1) 0 o
     there o e =
         let l = so_far.inside in
         let s : start - 1 + 0 + 2 ≡ start + 1 = omega arith in
@@ -175,10 +151,12 @@ not-ragged columns start (row ∷ rows) e = elim (eqb_tells (length row) columns
     some_none : (x : ℕ) → Some x ≡ None → ⊥
     some_none x h = cc
 
+-- and so many rows
+pub rows-by : (rows columns n : ℕ) → n ≡ rows * columns → (columns ≡ 0 → ⊥) → n / columns ≡ rows
+rows-by rows columns n e some = grind (arith, nat_tests, div-mul-add)
+
 pub few-rows : (rows columns n : ℕ) → n ≡ rows * columns → n ≤ 64 → (columns ≡ 0 → ⊥) → rows ≤ 64
-few-rows rows columns n e few some =
-    let m : rows * 1 ≤ rows * columns = mul-le-mul_left rows (omega arith) in
-    omega (arith, m)
+few-rows rows columns n e few some = grind (arith, nat_tests, mul-le-mul_left)
 
 -- ---- the cells of a board
 
@@ -194,8 +172,7 @@ in-cut (d ∷ ds) c m = elim (eqb_tells d bar) [
       ]
 ]
 
-in-rows : (one_row : Bool) (text : List ℕ) (c : ℕ) → In c (cells_of (rows_of one_row text))
-    → In c text × ((one_row ≡ true) ⊎ (c ≡ bar → ⊥))
+in-rows : (one_row : Bool) (text : List ℕ) (c : ℕ) → In c (cells_of (rows_of one_row text)) → In c text × ((one_row ≡ true) ⊎ (c ≡ bar → ⊥))
 in-rows true text c m = (carry c (text ++ []) text (append-nil text) m, inl refl)
 in-rows false text c m = let h = in-cut text c m in (h.0, inr h.1)
 
@@ -217,36 +194,18 @@ symbol-of false false false e (inr h) = cc
 bar-false : (c : ℕ) → (c ≡ bar → ⊥) → (c == bar) ≡ false
 bar-false c n = elim (eqb_tells c bar) [ inl p ↦ absurd (n p.1) | inr p ↦ p.0 ]
 
-all-pass : (q : ℕ → Bool) (xs : List ℕ) → length xs ≤ prefix_len q xs → (c : ℕ) → In c xs → q c ≡ true
-all-pass q [] h c m = absurd m
-all-pass q (x ∷ xs) h c m = (elim (q x) as (λ b. q x ≡ b → length (x ∷ xs) ≤ cond b (1 + prefix_len q xs) 0 → q c
-    ≡ true) [
-      | true ↦ λ e l. elim m [
-        | inl s ↦ ap q s ∙ e
-        | inr k ↦ all-pass q xs (omega arith) c k
-      ]
-      | false ↦ λ e l. absurd (omega arith)
-    ]) refl h
-
-none-foreign : (p : ℕ → Bool) (xs : List ℕ) → position p xs ≡ None → (c : ℕ) → In c xs → p c ≡ false
-none-foreign p xs e c m = (elim (nat_lt (position_or_len p xs) (length xs)) as (λ b. nat_lt (position_or_len p xs)
-    (length xs) ≡ b → cond b (Some (position_or_len p xs)) None ≡ None → p c ≡ false) [
-      | true ↦ λ t f. absurd (clash (position_or_len p xs) f)
-      | false ↦ λ t f. (let l : length xs ≤ position_or_len p xs = grind (arith, nat_tests) in
-          turned (p c) (all-pass (λ x. not (p x)) xs l c m))
-    ]) refl e
-  where
-    clash : (x : ℕ) → Some x ≡ None → ⊥
-    clash x h = cc
-
-    turned : (b : Bool) → not b ≡ true → b ≡ false
-    turned true h = cc
-    turned false h = refl
-
-read-in : (cells : List ℕ) (k : ℕ) → k < length cells → In (slice_index cells k) cells
+pub read-in : (cells : List ℕ) (k : ℕ) → k < length cells → In (slice_index cells k) cells
 read-in [] k l = absurd (omega arith)
 read-in (c ∷ cells) zero l = inl refl
 read-in (c ∷ cells) (suc k) l = inr (read-in cells k (omega arith))
+
+in-read : (cells : List ℕ) (c : ℕ) → In c cells → (k : ℕ) × (k < length cells) × (slice_index cells k ≡ c)
+in-read [] c m = absurd m
+in-read (d ∷ cells) c (inl e) = (0, omega arith, sym e)
+in-read (d ∷ cells) c (inr m) = let (k, l, e) = in-read cells c m in (suc k, omega (arith, l), e)
+
+none-foreign : (p : ℕ → Bool) (xs : List ℕ) → position p xs ≡ None → (c : ℕ) → In c xs → p c ≡ false
+none-foreign p xs e c m = grind (arith, nat_tests, in-read, fails_before_first, leb_tells, lt-ltb)
 
 pub cells-symbols : (one_row : Bool) (symbols text cells : List ℕ) → cells ≡ cells_of (rows_of one_row text)
     → position (is_foreign one_row symbols) text ≡ None → AreCells symbols cells

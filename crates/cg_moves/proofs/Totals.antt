@@ -11,6 +11,7 @@ use Rattle.cg_moves.specs.declared.player.Player.{Player}
 use Rattle.cg_moves.specs.declared.player.Player.TheVariants.{Left, Right}
 use Rattle.cg_moves.specs.Reordered.{IsReordered}
 use Rattle.cg_moves.specs.Total.{total}
+use Rattle.std.proofs.lemmas.List.{map-append}
 
 -- ---- equality of games
 
@@ -38,13 +39,11 @@ abbrev pub options_of : Player → Game → List Game
 options_of Left g = lefts g
 options_of Right g = rights g
 
-sum-first : (player : Player) (g h a : Game) → Among a (options_of player g)
-    → Among (sum a h) (options_of player (sum g h))
+sum-first : (player : Player) (g h a : Game) → Among a (options_of player g) → Among (sum a h) (options_of player (sum g h))
 sum-first Left g h a m = sum-left_first g h a m
 sum-first Right g h a m = sum-right_first g h a m
 
-sum-second : (player : Player) (g h a : Game) → Among a (options_of player h)
-    → Among (sum g a) (options_of player (sum g h))
+sum-second : (player : Player) (g h a : Game) → Among a (options_of player h) → Among (sum g a) (options_of player (sum g h))
 sum-second Left g h a m = sum-left_second g h a m
 sum-second Right g h a m = sum-right_second g h a m
 
@@ -69,8 +68,7 @@ pub record OptionOfOne {X : Type 0} (player : Player) (f : X → Game) (qs : Lis
   pub is : x ≡ total (map f before ++ (option ∷ map f behind))
 
 module _ {X : Type 0} (f : X → Game) where
-  pub total-cases : (player : Player) (qs : List X) (x : Game) → Among x (options_of player (total (map f qs)))
-      → OptionOfOne player f qs x
+  pub total-cases : (player : Player) (qs : List X) (x : Game) → Among x (options_of player (total (map f qs))) → OptionOfOne player f qs x
   unfolding total
   total-cases player [] x m = absurd (none-nothing player x m)
   total-cases player (q ∷ qs) x m = elim (sum-cases player (f q) (total (map f qs)) x m) [
@@ -94,8 +92,7 @@ module _ {X : Type 0} (f : X → Game) where
     }
   ]
 
-  pub total-option : (player : Player) (us : List X) (q : X) (vs : List X) (a : Game)
-      → Among a (options_of player (f q))
+  pub total-option : (player : Player) (us : List X) (q : X) (vs : List X) (a : Game) → Among a (options_of player (f q))
       → Among (total (map f us ++ (a ∷ map f vs))) (options_of player (total (map f (us ++ (q ∷ vs)))))
   unfolding total
   total-option player [] q vs a m = sum-first player (f q) (total (map f vs)) a m
@@ -133,8 +130,7 @@ total-in_place us g gs vs e =
     (equal_back _ _ (total-append gs vs)))
 
 -- the one in the middle in front
-pub total-middle : (us : List Game) (g : Game) (vs : List Game)
-    → Equal (total (us ++ (g ∷ vs))) (sum g (total (us ++ vs)))
+pub total-middle : (us : List Game) (g : Game) (vs : List Game) → Equal (total (us ++ (g ∷ vs))) (sum g (total (us ++ vs)))
 unfolding total
 total-middle [] g vs = equal_refl (sum g (total vs))
 total-middle (u ∷ us) g vs =
@@ -147,12 +143,7 @@ total-middle (u ∷ us) g vs =
     (equal_sum (sum u g) (sum g u) rest rest (equal_comm u g) (equal_refl rest))
     (equal_assoc g u rest)))
 
-pub map-append : {X Y : Type 0} (f : X → Y) (us vs : List X) → map f (us ++ vs) ≡ map f us ++ map f vs
-map-append f [] vs = refl
-map-append f (u ∷ us) vs = ap (λ z. f u ∷ z) (map-append f us vs)
-
-pub total-reordered : {X : Type 0} (f : X → Game) (xs ys : List X) → IsReordered xs ys
-    → Equal (total (map f xs)) (total (map f ys))
+pub total-reordered : {X : Type 0} (f : X → Game) (xs ys : List X) → IsReordered xs ys → Equal (total (map f xs)) (total (map f ys))
 unfolding total
 total-reordered f [] ys e = equal_of (total []) (total (map f ys)) (ap (λ z. total (map f z)) (sym e))
 total-reordered f (x ∷ xs) ys (us, vs, e, r) =

@@ -16,8 +16,7 @@ use Rattle.cg_moves.proofs.Members.{carry, in_one}
 module _ (r : Play) where
   module _ (lawful : IsPlay r) (seen : List Grid) (tasks : List Visit) (p : Grid) where
     -- a board that was seen is entered
-    pub enter_seen : IsWalk r seen (tasks ++ (Enters p ∷ [])) → In p seen
-        → GoesOn r seen seen (tasks ++ (Enters p ∷ [])) tasks
+    pub enter_seen : IsWalk r seen (tasks ++ (Enters p ∷ [])) → In p seen → GoesOn r seen seen (tasks ++ (Enters p ∷ [])) tasks
     enter_seen w m =
         let P : List Visit → Type 0 = λ z. AreReady r seen z in
         record {
@@ -97,6 +96,5 @@ module _ (r : Play) where
             ready = subst P (append-nil tasks) (ready-change r seen more (Leaves e) tasks [] has_more (λ q m. inl (subst D
                 (sym (in_one q p m)) own)) w.ready tt);
           };
-          rest = ap (λ z. kept z (boards_left r tasks)) is
-              ∙ sym (ap (λ z. kept seen z) (boards_left-append r tasks (Leaves e ∷ [])));
+          rest = ap (λ z. kept z (boards_left r tasks)) is ∙ sym (ap (λ z. kept seen z) (boards_left-append r tasks (Leaves e ∷ [])));
         }

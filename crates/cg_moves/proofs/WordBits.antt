@@ -1,7 +1,7 @@
 -- Words by their bits.
-use Rattle.std.proofs.Common.{◌≡◌, ◌≢◌, refl, Bool, true, false, not, ◌&&◌, ℕ, suc, ◌+◌, ◌-◌, ◌*◌, ◌/◌, ◌%◌, ◌^◌, ◌<◌, ◌≤◌, ◌==◌, ◌⊎◌, inl, inr, if◌then◌else◌, ap, sym, ◌∙◌, arith, bit_and, bit_or, min, nat_lt, w64}
+use Rattle.std.proofs.Common.{◌≡◌, ◌≢◌, refl, Bool, true, false, not, ◌&&◌, ℕ, suc, ◌+◌, ◌-◌, ◌*◌, ◌/◌, ◌%◌, ◌^◌, ◌<◌, ◌≤◌, ◌==◌, inl, inr, if◌then◌else◌, ap, sym, ◌∙◌, arith, bit_and, bit_or, min, nat_lt, w64}
 use Rattle.std.specs.Int.{bit_at}
-use Rattle.std.proofs.lemmas.Bool.Decides.{eqb_tells, leb_tells}
+use Rattle.std.proofs.lemmas.Bool.Decides.{eqb_tells, leb_tells, nat_tests}
 use Rattle.std.proofs.Math.Nat.{mod-eq_of_lt, mod-lt, mod_self, suc-mod}
 use Rattle.std.proofs.lemmas.Bool.{eq-eqb, le-ltb, lt-ltb}
 use Rattle.std.proofs.lemmas.Nat.{pow_pos, shr-shr}
@@ -11,10 +11,7 @@ use Rattle.cg_moves.specs.Words.{IsWithBit, Marks}
 -- what a word is with a bit, where it has that bit at the place and its own elsewhere
 with_bit : (word new place bit i : ℕ) → bit_at new place ≡ bit → (i ≢ place → bit_at new i ≡ bit_at word i)
     → bit_at new i ≡ (if i == place then bit else bit_at word i)
-with_bit word new place bit i here others = elim (eqb_tells i place) [
-  | inl h ↦ ap (bit_at new) h.1 ∙ here ∙ ap (λ b. if b then bit else bit_at word i) (sym h.0)
-  | inr h ↦ others h.1 ∙ ap (λ b. if b then bit else bit_at word i) (sym h.0)
-]
+with_bit word new place bit i here others = grind (arith, nat_tests, eqb_tells)
 
 -- the word `word & !(1 << place)`
 abbrev pub cleared : ℕ → ℕ → ℕ
@@ -24,8 +21,7 @@ cleared word place = bit_and word (18446744073709551615 - 1 * 2 ^ place % 184467
 abbrev pub raised : ℕ → ℕ → ℕ
 raised word place = bit_or word (1 * 2 ^ place % 18446744073709551616)
 
-pub bit_cleared : (word place bit : ℕ) → word < 2 ^ 64 → place < 64 → bit ≡ 0
-    → IsWithBit word (cleared word place) place bit
+pub bit_cleared : (word place bit : ℕ) → word < 2 ^ 64 → place < 64 → bit ≡ 0 → IsWithBit word (cleared word place) place bit
 bit_cleared word place bit fits within e i =
     with_bit word (cleared word place) place bit i (bit_at_clear_same w64 word place within ∙ sym e) others
   where
@@ -61,8 +57,7 @@ without false false = refl
 
 module _ (a b : ℕ) (p q : ℕ → Bool) (are : Marks a p) (others : Marks b q) where
   pub marks_both : Marks (bit_and a b) (λ i. p i && q i)
-  marks_both i = bit_at_and a b i ∙ ap (λ z. min z (bit_at b i)) (are i) ∙ ap (min (if p i then 1 else 0)) (others i)
-      ∙ both (p i) (q i)
+  marks_both i = bit_at_and a b i ∙ ap (λ z. min z (bit_at b i)) (are i) ∙ ap (min (if p i then 1 else 0)) (others i) ∙ both (p i) (q i)
 
   -- the word `a & !b`
   pub marks_without : a < 2 ^ 64 → b < 2 ^ 64 → Marks (bit_and a (18446744073709551615 - b)) (λ i. p i && not (q i))
@@ -105,13 +100,10 @@ shifted_on word by i l few =
     low-bits (word * 2 ^ by) i few ∙ ap (λ z. bit_at z i) (sym e) ∙ bit_at_cat_high word by 0 i (pow_pos by) l
 
 pub shifted_back : (word by i : ℕ) → bit_at (word / 2 ^ by) i ≡ bit_at word (i + by)
-shifted_back word by i =
-    let e : by + i ≡ i + by = omega arith in
-    ap (λ z. z % 2) (shr-shr word by i) ∙ ap (bit_at word) e
+shifted_back word by i = grind (arith, nat_tests, shr-shr)
 
 -- the tests after a shift
-pub marks_moved_on : (word by result : ℕ) (p : ℕ → Bool) → result < 2 ^ 64 → Marks word p
-    → ((i : ℕ) → i < by → bit_at result i ≡ 0)
+pub marks_moved_on : (word by result : ℕ) (p : ℕ → Bool) → result < 2 ^ 64 → Marks word p → ((i : ℕ) → i < by → bit_at result i ≡ 0)
     → ((i : ℕ) → by ≤ i → i < 64 → bit_at result i ≡ bit_at word (i - by))
     → Marks result (λ i. nat_lt i 64 && (not (nat_lt i by) && p (i - by)))
 marks_moved_on word by result p fits are first others i = elim (leb_tells 64 i) [
@@ -123,10 +115,8 @@ marks_moved_on word by result p fits are first others i = elim (leb_tells 64 i) 
   ]
 ]
   where
-    inside : i < 64 → (b : Bool) → nat_lt i by ≡ b
-        → one (nat_lt i 64 && (not (nat_lt i by) && p (i - by))) ≡ one (not b && p (i - by))
-    inside l b e = ap (λ t. one (t && (not (nat_lt i by) && p (i - by)))) (lt-ltb i 64 l)
-        ∙ ap (λ t. one (true && (not t && p (i - by)))) e
+    inside : i < 64 → (b : Bool) → nat_lt i by ≡ b → one (nat_lt i 64 && (not (nat_lt i by) && p (i - by))) ≡ one (not b && p (i - by))
+    inside l b e = ap (λ t. one (t && (not (nat_lt i by) && p (i - by)))) (lt-ltb i 64 l) ∙ ap (λ t. one (true && (not t && p (i - by)))) e
 
 -- ---- masks
 
@@ -157,60 +147,14 @@ alike_not word bit i fits e l =
 abbrev alike : ℕ → ℕ → ℕ
 alike x y = if x == y then 1 else 0
 
-same-four : (a b c d p q r s : ℕ) → a < 2 → b < 2 → c < 2 → d < 2 → p < 2 → q < 2 → r < 2 → s < 2
-    → a + 2 * b + 4 * c + 8 * d ≡ p + 2 * q + 4 * r + 8 * s → (a ≡ p) × (b ≡ q) × (c ≡ r) × (d ≡ s)
-same-four a b c d p q r s la lb lc ld lp lq lr ls e = (omega arith, omega arith, omega arith, omega arith)
-
 -- all four are alike where the numbers of these bits are
 pub four_alike : (a b c d p q r s : ℕ) → a < 2 → b < 2 → c < 2 → d < 2 → p < 2 → q < 2 → r < 2 → s < 2
     → min (min (alike a p) (alike b q)) (min (alike c r) (alike d s))
     ≡ alike (a + 2 * b + 4 * c + 8 * d) (p + 2 * q + 4 * r + 8 * s)
-four_alike a b c d p q r s la lb lc ld lp lq lr ls = elim (eqb_tells (a + 2 * b + 4 * c + 8 * d) (p + 2 * q + 4 * r + 8 * s)) [
-  | inl h ↦ (let e = same-four a b c d p q r s la lb lc ld lp lq lr ls h.1 in
-      let x : alike a p ≡ 1 = ap one (eq-eqb a p e.0) in
-      let y : alike b q ≡ 1 = ap one (eq-eqb b q e.1) in
-      let z : alike c r ≡ 1 = ap one (eq-eqb c r e.2) in
-      let w : alike d s ≡ 1 = ap one (eq-eqb d s e.3) in
-      let all : min (min (alike a p) (alike b q)) (min (alike c r) (alike d s)) ≡ 1 = omega arith in
-      all ∙ ap one (sym h.0))
-  | inr h ↦ differ (eqb_tells a p) (eqb_tells b q) (eqb_tells c r) (eqb_tells d s) h.1 ∙ ap one (sym h.0)
-]
-  where
-    Tells : ℕ → ℕ → Type 0
-    Tells x y = (((x == y) ≡ true) × (x ≡ y)) ⊎ (((x == y) ≡ false) × (x ≢ y))
-
-    none : (x y : ℕ) → (x == y) ≡ false → alike x y ≡ 0
-    none x y e = ap (λ t. if t then 1 else 0) e
-
-    differ : Tells a p → Tells b q → Tells c r → Tells d s → a + 2 * b + 4 * c + 8 * d ≢ p + 2 * q + 4 * r + 8 * s
-        → min (min (alike a p) (alike b q)) (min (alike c r) (alike d s)) ≡ 0
-    differ (inr x) y z w n = let e = none a p x.0 in omega arith
-    differ (inl x) (inr y) z w n = let e = none b q y.0 in omega arith
-    differ (inl x) (inl y) (inr z) w n = let e = none c r z.0 in omega arith
-    differ (inl x) (inl y) (inl z) (inr w) n = let e = none d s w.0 in omega arith
-    differ (inl x) (inl y) (inl z) (inl w) n = absurd (n (omega (arith, x.1, y.1, z.1, w.1)))
+four_alike a b c d p q r s la lb lc ld lp lq lr ls = grind (arith, nat_tests)
 
 -- ---- the cells of the first column
 
 -- the next place isn't in the first column where this one isn't in the last
 pub row_end : (columns i : ℕ) → 1 ≤ columns → ((i + 1) % columns == 0) ≡ not (nat_lt (i % columns + 1) columns)
-row_end columns i some =
-    let step : (i + 1) % columns ≡ (i % columns + 1) % columns = (let a : i + 1 ≡ suc i = omega arith in
-    let b : suc (i % columns) ≡ i % columns + 1 = omega arith in
-    ap (λ z. z % columns) a ∙ suc-mod i columns ∙ ap (λ z. z % columns) b) in
-    elim (leb_tells (suc (i % columns + 1)) columns) [
-      | inl h ↦ (let below : i % columns + 1 < columns = omega (arith, h.1) in
-          let stays : (i % columns + 1) % columns ≡ i % columns + 1 = mod-eq_of_lt below in
-          let other : (i + 1) % columns ≢ 0 = (let e = step ∙ stays in omega arith) in
-          not_zero ((i + 1) % columns) other ∙ sym (ap not h.0))
-      | inr h ↦ (let low = mod-lt i (positive columns some) in
-          let last : i % columns + 1 ≡ columns = omega (arith, h.1, low) in
-          let first : (i + 1) % columns ≡ 0 = step ∙ ap (λ z. z % columns) last ∙ mod_self columns in
-          eq-eqb ((i + 1) % columns) 0 first ∙ sym (ap not h.0))
-    ]
-  where
-    positive : (n : ℕ) → 1 ≤ n → 0 < n
-    positive n h = omega arith
-
-    not_zero : (n : ℕ) → n ≢ 0 → (n == 0) ≡ false
-    not_zero n h = elim (eqb_tells n 0) [ inl e ↦ absurd (h e.1) | inr e ↦ e.0 ]
+row_end columns i some = grind (arith, nat_tests, suc-mod, leb_tells, mod-eq_of_lt, mod-lt, mod_self, eq-eqb, eqb_tells)

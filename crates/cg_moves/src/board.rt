@@ -48,9 +48,7 @@ fn symbols_in(symbols: &[u8]) -> [u8; 16]
     ensures { take (length symbols.now) result ≡ symbols.now }
 {
     let mut all = [0; 16];
-    for (index, symbol) in symbols.iter().enumerate() {
-        all[index] = *symbol;
-    }
+    all[..symbols.len()].copy_from_slice(symbols);
     all
 }
 
@@ -207,8 +205,8 @@ impl Board {
         requires symbol { Contains self.old.symbols symbol }
         ensures { self.new ≡ with_cells self.old (slice_set self.old.cells index symbol) }
     {
-        let symbols = &self.symbols[..self.count as usize];
-        self.planes = self.planes.with_symbol(symbols, index, symbol);
+        let known = self.index(symbol);
+        self.set_known(index, symbol, known);
     }
 
     /// Gives the cell another symbol, which has this index in the row of symbols. It is [`Board::set`] where the index is known.

@@ -40,22 +40,6 @@ fn columns_in(one_row: bool, text: &[u8]) -> usize
     columns
 }
 
-/// How many rows there are.
-fn rows_in(one_row: bool, text: &[u8]) -> usize
-    ensures { result ≡ length (rows_of one_row text.now) }
-{
-    if one_row {
-        return 1;
-    }
-    let mut rows = 1;
-    for byte in text {
-        if *byte == BAR {
-            rows += 1;
-        }
-    }
-    rows
-}
-
 /// Whether the byte is a cell, and not a bar between rows.
 fn is_cell(one_row: bool, byte: u8) -> bool
     ensures { result ≡ (one_row || not (byte == bar)) }
@@ -160,7 +144,7 @@ pub fn read_grid(
         return Err(BoardFault::Large(65 + 64 / columns as u64));
     }
     let cells = cells_in(one_row, text);
-    let rows = rows_in(one_row, text);
+    let rows = size / columns;
     let board = Board::make(alloc, rows as u8, columns as u8, symbols, &cells[..size])?;
     // Read for the proof alone: each board is one.
     let _size = board.size();

@@ -1,4 +1,5 @@
 -- The rows and columns that bound a set of cells.
+use Rattle.std.proofs.lemmas.Bool.Decides.{nat_tests}
 use Rattle.std.proofs.Common.{◌≡◌, refl, ℕ, suc, ◌+◌, ◌-◌, ◌/◌, ◌<◌, ◌≤◌, inl, inr, Bool, true, false, cond, nat_le, if◌then◌else◌, List, [], ◌∷◌, filter, length, map, ap, sym, ◌∙◌, subst, arith, mul_comm}
 use Rattle.std.proofs.Math.Nat.{mod-eq_of_lt, mul-add-mod_self_left}
 use Rattle.std.proofs.lemmas.Bool.{le-leb, leb-true}
@@ -65,57 +66,28 @@ pub record IsEnd (R : ℕ → ℕ → Type 0) (x : ℕ) (xs : List ℕ) : Type 0
   pub among : In x xs
   pub each : (y : ℕ) → In y xs → R x y
 
+module _ (R : ℕ → ℕ → Type 0) (own : (x : ℕ) → R x x) (along : (x y z : ℕ) → R x y → R y z → R x z) where
+  end-one : (x : ℕ) → IsEnd R x (x ∷ [])
+  end-one x = record { among = inl refl; each = λ y m. elim m [ inl e ↦ subst (R x) (sym e) (own x) | inr k ↦ absurd k ] }
+
+  end-more : (b : Bool) (x m : ℕ) (xs : List ℕ) → IsEnd R m xs → (b ≡ true → R x m) → (b ≡ false → R m x)
+      → IsEnd R (if b then x else m) (x ∷ xs)
+  end-more true x m xs h before behind = record {
+    among = inl refl;
+    each = λ y i. elim i [ inl e ↦ subst (R x) (sym e) (own x) | inr k ↦ along x m y (before refl) (h.each y k) ];
+  }
+  end-more false x m xs h before behind = record {
+    among = inr h.among;
+    each = λ y i. elim i [ inl e ↦ subst (R m) (sym e) (behind refl) | inr k ↦ h.each y k ];
+  }
+
 least-is : (x : ℕ) (xs : List ℕ) → IsEnd (λ a b. a ≤ b) (least_of (x ∷ xs)) (x ∷ xs)
-least-is x [] = record {
-  among = inl refl;
-  each = λ y m. elim m [ inl e ↦ omega (arith, e) | inr k ↦ absurd k ];
-}
-least-is x (y ∷ ys) =
-    let h = least-is y ys in
-    let m : ℕ = least_of (y ∷ ys) in
-    let P : Bool → Type 0 = λ b. IsEnd (λ a c. a ≤ c) (if b then x else m) (x ∷ (y ∷ ys)) in
-    elim (true-or-not (nat_le x m)) [
-      | inl t ↦ subst P (sym t) (record {
-        among = inl refl;
-        each = λ z i. elim i [
-          | inl e ↦ omega (arith, e)
-          | inr k ↦ (let a = leb-true x m t in let b = h.each z k in omega (arith, a, b))
-        ];
-      })
-      | inr f ↦ subst P (sym (false-from (nat_le x m) f)) (record {
-        among = inr h.among;
-        each = λ z i. elim i [
-          | inl e ↦ (let a = not_le-test x m (false-from (nat_le x m) f) in omega (arith, a, e))
-          | inr k ↦ h.each z k
-        ];
-      })
-    ]
+least-is x [] = end-one (λ a b. a ≤ b) (λ a. omega arith) (λ a b c l m. omega (arith, l, m)) x
+least-is x (y ∷ ys) = grind (arith, nat_tests, end-more, leb-true, not_le-test, least-is y ys)
 
 greatest-is : (x : ℕ) (xs : List ℕ) → IsEnd (λ a b. b ≤ a) (greatest_of (x ∷ xs)) (x ∷ xs)
-greatest-is x [] = record {
-  among = inl refl;
-  each = λ y m. elim m [ inl e ↦ omega (arith, e) | inr k ↦ absurd k ];
-}
-greatest-is x (y ∷ ys) =
-    let h = greatest-is y ys in
-    let m : ℕ = greatest_of (y ∷ ys) in
-    let P : Bool → Type 0 = λ b. IsEnd (λ a c. c ≤ a) (if b then x else m) (x ∷ (y ∷ ys)) in
-    elim (true-or-not (nat_le m x)) [
-      | inl t ↦ subst P (sym t) (record {
-        among = inl refl;
-        each = λ z i. elim i [
-          | inl e ↦ omega (arith, e)
-          | inr k ↦ (let a = leb-true m x t in let b = h.each z k in omega (arith, a, b))
-        ];
-      })
-      | inr f ↦ subst P (sym (false-from (nat_le m x) f)) (record {
-        among = inr h.among;
-        each = λ z i. elim i [
-          | inl e ↦ (let a = not_le-test m x (false-from (nat_le m x) f) in omega (arith, a, e))
-          | inr k ↦ h.each z k
-        ];
-      })
-    ]
+greatest-is x [] = end-one (λ a b. b ≤ a) (λ a. omega arith) (λ a b c l m. omega (arith, l, m)) x
+greatest-is x (y ∷ ys) = grind (arith, nat_tests, end-more, leb-true, not_le-test, greatest-is y ys)
 
 -- ---- the box of a set
 
@@ -164,8 +136,7 @@ bounds-list : (width : ℕ) (in_set : ℕ → Bool) (n : ℕ) (k : ℕ) (ks : Li
 unfolding box_of
 bounds-list width in_set n k ks within e = record {
   rows = bounds-by (row_of width) in_set n (row_of width k) (map (row_of width) ks) within (ap (map (row_of width)) e);
-  columns = bounds-by (column_of width) in_set n (column_of width k) (map (column_of width) ks) within
-      (ap (map (column_of width)) e);
+  columns = bounds-by (column_of width) in_set n (column_of width k) (map (column_of width) ks) within (ap (map (column_of width)) e);
 }
 
 pub set-bounds : (p : Grid) (in_set : ℕ → Bool) (k : ℕ) → ((l : ℕ) → in_set l ≡ true → l < length p.cells)

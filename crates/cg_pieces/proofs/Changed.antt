@@ -1,4 +1,5 @@
 -- A move changes two cells of a joined set alike on the board and on the set's board.
+use Rattle.std.proofs.lemmas.Bool.Decides.{nat_tests}
 use Rattle.std.proofs.Common.{◌≡◌, ◌≢◌, ℕ, ◌<◌, inl, inr, Bool, true, List, length, slice_index, slice_set, ap, sym, ◌∙◌, subst, arith, get_or-set_other, get_or-set_same, length-set}
 use Rattle.cg_moves.specs.Grid.{Grid, with_cells}
 use Rattle.cg_moves.proofs.Counted.{same-or-not}
@@ -64,15 +65,7 @@ module _ (n : Neighbours) (laws : IsNeighbours n) (p : Grid) (s : ℕ) (wide : 0
   not-in m a out t e = let P : ℕ → Type 0 = λ z. set z ≡ true in out (subst P (sym e) t)
 
   fewer : (m : ℕ) → n.forms_pieces (slice_index cells m) ≡ true → is_piece_cell n p m ≡ true
-  fewer m t =
-      let P : ℕ → Type 0 = λ z. is_piece_cell n p z ≡ true in
-      elim (same-or-not m l) [
-        | inl e ↦ subst P (sym e) open_l
-        | inr a ↦ elim (same-or-not m k) [
-          | inl e ↦ subst P (sym e) open_k
-          | inr b ↦ ap n.forms_pieces (sym (two-other p.cells k x l y m b a)) ∙ t
-        ]
-      ]
+  fewer m t = grind (arith, nat_tests, same-or-not, two-other)
 
   same : (m : ℕ) → set m ≡ true → slice_index shown (place m) ≡ slice_index cells m
   same m t = elim (same-or-not m l) [

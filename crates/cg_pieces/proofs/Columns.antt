@@ -4,7 +4,7 @@ use Rattle.std.specs.Int.{bit_at}
 use Rattle.std.specs.Int.Count.{count_trailing_zeros}
 use Rattle.std.proofs.Math.Nat.{mod-lt}
 use Rattle.std.proofs.lemmas.Bool.{eq-eqb, eqb-true, lt-ltb}
-use Rattle.std.proofs.lemmas.Bool.Decides.{leb_tells}
+use Rattle.std.proofs.lemmas.Bool.Decides.{leb_tells, nat_tests}
 use Rattle.std.proofs.lemmas.Nat.{and_le_l}
 use Rattle.std.proofs.lemmas.Nat.Bits.{bit_at-zero}
 use Rattle.cg_dyadic.proofs.Truth.{and-both, and-split}
@@ -23,17 +23,14 @@ use Rattle.cg_pieces.proofs.OpenWords.{marks-test, test-marks}
 module _ (w size : ℕ) (few : w ≤ 64) (below : size ≤ 64) where
   first-column : (word : ℕ) → Marks word (λ i. nat_lt i size && (i % w == 0)) → IsColumn w size 0 word
   first-column word are = record {
-    only = λ k t.
-        eqb-true (k % w) 0
+    only = λ k t. eqb-true (k % w) 0
         (and-split (nat_lt k size) (k % w == 0) (marks-test word (λ i. nat_lt i size && (i % w == 0)) are k t)).1;
-    all = λ k h e.
-        test-marks word (λ i. nat_lt i size && (i % w == 0)) are k
+    all = λ k h e. test-marks word (λ i. nat_lt i size && (i % w == 0)) are k
         (and-both (nat_lt k size) (k % w == 0) (lt-ltb k size h) (eq-eqb (k % w) 0 e));
   }
 
   -- so many columns on
-  column-on : (column by word : ℕ) → IsColumn w size column word → column + by < w
-      → IsColumn w size (column + by) (moved_on word by)
+  column-on : (column by word : ℕ) → IsColumn w size column word → column + by < w → IsColumn w size (column + by) (moved_on word by)
   column-on column by word is inside = record {
     only = λ k t. elim (leb_tells by k) [
       | inl h ↦
@@ -126,10 +123,7 @@ module _ (p : Grid) (grid : IsGrid p) (set : ℕ) (some : IsSet p set) where
       }
 
   whole : column_of p.columns (length p.cells) ≡ 0
-  whole =
-      let s = grid.size in
-      let e : length p.cells ≡ cell_at p.columns p.rows 0 = omega (arith, s) in
-      ap (column_of p.columns) e ∙ column-cell p.columns p.rows 0 (wide-grid p grid)
+  whole = grind (arith, nat_tests, column-cell, wide-grid)
 
   pub right-later : (right word : ℕ) → IsReached p set (λ edge column. column ≤ edge) right word → bit_and set word ≡ 0 → 1 ≤ right
   right-later right word old none =

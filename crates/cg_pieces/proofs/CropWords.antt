@@ -1,14 +1,14 @@
 -- The board of a set of cells, by its words.
-use Rattle.std.proofs.Common.{◌≡◌, refl, ℕ, ◌*◌, ◌<◌, ◌≤◌, inl, inr, true, if◌then◌else◌, List, length, slice_index, ap, sym, ◌∙◌, subst, arith}
+use Rattle.std.proofs.Common.{◌≡◌, refl, ℕ, ◌*◌, ◌<◌, inl, inr, true, if◌then◌else◌, length, slice_index, ap, sym, ◌∙◌, subst, arith, ◌^◌, bit_and, bit_or, w64}
 use Rattle.std.specs.Prelude.{Contains}
 use Rattle.std.specs.Int.{bit_at}
 use Rattle.std.proofs.lemmas.Bool.{le-ltb, lt-ltb}
-use Rattle.std.proofs.lemmas.Bool.Decides.{leb_tells}
+use Rattle.std.proofs.lemmas.Bool.Decides.{leb_tells, eqb_tells, nat_tests}
 use Rattle.cg_dyadic.proofs.Truth.{false-from, true-or-not}
 use Rattle.cg_moves.specs.declared.planes.Planes.{Planes}
 use Rattle.cg_moves.specs.Grid.{Grid, IsGrid}
 use Rattle.cg_moves.specs.PlaneBits.{ArePlanes, IsGridBy, grid_by, index_of, plane_bit}
-use Rattle.cg_moves.proofs.PlaneLemmas.{grid-is, index-reads, is_grid-by}
+use Rattle.cg_moves.proofs.PlaneLemmas.{grid-is, index-reads, is_grid-by, plane-inside, plane-outside}
 use Rattle.cg_pieces.specs.declared.frame.Frame.{Frame}
 use Rattle.cg_pieces.specs.Boxes.{cropped, set_box, shown_cell, unboxed}
 use Rattle.cg_pieces.specs.Frames.{box_from}
@@ -19,23 +19,34 @@ use Rattle.cg_pieces.proofs.Crops.{crop-at}
 use Rattle.cg_pieces.proofs.Frames.{board-is, cropped-cells, cropped-size, few-cells, frame-cells, made, some-cells, unboxed-below, wide-grid}
 use Rattle.cg_pieces.proofs.FrameWords.{first-in, in-set}
 use Rattle.cg_pieces.proofs.RowWords.{cut}
+use Rattle.std.proofs.lemmas.Nat.Bits.{bit_at-lt, bit_at_and, bit_at_not, bit_at_or}
+use Rattle.cg_pieces.proofs.GrowingSets.{other_bits}
 
-plane-in : (symbols cells : List ℕ) (b i : ℕ) → i < length cells
-    → plane_bit symbols cells b i ≡ bit_at (index_of symbols (slice_index cells i)) b
-plane-in symbols cells b i l =
-    ap (λ t. if t then bit_at (index_of symbols (slice_index cells i)) b else 0) (lt-ltb i (length cells) l)
+pub shown-off : (word set bit k : ℕ) → bit ≡ 0 → bit_at (bit_and word set) k ≡ (if in_word set k then bit_at word k else bit)
+shown-off word set bit k off = grind (arith, nat_tests, bit_at_and, bit_at-lt, eqb_tells)
 
-plane-past : (symbols cells : List ℕ) (b i : ℕ) → length cells ≤ i → plane_bit symbols cells b i ≡ 0
-plane-past symbols cells b i l =
-    ap (λ t. if t then bit_at (index_of symbols (slice_index cells i)) b else 0) (le-ltb i (length cells) l)
+pub shown-on : (word set bit k : ℕ) → bit ≡ 1 → set < 2 ^ 64 → k < 64
+    → bit_at (bit_or word (other_bits set)) k ≡ (if in_word set k then bit_at word k else bit)
+shown-on word set bit k on fits few =
+    let h = bit_at_or word (other_bits set) k in
+    let m = bit_at_not w64 set k fits few in
+    let x = bit_at-lt word k in
+    let y = bit_at-lt set k in
+    elim (eqb_tells (bit_at set k) 1) [
+      | inl e ↦ let one = e.1 in
+          let is : bit_at (bit_or word (other_bits set)) k ≡ bit_at word k = omega (arith, h, m, x, one) in
+          is ∙ ap (λ b. if b then bit_at word k else bit) (sym e.0)
+      | inr e ↦ let other = e.1 in
+          let is : bit_at (bit_or word (other_bits set)) k ≡ bit = omega (arith, h, m, x, y, other, on) in
+          is ∙ ap (λ b. if b then bit_at word k else bit) (sym e.0)
+    ]
 
 -- the index shows the blank of the game
 pub record Shows (n : Neighbours) (p : Grid) (index : ℕ) : Type 0 where
   pub shows : slice_index p.symbols index ≡ n.blank
   pub is : IsIndex p.symbols (slice_index p.symbols index) index
 
-pub index-shows : (n : Neighbours) (p : Grid) (index : ℕ) → p.symbols ≡ n.symbols → IsIndex n.symbols n.blank index
-    → Shows n p index
+pub index-shows : (n : Neighbours) (p : Grid) (index : ℕ) → p.symbols ≡ n.symbols → IsIndex n.symbols n.blank index → Shows n p index
 index-shows n p index e is =
     let shows : slice_index p.symbols index ≡ n.blank =
     ap (slice_index p.symbols) is.value ∙ ap (λ z. slice_index z (index_of n.symbols n.blank)) e
@@ -67,13 +78,12 @@ module _ (p : Grid) (grid : IsGrid p) (set first blank : ℕ) (from : IsSetFrom 
       (word_is : (k : ℕ) → bit_at word k ≡ plane_bit p.symbols p.cells b k) (index_is : index ≡ index_of p.symbols blank)
       (bit_is : bit ≡ bit_at index b)
       (shown_is : (k : ℕ) → k < 64 → bit_at shown k ≡ (if in_word set k then bit_at word k else bit)) where
-    shown-at : (k : ℕ) → k < length p.cells
-        → bit_at shown k ≡ bit_at (index_of p.symbols (shown_cell blank (in_word set) p.cells k)) b
+    shown-at : (k : ℕ) → k < length p.cells → bit_at shown k ≡ bit_at (index_of p.symbols (shown_cell blank (in_word set) p.cells k)) b
     shown-at k below =
         let few = grid.few in
         shown_is k (omega (arith, below, few)) ∙ elim (true-or-not (in_word set k)) [
           | inl t ↦
-              ap (λ z. if z then bit_at word k else bit) t ∙ word_is k ∙ plane-in p.symbols p.cells b k below
+              ap (λ z. if z then bit_at word k else bit) t ∙ word_is k ∙ plane-inside p.symbols p.cells b k below
               ∙ ap (λ z. bit_at (index_of p.symbols (if z then slice_index p.cells k else blank)) b) (sym t)
           | inr n ↦
               let none = false-from (in_word set k) n in
@@ -90,7 +100,7 @@ module _ (p : Grid) (grid : IsGrid p) (set first blank : ℕ) (from : IsSetFrom 
               let past = h.1 in
               cut_is m
               ∙ ap (λ t. if t then bit_at shown (unboxed (box_from f) columns m) else 0) (le-ltb m (f.rows * f.columns) past)
-              ∙ sym (plane-past p.symbols piece.cells b m (omega (arith, e, past)))
+              ∙ sym (plane-outside p.symbols piece.cells b m (omega (arith, e, past)))
           | inr h ↦
               let within = h.1 in
               let cells = frame-cells p (in_word set) inside first some (wide-grid p grid) grid.size f frame in
@@ -104,7 +114,7 @@ module _ (p : Grid) (grid : IsGrid p) (set first blank : ℕ) (from : IsSetFrom 
               ∙ shown-at k (unboxed-below p (in_word set) inside first some (wide-grid p grid) grid.size m in_box)
               ∙ ap (λ z. bit_at (index_of p.symbols z) b)
               (sym (crop-at blank p (in_word set) inside first some (wide-grid p grid) m in_box))
-              ∙ sym (plane-in p.symbols piece.cells b m (omega (arith, e, within)))
+              ∙ sym (plane-inside p.symbols piece.cells b m (omega (arith, e, within)))
         ]
 
   -- ---- the board

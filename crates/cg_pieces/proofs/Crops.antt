@@ -1,5 +1,6 @@
 -- The board of a set of cells, and that the board of a part of the set is the same when it is made from that board.
-use Rattle.std.proofs.Common.{◌≡◌, ◌≢◌, ℕ, zero, suc, ◌+◌, ◌-◌, ◌*◌, ◌<◌, ◌≤◌, inl, inr, Bool, true, if◌then◌else◌, length, map, get_or, slice_index, ap, sym, ◌∙◌, arith, mul_comm}
+use Rattle.std.proofs.lemmas.Bool.Decides.{nat_tests}
+use Rattle.std.proofs.Common.{◌≡◌, ◌≢◌, ℕ, zero, suc, ◌+◌, ◌-◌, ◌*◌, ◌<◌, ◌≤◌, inl, inr, Bool, true, if◌then◌else◌, length, map, get_or, slice_index, ap, sym, ◌∙◌, arith}
 use Rattle.std.proofs.Math.Nat.{mod-lt, mul-le-mul_left}
 use Rattle.cg_dyadic.proofs.Truth.{false-from, true-or-not}
 use Rattle.cg_moves.specs.Grid.{Grid}
@@ -8,10 +9,7 @@ use Rattle.cg_pieces.specs.Boxes.{Box, boxed, cell_at, column_of, cropped, row_o
 use Rattle.cg_pieces.proofs.Bounds.{Bounds, BoundsBy, cell-of, column-cell, row-cell, set-bounds}
 
 pub cell-below : (w r a c : ℕ) → a < r → c < w → cell_at w a c < r * w
-cell-below w r a c h k =
-    let m : w * (a + 1) ≤ w * r = mul-le-mul_left w (omega arith) in
-    let e : w * r ≡ r * w = mul_comm w r in
-    omega (arith, m, e)
+cell-below w r a c h k = grind (arith, nat_tests, mul-le-mul_left)
 
 counted-get : (f : ℕ → ℕ) (i n m : ℕ) → m < n → get_or (map f (counted i n)) m 0 ≡ f (i + m)
 counted-get f i zero m h = absurd (omega arith)
@@ -57,14 +55,10 @@ module _ (blank : ℕ) (p : Grid) (set : ℕ → Bool) (within : (k : ℕ) → s
   bounds = set-bounds p set some within some_in
 
   pub place-row : (k : ℕ) → set k ≡ true → row_of box.columns (place k) ≡ row_of p.columns k - box.top
-  place-row k t =
-      let low = bounds.columns.low k t in let high = bounds.columns.high k t in
-      row-cell box.columns (row_of p.columns k - box.top) (column_of p.columns k - box.left) (omega arith)
+  place-row k t = grind (arith, nat_tests, bounds, row-cell)
 
   pub place-column : (k : ℕ) → set k ≡ true → column_of box.columns (place k) ≡ column_of p.columns k - box.left
-  place-column k t =
-      let low = bounds.columns.low k t in let high = bounds.columns.high k t in
-      column-cell box.columns (row_of p.columns k - box.top) (column_of p.columns k - box.left) (omega arith)
+  place-column k t = grind (arith, nat_tests, bounds, column-cell)
 
   pub row-low : (k : ℕ) → set k ≡ true → box.top ≤ row_of p.columns k
   row-low k t = bounds.rows.low k t
@@ -80,36 +74,14 @@ module _ (blank : ℕ) (p : Grid) (set : ℕ → Bool) (within : (k : ℕ) → s
       (omega arith)
 
   pub unplace : (k : ℕ) → set k ≡ true → unboxed box p.columns (place k) ≡ k
-  unplace k t =
-      let a = bounds.rows.low k t in
-      let c = bounds.columns.low k t in
-      let e : box.top + row_of box.columns (place k) ≡ row_of p.columns k =
-      (let r = place-row k t in omega (arith, r, a)) in
-      let f : box.left + column_of box.columns (place k) ≡ column_of p.columns k =
-      (let r = place-column k t in omega (arith, r, c)) in
-      ap (λ z. cell_at p.columns z (box.left + column_of box.columns (place k))) e
-      ∙ ap (cell_at p.columns (row_of p.columns k)) f ∙ cell-of p.columns k
+  unplace k t = grind (arith, nat_tests, bounds, place-row, place-column, cell-of)
 
   -- the columns of the box are columns of the board
   pub inner-column : (m : ℕ) → box.left + column_of box.columns m < p.columns
-  inner-column m =
-      let h = bounds.columns.highest_is in
-      let l = bounds.columns.lowest_is in
-      let low = bounds.columns.low bounds.columns.highest bounds.columns.highest_in in
-      let some_columns : 0 < box.columns = omega (arith, h, low) in
-      let a = mod-lt m some_columns in
-      let b = mod-lt bounds.columns.highest wide in
-      omega (arith, a, b, h)
+  inner-column m = grind (arith, nat_tests, bounds, mod-lt)
 
   pub place-unplaced : (m : ℕ) → place (unboxed box p.columns m) ≡ m
-  place-unplaced m =
-      let r = row-cell p.columns (box.top + row_of box.columns m) (box.left + column_of box.columns m) (inner-column m) in
-      let c = column-cell p.columns (box.top + row_of box.columns m) (box.left + column_of box.columns m)
-      (inner-column m) in
-      let e : row_of p.columns (unboxed box p.columns m) - box.top ≡ row_of box.columns m = omega (arith, r) in
-      let f : column_of p.columns (unboxed box p.columns m) - box.left ≡ column_of box.columns m = omega (arith, c) in
-      ap (λ z. cell_at box.columns z (column_of p.columns (unboxed box p.columns m) - box.left)) e
-      ∙ ap (cell_at box.columns (row_of box.columns m)) f ∙ cell-of box.columns m
+  place-unplaced m = grind (arith, nat_tests, row-cell, inner-column, column-cell, cell-of)
 
   -- ---- its symbols
 
@@ -119,11 +91,8 @@ module _ (blank : ℕ) (p : Grid) (set : ℕ → Bool) (within : (k : ℕ) → s
   crop-at m h = counted-get (λ m. shown_cell blank set p.cells (unboxed box p.columns m)) 0 (box.rows * box.columns) m h
       ∙ (let e : 0 + m ≡ m = omega arith in ap (λ z. shown_cell blank set p.cells (unboxed box p.columns z)) e)
 
-  pub crop-symbol : (k : ℕ) → set k ≡ true
-      → slice_index (cropped blank set p).cells (place k) ≡ slice_index p.cells k
-  crop-symbol k t =
-      crop-at (place k) (place-below k t) ∙ ap (shown_cell blank set p.cells) (unplace k t)
-      ∙ ap (λ b. if b then slice_index p.cells k else blank) t
+  pub crop-symbol : (k : ℕ) → set k ≡ true → slice_index (cropped blank set p).cells (place k) ≡ slice_index p.cells k
+  crop-symbol k t = grind (arith, nat_tests, crop-at, place-below, unplace)
 
   pub crop-back : (m : ℕ) → m < box.rows * box.columns → slice_index (cropped blank set p).cells m ≢ blank
       → (k : ℕ) × (set k ≡ true) × (m ≡ place k)

@@ -1,19 +1,19 @@
 -- Rules that cut boards into the sets of joined cells.
 use Rattle.std.proofs.Common.{◌≡◌, refl, ℕ, zero, suc, ◌<◌, ◌≤◌, ◌⊎◌, inl, inr, true, List, [], ◌∷◌, ◌++◌, map, ap, sym, ◌∙◌, subst, arith}
 use Rattle.cg_moves.specs.declared.player.Player.{Player}
-use Rattle.cg_moves.specs.declared.player.Player.TheVariants.{Left, Right}
 use Rattle.cg_moves.specs.CutByMoves.{IsCutByMoves, MoveInPiece, MoveOfBoard, MovesAlike}
 use Rattle.cg_moves.specs.Grid.{Grid, with_cells}
 use Rattle.cg_moves.specs.Reordered.{IsReordered}
-use Rattle.cg_moves.specs.Rules.{GameRules, In, boards_after, followers, pieces, pieces_by}
+use Rattle.cg_moves.specs.Rules.{GameRules, In, followers, pieces, pieces_by}
 use Rattle.cg_form.proofs.Firsts.{in-append_left, in-append_right}
 use Rattle.cg_moves.proofs.Members.{in-map, in_mapped}
-use Rattle.cg_moves.proofs.Totals.{map-append}
 use Rattle.cg_pieces.specs.Cells.{CellGame, CutsByCells, Distinct, First, IsCellGame, Joined, pieces_of}
 use Rattle.cg_pieces.specs.Cells.Linked.{here}
 use Rattle.cg_pieces.proofs.OneMove.{pieces-after}
-use Rattle.cg_pieces.proofs.Orders.{in-middle}
 use Rattle.cg_pieces.proofs.Sets.{first-placed, joined-sym, joined-trans, legal-joined, open-along, placed-first, placed-piece}
+use Rattle.std.proofs.lemmas.List.{map-append}
+use Rattle.std.proofs.lemmas.Bool.Decides.{leb_tells, nat_tests}
+use Rattle.cg_moves.proofs.Middles.{in-middle}
 
 -- a list of mapped cells that is cut is cut at a cell
 record MappedCut {Y : Type 0} (f : ℕ → Y) (ks : List ℕ) (us : List Y) (y : Y) (vs : List Y) : Type 0 where
@@ -25,8 +25,7 @@ record MappedCut {Y : Type 0} (f : ℕ → Y) (ks : List ℕ) (us : List Y) (y :
   middle : y ≡ f cell
   right : vs ≡ map f behind
 
-mapped-cut : {Y : Type 0} (f : ℕ → Y) (ks : List ℕ) (us : List Y) (y : Y) (vs : List Y) → map f ks ≡ us ++ (y ∷ vs)
-    → MappedCut f ks us y vs
+mapped-cut : {Y : Type 0} (f : ℕ → Y) (ks : List ℕ) (us : List Y) (y : Y) (vs : List Y) → map f ks ≡ us ++ (y ∷ vs) → MappedCut f ks us y vs
 mapped-cut {Y} f [] [] y vs e = absurd (cc)
 mapped-cut {Y} f [] (u ∷ us) y vs e = absurd (cc)
 mapped-cut {Y} f (k ∷ ks) [] y vs e = record {
@@ -70,20 +69,14 @@ module _ (g : CellGame) (r : GameRules) (laws : IsCellGame g) (cuts : CutsByCell
       | inl j ↦ inl (record {
         cell = n;
         joined = j;
-        least = λ m i. elim (below-or-not m n) [ inl h ↦ absurd (none m h i) | inr h ↦ h ];
+        least = λ m i. elim (leb_tells n m) [ inl h ↦ h.1 | inr h ↦ absurd (none m h.1 i) ];
       })
-      | inr out ↦ inr (λ m h i. elim (below-or-not m n) [
-        | inl b ↦ none m b i
-        | inr b ↦ (let e : m ≡ n = omega arith in let P : ℕ → Type 0 = λ z. Joined g p z k in out (subst P e i))
+      | inr out ↦ inr (λ m h i. elim (leb_tells n m) [
+        | inl b ↦ (let e : m ≡ n = omega (arith, h, b.1) in out (subst (λ (z : ℕ). Joined g p z k) e i))
+        | inr b ↦ none m b.1 i
       ])
     ]
   ]
-    where
-      below-or-not : (m n : ℕ) → (m < n) ⊎ (n ≤ m)
-      below-or-not zero zero = inr (omega arith)
-      below-or-not zero (suc n) = inl (omega arith)
-      below-or-not (suc m) zero = inr (omega arith)
-      below-or-not (suc m) (suc n) = elim (below-or-not m n) [ inl h ↦ inl (omega arith) | inr h ↦ inr (omega arith) ]
 
   least-of : (p : Grid) (k : ℕ) → Least p k
   least-of p k = elim (least-below p k (suc k)) [
@@ -134,8 +127,7 @@ module _ (g : CellGame) (r : GameRules) (laws : IsCellGame g) (cuts : CutsByCell
   piece-legal player p s one other has among legal j =
       (cuts.shown p s has among).place_legal player one other j (legal-joined g laws player p s one other legal j) ∙ legal
 
-  in-piece : (player : Player) (p : Grid) (cells : List ℕ) → r.has p ≡ true → In cells (r.moves player p)
-      → MoveInPiece r player p cells
+  in-piece : (player : Player) (p : Grid) (cells : List ℕ) → r.has p ≡ true → In cells (r.moves player p) → MoveInPiece r player p cells
   in-piece player p cells has m =
       let w = cuts.legal_move player p cells has m in
       let (s, among, j) = first-of-move player p w.one w.other w.legal in
@@ -217,16 +209,7 @@ module _ (g : CellGame) (r : GameRules) (laws : IsCellGame g) (cuts : CutsByCell
       ∙ ap (λ z. z ∷ []) (placed-piece g laws p s p (g.piece p s) o s self)
 
   a-move : (player : Player) (q : Grid) (cells : List ℕ) → In cells (r.moves player q) → ¬ (followers r q ≡ [])
-  a-move player q cells m e =
-      let P : List Grid → Type 0 = λ z. In (with_cells q cells) z in
-      let there : In (with_cells q cells) (followers r q) = by-player player m in
-      subst P e there
-    where
-      by-player : (player : Player) → In cells (r.moves player q) → In (with_cells q cells) (followers r q)
-      by-player Left i = in-append_left (with_cells q cells) (boards_after r Left q) (boards_after r Right q)
-          (in_mapped (with_cells q) cells (r.moves Left q) i)
-      by-player Right i = in-append_right (with_cells q cells) (boards_after r Left q) (boards_after r Right q)
-          (in_mapped (with_cells q) cells (r.moves Right q) i)
+  a-move player q cells m e = grind (arith, nat_tests, in-append_left, in_mapped, in-append_right)
 
   some-move : (p : Grid) (s : ℕ) → r.has p ≡ true → In s (g.firsts p) → ¬ (followers r (g.piece p s) ≡ [])
   some-move p s has among =
@@ -236,8 +219,7 @@ module _ (g : CellGame) (r : GameRules) (laws : IsCellGame g) (cuts : CutsByCell
       (piece-legal f.player p s f.one f.other has among f.legal f.joined))
 
   -- what holds of the board of each first cell holds of each piece
-  each-piece : (P : Grid → Type 0) (p q : Grid) → ((s : ℕ) → In s (g.firsts p) → P (g.piece p s))
-      → In q (pieces r p) → P q
+  each-piece : (P : Grid → Type 0) (p q : Grid) → ((s : ℕ) → In s (g.firsts p) → P (g.piece p s)) → In q (pieces r p) → P q
   each-piece P p q each m =
       let Q : List Grid → Type 0 = λ z. In q z in
       let (s, i, e) = in-map (g.piece p) q (g.firsts p) (subst Q (pieces-are p) m) in

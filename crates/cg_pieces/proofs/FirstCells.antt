@@ -1,7 +1,8 @@
 -- Joined sets in which some player has a move, and what is taken of their first cells.
-use Rattle.std.proofs.Common.{◌≡◌, refl, ℕ, suc, ◌+◌, ◌<◌, ◌&&◌, ◌||◌, ◌⊎◌, inl, inr, Bool, true, false, if◌then◌else◌, IsTrue, List, [], ◌∷◌, ◌++◌, cond, filter, length, map, ap, sym, ◌∙◌, subst, arith}
+use Rattle.std.proofs.lemmas.Bool.Decides.{nat_tests}
+use Rattle.std.proofs.Common.{◌≡◌, refl, ℕ, suc, ◌+◌, ◌<◌, ◌&&◌, ◌||◌, ◌⊎◌, inl, inr, Bool, true, false, if◌then◌else◌, IsTrue, List, [], ◌∷◌, ◌++◌, filter, length, map, ap, sym, ◌∙◌, subst, arith}
 use Rattle.std.specs.Int.{bit_at}
-use Rattle.std.proofs.lemmas.List.{append-nil}
+use Rattle.std.proofs.lemmas.List.{append-nil, map-append}
 use Rattle.cg_dyadic.proofs.Truth.{and-both, and-split}
 use Rattle.cg_moves.specs.declared.player.Player.{Player}
 use Rattle.cg_moves.specs.declared.player.Player.TheVariants.{Left, Right}
@@ -9,7 +10,6 @@ use Rattle.cg_moves.specs.Grid.{Grid}
 use Rattle.cg_moves.specs.Rising.{counted}
 use Rattle.cg_moves.proofs.ConnectedLemmas.{or-cases, or-first, or-second}
 use Rattle.cg_moves.proofs.Counted.{counted-next}
-use Rattle.cg_moves.proofs.Totals.{map-append}
 use Rattle.cg_pieces.specs.Cells.{Joined}
 use Rattle.cg_pieces.specs.Cells.Linked.{step}
 use Rattle.cg_pieces.specs.Moving.{AreMoving, MovesWith, is_behind, moves_between}
@@ -39,8 +39,7 @@ module _ (n : Neighbours) (laws : IsNeighbours n) (p : Grid) where
       ]
 
   -- the word of the cells with moves, by the players' moves between a cell and one behind it
-  pub moving-by : (word : ℕ)
-      → ((k : ℕ) → bit_at word k ≡ 1 → (player : Player) × (l : ℕ) × (may_move n player p k l ≡ true))
+  pub moving-by : (word : ℕ) → ((k : ℕ) → bit_at word k ≡ 1 → (player : Player) × (l : ℕ) × (may_move n player p k l ≡ true))
       → ((player : Player) (k l : ℕ) → is_behind p k l ≡ true → may_move n player p k l ≡ true → bit_at word k ≡ 1)
       → ((player : Player) (k l : ℕ) → is_behind p k l ≡ true → may_move n player p l k ≡ true → bit_at word k ≡ 1)
       → AreMoving n p word
@@ -156,26 +155,12 @@ counted-to n = let up : n + 1 ≡ suc n = omega arith in ap (counted 0) up ∙ c
 
 filter-append : (test : ℕ → Bool) (xs ys : List ℕ) → filter test (xs ++ ys) ≡ filter test xs ++ filter test ys
 filter-append test [] ys = refl
-filter-append test (x ∷ xs) ys =
-    let ih = filter-append test xs ys in
-    elim (test x) as (λ b. cond b (x ∷ filter test (xs ++ ys)) (filter test (xs ++ ys))
-    ≡ cond b (x ∷ filter test xs) (filter test xs) ++ filter test ys) [
-      | true ↦ ap (λ z. x ∷ z) ih
-      | false ↦ ih
-    ]
+filter-append test (x ∷ xs) ys = grind (arith, nat_tests, filter-append test xs ys)
 
 -- what is taken of one number more
 pub one-more : (test : ℕ → Bool) (f : ℕ → Grid) (k : ℕ) (old new : List Grid) → old ≡ map f (filter test (counted 0 k))
     → new ≡ old ++ (if test k then f k ∷ [] else []) → new ≡ map f (filter test (counted 0 (k + 1)))
-one-more test f k old new e h =
-    h ∙ ap (λ z. z ++ (if test k then f k ∷ [] else [])) e
-    ∙ sym (ap (λ z. map f (filter test z)) (counted-to k) ∙ ap (map f) (filter-append test (counted 0 k) (k ∷ []))
-    ∙ map-append f (filter test (counted 0 k)) (filter test (k ∷ []))
-    ∙ ap (λ z. map f (filter test (counted 0 k)) ++ z) (last (test k)))
-  where
-    last : (b : Bool) → map f (cond b (k ∷ []) []) ≡ (if b then f k ∷ [] else [])
-    last true = refl
-    last false = refl
+one-more test f k old new e h = grind (arith, nat_tests, counted-to, filter-append, map-append)
 
 pub none-more : (test : ℕ → Bool) (f : ℕ → Grid) (k : ℕ) (old : List Grid) → test k ≡ false
     → old ≡ map f (filter test (counted 0 k)) → old ≡ map f (filter test (counted 0 (k + 1)))

@@ -79,8 +79,7 @@ module _ (p : Grid) (grid : IsGrid p) (set first : ℕ) (from : IsSetFrom p set 
 
   -- ---- the box is on the board
 
-  pub box-in : (f : Frame) (columns : ℕ) → box_from f ≡ set_box (in_word set) p → columns ≡ p.columns
-      → IsBoxIn columns (box_from f)
+  pub box-in : (f : Frame) (columns : ℕ) → box_from f ≡ set_box (in_word set) p → columns ≡ p.columns → IsBoxIn columns (box_from f)
   box-in f columns e same =
       let wide = wide-grid p grid in
       let rows = rows-inside p (in_word set) in-set first first-in wide grid.size in

@@ -1,20 +1,17 @@
 -- The rows and columns that bound cells, and the cells inside.
-use Rattle.std.proofs.Common.{◌≡◌, refl, ℕ, zero, suc, ◌+◌, ◌-◌, ◌*◌, ◌<◌, ◌≤◌, inl, inr, Bool, true, if◌then◌else◌, List, length, slice_index, ap, sym, ◌∙◌, subst, arith, mul_comm}
+use Rattle.std.proofs.lemmas.Bool.Decides.{nat_tests}
+use Rattle.std.proofs.Common.{◌≡◌, ℕ, suc, ◌+◌, ◌-◌, ◌*◌, ◌<◌, ◌≤◌, inl, inr, Bool, true, if◌then◌else◌, List, length, slice_index, ap, sym, subst, arith}
 use Rattle.std.specs.Prelude.{Contains}
 use Rattle.std.proofs.Math.Nat.{mod-lt, mul-le-mul_left, mul-le-mul_right}
 use Rattle.std.proofs.lemmas.List.{length-map}
 use Rattle.cg_dyadic.proofs.Truth.{false-from, true-or-not}
 use Rattle.cg_moves.specs.Grid.{AreCells, Grid, IsGrid}
-use Rattle.cg_moves.specs.Rising.{counted}
 use Rattle.cg_pieces.specs.declared.frame.Frame.{Frame}
-use Rattle.cg_pieces.specs.Boxes.{Box, column_of, cropped, row_of, set_box, shown_cell, unboxed}
+use Rattle.cg_pieces.specs.Boxes.{Box, column_of, cropped, row_of, set_box, unboxed}
 use Rattle.cg_pieces.specs.Frames.{box_from}
 use Rattle.cg_pieces.proofs.Bounds.{Bounds, BoundsBy, cell-of, set-bounds}
 use Rattle.cg_pieces.proofs.Crops.{cell-below, crop-at, inner-column}
-
-counted-length : (i n : ℕ) → length (counted i n) ≡ n
-counted-length i zero = refl
-counted-length i (suc n) = ap suc (counted-length (suc i) n)
+use Rattle.cg_moves.proofs.Counted.{counted-length}
 
 -- a board of these parts
 abbrev pub made : ℕ → ℕ → List ℕ → List ℕ → Grid
@@ -64,13 +61,7 @@ module _ (p : Grid) (set : ℕ → Bool) (within : (k : ℕ) → set k ≡ true 
   -- ---- the cells of the box stand on the board
 
   row-inside : (w r m : ℕ) → m < r * w → row_of w m < r
-  row-inside w r m h =
-      let n : ¬ (r ≤ row_of w m) = λ le.
-      (let a : w * r ≤ w * row_of w m = mul-le-mul_left w le in
-      let e : w * r ≡ r * w = mul_comm w r in
-      let c = cell-of w m in
-      omega (arith, h, a, e, c)) in
-      omega (arith, n)
+  row-inside w r m h = grind (arith, nat_tests, mul-le-mul_left, cell-of)
 
   module _ (wide : 0 < p.columns) (size : length p.cells ≡ p.rows * p.columns) where
     pub rows-inside : box.top + box.rows ≤ p.rows
@@ -97,18 +88,10 @@ module _ (p : Grid) (set : ℕ → Bool) (within : (k : ℕ) → set k ≡ true 
         let a = bounds.columns.low first some in let b = bounds.columns.high first some in omega (arith, a, b)
 
     pub few-cells : box.rows * box.columns ≤ length p.cells
-    few-cells =
-        let a : box.rows * box.columns ≤ box.rows * p.columns =
-        mul-le-mul_left box.rows (let h = columns-inside in omega (arith, h)) in
-        let b : box.rows * p.columns ≤ p.rows * p.columns =
-        mul-le-mul_right p.columns (let h = rows-inside in omega (arith, h)) in
-        omega (arith, a, b, size)
+    few-cells = grind (arith, nat_tests, mul-le-mul_left, columns-inside, mul-le-mul_right, rows-inside)
 
     pub some-cells : 1 ≤ box.rows * box.columns
-    some-cells =
-        let a : box.rows * 1 ≤ box.rows * box.columns = mul-le-mul_left box.rows some-columns in
-        let r = some-rows in
-        omega (arith, a, r)
+    some-cells = grind (arith, nat_tests, mul-le-mul_left, some-columns, some-rows)
 
     pub inner-row : (m : ℕ) → m < box.rows * box.columns → box.top + row_of box.columns m < p.rows
     inner-row m h =
@@ -124,12 +107,9 @@ module _ (p : Grid) (set : ℕ → Bool) (within : (k : ℕ) → set k ≡ true 
 
     pub cropped-size : (blank : ℕ) → length (cropped blank set p).cells ≡ box.rows * box.columns
     unfolding cropped
-    cropped-size blank =
-        length-map (counted 0 (box.rows * box.columns)) (λ m. shown_cell blank set p.cells (unboxed box p.columns m))
-        ∙ counted-length 0 (box.rows * box.columns)
+    cropped-size blank = grind (arith, nat_tests, length-map, counted-length)
 
-    pub cropped-cells : (blank : ℕ) → AreCells p.symbols p.cells → Contains p.symbols blank
-        → AreCells p.symbols (cropped blank set p).cells
+    pub cropped-cells : (blank : ℕ) → AreCells p.symbols p.cells → Contains p.symbols blank → AreCells p.symbols (cropped blank set p).cells
     cropped-cells blank cells has m below =
         let z = cropped-size blank in
         let h : m < box.rows * box.columns = omega (arith, below, z) in
@@ -149,30 +129,11 @@ module _ (p : Grid) (set : ℕ → Bool) (within : (k : ℕ) → set k ≡ true 
       pub board-is : (blank : ℕ) (symbols cells : List ℕ) → symbols ≡ p.symbols → cells ≡ (cropped blank set p).cells
           → made b.rows b.columns symbols cells ≡ cropped blank set p
       unfolding cropped
-      board-is blank symbols cells e f =
-          λ i. record {
-            rows = (frame i).rows;
-            columns = (frame i).columns;
-            symbols = e i;
-            cells = f i;
-          }
+      board-is blank symbols cells e f = grind (arith, nat_tests)
 
 -- a board has columns
 pub wide-grid : (p : Grid) → IsGrid p → 0 < p.columns
-wide-grid p grid =
-    let n : ¬ (p.columns ≡ 0) = λ e. (let s = grid.size in let o = grid.some in
-    let z : p.rows * p.columns ≡ p.rows * 0 = ap (λ w. p.rows * w) e in
-    let y : p.rows * 0 ≡ 0 = omega arith in
-    omega (arith, s, o, z, y)) in
-    omega (arith, n)
+wide-grid p grid = grind (arith, nat_tests)
 
 pub few-columns : (p : Grid) → IsGrid p → p.columns ≤ 64
-few-columns p grid =
-    let n : ¬ (p.rows ≡ 0) = λ e. (let s = grid.size in let o = grid.some in
-    let z : p.rows * p.columns ≡ 0 * p.columns = ap (λ r. r * p.columns) e in
-    let y : 0 * p.columns ≡ 0 = omega arith in
-    omega (arith, s, o, z, y)) in
-    let a : 1 * p.columns ≤ p.rows * p.columns = mul-le-mul_right p.columns (omega (arith, n)) in
-    let s = grid.size in
-    let f = grid.few in
-    omega (arith, a, s, f)
+few-columns p grid = grind (arith, nat_tests, mul-le-mul_right)

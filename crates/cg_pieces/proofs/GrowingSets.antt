@@ -1,9 +1,9 @@
 -- Sets of cells in words that grow by the cells adjacent to them.
-use Rattle.std.proofs.Common.{◌≡◌, ℕ, ◌+◌, ◌-◌, ◌*◌, ◌/◌, ◌%◌, ◌<◌, ◌≤◌, ◌^◌, ◌||◌, ◌⊎◌, inl, inr, Bool, true, refl, ap, sym, ◌∙◌, subst, arith, bit_and, bit_or, w64}
+use Rattle.std.proofs.Common.{◌≡◌, ℕ, ◌+◌, ◌-◌, ◌*◌, ◌/◌, ◌%◌, ◌<◌, ◌≤◌, ◌^◌, ◌⊎◌, inl, inr, Bool, true, refl, ap, sym, ◌∙◌, subst, arith, bit_and, bit_or, w64}
 use Rattle.std.specs.Int.{bit_at}
 use Rattle.std.proofs.Math.Nat.{mod-eq_of_lt}
 use Rattle.std.proofs.lemmas.Bool.{eq-eqb}
-use Rattle.std.proofs.lemmas.Bool.Decides.{eqb_tells, leb_tells}
+use Rattle.std.proofs.lemmas.Bool.Decides.{eqb_tells, leb_tells, nat_tests}
 use Rattle.std.proofs.lemmas.Nat.Bits.{bit_at-lt, bit_at_above, bit_at_and, bit_at_not, bit_at_or}
 use Rattle.cg_moves.proofs.ConnectedLemmas.{or-cases, or-first, or-second}
 use Rattle.cg_moves.proofs.WordBits.{shifted_back, shifted_on, shifted_on_first}
@@ -32,14 +32,7 @@ pub or-right : (a b i : ℕ) → bit_at b i ≡ 1 → bit_at (bit_or a b) i ≡ 
 or-right a b i y = let h = bit_at_or a b i in let x = bit_at-lt a i in omega (arith, h, x, y)
 
 pub or-parts : (a b i : ℕ) → bit_at (bit_or a b) i ≡ 1 → (bit_at a i ≡ 1) ⊎ (bit_at b i ≡ 1)
-or-parts a b i t =
-    let h = bit_at_or a b i in
-    let x = bit_at-lt a i in
-    let y = bit_at-lt b i in
-    elim (eqb_tells (bit_at a i) 1) [
-      | inl e ↦ inl e.1
-      | inr o ↦ let no = o.1 in inr (omega (arith, h, x, y, t, no))
-    ]
+or-parts a b i t = grind (arith, nat_tests, bit_at_or, bit_at-lt, eqb_tells)
 
 -- the words `a << by` and `a >> by`
 abbrev pub moved_on : ℕ → ℕ → ℕ
@@ -67,24 +60,16 @@ bit-below a i fits t = elim (leb_tells 64 i) [
 -- ---- adjacent cells
 
 pub down-next : (w k l : ℕ) → is_below w k l ≡ true → is_next w k l ≡ true
-down-next w k l t =
-    or-first (is_below w k l || is_below w l k) (is_beside w k l || is_beside w l k)
-    (or-first (is_below w k l) (is_below w l k) t)
+down-next w k l t = or-first _ _ (or-first _ _ t)
 
 up-next : (w k l : ℕ) → is_below w l k ≡ true → is_next w k l ≡ true
-up-next w k l t =
-    or-first (is_below w k l || is_below w l k) (is_beside w k l || is_beside w l k)
-    (or-second (is_below w k l) (is_below w l k) t)
+up-next w k l t = or-first _ _ (or-second _ _ t)
 
 pub forth-next : (w k l : ℕ) → is_beside w k l ≡ true → is_next w k l ≡ true
-forth-next w k l t =
-    or-second (is_below w k l || is_below w l k) (is_beside w k l || is_beside w l k)
-    (or-first (is_beside w k l) (is_beside w l k) t)
+forth-next w k l t = or-second _ _ (or-first _ _ t)
 
 back-next : (w k l : ℕ) → is_beside w l k ≡ true → is_next w k l ≡ true
-back-next w k l t =
-    or-second (is_below w k l || is_below w l k) (is_beside w k l || is_beside w l k)
-    (or-second (is_beside w k l) (is_beside w l k) t)
+back-next w k l t = or-second _ _ (or-second _ _ t)
 
 -- ---- the set and what is adjacent to it
 
@@ -108,10 +93,7 @@ module _ (f : Field) (set : ℕ) (is : IsField f) (within : IsWithin set f.cells
 
   -- a row with all 64 cells has none above or below it
   no-below : 64 ≤ f.columns → (k l : ℕ) → bit_at f.cells l ≡ 1 → is_below f.columns k l ≡ true → ⊥
-  no-below many k l o b =
-      let e = below-is f.columns k l b in
-      let few = bit-below f.cells l open_fits o in
-      omega (arith, e, few, many)
+  no-below many k l o b = grind (arith, nat_tests, below-is, bit-below)
 
   module _ (down up : ℕ) (down_first : (i : ℕ) → i < f.columns → bit_at down i ≡ 0)
       (down_others : (i : ℕ) → f.columns ≤ i → i < 64 → bit_at down i ≡ bit_at set (i - f.columns))
@@ -136,11 +118,7 @@ module _ (f : Field) (set : ℕ) (is : IsField f) (within : IsWithin set f.cells
     }
 
     all-down : (k l : ℕ) → bit_at set k ≡ 1 → bit_at f.cells l ≡ 1 → is_below f.columns k l ≡ true → bit_at down l ≡ 1
-    all-down k l s o b =
-        let e = below-is f.columns k l b in
-        let few = bit-below f.cells l open_fits o in
-        let same : l - f.columns ≡ k = omega (arith, e) in
-        down_others l (omega (arith, e)) few ∙ ap (bit_at set) same ∙ s
+    all-down k l s o b = grind (arith, nat_tests, below-is, bit-below)
 
     all-up : (k l : ℕ) → bit_at set k ≡ 1 → is_below f.columns l k ≡ true → bit_at up l ≡ 1
     all-up k l s b = let e = below-is f.columns l k b in up_is l ∙ ap (bit_at set) (sym e) ∙ s
@@ -230,14 +208,7 @@ module _ (f : Field) (set : ℕ) (is : IsField f) (within : IsWithin set f.cells
         (on_others l (omega (arith, e)) few ∙ ap (bit_at set) same ∙ s) (not-one f.first_column l first_fits few none)
 
     all-back : (k l : ℕ) → bit_at set k ≡ 1 → is_beside f.columns l k ≡ true → bit_at back l ≡ 1
-    all-back k l s b =
-        let e = beside-is f.columns l k b in
-        let c = second-column f.columns l k b in
-        let open_k = within k s in
-        let few = bit-below f.cells k open_fits open_k in
-        let none = is.others k open_k (λ z. omega (arith, c, z)) in
-        back_is l ∙ ap (bit_at (bit_and set (other_bits f.first_column))) (sym e)
-        ∙ and-one set (other_bits f.first_column) k s (not-one f.first_column k first_fits few none)
+    all-back k l s b = grind (arith, nat_tests, beside-is, second-column, bit-below, and-one, not-one)
 
     pub row-set : IsNextBy f (is_in_row f.columns) set (bit_and (bit_or set (bit_or forth back)) f.cells)
     row-set = next-by (is_in_row f.columns) (bit_or forth back)

@@ -1,29 +1,15 @@
 -- Sets of cells in words that have grown to all joined cells.
-use Rattle.std.proofs.Common.{◌≡◌, ◌≢◌, ◌↔◌, refl, ℕ, ◌<◌, ◌≤◌, ◌-◌, ◌⊎◌, inl, inr, if◌then◌else◌, ap, sym, ◌∙◌, subst, arith, bit_or}
+use Rattle.std.proofs.Common.{◌≡◌, ◌≢◌, ◌↔◌, refl, ℕ, ◌<◌, ◌-◌, ◌⊎◌, inl, inr, if◌then◌else◌, ap, sym, ◌∙◌, subst, arith}
 use Rattle.std.specs.Int.{bit_at}
 use Rattle.std.proofs.lemmas.Bool.{eqb-true}
-use Rattle.std.proofs.lemmas.Bool.Decides.{eqb_tells}
-use Rattle.std.proofs.lemmas.Nat.{le_or_l}
-use Rattle.std.proofs.lemmas.Nat.Bits.{bit_at-lt, bit_at-zero, bit_at_or, same_from_bits}
+use Rattle.std.proofs.lemmas.Bool.Decides.{eqb_tells, nat_tests}
+use Rattle.std.proofs.lemmas.Nat.Bits.{bit_at-zero}
 use Rattle.cg_moves.specs.Words.{IsWithBit}
 use Rattle.cg_pieces.specs.declared.field.Field.{Field}
 use Rattle.cg_pieces.specs.Cells.Linked.{here, step}
 use Rattle.cg_pieces.specs.Words.{IsGrowing, IsNextSet, IsWithin, JoinedIn}
-use Rattle.cg_pieces.proofs.GrowingSets.{or-left}
-
-within-le : (a b : ℕ) → IsWithin a b → a ≤ b
-within-le a b w =
-    let same : bit_or a b ≡ b = same_from_bits (bit_or a b) b bits in
-    let P : ℕ → Type 0 = λ z. a ≤ z in
-    subst P same (le_or_l a b)
-  where
-    bits : (i : ℕ) → bit_at (bit_or a b) i ≡ bit_at b i
-    bits i = elim (eqb_tells (bit_at a i) 1) [
-      | inl e ↦ or-left a b i e.1 ∙ sym (w i e.1)
-      | inr o ↦
-          let no = o.1 in
-          let h = bit_at_or a b i in let x = bit_at-lt a i in let y = bit_at-lt b i in omega (arith, no, h, x, y)
-    ]
+use Rattle.cg_moves.proofs.SetBits.{within-le}
+use Rattle.cg_pieces.proofs.Sets.{linked-trans}
 
 -- the measure of a set falls as it grows
 pub grows-down : (a b all : ℕ) → IsWithin a b → b ≢ a → IsWithin b all → all - b < all - a
@@ -41,20 +27,13 @@ growing-start f cell set is inside = record {
 }
   where
     only : (k : ℕ) → bit_at set k ≡ 1 → k ≡ cell
-    only k t = elim (eqb_tells k cell) [
-      | inl h ↦ h.1
-      | inr h ↦ let none = is k ∙ ap (λ b. if b then 1 else bit_at 0 k) h.0 ∙ bit_at-zero k in absurd (omega (arith, none, t))
-    ]
-
-linked-on : (f : Field) (k l m : ℕ) → JoinedIn f k l → JoinedIn f l m → JoinedIn f k m
-linked-on f k l m j (here x e) = let P : ℕ → Type 0 = λ z. JoinedIn f k z in subst P e j
-linked-on f k l m j (step x y r x_open y_open next) = step x m (linked-on f k l x j r) x_open y_open next
+    only k t = grind (arith, nat_tests, eqb_tells, bit_at-zero)
 
 pub growing-more : (f : Field) (cell set more : ℕ) → IsGrowing f cell set → IsNextSet f set more → IsGrowing f cell more
 growing-more f cell set more g next = record {
   here = next.grows cell g.here;
   within = next.within;
-  joined = λ k t. let (l, s, j) = next.only k t in linked-on f cell l k (g.joined l s) j;
+  joined = λ k t. let (l, s, j) = next.only k t in linked-trans _ _ cell l k (g.joined l s) j;
 }
 
 -- a set that grows no more, or has all open cells, has all joined cells
@@ -67,9 +46,4 @@ grown f cell set more g next ends k = (all.joined k, go k)
 
     go : (k : ℕ) → JoinedIn f cell k → bit_at more k ≡ 1
     go k (here m e) = let P : ℕ → Type 0 = λ z. bit_at more z ≡ 1 in subst P e all.here
-    go k (step m l r m_open l_open adjacent) =
-        let open_k = eqb-true (bit_at f.cells k) 1 l_open in
-        elim ends [
-          | inl e ↦ next.all m k (ap (λ z. bit_at z m) (sym e) ∙ go m r) open_k adjacent
-          | inr e ↦ ap (λ z. bit_at z k) e ∙ open_k
-        ]
+    go k (step m l r m_open l_open adjacent) = grind (arith, nat_tests, eqb-true, all, go m r)

@@ -2,9 +2,9 @@
 use Rattle.std.proofs.Common.{◌≡◌, refl, ℕ, suc, ◌+◌, ◌-◌, ◌*◌, ◌<◌, ◌≤◌, ◌^◌, inl, inr, ap, sym, ◌∙◌, arith, w64}
 use Rattle.std.specs.Int.{bit_at}
 use Rattle.std.specs.Int.Count.{count_leading_zeros, count_trailing_zeros}
-use Rattle.std.proofs.lemmas.Bool.Decides.{leb_tells}
+use Rattle.std.proofs.lemmas.Bool.Decides.{leb_tells, nat_tests}
 use Rattle.std.proofs.lemmas.Nat.{leading_top}
-use Rattle.std.proofs.lemmas.Nat.Bits.{bit_at-trailing_zeros, bit_at_above, bit_at_cat_high}
+use Rattle.std.proofs.lemmas.Nat.Bits.{bit_at-trailing_zeros, bit_at_above, bit_at_cat_high, bit_at-lt}
 
 pub last-one : (a : ℕ) → 0 < a → a < 2 ^ 64 → bit_at a (63 - count_leading_zeros 64 a) ≡ 1
 last-one a some fits =
@@ -23,6 +23,9 @@ last-last a some fits k t =
       | inl h ↦ let none = bit_at_above a (suc j) k high h.1 in absurd (omega (arith, none, t))
       | inr h ↦ let below = h.1 in omega (arith, e, below)
     ]
+
+pub last-past : (a : ℕ) → 0 < a → a < 2 ^ 64 → (k : ℕ) → 63 - count_leading_zeros 64 a < k → bit_at a k ≡ 0
+last-past a some fits k late = grind (arith, nat_tests, bit_at-lt, last-last)
 
 pub first-one : (a : ℕ) → 0 < a → a < 2 ^ 64 → bit_at a (count_trailing_zeros 64 a) ≡ 1
 first-one a some fits = (bit_at-trailing_zeros w64 a some fits).1

@@ -9,7 +9,6 @@ pub mod NeighbourSets
 pub mod Shown
 pub mod ShownAfter
 pub mod Changed
-pub mod Numbers
 pub mod NeighbourCuts
 pub mod Lines
 pub mod FirstCells
@@ -19,11 +18,9 @@ pub mod GrownSets
 pub mod OpenWords
 pub mod TakenSets
 pub mod Taking
-pub mod ShownWords
 pub mod LastBits
 pub mod RowWords
 pub mod Columns
 pub mod FrameWords
 pub mod CropWords
 pub mod SymbolWords
-pub mod TwoSet

@@ -1,5 +1,6 @@
 -- Cells directly below and beside each other.
-use Rattle.std.proofs.Common.{◌≡◌, ℕ, ◌+◌, ◌-◌, ◌*◌, ◌<◌, ◌==◌, true, ap, sym, ◌∙◌, subst, arith}
+use Rattle.std.proofs.lemmas.Bool.Decides.{nat_tests}
+use Rattle.std.proofs.Common.{◌≡◌, ℕ, ◌+◌, ◌-◌, ◌<◌, ◌==◌, true, ap, sym, ◌∙◌, subst, arith}
 use Rattle.std.proofs.Math.Nat.{mod-lt}
 use Rattle.std.proofs.lemmas.Bool.{eqb-true, eq-eqb}
 use Rattle.cg_dyadic.proofs.Truth.{and-both, and-split}
@@ -8,44 +9,17 @@ use Rattle.cg_pieces.specs.Neighbours.{is_below, is_beside}
 use Rattle.cg_pieces.proofs.Bounds.{cell-of, column-cell, row-cell}
 
 pub below-is : (w k l : ℕ) → is_below w k l ≡ true → l ≡ k + w
-below-is w k l h =
-    let both = and-split (row_of w k + 1 == row_of w l) (column_of w k == column_of w l) h in
-    let r = eqb-true (row_of w k + 1) (row_of w l) both.0 in
-    let c = eqb-true (column_of w k) (column_of w l) both.1 in
-    let a = cell-of w k in
-    let b = cell-of w l in
-    let m : w * (row_of w k + 1) ≡ w * row_of w l = ap (λ z. w * z) r in
-    let x : w * (row_of w k + 1) ≡ w * row_of w k + w = omega arith in
-    omega (arith, a, b, c, m, x)
+below-is w k l h = grind (arith, nat_tests, and-split, eqb-true, cell-of)
 
 pub beside-is : (w k l : ℕ) → is_beside w k l ≡ true → l ≡ k + 1
-beside-is w k l h =
-    let both = and-split (row_of w k == row_of w l) (column_of w k + 1 == column_of w l) h in
-    let r = eqb-true (row_of w k) (row_of w l) both.0 in
-    let c = eqb-true (column_of w k + 1) (column_of w l) both.1 in
-    let a = cell-of w k in
-    let b = cell-of w l in
-    let m : w * row_of w k ≡ w * row_of w l = ap (λ z. w * z) r in
-    omega (arith, a, b, c, m)
+beside-is w k l h = grind (arith, nat_tests, and-split, eqb-true, cell-of)
 
 -- a next cell in the row is there
 pub beside-inside : (w k l : ℕ) → 0 < w → is_beside w k l ≡ true → column_of w k + 1 < w
-beside-inside w k l wide h =
-    let both = and-split (row_of w k == row_of w l) (column_of w k + 1 == column_of w l) h in
-    let c = eqb-true (column_of w k + 1) (column_of w l) both.1 in
-    let a = mod-lt l wide in
-    omega (arith, a, c)
+beside-inside w k l wide h = grind (arith, nat_tests, and-split, eqb-true, mod-lt)
 
 pub is-below : (w k : ℕ) → 0 < w → is_below w k (k + w) ≡ true
-is-below w k wide =
-    let a = cell-of w k in
-    let b = mod-lt k wide in
-    let x : w * (row_of w k + 1) ≡ w * row_of w k + w = omega arith in
-    let e : k + w ≡ cell_at w (row_of w k + 1) (column_of w k) = omega (arith, a, x) in
-    and-both (row_of w k + 1 == row_of w (k + w)) (column_of w k == column_of w (k + w))
-    (eq-eqb (row_of w k + 1) (row_of w (k + w)) (sym (ap (row_of w) e ∙ row-cell w (row_of w k + 1) (column_of w k) b)))
-    (eq-eqb (column_of w k) (column_of w (k + w))
-    (sym (ap (column_of w) e ∙ column-cell w (row_of w k + 1) (column_of w k) b)))
+is-below w k wide = grind (arith, nat_tests, cell-of, mod-lt, and-both, eq-eqb, row-cell, column-cell)
 
 pub is-beside : (w k : ℕ) → column_of w k + 1 < w → is_beside w k (k + 1) ≡ true
 is-beside w k inside =
@@ -58,9 +32,7 @@ is-beside w k inside =
 
 -- the second of two cells in a row is in no first column
 pub second-column : (w k l : ℕ) → is_beside w k l ≡ true → column_of w l ≡ column_of w k + 1
-second-column w k l h =
-    let both = and-split (row_of w k == row_of w l) (column_of w k + 1 == column_of w l) h in
-    sym (eqb-true (column_of w k + 1) (column_of w l) both.1)
+second-column w k l h = grind (arith, nat_tests, and-split, eqb-true)
 
 pub before-beside : (w k : ℕ) → 0 < w → ¬ (column_of w k ≡ 0) → is_beside w (k - 1) k ≡ true
 before-beside w k wide some =

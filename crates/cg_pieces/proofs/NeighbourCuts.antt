@@ -1,5 +1,5 @@
 -- Games on adjacent cells cut boards into their joined sets.
-use Rattle.std.proofs.Common.{◌≡◌, refl, ℕ, ◌*◌, ◌<◌, ◌≤◌, Bool, true, filter, length, ap, sym, ◌∙◌, subst, arith}
+use Rattle.std.proofs.Common.{◌≡◌, refl, ℕ, ◌*◌, ◌<◌, ◌≤◌, Bool, true, filter, length, ap, sym, ◌∙◌, subst, arith, suc, ◌+◌, inl, inr, cond, if◌then◌else◌, List, [], ◌∷◌, slice_index}
 use Rattle.std.specs.Prelude.{count_by}
 use Rattle.cg_moves.specs.CutByMoves.{IsCutByMoves}
 use Rattle.cg_moves.specs.Grid.{Grid}
@@ -15,10 +15,45 @@ use Rattle.cg_pieces.proofs.Changed.{changed-one_set}
 use Rattle.cg_pieces.proofs.Crops.{unplace}
 use Rattle.cg_pieces.proofs.CutLaws.{by-cells}
 use Rattle.cg_pieces.proofs.NeighbourSets.{at-cell, distinct-cells, joined-so, may-parts, neighbours-cell_game, so-joined}
-use Rattle.cg_pieces.proofs.Numbers.{count-is, no-more}
 use Rattle.cg_pieces.proofs.Sets.{legal-joined, open-along}
 use Rattle.cg_pieces.proofs.Shown.{piece-length, self, within}
 use Rattle.cg_pieces.proofs.ShownAfter.{crop-placed, shown-one_set}
+use Rattle.cg_moves.proofs.Middles.{no-more}
+use Rattle.std.proofs.lemmas.List.Sums.{sum_by-cons}
+use Rattle.cg_dyadic.proofs.Truth.{false-from, true-or-not}
+
+abbrev one_if : Bool → ℕ
+one_if b = if b then 1 else 0
+
+-- the number of cells that pass a test is that of their places
+count-places : (test : ℕ → Bool) (cells : List ℕ) (i : ℕ) (at : ℕ → Bool)
+    → ((j : ℕ) → j < length cells → at (i + j) ≡ test (slice_index cells j))
+    → length (filter at (counted i (length cells))) ≡ count_by test cells
+count-places test [] i at same = refl
+count-places test (c ∷ cs) i at same =
+    let rest = count-places test cs (suc i) at
+    (λ j h. let e : suc i + j ≡ i + suc j = omega arith in ap at e ∙ same (suc j) (omega arith)) in
+    let first : at i ≡ test c = (let e : i ≡ i + 0 = omega arith in ap at e ∙ same 0 (omega arith)) in
+    let sum = sum_by-cons (λ (z : ℕ). one_if (test z)) c cs in
+    let others : List ℕ = filter at (counted (suc i) (length cs)) in
+    elim (true-or-not (at i)) [
+      | inl t ↦
+          let a : length (cond (at i) (i ∷ others) others) ≡ suc (length others) =
+          ap (λ b. length (cond b (i ∷ others) others)) t in
+          let b : one_if (test c) ≡ 1 = ap one_if (sym first ∙ t) in
+          omega (arith, a, b, rest, sum)
+      | inr f ↦
+          let n = false-from (at i) f in
+          let a : length (cond (at i) (i ∷ others) others) ≡ length others =
+          ap (λ b. length (cond b (i ∷ others) others)) n in
+          let b : one_if (test c) ≡ 0 = ap one_if (sym first ∙ n) in
+          omega (arith, a, b, rest, sum)
+    ]
+
+pub count-is : (test : ℕ → Bool) (cells : List ℕ)
+    → length (filter (λ k. test (slice_index cells k)) (counted 0 (length cells))) ≡ count_by test cells
+count-is test cells = count-places test cells 0 (λ k. test (slice_index cells k))
+    (λ j h. let e : 0 + j ≡ j = omega arith in ap (λ z. test (slice_index cells z)) e)
 
 module _ (n : Neighbours) (r : GameRules) (laws : IsNeighbours n) (cuts : CutsNeighbours n r) where
   first-open : (p : Grid) (s : ℕ) → In s ((cell_game n).firsts p) → is_piece_cell n p s ≡ true
@@ -60,7 +95,7 @@ module _ (n : Neighbours) (r : GameRules) (laws : IsNeighbours n) (cuts : CutsNe
       crop-placed n laws p s wide some m (in-filter (is_piece_cell n q) m (counted 0 (length q.cells)) i).1 in
       let same : (m : ℕ) (k : ℕ) → set k ≡ true → m ≡ (cell_game n).place p s k → back m ≡ k = λ m k in_k e.
       ap back e ∙ unplace n.blank p set w s t wide k in_k in
-      let h = no-more (cell_game n) back (filter (is_piece_cell n q) (counted 0 (length q.cells)))
+      let h = no-more back (filter (is_piece_cell n q) (counted 0 (length q.cells)))
       (filter (is_piece_cell n p) (counted 0 (length p.cells))) (distinct-cells n laws q (is_piece_cell n q))
       (λ m i.
       let (k, in_k, e) = found m i in

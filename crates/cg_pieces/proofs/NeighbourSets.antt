@@ -1,4 +1,5 @@
 -- Joined sets of adjacent cells: what is computed is what is so.
+use Rattle.std.proofs.lemmas.Bool.Decides.{nat_tests}
 use Rattle.std.proofs.Common.{◌≡◌, refl, ℕ, zero, suc, ◌<◌, ◌≤◌, ◌&&◌, ◌||◌, ◌⊎◌, inl, inr, Bool, true, cond, not, IsTrue, nat_le, List, [], ◌∷◌, filter, length, slice_index, sym, subst, arith}
 use Rattle.std.specs.List.{flat_map, list_all, list_any}
 use Rattle.std.proofs.lemmas.Bool.{le-leb, leb-true}
@@ -22,12 +23,7 @@ pub swap-or : (a b : Bool) → IsTrue (a || b) → IsTrue (b || a)
 swap-or a b h = elim (or-cases a b h) [ inl x ↦ or-second b a x | inr y ↦ or-first b a y ]
 
 pub next-sym : (w k l : ℕ) → is_next w k l ≡ true → is_next w l k ≡ true
-next-sym w k l h = elim (or-cases (is_below w k l || is_below w l k) (is_beside w k l || is_beside w l k) h) [
-  | inl x ↦ or-first (is_below w l k || is_below w k l) (is_beside w l k || is_beside w k l)
-      (swap-or (is_below w k l) (is_below w l k) x)
-  | inr y ↦ or-second (is_below w l k || is_below w k l) (is_beside w l k || is_beside w k l)
-      (swap-or (is_beside w k l) (is_beside w l k) y)
-]
+next-sym w k l h = grind (arith, nat_tests, or-cases, or-first, swap-or, or-second)
 
 -- ---- tests of lists
 
@@ -97,8 +93,7 @@ module _ (n : Neighbours) (laws : IsNeighbours n) where
 
   pub joined-so : (p : Grid) (k l : ℕ) → are_joined n p k l ≡ true → Joined (cell_game n) p k l
   unfolding are_joined
-  joined-so p k l h = connected-closed (Joined (cell_game n) p k) (links n p)
-      (λ e m.
+  joined-so p k l h = connected-closed (Joined (cell_game n) p k) (links n p) (λ e m.
       let t = in-links p e m in
       let both = and-split (is_piece_cell n p e.one && is_piece_cell n p e.other) (is_next p.columns e.one e.other) t in
       let cells = and-split (is_piece_cell n p e.one) (is_piece_cell n p e.other) both.0 in (

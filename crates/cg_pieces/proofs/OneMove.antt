@@ -1,4 +1,5 @@
 -- The pieces of a board after a move in one set.
+use Rattle.std.proofs.lemmas.Bool.Decides.{nat_tests}
 use Rattle.std.proofs.Common.{◌≡◌, refl, ℕ, ◌⊎◌, inl, inr, true, IsTrue, List, [], ◌∷◌, ◌++◌, map, ap, sym, ◌∙◌, subst, arith}
 use Rattle.cg_dyadic.proofs.Truth.{true-or-not}
 use Rattle.cg_moves.specs.Grid.{Grid}
@@ -6,18 +7,17 @@ use Rattle.cg_moves.specs.Reordered.{IsReordered}
 use Rattle.cg_moves.specs.Rules.{In}
 use Rattle.cg_form.proofs.Firsts.{in-append, in-append_left, in-append_right}
 use Rattle.cg_moves.proofs.Members.{in-map, in_mapped, map-agree}
-use Rattle.cg_moves.proofs.Totals.{map-append}
 use Rattle.cg_pieces.specs.Cells.{CellGame, Distinct, First, IsCellGame, Joined, OneSet, pieces_of}
 use Rattle.cg_pieces.specs.Cells.Linked.{here}
-use Rattle.cg_pieces.proofs.Orders.{distinct-append, distinct-apart, distinct-left, distinct-map, distinct-middle, distinct-right, in_middle, middle-in, reordered-map, same-members}
+use Rattle.cg_pieces.proofs.Orders.{distinct-append, distinct-apart, distinct-left, distinct-map, distinct-middle, distinct-right, reordered-map, same-members}
 use Rattle.cg_pieces.proofs.Sets.{apart-first, apart-piece, first-apart, first-placed, joined-sym, place-same, placed-first, placed-piece}
+use Rattle.std.proofs.lemmas.List.{map-append}
+use Rattle.cg_moves.proofs.Middles.{in_middle, middle-in}
 
 map-twice : {Y : Type 0} (f : ℕ → Y) (h : ℕ → Y) (back : ℕ → ℕ) (ks : List ℕ)
     → ((m : ℕ) → In m ks → f (back m) ≡ h m) → map f (map back ks) ≡ map h ks
 map-twice f h back [] agree = refl
-map-twice f h back (k ∷ ks) agree =
-    ap (λ z. z ∷ map f (map back ks)) (agree k (inl refl))
-    ∙ ap (λ z. h k ∷ z) (map-twice f h back ks (λ m i. agree m (inr i)))
+map-twice f h back (k ∷ ks) agree = grind (arith, nat_tests, map-twice f h back ks)
 
 module _ (g : CellGame) (laws : IsCellGame g) (p : Grid) (before : List ℕ) (s : ℕ) (behind : List ℕ) (after small : Grid)
     (cut : g.firsts p ≡ before ++ (s ∷ behind)) (o : OneSet g p s after small) where
@@ -34,8 +34,7 @@ module _ (g : CellGame) (laws : IsCellGame g) (p : Grid) (before : List ℕ) (s 
     joined : Joined g p s k
     is : m ≡ g.place p s k
 
-  found-is : (m : ℕ) (d : IsTrue (g.is_open small m) ⊎ (¬ IsTrue (g.is_open small m))) → g.is_open small m ≡ true
-      → Found m (found m d)
+  found-is : (m : ℕ) (d : IsTrue (g.is_open small m) ⊎ (¬ IsTrue (g.is_open small m))) → g.is_open small m ≡ true → Found m (found m d)
   unfolding found
   found-is m (inl t) m_open = record { joined = (o.placed m t).1; is = (o.placed m t).2 }
   found-is m (inr f) m_open = absurd (f m_open)
@@ -134,8 +133,7 @@ module _ (g : CellGame) (laws : IsCellGame g) (p : Grid) (before : List ℕ) (s 
 
   -- ---- their boards
 
-  same-boards : map (g.piece after) whole
-      ≡ map (g.piece p) before ++ (pieces_of g small ++ map (g.piece p) behind)
+  same-boards : map (g.piece after) whole ≡ map (g.piece p) before ++ (pieces_of g small ++ map (g.piece p) behind)
   same-boards =
       let a : map (g.piece after) before ≡ map (g.piece p) before = map-agree (g.piece after) (g.piece p) before
       (λ k i. apart-piece g laws p s after small o k (others-apart k (in-append_left k before behind i))) in
@@ -149,8 +147,7 @@ module _ (g : CellGame) (laws : IsCellGame g) (p : Grid) (before : List ℕ) (s 
       ∙ ap (λ z. map (g.piece p) before ++ z) (map-append (g.piece after) inner behind
       ∙ ap (λ z. z ++ map (g.piece after) behind) c ∙ ap (λ z. pieces_of g small ++ z) b)
 
-  pub pieces-after : IsReordered (pieces_of g after)
-      (map (g.piece p) before ++ (pieces_of g small ++ map (g.piece p) behind))
+  pub pieces-after : IsReordered (pieces_of g after) (map (g.piece p) before ++ (pieces_of g small ++ map (g.piece p) behind))
   pieces-after =
       let P : List Grid → Type 0 = λ z. IsReordered (pieces_of g after) z in
       subst P same-boards

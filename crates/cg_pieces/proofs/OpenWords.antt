@@ -1,5 +1,6 @@
 -- The cells that form pieces, in a word.
-use Rattle.std.proofs.Common.{◌≡◌, refl, ℕ, ◌%◌, ◌==◌, ◌&&◌, Bool, true, false, nat_lt, if◌then◌else◌, length, ap, sym, ◌∙◌, arith}
+use Rattle.std.proofs.lemmas.Bool.Decides.{nat_tests}
+use Rattle.std.proofs.Common.{◌≡◌, ℕ, ◌%◌, ◌==◌, ◌&&◌, Bool, true, false, nat_lt, if◌then◌else◌, length, ap, sym, ◌∙◌, arith}
 use Rattle.std.specs.Int.{bit_at}
 use Rattle.std.proofs.lemmas.Bool.{eq-eqb, eqb-true, lt-ltb}
 use Rattle.cg_dyadic.proofs.Truth.{and-both, and-split, false-from}
@@ -15,14 +16,13 @@ abbrev one : Bool → ℕ
 one b = if b then 1 else 0
 
 pub marks-test : (word : ℕ) (test : ℕ → Bool) → Marks word test → (k : ℕ) → bit_at word k ≡ 1 → test k ≡ true
-marks-test word test are k t = go (test k) (sym (are k) ∙ t)
-  where
-    go : (b : Bool) → one b ≡ 1 → b ≡ true
-    go true e = refl
-    go false e = absurd (omega (arith, e))
+marks-test word test are k t = grind (arith, nat_tests)
 
 pub test-marks : (word : ℕ) (test : ℕ → Bool) → Marks word test → (k : ℕ) → test k ≡ true → bit_at word k ≡ 1
 test-marks word test are k t = are k ∙ ap one t
+
+pub unmarked : (word : ℕ) (test : ℕ → Bool) → Marks word test → (k : ℕ) → bit_at word k ≡ 0 → test k ≡ false
+unmarked word test are k none = false-from (test k) (λ t. let one = test-marks word test are k t in omega (arith, one, none))
 
 pub test-off : (word : ℕ) (test : ℕ → Bool) → Marks word test → (k : ℕ) → ¬ (test k ≡ true) → bit_at word k ≡ 0
 test-off word test are k f = are k ∙ ap one (false-from (test k) f)
@@ -40,8 +40,7 @@ module _ (n : Neighbours) (laws : IsNeighbours n) (p : Grid) where
           test-marks f.first_column (λ i. nat_lt i (length p.cells) && (i % p.columns == 0)) first k
           (and-both (nat_lt k (length p.cells)) (k % p.columns == 0) (lt-ltb k (length p.cells) below)
           (eq-eqb (k % p.columns) 0 (ap (λ w. k % w) (sym columns) ∙ z)));
-      others = λ k t some.
-          test-off f.first_column (λ i. nat_lt i (length p.cells) && (i % p.columns == 0)) first k
+      others = λ k t some. test-off f.first_column (λ i. nat_lt i (length p.cells) && (i % p.columns == 0)) first k
           (λ b. some (ap (λ w. k % w) columns
           ∙ eqb-true (k % p.columns) 0 (and-split (nat_lt k (length p.cells)) (k % p.columns == 0) b).1));
     };

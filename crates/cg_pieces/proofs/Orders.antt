@@ -1,43 +1,12 @@
 -- Lists of cells without repetition: with the same members they are each other in another order.
-use Rattle.std.proofs.Common.{◌≡◌, refl, ℕ, ◌⊎◌, inl, inr, ap, sym, ◌∙◌, subst, List, [], ◌∷◌, ◌++◌, map}
+use Rattle.std.proofs.Common.{◌≡◌, refl, ℕ, inl, inr, ap, sym, ◌∙◌, subst, List, [], ◌∷◌, ◌++◌, map}
 use Rattle.cg_moves.specs.Reordered.{IsReordered}
 use Rattle.cg_moves.specs.Rules.{In}
 use Rattle.cg_form.proofs.Firsts.{in-append, in-append_left, in-append_right}
 use Rattle.cg_moves.proofs.Members.{in-map}
-use Rattle.cg_moves.proofs.Totals.{map-append}
 use Rattle.cg_pieces.specs.Cells.{CellGame, Distinct}
-
--- a member in the middle
-pub record Middle (k : ℕ) (ks : List ℕ) : Type 0 where
-  pub before : List ℕ
-  pub behind : List ℕ
-  pub cut : ks ≡ before ++ (k ∷ behind)
-
-pub in-middle : (k : ℕ) (ks : List ℕ) → In k ks → Middle k ks
-in-middle k [] m = absurd m
-in-middle k (l ∷ ks) (inl e) = record {
-  before = [];
-  behind = ks;
-  cut = ap (λ z. z ∷ ks) (sym e);
-}
-in-middle k (l ∷ ks) (inr m) = let w = in-middle k ks m in record {
-  before = l ∷ w.before;
-  behind = w.behind;
-  cut = ap (λ z. l ∷ z) w.cut;
-}
-
-pub middle-in : (k l : ℕ) (us vs : List ℕ) → In k (us ++ (l ∷ vs)) → (k ≡ l) ⊎ In k (us ++ vs)
-middle-in k l us vs m = elim (in-append k us (l ∷ vs) m) [
-  | inl i ↦ inr (in-append_left k us vs i)
-  | inr (inl e) ↦ inl e
-  | inr (inr i) ↦ inr (in-append_right k us vs i)
-]
-
-pub in_middle : (k l : ℕ) (us vs : List ℕ) → In k (us ++ vs) → In k (us ++ (l ∷ vs))
-in_middle k l us vs m = elim (in-append k us vs m) [
-  | inl i ↦ in-append_left k us (l ∷ vs) i
-  | inr i ↦ in-append_right k us (l ∷ vs) (inr i)
-]
+use Rattle.std.proofs.lemmas.List.{map-append}
+use Rattle.cg_moves.proofs.Middles.{in-middle, in_middle, middle-in}
 
 module _ (g : CellGame) where
   pub distinct-middle : (us vs : List ℕ) (k : ℕ) → Distinct g (us ++ (k ∷ vs)) → (¬ In k (us ++ vs)) × Distinct g (us ++ vs)
@@ -52,8 +21,7 @@ module _ (g : CellGame) where
         (λ m. d.0 (in_middle u k us vs m), h.1),
       )
 
-  pub distinct-append : (us vs : List ℕ) → Distinct g us → Distinct g vs → ((k : ℕ) → In k us → In k vs → ⊥)
-      → Distinct g (us ++ vs)
+  pub distinct-append : (us vs : List ℕ) → Distinct g us → Distinct g vs → ((k : ℕ) → In k us → In k vs → ⊥) → Distinct g (us ++ vs)
   distinct-append [] vs d e apart = e
   distinct-append (u ∷ us) vs d e apart = (
     λ m. elim (in-append u us vs m) [ inl i ↦ d.0 i | inr i ↦ apart u (inl refl) i ],
@@ -74,8 +42,7 @@ module _ (g : CellGame) where
       let P : ℕ → Type 0 = λ z. In z vs in d.0 (in-append_right u us vs (subst P e j))
   distinct-apart (u ∷ us) vs d k (inr i) j = distinct-apart us vs d.1 k i j
 
-  pub distinct-map : (f : ℕ → ℕ) (ks : List ℕ) → Distinct g ks
-      → ((k l : ℕ) → In k ks → In l ks → f k ≡ f l → k ≡ l) → Distinct g (map f ks)
+  pub distinct-map : (f : ℕ → ℕ) (ks : List ℕ) → Distinct g ks → ((k l : ℕ) → In k ks → In l ks → f k ≡ f l → k ≡ l) → Distinct g (map f ks)
   distinct-map f [] d h = tt
   distinct-map f (k ∷ ks) d h = (
     λ m. let (l, i, e) = in-map f (f k) ks m in

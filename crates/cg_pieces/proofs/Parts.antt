@@ -1,5 +1,6 @@
 -- The board of a part of a set, made from the board of the set.
-use Rattle.std.proofs.Common.{◌≡◌, ℕ, ◌+◌, ◌*◌, ◌<◌, inl, inr, Bool, true, if◌then◌else◌, List, [], filter, length, map, slice_index, ap, sym, ◌∙◌, subst, arith}
+use Rattle.std.proofs.lemmas.Bool.Decides.{nat_tests}
+use Rattle.std.proofs.Common.{◌≡◌, ℕ, ◌+◌, ◌*◌, ◌<◌, inl, inr, Bool, true, List, [], filter, length, map, slice_index, ap, sym, ◌∙◌, subst, arith}
 use Rattle.cg_dyadic.proofs.Truth.{false-from, true-or-not}
 use Rattle.cg_moves.specs.Grid.{Grid, with_cells}
 use Rattle.cg_moves.specs.Rising.{counted}
@@ -10,12 +11,7 @@ use Rattle.cg_pieces.proofs.Crops.{column-low, inner-column, lines-moved, place-
 
 shown-same : (blank : ℕ) (set there : ℕ → Bool) (xs ys : List ℕ) (k m : ℕ) → there m ≡ set k
     → (set k ≡ true → slice_index ys m ≡ slice_index xs k) → shown_cell blank there ys m ≡ shown_cell blank set xs k
-shown-same blank set there xs ys k m e same = elim (true-or-not (set k)) [
-  | inl t ↦ ap (λ b. if b then slice_index ys m else blank) (e ∙ t) ∙ same t
-      ∙ sym (ap (λ b. if b then slice_index xs k else blank) t)
-  | inr f ↦ let n = false-from (set k) f in
-      ap (λ b. if b then slice_index ys m else blank) (e ∙ n) ∙ sym (ap (λ b. if b then slice_index xs k else blank) n)
-]
+shown-same blank set there xs ys k m e same = grind (arith, nat_tests, true-or-not, false-from)
 
 -- the same set with the same symbols
 pub crop-same : (blank : ℕ) (p : Grid) (cells : List ℕ) (set there : ℕ → Bool) → length cells ≡ length p.cells

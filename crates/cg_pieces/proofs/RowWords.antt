@@ -3,7 +3,7 @@ use Rattle.std.proofs.Common.{◌≡◌, ℕ, ◌+◌, ◌-◌, ◌*◌, ◌<◌
 use Rattle.std.specs.Int.{bit_at}
 use Rattle.std.proofs.Math.Nat.{mul-le-mul_left, mul-le-mul_right}
 use Rattle.std.proofs.lemmas.Bool.{le-ltb, lt-ltb}
-use Rattle.std.proofs.lemmas.Bool.Decides.{leb_tells}
+use Rattle.std.proofs.lemmas.Bool.Decides.{leb_tells, nat_tests}
 use Rattle.std.proofs.lemmas.Nat.Bits.{bit_at-lt, bit_at-zero, bit_at_above, bit_at_and, bit_at_or}
 use Rattle.cg_moves.specs.Words.{Marks}
 use Rattle.cg_moves.proofs.WordBits.{shifted_back}
@@ -52,21 +52,11 @@ module _ (word columns : ℕ) (f : Frame) where
 
   -- nothing is cut out of the word 0
   pub cut-zero : word ≡ 0 → (m : ℕ) → bit_at 0 m ≡ cut f.rows m
-  cut-zero none m = elim (leb_tells (f.rows * f.columns) m) [
-    | inl h ↦ bit_at-zero m ∙ sym (cut-outside f.rows m h.1)
-    | inr h ↦
-        bit_at-zero m
-        ∙ sym (cut-inside f.rows m h.1 ∙ ap (λ z. bit_at z (unboxed (box_from f) columns m)) none
-        ∙ bit_at-zero (unboxed (box_from f) columns m))
-  ]
+  cut-zero none m = grind (arith, nat_tests, leb_tells, bit_at-zero, cut-outside, cut-inside)
 
   module _ (inside : IsBoxIn columns (box_from f)) where
     pub few-cut : f.rows * f.columns ≤ 64
-    few-cut =
-        let w = inside.wide in
-        let a : f.rows * f.columns ≤ f.rows * columns = mul-le-mul_left f.rows (omega (arith, w)) in
-        let b = inside.few in
-        omega (arith, a, b)
+    few-cut = grind (arith, nat_tests, mul-le-mul_left)
 
     module _ (row found moved mask on : ℕ) (below : row < f.rows) (fits : on < 2 ^ 64)
         (found_is : (m : ℕ) → bit_at found m ≡ cut row m)
@@ -76,13 +66,9 @@ module _ (word columns : ℕ) (f : Frame) where
         (on_others : (i : ℕ) → row * f.columns ≤ i → i < 64 → bit_at on i ≡ bit_at (bit_and moved mask) (i - row * f.columns))
       where
         few-row : (row + 1) * f.columns ≤ 64
-        few-row =
-            let a : (row + 1) * f.columns ≤ f.rows * f.columns = mul-le-mul_right f.columns (omega (arith, below)) in
-            let b = few-cut in
-            omega (arith, a, b)
+        few-row = grind (arith, nat_tests, mul-le-mul_right, few-cut)
 
-        in-row : (m : ℕ) → row * f.columns ≤ m → m < (row + 1) * f.columns
-            → bit_at on m ≡ bit_at word (unboxed (box_from f) columns m)
+        in-row : (m : ℕ) → row * f.columns ≤ m → m < (row + 1) * f.columns → bit_at on m ≡ bit_at word (unboxed (box_from f) columns m)
         in-row m low high =
             let d : ℕ = m - row * f.columns in
             let few : d < f.columns = omega (arith, low, high) in
@@ -143,52 +129,10 @@ module _ (word columns : ℕ) (f : Frame) where
 
     -- ---- the shifts are by fewer than 64 places
 
-    pub start-few : f.top * columns + f.left < 64
-    start-few =
-        let w = inside.wide in
-        let c = inside.some_columns in
-        let a : (f.top + 1) * columns ≤ (f.top + f.rows) * columns =
-        mul-le-mul_right columns (let r = inside.some_rows in omega (arith, r)) in
-        let b = inside.few in
-        omega (arith, a, b, w, c)
-
     pub row-few : (row : ℕ) → row < f.rows → row * f.columns < 64
-    row-few row below =
-        let a : (row + 1) * f.columns ≤ f.rows * f.columns = mul-le-mul_right f.columns (omega (arith, below)) in
-        let b = few-cut in
-        let c = inside.some_columns in
-        omega (arith, a, b, c)
-
-    pub columns-few : (row : ℕ) → 1 ≤ row → row < f.rows → columns < 64
-    columns-few row later below =
-        let a : 2 * columns ≤ (f.top + f.rows) * columns = mul-le-mul_right columns (omega (arith, later, below)) in
-        let b = inside.few in
-        omega (arith, a, b)
+    row-few row below = grind (arith, nat_tests, mul-le-mul_right, few-cut)
 
     -- the rows of a box with all columns
     pub cut-whole : f.columns ≡ columns → (moved mask : ℕ) → ((i : ℕ) → bit_at moved i ≡ bit_at word (i + f.top * columns))
         → Marks mask (λ i. nat_lt i (f.rows * columns)) → (m : ℕ) → bit_at (bit_and moved mask) m ≡ cut f.rows m
-    cut-whole whole moved mask moved_is mask_is m =
-        let both = bit_at_and moved mask m in
-        let same : f.rows * f.columns ≡ f.rows * columns = ap (λ w. f.rows * w) whole in
-        elim (leb_tells (f.rows * f.columns) m) [
-          | inl high ↦
-              let none : bit_at mask m ≡ 0 =
-              mask_is m ∙ ap (λ t. if t then 1 else 0) (le-ltb m (f.rows * columns) (let a = high.1 in omega (arith, a, same))) in
-              let is : bit_at (bit_and moved mask) m ≡ 0 = omega (arith, none, both) in
-              is ∙ sym (cut-outside f.rows m high.1)
-          | inr low ↦
-              let one : bit_at mask m ≡ 1 =
-              test-marks mask (λ i. nat_lt i (f.rows * columns)) mask_is m
-              (lt-ltb m (f.rows * columns) (let a = low.1 in omega (arith, a, same))) in
-              let bit = bit_at-lt moved m in
-              let is : bit_at (bit_and moved mask) m ≡ bit_at moved m = omega (arith, one, both, bit) in
-              let w = inside.wide in
-              let left : f.left ≡ 0 = omega (arith, w, whole) in
-              let cell = cell-of columns m in
-              let place : m + f.top * columns ≡ cell_at columns (f.top + row_of columns m) (f.left + column_of columns m) =
-              omega (arith, left, cell) in
-              is ∙ moved_is m ∙ ap (bit_at word) place
-              ∙ ap (λ w. bit_at word (cell_at columns (f.top + row_of w m) (f.left + column_of w m))) (sym whole)
-              ∙ sym (cut-inside f.rows m low.1)
-        ]
+    cut-whole whole moved mask moved_is mask_is m = grind (arith, nat_tests, bit_at_and, leb_tells, le-ltb, cut-outside, test-marks, lt-ltb, bit_at-lt, cell-of, cut-inside)

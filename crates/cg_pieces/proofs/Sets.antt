@@ -1,16 +1,27 @@
 -- Sets of joined cells, before and after a move in one of them.
-use Rattle.std.proofs.Common.{◌≡◌, refl, ℕ, ◌≤◌, true, ap, sym, ◌∙◌, subst, arith}
+use Rattle.std.proofs.lemmas.Bool.Decides.{nat_tests}
+use Rattle.std.proofs.Common.{◌≡◌, refl, ℕ, ◌≤◌, true, ap, sym, ◌∙◌, subst, arith, Bool}
 use Rattle.cg_moves.specs.declared.player.Player.{Player}
 use Rattle.cg_moves.specs.Grid.{Grid}
-use Rattle.cg_pieces.specs.Cells.{CellGame, First, IsCellGame, Joined, OneSet}
+use Rattle.cg_pieces.specs.Cells.{CellGame, First, IsCellGame, Joined, OneSet, Linked}
 use Rattle.cg_pieces.specs.Cells.Linked.{here, step}
+
+pub linked-trans : (is_open : ℕ → Bool) (next : ℕ → ℕ → Bool) (k l m : ℕ) → Linked is_open next k l → Linked is_open next l m → Linked is_open next k m
+linked-trans is_open next k l m a (here n e) = subst (λ (z : ℕ). Linked is_open next k z) e a
+linked-trans is_open next k l m a (step x n b x_open n_open t) = step x n (linked-trans is_open next k l x a b) x_open n_open t
+
+-- where more cells are open and adjacent
+pub linked-along : (is_open more : ℕ → Bool) (next also : ℕ → ℕ → Bool) → ((k : ℕ) → is_open k ≡ true → more k ≡ true)
+    → ((k l : ℕ) → next k l ≡ true → also k l ≡ true) → (k l : ℕ) → Linked is_open next k l → Linked more also k l
+linked-along is_open more next also f a k l (here n e) = here n e
+linked-along is_open more next also f a k l (step x n b x_open n_open t) =
+    step x n (linked-along is_open more next also f a k x b) (f x x_open) (f n n_open) (a x n t)
 
 module _ (g : CellGame) (laws : IsCellGame g) where
   -- ---- to be in one set is an equivalence
 
   pub joined-trans : (p : Grid) (k l m : ℕ) → Joined g p k l → Joined g p l m → Joined g p k m
-  joined-trans p k l m a (here n e) = let P : ℕ → Type 0 = Joined g p k in subst P e a
-  joined-trans p k l m a (step x n b x_open n_open next) = step x n (joined-trans p k l x a b) x_open n_open next
+  joined-trans p k l m = linked-trans (g.is_open p) (g.adjacent p) k l m
 
   pub joined-sym : (p : Grid) (k l : ℕ) → Joined g p k l → Joined g p l k
   joined-sym p k l (here n e) = here k (sym e)
@@ -32,9 +43,8 @@ module _ (g : CellGame) (laws : IsCellGame g) where
     -- ---- outside the set
 
     pub joined-before : (k l : ℕ) → Joined g after k l → Joined g p k l
-    joined-before k l (here n e) = here n e
-    joined-before k l (step x n b x_open n_open next) =
-        step x n (joined-before k x b) (o.fewer x x_open) (o.fewer n n_open) (sym (o.adjacent x n) ∙ next)
+    joined-before = linked-along (g.is_open after) (g.is_open p) (g.adjacent after) (g.adjacent p) o.fewer
+        (λ x n t. sym (o.adjacent x n) ∙ t)
 
     pub stays-apart : (k l : ℕ) → ¬ Joined g p s k → Joined g p k l → ¬ Joined g p s l
     stays-apart k l out j in_set = out (joined-trans p s l k in_set (joined-sym p k l j))
@@ -54,8 +64,7 @@ module _ (g : CellGame) (laws : IsCellGame g) where
           player = f.player;
           one = f.one;
           other = f.other;
-          legal = sym (o.apart_legal f.player f.one f.other (stays-apart k f.one out one) (stays-apart k f.other out other))
-              ∙ f.legal;
+          legal = sym (o.apart_legal f.player f.one f.other (stays-apart k f.one out one) (stays-apart k f.other out other)) ∙ f.legal;
           joined = one;
         }
 
@@ -67,8 +76,7 @@ module _ (g : CellGame) (laws : IsCellGame g) where
           player = f.player;
           one = f.one;
           other = f.other;
-          legal = o.apart_legal f.player f.one f.other (stays-apart k f.one out f.joined) (stays-apart k f.other out other)
-              ∙ f.legal;
+          legal = o.apart_legal f.player f.one f.other (stays-apart k f.one out f.joined) (stays-apart k f.other out other) ∙ f.legal;
           joined = joined-apart k f.one out f.joined;
         }
 
@@ -81,10 +89,7 @@ module _ (g : CellGame) (laws : IsCellGame g) where
     put = g.place p s
 
     pub place-same : (k l : ℕ) → Joined g p s k → Joined g p s l → put k ≡ put l → k ≡ l
-    place-same k l j_k j_l e =
-        let a : k ≤ l = (o.place_order k l j_k j_l).1 (omega (arith, e)) in
-        let b : l ≤ k = (o.place_order l k j_l j_k).1 (omega (arith, e)) in
-        omega arith
+    place-same k l j_k j_l e = grind (arith, nat_tests)
 
     in_set : (k l : ℕ) → Joined g p s k → Joined g after k l → Joined g p s l
     in_set k l j_k j = joined-trans p s k l j_k (joined-before k l j)

@@ -1,5 +1,5 @@
 -- The board of a joined set shows the set, before and after a move in it.
-use Rattle.std.proofs.Common.{◌≡◌, refl, ℕ, zero, suc, ◌+◌, ◌-◌, ◌*◌, ◌<◌, ◌≤◌, ◌==◌, ◌&&◌, ◌||◌, ◌⊎◌, ◌↔◌, inl, inr, Bool, true, length, map, ap, sym, ◌∙◌, subst, arith}
+use Rattle.std.proofs.Common.{◌≡◌, refl, ℕ, ◌+◌, ◌-◌, ◌*◌, ◌<◌, ◌≤◌, ◌==◌, ◌&&◌, ◌||◌, ◌⊎◌, ◌↔◌, inl, inr, Bool, true, length, ap, sym, ◌∙◌, subst, arith}
 use Rattle.std.proofs.Math.Nat.{mod-lt, mul-le-mul_left}
 use Rattle.std.proofs.lemmas.Bool.{eqb-true, eq-eqb}
 use Rattle.cg_form.proofs.Cut.{same_when}
@@ -13,43 +13,33 @@ use Rattle.cg_pieces.proofs.Bounds.{cell-of, set-bounds}
 use Rattle.cg_pieces.proofs.Crops.{column-low, place-column, place-row, row-low}
 use Rattle.cg_pieces.proofs.NeighbourSets.{joined-so, neighbours-cell_game, piece-cell-below, so-joined}
 use Rattle.cg_pieces.proofs.Sets.{open-along}
+use Rattle.std.proofs.lemmas.List.{length-map}
+use Rattle.cg_moves.proofs.Counted.{counted-length, same-or-not}
+use Rattle.std.proofs.lemmas.Bool.Decides.{leb_tells, nat_tests}
 
 -- ---- places in rows and columns
 
 -- lines that are moved by as many lines keep whether one follows another
 moved-equal : (a b t : ℕ) → t ≤ a → t ≤ b → (a - t == b - t) ≡ (a == b)
-moved-equal a b t la lb = same_when (a - t == b - t) (a == b)
-    (λ h. let e = eqb-true (a - t) (b - t) h in eq-eqb a b (omega (arith, e)))
-    (λ h. let e = eqb-true a b h in eq-eqb (a - t) (b - t) (omega (arith, e)))
+moved-equal a b t la lb = grind (arith, nat_tests, same_when, eqb-true, eq-eqb)
 
 moved-next : (a b t : ℕ) → t ≤ a → t ≤ b → ((a - t) + 1 == b - t) ≡ (a + 1 == b)
-moved-next a b t la lb = same_when ((a - t) + 1 == b - t) (a + 1 == b)
-    (λ h. let e = eqb-true ((a - t) + 1) (b - t) h in eq-eqb (a + 1) b (omega (arith, e)))
-    (λ h. let e = eqb-true (a + 1) b h in eq-eqb ((a - t) + 1) (b - t) (omega (arith, e)))
+moved-next a b t la lb = grind (arith, nat_tests, same_when, eqb-true, eq-eqb)
 
 -- the order of cells is that of their rows, and in a row that of their columns
 order-by-lines : (w a b c d : ℕ) → b < w → d < w → (cell_at w a b ≤ cell_at w c d) → (a < c) ⊎ ((a ≡ c) × (b ≤ d))
-order-by-lines w a b c d hb hd h = elim (compared a c) [
-  | inl l ↦ inl l
-  | inr (inl e) ↦
-      let P : ℕ → Type 0 = λ z. cell_at w a b ≤ cell_at w z d in
-      let k : cell_at w a b ≤ cell_at w a d = subst P (sym e) h in inr (e, omega arith)
-  | inr (inr g) ↦ let m : w * (c + 1) ≤ w * a = mul-le-mul_left w (omega arith) in
-      let x : w * (c + 1) ≡ w * c + w = times-next w c in absurd (omega (arith, m, x))
+order-by-lines w a b c d hb hd h = elim (leb_tells c a) [
+  | inr l ↦ inl l.1
+  | inl k ↦ elim (same-or-not a c) [
+    | inl e ↦
+        let P : ℕ → Type 0 = λ z. cell_at w a b ≤ cell_at w z d in
+        let l : cell_at w a b ≤ cell_at w a d = subst P (sym e) h in inr (e, omega arith)
+    | inr other ↦
+        let m : w * (c + 1) ≤ w * a = mul-le-mul_left w (omega (arith, k.1, other)) in
+        let x : w * (c + 1) ≡ w * c + w = omega arith in
+        absurd (omega (arith, m, x, h))
+  ]
 ]
-  where
-    compared : (a c : ℕ) → (a < c) ⊎ ((a ≡ c) ⊎ (c < a))
-    compared zero zero = inr (inl refl)
-    compared zero (suc c) = inl (omega arith)
-    compared (suc a) zero = inr (inr (omega arith))
-    compared (suc a) (suc c) = elim (compared a c) [
-      | inl h ↦ inl (omega arith)
-      | inr (inl e) ↦ inr (inl (ap suc e))
-      | inr (inr h) ↦ inr (inr (omega arith))
-    ]
-
-    times-next : (w c : ℕ) → w * (c + 1) ≡ w * c + w
-    times-next w c = omega arith
 
 lines-order : (w a b c d : ℕ) → b < w → (a < c) ⊎ ((a ≡ c) × (b ≤ d)) → cell_at w a b ≤ cell_at w c d
 lines-order w a b c d hb (inl l) =
@@ -58,10 +48,6 @@ lines-order w a b c d hb (inl l) =
     omega (arith, m, x)
 lines-order w a b c d hb (inr (e, l)) =
     let P : ℕ → Type 0 = λ z. cell_at w a b ≤ cell_at w z d in subst P e (omega arith)
-
-length-map-counted : (f : ℕ → ℕ) (i n : ℕ) → length (map f (counted i n)) ≡ n
-length-map-counted f i zero = refl
-length-map-counted f i (suc n) = let h = length-map-counted f (suc i) n in omega arith
 
 module _ (n : Neighbours) (laws : IsNeighbours n) (p : Grid) (s : ℕ) (wide : 0 < p.columns)
     (some : is_piece_cell n p s ≡ true) where
@@ -91,12 +77,11 @@ module _ (n : Neighbours) (laws : IsNeighbours n) (p : Grid) (s : ℕ) (wide : 0
 
   pub piece-length : length piece.cells ≡ box.rows * box.columns
   unfolding cropped
-  piece-length = length-map-counted _ 0 (box.rows * box.columns)
+  piece-length = length-map (counted 0 (box.rows * box.columns)) _ ∙ counted-length 0 (box.rows * box.columns)
 
   -- ---- adjacent in the piece as on the board
 
-  pub below-placed : (k l : ℕ) → set k ≡ true → set l ≡ true
-      → is_below piece.columns (place k) (place l) ≡ is_below p.columns k l
+  pub below-placed : (k l : ℕ) → set k ≡ true → set l ≡ true → is_below piece.columns (place k) (place l) ≡ is_below p.columns k l
   unfolding cropped
   below-placed k l tk tl =
       let rk = place-row n.blank p set within s self wide k tk in
@@ -111,8 +96,7 @@ module _ (n : Neighbours) (laws : IsNeighbours n) (p : Grid) (s : ℕ) (wide : 0
       (moved-equal (column_of p.columns k) (column_of p.columns l) box.left
       (column-low n.blank p set within s self wide k tk) (column-low n.blank p set within s self wide l tl))
 
-  pub beside-placed : (k l : ℕ) → set k ≡ true → set l ≡ true
-      → is_beside piece.columns (place k) (place l) ≡ is_beside p.columns k l
+  pub beside-placed : (k l : ℕ) → set k ≡ true → set l ≡ true → is_beside piece.columns (place k) (place l) ≡ is_beside p.columns k l
   unfolding cropped
   beside-placed k l tk tl =
       let rk = place-row n.blank p set within s self wide k tk in
@@ -127,8 +111,7 @@ module _ (n : Neighbours) (laws : IsNeighbours n) (p : Grid) (s : ℕ) (wide : 0
       (moved-next (column_of p.columns k) (column_of p.columns l) box.left
       (column-low n.blank p set within s self wide k tk) (column-low n.blank p set within s self wide l tl))
 
-  pub next-placed : (k l : ℕ) → set k ≡ true → set l ≡ true
-      → is_next piece.columns (place k) (place l) ≡ is_next p.columns k l
+  pub next-placed : (k l : ℕ) → set k ≡ true → set l ≡ true → is_next piece.columns (place k) (place l) ≡ is_next p.columns k l
   next-placed k l tk tl =
       let a = below-placed k l tk tl in
       let b = below-placed l k tl tk in

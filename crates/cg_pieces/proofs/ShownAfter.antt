@@ -11,7 +11,7 @@ use Rattle.cg_pieces.specs.Neighbours.{IsNeighbours, Neighbours, are_joined, cel
 use Rattle.cg_pieces.proofs.Crops.{crop-back, crop-symbol, place-below}
 use Rattle.cg_pieces.proofs.NeighbourSets.{joined-so, neighbours-cell_game, piece-cell-below, so-joined}
 use Rattle.cg_pieces.proofs.Parts.{PartShown, crop-part, crop-same}
-use Rattle.cg_pieces.proofs.Sets.{joined-sym, joined-trans}
+use Rattle.cg_pieces.proofs.Sets.{joined-sym, joined-trans, linked-along}
 use Rattle.cg_pieces.proofs.Shown.{below-placed, beside-placed, next-placed, order-placed, piece-length, self, within}
 
 module _ (n : Neighbours) (laws : IsNeighbours n) (p : Grid) (s : ℕ) (wide : 0 < p.columns)
@@ -53,8 +53,7 @@ module _ (n : Neighbours) (laws : IsNeighbours n) (p : Grid) (s : ℕ) (wide : 0
 
     -- joined cells were joined before
     before : (k l : ℕ) → Joined game after k l → Joined game p k l
-    before k l (here m e) = here m e
-    before k l (step x m b x_open m_open next) = step x m (before k x b) (a.fewer x x_open) (a.fewer m m_open) next
+    before = linked-along (is_piece_cell n after) (is_piece_cell n p) (is_next p.columns) (is_next p.columns) a.fewer (λ x m t. t)
 
     apart-piece : (k : ℕ) → ¬ Joined game p s k → ((l : ℕ) → Joined game after k l ↔ Joined game p k l)
         → cropped n.blank (are_joined n after k) after ≡ cropped n.blank (are_joined n p k) p
@@ -70,8 +69,7 @@ module _ (n : Neighbours) (laws : IsNeighbours n) (p : Grid) (s : ℕ) (wide : 0
     end-of q k l (here m e) = inl e
     end-of q k l (step x m b x_open m_open next) = inr m_open
 
-    part-shown : (k : ℕ) → Joined game p s k
-        → ((l : ℕ) → Joined game p s l → Joined game after k l ↔ Joined game small (place k) (place l))
+    part-shown : (k : ℕ) → Joined game p s k → ((l : ℕ) → Joined game p s l → Joined game after k l ↔ Joined game small (place k) (place l))
         → PartShown n.blank p set (within n laws p s wide some) s (self n laws p s wide some) wide (are_joined n after k) cells
         (are_joined n small (place k)) shown
     part-shown k j alike =
@@ -82,8 +80,7 @@ module _ (n : Neighbours) (laws : IsNeighbours n) (p : Grid) (s : ℕ) (wide : 0
           | inr m_open ↦ a.placed m m_open
         ] in record {
           long = a.long;
-          inside = λ l t. in-set l (joined-trans game (neighbours-cell_game n laws) p s k l j (before k l (joined-so n laws after
-              k l t)));
+          inside = λ l t. in-set l (joined-trans game (neighbours-cell_game n laws) p s k l j (before k l (joined-so n laws after k l t)));
           member = k;
           member_in = so-joined n laws after k k (here k refl);
           same = λ l t. let j_l = joined-so n laws p s l t in

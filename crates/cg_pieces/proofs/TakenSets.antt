@@ -1,8 +1,8 @@
 -- Joined sets in words, taken from the cells that are left, one after another.
-use Rattle.std.proofs.Common.{◌≡◌, ◌≢◌, ◌↔◌, refl, ℕ, ◌+◌, ◌<◌, ◌≤◌, ◌^◌, ◌&&◌, ◌||◌, inl, inr, Bool, true, false, not, nat_le, if◌then◌else◌, IsTrue, List, [], ◌∷◌, ◌++◌, length, ap, sym, ◌∙◌, subst, arith, bit_and, w64}
+use Rattle.std.proofs.Common.{◌≡◌, ◌≢◌, ◌↔◌, refl, ℕ, ◌+◌, ◌<◌, ◌≤◌, ◌^◌, ◌&&◌, ◌||◌, inl, inr, Bool, true, false, not, nat_le, if◌then◌else◌, IsTrue, List, [], ◌∷◌, ◌++◌, length, ap, sym, ◌∙◌, subst, arith, bit_and, w64, ◌==◌}
 use Rattle.std.specs.Int.{bit_at, trailing_zeros}
 use Rattle.std.proofs.lemmas.Bool.{eq-eqb, eqb-true, le-leb, leb-true}
-use Rattle.std.proofs.lemmas.Bool.Decides.{leb_tells}
+use Rattle.std.proofs.lemmas.Bool.Decides.{leb_tells, nat_tests}
 use Rattle.std.proofs.lemmas.List.{append-nil}
 use Rattle.std.proofs.lemmas.Nat.Bits.{bit_at-lt, bit_at-trailing_zeros, bit_at-zero}
 use Rattle.std.proofs.lemmas.Nat.{and_le_l}
@@ -14,7 +14,7 @@ use Rattle.cg_moves.proofs.Counted.{in_counted, same-or-not}
 use Rattle.cg_pieces.specs.declared.field.Field.{Field}
 use Rattle.cg_pieces.specs.Boxes.{cropped}
 use Rattle.cg_pieces.specs.Cells.{Joined}
-use Rattle.cg_pieces.specs.Cells.Linked.{here, step}
+use Rattle.cg_pieces.specs.Cells.Linked.{here}
 use Rattle.cg_pieces.specs.Moving.{AreMoving, piece_at}
 use Rattle.cg_pieces.specs.Neighbours.{IsNeighbours, Neighbours, are_joined, cell_game, has_move, is_first, is_least, is_next, is_piece_cell}
 use Rattle.cg_pieces.specs.Words.{AreLeft, IsFieldOf, IsSetFrom, IsTaken, JoinedIn, in_word}
@@ -22,7 +22,7 @@ use Rattle.cg_pieces.proofs.FirstCells.{joined-move, move-joined}
 use Rattle.cg_pieces.proofs.GrowingSets.{and-one, and-parts, bit-below, not-one, not-zero, other_bits}
 use Rattle.cg_pieces.proofs.NeighbourSets.{all-each, each-all, joined-so, neighbours-cell_game, piece-cell-below, so-joined}
 use Rattle.cg_pieces.proofs.OpenWords.{marks-test, test-marks}
-use Rattle.cg_pieces.proofs.Sets.{joined-sym, joined-trans, open-along}
+use Rattle.cg_pieces.proofs.Sets.{joined-sym, joined-trans, open-along, linked-along}
 
 same-tests : (a b : Bool) → (IsTrue a → IsTrue b) → (IsTrue b → IsTrue a) → a ≡ b
 same-tests true b forth back = sym (forth refl)
@@ -98,11 +98,7 @@ module _ (n : Neighbours) (laws : IsNeighbours n) (p : Grid) where
   }
 
   pub not-first : (cell left : ℕ) → AreLeft n p cell left → ¬ (bit_at left cell ≡ 1) → is_first n p cell ≡ false
-  not-first cell left are other = false-from (is_first n p cell) (λ t.
-      let a = and-split (is_piece_cell n p cell) (is_least n p cell && has_move n p cell) t in
-      let b = and-split (is_least n p cell) (has_move n p cell) a.1 in
-      other (are.all cell a.0 (λ l h j.
-      let low = of-least cell a.0 b.0 l (flipped l cell j) in omega (arith, low, h))))
+  not-first cell left are other = grind (arith, nat_tests, false-from, and-split, of-least, flipped)
 
   -- where no cell with a move is left, none is the first of a set with a move
   pub none-first : (end cell left moving : ℕ) → AreLeft n p end left → AreMoving n p moving → bit_and left moving ≡ 0
@@ -121,20 +117,14 @@ module _ (n : Neighbours) (laws : IsNeighbours n) (p : Grid) where
 
   module _ (f : Field) (is : IsFieldOf n p f) where
     in-field : (cell k : ℕ) → JoinedIn f cell k → Joined (cell_game n) p cell k
-    in-field cell k (here m e) = here m e
-    in-field cell k (step m l r m_open l_open next) =
-        let P : ℕ → Type 0 = λ w. is_next w m k ≡ true in
-        step m k (in-field cell m r)
-        (marks-test f.cells (is_piece_cell n p) is.cells m (eqb-true (bit_at f.cells m) 1 m_open))
-        (marks-test f.cells (is_piece_cell n p) is.cells k (eqb-true (bit_at f.cells k) 1 l_open)) (subst P is.columns next)
+    in-field = linked-along (λ m. bit_at f.cells m == 1) (is_piece_cell n p) (is_next f.columns) (is_next p.columns)
+        (λ m t. marks-test f.cells (is_piece_cell n p) is.cells m (eqb-true (bit_at f.cells m) 1 t))
+        (λ m k t. subst (λ (w : ℕ). is_next w m k ≡ true) is.columns t)
 
     to-field : (cell k : ℕ) → Joined (cell_game n) p cell k → JoinedIn f cell k
-    to-field cell k (here m e) = here m e
-    to-field cell k (step m l r m_open l_open next) =
-        let P : ℕ → Type 0 = λ w. is_next w m k ≡ true in
-        step m k (to-field cell m r)
-        (eq-eqb (bit_at f.cells m) 1 (test-marks f.cells (is_piece_cell n p) is.cells m m_open))
-        (eq-eqb (bit_at f.cells k) 1 (test-marks f.cells (is_piece_cell n p) is.cells k l_open)) (subst P (sym is.columns) next)
+    to-field = linked-along (is_piece_cell n p) (λ m. bit_at f.cells m == 1) (is_next p.columns) (is_next f.columns)
+        (λ m t. eq-eqb (bit_at f.cells m) 1 (test-marks f.cells (is_piece_cell n p) is.cells m t))
+        (λ m k t. subst (λ (w : ℕ). is_next w m k ≡ true) (sym is.columns) t)
 
     pub open-left : (cell left : ℕ) → AreLeft n p cell left → bit_at left cell ≡ 1 → bit_at f.cells cell ≡ 1
     open-left cell left are t = test-marks f.cells (is_piece_cell n p) is.cells cell (are.only cell t)
@@ -179,8 +169,7 @@ module _ (n : Neighbours) (laws : IsNeighbours n) (p : Grid) where
           };
           first = and-both (is_piece_cell n p cell) (is_least n p cell && has_move n p cell) inside
               (and-both (is_least n p cell) (has_move n p cell) least moves);
-          same = λ l. same-tests (in_word set l) (are_joined n p cell l)
-              (λ s. (taken.only l (eqb-true (bit_at set l) 1 s)).2)
+          same = λ l. same-tests (in_word set l) (are_joined n p cell l) (λ s. (taken.only l (eqb-true (bit_at set l) 1 s)).2)
               (λ j. eq-eqb (bit_at set l) 1 (taken.all l inside least j));
         }
 

@@ -56,7 +56,10 @@ module _ (n : Neighbours) (laws : IsNeighbours n) (p : Grid) where
       (passed-all boards left end gap is (λ k h. none k (omega (arith, h)))) (none (end + gap) below))
 
   -- the first cell that is left
-  module _ (boards : List Grid) (left : ℕ) (some : 0 < left) (fits : left < 2 ^ 64) (taken : AreTaken n p boards left) where
+  module _ (boards : List Grid) (left moving : ℕ) (test : bit_and left moving ≢ 0) (fits : left < 2 ^ 64) (taken : AreTaken n p boards left) where
+    some : 0 < left
+    some = let most = and_le_l left moving in omega (arith, test, most)
+
     abbrev cell : ℕ
     cell = count_trailing_zeros 64 left
 
@@ -93,21 +96,15 @@ module _ (n : Neighbours) (laws : IsNeighbours n) (p : Grid) where
             ((joined cell).1 (here cell refl)) in
             omega (arith, most, other)
 
-        pub taken-more : (more : List Grid) → more ≡ boards ++ piece_at n p cell
-            → AreTaken n p more (bit_and left (other_bits set))
+        pub taken-more : (more : List Grid) → more ≡ boards ++ piece_at n p cell → AreTaken n p more (bit_and left (other_bits set))
         taken-more more put = record {
           end = cell + 1;
           inside = let below = piece-cell-below n laws p cell (taken-to.left_are.only cell cell-left) in omega (arith, below);
           to = record {
-            boards_are = one-more (is_first n p) (λ k. cropped n.blank (are_joined n p k) p) cell boards more
-                taken-to.boards_are put;
+            boards_are = one-more (is_first n p) (λ k. cropped n.blank (are_joined n p k) p) cell boards more taken-to.boards_are put;
             left_are = left-next n laws p cell left set fits set_fits taken-to.left_are set-taken;
           };
         }
-
-  -- cells are left where there are some with a move
-  pub some-left : (left moving : ℕ) → bit_and left moving ≢ 0 → 0 < left
-  some-left left moving some = let most = and_le_l left moving in omega (arith, some, most)
 
   -- where no cell with a move is left, all pieces are taken
   pub taken-all : (boards : List Grid) (left moving : ℕ) → bit_and left moving ≡ 0 → AreMoving n p moving

@@ -1,8 +1,9 @@
 -- Boards that fall into sets of joined cells, and moves that touch cells of one set only.
-use Rattle.std.specs.Prelude.{◌≡◌, ◌↔◌, ◌⊎◌, ℕ, ◌≤◌, Bool, true, Some, List, [], ◌∷◌, map}
+use Rattle.std.specs.Prelude.{◌≡◌, ◌↔◌, ◌⊎◌, ℕ, ◌≤◌, Bool, true, Some, List, map}
 use Rattle.cg_moves.specs.declared.player.Player.{Player}
 use Rattle.cg_moves.specs.Grid.{Grid, with_cells}
 use Rattle.cg_moves.specs.Rules.{GameRules, In}
+use Rattle.cg_form.specs.Firsts.{EachOnce}
 
 -- a row of open cells, each adjacent to the next, leads from k to the cell; k alone is such a row
 pub data Linked (is_open : ℕ → Bool) (adjacent : ℕ → ℕ → Bool) (k : ℕ) : ℕ → Type 0 where
@@ -47,8 +48,7 @@ module _ (g : CellGame) where
 
   -- no cell stands twice in the list
   abbrev pub Distinct : List ℕ → Type 0
-  Distinct [] = Unit {0}
-  Distinct (k ∷ ks) = (¬ In k ks) × Distinct ks
+  Distinct ks = EachOnce ks
 
   pub record IsCellGame : Type 0 where
     pub symmetric : (p : Grid) (k l : ℕ) → g.adjacent p k l ≡ true → g.adjacent p l k ≡ true

@@ -12,6 +12,7 @@ returns c =
       from_below = λ i. c.moved_back.ensures i ∙ ap (λ n. bit_at c.captures_up-up.result (i + n)) wide
           ∙ c.captures_up-up.ensures (i + p.columns);
       from_next = λ i. c.moved_back-2.ensures i ∙ c.captures_back-back.ensures (i + 1);
+      few = c.first_column.ensures.grid.few;
     }
 
 pub stones_of-stones-requires-clause-symbols : goal.stones_of-stones-requires-clause-symbols

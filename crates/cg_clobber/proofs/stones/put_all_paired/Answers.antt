@@ -1,26 +1,39 @@
-use Rattle.std.proofs.Common.{◌++◌, map, ap, ◌∙◌, arith}
-use Rattle.std.specs.List.{flat_map}
-use Rattle.cg_moves.specs.Grid.{with_cells}
-use Rattle.cg_moves.specs.Rising.{counted}
-use Rattle.cg_clobber.specs.Pairs.{onward, paired, toward}
-use Rattle.cg_clobber.proofs.Placing.{later_next, listed_then}
+use Rattle.std.proofs.Common.{arith, refl, w64}
+use Rattle.std.proofs.lemmas.Nat.Bits.{bit_at-trailing_zeros}
+use Rattle.cg_moves.proofs.SetBits.{cleared-less, listed-all, listed-more}
+use Rattle.cg_clobber.proofs.Going.{paired_begun}
+use Rattle.cg_clobber.proofs.Placing.{listed_then}
 use Rattle.cg_clobber.proofs.stones.put_all_paired.Goals as goal
 
-pub loop-cell-preserved : goal.loop-cell-preserved
-loop-cell-preserved c =
-    let p = c.args.board.now in
-    later_next (with_cells p) (paired c.args.player p) c.loop-cell.cell c.args.boards.now.items c.loop-cell.boards.items
-    c.put_toward.new.boards.items c.loop-cell.invariant
-    (listed_then (with_cells p) c.loop-cell.boards.items c.put_onward.new.boards.items c.put_toward.new.boards.items
-    (onward c.args.player p c.loop-cell.cell) (toward c.args.player p c.loop-cell.cell) c.in_ok-put_onward.ensures
-    c.in_ok-put_toward.ensures)
+pub loop-left-init : goal.loop-left-init
+loop-left-init c = paired_begun c.args.player c.args.board.now c.args.words.now c.requires.words c.args.boards.now.items
+
+pub with_bit-left-requires-clause-place : goal.with_bit-left-requires-clause-place
+with_bit-left-requires-clause-place c =
+    (bit_at-trailing_zeros w64 c.loop-left.left (omega (arith, c.loop-left-test.true)) c.loop-left.invariant.fits).0
+
+pub put_onward-requires-clause-cell : goal.put_onward-requires-clause-cell
+put_onward-requires-clause-cell c =
+    let first = bit_at-trailing_zeros w64 c.loop-left.left (omega (arith, c.loop-left-test.true)) c.loop-left.invariant.fits in
+    c.loop-left.invariant.within _ first.1
+
+pub put_toward-requires-clause-cell : goal.put_toward-requires-clause-cell
+put_toward-requires-clause-cell c =
+    let first = bit_at-trailing_zeros w64 c.loop-left.left (omega (arith, c.loop-left-test.true)) c.loop-left.invariant.fits in
+    c.loop-left.invariant.within _ first.1
+
+pub loop-left-smaller : goal.loop-left-smaller
+loop-left-smaller c =
+    let first = bit_at-trailing_zeros w64 c.loop-left.left (omega (arith, c.loop-left-test.true)) c.loop-left.invariant.fits in
+    cleared-less c.loop-left.left _ _ c.with_bit-left.ensures first.1
+
+pub loop-left-preserved : goal.loop-left-preserved
+loop-left-preserved c =
+    let first = bit_at-trailing_zeros w64 c.loop-left.left (omega (arith, c.loop-left-test.true)) c.loop-left.invariant.fits in
+    listed-more _ _ _ _ _ c.loop-left.left c.with_bit-left.result _ _ _ c.loop-left.boards.items c.put_toward.new.boards.items
+    (c.loop-left.invariant.within _ first.1) refl first.1 c.with_bit-left.ensures first.2 (λ j other l. other)
+    (omega (arith, c.with_bit-left.type_inv)) c.loop-left.invariant (listed_then _ c.loop-left.boards.items c.put_onward.new.boards.items c.put_toward.new.boards.items
+    _ _ c.in_ok-put_onward.ensures c.in_ok-put_toward.ensures)
 
 pub returns : goal.returns
-returns c =
-    let e = c.size-cell-end.ensures.value in
-    let a = c.loop-cell.auto.cell-end in
-    let t = c.loop-cell-test.false in
-    let p = c.args.board.now in
-    c.loop-cell.invariant
-    ∙ ap (λ k. c.args.boards.now.items ++ map (with_cells p) (flat_map (paired c.args.player p) (counted 0 k)))
-    (omega (arith, e, a, t))
+returns c = listed-all _ _ _ _ _ c.loop-left.left _ c.loop-left.boards.items c.loop-left-test.false c.loop-left.invariant

@@ -1,10 +1,13 @@
-use Rattle.std.proofs.Common.{◌≡◌, ◌++◌, map}
-use Rattle.std.specs.List.{flat_map}
+use Rattle.std.proofs.Common.{◌<◌, length}
 use Rattle.cg_moves.specs.Grid.{with_cells}
-use Rattle.cg_moves.specs.Rising.{counted}
+use Rattle.cg_moves.proofs.SetBits.{AreListed}
 use Rattle.cg_clobber.specs.Pairs.{paired}
 use Rattle.cg_clobber.proofs.stones.put_all_paired.Given as goal
 
-abbrev pub invariant-loop-cell : goal.invariant-loop-cell
-invariant-loop-cell l =
-    l.boards.items ≡ l.initial.boards.items ++ map (with_cells l.board) (flat_map (paired l.player l.board) (counted 0 l.cell))
+abbrev pub invariant-loop-left : goal.invariant-loop-left
+invariant-loop-left l =
+    AreListed (with_cells l.board) (paired l.player l.board) (λ k. k) (length l.board.cells)
+    (λ k. k < length l.board.cells) l.left l.initial.boards.items l.boards.items
+
+abbrev pub decreases-loop-left : goal.decreases-loop-left
+decreases-loop-left l = l.left

@@ -6,6 +6,5 @@ abbrev pub invariant-loop-byte : goal.invariant-loop-byte
 invariant-loop-byte l = record {
   long : length l.cells ≡ 64;
   few : l.size ≤ 64;
-  rest : cells_of (rows_of l.one_row l.text) ≡ take l.size l.cells ++ cells_of (rows_of l.one_row (drop l.byte-index
-      l.text));
+  rest : cells_of (rows_of l.one_row l.text) ≡ take l.size l.cells ++ cells_of (rows_of l.one_row (drop l.byte-index l.text));
 }

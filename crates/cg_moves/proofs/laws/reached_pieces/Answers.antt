@@ -1,4 +1,4 @@
-use Rattle.cg_moves.proofs.PieceBounds.{piece_reached-moves}
+use Rattle.cg_moves.proofs.Bounds.{piece_reached-moves}
 use Rattle.cg_moves.proofs.laws.reached_pieces.Goals as goal
 
 pub returns : goal.returns

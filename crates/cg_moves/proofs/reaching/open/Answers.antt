@@ -1,6 +1,6 @@
 use Rattle.std.proofs.Common.{refl}
 use Rattle.cg_moves.proofs.PlayLemmas.{one_start, reach-kept_all}
-use Rattle.cg_moves.proofs.Told.{told-along}
+use Rattle.cg_moves.proofs.Carried.{told-along}
 use Rattle.cg_moves.proofs.reaching.open.Goals as goal
 
 pub open_all-requires : goal.open_all-requires

@@ -6,7 +6,7 @@ use Rattle.cg_moves.specs.Rules.{pieces}
 use Rattle.cg_moves.specs.Walks.{AreStarts}
 use Rattle.cg_moves.proofs.Members.{carry}
 use Rattle.cg_moves.proofs.PlayLemmas.{part-alone, piece_reach-all, piece_starts}
-use Rattle.cg_moves.proofs.Told.{told-along}
+use Rattle.cg_moves.proofs.Carried.{told-along}
 use Rattle.cg_moves.proofs.reaching.open_pieces.Goals as goal
 
 pub open_all-requires : goal.open_all-requires

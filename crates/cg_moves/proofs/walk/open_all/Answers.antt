@@ -42,8 +42,7 @@ step-requires g c κs inside = (
   inside,
   begins (g.R.Rules.game c.args.rules.now) (g.met.R.Rules.lawful c.args.rules.now) c.args.course g.way c.args.starts.items
       c.requires.1 (
-        subst (λ (z : List Task). IsWalking g.way c.loop-task.seen z) c.in-Some-pop.ensures.items
-            c.loop-task.invariant.walking,
+        subst (λ (z : List Task). IsWalking g.way c.loop-task.seen z) c.in-Some-pop.ensures.items c.loop-task.invariant.walking,
         c.loop-task.invariant.within,
       ),
 )

@@ -1,5 +1,5 @@
 use Rattle.std.proofs.Common.{arith}
-use Rattle.cg_pieces.proofs.ShownWords.{shown-off, shown-on}
+use Rattle.cg_pieces.proofs.CropWords.{shown-off, shown-on}
 use Rattle.cg_pieces.proofs.frame.shown.Goals as goal
 
 pub returns-then-bit-eq0 : goal.returns-then-bit-eq0

@@ -15,8 +15,7 @@ loop-more-smaller c =
 
 pub loop-more-preserved : goal.loop-more-preserved
 loop-more-preserved c = record {
-  growing = growing-more c.args.self c.args.cell c.loop-more.set c.loop-more.more c.loop-more.invariant.growing
-      c.loop-more.invariant.next;
+  growing = growing-more c.args.self c.args.cell c.loop-more.set c.loop-more.more c.loop-more.invariant.growing c.loop-more.invariant.next;
   next = c.with_next-more-in-loop-more.ensures;
 }
 
