@@ -70,8 +70,7 @@ module _ (R : ℕ → ℕ → Type 0) (own : (x : ℕ) → R x x) (along : (x y 
   end-one : (x : ℕ) → IsEnd R x (x ∷ [])
   end-one x = record { among = inl refl; each = λ y m. elim m [ inl e ↦ subst (R x) (sym e) (own x) | inr k ↦ absurd k ] }
 
-  end-more : (b : Bool) (x m : ℕ) (xs : List ℕ) → IsEnd R m xs → (b ≡ true → R x m) → (b ≡ false → R m x)
-      → IsEnd R (if b then x else m) (x ∷ xs)
+  end-more : (b : Bool) (x m : ℕ) (xs : List ℕ) → IsEnd R m xs → (b ≡ true → R x m) → (b ≡ false → R m x) → IsEnd R (if b then x else m) (x ∷ xs)
   end-more true x m xs h before behind = record {
     among = inl refl;
     each = λ y i. elim i [ inl e ↦ subst (R x) (sym e) (own x) | inr k ↦ along x m y (before refl) (h.each y k) ];
