@@ -1,10 +1,10 @@
 -- The rows and columns that bound a set of cells.
 use Rattle.std.proofs.lemmas.Bool.Decides.{nat_tests}
-use Rattle.std.proofs.Common.{◌≡◌, refl, ℕ, suc, ◌+◌, ◌-◌, ◌/◌, ◌<◌, ◌≤◌, inl, inr, Bool, true, false, cond, nat_le, if◌then◌else◌, List, [], ◌∷◌, filter, length, map, ap, sym, ◌∙◌, subst, arith, mul_comm}
+use Rattle.std.proofs.Common.{◌≡◌, refl, ℕ, suc, ◌+◌, ◌-◌, ◌/◌, ◌<◌, ◌≤◌, inl, inr, Bool, true, false, cond, if◌then◌else◌, List, [], ◌∷◌, filter, length, map, ap, sym, ◌∙◌, subst, arith, mul_comm}
 use Rattle.std.proofs.Math.Nat.{mod-eq_of_lt, mul-add-mod_self_left}
-use Rattle.std.proofs.lemmas.Bool.{le-leb, leb-true}
+use Rattle.std.proofs.lemmas.Bool.{leb-true}
 use Rattle.std.proofs.lemmas.Nat.{div-mul-add}
-use Rattle.cg_dyadic.proofs.Truth.{differ, false-from, true-or-not}
+use Rattle.cg_dyadic.proofs.Truth.{false-from, true-or-not}
 use Rattle.cg_moves.specs.Grid.{Grid}
 use Rattle.cg_moves.specs.Rising.{counted}
 use Rattle.cg_moves.specs.Rules.{In}
@@ -59,9 +59,6 @@ filter-in test k (l ∷ ks) (inr m) t =
 
 -- ---- the least and the greatest
 
-pub not_le-test : (x y : ℕ) → nat_le x y ≡ false → y < x
-not_le-test x y e = let n : ¬ (x ≤ y) = λ h. differ (nat_le x y) (le-leb x y h) e in omega (arith, n)
-
 pub record IsEnd (R : ℕ → ℕ → Type 0) (x : ℕ) (xs : List ℕ) : Type 0 where
   pub among : In x xs
   pub each : (y : ℕ) → In y xs → R x y
@@ -70,8 +67,7 @@ module _ (R : ℕ → ℕ → Type 0) (own : (x : ℕ) → R x x) (along : (x y 
   end-one : (x : ℕ) → IsEnd R x (x ∷ [])
   end-one x = record { among = inl refl; each = λ y m. elim m [ inl e ↦ subst (R x) (sym e) (own x) | inr k ↦ absurd k ] }
 
-  end-more : (b : Bool) (x m : ℕ) (xs : List ℕ) → IsEnd R m xs → (b ≡ true → R x m) → (b ≡ false → R m x)
-      → IsEnd R (if b then x else m) (x ∷ xs)
+  end-more : (b : Bool) (x m : ℕ) (xs : List ℕ) → IsEnd R m xs → (b ≡ true → R x m) → (b ≡ false → R m x) → IsEnd R (if b then x else m) (x ∷ xs)
   end-more true x m xs h before behind = record {
     among = inl refl;
     each = λ y i. elim i [ inl e ↦ subst (R x) (sym e) (own x) | inr k ↦ along x m y (before refl) (h.each y k) ];
@@ -83,11 +79,11 @@ module _ (R : ℕ → ℕ → Type 0) (own : (x : ℕ) → R x x) (along : (x y 
 
 least-is : (x : ℕ) (xs : List ℕ) → IsEnd (λ a b. a ≤ b) (least_of (x ∷ xs)) (x ∷ xs)
 least-is x [] = end-one (λ a b. a ≤ b) (λ a. omega arith) (λ a b c l m. omega (arith, l, m)) x
-least-is x (y ∷ ys) = grind (arith, nat_tests, end-more, leb-true, not_le-test, least-is y ys)
+least-is x (y ∷ ys) = grind (arith, nat_tests, end-more, leb-true, least-is y ys)
 
 greatest-is : (x : ℕ) (xs : List ℕ) → IsEnd (λ a b. b ≤ a) (greatest_of (x ∷ xs)) (x ∷ xs)
 greatest-is x [] = end-one (λ a b. b ≤ a) (λ a. omega arith) (λ a b c l m. omega (arith, l, m)) x
-greatest-is x (y ∷ ys) = grind (arith, nat_tests, end-more, leb-true, not_le-test, greatest-is y ys)
+greatest-is x (y ∷ ys) = grind (arith, nat_tests, end-more, leb-true, greatest-is y ys)
 
 -- ---- the box of a set
 

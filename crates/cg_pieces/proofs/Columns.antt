@@ -23,8 +23,7 @@ use Rattle.cg_pieces.proofs.OpenWords.{marks-test, test-marks}
 module _ (w size : ℕ) (few : w ≤ 64) (below : size ≤ 64) where
   first-column : (word : ℕ) → Marks word (λ i. nat_lt i size && (i % w == 0)) → IsColumn w size 0 word
   first-column word are = record {
-    only = λ k t. eqb-true (k % w) 0
-        (and-split (nat_lt k size) (k % w == 0) (marks-test word (λ i. nat_lt i size && (i % w == 0)) are k t)).1;
+    only = λ k t. eqb-true (k % w) 0 (and-split (nat_lt k size) (k % w == 0) (marks-test word (λ i. nat_lt i size && (i % w == 0)) are k t)).1;
     all = λ k h e. test-marks word (λ i. nat_lt i size && (i % w == 0)) are k
         (and-both (nat_lt k size) (k % w == 0) (lt-ltb k size h) (eq-eqb (k % w) 0 e));
   }

@@ -94,8 +94,7 @@ module _ (blank : ℕ) (p : Grid) (set : ℕ → Bool) (within : (k : ℕ) → s
   pub crop-symbol : (k : ℕ) → set k ≡ true → slice_index (cropped blank set p).cells (place k) ≡ slice_index p.cells k
   crop-symbol k t = grind (arith, nat_tests, crop-at, place-below, unplace)
 
-  pub crop-back : (m : ℕ) → m < box.rows * box.columns → slice_index (cropped blank set p).cells m ≢ blank
-      → (k : ℕ) × (set k ≡ true) × (m ≡ place k)
+  pub crop-back : (m : ℕ) → m < box.rows * box.columns → slice_index (cropped blank set p).cells m ≢ blank → (k : ℕ) × (set k ≡ true) × (m ≡ place k)
   crop-back m h other =
       let k : ℕ = unboxed box p.columns m in
       elim (true-or-not (set k)) [

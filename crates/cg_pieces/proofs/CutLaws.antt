@@ -85,8 +85,7 @@ module _ (g : CellGame) (r : GameRules) (laws : IsCellGame g) (cuts : CutsByCell
   ]
 
   -- the set of a move has a first cell
-  first-of-move : (player : Player) (p : Grid) (one other : ℕ) → g.legal player p one other ≡ true
-      → (s : ℕ) × In s (g.firsts p) × Joined g p s one
+  first-of-move : (player : Player) (p : Grid) (one other : ℕ) → g.legal player p one other ≡ true → (s : ℕ) × In s (g.firsts p) × Joined g p s one
   first-of-move player p one other legal =
       let w = least-of p one in
       let first : First g p w.cell = record {
@@ -117,8 +116,7 @@ module _ (g : CellGame) (r : GameRules) (laws : IsCellGame g) (cuts : CutsByCell
       let R : List Grid → Type 0 = λ z. IsReordered (pieces_of g after) (map (g.piece p) before
       ++ (z ++ map (g.piece p) behind)) in record {
         cut = pieces-are p ∙ ap (map (g.piece p)) cut ∙ map-append (g.piece p) before (s ∷ behind);
-        others = subst Q (sym (pieces-are after))
-            (subst R (sym (pieces-are small)) (pieces-after g laws p before s behind after small cut o));
+        others = subst Q (sym (pieces-are after)) (subst R (sym (pieces-are small)) (pieces-after g laws p before s behind after small cut o));
       }
 
   piece-legal : (player : Player) (p : Grid) (s one other : ℕ) → r.has p ≡ true → In s (g.firsts p)

@@ -8,7 +8,6 @@ pub mod Parts
 pub mod NeighbourSets
 pub mod Shown
 pub mod ShownAfter
-pub mod Changed
 pub mod NeighbourCuts
 pub mod Lines
 pub mod FirstCells

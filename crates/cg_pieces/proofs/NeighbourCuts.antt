@@ -11,13 +11,12 @@ use Rattle.cg_pieces.specs.Cells.{CutsByCells}
 use Rattle.cg_pieces.specs.Neighbours.{CutsNeighbours, IsNeighbours, Neighbours, are_joined, cell_game, is_piece_cell}
 use Rattle.cg_moves.proofs.PieceSums.{cut-by-moves}
 use Rattle.cg_pieces.proofs.Bounds.{filter-in, in-filter, set-bounds}
-use Rattle.cg_pieces.proofs.Changed.{changed-one_set}
 use Rattle.cg_pieces.proofs.Crops.{unplace}
 use Rattle.cg_pieces.proofs.CutLaws.{by-cells}
 use Rattle.cg_pieces.proofs.NeighbourSets.{at-cell, distinct-cells, joined-so, may-parts, neighbours-cell_game, so-joined}
 use Rattle.cg_pieces.proofs.Sets.{legal-joined, open-along}
 use Rattle.cg_pieces.proofs.Shown.{piece-length, self, within}
-use Rattle.cg_pieces.proofs.ShownAfter.{crop-placed, shown-one_set}
+use Rattle.cg_pieces.proofs.ShownAfter.{changed-one_set, crop-placed, shown-one_set}
 use Rattle.cg_moves.proofs.Middles.{no-more}
 use Rattle.std.proofs.lemmas.List.Sums.{sum_by-cons}
 use Rattle.cg_dyadic.proofs.Truth.{false-from, true-or-not}
@@ -26,8 +25,7 @@ abbrev one_if : Bool → ℕ
 one_if b = if b then 1 else 0
 
 -- the number of cells that pass a test is that of their places
-count-places : (test : ℕ → Bool) (cells : List ℕ) (i : ℕ) (at : ℕ → Bool)
-    → ((j : ℕ) → j < length cells → at (i + j) ≡ test (slice_index cells j))
+count-places : (test : ℕ → Bool) (cells : List ℕ) (i : ℕ) (at : ℕ → Bool) → ((j : ℕ) → j < length cells → at (i + j) ≡ test (slice_index cells j))
     → length (filter at (counted i (length cells))) ≡ count_by test cells
 count-places test [] i at same = refl
 count-places test (c ∷ cs) i at same =
@@ -50,8 +48,7 @@ count-places test (c ∷ cs) i at same =
           omega (arith, a, b, rest, sum)
     ]
 
-pub count-is : (test : ℕ → Bool) (cells : List ℕ)
-    → length (filter (λ k. test (slice_index cells k)) (counted 0 (length cells))) ≡ count_by test cells
+pub count-is : (test : ℕ → Bool) (cells : List ℕ) → length (filter (λ k. test (slice_index cells k)) (counted 0 (length cells))) ≡ count_by test cells
 count-is test cells = count-places test cells 0 (λ k. test (slice_index cells k))
     (λ j h. let e : 0 + j ≡ j = omega arith in ap (λ z. test (slice_index cells z)) e)
 
@@ -68,8 +65,7 @@ module _ (n : Neighbours) (r : GameRules) (laws : IsNeighbours n) (cuts : CutsNe
   unfolding cropped
   piece-symbols p s = refl
 
-  piece-size : (p : Grid) (s : ℕ) → 0 < p.columns → is_piece_cell n p s ≡ true
-      → length (piece p s).cells ≡ (piece p s).rows * (piece p s).columns
+  piece-size : (p : Grid) (s : ℕ) → 0 < p.columns → is_piece_cell n p s ≡ true → length (piece p s).cells ≡ (piece p s).rows * (piece p s).columns
   unfolding cropped
   piece-size p s wide some = piece-length n laws p s wide some
 

@@ -171,8 +171,7 @@ module _ (n : Neighbours) (laws : IsNeighbours n) where
         }
       ]
 
-  pub either : (player : Player) (p : Grid) (k l : ℕ) → may_move n player p k l ≡ true
-      → IsTrue (may_move n Left p k l || may_move n Right p k l)
+  pub either : (player : Player) (p : Grid) (k l : ℕ) → may_move n player p k l ≡ true → IsTrue (may_move n Left p k l || may_move n Right p k l)
   either Left p k l t = or-first (may_move n Left p k l) (may_move n Right p k l) t
   either Right p k l t = or-second (may_move n Left p k l) (may_move n Right p k l) t
 
@@ -195,8 +194,7 @@ module _ (n : Neighbours) (laws : IsNeighbours n) where
       (and-both (is_least n p k) (has_move n p k) least some)
 
   pub distinct-cells : (p : Grid) (test : ℕ → Bool) → Distinct (cell_game n) (filter test (counted 0 (length p.cells)))
-  distinct-cells p test = distinct-filter (cell_game n) test (counted 0 (length p.cells))
-      (distinct-counted (cell_game n) 0 (length p.cells))
+  distinct-cells p test = distinct-filter (cell_game n) test (counted 0 (length p.cells)) (distinct-counted (cell_game n) 0 (length p.cells))
 
   pub neighbours-cell_game : IsCellGame (cell_game n)
   neighbours-cell_game = record {

@@ -112,8 +112,7 @@ module _ (g : CellGame) (laws : IsCellGame g) (p : Grid) (before : List ℕ) (s 
       ]
 
   outer : (k : ℕ) → In k (before ++ behind) → In k (g.firsts after)
-  outer k i = (laws.first after k).1
-      (apart-first g laws p s after small o k (others-apart k i) (is-first k (in_middle k s before behind i)))
+  outer k i = (laws.first after k).1 (apart-first g laws p s after small o k (others-apart k i) (is-first k (in_middle k s before behind i)))
 
   back_to : (k : ℕ) → In k whole → In k (g.firsts after)
   back_to k i = elim (in-append k before (inner ++ behind) i) [

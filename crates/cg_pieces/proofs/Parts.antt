@@ -121,8 +121,7 @@ module _ (blank : ℕ) (p : Grid) (set : ℕ → Bool) (within : (k : ℕ) → s
     at_small m = unboxed small outer.columns m
 
     big-row : (m : ℕ) → row_of p.columns (at_big m) ≡ big.top + row_of big.columns m
-    big-row m = row-cell p.columns (big.top + row_of big.columns m) (big.left + column_of big.columns m)
-        (inner-column blank (with_cells p cells) part
+    big-row m = row-cell p.columns (big.top + row_of big.columns m) (big.left + column_of big.columns m) (inner-column blank (with_cells p cells) part
         (λ k t. let a = within k (o.inside k t) in let e = o.long in omega (arith, a, e)) o.member o.member_in wide m)
 
     big-column : (m : ℕ) → column_of p.columns (at_big m) ≡ big.left + column_of big.columns m
@@ -145,14 +144,7 @@ module _ (blank : ℕ) (p : Grid) (set : ℕ → Bool) (within : (k : ℕ) → s
 
     -- a cell of the set stands in the small box where it stands in the big one
     placed-at : (m : ℕ) → set (at_big m) ≡ true → place (at_big m) ≡ at_small m
-    placed-at m t =
-        let r = rows-moved.0 in let c = columns-moved.0 in
-        let a = big-row m in let b = big-column m in let d = small-row m in let e = small-column m in
-        let rows : row_of outer.columns (place (at_big m)) ≡ row_of outer.columns (at_small m) =
-        (let f = place-row blank p set within some some_in wide (at_big m) t in omega (arith, f, r, a, d)) in
-        let columns : column_of outer.columns (place (at_big m)) ≡ column_of outer.columns (at_small m) =
-        (let f = place-column blank p set within some some_in wide (at_big m) t in omega (arith, f, c, b, e)) in
-        same-cell outer.columns (place (at_big m)) (at_small m) rows columns
+    placed-at m t = grind (arith, nat_tests, rows-moved, columns-moved, big-row, big-column, small-row, small-column, place-row, place-column, same-cell)
 
     -- what stands in the small box is that cell
     at-placed : (m k : ℕ) → set k ≡ true → at_small m ≡ place k → k ≡ at_big m

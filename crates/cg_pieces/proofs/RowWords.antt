@@ -65,9 +65,6 @@ module _ (word columns : ℕ) (f : Frame) where
         (on_first : (i : ℕ) → i < row * f.columns → bit_at on i ≡ 0)
         (on_others : (i : ℕ) → row * f.columns ≤ i → i < 64 → bit_at on i ≡ bit_at (bit_and moved mask) (i - row * f.columns))
       where
-        few-row : (row + 1) * f.columns ≤ 64
-        few-row = grind (arith, nat_tests, mul-le-mul_right, few-cut)
-
         in-row : (m : ℕ) → row * f.columns ≤ m → m < (row + 1) * f.columns → bit_at on m ≡ bit_at word (unboxed (box_from f) columns m)
         in-row m low high =
             let d : ℕ = m - row * f.columns in
@@ -76,7 +73,7 @@ module _ (word columns : ℕ) (f : Frame) where
             let r : row_of f.columns m ≡ row = ap (row_of f.columns) e ∙ row-cell f.columns row d few in
             let c : column_of f.columns m ≡ d = ap (column_of f.columns) e ∙ column-cell f.columns row d few in
             let place : (d + (f.top * columns + f.left)) + row * columns ≡ cell_at columns (f.top + row) (f.left + d) = omega arith in
-            let all = few-row in
+            let all : (row + 1) * f.columns ≤ 64 = grind (arith, nat_tests, mul-le-mul_right, few-cut) in
             let one : bit_at mask d ≡ 1 = test-marks mask (λ i. nat_lt i f.columns) mask_is d (lt-ltb d f.columns few) in
             let both = bit_at_and moved mask d in
             let bit = bit_at-lt moved d in

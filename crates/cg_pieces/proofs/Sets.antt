@@ -33,8 +33,7 @@ module _ (g : CellGame) (laws : IsCellGame g) where
   open-along p k l (step x n b x_open n_open next) k_open = n_open
 
   -- the two cells of a move are in one set
-  pub legal-joined : (player : Player) (p : Grid) (k one other : ℕ) → g.legal player p one other ≡ true → Joined g p k one
-      → Joined g p k other
+  pub legal-joined : (player : Player) (p : Grid) (k one other : ℕ) → g.legal player p one other ≡ true → Joined g p k one → Joined g p k other
   legal-joined player p k one other legal j =
       let (a, b, next) = laws.legal_open player p one other legal in
       step one other j a b next
@@ -43,8 +42,7 @@ module _ (g : CellGame) (laws : IsCellGame g) where
     -- ---- outside the set
 
     pub joined-before : (k l : ℕ) → Joined g after k l → Joined g p k l
-    joined-before = linked-along (g.is_open after) (g.is_open p) (g.adjacent after) (g.adjacent p) o.fewer
-        (λ x n t. sym (o.adjacent x n) ∙ t)
+    joined-before = linked-along (g.is_open after) (g.is_open p) (g.adjacent after) (g.adjacent p) o.fewer (λ x n t. sym (o.adjacent x n) ∙ t)
 
     pub stays-apart : (k l : ℕ) → ¬ Joined g p s k → Joined g p k l → ¬ Joined g p s l
     stays-apart k l out j in_set = out (joined-trans p s l k in_set (joined-sym p k l j))

@@ -44,13 +44,7 @@ module _ (n : Neighbours) (laws : IsNeighbours n) (p : Grid) where
   -- ---- cells that no cell before them is joined with
 
   least-of : (k : ℕ) → ((l : ℕ) → l < k → are_joined n p l k ≡ true → ⊥) → is_least n p k ≡ true
-  least-of k none =
-      each-all (λ l. not (are_joined n p k l) || nat_le k l) (counted 0 (length p.cells))
-      (λ l m. elim (leb_tells k l) [
-        | inl h ↦ or-second (not (are_joined n p k l)) (nat_le k l) (le-leb k l h.1)
-        | inr h ↦ or-first (not (are_joined n p k l)) (nat_le k l)
-            (true_not (are_joined n p k l) (λ t. none l h.1 (flipped k l t)))
-      ])
+  least-of k none = grind (arith, nat_tests, each-all, leb_tells, or-second, le-leb, or-first, true_not, flipped)
 
   of-least : (k : ℕ) → is_piece_cell n p k ≡ true → is_least n p k ≡ true → (l : ℕ) → are_joined n p k l ≡ true → k ≤ l
   of-least k some least l t =

@@ -36,8 +36,7 @@ module _ (n : Neighbours) (p : Grid) where
 
 module _ (n : Neighbours) (laws : IsNeighbours n) (p : Grid) where
   -- cells that aren't left are passed over
-  passed : (boards : List Grid) (left end : ℕ) → IsTakenTo n p boards left end → ¬ (bit_at left end ≡ 1)
-      → IsTakenTo n p boards left (end + 1)
+  passed : (boards : List Grid) (left end : ℕ) → IsTakenTo n p boards left end → ¬ (bit_at left end ≡ 1) → IsTakenTo n p boards left (end + 1)
   passed boards left end is none = record {
     boards_are = none-more (is_first n p) (λ k. cropped n.blank (are_joined n p k) p) end boards
         (not-first n laws p end left is.left_are none) is.boards_are;
