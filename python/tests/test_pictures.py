@@ -19,6 +19,21 @@ THREE = {
     "sente": "{4||2|0}",
     "two-sided": "{{{20|2}|1}|{-1||-2|-30}}",
 }
+STONES = ".=0,0,0;x=0,0,1;o=0,1,0;L:x.>.x;L:x..>..x;R:.o>o."
+ENDGAME = ".#......|.###....|.#.#####|.#.#....|##..#...|....#...|###.###.|..#...#."
+DRAWN = {
+    "docs/pictures/board.svg": 'Domineering("...|...")',
+    "docs/pictures/rooms.svg": 'Domineering("..#..#.|..#..#.|..#####")',
+    "docs/pictures/stones.svg": f'Strip("{STONES}","x...o")',
+    "examples/studies/pictures/amazons.svg": 'Amazons("x.|..|.o")',
+    "examples/studies/pictures/clobber.svg": 'Clobber("xox|oxo")',
+    "examples/studies/pictures/endgame.svg": f'Domineering("{ENDGAME}")',
+    "examples/studies/pictures/kayles.svg": 'Octal("0.77",9)',
+    "examples/studies/pictures/snort.svg": 'Snort(".....","ab,ac,ad,ae")',
+    "examples/studies/pictures/stalks.svg": 'Hackenbush("0b1,1b2,2r3,3b4,4r5")',
+    "examples/studies/pictures/toads.svg": 'Toads("TT..FF")',
+}
+"""The boards that pages show, as `cg-plot --board` draws them."""
 EXPRESSIONS = [
     *THREE.values(),
     *("1/2", "^", "{1000|-1000}", "{3|1||0|-5}", "{10|9||0|-1} + {3||1|0}", "{9|-{8|-1/8}}"),
@@ -149,6 +164,11 @@ class Pictures(unittest.TestCase):
             self.assertLess(path.stat().st_size, 6_000)
             manual = (ROOT / "docs" / "LANGUAGE.md").read_text()
             self.assertEqual(manual.count(f"(pictures/{name}.svg)"), 1)
+
+    def test_the_boards_of_the_pages(self) -> None:
+        for path, text in DRAWN.items():
+            board = Game(text).board
+            self.assertTrue(board and board.svg() == (ROOT / path).read_text(), path)
 
 
 class Thermographs(unittest.TestCase):
