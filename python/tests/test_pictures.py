@@ -9,7 +9,7 @@ from xml.etree import ElementTree
 
 from cgcalc import Corner, Game, Session, Thermograph, WrongCall
 from cgcalc.svg import INK, LEFT, RIGHT
-from tests.places import ROOT
+from tests.places import ROOT, run
 from tests.png import Pixel, Png, rendered
 
 SVG = "{http://www.w3.org/2000/svg}"
@@ -19,6 +19,24 @@ THREE = {
     "sente": "{4||2|0}",
     "two-sided": "{{{20|2}|1}|{-1||-2|-30}}",
 }
+STONES = ".=0,0,0;x=0,0,1;o=0,1,0;L:x.>.x;L:x..>..x;R:.o>o."
+ENDGAME = ".#......|.###....|.#.#####|.#.#....|##..#...|....#...|###.###.|..#...#."
+STUDIES = "examples/studies/pictures"
+TWO_ROWS = [f'Domineering("{row}|{row}")' for row in ("...", "........")]
+DRAWN = {
+    "docs/pictures/board.svg": ["--board", 'Domineering("...|...")'],
+    "docs/pictures/rooms.svg": ["--board", 'Domineering("..#..#.|..#..#.|..#####")'],
+    "docs/pictures/stones.svg": ["--board", f'Strip("{STONES}","x...o")'],
+    f"{STUDIES}/amazons.svg": ["--board", 'Amazons("x.|..|.o")'],
+    f"{STUDIES}/clobber.svg": ["--board", 'Clobber("xox|oxo")'],
+    f"{STUDIES}/domineering.svg": [*TWO_ROWS, "--height", "200"],
+    f"{STUDIES}/endgame.svg": ["--board", f'Domineering("{ENDGAME}")'],
+    f"{STUDIES}/kayles.svg": ["--board", 'Octal("0.77",9)'],
+    f"{STUDIES}/snort.svg": ["--board", 'Snort(".....","ab,ac,ad,ae")'],
+    f"{STUDIES}/stalks.svg": ["--board", 'Hackenbush("0b1,1b2,2r3,3b4,4r5")'],
+    f"{STUDIES}/toads.svg": ["--board", 'Toads("TT..FF")'],
+}
+"""Pictures of pages, and the words with which `cg-plot` draws them."""
 EXPRESSIONS = [
     *THREE.values(),
     *("1/2", "^", "{1000|-1000}", "{3|1||0|-5}", "{10|9||0|-1} + {3||1|0}", "{9|-{8|-1/8}}"),
@@ -149,6 +167,10 @@ class Pictures(unittest.TestCase):
             self.assertLess(path.stat().st_size, 6_000)
             manual = (ROOT / "docs" / "LANGUAGE.md").read_text()
             self.assertEqual(manual.count(f"(pictures/{name}.svg)"), 1)
+
+    def test_the_pictures_that_cg_plot_draws(self) -> None:
+        for path, words in DRAWN.items():
+            self.assertEqual(run("cg-plot", words), (0, (ROOT / path).read_text(), ""), path)
 
 
 class Thermographs(unittest.TestCase):

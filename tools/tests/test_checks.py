@@ -120,6 +120,7 @@ class Examples(Tried):
     def test_what_commands_do(self):
         for told, text in [
             ("wanted:\n2\nprinted, with status 0:\n1\n", "$ echo 1\n2\n"),
+            ("wanted:\n2\nprinted, with status 0:\n1 $x\n", "$ cat\ncg> 1 $x\n2\n"),
             ("with status 3", "$ (exit 3)\n"),
             ("with status none", "$ exit 0\n$ echo 1\n1\n"),
             ("written to standard error:\n1\n", "$ echo 1 >&2\n"),
