@@ -1,4 +1,4 @@
-"""What the shell tells of questions, games and refusals: the tables of the manual."""
+"""What the shell tells of questions, games and refusals: the tables and lists of the manual."""
 from __future__ import annotations
 
 from typing import Optional
@@ -7,7 +7,7 @@ from cgcalc.refusals import CAUSES, KINDS
 
 QUESTIONS = {
     "value": ("value E", "the name of the canonical form of E"),
-    "compare": ("compare E ; F", "`<`, `>`, `=`, or two bars where E and F are confused"),
+    "compare": ("compare E ; F", "`<`, `>`, `=`, or two bars if E and F are confused"),
     "outcome": (
         "outcome E",
         "who wins E: `L` Left, `R` Right, `P` the previous player, `N` the next player",
@@ -20,7 +20,7 @@ QUESTIONS = {
         "`mean m temp t left C right D`, with C and D the corners of the walls",
     ),
     "proof": ("proof E ; F", "whether E >= F, with a proof of it"),
-    "check": ('check E ; F ; "P"', "`yes` where P is such a proof, and else `no`"),
+    "check": ('check E ; F ; "P"', "`yes` if P is such a proof, else `no`"),
 }
 """The manual's table of questions."""
 EXPRESSIONS = {
@@ -35,7 +35,7 @@ EXPRESSIONS = {
     ),
     "Octal": ('Octal("0.77",9)', "a heap of 9 tokens in the octal game 0.77"),
 }
-"""Lines of the manual's table of expressions."""
+"""Lines of the manual's list of expressions."""
 BOARDS = {
     "Domineering": (
         "`.` empty, `#` filled",
@@ -45,7 +45,7 @@ BOARDS = {
     "Clobber": (
         "`x` Left's, `o` Right's, `.` empty",
         "move an `x` onto an adjacent `o`, which is removed",
-        "move an `o` onto an adjacent `x`",
+        "the same with `o` onto `x`",
     ),
     "Amazons": (
         "`x` Left's, `o` Right's, `.` empty, `#` blocked",
@@ -55,9 +55,9 @@ BOARDS = {
     ),
     "Toads": (
         "`T` toad, `F` frog, `.` empty; one row",
-        "a toad moves one cell to the right onto an empty cell, or jumps over one frog into the"
-        " empty cell behind it",
-        "a frog moves one cell to the left, or jumps over one toad",
+        "a toad moves one cell right onto an empty cell, or jumps over one frog into the empty cell"
+        " behind it",
+        "a frog moves left likewise",
     ),
 }
 """The manual's table of boards: the symbols, Left's moves and Right's."""

@@ -1,4 +1,4 @@
-"""The examples of the docstrings, of the package's README and of docs/TOOLS.md."""
+"""The examples of the docstrings, of the package's README and of two pages of docs/."""
 from __future__ import annotations
 
 import doctest
@@ -20,6 +20,6 @@ def load_tests(
     ]
     for name in modules:
         tests.addTests(doctest.DocTestSuite(importlib.import_module(name)))
-    for page in ("python/README.md", "docs/TOOLS.md"):
+    for page in ("python/README.md", "docs/TOOLS.md", "docs/BATCHES.md"):
         tests.addTests(doctest.DocFileSuite(str(ROOT / page), module_relative=False))
     return tests

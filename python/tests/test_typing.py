@@ -11,7 +11,7 @@ from pathlib import Path
 
 from tests.places import ROOT, environment
 
-PAGES = ("docs/TOOLS.md", "python/README.md")
+PAGES = ("docs/TOOLS.md", "docs/BATCHES.md", "python/README.md")
 
 
 @unittest.skipUnless(find_spec("mypy"), "this Python has no mypy")

@@ -1,4 +1,5 @@
-"""A second program for the sessions of docs/LANGUAGE.md, written from that page and the textbook's definitions alone.
+"""A second program for the sessions of docs/LANGUAGE.md, written from the manual (that page, the columns and places of
+docs/ERRORS.md, the costs of docs/LIMITS.md) and the textbook's definitions alone.
 
 It shares no code with the calculator beside which it is run by `tools/compare-reference`. It is slow: a line is read by trying
 all ways to read it, items are listed as they are defined, and forms are trees that are compared by the definition of the

@@ -260,6 +260,95 @@ echo cgsession > "$(sed -n "s/.*writefile(said, '\\(.*\\)').*/\\1/p" "$script")"
         self.fails("2 tests, 2 failed", "check-python", "test_editors.Vim", path=path)
 
 
+class Pages(Tried):
+    """check-pages."""
+
+    def with_pages(self, **pages):
+        """The tools with pages, whose names have two lines for a slash and lack their ending."""
+        top = os.path.join(self.folder, "copy")
+        shutil.rmtree(top, ignore_errors=True)
+        self.copied()
+        for name, text in pages.items():
+            path = os.path.join(top, name.replace("__", os.sep) + ".md")
+            os.makedirs(os.path.dirname(path), exist_ok=True)
+            with open(path, "w", encoding="utf-8") as file:
+                file.write(text)
+        return top
+
+    def test_nothing_to_check(self):
+        self.fails("0 of 11 pages with bounds are there", "check-pages", top=self.with_pages(page="[a link](page.md)\n"))
+        code = "```\n[a link](README.md)\n```\n`[one](README.md)`\n"
+        self.fails("0 links", "check-pages", top=self.with_pages(README=code))
+
+    def test_pages_that_are_too_long(self):
+        text = "[a link](README.md)\n"
+        for told, pages in [
+            ("README.md: 901 words of at most 900", {"README": text + "word " * 899}),
+            ("README.md: 151 lines of at most 150", {"README": text + "\n" * 150}),
+            ("docs/ERRORS.md: 1001 words of at most 1000", {"README": text, "docs__ERRORS": "| a |\n" * 333 + "word word"}),
+        ]:
+            with self.subTest(told=told):
+                top = self.with_pages(**pages)
+                self.fails(told, "check-pages", top=top)
+                self.assertIn("docs/PROOF.md isn't there yet", self.run_tool("check-pages", top=top)[1])
+
+    def test_links(self):
+        headings = "# A `page`, it's said\n## Twice\n```\n# Code\n```\n## Twice\n### [A link](#twice) in it\n"
+        good = ["other.md", "other.md#a-page-its-said", "other.md#twice", "other.md#twice-1", "#one", "../tools", "https://a.b/c",
+                "../tools/command.py", "other.md#a-link-in-it", "<other.md#twice>", 'other.md "a title"']
+        bad = ["nowhere.md", "other.md#code", "other.md#twice-2", "#two", "../..", "../tools/command.py#one", "other.md#Twice"]
+        for link in good + bad:
+            with self.subTest(link=link):
+                top = self.with_pages(README="word\n", docs__other=headings, docs__page=f"# One\n[`code`]({link}) [one](#one)\n")
+                ended, written = self.run_tool("check-pages", top=top)
+                self.assertEqual(ended, int(link in bad), written)
+                self.assertIs(f"docs/page.md:2: the link to {link} leads nowhere" in written, link in bad)
+
+
+class Manual(Tried):
+    """make-manual."""
+
+    def spoilt(self, before, behind):
+        """The tools with the manual, in which a text is replaced."""
+        top = self.copied("docs/LANGUAGE.md", "docs/cg.1")
+        path = os.path.join(top, "docs", "LANGUAGE.md")
+        with open(path, encoding="utf-8") as file:
+            text = file.read()
+        self.assertIn(before, text)
+        with open(path, "w", encoding="utf-8") as file:
+            file.write(text.replace(before, behind))
+        return top
+
+    def test_the_page_that_is_made(self):
+        top = self.spoilt("| `mean E` | the mean |", "| `mean E` | the middle |")
+        self.fails("docs/cg.1 isn't what docs/LANGUAGE.md says", "make-manual", "--check", top=top)
+        self.assertEqual(self.run_tool("make-manual", top=top), (0, ""))
+        self.assertEqual(self.run_tool("make-manual", "--check", top=top)[0], 0)
+        with open(os.path.join(top, "docs", "cg.1"), encoding="utf-8") as file:
+            self.assertIn("\nthe middle\n", file.read())
+        os.remove(os.path.join(top, "docs", "cg.1"))
+        self.fails("docs/cg.1 isn't what docs/LANGUAGE.md says", "make-manual", "--check", top=top)
+
+    def test_parts_that_lack(self):
+        for told, before, behind in [
+            ("a section Questions", "## Questions\n", "## Asked\n"),
+            ("a table of Question, Answer", "| Question | Answer |", "| Question | Reply |"),
+            ("a list of expressions", "\n- `", "\n* `"),
+            ("a table of Option, Range, Default, What it says", "| Option |", "| Word |"),
+            ("a table of Status, Comes, Written", "| Status |", "| Number |"),
+            ("a usage line", "\n```\ncg ", "\n```text\ncg "),
+            ("the option `--cells` in its usage line", "[--cells N]", ""),
+            ("an example", "```console", "```sh"),
+        ]:
+            with self.subTest(told=told):
+                top = self.spoilt(before, behind)
+                self.fails(f"docs/LANGUAGE.md lacks {told}", "make-manual", top=top)
+                shutil.rmtree(top)
+
+    def test_no_page(self):
+        self.fails("docs/LANGUAGE.md can't be read", "make-manual", "--check", top=self.copied())
+
+
 class Style(Tried):
     """check-style."""
 
@@ -338,8 +427,8 @@ class Gate(Tried):
     def test_each_step_fails_the_gate(self):
         ended, _, steps = self.gate()
         self.assertEqual(ended, 0)
-        for name in ("install-packages", "check-lint", "check-examples", "check-python", "check-tools", "compare-reference",
-                     "check-words", "compare-workers", "refuse-allocations", "check-style"):
+        for name in ("install-packages", "check-lint", "check-pages", "make-manual", "check-examples", "check-python",
+                     "check-tools", "compare-reference", "check-words", "compare-workers", "refuse-allocations", "check-style"):
             with self.subTest(name=name):
                 self.assertIn(name, steps)
                 ended, _, ran = self.gate(ends=[name])
