@@ -1,10 +1,10 @@
 -- Captures in words.
-use Rattle.std.proofs.Common.{◌≡◌, refl, ℕ, suc, ◌+◌, ◌-◌, ◌*◌, ◌%◌, ◌^◌, ◌<◌, ◌≤◌, ◌==◌, ◌&&◌, not, nat_lt, inl, inr, Bool, true, false, if◌then◌else◌, Option, Some, None, List, length, ap, sym, ◌∙◌, arith, bit_and}
-use Rattle.std.specs.Prelude.{codes, slice_index}
+use Rattle.std.proofs.Common.{◌≡◌, refl, ℕ, ◌+◌, ◌-◌, ◌*◌, ◌%◌, ◌^◌, ◌<◌, ◌≤◌, ◌==◌, ◌&&◌, not, nat_lt, Bool, true, false, if◌then◌else◌, Option, Some, None, List, length, ◌∙◌, arith, bit_and}
+use Rattle.std.specs.Prelude.{codes}
 use Rattle.std.specs.Int.{bit_at}
 use Rattle.std.specs.Str.{bytes_eq}
 use Rattle.std.proofs.lemmas.Bool.{eqb-true, eq-eqb, lt-ltb, ltb-true}
-use Rattle.std.proofs.lemmas.Bool.Decides.{leb_tells}
+use Rattle.std.proofs.lemmas.Bool.Decides.{leb_tells, nat_tests}
 use Rattle.std.proofs.lemmas.List.{get_or_past}
 use Rattle.std.proofs.lemmas.Nat.{and_le_l}
 use Rattle.cg_moves.specs.declared.player.Player.{Player}
@@ -29,12 +29,7 @@ bit_and-below a b l = let k = and_le_l a b in omega arith
 -- ---- a stone stands inside
 
 stone-inside : (cells : List ℕ) (i s : ℕ) → 0 < s → has_stone cells i s ≡ true → i < length cells
-stone-inside cells i s some e = elim (leb_tells (length cells) i) [
-  | inl h ↦ (let a : slice_index cells i ≡ s = eqb-true (slice_index cells i) s e in
-      let b : slice_index cells i ≡ 0 = get_or_past cells i 0 h.1 in
-      absurd (omega arith))
-  | inr h ↦ h.1
-]
+stone-inside cells i s some e = grind (arith, nat_tests, leb_tells, eqb-true, get_or_past)
 
 own-some : (player : Player) → 0 < own player
 own-some Left = omega arith
@@ -47,13 +42,11 @@ other-some : (player : Player) → 0 < other player
 other-some Left = omega arith
 other-some Right = omega arith
 
-pub other-stone-inside : (player : Player) (p : Grid) (i : ℕ) → has_stone p.cells i (other player) ≡ true
-    → i < length p.cells
+pub other-stone-inside : (player : Player) (p : Grid) (i : ℕ) → has_stone p.cells i (other player) ≡ true → i < length p.cells
 other-stone-inside player p i e = stone-inside p.cells i (other player) (other-some player) e
 
 -- a stone that captures stands inside
-pub captures-inside : (player : Player) (p : Grid) (i : ℕ) (o : Option ℕ) → captures_onto player p i o ≡ true
-    → i < length p.cells
+pub captures-inside : (player : Player) (p : Grid) (i : ℕ) (o : Option ℕ) → captures_onto player p i o ≡ true → i < length p.cells
 captures-inside player p i None e = cc
 captures-inside player p i (Some j) e =
     own-stone-inside player p i (and-true (has_stone p.cells i (own player)) (has_stone p.cells j (other player)) e).0
@@ -68,21 +61,10 @@ module _ (player : Player) (p : Grid) where
   other_at i = has_stone p.cells i (other player)
 
   -- up: there is a row above, and an opposing stone there
-  up-test : (i : ℕ) (b s : Bool) → (stone_at i ≡ true → s ≡ true)
-      → (stone_at i && (s && (not b && other_at (i - p.columns))))
+  up-test : (i : ℕ) (b s : Bool) → (stone_at i ≡ true → s ≡ true) → (stone_at i && (s && (not b && other_at (i - p.columns))))
       ≡ captures_onto player p i (if b then None else Some (i - p.columns))
-  up-test i true s h = go (stone_at i) s (other_at (i - p.columns))
-    where
-      go : (o s t : Bool) → (o && (s && (false && t))) ≡ false
-      go true true t = refl
-      go true false t = refl
-      go false s t = refl
-  up-test i false s h = go (stone_at i) h
-    where
-      go : (o : Bool) → (o ≡ true → s ≡ true)
-          → (o && (s && (true && other_at (i - p.columns)))) ≡ (o && other_at (i - p.columns))
-      go true k = ap (λ z. z && (true && other_at (i - p.columns))) (k refl)
-      go false k = refl
+  up-test i true s h = grind (arith, nat_tests)
+  up-test i false s h = grind (arith, nat_tests)
 
   pub up_marks : (stones others moved : ℕ) → length p.cells ≤ 64 → moved < 2 ^ 64 → Marks stones stone_at
       → Marks others other_at → ((i : ℕ) → i < p.columns → bit_at moved i ≡ 0)
@@ -100,12 +82,7 @@ module _ (player : Player) (p : Grid) where
   down-test : (i : ℕ) (b : Bool) → (other_at (i + p.columns) ≡ true → b ≡ true)
       → (stone_at i && other_at (i + p.columns)) ≡ captures_onto player p i (if b then Some (i + p.columns) else None)
   down-test i true h = refl
-  down-test i false h = go (stone_at i) (other_at (i + p.columns)) h
-    where
-      go : (o t : Bool) → (t ≡ true → false ≡ true) → (o && t) ≡ false
-      go true true k = sym (k refl)
-      go true false k = refl
-      go false t k = refl
+  down-test i false h = grind (arith, nat_tests)
 
   pub down_marks : (stones others moved : ℕ) → Marks stones stone_at → Marks others other_at
       → ((i : ℕ) → bit_at moved i ≡ bit_at others (i + p.columns))
@@ -116,32 +93,11 @@ module _ (player : Player) (p : Grid) where
       (marks_both stones moved stone_at (λ i. other_at (i + p.columns)) are (λ i. rest i ∙ opposing (i + p.columns)))
 
   -- back: not in the first column, and an opposing stone on the cell before
-  back-test : (i : ℕ) (x s l b : Bool) → (stone_at i ≡ true → s ≡ true) → (stone_at i ≡ true → l ≡ true)
-      → (x ≡ false → b ≡ false)
+  back-test : (i : ℕ) (x s l b : Bool) → (stone_at i ≡ true → s ≡ true) → (stone_at i ≡ true → l ≡ true) → (x ≡ false → b ≡ false)
       → ((stone_at i && (s && (not b && other_at (i - 1)))) && not (l && x))
       ≡ captures_onto player p i (if x then None else Some (i - 1))
-  back-test i true s l b hs hl hb = go (stone_at i) hl
-    where
-      none : (z : Bool) → (z && false) ≡ false
-      none true = refl
-      none false = refl
-
-      go : (o : Bool) → (o ≡ true → l ≡ true) → ((o && (s && (not b && other_at (i - 1)))) && not (l && true)) ≡ false
-      go true k = ap (λ z. (s && (not b && other_at (i - 1))) && not (z && true)) (k refl)
-          ∙ none (s && (not b && other_at (i - 1)))
-      go false k = refl
-  back-test i false s l b hs hl hb = go (stone_at i) hs hl
-    where
-      all : (z : Bool) → (z && true) ≡ z
-      all true = refl
-      all false = refl
-
-      go : (o : Bool) → (o ≡ true → s ≡ true) → (o ≡ true → l ≡ true)
-          → ((o && (s && (not b && other_at (i - 1)))) && not (l && false)) ≡ (o && other_at (i - 1))
-      go true k m = ap (λ z. (z && (not b && other_at (i - 1))) && not (l && false)) (k refl)
-          ∙ ap (λ z. (true && (not z && other_at (i - 1))) && not (l && false)) (hb refl)
-          ∙ ap (λ z. other_at (i - 1) && not (z && false)) (m refl) ∙ all (other_at (i - 1))
-      go false k m = refl
+  back-test i true s l b hs hl hb = grind (arith, nat_tests)
+  back-test i false s l b hs hl hb = grind (arith, nat_tests)
 
   pub back_marks : (stones others moved first : ℕ) → length p.cells ≤ 64 → stones < 2 ^ 64 → moved < 2 ^ 64
       → first < 2 ^ 64 → Marks stones stone_at → Marks others other_at
@@ -168,32 +124,14 @@ module _ (player : Player) (p : Grid) where
       zero_first c = omega arith
 
       later : (i : ℕ) → (i % p.columns == 0) ≡ false → nat_lt i 1 ≡ false
-      later i e = elim (leb_tells (suc i) 1) [
-        | inl h ↦ (let z : i ≡ 0 = omega (arith, h.1) in
-            let t : (i % p.columns == 0) ≡ true = eq-eqb (i % p.columns) 0 (ap (λ k. k % p.columns) z ∙ zero_first p.columns) in
-            absurd cc)
-        | inr h ↦ h.0
-      ]
+      later i e = grind (arith, nat_tests, leb_tells, eq-eqb, zero_first)
 
   -- forth: not in the last column, and an opposing stone on the next cell
   forth-test : (i : ℕ) (s x l : Bool) → (other_at (i + 1) ≡ true → s ≡ true) → x ≡ not l
       → (stone_at i && (other_at (i + 1) && not (s && x)))
       ≡ captures_onto player p i (if l then Some (i + 1) else None)
-  forth-test i s x true h e = ap (λ z. stone_at i && (other_at (i + 1) && not (s && z))) e
-      ∙ go (stone_at i) (other_at (i + 1)) s
-    where
-      go : (o t s : Bool) → (o && (t && not (s && false))) ≡ (o && t)
-      go o true true = refl
-      go o true false = refl
-      go true false s = refl
-      go false false s = refl
-  forth-test i s x false h e = ap (λ z. stone_at i && (other_at (i + 1) && not (s && z))) e
-      ∙ go (stone_at i) (other_at (i + 1)) h
-    where
-      go : (o t : Bool) → (t ≡ true → s ≡ true) → (o && (t && not (s && true))) ≡ false
-      go true true k = ap (λ z. not (z && true)) (k refl)
-      go true false k = refl
-      go false t k = refl
+  forth-test i s x true h e = grind (arith, nat_tests)
+  forth-test i s x false h e = grind (arith, nat_tests)
 
   pub forth_marks : (stones others moved first : ℕ) → 0 < p.columns → others < 2 ^ 64 → first < 2 ^ 64
       → Marks stones stone_at → Marks others other_at

@@ -68,8 +68,7 @@ module _ (p : Grid) (wide : 0 < p.columns) where
     forth-bit Left k t = or-left x_forth o_forth k (test-marks x_forth (captures_that_way Left p Forth) xs_forth k t)
     forth-bit Right k t = or-right x_forth o_forth k (test-marks o_forth (captures_that_way Right p Forth) os_forth k t)
 
-    spot : (player : Player) (k l : ℕ) → is_behind p k l ≡ true → l < length p.cells → captures player p k l ≡ true
-        → bit_at word k ≡ 1
+    spot : (player : Player) (k l : ℕ) → is_behind p k l ≡ true → l < length p.cells → captures player p k l ≡ true → bit_at word k ≡ 1
     spot player k l b below t = elim (or-cases (is_below p.columns k l) (is_beside p.columns k l) b) [
       | inl x ↦ or-left (bit_or x_down o_down) (bit_or x_forth o_forth) k
           (down-bit player k (ap (captures_onto player p k) (next-down p k l below x) ∙ t))

@@ -162,8 +162,7 @@ module _ (player : Player) (p : Grid) where
 
   -- ---- which move is below
 
-  pub lower : (c d s t : ℕ) (y z : List ℕ) → Puts y c s → Puts z d t → c < d → s < slice_index p.cells c
-      → bytes_cmp y z ≡ Less
+  pub lower : (c d s t : ℕ) (y z : List ℕ) → Puts y c s → Puts z d t → c < d → s < slice_index p.cells c → bytes_cmp y z ≡ Less
   lower c d s t y z a b l less =
       let long = a.long in
       let also = b.long in
@@ -173,8 +172,7 @@ module _ (player : Player) (p : Grid) where
       first-less y z c (omega (arith, long, inside)) (omega (arith, also, inside))
       (λ k h. a.before k h ∙ sym (b.before k (omega (arith, h, l)))) (omega (arith, here, there, less))
 
-  pub higher : (c d s t : ℕ) (y z : List ℕ) → Puts y c s → Puts z d t → d < c → slice_index p.cells d < t
-      → bytes_cmp y z ≡ Less
+  pub higher : (c d s t : ℕ) (y z : List ℕ) → Puts y c s → Puts z d t → d < c → slice_index p.cells d < t → bytes_cmp y z ≡ Less
   higher c d s t y z a b l less =
       let long = a.long in
       let also = b.long in
@@ -213,8 +211,7 @@ module _ (player : Player) (p : Grid) where
 
   -- the next cell after the moves down and forth, and after those back and up
 
-  pub after-down : (c : ℕ) (y z : List ℕ) → Taken c (c + p.columns) y → Beside c (c + 1) z
-      → slice_index y (c + 1) ≡ other player
+  pub after-down : (c : ℕ) (y z : List ℕ) → Taken c (c + p.columns) y → Beside c (c + 1) z → slice_index y (c + 1) ≡ other player
   after-down c y z a b =
       let wide = b.wide in
       let t = b.taken in
@@ -227,8 +224,7 @@ module _ (player : Player) (p : Grid) where
   pub after-back : (c : ℕ) (z : List ℕ) → Taken (c + 1) c z → slice_index z (c + 1) ≡ empty
   after-back c z t = ap (λ w. slice_index w (c + 1)) t.is ∙ at-from (c + 1) c (omega arith) t.from_inside
 
-  pub after-up : (c : ℕ) (y z : List ℕ) → Beside (c + 1) c y → Taken (c + p.columns) c z
-      → slice_index z (c + 1) ≡ own player
+  pub after-up : (c : ℕ) (y z : List ℕ) → Beside (c + 1) c y → Taken (c + p.columns) c z → slice_index z (c + 1) ≡ own player
   after-up c y z a b =
       let wide = a.wide in
       let t = a.taken in

@@ -1,4 +1,5 @@
 -- The cells on which some player has a move, by where dominoes fit.
+use Rattle.std.proofs.lemmas.Bool.Decides.{nat_tests}
 use Rattle.std.proofs.Common.{◌≡◌, ℕ, ◌<◌, true, inl, inr, arith, bit_or}
 use Rattle.std.specs.Int.{bit_at}
 use Rattle.cg_moves.specs.declared.player.Player.{Player}
@@ -7,7 +8,6 @@ use Rattle.cg_moves.specs.Grid.{Grid}
 use Rattle.cg_moves.specs.Words.{Marks}
 use Rattle.cg_moves.proofs.ConnectedLemmas.{or-cases}
 use Rattle.cg_pieces.specs.Moving.{AreMoving, is_behind}
-use Rattle.cg_pieces.specs.Neighbours.{is_below, is_beside}
 use Rattle.cg_pieces.proofs.FirstCells.{moving-by}
 use Rattle.cg_pieces.proofs.GrowingSets.{or-left, or-parts, or-right}
 use Rattle.cg_pieces.proofs.Lines.{below-is, beside-is}
@@ -19,12 +19,7 @@ use Rattle.cg_domineering.proofs.Placing.{other-after}
 module _ (p : Grid) (wide : 0 < p.columns) where
   -- the first cell of a domino isn't behind the other
   apart : (player : Player) (k l : ℕ) → is_behind p k l ≡ true → k ≡ other_cell player p l → ⊥
-  apart player k l b e =
-      let after = other-after player p l wide in
-      elim (or-cases (is_below p.columns k l) (is_beside p.columns k l) b) [
-        | inl x ↦ let f = below-is p.columns k l x in omega (arith, e, f, after)
-        | inr x ↦ let f = beside-is p.columns k l x in omega (arith, e, f, after)
-      ]
+  apart player k l b e = grind (arith, nat_tests, other-after, or-cases, below-is, beside-is)
 
   module _ (below beside : ℕ) (lefts : Marks below (fits Left p)) (rights : Marks beside (fits Right p)) where
     spot : (player : Player) (k : ℕ) → fits player p k ≡ true → bit_at (bit_or below beside) k ≡ 1

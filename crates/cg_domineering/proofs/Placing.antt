@@ -6,7 +6,7 @@ use Rattle.std.specs.List.{flat_map}
 use Rattle.std.specs.Str.{bytes_eq}
 use Rattle.std.specs.declared.cmp.Ordering.TheVariants.{Less}
 use Rattle.std.proofs.lemmas.Bool.{eqb-true, le-ltb, lt-ltb, ltb-true}
-use Rattle.std.proofs.lemmas.Bool.Decides.{leb_tells}
+use Rattle.std.proofs.lemmas.Bool.Decides.{leb_tells, nat_tests}
 use Rattle.std.proofs.lemmas.List.{get_or_past}
 use Rattle.cg_moves.specs.declared.player.Player.{Player}
 use Rattle.cg_moves.specs.declared.player.Player.TheVariants.{Left, Right}
@@ -40,12 +40,7 @@ wide p has =
 -- ---- the cells of a domino that fits
 
 empty-inside : (cells : List ℕ) (i : ℕ) → is_empty cells i ≡ true → i < length cells
-empty-inside cells i e = elim (leb_tells (length cells) i) [
-  | inl h ↦ (let a : slice_index cells i ≡ 46 = eqb-true (slice_index cells i) empty e in
-      let b : slice_index cells i ≡ 0 = get_or_past cells i 0 h.1 in
-      absurd (omega arith))
-  | inr h ↦ h.1
-]
+empty-inside cells i e = grind (arith, nat_tests, leb_tells, eqb-true, get_or_past)
 
 record Placed (player : Player) (p : Grid) (i : ℕ) : Type 0 where
   first_empty : is_empty p.cells i ≡ true
@@ -80,8 +75,7 @@ before-domino player p i k some l =
     get_or-set_other (slice_set p.cells i filled) (other_cell player p i) k filled 0 (omega arith)
     ∙ get_or-set_other p.cells i k filled 0 (omega arith)
 
-at-domino : (player : Player) (p : Grid) (i : ℕ) → 0 < p.columns → i < length p.cells
-    → slice_index (with_domino player p i) i ≡ filled
+at-domino : (player : Player) (p : Grid) (i : ℕ) → 0 < p.columns → i < length p.cells → slice_index (with_domino player p i) i ≡ filled
 at-domino player p i some l =
     let o = other-after player p i some in
     get_or-set_other (slice_set p.cells i filled) (other_cell player p i) i filled 0 (omega arith)
@@ -101,14 +95,9 @@ domino-less player p i j some f l =
     (omega arith)
 
 placed-in : (player : Player) (p : Grid) (j : ℕ) (z : List ℕ) → In z (moves_at player p j) → z ≡ with_domino player p j
-placed-in player p j z m = go (fits player p j) m
-  where
-    go : (b : Bool) → In z (if b then with_domino player p j ∷ [] else []) → z ≡ with_domino player p j
-    go true n = in_one z (with_domino player p j) n
-    go false n = absurd n
+placed-in player p j z m = grind (arith, nat_tests, in_one)
 
-pub dominoes-rise : (player : Player) (p : Grid) (i n : ℕ) → 0 < p.columns
-    → IsRising (flat_map (moves_at player p) (counted i n))
+pub dominoes-rise : (player : Player) (p : Grid) (i n : ℕ) → 0 < p.columns → IsRising (flat_map (moves_at player p) (counted i n))
 dominoes-rise player p i zero some = rises-none
 dominoes-rise player p i (suc n) some = go (fits player p i) refl (dominoes-rise player p (suc i) n some)
   where
@@ -130,10 +119,7 @@ dominoes-rise player p i (suc n) some = go (fits player p i) refl (dominoes-rise
 left-test : (s e f : Bool) → (f ≡ true → s ≡ true) → (e && f) ≡ (s && e && f)
 left-test true true f h = refl
 left-test true false f h = refl
-left-test false e true h = absurd (no (h refl))
-  where
-    no : false ≡ true → ⊥
-    no g = cc
+left-test false e true h = grind (arith, nat_tests)
 left-test false true false h = refl
 left-test false false false h = refl
 
@@ -181,24 +167,10 @@ left_marks p word below are moved =
 
 -- the next cell is inside where it is empty, and in the first column where this one is in the last
 right-test : (e f s x l : Bool) → (f ≡ true → s ≡ true) → x ≡ not l → (e && (f && not (s && x))) ≡ (l && e && f)
-right-test e true s x l h k =
-    ap (λ z. e && (true && not (z && x))) (h refl) ∙ ap (λ z. e && (true && not (true && z))) k ∙ go e l
-  where
-    go : (e l : Bool) → (e && (true && not (true && not l))) ≡ (l && e && true)
-    go true true = refl
-    go true false = refl
-    go false true = refl
-    go false false = refl
-right-test e false s x l h k = go e l
-  where
-    go : (e l : Bool) → (e && (false && not (s && x))) ≡ (l && e && false)
-    go true true = refl
-    go true false = refl
-    go false true = refl
-    go false false = refl
+right-test e true s x l h k = grind (arith, nat_tests)
+right-test e false s x l h k = grind (arith, nat_tests)
 
-pub right_marks : (p : Grid) (word first beside : ℕ) → 0 < p.columns → word < 2 ^ 64 → first < 2 ^ 64
-    → Marks word (λ i. is_empty p.cells i)
+pub right_marks : (p : Grid) (word first beside : ℕ) → 0 < p.columns → word < 2 ^ 64 → first < 2 ^ 64 → Marks word (λ i. is_empty p.cells i)
     → Marks first (λ i. nat_lt i (length p.cells) && (i % p.columns == 0))
     → ((i : ℕ) → bit_at beside i ≡ bit_at (bit_and word (18446744073709551615 - first)) (i + 1))
     → Marks (bit_and word beside) (fits Right p)
@@ -218,10 +190,7 @@ right_marks p word first beside some fit below are column moved =
 pub dominoes_begun : (player : Player) (p : Grid) (spots : ℕ) (boards : List Grid) → boards ≡ [] → spots < 2 ^ 64
     → Marks spots (fits player p)
     → AreListed (with_cells p) (moves_at player p) (λ k. k) (length p.cells) (λ k. fits player p k ≡ true) spots [] boards
-dominoes_begun player p spots boards none low are =
-    listed-none (with_cells p) (moves_at player p) (λ k. k) (length p.cells) (λ k. fits player p k ≡ true) spots [] boards none low
-    (marks-test spots (fits player p) are)
-    (λ j e. ap (λ b. if b then with_domino player p j ∷ [] else []) (unmarked spots (fits player p) are j e))
+dominoes_begun player p spots boards none low are = grind (arith, nat_tests, listed-none, marks-test, unmarked)
 
 pub one_listed : (player : Player) (p after : Grid) (i : ℕ) (old new : List Grid) → fits player p i ≡ true
     → after ≡ with_cells p (with_domino player p i) → new ≡ old ++ (after ∷ [])
