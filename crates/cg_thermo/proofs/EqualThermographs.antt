@@ -1,7 +1,6 @@
 -- Equal games have one thermograph: the same mean, temperature and corners of both walls.
 use Rattle.std.proofs.Common.{◌≡◌, sym, ◌∙◌, subst, ℕ, ◌+◌, ◌≤◌, arith, map}
-use Rattle.cg_dyadic.specs.Number.{Number}
-use Rattle.cg_form.specs.Game.{Game, number}
+use Rattle.cg_form.specs.Game.{Game}
 use Rattle.cg_form.specs.Heights.{height}
 use Rattle.cg_form.specs.Order.{Equal}
 use Rattle.cg_form.specs.Simple.{NoNumber}

@@ -12,7 +12,7 @@ pub mod Charting
 pub mod Picturing
 pub mod WallLines
 pub mod Wins
-pub mod Besting
+pub mod StopCuts
 pub mod Lining
 pub mod Rescaled
 pub mod OneThermograph

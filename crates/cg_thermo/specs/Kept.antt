@@ -1,4 +1,4 @@
--- What a call has found so far, and keeps for handles: of each game a chart, or its stops.
+-- What a call has found so far, and keeps for handles: of each game its chart.
 use Rattle.std.specs.Prelude.{◌≡◌, ◌⊎◌, ℕ, Option, Some, List, IsSome, nat_eq}
 use Rattle.std.specs.HashMap.{get}
 use Rattle.cg_cells.specs.Meaning.{Has}

@@ -7,7 +7,6 @@ pub mod StopsOf
 pub mod Winners
 -- what private contracts cite
 pub mod Signed
-pub mod Ended
 pub mod Draws
 pub mod Kept
 pub mod Found

@@ -1,5 +1,4 @@
-//! The stops of a game.
-use crate::by_id::ById;
+//! Where the play of a game ends.
 use cg_dyadic::Dyadic;
 
 /// The stops of a game.
@@ -10,6 +9,3 @@ pub struct Stops {
     /// Where play ends that Right begins.
     pub right: Dyadic,
 }
-
-/// For handles the stops of their games.
-pub(crate) type Ends = ById<Stops>;
