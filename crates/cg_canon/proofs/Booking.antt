@@ -15,7 +15,9 @@ use Rattle.cg_book.specs.Recents.{AreRight, IsKept}
 use Rattle.cg_book.proofs.Paging.{game_before, games_before, page_before, pages_before}
 use Rattle.cg_book.proofs.Slices.{games_take_suc}
 use Rattle.cg_canon.specs.declared.book.Book.{Book}
+use Rattle.cg_canon.specs.declared.recognized.Recognized.{Recognized}
 use Rattle.cg_canon.specs.Arena.{Begins}
+use Rattle.cg_canon.specs.Recognized.{AreRecognized}
 use Rattle.cg_canon.specs.Books.{AreLateApart, BookHolds, HasHandle, IsNamed, handle_of}
 use Rattle.cg_canon.proofs.LatePages.{late_first}
 
@@ -77,24 +79,28 @@ book_later s t b grows h = record {
       };
   right = h.right;
   apart = h.apart;
+  recognized = h.recognized;
 }
 
 -- of no games
 pub new_holds : {R : Type 0} (s : State Meant R) (b : Book) → b.pages ≡ [] → b.handles.items ≡ []
-    → ((x : Answer) → IsKept b.answers x → ⊥) → BookHolds s b
-new_holds s b p e empty =
+    → ((x : Answer) → IsKept b.answers x → ⊥) → AreRecognized [] b.recognized → BookHolds s b
+new_holds s b p e empty known =
     let n = ap length e in
+    let K : List Game → Type 0 = λ z. AreRecognized z b.recognized in
     record {
       count = n ∙ sym (ap length p);
       each = λ page k. absurd (omega arith);
       right = λ x k. absurd (empty x k);
       apart = subst AreLateApart (sym e) late_first;
+      recognized = subst K (sym p) known;
     }
 
 -- where nothing was added
 pub holds_same : {R : Type 0} (s : State Meant R) (b c : Book) → BookHolds s b → c.pages ≡ b.pages
-    → c.handles.items ≡ b.handles.items → c.answers ≡ b.answers → BookHolds s c
-holds_same s b c h p e r =
+    → c.handles.items ≡ b.handles.items → c.answers ≡ b.answers → c.recognized ≡ b.recognized → BookHolds s c
+holds_same s b c h p e r k =
+    let K : List Game → Recognized → Type 0 = λ z t. AreRecognized z t in
     let P : List Game → Type 0 = λ z. AreRight z c.answers in
     let A : Recent → Type 0 = λ z. AreRight b.pages z in
     let n = ap length e in
@@ -111,14 +117,15 @@ holds_same s b c h p e r =
           };
       right = subst P (sym p) (subst A (sym r) h.right);
       apart = subst AreLateApart (sym e) h.apart;
+      recognized = subst (λ z. K z c.recognized) (sym p) (subst (K b.pages) (sym k) h.recognized);
     }
 
 -- with one game more, and its handle
 pub holds_more : {R : Type 0} (s : State Meant R) (b c : Book) (handle : ℕ) (k : Game) → BookHolds s b
     → c.pages ≡ b.pages ++ (k ∷ []) → game_at s handle ≡ k
     → c.handles.items ≡ b.handles.items ++ (handle ∷ []) → c.answers ≡ b.answers
-    → AreLateApart (b.handles.items ++ (handle ∷ [])) → IsGame s handle → BookHolds s c
-holds_more {R} s b c handle k h p is e r new game =
+    → AreLateApart (b.handles.items ++ (handle ∷ [])) → IsGame s handle → AreRecognized c.pages c.recognized → BookHolds s c
+holds_more {R} s b c handle k h p is e r new game known =
     let A : Recent → Type 0 = λ z. AreRight c.pages z in
     let n = count in
     record {
@@ -126,6 +133,7 @@ holds_more {R} s b c handle k h p is e r new game =
       each = λ q less. named q (omega (arith, more));
       right = subst A (sym r) (right_begins b.pages c.pages b.answers begins h.right);
       apart = subst AreLateApart (sym e) new;
+      recognized = known;
     }
   where
     begins : Begins b.pages c.pages
@@ -174,6 +182,18 @@ holds_answers s b r h right = record {
   each = λ page k. let i = h.each page k in record { game = i.game; same = i.same };
   right = right;
   apart = h.apart;
+  recognized = h.recognized;
+}
+
+-- with something else that games are known as
+pub holds_known : {R : Type 0} (s : State Meant R) (b : Book) (t : Recognized) → BookHolds s b → AreRecognized b.pages t
+    → BookHolds s (record b { recognized = t })
+holds_known s b t h known = record {
+  count = h.count;
+  each = λ page k. let i = h.each page k in record { game = i.game; same = i.same };
+  right = h.right;
+  apart = h.apart;
+  recognized = known;
 }
 
 -- the page that has a handle

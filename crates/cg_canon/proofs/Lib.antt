@@ -2,6 +2,7 @@ pub mod ItemLaws
 pub mod AgainItems
 pub mod KnownGames
 pub mod LatePages
+pub mod Recognizing
 pub mod Holding
 pub mod Same
 pub mod Charging

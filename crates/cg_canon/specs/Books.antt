@@ -8,6 +8,7 @@ use Rattle.cg_nodes.specs.Meant.{Meant}
 use Rattle.cg_book.specs.Pages.{game_of}
 use Rattle.cg_book.specs.Recents.{AreRight}
 use Rattle.cg_canon.specs.declared.book.Book.{Book}
+use Rattle.cg_canon.specs.Recognized.{AreRecognized}
 
 -- the handle of a page
 abbrev pub handle_of : Book → ℕ → ℕ
@@ -42,3 +43,5 @@ pub record BookHolds {R : Type 0} (s : State Meant R) (b : Book) : Type 0 where
   pub each : (page : ℕ) → page < length b.handles.items → IsNamed s b page
   pub right : AreRight b.pages b.answers
   pub apart : AreLateApart b.handles.items
+  -- what its games are known as
+  pub recognized : AreRecognized b.pages b.recognized

@@ -8,8 +8,10 @@ ghost use Rattle.cg_book.specs.declared.recent.Answer.{Answer as Known};
 ghost use Rattle.cg_book.specs.Pages.{ArePages, games_of};
 ghost use Rattle.cg_book.specs.Recents.{IsKept};
 ghost use Rattle.cg_canon.specs.Books.{AreLateApart, BookHolds, HasHandle};
+ghost use Rattle.cg_canon.specs.Recognized.{AreRecognized};
 
 use crate::places::{Places, number_of_handle};
+use crate::recognized::Recognized;
 use cg_book::{Pages, Recent};
 use cg_cells::CellStore;
 use cg_nodes::{BoardForms, GameFacts, Handle};
@@ -36,6 +38,8 @@ pub(crate) struct Book {
     pub(crate) handles: Vec<Handle>,
     /// Where the page of a handle is looked for.
     places: Places,
+    /// What the games are known as.
+    pub(crate) recognized: Recognized,
 }
 
 impl Book {
@@ -44,12 +48,14 @@ impl Book {
         ensures pages { result.pages ≡ [] }
         ensures handles { result.handles.items ≡ [] }
         ensures answers { (x : Known) → IsKept result.answers x → ⊥ }
+        ensures recognized { AreRecognized [] result.recognized }
     {
         Book {
             pages: Pages::new(alloc),
             answers: Recent::new(alloc),
             handles: Vec::new(alloc),
             places: Places::new(alloc),
+            recognized: Recognized::new(alloc),
         }
     }
 
@@ -105,6 +111,7 @@ impl Book {
         ensures handles { self.new.handles.items ≡ self.old.handles.items ++ (handle ∷ []) }
         ensures pages { self.new.pages ≡ self.old.pages }
         ensures answers { self.new.answers ≡ self.old.answers }
+        ensures recognized { self.new.recognized ≡ self.old.recognized }
     {
         let _there_is_room = self.handles.push(handle);
         self.places.add(number_of_handle(handle));

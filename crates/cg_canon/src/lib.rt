@@ -27,6 +27,7 @@ mod order;
 mod paging;
 mod places;
 mod positions;
+mod recognized;
 mod rest;
 mod value;
 mod work;
