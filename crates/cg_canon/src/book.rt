@@ -1,7 +1,7 @@
 //! The games that a work has met, each on a page of a book.
 ghost use lib.Dec.{eqb};
 ghost use Rattle.std.specs.Prelude.{◌≡◌, ◌<◌, ◌^◌, ◌++◌, ◌∷◌, [], length, slice_index, vec_capacity, vec_len};
-ghost use Rattle.std.specs.Prelude.{false, IfOk, IfNone, IfSome};
+ghost use Rattle.std.specs.Prelude.{false, IfOk, IfNone, IfSome, IsTrue};
 ghost use Rattle.std.specs.List.{list_any};
 ghost use Rattle.cg_nodes.specs.Games.{AreGames, games_at};
 ghost use Rattle.cg_book.specs.declared.recent.Answer.{Answer as Known};
@@ -9,9 +9,9 @@ ghost use Rattle.cg_book.specs.Pages.{ArePages, games_of};
 ghost use Rattle.cg_book.specs.Recents.{IsKept};
 ghost use Rattle.cg_canon.specs.Books.{AreLateApart, BookHolds, HasHandle};
 
-use crate::places::{Places, number_of_handle};
 use cg_book::{Pages, Recent};
 use cg_cells::CellStore;
+use cg_links::Links;
 use cg_nodes::{BoardForms, GameFacts, Handle};
 use smallvec::SmallVec;
 use std::alloc::{AllocError, Global};
@@ -34,8 +34,8 @@ pub(crate) struct Book {
     pub(crate) answers: Recent,
     /// The handles of the pages.
     pub(crate) handles: Vec<Handle>,
-    /// Where the page of a handle is looked for.
-    places: Places,
+    /// The ids of the handles, by which pages are looked for.
+    links: Links,
 }
 
 impl Book {
@@ -49,29 +49,20 @@ impl Book {
             pages: Pages::new(alloc),
             answers: Recent::new(alloc),
             handles: Vec::new(alloc),
-            places: Places::new(alloc),
+            links: Links::new(alloc),
         }
     }
 
-    /// The page, if it has this handle.
-    fn page_with(&self, page: u32, handle: Handle) -> Option<u32>
-        ensures { IfSome result (λ p. HasHandle self.now p handle) }
-    {
-        let place = page as usize;
-        if place < self.handles.len() && self.handles[place] == handle {
-            return Some(page);
-        }
-        None
-    }
 
     /// The page of the handle's game, if it has one that is found.
     pub(crate) fn page(&self, handle: Handle) -> Option<u32>
         ensures { IfSome result (λ page. HasHandle self.now page handle) }
     {
-        self.places.find(
-            number_of_handle(handle),
-            |page| self.page_with(page, handle),
-        )
+        let place = self.links.find(handle.id().number(), |_| true)?;
+        if place < self.handles.len() && place <= u32::MAX as usize && self.handles[place] == handle {
+            return Some(place as u32);
+        }
+        None
     }
 
     /// The page of the handle's game, if it has a late one. [`Book::page`] may miss a page, and then the handle gets another
@@ -99,6 +90,18 @@ impl Book {
         self.handles[page as usize]
     }
 
+    /// Takes room for one page more.
+    pub(crate) fn reserve(&mut self) -> Result<(), AllocError>
+        ensures room { IfOk result (λ _. vec_len self.new.handles < vec_capacity self.new.handles) }
+        ensures handles { self.new.handles.items ≡ self.old.handles.items }
+        ensures pages { self.new.pages ≡ self.old.pages }
+        ensures answers { self.new.answers ≡ self.old.answers }
+    {
+        self.links.reserve(1)?;
+        self.handles.reserve(1)?;
+        Ok(())
+    }
+
     /// Gives the page that was added last this handle. There is room for it.
     pub(crate) fn name(&mut self, handle: Handle)
         requires { vec_len self.old.handles < vec_capacity self.old.handles }
@@ -107,7 +110,7 @@ impl Book {
         ensures answers { self.new.answers ≡ self.old.answers }
     {
         let _there_is_room = self.handles.push(handle);
-        self.places.add(number_of_handle(handle));
+        let _there_is_room_too = self.links.add(handle.id().number());
     }
 }
 

@@ -31,7 +31,7 @@ pub(crate) fn enter_number<B: BoardForms, S: CellStore<GameFacts<B>>>(
     if let Some(page) = book.late_page(handle) {
         return Ok(page);
     }
-    book.handles.reserve(1)?;
+    book.reserve()?;
     let page = book.pages.add_number(x)?;
     book.name(handle);
     Ok(page)
@@ -63,7 +63,7 @@ pub(crate) fn enter_game<B: BoardForms, S: CellStore<GameFacts<B>>>(
     if let Some(page) = book.late_page(handle) {
         return Ok(page);
     }
-    book.handles.reserve(1)?;
+    book.reserve()?;
     let page = book.pages.add_game(lefts, rights, profile)?;
     book.name(handle);
     Ok(page)

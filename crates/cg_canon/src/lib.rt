@@ -32,6 +32,7 @@ mod positions;
 mod rest;
 mod value;
 mod walk;
+mod walking;
 mod work;
 mod written;
 
