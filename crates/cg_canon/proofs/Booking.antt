@@ -15,7 +15,8 @@ use Rattle.cg_book.specs.Recents.{AreRight, IsKept}
 use Rattle.cg_book.proofs.Paging.{game_before, games_before, page_before, pages_before}
 use Rattle.cg_book.proofs.Slices.{games_take_suc}
 use Rattle.cg_canon.specs.declared.book.Book.{Book}
-use Rattle.cg_canon.specs.Books.{AreLateApart, Begins, BookHolds, HasHandle, IsNamed, handle_of}
+use Rattle.cg_canon.specs.Arena.{Begins}
+use Rattle.cg_canon.specs.Books.{AreLateApart, BookHolds, HasHandle, IsNamed, handle_of}
 use Rattle.cg_canon.proofs.LatePages.{late_first}
 
 -- ---- more games behind

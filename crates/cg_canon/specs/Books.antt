@@ -1,8 +1,7 @@
 -- What a book has of the games of a store.
 use lib.Dec.{eqb}
-use Rattle.std.specs.Prelude.{◌≡◌, ℕ, ◌<◌, ◌-◌, ◌^◌, ◌++◌, List, length, drop, slice_index_or, true}
+use Rattle.std.specs.Prelude.{◌≡◌, ℕ, ◌<◌, ◌-◌, ◌^◌, List, length, drop, slice_index_or, true}
 use Rattle.std.specs.List.{IsDistinct, list_any}
-use Rattle.cg_form.specs.Game.{Game}
 use Rattle.cg_cells.specs.Store.{State}
 use Rattle.cg_nodes.specs.Games.{IsGame, game_at}
 use Rattle.cg_nodes.specs.Meant.{Meant}
@@ -43,8 +42,3 @@ pub record BookHolds {R : Type 0} (s : State Meant R) (b : Book) : Type 0 where
   pub each : (page : ℕ) → page < length b.handles.items → IsNamed s b page
   pub right : AreRight b.pages b.answers
   pub apart : AreLateApart b.handles.items
-
--- the first games of the second list are those of the first
-pub record Begins (gs hs : List Game) : Type 0 where
-  pub more : List Game
-  pub is : hs ≡ gs ++ more

