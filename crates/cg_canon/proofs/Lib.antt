@@ -1,7 +1,7 @@
 pub mod ItemLaws
 pub mod AgainItems
 pub mod KnownGames
-pub mod LatePages
+pub mod BookHandles
 pub mod Holding
 pub mod Same
 pub mod Charging
@@ -16,3 +16,4 @@ pub mod Valuing
 pub mod Paying
 pub mod HandleLists
 pub mod PageWalks
+pub mod WalkSteps

@@ -137,9 +137,9 @@ module _ (gs : List Game) (ps : List Position) (p : Position) (g : Game) where
         end = omega arith;
         lefts_before = subst P (sym (range_none opts p.lefts p.rights (a ∙ sym b))) (λ k d h. absurd (omega arith));
         rights_before = subst P (sym (range_none opts p.rights p.end (b ∙ sym c))) (λ k d h. absurd (omega arith));
-        zero = λ t. next_game ∙ is ∙ ap number (z t);
-        number = λ t. record { x = x; is = next_game ∙ is; none = a ∙ sym c };
-        node = λ t. absurd (differ (sym n ∙ t));
+        as_zero = λ t. next_game ∙ is ∙ ap number (z t);
+        as_number = λ t. record { x = x; is = next_game ∙ is; none = a ∙ sym c };
+        as_node = λ t. absurd (differ (sym n ∙ t));
       }
     where
       differ : true ≡ false → ⊥
@@ -183,9 +183,9 @@ module _ (gs : List Game) (ps : List Position) (p : Position) (g : Game) where
           end = omega arith;
           lefts_before = subst P (sym left) low.below;
           rights_before = subst P (sym right) high.below;
-          zero = λ t. absurd (differ (sym t ∙ z));
-          number = λ t. absurd (differ (sym t ∙ n));
-          node = λ t. next_game ∙ is
+          as_zero = λ t. absurd (differ (sym t ∙ z));
+          as_number = λ t. absurd (differ (sym t ∙ n));
+          as_node = λ t. next_game ∙ is
               ∙ ap (λ z. node z (games_of gs rs)) (sym (ap (games_of fs) left ∙ games_there low.places ls low.below low.same))
               ∙ ap (node (games_of fs (lefts_of new p))) (sym (ap (games_of fs) right ∙ games_there high.places rs high.below high.same));
         }
@@ -216,9 +216,9 @@ place_later opts more fs hs i p less h =
       end = omega arith;
       lefts_before = subst P (sym l) h.lefts_before;
       rights_before = subst P (sym r) h.rights_before;
-      zero = λ t. own ∙ h.zero t;
-      number = λ t. let k = h.number t in record { x = k.x; is = own ∙ k.is; none = k.none };
-      node = λ t. own ∙ h.node t ∙ ap (λ z. node z (games_of fs (rights_of opts p))) (sym low)
+      as_zero = λ t. own ∙ h.as_zero t;
+      as_number = λ t. let k = h.as_number t in record { x = k.x; is = own ∙ k.is; none = k.none };
+      as_node = λ t. own ∙ h.as_node t ∙ ap (λ z. node z (games_of fs (rights_of opts p))) (sym low)
           ∙ ap (node (games_of (fs ++ hs) (lefts_of (opts ++ more) p))) (sym high);
     }
 

@@ -22,5 +22,5 @@ pub record SumStands (gs : List Game) (k : KeptSum) : Type 0 where
   pub high : IsPage gs k.high
   pub is : IsAt gs k.sum (can (sum (game_of gs k.low) (game_of gs k.high)))
 
-abbrev pub SumsStand : List Game → KeptSums → Type 0
+unfoldable pub SumsStand : List Game → KeptSums → Type 0
 SumsStand gs t = All (SumStands gs) t.sums.items

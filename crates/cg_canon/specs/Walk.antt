@@ -28,9 +28,9 @@ pub record IsPlace (options : List ℕ) (fs : List Game) (i : ℕ) (p : Position
   pub end : p.end ≤ length options
   pub lefts_before : All (λ q. q < i) (lefts_of options p)
   pub rights_before : All (λ q. q < i) (rights_of options p)
-  pub zero : p.is_zero ≡ true → game_of fs i ≡ number (whole (pos 0))
-  pub number : p.is_number ≡ true → IsNumberPlace (game_of fs i) p
-  pub node : p.is_number ≡ false → game_of fs i ≡ node (games_of fs (lefts_of options p)) (games_of fs (rights_of options p))
+  pub as_zero : p.is_zero ≡ true → game_of fs i ≡ number (whole (pos 0))
+  pub as_number : p.is_number ≡ true → IsNumberPlace (game_of fs i) p
+  pub as_node : p.is_number ≡ false → game_of fs i ≡ node (games_of fs (lefts_of options p)) (games_of fs (rights_of options p))
 
 -- each position of the walk stands at its place
 abbrev pub ArePlaces : List ℕ → List Game → List Position → Type 0

@@ -90,7 +90,7 @@ impl<'a, B: BoardForms, S: CellStore<GameFacts<B>>> Work<'a, B, S> {
         ensures { IfSome result (λ i. IsAt self.now.arena i
             (can (sum_of (game_of self.now.arena a) (game_of self.now.arena b)))) }
     {
-        self.held.pairs.find(a.min(b), a.max(b))
+        self.held.memo.book.pairs.find(a.min(b), a.max(b))
     }
 
     /// Keeps the index of the form of the sum of the two games, in either order, unless there is no memory for it.
@@ -101,6 +101,6 @@ impl<'a, B: BoardForms, S: CellStore<GameFacts<B>>> Work<'a, B, S> {
         requires sum { IsAt self.old.arena sum (can (sum_of (game_of self.old.arena a) (game_of self.old.arena b))) }
         ensures { self.new ≡ self.old }
     {
-        self.held.pairs.keep(a.min(b), a.max(b), sum);
+        self.held.memo.book.pairs.keep(a.min(b), a.max(b), sum);
     }
 }
