@@ -22,6 +22,8 @@ pub struct Held {
     pub(crate) made: MadeForms,
     /// The games that are known as a number, ups and a nimber.
     pub(crate) known_as: NumberUpStars,
+    /// At which place of a walk the game at an index was found.
+    pub(crate) marks: Vec<usize>,
 }
 
 /// A cache with more interned games than this, or with more sums, is large.
@@ -37,6 +39,7 @@ impl Held {
             memo: Memo::new(alloc),
             made: MadeForms::new(alloc),
             known_as: NumberUpStars::new(alloc),
+            marks: Vec::new(alloc),
         }
     }
 
@@ -52,6 +55,8 @@ impl Held {
     /// Whether the interned games or the sums are so many that a caller would rather begin anew than keep them. Of the forms
     /// only so many are kept in any case.
     pub fn is_large(&self) -> bool {
-        self.memo.book.pages.count() > LARGE || self.memo.count() > LARGE
+        self.memo.book.pages.count() > LARGE
+            || self.memo.count() > LARGE
+            || self.memo.book.pairs.count() > 4 * LARGE
     }
 }

@@ -37,11 +37,9 @@ fn enter_form<B: BoardForms, S: CellStore<GameFacts<B>>>(
     requires form { IsNewForm book.old.pages (game_at (S.state store.now) handle) new.now }
     ensures { BookHolds (S.state store.now) book.new }
 {
-    if book.page(handle).is_none() {
-        let lefts = new.form.lefts.as_slice();
-        let rights = new.form.rights.as_slice();
-        let _entered = enter_game(store, book, handle, lefts, rights, &new.profile);
-    }
+    let lefts = new.form.lefts.as_slice();
+    let rights = new.form.rights.as_slice();
+    let _entered = enter_game(store, book, handle, lefts, rights, &new.profile);
 }
 
 /// The list of the Right options, where that of the Left options was made. The same options have the same list, as those of

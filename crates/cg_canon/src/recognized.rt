@@ -8,6 +8,7 @@ ghost use Rattle.cg_book.specs.Pages.{games_of};
 ghost use Rattle.cg_canon.specs.NumberUpStars.{game_of as game_of_parts};
 ghost use Rattle.cg_canon.specs.Recognized.{AreNimbers, AreRecognized, IsKnownAt, IsListed};
 
+use crate::book::are_equal;
 use crate::number_up_star::NumberUpStar;
 use crate::places::{Places, half_of, mixed};
 use std::alloc::Global;
@@ -46,14 +47,6 @@ fn number_of_parts(parts: &NumberUpStar) -> u32 {
     );
     let ups = mixed(mixed(number, low_half(parts.ups)), low_half(parts.downs));
     half_of(mixed(ups, low_half(parts.star)))
-}
-
-/// Whether the two lists are the same.
-#[inline(always)]
-fn are_same(a: &[u32], b: &[u32]) -> bool
-    ensures { IsTrue result → a.now ≡ b.now }
-{
-    a == b
 }
 
 /// Whether the list has this entry alone.
@@ -143,10 +136,10 @@ impl Recognized {
         if count == 0 || count > self.nimbers.len() {
             return None;
         }
-        if !are_same(lefts, first(&self.nimbers, count)) {
+        if !are_equal(lefts, first(&self.nimbers, count)) {
             return None;
         }
-        if are_same(lefts, rights) {
+        if are_equal(lefts, rights) {
             return Some(NumberUpStar::of_nimber(count as u64));
         }
         if count == 1 && self.nimbers.len() > 1 && is_one(rights, self.nimbers[1]) {

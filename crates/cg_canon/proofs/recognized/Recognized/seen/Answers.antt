@@ -3,16 +3,16 @@ use Rattle.std.proofs.lemmas.List.{get_or_default}
 use Rattle.cg_canon.proofs.Recognizing.{nimber_seen, up_seen}
 use Rattle.cg_canon.proofs.recognized.Recognized.seen.Goals as goal
 
-pub returns-then-are_same : goal.returns-then-are_same
-returns-then-are_same c gs r =
-    let front = c.are_same.ensures c.if-not-are_same.false ∙ (c.first.ensures ∙ ap (take (length c.args.lefts.now)) c.deref.ensures.value) in
+pub returns-then-are_equal : goal.returns-then-are_equal
+returns-then-are_equal c gs r =
+    let front = c.are_equal.ensures c.if-not-are_equal.false ∙ (c.first.ensures ∙ ap (take (length c.args.lefts.now)) c.deref.ensures.value) in
     let few = c.if-count-len.false in
     nimber_seen gs c.args.self.now c.args.lefts.now c.args.rights.now c.of_nimber.result r (omega arith) front c.if-count-eq0.false
-    (c.are_same-2.ensures c.if-are_same.true) c.of_nimber.ensures.number c.of_nimber.ensures.ups c.of_nimber.ensures.star
+    (c.are_equal-2.ensures c.if-are_equal.true) c.of_nimber.ensures.number c.of_nimber.ensures.ups c.of_nimber.ensures.star
 
 pub returns-then-is_one : goal.returns-then-is_one
 returns-then-is_one c gs r =
-    let front = c.are_same.ensures c.if-not-are_same.false ∙ (c.first.ensures ∙ ap (take (length c.args.lefts.now)) c.deref.ensures.value) in
+    let front = c.are_equal.ensures c.if-not-are_equal.false ∙ (c.first.ensures ∙ ap (take (length c.args.lefts.now)) c.deref.ensures.value) in
     let one = c.if-count-eq1.true in
     let ns = c.args.self.now.nimbers.items in
     let two : 1 < length ns = omega (arith, c.if-len-gt1.true, c.len-then-count-eq1.ensures) in
