@@ -1,5 +1,5 @@
 -- What a book keeps, as its store and its pages grow.
-use Rattle.std.proofs.Common.{◌≡◌, refl, ℕ, suc, ◌+◌, ◌<◌, ◌≤◌, arith, ap, sym, ◌∙◌, subst, ◌⊎◌, inl, inr, List, [], ◌∷◌, ◌++◌, length, length-append, take, get_or, true}
+use Rattle.std.proofs.Common.{◌≡◌, refl, ℕ, suc, ◌+◌, ◌<◌, ◌≤◌, arith, ap, sym, ◌∙◌, subst, ◌⊎◌, inl, inr, List, [], ◌∷◌, ◌++◌, length, length-append, take, get_or, true, Some}
 use Rattle.std.proofs.lemmas.Bool.Decides.{eqb_tells}
 use Rattle.std.proofs.lemmas.List.Elements.{All-contains, All-nil, All-push, All-same, All-weaker}
 use Rattle.cg_form.specs.Sum.{sum}
@@ -8,8 +8,8 @@ use Rattle.std.proofs.lemmas.List.{get_or_append_left, get_or_push, append_assoc
 use Rattle.cg_form.specs.Game.{Game, node}
 use Rattle.cg_cells.specs.Meaning.{Grows}
 use Rattle.cg_cells.specs.Store.{State, thing_at}
-use Rattle.cg_nodes.specs.Games.{AreGames, IsGame, game_at, games_at}
-use Rattle.cg_nodes.specs.Meant.{Meant}
+use Rattle.cg_nodes.specs.Games.{AreGames, IsGame, StandsFor, game_at, games_at}
+use Rattle.cg_nodes.specs.Meant.{Meant, form}
 use Rattle.cg_nodes.proofs.Later.{game_later, is_game_later}
 use Rattle.cg_book.specs.declared.recent.Answer.{Answer}
 use Rattle.cg_book.specs.declared.recent.Recent.{Recent}
@@ -256,6 +256,13 @@ known_page s b handle page h i =
     let count = h.count in
     let w = i.within in
     (omega arith, sym (h.each page i.within).same ∙ ap (game_at s) i.is)
+
+pub named_stands : {R : Type 0} (s : State Meant R) (b : Book) (handle page : ℕ) → BookHolds s b → HasHandle b page handle
+    → StandsFor s handle (game_of b.pages page)
+named_stands s b handle page h i =
+    let n = h.each page i.within in
+    let P : ℕ → Type 0 = λ z. StandsFor s z (game_of b.pages page) in
+    subst P i.is (n.game ∙ ap (λ z. Some (form z)) n.same)
 
 -- ---- the handles of pages
 

@@ -34,12 +34,8 @@ impl<'a, B: BoardForms, S: CellStore<GameFacts<B>>> Work<'a, B, S> {
     pub fn nimber_of(&self, a: Handle) -> Option<u64>
         ensures { IfSome result (λ n. StandsFor (work_state S.state self.now) a (nimber_form n)) }
     {
-        let parts = self.known_as(a)?;
-        if parts.is(&NumberUpStar::of_nimber(parts.star)) {
-            Some(parts.star)
-        } else {
-            None
-        }
+        let index = self.held.memo.book.page(a)?;
+        self.nimber_at(index)
     }
 
     /// The number of the nimber that the game at the index is known as, if it is known as one.
