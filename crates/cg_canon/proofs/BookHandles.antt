@@ -13,7 +13,7 @@ use Rattle.cg_cells.specs.Store.{State, thing_at}
 use Rattle.cg_nodes.specs.Meant.{Meant, form}
 use Rattle.cg_book.specs.Pages.{IsPage, game_of}
 use Rattle.cg_canon.specs.declared.book.Book.{Book}
-use Rattle.cg_canon.specs.Books.{AreApart, AreHandles, AreLinked, BookHolds, IsNew, handle_of}
+use Rattle.cg_canon.specs.Books.{AreApart, AreHandles, BookHolds, IsNew, handle_of}
 use Rattle.cg_canon.specs.Walking as walking
 
 -- no page

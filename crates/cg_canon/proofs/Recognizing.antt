@@ -23,7 +23,6 @@ use Rattle.cg_book.specs.Pages as page
 use Rattle.cg_book.specs.Pages.{IsPage, games_of}
 use Rattle.cg_book.proofs.Slices.{games_take_suc}
 use Rattle.cg_canon.specs.declared.number_up_star.NumberUpStar.{NumberUpStar}
-use Rattle.cg_canon.specs.declared.recognized.KnownAt.{KnownAt}
 use Rattle.cg_canon.specs.declared.recognized.Recognized.{Recognized}
 use Rattle.cg_canon.specs.Arena.{Begins, IsAt}
 use Rattle.cg_canon.specs.NumberUpStars.{IsPlus, game_of}

@@ -1,5 +1,5 @@
 -- Games of an arena that are known as sums of a number, of ups or downs, and of a nimber.
-use Rattle.std.specs.Prelude.{◌≡◌, ◌<◌, ℕ, List, length, slice_index_or}
+use Rattle.std.specs.Prelude.{◌<◌, ℕ, List, length, slice_index_or}
 use Rattle.std.specs.List.{All, Contains}
 use Rattle.cg_form.specs.Canonical.{Canonical}
 use Rattle.cg_form.specs.Game.{Game}

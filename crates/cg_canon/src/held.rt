@@ -7,7 +7,6 @@ ghost use Rattle.cg_canon.specs.Held.{IsHeld, knowing};
 
 use crate::made::MadeForms;
 use crate::memo::Memo;
-use crate::number_up_stars::NumberUpStars;
 use std::alloc::Global;
 
 /// The cache of a work: the games that it met, their sums, the forms that it made, and which games are a number, ups and a nimber.
@@ -20,8 +19,6 @@ pub struct Held {
     pub(crate) memo: Memo,
     /// The forms.
     pub(crate) made: MadeForms,
-    /// The games that are known as a number, ups and a nimber.
-    pub(crate) known_as: NumberUpStars,
     /// At which place of a walk the game at an index was found.
     pub(crate) marks: Vec<usize>,
 }
@@ -38,7 +35,6 @@ impl Held {
         Held {
             memo: Memo::new(alloc),
             made: MadeForms::new(alloc),
-            known_as: NumberUpStars::new(alloc),
             marks: Vec::new(alloc),
         }
     }

@@ -1,4 +1,4 @@
-use Rattle.std.proofs.Common.{refl, is_ok}
+use Rattle.std.proofs.Common.{is_ok}
 use Rattle.cg_canon.specs.Recognized.{known_at}
 use Rattle.cg_canon.proofs.Recognizing.{pushed, recognized_kept, recognized_nimbers}
 use Rattle.cg_canon.proofs.recognized.Recognized.keep.Goals as goal
