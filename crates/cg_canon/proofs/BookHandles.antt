@@ -109,8 +109,8 @@ module _ {R : Type 0} (s : State Meant R) (b : Book) (holds : BookHolds s b) (in
         elim (eqb_tells p q) [
           | inl t ↦ t.1
           | inr t ↦ (let d = t.1 in elim (leb_tells (suc p) q) [
-              | inl less ↦ (let o = less.1 in absurd (distinct p q (omega arith) (omega arith) h))
-              | inr more ↦ (let o = more.1 in absurd (distinct q p (omega arith) (omega arith) (sym h)))
-            ])
+            | inl less ↦ (let o = less.1 in absurd (distinct p q (omega arith) (omega arith) h))
+            | inr more ↦ (let o = more.1 in absurd (distinct q p (omega arith) (omega arith) (sym h)))
+          ])
         ];
   }

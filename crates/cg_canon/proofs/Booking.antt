@@ -1,5 +1,5 @@
 -- What a book keeps, as its store and its pages grow.
-use Rattle.std.proofs.Common.{◌≡◌, refl, ℕ, suc, ◌+◌, ◌<◌, ◌≤◌, arith, ap, sym, ◌∙◌, subst, ◌⊎◌, inl, inr, List, [], ◌∷◌, ◌++◌, length, length-append, take, get_or, true}
+use Rattle.std.proofs.Common.{◌≡◌, refl, ℕ, suc, ◌+◌, ◌<◌, ◌≤◌, arith, ap, sym, ◌∙◌, subst, ◌⊎◌, inl, inr, List, [], ◌∷◌, ◌++◌, length, length-append, take, get_or, true, Some}
 use Rattle.std.proofs.lemmas.Bool.Decides.{eqb_tells}
 use Rattle.std.proofs.lemmas.List.Elements.{All-contains, All-nil, All-push, All-same, All-weaker}
 use Rattle.cg_form.specs.Sum.{sum}
@@ -8,8 +8,8 @@ use Rattle.std.proofs.lemmas.List.{get_or_append_left, get_or_push, append_assoc
 use Rattle.cg_form.specs.Game.{Game, node}
 use Rattle.cg_cells.specs.Meaning.{Grows}
 use Rattle.cg_cells.specs.Store.{State, thing_at}
-use Rattle.cg_nodes.specs.Games.{AreGames, IsGame, game_at, games_at}
-use Rattle.cg_nodes.specs.Meant.{Meant}
+use Rattle.cg_nodes.specs.Games.{AreGames, IsGame, StandsFor, game_at, games_at}
+use Rattle.cg_nodes.specs.Meant.{Meant, form}
 use Rattle.cg_nodes.proofs.Later.{game_later, is_game_later}
 use Rattle.cg_book.specs.declared.recent.Answer.{Answer}
 use Rattle.cg_book.specs.declared.recent.Recent.{Recent}
@@ -18,7 +18,9 @@ use Rattle.cg_book.specs.Recents.{AreRight, IsKept}
 use Rattle.cg_book.proofs.Paging.{game_before, games_before, page_before, pages_before}
 use Rattle.cg_book.proofs.Slices.{games_take_suc}
 use Rattle.cg_canon.specs.declared.book.Book.{Book}
+use Rattle.cg_canon.specs.declared.recognized.Recognized.{Recognized}
 use Rattle.cg_canon.specs.Arena.{Begins, IsAt}
+use Rattle.cg_canon.specs.Recognized.{AreRecognized}
 use Rattle.cg_canon.specs.declared.kept_sums.KeptSum.{KeptSum}
 use Rattle.cg_canon.specs.declared.kept_sums.KeptSums.{KeptSums}
 use Rattle.cg_canon.specs.KeptSums.{IsKeptSum, SumStands, SumsStand, kept_of}
@@ -123,27 +125,30 @@ book_later s t b grows h = record {
   right = h.right;
   pairs = h.pairs;
   apart = h.apart;
+  recognized = h.recognized;
 }
 
 -- of no games
 pub new_holds : {R : Type 0} (s : State Meant R) (b : Book) → b.pages ≡ [] → b.handles.items ≡ []
     → ((x : Answer) → IsKept b.answers x → ⊥) → AreApart b.handles.items b.links b.is_whole
-    → b.pairs.sums.items ≡ [] → BookHolds s b
-new_holds s b p e empty apart none =
+    → b.pairs.sums.items ≡ [] → AreRecognized [] b.recognized → BookHolds s b
+new_holds s b p e empty apart none known =
     let n = ap length e in
+    let K : List Game → Type 0 = λ z. AreRecognized z b.recognized in
     record {
       count = n ∙ sym (ap length p);
       each = λ page k. absurd (omega arith);
       right = λ x k. absurd (empty x k);
       pairs = sums_none b.pages b.pairs none;
       apart = apart;
+      recognized = subst K (sym p) known;
     }
 
 -- where nothing was added
 pub holds_same : {R : Type 0} (s : State Meant R) (b c : Book) → BookHolds s b → c.pages ≡ b.pages
     → c.handles.items ≡ b.handles.items → c.answers ≡ b.answers → c.links ≡ b.links → c.is_whole ≡ b.is_whole
-    → c.pairs ≡ b.pairs → BookHolds s c
-holds_same s b c h p e r l w k =
+    → c.pairs ≡ b.pairs → c.recognized ≡ b.recognized → BookHolds s c
+holds_same s b c h p e r l w k known =
     let P : List Game → Type 0 = λ z. AreRight z c.answers in
     let A : Recent → Type 0 = λ z. AreRight b.pages z in
     let n = ap length e in
@@ -161,6 +166,7 @@ holds_same s b c h p e r l w k =
       right = subst P (sym p) (subst A (sym r) h.right);
       pairs = rw (p, k) h.pairs;
       apart = rw (e, l, w) h.apart;
+      recognized = rw (p, known) h.recognized;
     }
 
 -- with one game more, and its handle
@@ -168,8 +174,8 @@ pub holds_more : {R : Type 0} (s : State Meant R) (b c : Book) (handle : ℕ) (k
     → c.pages ≡ b.pages ++ (k ∷ []) → game_at s handle ≡ k
     → c.handles.items ≡ b.handles.items ++ (handle ∷ []) → c.answers ≡ b.answers
     → IsNew b.handles.items handle → (c.is_whole ≡ true → (b.is_whole ≡ true) × (c.links ≡ b.links ++ (handle ∷ [])))
-    → c.pairs ≡ b.pairs → IsGame s handle → BookHolds s c
-holds_more {R} s b c handle k h p is e r new linked pairs game =
+    → c.pairs ≡ b.pairs → IsGame s handle → AreRecognized c.pages c.recognized → BookHolds s c
+holds_more {R} s b c handle k h p is e r new linked pairs game known =
     let A : Recent → Type 0 = λ z. AreRight c.pages z in
     let n = count in
     record {
@@ -178,6 +184,7 @@ holds_more {R} s b c handle k h p is e r new linked pairs game =
       right = subst A (sym r) (right_begins b.pages c.pages b.answers begins h.right);
       pairs = sums_begin b.pages c.pages b.pairs c.pairs begins pairs h.pairs;
       apart = apart_more b c handle h.apart new e linked;
+      recognized = known;
     }
   where
     begins : Begins b.pages c.pages
@@ -227,6 +234,19 @@ holds_answers s b r h right = record {
   right = right;
   pairs = h.pairs;
   apart = h.apart;
+  recognized = h.recognized;
+}
+
+-- with something else that games are known as
+pub holds_known : {R : Type 0} (s : State Meant R) (b : Book) (t : Recognized) → BookHolds s b → AreRecognized b.pages t
+    → BookHolds s (record b { recognized = t })
+holds_known s b t h known = record {
+  count = h.count;
+  each = λ page k. let i = h.each page k in record { game = i.game; same = i.same };
+  right = h.right;
+  pairs = h.pairs;
+  apart = h.apart;
+  recognized = known;
 }
 
 -- the page that has a handle
@@ -236,6 +256,13 @@ known_page s b handle page h i =
     let count = h.count in
     let w = i.within in
     (omega arith, sym (h.each page i.within).same ∙ ap (game_at s) i.is)
+
+pub named_stands : {R : Type 0} (s : State Meant R) (b : Book) (handle page : ℕ) → BookHolds s b → HasHandle b page handle
+    → StandsFor s handle (game_of b.pages page)
+named_stands s b handle page h i =
+    let n = h.each page i.within in
+    let P : ℕ → Type 0 = λ z. StandsFor s z (game_of b.pages page) in
+    subst P i.is (n.game ∙ ap (λ z. Some (form z)) n.same)
 
 -- ---- the handles of pages
 

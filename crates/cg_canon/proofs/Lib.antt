@@ -1,6 +1,7 @@
 pub mod ItemLaws
 pub mod AgainItems
 pub mod KnownGames
+pub mod Recognizing
 pub mod BookHandles
 pub mod Holding
 pub mod Same

@@ -290,7 +290,7 @@ module _ (gs : List Game) (marks m2 : List ℕ) (ps : List Position) (opts more 
         let less : i < length ps = omega arith in
         let F : List Game → Type 0 = λ z. IsPlace (opts ++ more) z i q in
         subst F (sym (found_pushed gs ps p index own)) (place_later opts more (found_in gs ps) (game_of gs index ∷ []) i q (omega arith)
-            (stands.places i q less (e ∙ get_or_append_left ps (p ∷ []) q i less)))
+        (stands.places i q less (e ∙ get_or_append_left ps (p ∷ []) q i less)))
   ]
 
   pub next_stands : WalkStands gs m2 after (opts ++ more)

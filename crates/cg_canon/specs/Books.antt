@@ -9,6 +9,7 @@ use Rattle.cg_book.specs.Pages.{game_of}
 use Rattle.cg_book.specs.Recents.{AreRight}
 use Rattle.cg_canon.specs.declared.book.Book.{Book}
 use Rattle.cg_canon.specs.KeptSums.{SumsStand}
+use Rattle.cg_canon.specs.Recognized.{AreRecognized}
 
 -- the handle of a page
 abbrev pub handle_of : Book → ℕ → ℕ
@@ -50,3 +51,5 @@ pub record BookHolds {R : Type 0} (s : State Meant R) (b : Book) : Type 0 where
   -- each sum of a pair is that of its two games
   pub pairs : SumsStand b.pages b.pairs
   pub apart : AreApart b.handles.items b.links b.is_whole
+  -- what its games are known as
+  pub recognized : AreRecognized b.pages b.recognized

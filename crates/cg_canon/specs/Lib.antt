@@ -4,6 +4,7 @@ pub mod Memos
 pub mod Added
 pub mod MadeForms
 pub mod NumberUpStars
+pub mod Recognized
 pub mod Held
 pub mod Works
 pub mod Arena

@@ -10,9 +10,11 @@ ghost use Rattle.cg_canon.specs.Arena.{IsAt};
 ghost use Rattle.cg_form.specs.Game.{node};
 ghost use Rattle.cg_book.specs.Recents.{IsKept};
 ghost use Rattle.cg_canon.specs.Books.{AreApart, BookHolds, HasHandle, IsNew};
+ghost use Rattle.cg_canon.specs.Recognized.{AreRecognized};
 
 use crate::kept_sums::KeptSums;
 use crate::places::{Places, half_of, mixed};
+use crate::recognized::Recognized;
 use cg_book::{Pages, Read, Recent};
 use cg_cells::CellStore;
 use cg_links::Links;
@@ -43,6 +45,8 @@ pub(crate) struct Book {
     forms: Places,
     /// Sums of pairs of games.
     pub(crate) pairs: KeptSums,
+    /// What the games are known as.
+    pub(crate) recognized: Recognized,
 }
 
 /// A number for the pages that follow something of this number.
@@ -60,7 +64,8 @@ pub(crate) fn number_of_form(lefts: &[u32], rights: &[u32]) -> u32 {
 }
 
 /// Whether the two lists are the same.
-fn are_equal(a: &[u32], b: &[u32]) -> bool
+#[inline(always)]
+pub(crate) fn are_equal(a: &[u32], b: &[u32]) -> bool
     ensures { IsTrue result → a.now ≡ b.now }
 {
     a == b
@@ -74,6 +79,7 @@ impl Book {
         ensures answers { (x : Known) → IsKept result.answers x → ⊥ }
         ensures apart { AreApart result.handles.items result.links result.is_whole }
         ensures pairs { result.pairs.sums.items ≡ [] }
+        ensures recognized { AreRecognized [] result.recognized }
     {
         Book {
             pages: Pages::new(alloc),
@@ -83,6 +89,7 @@ impl Book {
             is_whole: true,
             forms: Places::new(alloc),
             pairs: KeptSums::new(alloc),
+            recognized: Recognized::new(alloc),
         }
     }
 
@@ -159,6 +166,7 @@ impl Book {
         ensures answers { self.new.answers ≡ self.old.answers }
         ensures pairs { self.new.pairs ≡ self.old.pairs }
         ensures linked { self.new.is_whole ≡ true → (self.old.is_whole ≡ true) × (self.new.links ≡ self.old.links ++ (handle ∷ [])) }
+        ensures recognized { self.new.recognized ≡ self.old.recognized }
     {
         let _there_is_room = self.handles.push(handle);
         if self.links.add(handle.id().number()).is_err() {

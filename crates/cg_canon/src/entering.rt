@@ -9,6 +9,7 @@ ghost use Rattle.cg_canon.specs.Arena.{Begins};
 ghost use Rattle.cg_canon.specs.Books.{BookHolds};
 
 use crate::book::{Book, number_of_form};
+use crate::number_up_star::NumberUpStar;
 use cg_book::Profile;
 use cg_cells::CellStore;
 use cg_dyadic::Dyadic;
@@ -36,6 +37,8 @@ pub(crate) fn enter_number<B: BoardForms, S: CellStore<GameFacts<B>>>(
     book.handles.reserve(1)?;
     let page = book.pages.add_number(x)?;
     book.name(handle, 0);
+    book.recognized
+        .enter(page, Some(NumberUpStar::of_number(x)));
     Ok(page)
 }
 
@@ -69,5 +72,7 @@ pub(crate) fn enter_game<B: BoardForms, S: CellStore<GameFacts<B>>>(
     book.handles.reserve(1)?;
     let page = book.pages.add_game(lefts, rights, profile)?;
     book.name(handle, number_of_form(lefts, rights));
+    let parts = book.recognized.seen(lefts, rights);
+    book.recognized.enter(page, parts);
     Ok(page)
 }

@@ -3,6 +3,7 @@ ghost use Rattle.std.specs.Prelude.{◌≡◌, ◌++◌, ◌∷◌, [], IfOk, If
 ghost use Rattle.cg_book.specs.declared.recent.Answer.{Answer as Known};
 ghost use Rattle.cg_book.specs.Recents.{IsKept};
 ghost use Rattle.cg_canon.specs.Books.{AreApart};
+ghost use Rattle.cg_canon.specs.Recognized.{AreRecognized};
 ghost use Rattle.cg_canon.specs.Memos.{IsAdded, added_sum};
 
 use crate::book::Book;
@@ -51,6 +52,7 @@ impl Memo {
         ensures answers { (x : Known) → IsKept result.book.answers x → ⊥ }
         ensures pairs { result.book.pairs.sums.items ≡ [] }
         ensures apart { AreApart result.book.handles.items result.book.links result.book.is_whole }
+        ensures recognized { AreRecognized [] result.book.recognized }
         ensures sums { result.sums.items ≡ [] }
     {
         Memo {

@@ -81,7 +81,12 @@ impl<'a, B: BoardForms, S: CellStore<GameFacts<B>>> Work<'a, B, S> {
         match self.store.noted(cell) {
             None => Ok(None),
             Some(value) => {
-                let index = page_of(alloc, self.store, &mut self.held.memo.book, Handle::of(value))?;
+                let index = page_of(
+                    alloc,
+                    self.store,
+                    &mut self.held.memo.book,
+                    Handle::of(value),
+                )?;
                 Ok(Some(index))
             }
         }
