@@ -24,10 +24,10 @@ use Rattle.cg_canon.specs.Walking.{Appended, AreApart, AreMarked, HasPlace, Walk
 -- ---- indexes and games
 
 indexes_length : (ps : List Position) → length (indexes_of ps) ≡ length ps
-indexes_length ps = length-map (λ p. p.index) ps
+indexes_length ps = length-map ps (λ (p : Position). p.index)
 
 pub found_length : (gs : List Game) (ps : List Position) → length (found_in gs ps) ≡ length ps
-found_length gs ps = length-map (game_of gs) (indexes_of ps) ∙ indexes_length ps
+found_length gs ps = length-map (indexes_of ps) (game_of gs) ∙ indexes_length ps
 
 among_at : (gs : List Game) (qs : List ℕ) (g : Game) → Among g (games_of gs qs)
     → (i : ℕ) × (i < length qs) × (game_of gs (get_or qs i 0) ≡ g)

@@ -118,19 +118,11 @@ walk_options-returns-in_ok-walk_indexes-in-Game-clause-refused t c = λ e.
 -- ---- a list of games
 
 pub walk_indexes-walk_index-requires : goal.walk_indexes-walk_index-requires
-walk_indexes-walk_index-requires t c κs within =
+walk_indexes-walk_index-requires t c =
     let pages = c.args.pages.now in
     let n = item_size pages c.args.indexes.now c.loop-index.index-index _ c.loop-index-test.true refl in
-    let p = page_of_item pages c.args.indexes.now c.loop-index.index-index _ c.requires.indexes c.loop-index-test.true refl in (
-      search rules,
-      (
-        within.0,
-        (
-          within.1.0,
-          (within.1.1, (c.requires.apart, (p, (c.loop-index.invariant.stands, c.loop-index.invariant.within)))),
-        ),
-      ),
-    )
+    let p = page_of_item pages c.args.indexes.now c.loop-index.index-index _ c.requires.indexes c.loop-index-test.true refl in
+    (search rules, (c.requires.apart, (p, (c.loop-index.invariant.stands, c.loop-index.invariant.within))))
 
 pub walk_indexes-returns-in_err-walk_index-clause-refused : goal.walk_indexes-returns-in_err-walk_index-clause-refused
 walk_indexes-returns-in_err-walk_index-clause-refused t c =

@@ -1,4 +1,4 @@
-use Rattle.std.proofs.Common.{List, inl, inr, refl, subst, sym}
+use Rattle.std.proofs.Common.{◌∙◌, List, inl, inr, refl, subst, sym}
 use Rattle.cg_form.specs.Game.{Among}
 use Rattle.cg_book.specs.Pages.{game_of}
 use Rattle.cg_canon.specs.declared.walk.Position.{Position}
@@ -23,6 +23,7 @@ returns-in_ok-put_options-in-Game-2-clause-place c =
     let new = c.put_options-in-Game.new.self.options.items in
     let P : List Position → Type 0 = λ z. Appended z mid new c.in-Game.right_options.now in
     node_place c.args.pages.now c.args.self.now.positions.items _ (game_of c.args.pages.now c.args.index) c.args.self.now.options.items mid new
-    c.in-Game.left_options.now c.in-Game.right_options.now c.len-lefts.ensures c.len-rights.ensures c.len.ensures
+    c.in-Game.left_options.now c.in-Game.right_options.now (c.len-lefts.ensures ∙ c.args.self.now.options.ok.0)
+    (c.len-rights.ensures ∙ c.put_options.new.self.options.ok.0) (c.len.ensures ∙ c.put_options-in-Game.new.self.options.ok.0)
     c.in_ok-put_options-in-Game.ensures.options (subst P c.put_options.ensures.positions c.in_ok-put_options-in-Game-2.ensures.options)
     refl refl c.in-Game.ensures.read.2
