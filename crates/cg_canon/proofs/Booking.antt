@@ -249,6 +249,18 @@ holds_known s b t h known = record {
   recognized = known;
 }
 
+-- with other sums of pairs
+pub holds_pairs : {R : Type 0} (s : State Meant R) (b : Book) (t : KeptSums) → BookHolds s b → SumsStand b.pages t
+    → BookHolds s (record b { pairs = t })
+holds_pairs s b t h pairs = record {
+  count = h.count;
+  each = λ page k. let i = h.each page k in record { game = i.game; same = i.same };
+  right = h.right;
+  pairs = pairs;
+  apart = h.apart;
+  recognized = h.recognized;
+}
+
 -- the page that has a handle
 pub known_page : {R : Type 0} (s : State Meant R) (b : Book) (handle page : ℕ) → BookHolds s b → HasHandle b page handle
     → IsPage b.pages page × (game_of b.pages page ≡ game_at s handle)

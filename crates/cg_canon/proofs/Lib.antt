@@ -18,3 +18,5 @@ pub mod Paying
 pub mod HandleLists
 pub mod PageWalks
 pub mod WalkSteps
+pub mod PairSums
+pub mod MakingAt

@@ -1,9 +1,9 @@
 -- Walks over the positions of a game of an arena, one step after another.
-use Rattle.std.proofs.Common.{◌≡◌, refl, ℕ, zero, suc, ◌+◌, ◌-◌, ◌<◌, ◌≤◌, arith, ap, sym, ◌∙◌, subst, inl, inr, List, [], ◌∷◌, ◌++◌, length, length-append, length-map, take, drop, get_or, map, pos, Bool, true, false}
+use Rattle.std.proofs.Common.{◌≡◌, refl, ℕ, zero, suc, ◌+◌, ◌-◌, ◌<◌, ◌≤◌, arith, ap, sym, ◌∙◌, subst, ◌⊎◌, inl, inr, List, [], ◌∷◌, ◌++◌, length, length-append, take, drop, get_or, map, pos, Bool, true, false}
 use Rattle.std.proofs.Math.Seq.{drop-append_seam, take-append_seam}
 use Rattle.std.specs.List.{All, slice_range}
 use Rattle.std.proofs.lemmas.Bool.Decides.{eqb_tells}
-use Rattle.std.proofs.lemmas.List.{append_assoc, append-nil, drop-append-le, get_or-map, get_or_append_left, get_or_push, length-drop, length_push, take-append-drop, take-append-le, take_more}
+use Rattle.std.proofs.lemmas.List.{append_assoc, append-nil, drop-append-le, get_or-map, get_or_append_left, get_or_push, length-drop, length-map, length_push, take-append-drop, take-append-le, take_more}
 use Rattle.std.proofs.lemmas.List.Elements.{All-append, All-push, All-same}
 use Rattle.cg_dyadic.specs.Number.{Number, whole}
 use Rattle.cg_form.specs.Canonical.{Canonical}
@@ -24,10 +24,10 @@ use Rattle.cg_canon.specs.Walking.{Appended, AreApart, AreMarked, HasPlace, Walk
 -- ---- indexes and games
 
 indexes_length : (ps : List Position) → length (indexes_of ps) ≡ length ps
-indexes_length ps = length-map (λ p. p.index) ps
+indexes_length ps = length-map ps (λ (p : Position). p.index)
 
 pub found_length : (gs : List Game) (ps : List Position) → length (found_in gs ps) ≡ length ps
-found_length gs ps = length-map (game_of gs) (indexes_of ps) ∙ indexes_length ps
+found_length gs ps = length-map (indexes_of ps) (game_of gs) ∙ indexes_length ps
 
 among_at : (gs : List Game) (qs : List ℕ) (g : Game) → Among g (games_of gs qs)
     → (i : ℕ) × (i < length qs) × (game_of gs (get_or qs i 0) ≡ g)
@@ -120,7 +120,7 @@ range_none opts a b e = let z : b - a ≡ 0 = omega arith in ap (λ k. take k (d
 -- ---- the next position
 
 module _ (gs : List Game) (ps : List Position) (p : Position) (g : Game) where
-  fs : List Game
+  abbrev fs : List Game
   fs = found_in gs ps ++ (g ∷ [])
 
   next_game : game_of fs (length ps) ≡ g
@@ -193,6 +193,27 @@ module _ (gs : List Game) (ps : List Position) (p : Position) (g : Game) where
         differ : true ≡ false → ⊥
         differ e = cc
 
+-- ---- one game
+
+module _ (seen found : List Game) (g : Game) (out : ¬ Among g seen) (walked : found ≡ extended seen (positions_before g)) where
+  pub not_yet : ¬ Among g found
+  not_yet m = elim (extended-among games seen (positions_before g) g (carry g found (extended seen (positions_before g)) walked m)) [
+    | inl n ↦ out n
+    | inr n ↦ (let d = positions_before-depth g g n in absurd (omega arith))
+  ]
+
+  pub before_there : (k : Game) → Among k (positions_before g) → Among k found
+  before_there k m = carry k (extended seen (positions_before g)) found (sym walked) (extended-has games seen (positions_before g) k m)
+
+  pub next_all : found ++ (g ∷ []) ≡ extended seen (all_positions g)
+  next_all = ap (λ z. z ++ (g ∷ [])) walked ∙ sym (extended-last seen g out)
+
+  pub next_more : (limit : ℕ) → limit ≡ length found → limit < length (extended seen (all_positions g))
+  next_more limit e =
+      let a = ap length next_all in
+      let b = length-append found (g ∷ []) in
+      omega arith
+
 -- ---- more positions
 
 -- a position stays at its place as options and games come behind
@@ -230,19 +251,19 @@ module _ (gs : List Game) (marks m2 : List ℕ) (ps : List Position) (opts more 
     (place : IsPlace (opts ++ more) (found_in gs ps ++ (game_of gs index ∷ [])) (length ps) p)
     (room : length m2 ≡ length marks) (mark : get_or m2 p.index 0 ≡ length ps)
     (others : (i : ℕ) → ¬ (i ≡ p.index) → get_or m2 i 0 ≡ get_or marks i 0) where
-  qs : List Position
-  qs = ps ++ (p ∷ [])
+  abbrev after : List Position
+  after = ps ++ (p ∷ [])
 
-  at_old : (i : ℕ) → i < length ps → get_or (indexes_of qs) i 0 ≡ get_or (indexes_of ps) i 0
+  at_old : (i : ℕ) → i < length ps → get_or (indexes_of after) i 0 ≡ get_or (indexes_of ps) i 0
   at_old i l =
       let n = indexes_length ps in
       ap (λ z. get_or z i 0) (indexes_pushed ps p) ∙ get_or_append_left (indexes_of ps) (p.index ∷ []) 0 i (omega arith)
 
-  at_new : (i : ℕ) → i ≡ length ps → get_or (indexes_of qs) i 0 ≡ p.index
+  at_new : (i : ℕ) → i ≡ length ps → get_or (indexes_of after) i 0 ≡ p.index
   at_new i e =
       ap (λ z. get_or z i 0) (indexes_pushed ps p) ∙ get_or_push (indexes_of ps) p.index 0 i (indexes_length ps ∙ sym e)
 
-  next_marked : (i : ℕ) → i < length qs → get_or m2 (get_or (indexes_of qs) i 0) 0 ≡ i
+  next_marked : (i : ℕ) → i < length after → get_or m2 (get_or (indexes_of after) i 0) 0 ≡ i
   next_marked i l = elim (eqb_tells i (length ps)) [
     | inl t ↦ ap (λ z. get_or m2 z 0) (at_new i t.1) ∙ mark ∙ sym t.1
     | inr t ↦
@@ -255,7 +276,7 @@ module _ (gs : List Game) (marks m2 : List ℕ) (ps : List Position) (opts more 
         ap (λ z. get_or m2 z 0) (at_old i less) ∙ others (get_or (indexes_of ps) i 0) differs ∙ stands.marked.marked i less
   ]
 
-  next_places : ArePlaces (opts ++ more) (found_in gs qs) qs
+  next_places : ArePlaces (opts ++ more) (found_in gs after) after
   next_places i q l e = elim (eqb_tells i (length ps)) [
     | inl t ↦
         let same : q ≡ p = e ∙ get_or_push ps p q i (sym t.1) in
@@ -272,7 +293,7 @@ module _ (gs : List Game) (marks m2 : List ℕ) (ps : List Position) (opts more 
         (stands.places i q less (e ∙ get_or_append_left ps (p ∷ []) q i less)))
   ]
 
-  pub next_stands : WalkStands gs m2 qs (opts ++ more)
+  pub next_stands : WalkStands gs m2 after (opts ++ more)
   next_stands =
       let all = found_pushed gs ps p index own in
       let C : List Game → Type 0 = λ z. All Canonical z in
@@ -281,7 +302,7 @@ module _ (gs : List Game) (marks m2 : List ℕ) (ps : List Position) (opts more 
       let old = stands.marked.room in
       record {
         marked = record {
-          pages = All-same (IsPage gs) (indexes_of qs) (indexes_of ps ++ (p.index ∷ [])) (indexes_pushed ps p)
+          pages = All-same (IsPage gs) (indexes_of after) (indexes_of ps ++ (p.index ∷ [])) (indexes_pushed ps p)
               (All-push (IsPage gs) (indexes_of ps) p.index stands.marked.pages (subst G (sym own) page));
           room = omega arith;
           marked = next_marked;
@@ -291,26 +312,29 @@ module _ (gs : List Game) (marks m2 : List ℕ) (ps : List Position) (opts more 
         places = next_places;
       }
 
--- ---- one game
+-- the same, where the lists are told by equations
+module _ (gs : List Game) (marks m2 : List ℕ) (ps before after : List Position) (opts more opts2 opts3 : List ℕ) (p : Position) (index : ℕ)
+    (e : before ≡ ps) (f : after ≡ before ++ (p ∷ [])) (own : p.index ≡ index) where
+  after_is : after ≡ ps ++ (p ∷ [])
+  after_is = f ∙ ap (λ z. z ++ (p ∷ [])) e
 
-module _ (seen found : List Game) (g : Game) (out : ¬ Among g seen) (walked : found ≡ extended seen (positions_before g)) where
-  pub not_yet : ¬ Among g found
-  not_yet m = elim (extended-among games seen (positions_before g) g (carry g found (extended seen (positions_before g)) walked m)) [
-    | inl n ↦ out n
-    | inr n ↦ (let d = positions_before-depth g g n in absurd (omega arith))
-  ]
+  pub next_walk : WalkStands gs marks ps opts → IsPage gs index → Canonical (game_of gs index)
+      → ((k : Game) → Among k (positions_before (game_of gs index)) → Among k (found_in gs ps))
+      → ¬ Among (game_of gs index) (found_in gs ps) → opts2 ≡ opts ++ more → opts3 ≡ opts2
+      → IsPlace opts2 (found_in gs ps ++ (game_of gs index ∷ [])) (length ps) p
+      → length m2 ≡ length marks → get_or m2 p.index 0 ≡ length before
+      → ((i : ℕ) → ¬ (i ≡ p.index) → get_or m2 i 0 ≡ get_or marks i 0) → WalkStands gs m2 after opts3
+  next_walk stands page canonical there out k l place room mark others =
+      let P : List Position → Type 0 = λ z. WalkStands gs m2 z opts3 in
+      let Q : List ℕ → Type 0 = λ z. WalkStands gs m2 (ps ++ (p ∷ [])) z in
+      let R : List ℕ → Type 0 = λ z. IsPlace z (found_in gs ps ++ (game_of gs index ∷ [])) (length ps) p in
+      subst P (sym after_is) (subst Q (sym (l ∙ k)) (next_stands gs marks m2 ps opts more p index stands own page canonical there out
+          (subst R k place) room (mark ∙ ap length e) others))
 
-  pub before_there : (k : Game) → Among k (positions_before g) → Among k found
-  before_there k m = carry k (extended seen (positions_before g)) found (sym walked) (extended-has games seen (positions_before g) k m)
-
-  pub next_all : found ++ (g ∷ []) ≡ extended seen (all_positions g)
-  next_all = ap (λ z. z ++ (g ∷ [])) walked ∙ sym (extended-last seen g out)
-
-  pub next_more : (limit : ℕ) → limit ≡ length found → limit < length (extended seen (all_positions g))
-  next_more limit e =
-      let a = ap length next_all in
-      let b = length-append found (g ∷ []) in
-      omega arith
+  pub next_found : (seen : List Game) → ¬ Among (game_of gs index) seen → found_in gs ps ≡ extended seen (positions_before (game_of gs index))
+      → found_in gs after ≡ extended seen (all_positions (game_of gs index))
+  next_found seen out walked =
+      ap (found_in gs) after_is ∙ found_pushed gs ps p index own ∙ next_all seen (found_in gs ps) (game_of gs index) out walked
 
 -- the games of the options are found with the positions before a game
 pub option_before : (gs : List Game) (g : Game) (ls rs : List ℕ) (a : Game) → g ≡ node (games_of gs ls) (games_of gs rs)
@@ -336,7 +360,7 @@ walk_split gs (p ∷ ps) qs =
     ap (λ z. all_positions (game_of gs p) ++ z) (walk_split gs ps qs)
     ∙ sym (append_assoc (all_positions (game_of gs p)) (walk_over gs ps) (walk_over gs qs))
 
-pub walk_next : (seen gs : List Game) (ps : List ℕ) (i k : ℕ) → i < length ps → k ≡ get_or ps i 0
+walk_next : (seen gs : List Game) (ps : List ℕ) (i k : ℕ) → i < length ps → k ≡ get_or ps i 0
     → extended (extended seen (walk_over gs (take i ps))) (all_positions (game_of gs k)) ≡ extended seen (walk_over gs (take (i + 1) ps))
 walk_next seen gs ps i k less e =
     ap (λ z. extended (extended seen (walk_over gs (take i ps))) (all_positions (game_of gs z))) e
@@ -346,12 +370,21 @@ walk_next seen gs ps i k less e =
     ∙ ap (λ z. extended seen (walk_over gs z)) (sym (take_more ps i 0 less))
 
 -- more than the positions of the first games are more than those of all
-pub first_length : (seen gs : List Game) (ps : List ℕ) (i limit : ℕ) → limit < length (extended seen (walk_over gs (take i ps)))
+first_length : (seen gs : List Game) (ps : List ℕ) (i limit : ℕ) → limit < length (extended seen (walk_over gs (take i ps)))
     → limit < length (extended seen (walk_over gs ps))
 first_length seen gs ps i limit l =
     let split = ap (λ z. length (extended seen z)) (ap (walk_over gs) (sym (take-append-drop i ps)) ∙ walk_split gs (take i ps) (drop i ps)) in
     let more = extended-length games seen (walk_over gs (take i ps)) (walk_over gs (drop i ps)) in
     omega arith
+
+module _ (gs seen found : List Game) (ps : List ℕ) (i k : ℕ) (less : i < length ps) (e : k ≡ get_or ps i 0)
+    (walked : found ≡ extended seen (walk_over gs (take i ps))) where
+  pub walked_next : extended found (all_positions (game_of gs k)) ≡ extended seen (walk_over gs (take (i + 1) ps))
+  walked_next = ap (λ z. extended z (all_positions (game_of gs k))) walked ∙ walk_next seen gs ps i k less e
+
+  pub next_longer : (limit : ℕ) → limit < length (extended found (all_positions (game_of gs k)))
+      → limit < length (extended seen (walk_over gs ps))
+  next_longer limit l = let a = ap length walked_next in first_length seen gs ps (i + 1) limit (omega arith)
 
 -- ---- the options of a game
 
@@ -370,3 +403,6 @@ module _ (gs seen : List Game) (g : Game) (ls rs : List ℕ) (is : g ≡ node (g
   module _ (found : List Game) (left : found ≡ extended seen (walk_over gs ls)) where
     pub sides_walked : extended found (walk_over gs rs) ≡ extended seen (positions_before g)
     sides_walked = ap (λ z. extended z (walk_over gs rs)) left ∙ both
+
+    pub right_longer : (limit : ℕ) → limit < length (extended found (walk_over gs rs)) → limit < length (extended seen (positions_before g))
+    right_longer limit l = let a = ap length sides_walked in omega arith

@@ -11,6 +11,7 @@ ghost use Rattle.cg_canon.specs.NumberItems.{number_made};
 ghost use Rattle.cg_canon.specs.Works.{work_state};
 
 use crate::fault::ValueFault;
+use crate::making_at::{given_at, known_at, number_at, sum_at};
 use crate::work::Work;
 use cg_book::FirstTerm;
 use cg_cells::CellStore;
@@ -32,7 +33,13 @@ impl<'a, B: BoardForms, S: CellStore<GameFacts<B>>> Work<'a, B, S> {
         ensures own { IfOk result (λ i. i ≡ index) }
         ensures arena { self.new.arena ≡ self.old.arena }
     {
-        unreachable!()
+        known_at(
+            &*self.store,
+            &self.held.memo.book,
+            &mut self.meter,
+            index,
+            extra,
+        )
     }
 
     /// Makes the item of a number, with a cost of `extra` more, where `extra` is at most 8. None stands for a number out of range.
@@ -43,7 +50,16 @@ impl<'a, B: BoardForms, S: CellStore<GameFacts<B>>> Work<'a, B, S> {
         ensures { (form : Game) → IsValue x form → ItemAt (work_state S.state self.old) (work_state S.state self.new)
             self.old.arena self.new.arena (number_made x extra) form extra result }
     {
-        unreachable!()
+        match x {
+            Some(value) => number_at(
+                self.store,
+                &mut self.held.memo.book,
+                &mut self.meter,
+                value,
+                extra,
+            ),
+            None => Err(ValueFault::Range),
+        }
     }
 
     /// Makes the item of a game that is canonical as it is given, by the indexes of its options, with a cost of `extra` more, where
@@ -62,7 +78,15 @@ impl<'a, B: BoardForms, S: CellStore<GameFacts<B>>> Work<'a, B, S> {
         ensures { let g = node (games_of self.old.arena lefts.now) (games_of self.old.arena rights.now) in
             ItemAt (work_state S.state self.old) (work_state S.state self.new) self.old.arena self.new.arena (made g extra) g extra result }
     {
-        unreachable!()
+        given_at(
+            alloc,
+            self.store,
+            &mut self.held.memo.book,
+            &mut self.meter,
+            lefts,
+            rights,
+            extra,
+        )
     }
 
     /// Makes the item of the canonical form of a sum, by the indexes of its options, with a cost of `extra` more, where `extra` is at
@@ -86,6 +110,15 @@ impl<'a, B: BoardForms, S: CellStore<GameFacts<B>>> Work<'a, B, S> {
         ensures { let g = can (node (games_of self.old.arena lefts.now) (games_of self.old.arena rights.now)) in
             ItemAt (work_state S.state self.old) (work_state S.state self.new) self.old.arena self.new.arena (made g extra) g extra result }
     {
-        unreachable!()
+        sum_at(
+            alloc,
+            self.store,
+            &mut self.held.memo.book,
+            &mut self.meter,
+            lefts,
+            rights,
+            first_term,
+            extra,
+        )
     }
 }

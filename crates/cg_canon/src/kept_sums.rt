@@ -32,6 +32,14 @@ fn number_of_pair(low: u32, high: u32) -> u32 {
     half_of(mixed(high as u64, low))
 }
 
+/// The two, the lesser first.
+#[inline(always)]
+fn in_order(a: u32, b: u32) -> (u32, u32)
+    ensures { ((result.0 ≡ a) × (result.1 ≡ b)) ⊎ ((result.0 ≡ b) × (result.1 ≡ a)) }
+{
+    if a <= b { (a, b) } else { (b, a) }
+}
+
 impl KeptSums {
     /// No sums.
     pub fn new(alloc: Global) -> KeptSums
@@ -90,7 +98,8 @@ impl<'a, B: BoardForms, S: CellStore<GameFacts<B>>> Work<'a, B, S> {
         ensures { IfSome result (λ i. IsAt self.now.arena i
             (can (sum_of (game_of self.now.arena a) (game_of self.now.arena b)))) }
     {
-        self.held.memo.book.pairs.find(a.min(b), a.max(b))
+        let (low, high) = in_order(a, b);
+        self.held.memo.book.pairs.find(low, high)
     }
 
     /// Keeps the index of the form of the sum of the two games, in either order, unless there is no memory for it.
@@ -101,6 +110,7 @@ impl<'a, B: BoardForms, S: CellStore<GameFacts<B>>> Work<'a, B, S> {
         requires sum { IsAt self.old.arena sum (can (sum_of (game_of self.old.arena a) (game_of self.old.arena b))) }
         ensures { self.new ≡ self.old }
     {
-        self.held.memo.book.pairs.keep(a.min(b), a.max(b), sum);
+        let (low, high) = in_order(a, b);
+        self.held.memo.book.pairs.keep(low, high, sum);
     }
 }

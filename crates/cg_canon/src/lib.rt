@@ -20,6 +20,7 @@ mod items_at;
 mod kept_sums;
 mod made;
 mod making;
+mod making_at;
 mod memo;
 mod meter;
 mod number_up_star;
@@ -34,6 +35,7 @@ mod rest;
 mod value;
 mod walk;
 mod walking;
+mod walks;
 mod work;
 mod written;
 

@@ -82,7 +82,7 @@ impl Walk {
         requires marked { AreMarked pages.now marks.now self.old.positions.items }
         requires indexes { ArePages pages.now indexes.now }
         requires found { (g : Game) → Among g (games_of pages.now indexes.now) → Among g (found_in pages.now self.old.positions.items) }
-        ensures positions { self.new.positions ≡ self.old.positions }
+        ensures positions { self.new.positions.items ≡ self.old.positions.items }
         ensures options { OnOk result (Appended self.old.positions.items self.old.options.items self.new.options.items indexes.now) }
     {
         // Read for the proof alone: the marks of these games are their places.
@@ -104,7 +104,7 @@ impl Walk {
         requires marked { AreMarked pages.now marks.now self.old.positions.items }
         requires index { IsPage pages.now index }
         requires found { (g : Game) → Among g (positions_before (game_of pages.now index)) → Among g (found_in pages.now self.old.positions.items) }
-        ensures positions { self.new.positions ≡ self.old.positions }
+        ensures positions { self.new.positions.items ≡ self.old.positions.items }
         ensures more { OnOk result ((more : List ℕ) × (self.new.options.items ≡ self.old.options.items ++ more)) }
         ensures canonical { OnOk result (Canonical (game_of pages.now index)) }
         ensures index { IfOk result (λ p. p.index ≡ index) }
@@ -147,7 +147,7 @@ impl Walk {
         requires room { position.index < length marks.old }
         requires within { length self.old.positions.items ≤ limit }
         ensures positions { OnOk result (self.new.positions.items ≡ self.old.positions.items ++ (position ∷ [])) }
-        ensures options { self.new.options ≡ self.old.options }
+        ensures options { self.new.options.items ≡ self.old.options.items }
         ensures room { length marks.new ≡ length marks.old }
         ensures own { OnOk result (get_or marks.new position.index 0 ≡ length self.old.positions.items) }
         ensures others { OnOk result ((i : ℕ) → ¬ (i ≡ position.index) → get_or marks.new i 0 ≡ get_or marks.old i 0) }

@@ -37,7 +37,8 @@ pub(crate) fn walk_index(
     }
     walk_options(pages, marks, walk, index, limit)?;
     let position = walk.position(pages, marks, index)?;
-    walk.add(marks, position, limit)
+    walk.add(marks, position, limit)?;
+    Ok(())
 }
 
 /// Puts the positions of the options behind those that were found. A number has no positions but itself.

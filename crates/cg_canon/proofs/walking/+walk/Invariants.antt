@@ -7,16 +7,16 @@ use Rattle.cg_canon.proofs.WalkSteps.{walk_over}
 use Rattle.cg_canon.proofs.walking.+walk.Given as goal
 
 abbrev pub decreases-walk_options : goal.decreases-walk_options
-decreases-walk_options g l = 3 * size (game_of l.pages.now l.index)
+decreases-walk_options l = 3 * size (game_of l.pages.now l.index)
 
 abbrev pub decreases-walk_index : goal.decreases-walk_index
-decreases-walk_index g l = 3 * size (game_of l.pages.now l.index) + 1
+decreases-walk_index l = 3 * size (game_of l.pages.now l.index) + 1
 
 abbrev pub decreases-walk_indexes : goal.decreases-walk_indexes
-decreases-walk_indexes g l = 3 * list_size (games_of l.pages.now l.indexes.now) + 2
+decreases-walk_indexes l = 3 * list_size (games_of l.pages.now l.indexes.now) + 2
 
 abbrev pub invariant-walk_indexes-loop-index : goal.invariant-walk_indexes-loop-index
-invariant-walk_indexes-loop-index g l = record {
+invariant-walk_indexes-loop-index l = record {
   stands : WalkStands l.pages l.marks l.walk.positions.items l.walk.options.items;
   walked : found_in l.pages l.walk.positions.items ≡ extended (found_in l.pages l.initial.walk.positions.items)
       (walk_over l.pages (take l.index-index l.indexes));
