@@ -14,13 +14,16 @@ use Rattle.cg_canon.specs.declared.rest.WorkRest.{WorkRest}
 use Rattle.cg_canon.specs.Arena.{Begins, IsAt}
 use Rattle.cg_canon.specs.Books.{BookHolds}
 use Rattle.cg_canon.specs.Held.{IsHeld}
-use Rattle.cg_canon.specs.Items.{Item, made}
+use Rattle.cg_canon.specs.Items.{AllPass, WasRefused, made}
 use Rattle.cg_canon.specs.ItemsAt.{ItemAt, PaidAt}
 use Rattle.cg_canon.specs.Made.{FormGiven, ItemsMade}
 use Rattle.cg_canon.specs.Paid.{IsPaid, metered}
 use Rattle.cg_canon.specs.Works.{MeterHolds, work_state}
+use Rattle.cg_nodes.proofs.Later.{nothing_spent}
+use Rattle.cg_canon.proofs.Booking.{begins_none}
 use Rattle.cg_canon.proofs.Holding.{held_book, held_later}
 use Rattle.cg_canon.proofs.MadeSteps.{made_memory, made_with}
+use Rattle.cg_canon.proofs.Paying.{none_paid}
 
 -- ---- the handle of the form was given
 
@@ -65,6 +68,45 @@ module _ {R : Type 0} (s t : State Meant R) (m n : Meter) (gs hs : List Game) (f
         within = p.within;
         fallen = p.fallen;
       }
+
+-- ---- without any claim
+
+-- a form that stands in the arena
+pub paid_known : {R : Type 0} (s : State Meant R) (m n : Meter) (gs : List Game) (index : ℕ) (form : Game) (extra cost : ℕ)
+    → n ≡ record m { spent = m.spent + (cost + extra) } → m.spent + (cost + extra) ≤ m.share → IsAt gs index form
+    → AllPass m.share m.spent (made form extra ∷ []) n.spent → PaidAt s s m n gs gs form extra (Ok index)
+paid_known s m n gs index form extra cost same within at charged =
+    let spent : n.spent ≡ m.spent + (cost + extra) = ap (λ (z : Meter). z.spent) same in
+    let share : n.share ≡ m.share = ap (λ (z : Meter). z.share) same in record {
+      item = record {
+        at = at;
+        begins = begins_none gs;
+        made = record {
+          charged = charged;
+          refused = tt;
+          keeps = record {
+            known = λ i x e. e;
+            noted = λ x h. h;
+            of_store = refl;
+            name = refl;
+            share = share;
+            start = refl;
+            limit = refl;
+          };
+        };
+        spare = omega arith;
+        more = omega arith;
+      };
+      within = omega arith;
+      fallen = omega arith;
+    }
+
+-- an item that is refused
+pub paid_none : {R : Type 0} (s : State Meant R) (m : Meter) (gs : List Game) (form : Game) (extra : ℕ) (fault : ValueFault)
+    → m.spent ≤ m.share → WasRefused fault m.share m.spent (made form extra ∷ []) m.spent → PaidAt s s m m gs gs form extra (Err fault)
+paid_none s m gs form extra fault within refused =
+    paid_refused s s m m gs gs form extra (Err fault) (none_paid s s m (nothing_spent s) form extra fault within refused) (begins_none gs)
+    fault refl
 
 -- ---- a work
 

@@ -9,8 +9,8 @@ use Rattle.cg_dyadic.specs.Number.{Number, whole}
 use Rattle.cg_form.specs.Canonical.{Canonical}
 use Rattle.cg_form.specs.Extended.{IsClosed, extended, positions_before}
 use Rattle.cg_form.specs.Game.{Among, Game, node, number, of_list}
-use Rattle.cg_form.specs.Positions.{all_positions, positions_in}
-use Rattle.cg_form.proofs.AllPositions.{closed_more, closed_there, extended-last, positions_before-depth, positions_in-own}
+use Rattle.cg_form.specs.Positions.{all_positions, positions_in, positions_of}
+use Rattle.cg_form.proofs.AllPositions.{closed_more, closed_none, closed_there, extended-last, positions_before-depth, positions_in-own, positions_of-extended}
 use Rattle.cg_form.proofs.Among.{among-append_left, among-append_right, carry, to_list-of_list}
 use Rattle.cg_form.proofs.Firsts.{extended-among, extended-append, extended-has, extended-length}
 use Rattle.cg_form.proofs.Structure.{games}
@@ -18,7 +18,8 @@ use Rattle.cg_book.specs.Pages.{ArePages, IsPage, game_of, games_of}
 use Rattle.cg_book.proofs.Paging.{game_before, games_before, pages_before}
 use Rattle.cg_book.proofs.Slices.{item_among}
 use Rattle.cg_canon.specs.declared.walk.Position.{Position}
-use Rattle.cg_canon.specs.Walk.{ArePlaces, IsPlace, indexes_of, lefts_of, rights_of}
+use Rattle.cg_canon.specs.declared.walk.Walk.{Walk}
+use Rattle.cg_canon.specs.Walk.{ArePlaces, IsPlace, IsWalk, indexes_of, lefts_of, rights_of}
 use Rattle.cg_canon.specs.Walking.{Appended, AreApart, AreMarked, HasPlace, WalkStands, found_in}
 
 -- ---- indexes and games
@@ -406,3 +407,41 @@ module _ (gs seen : List Game) (g : Game) (ls rs : List ℕ) (is : g ≡ node (g
 
     pub right_longer : (limit : ℕ) → limit < length (extended found (walk_over gs rs)) → limit < length (extended seen (positions_before g))
     right_longer limit l = let a = ap length sides_walked in omega arith
+
+-- ---- a whole walk
+
+pub walk_none : (gs : List Game) (marks : List ℕ) (ps : List Position) (opts : List ℕ) → ps ≡ [] → length gs ≤ length marks
+    → WalkStands gs marks ps opts
+walk_none gs marks ps opts e room =
+    let P : List Position → Type 0 = λ z. WalkStands gs marks z opts in
+    subst P (sym e) (record {
+      marked = record { pages = λ k d h. absurd (omega arith); room = room; marked = λ i l. absurd (omega arith) };
+      canonical = λ k d h. absurd (omega arith);
+      closed = closed_none;
+      places = λ i p l q. absurd (omega arith);
+    })
+
+module _ (gs : List Game) (g : Game) (none : List Position) (e : none ≡ []) where
+  all_is : extended (found_in gs none) (all_positions g) ≡ positions_of g
+  all_is = ap (λ z. extended (found_in gs z) (all_positions g)) e ∙ sym (positions_of-extended g)
+
+  pub walk_longer : (limit : ℕ) → limit < length (extended (found_in gs none) (all_positions g)) → limit < length (positions_of g)
+  walk_longer limit l = let a = ap length all_is in omega arith
+
+  module _ (marks : List ℕ) (w : Walk) (stands : WalkStands gs marks w.positions.items w.options.items)
+      (all : found_in gs w.positions.items ≡ extended (found_in gs none) (all_positions g)) where
+    pub walk_all : IsWalk gs w (positions_of g)
+    walk_all =
+        let C : List Game → Type 0 = λ z. All Canonical z in
+        let P : List Game → Type 0 = λ z. ArePlaces w.options.items z w.positions.items in
+        record {
+          at = (stands.marked.pages, all ∙ all_is);
+          canonical = subst C (all ∙ all_is) stands.canonical;
+          places = subst P (all ∙ all_is) stands.places;
+        }
+
+    pub walk_within : (limit : ℕ) → length w.positions.items ≤ limit → length (positions_of g) ≤ limit
+    walk_within limit l =
+        let a = ap length (all ∙ all_is) in
+        let b = found_length gs w.positions.items in
+        omega arith

@@ -24,6 +24,7 @@ use std::alloc::Global;
 
 /// Makes the item of the form at the index, with a cost of `extra` more.
 #[inline(always)]
+#[tactic(auto, using(crate::proofs::Booking::begins_none))]
 pub(crate) fn known_at<B: BoardForms, S: CellStore<GameFacts<B>>>(
     store: &S,
     book: &Book,

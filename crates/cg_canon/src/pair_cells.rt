@@ -7,8 +7,7 @@ ghost use Rattle.cg_nodes.specs.Can.{can};
 ghost use Rattle.cg_nodes.specs.Games.{IsGame, game_at};
 ghost use Rattle.cg_nodes.specs.Spelled.{game_meaning};
 ghost use Rattle.cg_book.specs.Pages.{IsPage, game_of};
-ghost use Rattle.cg_canon.specs.Arena.{IsAt};
-ghost use Rattle.cg_canon.specs.Books.{Begins};
+ghost use Rattle.cg_canon.specs.Arena.{Begins, IsAt};
 ghost use Rattle.cg_canon.specs.Notes.{IsNoteOf};
 ghost use Rattle.cg_canon.specs.Works.{work_state};
 

@@ -19,7 +19,7 @@ invariant_of-self g c =
       c.self.invariant.0,
       held_book s h (record h.memo { book = record b { pairs = c.keep.new.self } }) c.self.invariant.1
           (holds_pairs s b c.keep.new.self c.self.invariant.1.book (sums_more b.pages b.pairs c.keep.new.self _ _ c.args.sum c.keep.ensures
-          (pair_kept b.pages c.args.a c.args.b _ _ c.in_order.ensures c.args.sum (subst (P c.args.a) (sym c.self.view_is) c.requires.a)
+          (pair_kept b.pages c.args.a c.args.b _ _ c.in_order-low.ensures c.args.sum (subst (P c.args.a) (sym c.self.view_is) c.requires.a)
           (subst (P c.args.b) (sym c.self.view_is) c.requires.b) (subst Q (sym c.self.view_is) c.requires.sum))
           c.self.invariant.1.book.pairs)) refl,
     )
