@@ -19,17 +19,14 @@ use Rattle.cg_canon.specs.declared.made.MadeForms.{MadeForms}
 use Rattle.cg_canon.specs.declared.memo.AddedSum.{AddedSum}
 use Rattle.cg_canon.specs.declared.memo.KnownSum.{KnownSum}
 use Rattle.cg_canon.specs.declared.memo.Memo.{Memo}
-use Rattle.cg_canon.specs.declared.number_up_stars.NumberUpStars.{NumberUpStars}
 use Rattle.cg_canon.specs.Added.{IsKnownSum}
 use Rattle.cg_canon.specs.declared.book.Book.{Book}
 use Rattle.cg_canon.specs.Books.{BookHolds}
 use Rattle.cg_canon.specs.Held.{IsHeld, SumHolds, SumsHold, knowing}
 use Rattle.cg_canon.specs.MadeForms.{FormsHold}
 use Rattle.cg_canon.specs.Memos.{IsAdded, added_sum}
-use Rattle.cg_canon.specs.NumberUpStars.{AreKnown}
 use Rattle.cg_canon.proofs.Booking.{book_later}
 use Rattle.cg_canon.proofs.FormTables.{forms_later, forms_none}
-use Rattle.cg_canon.proofs.KnownGames.{known_later, known_none}
 use Rattle.cg_canon.specs.Works.{MeterHolds}
 
 -- a known sum stays one
@@ -56,7 +53,6 @@ held_later s t h grows k = record {
   book = book_later s t h.memo.book grows k.book;
   sums = All-weaker (SumHolds s) (SumHolds t) (known_sum_later s t grows) h.memo.sums.items k.sums;
   forms = forms_later s t grows h.made k.forms;
-  known_as = known_later s t grows h.known_as k.known_as;
 }
 
 -- and nothing more was charged
@@ -79,12 +75,11 @@ held_anyhow s h f = held_later (knowing s.known) s h (λ i x e. e) (f s.known)
 
 -- of nothing
 pub held_nothing : {R : Type 0} (s : State Meant R) (h : Held) → BookHolds s h.memo.book → h.memo.sums.items ≡ []
-    → h.made.forms.items ≡ [] → h.known_as.games.items ≡ [] → IsHeld s h
-held_nothing s h b none empty unknown = record {
+    → h.made.forms.items ≡ [] → IsHeld s h
+held_nothing s h b none empty = record {
   book = b;
   sums = All-same (SumHolds s) h.memo.sums.items [] none (All-nil (SumHolds s));
   forms = forms_none s h.made empty;
-  known_as = known_none s h.known_as unknown;
 }
 
 -- a sum that was found
@@ -95,7 +90,7 @@ sum_found s m a b known k at = All-contains (SumHolds s) m.sums.items (added_sum
 -- with another book and other sums
 pub held_memo : {R : Type 0} (s : State Meant R) (h : Held) (n : Memo) → IsHeld s h → BookHolds s n.book → SumsHold s n
     → IsHeld s (record h { memo = n })
-held_memo s h n k book sums = record { book = book; sums = sums; forms = k.forms; known_as = k.known_as }
+held_memo s h n k book sums = record { book = book; sums = sums; forms = k.forms }
 
 module _ {R : Type 0} (s : State Meant R) (h : Held) (n : Memo) (holds : IsHeld s h) where
   -- with the same sums
@@ -109,9 +104,4 @@ module _ {R : Type 0} (s : State Meant R) (h : Held) (n : Memo) (holds : IsHeld 
 -- with other forms
 pub held_forms : {R : Type 0} (s : State Meant R) (h : Held) (m : MadeForms) → IsHeld s h → FormsHold s m
     → IsHeld s (record h { made = m })
-held_forms s h m k f = record { book = k.book; sums = k.sums; forms = f; known_as = k.known_as }
-
--- with another table of what games are known as
-pub held_known : {R : Type 0} (s : State Meant R) (h : Held) (n : NumberUpStars) → IsHeld s h → AreKnown s n
-    → IsHeld s (record h { known_as = n })
-held_known s h n k a = record { book = k.book; sums = k.sums; forms = k.forms; known_as = a }
+held_forms s h m k f = record { book = k.book; sums = k.sums; forms = f }

@@ -11,7 +11,6 @@ use Rattle.cg_canon.specs.declared.memo.Memo.{Memo}
 use Rattle.cg_canon.specs.Added.{IsKnownSum}
 use Rattle.cg_canon.specs.Books.{BookHolds}
 use Rattle.cg_canon.specs.MadeForms.{FormsHold}
-use Rattle.cg_canon.specs.NumberUpStars.{AreKnown}
 
 abbrev pub SumHolds : {R : Type 0} → State Meant R → AddedSum → Type 0
 SumHolds {R} s x = IsKnownSum s x.a x.b x.known
@@ -20,12 +19,11 @@ SumHolds {R} s x = IsKnownSum s x.a x.b x.known
 abbrev pub SumsHold : {R : Type 0} → State Meant R → Memo → Type 0
 SumsHold {R} s m = All (SumHolds s) m.sums.items
 
--- the pages, the sums and the forms are those of games that the store knows, and so is what games are known as
+-- the pages, the sums and the forms are those of games that the store knows
 pub record IsHeld {R : Type 0} (s : State Meant R) (h : Held) : Type 0 where
   pub book : BookHolds s h.memo.book
   pub sums : SumsHold s h.memo
   pub forms : FormsHold s h.made
-  pub known_as : AreKnown s h.known_as
 
 -- a state of which nothing is said but what it knows
 abbrev pub knowing : map.FinMap nat_cmp Meant → State Meant (Unit {0})

@@ -6,14 +6,14 @@
 ghost use Rattle.std.specs.Prelude.{◌≡◌, IfSome};
 ghost use Rattle.cg_book.specs.Pages.{IsPage, game_of};
 ghost use Rattle.cg_canon.specs.Arena.{IsAt};
-ghost use Rattle.cg_canon.specs.NumberUpStars.{IsKnownAs};
+ghost use Rattle.cg_canon.specs.NumberUpStars.{game_of as game_of_parts};
+ghost use Rattle.cg_canon.specs.Recognized.{IsKnownAt};
 ghost use Rattle.cg_canon.specs.Works.{work_state};
-ghost use Rattle.cg_form.specs.Canonical.{Canonical};
 ghost use Rattle.cg_form.specs.Order.{Equal};
 ghost use Rattle.cg_form.specs.Sum.{sum as sum_of};
 ghost use Rattle.cg_nimbers.specs.Nimbers.{nimber_form};
 ghost use Rattle.cg_nodes.specs.Can.{can};
-ghost use Rattle.cg_nodes.specs.Games.{IsGame, StandsFor, game_at};
+ghost use Rattle.cg_nodes.specs.Games.{StandsFor};
 
 use crate::number_up_star::NumberUpStar;
 use crate::work::Work;
@@ -21,24 +21,12 @@ use cg_cells::CellStore;
 use cg_nodes::{BoardForms, GameFacts, Handle};
 
 impl<'a, B: BoardForms, S: CellStore<GameFacts<B>>> Work<'a, B, S> {
-    /// What the game is known as, if it is found.
-    #[inline(always)]
-    pub fn known_as(&self, a: Handle) -> Option<NumberUpStar>
-        ensures { IfSome result (IsKnownAs (work_state S.state self.now) a) }
-    {
-        self.held.known_as.sum_of(a)
-    }
-
     /// The number of the nimber that the game is known as, if it is known as one.
     pub fn nimber_of(&self, a: Handle) -> Option<u64>
         ensures { IfSome result (λ n. StandsFor (work_state S.state self.now) a (nimber_form n)) }
     {
-        let parts = self.known_as(a)?;
-        if parts.is(&NumberUpStar::of_nimber(parts.star)) {
-            Some(parts.star)
-        } else {
-            None
-        }
+        let index = self.held.memo.book.page(a)?;
+        self.nimber_at(index)
     }
 
     /// The number of the nimber that the game at the index is known as, if it is known as one.
@@ -46,8 +34,12 @@ impl<'a, B: BoardForms, S: CellStore<GameFacts<B>>> Work<'a, B, S> {
         requires { IsPage self.now.arena index }
         ensures { IfSome result (λ n. game_of self.now.arena index ≡ nimber_form n) }
     {
-        let _ = index;
-        None
+        let parts = self.parts_at(index)?;
+        if parts.is(&NumberUpStar::of_nimber(parts.star)) {
+            Some(parts.star)
+        } else {
+            None
+        }
     }
 
     /// The index of the canonical form of a + b, where both are known as a number, ups and a nimber, and it is, too.
@@ -57,8 +49,10 @@ impl<'a, B: BoardForms, S: CellStore<GameFacts<B>>> Work<'a, B, S> {
         ensures { let A = self.now.arena in
             IfSome result (λ i. IsAt A i (can (sum_of (game_of A a) (game_of A b)))) }
     {
-        let _ = (a, b);
-        None
+        let first = self.parts_at(a)?;
+        let second = self.parts_at(b)?;
+        let both = first.plus(second)?;
+        self.index_of(&both)
     }
 
     /// Keeps what one of a, b and their sum is known as, where that is known of the other two.
@@ -68,74 +62,60 @@ impl<'a, B: BoardForms, S: CellStore<GameFacts<B>>> Work<'a, B, S> {
         requires sum { let A = self.old.arena in IsAt A sum (can (sum_of (game_of A a) (game_of A b))) }
         ensures { self.new ≡ self.old }
     {
-        let _ = (a, b, sum);
-    }
-
-    /// Keeps that the game is the nimber of n, unless there is no memory for it.
-    pub fn learn_nimber(&mut self, a: Handle, n: u64)
-        requires { StandsFor (work_state S.state self.old) a (nimber_form n) }
-        ensures { self.new ≡ self.old }
-    {
-        self.learn(a, NumberUpStar::of_nimber(n));
-    }
-
-    /// A game that is known as the sum, if one is found.
-    fn game_known_as(&self, sum: &NumberUpStar) -> Option<Handle>
-        ensures { IfSome result (λ h. IsKnownAs (work_state S.state self.now) h sum.now) }
-    {
-        self.held.known_as.game_of(sum)
-    }
-
-    /// The handle of the canonical form of a + b, where both are known as a number, ups and a nimber, and it is, too.
-    pub fn sum_by_parts(&self, a: Handle, b: Handle) -> Option<Handle>
-        ensures { let W = work_state S.state self.now in
-            IfSome result (λ h. StandsFor W h (can (sum_of (game_at W a) (game_at W b)))) }
-    {
-        let first = self.known_as(a)?;
-        let second = self.known_as(b)?;
-        let both = first.plus(&second)?;
-        self.game_known_as(&both)
-    }
-
-    /// Keeps what the game is known as, unless that is known or there is no memory for it.
-    pub fn learn(&mut self, a: Handle, sum: NumberUpStar)
-        requires { IsKnownAs (work_state S.state self.old) a sum }
-        ensures { self.new ≡ self.old }
-    {
-        if self.held.known_as.sum_of(a).is_none() {
-            self.held.known_as.keep(a, sum);
-        }
-    }
-
-    /// Keeps what one of a, b and their sum is known as, where that is known of the other two.
-    pub fn learn_sum(&mut self, a: Handle, b: Handle, sum: Handle)
-        requires a { let W = work_state S.state self.old in IsGame W a × Canonical (game_at W a) }
-        requires b { let W = work_state S.state self.old in IsGame W b × Canonical (game_at W b) }
-        requires sum { let W = work_state S.state self.old in StandsFor W sum (can (sum_of (game_at W a) (game_at W b))) }
-        ensures { self.new ≡ self.old }
-    {
-        match (self.known_as(a), self.known_as(b)) {
+        match (self.parts_at(a), self.parts_at(b)) {
             (Some(first), Some(second)) => {
-                if let Some(both) = first.plus(&second) {
-                    self.learn(sum, both);
+                if let Some(both) = first.plus(second) {
+                    self.learn_at(sum, both);
                 }
             }
-            (Some(first), None) => self.learn_other(b, a, sum, first),
-            (None, Some(second)) => self.learn_other(a, b, sum, second),
+            (Some(first), None) => {
+                let one = *first;
+                self.learn_other_at(b, a, sum, one);
+            }
+            (None, Some(second)) => {
+                let one = *second;
+                self.learn_other_at(a, b, sum, one);
+            }
             (None, None) => {}
         }
     }
 
-    /// Keeps what the game a is known as, where b is known as `one`, and their sum is known.
-    fn learn_other(&mut self, a: Handle, b: Handle, sum: Handle, one: NumberUpStar)
-        requires a { let W = work_state S.state self.old in IsGame W a × Canonical (game_at W a) }
-        requires b { IsKnownAs (work_state S.state self.old) b one }
-        requires sum { let W = work_state S.state self.old in Equal (game_at W sum) (sum_of (game_at W a) (game_at W b)) }
+    /// What the game at the index is known as, if it is.
+    #[inline(always)]
+    fn parts_at(&self, index: u32) -> Option<&NumberUpStar>
+        ensures { IfSome result (λ parts. IsKnownAt self.now.arena index parts.now) }
+    {
+        self.held.memo.book.recognized.parts_at(index)
+    }
+
+    /// The index of a game that is known as these parts, if one is found.
+    fn index_of(&self, parts: &NumberUpStar) -> Option<u32>
+        ensures { IfSome result (λ index. IsKnownAt self.now.arena index parts.now) }
+    {
+        self.held.memo.book.recognized.index_of(parts)
+    }
+
+    /// Keeps what the game at the index is known as, unless that is known or there is no memory for it.
+    fn learn_at(&mut self, index: u32, parts: NumberUpStar)
+        requires page { IsPage self.old.arena index }
+        requires equal { Equal (game_of self.old.arena index) (game_of_parts parts) }
         ensures { self.new ≡ self.old }
     {
-        if let Some(both) = self.known_as(sum) {
+        if self.parts_at(index).is_none() {
+            self.held.memo.book.recognized.keep(index, parts);
+        }
+    }
+
+    /// Keeps what the game at a is known as, where that at b is known as `one`, and their sum is known.
+    fn learn_other_at(&mut self, a: u32, b: u32, sum: u32, one: NumberUpStar)
+        requires a { IsPage self.old.arena a }
+        requires b { IsKnownAt self.old.arena b one }
+        requires sum { let A = self.old.arena in Equal (game_of A sum) (sum_of (game_of A a) (game_of A b)) }
+        ensures { self.new ≡ self.old }
+    {
+        if let Some(both) = self.parts_at(sum) {
             if let Some(own) = both.less(&one) {
-                self.learn(a, own);
+                self.learn_at(a, own);
             }
         }
     }

@@ -7,7 +7,6 @@ ghost use Rattle.cg_canon.specs.Held.{IsHeld, knowing};
 
 use crate::made::MadeForms;
 use crate::memo::Memo;
-use crate::number_up_stars::NumberUpStars;
 use std::alloc::Global;
 
 /// The cache of a work: the games that it met, their sums, the forms that it made, and which games are a number, ups and a nimber.
@@ -20,8 +19,8 @@ pub struct Held {
     pub(crate) memo: Memo,
     /// The forms.
     pub(crate) made: MadeForms,
-    /// The games that are known as a number, ups and a nimber.
-    pub(crate) known_as: NumberUpStars,
+    /// At which place of a walk the game at an index was found.
+    pub(crate) marks: Vec<usize>,
 }
 
 /// A cache with more interned games than this, or with more sums, is large.
@@ -36,7 +35,7 @@ impl Held {
         Held {
             memo: Memo::new(alloc),
             made: MadeForms::new(alloc),
-            known_as: NumberUpStars::new(alloc),
+            marks: Vec::new(alloc),
         }
     }
 
@@ -52,6 +51,8 @@ impl Held {
     /// Whether the interned games or the sums are so many that a caller would rather begin anew than keep them. Of the forms
     /// only so many are kept in any case.
     pub fn is_large(&self) -> bool {
-        self.memo.book.pages.count() > LARGE || self.memo.count() > LARGE
+        self.memo.book.pages.count() > LARGE
+            || self.memo.count() > LARGE
+            || self.memo.book.pairs.count() > 4 * LARGE
     }
 }

@@ -46,7 +46,6 @@ fn make_nimbers<B: BoardForms, S: CellStore<GameFacts<B>>>(
     for level in 0..count {
         lesser.push(last)?;
         last = make(alloc, work, false, &lesser, &lesser)?;
-        work.learn_nimber(last, level + 1);
     }
     Ok(last)
 }

@@ -1,9 +1,6 @@
-use Rattle.std.proofs.Common.{◌∙◌, ◌+◌, add-one, ap, arith, subst, sym, Err, ℕ}
+use Rattle.std.proofs.Common.{◌∙◌, add-one, ap, arith, Err}
 use Rattle.std.proofs.lemmas.Result.{err_from_is_err_and}
-use Rattle.cg_canon.specs.Works.{WorkOf, work_state}
-use Rattle.cg_names.specs.Named.{nimber_form}
-use Rattle.cg_nodes.specs.Games.{StandsFor}
-use Rattle.cg_names.proofs.NimberSteps.{NimbersMade, nimber_made, nimber_made-canonical, nimber_options, nimbers_all, nimbers_first_refused, nimbers_next, nimbers_refused, nimbers_start}
+use Rattle.cg_names.proofs.NimberSteps.{nimber_made, nimber_made-canonical, nimber_options, nimbers_all, nimbers_first_refused, nimbers_next, nimbers_refused, nimbers_start}
 use Rattle.cg_names.proofs.nimbers.make_nimbers.Goals as goal
 
 pub returns-in_err-last : goal.returns-in_err-last
@@ -38,21 +35,12 @@ returns-in_err-last-2 g c =
     nimbers_refused _ _ _ _ _ _ c.loop-level.invariant _ (c.make.ensures _ e) _ _ _ c.in_err-last-2.was
     (p.1 ∙ ap Err p.2) c.loop-level-test.true
 
-pub learn_nimber-requires : goal.learn_nimber-requires
-learn_nimber-requires g c =
-    let e = nimber_made _ _ _ _ _ _ _ c.loop-level.invariant (c.deref.ensures.value ∙ c.in_ok-push.ensures.items)
-    (c.deref-in-loop-level.ensures.value ∙ c.in_ok-push.ensures.items) in
-    let P : ℕ → Type 0 = λ z. StandsFor (work_state g.S.CellStore.state c.make.new.work) c.in_ok-last-2.last (nimber_form z) in
-    subst P (sym (add-one c.loop-level.level)) (c.in_ok-last-2.ensures _ e).game
-
 pub loop-level-preserved : goal.loop-level-preserved
 loop-level-preserved g c =
-    let W = work_state g.S.CellStore.state in
     let e = nimber_made _ _ _ _ _ _ _ c.loop-level.invariant (c.deref.ensures.value ∙ c.in_ok-push.ensures.items)
     (c.deref-in-loop-level.ensures.value ∙ c.in_ok-push.ensures.items) in
-    let P : WorkOf _ → Type 0 = λ v. NimbersMade (W c.args.work.now) (W v) c.push.new.self.items c.in_ok-last-2.last (c.loop-level.level + 1) in
-    subst P (sym c.learn_nimber.ensures) (nimbers_next _ _ _ _ _ _ c.loop-level.invariant c.make.result (c.make.ensures _ e) _ _ _
-    c.in_ok-push.ensures.items c.in_ok-last-2.was (add-one c.loop-level.level))
+    nimbers_next _ _ _ _ _ _ c.loop-level.invariant c.make.result (c.make.ensures _ e) _ _ _
+    c.in_ok-push.ensures.items c.in_ok-last-2.was (add-one c.loop-level.level)
 
 pub returns : goal.returns
 returns g c =

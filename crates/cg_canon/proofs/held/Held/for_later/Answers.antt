@@ -7,5 +7,4 @@ returns c known h = record {
   book = holds_answers (knowing known) c.args.self.memo.book c.make_ready.new.self h.book (λ x k. h.book.right x (c.make_ready.ensures x k));
   sums = h.sums;
   forms = h.forms;
-  known_as = h.known_as;
 }
