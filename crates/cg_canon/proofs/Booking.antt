@@ -1,12 +1,15 @@
 -- What a book keeps, as its store and its pages grow.
-use Rattle.std.proofs.Common.{◌≡◌, refl, ℕ, suc, ◌+◌, ◌<◌, ◌≤◌, arith, ap, sym, ◌∙◌, subst, inl, inr, List, [], ◌∷◌, ◌++◌, length, length-append, take, get_or}
+use Rattle.std.proofs.Common.{◌≡◌, refl, ℕ, suc, ◌+◌, ◌<◌, ◌≤◌, arith, ap, sym, ◌∙◌, subst, ◌⊎◌, inl, inr, List, [], ◌∷◌, ◌++◌, length, length-append, take, get_or, true, Some}
 use Rattle.std.proofs.lemmas.Bool.Decides.{eqb_tells}
+use Rattle.std.proofs.lemmas.List.Elements.{All-contains, All-nil, All-push, All-same, All-weaker}
+use Rattle.cg_form.specs.Sum.{sum}
+use Rattle.cg_nodes.specs.Can.{can}
 use Rattle.std.proofs.lemmas.List.{get_or_append_left, get_or_push, append_assoc, append-nil, length_push}
 use Rattle.cg_form.specs.Game.{Game, node}
 use Rattle.cg_cells.specs.Meaning.{Grows}
 use Rattle.cg_cells.specs.Store.{State, thing_at}
-use Rattle.cg_nodes.specs.Games.{AreGames, IsGame, game_at, games_at}
-use Rattle.cg_nodes.specs.Meant.{Meant}
+use Rattle.cg_nodes.specs.Games.{AreGames, IsGame, StandsFor, game_at, games_at}
+use Rattle.cg_nodes.specs.Meant.{Meant, form}
 use Rattle.cg_nodes.proofs.Later.{game_later, is_game_later}
 use Rattle.cg_book.specs.declared.recent.Answer.{Answer}
 use Rattle.cg_book.specs.declared.recent.Recent.{Recent}
@@ -15,8 +18,14 @@ use Rattle.cg_book.specs.Recents.{AreRight, IsKept}
 use Rattle.cg_book.proofs.Paging.{game_before, games_before, page_before, pages_before}
 use Rattle.cg_book.proofs.Slices.{games_take_suc}
 use Rattle.cg_canon.specs.declared.book.Book.{Book}
-use Rattle.cg_canon.specs.Books.{AreLateApart, Begins, BookHolds, HasHandle, IsNamed, handle_of}
-use Rattle.cg_canon.proofs.LatePages.{late_first}
+use Rattle.cg_canon.specs.declared.recognized.Recognized.{Recognized}
+use Rattle.cg_canon.specs.Arena.{Begins, IsAt}
+use Rattle.cg_canon.specs.Recognized.{AreRecognized}
+use Rattle.cg_canon.specs.declared.kept_sums.KeptSum.{KeptSum}
+use Rattle.cg_canon.specs.declared.kept_sums.KeptSums.{KeptSums}
+use Rattle.cg_canon.specs.KeptSums.{IsKeptSum, SumStands, SumsStand, kept_of}
+use Rattle.cg_canon.specs.Books.{AreApart, BookHolds, HasHandle, IsNamed, IsNew, handle_of}
+use Rattle.cg_canon.proofs.BookHandles.{apart_more}
 
 -- ---- more games behind
 
@@ -61,6 +70,45 @@ right_begins gs hs r b h = λ x k.
       order = rw (low, high) i.order;
     }
 
+pub at_later : (gs hs : List Game) (i : ℕ) (g : Game) → Begins gs hs → IsAt gs i g → IsAt hs i g
+at_later gs hs i g b h = record { within = page_begins gs hs i b h.within; is = game_begins gs hs i b h.within ∙ h.is }
+
+-- ---- sums of pairs
+
+sum_begins : (gs hs : List Game) → Begins gs hs → (k : KeptSum) → SumStands gs k → SumStands hs k
+sum_begins gs hs b k h =
+    let P : Game → Game → Type 0 = λ x y. IsAt hs k.sum (can (sum x y)) in
+    let low = game_begins gs hs k.low b h.low in
+    let high = game_begins gs hs k.high b h.high in
+    record {
+      low = page_begins gs hs k.low b h.low;
+      high = page_begins gs hs k.high b h.high;
+      is = subst (λ x. P x (game_of hs k.high)) (sym low) (subst (P (game_of gs k.low)) (sym high) (at_later gs hs k.sum _ b h.is));
+    }
+
+sums_begin : (gs hs : List Game) (t u : KeptSums) → Begins gs hs → u ≡ t → SumsStand gs t → SumsStand hs u
+unfolding SumsStand
+sums_begin gs hs t u b e h =
+    let P : KeptSums → Type 0 = λ z. SumsStand hs z in
+    subst P (sym e) (All-weaker (SumStands gs) (SumStands hs) (sum_begins gs hs b) t.sums.items h)
+
+sums_none : (gs : List Game) (t : KeptSums) → t.sums.items ≡ [] → SumsStand gs t
+unfolding SumsStand
+sums_none gs t e = All-same (SumStands gs) t.sums.items [] e (All-nil (SumStands gs))
+
+pub sums_more : (gs : List Game) (t u : KeptSums) (low high sum : ℕ)
+    → (u.sums.items ≡ t.sums.items) ⊎ (u.sums.items ≡ t.sums.items ++ (kept_of low high sum ∷ []))
+    → SumStands gs (kept_of low high sum) → SumsStand gs t → SumsStand gs u
+unfolding SumsStand
+sums_more gs t u low high sum (inl e) h all = All-same (SumStands gs) u.sums.items t.sums.items e all
+sums_more gs t u low high sum (inr e) h all =
+    All-same (SumStands gs) u.sums.items _ e (All-push (SumStands gs) t.sums.items (kept_of low high sum) all h)
+
+pub sum_stands : (gs : List Game) (t : KeptSums) (low high sum : ℕ) → SumsStand gs t → IsKeptSum t low high sum
+    → SumStands gs (kept_of low high sum)
+unfolding SumsStand
+sum_stands gs t low high sum all k = All-contains (SumStands gs) t.sums.items (kept_of low high sum) all k
+
 -- ---- a book
 
 -- when the store has grown
@@ -75,25 +123,32 @@ book_later s t b grows h = record {
         same = game_later s t grows (handle_of b page) i.game ∙ i.same;
       };
   right = h.right;
+  pairs = h.pairs;
   apart = h.apart;
+  recognized = h.recognized;
 }
 
 -- of no games
 pub new_holds : {R : Type 0} (s : State Meant R) (b : Book) → b.pages ≡ [] → b.handles.items ≡ []
-    → ((x : Answer) → IsKept b.answers x → ⊥) → BookHolds s b
-new_holds s b p e empty =
+    → ((x : Answer) → IsKept b.answers x → ⊥) → AreApart b.handles.items b.links b.is_whole
+    → b.pairs.sums.items ≡ [] → AreRecognized [] b.recognized → BookHolds s b
+new_holds s b p e empty apart none known =
     let n = ap length e in
+    let K : List Game → Type 0 = λ z. AreRecognized z b.recognized in
     record {
       count = n ∙ sym (ap length p);
       each = λ page k. absurd (omega arith);
       right = λ x k. absurd (empty x k);
-      apart = subst AreLateApart (sym e) late_first;
+      pairs = sums_none b.pages b.pairs none;
+      apart = apart;
+      recognized = subst K (sym p) known;
     }
 
 -- where nothing was added
 pub holds_same : {R : Type 0} (s : State Meant R) (b c : Book) → BookHolds s b → c.pages ≡ b.pages
-    → c.handles.items ≡ b.handles.items → c.answers ≡ b.answers → BookHolds s c
-holds_same s b c h p e r =
+    → c.handles.items ≡ b.handles.items → c.answers ≡ b.answers → c.links ≡ b.links → c.is_whole ≡ b.is_whole
+    → c.pairs ≡ b.pairs → c.recognized ≡ b.recognized → BookHolds s c
+holds_same s b c h p e r l w k known =
     let P : List Game → Type 0 = λ z. AreRight z c.answers in
     let A : Recent → Type 0 = λ z. AreRight b.pages z in
     let n = ap length e in
@@ -109,22 +164,27 @@ holds_same s b c h p e r =
             same = ap (game_at s) own ∙ i.same ∙ ap (λ z. game_of z page) (sym p);
           };
       right = subst P (sym p) (subst A (sym r) h.right);
-      apart = subst AreLateApart (sym e) h.apart;
+      pairs = rw (p, k) h.pairs;
+      apart = rw (e, l, w) h.apart;
+      recognized = rw (p, known) h.recognized;
     }
 
 -- with one game more, and its handle
 pub holds_more : {R : Type 0} (s : State Meant R) (b c : Book) (handle : ℕ) (k : Game) → BookHolds s b
     → c.pages ≡ b.pages ++ (k ∷ []) → game_at s handle ≡ k
     → c.handles.items ≡ b.handles.items ++ (handle ∷ []) → c.answers ≡ b.answers
-    → AreLateApart (b.handles.items ++ (handle ∷ [])) → IsGame s handle → BookHolds s c
-holds_more {R} s b c handle k h p is e r new game =
+    → IsNew b.handles.items handle → (c.is_whole ≡ true → (b.is_whole ≡ true) × (c.links ≡ b.links ++ (handle ∷ [])))
+    → c.pairs ≡ b.pairs → IsGame s handle → AreRecognized c.pages c.recognized → BookHolds s c
+holds_more {R} s b c handle k h p is e r new linked pairs game known =
     let A : Recent → Type 0 = λ z. AreRight c.pages z in
     let n = count in
     record {
       count = count;
       each = λ q less. named q (omega (arith, more));
       right = subst A (sym r) (right_begins b.pages c.pages b.answers begins h.right);
-      apart = subst AreLateApart (sym e) new;
+      pairs = sums_begin b.pages c.pages b.pairs c.pairs begins pairs h.pairs;
+      apart = apart_more b c handle h.apart new e linked;
+      recognized = known;
     }
   where
     begins : Begins b.pages c.pages
@@ -172,7 +232,33 @@ holds_answers s b r h right = record {
   count = h.count;
   each = λ page k. let i = h.each page k in record { game = i.game; same = i.same };
   right = right;
+  pairs = h.pairs;
   apart = h.apart;
+  recognized = h.recognized;
+}
+
+-- with something else that games are known as
+pub holds_known : {R : Type 0} (s : State Meant R) (b : Book) (t : Recognized) → BookHolds s b → AreRecognized b.pages t
+    → BookHolds s (record b { recognized = t })
+holds_known s b t h known = record {
+  count = h.count;
+  each = λ page k. let i = h.each page k in record { game = i.game; same = i.same };
+  right = h.right;
+  pairs = h.pairs;
+  apart = h.apart;
+  recognized = known;
+}
+
+-- with other sums of pairs
+pub holds_pairs : {R : Type 0} (s : State Meant R) (b : Book) (t : KeptSums) → BookHolds s b → SumsStand b.pages t
+    → BookHolds s (record b { pairs = t })
+holds_pairs s b t h pairs = record {
+  count = h.count;
+  each = λ page k. let i = h.each page k in record { game = i.game; same = i.same };
+  right = h.right;
+  pairs = pairs;
+  apart = h.apart;
+  recognized = h.recognized;
 }
 
 -- the page that has a handle
@@ -182,6 +268,13 @@ known_page s b handle page h i =
     let count = h.count in
     let w = i.within in
     (omega arith, sym (h.each page i.within).same ∙ ap (game_at s) i.is)
+
+pub named_stands : {R : Type 0} (s : State Meant R) (b : Book) (handle page : ℕ) → BookHolds s b → HasHandle b page handle
+    → StandsFor s handle (game_of b.pages page)
+named_stands s b handle page h i =
+    let n = h.each page i.within in
+    let P : ℕ → Type 0 = λ z. StandsFor s z (game_of b.pages page) in
+    subst P i.is (n.game ∙ ap (λ z. Some (form z)) n.same)
 
 -- ---- the handles of pages
 

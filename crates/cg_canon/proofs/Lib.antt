@@ -1,7 +1,8 @@
 pub mod ItemLaws
 pub mod AgainItems
 pub mod KnownGames
-pub mod LatePages
+pub mod Recognizing
+pub mod BookHandles
 pub mod Holding
 pub mod Same
 pub mod Charging
@@ -16,3 +17,6 @@ pub mod Valuing
 pub mod Paying
 pub mod HandleLists
 pub mod PageWalks
+pub mod WalkSteps
+pub mod PairSums
+pub mod MakingAt

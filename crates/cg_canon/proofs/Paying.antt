@@ -1,5 +1,5 @@
 -- Items that are made beside a book, and what they leave of a work.
-use Rattle.std.proofs.Common.{◌≡◌, refl, ℕ, ◌+◌, ◌≤◌, arith, ap, sym, ◌∙◌, subst, [], ◌∷◌, Result, Ok, Err}
+use Rattle.std.proofs.Common.{◌≡◌, refl, ℕ, ◌+◌, ◌≤◌, arith, ap, sym, ◌∙◌, subst, List, [], ◌∷◌, Result, Ok, Err}
 use Rattle.std.specs.Borrow.{MutBor}
 use Rattle.cg_form.specs.Game.{Game}
 use Rattle.cg_cells.specs.Store.{Spends, State}
@@ -133,12 +133,12 @@ paid_holds s t a b start h n form extra r w p book same =
     )
 
 -- what is seen of it, before and after
-pub paid_item : {S R : Type 0} (state : S → State Meant R) (a b : MutBor S) (m n : Meter) (start limit : ℕ) (form : Game) (extra : ℕ)
-    (r : Result ℕ ValueFault) → FormGiven (metered (state a.now) m) (metered (state b.now) n) form extra r → b.ghost_name ≡ a.ghost_name
+pub paid_item : {S R : Type 0} (state : S → State Meant R) (a b : MutBor S) (m n : Meter) (start limit : ℕ) (gs hs : List Game)
+    (form : Game) (extra : ℕ) (r : Result ℕ ValueFault) → FormGiven (metered (state a.now) m) (metered (state b.now) n) form extra r → b.ghost_name ≡ a.ghost_name
     → start ≤ (state a.now).spare + m.spent
-    → FormGiven (work_state state (record { store = a; spent = m.spent; share = m.share; start = start; limit = limit }))
-    (work_state state (record { store = b; spent = n.spent; share = n.share; start = start; limit = limit })) form extra r
-paid_item state a b m n start limit form extra r f name room =
+    → FormGiven (work_state state (record { store = a; spent = m.spent; share = m.share; start = start; limit = limit; arena = gs }))
+    (work_state state (record { store = b; spent = n.spent; share = n.share; start = start; limit = limit; arena = hs })) form extra r
+paid_item state a b m n start limit gs hs form extra r f name room =
     let keeps = f.gives.made.keeps in
     let more : (state a.now).spare + m.spent ≤ (state b.now).spare + n.spent = f.gives.more in record {
       gives = record {

@@ -13,7 +13,8 @@ use Rattle.cg_nodes.specs.Meant.{Meant}
 use Rattle.cg_nodes.proofs.Later.{game_later, is_game_later, is_list_later, listed_later, nothing_spent, spends_then}
 use Rattle.cg_book.specs.Pages.{ArePages, IsPage, StandFor, game_of, games_of}
 use Rattle.cg_canon.specs.declared.book.Book.{Book}
-use Rattle.cg_canon.specs.Books.{Begins, BookHolds}
+use Rattle.cg_canon.specs.Arena.{Begins}
+use Rattle.cg_canon.specs.Books.{BookHolds}
 use Rattle.cg_canon.proofs.HandleLists.{game_of_item, games_take_suc}
 use Rattle.cg_canon.proofs.Booking.{begins_none, begins_then, stand_begins}
 

@@ -22,12 +22,12 @@ use Rattle.cg_canon.proofs.Holding.{held_book, work_later}
 pub searched : {R : Type 0} (s t : State Meant R) (spent share start : ℕ) (h : Held) (b : Book)
     → MeterHolds s spent share start × IsHeld s h → Spends 0 s t → BookHolds t b
     → MeterHolds t spent share start
-    × IsHeld t (record { memo = record { book = b; sums = h.memo.sums; places = h.memo.places }; made = h.made; known_as = h.known_as })
+    × IsHeld t (record h { memo = record h.memo { book = b } })
 searched s t spent share start h b w k holds =
     let room = w.0.enough in
     let later = work_later 0 s t spent share start h w k (omega arith) in (
       later.0,
-      held_book t h (record { book = b; sums = h.memo.sums; places = h.memo.places }) later.1 holds refl,
+      held_book t h (record h.memo { book = b }) later.1 holds refl,
     )
 
 -- what was made of the pages of a game that is canonical as it is given

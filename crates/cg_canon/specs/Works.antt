@@ -1,27 +1,32 @@
 -- What a work is, as contracts see it.
-use Rattle.std.specs.Prelude.{◌≡◌, ℕ, ◌+◌, ◌-◌, ◌≤◌, refl}
-use Rattle.std.specs.Coded.{Coded, code_by, coded×, coded_ℕ}
+use Rattle.std.specs.Prelude.{◌≡◌, ℕ, ◌+◌, ◌-◌, ◌≤◌, List, refl}
+use Rattle.std.specs.Coded.{Coded, code_by, coded_list, coded×, coded_ℕ}
 use Rattle.std.specs.Borrow.{MutBor}
 use denote.MutBor.{mut_coded}
+use Rattle.cg_form.specs.Game.{Game}
+use Rattle.cg_form.specs.GameCode.{game_code}
 use Rattle.cg_cells.specs.Meaning.{Grows}
 use Rattle.cg_cells.specs.Store.{IsSublist, State, thing_at}
 use Rattle.cg_nodes.specs.Meant.{Meant}
 use Rattle.cg_canon.specs.declared.rest.WorkRest.{WorkRest}
 
--- the store that is borrowed, the cost so far, the greatest cost, what the store had to spare at first, and the limit on
--- positions
+-- the store that is borrowed, the cost so far, the greatest cost, what the store had to spare at first, the limit on
+-- positions, and the games that were met, each at its index, the options of a game before it
 pub record WorkOf (S : Type 0) : Type 0 where
   pub store : MutBor S
   pub spent : ℕ
   pub share : ℕ
   pub start : ℕ
   pub limit : ℕ
+  pub arena : List Game
 
 abbrev pub work_code : {S : Type 0} → Coded S → Coded (WorkOf S)
 work_code {S} c =
-    code_by (MutBor S × (ℕ × (ℕ × (ℕ × ℕ)))) (coded× (mut_coded c) (coded× coded_ℕ (coded× coded_ℕ (coded× coded_ℕ coded_ℕ))))
-    (λ (w : WorkOf S). (w.store, (w.spent, (w.share, (w.start, w.limit)))))
-    (λ p. record { store = p.0; spent = p.1.0; share = p.1.1.0; start = p.1.1.1.0; limit = p.1.1.1.1 }) (λ _. refl)
+    code_by (MutBor S × (ℕ × (ℕ × (ℕ × (ℕ × List Game)))))
+    (coded× (mut_coded c) (coded× coded_ℕ (coded× coded_ℕ (coded× coded_ℕ (coded× coded_ℕ (coded_list game_code))))))
+    (λ (w : WorkOf S). (w.store, (w.spent, (w.share, (w.start, (w.limit, w.arena))))))
+    (λ p. record { store = p.0; spent = p.1.0; share = p.1.1.0; start = p.1.1.1.0; limit = p.1.1.1.1.0; arena = p.1.1.1.1.1 })
+    (λ _. refl)
 
 -- the meter is within its share, and the store has as much to spare as when the work began, less what was spent
 pub record MeterHolds {R : Type 0} (s : State Meant R) (spent share start : ℕ) : Type 0 where

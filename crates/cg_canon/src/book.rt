@@ -1,17 +1,23 @@
 //! The games that a work has met, each on a page of a book.
 ghost use lib.Dec.{eqb};
-ghost use Rattle.std.specs.Prelude.{◌≡◌, ◌<◌, ◌^◌, ◌++◌, ◌∷◌, [], length, slice_index, vec_capacity, vec_len};
-ghost use Rattle.std.specs.Prelude.{false, IfOk, IfNone, IfSome};
+ghost use Rattle.std.specs.Prelude.{◌≡◌, ◌<◌, ◌^◌, ◌++◌, ◌∷◌, [], get_or, length, slice_index, true, vec_capacity, vec_len};
+ghost use Rattle.std.specs.Prelude.{false, IfOk, IfNone, IfSome, IsTrue};
 ghost use Rattle.std.specs.List.{list_any};
 ghost use Rattle.cg_nodes.specs.Games.{AreGames, games_at};
 ghost use Rattle.cg_book.specs.declared.recent.Answer.{Answer as Known};
 ghost use Rattle.cg_book.specs.Pages.{ArePages, games_of};
+ghost use Rattle.cg_canon.specs.Arena.{IsAt};
+ghost use Rattle.cg_form.specs.Game.{node};
 ghost use Rattle.cg_book.specs.Recents.{IsKept};
-ghost use Rattle.cg_canon.specs.Books.{AreLateApart, BookHolds, HasHandle};
+ghost use Rattle.cg_canon.specs.Books.{AreApart, BookHolds, HasHandle, IsNew};
+ghost use Rattle.cg_canon.specs.Recognized.{AreRecognized};
 
-use crate::places::{Places, number_of_handle};
-use cg_book::{Pages, Recent};
+use crate::kept_sums::KeptSums;
+use crate::places::{Places, half_of, mixed};
+use crate::recognized::Recognized;
+use cg_book::{Pages, Read, Recent};
 use cg_cells::CellStore;
+use cg_links::Links;
 use cg_nodes::{BoardForms, GameFacts, Handle};
 use smallvec::SmallVec;
 use std::alloc::{AllocError, Global};
@@ -22,9 +28,6 @@ pub(crate) type PageList = SmallVec<u32, 8>;
 /// A list of handles: up to 8 of them take no memory.
 pub(crate) type HandleList = SmallVec<Handle, 8>;
 
-/// Of the 2^32 places for pages the last 2^26, as many as there are handles, are from here on.
-const LATE: usize = 4_227_858_432;
-
 /// The games that a work has met, each on a page with a handle, and the answers to comparisons of them.
 #[derive(Drop)]
 pub(crate) struct Book {
@@ -34,8 +37,38 @@ pub(crate) struct Book {
     pub(crate) answers: Recent,
     /// The handles of the pages.
     pub(crate) handles: Vec<Handle>,
-    /// Where the page of a handle is looked for.
-    places: Places,
+    /// The ids of the handles, by which pages are looked for.
+    pub(crate) links: Links,
+    /// Whether `links` has them all. Room is taken before a handle is added, so it does.
+    is_whole: bool,
+    /// Where the page of a form is looked for, by the pages of its options.
+    forms: Places,
+    /// Sums of pairs of games.
+    pub(crate) pairs: KeptSums,
+    /// What the games are known as.
+    pub(crate) recognized: Recognized,
+}
+
+/// A number for the pages that follow something of this number.
+fn number_of_pages(start: u64, pages: &[u32]) -> u64 {
+    let mut number = start;
+    for page in pages {
+        number = mixed(number, *page);
+    }
+    number
+}
+
+/// A number for the form with these options.
+pub(crate) fn number_of_form(lefts: &[u32], rights: &[u32]) -> u32 {
+    half_of(number_of_pages(number_of_pages(1, lefts).wrapping_add(1), rights))
+}
+
+/// Whether the two lists are the same.
+#[inline(always)]
+pub(crate) fn are_equal(a: &[u32], b: &[u32]) -> bool
+    ensures { IsTrue result → a.now ≡ b.now }
+{
+    a == b
 }
 
 impl Book {
@@ -44,51 +77,77 @@ impl Book {
         ensures pages { result.pages ≡ [] }
         ensures handles { result.handles.items ≡ [] }
         ensures answers { (x : Known) → IsKept result.answers x → ⊥ }
+        ensures apart { AreApart result.handles.items result.links result.is_whole }
+        ensures pairs { result.pairs.sums.items ≡ [] }
+        ensures recognized { AreRecognized [] result.recognized }
     {
         Book {
             pages: Pages::new(alloc),
             answers: Recent::new(alloc),
             handles: Vec::new(alloc),
-            places: Places::new(alloc),
+            links: Links::new(alloc),
+            is_whole: true,
+            forms: Places::new(alloc),
+            pairs: KeptSums::new(alloc),
+            recognized: Recognized::new(alloc),
         }
     }
 
-    /// The page, if it has this handle.
-    fn page_with(&self, page: u32, handle: Handle) -> Option<u32>
-        ensures { IfSome result (λ p. HasHandle self.now p handle) }
-    {
-        let place = page as usize;
-        if place < self.handles.len() && self.handles[place] == handle {
-            return Some(page);
-        }
-        None
-    }
-
-    /// The page of the handle's game, if it has one that is found.
-    pub(crate) fn page(&self, handle: Handle) -> Option<u32>
-        ensures { IfSome result (λ page. HasHandle self.now page handle) }
-    {
-        self.places.find(
-            number_of_handle(handle),
-            |page| self.page_with(page, handle),
-        )
-    }
-
-    /// The page of the handle's game, if it has a late one. [`Book::page`] may miss a page, and then the handle gets another
-    /// one; but of late pages it gets one only, so there is always a place for a page.
+    /// The place of the handle among those of the pages.
     #[inline(always)]
-    pub(crate) fn late_page(&self, handle: Handle) -> Option<u32>
-        requires { AreLateApart self.now.handles.items }
-        ensures page { IfSome result (λ page. HasHandle self.now page handle) }
-        ensures none { IfNone result (AreLateApart (self.now.handles.items ++ (handle ∷ []))) }
+    fn place(&self, handle: Handle) -> Option<usize>
+        requires { AreApart self.now.handles.items self.now.links self.now.is_whole }
+        ensures found { IfSome result (λ i. (i < length self.now.handles.items) × (get_or self.now.handles.items i 0 ≡ handle)) }
+        ensures none { IfNone result (IsNew self.now.handles.items handle) }
     {
-        if self.handles.len() < LATE {
+        let number = handle.id().number();
+        if self.is_whole {
+            self.links.find(number, |_| true)
+        } else {
+            place_of(&self.handles, handle)
+        }
+    }
+
+    /// The page of the handle's game, if it has one.
+    #[inline(always)]
+    pub(crate) fn page(&self, handle: Handle) -> Option<u32>
+        requires { AreApart self.now.handles.items self.now.links self.now.is_whole }
+        ensures page { IfSome result (λ page. HasHandle self.now page handle) }
+        ensures none { IfNone result (IsNew self.now.handles.items handle) }
+    {
+        match self.place(handle) {
+            Some(place) => Some(place as u32),
+            None => None,
+        }
+    }
+
+    /// The page, if its form has these options.
+    fn form_with(&self, page: u32, lefts: &[u32], rights: &[u32]) -> Option<u32>
+        ensures { IfSome result (λ p. IsAt self.now.pages p (node (games_of self.now.pages lefts.now) (games_of self.now.pages rights.now))) }
+    {
+        if page as usize >= self.pages.count() {
             return None;
         }
-        match place_of(&self.handles[LATE..], handle) {
-            None => None,
-            Some(place) => Some((LATE + place) as u32),
+        match self.pages.read(page) {
+            Read::Number(_) => None,
+            Read::Game(own, others) => {
+                if are_equal(own, lefts) && are_equal(others, rights) {
+                    Some(page)
+                } else {
+                    None
+                }
+            }
         }
+    }
+
+    /// The page of the form with these options, if it is found.
+    pub(crate) fn page_of_form(&self, lefts: &[u32], rights: &[u32]) -> Option<u32>
+        ensures { IfSome result (λ p. IsAt self.now.pages p (node (games_of self.now.pages lefts.now) (games_of self.now.pages rights.now))) }
+    {
+        self.forms.find(
+            number_of_form(lefts, rights),
+            |page| self.form_with(page, lefts, rights),
+        )
     }
 
     /// The handle of the page.
@@ -99,15 +158,21 @@ impl Book {
         self.handles[page as usize]
     }
 
-    /// Gives the page that was added last this handle. There is room for it.
-    pub(crate) fn name(&mut self, handle: Handle)
+    /// Gives the page that was added last this handle. There is room for it. Its form is looked for by this number.
+    pub(crate) fn name(&mut self, handle: Handle, form: u32)
         requires { vec_len self.old.handles < vec_capacity self.old.handles }
         ensures handles { self.new.handles.items ≡ self.old.handles.items ++ (handle ∷ []) }
         ensures pages { self.new.pages ≡ self.old.pages }
         ensures answers { self.new.answers ≡ self.old.answers }
+        ensures pairs { self.new.pairs ≡ self.old.pairs }
+        ensures linked { self.new.is_whole ≡ true → (self.old.is_whole ≡ true) × (self.new.links ≡ self.old.links ++ (handle ∷ [])) }
+        ensures recognized { self.new.recognized ≡ self.old.recognized }
     {
         let _there_is_room = self.handles.push(handle);
-        self.places.add(number_of_handle(handle));
+        if self.links.add(handle.id().number()).is_err() {
+            self.is_whole = false;
+        }
+        self.forms.add(form);
     }
 }
 

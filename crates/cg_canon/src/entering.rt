@@ -5,9 +5,11 @@ ghost use Rattle.cg_form.specs.Game.{node, number};
 ghost use Rattle.cg_nodes.specs.Games.{IsGame, game_at};
 ghost use Rattle.cg_book.specs.Pages.{ArePages, IsPage, game_of, games_of};
 ghost use Rattle.cg_book.specs.Profiles.{IsProfile};
-ghost use Rattle.cg_canon.specs.Books.{Begins, BookHolds};
+ghost use Rattle.cg_canon.specs.Arena.{Begins};
+ghost use Rattle.cg_canon.specs.Books.{BookHolds};
 
-use crate::book::Book;
+use crate::book::{Book, number_of_form};
+use crate::number_up_star::NumberUpStar;
 use cg_book::Profile;
 use cg_cells::CellStore;
 use cg_dyadic::Dyadic;
@@ -28,12 +30,15 @@ pub(crate) fn enter_number<B: BoardForms, S: CellStore<GameFacts<B>>>(
     ensures begins { Begins book.old.pages book.new.pages }
     ensures page { IfOk result (λ p. IsPage book.new.pages p × (game_of book.new.pages p ≡ number x)) }
 {
-    if let Some(page) = book.late_page(handle) {
+    if let Some(page) = book.page(handle) {
         return Ok(page);
     }
+    book.links.reserve(1)?;
     book.handles.reserve(1)?;
     let page = book.pages.add_number(x)?;
-    book.name(handle);
+    book.name(handle, 0);
+    book.recognized
+        .enter(page, Some(NumberUpStar::of_number(x)));
     Ok(page)
 }
 
@@ -60,11 +65,14 @@ pub(crate) fn enter_game<B: BoardForms, S: CellStore<GameFacts<B>>>(
     ensures page { IfOk result (λ p. IsPage book.new.pages p
         × (game_of book.new.pages p ≡ game_at (S.state store.now) handle)) }
 {
-    if let Some(page) = book.late_page(handle) {
+    if let Some(page) = book.page(handle) {
         return Ok(page);
     }
+    book.links.reserve(1)?;
     book.handles.reserve(1)?;
     let page = book.pages.add_game(lefts, rights, profile)?;
-    book.name(handle);
+    book.name(handle, number_of_form(lefts, rights));
+    let parts = book.recognized.seen(lefts, rights);
+    book.recognized.enter(page, parts);
     Ok(page)
 }

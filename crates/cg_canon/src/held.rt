@@ -1,4 +1,5 @@
 //! The cache of a work.
+ghost use Rattle.std.specs.Prelude.{◌≡◌, []};
 ghost use Rattle.std.specs.FinMap as map;
 ghost use Rattle.std.specs.Ordering.{nat_cmp};
 ghost use Rattle.cg_nodes.specs.Meant.{Meant};
@@ -21,6 +22,8 @@ pub struct Held {
     pub(crate) made: MadeForms,
     /// The games that are known as a number, ups and a nimber.
     pub(crate) known_as: NumberUpStars,
+    /// At which place of a walk the game at an index was found.
+    pub(crate) marks: Vec<usize>,
 }
 
 /// A cache with more interned games than this, or with more sums, is large.
@@ -29,12 +32,14 @@ const LARGE: usize = 262_144;
 impl Held {
     /// Of nothing, which holds whatever is known.
     pub fn new(alloc: Global) -> Held
-        ensures { (known : map.FinMap nat_cmp Meant) → IsHeld (knowing known) result }
+        ensures holds { (known : map.FinMap nat_cmp Meant) → IsHeld (knowing known) result }
+        ensures arena { result.memo.book.pages ≡ [] }
     {
         Held {
             memo: Memo::new(alloc),
             made: MadeForms::new(alloc),
             known_as: NumberUpStars::new(alloc),
+            marks: Vec::new(alloc),
         }
     }
 
@@ -50,6 +55,8 @@ impl Held {
     /// Whether the interned games or the sums are so many that a caller would rather begin anew than keep them. Of the forms
     /// only so many are kept in any case.
     pub fn is_large(&self) -> bool {
-        self.memo.book.pages.count() > LARGE || self.memo.count() > LARGE
+        self.memo.book.pages.count() > LARGE
+            || self.memo.count() > LARGE
+            || self.memo.book.pairs.count() > 4 * LARGE
     }
 }

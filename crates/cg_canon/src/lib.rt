@@ -5,6 +5,7 @@
 #![tactic(auto)]
 
 mod again;
+mod arena;
 mod book;
 mod by_parts;
 mod distinct;
@@ -15,8 +16,11 @@ mod forms;
 mod found;
 mod held;
 mod item;
+mod items_at;
+mod kept_sums;
 mod made;
 mod making;
+mod making_at;
 mod memo;
 mod meter;
 mod number_up_star;
@@ -24,15 +28,20 @@ mod number_up_stars;
 mod numbers;
 mod order;
 mod paging;
+mod pair_cells;
 mod places;
 mod positions;
+mod recognized;
 mod rest;
 mod value;
+mod walk;
+mod walking;
+mod walks;
 mod work;
 mod written;
 
 pub use again::{charge_again, keep_sum, sum_again};
-pub use cg_book::FirstTerm;
+pub use cg_book::{FirstTerm, Profile, Read};
 pub use equality::equal;
 pub use fault::ValueFault;
 pub use forms::{canonical, canonical_item, canonical_of_terms};
@@ -42,5 +51,6 @@ pub use number_up_star::{NumberUpStar, zero};
 pub use numbers::{le_number, number_le};
 pub use order::le;
 pub use rest::WorkRest;
+pub use walk::{Position, Walk};
 pub use work::Work;
 pub use written::Written;

@@ -7,6 +7,7 @@ ghost use Rattle.cg_nodes.specs.Can.{can};
 ghost use Rattle.cg_nodes.specs.Games.{AreGames, IsGame, ListsAs, StandsFor, game_at, games_at};
 ghost use Rattle.cg_book.specs.Pages.{games_of};
 ghost use Rattle.cg_book.specs.Settled.{IsNewForm};
+ghost use Rattle.cg_canon.specs.Arena.{Begins};
 ghost use Rattle.cg_canon.specs.Books.{BookHolds};
 ghost use Rattle.cg_canon.specs.Paid.{IsPaid, MayPay, written};
 ghost use Rattle.cg_canon.specs.Ways.{IsWay};
@@ -35,13 +36,12 @@ fn enter_form<B: BoardForms, S: CellStore<GameFacts<B>>>(
     requires game { IsGame (S.state store.now) handle }
     requires canonical { Canonical (game_at (S.state store.now) handle) }
     requires form { IsNewForm book.old.pages (game_at (S.state store.now) handle) new.now }
-    ensures { BookHolds (S.state store.now) book.new }
+    ensures holds { BookHolds (S.state store.now) book.new }
+    ensures begins { Begins book.old.pages book.new.pages }
 {
-    if book.page(handle).is_none() {
-        let lefts = new.form.lefts.as_slice();
-        let rights = new.form.rights.as_slice();
-        let _entered = enter_game(store, book, handle, lefts, rights, &new.profile);
-    }
+    let lefts = new.form.lefts.as_slice();
+    let rights = new.form.rights.as_slice();
+    let _entered = enter_game(store, book, handle, lefts, rights, &new.profile);
 }
 
 /// The list of the Right options, where that of the Left options was made. The same options have the same list, as those of
@@ -102,6 +102,7 @@ fn claimed<B: BoardForms, S: CellStore<GameFacts<B>>>(
     requires left_games { games_at (S.state store.old) lefts.now ≡ games_of book.old.pages new.now.form.lefts.items }
     requires right_games { games_at (S.state store.old) rights.now ≡ games_of book.old.pages new.now.form.rights.items }
     ensures holds { BookHolds (S.state store.new) book.new }
+    ensures begins { Begins book.old.pages book.new.pages }
     ensures game { StandsFor (S.state store.new) result (written book.old.pages new.now) }
     ensures spends { (n : ℕ) × (n ≤ new.now.profile.cost) × Spends n (S.state store.old) (S.state store.new) }
 {
@@ -111,7 +112,8 @@ fn claimed<B: BoardForms, S: CellStore<GameFacts<B>>>(
 }
 
 /// Makes the item of the canonical form that was found, with a cost of `extra` more.
-fn make_form<B: BoardForms, S: CellStore<GameFacts<B>>>(
+#[tactic(auto, using(crate::proofs::Booking::begins_none))]
+pub(crate) fn make_form<B: BoardForms, S: CellStore<GameFacts<B>>>(
     alloc: Global,
     store: &mut S,
     book: &mut Book,
@@ -125,6 +127,7 @@ fn make_form<B: BoardForms, S: CellStore<GameFacts<B>>>(
     requires canonical { Canonical (written book.old.pages new.now) }
     requires meter { MayPay (S.state store.old) meter.old }
     ensures holds { BookHolds (S.state store.new) book.new }
+    ensures begins { Begins book.old.pages book.new.pages }
     ensures paid { IsPaid (S.state store.old) (S.state store.new) meter.old meter.new (written book.old.pages new.now) extra result }
 {
     let mut lefts = SmallVec::new(alloc);
@@ -136,7 +139,7 @@ fn make_form<B: BoardForms, S: CellStore<GameFacts<B>>>(
 }
 
 /// Makes the item of a number in range, with a cost of `extra` more.
-fn make_number<B: BoardForms, S: CellStore<GameFacts<B>>>(
+pub(crate) fn make_number<B: BoardForms, S: CellStore<GameFacts<B>>>(
     store: &mut S,
     meter: &mut Meter,
     x: Dyadic,

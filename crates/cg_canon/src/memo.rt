@@ -2,6 +2,8 @@
 ghost use Rattle.std.specs.Prelude.{◌≡◌, ◌++◌, ◌∷◌, [], IfOk, IfSome, OnErr};
 ghost use Rattle.cg_book.specs.declared.recent.Answer.{Answer as Known};
 ghost use Rattle.cg_book.specs.Recents.{IsKept};
+ghost use Rattle.cg_canon.specs.Books.{AreApart};
+ghost use Rattle.cg_canon.specs.Recognized.{AreRecognized};
 ghost use Rattle.cg_canon.specs.Memos.{IsAdded, added_sum};
 
 use crate::book::Book;
@@ -48,6 +50,9 @@ impl Memo {
         ensures pages { result.book.pages ≡ [] }
         ensures handles { result.book.handles.items ≡ [] }
         ensures answers { (x : Known) → IsKept result.book.answers x → ⊥ }
+        ensures pairs { result.book.pairs.sums.items ≡ [] }
+        ensures apart { AreApart result.book.handles.items result.book.links result.book.is_whole }
+        ensures recognized { AreRecognized [] result.book.recognized }
         ensures sums { result.sums.items ≡ [] }
     {
         Memo {

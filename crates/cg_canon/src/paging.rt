@@ -3,7 +3,8 @@ ghost use Rattle.std.specs.Prelude.{◌≡◌, IfOk, []};
 ghost use Rattle.cg_cells.specs.Store.{Spends};
 ghost use Rattle.cg_nodes.specs.Games.{AreGames, IsGame, IsList, game_at, games_at, listed};
 ghost use Rattle.cg_book.specs.Pages.{IsPage, StandFor, game_of};
-ghost use Rattle.cg_canon.specs.Books.{Begins, BookHolds};
+ghost use Rattle.cg_canon.specs.Arena.{Begins};
+ghost use Rattle.cg_canon.specs.Books.{BookHolds};
 
 use crate::book::{Book, PageList};
 use crate::entering::{enter_game, enter_number};

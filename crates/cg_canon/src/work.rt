@@ -37,7 +37,14 @@ impl<'a, B: BoardForms, S: CellStore<GameFacts<B>>> Model for Work<'a, B, S> {
 
     ghost coded = { work_code S.code };
 
-    ghost view = { λ w. record { store = w.store; spent = w.meter.spent; share = w.meter.share; start = w.start; limit = w.limit } };
+    ghost view = { λ w. record {
+      store = w.store;
+      spent = w.meter.spent;
+      share = w.meter.share;
+      start = w.start;
+      limit = w.limit;
+      arena = w.held.memo.book.pages;
+    } };
 
     ghost invariant = { λ w. MeterHolds (S.state w.store.now) w.meter.spent w.meter.share w.start × IsHeld (S.state w.store.now) w.held };
 }
@@ -118,7 +125,7 @@ impl<'a, B: BoardForms, S: CellStore<GameFacts<B>>> Work<'a, B, S> {
     /// with an empty one.
     pub fn take_held(&mut self, alloc: Global) -> Held
         ensures held { IsHeld (S.state self.old.store.now) result }
-        ensures same { self.new ≡ self.old }
+        ensures same { self.new ≡ record self.old { arena = [] } }
     {
         replace(&mut self.held, Held::new(alloc)).for_later()
     }

@@ -39,7 +39,7 @@ new_page-enter_game-requires-clause-profile g t c =
 
 pub page_of-returns-in-Some-clause-page : goal.page_of-returns-in-Some-clause-page
 page_of-returns-in-Some-clause-page g t c =
-    known_page (g.S.CellStore.state c.args.store.now) c.args.book.now c.args.handle c.in-Some.page c.requires.holds c.in-Some.ensures
+    known_page (g.S.CellStore.state c.args.store.now) c.args.book.now c.args.handle c.in-Some.page c.requires.holds c.in-Some.ensures.page
 
 pub pages_of_list-loop-top-init : goal.pages_of_list-loop-top-init
 pages_of_list-loop-top-init g t c =

@@ -2,7 +2,8 @@ use Rattle.std.proofs.Common.{◌≡◌, ◌≤◌, length, take}
 use Rattle.cg_cells.specs.Store.{Spends}
 use Rattle.cg_nodes.specs.Games.{games_at}
 use Rattle.cg_book.specs.Pages.{StandFor}
-use Rattle.cg_canon.specs.Books.{Begins, BookHolds}
+use Rattle.cg_canon.specs.Arena.{Begins}
+use Rattle.cg_canon.specs.Books.{BookHolds}
 use Rattle.cg_canon.proofs.paging.put_pages.Given as goal
 
 abbrev pub invariant-loop-handle : goal.invariant-loop-handle

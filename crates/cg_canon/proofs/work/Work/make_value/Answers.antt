@@ -31,8 +31,9 @@ returns g c =
     let W = g.S.CellStore.state in
     let store = record c.self.inside.store { now = c.make_canonical.new.store } in
     let meter = c.make_canonical.new.meter in
-    let t = work_state W (record { store = store; spent = meter.spent; share = meter.share; start = c.self.inside.start; limit = c.self.inside.limit }) in
+    let t = work_state W (record { store = store; spent = meter.spent; share = meter.share; start = c.self.inside.start; limit = c.self.inside.limit; arena = c.make_canonical.new.book.pages }) in
     let P : WorkOf _ → Type 0 = λ w. FormGiven (work_state W w) t
     (can (node (games_at (work_state W w) c.args.lefts.now) (games_at (work_state W w) c.args.rights.now))) c.args.extra c.make_canonical.result in
-    subst P c.self.view_is (paid_item W c.self.inside.store store c.self.inside.meter meter c.self.inside.start c.self.inside.limit _ c.args.extra _
+    subst P c.self.view_is (paid_item W c.self.inside.store store c.self.inside.meter meter c.self.inside.start c.self.inside.limit
+    c.self.inside.held.memo.book.pages c.make_canonical.new.book.pages _ c.args.extra _
     c.make_canonical.ensures.paid.given refl c.self.invariant.0.enough)

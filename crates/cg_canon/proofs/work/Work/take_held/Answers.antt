@@ -9,7 +9,7 @@ pub invariant_of-self : goal.invariant_of-self
 invariant_of-self g c =
     let s = g.S.CellStore.state c.self.inside.store.now in
     let P : Held → Type 0 = λ z. IsHeld s z in
-    (c.self.invariant.0, subst P (sym c.replace.ensures.after) (held_anyhow s c.new.result c.new.ensures))
+    (c.self.invariant.0, subst P (sym c.replace.ensures.after) (held_anyhow s c.new.result c.new.ensures.holds))
 
 pub returns-clause-held : goal.returns-clause-held
 returns-clause-held g c =

@@ -1,0 +1,122 @@
+-- Items that are made by indexes, and what they leave of a work.
+use Rattle.std.proofs.Common.{◌≡◌, refl, ℕ, ◌+◌, ◌≤◌, arith, ap, sym, ◌∙◌, subst, List, [], ◌∷◌, Result, Ok, Err}
+use Rattle.std.specs.Prelude.{OnOk}
+use Rattle.std.specs.Borrow.{MutBor}
+use Rattle.cg_form.specs.Game.{Game}
+use Rattle.cg_cells.specs.Store.{State}
+use Rattle.cg_nodes.specs.Meant.{Meant}
+use Rattle.cg_canon.specs.declared.fault.ValueFault.{ValueFault}
+use Rattle.cg_canon.specs.declared.fault.ValueFault.TheVariants.{Memory}
+use Rattle.cg_canon.specs.declared.held.Held.{Held}
+use Rattle.cg_canon.specs.declared.memo.Memo.{Memo}
+use Rattle.cg_canon.specs.declared.meter.Meter.{Meter}
+use Rattle.cg_canon.specs.declared.rest.WorkRest.{WorkRest}
+use Rattle.cg_canon.specs.Arena.{Begins, IsAt}
+use Rattle.cg_canon.specs.Books.{BookHolds}
+use Rattle.cg_canon.specs.Held.{IsHeld}
+use Rattle.cg_canon.specs.Items.{Item, made}
+use Rattle.cg_canon.specs.ItemsAt.{ItemAt, PaidAt}
+use Rattle.cg_canon.specs.Made.{FormGiven, ItemsMade}
+use Rattle.cg_canon.specs.Paid.{IsPaid, metered}
+use Rattle.cg_canon.specs.Works.{MeterHolds, work_state}
+use Rattle.cg_canon.proofs.Holding.{held_book, held_later}
+use Rattle.cg_canon.proofs.MadeSteps.{made_memory, made_with}
+
+-- ---- the handle of the form was given
+
+module _ {R : Type 0} (s t : State Meant R) (m n : Meter) (gs hs : List Game) (form : Game) (extra : ℕ) (r : Result ℕ ValueFault)
+    (p : IsPaid s t m n form extra r) (begins : Begins gs hs) where
+  -- and it stands at an index
+  pub paid_entered : (h i : ℕ) → r ≡ Ok h → IsAt hs i form → PaidAt s t m n gs hs form extra (Ok i)
+  paid_entered h i e at =
+      let P : Result ℕ ValueFault → Type 0 = λ z. OnOk z ((metered s m).spare + extra ≤ (metered t n).spare) in
+      record {
+        item = record {
+          at = at;
+          begins = begins;
+          made = made_with (metered s m) (metered t n) (made form extra ∷ []) r (Ok i) h i e refl p.given.gives.made;
+          spare = subst P e p.given.spare;
+          more = p.given.gives.more;
+        };
+        within = p.within;
+        fallen = p.fallen;
+      }
+
+  -- or there was no memory for an index
+  pub paid_unentered : PaidAt s t m n gs hs form extra (Err Memory)
+  paid_unentered = record {
+    item = record {
+      at = tt;
+      begins = begins;
+      made = made_memory (metered s m) (metered t n) (made form extra ∷ []) (Err Memory) refl p.given.gives.made.keeps;
+      spare = tt;
+      more = p.given.gives.more;
+    };
+    within = p.within;
+    fallen = p.fallen;
+  }
+
+  -- or it was refused
+  pub paid_refused : (fault : ValueFault) → r ≡ Err fault → PaidAt s t m n gs hs form extra (Err fault)
+  paid_refused fault e =
+      let P : Result ℕ ValueFault → Type 0 = λ z. ItemsMade (metered s m) (metered t n) (made form extra ∷ []) z in
+      record {
+        item = record { at = tt; begins = begins; made = subst P e p.given.gives.made; spare = tt; more = p.given.gives.more };
+        within = p.within;
+        fallen = p.fallen;
+      }
+
+-- ---- a work
+
+-- what it keeps
+pub paid_at_holds : {R : Type 0} (s t : State Meant R) (a b : Meter) (start : ℕ) (h : Held) (n : Memo) (gs hs : List Game) (form : Game)
+    (extra : ℕ) (r : Result ℕ ValueFault) → MeterHolds s a.spent a.share start × IsHeld s h → PaidAt s t a b gs hs form extra r
+    → BookHolds t n.book → n.sums.items ≡ h.memo.sums.items
+    → MeterHolds t b.spent b.share start × IsHeld t (record h { memo = n })
+paid_at_holds s t a b start h n gs hs form extra r w p book same =
+    let keeps = p.item.made.keeps in
+    let share : b.share ≡ a.share = keeps.share in
+    let more : s.spare + a.spent ≤ t.spare + b.spent = p.item.more in
+    let below = p.fallen in
+    let within = p.within in
+    let room = w.0.room in
+    let small = w.0.small in
+    let fallen = w.0.fallen in
+    let enough = w.0.enough in (
+      record { within = p.within; room = omega arith; small = omega arith; fallen = omega arith; enough = omega arith },
+      held_book t h n (held_later s t h keeps.known w.1) book same,
+    )
+
+on_ok : (r : Result ℕ ValueFault) (P Q : Type 0) → OnOk r P → (P → Q) → OnOk r Q
+on_ok (Ok h) P Q p f = f p
+on_ok (Err e) P Q p f = tt
+
+-- what is seen of it, before and after
+pub paid_at_item : {S R : Type 0} (state : S → State Meant R) (a b : MutBor S) (m n : Meter) (start limit : ℕ) (gs hs : List Game)
+    (form : Game) (extra : ℕ) (r : Result ℕ ValueFault) → PaidAt (state a.now) (state b.now) m n gs hs form extra r
+    → b.ghost_name ≡ a.ghost_name → start ≤ (state a.now).spare + m.spent
+    → ItemAt (work_state state (record { store = a; spent = m.spent; share = m.share; start = start; limit = limit; arena = gs }))
+    (work_state state (record { store = b; spent = n.spent; share = n.share; start = start; limit = limit; arena = hs })) gs hs
+    (made form extra) form extra r
+paid_at_item state a b m n start limit gs hs form extra r p name room =
+    let keeps = p.item.made.keeps in
+    let more : (state a.now).spare + m.spent ≤ (state b.now).spare + n.spent = p.item.more in record {
+      at = p.item.at;
+      begins = p.item.begins;
+      made = record {
+        charged = p.item.made.charged;
+        refused = p.item.made.refused;
+        keeps = record {
+          known = keeps.known;
+          noted = keeps.noted;
+          of_store = keeps.of_store;
+          name = name;
+          share = keeps.share;
+          start = refl;
+          limit = refl;
+        };
+      };
+      spare = on_ok r _ _ p.item.spare (λ e.
+          let paid : (state a.now).spare + m.spent + extra ≤ (state b.now).spare + n.spent = e in omega arith);
+      more = omega arith;
+    }

@@ -1,0 +1,408 @@
+-- Walks over the positions of a game of an arena, one step after another.
+use Rattle.std.proofs.Common.{◌≡◌, refl, ℕ, zero, suc, ◌+◌, ◌-◌, ◌<◌, ◌≤◌, arith, ap, sym, ◌∙◌, subst, ◌⊎◌, inl, inr, List, [], ◌∷◌, ◌++◌, length, length-append, take, drop, get_or, map, pos, Bool, true, false}
+use Rattle.std.proofs.Math.Seq.{drop-append_seam, take-append_seam}
+use Rattle.std.specs.List.{All, slice_range}
+use Rattle.std.proofs.lemmas.Bool.Decides.{eqb_tells}
+use Rattle.std.proofs.lemmas.List.{append_assoc, append-nil, drop-append-le, get_or-map, get_or_append_left, get_or_push, length-drop, length-map, length_push, take-append-drop, take-append-le, take_more}
+use Rattle.std.proofs.lemmas.List.Elements.{All-append, All-push, All-same}
+use Rattle.cg_dyadic.specs.Number.{Number, whole}
+use Rattle.cg_form.specs.Canonical.{Canonical}
+use Rattle.cg_form.specs.Extended.{IsClosed, extended, positions_before}
+use Rattle.cg_form.specs.Game.{Among, Game, node, number, of_list}
+use Rattle.cg_form.specs.Positions.{all_positions, positions_in}
+use Rattle.cg_form.proofs.AllPositions.{closed_more, closed_there, extended-last, positions_before-depth, positions_in-own}
+use Rattle.cg_form.proofs.Among.{among-append_left, among-append_right, carry, to_list-of_list}
+use Rattle.cg_form.proofs.Firsts.{extended-among, extended-append, extended-has, extended-length}
+use Rattle.cg_form.proofs.Structure.{games}
+use Rattle.cg_book.specs.Pages.{ArePages, IsPage, game_of, games_of}
+use Rattle.cg_book.proofs.Paging.{game_before, games_before, pages_before}
+use Rattle.cg_book.proofs.Slices.{item_among}
+use Rattle.cg_canon.specs.declared.walk.Position.{Position}
+use Rattle.cg_canon.specs.Walk.{ArePlaces, IsPlace, indexes_of, lefts_of, rights_of}
+use Rattle.cg_canon.specs.Walking.{Appended, AreApart, AreMarked, HasPlace, WalkStands, found_in}
+
+-- ---- indexes and games
+
+indexes_length : (ps : List Position) → length (indexes_of ps) ≡ length ps
+indexes_length ps = length-map ps (λ (p : Position). p.index)
+
+pub found_length : (gs : List Game) (ps : List Position) → length (found_in gs ps) ≡ length ps
+found_length gs ps = length-map (indexes_of ps) (game_of gs) ∙ indexes_length ps
+
+among_at : (gs : List Game) (qs : List ℕ) (g : Game) → Among g (games_of gs qs)
+    → (i : ℕ) × (i < length qs) × (game_of gs (get_or qs i 0) ≡ g)
+among_at gs [] g m = absurd m
+among_at gs (q ∷ qs) g (inl e) = (zero, omega arith, sym e)
+among_at gs (q ∷ qs) g (inr m) = let (i, l, e) = among_at gs qs g m in (suc i, omega arith, e)
+
+indexes_pushed : (ps : List Position) (p : Position) → indexes_of (ps ++ (p ∷ [])) ≡ indexes_of ps ++ (p.index ∷ [])
+indexes_pushed [] p = refl
+indexes_pushed (q ∷ ps) p = ap (λ z. q.index ∷ z) (indexes_pushed ps p)
+
+games_pushed : (gs : List Game) (qs : List ℕ) (q : ℕ) → games_of gs (qs ++ (q ∷ [])) ≡ games_of gs qs ++ (game_of gs q ∷ [])
+games_pushed gs [] q = refl
+games_pushed gs (k ∷ qs) q = ap (λ z. game_of gs k ∷ z) (games_pushed gs qs q)
+
+found_pushed : (gs : List Game) (ps : List Position) (p : Position) (index : ℕ) → p.index ≡ index
+    → found_in gs (ps ++ (p ∷ [])) ≡ found_in gs ps ++ (game_of gs index ∷ [])
+found_pushed gs ps p index e =
+    ap (games_of gs) (indexes_pushed ps p) ∙ games_pushed gs (indexes_of ps) p.index
+    ∙ ap (λ z. found_in gs ps ++ (game_of gs z ∷ [])) e
+
+-- ---- marks
+
+module _ (gs : List Game) (marks : List ℕ) (ps : List Position) (index : ℕ) (marked : AreMarked gs marks ps) where
+  -- the mark of a game that was found is its place
+  pub marked_place : AreApart gs → IsPage gs index → Among (game_of gs index) (found_in gs ps) → HasPlace ps (get_or marks index 0) index
+  marked_place apart page m =
+      let (i, l, e) = among_at gs (indexes_of ps) (game_of gs index) m in
+      let n = indexes_length ps in
+      let less : i < length ps = omega arith in
+      let own : get_or (indexes_of ps) i 0 ≡ index = apart.each _ index (marked.pages i 0 l) page e in
+      let mark : get_or marks index 0 ≡ i = ap (λ z. get_or marks z 0) (sym own) ∙ marked.marked i less in
+      let P : ℕ → Type 0 = λ z. HasPlace ps z index in
+      subst P (sym mark) (record { within = less; is = own })
+
+  pub place_there : (place : ℕ) → HasPlace ps place index → Among (game_of gs index) (found_in gs ps)
+  place_there place h =
+      let n = indexes_length ps in
+      let w = h.within in
+      item_among gs (indexes_of ps) place index (omega arith) (sym h.is)
+
+-- ---- options
+
+pub appended_none : (ps : List Position) (old new indexes : List ℕ) → new ≡ old → Appended ps old new (take 0 indexes)
+appended_none ps old new indexes e =
+    record { places = []; is = e ∙ sym (append-nil old); below = λ k d h. absurd (omega arith); same = refl }
+
+pub appended_next : (ps : List Position) (old mid new indexes : List ℕ) (i place : ℕ) → Appended ps old mid (take i indexes)
+    → i < length indexes → HasPlace ps place (get_or indexes i 0) → new ≡ mid ++ (place ∷ [])
+    → Appended ps old new (take (i + 1) indexes)
+appended_next ps old mid new indexes i place a less has e =
+    let at : ℕ → ℕ = λ q. get_or (indexes_of ps) q 0 in
+    record {
+      places = a.places ++ (place ∷ []);
+      is = e ∙ ap (λ z. z ++ (place ∷ [])) a.is ∙ append_assoc old a.places (place ∷ []);
+      below = All-push (λ q. q < length ps) a.places place a.below has.within;
+      same = mapped at a.places place ∙ ap (λ z. z ++ (at place ∷ [])) a.same ∙ ap (λ z. take i indexes ++ (z ∷ [])) has.is
+          ∙ sym (take_more indexes i 0 less);
+    }
+  where
+    mapped : (f : ℕ → ℕ) (qs : List ℕ) (q : ℕ) → map f (qs ++ (q ∷ [])) ≡ map f qs ++ (f q ∷ [])
+    mapped f [] q = refl
+    mapped f (k ∷ qs) q = ap (λ z. f k ∷ z) (mapped f qs q)
+
+-- the games at places are those of the indexes that stand there
+places_games : (gs : List Game) (ps : List Position) (qs : List ℕ) → All (λ q. q < length ps) qs
+    → games_of (found_in gs ps) qs ≡ games_of gs (map (λ q. get_or (indexes_of ps) q 0) qs)
+places_games gs ps [] a = refl
+places_games gs ps (q ∷ qs) a =
+    let n = indexes_length ps in
+    let l : q < length ps = a zero 0 (omega arith) in
+    let own : game_of (found_in gs ps) q ≡ game_of gs (get_or (indexes_of ps) q 0) =
+    get_or-map (game_of gs) (indexes_of ps) q 0 (node [] []) (omega arith) in
+    ap (λ z. z ∷ games_of (found_in gs ps) qs) own
+    ∙ ap (λ z. game_of gs (get_or (indexes_of ps) q 0) ∷ z) (places_games gs ps qs (λ k d h. a (suc k) d (omega arith)))
+
+range_before : (opts more : List ℕ) (a b : ℕ) → a ≤ b → b ≤ length opts → slice_range (opts ++ more) a b ≡ slice_range opts a b
+range_before opts more a b l h =
+    let n = length-drop a opts in
+    ap (take (b - a)) (drop-append-le a opts more (omega arith)) ∙ take-append-le (b - a) (drop a opts) more (omega arith)
+
+range_behind : (opts own more : List ℕ) (a b : ℕ) → a ≡ length opts → b ≡ a + length own → slice_range (opts ++ (own ++ more)) a b ≡ own
+range_behind opts own more a b e f =
+    ap (λ z. take (b - a) (drop z (opts ++ (own ++ more)))) e ∙ ap (take (b - a)) (drop-append_seam opts (own ++ more))
+    ∙ ap (λ z. take z (own ++ more)) (omega arith) ∙ take-append_seam own more
+
+range_none : (opts : List ℕ) (a b : ℕ) → a ≡ b → slice_range opts a b ≡ []
+range_none opts a b e = let z : b - a ≡ 0 = omega arith in ap (λ k. take k (drop a opts)) z
+
+-- ---- the next position
+
+module _ (gs : List Game) (ps : List Position) (p : Position) (g : Game) where
+  abbrev fs : List Game
+  fs = found_in gs ps ++ (g ∷ [])
+
+  next_game : game_of fs (length ps) ≡ g
+  next_game = get_or_push (found_in gs ps) g (node [] []) (length ps) (found_length gs ps)
+
+  -- a number
+  pub number_place : (opts : List ℕ) (x : Number) → p.lefts ≡ length opts → p.rights ≡ length opts → p.end ≡ length opts
+      → p.is_number ≡ true → (p.is_zero ≡ true → x ≡ whole (pos 0)) → g ≡ number x → IsPlace opts fs (length ps) p
+  number_place opts x a b c n z is =
+      let P : List ℕ → Type 0 = λ k. All (λ q. q < length ps) k in
+      record {
+        first = omega arith;
+        second = omega arith;
+        end = omega arith;
+        lefts_before = subst P (sym (range_none opts p.lefts p.rights (a ∙ sym b))) (λ k d h. absurd (omega arith));
+        rights_before = subst P (sym (range_none opts p.rights p.end (b ∙ sym c))) (λ k d h. absurd (omega arith));
+        as_zero = λ t. next_game ∙ is ∙ ap number (z t);
+        as_number = λ t. record { x = x; is = next_game ∙ is; none = a ∙ sym c };
+        as_node = λ t. absurd (differ (sym n ∙ t));
+      }
+    where
+      differ : true ≡ false → ⊥
+      differ e = cc
+
+  -- another game
+  module _ (old mid new ls rs : List ℕ) (a : p.lefts ≡ length old) (b : p.rights ≡ length mid) (c : p.end ≡ length new)
+      (low : Appended ps old mid ls) (high : Appended ps mid new rs) where
+    left : lefts_of new p ≡ low.places
+    left =
+        let m = ap length low.is in
+        let k = length-append old low.places in
+        ap (λ z. slice_range z p.lefts p.rights) (high.is ∙ ap (λ z. z ++ high.places) low.is ∙ append_assoc old low.places high.places)
+        ∙ range_behind old low.places high.places p.lefts p.rights a (omega arith)
+
+    right : rights_of new p ≡ high.places
+    right =
+        let m = ap length high.is in
+        let k = length-append mid high.places in
+        ap (λ z. slice_range z p.rights p.end) (high.is ∙ ap (λ z. mid ++ z) (sym (append-nil high.places)))
+        ∙ range_behind mid high.places [] p.rights p.end b (omega arith)
+
+    games_there : (places indexes : List ℕ) → All (λ q. q < length ps) places → map (λ q. get_or (indexes_of ps) q 0) places ≡ indexes
+        → games_of fs places ≡ games_of gs indexes
+    games_there places indexes below same =
+        let n = found_length gs ps in
+        games_before (found_in gs ps) (g ∷ []) places (λ k d h. let l = below k d h in omega arith)
+        ∙ places_games gs ps places below ∙ ap (games_of gs) same
+
+    pub node_place : p.is_number ≡ false → p.is_zero ≡ false → g ≡ node (games_of gs ls) (games_of gs rs)
+        → IsPlace new fs (length ps) p
+    node_place n z is =
+        let P : List ℕ → Type 0 = λ k. All (λ q. q < length ps) k in
+        let m = ap length low.is in
+        let k = length-append old low.places in
+        let o = ap length high.is in
+        let q = length-append mid high.places in
+        record {
+          first = omega arith;
+          second = omega arith;
+          end = omega arith;
+          lefts_before = subst P (sym left) low.below;
+          rights_before = subst P (sym right) high.below;
+          as_zero = λ t. absurd (differ (sym t ∙ z));
+          as_number = λ t. absurd (differ (sym t ∙ n));
+          as_node = λ t. next_game ∙ is
+              ∙ ap (λ z. node z (games_of gs rs)) (sym (ap (games_of fs) left ∙ games_there low.places ls low.below low.same))
+              ∙ ap (node (games_of fs (lefts_of new p))) (sym (ap (games_of fs) right ∙ games_there high.places rs high.below high.same));
+        }
+      where
+        differ : true ≡ false → ⊥
+        differ e = cc
+
+-- ---- one game
+
+module _ (seen found : List Game) (g : Game) (out : ¬ Among g seen) (walked : found ≡ extended seen (positions_before g)) where
+  pub not_yet : ¬ Among g found
+  not_yet m = elim (extended-among games seen (positions_before g) g (carry g found (extended seen (positions_before g)) walked m)) [
+    | inl n ↦ out n
+    | inr n ↦ (let d = positions_before-depth g g n in absurd (omega arith))
+  ]
+
+  pub before_there : (k : Game) → Among k (positions_before g) → Among k found
+  before_there k m = carry k (extended seen (positions_before g)) found (sym walked) (extended-has games seen (positions_before g) k m)
+
+  pub next_all : found ++ (g ∷ []) ≡ extended seen (all_positions g)
+  next_all = ap (λ z. z ++ (g ∷ [])) walked ∙ sym (extended-last seen g out)
+
+  pub next_more : (limit : ℕ) → limit ≡ length found → limit < length (extended seen (all_positions g))
+  next_more limit e =
+      let a = ap length next_all in
+      let b = length-append found (g ∷ []) in
+      omega arith
+
+-- ---- more positions
+
+-- a position stays at its place as options and games come behind
+place_later : (opts more : List ℕ) (fs hs : List Game) (i : ℕ) (p : Position) → i < length fs → IsPlace opts fs i p
+    → IsPlace (opts ++ more) (fs ++ hs) i p
+place_later opts more fs hs i p less h =
+    let P : List ℕ → Type 0 = λ k. All (λ q. q < i) k in
+    let b = h.second in
+    let e = h.end in
+    let n = length-append opts more in
+    let l : lefts_of (opts ++ more) p ≡ lefts_of opts p = range_before opts more p.lefts p.rights h.first (omega arith) in
+    let r : rights_of (opts ++ more) p ≡ rights_of opts p = range_before opts more p.rights p.end h.second h.end in
+    let own = game_before fs hs i less in
+    let low : games_of (fs ++ hs) (lefts_of (opts ++ more) p) ≡ games_of fs (lefts_of opts p) =
+    ap (games_of (fs ++ hs)) l ∙ games_before fs hs (lefts_of opts p) (λ k d m. let x = h.lefts_before k d m in omega arith) in
+    let high : games_of (fs ++ hs) (rights_of (opts ++ more) p) ≡ games_of fs (rights_of opts p) =
+    ap (games_of (fs ++ hs)) r ∙ games_before fs hs (rights_of opts p) (λ k d m. let x = h.rights_before k d m in omega arith) in
+    record {
+      first = h.first;
+      second = h.second;
+      end = omega arith;
+      lefts_before = subst P (sym l) h.lefts_before;
+      rights_before = subst P (sym r) h.rights_before;
+      as_zero = λ t. own ∙ h.as_zero t;
+      as_number = λ t. let k = h.as_number t in record { x = k.x; is = own ∙ k.is; none = k.none };
+      as_node = λ t. own ∙ h.as_node t ∙ ap (λ z. node z (games_of fs (rights_of opts p))) (sym low)
+          ∙ ap (node (games_of (fs ++ hs) (lefts_of (opts ++ more) p))) (sym high);
+    }
+
+-- where the game wasn't found, and all of its positions before it were, its position is the next
+module _ (gs : List Game) (marks m2 : List ℕ) (ps : List Position) (opts more : List ℕ) (p : Position) (index : ℕ)
+    (stands : WalkStands gs marks ps opts) (own : p.index ≡ index) (page : IsPage gs index) (canonical : Canonical (game_of gs index))
+    (before : (k : Game) → Among k (positions_before (game_of gs index)) → Among k (found_in gs ps))
+    (out : ¬ Among (game_of gs index) (found_in gs ps))
+    (place : IsPlace (opts ++ more) (found_in gs ps ++ (game_of gs index ∷ [])) (length ps) p)
+    (room : length m2 ≡ length marks) (mark : get_or m2 p.index 0 ≡ length ps)
+    (others : (i : ℕ) → ¬ (i ≡ p.index) → get_or m2 i 0 ≡ get_or marks i 0) where
+  abbrev after : List Position
+  after = ps ++ (p ∷ [])
+
+  at_old : (i : ℕ) → i < length ps → get_or (indexes_of after) i 0 ≡ get_or (indexes_of ps) i 0
+  at_old i l =
+      let n = indexes_length ps in
+      ap (λ z. get_or z i 0) (indexes_pushed ps p) ∙ get_or_append_left (indexes_of ps) (p.index ∷ []) 0 i (omega arith)
+
+  at_new : (i : ℕ) → i ≡ length ps → get_or (indexes_of after) i 0 ≡ p.index
+  at_new i e =
+      ap (λ z. get_or z i 0) (indexes_pushed ps p) ∙ get_or_push (indexes_of ps) p.index 0 i (indexes_length ps ∙ sym e)
+
+  next_marked : (i : ℕ) → i < length after → get_or m2 (get_or (indexes_of after) i 0) 0 ≡ i
+  next_marked i l = elim (eqb_tells i (length ps)) [
+    | inl t ↦ ap (λ z. get_or m2 z 0) (at_new i t.1) ∙ mark ∙ sym t.1
+    | inr t ↦
+        let d = t.1 in
+        let n = length_push ps p in
+        let k = indexes_length ps in
+        let less : i < length ps = omega arith in
+        let differs : ¬ (get_or (indexes_of ps) i 0 ≡ p.index) =
+        λ e. out (item_among gs (indexes_of ps) i index (omega arith) (sym (e ∙ own))) in
+        ap (λ z. get_or m2 z 0) (at_old i less) ∙ others (get_or (indexes_of ps) i 0) differs ∙ stands.marked.marked i less
+  ]
+
+  next_places : ArePlaces (opts ++ more) (found_in gs after) after
+  next_places i q l e = elim (eqb_tells i (length ps)) [
+    | inl t ↦
+        let same : q ≡ p = e ∙ get_or_push ps p q i (sym t.1) in
+        let P : ℕ → Position → Type 0 = λ n z. IsPlace (opts ++ more) (found_in gs ps ++ (game_of gs index ∷ [])) n z in
+        let F : List Game → Type 0 = λ z. IsPlace (opts ++ more) z i q in
+        subst F (sym (found_pushed gs ps p index own)) (subst (λ z. P i z) (sym same) (subst (λ n. P n p) (sym t.1) place))
+    | inr t ↦
+        let d = t.1 in
+        let n = length_push ps p in
+        let k = found_length gs ps in
+        let less : i < length ps = omega arith in
+        let F : List Game → Type 0 = λ z. IsPlace (opts ++ more) z i q in
+        subst F (sym (found_pushed gs ps p index own)) (place_later opts more (found_in gs ps) (game_of gs index ∷ []) i q (omega arith)
+        (stands.places i q less (e ∙ get_or_append_left ps (p ∷ []) q i less)))
+  ]
+
+  pub next_stands : WalkStands gs m2 after (opts ++ more)
+  next_stands =
+      let all = found_pushed gs ps p index own in
+      let C : List Game → Type 0 = λ z. All Canonical z in
+      let K : List Game → Type 0 = λ z. IsClosed z in
+      let G : ℕ → Type 0 = λ z. IsPage gs z in
+      let old = stands.marked.room in
+      record {
+        marked = record {
+          pages = All-same (IsPage gs) (indexes_of after) (indexes_of ps ++ (p.index ∷ [])) (indexes_pushed ps p)
+              (All-push (IsPage gs) (indexes_of ps) p.index stands.marked.pages (subst G (sym own) page));
+          room = omega arith;
+          marked = next_marked;
+        };
+        canonical = subst C (sym all) (All-push Canonical (found_in gs ps) (game_of gs index) stands.canonical canonical);
+        closed = subst K (sym all) (closed_more (found_in gs ps) (game_of gs index) stands.closed before);
+        places = next_places;
+      }
+
+-- the same, where the lists are told by equations
+module _ (gs : List Game) (marks m2 : List ℕ) (ps before after : List Position) (opts more opts2 opts3 : List ℕ) (p : Position) (index : ℕ)
+    (e : before ≡ ps) (f : after ≡ before ++ (p ∷ [])) (own : p.index ≡ index) where
+  after_is : after ≡ ps ++ (p ∷ [])
+  after_is = f ∙ ap (λ z. z ++ (p ∷ [])) e
+
+  pub next_walk : WalkStands gs marks ps opts → IsPage gs index → Canonical (game_of gs index)
+      → ((k : Game) → Among k (positions_before (game_of gs index)) → Among k (found_in gs ps))
+      → ¬ Among (game_of gs index) (found_in gs ps) → opts2 ≡ opts ++ more → opts3 ≡ opts2
+      → IsPlace opts2 (found_in gs ps ++ (game_of gs index ∷ [])) (length ps) p
+      → length m2 ≡ length marks → get_or m2 p.index 0 ≡ length before
+      → ((i : ℕ) → ¬ (i ≡ p.index) → get_or m2 i 0 ≡ get_or marks i 0) → WalkStands gs m2 after opts3
+  next_walk stands page canonical there out k l place room mark others =
+      let P : List Position → Type 0 = λ z. WalkStands gs m2 z opts3 in
+      let Q : List ℕ → Type 0 = λ z. WalkStands gs m2 (ps ++ (p ∷ [])) z in
+      let R : List ℕ → Type 0 = λ z. IsPlace z (found_in gs ps ++ (game_of gs index ∷ [])) (length ps) p in
+      subst P (sym after_is) (subst Q (sym (l ∙ k)) (next_stands gs marks m2 ps opts more p index stands own page canonical there out
+          (subst R k place) room (mark ∙ ap length e) others))
+
+  pub next_found : (seen : List Game) → ¬ Among (game_of gs index) seen → found_in gs ps ≡ extended seen (positions_before (game_of gs index))
+      → found_in gs after ≡ extended seen (all_positions (game_of gs index))
+  next_found seen out walked =
+      ap (found_in gs) after_is ∙ found_pushed gs ps p index own ∙ next_all seen (found_in gs ps) (game_of gs index) out walked
+
+-- the games of the options are found with the positions before a game
+pub option_before : (gs : List Game) (g : Game) (ls rs : List ℕ) (a : Game) → g ≡ node (games_of gs ls) (games_of gs rs)
+    → Among a (games_of gs ls) ⊎ Among a (games_of gs rs) → Among a (positions_before g)
+option_before gs g ls rs a is m =
+    let P : Game → Type 0 = λ z. Among a (positions_before z) in
+    let own : (qs : List ℕ) → Among a (games_of gs qs) → Among a (positions_in (of_list (games_of gs qs))) =
+    λ qs n. positions_in-own (of_list (games_of gs qs)) a (carry a (games_of gs qs) _ (sym (to_list-of_list (games_of gs qs))) n) in
+    subst P (sym is) (elim m [
+      | inl n ↦ among-append_left a (positions_in (of_list (games_of gs ls))) (positions_in (of_list (games_of gs rs))) (own ls n)
+      | inr n ↦ among-append_right a (positions_in (of_list (games_of gs ls))) (positions_in (of_list (games_of gs rs))) (own rs n)
+    ])
+
+-- ---- a list of games
+
+-- the positions of the games at the indexes
+abbrev pub walk_over : List Game → List ℕ → List Game
+walk_over gs ps = positions_in (of_list (games_of gs ps))
+
+walk_split : (gs : List Game) (ps qs : List ℕ) → walk_over gs (ps ++ qs) ≡ walk_over gs ps ++ walk_over gs qs
+walk_split gs [] qs = refl
+walk_split gs (p ∷ ps) qs =
+    ap (λ z. all_positions (game_of gs p) ++ z) (walk_split gs ps qs)
+    ∙ sym (append_assoc (all_positions (game_of gs p)) (walk_over gs ps) (walk_over gs qs))
+
+walk_next : (seen gs : List Game) (ps : List ℕ) (i k : ℕ) → i < length ps → k ≡ get_or ps i 0
+    → extended (extended seen (walk_over gs (take i ps))) (all_positions (game_of gs k)) ≡ extended seen (walk_over gs (take (i + 1) ps))
+walk_next seen gs ps i k less e =
+    ap (λ z. extended (extended seen (walk_over gs (take i ps))) (all_positions (game_of gs z))) e
+    ∙ ap (extended (extended seen (walk_over gs (take i ps)))) (sym (append-nil (all_positions (game_of gs (get_or ps i 0)))))
+    ∙ sym (extended-append games seen (walk_over gs (take i ps)) (walk_over gs (get_or ps i 0 ∷ [])))
+    ∙ ap (extended seen) (sym (walk_split gs (take i ps) (get_or ps i 0 ∷ [])))
+    ∙ ap (λ z. extended seen (walk_over gs z)) (sym (take_more ps i 0 less))
+
+-- more than the positions of the first games are more than those of all
+first_length : (seen gs : List Game) (ps : List ℕ) (i limit : ℕ) → limit < length (extended seen (walk_over gs (take i ps)))
+    → limit < length (extended seen (walk_over gs ps))
+first_length seen gs ps i limit l =
+    let split = ap (λ z. length (extended seen z)) (ap (walk_over gs) (sym (take-append-drop i ps)) ∙ walk_split gs (take i ps) (drop i ps)) in
+    let more = extended-length games seen (walk_over gs (take i ps)) (walk_over gs (drop i ps)) in
+    omega arith
+
+module _ (gs seen found : List Game) (ps : List ℕ) (i k : ℕ) (less : i < length ps) (e : k ≡ get_or ps i 0)
+    (walked : found ≡ extended seen (walk_over gs (take i ps))) where
+  pub walked_next : extended found (all_positions (game_of gs k)) ≡ extended seen (walk_over gs (take (i + 1) ps))
+  walked_next = ap (λ z. extended z (all_positions (game_of gs k))) walked ∙ walk_next seen gs ps i k less e
+
+  pub next_longer : (limit : ℕ) → limit < length (extended found (all_positions (game_of gs k)))
+      → limit < length (extended seen (walk_over gs ps))
+  next_longer limit l = let a = ap length walked_next in first_length seen gs ps (i + 1) limit (omega arith)
+
+-- ---- the options of a game
+
+module _ (gs seen : List Game) (g : Game) (ls rs : List ℕ) (is : g ≡ node (games_of gs ls) (games_of gs rs)) where
+  both : extended (extended seen (walk_over gs ls)) (walk_over gs rs) ≡ extended seen (positions_before g)
+  both =
+      sym (extended-append games seen (walk_over gs ls) (walk_over gs rs))
+      ∙ ap (λ z. extended seen (positions_before z)) (sym is)
+
+  pub left_longer : (limit : ℕ) → limit < length (extended seen (walk_over gs ls)) → limit < length (extended seen (positions_before g))
+  left_longer limit l =
+      let a = ap (λ z. length (extended seen (positions_before z))) is in
+      let b = extended-length games seen (walk_over gs ls) (walk_over gs rs) in
+      omega arith
+
+  module _ (found : List Game) (left : found ≡ extended seen (walk_over gs ls)) where
+    pub sides_walked : extended found (walk_over gs rs) ≡ extended seen (positions_before g)
+    sides_walked = ap (λ z. extended z (walk_over gs rs)) left ∙ both
+
+    pub right_longer : (limit : ℕ) → limit < length (extended found (walk_over gs rs)) → limit < length (extended seen (positions_before g))
+    right_longer limit l = let a = ap length sides_walked in omega arith

@@ -1,0 +1,7 @@
+use Rattle.cg_canon.proofs.PairSums.{pair_found}
+use Rattle.cg_canon.proofs.work.Work.kept_sum.Goals as goal
+
+pub returns : goal.returns
+returns g c =
+    let b = c.self.inside.held.memo.book in
+    pair_found b.pages c.args.a c.args.b _ _ c.in_order.ensures b.pairs c.find.result c.self.invariant.1.book.pairs c.find.ensures

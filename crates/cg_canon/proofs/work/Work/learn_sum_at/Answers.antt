@@ -1,0 +1,16 @@
+use Rattle.cg_book.specs.Pages.{game_of}
+use Rattle.cg_canon.proofs.Recognizing.{at_equal, at_turned, third_equal}
+use Rattle.cg_canon.proofs.work.Work.learn_sum_at.Goals as goal
+
+pub learn_at-requires-clause-equal : goal.learn_at-requires-clause-equal
+learn_at-requires-clause-equal g c =
+    third_equal c.args.self.now.arena c.args.a c.args.b c.args.sum c.in-Some-Some.first.now c.in-Some-Some.second.now c.in-Some.both
+    c.in-Some-Some.ensures c.in-Some-Some.ensures' c.in-Some.ensures c.requires.sum
+
+pub learn_other_at-requires-clause-sum : goal.learn_other_at-requires-clause-sum
+learn_other_at-requires-clause-sum g c =
+    let A = c.args.self.now.arena in at_turned A c.args.sum (game_of A c.args.a) (game_of A c.args.b) c.requires.sum
+
+pub learn_other_at-requires-in-None-Some-clause-sum : goal.learn_other_at-requires-in-None-Some-clause-sum
+learn_other_at-requires-in-None-Some-clause-sum g c =
+    let A = c.args.self.now.arena in at_equal A c.args.sum (game_of A c.args.a) (game_of A c.args.b) c.requires.sum

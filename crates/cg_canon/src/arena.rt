@@ -1,0 +1,59 @@
+//! The arena of a work: the games that it has met, each at its index.
+//!
+//! A public call on handles asks for an index where it begins and for a handle where it ends. The arena only grows, so what holds at
+//! an index stays.
+ghost use Rattle.std.specs.Prelude.{◌≡◌, IfOk, IfSome};
+ghost use Rattle.cg_form.specs.Canonical.{Canonical};
+ghost use Rattle.cg_cells.specs.Store.{Spends};
+ghost use Rattle.cg_nodes.specs.Games.{IsGame, StandsFor, game_at};
+ghost use Rattle.cg_book.specs.Pages.{IsPage, IsRead, game_of};
+ghost use Rattle.cg_book.specs.Profiles.{IsProfile};
+ghost use Rattle.cg_canon.specs.Arena.{Begins, IsAt};
+ghost use Rattle.cg_canon.specs.Works.{work_state};
+
+use crate::paging::page_of;
+use crate::work::Work;
+use cg_book::{Profile, Read};
+use cg_cells::CellStore;
+use cg_nodes::{BoardForms, GameFacts, Handle};
+use std::alloc::{AllocError, Global};
+
+impl<'a, B: BoardForms, S: CellStore<GameFacts<B>>> Work<'a, B, S> {
+    /// The index of the handle's game, which enters the arena if it isn't found there. The only error is want of memory.
+    pub fn index(&mut self, alloc: Global, a: Handle) -> Result<u32, AllocError>
+        requires { IsGame (work_state S.state self.old) a }
+        ensures index { IfOk result (λ i. IsAt self.new.arena i (game_at (work_state S.state self.old) a)) }
+        ensures begins { Begins self.old.arena self.new.arena }
+        ensures spends { Spends 0 (work_state S.state self.old) (work_state S.state self.new) }
+    {
+        page_of(alloc, self.store, &mut self.held.memo.book, a)
+    }
+
+    /// The handle of the game at the index.
+    #[inline(always)]
+    pub fn handle_at(&self, index: u32) -> Handle
+        requires { IsPage self.now.arena index }
+        ensures { StandsFor (work_state S.state self.now) result (game_of self.now.arena index) }
+    {
+        self.held.memo.book.handle(index)
+    }
+
+    /// The game at the index: a number, or the indexes of the Left and of the Right options of another game.
+    #[inline(always)]
+    pub fn read_at(&self, index: u32) -> Read<'_>
+        requires { IsPage self.now.arena index }
+        ensures read { IsRead self.now.arena result (game_of self.now.arena index) }
+        ensures canonical { Canonical (game_of self.now.arena index) }
+    {
+        self.held.memo.book.pages.read(index)
+    }
+
+    /// What is known of the game at the index besides its options.
+    #[inline(always)]
+    pub fn profile_at(&self, index: u32) -> &Profile
+        requires { IsPage self.now.arena index }
+        ensures { IsProfile (game_of self.now.arena index) result.now }
+    {
+        self.held.memo.book.pages.profile(index)
+    }
+}

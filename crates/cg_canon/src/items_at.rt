@@ -1,0 +1,124 @@
+//! Items of forms that stand in the arena, by their indexes.
+ghost use Rattle.std.specs.Prelude.{◌≡◌, ◌≤◌, IfOk};
+ghost use Rattle.cg_form.specs.Canonical.{Canonical};
+ghost use Rattle.cg_form.specs.Game.{Game, node};
+ghost use Rattle.cg_nodes.specs.Can.{can};
+ghost use Rattle.cg_book.specs.Pages.{ArePages, IsPage, game_of, games_of};
+ghost use Rattle.cg_book.specs.Terms.{NoneComparableByTerm};
+ghost use Rattle.cg_canon.specs.Items.{made};
+ghost use Rattle.cg_canon.specs.ItemsAt.{IsValue, ItemAt};
+ghost use Rattle.cg_canon.specs.NumberItems.{number_made};
+ghost use Rattle.cg_canon.specs.Works.{work_state};
+
+use crate::fault::ValueFault;
+use crate::making_at::{given_at, known_at, number_at, sum_at};
+use crate::work::Work;
+use cg_book::FirstTerm;
+use cg_cells::CellStore;
+use cg_dyadic::Dyadic;
+use cg_nodes::{BoardForms, GameFacts};
+use std::alloc::Global;
+
+impl<'a, B: BoardForms, S: CellStore<GameFacts<B>>> Work<'a, B, S> {
+    /// Makes the item of the form at the index, with a cost of `extra` more, where `extra` is at most 8.
+    ///
+    /// `Depth` comes exactly where its depth is above 512, and else `Full` exactly where its cost and `extra` together bring the
+    /// total cost above the share. It takes no memory.
+    #[inline(always)]
+    pub fn item_at(&mut self, index: u32, extra: u64) -> Result<u32, ValueFault>
+        requires extra { extra ≤ 8 }
+        requires index { IsPage self.old.arena index }
+        ensures item { let g = game_of self.old.arena index in ItemAt (work_state S.state self.old) (work_state S.state self.new)
+            self.old.arena self.new.arena (made g extra) g extra result }
+        ensures own { IfOk result (λ i. i ≡ index) }
+        ensures arena { self.new.arena ≡ self.old.arena }
+    {
+        known_at(
+            &*self.store,
+            &self.held.memo.book,
+            &mut self.meter,
+            index,
+            extra,
+        )
+    }
+
+    /// Makes the item of a number, with a cost of `extra` more, where `extra` is at most 8. None stands for a number out of range.
+    ///
+    /// `Range` comes exactly for None, and `Full` exactly where its cost and `extra` together bring the total cost above the share.
+    pub fn number_item_at(&mut self, x: Option<Dyadic>, extra: u64) -> Result<u32, ValueFault>
+        requires { extra ≤ 8 }
+        ensures { (form : Game) → IsValue x form → ItemAt (work_state S.state self.old) (work_state S.state self.new)
+            self.old.arena self.new.arena (number_made x extra) form extra result }
+    {
+        match x {
+            Some(value) => number_at(
+                self.store,
+                &mut self.held.memo.book,
+                &mut self.meter,
+                value,
+                extra,
+            ),
+            None => Err(ValueFault::Range),
+        }
+    }
+
+    /// Makes the item of a game that is canonical as it is given, by the indexes of its options, with a cost of `extra` more, where
+    /// `extra` is at most 8. `Depth` and `Full` come as in [`Work::item_at`].
+    pub fn form_item_at(
+        &mut self,
+        alloc: Global,
+        lefts: &[u32],
+        rights: &[u32],
+        extra: u64,
+    ) -> Result<u32, ValueFault>
+        requires extra { extra ≤ 8 }
+        requires lefts { ArePages self.old.arena lefts.now }
+        requires rights { ArePages self.old.arena rights.now }
+        requires canonical { Canonical (node (games_of self.old.arena lefts.now) (games_of self.old.arena rights.now)) }
+        ensures { let g = node (games_of self.old.arena lefts.now) (games_of self.old.arena rights.now) in
+            ItemAt (work_state S.state self.old) (work_state S.state self.new) self.old.arena self.new.arena (made g extra) g extra result }
+    {
+        given_at(
+            alloc,
+            self.store,
+            &mut self.held.memo.book,
+            &mut self.meter,
+            lefts,
+            rights,
+            extra,
+        )
+    }
+
+    /// Makes the item of the canonical form of a sum, by the indexes of its options, with a cost of `extra` more, where `extra` is at
+    /// most 8. On each side, first stand the options that come from one term, and then those that come from the other. No two that
+    /// come from the same term may be comparable.
+    ///
+    /// `Range` comes exactly where the game equals a number out of range; else `Depth` and `Full` as in [`Work::item_at`].
+    pub fn sum_item_at(
+        &mut self,
+        alloc: Global,
+        lefts: &[u32],
+        rights: &[u32],
+        first_term: FirstTerm,
+        extra: u64,
+    ) -> Result<u32, ValueFault>
+        requires extra { extra ≤ 8 }
+        requires lefts { ArePages self.old.arena lefts.now }
+        requires rights { ArePages self.old.arena rights.now }
+        requires lefts_apart { NoneComparableByTerm first_term.lefts (games_of self.old.arena lefts.now) }
+        requires rights_apart { NoneComparableByTerm first_term.rights (games_of self.old.arena rights.now) }
+        ensures { let g = can (node (games_of self.old.arena lefts.now) (games_of self.old.arena rights.now)) in
+            ItemAt (work_state S.state self.old) (work_state S.state self.new) self.old.arena self.new.arena (made g extra) g extra result }
+    {
+        sum_at(
+            alloc,
+            self.store,
+            &mut self.held.memo.book,
+            &mut self.meter,
+            lefts,
+            rights,
+            first_term,
+            extra,
+        )
+    }
+}

@@ -1,0 +1,116 @@
+//! Sums of pairs of games of the arena, in either order, over the lines of a worker.
+ghost use Rattle.std.specs.Prelude.{◌≡◌, ◌⊎◌, ◌++◌, ◌∷◌, [], IfSome};
+ghost use Rattle.cg_form.specs.Sum.{sum as sum_of};
+ghost use Rattle.cg_nodes.specs.Can.{can};
+ghost use Rattle.cg_book.specs.Pages.{IsPage, game_of};
+ghost use Rattle.cg_canon.specs.Arena.{IsAt};
+ghost use Rattle.cg_canon.specs.KeptSums.{IsKeptSum, kept_of};
+
+use crate::places::{Places, half_of, mixed};
+use crate::work::Work;
+use cg_cells::CellStore;
+use cg_nodes::{BoardForms, GameFacts};
+use std::alloc::Global;
+
+/// The index of the form of the sum of the games at two indexes, the lesser first.
+#[derive(Clone, Copy)]
+pub(crate) struct KeptSum {
+    low: u32,
+    high: u32,
+    sum: u32,
+}
+
+/// Sums, and where that of a pair is looked for.
+#[derive(Drop)]
+pub(crate) struct KeptSums {
+    sums: Vec<KeptSum>,
+    places: Places,
+}
+
+/// A number for the pair.
+fn number_of_pair(low: u32, high: u32) -> u32 {
+    half_of(mixed(high as u64, low))
+}
+
+/// The two, the lesser first.
+#[inline(always)]
+fn in_order(a: u32, b: u32) -> (u32, u32)
+    ensures { ((result.0 ≡ a) × (result.1 ≡ b)) ⊎ ((result.0 ≡ b) × (result.1 ≡ a)) }
+{
+    if a <= b { (a, b) } else { (b, a) }
+}
+
+impl KeptSums {
+    /// No sums.
+    pub fn new(alloc: Global) -> KeptSums
+        ensures { result.sums.items ≡ [] }
+    {
+        KeptSums {
+            sums: Vec::new(alloc),
+            places: Places::new(alloc),
+        }
+    }
+
+    /// How many there are.
+    pub fn count(&self) -> usize {
+        self.sums.len()
+    }
+
+    /// The sum of the entry, if it is that of this pair.
+    fn sum_at(&self, entry: u32, low: u32, high: u32) -> Option<u32>
+        ensures { IfSome result (IsKeptSum self.now low high) }
+    {
+        let kept = self.sums.get(entry as usize)?;
+        if kept.low == low && kept.high == high {
+            return Some(kept.sum);
+        }
+        None
+    }
+
+    /// The sum of the pair, if it is found.
+    #[inline(always)]
+    pub fn find(&self, low: u32, high: u32) -> Option<u32>
+        ensures { IfSome result (IsKeptSum self.now low high) }
+    {
+        self.places.find(
+            number_of_pair(low, high),
+            |entry| self.sum_at(entry, low, high),
+        )
+    }
+
+    /// Keeps the sum of the pair, unless there is no memory for it.
+    pub fn keep(&mut self, low: u32, high: u32, sum: u32)
+        ensures { (self.new.sums.items ≡ self.old.sums.items)
+            ⊎ (self.new.sums.items ≡ self.old.sums.items ++ (kept_of low high sum ∷ [])) }
+    {
+        if self.sums.push(KeptSum { low, high, sum }).is_ok() {
+            self.places.add(number_of_pair(low, high));
+        }
+    }
+}
+
+impl<'a, B: BoardForms, S: CellStore<GameFacts<B>>> Work<'a, B, S> {
+    /// The index of the form of the sum of the two games, if it was kept and is found.
+    #[inline(always)]
+    pub fn kept_sum(&self, a: u32, b: u32) -> Option<u32>
+        requires a { IsPage self.now.arena a }
+        requires b { IsPage self.now.arena b }
+        ensures { IfSome result (λ i. IsAt self.now.arena i
+            (can (sum_of (game_of self.now.arena a) (game_of self.now.arena b)))) }
+    {
+        let (low, high) = in_order(a, b);
+        self.held.memo.book.pairs.find(low, high)
+    }
+
+    /// Keeps the index of the form of the sum of the two games, in either order, unless there is no memory for it.
+    #[inline(always)]
+    pub fn keep_pair(&mut self, a: u32, b: u32, sum: u32)
+        requires a { IsPage self.old.arena a }
+        requires b { IsPage self.old.arena b }
+        requires sum { IsAt self.old.arena sum (can (sum_of (game_of self.old.arena a) (game_of self.old.arena b))) }
+        ensures { self.new ≡ self.old }
+    {
+        let (low, high) = in_order(a, b);
+        self.held.memo.book.pairs.keep(low, high, sum);
+    }
+}

@@ -1,0 +1,70 @@
+//! Walks of a work over its arena.
+ghost use Rattle.std.specs.Prelude.{◌≡◌, ◌⊎◌, ◌<◌, ◌≤◌, ◌^◌, IfErr, IfOk, OnOk, Err, length};
+ghost use Rattle.cg_form.specs.Positions.{positions_of};
+ghost use Rattle.cg_book.specs.Pages.{IsPage, game_of};
+ghost use Rattle.cg_canon.specs.Walk.{IsWalk};
+
+use crate::fault::ValueFault;
+use crate::walk::Walk;
+use crate::walking::walk_index;
+use crate::work::Work;
+use cg_cells::CellStore;
+use cg_nodes::{BoardForms, GameFacts, PositionsFault};
+use std::alloc::{AllocError, Global};
+
+/// Makes the marks so many, unless there are more.
+fn mark_all(marks: &mut Vec<usize>, count: usize) -> Result<(), AllocError>
+    ensures { OnOk result (count ≤ length marks.new.items) }
+{
+    if count > marks.len() {
+        marks.resize(count, 0)?;
+    }
+    Ok(())
+}
+
+impl<'a, B: BoardForms, S: CellStore<GameFacts<B>>> Work<'a, B, S> {
+    /// The positions of the game at the index, unless there are more than this limit.
+    fn walk_within(
+        &mut self,
+        alloc: Global,
+        index: u32,
+        limit: u64,
+    ) -> Result<Walk, PositionsFault>
+        requires { IsPage self.old.arena index }
+        ensures walk { IfOk result (λ w. IsWalk self.old.arena w (positions_of (game_of self.old.arena index))) }
+        ensures within { OnOk result (length (positions_of (game_of self.old.arena index)) ≤ limit) }
+        ensures refused { result ≡ Err PositionsFault.Positions
+            → (limit < length (positions_of (game_of self.old.arena index))) × (limit < 2 ^ 63) }
+        ensures same { self.new ≡ self.old }
+    {
+        mark_all(&mut self.held.marks, self.held.memo.book.pages.count())?;
+        let mut walk = Walk::new(alloc)?;
+        self.store.apart();
+        walk_index(
+            &self.held.memo.book.pages,
+            &mut self.held.marks,
+            &mut walk,
+            index,
+            limit,
+        )?;
+        Ok(walk)
+    }
+
+    /// The positions of the game at the index. `Positions` comes exactly where there are more than the work's limit; the other error
+    /// is want of memory.
+    pub fn walk(&mut self, alloc: Global, index: u32) -> Result<Walk, ValueFault>
+        requires { IsPage self.old.arena index }
+        ensures walk { IfOk result (λ w. IsWalk self.old.arena w (positions_of (game_of self.old.arena index))) }
+        ensures within { OnOk result (length (positions_of (game_of self.old.arena index)) ≤ self.old.limit) }
+        ensures refused { IfErr result (λ fault. (fault ≡ ValueFault.Memory) ⊎ ((fault ≡ ValueFault.Positions)
+            × (self.old.limit < length (positions_of (game_of self.old.arena index))))) }
+        ensures same { self.new ≡ self.old }
+    {
+        let limit = self.limit();
+        match self.walk_within(alloc, index, limit) {
+            Ok(walk) => Ok(walk),
+            Err(PositionsFault::Positions) => Err(ValueFault::Positions),
+            Err(PositionsFault::Memory) => Err(ValueFault::Memory),
+        }
+    }
+}
