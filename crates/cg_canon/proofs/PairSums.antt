@@ -34,7 +34,7 @@ module _ (gs : List Game) (a b low high : ℕ) (order : ((low ≡ a) × (high �
       let P : Game → Type 0 = λ z. IsAt gs i z in
       let G : ℕ → Type 0 = λ z. IsPage gs z in
       record {
-        low = elim order [ | inl e ↦ subst G (sym e.0) p | inr e ↦ subst G (sym e.0) q ];
-        high = elim order [ | inl e ↦ subst G (sym e.1) q | inr e ↦ subst G (sym e.1) p ];
+        low = elim order [ inl e ↦ subst G (sym e.0) p | inr e ↦ subst G (sym e.0) q ];
+        high = elim order [ inl e ↦ subst G (sym e.1) q | inr e ↦ subst G (sym e.1) p ];
         is = subst P (sym one_sum) h;
       }

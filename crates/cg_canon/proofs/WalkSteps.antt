@@ -329,7 +329,7 @@ module _ (gs : List Game) (marks m2 : List ℕ) (ps before after : List Position
       let Q : List ℕ → Type 0 = λ z. WalkStands gs m2 (ps ++ (p ∷ [])) z in
       let R : List ℕ → Type 0 = λ z. IsPlace z (found_in gs ps ++ (game_of gs index ∷ [])) (length ps) p in
       subst P (sym after_is) (subst Q (sym (l ∙ k)) (next_stands gs marks m2 ps opts more p index stands own page canonical there out
-          (subst R k place) room (mark ∙ ap length e) others))
+      (subst R k place) room (mark ∙ ap length e) others))
 
   pub next_found : (seen : List Game) → ¬ Among (game_of gs index) seen → found_in gs ps ≡ extended seen (positions_before (game_of gs index))
       → found_in gs after ≡ extended seen (all_positions (game_of gs index))

@@ -212,21 +212,3 @@ pub(crate) fn put_handles<B: BoardForms, S: CellStore<GameFacts<B>>>(
     }
     Ok(())
 }
-
-/// The handles of the pages, in their order. The only error is want of memory.
-#[inline(always)]
-pub(crate) fn handles_of<B: BoardForms, S: CellStore<GameFacts<B>>>(
-    alloc: Global,
-    store: &S,
-    book: &Book,
-    pages: &[u32],
-) -> Result<HandleList, AllocError>
-    requires holds { BookHolds (S.state store.now) book.now }
-    requires pages { ArePages book.now.pages pages.now }
-    ensures handles { IfOk result (λ r. AreGames (S.state store.now) r.items
-        × (games_at (S.state store.now) r.items ≡ games_of book.now.pages pages.now)) }
-{
-    let mut all = SmallVec::new(alloc);
-    put_handles(store, book, pages, &mut all)?;
-    Ok(all)
-}

@@ -14,7 +14,6 @@ ghost use Rattle.cg_canon.specs.Works.{IsUnspent, work_state};
 use crate::fault::ValueFault;
 use crate::making::make_canonical;
 use crate::memo::KnownSum;
-use crate::paging::page_of;
 use crate::value::Way;
 use crate::work::Work;
 use cg_book::Profile;
@@ -31,8 +30,8 @@ impl<'a, B: BoardForms, S: CellStore<GameFacts<B>>> Work<'a, B, S> {
         ensures same { IsUnspent (work_state S.state self.old) (work_state S.state self.new) }
         ensures spends { Spends 0 (work_state S.state self.old) (work_state S.state self.new) }
     {
-        let page = page_of(alloc, self.store, &mut self.held.memo.book, a)?;
-        Ok(*self.held.memo.book.pages.profile(page))
+        let index = self.index(alloc, a)?;
+        Ok(*self.profile_at(index))
     }
 
     /// Makes the item of the canonical form of the game with these options, with a cost of `extra` more.

@@ -1,12 +1,8 @@
-use Rattle.cg_canon.proofs.Valuing.{searched}
+use Rattle.std.proofs.Common.{subst}
+use Rattle.cg_form.specs.Game.{Game}
+use Rattle.cg_book.specs.Profiles.{IsProfile}
 use Rattle.cg_canon.proofs.work.Work.profile_of.Goals as goal
 
-pub invariant_of-self : goal.invariant_of-self
-invariant_of-self g c =
-    searched (g.S.CellStore.state c.self.inside.store.now) (g.S.CellStore.state c.page_of.new.store) c.self.inside.meter.spent c.self.inside.meter.share c.self.inside.start
-    c.self.inside.held c.page_of.new.book c.self.invariant c.page_of.ensures.spends c.page_of.ensures.holds
-
-pub invariant_of-self-2 : goal.invariant_of-self-2
-invariant_of-self-2 g c =
-    searched (g.S.CellStore.state c.self.inside.store.now) (g.S.CellStore.state c.page_of.new.store) c.self.inside.meter.spent c.self.inside.meter.share c.self.inside.start
-    c.self.inside.held c.page_of.new.book c.self.invariant c.page_of.ensures.spends c.page_of.ensures.holds
+pub returns-clause-profile : goal.returns-clause-profile
+returns-clause-profile g c =
+    let P : Game → Type 0 = λ z. IsProfile z c.profile_at.result.now in subst P c.in_ok-index.ensures.index.is c.profile_at.ensures
