@@ -4,7 +4,6 @@ ghost use Rattle.cg_form.specs.Canonical.{Canonical};
 ghost use Rattle.cg_form.specs.Game.{node};
 ghost use Rattle.cg_nodes.specs.Can.{can};
 ghost use Rattle.cg_nodes.specs.Games.{AreGames, games_at};
-ghost use Rattle.cg_book.specs.Terms.{NoneComparableByTerm};
 ghost use Rattle.cg_canon.specs.Made.{FormGiven};
 ghost use Rattle.cg_canon.specs.Ways.{IsWay};
 ghost use Rattle.cg_canon.specs.Works.{work_state};
@@ -14,7 +13,6 @@ use crate::fault::ValueFault;
 use crate::item::item_of;
 use crate::value::Way;
 use crate::work::Work;
-use cg_book::FirstTerm;
 use cg_cells::CellStore;
 use cg_nodes::{BoardForms, GameFacts, Handle};
 use std::alloc::Global;
@@ -81,28 +79,6 @@ pub fn canonical<B: BoardForms, S: CellStore<GameFacts<B>>>(
         search,
         extra,
     )
-}
-
-/// Makes the item of the canonical form of the game with these Left and Right options, as [`canonical`] does, where the options
-/// are those of a sum: on each side, first those that come from one term, and then those that come from the other. No two
-/// options that come from the same term may be comparable.
-pub fn canonical_of_terms<B: BoardForms, S: CellStore<GameFacts<B>>>(
-    alloc: Global,
-    work: &mut Work<B, S>,
-    lefts: &[Handle],
-    rights: &[Handle],
-    first_term: FirstTerm,
-    extra: u64,
-) -> Result<Handle, ValueFault>
-    requires extra { extra ≤ 8 }
-    requires lefts { AreGames (work_state S.state work.old) lefts.now }
-    requires rights { AreGames (work_state S.state work.old) rights.now }
-    requires lefts_apart { NoneComparableByTerm first_term.lefts (games_at (work_state S.state work.old) lefts.now) }
-    requires rights_apart { NoneComparableByTerm first_term.rights (games_at (work_state S.state work.old) rights.now) }
-    ensures { let W = work_state S.state work.old in FormGiven W (work_state S.state work.new)
-        (can (node (games_at W lefts.now) (games_at W rights.now))) extra result }
-{
-    work.make_value(alloc, lefts, rights, Way::Search(Some(first_term)), extra)
 }
 
 /// Makes the item of a game that is canonical as it is given, with a cost of `extra` more, where `extra` is at most 8. It

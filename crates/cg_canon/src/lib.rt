@@ -43,7 +43,7 @@ pub use again::{charge_again, keep_sum, sum_again};
 pub use cg_book::{FirstTerm, Profile, Read};
 pub use equality::equal;
 pub use fault::ValueFault;
-pub use forms::{canonical, canonical_item, canonical_of_terms};
+pub use forms::{canonical, canonical_item};
 pub use held::Held;
 pub use item::{item_of, number_item};
 pub use number_up_star::zero;
