@@ -1,10 +1,9 @@
 -- Lists of games of which no two are comparable: the options of a canonical form, and their sums and negatives.
-use Rattle.std.proofs.Common.{◌≡◌, ◌⊎◌, refl, ℕ, zero, suc, ◌<◌, arith, inl, inr, ap, sym, ◌∙◌, subst, List, [], ◌∷◌, ◌++◌, get_or, length, map}
+use Rattle.std.proofs.Common.{◌≡◌, ◌⊎◌, refl, ℕ, zero, suc, ◌<◌, arith, inl, inr, sym, ◌∙◌, subst, List, [], ◌∷◌, ◌++◌, get_or, length, map}
 use Rattle.std.proofs.lemmas.Bool.{cases_lt}
 use Rattle.std.proofs.lemmas.List.{get_or-map, length-map}
 use Rattle.std.proofs.Math.Seq.{drop-append_seam, take-append_seam}
 use Rattle.cg_book.specs.Terms.{NoneComparable, NoneComparableByTerm}
-use Rattle.cg_cells.specs.Store.{State}
 use Rattle.cg_form.specs.Canonical.{Canonical}
 use Rattle.cg_form.specs.Game.{Among, Game, number, options, to_list}
 use Rattle.cg_form.specs.Order.{Le}
@@ -17,10 +16,7 @@ use Rattle.cg_form.proofs.Preorder.{le_trans}
 use Rattle.cg_form.proofs.Structure.{before_not_same}
 use Rattle.cg_form.proofs.SumLaws.{le-sum_second}
 use Rattle.cg_form.proofs.SumOrder.{le-sum}
-use Rattle.cg_nodes.proofs.Members.{length_games}
 use Rattle.cg_nodes.specs.CanForms.{can-equal}
-use Rattle.cg_nodes.specs.Games.{StandFor, games_at}
-use Rattle.cg_nodes.specs.Meant.{Meant}
 use Rattle.cg_sum.specs.Written.{written_lefts, written_rights}
 use Rattle.cg_sum.proofs.Sums.{option_forms}
 
@@ -119,26 +115,21 @@ apart_by_seam xs ys h k =
     let P : List Game → Type 0 = λ z. NoneComparable z in
     record { first = subst P (sym (take-append_seam xs ys)) h; second = subst P (sym (drop-append_seam xs ys)) k }
 
--- the handles ps are those of the options of g
-pub sum_apart : {R : Type 0} (s : State Meant R) (g h : Game) (gs hs : List Game) (all ps : List ℕ) (n : ℕ)
-    → StandFor s all (option_forms g h gs hs) → StandFor s ps gs → n ≡ length ps → NoneComparable gs → NoneComparable hs
-    → NoneComparableByTerm n (games_at s all)
-sum_apart s g h gs hs all ps n stand own e none others =
+-- the sums of the options of g and h, on one side
+pub sum_apart : (g h : Game) (gs hs : List Game) (n : ℕ) → n ≡ length gs → NoneComparable gs → NoneComparable hs
+    → NoneComparableByTerm n (option_forms g h gs hs)
+sum_apart g h gs hs n e none others =
     let firsts = map (λ a. can (sum a h)) gs in
-    let P : List Game → Type 0 = λ z. NoneComparableByTerm n z in
-    let Q : ℕ → Type 0 = λ z. NoneComparableByTerm z (firsts ++ map (λ c. can (sum g c)) hs) in
-    let count : length firsts ≡ n =
-    length-map gs (λ a. can (sum a h)) ∙ ap length (sym own.1) ∙ length_games s ps ∙ sym e in
-    subst P (sym stand.1)
-    (subst Q count (apart_by_seam firsts (map (λ c. can (sum g c)) hs) (firsts_apart h gs none) (seconds_apart g hs others)))
+    let seconds = map (λ c. can (sum g c)) hs in
+    let P : ℕ → Type 0 = λ z. NoneComparableByTerm z (firsts ++ seconds) in
+    subst P (length-map gs (λ a. can (sum a h)) ∙ sym e)
+    (apart_by_seam firsts seconds (firsts_apart h gs none) (seconds_apart g hs others))
 
-pub negative_apart : {R : Type 0} (s : State Meant R) (gs : List Game) (all ps : List ℕ) (n : ℕ)
-    → StandFor s all (map (λ a. can (negative a)) gs) → StandFor s ps gs → n ≡ length ps → NoneComparable gs
-    → NoneComparableByTerm n (games_at s all)
-negative_apart s gs all ps n stand own e none =
+pub negative_apart : (gs : List Game) (n : ℕ) → n ≡ length gs → NoneComparable gs
+    → NoneComparableByTerm n (map (λ a. can (negative a)) gs)
+negative_apart gs n e none =
     let made = map (λ a. can (negative a)) gs in
-    let P : List Game → Type 0 = λ z. NoneComparableByTerm n z in
-    let Q : ℕ → Type 0 = λ z. NoneComparableByTerm z (made ++ []) in
-    let count : length made ≡ n =
-    length-map gs (λ a. can (negative a)) ∙ ap length (sym own.1) ∙ length_games s ps ∙ sym e in
-    subst P (append_nil made ∙ sym stand.1) (subst Q count (apart_by_seam made [] (negatives_apart gs none) none_of_none))
+    let P : ℕ → Type 0 = λ z. NoneComparableByTerm z (made ++ []) in
+    let Q : List Game → Type 0 = λ z. NoneComparableByTerm n z in
+    subst Q (append_nil made) (subst P (length-map gs (λ a. can (negative a)) ∙ sym e)
+    (apart_by_seam made [] (negatives_apart gs none) none_of_none))

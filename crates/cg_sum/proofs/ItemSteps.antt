@@ -1,14 +1,17 @@
--- The item of a sum, as it is made, found or counted.
-use Rattle.std.proofs.Common.{◌≡◌, ℕ, ◌+◌, ◌≤◌, arith, refl, ap, sym, ◌∙◌, subst, [], ◌∷◌, Option, Some, None, IsSome, Result, Ok, Err}
-use Rattle.std.specs.Prelude.{IfErr, IfOk, OnOk}
+-- The item of a sum, as it is found, made or noted.
+use Rattle.std.proofs.Common.{◌≡◌, ℕ, ◌+◌, ◌≤◌, arith, refl, ap, sym, ◌∙◌, subst, List, [], ◌∷◌, Option, Some, None, IsSome, Result, Ok, Err}
 use Rattle.std.specs.Result.{result_ok}
-use Rattle.cg_canon.proofs.MadeSteps.{made_as, read_then, then_read}
-use Rattle.cg_canon.specs.Items.{AllPass, WasRefused, made}
-use Rattle.cg_canon.specs.Made.{Gives, ItemsMade}
-use Rattle.cg_canon.specs.NumberItems.{IsForm, number_made}
+use Rattle.cg_canon.proofs.Booking.{begins_then}
+use Rattle.cg_canon.proofs.MadeSteps.{read_then, then_read}
+use Rattle.cg_canon.specs.Arena.{Begins, IsAt}
+use Rattle.cg_canon.specs.Items.{Item, made, outside}
+use Rattle.cg_canon.specs.ItemsAt.{IsValue, ItemAt}
+use Rattle.cg_canon.specs.Made.{ItemsMade}
+use Rattle.cg_canon.specs.NumberItems.{number_made}
 use Rattle.cg_canon.specs.SumItems.{sum_item}
 use Rattle.cg_canon.specs.declared.fault.ValueFault.{ValueFault}
 use Rattle.cg_canon.specs.declared.rest.WorkRest.{WorkRest}
+use Rattle.cg_canon.specs.Notes.{IsNoteOf}
 use Rattle.cg_cells.specs.Meaning.{Grows, Meaning, note_for}
 use Rattle.cg_cells.specs.Store.{Known, Spends, State, thing_at}
 use Rattle.cg_dyadic.specs.Exact.{IsExact, sum_num}
@@ -16,135 +19,116 @@ use Rattle.cg_dyadic.specs.Number.{Number, exp_of}
 use Rattle.cg_dyadic.specs.declared.fault.RangeFault.{RangeFault}
 use Rattle.cg_form.specs.Game.{Game, number}
 use Rattle.cg_form.specs.Sum.{sum}
-use Rattle.cg_nodes.proofs.Later.{stands_later}
 use Rattle.cg_nodes.specs.Can.{can}
-use Rattle.cg_nodes.specs.Games.{IsGame, IsInRange, StandsFor, game_at}
-use Rattle.cg_nodes.specs.Meant.{Meant, form}
-use Rattle.cg_sum.specs.Progress.{IsNoteOf, SumGiven}
+use Rattle.cg_nodes.specs.Games.{IsInRange}
+use Rattle.cg_nodes.specs.Meant as meant
+use Rattle.cg_nodes.specs.Meant.{Meant}
+use Rattle.cg_sum.specs.Progress.{FormMade}
 use Rattle.cg_sum.proofs.OutsideItems.{number_charged, refused_number}
 use Rattle.cg_sum.proofs.Sums.{can-sum_numbers}
-use Rattle.cg_sum.proofs.SumSteps.{sums_same}
 
--- ---- a later state
+module _ {R : Type 0} (s t : State Meant (WorkRest R)) (gs hs : List Game) (least : ℕ) where
+  -- an item whose form is the one that is meant
+  pub given_form : least ≤ s.spare → (g form : Game) (n extra : ℕ) (r : Result ℕ ValueFault) → g ≡ form
+      → ItemAt s t gs hs (made g n) g extra r → FormMade s t gs hs least (made form n) form r
+  given_form room g form n extra r e item =
+      let P : Game → Type 0 = λ z. ItemAt s t gs hs (made z n) z extra r in
+      let is = subst P e item in
+      record { at = is.at; begins = is.begins; made = is.made; spare = (let m = is.more in omega (arith, room, m)) }
+
+  -- ---- the sum of two numbers
+
+  outside_made : (g : Game) (r : Result ℕ ValueFault) → ¬ IsInRange g → ItemsMade s t (outside ∷ []) r
+      → ItemsMade s t (made g 1 ∷ []) r
+  outside_made g r out m = record {
+    charged = number_charged r s.rest.share s.rest.spent t.rest.spent (made g 1 ∷ []) m.charged;
+    refused = refused_number r s.rest.share s.rest.spent t.rest.spent g 1 out m.refused;
+    keeps = m.keeps;
+  }
+
+  exact_item : least ≤ s.spare → (a b : Number) (q : Result Number RangeFault) (r : Result ℕ ValueFault)
+      → IsExact (sum_num a b) (exp_of a + exp_of b) q
+      → ((form : Game) → IsValue (result_ok q) form → ItemAt s t gs hs (number_made (result_ok q) 1) form 1 r)
+      → FormMade s t gs hs least (sum_item (number a) (number b)) (can (sum (number a) (number b))) r
+  exact_item room a b (Ok z) r e all = given_form room (number z) _ 1 1 r (sym (can-sum_numbers a b z e.0)) (all (number z) refl)
+  exact_item room a b (Err x) r e all =
+      let form : Game = can (sum (number a) (number b)) in
+      let item = all form tt in
+      let (z, is, holds, out) = e in
+      let P : Game → Type 0 = λ g. ¬ IsInRange g in record {
+        at = item.at;
+        begins = item.begins;
+        made = outside_made form r (subst P (sym (can-sum_numbers a b z is)) out) item.made;
+        spare = (let m = item.more in omega (arith, room, m));
+      }
+
+  pub number_item : least ≤ s.spare → (g h : Game) (a b : Number) → g ≡ number a → h ≡ number b → (q : Result Number RangeFault)
+      (o : Option Number) (r : Result ℕ ValueFault) → o ≡ result_ok q → IsExact (sum_num a b) (exp_of a + exp_of b) q
+      → ((form : Game) → IsValue o form → ItemAt s t gs hs (number_made o 1) form 1 r)
+      → FormMade s t gs hs least (sum_item g h) (can (sum g h)) r
+  number_item room g h a b isg ish q o r e exact all =
+      let P : Option Number → Type 0 = λ z. (form : Game) → IsValue z form → ItemAt s t gs hs (number_made z 1) form 1 r in
+      let Q : Game → Type 0 = λ z. FormMade s t gs hs least (sum_item z h) (can (sum z h)) r in
+      let V : Game → Type 0 = λ z. FormMade s t gs hs least (sum_item (number a) z) (can (sum (number a) z)) r in
+      subst Q (sym isg) (subst V (sym ish) (exact_item room a b q r exact (subst P e all)))
+
+-- ---- before and after
+
+module _ {R : Type 0} (w v x : State Meant (WorkRest R)) (fs gs hs : List Game) (least : ℕ) (item : Item) (form : Game) where
+  -- an item after a claim
+  pub form_after : (r : Result ℕ ValueFault) (n : ℕ) → Spends n w v → Begins fs gs → (more : ℕ) → least ≤ more → FormMade v x gs hs more item form r
+      → FormMade w x fs hs least item form r
+  form_after r n wv b more l given = record {
+    at = given.at;
+    begins = begins_then fs gs hs b given.begins;
+    made = read_then n w v x (item ∷ []) r wv given.made;
+    spare = (let m = given.spare in omega (arith, l, m));
+  }
+
+  -- and one that is noted
+  pub form_noted : (i : ℕ) → FormMade w v fs gs least item form (Ok i) → Spends 0 v x → hs ≡ gs → FormMade w x fs hs least item form (Ok i)
+  form_noted i given vx same =
+      let P : List Game → Type 0 = λ z. IsAt z i form in
+      let Q : List Game → Type 0 = λ z. Begins fs z in record {
+        at = subst P (sym same) given.at;
+        begins = subst Q (sym same) given.begins;
+        made = then_read 0 w v x (item ∷ []) (Ok i) given.made vx;
+        spare = (let m = given.spare in let l = vx.spare in omega (arith, m, l));
+      }
+
+pub form_as : {R : Type 0} (w x : State Meant (WorkRest R)) (fs hs : List Game) (least : ℕ) (item : Item) (form : Game)
+    (r q : Result ℕ ValueFault) → q ≡ r → FormMade w x fs hs least item form r → FormMade w x fs hs least item form q
+form_as w x fs hs least item form r q e given =
+    let P : Result ℕ ValueFault → Type 0 = λ z. FormMade w x fs hs least item form z in subst P (sym e) given
+
+-- with less to spare
+pub form_least : {R : Type 0} (w x : State Meant (WorkRest R)) (fs hs : List Game) (least more : ℕ) (item : Item) (form : Game)
+    (r : Result ℕ ValueFault) → least ≤ more → FormMade w x fs hs more item form r → FormMade w x fs hs least item form r
+form_least w x fs hs least more item form r l given =
+    record { at = given.at; begins = given.begins; made = given.made; spare = (let m = given.spare in omega (arith, l, m)) }
+
+-- ---- the note on a cell, later
 
 some_thing : (o : Option Meant) → IsSome o → (x : Meant) × (o ≡ Some x)
 some_thing None k = absurd cc
 some_thing (Some x) k = (x, refl)
 
 -- what a note on a cell must spell stays so
-pub note_later : {R Q : Type 0} (m : Meaning Meant) (s : State Meant R) (t : State Meant Q) → Grows (thing_at s) (thing_at t)
+note_later : {R Q : Type 0} (m : Meaning Meant) (s : State Meant R) (t : State Meant Q) → Grows (thing_at s) (thing_at t)
     → (id : ℕ) (x : Option Meant) → Known s id → note_for m (thing_at s id) ≡ x → note_for m (thing_at t id) ≡ x
 note_later m s t grows id x known e =
     let (y, is) = some_thing (thing_at s id) known in
     ap (note_for m) (grows id y is ∙ sym is) ∙ e
 
-pub known_later : {R Q : Type 0} (s : State Meant R) (t : State Meant Q) → Grows (thing_at s) (thing_at t)
+known_later : {R Q : Type 0} (s : State Meant R) (t : State Meant Q) → Grows (thing_at s) (thing_at t)
     → (id : ℕ) → Known s id → Known t id
 known_later s t grows id known =
     let (y, is) = some_thing (thing_at s id) known in
     let P : Option Meant → Type 0 = λ z. IsSome z in
     subst P (sym (grows id y is)) refl
 
-pub stands_known : {R : Type 0} (s : State Meant R) (h : ℕ) (g : Game) → StandsFor s h g → Known s h
-stands_known s h g e = let P : Option Meant → Type 0 = λ z. IsSome z in subst P (sym e) refl
-
--- ---- the sum of two numbers
-
-module _ (a b : Number) where
-  exact_game : {R : Type 0} (s : State Meant R) (q : Result Number RangeFault) (r : Result ℕ ValueFault)
-      → IsExact (sum_num a b) (exp_of a + exp_of b) q → IfOk r (λ h. IsForm (result_ok q) (StandsFor s h))
-      → IfOk r (λ h. StandsFor s h (can (sum (number a) (number b))))
-  exact_game s (Ok z) r e p =
-      let P : Game → Type 0 = λ g. IfOk r (λ h. StandsFor s h g) in subst P (sym (can-sum_numbers a b z e.0)) p
-  exact_game s (Err t) (Ok h) e p = absurd p
-  exact_game s (Err t) (Err y) e p = tt
-
-  module _ (share before after : ℕ) where
-    exact_charged : (q : Result Number RangeFault) (r : Result ℕ ValueFault)
-        → IsExact (sum_num a b) (exp_of a + exp_of b) q
-        → OnOk r (AllPass share before (number_made (result_ok q) 1 ∷ []) after)
-        → OnOk r (AllPass share before (sum_item (number a) (number b) ∷ []) after)
-    exact_charged (Ok z) r e p =
-        let P : Game → Type 0 = λ g. OnOk r (AllPass share before (made g 1 ∷ []) after) in
-        subst P (sym (can-sum_numbers a b z e.0)) p
-    exact_charged (Err t) r e p = number_charged r share before after (sum_item (number a) (number b) ∷ []) p
-
-    exact_refused : (q : Result Number RangeFault) (r : Result ℕ ValueFault)
-        → IsExact (sum_num a b) (exp_of a + exp_of b) q
-        → IfErr r (λ fault. WasRefused fault share before (number_made (result_ok q) 1 ∷ []) after)
-        → IfErr r (λ fault. WasRefused fault share before (sum_item (number a) (number b) ∷ []) after)
-    exact_refused (Ok z) r e p =
-        let P : Game → Type 0 = λ g. IfErr r (λ fault. WasRefused fault share before (made g 1 ∷ []) after) in
-        subst P (sym (can-sum_numbers a b z e.0)) p
-    exact_refused (Err t) r e p =
-        let (z, is, holds, outside) = e in
-        let P : Game → Type 0 = λ g. ¬ IsInRange g in
-        refused_number r share before after (can (sum (number a) (number b))) 1
-        (subst P (sym (can-sum_numbers a b z is)) outside) p
-
-module _ {R : Type 0} (w x : State Meant (WorkRest R)) (f k : ℕ) (a b : Number) (o : Option Number)
-    (q : Result Number RangeFault) (r : Result ℕ ValueFault) (isf : game_at w f ≡ number a)
-    (isk : game_at w k ≡ number b) (is : o ≡ result_ok q) (exact : IsExact (sum_num a b) (exp_of a + exp_of b) q) where
-  both_numbers : sum (number a) (number b) ≡ sum (game_at w f) (game_at w k)
-  both_numbers = ap (λ z. sum z (number b)) (sym isf) ∙ ap (λ z. sum (game_at w f) z) (sym isk)
-
-  pub number_given : (least : ℕ) → IfOk r (λ h. IsForm o (StandsFor x h)) → ItemsMade w x (number_made o 1 ∷ []) r → least ≤ w.spare
-      → w.spare ≤ x.spare → SumGiven w x least f k r
-  number_given least p m room more =
-      let P : Option Number → Type 0 = λ z. IfOk r (λ h. IsForm z (StandsFor x h)) in
-      let Q : Game → Type 0 = λ z. IfOk r (λ h. StandsFor x h (can z)) in
-      let V : Option Number → Type 0 = λ z. OnOk r (AllPass w.rest.share w.rest.spent (number_made z 1 ∷ []) x.rest.spent) in
-      let W : Option Number → Type 0 =
-      λ z. IfErr r (λ fault. WasRefused fault w.rest.share w.rest.spent (number_made z 1 ∷ []) x.rest.spent) in
-      record {
-        game = subst Q both_numbers (exact_game a b x q r exact (subst P is p));
-        made = made_as w x (sum_item (number a) (number b) ∷ []) (sum_item (game_at w f) (game_at w k) ∷ []) r
-            (ap (λ z. made (can z) 1 ∷ []) both_numbers) (record {
-              charged = exact_charged a b w.rest.share w.rest.spent x.rest.spent q r exact (subst V is m.charged);
-              refused = exact_refused a b w.rest.share w.rest.spent x.rest.spent q r exact (subst W is m.refused);
-              keeps = m.keeps;
-            });
-        spare = omega (arith, room, more);
-      }
-
--- ---- a sum that was found or made
-
--- a form that is that of the sum was given, after no more than the claim of a cell
-pub given_sum : {R : Type 0} (w u x : State Meant (WorkRest R)) (n : ℕ) → Spends n w u → (f k least : ℕ) → least + n ≤ w.spare
-    → (g : Game) (r : Result ℕ ValueFault) → g ≡ can (sum (game_at w f) (game_at w k)) → Gives u x (made g 1 ∷ []) g r
-    → SumGiven w x least f k r
-given_sum w u x n wu f k least room g r e given =
-    let P : Game → Type 0 = λ z. Gives u x (made z 1 ∷ []) z r in
-    let is = subst P e given in
-    record { game = is.game; made = read_then n w u x _ r wu is.made; spare = omega (arith, room, wu.spare, is.more) }
-
--- the sum was made after such a claim
-pub later_sum : {R : Type 0} (w u x : State Meant (WorkRest R)) (n : ℕ) → Spends n w u → (f k least : ℕ) → least + n ≤ w.spare
-    → IsGame w f → IsGame w k → (r : Result ℕ ValueFault) → SumGiven u x u.spare f k r → SumGiven w x least f k r
-later_sum w u x n wu f k least room gf gk r given =
-    given_sum w u x n wu f k least room _ r (ap can (sums_same w u wu.known f k gf gk))
-    (record { game = given.game; made = given.made; more = given.spare })
-
-pub sum_as : {R : Type 0} (w x : State Meant (WorkRest R)) (f k least : ℕ) (r q : Result ℕ ValueFault) → q ≡ r
-    → SumGiven w x least f k r → SumGiven w x least f k q
-sum_as w x f k least r q e given = let P : Result ℕ ValueFault → Type 0 = λ z. SumGiven w x least f k z in subst P (sym e) given
-
--- and then noted
-pub noted_sum : {R : Type 0} (w x y : State Meant (WorkRest R)) (f k least h : ℕ) → SumGiven w x least f k (Ok h) → Spends 0 x y
-    → SumGiven w y least f k (Ok h)
-noted_sum w x y f k least h given xy = record {
-  game = stands_later x y xy.known h _ given.game;
-  made = then_read 0 w x y _ _ given.made xy;
-  spare = omega (arith, given.spare, xy.spare);
-}
-
 -- the note of a cell stays so
 pub note_of_later : {R Q : Type 0} (m : Meaning Meant) (s : State Meant R) (t : State Meant Q)
-    → Grows (thing_at s) (thing_at t) → (id : ℕ) (g h : Game) → g ≡ h → IsNoteOf m s id g → IsNoteOf m t id h
-note_of_later m s t grows id g h e n =
-    let P : Game → Type 0 = λ z. IsNoteOf m t id z in
-    subst P e (known_later s t grows id n.0, note_later m s t grows id (Some (form (can g))) n.0 n.1)
-
--- a handle that equals another stands for the same
-pub stands_as : {R : Type 0} (s : State Meant R) (a b : ℕ) (g : Game) → a ≡ b → StandsFor s b g → StandsFor s a g
-stands_as s a b g e h = let P : ℕ → Type 0 = λ z. StandsFor s z g in subst P (sym e) h
+    → Grows (thing_at s) (thing_at t) → (id : ℕ) (g : Game) → IsNoteOf m s id g → IsNoteOf m t id g
+note_of_later m s t grows id g n =
+    (known_later s t grows id n.0, note_later m s t grows id (Some (meant.form (can g))) n.0 n.1)

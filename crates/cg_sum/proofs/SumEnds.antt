@@ -1,37 +1,36 @@
 -- The own list of a sum, whole or too long, and the sum at its end.
-use Rattle.std.proofs.Common.{◌≡◌, ◌⊎◌, inl, inr, ℕ, ◌*◌, ◌≤◌, ◌<◌, arith, ap, sym, ◌∙◌, subst, List, [], ◌∷◌, length, Some, false, Result, Err}
+use Rattle.std.proofs.Common.{◌≡◌, ◌⊎◌, inl, inr, ℕ, zero, suc, ◌+◌, ◌-◌, ◌*◌, ◌≤◌, ◌<◌, arith, ap, sym, ◌∙◌, subst, List, [], ◌∷◌, ◌++◌, get_or, length, false, Result, Err}
 use Rattle.std.specs.Prelude.{IfErr, IfOk, nat_lt, if◌then◌else◌}
 use Rattle.std.proofs.lemmas.Bool.Decides.{nat_tests}
-use Rattle.std.proofs.Math.Nat.{mul-le-mul_left}
+use Rattle.std.proofs.Math.Nat.{mul-le-mul, mul-le-mul_left, suc-mul}
+use Rattle.std.proofs.lemmas.Grind.{get_or_default_zero}
+use Rattle.std.proofs.lemmas.List.{get_or_push, length_push}
+use Rattle.cg_book.specs.Pages.{game_of}
+use Rattle.cg_canon.specs.Arena.{IsAt}
+use Rattle.cg_form.proofs.AllPositions.{among-positions_of, positions-own, positions_of-last}
 use Rattle.cg_canon.proofs.ItemLaws.{refused-one}
 use Rattle.cg_canon.specs.Items.{Item, WasRefused, too_many}
 use Rattle.cg_canon.specs.declared.fault.ValueFault.{ValueFault}
 use Rattle.cg_canon.specs.declared.rest.WorkRest.{WorkRest}
 use Rattle.cg_canon.specs.declared.fault.ValueFault.TheVariants.{Memory, Positions}
-use Rattle.cg_cells.specs.Meaning.{Grows, Has, IsInjective}
-use Rattle.cg_cells.specs.Store.{Spends, State, thing_at}
-use Rattle.cg_form.specs.Game.{Among, Game}
-use Rattle.cg_form.specs.Sum.{sum}
-use Rattle.cg_nodes.proofs.Later.{game_later, spends_then, stand_later, stands_later}
+use Rattle.cg_cells.specs.Store.{Spends, State}
+use Rattle.cg_form.specs.Extended.{extended}
+use Rattle.cg_form.specs.Extended as walks
+use Rattle.cg_form.specs.Game.{Among, Game, node}
+use Rattle.cg_form.specs.Sum.{negative, sum}
+use Rattle.cg_nodes.proofs.Later.{game_later, spends_then}
 use Rattle.cg_nodes.specs.Can.{can}
-use Rattle.cg_nodes.specs.Games.{IsGame, StandFor, StandsFor, game_at, games_at}
-use Rattle.cg_nodes.specs.Meant.{Meant, form}
+use Rattle.cg_nodes.specs.Games.{IsGame, StandsFor, game_at}
+use Rattle.cg_nodes.specs.Meant.{Meant}
 use Rattle.cg_form.specs.Positions.{positions_of}
-use Rattle.cg_sum.specs.Finds.{sum_found}
-use Rattle.cg_sum.specs.Pairs.{found}
 use Rattle.cg_canon.specs.SumItems.{pair_items, sum_items, within_limit}
 use Rattle.cg_canon.specs.Made.{Gives, ItemsMade}
 use Rattle.cg_canon.specs.Works.{Keeps}
-use Rattle.cg_sum.specs.Progress.{ArePositions, ArePositionsOf, HoldsSums, handles_of}
-use Rattle.cg_sum.specs.Written.{IsClosed}
-use Rattle.cg_sum.specs.declared.found.Sums.{Sums}
-use Rattle.cg_sum.specs.declared.position.Position.{Position}
+use Rattle.cg_sum.specs.Lists.{minus_items, negative_items}
+use Rattle.cg_sum.specs.Progress.{HoldsForms, negative_at_place, sum_at_place}
 use Rattle.cg_canon.proofs.MadeSteps.{made_as, read_then, was_refused}
 use Rattle.cg_dyadic.proofs.Truth.{less-nat_lt}
-use Rattle.cg_nodes.proofs.Members.{among_has, length_games}
-use Rattle.cg_sum.proofs.Tables.{none_some}
-use Rattle.cg_sum.proofs.Positions.{positions-closed, positions-own}
-use Rattle.cg_sum.proofs.PositionSteps.{in_turn}
+use Rattle.cg_sum.proofs.Tables.{at_place, sum_placed}
 
 -- ---- within the limit or not
 
@@ -94,7 +93,7 @@ among_some g [] m = absurd m
 among_some g (h ∷ hs) m = omega arith
 
 pub some_position : (g : Game) → 1 ≤ length (positions_of g)
-some_position g = among_some g (positions_of g) (positions-own g)
+some_position g = among_some g (positions_of g) (among-positions_of g g (positions-own g))
 
 more_firsts : (limit m n : ℕ) → 1 ≤ n → limit < m → limit < m * n
 more_firsts limit m n one above =
@@ -118,84 +117,91 @@ seconds_above limit g h fault (inl e) = inl e
 seconds_above limit g h fault (inr (e, above)) =
     inr (e, more_seconds limit (length (positions_of g)) (length (positions_of h)) (some_position g) above)
 
--- so many handles stand for the positions
-count_of : {R : Type 0} (s : State Meant R) (hs : List ℕ) (g : Game) → StandFor s hs (positions_of g)
-    → length hs ≡ length (positions_of g)
-count_of s hs g a = sym (length_games s hs) ∙ ap length a.1
-
--- ---- the table at first
-
-pub holds_none : {R : Type 0} (s : State Meant R) (m : Sums) → m.table ≡ [] → HoldsSums s m
-holds_none s m none = record {
-  first = λ a b h e. absurd (none_some (sum_found m a b) h (ap (λ z. found z a b) none) e);
-  second = λ a b h e. absurd (none_some (sum_found m a b) h (ap (λ z. found z a b) none) e);
-  sums = λ a b h e. absurd (none_some (sum_found m a b) h (ap (λ z. found z a b) none) e);
-}
-
--- ---- both lists of positions, as slices
-
-module _ {R : Type 0} (s : State Meant R) (hs ps : List ℕ) (g : Game) (is : hs ≡ ps) (stand : StandFor s ps (positions_of g)) where
-  pub slice_stands : StandFor s hs (positions_of g)
-  slice_stands = let P : List ℕ → Type 0 = λ z. StandFor s z (positions_of g) in subst P (sym is) stand
-
-  pub slice_closed : IsClosed (games_at s hs)
-  slice_closed = let P : List Game → Type 0 = λ z. IsClosed z in subst P (sym slice_stands.1) (positions-closed g)
-
-  -- a handle of the game is among them, as it is known later
-  pub slice_has : {Q : Type 0} (t : State Meant Q) → Grows (thing_at s) (thing_at t) → IsInjective (thing_at t) → (a : ℕ)
-      → StandsFor t a g → Has hs a
-  slice_has t grows apart a e =
-      let P : List Game → Type 0 = λ z. Among g z in
-      let (p, here, st) = among_has s hs g slice_stands.0 (subst P (sym slice_stands.1) (positions-own g)) in
-      let Q : ℕ → Type 0 = λ z. Has hs z in
-      subst Q (apart p a (form g) (stands_later s t grows p g st) e) here
-
--- the positions of the handles that stand for those of g, as they were read
-pub positions_of_game : {R : Type 0} (s : State Meant R) (ps : List Position) (hs : List ℕ) (h : ℕ) (g : Game)
-    → ArePositions s ps → handles_of ps ≡ hs → StandFor s hs (positions_of g) → IsInjective (thing_at s) → StandsFor s h g
-    → ArePositionsOf s ps h g
-positions_of_game s ps hs h g are is stand apart st = record {
-  positions = are;
-  games = (slice_stands s (handles_of ps) hs g is stand).1;
-  turns = in_turn s ps are (slice_closed s (handles_of ps) hs g is stand) apart;
-  own = slice_has s (handles_of ps) hs g is stand s (λ i x e. e) apart h st;
-}
-
--- and as they are lent
-pub lent_positions : {R : Type 0} (s : State Meant R) (ps qs : List Position) (h : ℕ) (g : Game) → ps ≡ qs
-    → ArePositionsOf s qs h g → ArePositionsOf s ps h g
-lent_positions s ps qs h g e are = let P : List Position → Type 0 = λ z. ArePositionsOf s z h g in subst P (sym e) are
+-- the last position is the game itself
+pub last_position : (g : Game) → game_of (positions_of g) (length (positions_of g) - 1) ≡ g
+last_position g =
+    let front = extended [] (walks.positions_before g) in
+    let e = positions_of-last g in
+    ap (λ z. game_of z (length z - 1)) e
+    ∙ get_or_push front g (node [] []) (length (front ++ (g ∷ [])) - 1) (let n = length_push front g in omega arith)
 
 -- ---- the end
 
-module _ {R : Type 0} (w v x : State Meant (WorkRest R)) (a b : ℕ) (fs ks : List ℕ)
-    (wv : Spends 0 w v)
-    (firsts : games_at v fs ≡ positions_of (game_at w a))
-    (seconds : games_at v ks ≡ positions_of (game_at w b))
-    (within : length (positions_of (game_at w a)) * length (positions_of (game_at w b)) ≤ w.rest.limit) where
-  pair_list : pair_items (games_at v fs) (games_at v ks)
-      ≡ sum_items w.rest.limit (game_at w a) (game_at w b)
-  pair_list =
-      let g : Game = game_at w a in
-      let h : Game = game_at w b in
-      ap (λ z. pair_items z (games_at v ks)) firsts
-      ∙ (ap (λ z. pair_items (positions_of g) z) seconds
-      ∙ sym (all_within w.rest.limit (length (positions_of g) * length (positions_of h)) (pair_items (positions_of g) (positions_of h)) within))
-
+module _ {R : Type 0} (w v x : State Meant (WorkRest R)) (a b : ℕ) (games : List Game × List Game) (wv : Spends 0 w v)
+    (firsts : games.0 ≡ positions_of (game_at w a)) (seconds : games.1 ≡ positions_of (game_at w b)) where
   pub sum_made : {T : Type 0} (r : Result T ValueFault)
-      → ItemsMade v x (pair_items (games_at v fs) (games_at v ks)) r
-      → ItemsMade w x (sum_items w.rest.limit (game_at w a) (game_at w b)) r
-  sum_made r m =
+      → length (positions_of (game_at w a)) * length (positions_of (game_at w b)) ≤ w.rest.limit
+      → ItemsMade v x (pair_items games.0 games.1) r → ItemsMade w x (sum_items w.rest.limit (game_at w a) (game_at w b)) r
+  sum_made r within m =
+      let fs = positions_of (game_at w a) in
+      let ks = positions_of (game_at w b) in
       read_then 0 w v x (sum_items w.rest.limit (game_at w a) (game_at w b)) r wv
-      (made_as v x (pair_items (games_at v fs) (games_at v ks))
-      (sum_items w.rest.limit (game_at w a) (game_at w b)) r pair_list m)
+      (made_as v x (pair_items games.0 games.1) (sum_items w.rest.limit (game_at w a) (game_at w b)) r
+      (ap (λ z. pair_items z games.1) firsts ∙ ap (pair_items fs) seconds
+      ∙ sym (all_within w.rest.limit (length fs * length ks) (pair_items fs ks) within)) m)
 
-pub sum_stands : {R Q : Type 0} (s : State Meant R) (t : State Meant Q) → Grows (thing_at s) (thing_at t) → (m : Sums) → HoldsSums t m
-    → (a b h : ℕ) → IsGame s a → IsGame s b → sum_found m a b ≡ Some h → StandsFor t h (can (sum (game_at s a) (game_at s b)))
-sum_stands s t grows m holds a b h ga gb e =
-    let P : Game → Type 0 = λ z. StandsFor t h (can (sum z (game_at t b))) in
-    let Q : Game → Type 0 = λ z. StandsFor t h (can (sum (game_at s a) z)) in
-    subst Q (game_later s t grows b gb) (subst P (game_later s t grows a ga) (holds.sums a b h e))
+  some_first : 1 ≤ length games.0
+  some_first = let P : List Game → Type 0 = λ z. 1 ≤ length z in subst P (sym firsts) (some_position (game_at w a))
+
+  some_second : 1 ≤ length games.1
+  some_second = let P : List Game → Type 0 = λ z. 1 ≤ length z in subst P (sym seconds) (some_position (game_at w b))
+
+  last_place : length games.0 * length games.1 - 1 ≡ (length games.0 - 1) * length games.1 + (length games.1 - 1)
+  last_place = below (length games.0) (length games.1) some_first some_second
+    where
+      below : (m n : ℕ) → 1 ≤ m → 1 ≤ n → m * n - 1 ≡ (m - 1) * n + (n - 1)
+      below zero n h l = absurd (omega (arith, h))
+      below (suc m) n h l =
+          let p = suc-mul m n in
+          (let e : suc m * n - 1 ≡ m * n + (n - 1) = omega (arith, l, p) in e)
+          ∙ ap (λ z. z * n + (n - 1)) (let k : m ≡ suc m - 1 = omega arith in k)
+
+  -- the last place of the table is that of the sum of both games
+  pub last_sum : sum_at_place games (length games.0 * length games.1 - 1) ≡ can (sum (game_at w a) (game_at w b))
+  last_sum =
+      let m = length games.0 - 1 in
+      let n = length games.1 - 1 in
+      let l = some_second in
+      ap (sum_at_place games) last_place ∙ sum_placed games m n (omega (arith, l))
+      ∙ ap (λ z. can (sum (game_of z (length z - 1)) (game_of games.1 n))) firsts
+      ∙ ap (λ z. can (sum (game_of (positions_of (game_at w a)) (length (positions_of (game_at w a)) - 1)) (game_of z (length z - 1)))) seconds
+      ∙ ap (λ z. can (sum z (game_of (positions_of (game_at w b)) (length (positions_of (game_at w b)) - 1)))) (last_position (game_at w a))
+      ∙ ap (λ z. can (sum (game_at w a) z)) (last_position (game_at w b))
+
+  pub some_sum : 1 ≤ length games.0 * length games.1
+  some_sum = mul-le-mul some_first some_second
+
+-- the index that was read last stands for the form of the last place
+pub last_at : (gs : List Game) (form : ℕ → Game) (n : ℕ) (table : List ℕ) → HoldsForms gs form n table → 1 ≤ n → (g : Game)
+    → form (n - 1) ≡ g → (k i : ℕ) → k + 1 ≡ length table → i ≡ get_or table k i → IsAt gs i g
+last_at gs form n table h some g e k i last read =
+    let c = h.count in
+    let P : ℕ → Type 0 = λ z. IsAt gs z g in
+    subst P (sym (read ∙ get_or_default_zero table k i (omega (arith, last))))
+    (at_place gs form n table h (n - 1) k g (omega (arith, c, last, some)) (omega (arith, some)) e)
+
+pub stands_as : {R : Type 0} (s : State Meant R) (h : ℕ) (g k : Game) → g ≡ k → StandsFor s h g → StandsFor s h k
+stands_as s h g k e st = let P : Game → Type 0 = λ z. StandsFor s h z in subst P e st
+
+-- ---- the end of a negative
+
+module _ {R : Type 0} (w v x : State Meant (WorkRest R)) (a : ℕ) (games : List Game) (wv : Spends 0 w v)
+    (is : games ≡ positions_of (game_at w a)) where
+  pub negative_made : {T : Type 0} (r : Result T ValueFault) → length (positions_of (game_at w a)) ≤ w.rest.limit
+      → ItemsMade v x (minus_items games) r → ItemsMade w x (negative_items w.rest.limit (game_at w a)) r
+  negative_made r within m =
+      let fs = positions_of (game_at w a) in
+      read_then 0 w v x (negative_items w.rest.limit (game_at w a)) r wv
+      (made_as v x (minus_items games) (negative_items w.rest.limit (game_at w a)) r
+      (ap minus_items is ∙ sym (all_within w.rest.limit (length fs) (minus_items fs) within)) m)
+
+  pub some_negative : 1 ≤ length games
+  some_negative = let P : List Game → Type 0 = λ z. 1 ≤ length z in subst P (sym is) (some_position (game_at w a))
+
+  -- the last place of the table is that of the negative of the game
+  pub last_negative : negative_at_place games (length games - 1) ≡ can (negative (game_at w a))
+  last_negative =
+      ap (λ z. can (negative (game_of z (length z - 1)))) is ∙ ap (λ z. can (negative z)) (last_position (game_at w a))
 
 -- ---- the product of the two lengths
 
@@ -223,10 +229,6 @@ module _ {R : Type 0} (w v : State Meant (WorkRest R)) (n : ℕ) (wv : Spends n 
       → positions_of (game_at v b) ≡ positions_of (game_at w b)
   positions_before b g = ap positions_of (game_later w v wv.known b g)
 
-  stands_before : {Q : Type 0} (t : State Meant Q) (b : ℕ) (hs : List ℕ) → IsGame w b
-      → StandFor t hs (positions_of (game_at v b)) → StandFor t hs (positions_of (game_at w b))
-  stands_before t b hs g a = let P : List Game → Type 0 = λ z. StandFor t hs z in subst P (positions_before b g) a
-
   pub refusal_before : (b : ℕ) (fault : ValueFault) → IsGame w b
       → (fault ≡ Memory) ⊎ ((fault ≡ Positions) × (v.rest.limit < length (positions_of (game_at v b))))
       → (fault ≡ Memory) ⊎ ((fault ≡ Positions) × (w.rest.limit < length (positions_of (game_at w b))))
@@ -236,34 +238,21 @@ module _ {R : Type 0} (w v : State Meant (WorkRest R)) (n : ℕ) (wv : Spends n 
       let Q : List Game → Type 0 = λ z. w.rest.limit < length z in
       inr (e, subst Q (positions_before b g) (subst P same_limit above))
 
--- ---- both lists were read
+-- ---- both games were walked
 
-module _ {R : Type 0} (w v x : State Meant (WorkRest R)) (a b : ℕ) (fs ks : List ℕ) (gb : IsGame w b) (wv : Spends 0 w v)
-    (vx : Spends 0 v x) (firsts : StandFor v fs (positions_of (game_at w a)))
-    (seconds : StandFor x ks (positions_of (game_at v b))) where
-  pub firsts_stay : StandFor x fs (positions_of (game_at w a))
-  firsts_stay = stand_later v x vx.known fs (positions_of (game_at w a)) firsts
+module _ {R : Type 0} (w v x : State Meant (WorkRest R)) (a b : ℕ) (gb : IsGame w b) (wv : Spends 0 w v) (vx : Spends 0 v x)
+    (m n l : ℕ) (first : m ≡ length (positions_of (game_at w a))) (second : n ≡ length (positions_of (game_at v b)))
+    (limit : l ≡ x.rest.limit) where
+  second_before : n ≡ length (positions_of (game_at w b))
+  second_before = second ∙ ap length (positions_before w v 0 wv b gb)
 
-  pub seconds_stay : StandFor x ks (positions_of (game_at w b))
-  seconds_stay = stands_before w v 0 wv x b ks gb seconds
+  own_limit : l ≡ w.rest.limit
+  own_limit = limit ∙ same_limit w x 0 (spends_then 0 0 w v x wv vx)
 
-  -- how many pairs there are, by the lengths of both and the limit
-  module _ (m n l : ℕ) (first : m ≡ length fs) (second : n ≡ length ks) (limit : l ≡ x.rest.limit) where
-    count_firsts : m ≡ length (positions_of (game_at w a))
-    count_firsts = first ∙ count_of x fs (game_at w a) firsts_stay
+  pub pairs_above : l < m * n → w.rest.limit < length (positions_of (game_at w a)) * length (positions_of (game_at w b))
+  pairs_above = product_above m n (length (positions_of (game_at w a))) (length (positions_of (game_at w b))) l w.rest.limit
+      first second_before own_limit
 
-    count_seconds : n ≡ length (positions_of (game_at w b))
-    count_seconds = second ∙ count_of x ks (game_at w b) seconds_stay
-
-    own_limit : l ≡ w.rest.limit
-    own_limit = limit ∙ same_limit w x 0 (spends_then 0 0 w v x wv vx)
-
-    pub pairs_above : l < m * n
-        → w.rest.limit < length (positions_of (game_at w a)) * length (positions_of (game_at w b))
-    pairs_above = product_above m n (length (positions_of (game_at w a))) (length (positions_of (game_at w b))) l w.rest.limit
-        count_firsts count_seconds own_limit
-
-    pub pairs_within : ¬ (l < m * n)
-        → length (positions_of (game_at w a)) * length (positions_of (game_at w b)) ≤ w.rest.limit
-    pairs_within = product_within m n (length (positions_of (game_at w a))) (length (positions_of (game_at w b))) l w.rest.limit
-        count_firsts count_seconds own_limit
+  pub pairs_within : ¬ (l < m * n) → length (positions_of (game_at w a)) * length (positions_of (game_at w b)) ≤ w.rest.limit
+  pairs_within = product_within m n (length (positions_of (game_at w a))) (length (positions_of (game_at w b))) l w.rest.limit
+      first second_before own_limit

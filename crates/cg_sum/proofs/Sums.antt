@@ -1,5 +1,7 @@
 -- Canonical forms of sums, negatives and multiples, from those of the options.
 use Rattle.std.proofs.Common.{◌≡◌, ◌⊎◌, inl, inr, refl, ap, sym, ◌∙◌, ℕ, suc, pos, subst, List, [], ◌∷◌, ◌++◌, map}
+use Rattle.std.proofs.lemmas.List.{map-append}
+use Rattle.std.proofs.lemmas.Simd.{map-map}
 use Rattle.cg_dyadic.specs.Exact.{IsNegative, IsSum}
 use Rattle.cg_dyadic.specs.Number.{Number, whole}
 use Rattle.cg_dyadic.proofs.Sums.{negative-cancels}
@@ -27,14 +29,6 @@ use Rattle.cg_nodes.proofs.Forms.{can-node, can-same}
 use Rattle.cg_canon.proofs.Translated.{node_shifted}
 
 -- ---- lists
-
-map-map : (f k : Game → Game) (gs : List Game) → map f (map k gs) ≡ map (λ a. f (k a)) gs
-map-map f k [] = refl
-map-map f k (g ∷ gs) = ap (λ z. f (k g) ∷ z) (map-map f k gs)
-
-map-append : (f : Game → Game) (gs hs : List Game) → map f (gs ++ hs) ≡ map f gs ++ map f hs
-map-append f [] hs = refl
-map-append f (g ∷ gs) hs = ap (λ z. f g ∷ z) (map-append f gs hs)
 
 -- the forms of the options of a sum, on one side
 forms_of-map : (g h : Game) (gs hs : List Game)
@@ -181,3 +175,14 @@ sum_written-canonical (options ls rs) (number y) c d n e =
     subst P (sym (ap (λ z. node z (option_forms (options ls rs) (number y) (to_list rs) [])) (commuted y (to_list ls))
     ∙ (ap (λ z. node (map (λ a. can (sum (number y) a)) (to_list ls)) z) (commuted y (to_list rs))
     ∙ node_shifted y ls rs c))) (canonical-shifted y (options ls rs) c)
+
+-- the form of a negative is that of the forms of the negatives of the written options, where the game is no number
+pub can-negative_written : (g : Game) → IsNode g
+    → can (node (map (λ b. can (negative b)) (written_rights g)) (map (λ a. can (negative a)) (written_lefts g))) ≡ can (negative g)
+can-negative_written (number x) n = absurd n
+can-negative_written (options ls rs) n = can-negative (options ls rs)
+
+-- 0 and a game make that game
+pub can-sum_zero : (g : Game) → Canonical g → can (sum (number (whole (pos 0))) g) ≡ g
+unfolding multiple
+can-sum_zero g c = can-multiple_one g c

@@ -1,51 +1,78 @@
--- What is found in a table where one more was kept.
-use Rattle.std.proofs.Common.{◌≡◌, ◌⊎◌, inl, inr, refl, sym, ◌∙◌, subst, ℕ, Bool, true, false, List, [], ◌∷◌, ◌++◌, Option, Some, None, IsSome}
-use Rattle.std.specs.Prelude.{◌==◌, ◌&&◌, if◌then◌else◌}
-use Rattle.std.proofs.lemmas.Bool.Decides.{eqb_tells}
-use Rattle.cg_sum.specs.Pairs.{found}
-use Rattle.cg_sum.proofs.Pairing.{last-more}
+-- A table of forms, to which one is added after another.
+use Rattle.std.proofs.Common.{◌≡◌, ℕ, suc, ◌+◌, ◌*◌, ◌%◌, ◌<◌, ◌≤◌, arith, refl, ap, sym, ◌∙◌, subst, List, [], ◌∷◌, ◌++◌, length, map, inl, inr}
+use Rattle.std.specs.Prelude.{slice_index}
+use Rattle.std.proofs.Math.Nat.{mul-add-mod_self_right, mul-le-mul_right, mod-eq_of_lt}
+use Rattle.std.proofs.lemmas.Bool.{cases_lt}
+use Rattle.std.proofs.lemmas.List.{get_or_append_left, get_or_push, length_push}
+use Rattle.std.proofs.lemmas.List.Elements.{All-map}
+use Rattle.std.proofs.lemmas.Nat.{div-mul-add}
+use Rattle.std.specs.List.{All}
+use Rattle.cg_book.specs.Pages.{IsPage, StandFor, game_of, games_of}
+use Rattle.cg_canon.specs.Arena.{Begins, IsAt}
+use Rattle.cg_form.specs.Game.{Game}
+use Rattle.cg_form.specs.Sum.{sum}
+use Rattle.cg_nodes.specs.Can.{can}
+use Rattle.cg_sum.specs.Progress.{HoldsForms, sum_at_place}
+use Rattle.cg_sum.proofs.Walks.{at_later}
 
-pub some_same : (x y : ℕ) → Some x ≡ Some y → x ≡ y
-some_same x y e = cc
+module _ (form : ℕ → Game) where
+  pub holds_none : (gs : List Game) (table : List ℕ) → table ≡ [] → HoldsForms gs form 0 table
+  holds_none gs table e = record { count = ap length e; each = λ m l. absurd (omega (arith, l)) }
 
-pub none_some : (o : Option ℕ) (x : ℕ) → o ≡ None → o ≡ Some x → ⊥
-none_some o x none some = cc
+  pub holds_later : (gs hs : List Game) → Begins gs hs → (n : ℕ) (table : List ℕ) → HoldsForms gs form n table → HoldsForms hs form n table
+  holds_later gs hs b n table h = record { count = h.count; each = λ m l. at_later gs hs b _ _ (h.each m l) }
 
-stays : (o : Option ℕ) (b : Bool) (x : ℕ) → IsSome o → IsSome (if b then Some x else o)
-stays o true x some = refl
-stays o false x some = some
+  pub holds_more : (gs : List Game) (n i k : ℕ) (table more : List ℕ) → HoldsForms gs form n table → IsAt gs i (form n)
+      → more ≡ table ++ (i ∷ []) → k ≡ n + 1 → HoldsForms gs form k more
+  holds_more gs n i k table more h at e next =
+      let P : List ℕ → Type 0 = λ z. HoldsForms gs form k z in
+      subst P (sym e) (record {
+        count = length_push table i ∙ ap (λ z. z + 1) h.count ∙ sym next;
+        each = λ m l. elim (cases_lt m n) [
+          | inl before ↦
+              let Q : ℕ → Type 0 = λ z. IsAt gs z (form m) in
+              let c = h.count in
+              subst Q (sym (get_or_append_left table (i ∷ []) 0 m (omega arith))) (h.each m before)
+          | inr not_before ↦
+              let same : n ≡ m = omega arith in
+              let Q : ℕ → Type 0 = λ z. IsAt gs z (form m) in
+              let V : ℕ → Type 0 = λ z. IsAt gs i (form z) in
+              subst Q (sym (get_or_push table i 0 m (h.count ∙ same))) (subst V same at)
+        ];
+      })
 
-module _ (all more : List ((ℕ × ℕ) × ℕ)) (f k h : ℕ) (put : more ≡ all ++ (((f, k), h) ∷ [])) where
-  -- it is the one that was kept, or was found before
-  pub found_cases : (c d y : ℕ) → found more c d ≡ Some y → ((f ≡ c) × (k ≡ d) × (h ≡ y)) ⊎ (found all c d ≡ Some y)
-  found_cases c d y e =
-      let kept = sym (last-more all more f k h c d put) ∙ e in
-      elim (eqb_tells f c) [
-        | inl p ↦ elim (eqb_tells k d) [
-          | inl q ↦
-              let t : (if (f == c) && (k == d) then Some h else found all c d) ≡ Some h = rw (p.0, q.0) refl in
-              inl (p.1, q.1, some_same h y (sym t ∙ kept))
-          | inr q ↦
-              let t : (if (f == c) && (k == d) then Some h else found all c d) ≡ found all c d = rw (p.0, q.0) refl in
-              inr (sym t ∙ kept)
-        ]
-        | inr p ↦
-            let t : (if (f == c) && (k == d) then Some h else found all c d) ≡ found all c d = rw p.0 refl in
-            inr (sym t ∙ kept)
-      ]
+-- ---- indexes of a table
 
-  pub found_stays : (c d : ℕ) → IsSome (found all c d) → IsSome (found more c d)
-  found_stays c d some =
-      let P : Option ℕ → Type 0 = λ z. IsSome z in
-      subst P (sym (last-more all more f k h c d put)) (stays (found all c d) ((f == c) && (k == d)) h some)
+-- indexes that stand for games made of those of places
+pub stand_mapped : (gs : List Game) (F : ℕ → ℕ) (G : ℕ → Game) (ps : List ℕ) → All (λ p. IsAt gs (F p) (G p)) ps
+    → StandFor gs (map F ps) (map G ps)
+stand_mapped gs F G ps all = (All-map (λ z. IsPage gs z) F ps (λ k d l. (all k d l).within), games ps all)
+  where
+    games : (qs : List ℕ) → All (λ p. IsAt gs (F p) (G p)) qs → games_of gs (map F qs) ≡ map G qs
+    games [] a = refl
+    games (q ∷ qs) a =
+        ap (λ z. z ∷ games_of gs (map F qs)) (a 0 q (omega arith)).is
+        ∙ ap (λ z. G q ∷ z) (games qs (λ k d l. a (suc k) d (omega (arith, l))))
 
-  pub found_now : IsSome (found more f k)
-  found_now =
-      let P : Option ℕ → Type 0 = λ z. IsSome z in
-      subst P (sym (last-more all more f k h f k put)) (elim (eqb_tells f f) [
-        | inl p ↦ elim (eqb_tells k k) [
-          | inl q ↦ rw (p.0, q.0) refl
-          | inr q ↦ absurd (q.1 refl)
-        ]
-        | inr p ↦ absurd (p.1 refl)
-      ])
+-- ---- rows
+
+-- the place of a row and a column is before that of another row, or of another column of the same row
+pub before_row : (p i n q : ℕ) → p < i → q < n → p * n + q < i * n
+before_row p i n q h l =
+    let e : suc p * n ≤ i * n = mul-le-mul_right n (let k : suc p ≤ i = omega arith in k) in omega (arith, e)
+
+-- the sum at the place of a row and a column
+pub sum_placed : (games : List Game × List Game) (p q : ℕ) → q < length games.1
+    → sum_at_place games (p * length games.1 + q) ≡ can (sum (game_of games.0 p) (game_of games.1 q))
+sum_placed games p q l =
+    let n = length games.1 in
+    ap (λ z. can (sum (game_of games.0 z) (game_of games.1 ((p * n + q) % n)))) (div-mul-add p n q l)
+    ∙ ap (λ z. can (sum (game_of games.0 p) (game_of games.1 z))) (mul-add-mod_self_right p n q ∙ mod-eq_of_lt l)
+
+-- where an index of the table stands for a form, the place of which is this
+pub at_place : (gs : List Game) (form : ℕ → Game) (n : ℕ) (table : List ℕ) → HoldsForms gs form n table → (m k : ℕ) (g : Game)
+    → k ≡ m → m < n → form m ≡ g → IsAt gs (slice_index table k) g
+at_place gs form n table h m k g e l f =
+    let P : ℕ → Type 0 = λ z. IsAt gs (slice_index table z) g in
+    let Q : Game → Type 0 = λ z. IsAt gs (slice_index table m) z in
+    subst P (sym e) (subst Q f (h.each m l))

@@ -1,174 +1,238 @@
 //! The item of the sum of two positions.
-ghost use Rattle.std.specs.Prelude.{◌≤◌, ◌⊎◌, IfSome, IsSome, IsTrue};
+ghost use Rattle.std.specs.Prelude.{◌≡◌, ◌+◌, ◌*◌, ◌≤◌, ◌<◌, ◌++◌, ◌⊎◌, All, IfOk, IfSome, IsTrue, List, length, true};
+ghost use Rattle.cg_book.specs.Pages.{IsPage, game_of};
+ghost use Rattle.cg_canon.specs.Arena.{IsAt};
 ghost use Rattle.cg_canon.specs.Works.{work_state};
+ghost use Rattle.cg_dyadic.specs.Number.{Number};
+ghost use Rattle.cg_form.specs.Game.{Game, number};
 ghost use Rattle.cg_form.specs.Sum.{sum};
 ghost use Rattle.cg_nodes.specs.Can.{can};
-ghost use Rattle.cg_nodes.specs.Games.{StandsFor, game_at};
-ghost use Rattle.cg_sum.specs.Progress.{IsOneNode, IsSumReady, SumGiven};
+ghost use Rattle.cg_nodes.specs.Games.{IsNode};
+ghost use Rattle.cg_sum.specs.Progress.{ArePlaced, IsReady, SumMade, indexes};
 
-use crate::found::{LookUp, Sums};
-use crate::gather::add_sums;
-use crate::pairs::pair;
-use crate::position::Position;
-use cg_canon::{
-    FirstTerm, ValueFault, Work, canonical_item, canonical_of_terms, item_of, number_item,
-};
+use crate::sides::{gather, lefts, rights};
+use crate::terms::Terms;
+use cg_canon::{FirstTerm, Read, ValueFault, Work};
 use cg_cells::CellStore;
-use cg_nodes::{BoardForms, GameFacts, Handle};
+use cg_dyadic::Dyadic;
+use cg_nodes::{BoardForms, GameFacts};
 use smallvec::SmallVec;
-use std::alloc::Global;
+use std::alloc::{AllocError, Global};
 
-/// Makes the item of f + k, where the sums of their options were made before. The sum of two numbers is a number.
+/// Makes the item of the sum of the first game's position at the place `row` and the second's at `column`, where
+/// the table has the sums before it. The sum of 0 and a game, or one that the work keeps, is charged as it is
+/// known. Any other is kept.
 pub(crate) fn sum_item<B: BoardForms, S: CellStore<GameFacts<B>>>(
     alloc: Global,
     work: &mut Work<B, S>,
-    f: &Position,
-    k: &Position,
-    sums: &Sums,
-) -> Result<Handle, ValueFault>
-    requires ready { IsSumReady (work_state S.state work.old) sums.now f.now k.now }
-    requires spare { sums.now.start ≤ (work_state S.state work.old).spare }
-    ensures { SumGiven (work_state S.state work.old) (work_state S.state work.new) sums.now.start
-        f.now.handle k.now.handle result }
+    terms: &Terms,
+    row: usize,
+    column: usize,
+    table: &[u32],
+) -> Result<u32, ValueFault>
+    ghost games: { List Game × List Game }
+    requires ready { IsReady work.old.arena terms.now games row column table.now }
+    requires spare { terms.now.start ≤ (work_state S.state work.old).spare }
+    ensures { SumMade (work_state S.state work.old) (work_state S.state work.new) work.old.arena work.new.arena
+        terms.now.start (game_of games.0 row) (game_of games.1 column) result }
 {
-    match f.number {
-        None => game_item(alloc, work, f, k, sums),
-        Some(x) => match k.number {
-            None => game_item(alloc, work, f, k, sums),
-            Some(y) => number_item(work, x.add(y).ok(), 1),
-        },
+    if let Some(sum) = kept(work, terms, row, column) {
+        return work.item_at(sum, 1);
     }
-}
-
-// Makes the item of f + k, where one of the two is no number, by the sum that was made before where it is found.
-//
-// The cell of the pair takes a claim before the item is charged that pays for it, so no note is asked for while the
-// work has no more to spare than at the start: an earlier item has paid where it has more.
-#[inline(always)]
-fn game_item<B: BoardForms, S: CellStore<GameFacts<B>>>(
-    alloc: Global,
-    work: &mut Work<B, S>,
-    f: &Position,
-    k: &Position,
-    sums: &Sums,
-) -> Result<Handle, ValueFault>
-    requires ready { IsSumReady (work_state S.state work.old) sums.now f.now k.now }
-    requires node { IsOneNode (work_state S.state work.old) f.now.handle k.now.handle }
-    requires spare { sums.now.start ≤ (work_state S.state work.old).spare }
-    ensures { SumGiven (work_state S.state work.old) (work_state S.state work.new) sums.now.start
-        f.now.handle k.now.handle result }
-{
-    if let Some(sum) = found(work, f, k, sums) {
-        return item_of(alloc, work, sum, 1);
-    }
-    if matches!(sums.look_up, LookUp::Kept) || work.spare() == sums.start {
-        return made_item(alloc, work, f, k, sums);
-    }
-    let pair = pair(work, f.handle, k.handle);
-    if let Some(value) = work.noted(pair) {
-        return item_of(alloc, work, Handle::of(value), 1);
-    }
-    let sum = made_item(alloc, work, f, k, sums)?;
-    work.note(pair, sum.id());
+    let sum = new_item(alloc, work, terms, row, column, table)?;
+    let f = terms.firsts.positions[row];
+    let k = terms.seconds.positions[column];
+    work.keep_pair(f.index, k.index, sum);
     Ok(sum)
 }
 
-// The sum of the two, where one is the number 0, it is known by its parts, or it was made before and kept.
-fn found<B: BoardForms, S: CellStore<GameFacts<B>>>(
+// The sum of the two, where one is the number 0, or it was made before and kept.
+fn kept<B: BoardForms, S: CellStore<GameFacts<B>>>(
     work: &Work<B, S>,
-    f: &Position,
-    k: &Position,
-    sums: &Sums,
-) -> Option<Handle>
-    requires { IsSumReady (work_state S.state work.now) sums.now f.now k.now }
-    ensures { let W = work_state S.state work.now in IfSome result (λ h. StandsFor W h
-        (can (sum (game_at W f.now.handle) (game_at W k.now.handle)))) }
+    terms: &Terms,
+    row: usize,
+    column: usize,
+) -> Option<u32>
+    ghost games: { List Game × List Game }
+    requires { ArePlaced work.now.arena terms.now games row column }
+    ensures { IfSome result (λ i. IsAt work.now.arena i (can (sum (game_of games.0 row) (game_of games.1 column)))) }
 {
-    if f.is_zero() {
-        return Some(k.handle);
+    let f = terms.firsts.positions[row];
+    let k = terms.seconds.positions[column];
+    if f.is_zero {
+        return Some(k.index);
     }
-    if k.is_zero() {
-        return Some(f.handle);
+    if k.is_zero {
+        return Some(f.index);
     }
-    match work.sum_by_parts(f.handle, k.handle) {
-        Some(sum) => Some(sum),
-        None => sums.kept(f.handle, k.handle),
+    work.kept_sum(f.index, k.index)
+}
+
+// Makes the item of a sum that isn't kept. The sum of two numbers is a number, and that of two games that are known
+// by their parts is looked for.
+fn new_item<B: BoardForms, S: CellStore<GameFacts<B>>>(
+    alloc: Global,
+    work: &mut Work<B, S>,
+    terms: &Terms,
+    row: usize,
+    column: usize,
+    table: &[u32],
+) -> Result<u32, ValueFault>
+    ghost games: { List Game × List Game }
+    requires ready { IsReady work.old.arena terms.now games row column table.now }
+    requires spare { terms.now.start ≤ (work_state S.state work.old).spare }
+    ensures { SumMade (work_state S.state work.old) (work_state S.state work.new) work.old.arena work.new.arena
+        terms.now.start (game_of games.0 row) (game_of games.1 column) result }
+{
+    let f = terms.firsts.positions[row];
+    let k = terms.seconds.positions[column];
+    if f.is_number && k.is_number {
+        let sum = number_at(work, f.index).add(number_at(work, k.index));
+        return work.number_item_at(sum.ok(), 1);
+    }
+    match work.sum_by_parts_at(f.index, k.index) {
+        Some(sum) => work.item_at(sum, 1),
+        None => noted_item(alloc, work, terms, row, column, table),
     }
 }
 
-// Makes the item of f + k from the sums of their options, where one of the two is no number. The work learns what the
-// third of f, k and their sum is known as, where it knows that of two.
+/// The number at the index.
+pub(crate) fn number_at<B: BoardForms, S: CellStore<GameFacts<B>>>(
+    work: &Work<B, S>,
+    index: u32,
+) -> Dyadic
+    requires page { IsPage work.now.arena index }
+    requires number { (x : Number) × (game_of work.now.arena index ≡ number x) }
+    ensures { game_of work.now.arena index ≡ number result }
+{
+    match work.read_at(index) {
+        Read::Number(x) => x,
+        Read::Game(_, _) => unreachable!(),
+    }
+}
+
+// Makes the item of a sum from the sums of the options, or finds it on the cell of the pair and notes it there.
+//
+// The cell takes a claim before the item is charged that pays for it, so no note is asked for while the work has no
+// more to spare than at the start: an earlier item has paid where it has more.
+fn noted_item<B: BoardForms, S: CellStore<GameFacts<B>>>(
+    alloc: Global,
+    work: &mut Work<B, S>,
+    terms: &Terms,
+    row: usize,
+    column: usize,
+    table: &[u32],
+) -> Result<u32, ValueFault>
+    ghost games: { List Game × List Game }
+    requires ready { IsReady work.old.arena terms.now games row column table.now }
+    requires node { IsNode (game_of games.0 row) ⊎ IsNode (game_of games.1 column) }
+    requires spare { terms.now.start ≤ (work_state S.state work.old).spare }
+    ensures { SumMade (work_state S.state work.old) (work_state S.state work.new) work.old.arena work.new.arena
+        terms.now.start (game_of games.0 row) (game_of games.1 column) result }
+{
+    if !terms.notes || work.spare() == terms.start {
+        return made_item(alloc, work, terms, row, column, table);
+    }
+    let f = terms.firsts.positions[row];
+    let k = terms.seconds.positions[column];
+    let cell = work.pair_cell(f.index, k.index);
+    if let Some(sum) = work.noted_sum(alloc, cell)? {
+        return work.item_at(sum, 1);
+    }
+    let sum = made_item(alloc, work, terms, row, column, table)?;
+    work.note_sum(cell, sum);
+    Ok(sum)
+}
+
+// Makes the item of a sum from the sums of the options, where one of the two is no number. The work learns what the
+// third of the two and their sum is known as, where it knows that of two.
 fn made_item<B: BoardForms, S: CellStore<GameFacts<B>>>(
     alloc: Global,
     work: &mut Work<B, S>,
-    f: &Position,
-    k: &Position,
-    sums: &Sums,
-) -> Result<Handle, ValueFault>
-    requires ready { IsSumReady (work_state S.state work.old) sums.now f.now k.now }
-    requires node { IsOneNode (work_state S.state work.old) f.now.handle k.now.handle }
-    ensures { SumGiven (work_state S.state work.old) (work_state S.state work.new) (work_state S.state work.old).spare
-        f.now.handle k.now.handle result }
+    terms: &Terms,
+    row: usize,
+    column: usize,
+    table: &[u32],
+) -> Result<u32, ValueFault>
+    ghost games: { List Game × List Game }
+    requires ready { IsReady work.old.arena terms.now games row column table.now }
+    requires node { IsNode (game_of games.0 row) ⊎ IsNode (game_of games.1 column) }
+    ensures { SumMade (work_state S.state work.old) (work_state S.state work.new) work.old.arena work.new.arena
+        (work_state S.state work.old).spare (game_of games.0 row) (game_of games.1 column) result }
 {
-    let sum = summed_item(alloc, work, f, k, sums)?;
-    work.learn_sum(f.handle, k.handle, sum);
+    let sum = summed_item(alloc, work, terms, row, column, table)?;
+    let f = terms.firsts.positions[row];
+    let k = terms.seconds.positions[column];
+    work.learn_sum_at(f.index, k.index, sum);
     Ok(sum)
 }
 
-// Whether one of the two is a number.
-fn has_number(f: &Position, k: &Position) -> bool
-    ensures { IsTrue result → IsSome f.now.number ⊎ IsSome k.now.number }
-{
-    f.number.is_some() || k.number.is_some()
-}
-
-// Makes the item of f + k from the sums of their options, where one of the two is no number, so x + G is made of the
+// Makes the item of a sum from the sums of the options, where one of the two is no number, so x + G is made of the
 // sums of x and the options of G alone (Siegel, Combinatorial Game Theory (2013), II.3: the Number Translation
-// Theorem). Such a sum is canonical as it stands, with the options in the order of those of G. No two options that come
-// from one of the two are comparable, since sums keep the order.
+// Theorem). Such a sum is canonical as it stands, with the options in the order of those of G. No two options that
+// come from one of the two are comparable, since sums keep the order.
 fn summed_item<B: BoardForms, S: CellStore<GameFacts<B>>>(
     alloc: Global,
     work: &mut Work<B, S>,
-    f: &Position,
-    k: &Position,
-    sums: &Sums,
-) -> Result<Handle, ValueFault>
-    requires ready { IsSumReady (work_state S.state work.old) sums.now f.now k.now }
-    requires node { IsOneNode (work_state S.state work.old) f.now.handle k.now.handle }
-    ensures { SumGiven (work_state S.state work.old) (work_state S.state work.new) (work_state S.state work.old).spare
-        f.now.handle k.now.handle result }
+    terms: &Terms,
+    row: usize,
+    column: usize,
+    table: &[u32],
+) -> Result<u32, ValueFault>
+    ghost games: { List Game × List Game }
+    requires ready { IsReady work.old.arena terms.now games row column table.now }
+    requires node { IsNode (game_of games.0 row) ⊎ IsNode (game_of games.1 column) }
+    ensures { SumMade (work_state S.state work.old) (work_state S.state work.new) work.old.arena work.new.arena
+        (work_state S.state work.old).spare (game_of games.0 row) (game_of games.1 column) result }
 {
-    let mut lefts = SmallVec::new(alloc);
-    add_sums(
-        sums,
-        f.lefts.as_slice(),
-        k.handle,
-        f.handle,
-        k.lefts.as_slice(),
-        &mut lefts,
-    )?;
-    let mut rights = SmallVec::new(alloc);
-    add_sums(
-        sums,
-        f.rights.as_slice(),
-        k.handle,
-        f.handle,
-        k.rights.as_slice(),
-        &mut rights,
-    )?;
-    if has_number(f, k) {
-        return canonical_item(alloc, work, lefts.as_slice(), rights.as_slice(), 1);
+    let f = terms.firsts.positions[row];
+    let k = terms.seconds.positions[column];
+    let places = Places {
+        columns: terms.seconds.positions.len(),
+        row,
+        column,
+    };
+    let own = lefts(&terms.firsts, f);
+    let others = rights(&terms.firsts, f);
+    let left = side(alloc, table, own, lefts(&terms.seconds, k), places)?;
+    let right = side(alloc, table, others, rights(&terms.seconds, k), places)?;
+    if f.is_number || k.is_number {
+        return work.form_item_at(alloc, left.as_slice(), right.as_slice(), 1);
     }
     let first_term = FirstTerm {
-        lefts: f.lefts.len(),
-        rights: f.rights.len(),
+        lefts: own.len(),
+        rights: others.len(),
     };
-    canonical_of_terms(
-        alloc,
-        work,
-        lefts.as_slice(),
-        rights.as_slice(),
-        first_term,
-        1,
-    )
+    work.sum_item_at(alloc, left.as_slice(), right.as_slice(), first_term, 1)
+}
+
+// Where a sum stands in the table.
+#[derive(Clone, Copy)]
+struct Places {
+    columns: usize,
+    row: usize,
+    column: usize,
+}
+
+// The options of a sum on one side: those of the first position, with the second, and then the first with those of
+// the second.
+#[inline(always)]
+fn side(
+    alloc: Global,
+    table: &[u32],
+    firsts: &[usize],
+    seconds: &[usize],
+    at: Places,
+) -> Result<SmallVec<u32, 8>, AllocError>
+    requires firsts { All (λ p. p * at.columns + at.column < length table.now) firsts.now }
+    requires seconds { All (λ q. q * 1 + at.row * at.columns < length table.now) seconds.now }
+    requires row { at.row * at.columns ≤ length table.now }
+    ensures { IfOk result (λ all. all.items ≡ indexes table.now at.columns at.column firsts.now
+        ++ indexes table.now 1 (at.row * at.columns) seconds.now) }
+{
+    let mut all = SmallVec::new(alloc);
+    all.reserve(firsts.len() + seconds.len())?;
+    gather(table, firsts, at.columns, at.column, &mut all);
+    gather(table, seconds, 1, at.row * at.columns, &mut all);
+    Ok(all)
 }

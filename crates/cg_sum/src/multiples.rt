@@ -7,7 +7,6 @@ ghost use Rattle.cg_nodes.specs.Games.{IsGame, game_at};
 ghost use Rattle.cg_sum.specs.Lists.{multiple_items};
 
 use crate::addition::found_sum;
-use crate::found::{LookUp, Sums};
 use cg_canon::{ValueFault, Work, number_item, zero};
 use cg_cells::CellStore;
 use cg_nodes::{BoardForms, GameFacts, Handle, known_game};
@@ -17,10 +16,10 @@ use std::alloc::Global;
 /// 1).G + G (Siegel, Combinatorial Game Theory (2013), I.1).
 ///
 /// For 0 it makes the item of the number 0, for 1 none, and else those of `count - 1` sums: each adds a to
-/// the form of the multiple so far, and has its own list with its own limit. The sums of one step are kept for
-/// the later ones, and none is noted on a cell. A refusal is that of the first
-/// item that isn't made, or of the first list that is too long; what the items before it cost is spent.
-/// Each sum costs at least 2, so a great count ends by `Full` or by another refusal.
+/// the form of the multiple so far, and has its own list with its own limit. The work keeps the sums of one
+/// step for the later ones, and none is noted on a cell. A refusal is that of the first item that isn't made,
+/// or of the first list that is too long; what the items before it cost is spent. Each sum costs at least 2,
+/// so a great count ends by `Full` or by another refusal.
 pub fn multiple<B: BoardForms, S: CellStore<GameFacts<B>>>(
     alloc: Global,
     work: &mut Work<B, S>,
@@ -36,10 +35,9 @@ pub fn multiple<B: BoardForms, S: CellStore<GameFacts<B>>>(
     }
     // Called for the proof alone: the form that a handle stands for is canonical.
     known_game(work, a);
-    let mut sums = Sums::new(alloc, LookUp::Kept);
     let mut total = a;
     for _step in 1..count {
-        total = found_sum(alloc, work, total, a, &mut sums)?;
+        total = found_sum(alloc, work, total, a, false)?;
     }
     Ok(total)
 }

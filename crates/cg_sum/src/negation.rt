@@ -1,20 +1,20 @@
 //! The negative of the game of a handle.
-ghost use Rattle.std.specs.Prelude.{◌≡◌, ℕ, ◌≤◌, IfOk, IsSome, OnOk, [], ◌∷◌, map};
-ghost use Rattle.cg_canon.specs.Made.{Gives, ItemsMade};
+ghost use Rattle.std.specs.Prelude.{◌≡◌, ◌+◌, ◌*◌, ◌<◌, All, IfOk, List, [], length};
+ghost use Rattle.cg_book.specs.Pages.{game_of};
+ghost use Rattle.cg_canon.specs.Made.{Gives};
+ghost use Rattle.cg_canon.specs.Walk.{IsWalk};
 ghost use Rattle.cg_canon.specs.Works.{work_state};
-ghost use Rattle.cg_cells.specs.Meaning.{Has};
+ghost use Rattle.cg_form.specs.Game.{Game};
 ghost use Rattle.cg_form.specs.Sum.{negative as minus};
 ghost use Rattle.cg_nodes.specs.Can.{can};
-ghost use Rattle.cg_nodes.specs.Games.{AreGames, IsGame, IsNode, game_at, games_at};
-ghost use Rattle.cg_sum.specs.Finds.{negative_found, negative_handle};
+ghost use Rattle.cg_nodes.specs.Games.{IsGame, game_at};
 ghost use Rattle.cg_sum.specs.Lists.{minus_item, minus_items, negative_items};
-ghost use Rattle.cg_sum.specs.Progress.{HoldsNegatives, IsNegativeReady, IsPosition};
-ghost use Rattle.cg_sum.specs.Written.{IsClosed};
+ghost use Rattle.cg_sum.specs.Progress.{FormMade, FormsMade, HoldsForms, indexes, negative_at_place};
 
-use crate::limits::positions_within;
-use crate::pair_table::PairTable;
-use crate::position::{Position, read_one};
-use cg_canon::{FirstTerm, ValueFault, Work, canonical_of_terms, number_item};
+use crate::item::number_at;
+use crate::sides::{gather, lefts, rights};
+use crate::terms::walked;
+use cg_canon::{FirstTerm, ValueFault, Walk, Work};
 use cg_cells::CellStore;
 use cg_nodes::{BoardForms, GameFacts, Handle};
 use smallvec::SmallVec;
@@ -36,104 +36,75 @@ pub fn negative<B: BoardForms, S: CellStore<GameFacts<B>>>(
     ensures { let W = work_state S.state work.old in Gives W (work_state S.state work.new)
         (negative_items work.old.limit (game_at W a)) (can (minus (game_at W a))) result }
 {
-    let positions = positions_within(alloc, work, a)?;
-    let mut negatives = PairTable::new(alloc);
-    add_negatives(alloc, work, positions.as_slice(), &mut negatives)?;
-    work.apart();
-    match negatives.get(a, a) {
-        Some(negative) => Ok(negative),
-        None => unreachable!(),
-    }
+    let walk = walked(alloc, work, a)?;
+    let mut table = Vec::with_capacity(alloc, walk.positions.len())?;
+    add_negatives(alloc, work, &walk, &mut table)?;
+    Ok(work.handle_at(table[table.len() - 1]))
 }
 
-// Makes the items of the negatives of the list, in which the options of a game stand before it. Each is kept for the
-// game's handle and itself.
+// Makes the items of the negatives of the positions, and puts their indexes in the table.
 fn add_negatives<B: BoardForms, S: CellStore<GameFacts<B>>>(
     alloc: Global,
     work: &mut Work<B, S>,
-    positions: &[Handle],
-    negatives: &mut PairTable,
+    walk: &Walk,
+    table: &mut Vec<u32>,
 ) -> Result<(), ValueFault>
-    requires positions { AreGames (work_state S.state work.old) positions.now }
-    requires closed { IsClosed (games_at (work_state S.state work.old) positions.now) }
-    requires holds { HoldsNegatives (work_state S.state work.old) negatives.old }
-    ensures found { OnOk result ((p : ℕ) → Has positions.now p → IsSome (negative_found negatives.new p)) }
-    ensures holds { OnOk result (HoldsNegatives (work_state S.state work.new) negatives.new) }
-    ensures made { let W = work_state S.state work.old in ItemsMade W (work_state S.state work.new)
-        (minus_items (games_at W positions.now)) result }
-    ensures spare { (work_state S.state work.old).spare ≤ (work_state S.state work.new).spare }
+    ghost games: { List Game }
+    requires walk { IsWalk work.old.arena walk.now games }
+    requires none { table.old.items ≡ [] }
+    ensures { let W = work_state S.state work.old in FormsMade W (work_state S.state work.new) work.old.arena
+        work.new.arena W.spare (minus_items games) (negative_at_place games) (length games) table.new.items result }
 {
-    for f in positions {
-        let negative = negative_item(alloc, work, *f, negatives)?;
-        negatives.put(*f, *f, negative)?;
+    for place in 0..walk.positions.len() {
+        let negative = negative_item(alloc, work, walk, place, table.as_slice())?;
+        table.push(negative)?;
     }
     Ok(())
 }
 
-// Makes the item of -f, where the negatives of its options were made before.
+// Makes the item of the negative of the position at the place, where the table has the negatives before it. On each
+// side, all options of a negative come from one term, since negatives turn the order.
 fn negative_item<B: BoardForms, S: CellStore<GameFacts<B>>>(
     alloc: Global,
     work: &mut Work<B, S>,
-    f: Handle,
-    negatives: &PairTable,
-) -> Result<Handle, ValueFault>
-    requires { IsNegativeReady (work_state S.state work.old) negatives.now f }
-    ensures { let W = work_state S.state work.old in Gives W (work_state S.state work.new)
-        (minus_item (game_at W f) ∷ []) (can (minus (game_at W f))) result }
+    walk: &Walk,
+    place: usize,
+    table: &[u32],
+) -> Result<u32, ValueFault>
+    ghost games: { List Game }
+    requires walk { IsWalk work.old.arena walk.now games }
+    requires place { place < length games }
+    requires holds { HoldsForms work.old.arena (negative_at_place games) place table.now }
+    ensures { let W = work_state S.state work.old in FormMade W (work_state S.state work.new) work.old.arena
+        work.new.arena W.spare (minus_item (game_of games place)) (negative_at_place games place) result }
 {
-    let position = read_one(alloc, work, f)?;
-    match position.number {
-        Some(x) => number_item(work, Some(x.negate()), 0),
-        None => game_item(alloc, work, &position, negatives),
+    let f = walk.positions[place];
+    if f.is_number {
+        let x = number_at(work, f.index);
+        return work.number_item_at(Some(x.negate()), 0);
     }
-}
-
-// Makes the item of -f, where f is no number. On each side, all options of -f come from one term, since negatives turn
-// the order.
-fn game_item<B: BoardForms, S: CellStore<GameFacts<B>>>(
-    alloc: Global,
-    work: &mut Work<B, S>,
-    f: &Position,
-    negatives: &PairTable,
-) -> Result<Handle, ValueFault>
-    requires ready { IsNegativeReady (work_state S.state work.old) negatives.now f.now.handle }
-    requires position { IsPosition (work_state S.state work.old) f.now }
-    requires node { IsNode (game_at (work_state S.state work.old) f.now.handle) }
-    ensures { let W = work_state S.state work.old in Gives W (work_state S.state work.new)
-        (minus_item (game_at W f.now.handle) ∷ []) (can (minus (game_at W f.now.handle))) result }
-{
-    work.apart();
-    let lefts = negatives_of(alloc, negatives, f.rights.as_slice())?;
-    let rights = negatives_of(alloc, negatives, f.lefts.as_slice())?;
+    let own = rights(walk, f);
+    let others = lefts(walk, f);
+    let left = negatives_of(alloc, table, own)?;
+    let right = negatives_of(alloc, table, others)?;
     let first_term = FirstTerm {
-        lefts: f.rights.len(),
-        rights: f.lefts.len(),
+        lefts: own.len(),
+        rights: others.len(),
     };
-    canonical_of_terms(
-        alloc,
-        work,
-        lefts.as_slice(),
-        rights.as_slice(),
-        first_term,
-        0,
-    )
+    work.sum_item_at(alloc, left.as_slice(), right.as_slice(), first_term, 0)
 }
 
-// The handles of the negatives of each of the list, all of which must have been found.
+// The indexes of the negatives of the positions at the places.
 fn negatives_of(
     alloc: Global,
-    negatives: &PairTable,
-    handles: &[Handle],
-) -> Result<SmallVec<Handle, 8>, AllocError>
-    requires { (p : ℕ) → Has handles.now p → IsSome (negative_found negatives.now p) }
-    ensures { IfOk result (λ all. all.items ≡ map (λ p. negative_handle negatives.now p) handles.now) }
+    table: &[u32],
+    places: &[usize],
+) -> Result<SmallVec<u32, 8>, AllocError>
+    requires { All (λ p. p * 1 + 0 < length table.now) places.now }
+    ensures { IfOk result (λ all. all.items ≡ indexes table.now 1 0 places.now) }
 {
     let mut all = SmallVec::new(alloc);
-    for handle in handles {
-        let Some(negative) = negatives.get(*handle, *handle) else {
-            unreachable!()
-        };
-        all.push(negative)?;
-    }
+    all.reserve(places.len())?;
+    gather(table, places, 1, 0, &mut all);
     Ok(all)
 }

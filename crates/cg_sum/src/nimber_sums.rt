@@ -10,8 +10,8 @@ ghost use Rattle.cg_nodes.specs.Games.{game_at};
 ghost use Rattle.cg_sum.specs.Firsts.{HoldsFirst, IsPair, RowsKnown};
 
 use crate::firsts::{FirstNimbers, nimber_item};
-use crate::limits::is_product_above;
 use crate::pair::NimberPair;
+use crate::terms::is_product_above;
 use cg_canon::{ValueFault, Work};
 use cg_cells::CellStore;
 use cg_nodes::{BoardForms, GameFacts, Handle};

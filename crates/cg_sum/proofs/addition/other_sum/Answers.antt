@@ -4,65 +4,118 @@ use Rattle.std.proofs.lemmas.Result.{err_from_is_err_and}
 use Rattle.cg_canon.specs.Works.{work_state}
 use Rattle.cg_canon.proofs.Keeping.{spends_keeps}
 use Rattle.cg_canon.proofs.MadeSteps.{made_memory, made_with}
-use Rattle.cg_sum.proofs.Members.{not_none}
-use Rattle.cg_sum.proofs.SumEnds.{gives_refused, lent_positions, refused_items, same_refusal, sum_made, sum_stands}
-use Rattle.cg_sum.proofs.SumSteps.{holds_later, holds_same}
+use Rattle.cg_sum.specs.Progress.{sum_at_place}
+use Rattle.cg_sum.proofs.SumEnds.{gives_refused, last_at, last_sum, refused_items, same_refusal, some_sum, stands_as, sum_made}
+use Rattle.cg_sum.proofs.Walks.{walk_as}
 use Rattle.cg_sum.proofs.addition.other_sum.Goals as goal
 
-pub returns-in_err-terms-clause-gives : goal.returns-in_err-terms-clause-gives
-returns-in_err-terms-clause-gives g c =
+pub returns-in_err-terms : goal.returns-in_err-terms
+returns-in_err-terms g c =
     let p = err_from_is_err_and c.from_residual.result c.from_residual.ensures.1 in
-    let wv = c.known_positions.ensures.spends in
+    let wv = c.read_terms.ensures.spends in
     gives_refused _ _ _ _ _ _ (p.1 ∙ ap Err p.2)
     (refused_items _ _ _ _ _ (p.1 ∙ ap Err p.2) c.in_err-terms.ensures.refused (spends_keeps 0 _ _ wv)) (omega (arith, wv.spare))
 
-pub returns-in_err-reserve-clause-gives : goal.returns-in_err-reserve-clause-gives
-returns-in_err-reserve-clause-gives g c =
-    let p = err_from_is_err_and c.from_residual-in_err-reserve.result c.from_residual-in_err-reserve.ensures.1 in
-    let wv = c.known_positions.ensures.spends in
+pub returns-in_err-table : goal.returns-in_err-table
+returns-in_err-table g c =
+    let p = err_from_is_err_and c.from_residual-in_err-table.result c.from_residual-in_err-table.ensures.1 in
+    let wv = c.read_terms.ensures.spends in
     gives_refused _ _ _ _ _ _ (p.1 ∙ ap Err p.2) (made_memory _ _ _ _ (p.1 ∙ ap Err p.2) (spends_keeps 0 _ _ wv))
     (omega (arith, wv.spare))
 
-pub add_rows-requires-clause-holds : goal.add_rows-requires-clause-holds
-add_rows-requires-clause-holds g c =
-    let W = work_state g.S.CellStore.state in
-    let v = W c.known_positions.new.work in
-    holds_same v c.args.sums.now _ c.reserve.ensures (holds_later (W c.args.work.now) v c.known_positions.ensures.spends.known _ c.requires.holds)
+pub add_rows-requires : goal.add_rows-requires
+add_rows-requires g c κs within =
+    let terms = c.in_ok-terms.ensures in (
+      within.0,
+      (
+        within.1.0,
+        (
+          within.1.1,
+          (
+            walk_as _ _ _ _ (sym terms.firsts.at.1) terms.firsts,
+            (
+              walk_as _ _ _ _ (sym terms.seconds.at.1) terms.seconds,
+              (
+                c.in_ok-table.ensures.items,
+                omega (arith, terms.start),
+              ),
+            ),
+          ),
+        ),
+      ),
+    )
 
-pub returns-in_err-add_rows-clause-gives : goal.returns-in_err-add_rows-clause-gives
-returns-in_err-add_rows-clause-gives g c =
+pub returns-in_err-add_rows : goal.returns-in_err-add_rows
+returns-in_err-add_rows g c =
     let W = work_state g.S.CellStore.state in
     let w = W c.args.work.now in
-    let v = W c.known_positions.new.work in
+    let v = W c.read_terms.new.work in
     let x = W c.add_rows.new.work in
-    let wv = c.known_positions.ensures.spends in
-    let firsts = lent_positions v _ _ _ _ c.deref.ensures.value c.in_ok-terms.ensures.firsts in
-    let seconds = lent_positions v _ _ _ _ c.deref-2.ensures.value c.in_ok-terms.ensures.seconds in
+    let wv = c.read_terms.ensures.spends in
+    let terms = c.in_ok-terms.ensures in
     let p = err_from_is_err_and c.from_residual-in_err-add_rows.result c.from_residual-in_err-add_rows.ensures.1 in
     gives_refused w x _ _ _ _ (p.1 ∙ ap Err p.2) (same_refusal w x _ c.add_rows.result _ _ c.in_err-add_rows.was (p.1 ∙ ap Err p.2)
-    (sum_made w v x _ _ _ _ wv firsts.games seconds.games c.in_ok-terms.ensures.within _ c.add_rows.ensures.made))
-    (omega (arith, wv.spare, c.spare-sums.ensures.value, c.add_rows.ensures.spare))
+    (sum_made w v x _ _ _ wv terms.firsts.at.1 terms.seconds.at.1 _ terms.within c.add_rows.ensures.made))
+    (omega (arith, wv.spare, terms.start, c.add_rows.ensures.spare))
 
-pub unreachable-requires : goal.unreachable-requires
-unreachable-requires g c =
-    let v = work_state g.S.CellStore.state c.known_positions.new.work in
-    let firsts = lent_positions v _ _ _ _ c.deref.ensures.value c.in_ok-terms.ensures.firsts in
-    let seconds = lent_positions v _ _ _ _ c.deref-2.ensures.value c.in_ok-terms.ensures.seconds in
-    not_none _ (c.in_ok-add_rows.ensures.found.each c.args.a c.args.b firsts.own seconds.own) (sym c.get.ensures ∙ c.in-None.is)
-
-pub returns-clause-gives : goal.returns-clause-gives
-returns-clause-gives g c =
+pub overflow_sub-len : goal.overflow_sub-len
+overflow_sub-len g c =
     let W = work_state g.S.CellStore.state in
     let w = W c.args.work.now in
-    let v = W c.known_positions.new.work in
+    let v = W c.read_terms.new.work in
+    let terms = c.in_ok-terms.ensures in
+    let holds = c.in_ok-add_rows.ensures.holds in
+    let some = some_sum w v v _ _ _ c.read_terms.ensures.spends terms.firsts.at.1 terms.seconds.at.1 in
+    let ok = c.add_rows.new.table.ok.0 in
+    let len = c.len-3.ensures in
+    let count = holds.count in
+    omega (arith, ok, len, count, some)
+
+pub index-requires : goal.index-requires
+index-requires g c =
+    let W = work_state g.S.CellStore.state in
+    let w = W c.args.work.now in
+    let v = W c.read_terms.new.work in
+    let terms = c.in_ok-terms.ensures in
+    let holds = c.in_ok-add_rows.ensures.holds in
+    let some = some_sum w v v _ _ _ c.read_terms.ensures.spends terms.firsts.at.1 terms.seconds.at.1 in
+    let ok = c.add_rows.new.table.ok.0 in
+    let len = c.len-3.ensures in
+    let count = holds.count in
+    omega (arith, ok, len, count, some)
+
+pub handle_at-requires : goal.handle_at-requires
+handle_at-requires g c =
+    let W = work_state g.S.CellStore.state in
+    let w = W c.args.work.now in
+    let v = W c.read_terms.new.work in
+    let wv = c.read_terms.ensures.spends in
+    let terms = c.in_ok-terms.ensures in
+    let holds = c.in_ok-add_rows.ensures.holds in
+    let some = some_sum w v v _ _ _ wv terms.firsts.at.1 terms.seconds.at.1 in
+    let ok = c.add_rows.new.table.ok.0 in
+    let len = c.len-3.ensures in
+    let count = holds.count in
+    (last_at _ (sum_at_place _) _ _ holds some _ (last_sum w v v _ _ _ wv terms.firsts.at.1 terms.seconds.at.1) _ _
+    (omega (arith, ok, len, count, some)) c.index.ensures).within
+
+pub returns : goal.returns
+returns g c =
+    let W = work_state g.S.CellStore.state in
+    let w = W c.args.work.now in
+    let v = W c.read_terms.new.work in
     let x = W c.add_rows.new.work in
-    let wv = c.known_positions.ensures.spends in
-    let firsts = lent_positions v _ _ _ _ c.deref.ensures.value c.in_ok-terms.ensures.firsts in
-    let seconds = lent_positions v _ _ _ _ c.deref-2.ensures.value c.in_ok-terms.ensures.seconds in
-    let made = sum_made w v x _ _ _ _ wv firsts.games seconds.games c.in_ok-terms.ensures.within _ c.add_rows.ensures.made in
+    let wv = c.read_terms.ensures.spends in
+    let terms = c.in_ok-terms.ensures in
+    let holds = c.in_ok-add_rows.ensures.holds in
+    let some = some_sum w v x _ _ _ wv terms.firsts.at.1 terms.seconds.at.1 in
+    let ok = c.add_rows.new.table.ok.0 in
+    let len = c.len-3.ensures in
+    let count = holds.count in
     record {
-      game = sum_stands w x made.keeps.known _ c.in_ok-add_rows.ensures.holds _ _ _ c.requires.a c.requires.b
-          (sym c.get.ensures ∙ c.in-Some.is);
-      made = made_with w x _ c.add_rows.result (Ok _) _ _ c.in_ok-add_rows.was refl made;
-      more = omega (arith, wv.spare, c.spare-sums.ensures.value, c.add_rows.ensures.spare);
+      game = stands_as x _ _ _ (last_at _ (sum_at_place _) _ _ holds some _ (last_sum w v x _ _ _ wv terms.firsts.at.1 terms.seconds.at.1) _ _
+          (omega (arith, ok, len, count, some)) c.index.ensures).is c.handle_at.ensures;
+      made = made_with w x _ c.add_rows.result (Ok _) _ _ c.in_ok-add_rows.was refl
+          (sum_made w v x _ _ _ wv terms.firsts.at.1 terms.seconds.at.1 _ terms.within c.add_rows.ensures.made);
+      more = omega (arith, wv.spare, terms.start, c.add_rows.ensures.spare);
     }

@@ -1,73 +1,77 @@
--- The sums of the options, which were found, make the sum.
-use Rattle.std.proofs.Common.{arith, sym, ◌∙◌}
+-- The sums of the options, which stand in the table, make the sum.
+use Rattle.std.proofs.Common.{arith, ap, sym, ◌∙◌, ◌⊎◌, length}
 use Rattle.cg_canon.specs.Works.{work_state}
-use Rattle.cg_nodes.proofs.Later.{nothing_spent}
 use Rattle.cg_nodes.specs.CanForms.{can-fixed}
-use Rattle.cg_sum.proofs.DraftSteps.{lefts_stand, rights_stand, side_summed, summed_apart, summed_canonical, summed_form}
-use Rattle.cg_sum.proofs.ItemSteps.{given_sum}
+use Rattle.cg_sum.proofs.ItemSteps.{given_form}
+use Rattle.cg_sum.proofs.Options.{lefts_apart_by, lefts_are, rights_apart_by, rights_are, side_is, summed_canonical, summed_form}
+use Rattle.cg_sum.proofs.Placed.{one_first, one_second}
+use Rattle.cg_book.specs.Pages.{game_of}
+use Rattle.cg_sum.proofs.Sums.{IsNumber}
+use Rattle.cg_sum.proofs.Walks.{count}
 use Rattle.cg_sum.proofs.item.summed_item.Goals as goal
+use Rattle.cg_sum.proofs.item.summed_item.Goals.{then-f-via-then-f, then-f-via-else-f+then-k}
 
 -- a number and a game that is none
 
-pub canonical_item-requires : goal.canonical_item-requires
-canonical_item-requires g c =
-    let s = work_state g.S.CellStore.state c.args.work.now in
-    let f = c.args.f.now in
-    let k = c.args.k.now in
-    let l = side_summed c.args.sums.now f.handle k.handle _ _ _ _ _ f.lefts.items k.lefts.items c.as_slice-then-has_number.ensures
-    c.in_ok-add_sums.ensures c.new-lefts.ensures.items c.as_slice.ensures c.as_slice-2.ensures in
-    let r = side_summed c.args.sums.now f.handle k.handle _ _ _ _ _ f.rights.items k.rights.items c.as_slice-then-has_number-2.ensures
-    c.in_ok-add_sums-2.ensures c.new-rights.ensures.items c.as_slice-3.ensures c.as_slice-4.ensures in
+pub form_item_at-requires : goal.form_item_at-requires
+form_item_at-requires g c =
+    let ready = c.requires.1.1.1.0 in
+    let table = c.args.table.now in
+    let n = c.len.ensures ∙ c.args.terms.now.seconds.positions.ok.0 ∙ count _ _ _ ready.placed.seconds in
+    let l = c.as_slice.ensures ∙ side_is table _ _ c.args.row c.args.column _ _ _ _ _ n c.lefts-own.ensures c.lefts.ensures c.in_ok-left.ensures in
+    let r = c.as_slice-then-f.ensures ∙ side_is table _ _ c.args.row c.args.column _ _ _ _ _ n c.rights-others.ensures c.rights.ensures c.in_ok-right.ensures in
+    let some : IsNumber (game_of g.games.0 c.args.row) ⊎ IsNumber (game_of g.games.1 c.args.column) = elim c.then-f.branch [
+      | then-f-via-then-f w ↦ one_first _ _ _ _ _ ready.placed _ _ c.index-f.ensures c.index-k.ensures w.if-f.true
+      | then-f-via-else-f+then-k w ↦ one_second _ _ _ _ _ ready.placed _ _ c.index-f.ensures c.index-k.ensures w.if-k.true
+    ] in
     record {
       extra = omega arith;
-      lefts = (lefts_stand s _ f k c.requires.ready _ _ l r).0;
-      rights = (rights_stand s _ f k c.requires.ready _ _ l r).0;
-      canonical = summed_canonical s _ f k c.requires.ready _ _ l r c.requires.node (c.has_number.ensures c.if-has_number.true);
+      lefts = lefts_are _ _ _ _ _ table ready _ _ c.index-f.ensures c.index-k.ensures _ _ l r;
+      rights = rights_are _ _ _ _ _ table ready _ _ c.index-f.ensures c.index-k.ensures _ _ l r;
+      canonical = summed_canonical _ _ _ _ _ table ready _ _ c.index-f.ensures c.index-k.ensures _ _ l r c.requires.1.1.1.1 some;
     }
 
-pub returns-then-has_number : goal.returns-then-has_number
-returns-then-has_number g c =
+pub returns-then-f : goal.returns-then-f
+returns-then-f g c =
     let W = work_state g.S.CellStore.state in
-    let s = W c.args.work.now in
-    let f = c.args.f.now in
-    let k = c.args.k.now in
-    let l = side_summed c.args.sums.now f.handle k.handle _ _ _ _ _ f.lefts.items k.lefts.items c.as_slice-then-has_number.ensures
-    c.in_ok-add_sums.ensures c.new-lefts.ensures.items c.as_slice.ensures c.as_slice-2.ensures in
-    let r = side_summed c.args.sums.now f.handle k.handle _ _ _ _ _ f.rights.items k.rights.items c.as_slice-then-has_number-2.ensures
-    c.in_ok-add_sums-2.ensures c.new-rights.ensures.items c.as_slice-3.ensures c.as_slice-4.ensures in
-    given_sum s s (W c.canonical_item.new.work) 0 (nothing_spent s) _ _ s.spare (omega arith) _ _
-    (sym (can-fixed _ (summed_canonical s _ f k c.requires.ready _ _ l r c.requires.node (c.has_number.ensures c.if-has_number.true)))
-    ∙ summed_form s _ f k c.requires.ready _ _ l r c.requires.node) c.canonical_item.ensures.gives
+    let ready = c.requires.1.1.1.0 in
+    let table = c.args.table.now in
+    let n = c.len.ensures ∙ c.args.terms.now.seconds.positions.ok.0 ∙ count _ _ _ ready.placed.seconds in
+    let l = c.as_slice.ensures ∙ side_is table _ _ c.args.row c.args.column _ _ _ _ _ n c.lefts-own.ensures c.lefts.ensures c.in_ok-left.ensures in
+    let r = c.as_slice-then-f.ensures ∙ side_is table _ _ c.args.row c.args.column _ _ _ _ _ n c.rights-others.ensures c.rights.ensures c.in_ok-right.ensures in
+    let some : IsNumber (game_of g.games.0 c.args.row) ⊎ IsNumber (game_of g.games.1 c.args.column) = elim c.then-f.branch [
+      | then-f-via-then-f w ↦ one_first _ _ _ _ _ ready.placed _ _ c.index-f.ensures c.index-k.ensures w.if-f.true
+      | then-f-via-else-f+then-k w ↦ one_second _ _ _ _ _ ready.placed _ _ c.index-f.ensures c.index-k.ensures w.if-k.true
+    ] in
+    given_form (W c.args.work.now) (W c.form_item_at.new.self) _ _ _ (omega arith) _ _ 1 1 _
+    (sym (can-fixed _ (summed_canonical _ _ _ _ _ table ready _ _ c.index-f.ensures c.index-k.ensures _ _ l r c.requires.1.1.1.1 some))
+    ∙ summed_form _ _ _ _ _ table ready _ _ c.index-f.ensures c.index-k.ensures _ _ l r c.requires.1.1.1.1) c.form_item_at.ensures
 
 -- two games that are none
 
-pub canonical_of_terms-requires : goal.canonical_of_terms-requires
-canonical_of_terms-requires g c =
-    let s = work_state g.S.CellStore.state c.args.work.now in
-    let f = c.args.f.now in
-    let k = c.args.k.now in
-    let l = side_summed c.args.sums.now f.handle k.handle _ _ _ _ _ f.lefts.items k.lefts.items c.as_slice-5.ensures
-    c.in_ok-add_sums.ensures c.new-lefts.ensures.items c.as_slice.ensures c.as_slice-2.ensures in
-    let r = side_summed c.args.sums.now f.handle k.handle _ _ _ _ _ f.rights.items k.rights.items c.as_slice-6.ensures
-    c.in_ok-add_sums-2.ensures c.new-rights.ensures.items c.as_slice-3.ensures c.as_slice-4.ensures in
-    let apart = summed_apart s _ f k c.requires.ready _ _ l r _ _ c.len.ensures.value c.len-2.ensures.value in
+pub sum_item_at-requires : goal.sum_item_at-requires
+sum_item_at-requires g c =
+    let ready = c.requires.1.1.1.0 in
+    let table = c.args.table.now in
+    let n = c.len.ensures ∙ c.args.terms.now.seconds.positions.ok.0 ∙ count _ _ _ ready.placed.seconds in
+    let l = c.as_slice-2.ensures ∙ side_is table _ _ c.args.row c.args.column _ _ _ _ _ n c.lefts-own.ensures c.lefts.ensures c.in_ok-left.ensures in
+    let r = c.as_slice-3.ensures ∙ side_is table _ _ c.args.row c.args.column _ _ _ _ _ n c.rights-others.ensures c.rights.ensures c.in_ok-right.ensures in
     record {
       extra = omega arith;
-      lefts = (lefts_stand s _ f k c.requires.ready _ _ l r).0;
-      rights = (rights_stand s _ f k c.requires.ready _ _ l r).0;
-      lefts_apart = apart.0;
-      rights_apart = apart.1;
+      lefts = lefts_are _ _ _ _ _ table ready _ _ c.index-f.ensures c.index-k.ensures _ _ l r;
+      rights = rights_are _ _ _ _ _ table ready _ _ c.index-f.ensures c.index-k.ensures _ _ l r;
+      lefts_apart = lefts_apart_by _ _ _ _ _ table ready _ _ c.index-f.ensures c.index-k.ensures _ _ l r _ (ap length c.lefts-own.ensures);
+      rights_apart = rights_apart_by _ _ _ _ _ table ready _ _ c.index-f.ensures c.index-k.ensures _ _ l r _
+          (ap length c.rights-others.ensures);
     }
 
 pub returns : goal.returns
 returns g c =
     let W = work_state g.S.CellStore.state in
-    let s = W c.args.work.now in
-    let f = c.args.f.now in
-    let k = c.args.k.now in
-    let l = side_summed c.args.sums.now f.handle k.handle _ _ _ _ _ f.lefts.items k.lefts.items c.as_slice-5.ensures
-    c.in_ok-add_sums.ensures c.new-lefts.ensures.items c.as_slice.ensures c.as_slice-2.ensures in
-    let r = side_summed c.args.sums.now f.handle k.handle _ _ _ _ _ f.rights.items k.rights.items c.as_slice-6.ensures
-    c.in_ok-add_sums-2.ensures c.new-rights.ensures.items c.as_slice-3.ensures c.as_slice-4.ensures in
-    given_sum s s (W c.canonical_of_terms.new.work) 0 (nothing_spent s) _ _ s.spare (omega arith) _ _
-    (summed_form s _ f k c.requires.ready _ _ l r c.requires.node) c.canonical_of_terms.ensures.gives
+    let ready = c.requires.1.1.1.0 in
+    let table = c.args.table.now in
+    let n = c.len.ensures ∙ c.args.terms.now.seconds.positions.ok.0 ∙ count _ _ _ ready.placed.seconds in
+    let l = c.as_slice-2.ensures ∙ side_is table _ _ c.args.row c.args.column _ _ _ _ _ n c.lefts-own.ensures c.lefts.ensures c.in_ok-left.ensures in
+    let r = c.as_slice-3.ensures ∙ side_is table _ _ c.args.row c.args.column _ _ _ _ _ n c.rights-others.ensures c.rights.ensures c.in_ok-right.ensures in
+    given_form (W c.args.work.now) (W c.sum_item_at.new.self) _ _ _ (omega arith) _ _ 1 1 _
+    (summed_form _ _ _ _ _ table ready _ _ c.index-f.ensures c.index-k.ensures _ _ l r c.requires.1.1.1.1) c.sum_item_at.ensures

@@ -3,66 +3,110 @@ use Rattle.std.proofs.Common.{arith, refl, sym, ◌∙◌, ap, Err, Ok}
 use Rattle.std.proofs.lemmas.Result.{err_from_is_err_and}
 use Rattle.cg_canon.specs.Works.{work_state}
 use Rattle.cg_canon.proofs.Keeping.{spends_keeps}
-use Rattle.cg_canon.proofs.MadeSteps.{made_with}
-use Rattle.cg_nodes.specs.Meant.{form}
-use Rattle.cg_sum.proofs.Members.{not_none}
-use Rattle.cg_sum.proofs.NegativeSteps.{negative_made, negative_stands, no_negatives}
-use Rattle.cg_sum.proofs.SumEnds.{gives_refused, limit_refused, refused_items, same_refusal, same_spent, slice_closed, slice_has, slice_stands}
+use Rattle.cg_canon.proofs.MadeSteps.{made_memory, made_with}
+use Rattle.cg_sum.specs.Progress.{negative_at_place}
+use Rattle.cg_sum.proofs.SumEnds.{gives_refused, last_at, last_negative, limit_refused, negative_made, refused_items, same_refusal, same_spent, some_negative, stands_as}
+use Rattle.cg_sum.proofs.Walks.{walk_as}
 use Rattle.cg_sum.proofs.negation.negative.Goals as goal
 
-pub returns-in_err-positions : goal.returns-in_err-positions
-returns-in_err-positions g c =
+pub returns-in_err-walk : goal.returns-in_err-walk
+returns-in_err-walk g c =
     let p = err_from_is_err_and c.from_residual.result c.from_residual.ensures.1 in
-    let wv = c.positions_within.ensures.spends in
+    let wv = c.walked.ensures.spends in
     gives_refused _ _ _ _ _ _ (p.1 ∙ ap Err p.2) (refused_items _ _ _ _ _ (p.1 ∙ ap Err p.2)
-    (limit_refused _ _ _ _ _ _ _ (same_spent _ _ 0 wv) c.in_err-positions.ensures.refused) (spends_keeps 0 _ _ wv))
+    (limit_refused _ _ _ _ _ _ _ (same_spent _ _ 0 wv) c.in_err-walk.ensures.refused) (spends_keeps 0 _ _ wv))
     (omega (arith, wv.spare))
 
-pub add_negatives-requires-clause-positions : goal.add_negatives-requires-clause-positions
-add_negatives-requires-clause-positions g c =
-    let v = work_state g.S.CellStore.state c.positions_within.new.work in
-    (slice_stands v _ _ _ c.as_slice.ensures c.in_ok-positions.ensures.positions).0
+pub returns-in_err-table : goal.returns-in_err-table
+returns-in_err-table g c =
+    let p = err_from_is_err_and c.from_residual-in_err-table.result c.from_residual-in_err-table.ensures.1 in
+    let wv = c.walked.ensures.spends in
+    gives_refused _ _ _ _ _ _ (p.1 ∙ ap Err p.2) (made_memory _ _ _ _ (p.1 ∙ ap Err p.2) (spends_keeps 0 _ _ wv))
+    (omega (arith, wv.spare))
 
-pub add_negatives-requires-clause-closed : goal.add_negatives-requires-clause-closed
-add_negatives-requires-clause-closed g c =
-    let v = work_state g.S.CellStore.state c.positions_within.new.work in
-    slice_closed v _ _ _ c.as_slice.ensures c.in_ok-positions.ensures.positions
-
-pub add_negatives-requires-clause-holds : goal.add_negatives-requires-clause-holds
-add_negatives-requires-clause-holds g c = no_negatives _ _ c.new-negatives.ensures
+pub add_negatives-requires : goal.add_negatives-requires
+add_negatives-requires g c κs within =
+    let walk = c.in_ok-walk.ensures.walk in (
+      within.0,
+      (
+        within.1.0,
+        (
+          within.1.1,
+          (
+            walk_as _ _ _ _ (sym walk.at.1) walk,
+            c.in_ok-table.ensures.items,
+          ),
+        ),
+      ),
+    )
 
 pub returns-in_err-add_negatives : goal.returns-in_err-add_negatives
 returns-in_err-add_negatives g c =
-    let v = work_state g.S.CellStore.state c.positions_within.new.work in
-    let wv = c.positions_within.ensures.spends in
+    let W = work_state g.S.CellStore.state in
+    let w = W c.args.work.now in
+    let v = W c.walked.new.work in
+    let x = W c.add_negatives.new.work in
+    let wv = c.walked.ensures.spends in
+    let walk = c.in_ok-walk.ensures in
     let p = err_from_is_err_and c.from_residual-in_err-add_negatives.result c.from_residual-in_err-add_negatives.ensures.1 in
-    gives_refused _ _ _ _ _ _ (p.1 ∙ ap Err p.2)
-    (same_refusal _ _ _ c.add_negatives.result _ _ c.in_err-add_negatives.was (p.1 ∙ ap Err p.2)
-    (negative_made _ _ _ _ _ wv (slice_stands v _ _ _ c.as_slice.ensures c.in_ok-positions.ensures.positions).1
-    c.in_ok-positions.ensures.within _ c.add_negatives.ensures.made)) (omega (arith, wv.spare, c.add_negatives.ensures.spare))
+    gives_refused w x _ _ _ _ (p.1 ∙ ap Err p.2) (same_refusal w x _ c.add_negatives.result _ _ c.in_err-add_negatives.was
+    (p.1 ∙ ap Err p.2) (negative_made w v x _ _ wv walk.walk.at.1 _ walk.within c.add_negatives.ensures.made))
+    (omega (arith, wv.spare, c.add_negatives.ensures.spare))
 
-pub unreachable-requires : goal.unreachable-requires
-unreachable-requires g c =
-    let v = work_state g.S.CellStore.state c.positions_within.new.work in
-    let x = work_state g.S.CellStore.state c.add_negatives.new.work in
-    let known = c.add_negatives.ensures.made.keeps.known in
-    let later = c.positions_within.ensures.spends.known c.args.a (form _) c.requires in
-    not_none _ (c.in_ok-add_negatives.ensures.found c.args.a
-    (slice_has v _ _ _ c.as_slice.ensures c.in_ok-positions.ensures.positions x known c.apart.ensures c.args.a
-    (known c.args.a (form _) later))) (sym c.get.ensures ∙ c.in-None.is)
+pub overflow_sub-len : goal.overflow_sub-len
+overflow_sub-len g c =
+    let W = work_state g.S.CellStore.state in
+    let v = W c.walked.new.work in
+    let holds = c.in_ok-add_negatives.ensures.holds in
+    let some = some_negative (W c.args.work.now) v v _ _ c.walked.ensures.spends c.in_ok-walk.ensures.walk.at.1 in
+    let ok = c.add_negatives.new.table.ok.0 in
+    let len = c.len-2.ensures in
+    let count = holds.count in
+    omega (arith, ok, len, count, some)
+
+pub index-requires : goal.index-requires
+index-requires g c =
+    let W = work_state g.S.CellStore.state in
+    let v = W c.walked.new.work in
+    let holds = c.in_ok-add_negatives.ensures.holds in
+    let some = some_negative (W c.args.work.now) v v _ _ c.walked.ensures.spends c.in_ok-walk.ensures.walk.at.1 in
+    let ok = c.add_negatives.new.table.ok.0 in
+    let len = c.len-2.ensures in
+    let count = holds.count in
+    omega (arith, ok, len, count, some)
+
+pub handle_at-requires : goal.handle_at-requires
+handle_at-requires g c =
+    let W = work_state g.S.CellStore.state in
+    let w = W c.args.work.now in
+    let v = W c.walked.new.work in
+    let wv = c.walked.ensures.spends in
+    let is = c.in_ok-walk.ensures.walk.at.1 in
+    let holds = c.in_ok-add_negatives.ensures.holds in
+    let some = some_negative w v v _ _ wv is in
+    let ok = c.add_negatives.new.table.ok.0 in
+    let len = c.len-2.ensures in
+    let count = holds.count in
+    (last_at _ (negative_at_place _) _ _ holds some _ (last_negative w v v _ _ wv is) _ _ (omega (arith, ok, len, count, some))
+    c.index.ensures).within
 
 pub returns : goal.returns
 returns g c =
     let W = work_state g.S.CellStore.state in
     let w = W c.args.work.now in
-    let v = W c.positions_within.new.work in
+    let v = W c.walked.new.work in
     let x = W c.add_negatives.new.work in
-    let wv = c.positions_within.ensures.spends in
-    let made = negative_made w v x _ _ wv (slice_stands v _ _ _ c.as_slice.ensures c.in_ok-positions.ensures.positions).1
-    c.in_ok-positions.ensures.within _ c.add_negatives.ensures.made in
+    let wv = c.walked.ensures.spends in
+    let is = c.in_ok-walk.ensures.walk.at.1 in
+    let holds = c.in_ok-add_negatives.ensures.holds in
+    let some = some_negative w v x _ _ wv is in
+    let ok = c.add_negatives.new.table.ok.0 in
+    let len = c.len-2.ensures in
+    let count = holds.count in
     record {
-      game = negative_stands w x made.keeps.known _ c.in_ok-add_negatives.ensures.holds _ _ c.requires
-          (sym c.get.ensures ∙ c.in-Some.is);
-      made = made_with w x _ c.add_negatives.result (Ok _) _ _ c.in_ok-add_negatives.was refl made;
+      game = stands_as x _ _ _ (last_at _ (negative_at_place _) _ _ holds some _ (last_negative w v x _ _ wv is) _ _
+          (omega (arith, ok, len, count, some)) c.index.ensures).is c.handle_at.ensures;
+      made = made_with w x _ c.add_negatives.result (Ok _) _ _ c.in_ok-add_negatives.was refl
+          (negative_made w v x _ _ wv is _ c.in_ok-walk.ensures.within c.add_negatives.ensures.made);
       more = omega (arith, wv.spare, c.add_negatives.ensures.spare);
     }
