@@ -58,9 +58,13 @@ fn number_of_pages(start: u64, pages: &[u32]) -> u64 {
     number
 }
 
-/// A number for the form with these options.
+/// A number for the form with these options. Those of nimbers are the same on both sides, and are gone through once.
 pub(crate) fn number_of_form(lefts: &[u32], rights: &[u32]) -> u32 {
-    half_of(number_of_pages(number_of_pages(1, lefts).wrapping_add(1), rights))
+    let own = number_of_pages(1, lefts);
+    if are_equal(lefts, rights) {
+        return half_of(own);
+    }
+    half_of(number_of_pages(own.wrapping_add(1), rights))
 }
 
 /// Whether the two lists are the same.

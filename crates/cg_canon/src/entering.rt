@@ -10,6 +10,7 @@ ghost use Rattle.cg_canon.specs.Books.{BookHolds};
 
 use crate::book::{Book, number_of_form};
 use crate::number_up_star::NumberUpStar;
+use crate::places::number_of_handle;
 use cg_book::Profile;
 use cg_cells::CellStore;
 use cg_dyadic::Dyadic;
@@ -36,7 +37,7 @@ pub(crate) fn enter_number<B: BoardForms, S: CellStore<GameFacts<B>>>(
     book.links.reserve(1)?;
     book.handles.reserve(1)?;
     let page = book.pages.add_number(x)?;
-    book.name(handle, 0);
+    book.name(handle, number_of_handle(handle));
     book.recognized
         .enter(page, Some(NumberUpStar::of_number(x)));
     Ok(page)
