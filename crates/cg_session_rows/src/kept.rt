@@ -2,7 +2,7 @@
 ghost use Rattle.std.specs.Prelude.{IfOk, IfSome};
 ghost use Rattle.cg_nodes.specs.Games.{IsGame};
 ghost use Rattle.cg_shared.specs.Passes.{IsPassOf, pass_state};
-ghost use Rattle.cg_rows.specs.Kept.{HaveGames};
+ghost use Rattle.cg_session_rows.specs.Kept.{HaveGames};
 
 use crate::sheet::{SHEET, words_of};
 use cg_canon::equal;

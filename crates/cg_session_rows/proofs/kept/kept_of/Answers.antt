@@ -1,6 +1,6 @@
 use Rattle.std.proofs.Common.{rules, inl}
-use Rattle.cg_rows.proofs.Handles.{whole_games}
-use Rattle.cg_rows.proofs.kept.kept_of.Goals as goal
+use Rattle.cg_session_rows.proofs.Handles.{whole_games}
+use Rattle.cg_session_rows.proofs.kept.kept_of.Goals as goal
 
 pub returns-clause-games : goal.returns-clause-games
 returns-clause-games g c =

@@ -1,44 +1,10 @@
 //! Sessions whose lines are answered by several workers.
-use crate::sheet::{SHEET, session, words_of};
+use crate::sheet::words_of;
 use cg_io::{MemorySink, SteadySource};
 use cg_pool::Gate;
 use cg_session::{Status, run};
-use std::alloc::AllocError;
 use std::sync::atomic::{AtomicU64, Ordering};
 use std::test::Fail;
-
-/// The replies to the lines of a sheet, each with its place in it.
-const REPLIES: [(u64, &str); 4] = [
-    (2, "^*"),
-    (3, "||"),
-    (4, "mean 3/4 temp 5/4 left 2@0 3/4@5/4 right -1/2@0 3/4@5/4"),
-    (5, "N"),
-];
-
-/// Any number of workers writes the same bytes.
-#[test]
-fn write_the_same_bytes(rt: HostRuntime) -> Result<(), AllocError> {
-    let alloc = rt.alloc();
-    let mut input = String::new(alloc);
-    let mut output = String::new(alloc);
-    for sheet in 0..8u64 {
-        input.push_str(SHEET)?;
-        for (place, reply) in REPLIES {
-            let number = (5 * sheet).saturating_add(place);
-            writeln!(output, "{number}: {reply}")?;
-        }
-    }
-    for words in [
-        "--workers 1 --cells 100000",
-        "--workers 2 --cells 100000",
-        "--workers 64 --cells 100000",
-    ] {
-        let (status, sink) = session(&rt, alloc, words, input.as_bytes())?;
-        assert!(rt; status == Status::Done, "{words}");
-        assert!(rt; sink.bytes() == output.as_bytes(), "{words}");
-    }
-    Ok(())
-}
 
 /// What a gate was told of one line.
 #[derive(Drop)]
@@ -114,4 +80,10 @@ fn work_side_by_side(rt: HostRuntime) -> Result<(), Fail> {
         assert_eq!(rt; told.met.load(Ordering::SeqCst), 1);
     }
     Ok(())
+}
+
+/// No session here ends by want of memory.
+#[test]
+fn want_of_memory_has_a_number(rt: HostRuntime) {
+    assert_eq!(rt; Status::Memory.code(), 5);
 }

@@ -15,7 +15,7 @@ use Rattle.cg_session.specs.Good.{IsGood}
 use Rattle.cg_session.specs.Kept.{KeepsSession}
 use Rattle.cg_session.specs.Replies.{HandleFor}
 use Rattle.cg_session.specs.Settings.{share_of, text_by}
-use Rattle.cg_rows.specs.Kept.{HaveGames}
+use Rattle.cg_session_rows.specs.Kept.{HaveGames}
 
 module _ {R : Type 0} (s : State Meant R) where
   handle-game : (q : Question) (refused : Bool) (handle : Option ℕ) → HandleIs (knowing s.known) q refused handle
