@@ -8,7 +8,7 @@ use Rattle.cg_cells.specs.Words.{Words, IsStore}
 use Rattle.cg_cells.proofs.Layouts.{parts_of_word}
 use Rattle.cg_cells.proofs.Levels.{stands_key}
 use Rattle.std.specs.Prelude.{slice_index}
-use Rattle.cg_cell_rows.specs.Toys.{toy_meaning, toy_lawful, toy_spells, kept_if, all_wanted, is_wanted, wanted}
+use Rattle.cg_shared_rows.specs.Toys.{toy_meaning, toy_lawful, toy_spells, kept_if, all_wanted, is_wanted, wanted}
 
 spelled : (f : ℕ → Option ℕ) (key : ℕ) (ids : List ℕ) → names_of key ≡ ids → all_wanted f ids ≡ true → toy_spells key f ≡ Some key
 spelled f key ids names all = ap (λ b. kept_if b key) (ap (all_wanted f) names ∙ all)

@@ -1,7 +1,7 @@
 use Rattle.std.proofs.Common.{sym, ◌∙◌}
 use Rattle.cg_cells.proofs.Levels.{spells_grows}
 use Rattle.cg_cells.proofs.Notes.{some_is, is_some}
-use Rattle.cg_cell_rows.proofs.cells.claims_agree.Goals as goal
+use Rattle.cg_shared_rows.proofs.cells.claims_agree.Goals as goal
 
 pub claim-again-requires-clause-spells : goal.claim-again-requires-clause-spells
 claim-again-requires-clause-spells g c =

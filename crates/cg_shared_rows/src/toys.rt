@@ -3,7 +3,7 @@ ghost use Rattle.std.specs.Prelude.{◌≡◌, pos, Some};
 ghost use Rattle.cg_cells.specs.declared.key.KeyParts.TheVariants.{Number};
 ghost use Rattle.cg_cells.specs.Layout.{word_of};
 ghost use Rattle.cg_cells.specs.Parts.{parts_of};
-ghost use Rattle.cg_cell_rows.specs.Toys.{toy_meaning, toy_lawful, spread, spread_below};
+ghost use Rattle.cg_shared_rows.specs.Toys.{toy_meaning, toy_lawful, spread, spread_below};
 
 use cg_cells::{Facts, Key, KeyParts};
 
