@@ -1,16 +1,16 @@
 //! Worked sessions: what each writes and how it ends.
 //!
-//! The input has a session behind each `$` that begins a line. The line of the `$` has the words of the command line,
-//! each behind a bar, and in front of them, where something fails in the session, how many bytes the source gives and the
-//! sink takes in a call at most, how many bytes the sink has room for, and which of their calls fail. The lines behind it
-//! are the session's own. One that begins with `@` has a number and a text, which stands there so many times, without a
-//! line feed but those that it spells: there a line feed is `\n`, a carriage return `\r` and the byte 0 `\0`. A session
-//! without lines has those of the one before. A line that begins with `$#` says what stands behind it, and one with `$?`
-//! asks what its words give.
+//! The input has a session behind each `$` that begins a line. The line of the `$` has the words of the command
+//! line, each behind a bar, and in front of them, where something fails in the session, how many bytes the source
+//! gives and the sink takes in a call at most, how many bytes the sink has room for, and which of their calls fail.
+//! The lines behind it are the session's own. One that begins with `@` has a number and a text, which stands there
+//! so many times, without a line feed but those that it spells: there a line feed is `\n`, a carriage return `\r`
+//! and the byte 0 `\0`. A session without lines has those of the one before. A line that begins with `$#` says what
+//! stands behind it, and one with `$?` asks what its words give.
 //!
-//! For each session its line is written, then the number of its status, how many bytes it wrote and how many the source
-//! still gives, and then what it wrote, or the end of that where it is long. The sessions with their wanted answers come
-//! from the textbook, from the literature and from hand.
+//! For each session its line is written, then the number of its status, how many bytes it wrote and how many the
+//! source still gives, and then what it wrote, or the end of that where it is long. The sessions with their wanted
+//! answers come from the textbook, from the literature and from hand.
 #![tactic(auto)]
 
 use cg_io::{MemorySink, MemorySource, Source};

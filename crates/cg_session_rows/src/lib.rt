@@ -1,5 +1,5 @@
-//! Tests of sessions, sources and sinks that need threads, a gate, what a session keeps, or readers and writers of their
-//! own: their expected values come from the textbook and from hand.
+//! Tests of sessions, sources and sinks that need threads, a gate, what a session keeps, or readers and writers of
+//! their own: their expected values come from the textbook and from hand.
 #![tactic(auto)]
 
 #[cfg(test)]

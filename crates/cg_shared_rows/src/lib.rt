@@ -1,5 +1,5 @@
-//! Worked keys, claims and notes on a plain store, and claims, tickets, notes and answers on a table that threads share,
-//! as tests of cg_cells, cg_shared and cg_pool.
+//! Worked keys, claims and notes on a plain store, and claims, tickets, notes and answers on a table that threads
+//! share, as tests of cg_cells, cg_shared and cg_pool.
 #![tactic(auto)]
 
 #[cfg(test)]

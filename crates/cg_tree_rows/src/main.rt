@@ -2,8 +2,8 @@
 //! written back with its answer. The expected answers in `stdout` come from the textbook or were worked out by hand.
 //!
 //! Numbers are `n` or `n/2^k`. Of handles there are the ids that star and long numbers get, with the cells that are
-//! left, what handles stand for, their options and their lists, their positions if there are no more than a limit, their
-//! structural order, and the homes of keys.
+//! left, what handles stand for, their options and their lists, their positions if there are no more than a limit,
+//! their structural order, and the homes of keys.
 #![tactic(auto)]
 
 mod games;

@@ -2,13 +2,13 @@
 //!
 //! `n:3/2^1` makes the item of the number 3/2, and `n:none` that of a number out of range; `g:0,1|2` makes the item
 //! of the canonical form of the game whose options are these handles, which are named by the order in which they
-//! were made; `c:2` charges the item of a form again; `+1` behind one of them is the cost of so much more. `tower:5`
-//! makes so many games, each {0|the last}. `w:` makes the game of a word, `+:0:1` the sum of two, `-:0` a negative, and
-//! `x:3:0` a multiple. What is printed for these is the first handle with the same id, or the handle, and what was spent
-//! so far. `name:2` gives the name of a game; `below:2` tells which of the games game 2 is at most; `num:3/2^1:2` whether
-//! the number is at most game 2, and whether game 2 is at most the number; `same:0:2` whether two are one game; `sides:2`
-//! the options of a game; `left:1:2` and `right:1:2` the walls of game 2 at the temperature 1; `agree:40` in how many of
-//! so many rounds both ways to canonical forms agree.
+//! were made; `c:2` charges the item of a form again; `+1` behind one of them is the cost of so much more.
+//! `tower:5` makes so many games, each {0|the last}. `w:` makes the game of a word, `+:0:1` the sum of two, `-:0` a
+//! negative, and `x:3:0` a multiple. What is printed for these is the first handle with the same id, or the handle,
+//! and what was spent so far. `name:2` gives the name of a game; `below:2` tells which of the games game 2 is at
+//! most; `num:3/2^1:2` whether the number is at most game 2, and whether game 2 is at most the number; `same:0:2`
+//! whether two are one game; `sides:2` the options of a game; `left:1:2` and `right:1:2` the walls of game 2 at the
+//! temperature 1; `agree:40` in how many of so many rounds both ways to canonical forms agree.
 use crate::desk::Desk;
 use crate::stop::Stop;
 use crate::terms::{halves, number, read, wide};
