@@ -1,1 +1,3 @@
 pub mod Knowing
+pub mod Singles
+pub mod Spelled

@@ -1,7 +1,7 @@
 //! Many threads that claim the same keys, each in an order of its own.
 ghost use Rattle.std.specs.Prelude.{◌<◌};
 
-use cg_cell_rows::toys::{Spread, whole_key};
+use crate::toys::{Spread, whole_key};
 use cg_cells::{CellStore, Id};
 use cg_pool::{Job, NoGate, evaluate};
 use cg_shared::Desk;

@@ -1,5 +1,5 @@
 //! What a worker holds from line to line.
-use cg_cell_rows::toys::Spread;
+use crate::toys::Spread;
 use cg_pool::{Job, NoGate, evaluate};
 use cg_shared::Desk;
 use std::alloc::{AllocError, Global};

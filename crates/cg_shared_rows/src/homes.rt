@@ -3,7 +3,7 @@ ghost use Rattle.std.specs.Prelude.{◌≤◌, IfSome};
 ghost use Rattle.cg_shared.specs.Passes.{IsPassOf};
 ghost use Rattle.cg_shared_rows.specs.Homes.{one_home_meaning, one_home_lawful};
 
-use cg_cell_rows::toys::whole_key;
+use crate::toys::whole_key;
 use cg_cells::{Facts, Id};
 use cg_nodes::Thing;
 use cg_shared::{Pass, SharedCells, Ticket};

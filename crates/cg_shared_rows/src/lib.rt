@@ -1,6 +1,9 @@
-//! Worked claims, tickets, notes and answers on a table that threads share, as tests of cg_shared and cg_pool.
+//! Worked keys, claims and notes on a plain store, and claims, tickets, notes and answers on a table that threads
+//! share, as tests of cg_cells, cg_shared and cg_pool.
 #![tactic(auto)]
 
+#[cfg(test)]
+mod cells;
 #[cfg(test)]
 mod crowds;
 #[cfg(test)]
@@ -17,3 +20,5 @@ mod pools;
 mod stars;
 #[cfg(test)]
 mod tables;
+#[cfg(test)]
+mod toys;

@@ -5,7 +5,7 @@ ghost use Rattle.cg_cells.specs.declared.key.KeyParts.TheVariants.{Number};
 ghost use Rattle.cg_cells.specs.Layout.{word_of};
 ghost use Rattle.cg_shared.specs.Passes.{IsPassOf};
 
-use cg_cell_rows::toys::{Spread, whole_key};
+use crate::toys::{Spread, whole_key};
 use cg_cells::{CellStore, Id};
 use cg_pool::{Evaluated, Gate, Job, NoGate, evaluate};
 use cg_shared::Desk;

@@ -4,7 +4,8 @@ ghost use Rattle.std.specs.Thread.{IsSync};
 ghost use Rattle.cg_dyadic.specs.Number.{whole};
 ghost use Rattle.cg_cells.specs.Store.{Spends};
 ghost use Rattle.cg_nodes.specs.Games.{StandsFor};
-ghost use Rattle.cg_tree_rows.specs.Stars.{star, zero_game};
+ghost use Rattle.cg_nimbers.specs.Nimbers.{zero_form};
+ghost use Rattle.cg_nimbers.specs.Ups.{star_form};
 ghost use Rattle.cg_shared.specs.Passes.{IsPassOf, pass_state};
 
 use cg_cells::CellStore;
@@ -38,8 +39,8 @@ pub(crate) struct Star {
 /// Makes star, with the claims of its three cells.
 pub(crate) fn make_star<B: BoardForms, S: CellStore<GameFacts<B>>>(store: &mut S) -> Star
     requires { 3 ≤ (S.state store.old).spare }
-    ensures zero { StandsFor (S.state store.new) result.zero zero_game }
-    ensures star { StandsFor (S.state store.new) result.star star }
+    ensures zero { StandsFor (S.state store.new) result.zero zero_form }
+    ensures star { StandsFor (S.state store.new) result.star star_form }
     ensures spends { Spends 3 (S.state store.old) (S.state store.new) }
 {
     let zero = number(store, zero());
@@ -65,7 +66,7 @@ fn alone(alloc: Global, cells: &SharedCells<Games>, mut pass: Pass<Games>) -> Op
     requires own { IsPassOf cells.now pass }
     requires share { 3 ≤ cells.now.sizes.share }
     ensures own { IfSome result (λ met. IsPassOf cells.now met.pass) }
-    ensures star { IfSome result (λ met. StandsFor (pass_state met.pass) met.made.star star) }
+    ensures star { IfSome result (λ met. StandsFor (pass_state met.pass) met.made.star star_form) }
 {
     let Ticket(line) = cells.draw(&mut pass)?;
     let mut lines = Vec::new(alloc);
@@ -83,9 +84,9 @@ fn alone(alloc: Global, cells: &SharedCells<Games>, mut pass: Pass<Games>) -> Op
 /// What two sets of threads made, together.
 fn both(cells: &SharedCells<Games>, mine: Met, theirs: Met) -> Option<Met>
     requires own { IsPassOf cells.now mine.pass × IsPassOf cells.now theirs.pass }
-    requires star { StandsFor (pass_state mine.pass) mine.made.star star }
+    requires star { StandsFor (pass_state mine.pass) mine.made.star star_form }
     ensures own { IfSome result (λ met. IsPassOf cells.now met.pass) }
-    ensures star { IfSome result (λ met. StandsFor (pass_state met.pass) met.made.star star) }
+    ensures star { IfSome result (λ met. StandsFor (pass_state met.pass) met.made.star star_form) }
 {
     let Met {
         mut lines,
@@ -121,7 +122,7 @@ pub(crate) fn together<R: Threads + Sync>(
     requires share { 3 ≤ cells.now.sizes.share }
     requires threads { threads ≡ pass.sees.heirs + 1 }
     ensures own { IfSome result (λ met. IsPassOf cells.now met.pass) }
-    ensures star { IfSome result (λ met. StandsFor (pass_state met.pass) met.made.star star) }
+    ensures star { IfSome result (λ met. StandsFor (pass_state met.pass) met.made.star star_form) }
 {
     if threads <= 1 {
         return alone(alloc, cells, pass);
@@ -134,7 +135,7 @@ pub(crate) fn together<R: Threads + Sync>(
             requires own { IsPassOf cells.now pass }
             requires share { 3 ≤ cells.now.sizes.share }
             ensures own { IfSome result (λ met. IsPassOf cells.entry.now met.pass) }
-            ensures star { IfSome result (λ met. StandsFor (pass_state met.pass) met.made.star star) }
+            ensures star { IfSome result (λ met. StandsFor (pass_state met.pass) met.made.star star_form) }
         { alone(alloc, cells, pass) },
         move ||
             requires own { IsPassOf cells.now other }

@@ -12,36 +12,6 @@ use cg_nodes::{
 };
 use std::alloc::Global;
 
-/// Calls on handles, each with its answer: the ids that star and long numbers get, with the cells that are left;
-/// what handles stand for, their options and their lists; their positions, if there are no more than a limit; their
-/// structural order; and the homes of keys.
-pub const ROWS: &str = "\
-claims * => 0 2, 4093
-long 4503599627370496 => 2, 0, 4503599627370496
-long -4503599627370497/2^3 => 2, 0, -4503599627370497/2^3
-long 1/2^40 => 2, 0, 1/2^40
-long -1/2^32 => 2, 0, -1/2^32
-long -18446744073709551615/2^40 => 2, 0, -18446744073709551615/2^40
-read 0 => 0
-kind 0 => 0
-kind * => game
-sides * => 0|0, 1 false
-sides ^ => 0|*, 1 false
-lists * => 0, the same
-head * => 0, the last
-positions ^ 3 => 0*^
-positions ^ 2 => ! Positions
-positions 0 1 => 0
-positions 0 0 => ! Positions
-structure 0 * => Less
-structure * ^ => Less
-structure ^ * => Greater
-structure ^ ^ => Equal
-home 2314850208468434945 1000003 => 475617, 475617
-home 2314850208468434943 67108864 => 11895787, 11895787
-blank handles => 0, true
-";
-
 type Store = PlainStore<GameFacts<NoBoards>>;
 
 /// The name of the handle.

@@ -1,17 +1,19 @@
 //! A store of words in which the first cell is the number 0.
+use crate::terms::shown;
 use cg_cells::{CellStore, Id, PlainStore};
-use cg_dyadic::Dyadic;
 use cg_nodes::{GameFacts, Handle, Kind, NoBoards, kind};
-use std::test::Fail;
+use std::alloc::Global;
 
-#[test]
-fn reads_a_store_of_words(rt: HostRuntime) -> Result<(), Fail> {
-    let keys = vec![in rt.alloc(); 0x2000_0000_0000_0000, 0, 0, 0]?;
-    let values = vec![in rt.alloc(); 0, 0, 0, 0]?;
-    let mut store = PlainStore::<GameFacts<NoBoards>>::of_words(rt.alloc(), keys, values, 3)?;
-    assert_eq!(rt; store.spare(), 3);
+/// What the first handle of the store stands for, and what the store has to spare before and after.
+pub fn answer(alloc: Global) -> anyhow::Result<String> {
+    let keys = vec![in alloc; 0x2000_0000_0000_0000, 0, 0, 0]?;
+    let values = vec![in alloc; 0, 0, 0, 0]?;
+    let mut store = PlainStore::<GameFacts<NoBoards>>::of_words(alloc, keys, values, 3)?;
+    let spare = store.spare();
     let found = kind(&mut store, Handle::of(Id::new(0)));
-    assert_eq!(rt; found, Kind::Number(Dyadic::make(0, 0)?));
-    assert_eq!(rt; store.spare(), 3);
-    Ok(())
+    let left = store.spare();
+    match found {
+        Kind::Number(x) => Ok(format!(in alloc; "{}, {spare} {left}", shown(alloc, x)?)?),
+        Kind::Game => anyhow::bail!("no number"),
+    }
 }

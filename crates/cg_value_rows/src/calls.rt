@@ -2,18 +2,21 @@
 //!
 //! `n:3/2^1` makes the item of the number 3/2, and `n:none` that of a number out of range; `g:0,1|2` makes the item
 //! of the canonical form of the game whose options are these handles, which are named by the order in which they
-//! were made; `c:2` charges the item of a form again; `+1` behind one of them is the cost of so much more. `tower:5`
-//! makes so many games, each {0|the last}. What is printed for these is the first handle with the same id, and what
-//! was spent so far. `below:2` tells which of the games game 2 is at most; `num:3/2^1:2` whether the number is at
-//! most game 2, and whether game 2 is at most the number; `same:0:2` whether two are one game; `sides:2` the options
-//! of a game; `agree:40` in how many of so many rounds both ways to canonical forms agree. `p:3:0` gives a proof
-//! that game 3 is at least game 0, and `is:3:0:TEXT` tells whether the text is one.
+//! were made; `c:2` charges the item of a form again; `+1` behind one of them is the cost of so much more.
+//! `tower:5` makes so many games, each {0|the last}. `w:` makes the game of a word, `+:0:1` the sum of two, `-:0` a
+//! negative, and `x:3:0` a multiple. What is printed for these is the first handle with the same id, or the handle,
+//! and what was spent so far. `name:2` gives the name of a game; `below:2` tells which of the games game 2 is at
+//! most; `num:3/2^1:2` whether the number is at most game 2, and whether game 2 is at most the number; `same:0:2`
+//! whether two are one game; `sides:2` the options of a game; `left:1:2` and `right:1:2` the walls of game 2 at the
+//! temperature 1; `agree:40` in how many of so many rounds both ways to canonical forms agree.
 use crate::desk::Desk;
 use crate::stop::Stop;
-use crate::terms::{halves, number, read};
+use crate::terms::{halves, number, read, wide};
 use crate::trees::agreements;
+use crate::words::plain;
 use cg_cells::CellStore;
 use cg_nodes::{BoardForms, GameFacts};
+use cg_thermo::wall_at;
 use std::alloc::Global;
 
 /// The text in front of `+`, and the cost behind it.
@@ -111,6 +114,23 @@ fn tower<B: BoardForms, S: CellStore<GameFacts<B>>>(
     Ok(last)
 }
 
+/// Makes the sum of two games, the negative of one, or a multiple of it.
+fn added<B: BoardForms, S: CellStore<GameFacts<B>>>(
+    alloc: Global,
+    desk: &mut Desk<B, S>,
+    name: &str,
+    text: &str,
+) -> Result<usize, Stop> {
+    if name == "-" {
+        return desk.negative(alloc, index(text)?);
+    }
+    let (front, back) = halves(text, ':')?;
+    if name == "+" {
+        return desk.sum(alloc, index(front)?, index(back)?);
+    }
+    desk.multiple(alloc, read(front.parse::<u128>())?, index(back)?)
+}
+
 /// The game that a call makes or charges again, unless the call does neither.
 fn made<B: BoardForms, S: CellStore<GameFacts<B>>>(
     alloc: Global,
@@ -123,6 +143,8 @@ fn made<B: BoardForms, S: CellStore<GameFacts<B>>>(
         "g" => Ok(Some(game_made(alloc, desk, text)?)),
         "c" => Ok(Some(charged(alloc, desk, text)?)),
         "tower" => Ok(Some(tower(alloc, desk, text)?)),
+        "w" => Ok(Some(plain(alloc, desk, text)?)),
+        "+" | "-" | "x" => Ok(Some(added(alloc, desk, name, text)?)),
         _ => Ok(None),
     }
 }
@@ -182,26 +204,29 @@ fn sides<B: BoardForms, S: CellStore<GameFacts<B>>>(
     Ok(text)
 }
 
-/// Asks whether a text is a proof.
-fn accepted<B: BoardForms, S: CellStore<GameFacts<B>>>(
+/// The value of a wall at the temperature.
+fn wall<B: BoardForms, S: CellStore<GameFacts<B>>>(
     alloc: Global,
     desk: &mut Desk<B, S>,
+    name: &str,
     text: &str,
 ) -> Result<String, Stop> {
-    let (front, rest) = halves(text, ':')?;
-    let (back, bytes) = halves(rest, ':')?;
-    let answer = desk.check(alloc, index(front)?, index(back)?, bytes)?;
-    Ok(String::from_str(alloc, if answer { "yes" } else { "no" })?)
-}
-
-/// Asks for a proof.
-fn proved<B: BoardForms, S: CellStore<GameFacts<B>>>(
-    alloc: Global,
-    desk: &mut Desk<B, S>,
-    text: &str,
-) -> Result<String, Stop> {
-    let (a, b) = pair(text)?;
-    desk.prove(alloc, a, b)
+    let (front, back) = halves(text, ':')?;
+    let (Some(at), Ok(walls)) = (wide(front), desk.walls(alloc, index(back)?)) else {
+        return Err(Stop::Unread);
+    };
+    let corners = if name == "left" {
+        walls.left
+    } else {
+        walls.right
+    };
+    if corners.is_empty() {
+        return Err(Stop::Unread);
+    }
+    match wall_at(&corners, at) {
+        Some(x) => Ok(x.text(alloc)?),
+        None => Ok(String::from_str(alloc, "none")?),
+    }
 }
 
 /// What the call answers that the word spells.
@@ -223,8 +248,8 @@ pub(crate) fn call<B: BoardForms, S: CellStore<GameFacts<B>>>(
             let rounds = read(text.parse::<u32>())?;
             Ok(agreements(alloc, desk, rounds)?.to_string(alloc)?)
         }
-        "p" => proved(alloc, desk, text),
-        "is" => accepted(alloc, desk, text),
+        "name" => desk.name(alloc, index(text)?),
+        "left" | "right" => wall(alloc, desk, name, text),
         _ => Err(Stop::Unread),
     }
 }

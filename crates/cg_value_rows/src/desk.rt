@@ -10,13 +10,12 @@ use crate::stop::Stop;
 use crate::trees::tree_of;
 use cg_canon::{Work, Written, canonical, equal, item_of, le, le_number, number_item, number_le};
 use cg_cells::CellStore;
-use cg_cert::{check, prove};
 use cg_dyadic::Dyadic;
 use cg_form::Form;
 use cg_names::{name, nimber, switch, tiny, ups};
 use cg_nodes::{BoardForms, GameFacts, Handle};
 use cg_sum::{multiple, negative, sum};
-use cg_thermo::{Outcome, Stops, ThermoFault, Walls, outcome, stops, thermograph};
+use cg_thermo::{ThermoFault, Walls, thermograph};
 use std::alloc::Global;
 use std::marker::Model;
 
@@ -244,26 +243,6 @@ impl<'a, B: BoardForms, S: CellStore<GameFacts<B>>> Desk<'a, B, S> {
         Ok(equal(&self.work, first, second))
     }
 
-    /// The answer to the question for a proof that the first of the two is at least the second.
-    pub(crate) fn prove(&mut self, alloc: Global, a: usize, b: usize) -> Result<String, Stop> {
-        let first = self.game(a)?;
-        let second = self.game(b)?;
-        Ok(prove(alloc, &mut self.work, first, second)?)
-    }
-
-    /// Whether the text is a proof that the first of the two is at least the second.
-    pub(crate) fn check(
-        &mut self,
-        alloc: Global,
-        a: usize,
-        b: usize,
-        text: &str,
-    ) -> Result<bool, Stop> {
-        let first = self.game(a)?;
-        let second = self.game(b)?;
-        Ok(check(alloc, &mut self.work, first, second, text.as_bytes())?)
-    }
-
     /// The indices of the options of a game that is no number.
     pub(crate) fn sides(&mut self, alloc: Global, a: usize) -> Result<Sides, Stop> {
         let handle = self.game(a)?;
@@ -286,18 +265,6 @@ impl<'a, B: BoardForms, S: CellStore<GameFacts<B>>> Desk<'a, B, S> {
     pub(crate) fn tree(&mut self, alloc: Global, a: usize) -> Result<Form, Stop> {
         let handle = self.game(a)?;
         tree_of(alloc, &mut self.work, handle, DEPTH)
-    }
-
-    /// Who wins the game.
-    pub(crate) fn outcome(&mut self, alloc: Global, a: usize) -> Result<Outcome, Stop> {
-        let handle = self.game(a)?;
-        Ok(outcome(alloc, &mut self.work, handle)?)
-    }
-
-    /// The stops of the game.
-    pub(crate) fn stops(&mut self, alloc: Global, a: usize) -> Result<Stops, Stop> {
-        let handle = self.game(a)?;
-        Ok(stops(alloc, &mut self.work, handle)?)
     }
 
     /// The thermograph of the game.

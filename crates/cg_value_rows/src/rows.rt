@@ -28,7 +28,6 @@ fn told<B: BoardForms, S: CellStore<GameFacts<B>>>(
     match call(alloc, desk, spelled) {
         Ok(text) => Ok(if quiet { String::new(alloc) } else { text }),
         Err(Stop::Refused(fault)) => Ok(format!(in alloc; "{fault:?}/{}", desk.spent())?),
-        Err(Stop::Long) => Ok(String::from_str(alloc, "long")?),
         Err(fault) => Err(fault),
     }
 }

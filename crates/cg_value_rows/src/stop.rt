@@ -1,7 +1,6 @@
 //! Why a call has no answer.
 
 use cg_canon::ValueFault;
-use cg_cert::CertFault;
 use std::alloc::{AllocError, AllocFailed};
 
 /// Why a call has no answer.
@@ -9,8 +8,6 @@ use std::alloc::{AllocError, AllocFailed};
 pub(crate) enum Stop {
     /// The item was refused.
     Refused(ValueFault),
-    /// The proof is too long.
-    Long,
     /// There was no memory.
     Memory,
     /// The word is no call, or names no handle that was made.
@@ -32,14 +29,5 @@ impl From<AllocError> for Stop {
 impl<T: Drop> From<AllocFailed<T>> for Stop {
     fn from(_error: AllocFailed<T>) -> Stop {
         Stop::Memory
-    }
-}
-
-impl From<CertFault> for Stop {
-    fn from(fault: CertFault) -> Stop {
-        match fault {
-            CertFault::Long => Stop::Long,
-            CertFault::Memory => Stop::Memory,
-        }
     }
 }
