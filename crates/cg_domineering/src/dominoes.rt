@@ -29,8 +29,8 @@ fn other_cell(board: &Board, player: Player, first: u8) -> u8
     }
 }
 
-/// The board after the player's domino with this first cell, which fits. A filled cell has index 1, so that the words but
-/// the first have no bits.
+/// The board after the player's domino with this first cell, which fits. A filled cell has index 1, so that the words
+/// but the first have no bits.
 #[inline(always)]
 fn placed(board: &Board, player: Player, first: u8) -> Board
     requires has { domineering.has board.now ≡ true }
