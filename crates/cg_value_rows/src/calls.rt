@@ -16,7 +16,7 @@ use crate::trees::agreements;
 use crate::words::plain;
 use cg_cells::CellStore;
 use cg_nodes::{BoardForms, GameFacts};
-use cg_thermo::wall_at;
+use cg_thermo::{Corners, ThermoFault, wall_at};
 use std::alloc::Global;
 
 /// The text in front of `+`, and the cost behind it.
@@ -204,28 +204,33 @@ fn sides<B: BoardForms, S: CellStore<GameFacts<B>>>(
     Ok(text)
 }
 
-/// The value of a wall at the temperature.
+/// The value of the wall at the temperature.
+fn value_at(alloc: Global, corners: &Corners, at: &str) -> Result<String, Stop> {
+    match wide(at) {
+        Some(at) if !corners.is_empty() => match wall_at(corners, at) {
+            Some(x) => Ok(x.text(alloc)?),
+            None => Ok(String::from_str(alloc, "none")?),
+        },
+        _ => Err(Stop::Unread),
+    }
+}
+
+/// The value of a wall of the thermograph at the temperature.
 fn wall<B: BoardForms, S: CellStore<GameFacts<B>>>(
     alloc: Global,
     desk: &mut Desk<B, S>,
     name: &str,
     text: &str,
 ) -> Result<String, Stop> {
-    let (front, back) = halves(text, ':')?;
-    let (Some(at), Ok(walls)) = (wide(front), desk.walls(alloc, index(back)?)) else {
-        return Err(Stop::Unread);
-    };
-    let corners = if name == "left" {
-        walls.left
-    } else {
-        walls.right
-    };
-    if corners.is_empty() {
-        return Err(Stop::Unread);
-    }
-    match wall_at(&corners, at) {
-        Some(x) => Ok(x.text(alloc)?),
-        None => Ok(String::from_str(alloc, "none")?),
+    let (at, game) = halves(text, ':')?;
+    let game = index(game)?;
+    match desk.walls(alloc, game) {
+        Ok(walls) => match name {
+            "left" => value_at(alloc, &walls.left, at),
+            _ => value_at(alloc, &walls.right, at),
+        },
+        Err(ThermoFault::Range) => Err(Stop::Unread),
+        Err(ThermoFault::Memory) => Err(Stop::Memory),
     }
 }
 

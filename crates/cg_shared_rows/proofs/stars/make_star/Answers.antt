@@ -2,8 +2,7 @@ use Rattle.std.proofs.Common.{List, ap, subst, sym}
 use Rattle.cg_form.specs.Canonical.{Canonical}
 use Rattle.cg_form.specs.Game.{Game, node, number}
 use Rattle.cg_nimbers.specs.Nimbers.{zero_form}
-use Rattle.cg_nimbers.proofs.CanonicalNimbers.{nimber-canonical}
-use Rattle.cg_shared_rows.proofs.Singles.{single_listed}
+use Rattle.cg_shared_rows.proofs.Singles.{single_listed, star-canonical}
 use Rattle.cg_shared_rows.proofs.stars.make_star.Goals as goal
 
 pub game-star-requires-clause-canonical : goal.game-star-requires-clause-canonical
@@ -12,4 +11,4 @@ game-star-requires-clause-canonical g c =
     c.list-zeros.result c.number-zero.result (number c.zero.result) zero_form
     c.list-zeros.ensures.list c.number-zero.ensures.game (ap number c.zero.ensures) in
     let P : List Game → Type 0 = λ z. Canonical (node z z) in
-    subst P (sym e) (nimber-canonical 1)
+    subst P (sym e) star-canonical
