@@ -439,10 +439,10 @@ class Packages(Tried):
     """install-packages."""
 
     def tried(self, apt_get, known="exit 1"):
-        """Runs it with a stand-in for apt-get, and one for dpkg-query."""
+        """Runs it with stand-ins for apt-get, dpkg and dpkg-query."""
         folder = os.path.join(self.folder, "bin")
         os.makedirs(folder, exist_ok=True)
-        for name, script in [("apt-get", apt_get), ("dpkg-query", known)]:
+        for name, script in [("apt-get", apt_get), ("dpkg", "exit 0"), ("dpkg-query", known)]:
             with open(os.path.join(folder, name), "w", encoding="utf-8") as file:
                 file.write(f"#!/bin/sh\n{script}\n")
             os.chmod(os.path.join(folder, name), 0o755)
