@@ -16,7 +16,6 @@ pub mod Turning
 pub mod Valuing
 pub mod Paying
 pub mod HandleLists
-pub mod PageWalks
 pub mod WalkSteps
 pub mod PairSums
 pub mod MakingAt

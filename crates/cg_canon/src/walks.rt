@@ -24,7 +24,12 @@ fn mark_all(marks: &mut Vec<usize>, count: usize) -> Result<(), AllocError>
 
 impl<'a, B: BoardForms, S: CellStore<GameFacts<B>>> Work<'a, B, S> {
     /// The positions of the game at the index, unless there are more than this limit.
-    fn walk_within(&mut self, alloc: Global, index: u32, limit: u64) -> Result<Walk, PositionsFault>
+    pub(crate) fn walk_within(
+        &mut self,
+        alloc: Global,
+        index: u32,
+        limit: u64,
+    ) -> Result<Walk, PositionsFault>
         requires { IsPage self.old.arena index }
         ensures walk { IfOk result (λ w. IsWalk self.old.arena w (positions_of (game_of self.old.arena index))) }
         ensures within { OnOk result (length (positions_of (game_of self.old.arena index)) ≤ limit) }
