@@ -65,7 +65,7 @@ pub fn canonical<B: BoardForms, S: CellStore<GameFacts<B>>>(
     ensures { let W = work_state S.state work.old in FormGiven W (work_state S.state work.new)
         (can (node (games_at W lefts.now) (games_at W rights.now))) extra result }
 {
-    let search = Way::Search(None);
+    let search = Way::Search;
     if lefts.len() > MOST_OPTIONS || rights.len() > MOST_OPTIONS {
         return work.make_value(alloc, lefts, rights, search, extra);
     }

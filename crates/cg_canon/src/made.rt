@@ -40,9 +40,13 @@ fn number_of(start: u64, handles: &[Handle]) -> u64 {
     number
 }
 
-/// A number for the two lists.
+/// A number for the two lists. Those of nimbers are the same, and are gone through once.
 fn number_of_both(lefts: &[Handle], rights: &[Handle]) -> u32 {
-    half_of(number_of(number_of(1, lefts).wrapping_add(1), rights))
+    let own = number_of(1, lefts);
+    if are_same(lefts, rights) {
+        return half_of(own);
+    }
+    half_of(number_of(own.wrapping_add(1), rights))
 }
 
 /// Whether the two lists are the same.

@@ -11,10 +11,12 @@ ghost use Rattle.cg_canon.specs.Books.{BookHolds};
 ghost use Rattle.cg_canon.specs.Ways.{IsWay};
 
 use crate::book::Book;
+use crate::made::are_same;
 use crate::paging::{page_of, put_pages};
-use cg_book::{FirstTerm, Form, NewForm, Settled, at_most, profile_of_lists, settle};
+use cg_book::{Form, NewForm, Settled, at_most, profile_of_lists, settle};
 use cg_cells::CellStore;
 use cg_nodes::{BoardForms, GameFacts, Handle};
+use smallvec::SmallVec;
 use std::alloc::{AllocError, Global};
 
 /// Whether a <= b. The only error is want of memory.
@@ -37,7 +39,7 @@ pub(crate) fn compare<B: BoardForms, S: CellStore<GameFacts<B>>>(
     at_most(&book.pages, &mut book.answers, true, first, second)
 }
 
-/// Puts the pages of two lists of options into a form that has none.
+/// Puts the pages of two lists of options into a form that has none. Both lists of a nimber are the same, and are gone through once.
 #[inline(always)]
 fn put_both<B: BoardForms, S: CellStore<GameFacts<B>>>(
     alloc: Global,
@@ -58,6 +60,10 @@ fn put_both<B: BoardForms, S: CellStore<GameFacts<B>>>(
     ensures spends { Spends 0 (S.state store.old) (S.state store.new) }
 {
     put_pages(alloc, store, book, lefts, &mut form.lefts)?;
+    if are_same(lefts, rights) {
+        form.rights = SmallVec::from_slice(alloc, form.lefts.as_slice())?;
+        return Ok(());
+    }
     put_pages(alloc, store, book, rights, &mut form.rights)?;
     Ok(())
 }
@@ -65,8 +71,8 @@ fn put_both<B: BoardForms, S: CellStore<GameFacts<B>>>(
 /// How the canonical form of a game of two lists is found.
 #[derive(Clone, Copy)]
 pub(crate) enum Way {
-    /// By a search. Where so many options of each side are told, these come from one term of a sum, and the others from the other.
-    Search(Option<FirstTerm>),
+    /// By a search.
+    Search,
     /// It is the game as it stands.
     AsGiven,
 }
@@ -94,13 +100,7 @@ pub(crate) fn value_of_lists<B: BoardForms, S: CellStore<GameFacts<B>>>(
     let lefts = both.lefts.as_slice();
     let rights = both.rights.as_slice();
     match way {
-        Way::Search(first_term) => settle(
-            &book.pages,
-            &mut book.answers,
-            lefts,
-            rights,
-            first_term,
-        ),
+        Way::Search => settle(&book.pages, &mut book.answers, lefts, rights, None),
         Way::AsGiven => {
             let profile = profile_of_lists(&book.pages, lefts, rights);
             Ok(Settled::Game(NewForm {

@@ -1,6 +1,7 @@
-use Rattle.std.proofs.Common.{List, subst}
+use Rattle.std.proofs.Common.{List, subst, sym, ◌∙◌, ℕ}
 use Rattle.cg_form.specs.Game.{Game}
 use Rattle.cg_nodes.proofs.Later.{are_games_later, games_later}
+use Rattle.cg_nodes.specs.Games.{games_at}
 use Rattle.cg_book.specs.Pages.{StandFor}
 use Rattle.cg_canon.proofs.Booking.{stand_begins}
 use Rattle.cg_canon.proofs.value.put_both.Goals as goal
@@ -8,6 +9,14 @@ use Rattle.cg_canon.proofs.value.put_both.Goals as goal
 pub put_pages-requires-2-clause-games : goal.put_pages-requires-2-clause-games
 put_pages-requires-2-clause-games g c =
     are_games_later (g.S.CellStore.state c.args.store.now) (g.S.CellStore.state c.put_pages.new.store) c.put_pages.ensures.spends.known c.args.rights.now c.requires.rights
+
+pub returns-then-are_same-clause-rights : goal.returns-then-are_same-clause-rights
+returns-then-are_same-clause-rights g c =
+    let gs = c.put_pages.new.book.pages in
+    let s = g.S.CellStore.state c.args.store.now in
+    let P : List ℕ → Type 0 = λ z. StandFor gs z (games_at s c.args.rights.now) in
+    let Q : List ℕ → Type 0 = λ z. StandFor gs c.put_pages.new.pages.items (games_at s z) in
+    subst P (sym (c.in_ok-form.ensures.ok ∙ c.as_slice.ensures)) (subst Q (c.are_same.ensures c.if-are_same.true) c.in_ok-put_pages.ensures.pages)
 
 pub returns-clause-lefts : goal.returns-clause-lefts
 returns-clause-lefts g c =
