@@ -1,10 +1,8 @@
 -- The answers in a proof, checked one after another.
-use Rattle.std.proofs.Common.{◌≡◌, refl, ap, sym, ◌∙◌, subst, ℕ, ◌≤◌, arith, length, drop, append-nil, List, [], ◌∷◌, ◌++◌, Option, Some, None, option_map, Result, Ok, Err, IfOk, Bool, false}
+use Rattle.std.proofs.Common.{◌≡◌, refl, ap, sym, ◌∙◌, ℕ, ◌≤◌, arith, length, drop, append-nil, List, [], ◌∷◌, ◌++◌, Option, Some, None, option_map, Result, Ok, Err, IfOk, Bool, false}
 use Rattle.std.proofs.Math.ListN.{drop_of_length-le}
 use Rattle.std.proofs.lemmas.List.{length-drop}
 use Rattle.cg_form.specs.Game.{Game}
-use Rattle.cg_cells.specs.Store.{Spends, State}
-use Rattle.cg_nodes.specs.Meant.{Meant}
 use Rattle.cg_cert.specs.declared.stage.Stage.{Stage}
 use Rattle.cg_cert.specs.Certificate.{certificate_text}
 use Rattle.cg_cert.specs.Pairs.{Pair, both_numbers, moves, pair}
@@ -13,59 +11,47 @@ use Rattle.cg_cert.specs.Proves.{IsProofOf}
 use Rattle.cg_cert.specs.Reads.{IsByte, LeadsTo, Reads}
 use Rattle.cg_cert.specs.Texts.{AreAnswerTexts, IsProofText}
 use Rattle.cg_cert.proofs.AnswerTexts.{Lettered, reads_answer}
-use Rattle.cg_cert.proofs.Readers.{reads_stop, reads_then}
+use Rattle.cg_cert.proofs.Readers.{Splits, reads_stop, reads_then}
 use Rattle.cg_cert.proofs.TextParts.{Closed, closed_splits, proof_splits, reads_closing}
 use Rattle.cg_cert.proofs.Walking.{Walk, walk_all, walk_more}
 
 -- what is left to read makes the whole proof
-pub record Checking {R : Type 0} (s t : State Meant R) (m : Pair) (before now : List ℕ) (rest : List Stage) :
-    Type 0 where
-  pub walk : Walk s t m rest
-  pub onward : (r : Option (List ℕ)) → Reads (Closed (stages_at t rest)) now r → Reads (IsProofText m) before r
-
-pub checking_all : {R : Type 0} (s t : State Meant R) (m : Pair) (before now : List ℕ) (all : List Stage)
-    → both_numbers m ≡ false → Spends 0 s t → AreStages t all → stages_at t all ≡ moves m
-    → Reads (IsByte 40) before (Some now) → Checking s t m before now all
-checking_all s t m before now all b k a e f = record {
-  walk = walk_all s t m all k a e;
-  onward = λ r v.
-      let P : List Pair → Type 0 = λ z. Reads (Closed z) now r in
-      reads_then (IsProofText m) (IsByte 40) (Closed (moves m)) (proof_splits m b) before now r f (subst P e v);
-}
+pub record Checking (arena : List Game) (m : Pair) (before now : List ℕ) (rest : List Stage) : Type 0 where
+  pub walk : Walk arena m rest
+  pub onward : (r : Option (List ℕ)) → Reads (Closed (stages_at arena rest)) now r → Reads (IsProofText m) before r
 
 pub checking_no_bracket : (m : Pair) (before : List ℕ) → both_numbers m ≡ false → Reads (IsByte 40) before None
     → Reads (IsProofText m) before None
 checking_no_bracket m before b f =
     reads_stop (IsProofText m) (IsByte 40) (Closed (moves m)) (proof_splits m b) before f
 
-module _ {R : Type 0} (s t u : State Meant R) (m : Pair) (before now : List ℕ) (rest others : List Stage) (p : Stage)
-    (h : Checking s t m before now rest) (e : rest ≡ p ∷ others) (k : Spends 0 t u) where
-  pairs : stages_at t rest ≡ stage_at t p ∷ stages_at u others
-  pairs = (walk_more s t u m rest others p h.walk e k).1
-
-  pub checking_more : (next : List ℕ) → Reads (AreAnswerTexts (stage_at t p ∷ [])) now (Some next)
-      → Checking s u m before next others
-  checking_more next f = record {
-    walk = (walk_more s t u m rest others p h.walk e k).0;
-    onward = λ r v.
-        let P : List Pair → Type 0 = λ z. Reads (Closed z) now r in
-        h.onward r (subst P (sym pairs)
-        (reads_then (Closed (stage_at t p ∷ stages_at u others)) (AreAnswerTexts (stage_at t p ∷ []))
-        (Closed (stages_at u others)) (closed_splits (stage_at t p) (stages_at u others)) now next r f v));
+module _ (arena : List Game) (m : Pair) (before now : List ℕ) where
+  pub checking_all : (all : List Stage) → both_numbers m ≡ false → AreStages arena all → stages_at arena all ≡ moves m
+      → Reads (IsByte 40) before (Some now) → Checking arena m before now all
+  checking_all all b a e f = record {
+    walk = walk_all arena m all a e;
+    onward = rw e (λ r v. reads_then (IsProofText m) (IsByte 40) (Closed (moves m)) (proof_splits m b) before now r f v);
   }
 
-  pub checking_stop : Reads (AreAnswerTexts (stage_at t p ∷ [])) now None → Reads (IsProofText m) before None
-  checking_stop f =
-      let P : List Pair → Type 0 = λ z. Reads (Closed z) now None in
-      h.onward None (subst P (sym pairs)
-      (reads_stop (Closed (stage_at t p ∷ stages_at u others)) (AreAnswerTexts (stage_at t p ∷ []))
-      (Closed (stages_at u others)) (closed_splits (stage_at t p) (stages_at u others)) now f))
+  module _ (others : List Stage) (p : Stage) (h : Checking arena m before now (p ∷ others)) where
+    splits : Splits (Closed (stage_at arena p ∷ stages_at arena others)) (AreAnswerTexts (stage_at arena p ∷ []))
+        (Closed (stages_at arena others))
+    splits = closed_splits (stage_at arena p) (stages_at arena others)
 
-pub checking_end : {R : Type 0} (s t : State Meant R) (m : Pair) (before now : List ℕ) (rest : List Stage)
-    (r : Option (List ℕ)) → Checking s t m before now rest → length rest ≡ 0 → Reads (IsByte 41) now r
-    → Reads (IsProofText m) before r
-checking_end s t m before now [] r h e f = h.onward r (reads_closing now r f)
-checking_end s t m before now (p ∷ ps) r h e f = absurd (omega arith)
+    pub checking_more : (next : List ℕ) → Reads (AreAnswerTexts (stage_at arena p ∷ [])) now (Some next)
+        → Checking arena m before next others
+    checking_more next f = record {
+      walk = walk_more arena m others p h.walk;
+      onward = λ r v. h.onward r (reads_then _ _ _ splits now next r f v);
+    }
+
+    pub checking_stop : Reads (AreAnswerTexts (stage_at arena p ∷ [])) now None → Reads (IsProofText m) before None
+    checking_stop f = h.onward None (reads_stop _ _ _ splits now f)
+
+  pub checking_end : (rest : List Stage) (r : Option (List ℕ)) → Checking arena m before now rest → length rest ≡ 0
+      → Reads (IsByte 41) now r → Reads (IsProofText m) before r
+  checking_end [] r h e f = h.onward r (reads_closing now r f)
+  checking_end (p ∷ ps) r h e f = absurd (omega arith)
 
 -- ---- results that are passed on
 

@@ -3,33 +3,11 @@ use Rattle.std.proofs.Common.{◌≡◌, ap, sym, ◌∙◌, ℕ, [], ◌++◌, 
 use Rattle.std.specs.Prelude.{codes, decimal}
 use Rattle.cg_form.specs.Game.{Game, lefts, rights}
 use Rattle.cg_form.specs.Side.{at_most, near}
-use Rattle.cg_cells.specs.Store.{Spends, State}
-use Rattle.cg_nodes.specs.Meant.{Meant}
-use Rattle.cg_cert.specs.declared.choice.Choice.{Choice}
-use Rattle.cg_cert.specs.declared.stage.Stage.{Stage}
 use Rattle.cg_cert.specs.Answer.{first_text, move_text, option_text, refusal_text, right_text}
 use Rattle.cg_cert.specs.Certificate.{answer_in, certificate_text}
 use Rattle.cg_cert.specs.First.{first_answer, first_of, first_place, first_proof}
 use Rattle.cg_cert.specs.Pairs.{Pair, both_numbers, led, pair}
-use Rattle.cg_cert.specs.Positions.{IsChoice, IsFirst, IsMove, IsStage, position_at, stage_at}
-use Rattle.cg_cert.proofs.Listing.{is_position_later, position_later}
-
--- t is after the search in the first game
-pub move_first : {R : Type 0} (s t : State Meant R) (left : Bool) (m : Stage) (c : Choice) → IsStage s m → Spends 0 s t
-    → IsChoice t left (near left (position_at s m.first)) (position_at s m.second) (Some c)
-    → IsMove t left (Some (record { is_first = true; place = c.place; leads = record { first = c.position; second = m.second } }))
-    (stage_at s m)
-move_first s t left m c i k h =
-    ((h.0, h.1, position_later s t k m.second i.1), (h.2, is_position_later s t k m.second i.1))
-
--- u is after that in the second game
-pub move_second : {R : Type 0} (s u : State Meant R) (left : Bool) (m : Stage) (c : Choice) → IsStage s m → Spends 0 s u
-    → first_place (at_most left (position_at s m.second)) (near left (position_at s m.first)) ≡ None
-    → IsChoice u (not left) (near (not left) (position_at s m.second)) (position_at s m.first) (Some c)
-    → IsMove u left (Some (record { is_first = false; place = c.place; leads = record { first = m.first; second = c.position } }))
-    (stage_at s m)
-move_second s u left m c i k n h =
-    ((n, h.0, h.1, position_later s u k m.first i.0), (is_position_later s u k m.first i.0, h.2))
+use Rattle.cg_cert.specs.Positions.{IsFirst}
 
 -- ---- Left's answer
 

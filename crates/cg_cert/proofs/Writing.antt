@@ -1,8 +1,7 @@
 -- The pieces of a proof, put one behind another.
 use Rattle.std.proofs.Common.{◌≡◌, refl, ap, sym, ◌∙◌, subst, append_assoc, append-nil, ℕ, ◌<◌, ◌≤◌, arith, length, length-append, List, [], ◌∷◌, ◌++◌, Option, Some, None, Result, Ok, Err, Bool, false, true, cond, if◌then◌else◌}
 use Rattle.std.specs.Prelude.{codes, decimal}
-use Rattle.cg_cells.specs.Store.{Spends, State}
-use Rattle.cg_nodes.specs.Meant.{Meant}
+use Rattle.cg_form.specs.Game.{Game}
 use Rattle.cg_cert.specs.declared.fault.CertFault.{CertFault}
 use Rattle.cg_cert.specs.declared.fault.CertFault.TheVariants.{Long, Memory}
 use Rattle.cg_cert.specs.declared.stage.Stage.{Stage}
@@ -36,13 +35,11 @@ wrote_fault Memory limit old new now p q w = tt
 
 pub wrote_along : (r : Result (Unit {0}) CertFault) (limit : ℕ) (old new p q : List ℕ) → p ≡ q → Wrote r limit old new p
     → Wrote r limit old new q
-wrote_along r limit old new p q e w = let P : List ℕ → Type 0 = λ z. Wrote r limit old new z in subst P e w
+wrote_along r limit old new p q e w = rw (sym e) w
 
 pub wrote_nothing : (limit : ℕ) (old new piece : List ℕ) → new ≡ old → piece ≡ [] → length old ≤ limit
     → Wrote (Ok tt) limit old new piece
-wrote_nothing limit old new piece e n l =
-    let P : List ℕ → Type 0 = λ z. length z ≤ limit in
-    (e ∙ sym (append-nil old) ∙ ap (λ z. old ++ z) (sym n), subst P (sym e) l)
+wrote_nothing limit old new piece e n l = (e ∙ sym (append-nil old) ∙ ap (λ z. old ++ z) (sym n), rw e l)
 
 pub wrote_memory : (e : CertFault) (limit : ℕ) (old new piece : List ℕ) → e ≡ Memory → Wrote (Err e) limit old new piece
 wrote_memory Memory limit old new piece e = tt
@@ -51,8 +48,7 @@ wrote_memory Long limit old new piece e = absurd (cc)
 -- the same result
 pub wrote_as : (r q : Result (Unit {0}) CertFault) (limit : ℕ) (old new piece : List ℕ) → r ≡ q
     → Wrote q limit old new piece → Wrote r limit old new piece
-wrote_as r q limit old new piece e w =
-    let P : Result (Unit {0}) CertFault → Type 0 = λ z. Wrote z limit old new piece in subst P (sym e) w
+wrote_as r q limit old new piece e w = rw e w
 
 -- the same limit, text and piece
 pub wrote_from : (r : Result (Unit {0}) CertFault) (limit bound : ℕ) (old word new p q : List ℕ) → limit ≡ bound
@@ -117,63 +113,56 @@ answered-text m b =
 abbrev pub left_text : List Pair → List ℕ
 left_text ms = answers_text (first_answers first_proof ms) ++ codes ")"
 
--- with what is left to put, the text is that of the proof
-pub record Putting {R : Type 0} (s t : State Meant R) (m : Pair) (limit : ℕ) (before now : List ℕ) (rest : List Stage) :
-    Type 0 where
-  pub walk : Walk s t m rest
-  pub within : length now ≤ limit
-  pub onward : (r : Result (Unit {0}) CertFault) (new : List ℕ) → Wrote r limit now new (left_text (stages_at t rest))
-      → Wrote r limit before new (certificate_text (first_proof m))
-
-pub putting_all : {R : Type 0} (s t : State Meant R) (m : Pair) (limit : ℕ) (before now : List ℕ) (all : List Stage)
-    → both_numbers m ≡ false → Spends 0 s t → AreStages t all → stages_at t all ≡ moves m
-    → Wrote (Ok tt) limit before now (codes "(") → Putting s t m limit before now all
-putting_all s t m limit before now all b k a e w = record {
-  walk = walk_all s t m all k a e;
-  within = w.1;
-  onward = λ r new v.
-      wrote_along r limit before new (codes "(" ++ left_text (moves m)) (certificate_text (first_proof m))
-      (answered-text m b) (wrote_then r limit before now new (codes "(") (left_text (moves m)) w.0
-      (wrote_along r limit now new (left_text (stages_at t all)) (left_text (moves m)) (ap left_text e) v));
-}
-
 left_text-cons : (m : Pair) (ms : List Pair)
     → answers_text (first_answers first_proof (m ∷ [])) ++ left_text ms ≡ left_text (m ∷ ms)
 left_text-cons m ms =
     sym (append_assoc (answers_text (first_answers first_proof (m ∷ []))) (answers_text (first_answers first_proof ms))
     (codes ")")) ∙ ap (λ z. z ++ codes ")") (sym (first_text-cons m ms))
 
-module _ {R : Type 0} (s t u : State Meant R) (m : Pair) (limit : ℕ) (before now : List ℕ) (rest others : List Stage)
-    (p : Stage) (h : Putting s t m limit before now rest) (e : rest ≡ p ∷ others) (k : Spends 0 t u) where
-  whole : answers_text (first_answers first_proof (stage_at t p ∷ [])) ++ left_text (stages_at u others)
-      ≡ left_text (stages_at t rest)
-  whole = left_text-cons (stage_at t p) (stages_at u others)
-      ∙ ap left_text (sym ((walk_more s t u m rest others p h.walk e k).1))
+-- with what is left to put, the text is that of the proof
+pub record Putting (arena : List Game) (m : Pair) (limit : ℕ) (before now : List ℕ) (rest : List Stage) : Type 0 where
+  pub walk : Walk arena m rest
+  pub within : length now ≤ limit
+  pub onward : (r : Result (Unit {0}) CertFault) (new : List ℕ) → Wrote r limit now new (left_text (stages_at arena rest))
+      → Wrote r limit before new (certificate_text (first_proof m))
 
-  pub putting_more : (next : List ℕ)
-      → Wrote (Ok tt) limit now next (answers_text (first_answers first_proof (stage_at t p ∷ [])))
-      → Putting s u m limit before next others
-  putting_more next w = record {
-    walk = (walk_more s t u m rest others p h.walk e k).0;
+module _ (arena : List Game) (m : Pair) (limit : ℕ) (before now : List ℕ) where
+  pub putting_all : (all : List Stage) → both_numbers m ≡ false → AreStages arena all → stages_at arena all ≡ moves m
+      → Wrote (Ok tt) limit before now (codes "(") → Putting arena m limit before now all
+  putting_all all b a e w = record {
+    walk = walk_all arena m all a e;
     within = w.1;
-    onward = λ r new v. h.onward r new (wrote_along r limit now new
-        (answers_text (first_answers first_proof (stage_at t p ∷ [])) ++ left_text (stages_at u others))
-        (left_text (stages_at t rest)) whole
-        (wrote_then r limit now next new (answers_text (first_answers first_proof (stage_at t p ∷ [])))
-        (left_text (stages_at u others)) w.0 v));
+    onward = rw e (λ r new v. wrote_along r limit before new (codes "(" ++ left_text (moves m))
+        (certificate_text (first_proof m)) (answered-text m b)
+        (wrote_then r limit before now new (codes "(") (left_text (moves m)) w.0 v));
   }
 
-  pub putting_fault : (f : CertFault) (next new : List ℕ)
-      → Wrote (Err f) limit now next (answers_text (first_answers first_proof (stage_at t p ∷ [])))
-      → Wrote (Err f) limit before new (certificate_text (first_proof m))
-  putting_fault f next new w = h.onward (Err f) new (wrote_along (Err f) limit now new
-      (answers_text (first_answers first_proof (stage_at t p ∷ [])) ++ left_text (stages_at u others))
-      (left_text (stages_at t rest)) whole
-      (wrote_fault f limit now next new (answers_text (first_answers first_proof (stage_at t p ∷ [])))
-      (left_text (stages_at u others)) w))
+  module _ (others : List Stage) (p : Stage) (h : Putting arena m limit before now (p ∷ others)) where
+    abbrev pub reply : List ℕ
+    reply = answers_text (first_answers first_proof (stage_at arena p ∷ []))
 
-pub putting_end : {R : Type 0} (s t : State Meant R) (m : Pair) (limit : ℕ) (before now new : List ℕ) (rest : List Stage)
-    (r : Result (Unit {0}) CertFault) → Putting s t m limit before now rest → length rest ≡ 0
-    → Wrote r limit now new (codes ")") → Wrote r limit before new (certificate_text (first_proof m))
-putting_end s t m limit before now new [] r h e w = h.onward r new w
-putting_end s t m limit before now new (p ∷ ps) r h e w = absurd (omega arith)
+    -- the answer, and what is left behind it
+    onward_by : (r : Result (Unit {0}) CertFault) (new : List ℕ)
+        → Wrote r limit now new (reply ++ left_text (stages_at arena others))
+        → Wrote r limit before new (certificate_text (first_proof m))
+    onward_by r new v = h.onward r new (wrote_along r limit now new (reply ++ left_text (stages_at arena others)) _
+        (left_text-cons (stage_at arena p) (stages_at arena others)) v)
+
+    pub putting_more : (next : List ℕ) → Wrote (Ok tt) limit now next reply → Putting arena m limit before next others
+    putting_more next w = record {
+      walk = walk_more arena m others p h.walk;
+      within = w.1;
+      onward = λ r new v. onward_by r new
+          (wrote_then r limit now next new reply (left_text (stages_at arena others)) w.0 v);
+    }
+
+    pub putting_fault : (f : CertFault) (next new : List ℕ) → Wrote (Err f) limit now next reply
+        → Wrote (Err f) limit before new (certificate_text (first_proof m))
+    putting_fault f next new w = onward_by (Err f) new
+        (wrote_fault f limit now next new reply (left_text (stages_at arena others)) w)
+
+  pub putting_end : (new : List ℕ) (rest : List Stage) (r : Result (Unit {0}) CertFault)
+      → Putting arena m limit before now rest → length rest ≡ 0 → Wrote r limit now new (codes ")")
+      → Wrote r limit before new (certificate_text (first_proof m))
+  putting_end new [] r h e w = h.onward r new w
+  putting_end new (p ∷ ps) r h e w = absurd (omega arith)

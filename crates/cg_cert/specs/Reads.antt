@@ -1,7 +1,6 @@
 -- What is read of the text of a certificate.
 use Rattle.std.specs.Prelude.{◌≡◌, ℕ, ◌<◌, ◌^◌, ◌&&◌, nat_le, Bool, true, false, cond, List, [], ◌∷◌, ◌++◌, drop, decimal, Option, Some, None}
-use Rattle.cg_cells.specs.Store.{State}
-use Rattle.cg_nodes.specs.Meant.{Meant}
+use Rattle.cg_form.specs.Game.{Game}
 use Rattle.cg_cert.specs.declared.stage.Stage.{Stage}
 use Rattle.cg_cert.specs.declared.token.Letter.{Letter}
 use Rattle.cg_cert.specs.Certificate.{answer_in}
@@ -47,6 +46,6 @@ pub record LeadsTo (m : Pair) (is_first : Bool) (digits : List ℕ) (n : Pair) :
   pub leads : led (answer_in is_first place) m ≡ Some n
 
 -- the pair that the answer with these digits leads to
-abbrev pub IsLed : {R : Type 0} → State Meant R → Pair → Bool → List ℕ → Option Stage → Type 0
-IsLed {R} t m is_first digits None = LeadsNowhere m is_first digits
-IsLed {R} t m is_first digits (Some s) = IsStage t s × LeadsTo m is_first digits (stage_at t s)
+abbrev pub IsLed : List Game → Pair → Bool → List ℕ → Option Stage → Type 0
+IsLed arena m is_first digits None = LeadsNowhere m is_first digits
+IsLed arena m is_first digits (Some s) = IsStage arena s × LeadsTo m is_first digits (stage_at arena s)

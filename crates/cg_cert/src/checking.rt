@@ -10,8 +10,8 @@ ghost use Rattle.cg_cert.specs.Reads.{IsLed, Reads};
 ghost use Rattle.cg_cert.specs.Texts.{AreAnswerTexts, IsProofText};
 
 use crate::place::place_of;
-use crate::position::{Position, no_better, options};
-use crate::stage::{Stage, both_numbers, kept, moved, moves, staged};
+use crate::position::{no_better, options};
+use crate::stage::{Stage, both_numbers, kept, moved, moves, stage_of, staged};
 use crate::token::{after, digits_front, letter_at};
 use cg_canon::Work;
 use cg_cells::CellStore;
@@ -22,15 +22,13 @@ use std::alloc::{AllocError, Global};
 /// has that place.
 fn led<B: BoardForms, S: CellStore<GameFacts<B>>>(
     alloc: Global,
-    work: &mut Work<B, S>,
+    work: &Work<B, S>,
     stage: &Stage,
     is_first: bool,
     digits: &[u8],
 ) -> Result<Option<Stage>, AllocError>
-    requires { IsStage (work_state S.state work.old) stage.now }
-    ensures led { IfOk result (λ r. IsLed (work_state S.state work.new)
-        (stage_at (work_state S.state work.old) stage.now) is_first digits.now r) }
-    ensures spends { Spends 0 (work_state S.state work.old) (work_state S.state work.new) }
+    requires { IsStage work.now.arena stage.now }
+    ensures { IfOk result (λ r. IsLed work.now.arena (stage_at work.now.arena stage.now) is_first digits.now r) }
 {
     let all = options(alloc, work, is_first, &moved(is_first, stage))?;
     match place_of(alloc, digits, all.len())? {
@@ -41,19 +39,18 @@ fn led<B: BoardForms, S: CellStore<GameFacts<B>>>(
 
 /// The place behind the proof of a pair of numbers that stands at this place, if one does.
 fn check_settled<B: BoardForms, S: CellStore<GameFacts<B>>>(
-    alloc: Global,
     work: &mut Work<B, S>,
     stage: &Stage,
     bytes: &[u8],
     at: usize,
 ) -> Result<Option<usize>, AllocError>
-    requires stage { IsStage (work_state S.state work.old) stage.now }
-    requires numbers { both_numbers (stage_at (work_state S.state work.old) stage.now) ≡ true }
-    ensures reads { IfOk result (λ r. Reads (IsProofText (stage_at (work_state S.state work.old) stage.now))
+    requires stage { IsStage work.old.arena stage.now }
+    requires numbers { both_numbers (stage_at work.old.arena stage.now) ≡ true }
+    ensures reads { IfOk result (λ r. Reads (IsProofText (stage_at work.old.arena stage.now))
         (drop at bytes.now) (option_map (λ end. drop end bytes.now) r)) }
-    ensures spends { Spends 0 (work_state S.state work.old) (work_state S.state work.new) }
+    ensures same { work.new ≡ work.old }
 {
-    if no_better(alloc, work, true, &stage.second, &stage.first)? {
+    if no_better(work, true, &stage.second, &stage.first)? {
         Ok(after(bytes, at, b'.'))
     } else {
         Ok(None)
@@ -70,10 +67,10 @@ fn check_reply<B: BoardForms, S: CellStore<GameFacts<B>>>(
     bytes: &[u8],
     at: usize,
 ) -> Result<Option<usize>, AllocError>
-    requires stage { IsStage (work_state S.state work.old) stage.now }
-    ensures reads { IfOk result (λ r. Reads (AreAnswerTexts (stage_at (work_state S.state work.old) stage.now ∷ []))
+    requires stage { IsStage work.old.arena stage.now }
+    ensures reads { IfOk result (λ r. Reads (AreAnswerTexts (stage_at work.old.arena stage.now ∷ []))
         (drop at bytes.now) (option_map (λ end. drop end bytes.now) r)) }
-    ensures spends { Spends 0 (work_state S.state work.old) (work_state S.state work.new) }
+    ensures same { work.new ≡ work.old }
 {
     let Some(letter) = letter_at(bytes, at) else {
         return Ok(None);
@@ -94,13 +91,13 @@ fn check_proof<B: BoardForms, S: CellStore<GameFacts<B>>>(
     bytes: &[u8],
     at: usize,
 ) -> Result<Option<usize>, AllocError>
-    requires stage { IsStage (work_state S.state work.old) stage.now }
-    ensures reads { IfOk result (λ r. Reads (IsProofText (stage_at (work_state S.state work.old) stage.now))
+    requires stage { IsStage work.old.arena stage.now }
+    ensures reads { IfOk result (λ r. Reads (IsProofText (stage_at work.old.arena stage.now))
         (drop at bytes.now) (option_map (λ end. drop end bytes.now) r)) }
-    ensures spends { Spends 0 (work_state S.state work.old) (work_state S.state work.new) }
+    ensures same { work.new ≡ work.old }
 {
     if both_numbers(work, stage) {
-        return check_settled(alloc, work, stage, bytes, at);
+        return check_settled(work, stage, bytes, at);
     }
     let Some(start) = after(bytes, at, b'(') else {
         return Ok(None);
@@ -132,10 +129,7 @@ pub fn check<B: BoardForms, S: CellStore<GameFacts<B>>>(
         ↔ IsProofOf (game_at (work_state S.state work.old) g) (game_at (work_state S.state work.old) h) proof.now) }
     ensures spends { Spends 0 (work_state S.state work.old) (work_state S.state work.new) }
 {
-    let stage = Stage {
-        first: Position::Stored(g),
-        second: Position::Stored(h),
-    };
+    let stage = stage_of(alloc, work, g, h)?;
     match check_proof(alloc, work, &stage, proof, 0)? {
         None => Ok(false),
         Some(end) => Ok(end >= proof.len()),

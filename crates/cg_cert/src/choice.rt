@@ -1,8 +1,6 @@
 //! The first option that is good enough, and a player's first move that serves.
-ghost use Rattle.std.specs.Prelude.{IfOk};
+ghost use Rattle.std.specs.Prelude.{◌≡◌, IfOk};
 ghost use Rattle.cg_form.specs.Side.{near};
-ghost use Rattle.cg_cells.specs.Store.{Spends};
-ghost use Rattle.cg_canon.specs.Works.{work_state};
 ghost use Rattle.cg_cert.specs.Positions.{IsChoice, IsMove, IsPosition, IsStage, position_at, stage_at};
 
 use crate::position::{Position, no_better, options};
@@ -41,18 +39,18 @@ fn first_choice<B: BoardForms, S: CellStore<GameFacts<B>>>(
     game: &Position,
     other: &Position,
 ) -> Result<Option<Choice>, AllocError>
-    requires game { IsPosition (work_state S.state work.old) game.now }
-    requires other { IsPosition (work_state S.state work.old) other.now }
-    ensures choice { IfOk result (λ r. IsChoice (work_state S.state work.new) left
-        (near left (position_at (work_state S.state work.old) game.now))
-        (position_at (work_state S.state work.old) other.now) r) }
-    ensures spends { Spends 0 (work_state S.state work.old) (work_state S.state work.new) }
+    requires game { IsPosition work.old.arena game.now }
+    requires other { IsPosition work.old.arena other.now }
+    ensures choice { IfOk result (λ r. IsChoice work.old.arena left
+        (near left (position_at work.old.arena game.now))
+        (position_at work.old.arena other.now) r) }
+    ensures same { work.new ≡ work.old }
 {
     let all = options(alloc, work, left, game)?;
     let mut place = 0;
     let mut rest = all.as_slice();
     while let Some((option, others)) = rest.split_first() {
-        if no_better(alloc, work, left, other, option)? {
+        if no_better(work, left, other, option)? {
             return Ok(Some(Choice {
                 place,
                 position: *option,
@@ -71,10 +69,10 @@ pub(crate) fn first_move<B: BoardForms, S: CellStore<GameFacts<B>>>(
     left: bool,
     stage: &Stage,
 ) -> Result<Option<Move>, AllocError>
-    requires { IsStage (work_state S.state work.old) stage.now }
-    ensures found { IfOk result (λ r. IsMove (work_state S.state work.new) left r
-        (stage_at (work_state S.state work.old) stage.now)) }
-    ensures spends { Spends 0 (work_state S.state work.old) (work_state S.state work.new) }
+    requires { IsStage work.old.arena stage.now }
+    ensures found { IfOk result (λ r. IsMove work.old.arena left r
+        (stage_at work.old.arena stage.now)) }
+    ensures same { work.new ≡ work.old }
 {
     if let Some(choice) = first_choice(alloc, work, left, &stage.first, &stage.second)? {
         return Ok(Some(Move {

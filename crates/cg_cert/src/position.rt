@@ -3,48 +3,44 @@ ghost use Rattle.std.specs.Prelude.{◌≡◌, IfOk, cond, map};
 ghost use Rattle.cg_dyadic.specs.Number.{number_lefts, number_rights};
 ghost use Rattle.cg_form.specs.Order.{le};
 ghost use Rattle.cg_form.specs.Side.{at_most, near};
-ghost use Rattle.cg_cells.specs.Store.{Spends};
-ghost use Rattle.cg_nodes.specs.Games.{IsRead};
-ghost use Rattle.cg_canon.specs.Works.{work_state};
+ghost use Rattle.cg_book.specs.Pages.{IsRead};
 ghost use Rattle.cg_cert.specs.Pairs.{is_number};
 ghost use Rattle.cg_cert.specs.Positions.{IsPosition, ArePositionsOf, position_at};
 
-use cg_canon::{Work, le, le_number, number_le};
+use cg_canon::{Read, Work};
 use cg_cells::CellStore;
 use cg_dyadic::Dyadic;
-use cg_nodes::{BoardForms, GameFacts, Handle, ListId, Reading, handles, read};
+use cg_nodes::{BoardForms, GameFacts};
 use std::alloc::{AllocError, Global};
 
-/// A game of a certificate: a number, which need not stand in the store, or the game of a handle.
+/// A game of a certificate: a number, which need not stand in the arena, or the game at an index.
 #[derive(Clone, Copy, Debug, PartialEq, Eq)]
 pub(crate) enum Position {
     /// A number.
     Number(Dyadic),
-    /// The game of a handle.
-    Stored(Handle),
+    /// The game at an index.
+    At(u32),
 }
 
 /// Whether a <= b. The only error is want of memory.
 fn position_le<B: BoardForms, S: CellStore<GameFacts<B>>>(
-    alloc: Global,
     work: &mut Work<B, S>,
     a: &Position,
     b: &Position,
 ) -> Result<bool, AllocError>
-    requires a { IsPosition (work_state S.state work.old) a.now }
-    requires b { IsPosition (work_state S.state work.old) b.now }
-    ensures order { IfOk result (λ answer. answer ≡ le (position_at (work_state S.state work.old) a.now)
-        (position_at (work_state S.state work.old) b.now)) }
-    ensures spends { Spends 0 (work_state S.state work.old) (work_state S.state work.new) }
+    requires a { IsPosition work.old.arena a.now }
+    requires b { IsPosition work.old.arena b.now }
+    ensures order { IfOk result (λ answer. answer ≡ le (position_at work.old.arena a.now) (position_at work.old.arena b.now)) }
+    ensures same { work.new ≡ work.old }
 {
     match a {
         Position::Number(x) => match b {
             Position::Number(y) => Ok(x.le(*y)),
-            Position::Stored(h) => number_le(alloc, work, *x, *h),
+            Position::At(h) => Ok(work.number_le_at(*x, *h)),
         },
-        Position::Stored(g) => match b {
-            Position::Number(y) => le_number(alloc, work, *g, *y),
-            Position::Stored(h) => le(alloc, work, *g, *h),
+        Position::At(g) => match b {
+            Position::Number(y) => Ok(work.le_number_at(*g, *y)),
+            Position::At(h) => work.le_at(*g, *h),
         },
     }
 }
@@ -52,58 +48,55 @@ fn position_le<B: BoardForms, S: CellStore<GameFacts<B>>>(
 /// Whether a is no better for the player than b; with `left` the player is Left, and else Right. The only error is want of
 /// memory.
 pub(crate) fn no_better<B: BoardForms, S: CellStore<GameFacts<B>>>(
-    alloc: Global,
     work: &mut Work<B, S>,
     left: bool,
     a: &Position,
     b: &Position,
 ) -> Result<bool, AllocError>
-    requires a { IsPosition (work_state S.state work.old) a.now }
-    requires b { IsPosition (work_state S.state work.old) b.now }
-    ensures order { IfOk result (λ answer. answer ≡ at_most left (position_at (work_state S.state work.old) a.now)
-        (position_at (work_state S.state work.old) b.now)) }
-    ensures spends { Spends 0 (work_state S.state work.old) (work_state S.state work.new) }
+    requires a { IsPosition work.old.arena a.now }
+    requires b { IsPosition work.old.arena b.now }
+    ensures order { IfOk result (λ answer. answer
+        ≡ at_most left (position_at work.old.arena a.now) (position_at work.old.arena b.now)) }
+    ensures same { work.new ≡ work.old }
 {
     if left {
-        position_le(alloc, work, a, b)
+        position_le(work, a, b)
     } else {
-        position_le(alloc, work, b, a)
+        position_le(work, b, a)
     }
 }
 
 /// What the position stands for.
-fn reading_of<B: BoardForms, S: CellStore<GameFacts<B>>>(
-    work: &mut Work<B, S>,
+fn read<'b, B: BoardForms, S: CellStore<GameFacts<B>>>(
+    work: &'b Work<B, S>,
     position: &Position,
-) -> Reading
-    requires { IsPosition (work_state S.state work.old) position.now }
-    ensures read { IsRead (work_state S.state work.new) result (position_at (work_state S.state work.old) position.now) }
-    ensures spends { Spends 0 (work_state S.state work.old) (work_state S.state work.new) }
+) -> Read<'b>
+    requires { IsPosition work.now.arena position.now }
+    ensures { IsRead work.now.arena result (position_at work.now.arena position.now) }
 {
     match position {
-        Position::Number(x) => Reading::Number(*x),
-        Position::Stored(h) => read(work, *h),
+        Position::Number(x) => Read::Number(*x),
+        Position::At(index) => work.read_at(*index),
     }
 }
 
 /// Whether the position is written as a number.
 pub(crate) fn is_number<B: BoardForms, S: CellStore<GameFacts<B>>>(
-    work: &mut Work<B, S>,
+    work: &Work<B, S>,
     position: &Position,
 ) -> bool
-    requires { IsPosition (work_state S.state work.old) position.now }
-    ensures number { result ≡ is_number (position_at (work_state S.state work.old) position.now) }
-    ensures spends { Spends 0 (work_state S.state work.old) (work_state S.state work.new) }
+    requires { IsPosition work.now.arena position.now }
+    ensures { result ≡ is_number (position_at work.now.arena position.now) }
 {
-    match reading_of(work, position) {
-        Reading::Number(_) => true,
-        Reading::Game(_, _) => false,
+    match read(work, position) {
+        Read::Number(_) => true,
+        Read::Game(_, _) => false,
     }
 }
 
 /// The player's own of the two lists.
-fn own(left: bool, lefts: ListId, rights: ListId) -> ListId
-    ensures { result ≡ cond left lefts rights }
+fn own<'b>(left: bool, lefts: &'b [u32], rights: &'b [u32]) -> &'b [u32]
+    ensures { result.now ≡ cond left lefts.now rights.now }
 {
     if left { lefts } else { rights }
 }
@@ -124,13 +117,13 @@ fn options_of_number(alloc: Global, left: bool, x: Dyadic) -> Result<Vec<Positio
     Ok(all)
 }
 
-/// The positions of these handles.
-fn stored(alloc: Global, handles: &[Handle]) -> Result<Vec<Position>, AllocError>
-    ensures { IfOk result (λ all. all.items ≡ map Position.Stored handles.now) }
+/// The positions at these indexes.
+fn positions_at(alloc: Global, indexes: &[u32]) -> Result<Vec<Position>, AllocError>
+    ensures { IfOk result (λ all. all.items ≡ map Position.At indexes.now) }
 {
     let mut all = Vec::new(alloc);
-    for handle in handles {
-        all.push(Position::Stored(*handle))?;
+    for index in indexes {
+        all.push(Position::At(*index))?;
     }
     Ok(all)
 }
@@ -138,20 +131,15 @@ fn stored(alloc: Global, handles: &[Handle]) -> Result<Vec<Position>, AllocError
 /// The options of the position, for Left or for Right, in their order. The only error is want of memory.
 pub(crate) fn options<B: BoardForms, S: CellStore<GameFacts<B>>>(
     alloc: Global,
-    work: &mut Work<B, S>,
+    work: &Work<B, S>,
     left: bool,
     position: &Position,
 ) -> Result<Vec<Position>, AllocError>
-    requires { IsPosition (work_state S.state work.old) position.now }
-    ensures listed { IfOk result (λ all. ArePositionsOf (work_state S.state work.new) all.items
-        (near left (position_at (work_state S.state work.old) position.now))) }
-    ensures spends { Spends 0 (work_state S.state work.old) (work_state S.state work.new) }
+    requires { IsPosition work.now.arena position.now }
+    ensures { IfOk result (λ all. ArePositionsOf work.now.arena all.items (near left (position_at work.now.arena position.now))) }
 {
-    match reading_of(work, position) {
-        Reading::Number(x) => options_of_number(alloc, left, x),
-        Reading::Game(lefts, rights) => {
-            let all = handles(alloc, work, own(left, lefts, rights))?;
-            stored(alloc, all.as_slice())
-        }
+    match read(work, position) {
+        Read::Number(x) => options_of_number(alloc, left, x),
+        Read::Game(lefts, rights) => positions_at(alloc, own(left, lefts, rights)),
     }
 }

@@ -2,7 +2,7 @@
 //!
 //! The text is written once, and stops where it would be too long. Which answer is the first that serves is read from the
 //! order of pairs, each of which the work compares once.
-ghost use Rattle.std.specs.Prelude.{◌≤◌, ◌∷◌, ◌++◌, [], decimal, length, string_bytes};
+ghost use Rattle.std.specs.Prelude.{◌≡◌, ◌≤◌, ◌∷◌, ◌++◌, [], decimal, length, string_bytes};
 ghost use Rattle.cg_cells.specs.Store.{Spends};
 ghost use Rattle.cg_nodes.specs.Games.{IsGame, game_at};
 ghost use Rattle.cg_canon.specs.Works.{work_state};
@@ -14,10 +14,10 @@ ghost use Rattle.cg_cert.specs.Written.{Wrote};
 
 use crate::choice::first_move;
 use crate::fault::CertFault;
-use crate::position::Position;
-use crate::stage::{Stage, both_numbers, moves};
+use crate::position::no_better;
+use crate::stage::{Stage, both_numbers, moves, stage_of};
 use crate::text::{letter, put};
-use cg_canon::{Work, le};
+use cg_canon::Work;
 use cg_cells::CellStore;
 use cg_nodes::{BoardForms, GameFacts, Handle};
 use std::alloc::Global;
@@ -36,11 +36,11 @@ fn put_move<B: BoardForms, S: CellStore<GameFacts<B>>>(
     leads: &Stage,
     text: &mut String,
 ) -> Result<(), CertFault>
-    requires leads { IsStage (work_state S.state work.old) leads.now }
+    requires leads { IsStage work.old.arena leads.now }
     requires within { length (string_bytes text.old) ≤ limit }
     ensures wrote { Wrote result limit (string_bytes text.old) (string_bytes text.new)
-        ((letter.now ++ decimal place) ++ certificate_text (first_proof (stage_at (work_state S.state work.old) leads.now))) }
-    ensures spends { Spends 0 (work_state S.state work.old) (work_state S.state work.new) }
+        ((letter.now ++ decimal place) ++ certificate_text (first_proof (stage_at work.old.arena leads.now))) }
+    ensures same { work.new ≡ work.old }
 {
     let answer = format!(in alloc; "{letter}{place}")?;
     put(text, limit, answer.as_str())?;
@@ -56,11 +56,11 @@ fn put_reply<B: BoardForms, S: CellStore<GameFacts<B>>>(
     stage: &Stage,
     text: &mut String,
 ) -> Result<(), CertFault>
-    requires stage { IsStage (work_state S.state work.old) stage.now }
+    requires stage { IsStage work.old.arena stage.now }
     requires within { length (string_bytes text.old) ≤ limit }
     ensures wrote { Wrote result limit (string_bytes text.old) (string_bytes text.new)
-        (answers_text (first_answers first_proof (stage_at (work_state S.state work.old) stage.now ∷ []))) }
-    ensures spends { Spends 0 (work_state S.state work.old) (work_state S.state work.new) }
+        (answers_text (first_answers first_proof (stage_at work.old.arena stage.now ∷ []))) }
+    ensures same { work.new ≡ work.old }
 {
     match first_move(alloc, work, true, stage)? {
         None => Ok(()),
@@ -80,11 +80,11 @@ fn put_proof<B: BoardForms, S: CellStore<GameFacts<B>>>(
     stage: &Stage,
     text: &mut String,
 ) -> Result<(), CertFault>
-    requires stage { IsStage (work_state S.state work.old) stage.now }
+    requires stage { IsStage work.old.arena stage.now }
     requires within { length (string_bytes text.old) ≤ limit }
     ensures wrote { Wrote result limit (string_bytes text.old) (string_bytes text.new)
-        (certificate_text (first_proof (stage_at (work_state S.state work.old) stage.now))) }
-    ensures spends { Spends 0 (work_state S.state work.old) (work_state S.state work.new) }
+        (certificate_text (first_proof (stage_at work.old.arena stage.now))) }
+    ensures same { work.new ≡ work.old }
 {
     if both_numbers(work, stage) {
         return put(text, limit, ".");
@@ -107,11 +107,11 @@ fn put_refusal<B: BoardForms, S: CellStore<GameFacts<B>>>(
     stage: &Stage,
     text: &mut String,
 ) -> Result<(), CertFault>
-    requires stage { IsStage (work_state S.state work.old) stage.now }
+    requires stage { IsStage work.old.arena stage.now }
     requires within { length (string_bytes text.old) ≤ limit }
     ensures wrote { Wrote result limit (string_bytes text.old) (string_bytes text.new)
-        (refusal_text (stage_at (work_state S.state work.old) stage.now)) }
-    ensures spends { Spends 0 (work_state S.state work.old) (work_state S.state work.new) }
+        (refusal_text (stage_at work.old.arena stage.now)) }
+    ensures same { work.new ≡ work.old }
 {
     if both_numbers(work, stage) {
         return put(text, limit, ".");
@@ -143,11 +143,8 @@ pub fn prove<B: BoardForms, S: CellStore<GameFacts<B>>>(
     ensures proved { IsProved (game_at (work_state S.state work.old) g) (game_at (work_state S.state work.old) h) result }
     ensures spends { Spends 0 (work_state S.state work.old) (work_state S.state work.new) }
 {
-    let stage = Stage {
-        first: Position::Stored(g),
-        second: Position::Stored(h),
-    };
-    if le(alloc, work, h, g)? {
+    let stage = stage_of(alloc, work, g, h)?;
+    if no_better(work, true, &stage.second, &stage.first)? {
         let mut text = String::from_str(alloc, "yes ")?;
         put_proof(alloc, work, LIMIT + 4, &stage, &mut text)?;
         return Ok(text);

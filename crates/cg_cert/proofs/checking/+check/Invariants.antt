@@ -1,19 +1,18 @@
-use Rattle.std.proofs.Common.{◌+◌, ◌*◌, drop, length}
-use Rattle.cg_canon.specs.Works.{work_state}
+use Rattle.std.proofs.Common.{◌≡◌, ◌+◌, ◌*◌, drop, length}
 use Rattle.cg_cert.specs.Pairs.{pair_size}
 use Rattle.cg_cert.specs.Positions.{stage_at}
 use Rattle.cg_cert.proofs.CheckSteps.{Checking}
 use Rattle.cg_cert.proofs.checking.+check.Given as goal
 
 abbrev pub decreases-check_proof : goal.decreases-check_proof
-decreases-check_proof g l = 2 * pair_size (stage_at (work_state g.S.CellStore.state l.work.now) l.stage.now)
+decreases-check_proof g l = 2 * pair_size (stage_at l.work.now.arena l.stage.now)
 
 abbrev pub decreases-check_reply : goal.decreases-check_reply
-decreases-check_reply g l = 2 * pair_size (stage_at (work_state g.S.CellStore.state l.work.now) l.stage.now) + 1
+decreases-check_reply g l = 2 * pair_size (stage_at l.work.now.arena l.stage.now) + 1
 
 abbrev pub invariant-check_proof-loop-next : goal.invariant-check_proof-loop-next
-invariant-check_proof-loop-next g l = Checking (work_state g.S.CellStore.state l.fn.work) (work_state g.S.CellStore.state l.work)
-    (stage_at (work_state g.S.CellStore.state l.fn.work) l.stage) (drop l.fn.at l.bytes) (drop l.here l.bytes) l.rest
+invariant-check_proof-loop-next g l = (l.work ≡ l.fn.work)
+    × Checking l.fn.work.arena (stage_at l.fn.work.arena l.stage) (drop l.fn.at l.bytes) (drop l.here l.bytes) l.rest
 
 abbrev pub decreases-check_proof-loop-next : goal.decreases-check_proof-loop-next
 decreases-check_proof-loop-next g l = length l.rest

@@ -1,25 +1,23 @@
 use Rattle.std.proofs.Common.{◌≡◌, ap, ◌∙◌, subst, ℕ, ◌<◌, ◌^◌, length, Option, arith}
 use Rattle.cg_form.specs.Side.{near}
-use Rattle.cg_canon.specs.Works.{work_state}
-use Rattle.cg_cert.specs.Positions.{position_at}
+use Rattle.cg_cert.specs.Positions.{ArePositionsOf, position_at}
+use Rattle.cg_cert.specs.declared.position.Position.{Position}
 use Rattle.cg_cert.specs.Reads.{IsPlace}
 use Rattle.cg_cert.proofs.Leading.{leads_to}
 use Rattle.cg_cert.proofs.checking.led.Goals as goal
 
-pub returns-clause-led : goal.returns-clause-led
-returns-clause-led g c =
-    let W = work_state g.S.CellStore.state in
-    let s = W c.args.work.now in
+pub returns : goal.returns
+returns g c =
+    let arena = c.args.work.now.arena in
     let b = c.args.is_first in
     let all = c.in_ok-all.all in
     let count_is : c.len.result ≡ length all.items = omega (arith, c.len.ensures, all.ok.0) in
     let small : c.len.result < 2 ^ 64 = omega (arith, count_is, all.ok.0, all.ok.1, all.small) in
     let P : Option ℕ → Type 0 = λ z. IsPlace c.len.result c.args.digits.now z in
-    leads_to s (W c.options.new.work) b c.args.stage.now all.items c.len.result (record {
+    let Q : Position → Type 0 = λ z. ArePositionsOf arena all.items (near b (position_at arena z)) in
+    leads_to arena b c.args.stage.now all.items c.len.result (record {
       stage = c.requires;
-      spends = c.options.ensures.spends;
-      are = c.in_ok-all.ensures.listed.0;
-      games = c.in_ok-all.ensures.listed.1 ∙ ap (λ z. near b (position_at s z)) c.moved.ensures;
+      are = subst Q c.moved.ensures c.in_ok-all.ensures;
       count_is = count_is;
       small = small;
     }) c.args.digits.now c.in-Some.place c.index.result.now c.kept.result c.staged.result

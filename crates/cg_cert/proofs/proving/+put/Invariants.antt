@@ -1,23 +1,22 @@
-use Rattle.std.proofs.Common.{◌+◌, ◌*◌, length}
+use Rattle.std.proofs.Common.{◌≡◌, ◌+◌, ◌*◌, length}
 use Rattle.std.specs.Prelude.{string_bytes}
-use Rattle.cg_canon.specs.Works.{work_state}
 use Rattle.cg_cert.specs.Pairs.{pair_size}
 use Rattle.cg_cert.specs.Positions.{stage_at}
 use Rattle.cg_cert.proofs.Writing.{Putting}
 use Rattle.cg_cert.proofs.proving.+put.Given as goal
 
 abbrev pub decreases-put_proof : goal.decreases-put_proof
-decreases-put_proof g l = 3 * pair_size (stage_at (work_state g.S.CellStore.state l.work.now) l.stage.now)
+decreases-put_proof g l = 3 * pair_size (stage_at l.work.now.arena l.stage.now)
 
 abbrev pub decreases-put_move : goal.decreases-put_move
-decreases-put_move g l = 3 * pair_size (stage_at (work_state g.S.CellStore.state l.work.now) l.leads.now) + 1
+decreases-put_move g l = 3 * pair_size (stage_at l.work.now.arena l.leads.now) + 1
 
 abbrev pub decreases-put_reply : goal.decreases-put_reply
-decreases-put_reply g l = 3 * pair_size (stage_at (work_state g.S.CellStore.state l.work.now) l.stage.now) + 2
+decreases-put_reply g l = 3 * pair_size (stage_at l.work.now.arena l.stage.now) + 2
 
 abbrev pub invariant-put_proof-loop-next : goal.invariant-put_proof-loop-next
-invariant-put_proof-loop-next g l = Putting (work_state g.S.CellStore.state l.fn.work) (work_state g.S.CellStore.state l.work)
-    (stage_at (work_state g.S.CellStore.state l.fn.work) l.stage) l.limit (string_bytes l.fn.text) (string_bytes l.text) l.rest
+invariant-put_proof-loop-next g l = (l.work ≡ l.fn.work) × Putting l.fn.work.arena (stage_at l.fn.work.arena l.stage) l.limit
+    (string_bytes l.fn.text) (string_bytes l.text) l.rest
 
 abbrev pub decreases-put_proof-loop-next : goal.decreases-put_proof-loop-next
 decreases-put_proof-loop-next g l = length l.rest

@@ -1,0 +1,6 @@
+use Rattle.std.proofs.Common.{◌≡◌, map, take}
+use Rattle.cg_cert.specs.declared.position.Position.TheVariants.{At}
+use Rattle.cg_cert.proofs.position.positions_at.Given as goal
+
+abbrev pub invariant-loop-index : goal.invariant-loop-index
+invariant-loop-index l = l.all.items ≡ map At (take l.index-index l.indexes)
