@@ -1,8 +1,8 @@
 -- A player's first move, by the first good options in both games: an answer of Left's, or Right's winning move.
-use Rattle.std.proofs.Common.{◌≡◌, ap, sym, ◌∙◌, ℕ, [], ◌++◌, Some, None, Bool, true, false, not, cond, option_map, if◌then◌else◌}
+use Rattle.std.proofs.Common.{◌≡◌, ap, sym, ◌∙◌, ℕ, [], ◌++◌, Some, None, Bool, true, false, cond, option_map, if◌then◌else◌}
 use Rattle.std.specs.Prelude.{codes, decimal}
 use Rattle.cg_form.specs.Game.{Game, lefts, rights}
-use Rattle.cg_form.specs.Side.{at_most, near}
+use Rattle.cg_form.specs.Side.{at_most}
 use Rattle.cg_cert.specs.Answer.{first_text, move_text, option_text, refusal_text, right_text}
 use Rattle.cg_cert.specs.Certificate.{answer_in, certificate_text}
 use Rattle.cg_cert.specs.First.{first_answer, first_of, first_place, first_proof}

@@ -1,5 +1,5 @@
 -- Pairs of positions: Right's moves.
-use Rattle.std.proofs.Common.{◌≡◌, refl, ap, sym, ◌∙◌, List, [], ◌∷◌, ◌++◌, map, Bool, true, false, Result, Ok, Err, IfOk}
+use Rattle.std.proofs.Common.{◌≡◌, refl, ap, ◌∙◌, List, [], ◌∷◌, ◌++◌, map, Bool, true, false, Result, Ok, Err, IfOk}
 use Rattle.cg_form.specs.Game.{Game, lefts, rights}
 use Rattle.cg_cert.specs.declared.position.Position.{Position}
 use Rattle.cg_cert.specs.declared.stage.Stage.{Stage}

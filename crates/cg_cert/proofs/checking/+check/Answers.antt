@@ -1,4 +1,4 @@
-use Rattle.std.proofs.Common.{refl, sym, ◌∙◌, ℕ, ◌+◌, ◌-◌, drop, length, take, List, [], ◌∷◌, rules}
+use Rattle.std.proofs.Common.{refl, sym, ◌∙◌, ◌+◌, ◌-◌, drop, length, take, rules}
 use Rattle.cg_cert.specs.Certificate.{answer_in}
 use Rattle.cg_cert.specs.Positions.{stage_at}
 use Rattle.cg_cert.proofs.AnswerTexts.{lettered, reads_no_letter, reads_no_place}

@@ -1,4 +1,4 @@
-use Rattle.std.proofs.Common.{◌≡◌, ap, ◌∙◌, subst, ℕ, ◌<◌, ◌^◌, length, Option, arith}
+use Rattle.std.proofs.Common.{◌≡◌, subst, ℕ, ◌<◌, ◌^◌, length, Option, arith}
 use Rattle.cg_form.specs.Side.{near}
 use Rattle.cg_cert.specs.Positions.{ArePositionsOf, position_at}
 use Rattle.cg_cert.specs.declared.position.Position.{Position}
