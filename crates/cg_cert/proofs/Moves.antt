@@ -1,5 +1,5 @@
 -- Moves and answers, and what holds of each.
-use Rattle.std.proofs.Common.{◌≡◌, refl, ap, sym, subst, ℕ, ◌+◌, ◌<◌, arith, inl, inr, List, [], ◌∷◌, ◌++◌, map, Option, Some, None, option_map, slice_get}
+use Rattle.std.proofs.Common.{◌≡◌, refl, ap, sym, ℕ, ◌+◌, ◌<◌, arith, inl, inr, List, [], ◌∷◌, ◌++◌, map, Option, Some, None, option_map, slice_get}
 use Rattle.cg_form.specs.Game.{Among, Game, lefts, rights}
 use Rattle.cg_form.specs.Order.{Le}
 use Rattle.cg_form.specs.Size.{size}
@@ -30,7 +30,7 @@ each-map P f (g ∷ gs) h = (h g (inl refl), each-map P f gs (λ a m. h a (inr m
 pub map-each : (P : Pair → Type 0) (f : Game → Pair) (gs : List Game) → Each P (map f gs) → (a : Game) → Among a gs
     → P (f a)
 map-each P f [] e a m = absurd m
-map-each P f (g ∷ gs) e a (inl i) = let Q : Game → Type 0 = λ z. P (f z) in subst Q (sym i) e.0
+map-each P f (g ∷ gs) e a (inl i) = rw i e.0
 map-each P f (g ∷ gs) e a (inr m) = map-each P f gs e.1 a m
 
 -- ---- Right's moves
@@ -73,17 +73,15 @@ led-answered (in_first i) m k e =
     let (a, n, f) = placed (λ z. pair z m.second) (lefts m.first) i k e in
     let s = size-lefts m.first a n in
     let z : pair_size k ≡ size a + size m.second = ap pair_size f in
-    let P : Pair → Type 0 = λ z. AtLeast z in
     record {
       smaller = omega arith;
-      serves = λ l p. not_le-left m.first a n (le_trans m.first m.second a p (subst P f l));
+      serves = λ l p. not_le-left m.first a n (le_trans m.first m.second a p (rw f at l));
     }
 led-answered (in_second i) m k e =
     let (b, n, f) = placed (λ z. pair m.first z) (rights m.second) i k e in
     let s = size-rights m.second b n in
     let z : pair_size k ≡ size m.first + size b = ap pair_size f in
-    let P : Pair → Type 0 = λ z. AtLeast z in
     record {
       smaller = omega arith;
-      serves = λ l p. not_le-right m.second b n (le_trans b m.first m.second (subst P f l) p);
+      serves = λ l p. not_le-right m.second b n (le_trans b m.first m.second (rw f at l) p);
     }

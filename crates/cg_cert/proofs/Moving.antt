@@ -44,8 +44,8 @@ move_right m false i g h (n, a, k, e) =
     ∙ ap (λ o. move_text m o (first_place (at_most true m.first) (lefts m.second))) (sym n)
 
 -- what shows that the first game isn't at least the second, where they aren't both numbers
-pub refused_by : (m n : Pair) → m ≡ n → both_numbers n ≡ false → right_text m ≡ refusal_text n
-refused_by m n e b = ap right_text e ∙ ap (λ z. if z then codes "." else right_text n) (sym b)
+pub refused_by : (m : Pair) → both_numbers m ≡ false → right_text m ≡ refusal_text m
+refused_by m b = ap (λ z. if z then codes "." else right_text m) (sym b)
 
 pub no_right : (m : Pair) → first_place (at_most false m.second) (rights m.first) ≡ None
     → first_place (at_most true m.first) (lefts m.second) ≡ None → right_text m ≡ []

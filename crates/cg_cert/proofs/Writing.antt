@@ -1,5 +1,5 @@
 -- The pieces of a proof, put one behind another.
-use Rattle.std.proofs.Common.{◌≡◌, refl, ap, sym, ◌∙◌, subst, append_assoc, append-nil, ℕ, ◌<◌, ◌≤◌, arith, length, length-append, List, [], ◌∷◌, ◌++◌, Option, Some, None, Result, Ok, Err, Bool, false, true, cond, if◌then◌else◌}
+use Rattle.std.proofs.Common.{◌≡◌, refl, ap, sym, ◌∙◌, append_assoc, append-nil, ℕ, ◌<◌, ◌≤◌, arith, length, length-append, List, [], ◌∷◌, ◌++◌, Option, Some, None, Result, Ok, Err, Bool, false, true, cond, if◌then◌else◌}
 use Rattle.std.specs.Prelude.{codes, decimal}
 use Rattle.cg_form.specs.Game.{Game}
 use Rattle.cg_cert.specs.declared.fault.CertFault.{CertFault}
@@ -20,7 +20,7 @@ pub wrote_then : (r : Result (Unit {0}) CertFault) (limit : ℕ) (old mid new p 
     → Wrote r limit mid new q → Wrote r limit old new (p ++ q)
 wrote_then (Ok u) limit old mid new p q e w = (w.0 ∙ ap (λ z. z ++ q) e ∙ append_assoc old p q, w.1)
 wrote_then (Err Long) limit old mid new p q e w =
-    let P : List ℕ → Type 0 = λ z. limit < length z in subst P (ap (λ z. z ++ q) e ∙ append_assoc old p q) w
+    rw (e, append_assoc old p q) at w
 wrote_then (Err Memory) limit old mid new p q e w = tt
 
 -- a piece that wasn't put, in front of others
@@ -45,23 +45,15 @@ pub wrote_memory : (e : CertFault) (limit : ℕ) (old new piece : List ℕ) → 
 wrote_memory Memory limit old new piece e = tt
 wrote_memory Long limit old new piece e = absurd (cc)
 
--- the same result
-pub wrote_as : (r q : Result (Unit {0}) CertFault) (limit : ℕ) (old new piece : List ℕ) → r ≡ q
-    → Wrote q limit old new piece → Wrote r limit old new piece
-wrote_as r q limit old new piece e w = rw e w
-
 -- the same limit, text and piece
 pub wrote_from : (r : Result (Unit {0}) CertFault) (limit bound : ℕ) (old word new p q : List ℕ) → limit ≡ bound
     → old ≡ word → p ≡ q → Wrote r limit old new p → Wrote r bound word new q
-wrote_from r limit bound old word new p q l e f w =
-    let P : ℕ → Type 0 = λ z. Wrote r z old new p in
-    let Q : List ℕ → Type 0 = λ z. Wrote r bound z new p in
-    wrote_along r bound word new p q f (subst Q e (subst P l w))
+wrote_from r limit bound old word new p q l e f w = rw (← l, ← e, ← f) w
 
 -- at the exit of a `?`
 pub wrote_exit : (r : Result (Unit {0}) CertFault) (x fault : CertFault) (limit : ℕ) (old new piece : List ℕ) → r ≡ Err x
     → x ≡ fault → Wrote (Err fault) limit old new piece → Wrote r limit old new piece
-wrote_exit r x fault limit old new piece e f w = wrote_as r (Err fault) limit old new piece (e ∙ ap Err f) w
+wrote_exit r x fault limit old new piece e f w = rw (e, f) w
 
 -- ---- the answers
 

@@ -1,8 +1,4 @@
-use Rattle.std.proofs.Common.{◌≡◌, subst, ℕ, ◌<◌, ◌^◌, length, Option, arith}
-use Rattle.cg_form.specs.Side.{near}
-use Rattle.cg_cert.specs.Positions.{ArePositionsOf, position_at}
-use Rattle.cg_cert.specs.declared.position.Position.{Position}
-use Rattle.cg_cert.specs.Reads.{IsPlace}
+use Rattle.std.proofs.Common.{◌≡◌, ◌<◌, ◌^◌, length, arith}
 use Rattle.cg_cert.proofs.Leading.{leads_to}
 use Rattle.cg_cert.proofs.checking.led.Goals as goal
 
@@ -13,12 +9,10 @@ returns g c =
     let all = c.in_ok-all.all in
     let count_is : c.len.result ≡ length all.items = omega (arith, c.len.ensures, all.ok.0) in
     let small : c.len.result < 2 ^ 64 = omega (arith, count_is, all.ok.0, all.ok.1, all.small) in
-    let P : Option ℕ → Type 0 = λ z. IsPlace c.len.result c.args.digits.now z in
-    let Q : Position → Type 0 = λ z. ArePositionsOf arena all.items (near b (position_at arena z)) in
     leads_to arena b c.args.stage.now all.items c.len.result (record {
       stage = c.requires;
-      are = subst Q c.moved.ensures c.in_ok-all.ensures;
+      are = rw c.moved.ensures at c.in_ok-all.ensures;
       count_is = count_is;
       small = small;
     }) c.args.digits.now c.in-Some.place c.index.result.now c.kept.result c.staged.result
-    (subst P c.in-Some.is c.in_ok-place_of.ensures) c.index.ensures c.kept.ensures c.staged.ensures
+    (rw c.in-Some.is at c.in_ok-place_of.ensures) c.index.ensures c.kept.ensures c.staged.ensures

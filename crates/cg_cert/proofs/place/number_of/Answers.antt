@@ -1,5 +1,4 @@
-use Rattle.std.proofs.Common.{sym, ◌∙◌, subst, List, ℕ, decimal}
-use Rattle.std.specs.Str.{IsUtf8}
+use Rattle.std.proofs.Common.{sym, ◌∙◌, decimal}
 use Rattle.std.proofs.lemmas.Fmt.{IsAscii-decimal, parse-decimal}
 use Rattle.std.proofs.lemmas.Str.{IsUtf8-from_ascii}
 use Rattle.cg_cert.proofs.place.number_of.Goals as goal
@@ -12,5 +11,4 @@ returns-in-Ok c n l e =
 
 pub returns-in-Err : goal.returns-in-Err
 returns-in-Err c n l e =
-    let P : List ℕ → Type 0 = λ z. IsUtf8 z in
-    absurd (c.in-Err.ensures.cases.0 (subst P e (IsUtf8-from_ascii (decimal n) (IsAscii-decimal n l))))
+    absurd (c.in-Err.ensures.cases.0 (rw e at (IsUtf8-from_ascii (decimal n) (IsAscii-decimal n l))))

@@ -13,7 +13,7 @@ returns-in-None-clause-wrote g c =
     let m = stage_at c.args.work.now.arena c.args.stage.now in
     let r = rw c.in-None.is at c.in_ok-first_move.ensures.found in
     wrote_nothing c.args.limit (string_bytes c.args.text.now) (string_bytes c.args.text.now) (refusal_text m) refl
-    (sym (refused_by m m refl (sym c.both_numbers.ensures ∙ c.if-both_numbers.false)) ∙ no_right m r.0 r.1)
+    (sym (refused_by m (sym c.both_numbers.ensures ∙ c.if-both_numbers.false)) ∙ no_right m r.0 r.1)
     c.requires.within
 
 pub returns-in-Some-clause-wrote : goal.returns-in-Some-clause-wrote
@@ -28,5 +28,5 @@ returns-in-Some-clause-wrote g c =
     ((c.letter-word.result.now ++ decimal found.place) ++ proof) (refusal_text m)
     (ap (λ z. (z ++ decimal found.place) ++ proof) c.letter-word.ensures
     ∙ move_right m found.is_first found.place _ _ r.0
-    ∙ refused_by m m refl (sym c.both_numbers.ensures ∙ c.if-both_numbers.false))
+    ∙ refused_by m (sym c.both_numbers.ensures ∙ c.if-both_numbers.false))
     (rw c.first_move.ensures.same at c.put_move.ensures.wrote)
