@@ -23,8 +23,9 @@ fn mark_all(marks: &mut Vec<usize>, count: usize) -> Result<(), AllocError>
 }
 
 impl<'a, B: BoardForms, S: CellStore<GameFacts<B>>> Work<'a, B, S> {
-    /// The positions of the game at the index, unless there are more than this limit.
-    pub(crate) fn walk_within(
+    /// The positions of the game at the index. `Positions` comes exactly where there are more than this limit, and never at a limit of
+    /// 2^63 or more; the other error is want of memory.
+    pub fn walk_within(
         &mut self,
         alloc: Global,
         index: u32,

@@ -71,7 +71,7 @@ gap-later s g p q k t u h =
 
 -- ---- where they meet
 
-le_or_lt_n : (a b : ℕ) → (a ≤ b) ⊎ (b < a)
+pub le_or_lt_n : (a b : ℕ) → (a ≤ b) ⊎ (b < a)
 le_or_lt_n a b = grind arith
 
 pub meets-cool : (s : ℕ) (g : Game) (p q : Rise) (e : ℕ) → Tops s g p q → Meets p q e → Cool (scaffold_of number-decide s g)

@@ -3,12 +3,9 @@ pub mod Scales
 pub mod Deciders
 pub mod Upward
 pub mod Drawing
-pub mod Members
+pub mod ChartSteps
 pub mod Topping
-pub mod Keeping
-pub mod Options
 pub mod Roughs
-pub mod Charting
 pub mod Picturing
 pub mod WallLines
 pub mod Wins

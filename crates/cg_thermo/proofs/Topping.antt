@@ -1,79 +1,128 @@
--- The greatest of the sides of some options, one after the other.
-use Rattle.std.proofs.Common.{◌≡◌, refl, ℕ, suc, ◌+◌, ◌<◌, ◌≤◌, arith, inl, inr, ap, sym, ◌∙◌, subst, Bool, true, false, cond, Some, List, [], ◌∷◌, take, get_or, length, ℤ, neg_ℤ, ◌≤ℤ◌}
+-- The greatest of the sides of some games, one after the other.
+use Rattle.std.proofs.Common.{◌≡◌, refl, ℕ, zero, suc, ◌+◌, ◌<◌, ◌≤◌, arith, ap, sym, ◌∙◌, subst, Bool, true, false, All, if◌then◌else◌, List, [], ◌∷◌, ◌++◌, map, take, get_or, length, ℤ, neg_ℤ}
 use Rattle.std.proofs.lemmas.Int.{ints}
+use Rattle.std.proofs.lemmas.List.{get_or_default}
 use Rattle.std.specs.Int.{int_max}
-use Rattle.cg_walls.specs.declared.TheConstants.{BOUND}
+use Rattle.cg_book.proofs.Slices.{games_take_all, games_take_suc, member_of}
+use Rattle.cg_book.specs.Pages.{game_of, games_of}
+use Rattle.cg_dyadic.specs.Wide.{places}
+use Rattle.cg_form.proofs.Among.{carry}
+use Rattle.cg_form.proofs.Decide.{number-decide}
+use Rattle.cg_form.proofs.Integers.{some_lefts, some_rights}
+use Rattle.cg_form.specs.Canonical.{Canonical}
+use Rattle.cg_form.specs.Game.{Among, Game, IsNode, lefts, number, options, rights}
+use Rattle.cg_form.specs.Simple.{Decides, NoNumber}
+use Rattle.cg_form.specs.Walls.{greatest, least, walls}
 use Rattle.cg_walls.specs.declared.rise.Rise.{Rise}
 use Rattle.cg_walls.specs.Rises.{IsWall, value_at}
-use Rattle.cg_walls.proofs.Merging.{greater_left, greater_right, le_or_lt}
 use Rattle.cg_thermo.specs.declared.chart.Chart.{Chart}
-use Rattle.cg_thermo.specs.Found.{Charts, AreWalls, TopOf, charted, side_in}
-use Rattle.cg_thermo.proofs.Members.{has-before, has-next, has-own, take-all}
+use Rattle.cg_thermo.specs.Progress.{AreCharts, Charted}
+use Rattle.cg_thermo.specs.Smooths.{Smooth}
+use Rattle.cg_thermo.specs.Tops.{IsTop, side_value}
+use Rattle.cg_thermo.proofs.ChartSteps.{chart_there}
+use Rattle.cg_thermo.proofs.Drawing.{Tops}
 
-pub top-none : (m : Charts) (right : Bool) (hs : List ℕ) (r : Rise) → hs ≡ [] → IsWall r → ((t : ℕ) → value_at r t ≡ neg_ℤ BOUND)
-    → TopOf m right hs r
-top-none m right hs r e w v =
-    let P : List ℕ → Type 0 = λ z. TopOf m right z r in
-    subst P (sym e) (record { wall = w; above = λ h t n. absurd n; attained = λ t. inl (v t) })
+-- ---- one game more
 
-pub top-first : (m : Charts) (right : Bool) (hs rest : List ℕ) (h : ℕ) (r : Rise) → hs ≡ h ∷ rest → IsWall r
-    → ((t : ℕ) → value_at r t ≡ side_in right (charted m h) t) → TopOf m right (take 1 hs) r
-top-first m right hs rest h r e w v =
-    let P : List ℕ → Type 0 = λ z. TopOf m right (take 1 z) r in
-    subst P (sym e) (record {
-      wall = w;
-      above = λ x t n. elim n [
-        | inl k ↦ (let a : side_in right (charted m h) t ≡ side_in right (charted m x) t = ap (λ z. side_in right (charted m z) t) k in
-            let j = v t in omega (arith, ints))
-        | inr k ↦ absurd k
-      ];
-      attained = λ t. inr (h, inl refl, v t);
-    })
-
-pub side-wall : (m : Charts) (right : Bool) (h : ℕ) (c : Chart) (r : Rise) → AreWalls m → charted m h ≡ Some c → r ≡ cond right c.right c.left → IsWall r
-side-wall m true h c r w e f = let P : Rise → Type 0 = λ z. IsWall z in subst P (sym f) (w.right h c e)
-side-wall m false h c r w e f = let P : Rise → Type 0 = λ z. IsWall z in subst P (sym f) (w.left h c e)
-
-pub side-is : (m : Charts) (right : Bool) (h : ℕ) (c : Chart) (t : ℕ) → charted m h ≡ Some c
-    → side_in right (charted m h) t ≡ value_at (cond right c.right c.left) t
-side-is m right h c t e = ap (λ o. side_in right o t) e ∙ pick right
+greatest_more : (f : Game → ℤ) (gs : List Game) (g : Game) → ¬ (gs ≡ []) → greatest (map f (gs ++ (g ∷ []))) ≡ int_max (greatest (map f gs)) (f g)
+greatest_more f [] g n = absurd (n refl)
+greatest_more f (x ∷ []) g n = greater_max (f x) (f g)
   where
-    pick : (b : Bool) → cond b (value_at c.right t) (value_at c.left t) ≡ value_at (cond b c.right c.left) t
-    pick true = refl
-    pick false = refl
-
-pub top-more : (m : Charts) (right : Bool) (hs : List ℕ) (i h : ℕ) (r q : Rise) → i < length hs → h ≡ get_or hs i h
-    → IsWall q → ((t : ℕ) → value_at q t ≡ int_max (value_at r t) (side_in right (charted m h) t))
-    → TopOf m right (take i hs) r → TopOf m right (take (i + 1) hs) q
-top-more m right hs i h r q lt e w v top = record {
-  wall = w;
-  above = λ x t n. elim (has-next hs i h lt e x n) [
-    | inl k ↦ (let a = top.above x t k in let g = left_le (value_at r t) (side_in right (charted m h) t) in
-        let j = v t in omega (arith, ints))
-    | inr k ↦ (let a : side_in right (charted m x) t ≡ side_in right (charted m h) t = ap (λ z. side_in right (charted m z) t) k in
-        let g = right_le (value_at r t) (side_in right (charted m h) t) in let j = v t in omega (arith, ints))
-  ];
-  attained = λ t. elim (le_or_lt (value_at r t) (side_in right (charted m h) t)) [
-    | inl k ↦ inr (h, has-own hs i h lt e, v t ∙ greater_right (value_at r t) (side_in right (charted m h) t) k)
-    | inr k ↦ (let g = v t ∙ greater_left (value_at r t) (side_in right (charted m h) t) (omega (arith, ints)) in
-        elim (top.attained t) [
-          | inl a ↦ inl (g ∙ a)
-          | inr a ↦ inr (a.0, has-before hs i a.0 a.1, g ∙ a.2)
-        ])
-  ];
-}
+    greater_max : (a b : ℤ) → greatest (a ∷ (b ∷ [])) ≡ int_max a b
+    greater_max a b = grind (arith, ints)
+greatest_more f (x ∷ (y ∷ ys)) g n =
+    let e = greatest_more f (y ∷ ys) g (λ k. cc) in
+    joined (f x) (greatest (map f ((y ∷ ys) ++ (g ∷ [])))) (greatest (map f (y ∷ ys))) (f g) e
   where
-    left_le : (x y : ℤ) → x ≤ℤ int_max x y
-    left_le x y = grind (arith, ints)
+    joined : (a b c d : ℤ) → b ≡ int_max c d → greatest (a ∷ (b ∷ [])) ≡ int_max (greatest (a ∷ (c ∷ []))) d
+    joined a b c d e = grind (arith, ints)
 
-    right_le : (x y : ℤ) → y ≤ℤ int_max x y
-    right_le x y = grind (arith, ints)
+pub top-first : (fs : List Game) (right : Bool) (ps rest : List ℕ) (p : ℕ) (r : Rise) → ps ≡ p ∷ rest
+    → ((d : Decides) (t : ℕ) → value_at r t ≡ side_value d right t (game_of fs p)) → IsTop right (games_of fs (take 1 ps)) r
+top-first fs right ps rest p r e v =
+    let P : List ℕ → Type 0 = λ z. IsTop right (games_of fs (take 1 z)) r in subst P (sym e) (λ _. v)
 
-pub top-all : (m : Charts) (right : Bool) (hs : List ℕ) (i : ℕ) (r : Rise) → length hs ≤ i → TopOf m right (take i hs) r → TopOf m right hs r
-top-all m right hs i r h k = let P : List ℕ → Type 0 = λ z. TopOf m right z r in subst P (take-all hs i h) k
+pub top-more : (fs : List Game) (right : Bool) (ps : List ℕ) (i p : ℕ) (r q : Rise) → 1 ≤ i → i < length ps → p ≡ get_or ps i p
+    → ((d : Decides) (t : ℕ) → value_at q t ≡ int_max (value_at r t) (side_value d right t (game_of fs p)))
+    → IsTop right (games_of fs (take i ps)) r → IsTop right (games_of fs (take (i + 1) ps)) q
+top-more fs right ps i p r q some lt e v top = λ _ d t.
+    let one : i + 1 ≡ suc i = omega arith in
+    let f : Game → ℤ = side_value d right t in
+    let n : ¬ (games_of fs (take i ps) ≡ []) = not_none ps i some lt in
+    let own : p ≡ get_or ps i 0 = e ∙ get_or_default ps i p 0 lt in
+    v d t ∙ ap (λ z. int_max z (f (game_of fs p))) (top n d t)
+    ∙ sym (greatest_more f (games_of fs (take i ps)) (game_of fs p) n)
+    ∙ ap (λ z. greatest (map f (games_of fs (take i ps) ++ (game_of fs z ∷ [])))) own
+    ∙ sym (ap (λ z. greatest (map f z)) (ap (λ k. games_of fs (take k ps)) one ∙ games_take_suc fs ps i 0 lt))
+  where
+    not_none : (xs : List ℕ) (k : ℕ) → 1 ≤ k → k < length xs → ¬ (games_of fs (take k xs) ≡ [])
+    not_none [] k o l = absurd (omega arith)
+    not_none (x ∷ xs) zero o l = absurd (omega arith)
+    not_none (x ∷ xs) (suc k) o l = λ h. cc
+
+pub top-all : (fs : List Game) (right : Bool) (ps : List ℕ) (i : ℕ) (r : Rise) → length ps ≤ i → IsTop right (games_of fs (take i ps)) r
+    → IsTop right (games_of fs ps) r
+top-all fs right ps i r h k = let P : List Game → Type 0 = λ z. IsTop right z r in subst P (games_take_all fs ps i h) k
 
 -- what stands behind the first
 pub read-behind : (xs ys : List ℕ) (x i h : ℕ) → xs ≡ x ∷ ys → h ≡ get_or ys i h → h ≡ get_or xs (i + 1) h
 read-behind xs ys x i h e read =
     let next : i + 1 ≡ suc i = omega arith in
     read ∙ sym (ap (λ z. get_or z (i + 1) h) e ∙ ap (λ k. get_or (x ∷ ys) k h) next)
+
+pub all_read : (xs : List ℕ) (i x n : ℕ) → All (λ p. p < n) xs → i < length xs → x ≡ get_or xs i x → x < n
+all_read xs i x n all l e = let P : ℕ → Type 0 = λ z. z < n in subst P (sym e) (all i x l)
+
+-- ---- the sides of a chart
+
+pub side-wall : (g : Game) (c : Chart) (right : Bool) → Charted g c → IsWall (if right then c.right else c.left)
+side-wall g c true k = k.draws.right_wall
+side-wall g c false k = k.draws.left_wall
+
+pub side-is : (g : Game) (c : Chart) (right : Bool) (d : Decides) (t : ℕ) → Charted g c
+    → value_at (if right then c.right else c.left) t ≡ side_value d right t g
+side-is g c true d t k = k.draws.right d t
+side-is g c false d t k = k.draws.left d t
+
+-- ---- both sides of a game whose options have charts
+
+greatest_turned : (f : Game → ℤ) (gs : List Game) → greatest (map (λ a. neg_ℤ (f a)) gs) ≡ neg_ℤ (least (map f gs))
+greatest_turned f [] = refl
+greatest_turned f (x ∷ []) = refl
+greatest_turned f (x ∷ (y ∷ ys)) =
+    turned (f x) (greatest (map (λ a. neg_ℤ (f a)) (y ∷ ys))) (least (map f (y ∷ ys))) (greatest_turned f (y ∷ ys))
+  where
+    turned : (a b c : ℤ) → b ≡ neg_ℤ c → greatest (neg_ℤ a ∷ (b ∷ [])) ≡ neg_ℤ (least (a ∷ (c ∷ [])))
+    turned a b c e = grind (arith, ints)
+
+pub canonical-node : (g : Game) → Canonical g → IsNode g → NoNumber g
+canonical-node (number x) c n = absurd n
+canonical-node (options ls rs) c n = c.0.no_number
+
+smooth_options : (fs : List Game) (cs : List Chart) (ps : List ℕ) → AreCharts fs cs → All (λ p. p < length cs) ps
+    → (a : Game) → Among a (games_of fs ps) → Smooth places a
+smooth_options fs cs ps h within a m =
+    let (p, k, e) = member_of fs ps a m in
+    let l : p < length cs = (let P : ℕ → Type 0 = λ z. z < length cs in subst P k.2 (within k.0 p k.1)) in
+    let (c, is) = chart_there cs p l in
+    let P : Game → Type 0 = λ z. Smooth places z in
+    subst P (sym e) (h.each p c l is).smooth
+
+pub tops : (fs : List Game) (cs : List Chart) (g : Game) (ls rs : List ℕ) (p q : Rise) → Canonical g → IsNode g
+    → lefts g ≡ games_of fs ls → rights g ≡ games_of fs rs → AreCharts fs cs
+    → All (λ p. p < length cs) ls → All (λ p. p < length cs) rs → IsWall p → IsWall q
+    → IsTop true (games_of fs ls) p → IsTop false (games_of fs rs) q → Tops places g p q
+tops fs cs g ls rs p q can n l r h bl br wp wq tp tq =
+    let never = canonical-node g can n in
+    let F : ℕ → Game → ℤ = λ t b. (walls number-decide places t b).left in
+    record {
+      never = never;
+      lefts_smooth = λ a m. smooth_options fs cs ls h bl a (carry a (lefts g) (games_of fs ls) l m);
+      rights_smooth = λ b m. smooth_options fs cs rs h br b (carry b (rights g) (games_of fs rs) r m);
+      p_wall = wp;
+      q_wall = wq;
+      p_is = λ t. tp (λ e. some_lefts g never (l ∙ e)) number-decide t
+          ∙ ap (λ z. greatest (map (side_value number-decide true t) z)) (sym l);
+      q_is = λ t. tq (λ e. some_rights g never (r ∙ e)) number-decide t ∙ greatest_turned (F t) (games_of fs rs)
+          ∙ ap (λ z. neg_ℤ (least (map (F t) z))) (sym r);
+    }

@@ -8,8 +8,7 @@ pub mod Winners
 -- what private contracts cite
 pub mod Signed
 pub mod Draws
-pub mod Kept
-pub mod Found
+pub mod Tops
 pub mod Joins
 pub mod Smooths
 pub mod Progress

@@ -1,31 +1,28 @@
 -- How far the charts of the positions of a game have come.
-use Rattle.std.specs.Prelude.{◌≡◌, ◌⊎◌, ℕ, ◌<◌, List, ◌∷◌, ◌++◌}
-use Rattle.cg_cells.specs.Meaning.{Has}
-use Rattle.cg_cells.specs.Store.{State}
+use Rattle.std.specs.Prelude.{◌≡◌, ℕ, ◌<◌, List, get_or, length}
+use Rattle.cg_book.specs.Pages.{game_of, games_of}
+use Rattle.cg_canon.specs.Walk.{indexes_of}
+use Rattle.cg_canon.specs.declared.walk.Walk.{Walk}
 use Rattle.cg_dyadic.specs.Number.{Number, exp_of}
 use Rattle.cg_dyadic.specs.Wide.{places}
-use Rattle.cg_form.specs.Game.{Among, Game, lefts, rights}
+use Rattle.cg_form.specs.Game.{Among, Game}
 use Rattle.cg_form.specs.Walls.{IsThermal}
-use Rattle.cg_nodes.specs.Games.{IsNode, game_at}
-use Rattle.cg_nodes.specs.Meant.{Meant}
 use Rattle.cg_thermo.specs.declared.chart.Chart.{Chart}
 use Rattle.cg_thermo.specs.Draws.{Draws}
-use Rattle.cg_thermo.specs.Found.{Charts, charted}
-use Rattle.cg_thermo.specs.Kept.{KeepsOwn, OptionsKept}
 use Rattle.cg_thermo.specs.Smooths.{Smooth}
+
+-- the games of the positions that were walked
+abbrev pub walked : List Game → Walk → List Game
+walked gs w = games_of gs (indexes_of w.positions.items)
 
 -- the chart is that of the game, whose temperatures need no more places
 pub record Charted (g : Game) (c : Chart) : Type 0 where
   pub smooth : Smooth places g
   pub draws : Draws g c
 
--- what was found for a handle is the chart of its game
-abbrev pub HoldsCharts : {R : Type 0} → State Meant R → Charts → Type 0
-HoldsCharts {R} s m = KeepsOwn Charted s (charted m)
-
--- for each option of the game some handle stands whose chart was found
-abbrev pub OptionsCharted : {R : Type 0} → State Meant R → Charts → ℕ → Type 0
-OptionsCharted {R} s m f = OptionsKept s (charted m) f
+-- the charts are those of the first games
+pub record AreCharts (games : List Game) (charts : List Chart) : Type 0 where
+  pub each : (i : ℕ) (c : Chart) → i < length charts → c ≡ get_or charts i c → Charted (game_of games i) c
 
 -- the temperature of the game needs more places
 pub record Rough (g : Game) : Type 0 where
@@ -35,12 +32,7 @@ pub record Rough (g : Game) : Type 0 where
   pub more : places < exp_of temp
 
 -- some game of the list has a temperature that needs more places
-pub record SomeRough {R : Type 0} (s : State Meant R) (hs : List ℕ) : Type 0 where
-  pub handle : ℕ
-  pub among : Has hs handle
-  pub rough : Rough (game_at s handle)
-
--- each option of a game of the list that isn't a number stands before it
-pub record OptionsFirst (gs : List Game) : Type 0 where
-  pub each : (front : List Game) (f : Game) (back : List Game) → gs ≡ front ++ (f ∷ back) → IsNode f
-      → (a : Game) → Among a (lefts f) ⊎ Among a (rights f) → Among a front
+pub record SomeRough (games : List Game) : Type 0 where
+  pub game : Game
+  pub among : Among game games
+  pub rough : Rough game

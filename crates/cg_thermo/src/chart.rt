@@ -1,5 +1,4 @@
 //! The walls of a game, while they are found.
-use crate::by_id::ById;
 use cg_walls::Rise;
 
 /// The walls of a game in units of 1/2^60.
@@ -12,6 +11,3 @@ pub(crate) struct Chart {
     /// From when on both are the mast: the temperature, or 0 for a number.
     pub end: u128,
 }
-
-/// For handles the charts of their games.
-pub(crate) type Charts = ById<Chart>;

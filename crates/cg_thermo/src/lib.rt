@@ -4,16 +4,14 @@
 //! numbers of units of 1/2^60.
 #![tactic(auto)]
 
-mod by_id;
 mod chart;
+mod charting;
 mod corners;
 mod deciding;
 mod ending;
 mod fault;
-mod finding;
 mod joining;
 pub mod laws;
-mod listing;
 mod reading;
 mod stopping;
 mod thermo;

@@ -2,28 +2,28 @@
 ghost use Rattle.std.specs.Prelude.{◌≡◌, ◌<◌, pos, negsuc, IfOk, OnOk, Err};
 ghost use Rattle.cg_canon.specs.Works.{work_state};
 ghost use Rattle.cg_cells.specs.Store.{Spends};
-ghost use Rattle.cg_dyadic.specs.Number.{exp_of, InRange, Number, ratio};
+ghost use Rattle.cg_dyadic.specs.Number.{Number, exp_of, ratio};
 ghost use Rattle.cg_dyadic.specs.Wide.{places};
-ghost use Rattle.cg_form.specs.Canonical.{Canonical};
 ghost use Rattle.cg_form.specs.Depth.{depth_of};
 ghost use Rattle.cg_form.specs.Game.{number};
+ghost use Rattle.cg_form.specs.Positions.{positions_of};
+ghost use Rattle.cg_book.specs.Pages.{IsPage, game_of};
+ghost use Rattle.cg_canon.specs.Walk.{IsWalk};
 ghost use Rattle.cg_walls.specs.declared.TheConstants.{END};
 ghost use Rattle.cg_walls.specs.Rises.{IsWall};
 ghost use Rattle.cg_nodes.specs.Games.{IsGame, IsNode, game_at};
-ghost use Rattle.cg_thermo.specs.Progress.{Charted};
 ghost use Rattle.cg_thermo.specs.Signed.{Pictured};
 ghost use Rattle.cg_thermo.specs.Thermal.{NeedsMore};
 ghost use Rattle.cg_thermo.specs.Thermographs.{DrawsWalls, IsThermograph};
 
-use crate::chart::{Chart, Charts};
+use crate::chart::Chart;
+use crate::charting::charts_of;
 use crate::corners::{Corners, corners_of};
 use crate::fault::ThermoFault;
-use crate::finding::add_charts;
-use crate::listing::each_position;
-use cg_canon::Work;
+use cg_canon::{Read, Walk, Work};
 use cg_cells::CellStore;
 use cg_dyadic::{Dyadic, Wide};
-use cg_nodes::{BoardForms, GameFacts, Handle, Kind, kind, known_game};
+use cg_nodes::{BoardForms, GameFacts, Handle, PositionsFault, known_game};
 use cg_walls::{points, value};
 use std::alloc::{AllocError, Global};
 
@@ -50,22 +50,20 @@ fn number_temperature(x: Dyadic) -> Wide
     }
 }
 
-// The temperature: of a number that of the number, and of another game where its mast begins.
+// The temperature of the game at the index: of a number that of the number, and of another game where its mast begins.
 fn temperature<B: BoardForms, S: CellStore<GameFacts<B>>>(
-    store: &mut S,
-    a: Handle,
+    work: &Work<B, S>,
+    index: u32,
     end: u128,
 ) -> Wide
-    requires a { IsGame (S.state store.old) a }
+    requires index { IsPage work.now.arena index }
     requires end { end < END }
-    ensures number { (x : Number) → game_at (S.state store.old) a ≡ number x → result ≡ ratio (negsuc 0) (exp_of x) }
-    ensures other { IsNode (game_at (S.state store.old) a) → result ≡ ratio (pos end) places }
-    ensures canonical { Canonical (game_at (S.state store.old) a) }
-    ensures spends { Spends 0 (S.state store.old) (S.state store.new) }
+    ensures number { (x : Number) → game_of work.now.arena index ≡ number x → result ≡ ratio (negsuc 0) (exp_of x) }
+    ensures other { IsNode (game_of work.now.arena index) → result ≡ ratio (pos end) places }
 {
-    match kind(store, a) {
-        Kind::Number(x) => number_temperature(x),
-        Kind::Game => Wide::of_units(end as i128),
+    match work.read_at(index) {
+        Read::Number(x) => number_temperature(x),
+        Read::Game(_, _) => Wide::of_units(end as i128),
     }
 }
 
@@ -90,6 +88,23 @@ fn pictured(alloc: Global, chart: &Chart, temp: Wide) -> Result<Walls, AllocErro
     })
 }
 
+// The positions of the game at the index. The only error is want of memory.
+fn each_position<B: BoardForms, S: CellStore<GameFacts<B>>>(
+    alloc: Global,
+    work: &mut Work<B, S>,
+    index: u32,
+) -> Result<Walk, AllocError>
+    requires { IsPage work.old.arena index }
+    ensures walk { IfOk result (λ w. IsWalk work.old.arena w (positions_of (game_of work.old.arena index))) }
+    ensures same { work.new ≡ work.old }
+{
+    match work.walk_within(alloc, index, u64::MAX) {
+        Ok(walk) => Ok(walk),
+        Err(PositionsFault::Positions) => unreachable!(),
+        Err(PositionsFault::Memory) => Err(AllocError),
+    }
+}
+
 /// The thermograph of the game (Siegel, Combinatorial Game Theory (2013), II.5). `Range` comes exactly where the mean or
 /// the temperature of some position needs more than 60 binary places, and never for a game of a depth of at most 20. The other
 /// error is want of memory.
@@ -107,13 +122,10 @@ pub fn thermograph<B: BoardForms, S: CellStore<GameFacts<B>>>(
     ensures spends { Spends 0 (work_state S.state work.old) (work_state S.state work.new) }
 {
     known_game(work, a);
-    let positions = each_position(alloc, work, a)?;
-    let mut charts = Charts::new(alloc);
-    add_charts(alloc, work, positions.as_slice(), &mut charts)?;
-    work.apart();
-    let Some(chart) = charts.get(a) else {
-        unreachable!()
-    };
-    let temp = temperature(work, a, chart.end);
+    let index = work.index(alloc, a)?;
+    let walk = each_position(alloc, work, index)?;
+    let charts = charts_of(alloc, work, &walk)?;
+    let chart = &charts[charts.len() - 1];
+    let temp = temperature(work, index, chart.end);
     Ok(pictured(alloc, chart, temp)?)
 }

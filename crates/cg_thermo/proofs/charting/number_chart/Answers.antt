@@ -3,7 +3,7 @@ use Rattle.cg_dyadic.specs.Units.{units}
 use Rattle.cg_dyadic.specs.Wide.{places}
 use Rattle.cg_walls.specs.declared.TheConstants.{BOUND}
 use Rattle.cg_thermo.proofs.Roughs.{bounds_of, number-charted, word_plain, word_turned}
-use Rattle.cg_thermo.proofs.finding.number_chart.Goals as goal
+use Rattle.cg_thermo.proofs.charting.number_chart.Goals as goal
 
 low : (n m : ℤ) → n ≡ m → neg_ℤ BOUND ≤ℤ m → neg_ℤ BOUND ≤ℤ n
 low n m e h = let P : ℤ → Type 0 = λ z. neg_ℤ BOUND ≤ℤ z in subst P (sym e) h
