@@ -5,12 +5,12 @@ use Rattle.std.specs.List.{flat_map}
 use Rattle.std.specs.Prelude.{Err, IsErrAnd, Ok, Result}
 use Rattle.std.proofs.lemmas.Grind.{flat_map-append, reverse_onto}
 use Rattle.std.proofs.lemmas.List.{drop_more, map-append, reverse-append, reverse-reverse}
-use Rattle.cg_moves.specs.declared.course.Course.{Course}
+use Rattle.cg_moves.specs.declared.edges.Edges.{Edges}
 use Rattle.cg_moves.specs.declared.fault.ReachFault.{ReachFault}
 use Rattle.cg_moves.specs.declared.fault.ReachFault.TheVariants.{Positions}
 use Rattle.cg_moves.specs.declared.player.Player.TheVariants.{Left, Right}
 use Rattle.cg_moves.specs.declared.task.Task.{Task}
-use Rattle.cg_moves.specs.Found.{AreAlike}
+use Rattle.cg_moves.specs.Found.{SameSymbols}
 use Rattle.cg_moves.specs.Grid.{Grid}
 use Rattle.cg_moves.specs.Rules.{GameRules, In, boards_after, followers}
 use Rattle.cg_moves.specs.Walking.{Adds, CanEnter}
@@ -21,20 +21,20 @@ use Rattle.cg_moves.proofs.TaskLemmas.{entered-append}
 use Rattle.cg_moves.proofs.TaskSteps.{adds-more}
 
 -- fewer boards that are alike
-pub alike-less : (old some all : List Grid) → AreAlike (old ++ all) → ((q : Grid) → In q some → In q all) → AreAlike (old ++ some)
-alike-less old some all h s p q m n =
+pub same_symbols-less : (old some all : List Grid) → SameSymbols (old ++ all) → ((q : Grid) → In q some → In q all) → SameSymbols (old ++ some)
+same_symbols-less old some all h s p q m n =
     let go : (x : Grid) → In x (old ++ some) → In x (old ++ all) = λ x k. elim (in-append x old some k) [
       | inl o ↦ in-append_left x old all o
       | inr o ↦ in-append_right x old all (s x o)
     ] in h p q (go p m) (go q n)
 
 -- fewer boards that may be entered
-pub can-enter-some : (r : GameRules) (course : Course) (found some all : List Grid) → CanEnter r course found all
-    → ((q : Grid) → In q some → In q all) → CanEnter r course found some
-can-enter-some r course found some all x s = record {
+pub can-enter-some : (r : GameRules) (edges : Edges) (found some all : List Grid) → CanEnter r edges found all
+    → ((q : Grid) → In q some → In q all) → CanEnter r edges found some
+can-enter-some r edges found some all x s = record {
   has = λ q m. x.has q (s q m);
-  alone = x.alone;
-  alike = alike-less found some all x.alike s;
+  uncut = x.uncut;
+  same_symbols = same_symbols-less found some all x.same_symbols s;
 }
 
 -- where a call hands on that there are too many boards, the call within it told so
@@ -44,9 +44,9 @@ passed_on x (Err y) told e = cc
 passed_on x (Ok y) told e = absurd told
 
 -- boards with the symbols of one that is alike
-pub alike-same : (old qs : List Grid) (p : Grid) → AreAlike (old ++ (p ∷ [])) → ((q : Grid) → In q qs → q.symbols ≡ p.symbols)
-    → AreAlike (old ++ qs)
-alike-same old qs p h s x y m n =
+pub same_symbols-same : (old qs : List Grid) (p : Grid) → SameSymbols (old ++ (p ∷ [])) → ((q : Grid) → In q qs → q.symbols ≡ p.symbols)
+    → SameSymbols (old ++ qs)
+same_symbols-same old qs p h s x y m n =
     let last = in-append_right p old (p ∷ []) (inl refl) in
     let go : (z : Grid) → In z (old ++ qs) → z.symbols ≡ p.symbols = λ z k. elim (in-append z old qs k) [
       | inl o ↦ h z p (in-append_left z old (p ∷ []) o) last

@@ -2,9 +2,9 @@
 use Rattle.std.proofs.lemmas.Bool.Decides.{nat_tests}
 use Rattle.std.proofs.Common.{◌≡◌, refl, ℕ, ◌+◌, ◌≤◌, List, [], ◌∷◌, ◌++◌, length, length-append, take, drop, append_assoc, sym, ◌∙◌, subst, arith}
 use Rattle.std.proofs.lemmas.List.{append-nil, drop-append-le, length-drop, take-append-le}
-use Rattle.cg_moves.specs.declared.opened.NextPlaces.{NextPlaces}
+use Rattle.cg_moves.specs.declared.graph.Adjacency.{Adjacency}
 use Rattle.cg_moves.specs.Grid.{Grid}
-use Rattle.cg_moves.specs.Opened.{AreCounted, AreNext, IsNext, StandAt}
+use Rattle.cg_moves.specs.Graph.{AreCounted, AreNext, IsNext, StandAt}
 use Rattle.cg_moves.specs.Rules.{GameRules, followers}
 use Rattle.std.specs.List.{flat_map}
 
@@ -22,7 +22,7 @@ module _ (r : GameRules) (cut : Grid → List Grid) where
   }
 
   module _ (counts places cs ks : List ℕ) where
-    next-more : (before : List Grid) (p : Grid) (n : NextPlaces) → IsNext r cut counts places before p n
+    next-more : (before : List Grid) (p : Grid) (n : Adjacency) → IsNext r cut counts places before p n
         → IsNext r cut (counts ++ cs) (places ++ ks) before p n
     next-more before p n h =
         let P : List ℕ → Type 0 = λ z. StandAt before z (flat_map cut (followers r p)) in
@@ -34,7 +34,7 @@ module _ (r : GameRules) (cut : Grid → List Grid) where
           places = subst P (sym (part-more places ks n.first_place n.parts h.inside)) h.places;
         }
 
-    pub nexts-more : (before ps : List Grid) (ns : List NextPlaces) → AreNext r cut counts places before ps ns
+    pub nexts-more : (before ps : List Grid) (ns : List Adjacency) → AreNext r cut counts places before ps ns
         → AreNext r cut (counts ++ cs) (places ++ ks) before ps ns
     nexts-more before [] [] h = tt
     nexts-more before [] (n ∷ ns) h = absurd h
@@ -42,7 +42,7 @@ module _ (r : GameRules) (cut : Grid → List Grid) where
     nexts-more before (p ∷ ps) (n ∷ ns) h = (next-more before p n h.0, nexts-more (before ++ (p ∷ [])) ps ns h.1)
 
   module _ (counts places : List ℕ) where
-    pub next-append : (before ps : List Grid) (ns : List NextPlaces) (p : Grid) (n : NextPlaces)
+    pub next-append : (before ps : List Grid) (ns : List Adjacency) (p : Grid) (n : Adjacency)
         → AreNext r cut counts places before ps ns → IsNext r cut counts places (before ++ ps) p n
         → AreNext r cut counts places before (ps ++ (p ∷ [])) (ns ++ (n ∷ []))
     next-append before [] [] p n h i =
@@ -53,7 +53,7 @@ module _ (r : GameRules) (cut : Grid → List Grid) where
         let P : List Grid → Type 0 = λ z. IsNext r cut counts places z p n in
         (h.0, next-append (before ++ (q ∷ [])) ps ns p n h.1 (subst P (sym (append_assoc before (q ∷ []) ps)) i))
 
-    pub next-size : (before ps : List Grid) (ns : List NextPlaces) → AreNext r cut counts places before ps ns → length ns ≡ length ps
+    pub next-size : (before ps : List Grid) (ns : List Adjacency) → AreNext r cut counts places before ps ns → length ns ≡ length ps
     next-size before [] [] h = refl
     next-size before [] (n ∷ ns) h = absurd h
     next-size before (p ∷ ps) [] h = absurd h

@@ -16,7 +16,7 @@ use Rattle.cg_moves.specs.Grid.{AreCells, Grid, IsGrid, are_symbols, with_cells}
 use Rattle.cg_moves.specs.PlaneBits.{ArePlanes, IsGridBy, IsWithIndex, cells_by, grid_by, index_at, index_of, plane_bit}
 use Rattle.cg_moves.specs.Words.{IsWithBit, Marks}
 use Rattle.cg_moves.proofs.GridFacts.{few-symbols, set-grid, symbol-above}
-use Rattle.cg_moves.proofs.WordBits.{four_alike}
+use Rattle.cg_moves.proofs.WordBits.{four_equal}
 
 -- ---- indices of symbols
 
@@ -204,7 +204,7 @@ pub places_by : (w : Planes) (index e f g h x y z u i : ℕ) → index < 16 → 
     → bit_at y i ≡ (if bit_at w.b i == f then 1 else 0) → bit_at z i ≡ (if bit_at w.c i == g then 1 else 0)
     → bit_at u i ≡ (if bit_at w.d i == h then 1 else 0)
     → bit_at (bit_and (bit_and x y) (bit_and z u)) i ≡ (if index_at w i == index then 1 else 0)
-places_by w index e f g h x y z u i l ie jf ig ih ax ay az au = grind (arith, nat_tests, bit_at-lt, sum-bits, bit_at_and, four_alike)
+places_by w index e f g h x y z u i l ie jf ig ih ax ay az au = grind (arith, nat_tests, bit_at-lt, sum-bits, bit_at_and, four_equal)
 
 -- no cell past the last one has a symbol
 no-symbol : (symbols cells : List ℕ) (symbol i : ℕ) → are_symbols symbols ≡ true → Contains symbols symbol → length cells ≤ i

@@ -1,6 +1,6 @@
 use Rattle.std.proofs.Common.{List, length, ap, subst, arith}
 use Rattle.cg_moves.specs.Grid.{Grid}
-use Rattle.cg_moves.specs.Opened.{IsAt}
+use Rattle.cg_moves.specs.Graph.{IsAt}
 use Rattle.cg_moves.proofs.PlaceLemmas.{board-read}
 use Rattle.cg_moves.proofs.found.Found.board.Goals as goal
 

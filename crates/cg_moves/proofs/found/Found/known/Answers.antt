@@ -1,8 +1,8 @@
 use Rattle.std.proofs.Common.{List, ap, rules, subst, sym, ◌∙◌}
 use Rattle.cg_moves.specs.Grid.{Grid}
 use Rattle.cg_moves.specs.Rules.{In}
-use Rattle.cg_moves.specs.Seen.{key_number}
-use Rattle.cg_moves.proofs.SeenLemmas.{if_none_then, if_some_then, known-at, not-numbered}
+use Rattle.cg_moves.specs.Keys.{key_number}
+use Rattle.cg_moves.proofs.FoundKeys.{if_none_then, if_some_then, known-at, not-numbered}
 use Rattle.cg_moves.proofs.found.Found.known.Goals as goal
 
 pub returns-clause-number : goal.returns-clause-number

@@ -1,8 +1,8 @@
 use Rattle.std.proofs.Common.{List, [], ◌∷◌, ◌++◌, ap, subst, sym, ◌∙◌, arith}
 use Rattle.cg_moves.specs.Grid.{Grid}
 use Rattle.cg_moves.specs.Found.{AreNumbers}
-use Rattle.cg_moves.specs.Seen.{AreGrids, key_number}
-use Rattle.cg_moves.proofs.SeenLemmas.{grids-more, numbers-more}
+use Rattle.cg_moves.specs.Keys.{AreGrids, key_number}
+use Rattle.cg_moves.proofs.FoundKeys.{grids-more, numbers-more}
 use Rattle.cg_moves.proofs.found.Found.put.Goals as goal
 
 pub invariant_of-self-in_err-push : goal.invariant_of-self-in_err-push

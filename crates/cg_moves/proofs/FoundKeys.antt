@@ -3,11 +3,11 @@ use Rattle.std.proofs.Common.{◌≡◌, refl, ℕ, zero, suc, ◌<◌, inl, inr
 use Rattle.std.specs.Prelude.{IfNone, IfSome, None, Option, Some, map}
 use Rattle.std.proofs.lemmas.List.{length-map, map-append}
 use Rattle.cg_moves.specs.declared.key.BoardKey.{BoardKey}
-use Rattle.cg_moves.specs.Found.{AreAlike, AreNumbers, HasKeyAt}
+use Rattle.cg_moves.specs.Found.{SameSymbols, AreNumbers, HasKeyAt}
 use Rattle.cg_moves.specs.Grid.{Grid, IsGrid}
-use Rattle.cg_moves.specs.Opened.{IsAt}
+use Rattle.cg_moves.specs.Graph.{IsAt}
 use Rattle.cg_moves.specs.Rules.{In}
-use Rattle.cg_moves.specs.Seen.{AreGrids, key_number, key_of}
+use Rattle.cg_moves.specs.Keys.{AreGrids, key_number, key_of}
 use Rattle.cg_moves.proofs.KeyLemmas.{one-key}
 use Rattle.cg_form.proofs.Firsts.{in-append, in-append_left, in-append_right}
 use Rattle.cg_moves.proofs.Members.{in_one}
@@ -71,14 +71,14 @@ not-numbered numbers boards p are none m =
 
 -- a board with the key of this one is this one, as the list is shown
 pub known-at : (boards all : List Grid) (p : Grid) (key : BoardKey) (n : ℕ) → AreGrids boards → boards ≡ all → IsGrid p → key ≡ key_of p
-    → AreAlike (all ++ (p ∷ [])) → HasKeyAt boards n key → IsAt all n p
+    → SameSymbols (all ++ (p ∷ [])) → HasKeyAt boards n key → IsAt all n p
 known-at boards all p key n grids same g is like k =
     let P : List Grid → Type 0 = λ z. IsAt z n p in
-    let Q : List Grid → Type 0 = λ z. AreAlike (z ++ (p ∷ [])) in
+    let Q : List Grid → Type 0 = λ z. SameSymbols (z ++ (p ∷ [])) in
     let V : BoardKey → Type 0 = λ z. HasKeyAt boards n z in
-    let alike : AreAlike (boards ++ (p ∷ [])) = subst Q (sym same) like in
+    let same_symbols : SameSymbols (boards ++ (p ∷ [])) = subst Q (sym same) like in
     subst P same (at-key_at boards n p grids g
-    (λ q m. alike q p (in-append_left q boards (p ∷ []) m) (in-append_right p boards (p ∷ []) (inl refl))) (subst V is k))
+    (λ q m. same_symbols q p (in-append_left q boards (p ∷ []) m) (in-append_right p boards (p ∷ []) (inl refl))) (subst V is k))
 
 pub grids-more : (boards : List Grid) (p : Grid) → AreGrids boards → IsGrid p → AreGrids (boards ++ (p ∷ []))
 grids-more boards p all g q m = elim (in-append q boards (p ∷ []) m) [
