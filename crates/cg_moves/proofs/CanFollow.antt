@@ -61,33 +61,29 @@ module _ (r : GameRules) (lawful : IsLawful r) (edges : Edges) where
 
   module _ (w : Walk) where
     pub walk-lawful : w ≡ walk_of r edges w.starts → MayGo r edges → IsPlay (play w)
-    walk-lawful is may = let P : Walk → Type 0 = λ z. IsPlay (play z) in subst P (sym is) (plays r lawful edges may)
+    walk-lawful is may = rw is (plays r lawful edges may)
 
     -- what is known where a walk begins
     pub begins : {X : Type 0} (starts : List Grid) → (w ≡ walk_of r edges starts) × (MayGo r edges × (AreStarts (play_of r edges) starts
         × AreUncut (parts_of r edges) starts))
         → X → (w ≡ walk_of r edges w.starts) × (MayGo r edges × (AreStarts (play w) w.starts
         × (AreUncut (parts w) (reached w) × X)))
-    begins starts (is, (may, (h, own))) x =
-        let S : Walk → Type 0 = λ z. AreStarts (play z) z.starts in
-        let A : Walk → Type 0 = λ z. AreUncut (parts z) (reached z) in (
-          is ∙ ap (λ z. walk_of r edges z.starts) (sym is),
-          (
-            may,
-            (
-              subst S (sym is) h,
-              (subst A (sym is) (reached-uncut r lawful edges may starts h own), x),
-            ),
-          ),
-        )
+    begins starts (is, (may, (h, own))) x = (
+      is ∙ ap (λ z. walk_of r edges z.starts) (sym is),
+      (
+        may,
+        (
+          rw is h,
+          (rw is (reached-uncut r lawful edges may starts h own), x),
+        ),
+      ),
+    )
 
     can-follow : w ≡ walk_of r edges w.starts → (found : List Grid) (p : Grid) → (play w).has p ≡ true → AreUncut (parts w) found
         → ((qs : List Grid) → ((q : Grid) → In q qs → q.symbols ≡ p.symbols) → SameSymbols (found ++ qs))
         → CanFollow r edges found p
     can-follow is found p has uncut same_symbols =
-        let H : Walk → Type 0 = λ z. (play z).has p ≡ true in
-        let A : Walk → Type 0 = λ z. AreUncut (parts z) found in
-        record { has = subst H is has; uncut = subst A is uncut; same_symbols = same_symbols }
+        record { has = rw is at has; uncut = rw is at uncut; same_symbols = same_symbols }
 
     pub walk-follow : (s : Visited) (tasks : List Task) (p : Grid) → IsGoing r edges w s (tasks ++ (Enter p ∷ []))
         → CanFollow r edges s.boards p
@@ -112,10 +108,8 @@ module _ (r : GameRules) (lawful : IsLawful r) (edges : Edges) where
     next-found {A} {E} found p tasks (is, (may, (h, (own, (x, (m, none)))))) after {lefts} {rights} l t result put =
         let v = walk_of r edges w.starts in
         let cut = parts_of r edges in
-        let F : Walk → Type 0 = λ z. AreFound z found in
-        let S : Walk → Type 0 = λ z. AreStarts (play z) z.starts in
         let Q : Walk → Type 0 = λ z. AreAmong z after in
         let D : List Grid → Type 0 = λ z. Adds found tasks after (entered (flat_map cut z)) in
         if_ok (λ _. D (lefts ++ rights)) (λ _. Q w) result (λ _ e. subst Q (sym is)
-        (added-among v found (subst F is x) (plays r lawful edges may) (subst S is h) p m tasks after none
+        (added-among v found (rw is at x) (plays r lawful edges may) (rw is at h) p m tasks after none
         (subst D (both r p lefts rights l t) e))) put

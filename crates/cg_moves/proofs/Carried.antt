@@ -39,6 +39,4 @@ pub reach-along : (result : Result PositionGraph ReachFault) (limit : ℕ) (list
     → IfOk result (λ graph. StandAt graph.boards graph.starts.items first) → OnOk result (length list ≤ limit)
     → (result ≡ Err Positions → limit < length list) → IsReach result limit reach starts
 reach-along result limit list reach first starts e f boards stand within refused =
-    let P : List Grid → Type 0 = λ z. IsReach result limit z first in
-    let Q : List Grid → Type 0 = λ z. IsReach result limit reach z in
-    subst Q f (subst P (sym e) (record { boards = boards; starts = stand; within = within; refused = refused }))
+    rw (← f) (rw e (record { boards = boards; starts = stand; within = within; refused = refused }))

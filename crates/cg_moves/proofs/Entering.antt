@@ -11,11 +11,11 @@ use Rattle.cg_moves.specs.declared.task.Task.{Task}
 use Rattle.cg_moves.specs.declared.task.Task.TheVariants.{Enter, Known, Leave}
 use Rattle.cg_moves.specs.declared.walk.Visited.{Visited}
 use Rattle.cg_moves.specs.Grid.{Grid}
-use Rattle.cg_moves.specs.Graph.{AreCounted, AreNext, IsAt, StandAt}
+use Rattle.cg_moves.specs.Graph.{AreCounted, IsAt}
 use Rattle.cg_moves.specs.Plays.{IsPlay, parts_of}
 use Rattle.cg_moves.specs.Lawful.{IsLawful}
 use Rattle.cg_moves.specs.Rules.{GameRules, In, boards_after, followers}
-use Rattle.cg_moves.specs.Walking.{Adds, AreEntered, AreVisits, IsOn, IsOnWalk, IsWalking, Leads, Walk, work_left, parts, play, walk_of}
+use Rattle.cg_moves.specs.Walking.{Adds, AreVisits, IsOn, IsOnWalk, IsWalking, Walk, work_left, parts, play, walk_of}
 use Rattle.cg_moves.specs.Walks.{Enters, Leaves, Visit, entered}
 use Rattle.cg_moves.proofs.CanFollow.{IsGoing}
 use Rattle.cg_moves.proofs.Carried.{if_ok, ok_any}
@@ -51,17 +51,15 @@ module _ (w : Walk) (lawful : IsPlay (play w)) (s : Visited) (tasks : List Visit
       → IsOnWalk w s.boards s.next.items s.counts.items s.places.items after tasks
   visited-walk after e =
       let goes = enter_visited (play w) lawful s.boards tasks p x.walk (at-in s.boards place p at) in
-      let P : List ℕ → Type 0 = λ z. StandAt s.boards z (x.ahead ++ (p ∷ [])) in
       let (some, d, l) = leads-last (play w) tasks (Enters p) x.ahead w.starts x.leads in
-      let Q : List Grid → Type 0 = λ z. Leads (play w) tasks z w.starts in
       record {
         walk = goes.walk;
         rest = goes.rest ∙ x.rest;
         next = x.next;
         entered = entered-front w s.counts.items tasks (Enters p ∷ []) x.entered;
         ahead = x.ahead ++ (p ∷ []);
-        stand = subst P (sym e) (stand-append s.boards s.pending.items x.ahead (place ∷ []) (p ∷ []) x.stand (at, tt));
-        leads = subst Q d l;
+        stand = rw e (stand-append s.boards s.pending.items x.ahead (place ∷ []) (p ∷ []) x.stand (at, tt));
+        leads = rw (← d) l;
         fresh = open-front (play w) s.boards tasks (Enters p ∷ []) x.fresh;
       }
 
@@ -99,16 +97,13 @@ module _ (w : Walk) (lawful : IsPlay (play w)) (s : Visited) (tasks : List Visit
       let r = w.game in
       let next = (play w).next e.board in
       let goes = enter_new (play w) lawful s.boards tasks e x.walk in
-      let P : List ℕ → Type 0 = λ z. AreNext r (parts w) z s.places.items [] s.boards s.next.items in
-      let A : List ℕ → Type 0 = λ z. AreNext r (parts w) (s.counts.items ++ more) z [] s.boards s.next.items in
-      let R : List ℕ → Type 0 = λ z. AreEntered w z tasks in
       record {
         walk = goes.walk;
         rest = goes.rest ∙ x.rest;
-        next = subst P (sym grown) (subst A (append-nil s.places.items) (nexts-more r (parts w) s.counts.items s.places.items more
+        next = rw grown (rw (← (append-nil s.places.items)) (nexts-more r (parts w) s.counts.items s.places.items more
             [] [] s.boards s.next.items x.next));
         entered = entered-append w all (tasks ++ (Leaves e ∷ [])) (entered next)
-            (entered-append w all tasks (Leaves e ∷ []) (subst R (sym grown) (entered-more w s.counts.items more tasks
+            (entered-append w all tasks (Leaves e ∷ []) (rw grown (entered-more w s.counts.items more tasks
             (entered-front w s.counts.items tasks (Enters e.board ∷ []) x.entered))) (is, tt)) (entered-none w all next);
         ahead = x.ahead;
         stand = x.stand;
@@ -147,25 +142,21 @@ module _ (r : GameRules) (lawful : IsLawful r) (edges : Edges) (w : Walk) (s : V
       let shape = put ∙ ap (λ z. z ++ some) pushed in
       let both_size : ls + rs ≡ length lefts + length rights = omega arith in
       let next = (play v).next p in
-      let P : Walk → Type 0 = λ z. IsWalking z s (tasks ++ (Enter p ∷ [])) in
       let Q : Walk → Type 0 = λ z. (visits : List Visit) × AreVisits s.boards after visits
       × IsOnWalk z s.boards s.next.items counts s.places.items s.pending.items visits in
       let L : Walk → Type 0 = λ z. work_left (play z) after < work_left (play z) (tasks ++ (Enter p ∷ [])) in
-      let N : List Grid → Type 0 = λ z. AreVisits s.boards some (entered z) in
-      let M : List Task → Type 0 = λ z. work_left (play v) z < work_left (play v) (tasks ++ (Enter p ∷ [])) in
-      let (us, front, on) = last-enters v s tasks p (subst P x.0 x.1.1.1.1) in
-      let T : List Task → Type 0 = λ z. AreVisits s.boards z ((us ++ (Leaves e ∷ [])) ++ entered next) in
-      let entering = subst N (ap (flat_map cut) all ∙ sym (next-parts r edges p)) visits in
+      let (us, front, on) = last-enters v s tasks p (rw (← x.0) x.1.1.1.1) in
+      let entering = rw (ap (flat_map cut) all ∙ sym (next-parts r edges p)) at visits in
       record {
         walking = if_ok (λ _. counts ≡ s.counts.items ++ reverse turn) (λ _. Q w) result (λ _ k.
             let more = k ∙ ap (λ z. s.counts.items ++ z) (ap reverse turned_are ∙ turned f (lefts ++ rights) ∙ ap (map f) all) in
             subst Q (sym x.0) (
               (us ++ (Leaves e ∷ [])) ++ entered next,
-              subst T (sym shape) (visits-append s.boards (tasks ++ (Leave e ∷ [])) some (us ++ (Leaves e ∷ [])) (entered next)
+              rw shape (visits-append s.boards (tasks ++ (Leave e ∷ [])) some (us ++ (Leaves e ∷ [])) (entered next)
                   (visits-append s.boards tasks (Leave e ∷ []) us (Leaves e ∷ []) front (refl, tt)) entering),
               new-walk v is_play s us e on counts (map f (followers r p)) more (counted-new r cut p s.counts.items counts count first
                   (ls + rs) more (many ∙ ap length l) begins (both_size ∙ sym (length-append lefts rights) ∙ ap length all)) out height,
             )) grown;
-        less = ok_any (L w) result (subst L (sym x.0) (subst M (sym shape) (less-new (play v) is_play s.boards tasks some e
+        less = ok_any (L w) result (subst L (sym x.0) (rw shape (less-new (play v) is_play s.boards tasks some e
             (has-last v is_play s us (Enters p) on) entering)));
       }

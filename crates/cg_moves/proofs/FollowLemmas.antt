@@ -1,6 +1,6 @@
 -- The parts of boards that moves lead to, one board after another.
 use Rattle.std.proofs.lemmas.Bool.Decides.{nat_tests}
-use Rattle.std.proofs.Common.{◌≡◌, refl, ℕ, ◌+◌, ◌-◌, ◌<◌, ◌≤◌, inl, inr, List, [], ◌∷◌, ◌++◌, length, map, reverse, drop, get_or, append_assoc, ap, sym, ◌∙◌, subst, arith}
+use Rattle.std.proofs.Common.{◌≡◌, refl, ℕ, ◌+◌, ◌-◌, ◌<◌, ◌≤◌, inl, inr, List, [], ◌∷◌, ◌++◌, length, map, reverse, drop, get_or, append_assoc, ap, sym, ◌∙◌, arith}
 use Rattle.std.specs.List.{flat_map}
 use Rattle.std.specs.Prelude.{Err, IsErrAnd, Ok, Result}
 use Rattle.std.proofs.lemmas.Grind.{flat_map-append, reverse_onto}
@@ -14,7 +14,7 @@ use Rattle.cg_moves.specs.Found.{SameSymbols}
 use Rattle.cg_moves.specs.Grid.{Grid}
 use Rattle.cg_moves.specs.Rules.{GameRules, In, boards_after, followers}
 use Rattle.cg_moves.specs.Walking.{Adds, CanEnter}
-use Rattle.cg_moves.specs.Walks.{Enters, Visit, entered}
+use Rattle.cg_moves.specs.Walks.{Enters, entered}
 use Rattle.cg_form.proofs.Firsts.{in-append, in-append_left, in-append_right}
 use Rattle.cg_moves.proofs.PlaceLemmas.{at-in, board-read}
 use Rattle.cg_moves.proofs.TaskLemmas.{entered-append}
@@ -75,16 +75,13 @@ module _ (boards : List Grid) (left : ℕ) (p : Grid) (some : 0 < left) (inside 
     pub one-entered : Adds found start now (entered (drop left boards)) → Adds found now after (Enters p ∷ [])
         → Adds found start after (entered (drop (left - 1) boards))
     one-entered e g =
-        let P : List Grid → Type 0 = λ z. Adds found start after (entered z) in
-        subst P (sym one-more) (adds-more found start now after (entered (drop left boards)) (Enters p ∷ []) e g)
+        rw one-more (adds-more found start now after (entered (drop left boards)) (Enters p ∷ []) e g)
 
     pub parts-entered : (cut : Grid → List Grid) → Adds found start now (entered (flat_map cut (drop left boards)))
         → Adds found now after (entered (cut p)) → Adds found start after (entered (flat_map cut (drop (left - 1) boards)))
     parts-entered cut e g =
-        let P : List Grid → Type 0 = λ z. Adds found start after (entered (flat_map cut z)) in
-        let Q : List Visit → Type 0 = λ z. Adds found start after z in
         let rest = flat_map cut (drop left boards) in
-        subst P (sym one-more) (subst Q (sym (entered-append (cut p) rest))
+        rw one-more (rw (entered-append (cut p) rest)
         (adds-more found start now after (entered rest) (entered (cut p)) e g))
 
 -- ---- the boards after Left's moves, and then those after Right's
@@ -101,8 +98,7 @@ module _ (lefts rights : List Grid) where
       → Adds found a b (entered (flat_map cut rights)) → Adds found b c (entered (flat_map cut lefts))
       → Adds found a c (entered (flat_map cut (lefts ++ rights)))
   both-tasks found cut a b c e g =
-      let P : List Visit → Type 0 = λ z. Adds found a c z in
-      subst P (sym (ap entered (flat_map-append cut lefts rights) ∙ entered-append (flat_map cut lefts) (flat_map cut rights)))
+      rw (ap entered (flat_map-append cut lefts rights) ∙ entered-append (flat_map cut lefts) (flat_map cut rights))
       (adds-more found a b c (entered (flat_map cut rights)) (entered (flat_map cut lefts)) e g)
 
   pub both-counts : (f : Grid → ℕ) (a b c : List ℕ) → a ≡ [] → b ≡ a ++ map f (reverse rights) → c ≡ b ++ map f (reverse lefts)

@@ -1,6 +1,6 @@
 -- Boards that are to be left: above each stand tasks of boards with a lower measure, and it wasn't visited; and what tasks do to
 -- a list of boards.
-use Rattle.std.proofs.Common.{◌≡◌, refl, true, inl, inr, List, [], ◌∷◌, ◌++◌, append_assoc, ap, sym, subst, arith, length}
+use Rattle.std.proofs.Common.{◌≡◌, refl, true, inl, inr, List, [], ◌∷◌, ◌++◌, append_assoc, ap, sym, arith, length}
 use Rattle.std.proofs.lemmas.List.{append-nil}
 use Rattle.cg_moves.specs.declared.task.Entered.{Entered}
 use Rattle.cg_moves.specs.Grid.{Grid}
@@ -25,12 +25,10 @@ module _ (r : Play) where
   open-append : (visited : List Grid) (ps : List Grid) (ts : List Visit) → AreOpen r visited ts → AreOpen r visited (entered ps ++ ts)
   open-append visited [] ts h = h
   open-append visited (p ∷ ps) ts h =
-      let P : List Visit → Type 0 = λ z. AreOpen r visited z in
-      subst P (sym (append_assoc (entered ps) (Enters p ∷ []) ts)) (open-append visited ps (Enters p ∷ ts) h)
+      rw (append_assoc (entered ps) (Enters p ∷ []) ts) (open-append visited ps (Enters p ∷ ts) h)
 
   pub open-entered : (visited ps : List Grid) → AreOpen r visited (entered ps)
-  open-entered visited ps = let P : List Visit → Type 0 = λ z. AreOpen r visited z in
-      subst P (append-nil (entered ps)) (open-append visited ps [] tt)
+  open-entered visited ps = rw (← (append-nil (entered ps))) (open-append visited ps [] tt)
 
   pub entered-among : (ps : List Grid) (t : Visit) → In t (entered ps) → In (visit_board t) ps
   entered-among [] t m = absurd m
@@ -80,14 +78,14 @@ module _ (r : Play) where
 module _ (r : Play) where
   pub leads-append : (ts us : List Visit) (before some after : List Grid) → Leads r us before some → Leads r ts some after
       → Leads r (ts ++ us) before after
-  leads-append [] us before some after h k = let P : List Grid → Type 0 = λ z. Leads r us before z in subst P k h
+  leads-append [] us before some after h k = rw (← k) h
   leads-append (t ∷ ts) us before some after h k = (k.0, leads-append ts us before some k.0 h k.1, k.2)
 
   -- what the last task does, and then the others
   pub leads-last : (ts : List Visit) (t : Visit) (before after : List Grid) → Leads r (ts ++ (t ∷ [])) before after
       → (some : List Grid) × Does r t before some × Leads r ts some after
   leads-last [] t before after h =
-      let P : List Grid → Type 0 = λ z. Does r t z after in (after, subst P (sym h.1) h.2, refl)
+      (after, rw h.1 h.2, refl)
   leads-last (u ∷ ts) t before after h =
       let (some, d, l) = leads-last ts t before h.0 h.1 in (some, d, (h.0, l, h.2))
 
@@ -95,8 +93,7 @@ module _ (r : Play) where
   pub leads-entered : (ps before : List Grid) → Leads r (entered ps) before (before ++ ps)
   leads-entered [] before = sym (append-nil before)
   leads-entered (p ∷ ps) before =
-      let P : List Grid → Type 0 = λ z. Leads r (entered ps ++ (Enters p ∷ [])) before z in
-      subst P (append_assoc before (p ∷ []) ps) (leads-append (entered ps) (Enters p ∷ []) before (before ++ (p ∷ []))
+      rw (← (append_assoc before (p ∷ []) ps)) (leads-append (entered ps) (Enters p ∷ []) before (before ++ (p ∷ []))
       ((before ++ (p ∷ [])) ++ ps) (before, refl, refl) (leads-entered ps (before ++ (p ∷ []))))
 
   -- a task to enter a board is as good as those to enter what comes next after it, and then to leave it

@@ -1,5 +1,5 @@
 -- What holds on the way of a walk: which boards were visited, and which are left.
-use Rattle.std.proofs.Common.{◌≡◌, refl, ℕ, zero, suc, ◌<◌, true, inl, inr, List, [], ◌∷◌, ◌++◌, ap, sym, ◌∙◌, subst, arith}
+use Rattle.std.proofs.Common.{◌≡◌, refl, ℕ, zero, suc, ◌<◌, true, inl, inr, List, [], ◌∷◌, ◌++◌, ap, sym, ◌∙◌, arith}
 use Rattle.std.specs.List.{flat_map}
 use Rattle.cg_moves.specs.declared.edges.Edges.{Edges}
 use Rattle.cg_moves.specs.declared.edges.Edges.TheVariants.{Moves, Pieces}
@@ -44,7 +44,6 @@ module _ (r : GameRules) (lawful : IsLawful r) (edges : Edges) (may : MayGo r ed
   all-uncut (suc n) p q has low own m =
       let w = play_of r edges in
       let is = plays r lawful edges may in
-      let P : Grid → Type 0 = λ z. parts_of r edges z ≡ z ∷ [] in
       elim (in-append q (flat_map w.all (w.next p)) (p ∷ []) (carry q (w.all p) (flat_map w.all (w.next p) ++ (p ∷ []))
       (is.all p has) m)) [
         | inl o ↦ (let (s, k, i) = in-flat_map w.all q (w.next p) o in
@@ -53,7 +52,7 @@ module _ (r : GameRules) (lawful : IsLawful r) (edges : Edges) (may : MayGo r ed
             (flat_map (parts_of r edges) (followers r p)) (next-parts r edges p) k) in
             all-uncut n s q (is.has p s has k) (omega (arith, lower, low))
             (part-uncut r lawful edges may b s (follower-has r lawful.moves p b has j) part) i)
-        | inr o ↦ subst P (sym (in_one q p o)) own
+        | inr o ↦ rw (in_one q p o) own
       ]
 
   pub reached-uncut : (starts : List Grid) → AreStarts (play_of r edges) starts → AreUncut (parts_of r edges) starts
@@ -139,8 +138,7 @@ module _ (w : Walk) (lawful : IsPlay (play w)) (s : Visited) (tasks : List Visit
 
 pub starts-same_symbols : (r : Play) (none starts same : List Grid) → none ≡ [] → same ≡ starts → AreStarts r starts → SameSymbols (none ++ same)
 starts-same_symbols r none starts same e f h =
-    let P : List Grid → Type 0 = λ z. SameSymbols z in
-    subst P (sym (ap (λ z. z ++ same) e ∙ f)) (λ p q m n. (h.known p m).0 ∙ sym (h.known q n).0)
+    rw (ap (λ z. z ++ same) e ∙ f) (λ p q m n. (h.known p m).0 ∙ sym (h.known q n).0)
 
 module _ (w : Walk) (h : AreStarts (play w) w.starts) where
   begun_none : IsOnWalk w [] [] [] [] [] (entered w.starts)
@@ -163,14 +161,8 @@ module _ (w : Walk) (h : AreStarts (play w) w.starts) where
       → boards ≡ [] → nexts ≡ [] → counts ≡ [] → places ≡ [] → pending ≡ [] → none ≡ [] → Adds boards none tasks (entered w.starts)
       → (visits : List Visit) × AreVisits boards tasks visits × IsOnWalk w boards nexts counts places pending visits
   begun boards nexts counts places pending none tasks b n c p o k (some, e, are) =
-      let visits = entered w.starts in
-      let B : List Grid → Type 0 = λ z. IsOnWalk w z nexts counts places pending visits in
-      let N : List Adjacency → Type 0 = λ z. IsOnWalk w [] z counts places pending visits in
-      let C : List ℕ → Type 0 = λ z. IsOnWalk w [] [] z places pending visits in
-      let P : List ℕ → Type 0 = λ z. IsOnWalk w [] [] [] z pending visits in
-      let O : List ℕ → Type 0 = λ z. IsOnWalk w [] [] [] [] z visits in
-      let T : List Task → Type 0 = λ z. AreVisits boards z visits in (
+      let visits = entered w.starts in (
         visits,
-        subst T (sym (e ∙ ap (λ z. z ++ some) k)) are,
-        subst B (sym b) (subst N (sym n) (subst C (sym c) (subst P (sym p) (subst O (sym o) begun_none)))),
+        rw (e ∙ ap (λ z. z ++ some) k) are,
+        rw (b, n, c, p, o) begun_none,
       )

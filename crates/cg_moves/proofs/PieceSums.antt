@@ -1,5 +1,5 @@
 -- The options of the tree of a board are the trees of the boards that its moves lead to, and a board is the sum of its pieces.
-use Rattle.std.proofs.Common.{◌≡◌, ℕ, zero, suc, ◌<◌, true, List, ◌∷◌, ◌++◌, map, ap, sym, ◌∙◌, subst, arith, inl, refl}
+use Rattle.std.proofs.Common.{◌≡◌, ℕ, zero, suc, ◌<◌, true, List, ◌∷◌, ◌++◌, map, ap, ◌∙◌, arith, inl, refl}
 use Rattle.cg_form.specs.Game.{Among, Game}
 use Rattle.cg_form.specs.Order.{Equal}
 use Rattle.cg_form.proofs.Preorder.{equal_trans, le-cofinal}
@@ -29,22 +29,19 @@ module _ (r : GameRules) (moves : AreMoves r) where
   pub raw_option : (player : Player) (p : Grid) (cells : List ℕ) → r.has p ≡ true → In cells (r.moves player p)
       → Among (raw r (with_cells p cells)) (options_of player (raw r p))
   raw_option player p cells has m =
-      let P : List Game → Type 0 = λ z. Among (raw r (with_cells p cells)) z in
-      subst P (sym (options-raw player p has))
+      rw (options-raw player p has)
       (in_mapped (raw r) (with_cells p cells) (boards_after r player p) (in_mapped (with_cells p) cells (r.moves player p) m))
 
   pub option_raw : (player : Player) (p : Grid) (g : Game) → r.has p ≡ true → Among g (options_of player (raw r p))
       → (cells : List ℕ) × In cells (r.moves player p) × (g ≡ raw r (with_cells p cells))
   option_raw player p g has m =
-      let P : List Game → Type 0 = λ z. Among g z in
-      let (q, k, e) = in-map (raw r) g (boards_after r player p) (subst P (options-raw player p has) m) in
+      let (q, k, e) = in-map (raw r) g (boards_after r player p) (rw (← (options-raw player p has)) m) in
       let (cells, n, f) = in-map (with_cells p) q (r.moves player p) k in
       (cells, n, e ∙ ap (raw r) f)
 
 middle_in : {X : Type 0} (x : X) (us vs : List X) (xs : List X) → xs ≡ us ++ (x ∷ vs) → In x xs
 middle_in {X} x us vs xs e =
-    let P : List X → Type 0 = λ z. In x z in
-    subst P (sym e) (in-append_right x us (x ∷ vs) (inl refl))
+    rw e (in-append_right x us (x ∷ vs) (inl refl))
 
 module _ (r : GameRules) (moves : AreMoves r) (cut : IsCutByMoves r) where
   -- the same move on the board and in the piece
@@ -83,10 +80,9 @@ module _ (r : GameRules) (moves : AreMoves r) (cut : IsCutByMoves r) where
       let (cells, k, e) = option_raw r moves player p g has m in
       let w = cut.in_piece player p cells has k in
       let in_p = middle_in w.piece w.before w.behind (pieces r p) w.same_move.cut in
-      let h : Game = total (map (raw r) w.before ++ (raw r (with_cells w.piece w.moved) ∷ map (raw r) w.behind)) in
-      let P : List Grid → Type 0 = λ z. Among h (options_of player (total (map (raw r) z))) in (
+      let h : Game = total (map (raw r) w.before ++ (raw r (with_cells w.piece w.moved) ∷ map (raw r) w.behind)) in (
         h,
-        subst P (sym w.same_move.cut) (total-option (raw r) player w.before w.piece w.behind (raw r (with_cells w.piece
+        rw w.same_move.cut (total-option (raw r) player w.before w.piece w.behind (raw r (with_cells w.piece
             w.moved)) (raw_option r moves player w.piece w.moved (cut.each.has p w.piece has in_p) w.is_move)),
         equal_trans _ _ _ (equal_of _ _ e) (moved-equal n shown player p cells w.before w.piece w.moved w.behind has below
             k w.is_move w.same_move),

@@ -1,5 +1,5 @@
 -- Going over boards by moves, and from piece to piece.
-use Rattle.std.proofs.Common.{◌≡◌, refl, true, inl, inr, List, [], ◌∷◌, ◌++◌, ap, sym, ◌∙◌, subst, arith}
+use Rattle.std.proofs.Common.{◌≡◌, refl, true, inl, inr, List, [], ◌∷◌, ◌++◌, ap, sym, ◌∙◌, arith}
 use Rattle.std.specs.List.{flat_map}
 use Rattle.std.proofs.lemmas.Grind.{flat_map-append}
 use Rattle.std.proofs.lemmas.List.{append-nil}
@@ -102,11 +102,9 @@ module _ (r : GameRules) (lawful : IsLawful r) where
 
   pub one_start : (p : Grid) (starts : List Grid) → r.has p ≡ true → starts ≡ p ∷ [] → AreStarts (play_of r Moves) starts
   one_start p starts has e =
-      let P : List Grid → Type 0 = λ z. AreStarts (play_of r Moves) z in
-      let Q : Grid → Type 0 = λ z. (z.symbols ≡ p.symbols) × (r.has z ≡ true) in
-      subst P (sym e) (record {
+      rw e (record {
         symbols = p.symbols;
-        known = λ q m. subst Q (sym (in_one q p m)) (refl, has);
+        known = λ q m. rw (in_one q p m) (refl, has);
       })
 
   pub reach-kept_all : (p : Grid) (starts : List Grid) → starts ≡ p ∷ [] → reach_of r p ≡ kept [] (flat_map (play_of r Moves).all starts)

@@ -1,5 +1,5 @@
 -- The tasks of a walk.
-use Rattle.std.proofs.Common.{◌≡◌, refl, true, ◌⊎◌, inl, inr, List, [], ◌∷◌, ◌++◌, append_assoc, ap, sym, ◌∙◌, subst}
+use Rattle.std.proofs.Common.{◌≡◌, refl, true, ◌⊎◌, inl, inr, List, [], ◌∷◌, ◌++◌, append_assoc, ap, sym, ◌∙◌}
 use Rattle.std.specs.List.{flat_map}
 use Rattle.std.proofs.lemmas.List.{append-nil}
 use Rattle.cg_moves.specs.declared.task.Entered.{Entered}
@@ -29,13 +29,12 @@ module _ (r : Play) where
   -- ---- tasks that are ready
 
   pub ready-entered : (visited ps : List Grid) → AreReady r visited (entered ps)
-  ready-entered visited ps = let P : List Visit → Type 0 = λ z. AreReady r visited z in subst P (append-nil (entered ps)) (go ps [] tt)
+  ready-entered visited ps = rw (← (append-nil (entered ps))) (go ps [] tt)
     where
       go : (qs : List Grid) (ts : List Visit) → AreReady r visited ts → AreReady r visited (entered qs ++ ts)
       go [] ts h = h
       go (q ∷ qs) ts h =
-          let Q : List Visit → Type 0 = λ z. AreReady r visited z in
-          subst Q (sym (append_assoc (entered qs) (Enters q ∷ []) ts)) (go qs (Enters q ∷ ts) (tt, h))
+          rw (append_assoc (entered qs) (Enters q ∷ []) ts) (go qs (Enters q ∷ ts) (tt, h))
 
   -- the last task is replaced by others, and more was visited
   pub ready-change : (visited wider : List Grid) (t : Visit) (ts us : List Visit) → ((q : Grid) → In q visited → In q wider)

@@ -1,5 +1,5 @@
 -- What each task of a walk leaves to do.
-use Rattle.std.proofs.Common.{◌≡◌, true, inl, inr, List, [], ◌∷◌, ◌++◌, append_assoc, ap, sym, ◌∙◌, subst}
+use Rattle.std.proofs.Common.{◌≡◌, true, inl, inr, List, [], ◌∷◌, ◌++◌, append_assoc, ap, sym, ◌∙◌}
 use Rattle.std.specs.List.{flat_map}
 use Rattle.std.proofs.lemmas.List.{append-nil}
 use Rattle.cg_moves.specs.declared.task.Entered.{Entered}
@@ -7,7 +7,7 @@ use Rattle.cg_moves.specs.Grid.{Grid}
 use Rattle.cg_moves.specs.Kept.{kept, one_more}
 use Rattle.cg_moves.specs.Plays.{IsPlay, Play}
 use Rattle.cg_moves.specs.Rules.{In}
-use Rattle.cg_moves.specs.Walks.{AreReady, GoesOn, IsWalk, Visit, Enters, Leaves, boards_left, entered}
+use Rattle.cg_moves.specs.Walks.{GoesOn, IsWalk, Visit, Enters, Leaves, boards_left, entered}
 use Rattle.cg_moves.proofs.TaskLemmas.{boards_left-append, boards_left-entered, known-append, known-back, known-entered, known-front, ready-change, ready-entered, ready-last}
 use Rattle.cg_form.proofs.Firsts.{extended-append, extended-there, in-append, one_more-among, one_more-has, one_more-keeps}
 use Rattle.cg_moves.proofs.Same.{boards}
@@ -18,12 +18,11 @@ module _ (r : Play) where
     -- a board that was visited is entered
     pub enter_visited : IsWalk r visited (tasks ++ (Enters p ∷ [])) → In p visited → GoesOn r visited visited (tasks ++ (Enters p ∷ [])) tasks
     enter_visited w m =
-        let P : List Visit → Type 0 = λ z. AreReady r visited z in
         record {
           walk = record {
             known = known-front r tasks (Enters p ∷ []) w.known;
             closed = w.closed;
-            ready = subst P (append-nil tasks) (ready-change r visited visited (Enters p) tasks [] (λ q k. k)
+            ready = rw (← (append-nil tasks)) (ready-change r visited visited (Enters p) tasks [] (λ q k. k)
                 (λ q k. inl (w.closed p m q k)) w.ready tt);
           };
           rest = sym (ap (λ z. kept visited z) (boards_left-append r tasks (Enters p ∷ []))
@@ -52,8 +51,7 @@ module _ (r : Play) where
     enter_new w =
         let p = e.board in
         let known = known-back r tasks (Enters p ∷ []) w.known in
-        let Q : List Visit → Type 0 = λ z. GoesOn r visited visited (tasks ++ (Enters p ∷ [])) z in
-        subst Q (sym (append_assoc tasks (Leaves e ∷ []) (entered (r.next p)))) (record {
+        rw (append_assoc tasks (Leaves e ∷ []) (entered (r.next p))) (record {
           walk = record {
             known = known-append r tasks entered_tasks (known-front r tasks (Enters p ∷ []) w.known) (
               known.0,
@@ -76,25 +74,21 @@ module _ (r : Play) where
     leave more w is =
         let p = e.board in
         let known = known-back r tasks (Leaves e ∷ []) w.known in
-        let P : List Visit → Type 0 = λ z. AreReady r more z in
         let has_more : (q : Grid) → In q visited → In q more = λ q m.
         carry q (one_more visited p) more (sym is) (one_more-keeps boards visited p q m) in
         let own : In p more = carry p (one_more visited p) more (sym is) (one_more-has boards visited p) in
-        let D : Grid → Type 0 = λ z. In z more in
         record {
           walk = record {
             known = known-front r tasks (Leaves e ∷ []) w.known;
             closed = λ q m k n. elim (one_more-among boards visited p q (carry q more (one_more visited p) is m)) [
               | inl there ↦ has_more k (w.closed q there k n)
-              | inr same ↦ (let H : Grid → Type 0 = λ z. In k (r.all z) in
-                  elim (in-append k (flat_map r.all (r.next p)) (p ∷ []) (carry k (r.all p)
-                  (flat_map r.all (r.next p) ++ (p ∷ [])) (lawful.all p known.0) (subst H same n))) [
+              | inr same ↦ (elim (in-append k (flat_map r.all (r.next p)) (p ∷ []) (carry k (r.all p)
+                  (flat_map r.all (r.next p) ++ (p ∷ [])) (lawful.all p known.0) (rw (← same) n))) [
                     | inl o ↦ has_more k (ready-last r visited e tasks w.ready k o)
-                    | inr o ↦ subst D (sym (in_one k p o)) own
+                    | inr o ↦ rw (in_one k p o) own
                   ])
             ];
-            ready = subst P (append-nil tasks) (ready-change r visited more (Leaves e) tasks [] has_more (λ q m. inl (subst D
-                (sym (in_one q p m)) own)) w.ready tt);
+            ready = rw (← (append-nil tasks)) (ready-change r visited more (Leaves e) tasks [] has_more (λ q m. inl (rw (in_one q p m) own)) w.ready tt);
           };
           rest = ap (λ z. kept z (boards_left r tasks)) is ∙ sym (ap (λ z. kept visited z) (boards_left-append r tasks (Leaves e ∷ [])));
         }

@@ -1,9 +1,6 @@
-use Rattle.std.proofs.Common.{refl, List, subst, sym}
+use Rattle.std.proofs.Common.{refl}
 use Rattle.cg_moves.specs.declared.edges.Edges.TheVariants.{Pieces}
-use Rattle.cg_moves.specs.Grid.{Grid}
-use Rattle.cg_moves.specs.Plays.{play_of}
 use Rattle.cg_moves.specs.Rules.{pieces}
-use Rattle.cg_moves.specs.Walks.{AreStarts}
 use Rattle.cg_moves.proofs.Members.{carry}
 use Rattle.cg_moves.proofs.PlayLemmas.{part-uncut, piece_reach-all, piece_starts}
 use Rattle.cg_moves.proofs.Carried.{reach-along}
@@ -12,15 +9,14 @@ use Rattle.cg_moves.proofs.reaching.open_pieces.Goals as goal
 pub open_all-requires : goal.open_all-requires
 open_all-requires g c κs within =
     let r = g.R.Rules.game c.args.rules.now in
-    let lawful = g.met.R.Rules.lawful c.args.rules.now in
-    let P : List Grid → Type 0 = λ z. AreStarts (play_of r Pieces) z in (
+    let lawful = g.met.R.Rules.lawful c.args.rules.now in (
       within,
       (
         refl,
         (
           c.requires.cuts,
           (
-            subst P (sym c.in_ok-starts.ensures) (piece_starts r lawful (lawful.cut c.requires.cuts).each
+            rw c.in_ok-starts.ensures (piece_starts r lawful (lawful.cut c.requires.cuts).each
                 c.args.start.now c.requires.has),
             λ p m. part-uncut r lawful Pieces c.requires.cuts c.args.start.now p c.requires.has
                 (carry p c.in_ok-starts.starts.items (pieces r c.args.start.now) c.in_ok-starts.ensures m),

@@ -1,9 +1,7 @@
 use Rattle.std.proofs.Common.{List, length, ap, sym, ◌∙◌, subst, arith}
 use Rattle.cg_moves.specs.declared.task.Task.{Task}
-use Rattle.cg_moves.specs.Grid.{Grid}
 use Rattle.cg_moves.specs.Plays.{play_of}
-use Rattle.cg_moves.specs.Walking.{Adds, IsWalking, Walk, play}
-use Rattle.cg_moves.specs.Walks.{AreStarts, entered}
+use Rattle.cg_moves.specs.Walking.{IsWalking}
 use Rattle.cg_moves.proofs.Broad.{first-in}
 use Rattle.cg_moves.proofs.CanFollow.{begins}
 use Rattle.cg_moves.proofs.Members.{carry}
@@ -25,14 +23,12 @@ enter_all-requires g c =
 
 pub loop-task-init : goal.loop-task-init
 loop-task-init g c =
-    let P : Walk → Type 0 = λ z. AreStarts (play z) z.starts in
-    let E : List Grid → Type 0 = λ z. Adds c.new.result c.new-tasks.result.items c.enter_all.new.tasks.items (entered z) in
     let none = ap length c.new.ensures in
     record {
-      walking = begun g.walk (subst P (sym c.requires.1.0) c.requires.1.1.1.0) c.new.result c.new-2.result.items
+      walking = begun g.walk (rw c.requires.1.0 c.requires.1.1.1.0) c.new.result c.new-2.result.items
           c.new-3.result.items c.new-4.result.items c.new-5.result.items c.new-tasks.result.items c.enter_all.new.tasks.items
           c.new.ensures c.new-2.ensures.items c.new-3.ensures.items c.new-4.ensures.items c.new-5.ensures.items
-          c.new-tasks.ensures.items (subst E (c.deref-2.ensures.value ∙ sym (ap (λ z. z.starts) c.requires.1.0))
+          c.new-tasks.ensures.items (rw (← (c.deref-2.ensures.value ∙ sym (ap (λ z. z.starts) c.requires.1.0)))
           c.in_ok-enter_all.ensures);
       within = omega arith;
     }
