@@ -44,10 +44,10 @@ fn at_places(alloc: Global, trees: &[Form], places: &[usize]) -> anyhow::Result<
 /// The tree of all moves from the strip of the text.
 fn tree(alloc: Global, text: &str) -> anyhow::Result<Form> {
     let board = read(alloc, text.as_bytes())?;
-    let opened = open(alloc, &Shove, &board, 1000)?;
+    let graph = open(alloc, &Shove, &board, 1000)?;
     let mut trees: Vec<Form> = Vec::new(alloc);
-    for next in &opened.next {
-        let Some(places) = opened.places.get(next.first_place..) else {
+    for next in &graph.next {
+        let Some(places) = graph.places.get(next.first_place..) else {
             anyhow::bail!("no such place");
         };
         let Some((lefts, rest)) = places.split_at_checked(next.lefts) else {

@@ -5,12 +5,12 @@ use Rattle.std.specs.List.{flat_map}
 use Rattle.std.specs.Prelude.{None, Ok, Option, Result, Some, slice_get}
 use Rattle.cg_moves.specs.declared.task.Task.{Task}
 use Rattle.cg_moves.specs.declared.task.Task.TheVariants.{Enter}
-use Rattle.cg_moves.specs.Found.{AreAlike}
+use Rattle.cg_moves.specs.Found.{SameSymbols}
 use Rattle.cg_moves.specs.Grid.{Grid}
 use Rattle.cg_moves.specs.Kept.{kept, one_more}
 use Rattle.cg_moves.specs.Plays.{IsPlay}
 use Rattle.cg_moves.specs.Rules.{In, followers}
-use Rattle.cg_moves.specs.Walking.{Adds, AreAlone, AreAmong, AreFound, Way, parts, play, reached}
+use Rattle.cg_moves.specs.Walking.{Adds, AreUncut, AreAmong, AreFound, Walk, parts, play, reached}
 use Rattle.cg_moves.specs.Walks.{AreStarts, Enters, entered}
 use Rattle.cg_moves.proofs.Carried.{ok_is}
 use Rattle.cg_moves.proofs.PlayOrder.{reached-has, reached-next, reached-symbols, start-reached}
@@ -19,7 +19,7 @@ use Rattle.cg_moves.proofs.Fresh.{entered-among}
 use Rattle.cg_moves.proofs.Same.{boards}
 use Rattle.cg_moves.proofs.Middles.{kept-fewer_kept}
 use Rattle.cg_moves.proofs.Members.{carry, in_one}
-use Rattle.cg_moves.proofs.OnWay.{next-parts}
+use Rattle.cg_moves.proofs.OnWalk.{next-parts}
 use Rattle.cg_moves.proofs.TaskSteps.{enters-in}
 
 pub first-in : (qs : List Grid) (q : Grid) → Some q ≡ slice_get qs 0 → In q qs
@@ -31,7 +31,7 @@ first-in (x ∷ qs) q e = let f : q ≡ x = cc in inl f
 
 -- ---- boards that come after the starts
 
-module _ (w : Way) where
+module _ (w : Walk) where
   abbrev IsAmong : Grid → Type 0
   IsAmong p = In p (flat_map (play w).all w.starts)
 
@@ -45,8 +45,8 @@ module _ (w : Way) where
       | inr one ↦ x.among p one
     ]
 
-    pub found-alone : AreAlone (parts w) (reached w) → AreAlone (parts w) found
-    found-alone h p m = h p (extended-has boards [] (flat_map (play w).all w.starts) p (found-among p m))
+    pub found-uncut : AreUncut (parts w) (reached w) → AreUncut (parts w) found
+    found-uncut h p m = h p (extended-has boards [] (flat_map (play w).all w.starts) p (found-among p m))
 
     -- ---- one more is found
 
@@ -73,21 +73,21 @@ module _ (w : Way) where
       pub found-symbols : (p : Grid) → In p found → p.symbols ≡ h.symbols
       found-symbols p m = reached-symbols (play w) lawful w.starts h p (found-among p m)
 
-      pub found-alike : (qs : List Grid) → ((q : Grid) → In q qs → q.symbols ≡ h.symbols) → AreAlike (found ++ qs)
-      found-alike qs k p q m n =
+      pub found-same_symbols : (qs : List Grid) → ((q : Grid) → In q qs → q.symbols ≡ h.symbols) → SameSymbols (found ++ qs)
+      found-same_symbols qs k p q m n =
           let go : (y : Grid) → In y (found ++ qs) → y.symbols ≡ h.symbols = λ y j. elim (in-append y found qs j) [
             | inl o ↦ found-symbols y o
             | inr o ↦ k y o
           ] in
           go p m ∙ sym (go q n)
 
-      pub among-alike : (p : Grid) → IsAmong p → AreAlike (found ++ (p ∷ []))
-      among-alike p m = found-alike (p ∷ []) (λ q n. reached-symbols (play w) lawful w.starts h q (subst IsAmong (sym (in_one q p n)) m))
+      pub among-same_symbols : (p : Grid) → IsAmong p → SameSymbols (found ++ (p ∷ []))
+      among-same_symbols p m = found-same_symbols (p ∷ []) (λ q n. reached-symbols (play w) lawful w.starts h q (subst IsAmong (sym (in_one q p n)) m))
 
       -- what comes next after a board that was found
       next-among : (p : Grid) → In p found → (q : Grid) → In q (flat_map (parts w) (followers w.game p)) → IsAmong q
       next-among p m q n = reached-next (play w) lawful w.starts h p q (found-among p m)
-          (carry q (flat_map (parts w) (followers w.game p)) ((play w).next p) (sym (next-parts w.game w.course p)) n)
+          (carry q (flat_map (parts w) (followers w.game p)) ((play w).next p) (sym (next-parts w.game w.edges p)) n)
 
       pub added-among : (p : Grid) → In p found → (none after : List Task) → none ≡ []
           → Adds found none after (entered (flat_map (parts w) (followers w.game p))) → AreAmong w after

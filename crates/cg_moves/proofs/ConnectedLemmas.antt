@@ -73,8 +73,7 @@ connected-trans (e ∷ es) u v w h k = elim ((over-cases e es u v h).way) [
 pub connected_along : (e : Edge) (es : List Edge) → In e es → IsTrue (connected es e.one e.other) × IsTrue (connected es e.other e.one)
 connected_along e [] m = absurd m
 connected_along e (f ∷ es) (inl same) =
-    let P : Edge → Type 0 = λ z. IsTrue (connected (z ∷ es) e.one e.other) × IsTrue (connected (z ∷ es) e.other e.one) in
-    subst P same (
+    rw (← same) (
       over-forth e es e.one e.other (connected-refl es e.one) (connected-refl es e.other),
       over-back e es e.other e.one (connected-refl es e.other) (connected-refl es e.one),
     )

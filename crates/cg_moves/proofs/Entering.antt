@@ -4,29 +4,29 @@ use Rattle.std.specs.List.{flat_map}
 use Rattle.std.specs.Prelude.{IfOk}
 use Rattle.std.proofs.Math.Seq.{drop-append_seam}
 use Rattle.std.proofs.lemmas.List.{append-nil, length-map, take_all}
-use Rattle.cg_moves.specs.declared.course.Course.{Course}
+use Rattle.cg_moves.specs.declared.edges.Edges.{Edges}
 use Rattle.cg_moves.specs.declared.player.Player.TheVariants.{Left, Right}
 use Rattle.cg_moves.specs.declared.task.Entered.{Entered}
 use Rattle.cg_moves.specs.declared.task.Task.{Task}
 use Rattle.cg_moves.specs.declared.task.Task.TheVariants.{Enter, Known, Leave}
-use Rattle.cg_moves.specs.declared.walk.Seen.{Seen}
+use Rattle.cg_moves.specs.declared.walk.Visited.{Visited}
 use Rattle.cg_moves.specs.Grid.{Grid}
-use Rattle.cg_moves.specs.Opened.{AreCounted, AreNext, IsAt, StandAt}
+use Rattle.cg_moves.specs.Graph.{AreCounted, IsAt}
 use Rattle.cg_moves.specs.Plays.{IsPlay, parts_of}
 use Rattle.cg_moves.specs.Lawful.{IsLawful}
 use Rattle.cg_moves.specs.Rules.{GameRules, In, boards_after, followers}
-use Rattle.cg_moves.specs.Walking.{Adds, AreEntered, AreTold, IsOn, IsOnWay, IsWalking, Leads, Way, load, parts, play, way_of}
+use Rattle.cg_moves.specs.Walking.{Adds, AreVisits, IsOn, IsOnWalk, IsWalking, Walk, work_left, parts, play, walk_of}
 use Rattle.cg_moves.specs.Walks.{Enters, Leaves, Visit, entered}
 use Rattle.cg_moves.proofs.CanFollow.{IsGoing}
 use Rattle.cg_moves.proofs.Carried.{if_ok, ok_any}
 use Rattle.cg_moves.proofs.FollowLemmas.{both, turned}
 use Rattle.cg_moves.proofs.Fresh.{leads-last, leads-new, open-front, open-new}
 use Rattle.cg_moves.proofs.Listed.{nexts-more}
-use Rattle.cg_moves.proofs.OnWay.{entered-append, entered-front, entered-more, entered-none, has-last, next-parts}
+use Rattle.cg_moves.proofs.OnWalk.{entered-append, entered-front, entered-more, entered-none, has-last, next-parts}
 use Rattle.cg_moves.proofs.PlaceLemmas.{at-in, stand-append, stand-size}
 use Rattle.cg_moves.proofs.PlayLemmas.{plays}
-use Rattle.cg_moves.proofs.TaskSteps.{last-enters, last-known, less-last, less-new, some-boards, told-append}
-use Rattle.cg_moves.proofs.WalkLemmas.{enter_new, enter_seen}
+use Rattle.cg_moves.proofs.TaskSteps.{last-enters, last-known, less-last, less-new, some-boards, visits-append}
+use Rattle.cg_moves.proofs.WalkLemmas.{enter_new, enter_visited}
 
 -- what comes next after a new board is counted
 pub counted-new : (r : GameRules) (cut : Grid → List Grid) (p : Grid) (counts all : List ℕ) (count first moves : ℕ)
@@ -43,45 +43,43 @@ counted-new r cut p counts all count first moves grown lefts begins many =
           ∙ take_all moves more (omega arith);
     }
 
--- ---- a board that was seen is entered
+-- ---- a board that was visited is entered
 
-module _ (w : Way) (lawful : IsPlay (play w)) (s : Seen) (tasks : List Visit) (p : Grid) (x : IsOn w s (tasks ++ (Enters p ∷ [])))
+module _ (w : Walk) (lawful : IsPlay (play w)) (s : Visited) (tasks : List Visit) (p : Grid) (x : IsOn w s (tasks ++ (Enters p ∷ [])))
     (place : ℕ) (at : IsAt s.boards place p) where
-  pub seen-way : (after : List ℕ) → after ≡ s.pending.items ++ (place ∷ [])
-      → IsOnWay w s.boards s.next.items s.counts.items s.places.items after tasks
-  seen-way after e =
-      let goes = enter_seen (play w) lawful s.boards tasks p x.walk (at-in s.boards place p at) in
-      let P : List ℕ → Type 0 = λ z. StandAt s.boards z (x.ahead ++ (p ∷ [])) in
+  pub visited-walk : (after : List ℕ) → after ≡ s.pending.items ++ (place ∷ [])
+      → IsOnWalk w s.boards s.next.items s.counts.items s.places.items after tasks
+  visited-walk after e =
+      let goes = enter_visited (play w) lawful s.boards tasks p x.walk (at-in s.boards place p at) in
       let (some, d, l) = leads-last (play w) tasks (Enters p) x.ahead w.starts x.leads in
-      let Q : List Grid → Type 0 = λ z. Leads (play w) tasks z w.starts in
       record {
         walk = goes.walk;
         rest = goes.rest ∙ x.rest;
         next = x.next;
         entered = entered-front w s.counts.items tasks (Enters p ∷ []) x.entered;
         ahead = x.ahead ++ (p ∷ []);
-        stand = subst P (sym e) (stand-append s.boards s.pending.items x.ahead (place ∷ []) (p ∷ []) x.stand (at, tt));
-        leads = subst Q d l;
+        stand = rw e (stand-append s.boards s.pending.items x.ahead (place ∷ []) (p ∷ []) x.stand (at, tt));
+        leads = rw (← d) l;
         fresh = open-front (play w) s.boards tasks (Enters p ∷ []) x.fresh;
       }
 
-module _ (w : Way) (lawful : IsPlay (play w)) (s : Seen) (tasks : List Task) where
+module _ (w : Walk) (lawful : IsPlay (play w)) (s : Visited) (tasks : List Task) where
   -- a walk with these pending places
   abbrev pub HasPending : List ℕ → Type 0
-  HasPending after = (visits : List Visit) × AreTold s.boards tasks visits
-      × IsOnWay w s.boards s.next.items s.counts.items s.places.items after visits
+  HasPending after = (visits : List Visit) × AreVisits s.boards tasks visits
+      × IsOnWalk w s.boards s.next.items s.counts.items s.places.items after visits
 
   pub noted : (place : ℕ) → IsWalking w s (tasks ++ (Known place ∷ [])) → (after : List ℕ)
       → after ≡ s.pending.items ++ (place ∷ []) → HasPending after
   noted place x after e =
-      let (p, at, (us, front, on)) = last-known w s tasks place x in (us, front, seen-way w lawful s us p on place at after e)
+      let (p, at, (us, front, on)) = last-known w s tasks place x in (us, front, visited-walk w lawful s us p on place at after e)
 
   module _ (p : Grid) (x : IsWalking w s (tasks ++ (Enter p ∷ []))) where
     pub entered-again : (place : ℕ) → IsAt s.boards place p → (after : List ℕ) → after ≡ s.pending.items ++ (place ∷ []) → HasPending after
     entered-again place at after e =
-        let (us, front, on) = last-enters w s tasks p x in (us, front, seen-way w lawful s us p on place at after e)
+        let (us, front, on) = last-enters w s tasks p x in (us, front, visited-walk w lawful s us p on place at after e)
 
-    pub less-again : load (play w) tasks < load (play w) (tasks ++ (Enter p ∷ []))
+    pub less-again : work_left (play w) tasks < work_left (play w) (tasks ++ (Enter p ∷ []))
     less-again =
         let (us, front, on) = last-enters w s tasks p x in
         let l = some-boards (play w) lawful p (has-last w lawful s us (Enters p) on) in
@@ -89,26 +87,23 @@ module _ (w : Way) (lawful : IsPlay (play w)) (s : Seen) (tasks : List Task) whe
 
 -- ---- a new board is entered
 
-module _ (w : Way) (lawful : IsPlay (play w)) (s : Seen) (tasks : List Visit) (e : Entered)
+module _ (w : Walk) (lawful : IsPlay (play w)) (s : Visited) (tasks : List Visit) (e : Entered)
     (x : IsOn w s (tasks ++ (Enters e.board ∷ []))) where
-  pub new-way : (all more : List ℕ) → all ≡ s.counts.items ++ more
+  pub new-walk : (all more : List ℕ) → all ≡ s.counts.items ++ more
       → AreCounted w.game (parts w) all e.board e.lefts e.first_count e.moves → ¬ In e.board s.boards
       → e.pending ≡ length s.pending.items
-      → IsOnWay w s.boards s.next.items all s.places.items s.pending.items ((tasks ++ (Leaves e ∷ [])) ++ entered ((play w).next e.board))
-  new-way all more grown is out size =
+      → IsOnWalk w s.boards s.next.items all s.places.items s.pending.items ((tasks ++ (Leaves e ∷ [])) ++ entered ((play w).next e.board))
+  new-walk all more grown is out size =
       let r = w.game in
       let next = (play w).next e.board in
       let goes = enter_new (play w) lawful s.boards tasks e x.walk in
-      let P : List ℕ → Type 0 = λ z. AreNext r (parts w) z s.places.items [] s.boards s.next.items in
-      let A : List ℕ → Type 0 = λ z. AreNext r (parts w) (s.counts.items ++ more) z [] s.boards s.next.items in
-      let R : List ℕ → Type 0 = λ z. AreEntered w z tasks in
       record {
         walk = goes.walk;
         rest = goes.rest ∙ x.rest;
-        next = subst P (sym grown) (subst A (append-nil s.places.items) (nexts-more r (parts w) s.counts.items s.places.items more
+        next = rw grown (rw (← (append-nil s.places.items)) (nexts-more r (parts w) s.counts.items s.places.items more
             [] [] s.boards s.next.items x.next));
         entered = entered-append w all (tasks ++ (Leaves e ∷ [])) (entered next)
-            (entered-append w all tasks (Leaves e ∷ []) (subst R (sym grown) (entered-more w s.counts.items more tasks
+            (entered-append w all tasks (Leaves e ∷ []) (rw grown (entered-more w s.counts.items more tasks
             (entered-front w s.counts.items tasks (Enters e.board ∷ []) x.entered))) (is, tt)) (entered-none w all next);
         ahead = x.ahead;
         stand = x.stand;
@@ -119,53 +114,49 @@ module _ (w : Way) (lawful : IsPlay (play w)) (s : Seen) (tasks : List Visit) (e
 -- ---- and the tasks to enter what comes next after it are put
 
 -- what `enter` promises then
-pub record IsEntered {A E : Type 0} (w : Way) (s : Seen) (counts : List ℕ) (before after : List Task) (result : Result A E)
+pub record IsEntered {A E : Type 0} (w : Walk) (s : Visited) (counts : List ℕ) (before after : List Task) (result : Result A E)
     : Type 0 where
-  pub walking : IfOk result (λ _. (visits : List Visit) × AreTold s.boards after visits
-      × IsOnWay w s.boards s.next.items counts s.places.items s.pending.items visits)
-  pub less : IfOk result (λ _. load (play w) after < load (play w) before)
+  pub walking : IfOk result (λ _. (visits : List Visit) × AreVisits s.boards after visits
+      × IsOnWalk w s.boards s.next.items counts s.places.items s.pending.items visits)
+  pub less : IfOk result (λ _. work_left (play w) after < work_left (play w) before)
 
-module _ (r : GameRules) (lawful : IsLawful r) (course : Course) (w : Way) (s : Seen) (tasks : List Task) (p : Grid)
-    (x : IsGoing r course w s (tasks ++ (Enter p ∷ []))) where
+module _ (r : GameRules) (lawful : IsLawful r) (edges : Edges) (w : Walk) (s : Visited) (tasks : List Task) (p : Grid)
+    (x : IsGoing r edges w s (tasks ++ (Enter p ∷ []))) where
   pub is-entered : {A E : Type 0} {lefts rights : List Grid} {count first ls rs size : ℕ} {left after : List Task}
       {turn counts : List ℕ} → lefts ≡ boards_after r Left p → rights ≡ boards_after r Right p → count ≡ length lefts
       → first ≡ length s.counts.items → ls ≡ length lefts → rs ≡ length rights → size ≡ length s.pending.items
       → ¬ In p s.boards
       → left ≡ tasks ++ (Leave (record { board = p; lefts = count; first_count = first; moves = ls + rs; pending = size }) ∷ [])
-      → Adds s.boards left after (entered (flat_map (parts_of r course) (lefts ++ rights)))
-      → turn ≡ map (λ q. length (parts_of r course q)) (reverse (lefts ++ rights))
+      → Adds s.boards left after (entered (flat_map (parts_of r edges) (lefts ++ rights)))
+      → turn ≡ map (λ q. length (parts_of r edges q)) (reverse (lefts ++ rights))
       → (result : Result A E) → IfOk result (λ _. counts ≡ s.counts.items ++ reverse turn)
       → IsEntered w s counts (tasks ++ (Enter p ∷ [])) after result
   is-entered {A} {E} {lefts} {rights} {count} {first} {ls} {rs} {size} {left} {after} {turn} {counts} l t many begins ln rn
-      height out pushed (some, put, told) turned_are result grown =
-      let v = way_of r course w.starts in
-      let is_play = plays r lawful course x.1.0 in
-      let cut = parts_of r course in
+      height out pushed (some, put, visits) turned_are result grown =
+      let v = walk_of r edges w.starts in
+      let is_play = plays r lawful edges x.1.0 in
+      let cut = parts_of r edges in
       let f : Grid → ℕ = λ q. length (cut q) in
       let e : Entered = record { board = p; lefts = count; first_count = first; moves = ls + rs; pending = size } in
       let all = both r p lefts rights l t in
       let shape = put ∙ ap (λ z. z ++ some) pushed in
       let both_size : ls + rs ≡ length lefts + length rights = omega arith in
       let next = (play v).next p in
-      let P : Way → Type 0 = λ z. IsWalking z s (tasks ++ (Enter p ∷ [])) in
-      let Q : Way → Type 0 = λ z. (visits : List Visit) × AreTold s.boards after visits
-      × IsOnWay z s.boards s.next.items counts s.places.items s.pending.items visits in
-      let L : Way → Type 0 = λ z. load (play z) after < load (play z) (tasks ++ (Enter p ∷ [])) in
-      let N : List Grid → Type 0 = λ z. AreTold s.boards some (entered z) in
-      let M : List Task → Type 0 = λ z. load (play v) z < load (play v) (tasks ++ (Enter p ∷ [])) in
-      let (us, front, on) = last-enters v s tasks p (subst P x.0 x.1.1.1.1) in
-      let T : List Task → Type 0 = λ z. AreTold s.boards z ((us ++ (Leaves e ∷ [])) ++ entered next) in
-      let entering = subst N (ap (flat_map cut) all ∙ sym (next-parts r course p)) told in
+      let Q : Walk → Type 0 = λ z. (visits : List Visit) × AreVisits s.boards after visits
+      × IsOnWalk z s.boards s.next.items counts s.places.items s.pending.items visits in
+      let L : Walk → Type 0 = λ z. work_left (play z) after < work_left (play z) (tasks ++ (Enter p ∷ [])) in
+      let (us, front, on) = last-enters v s tasks p (rw (← x.0) x.1.1.1.1) in
+      let entering = rw (ap (flat_map cut) all ∙ sym (next-parts r edges p)) at visits in
       record {
         walking = if_ok (λ _. counts ≡ s.counts.items ++ reverse turn) (λ _. Q w) result (λ _ k.
             let more = k ∙ ap (λ z. s.counts.items ++ z) (ap reverse turned_are ∙ turned f (lefts ++ rights) ∙ ap (map f) all) in
             subst Q (sym x.0) (
               (us ++ (Leaves e ∷ [])) ++ entered next,
-              subst T (sym shape) (told-append s.boards (tasks ++ (Leave e ∷ [])) some (us ++ (Leaves e ∷ [])) (entered next)
-                  (told-append s.boards tasks (Leave e ∷ []) us (Leaves e ∷ []) front (refl, tt)) entering),
-              new-way v is_play s us e on counts (map f (followers r p)) more (counted-new r cut p s.counts.items counts count first
+              rw shape (visits-append s.boards (tasks ++ (Leave e ∷ [])) some (us ++ (Leaves e ∷ [])) (entered next)
+                  (visits-append s.boards tasks (Leave e ∷ []) us (Leaves e ∷ []) front (refl, tt)) entering),
+              new-walk v is_play s us e on counts (map f (followers r p)) more (counted-new r cut p s.counts.items counts count first
                   (ls + rs) more (many ∙ ap length l) begins (both_size ∙ sym (length-append lefts rights) ∙ ap length all)) out height,
             )) grown;
-        less = ok_any (L w) result (subst L (sym x.0) (subst M (sym shape) (less-new (play v) is_play s.boards tasks some e
+        less = ok_any (L w) result (subst L (sym x.0) (rw shape (less-new (play v) is_play s.boards tasks some e
             (has-last v is_play s us (Enters p) on) entering)));
       }

@@ -1,40 +1,40 @@
 -- The parts of boards that moves lead to, one board after another.
 use Rattle.std.proofs.lemmas.Bool.Decides.{nat_tests}
-use Rattle.std.proofs.Common.{◌≡◌, refl, ℕ, ◌+◌, ◌-◌, ◌<◌, ◌≤◌, inl, inr, List, [], ◌∷◌, ◌++◌, length, map, reverse, drop, get_or, append_assoc, ap, sym, ◌∙◌, subst, arith}
+use Rattle.std.proofs.Common.{◌≡◌, refl, ℕ, ◌+◌, ◌-◌, ◌<◌, ◌≤◌, inl, inr, List, [], ◌∷◌, ◌++◌, length, map, reverse, drop, get_or, append_assoc, ap, sym, ◌∙◌, arith}
 use Rattle.std.specs.List.{flat_map}
 use Rattle.std.specs.Prelude.{Err, IsErrAnd, Ok, Result}
 use Rattle.std.proofs.lemmas.Grind.{flat_map-append, reverse_onto}
 use Rattle.std.proofs.lemmas.List.{drop_more, map-append, reverse-append, reverse-reverse}
-use Rattle.cg_moves.specs.declared.course.Course.{Course}
+use Rattle.cg_moves.specs.declared.edges.Edges.{Edges}
 use Rattle.cg_moves.specs.declared.fault.ReachFault.{ReachFault}
 use Rattle.cg_moves.specs.declared.fault.ReachFault.TheVariants.{Positions}
 use Rattle.cg_moves.specs.declared.player.Player.TheVariants.{Left, Right}
 use Rattle.cg_moves.specs.declared.task.Task.{Task}
-use Rattle.cg_moves.specs.Found.{AreAlike}
+use Rattle.cg_moves.specs.Found.{SameSymbols}
 use Rattle.cg_moves.specs.Grid.{Grid}
 use Rattle.cg_moves.specs.Rules.{GameRules, In, boards_after, followers}
 use Rattle.cg_moves.specs.Walking.{Adds, CanEnter}
-use Rattle.cg_moves.specs.Walks.{Enters, Visit, entered}
+use Rattle.cg_moves.specs.Walks.{Enters, entered}
 use Rattle.cg_form.proofs.Firsts.{in-append, in-append_left, in-append_right}
 use Rattle.cg_moves.proofs.PlaceLemmas.{at-in, board-read}
 use Rattle.cg_moves.proofs.TaskLemmas.{entered-append}
 use Rattle.cg_moves.proofs.TaskSteps.{adds-more}
 
 -- fewer boards that are alike
-pub alike-less : (old some all : List Grid) → AreAlike (old ++ all) → ((q : Grid) → In q some → In q all) → AreAlike (old ++ some)
-alike-less old some all h s p q m n =
+pub same_symbols-less : (old some all : List Grid) → SameSymbols (old ++ all) → ((q : Grid) → In q some → In q all) → SameSymbols (old ++ some)
+same_symbols-less old some all h s p q m n =
     let go : (x : Grid) → In x (old ++ some) → In x (old ++ all) = λ x k. elim (in-append x old some k) [
       | inl o ↦ in-append_left x old all o
       | inr o ↦ in-append_right x old all (s x o)
     ] in h p q (go p m) (go q n)
 
 -- fewer boards that may be entered
-pub can-enter-some : (r : GameRules) (course : Course) (found some all : List Grid) → CanEnter r course found all
-    → ((q : Grid) → In q some → In q all) → CanEnter r course found some
-can-enter-some r course found some all x s = record {
+pub can-enter-some : (r : GameRules) (edges : Edges) (found some all : List Grid) → CanEnter r edges found all
+    → ((q : Grid) → In q some → In q all) → CanEnter r edges found some
+can-enter-some r edges found some all x s = record {
   has = λ q m. x.has q (s q m);
-  alone = x.alone;
-  alike = alike-less found some all x.alike s;
+  uncut = x.uncut;
+  same_symbols = same_symbols-less found some all x.same_symbols s;
 }
 
 -- where a call hands on that there are too many boards, the call within it told so
@@ -44,9 +44,9 @@ passed_on x (Err y) told e = cc
 passed_on x (Ok y) told e = absurd told
 
 -- boards with the symbols of one that is alike
-pub alike-same : (old qs : List Grid) (p : Grid) → AreAlike (old ++ (p ∷ [])) → ((q : Grid) → In q qs → q.symbols ≡ p.symbols)
-    → AreAlike (old ++ qs)
-alike-same old qs p h s x y m n =
+pub same_symbols-same : (old qs : List Grid) (p : Grid) → SameSymbols (old ++ (p ∷ [])) → ((q : Grid) → In q qs → q.symbols ≡ p.symbols)
+    → SameSymbols (old ++ qs)
+same_symbols-same old qs p h s x y m n =
     let last = in-append_right p old (p ∷ []) (inl refl) in
     let go : (z : Grid) → In z (old ++ qs) → z.symbols ≡ p.symbols = λ z k. elim (in-append z old qs k) [
       | inl o ↦ h z p (in-append_left z old (p ∷ []) o) last
@@ -75,16 +75,13 @@ module _ (boards : List Grid) (left : ℕ) (p : Grid) (some : 0 < left) (inside 
     pub one-entered : Adds found start now (entered (drop left boards)) → Adds found now after (Enters p ∷ [])
         → Adds found start after (entered (drop (left - 1) boards))
     one-entered e g =
-        let P : List Grid → Type 0 = λ z. Adds found start after (entered z) in
-        subst P (sym one-more) (adds-more found start now after (entered (drop left boards)) (Enters p ∷ []) e g)
+        rw one-more (adds-more found start now after (entered (drop left boards)) (Enters p ∷ []) e g)
 
     pub parts-entered : (cut : Grid → List Grid) → Adds found start now (entered (flat_map cut (drop left boards)))
         → Adds found now after (entered (cut p)) → Adds found start after (entered (flat_map cut (drop (left - 1) boards)))
     parts-entered cut e g =
-        let P : List Grid → Type 0 = λ z. Adds found start after (entered (flat_map cut z)) in
-        let Q : List Visit → Type 0 = λ z. Adds found start after z in
         let rest = flat_map cut (drop left boards) in
-        subst P (sym one-more) (subst Q (sym (entered-append (cut p) rest))
+        rw one-more (rw (entered-append (cut p) rest)
         (adds-more found start now after (entered rest) (entered (cut p)) e g))
 
 -- ---- the boards after Left's moves, and then those after Right's
@@ -101,8 +98,7 @@ module _ (lefts rights : List Grid) where
       → Adds found a b (entered (flat_map cut rights)) → Adds found b c (entered (flat_map cut lefts))
       → Adds found a c (entered (flat_map cut (lefts ++ rights)))
   both-tasks found cut a b c e g =
-      let P : List Visit → Type 0 = λ z. Adds found a c z in
-      subst P (sym (ap entered (flat_map-append cut lefts rights) ∙ entered-append (flat_map cut lefts) (flat_map cut rights)))
+      rw (ap entered (flat_map-append cut lefts rights) ∙ entered-append (flat_map cut lefts) (flat_map cut rights))
       (adds-more found a b c (entered (flat_map cut rights)) (entered (flat_map cut lefts)) e g)
 
   pub both-counts : (f : Grid → ℕ) (a b c : List ℕ) → a ≡ [] → b ≡ a ++ map f (reverse rights) → c ≡ b ++ map f (reverse lefts)

@@ -1,10 +1,10 @@
 -- For whoever writes the rules of a game: members of lists of moves, and what a move does to a count of cells.
 use Rattle.std.proofs.lemmas.Bool.Decides.{nat_tests}
-use Rattle.std.proofs.Common.{◌≡◌, refl, ℕ, zero, suc, ◌+◌, ◌<◌, ◌≤◌, ◌&&◌, Bool, true, false, if◌then◌else◌, inl, List, [], ◌∷◌, get_or, length, ap, sym, subst, arith}
+use Rattle.std.proofs.Common.{◌≡◌, refl, ℕ, zero, suc, ◌+◌, ◌*◌, ◌<◌, ◌≤◌, ◌&&◌, Bool, true, false, if◌then◌else◌, inl, List, [], ◌∷◌, get_or, length, ap, arith}
 use Rattle.std.specs.Prelude.{count_by, slice_set}
 use Rattle.std.specs.List.{flat_map}
 use Rattle.std.specs.Str.{bytes_eq}
-use Rattle.std.proofs.lemmas.Bool.{and_from, and_parts, eqb-true, eq-eqb, ltb-true}
+use Rattle.std.proofs.lemmas.Bool.{and_from, and_parts, eqb-true, eq-eqb, lt-ltb, ltb-true}
 use Rattle.std.proofs.lemmas.List.Sums.{sum_by-cons}
 use Rattle.cg_moves.specs.Grid.{Grid, is_in_rows, with_cells}
 use Rattle.cg_moves.specs.Rising.{counted, rising}
@@ -21,7 +21,7 @@ in-choice true x y m = (refl, in_one x y m)
 in-choice false x y m = absurd m
 
 pub choice-in : {X : Type 0} (b : Bool) (x : X) → b ≡ true → In x (if b then x ∷ [] else [])
-choice-in {X} b x e = let P : Bool → Type 0 = λ z. In x (if z then x ∷ [] else []) in subst P (sym e) (inl refl)
+choice-in {X} b x e = rw e (inl refl)
 
 module _ (at : ℕ → List (List ℕ)) (n : ℕ) (cells : List ℕ) where
   -- each move listed is one at some cell, and each move at a cell is listed
@@ -94,3 +94,10 @@ board-wide symbols p has = grind (arith, nat_tests, and_parts, ltb-true)
 pub board-stays : (symbols : List ℕ) (p : Grid) (cells : List ℕ) → is_board_of symbols p ≡ true → length cells ≡ length p.cells
     → is_board_of symbols (with_cells p cells) ≡ true
 board-stays symbols p cells has long = grind (arith, nat_tests, and_parts, and_from, eq-eqb, eqb-true)
+
+-- a board in rows and columns with the symbols of such a board is one
+pub board-like : (symbols : List ℕ) (p q : Grid) → is_board_of symbols p ≡ true → q.symbols ≡ p.symbols → 0 < q.columns
+    → length q.cells ≡ q.rows * q.columns → is_board_of symbols q ≡ true
+board-like symbols p q has same wide size =
+    and_from _ _ (and_from _ _ (lt-ltb 0 q.columns wide) (eq-eqb (length q.cells) (q.rows * q.columns) size))
+    (rw same (and_parts (is_in_rows p) (bytes_eq p.symbols symbols) has).1)

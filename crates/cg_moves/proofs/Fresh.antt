@@ -1,6 +1,6 @@
--- Boards that are to be left: above each stand tasks of boards with a lower measure, and it wasn't seen; and what tasks do to
+-- Boards that are to be left: above each stand tasks of boards with a lower measure, and it wasn't visited; and what tasks do to
 -- a list of boards.
-use Rattle.std.proofs.Common.{◌≡◌, refl, true, inl, inr, List, [], ◌∷◌, ◌++◌, append_assoc, ap, sym, subst, arith, length}
+use Rattle.std.proofs.Common.{◌≡◌, refl, true, inl, inr, List, [], ◌∷◌, ◌++◌, append_assoc, ap, sym, arith, length}
 use Rattle.std.proofs.lemmas.List.{append-nil}
 use Rattle.cg_moves.specs.declared.task.Entered.{Entered}
 use Rattle.cg_moves.specs.Grid.{Grid}
@@ -12,25 +12,23 @@ use Rattle.cg_moves.proofs.Members.{in_one}
 use Rattle.cg_moves.specs.Walking.{Does, Leads}
 
 module _ (r : Play) where
-  pub open-front : (seen : List Grid) (ts us : List Visit) → AreOpen r seen (ts ++ us) → AreOpen r seen ts
-  open-front seen [] us h = tt
-  open-front seen (Enters p ∷ ts) us h = open-front seen ts us h
-  open-front seen (Leaves e ∷ ts) us h = (h.0, (λ t m. h.1 t (in-append_left t ts us m)), open-front seen ts us h.2)
+  pub open-front : (visited : List Grid) (ts us : List Visit) → AreOpen r visited (ts ++ us) → AreOpen r visited ts
+  open-front visited [] us h = tt
+  open-front visited (Enters p ∷ ts) us h = open-front visited ts us h
+  open-front visited (Leaves e ∷ ts) us h = (h.0, (λ t m. h.1 t (in-append_left t ts us m)), open-front visited ts us h.2)
 
-  pub open-last : (seen : List Grid) (ts : List Visit) (e : Entered) → AreOpen r seen (ts ++ (Leaves e ∷ [])) → ¬ In e.board seen
-  open-last seen [] e h = h.0
-  open-last seen (Enters q ∷ ts) e h = open-last seen ts e h
-  open-last seen (Leaves f ∷ ts) e h = open-last seen ts e h.2
+  pub open-last : (visited : List Grid) (ts : List Visit) (e : Entered) → AreOpen r visited (ts ++ (Leaves e ∷ [])) → ¬ In e.board visited
+  open-last visited [] e h = h.0
+  open-last visited (Enters q ∷ ts) e h = open-last visited ts e h
+  open-last visited (Leaves f ∷ ts) e h = open-last visited ts e h.2
 
-  open-append : (seen : List Grid) (ps : List Grid) (ts : List Visit) → AreOpen r seen ts → AreOpen r seen (entered ps ++ ts)
-  open-append seen [] ts h = h
-  open-append seen (p ∷ ps) ts h =
-      let P : List Visit → Type 0 = λ z. AreOpen r seen z in
-      subst P (sym (append_assoc (entered ps) (Enters p ∷ []) ts)) (open-append seen ps (Enters p ∷ ts) h)
+  open-append : (visited : List Grid) (ps : List Grid) (ts : List Visit) → AreOpen r visited ts → AreOpen r visited (entered ps ++ ts)
+  open-append visited [] ts h = h
+  open-append visited (p ∷ ps) ts h =
+      rw (append_assoc (entered ps) (Enters p ∷ []) ts) (open-append visited ps (Enters p ∷ ts) h)
 
-  pub open-entered : (seen ps : List Grid) → AreOpen r seen (entered ps)
-  open-entered seen ps = let P : List Visit → Type 0 = λ z. AreOpen r seen z in
-      subst P (append-nil (entered ps)) (open-append seen ps [] tt)
+  pub open-entered : (visited ps : List Grid) → AreOpen r visited (entered ps)
+  open-entered visited ps = rw (← (append-nil (entered ps))) (open-append visited ps [] tt)
 
   pub entered-among : (ps : List Grid) (t : Visit) → In t (entered ps) → In (visit_board t) ps
   entered-among [] t m = absurd m
@@ -40,15 +38,15 @@ module _ (r : Play) where
   ]
 
   -- a new board is entered
-  pub open-new : IsPlay r → (seen : List Grid) (ts : List Visit) (e : Entered) → r.has e.board ≡ true → ¬ In e.board seen
-      → AreOpen r seen (ts ++ (Enters e.board ∷ [])) → AreOpen r seen ((ts ++ (Leaves e ∷ [])) ++ entered (r.next e.board))
-  open-new lawful seen [] e has out h = (
+  pub open-new : IsPlay r → (visited : List Grid) (ts : List Visit) (e : Entered) → r.has e.board ≡ true → ¬ In e.board visited
+      → AreOpen r visited (ts ++ (Enters e.board ∷ [])) → AreOpen r visited ((ts ++ (Leaves e ∷ [])) ++ entered (r.next e.board))
+  open-new lawful visited [] e has out h = (
     out,
     (λ t m. lawful.lowers e.board (visit_board t) has (entered-among (r.next e.board) t m)),
-    open-entered seen (r.next e.board),
+    open-entered visited (r.next e.board),
   )
-  open-new lawful seen (Enters q ∷ ts) e has out h = open-new lawful seen ts e has out h
-  open-new lawful seen (Leaves f ∷ ts) e has out h = (
+  open-new lawful visited (Enters q ∷ ts) e has out h = open-new lawful visited ts e has out h
+  open-new lawful visited (Leaves f ∷ ts) e has out h = (
     h.0,
     (λ t m. (let p = e.board in
         let low = h.1 (Enters p) (in-append_right (Enters p) ts (Enters p ∷ []) (inl refl)) in
@@ -59,35 +57,35 @@ module _ (r : Play) where
           ]
           | inr o ↦ (let lower = lawful.lowers p (visit_board t) has (entered-among (r.next p) t o) in omega (arith, low, lower))
         ])),
-    open-new lawful seen ts e has out h.2,
+    open-new lawful visited ts e has out h.2,
   )
 
-  -- the last board is seen
-  pub open-seen : (seen : List Grid) (ts : List Visit) (e : Entered) → AreOpen r seen (ts ++ (Leaves e ∷ []))
-      → AreOpen r (seen ++ (e.board ∷ [])) ts
-  open-seen seen [] e h = tt
-  open-seen seen (Enters q ∷ ts) e h = open-seen seen ts e h
-  open-seen seen (Leaves f ∷ ts) e h = (
-    λ m. elim (in-append f.board seen (e.board ∷ []) m) [
+  -- the last board is visited
+  pub open-visited : (visited : List Grid) (ts : List Visit) (e : Entered) → AreOpen r visited (ts ++ (Leaves e ∷ []))
+      → AreOpen r (visited ++ (e.board ∷ [])) ts
+  open-visited visited [] e h = tt
+  open-visited visited (Enters q ∷ ts) e h = open-visited visited ts e h
+  open-visited visited (Leaves f ∷ ts) e h = (
+    λ m. elim (in-append f.board visited (e.board ∷ []) m) [
       | inl there ↦ h.0 there
       | inr last ↦ (let low = h.1 (Leaves e) (in-append_right (Leaves e) ts (Leaves e ∷ []) (inl refl)) in
           let same = ap r.measure (in_one f.board e.board last) in absurd (omega (arith, low, same)))
     ],
     (λ t m. h.1 t (in-append_left t ts (Leaves e ∷ []) m)),
-    open-seen seen ts e h.2,
+    open-visited visited ts e h.2,
   )
 
 module _ (r : Play) where
   pub leads-append : (ts us : List Visit) (before some after : List Grid) → Leads r us before some → Leads r ts some after
       → Leads r (ts ++ us) before after
-  leads-append [] us before some after h k = let P : List Grid → Type 0 = λ z. Leads r us before z in subst P k h
+  leads-append [] us before some after h k = rw (← k) h
   leads-append (t ∷ ts) us before some after h k = (k.0, leads-append ts us before some k.0 h k.1, k.2)
 
   -- what the last task does, and then the others
   pub leads-last : (ts : List Visit) (t : Visit) (before after : List Grid) → Leads r (ts ++ (t ∷ [])) before after
       → (some : List Grid) × Does r t before some × Leads r ts some after
   leads-last [] t before after h =
-      let P : List Grid → Type 0 = λ z. Does r t z after in (after, subst P (sym h.1) h.2, refl)
+      (after, rw h.1 h.2, refl)
   leads-last (u ∷ ts) t before after h =
       let (some, d, l) = leads-last ts t before h.0 h.1 in (some, d, (h.0, l, h.2))
 
@@ -95,8 +93,7 @@ module _ (r : Play) where
   pub leads-entered : (ps before : List Grid) → Leads r (entered ps) before (before ++ ps)
   leads-entered [] before = sym (append-nil before)
   leads-entered (p ∷ ps) before =
-      let P : List Grid → Type 0 = λ z. Leads r (entered ps ++ (Enters p ∷ [])) before z in
-      subst P (append_assoc before (p ∷ []) ps) (leads-append (entered ps) (Enters p ∷ []) before (before ++ (p ∷ []))
+      rw (← (append_assoc before (p ∷ []) ps)) (leads-append (entered ps) (Enters p ∷ []) before (before ++ (p ∷ []))
       ((before ++ (p ∷ [])) ++ ps) (before, refl, refl) (leads-entered ps (before ++ (p ∷ []))))
 
   -- a task to enter a board is as good as those to enter what comes next after it, and then to leave it

@@ -9,7 +9,7 @@ use Rattle.cg_moves.specs.declared.key.BoardKey.{BoardKey}
 use Rattle.cg_moves.specs.declared.planes.Planes.{Planes}
 use Rattle.cg_moves.specs.Grid.{Grid, IsGrid}
 use Rattle.cg_moves.specs.PlaneBits.{ArePlanes, grid_by, index_of, plane_bit}
-use Rattle.cg_moves.specs.Seen.{key_eq, key_of, word_of, words_of}
+use Rattle.cg_moves.specs.Keys.{key_eq, key_of, word_of, words_of}
 use Rattle.cg_moves.proofs.PlaneLemmas.{grid-is, plane-inside, plane-outside}
 use Rattle.cg_moves.proofs.Same.{and-true, both-true}
 

@@ -4,14 +4,14 @@ pub mod GridFacts
 pub mod Same
 pub mod Bounds
 pub mod PlaceLemmas
-pub mod SeenLemmas
+pub mod FoundKeys
 pub mod FollowLemmas
 pub mod Listed
 pub mod TaskLemmas
 pub mod TaskSteps
 pub mod WalkLemmas
 pub mod Fresh
-pub mod OnWay
+pub mod OnWalk
 pub mod Broad
 pub mod CanFollow
 pub mod Entering

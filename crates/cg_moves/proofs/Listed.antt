@@ -1,12 +1,11 @@
 -- What comes next after boards, in lists that grow behind.
 use Rattle.std.proofs.lemmas.Bool.Decides.{nat_tests}
-use Rattle.std.proofs.Common.{◌≡◌, refl, ℕ, ◌+◌, ◌≤◌, List, [], ◌∷◌, ◌++◌, length, length-append, take, drop, append_assoc, sym, ◌∙◌, subst, arith}
+use Rattle.std.proofs.Common.{◌≡◌, refl, ℕ, ◌+◌, ◌≤◌, List, [], ◌∷◌, ◌++◌, length, length-append, take, drop, append_assoc, ◌∙◌, arith}
 use Rattle.std.proofs.lemmas.List.{append-nil, drop-append-le, length-drop, take-append-le}
-use Rattle.cg_moves.specs.declared.opened.NextPlaces.{NextPlaces}
+use Rattle.cg_moves.specs.declared.graph.Adjacency.{Adjacency}
 use Rattle.cg_moves.specs.Grid.{Grid}
-use Rattle.cg_moves.specs.Opened.{AreCounted, AreNext, IsNext, StandAt}
-use Rattle.cg_moves.specs.Rules.{GameRules, followers}
-use Rattle.std.specs.List.{flat_map}
+use Rattle.cg_moves.specs.Graph.{AreCounted, AreNext, IsNext}
+use Rattle.cg_moves.specs.Rules.{GameRules}
 
 -- a part of a list stays where more comes behind it
 pub part-more : (xs ys : List ℕ) (first many : ℕ) → first + many ≤ length xs → take many (drop first (xs ++ ys)) ≡ take many (drop first xs)
@@ -22,19 +21,18 @@ module _ (r : GameRules) (cut : Grid → List Grid) where
   }
 
   module _ (counts places cs ks : List ℕ) where
-    next-more : (before : List Grid) (p : Grid) (n : NextPlaces) → IsNext r cut counts places before p n
+    next-more : (before : List Grid) (p : Grid) (n : Adjacency) → IsNext r cut counts places before p n
         → IsNext r cut (counts ++ cs) (places ++ ks) before p n
     next-more before p n h =
-        let P : List ℕ → Type 0 = λ z. StandAt before z (flat_map cut (followers r p)) in
         let l = length-append places ks in
         let i = h.inside in
         record {
           counted = counted-more counts cs p n.lefts n.first_count n.moves h.counted;
           inside = omega arith;
-          places = subst P (sym (part-more places ks n.first_place n.parts h.inside)) h.places;
+          places = rw (part-more places ks n.first_place n.parts h.inside) h.places;
         }
 
-    pub nexts-more : (before ps : List Grid) (ns : List NextPlaces) → AreNext r cut counts places before ps ns
+    pub nexts-more : (before ps : List Grid) (ns : List Adjacency) → AreNext r cut counts places before ps ns
         → AreNext r cut (counts ++ cs) (places ++ ks) before ps ns
     nexts-more before [] [] h = tt
     nexts-more before [] (n ∷ ns) h = absurd h
@@ -42,18 +40,17 @@ module _ (r : GameRules) (cut : Grid → List Grid) where
     nexts-more before (p ∷ ps) (n ∷ ns) h = (next-more before p n h.0, nexts-more (before ++ (p ∷ [])) ps ns h.1)
 
   module _ (counts places : List ℕ) where
-    pub next-append : (before ps : List Grid) (ns : List NextPlaces) (p : Grid) (n : NextPlaces)
+    pub next-append : (before ps : List Grid) (ns : List Adjacency) (p : Grid) (n : Adjacency)
         → AreNext r cut counts places before ps ns → IsNext r cut counts places (before ++ ps) p n
         → AreNext r cut counts places before (ps ++ (p ∷ [])) (ns ++ (n ∷ []))
     next-append before [] [] p n h i =
-        let P : List Grid → Type 0 = λ z. IsNext r cut counts places z p n in (subst P (append-nil before) i, tt)
+        (rw (← (append-nil before)) i, tt)
     next-append before [] (m ∷ ns) p n h i = absurd h
     next-append before (q ∷ ps) [] p n h i = absurd h
     next-append before (q ∷ ps) (m ∷ ns) p n h i =
-        let P : List Grid → Type 0 = λ z. IsNext r cut counts places z p n in
-        (h.0, next-append (before ++ (q ∷ [])) ps ns p n h.1 (subst P (sym (append_assoc before (q ∷ []) ps)) i))
+        (h.0, next-append (before ++ (q ∷ [])) ps ns p n h.1 (rw (append_assoc before (q ∷ []) ps) i))
 
-    pub next-size : (before ps : List Grid) (ns : List NextPlaces) → AreNext r cut counts places before ps ns → length ns ≡ length ps
+    pub next-size : (before ps : List Grid) (ns : List Adjacency) → AreNext r cut counts places before ps ns → length ns ≡ length ps
     next-size before [] [] h = refl
     next-size before [] (n ∷ ns) h = absurd h
     next-size before (p ∷ ps) [] h = absurd h

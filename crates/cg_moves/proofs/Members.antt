@@ -1,5 +1,5 @@
 -- Members of lists.
-use Rattle.std.proofs.Common.{◌≡◌, refl, zero, suc, inl, inr, ap, ◌∙◌, subst, sym, List, [], ◌∷◌, ◌++◌, map, arith}
+use Rattle.std.proofs.Common.{◌≡◌, refl, zero, suc, inl, inr, ap, ◌∙◌, List, [], ◌∷◌, ◌++◌, map, arith}
 use Rattle.std.specs.Prelude.{All}
 use Rattle.std.specs.List.{flat_map}
 use Rattle.cg_form.proofs.Firsts.{in-append, in-append_left, in-append_right}
@@ -8,10 +8,10 @@ use Rattle.cg_moves.specs.Rules.{In}
 module _ {X : Type 0} where
   -- along an equation of lists
   pub carry : (x : X) (xs ys : List X) → xs ≡ ys → In x xs → In x ys
-  carry x xs ys e m = let P : List X → Type 0 = λ z. In x z in subst P e m
+  carry x xs ys e m = rw (← e) m
 
   pub in_equal : (x y : X) (xs : List X) → x ≡ y → In y xs → In x xs
-  in_equal x y xs e m = let P : X → Type 0 = λ z. In z xs in subst P (sym e) m
+  in_equal x y xs e m = rw e m
 
   pub in_one : (x y : X) → In x (y ∷ []) → x ≡ y
   in_one x y (inl e) = e
@@ -54,5 +54,5 @@ module _ {X Y : Type 0} where
   pub in_flat_mapped : (f : X → List Y) (y : Y) (x : X) (xs : List X) → In x xs → In y (f x) → In y (flat_map f xs)
   in_flat_mapped f y x [] m k = absurd m
   in_flat_mapped f y x (z ∷ xs) (inl e) k =
-      let P : X → Type 0 = λ v. In y (f v) in in-append_left y (f z) (flat_map f xs) (subst P e k)
+      in-append_left y (f z) (flat_map f xs) (rw (← e) k)
   in_flat_mapped f y x (z ∷ xs) (inr m) k = in-append_right y (f z) (flat_map f xs) (in_flat_mapped f y x xs m k)

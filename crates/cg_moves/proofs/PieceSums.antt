@@ -1,5 +1,5 @@
 -- The options of the tree of a board are the trees of the boards that its moves lead to, and a board is the sum of its pieces.
-use Rattle.std.proofs.Common.{◌≡◌, ℕ, zero, suc, ◌<◌, true, List, ◌∷◌, ◌++◌, map, ap, sym, ◌∙◌, subst, arith, inl, refl}
+use Rattle.std.proofs.Common.{◌≡◌, ℕ, zero, suc, ◌<◌, true, List, ◌∷◌, ◌++◌, map, ap, ◌∙◌, arith, inl, refl}
 use Rattle.cg_form.specs.Game.{Among, Game}
 use Rattle.cg_form.specs.Order.{Equal}
 use Rattle.cg_form.proofs.Preorder.{equal_trans, le-cofinal}
@@ -7,7 +7,7 @@ use Rattle.cg_moves.specs.declared.player.Player.{Player}
 use Rattle.cg_moves.specs.declared.player.Player.TheVariants.{Left, Right}
 use Rattle.cg_moves.specs.Grid.{Grid, with_cells}
 use Rattle.cg_moves.specs.Rules.{GameRules, In, pieces, boards_after}
-use Rattle.cg_moves.specs.CutByMoves.{IsCutByMoves, MovesAlike}
+use Rattle.cg_moves.specs.CutByMoves.{IsCutByMoves, IsSameMove}
 use Rattle.cg_moves.specs.Lawful.{AreMoves, IsCut}
 use Rattle.cg_moves.specs.Raw.{IsSumOfPieces, raw}
 use Rattle.cg_moves.specs.Total.{total}
@@ -29,32 +29,29 @@ module _ (r : GameRules) (moves : AreMoves r) where
   pub raw_option : (player : Player) (p : Grid) (cells : List ℕ) → r.has p ≡ true → In cells (r.moves player p)
       → Among (raw r (with_cells p cells)) (options_of player (raw r p))
   raw_option player p cells has m =
-      let P : List Game → Type 0 = λ z. Among (raw r (with_cells p cells)) z in
-      subst P (sym (options-raw player p has))
+      rw (options-raw player p has)
       (in_mapped (raw r) (with_cells p cells) (boards_after r player p) (in_mapped (with_cells p) cells (r.moves player p) m))
 
   pub option_raw : (player : Player) (p : Grid) (g : Game) → r.has p ≡ true → Among g (options_of player (raw r p))
       → (cells : List ℕ) × In cells (r.moves player p) × (g ≡ raw r (with_cells p cells))
   option_raw player p g has m =
-      let P : List Game → Type 0 = λ z. Among g z in
-      let (q, k, e) = in-map (raw r) g (boards_after r player p) (subst P (options-raw player p has) m) in
+      let (q, k, e) = in-map (raw r) g (boards_after r player p) (rw (← (options-raw player p has)) m) in
       let (cells, n, f) = in-map (with_cells p) q (r.moves player p) k in
       (cells, n, e ∙ ap (raw r) f)
 
 middle_in : {X : Type 0} (x : X) (us vs : List X) (xs : List X) → xs ≡ us ++ (x ∷ vs) → In x xs
 middle_in {X} x us vs xs e =
-    let P : List X → Type 0 = λ z. In x z in
-    subst P (sym e) (in-append_right x us (x ∷ vs) (inl refl))
+    rw e (in-append_right x us (x ∷ vs) (inl refl))
 
 module _ (r : GameRules) (moves : AreMoves r) (cut : IsCutByMoves r) where
   -- the same move on the board and in the piece
   moved-equal : (n : ℕ) → ((p : Grid) → r.has p ≡ true → r.measure p < n → IsSumOfPieces r p)
       → (player : Player) (p : Grid) (cells : List ℕ) (us : List Grid) (q : Grid) (moved : List ℕ) (vs : List Grid)
       → r.has p ≡ true → r.measure p < suc n → In cells (r.moves player p) → In moved (r.moves player q)
-      → MovesAlike r p cells us q moved vs
+      → IsSameMove r p cells us q moved vs
       → Equal (raw r (with_cells p cells)) (total (map (raw r) us ++ (raw r (with_cells q moved) ∷ map (raw r) vs)))
-  moved-equal n shown player p cells us q moved vs has below m k alike =
-      let in_p = middle_in q us vs (pieces r p) alike.cut in
+  moved-equal n shown player p cells us q moved vs has below m k same_move =
+      let in_p = middle_in q us vs (pieces r p) same_move.cut in
       let has_q = cut.each.has p q has in_p in
       let a = moves.lowers player p cells has m in
       let b = moves.lowers player q moved has_q k in
@@ -70,7 +67,7 @@ module _ (r : GameRules) (moves : AreMoves r) (cut : IsCutByMoves r) where
       ap total (map-append (raw r) us (pieces r piece ++ vs)
       ∙ ap (λ z. map (raw r) us ++ z) (map-append (raw r) (pieces r piece) vs)) in
       equal_trans _ _ _ whole
-      (equal_trans _ _ _ (total-reordered (raw r) (pieces r next) (us ++ (pieces r piece ++ vs)) alike.others)
+      (equal_trans _ _ _ (total-reordered (raw r) (pieces r next) (us ++ (pieces r piece ++ vs)) same_move.others)
       (equal_trans _ _ _ (equal_of _ _ split) (equal_back _ _
       (total-in_place (map (raw r) us) (raw r piece) (map (raw r) (pieces r piece)) (map (raw r) vs) part))))
 
@@ -82,14 +79,13 @@ module _ (r : GameRules) (moves : AreMoves r) (cut : IsCutByMoves r) where
   forth n shown player p g has below m =
       let (cells, k, e) = option_raw r moves player p g has m in
       let w = cut.in_piece player p cells has k in
-      let in_p = middle_in w.piece w.before w.behind (pieces r p) w.alike.cut in
-      let h : Game = total (map (raw r) w.before ++ (raw r (with_cells w.piece w.moved) ∷ map (raw r) w.behind)) in
-      let P : List Grid → Type 0 = λ z. Among h (options_of player (total (map (raw r) z))) in (
+      let in_p = middle_in w.piece w.before w.behind (pieces r p) w.same_move.cut in
+      let h : Game = total (map (raw r) w.before ++ (raw r (with_cells w.piece w.moved) ∷ map (raw r) w.behind)) in (
         h,
-        subst P (sym w.alike.cut) (total-option (raw r) player w.before w.piece w.behind (raw r (with_cells w.piece
+        rw w.same_move.cut (total-option (raw r) player w.before w.piece w.behind (raw r (with_cells w.piece
             w.moved)) (raw_option r moves player w.piece w.moved (cut.each.has p w.piece has in_p) w.is_move)),
         equal_trans _ _ _ (equal_of _ _ e) (moved-equal n shown player p cells w.before w.piece w.moved w.behind has below
-            k w.is_move w.alike),
+            k w.is_move w.same_move),
       )
 
   back : (n : ℕ) → ((p : Grid) → r.has p ≡ true → r.measure p < n → IsSumOfPieces r p)
@@ -107,7 +103,7 @@ module _ (r : GameRules) (moves : AreMoves r) (cut : IsCutByMoves r) where
         raw r (with_cells p w.cells),
         raw_option r moves player p w.cells has w.is_move,
         equal_trans _ _ _ (equal_of _ _ same) (equal_back _ _ (moved-equal n shown player p w.cells o.before o.one moved
-            o.behind has below w.is_move k w.alike)),
+            o.behind has below w.is_move k w.same_move)),
       )
 
   pieces-sum_within : (n : ℕ) (p : Grid) → r.has p ≡ true → r.measure p < n → IsSumOfPieces r p

@@ -1,7 +1,7 @@
 -- Boards by their places in lists.
 use Rattle.std.proofs.Common.{◌≡◌, refl, ℕ, zero, suc, ◌<◌, inl, inr, List, [], ◌∷◌, ◌++◌, length, sym, arith, take, drop, get_or}
 use Rattle.cg_moves.specs.Grid.{Grid}
-use Rattle.cg_moves.specs.Opened.{IsAt, StandAt}
+use Rattle.cg_moves.specs.Graph.{IsAt, StandAt}
 use Rattle.cg_moves.specs.Rules.{In}
 
 -- ---- one board

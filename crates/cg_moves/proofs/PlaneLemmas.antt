@@ -16,7 +16,7 @@ use Rattle.cg_moves.specs.Grid.{AreCells, Grid, IsGrid, are_symbols, with_cells}
 use Rattle.cg_moves.specs.PlaneBits.{ArePlanes, IsGridBy, IsWithIndex, cells_by, grid_by, index_at, index_of, plane_bit}
 use Rattle.cg_moves.specs.Words.{IsWithBit, Marks}
 use Rattle.cg_moves.proofs.GridFacts.{few-symbols, set-grid, symbol-above}
-use Rattle.cg_moves.proofs.WordBits.{four_alike}
+use Rattle.cg_moves.proofs.WordBits.{four_equal}
 
 -- ---- indices of symbols
 
@@ -129,11 +129,9 @@ pub planes_more : (symbols cells : List ℕ) (w v : Planes) (n d : ℕ) → n < 
     → ArePlanes symbols (take n cells) w → IsWithIndex w v n (index_of symbols (get_or cells n d))
     → ArePlanes symbols (take (n + 1) cells) v
 planes_more symbols cells w v n d l are put =
-    let P : ℕ → Type 0 = λ k. IsWithIndex w v k (index_of symbols (get_or cells n d)) in
-    let Q : List ℕ → Type 0 = λ z. ArePlanes symbols z v in
     let up : suc n ≡ n + 1 = omega arith in
-    subst Q (sym (take-suc cells n d l) ∙ ap (λ k. take k cells) up)
-    (planes_push symbols (take n cells) w v (get_or cells n d) are (subst P (sym (length-take-le n cells (omega arith))) put))
+    rw (← (sym (take-suc cells n d l) ∙ ap (λ k. take k cells) up))
+    (planes_push symbols (take n cells) w v (get_or cells n d) are (rw (length-take-le n cells (omega arith)) put))
 
 pub planes_none : (symbols : List ℕ) → ArePlanes symbols [] (record { a = 0; b = 0; c = 0; d = 0 })
 planes_none symbols = record {
@@ -157,8 +155,7 @@ pub is_grid-by : (p : Grid) (symbols : List ℕ) (w : Planes) → symbols ≡ p.
     → ArePlanes p.symbols p.cells w → IsGridBy p.rows p.columns symbols w
 is_grid-by p symbols w e g are =
     let same = grid-is p symbols w e g are in
-    let P : Grid → Type 0 = λ q. ArePlanes q.symbols q.cells w in
-    record { grid = subst IsGrid (sym same) g; planes = subst P (sym same) are }
+    record { grid = subst IsGrid (sym same) g; planes = rw (← same) at are }
 
 -- another symbol at a cell
 pub record SetBy (rows columns : ℕ) (symbols : List ℕ) (v : Planes) (p : Grid) (i s : ℕ) : Type 0 where
@@ -170,10 +167,9 @@ pub set_by : (rows columns : ℕ) (symbols : List ℕ) (w v : Planes) (p : Grid)
     → IsWithIndex w v i (index_of symbols s) → SetBy rows columns symbols v p i s
 set_by rows columns symbols w v p i s e old inside is put =
     let g = grid_by rows columns symbols w in
-    let P : Grid → Type 0 = λ q. Contains q.symbols s in
     let q = with_cells g (slice_set g.cells i s) in
     let below : i < length g.cells = (let k = ap (λ (r : Grid). length r.cells) e in omega arith) in
-    let grid = set-grid g i s (subst P (sym e) is) old.grid in
+    let grid = set-grid g i s (rw (← e) at is) old.grid in
     let are = planes_set symbols g.cells w v i s below old.planes put in record {
       grid = is_grid-by q symbols v refl grid are;
       view = grid-is q symbols v refl grid are ∙ ap (λ (r : Grid). with_cells r (slice_set r.cells i s)) e;
@@ -204,7 +200,7 @@ pub places_by : (w : Planes) (index e f g h x y z u i : ℕ) → index < 16 → 
     → bit_at y i ≡ (if bit_at w.b i == f then 1 else 0) → bit_at z i ≡ (if bit_at w.c i == g then 1 else 0)
     → bit_at u i ≡ (if bit_at w.d i == h then 1 else 0)
     → bit_at (bit_and (bit_and x y) (bit_and z u)) i ≡ (if index_at w i == index then 1 else 0)
-places_by w index e f g h x y z u i l ie jf ig ih ax ay az au = grind (arith, nat_tests, bit_at-lt, sum-bits, bit_at_and, four_alike)
+places_by w index e f g h x y z u i l ie jf ig ih ax ay az au = grind (arith, nat_tests, bit_at-lt, sum-bits, bit_at_and, four_equal)
 
 -- no cell past the last one has a symbol
 no-symbol : (symbols cells : List ℕ) (symbol i : ℕ) → are_symbols symbols ≡ true → Contains symbols symbol → length cells ≤ i

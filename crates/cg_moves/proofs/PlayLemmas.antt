@@ -1,10 +1,10 @@
 -- Going over boards by moves, and from piece to piece.
-use Rattle.std.proofs.Common.{◌≡◌, refl, true, inl, inr, List, [], ◌∷◌, ◌++◌, ap, sym, ◌∙◌, subst, arith}
+use Rattle.std.proofs.Common.{◌≡◌, refl, true, inl, inr, List, [], ◌∷◌, ◌++◌, ap, sym, ◌∙◌, arith}
 use Rattle.std.specs.List.{flat_map}
 use Rattle.std.proofs.lemmas.Grind.{flat_map-append}
 use Rattle.std.proofs.lemmas.List.{append-nil}
-use Rattle.cg_moves.specs.declared.course.Course.{Course}
-use Rattle.cg_moves.specs.declared.course.Course.TheVariants.{Moves, Pieces}
+use Rattle.cg_moves.specs.declared.edges.Edges.{Edges}
+use Rattle.cg_moves.specs.declared.edges.Edges.TheVariants.{Moves, Pieces}
 use Rattle.cg_moves.specs.declared.player.Player.{Player}
 use Rattle.cg_moves.specs.declared.player.Player.TheVariants.{Left, Right}
 use Rattle.cg_moves.specs.Grid.{Grid, with_cells}
@@ -35,10 +35,10 @@ module _ (r : GameRules) (lawful : IsLawful r) where
       elim (in-append q (boards_after r Left p) (boards_after r Right p) m) [ inl k ↦ go Left k | inr k ↦ go Right k ]
 
   -- each part of a board is its own only part
-  pub part-alone : (course : Course) → MayGo r course → (p q : Grid) → r.has p ≡ true → In q (parts_of r course p)
-      → parts_of r course q ≡ q ∷ []
-  part-alone Moves may p q has m = refl
-  part-alone Pieces may p q has m = (lawful.cut may).each.alone p q has m
+  pub part-uncut : (edges : Edges) → MayGo r edges → (p q : Grid) → r.has p ≡ true → In q (parts_of r edges p)
+      → parts_of r edges q ≡ q ∷ []
+  part-uncut Moves may p q has m = refl
+  part-uncut Pieces may p q has m = (lawful.cut may).each.uncut p q has m
 
   pub by-moves : IsPlay (play_of r Moves)
   by-moves = record {
@@ -96,17 +96,15 @@ module _ (r : GameRules) (lawful : IsLawful r) where
     piece_reach-all p starts has e =
         piece_reach-kept p has ∙ ap (λ z. kept [] (flat_map (play_of r Pieces).all z)) (sym e)
 
-  pub plays : (course : Course) → MayGo r course → IsPlay (play_of r course)
+  pub plays : (edges : Edges) → MayGo r edges → IsPlay (play_of r edges)
   plays Moves may = by-moves
   plays Pieces may = by-pieces (lawful.cut may).each
 
   pub one_start : (p : Grid) (starts : List Grid) → r.has p ≡ true → starts ≡ p ∷ [] → AreStarts (play_of r Moves) starts
   one_start p starts has e =
-      let P : List Grid → Type 0 = λ z. AreStarts (play_of r Moves) z in
-      let Q : Grid → Type 0 = λ z. (z.symbols ≡ p.symbols) × (r.has z ≡ true) in
-      subst P (sym e) (record {
+      rw e (record {
         symbols = p.symbols;
-        known = λ q m. subst Q (sym (in_one q p m)) (refl, has);
+        known = λ q m. rw (in_one q p m) (refl, has);
       })
 
   pub reach-kept_all : (p : Grid) (starts : List Grid) → starts ≡ p ∷ [] → reach_of r p ≡ kept [] (flat_map (play_of r Moves).all starts)

@@ -26,19 +26,19 @@ module _ (w : Play) (lawful : IsPlay w) where
 
   -- ---- all that come after some boards, each once
 
-  abbrev seen_all : List Grid → List Grid
-  seen_all starts = kept [] (flat_map w.all starts)
+  abbrev visited_all : List Grid → List Grid
+  visited_all starts = kept [] (flat_map w.all starts)
 
-  seen-from : (starts : List Grid) (q : Grid) → In q (seen_all starts) → (p : Grid) × In p starts × In q (w.all p)
-  seen-from starts q m = elim (extended-among boards [] (flat_map w.all starts) q m) [
+  visited-from : (starts : List Grid) (q : Grid) → In q (visited_all starts) → (p : Grid) × In p starts × In q (w.all p)
+  visited-from starts q m = elim (extended-among boards [] (flat_map w.all starts) q m) [
     | inl nothing ↦ absurd nothing
     | inr n ↦ in-flat_map w.all q starts n
   ]
 
-  pub seen-known : (starts : List Grid) (h : AreStarts w starts) (q : Grid) → In q (seen_all starts)
+  pub visited-known : (starts : List Grid) (h : AreStarts w starts) (q : Grid) → In q (visited_all starts)
       → (q.symbols ≡ h.symbols) × (w.has q ≡ true)
-  seen-known starts h q m =
-      let (p, i, n) = seen-from starts q m in
+  visited-known starts h q m =
+      let (p, i, n) = visited-from starts q m in
       all-each (λ z. (z.symbols ≡ h.symbols) × (w.has z ≡ true))
       (λ s t has k l. (lawful.symbols s t has l ∙ k.0, lawful.has s t has l)) (suc (w.measure p)) p (omega arith)
       (h.known p i).1 (h.known p i) q n

@@ -4,7 +4,7 @@ use Rattle.std.specs.List.{flat_map}
 use Rattle.cg_moves.specs.Grid.{Grid}
 use Rattle.cg_moves.specs.Lawful.{IsLawful}
 use Rattle.cg_moves.specs.Rules.{GameRules, In, followers}
-use Rattle.cg_moves.specs.declared.course.Course.TheVariants.{Moves}
+use Rattle.cg_moves.specs.declared.edges.Edges.TheVariants.{Moves}
 use Rattle.cg_moves.specs.Kept.{kept}
 use Rattle.cg_moves.specs.Plays.{Play, play_of}
 use Rattle.cg_moves.specs.Reach.{all_reached, reach_of}

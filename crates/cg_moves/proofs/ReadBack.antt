@@ -1,5 +1,5 @@
 -- The text of a board reads back as the board.
-use Rattle.std.proofs.Common.{◌≡◌, refl, ℕ, zero, suc, ◌+◌, ◌-◌, ◌*◌, ◌<◌, ◌≤◌, ◌==◌, not, Bool, true, false, cond, ◌⊎◌, inl, inr, Some, None, List, [], ◌∷◌, ◌++◌, length, take, drop, ap, sym, ◌∙◌, subst, arith, length-drop, append-nil, append_assoc}
+use Rattle.std.proofs.Common.{◌≡◌, refl, ℕ, zero, suc, ◌+◌, ◌-◌, ◌*◌, ◌<◌, ◌≤◌, ◌==◌, not, Bool, true, false, cond, ◌⊎◌, inl, inr, Some, None, List, [], ◌∷◌, ◌++◌, length, take, drop, ap, sym, ◌∙◌, arith, length-drop, append-nil, append_assoc}
 use Rattle.std.specs.Prelude.{All, Contains, Ok, nat_lt, position, slice_index}
 use Rattle.std.specs.List.{list_all, list_any, position_or_len}
 use Rattle.std.proofs.Math.Seq.{take-length}
@@ -129,7 +129,7 @@ joined-in (row ∷ rows) c m = elim (in-append c row (behind_bars rows) m) [
 -- each cell has a symbol
 cell-symbol : (symbols cells : List ℕ) → AreCells symbols cells → (c : ℕ) → In c cells → Contains symbols c
 cell-symbol symbols [] h c m = absurd m
-cell-symbol symbols (d ∷ cells) h c (inl e) = let P : ℕ → Type 0 = λ z. Contains symbols z in subst P (sym e) (h 0 (omega arith))
+cell-symbol symbols (d ∷ cells) h c (inl e) = rw e (h 0 (omega arith))
 cell-symbol symbols (d ∷ cells) h c (inr m) = cell-symbol symbols cells (λ k l. h (suc k) (omega (arith, l))) c m
 
 contains-any : (symbols : List ℕ) (c : ℕ) → Contains symbols c → list_any (λ s. s == c) symbols ≡ true

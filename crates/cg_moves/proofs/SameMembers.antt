@@ -1,22 +1,16 @@
 -- Lists of cells with the same members have the same rising order.
 use Rattle.std.proofs.lemmas.Bool.Decides.{nat_tests}
-use Rattle.std.proofs.Common.{◌≡◌, refl, ℕ, inl, inr, List, [], ◌∷◌, ap, sym, subst, ◌∙◌, arith}
-use Rattle.std.specs.List.{AllByRecursion}
+use Rattle.std.proofs.Common.{◌≡◌, refl, ℕ, inl, inr, List, [], ◌∷◌, ap, sym, ◌∙◌, arith}
 use Rattle.std.specs.List.Sorted.{IsStrictlySortedBy}
 use Rattle.std.specs.declared.cmp.Ordering.TheVariants.{Less}
 use Rattle.std.proofs.lemmas.Cmp.{nat_list_cmp_total}
 use Rattle.cg_moves.specs.Rising.{IsRising, bytes_cmp, rising}
 use Rattle.cg_moves.specs.Rules.{In}
-use Rattle.cg_moves.proofs.RisingLemmas.{in-rising, rising-in, rising-rises}
+use Rattle.cg_moves.proofs.RisingLemmas.{each-in, in-rising, rising-in, rising-rises}
 
 -- each member of the one list is one of the other
 abbrev pub HasAll : List (List ℕ) → List (List ℕ) → Type 0
 HasAll xs ys = (z : List ℕ) → In z xs → In z ys
-
-each-in : (P : List ℕ → Type 0) (xs : List (List ℕ)) (z : List ℕ) → AllByRecursion P xs → In z xs → P z
-each-in P [] z a m = absurd m
-each-in P (x ∷ xs) z a (inl e) = subst P (sym e) a.0
-each-in P (x ∷ xs) z a (inr m) = each-in P xs z a.1 m
 
 not-before : (x y : List ℕ) → bytes_cmp x y ≡ Less → bytes_cmp y x ≡ Less → ⊥
 not-before x y a b = grind (arith, nat_tests, nat_list_cmp_total)
@@ -33,13 +27,11 @@ unique (x ∷ xs) (y ∷ ys) r s forth back =
     let e : x ≡ y = heads (forth x (inl refl)) (back y (inl refl)) in
     let tails = unique xs ys r.1 s.1
     (λ z m. elim (forth z (inr m)) [
-      | inl f ↦ (let P : List ℕ → Type 0 = λ w. bytes_cmp x w ≡ Less in
-          absurd (not-itself x (subst P (f ∙ sym e) (each-in (λ w. bytes_cmp x w ≡ Less) xs z r.0 m))))
+      | inl f ↦ (absurd (not-itself x (rw (f ∙ sym e) at (each-in (λ w. bytes_cmp x w ≡ Less) xs z r.0 m))))
       | inr n ↦ n
     ])
     (λ z m. elim (back z (inr m)) [
-      | inl f ↦ (let P : List ℕ → Type 0 = λ w. bytes_cmp y w ≡ Less in
-          absurd (not-itself y (subst P (f ∙ e) (each-in (λ w. bytes_cmp y w ≡ Less) ys z s.0 m))))
+      | inl f ↦ (absurd (not-itself y (rw (f ∙ e) at (each-in (λ w. bytes_cmp y w ≡ Less) ys z s.0 m))))
       | inr n ↦ n
     ]) in
     ap (λ w. w ∷ xs) e ∙ ap (λ w. y ∷ w) tails

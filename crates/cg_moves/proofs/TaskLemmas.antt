@@ -1,5 +1,5 @@
 -- The tasks of a walk.
-use Rattle.std.proofs.Common.{◌≡◌, refl, true, ◌⊎◌, inl, inr, List, [], ◌∷◌, ◌++◌, append_assoc, ap, sym, ◌∙◌, subst}
+use Rattle.std.proofs.Common.{◌≡◌, refl, true, ◌⊎◌, inl, inr, List, [], ◌∷◌, ◌++◌, append_assoc, ap, sym, ◌∙◌}
 use Rattle.std.specs.List.{flat_map}
 use Rattle.std.proofs.lemmas.List.{append-nil}
 use Rattle.cg_moves.specs.declared.task.Entered.{Entered}
@@ -28,22 +28,21 @@ module _ (r : Play) where
 
   -- ---- tasks that are ready
 
-  pub ready-entered : (seen ps : List Grid) → AreReady r seen (entered ps)
-  ready-entered seen ps = let P : List Visit → Type 0 = λ z. AreReady r seen z in subst P (append-nil (entered ps)) (go ps [] tt)
+  pub ready-entered : (visited ps : List Grid) → AreReady r visited (entered ps)
+  ready-entered visited ps = rw (← (append-nil (entered ps))) (go ps [] tt)
     where
-      go : (qs : List Grid) (ts : List Visit) → AreReady r seen ts → AreReady r seen (entered qs ++ ts)
+      go : (qs : List Grid) (ts : List Visit) → AreReady r visited ts → AreReady r visited (entered qs ++ ts)
       go [] ts h = h
       go (q ∷ qs) ts h =
-          let Q : List Visit → Type 0 = λ z. AreReady r seen z in
-          subst Q (sym (append_assoc (entered qs) (Enters q ∷ []) ts)) (go qs (Enters q ∷ ts) (tt, h))
+          rw (append_assoc (entered qs) (Enters q ∷ []) ts) (go qs (Enters q ∷ ts) (tt, h))
 
-  -- the last task is replaced by others, and more was seen
-  pub ready-change : (seen wider : List Grid) (t : Visit) (ts us : List Visit) → ((q : Grid) → In q seen → In q wider)
+  -- the last task is replaced by others, and more was visited
+  pub ready-change : (visited wider : List Grid) (t : Visit) (ts us : List Visit) → ((q : Grid) → In q visited → In q wider)
       → ((q : Grid) → In q (visit_boards r t) → In q wider ⊎ In q (boards_left r us))
-      → AreReady r seen (ts ++ (t ∷ [])) → AreReady r wider us → AreReady r wider (ts ++ us)
-  ready-change seen wider t [] us sub cover h k = k
-  ready-change seen wider t (Enters p ∷ ts) us sub cover h k = (tt, ready-change seen wider t ts us sub cover h.1 k)
-  ready-change seen wider t (Leaves e ∷ ts) us sub cover h k = (
+      → AreReady r visited (ts ++ (t ∷ [])) → AreReady r wider us → AreReady r wider (ts ++ us)
+  ready-change visited wider t [] us sub cover h k = k
+  ready-change visited wider t (Enters p ∷ ts) us sub cover h k = (tt, ready-change visited wider t ts us sub cover h.1 k)
+  ready-change visited wider t (Leaves e ∷ ts) us sub cover h k = (
     λ q m. elim (h.0 q m) [
       | inl there ↦ inl (sub q there)
       | inr ahead ↦ elim (in-append q (visit_boards r t) (boards_left r ts) (carry q (boards_left r (ts ++ (t ∷ [])))
@@ -57,13 +56,13 @@ module _ (r : Play) where
                 (boards_left-append ts us)) (in-append_right q (boards_left r us) (boards_left r ts) n))
           ]
     ],
-    ready-change seen wider t ts us sub cover h.1 k,
+    ready-change visited wider t ts us sub cover h.1 k,
   )
 
-  pub ready-last : (seen : List Grid) (e : Entered) (ts : List Visit) → AreReady r seen (ts ++ (Leaves e ∷ [])) → (q : Grid)
-      → In q (flat_map r.all (r.next e.board)) → In q seen
-  ready-last seen e [] h q m = elim (h.0 q m) [ inl there ↦ there | inr nothing ↦ absurd nothing ]
-  ready-last seen e (t ∷ ts) h q m = ready-last seen e ts h.1 q m
+  pub ready-last : (visited : List Grid) (e : Entered) (ts : List Visit) → AreReady r visited (ts ++ (Leaves e ∷ [])) → (q : Grid)
+      → In q (flat_map r.all (r.next e.board)) → In q visited
+  ready-last visited e [] h q m = elim (h.0 q m) [ inl there ↦ there | inr nothing ↦ absurd nothing ]
+  ready-last visited e (t ∷ ts) h q m = ready-last visited e ts h.1 q m
 
   -- ---- tasks whose boards are known
 

@@ -1,5 +1,5 @@
 -- Sums of lists of games: their options, and that the order of the list and equal members don't matter.
-use Rattle.std.proofs.Common.{◌≡◌, refl, ◌⊎◌, inl, inr, ap, sym, ◌∙◌, subst, List, [], ◌∷◌, ◌++◌, map}
+use Rattle.std.proofs.Common.{◌≡◌, refl, ◌⊎◌, inl, inr, ap, sym, ◌∙◌, List, [], ◌∷◌, ◌++◌, map}
 use Rattle.cg_form.specs.Game.{Among, Game, lefts, rights}
 use Rattle.cg_form.specs.Order.{Equal}
 use Rattle.cg_form.specs.Sum.{nothing, sum}
@@ -19,7 +19,7 @@ pub equal_back : (g h : Game) → Equal g h → Equal h g
 equal_back g h e = (e.1, e.0)
 
 pub equal_of : (g h : Game) → g ≡ h → Equal g h
-equal_of g h e = let P : Game → Type 0 = λ z. Equal g z in subst P e (equal_refl g)
+equal_of g h e = rw (← e) (equal_refl g)
 
 equal_sum : (a b c d : Game) → Equal a b → Equal c d → Equal (sum a c) (sum b d)
 equal_sum a b c d e f = (

@@ -130,9 +130,9 @@ marks_all size some few i =
       | inr h ↦ bit_at_ones size i h.1 ∙ ap (λ t. if t then 1 else 0) (sym (lt-ltb i size h.1))
     ]
 
-pub alike_not : (word bit i : ℕ) → word < 2 ^ 64 → bit ≡ 0 → i < 64
+pub matching_not : (word bit i : ℕ) → word < 2 ^ 64 → bit ≡ 0 → i < 64
     → bit_at (18446744073709551615 - word) i ≡ (if bit_at word i == bit then 1 else 0)
-alike_not word bit i fits e l =
+matching_not word bit i fits e l =
     let h = bit_at_not w64 word i fits l in
     let k = bit_at-lt word i in
     elim (eqb_tells (bit_at word i) bit) [
@@ -144,14 +144,14 @@ alike_not word bit i fits e l =
 
 -- ---- the places whose four bits are these
 
-abbrev alike : ℕ → ℕ → ℕ
-alike x y = if x == y then 1 else 0
+abbrev equal_bit : ℕ → ℕ → ℕ
+equal_bit x y = if x == y then 1 else 0
 
 -- all four are alike where the numbers of these bits are
-pub four_alike : (a b c d p q r s : ℕ) → a < 2 → b < 2 → c < 2 → d < 2 → p < 2 → q < 2 → r < 2 → s < 2
-    → min (min (alike a p) (alike b q)) (min (alike c r) (alike d s))
-    ≡ alike (a + 2 * b + 4 * c + 8 * d) (p + 2 * q + 4 * r + 8 * s)
-four_alike a b c d p q r s la lb lc ld lp lq lr ls = grind (arith, nat_tests)
+pub four_equal : (a b c d p q r s : ℕ) → a < 2 → b < 2 → c < 2 → d < 2 → p < 2 → q < 2 → r < 2 → s < 2
+    → min (min (equal_bit a p) (equal_bit b q)) (min (equal_bit c r) (equal_bit d s))
+    ≡ equal_bit (a + 2 * b + 4 * c + 8 * d) (p + 2 * q + 4 * r + 8 * s)
+four_equal a b c d p q r s la lb lc ld lp lq lr ls = grind (arith, nat_tests)
 
 -- ---- the cells of the first column
 

@@ -3,11 +3,11 @@ use Rattle.std.specs.Prelude.{◌≡◌, ℕ, zero, suc, List, [], ◌∷◌, ma
 use Rattle.cg_moves.specs.declared.key.BoardKey.{BoardKey}
 use Rattle.cg_moves.specs.Grid.{Grid}
 use Rattle.cg_moves.specs.Rules.{In}
-use Rattle.cg_moves.specs.Seen.{key_number, key_of}
+use Rattle.cg_moves.specs.Keys.{key_number, key_of}
 
 -- the boards all have the same symbols
-abbrev pub AreAlike : List Grid → Type 0
-AreAlike ps = (p q : Grid) → In p ps → In q ps → p.symbols ≡ q.symbols
+abbrev pub SameSymbols : List Grid → Type 0
+SameSymbols ps = (p q : Grid) → In p ps → In q ps → p.symbols ≡ q.symbols
 
 -- the board at this place, counted from 0, has this key
 abbrev pub HasKeyAt : List Grid → ℕ → BoardKey → Type 0

@@ -20,7 +20,7 @@ module _ (r : GameRules) where
     pub has : (p q : Grid) → r.has p ≡ true → In q (pieces r p) → r.has q ≡ true
     pub symbols : (p q : Grid) → r.has p ≡ true → In q (pieces r p) → q.symbols ≡ p.symbols
     pub some_move : (p q : Grid) → r.has p ≡ true → In q (pieces r p) → ¬ (followers r q ≡ [])
-    pub alone : (p q : Grid) → r.has p ≡ true → In q (pieces r p) → pieces r q ≡ q ∷ []
+    pub uncut : (p q : Grid) → r.has p ≡ true → In q (pieces r p) → pieces r q ≡ q ∷ []
     pub measure : (p q : Grid) → r.has p ≡ true → In q (pieces r p) → r.measure q ≤ r.measure p
 
   -- what it takes to cut boards into pieces: a board is the sum of its pieces, up to equality of games. So cells that are worth

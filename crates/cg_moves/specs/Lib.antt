@@ -9,13 +9,13 @@ pub mod Raw
 pub mod Lawful
 pub mod CutByMoves
 pub mod Reach
-pub mod Seen
+pub mod Keys
 pub mod Rising
 pub mod Texts
 pub mod PieceReach
 pub mod Plays
 pub mod Connected
-pub mod Opened
+pub mod Graph
 pub mod Cutting
 -- what private contracts cite, and what proofs need here
 pub mod GridCode

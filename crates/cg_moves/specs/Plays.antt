@@ -1,10 +1,10 @@
 -- Two ways to go over boards: from board to board by moves, and from piece to piece.
 use Rattle.std.specs.Prelude.{◌≡◌, ℕ, ◌<◌, Bool, true, List, [], ◌∷◌, ◌++◌}
 use Rattle.std.specs.List.{flat_map}
-use Rattle.cg_moves.specs.declared.course.Course.{Course}
-use Rattle.cg_moves.specs.declared.course.Course.TheVariants.{Moves, Pieces}
+use Rattle.cg_moves.specs.declared.edges.Edges.{Edges}
+use Rattle.cg_moves.specs.declared.edges.Edges.TheVariants.{Moves, Pieces}
 use Rattle.cg_moves.specs.Grid.{Grid}
-use Rattle.cg_moves.specs.Opened.{uncut}
+use Rattle.cg_moves.specs.Graph.{uncut}
 use Rattle.cg_moves.specs.PieceReach.{all_piece_reached}
 use Rattle.cg_moves.specs.Reach.{all_reached}
 use Rattle.cg_moves.specs.Rules.{GameRules, In, cuts, followers, pieces}
@@ -35,28 +35,28 @@ next_pieces r p = flat_map (pieces r) (followers r p)
 abbrev pub pieces_after : GameRules → Grid → List Grid
 pieces_after r p = flat_map (all_piece_reached r) (followers r p) ++ (p ∷ [])
 
-abbrev pub next_of : GameRules → Course → Grid → List Grid
+abbrev pub next_of : GameRules → Edges → Grid → List Grid
 next_of r Moves = followers r
 next_of r Pieces = next_pieces r
 
-abbrev pub all_of : GameRules → Course → Grid → List Grid
+abbrev pub all_of : GameRules → Edges → Grid → List Grid
 all_of r Moves = all_reached r
 all_of r Pieces = pieces_after r
 
-abbrev pub play_of : GameRules → Course → Play
-play_of r course = record {
+abbrev pub play_of : GameRules → Edges → Play
+play_of r edges = record {
   has = r.has;
-  next = next_of r course;
+  next = next_of r edges;
   measure = r.measure;
-  all = all_of r course;
+  all = all_of r edges;
 }
 
 -- the parts of a board: the board alone, or its pieces
-abbrev pub parts_of : GameRules → Course → Grid → List Grid
+abbrev pub parts_of : GameRules → Edges → Grid → List Grid
 parts_of r Moves = uncut
 parts_of r Pieces = pieces r
 
 -- the rules cut where pieces are asked for
-abbrev pub MayGo : GameRules → Course → Type 0
+abbrev pub MayGo : GameRules → Edges → Type 0
 MayGo r Moves = Unit {0}
 MayGo r Pieces = cuts r ≡ true

@@ -1,4 +1,4 @@
--- A walk over boards: what is left to do, and what it adds to what was seen.
+-- A walk over boards: what is left to do, and what it adds to what was visited.
 use Rattle.std.specs.Prelude.{◌≡◌, ◌⊎◌, ℕ, ◌<◌, true, List, [], ◌∷◌, ◌++◌}
 use Rattle.std.specs.List.{flat_map}
 use Rattle.cg_moves.specs.declared.task.Entered.{Entered}
@@ -29,17 +29,17 @@ entered (p ∷ ps) = entered ps ++ (Enters p ∷ [])
 
 -- with each board all that come after it are in the list
 abbrev pub IsClosed : Play → List Grid → Type 0
-IsClosed r seen = (p : Grid) → In p seen → (q : Grid) → In q (r.all p) → In q seen
+IsClosed r visited = (p : Grid) → In p visited → (q : Grid) → In q (r.all p) → In q visited
 
--- where a board is to be left, those that come after its next boards were seen or are left to see before
+-- where a board is to be left, those that come after its next boards were visited or are left to see before
 abbrev pub IsReady : Play → List Grid → Visit → List Visit → Type 0
-IsReady r seen (Enters p) before = Unit {0}
-IsReady r seen (Leaves e) before = (q : Grid) → In q (flat_map r.all (r.next e.board))
-    → In q seen ⊎ In q (boards_left r before)
+IsReady r visited (Enters p) before = Unit {0}
+IsReady r visited (Leaves e) before = (q : Grid) → In q (flat_map r.all (r.next e.board))
+    → In q visited ⊎ In q (boards_left r before)
 
 abbrev pub AreReady : Play → List Grid → List Visit → Type 0
-AreReady r seen [] = Unit {0}
-AreReady r seen (t ∷ ts) = IsReady r seen t ts × AreReady r seen ts
+AreReady r visited [] = Unit {0}
+AreReady r visited (t ∷ ts) = IsReady r visited t ts × AreReady r visited ts
 
 abbrev pub visit_board : Visit → Grid
 visit_board (Enters p) = p
@@ -55,20 +55,20 @@ pub record AreStarts (r : Play) (starts : List Grid) : Type 0 where
   pub symbols : List ℕ
   pub known : (p : Grid) → In p starts → (p.symbols ≡ symbols) × (r.has p ≡ true)
 
--- what holds of a walk: the boards that were seen, each with all that come after it, and the tasks that are left
-pub record IsWalk (r : Play) (seen : List Grid) (tasks : List Visit) : Type 0 where
+-- what holds of a walk: the boards that were visited, each with all that come after it, and the tasks that are left
+pub record IsWalk (r : Play) (visited : List Grid) (tasks : List Visit) : Type 0 where
   pub known : AreKnown r tasks
-  pub closed : IsClosed r seen
-  pub ready : AreReady r seen tasks
+  pub closed : IsClosed r visited
+  pub ready : AreReady r visited tasks
 
 -- the walk after some task: it sees the same boards in the end
 pub record GoesOn (r : Play) (old new : List Grid) (before after : List Visit) : Type 0 where
   pub walk : IsWalk r new after
   pub rest : kept new (boards_left r after) ≡ kept old (boards_left r before)
 
--- above each task to leave a board stand tasks of boards with a lower measure, and the board wasn't seen
+-- above each task to leave a board stand tasks of boards with a lower measure, and the board wasn't visited
 abbrev pub AreOpen : Play → List Grid → List Visit → Type 0
-AreOpen r seen [] = Unit {0}
-AreOpen r seen (Enters p ∷ ts) = AreOpen r seen ts
-AreOpen r seen (Leaves e ∷ ts) = (¬ In e.board seen) × ((t : Visit) → In t ts → r.measure (visit_board t) < r.measure e.board)
-    × AreOpen r seen ts
+AreOpen r visited [] = Unit {0}
+AreOpen r visited (Enters p ∷ ts) = AreOpen r visited ts
+AreOpen r visited (Leaves e ∷ ts) = (¬ In e.board visited) × ((t : Visit) → In t ts → r.measure (visit_board t) < r.measure e.board)
+    × AreOpen r visited ts

@@ -1,14 +1,14 @@
 //! What comes next after a board: the boards that moves lead to, and their parts.
 ghost use Rattle.std.specs.Prelude.{◌≡◌, ◌∷◌, ◌++◌, [], true, IfOk, length, map, reverse};
 ghost use Rattle.std.specs.List.{flat_map};
-ghost use Rattle.cg_moves.specs.Found.{AreAlike};
+ghost use Rattle.cg_moves.specs.Found.{SameSymbols};
 ghost use Rattle.cg_moves.specs.Plays.{MayGo, parts_of};
 ghost use Rattle.cg_moves.specs.Rules.{boards_after, cuts, pieces};
-ghost use Rattle.cg_moves.specs.Walking.{Adds, AreAlone, CanEnter};
+ghost use Rattle.cg_moves.specs.Walking.{Adds, AreUncut, CanEnter};
 ghost use Rattle.cg_moves.specs.Walks.{entered};
 ghost use Rattle.cg_moves.specs.declared.player.Player.TheVariants.{Left, Right};
 
-use crate::course::Course;
+use crate::edges::Edges;
 use crate::found::Found;
 use crate::pushing::push;
 use crate::task::{Task, enter_all};
@@ -57,7 +57,7 @@ fn enter_pieces<R: Rules>(
 ) -> Result<(), AllocError>
     requires has { (R.game rules.now).has board.now ≡ true }
     requires cuts { cuts (R.game rules.now) ≡ true }
-    requires alike { AreAlike (found.now ++ pieces (R.game rules.now) board.now) }
+    requires same_symbols { SameSymbols (found.now ++ pieces (R.game rules.now) board.now) }
     ensures counts { IfOk result (λ _. counts.new.items ≡ counts.old.items ++ (length (pieces (R.game rules.now) board.now) ∷ [])) }
     ensures tasks { IfOk result (λ _. Adds found.now tasks.old.items tasks.new.items
         (entered (pieces (R.game rules.now) board.now))) }
@@ -72,7 +72,7 @@ fn enter_pieces<R: Rules>(
 fn enter_parts<R: Rules>(
     alloc: Global,
     rules: &R,
-    course: Course,
+    edges: Edges,
     found: &Found,
     board: &Board,
     room: &mut Vec<Board>,
@@ -80,20 +80,20 @@ fn enter_parts<R: Rules>(
     counts: &mut Vec<usize>,
 ) -> Result<(), AllocError>
     requires has { (R.game rules.now).has board.now ≡ true }
-    requires may { MayGo (R.game rules.now) course }
-    requires alone { AreAlone (parts_of (R.game rules.now) course) found.now }
-    requires alike { AreAlike (found.now ++ (board.now ∷ [])) }
+    requires may { MayGo (R.game rules.now) edges }
+    requires uncut { AreUncut (parts_of (R.game rules.now) edges) found.now }
+    requires same_symbols { SameSymbols (found.now ++ (board.now ∷ [])) }
     ensures counts { IfOk result (λ _. counts.new.items
-        ≡ counts.old.items ++ (length (parts_of (R.game rules.now) course board.now) ∷ [])) }
+        ≡ counts.old.items ++ (length (parts_of (R.game rules.now) edges board.now) ∷ [])) }
     ensures tasks { IfOk result (λ _. Adds found.now tasks.old.items tasks.new.items
-        (entered (parts_of (R.game rules.now) course board.now))) }
+        (entered (parts_of (R.game rules.now) edges board.now))) }
 {
-    match course {
-        Course::Moves => {
+    match edges {
+        Edges::Moves => {
             push(counts, 1)?;
             push(tasks, Task::Enter(board.copy(alloc)?))
         }
-        Course::Pieces => match found.known(board) {
+        Edges::Pieces => match found.known(board) {
             Some(place) => {
                 push(counts, 1)?;
                 push(tasks, Task::Known(place))
@@ -108,25 +108,25 @@ fn enter_parts<R: Rules>(
 fn enter_followers<R: Rules>(
     alloc: Global,
     rules: &R,
-    course: Course,
+    edges: Edges,
     found: &Found,
     boards: &[Board],
     room: &mut Vec<Board>,
     tasks: &mut Vec<Task>,
     counts: &mut Vec<usize>,
 ) -> Result<(), AllocError>
-    requires may { MayGo (R.game rules.now) course }
-    requires enter { CanEnter (R.game rules.now) course found.now boards.now }
+    requires may { MayGo (R.game rules.now) edges }
+    requires enter { CanEnter (R.game rules.now) edges found.now boards.now }
     ensures counts { IfOk result (λ _. counts.new.items
-        ≡ counts.old.items ++ map (λ q. length (parts_of (R.game rules.now) course q)) (reverse boards.now)) }
+        ≡ counts.old.items ++ map (λ q. length (parts_of (R.game rules.now) edges q)) (reverse boards.now)) }
     ensures tasks { IfOk result (λ _. Adds found.now tasks.old.items tasks.new.items
-        (entered (flat_map (parts_of (R.game rules.now) course) boards.now))) }
+        (entered (flat_map (parts_of (R.game rules.now) edges) boards.now))) }
 {
     let mut left = boards.len();
     while left > 0 {
         left -= 1;
         let board = &boards[left];
-        enter_parts(alloc, rules, course, found, board, room, tasks, counts)?;
+        enter_parts(alloc, rules, edges, found, board, room, tasks, counts)?;
     }
     Ok(())
 }
@@ -136,23 +136,23 @@ fn enter_followers<R: Rules>(
 pub(crate) fn enter_next<R: Rules>(
     alloc: Global,
     rules: &R,
-    course: Course,
+    edges: Edges,
     found: &Found,
     all: &mut Followers,
     tasks: &mut Vec<Task>,
 ) -> Result<(), AllocError>
-    requires may { MayGo (R.game rules.now) course }
-    requires enter { CanEnter (R.game rules.now) course found.now (all.old.lefts.items ++ all.old.rights.items) }
-    ensures counts { IfOk result (λ _. all.new.counts.items ≡ map (λ q. length (parts_of (R.game rules.now) course q))
+    requires may { MayGo (R.game rules.now) edges }
+    requires enter { CanEnter (R.game rules.now) edges found.now (all.old.lefts.items ++ all.old.rights.items) }
+    ensures counts { IfOk result (λ _. all.new.counts.items ≡ map (λ q. length (parts_of (R.game rules.now) edges q))
         (reverse (all.old.lefts.items ++ all.old.rights.items))) }
     ensures tasks { IfOk result (λ _. Adds found.now tasks.old.items tasks.new.items
-        (entered (flat_map (parts_of (R.game rules.now) course) (all.old.lefts.items ++ all.old.rights.items)))) }
+        (entered (flat_map (parts_of (R.game rules.now) edges) (all.old.lefts.items ++ all.old.rights.items)))) }
 {
     all.counts.clear();
     enter_followers(
         alloc,
         rules,
-        course,
+        edges,
         found,
         &all.rights,
         &mut all.pieces,
@@ -162,7 +162,7 @@ pub(crate) fn enter_next<R: Rules>(
     enter_followers(
         alloc,
         rules,
-        course,
+        edges,
         found,
         &all.lefts,
         &mut all.pieces,
@@ -172,7 +172,7 @@ pub(crate) fn enter_next<R: Rules>(
 }
 
 /// Puts the numbers behind the others, the last first. None of them is left.
-pub(crate) fn put_turned(from: &mut Vec<usize>, to: &mut Vec<usize>) -> Result<(), AllocError>
+pub(crate) fn append_reversed(from: &mut Vec<usize>, to: &mut Vec<usize>) -> Result<(), AllocError>
     ensures { IfOk result (λ _. to.new.items ≡ to.old.items ++ reverse from.old.items) }
 {
     while let Some(number) = from.pop() {

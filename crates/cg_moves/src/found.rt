@@ -1,8 +1,8 @@
 //! Boards that were found, each with a number.
 ghost use Rattle.std.specs.Prelude.{◌≡◌, ◌+◌, ◌<◌, ◌≤◌, ◌∷◌, ◌++◌, [], IfNone, IfOk, IfSome, IsTrue, ◌↔◌, length, Err};
-ghost use Rattle.cg_moves.specs.Found.{AreAlike, HasKeyAt};
+ghost use Rattle.cg_moves.specs.Found.{SameSymbols, HasKeyAt};
 ghost use Rattle.cg_moves.specs.Kept.{one_more};
-ghost use Rattle.cg_moves.specs.Opened.{IsAt};
+ghost use Rattle.cg_moves.specs.Graph.{IsAt};
 ghost use Rattle.cg_moves.specs.Rules.{In};
 
 use crate::{Board, BoardKey, ReachFault};
@@ -35,7 +35,7 @@ impl Model for Found {
     ghost use Rattle.cg_moves.specs.Found.{AreNumbers};
     ghost use Rattle.cg_moves.specs.Grid.{Grid};
     ghost use Rattle.cg_moves.specs.GridCode.{grid_code};
-    ghost use Rattle.cg_moves.specs.Seen.{AreGrids};
+    ghost use Rattle.cg_moves.specs.Keys.{AreGrids};
 
     ghost Value = { List Grid };
 
@@ -75,7 +75,7 @@ impl Found {
     /// The number of the board, if it was found. All have the same symbols.
     #[inline(always)]
     pub(crate) fn known(&self, board: &Board) -> Option<usize>
-        requires { AreAlike (self.now ++ (board.now ∷ [])) }
+        requires { SameSymbols (self.now ++ (board.now ∷ [])) }
         ensures number { IfSome result (λ number. IsAt self.now number board.now) }
         ensures new { IfNone result (¬ In board.now self.now) }
     {
@@ -89,7 +89,7 @@ impl Found {
     /// make more boards than the limit.
     #[inline(always)]
     pub(crate) fn put(&mut self, board: Board, limit: u64) -> Result<usize, ReachFault>
-        requires alike { AreAlike (self.old ++ (board ∷ [])) }
+        requires same_symbols { SameSymbols (self.old ++ (board ∷ [])) }
         requires new { ¬ In board self.old }
         requires within { length self.old ≤ limit }
         ensures boards { IfOk result (λ _. self.new ≡ self.old ++ (board ∷ [])) }
@@ -110,7 +110,7 @@ impl Found {
     /// Puts a board behind the others, unless it was found. All have the same symbols. `Positions` comes where that would make
     /// more boards than the limit.
     pub(crate) fn find(&mut self, board: Board, limit: u64) -> Result<(), ReachFault>
-        requires alike { AreAlike (self.old ++ (board ∷ [])) }
+        requires same_symbols { SameSymbols (self.old ++ (board ∷ [])) }
         requires within { length self.old ≤ limit }
         ensures boards { IfOk result (λ _. self.new ≡ one_more self.old board) }
         ensures within { IfOk result (λ _. length self.new ≤ limit) }

@@ -1,7 +1,7 @@
 //! What tells a board from others with the same symbols.
 ghost use Rattle.std.specs.Prelude.{◌≡◌};
 ghost use Rattle.cg_moves.specs.Grid.{IsGrid};
-ghost use Rattle.cg_moves.specs.Seen.{key_number, key_of};
+ghost use Rattle.cg_moves.specs.Keys.{key_number, key_of};
 
 use crate::{Board, Planes};
 

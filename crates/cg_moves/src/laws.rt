@@ -8,7 +8,7 @@ ghost use Rattle.cg_moves.specs.Rising.{IsRising, rising};
 ghost use Rattle.cg_moves.specs.CutByMoves.{IsCutByMoves};
 ghost use Rattle.cg_moves.specs.Lawful.{AreMoves, IsCut};
 ghost use Rattle.cg_moves.specs.Rules.{GameRules, In, cuts};
-ghost use Rattle.cg_moves.specs.Seen.{key_of};
+ghost use Rattle.cg_moves.specs.Keys.{key_of};
 ghost use Rattle.cg_moves.specs.Texts.{cell_places, read_of};
 
 use crate::{Board, BoardFault, Rules};

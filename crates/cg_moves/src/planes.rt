@@ -4,7 +4,7 @@ ghost use Rattle.std.specs.Int.{bit_at};
 ghost use Rattle.cg_moves.specs.Grid.{AreCells};
 ghost use Rattle.cg_moves.specs.PlaneBits.{ArePlanes, index_at, index_of, IsWithIndex};
 
-use crate::words::{alike, bit, with_bit};
+use crate::words::{bit, matching_bits, with_bit};
 
 /// The cells of a board in four words. Bit i of the words `a`, `b`, `c` and `d` is bit 0, 1, 2 and 3 of the index of cell i's
 /// symbol in the board's row of symbols. Bits past the last cell are 0.
@@ -67,10 +67,10 @@ impl Planes {
         let second = bit(index, 1);
         let third = bit(index, 2);
         let fourth = bit(index, 3);
-        let a = alike(self.a, first);
-        let b = alike(self.b, second);
-        let c = alike(self.c, third);
-        let d = alike(self.d, fourth);
+        let a = matching_bits(self.a, first);
+        let b = matching_bits(self.b, second);
+        let c = matching_bits(self.c, third);
+        let d = matching_bits(self.d, fourth);
         (a & b) & (c & d)
     }
 

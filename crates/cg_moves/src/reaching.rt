@@ -1,13 +1,13 @@
 //! The boards that play can come to from a board.
 ghost use Rattle.std.specs.Prelude.{◌≡◌, ◌<◌, ◌≤◌, ◌∷◌, [], true, IfOk, OnOk, length, Err};
-ghost use Rattle.cg_moves.specs.Opened.{AreNext, StandAt, uncut};
+ghost use Rattle.cg_moves.specs.Graph.{AreNext, StandAt, uncut};
 ghost use Rattle.cg_moves.specs.PieceReach.{piece_reach_of};
 ghost use Rattle.cg_moves.specs.Reach.{reach_of};
 ghost use Rattle.cg_moves.specs.Rules.{cuts, pieces};
 
-use crate::course::{Course, alone, pieces_in};
+use crate::edges::{Edges, pieces_in, singleton};
 use crate::walk::open_all;
-use crate::{Board, Boards, Opened, ReachFault, Rules};
+use crate::{Board, Boards, PositionGraph, ReachFault, Rules};
 use std::alloc::Global;
 
 /// The boards that play can come to from the start, which must be a board of the game, as [`reach`] lists them, and for each
@@ -19,17 +19,17 @@ pub fn open<R: Rules>(
     rules: &R,
     start: &Board,
     limit: u64,
-) -> Result<Opened, ReachFault>
+) -> Result<PositionGraph, ReachFault>
     requires { (R.game rules.now).has start.now ≡ true }
-    ensures boards { IfOk result (λ opened. opened.boards ≡ reach_of (R.game rules.now) start.now) }
-    ensures next { IfOk result (λ opened. AreNext (R.game rules.now) uncut opened.counts.items opened.places.items [] opened.boards
-        opened.next.items) }
-    ensures starts { IfOk result (λ opened. StandAt opened.boards opened.starts.items (start.now ∷ [])) }
+    ensures boards { IfOk result (λ graph. graph.boards ≡ reach_of (R.game rules.now) start.now) }
+    ensures next { IfOk result (λ graph. AreNext (R.game rules.now) uncut graph.counts.items graph.places.items [] graph.boards
+        graph.next.items) }
+    ensures starts { IfOk result (λ graph. StandAt graph.boards graph.starts.items (start.now ∷ [])) }
     ensures within { OnOk result (length (reach_of (R.game rules.now) start.now) ≤ limit) }
     ensures refused { result ≡ Err ReachFault.Positions → limit < length (reach_of (R.game rules.now) start.now) }
 {
-    let starts = alone(alloc, start)?;
-    open_all(alloc, rules, Course::Moves, starts, limit)
+    let starts = singleton(alloc, start)?;
+    open_all(alloc, rules, Edges::Moves, starts, limit)
 }
 
 /// The boards that play can come to from the pieces of the start, which must be a board of the game, as [`reach_pieces`] lists
@@ -41,18 +41,18 @@ pub fn open_pieces<R: Rules>(
     rules: &R,
     start: &Board,
     limit: u64,
-) -> Result<Opened, ReachFault>
+) -> Result<PositionGraph, ReachFault>
     requires has { (R.game rules.now).has start.now ≡ true }
     requires cuts { cuts (R.game rules.now) ≡ true }
-    ensures boards { IfOk result (λ opened. opened.boards ≡ piece_reach_of (R.game rules.now) start.now) }
-    ensures next { IfOk result (λ opened. AreNext (R.game rules.now) (pieces (R.game rules.now)) opened.counts.items opened.places.items []
-        opened.boards opened.next.items) }
-    ensures starts { IfOk result (λ opened. StandAt opened.boards opened.starts.items (pieces (R.game rules.now) start.now)) }
+    ensures boards { IfOk result (λ graph. graph.boards ≡ piece_reach_of (R.game rules.now) start.now) }
+    ensures next { IfOk result (λ graph. AreNext (R.game rules.now) (pieces (R.game rules.now)) graph.counts.items graph.places.items []
+        graph.boards graph.next.items) }
+    ensures starts { IfOk result (λ graph. StandAt graph.boards graph.starts.items (pieces (R.game rules.now) start.now)) }
     ensures within { OnOk result (length (piece_reach_of (R.game rules.now) start.now) ≤ limit) }
     ensures refused { result ≡ Err ReachFault.Positions → limit < length (piece_reach_of (R.game rules.now) start.now) }
 {
     let starts = pieces_in(alloc, rules, start)?;
-    open_all(alloc, rules, Course::Pieces, starts, limit)
+    open_all(alloc, rules, Edges::Pieces, starts, limit)
 }
 
 /// The boards that play can come to from the start, which must be a board of the game: those of each Left move in order,

@@ -1,6 +1,6 @@
 //! What is left to do in a walk over boards.
 ghost use Rattle.std.specs.Prelude.{◌∷◌, ◌++◌, [], IfOk};
-ghost use Rattle.cg_moves.specs.Found.{AreAlike};
+ghost use Rattle.cg_moves.specs.Found.{SameSymbols};
 ghost use Rattle.cg_moves.specs.Walking.{Adds};
 ghost use Rattle.cg_moves.specs.Walks.{Enters, entered};
 
@@ -41,7 +41,7 @@ fn enter_one(
     board: &Board,
     tasks: &mut Vec<Task>,
 ) -> Result<(), AllocError>
-    requires { AreAlike (found.now ++ (board.now ∷ [])) }
+    requires { SameSymbols (found.now ++ (board.now ∷ [])) }
     ensures { IfOk result (λ _. Adds found.now tasks.old.items tasks.new.items (Enters board.now ∷ [])) }
 {
     match found.known(board) {
@@ -57,7 +57,7 @@ pub(crate) fn enter_all(
     boards: &[Board],
     tasks: &mut Vec<Task>,
 ) -> Result<(), AllocError>
-    requires { AreAlike (found.now ++ boards.now) }
+    requires { SameSymbols (found.now ++ boards.now) }
     ensures { IfOk result (λ _. Adds found.now tasks.old.items tasks.new.items (entered boards.now)) }
 {
     let mut left = boards.len();

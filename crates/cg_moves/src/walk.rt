@@ -1,82 +1,82 @@
-//! A walk over the boards that play comes to: each is seen as soon as all that come after it were.
+//! A walk over the boards that play comes to: each is visited as soon as all that come after it were.
 ghost use Rattle.std.specs.Prelude.{◌≡◌, ◌<◌, ◌≤◌, ◌∷◌, ◌++◌, [], IfOk, OnOk, drop, length, take, Err};
-ghost use Rattle.cg_moves.specs.Opened.{AreNext, StandAt};
+ghost use Rattle.cg_moves.specs.Graph.{AreNext, StandAt};
 ghost use Rattle.cg_moves.specs.Plays.{IsPlay, MayGo, parts_of, play_of};
-ghost use Rattle.cg_moves.specs.Walking.{AreAlone, IsWalking, Way, load, parts, play, reached, way_of};
+ghost use Rattle.cg_moves.specs.Walking.{AreUncut, IsWalking, Walk, work_left, parts, play, reached, walk_of};
 ghost use Rattle.cg_moves.specs.Walks.{AreStarts};
 ghost use Rattle.cg_moves.specs.declared.task.Task.TheVariants.{Enter, Known, Leave};
 
-use crate::breadth::look_in_breadth;
-use crate::course::Course;
-use crate::following::{Followers, enter_next, list_followers, put_turned};
+use crate::breadth::search_breadth;
+use crate::edges::Edges;
+use crate::following::{Followers, append_reversed, enter_next, list_followers};
 use crate::found::Found;
 use crate::pushing::push;
 use crate::task::{Entered, Task, enter_all};
-use crate::{Board, Boards, NextPlaces, Opened, ReachFault, Rules};
+use crate::{Adjacency, Board, Boards, PositionGraph, ReachFault, Rules};
 use std::alloc::{AllocError, Global};
 
-/// The boards that were seen, in their order, with what comes next after each of them; and the pending places: those of boards
-/// that come next after a board that was entered and isn't left yet, and of starts.
+/// The boards that were visited, in their order, with what comes next after each of them; and the pending places: those of
+/// boards that come next after a board that was entered and isn't left yet, and of starts.
 #[derive(Drop)]
-pub(crate) struct Seen {
+pub(crate) struct Visited {
     boards: Found,
-    next: Vec<NextPlaces>,
+    next: Vec<Adjacency>,
     counts: Vec<usize>,
     places: Vec<usize>,
     pending: Vec<usize>,
 }
 
-/// Enters the board. If it was seen, its place is one of the pending ones. If not, the parts of the boards that moves lead to are to
-/// be entered, and then the board is to be left.
+/// Enters the board. If it was visited, its place is one of the pending ones. If not, the parts of the boards that moves lead
+/// to are to be entered, and then the board is to be left.
 fn enter<R: Rules>(
     alloc: Global,
     rules: &R,
-    course: Course,
-    seen: &mut Seen,
+    edges: Edges,
+    visited: &mut Visited,
     tasks: &mut Vec<Task>,
     all: &mut Followers,
     board: Board,
 ) -> Result<(), AllocError>
-    ghost way: { Way }
-    requires way { way ≡ way_of (R.game rules.now) course way.starts }
-    requires may { MayGo (R.game rules.now) course }
-    requires known { AreStarts (play way) way.starts }
-    requires alone { AreAlone (parts way) (reached way) }
-    requires walking { IsWalking way seen.old (tasks.old.items ++ (Enter board ∷ [])) }
-    ensures boards { seen.new.boards ≡ seen.old.boards }
-    ensures walking { IfOk result (λ _. IsWalking way seen.new tasks.new.items) }
-    ensures less { IfOk result (λ _. load (play way) tasks.new.items
-        < load (play way) (tasks.old.items ++ (Enter board ∷ []))) }
+    ghost walk: { Walk }
+    requires walk { walk ≡ walk_of (R.game rules.now) edges walk.starts }
+    requires may { MayGo (R.game rules.now) edges }
+    requires known { AreStarts (play walk) walk.starts }
+    requires uncut { AreUncut (parts walk) (reached walk) }
+    requires walking { IsWalking walk visited.old (tasks.old.items ++ (Enter board ∷ [])) }
+    ensures boards { visited.new.boards ≡ visited.old.boards }
+    ensures walking { IfOk result (λ _. IsWalking walk visited.new tasks.new.items) }
+    ensures less { IfOk result (λ _. work_left (play walk) tasks.new.items
+        < work_left (play walk) (tasks.old.items ++ (Enter board ∷ []))) }
 {
-    if let Some(place) = seen.boards.known(&board) {
-        push(&mut seen.pending, place)?;
+    if let Some(place) = visited.boards.known(&board) {
+        push(&mut visited.pending, place)?;
         return Ok(());
     }
     list_followers(alloc, rules, &board, all)?;
     let entered = Entered {
         board,
         lefts: all.lefts.len(),
-        first_count: seen.counts.len(),
+        first_count: visited.counts.len(),
         moves: all.lefts.len() + all.rights.len(),
-        pending: seen.pending.len(),
+        pending: visited.pending.len(),
     };
     push(tasks, Task::Leave(entered))?;
-    enter_next(alloc, rules, course, &seen.boards, all, tasks)?;
-    put_turned(&mut all.counts, &mut seen.counts)
+    enter_next(alloc, rules, edges, &visited.boards, all, tasks)?;
+    append_reversed(&mut all.counts, &mut visited.counts)
 }
 
 /// Notes the place of a board that was visited as a pending one.
 #[inline(always)]
-fn note(seen: &mut Seen, tasks: &[Task], place: usize) -> Result<(), AllocError>
-    ghost way: { Way }
-    requires lawful { IsPlay (play way) }
-    requires walking { IsWalking way seen.old (tasks.now ++ (Known place ∷ [])) }
-    ensures boards { seen.new.boards ≡ seen.old.boards }
-    ensures walking { IfOk result (λ _. IsWalking way seen.new tasks.now) }
+fn note(visited: &mut Visited, tasks: &[Task], place: usize) -> Result<(), AllocError>
+    ghost walk: { Walk }
+    requires lawful { IsPlay (play walk) }
+    requires walking { IsWalking walk visited.old (tasks.now ++ (Known place ∷ [])) }
+    ensures boards { visited.new.boards ≡ visited.old.boards }
+    ensures walking { IfOk result (λ _. IsWalking walk visited.new tasks.now) }
 {
     // Read for the proof alone: these tasks are left.
     let _ = tasks;
-    push(&mut seen.pending, place)
+    push(&mut visited.pending, place)
 }
 
 /// Moves the pending places, from the one that stands at `first` on, behind the places.
@@ -95,18 +95,23 @@ fn put_places(
     Ok(())
 }
 
-/// Leaves the board, which was entered: it is seen, and of the pending places its own takes the place of those that come
+/// Leaves the board, which was entered: it is visited, and of the pending places its own takes the place of those that come
 /// next after it.
 #[inline(always)]
-fn leave(seen: &mut Seen, tasks: &[Task], entered: Entered, limit: u64) -> Result<(), ReachFault>
-    ghost way: { Way }
-    requires lawful { IsPlay (play way) }
-    requires known { AreStarts (play way) way.starts }
-    requires walking { IsWalking way seen.old (tasks.now ++ (Leave entered ∷ [])) }
-    requires within { length seen.old.boards ≤ limit }
-    ensures walking { IfOk result (λ _. IsWalking way seen.new tasks.now) }
-    ensures within { IfOk result (λ _. length seen.new.boards ≤ limit) }
-    ensures refused { result ≡ Err ReachFault.Positions → limit < length (reached way) }
+fn leave(
+    visited: &mut Visited,
+    tasks: &[Task],
+    entered: Entered,
+    limit: u64,
+) -> Result<(), ReachFault>
+    ghost walk: { Walk }
+    requires lawful { IsPlay (play walk) }
+    requires known { AreStarts (play walk) walk.starts }
+    requires walking { IsWalking walk visited.old (tasks.now ++ (Leave entered ∷ [])) }
+    requires within { length visited.old.boards ≤ limit }
+    ensures walking { IfOk result (λ _. IsWalking walk visited.new tasks.now) }
+    ensures within { IfOk result (λ _. length visited.new.boards ≤ limit) }
+    ensures refused { result ≡ Err ReachFault.Positions → limit < length (reached walk) }
 {
     // Read for the proof alone: these tasks are left.
     let _ = tasks;
@@ -117,17 +122,17 @@ fn leave(seen: &mut Seen, tasks: &[Task], entered: Entered, limit: u64) -> Resul
         moves,
         pending,
     } = entered;
-    let place = seen.boards.put(board, limit)?;
-    let next = NextPlaces {
+    let place = visited.boards.put(board, limit)?;
+    let next = Adjacency {
         lefts,
         first_count,
         moves,
-        first_place: seen.places.len(),
-        parts: seen.pending.len() - pending,
+        first_place: visited.places.len(),
+        parts: visited.pending.len() - pending,
     };
-    push(&mut seen.next, next)?;
-    put_places(&mut seen.places, &mut seen.pending, pending)?;
-    push(&mut seen.pending, place)?;
+    push(&mut visited.next, next)?;
+    put_places(&mut visited.places, &mut visited.pending, pending)?;
+    push(&mut visited.pending, place)?;
     Ok(())
 }
 
@@ -135,30 +140,30 @@ fn leave(seen: &mut Seen, tasks: &[Task], entered: Entered, limit: u64) -> Resul
 fn step<R: Rules>(
     alloc: Global,
     rules: &R,
-    course: Course,
-    seen: &mut Seen,
+    edges: Edges,
+    visited: &mut Visited,
     tasks: &mut Vec<Task>,
     all: &mut Followers,
     task: Task,
     limit: u64,
 ) -> Result<(), ReachFault>
-    ghost way: { Way }
-    requires way { way ≡ way_of (R.game rules.now) course way.starts }
-    requires may { MayGo (R.game rules.now) course }
-    requires known { AreStarts (play way) way.starts }
-    requires alone { AreAlone (parts way) (reached way) }
-    requires walking { IsWalking way seen.old (tasks.old.items ++ (task ∷ [])) }
-    requires within { length seen.old.boards ≤ limit }
-    ensures walking { IfOk result (λ _. IsWalking way seen.new tasks.new.items) }
-    ensures within { IfOk result (λ _. length seen.new.boards ≤ limit) }
-    ensures less { IfOk result (λ _. load (play way) tasks.new.items
-        < load (play way) (tasks.old.items ++ (task ∷ []))) }
-    ensures refused { result ≡ Err ReachFault.Positions → limit < length (reached way) }
+    ghost walk: { Walk }
+    requires walk { walk ≡ walk_of (R.game rules.now) edges walk.starts }
+    requires may { MayGo (R.game rules.now) edges }
+    requires known { AreStarts (play walk) walk.starts }
+    requires uncut { AreUncut (parts walk) (reached walk) }
+    requires walking { IsWalking walk visited.old (tasks.old.items ++ (task ∷ [])) }
+    requires within { length visited.old.boards ≤ limit }
+    ensures walking { IfOk result (λ _. IsWalking walk visited.new tasks.new.items) }
+    ensures within { IfOk result (λ _. length visited.new.boards ≤ limit) }
+    ensures less { IfOk result (λ _. work_left (play walk) tasks.new.items
+        < work_left (play walk) (tasks.old.items ++ (task ∷ []))) }
+    ensures refused { result ≡ Err ReachFault.Positions → limit < length (reached walk) }
 {
     match task {
-        Task::Known(place) => Ok(note(seen, tasks, place)?),
-        Task::Enter(board) => Ok(enter(alloc, rules, course, seen, tasks, all, board)?),
-        Task::Leave(entered) => leave(seen, tasks, entered, limit),
+        Task::Known(place) => Ok(note(visited, tasks, place)?),
+        Task::Enter(board) => Ok(enter(alloc, rules, edges, visited, tasks, all, board)?),
+        Task::Leave(entered) => leave(visited, tasks, entered, limit),
     }
 }
 
@@ -167,23 +172,23 @@ fn step<R: Rules>(
 pub(crate) fn open_all<R: Rules>(
     alloc: Global,
     rules: &R,
-    course: Course,
+    edges: Edges,
     starts: Vec<Board>,
     limit: u64,
-) -> Result<Opened, ReachFault>
-    ghost way: { Way }
-    requires way { way ≡ way_of (R.game rules.now) course starts.items }
-    requires may { MayGo (R.game rules.now) course }
-    requires starts { AreStarts (play_of (R.game rules.now) course) starts.items }
-    requires alone { AreAlone (parts_of (R.game rules.now) course) starts.items }
-    ensures boards { IfOk result (λ opened. opened.boards ≡ reached way) }
-    ensures next { IfOk result (λ opened. AreNext way.game (parts way) opened.counts.items opened.places.items [] opened.boards
-        opened.next.items) }
-    ensures starts { IfOk result (λ opened. StandAt opened.boards opened.starts.items way.starts) }
-    ensures within { OnOk result (length (reached way) ≤ limit) }
-    ensures refused { result ≡ Err ReachFault.Positions → limit < length (reached way) }
+) -> Result<PositionGraph, ReachFault>
+    ghost walk: { Walk }
+    requires walk { walk ≡ walk_of (R.game rules.now) edges starts.items }
+    requires may { MayGo (R.game rules.now) edges }
+    requires starts { AreStarts (play_of (R.game rules.now) edges) starts.items }
+    requires uncut { AreUncut (parts_of (R.game rules.now) edges) starts.items }
+    ensures boards { IfOk result (λ graph. graph.boards ≡ reached walk) }
+    ensures next { IfOk result (λ graph. AreNext walk.game (parts walk) graph.counts.items graph.places.items [] graph.boards
+        graph.next.items) }
+    ensures starts { IfOk result (λ graph. StandAt graph.boards graph.starts.items walk.starts) }
+    ensures within { OnOk result (length (reached walk) ≤ limit) }
+    ensures refused { result ≡ Err ReachFault.Positions → limit < length (reached walk) }
 {
-    let mut seen = Seen {
+    let mut visited = Visited {
         boards: Found::new(alloc),
         next: Vec::new(alloc),
         counts: Vec::new(alloc),
@@ -197,23 +202,30 @@ pub(crate) fn open_all<R: Rules>(
         counts: Vec::new(alloc),
     };
     if let Some(start) = starts.first() {
-        look_in_breadth(alloc, rules, course, start, &mut all, limit)?;
+        search_breadth(alloc, rules, edges, start, &mut all, limit)?;
     }
     let mut tasks = Vec::new(alloc);
-    enter_all(alloc, &seen.boards, &starts, &mut tasks)?;
+    enter_all(alloc, &visited.boards, &starts, &mut tasks)?;
     while let Some(task) = tasks.pop() {
         step(
-            alloc, rules, course, &mut seen, &mut tasks, &mut all, task, limit,
+            alloc,
+            rules,
+            edges,
+            &mut visited,
+            &mut tasks,
+            &mut all,
+            task,
+            limit,
         )?;
     }
-    let Seen {
+    let Visited {
         boards,
         next,
         counts,
         places,
         pending,
-    } = seen;
-    Ok(Opened {
+    } = visited;
+    Ok(PositionGraph {
         boards: Boards::of(boards.into_boards()),
         next,
         counts,

@@ -26,7 +26,7 @@ pub fn with_bit(word: u64, place: u8, bit: u8) -> u64
 }
 
 /// The word whose bit is 1 where the word has this bit, 0 or 1.
-pub(crate) fn alike(word: u64, bit: u8) -> u64
+pub(crate) fn matching_bits(word: u64, bit: u8) -> u64
     requires { bit ≤ 1 }
     ensures { (i : ℕ) → i < 64 → bit_at result i ≡ (if bit_at word i == bit then 1 else 0) }
 {

@@ -1,7 +1,7 @@
 -- Rules that cut boards into the sets of joined cells.
 use Rattle.std.proofs.Common.{◌≡◌, refl, ℕ, zero, suc, ◌<◌, ◌≤◌, ◌⊎◌, inl, inr, true, List, [], ◌∷◌, ◌++◌, map, ap, sym, ◌∙◌, subst, arith}
 use Rattle.cg_moves.specs.declared.player.Player.{Player}
-use Rattle.cg_moves.specs.CutByMoves.{IsCutByMoves, MoveInPiece, MoveOfBoard, MovesAlike}
+use Rattle.cg_moves.specs.CutByMoves.{IsCutByMoves, MoveInPiece, MoveOfBoard, IsSameMove}
 use Rattle.cg_moves.specs.Grid.{Grid, with_cells}
 use Rattle.cg_moves.specs.Reordered.{IsReordered}
 use Rattle.cg_moves.specs.Rules.{GameRules, In, followers, pieces, pieces_by}
@@ -101,11 +101,11 @@ module _ (g : CellGame) (r : GameRules) (laws : IsCellGame g) (cuts : CutsByCell
 
   -- ---- the same move on the board and in the piece
 
-  alike : (player : Player) (p : Grid) (before : List ℕ) (s : ℕ) (behind : List ℕ) (one other : ℕ) → r.has p ≡ true
+  same_move : (player : Player) (p : Grid) (before : List ℕ) (s : ℕ) (behind : List ℕ) (one other : ℕ) → r.has p ≡ true
       → g.firsts p ≡ before ++ (s ∷ behind) → g.legal player p one other ≡ true → Joined g p s one
-      → MovesAlike r p (g.after player p one other) (map (g.piece p) before) (g.piece p s)
+      → IsSameMove r p (g.after player p one other) (map (g.piece p) before) (g.piece p s)
       (g.after player (g.piece p s) (g.place p s one) (g.place p s other)) (map (g.piece p) behind)
-  alike player p before s behind one other has cut legal j =
+  same_move player p before s behind one other has cut legal j =
       let P : List ℕ → Type 0 = λ z. In s z in
       let among : In s (g.firsts p) = subst P (sym cut) (in-append_right s before (s ∷ behind) (inl refl)) in
       let after : Grid = with_cells p (g.after player p one other) in
@@ -131,7 +131,7 @@ module _ (g : CellGame) (r : GameRules) (laws : IsCellGame g) (cuts : CutsByCell
       let (s, among, j) = first-of-move player p w.one w.other w.legal in
       let c = in-middle s (g.firsts p) among in
       let moved : List ℕ = g.after player (g.piece p s) (g.place p s w.one) (g.place p s w.other) in
-      let P : List ℕ → Type 0 = λ z. MovesAlike r p z (map (g.piece p) c.before) (g.piece p s) moved (map (g.piece p)
+      let P : List ℕ → Type 0 = λ z. IsSameMove r p z (map (g.piece p) c.before) (g.piece p s) moved (map (g.piece p)
       c.behind) in record {
         before = map (g.piece p) c.before;
         piece = g.piece p s;
@@ -139,7 +139,7 @@ module _ (g : CellGame) (r : GameRules) (laws : IsCellGame g) (cuts : CutsByCell
         moved = moved;
         is_move = cuts.move player (g.piece p s) (g.place p s w.one) (g.place p s w.other) (cuts.has p s has among)
             (piece-legal player p s w.one w.other has among w.legal j);
-        alike = subst P (sym w.is) (alike player p c.before s c.behind w.one w.other has c.cut w.legal j);
+        same_move = subst P (sym w.is) (same_move player p c.before s c.behind w.one w.other has c.cut w.legal j);
       }
 
   of-cell : (player : Player) (p : Grid) (before : List ℕ) (s : ℕ) (behind : List ℕ) (moved : List ℕ) → r.has p ≡ true
@@ -159,11 +159,11 @@ module _ (g : CellGame) (r : GameRules) (laws : IsCellGame g) (cuts : CutsByCell
       sym (o.place_legal player k l j_k j_l) ∙ subst Second_legal f (subst First_legal e w.legal) in
       let is : moved ≡ g.after player (g.piece p s) (g.place p s k) (g.place p s l) =
       w.is ∙ ap (λ z. g.after player (g.piece p s) z w.other) e ∙ ap (g.after player (g.piece p s) (g.place p s k)) f in
-      let Q : List ℕ → Type 0 = λ z. MovesAlike r p (g.after player p k l) (map (g.piece p) before) (g.piece p s) z (map
+      let Q : List ℕ → Type 0 = λ z. IsSameMove r p (g.after player p k l) (map (g.piece p) before) (g.piece p s) z (map
       (g.piece p) behind) in record {
         cells = g.after player p k l;
         is_move = cuts.move player p k l has legal;
-        alike = subst Q (sym is) (alike player p before s behind k l has cut legal j_k);
+        same_move = subst Q (sym is) (same_move player p before s behind k l has cut legal j_k);
       }
 
   of-board : (player : Player) (p : Grid) (before : List Grid) (q : Grid) (behind : List Grid) (moved : List ℕ)
@@ -187,8 +187,8 @@ module _ (g : CellGame) (r : GameRules) (laws : IsCellGame g) (cuts : CutsByCell
       let e : l ≡ n = same l (inl refl) ∙ sym (same n (inr (inl refl))) in
       absurd (d.0 (inl e))
 
-  alone : (p : Grid) (s : ℕ) → r.has p ≡ true → In s (g.firsts p) → pieces r (g.piece p s) ≡ g.piece p s ∷ []
-  alone p s has among =
+  uncut : (p : Grid) (s : ℕ) → r.has p ≡ true → In s (g.firsts p) → pieces r (g.piece p s) ≡ g.piece p s ∷ []
+  uncut p s has among =
       let o = cuts.shown p s has among in
       let first_s = (laws.first p s).0 among in
       let self : Joined g p s s = here s refl in
@@ -229,7 +229,7 @@ module _ (g : CellGame) (r : GameRules) (laws : IsCellGame g) (cuts : CutsByCell
       has = λ p q has m. each-piece (λ z. r.has z ≡ true) p q (λ s i. cuts.has p s has i) m;
       symbols = λ p q has m. each-piece (λ z. z.symbols ≡ p.symbols) p q (λ s i. cuts.symbols p s has i) m;
       some_move = λ p q has m. each-piece (λ z. ¬ (followers r z ≡ [])) p q (λ s i. some-move p s has i) m;
-      alone = λ p q has m. each-piece (λ z. pieces r z ≡ z ∷ []) p q (λ s i. alone p s has i) m;
+      uncut = λ p q has m. each-piece (λ z. pieces r z ≡ z ∷ []) p q (λ s i. uncut p s has i) m;
       measure = λ p q has m. each-piece (λ z. r.measure z ≤ r.measure p) p q (λ s i. cuts.measure p s has i) m;
     };
     in_piece = in-piece;

@@ -11,7 +11,7 @@ use Rattle.cg_nodes.specs.Can.{can}
 use Rattle.cg_nodes.specs.Games.{StandFor, StandsFor, game_at, games_at}
 use Rattle.cg_nodes.specs.Meant.{Meant, form}
 use Rattle.cg_moves.specs.Grid.{Grid}
-use Rattle.cg_moves.specs.Opened.{IsAt, StandAt}
+use Rattle.cg_moves.specs.Graph.{IsAt, StandAt}
 use Rattle.cg_moves.specs.Raw.{raw}
 use Rattle.cg_moves.specs.Rules.{GameRules}
 use Rattle.cg_values.specs.Parts.{HoldAt, handles_at, values_of}

@@ -1,10 +1,10 @@
 -- What was opened by pieces are the parts, where the rules cut.
 use Rattle.std.proofs.Common.{◌≡◌, Bool, true, false, if◌then◌else◌, List, [], refl, ap, sym, subst, ◌∙◌, Result, Ok, Err, IfOk}
-use Rattle.cg_moves.specs.declared.opened.Opened.{Opened}
+use Rattle.cg_moves.specs.declared.graph.PositionGraph.{PositionGraph}
 use Rattle.cg_moves.specs.declared.pieces.Pieces.TheVariants.{Whole, Cut}
 use Rattle.cg_moves.specs.Cutting.{cutting}
 use Rattle.cg_moves.specs.Grid.{Grid}
-use Rattle.cg_moves.specs.Opened.{AreNext, StandAt, uncut}
+use Rattle.cg_moves.specs.Graph.{AreNext, StandAt, uncut}
 use Rattle.cg_moves.specs.PieceReach.{piece_reach_of}
 use Rattle.cg_moves.specs.Reach.{reach_of}
 use Rattle.cg_moves.specs.Rules.{GameRules, cuts, pieces}
@@ -18,7 +18,7 @@ cut_by false ps own e = absurd cc
 pub cuts_there : (r : GameRules) (p : Grid) (own : List Grid) → cutting r p ≡ Cut own → cuts r ≡ true
 cuts_there r p own e = cut_by (cuts r) (pieces r p) own e
 
-pub opened_by_pieces : {E : Type 0} (r : GameRules) (p : Grid) (result : Result Opened E) → cuts r ≡ true
+pub opened_by_pieces : {E : Type 0} (r : GameRules) (p : Grid) (result : Result PositionGraph E) → cuts r ≡ true
     → IfOk result (λ o. o.boards ≡ piece_reach_of r p)
     → IfOk result (λ o. AreNext r (pieces r) o.counts.items o.places.items [] o.boards o.next.items)
     → IfOk result (λ o. StandAt o.boards o.starts.items (pieces r p)) → IfOk result (IsOpened r p)

@@ -9,16 +9,16 @@ use Rattle.cg_canon.specs.Items.{Item, too_many}
 use Rattle.cg_nodes.specs.Can.{can}
 use Rattle.cg_moves.proofs.Members.{all_from, carry}
 use Rattle.cg_moves.proofs.PlayLemmas.{by-pieces, piece_reach-kept, piece_starts}
-use Rattle.cg_moves.proofs.PlayOrder.{seen-known}
+use Rattle.cg_moves.proofs.PlayOrder.{visited-known}
 use Rattle.cg_moves.proofs.ReachLemmas.{reach-has}
 use Rattle.cg_moves.specs.Grid.{Grid}
-use Rattle.cg_moves.specs.Opened.{AreNext, IsNext, uncut}
+use Rattle.cg_moves.specs.Graph.{AreNext, IsNext, uncut}
 use Rattle.cg_moves.specs.PieceReach.{piece_reach_of}
 use Rattle.cg_moves.specs.Raw.{raw}
 use Rattle.cg_moves.specs.Reach.{reach_of}
 use Rattle.cg_moves.specs.Lawful.{IsLawful}
 use Rattle.cg_moves.specs.Rules.{GameRules, In, cuts, followers, pieces}
-use Rattle.cg_moves.specs.declared.opened.NextPlaces.{NextPlaces}
+use Rattle.cg_moves.specs.declared.graph.Adjacency.{Adjacency}
 use Rattle.cg_values.specs.Items.{board_items, cut_items, joining_items, parts_reach, piece_items, sum_up, sum_up_items, value_item, value_items, whole_items}
 use Rattle.cg_values.specs.Parts.{joins, part_items, parts_of}
 use Rattle.cg_values.proofs.SumUp.{board-sum}
@@ -26,14 +26,14 @@ use Rattle.cg_values.proofs.SumUp.{board-sum}
 -- ---- what comes next
 
 module _ (r : GameRules) (parts : Grid → List Grid) (counts places : List ℕ) where
-  pub next-at : (before ps : List Grid) (ns : List NextPlaces) (i : ℕ) (p : Grid) (next : NextPlaces)
+  pub next-at : (before ps : List Grid) (ns : List Adjacency) (i : ℕ) (p : Grid) (next : Adjacency)
       → AreNext r parts counts places before ps ns → i < length ps → p ≡ get_or ps i p → next ≡ get_or ns i next
       → IsNext r parts counts places (before ++ take i ps) p next
   next-at before [] ns i p next all within read next_read = absurd (omega arith)
   next-at before (q ∷ ps) [] i p next all within read next_read = absurd all
   next-at before (q ∷ ps) (n ∷ ns) zero p next all within read next_read =
       let P : Grid → Type 0 = λ z. IsNext r parts counts places (before ++ []) z next in
-      let N : NextPlaces → Type 0 = λ z. IsNext r parts counts places (before ++ []) q z in
+      let N : Adjacency → Type 0 = λ z. IsNext r parts counts places (before ++ []) q z in
       let B : List Grid → Type 0 = λ z. IsNext r parts counts places z q n in
       subst P (sym read) (subst N (sym next_read) (subst B (sym (append-nil before)) all.0))
   next-at before (q ∷ ps) (n ∷ ns) (suc i) p next all within read next_read =
@@ -66,7 +66,7 @@ module _ (r : GameRules) where
   reached-has : IsLawful r → (p : Grid) → r.has p ≡ true → (q : Grid) → In q (parts_reach r p) → r.has q ≡ true
   reached-has lawful p has q k = elim (cases_Bool (cuts r)) [
     | inl t ↦ (let each = (lawful.cut t).each in
-        let known = seen-known _ (by-pieces r lawful each) (pieces r p) (piece_starts r lawful each p has) q
+        let known = visited-known _ (by-pieces r lawful each) (pieces r p) (piece_starts r lawful each p has) q
         (carry q (parts_reach r p) _ (reach-cut p t ∙ piece_reach-kept r lawful each p has) k) in
         known.1)
     | inr f ↦ reach-has r lawful p q has (carry q (parts_reach r p) (reach_of r p) (reach-whole p f) k)

@@ -22,11 +22,11 @@ use Rattle.cg_nodes.specs.Meant.{Meant}
 use Rattle.cg_moves.proofs.Listed.{next-size}
 use Rattle.cg_moves.proofs.Places.{split_read, take_next}
 use Rattle.cg_moves.specs.Grid.{Grid}
-use Rattle.cg_moves.specs.Opened.{AreNext, IsNext}
+use Rattle.cg_moves.specs.Graph.{AreNext, IsNext}
 use Rattle.cg_moves.specs.Raw.{raw}
 use Rattle.cg_moves.specs.Rules.{GameRules, followers}
-use Rattle.cg_moves.specs.declared.opened.NextPlaces.{NextPlaces}
-use Rattle.cg_moves.specs.declared.opened.Opened.{Opened}
+use Rattle.cg_moves.specs.declared.graph.Adjacency.{Adjacency}
+use Rattle.cg_moves.specs.declared.graph.PositionGraph.{PositionGraph}
 use Rattle.cg_values.specs.Notes.{AreNoted, IsNoted}
 use Rattle.cg_values.specs.Parts.{FrontsNoted, HoldAt, IsOpened, part_items, parts_of, values_of}
 use Rattle.cg_values.proofs.Fronts.{front-cut, noted-front, refused-apart}
@@ -45,7 +45,7 @@ pub record PartsMade {R : Type 0} (s t : State Meant (WorkRest R)) (r : GameRule
   pub spare_kept : spare ≤ t.spare
 
 module _ {R : Type 0} (s : State Meant (WorkRest R)) (r : GameRules) (spare : ℕ) (ps boards : List Grid) (is : ps ≡ boards)
-    (counts places : List ℕ) (ns : List NextPlaces) (next_are : AreNext r (parts_of r) counts places [] boards ns) where
+    (counts places : List ℕ) (ns : List Adjacency) (next_are : AreNext r (parts_of r) counts places [] boards ns) where
   abbrev items_of : List Grid → List Item
   items_of qs = flat_map (part_items s.rest.limit r) qs
 
@@ -80,7 +80,7 @@ module _ {R : Type 0} (s : State Meant (WorkRest R)) (r : GameRules) (spare : �
         let A : List Grid → Type 0 = λ z. All P z in
         subst P (sym read) (All-get_or P ps i p within (subst A (sym is) all))
 
-    module _ (next : NextPlaces) (next_read : next ≡ get_or ns i next) where
+    module _ (next : Adjacency) (next_read : next ≡ get_or ns i next) where
       pub part-next : IsNext r (parts_of r) counts places (take i ps) p next
       part-next = next-at r (parts_of r) counts places [] ps ns i p next are within read next_read
 
@@ -151,9 +151,9 @@ module _ {R : Type 0} (s : State Meant (WorkRest R)) (r : GameRules) (spare : �
           })
 
 -- the handles of all parts hold at the places of the board's own
-pub starts_held : {R : Type 0} (t : State Meant R) (r : GameRules) (p : Grid) (opened : Opened) (handles hs ns : List ℕ)
-    → IsOpened r p opened → StandFor t handles (values_of r opened.boards) → hs ≡ handles → ns ≡ opened.starts.items
+pub starts_held : {R : Type 0} (t : State Meant R) (r : GameRules) (p : Grid) (graph : PositionGraph) (handles hs ns : List ℕ)
+    → IsOpened r p graph → StandFor t handles (values_of r graph.boards) → hs ≡ handles → ns ≡ graph.starts.items
     → HoldAt t r hs ns (parts_of r p)
-starts_held t r p opened handles hs ns are all e f =
-    hold-as t r hs handles ns opened.starts.items (parts_of r p) e f
-    (held t r opened.boards handles opened.starts.items (parts_of r p) are.starts all)
+starts_held t r p graph handles hs ns are all e f =
+    hold-as t r hs handles ns graph.starts.items (parts_of r p) e f
+    (held t r graph.boards handles graph.starts.items (parts_of r p) are.starts all)

@@ -9,9 +9,9 @@ use Rattle.cg_nodes.specs.Boards.{AreBelow}
 use Rattle.cg_nodes.specs.Can.{can}
 use Rattle.cg_nodes.specs.Games.{StandFor}
 use Rattle.cg_nodes.specs.Meant.{Meant}
-use Rattle.cg_moves.specs.declared.opened.Opened.{Opened}
+use Rattle.cg_moves.specs.declared.graph.PositionGraph.{PositionGraph}
 use Rattle.cg_moves.specs.Grid.{Grid}
-use Rattle.cg_moves.specs.Opened.{AreNext, StandAt, uncut}
+use Rattle.cg_moves.specs.Graph.{AreNext, StandAt, uncut}
 use Rattle.cg_moves.specs.Raw.{raw}
 use Rattle.cg_moves.specs.Rules.{GameRules, cuts, followers, pieces}
 use Rattle.cg_values.specs.Notes.{AreNoted}
@@ -21,10 +21,10 @@ abbrev pub parts_of : GameRules → Grid → List Grid
 parts_of r = if cuts r then pieces r else uncut
 
 -- these are the parts that play can come to, with what comes next after each of them, and the places of the board's own parts
-pub record IsOpened (r : GameRules) (p : Grid) (opened : Opened) : Type 0 where
-  pub boards : opened.boards ≡ parts_reach r p
-  pub next : AreNext r (parts_of r) opened.counts.items opened.places.items [] opened.boards opened.next.items
-  pub starts : StandAt opened.boards opened.starts.items (parts_of r p)
+pub record IsOpened (r : GameRules) (p : Grid) (graph : PositionGraph) : Type 0 where
+  pub boards : graph.boards ≡ parts_reach r p
+  pub next : AreNext r (parts_of r) graph.counts.items graph.places.items [] graph.boards graph.next.items
+  pub starts : StandAt graph.boards graph.starts.items (parts_of r p)
 
 -- ---- values
 

@@ -4,7 +4,7 @@ ghost use Rattle.cg_values.specs.Items.{parts_reach};
 ghost use Rattle.cg_values.specs.Parts.{IsOpened};
 
 use cg_canon::ValueFault;
-use cg_moves::{Board, Opened, Pieces, ReachFault, Rules, open, open_pieces};
+use cg_moves::{Board, Pieces, PositionGraph, ReachFault, Rules, open, open_pieces};
 use std::alloc::Global;
 
 /// The pieces that play can come to where the rules cut, and the boards where they don't, unless there are more than the limit.
@@ -13,9 +13,9 @@ fn opened_parts<R: Rules>(
     rules: &R,
     start: &Board,
     limit: u64,
-) -> Result<Opened, ReachFault>
+) -> Result<PositionGraph, ReachFault>
     requires { (R.game rules.now).has start.now ≡ true }
-    ensures opened { IfOk result (IsOpened (R.game rules.now) start.now) }
+    ensures graph { IfOk result (IsOpened (R.game rules.now) start.now) }
     ensures within { OnOk result (length (parts_reach (R.game rules.now) start.now) ≤ limit) }
     ensures refused { result ≡ Err ReachFault.Positions → limit < length (parts_reach (R.game rules.now) start.now) }
 {
@@ -31,15 +31,15 @@ pub(crate) fn parts_within<R: Rules>(
     rules: &R,
     start: &Board,
     limit: u64,
-) -> Result<Opened, ValueFault>
+) -> Result<PositionGraph, ValueFault>
     requires { (R.game rules.now).has start.now ≡ true }
-    ensures opened { IfOk result (IsOpened (R.game rules.now) start.now) }
+    ensures graph { IfOk result (IsOpened (R.game rules.now) start.now) }
     ensures within { OnOk result (length (parts_reach (R.game rules.now) start.now) ≤ limit) }
     ensures refused { IfErr result (λ fault. (fault ≡ ValueFault.Memory) ⊎ ((fault ≡ ValueFault.Positions)
         × (limit < length (parts_reach (R.game rules.now) start.now)))) }
 {
     match opened_parts(alloc, rules, start, limit) {
-        Ok(opened) => Ok(opened),
+        Ok(graph) => Ok(graph),
         Err(ReachFault::Positions) => Err(ValueFault::Positions),
         Err(ReachFault::Memory) => Err(ValueFault::Memory),
     }

@@ -51,7 +51,7 @@ pub fn value_of<B: BoardForms, S: CellStore<GameFacts<B>>, R: Rules, A: Adder>(
         (parts_reach (R.game rules.now) start.now)) }
 {
     let limit = work.limit();
-    let opened = parts_within(alloc, rules, start, limit)?;
-    let handles = part_values(alloc, work, rules, adder, &opened)?;
-    joined(alloc, work, adder, &handles, &opened.starts)
+    let graph = parts_within(alloc, rules, start, limit)?;
+    let handles = part_values(alloc, work, rules, adder, &graph)?;
+    joined(alloc, work, adder, &handles, &graph.starts)
 }

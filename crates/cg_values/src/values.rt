@@ -6,7 +6,7 @@ ghost use Rattle.cg_canon.specs.Works.{work_state};
 ghost use Rattle.cg_nodes.specs.Can.{can};
 ghost use Rattle.cg_nodes.specs.Games.{StandFor, StandsFor};
 ghost use Rattle.cg_moves.specs.declared.player.Player.TheVariants.{Left};
-ghost use Rattle.cg_moves.specs.Opened.{AreNext};
+ghost use Rattle.cg_moves.specs.Graph.{AreNext};
 ghost use Rattle.cg_moves.specs.Raw.{raw};
 ghost use Rattle.cg_moves.specs.Rules.{boards_after, followers};
 ghost use Rattle.cg_values.specs.Notes.{AreNoted, IsNoted, MayNote};
@@ -19,12 +19,12 @@ use crate::joining::joined;
 use crate::options::Options;
 use cg_canon::{ValueFault, Work};
 use cg_cells::CellStore;
-use cg_moves::{Board, Opened, Rules};
+use cg_moves::{Board, PositionGraph, Rules};
 use cg_nodes::{BoardForms, GameFacts, Handle};
 use smallvec::SmallVec;
 use std::alloc::Global;
 
-/// A part that play can come to; what comes next after it, as [`Opened`] has it; and the handles of the values of the parts before
+/// A part that play can come to; what comes next after it, as [`PositionGraph`] has it; and the handles of the values of the parts before
 /// it.
 #[derive(Clone, Copy)]
 struct Part<'a> {
@@ -80,32 +80,32 @@ pub(crate) fn part_values<B: BoardForms, S: CellStore<GameFacts<B>>, R: Rules, A
     work: &mut Work<B, S>,
     rules: &R,
     adder: &A,
-    opened: &Opened,
+    graph: &PositionGraph,
 ) -> Result<Vec<Handle>, ValueFault>
-    requires has { All (λ p. (R.game rules.now).has p ≡ true) opened.now.boards }
+    requires has { All (λ p. (R.game rules.now).has p ≡ true) graph.now.boards }
     requires notes { MayNote B.form (R.game rules.now) }
-    requires next { AreNext (R.game rules.now) (parts_of (R.game rules.now)) opened.now.counts.items opened.now.places.items []
-        opened.now.boards opened.now.next.items }
+    requires next { AreNext (R.game rules.now) (parts_of (R.game rules.now)) graph.now.counts.items graph.now.places.items []
+        graph.now.boards graph.now.next.items }
     ensures values { IfOk result (λ handles. StandFor (work_state S.state work.new) handles.items
-        (values_of (R.game rules.now) opened.now.boards)) }
-    ensures noted { OnOk result (AreNoted (work_state S.state work.new) (R.game rules.now) opened.now.boards) }
+        (values_of (R.game rules.now) graph.now.boards)) }
+    ensures noted { OnOk result (AreNoted (work_state S.state work.new) (R.game rules.now) graph.now.boards) }
     ensures fronts { IfErr result (λ fault. fault ≢ ValueFault.Memory → FrontsNoted (work_state S.state work.old)
-        (work_state S.state work.new) (R.game rules.now) opened.now.boards) }
+        (work_state S.state work.new) (R.game rules.now) graph.now.boards) }
     ensures made { ItemsMade (work_state S.state work.old) (work_state S.state work.new)
-        (flat_map (part_items work.old.limit (R.game rules.now)) opened.now.boards) result }
+        (flat_map (part_items work.old.limit (R.game rules.now)) graph.now.boards) result }
     ensures more { (work_state S.state work.old).spare ≤ (work_state S.state work.new).spare }
 {
     let spare = work.spare();
-    let mut handles = Vec::with_capacity(alloc, opened.boards.len())?;
-    for (place, board) in opened.boards.as_slice().iter().enumerate() {
-        let ahead = boards_ahead(opened.boards.as_slice(), place);
+    let mut handles = Vec::with_capacity(alloc, graph.boards.len())?;
+    for (place, board) in graph.boards.as_slice().iter().enumerate() {
+        let ahead = boards_ahead(graph.boards.as_slice(), place);
         expect_boards(alloc, work, rules.number(), ahead);
-        let next = opened.next[place];
+        let next = graph.next[place];
         let part = Part {
             board,
             lefts: next.lefts,
-            counts: opened.counts_of(next),
-            places: opened.places_of(next),
+            counts: graph.counts_of(next),
+            places: graph.places_of(next),
             handles: &handles,
         };
         let value = part_value(alloc, work, rules, adder, part, spare)?;

@@ -4,8 +4,8 @@ use Rattle.cg_moves.proofs.breadth.find_all.Given as goal
 
 abbrev pub invariant-loop-task : goal.invariant-loop-task
 invariant-loop-task g l = record {
-  found : AreFound g.way l.found;
-  entered : AreAmong g.way l.tasks.items;
+  found : AreFound g.walk l.found;
+  entered : AreAmong g.walk l.tasks.items;
   within : length l.found ≤ l.limit;
 }
 

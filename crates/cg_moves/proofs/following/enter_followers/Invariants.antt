@@ -9,9 +9,9 @@ abbrev pub invariant-loop-left : goal.invariant-loop-left
 invariant-loop-left g l = record {
   inside : l.left ≤ length l.boards;
   counts : l.counts.items ≡ l.fn.counts.items
-      ++ map (λ q. length (parts_of (g.R.Rules.game l.rules) l.course q)) (reverse (drop l.left l.boards));
+      ++ map (λ q. length (parts_of (g.R.Rules.game l.rules) l.edges q)) (reverse (drop l.left l.boards));
   tasks : Adds l.found l.fn.tasks.items l.tasks.items
-      (entered (flat_map (parts_of (g.R.Rules.game l.rules) l.course) (drop l.left l.boards)));
+      (entered (flat_map (parts_of (g.R.Rules.game l.rules) l.edges) (drop l.left l.boards)));
 }
 
 abbrev pub decreases-loop-left : goal.decreases-loop-left

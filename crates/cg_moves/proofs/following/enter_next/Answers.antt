@@ -26,7 +26,7 @@ enter_followers-requires-2-clause-enter g c =
 
 pub returns-clause-counts : goal.returns-clause-counts
 returns-clause-counts g c =
-    let cut = parts_of (g.R.Rules.game c.args.rules.now) c.args.course in
+    let cut = parts_of (g.R.Rules.game c.args.rules.now) c.args.edges in
     let lefts = c.deref-2.result.now in
     let rights = c.deref.result.now in
     let all = c.enter_followers-2.new.counts.items in
@@ -39,7 +39,7 @@ returns-clause-counts g c =
 
 pub returns-clause-tasks : goal.returns-clause-tasks
 returns-clause-tasks g c =
-    let cut = parts_of (g.R.Rules.game c.args.rules.now) c.args.course in
+    let cut = parts_of (g.R.Rules.game c.args.rules.now) c.args.edges in
     let lefts = c.deref-2.result.now in
     let rights = c.deref.result.now in
     let found = c.args.found.now in

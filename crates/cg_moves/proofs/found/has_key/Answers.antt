@@ -1,7 +1,7 @@
 use Rattle.std.proofs.Common.{◌∙◌, sym, arith}
 use Rattle.cg_moves.proofs.KeyLemmas.{key_eq-back, key_eq-same}
 use Rattle.cg_moves.proofs.PlaceLemmas.{board-read}
-use Rattle.cg_moves.proofs.SeenLemmas.{key_at-inside, key_at-only, key_at-read}
+use Rattle.cg_moves.proofs.FoundKeys.{key_at-inside, key_at-only, key_at-read}
 use Rattle.cg_moves.proofs.found.has_key.Goals as goal
 
 pub returns-in-Some : goal.returns-in-Some

@@ -1,5 +1,5 @@
 use Rattle.std.proofs.Common.{ap, sym}
-use Rattle.cg_moves.specs.Seen.{key_of}
+use Rattle.cg_moves.specs.Keys.{key_of}
 use Rattle.cg_moves.proofs.KeyLemmas.{one-key}
 use Rattle.cg_moves.proofs.laws.keys.Goals as goal
 

@@ -1,6 +1,6 @@
 use Rattle.std.proofs.Common.{refl}
 use Rattle.cg_moves.proofs.PlayLemmas.{one_start, reach-kept_all}
-use Rattle.cg_moves.proofs.Carried.{told-along}
+use Rattle.cg_moves.proofs.Carried.{reach-along}
 use Rattle.cg_moves.proofs.reaching.open.Goals as goal
 
 pub open_all-requires : goal.open_all-requires
@@ -21,14 +21,14 @@ open_all-requires g c κs within = (
 
 pub returns : goal.returns
 returns g c =
-    let told = told-along c.open_all.result c.args.limit _ _ _ _ (reach-kept_all (g.R.Rules.game c.args.rules.now)
+    let reach = reach-along c.open_all.result c.args.limit _ _ _ _ (reach-kept_all (g.R.Rules.game c.args.rules.now)
     (g.met.R.Rules.lawful c.args.rules.now) c.args.start.now c.in_ok-starts.starts.items c.in_ok-starts.ensures)
     c.in_ok-starts.ensures c.open_all.ensures.boards c.open_all.ensures.starts c.open_all.ensures.within
     c.open_all.ensures.refused in
     record {
-      boards = told.boards;
+      boards = reach.boards;
       next = c.open_all.ensures.next;
-      starts = told.starts;
-      within = told.within;
-      refused = told.refused;
+      starts = reach.starts;
+      within = reach.within;
+      refused = reach.refused;
     }

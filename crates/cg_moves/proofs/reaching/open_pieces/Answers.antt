@@ -1,28 +1,24 @@
-use Rattle.std.proofs.Common.{refl, List, subst, sym}
-use Rattle.cg_moves.specs.declared.course.Course.TheVariants.{Pieces}
-use Rattle.cg_moves.specs.Grid.{Grid}
-use Rattle.cg_moves.specs.Plays.{play_of}
+use Rattle.std.proofs.Common.{refl}
+use Rattle.cg_moves.specs.declared.edges.Edges.TheVariants.{Pieces}
 use Rattle.cg_moves.specs.Rules.{pieces}
-use Rattle.cg_moves.specs.Walks.{AreStarts}
 use Rattle.cg_moves.proofs.Members.{carry}
-use Rattle.cg_moves.proofs.PlayLemmas.{part-alone, piece_reach-all, piece_starts}
-use Rattle.cg_moves.proofs.Carried.{told-along}
+use Rattle.cg_moves.proofs.PlayLemmas.{part-uncut, piece_reach-all, piece_starts}
+use Rattle.cg_moves.proofs.Carried.{reach-along}
 use Rattle.cg_moves.proofs.reaching.open_pieces.Goals as goal
 
 pub open_all-requires : goal.open_all-requires
 open_all-requires g c κs within =
     let r = g.R.Rules.game c.args.rules.now in
-    let lawful = g.met.R.Rules.lawful c.args.rules.now in
-    let P : List Grid → Type 0 = λ z. AreStarts (play_of r Pieces) z in (
+    let lawful = g.met.R.Rules.lawful c.args.rules.now in (
       within,
       (
         refl,
         (
           c.requires.cuts,
           (
-            subst P (sym c.in_ok-starts.ensures) (piece_starts r lawful (lawful.cut c.requires.cuts).each
+            rw c.in_ok-starts.ensures (piece_starts r lawful (lawful.cut c.requires.cuts).each
                 c.args.start.now c.requires.has),
-            λ p m. part-alone r lawful Pieces c.requires.cuts c.args.start.now p c.requires.has
+            λ p m. part-uncut r lawful Pieces c.requires.cuts c.args.start.now p c.requires.has
                 (carry p c.in_ok-starts.starts.items (pieces r c.args.start.now) c.in_ok-starts.ensures m),
           ),
         ),
@@ -32,14 +28,14 @@ open_all-requires g c κs within =
 pub returns : goal.returns
 returns g c =
     let lawful = g.met.R.Rules.lawful c.args.rules.now in
-    let told = told-along c.open_all.result c.args.limit _ _ _ _ (piece_reach-all (g.R.Rules.game c.args.rules.now) lawful
+    let reach = reach-along c.open_all.result c.args.limit _ _ _ _ (piece_reach-all (g.R.Rules.game c.args.rules.now) lawful
     (lawful.cut c.requires.cuts).each c.args.start.now c.in_ok-starts.starts.items c.requires.has c.in_ok-starts.ensures)
     c.in_ok-starts.ensures c.open_all.ensures.boards c.open_all.ensures.starts c.open_all.ensures.within
     c.open_all.ensures.refused in
     record {
-      boards = told.boards;
+      boards = reach.boards;
       next = c.open_all.ensures.next;
-      starts = told.starts;
-      within = told.within;
-      refused = told.refused;
+      starts = reach.starts;
+      within = reach.within;
+      refused = reach.refused;
     }

@@ -1,5 +1,5 @@
 use Rattle.std.proofs.Common.{◌∷◌, [], arith}
-use Rattle.cg_moves.proofs.FollowLemmas.{alike-less, last-in, one-entered}
+use Rattle.cg_moves.proofs.FollowLemmas.{same_symbols-less, last-in, one-entered}
 use Rattle.cg_moves.proofs.Members.{in_equal, in_one}
 use Rattle.cg_moves.proofs.task.enter_all.Goals as goal
 
@@ -8,7 +8,7 @@ enter_one-requires c =
     let boards = c.args.boards.now in
     let p = c.index-boards-left.result in
     let m = last-in boards c.loop-left.left p c.loop-left-test.true c.loop-left.invariant.inside c.index-boards-left.is in
-    alike-less c.args.found.now (p ∷ []) boards c.requires (λ q n. in_equal q p boards (in_one q p n) m)
+    same_symbols-less c.args.found.now (p ∷ []) boards c.requires (λ q n. in_equal q p boards (in_one q p n) m)
 
 pub loop-left-preserved : goal.loop-left-preserved
 loop-left-preserved c =

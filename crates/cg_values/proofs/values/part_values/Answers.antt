@@ -8,7 +8,7 @@ use Rattle.cg_values.proofs.values.part_values.Goals as goal
 
 pub index-next-requires : goal.index-next-requires
 index-next-requires g c =
-    let within : c.loop-place.place < length c.args.opened.now.next.items =
+    let within : c.loop-place.place < length c.args.graph.now.next.items =
     next-within (work_state g.S.CellStore.state c.args.work.now) (g.R.Rules.game c.args.rules.now) c.spare-spare.result _ _
     c.as_slice-board-items.ensures _ _ _ c.requires.next c.loop-place.place c.loop-place-test.true in
     search rules

@@ -1,8 +1,5 @@
-use Rattle.std.proofs.Common.{ℕ, List, ◌∙◌, ap, arith, length, nat_lt, subst, sym}
-use Rattle.std.specs.Prelude.{Contains}
-use Rattle.cg_moves.specs.Grid.{Grid}
-use Rattle.cg_moves.specs.PlaneBits.{ArePlanes, index_of}
-use Rattle.cg_moves.specs.Words.{Marks}
+use Rattle.std.proofs.Common.{◌∙◌, ap, arith, length}
+use Rattle.cg_moves.specs.PlaneBits.{index_of}
 use Rattle.cg_moves.proofs.GridFacts.{few-symbols}
 use Rattle.cg_moves.proofs.PlaneLemmas.{places_of}
 use Rattle.cg_moves.proofs.board.Board.places.Goals as goal
@@ -15,8 +12,7 @@ index_in-index-requires-clause-few c =
 
 pub index_in-index-requires-clause-symbol : goal.index_in-index-requires-clause-symbol
 index_in-index-requires-clause-symbol c =
-    let P : List ℕ → Type 0 = λ z. Contains z c.args.symbol in
-    subst P (sym c.symbols-symbols.ensures.value) c.requires
+    rw c.symbols-symbols.ensures.value c.requires
 
 pub places-places-requires : goal.places-places-requires
 places-places-requires c =
@@ -27,9 +23,7 @@ places-places-requires c =
 
 pub returns-clause-places : goal.returns-clause-places
 returns-clause-places c =
-    let P : Grid → Type 0 = λ q. ArePlanes q.symbols q.cells c.self.inside.planes in
-    let Q : ℕ → Type 0 = λ n. Marks c.all_cells-all.result (λ i. nat_lt i n) in
     places_of c.args.self.now c.self.inside.planes c.args.symbol c.index_in-index.result c.places-places.result
-    c.all_cells-all.result c.symbols-symbols.ensures.grid (subst P c.self.view_is c.self.invariant.1.planes) c.requires
+    c.all_cells-all.result c.symbols-symbols.ensures.grid (rw (← c.self.view_is) c.self.invariant.1.planes) c.requires
     (c.index_in-index.ensures.value ∙ ap (λ z. index_of z c.args.symbol) c.symbols-symbols.ensures.value)
-    c.places-places.ensures (subst Q c.size-size.ensures.value c.all_cells-all.ensures)
+    c.places-places.ensures (rw (← c.size-size.ensures.value) c.all_cells-all.ensures)

@@ -1,8 +1,6 @@
-use Rattle.std.proofs.Common.{List, ap, rules, subst, sym, ◌∙◌}
-use Rattle.cg_moves.specs.Grid.{Grid}
-use Rattle.cg_moves.specs.Rules.{In}
-use Rattle.cg_moves.specs.Seen.{key_number}
-use Rattle.cg_moves.proofs.SeenLemmas.{if_none_then, if_some_then, known-at, not-numbered}
+use Rattle.std.proofs.Common.{ap, rules, sym, ◌∙◌}
+use Rattle.cg_moves.specs.Keys.{key_number}
+use Rattle.cg_moves.proofs.FoundKeys.{if_none_then, if_some_then, known-at, not-numbered}
 use Rattle.cg_moves.proofs.found.Found.known.Goals as goal
 
 pub returns-clause-number : goal.returns-clause-number
@@ -14,7 +12,6 @@ returns-clause-number c =
 pub returns-clause-new : goal.returns-clause-new
 returns-clause-new c =
     let p = c.args.board.now in
-    let P : List Grid → Type 0 = λ z. ¬ In p z in
-    if_none_then _ _ c.find.result c.find.ensures.none (λ h. subst P c.self.view_is
+    if_none_then _ _ c.find.result c.find.ensures.none (λ h. rw (← c.self.view_is)
     (not-numbered c.self.inside.links c.self.inside.boards.items p c.self.invariant.0 (λ n low is k.
     let f = h n low (is ∙ sym (c.number.ensures ∙ ap key_number c.key-key.ensures.value)) in search rules)))

@@ -1,8 +1,6 @@
-use Rattle.std.proofs.Common.{List, [], ◌∷◌, ◌++◌, ap, subst, sym, ◌∙◌, arith}
-use Rattle.cg_moves.specs.Grid.{Grid}
-use Rattle.cg_moves.specs.Found.{AreNumbers}
-use Rattle.cg_moves.specs.Seen.{AreGrids, key_number}
-use Rattle.cg_moves.proofs.SeenLemmas.{grids-more, numbers-more}
+use Rattle.std.proofs.Common.{[], ◌∷◌, ◌++◌, ap, ◌∙◌, arith}
+use Rattle.cg_moves.specs.Keys.{key_number}
+use Rattle.cg_moves.proofs.FoundKeys.{grids-more, numbers-more}
 use Rattle.cg_moves.proofs.found.Found.put.Goals as goal
 
 pub invariant_of-self-in_err-push : goal.invariant_of-self-in_err-push
@@ -11,9 +9,8 @@ invariant_of-self-in_err-push c = absurd (omega (arith, c.in_err-push.ensures.fu
 pub invariant_of-self-2 : goal.invariant_of-self-2
 invariant_of-self-2 c =
     let boards = c.self.inside.boards.items in
-    let P : List Grid → Type 0 = λ z. AreNumbers c.add.new.self z × AreGrids z in
     let items = c.in_ok-push.ensures.items ∙ ap (λ z. z ++ (c.args.board ∷ [])) c.in_ok-reserve.ensures.items in
-    subst P (sym items) (
+    rw items (
       numbers-more c.self.inside.links c.add.new.self boards c.args.board c.number.result c.self.invariant.0
           (c.number.ensures ∙ ap key_number c.key.ensures.value) c.in_ok-add.ensures.more,
       grids-more boards c.args.board c.self.invariant.1 c.key.ensures.grid,

@@ -1,12 +1,12 @@
-//! Boards that were reached, with what comes next after each of them.
+//! The graph of positions: boards that were reached, with what comes next after each of them.
 
 ghost use Rattle.std.specs.Prelude.{◌≡◌, ◌+◌, ◌≤◌, drop, length, take};
 
 use crate::Boards;
 
-/// Where what comes next after a board stands in the lists of [`Opened`].
+/// The adjacency lists of a board: where what comes next after it stands in the lists of a [`PositionGraph`].
 #[derive(Debug, Clone, Copy)]
-pub struct NextPlaces {
+pub struct Adjacency {
     /// How many boards Left's moves lead to.
     pub lefts: usize,
     /// Where in `counts` those of this board begin.
@@ -19,13 +19,13 @@ pub struct NextPlaces {
     pub parts: usize,
 }
 
-/// The boards that play can come to, and what comes next after each of them.
+/// The graph of positions: the boards that play can come to, and what comes next after each of them.
 #[derive(Debug, Drop)]
-pub struct Opened {
+pub struct PositionGraph {
     /// The boards, each once.
     pub boards: Boards,
     /// For each of the boards, in order, where what comes next after it stands.
-    pub next: Vec<NextPlaces>,
+    pub next: Vec<Adjacency>,
     /// How many parts each board has that a move leads to: those of Left's moves, then those of Right's, in the order of the
     /// moves. Where boards aren't cut, each is its own only part.
     pub counts: Vec<usize>,
@@ -36,9 +36,9 @@ pub struct Opened {
     pub starts: Vec<usize>,
 }
 
-impl Opened {
+impl PositionGraph {
     /// How many parts each board has that a move leads to, where this says where the counts stand.
-    pub fn counts_of(&self, next: NextPlaces) -> &[usize]
+    pub fn counts_of(&self, next: Adjacency) -> &[usize]
         requires { next.first_count + next.moves ≤ length self.now.counts.items }
         ensures { result.now ≡ take next.moves (drop next.first_count self.now.counts.items) }
     {
@@ -46,7 +46,7 @@ impl Opened {
     }
 
     /// The places of these parts, where this says where the places stand.
-    pub fn places_of(&self, next: NextPlaces) -> &[usize]
+    pub fn places_of(&self, next: Adjacency) -> &[usize]
         requires { next.first_place + next.parts ≤ length self.now.places.items }
         ensures { result.now ≡ take next.parts (drop next.first_place self.now.places.items) }
     {

@@ -1,13 +1,13 @@
-//! What comes next in a walk over boards.
+//! The edges of the graph of positions: what comes next in a walk over boards.
 ghost use Rattle.std.specs.Prelude.{◌≡◌, ◌∷◌, [], true, IfOk};
 ghost use Rattle.cg_moves.specs.Rules.{cuts, pieces};
 
 use crate::{Board, Pieces, Rules};
 use std::alloc::{AllocError, Global};
 
-/// What comes next after a board in a walk.
+/// To which boards edges lead from a board: what comes next after it in a walk.
 #[derive(Clone, Copy)]
-pub(crate) enum Course {
+pub(crate) enum Edges {
     /// The boards that moves lead to.
     Moves,
     /// The pieces of the boards that moves lead to.
@@ -15,7 +15,7 @@ pub(crate) enum Course {
 }
 
 /// The board alone.
-pub(crate) fn alone(alloc: Global, board: &Board) -> Result<Vec<Board>, AllocError>
+pub(crate) fn singleton(alloc: Global, board: &Board) -> Result<Vec<Board>, AllocError>
     ensures { IfOk result (λ boards. boards.items ≡ board.now ∷ []) }
 {
     let copy = board.copy(alloc)?;

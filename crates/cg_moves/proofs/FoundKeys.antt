@@ -1,13 +1,13 @@
 -- Boards that were found, with the numbers of their keys.
-use Rattle.std.proofs.Common.{◌≡◌, refl, ℕ, zero, suc, ◌<◌, inl, inr, List, [], ◌∷◌, ◌++◌, get_or, length, ap, sym, ◌∙◌, subst, arith}
+use Rattle.std.proofs.Common.{◌≡◌, refl, ℕ, zero, suc, ◌<◌, inl, inr, List, [], ◌∷◌, ◌++◌, get_or, length, ap, sym, ◌∙◌, arith}
 use Rattle.std.specs.Prelude.{IfNone, IfSome, None, Option, Some, map}
 use Rattle.std.proofs.lemmas.List.{length-map, map-append}
 use Rattle.cg_moves.specs.declared.key.BoardKey.{BoardKey}
-use Rattle.cg_moves.specs.Found.{AreAlike, AreNumbers, HasKeyAt}
+use Rattle.cg_moves.specs.Found.{SameSymbols, AreNumbers, HasKeyAt}
 use Rattle.cg_moves.specs.Grid.{Grid, IsGrid}
-use Rattle.cg_moves.specs.Opened.{IsAt}
+use Rattle.cg_moves.specs.Graph.{IsAt}
 use Rattle.cg_moves.specs.Rules.{In}
-use Rattle.cg_moves.specs.Seen.{AreGrids, key_number, key_of}
+use Rattle.cg_moves.specs.Keys.{AreGrids, key_number, key_of}
 use Rattle.cg_moves.proofs.KeyLemmas.{one-key}
 use Rattle.cg_form.proofs.Firsts.{in-append, in-append_left, in-append_right}
 use Rattle.cg_moves.proofs.Members.{in_one}
@@ -34,7 +34,7 @@ key_at-at (x ∷ ps) (suc n) p m = key_at-at ps n p m
 
 -- the board that was read has the key
 pub key_at-read : (ps : List Grid) (n : ℕ) (p : Grid) (key : BoardKey) → IsAt ps n p → key_of p ≡ key → HasKeyAt ps n key
-key_at-read ps n p key m e = let P : BoardKey → Type 0 = λ z. HasKeyAt ps n z in subst P e (key_at-at ps n p m)
+key_at-read ps n p key m e = rw (← e) (key_at-at ps n p m)
 
 -- no other key is there
 pub key_at-only : (ps : List Grid) (n : ℕ) (p : Grid) (key : BoardKey) → IsAt ps n p → HasKeyAt ps n key → key_of p ≡ key
@@ -71,19 +71,16 @@ not-numbered numbers boards p are none m =
 
 -- a board with the key of this one is this one, as the list is shown
 pub known-at : (boards all : List Grid) (p : Grid) (key : BoardKey) (n : ℕ) → AreGrids boards → boards ≡ all → IsGrid p → key ≡ key_of p
-    → AreAlike (all ++ (p ∷ [])) → HasKeyAt boards n key → IsAt all n p
+    → SameSymbols (all ++ (p ∷ [])) → HasKeyAt boards n key → IsAt all n p
 known-at boards all p key n grids same g is like k =
-    let P : List Grid → Type 0 = λ z. IsAt z n p in
-    let Q : List Grid → Type 0 = λ z. AreAlike (z ++ (p ∷ [])) in
-    let V : BoardKey → Type 0 = λ z. HasKeyAt boards n z in
-    let alike : AreAlike (boards ++ (p ∷ [])) = subst Q (sym same) like in
-    subst P same (at-key_at boards n p grids g
-    (λ q m. alike q p (in-append_left q boards (p ∷ []) m) (in-append_right p boards (p ∷ []) (inl refl))) (subst V is k))
+    let same_symbols : SameSymbols (boards ++ (p ∷ [])) = rw same like in
+    rw (← same) (at-key_at boards n p grids g
+    (λ q m. same_symbols q p (in-append_left q boards (p ∷ []) m) (in-append_right p boards (p ∷ []) (inl refl))) (rw (← is) k))
 
 pub grids-more : (boards : List Grid) (p : Grid) → AreGrids boards → IsGrid p → AreGrids (boards ++ (p ∷ []))
 grids-more boards p all g q m = elim (in-append q boards (p ∷ []) m) [
   | inl there ↦ all q there
-  | inr last ↦ (let P : Grid → Type 0 = λ z. IsGrid z in subst P (sym (in_one q p last)) g)
+  | inr last ↦ (rw (in_one q p last) g)
 ]
 
 -- ---- what a search tells

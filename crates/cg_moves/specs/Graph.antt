@@ -1,7 +1,7 @@
--- Boards that were reached, with what comes next after each of them, by places.
+-- The graph of positions: boards that were reached, with what comes next after each of them, by places.
 use Rattle.std.specs.Prelude.{◌≡◌, ℕ, zero, suc, ◌+◌, ◌≤◌, List, [], ◌∷◌, ◌++◌, map, length, take, drop}
 use Rattle.std.specs.List.{flat_map}
-use Rattle.cg_moves.specs.declared.opened.NextPlaces.{NextPlaces}
+use Rattle.cg_moves.specs.declared.graph.Adjacency.{Adjacency}
 use Rattle.cg_moves.specs.declared.player.Player.TheVariants.{Left}
 use Rattle.cg_moves.specs.Grid.{Grid}
 use Rattle.cg_moves.specs.Rules.{GameRules, boards_after, followers}
@@ -33,13 +33,13 @@ pub record AreCounted (r : GameRules) (parts : Grid → List Grid) (all : List �
 -- what comes next after a board, in lists of counts and of places: how many boards moves lead to, and how many parts each has; and
 -- the places of all those parts among the boards before
 pub record IsNext (r : GameRules) (parts : Grid → List Grid) (counts all : List ℕ) (before : List Grid) (p : Grid)
-    (next : NextPlaces) : Type 0 where
+    (next : Adjacency) : Type 0 where
   pub counted : AreCounted r parts counts p next.lefts next.first_count next.moves
   pub inside : next.first_place + next.parts ≤ length all
   pub places : StandAt before (take next.parts (drop next.first_place all)) (flat_map parts (followers r p))
 
 -- so for each board of the list, among the boards that stand before it
-abbrev pub AreNext : GameRules → (Grid → List Grid) → List ℕ → List ℕ → List Grid → List Grid → List NextPlaces → Type 0
+abbrev pub AreNext : GameRules → (Grid → List Grid) → List ℕ → List ℕ → List Grid → List Grid → List Adjacency → Type 0
 AreNext r parts counts places before [] [] = Unit {0}
 AreNext r parts counts places before [] (n ∷ ns) = ⊥
 AreNext r parts counts places before (p ∷ ps) [] = ⊥
