@@ -21,3 +21,4 @@ pub mod WholeFault
 pub mod WrittenTokens
 pub mod WrittenTerms
 pub mod WrittenSpecials
+pub mod WrittenBraces

@@ -8,12 +8,12 @@ use Rattle.cg_grammar.specs.Grammar.{comma, special}
 use Rattle.cg_query.specs.declared.format.Format.TheVariants as formats
 use Rattle.cg_query.specs.Tree.{Tree, switch, tiny}
 use Rattle.cg_grammar.specs.Values.{In_none, clean}
-use Rattle.cg_grammar.specs.Written.{fraction_text}
-use Rattle.cg_grammar.proofs.WrittenTokens.{enclosed_is, fraction_is}
+use Rattle.cg_grammar.proofs.WrittenTokens.{enclosed_is}
+use Rattle.cg_reading.proofs.Spelled.{byte_then, made_is, then_is}
 
 -- an operand that is no name
 alone : {R : Piece Found} {i : ℕ} {e : Found} {text : List ℕ} → R i e text → grammar.whole_piece R i (e, In_none) text
-alone {R} {i} {e} {text} m = record { made_of = e; is = m; same = refl }
+alone {R} {i} {e} {text} m = made_is e m
 
 pub first_special : (k i : ℕ) (t : Tree) (text : List ℕ) → grammar.switch_piece i (clean t) text → grammar.special formats.One k i (clean t, In_none) text
 unfolding special
@@ -47,55 +47,18 @@ unfolding special
 paren_special k i t text m =
     alone (inr (inr (inr (inl (enclosed_is (grammar.expr (grammar.special formats.One k)) i (clean t) text m)))))
 
-pub switch_special : (k i num den : ℕ) → num < 10 ^ 30 → den < 10 ^ 30
-    → grammar.special formats.One k i (clean (switch num den), In_none) (codes "+-" ++ fraction_text num den)
-switch_special k i num den l r = first_special k i (switch num den) (codes "+-" ++ fraction_text num den) (record {
-  made_of = (43, (45, (num, den)));
-  is = record {
-    before = 43 ∷ [];
-    behind = 45 ∷ fraction_text num den;
-    first = record { within = refl; spelled = refl };
-    second = record {
-      before = 45 ∷ [];
-      behind = fraction_text num den;
-      first = record { within = refl; spelled = refl };
-      second = fraction_is (i + 1 + 1) num den l r;
-      spelled = refl;
-    };
-    spelled = refl;
-  };
-  same = refl;
-})
+-- of a text of the number
+pub switch_special : (k i num den : ℕ) (text : List ℕ) → ((j : ℕ) → grammar.number j (num, den) text)
+    → grammar.special formats.One k i (clean (switch num den), In_none) (codes "+-" ++ text)
+switch_special k i num den text n = first_special k i (switch num den) (codes "+-" ++ text)
+    (made_is (43, (45, (num, den))) (byte_then 43 (45 ∷ text) refl (byte_then 45 text refl (n _))))
 
-pub tiny_special : (k i : ℕ) (miny : Bool) (num den : ℕ) → num < 10 ^ 30 → den < 10 ^ 30
-    → grammar.special formats.One k i (clean (tiny miny num den), In_none)
-    (cond miny (codes "Miny(") (codes "Tiny(") ++ (fraction_text num den ++ codes ")"))
-tiny_special k i miny num den l r = by miny
+pub tiny_special : (k i : ℕ) (miny : Bool) (num den : ℕ) (text : List ℕ) → ((j : ℕ) → grammar.number j (num, den) text)
+    → grammar.special formats.One k i (clean (tiny miny num den), In_none) (cond miny (codes "Miny(") (codes "Tiny(") ++ (text ++ codes ")"))
+tiny_special k i miny num den text n = by miny
   where
-    inner : (j : ℕ) → grammar.enclosed grammar.number j (num, den) (40 ∷ (fraction_text num den ++ (41 ∷ [])))
-    inner j = enclosed_is grammar.number j (num, den) (fraction_text num den) (λ h. fraction_is h num den l r)
-
-    by : (m : Bool) → grammar.special formats.One k i (clean (tiny m num den), In_none)
-        (cond m (codes "Miny(") (codes "Tiny(") ++ (fraction_text num den ++ codes ")"))
-    by false = second_special k i _ _ (record {
-      made_of = (false, (num, den));
-      is = record {
-        before = codes "Tiny";
-        behind = 40 ∷ (fraction_text num den ++ codes ")");
-        first = inl (refl, refl);
-        second = inner (i + length (codes "Tiny"));
-        spelled = refl;
-      };
-      same = refl;
-    })
-    by true = second_special k i _ _ (record {
-      made_of = (true, (num, den));
-      is = record {
-        before = codes "Miny";
-        behind = 40 ∷ (fraction_text num den ++ codes ")");
-        first = inr (refl, refl);
-        second = inner (i + length (codes "Miny"));
-        spelled = refl;
-      };
-      same = refl;
-    })
+    by : (m : Bool) → grammar.special formats.One k i (clean (tiny m num den), In_none) (cond m (codes "Miny(") (codes "Tiny(") ++ (text ++ codes ")"))
+    by false = second_special k i _ _ (made_is (false, (num, den))
+        (then_is (codes "Tiny") (40 ∷ (text ++ codes ")")) (inl (refl, refl)) (enclosed_is grammar.number _ (num, den) text n)))
+    by true = second_special k i _ _ (made_is (true, (num, den))
+        (then_is (codes "Miny") (40 ∷ (text ++ codes ")")) (inr (refl, refl)) (enclosed_is grammar.number _ (num, den) text n)))

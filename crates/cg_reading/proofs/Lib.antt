@@ -15,6 +15,7 @@ pub mod TokenLaws
 pub mod Words
 pub mod TurnLaws
 pub mod TurnsGathered
+pub mod Spelled
 pub mod Texts
 pub mod MostBytes
 pub mod Tellings

@@ -1,12 +1,11 @@
--- Texts that are pieces of a line: numbers in base ten, one blank, and none.
+-- Texts that are pieces of a line: numbers in base ten.
 use Rattle.std.proofs.Common.{◌≡◌, refl, ap, sym, ℕ, ◌+◌, ◌^◌, ◌%◌, ◌<◌, arith, List, [], ◌∷◌, ◌++◌, length, length-append, Bool, true, false, ◌&&◌}
 use Rattle.std.specs.Prelude.{decimal}
 use Rattle.std.specs.List.{list_all}
 use Rattle.std.proofs.lemmas.Fmt.{decimal_by_steps_wide, decimal_is_IsNumeral_wide, length-decimal-le_wide}
 use Rattle.std.proofs.lemmas.Bool.Decides.{nat_tests}
 use Rattle.cg_reading.specs.Bytes.{has}
-use Rattle.cg_reading.specs.Pieces.{Piece}
-use Rattle.cg_reading.specs.Tokens.{behind_blanks, digit, digits, gap}
+use Rattle.cg_reading.specs.Tokens.{digit, digits}
 
 -- ---- digits
 
@@ -47,35 +46,7 @@ decimal_digits n l = decimal_by_steps_wide (λ m ds. Digits ds) one_digit
 pub digits_are : (i n : ℕ) → n < 10 ^ 30 → digits i n (decimal n)
 digits_are i n l = record {
   made_of = decimal n;
-  is = record {
-    within = (decimal_digits n l).within;
-    some = (decimal_digits n l).some;
-    few = length-decimal-le_wide 30 n (omega arith) l (short n l);
-    spelled = refl;
-  };
+  is = let d = decimal_digits n l in
+      record { within = d.within; some = d.some; few = length-decimal-le_wide 30 n (omega arith) l (short n l); spelled = refl };
   same = sym (decimal_is_IsNumeral_wide n (short n l)).1;
-}
-
--- ---- blanks
-
--- no blank before the piece
-pub behind_none : {A : Type 0} (R : Piece A) (i : ℕ) (a : A) (text : List ℕ) → R (i + 0) a text → behind_blanks R i a text
-behind_none R i a text m = record {
-  made_of = ([], a);
-  is = record { before = []; behind = text; first = record { within = refl; spelled = refl }; second = m; spelled = refl };
-  same = refl;
-}
-
--- one space
-pub gap_is : (i : ℕ) → gap i (tt {0}) (32 ∷ [])
-gap_is i = record {
-  made_of = (32, []);
-  is = record {
-    before = 32 ∷ [];
-    behind = [];
-    first = record { within = refl; spelled = refl };
-    second = record { within = refl; spelled = refl };
-    spelled = refl;
-  };
-  same = refl;
 }

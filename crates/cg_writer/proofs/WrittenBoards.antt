@@ -3,6 +3,7 @@ use Rattle.std.proofs.Common.{◌≡◌, refl, sym, subst, ℕ, ◌+◌, ◌^◌
 use Rattle.std.specs.Prelude.{codes, decimal}
 use Rattle.cg_reading.specs.Pieces.{Piece, Then}
 use Rattle.cg_reading.specs.Tokens.{blanks, digits}
+use Rattle.cg_reading.proofs.Spelled.{byte_then, made_is, no_bytes_then, then_is}
 use Rattle.cg_reading.proofs.Texts.{digits_are}
 use Rattle.cg_grammar.specs.Grammar as grammar
 use Rattle.cg_query.specs.Tree.{game, octal}
@@ -15,119 +16,39 @@ use Rattle.cg_grammar.proofs.WrittenTokens.{enclosed_is, quoted_is}
 -- what stands between parentheses, with no blank before them
 spaced_is : {A : Type 0} (R : Piece A) (i : ℕ) (a : A) (text : List ℕ) → ((j : ℕ) → R j a text)
     → Then blanks (grammar.enclosed R) i ([], a) (40 ∷ (text ++ (41 ∷ [])))
-spaced_is R i a text m = record {
-  before = [];
-  behind = 40 ∷ (text ++ (41 ∷ []));
-  first = record { within = refl; spelled = refl };
-  second = enclosed_is R (i + 0) a text m;
-  spelled = refl;
-}
+spaced_is R i a text m = no_bytes_then (40 ∷ (text ++ (41 ∷ []))) (enclosed_is R _ a text m)
 
 -- a string and a piece, with a comma between them
 string_and_is : {A : Type 0} (R : Piece A) (j : ℕ) (string : List ℕ) (a : A) (text : List ℕ) → IsPrintable string → ((k : ℕ) → R k a text)
     → grammar.string_and R j (string, a) (quoted string ++ (44 ∷ text))
-string_and_is R j string a text p m = record {
-  made_of = (string, ([], (44, ([], a))));
-  is = record {
-    before = quoted string;
-    behind = 44 ∷ text;
-    first = quoted_is j string p;
-    second = record {
-      before = [];
-      behind = 44 ∷ text;
-      first = record { within = refl; spelled = refl };
-      second = record {
-        before = 44 ∷ [];
-        behind = text;
-        first = record { within = refl; spelled = refl };
-        second = record {
-          before = [];
-          behind = text;
-          first = record { within = refl; spelled = refl };
-          second = m (j + length (quoted string) + 0 + 1 + 0);
-          spelled = refl;
-        };
-        spelled = refl;
-      };
-      spelled = refl;
-    };
-    spelled = refl;
-  };
-  same = refl;
-}
+string_and_is R j string a text p m = made_is (string, ([], (44, ([], a)))) (then_is (quoted string) (44 ∷ text) (quoted_is j string p)
+    (no_bytes_then (44 ∷ text) (byte_then 44 text refl (no_bytes_then text (m _)))))
 
 one_is : (i : ℕ) (kind : GameKind) (text : List ℕ) → ((j : ℕ) → grammar.name_of_one j kind (kind_text kind)) → IsPrintable text
     → grammar.board i (clean (one_text kind text)) (kind_text kind ++ (40 ∷ (quoted text ++ (41 ∷ []))))
-one_is i kind text m p = inl (record {
-  made_of = (kind, ([], text));
-  is = record {
-    before = kind_text kind;
-    behind = 40 ∷ (quoted text ++ (41 ∷ []));
-    first = m i;
-    second = spaced_is grammar.string (i + length (kind_text kind)) text (quoted text) (λ j. quoted_is j text p);
-    spelled = refl;
-  };
-  same = refl;
-})
+one_is i kind text m p = inl (made_is (kind, ([], text)) (then_is (kind_text kind) (40 ∷ (quoted text ++ (41 ∷ []))) (m i)
+    (spaced_is grammar.string _ text (quoted text) (λ j. quoted_is j text p))))
 
 two_is : (i : ℕ) (kind : GameKind) (first second : List ℕ) → ((j : ℕ) → grammar.name_of_two j kind (kind_text kind)) → IsPrintable first
     → IsPrintable second → grammar.board i (clean (two_texts kind first second)) (kind_text kind ++ (40 ∷ (two_quoted first second ++ (41 ∷ []))))
-two_is i kind first second m p q = inr (record {
-  made_of = (kind, ([], (first, second)));
-  is = record {
-    before = kind_text kind;
-    behind = 40 ∷ (two_quoted first second ++ (41 ∷ []));
-    first = m i;
-    second = spaced_is (grammar.string_and grammar.string) (i + length (kind_text kind)) (first, second) (two_quoted first second)
-        (λ j. string_and_is grammar.string j first second (quoted second) p (λ k. quoted_is k second q));
-    spelled = refl;
-  };
-  same = refl;
-})
-
--- one of the games that have a board alone
-without_rules : (i : ℕ) (kind : GameKind) (rules text : List ℕ) → rules ≡ []
-    → grammar.board i (clean (game kind [] text)) (kind_text kind ++ (40 ∷ (quoted text ++ (41 ∷ []))))
-    → grammar.board i (clean (game kind rules text)) (kind_text kind ++ (40 ∷ (quoted text ++ (41 ∷ []))))
-without_rules i kind rules text e m =
-    let P : List ℕ → Type 0 = λ z. grammar.board i (clean (game kind z text)) (kind_text kind ++ (40 ∷ (quoted text ++ (41 ∷ [])))) in
-    subst P (sym e) m
-
--- Hackenbush, which has its edges alone
-without_board : (i : ℕ) (rules board : List ℕ) → board ≡ []
-    → grammar.board i (clean (game Hackenbush rules [])) (codes "Hackenbush" ++ (40 ∷ (quoted rules ++ (41 ∷ []))))
-    → grammar.board i (clean (game Hackenbush rules board)) (codes "Hackenbush" ++ (40 ∷ (quoted rules ++ (41 ∷ []))))
-without_board i rules board e m =
-    let P : List ℕ → Type 0 = λ z. grammar.board i (clean (game Hackenbush rules z)) (codes "Hackenbush" ++ (40 ∷ (quoted rules ++ (41 ∷ [])))) in
-    subst P (sym e) m
+two_is i kind first second m p q = inr (made_is (kind, ([], (first, second))) (then_is (kind_text kind) (40 ∷ (two_quoted first second ++ (41 ∷ []))) (m i)
+    (spaced_is (grammar.string_and grammar.string) _ (first, second) (two_quoted first second)
+    (λ j. string_and_is grammar.string j first second (quoted second) p (λ k. quoted_is k second q)))))
 
 pub board_is : (i : ℕ) (kind : GameKind) (rules board : List ℕ) → AreTexts kind rules board
     → grammar.board i (clean (game kind rules board)) (kind_text kind ++ (40 ∷ (texts_of_game kind rules board ++ (41 ∷ []))))
-board_is i Domineering rules board a =
-    without_rules i Domineering rules board a.0 (one_is i Domineering board (λ j. inl (refl, refl)) a.1)
-board_is i Clobber rules board a =
-    without_rules i Clobber rules board a.0 (one_is i Clobber board (λ j. inr (inl (refl, refl))) a.1)
-board_is i Amazons rules board a =
-    without_rules i Amazons rules board a.0 (one_is i Amazons board (λ j. inr (inr (inl (refl, refl)))) a.1)
-board_is i Toads rules board a =
-    without_rules i Toads rules board a.0 (one_is i Toads board (λ j. inr (inr (inr (inl (refl, refl))))) a.1)
-board_is i Hackenbush rules board a =
-    without_board i rules board a.1 (one_is i Hackenbush rules (λ j. inr (inr (inr (inr (refl, refl))))) a.0)
+board_is i Domineering rules board a = rw a.0 (one_is i Domineering board (λ j. inl (refl, refl)) a.1)
+board_is i Clobber rules board a = rw a.0 (one_is i Clobber board (λ j. inr (inl (refl, refl))) a.1)
+board_is i Amazons rules board a = rw a.0 (one_is i Amazons board (λ j. inr (inr (inl (refl, refl)))) a.1)
+board_is i Toads rules board a = rw a.0 (one_is i Toads board (λ j. inr (inr (inr (inl (refl, refl))))) a.1)
+board_is i Hackenbush rules board a = rw a.1 (one_is i Hackenbush rules (λ j. inr (inr (inr (inr (refl, refl))))) a.0)
 board_is i Strip rules board a = two_is i Strip rules board (λ j. inl (refl, refl)) a.0 a.1
 board_is i Col rules board a = two_is i Col board rules (λ j. inr (inl (refl, refl))) a.1 a.0
 board_is i Snort rules board a = two_is i Snort board rules (λ j. inr (inr (refl, refl))) a.1 a.0
 
 pub octal_is : (i : ℕ) (code : List ℕ) (heap : ℕ) → IsPrintable code → heap < 10 ^ 30
     → grammar.octal_piece i (clean (octal code heap)) (codes "Octal" ++ (40 ∷ ((quoted code ++ (44 ∷ decimal heap)) ++ (41 ∷ []))))
-octal_is i code heap p l = record {
-  made_of = (tt, ([], (code, heap)));
-  is = record {
-    before = codes "Octal";
-    behind = 40 ∷ ((quoted code ++ (44 ∷ decimal heap)) ++ (41 ∷ []));
-    first = (refl, refl);
-    second = spaced_is (grammar.string_and digits) (i + length (codes "Octal")) (code, heap) (quoted code ++ (44 ∷ decimal heap))
-        (λ j. string_and_is digits j code heap (decimal heap) p (λ k. digits_are k heap l));
-    spelled = refl;
-  };
-  same = refl;
-}
+octal_is i code heap p l = made_is (tt, ([], (code, heap)))
+    (then_is (codes "Octal") (40 ∷ ((quoted code ++ (44 ∷ decimal heap)) ++ (41 ∷ []))) (refl, refl)
+    (spaced_is (grammar.string_and digits) _ (code, heap) (quoted code ++ (44 ∷ decimal heap))
+    (λ j. string_and_is digits j code heap (decimal heap) p (λ k. digits_are k heap l))))

@@ -2,97 +2,36 @@
 use Rattle.std.proofs.Common.{refl, sym, ℕ, ◌+◌, ◌≤◌, inl, inr, List, [], ◌∷◌, ◌++◌, append-nil, length, None}
 use Rattle.std.specs.Prelude.{codes}
 use Rattle.cg_grammar.specs.Grammar as grammar
-use Rattle.cg_grammar.specs.Found.{Found}
+use Rattle.cg_grammar.specs.Found.{Asked, Found}
 use Rattle.cg_grammar.specs.Lines.{Reads}
 use Rattle.cg_query.specs.declared.format.Format.TheVariants as formats
 use Rattle.cg_query.specs.Tree.{Question, Tree, check, compare, mean, outcome, proof, stops, temp, thermo, value}
 use Rattle.cg_grammar.specs.Values.{clean}
 use Rattle.cg_grammar.specs.Written.{IsAskable, IsPrintable, IsWritable, asked_text, quoted, text_of}
 use Rattle.cg_query.specs.Heights.{QuestionIs, height}
-use Rattle.cg_reading.proofs.Texts.{gap_is}
+use Rattle.cg_reading.proofs.Spelled.{before_none, byte_then, gap_is, made_is, no_bytes_then, then_is}
 use Rattle.cg_reading.specs.Pieces.{Piece}
 use Rattle.cg_grammar.proofs.WrittenTokens.{quoted_is}
 use Rattle.cg_writer.proofs.WrittenTrees.{text_reads}
 
 pub line_is : (q : Question) (text : List ℕ)
     → ((i : ℕ) → grammar.query (grammar.expr (grammar.special formats.One 64)) i (record { question = q; fault = None }) text) → Reads text q
-line_is q text m = record {
-  made_of = record { question = q; fault = None };
-  is = record {
-    made_of = ([], record { question = q; fault = None });
-    is = record {
-      before = [];
-      behind = text;
-      first = record { within = refl; spelled = refl };
-      second = record {
-        made_of = (record { question = q; fault = None }, []);
-        is = record {
-          before = text;
-          behind = [];
-          first = m (1 + 0);
-          second = record { within = refl; spelled = refl };
-          spelled = sym (append-nil text);
-        };
-        same = refl;
-      };
-      spelled = refl;
-    };
-    same = refl;
-  };
-  same = refl;
-}
+line_is q text m = made_is asked (made_is ([], asked) (no_bytes_then text (before_none _ _ asked text (m _))))
+  where
+    asked : Asked
+    asked = record { question = q; fault = None }
 
 -- a question about one tree
 pub asked : (word : List ℕ) (ask : Tree → Question) (t : Tree) → ((i : ℕ) → grammar.asking i ask word) → IsWritable t
     → height t ≤ 64 → Reads (word ++ (32 ∷ text_of t)) (ask t)
-asked word ask t a w l = line_is (ask t) (word ++ (32 ∷ text_of t)) (λ i. inl (record {
-  made_of = (ask, (tt, clean t));
-  is = record {
-    before = word;
-    behind = 32 ∷ text_of t;
-    first = a i;
-    second = record {
-      before = 32 ∷ [];
-      behind = text_of t;
-      first = gap_is (i + length word);
-      second = text_reads t w l (i + length word + 1);
-      spelled = refl;
-    };
-    spelled = refl;
-  };
-  same = refl;
-}))
+asked word ask t a w l = line_is (ask t) (word ++ (32 ∷ text_of t)) (λ i. inl (made_is (ask, (tt, clean t))
+    (then_is word (32 ∷ text_of t) (a i) (then_is (32 ∷ []) (text_of t) (gap_is _) (text_reads t w l _)))))
 
 -- two pieces, with a semicolon and no blanks between them
 semicolon_is : {A B : Type 0} (R : Piece A) (S : Piece B) (i : ℕ) (a : A) (b : B) (x y : List ℕ) → R i a x → ((j : ℕ) → S j b y)
     → grammar.with_semicolon R S i (a, b) (x ++ (59 ∷ y))
-semicolon_is R S i a b x y r s = record {
-  made_of = (a, (59, ([], b)));
-  is = record {
-    before = x;
-    behind = 59 ∷ y;
-    first = record {
-      made_of = (a, []);
-      is = record { before = x; behind = []; first = r; second = record { within = refl; spelled = refl }; spelled = sym (append-nil x) };
-      same = refl;
-    };
-    second = record {
-      before = 59 ∷ [];
-      behind = y;
-      first = record { within = refl; spelled = refl };
-      second = record {
-        before = [];
-        behind = y;
-        first = record { within = refl; spelled = refl };
-        second = s (i + length x + 1 + 0);
-        spelled = refl;
-      };
-      spelled = refl;
-    };
-    spelled = refl;
-  };
-  same = refl;
-}
+semicolon_is R S i a b x y r s = made_is (a, (59, ([], b)))
+    (then_is x (59 ∷ y) (before_none R i a x r) (byte_then 59 y refl (no_bytes_then y (s _))))
 
 abbrev Asked_expr : Piece Found
 Asked_expr = grammar.expr (grammar.special formats.One 64)
@@ -104,44 +43,16 @@ both_read s t w l i = semicolon_is Asked_expr Asked_expr i (clean s) (clean t) (
 -- a question about two trees
 pub both_asked : (word : List ℕ) (ask : Tree → Tree → Question) (s t : Tree) → ((i : ℕ) → grammar.asking_both i ask word)
     → IsWritable s × IsWritable t → (height s ≤ 64) × (height t ≤ 64) → Reads (word ++ (32 ∷ (text_of s ++ (59 ∷ text_of t)))) (ask s t)
-both_asked word ask s t a w l = line_is (ask s t) (word ++ (32 ∷ (text_of s ++ (59 ∷ text_of t)))) (λ i. inr (inl (record {
-  made_of = (ask, (tt, (clean s, clean t)));
-  is = record {
-    before = word;
-    behind = 32 ∷ (text_of s ++ (59 ∷ text_of t));
-    first = a i;
-    second = record {
-      before = 32 ∷ [];
-      behind = text_of s ++ (59 ∷ text_of t);
-      first = gap_is (i + length word);
-      second = both_read s t w l (i + length word + 1);
-      spelled = refl;
-    };
-    spelled = refl;
-  };
-  same = refl;
-})))
+both_asked word ask s t a w l = line_is (ask s t) (word ++ (32 ∷ (text_of s ++ (59 ∷ text_of t)))) (λ i. inr (inl (made_is (ask, (tt, (clean s, clean t)))
+    (then_is word (32 ∷ (text_of s ++ (59 ∷ text_of t))) (a i) (then_is (32 ∷ []) (text_of s ++ (59 ∷ text_of t)) (gap_is _) (both_read s t w l _))))))
 
 check_asked : (s t : Tree) (text : List ℕ) → IsWritable s × IsWritable t → IsPrintable text → (height s ≤ 64) × (height t ≤ 64)
     → Reads (asked_text (check s t text)) (check s t text)
-check_asked s t text w p l = line_is (check s t text) (asked_text (check s t text)) (λ i. inr (inr (record {
-  made_of = (tt, (tt, ((clean s, clean t), text)));
-  is = record {
-    before = codes "check";
-    behind = 32 ∷ ((text_of s ++ (59 ∷ text_of t)) ++ (59 ∷ quoted text));
-    first = (refl, refl);
-    second = record {
-      before = 32 ∷ [];
-      behind = (text_of s ++ (59 ∷ text_of t)) ++ (59 ∷ quoted text);
-      first = gap_is (i + length (codes "check"));
-      second = semicolon_is (grammar.with_semicolon Asked_expr Asked_expr) grammar.string (i + length (codes "check") + 1) (clean s, clean t) text
-          (text_of s ++ (59 ∷ text_of t)) (quoted text) (both_read s t w l (i + length (codes "check") + 1)) (λ j. quoted_is j text p);
-      spelled = refl;
-    };
-    spelled = refl;
-  };
-  same = refl;
-})))
+check_asked s t text w p l = line_is (check s t text) (asked_text (check s t text)) (λ i. inr (inr (made_is (tt, (tt, ((clean s, clean t), text)))
+    (then_is (codes "check") (32 ∷ ((text_of s ++ (59 ∷ text_of t)) ++ (59 ∷ quoted text))) (refl, refl)
+    (then_is (32 ∷ []) ((text_of s ++ (59 ∷ text_of t)) ++ (59 ∷ quoted text)) (gap_is _)
+    (semicolon_is (grammar.with_semicolon Asked_expr Asked_expr) grammar.string _ (clean s, clean t) text
+    (text_of s ++ (59 ∷ text_of t)) (quoted text) (both_read s t w l _) (λ j. quoted_is j text p)))))))
 
 -- what is written of a question reads as it
 pub question_reads : (q : Question) → IsAskable q → QuestionIs (λ t. height t ≤ 64) q → Reads (asked_text q) q
