@@ -93,14 +93,6 @@ index_put m size cell key slot keys slots I E is_key here inside long =
     (indexed m size cell key slot keys (slice_index slots) I E is_key (suc cell) cell keys (slice_index (set slots slot (cell + 1))) inside here (λ i far. refl)
     (get_or-set_same slots slot (cell + 1) 0 (omega arith)) (λ s far. get_or-set_other slots slot s (cell + 1) 0 far) (omega arith) (omega arith) (λ i lt far. omega arith) (omega arith))
 
--- a cell without a key needs no slot
-pub index_skip : {X : Type 0} (m : Meaning X) (size cell : ℕ) (keys slots : ℕ → ℕ) → IsIndex m size keys slots cell → keys cell ≡ 0 → IsIndex m size keys slots (suc cell)
-index_skip m size cell keys slots I empty = record {
-  inside = λ s. let a = I.inside s in omega arith;
-  reached = λ i lt has. I.reached i (dite (ℕ_discrete i cell) (λ is. absurd (has (ap keys is ∙ empty))) (λ far. omega arith)) has;
-  few = let a = I.few in omega arith;
-}
-
 -- empty slots, and no cell
 pub index_none : {X : Type 0} (m : Meaning X) (size : ℕ) (keys : ℕ → ℕ) → (length (replicate {A = ℕ} size 0) ≡ size) × IsIndex m size keys (slice_index (replicate size 0)) 0
 index_none m size keys = (

@@ -74,9 +74,6 @@ module _ {X : Type 0} (m : Meaning X) (L : IsLawful m) (w : Words) (P : IsStore 
   pub plain_real : (i : ℕ) → IsReal m (map.get (things_of m w.keys) i)
   plain_real i t e = (keys, i, known_stands m L w i t e)
 
-  pub plain_spent : IsStore m (record w { spare = w.spare - 1 })
-  plain_spent = record { same_length = P.same_length; size = P.size; sound = P.sound; enough = let e = P.enough in omega arith }
-
   module _ (key : ℕ) (t : X) (is_key : key ≢ 0) (spells : m.spells key (map.get (things_of m w.keys)) ≡ Some t) where
     pub plain_found : (c : ℕ) → slice_index w.keys c ≡ key → map.get (things_of m w.keys) c ≡ Some t
     plain_found c is = stands_known m L w c t (spells_stands m L keys (map.get (things_of m w.keys)) (known_stands m L w) c t (λ e. is_key (sym is ∙ e)) (subst (λ k. m.spells k (map.get (things_of m w.keys)) ≡ Some t) (sym is) spells))

@@ -1,5 +1,5 @@
 -- The structural order of two lists, or of two games, by their first options that differ.
-use Rattle.std.proofs.Common.{◌≡◌, ◌≢◌, Bool, true, false, IsTrue, ℕ, ◌+◌, ◌<◌, ◌≤◌, Option, Some, List, [], ◌∷◌, length, arith, ap, sym, refl, ◌∙◌, subst}
+use Rattle.std.proofs.Common.{◌≡◌, ◌≢◌, Bool, true, false, IsTrue, ℕ, ◌+◌, ◌<◌, ◌≤◌, Option, Some, List, [], ◌∷◌, arith, ap, sym, refl, ◌∙◌, subst}
 use Rattle.std.specs.declared.cmp.Ordering.{Ordering}
 use Rattle.std.specs.declared.cmp.Ordering.TheVariants.{Less, Equal, Greater}
 use Rattle.cg_form.specs.Game.{Game, node}
@@ -13,7 +13,7 @@ use Rattle.cg_nodes.specs.Partings.{IsParting}
 use Rattle.cg_nodes.specs.declared.reading.Split.{Split}
 use Rattle.cg_nodes.specs.declared.structure.Parting.{Parting}
 use Rattle.cg_nodes.specs.declared.structure.Parting.TheVariants.{Nowhere, Before, After, At}
-use Rattle.cg_nodes.proofs.Later.{game_later, is_game_later, is_list_later, listed_later, nothing_spent, spends_then}
+use Rattle.cg_nodes.proofs.Later.{game_later, is_game_later, is_list_later, listed_later, spends_then}
 
 -- ---- two lists
 
@@ -24,9 +24,6 @@ pub record Passed {R : Type 0} (s t : State Meant R) (l r o p : Option ℕ) : Ty
   pub right : IsList t p
   pub order : order_of_lists (listed s l) (listed s r) ≡ order_of_lists (listed t o) (listed t p)
   pub depth : deepest (listed t o) ≤ deepest (listed s l)
-
-pub passed_none : {R : Type 0} (s : State Meant R) (l r : Option ℕ) → IsList s l → IsList s r → Passed s s l r l r
-passed_none s l r a b = record { spends = nothing_spent s; left = a; right = b; order = refl; depth = omega arith }
 
 -- the order of different games goes before all that follows
 apart_first : (g h : Game) (o : Ordering) → g ≢ h → and_then (game_cmp g h) o ≡ game_cmp g h
@@ -57,9 +54,6 @@ module _ {R : Type 0} (s t u v : State Meant R) (l r o p : Option ℕ) (a b : Sp
       before.order ∙ ap (λ z. order_of_lists z (listed t p)) lists_a
       ∙ ap (λ z. order_of_lists (game_at v a.first ∷ listed v a.rest) z) lists_b
 
-  pub heads_game : IsGame v a.first × IsGame v b.first
-  heads_game = (game_a, head_b.0)
-
   -- the first options are one game
   pub passed_more : a.first ≡ b.first → Passed s v l r a.rest b.rest
   passed_more same =
@@ -76,9 +70,6 @@ module _ {R : Type 0} (s t u v : State Meant R) (l r o p : Option ℕ) (a b : Sp
         depth = omega arith;
       }
 
-  pub passed_shorter : length (listed v a.rest) < length (listed t o)
-  passed_shorter = let m = ap length lists_a in omega arith
-
   -- they are two
   pub passed_apart : ¬ (thing_at v a.first ≡ thing_at v b.first)
       → IsParting v (At a.first b.first) (order_of_lists (listed s l) (listed s r)) (deepest (listed s l) + 1)
@@ -94,31 +85,6 @@ module _ {R : Type 0} (s t u v : State Meant R) (l r o p : Option ℕ) (a b : Sp
             b.rest)) apart,
         omega arith,
       )
-
--- the second list ends first
-pub passed_longer : {R : Type 0} (s t u : State Meant R) (l r o p : Option ℕ) (a : Split) → Passed s t l r o p
-    → Spends 0 t u → IsHead u (Some a) (listed t o) → listed u p ≡ []
-    → order_of_lists (listed s l) (listed s r) ≡ Greater
-passed_longer s t u l r o p a before tu head_a none =
-    before.order ∙ ap (λ z. order_of_lists z (listed t p)) head_a.2
-    ∙ ap (λ z. order_of_lists (game_at u a.first ∷ listed u a.rest) z) (sym (listed_later t u tu.known p
-    before.right) ∙ none)
-
--- the first list ends first
-pub passed_prefix : {R : Type 0} (s t u v : State Meant R) (l r o p : Option ℕ) (b : Split) → Passed s t l r o p
-    → Spends 0 t u → listed t o ≡ [] → IsHead v (Some b) (listed u p)
-    → order_of_lists (listed s l) (listed s r) ≡ Less
-passed_prefix s t u v l r o p b before tu none head_b =
-    before.order ∙ ap (λ z. order_of_lists z (listed t p)) none
-    ∙ ap (λ z. order_of_lists [] z) (sym (listed_later t u tu.known p before.right) ∙ head_b.2)
-
--- both end
-pub passed_both : {R : Type 0} (s t u : State Meant R) (l r o p : Option ℕ) → Passed s t l r o p → Spends 0 t u
-    → listed t o ≡ [] → listed u p ≡ []
-    → order_of_lists (listed s l) (listed s r) ≡ Equal
-passed_both s t u l r o p before tu none end =
-    before.order ∙ ap (λ z. order_of_lists z (listed t p)) none
-    ∙ ap (λ z. order_of_lists [] z) (sym (listed_later t u tu.known p before.right) ∙ end)
 
 -- ---- two games that aren't numbers
 
@@ -188,14 +154,6 @@ pub record Follows {R : Type 0} (s t : State Meant R) (a b x y : ℕ) : Type 0 w
   pub left : IsGame t x
   pub right : IsGame t y
   pub order : game_cmp (game_at s a) (game_at s b) ≡ game_cmp (game_at t x) (game_at t y)
-
-pub follows_none : {R : Type 0} (s : State Meant R) (a b : ℕ) → IsGame s a → IsGame s b → Follows s s a b a b
-follows_none s a b g h = record { spends = nothing_spent s; left = g; right = h; order = refl }
-
-pub follows_more : {R : Type 0} (s t u : State Meant R) (a b x y z w : ℕ) → Follows s t a b x y → Spends 0 t u
-    → IsParting u (At z w) (game_cmp (game_at t x) (game_at t y)) (depth_of (game_at t x)) → Follows s u a b z w
-follows_more s t u a b x y z w f k p =
-    record { spends = spends_then 0 0 s t u f.spends k; left = p.0; right = p.1; order = f.order ∙ p.3 }
 
 -- handles of different things have different games, and so aren't Equal in the order
 pub apart_order : {R : Type 0} (s : State Meant R) (a b : ℕ) → IsGame s a → IsGame s b

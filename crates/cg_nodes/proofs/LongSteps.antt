@@ -1,20 +1,18 @@
 -- Numbers put into cells and read from them.
-use Rattle.std.proofs.Common.{◌≡◌, ℕ, ◌+◌, ◌-◌, ◌*◌, ◌/◌, ◌%◌, ◌^◌, ◌<◌, ◌≤◌, ◌⊎◌, inl, inr, Bool, true, false, IsTrue, not, ℤ, pos, negsuc, ◌+ℤ◌, unsigned_abs, List, [], ◌∷◌, Option, Some, None, IsSome, arith, rules, ap, sym, refl, ◌∙◌, subst}
+use Rattle.std.proofs.Common.{◌≡◌, ℕ, ◌+◌, ◌-◌, ◌*◌, ◌/◌, ◌%◌, ◌^◌, ◌<◌, ◌≤◌, ◌⊎◌, inl, inr, Bool, true, false, IsTrue, not, ℤ, pos, negsuc, ◌+ℤ◌, unsigned_abs, List, [], ◌∷◌, Option, Some, arith, rules, ap, sym, refl, ◌∙◌, subst}
 use Rattle.std.proofs.lemmas.Int.{ints}
 use Rattle.std.specs.Prelude.{if◌then◌else◌}
 use Rattle.cg_dyadic.specs.Number.{InRange, Number, between, exp_of, is_long, is_narrow, num_of, ratio, whole}
 use Rattle.cg_dyadic.proofs.Fractions.{fraction-own, fraction-ratio, fraction-unique}
-use Rattle.cg_form.specs.Game.{Game, number}
+use Rattle.cg_form.specs.Game.{number}
 use Rattle.cg_cells.specs.declared.key.KeyParts.TheVariants as key
 use Rattle.cg_cells.specs.Layout.{FieldsFit}
 use Rattle.cg_cells.proofs.Layouts.{both, both_back, lowest_true, lt_back, lt_true}
-use Rattle.cg_cells.specs.Parts.{parts_of}
-use Rattle.cg_nodes.specs.Games.{contents_from}
 use Rattle.cg_nodes.specs.Inverse.{long_back}
 use Rattle.cg_nodes.specs.LongKeys.{IsLongFraction, chunks_back, long_written, sign_back}
 use Rattle.cg_nodes.specs.Longs.{bits_of, cells_of, chunks_of, is_long_fraction, is_long_written, is_negative, num_in}
-use Rattle.cg_nodes.specs.Meant.{Meant, contents, form}
-use Rattle.cg_nodes.specs.Spelled.{Map, contents_in, form_if, long_of, spelled}
+use Rattle.cg_nodes.specs.Meant.{Meant, form}
+use Rattle.cg_nodes.specs.Spelled.{long_of}
 
 odd_abs : (n : ℤ) → unsigned_abs (n +ℤ n +ℤ pos 1) % 2 ≡ 1
 odd_abs (pos n) = omega (arith, ints)
@@ -73,15 +71,6 @@ module _ (x : Number) (r : InRange x) (long : is_long x ≡ true) where
   long_again b e o s t c = rw (s, t, c, written_true) (ap (λ z. Some (form (number z)))
       (ap (λ n. ratio n (exp_of x)) num_of_chunks ∙ ratio_own x))
 
--- the key of its sign, its exponent and its chunks spells a long number
-pub spells-long : (k i e bits : ℕ) (n : ℤ) (b : Bool) (x : Number) (f : Map) → InRange x → is_long x ≡ true
-    → parts_of k ≡ Some (key.Long i e b) → n ≡ num_of x → b ≡ is_negative n → e ≡ exp_of x → bits ≡ bits_of n
-    → f i ≡ Some (contents (bits % 2 ^ 32 ∷ bits / 2 ^ 32 ∷ [])) → spelled (parts_of k) f ≡ Some (form (number x))
-spells-long k i e bits n b x f r long p same sign exp written c =
-    let w : bits ≡ bits_of (num_of x) = written ∙ ap bits_of same in
-    let d : f i ≡ Some (contents (chunks_of (num_of x))) = c ∙ ap (λ m. Some (contents (m % 2 ^ 32 ∷ m / 2 ^ 32 ∷ []))) w in
-    rw p (long_again x r long b e (contents_in (f i)) (sign ∙ ap is_negative same) exp (ap contents_in d))
-
 -- ---- the number of two chunks
 
 -- its numerator and exponent are in lowest terms and in range
@@ -90,32 +79,6 @@ chunks_lowest b e low high n p written =
     let P : ℤ → Type 0 = λ z. IsLongFraction z e in subst P (sym p) (long_written b e low high written).fraction
 
 -- ---- what two chunks tell that were read
-
--- the contents of two chunks
-pub record AreTwo (b : Bool) (e : ℕ) (o : Option (List ℕ)) (low high : ℕ) : Type 0 where
-  pub written : is_long_written b e low high ≡ true
-  pub number_is : long_of b e o ≡ Some (form (number (ratio (num_in b (low + 2 ^ 32 * high)) e)))
-
-form_true : (g : Game) (c : Bool) → IsSome (form_if g c) → c ≡ true
-form_true g true h = refl
-form_true g false h = absurd (search (rules, h))
-
-if_true : (b : Bool) (e low high : ℕ) → IsSome (long_of b e (Some (low ∷ high ∷ []))) → AreTwo b e (Some (low ∷ high ∷ [])) low high
-if_true b e low high h =
-    let t = form_true (number (ratio (num_in b (low + 2 ^ 32 * high)) e)) (is_long_written b e low high) h in
-    record { written = t; number_is = rw t refl }
-
-pub two_chunks : (b : Bool) (e : ℕ) (low high : ℕ) (o p q : Option (List ℕ)) → o ≡ contents_from low p → p ≡ contents_from high q
-    → IsSome (long_of b e o) → AreTwo b e o low high
-two_chunks b e low high o p q i j h = cases q (i ∙ ap (contents_from low) j)
-  where
-    cases : (q : Option (List ℕ)) → o ≡ contents_from low (contents_from high q) → AreTwo b e o low high
-    cases None k = let P : Option (List ℕ) → Type 0 = λ z. IsSome (long_of b e z) in absurd (search (rules, subst P k h))
-    cases (Some []) k =
-        let P : Option (List ℕ) → Type 0 = λ z. IsSome (long_of b e z) in
-        let Q : Option (List ℕ) → Type 0 = λ z. AreTwo b e z low high in
-        subst Q (sym k) (if_true b e low high (subst P k h))
-    cases (Some (c ∷ cs)) k = let P : Option (List ℕ) → Type 0 = λ z. IsSome (long_of b e z) in absurd (search (rules, subst P k h))
 
 -- ---- what the parts of a key spell that spell a long number
 

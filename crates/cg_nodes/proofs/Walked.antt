@@ -13,10 +13,10 @@ use Rattle.cg_nodes.specs.Games.{AreDistinct, AreGames, IsGame, IsHead, IsList, 
 use Rattle.cg_form.specs.Positions.{all_positions, positions_in, positions_of}
 use Rattle.cg_nodes.specs.Walks.{AreFound, AreFoundAfter}
 use Rattle.cg_nodes.specs.declared.reading.Split.{Split}
-use Rattle.cg_form.proofs.AllPositions.{closed_more, closed_none, closed_there, extended-last, positions-last, positions_before-depth, positions_of-extended}
+use Rattle.cg_form.proofs.AllPositions.{closed_more, closed_there, extended-last, positions-last, positions_before-depth, positions_of-extended}
 use Rattle.cg_form.proofs.Firsts.{extended-among, extended-append, extended-has, extended-length}
 use Rattle.cg_form.proofs.Structure.{games}
-use Rattle.cg_nodes.proofs.Later.{are_games_later, game_later, games_later, is_game_later, is_list_later, listed_later, nothing_spent, spends_then}
+use Rattle.cg_nodes.proofs.Later.{are_games_later, game_later, games_later, is_game_later, is_list_later, listed_later, spends_then}
 use Rattle.cg_nodes.proofs.Lists.{are_games-append, games_at-append}
 use Rattle.cg_nodes.proofs.Members.{among_has, has_among, length_games}
 
@@ -38,9 +38,6 @@ distinct_more (k ∷ hs) h d out = (
   ],
   distinct_more hs h d.1 (λ m. out (inr m)),
 )
-
-pub found_none : {R : Type 0} (s : State Meant R) → AreFound s []
-found_none s = record { games = tt; distinct = tt; closed = closed_none }
 
 pub found_later : {R Q : Type 0} (s : State Meant R) (t : State Meant Q) (hs : List ℕ)
     → Grows (thing_at s) (thing_at t) → AreFound s hs → AreFound t hs
@@ -174,12 +171,6 @@ pub record Walking {R : Type 0} (s t : State Meant R) (list others : Option ℕ)
   pub rest : extended (games_at t hs) (positions_in (of_list (listed t others))) ≡ extended (games_at s before)
       (positions_in (of_list (listed s list)))
   pub depth : deepest (listed t others) ≤ deepest (listed s list)
-
-pub walking_none : {R : Type 0} (s : State Meant R) (list : Option ℕ) (before : List ℕ) (limit : ℕ) → IsList s list
-    → AreFound s before → length before ≤ limit
-    → Walking s s list list before before limit
-walking_none s list before limit l f w =
-    record { spends = nothing_spent s; left = l; found = f; within = w; rest = refl; depth = omega arith }
 
 module _ {R : Type 0} (s t u : State Meant R) (list left : Option ℕ) (before found : List ℕ) (limit : ℕ) (top :
     Split) (so_far : Walking s t list left before found limit)

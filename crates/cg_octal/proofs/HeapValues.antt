@@ -1,5 +1,5 @@
 -- The values of heaps, one after another.
-use Rattle.std.proofs.Common.{◌≡◌, refl, ap, sym, ◌∙◌, subst, ℕ, zero, suc, ◌+◌, ◌≤◌, ◌⊎◌, inl, inr, arith, List, [], ◌∷◌, ◌++◌, length, length-append, Some, slice_get}
+use Rattle.std.proofs.Common.{◌≡◌, refl, ap, sym, ◌∙◌, subst, ℕ, zero, suc, ◌+◌, ◌≤◌, ◌⊎◌, inl, inr, arith, List, [], ◌∷◌, ◌++◌, length}
 use Rattle.cg_dyadic.proofs.Integers.{le_or_gt}
 use Rattle.cg_form.specs.Game.{Game, node}
 use Rattle.cg_form.specs.Order.{Equal}
@@ -40,44 +40,7 @@ next_value-within bound games start found list s t a k least = elim (le_or_gt k 
 
 -- ---- the list of values
 
-place_more : (ks : List ℕ) (v n k : ℕ) → slice_get (ks ++ (v ∷ [])) n ≡ Some k
-    → (slice_get ks n ≡ Some k) ⊎ ((n ≡ length ks) × (k ≡ v))
-place_more [] v zero k e = inr (refl, cc)
-place_more [] v (suc n) k e = absurd (cc)
-place_more (j ∷ ks) v zero k e = inl e
-place_more (j ∷ ks) v (suc n) k e = elim (place_more ks v n k e) [ inl f ↦ inl f | inr (p, q) ↦ inr (omega arith, q) ]
-
 -- the values of the heaps of fewer than n tokens
 pub record Made (digits ks : List ℕ) (n : ℕ) : Type 0 where
   pub values : AreValues digits ks
   pub count : length ks ≡ n
-
-pub made_none : (digits ks : List ℕ) → ks ≡ [] → Made digits ks 0
-made_none digits ks e =
-    let M : List ℕ → Type 0 = λ z. Made digits z 0 in
-    subst M (sym e) (record {
-      values = record { equal = λ n k p. absurd (cc); at_most = λ n k p. absurd (cc) };
-      count = refl;
-    })
-
-values_more : (digits ks : List ℕ) (v : ℕ) → AreValues digits ks → Equal (heap digits (length ks)) (nimber_form v)
-    → v ≤ length ks → AreValues digits (ks ++ (v ∷ []))
-values_more digits ks v a e l = record {
-  equal = λ i k q. elim (place_more ks v i k q) [
-    | inl r ↦ a.equal i k r
-    | inr (r, t) ↦
-        let P : ℕ → Type 0 = λ z. Equal (heap digits z) (nimber_form k) in
-        let Q : ℕ → Type 0 = λ z. Equal (heap digits (length ks)) (nimber_form z) in
-        subst P (sym r) (subst Q (sym t) e)
-  ];
-  at_most = λ i k q. elim (place_more ks v i k q) [ inl r ↦ a.at_most i k r | inr (r, t) ↦ omega arith ];
-}
-
-pub made_more : (digits ks more : List ℕ) (v n : ℕ) → Made digits ks n
-    → Equal (heap digits (length ks)) (nimber_form v) → v ≤ length ks → more ≡ ks ++ (v ∷ []) → Made digits more (n + 1)
-made_more digits ks more v n a e l p =
-    let M : List ℕ → Type 0 = λ z. Made digits z (n + 1) in
-    subst M (sym p) (record {
-      values = values_more digits ks v a.values e l;
-      count = length-append ks (v ∷ []) ∙ ap (λ z. z + 1) a.count;
-    })

@@ -1,5 +1,5 @@
 -- The bytes that begin a code are those that may stand where they stand.
-use Rattle.std.proofs.Common.{◌≡◌, refl, ap, sym, ◌∙◌, subst, ℕ, suc, ◌+◌, ◌-◌, ◌<◌, ◌≤◌, arith, inl, inr, ◌⊎◌, IsTrue, true, false, List, [], ◌∷◌, ◌++◌, map, length, length-append, drop, take, append-nil, append_assoc}
+use Rattle.std.proofs.Common.{◌≡◌, refl, ap, sym, ◌∙◌, subst, ℕ, suc, ◌+◌, ◌-◌, ◌<◌, ◌≤◌, arith, inl, inr, ◌⊎◌, IsTrue, true, false, List, [], ◌∷◌, ◌++◌, map, length, length-append, drop, take, append-nil}
 use Rattle.std.proofs.Math.Seq.{take-length}
 use Rattle.std.proofs.lemmas.Bool.Decides.{nat_tests}
 use Rattle.cg_dyadic.proofs.Truth.{true_or_false}
@@ -194,14 +194,6 @@ read_no_code text place short e =
       longest = λ x y p b. let l = longest 0 text x y p (begun_fits x b) in omega arith;
       place_is = omega arith;
     }
-
-pub digits-more : (found more all : List ℕ) (b : ℕ) (bs text : List ℕ) → text ≡ b ∷ bs → more ≡ found ++ ((b - 48) ∷ [])
-    → all ≡ more ++ glyphs bs → all ≡ found ++ glyphs text
-digits-more found more all b bs text e p q =
-    q ∙ ap (λ z. z ++ glyphs bs) p ∙ append_assoc found ((b - 48) ∷ []) (glyphs bs) ∙ ap (λ z. found ++ glyphs z) (sym e)
-
-pub digits-none : (found text : List ℕ) → text ≡ [] → found ≡ found ++ glyphs text
-digits-none found text e = sym (append-nil found) ∙ ap (λ z. found ++ glyphs z) (sym e)
 
 -- ---- the steps of the count
 
