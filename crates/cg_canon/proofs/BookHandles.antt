@@ -1,6 +1,6 @@
 -- The handles of the pages of a book.
 use lib.Dec.{eqb}
-use Rattle.std.proofs.Common.{◌≡◌, refl, ℕ, suc, ◌<◌, ◌≤◌, ◌^◌, arith, ap, sym, ◌∙◌, subst, inl, inr, Option, Some, None, List, [], ◌∷◌, ◌++◌, length, get_or, Bool, true, false}
+use Rattle.std.proofs.Common.{◌≡◌, refl, ℕ, suc, ◌<◌, ◌≤◌, ◌^◌, arith, ap, sym, ◌∙◌, inl, inr, Option, Some, None, List, [], ◌∷◌, ◌++◌, length, get_or, Bool, true, false}
 use Rattle.std.proofs.lemmas.Bool.Decides.{eqb_tells, leb_tells}
 use Rattle.std.proofs.lemmas.List.Folds.{list_any-append}
 use Rattle.std.proofs.lemmas.Map.Keys.{IsDistinct-push, apart_from_distinct}
@@ -24,7 +24,7 @@ handles_none = record { distinct = tt; below = λ h k. absurd (cc) }
 pub apart_none : (hs links : List ℕ) (is_whole : Bool) → hs ≡ [] → links ≡ [] → AreApart hs links is_whole
 unfolding AreApart
 apart_none hs links is_whole e l =
-    let P : List ℕ → Type 0 = λ z. AreHandles z in record { handles = subst P (sym e) handles_none; linked = λ w. l ∙ sym e }
+    record { handles = rw e handles_none; linked = λ w. l ∙ sym e }
 
 handles_more : (hs : List ℕ) (h : ℕ) → AreHandles hs → IsNew hs h → AreHandles (hs ++ (h ∷ []))
 handles_more hs h a new = record {
@@ -41,9 +41,8 @@ pub apart_more : (b c : Book) (handle : ℕ) → AreApart b.handles.items b.link
     → (c.is_whole ≡ true → (b.is_whole ≡ true) × (c.links ≡ b.links ++ (handle ∷ []))) → AreApart c.handles.items c.links c.is_whole
 unfolding AreApart
 apart_more b c handle a new e linked =
-    let P : List ℕ → Type 0 = λ z. AreHandles z in
     record {
-      handles = subst P (sym e) (handles_more b.handles.items handle a.handles new);
+      handles = rw e (handles_more b.handles.items handle a.handles new);
       linked = λ w. let (old, l) = linked w in l ∙ ap (λ z. z ++ (handle ∷ [])) (a.linked old) ∙ sym e;
     }
 

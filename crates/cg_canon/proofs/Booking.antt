@@ -1,5 +1,5 @@
 -- What a book keeps, as its store and its pages grow.
-use Rattle.std.proofs.Common.{◌≡◌, refl, ℕ, suc, ◌+◌, ◌<◌, ◌≤◌, arith, ap, sym, ◌∙◌, subst, ◌⊎◌, inl, inr, List, [], ◌∷◌, ◌++◌, length, length-append, take, get_or, true, Some}
+use Rattle.std.proofs.Common.{◌≡◌, ℕ, ◌+◌, ◌<◌, ◌≤◌, arith, ap, sym, ◌∙◌, subst, ◌⊎◌, inl, inr, List, [], ◌∷◌, ◌++◌, length, length-append, get_or, true, Some}
 use Rattle.std.proofs.lemmas.Bool.Decides.{eqb_tells}
 use Rattle.std.proofs.lemmas.List.Elements.{All-contains, All-nil, All-push, All-same, All-weaker}
 use Rattle.cg_form.specs.Sum.{sum}
@@ -8,7 +8,7 @@ use Rattle.std.proofs.lemmas.List.{get_or_append_left, get_or_push, append_assoc
 use Rattle.cg_form.specs.Game.{Game, node}
 use Rattle.cg_cells.specs.Meaning.{Grows}
 use Rattle.cg_cells.specs.Store.{State, thing_at}
-use Rattle.cg_nodes.specs.Games.{AreGames, IsGame, StandsFor, game_at, games_at}
+use Rattle.cg_nodes.specs.Games.{IsGame, StandsFor, game_at}
 use Rattle.cg_nodes.specs.Meant.{Meant, form}
 use Rattle.cg_nodes.proofs.Later.{game_later, is_game_later}
 use Rattle.cg_book.specs.declared.recent.Answer.{Answer}
@@ -16,7 +16,6 @@ use Rattle.cg_book.specs.declared.recent.Recent.{Recent}
 use Rattle.cg_book.specs.Pages.{ArePages, IsPage, StandFor, game_of, games_of}
 use Rattle.cg_book.specs.Recents.{AreRight, IsKept}
 use Rattle.cg_book.proofs.Paging.{game_before, games_before, page_before, pages_before}
-use Rattle.cg_book.proofs.Slices.{games_take_suc}
 use Rattle.cg_canon.specs.declared.book.Book.{Book}
 use Rattle.cg_canon.specs.declared.recognized.Recognized.{Recognized}
 use Rattle.cg_canon.specs.Arena.{Begins, IsAt}
@@ -42,13 +41,13 @@ begins_then fs gs hs a b = record {
 }
 
 pub page_begins : (gs hs : List Game) (p : ℕ) → Begins gs hs → IsPage gs p → IsPage hs p
-page_begins gs hs p b h = let P : List Game → Type 0 = λ z. IsPage z p in subst P (sym b.is) (page_before gs b.more p h)
+page_begins gs hs p b h = rw b.is (page_before gs b.more p h)
 
 pub game_begins : (gs hs : List Game) (p : ℕ) → Begins gs hs → IsPage gs p → game_of hs p ≡ game_of gs p
 game_begins gs hs p b h = ap (λ z. game_of z p) b.is ∙ game_before gs b.more p h
 
 pub pages_begin : (gs hs : List Game) (ps : List ℕ) → Begins gs hs → ArePages gs ps → ArePages hs ps
-pages_begin gs hs ps b h = let P : List Game → Type 0 = λ z. ArePages z ps in subst P (sym b.is) (pages_before gs b.more ps h)
+pages_begin gs hs ps b h = rw b.is (pages_before gs b.more ps h)
 
 pub games_begin : (gs hs : List Game) (ps : List ℕ) → Begins gs hs → ArePages gs ps → games_of hs ps ≡ games_of gs ps
 games_begin gs hs ps b h = ap (λ z. games_of z ps) b.is ∙ games_before gs b.more ps h
@@ -89,8 +88,7 @@ sum_begins gs hs b k h =
 sums_begin : (gs hs : List Game) (t u : KeptSums) → Begins gs hs → u ≡ t → SumsStand gs t → SumsStand hs u
 unfolding SumsStand
 sums_begin gs hs t u b e h =
-    let P : KeptSums → Type 0 = λ z. SumsStand hs z in
-    subst P (sym e) (All-weaker (SumStands gs) (SumStands hs) (sum_begins gs hs b) t.sums.items h)
+    rw e (All-weaker (SumStands gs) (SumStands hs) (sum_begins gs hs b) t.sums.items h)
 
 sums_none : (gs : List Game) (t : KeptSums) → t.sums.items ≡ [] → SumsStand gs t
 unfolding SumsStand
@@ -134,14 +132,13 @@ pub new_holds : {R : Type 0} (s : State Meant R) (b : Book) → b.pages ≡ [] �
     → b.pairs.sums.items ≡ [] → AreRecognized [] b.recognized → BookHolds s b
 new_holds s b p e empty apart none known =
     let n = ap length e in
-    let K : List Game → Type 0 = λ z. AreRecognized z b.recognized in
     record {
       count = n ∙ sym (ap length p);
       each = λ page k. absurd (omega arith);
       right = λ x k. absurd (empty x k);
       pairs = sums_none b.pages b.pairs none;
       apart = apart;
-      recognized = subst K (sym p) known;
+      recognized = rw p known;
     }
 
 -- where nothing was added
@@ -149,8 +146,6 @@ pub holds_same : {R : Type 0} (s : State Meant R) (b c : Book) → BookHolds s b
     → c.handles.items ≡ b.handles.items → c.answers ≡ b.answers → c.links ≡ b.links → c.is_whole ≡ b.is_whole
     → c.pairs ≡ b.pairs → c.recognized ≡ b.recognized → BookHolds s c
 holds_same s b c h p e r l w k known =
-    let P : List Game → Type 0 = λ z. AreRight z c.answers in
-    let A : Recent → Type 0 = λ z. AreRight b.pages z in
     let n = ap length e in
     let count = h.count in
     record {
@@ -158,12 +153,11 @@ holds_same s b c h p e r l w k known =
       each = λ page k.
           let i = h.each page (omega arith) in
           let own = ap (λ z. get_or z page 0) e in
-          let G : ℕ → Type 0 = λ z. IsGame s z in
           record {
-            game = subst G (sym own) i.game;
+            game = rw own i.game;
             same = ap (game_at s) own ∙ i.same ∙ ap (λ z. game_of z page) (sym p);
           };
-      right = subst P (sym p) (subst A (sym r) h.right);
+      right = rw p (rw r h.right);
       pairs = rw (p, k) h.pairs;
       apart = rw (e, l, w) h.apart;
       recognized = rw (p, known) h.recognized;
@@ -176,12 +170,11 @@ pub holds_more : {R : Type 0} (s : State Meant R) (b c : Book) (handle : ℕ) (k
     → IsNew b.handles.items handle → (c.is_whole ≡ true → (b.is_whole ≡ true) × (c.links ≡ b.links ++ (handle ∷ [])))
     → c.pairs ≡ b.pairs → IsGame s handle → AreRecognized c.pages c.recognized → BookHolds s c
 holds_more {R} s b c handle k h p is e r new linked pairs game known =
-    let A : Recent → Type 0 = λ z. AreRight c.pages z in
     let n = count in
     record {
       count = count;
       each = λ q less. named q (omega (arith, more));
-      right = subst A (sym r) (right_begins b.pages c.pages b.answers begins h.right);
+      right = rw r (right_begins b.pages c.pages b.answers begins h.right);
       pairs = sums_begin b.pages c.pages b.pairs c.pairs begins pairs h.pairs;
       apart = apart_more b c handle h.apart new e linked;
       recognized = known;
@@ -208,9 +201,8 @@ holds_more {R} s b c handle k h p is e r new linked pairs game known =
     named : (q : ℕ) → q < length b.handles.items + 1 → IsNamed s c q
     named q less = elim (eqb_tells q (length b.handles.items)) [
       | inl t ↦
-          let G : ℕ → Type 0 = λ z. IsGame s z in
           record {
-            game = subst G (sym (last q t.1)) game;
+            game = rw (last q t.1) game;
             same = ap (game_at s) (last q t.1) ∙ is ∙ sym (last_game q t.1);
           }
       | inr t ↦
@@ -218,9 +210,8 @@ holds_more {R} s b c handle k h p is e r new linked pairs game known =
           let below : q < length b.handles.items = omega arith in
           let i = h.each q below in
           let same = h.count in
-          let G : ℕ → Type 0 = λ z. IsGame s z in
           record {
-            game = subst G (sym (old q below)) i.game;
+            game = rw (old q below) i.game;
             same = ap (game_at s) (old q below) ∙ i.same ∙ sym (game_begins b.pages c.pages q begins (omega arith));
           }
     ]
@@ -273,40 +264,4 @@ pub named_stands : {R : Type 0} (s : State Meant R) (b : Book) (handle page : �
     → StandsFor s handle (game_of b.pages page)
 named_stands s b handle page h i =
     let n = h.each page i.within in
-    let P : ℕ → Type 0 = λ z. StandsFor s z (game_of b.pages page) in
-    subst P i.is (n.game ∙ ap (λ z. Some (form z)) n.same)
-
--- ---- the handles of pages
-
-pub record Handled {R : Type 0} (s : State Meant R) (gs : List Game) (hs ps : List ℕ) : Type 0 where
-  pub games : AreGames s hs
-  pub same : games_at s hs ≡ games_of gs ps
-
-pub handled_none : {R : Type 0} (s : State Meant R) (gs : List Game) (hs ps : List ℕ) → hs ≡ [] → Handled s gs hs (take 0 ps)
-handled_none s gs hs ps e =
-    let P : List ℕ → Type 0 = λ z. AreGames s z in
-    record { games = subst P (sym e) tt; same = ap (games_at s) e }
-
-are_games_pushed : {R : Type 0} (s : State Meant R) (hs : List ℕ) (h : ℕ) → AreGames s hs → IsGame s h → AreGames s (hs ++ (h ∷ []))
-are_games_pushed s [] h a g = (g, tt)
-are_games_pushed s (k ∷ hs) h a g = (a.0, are_games_pushed s hs h a.1 g)
-
-games_at_pushed : {R : Type 0} (s : State Meant R) (hs : List ℕ) (h : ℕ) → games_at s (hs ++ (h ∷ [])) ≡ games_at s hs ++ (game_at s h ∷ [])
-games_at_pushed s [] h = refl
-games_at_pushed s (k ∷ hs) h = ap (λ z. game_at s k ∷ z) (games_at_pushed s hs h)
-
-pub handled_next : {R : Type 0} (s : State Meant R) (b : Book) (hs more ps : List ℕ) (i handle : ℕ) → BookHolds s b
-    → Handled s b.pages hs (take i ps) → i < length ps → HasHandle b (get_or ps i 0) handle
-    → more ≡ hs ++ (handle ∷ []) → Handled s b.pages more (take (i + 1) ps)
-handled_next s b hs more ps i handle h d less has e =
-    let one : i + 1 ≡ suc i = omega arith in
-    let n = h.each (get_or ps i 0) has.within in
-    let G : ℕ → Type 0 = λ z. IsGame s z in
-    let P : List ℕ → Type 0 = λ z. AreGames s z in
-    let own : game_at s handle ≡ game_of b.pages (get_or ps i 0) = ap (game_at s) (sym has.is) ∙ n.same in
-    record {
-      games = subst P (sym e) (are_games_pushed s hs handle d.games (subst G has.is n.game));
-      same = ap (games_at s) e ∙ games_at_pushed s hs handle ∙ ap (λ z. z ++ (game_at s handle ∷ [])) d.same
-          ∙ ap (λ z. games_of b.pages (take i ps) ++ (z ∷ [])) own
-          ∙ sym (games_take_suc b.pages ps i 0 less) ∙ ap (λ z. games_of b.pages (take z ps)) (sym one);
-    }
+    rw (← i.is) (n.game ∙ ap (λ z. Some (form z)) n.same)

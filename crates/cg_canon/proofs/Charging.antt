@@ -64,8 +64,7 @@ two_lists n m s e t u ls rs o q a b x k l i j = record {
 pub first_later : {R : Type 0} (n : ℕ) (s t : State Meant R) (ls : List ℕ) (o : Option ℕ) → AreGames s ls → Spends n s t
     → ListsAs t o (games_at s ls) → ListsAs t o (games_at t ls)
 first_later n s t ls o a k i =
-    let P : List Game → Type 0 = λ z. ListsAs t o z in
-    subst P (sym (games_later s t k.known ls a)) i
+    rw (games_later s t k.known ls a) i
 
 pub same_node : (a b c d : List Game) → a ≡ c → b ≡ d → node a b ≡ node c d
 same_node a b c d e f = cc
@@ -97,24 +96,21 @@ pub is_claimed : {R : Type 0} (s e t u v : State Meant R) (ls rs : List ℕ) (o 
     → IsClaimed s v ls rs handle
 is_claimed s e t u v ls rs o q handle a b x k l m i j st =
     let two = two_lists (length ls) l.0 s e t u ls rs o q a b x k l.2 i j in
-    let P : Game → Type 0 = λ z. StandsFor v handle z in
     let first = spends_then (length ls) l.0 e t u k l.2 in
     record {
       cells = 0 + ((length ls + l.0) + 1);
       fewer = omega (arith, l.1);
       spends = spends_then 0 ((length ls + l.0) + 1) s e v x (spends_then (length ls + l.0) 1 e u v first m);
-      stands = subst P (same_node _ _ _ _ two.first two.second) st;
+      stands = rw (← (same_node _ _ _ _ two.first two.second)) st;
     }
 
 -- a form that is out of range
 pub outside_refused : (share spent extra : ℕ) (g : Game) (x : Number) → g ≡ number x → ¬ InRange x
     → IsStopped Range share spent (made g extra ∷ []) spent
 outside_refused share spent extra g x e n =
-    let P : Game → Type 0 = λ z. IsStopped Range share spent (made z extra ∷ []) spent in
-    subst P (sym e) (stopped-one Range share spent (made (number x) extra) [] n)
+    rw e (stopped-one Range share spent (made (number x) extra) [] n)
 
 -- what was found is the form that is written
 pub new_written : (gs : List Game) (form : Game) (new : NewForm) → IsNewForm gs form new → IsNewForm gs (written gs new) new
 new_written gs form new h =
-    let P : Game → Type 0 = λ z. IsProfile z new.profile in
-    record { lefts = h.lefts; rights = h.rights; is = refl; profile = subst P h.is h.profile }
+    record { lefts = h.lefts; rights = h.rights; is = refl; profile = rw (← h.is) h.profile }

@@ -1,9 +1,9 @@
 -- A table of forms, as the store and the table change.
-use Rattle.std.proofs.Common.{◌≡◌, ℕ, List, [], ◌∷◌, ◌++◌, inl, inr, sym, subst}
+use Rattle.std.proofs.Common.{◌≡◌, ℕ, List, [], ◌∷◌, ◌++◌, inl, inr}
 use Rattle.std.proofs.lemmas.List.Elements.{All-contains, All-nil, All-push, All-same, All-weaker}
 use Rattle.cg_cells.specs.Meaning.{Grows}
 use Rattle.cg_cells.specs.Store.{State, thing_at}
-use Rattle.cg_form.specs.Game.{Game, node}
+use Rattle.cg_form.specs.Game.{node}
 use Rattle.cg_nodes.specs.Can.{can}
 use Rattle.cg_nodes.specs.Games.{AreGames, StandsFor, games_at}
 use Rattle.cg_nodes.specs.Meant.{Meant}
@@ -19,12 +19,10 @@ module _ {R Q : Type 0} (s : State Meant R) (t : State Meant Q) (grows : Grows (
   pub form_made : (ls rs : List ℕ) (form : ℕ) → AreGames s ls → AreGames s rs
       → StandsFor t form (can (node (games_at s ls) (games_at s rs))) → IsFormOf t ls rs form
   form_made ls rs form gl gr st =
-      let P : List Game → Type 0 = λ z. StandsFor t form (can (node z (games_at t rs))) in
-      let Q : List Game → Type 0 = λ z. StandsFor t form (can (node (games_at s ls) z)) in
       record {
         lefts = are_games_later s t grows ls gl;
         rights = are_games_later s t grows rs gr;
-        stands = subst P (sym (games_later s t grows ls gl)) (subst Q (sym (games_later s t grows rs gr)) st);
+        stands = rw (games_later s t grows ls gl) (rw (games_later s t grows rs gr) st);
       }
 
   form_later : (m : MadeForm) → Holds s m → Holds t m
@@ -42,18 +40,12 @@ module _ {R : Type 0} (s : State Meant R) where
   -- a form that was found
   pub form_found : (m : MadeForms) (ls rs : List ℕ) (form : ℕ) → FormsHold s m → IsMade m ls rs form → IsFormOf s ls rs form
   form_found m ls rs form h k =
-      let P : List ℕ → Type 0 = λ z. IsFormOf s z rs form in
-      let Q : List ℕ → Type 0 = λ z. IsFormOf s k.made.lefts.items z form in
-      let V : ℕ → Type 0 = λ z. IsFormOf s k.made.lefts.items k.made.rights.items z in
-      subst P k.is.lefts (subst Q k.is.rights (subst V k.is.own (All-contains (Holds s) m.forms.items k.made h k.there)))
+      rw (← k.is.lefts) (rw (← k.is.rights) (rw (← k.is.own) (All-contains (Holds s) m.forms.items k.made h k.there)))
 
   -- with one form more, or the same
   pub forms_kept : (m n : MadeForms) (ls rs : List ℕ) (form : ℕ) → IsKept m.forms.items n.forms.items ls rs form
       → IsFormOf s ls rs form → FormsHold s m → FormsHold s n
   forms_kept m n ls rs form (inl same) is h = All-same (Holds s) n.forms.items m.forms.items same h
   forms_kept m n ls rs form (inr (made, own, e)) is h =
-      let P : List ℕ → Type 0 = λ z. IsFormOf s z made.rights.items made.form in
-      let Q : List ℕ → Type 0 = λ z. IsFormOf s ls z made.form in
-      let V : ℕ → Type 0 = λ z. IsFormOf s ls rs z in
       All-same (Holds s) n.forms.items (m.forms.items ++ (made ∷ [])) e (All-push (Holds s) m.forms.items made h
-      (subst P (sym own.lefts) (subst Q (sym own.rights) (subst V (sym own.own) is))))
+      (rw own.lefts (rw own.rights (rw own.own is))))

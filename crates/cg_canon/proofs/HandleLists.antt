@@ -1,17 +1,13 @@
 -- The games of a list of handles, up to one of them.
-use Rattle.std.proofs.Common.{◌≡◌, ◌∙◌, refl, ℕ, zero, ◌+◌, ◌≤◌, ◌<◌, arith, suc, ap, sym, subst, List, [], ◌∷◌, ◌++◌, take, get_or, length, map}
+use Rattle.std.proofs.Common.{◌≡◌, ◌∙◌, refl, ℕ, zero, ◌+◌, ◌≤◌, ◌<◌, arith, suc, ap, sym, subst, List, [], ◌∷◌, ◌++◌, take, get_or, length}
 use Rattle.std.proofs.Math.Seq.{take-suc}
-use Rattle.std.proofs.lemmas.List.{get_or-map, length-map, length_push, take_all}
+use Rattle.std.proofs.lemmas.List.{length_push, take_all}
 use Rattle.cg_cells.specs.Store.{State}
 use Rattle.cg_form.specs.Game.{Game}
-use Rattle.cg_form.specs.Positions.{EachOnce}
-use Rattle.cg_book.specs.Pages.{ArePages, IsPage, game_of, games_of}
+use Rattle.cg_book.specs.Pages.{game_of, games_of}
 use Rattle.cg_book.proofs.Slices as arena
-use Rattle.cg_canon.specs.declared.walk.Position.{Position}
-use Rattle.cg_canon.specs.Walk.{indexes_of}
 use Rattle.cg_nodes.proofs.Later.{stands_game, stands_is_game}
-use Rattle.cg_nodes.proofs.Members.{has_among}
-use Rattle.cg_nodes.specs.Games.{AreDistinct, AreGames, IsGame, StandFor, StandsFor, game_at, games_at}
+use Rattle.cg_nodes.specs.Games.{AreGames, IsGame, StandFor, StandsFor, game_at, games_at}
 use Rattle.cg_nodes.specs.Meant.{Meant}
 
 pub game_of_item : {R : Type 0} (s : State Meant R) (hs : List ℕ) (i d : ℕ) → AreGames s hs → i < length hs
@@ -64,26 +60,3 @@ module _ {R : Type 0} (s : State Meant R) (gs : List Game) where
       let one : i + 1 ≡ suc i = omega arith in
       let all = ap (λ z. games_of gs (take z ps)) one ∙ arena.games_take_suc gs ps i 0 less in
       subst (λ z. P z (games_of gs (take (i + 1) ps))) (sym e) (subst (P (hs ++ (h ∷ []))) (sym all) (stand_more s hs h _ _ so_far is))
-
--- the same, of the positions of a walk
-module _ (gs : List Game) (ps : List Position) (i : ℕ) (p : Position) (less : i < length ps) where
-  index_is : get_or (indexes_of ps) i 0 ≡ (get_or ps i p).index
-  index_is = get_or-map (λ (q : Position). q.index) ps i p 0 less
-
-  inside : i < length (indexes_of ps)
-  inside = let n = length-map ps (λ (q : Position). q.index) in omega arith
-
-  pub position_page : ArePages gs (indexes_of ps) → IsPage gs (get_or ps i p).index
-  position_page pages = let P : ℕ → Type 0 = λ z. IsPage gs z in subst P index_is (pages i 0 inside)
-
-  pub position_next : {R : Type 0} (s : State Meant R) (hs more : List ℕ) (h : ℕ) → StandFor s hs (games_of gs (take i (indexes_of ps)))
-      → StandsFor s h (game_of gs (get_or ps i p).index) → more ≡ hs ++ (h ∷ [])
-      → StandFor s more (games_of gs (take (i + 1) (indexes_of ps)))
-  position_next s hs more h so_far is e =
-      let P : ℕ → Type 0 = λ z. StandsFor s h (game_of gs z) in
-      stand_next s gs hs more (indexes_of ps) i h so_far inside (subst P (sym index_is) is) e
-
--- handles of different games differ
-pub distinct_handles : {R : Type 0} (s : State Meant R) (hs : List ℕ) → EachOnce (games_at s hs) → AreDistinct hs
-distinct_handles s [] o = tt
-distinct_handles s (h ∷ hs) o = (λ m. o.0 (has_among s hs h m), distinct_handles s hs o.1)

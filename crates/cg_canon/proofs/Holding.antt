@@ -20,7 +20,6 @@ use Rattle.cg_canon.specs.declared.memo.AddedSum.{AddedSum}
 use Rattle.cg_canon.specs.declared.memo.KnownSum.{KnownSum}
 use Rattle.cg_canon.specs.declared.memo.Memo.{Memo}
 use Rattle.cg_canon.specs.Added.{IsKnownSum}
-use Rattle.cg_canon.specs.declared.book.Book.{Book}
 use Rattle.cg_canon.specs.Books.{BookHolds}
 use Rattle.cg_canon.specs.Held.{IsHeld, SumHolds, SumsHold, knowing}
 use Rattle.cg_canon.specs.MadeForms.{FormsHold}
@@ -99,7 +98,7 @@ module _ {R : Type 0} (s : State Meant R) (h : Held) (n : Memo) (holds : IsHeld 
 
   -- with the same book
   pub held_sums : n.book ≡ h.memo.book → SumsHold s n → IsHeld s (record h { memo = n })
-  held_sums e = held_memo s h n holds (let P : Book → Type 0 = λ z. BookHolds s z in subst P (sym e) holds.book)
+  held_sums e = held_memo s h n holds (rw e holds.book)
 
 -- with other forms
 pub held_forms : {R : Type 0} (s : State Meant R) (h : Held) (m : MadeForms) → IsHeld s h → FormsHold s m

@@ -51,24 +51,20 @@ all_pass-one share before item p = record {
         let h : item ≡ x = cc in
         let s : before + item_cost item ≡ before + 0 + item_cost x = omega (arith, ap item_cost h) in
         let P : Item → Type 0 = λ z. Passes z (before + 0 + item_cost x) share in
-        let Q : ℕ → Type 0 = λ n. Passes item n share in
-        subst P h (subst Q s p)
+        subst P h (rw (← s) p)
     one (f ∷ []) x back e = absurd (cc)
     one (f ∷ (k ∷ front)) x back e = absurd (cc)
 
 pub all_pass-after : (share before after : ℕ) (item : Item) → after ≡ before + item_cost item → Passes item after share
     → AllPass share before (item ∷ []) after
 all_pass-after share before after item e p =
-    let P : ℕ → Type 0 = λ n. AllPass share before (item ∷ []) n in
-    let Q : ℕ → Type 0 = λ n. Passes item n share in
-    subst P (sym e) (all_pass-one share before item (subst Q e p))
+    rw e (all_pass-one share before item (rw (← e) p))
 
 pub passes-first : (share before after : ℕ) (item : Item) (items : List Item) → AllPass share before (item ∷ items) after
     → Passes item (before + item_cost item) share
 passes-first share before after item items h =
     let s : before + 0 + item_cost item ≡ before + item_cost item = omega arith in
-    let Q : ℕ → Type 0 = λ n. Passes item n share in
-    subst Q s (h.each [] item items refl)
+    rw (← s) (h.each [] item items refl)
 
 pub all_pass-append : (share a b c : ℕ) (xs ys : List Item) → AllPass share a xs b → AllPass share b ys c
     → AllPass share a (xs ++ ys) c
@@ -79,8 +75,7 @@ all_pass-append share a b c xs ys p q = record {
     | in_back rest s t ↦
         let k : b + total rest + item_cost item ≡ a + total front + item_cost item =
         omega (arith, p.spent, ap total s, total-append xs rest) in
-        let Q : ℕ → Type 0 = λ n. Passes item n share in
-        subst Q k (q.each rest item back t)
+        rw (← k) (q.each rest item back t)
   ];
 }
 
@@ -91,8 +86,7 @@ all_pass-back share a c xs ys p = record {
   each = λ front item back e.
       let k : a + total (xs ++ front) + item_cost item ≡ a + total xs + total front + item_cost item =
       omega (arith, total-append xs front) in
-      let Q : ℕ → Type 0 = λ n. Passes item n share in
-      subst Q k (p.each (xs ++ front) item back (ap (λ z. xs ++ z) e ∙ sym (append_assoc xs front (item ∷ back))));
+      rw (← k) (p.each (xs ++ front) item back (ap (λ z. xs ++ z) e ∙ sym (append_assoc xs front (item ∷ back))));
 }
 
 -- one item more at the front

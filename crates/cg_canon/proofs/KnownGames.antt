@@ -1,7 +1,6 @@
 -- Sums of a number, of ups or downs, and of a nimber, by their parts.
-use Rattle.std.proofs.Common.{◌≡◌, ◌∙◌, refl, Bool, true, ◌&&◌, nat_eq, eqb-true, arith, ℕ, ℤ, pos, ◌+ℤ◌, ◌-ℤ◌, ap, sym, subst}
+use Rattle.std.proofs.Common.{◌≡◌, ◌∙◌, refl, Bool, true, ◌&&◌, nat_eq, eqb-true, arith, ℕ, ℤ, pos, ◌+ℤ◌, ◌-ℤ◌, ap, sym}
 use Rattle.std.specs.Ordering.{int_eq}
-use Rattle.std.specs.Prelude.{bit_xor}
 use Rattle.std.proofs.lemmas.Int.{ints}
 use Rattle.cg_dyadic.specs.Number.{Number, exp_of, num_of}
 use Rattle.cg_dyadic.proofs.Truth.{and-split}
@@ -28,10 +27,8 @@ plus_equal v w u p =
     let both : Game = sum (game_of v) (game_of w) in
     let n : ℤ = pos v.ups -ℤ pos v.downs in
     let k : ℤ = pos w.ups -ℤ pos w.downs in
-    let P : ℤ → Type 0 = λ i. Equal both (number_up_star u.number i (bit_xor v.star w.star)) in
-    let Q : ℕ → Type 0 = λ i. Equal both (number_up_star u.number (pos u.ups -ℤ pos u.downs) i) in
     let ups : n +ℤ k ≡ pos u.ups -ℤ pos u.downs = let e = p.ups in omega (arith, ints) in
-    subst Q p.star (subst P ups (number_up_star-sum v.number w.number u.number n k v.star w.star p.number))
+    rw (← p.star) (rw (← ups) (number_up_star-sum v.number w.number u.number n k v.star w.star p.number))
 
 same_parts : (v w : NumberUpStar) → v.number ≡ w.number → v.ups ≡ w.ups → v.downs ≡ w.downs → v.star ≡ w.star → v ≡ w
 same_parts v w number ups downs star =

@@ -51,9 +51,7 @@ module _ {R T : Type 0} where
   pub was_refused : (s t : State Meant (WorkRest R)) (items : List Item) (r : Result T ValueFault) (fault : ValueFault)
       → r ≡ Err fault → ItemsMade s t items r → WasRefused fault s.rest.share s.rest.spent items t.rest.spent
   was_refused s t items r fault e m =
-      let P : Result T ValueFault → Type 0 =
-      λ z. IfErr z (λ f. WasRefused f s.rest.share s.rest.spent items t.rest.spent) in
-      subst P e m.refused
+      rw e at m.refused
 
   -- ---- one call after another
 
@@ -61,13 +59,11 @@ module _ {R T : Type 0} where
   pub made_then : (s t u : State Meant (WorkRest R)) (xs ys : List Item) (r : Result T ValueFault)
       → AllPass s.rest.share s.rest.spent xs t.rest.spent → Keeps s t → ItemsMade t u ys r → ItemsMade s u (xs ++ ys) r
   made_then s t u xs ys r p k m =
-      let P : ℕ → Type 0 = λ n. OnOk r (AllPass n t.rest.spent ys u.rest.spent) in
-      let Q : ℕ → Type 0 = λ n. IfErr r (λ fault. WasRefused fault n t.rest.spent ys u.rest.spent) in
       record {
         charged =
-            charged_then r s.rest.share s.rest.spent t.rest.spent u.rest.spent xs ys p (subst P k.share m.charged);
+            charged_then r s.rest.share s.rest.spent t.rest.spent u.rest.spent xs ys p (rw (← k.share) m.charged);
         refused =
-            refused_then r s.rest.share s.rest.spent t.rest.spent u.rest.spent xs ys p (subst Q k.share m.refused);
+            refused_then r s.rest.share s.rest.spent t.rest.spent u.rest.spent xs ys p (rw (← k.share) m.refused);
         keeps = keeps_then s t u k m.keeps;
       }
 
@@ -75,11 +71,9 @@ module _ {R T : Type 0} where
   pub read_then : (n : ℕ) (s t u : State Meant (WorkRest R)) (ys : List Item) (r : Result T ValueFault)
       → Spends n s t → ItemsMade t u ys r → ItemsMade s u ys r
   read_then n s t u ys r k m =
-      let P : WorkRest R → Type 0 = λ z. OnOk r (AllPass z.share z.spent ys u.rest.spent) in
-      let Q : WorkRest R → Type 0 = λ z. IfErr r (λ fault. WasRefused fault z.share z.spent ys u.rest.spent) in
       record {
-        charged = subst P k.rest m.charged;
-        refused = subst Q k.rest m.refused;
+        charged = rw (← k.rest) m.charged;
+        refused = rw (← k.rest) m.refused;
         keeps = keeps_then s t u (spends_keeps n s t k) m.keeps;
       }
 
@@ -87,11 +81,9 @@ module _ {R T : Type 0} where
   pub then_read : (n : ℕ) (s t u : State Meant (WorkRest R)) (ys : List Item) (r : Result T ValueFault)
       → ItemsMade s t ys r → Spends n t u → ItemsMade s u ys r
   then_read n s t u ys r m k =
-      let P : WorkRest R → Type 0 = λ z. OnOk r (AllPass s.rest.share s.rest.spent ys z.spent) in
-      let Q : WorkRest R → Type 0 = λ z. IfErr r (λ fault. WasRefused fault s.rest.share s.rest.spent ys z.spent) in
       record {
-        charged = subst P (sym k.rest) m.charged;
-        refused = subst Q (sym k.rest) m.refused;
+        charged = rw k.rest m.charged;
+        refused = rw k.rest m.refused;
         keeps = keeps_then s t u m.keeps (spends_keeps n t u k);
       }
 
@@ -113,8 +105,7 @@ module _ {R T U : Type 0} where
   pub made_with : (s t : State Meant (WorkRest R)) (items : List Item) (r : Result T ValueFault) (q : Result U ValueFault)
       (h : T) (k : U) → r ≡ Ok h → q ≡ Ok k → ItemsMade s t items r → ItemsMade s t items q
   made_with s t items r q h k a b m =
-      let Q : Result U ValueFault → Type 0 = λ z. ItemsMade s t items z in
-      subst Q (sym b) (record { charged = passed s t items r h a m; refused = tt; keeps = m.keeps })
+      rw b (record { charged = passed s t items r h a m; refused = tt; keeps = m.keeps })
 
   -- all items of one call, and then those of another
   pub made_after : (s t u : State Meant (WorkRest R)) (xs ys : List Item) (r : Result T ValueFault) (h : T)

@@ -1,5 +1,5 @@
 -- Items that are made by indexes, and what they leave of a work.
-use Rattle.std.proofs.Common.{◌≡◌, refl, ℕ, ◌+◌, ◌≤◌, arith, ap, sym, ◌∙◌, subst, List, [], ◌∷◌, Result, Ok, Err}
+use Rattle.std.proofs.Common.{◌≡◌, refl, ℕ, ◌+◌, ◌≤◌, arith, ap, subst, List, [], ◌∷◌, Result, Ok, Err}
 use Rattle.std.specs.Prelude.{OnOk}
 use Rattle.std.specs.Borrow.{MutBor}
 use Rattle.cg_form.specs.Game.{Game}
@@ -10,13 +10,11 @@ use Rattle.cg_canon.specs.declared.fault.ValueFault.TheVariants.{Memory}
 use Rattle.cg_canon.specs.declared.held.Held.{Held}
 use Rattle.cg_canon.specs.declared.memo.Memo.{Memo}
 use Rattle.cg_canon.specs.declared.meter.Meter.{Meter}
-use Rattle.cg_canon.specs.declared.rest.WorkRest.{WorkRest}
 use Rattle.cg_canon.specs.Arena.{Begins, IsAt}
 use Rattle.cg_canon.specs.Books.{BookHolds}
 use Rattle.cg_canon.specs.Held.{IsHeld}
 use Rattle.cg_canon.specs.Items.{AllPass, WasRefused, made}
 use Rattle.cg_canon.specs.ItemsAt.{ItemAt, PaidAt}
-use Rattle.cg_canon.specs.Made.{FormGiven, ItemsMade}
 use Rattle.cg_canon.specs.Paid.{IsPaid, metered}
 use Rattle.cg_canon.specs.Works.{MeterHolds, work_state}
 use Rattle.cg_nodes.proofs.Later.{nothing_spent}
@@ -24,6 +22,7 @@ use Rattle.cg_canon.proofs.Booking.{begins_none}
 use Rattle.cg_canon.proofs.Holding.{held_book, held_later}
 use Rattle.cg_canon.proofs.MadeSteps.{made_memory, made_with}
 use Rattle.cg_canon.proofs.Paying.{none_paid}
+use Rattle.cg_book.proofs.Results.{on_ok}
 
 -- ---- the handle of the form was given
 
@@ -62,9 +61,8 @@ module _ {R : Type 0} (s t : State Meant R) (m n : Meter) (gs hs : List Game) (f
   -- or it was refused
   pub paid_refused : (fault : ValueFault) → r ≡ Err fault → PaidAt s t m n gs hs form extra (Err fault)
   paid_refused fault e =
-      let P : Result ℕ ValueFault → Type 0 = λ z. ItemsMade (metered s m) (metered t n) (made form extra ∷ []) z in
       record {
-        item = record { at = tt; begins = begins; made = subst P e p.given.gives.made; spare = tt; more = p.given.gives.more };
+        item = record { at = tt; begins = begins; made = rw (← e) p.given.gives.made; spare = tt; more = p.given.gives.more };
         within = p.within;
         fallen = p.fallen;
       }
@@ -128,10 +126,6 @@ paid_at_holds s t a b start h n gs hs form extra r w p book same =
       record { within = p.within; room = omega arith; small = omega arith; fallen = omega arith; enough = omega arith },
       held_book t h n (held_later s t h keeps.known w.1) book same,
     )
-
-on_ok : (r : Result ℕ ValueFault) (P Q : Type 0) → OnOk r P → (P → Q) → OnOk r Q
-on_ok (Ok h) P Q p f = f p
-on_ok (Err e) P Q p f = tt
 
 -- what is seen of it, before and after
 pub paid_at_item : {S R : Type 0} (state : S → State Meant R) (a b : MutBor S) (m n : Meter) (start limit : ℕ) (gs hs : List Game)

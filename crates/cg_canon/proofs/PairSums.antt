@@ -1,5 +1,5 @@
 -- Sums of two games in either order.
-use Rattle.std.proofs.Common.{◌≡◌, ℕ, ◌⊎◌, inl, inr, ap, sym, ◌∙◌, subst, Option, Some, None, List}
+use Rattle.std.proofs.Common.{◌≡◌, ℕ, ◌⊎◌, inl, inr, ap, ◌∙◌, subst, Option, Some, None, List}
 use Rattle.std.specs.Prelude.{IfSome}
 use Rattle.cg_form.specs.Game.{Game}
 use Rattle.cg_form.specs.Sum.{sum}
@@ -31,10 +31,8 @@ module _ (gs : List Game) (a b low high : ℕ) (order : ((low ≡ a) × (high �
   pub pair_kept : (i : ℕ) → IsPage gs a → IsPage gs b → IsAt gs i (can (sum (game_of gs a) (game_of gs b)))
       → SumStands gs (kept_of low high i)
   pair_kept i p q h =
-      let P : Game → Type 0 = λ z. IsAt gs i z in
-      let G : ℕ → Type 0 = λ z. IsPage gs z in
       record {
-        low = elim order [ inl e ↦ subst G (sym e.0) p | inr e ↦ subst G (sym e.0) q ];
-        high = elim order [ inl e ↦ subst G (sym e.1) q | inr e ↦ subst G (sym e.1) p ];
-        is = subst P (sym one_sum) h;
+        low = elim order [ inl e ↦ rw e.0 p | inr e ↦ rw e.0 q ];
+        high = elim order [ inl e ↦ rw e.1 q | inr e ↦ rw e.1 p ];
+        is = rw one_sum h;
       }

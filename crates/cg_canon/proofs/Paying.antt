@@ -1,5 +1,5 @@
 -- Items that are made beside a book, and what they leave of a work.
-use Rattle.std.proofs.Common.{◌≡◌, refl, ℕ, ◌+◌, ◌≤◌, arith, ap, sym, ◌∙◌, subst, List, [], ◌∷◌, Result, Ok, Err}
+use Rattle.std.proofs.Common.{◌≡◌, refl, ℕ, ◌+◌, ◌≤◌, arith, ap, ◌∙◌, List, [], ◌∷◌, Result, Ok, Err}
 use Rattle.std.specs.Borrow.{MutBor}
 use Rattle.cg_form.specs.Game.{Game}
 use Rattle.cg_cells.specs.Store.{Spends, State}
@@ -51,10 +51,9 @@ module _ {R : Type 0} (s t : State Meant R) (m : Meter) (k : Spends 0 s t) where
   pub paid_later : (u : State Meant R) (n : Meter) (g form : Game) (extra : ℕ) (r : Result ℕ ValueFault) → g ≡ form
       → IsPaid t u m n form extra r → IsPaid s u m n g extra r
   paid_later u n g form extra r e p =
-      let P : Game → Type 0 = λ z. IsPaid s u m n z extra r in
       let spare = k.spare in
       let fallen = p.fallen in
-      subst P (sym e) (record {
+      rw e (record {
         given = form_later (metered s m) (metered t m) (metered u n) form extra r looked p.given;
         within = p.within;
         fallen = omega arith;

@@ -40,7 +40,7 @@ has_is g h v k e = sym (can-same h g (equal_trans h (game_of v) g e (equal_back 
 equals_parts : (g : Game) (v : NumberUpStar) (x : Number) (n m k : ℕ) → v.number ≡ x → v.ups ≡ n → v.downs ≡ k → v.star ≡ m
     → Equal g (number_up_star x (pos n -ℤ pos k) m) → Equal g (game_of v)
 equals_parts g v x n m k same_x ups downs star e =
-    let P : Game → Type 0 = λ z. Equal g z in subst P (sym (parts_game v x n k m same_x ups downs star)) e
+    rw (parts_game v x n k m same_x ups downs star) e
 
 pub number_parts : (x : Number) (v : NumberUpStar) → v.number ≡ x → (v.ups ≡ 0) × (v.downs ≡ 0) → v.star ≡ 0
     → Equal (number x) (game_of v)
@@ -57,8 +57,7 @@ up_parts v same ups star = equals_parts up_form v (whole (pos 0)) 1 0 0 same ups
 pub has_nimber : (g : Game) (v w : NumberUpStar) (n : ℕ) → HasParts g v → v ≡ w → w.number ≡ whole (pos 0)
     → (w.ups ≡ 0) × (w.downs ≡ 0) → w.star ≡ n → g ≡ nimber_form n
 has_nimber g v w n k e same ups star =
-    let P : NumberUpStar → Type 0 = λ z. Equal (nimber_form n) (game_of z) in
-    has_is g (nimber_form n) v k (subst P (sym e) (nimber_parts n w same ups star)) ∙ can-fixed (nimber_form n) (nimber-canonical n)
+    has_is g (nimber_form n) v k (rw e (nimber_parts n w same ups star)) ∙ can-fixed (nimber_form n) (nimber-canonical n)
 
 module _ (g h : Game) (v w u : NumberUpStar) (p : IsPlus v w u) where
   sum_parts : HasParts g v → HasParts h w → Equal (sum g h) (game_of u)
@@ -214,8 +213,7 @@ module _ (gs : List Game) where
         → ls ≡ take (length ls) t.nimbers.items → rs ≡ get_or t.nimbers.items 1 0 ∷ [] → v.number ≡ whole (pos 0)
         → (v.ups ≡ 1) × (v.downs ≡ 0) → v.star ≡ 0 → Equal (node (games_of gs ls) (games_of gs rs)) (game_of v)
     up_seen ls rs v r one two e is zero_too ups star =
-        let P : Game → Type 0 = λ z. Equal z (game_of v) in
-        subst P (sym (up_node t.nimbers.items ls rs (recognized_nimbers r) one two e is)) (up_parts v zero_too ups star)
+        rw (up_node t.nimbers.items ls rs (recognized_nimbers r) one two e is) (up_parts v zero_too ups star)
 
 -- one more of a list, where there was memory
 pub pushed : {A : Type 0} (b : Bool) (new old : List A) (x : A) → new ≡ cond b (old ++ (x ∷ [])) old
@@ -230,10 +228,9 @@ unfolding AreNimbers AreRecognized
 recognized_begins gs hs t b c r = record {
   canonical = c;
   games = All-weaker (Holds gs) (Holds hs) (λ k h.
-      let P : Game → Type 0 = λ z. HasParts z k.parts in
       record {
         within = page_begins gs hs k.index b h.within;
-        parts = subst P (sym (game_begins gs hs k.index b h.within)) h.parts;
+        parts = rw (game_begins gs hs k.index b h.within) h.parts;
       }) t.games.items r.games;
   nimbers = λ n less.
       let h = r.nimbers n less in
@@ -246,16 +243,14 @@ new_known : (gs hs : List Game) (g : Game) (o : Option NumberUpStar) → hs ≡ 
     → IfSome o (λ v. Equal g (game_of v)) → IfSome o (IsKnownAt hs (length gs))
 new_known gs hs g None e c k = tt
 new_known gs hs g (Some v) e c k =
-    let P : Game → Type 0 = λ z. HasParts z v in
     let more : length hs ≡ length gs + 1 = ap length e ∙ length_push gs g in
     let is : page.game_of hs (length gs) ≡ g = ap (λ z. page.game_of z (length gs)) e ∙ get_or_push gs g (node [] []) (length gs) refl in
-    record { within = omega arith; parts = subst P (sym is) (record { canonical = c; equal = k }) }
+    record { within = omega arith; parts = rw is (record { canonical = c; equal = k }) }
 
 pub recognized_more : (gs hs : List Game) (t u : Recognized) (g : Game) (i : ℕ) (o : Option NumberUpStar) → hs ≡ gs ++ (g ∷ [])
     → i ≡ length gs → Canonical g → IfSome o (λ v. Equal g (game_of v))
     → ((fs : List Game) → IfSome o (IsKnownAt fs i) → AreRecognized fs t → AreRecognized fs u) → AreRecognized gs t → AreRecognized hs u
 unfolding AreRecognized
 recognized_more gs hs t u g i o e at c k f r =
-    let P : ℕ → Type 0 = λ z. IfSome o (IsKnownAt hs z) in
     let all : All Canonical hs = All-same Canonical hs (gs ++ (g ∷ [])) e (All-push Canonical gs g r.canonical c) in
-    f hs (subst P (sym at) (new_known gs hs g o e c k)) (recognized_begins gs hs t (begins_one gs hs g e) all r)
+    f hs (rw at (new_known gs hs g o e c k)) (recognized_begins gs hs t (begins_one gs hs g e) all r)

@@ -1,5 +1,5 @@
 -- Handles of equal games are one.
-use Rattle.std.proofs.Common.{◌≡◌, ℕ, ap, sym, ◌∙◌, subst, List, Some, Bool, IsTrue}
+use Rattle.std.proofs.Common.{◌≡◌, ℕ, ap, sym, ◌∙◌, List, Some, Bool, IsTrue}
 use Rattle.std.specs.Prelude.{◌↔◌}
 use Rattle.cg_form.specs.Game.{Game}
 use Rattle.cg_form.specs.Order.{Equal}
@@ -17,8 +17,7 @@ same_or_equal : {R : Type 0} (raw : ℕ → ℕ → ℕ → List ℕ → Game) (
     → IsReal (game_meaning raw) (thing_at s a) → IsReal (game_meaning raw) (thing_at s b)
     → IsTrue t ↔ Equal (game_at s a) (game_at s b)
 same_or_equal raw s a b t ga gb e ra rb = (
-  λ k. let P : Game → Type 0 = λ z. Equal (game_at s a) z in
-      subst P (ap game_in (e.0 k)) (equal_refl (game_at s a)),
+  λ k. rw (← (ap game_in (e.0 k))) (equal_refl (game_at s a)),
   λ k. e.1 (ga ∙ ap (λ z. Some (form z)) (canonical_same (game_at s a) (game_at s b) (real-canonical raw s a ra ga)
       (real-canonical raw s b rb gb) k) ∙ sym gb),
 )
@@ -28,7 +27,4 @@ pub one_handle : {R : Type 0} (raw : ℕ → ℕ → ℕ → List ℕ → Game) 
     → IsReal (game_meaning raw) (thing_at s i) → IsReal (game_meaning raw) (thing_at s j)
     → IsTrue t ↔ Equal (game_at s a) (game_at s b)
 one_handle raw s a b i j t p q ga gb e ri rj =
-    let P : ℕ → Type 0 = λ z. IsTrue t ↔ (thing_at s z ≡ thing_at s j) in
-    let Q : ℕ → Type 0 = λ z. IsTrue t ↔ (thing_at s a ≡ thing_at s z) in
-    let V : ℕ → Type 0 = λ z. IsReal (game_meaning raw) (thing_at s z) in
-    same_or_equal raw s a b t ga gb (subst Q q (subst P p e)) (subst V p ri) (subst V q rj)
+    same_or_equal raw s a b t ga gb (rw (← q) (rw (← p) e)) (rw (← p) ri) (rw (← q) rj)

@@ -1,5 +1,5 @@
 -- Pages of the games of lists, one game after the other.
-use Rattle.std.proofs.Common.{◌≡◌, refl, ℕ, suc, ◌+◌, ◌<◌, ◌≤◌, arith, ap, sym, ◌∙◌, subst, Option, Some, List, [], ◌∷◌, ◌++◌, length, take, get_or}
+use Rattle.std.proofs.Common.{◌≡◌, refl, ℕ, suc, ◌+◌, ◌<◌, ◌≤◌, arith, ap, sym, ◌∙◌, Option, Some, List, [], ◌∷◌, ◌++◌, length, take, get_or}
 use Rattle.std.proofs.lemmas.List.Elements.{All-push}
 use Rattle.cg_form.specs.Canonical.{Canonical}
 use Rattle.cg_form.specs.Game.{Game, node}
@@ -11,7 +11,8 @@ use Rattle.cg_nodes.specs.declared.reading.Split.{Split}
 use Rattle.cg_nodes.specs.Games.{AreGames, IsGame, IsHead, IsList, game_at, games_at, listed}
 use Rattle.cg_nodes.specs.Meant.{Meant}
 use Rattle.cg_nodes.proofs.Later.{game_later, is_game_later, is_list_later, listed_later, nothing_spent, spends_then}
-use Rattle.cg_book.specs.Pages.{ArePages, IsPage, StandFor, game_of, games_of}
+use Rattle.cg_book.specs.Pages.{IsPage, StandFor, game_of, games_of}
+use Rattle.cg_book.proofs.Slices.{games_pushed}
 use Rattle.cg_canon.specs.declared.book.Book.{Book}
 use Rattle.cg_canon.specs.Arena.{Begins}
 use Rattle.cg_canon.specs.Books.{BookHolds}
@@ -20,17 +21,12 @@ use Rattle.cg_canon.proofs.Booking.{begins_none, begins_then, stand_begins}
 
 -- ---- a page more
 
-games_pushed : (gs : List Game) (ps : List ℕ) (p : ℕ) → games_of gs (ps ++ (p ∷ [])) ≡ games_of gs ps ++ (game_of gs p ∷ [])
-games_pushed gs [] p = refl
-games_pushed gs (q ∷ ps) p = ap (λ z. game_of gs q ∷ z) (games_pushed gs ps p)
-
 pub stand_pushed : (gs : List Game) (ps more : List ℕ) (p : ℕ) (hs : List Game) (g : Game) → StandFor gs ps hs → IsPage gs p
     → game_of gs p ≡ g → more ≡ ps ++ (p ∷ []) → StandFor gs more (hs ++ (g ∷ []))
-stand_pushed gs ps more p hs g h is e m =
-    let P : List ℕ → Type 0 = λ z. ArePages gs z in (
-      subst P (sym m) (All-push (IsPage gs) ps p h.0 is),
-      ap (games_of gs) m ∙ games_pushed gs ps p ∙ ap (λ z. z ++ (game_of gs p ∷ [])) h.1 ∙ ap (λ z. hs ++ (z ∷ [])) e,
-    )
+stand_pushed gs ps more p hs g h is e m = (
+  rw m (All-push (IsPage gs) ps p h.0 is),
+  ap (games_of gs) m ∙ games_pushed gs ps _ p refl ∙ ap (λ z. z ++ (game_of gs p ∷ [])) h.1 ∙ ap (λ z. hs ++ (z ∷ [])) e,
+)
 
 stand_none : (gs : List Game) → StandFor gs [] []
 stand_none gs = ((λ k d h. absurd (omega arith)), refl)
@@ -77,8 +73,7 @@ pub paged_none : {R : Type 0} (s : State Meant R) (a : Book) (list : Option ℕ)
     → Paged s s a a list list ps
 unfolding done_none
 paged_none s a list ps h l e =
-    let P : List ℕ → Type 0 = λ z. StandFor a.pages z [] in
-    record { done = done_none s list l; holds = h; begins = begins_none a.pages; pages = subst P (sym e) (stand_none a.pages) }
+    record { done = done_none s list l; holds = h; begins = begins_none a.pages; pages = rw e (stand_none a.pages) }
 
 pub paged_more : {R : Type 0} (s t u v : State Meant R) (a b c : Book) (list rest : Option ℕ) (top : Split) (ps more : List ℕ) (page : ℕ)
     → Paged s t a b list rest ps → Spends 0 t u → IsHead u (Some top) (listed t rest) → Spends 0 u v → BookHolds v c
@@ -110,8 +105,7 @@ has_options s t u v handle ls rs gs hs ps qs xs ys game a b c right e canonical 
     let all = spends_then 0 0 s u v (spends_then 0 0 s t u a b) c in
     let same : game_at s handle ≡ node (games_of hs xs) (games_of hs ys) =
     e ∙ ap (λ z. node z (listed t rs)) (sym low) ∙ ap (λ z. node (games_of hs xs) z) (sym high) in
-    let P : Game → Type 0 = λ z. Canonical z in
-    record { is = game_later s v all.known handle game ∙ same; no_number = (subst P same canonical).0.no_number }
+    record { is = game_later s v all.known handle game ∙ same; no_number = (rw same at canonical).0.no_number }
 
 -- ---- over a slice of handles
 
@@ -119,8 +113,7 @@ has_options s t u v handle ls rs gs hs ps qs xs ys game a b c right e canonical 
 pub next_game : {R : Type 0} (s t : State Meant R) (hs : List ℕ) (i k : ℕ) → AreGames s hs → i < length hs → k ≡ get_or hs i k
     → Spends 0 s t → IsGame t k × (game_at t k ≡ game_at s k)
 next_game s t hs i k a h e b =
-    let V : ℕ → Type 0 = λ z. IsGame s z in
-    let known : IsGame s k = subst V (sym e) (game_of_item s hs i k a h) in
+    let known : IsGame s k = rw e (game_of_item s hs i k a h) in
     (is_game_later s t b.known k known, game_later s t b.known k known)
 
 -- the pages of the handles up to this one; the book was b before its page was found, and is c
@@ -129,14 +122,13 @@ pub paged_next : {R : Type 0} (s t : State Meant R) (b c : Book) (hs : List ℕ)
     → IsPage c.pages page × (game_of c.pages page ≡ game_at t k) → more ≡ ps ++ (page ∷ [])
     → StandFor c.pages more (games_at s (take (i + 1) hs))
 paged_next s t b c hs i k ps more page a less at spends so_far begins is e =
-    let P : List Game → Type 0 = λ z. StandFor c.pages more z in
     let one : i + 1 ≡ suc i = omega arith in
     let next = next_game s t hs i k a less at spends in
-    subst P (sym (ap (λ z. games_at s (take z hs)) one ∙ games_take_suc s hs i k less
-    ∙ ap (λ z. games_at s (take i hs) ++ (game_at s z ∷ [])) (sym at)))
+    rw (ap (λ z. games_at s (take z hs)) one ∙ games_take_suc s hs i k less
+    ∙ ap (λ z. games_at s (take i hs) ++ (game_at s z ∷ [])) (sym at))
     (stand_pushed c.pages ps more page (games_at s (take i hs)) (game_at s k)
     (stand_begins b.pages c.pages ps (games_at s (take i hs)) begins so_far) is.0 (is.1 ∙ next.1) e)
 
 pub paged_nothing : {R : Type 0} (s : State Meant R) (gs : List Game) (hs ps : List ℕ) → ps ≡ []
     → StandFor gs ps (games_at s (take 0 hs))
-paged_nothing s gs hs ps e = let P : List ℕ → Type 0 = λ z. StandFor gs z [] in subst P (sym e) (stand_none gs)
+paged_nothing s gs hs ps e = rw e (stand_none gs)

@@ -1,5 +1,5 @@
 -- A work's book, as its store is searched.
-use Rattle.std.proofs.Common.{refl, ℕ, arith, sym, subst, ◌∙◌, List}
+use Rattle.std.proofs.Common.{refl, ℕ, arith, sym, ◌∙◌, List}
 use Rattle.cg_form.specs.Canonical.{Canonical}
 use Rattle.cg_form.specs.Game.{Game, node}
 use Rattle.cg_cells.specs.Store.{Spends, State}
@@ -36,5 +36,4 @@ pub given_form : (gs ls rs : List Game) (new : NewForm) → Canonical (node ls r
     → IsNewForm gs (can (node ls rs)) new
 given_form gs ls rs new c l r p =
     let is = can-fixed (node ls rs) c ∙ sym (same_node _ _ _ _ l.1 r.1) in
-    let P : Game → Type 0 = λ z. IsProfile z new.profile in
-    record { lefts = l.0; rights = r.0; is = is; profile = subst P (sym is) p }
+    record { lefts = l.0; rights = r.0; is = is; profile = rw is p }

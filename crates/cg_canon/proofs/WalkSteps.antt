@@ -1,22 +1,22 @@
 -- Walks over the positions of a game of an arena, one step after another.
-use Rattle.std.proofs.Common.{◌≡◌, refl, ℕ, zero, suc, ◌+◌, ◌-◌, ◌<◌, ◌≤◌, arith, ap, sym, ◌∙◌, subst, ◌⊎◌, inl, inr, List, [], ◌∷◌, ◌++◌, length, length-append, take, drop, get_or, map, pos, Bool, true, false}
+use Rattle.std.proofs.Common.{◌≡◌, refl, ℕ, zero, suc, ◌+◌, ◌-◌, ◌<◌, ◌≤◌, arith, ap, sym, ◌∙◌, subst, ◌⊎◌, inl, inr, List, [], ◌∷◌, ◌++◌, length, length-append, take, drop, get_or, map, pos, true, false}
 use Rattle.std.proofs.Math.Seq.{drop-append_seam, take-append_seam}
 use Rattle.std.specs.List.{All, slice_range}
 use Rattle.std.proofs.lemmas.Bool.Decides.{eqb_tells}
 use Rattle.std.proofs.lemmas.List.{append_assoc, append-nil, drop-append-le, get_or-map, get_or_append_left, get_or_push, length-drop, length-map, length_push, take-append-drop, take-append-le, take_more}
-use Rattle.std.proofs.lemmas.List.Elements.{All-append, All-push, All-same}
+use Rattle.std.proofs.lemmas.List.Elements.{All-push, All-same}
 use Rattle.cg_dyadic.specs.Number.{Number, whole}
 use Rattle.cg_form.specs.Canonical.{Canonical}
-use Rattle.cg_form.specs.Extended.{IsClosed, extended, positions_before}
+use Rattle.cg_form.specs.Extended.{extended, positions_before}
 use Rattle.cg_form.specs.Game.{Among, Game, node, number, of_list}
 use Rattle.cg_form.specs.Positions.{all_positions, positions_in, positions_of}
-use Rattle.cg_form.proofs.AllPositions.{closed_more, closed_none, closed_there, extended-last, positions_before-depth, positions_in-own, positions_of-extended}
+use Rattle.cg_form.proofs.AllPositions.{closed_more, closed_none, extended-last, positions_before-depth, positions_in-own, positions_of-extended}
 use Rattle.cg_form.proofs.Among.{among-append_left, among-append_right, carry, to_list-of_list}
 use Rattle.cg_form.proofs.Firsts.{extended-among, extended-append, extended-has, extended-length}
 use Rattle.cg_form.proofs.Structure.{games}
-use Rattle.cg_book.specs.Pages.{ArePages, IsPage, game_of, games_of}
-use Rattle.cg_book.proofs.Paging.{game_before, games_before, pages_before}
-use Rattle.cg_book.proofs.Slices.{item_among}
+use Rattle.cg_book.specs.Pages.{IsPage, game_of, games_of}
+use Rattle.cg_book.proofs.Paging.{game_before, games_before}
+use Rattle.cg_book.proofs.Slices.{games_pushed, item_among}
 use Rattle.cg_canon.specs.declared.walk.Position.{Position}
 use Rattle.cg_canon.specs.declared.walk.Walk.{Walk}
 use Rattle.cg_canon.specs.Walk.{ArePlaces, IsPlace, IsWalk, indexes_of, lefts_of, rights_of}
@@ -40,14 +40,10 @@ indexes_pushed : (ps : List Position) (p : Position) → indexes_of (ps ++ (p �
 indexes_pushed [] p = refl
 indexes_pushed (q ∷ ps) p = ap (λ z. q.index ∷ z) (indexes_pushed ps p)
 
-games_pushed : (gs : List Game) (qs : List ℕ) (q : ℕ) → games_of gs (qs ++ (q ∷ [])) ≡ games_of gs qs ++ (game_of gs q ∷ [])
-games_pushed gs [] q = refl
-games_pushed gs (k ∷ qs) q = ap (λ z. game_of gs k ∷ z) (games_pushed gs qs q)
-
 found_pushed : (gs : List Game) (ps : List Position) (p : Position) (index : ℕ) → p.index ≡ index
     → found_in gs (ps ++ (p ∷ [])) ≡ found_in gs ps ++ (game_of gs index ∷ [])
 found_pushed gs ps p index e =
-    ap (games_of gs) (indexes_pushed ps p) ∙ games_pushed gs (indexes_of ps) p.index
+    ap (games_of gs) (indexes_pushed ps p) ∙ games_pushed gs (indexes_of ps) _ p.index refl
     ∙ ap (λ z. found_in gs ps ++ (game_of gs z ∷ [])) e
 
 -- ---- marks
@@ -61,8 +57,7 @@ module _ (gs : List Game) (marks : List ℕ) (ps : List Position) (index : ℕ) 
       let less : i < length ps = omega arith in
       let own : get_or (indexes_of ps) i 0 ≡ index = apart.each _ index (marked.pages i 0 l) page e in
       let mark : get_or marks index 0 ≡ i = ap (λ z. get_or marks z 0) (sym own) ∙ marked.marked i less in
-      let P : ℕ → Type 0 = λ z. HasPlace ps z index in
-      subst P (sym mark) (record { within = less; is = own })
+      rw mark (record { within = less; is = own })
 
   pub place_there : (place : ℕ) → HasPlace ps place index → Among (game_of gs index) (found_in gs ps)
   place_there place h =
@@ -131,13 +126,12 @@ module _ (gs : List Game) (ps : List Position) (p : Position) (g : Game) where
   pub number_place : (opts : List ℕ) (x : Number) → p.lefts ≡ length opts → p.rights ≡ length opts → p.end ≡ length opts
       → p.is_number ≡ true → (p.is_zero ≡ true → x ≡ whole (pos 0)) → g ≡ number x → IsPlace opts fs (length ps) p
   number_place opts x a b c n z is =
-      let P : List ℕ → Type 0 = λ k. All (λ q. q < length ps) k in
       record {
         first = omega arith;
         second = omega arith;
         end = omega arith;
-        lefts_before = subst P (sym (range_none opts p.lefts p.rights (a ∙ sym b))) (λ k d h. absurd (omega arith));
-        rights_before = subst P (sym (range_none opts p.rights p.end (b ∙ sym c))) (λ k d h. absurd (omega arith));
+        lefts_before = rw (range_none opts p.lefts p.rights (a ∙ sym b)) (λ k d h. absurd (omega arith));
+        rights_before = rw (range_none opts p.rights p.end (b ∙ sym c)) (λ k d h. absurd (omega arith));
         as_zero = λ t. next_game ∙ is ∙ ap number (z t);
         as_number = λ t. record { x = x; is = next_game ∙ is; none = a ∙ sym c };
         as_node = λ t. absurd (differ (sym n ∙ t));
@@ -173,7 +167,6 @@ module _ (gs : List Game) (ps : List Position) (p : Position) (g : Game) where
     pub node_place : p.is_number ≡ false → p.is_zero ≡ false → g ≡ node (games_of gs ls) (games_of gs rs)
         → IsPlace new fs (length ps) p
     node_place n z is =
-        let P : List ℕ → Type 0 = λ k. All (λ q. q < length ps) k in
         let m = ap length low.is in
         let k = length-append old low.places in
         let o = ap length high.is in
@@ -182,8 +175,8 @@ module _ (gs : List Game) (ps : List Position) (p : Position) (g : Game) where
           first = omega arith;
           second = omega arith;
           end = omega arith;
-          lefts_before = subst P (sym left) low.below;
-          rights_before = subst P (sym right) high.below;
+          lefts_before = rw left low.below;
+          rights_before = rw right high.below;
           as_zero = λ t. absurd (differ (sym t ∙ z));
           as_number = λ t. absurd (differ (sym t ∙ n));
           as_node = λ t. next_game ∙ is
@@ -221,7 +214,6 @@ module _ (seen found : List Game) (g : Game) (out : ¬ Among g seen) (walked : f
 place_later : (opts more : List ℕ) (fs hs : List Game) (i : ℕ) (p : Position) → i < length fs → IsPlace opts fs i p
     → IsPlace (opts ++ more) (fs ++ hs) i p
 place_later opts more fs hs i p less h =
-    let P : List ℕ → Type 0 = λ k. All (λ q. q < i) k in
     let b = h.second in
     let e = h.end in
     let n = length-append opts more in
@@ -236,8 +228,8 @@ place_later opts more fs hs i p less h =
       first = h.first;
       second = h.second;
       end = omega arith;
-      lefts_before = subst P (sym l) h.lefts_before;
-      rights_before = subst P (sym r) h.rights_before;
+      lefts_before = rw l h.lefts_before;
+      rights_before = rw r h.rights_before;
       as_zero = λ t. own ∙ h.as_zero t;
       as_number = λ t. let k = h.as_number t in record { x = k.x; is = own ∙ k.is; none = k.none };
       as_node = λ t. own ∙ h.as_node t ∙ ap (λ z. node z (games_of fs (rights_of opts p))) (sym low)
@@ -282,34 +274,29 @@ module _ (gs : List Game) (marks m2 : List ℕ) (ps : List Position) (opts more 
     | inl t ↦
         let same : q ≡ p = e ∙ get_or_push ps p q i (sym t.1) in
         let P : ℕ → Position → Type 0 = λ n z. IsPlace (opts ++ more) (found_in gs ps ++ (game_of gs index ∷ [])) n z in
-        let F : List Game → Type 0 = λ z. IsPlace (opts ++ more) z i q in
-        subst F (sym (found_pushed gs ps p index own)) (subst (λ z. P i z) (sym same) (subst (λ n. P n p) (sym t.1) place))
+        rw (found_pushed gs ps p index own) (subst (λ z. P i z) (sym same) (subst (λ n. P n p) (sym t.1) place))
     | inr t ↦
         let d = t.1 in
         let n = length_push ps p in
         let k = found_length gs ps in
         let less : i < length ps = omega arith in
-        let F : List Game → Type 0 = λ z. IsPlace (opts ++ more) z i q in
-        subst F (sym (found_pushed gs ps p index own)) (place_later opts more (found_in gs ps) (game_of gs index ∷ []) i q (omega arith)
+        rw (found_pushed gs ps p index own) (place_later opts more (found_in gs ps) (game_of gs index ∷ []) i q (omega arith)
         (stands.places i q less (e ∙ get_or_append_left ps (p ∷ []) q i less)))
   ]
 
   pub next_stands : WalkStands gs m2 after (opts ++ more)
   next_stands =
       let all = found_pushed gs ps p index own in
-      let C : List Game → Type 0 = λ z. All Canonical z in
-      let K : List Game → Type 0 = λ z. IsClosed z in
-      let G : ℕ → Type 0 = λ z. IsPage gs z in
       let old = stands.marked.room in
       record {
         marked = record {
           pages = All-same (IsPage gs) (indexes_of after) (indexes_of ps ++ (p.index ∷ [])) (indexes_pushed ps p)
-              (All-push (IsPage gs) (indexes_of ps) p.index stands.marked.pages (subst G (sym own) page));
+              (All-push (IsPage gs) (indexes_of ps) p.index stands.marked.pages (rw own page));
           room = omega arith;
           marked = next_marked;
         };
-        canonical = subst C (sym all) (All-push Canonical (found_in gs ps) (game_of gs index) stands.canonical canonical);
-        closed = subst K (sym all) (closed_more (found_in gs ps) (game_of gs index) stands.closed before);
+        canonical = rw all (All-push Canonical (found_in gs ps) (game_of gs index) stands.canonical canonical);
+        closed = rw all (closed_more (found_in gs ps) (game_of gs index) stands.closed before);
         places = next_places;
       }
 
@@ -326,11 +313,8 @@ module _ (gs : List Game) (marks m2 : List ℕ) (ps before after : List Position
       → length m2 ≡ length marks → get_or m2 p.index 0 ≡ length before
       → ((i : ℕ) → ¬ (i ≡ p.index) → get_or m2 i 0 ≡ get_or marks i 0) → WalkStands gs m2 after opts3
   next_walk stands page canonical there out k l place room mark others =
-      let P : List Position → Type 0 = λ z. WalkStands gs m2 z opts3 in
-      let Q : List ℕ → Type 0 = λ z. WalkStands gs m2 (ps ++ (p ∷ [])) z in
-      let R : List ℕ → Type 0 = λ z. IsPlace z (found_in gs ps ++ (game_of gs index ∷ [])) (length ps) p in
-      subst P (sym after_is) (subst Q (sym (l ∙ k)) (next_stands gs marks m2 ps opts more p index stands own page canonical there out
-      (subst R k place) room (mark ∙ ap length e) others))
+      rw after_is (rw (l ∙ k) (next_stands gs marks m2 ps opts more p index stands own page canonical there out
+      (rw (← k) place) room (mark ∙ ap length e) others))
 
   pub next_found : (seen : List Game) → ¬ Among (game_of gs index) seen → found_in gs ps ≡ extended seen (positions_before (game_of gs index))
       → found_in gs after ≡ extended seen (all_positions (game_of gs index))
@@ -341,10 +325,9 @@ module _ (gs : List Game) (marks m2 : List ℕ) (ps before after : List Position
 pub option_before : (gs : List Game) (g : Game) (ls rs : List ℕ) (a : Game) → g ≡ node (games_of gs ls) (games_of gs rs)
     → Among a (games_of gs ls) ⊎ Among a (games_of gs rs) → Among a (positions_before g)
 option_before gs g ls rs a is m =
-    let P : Game → Type 0 = λ z. Among a (positions_before z) in
     let own : (qs : List ℕ) → Among a (games_of gs qs) → Among a (positions_in (of_list (games_of gs qs))) =
     λ qs n. positions_in-own (of_list (games_of gs qs)) a (carry a (games_of gs qs) _ (sym (to_list-of_list (games_of gs qs))) n) in
-    subst P (sym is) (elim m [
+    rw is (elim m [
       | inl n ↦ among-append_left a (positions_in (of_list (games_of gs ls))) (positions_in (of_list (games_of gs rs))) (own ls n)
       | inr n ↦ among-append_right a (positions_in (of_list (games_of gs ls))) (positions_in (of_list (games_of gs rs))) (own rs n)
     ])
@@ -413,8 +396,7 @@ module _ (gs seen : List Game) (g : Game) (ls rs : List ℕ) (is : g ≡ node (g
 pub walk_none : (gs : List Game) (marks : List ℕ) (ps : List Position) (opts : List ℕ) → ps ≡ [] → length gs ≤ length marks
     → WalkStands gs marks ps opts
 walk_none gs marks ps opts e room =
-    let P : List Position → Type 0 = λ z. WalkStands gs marks z opts in
-    subst P (sym e) (record {
+    rw e (record {
       marked = record { pages = λ k d h. absurd (omega arith); room = room; marked = λ i l. absurd (omega arith) };
       canonical = λ k d h. absurd (omega arith);
       closed = closed_none;
@@ -432,12 +414,10 @@ module _ (gs : List Game) (g : Game) (none : List Position) (e : none ≡ []) wh
       (all : found_in gs w.positions.items ≡ extended (found_in gs none) (all_positions g)) where
     pub walk_all : IsWalk gs w (positions_of g)
     walk_all =
-        let C : List Game → Type 0 = λ z. All Canonical z in
-        let P : List Game → Type 0 = λ z. ArePlaces w.options.items z w.positions.items in
         record {
           at = (stands.marked.pages, all ∙ all_is);
-          canonical = subst C (all ∙ all_is) stands.canonical;
-          places = subst P (all ∙ all_is) stands.places;
+          canonical = rw (← (all ∙ all_is)) stands.canonical;
+          places = rw (← (all ∙ all_is)) stands.places;
         }
 
     pub walk_within : (limit : ℕ) → length w.positions.items ≤ limit → length (positions_of g) ≤ limit

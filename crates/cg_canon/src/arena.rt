@@ -2,7 +2,7 @@
 //!
 //! A public call on handles asks for an index where it begins and for a handle where it ends. The arena only grows, so what holds at
 //! an index stays.
-ghost use Rattle.std.specs.Prelude.{◌≡◌, IfOk, IfSome};
+ghost use Rattle.std.specs.Prelude.{IfOk};
 ghost use Rattle.cg_form.specs.Canonical.{Canonical};
 ghost use Rattle.cg_cells.specs.Store.{Spends};
 ghost use Rattle.cg_nodes.specs.Games.{IsGame, StandsFor, game_at};

@@ -30,7 +30,7 @@ impl<'a, B: BoardForms, S: CellStore<GameFacts<B>>> Work<'a, B, S> {
     }
 
     /// The number of the nimber that the game at the index is known as, if it is known as one.
-    pub fn nimber_at(&self, index: u32) -> Option<u64>
+    fn nimber_at(&self, index: u32) -> Option<u64>
         requires { IsPage self.now.arena index }
         ensures { IfSome result (λ n. game_of self.now.arena index ≡ nimber_form n) }
     {

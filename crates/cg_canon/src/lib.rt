@@ -29,7 +29,6 @@ mod order;
 mod paging;
 mod pair_cells;
 mod places;
-mod positions;
 mod recognized;
 mod rest;
 mod value;

@@ -6,7 +6,6 @@ ghost use Rattle.cg_nodes.specs.Games.{IsGame, game_at};
 ghost use Rattle.cg_book.specs.Pages.{IsPage, game_of};
 ghost use Rattle.cg_canon.specs.Works.{work_state};
 
-use crate::value::compare;
 use crate::work::Work;
 use cg_book::at_most;
 use cg_cells::CellStore;
@@ -27,7 +26,9 @@ pub fn le<B: BoardForms, S: CellStore<GameFacts<B>>>(
         ≡ le (game_at (work_state S.state work.old) a) (game_at (work_state S.state work.old) b)) }
     ensures spends { Spends 0 (work_state S.state work.old) (work_state S.state work.new) }
 {
-    compare(alloc, work.store, &mut work.held.memo.book, a, b)
+    let first = work.index(alloc, a)?;
+    let second = work.index(alloc, b)?;
+    work.le_at(first, second)
 }
 
 impl<'a, B: BoardForms, S: CellStore<GameFacts<B>>> Work<'a, B, S> {

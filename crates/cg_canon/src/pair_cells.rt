@@ -11,7 +11,6 @@ ghost use Rattle.cg_canon.specs.Arena.{Begins, IsAt};
 ghost use Rattle.cg_canon.specs.Notes.{IsNoteOf};
 ghost use Rattle.cg_canon.specs.Works.{work_state};
 
-use crate::paging::page_of;
 use crate::work::Work;
 use cg_cells::{CellStore, Id, Key};
 use cg_nodes::{BoardForms, GameFacts, Handle};
@@ -80,12 +79,7 @@ impl<'a, B: BoardForms, S: CellStore<GameFacts<B>>> Work<'a, B, S> {
         match self.store.noted(cell) {
             None => Ok(None),
             Some(value) => {
-                let index = page_of(
-                    alloc,
-                    self.store,
-                    &mut self.held.memo.book,
-                    Handle::of(value),
-                )?;
+                let index = self.index(alloc, Handle::of(value))?;
                 Ok(Some(index))
             }
         }

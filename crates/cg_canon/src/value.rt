@@ -1,10 +1,9 @@
 //! What games of lists of handles are, by the pages of a book.
 ghost use Rattle.std.specs.Prelude.{◌≡◌, IfOk, []};
 ghost use Rattle.cg_form.specs.Game.{node};
-ghost use Rattle.cg_form.specs.Order.{le};
 ghost use Rattle.cg_cells.specs.Store.{Spends};
 ghost use Rattle.cg_nodes.specs.Can.{can};
-ghost use Rattle.cg_nodes.specs.Games.{AreGames, IsGame, game_at, games_at};
+ghost use Rattle.cg_nodes.specs.Games.{AreGames, games_at};
 ghost use Rattle.cg_book.specs.Pages.{StandFor};
 ghost use Rattle.cg_book.specs.Settled.{IsSettled};
 ghost use Rattle.cg_canon.specs.Books.{BookHolds};
@@ -12,32 +11,12 @@ ghost use Rattle.cg_canon.specs.Ways.{IsWay};
 
 use crate::book::Book;
 use crate::made::are_same;
-use crate::paging::{page_of, put_pages};
-use cg_book::{Form, NewForm, Settled, at_most, profile_of_lists, settle};
+use crate::paging::put_pages;
+use cg_book::{Form, NewForm, Settled, profile_of_lists, settle};
 use cg_cells::CellStore;
 use cg_nodes::{BoardForms, GameFacts, Handle};
 use smallvec::SmallVec;
 use std::alloc::{AllocError, Global};
-
-/// Whether a <= b. The only error is want of memory.
-pub(crate) fn compare<B: BoardForms, S: CellStore<GameFacts<B>>>(
-    alloc: Global,
-    store: &mut S,
-    book: &mut Book,
-    a: Handle,
-    b: Handle,
-) -> Result<bool, AllocError>
-    requires holds { BookHolds (S.state store.old) book.old }
-    requires a { IsGame (S.state store.old) a }
-    requires b { IsGame (S.state store.old) b }
-    ensures holds { BookHolds (S.state store.new) book.new }
-    ensures order { IfOk result (λ answer. answer ≡ le (game_at (S.state store.old) a) (game_at (S.state store.old) b)) }
-    ensures spends { Spends 0 (S.state store.old) (S.state store.new) }
-{
-    let first = page_of(alloc, store, book, a)?;
-    let second = page_of(alloc, store, book, b)?;
-    at_most(&book.pages, &mut book.answers, true, first, second)
-}
 
 /// Puts the pages of two lists of options into a form that has none. Both lists of a nimber are the same, and are gone through once.
 #[inline(always)]

@@ -1,6 +1,3 @@
-use Rattle.std.proofs.Common.{subst}
-use Rattle.cg_form.specs.Game.{Game}
-use Rattle.cg_canon.specs.Made.{FormGiven}
 use Rattle.cg_canon.specs.Works.{work_state}
 use Rattle.cg_canon.proofs.DistinctSteps.{same_form_as, same_games_as}
 use Rattle.cg_canon.proofs.forms.canonical.Goals as goal
@@ -16,6 +13,5 @@ found_item-requires-clause-rights g c =
 pub returns : goal.returns
 returns g c =
     let W = work_state g.S.CellStore.state in
-    let P : Game → Type 0 = λ z. FormGiven (W c.args.work.now) (W c.found_item.new.work) z c.args.extra c.found_item.result in
-    subst P (same_form_as (W c.args.work.now) _ _ _ _ _ _ c.as_slice.ensures c.as_slice-2.ensures c.in_ok-own.ensures c.in_ok-others.ensures
-    c.requires.lefts c.requires.rights) c.found_item.ensures
+    rw (← (same_form_as (W c.args.work.now) _ _ _ _ _ _ c.as_slice.ensures c.as_slice-2.ensures c.in_ok-own.ensures c.in_ok-others.ensures
+    c.requires.lefts c.requires.rights)) c.found_item.ensures

@@ -1,9 +1,5 @@
-use Rattle.std.proofs.Common.{arith, subst, sym, ◌∙◌}
-use Rattle.cg_form.specs.Canonical.{Canonical}
-use Rattle.cg_form.specs.Game.{Game}
-use Rattle.cg_nodes.specs.Games.{StandsFor}
+use Rattle.std.proofs.Common.{arith, ◌∙◌}
 use Rattle.cg_nodes.proofs.Later.{stands_game, stands_is_game}
-use Rattle.cg_book.specs.Settled.{IsNewForm}
 use Rattle.cg_canon.proofs.Booking.{book_later}
 use Rattle.cg_canon.proofs.Charging.{canonical_node, cost_of_options, same_node}
 use Rattle.cg_canon.proofs.making.claimed.Goals as goal
@@ -23,19 +19,16 @@ enter_form-requires g c =
     let t = g.S.CellStore.state c.claimed_game-handle.new.store in
     let own = stands_game t c.claimed_game-handle.result _ c.claimed_game-handle.ensures.game
     ∙ same_node _ _ _ _ c.requires.left_games c.requires.right_games in
-    let P : Game → Type 0 = λ z. Canonical z in
-    let Q : Game → Type 0 = λ z. IsNewForm c.args.book.now.pages z c.args.new.now in
     record {
       holds = book_later s t c.args.book.now c.claimed_game-handle.ensures.spends.2.known c.requires.holds;
       game = stands_is_game t c.claimed_game-handle.result _ c.claimed_game-handle.ensures.game;
-      canonical = subst P (sym own) c.requires.canonical;
-      form = subst Q (sym own) c.requires.form;
+      canonical = rw own c.requires.canonical;
+      form = rw own c.requires.form;
     }
 
 pub returns-clause-game : goal.returns-clause-game
 returns-clause-game g c =
-    let P : Game → Type 0 = λ z. StandsFor (g.S.CellStore.state c.claimed_game-handle.new.store) c.claimed_game-handle.result z in
-    subst P (same_node _ _ _ _ c.requires.left_games c.requires.right_games) c.claimed_game-handle.ensures.game
+    rw (← (same_node _ _ _ _ c.requires.left_games c.requires.right_games)) c.claimed_game-handle.ensures.game
 
 pub returns-clause-spends : goal.returns-clause-spends
 returns-clause-spends g c =

@@ -1,11 +1,7 @@
-use Rattle.std.proofs.Common.{subst}
-use Rattle.cg_form.specs.Canonical.{Canonical}
 use Rattle.cg_form.specs.Game.{Game, node}
 use Rattle.cg_nodes.specs.Can.{can}
 use Rattle.cg_nodes.specs.CanForms.{can-canonical}
 use Rattle.cg_nodes.specs.Games.{games_at}
-use Rattle.cg_book.specs.declared.settling.Settled.{Settled}
-use Rattle.cg_book.specs.Settled.{IsSettled}
 use Rattle.cg_canon.proofs.Charging.{new_written, outside_refused}
 use Rattle.cg_canon.proofs.Paying.{none_paid, paid_later}
 use Rattle.cg_canon.proofs.making.make_canonical.Goals as goal
@@ -14,16 +10,14 @@ pub returns-in-Number-clause-paid : goal.returns-in-Number-clause-paid
 returns-in-Number-clause-paid g c =
     let W = g.S.CellStore.state in
     let whole : Game = node (games_at (W c.args.store.now) c.args.lefts.now) (games_at (W c.args.store.now) c.args.rights.now) in
-    let P : Settled → Type 0 = λ z. IsSettled c.value_of_lists.new.book.pages (can whole) z in
     paid_later (W c.args.store.now) (W c.value_of_lists.new.store) c.args.meter.now c.value_of_lists.ensures.spends
-    (W c.make_number.new.store) c.make_number.new.meter (can whole) _ c.args.extra _ (subst P c.in-Number.is c.in_ok-settled.ensures.value) c.make_number.ensures
+    (W c.make_number.new.store) c.make_number.new.meter (can whole) _ c.args.extra _ (rw c.in-Number.is at c.in_ok-settled.ensures.value) c.make_number.ensures
 
 pub returns-in-Outside-clause-paid : goal.returns-in-Outside-clause-paid
 returns-in-Outside-clause-paid g c =
     let W = g.S.CellStore.state in
     let whole : Game = node (games_at (W c.args.store.now) c.args.lefts.now) (games_at (W c.args.store.now) c.args.rights.now) in
-    let P : Settled → Type 0 = λ z. IsSettled c.value_of_lists.new.book.pages (can whole) z in
-    let out = subst P c.in-Outside.is c.in_ok-settled.ensures.value in
+    let out = rw c.in-Outside.is at c.in_ok-settled.ensures.value in
     none_paid (W c.args.store.now) (W c.value_of_lists.new.store) c.args.meter.now c.value_of_lists.ensures.spends (can whole) c.args.extra _
     c.requires.meter.within (outside_refused c.args.meter.now.share c.args.meter.now.spent c.args.extra (can whole) out.x out.is out.outside)
 
@@ -31,21 +25,17 @@ pub make_form-requires-clause-form : goal.make_form-requires-clause-form
 make_form-requires-clause-form g c =
     let W = g.S.CellStore.state in
     let whole : Game = node (games_at (W c.args.store.now) c.args.lefts.now) (games_at (W c.args.store.now) c.args.rights.now) in
-    let P : Settled → Type 0 = λ z. IsSettled c.value_of_lists.new.book.pages (can whole) z in
-    new_written c.value_of_lists.new.book.pages (can whole) c.in-Game.new (subst P c.in-Game.is c.in_ok-settled.ensures.value)
+    new_written c.value_of_lists.new.book.pages (can whole) c.in-Game.new (rw c.in-Game.is at c.in_ok-settled.ensures.value)
 
 pub make_form-requires-clause-canonical : goal.make_form-requires-clause-canonical
 make_form-requires-clause-canonical g c =
     let W = g.S.CellStore.state in
     let whole : Game = node (games_at (W c.args.store.now) c.args.lefts.now) (games_at (W c.args.store.now) c.args.rights.now) in
-    let P : Settled → Type 0 = λ z. IsSettled c.value_of_lists.new.book.pages (can whole) z in
-    let Q : Game → Type 0 = λ z. Canonical z in
-    subst Q (subst P c.in-Game.is c.in_ok-settled.ensures.value).is (can-canonical whole)
+    rw (rw c.in-Game.is at c.in_ok-settled.ensures.value).is at (can-canonical whole)
 
 pub returns-in-Game-clause-paid : goal.returns-in-Game-clause-paid
 returns-in-Game-clause-paid g c =
     let W = g.S.CellStore.state in
     let whole : Game = node (games_at (W c.args.store.now) c.args.lefts.now) (games_at (W c.args.store.now) c.args.rights.now) in
-    let P : Settled → Type 0 = λ z. IsSettled c.value_of_lists.new.book.pages (can whole) z in
     paid_later (W c.args.store.now) (W c.value_of_lists.new.store) c.args.meter.now c.value_of_lists.ensures.spends
-    (W c.make_form.new.store) c.make_form.new.meter (can whole) _ c.args.extra _ (subst P c.in-Game.is c.in_ok-settled.ensures.value).is c.make_form.ensures.paid
+    (W c.make_form.new.store) c.make_form.new.meter (can whole) _ c.args.extra _ (rw c.in-Game.is at c.in_ok-settled.ensures.value).is c.make_form.ensures.paid

@@ -1,6 +1,5 @@
-use Rattle.std.proofs.Common.{ℕ, arith, subst, sym}
+use Rattle.std.proofs.Common.{arith}
 use Rattle.cg_form.specs.Game.{number}
-use Rattle.cg_cells.specs.Store.{Spends}
 use Rattle.cg_canon.proofs.Paying.{made_paid}
 use Rattle.cg_canon.proofs.making.make_number.Goals as goal
 
@@ -8,9 +7,8 @@ pub returns : goal.returns
 returns g c =
     let s = g.S.CellStore.state c.args.store.now in
     let t = g.S.CellStore.state c.number-2.new.store in
-    let P : ℕ → Type 0 = λ z. Spends z s t in
     let cost = c.number.result.cost in
     made_paid s t c.args.meter.now c.charge_form.new.self (number c.args.x) c.args.extra c.number-2.result cost cost (omega arith)
-    (subst P (sym c.number.ensures.profile.cost) c.number-2.ensures.spends)
+    (rw c.number.ensures.profile.cost c.number-2.ensures.spends)
     c.in_ok-charge_form.ensures.ok c.in_ok-charge_form.ensures.fits c.number-2.ensures.game
     (c.in_ok-charge_form.ensures.charged (number c.args.x) c.number.ensures.profile)

@@ -1,7 +1,24 @@
-use Rattle.cg_canon.proofs.Valuing.{searched}
+use Rattle.std.proofs.Common.{ap, ◌∙◌}
+use Rattle.cg_form.specs.Order.{le}
+use Rattle.cg_nodes.specs.Games.{game_at}
+use Rattle.cg_nodes.proofs.Later.{game_later}
+use Rattle.cg_book.proofs.Results.{if_ok}
+use Rattle.cg_book.specs.Pages.{game_of}
+use Rattle.cg_canon.specs.Works.{work_state}
+use Rattle.cg_canon.proofs.Booking.{game_begins, page_begins}
 use Rattle.cg_canon.proofs.order.le.Goals as goal
 
-pub invariant_of-work : goal.invariant_of-work
-invariant_of-work g c =
-    searched (g.S.CellStore.state c.work.inside.store.now) (g.S.CellStore.state c.compare.new.store) c.work.inside.meter.spent c.work.inside.meter.share c.work.inside.start
-    c.work.inside.held c.compare.new.book c.work.invariant c.compare.ensures.spends c.compare.ensures.holds
+pub le_at-requires-clause-a : goal.le_at-requires-clause-a
+le_at-requires-clause-a g c =
+    page_begins c.index.new.self.arena c.index-2.new.self.arena c.in_ok-first.first c.index-2.ensures.begins c.in_ok-first.ensures.index.within
+
+pub returns-clause-order : goal.returns-clause-order
+returns-clause-order g c =
+    let W = work_state g.S.CellStore.state in
+    let later = c.index-2.new.self.arena in
+    let first = game_begins c.index.new.self.arena later c.in_ok-first.first c.index-2.ensures.begins c.in_ok-first.ensures.index.within
+    ∙ c.in_ok-first.ensures.index.is in
+    let second = c.in_ok-second.ensures.index.is
+    ∙ game_later (W c.args.work.now) (W c.index.new.self) c.index.ensures.spends.known c.args.b c.requires.b in
+    if_ok c.le_at.result _ _ c.le_at.ensures.order
+    (λ r e. e ∙ ap (λ z. le z (game_of later c.in_ok-second.second)) first ∙ ap (le (game_at (W c.args.work.now) c.args.a)) second)

@@ -1,6 +1,4 @@
-use Rattle.std.proofs.Common.{subst, sym}
-use Rattle.cg_form.specs.Game.{Game}
-use Rattle.cg_book.specs.Profiles.{IsProfile}
+use Rattle.std.proofs.Common.{sym}
 use Rattle.cg_canon.proofs.Booking.{known_page}
 use Rattle.cg_canon.proofs.Turning.{has_options, paged_more, paged_none}
 use Rattle.cg_canon.proofs.paging.+page.Goals as goal
@@ -28,13 +26,12 @@ new_page-enter_game-requires-clause-is g t c =
 pub new_page-enter_game-requires-clause-profile : goal.new_page-enter_game-requires-clause-profile
 new_page-enter_game-requires-clause-profile g t c =
     let W = g.S.CellStore.state in
-    let P : Game → Type 0 = λ z. IsProfile z c.profile_of_lists-profile.result in
-    subst P (sym (has_options (W c.args.store.now) (W c.read.new.store) (W c.pages_of_list.new.store) (W c.pages_of_list-in-Game.new.store) c.args.handle
+    rw (← (sym (has_options (W c.args.store.now) (W c.read.new.store) (W c.pages_of_list.new.store) (W c.pages_of_list-in-Game.new.store) c.args.handle
     c.in-Game.lefts c.in-Game.rights c.pages_of_list.new.book.pages c.pages_of_list-in-Game.new.book.pages
     c.in_ok-low-in-Game.low.items c.in_ok-high-in-Game.high.items c.as_slice.result.now c.as_slice-in-Game.result.now
     c.requires.game c.read.ensures.spends c.pages_of_list.ensures.spends c.pages_of_list-in-Game.ensures.spends
     c.in-Game.ensures.game.1 c.in-Game.ensures.game.2 c.read.ensures.canonical c.in_ok-low-in-Game.ensures.pages
-    c.pages_of_list-in-Game.ensures.begins c.in_ok-high-in-Game.ensures.pages c.as_slice.ensures c.as_slice-in-Game.ensures).is)
+    c.pages_of_list-in-Game.ensures.begins c.in_ok-high-in-Game.ensures.pages c.as_slice.ensures c.as_slice-in-Game.ensures).is))
     c.profile_of_lists-profile.ensures
 
 pub page_of-returns-in-Some-clause-page : goal.page_of-returns-in-Some-clause-page

@@ -1,8 +1,5 @@
-use Rattle.std.proofs.Common.{List, subst, sym, ◌∙◌, ℕ}
-use Rattle.cg_form.specs.Game.{Game}
+use Rattle.std.proofs.Common.{◌∙◌}
 use Rattle.cg_nodes.proofs.Later.{are_games_later, games_later}
-use Rattle.cg_nodes.specs.Games.{games_at}
-use Rattle.cg_book.specs.Pages.{StandFor}
 use Rattle.cg_canon.proofs.Booking.{stand_begins}
 use Rattle.cg_canon.proofs.value.put_both.Goals as goal
 
@@ -14,9 +11,7 @@ pub returns-then-are_same-clause-rights : goal.returns-then-are_same-clause-righ
 returns-then-are_same-clause-rights g c =
     let gs = c.put_pages.new.book.pages in
     let s = g.S.CellStore.state c.args.store.now in
-    let P : List ℕ → Type 0 = λ z. StandFor gs z (games_at s c.args.rights.now) in
-    let Q : List ℕ → Type 0 = λ z. StandFor gs c.put_pages.new.pages.items (games_at s z) in
-    subst P (sym (c.in_ok-form.ensures.ok ∙ c.as_slice.ensures)) (subst Q (c.are_same.ensures c.if-are_same.true) c.in_ok-put_pages.ensures.pages)
+    rw (c.in_ok-form.ensures.ok ∙ c.as_slice.ensures) (rw (← (c.are_same.ensures c.if-are_same.true)) c.in_ok-put_pages.ensures.pages)
 
 pub returns-clause-lefts : goal.returns-clause-lefts
 returns-clause-lefts g c =
@@ -24,6 +19,5 @@ returns-clause-lefts g c =
 
 pub returns-clause-rights : goal.returns-clause-rights
 returns-clause-rights g c =
-    let P : List Game → Type 0 = λ z. StandFor c.put_pages-2.new.book.pages c.put_pages-2.new.pages.items z in
-    subst P (games_later (g.S.CellStore.state c.args.store.now) (g.S.CellStore.state c.put_pages.new.store) c.put_pages.ensures.spends.known c.args.rights.now c.requires.rights)
+    rw (← (games_later (g.S.CellStore.state c.args.store.now) (g.S.CellStore.state c.put_pages.new.store) c.put_pages.ensures.spends.known c.args.rights.now c.requires.rights))
     c.in_ok-put_pages-2.ensures.pages

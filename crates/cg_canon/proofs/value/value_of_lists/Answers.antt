@@ -1,14 +1,9 @@
-use Rattle.std.proofs.Common.{◌≡◌, ap, subst, sym, ◌∙◌, List, ℕ}
-use Rattle.cg_form.specs.Canonical.{IsCanonicalForm}
-use Rattle.cg_form.specs.Game.{Game, node}
-use Rattle.cg_form.specs.Simple.{NoNumber}
+use Rattle.std.proofs.Common.{◌≡◌, ap, ◌∙◌}
+use Rattle.cg_form.specs.Game.{node}
 use Rattle.cg_nodes.specs.Can.{can}
 use Rattle.cg_nodes.specs.CanForms.{can-is}
 use Rattle.cg_nodes.specs.Games.{games_at}
 use Rattle.cg_book.specs.Pages.{games_of}
-use Rattle.cg_book.specs.Profiles.{IsProfile}
-use Rattle.cg_canon.specs.declared.value.Way.{Way}
-use Rattle.cg_canon.specs.Ways.{IsWay}
 use Rattle.cg_canon.proofs.Booking.{holds_answers}
 use Rattle.cg_canon.proofs.Charging.{same_node}
 use Rattle.cg_canon.proofs.Valuing.{given_form}
@@ -26,25 +21,19 @@ returns-in-Search-clause-value g c =
     let same : node (games_of gs c.as_slice-lefts.result.now) (games_of gs c.as_slice-rights.result.now) ≡ whole =
     same_node _ _ _ _ (ap (games_of gs) c.as_slice-lefts.ensures ∙ c.in_ok-put_both.ensures.lefts.1)
     (ap (games_of gs) c.as_slice-rights.ensures ∙ c.in_ok-put_both.ensures.rights.1) in
-    let P : Game → Type 0 = λ z. IsCanonicalForm z (can whole) in
-    c.settle.ensures.settled (can whole) (subst P (sym same) (can-is whole))
+    c.settle.ensures.settled (can whole) (rw same (can-is whole))
 
 pub profile_of_lists-profile-requires-clause-no_number : goal.profile_of_lists-profile-requires-clause-no_number
 profile_of_lists-profile-requires-clause-no_number g c =
     let s = g.S.CellStore.state c.args.store.now in
     let gs = c.put_both.new.book.pages in
-    let P : Way → Type 0 = λ z. IsWay z (games_at s c.args.lefts.now) (games_at s c.args.rights.now) in
-    let Q : Game → Type 0 = λ z. NoNumber z in
-    subst Q (sym (same_node _ _ _ _ (ap (games_of gs) c.as_slice-lefts.ensures ∙ c.in_ok-put_both.ensures.lefts.1)
-    (ap (games_of gs) c.as_slice-rights.ensures ∙ c.in_ok-put_both.ensures.rights.1))) (subst P c.in-AsGiven.is c.requires.way).0.no_number
+    rw (same_node _ _ _ _ (ap (games_of gs) c.as_slice-lefts.ensures ∙ c.in_ok-put_both.ensures.lefts.1)
+    (ap (games_of gs) c.as_slice-rights.ensures ∙ c.in_ok-put_both.ensures.rights.1)) (rw c.in-AsGiven.is at c.requires.way).0.no_number
 
 pub returns-in-AsGiven-clause-value : goal.returns-in-AsGiven-clause-value
 returns-in-AsGiven-clause-value g c =
     let s = g.S.CellStore.state c.args.store.now in
     let gs = c.put_both.new.book.pages in
-    let P : Way → Type 0 = λ z. IsWay z (games_at s c.args.lefts.now) (games_at s c.args.rights.now) in
-    let L : List ℕ → Type 0 = λ z. IsProfile (node (games_of gs z) (games_of gs c.as_slice-rights.result.now)) c.profile_of_lists-profile.result in
-    let R : List ℕ → Type 0 = λ z. IsProfile (node (games_of gs c.put_both.new.form.lefts.items) (games_of gs z)) c.profile_of_lists-profile.result in
     given_form gs (games_at s c.args.lefts.now) (games_at s c.args.rights.now) (record { form = c.put_both.new.form; profile = c.profile_of_lists-profile.result })
-    (subst P c.in-AsGiven.is c.requires.way) c.in_ok-put_both.ensures.lefts c.in_ok-put_both.ensures.rights
-    (subst R c.as_slice-rights.ensures (subst L c.as_slice-lefts.ensures c.profile_of_lists-profile.ensures))
+    (rw c.in-AsGiven.is at c.requires.way) c.in_ok-put_both.ensures.lefts c.in_ok-put_both.ensures.rights
+    (rw (← c.as_slice-rights.ensures) (rw (← c.as_slice-lefts.ensures) c.profile_of_lists-profile.ensures))

@@ -1,4 +1,4 @@
-use Rattle.std.proofs.Common.{◌∙◌, ap, sym, subst, refl, rules, arith, get_or, List, ◌++◌, ◌∷◌, [], length}
+use Rattle.std.proofs.Common.{◌∙◌, ap, sym, refl, rules, arith, length}
 use Rattle.std.specs.Prelude.{Err}
 use Rattle.std.proofs.lemmas.List.{length_push}
 use Rattle.std.proofs.lemmas.Result.{err_from_is_err_and}

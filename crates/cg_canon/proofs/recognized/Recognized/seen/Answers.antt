@@ -1,4 +1,4 @@
-use Rattle.std.proofs.Common.{◌≡◌, ◌<◌, ap, arith, length, take, ◌∙◌, ◌∷◌, []}
+use Rattle.std.proofs.Common.{◌<◌, ap, arith, length, take, ◌∙◌, ◌∷◌, []}
 use Rattle.std.proofs.lemmas.List.{get_or_default}
 use Rattle.cg_canon.proofs.Recognizing.{nimber_seen, up_seen}
 use Rattle.cg_canon.proofs.recognized.Recognized.seen.Goals as goal

@@ -1,8 +1,5 @@
-use Rattle.std.proofs.Common.{◌∙◌, List, inl, inr, refl, subst, sym}
-use Rattle.cg_form.specs.Game.{Among}
+use Rattle.std.proofs.Common.{◌∙◌, inl, inr, refl}
 use Rattle.cg_book.specs.Pages.{game_of}
-use Rattle.cg_canon.specs.declared.walk.Position.{Position}
-use Rattle.cg_canon.specs.Walking.{Appended, found_in}
 use Rattle.cg_canon.proofs.WalkSteps.{node_place, option_before}
 use Rattle.cg_canon.proofs.walk.Walk.position.Goals as goal
 
@@ -13,17 +10,15 @@ put_options-requires-clause-found c = λ g m.
 
 pub put_options-requires-in-Game-clause-found : goal.put_options-requires-in-Game-clause-found
 put_options-requires-in-Game-clause-found c = λ g m.
-    let P : List Position → Type 0 = λ z. Among g (found_in c.args.pages.now z) in
-    subst P (sym c.put_options.ensures.positions) (c.requires.found g (option_before c.args.pages.now
+    rw c.put_options.ensures.positions (c.requires.found g (option_before c.args.pages.now
     (game_of c.args.pages.now c.args.index) c.in-Game.left_options.now c.in-Game.right_options.now g c.in-Game.ensures.read.2 (inr m)))
 
 pub returns-in_ok-put_options-in-Game-2-clause-place : goal.returns-in_ok-put_options-in-Game-2-clause-place
 returns-in_ok-put_options-in-Game-2-clause-place c =
     let mid = c.put_options.new.self.options.items in
     let new = c.put_options-in-Game.new.self.options.items in
-    let P : List Position → Type 0 = λ z. Appended z mid new c.in-Game.right_options.now in
     node_place c.args.pages.now c.args.self.now.positions.items _ (game_of c.args.pages.now c.args.index) c.args.self.now.options.items mid new
     c.in-Game.left_options.now c.in-Game.right_options.now (c.len-lefts.ensures ∙ c.args.self.now.options.ok.0)
     (c.len-rights.ensures ∙ c.put_options.new.self.options.ok.0) (c.len.ensures ∙ c.put_options-in-Game.new.self.options.ok.0)
-    c.in_ok-put_options-in-Game.ensures.options (subst P c.put_options.ensures.positions c.in_ok-put_options-in-Game-2.ensures.options)
+    c.in_ok-put_options-in-Game.ensures.options (rw (← c.put_options.ensures.positions) c.in_ok-put_options-in-Game-2.ensures.options)
     refl refl c.in-Game.ensures.read.2

@@ -1,6 +1,3 @@
-use Rattle.std.proofs.Common.{subst, IfSome}
-use Rattle.cg_canon.specs.Recognized.{IsKnownAt}
-use Rattle.cg_canon.specs.Works.{WorkOf}
 use Rattle.std.proofs.lemmas.Option.{IfSome_then}
 use Rattle.cg_canon.proofs.Recognizing.{known_found}
 use Rattle.cg_canon.proofs.work.Work.index_of.Goals as goal
@@ -8,6 +5,5 @@ use Rattle.cg_canon.proofs.work.Work.index_of.Goals as goal
 pub returns : goal.returns
 returns g c =
     let b = c.self.inside.held.memo.book in
-    let P : WorkOf _ → Type 0 = λ w. IfSome c.index_of.result (λ i. IsKnownAt w.arena i c.args.parts.now) in
-    subst P c.self.view_is (IfSome_then c.index_of.result c.index_of.ensures
+    rw (← c.self.view_is) (IfSome_then c.index_of.result c.index_of.ensures
     (λ i k. known_found b.pages b.recognized i c.args.parts.now c.self.invariant.1.book.recognized k))

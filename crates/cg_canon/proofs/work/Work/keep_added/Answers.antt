@@ -3,7 +3,6 @@ use Rattle.std.proofs.lemmas.List.Elements.{All-push, All-same}
 use Rattle.cg_canon.specs.Added.{IsKnownSum}
 use Rattle.cg_canon.specs.Held.{SumHolds}
 use Rattle.cg_canon.specs.Memos.{added_sum}
-use Rattle.cg_canon.specs.Works.{WorkOf}
 use Rattle.cg_canon.proofs.Holding.{held_sums}
 use Rattle.cg_canon.proofs.work.Work.keep_added.Goals as goal
 
@@ -21,10 +20,9 @@ invariant_of-self-2 g c =
     let h = c.self.inside.held in
     let first : c.number.result ≡ c.args.a = c.number.ensures.value ∙ c.id.ensures in
     let second : c.number-2.result ≡ c.args.b = c.number-2.ensures.value ∙ c.id-2.ensures in
-    let P : WorkOf _ → Type 0 = λ w. IsKnownSum (g.S.CellStore.state w.store.now) c.args.a c.args.b c.args.known in
     let Q : ℕ → ℕ → Type 0 = λ i j. IsKnownSum (g.S.CellStore.state c.self.inside.store.now) i j c.args.known in
     let H = SumHolds (g.S.CellStore.state c.self.inside.store.now) in
-    let is = subst P (sym c.self.view_is) c.requires in
+    let is = rw (← c.self.view_is) at c.requires in
     let own = subst (λ i. Q i c.number-2.result) (sym first) (subst (λ j. Q c.args.a j) (sym second) is) in (
       c.self.invariant.0,
       held_sums (g.S.CellStore.state c.self.inside.store.now) h c.keep_added.new.self c.self.invariant.1 c.in_ok-keep_added.ensures.book

@@ -2,7 +2,7 @@ use Rattle.std.proofs.Common.{ap, subst, ◌∙◌, Some}
 use Rattle.std.proofs.lemmas.Option.{IfSome_then}
 use Rattle.cg_nodes.specs.Games.{StandsFor}
 use Rattle.cg_nodes.specs.Meant.{form}
-use Rattle.cg_book.specs.Pages.{IsPage, game_of}
+use Rattle.cg_book.specs.Pages.{game_of}
 use Rattle.cg_canon.specs.Works.{WorkOf, work_state}
 use Rattle.cg_canon.proofs.Booking.{known_page, named_stands}
 use Rattle.cg_canon.proofs.work.Work.nimber_of.Goals as goal
@@ -10,8 +10,7 @@ use Rattle.cg_canon.proofs.work.Work.nimber_of.Goals as goal
 pub nimber_at-requires : goal.nimber_at-requires
 nimber_at-requires g c =
     let s = g.S.CellStore.state c.self.inside.store.now in
-    let P : WorkOf _ → Type 0 = λ w. IsPage w.arena c.in_ok-index.index in
-    subst P c.self.view_is (known_page s c.self.inside.held.memo.book c.args.a c.in_ok-index.index c.self.invariant.1.book c.in_ok-index.ensures.page).0
+    rw (← c.self.view_is) (known_page s c.self.inside.held.memo.book c.args.a c.in_ok-index.index c.self.invariant.1.book c.in_ok-index.ensures.page).0
 
 pub returns : goal.returns
 returns g c =

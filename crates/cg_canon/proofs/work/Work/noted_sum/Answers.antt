@@ -1,7 +1,5 @@
 use Rattle.std.proofs.Common.{arith}
-use Rattle.cg_nodes.proofs.Later.{spends_then}
 use Rattle.cg_canon.proofs.Holding.{work_later}
-use Rattle.cg_canon.proofs.Valuing.{searched}
 use Rattle.cg_canon.proofs.work.Work.noted_sum.Goals as goal
 
 pub invariant_of-self : goal.invariant_of-self
@@ -10,18 +8,8 @@ invariant_of-self g c =
     work_later 0 (g.S.CellStore.state c.self.inside.store.now) (g.S.CellStore.state c.noted.new.self) c.self.inside.meter.spent c.self.inside.meter.share c.self.inside.start c.self.inside.held
     c.self.invariant c.noted.ensures.spends (omega arith)
 
-pub invariant_of-self-in_err-index-in-Some : goal.invariant_of-self-in_err-index-in-Some
-invariant_of-self-in_err-index-in-Some g c =
-    let W = g.S.CellStore.state in
-    searched (W c.self.inside.store.now) (W c.page_of.new.store) c.self.inside.meter.spent c.self.inside.meter.share c.self.inside.start
-    c.self.inside.held c.page_of.new.book c.self.invariant
-    (spends_then 0 0 (W c.self.inside.store.now) (W c.noted.new.self) (W c.page_of.new.store) c.noted.ensures.spends c.page_of.ensures.spends)
-    c.page_of.ensures.holds
-
 pub invariant_of-self-in-Some : goal.invariant_of-self-in-Some
 invariant_of-self-in-Some g c =
-    let W = g.S.CellStore.state in
-    searched (W c.self.inside.store.now) (W c.page_of.new.store) c.self.inside.meter.spent c.self.inside.meter.share c.self.inside.start
-    c.self.inside.held c.page_of.new.book c.self.invariant
-    (spends_then 0 0 (W c.self.inside.store.now) (W c.noted.new.self) (W c.page_of.new.store) c.noted.ensures.spends c.page_of.ensures.spends)
-    c.page_of.ensures.holds
+    let room = c.self.invariant.0.enough in
+    work_later 0 (g.S.CellStore.state c.self.inside.store.now) (g.S.CellStore.state c.noted.new.self) c.self.inside.meter.spent c.self.inside.meter.share c.self.inside.start c.self.inside.held
+    c.self.invariant c.noted.ensures.spends (omega arith)

@@ -1,11 +1,9 @@
-use Rattle.std.proofs.Common.{◌≤◌, arith, subst, sym}
-use Rattle.cg_canon.specs.Works.{WorkOf, work_state}
+use Rattle.std.proofs.Common.{arith}
 use Rattle.cg_canon.proofs.Holding.{work_later}
 use Rattle.cg_canon.proofs.work.Work.pair_cell.Goals as goal
 
 pub invariant_of-self : goal.invariant_of-self
 invariant_of-self g c =
-    let P : WorkOf _ → Type 0 = λ w. 1 ≤ (work_state g.S.CellStore.state w).spare in
-    let spare = subst P (sym c.self.view_is) c.requires.spare in
+    let spare = rw (← c.self.view_is) at c.requires.spare in
     work_later 1 (g.S.CellStore.state c.self.inside.store.now) (g.S.CellStore.state c.pair.new.store) c.self.inside.meter.spent c.self.inside.meter.share c.self.inside.start c.self.inside.held
     c.self.invariant c.pair.ensures.spends (omega (arith, spare))

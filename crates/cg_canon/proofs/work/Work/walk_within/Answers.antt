@@ -1,11 +1,8 @@
-use Rattle.std.proofs.Common.{ap, length, subst, ◌<◌, ◌≤◌}
+use Rattle.std.proofs.Common.{ap}
 use Rattle.std.specs.Prelude.{Err}
 use Rattle.std.proofs.lemmas.Result.{err_from_is_err_and}
-use Rattle.cg_form.specs.Positions.{positions_of}
 use Rattle.cg_nodes.proofs.Outcomes.{passed_on}
 use Rattle.cg_book.specs.Pages.{game_of}
-use Rattle.cg_canon.specs.Walk.{IsWalk}
-use Rattle.cg_canon.specs.Works.{WorkOf}
 use Rattle.cg_canon.proofs.BookHandles.{games_apart}
 use Rattle.cg_canon.proofs.WalkSteps.{walk_all, walk_longer, walk_within}
 use Rattle.cg_canon.proofs.work.Work.walk_within.Goals as goal
@@ -17,11 +14,10 @@ walk_index-requires-clause-apart g c =
 pub returns-in_err-walk_index-clause-refused : goal.returns-in_err-walk_index-clause-refused
 returns-in_err-walk_index-clause-refused g c =
     let gs = c.self.inside.held.memo.book.pages in
-    let P : WorkOf _ → Type 0 = λ w. c.args.limit < length (positions_of (game_of w.arena c.args.index)) in
     let p = err_from_is_err_and c.from_residual-in_err-walk_index.result c.from_residual-in_err-walk_index.ensures.1 in λ e.
     let r = c.in_err-walk_index.ensures.refused
     (ap Err (passed_on p.0 c.in_err-walk_index.field-0.0 c.from_residual-in_err-walk_index.result p.1 p.2 e)) in (
-      subst P c.self.view_is (walk_longer gs (game_of gs c.args.index) c.in_ok-walk.walk.positions.items c.in_ok-walk.ensures.positions
+      rw (← c.self.view_is) (walk_longer gs (game_of gs c.args.index) c.in_ok-walk.walk.positions.items c.in_ok-walk.ensures.positions
           c.args.limit r.0),
       r.1,
     )
@@ -29,14 +25,12 @@ returns-in_err-walk_index-clause-refused g c =
 pub returns-clause-walk : goal.returns-clause-walk
 returns-clause-walk g c =
     let gs = c.self.inside.held.memo.book.pages in
-    let P : WorkOf _ → Type 0 = λ w. IsWalk w.arena c.walk_index.new.walk (positions_of (game_of w.arena c.args.index)) in
-    subst P c.self.view_is (walk_all gs (game_of gs c.args.index) c.in_ok-walk.walk.positions.items c.in_ok-walk.ensures.positions
+    rw (← c.self.view_is) (walk_all gs (game_of gs c.args.index) c.in_ok-walk.walk.positions.items c.in_ok-walk.ensures.positions
     c.walk_index.new.marks c.walk_index.new.walk c.in_ok-walk_index.ensures.stands c.in_ok-walk_index.ensures.all)
 
 pub returns-clause-within : goal.returns-clause-within
 returns-clause-within g c =
     let gs = c.self.inside.held.memo.book.pages in
-    let P : WorkOf _ → Type 0 = λ w. length (positions_of (game_of w.arena c.args.index)) ≤ c.args.limit in
-    subst P c.self.view_is (walk_within gs (game_of gs c.args.index) c.in_ok-walk.walk.positions.items c.in_ok-walk.ensures.positions
+    rw (← c.self.view_is) (walk_within gs (game_of gs c.args.index) c.in_ok-walk.walk.positions.items c.in_ok-walk.ensures.positions
     c.walk_index.new.marks c.walk_index.new.walk c.in_ok-walk_index.ensures.stands c.in_ok-walk_index.ensures.all c.args.limit
     c.in_ok-walk_index.ensures.within)
