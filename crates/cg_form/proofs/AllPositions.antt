@@ -221,12 +221,12 @@ pub closed_more : (seen : List Game) (g : Game) → IsClosed seen → ((k : Game
 closed_more seen g closed before h m k n = elim (among-append h seen (g ∷ []) m) [
   | inl there ↦ among-append_left k seen (g ∷ []) (closed h there k n)
   | inr last ↦ elim last [
-    | inl e ↦ (
+    | inl e ↦
         elim (among-append k (positions_before g) (g ∷ []) (carry k (all_positions g) (positions_before g ++ (g ∷
         [])) (positions-last g) (rw e at n))) [
           | inl o ↦ among-append_left k seen (g ∷ []) (before k o)
           | inr o ↦ among-append_right k seen (g ∷ []) o
-        ])
+        ]
     | inr nothing ↦ absurd nothing
   ]
 ]

@@ -59,14 +59,12 @@ smallest_high s c side e f = rw side (record {
 -- a number
 pub cut_of_number : (P : Number → Type 0) (s : Bool) (f : Form) (x : Number) (c : Cut) → f ≡ Num x → c.at ≡ x
     → c.closed ≡ true → CutIs P s c (game_of f)
-cut_of_number P s f x c e at shut =
-    rw (ap game_of e) (cut-number P s c x (number x) at shut (equal_refl (number x)))
+cut_of_number P s f x c e at shut = rw (ap game_of e) (cut-number P s c x (number x) at shut (equal_refl (number x)))
 
 -- a node that equals the simplest number in the gap
 pub gap_value : (P : Number → Type 0) → Closed P → (ls rs : List Game) (o q : Option Cut) → CutOf P true o ls
     → CutOf P false q rs → (x : Number) → P x → NoOptionPasses (in_gap o q) x → Equal (number x) (node ls rs)
-gap_value P v ls rs o q low high x p s =
-    gap-equal P v (node ls rs) o q (rw lefts-node low) (rw rights-node high) x p s
+gap_value P v ls rs o q low high x p s = gap-equal P v (node ls rs) o q (rw lefts-node low) (rw rights-node high) x p s
 
 pub cut_of_simplest : (s : Bool) (f : Form) (ls rs : List Game) (a b : Cut) (x : Number) (c : Cut) → f ≡ Node ls rs
     → CutOf InRange true (Some a) ls → CutOf InRange false (Some b) rs
@@ -78,8 +76,7 @@ cut_of_simplest s f ls rs a b x c e low high k at shut =
 -- a node that equals none of the numbers in question
 pub gap_misses : (P : Number → Type 0) (ls rs : List Game) (o q : Option Cut) → CutOf P true o ls
     → CutOf P false q rs → ((x : Number) → P x → in_gap o q x ≡ false) → (x : Number) → P x → ¬ FitsIn x (node ls rs)
-gap_misses P ls rs o q low high never =
-    gap-misses P (node ls rs) o q (rw lefts-node low) (rw rights-node high) never
+gap_misses P ls rs o q low high never = gap-misses P (node ls rs) o q (rw lefts-node low) (rw rights-node high) never
 
 pub cut_of_none : (P : Number → Type 0) → Closed P → (s : Bool) (ls rs : List Game) (a b c : Cut)
     → CutOf P true (Some a) ls → CutOf P false (Some b) rs

@@ -127,12 +127,12 @@ no_one_apart a b c d e f g = omega (arith, ints)
 pub finer-no_jump : (f h : ℕ → Walls) → Finer f h → (t : ℕ) → (h t).left ≡ (h t).right +ℤ pos 1
     → (h (suc t)).right ≡ (h (suc t)).left +ℤ pos 1 → ⊥
 finer-no_jump f h n t p q = elim (even_or_odd t) [
-  | inl w ↦ (
+  | inl w ↦
       no_one_apart (h (twice w.0)).left (h (twice w.0)).right (f w.0).left (f w.0).right (n.even_left w.0)
-      (n.even_right w.0) (rw w.1 at p))
-  | inr w ↦ (
+      (n.even_right w.0) (rw w.1 at p)
+  | inr w ↦
       no_one_apart (h (twice (suc w.0))).right (h (twice (suc w.0))).left (f (suc w.0)).right (f (suc w.0)).left
-      (n.even_right (suc w.0)) (n.even_left (suc w.0)) (rw w.1 at q))
+      (n.even_right (suc w.0)) (n.even_left (suc w.0)) (rw w.1 at q)
 ]
 
 -- ---- the walls

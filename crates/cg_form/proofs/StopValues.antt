@@ -95,14 +95,12 @@ pub record StopsOf (g : Game) (s : Stops) : Type 0 where
 left_of : (g : Game) (f : Game → Number) (gs : List Game) → lefts g ≡ gs → NoNumber g
     → ((a : Game) → Among a (lefts g) → RightStop a (f a)) → LeftStop g (greatest_number (map f (lefts g)))
 left_of g f [] e never rs = absurd (some_lefts g never e)
-left_of g f (a ∷ gs) e never rs =
-    left_top g f (greatest_number (map f (lefts g))) never rs (rw e (top_of f a gs))
+left_of g f (a ∷ gs) e never rs = left_top g f (greatest_number (map f (lefts g))) never rs (rw e (top_of f a gs))
 
 right_of : (g : Game) (f : Game → Number) (gs : List Game) → rights g ≡ gs → NoNumber g
     → ((b : Game) → Among b (rights g) → LeftStop b (f b)) → RightStop g (least_number (map f (rights g)))
 right_of g f [] e never rs = absurd (some_rights g never e)
-right_of g f (a ∷ gs) e never rs =
-    right_bottom g f (least_number (map f (rights g))) never rs (rw e (bottom_of f a gs))
+right_of g f (a ∷ gs) e never rs = right_bottom g f (least_number (map f (rights g))) never rs (rw e (bottom_of f a gs))
 
 pub stops_from : (g : Game) (c : Decided g) (l r : Game → Number) → ((a : Game) → Among a (lefts g) → RightStop a (l a))
     → ((b : Game) → Among b (rights g) → LeftStop b (r b))
