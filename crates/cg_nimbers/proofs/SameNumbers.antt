@@ -7,8 +7,7 @@ use Rattle.cg_dyadic.proofs.Fractions.{fraction-own, fraction-unique}
 use Rattle.cg_dyadic.proofs.Truth.{and-both, and-split, differ}
 
 pub same_parts : (x y : Number) → num_of x ≡ num_of y → exp_of x ≡ exp_of y → x ≡ y
-same_parts x y e f =
-    fraction-unique (num_of y) (exp_of y) x y (rw f at (rw e at (fraction-own x))) (fraction-own y)
+same_parts x y e f = fraction-unique (num_of y) (exp_of y) x y (rw f at (rw e at (fraction-own x))) (fraction-own y)
 
 abbrev equal_parts : Number → Number → Bool
 equal_parts x y = int_eq (num_of x) (num_of y) && nat_eq (exp_of x) (exp_of y)
