@@ -1,5 +1,5 @@
 -- The search at a scale, one scale coarser, and at the coarsest scale at which a unit lies between the ends.
-use Rattle.std.proofs.Common.{◌≡◌, refl, ℕ, ◌+◌, ◌-◌, ◌%◌, ◌<◌, ◌≤◌, arith, zero, suc, Bool, true, false, ap, sym, ◌∙◌, subst, ℤ, pos, negsuc, ◌+ℤ◌, ◌≤ℤ◌, ◌<ℤ◌, unsigned_abs, ◌⊎◌, inl, inr}
+use Rattle.std.proofs.Common.{◌≡◌, refl, ℕ, ◌+◌, ◌-◌, ◌%◌, ◌<◌, ◌≤◌, arith, zero, suc, Bool, true, false, ap, sym, ◌∙◌, ℤ, pos, negsuc, ◌+ℤ◌, ◌≤ℤ◌, ◌<ℤ◌, unsigned_abs, ◌⊎◌, inl, inr}
 use Rattle.std.proofs.lemmas.Int.{ints}
 use Rattle.std.specs.Prelude.{Option, Some, None, if◌then◌else◌}
 use lib.Signed.{lt_z}
@@ -41,12 +41,10 @@ coarser s a b test h = record {
 pub coarser_by : (d s : ℕ) (a b : Option ℤ) (test : Number → Bool) → AtScale (d + s) a b test → AtScale s (coarse_low d a) (coarse_high d b) test
 coarser_by zero s a b test h =
     let e : 0 + s ≡ s = omega arith in
-    let P : ℕ → Type 0 = λ t. AtScale t a b test in
-    subst P e h
+    rw e at h
 coarser_by (suc d) s a b test h =
     let e : suc d + s ≡ d + suc s = omega arith in
-    let P : ℕ → Type 0 = λ t. AtScale t a b test in
-    coarser s (coarse_low d a) (coarse_high d b) test (coarser_by d (suc s) a b test (subst P e h))
+    coarser s (coarse_low d a) (coarse_high d b) test (coarser_by d (suc s) a b test (rw e at h))
 
 -- ---- the integer of least size
 
@@ -64,7 +62,7 @@ skip : (c : Bool) (m n : ℤ) → c ≡ false → (if c then m else n) ≡ n
 skip c m n e = rw e refl
 
 near_as : (a b : Option ℤ) (m n : ℤ) → m ≡ n → Nearest a b n → Nearest a b m
-near_as a b m n e h = let P : ℤ → Type 0 = λ z. Nearest a b z in subst P (sym e) h
+near_as a b m n e h = rw e h
 
 nearest-is : (a b : Option ℤ) → crossed a b ≡ false → Nearest a b (nearest a b)
 nearest-is None None h = record { at_least = tt; at_most = tt; below = λ u k e. absurd (omega (arith, ints)); above = λ k. absurd (omega (arith, ints)) }
@@ -172,16 +170,16 @@ between_is m k h = elim (even_or_odd m) [
     pick_number c x y e = rw e refl
 
 some_least : (a : Option ℤ) (m u : ℤ) → a ≡ Some m → m ≤ℤ u → AtLeast a u
-some_least a m u e h = let P : Option ℤ → Type 0 = λ z. AtLeast z u in subst P (sym e) h
+some_least a m u e h = rw e h
 
 some_most : (b : Option ℤ) (m u : ℤ) → b ≡ Some m → u ≤ℤ m → AtMost b u
-some_most b m u e h = let P : Option ℤ → Type 0 = λ z. AtMost z u in subst P (sym e) h
+some_most b m u e h = rw e h
 
 least_some : (a : Option ℤ) (m u : ℤ) → a ≡ Some m → AtLeast a u → m ≤ℤ u
-least_some a m u e h = let P : Option ℤ → Type 0 = λ z. AtLeast z u in subst P e h
+least_some a m u e h = rw e at h
 
 most_some : (b : Option ℤ) (m u : ℤ) → b ≡ Some m → AtMost b u → u ≤ℤ m
-most_some b m u e h = let P : Option ℤ → Type 0 = λ z. AtMost z u in subst P e h
+most_some b m u e h = rw e at h
 
 between_simplest : (n : ℤ) (k : ℕ) (a b : Option ℤ) (test : Number → Bool) (m : ℤ) → half m ≡ n → AtScale (suc k) a b test → Meet a b m → NoOptionPasses test (between n k)
 between_simplest n k a b test m e h q =
@@ -200,9 +198,7 @@ found_between k a b test c d h =
     let (m, q, e) = meets a b c d in
     let r = between_is m k q.half_is in
     let s = between_simplest (half m) k a b test m refl h q in
-    let P : ℤ → Type 0 = λ z. FoundAt test z (suc k) in
-    let S : Number → Type 0 = λ x. NoOptionPasses test x in
-    subst P (sym e) (record { lowest = inr (odd m q.half_is); simplest = subst S (sym r) s })
+    rw e (record { lowest = inr (odd m q.half_is); simplest = rw r s })
   where
     odd : (m : ℤ) → half m +ℤ half m +ℤ pos 1 ≡ m → unsigned_abs m % 2 ≡ 1
     odd (pos n) h = omega (arith, ints)
@@ -219,8 +215,7 @@ at-coarser k a b h c =
 at_own : (s : ℕ) (a b : Option ℤ) (test : Number → Bool) → s ≤ 41 → AtScale 41 a b test → AtScale s (low_at s a) (high_at s b) test
 at_own s a b test k h =
     let e : 41 ≡ 41 - s + s = omega arith in
-    let P : ℕ → Type 0 = λ t. AtScale t a b test in
-    coarser_by (41 - s) s a b test (subst P e h)
+    coarser_by (41 - s) s a b test (rw e at h)
 
 found_at : (s : ℕ) (a b : Option ℤ) → Coarsest a b s → (test : Number → Bool) → AtScale 41 a b test → FoundAt test (nearest (low_at s a) (high_at s b)) s
 found_at zero a b c test h = found_whole (low_at 0 a) (high_at 0 b) test c.some (at_own 0 a b test c.within h)
@@ -230,8 +225,7 @@ found_at (suc k) a b c test h =
 pub found_nearest : (s : ℕ) (a b l m : Option ℤ) (r : ℤ) → Coarsest a b s → l ≡ low_at s a → m ≡ high_at s b → r ≡ nearest l m
     → (test : Number → Bool) → AtScale 41 a b test → FoundAt test r s
 found_nearest s a b l m r c e f g test h =
-    let P : ℤ → Type 0 = λ z. FoundAt test z s in
-    subst P (sym (g ∙ ap (λ z. nearest z m) e ∙ ap (λ z. nearest (low_at s a) z) f)) (found_at s a b c test h)
+    rw (g ∙ ap (λ z. nearest z m) e ∙ ap (λ z. nearest (low_at s a) z) f) (found_at s a b c test h)
 
 -- at no scale coarser than s a unit lies between the ends
 pub record CoarserCrossed (a b : Option ℤ) (s : ℕ) : Type 0 where

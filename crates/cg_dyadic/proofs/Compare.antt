@@ -1,5 +1,5 @@
 -- The order of two numbers as a comparison of whole numbers.
-use Rattle.std.proofs.Common.{◌≡◌, refl, sym, ◌∙◌, subst, ◌⊎◌, ℤ, true, false, ◌<ℤ◌, arith, inl, inr}
+use Rattle.std.proofs.Common.{◌≡◌, refl, sym, ◌∙◌, ◌⊎◌, ℤ, true, false, ◌<ℤ◌, arith, inl, inr}
 use Rattle.std.proofs.lemmas.Int.{ints}
 use Rattle.std.specs.declared.cmp.Ordering.{Ordering}
 use Rattle.std.specs.declared.cmp.Ordering.TheVariants.{Less, Equal, Greater}
@@ -35,8 +35,7 @@ number_cmp-through x y a b o p q e = e ∙ by (int_cmp a b) (int_ranks a b)
 pub number_cmp-same : (x y : Number) → (number_cmp x y ≡ Equal → x ≡ y) × (x ≡ y → number_cmp x y ≡ Equal)
 number_cmp-same x y = (
   λ e. tells (true_or_false (number_le x y)) (true_or_false (number_le y x)) e,
-  λ e. let P : Number → Type 0 = λ z. number_cmp x z ≡ Equal in
-      subst P e (number_cmp-equal x x (number_le-refl x) (number_le-refl x)),
+  λ e. rw e (number_cmp-equal y y (number_le-refl y) (number_le-refl y)),
 )
   where
     tells : (number_le x y ≡ true) ⊎ (number_le x y ≡ false) → (number_le y x ≡ true) ⊎ (number_le y x ≡ false) → number_cmp x y ≡ Equal → x ≡ y

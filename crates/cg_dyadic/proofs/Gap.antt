@@ -1,5 +1,5 @@
 -- The gap between two cuts, at a scale.
-use Rattle.std.proofs.Common.{◌≡◌, refl, ℕ, ◌+◌, ◌-◌, ◌^◌, ◌≤◌, ◌<◌, arith, zero, suc, Bool, true, false, not, IsTrue, ap, sym, ◌∙◌, subst, ℤ, pos, negsuc, ◌+ℤ◌, ◌-ℤ◌, ◌*ℤ◌, ◌≤ℤ◌, ◌<ℤ◌, inl, inr, unsigned_abs}
+use Rattle.std.proofs.Common.{◌≡◌, refl, ℕ, ◌+◌, ◌-◌, ◌^◌, ◌≤◌, ◌<◌, arith, zero, suc, Bool, true, false, not, IsTrue, ap, sym, ◌∙◌, ℤ, pos, negsuc, ◌+ℤ◌, ◌-ℤ◌, ◌*ℤ◌, ◌≤ℤ◌, ◌<ℤ◌, inl, inr, unsigned_abs}
 use Rattle.std.proofs.lemmas.Int.{ints}
 use Rattle.std.specs.Prelude.{Option, Some, None, if◌then◌else◌}
 use Rattle.cg_dyadic.specs.declared.cut.Cut.{Cut}
@@ -70,7 +70,7 @@ units-small x r = let u = units_small x r in small_from (units 41 x) u.0 u.1
 
 pub small_around : (x : Number) (r : ℤ) → r ≡ units 41 x → InRange x → SmallAround r
 small_around x r e i = let (a, b, c) = units-small x i in
-    let P : ℤ → Type 0 = λ z. SmallAround z in subst P (sym e) (record { up = a; down = b; here = c })
+    rw e (record { up = a; down = b; here = c })
 
 -- ---- a gap at the finest scale
 
@@ -193,10 +193,7 @@ gap_convex low high = record {
 
 pub gap_found : (low high : Option Cut) (a b : Option ℤ) (n : ℤ) (e : ℕ) → a ≡ first_unit low → b ≡ last_unit high → ShortCut low → ShortCut high
     → ((test : Number → Bool) → AtScale 41 a b test → FoundAt test n e) → FoundAt (in_gap low high) n e
-gap_found low high a b n e p q s r f =
-    let P : Option ℤ → Type 0 = λ z. AtScale 41 z (last_unit high) (in_gap low high) in
-    let Q : Option ℤ → Type 0 = λ z. AtScale 41 a z (in_gap low high) in
-    f (in_gap low high) (subst Q (sym q) (subst P (sym p) (gap_at_scale low high s r)))
+gap_found low high a b n e p q s r f = f (in_gap low high) (rw q (rw p (gap_at_scale low high s r)))
 
 pub gap_nothing : (low high : Option Cut) (a b : Option ℤ) (r : Bool) → a ≡ first_unit low → b ≡ last_unit high → ShortCut low → ShortCut high
     → r ≡ crossed a b → r ≡ true → NonePasses (in_gap low high)
@@ -205,16 +202,14 @@ gap_nothing low high a b r p q s t e f = gap_none low high s t (ap (λ z. crosse
 pub lowest_found : (test : Number → Bool) (n m : ℤ) (e : ℕ) → m ≡ n → FoundAt test n e → unsigned_abs n < 2 ^ 64 → e ≤ 40 → InLowest m e
 lowest_found test n m e p f s t =
     let (a, b) = ratio-lowest n e f.lowest in
-    let P : ℤ → Type 0 = λ z. InLowest z e in
-    subst P (sym p) (record { num_is = a; exp_is = b; small = s; short = t })
+    rw p (record { num_is = a; exp_is = b; small = s; short = t })
 
 pub found_inside : (test : Number → Bool) (n m : ℤ) (e : ℕ) → m ≡ n → FoundAt test n e → unsigned_abs n < 2 ^ 64 → e ≤ 40
     → NoOptionPasses test (ratio m e) × InRange (ratio m e)
 found_inside test n m e p f s t =
-    let P : ℤ → Type 0 = λ z. NoOptionPasses test (ratio z e) × InRange (ratio z e) in
     let (a, b) = ratio-lowest n e f.lowest in
     let c = ap unsigned_abs a in
-    subst P (sym p) (f.simplest, record { small = omega arith; short = omega arith })
+    rw p (f.simplest, record { small = omega arith; short = omega arith })
 
 pub found_outside : (test : Number → Bool) (n : ℤ) (e : ℕ) → FoundAt test n e → ((unsigned_abs n < 2 ^ 64) × (e ≤ 40) → ⊥) → ¬ InRange (ratio n e)
 found_outside test n e f h r =

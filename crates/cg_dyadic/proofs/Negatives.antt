@@ -1,25 +1,22 @@
 -- The negative of a number.
-use Rattle.std.proofs.Common.{◌≡◌, refl, sym, subst, ℕ, ℤ, pos, neg_ℤ}
+use Rattle.std.proofs.Common.{◌≡◌, refl, sym, pos, neg_ℤ}
 use Rattle.std.proofs.lemmas.Int.{ints}
 use Rattle.std.proofs.Common.{arith}
 use Rattle.cg_dyadic.specs.Exact.{IsNegative, number_negative}
-use Rattle.cg_dyadic.specs.Number.{IsFraction, Number, NumberLe, exp_of, num_of, whole}
+use Rattle.cg_dyadic.specs.Number.{Number, NumberLe, exp_of, num_of, whole}
 use Rattle.cg_dyadic.proofs.Fractions.{fraction-own, fraction-ratio, fraction-unique}
 use Rattle.cg_dyadic.proofs.Sums.{negative-exists, negative-order}
 
 -- the negative is the one number of the other sign
 pub negative-is : (x y : Number) → IsNegative x y → y ≡ number_negative x
 negative-is x y h =
-    let P : ℤ → Type 0 = λ n. IsFraction n (exp_of y) y in
-    let Q : ℕ → Type 0 = λ k. IsFraction (neg_ℤ (num_of x)) k y in
-    fraction-unique (neg_ℤ (num_of x)) (exp_of x) y (number_negative x) (subst Q h.exp (subst P h.num (fraction-own y)))
+    fraction-unique (neg_ℤ (num_of x)) (exp_of x) y (number_negative x) (rw h.exp at (rw h.num at (fraction-own y)))
     (fraction-ratio (neg_ℤ (num_of x)) (exp_of x))
 
 pub negative-of : (x : Number) → IsNegative x (number_negative x)
 negative-of x =
     let (y, h) = negative-exists x in
-    let P : Number → Type 0 = λ z. IsNegative x z in
-    subst P (negative-is x y h) h
+    rw (negative-is x y h) at h
 
 pub double_negative : (x : Number) → number_negative (number_negative x) ≡ x
 double_negative x =

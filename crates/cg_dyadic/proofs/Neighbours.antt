@@ -1,13 +1,13 @@
 -- The options of a number are the fractions a unit of its denominator below and above.
-use Rattle.std.proofs.Common.{◌≡◌, refl, ap, sym, subst, ℕ, zero, suc, ◌+◌, ℤ, pos, negsuc, ◌+ℤ◌, ◌-ℤ◌, arith, inl, List, [], ◌∷◌}
+use Rattle.std.proofs.Common.{◌≡◌, refl, ap, sym, ℕ, zero, suc, ◌+◌, ℤ, pos, negsuc, ◌+ℤ◌, ◌-ℤ◌, arith, inl, [], ◌∷◌}
 use Rattle.std.proofs.lemmas.Int.{ints}
-use Rattle.cg_dyadic.specs.Number.{AmongNumbers, InRange, IsFraction, Number, between, exp_of, num_of, number_lefts, number_rights, ratio, whole}
+use Rattle.cg_dyadic.specs.Number.{InRange, IsFraction, Number, between, exp_of, num_of, number_lefts, number_rights, ratio, whole}
 use Rattle.cg_dyadic.proofs.Fractions.{fraction-at, fraction-ratio, fraction-unique}
 use Rattle.cg_dyadic.proofs.Scale.{exp-ratio, units-left}
 use Rattle.cg_dyadic.proofs.Weight.{in_range-lefts, in_range-rights}
 
 along : (m n : ℤ) (k : ℕ) (x : Number) → m ≡ n → IsFraction m k x → IsFraction n k x
-along m n k x e f = let P : ℤ → Type 0 = λ z. IsFraction z k x in subst P e f
+along m n k x e f = rw e at f
 
 -- y is the one fraction m / 2 ^ k, so it is x
 same : (m n : ℤ) (k : ℕ) (x y : Number) → m ≡ n → IsFraction n k x → IsFraction m k y → x ∷ [] ≡ y ∷ []
@@ -17,8 +17,7 @@ half_fraction : (n : ℤ) (k : ℕ) → IsFraction (n +ℤ n) (k + 1) (ratio n k
 half_fraction n k =
     let e : suc k ≡ k + 1 = omega arith in
     let s = exp-ratio n k in
-    let P : ℕ → Type 0 = λ z. IsFraction (n +ℤ n) z (ratio n k) in
-    subst P e (fraction-at (n +ℤ n) (suc k) (ratio n k) (omega arith) (units-left n k))
+    rw e at (fraction-at (n +ℤ n) (suc k) (ratio n k) (omega arith) (units-left n k))
 
 pub left_is : (x y : Number) → ¬ (number_lefts x ≡ []) → IsFraction (num_of x -ℤ pos 1) (exp_of x) y
     → number_lefts x ≡ y ∷ []
@@ -38,19 +37,15 @@ right_is (between n k) y h f = same (n +ℤ n +ℤ pos 1 +ℤ pos 1) ((n +ℤ po
     (ratio (n +ℤ pos 1) k) y (omega (arith, ints)) (half_fraction (n +ℤ pos 1) k) f
 
 left_in_range : (x y : Number) → InRange x → number_lefts x ≡ y ∷ [] → InRange y
-left_in_range x y r e =
-    let P : List Number → Type 0 = λ z. AmongNumbers y z in
-    in_range-lefts x y r (subst P (sym e) (inl refl))
+left_in_range x y r e = in_range-lefts x y r (rw e (inl refl))
 
 right_in_range : (x y : Number) → InRange x → number_rights x ≡ y ∷ [] → InRange y
-right_in_range x y r e =
-    let P : List Number → Type 0 = λ z. AmongNumbers y z in
-    in_range-rights x y r (subst P (sym e) (inl refl))
+right_in_range x y r e = in_range-rights x y r (rw e (inl refl))
 
 -- ---- from the fraction that was made
 
 fraction_along : (m n : ℤ) (k j : ℕ) (y : Number) → m ≡ n → k ≡ j → IsFraction m k y → IsFraction n j y
-fraction_along m n k j y e d f = let P : ℕ → Type 0 = λ z. IsFraction n z y in subst P d (along m n k y e f)
+fraction_along m n k j y e d f = rw d at (along m n k y e f)
 
 pub left_made : (x y : Number) (m : ℤ) (k : ℕ) → m ≡ num_of x -ℤ pos 1 → k ≡ exp_of x → ¬ (number_lefts x ≡ [])
     → IsFraction m k y → y ∷ [] ≡ number_lefts x

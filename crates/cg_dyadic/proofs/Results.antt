@@ -1,17 +1,17 @@
 -- What the calls of arithmetic answer: the exact number, or why there is none in range.
-use Rattle.std.proofs.Common.{◌≡◌, refl, ℕ, ◌*◌, ◌^◌, ◌<◌, ◌≤◌, Bool, ℤ, pos, unsigned_abs, ap, sym, subst, ◌∙◌, arith, Err}
+use Rattle.std.proofs.Common.{◌≡◌, refl, ℕ, ◌*◌, ◌^◌, ◌<◌, ◌≤◌, Bool, ℤ, pos, unsigned_abs, ap, sym, ◌∙◌, arith, Err}
 use Rattle.std.proofs.lemmas.Int.{ints}
 use Rattle.std.specs.Prelude.{Option, Some, None, IfSome, IsNone}
 use lib.Signed.{lt_z}
 use Rattle.cg_dyadic.specs.declared.fault.RangeFault.{RangeFault}
 use Rattle.cg_dyadic.specs.Exact.{IsExact, IsFromDigits, IsLowest, signed_of}
-use Rattle.cg_dyadic.specs.Number.{InRange, IsFraction, Number, exp_of, num_of, ratio}
+use Rattle.cg_dyadic.specs.Number.{InRange, Number, exp_of, num_of, ratio}
 use Rattle.cg_dyadic.proofs.Fractions.{abs_signed, fraction-unique, ratio-lowest, same_fraction, sign_and_size}
 use Rattle.cg_dyadic.proofs.Integers.{from_lt_z, not_lt_z}
 use Rattle.cg_dyadic.proofs.Powers.{same_power}
 
 lowest_signed : (b : Bool) (m e : ℕ) → IsLowest m e → IsLowest (unsigned_abs (signed_of b m)) e
-lowest_signed b m e h = let P : ℕ → Type 0 = λ k. IsLowest k e in subst P (sym (abs_signed b m)) h
+lowest_signed b m e h = rw (abs_signed b m) h
 
 pub sign_of : (n m : ℤ) (k : ℕ) → m ≡ n → k ≡ unsigned_abs m → n ≡ signed_of (lt_z m (pos 0)) k
 sign_of n m k e f = sym e
@@ -31,8 +31,7 @@ pub fault_holds : (b : Bool) (n : ℤ) (s k m e : ℕ) (f : RangeFault) → n �
 fault_holds b n s k m e f sign same low num exp out =
     let (p, q) = ratio-lowest (signed_of b m) e (lowest_signed b m e low) in
     let x : Number = ratio (signed_of b m) e in
-    let P : ℤ → Type 0 = λ z. IsFraction z k (ratio (signed_of b m) e) in
-    (ratio (signed_of b m) e, subst P (sym sign) (same_fraction b s k m e (ratio (signed_of b m) e) same p q), record { num = num ∙ sym p; exp = exp ∙ sym q }, outside b m e (ratio (signed_of b m) e) p q out)
+    (ratio (signed_of b m) e, rw sign (same_fraction b s k m e (ratio (signed_of b m) e) same p q), record { num = num ∙ sym p; exp = exp ∙ sym q }, outside b m e (ratio (signed_of b m) e) p q out)
 
 pub digits_tell : (b : Bool) (num den k m e : ℕ) (r : Option Number) → den ≡ 2 ^ k → m * 2 ^ k ≡ num * 2 ^ e → IsLowest m e
     → IfSome r (λ x. num_of x ≡ signed_of b m) → IfSome r (λ x. exp_of x ≡ e) → IfSome r (λ x. InRange x) → (IsNone r → (m < 2 ^ 64) × (e ≤ 40) → ⊥) → IsFromDigits b num den r
@@ -40,6 +39,5 @@ digits_tell b num den k m e (Some x) power same low n f range out = (record { ex
 digits_tell b num den k m e None power same low n f range out = λ x q.
     let (p, r) = ratio-lowest (signed_of b m) e (lowest_signed b m e low) in
     let j : q.exp ≡ k = same_power q.exp k (sym q.power ∙ power) in
-    let P : ℕ → Type 0 = λ i. IsFraction (signed_of b num) i x in
-    let is : x ≡ ratio (signed_of b m) e = fraction-unique (signed_of b num) k x (ratio (signed_of b m) e) (subst P j q.value) (same_fraction b num k m e (ratio (signed_of b m) e) same p r) in
+    let is : x ≡ ratio (signed_of b m) e = fraction-unique (signed_of b num) k x (ratio (signed_of b m) e) (rw j at q.value) (same_fraction b num k m e (ratio (signed_of b m) e) same p r) in
     outside b m e x (ap num_of is ∙ p) (ap exp_of is ∙ r) (out refl)

@@ -1,5 +1,5 @@
 -- Ends of a gap at a scale: what a shift of a word gives.
-use Rattle.std.proofs.Common.{◌≡◌, refl, ℕ, ◌+◌, ◌-◌, ◌/◌, ◌^◌, ◌<◌, arith, zero, suc, ap, sym, ◌∙◌, subst, ℤ, pos, negsuc, ◌+ℤ◌, ◌-ℤ◌, ◌≤ℤ◌}
+use Rattle.std.proofs.Common.{◌≡◌, refl, ℕ, ◌+◌, ◌-◌, ◌/◌, ◌^◌, ◌<◌, arith, zero, suc, ap, sym, ◌∙◌, ℤ, pos, negsuc, ◌+ℤ◌, ◌-ℤ◌, ◌≤ℤ◌}
 use Rattle.std.proofs.lemmas.Int.{fits_signed_from_abs, ints, to_z-of_z}
 use Rattle.std.proofs.lemmas.Nat.{shr-shr, shr_le}
 use Rattle.std.specs.Prelude.{Option, Some, None}
@@ -79,14 +79,12 @@ held-shift k d n e h = ap (λ z. held (shr_z z (2 ^ d))) (within-held k n e h) �
 
 pub high_word : (b : Option ℤ) (s : ℕ) (n : ℤ) → b ≡ Some n → SmallEnd b → Some (held (shr_z (held n) (2 ^ (41 - s)))) ≡ high_at s b
 high_word b s n e h =
-    let P : Option ℤ → Type 0 = λ z. SmallEnd z in
-    let w = small-within n (subst P e h) in
+    let w = small-within n (rw e at h) in
     ap Some (held-shift _ (41 - s) n (omega arith) w) ∙ sym (high-shift (41 - s) n) ∙ ap (λ z. high_at s z) (sym e)
 
 pub low_word : (a : Option ℤ) (s : ℕ) (n : ℤ) → a ≡ Some n → SmallEnd a → Some (held (held (shr_z (held (held n -ℤ pos 1)) (2 ^ (41 - s))) +ℤ pos 1)) ≡ low_at s a
 low_word a s n e h =
-    let P : Option ℤ → Type 0 = λ z. SmallEnd z in
-    let w = small-within n (subst P e h) in
+    let w = small-within n (rw e at h) in
     let m : ℤ = n -ℤ pos 1 in
     let v = within-less _ n w in
     let one : m +ℤ pos 1 ≡ n = omega (arith, ints) in

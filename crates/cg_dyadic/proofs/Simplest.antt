@@ -1,5 +1,5 @@
 -- A number that passes a convex test while none of its options does is the simplest that passes.
-use Rattle.std.proofs.Common.{◌≡◌, refl, ℕ, ◌<◌, arith, zero, suc, Bool, false, IsTrue, ap, ◌∙◌, subst, ◌⊎◌, inl, inr, List, [], ◌∷◌}
+use Rattle.std.proofs.Common.{◌≡◌, refl, ℕ, ◌<◌, arith, zero, suc, Bool, false, IsTrue, ap, ◌∙◌, ◌⊎◌, inl, inr, List, [], ◌∷◌}
 use Rattle.cg_dyadic.specs.Number.{AmongNumbers, InRange, Number, NumberLe, number_le, number_lefts, number_rights, weight}
 use Rattle.cg_dyadic.specs.Simplest.{NoOptionPasses, SimplestFor}
 use Rattle.cg_dyadic.proofs.Simpler.{simpler_above, simpler_below}
@@ -49,8 +49,7 @@ simplest_within (suc n) test x w r t = elim (some_passes test (number_lefts x)) 
 pub outside_none : (test : Number → Bool) (x : Number) → Convex test → NoOptionPasses test x → ¬ InRange x → (y : Number) → InRange y → test y ≡ false
 outside_none test x v s n y r = false-from (test y) (λ t.
     let (z, k, i) = simplest_within (suc (weight y)) test y (omega arith) r t in
-    let P : Number → Type 0 = λ u. InRange u in
-    n (subst P (simplest_same test z x v k s) i))
+    n (rw (simplest_same test z x v k s) at i))
 
 pub simplest_for : (test : Number → Bool) (x : Number) → Convex test → NoOptionPasses test x → SimplestFor test x
 simplest_for test x v s = record {

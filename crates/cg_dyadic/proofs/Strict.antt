@@ -1,5 +1,5 @@
 -- The simplest number strictly between two.
-use Rattle.std.proofs.Common.{◌≡◌, refl, arith, Bool, true, false, not, IsTrue, sym, ◌∙◌, subst, pos, ◌+ℤ◌, ◌-ℤ◌}
+use Rattle.std.proofs.Common.{◌≡◌, refl, arith, Bool, true, false, not, IsTrue, sym, ◌∙◌, pos, ◌+ℤ◌, ◌-ℤ◌}
 use Rattle.std.proofs.lemmas.Int.{ints}
 use Rattle.std.specs.Prelude.{Option, Some, None}
 use Rattle.cg_dyadic.specs.declared.cut.Cut.{Cut}
@@ -57,10 +57,8 @@ at_strict test other x e s = record { passes = sym (e x) ∙ s.passes; simplest 
 
 pub strict_simplest : (low high : Option Number) (x : Number) (a b : Option Cut) → a ≡ closed_cut low → b ≡ closed_cut high → NoOptionPasses (in_gap a b) x → SimplestFor (strictly_between low high) x
 strict_simplest low high x a b p q s =
-    let P : Option Cut → Type 0 = λ z. NoOptionPasses (in_gap z b) x in
-    let Q : Option Cut → Type 0 = λ z. NoOptionPasses (in_gap (closed_cut low) z) x in
     at_strict (in_gap (closed_cut low) (closed_cut high)) (strictly_between low high) x (strict_gap low high)
-    (simplest_for (in_gap (closed_cut low) (closed_cut high)) x (gap_convex (closed_cut low) (closed_cut high)) (subst Q q (subst P p s)))
+    (simplest_for (in_gap (closed_cut low) (closed_cut high)) x (gap_convex (closed_cut low) (closed_cut high)) (rw q at (rw p at s)))
 
 strict_some : (low high : Option Number) → Apart low high → NonePasses (in_gap (closed_cut low) (closed_cut high)) → ⊥
 strict_some None None h f = differ true refl (f (whole (pos 0)))
@@ -71,10 +69,7 @@ strict_some (Some p) None h f = apart_gap p (above_of p) (above_more p) (λ x. f
 strict_some (Some p) (Some q) h f = apart_gap p q h f
 
 pub strict_there : (low high : Option Number) (a b : Option Cut) → a ≡ closed_cut low → b ≡ closed_cut high → Apart low high → NonePasses (in_gap a b) → ⊥
-strict_there low high a b p q h f =
-    let P : Option Cut → Type 0 = λ z. NonePasses (in_gap z b) in
-    let Q : Option Cut → Type 0 = λ z. NonePasses (in_gap (closed_cut low) z) in
-    strict_some low high h (subst Q q (subst P p f))
+strict_there low high a b p q h f = strict_some low high h (rw q at (rw p at f))
 
 pub outside_is : (low high : Option Number) (a b : Option Cut) (f : RangeFault) → a ≡ closed_cut low → b ≡ closed_cut high
     → (x : Number) → Holds f x → NoOptionPasses (in_gap a b) x → ¬ InRange x → SimplestIsOutside (strictly_between low high) f

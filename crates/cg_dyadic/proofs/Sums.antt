@@ -1,8 +1,8 @@
 -- Sums and negatives of numbers, at a common scale.
-use Rattle.std.proofs.Common.{◌≡◌, refl, ℕ, zero, suc, ◌+◌, ◌-◌, ◌^◌, ◌≤◌, ◌↔◌, ℤ, pos, neg_ℤ, ◌+ℤ◌, ◌*ℤ◌, ◌≤ℤ◌, ap, sym, subst, ◌∙◌, arith}
+use Rattle.std.proofs.Common.{◌≡◌, refl, ℕ, zero, suc, ◌+◌, ◌-◌, ◌^◌, ◌≤◌, ◌↔◌, ℤ, pos, neg_ℤ, ◌+ℤ◌, ◌*ℤ◌, ◌≤ℤ◌, ap, sym, ◌∙◌, arith}
 use Rattle.std.proofs.lemmas.Int.{ints}
 use Rattle.cg_dyadic.specs.Exact.{IsNegative, IsSum, sum_num}
-use Rattle.cg_dyadic.specs.Number.{IsFraction, Number, NumberLe, between, exp_of, num_of, ratio, whole}
+use Rattle.cg_dyadic.specs.Number.{Number, NumberLe, between, exp_of, num_of, ratio, whole}
 use Rattle.cg_dyadic.specs.Units.{doubled, units}
 use Rattle.cg_dyadic.proofs.Fractions.{fraction-ratio, fraction-units}
 use Rattle.cg_dyadic.proofs.Scale.{doubled-add, doubled-back, doubled-mul, le-units, units-le, units_up, units_up'}
@@ -34,11 +34,9 @@ sum-exists x y = (ratio (sum_num x y) (exp_of x + exp_of y), fraction-ratio (sum
 
 pub sum-commutes : (x y z : Number) → IsSum x y z → IsSum y x z
 sum-commutes x y z h =
-    let P : ℤ → Type 0 = λ n. IsFraction n (exp_of y + exp_of x) z in
-    let Q : ℕ → Type 0 = λ k. IsFraction (sum_num x y) k z in
     let n : sum_num x y ≡ sum_num y x = omega (arith, ints) in
     let k : exp_of x + exp_of y ≡ exp_of y + exp_of x = omega arith in
-    subst P n (subst Q k h)
+    rw n at (rw k at h)
 
 pub sum-order : (x y z a b : Number) → IsSum x z a → IsSum y z b → NumberLe x y ↔ NumberLe a b
 sum-order x y z a b h k =

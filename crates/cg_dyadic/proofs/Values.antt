@@ -1,5 +1,5 @@
 -- The order of numbers, and a number between two that are apart.
-use Rattle.std.proofs.Common.{◌≡◌, refl, ℕ, ◌+◌, ◌-◌, ◌^◌, ◌≤◌, ◌<◌, arith, zero, suc, ap, sym, ◌∙◌, subst, ℤ, pos, negsuc, ◌+ℤ◌, ◌≤ℤ◌, ◌<ℤ◌, ◌⊎◌, inl, inr, unsigned_abs}
+use Rattle.std.proofs.Common.{◌≡◌, refl, ℕ, ◌+◌, ◌-◌, ◌^◌, ◌≤◌, ◌<◌, arith, zero, suc, ap, ◌∙◌, ℤ, pos, negsuc, ◌+ℤ◌, ◌≤ℤ◌, ◌<ℤ◌, ◌⊎◌, inl, inr, unsigned_abs}
 use Rattle.std.proofs.lemmas.Int.{ints}
 use Rattle.cg_dyadic.specs.Number.{AmongNumbers, InRange, Number, NumberLe, between, exp_of, num_of, number_lefts, number_rights, ratio, whole}
 use Rattle.cg_dyadic.specs.Units.{doubled, units}
@@ -33,15 +33,13 @@ less-le x y h = elim (number_le-total y x) [ inl k ↦ k | inr k ↦ absurd (h k
 pub not_le-left_number : (x y : Number) → AmongNumbers y (number_lefts x) → ¬ NumberLe x y
 not_le-left_number (whole (pos zero)) y m h = absurd m
 not_le-left_number (whole (pos (suc n))) y (inl e) h =
-    let P : Number → Type 0 = λ z. NumberLe (whole (pos (suc n))) z in
-    let c = le-units 0 (whole (pos (suc n))) (whole (pos n)) (omega arith) (omega arith) (subst P e h) in
+    let c = le-units 0 (whole (pos (suc n))) (whole (pos n)) (omega arith) (omega arith) (rw e at h) in
     omega (arith, ints)
 not_le-left_number (whole (pos (suc n))) y (inr m) h = absurd m
 not_le-left_number (whole (negsuc n)) y m h = absurd m
 not_le-left_number (between n k) y (inl e) h =
-    let P : Number → Type 0 = λ z. NumberLe (between n k) z in
     let r = exp-ratio n k in
-    let c = le-units (k + 1) (between n k) (ratio n k) (omega arith) (omega arith) (subst P e h) in
+    let c = le-units (k + 1) (between n k) (ratio n k) (omega arith) (omega arith) (rw e at h) in
     let o = units-own (between n k) in
     let u = units-ratio n k in
     let t : suc k - exp_of (ratio n k) ≡ k + 1 - exp_of (ratio n k) = omega arith in
@@ -53,14 +51,12 @@ not_le-left_number (between n k) y (inr m) h = absurd m
 pub not_le-right_number : (x y : Number) → AmongNumbers y (number_rights x) → ¬ NumberLe y x
 not_le-right_number (whole (pos n)) y m h = absurd m
 not_le-right_number (whole (negsuc n)) y (inl e) h =
-    let P : Number → Type 0 = λ z. NumberLe z (whole (negsuc n)) in
-    let c = le-units 0 (whole (negsuc n +ℤ pos 1)) (whole (negsuc n)) (omega arith) (omega arith) (subst P e h) in
+    let c = le-units 0 (whole (negsuc n +ℤ pos 1)) (whole (negsuc n)) (omega arith) (omega arith) (rw e at h) in
     omega (arith, ints)
 not_le-right_number (whole (negsuc n)) y (inr m) h = absurd m
 not_le-right_number (between n k) y (inl e) h =
-    let P : Number → Type 0 = λ z. NumberLe z (between n k) in
     let r = exp-ratio (n +ℤ pos 1) k in
-    let c = le-units (k + 1) (ratio (n +ℤ pos 1) k) (between n k) (omega arith) (omega arith) (subst P e h) in
+    let c = le-units (k + 1) (ratio (n +ℤ pos 1) k) (between n k) (omega arith) (omega arith) (rw e at h) in
     let o = units-own (between n k) in
     let u = units-ratio (n +ℤ pos 1) k in
     let t : suc k - exp_of (ratio (n +ℤ pos 1) k) ≡ k + 1 - exp_of (ratio (n +ℤ pos 1) k) = omega arith in
@@ -129,10 +125,8 @@ deeper n m k j h p q =
 
 between_same : (n m : ℤ) (k j : ℕ) → k ≡ j → NumberLe (between n k) (between m j) → NumberLe (between m j) (between n k) → between n k ≡ between m j
 between_same n m k j e p q =
-    let P : ℕ → Type 0 = λ i. NumberLe (between n k) (between m i) in
-    let Q : ℕ → Type 0 = λ i. NumberLe (between m i) (between n k) in
-    let a = le-units (suc k) (between n k) (between m k) (omega arith) (omega arith) (subst P (sym e) p) in
-    let b = le-units (suc k) (between m k) (between n k) (omega arith) (omega arith) (subst Q (sym e) q) in
+    let a = le-units (suc k) (between n k) (between m k) (omega arith) (omega arith) (rw (← e) at p) in
+    let b = le-units (suc k) (between m k) (between n k) (omega arith) (omega arith) (rw (← e) at q) in
     let c = units-between n k in
     let d = units-between m k in
     let f : n ≡ m = omega (arith, ints) in

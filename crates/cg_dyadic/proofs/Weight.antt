@@ -1,5 +1,5 @@
 -- Options of a number weigh less, and options of a number in range are in range.
-use Rattle.std.proofs.Common.{◌≡◌, refl, ℕ, ◌+◌, ◌≤◌, ◌<◌, arith, zero, suc, true, false, ap, sym, subst, ℤ, pos, negsuc, ◌+ℤ◌, inl, inr, unsigned_abs}
+use Rattle.std.proofs.Common.{◌≡◌, refl, ℕ, ◌+◌, ◌≤◌, ◌<◌, arith, zero, suc, true, false, ap, ℤ, pos, negsuc, ◌+ℤ◌, inl, inr, unsigned_abs}
 use Rattle.std.proofs.lemmas.Int.{ints}
 use Rattle.std.specs.Prelude.{if◌then◌else◌}
 use Rattle.cg_dyadic.specs.Number.{AmongNumbers, InRange, Number, between, half, is_even, num_of, number_lefts, number_rights, ratio, weight, whole}
@@ -56,7 +56,7 @@ small-ratio n (suc k) =
     ]) refl
 
 range_along : (x y : Number) → y ≡ x → InRange x → InRange y
-range_along x y e r = let P : Number → Type 0 = λ z. InRange z in subst P (sym e) r
+range_along x y e r = rw e r
 
 pub in_range-lefts : (x y : Number) → InRange x → AmongNumbers y (number_lefts x) → InRange y
 in_range-lefts (whole (pos zero)) y r h = absurd h

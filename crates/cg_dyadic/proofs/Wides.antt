@@ -1,5 +1,5 @@
 -- Wall values in units of 1 / 2 ^ 60.
-use Rattle.std.proofs.Common.{◌≡◌, refl, ℕ, ◌+◌, ◌-◌, ◌*◌, ◌^◌, ◌<◌, ◌≤◌, inl, inr, Bool, true, false, ℤ, pos, ◌+ℤ◌, ◌-ℤ◌, ◌*ℤ◌, ◌≤ℤ◌, unsigned_abs, FitsSigned, ap, sym, subst, ◌∙◌, arith}
+use Rattle.std.proofs.Common.{◌≡◌, refl, ℕ, ◌+◌, ◌-◌, ◌*◌, ◌^◌, ◌<◌, ◌≤◌, inl, inr, Bool, true, false, ℤ, pos, ◌+ℤ◌, ◌-ℤ◌, ◌*ℤ◌, ◌≤ℤ◌, unsigned_abs, FitsSigned, ap, sym, ◌∙◌, arith}
 use Rattle.std.proofs.lemmas.Int.{fits_signed_from_abs, ints, to_z-of_z, unsigned_abs-mul}
 use Rattle.std.proofs.lemmas.Nat.{mul-le, pow-add, pow_pos}
 use Rattle.std.proofs.Math.Pow.{pow_mono}
@@ -10,7 +10,7 @@ use Rattle.std.specs.Prelude.{IfOk}
 use Rattle.std.proofs.Common.{Result, Ok, Err, List}
 use Rattle.cg_dyadic.proofs.Results.{sign_of}
 use Rattle.cg_dyadic.specs.Exact.{IsLowest, IsNegative, IsSum, number_text, signed_of, sum_num}
-use Rattle.cg_dyadic.specs.Number.{InRange, IsFraction, Number, exp_of, half, num_of, number_le, ratio}
+use Rattle.cg_dyadic.specs.Number.{InRange, Number, exp_of, half, num_of, number_le, ratio}
 use Rattle.cg_dyadic.specs.Units.{doubled, units}
 use Rattle.cg_dyadic.specs.Held.{IsWideWord}
 use Rattle.cg_dyadic.specs.Wide.{InWide, places, terms_text}
@@ -112,8 +112,7 @@ sum-from s x y z p q r e =
     let f : units (s + s) z ≡ units (s + s) w = t ∙ ap (doubled (s + s - s)) e ∙ d ∙ ap (λ n. n +ℤ doubled (s + s - s) (units s y)) (sym u)
     ∙ ap (λ n. units (s + s) x +ℤ n) (sym v) ∙ sym a in
     let same : z ≡ w = units-same (s + s) z w (omega arith) (omega arith) f in
-    let P : Number → Type 0 = λ n. IsSum x y n in
-    subst P (sym same) h
+    rw same h
 
 pub negative-from : (s : ℕ) (x z : Number) (n : ℤ) → exp_of x ≤ s → n +ℤ units s x ≡ pos 0 → z ≡ ratio n s → IsNegative x z
 negative-from s x z n p e f =
@@ -123,8 +122,7 @@ negative-from s x z n p e f =
     let k : exp_of y ≤ s = (let g = h.exp in omega arith) in
     let m : n ≡ units s y = omega (arith, ints) in
     let same : z ≡ y = f ∙ ap (λ i. ratio i s) m ∙ ratio-units s y k in
-    let P : Number → Type 0 = λ i. IsNegative x i in
-    subst P (sym same) h
+    rw same h
 
 bool_when : (b c : Bool) → (b ≡ true → c ≡ true) → (c ≡ true → b ≡ true) → b ≡ c
 bool_when true c h k = sym (h refl)
@@ -147,10 +145,9 @@ le-words x y m n e f h k v w = ap (λ z. le_z z (to_z w128 (of_z w128 n))) (wide
 pub sum-some : (x y z : Number) (n : ℤ) → InWide x → InWide y → n ≡ units places x +ℤ units places y → unsigned_abs n < 2 ^ 126 → z ≡ ratio n places
     → IsSum x y z × InWide z
 sum-some x y z n v w e h f =
-    let P : Number → Type 0 = λ i. InWide i in
     let k = word-wide n h in (
       sum-from places x y z v.short w.short (let a = ap exp_of f in let b = exp-ratio n places in omega arith) (ap (units places) f ∙ units-ratio n places ∙ e),
-      subst P (sym f) k,
+      rw f k,
     )
 
 pub sum-none : (x y : Number) (n : ℤ) → InWide x → InWide y → n ≡ units places x +ℤ units places y → (unsigned_abs n < 2 ^ 126 → ⊥)
@@ -164,11 +161,10 @@ sum-none x y n v w e h z s k =
 -- half of it
 pub half-some : (x z : Number) (n m : ℤ) → InWide x → n ≡ units places x → m +ℤ m ≡ n → unsigned_abs m < 2 ^ 126 → z ≡ ratio m places → IsSum z z x × InWide z
 half-some x z n m v e d h f =
-    let P : Number → Type 0 = λ i. InWide i in
     let b = exp-ratio m places in let a = ap exp_of f in
     let u : units places z ≡ m = ap (units places) f ∙ units-ratio m places in (
       sum-from places z z x (omega arith) (omega arith) v.short (sym e ∙ sym d ∙ ap (λ i. i +ℤ m) (sym u) ∙ ap (λ i. units places z +ℤ i) (sym u)),
-      subst P (sym f) (word-wide m h),
+      rw f (word-wide m h),
     )
 
 pub half-none : (x : Number) (n : ℤ) → InWide x → n ≡ units places x → ((half n +ℤ half n ≡ n) → ⊥) → (z : Number) → IsSum z z x → ¬ InWide z
@@ -206,11 +202,9 @@ pub lowest_terms : (x : Number) (u : ℤ) (b : Bool) (m e : ℕ) → u ≡ units
     → m * 2 ^ 60 ≡ unsigned_abs u * 2 ^ e → IsLowest m e → (num_of x ≡ signed_of b m) × (exp_of x ≡ e)
 unfolding places
 lowest_terms x u b m e is h sign same low =
-    let P : ℕ → Type 0 = λ k. IsLowest k e in
-    let (p, q) = ratio-lowest (signed_of b m) e (subst P (sym (abs_signed b m)) low) in
+    let (p, q) = ratio-lowest (signed_of b m) e (rw (abs_signed b m) low) in
     let f = same_fraction b (unsigned_abs u) 60 m e (ratio (signed_of b m) e) same p q in
-    let F : ℤ → Type 0 = λ z. IsFraction z 60 (ratio (signed_of b m) e) in
-    let i = fraction-unique u 60 x (ratio (signed_of b m) e) (fraction-at u 60 x h (sym is)) (subst F (sym sign) f) in
+    let i = fraction-unique u 60 x (ratio (signed_of b m) e) (fraction-at u 60 x h (sym is)) (rw sign f) in
     (ap num_of i ∙ p, ap exp_of i ∙ q)
 
 pub plus_word2 : (m n : ℤ) → unsigned_abs m < 2 ^ 126 → unsigned_abs n < 2 ^ 126

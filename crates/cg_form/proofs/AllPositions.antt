@@ -1,6 +1,6 @@
 -- The positions of a game: the game is the last, each comes once, each comes behind the positions of its options, and those of
 -- a canonical game are canonical.
-use Rattle.std.proofs.Common.{◌≡◌, refl, ◌<◌, ◌≤◌, ◌⊎◌, inl, inr, List, [], ◌∷◌, ◌++◌, arith, ap, sym, ◌∙◌, subst}
+use Rattle.std.proofs.Common.{◌≡◌, refl, ◌<◌, ◌≤◌, ◌⊎◌, inl, inr, List, [], ◌∷◌, ◌++◌, arith, ap, sym, ◌∙◌}
 use Rattle.cg_dyadic.specs.Number.{Number}
 use Rattle.cg_form.specs.Canonical.{AllCanonical, Canonical}
 use Rattle.cg_form.specs.Depth.{deepest_of, depth_of}
@@ -40,16 +40,15 @@ mutual
 
 mutual
   pub positions-canonical : (g k : Game) → Canonical g → Among k (all_positions g) → Canonical k
-  positions-canonical (number x) k c (inl e) = let P : Game → Type 0 = λ z. Canonical z in subst P (sym e) tt
+  positions-canonical (number x) k c (inl e) = rw e tt
   positions-canonical (number x) k c (inr m) = absurd m
   positions-canonical (options ls rs) k c m =
-      let P : Game → Type 0 = λ z. Canonical z in
       elim (among-append k (positions_in ls ++ positions_in rs) (options ls rs ∷ []) m) [
         | inl n ↦ elim (among-append k (positions_in ls) (positions_in rs) n) [
           | inl o ↦ positions_in-canonical ls k c.1 o
           | inr o ↦ positions_in-canonical rs k c.2 o
         ]
-        | inr n ↦ elim n [ inl e ↦ subst P (sym e) c | inr nothing ↦ absurd nothing ]
+        | inr n ↦ elim n [ inl e ↦ rw e c | inr nothing ↦ absurd nothing ]
       ]
 
   positions_in-canonical : (gs : Games) (k : Game) → AllCanonical gs → Among k (positions_in gs) → Canonical k
@@ -63,8 +62,7 @@ mutual
 pub positions_in-own : (gs : Games) (a : Game) → Among a (to_list gs) → Among a (positions_in gs)
 positions_in-own none a m = absurd m
 positions_in-own (more g gs) a (inl e) =
-    let P : Game → Type 0 = λ z. Among z (positions_in (more g gs)) in
-    subst P (sym e) (among-append_left g (all_positions g) (positions_in gs) (positions-own g))
+    rw e (among-append_left g (all_positions g) (positions_in gs) (positions-own g))
 positions_in-own (more g gs) a (inr m) = among-append_right a (all_positions g) (positions_in gs) (positions_in-own
     gs a m)
 
@@ -124,17 +122,13 @@ extended-options_first : (before seen gs : List Game) → ((a : Game) → Among 
     → OptionsFirst [] seen → OptionsFirst before gs → OptionsFirst [] (extended seen gs)
 extended-options_first before seen [] sub f h = f
 extended-options_first before seen (g ∷ gs) sub f h =
-    let P : List Game → Type 0 = λ z. OptionsFirst [] (extended z gs) in
     elim (in_or_not games seen g) [
-      | inl there ↦ subst P (sym (one_more-there games seen g there))
-          (extended-options_first (g ∷ before) seen gs
+      | inl there ↦ rw (one_more-there games seen g there) (extended-options_first (g ∷ before) seen gs
           (λ a m. elim m [
-            | inl e ↦ (let Q : Game
-                → Type 0 = λ z. Among z seen in subst Q (sym e) there)
+            | inl e ↦ rw e there
             | inr n ↦ sub a n
           ]) f h.1)
-      | inr out ↦ subst P (sym (one_more-new games seen g out))
-          (extended-options_first (g ∷ before) (seen ++ (g ∷ [])) gs
+      | inr out ↦ rw (one_more-new games seen g out) (extended-options_first (g ∷ before) (seen ++ (g ∷ [])) gs
           (λ a m. elim m [
             | inl e ↦ among-append_right a seen (g ∷ []) (inl e)
             | inr n ↦ among-append_left a seen (g ∷
@@ -171,9 +165,7 @@ among-positions_of g k m = carry k (extended [] (all_positions g)) (positions_of
 
 -- no position stands twice
 pub positions_of-once : (g : Game) → EachOnce (positions_of g)
-positions_of-once g =
-    let P : List Game → Type 0 = λ z. EachOnce z in
-    subst P (sym (positions_of-extended g)) (extended-once games [] (all_positions g) tt)
+positions_of-once g = rw (positions_of-extended g) (extended-once games [] (all_positions g) tt)
 
 -- the positions of a canonical game are canonical
 pub positions_of-canonical : (g k : Game) → Canonical g → Among k (positions_of g) → Canonical k
@@ -184,9 +176,8 @@ pub positions_of-options_first : (g : Game) (front : List Game) (f : Game) (back
     → positions_of g ≡ front ++ (f ∷ back)
     → IsNode f → (a : Game) → Among a (lefts f) ⊎ Among a (rights f) → Among a front
 positions_of-options_first g front f back e is a o =
-    let P : List Game → Type 0 = λ z. OptionsFirst [] z in
     let h = extended-options_first [] [] (all_positions g) (λ a m. m) tt (positions-options_first [] g) in
-    elim (options_first-at [] front back f a (subst P (sym (positions_of-extended g) ∙ e) h) (is, o)) [
+    elim (options_first-at [] front back f a (rw (sym (positions_of-extended g) ∙ e) at h) (is, o)) [
       | inl nothing ↦ absurd nothing
       | inr m ↦ m
     ]
@@ -230,12 +221,12 @@ pub closed_more : (seen : List Game) (g : Game) → IsClosed seen → ((k : Game
 closed_more seen g closed before h m k n = elim (among-append h seen (g ∷ []) m) [
   | inl there ↦ among-append_left k seen (g ∷ []) (closed h there k n)
   | inr last ↦ elim last [
-    | inl e ↦ (let P : Game → Type 0 = λ z. Among k (all_positions z) in
+    | inl e ↦
         elim (among-append k (positions_before g) (g ∷ []) (carry k (all_positions g) (positions_before g ++ (g ∷
-        [])) (positions-last g) (subst P e n))) [
+        [])) (positions-last g) (rw e at n))) [
           | inl o ↦ among-append_left k seen (g ∷ []) (before k o)
           | inr o ↦ among-append_right k seen (g ∷ []) o
-        ])
+        ]
     | inr nothing ↦ absurd nothing
   ]
 ]

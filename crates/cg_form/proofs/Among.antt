@@ -1,5 +1,5 @@
 -- Members of lists of games.
-use Rattle.std.proofs.Common.{◌≡◌, refl, ◌⊎◌, inl, inr, ap, ◌∙◌, subst, List, [], ◌∷◌, ◌++◌, map}
+use Rattle.std.proofs.Common.{◌≡◌, refl, ◌⊎◌, inl, inr, ap, ◌∙◌, List, [], ◌∷◌, ◌++◌, map}
 use Rattle.cg_dyadic.specs.Number.{AmongNumbers, Number}
 use Rattle.cg_form.specs.Game.{Among, Game, Games, lefts, more, node, none, of_list, rights, to_list}
 
@@ -25,7 +25,7 @@ map-agree f k (g ∷ gs) h =
 
 -- along an equation of lists
 pub carry : (x : Game) (gs hs : List Game) → gs ≡ hs → Among x gs → Among x hs
-carry x gs hs e m = let P : List Game → Type 0 = λ z. Among x z in subst P e m
+carry x gs hs e m = rw e at m
 
 pub among-append_left : (x : Game) (gs hs : List Game) → Among x gs → Among x (gs ++ hs)
 among-append_left x [] hs m = absurd m

@@ -1,5 +1,5 @@
 -- Reversible options may be bypassed, on both sides at once, and number options need not be.
-use Rattle.std.proofs.Common.{◌≡◌, refl, ℕ, ◌<◌, arith, zero, suc, inl, inr, sym, subst, List, [], ◌∷◌, ◌++◌, Bool, true, false}
+use Rattle.std.proofs.Common.{◌≡◌, refl, ℕ, ◌<◌, arith, zero, suc, inl, inr, List, [], ◌∷◌, ◌++◌, Bool, true, false}
 use Rattle.cg_dyadic.specs.Number.{Number}
 use Rattle.cg_dyadic.proofs.Truth.{differ}
 use Rattle.cg_form.specs.Bypass.{AllCovered, Covered, Fine, Replaces, bypassed, kept, under}
@@ -60,8 +60,7 @@ through_number s g a x misses m w l =
         c,
         k,
         t,
-        λ e. let P : Game → Type 0 = λ z. AtMost s (number x) z in
-            not_far s a (number x) w (subst P (sym e) t),
+        λ e. not_far s a (number x) w (rw e t),
       )
       | inl never ↦ absurd (misses (side_fits s x g
           (λ c k t. differ (at_most s (number x) c) t (never c k))
@@ -73,13 +72,9 @@ pub number_stays : (s : Bool) (k : Game) → NoNumber k
     → ((a b : Game) → Among a (near s k) → Among b (near s k) → AtMost s a b → a ≡ b)
     → (a : Game) (x : Number) → a ≡ number x → Among a (near s k) → (b : Game) → Among b (far s a) → ¬ AtMost s b k
 number_stays s k never apart a x e m b w l =
-    let P : Game → Type 0 = λ z. Among b (far s z) in
-    let (y, f, j) = far_number s x b (subst P e w) in
-    let Q : Game → Type 0 = λ z. Among z (far s a) in
-    let R : Game → Type 0 = λ z. AtMost s z k in
-    let (c, i, u, n) = through_number s k a y (none_fits k never y) m (subst Q f w) (subst R f l) in
-    let T : Game → Type 0 = λ z. AtMost s z (number y) in
-    n (apart a c m i (side_trans s a (number y) c (subst T (sym e) j) u))
+    let (y, f, j) = far_number s x b (rw e at w) in
+    let (c, i, u, n) = through_number s k a y (none_fits k never y) m (rw f at w) (rw f at l) in
+    n (apart a c m i (side_trans s a (number y) c (rw e j) u))
 
 -- ---- every option has something to stand in its place
 
@@ -102,9 +97,8 @@ each_in_place s g (a ∷ gs) f =
       list = k.list ++ r.list;
       covers_them = record {
         each = λ c m. elim m [
-          | inl e ↦ (let P : Game → Type 0 = λ z. Covered s g (k.list ++ r.list) z in
-              subst P (sym e) (covered_more s g k.list (k.list ++ r.list) a
-              (λ x w. among-append_left x k.list r.list w) k.covers_it))
+          | inl e ↦ rw e (covered_more s g k.list (k.list ++ r.list) a
+              (λ x w. among-append_left x k.list r.list w) k.covers_it)
           | inr w ↦ covered_more s g r.list (k.list ++ r.list) c (λ x v. among-append_right x k.list r.list v)
               (r.covers_them.each c w)
         ];
@@ -119,13 +113,12 @@ in_place (suc n) s g a p c l = elim (all-or-some (λ b. at_most s b g) (far s a)
     list = a ∷ [];
     covers_it = kept (inl refl);
     fine = λ x m. elim m [
-      | inl e ↦ (let P : Game → Type 0 = λ z. Fine s g z in
-          subst P (sym e) (record {
-            canonical = c;
-            less = l;
-            way =
-                inr (λ b w k. differ (at_most s b g) k (never b w));
-          }))
+      | inl e ↦ rw e (record {
+        canonical = c;
+        less = l;
+        way =
+            inr (λ b w k. differ (at_most s b g) k (never b w));
+      })
       | inr w ↦ absurd w
     ];
   }

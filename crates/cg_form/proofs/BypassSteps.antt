@@ -1,5 +1,5 @@
 -- The steps of the code that bypasses options.
-use Rattle.std.proofs.Common.{◌≡◌, refl, ℕ, ◌+◌, ◌≤◌, ◌<◌, arith, suc, inl, inr, ap, sym, ◌∙◌, subst, List, [], ◌∷◌, ◌++◌, Bool, true, false}
+use Rattle.std.proofs.Common.{◌≡◌, refl, ℕ, ◌+◌, ◌≤◌, ◌<◌, arith, suc, inl, inr, ap, sym, ◌∙◌, List, [], ◌∷◌, ◌++◌, Bool, true, false}
 use Rattle.std.proofs.Common.{get_or, take, length, ◌*◌}
 use Rattle.std.specs.Prelude.{Result, Ok, Err, IfOk}
 use Rattle.cg_form.specs.declared.form.Form.{Form}
@@ -26,31 +26,19 @@ use Rattle.cg_form.proofs.Sides.{not_both, far-node, near-node, near_number, not
 
 pub far_of : (s : Bool) (f : Form) (ls rs os : List Game) → f ≡ Node ls rs → os ≡ chosen s rs ls → (b : Game)
     → Among b os → Among b (far s (game_of f))
-far_of s f ls rs os e h b m =
-    let P : Form → Type 0 = λ z. Among b (far s (game_of z)) in
-    let Q : List Game → Type 0 = λ z. Among b z in
-    subst P (sym e) (subst Q (h ∙ sym (far-node s ls rs)) m)
+far_of s f ls rs os e h b m = rw e (rw (h ∙ sym (far-node s ls rs)) at m)
 
 pub of_far : (s : Bool) (f : Form) (ls rs os : List Game) → f ≡ Node ls rs → os ≡ chosen s rs ls → (b : Game)
     → Among b (far s (game_of f)) → Among b os
-of_far s f ls rs os e h b m =
-    let P : Form → Type 0 = λ z. Among b (far s (game_of z)) in
-    let Q : List Game → Type 0 = λ z. Among b z in
-    subst Q (far-node s ls rs ∙ sym h) (subst P e m)
+of_far s f ls rs os e h b m = rw (far-node s ls rs ∙ sym h) at (rw e at m)
 
 pub near_of : (s : Bool) (f : Form) (ls rs os : List Game) → f ≡ Node ls rs → os ≡ chosen s ls rs → (b : Game)
     → Among b os → Among b (near s (game_of f))
-near_of s f ls rs os e h b m =
-    let P : Form → Type 0 = λ z. Among b (near s (game_of z)) in
-    let Q : List Game → Type 0 = λ z. Among b z in
-    subst P (sym e) (subst Q (h ∙ sym (near-node s ls rs)) m)
+near_of s f ls rs os e h b m = rw e (rw (h ∙ sym (near-node s ls rs)) at m)
 
 pub of_near : (s : Bool) (f : Form) (ls rs os : List Game) → f ≡ Node ls rs → os ≡ chosen s ls rs → (b : Game)
     → Among b (near s (game_of f)) → Among b os
-of_near s f ls rs os e h b m =
-    let P : Form → Type 0 = λ z. Among b (near s (game_of z)) in
-    let Q : List Game → Type 0 = λ z. Among b z in
-    subst Q (near-node s ls rs ∙ sym h) (subst P e m)
+of_near s f ls rs os e h b m = rw (near-node s ls rs ∙ sym h) at (rw e at m)
 
 -- ---- lists that grow
 
@@ -62,43 +50,37 @@ grown_trans s g us vs ws p q = record {
 
 grown_one : (s : Bool) (g x : Game) (gs rs : List Game) → rs ≡ gs ++ (x ∷ []) → Fine s g x → Grown s g gs rs
 grown_one s g x gs rs e f =
-    let P : List Game → Type 0 = λ z. Grown s g gs z in
-    subst P (sym e) (record {
+    rw e (record {
       keeps = λ y m. among-append_left y gs (x ∷ []) m;
       fine = λ y m. elim (among-append y gs (x ∷ []) m) [
         | inl k ↦ inl k
         | inr k ↦ elim k [
-          | inl q ↦ (let Q : Game → Type 0 = λ z. Fine s g z in inr (subst Q (sym q) f))
+          | inl q ↦ (inr (rw q f))
           | inr j ↦ absurd j
         ]
       ];
     })
 
 last_among : (x : Game) (gs rs : List Game) → rs ≡ gs ++ (x ∷ []) → Among x rs
-last_among x gs rs e = let P : List Game → Type 0 = λ z. Among x z in
-    subst P (sym e) (among-append_right x gs (x ∷ []) (inl refl))
+last_among x gs rs e = rw e (among-append_right x gs (x ∷ []) (inl refl))
 
 -- a number as an option
 pub number_grown : (s : Bool) (g : Game) (f : Form) (x : Number) (gs rs : List Game) → f ≡ Num x
     → ¬ AtMost s g (game_of f) → rs ≡ gs ++ (number x ∷ []) → Grown s g gs rs
 number_grown s g f x gs rs e n p =
-    let P : Form → Type 0 = λ z. ¬ AtMost s g (game_of z) in
-    grown_one s g (number x) gs rs p (record { canonical = tt; less = subst P e n; way = inl (x, refl) })
+    grown_one s g (number x) gs rs p (record { canonical = tt; less = rw e at n; way = inl (x, refl) })
 
 pub number_covered : (s : Bool) (g : Game) (f : Form) (x : Number) (gs rs : List Game) → f ≡ Num x
     → rs ≡ gs ++ (number x ∷ []) → Covered s g rs (game_of f)
-number_covered s g f x gs rs e p =
-    let P : Form → Type 0 = λ z. Covered s g rs (game_of z) in
-    subst P (sym e) (kept (last_among (number x) gs rs p))
+number_covered s g f x gs rs e p = rw e (kept (last_among (number x) gs rs p))
 
 -- a number through which the option is reversible
 pub through_number_grown : (s : Bool) (g : Game) (f : Form) (x : Number) (gs rs : List Game) (t : Bool) → f ≡ Num x
     → NoNumber g → t ≡ at_most s (game_of f) g → t ≡ true → rs ≡ gs ++ (number x ∷ []) → Grown s g gs rs
 through_number_grown s g f x gs rs t e n l k p =
-    let P : Form → Type 0 = λ z. AtMost s (game_of z) g in
     grown_one s g (number x) gs rs p (record {
       canonical = tt;
-      less = not_both s g x n (subst P e (sym l ∙ k));
+      less = not_both s g x n (rw e at (sym l ∙ k));
       way =
           inl (x, refl);
     })
@@ -107,9 +89,7 @@ pub through_number_covered : (s : Bool) (g a : Game) (f : Form) (x : Number) (gs
     → f ≡ Num x → t ≡ at_most s (game_of f) g → t ≡ true → Among (game_of f) (far s a) → rs ≡ gs ++ (number x ∷ [])
     → Covered s g rs a
 through_number_covered s g a f x gs rs t e l k m p =
-    let P : Form → Type 0 = λ z. (c : Game) → Among c (near s (game_of z)) → Covered s g rs c in
-    bypassed (game_of f) m (sym l ∙ k) (subst P (sym e)
-    (λ c w. under (number x) (last_among (number x) gs rs p) (near_number s x c w)))
+    bypassed (game_of f) m (sym l ∙ k) (rw e (λ c w. under (number x) (last_among (number x) gs rs p) (near_number s x c w)))
 
 -- a node through which the option is reversible
 pub through_node_covered : (s : Bool) (g a : Game) (f : Form) (ls rs os us : List Game) (t : Bool) → f ≡ Node ls rs
@@ -158,9 +138,8 @@ stays_grown s g f k ls rs os xs i gs us e h j l never c n p q =
       less = n;
       way = inr (λ b m t.
           let w : Among b os = of_far s f ls rs os e h b m in
-          let Q : List Game → Type 0 = λ z. Among b z in
           differ (at_most s b g) t (no_one-each (λ b. at_most s b g) (games_of (take i xs)) never b
-          (subst Q (sym j ∙ sym (games_of-all xs i l)) w)));
+          (rw (sym j ∙ sym (games_of-all xs i l)) at w)));
     })
 
 pub stays_covered : (s : Bool) (g : Game) (f k : Form) (gs us : List Game) → game_of k ≡ game_of f
@@ -179,7 +158,7 @@ covered_next s g fs i f bs cs h e cov p q = record {
       (ap (λ n. games_of (take n fs)) next ∙ games_of-take_suc fs i f h e) m)) [
         | inl k ↦ covered_more s g bs cs c p.keeps (cov.each c k)
         | inr k ↦ elim k [
-          | inl w ↦ (let R : Game → Type 0 = λ z. Covered s g cs z in subst R (sym w) q)
+          | inl w ↦ rw w q
           | inr j ↦ absurd j
         ]
       ];

@@ -1,12 +1,11 @@
 -- A canonical game has no dominated and no reversible option: a number, too, whose options are those of its canonical
 -- form.
-use Rattle.std.proofs.Common.{◌≡◌, ℕ, ◌<◌, arith, zero, suc, inl, inr, ap, sym, ◌∙◌, subst, pos, negsuc}
+use Rattle.std.proofs.Common.{◌≡◌, ℕ, ◌<◌, arith, zero, suc, inl, inr, ap, sym, ◌∙◌, pos, negsuc}
 use Rattle.cg_dyadic.specs.Number.{AmongNumbers, Number, NumberLe, between, number_lefts, number_rights, weight, whole}
 use Rattle.cg_dyadic.proofs.Values.{less-le, not_le-left_number, not_le-right_number, number_gap, number_le-same, number_le-trans}
 use Rattle.cg_dyadic.proofs.Weight.{weight-lefts, weight-rights}
 use Rattle.cg_form.specs.Canonical.{Canonical, LeftDominated, LeftReversible, RightDominated, RightReversible}
 use Rattle.cg_form.specs.Game.{Among, Game, lefts, number, options, rights}
-use Rattle.cg_form.specs.Order.{Le}
 use Rattle.cg_form.proofs.Among.{among-map}
 use Rattle.cg_form.proofs.Numbers.{le-numbers}
 
@@ -41,7 +40,7 @@ left_beyond : (n : ℕ) (x y z : Number) → AmongNumbers y (number_lefts x) →
 left_beyond zero x y z m s w above h = absurd (omega arith)
 left_beyond (suc n) x y z m s w above h =
     elim ((number_gap x z (λ l. other_weight x z w (number_le-same x z l h))).way) [
-      | inl (v, i, l) ↦ (let P : Number → Type 0 = λ u. NumberLe z u in above (subst P (one_left x v y i m) l))
+      | inl (v, i, l) ↦ above (rw (one_left x v y i m) at l)
       | inr (v, i, l) ↦
           let u = weight-rights z v i in
           left_beyond n x y v m (omega arith) (omega arith)
@@ -57,7 +56,7 @@ right_beyond (suc n) x y z m s w under h =
           let u = weight-lefts z v i in
           right_beyond n x y v m (omega arith) (omega arith)
           (λ k. under (number_le-trans y v z k (less-le z v (not_le-left_number z v i)))) l
-      | inr (v, i, l) ↦ (let P : Number → Type 0 = λ u. NumberLe u z in under (subst P (one_right x v y i m) l))
+      | inr (v, i, l) ↦ under (rw (one_right x v y i m) at l)
     ]
 
 -- ---- so no option of a number is dominated or reversible
@@ -77,22 +76,18 @@ number_right_undominated x a m d =
 number_left_irreversible : (x : Number) (a : Game) → Among a (lefts (number x)) → ¬ LeftReversible (number x) a
 number_left_irreversible x a m r =
     let (y, e, i) = among-map (number_lefts x) number a m in
-    let P : Game → Type 0 = λ g. Among r.through (rights g) in
-    let (z, f, j) = among-map (number_rights y) number r.through (subst P e r.answer) in
-    let Q : Game → Type 0 = λ g. Le g (number x) in
+    let (z, f, j) = among-map (number_rights y) number r.through (rw e at r.answer) in
     let u = weight-lefts x y i in let v = weight-rights y z j in
     left_beyond (suc (weight z)) x y z i (omega arith) (omega arith) (not_le-right_number y z j)
-    (le-numbers z x (subst Q f r.back))
+    (le-numbers z x (rw f at r.back))
 
 number_right_irreversible : (x : Number) (a : Game) → Among a (rights (number x)) → ¬ RightReversible (number x) a
 number_right_irreversible x a m r =
     let (y, e, i) = among-map (number_rights x) number a m in
-    let P : Game → Type 0 = λ g. Among r.through (lefts g) in
-    let (z, f, j) = among-map (number_lefts y) number r.through (subst P e r.answer) in
-    let Q : Game → Type 0 = λ g. Le (number x) g in
+    let (z, f, j) = among-map (number_lefts y) number r.through (rw e at r.answer) in
     let u = weight-rights x y i in let v = weight-lefts y z j in
     right_beyond (suc (weight z)) x y z i (omega arith) (omega arith) (not_le-left_number y z j)
-    (le-numbers x z (subst Q f r.back))
+    (le-numbers x z (rw f at r.back))
 
 -- ---- every canonical game
 

@@ -1,5 +1,5 @@
 -- Scaffolds that fall and rise by at most 1, and the walls to which they are cooled.
-use Rattle.std.proofs.Common.{◌≡◌, refl, ℕ, arith, zero, suc, inl, inr, ap, sym, ◌∙◌, subst, cond, pos, ◌+ℤ◌, ◌≤ℤ◌, ◌<ℤ◌}
+use Rattle.std.proofs.Common.{◌≡◌, refl, ℕ, arith, zero, suc, inl, inr, ap, ◌∙◌, cond, pos, ◌+ℤ◌, ◌≤ℤ◌, ◌<ℤ◌}
 use Rattle.std.proofs.lemmas.Int.{ints}
 use lib.Signed.{le_z}
 use Rattle.cg_dyadic.proofs.Integers.{from_le_z, le_or_lt, to_le_z}
@@ -18,8 +18,7 @@ still v = record {
 }
 
 pub steps_along : (v v' w w' : Walls) → v ≡ v' → w ≡ w' → Steps v' w' → Steps v w
-steps_along v v' w w' e f h = let P : Walls → Type 0 = λ z. Steps z w in let Q : Walls → Type 0 = λ z. Steps v' z in
-    subst P (sym e) (subst Q (sym f) h)
+steps_along v v' w w' e f h = rw e (rw f h)
 
 pub walls_same : (v w : Walls) → v.left ≡ w.left → v.right ≡ w.right → v ≡ w
 walls_same v w p q = ap (λ z. let x : Walls = record { left = z; right = v.right } in x) p
@@ -44,14 +43,11 @@ cooled-steps f h t = elim (true-or-not (le_z (f (suc t)).right (f (suc t)).left)
       let s = h t in
       let a = from_le_z (f (suc t)).right (f (suc t)).left p in
       let b = s.left_falls in let c = s.right_rises in
-      let P : Walls → Type 0 = λ w. Steps (cooled f t) w in
-      let Q : Walls → Type 0 = λ v. Steps v (f (suc t)) in
-      subst P (sym (uncrossed f (suc t) a)) (subst Q (sym (uncrossed f t (omega (arith, ints)))) s)
+      rw (uncrossed f (suc t) a) (rw (uncrossed f t (omega (arith, ints))) s)
   | inr n ↦
       let e : cooled f (suc t) ≡ cooled f t = ap (λ b. cond b (f (suc t)) (cooled f t))
       (false-from (le_z (f (suc t)).right (f (suc t)).left) n) in
-      let P : Walls → Type 0 = λ w. Steps (cooled f t) w in
-      subst P (sym e) (still (cooled f t))
+      rw e (still (cooled f t))
 ]
 
 pub cooled-agree : (f k : ℕ → Walls) → ((t : ℕ) → f t ≡ k t) → (t : ℕ) → cooled f t ≡ cooled k t
@@ -62,7 +58,7 @@ cooled-agree f k h (suc t) = ap (λ z. cond (le_z z.right z.left) z (cooled f t)
 -- ---- scaffolds that cool
 
 pub ordered_along : (v w : Walls) → v ≡ w → w.right ≤ℤ w.left → v.right ≤ℤ v.left
-ordered_along v w e h = let P : Walls → Type 0 = λ z. z.right ≤ℤ z.left in subst P (sym e) h
+ordered_along v w e h = rw e h
 
 pub cooled-ordered : (f : ℕ → Walls) → (f 0).right ≤ℤ (f 0).left → (t : ℕ) → (cooled f t).right ≤ℤ (cooled f t).left
 cooled-ordered f h zero = h
@@ -80,15 +76,11 @@ meet v w s h k n = elim (le_or_lt v.left v.right) [
       absurd (n (omega (arith, ints)) (omega (arith, ints)))
 ]
 
-pub frozen_along : (v w : Walls) → v ≡ w → w.left ≡ w.right → v.left ≡ v.right
-frozen_along v w e h = let P : Walls → Type 0 = λ z. z.left ≡ z.right in subst P (sym e) h
-
 -- where the scaffolds have crossed, the walls have met
 pub cooled-frozen : (f : ℕ → Walls) → Cool f → (t : ℕ) → (f t).left <ℤ (f t).right
     → (cooled f t).left ≡ (cooled f t).right
 cooled-frozen f c zero h = let s = c.start in absurd (omega (arith, ints))
 cooled-frozen f c (suc t) h = elim (le_or_lt (f t).right (f t).left) [
-  | inl p ↦ frozen_along (cooled f (suc t)) (f t) (stays f t h ∙ uncrossed f t p)
-      (meet (f t) (f (suc t)) (c.steps t) h p (c.no_jump t))
-  | inr p ↦ frozen_along (cooled f (suc t)) (cooled f t) (stays f t h) (cooled-frozen f c t p)
+  | inl p ↦ rw (stays f t h ∙ uncrossed f t p) (meet (f t) (f (suc t)) (c.steps t) h p (c.no_jump t))
+  | inr p ↦ rw (stays f t h) (cooled-frozen f c t p)
 ]

@@ -1,5 +1,5 @@
 -- The cuts of a game from the cuts of its options, among the numbers of a kind that has their options too.
-use Rattle.std.proofs.Common.{◌≡◌, refl, ap, sym, ◌∙◌, subst, Bool, true, false, not, ◌&&◌, ◌||◌, cond, IsTrue}
+use Rattle.std.proofs.Common.{◌≡◌, refl, ap, sym, ◌∙◌, Bool, true, false, not, ◌&&◌, ◌||◌, cond, IsTrue}
 use Rattle.std.specs.Prelude.{Option, Some}
 use Rattle.cg_dyadic.specs.declared.cut.Cut.{Cut}
 use Rattle.cg_dyadic.specs.Cut.{in_cut, in_gap, in_some, number_at_most, within_cut}
@@ -170,13 +170,11 @@ joined_taken s a b h =
 -- for the code: the cut so far is a, and t tells whether it covers b
 pub joined_first : (s : Bool) (o : Option Cut) (a b : Cut) (t : Bool) → o ≡ Some a → t ≡ covers s a b → t ≡ true
     → Joined s o b a
-joined_first s o a b t e f h = let P : Option Cut → Type 0 = λ z. Joined s z b a in
-    subst P (sym e) (joined_kept s a b (sym f ∙ h))
+joined_first s o a b t e f h = rw e (joined_kept s a b (sym f ∙ h))
 
 pub joined_second : (s : Bool) (o : Option Cut) (a b : Cut) (t : Bool) → o ≡ Some a → t ≡ covers s a b → t ≡ false
     → Joined s o b b
-joined_second s o a b t e f h = let P : Option Cut → Type 0 = λ z. Joined s z b b in
-    subst P (sym e) (joined_taken s a b (sym f ∙ h))
+joined_second s o a b t e f h = rw e (joined_taken s a b (sym f ∙ h))
 
 nor : (b c : Bool) → (not b && not c) ≡ not (b || c)
 nor true c = refl

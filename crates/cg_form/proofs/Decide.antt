@@ -1,5 +1,5 @@
 -- Whether a game equals a number is decided: every game has its cuts among all numbers.
-use Rattle.std.proofs.Common.{◌≡◌, refl, ℕ, ◌<◌, arith, zero, suc, ◌⊎◌, inl, inr, ap, sym, ◌∙◌, subst, List, [], ◌∷◌, Bool, true, false, not, ◌&&◌, IsTrue}
+use Rattle.std.proofs.Common.{◌≡◌, refl, ℕ, ◌<◌, arith, zero, suc, ◌⊎◌, inl, inr, ap, ◌∙◌, List, [], ◌∷◌, Bool, true, false, not, ◌&&◌, IsTrue}
 use Rattle.std.specs.Prelude.{Some}
 use Rattle.cg_dyadic.specs.declared.cut.Cut.{Cut}
 use Rattle.cg_dyadic.specs.Cut.{is_between, within_cut}
@@ -39,11 +39,9 @@ gap_decide p q c d = elim (true-or-not (is_between p c q d p)) [
       | inr nm ↦ inr (λ x. false-from (is_between p c q d x) (λ k.
           let (a, b) = and-split (not (within_cut true p c x)) (not (within_cut false q d x)) k in
           elim (true-or-not (number_le x p)) [
-            | inl xp ↦ let P : Number → Type 0 = λ z. IsTrue (is_between p c q d z) in
-                np (subst P (number_le-same x p xp (from_below p c x a)) k)
+            | inl xp ↦ np (rw (number_le-same x p xp (from_below p c x a)) at k)
             | inr xp ↦ elim (true-or-not (number_le q x)) [
-              | inl qx ↦ let P : Number → Type 0 = λ z. IsTrue (is_between p c q d z) in
-                  nq (subst P (number_le-same x q (from_above q d x b) qx) k)
+              | inl qx ↦ nq (rw (number_le-same x q (from_above q d x b) qx) at k)
               | inr qx ↦
                   let m = middle_between p q (λ l. xp (number_le-trans x q p (from_above q d x b) l)) in
                   nm (and-both (not (within_cut true p c (middle p q))) (not (within_cut false q d (middle p q)))
@@ -121,10 +119,8 @@ cuts_of g (a ∷ ls) [] el er l r = let w = no_rights-whole g er in number_cuts 
 cuts_of g (a ∷ ls) (b ∷ rs) el er l r =
     let k = list_cut true a ls l in
     let h = list_cut false b rs r in
-    let P : List Game → Type 0 = λ gs. CutOf AnyNumber true (Some k.cut) gs in
-    let Q : List Game → Type 0 = λ gs. CutOf AnyNumber false (Some h.cut) gs in
-    let low : CutOf AnyNumber true (Some k.cut) (lefts g) = subst P (sym el) k.is in
-    let high : CutOf AnyNumber false (Some h.cut) (rights g) = subst Q (sym er) h.is in
+    let low : CutOf AnyNumber true (Some k.cut) (lefts g) = rw el k.is in
+    let high : CutOf AnyNumber false (Some h.cut) (rights g) = rw er h.is in
     elim (gap_decide k.cut.at h.cut.at k.cut.closed h.cut.closed) [
       | inl w ↦ number_cuts g w.0 (gap-fits AnyNumber g (Some k.cut) (Some h.cut) low high w.0 tt w.1)
       | inr never ↦

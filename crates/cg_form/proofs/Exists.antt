@@ -1,14 +1,13 @@
 -- Every game has a canonical form.
-use Rattle.std.proofs.Common.{◌≡◌, refl, ℕ, ◌<◌, arith, zero, suc, inl, inr, sym, subst, List, [], ◌∷◌, ◌++◌, Bool, true, false}
+use Rattle.std.proofs.Common.{◌≡◌, refl, ℕ, ◌<◌, arith, zero, suc, inl, inr, sym, List, [], ◌∷◌, ◌++◌, Bool, true, false}
 use Rattle.cg_form.specs.Bypass.{Fine, Replaces}
-use Rattle.cg_form.specs.Canonical.{Canonical, IsCanonicalForm}
+use Rattle.cg_form.specs.Canonical.{IsCanonicalForm}
 use Rattle.cg_form.specs.Game.{Among, Game, lefts, node, number, rights}
 use Rattle.cg_form.specs.Known.{CopiesOf, EachLess}
 use Rattle.cg_form.specs.Order.{Equal, Le}
 use Rattle.cg_form.specs.Side.{AtMost, far, near}
 use Rattle.cg_form.specs.Simple.{NoNumber}
 use Rattle.cg_form.specs.Size.{size}
-use Rattle.cg_form.specs.Structure.{Rises}
 use Rattle.cg_form.proofs.Among.{among-append, among-append_left, among-append_right, carry, lefts-node, rights-node}
 use Rattle.cg_form.proofs.Bypass.{covered_by, covered_equal, number_stays, replaced}
 use Rattle.cg_form.proofs.Decide.{number-decide}
@@ -49,7 +48,6 @@ settled g l r never pl pr =
     λ a b i j p. pl.best.apart a b (carry a (lefts k) l lk i) (carry b (lefts k) l lk j) p in
     let ar : (a b : Game) → Among a (rights k) → Among b (rights k) → Le b a → a ≡ b =
     λ a b i j p. pr.best.apart a b (carry a (rights k) r rk i) (carry b (rights k) r rk j) p in
-    let R : List Game → Type 0 = λ z. Rises z in
     record {
       canonical = (
         record {
@@ -57,8 +55,8 @@ settled g l r never pl pr =
           right_undominated = λ a m d. d.other (ar a d.by m d.option d.worse);
           left_irreversible = λ a m v. fine_stays true g k e nk al a m (il a m) v.through v.answer v.back;
           right_irreversible = λ a m v. fine_stays false g k e nk ar a m (ir a m) v.through v.answer v.back;
-          lefts_rise = subst R (sym lk) pl.best.rises;
-          rights_rise = subst R (sym rk) pr.best.rises;
+          lefts_rise = rw lk pl.best.rises;
+          rights_rise = rw rk pr.best.rises;
           no_number = nk;
         },
         all_canonical l (λ c m. (pl.fine c (pl.best.inside c m)).canonical),
@@ -82,23 +80,21 @@ copies_more gs cs g c h f = record {
   canonical = λ x m. elim (among-append x cs (c ∷ []) m) [
     | inl k ↦ h.canonical x k
     | inr k ↦ elim k [
-      | inl e ↦ (let P : Game → Type 0 = λ z. Canonical z in subst P (sym e) f.canonical)
+      | inl e ↦ rw e f.canonical
       | inr j ↦ absurd j
     ]
   ];
   there = λ x m. elim (among-append x gs (g ∷ []) m) [
     | inl k ↦ (let (y, i, e) = h.there x k in (y, among-append_left y cs (c ∷ []) i, e))
     | inr k ↦ elim k [
-      | inl e ↦ (let P : Game → Type 0 = λ z. Equal c z in
-          (c, among-append_right c cs (c ∷ []) (inl refl), subst P (sym e) f.equal))
+      | inl e ↦ (c, among-append_right c cs (c ∷ []) (inl refl), rw e f.equal)
       | inr j ↦ absurd j
     ]
   ];
   back = λ x m. elim (among-append x cs (c ∷ []) m) [
     | inl k ↦ (let (y, i, e) = h.back x k in (y, among-append_left y gs (g ∷ []) i, e))
     | inr k ↦ elim k [
-      | inl e ↦ (let P : Game → Type 0 = λ z. Equal z g in
-          (g, among-append_right g gs (g ∷ []) (inl refl), subst P (sym e) f.equal))
+      | inl e ↦ (g, among-append_right g gs (g ∷ []) (inl refl), rw e f.equal)
       | inr j ↦ absurd j
     ]
   ];
@@ -107,15 +103,15 @@ copies_more gs cs g c h f = record {
 copies_before : (gs cs : List Game) (g c : Game) → CopiesOf gs cs → IsCanonicalForm g c → CopiesOf (g ∷ gs) (c ∷ cs)
 copies_before gs cs g c h f = record {
   canonical = λ x m. elim m [
-    | inl e ↦ (let P : Game → Type 0 = λ z. Canonical z in subst P (sym e) f.canonical)
+    | inl e ↦ rw e f.canonical
     | inr k ↦ h.canonical x k
   ];
   there = λ x m. elim m [
-    | inl e ↦ (let P : Game → Type 0 = λ z. Equal c z in (c, inl refl, subst P (sym e) f.equal))
+    | inl e ↦ (c, inl refl, rw e f.equal)
     | inr k ↦ (let (y, i, e) = h.there x k in (y, inr i, e))
   ];
   back = λ x m. elim m [
-    | inl e ↦ (let P : Game → Type 0 = λ z. Equal z g in (g, inl refl, subst P (sym e) f.equal))
+    | inl e ↦ (g, inl refl, rw e f.equal)
     | inr k ↦ (let (y, i, e) = h.back x k in (y, inr i, e))
   ];
 }
@@ -162,9 +158,7 @@ rights_less ls rs =
 pub node_settled : (ls rs l r : List Game) → NoNumber (node ls rs) → Replaces true (node ls rs) ls l
     → Replaces false (node ls rs) rs r → IsCanonicalForm (node ls rs) (node l r)
 node_settled ls rs l r never pl pr =
-    let P : List Game → Type 0 = λ z. Replaces true (node ls rs) z l in
-    let Q : List Game → Type 0 = λ z. Replaces false (node ls rs) z r in
-    settled (node ls rs) l r never (subst P (sym (lefts-node ls rs)) pl) (subst Q (sym (rights-node ls rs)) pr)
+    settled (node ls rs) l r never (rw (lefts-node ls rs) pl) (rw (rights-node ls rs) pr)
 
 -- ---- the canonical form
 

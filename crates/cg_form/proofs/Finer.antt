@@ -36,10 +36,7 @@ record Pair (v w x y : Walls) : Type 0 where
   right : v.right ≡ w.right +ℤ x.right
 
 pair_along : (v v' w w' x x' y : Walls) → v ≡ v' → w ≡ w' → x ≡ x' → Pair v' w' x' y → Pair v w x y
-pair_along v v' w w' x x' y e f g h =
-    let P : Walls → Type 0 = λ z. Pair z w x y in let Q : Walls → Type 0 = λ z. Pair v' z x y in
-    let R : Walls → Type 0 = λ z. Pair v' w' z y in
-    subst P (sym e) (subst Q (sym f) (subst R (sym g) h))
+pair_along v v' w w' x x' y e f g h = rw e (rw f (rw g h))
 
 odd_at : (f h : ℕ → Walls) → Cool f → Finer f h → (t : ℕ) → Pair (cooled h (twice t)) (cooled f t) (cooled f t) (f t)
     → Pair (cooled h (suc (twice t))) (cooled f t) (cooled f (suc t)) (f t)
@@ -130,12 +127,12 @@ no_one_apart a b c d e f g = omega (arith, ints)
 pub finer-no_jump : (f h : ℕ → Walls) → Finer f h → (t : ℕ) → (h t).left ≡ (h t).right +ℤ pos 1
     → (h (suc t)).right ≡ (h (suc t)).left +ℤ pos 1 → ⊥
 finer-no_jump f h n t p q = elim (even_or_odd t) [
-  | inl w ↦ (let P : ℕ → Type 0 = λ z. (h z).left ≡ (h z).right +ℤ pos 1 in
+  | inl w ↦
       no_one_apart (h (twice w.0)).left (h (twice w.0)).right (f w.0).left (f w.0).right (n.even_left w.0)
-      (n.even_right w.0) (subst P w.1 p))
-  | inr w ↦ (let P : ℕ → Type 0 = λ z. (h (suc z)).right ≡ (h (suc z)).left +ℤ pos 1 in
+      (n.even_right w.0) (rw w.1 at p)
+  | inr w ↦
       no_one_apart (h (twice (suc w.0))).right (h (twice (suc w.0))).left (f (suc w.0)).right (f (suc w.0)).left
-      (n.even_right (suc w.0)) (n.even_left (suc w.0)) (subst P w.1 q))
+      (n.even_right (suc w.0)) (n.even_left (suc w.0)) (rw w.1 at q)
 ]
 
 -- ---- the walls
@@ -187,8 +184,7 @@ pub finer_within : (d : Decides) (n s r : ℕ) (g : Game) → r ≡ suc s → si
 unfolding walls_within
 finer_within d zero s r g e p h = absurd (omega arith)
 finer_within d (suc n) s r g e p h =
-    let P : ℕ → Type 0 = λ z. Finer (λ t. walls_within d (suc n) s t g) (λ t. walls_within d (suc n) z t g) in
-    subst P (sym e) (finer_by d n s g (d g) p h
+    rw e (finer_by d n s g (d g) p h
     (λ never q k f i a m. let u = size-lefts g a m in let v = height-left g a never m in
     finer_within d n q k a f (omega arith) (omega arith))
     (λ never q k f i a m. let u = size-rights g a m in let v = height-right g a never m in
@@ -217,12 +213,7 @@ next_scale d s g h t =
     let f = walls-finer d s g h in
     let e = twice_is t in
     let i : suc (twice t) ≡ 2 * t + 1 = omega arith in
-    let P : ℕ → Type 0 = λ z. AtNext (walls d (suc s) z g) (walls d (suc s) (2 * t + 1) g) (walls d s t g)
-    (walls d s (suc t) g) in
-    let Q : ℕ → Type 0 = λ z. AtNext (walls d (suc s) (twice t) g) (walls d (suc s) z g) (walls d s t g)
-    (walls d s (suc t) g) in
-    subst P e (subst Q i
-    (record {
+    rw (← i) (rw (← e) (record {
       even_left = f.even_left t;
       even_right = f.even_right t;
       odd_left = f.odd_left t;

@@ -1,5 +1,5 @@
 -- Lists in which each thing is kept only where it comes first, over any type with a test of sameness.
-use Rattle.std.proofs.Common.{◌≡◌, refl, ◌≤◌, Bool, true, false, not, cond, ◌&&◌, ◌||◌, if◌then◌else◌, ◌⊎◌, inl, inr, List, [], ◌∷◌, ◌++◌, filter, length, length-append, append_assoc, arith, ap, sym, ◌∙◌, subst}
+use Rattle.std.proofs.Common.{◌≡◌, refl, ◌≤◌, Bool, true, false, not, cond, ◌&&◌, ◌||◌, if◌then◌else◌, ◌⊎◌, inl, inr, List, [], ◌∷◌, ◌++◌, filter, length, length-append, append_assoc, arith, ap, sym, ◌∙◌}
 use Rattle.std.proofs.lemmas.List.{append-nil}
 use Rattle.cg_form.specs.Firsts.{EachOnce, In, extended, is_in, once, one_more, without}
 
@@ -68,21 +68,21 @@ module _ {X : Type 0} (t : Test X) where
   one_more-new seen g out = ap (λ b. if b then seen else seen ++ (g ∷ [])) (is_in-false seen g out)
 
   pub one_more-keeps : (seen : List X) (g k : X) → In k seen → In k (one_more t.same seen g)
-  one_more-keeps seen g k m = let P : List X → Type 0 = λ z. In k z in elim (in_or_not seen g) [
-    | inl there ↦ subst P (sym (one_more-there seen g there)) m
-    | inr out ↦ subst P (sym (one_more-new seen g out)) (in-append_left k seen (g ∷ []) m)
+  one_more-keeps seen g k m = elim (in_or_not seen g) [
+    | inl there ↦ rw (one_more-there seen g there) m
+    | inr out ↦ rw (one_more-new seen g out) (in-append_left k seen (g ∷ []) m)
   ]
 
   pub one_more-has : (seen : List X) (g : X) → In g (one_more t.same seen g)
-  one_more-has seen g = let P : List X → Type 0 = λ z. In g z in elim (in_or_not seen g) [
-    | inl there ↦ subst P (sym (one_more-there seen g there)) there
-    | inr out ↦ subst P (sym (one_more-new seen g out)) (in-append_right g seen (g ∷ []) (inl refl))
+  one_more-has seen g = elim (in_or_not seen g) [
+    | inl there ↦ rw (one_more-there seen g there) there
+    | inr out ↦ rw (one_more-new seen g out) (in-append_right g seen (g ∷ []) (inl refl))
   ]
 
   pub one_more-among : (seen : List X) (g k : X) → In k (one_more t.same seen g) → In k seen ⊎ (k ≡ g)
-  one_more-among seen g k m = let P : List X → Type 0 = λ z. In k z in elim (in_or_not seen g) [
-    | inl there ↦ inl (subst P (one_more-there seen g there) m)
-    | inr out ↦ elim (in-append k seen (g ∷ []) (subst P (one_more-new seen g out) m)) [
+  one_more-among seen g k m = elim (in_or_not seen g) [
+    | inl there ↦ inl (rw (one_more-there seen g there) at m)
+    | inr out ↦ elim (in-append k seen (g ∷ []) (rw (one_more-new seen g out) at m)) [
       | inl n ↦ inl n
       | inr n ↦ elim n [ inl e ↦ inr e | inr none ↦ absurd none ]
     ]
@@ -107,8 +107,7 @@ module _ {X : Type 0} (t : Test X) where
   pub extended-has : (seen xs : List X) (k : X) → In k xs → In k (extended t.same seen xs)
   extended-has seen [] k m = absurd m
   extended-has seen (x ∷ xs) k (inl e) =
-      let P : X → Type 0 = λ z. In z (extended t.same (one_more t.same seen x) xs) in
-      subst P (sym e) (extended-keeps (one_more t.same seen x) xs x (one_more-has seen x))
+      rw e (extended-keeps (one_more t.same seen x) xs x (one_more-has seen x))
   extended-has seen (x ∷ xs) k (inr m) = extended-has (one_more t.same seen x) xs k m
 
   pub extended-among : (seen xs : List X) (k : X) → In k (extended t.same seen xs) → In k seen ⊎ In k xs
@@ -148,10 +147,9 @@ module _ {X : Type 0} (t : Test X) where
   pub extended-once : (seen xs : List X) → EachOnce seen → EachOnce (extended t.same seen xs)
   extended-once seen [] o = o
   extended-once seen (x ∷ xs) o =
-      let P : List X → Type 0 = λ z. EachOnce z in
       extended-once (one_more t.same seen x) xs (elim (in_or_not seen x) [
-        | inl there ↦ subst P (sym (one_more-there seen x there)) o
-        | inr out ↦ subst P (sym (one_more-new seen x out)) (each_once-more seen x o out)
+        | inl there ↦ rw (one_more-there seen x there) o
+        | inr out ↦ rw (one_more-new seen x out) (each_once-more seen x o out)
       ])
 
   -- ---- as a list without repetitions
@@ -183,8 +181,7 @@ module _ {X : Type 0} (t : Test X) where
   -- where x is there, what is new isn't x
   new_apart : (seen : List X) (x h : X) → In x seen → (not (t.same x h) && is_new seen h) ≡ is_new seen h
   new_apart seen x h m = (elim (t.same x h) as (λ b. t.same x h ≡ b → (not b && is_new seen h) ≡ is_new seen h) [
-    | true ↦ λ s. (let P : X → Type 0 = λ z. In z seen in sym (ap not (is_in-true seen h (subst P
-        (t.back x h s) m))))
+    | true ↦ λ s. (sym (ap not (is_in-true seen h (rw (t.back x h s) at m))))
     | false ↦ λ s. refl
   ]) refl
 

@@ -1,5 +1,5 @@
 -- Lists of forms, seen as lists of games.
-use Rattle.std.proofs.Common.{◌≡◌, refl, ℕ, ◌+◌, ◌≤◌, ◌<◌, arith, zero, suc, inl, inr, ap, sym, ◌∙◌, subst, List, [], ◌∷◌, ◌++◌, Bool, true, false, not, ◌&&◌}
+use Rattle.std.proofs.Common.{◌≡◌, refl, ℕ, ◌+◌, ◌≤◌, ◌<◌, arith, zero, suc, inl, inr, ap, sym, ◌∙◌, List, [], ◌∷◌, ◌++◌, Bool, true, false, not, ◌&&◌}
 use Rattle.std.proofs.Common.{get_or, take, drop, length}
 use Rattle.cg_form.specs.declared.form.Form.{Form}
 use Rattle.cg_form.specs.declared.form.Form.TheVariants.{Node}
@@ -61,7 +61,7 @@ drop_at (k ∷ fs) (suc i) f h e = drop_at fs i f (omega arith) e
 
 pub among_item : (fs : List Form) (os : List Game) (i : ℕ) (f : Form) → i < length fs → f ≡ get_or fs i f
     → games_of fs ≡ os → Among (game_of f) os
-among_item fs os i f h e g = let P : List Game → Type 0 = λ z. Among (game_of f) z in subst P g (item fs i f h e)
+among_item fs os i f h e g = rw g at (item fs i f h e)
   where
     item : (fs : List Form) (i : ℕ) (f : Form) → i < length fs → f ≡ get_or fs i f → Among (game_of f) (games_of fs)
     item [] i f h e = absurd (omega arith)

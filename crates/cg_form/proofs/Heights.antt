@@ -1,5 +1,5 @@
 -- The stops of a game need no more binary places than its height.
-use Rattle.std.proofs.Common.{◌≡◌, refl, ℕ, ◌<◌, ◌≤◌, arith, zero, suc, Bool, true, false, cond, ap, subst, inl, inr, List, [], ◌∷◌, map, ℤ, pos, ◌+ℤ◌}
+use Rattle.std.proofs.Common.{◌≡◌, refl, ℕ, ◌<◌, ◌≤◌, arith, zero, suc, Bool, true, false, cond, ap, inl, inr, List, [], ◌∷◌, map, ℤ, pos, ◌+ℤ◌}
 use Rattle.std.proofs.lemmas.Int.{ints}
 use Rattle.cg_dyadic.specs.Number.{AmongNumbers, Number, NumberLe, between, exp_of, number_le, number_lefts, number_rights, ratio, weight, whole}
 use Rattle.cg_dyadic.proofs.Integers.{le_or_gt}
@@ -45,8 +45,7 @@ simplest_of g x e =
     let (y, s) = simplest_within (suc (weight x)) x g (omega arith) (equal-fits x g e) in
     let f = simplest-equal y g s in
     let same : y ≡ x = one_number y x g f e in
-    let P : Number → Type 0 = λ z. Simplest z g in
-    subst P same s
+    rw same at s
 
 not_not_le : (p q : Number) → ¬ (¬ NumberLe p q) → NumberLe p q
 not_not_le p q h = elim (true-or-not (number_le p q)) [ inl k ↦ k | inr k ↦ absurd (h k) ]

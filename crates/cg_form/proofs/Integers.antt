@@ -1,5 +1,5 @@
 -- Every game lies between two integers, so a game with no Left, or no Right, options equals an integer.
-use Rattle.std.proofs.Common.{◌≡◌, refl, ℕ, ◌<◌, arith, zero, suc, ◌⊎◌, inl, inr, ap, ◌∙◌, subst, List, []}
+use Rattle.std.proofs.Common.{◌≡◌, refl, ℕ, ◌<◌, arith, zero, suc, ◌⊎◌, inl, inr, ap, ◌∙◌, []}
 use Rattle.std.proofs.Common.{ℤ, pos, negsuc, ◌+ℤ◌}
 use Rattle.std.proofs.lemmas.Int.{ints}
 use Rattle.cg_dyadic.specs.Number.{Number, between, exp_of, whole}
@@ -60,7 +60,7 @@ pub no_lefts-whole : (g : Game) → lefts g ≡ [] → (n : ℤ) × FitsIn (whol
 no_lefts-whole g e = (
   minus (size g),
   record {
-    above = λ a m k. let P : List Game → Type 0 = λ gs. Among a gs in subst P e m;
+    above = λ a m k. rw e at m;
     below = λ b m k.
         let s = size-rights g b m in
         let l = le-units 0 (whole (minus (size b))) (whole (minus (size g))) (omega arith) (omega arith)
@@ -76,7 +76,7 @@ pub no_rights-whole : (g : Game) → rights g ≡ [] → (n : ℤ) × FitsIn (wh
 no_rights-whole g e = (
   pos (size g),
   record {
-    below = λ a m k. let P : List Game → Type 0 = λ gs. Among a gs in subst P e m;
+    below = λ a m k. rw e at m;
     above = λ a m k.
         let s = size-lefts g a m in
         let l = le-units 0 (whole (pos (size g))) (whole (pos (size a))) (omega arith) (omega arith)
@@ -100,8 +100,7 @@ fits_integer : (x : Number) (g : Game) → exp_of x ≡ 0 → FitsIn x g → (n 
 fits_integer x g e f =
     let s = simplicity x g f in
     let (n, h) = integer s.value (simpler_whole s.value x e (s.simplest x f)) in
-    let P : Number → Type 0 = λ z. Equal (number z) g in
-    (n, subst P h s.equal)
+    (n, rw h at s.equal)
 
 pub no_lefts-integer : (g : Game) → lefts g ≡ [] → (n : ℤ) × Equal (number (whole n)) g
 no_lefts-integer g e = let w = no_lefts-whole g e in fits_integer (whole w.0) g refl w.1

@@ -1,5 +1,5 @@
 -- The steps of the code that finds canonical forms.
-use Rattle.std.proofs.Common.{◌≡◌, ℕ, ◌+◌, ◌<◌, arith, suc, inl, inr, ap, sym, ◌∙◌, subst, List, [], ◌∷◌, ◌++◌, Bool, true, false}
+use Rattle.std.proofs.Common.{◌≡◌, ℕ, ◌+◌, ◌<◌, arith, suc, inl, inr, ap, ◌∙◌, List, [], ◌∷◌, ◌++◌, Bool, true, false}
 use Rattle.std.proofs.Common.{get_or, take, length}
 use Rattle.std.specs.Prelude.{Option, Some, None}
 use Rattle.cg_dyadic.specs.declared.cut.Cut.{Cut}
@@ -30,15 +30,14 @@ use Rattle.cg_form.proofs.Simplicity.{equal-fits, one_number}
 pub in_range_not : (g : Game) (x : Number) → InRange x → Equal (number x) g → ¬ EqualsOutside g
 in_range_not g x r e o =
     let same : o.value ≡ x = one_number o.value x g o.equal e in
-    let P : Number → Type 0 = λ z. InRange z in
-    o.outside (subst P (sym same) r)
+    o.outside (rw same r)
 
 pub none_not : (g : Game) → NoNumber g → ¬ EqualsOutside g
 none_not g n o = n o.value o.equal
 
 pub any_outside : (gs : List Game) (a : Game) → Among a gs → HasOutside a → AnyOutside (of_list gs)
 any_outside [] a m o = absurd m
-any_outside (g ∷ gs) a (inl e) o = let P : Game → Type 0 = λ z. HasOutside z in inl (subst P e o)
+any_outside (g ∷ gs) a (inl e) o = inl (rw e at o)
 any_outside (g ∷ gs) a (inr m) o = inr (any_outside gs a m o)
 
 pub outside_more : (gs : List Game) (g : Game) → ¬ AnyOutside (of_list gs) → ¬ HasOutside g
@@ -63,17 +62,13 @@ known_number s g x c at shut e n =
 pub known_num : (s : Bool) (f : Form) (x : Number) (c : Cut) → f ≡ Num x → c.at ≡ x → c.closed ≡ true → InRange x
     → KnownOf s (game_of f) (number x) c
 known_num s f x c e at shut i =
-    let P : Game → Type 0 = λ z. KnownOf s z (number x) c in
-    subst P (sym (ap game_of e)) (known_number s (number x) x c at shut (equal_refl (number x))
+    rw (ap game_of e) (known_number s (number x) x c at shut (equal_refl (number x))
     (in_range_not (number x) x i (equal_refl (number x))))
 
 -- the cuts that were asked about are those of the lists
 gap_as : (a b o q : Option Cut) (test : (Number → Bool) → Type 0) → a ≡ o → b ≡ q → test (in_gap a b)
     → test (in_gap o q)
-gap_as a b o q test e f n =
-    let P : Option Cut → Type 0 = λ z. test (in_gap z b) in
-    let Q : Option Cut → Type 0 = λ z. test (in_gap o z) in
-    subst Q f (subst P e n)
+gap_as a b o q test e f n = rw f at (rw e at n)
 
 pub decide_number : (s : Bool) (ls rs : List Game) (a b o q : Option Cut) (x : Number) (c : Cut) → a ≡ o → b ≡ q
     → CutOf AnyNumber true o ls → CutOf AnyNumber false q rs
@@ -106,11 +101,9 @@ pub decide_reduced : (s : Bool) (ls rs cs ds : List Game) (k : Game) (a b o q : 
     → ¬ AnyOutside (of_list ls) → ¬ AnyOutside (of_list rs) → NonePasses (in_gap a b) → o ≡ Some low → q ≡ Some high
     → IsCanonicalForm (node cs ds) k → Turned (other_cut s low high) c → KnownOf s (node ls rs) k c
 decide_reduced s ls rs cs ds k a b o q low high c e f l r cl cr il ir n is_low is_high form t =
-    let L : Option Cut → Type 0 = λ y. CutOf AnyNumber true y ls in
-    let H : Option Cut → Type 0 = λ y. CutOf AnyNumber false y rs in
     let never = gap_as o q (Some low) (Some high) NonePasses is_low is_high (gap_as a b o q NonePasses e f n) in
-    let kl = subst L is_low cl in
-    let kh = subst H is_high cr in
+    let kl = rw is_low at cl in
+    let kh = rw is_high at cr in
     let misses = gap_misses AnyNumber ls rs (Some low) (Some high) kl kh (λ x p. never x) in
     record {
       form = record {
@@ -128,24 +121,18 @@ same_lists : (ls rs us vs : List Game) → Node ls rs ≡ Node us vs → (ls ≡
 same_lists ls rs us vs e = (cc, cc)
 
 pub own_lefts_less : (ls rs us vs : List Game) → Node ls rs ≡ Node us vs → EachLess true (node ls rs) us
-own_lefts_less ls rs us vs e = let P : List Game → Type 0 = λ z. EachLess true (node ls rs) z in
-    subst P (same_lists ls rs us vs e).0 (lefts_less ls rs)
+own_lefts_less ls rs us vs e = rw (← (same_lists ls rs us vs e).0) (lefts_less ls rs)
 
 pub own_rights_less : (ls rs us vs : List Game) → Node ls rs ≡ Node us vs → EachLess false (node ls rs) vs
-own_rights_less ls rs us vs e = let P : List Game → Type 0 = λ z. EachLess false (node ls rs) z in
-    subst P (same_lists ls rs us vs e).1 (rights_less ls rs)
+own_rights_less ls rs us vs e = rw (← (same_lists ls rs us vs e).1) (rights_less ls rs)
 
 pub reduced_settled : (gl gr ls rs us vs bl br : List Game) → ls ≡ gl → rs ≡ gr → Node ls rs ≡ Node us vs
     → NoNumber (node gl gr)
     → Replaces true (node ls rs) us bl → Replaces false (node ls rs) vs br → IsCanonicalForm (node gl gr) (node bl br)
 reduced_settled gl gr ls rs us vs bl br e f h never pl pr =
     let g : node ls rs ≡ node gl gr = ap (λ z. node z rs) e ∙ ap (λ z. node gl z) f in
-    let N : Game → Type 0 = λ z. NoNumber z in
-    let P : List Game → Type 0 = λ z. Replaces true (node ls rs) z bl in
-    let Q : List Game → Type 0 = λ z. Replaces false (node ls rs) z br in
-    let R : Game → Type 0 = λ z. IsCanonicalForm z (node bl br) in
-    subst R g (node_settled ls rs bl br (subst N (sym g) never) (subst P (sym (same_lists ls rs us vs h).0) pl)
-    (subst Q (sym (same_lists ls rs us vs h).1) pr))
+    rw g at (node_settled ls rs bl br (rw g never) (rw (← (same_lists ls rs us vs h).0) at pl)
+    (rw (← (same_lists ls rs us vs h).1) at pr))
 
 -- ---- a gap in which no number lies has two ends
 
@@ -166,10 +153,8 @@ pub copies_next : (fs ks us : List Form) (i : ℕ) (f k : Form) → i < length f
     → CopiesOf (games_of (take (i + 1) fs)) (games_of us)
 copies_next fs ks us i f k h e c form p =
     let next : i + 1 ≡ suc i = omega arith in
-    let P : List Game → Type 0 = λ z. CopiesOf z (games_of us) in
-    let Q : List Game → Type 0 = λ z. CopiesOf (games_of (take i fs) ++ (game_of f ∷ [])) z in
-    subst P (sym (ap (λ n. games_of (take n fs)) next ∙ games_of-take_suc fs i f h e))
-    (subst Q (sym (ap games_of p ∙ games_of-append ks (k ∷ [])))
+    rw (ap (λ n. games_of (take n fs)) next ∙ games_of-take_suc fs i f h e)
+    (rw (ap games_of p ∙ games_of-append ks (k ∷ []))
     (copies_more (games_of (take i fs)) (games_of ks) (game_of f) (game_of k) c form))
 
 pub inside_next : (fs : List Form) (i : ℕ) (f : Form) → i < length fs → f ≡ get_or fs i f
@@ -177,6 +162,4 @@ pub inside_next : (fs : List Form) (i : ℕ) (f : Form) → i < length fs → f 
     → ¬ AnyOutside (of_list (games_of (take (i + 1) fs)))
 inside_next fs i f h e n m =
     let next : i + 1 ≡ suc i = omega arith in
-    let P : List Game → Type 0 = λ z. ¬ AnyOutside (of_list z) in
-    subst P (sym (ap (λ n. games_of (take n fs)) next ∙ games_of-take_suc fs i f h e))
-    (outside_more (games_of (take i fs)) (game_of f) n m)
+    rw (ap (λ n. games_of (take n fs)) next ∙ games_of-take_suc fs i f h e) (outside_more (games_of (take i fs)) (game_of f) n m)

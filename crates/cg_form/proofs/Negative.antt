@@ -1,5 +1,5 @@
 -- Negatives turn the order, and a game less itself equals 0.
-use Rattle.std.proofs.Common.{◌≡◌, ℕ, ◌+◌, ◌<◌, arith, zero, suc, inl, inr, ap, ◌∙◌, subst, map}
+use Rattle.std.proofs.Common.{◌≡◌, ℕ, ◌+◌, ◌<◌, arith, zero, suc, inl, inr, ap, ◌∙◌, map}
 use Rattle.cg_form.specs.Game.{Among, Game, lefts, node, rights}
 use Rattle.cg_form.specs.Order.{Equal, Le}
 use Rattle.cg_form.specs.Size.{size}
@@ -67,13 +67,11 @@ negative-turned (suc n) g h s = record {
     on_left = λ x m k.
         let (b, w, e) = negative-left_cases h x m in
         let t = size-rights h b w in
-        let P : Game → Type 0 = λ z. Le (negative g) z in
-        (le-unfold g h p).on_right b w ((negative-turned n b g (omega arith)).back (subst P e k));
+        (le-unfold g h p).on_right b w ((negative-turned n b g (omega arith)).back (rw e at k));
     on_right = λ x m k.
         let (a, w, e) = negative-right_cases g x m in
         let t = size-lefts g a w in
-        let P : Game → Type 0 = λ z. Le z (negative h) in
-        (le-unfold g h p).on_left a w ((negative-turned n h a (omega arith)).back (subst P e k));
+        (le-unfold g h p).on_left a w ((negative-turned n h a (omega arith)).back (rw e at k));
   });
   back = λ p. le-fold g h (record {
     on_left = λ a w k.
@@ -99,15 +97,12 @@ sum-negative_le (suc n) g s = le-fold (sum g (negative g)) nothing (record {
   on_left = λ x m k. elim (sum-left_cases g (negative g) x m) [
     | inl (a, w, e) ↦
         let t = size-lefts g a w in
-        let P : Game → Type 0 = λ z. Le nothing z in
-        (le-unfold nothing (sum a (negative g)) (subst P e k)).on_right (sum a (negative a))
+        (le-unfold nothing (sum a (negative g)) (rw e at k)).on_right (sum a (negative a))
         (sum-right_second a (negative g) (negative a) (negative-right g a w)) (sum-negative_le n a (omega arith))
     | inr (y, w, e) ↦
         let (b, v, f) = negative-left_cases g y w in
         let t = size-rights g b v in
-        let P : Game → Type 0 = λ z. Le nothing z in
-        let Q : Game → Type 0 = λ z. Le nothing (sum g z) in
-        (le-unfold nothing (sum g (negative b)) (subst Q f (subst P e k))).on_right (sum b (negative b))
+        (le-unfold nothing (sum g (negative b)) (rw f at (rw e at k))).on_right (sum b (negative b))
         (sum-right_first g (negative b) b v) (sum-negative_le n b (omega arith))
   ];
   on_right = λ x m k. absurd m;
@@ -120,15 +115,12 @@ le-sum_negative (suc n) g s = le-fold nothing (sum g (negative g)) (record {
   on_right = λ x m k. elim (sum-right_cases g (negative g) x m) [
     | inl (b, w, e) ↦
         let t = size-rights g b w in
-        let P : Game → Type 0 = λ z. Le z nothing in
-        (le-unfold (sum b (negative g)) nothing (subst P e k)).on_left (sum b (negative b))
+        (le-unfold (sum b (negative g)) nothing (rw e at k)).on_left (sum b (negative b))
         (sum-left_second b (negative g) (negative b) (negative-left g b w)) (le-sum_negative n b (omega arith))
     | inr (y, w, e) ↦
         let (a, v, f) = negative-right_cases g y w in
         let t = size-lefts g a v in
-        let P : Game → Type 0 = λ z. Le z nothing in
-        let Q : Game → Type 0 = λ z. Le (sum g z) nothing in
-        (le-unfold (sum g (negative a)) nothing (subst Q f (subst P e k))).on_left (sum a (negative a))
+        (le-unfold (sum g (negative a)) nothing (rw f at (rw e at k))).on_left (sum a (negative a))
         (sum-left_first g (negative a) a v) (le-sum_negative n a (omega arith))
   ];
 })

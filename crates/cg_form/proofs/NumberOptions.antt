@@ -1,5 +1,5 @@
 -- A game whose options all equal numbers, the Left ones less than the Right ones, equals a number.
-use Rattle.std.proofs.Common.{◌≡◌, refl, inl, inr, Bool, true, false, List, [], ◌∷◌, subst, sym}
+use Rattle.std.proofs.Common.{◌≡◌, refl, inl, inr, Bool, true, false, List, [], ◌∷◌, sym}
 use Rattle.cg_dyadic.specs.Cut.{number_at_most}
 use Rattle.cg_dyadic.specs.Number.{Number, NumberLe, whole}
 use Rattle.cg_dyadic.proofs.Middle.{middle, middle_between}
@@ -28,8 +28,7 @@ best_of : (s : Bool) (g : Game) (gs : List Game) → ((a : Game) → Among a (g 
 best_of s g [] each = let (x, e) = each g (inl refl) in record {
   value = x;
   best = λ a m. elim m [
-    | inl f ↦ (let P : Game → Type 0 = λ z. AtMost s z (number x) in
-        subst P (sym f) (side_equal s g (number x) (equal_back (number x) g e)))
+    | inl f ↦ rw f (side_equal s g (number x) (equal_back (number x) g e))
     | inr k ↦ absurd k
   ];
   one = g;
@@ -44,7 +43,7 @@ best_of s g (h ∷ hs) each =
       | inl t ↦ record {
         value = x;
         best = λ a m. elim m [
-          | inl f ↦ (let P : Game → Type 0 = λ z. AtMost s z (number x) in subst P (sym f) first)
+          | inl f ↦ rw f first
           | inr k ↦ side_trans s a (number b.value) (number x) (b.best a k) (side-numbers s b.value x t)
         ];
         one = g;
@@ -54,9 +53,8 @@ best_of s g (h ∷ hs) each =
       | inr n ↦ record {
         value = b.value;
         best = λ a m. elim m [
-          | inl f ↦ (let P : Game → Type 0 = λ z. AtMost s z (number b.value) in
-              subst P (sym f) (side_trans s g (number x) (number b.value) first
-              (side-numbers s x b.value (number_side-less s b.value x n))))
+          | inl f ↦ rw f (side_trans s g (number x) (number b.value) first
+              (side-numbers s x b.value (number_side-less s b.value x n)))
           | inr k ↦ b.best a k
         ];
         one = b.one;

@@ -1,9 +1,9 @@
 -- Numbers as games are ordered as numbers.
-use Rattle.std.proofs.Common.{ℕ, ◌+◌, ◌<◌, arith, zero, suc, inl, inr, subst}
+use Rattle.std.proofs.Common.{ℕ, ◌+◌, ◌<◌, arith, zero, suc, inl, inr}
 use Rattle.cg_dyadic.specs.Number.{Number, NumberLe, number_le, number_lefts, number_rights}
 use Rattle.cg_dyadic.proofs.Truth.{true-or-not}
 use Rattle.cg_dyadic.proofs.Values.{not_le-left_number, not_le-right_number, number_gap, number_le-trans}
-use Rattle.cg_form.specs.Game.{Game, number}
+use Rattle.cg_form.specs.Game.{number}
 use Rattle.cg_form.specs.Order.{Le}
 use Rattle.cg_form.specs.Size.{size}
 use Rattle.cg_form.proofs.Among.{among-map, among_number}
@@ -21,13 +21,11 @@ same_order (suc n) x y s = record {
     on_left = λ a m k.
         let (z, e, w) = among-map (number_lefts x) number a m in
         let t = size-lefts (number x) (number z) (among_number number z (number_lefts x) w) in
-        let P : Game → Type 0 = λ g. Le (number y) g in
-        not_le-left_number x z w (number_le-trans x y z p ((same_order n y z (omega arith)).to_number (subst P e k)));
+        not_le-left_number x z w (number_le-trans x y z p ((same_order n y z (omega arith)).to_number (rw e at k)));
     on_right = λ b m k.
         let (z, e, w) = among-map (number_rights y) number b m in
         let t = size-rights (number y) (number z) (among_number number z (number_rights y) w) in
-        let P : Game → Type 0 = λ g. Le g (number x) in
-        not_le-right_number y z w (number_le-trans z x y ((same_order n z x (omega arith)).to_number (subst P e k)) p);
+        not_le-right_number y z w (number_le-trans z x y ((same_order n z x (omega arith)).to_number (rw e at k)) p);
   });
   to_number = λ p. elim (true-or-not (number_le x y)) [
     | inl h ↦ h

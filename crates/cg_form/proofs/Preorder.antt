@@ -1,5 +1,5 @@
 -- The order of games is reflexive and transitive, and options are on its right side.
-use Rattle.std.proofs.Common.{◌≡◌, sym, subst, ℕ, ◌+◌, ◌<◌, arith, zero, suc}
+use Rattle.std.proofs.Common.{◌≡◌, ℕ, ◌+◌, ◌<◌, arith, zero, suc}
 use Rattle.cg_form.specs.Game.{Among, Game, lefts, rights}
 use Rattle.cg_form.specs.Order.{Equal, Le}
 use Rattle.cg_form.specs.Size.{size}
@@ -37,10 +37,10 @@ le_trans g h k p q = le_trans_within (suc (size g + size h + size k)) g h k (ome
 
 -- along equations of games
 pub at_left : (x y z : Game) → x ≡ y → Le y z → Le x z
-at_left x y z e l = let P : Game → Type 0 = λ w. Le w z in subst P (sym e) l
+at_left x y z e l = rw e l
 
 pub at_right : (x y z : Game) → x ≡ y → Le z y → Le z x
-at_right x y z e l = let P : Game → Type 0 = λ w. Le z w in subst P (sym e) l
+at_right x y z e l = rw e l
 
 -- ---- equality of games
 
@@ -54,7 +54,7 @@ pub equal_back : (g h : Game) → Equal g h → Equal h g
 equal_back g h e = (e.1, e.0)
 
 pub equal_of : (g h : Game) → g ≡ h → Equal g h
-equal_of g h e = let P : Game → Type 0 = λ z. Equal g z in subst P e (equal_refl g)
+equal_of g h e = rw e (equal_refl h)
 
 -- ---- by the options alone
 

@@ -1,5 +1,5 @@
 -- Positions of canonical games, and reduced games as either side sees them.
-use Rattle.std.proofs.Common.{◌≡◌, refl, ◌⊎◌, inl, inr, sym, subst, List, [], ◌∷◌, Bool, true, false}
+use Rattle.std.proofs.Common.{◌≡◌, refl, ◌⊎◌, inl, inr, sym, List, [], ◌∷◌, Bool, true, false}
 use Rattle.std.specs.declared.cmp.Ordering.{Ordering}
 use Rattle.std.specs.declared.cmp.Ordering.TheVariants.{Less, Equal as Same, Greater}
 use Rattle.cg_dyadic.specs.Number.{number_lefts, number_rights}
@@ -12,17 +12,15 @@ use Rattle.cg_form.proofs.Structure.{before_not_same, game_cmp-same, game_cmp-tu
 
 all_canonical-each : (gs : Games) (a : Game) → AllCanonical gs → Among a (to_list gs) → Canonical a
 all_canonical-each none a c m = absurd m
-all_canonical-each (more g gs) a c (inl e) = let P : Game → Type 0 = λ z. Canonical z in subst P (sym e) c.0
+all_canonical-each (more g gs) a c (inl e) = rw e c.0
 all_canonical-each (more g gs) a c (inr m) = all_canonical-each gs a c.1 m
 
 pub canonical-left : (g a : Game) → Canonical g → Among a (lefts g) → Canonical a
-canonical-left (number x) a c m = let (z, e, w) = among-map (number_lefts x) number a m in let P : Game → Type 0 =
-    λ z. Canonical z in subst P (sym e) tt
+canonical-left (number x) a c m = let (z, e, w) = among-map (number_lefts x) number a m in rw e tt
 canonical-left (options ls rs) a c m = all_canonical-each ls a c.1 m
 
 pub canonical-right : (g a : Game) → Canonical g → Among a (rights g) → Canonical a
-canonical-right (number x) a c m = let (z, e, w) = among-map (number_rights x) number a m in let P : Game → Type 0 =
-    λ z. Canonical z in subst P (sym e) tt
+canonical-right (number x) a c m = let (z, e, w) = among-map (number_rights x) number a m in rw e tt
 canonical-right (options ls rs) a c m = all_canonical-each rs a c.2 m
 
 pub canonical-near : (s : Bool) (g a : Game) → Canonical g → Among a (near s g) → Canonical a

@@ -1,6 +1,6 @@
 -- Removing a dominated option, bypassing a reversible one and replacing an option by an equal one keep the value, on
 -- either side.
-use Rattle.std.proofs.Common.{◌≡◌, refl, inl, inr, sym, ◌∙◌, subst, List, ◌∷◌, ◌++◌, Bool, true, false}
+use Rattle.std.proofs.Common.{◌≡◌, refl, inl, inr, sym, ◌∙◌, List, ◌∷◌, ◌++◌, Bool, true, false}
 use Rattle.cg_dyadic.specs.Number.{Number}
 use Rattle.cg_form.specs.Bypass.{Covered, bypassed, kept, under}
 use Rattle.cg_form.specs.Canonical.{LeftAbove, RightBelow}
@@ -23,14 +23,11 @@ replaced false g h c n e =
     covered_equal g h (λ b m. kept (carry b (lefts g) (lefts h) e m))
     (λ y m. not_le-left g y (carry y (lefts h) (lefts g) (sym e) m)) c n
 
-covered_as : (s : Bool) (g : Game) (ls : List Game) (x y : Game) → x ≡ y → Covered s g ls y → Covered s g ls x
-covered_as s g ls x y e c = let P : Game → Type 0 = λ z. Covered s g ls z in subst P (sym e) c
-
 pub removed : (s : Bool) (g h : Game) (us vs : List Game) (a b : Game) → near s g ≡ us ++ (a ∷ vs)
     → near s h ≡ us ++ vs → far s g ≡ far s h → Among b (us ++ vs) → AtMost s a b → Equal g h
 removed s g h us vs a b eg eh f m l = replaced s g h
     (λ x w. elim (in_others x a us vs (carry x (near s g) (us ++ (a ∷ vs)) eg w)) [
-      | inl e ↦ covered_as s g (near s h) x a e (under b (carry b (us ++ vs) (near s h) (sym eh) m) l)
+      | inl e ↦ rw e (under b (carry b (us ++ vs) (near s h) (sym eh) m) l)
       | inr k ↦ kept (carry x (us ++ vs) (near s h) (sym eh) k)
     ])
     (λ x w. not_near s g x (carry x (us ++ (a ∷ vs)) (near s g) (sym eg)
@@ -42,8 +39,7 @@ pub bypassed_once : (s : Bool) (g h : Game) (us vs : List Game) (a b : Game) →
 bypassed_once s g h us vs a b eg eh f m l = replaced s g h
     (λ x w. elim (among-append x us (a ∷ vs) (carry x (near s g) (us ++ (a ∷ vs)) eg w)) [
       | inl k ↦ kept (carry x (us ++ (near s b ++ vs)) (near s h) (sym eh) (among-append_left x us (near s b ++ vs) k))
-      | inr (inl e) ↦ covered_as s g (near s h) x a e
-          (bypassed b m l (λ c k. kept (carry c (us ++ (near s b ++ vs)) (near s h) (sym eh)
+      | inr (inl e) ↦ rw e (bypassed b m l (λ c k. kept (carry c (us ++ (near s b ++ vs)) (near s h) (sym eh)
           (among-append_right c us (near s b ++ vs) (among-append_left c (near s b) vs k)))))
       | inr (inr k) ↦ kept (carry x (us ++ (near s b ++ vs)) (near s h) (sym eh)
           (among-append_right x us (near s b ++ vs) (among-append_right x (near s b) vs k)))
@@ -90,15 +86,14 @@ pub swapped : (s : Bool) (g h : Game) (us vs : List Game) (a b : Game) → near 
     → near s h ≡ us ++ (b ∷ vs) → far s g ≡ far s h → Equal a b → Equal g h
 swapped s g h us vs a b eg eh f e = replaced s g h
     (λ x w. elim (in_others x a us vs (carry x (near s g) (us ++ (a ∷ vs)) eg w)) [
-      | inl p ↦ covered_as s g (near s h) x a p
-          (under b (carry b (us ++ (b ∷ vs)) (near s h) (sym eh) (among-append_right b us (b ∷ vs) (inl refl)))
+      | inl p ↦ rw p (under b (carry b (us ++ (b ∷ vs)) (near s h) (sym eh) (among-append_right b us (b ∷ vs) (inl refl)))
           (side_equal s a b e))
       | inr k ↦ kept (carry x (us ++ (b ∷ vs)) (near s h) (sym eh) (of_others x b us vs k))
     ])
     (λ x w. elim (in_others x b us vs (carry x (near s h) (us ++ (b ∷ vs)) eh w)) [
-      | inl p ↦ (λ l. let P : Game → Type 0 = λ z. AtMost s g z in
+      | inl p ↦ (λ l.
           not_near s g a (carry a (us ++ (a ∷ vs)) (near s g) (sym eg) (among-append_right a us (a ∷ vs) (inl refl)))
-          (side_trans s g b a (subst P p l) (side_equal s b a (e.1, e.0))))
+          (side_trans s g b a (rw p at l) (side_equal s b a (e.1, e.0))))
       | inr k ↦ not_near s g x (carry x (us ++ (a ∷ vs)) (near s g) (sym eg) (of_others x a us vs k))
     ])
     f

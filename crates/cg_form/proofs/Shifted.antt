@@ -1,6 +1,6 @@
 -- A number that is added to each number of a game keeps the structural order, and makes a canonical game the canonical
 -- form of the sum.
-use Rattle.std.proofs.Common.{Bool, true, false, ◌≡◌, refl, ℕ, ◌+◌, ◌-◌, ◌<◌, arith, zero, suc, inl, inr, ap, sym, ◌∙◌, subst, ◌∷◌, map, ℤ, pos, ◌+ℤ◌, ◌-ℤ◌}
+use Rattle.std.proofs.Common.{Bool, true, false, ◌≡◌, refl, ℕ, ◌+◌, ◌-◌, ◌<◌, arith, zero, suc, inl, inr, ap, sym, ◌∙◌, ◌∷◌, map, ℤ, pos, ◌+ℤ◌, ◌-ℤ◌}
 use Rattle.std.proofs.lemmas.Int.{ints}
 use Rattle.cg_dyadic.specs.Exact.{IsSum, sum_num}
 use Rattle.cg_dyadic.specs.Number.{Number, exp_of, number_cmp, number_le, ratio, whole}
@@ -172,8 +172,7 @@ before_shifted : (x : Number) (g : Game) (gs : Games) → ((h : Game) → Among 
     → (h : Game) → Among h (to_list (shifted_all x gs)) → Before (shifted x g) h
 before_shifted x g gs f h m =
     let (a, i, e) = list-case x gs h m in
-    let P : Game → Type 0 = λ z. Before (shifted x g) z in
-    subst P (sym e) (cmp-shifted x g a ∙ f a i)
+    rw e (cmp-shifted x g a ∙ f a i)
 
 rises-shifted : (x : Number) (gs : Games) → Rises (to_list gs) → Rises (to_list (shifted_all x gs))
 rises-shifted x none r = tt
@@ -210,9 +209,7 @@ shifted_apart : (s : Bool) (x : Number) (ls rs : Games) → Canonical (options l
 shifted_apart s x ls rs c a b m w h =
     let (d, i, e) = near_case s x ls rs a m in
     let (q, j, f) = near_case s x ls rs b w in
-    let P : Game → Type 0 = λ z. AtMost s z b in
-    let Q : Game → Type 0 = λ z. AtMost s (shifted x d) z in
-    e ∙ ap (λ z. shifted x z) (same_shifted s x ls rs c d q i j (subst Q f (subst P e h))) ∙ sym f
+    e ∙ ap (λ z. shifted x z) (same_shifted s x ls rs c d q i j (rw f at (rw e at h))) ∙ sym f
 
 -- an option a that is the shifted d is irreversible: d is a number, or its options are shifted options
 stays_at : (s : Bool) (x : Number) (ls rs : Games) → Canonical (options ls rs)
@@ -226,10 +223,8 @@ stays_at s x ls rs c (number y) i a e m b w l =
 stays_at s x ls rs c (options us vs) i a e m b w l =
     let g : Game = options ls rs in
     let d : Game = options us vs in
-    let P : Game → Type 0 = λ z. Among b (far s z) in
-    let (q, j, f) = far_case s x us vs b (subst P e w) in
-    let Q : Game → Type 0 = λ z. AtMost s z (shifted x g) in
-    reduced-stays s g c.0 d q i j (side_back s x q g (canonical-far s d q (canonical-near s g d c i) j) c (subst Q f l))
+    let (q, j, f) = far_case s x us vs b (rw e at w) in
+    reduced-stays s g c.0 d q i j (side_back s x q g (canonical-far s d q (canonical-near s g d c i) j) c (rw f at l))
 
 shifted_stays : (s : Bool) (x : Number) (ls rs : Games) → Canonical (options ls rs)
     → (a b : Game) → Among a (near s (shifted x (options ls rs))) → Among b (far s a)

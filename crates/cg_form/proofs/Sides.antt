@@ -1,10 +1,10 @@
 -- The order as either side sees it.
-use Rattle.std.proofs.Common.{◌≡◌, refl, ◌<◌, ◌⊎◌, inl, inr, sym, subst, List, Bool, true, false, not, IsTrue}
+use Rattle.std.proofs.Common.{◌≡◌, refl, ◌<◌, ◌⊎◌, inl, inr, List, Bool, true, false, not, IsTrue}
 use Rattle.cg_dyadic.specs.Cut.{number_at_most}
 use Rattle.cg_dyadic.specs.Number.{Number, number_lefts, number_rights}
 use Rattle.cg_dyadic.proofs.Values.{left-le_number, less-le, number_le-trans, right-le_number}
 use Rattle.cg_form.specs.Game.{Among, Game, node, number}
-use Rattle.cg_form.specs.Order.{Equal, Le}
+use Rattle.cg_form.specs.Order.{Equal}
 use Rattle.cg_form.specs.Side.{AtMost, at_most, chosen, far, near}
 use Rattle.cg_form.specs.Simple.{FitsIn, NoNumber}
 use Rattle.cg_form.specs.Size.{size}
@@ -105,12 +105,10 @@ numbers-side false x y p = le-numbers y x p
 pub near_number : (s : Bool) (x : Number) (c : Game) → Among c (near s (number x)) → AtMost s c (number x)
 near_number true x c m =
     let (y, e, k) = among-map (number_lefts x) number c m in
-    let P : Game → Type 0 = λ z. Le z (number x) in
-    subst P (sym e) (numbers-le y x (left-le_number x y k))
+    rw e (numbers-le y x (left-le_number x y k))
 near_number false x c m =
     let (y, e, k) = among-map (number_rights x) number c m in
-    let P : Game → Type 0 = λ z. Le (number x) z in
-    subst P (sym e) (numbers-le x y (right-le_number x y k))
+    rw e (numbers-le x y (right-le_number x y k))
 
 pub far_number : (s : Bool) (x : Number) (b : Game) → Among b (far s (number x))
     → (y : Number) × (b ≡ number y) × AtMost s (number x) (number y)

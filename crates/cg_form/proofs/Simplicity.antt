@@ -1,6 +1,6 @@
 -- Where some number fits, the game equals the simplest one; where none fits, a number is compared with the options
 -- alone.
-use Rattle.std.proofs.Common.{◌≡◌, refl, ℕ, ◌<◌, arith, zero, suc, ◌⊎◌, inl, inr, subst, List, [], ◌∷◌}
+use Rattle.std.proofs.Common.{◌≡◌, refl, ℕ, ◌<◌, arith, zero, suc, ◌⊎◌, inl, inr, List, [], ◌∷◌}
 use Rattle.cg_dyadic.specs.Number.{AmongNumbers, Number, NumberLe, number_le, number_lefts, number_rights, weight}
 use Rattle.cg_dyadic.specs.Simplest.{Simpler}
 use Rattle.cg_dyadic.proofs.Simpler.{simpler_above, simpler_below}
@@ -42,8 +42,7 @@ pub number-le : (x : Number) (g : Game) → ((y : Number) → AmongNumbers y (nu
 number-le x g misses below = le-fold (number x) g (record {
   on_left = λ a m k.
       let (y, e, w) = among-map (number_lefts x) number a m in
-      let P : Game → Type 0 = λ z. Le g z in
-      misses y w (left_fits x g y below w (subst P e k));
+      misses y w (left_fits x g y below w (rw e at k));
   on_right = below;
 })
 
@@ -53,8 +52,7 @@ le-number g x misses above = le-fold g (number x) (record {
   on_left = above;
   on_right = λ b m k.
       let (y, e, w) = among-map (number_rights x) number b m in
-      let P : Game → Type 0 = λ z. Le z g in
-      misses y w (right_fits x g y above w (subst P e k));
+      misses y w (right_fits x g y above w (rw e at k));
 })
 
 -- simplicity
@@ -81,7 +79,7 @@ some_fits g (x ∷ xs) = elim (fits-decide x g) [
   | inr n ↦ elim (some_fits g xs) [
     | inl (y, m, f) ↦ inl (y, inr m, f)
     | inr h ↦ inr (λ y m f. elim m [
-      | inl e ↦ let P : Number → Type 0 = λ z. FitsIn z g in n (subst P e f)
+      | inl e ↦ n (rw e at f)
       | inr k ↦ h y k f
     ])
   ]

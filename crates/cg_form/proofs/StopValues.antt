@@ -1,5 +1,5 @@
 -- The stops of a game, from those of its options, bound it.
-use Rattle.std.proofs.Common.{◌≡◌, refl, ℕ, ◌<◌, arith, zero, suc, Bool, IsTrue, ap, sym, ◌∙◌, subst, inl, inr, List, [], ◌∷◌, map, cond, pos}
+use Rattle.std.proofs.Common.{◌≡◌, refl, ℕ, ◌<◌, arith, zero, suc, Bool, IsTrue, ap, ◌∙◌, inl, inr, List, [], ◌∷◌, map, pos}
 use Rattle.cg_dyadic.specs.Number.{Number, NumberLe, number_le, whole}
 use Rattle.cg_dyadic.proofs.Truth.{false-from, true-or-not}
 use Rattle.cg_dyadic.proofs.Values.{less-le, number_le-refl, number_le-trans}
@@ -33,34 +33,29 @@ BottomOf f gs p = TopBy (λ x y. number_le y x) f gs p
 module _ (le : Number → Number → Bool) (same : (x : Number) → IsTrue (le x x))
     (trans : (x y z : Number) → IsTrue (le x y) → IsTrue (le y z) → IsTrue (le x z))
     (total : (x y : Number) → ¬ IsTrue (le x y) → IsTrue (le y x)) (f : Game → Number) where
-  at_first : (a g : Game) (q : Number) → a ≡ g → IsTrue (le (f g) q) → IsTrue (le (f a) q)
-  at_first a g q e h = let P : Game → Type 0 = λ z. IsTrue (le (f z) q) in subst P (sym e) h
-
   top_by : (g : Game) (gs : List Game) → TopBy le f (g ∷ gs) (greatest_by le (whole (pos 0)) (map f (g ∷ gs)))
   top_by g [] = record {
     at = g;
     there = inl refl;
     is = refl;
-    most = λ a m. elim m [ inl e ↦ at_first a g (f g) e (same (f g)) | inr k ↦ absurd k ];
+    most = λ a m. elim m [ inl e ↦ rw e (same (f g)) | inr k ↦ absurd k ];
   }
   top_by g (h ∷ hs) =
       let r = top_by h hs in
       let q : Number = greatest_by le (whole (pos 0)) (map f (h ∷ hs)) in
-      let P : Bool → Type 0 = λ b. TopBy le f (g ∷ (h ∷ hs)) (cond b q (f g)) in
       elim (true-or-not (le (f g) q)) [
-        | inl t ↦ subst P (sym t)
-            (record {
-              at = r.at;
-              there = inr r.there;
-              is = r.is;
-              most = λ a m. elim m [ inl e ↦ at_first a g q e t | inr k ↦ r.most a k ];
-            })
-        | inr n ↦ subst P (sym (false-from (le (f g) q) n)) (record {
+        | inl t ↦ rw t (record {
+          at = r.at;
+          there = inr r.there;
+          is = r.is;
+          most = λ a m. elim m [ inl e ↦ rw e t | inr k ↦ r.most a k ];
+        })
+        | inr n ↦ rw (false-from (le (f g) q) n) (record {
           at = g;
           there = inl refl;
           is = refl;
           most = λ a m. elim m [
-            | inl e ↦ at_first a g (f g) e (same (f g))
+            | inl e ↦ rw e (same (f g))
             | inr k ↦ trans (f a) q (f g) (r.most a k) (total (f g) q n)
           ];
         })
@@ -73,12 +68,6 @@ pub bottom_of : (f : Game → Number) (g : Game) (gs : List Game) → BottomOf f
 bottom_of f g gs = top_by (λ x y. number_le y x) number_le-refl (λ x y z p q. number_le-trans z y x q p)
     (λ x y n. less-le y x n) f g gs
 
-le_at : (p x y : Number) → x ≡ y → NumberLe y p → NumberLe x p
-le_at p x y e h = let P : Number → Type 0 = λ z. NumberLe z p in subst P (sym e) h
-
-le_to : (p x y : Number) → x ≡ y → NumberLe p y → NumberLe p x
-le_to p x y e h = let P : Number → Type 0 = λ z. NumberLe p z in subst P (sym e) h
-
 -- ---- the stops of a game that equals no number
 
 left_top : (g : Game) (f : Game → Number) (p : Number) → NoNumber g
@@ -87,7 +76,7 @@ left_top g f p never rs t = record {
   high = λ x h. le-number g x (λ y w k. none_fits g never y k)
       (λ a m k. (rs a m).high x (λ l. h (number_le-trans x (f a) p l (t.most a m))) k);
   low = λ x h k. not_le-left g t.at t.there
-      (le_trans g (number x) t.at k ((rs t.at t.there).low x (λ l. h (le_at x p (f t.at) t.is l))));
+      (le_trans g (number x) t.at k ((rs t.at t.there).low x (λ l. h (rw t.is l))));
 }
 
 right_bottom : (g : Game) (f : Game → Number) (p : Number) → NoNumber g
@@ -96,7 +85,7 @@ right_bottom g f p never ls t = record {
   low = λ x h. number-le x g (λ y w k. none_fits g never y k)
       (λ b m k. (ls b m).low x (λ l. h (number_le-trans p (f b) x (t.most b m) l)) k);
   high = λ x h k. not_le-right g t.at t.there
-      (le_trans t.at (number x) g ((ls t.at t.there).high x (λ l. h (le_to x p (f t.at) t.is l))) k);
+      (le_trans t.at (number x) g ((ls t.at t.there).high x (λ l. h (rw t.is l))) k);
 }
 
 pub record StopsOf (g : Game) (s : Stops) : Type 0 where
@@ -106,16 +95,12 @@ pub record StopsOf (g : Game) (s : Stops) : Type 0 where
 left_of : (g : Game) (f : Game → Number) (gs : List Game) → lefts g ≡ gs → NoNumber g
     → ((a : Game) → Among a (lefts g) → RightStop a (f a)) → LeftStop g (greatest_number (map f (lefts g)))
 left_of g f [] e never rs = absurd (some_lefts g never e)
-left_of g f (a ∷ gs) e never rs =
-    let P : List Game → Type 0 = λ z. TopOf f z (greatest_number (map f z)) in
-    left_top g f (greatest_number (map f (lefts g))) never rs (subst P (sym e) (top_of f a gs))
+left_of g f (a ∷ gs) e never rs = left_top g f (greatest_number (map f (lefts g))) never rs (rw e (top_of f a gs))
 
 right_of : (g : Game) (f : Game → Number) (gs : List Game) → rights g ≡ gs → NoNumber g
     → ((b : Game) → Among b (rights g) → LeftStop b (f b)) → RightStop g (least_number (map f (rights g)))
 right_of g f [] e never rs = absurd (some_rights g never e)
-right_of g f (a ∷ gs) e never rs =
-    let P : List Game → Type 0 = λ z. BottomOf f z (least_number (map f z)) in
-    right_bottom g f (least_number (map f (rights g))) never rs (subst P (sym e) (bottom_of f a gs))
+right_of g f (a ∷ gs) e never rs = right_bottom g f (least_number (map f (rights g))) never rs (rw e (bottom_of f a gs))
 
 pub stops_from : (g : Game) (c : Decided g) (l r : Game → Number) → ((a : Game) → Among a (lefts g) → RightStop a (l a))
     → ((b : Game) → Among b (rights g) → LeftStop b (r b))

@@ -129,9 +129,7 @@ mutual
       (λ a b. list_cmp-trans gs hs ks a b) p q
 
 pub before_not_same : (g h : Game) → Before g h → g ≡ h → ⊥
-before_not_same g h p e =
-    let P : Game → Type 0 = λ z. Before g z in
-    less_equal (sym (subst P (sym e) p) ∙ game_cmp-refl g)
+before_not_same g h p e = less_equal (sym (rw (← e) at p) ∙ game_cmp-refl g)
 
 pub before_not_after : (g h : Game) → Before g h → ¬ Before h g
 before_not_after g h p q = before_not_same g g (game_cmp-trans g h g p q) refl
@@ -202,8 +200,7 @@ mutual
 pub game_cmp-both : (g h : Game) → (game_cmp g h ≡ Equal → g ≡ h) × (g ≡ h → game_cmp g h ≡ Equal)
 game_cmp-both g h = (
   game_cmp-same g h,
-  λ e. let P : Game → Type 0 = λ z. game_cmp g z ≡ Equal in
-      subst P e (game_cmp-refl g),
+  λ e. rw e (game_cmp-refl h),
 )
 
 -- for the code

@@ -4,7 +4,7 @@ use Rattle.cg_form.specs.Game.{Game}
 use Rattle.cg_form.specs.Order.{Equal, Le}
 use Rattle.cg_form.specs.Size.{size}
 use Rattle.cg_form.specs.Sum.{nothing, sum}
-use Rattle.cg_form.proofs.Preorder.{at_left, at_right, le-cofinal, le_trans}
+use Rattle.cg_form.proofs.Preorder.{le-cofinal, le_trans}
 use Rattle.cg_form.proofs.Size.{size-lefts, size-rights}
 use Rattle.cg_form.proofs.Sum.{sum-left_cases, sum-left_first, sum-left_second, sum-right_cases, sum-right_first, sum-right_second}
 use Rattle.cg_form.proofs.SumOrder.{le-sum, sum-le}
@@ -14,15 +14,15 @@ sum_comm_within zero g h s = absurd (omega arith)
 sum_comm_within (suc n) g h s = le-cofinal (sum g h) (sum h g)
     (λ x m. elim (sum-left_cases g h x m) [
       | inl (a, w, e) ↦ let t = size-lefts g a w in
-          (sum h a, sum-left_second h g a w, at_left x (sum a h) (sum h a) e (sum_comm_within n a h (omega arith)))
+          (sum h a, sum-left_second h g a w, rw e (sum_comm_within n a h (omega arith)))
       | inr (a, w, e) ↦ let t = size-lefts h a w in
-          (sum a g, sum-left_first h g a w, at_left x (sum g a) (sum a g) e (sum_comm_within n g a (omega arith)))
+          (sum a g, sum-left_first h g a w, rw e (sum_comm_within n g a (omega arith)))
     ])
     (λ x m. elim (sum-right_cases h g x m) [
       | inl (b, w, e) ↦ let t = size-rights h b w in
-          (sum g b, sum-right_second g h b w, at_right x (sum b g) (sum g b) e (sum_comm_within n g b (omega arith)))
+          (sum g b, sum-right_second g h b w, rw e (sum_comm_within n g b (omega arith)))
       | inr (b, w, e) ↦ let t = size-rights g b w in
-          (sum b h, sum-right_first g h b w, at_right x (sum h b) (sum b h) e (sum_comm_within n b h (omega arith)))
+          (sum b h, sum-right_first g h b w, rw e (sum_comm_within n b h (omega arith)))
     ])
 
 pub sum_comm : (g h : Game) → Le (sum g h) (sum h g)
@@ -45,36 +45,36 @@ sum_assoc_within (suc n) g h k s = le-cofinal (sum (sum g h) k) (sum g (sum h k)
         | inl (a, v, f) ↦ let t = size-lefts g a v in (
           sum a (sum h k),
           sum-left_first g (sum h k) a v,
-          at_left x (sum (sum a h) k) _ (e ∙ ap (λ z. sum z k) f) (sum_assoc_within n a h k (omega arith)),
+          rw (e ∙ ap (λ z. sum z k) f) (sum_assoc_within n a h k (omega arith)),
         )
         | inr (a, v, f) ↦ let t = size-lefts h a v in (
           sum g (sum a k),
           sum-left_second g (sum h k) (sum a k) (sum-left_first h k a v),
-          at_left x (sum (sum g a) k) _ (e ∙ ap (λ z. sum z k) f) (sum_assoc_within n g a k (omega arith)),
+          rw (e ∙ ap (λ z. sum z k) f) (sum_assoc_within n g a k (omega arith)),
         )
       ]
       | inr (a, w, e) ↦ let t = size-lefts k a w in (
         sum g (sum h a),
         sum-left_second g (sum h k) (sum h a) (sum-left_second h k a w),
-        at_left x (sum (sum g h) a) _ e (sum_assoc_within n g h a (omega arith)),
+        rw e (sum_assoc_within n g h a (omega arith)),
       )
     ])
     (λ x m. elim (sum-right_cases g (sum h k) x m) [
       | inl (b, w, e) ↦ let t = size-rights g b w in (
         sum (sum b h) k,
         sum-right_first (sum g h) k (sum b h) (sum-right_first g h b w),
-        at_right x (sum b (sum h k)) _ e (sum_assoc_within n b h k (omega arith)),
+        rw e (sum_assoc_within n b h k (omega arith)),
       )
       | inr (y, w, e) ↦ elim (sum-right_cases h k y w) [
         | inl (b, v, f) ↦ let t = size-rights h b v in (
           sum (sum g b) k,
           sum-right_first (sum g h) k (sum g b) (sum-right_second g h b v),
-          at_right x (sum g (sum b k)) _ (e ∙ ap (λ z. sum g z) f) (sum_assoc_within n g b k (omega arith)),
+          rw (e ∙ ap (λ z. sum g z) f) (sum_assoc_within n g b k (omega arith)),
         )
         | inr (b, v, f) ↦ let t = size-rights k b v in (
           sum (sum g h) b,
           sum-right_second (sum g h) k b v,
-          at_right x (sum g (sum h b)) _ (e ∙ ap (λ z. sum g z) f) (sum_assoc_within n g h b (omega arith)),
+          rw (e ∙ ap (λ z. sum g z) f) (sum_assoc_within n g h b (omega arith)),
         )
       ]
     ])
@@ -95,7 +95,7 @@ sum_nothing_within (suc n) g s = (
   le-cofinal (sum g nothing) g
       (λ x m. elim (sum-left_cases g nothing x m) [
         | inl (a, w, e) ↦ let t = size-lefts g a w in
-            (a, w, at_left x (sum a nothing) a e ((sum_nothing_within n a (omega arith)).0))
+            (a, w, rw e ((sum_nothing_within n a (omega arith)).0))
         | inr (a, w, e) ↦ absurd w
       ])
       (λ b w. let t = size-rights g b w in
@@ -105,7 +105,7 @@ sum_nothing_within (suc n) g s = (
       (sum a nothing, sum-left_first g nothing a w, (sum_nothing_within n a (omega arith)).1))
       (λ x m. elim (sum-right_cases g nothing x m) [
         | inl (b, w, e) ↦ let t = size-rights g b w in
-            (b, w, at_right x (sum b nothing) b e ((sum_nothing_within n b (omega arith)).1))
+            (b, w, rw e ((sum_nothing_within n b (omega arith)).1))
         | inr (b, w, e) ↦ absurd w
       ]),
 )

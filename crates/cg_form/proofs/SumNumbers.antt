@@ -1,11 +1,11 @@
 -- Sums of numbers are ordered as the numbers say.
-use Rattle.std.proofs.Common.{ℕ, ◌+◌, ◌≤◌, ◌<◌, arith, zero, suc, inl, inr, subst, ◌+ℤ◌, ◌≤ℤ◌}
+use Rattle.std.proofs.Common.{ℕ, ◌+◌, ◌≤◌, ◌<◌, arith, zero, suc, inl, inr, ◌+ℤ◌, ◌≤ℤ◌}
 use Rattle.std.proofs.lemmas.Int.{ints}
 use Rattle.cg_dyadic.specs.Number.{AmongNumbers, Number, exp_of, number_lefts, number_rights}
 use Rattle.cg_dyadic.specs.Units.{units}
 use Rattle.cg_dyadic.proofs.Integers.{le_or_lt}
 use Rattle.cg_dyadic.proofs.SumGap.{exp-lefts, exp-rights, sum_gap_above, sum_gap_below, units-lefts, units-rights}
-use Rattle.cg_form.specs.Game.{Among, Game, lefts, number, rights}
+use Rattle.cg_form.specs.Game.{Among, lefts, number, rights}
 use Rattle.cg_form.specs.Order.{Le}
 use Rattle.cg_form.specs.Size.{size}
 use Rattle.cg_form.specs.Sum.{sum}
@@ -32,56 +32,48 @@ sum_numbers zero s x y z w p q r = absurd (omega arith)
 sum_numbers (suc n) s x y z w p q r = record {
   le_to = λ h. le-fold (sum (number x) (number y)) (number z) (record {
     on_left = λ t m k.
-        let P : Game → Type 0 = λ g. Le (number z) g in
         elim (sum-left_cases (number x) (number y) t m) [
           | inl (g, i, e) ↦
               let (a, f, j) = among-map (number_lefts x) number g i in
-              let Q : Game → Type 0 = λ v. Le (number z) (sum v (number y)) in
               let l = size-lefts (number x) (number a) (left_in x a j) in
               let u = units-lefts s x a p j in let v = exp-lefts x a j in
-              let c = (sum_numbers n s a y z (omega arith) (omega arith) q r).ge_from (subst Q f (subst P e k)) in
+              let c = (sum_numbers n s a y z (omega arith) (omega arith) q r).ge_from (rw f at (rw e at k)) in
               absurd (omega (arith, ints))
           | inr (g, i, e) ↦
               let (a, f, j) = among-map (number_lefts y) number g i in
-              let Q : Game → Type 0 = λ v. Le (number z) (sum (number x) v) in
               let l = size-lefts (number y) (number a) (left_in y a j) in
               let u = units-lefts s y a q j in let v = exp-lefts y a j in
-              let c = (sum_numbers n s x a z (omega arith) p (omega arith) r).ge_from (subst Q f (subst P e k)) in
+              let c = (sum_numbers n s x a z (omega arith) p (omega arith) r).ge_from (rw f at (rw e at k)) in
               absurd (omega (arith, ints))
         ];
     on_right = λ t m k.
         let (a, f, j) = among-map (number_rights z) number t m in
-        let P : Game → Type 0 = λ g. Le g (sum (number x) (number y)) in
         let l = size-rights (number z) (number a) (right_in z a j) in
         let u = units-rights s z a r j in let v = exp-rights z a j in
-        let c = (sum_numbers n s x y a (omega arith) p q (omega arith)).ge_from (subst P f k) in
+        let c = (sum_numbers n s x y a (omega arith) p q (omega arith)).ge_from (rw f at k) in
         absurd (omega (arith, ints));
   });
   ge_to = λ h. le-fold (number z) (sum (number x) (number y)) (record {
     on_right = λ t m k.
-        let P : Game → Type 0 = λ g. Le g (number z) in
         elim (sum-right_cases (number x) (number y) t m) [
           | inl (g, i, e) ↦
               let (a, f, j) = among-map (number_rights x) number g i in
-              let Q : Game → Type 0 = λ v. Le (sum v (number y)) (number z) in
               let l = size-rights (number x) (number a) (right_in x a j) in
               let u = units-rights s x a p j in let v = exp-rights x a j in
-              let c = (sum_numbers n s a y z (omega arith) (omega arith) q r).le_from (subst Q f (subst P e k)) in
+              let c = (sum_numbers n s a y z (omega arith) (omega arith) q r).le_from (rw f at (rw e at k)) in
               absurd (omega (arith, ints))
           | inr (g, i, e) ↦
               let (a, f, j) = among-map (number_rights y) number g i in
-              let Q : Game → Type 0 = λ v. Le (sum (number x) v) (number z) in
               let l = size-rights (number y) (number a) (right_in y a j) in
               let u = units-rights s y a q j in let v = exp-rights y a j in
-              let c = (sum_numbers n s x a z (omega arith) p (omega arith) r).le_from (subst Q f (subst P e k)) in
+              let c = (sum_numbers n s x a z (omega arith) p (omega arith) r).le_from (rw f at (rw e at k)) in
               absurd (omega (arith, ints))
         ];
     on_left = λ t m k.
         let (a, f, j) = among-map (number_lefts z) number t m in
-        let P : Game → Type 0 = λ g. Le (sum (number x) (number y)) g in
         let l = size-lefts (number z) (number a) (left_in z a j) in
         let u = units-lefts s z a r j in let v = exp-lefts z a j in
-        let c = (sum_numbers n s x y a (omega arith) p q (omega arith)).le_from (subst P f k) in
+        let c = (sum_numbers n s x y a (omega arith) p q (omega arith)).le_from (rw f at k) in
         absurd (omega (arith, ints));
   });
   le_from = λ k. elim (le_or_lt (units s x +ℤ units s y) (units s z)) [

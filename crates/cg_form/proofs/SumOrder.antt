@@ -1,5 +1,5 @@
 -- Sums keep the order, both ways.
-use Rattle.std.proofs.Common.{ℕ, ◌+◌, ◌<◌, arith, zero, suc, inl, inr, subst}
+use Rattle.std.proofs.Common.{ℕ, ◌+◌, ◌<◌, arith, zero, suc, inl, inr}
 use Rattle.cg_form.specs.Game.{Game}
 use Rattle.cg_form.specs.Order.{Le}
 use Rattle.cg_form.specs.Size.{size}
@@ -20,24 +20,20 @@ sum-kept (suc n) a b c s = record {
     on_left = λ x m k. elim (sum-left_cases a c x m) [
       | inl (y, w, e) ↦
           let t = size-lefts a y w in
-          let P : Game → Type 0 = λ z. Le (sum b c) z in
-          (sum-kept n y b c (omega arith)).down ((le-unfold a b p).on_left y w) (subst P e k)
+          (sum-kept n y b c (omega arith)).down ((le-unfold a b p).on_left y w) (rw e at k)
       | inr (y, w, e) ↦
           let t = size-lefts c y w in
-          let P : Game → Type 0 = λ z. Le (sum b c) z in
           not_le-left (sum b c) (sum b y) (sum-left_second b c y w)
-          (le_trans (sum b c) (sum a y) (sum b y) (subst P e k) ((sum-kept n a b y (omega arith)).up p))
+          (le_trans (sum b c) (sum a y) (sum b y) (rw e at k) ((sum-kept n a b y (omega arith)).up p))
     ];
     on_right = λ x m k. elim (sum-right_cases b c x m) [
       | inl (y, w, e) ↦
           let t = size-rights b y w in
-          let P : Game → Type 0 = λ z. Le z (sum a c) in
-          (sum-kept n a y c (omega arith)).down ((le-unfold a b p).on_right y w) (subst P e k)
+          (sum-kept n a y c (omega arith)).down ((le-unfold a b p).on_right y w) (rw e at k)
       | inr (y, w, e) ↦
           let t = size-rights c y w in
-          let P : Game → Type 0 = λ z. Le z (sum a c) in
           not_le-right (sum a c) (sum a y) (sum-right_second a c y w)
-          (le_trans (sum a y) (sum b y) (sum a c) ((sum-kept n a b y (omega arith)).up p) (subst P e k))
+          (le_trans (sum a y) (sum b y) (sum a c) ((sum-kept n a b y (omega arith)).up p) (rw e at k))
     ];
   });
   down = λ p k. elim ((not_le-breaks b a p).way) [

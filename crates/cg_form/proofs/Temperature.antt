@@ -1,5 +1,5 @@
 -- A game that equals no number has a temperature, and equal games have equal ones.
-use Rattle.std.proofs.Common.{◌≡◌, ℕ, ◌+◌, ◌-◌, ◌<◌, ◌≤◌, arith, zero, suc, ◌⊎◌, inl, inr, ap, sym, ◌∙◌, subst, map, unsigned_abs, ℤ, ◌≤ℤ◌, ◌<ℤ◌}
+use Rattle.std.proofs.Common.{◌≡◌, ℕ, ◌+◌, ◌-◌, ◌<◌, ◌≤◌, arith, zero, suc, ◌⊎◌, inl, inr, ap, sym, ◌∙◌, map, unsigned_abs, ℤ, ◌≤ℤ◌, ◌<ℤ◌}
 use Rattle.std.proofs.lemmas.Int.{ints}
 use Rattle.cg_dyadic.proofs.Integers.{abs_tells, le_or_lt}
 use Rattle.cg_form.specs.Cooling.{Cool}
@@ -8,7 +8,7 @@ use Rattle.cg_form.specs.Heights.{height}
 use Rattle.cg_form.specs.Order.{Equal}
 use Rattle.cg_form.specs.Simple.{Decides, NoNumber}
 use Rattle.cg_form.specs.Walls.{MeetAt, TemperatureIs, Walls, cooled, greatest, least, scaffold_of, walls}
-use Rattle.cg_form.proofs.Cooled.{frozen_along, meet, stays, uncrossed, walls_same}
+use Rattle.cg_form.proofs.Cooled.{meet, stays, uncrossed, walls_same}
 use Rattle.cg_form.proofs.Finer.{cool, walls-ordered}
 use Rattle.cg_form.proofs.Greatest.{at_greatest, at_least, greatest_below, least_above}
 use Rattle.cg_form.proofs.Heights.{height-left, height-right}
@@ -22,8 +22,7 @@ pub find : (f : ℕ → Walls) → Cool f → (m t e : ℕ) → e ≡ t + m → 
     → (u : ℕ) × ((f u).left ≡ (f u).right)
 find f c zero t e q p h =
     let i : e ≡ t = omega arith in
-    let P : ℕ → Type 0 = λ z. (f z).left <ℤ (f z).right in
-    let k = subst P i h in absurd (omega (arith, ints))
+    let k = rw i at h in absurd (omega (arith, ints))
 find f c (suc m) t e q p h = elim (le_or_lt (f (suc t)).right (f (suc t)).left) [
   | inl k ↦ find f c m (suc t) e (omega arith) k h
   | inr k ↦ (t, meet (f t) (f (suc t)) (c.steps t) k p (c.no_jump t))
@@ -73,14 +72,12 @@ temperature-there d s g w = search_from w.0 0 (omega arith) (λ u h. absurd (ome
         → ((u : ℕ) → u < t → ¬ ((scaffold_of d s g u).left ≡ (scaffold_of d s g u).right))
         → (t : ℕ) × TemperatureIs d s g t
     search_from zero t e f = let i : w.0 ≡ t = omega arith in
-        let P : ℕ → Type 0 = λ z. (scaffold_of d s g z).left ≡ (scaffold_of d s g z).right in
-        (t, record { agree = subst P i w.1; before = f })
+        (t, record { agree = rw i at w.1; before = f })
     search_from (suc m) t e f = elim (int_same (scaffold_of d s g t).left (scaffold_of d s g t).right) [
       | inl p ↦ (t, record { agree = p; before = f })
       | inr p ↦ search_from m (suc t) (omega arith) (λ u h. elim (below u t h) [
         | inl k ↦ f u k
-        | inr k ↦ (let P : ℕ → Type 0 = λ z. ¬ ((scaffold_of d s g z).left ≡ (scaffold_of d s g z).right) in
-            subst P (sym k) p)
+        | inr k ↦ rw k p
       ])
     ]
 
@@ -94,14 +91,12 @@ pub record Later (v w : Walls) : Type 0 where
 pub later : (f : ℕ → Walls) → Cool f → (m t : ℕ) → Later (f t) (f (t + m))
 later f c zero t =
     let e : t ≡ t + 0 = omega arith in
-    let P : ℕ → Type 0 = λ z. Later (f t) (f z) in
-    subst P e (record { left = omega (arith, ints); right = omega (arith, ints) })
+    rw (← e) (record { left = omega (arith, ints); right = omega (arith, ints) })
 later f c (suc m) t =
     let i = later f c m t in let a = i.left in let b = i.right in
     let s = c.steps (t + m) in let x = s.left_falls in let y = s.right_rises in
     let e : suc (t + m) ≡ t + suc m = omega arith in
-    let P : ℕ → Type 0 = λ z. Later (f t) (f z) in
-    subst P e (record { left = omega (arith, ints); right = omega (arith, ints) })
+    rw (← e) (record { left = omega (arith, ints); right = omega (arith, ints) })
 
 -- before scaffolds that are in order, they are in order
 pub earlier : (f : ℕ → Walls) → Cool f → (m u : ℕ) → (f (u + m)).right ≤ℤ (f (u + m)).left → (f u).right ≤ℤ (f u).left
@@ -122,13 +117,10 @@ kept_step f u v h k b =
 pub kept : (f : ℕ → Walls) → Cool f → (m t : ℕ) → (f t).left ≡ (f t).right → cooled f (t + m) ≡ f t
 kept f c zero t h =
     let e : t ≡ t + 0 = omega arith in
-    let P : ℕ → Type 0 = λ z. cooled f z ≡ f t in
-    subst P e (uncrossed f t (omega (arith, ints)))
+    rw (← e) (uncrossed f t (omega (arith, ints)))
 kept f c (suc m) t h =
     let e : t + suc m ≡ suc (t + m) = omega arith in
-    let P : ℕ → Type 0 = λ z. cooled f z ≡ f t in
-    let Q : ℕ → Type 0 = λ z. Later (f t) (f z) in
-    subst P (sym e) (kept_step f (t + m) (f t) h (kept f c m t h) (subst Q e (later f c (suc m) t)))
+    rw e (kept_step f (t + m) (f t) h (kept f c m t h) (rw e at (later f c (suc m) t)))
 
 pub walls-below : (d : Decides) (s : ℕ) (g : Game) (t : ℕ) → height g ≤ s → NoNumber g → TemperatureIs d s g t
     → (u : ℕ) → u ≤ t → walls d s u g ≡ scaffold_of d s g u
@@ -136,28 +128,25 @@ walls-below d s g t h n x u p =
     let f : ℕ → Walls = scaffold_of d s g in
     let a : (f t).left ≡ (f t).right = x.agree in
     let e : t ≡ u + (t - u) = omega arith in
-    let P : ℕ → Type 0 = λ z. (f z).right ≤ℤ (f z).left in
     let q : (f t).right ≤ℤ (f t).left = omega (arith, ints) in
-    walls-none d s u g n ∙ uncrossed f u (earlier f (cool d s g n h) (t - u) u (subst P e q))
+    walls-none d s u g n ∙ uncrossed f u (earlier f (cool d s g n h) (t - u) u (rw e at q))
 
 pub walls-mast : (d : Decides) (s : ℕ) (g : Game) (t : ℕ) → height g ≤ s → NoNumber g → TemperatureIs d s g t
     → (u : ℕ) → t ≤ u → walls d s u g ≡ scaffold_of d s g t
 walls-mast d s g t h n x u p =
     let f : ℕ → Walls = scaffold_of d s g in
     let e : t + (u - t) ≡ u = omega arith in
-    let P : ℕ → Type 0 = λ z. cooled f z ≡ f t in
-    walls-none d s u g n ∙ subst P e (kept f (cool d s g n h) (u - t) t x.agree)
+    walls-none d s u g n ∙ (rw e at (kept f (cool d s g n h) (u - t) t x.agree))
 
 -- ---- equal games
 
 met : (f : ℕ → Walls) → Cool f → (t : ℕ) → MeetAt f t → MeetAt (cooled f) t
 met f c t m = let a = m.agree in record {
-  agree = frozen_along (cooled f t) (f t) (uncrossed f t (omega (arith, ints))) a;
+  agree = rw (uncrossed f t (omega (arith, ints))) a;
   before = λ u h k. (
       let (q, e) = gap u t h in
-      let P : ℕ → Type 0 = λ z. (f z).right ≤ℤ (f z).left in
-      let o = earlier f c q u (subst P e (omega (arith, ints))) in
-      m.before u h (frozen_along (f u) (cooled f u) (sym (uncrossed f u o)) k));
+      let o = earlier f c q u (rw (← e) (omega (arith, ints))) in
+      m.before u h (rw (← (uncrossed f u o)) k));
 }
   where
     gap : (u t : ℕ) → u < t → (q : ℕ) × (t ≡ u + q)
@@ -166,22 +155,21 @@ met f c t m = let a = m.agree in record {
 met-back : (f : ℕ → Walls) → Cool f → (t : ℕ) → MeetAt (cooled f) t → MeetAt f t
 met-back f c t m = record {
   agree = at t m;
-  before = λ u h k. m.before u h (frozen_along (cooled f u) (f u) (uncrossed f u (omega (arith, ints))) k);
+  before = λ u h k. m.before u h (rw (uncrossed f u (omega (arith, ints))) k);
 }
   where
     at : (t : ℕ) → MeetAt (cooled f) t → (f t).left ≡ (f t).right
     at zero m = m.agree
     at (suc t) m = elim (le_or_lt (f (suc t)).right (f (suc t)).left) [
-      | inl p ↦ frozen_along (f (suc t)) (cooled f (suc t)) (sym (uncrossed f (suc t) p)) m.agree
-      | inr p ↦ absurd (m.before t (omega arith)
-          (frozen_along (cooled f t) (cooled f (suc t)) (sym (stays f t p)) m.agree))
+      | inl p ↦ rw (← (uncrossed f (suc t) p)) m.agree
+      | inr p ↦ absurd (m.before t (omega arith) (rw (← (stays f t p)) m.agree))
     ]
 
 met_along : (f k : ℕ → Walls) → ((t : ℕ) → f t ≡ k t) → (t : ℕ) → MeetAt f t → MeetAt k t
 met_along f k e t m =
     record {
-      agree = frozen_along (k t) (f t) (sym (e t)) m.agree;
-      before = λ u h j. m.before u h (frozen_along (f u) (k u) (e u) j);
+      agree = rw (← (e t)) m.agree;
+      before = λ u h j. m.before u h (rw (e u) j);
     }
 
 pub temperature-equal : (d : Decides) (s : ℕ) (g h : Game) → height g ≤ s → height h ≤ s → NoNumber g → NoNumber h

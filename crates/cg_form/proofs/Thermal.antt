@@ -40,9 +40,8 @@ pub apart : (f : ℕ → Walls) (e u : ℕ) → Cool f → MeetAt f e → u < e 
 apart f e u c t h =
     let a = t.agree in
     let i : e ≡ u + (e - u) = omega arith in
-    let P : ℕ → Type 0 = λ z. (f z).right ≤ℤ (f z).left in
     let q : (f e).right ≤ℤ (f e).left = omega (arith, ints) in
-    strict (f u).left (f u).right (earlier f c (e - u) u (subst P i q)) (t.before u h)
+    strict (f u).left (f u).right (earlier f c (e - u) u (rw i at q)) (t.before u h)
   where
     strict : (a b : ℤ) → b ≤ℤ a → ((a ≡ b) → ⊥) → b <ℤ a
     strict a b h n = elim (le_or_lt a b) [ inl p ↦ absurd (n (omega (arith, ints))) | inr p ↦ p ]
@@ -74,9 +73,8 @@ met-next f k e c n t = record {
       | inr i ↦
           let j : e ≡ v = omega arith in
           let a = t.agree in
-          let P : ℕ → Type 0 = λ z. (f z).right ≤ℤ (f z).left in
           let q : (f e).right ≤ℤ (f e).left = omega (arith, ints) in
-          subst P j q
+          rw j at q
     ]
 
 pub met-one : (f : ℕ → Walls) (e e' : ℕ) → MeetAt f e → MeetAt f e' → e ≡ e'
@@ -140,14 +138,12 @@ module _ (P : ℕ → Type 0) (f : ℕ → ℕ → Walls) (k : Refines P f) wher
   seen-up : (m s t : ℕ) (mean temp : Number) → P s → Seen (f s) s t mean temp
       → (u : ℕ) × P (m + s) × Seen (f (m + s)) (m + s) u mean temp
   seen-up zero s t mean temp h v =
-      let Q : ℕ → Type 0 = λ z. P z × Seen (f z) z t mean temp in
       let e : s ≡ zero + s = omega arith in
-      let w = subst Q e (h, v) in (t, w.0, w.1)
+      (t, rw (← e) h, rw (← e) v)
   seen-up (suc m) s t mean temp h v =
       let (u, i, w) = seen-up m s t mean temp h v in
-      let Q : ℕ → Type 0 = λ z. P z × Seen (f z) z (twice u) mean temp in
       let e : suc (m + s) ≡ suc m + s = omega arith in
-      let x = subst Q e (k.up (m + s) i, seen-next (m + s) u mean temp i w) in (twice u, x.0, x.1)
+      (twice u, rw (← e) (k.up (m + s) i), rw (← e) (seen-next (m + s) u mean temp i w))
 
   -- at any two such scales the same is seen
   pub seen-same : (s r t u : ℕ) (mean temp mean' temp' : Number) → P s → P r → Seen (f s) s t mean temp
@@ -155,9 +151,8 @@ module _ (P : ℕ → Type 0) (f : ℕ → ℕ → Walls) (k : Refines P f) wher
   seen-same s r t u mean temp mean' temp' h j v w =
       let (x, a, b) = seen-up r s t mean temp h v in
       let (y, c, d) = seen-up s r u mean' temp' j w in
-      let Q : ℕ → Type 0 = λ z. Seen (f z) z y mean' temp' in
       let i : s + r ≡ r + s = omega arith in
-      met-same (f (r + s)) (r + s) x y mean temp mean' temp' b (subst Q i d)
+      met-same (f (r + s)) (r + s) x y mean temp mean' temp' b (rw i at d)
 
 refines : (d : Decides) (g : Game) → NoNumber g → Refines (λ s. height g ≤ s) (λ s. scaffold_of d s g)
 refines d g never = record {
@@ -245,9 +240,7 @@ pub equal-thermal : (g h : Game) (m t : Number) → Equal g h → IsThermal g m 
 equal-thermal g h m t e a =
     let k = thermal h in
     let s = same-thermal g h m t k.mean k.temp e a k.is in
-    let P : Number → Type 0 = λ z. IsThermal h z t in
-    let Q : Number → Type 0 = λ z. IsThermal h k.mean z in
-    subst P (sym s.means) (subst Q (sym s.temps) k.is)
+    rw s.means (rw s.temps k.is)
 
 -- what holds by one that decides which games equal numbers, at each scale of at least the height
 pub thermal-by : (d : Decides) (g : Game) (m t : Number) → NoNumber g
@@ -256,9 +249,7 @@ pub thermal-by : (d : Decides) (g : Game) (m t : Number) → NoNumber g
 thermal-by d g m t never h =
     let c = cools d (height g) g (omega arith) never in
     let (x, y) = h (height g) c.at (omega arith) c.is in
-    let P : Number → Type 0 = λ z. IsThermal g z t in
-    let Q : Number → Type 0 = λ z. IsThermal g (ratio (scaffold_of d (height g) g c.at).left (height g)) z in
-    subst P (sym x) (subst Q (sym y) (thermal-at d (height g) g c.at never (omega arith) c.is))
+    rw x (rw y (thermal-at d (height g) g c.at never (omega arith) c.is))
 
 -- neither needs more binary places than the height
 pub thermal-low : (g : Game) (m t : Number) → IsThermal g m t → (exp_of m ≤ height g) × (exp_of t ≤ height g)

@@ -1,5 +1,5 @@
 -- Number translation: x + G = {x + A | x + B} where G equals no number.
-use Rattle.std.proofs.Common.{◌≡◌, ℕ, ◌+◌, ◌-◌, unsigned_abs, ◌≤◌, arith, zero, suc, ◌⊎◌, inl, inr, ap, ◌∙◌, subst, ℤ, pos, negsuc, ◌+ℤ◌, ◌<ℤ◌, map, List}
+use Rattle.std.proofs.Common.{◌≡◌, ℕ, ◌+◌, ◌-◌, unsigned_abs, ◌≤◌, arith, zero, suc, ◌⊎◌, inl, inr, ap, ◌∙◌, ℤ, pos, negsuc, ◌+ℤ◌, ◌<ℤ◌}
 use Rattle.std.proofs.lemmas.Int.{ints}
 use Rattle.cg_dyadic.specs.Number.{Number, exp_of, number_lefts, number_rights, ratio, whole}
 use Rattle.cg_dyadic.specs.Units.{units}
@@ -124,8 +124,7 @@ walk_right (suc n) s j g never b m k u = elim (some_right g (ratio j s)) [
   | inr (c, w, l) ↦
       let i : ℤ = j +ℤ negsuc 0 in
       let e : j ≡ i +ℤ pos 1 = omega (arith, ints) in
-      let P : ℤ → Type 0 = λ z. Le c (number (ratio z s)) in
-      walk_right n s i g never c w (subst P e l) (omega (arith, ints))
+      walk_right n s i g never c w (rw e at l) (omega (arith, ints))
   | inl f ↦ record {
     at = j;
     near = b;
@@ -155,9 +154,8 @@ near_right s g never =
       | inr (b, m, l) ↦
           let i : ℤ = high +ℤ negsuc 0 in
           let e : high ≡ i +ℤ pos 1 = omega (arith, ints) in
-          let P : ℤ → Type 0 = λ z. Le b (number (ratio z s)) in
           walk_right (suc (unsigned_abs (i +ℤ pos 1) + unsigned_abs (units s (whole (minus (size g)))))) s i g never b m
-          (subst P e l) (steps (i +ℤ pos 1) (units s (whole (minus (size g)))))
+          (rw e at l) (steps (i +ℤ pos 1) (units s (whole (minus (size g)))))
     ]
 
 -- ---- translation
@@ -181,15 +179,15 @@ right_of x g b m = rw rights-node (among_mapped (λ b. sum (number x) b) b (righ
 
 pub left_cases : (x : Number) (g t : Game) → Among t (lefts (translated x g))
     → (a : Game) × Among a (lefts g) × (t ≡ sum (number x) a)
-left_cases x g t m = let P : List Game → Type 0 = λ gs. Among t gs in
+left_cases x g t m =
     among_map (λ a. sum (number x) a) t (lefts g)
-    (subst P (lefts-node (map (λ a. sum (number x) a) (lefts g)) (map (λ b. sum (number x) b) (rights g))) m)
+    (rw lefts-node at m)
 
 pub right_cases : (x : Number) (g t : Game) → Among t (rights (translated x g))
     → (a : Game) × Among a (rights g) × (t ≡ sum (number x) a)
-right_cases x g t m = let P : List Game → Type 0 = λ gs. Among t gs in
+right_cases x g t m =
     among_map (λ b. sum (number x) b) t (rights g)
-    (subst P (rights-node (map (λ a. sum (number x) a) (lefts g)) (map (λ b. sum (number x) b) (rights g))) m)
+    (rw rights-node at m)
 
 pub translation : (x : Number) (g : Game) → NoNumber g → Equal (sum (number x) g) (translated x g)
 translation x g never = (

@@ -1,5 +1,5 @@
 -- Equal canonical games are the same.
-use Rattle.std.proofs.Common.{◌≡◌, ℕ, ◌+◌, ◌<◌, arith, zero, suc, inl, inr, ap, sym, ◌∙◌, subst, Bool, true, false}
+use Rattle.std.proofs.Common.{◌≡◌, ℕ, ◌+◌, ◌<◌, arith, zero, suc, inl, inr, ap, sym, ◌∙◌, Bool, true, false}
 use Rattle.cg_form.specs.Canonical.{Canonical, IsCanonicalForm, Reduced}
 use Rattle.cg_form.specs.Game.{Among, Game, number, of_list, options, to_list}
 use Rattle.cg_form.specs.Order.{Equal}
@@ -26,8 +26,7 @@ twin s g h r q e a m =
     let (c, n, l) = partner s g h r e a m in
     let (d, k, j) = partner s h g q (e.1, e.0) c n in
     let same : a ≡ d = reduced-apart s g r a d m k (side_trans s a c d l j) in
-    let P : Game → Type 0 = λ z. AtMost s c z in
-    (c, n, equal_side s a c l (subst P (sym same) j))
+    (c, n, equal_side s a c l (rw (← same) at j))
 
 -- the lists of a side are the same if equal options are
 same_side : (s : Bool) (g h : Game) → Reduced g → Reduced h → Canonical g → Canonical h → Equal g h
@@ -35,13 +34,9 @@ same_side : (s : Bool) (g h : Game) → Reduced g → Reduced h → Canonical g 
     → near s g ≡ near s h
 same_side s g h r q c d e same = rises-same (near s g) (near s h) (reduced-rises s g r) (reduced-rises s h q)
     (λ a m. let (b, k, f) = twin s g h r q e a m in
-    let P : Game → Type 0 = λ z. Among z (near s h) in
-    subst P (sym (same a b (size-near s g a m) (size-near s h b k) (canonical-near s g a c m)
-    (canonical-near s h b d k) f)) k)
+    rw (same a b (size-near s g a m) (size-near s h b k) (canonical-near s g a c m) (canonical-near s h b d k) f) k)
     (λ b m. let (a, k, f) = twin s h g q r (e.1, e.0) b m in
-    let P : Game → Type 0 = λ z. Among z (near s g) in
-    subst P (same a b (size-near s g a k) (size-near s h b m) (canonical-near s g a c k) (canonical-near s h b d m)
-    (f.1, f.0)) k)
+    rw (same a b (size-near s g a k) (size-near s h b m) (canonical-near s g a c k) (canonical-near s h b d m) (f.1, f.0)) at k)
 
 pub canonical_same_within : (n : ℕ) (g h : Game) → size g + size h < n → Canonical g → Canonical h → Equal g h → g ≡ h
 canonical_same_within zero g h s c d e = absurd (omega arith)

@@ -1,5 +1,5 @@
 -- Walls of greater games are greater, and equal games have equal walls.
-use Rattle.std.proofs.Common.{◌≡◌, ℕ, ◌+◌, ◌<◌, ◌≤◌, arith, zero, suc, inl, inr, subst, pos, ◌+ℤ◌, ◌-ℤ◌, ◌≤ℤ◌}
+use Rattle.std.proofs.Common.{◌≡◌, ℕ, ◌+◌, ◌<◌, ◌≤◌, arith, zero, suc, inl, inr, pos, ◌+ℤ◌, ◌-ℤ◌, ◌≤ℤ◌}
 use Rattle.std.proofs.lemmas.Int.{ints}
 use Rattle.cg_dyadic.specs.Number.{AmongNumbers, Number, exp_of, number_lefts, number_rights, weight}
 use Rattle.cg_dyadic.specs.Units.{units}
@@ -68,8 +68,7 @@ against_none d s x g never p h l r xl xr = record {
   not_ge = λ q t. elim ((not_le-breaks (number x) g q).way) [
     | inl w ↦ (
         let (y, e, k) = among-map (number_lefts x) number w.0 w.1 in
-        let P : Game → Type 0 = λ z. Le g z in
-        let i = (xl y k).le (subst P e w.2) t in
+        let i = (xl y k).le (rw e at w.2) t in
         let o = walls-ordered d s t g h in let c = units-lefts s x y p k in
         omega (arith, ints))
     | inr w ↦ (
@@ -86,8 +85,7 @@ against_none d s x g never p h l r xl xr = record {
         let e = left_is _ _ (walls-none d s t g never) in omega (arith, ints))
     | inr w ↦ (
         let (y, e, k) = among-map (number_rights x) number w.0 w.1 in
-        let P : Game → Type 0 = λ z. Le z g in
-        let i = (xr y k).ge (subst P e w.2) t in
+        let i = (xr y k).ge (rw e at w.2) t in
         let o = walls-ordered d s t g h in let c = units-rights s x y p k in
         omega (arith, ints))
   ];

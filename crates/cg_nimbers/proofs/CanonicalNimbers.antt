@@ -1,11 +1,11 @@
 -- Nimbers rise in the structural order, and they are canonical.
-use Rattle.std.proofs.Common.{◌≡◌, refl, append_assoc, ℕ, ◌<◌, arith, zero, suc, inl, inr, ap, sym, ◌∙◌, subst, List, [], ◌∷◌, ◌++◌, Bool, true, false}
+use Rattle.std.proofs.Common.{◌≡◌, refl, append_assoc, ℕ, ◌<◌, arith, zero, suc, inl, inr, ap, sym, ◌∙◌, List, [], ◌∷◌, ◌++◌, Bool, true, false}
 use Rattle.std.specs.declared.cmp.Ordering.TheVariants.{Less}
 use Rattle.cg_dyadic.proofs.Integers.{le_or_gt}
 use Rattle.cg_dyadic.proofs.Values.{number_le-refl}
 use Rattle.cg_form.specs.Canonical.{Canonical}
 use Rattle.cg_form.specs.Game.{Among, Game, of_list}
-use Rattle.cg_form.specs.Side.{AtMost, far, near}
+use Rattle.cg_form.specs.Side.{far, near}
 use Rattle.cg_form.specs.Simple.{NoNumber}
 use Rattle.cg_form.specs.Structure.{Before, Rises, list_cmp}
 use Rattle.cg_form.proofs.Among.{among-append, carry}
@@ -44,8 +44,7 @@ pub nimber_before : (i k : ℕ) → i < k → Before (nimber_form i) (nimber_for
 unfolding nimber_form
 nimber_before i k l =
     let (hs, e) = nimbers_below-front i k l in
-    let P : List Game → Type 0 = λ z. Before (nimber_over (nimbers_below i)) (nimber_over z) in
-    subst P (sym e) (before-longer (nimbers_below i) hs (nimber_form i))
+    rw e (before-longer (nimbers_below i) hs (nimber_form i))
 
 -- one more at the end of a rising list
 pub rises-one_more : (gs : List Game) (g : Game) → Rises gs → ((h : Game) → Among h gs → Before h g)
@@ -54,7 +53,7 @@ rises-one_more [] g r f = ((λ h m. absurd m), tt)
 rises-one_more (h ∷ gs) g r f = (
   (λ a m. elim (among-append a gs (g ∷ []) m) [
     | inl n ↦ r.0 a n
-    | inr (inl e) ↦ let P : Game → Type 0 = λ z. Before h z in subst P (sym e) (f h (inl refl))
+    | inr (inl e) ↦ rw e (f h (inl refl))
     | inr (inr n) ↦ absurd n
   ]),
   rises-one_more gs g r.1 (λ a m. f a (inr m)),
@@ -64,11 +63,9 @@ pub nimbers-rise : (k : ℕ) → Rises (nimbers_below k)
 unfolding nimbers_below
 nimbers-rise zero = tt
 nimbers-rise (suc k) =
-    let P : List Game → Type 0 = λ z. Rises z in
-    subst P (sym (nimbers_below-next k)) (rises-one_more (nimbers_below k) (nimber_form k) (nimbers-rise k)
+    rw (nimbers_below-next k) (rises-one_more (nimbers_below k) (nimber_form k) (nimbers-rise k)
     (λ h m. let (i, l, e) = among_nimbers h k m in
-    let Q : Game → Type 0 = λ z. Before z (nimber_form k) in
-    subst Q (sym e) (nimber_before i k l)))
+    rw e (nimber_before i k l)))
 
 -- ---- canonical
 
@@ -77,18 +74,14 @@ side_reduced s k = record {
   apart = λ a b m n l.
       let (i, u, e) = among_nimbers a k (carry a (near s (nimber_form k)) (nimbers_below k) (near-nimber s k) m) in
       let (j, v, f) = among_nimbers b k (carry b (near s (nimber_form k)) (nimbers_below k) (near-nimber s k) n) in
-      let P : Game → Type 0 = λ z. AtMost s z b in
-      let Q : Game → Type 0 = λ z. AtMost s (nimber_form i) z in
-      e ∙ ap nimber_form (nimbers_apart s i j (subst Q f (subst P e l))) ∙ sym f;
+      e ∙ ap nimber_form (nimbers_apart s i j (rw f at (rw e at l))) ∙ sym f;
   stays = λ a b m n l.
       let (i, u, e) = among_nimbers a k (carry a (near s (nimber_form k)) (nimbers_below k) (near-nimber s k) m) in
-      let O : Game → Type 0 = λ z. Among b (far s z) in
       let (j, v, f) = among_nimbers b i (carry b (far s (nimber_form i)) (nimbers_below i) (far-nimber s i)
-      (subst O e n)) in
-      let P : Game → Type 0 = λ z. AtMost s z (nimber_form k) in
-      let same : j ≡ k = nimbers_apart s j k (subst P f l) in
+      (rw e at n)) in
+      let same : j ≡ k = nimbers_apart s j k (rw f at l) in
       omega arith;
-  rises = let P : List Game → Type 0 = λ z. Rises z in subst P (sym (near-nimber s k)) (nimbers-rise k);
+  rises = rw (near-nimber s k) (nimbers-rise k);
 }
 
 zero_is : nimber_form 0 ≡ zero_form
@@ -98,10 +91,8 @@ zero_is = refl
 no_number : (k : ℕ) → NoNumber (nimber_form (suc k))
 no_number k =
     let l : 0 < suc k = omega arith in
-    let N : Game → Type 0 = λ z. Among z (near true (nimber_form (suc k))) in
-    let F : Game → Type 0 = λ z. Among z (far true (nimber_form (suc k))) in
-    slight-no_number true (nimber_form (suc k)) zero_form (subst N zero_is (nimber_near true 0 (suc k) l))
-    (subst F zero_is (nimber_far true 0 (suc k) l)) (slight-number true zero_number (number_le-refl zero_number))
+    slight-no_number true (nimber_form (suc k)) zero_form (rw zero_is at (nimber_near true 0 (suc k) l))
+    (rw zero_is at (nimber_far true 0 (suc k) l)) (slight-number true zero_number (number_le-refl zero_number))
 
 canonical_over : (gs : List Game) → SideReduced true (nimber_over gs) → SideReduced false (nimber_over gs)
     → (¬ (gs ≡ []) → NoNumber (nimber_over gs)) → ((a : Game) → Among a gs → Canonical a) → Canonical (nimber_over gs)
@@ -119,8 +110,7 @@ canonical_within zero k l = absurd (omega arith)
 canonical_within (suc n) k l = canonical_over (nimbers_below k) (side_reduced true k) (side_reduced false k)
     (no_number_over k)
     (λ a m. let (i, u, e) = among_nimbers a k m in
-    let P : Game → Type 0 = λ z. Canonical z in
-    subst P (sym e) (canonical_within n i (omega arith)))
+    rw e (canonical_within n i (omega arith)))
 
 pub nimber-canonical : (k : ℕ) → Canonical (nimber_form k)
 nimber-canonical k = canonical_within (suc k) k (omega arith)

@@ -1,5 +1,5 @@
 -- A game that has the options of a nimber, up to equality and those that the nimber has not, equals it.
-use Rattle.std.proofs.Common.{◌≡◌, sym, subst, ℕ, ◌<◌, List, Bool, true, false}
+use Rattle.std.proofs.Common.{◌≡◌, sym, ℕ, ◌<◌, List, Bool, true, false}
 use Rattle.cg_form.specs.Game.{Among, Game}
 use Rattle.cg_form.specs.Order.{Equal}
 use Rattle.cg_form.specs.Side.{AtMost, far, near}
@@ -31,9 +31,8 @@ at_most-nimber s g k p q = side_fold s g (nimber_form k) (record {
   on_far = λ b m l.
       let (i, w, e) = among_nimbers b k (carry b (far s (nimber_form k)) (nimbers_below k) (far-nimber s k) m) in
       let h = q i w in
-      let P : Game → Type 0 = λ z. AtMost s z g in
       not_far s g h.game h.among (side_trans s h.game (nimber_form i) g
-      (side_equal s h.game (nimber_form i) h.equal) (subst P e l));
+      (side_equal s h.game (nimber_form i) h.equal) (rw e at l));
 })
 
 -- the same on both sides

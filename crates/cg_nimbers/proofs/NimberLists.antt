@@ -1,5 +1,5 @@
 -- Nimbers: their lists of options, and that no two are comparable.
-use Rattle.std.proofs.Common.{◌≡◌, refl, ℕ, ◌<◌, arith, zero, suc, inl, inr, ap, sym, subst, List, [], ◌∷◌, ◌++◌, Bool, true, false}
+use Rattle.std.proofs.Common.{◌≡◌, refl, ℕ, ◌<◌, arith, zero, suc, inl, inr, ap, List, [], ◌∷◌, ◌++◌, Bool, true, false}
 use Rattle.cg_dyadic.proofs.Integers.{le_or_gt}
 use Rattle.cg_form.specs.Game.{Among, Game}
 use Rattle.cg_form.specs.Side.{AtMost, far, near}
@@ -17,8 +17,7 @@ nimbers_below-next k = refl
 pub nimber_among : (i k : ℕ) → i < k → Among (nimber_form i) (nimbers_below k)
 nimber_among i zero l = absurd (omega arith)
 nimber_among i (suc k) l =
-    let P : List Game → Type 0 = λ z. Among (nimber_form i) z in
-    subst P (sym (nimbers_below-next k)) (elim (le_or_gt k i) [
+    rw (nimbers_below-next k) (elim (le_or_gt k i) [
       | inl m ↦ let e : i ≡ k = omega arith in
           among-append_right _ (nimbers_below k) _ (inl (ap nimber_form e))
       | inr m ↦ among-append_left _ (nimbers_below k) _ (nimber_among i k m)
@@ -28,8 +27,7 @@ pub among_nimbers : (g : Game) (k : ℕ) → Among g (nimbers_below k) → (i : 
 unfolding nimbers_below
 among_nimbers g zero m = absurd m
 among_nimbers g (suc k) m =
-    let P : List Game → Type 0 = λ z. Among g z in
-    elim (among-append g (nimbers_below k) (nimber_form k ∷ []) (subst P (nimbers_below-next k) m)) [
+    elim (among-append g (nimbers_below k) (nimber_form k ∷ []) (rw (nimbers_below-next k) at m)) [
       | inl n ↦ let (i, l, e) = among_nimbers g k n in (i, omega arith, e)
       | inr (inl e) ↦ (k, omega arith, e)
       | inr (inr n) ↦ absurd n
@@ -51,12 +49,10 @@ far-nimber true k = near-nimber false k
 far-nimber false k = near-nimber true k
 
 pub nimber_near : (s : Bool) (i k : ℕ) → i < k → Among (nimber_form i) (near s (nimber_form k))
-nimber_near s i k l = let P : List Game → Type 0 = λ z. Among (nimber_form i) z in
-    subst P (sym (near-nimber s k)) (nimber_among i k l)
+nimber_near s i k l = rw (near-nimber s k) (nimber_among i k l)
 
 pub nimber_far : (s : Bool) (i k : ℕ) → i < k → Among (nimber_form i) (far s (nimber_form k))
-nimber_far s i k l = let P : List Game → Type 0 = λ z. Among (nimber_form i) z in
-    subst P (sym (far-nimber s k)) (nimber_among i k l)
+nimber_far s i k l = rw (far-nimber s k) (nimber_among i k l)
 
 -- ---- the order
 

@@ -1,5 +1,5 @@
 -- The sum of two nimbers.
-use Rattle.std.proofs.Common.{◌≡◌, ap, sym, ◌∙◌, subst, ℕ, zero, suc, ◌+◌, ◌<◌, arith, ◌⊎◌, inl, inr, Bool, true, false}
+use Rattle.std.proofs.Common.{◌≡◌, ap, ◌∙◌, ℕ, zero, suc, ◌+◌, ◌<◌, arith, ◌⊎◌, inl, inr, Bool, true, false}
 use Rattle.std.specs.Prelude.{bit_xor}
 use Rattle.cg_form.specs.Game.{Among, Game}
 use Rattle.cg_form.specs.Order.{Equal}
@@ -35,18 +35,17 @@ Known a b = ((i : ℕ) → i < a → Equal (sum (nimber_form i) (nimber_form b))
 sum_other : (a b : ℕ) → Known a b → (s : Bool) (x : Game) → Among x (near s (sum (nimber_form a) (nimber_form b)))
     → IsOther (bit_xor a b) x
 sum_other a b known s x m =
-    let P : Game → Type 0 = λ z. IsOther (bit_xor a b) z in
     elim (near_cases s (nimber_form a) (nimber_form b) x m) [
       | inl (y, n, e) ↦
           let (i, l, f) = among_nimbers y a (carry y (near s (nimber_form a)) (nimbers_below a) (near-nimber s a) n) in
-          subst P (sym (e ∙ ap (λ z. sum z (nimber_form b)) f)) (record {
+          rw (e ∙ ap (λ z. sum z (nimber_form b)) f) (record {
             value = bit_xor i b;
             other = λ z. let same : i ≡ a = xor-injective i a b z in omega arith;
             equal = known.0 i l;
           })
       | inr (y, n, e) ↦
           let (j, l, f) = among_nimbers y b (carry y (near s (nimber_form b)) (nimbers_below b) (near-nimber s b) n) in
-          subst P (sym (e ∙ ap (λ z. sum (nimber_form a) z) f)) (record {
+          rw (e ∙ ap (λ z. sum (nimber_form a) z) f) (record {
             value = bit_xor a j;
             other = λ z.
                 let same : j ≡ b = xor-injective j b a (xor_comm j a ∙ z ∙ xor_comm a b) in omega arith;
@@ -59,20 +58,18 @@ sum_lesser : (a b : ℕ) → Known a b → (s : Bool) (c : ℕ) → c < bit_xor 
 sum_lesser a b known s c l =
     elim (xor-lesser a b c l) [
       | inl p ↦
-          let P : ℕ → Type 0 = λ z. Equal (sum (nimber_form p.partner) (nimber_form b)) (nimber_form z) in
           record {
             game = sum (nimber_form p.partner) (nimber_form b);
             among = far_first s (nimber_form a) (nimber_form b) (nimber_form p.partner)
                 (nimber_far s p.partner a p.lesser);
-            equal = subst P p.gives (known.0 p.partner p.lesser);
+            equal = rw p.gives at (known.0 p.partner p.lesser);
           }
       | inr p ↦
-          let P : ℕ → Type 0 = λ z. Equal (sum (nimber_form a) (nimber_form p.partner)) (nimber_form z) in
           record {
             game = sum (nimber_form a) (nimber_form p.partner);
             among = far_second s (nimber_form a) (nimber_form b) (nimber_form p.partner)
                 (nimber_far s p.partner b p.lesser);
-            equal = subst P (xor_comm a p.partner ∙ p.gives) (known.1 p.partner p.lesser);
+            equal = rw (xor_comm a p.partner ∙ p.gives) at (known.1 p.partner p.lesser);
           }
     ]
 

@@ -1,16 +1,13 @@
 -- Numbers with the same numerator and exponent are the same.
-use Rattle.std.proofs.Common.{◌≡◌, ap, sym, ◌∙◌, subst, ℕ, ℤ, Bool, true, false, ◌&&◌, nat_eq, eqb-true, eq-eqb}
+use Rattle.std.proofs.Common.{◌≡◌, ap, sym, ◌∙◌, Bool, true, false, ◌&&◌, nat_eq, eqb-true, eq-eqb}
 use Rattle.std.specs.Ordering.{int_eq}
 use Rattle.std.proofs.lemmas.Bool.Decides.{Decides-int_eq}
-use Rattle.cg_dyadic.specs.Number.{IsFraction, Number, exp_of, num_of}
+use Rattle.cg_dyadic.specs.Number.{Number, exp_of, num_of}
 use Rattle.cg_dyadic.proofs.Fractions.{fraction-own, fraction-unique}
 use Rattle.cg_dyadic.proofs.Truth.{and-both, and-split, differ}
 
 pub same_parts : (x y : Number) → num_of x ≡ num_of y → exp_of x ≡ exp_of y → x ≡ y
-same_parts x y e f =
-    let P : ℤ → Type 0 = λ n. IsFraction n (exp_of x) x in
-    let Q : ℕ → Type 0 = λ k. IsFraction (num_of y) k x in
-    fraction-unique (num_of y) (exp_of y) x y (subst Q f (subst P e (fraction-own x))) (fraction-own y)
+same_parts x y e f = fraction-unique (num_of y) (exp_of y) x y (rw f at (rw e at (fraction-own x))) (fraction-own y)
 
 abbrev equal_parts : Number → Number → Bool
 equal_parts x y = int_eq (num_of x) (num_of y) && nat_eq (exp_of x) (exp_of y)

@@ -1,5 +1,5 @@
 -- The test of a board's contents holds exactly of what is written.
-use Rattle.std.proofs.Common.{◌≡◌, refl, ℕ, zero, suc, ◌+◌, ◌-◌, ◌*◌, ◌/◌, ◌%◌, ◌<◌, ◌≤◌, ◌==◌, ◌&&◌, ◌↔◌, ◌⊎◌, inl, inr, Bool, true, false, if◌then◌else◌, min, nat_lt, List, [], ◌∷◌, ◌++◌, length, length-append, Some, arith, ap, sym, ◌∙◌, subst}
+use Rattle.std.proofs.Common.{◌≡◌, refl, ℕ, zero, suc, ◌+◌, ◌-◌, ◌*◌, ◌/◌, ◌%◌, ◌<◌, ◌≤◌, ◌==◌, ◌&&◌, ◌↔◌, ◌⊎◌, inl, inr, Bool, true, false, if◌then◌else◌, min, nat_lt, List, [], ◌∷◌, ◌++◌, length, length-append, Some, arith, ap, sym, ◌∙◌}
 use Rattle.std.proofs.lemmas.Bool.Decides.{eqb_tells, nat_tests}
 use Rattle.cg_cells.proofs.Layouts.{both, both_back, lt_back, lt_true}
 use Rattle.cg_nodes.specs.Boards.{AreBelow, AreWritten, IsBoard, are_contents, are_of_board, are_symbols, content_of, symbols}
@@ -100,7 +100,7 @@ written_contents : (count size : ℕ) (cells contents : List ℕ) → count ≤ 
     → AreBelow count cells → AreWritten cells contents → are_contents count size contents ≡ true
 written_contents count size cells [] few n below w = let e = ap length w in same_true size 0 (omega arith)
 written_contents count size cells (content ∷ rest) few n below (front, others, split, way, is, later) =
-    let (first, left) = below-both count front others (let P : List ℕ → Type 0 = λ z. AreBelow count z in subst P split below) in
+    let (first, left) = below-both count front others (rw split at below) in
     let a = ap length split in
     let b = length-append front others in
     let (some, here, last) = sizes size front others (omega arith) way in

@@ -1,5 +1,5 @@
 -- The structural order of two lists, or of two games, by their first options that differ.
-use Rattle.std.proofs.Common.{◌≡◌, ◌≢◌, Bool, true, false, IsTrue, ℕ, ◌+◌, ◌<◌, ◌≤◌, Option, Some, List, [], ◌∷◌, arith, ap, sym, refl, ◌∙◌, subst}
+use Rattle.std.proofs.Common.{◌≡◌, ◌≢◌, Bool, true, false, IsTrue, ℕ, ◌+◌, ◌<◌, ◌≤◌, Option, Some, [], ◌∷◌, arith, ap, sym, refl, ◌∙◌, subst}
 use Rattle.std.specs.declared.cmp.Ordering.{Ordering}
 use Rattle.std.specs.declared.cmp.Ordering.TheVariants.{Less, Equal, Greater}
 use Rattle.cg_form.specs.Game.{Game, node}
@@ -122,11 +122,9 @@ pub nodes_rest : {R : Type 0} (s t u : State Meant R) (p : Parting) (ls ks rs ms
 nodes_rest s t u p ls ks rs ms st a b e h =
     let x = listed_later s t st.known rs a in
     let y = listed_later s t st.known ms b in
-    let P : List Game → Type 0 = λ z. IsParting u p (order_of_lists z (listed t ms)) (deepest z + 1) in
-    let Q : List Game → Type 0 = λ z. IsParting u p (order_of_lists (listed s rs) z) (deepest (listed s rs) + 1) in
     nodes_next u p (order_of_lists (listed s ls) (listed s ks)) (order_of_lists (listed s rs) (listed s ms)) (deepest
     (listed s rs) + 1)
-    (depth_of (node (listed s ls) (listed s rs))) e (subst Q y (subst P x h)) (omega arith)
+    (depth_of (node (listed s ls) (listed s rs))) e (rw y at (rw x at h)) (omega arith)
 
 -- ---- two games
 

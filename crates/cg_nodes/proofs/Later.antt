@@ -1,5 +1,5 @@
 -- What is known stays known.
-use Rattle.std.proofs.Common.{◌≡◌, ℕ, ◌+◌, Option, Some, None, List, [], ◌∷◌, arith, ap, sym, refl, ◌∙◌, subst}
+use Rattle.std.proofs.Common.{◌≡◌, ℕ, ◌+◌, Option, Some, None, List, [], ◌∷◌, arith, ap, sym, refl, ◌∙◌}
 use Rattle.cg_form.specs.Game.{Game}
 use Rattle.cg_cells.specs.Meaning.{Grows}
 use Rattle.cg_cells.specs.Store.{State, Spends, thing_at}
@@ -47,7 +47,7 @@ listed_as s (Some i) [] l = absurd l
 listed_as s (Some i) (g ∷ gs) l = ap list_in_or l
 
 pub is_list_as : {R : Type 0} (s : State Meant R) (o : Option ℕ) (gs : List Game) → ListsAs s o gs → IsList s o
-is_list_as s o gs l = let P : List Game → Type 0 = λ z. ListsAs s o z in subst P (sym (listed_as s o gs l)) l
+is_list_as s o gs l = rw (listed_as s o gs l) l
 
 module _ {R Q : Type 0} (s : State Meant R) (t : State Meant Q) (grows : Grows (thing_at s) (thing_at t)) where
   pub listed_later : (o : Option ℕ) → IsList s o → listed t o ≡ listed s o
@@ -55,8 +55,7 @@ module _ {R Q : Type 0} (s : State Meant R) (t : State Meant Q) (grows : Grows (
 
   pub is_list_later : (o : Option ℕ) → IsList s o → IsList t o
   is_list_later o l =
-      let P : List Game → Type 0 = λ gs. ListsAs t o gs in
-      subst P (sym (listed_later o l)) (lists_later s t grows o (listed s o) l)
+      rw (listed_later o l) (lists_later s t grows o (listed s o) l)
 
 -- ---- what a call spends
 

@@ -29,7 +29,7 @@ HasRange (board n r c cs) = Unit {0}
 
 module _ (f : Map) (below : (i : ℕ) (t : Meant) → f i ≡ Some t → HasRange t) where
   list_range : (o : Option ℕ) (gs : List Game) → list_at f o ≡ Some gs → AreInRange (of_list gs)
-  list_range None gs e = let P : List Game → Type 0 = λ z. AreInRange (of_list z) in let s : [] ≡ gs = cc in subst P s tt
+  list_range None gs e = let s : [] ≡ gs = cc in (rw (← s) tt)
   list_range (Some i) gs e = below i (list gs) (list_in-back (f i) gs e)
 
   parts_range : (p : KeyParts) (t : Meant) → FieldsFit p → Inverse p f t → HasRange t

@@ -88,8 +88,7 @@ are_games-last s (h ∷ hs) k a = are_games-last s hs k a.1
 pub stacked_game : {R : Type 0} (s t : State Meant R) (options rest left : List ℕ) (h : ℕ) (o : Option ℕ)
     → Stacked s t options rest o → rest ≡ left ++ h ∷ [] → IsGame s h
 stacked_game s t options rest left h o k e =
-    let P : List ℕ → Type 0 = λ z. AreGames s z in
-    are_games-last s left h (subst P e k.games)
+    are_games-last s left h (rw e at k.games)
 
 pub stacked_spare : {R : Type 0} (s t : State Meant R) (options rest left : List ℕ) (h : ℕ) (o : Option ℕ)
     → Stacked s t options rest o → rest ≡ left ++ h ∷ [] → length options ≤ s.spare → 1 ≤ t.spare
@@ -107,15 +106,13 @@ stacked_more {R} s t u options rest left h o p k e a l =
     let n = ap length e in
     let m = length-append left (h ∷ []) in
     let q = k.count in
-    let P : List ℕ → Type 0 = λ z. AreGames s z in
-    let b : AreGames s (left ++ h ∷ []) = subst P e k.games in
+    let b : AreGames s (left ++ h ∷ []) = rw e at k.games in
     let same : listed u p ≡ game_at t h ∷ listed t o = listed_as u p (game_at t h ∷ listed t o) l in
-    let Q : List Game → Type 0 = λ z. ListsAs u p z in
     record {
       done = k.done + 1;
       count = omega arith;
       spends = spends_then k.done 1 s t u k.spends a;
-      list = subst Q (sym same) l;
+      list = rw same l;
       games = are_games-left s left (h ∷ []) b;
       all =
           ap (λ z. games_at s left ++ z) same
@@ -128,9 +125,8 @@ stacked_more {R} s t u options rest left h o p k e a l =
 pub stacked_all : {R : Type 0} (s t : State Meant R) (options rest : List ℕ) (o : Option ℕ)
     → Stacked s t options rest o → length rest ≡ 0 → ListsAs t o (games_at s options) × Spends (length options) s t
 stacked_all s t options [] o k e =
-    let P : List Game → Type 0 = λ z. ListsAs t o z in
     let Q : ℕ → Type 0 = λ n. Spends n s t in
-    (subst P k.all k.list, subst Q (let c = k.count in omega arith) k.spends)
+    (rw k.all at k.list, subst Q (let c = k.count in omega arith) k.spends)
 stacked_all s t options (h ∷ hs) o k e = absurd (omega arith)
 
 -- ---- the options of a game that isn't a number

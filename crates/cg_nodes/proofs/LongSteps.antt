@@ -1,5 +1,5 @@
 -- Numbers put into cells and read from them.
-use Rattle.std.proofs.Common.{◌≡◌, ℕ, ◌+◌, ◌-◌, ◌*◌, ◌/◌, ◌%◌, ◌^◌, ◌<◌, ◌≤◌, ◌⊎◌, inl, inr, Bool, true, false, IsTrue, not, ℤ, pos, negsuc, ◌+ℤ◌, unsigned_abs, List, [], ◌∷◌, Option, Some, arith, rules, ap, sym, refl, ◌∙◌, subst}
+use Rattle.std.proofs.Common.{◌≡◌, ℕ, ◌+◌, ◌-◌, ◌*◌, ◌/◌, ◌%◌, ◌^◌, ◌<◌, ◌≤◌, ◌⊎◌, inl, inr, Bool, true, false, IsTrue, not, ℤ, pos, negsuc, ◌+ℤ◌, unsigned_abs, List, [], ◌∷◌, Option, Some, arith, rules, ap, sym, refl, ◌∙◌}
 use Rattle.std.proofs.lemmas.Int.{ints}
 use Rattle.std.specs.Prelude.{if◌then◌else◌}
 use Rattle.cg_dyadic.specs.Number.{InRange, Number, between, exp_of, is_long, is_narrow, num_of, ratio, whole}
@@ -61,9 +61,8 @@ module _ (x : Number) (r : InRange x) (long : is_long x ≡ true) where
   written_true : is_long_written (is_negative (num_of x)) (exp_of x) (bits_of (num_of x) % 2 ^ 32) (bits_of (num_of x) / 2 ^ 32) ≡ true
   written_true =
       let s = bits_small (num_of x) r.small in
-      let P : ℤ → Type 0 = λ n. IsTrue (is_long_fraction n (exp_of x)) in
       both _ _ (both _ _ (lt_true (bits_of (num_of x) % 2 ^ 32) (2 ^ 32) (omega arith)) (lt_true (bits_of (num_of x) / 2 ^ 32) (2 ^ 32) (omega arith)))
-      (subst P (sym num_of_chunks) fraction_true)
+      (rw num_of_chunks fraction_true)
 
   -- its sign, its exponent and its chunks spell a long number
   pub long_again : (b : Bool) (e : ℕ) (o : Option (List ℕ)) → b ≡ is_negative (num_of x) → e ≡ exp_of x → o ≡ Some (chunks_of (num_of x))
@@ -75,8 +74,7 @@ module _ (x : Number) (r : InRange x) (long : is_long x ≡ true) where
 
 -- its numerator and exponent are in lowest terms and in range
 pub chunks_lowest : (b : Bool) (e low high : ℕ) (n : ℤ) → n ≡ num_in b (low + 2 ^ 32 * high) → is_long_written b e low high ≡ true → IsLongFraction n e
-chunks_lowest b e low high n p written =
-    let P : ℤ → Type 0 = λ z. IsLongFraction z e in subst P (sym p) (long_written b e low high written).fraction
+chunks_lowest b e low high n p written = rw p (long_written b e low high written).fraction
 
 -- ---- what two chunks tell that were read
 

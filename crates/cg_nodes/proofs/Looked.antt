@@ -1,5 +1,5 @@
 -- Ids for look-ups beside a list of handles.
-use Rattle.std.proofs.Common.{◌≡◌, ℕ, Bool, true, ◌||◌, IsTrue, ◌↔◌, List, [], ◌∷◌, ◌++◌, cond, ap, sym, ◌∙◌, subst, inl, inr}
+use Rattle.std.proofs.Common.{◌≡◌, ℕ, Bool, true, ◌||◌, IsTrue, ◌↔◌, List, [], ◌∷◌, ◌++◌, cond, ap, sym, ◌∙◌, inl, inr}
 use Rattle.std.proofs.lemmas.Bool.Decides.{eqb_tells}
 use Rattle.std.specs.Bool.{◌==◌}
 use Rattle.std.specs.List.{list_any}
@@ -19,19 +19,18 @@ any-has (k ∷ hs) h = elim (eqb_tells k h) [
 ]
 
 pub searched : (hs now : List ℕ) (h : ℕ) (r : Bool) → r ≡ list_any (λ k. k == h) hs → hs ≡ now → IsTrue r ↔ Has now h
-searched hs now h r e same =
-    let P : List ℕ → Type 0 = λ z. Has z h in (
-      λ t. subst P same ((any-has hs h).0 (sym e ∙ t)),
-      λ m. e ∙ (any-has hs h).1 (subst P (sym same) m),
-    )
+searched hs now h r e same = (
+  λ t. (rw same at ((any-has hs h).0 (sym e ∙ t))),
+  λ m. e ∙ (any-has hs h).1 (rw same m),
+)
 
 -- what the test of the ids tells of the handles
 pub looked_up : (test : ℕ → Bool) (handles now : List ℕ) (n h : ℕ) (r : Bool) → r ≡ test n → n ≡ h → handles ≡ now
     → ((k : ℕ) → IsTrue (test k) ↔ Has handles k) → IsTrue r ↔ Has now h
 looked_up test handles now n h r e at same told =
     let s : r ≡ test h = e ∙ ap test at in (
-      λ t. let P : List ℕ → Type 0 = λ z. Has z h in subst P same ((told h).0 (sym s ∙ t)),
-      λ m. let P : List ℕ → Type 0 = λ z. Has z h in s ∙ (told h).1 (subst P (sym same) m),
+      λ t. rw same at ((told h).0 (sym s ∙ t)),
+      λ m. s ∙ (told h).1 (rw same m),
     )
 
 -- with one more handle and its id
@@ -39,15 +38,14 @@ pub looked_up-more : (test more : ℕ → Bool) (handles longer : List ℕ) (n h
     → ((k : ℕ) → more k ≡ cond (n == k) true (test k)) → ((k : ℕ) → IsTrue (test k) ↔ Has handles k)
     → (k : ℕ) → IsTrue (more k) ↔ Has longer k
 looked_up-more test more handles longer n h at same updates told k =
-    let P : List ℕ → Type 0 = λ z. Has z k in
     elim (eqb_tells n k) [
       | inl there ↦ (
           let on : cond (n == k) true (test k) ≡ true = ap (λ b. cond b true (test k)) there.0 in
-          (λ t. subst P (sym same) (has_right handles (h ∷ []) k (inl (sym at ∙ there.1))), λ m. updates k ∙ on))
+          (λ t. (rw same (has_right handles (h ∷ []) k (inl (sym at ∙ there.1)))), λ m. updates k ∙ on))
       | inr other ↦ (
           let off : cond (n == k) true (test k) ≡ test k = ap (λ b. cond b true (test k)) other.0 in (
-            λ t. subst P (sym same) (has_left handles (h ∷ []) k ((told k).0 (sym off ∙ sym (updates k) ∙ t))),
-            λ m. elim (has_both handles (h ∷ []) k (subst P same m)) [
+            λ t. (rw same (has_left handles (h ∷ []) k ((told k).0 (sym off ∙ sym (updates k) ∙ t)))),
+            λ m. elim (has_both handles (h ∷ []) k (rw same at m)) [
               | inl n ↦ updates k ∙ off ∙ (told k).1 n
               | inr n ↦ elim n [ inl e ↦ absurd (other.1 (at ∙ e)) | inr nothing ↦ absurd nothing ]
             ],

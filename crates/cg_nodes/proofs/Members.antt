@@ -1,5 +1,5 @@
 -- Members of lists of handles, and of the games that they stand for.
-use Rattle.std.proofs.Common.{◌≡◌, ℕ, suc, refl, inl, inr, sym, ap, subst, List, [], ◌∷◌, length}
+use Rattle.std.proofs.Common.{◌≡◌, ℕ, suc, refl, inl, inr, sym, ap, List, [], ◌∷◌, length}
 use Rattle.cg_cells.specs.Meaning.{Has}
 use Rattle.cg_cells.specs.Store.{State}
 use Rattle.cg_form.specs.Game.{Among, Game}
@@ -13,7 +13,7 @@ module _ {R : Type 0} (s : State Meant R) where
 
   pub has_game : (hs : List ℕ) (h : ℕ) → AreGames s hs → Has hs h → IsGame s h
   has_game [] h a m = absurd m
-  has_game (k ∷ hs) h a (inl e) = let P : ℕ → Type 0 = λ z. IsGame s z in subst P e a.0
+  has_game (k ∷ hs) h a (inl e) = rw e at a.0
   has_game (k ∷ hs) h a (inr m) = has_game hs h a.1 m
 
   pub has_among : (hs : List ℕ) (h : ℕ) → Has hs h → Among (game_at s h) (games_at s hs)
@@ -26,5 +26,5 @@ module _ {R : Type 0} (s : State Meant R) where
       → (p : ℕ) × Has hs p × StandsFor s p a
   among_has [] a g m = absurd m
   among_has (h ∷ hs) a g (inl e) =
-      let P : Game → Type 0 = λ z. StandsFor s h z in (h, inl refl, subst P (sym e) g.0)
+      (h, inl refl, rw e g.0)
   among_has (h ∷ hs) a g (inr m) = let (p, k, e) = among_has hs a g.1 m in (p, inr k, e)

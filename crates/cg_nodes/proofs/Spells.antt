@@ -82,6 +82,6 @@ pub ratio_in_range : (n : ℤ) (k : ℕ) → FieldsFit (key.Number n k) → InRa
 ratio_in_range n k f =
     let e = ratio-lowest n k f.2 in
     record {
-      small = (let s = f.0 in let h : unsigned_abs n < 2 ^ 64 = omega arith in let P : ℤ → Type 0 = λ z. unsigned_abs z < 2 ^ 64 in subst P (sym e.0) h);
-      short = (let s = f.1 in let h : k ≤ 40 = omega arith in let P : ℕ → Type 0 = λ z. z ≤ 40 in subst P (sym e.1) h);
+      small = (let s = f.0 in let h : unsigned_abs n < 2 ^ 64 = omega arith in rw e.0 h);
+      short = (let s = f.1 in let h : k ≤ 40 = omega arith in rw e.1 h);
     }

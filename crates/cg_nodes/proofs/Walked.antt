@@ -2,7 +2,7 @@
 use Rattle.std.proofs.Common.{◌≡◌, refl, ℕ, ◌+◌, ◌<◌, ◌≤◌, inl, inr, Option, Some, List, [], ◌∷◌, ◌++◌, length, length-append, arith, ap, sym, ◌∙◌, subst}
 use Rattle.cg_dyadic.specs.Number.{Number}
 use Rattle.cg_form.specs.Depth.{deepest, depth_of}
-use Rattle.cg_form.specs.Extended.{IsClosed, extended, positions_before}
+use Rattle.cg_form.specs.Extended.{extended, positions_before}
 use Rattle.cg_form.specs.Game.{Among, Game, node, number, of_list}
 use Rattle.cg_form.proofs.Among.{carry}
 use Rattle.cg_cells.specs.Meaning.{Grows, Has, IsInjective}
@@ -27,7 +27,7 @@ among-has : {R : Type 0} (s : State Meant R) (hs : List ℕ) (h : ℕ) → IsInj
     → IsGame s h → Among (game_at s h) (games_at s hs) → Has hs h
 among-has s hs h apart a g m =
     let (p, k, e) = among_has s hs (game_at s h) a m in
-    let P : ℕ → Type 0 = λ z. Has hs z in subst P (apart p h (form (game_at s h)) e g) k
+    rw (apart p h (form (game_at s h)) e g) at k
 
 distinct_more : (hs : List ℕ) (h : ℕ) → AreDistinct hs → ¬ Has hs h → AreDistinct (hs ++ (h ∷ []))
 distinct_more [] h d out = (λ m. m, tt)
@@ -42,11 +42,10 @@ distinct_more (k ∷ hs) h d out = (
 pub found_later : {R Q : Type 0} (s : State Meant R) (t : State Meant Q) (hs : List ℕ)
     → Grows (thing_at s) (thing_at t) → AreFound s hs → AreFound t hs
 found_later s t hs k f =
-    let P : List Game → Type 0 = λ z. IsClosed z in
     record {
       games = are_games_later s t k hs f.games;
       distinct = f.distinct;
-      closed = subst P (sym (games_later s t k hs f.games)) f.closed;
+      closed = rw (games_later s t k hs f.games) f.closed;
     }
 
 -- ---- one game
@@ -82,14 +81,12 @@ module _ {R : Type 0} (s t : State Meant R) (hs ks : List ℕ) (h : ℕ) (grows 
   found_next =
       let same = game_later s t grows h game in
       let g = is_game_later s t grows h game in
-      let P : Game → Type 0 = λ z. IsClosed (games_at t ks ++ (z ∷ [])) in
-      let Q : List Game → Type 0 = λ z. IsClosed z in
       let P' : Game → Type 0 = λ z. Among z (games_at t ks) in
       record {
         found = record {
           games = are_games-append t ks (h ∷ []) walked.found.games (g, tt);
           distinct = distinct_more ks h walked.found.distinct (λ m. not_yet (subst P' same (has_among t ks h m)));
-          closed = subst Q (sym (games_at-append t ks (h ∷ []))) (subst P (sym same) (closed_more (games_at t ks)
+          closed = rw (games_at-append t ks (h ∷ [])) (rw same (closed_more (games_at t ks)
               (game_at s h) walked.found.closed
               (λ k m. carry k (extended (games_at s hs) (positions_before (game_at s h))) (games_at t ks) (sym
               walked.all)
@@ -241,8 +238,7 @@ pub found_positions : {R : Type 0} (s t : State Meant R) (h : ℕ) (none hs ks :
     → AreFoundAfter s t none hs (all_positions (game_at s h))
     → StandFor t ks (positions_of (game_at s h))
 found_positions {R} s t h none hs ks e same f =
-    let P : List ℕ → Type 0 = λ z. StandFor t z (positions_of (game_at s h)) in
-    subst P (sym same) (
+    rw same (
       f.found.games,
       f.all ∙ ap (λ z. extended (games_at s z) (all_positions (game_at s h))) e
           ∙ sym (positions_of-extended (game_at s h)),

@@ -1,5 +1,5 @@
 -- Values that are put behind a list, and those of sums of two heaps.
-use Rattle.std.proofs.Common.{◌≡◌, ap, sym, ◌∙◌, subst, append_assoc, append-nil, ℕ, suc, ◌+◌, ◌-◌, ◌/◌, ◌<◌, ◌≤◌, ◌⊎◌, inl, inr, arith, Bool, true, false, cond, List, [], ◌∷◌, ◌++◌, length, Result, Ok, Err, IfOk}
+use Rattle.std.proofs.Common.{◌≡◌, ap, sym, ◌∙◌, append_assoc, append-nil, ℕ, suc, ◌+◌, ◌-◌, ◌/◌, ◌<◌, ◌≤◌, ◌⊎◌, inl, inr, arith, Bool, true, false, cond, List, [], ◌∷◌, ◌++◌, length, Result, Ok, Err, IfOk}
 use Rattle.std.specs.Prelude.{bit_xor, get_or}
 use Rattle.std.specs.Int.Bits.{xor_add_and}
 use Rattle.std.proofs.lemmas.Option.{slice_get-get_or}
@@ -74,8 +74,7 @@ pub if_ok_then : {V E : Type 0} (f : V → List ℕ) (r : Result V E) (bound les
     → less ≤ bound → Adds bound gs a b → gs ++ hs ≡ whole → IfOk r (λ v. Adds less hs b (f v))
     → IfOk r (λ v. Adds bound whole a (f v))
 if_ok_then f (Ok v) bound less gs hs whole a b l p e q =
-    let P : List Game → Type 0 = λ z. Adds bound z a (f v) in
-    subst P e (adds_then bound gs hs a b (f v) p (adds_within less bound hs b (f v) l q))
+    rw e at (adds_then bound gs hs a b (f v) p (adds_within less bound hs b (f v) l q))
 if_ok_then f (Err e) bound less gs hs whole a b l p s q = tt
 
 -- ---- the values of heaps
@@ -110,16 +109,14 @@ pub two_heaps-more : (digits ks : List ℕ) (left k : ℕ) (a b c : List ℕ) �
     → Adds (suc left) (two_heaps (heap digits) left (k + 1)) a c
 two_heaps-more digits ks left k a b c v l s p e =
     let next : k + 1 ≡ suc k = omega arith in
-    let P : ℕ → Type 0 = λ z. c ≡ b ++ (bit_xor (get_or ks z 0) (get_or ks (left - z) 0) ∷ []) in
-    let Q : ℕ → Type 0 = λ z. Adds (suc left) (two_heaps (heap digits) left z) a c in
     let first = value-within digits ks (suc k) v (omega arith) in
     let second = value-within digits ks (left - suc k) v (omega arith) in
     let both = xor-within (get_or ks (suc k) 0) (get_or ks (left - suc k) 0) in
-    subst Q (sym next) (adds_then (suc left) (two_heaps (heap digits) left k)
+    rw next (adds_then (suc left) (two_heaps (heap digits) left k)
     (sum (heap digits (suc k)) (heap digits (left - suc k)) ∷ []) a b c p
     (adds_one (suc left) (sum (heap digits (suc k)) (heap digits (left - suc k)))
     (bit_xor (get_or ks (suc k) 0) (get_or ks (left - suc k) 0)) b c
-    (two_heaps-value digits ks (suc k) (left - suc k) v (omega arith) (omega arith)) (omega arith) (subst P next e)))
+    (two_heaps-value digits ks (suc k) (left - suc k) v (omega arith) (omega arith)) (omega arith) (rw next at e)))
 
 -- what was put behind for a digit before the sums
 pub singles-made : (digits ks : List ℕ) (digit left : ℕ) (none one : Bool) (a b c : List ℕ) → AreValues digits ks

@@ -1,5 +1,5 @@
 -- A game whose options equal nimbers equals that of the least number that none of them has.
-use Rattle.std.proofs.Common.{◌≡◌, refl, sym, subst, ℕ, inl, inr, List, [], ◌∷◌, Bool, true, false}
+use Rattle.std.proofs.Common.{◌≡◌, refl, sym, ℕ, inl, inr, List, [], ◌∷◌, Bool, true, false}
 use Rattle.cg_form.specs.Game.{Among, Game, lefts, rights}
 use Rattle.cg_form.specs.Order.{Equal}
 use Rattle.cg_form.specs.Side.{far, near}
@@ -16,8 +16,7 @@ pub nimber_listed : (gs : List Game) (ks : List ℕ) → AreNimbers gs ks → (a
 nimber_listed [] [] n a m = absurd m
 nimber_listed [] (k ∷ ks) n a m = absurd m
 nimber_listed (g ∷ gs) [] n a m = absurd n
-nimber_listed (g ∷ gs) (k ∷ ks) n a (inl e) =
-    let P : Game → Type 0 = λ z. Equal z (nimber_form k) in (k, inl refl, subst P (sym e) n.0)
+nimber_listed (g ∷ gs) (k ∷ ks) n a (inl e) = (k, inl refl, rw e n.0)
 nimber_listed (g ∷ gs) (k ∷ ks) n a (inr m) = let (i, l, e) = nimber_listed gs ks n.1 a m in (i, inr l, e)
 
 -- and each of the numbers is that of an option
@@ -25,9 +24,7 @@ pub listed_nimber : (gs : List Game) (ks : List ℕ) → AreNimbers gs ks → (i
 listed_nimber [] [] n i l = absurd l
 listed_nimber [] (k ∷ ks) n i l = absurd n
 listed_nimber (g ∷ gs) [] n i l = absurd l
-listed_nimber (g ∷ gs) (k ∷ ks) n i (inl e) =
-    let P : ℕ → Type 0 = λ z. Equal g (nimber_form z) in
-    record { game = g; among = inl refl; equal = subst P (sym e) n.0 }
+listed_nimber (g ∷ gs) (k ∷ ks) n i (inl e) = record { game = g; among = inl refl; equal = rw e n.0 }
 listed_nimber (g ∷ gs) (k ∷ ks) n i (inr l) =
     let h = listed_nimber gs ks n.1 i l in record { game = h.game; among = inr h.among; equal = h.equal }
 
@@ -52,8 +49,7 @@ pub least_missing-equal : (g : Game) (ks : List ℕ) (k : ℕ) → SameOptions g
 least_missing-equal g ks k same n least = mex-equal g k (λ s. record {
   others = λ a m.
       let (i, l, e) = nimber_listed (lefts g) ks n a (near_both s g same a m) in
-      let P : ℕ → Type 0 = λ z. Listed z ks in
-      record { value = i; other = λ z. least.missing (subst P z l); equal = e };
+      record { value = i; other = λ z. least.missing (rw z at l); equal = e };
   lesser = λ i w.
       let h = listed_nimber (lefts g) ks n i (least.least i w) in
       record { game = h.game; among = both_far s g same h.game h.among; equal = h.equal };

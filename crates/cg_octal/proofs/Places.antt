@@ -1,5 +1,5 @@
 -- The bytes that begin a code are those that may stand where they stand.
-use Rattle.std.proofs.Common.{◌≡◌, refl, ap, sym, ◌∙◌, subst, ℕ, suc, ◌+◌, ◌-◌, ◌<◌, ◌≤◌, arith, inl, inr, ◌⊎◌, IsTrue, true, false, List, [], ◌∷◌, ◌++◌, map, length, length-append, drop, take, append-nil}
+use Rattle.std.proofs.Common.{◌≡◌, refl, ap, sym, ◌∙◌, ℕ, suc, ◌+◌, ◌-◌, ◌<◌, ◌≤◌, arith, inl, inr, ◌⊎◌, IsTrue, true, false, List, [], ◌∷◌, ◌++◌, map, length, length-append, drop, take, append-nil}
 use Rattle.std.proofs.Math.Seq.{take-length}
 use Rattle.std.proofs.lemmas.Bool.Decides.{nat_tests}
 use Rattle.cg_dyadic.proofs.Truth.{true_or_false}
@@ -64,14 +64,12 @@ digits_fit : (k : ℕ) (ds : List ℕ) → AreOctal ds → k + length ds ≤ 16 
 digits_fit k [] o l = tt
 digits_fit k (d ∷ ds) o l =
     let next : suc k + 2 ≡ suc (k + 2) = omega arith in
-    let P : ℕ → Type 0 = λ z. AllFit z (map (λ d. 48 + d) ds) in
-    (digit_fits k d (omega arith) o.0, subst P next (digits_fit (suc k) ds o.1 (omega arith)))
+    (digit_fits k d (omega arith) o.0, rw next at (digits_fit (suc k) ds o.1 (omega arith)))
 
 pub code_fits : (text digits : List ℕ) → IsCode text digits → AllFit 0 text
 code_fits text digits c =
-    let P : List ℕ → Type 0 = λ z. AllFit 0 z in
     let l = c.few in
-    subst P (sym c.spelled) (refl, (refl, digits_fit 0 digits c.octal (omega arith)))
+    rw c.spelled (refl, (refl, digits_fit 0 digits c.octal (omega arith)))
 
 pub begun_fits : (text : List ℕ) → Begun text → AllFit 0 text
 begun_fits text b = fit_front 0 text b.behind (code_fits (text ++ b.behind) b.digits b.code)
@@ -92,8 +90,7 @@ fit_digits k [] l a = record { spelled = refl; octal = tt; few = omega arith; co
 fit_digits k (b ∷ bs) l a =
     let f = fits_digit k b a.0 in
     let next : suc (k + 2) ≡ suc k + 2 = omega arith in
-    let P : ℕ → Type 0 = λ z. AllFit z bs in
-    let r = fit_digits (suc k) bs (omega arith) (subst P next a.1) in
+    let r = fit_digits (suc k) bs (omega arith) (rw next at a.1) in
     let n = r.few in
     let same : b ≡ 48 + (b - 48) = omega arith in
     record {
@@ -144,11 +141,10 @@ fit_begun (b ∷ (c ∷ [])) a = record {
 }
 fit_begun (b ∷ (c ∷ (d ∷ bs))) a =
     let text : List ℕ = b ∷ (c ∷ (d ∷ bs)) in
-    let P : List ℕ → Type 0 = λ z. IsCode z (glyphs (drop 2 text)) in
     record {
       behind = [];
       digits = glyphs (drop 2 text);
-      code = subst P (sym (append-nil text)) (fit_code text a (omega arith));
+      code = rw (append-nil text) (fit_code text a (omega arith));
     }
 
 -- ---- what is read
@@ -165,9 +161,8 @@ read_code text l m =
     let k = ap length f.cut in
     let whole : text ≡ f.before = f.cut ∙ ap (λ z. f.before ++ z) (whole_front f.before f.behind (omega arith))
     ∙ append-nil f.before in
-    let P : List ℕ → Type 0 = λ z. AllFit 0 z in
     let w = ap length whole in
-    fit_code text (subst P (sym whole) f.fit) (omega arith)
+    fit_code text (rw whole f.fit) (omega arith)
 
 code_long : (text digits : List ℕ) → IsCode text digits → 3 ≤ length text
 code_long text digits c = let e = ap length c.spelled in let m = length-append (codes "0.") (map (λ d. 48 + d) digits) in
@@ -233,4 +228,4 @@ read_digits text digits made start l s e d =
 
 pub read_is_code : (text digits : List ℕ) → length text ≤ fit_length 0 text → 3 ≤ fit_length 0 text
     → digits ≡ digits_of text → IsCode text digits
-read_is_code text digits l m e = let P : List ℕ → Type 0 = λ z. IsCode text z in subst P (sym e) (read_code text l m)
+read_is_code text digits l m e = rw e (read_code text l m)

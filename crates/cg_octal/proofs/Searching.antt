@@ -1,5 +1,5 @@
 -- The search for the least number that a list hasn't: it is at most the length.
-use Rattle.std.proofs.Common.{◌≡◌, refl, ap, sym, subst, ℕ, suc, ◌+◌, ◌<◌, ◌≤◌, arith, ◌⊎◌, inl, inr, List, [], ◌∷◌, length, Bool, true, false, ◌||◌, ◌==◌}
+use Rattle.std.proofs.Common.{◌≡◌, refl, ap, sym, ℕ, suc, ◌+◌, ◌<◌, ◌≤◌, arith, ◌⊎◌, inl, inr, List, [], ◌∷◌, length, Bool, true, false, ◌||◌, ◌==◌}
 use Rattle.std.proofs.lemmas.Bool.Decides.{nat_tests}
 use Rattle.cg_dyadic.proofs.Truth.{true_or_false}
 use Rattle.cg_dyadic.proofs.Integers.{le_or_gt}
@@ -67,8 +67,7 @@ searched_more list k s l =
     let same : at_least (k + 1) list ≡ at_least (suc k) list = ap (λ z. at_least z list) (omega arith) in
     record {
       lesser = λ i m. elim (le_or_gt k i) [
-        | inl g ↦ let P : ℕ → Type 0 = λ z. Listed z list in
-            let e : k ≡ i = omega arith in subst P e l
+        | inl g ↦ let e : k ≡ i = omega arith in rw e at l
         | inr g ↦ s.lesser i g
       ];
       room = omega arith;

@@ -1,5 +1,5 @@
 -- Where two scaffolds meet.
-use Rattle.std.proofs.Common.{◌≡◌, refl, ℕ, ◌+◌, ◌-◌, ◌*◌, ◌/◌, ◌%◌, ◌<◌, ◌≤◌, arith, ap, sym, ◌∙◌, subst, Bool, true, false, inl, inr, ◌⊎◌, min, ℤ, pos, negsuc, ◌+ℤ◌, ◌-ℤ◌, ◌≤ℤ◌, ◌<ℤ◌}
+use Rattle.std.proofs.Common.{◌≡◌, refl, ℕ, ◌+◌, ◌-◌, ◌*◌, ◌/◌, ◌%◌, ◌<◌, ◌≤◌, arith, ap, sym, ◌∙◌, Bool, true, false, inl, inr, ◌⊎◌, min, ℤ, pos, negsuc, ◌+ℤ◌, ◌-ℤ◌, ◌≤ℤ◌, ◌<ℤ◌}
 use Rattle.std.proofs.lemmas.Int.{ints}
 use Rattle.std.specs.Prelude.{Option, Some, None, IfSome, IfNone}
 use Rattle.cg_walls.specs.declared.TheConstants.{BOUND, END}
@@ -183,7 +183,7 @@ closes-none a b now to g p q x e lt gap_is closed z odd =
         odd_is g h = grind arith
 
     two_times : (n m t : ℕ) → n ≡ 2 → m ≤ n * t → m ≤ 2 * t
-    two_times n m t e h = let P : ℕ → Type 0 = λ z. m ≤ z * t in subst P e h
+    two_times n m t e h = rw e at h
 
 pub closes-all : (a b : Rise) (now to g : ℕ) (p q : Place) (r : Option ℕ) → Apart a b now p q → to ≡ min (next_of a p) (next_of b q)
     → now ≤ to → pos g ≡ gap a b now → g ≤ fall p.up q.up * (to - now) → (fall p.up q.up ≡ 0 → g ≡ 0)

@@ -1,7 +1,6 @@
 -- A scaffold that is kept from a time on.
-use Rattle.std.proofs.Common.{◌≡◌, refl, ℕ, ◌+◌, ◌<◌, ◌≤◌, arith, zero, suc, ap, sym, ◌∙◌, subst, Bool, true, false, not, ◌&&◌, cond, List, [], ◌∷◌, ◌++◌, length, drop, get_or, inl, inr, min, ℤ, pos, neg_ℤ, ◌+ℤ◌, ◌-ℤ◌, ◌≤ℤ◌}
+use Rattle.std.proofs.Common.{◌≡◌, refl, ℕ, ◌<◌, ◌≤◌, arith, zero, suc, ap, sym, ◌∙◌, Bool, true, false, not, ◌&&◌, cond, List, [], ◌∷◌, ◌++◌, length, drop, inl, inr, min, ℤ, pos, neg_ℤ, ◌+ℤ◌, ◌-ℤ◌, ◌≤ℤ◌}
 use Rattle.std.proofs.lemmas.Int.{ints}
-use Rattle.std.proofs.Math.Seq.{drop-cons}
 use Rattle.std.specs.Prelude.{nat_lt}
 use Rattle.cg_walls.specs.declared.TheConstants.{BOUND, END}
 use Rattle.cg_walls.specs.declared.rise.Rise.{Rise}
@@ -65,11 +64,10 @@ pub kept-climbs : (end : ℕ) (up : Bool) (low : ℕ) (ts : List ℕ) → low < 
 kept-climbs end true low [] h k c = (h, k, tt)
 kept-climbs end false low [] h k c = tt
 kept-climbs end up low (t ∷ ts) h k (a, b, c) = elim (le_or_lt_n end t) [
-  | inl i ↦ (let P : List ℕ → Type 0 = λ z. Climbs low z END in
+  | inl i ↦
       let e = ap (λ z. cond z (t ∷ kept end (not up) ts) (kept end up ts)) (lt_false t end i) ∙ none-before end up t ts i c in
-      subst P (sym e) (at_end up))
-  | inr i ↦ (let P : Bool → Type 0 = λ z. Climbs low (cond z (t ∷ kept end (not up) ts) (kept end up ts)) END in
-      subst P (sym (lt_true t end i)) (a, b, kept-climbs end (not up) t ts i k c))
+      rw e (at_end up)
+  | inr i ↦ rw (lt_true t end i) (a, b, kept-climbs end (not up) t ts i k c)
 ]
   where
     at_end : (up : Bool) → Climbs low (cond up (end ∷ []) []) END
@@ -156,14 +154,13 @@ pub follows-climbs : (rise r : Rise) (end : ℕ) → IsWall rise → end < END �
 follows-climbs rise r zero w h f =
     let e : r.turns.items ≡ [] = f.turns ∙ none-before 0 r.first 0 rise.turns.items (omega arith) w.turns
     ∙ ap (λ b. cond b (0 ∷ []) []) (f.first ∙ no (not rise.first)) in
-    let P : List ℕ → Type 0 = λ z. Climbs 0 z END in subst P (sym e) tt
+    rw e tt
   where
     no : (b : Bool) → (b && nat_lt 0 0) ≡ false
     no true = refl
     no false = refl
 follows-climbs rise r (suc end) w h f =
-    let P : List ℕ → Type 0 = λ z. Climbs 0 z END in
-    subst P (sym f.turns) (kept-climbs (suc end) r.first 0 rise.turns.items (omega arith) h w.turns)
+    rw f.turns (kept-climbs (suc end) r.first 0 rise.turns.items (omega arith) h w.turns)
 
 negated : (n b : ℤ) → n ≤ℤ b → neg_ℤ b ≤ℤ neg_ℤ n
 negated n b h = omega (arith, ints)

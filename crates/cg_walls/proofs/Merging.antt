@@ -1,5 +1,5 @@
 -- The greater of two walls, step by step.
-use Rattle.std.proofs.Common.{◌≡◌, refl, ℕ, ◌+◌, ◌-◌, ◌<◌, ◌≤◌, arith, suc, ap, sym, ◌∙◌, subst, Bool, true, false, not, ◌||◌, ◌&&◌, cond, List, [], ◌∷◌, ◌++◌, inl, inr, ◌⊎◌, unsigned_abs, ℤ, pos, neg_ℤ, ◌+ℤ◌, ◌-ℤ◌, ◌≤ℤ◌, ◌<ℤ◌}
+use Rattle.std.proofs.Common.{◌≡◌, refl, ℕ, ◌+◌, ◌-◌, ◌<◌, ◌≤◌, arith, suc, ap, sym, ◌∙◌, Bool, true, false, not, ◌||◌, ◌&&◌, cond, List, [], ◌∷◌, ◌++◌, inl, inr, ◌⊎◌, unsigned_abs, ℤ, pos, neg_ℤ, ◌+ℤ◌, ◌-ℤ◌, ◌≤ℤ◌, ◌<ℤ◌}
 use Rattle.std.proofs.lemmas.Int.{ints}
 use lib.Signed.{le_z, lt_z}
 use mathlib.Core.Bool.{beq}
@@ -240,10 +240,7 @@ event-after a b first up turns now p q m =
 
 pub merged-along : (a b : Rise) (first v w : Bool) (ts us : List ℕ) (now : ℕ) (p q : Place) → us ≡ ts → w ≡ v
     → Merged a b first ts now v p q → Merged a b first us now w p q
-merged-along a b first v w ts us now p q e f m =
-    let P : List ℕ → Type 0 = λ z. Merged a b first z now w p q in
-    let Q : Bool → Type 0 = λ z. Merged a b first ts now z p q in
-    subst P (sym e) (subst Q (sym f) m)
+merged-along a b first v w ts us now p q e f m = rw e (rw f m)
 
 -- ---- the end
 
@@ -310,12 +307,10 @@ pub upper-wall : (a b r : Rise) (first up : Bool) (turns : List ℕ) (now : ℕ)
     → r.turns.items ≡ turns → IsWall r × ((t : ℕ) → value_at r t ≡ int_max (value_at a t) (value_at b t))
 unfolding upper
 upper-wall a b r first up turns now p q wa wb m e s f i =
-    let P : Bool → Type 0 = λ z. (u : ℕ) → upper a b (suc u) ≡ upper a b u +ℤ step (rises_at z turns u) in
-    let v = upper-value a b r turns s i (subst P (sym f) (merged-all a b first up turns now p q wa wb m e)) in
-    let Q : List ℕ → Type 0 = λ z. Climbs 0 z END in
+    let v = upper-value a b r turns s i (rw f (merged-all a b first up turns now p q wa wb m e)) in
     let in_ = m.inside in (
       record {
-        turns = subst Q (sym i) (climbs-wider 0 (now + 1) END turns (omega arith) m.rising);
+        turns = rw i (climbs-wider 0 (now + 1) END turns (omega arith) m.rising);
         low = (let x = near a 0 in let y = near b 0 in let za = value-zero a in let zb = value-zero b in
             let la = wa.low in let lb = wb.low in let ha = wa.high 0 in let hb = wb.high 0 in
             let w = within a.start b.start (neg_ℤ BOUND) BOUND la (omega (arith, ints)) lb (omega (arith, ints)) in

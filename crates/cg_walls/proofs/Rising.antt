@@ -1,9 +1,9 @@
 -- Values of rises.
-use Rattle.std.proofs.Common.{◌≡◌, refl, ℕ, ◌+◌, ◌-◌, ◌<◌, ◌≤◌, arith, zero, suc, ap, sym, ◌∙◌, subst, Bool, true, false, not, cond, List, [], ◌∷◌, ◌++◌, inl, inr, ◌⊎◌, ℤ, pos, neg_ℤ, ◌+ℤ◌, ◌≤ℤ◌}
+use Rattle.std.proofs.Common.{◌≡◌, refl, ℕ, ◌+◌, ◌-◌, ◌<◌, ◌≤◌, arith, zero, suc, ap, sym, ◌∙◌, Bool, true, false, not, cond, List, [], ◌∷◌, ◌++◌, inl, inr, ◌⊎◌, ℤ, pos, neg_ℤ, ◌+ℤ◌, ◌≤ℤ◌}
 use Rattle.std.proofs.lemmas.Int.{ints}
 use Rattle.std.proofs.lemmas.Bool.Decides.{nat_tests}
 use Rattle.std.specs.Prelude.{nat_lt}
-use Rattle.cg_walls.specs.declared.TheConstants.{BOUND, END}
+use Rattle.cg_walls.specs.declared.TheConstants.{BOUND}
 use Rattle.cg_walls.specs.declared.rise.Rise.{Rise}
 use Rattle.cg_walls.specs.Rises.{Climbs, IsWall, climbed, rises_at, rises_of, step, steps, value_at}
 
@@ -117,9 +117,8 @@ level-value r n s f e = climbed_is r (λ _. n) (sym s)
 
 pub level-wall : (r : Rise) (n : ℤ) → r.start ≡ n → r.first ≡ false → r.turns.items ≡ [] → neg_ℤ BOUND ≤ℤ n → n ≤ℤ BOUND → IsWall r
 level-wall r n s f e l h =
-    let P : List ℕ → Type 0 = λ z. Climbs 0 z END in
     record {
-      turns = subst P (sym e) tt;
+      turns = rw e tt;
       low = omega (arith, ints);
       high = λ t. (let v = level-value r n s f e t in omega (arith, ints));
     }
@@ -136,11 +135,8 @@ module _ (r q : Rise) (start : q.start ≡ r.start) (first : q.first ≡ r.first
 
   pub copied-wall : IsWall r → IsWall q
   copied-wall w =
-      let T : List ℕ → Type 0 = λ z. Climbs 0 z END in
-      let L : ℤ → Type 0 = λ z. neg_ℤ BOUND ≤ℤ z in
-      let H : ℤ → Type 0 = λ z. z ≤ℤ BOUND in
       record {
-        turns = subst T (sym turns) w.turns;
-        low = subst L (sym start) w.low;
-        high = λ t. subst H (sym (copied-value t)) (w.high t);
+        turns = rw turns w.turns;
+        low = rw start w.low;
+        high = λ t. (rw (copied-value t) (w.high t));
       }

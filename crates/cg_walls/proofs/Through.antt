@@ -1,5 +1,5 @@
 -- The line through the corners of a wall is the wall.
-use Rattle.std.proofs.Common.{◌≡◌, refl, ℕ, ◌+◌, ◌-◌, ◌<◌, ◌≤◌, arith, zero, suc, Bool, true, false, ◌⊎◌, inl, inr, ap, sym, ◌∙◌, subst, List, [], ◌∷◌, ◌++◌, ℤ, pos, ◌+ℤ◌, ◌-ℤ◌, ◌≤ℤ◌, ◌<ℤ◌, append_assoc}
+use Rattle.std.proofs.Common.{◌≡◌, refl, ℕ, ◌+◌, ◌-◌, ◌<◌, ◌≤◌, arith, zero, suc, Bool, true, false, ◌⊎◌, inl, inr, ap, sym, ◌∙◌, List, [], ◌∷◌, ◌++◌, ℤ, pos, ◌+ℤ◌, ◌-ℤ◌, ◌≤ℤ◌, ◌<ℤ◌, append_assoc}
 use Rattle.std.proofs.lemmas.Int.{ints}
 use Rattle.std.proofs.lemmas.Bool.Decides.{Decides-int_eq}
 use Rattle.std.specs.Prelude.{if◌then◌else◌}
@@ -50,16 +50,16 @@ segment : (w : ℕ → ℤ) (d : Way) (c t : ℕ) (rest : List Mark) (u : ℕ) �
     → (t ≤ u → (front : List Mark) → OnLine (front ++ (mark (point w t) ∷ rest)) (pos u) (w u)) → (front : List Mark)
     → OnLine (front ++ (mark (point w c) ∷ (mark (point w t) ∷ rest))) (pos u) (w u)
 segment w d c t rest u r h k rise f front = elim (le_cases t u) [
-  | inl p ↦ (let P : List Mark → Type 0 = λ z. OnLine z (pos u) (w u) in
-      subst P (append_assoc front (mark (point w c) ∷ []) (mark (point w t) ∷ rest)) (f p (front ++ (mark (point w c) ∷ []))))
-  | inr p ↦ (let P : ℤ → Type 0 = λ z. OnLine (front ++ (mark (point w c) ∷ (mark (point w t) ∷ rest))) (pos u) z in
+  | inl p ↦
+      rw (append_assoc front (mark (point w c) ∷ []) (mark (point w t) ∷ rest)) at (f p (front ++ (mark (point w c) ∷ [])))
+  | inr p ↦
       let before : pos c ≤ℤ pos u = omega (arith, ints) in
       let ahead : pos u <ℤ pos t = omega (arith, ints) in
       let within : pos u ≤ℤ pos t = omega (arith, ints) in
-      subst P (sym (r.all u k (omega arith)
+      rw (r.all u k (omega arith)
       ∙ further-is d (w c) (w t) (u - c) (t - c - 1) (r.all t (omega arith) (omega arith) ∙ ap (λ n. moved d (w c) n) (step c t h))
-      ∙ ap (further (w c) (w t)) (gone c u k)))
-      (on-since front (mark (point w c)) (mark (point w t) ∷ rest) (pos u) before (ahead, after-rise (pos u) (pos t) rest within rise)))
+      ∙ ap (further (w c) (w t)) (gone c u k))
+      (on-since front (mark (point w c)) (mark (point w t) ∷ rest) (pos u) before (ahead, after-rise (pos u) (pos t) rest within rise))
 ]
   where
     step : (c t : ℕ) → c < t → t - c ≡ suc (t - c - 1)
@@ -71,8 +71,8 @@ segment w d c t rest u r h k rise f front = elim (le_cases t u) [
 one_step : (w : ℕ → ℤ) (d : Way) (t : ℕ) → w (suc t) ≡ moved d (w t) 1 → Run w d t (suc t)
 one_step w d t e = record {
   all = λ u h k. elim (le_or_eq u t h k) [
-    | inl p ↦ (let P : ℕ → Type 0 = λ v. w v ≡ moved d (w t) (v - t) in subst P (sym p) (still d t))
-    | inr p ↦ (let P : ℕ → Type 0 = λ v. w v ≡ moved d (w t) (v - t) in subst P (sym p) (e ∙ ap (λ n. moved d (w t) n) (one t)))
+    | inl p ↦ rw p (still d t)
+    | inr p ↦ rw p (e ∙ ap (λ n. moved d (w t) n) (one t))
   ];
 }
   where
@@ -101,9 +101,9 @@ longer : (w : ℕ → ℤ) (d : Way) (c t : ℕ) → c ≤ t → Run w d c (suc 
 longer w d c t h r e = record {
   all = λ u i k. elim (le_or_eq u t k) [
     | inl p ↦ r.all u i p
-    | inr p ↦ (let P : ℕ → Type 0 = λ v. w v ≡ moved d (w c) (v - c) in
-        subst P (sym p) (last d (w c) (w t) (w (suc t)) (w (suc (suc t))) (t - c) (suc t - c) (suc (suc t) - c) (omega arith) (omega arith)
-        (r.all t h (omega arith)) (r.all (suc t) (omega arith) (omega arith)) e))
+    | inr p ↦
+        rw p (last d (w c) (w t) (w (suc t)) (w (suc (suc t))) (t - c) (suc t - c) (suc (suc t) - c) (omega arith) (omega arith)
+        (r.all t h (omega arith)) (r.all (suc t) (omega arith) (omega arith)) e)
   ];
 }
   where
@@ -148,24 +148,20 @@ turns-line w g zero d c t e h i r f u k front =
   where
     last : suc t ≤ u → (front : List Mark) → w u ≡ w (suc t) → OnLine (front ++ (mark (point w (suc t)) ∷ [])) (pos u) (w u)
     last q front same =
-        let P : ℤ → Type 0 = λ z. OnLine (front ++ (mark (point w (suc t)) ∷ [])) (pos u) z in
         let come : pos (suc t) ≤ℤ pos u = omega (arith, ints) in
-        subst P (sym same) (on-since front (mark (point w (suc t))) [] (pos u) come tt)
+        rw same (on-since front (mark (point w (suc t))) [] (pos u) come tt)
 turns-line w g (suc n) d c t e h i r f u k front = elim (true_or_false (straight w t)) [
-  | inl s ↦ (let P : Bool → Type 0 = λ b. OnLine
-      (front ++ (mark (point w c) ∷ marks (if b then turns w (suc t) n else point w (suc t) ∷ turns w (suc t) n))) (pos u) (w u) in
-      subst P (sym s) (turns-line w g n d c (suc t) e (omega arith) (omega arith) (longer w d c t h r (straight_is w t s)) f u k front))
-  | inr s ↦ (let P : Bool → Type 0 = λ b. OnLine
-      (front ++ (mark (point w c) ∷ marks (if b then turns w (suc t) n else point w (suc t) ∷ turns w (suc t) n))) (pos u) (w u) in
+  | inl s ↦
+      rw s (turns-line w g n d c (suc t) e (omega arith) (omega arith) (longer w d c t h r (straight_is w t s)) f u k front)
+  | inr s ↦
       let x = way_of w g (suc t) in
-      subst P (sym s) (segment w d c (suc t) (marks (turns w (suc t) n)) u r (omega arith) k (turns-rise w (suc t) n)
-      (λ q more. turns-line w g n x.0 (suc t) (suc t) e (omega arith) (omega arith) (one_step w x.0 (suc t) x.1) f u q more) front))
+      rw s (segment w d c (suc t) (marks (turns w (suc t) n)) u r (omega arith) k (turns-rise w (suc t) n)
+      (λ q more. turns-line w g n x.0 (suc t) (suc t) e (omega arith) (omega arith) (one_step w x.0 (suc t) x.1) f u q more) front)
 ]
 
 pub corners-on : (w : ℕ → ℤ) → Gentle w → (e : ℕ) → ((u : ℕ) → e ≤ u → w u ≡ w e) → (u : ℕ) → OnLine (marks (corners w e)) (pos u) (w u)
 corners-on w g zero f u =
-    let P : ℤ → Type 0 = λ z. OnLine (mark (point w 0) ∷ []) (pos u) z in
     let come : pos 0 ≤ℤ pos u = omega (arith, ints) in
-    subst P (sym (f u (omega arith))) (on-since [] (mark (point w 0)) [] (pos u) come tt)
+    rw (f u (omega arith)) (on-since [] (mark (point w 0)) [] (pos u) come tt)
 corners-on w g (suc n) f u =
     let x = way_of w g 0 in turns-line w g n x.0 0 0 (suc n) (omega arith) (omega arith) (one_step w x.0 0 x.1) f u (omega arith) []

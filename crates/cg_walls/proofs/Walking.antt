@@ -1,7 +1,6 @@
 -- Walks along rises.
-use Rattle.std.proofs.Common.{◌≡◌, refl, ℕ, ◌+◌, ◌-◌, ◌<◌, ◌≤◌, arith, zero, suc, ap, sym, ◌∙◌, subst, Bool, not, cond, List, [], ◌∷◌, length, drop, get_or, inl, inr, ◌+ℤ◌}
+use Rattle.std.proofs.Common.{◌≡◌, refl, ℕ, ◌+◌, ◌-◌, ◌<◌, ◌≤◌, arith, zero, suc, ap, sym, ◌∙◌, Bool, not, cond, List, [], ◌∷◌, drop, inl, inr, ◌+ℤ◌}
 use Rattle.std.proofs.lemmas.Int.{ints}
-use Rattle.std.proofs.Math.Seq.{drop-cons}
 use Rattle.cg_walls.specs.declared.TheConstants.{END}
 use Rattle.cg_walls.specs.declared.place.Place.{Place}
 use Rattle.cg_walls.specs.declared.rise.Rise.{Rise}
@@ -11,11 +10,10 @@ use Rattle.cg_walls.proofs.Rising.{le_or_lt_n, lt_false, lt_true, near, steady, 
 
 pub at-start : (r : Rise) (p : Place) → p.value ≡ r.start → p.up ≡ r.first → p.passed ≡ 0 → IsWall r → At r 0 p
 at-start r p v b n w =
-    let P : ℕ → Type 0 = λ k. Climbs 0 (drop k r.turns.items) END in
     record {
       value = v ∙ sym (value-zero r);
       goes = λ u h. ap (λ z. rises_at z r.turns.items u) (sym b) ∙ ap (λ k. rises_at p.up (drop k r.turns.items) u) (sym n);
-      ahead = subst P (sym n) w.turns;
+      ahead = rw n w.turns;
     }
 
 -- ---- the next turn
@@ -78,15 +76,12 @@ at-turn r now to p q a h e lt v b n = go (drop p.passed r.turns.items) refl
     along : (t : ℕ) (ts : List ℕ) → drop p.passed r.turns.items ≡ t ∷ ts → to ≡ t → At r to q
     along t ts f g =
         let rest : drop q.passed r.turns.items ≡ ts = ap (λ k. drop k r.turns.items) n ∙ drop-next r.turns.items ts p.passed t f in
-        let P : List ℕ → Type 0 = λ z. Climbs now z END in
-        let c = subst P f a.ahead in
-        let Q : List ℕ → Type 0 = λ z. Climbs to z END in
-        let R : ℕ → Type 0 = λ z. Climbs z ts END in
+        let c = rw f at a.ahead in
         record {
           value = v ∙ sym (moved-value r now to p a h (omega arith));
           goes = λ u k. a.goes u (omega arith) ∙ ap (λ z. rises_at p.up z u) f ∙ pass p.up t u ts (omega arith)
               ∙ ap (λ z. rises_at z ts u) (sym b) ∙ ap (λ z. rises_at q.up z u) (sym rest);
-          ahead = subst Q (sym rest) (subst R (sym g) c.2);
+          ahead = rw rest (rw g c.2);
         }
 
     go : (l : List ℕ) → drop p.passed r.turns.items ≡ l → At r to q
@@ -97,12 +92,11 @@ at-turn r now to p q a h e lt v b n = go (drop p.passed r.turns.items) refl
 pub at-later : (r : Rise) (now to : ℕ) (p q : Place) → At r now p → now < to → to ≤ next_of r p → ((next_of r p ≡ to) → to < END → ⊥)
     → q.value ≡ p.value +ℤ steps p.up (to - now) → q.up ≡ p.up → q.passed ≡ p.passed → At r to q
 at-later r now to p q a h k turns v b n =
-    let P : ℕ → Type 0 = λ z. Climbs to (drop z r.turns.items) END in
     record {
       value = v ∙ sym (moved-value r now to p a h k);
       goes = λ u i. a.goes u (omega arith) ∙ ap (λ z. rises_at z (drop p.passed r.turns.items) u) (sym b)
           ∙ ap (λ z. rises_at q.up (drop z r.turns.items) u) (sym n);
-      ahead = subst P (sym n) (ahead (drop p.passed r.turns.items) a.ahead k turns);
+      ahead = rw n (ahead (drop p.passed r.turns.items) a.ahead k turns);
     }
   where
     ahead : (ts : List ℕ) → Climbs now ts END → to ≤ first_of ts → ((first_of ts ≡ to) → to < END → ⊥) → Climbs to ts END

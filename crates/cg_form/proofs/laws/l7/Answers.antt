@@ -1,4 +1,4 @@
-use Rattle.std.proofs.Common.{◌≡◌, ℕ, ◌+◌, ◌*◌, ◌≤◌, suc, arith, subst, ℤ, pos, ◌+ℤ◌, ◌-ℤ◌, ◌≤ℤ◌}
+use Rattle.std.proofs.Common.{◌≡◌, ℕ, ◌+◌, ◌*◌, ◌≤◌, suc, arith, ℤ, pos, ◌+ℤ◌, ◌-ℤ◌, ◌≤ℤ◌}
 use Rattle.std.proofs.lemmas.Int.{ints}
 use Rattle.cg_form.specs.Cooling.{Steps}
 use Rattle.cg_form.specs.Game.{Game}
@@ -19,21 +19,14 @@ one_more : (t : ℕ) → suc t ≡ t + 1
 one_more t = omega arith
 
 steps : (d : Decides) (s t : ℕ) (g : Game) → Steps (walls d s t g) (walls d s (t + 1) g)
-steps d s t g =
-    let P : ℕ → Type 0 = λ u. Steps (walls d s t g) (walls d s u g) in
-    subst P (one_more t) (walls-steps d s t g)
+steps d s t g = rw (one_more t) at (walls-steps d s t g)
 
 moved : (a b t : ℤ) → a ≤ℤ (b +ℤ t) → (a -ℤ t) ≤ℤ b
 moved a b t h = omega (arith, ints)
 
 next : (d : Decides) (s : ℕ) (g : Game) → height g ≤ s → (t : ℕ)
     → AtNext (walls d (s + 1) (2 * t) g) (walls d (s + 1) (2 * t + 1) g) (walls d s t g) (walls d s (t + 1) g)
-next d s g h t =
-    let P : ℕ → Type 0 = λ u. AtNext (walls d u (2 * t) g) (walls d u (2 * t + 1) g) (walls d s t g)
-    (walls d s (suc t) g) in
-    let Q : ℕ → Type 0 = λ u. AtNext (walls d (s + 1) (2 * t) g) (walls d (s + 1) (2 * t + 1) g) (walls d s t g)
-    (walls d s u g) in
-    subst Q (one_more t) (subst P (one_more s) (next_scale d s g h t))
+next d s g h t = rw (one_more t) at (rw (one_more s) at (next_scale d s g h t))
 
 pub returns : goal.returns
 returns c = record {

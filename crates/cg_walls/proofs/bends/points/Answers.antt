@@ -1,8 +1,5 @@
-use Rattle.std.proofs.Common.{◌≡◌, refl, ap, sym, ◌∙◌, subst, arith, ◌++◌, ◌∷◌, [], ◌-◌, List}
-use Rattle.cg_walls.specs.Corners.{corners, marks, point}
-use Rattle.cg_walls.specs.Fits.{AllFit}
-use Rattle.cg_walls.specs.Lines.{TimesRise}
-use Rattle.cg_walls.specs.declared.bends.Point.{Point}
+use Rattle.std.proofs.Common.{◌≡◌, refl, ap, sym, ◌∙◌, arith, ◌++◌, ◌∷◌, [], ◌-◌}
+use Rattle.cg_walls.specs.Corners.{corners, point}
 use Rattle.cg_walls.specs.Rises.{value_at}
 use Rattle.cg_walls.proofs.Bending.{corners-end, corners-fit, corners-none, corners-turn, corners_after, first_point, next_point, no_point, point-is}
 use Rattle.cg_walls.proofs.Rising.{value-zero}
@@ -74,10 +71,8 @@ returns c =
           e ∙ no_point c.loop-p.points.items (corners_after (value_at r) c.loop-p.now (c.args.end - c.loop-p.now)) (corners (value_at r) c.args.end)
           (corners-none (value_at r) c.loop-p.now c.args.end (omega arith)) i.all)
     ] in
-    let P : List Point → Type 0 = λ z. TimesRise (marks z) in
-    let Q : List Point → Type 0 = λ z. AllFit z in
     record {
       corners = all;
-      rise = subst P (sym all) (corners-rise (value_at c.args.rise.now) c.args.end);
-      fit = subst Q (sym all) (corners-fit c.args.rise.now c.args.end c.requires.wall c.requires.end);
+      rise = rw all (corners-rise (value_at c.args.rise.now) c.args.end);
+      fit = rw all (corners-fit c.args.rise.now c.args.end c.requires.wall c.requires.end);
     }

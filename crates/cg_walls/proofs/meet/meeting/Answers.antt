@@ -1,6 +1,5 @@
-use Rattle.std.proofs.Common.{◌≡◌, refl, ap, sym, ◌∙◌, subst, arith, ℕ, ◌≤◌, ◌-◌, ◌*◌, ◌%◌, min, pos, ◌+ℤ◌}
+use Rattle.std.proofs.Common.{◌≡◌, refl, ap, sym, ◌∙◌, arith, ℕ, ◌≤◌, ◌-◌, ◌*◌, min, pos, ◌+ℤ◌}
 use Rattle.std.proofs.lemmas.Int.{ints}
-use Rattle.std.specs.Prelude.{IfSome, IfNone}
 use Rattle.cg_walls.specs.declared.TheConstants.{BOUND, END}
 use Rattle.cg_walls.specs.Places.{fall, next_of}
 use Rattle.cg_walls.proofs.Gaps.{Closes, apart-ends, apart-later, apart-start, closes-all, gap-here}
@@ -21,7 +20,7 @@ closes-requires-clause-gap c =
     omega (arith, ints)
 
 along : (g k n m : ℕ) → n ≡ m → g ≤ n * k → g ≤ m * k
-along g k n m e h = let P : ℕ → Type 0 = λ z. g ≤ z * k in subst P e h
+along g k n m e h = rw e at h
 
 closed : (c : goal.After-closes) → Closes c.args.a.now c.args.b.now c.closes.result
 closed c =
@@ -32,13 +31,11 @@ closed c =
     ∙ ap (λ z. min z c.next-in-loop-now.result) c.next.ensures ∙ ap (λ z. min (next_of a c.loop-now.p) z) c.next-in-loop-now.ensures in
     let i = next-after a c.loop-now.now c.loop-now.p c.loop-now-test.true x.one in
     let j = next-after b c.loop-now.now c.loop-now.q c.loop-now-test.true x.two in
-    let P : ℕ → Type 0 = λ z. IfSome c.closes.result (λ t. (c.loop-now.now ≤ t) × (z * (t - c.loop-now.now) ≡ c.gap_at-gap.result)) in
-    let Q : ℕ → Type 0 = λ z. IfNone c.closes.result (¬ (c.gap_at-gap.result % z ≡ 0)) in
     closes-all a b c.loop-now.now c.min-to.result c.gap_at-gap.result c.loop-now.p c.loop-now.q c.closes.result x t (omega arith)
     (c.gap_at-gap.ensures ∙ sym (gap-here a b c.loop-now.now c.loop-now.p c.loop-now.q x.one x.two))
     (along c.gap_at-gap.result (c.min-to.result - c.loop-now.now) c.falls-falls.result (fall c.loop-now.p.up c.loop-now.q.up) f c.if-gap-falls.true)
     (λ e. let h = along c.gap_at-gap.result (c.min-to.result - c.loop-now.now) c.falls-falls.result 0 (f ∙ e) c.if-gap-falls.true in omega arith)
-    (subst P f c.closes.ensures.closed) c.closes.ensures.still (subst Q f c.closes.ensures.none)
+    (rw f at c.closes.ensures.closed) c.closes.ensures.still (rw f at c.closes.ensures.none)
 
 pub returns-then-gap-falls-clause-met : goal.returns-then-gap-falls-clause-met
 returns-then-gap-falls-clause-met c = (closed c).met

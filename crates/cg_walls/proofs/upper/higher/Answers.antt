@@ -1,7 +1,7 @@
-use Rattle.std.proofs.Common.{◌≡◌, refl, sym, ◌∙◌, subst, arith, ◌<◌, ◌-◌, List, ◌∷◌, [], ◌++◌}
+use Rattle.std.proofs.Common.{◌≡◌, refl, ◌∙◌, arith, ◌<◌, ◌-◌, ◌∷◌, [], ◌++◌}
 use Rattle.std.proofs.lemmas.Int.{to_z-of_z}
 use Rattle.cg_walls.specs.declared.TheConstants.{END}
-use Rattle.cg_walls.proofs.Merging.{Merged, bool_other, bool_same, event-after, merged-along, max_is, merged-none, merged-same, merged-turned, upper-wall}
+use Rattle.cg_walls.proofs.Merging.{bool_other, bool_same, event-after, merged-along, max_is, merged-none, merged-same, merged-turned, upper-wall}
 use Rattle.cg_walls.proofs.Walking.{at-within}
 use Rattle.cg_walls.proofs.Words.{start_word}
 use mir.Syntax.{w128}
@@ -39,10 +39,8 @@ loop-to-smaller c =
 
 pub loop-to-init : goal.loop-to-init
 loop-to-init c =
-    let P : List _ → Type 0 = λ z. Merged c.args.a.now c.args.b.now c.leads-first.result z 0 c.leads-first.result c.start-p.result c.start-q.result in
     record {
-      merged = subst P (sym c.new-turns.ensures.items)
-          (merged-none c.args.a.now c.args.b.now c.start-p.result c.start-q.result c.leads-first.result c.start-p.ensures c.start-q.ensures c.leads-first.ensures);
+      merged = rw c.new-turns.ensures.items (merged-none c.args.a.now c.args.b.now c.start-p.result c.start-q.result c.leads-first.result c.start-p.ensures c.start-q.ensures c.leads-first.ensures);
       next = c.event-to.ensures;
     }
 

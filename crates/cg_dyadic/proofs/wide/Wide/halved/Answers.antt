@@ -1,11 +1,11 @@
-use Rattle.std.proofs.Common.{◌≡◌, ◌∙◌, ap, sym, subst, ◌<◌, ◌^◌, unsigned_abs, ℤ, ◌+ℤ◌}
+use Rattle.std.proofs.Common.{◌≡◌, ◌∙◌, ap, sym, ◌<◌, ◌^◌, unsigned_abs, ℤ, ◌+ℤ◌}
 use Rattle.cg_dyadic.specs.Number.{half, ratio}
 use Rattle.cg_dyadic.specs.Wide.{places}
 use Rattle.cg_dyadic.proofs.Wides.{half-none, half-small, half-some, no_true, plus_word, wide_word}
 use Rattle.cg_dyadic.proofs.wide.Wide.halved.Goals as goal
 
 small : (h u : ℤ) → h ≡ half u → unsigned_abs u < 2 ^ 126 → unsigned_abs h < 2 ^ 126
-small h u e k = let P : ℤ → Type 0 = λ z. unsigned_abs z < 2 ^ 126 in subst P (sym e) (half-small u k)
+small h u e k = rw e (half-small u k)
 
 pub returns-then-same : goal.returns-then-same
 returns-then-same c =
