@@ -20,6 +20,7 @@ special_alone t b h f = term_alone t b h (λ k l i. special_is (grammar.special 
 
 mutual
   unfolding text_of
+
   written : (t : Tree) → IsWritable t → Written t
   written (number below num den) w =
       term_alone (number below num den) refl refl (λ k h i. number_term (grammar.special formats.One k) i below num den w.0 w.1)
