@@ -2,9 +2,8 @@
 use Rattle.std.proofs.Common.{◌≡◌, ℕ, zero, suc, ◌+◌, ◌≤◌, ◌<◌, ◌⊎◌, inl, inr, Bool, true, false, cond, List, [], ◌∷◌, ◌++◌, length, map, Option, Some, None, refl, ap, sym, subst, ◌∙◌, arith}
 use Rattle.std.specs.Prelude.{ltb, codes}
 use Rattle.std.proofs.lemmas.Bool.{ltb-true, ltb-false}
-use Rattle.cg_reading.specs.Bytes.{Class}
-use Rattle.cg_reading.specs.Pieces.{Piece, Split, Then, Or, Many, Made, Longest, Nothing, One, Word}
-use Rattle.cg_reading.specs.Tokens.{blanks, gap, behind_blanks, with_blanks}
+use Rattle.cg_reading.specs.Pieces.{Piece, Then, Or, Made, Nothing, One, Word}
+use Rattle.cg_reading.specs.Tokens.{blanks, gap}
 use Rattle.cg_query.specs.declared.format.Format.{Format}
 use Rattle.cg_query.specs.declared.format.Format.TheVariants as formats
 use Rattle.cg_grammar.specs.Found.{Found, Asked, Stated, first}
