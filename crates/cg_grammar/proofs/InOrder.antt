@@ -161,15 +161,14 @@ module _ {E : Piece Found} (x : AllLie fault_of E) where
   side_order i es text is =
       let t = is.is in
       let m = i + length t.before in
-      let P : List Found → Type 0 = λ z. SideLies i z (i + length text) in
-      subst P (sym is.same) (side_wide m (m + length t.behind) is.made_of.1 i (i + length text) (by m is.made_of.1 t.behind t.second) (omega arith) (omega (arith, ap length t.spelled, length-append t.before t.behind)))
+      rw is.same (side_wide m (m + length t.behind) is.made_of.1 i (i + length text) (by m is.made_of.1 t.behind t.second) (omega arith) (omega (arith, ap length t.spelled, length-append t.before t.behind)))
     where
       by : (j : ℕ) (fs : List Found) (y : List ℕ) → Or (with_blanks (g.exprs E)) (Nothing []) j fs y → SideLies j fs (j + length y)
       by j fs y (inl w) =
           let Q : List Found → Type 0 = λ z. SideLies j z (j + length y) in
           let u = w.is in
           subst Q (sym w.same) (side_wide j (j + length u.before) w.made_of.0 j (j + length y) (exprs_order j w.made_of.0 u.before u.first) (omega arith) (omega (arith, ap length u.spelled, length-append u.before u.behind)))
-      by j fs y (inr w) = let Q : List Found → Type 0 = λ z. SideLies j z (j + length y) in subst Q (sym w.0) (omega arith)
+      by j fs y (inr w) = rw w.0 (omega arith)
 
 module _ {P : Piece (List Found)} (p : InOrder P) where
   one_row : (rest : ℕ → List ℕ → Type 0) (i : ℕ) (r : (ℕ × ℕ) × List Found) (more : List Run_side) (text : List ℕ)
@@ -178,12 +177,11 @@ module _ {P : Piece (List Found)} (p : InOrder P) where
       let m = i + length b.run + length b.middle in
       let some : 0 < length b.run = omega (arith, b.is_run.1.is.some, ap length b.is_run.1.is.spelled) in
       let whole = length-append b.run (b.middle ++ b.more) in
-      let behind = length-append b.middle b.more in
-      let Q : ℕ → Type 0 = λ z. RunsLie m more z in (
+      let behind = length-append b.middle b.more in (
         m,
         omega (arith, b.is_run.0),
         side_wide (i + length b.run) m r.1 (suc r.0.0) m (p (i + length b.run) r.1 b.middle b.is_side) (omega (arith, b.is_run.0, some)) (omega arith),
-        subst Q (omega (arith, ap length b.spelled, whole, behind)) (next m b.more b.is_more),
+        subst (λ (z : ℕ). RunsLie m more z) (omega (arith, ap length b.spelled, whole, behind)) (next m b.more b.is_more),
       )
 
   rows_order : (i : ℕ) (rs : List ((ℕ × ℕ) × List Found)) (text : List ℕ) → g.Rows P i rs text → RunsLie i (map run_side rs) (i + length text)

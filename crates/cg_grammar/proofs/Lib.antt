@@ -17,6 +17,7 @@ pub mod LongestRun
 pub mod RepeatedRuns
 pub mod LeastFault
 pub mod InOrder
+pub mod Clean
 pub mod WholeFault
 pub mod WrittenTokens
 pub mod WrittenTerms

@@ -123,9 +123,6 @@ pub tail_ok : Lawful s.tail r.tail_at tail_begin true tail_follow
 unfolding r.tail_at
 tail_ok = wide_ok tail_begin tail_follow (then_ok optional_ups optional_nim no_nim refl) refl refl
 
-no_tail : (j : ℕ) → Some_text s.tail j
-no_tail j = then_text j (right_text j (nothing_text None j)) no_nim
-
 pub empty_tail : (j : ℕ) → (v : Option Tree × Option Tree) × s.tail j v []
 empty_tail j = ((None, None), record { before = []; behind = []; first = inr (refl, refl); second = inr (refl, refl); spelled = refl })
 

@@ -2,9 +2,8 @@
 use Rattle.std.proofs.Common.{◌≡◌, ℕ, zero, suc, ◌+◌, ◌≤◌, ◌<◌, ◌⊎◌, inl, inr, Bool, true, false, cond, List, [], ◌∷◌, ◌++◌, length, map, Option, Some, None, refl, ap, sym, subst, ◌∙◌, arith}
 use Rattle.std.specs.Prelude.{ltb, codes}
 use Rattle.std.proofs.lemmas.Bool.{ltb-true, ltb-false}
-use Rattle.cg_reading.specs.Bytes.{Class}
-use Rattle.cg_reading.specs.Pieces.{Piece, Split, Then, Or, Many, Made, Longest, Nothing, One, Word}
-use Rattle.cg_reading.specs.Tokens.{blanks, gap, behind_blanks, with_blanks}
+use Rattle.cg_reading.specs.Pieces.{Piece, Then, Or, Made, Nothing, One, Word}
+use Rattle.cg_reading.specs.Tokens.{blanks, gap}
 use Rattle.cg_query.specs.declared.format.Format.{Format}
 use Rattle.cg_query.specs.declared.format.Format.TheVariants as formats
 use Rattle.cg_grammar.specs.Found.{Found, Asked, Stated, first}
@@ -14,6 +13,8 @@ use Rattle.cg_grammar.specs.Lines.{line_of}
 use Rattle.cg_grammar.specs.Splitting.{IsLeast, IsRepeatAt, Repeats}
 use Rattle.cg_grammar.specs.Grammar as g
 use Rattle.cg_grammar.specs.Repeated.{RepeatsAt, RunRepeats, braces_but, line_by, special_but}
+use Rattle.cg_reading.proofs.Spelled.{then_as}
+use Rattle.cg_grammar.proofs.Clean.{Before, Cleans, before_first, before_rest, both, in_first, in_longest, in_second, made, many, or_clean, padded, same, spaced}
 use Rattle.cg_grammar.proofs.LeastFault.{none_some, row_within, some_same}
 use Rattle.cg_grammar.proofs.InOrder.{AllLie, expr_lies, fault_of, fault_with, first_cases, first_lies, items_lie, made_lie, next_lies, side_order, special_lies, term_lies}
 use Rattle.cg_grammar.proofs.RepeatedRuns.{repeats_exactly}
@@ -38,187 +39,60 @@ own_fault earlier bars column c e = by (repeats bars false earlier) refl e
 own_found : (earlier : List ℕ) (bars column : ℕ) → Repeats bars earlier → cond (repeats bars false earlier) (Some column) None ≡ Some column
 own_found earlier bars column r = ap (λ (t : Bool). cond t (Some column) None) ((repeats_exactly bars earlier).1 r)
 
--- one text and then another
-put : {P : List ℕ → Type 0} {Q : ℕ → List ℕ → Type 0} {text : List ℕ} (x y : List ℕ) → P x → Q (length x) y → text ≡ x ++ y → Split P Q text
-put x y first second spelled = record { before = x; behind = y; first = first; second = second; spelled = spelled }
-
 module _ (d : ℕ) where
-  -- the column is before a text, or before the first fault of what has one
-  abbrev Before : ℕ → Option ℕ → Type 0
-  Before i o = (d < i) ⊎ ((c : ℕ) → o ≡ Some c → d < c)
-
-  before_on : (i n : ℕ) (o : Option ℕ) → Before i o → Before (i + n) o
-  before_on i n o (inl h) = inl (omega (arith, h))
-  before_on i n o (inr k) = inr k
-
-  before_first : (i : ℕ) (a b : Option ℕ) → Before i (first a b) → Before i a
-  before_first i a b (inl h) = inl h
-  before_first i a b (inr k) = inr (λ c e. k c (ap (λ (z : Option ℕ). first z b) e))
-
-  before_rest : (i n : ℕ) (a b : Option ℕ) → ((c : ℕ) → a ≡ Some c → c < i + n) → Before i (first a b) → Before (i + n) b
-  before_rest i n (Some c) b ends (inl h) = inl (omega (arith, h))
-  before_rest i n (Some c) b ends (inr k) = inl (omega (arith, ends c refl, k c refl))
-  before_rest i n None b ends l = before_on i n b l
-
-  -- A piece without the braces that repeat a run at the column, and the whole piece: what is left is a part of it, none of whose first
-  -- faults is there; and where the first fault is behind the column, nothing was left out.
-  record Cleans {A : Type 0} (f : A → Option ℕ) (Q R : Piece A) : Type 0 where
-    to : (i : ℕ) (v : A) (text : List ℕ) → Q i v text → R i v text
-    avoids : (i : ℕ) (v : A) (text : List ℕ) → Q i v text → f v ≡ Some d → ⊥
-    from : (i : ℕ) (v : A) (text : List ℕ) → R i v text → Before i (f v) → Q i v text
-
-  same : {A : Type 0} {R : Piece A} → Cleans (λ v. None) R R
-  same = record { to = λ i v text is. is; avoids = λ i v text is e. none_some e; from = λ i v text is l. is }
-
-  -- ---- pieces of pieces
-
-  or_clean : {A : Type 0} (f : A → Option ℕ) {Q R S T : Piece A} → Cleans f Q R → Cleans f S T → Cleans f (Or Q S) (Or R T)
-  or_clean {A} f {Q} {R} {S} {T} r s = record { to = to; avoids = avoids; from = from }
-    where
-      to : (i : ℕ) (v : A) (text : List ℕ) → Or Q S i v text → Or R T i v text
-      to i v text (inl is) = inl (r.to i v text is)
-      to i v text (inr is) = inr (s.to i v text is)
-
-      avoids : (i : ℕ) (v : A) (text : List ℕ) → Or Q S i v text → f v ≡ Some d → ⊥
-      avoids i v text (inl is) e = r.avoids i v text is e
-      avoids i v text (inr is) e = s.avoids i v text is e
-
-      from : (i : ℕ) (v : A) (text : List ℕ) → Or R T i v text → Before i (f v) → Or Q S i v text
-      from i v text (inl is) l = inl (r.from i v text is l)
-      from i v text (inr is) l = inr (s.from i v text is l)
-
-  made : {A B : Type 0} (f : B → Option ℕ) (h : A → B) {Q R : Piece A} → Cleans (λ v. f (h v)) Q R → Cleans f (Made h Q) (Made h R)
-  made f h r = record {
-    to = λ i v text is. record { made_of = is.made_of; is = r.to i is.made_of text is.is; same = is.same };
-    avoids = λ i v text is e. r.avoids i is.made_of text is.is (sym (ap f is.same) ∙ e);
-    from = λ i v text is l. record { made_of = is.made_of; is = r.from i is.made_of text is.is (subst (λ (o : Option ℕ). Before i o) (ap f is.same) l); same = is.same };
-  }
-
-  module _ {A B : Type 0} (f : A → Option ℕ) {Q R : Piece A} (S : Piece B) (r : Cleans f Q R) where
-    in_first : Cleans (λ v. f v.0) (Then Q S) (Then R S)
-    in_first = record {
-      to = λ i v text is. put is.before is.behind (r.to i v.0 is.before is.first) is.second is.spelled;
-      avoids = λ i v text is e. r.avoids i v.0 is.before is.first e;
-      from = λ i v text is l. put is.before is.behind (r.from i v.0 is.before is.first l) is.second is.spelled;
-    }
-
-    in_longest : {goes_on : A → Class} → Cleans (λ v. f v.0) (Longest goes_on Q S) (Longest goes_on R S)
-    in_longest = record {
-      to = λ i v text is. record { before = is.before; behind = is.behind; first = r.to i v.0 is.before is.first; second = is.second; ended = is.ended; spelled = is.spelled };
-      avoids = λ i v text is e. r.avoids i v.0 is.before is.first e;
-      from = λ i v text is l. record { before = is.before; behind = is.behind; first = r.from i v.0 is.before is.first l; second = is.second; ended = is.ended; spelled = is.spelled };
-    }
-
-    in_second : Cleans (λ v. f v.1) (Then S Q) (Then S R)
-    in_second = record {
-      to = λ i v text is. put is.before is.behind is.first (r.to (i + length is.before) v.1 is.behind is.second) is.spelled;
-      avoids = λ i v text is e. r.avoids (i + length is.before) v.1 is.behind is.second e;
-      from = λ i v text is l.
-          put is.before is.behind is.first (r.from (i + length is.before) v.1 is.behind is.second (before_on i (length is.before) (f v.1) l)) is.spelled;
-    }
-
-  spaced : {A : Type 0} (f : A → Option ℕ) {Q R : Piece A} → Cleans f Q R → Cleans f (behind_blanks Q) (behind_blanks R)
-  spaced f r = made f (λ v. v.1) (in_second f blanks r)
-
-  padded : {A : Type 0} (f : A → Option ℕ) {Q R : Piece A} → Cleans f Q R → Cleans f (with_blanks Q) (with_blanks R)
-  padded f r = made f (λ v. v.0) (in_first f blanks r)
-
-  -- two pieces, of which the first one's fault lies before its end
-  both : {A B : Type 0} (f : A → Option ℕ) (h : B → Option ℕ) {Q R : Piece A} {S T : Piece B} → Cleans f Q R → Cleans h S T
-      → ((i : ℕ) (v : A) (text : List ℕ) → R i v text → (c : ℕ) → f v ≡ Some c → c < i + length text)
-      → Cleans (λ v. first (f v.0) (h v.1)) (Then Q S) (Then R T)
-  both {A} {B} f h {Q} {R} {S} {T} r s ends = record {
-    to = λ i v text is. put is.before is.behind (r.to i v.0 is.before is.first) (s.to (i + length is.before) v.1 is.behind is.second) is.spelled;
-    avoids = avoids;
-    from = λ i v text is l.
-        put is.before is.behind (r.from i v.0 is.before is.first (before_first i (f v.0) (h v.1) l))
-        (s.from (i + length is.before) v.1 is.behind is.second (before_rest i (length is.before) (f v.0) (h v.1) (ends i v.0 is.before is.first) l)) is.spelled;
-  }
-    where
-      avoids : (i : ℕ) (v : A × B) (text : List ℕ) → Then Q S i v text → first (f v.0) (h v.1) ≡ Some d → ⊥
-      avoids i v text is e = by (first_cases (f v.0) (h v.1) d e)
-        where
-          by : (f v.0 ≡ Some d) ⊎ (h v.1 ≡ Some d) → ⊥
-          by (inl k) = r.avoids i v.0 is.before is.first k
-          by (inr k) = s.avoids (i + length is.before) v.1 is.behind is.second k
-
-  module _ {A : Type 0} (f : A → Option ℕ) (F : List A → Option ℕ) (none : F [] ≡ None)
-      (more : (v : A) (vs : List A) → F (v ∷ vs) ≡ first (f v) (F vs)) {Q R : Piece A} (r : Cleans f Q R) (x : AllLie f R) where
-    many_to : (vs : List A) (i : ℕ) (text : List ℕ) → Many Q i vs text → Many R i vs text
-    many_to [] i text is = is
-    many_to (v ∷ vs) i text is = put is.before is.behind (r.to i v is.before is.first) (many_to vs (i + length is.before) is.behind is.second) is.spelled
-
-    many_avoids : (vs : List A) (i : ℕ) (text : List ℕ) → Many Q i vs text → F vs ≡ Some d → ⊥
-    many_avoids [] i text is e = none_some (sym none ∙ e)
-    many_avoids (v ∷ vs) i text is e = by (first_cases (f v) (F vs) d (sym (more v vs) ∙ e)) (many_avoids vs (i + length is.before) is.behind is.second)
-      where
-        by : (f v ≡ Some d) ⊎ (F vs ≡ Some d) → (F vs ≡ Some d → ⊥) → ⊥
-        by (inl k) rest = r.avoids i v is.before is.first k
-        by (inr k) rest = rest k
-
-    many_from : (vs : List A) (i : ℕ) (text : List ℕ) → Many R i vs text → Before i (F vs) → Many Q i vs text
-    many_from [] i text is l = is
-    many_from (v ∷ vs) i text is l =
-        let k = subst (λ (o : Option ℕ). Before i o) (more v vs) l in
-        put is.before is.behind (r.from i v is.before is.first (before_first i (f v) (F vs) k))
-        (many_from vs (i + length is.before) is.behind is.second (before_rest i (length is.before) (f v) (F vs) (λ c e. (x.lie i v is.before is.first c e).1) k)) is.spelled
-
-    many : Cleans F (Many Q) (Many R)
-    many = record { to = λ i vs text. many_to vs i text; avoids = λ i vs text. many_avoids vs i text; from = λ i vs text. many_from vs i text }
-
   -- ---- expressions
 
   abbrev counted_fault : Bool → Counted → Option ℕ
   counted_fault below n = (counted_of below n).fault
 
-  module _ {Q S : Piece (Found × Last)} (s : Cleans fault_with Q S) (x : AllLie fault_with S) where
-    in_primary : Cleans fault_with (g.primary Q) (g.primary S)
-    in_primary = or_clean fault_with (made fault_with _ same) (or_clean fault_with (made fault_with _ same) s)
+  module _ {Q S : Piece (Found × Last)} (s : Cleans d fault_with Q S) (x : AllLie fault_with S) where
+    in_primary : Cleans d fault_with (g.primary Q) (g.primary S)
+    in_primary = or_clean d fault_with (made d fault_with _ (same d)) (or_clean d fault_with (made d fault_with _ (same d)) s)
 
-    in_multiple : Cleans (λ v. v.1.0.fault) (g.multiple Q) (g.multiple S)
-    in_multiple = made (λ v. v.1.0.fault) _ (in_second (λ v. v.1.0.fault) _ (in_second fault_with (One g.point) in_primary))
+    in_multiple : Cleans d (λ v. v.1.0.fault) (g.multiple Q) (g.multiple S)
+    in_multiple = made d (λ v. v.1.0.fault) _ (in_second d (λ v. v.1.0.fault) _ (in_second d fault_with (One g.point) in_primary))
 
-    in_counted : (below : Bool) → Cleans (counted_fault below) (g.counted Q) (g.counted S)
-    in_counted true = or_clean (counted_fault true) (made (counted_fault true) _ same) (made (counted_fault true) _ in_multiple)
-    in_counted false = or_clean (counted_fault false) (made (counted_fault false) _ same) (made (counted_fault false) _ in_multiple)
+    in_counted : (below : Bool) → Cleans d (counted_fault below) (g.counted Q) (g.counted S)
+    in_counted true = or_clean d (counted_fault true) (made d (counted_fault true) _ (same d)) (made d (counted_fault true) _ in_multiple)
+    in_counted false = or_clean d (counted_fault false) (made d (counted_fault false) _ (same d)) (made d (counted_fault false) _ in_multiple)
 
-    in_counted_tail : (below : Bool) → Cleans fault_of (g.counted_tail Q below) (g.counted_tail S below)
-    in_counted_tail below = made fault_of _ (in_longest (counted_fault below) _ (in_counted below))
+    in_counted_tail : (below : Bool) → Cleans d fault_of (g.counted_tail Q below) (g.counted_tail S below)
+    in_counted_tail below = made d fault_of _ (in_longest d (counted_fault below) _ (in_counted below))
 
-    in_others : {R T : Piece Found} → Cleans fault_of R T
-        → Cleans fault_of (Or (g.special_tail Q) (Or g.ups_and_nim R)) (Or (g.special_tail S) (Or g.ups_and_nim T))
-    in_others r = or_clean fault_of (made fault_of _ (in_longest fault_with _ s)) (or_clean fault_of (made fault_of _ same) r)
+    in_others : {R T : Piece Found} → Cleans d fault_of R T
+        → Cleans d fault_of (Or (g.special_tail Q) (Or g.ups_and_nim R)) (Or (g.special_tail S) (Or g.ups_and_nim T))
+    in_others r = or_clean d fault_of (made d fault_of _ (in_longest d fault_with _ s)) (or_clean d fault_of (made d fault_of _ (same d)) r)
 
-    in_body : Cleans fault_of (g.body Q) (g.body S)
+    in_body : Cleans d fault_of (g.body Q) (g.body S)
     in_body =
-        or_clean fault_of (made fault_of _ (in_second fault_of _ (in_counted_tail false)))
-        (spaced fault_of (in_others (made fault_of _ same)))
+        or_clean d fault_of (made d fault_of _ (in_second d fault_of _ (in_counted_tail false)))
+        (spaced d fault_of (in_others (made d fault_of _ (same d))))
 
-    in_term : Cleans fault_of (g.term Q) (g.term S)
+    in_term : Cleans d fault_of (g.term Q) (g.term S)
     in_term =
-        or_clean fault_of (or_clean fault_of (made fault_of _ (in_second fault_of _ (in_counted_tail true))) (in_counted_tail false))
-        (in_others (or_clean fault_of (made fault_of _ same) (made fault_of _ (in_second fault_of _ in_body))))
+        or_clean d fault_of (or_clean d fault_of (made d fault_of _ (in_second d fault_of _ (in_counted_tail true))) (in_counted_tail false))
+        (in_others (or_clean d fault_of (made d fault_of _ (same d)) (made d fault_of _ (in_second d fault_of _ in_body))))
 
-    in_expr : Cleans fault_of (g.expr Q) (g.expr S)
+    in_expr : Cleans d fault_of (g.expr Q) (g.expr S)
     in_expr =
-        let terms = many (λ u. u.1.fault) first_fault refl (λ v vs. refl) (spaced (λ u. u.1.fault) (in_second fault_of g.sign (spaced fault_of in_term))) (next_lies x) in
-        let sums = both fault_of first_fault in_term terms (λ i v text is c e. ((term_lies x).lie i v text is c e).1) in
-        made fault_of (λ v. sum_of v.0 v.1) (record {
+        let terms = many d (λ u. u.1.fault) first_fault refl (λ v vs. refl) (spaced d (λ u. u.1.fault) (in_second d fault_of g.sign (spaced d fault_of in_term))) (next_lies x) in
+        let sums = both d fault_of first_fault in_term terms (λ i v text is c e. ((term_lies x).lie i v text is c e).1) in
+        made d fault_of (λ v. sum_of v.0 v.1) (record {
           to = sums.to;
           avoids = λ i v text is e. sums.avoids i v text is (sum_fault v.0 v.1 ∙ e);
-          from = λ i v text is l. sums.from i v text is (subst (λ (o : Option ℕ). Before i o) (sym (sum_fault v.0 v.1)) l);
+          from = λ i v text is l. sums.from i v text is (subst (λ (o : Option ℕ). Before d i o) (sym (sum_fault v.0 v.1)) l);
         })
 
   -- ---- sides, runs and braces
 
-  module _ {E T : Piece Found} (r : Cleans fault_of E T) (x : AllLie fault_of T) where
-    in_side : Cleans side_fault (g.side E) (g.side T)
+  module _ {E T : Piece Found} (r : Cleans d fault_of E T) (x : AllLie fault_of T) where
+    in_side : Cleans d side_fault (g.side E) (g.side T)
     in_side =
-        let items = many fault_of side_fault refl (λ v vs. refl) (spaced fault_of (made fault_of _ (in_second fault_of _ (spaced fault_of r)))) (items_lie x) in
-        spaced side_fault (or_clean side_fault
-        (padded side_fault (made side_fault (λ v. v.0 ∷ v.1) (both fault_of side_fault r items (λ i v text is c e. (x.lie i v text is c e).1)))) nothing)
+        let items = many d fault_of side_fault refl (λ v vs. refl) (spaced d fault_of (made d fault_of _ (in_second d fault_of _ (spaced d fault_of r)))) (items_lie x) in
+        spaced d side_fault (or_clean d side_fault
+        (padded d side_fault (made d side_fault (λ v. v.0 ∷ v.1) (both d fault_of side_fault r items (λ i v text is c e. (x.lie i v text is c e).1)))) nothing)
       where
-        nothing : Cleans side_fault (Nothing []) (Nothing [])
+        nothing : Cleans d side_fault (Nothing []) (Nothing [])
         nothing = record { to = λ i v text is. is; avoids = λ i v text is e. none_some (sym (ap side_fault is.0) ∙ e); from = λ i v text is l. is }
 
     side_ends : (i : ℕ) (es : List Found) (text : List ℕ) → g.side T i es text → (c : ℕ) → side_fault es ≡ Some c → c < i + length text
@@ -259,29 +133,29 @@ module _ (d : ℕ) where
         by (inr k) rest = behind (first_cases (side_fault r.1) (rows_fault (earlier ++ r.0.1 ∷ []) rs) d k) rest
 
     rows_from : (earlier : List ℕ) (rs : List ((ℕ × ℕ) × List Found)) (j : ℕ) (text : List ℕ) → g.Rows (g.side T) j rs text
-        → Before j (rows_fault earlier rs) → g.Rows (g.side E) j rs text × (RunRepeats earlier (map run_side rs) d → ⊥)
+        → Before d j (rows_fault earlier rs) → g.Rows (g.side E) j rs text × (RunRepeats earlier (map run_side rs) d → ⊥)
     rows_from earlier [] j text b l = (b, λ o. o)
     rows_from earlier (r ∷ rs) j text b l =
         let more = earlier ++ r.0.1 ∷ [] in
         let own = cond (repeats r.0.1 false earlier) (Some r.0.0) None in
         let m = j + length b.run in
         let some : 0 < length b.run = omega (arith, b.is_run.1.is.some, ap length b.is_run.1.is.spelled) in
-        let behind = before_rest j (length b.run) own (first (side_fault r.1) (rows_fault more rs)) (λ c e. omega (arith, (own_fault earlier r.0.1 r.0.0 c e).0, b.is_run.0, some)) l in
-        let rest = rows_from more rs (m + length b.middle) b.more b.is_more (before_rest m (length b.middle) (side_fault r.1) (rows_fault more rs) (side_ends m r.1 b.middle b.is_side) behind) in (
+        let behind = before_rest d j (length b.run) own (first (side_fault r.1) (rows_fault more rs)) (λ c e. omega (arith, (own_fault earlier r.0.1 r.0.0 c e).0, b.is_run.0, some)) l in
+        let rest = rows_from more rs (m + length b.middle) b.more b.is_more (before_rest d m (length b.middle) (side_fault r.1) (rows_fault more rs) (side_ends m r.1 b.middle b.is_side) behind) in (
           record {
             run = b.run;
             middle = b.middle;
             more = b.more;
             is_run = b.is_run;
-            is_side = in_side.from m r.1 b.middle b.is_side (before_first m (side_fault r.1) (rows_fault more rs) behind);
+            is_side = in_side.from m r.1 b.middle b.is_side (before_first d m (side_fault r.1) (rows_fault more rs) behind);
             is_more = rest.0;
             no_bar = b.no_bar;
             spelled = b.spelled;
           },
-          λ o. by rest.1 (before_first j own (first (side_fault r.1) (rows_fault more rs)) l) o,
+          λ o. by rest.1 (before_first d j own (first (side_fault r.1) (rows_fault more rs)) l) o,
         )
       where
-        by : (RunRepeats (earlier ++ r.0.1 ∷ []) (map run_side rs) d → ⊥) → Before j (cond (repeats r.0.1 false earlier) (Some r.0.0) None)
+        by : (RunRepeats (earlier ++ r.0.1 ∷ []) (map run_side rs) d → ⊥) → Before d j (cond (repeats r.0.1 false earlier) (Some r.0.0) None)
             → IsRepeatAt earlier (run_side r) d ⊎ RunRepeats (earlier ++ r.0.1 ∷ []) (map run_side rs) d → ⊥
         by n l (inr o) = n o
         by n (inl h) (inl o) = absurd (omega (arith, h, o.0, b.is_run.0))
@@ -293,7 +167,7 @@ module _ (d : ℕ) where
     abbrev rows_but : Piece (List ((ℕ × ℕ) × List Found))
     rows_but i rs text = Row_list E i rs text × (RunRepeats [] (map run_side rs) d → ⊥)
 
-    in_rows : Cleans (rows_fault []) rows_but (Row_list T)
+    in_rows : Cleans d (rows_fault []) rows_but (Row_list T)
     in_rows = record {
       to = λ i rs text u.
           record { made_of = u.0.made_of; is = rows_to (u.0.made_of.0 ∷ u.0.made_of.1) i text u.0.is; same = u.0.same };
@@ -302,7 +176,7 @@ module _ (d : ℕ) where
           (subst (λ (z : List ((ℕ × ℕ) × List Found)). g.Rows (g.side E) i z text) (sym u.0.same) u.0.is) u.1 e;
       from = λ i rs text m l.
           let p = rows_from [] (m.made_of.0 ∷ m.made_of.1) i text m.is
-          (subst (λ (z : List ((ℕ × ℕ) × List Found)). Before i (rows_fault [] z)) m.same l) in (
+          (subst (λ (z : List ((ℕ × ℕ) × List Found)). Before d i (rows_fault [] z)) m.same l) in (
             record { made_of = m.made_of; is = p.0; same = m.same },
             subst (λ (z : List ((ℕ × ℕ) × List Found)). RunRepeats [] (map run_side z) d → ⊥) (sym m.same) p.1,
           );
@@ -311,10 +185,10 @@ module _ (d : ℕ) where
     abbrev Inner : Piece Found
     Inner = Made (λ v. braces_of v.1.0 (map run_side v.1.1.0)) (Then (One g.opening_brace) (Then (g.side E) (Then rows_but (One g.closing_brace))))
 
-    in_braces : Cleans fault_of (braces_but d (g.side E)) (g.braces (g.side T))
+    in_braces : Cleans d fault_of (braces_but d (g.side E)) (g.braces (g.side T))
     in_braces =
-        let inner = both side_fault (λ v. rows_fault [] v.0) in_side (in_first (rows_fault []) (One g.closing_brace) in_rows) side_ends in
-        let all = made fault_of _ (in_second (λ v. first (side_fault v.0) (rows_fault [] v.1.0)) (One g.opening_brace) inner) in
+        let inner = both d side_fault (λ v. rows_fault [] v.0) in_side (in_first d (rows_fault []) (One g.closing_brace) in_rows) side_ends in
+        let all = made d fault_of _ (in_second d (λ v. first (side_fault v.0) (rows_fault [] v.1.0)) (One g.opening_brace) inner) in
         record { to = λ i e text u. all.to i e text (joined i e text u); avoids = λ i e text u. all.avoids i e text (joined i e text u); from = λ i e text m l. parted i e text (all.from i e text m l) }
       where
         joined : (i : ℕ) (e : Found) (text : List ℕ) → braces_but d (g.side E) i e text → Inner i e text
@@ -322,64 +196,64 @@ module _ (d : ℕ) where
             let t = u.0.is in
             let s = t.second in
             let w = s.second in
-            let rest = put w.before w.behind (w.first, u.1) w.second w.spelled in
-            record { made_of = u.0.made_of; is = put t.before t.behind t.first (put s.before s.behind s.first rest s.spelled) t.spelled; same = u.0.same }
+            let rest = then_as w.before w.behind (w.first, u.1) w.second w.spelled in
+            record { made_of = u.0.made_of; is = then_as t.before t.behind t.first (then_as s.before s.behind s.first rest s.spelled) t.spelled; same = u.0.same }
 
         parted : (i : ℕ) (e : Found) (text : List ℕ) → Inner i e text → braces_but d (g.side E) i e text
         parted i e text m =
             let t = m.is in
             let s = t.second in
             let w = s.second in
-            let rest = put w.before w.behind w.first.0 w.second w.spelled in
-            (record { made_of = m.made_of; is = put t.before t.behind t.first (put s.before s.behind s.first rest s.spelled) t.spelled; same = m.same }, w.first.1)
+            let rest = then_as w.before w.behind w.first.0 w.second w.spelled in
+            (record { made_of = m.made_of; is = then_as t.before t.behind t.first (then_as s.before s.behind s.first rest s.spelled) t.spelled; same = m.same }, w.first.1)
 
   -- ---- operands, questions and lines
 
-  in_enclosed : {Q R : Piece Found} → Cleans fault_of Q R → Cleans fault_of (g.enclosed Q) (g.enclosed R)
-  in_enclosed r = made fault_of _ (in_second (λ v. v.1.0.fault) _ (in_second (λ v. v.0.fault) blanks (in_first fault_of (Then blanks (One g.closing_paren)) r)))
+  in_enclosed : {Q R : Piece Found} → Cleans d fault_of Q R → Cleans d fault_of (g.enclosed Q) (g.enclosed R)
+  in_enclosed r = made d fault_of _ (in_second d (λ v. v.1.0.fault) _ (in_second d (λ v. v.0.fault) blanks (in_first d fault_of (Then blanks (One g.closing_paren)) r)))
 
-  in_names : (format : Format) {Q R : Piece Found} → Cleans fault_of Q R → Cleans fault_with (g.with_names format (g.whole_piece Q)) (g.with_names format (g.whole_piece R))
-  in_names formats.One r = made fault_with _ r
-  in_names formats.Two r = or_clean fault_with (made fault_with _ r) (made fault_with _ same)
+  in_names : (format : Format) {Q R : Piece Found} → Cleans d fault_of Q R → Cleans d fault_with (g.with_names format (g.whole_piece Q)) (g.with_names format (g.whole_piece R))
+  in_names formats.One r = made d fault_with _ r
+  in_names formats.Two r = or_clean d fault_with (made d fault_with _ r) (made d fault_with _ (same d))
 
-  boards : Cleans fault_of (Or g.board g.octal_piece) (Or g.board g.octal_piece)
-  boards = or_clean fault_of (or_clean fault_of (made fault_of _ same) (made fault_of _ same)) (made fault_of _ same)
+  boards : Cleans d fault_of (Or g.board g.octal_piece) (Or g.board g.octal_piece)
+  boards = or_clean d fault_of (or_clean d fault_of (made d fault_of _ (same d)) (made d fault_of _ (same d))) (made d fault_of _ (same d))
 
-  in_special : (format : Format) (most : ℕ) → Cleans fault_with (special_but d format most) (g.special format most)
+  in_special : (format : Format) (most : ℕ) → Cleans d fault_with (special_but d format most) (g.special format most)
   unfolding g.special special_but
   in_special format zero =
-      in_names format (or_clean fault_of (made fault_of _ same) (or_clean fault_of (made fault_of _ same) boards))
+      in_names format (or_clean d fault_of (made d fault_of _ (same d)) (or_clean d fault_of (made d fault_of _ (same d)) boards))
   in_special format (suc most) =
       let e = in_expr (in_special format most) (special_lies format most) in
       let x = expr_lies (special_lies format most) in
-      in_names format (or_clean fault_of (made fault_of _ same) (or_clean fault_of (made fault_of _ same)
-      (or_clean fault_of (in_braces e x) (or_clean fault_of (in_enclosed e) boards))))
+      in_names format (or_clean d fault_of (made d fault_of _ (same d)) (or_clean d fault_of (made d fault_of _ (same d))
+      (or_clean d fault_of (in_braces e x) (or_clean d fault_of (in_enclosed e) boards))))
 
-  module _ {E T : Piece Found} (r : Cleans fault_of E T) (x : AllLie fault_of T) where
-    in_pair : Cleans (λ v. first v.0.fault v.1.fault) (g.with_semicolon E E) (g.with_semicolon T T)
+  module _ {E T : Piece Found} (r : Cleans d fault_of E T) (x : AllLie fault_of T) where
+    in_pair : Cleans d (λ v. first v.0.fault v.1.fault) (g.with_semicolon E E) (g.with_semicolon T T)
     in_pair =
-        made (λ v. first v.0.fault v.1.fault) (λ v. (v.0, v.1.1.1))
-        (both fault_of (λ v. v.1.1.fault) (padded fault_of r) (in_second (λ v. v.1.fault) (One g.semicolon) (in_second fault_of blanks r))
+        made d (λ v. first v.0.fault v.1.fault) (λ v. (v.0, v.1.1.1))
+        (both d fault_of (λ v. v.1.1.fault) (padded d fault_of r) (in_second d (λ v. v.1.fault) (One g.semicolon) (in_second d fault_of blanks r))
         (λ i v text is c e. ((made_lie fault_of (λ v. v.0) (first_lies fault_of blanks x)).lie i v text is c e).1))
 
     abbrev asked_fault : Asked → Option ℕ
     asked_fault q = q.fault
 
-    in_query : Cleans asked_fault (g.query E) (g.query T)
+    in_query : Cleans d asked_fault (g.query E) (g.query T)
     in_query =
-        or_clean asked_fault (made asked_fault _ (in_second (λ v. v.1.fault) g.asking (in_second fault_of gap r)))
-        (or_clean asked_fault (made asked_fault _ (in_second (λ v. first v.1.0.fault v.1.1.fault) g.asking_both (in_second (λ v. first v.0.fault v.1.fault) gap in_pair)))
-        (made asked_fault _ (in_second (λ v. first v.1.0.0.fault v.1.0.1.fault) (Word (codes "check") (tt {0})) (in_second (λ v. first v.0.0.fault v.0.1.fault) gap
-        (made (λ v. first v.0.0.fault v.0.1.fault) (λ v. (v.0, v.1.1.1)) (in_first (λ v. first v.0.fault v.1.fault) (Then (One g.semicolon) (Then blanks g.string)) (padded (λ v. first v.0.fault v.1.fault) in_pair)))))))
+        or_clean d asked_fault (made d asked_fault _ (in_second d (λ v. v.1.fault) g.asking (in_second d fault_of gap r)))
+        (or_clean d asked_fault (made d asked_fault _ (in_second d (λ v. first v.1.0.fault v.1.1.fault) g.asking_both (in_second d (λ v. first v.0.fault v.1.fault) gap in_pair)))
+        (made d asked_fault _ (in_second d (λ v. first v.1.0.0.fault v.1.0.1.fault) (Word (codes "check") (tt {0})) (in_second d (λ v. first v.0.0.fault v.0.1.fault) gap
+        (made d (λ v. first v.0.0.fault v.0.1.fault) (λ v. (v.0, v.1.1.1)) (in_first d (λ v. first v.0.fault v.1.fault) (Then (One g.semicolon) (Then blanks g.string)) (padded d (λ v. first v.0.fault v.1.fault) in_pair)))))))
 
     abbrev stated_fault : Stated → Option ℕ
     stated_fault a = a.fault
 
-    in_line : (format : Format) → Cleans stated_fault (line_by format E) (line_by format T)
-    in_line formats.One = made stated_fault _ (spaced asked_fault (padded asked_fault in_query))
+    in_line : (format : Format) → Cleans d stated_fault (line_by format E) (line_by format T)
+    in_line formats.One = made d stated_fault _ (spaced d asked_fault (padded d asked_fault in_query))
     in_line formats.Two =
-        spaced stated_fault (padded stated_fault (or_clean stated_fault (made stated_fault _ in_query)
-        (made stated_fault _ (in_second (λ v. v.1.1.1.fault) g.name (in_second (λ v. v.1.1.fault) blanks (in_second (λ v. v.1.fault) (Word (codes ":=") (tt {0})) (in_second fault_of blanks r)))))))
+        spaced d stated_fault (padded d stated_fault (or_clean d stated_fault (made d stated_fault _ in_query)
+        (made d stated_fault _ (in_second d (λ v. v.1.1.1.fault) g.name (in_second d (λ v. v.1.1.fault) blanks (in_second d (λ v. v.1.fault) (Word (codes ":=") (tt {0})) (in_second d fault_of blanks r)))))))
 
 -- ---- the least column
 

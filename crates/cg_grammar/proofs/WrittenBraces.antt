@@ -1,5 +1,5 @@
 -- What is written reads: sides and braces.
-use Rattle.std.proofs.Common.{◌≡◌, refl, ap, sym, ℕ, suc, ◌+◌, arith, inl, inr, List, [], ◌∷◌, ◌++◌, append-nil, map, length, None}
+use Rattle.std.proofs.Common.{◌≡◌, refl, ap, sym, ℕ, ◌+◌, arith, inl, inr, List, [], ◌∷◌, ◌++◌, append-nil, map, length, None}
 use Rattle.cg_reading.specs.Bytes.{Ends}
 use Rattle.cg_reading.specs.Pieces.{Made, Many, One, Piece, Then}
 use Rattle.cg_reading.specs.Tokens.{behind_blanks, blanks}

@@ -1,5 +1,5 @@
 -- What is written reads: switches, tinies, braces and parentheses.
-use Rattle.std.proofs.Common.{refl, ℕ, zero, suc, ◌+◌, ◌^◌, ◌<◌, inl, inr, List, [], ◌∷◌, ◌++◌, length, Bool, true, false, cond}
+use Rattle.std.proofs.Common.{refl, ℕ, zero, suc, inl, inr, List, [], ◌∷◌, ◌++◌, Bool, true, false, cond}
 use Rattle.std.specs.Prelude.{codes}
 use Rattle.cg_reading.specs.Pieces.{Piece}
 use Rattle.cg_grammar.specs.Found.{Found}

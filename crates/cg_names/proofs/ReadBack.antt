@@ -1,5 +1,5 @@
 -- Names read back: braces and whole names.
-use Rattle.std.proofs.Common.{◌≡◌, refl, ap, sym, ◌∙◌, subst, ℕ, zero, suc, ◌+◌, ◌≤◌, max, arith, inl, inr, ◌⊎◌, List, [], ◌∷◌, ◌++◌, append-nil, map, length, Option, Some, None}
+use Rattle.std.proofs.Common.{◌≡◌, refl, ap, sym, ◌∙◌, subst, ℕ, zero, suc, ◌+◌, ◌≤◌, max, arith, inl, inr, ◌⊎◌, List, [], ◌∷◌, ◌++◌, append-nil, map}
 use Rattle.std.specs.Prelude.{codes}
 use Rattle.cg_dyadic.specs.Exact.{number_text}
 use Rattle.cg_form.specs.Canonical.{Canonical}
@@ -8,17 +8,17 @@ use Rattle.cg_form.specs.Game as tree
 use Rattle.cg_form.specs.Order.{Equal}
 use Rattle.cg_form.proofs.Preorder.{le-cofinal, equal_back}
 use Rattle.cg_reading.specs.Bytes.{Ends}
-use Rattle.cg_reading.specs.Pieces.{Made, Many, Piece, Then, One}
-use Rattle.cg_reading.specs.Tokens.{behind_blanks}
-use Rattle.cg_grammar.specs.Braces.{Run_side, part_of, side_fault, side_trees}
+use Rattle.cg_reading.specs.Pieces.{Many, Piece}
+use Rattle.cg_reading.specs.Tokens.{blanks}
 use Rattle.cg_grammar.specs.Found.{Found}
 use Rattle.cg_query.specs.declared.format.Format.TheVariants as formats
 use Rattle.cg_grammar.specs.Grammar as grammar
-use Rattle.cg_grammar.specs.Grammar.{bar, comma, special}
+use Rattle.cg_grammar.specs.Grammar.{bar, special}
 use Rattle.cg_query.specs.Tree.{Tree, Trees, no_trees, trees_from, with_tree}
 use Rattle.cg_query.specs.Tree as trees
-use Rattle.cg_grammar.specs.Values.{braces_of, clean}
-use Rattle.cg_reading.proofs.Texts.{behind_none}
+use Rattle.cg_grammar.specs.Values.{clean}
+use Rattle.cg_reading.proofs.Spelled.{bytes_are, then_is}
+use Rattle.cg_grammar.proofs.WrittenBraces.{Item, braces_are, empty_side, item_is, side_is}
 use Rattle.cg_grammar.proofs.WrittenSpecials.{braces_special}
 use Rattle.cg_grammar.proofs.WrittenTerms.{expr_is, special_is}
 use Rattle.cg_names.specs.Meaning.{PositionForms, meaning, meanings}
@@ -39,38 +39,27 @@ AllMean [] (more g gs) = ⊥
 AllMean (t ∷ ts) none = ⊥
 AllMean (t ∷ ts) (more g gs) = ((forms : PositionForms) → Equal (meaning forms t) g) × AllMean ts gs
 
-abbrev next_expr : ℕ → Piece Found
-next_expr k = behind_blanks (Made (λ v. v.1) (Then (One comma) (behind_blanks (grammar.expr (grammar.special formats.One k)))))
+abbrev Expr_in : ℕ → Piece Found
+Expr_in k = grammar.expr (grammar.special formats.One k)
 
 -- names behind commas
 record Further (k : ℕ) (gs : Games) (text : List ℕ) : Type 0 where
   trees : List Tree
-  are : (i : ℕ) → Many (next_expr k) i (map clean trees) text
+  are : (i : ℕ) → Many (Item (Expr_in k)) i (map clean trees) text
   mean : AllMean trees gs
 
 -- names as one side of a brace
 record Sided (k : ℕ) (gs : Games) (text : List ℕ) : Type 0 where
   trees : List Tree
-  are : (i : ℕ) → grammar.side (grammar.expr (grammar.special formats.One k)) i (map clean trees) text
+  are : (i : ℕ) → grammar.side (Expr_in k) i (map clean trees) text
   mean : AllMean trees gs
   other : (text ≡ []) ⊎ OtherThanBar text
 
-next_is : (k i : ℕ) (t : Tree) (text : List ℕ) → ((j : ℕ) → grammar.term (grammar.special formats.One k) j (clean t) text)
-    → next_expr k i (clean t) (44 ∷ text)
-next_is k i t text m =
-    behind_none (Made (λ v. v.1) (Then (One comma) (behind_blanks (grammar.expr (grammar.special formats.One k))))) i (clean t) (44 ∷ text)
-    (record {
-      made_of = (44, clean t);
-      is = record {
-        before = 44 ∷ [];
-        behind = text;
-        first = record { within = refl; spelled = refl };
-        second = behind_none (grammar.expr (grammar.special formats.One k)) (i + 0 + 1) (clean t) text
-            (expr_is (grammar.special formats.One k) (i + 0 + 1 + 0) t text (m (i + 0 + 1 + 0)));
-        spelled = refl;
-      };
-      same = refl;
-    })
+read_expr : (k : ℕ) (g : Game) (text : List ℕ) (r : Reading k g text) (i : ℕ) → Expr_in k i (clean r.tree) text
+read_expr k g text r i = expr_is (grammar.special formats.One k) i r.tree text (r.is i)
+
+no_blanks : (j : ℕ) → blanks j [] []
+no_blanks j = bytes_are refl
 
 further_none : (k : ℕ) → Further k none []
 unfolding AllMean
@@ -81,148 +70,29 @@ further_more : (k : ℕ) (g : Game) (gs : Games) (name rest : List ℕ) → Read
 unfolding AllMean
 further_more k g gs name rest r f = record {
   trees = r.tree ∷ f.trees;
-  are = λ i. record {
-    before = 44 ∷ name;
-    behind = rest;
-    first = next_is k i r.tree name r.is;
-    second = f.are (i + length (44 ∷ name));
-    spelled = refl;
-  };
+  are = λ i. then_is (44 ∷ name) rest (item_is (Expr_in k) i (clean r.tree) name (read_expr k g name r)) (f.are _);
   mean = (r.means, f.mean);
 }
 
 sided_none : (k : ℕ) → Sided k none []
 unfolding AllMean
-sided_none k = record {
-  trees = [];
-  are = λ i. record {
-    made_of = ([], []);
-    is = record {
-      before = [];
-      behind = [];
-      first = record { within = refl; spelled = refl };
-      second = inr (refl, refl);
-      spelled = refl;
-    };
-    same = refl;
-  };
-  mean = tt;
-  other = inl refl;
-}
+sided_none k = record { trees = []; are = λ i. empty_side (Expr_in k) i [] no_blanks; mean = tt; other = inl refl }
 
 sided_more : (k : ℕ) (g : Game) (gs : Games) (name rest : List ℕ) → Reading k g name → Further k gs rest
     → Sided k (more g gs) (name ++ rest)
 unfolding AllMean
 sided_more k g gs name rest r f = record {
   trees = r.tree ∷ f.trees;
-  are = λ i. record {
-    made_of = ([], map clean (r.tree ∷ f.trees));
-    is = record {
-      before = [];
-      behind = name ++ rest;
-      first = record { within = refl; spelled = refl };
-      second = inl (record {
-        made_of = (map clean (r.tree ∷ f.trees), []);
-        is = record {
-          before = name ++ rest;
-          behind = [];
-          first = record {
-            made_of = (clean r.tree, map clean f.trees);
-            is = record {
-              before = name;
-              behind = rest;
-              first = expr_is (grammar.special formats.One k) (i + 0) r.tree name (r.is (i + 0));
-              second = f.are (i + 0 + length name);
-              spelled = refl;
-            };
-            same = refl;
-          };
-          second = record { within = refl; spelled = refl };
-          spelled = sym (append-nil (name ++ rest));
-        };
-        same = refl;
-      });
-      spelled = refl;
-    };
-    same = refl;
-  };
+  are = λ i. side_is (Expr_in k) i [] name rest (clean r.tree) (map clean f.trees) no_blanks (read_expr k g name r) f.are;
   mean = (r.means, f.mean);
   other = inr (other_append name rest r.other);
 }
 
 -- ---- braces
 
-clean_trees : (ts : List Tree) → side_trees (map clean ts) ≡ ts
-clean_trees [] = refl
-clean_trees (t ∷ ts) = ap (λ z. t ∷ z) (clean_trees ts)
-
-clean_fault : (ts : List Tree) → side_fault (map clean ts) ≡ None
-clean_fault [] = refl
-clean_fault (t ∷ ts) = clean_fault ts
-
-one_run : ℕ → List Tree → Run_side
-one_run column ts = record { column = column; bars = 1; side = map clean ts }
-
-braces_value : (ls rs : List Tree) (column : ℕ) → clean (trees.braces ls rs)
-    ≡ braces_of (map clean ls) (one_run column rs ∷ [])
-unfolding one_run part_of
-braces_value ls rs column = rw (clean_trees ls, clean_trees rs, clean_fault ls, clean_fault rs) refl
-
 no_bar : (text : List ℕ) → (text ≡ []) ⊎ OtherThanBar text → Ends bar (text ++ [])
-no_bar text (inl e) = let P : List ℕ → Type 0 = λ z. Ends bar (z ++ []) in subst P (sym e) tt
+no_bar text (inl e) = rw e tt
 no_bar text (inr o) = other_ends text [] o
-
-braces_are : (k i : ℕ) (ls rs : List Tree) (left right : List ℕ)
-    → ((j : ℕ) → grammar.side (grammar.expr (grammar.special formats.One k)) j (map clean ls) left)
-    → ((j : ℕ) → grammar.side (grammar.expr (grammar.special formats.One k)) j (map clean rs) right)
-    → (right ≡ []) ⊎ OtherThanBar right
-    → grammar.braces (grammar.side (grammar.expr (grammar.special formats.One k))) i (clean (trees.braces ls rs)) (braces_name left right)
-unfolding one_run
-braces_are k i ls rs left right l r o =
-    let column : ℕ = i + 1 + length left in
-    record {
-      made_of = (123, (map clean ls, (((column, 1), map clean rs) ∷ [], 125)));
-      is = record {
-        before = 123 ∷ [];
-        behind = left ++ (124 ∷ (right ++ (125 ∷ [])));
-        first = record { within = refl; spelled = refl };
-        second = record {
-          before = left;
-          behind = 124 ∷ (right ++ (125 ∷ []));
-          first = l (i + 1);
-          second = record {
-            before = 124 ∷ right;
-            behind = 125 ∷ [];
-            first = record {
-              made_of = (((column, 1), map clean rs), []);
-              is = record {
-                run = 124 ∷ [];
-                middle = right;
-                more = [];
-                is_run = (
-                  refl,
-                  record {
-                    made_of = 124 ∷ [];
-                    is = record { within = refl; some = omega arith; few = omega arith; spelled = refl };
-                    same = refl;
-                  },
-                );
-                is_side = r (column + 1);
-                is_more = refl;
-                no_bar = no_bar right o;
-                spelled = ap (λ z. 124 ∷ z) (sym (append-nil right));
-              };
-              same = refl;
-            };
-            second = record { within = refl; spelled = refl };
-            spelled = refl;
-          };
-          spelled = refl;
-        };
-        spelled = refl;
-      };
-      same = braces_value ls rs column;
-    }
 
 -- ---- what braces mean
 
@@ -264,7 +134,7 @@ braces-read : (k : ℕ) (ls rs : Games) (left right : List ℕ) → Sided k ls l
 braces-read k ls rs left right l r = record {
   tree = trees.braces l.trees r.trees;
   is = λ i. special_is (grammar.special formats.One (suc k)) i (trees.braces l.trees r.trees) (braces_name left right) (braces_special k i _ _
-      (braces_are k i l.trees r.trees left right l.are r.are r.other));
+      (braces_are (grammar.side (Expr_in k)) i l.trees r.trees left right l.are r.are (no_bar right r.other)));
   means = λ forms. braces_mean forms l.trees r.trees ls rs l.mean r.mean;
   other = refl;
 }

@@ -1,5 +1,5 @@
 -- Names as terms of the grammar, and what they mean: switches, tiny and miny, and any sign.
-use Rattle.std.proofs.Common.{◌≡◌, refl, ap, sym, ◌∙◌, subst, ℕ, ◌+◌, ◌-◌, ◌^◌, ◌<◌, arith, inl, inr, List, [], ◌∷◌, ◌++◌, length, Bool, true, false, nat_eq, ℤ, pos, negsuc, unsigned_abs}
+use Rattle.std.proofs.Common.{◌≡◌, refl, ap, sym, ◌∙◌, ℕ, ◌-◌, ◌^◌, arith, [], ◌∷◌, ◌++◌, Bool, true, false, cond, nat_eq, ℤ, pos, negsuc, unsigned_abs}
 use Rattle.std.specs.Prelude.{codes, decimal, if◌then◌else◌}
 use Rattle.std.specs.Fmt.{signed_decimal}
 use Rattle.std.proofs.lemmas.Int.{ints}
@@ -9,15 +9,13 @@ use Rattle.cg_dyadic.specs.Units.{units}
 use Rattle.cg_dyadic.proofs.Scale.{units-le, units-own}
 use Rattle.cg_dyadic.proofs.Sums.{doubled-zero}
 use Rattle.cg_form.specs.Game.{Game}
-use Rattle.cg_form.specs.Order.{Equal}
 use Rattle.cg_form.proofs.Preorder.{equal_refl}
 use Rattle.cg_query.specs.declared.format.Format.TheVariants as formats
 use Rattle.cg_grammar.specs.Grammar as grammar
 use Rattle.cg_grammar.specs.Grammar.{special}
 use Rattle.cg_query.specs.Tree.{switch, tiny}
-use Rattle.cg_grammar.proofs.WrittenSpecials.{first_special, second_special}
+use Rattle.cg_grammar.proofs.WrittenSpecials.{switch_special, tiny_special}
 use Rattle.cg_grammar.proofs.WrittenTerms.{special_is}
-use Rattle.cg_grammar.proofs.WrittenTokens.{enclosed_is}
 use Rattle.cg_grammar.specs.Values.{In_none, clean}
 use Rattle.cg_names.specs.Meaning.{fraction, meaning, or_zero}
 use Rattle.cg_names.specs.Named.{switch_form, tiny_form, zero_number}
@@ -49,87 +47,36 @@ above_text x p = ap (λ n. signed_decimal n ++ (if nat_eq (exp_of x) 0 then [] e
 above_means : (x : Number) → ¬ NumberLe x zero_number → or_zero (fraction false (size_of x) (2 ^ exp_of x)) ≡ x
 above_means x p = ap or_zero (number_means x false (sym (above_size x p)))
 
-switch_special : (k i n e : ℕ) → n < 10 ^ 30 → 2 ^ e < 10 ^ 30
-    → grammar.special formats.One k i (clean (switch n (2 ^ e)), In_none) (codes "+-" ++ size_text n e)
-switch_special k i n e l r = first_special k i (switch n (2 ^ e)) (codes "+-" ++ size_text n e) piece
-  where
-    piece : grammar.switch_piece i (clean (switch n (2 ^ e))) (codes "+-" ++ size_text n e)
-    piece = record {
-      made_of = (43, (45, (n, 2 ^ e)));
-      is = record {
-        before = 43 ∷ [];
-        behind = 45 ∷ size_text n e;
-        first = record { within = refl; spelled = refl };
-        second = record {
-          before = 45 ∷ [];
-          behind = size_text n e;
-          first = record { within = refl; spelled = refl };
-          second = number_is (i + 1 + 1) n e l r;
-          spelled = refl;
-        };
-        spelled = refl;
-      };
-      same = refl;
-    }
-
 switch-reads : (k : ℕ) (x : Number) (g : Game) → InRange x → ¬ NumberLe x zero_number → g ≡ switch_form x
     → Reading k g (codes "+-" ++ number_text x)
 unfolding meaning
-switch-reads k x g r p e =
-    let P : List ℕ → Type 0 = λ t. Reading k g (codes "+-" ++ t) in
-    let Q : Game → Type 0 = λ h. Equal h g in
-    subst P (sym (above_text x p)) (record {
-      tree = switch (size_of x) (2 ^ exp_of x);
-      is = λ i. special_is (grammar.special formats.One k) i _ _ (switch_special k i (size_of x) (exp_of x) (few_digits x r) (few_below (exp_of x) r.short));
-      means = λ forms. subst Q (e ∙ sym (ap switch_form (above_means x p))) (equal_refl g);
-      other = refl;
-    })
+switch-reads k x g r p e = rw (above_text x p) (record {
+  tree = switch (size_of x) (2 ^ exp_of x);
+  is = λ i. special_is (grammar.special formats.One k) i _ _ (switch_special k i (size_of x) (2 ^ exp_of x) (size_text (size_of x) (exp_of x))
+      (λ j. number_is j (size_of x) (exp_of x) (few_digits x r) (few_below (exp_of x) r.short)));
+  means = λ forms. rw (← (e ∙ sym (ap switch_form (above_means x p)))) (equal_refl g);
+  other = refl;
+})
 
-tiny_special : (k i : ℕ) (miny : Bool) (n e : ℕ) → n < 10 ^ 30 → 2 ^ e < 10 ^ 30
-    → grammar.special formats.One k i (clean (tiny miny n (2 ^ e)), In_none) (tiny_word miny ++ (size_text n e ++ codes ")"))
-tiny_special k i miny n e l r =
-    second_special k i (tiny miny n (2 ^ e)) (tiny_word miny ++ (size_text n e ++ codes ")")) (piece miny)
-  where
-    inner : (j : ℕ) → grammar.enclosed grammar.number j (n, 2 ^ e) (40 ∷ (size_text n e ++ codes ")"))
-    inner j = enclosed_is grammar.number j (n, 2 ^ e) (size_text n e) (λ h. number_is h n e l r)
-
-    piece : (m : Bool) → grammar.tiny_piece i (clean (tiny m n (2 ^ e))) (tiny_word m ++ (size_text n e ++ codes ")"))
-    piece false = record {
-      made_of = (false, (n, 2 ^ e));
-      is = record {
-        before = codes "Tiny";
-        behind = 40 ∷ (size_text n e ++ codes ")");
-        first = inl (refl, refl);
-        second = inner (i + length (codes "Tiny"));
-        spelled = refl;
-      };
-      same = refl;
-    }
-    piece true = record {
-      made_of = (true, (n, 2 ^ e));
-      is = record {
-        before = codes "Miny";
-        behind = 40 ∷ (size_text n e ++ codes ")");
-        first = inr (refl, refl);
-        second = inner (i + length (codes "Miny"));
-        spelled = refl;
-      };
-      same = refl;
-    }
+tiny_words : (miny : Bool) → tiny_word miny ≡ cond miny (codes "Miny(") (codes "Tiny(")
+tiny_words false = refl
+tiny_words true = refl
 
 tiny-reads : (k : ℕ) (miny : Bool) (x : Number) (g : Game) → InRange x → ¬ NumberLe x zero_number → g ≡ tiny_form miny x
     → Reading k g (tiny_word miny ++ (number_text x ++ codes ")"))
 unfolding meaning
-tiny-reads k miny x g r p e =
-    let P : List ℕ → Type 0 = λ t. Reading k g (tiny_word miny ++ (t ++ codes ")")) in
-    let Q : Game → Type 0 = λ h. Equal h g in
-    subst P (sym (above_text x p)) (record {
-      tree = tiny miny (size_of x) (2 ^ exp_of x);
-      is = λ i. special_is (grammar.special formats.One k) i _ _ (tiny_special k i miny (size_of x) (exp_of x) (few_digits x r) (few_below (exp_of x) r.short));
-      means = λ forms. subst Q (e ∙ sym (ap (tiny_form miny) (above_means x p))) (equal_refl g);
-      other = word_other miny;
-    })
+tiny-reads k miny x g r p e = rw (above_text x p) (record {
+  tree = tiny miny (size_of x) (2 ^ exp_of x);
+  is = λ i. special_is (grammar.special formats.One k) i _ _ (worded i miny);
+  means = λ forms. rw (← (e ∙ sym (ap (tiny_form miny) (above_means x p)))) (equal_refl g);
+  other = word_other miny;
+})
   where
+    worded : (i : ℕ) (m : Bool)
+        → grammar.special formats.One k i (clean (tiny m (size_of x) (2 ^ exp_of x)), In_none) (tiny_word m ++ (size_text (size_of x) (exp_of x) ++ codes ")"))
+    worded i m = rw (tiny_words m) (tiny_special k i m (size_of x) (2 ^ exp_of x) (size_text (size_of x) (exp_of x))
+        (λ j. number_is j (size_of x) (exp_of x) (few_digits x r) (few_below (exp_of x) r.short)))
+
     word_other : (m : Bool) → OtherThanBar (tiny_word m ++ (size_text (size_of x) (exp_of x) ++ codes ")"))
     word_other false = refl
     word_other true = refl

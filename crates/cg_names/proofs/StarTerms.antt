@@ -1,5 +1,5 @@
 -- Names as terms of the grammar, and what they mean: nimbers and arrows.
-use Rattle.std.proofs.Common.{◌≡◌, refl, sym, subst, ℕ, ◌+◌, ◌^◌, ◌<◌, ◌≤◌, inl, inr, List, ◌++◌, length, Bool, true, false, cond, Some, None}
+use Rattle.std.proofs.Common.{◌≡◌, refl, sym, subst, ℕ, ◌^◌, ◌<◌, ◌≤◌, inl, inr, List, ◌++◌, Bool, true, false, cond, Some, None}
 use Rattle.cg_dyadic.specs.Exact.{number_text}
 use Rattle.cg_dyadic.specs.Number.{InRange, Number}
 use Rattle.cg_form.specs.Game.{Game}
@@ -11,6 +11,7 @@ use Rattle.cg_query.specs.declared.format.Format.TheVariants as formats
 use Rattle.cg_grammar.specs.Grammar as grammar
 use Rattle.cg_grammar.specs.Grammar.{special}
 use Rattle.cg_query.specs.Tree.{Tree, nimber, ups}
+use Rattle.cg_reading.proofs.Spelled.{made_is, then_is}
 use Rattle.cg_grammar.proofs.WrittenTokens.{arrow_of}
 use Rattle.cg_grammar.specs.Values.{clean}
 use Rattle.cg_names.specs.Meaning.{PositionForms, meaning}
@@ -19,7 +20,7 @@ use Rattle.cg_names.specs.Signs.{arrows_text, base_text, star_text}
 use Rattle.cg_names.proofs.StarredUps.{ups-plus_star}
 use Rattle.cg_form.proofs.EqualGames.{equal_assoc}
 use Rattle.cg_nimbers.proofs.IntegerMultiples.{sum_second}
-use Rattle.cg_names.proofs.Tokens.{nim_is, other_append, ups_are, ups_other}
+use Rattle.cg_names.proofs.Tokens.{other_append, star_is, ups_are, ups_other}
 use Rattle.cg_names.proofs.Terms.{alone, arrows_tail, base_gone, base_there, joined, nim_tail, number_other, number_term, number_tree, optional_nim, starred_text, starred_tree, tree-number, zero_or_not, Reading}
 
 pub star-reads : (k : ℕ) (x : Number) (n : ℕ) (g : Game) → InRange x → n < 10 ^ 30
@@ -30,7 +31,7 @@ star-reads k x n g r l e = elim (zero_or_not x) [
       let P : List ℕ → Type 0 = λ t. Reading k g (t ++ star_text n) in
       subst P (sym (base_gone x z)) (record {
         tree = nimber n;
-        is = λ i. inr (inr (inr (inl (record { made_of = nimber n; is = nim_is i n l; same = refl }))));
+        is = λ i. inr (inr (inr (inl (made_is (nimber n) (star_is i n l)))));
         means = λ forms. equal_back g (nimber_form n) (alone x (nimber_form n) (nimber_form n) g z e (equal_refl (nimber_form n)));
         other = refl;
       })
@@ -74,17 +75,8 @@ alone_is : (k i : ℕ) (down starred : Bool) (n : ℕ) → 1 ≤ n → n < 10 ^ 
     → grammar.term (grammar.special formats.One k) i (clean (alone_tree down starred n))
     (arrows_text (arrow_of down) n ++ starred_text starred)
 unfolding alone_tree
-alone_is k i down starred n s l = inr (inr (inl (record {
-  made_of = (ups down n, starred_tree starred);
-  is = record {
-    before = arrows_text (arrow_of down) n;
-    behind = starred_text starred;
-    first = ups_are i down n s l;
-    second = optional_nim (i + length (arrows_text (arrow_of down) n)) starred;
-    spelled = refl;
-  };
-  same = refl;
-})))
+alone_is k i down starred n s l = inr (inr (inl (made_is (ups down n, starred_tree starred)
+    (then_is (arrows_text (arrow_of down) n) (starred_text starred) (ups_are i down n s l) (optional_nim _ starred)))))
 
 behind_means : (forms : PositionForms) (x : Number) (down starred : Bool) (n : ℕ)
     → Equal (meaning forms (joined (number_tree x) (Some (ups down n), starred_tree starred)))

@@ -1,11 +1,11 @@
 -- Names as terms of the grammar, and what they mean: numbers, and what may stand behind them.
-use Rattle.std.proofs.Common.{◌≡◌, refl, ap, sym, subst, ℕ, suc, ◌+◌, ◌^◌, ◌<◌, ◌≤◌, arith, inl, inr, ◌⊎◌, List, [], ◌∷◌, ◌++◌, append-nil, length, Bool, true, false, cond, nat_eq, Option, Some, None, ℤ, pos, negsuc, unsigned_abs}
+use Rattle.std.proofs.Common.{◌≡◌, refl, ap, ℕ, suc, ◌^◌, ◌<◌, ◌≤◌, arith, inl, inr, ◌⊎◌, List, [], ◌∷◌, ◌++◌, append-nil, Bool, true, false, cond, nat_eq, Option, Some, None, ℤ, pos, negsuc, unsigned_abs}
 use Rattle.std.specs.Prelude.{decimal, if◌then◌else◌}
 use Rattle.std.proofs.Math.Pow.{pow-lt}
 use Rattle.std.specs.Fmt.{signed_decimal}
 use Rattle.std.proofs.lemmas.Int.{ints}
 use Rattle.cg_dyadic.specs.Exact.{number_text, signed_of}
-use Rattle.cg_dyadic.specs.Number.{InRange, IsFraction, Number, exp_of, num_of}
+use Rattle.cg_dyadic.specs.Number.{InRange, Number, exp_of, num_of}
 use Rattle.cg_dyadic.proofs.Fractions.{fraction-own}
 use Rattle.cg_dyadic.proofs.Truth.{true_or_false}
 use Rattle.cg_form.specs.Game.{Game}
@@ -15,22 +15,22 @@ use Rattle.cg_form.specs.Structure.{is_same}
 use Rattle.cg_form.specs.Sum.{sum}
 use Rattle.cg_form.proofs.Preorder.{equal_refl, equal_trans}
 use Rattle.cg_form.proofs.Structure.{is_same-back}
-use Rattle.cg_reading.specs.Bytes.{Ends}
 use Rattle.cg_reading.specs.Pieces.{Piece}
 use Rattle.cg_grammar.specs.Found.{Found}
 use Rattle.cg_query.specs.declared.format.Format.TheVariants as formats
 use Rattle.cg_grammar.specs.Grammar as grammar
 use Rattle.cg_grammar.specs.Grammar.{special}
 use Rattle.cg_query.specs.Tree.{Tree, nimber, number, ups}
-use Rattle.cg_grammar.proofs.WrittenTerms.{no_tail_is}
+use Rattle.cg_reading.proofs.Spelled.{made_is, then_is}
+use Rattle.cg_grammar.proofs.WrittenTerms.{below_is, counted_is, no_tail_is}
 use Rattle.cg_grammar.proofs.WrittenTokens.{arrow_of}
-use Rattle.cg_grammar.specs.Values.{Last, clean, some_term, together, whole}
+use Rattle.cg_grammar.specs.Values.{Last, clean, some_term, together}
 use Rattle.cg_names.specs.Meaning.{PositionForms, fraction, meaning, or_zero}
 use Rattle.cg_names.specs.Named.{zero_form}
 use Rattle.cg_names.specs.Signs.{arrows_text, base_text, star_text}
 use Rattle.cg_names.proofs.Literals.{quotient-fraction}
 use Rattle.cg_nimbers.proofs.IntegerMultiples.{zero_sum}
-use Rattle.cg_names.proofs.Tokens.{OtherThanBar, decimal_other, nim_is, number_is, other_append, size_text, ups_are}
+use Rattle.cg_names.proofs.Tokens.{OtherThanBar, decimal_other, number_is, other_append, size_text, star_is, ups_are}
 
 -- a name as a term with so many braces open at most: what it reads as, and that this means the game
 pub record Reading (k : ℕ) (g : Game) (text : List ℕ) : Type 0 where
@@ -61,7 +61,7 @@ pub number_means : (x : Number) (b : Bool) → signed_of b (size_of x) ≡ num_o
 number_means x b e = quotient-fraction b (size_of x) (2 ^ exp_of x) x (record {
   exp = exp_of x;
   power = refl;
-  value = let P : ℤ → Type 0 = λ n. IsFraction n (exp_of x) x in subst P (sym e) (fraction-own x);
+  value = rw e (fraction-own x);
 })
 
 pub tree-number : (forms : PositionForms) (x : Number) → meaning forms (number_tree x) ≡ tree.number x
@@ -82,27 +82,7 @@ Tail = Option Tree × Option Tree
 abbrev pub joined : Tree → Tail → Tree
 joined t v = together t (some_term v.0 ++ some_term v.1)
 
-pub none_ends : (bytes : List ℕ) → Ends [] bytes
-none_ends [] = tt
-none_ends (b ∷ bytes) = refl
-
 module _ (special : Piece (Found × Last)) where
-  pub counted_is : (i : ℕ) (below : Bool) (n e : ℕ) (v : Tail) (rest : List ℕ) → n < 10 ^ 30 → 2 ^ e < 10 ^ 30
-      → ((j : ℕ) → grammar.tail j v rest)
-      → grammar.counted_tail special below i (clean (joined (number below n (2 ^ e)) v)) (size_text n e ++ rest)
-  counted_is i below n e v rest l r t = record {
-    made_of = (whole n (2 ^ e), v);
-    is = record {
-      before = size_text n e;
-      behind = rest;
-      first = inl (record { made_of = (n, 2 ^ e); is = number_is i n e l r; same = refl });
-      second = t (i + length (size_text n e));
-      ended = none_ends rest;
-      spelled = refl;
-    };
-    same = refl;
-  }
-
   -- n / 2 ^ e with its sign, and its tail
   abbrev pub number_piece : ℕ → Tail → List ℕ → ℕ → ℤ → Type 0
   number_piece i v rest e n =
@@ -112,18 +92,10 @@ module _ (special : Piece (Found × Last)) where
   pub signed_is : (i e : ℕ) (n : ℤ) (v : Tail) (rest : List ℕ) → unsigned_abs n < 10 ^ 30 → 2 ^ e < 10 ^ 30
       → ((j : ℕ) → grammar.tail j v rest) → number_piece i v rest e n
   unfolding is_below
-  signed_is i e (pos n) v rest l d t = inl (inr (counted_is i false n e v rest l d t))
-  signed_is i e (negsuc n) v rest l d t = inl (inl (record {
-    made_of = (45, clean (joined (number true (suc n) (2 ^ e)) v));
-    is = record {
-      before = 45 ∷ [];
-      behind = size_text (suc n) e ++ rest;
-      first = record { within = refl; spelled = refl };
-      second = counted_is (i + 1) true (suc n) e v rest l d t;
-      spelled = refl;
-    };
-    same = refl;
-  }))
+  signed_is i e (pos n) v rest l d t =
+      inl (inr (counted_is special i false n (2 ^ e) v (size_text n e) rest (size_text n e ++ rest) (number_is i n e l d) t refl))
+  signed_is i e (negsuc n) v rest l d t =
+      below_is special i (suc n) (2 ^ e) v (size_text (suc n) e) rest (size_text (suc n) e ++ rest) (λ j. number_is j (suc n) e l d) t refl
 
   pub number_term : (i : ℕ) (x : Number) (v : Tail) (rest : List ℕ) → InRange x → ((j : ℕ) → grammar.tail j v rest)
       → grammar.term special i (clean (joined (number_tree x) v)) (number_text x ++ rest)
@@ -135,13 +107,7 @@ abbrev pub no_tail : Tail
 no_tail = (None, None)
 
 pub nim_tail : (n : ℕ) → n < 10 ^ 30 → (j : ℕ) → grammar.tail j (None, Some (nimber n)) (star_text n)
-nim_tail n l j = record {
-  before = [];
-  behind = star_text n;
-  first = inr (refl, refl);
-  second = inl (record { made_of = nimber n; is = nim_is (j + 0) n l; same = refl });
-  spelled = refl;
-}
+nim_tail n l j = then_is [] (star_text n) (inr (refl, refl)) (inl (made_is (nimber n) (star_is _ n l)))
 
 -- what stands behind arrows
 abbrev pub starred_tree : Bool → Option Tree
@@ -155,25 +121,19 @@ small = omega arith
 
 pub optional_nim : (j : ℕ) (starred : Bool) → grammar.optional grammar.nim j (starred_tree starred) (starred_text starred)
 optional_nim j false = inr (refl, refl)
-optional_nim j true = inl (record { made_of = nimber 1; is = nim_is j 1 small; same = refl })
+optional_nim j true = inl (made_is (nimber 1) (star_is j 1 small))
 
 pub arrows_tail : (down starred : Bool) (n : ℕ) → 1 ≤ n → n < 10 ^ 30 → (j : ℕ)
     → grammar.tail j (Some (ups down n), starred_tree starred) (arrows_text (arrow_of down) n ++ starred_text starred)
-arrows_tail down starred n s l j = record {
-  before = arrows_text (arrow_of down) n;
-  behind = starred_text starred;
-  first = inl (record { made_of = ups down n; is = ups_are j down n s l; same = refl });
-  second = optional_nim (j + length (arrows_text (arrow_of down) n)) starred;
-  spelled = refl;
-}
+arrows_tail down starred n s l j = then_is (arrows_text (arrow_of down) n) (starred_text starred)
+    (inl (made_is (ups down n) (ups_are j down n s l))) (optional_nim _ starred)
 
 -- ---- names with signs
 
 pub plain_number : (special : Piece (Found × Last)) (i : ℕ) (x : Number) → InRange x
     → grammar.term special i (clean (number_tree x)) (number_text x)
 plain_number special i x r =
-    let P : List ℕ → Type 0 = λ z. grammar.term special i (clean (number_tree x)) z in
-    subst P (append-nil (number_text x)) (number_term special i x no_tail [] r no_tail_is)
+    rw append-nil at (number_term special i x no_tail [] r no_tail_is)
 
 pub signed_other : (n : ℤ) (rest : List ℕ) → unsigned_abs n < 10 ^ 30 → OtherThanBar (signed_decimal n ++ rest)
 signed_other (pos n) rest l = other_append (decimal n) rest (decimal_other n l)
@@ -186,8 +146,7 @@ pub number-reads : (k : ℕ) (x : Number) → InRange x → Reading k (tree.numb
 number-reads k x r = record {
   tree = number_tree x;
   is = λ i. plain_number (grammar.special formats.One k) i x r;
-  means = λ forms. let P : Game → Type 0 = λ z. Equal z (tree.number x) in
-      subst P (sym (tree-number forms x)) (equal_refl (tree.number x));
+  means = λ forms. rw (tree-number forms x) (equal_refl (tree.number x));
   other = number_other x r;
 }
 
@@ -205,6 +164,5 @@ base_there x e = ap (λ b. cond b [] (number_text x)) e
 pub alone : (x : Number) (g h k : Game) → is_same (tree.number x) zero_form ≡ true → Equal k (sum (tree.number x) g) → Equal g h
     → Equal k h
 alone x g h k e f q =
-    let P : Game → Type 0 = λ z. Equal k (sum z g) in
-    equal_trans k (sum zero_form g) h (subst P (is_same-back (tree.number x) zero_form e) f)
+    equal_trans k (sum zero_form g) h (rw (is_same-back (tree.number x) zero_form e) at f)
     (equal_trans (sum zero_form g) g h (zero_sum g) q)

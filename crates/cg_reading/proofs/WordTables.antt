@@ -12,9 +12,6 @@ use Rattle.cg_reading.proofs.Laws.{kept, stuck, past, Agree, Lawful, Outcome, Ta
 
 -- ---- fronts
 
-true_is_not : true ≡ false → ⊥
-true_is_not e = cc
-
 not_true : (b : Bool) → not b ≡ true → b ≡ true → ⊥
 not_true true e f = cc
 not_true false e f = cc

@@ -38,8 +38,7 @@ weighted_cells weights (c ∷ cells) e =
 pub rules_over : (book : Rulebook) (p : Grid) (rules : List Rule) → rules ≡ book.rules → IsRulebook book
     → is_strip_board book p ≡ true → All (IsRuleOver p.symbols) rules
 rules_over book p rules same sound has =
-    let P : List Rule → Type 0 = λ z. All (IsRuleOver p.symbols) z in
-    subst P (sym same) (λ k d below.
+    rw same (λ k d below.
     let r = get_or book.rules k d in
     let is = sound.rules k d below in
     let symbols = sym (board_parts book p has).symbols in

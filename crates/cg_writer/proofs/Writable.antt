@@ -79,7 +79,7 @@ module _ (E : Piece Found) (f : (i : ℕ) (e : Found) (text : List ℕ) → E i 
       subst P (sym m.same) (f _ _ _ m.is.first, next_writable m.made_of.1 _ _ m.is.second)
 
   one_side_writable : (i : ℕ) (es : List Found) (text : List ℕ) → grammar.side E i es text → AllW es
-  one_side_writable i es text m = let P : List Found → Type 0 = λ z. AllW z in subst P (sym m.same) (by _ _ _ m.is.second)
+  one_side_writable i es text m = rw m.same (by _ _ _ m.is.second)
     where
       by : (j : ℕ) (gs : List Found) (t : List ℕ)
           → (with_blanks (grammar.exprs E) j gs t) ⊎ ((gs ≡ []) × (t ≡ [])) → AllW gs
@@ -95,9 +95,8 @@ module _ (E : Piece Found) (f : (i : ℕ) (e : Found) (text : List ℕ) → E i 
   braces_writable i e text m =
       let n = m.is.second in
       let b = n.second.first in
-      let P : List ((ℕ × ℕ) × List Found) → Type 0 = λ z. AllRows (map run_side z) in
       found_at e _ m.same (only_writable _ (part_writable 8 _ _ (one_side_writable _ _ _ n.first)
-      (subst P (sym b.same) (one_side_writable _ _ _ b.is.is_side, rows_writable _ _ _ b.is.is_more))))
+      (rw b.same (one_side_writable _ _ _ b.is.is_side, rows_writable _ _ _ b.is.is_more))))
 
   paren_writable : (i : ℕ) (e : Found) (text : List ℕ) → grammar.enclosed E i e text → W e
   paren_writable i e text m =
@@ -106,7 +105,7 @@ module _ (E : Piece Found) (f : (i : ℕ) (e : Found) (text : List ℕ) → E i 
 -- an operand that is no name
 alone : (R : Piece Found) → ((i : ℕ) (e : Found) (text : List ℕ) → R i e text → W e) → (i : ℕ) (e : Found × Last) (text : List ℕ)
     → grammar.whole_piece R i e text → W e.0
-alone R f i e text m = let P : Found × Last → Type 0 = λ z. W z.0 in subst P (sym m.same) (f _ _ _ m.is)
+alone R f i e text m = rw m.same (f _ _ _ m.is)
 
 plain_writable : (i : ℕ) (e : Found) (text : List ℕ)
     → (grammar.switch_piece i e text) ⊎ ((grammar.tiny_piece i e text) ⊎ ((grammar.board i e text) ⊎ (grammar.octal_piece i e text))) → W e
@@ -146,7 +145,7 @@ abbrev Asks : Asked → Type 0
 Asks a = IsAskable a.question
 
 asked_at : (a b : Asked) → a ≡ b → Asks b → Asks a
-asked_at a b e w = let P : Asked → Type 0 = λ z. IsAskable z.question in subst P (sym e) w
+asked_at a b e w = rw e w
 
 asking_writable : (i : ℕ) (ask : Tree → Question) (text : List ℕ) (t : Tree) → grammar.asking i ask text → IsWritable t
     → IsAskable (ask t)
@@ -186,10 +185,8 @@ record Divided {A B : Type 0} (R : Piece A) (S : Piece B) (v : A × B) : Type 0 
 divided : {A B : Type 0} (R : Piece A) (S : Piece B) (i : ℕ) (v : A × B) (text : List ℕ) → grammar.with_semicolon R S i v text
     → Divided R S v
 divided {A} {B} R S i v text m =
-    let P : A × B → Type 0 = λ z. Divided R S z in
-    let Q : A → Type 0 = λ z. Divided R S (z, m.made_of.1.1.1) in
     let w = m.is.first in
-    subst P (sym m.same) (subst Q (sym w.same) (record {
+    rw m.same (rw w.same (record {
       column = _;
       before = _;
       first = w.is.first;

@@ -17,24 +17,23 @@ use Rattle.cg_query.specs.declared.kind.GameKind.TheVariants.{Domineering, Clobb
 digits_low : (i n : ℕ) (text : List ℕ) → digits i n text → n < 10 ^ 30
 digits_low i n text m =
     let low : digits_value 10 m.made_of < 10 ^ 30 = digits_below 30 m.made_of m.is.within m.is.few in
-    let P : ℕ → Type 0 = λ k. k < 10 ^ 30 in
-    subst P (sym m.same) low
+    rw m.same low
 
 number_low : (i : ℕ) (v : ℕ × ℕ) (text : List ℕ) → grammar.number i v text → (v.0 < 10 ^ 30) × (v.1 < 10 ^ 30)
 number_low i v text m = (digits_low _ v.0 _ m.first, by m.second)
   where
     by : {j : ℕ} {t : List ℕ} → (Made (λ w. w.1) (Then (One grammar.slash) digits) j v.1 t) ⊎ ((v.1 ≡ 1) × (t ≡ [])) → v.1 < 10 ^ 30
-    by (inl w) = let P : ℕ → Type 0 = λ k. k < 10 ^ 30 in subst P (sym w.same) (digits_low _ _ _ w.is.second)
+    by (inl w) = rw w.same (digits_low _ _ _ w.is.second)
     by (inr w) = omega (arith, w.0)
 
 abbrev pub W : Found → Type 0
 W e = IsWritable e.tree
 
 at : (t u : Tree) → t ≡ u → IsWritable u → IsWritable t
-at t u e w = let P : Tree → Type 0 = λ z. IsWritable z in subst P (sym e) w
+at t u e w = rw e w
 
 pub found_at : (e f : Found) → e ≡ f → W f → W e
-found_at e f q w = let P : Found → Type 0 = λ z. IsWritable z.tree in subst P (sym q) w
+found_at e f q w = rw q w
 
 nim_writable : (i : ℕ) (t : Tree) (text : List ℕ) → grammar.nim i t text → IsWritable t
 nim_writable i t text m = at t (nimber m.made_of.1) m.same (by m.is.second)
@@ -47,7 +46,7 @@ ups_writable : (i : ℕ) (t : Tree) (text : List ℕ) → Made ups_tree grammar.
 ups_writable i t text m = at t (ups_tree m.made_of) m.same tt
 
 pub printable_is : (i : ℕ) (bs text : List ℕ) → grammar.string i bs text → IsPrintable bs
-printable_is i bs text m = let P : List ℕ → Type 0 = λ z. IsPrintable z in subst P (sym m.same) m.is.second.first.within
+printable_is i bs text m = rw m.same m.is.second.first.within
 
 -- ---- operands without expressions in them
 
@@ -61,8 +60,7 @@ pub record Inside {A : Type 0} (R : Piece A) (a : A) : Type 0 where
   pub is : R column a between
 
 pub enclosed_of : {A : Type 0} (R : Piece A) (i : ℕ) (a : A) (text : List ℕ) → grammar.enclosed R i a text → Inside R a
-enclosed_of {A} R i a text m = let P : A → Type 0 = λ z. Inside R z in
-    subst P (sym m.same) (record { column = _; between = _; is = m.is.second.second.first })
+enclosed_of {A} R i a text m = rw m.same (record { column = _; between = _; is = m.is.second.second.first })
 
 pub tiny_writable : (i : ℕ) (e : Found) (text : List ℕ) → grammar.tiny_piece i e text → W e
 tiny_writable i e text m =
@@ -74,7 +72,7 @@ one_writable : (i : ℕ) (kind : GameKind) (name text : List ℕ) → grammar.na
 one_writable i kind name text m p = by m
   where
     to : (known : GameKind) → kind ≡ known → IsWritable (one_text known text) → IsWritable (one_text kind text)
-    to known e w = let P : GameKind → Type 0 = λ z. IsWritable (one_text z text) in subst P (sym e) w
+    to known e w = rw e w
 
     by : grammar.name_of_one i kind name → IsWritable (one_text kind text)
     by (inl w) = to Domineering w.0 (refl, p)
@@ -88,7 +86,7 @@ two_writable : (i : ℕ) (kind : GameKind) (name first second : List ℕ) → gr
 two_writable i kind name first second m p q = by m
   where
     to : (known : GameKind) → kind ≡ known → IsWritable (two_texts known first second) → IsWritable (two_texts kind first second)
-    to known e w = let P : GameKind → Type 0 = λ z. IsWritable (two_texts z first second) in subst P (sym e) w
+    to known e w = rw e w
 
     by : grammar.name_of_two i kind name → IsWritable (two_texts kind first second)
     by (inl w) = to Strip w.0 (p, q)
@@ -103,13 +101,12 @@ record Told {A : Type 0} (R : Piece A) (v : List ℕ × A) : Type 0 where
   is : R column v.1 rest
 
 told : {A : Type 0} (R : Piece A) (i : ℕ) (v : List ℕ × A) (text : List ℕ) → grammar.string_and R i v text → Told R v
-told {A} R i v text m = let P : List ℕ × A → Type 0 = λ z. Told R z in
-    subst P (sym m.same) (record {
-      printable_first = printable_is _ _ _ m.is.first;
-      column = _;
-      rest = _;
-      is = m.is.second.second.second.second;
-    })
+told {A} R i v text m = rw m.same (record {
+  printable_first = printable_is _ _ _ m.is.first;
+  column = _;
+  rest = _;
+  is = m.is.second.second.second.second;
+})
 
 pub board_writable : (i : ℕ) (e : Found) (text : List ℕ) → grammar.board i e text → W e
 board_writable i e text (inl m) =
@@ -142,9 +139,8 @@ together_writable t (Some u) (Some v) w a b = (refl, w, (a, (b, tt)))
 
 optional_writable : (R : Piece Tree) → ((i : ℕ) (t : Tree) (text : List ℕ) → R i t text → IsWritable t) → (i : ℕ) (o : Option Tree)
     (text : List ℕ) → grammar.optional R i o text → Maybe o
-optional_writable R f i o text (inl m) = let P : Option Tree → Type 0 = λ z. Maybe z in
-    subst P (sym m.same) (f _ _ _ m.is)
-optional_writable R f i o text (inr m) = let P : Option Tree → Type 0 = λ z. Maybe z in subst P (sym m.0) tt
+optional_writable R f i o text (inl m) = rw m.same (f _ _ _ m.is)
+optional_writable R f i o text (inr m) = rw m.0 tt
 
 tail_writable : (i : ℕ) (v : Option Tree × Option Tree) (text : List ℕ) (t : Tree) → IsWritable t → grammar.tail i v text
     → IsWritable (together t (some_term v.0 ++ some_term v.1))
@@ -195,10 +191,8 @@ module _ (S : Piece (Found × Last)) (s : (i : ℕ) (e : Found × Last) (text : 
   counted_writable i c text (inl m) =
       let P : Counted → Type 0 = λ z. IsCounted z in subst P (sym m.same) (number_low _ m.made_of _ m.is)
   counted_writable i c text (inr m) =
-      let P : Counted → Type 0 = λ z. IsCounted z in
-      let Q : ℕ × (Found × Last) → Type 0 = λ z. (z.0 < 10 ^ 30) × W z.1.0 in
       let n = m.is in
-      subst P (sym m.same) (subst Q (sym n.same) (digits_low _ _ _ n.is.first, primary_writable _ n.made_of.1.1 _ n.is.second.second))
+      rw m.same (rw n.same (digits_low _ _ _ n.is.first, primary_writable _ n.made_of.1.1 _ n.is.second.second))
 
   counted_tail_writable : (below : Bool) (i : ℕ) (e : Found) (text : List ℕ) → grammar.counted_tail S below i e text → W e
   counted_tail_writable below i e text m = found_at e _ m.same (tail_writable _ m.made_of.1 _ _
@@ -229,10 +223,9 @@ module _ (S : Piece (Found × Last)) (s : (i : ℕ) (e : Found × Last) (text : 
       → Many (behind_blanks (Then grammar.sign (behind_blanks (grammar.term S)))) i vs text → AllTerms vs
   more_writable [] i text m = tt
   more_writable (v ∷ vs) i text m =
-      let P : Bool × Found → Type 0 = λ z. W z.1 in
       let n = m.first in
       let b = n.is.second in
-      (subst P (sym n.same) (found_at _ _ b.second.same (term_writable _ _ _ b.second.is.second)), more_writable vs _ _ m.second)
+      (rw n.same (found_at _ _ b.second.same (term_writable _ _ _ b.second.is.second)), more_writable vs _ _ m.second)
 
   pub expr_writable : (i : ℕ) (e : Found) (text : List ℕ) → grammar.expr S i e text → W e
   expr_writable i e text m = found_at e _ m.same (sum_writable m.made_of.0 m.made_of.1 (term_writable _ _ _ m.is.first)

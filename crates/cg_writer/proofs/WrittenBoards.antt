@@ -1,5 +1,5 @@
 -- What is written reads: boards and octal games.
-use Rattle.std.proofs.Common.{◌≡◌, refl, sym, subst, ℕ, ◌+◌, ◌^◌, ◌<◌, inl, inr, List, [], ◌∷◌, ◌++◌, length}
+use Rattle.std.proofs.Common.{refl, ℕ, ◌^◌, ◌<◌, inl, inr, List, [], ◌∷◌, ◌++◌}
 use Rattle.std.specs.Prelude.{codes, decimal}
 use Rattle.cg_reading.specs.Pieces.{Piece, Then}
 use Rattle.cg_reading.specs.Tokens.{blanks, digits}

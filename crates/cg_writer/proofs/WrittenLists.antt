@@ -1,7 +1,7 @@
 -- What is written reads: operands, and lists of expressions.
-use Rattle.std.proofs.Common.{◌≡◌, refl, ap, sym, subst, ℕ, zero, suc, ◌+◌, ◌≤◌, arith, inl, inr, ◌⊎◌, List, [], ◌∷◌, ◌++◌, append-nil, map, length, Bool, false}
-use Rattle.cg_reading.specs.Pieces.{Made, Many, One, Piece, Then}
-use Rattle.cg_reading.specs.Tokens.{behind_blanks, blanks}
+use Rattle.std.proofs.Common.{◌≡◌, refl, ap, ℕ, zero, suc, ◌≤◌, arith, inl, inr, ◌⊎◌, List, [], ◌∷◌, ◌++◌, map, false}
+use Rattle.cg_reading.specs.Pieces.{Many, Piece}
+use Rattle.cg_reading.specs.Tokens.{blanks}
 use Rattle.cg_grammar.specs.Found.{Found}
 use Rattle.cg_grammar.specs.Grammar as grammar
 use Rattle.cg_grammar.specs.Grammar.{comma, special}

@@ -1,15 +1,14 @@
 -- What is written reads: braces and sums.
-use Rattle.std.proofs.Common.{◌≡◌, refl, ap, sym, subst, ℕ, zero, suc, ◌+◌, ◌≤◌, max, arith, inl, inr, List, [], ◌∷◌, ◌++◌, append-nil, map, length, Bool, true, false, cond, None}
+use Rattle.std.proofs.Common.{◌≡◌, refl, ap, ℕ, zero, suc, ◌≤◌, max, arith, inl, inr, List, [], ◌∷◌, ◌++◌, Bool, true, false, cond, None}
 use Rattle.std.specs.Prelude.{codes}
 use Rattle.cg_reading.specs.Pieces.{Many, Piece, Then}
 use Rattle.cg_reading.specs.Tokens.{behind_blanks}
-use Rattle.cg_grammar.specs.Braces.{Run_side, part_of, side_fault, side_trees}
 use Rattle.cg_grammar.specs.Found.{Found}
 use Rattle.cg_grammar.specs.Grammar as grammar
 use Rattle.cg_grammar.specs.Grammar.{comma, special}
 use Rattle.cg_query.specs.declared.format.Format.TheVariants as formats
-use Rattle.cg_query.specs.Tree.{Tree, Trees, Terms, braces, no_terms, sides, sum, terms_from, trees_from, with_term}
-use Rattle.cg_grammar.specs.Values.{In_none, braces_of, clean, first_fault, minus_of, sum_of}
+use Rattle.cg_query.specs.Tree.{Tree, Trees, Terms, braces, no_terms, sides, sum, terms_from, with_term}
+use Rattle.cg_grammar.specs.Values.{In_none, clean, first_fault, minus_of, sum_of}
 use Rattle.cg_grammar.specs.Written.{enclosed_text, is_braces, more_terms, terms_text, text_of, texts_of}
 use Rattle.cg_query.specs.Heights.{heights, term_heights}
 use Rattle.cg_reading.proofs.Spelled.{behind_none, byte_is, made_is, then_is}

@@ -1,5 +1,5 @@
 -- What is written reads: questions.
-use Rattle.std.proofs.Common.{refl, sym, ℕ, ◌+◌, ◌≤◌, inl, inr, List, [], ◌∷◌, ◌++◌, append-nil, length, None}
+use Rattle.std.proofs.Common.{refl, ℕ, ◌≤◌, inl, inr, List, [], ◌∷◌, ◌++◌, None}
 use Rattle.std.specs.Prelude.{codes}
 use Rattle.cg_grammar.specs.Grammar as grammar
 use Rattle.cg_grammar.specs.Found.{Asked, Found}

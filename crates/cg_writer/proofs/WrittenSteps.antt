@@ -1,5 +1,5 @@
 -- What is written, step by step: an expression by its form, and lists one entry after the other.
-use Rattle.std.proofs.Common.{◌≡◌, refl, ap, sym, ◌∙◌, subst, ℕ, suc, ◌+◌, ◌<◌, List, [], ◌∷◌, ◌++◌, append-nil, append_assoc, length, get_or, take, Bool, cond, Result, Ok, Err, arith}
+use Rattle.std.proofs.Common.{◌≡◌, refl, ap, sym, ◌∙◌, ℕ, suc, ◌+◌, ◌<◌, List, [], ◌∷◌, ◌++◌, append-nil, append_assoc, length, get_or, take, Bool, cond, Result, Ok, Err, arith}
 use Rattle.std.specs.Prelude.{OnOk, codes, decimal, replicate}
 use Rattle.std.specs.Global.{Box}
 use Rattle.std.proofs.lemmas.List.{replicate_more}
@@ -18,7 +18,7 @@ use Rattle.cg_query.proofs.Walk.{trees_of-take_suc, terms_of-take_suc}
 -- what was put at the end is the same text in other words
 pub put_as : {X Y : Type 0} (r : Result X Y) (new old : List ℕ) (a b : List ℕ) → a ≡ b → OnOk r (new ≡ old ++ b)
     → OnOk r (new ≡ old ++ a)
-put_as r new old a b e p = let P : List ℕ → Type 0 = λ z. OnOk r (new ≡ old ++ z) in subst P (sym e) p
+put_as r new old a b e p = rw e p
 
 -- one byte more of a run
 pub run_next : (old now : List ℕ) (n b : ℕ) → now ≡ old ++ replicate n b → now ++ (b ∷ []) ≡ old ++ replicate (n + 1) b

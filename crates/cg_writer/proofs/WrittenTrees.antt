@@ -1,11 +1,11 @@
 -- What is written reads: every tree.
-use Rattle.std.proofs.Common.{◌≡◌, suc, refl, ℕ, ◌^◌, ◌<◌, ◌≤◌, List, Bool, true, false}
+use Rattle.std.proofs.Common.{◌≡◌, suc, refl, ℕ, ◌≤◌, true, false}
 use Rattle.cg_grammar.specs.Grammar as grammar
 use Rattle.cg_grammar.specs.Grammar.{comma, special}
 use Rattle.cg_query.specs.declared.format.Format.TheVariants as formats
 use Rattle.cg_query.specs.Tree.{Tree, Trees, Terms, game, multiple, negative, nimber, no_terms, no_trees, number, octal, used, sides, sum, switch, tiny, ups, with_term, with_tree}
 use Rattle.cg_grammar.specs.Values.{In_none, clean}
-use Rattle.cg_grammar.specs.Written.{AreFurther, AreTerms, AreTexts, AreWritable, IsPrintable, IsSum, IsWritable, fraction_text, inner_height, is_braces, text_of}
+use Rattle.cg_grammar.specs.Written.{AreFurther, AreTerms, AreWritable, IsSum, IsWritable, fraction_text, inner_height, is_braces, text_of}
 use Rattle.cg_query.specs.Heights.{height}
 use Rattle.cg_grammar.proofs.WrittenTerms.{special_is, number_term, ups_term, nimber_term, negative_term, multiple_term}
 use Rattle.cg_grammar.proofs.WrittenTokens.{fraction_is}
@@ -20,6 +20,7 @@ special_alone t b h f = term_alone t b h (λ k l i. special_is (grammar.special 
 
 mutual
   unfolding text_of
+
   written : (t : Tree) → IsWritable t → Written t
   written (number below num den) w =
       term_alone (number below num den) refl refl (λ k h i. number_term (grammar.special formats.One k) i below num den w.0 w.1)

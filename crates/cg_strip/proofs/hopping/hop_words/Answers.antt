@@ -1,4 +1,4 @@
-use Rattle.std.proofs.Common.{bit_and, sym, subst, arith}
+use Rattle.std.proofs.Common.{bit_and, arith}
 use Rattle.cg_moves.specs.declared.player.Player.{Player}
 use Rattle.cg_strip.specs.Hops.{AreHopWords}
 use Rattle.cg_strip.proofs.Changes.{toad_jumps}
@@ -10,22 +10,14 @@ places-frogs-requires c = (toad_jumps c.args.board.now c.requires).old 1 (omega 
 
 pub returns-in-Left : goal.returns-in-Left
 returns-in-Left c =
-    let P : Player → Type 0 = λ q. AreHopWords q c.args.board.now.cells (record {
-      steps = bit_and c.places-toads.result c.moved_back-beside.result;
-      jumps = bit_and (bit_and c.places-toads.result c.moved_back-over.result) c.moved_back-beyond.result;
-    }) in
-    subst P (sym c.in-Left.is) (toad_words c.args.board.now.cells c.places-toads.result c.places-frogs.result
+    rw c.in-Left.is (toad_words c.args.board.now.cells c.places-toads.result c.places-frogs.result
     c.places-empty.result c.moved_back-beside.result c.moved_back-over.result c.moved_back-beyond.result
     c.places-toads.ensures.places c.places-frogs.ensures.places c.places-empty.ensures.places c.moved_back-beside.ensures
     c.moved_back-over.ensures c.moved_back-beyond.ensures)
 
 pub returns-in-Right : goal.returns-in-Right
 returns-in-Right c =
-    let P : Player → Type 0 = λ q. AreHopWords q c.args.board.now.cells (record {
-      steps = bit_and c.places-empty.result c.moved_back-beside-in-Right.result;
-      jumps = bit_and (bit_and c.places-empty.result c.moved_back-over-in-Right.result) c.moved_back-beyond-in-Right.result;
-    }) in
-    subst P (sym c.in-Right.is) (frog_words c.args.board.now.cells c.places-toads.result c.places-frogs.result
+    rw c.in-Right.is (frog_words c.args.board.now.cells c.places-toads.result c.places-frogs.result
     c.places-empty.result c.moved_back-beside-in-Right.result c.moved_back-over-in-Right.result
     c.moved_back-beyond-in-Right.result c.places-toads.ensures.places c.places-frogs.ensures.places
     c.places-empty.ensures.places c.moved_back-beside-in-Right.ensures c.moved_back-over-in-Right.ensures

@@ -1,4 +1,4 @@
-use Rattle.std.proofs.Common.{List, ℕ, ap, subst, sym}
+use Rattle.std.proofs.Common.{List, ℕ, ap}
 use Rattle.std.specs.Prelude.{Contains, slice_index}
 use Rattle.cg_moves.specs.Grid.{Grid}
 use Rattle.cg_strip.proofs.HopLemmas.{known_index, known_symbol}
@@ -12,8 +12,7 @@ index_of-requires c =
 
 pub set_known-requires-clause-symbol : goal.set_known-requires-clause-symbol
 set_known-requires-clause-symbol c =
-    let P : List ℕ → Type 0 = λ z. Contains z (slice_index c.args.replacement.now c.loop-offset.offset) in
-    subst P (sym (ap (λ (q : Grid). q.symbols) c.loop-offset.invariant))
+    rw (ap (λ (q : Grid). q.symbols) c.loop-offset.invariant)
     (c.requires.symbols c.loop-offset.offset c.loop-offset-test.true)
 
 pub set_known-requires-clause-index : goal.set_known-requires-clause-index

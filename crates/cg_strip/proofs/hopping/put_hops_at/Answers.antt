@@ -1,4 +1,4 @@
-use Rattle.std.proofs.Common.{◌≡◌, ◌++◌, map, sym, subst}
+use Rattle.std.proofs.Common.{◌≡◌, ◌++◌, map}
 use Rattle.cg_moves.specs.Grid.{with_cells}
 use Rattle.cg_moves.specs.declared.player.Player.{Player}
 use Rattle.cg_moves.specs.declared.player.Player.TheVariants.{Left, Right}
@@ -22,17 +22,13 @@ put_hop-requires-in-Right-2-clause-symbols c = (frog_jumps c.args.board.now c.re
 pub returns-in_ok-put_hop-in-Left : goal.returns-in_ok-put_hop-in-Left
 returns-in_ok-put_hop-in-Left c =
     let p = c.args.board.now in
-    let P : Player → Type 0 = λ q. AreHopWords q p.cells c.args.words in
-    let Q : Player → Type 0 = λ q. c.put_hop-in-Left.new.boards.items ≡ c.args.boards.now.items ++ map (with_cells p) (hops_at q p.cells c.args.cell) in
-    ok_then c.put_hop-in-Left.result _ _ (λ put. subst Q (sym c.in-Left.is) (hops_put (with_cells p) Left p.cells c.args.words
+    ok_then c.put_hop-in-Left.result _ _ (λ put. rw c.in-Left.is (hops_put (with_cells p) Left p.cells c.args.words
     c.args.cell c.args.boards.now.items c.put_hop.new.boards.items c.put_hop-in-Left.new.boards.items c.requires.cell
-    (subst P c.in-Left.is c.requires.words) c.in_ok-put_hop-in-Left.ensures put)) c.put_hop-in-Left.ensures
+    (rw (← c.in-Left.is) c.requires.words) c.in_ok-put_hop-in-Left.ensures put)) c.put_hop-in-Left.ensures
 
 pub returns-in_ok-put_hop-in-Right : goal.returns-in_ok-put_hop-in-Right
 returns-in_ok-put_hop-in-Right c =
     let p = c.args.board.now in
-    let P : Player → Type 0 = λ q. AreHopWords q p.cells c.args.words in
-    let Q : Player → Type 0 = λ q. c.put_hop-in-Right-2.new.boards.items ≡ c.args.boards.now.items ++ map (with_cells p) (hops_at q p.cells c.args.cell) in
-    ok_then c.put_hop-in-Right-2.result _ _ (λ put. subst Q (sym c.in-Right.is) (hops_put (with_cells p) Right p.cells
+    ok_then c.put_hop-in-Right-2.result _ _ (λ put. rw c.in-Right.is (hops_put (with_cells p) Right p.cells
     c.args.words c.args.cell c.args.boards.now.items c.put_hop-in-Right.new.boards.items c.put_hop-in-Right-2.new.boards.items
-    c.requires.cell (subst P c.in-Right.is c.requires.words) c.in_ok-put_hop-in-Right.ensures put)) c.put_hop-in-Right-2.ensures
+    c.requires.cell (rw (← c.in-Right.is) c.requires.words) c.in_ok-put_hop-in-Right.ensures put)) c.put_hop-in-Right-2.ensures

@@ -1,4 +1,4 @@
-use Rattle.std.proofs.Common.{List, ℕ, ap, subst, sym}
+use Rattle.std.proofs.Common.{List, ℕ, ap}
 use Rattle.std.specs.Prelude.{Contains, slice_index}
 use Rattle.cg_moves.specs.Grid.{Grid}
 use Rattle.cg_strip.proofs.Written.{written_more}
@@ -6,8 +6,7 @@ use Rattle.cg_strip.proofs.placing.written_at.Goals as goal
 
 pub set-requires-clause-symbol : goal.set-requires-clause-symbol
 set-requires-clause-symbol c =
-    let P : List ℕ → Type 0 = λ z. Contains z (slice_index c.args.replacement.now c.loop-offset.offset) in
-    subst P (sym (ap (λ (q : Grid). q.symbols) c.loop-offset.invariant))
+    rw (ap (λ (q : Grid). q.symbols) c.loop-offset.invariant)
     (c.requires.symbols c.loop-offset.offset c.loop-offset-test.true)
 
 pub loop-offset-preserved : goal.loop-offset-preserved
