@@ -1,5 +1,5 @@
 -- Dominoes that are placed.
-use Rattle.std.proofs.Common.{◌≡◌, refl, ℕ, zero, suc, ◌+◌, ◌-◌, ◌*◌, ◌%◌, ◌<◌, ◌==◌, ◌&&◌, not, nat_lt, inl, inr, Bool, true, false, if◌then◌else◌, List, [], ◌∷◌, ◌++◌, length, map, ap, sym, ◌∙◌, subst, arith, bit_and, ◌^◌, length-set, get_or-set_same, get_or-set_other}
+use Rattle.std.proofs.Common.{◌≡◌, refl, ℕ, zero, suc, ◌+◌, ◌-◌, ◌*◌, ◌%◌, ◌<◌, ◌==◌, ◌&&◌, not, nat_lt, inl, inr, Bool, true, false, if◌then◌else◌, List, [], ◌∷◌, ◌++◌, length, map, ap, sym, ◌∙◌, arith, bit_and, ◌^◌, length-set, get_or-set_same, get_or-set_other}
 use Rattle.std.specs.Prelude.{Contains, codes, slice_index, slice_set}
 use Rattle.std.specs.Int.{bit_at}
 use Rattle.std.specs.List.{flat_map}
@@ -11,7 +11,7 @@ use Rattle.std.proofs.lemmas.List.{get_or_past}
 use Rattle.cg_moves.specs.declared.player.Player.{Player}
 use Rattle.cg_moves.specs.declared.player.Player.TheVariants.{Left, Right}
 use Rattle.cg_moves.specs.Grid.{Grid, IsGrid, is_in_rows, with_cells}
-use Rattle.cg_moves.specs.PlaneBits.{index_of, plane_bit}
+use Rattle.cg_moves.specs.PlaneBits.{plane_bit}
 use Rattle.cg_moves.specs.Rising.{IsRising, bytes_cmp, counted}
 use Rattle.cg_moves.specs.Rules.{In}
 use Rattle.cg_moves.specs.Words.{Marks}
@@ -30,7 +30,7 @@ symbols-are p has = bytes_eq-back p.symbols (codes ".#") (and-true (is_in_rows p
 
 pub has-filled : (p : Grid) → domineering.has p ≡ true → Contains p.symbols filled
 has-filled p has =
-    let P : List ℕ → Type 0 = λ z. Contains z filled in subst P (sym (symbols-are p has)) (1, omega arith, refl)
+    rw (symbols-are p has) (1, omega arith, refl)
 
 pub wide : (p : Grid) → domineering.has p ≡ true → 0 < p.columns
 wide p has =
@@ -124,8 +124,8 @@ left-test false true false h = refl
 left-test false false false h = refl
 
 filled-tells : Tells (codes ".#") 0 filled
-filled-tells c (zero, l, e) = let P : ℕ → Type 0 = λ z. bit_at (index_of (codes ".#") z) 0 ≡ (if z == 35 then 1 else 0) in subst P e refl
-filled-tells c (suc zero, l, e) = let P : ℕ → Type 0 = λ z. bit_at (index_of (codes ".#") z) 0 ≡ (if z == 35 then 1 else 0) in subst P e refl
+filled-tells c (zero, l, e) = rw (← e) refl
+filled-tells c (suc zero, l, e) = rw (← e) refl
 filled-tells c (suc (suc k), l, e) = absurd (omega (arith, l))
 
 -- the cells that aren't filled
@@ -133,27 +133,24 @@ pub empty_marks : (p : Grid) (word all : ℕ) → p.symbols ≡ codes ".#" → I
     → ((i : ℕ) → bit_at word i ≡ plane_bit p.symbols p.cells 0 i) → Marks all (λ i. nat_lt i (length p.cells))
     → Marks (bit_and all (18446744073709551615 - word)) (λ i. is_empty p.cells i)
 empty_marks p word all e g fits below are cells =
-    let P : List ℕ → Type 0 = λ z. Tells z 0 filled in
     marks_same (bit_and all (18446744073709551615 - word))
     (λ i. nat_lt i (length p.cells) && not (slice_index p.cells i == filled)) (λ i. is_empty p.cells i) same
     (marks_without all word (λ i. nat_lt i (length p.cells)) (λ i. slice_index p.cells i == filled) cells
-    (symbol-marks p word 0 filled g (subst P (sym e) filled-tells) (λ z. omega (arith, z)) are) below fits)
+    (symbol-marks p word 0 filled g (rw e filled-tells) (λ z. omega (arith, z)) are) below fits)
   where
     other : (c : ℕ) → Contains (codes ".#") c → not (c == filled) ≡ (c == empty)
-    other c (zero, l, h) = let P : ℕ → Type 0 = λ z. not (z == 35) ≡ (z == 46) in subst P h refl
-    other c (suc zero, l, h) = let P : ℕ → Type 0 = λ z. not (z == 35) ≡ (z == 46) in subst P h refl
+    other c (zero, l, h) = rw (← h) refl
+    other c (suc zero, l, h) = rw (← h) refl
     other c (suc (suc k), l, h) = absurd (omega (arith, l))
 
     same : (i : ℕ) → (nat_lt i (length p.cells) && not (slice_index p.cells i == filled)) ≡ is_empty p.cells i
     same i = elim (leb_tells (length p.cells) i) [
       | inl h ↦
-          let P : ℕ → Type 0 = λ c. (nat_lt i (length p.cells) && not (c == 35)) ≡ (c == 46) in
           let none : (nat_lt i (length p.cells) && true) ≡ false = ap (λ t. t && true) (le-ltb i (length p.cells) h.1) in
-          subst P (sym (get_or_past p.cells i 0 h.1)) none
+          rw (get_or_past p.cells i 0 h.1) none
       | inr h ↦
-          let P : List ℕ → Type 0 = λ z. Contains z (slice_index p.cells i) in
           ap (λ t. t && not (slice_index p.cells i == filled)) (lt-ltb i (length p.cells) h.1)
-          ∙ other (slice_index p.cells i) (subst P e (g.cells i h.1))
+          ∙ other (slice_index p.cells i) (rw e at (g.cells i h.1))
     ]
 
 pub left_marks : (p : Grid) (word below : ℕ) → Marks word (λ i. is_empty p.cells i)

@@ -3,21 +3,20 @@ use Rattle.std.proofs.Common.{refl, ◌==◌, ◌&&◌, length, ap, ◌∙◌, a
 use Rattle.std.specs.Prelude.{codes, count_by, slice_set}
 use Rattle.std.proofs.lemmas.Bool.{and_parts}
 use Rattle.cg_moves.specs.Lawful.{AreMoves, IsLawful}
-use Rattle.cg_moves.proofs.ForGames.{board-stays, set-least, set-lowers}
+use Rattle.cg_moves.proofs.ForGames.{board-stays, listed-where, set-least, set-lowers}
 use Rattle.cg_pieces.proofs.NeighbourCuts.{neighbours-cut}
 use Rattle.cg_domineering.specs.Cuts.{domineering_cuts, dominoes-are}
-use Rattle.cg_domineering.specs.Domino.{is_domino}
-use Rattle.cg_domineering.specs.Moves.{domineering, dominoes, empty, filled, has_other, is_empty, other_cell}
+use Rattle.cg_domineering.specs.Moves.{domineering, dominoes, empty, filled, fits, has_other, is_empty, other_cell, with_domino}
 
 -- a domino fills two cells, of which the first was empty
 domineering_moves : AreMoves domineering
 domineering_moves = record {
   stays = λ player p cells has m.
-      let (i, k, f, e) = is_domino player p cells m in
+      let (i, k, f, e) = listed-where (fits player p) (with_domino player p) (length p.cells) cells m in
       board-stays (codes ".#") p cells has
       (ap length e ∙ length-set (slice_set p.cells i filled) (other_cell player p i) filled ∙ length-set p.cells i filled);
   lowers = λ player p cells has m.
-      let (i, k, f, e) = is_domino player p cells m in
+      let (i, k, f, e) = listed-where (fits player p) (with_domino player p) (length p.cells) cells m in
       let both = and_parts (has_other player p i && is_empty p.cells i) (is_empty p.cells (other_cell player p i)) f in
       let one = and_parts (has_other player p i) (is_empty p.cells i) both.0 in
       let a = set-lowers (λ c. c == empty) 0 p.cells i filled refl refl one.1 in

@@ -2,6 +2,5 @@
 pub mod Moves
 pub mod Worked
 -- proofs that the implementation of the traits needs
-pub mod Domino
 pub mod Cuts
 pub mod Lawful

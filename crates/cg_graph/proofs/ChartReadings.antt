@@ -1,5 +1,5 @@
 -- What reading two texts says of them as a chart.
-use Rattle.std.proofs.Common.{◌≡◌, ◌≢◌, ◌⊎◌, inl, inr, refl, ℕ, suc, ◌+◌, ◌-◌, ◌≤◌, Bool, Option, Some, None, Result, Ok, Err, List, length, ap, sym, ◌∙◌, subst, arith}
+use Rattle.std.proofs.Common.{◌≡◌, ◌≢◌, ◌⊎◌, inl, inr, refl, ℕ, suc, ◌+◌, ◌-◌, ◌≤◌, Bool, Option, Some, None, Result, Ok, Err, List, length, ap, sym, ◌∙◌, arith}
 use Rattle.std.specs.Prelude.{IfErr, IfOk}
 use Rattle.cg_reading.specs.Column.{Stops}
 use Rattle.cg_reading.specs.Readers.{whole_at}
@@ -35,13 +35,12 @@ judged vertices text items is = first_broken vertices 1 items (pairs_are 1 items
 unbroken : (vertices : ℕ) (text : List ℕ) (items : List PairItem) → pairs 1 items text → pairs_fault vertices items ≡ None
     → (place : ℕ) → ¬ IsBroken vertices items place
 unbroken vertices text items is e =
-    let P : Option ℕ → Type 0 = λ o. First (IsBroken vertices items) o in subst P e (judged vertices text items is)
+    rw e at (judged vertices text items is)
 
 first_of : (vertices : ℕ) (text : List ℕ) (items : List PairItem) (place : ℕ) → pairs 1 items text
     → pairs_fault vertices items ≡ Some place → IsFirstBroken vertices items place
 first_of vertices text items place is e =
-    let P : Option ℕ → Type 0 = λ o. First (IsBroken vertices items) o in
-    let f = subst P e (judged vertices text items is) in
+    let f = rw e at (judged vertices text items is) in
     record { broken = f.0; least = f.1 }
 
 -- ---- what is computed is what is so
@@ -84,7 +83,7 @@ module _ (snort : Bool) (vertices edges : List ℕ) where
   at_place : (place : ℕ) (fault : GraphFault) → vertices_fault vertices ≡ None → IsPairsPlace (length vertices) edges place
       → faults.Edges place ≡ fault → IsNotCharted vertices edges fault
   at_place place fault sound at same =
-      let P : GraphFault → Type 0 = λ z. IsNotCharted vertices edges z in subst P same (no_edges place sound at)
+      rw (← same) (no_edges place sound at)
 
   uncharted_items : (items : List PairItem) (fault : GraphFault) → vertices_fault vertices ≡ None → pairs 1 items edges
       → (o : Option ℕ) → pairs_fault (length vertices) items ≡ o → sound_charted (chart_of items) o ≡ Err fault
@@ -190,7 +189,7 @@ module _ (snort : Bool) (vertices edges : List ℕ) where
   pub cause_uncharted : (f : GraphFault) → (f ≡ faults.Memory) ⊎ (chart_read snort vertices edges ≡ Err f)
       → IsNotCharted vertices edges f
   cause_uncharted f (inl m) =
-      let P : GraphFault → Type 0 = λ z. IsNotCharted vertices edges z in subst P (sym m) no_memory
+      rw m no_memory
   cause_uncharted f (inr g) = uncharted_is f g
 
   pub err_uncharted : (r : Charted) → IfErr r (λ f. (f ≡ faults.Memory) ⊎ (chart_read snort vertices edges ≡ Err f))

@@ -1,9 +1,9 @@
 -- Vertices and pairs without a fault are a chart.
-use Rattle.std.proofs.Common.{◌≡◌, refl, ℕ, ◌<◌, ◌≤◌, ◌==◌, Bool, true, false, if◌then◌else◌, Option, Some, None, List, length, ap, sym, subst, arith}
+use Rattle.std.proofs.Common.{◌≡◌, refl, ℕ, ◌<◌, ◌≤◌, ◌==◌, Bool, true, false, if◌then◌else◌, Option, Some, None, List, length, ap, arith}
 use Rattle.std.specs.Prelude.{All, codes, nat_lt, position}
 use Rattle.std.proofs.lemmas.Bool.{eq-eqb, lt-ltb}
 use Rattle.cg_moves.specs.Texts.{is_foreign}
-use Rattle.cg_graph.specs.Charts.{IsChart, IsPair, pairs_fault, pairs_of, vertices_fault, vertices_refused}
+use Rattle.cg_graph.specs.Charts.{IsChart, pairs_fault, pairs_of, vertices_fault, vertices_refused}
 use Rattle.cg_graph.specs.Items.{IsLettered}
 use Rattle.cg_graph.specs.declared.edge.Pair.{Pair}
 use Rattle.cg_graph.specs.declared.fault.GraphFault.TheVariants as faults
@@ -37,13 +37,11 @@ pub chart_sound : (snort : Bool) (vertices cells : List ℕ) (items : List PairI
 chart_sound snort vertices cells items edges sound letters none same is =
     let s = sound_vertices (position (is_foreign true (codes ".xo")) vertices) (length vertices) sound in
     let size = ap length same in
-    let P : List Pair → Type 0 = λ z. All (IsPair (length vertices)) z in
-    let Q : ℕ → Type 0 = λ n. All (IsPair n) edges in
     let a = s.some in
     let b = s.few in
     record {
       some = omega arith;
       few = omega arith;
       vertices = vertices_cells vertices cells same s.none;
-      edges = subst Q (sym size) (subst P (sym is) (pairs_sound (length vertices) items letters none));
+      edges = rw size (rw is (pairs_sound (length vertices) items letters none));
     }

@@ -1,6 +1,6 @@
 -- The moves of Col and Snort are the colourings that the rules allow.
-use Rattle.std.proofs.Common.{◌≡◌, ◌≢◌, inl, inr, refl, ℕ, ◌<◌, ◌≤◌, ◌==◌, ◌&&◌, ◌||◌, Bool, true, false, not, if◌then◌else◌, List, [], ◌∷◌, length, ap, sym, subst, arith}
-use Rattle.std.specs.Prelude.{slice_index, slice_set}
+use Rattle.std.proofs.Common.{◌≡◌, ◌≢◌, inl, inr, refl, ℕ, ◌<◌, ◌≤◌, ◌==◌, ◌&&◌, ◌||◌, Bool, true, false, not, List, [], ◌∷◌, length, ap, sym, arith}
+use Rattle.std.specs.Prelude.{slice_index}
 use Rattle.std.specs.List.{list_any}
 use Rattle.std.proofs.lemmas.Bool.{eqb-true, eq-eqb}
 use Rattle.std.proofs.lemmas.List.{get_or_past}
@@ -14,7 +14,7 @@ use Rattle.cg_moves.proofs.ConnectedLemmas.{or-cases, or-first, or-second}
 use Rattle.cg_moves.proofs.Counted.{counted-below, in_counted}
 use Rattle.cg_moves.proofs.Members.{all_from, in_flat_mapped}
 use Rattle.cg_moves.proofs.RisingLemmas.{in-rising}
-use Rattle.cg_graph.specs.Colouring.{AreNeighbours, IsColouringMove, are_adjacent, colourings_at, colourings_of, forbidden, free, may_colour, own}
+use Rattle.cg_graph.specs.Colouring.{AreNeighbours, IsColouringMove, are_adjacent, colourings_at, colourings_of, forbidden, free, may_colour}
 use Rattle.cg_graph.specs.ColouringLaw.{is_colouring}
 use Rattle.cg_graph.proofs.Adjacent.{any_in}
 
@@ -110,8 +110,7 @@ module _ (snort : Bool) (edges : List Edge) (player : Player) (cells : List ℕ)
   is_colouring_so after a =
       let k = a.vertex in
       let may = allowed-may k a.was_free a.allowed in
-      let P : Bool → Type 0 = λ b. In after (if b then slice_set cells k (own player) ∷ [] else []) in
       let within = a.within in
       in-rising _ after
       (in_flat_mapped (colourings_at snort edges player cells) after k (counted 0 (length cells))
-      (in_counted 0 (length cells) k (omega arith) (omega arith)) (subst P (sym may) (inl a.written)))
+      (in_counted 0 (length cells) k (omega arith) (omega arith)) (rw may (inl a.written)))

@@ -1,5 +1,5 @@
 -- The colours of edges in rows of cells.
-use Rattle.std.proofs.Common.{◌≡◌, ◌≢◌, refl, ℕ, zero, suc, Bool, true, false, if◌then◌else◌, List, [], ◌∷◌, length, ◌⊎◌, inl, inr, ap, sym, ◌∙◌, subst, arith, length-set}
+use Rattle.std.proofs.Common.{◌≡◌, ◌≢◌, refl, ℕ, zero, suc, Bool, true, false, if◌then◌else◌, List, [], ◌∷◌, length, ◌⊎◌, inl, inr, ap, sym, ◌∙◌, arith, length-set}
 use Rattle.std.specs.Prelude.{slice_set}
 use Rattle.cg_dyadic.proofs.Truth.{false-from, true-or-not}
 use Rattle.cg_moves.proofs.Counted.{same-or-not}
@@ -28,7 +28,7 @@ there-set cells j k there n e = there (sym (set-other cells j k n) ∙ e)
 
 pub set-not : (cells : List ℕ) (j k : ℕ) → IsThere (slice_set cells j gone) k → k ≢ j
 set-not cells j k there e =
-    let P : ℕ → Type 0 = λ z. colour (slice_set cells j gone) z ≡ gone in there (subst P (sym e) (set-same cells j))
+    there (rw e (set-same cells j))
 
 pub set-there : (cells : List ℕ) (j k : ℕ) → IsThere (slice_set cells j gone) k → IsThere cells k
 set-there cells j k there e = there (set-other cells j k (set-not cells j k there) ∙ e)

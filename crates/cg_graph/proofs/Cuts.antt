@@ -64,8 +64,7 @@ module _ (edges : List Edge) where
       (λ l there. joined-there cells k l (still l there) (joined-more edges cells (less cells k) still l (settled l there)))
     where
       still : (l : ℕ) → IsThere cells l → IsThere (less cells k) l
-      still l there = there-set cells k l there (λ e. let P : ℕ → Type 0 = λ z. colour cells z ≡ gone in
-          there (subst P (sym e) none))
+      still l there = there-set cells k l there (λ e. there (rw e none))
 
   -- ---- two cuts
 
@@ -115,11 +114,10 @@ module _ (edges : List Edge) where
           joins = joins;
           path = path;
         } in
-        let P : ℕ → Type 0 = IsJoined edges (less (less cells k) l) in
         elim (same-or-not m k) [
-          | inl e ↦ inr (inl (subst P e j))
+          | inl e ↦ inr (inl (subst (IsJoined edges (less (less cells k) l)) e j))
           | inr n ↦ elim (same-or-not m l) [
-            | inl e ↦ inr (inr (subst P e j))
+            | inl e ↦ inr (inr (subst (IsJoined edges (less (less cells k) l)) e j))
             | inr o ↦ inl (along m u w path (there-set (less cells k) l m (there-set cells k m there n) o) joins)
           ]
         ]

@@ -1,5 +1,5 @@
 -- What reading a text says of it as a drawing.
-use Rattle.std.proofs.Common.{◌≡◌, ◌≢◌, ◌⊎◌, inl, inr, refl, ℕ, suc, ◌+◌, ◌-◌, ◌<◌, ◌≤◌, Option, Some, None, Result, Ok, Err, List, [], ◌∷◌, length, ap, sym, ◌∙◌, subst, arith}
+use Rattle.std.proofs.Common.{◌≡◌, ◌≢◌, ◌⊎◌, inl, inr, refl, ℕ, suc, ◌+◌, ◌-◌, ◌<◌, ◌≤◌, Option, Some, None, Result, Ok, Err, List, [], ◌∷◌, length, ap, sym, ◌∙◌, arith}
 use Rattle.std.specs.Prelude.{IfErr, IfOk, slice_get}
 use Rattle.std.proofs.lemmas.Option.{none-some, slice_get-get_or, slice_get_past}
 use Rattle.cg_reading.specs.Column.{Stops}
@@ -64,7 +64,6 @@ refused_items : (text : List ℕ) (items : List EdgeItem) (fault : GraphFault) �
 refused_items text items fault e None f g = absurd (cc)
 refused_items text items fault e (Some i) f g =
     let same : faults.Large i.place ≡ fault = cc in
-    let P : GraphFault → Type 0 = λ z. IsNotDrawn text z in
     let t : IsTooLarge text i.place = record {
       items = items;
       is = edges_take text items e;
@@ -72,7 +71,7 @@ refused_items text items fault e (Some i) f g =
       at = f;
       same = refl;
     } in
-    subst P same t
+    rw (← same) t
 
 pub refused_is : (text : List ℕ) (fault : GraphFault) → drawing_read text ≡ Err fault → IsNotDrawn text fault
 unfolding drawing_read
@@ -82,8 +81,7 @@ refused_is text fault h = go (whole_at edges_at text) refl h
     go (Ok items) e g = refused_items text items fault e (slice_get items 64) refl g
     go (Err left) e g =
         let same : faults.Edges (suc (length text) - left) ≡ fault = cc in
-        let P : GraphFault → Type 0 = λ z. IsNotDrawn text z in
-        subst P same (edges_stop text left e)
+        rw (← same) (edges_stop text left e)
 
 -- ---- what is so is computed
 
@@ -136,7 +134,7 @@ ok_drawn text (Ok d) h = drawn_is text d h
 ok_drawn text (Err f) h = tt
 
 pub cause_refused : (text : List ℕ) (f : GraphFault) → (f ≡ faults.Memory) ⊎ (drawing_read text ≡ Err f) → IsNotDrawn text f
-cause_refused text f (inl m) = let P : GraphFault → Type 0 = λ z. IsNotDrawn text z in subst P (sym m) tt
+cause_refused text f (inl m) = rw m tt
 cause_refused text f (inr g) = refused_is text f g
 
 pub err_refused : (text : List ℕ) (r : Drawn) → IfErr r (λ f. (f ≡ faults.Memory) ⊎ (drawing_read text ≡ Err f))

@@ -1,5 +1,5 @@
 -- Labels get one by one the edges that are there, and say which edges are joined.
-use Rattle.std.proofs.Common.{◌≡◌, ◌≢◌, refl, ℕ, zero, suc, ◌<◌, ◌≤◌, ◌+◌, ◌-◌, ◌==◌, ◌&&◌, ◌||◌, Bool, true, false, if◌then◌else◌, Some, List, [], ◌∷◌, length, drop, get_or, inl, inr, ap, sym, ◌∙◌, subst, arith, length-set, get_or-set_same, get_or-set_other}
+use Rattle.std.proofs.Common.{◌≡◌, ◌≢◌, refl, ℕ, zero, suc, ◌<◌, ◌≤◌, ◌+◌, ◌-◌, ◌==◌, ◌&&◌, ◌||◌, Bool, true, false, if◌then◌else◌, Some, List, [], ◌∷◌, length, drop, get_or, inl, inr, ap, sym, ◌∙◌, arith, length-set, get_or-set_same, get_or-set_other}
 use Rattle.std.specs.Prelude.{All, slice_get, slice_index, slice_set}
 use Rattle.std.proofs.Math.Seq.{drop-cons}
 use Rattle.std.proofs.lemmas.Bool.{eqb-true, eq-eqb}
@@ -76,13 +76,11 @@ none_old a b c d m n =
 merged : (a b c d : ℕ) → Merged a b c d
 merged a b c d = elim (same-or-not a d) [
   | inl p ↦ elim (same-or-not b d) [
-    | inl q ↦ (let P : ℕ → Type 0 = λ z. Merged z b c d in
-        let Q : ℕ → Type 0 = λ z. Merged d z c d in
-        subst P (sym p) (subst Q (sym q) (both_old c d)))
-    | inr n ↦ (let P : ℕ → Type 0 = λ z. Merged z b c d in subst P (sym p) (first_old b c d n))
+    | inl q ↦ (rw p (rw q (both_old c d)))
+    | inr n ↦ (rw p (first_old b c d n))
   ]
   | inr m ↦ elim (same-or-not b d) [
-    | inl q ↦ (let Q : ℕ → Type 0 = λ z. Merged a z c d in subst Q (sym q) (second_old a c d m))
+    | inl q ↦ (rw q (second_old a c d m))
     | inr n ↦ none_old a b c d m n
   ]
 ]
@@ -159,10 +157,8 @@ label_gone labels cells [] k some within size none is = absurd (omega arith)
 label_gone labels cells (x ∷ edges) k some within size none is =
     let d = x in
     let all : List ColouredEdge = x ∷ edges in
-    let P : ℕ → Type 0 = λ j. AreLabelsFrom labels all cells j in
-    let Q : List Edge → Type 0 = λ z. AreLabels labels z in
-    subst Q (present_gone (graph_of all) cells (k - 1) (slice_index cells (k - 1)) _
-    (graph_drop all (k - 1) d (omega arith)) (cells_drop cells (k - 1) (omega arith)) none) (subst P (down k some) is)
+    rw (← (present_gone (graph_of all) cells (k - 1) (slice_index cells (k - 1)) _
+    (graph_drop all (k - 1) d (omega arith)) (cells_drop cells (k - 1) (omega arith)) none)) (rw (← (down k some)) is)
 
 pub label_joined : (labels next cells : List ℕ) (edges : List ColouredEdge) (k : ℕ) (d : ColouredEdge) → 0 < k
     → k ≤ length edges → length edges ≡ length cells → All IsEdge edges → slice_index cells (k - 1) ≢ gone
@@ -171,13 +167,11 @@ pub label_joined : (labels next cells : List ℕ) (edges : List ColouredEdge) (k
     (slice_index labels (get_or edges (k - 1) d).one) (slice_index labels j))
     → AreLabelsFrom next edges cells (k - 1)
 label_joined labels next cells edges k d some within size are there is long value =
-    let P : ℕ → Type 0 = λ j. AreLabelsFrom labels edges cells j in
-    let Q : List Edge → Type 0 = λ z. AreLabels next z in
     let e : IsEdge (get_or edges (k - 1) d) = are (k - 1) d (omega arith) in
-    subst Q (present_more (graph_of edges) cells (k - 1) (slice_index cells (k - 1)) _
-    (graph_drop edges (k - 1) d (omega arith)) (cells_drop cells (k - 1) (omega arith)) there)
+    rw (← (present_more (graph_of edges) cells (k - 1) (slice_index cells (k - 1)) _
+    (graph_drop edges (k - 1) d (omega arith)) (cells_drop cells (k - 1) (omega arith)) there))
     (labels_joined labels next (present (drop (suc (k - 1)) (graph_of edges)) (drop (suc (k - 1)) cells))
-    (get_or edges (k - 1) d).one (get_or edges (k - 1) d).other (subst P (down k some) is)
+    (get_or edges (k - 1) d).one (get_or edges (k - 1) d).other (rw (← (down k some)) is)
     (vertex_below _ e.one) (vertex_below _ e.other) long value)
 
 -- ---- the edges that are joined
@@ -211,12 +205,10 @@ pub record IsKeptBelow (test : ℕ → Bool) (start cells : List ℕ) (i : ℕ) 
 pub kept_stays : (test : ℕ → Bool) (start cells next : List ℕ) (i : ℕ) → IsKeptBelow test start cells i → test i ≡ true
     → next ≡ cells → IsKeptBelow test start next (i + 1)
 kept_stays test start cells next i is passes same =
-    let P : List ℕ → Type 0 = λ z. IsKeptBelow test start z (i + 1) in
-    subst P (sym same) (record {
+    rw same (record {
       long = is.long;
       done = λ k below. elim (same-or-not k i) [
-        | inl e ↦ (let Q : ℕ → Type 0 = λ z. slice_index cells z ≡ (if test z then slice_index start z else gone) in
-            subst Q (sym e) (is.left i (omega arith) ∙ sym (ap (λ b. if b then slice_index start i else gone) passes)))
+        | inl e ↦ (rw e (is.left i (omega arith) ∙ sym (ap (λ b. if b then slice_index start i else gone) passes)))
         | inr n ↦ is.done k (omega (arith, n))
       ];
       left = λ k above. is.left k (omega arith);
@@ -225,13 +217,11 @@ kept_stays test start cells next i is passes same =
 pub kept_goes : (test : ℕ → Bool) (start cells next : List ℕ) (i : ℕ) → IsKeptBelow test start cells i → i < length start
     → test i ≡ false → next ≡ slice_set cells i gone → IsKeptBelow test start next (i + 1)
 kept_goes test start cells next i is below fails same =
-    let P : List ℕ → Type 0 = λ z. IsKeptBelow test start z (i + 1) in
     let size = is.long in
-    subst P (sym same) (record {
+    rw same (record {
       long = length-set cells i gone ∙ is.long;
       done = λ k lower. elim (same-or-not k i) [
-        | inl e ↦ (let Q : ℕ → Type 0 = λ z. slice_index (slice_set cells i gone) z ≡ (if test z then slice_index start z else gone) in
-            subst Q (sym e) (get_or-set_same cells i gone 0 (omega arith)
+        | inl e ↦ (rw e (get_or-set_same cells i gone 0 (omega arith)
             ∙ sym (ap (λ b. if b then slice_index start i else gone) fails)))
         | inr n ↦ get_or-set_other cells i k gone 0 n ∙ is.done k (omega (arith, n))
       ];

@@ -1,5 +1,5 @@
 -- The fault that is found first is the least place at which a pair is amiss.
-use Rattle.std.proofs.Common.{◌≡◌, ◌≢◌, ◌⊎◌, refl, ℕ, suc, ◌+◌, ◌<◌, ◌≤◌, ◌==◌, ◌||◌, Bool, true, false, if◌then◌else◌, Option, Some, None, List, [], ◌∷◌, ◌++◌, length, drop, get_or, inl, inr, ap, sym, ◌∙◌, subst, arith}
+use Rattle.std.proofs.Common.{◌≡◌, ◌≢◌, ◌⊎◌, refl, ℕ, suc, ◌+◌, ◌<◌, ◌≤◌, ◌==◌, ◌||◌, Bool, true, false, if◌then◌else◌, Option, Some, None, List, [], ◌∷◌, ◌++◌, length, drop, get_or, inl, inr, ap, sym, ◌∙◌, arith}
 use Rattle.std.specs.Option.{option_or}
 use Rattle.std.specs.Prelude.{All, nat_le}
 use Rattle.std.proofs.Math.Seq.{drop-cons}
@@ -112,8 +112,7 @@ one_broken : (vertices : ℕ) (i : PairItem) (items before behind : List PairIte
     → i ∷ items ≡ before ++ (j ∷ behind) → IsAmiss vertices j q → OneBroken vertices i items q
 one_broken vertices i items [] behind j q e a =
     let same : j ≡ i = cc in
-    let P : PairItem → Type 0 = λ z. IsAmiss vertices z q in
-    record { way = inl (subst P same a) }
+    record { way = inl (rw (← same) a) }
 one_broken vertices i items (y ∷ before) behind j q e a =
     let rest : items ≡ before ++ (j ∷ behind) = cc in
     record { way = inr (record { before = before; item = j; behind = behind; among = rest; amiss = a }) }

@@ -1,5 +1,5 @@
 -- Paths from the ground: what is computed is what is so, and with more edges more is reached.
-use Rattle.std.proofs.Common.{◌≡◌, refl, ℕ, zero, suc, ◌==◌, Bool, true, if◌then◌else◌, IsTrue, Option, Some, None, List, [], ◌∷◌, ◌⊎◌, inl, inr, ap, sym, subst}
+use Rattle.std.proofs.Common.{◌≡◌, refl, ℕ, zero, suc, ◌==◌, Bool, true, IsTrue, Option, Some, None, List, [], ◌∷◌, ◌⊎◌, inl, inr, ap, sym}
 use Rattle.std.specs.Prelude.{slice_get}
 use Rattle.std.proofs.lemmas.Bool.{eqb-true, eq-eqb}
 use Rattle.cg_dyadic.proofs.Truth.{false-from, true-or-not}
@@ -17,12 +17,10 @@ in_present [] cells e m = absurd m
 in_present (f ∷ es) [] e m = absurd m
 in_present (f ∷ es) (c ∷ cs) e m = elim (true-or-not (c == gone)) [
   | inl t ↦
-      let P : Bool → Type 0 = λ b. In e (if b then present es cs else f ∷ present es cs) in
-      let (k, g, there) = in_present es cs e (subst P t m) in
+      let (k, g, there) = in_present es cs e (rw t at m) in
       (suc k, g, there)
   | inr n ↦
-      let P : Bool → Type 0 = λ b. In e (if b then present es cs else f ∷ present es cs) in
-      elim (subst P (false-from (c == gone) n) m) [
+      elim (rw (false-from (c == gone) n) at m) [
         | inl same ↦ (zero, ap Some (sym same), λ e. n (eq-eqb c gone e))
         | inr l ↦ (let (k, g, there) = in_present es cs e l in (suc k, g, there))
       ]
@@ -36,14 +34,12 @@ present_in : (edges : List Edge) (cells : List ℕ) (k : ℕ) (e : Edge) → sli
 present_in [] cells k e g there = absurd (none-some e g)
 present_in (f ∷ es) [] k e g there = absurd (there refl)
 present_in (f ∷ es) (c ∷ cs) zero e g there =
-    let P : Bool → Type 0 = λ b. In e (if b then present es cs else f ∷ present es cs) in
-    subst P (sym (false-from (c == gone) (λ t. there (eqb-true c gone t)))) (inl (sym (some-same f e g)))
+    rw (false-from (c == gone) (λ t. there (eqb-true c gone t))) (inl (sym (some-same f e g)))
 present_in (f ∷ es) (c ∷ cs) (suc k) e g there =
-    let P : Bool → Type 0 = λ b. In e (if b then present es cs else f ∷ present es cs) in
     let m : In e (present es cs) = present_in es cs k e g there in
     elim (true-or-not (c == gone)) [
-      | inl t ↦ subst P (sym t) m
-      | inr n ↦ subst P (sym (false-from (c == gone) n)) (inr m)
+      | inl t ↦ rw t m
+      | inr n ↦ rw (false-from (c == gone) n) (inr m)
     ]
 
 -- ---- what is computed is what is so
@@ -58,8 +54,7 @@ joins-connected edges cells k u v (inr g) there =
 reached-connected : (edges : List Edge) (cells : List ℕ) (v : ℕ) → Reached edges cells v
     → IsTrue (connected (present edges cells) ground v)
 reached-connected edges cells v (empty w e) =
-    let P : ℕ → Type 0 = λ z. IsTrue (connected (present edges cells) ground z) in
-    subst P (sym e) (connected-refl (present edges cells) ground)
+    rw e (connected-refl (present edges cells) ground)
 reached-connected edges cells v (along k u w r there joins) =
     connected-trans (present edges cells) ground u w (reached-connected edges cells u r)
     (joins-connected edges cells k u w joins there)
@@ -82,11 +77,9 @@ has_end-cases test (Some e) h = (e, refl, or-cases (test e.one) (test e.other) h
 end-has : (test : ℕ → Bool) (o : Option Edge) (e : Edge) → o ≡ Some e → IsTrue (test e.one) ⊎ IsTrue (test e.other)
     → IsTrue (has_end test o)
 end-has test o e f (inl t) =
-    let P : Option Edge → Type 0 = λ z. IsTrue (has_end test z) in
-    subst P (sym f) (or-first (test e.one) (test e.other) t)
+    rw f (or-first (test e.one) (test e.other) t)
 end-has test o e f (inr t) =
-    let P : Option Edge → Type 0 = λ z. IsTrue (has_end test z) in
-    subst P (sym f) (or-second (test e.one) (test e.other) t)
+    rw f (or-second (test e.one) (test e.other) t)
 
 pub joined-so : (edges : List Edge) (cells : List ℕ) (k : ℕ) → is_joined edges cells k ≡ true → IsJoined edges cells k
 unfolding is_joined

@@ -1,5 +1,5 @@
 -- The items of texts: how many bytes they have and where they stand.
-use Rattle.std.proofs.Common.{◌≡◌, ℕ, ◌+◌, ◌^◌, ◌<◌, ◌≤◌, true, List, [], ◌∷◌, length, inl, inr, ap, sym, subst, arith, length-append}
+use Rattle.std.proofs.Common.{◌≡◌, ℕ, ◌+◌, ◌^◌, ◌<◌, ◌≤◌, true, List, [], ◌∷◌, length, inl, inr, ap, arith, length-append}
 use Rattle.std.specs.Prelude.{All}
 use Rattle.std.proofs.lemmas.List.Elements.{All-cons}
 use Rattle.cg_reading.specs.Bytes.{has}
@@ -14,8 +14,7 @@ use Rattle.cg_graph.specs.declared.items.PairItem.{PairItem}
 
 edge_is : (i : ℕ) (item : EdgeItem) (text : List ℕ) → s.edge i item text → IsEdge item.edge
 edge_is i item text is =
-    let P : EdgeItem → Type 0 = λ z. IsEdge z.edge in
-    subst P (sym is.same) (record {
+    rw is.same (record {
       one = is.is.first.1.within;
       colour = is.is.second.first.within;
       other = is.is.second.second.within;
@@ -26,9 +25,8 @@ more_edges : (i : ℕ) (items : List EdgeItem) (text : List ℕ) → Many (s.beh
 more_edges i [] text is = λ k d below. absurd (omega arith)
 more_edges i (e ∷ items) text is =
     let m = is.first.is in
-    let P : EdgeItem → Type 0 = λ z. IsEdge z.edge in
     All-cons IsEdge e.edge (drawing_of items)
-    (subst P (sym is.first.same) (edge_is (i + length m.before) is.first.made_of.1 m.behind m.second))
+    (rw is.first.same (edge_is (i + length m.before) is.first.made_of.1 m.behind m.second))
     (more_edges (i + length is.before) items is.behind is.second)
 
 -- a text of edges has one at least, and each is one
@@ -36,8 +34,7 @@ pub edges_are : (i : ℕ) (items : List EdgeItem) (text : List ℕ) → s.edges 
     → (1 ≤ length items) × All IsEdge (drawing_of items)
 edges_are i items text is =
     let t = is.is in
-    let P : List EdgeItem → Type 0 = λ z. (1 ≤ length z) × All IsEdge (drawing_of z) in
-    subst P (sym is.same) (
+    rw is.same (
       omega arith,
       All-cons IsEdge is.made_of.0.edge (drawing_of is.made_of.1) (edge_is i is.made_of.0 t.before t.first)
           (more_edges (i + length t.before) is.made_of.1 t.behind t.second),
@@ -55,12 +52,11 @@ record PairAt (i : ℕ) (item : PairItem) (size : ℕ) : Type 0 where
 pair_is : (i : ℕ) (item : PairItem) (text : List ℕ) → s.pair i item text → PairAt i item (length text)
 pair_is i item text is =
     let t = is.is in
-    let P : PairItem → Type 0 = λ z. PairAt i z (length text) in
     let a = ap length t.first.1.spelled in
     let b = ap length t.second.spelled in
     let c = ap length t.spelled in
     let d = length-append t.before t.behind in
-    subst P (sym is.same) (record {
+    rw is.same (record {
       place = t.first.0;
       one = t.first.1.within;
       other = t.second.within;
@@ -94,34 +90,27 @@ more_pairs : (i : ℕ) (items : List PairItem) (text : List ℕ) → Many (s.beh
 more_pairs i [] text is = record { places = tt; letters = λ few. λ k d below. absurd (omega arith) }
 more_pairs i (item ∷ items) text is =
     let m = is.first.is in
-    let P : PairItem → Type 0 = λ z. PairAt (i + length m.before) z (length m.behind) in
     let a : PairAt (i + length m.before) item (length m.behind) =
-    subst P (sym is.first.same) (pair_is (i + length m.before) is.first.made_of.1 m.behind m.second) in
+    rw is.first.same (pair_is (i + length m.before) is.first.made_of.1 m.behind m.second) in
     let one = ap length m.first.spelled in
     let b = ap length m.spelled in
     let c = length-append m.before m.behind in
     let d = ap length is.spelled in
     let e = length-append is.before is.behind in
     let two = a.long in
-    let Q : ℕ → Type 0 = λ z. PairAt (i + length m.before) item z in
-    let R : ℕ → Type 0 = λ z. PairsAt z items (length is.behind) in
     let same : i + length is.before ≡ i + length m.before + 2 = omega arith in
-    pairs_cons i (i + length m.before) (length text) (length is.behind) item items (omega arith) (subst Q two a)
-    (subst R same (more_pairs (i + length is.before) items is.behind is.second)) (omega arith)
+    pairs_cons i (i + length m.before) (length text) (length is.behind) item items (omega arith) (rw (← two) a)
+    (rw (← same) (more_pairs (i + length is.before) items is.behind is.second)) (omega arith)
 
 pub pairs_are : (i : ℕ) (items : List PairItem) (text : List ℕ) → s.pairs i items text → PairsAt i items (length text)
 pairs_are i items text (inr is) =
-    let P : List PairItem → Type 0 = λ z. PairsAt i z (length text) in
-    subst P (sym is.0) (record { places = tt; letters = λ few. λ k d below. absurd (omega arith) })
+    rw is.0 (record { places = tt; letters = λ few. λ k d below. absurd (omega arith) })
 pairs_are i items text (inl is) =
     let t = is.is in
-    let P : List PairItem → Type 0 = λ z. PairsAt i z (length text) in
     let a = pair_is i is.made_of.0 t.before t.first in
     let d = ap length t.spelled in
     let e = length-append t.before t.behind in
     let two = a.long in
-    let Q : ℕ → Type 0 = λ z. PairAt i is.made_of.0 z in
-    let R : ℕ → Type 0 = λ z. PairsAt (i + z) is.made_of.1 (length t.behind) in
-    subst P (sym is.same)
-    (pairs_cons i i (length text) (length t.behind) is.made_of.0 is.made_of.1 (omega arith) (subst Q two a)
-    (subst R two (more_pairs (i + length t.before) is.made_of.1 t.behind t.second)) (omega arith))
+    rw is.same
+    (pairs_cons i i (length text) (length t.behind) is.made_of.0 is.made_of.1 (omega arith) (rw (← two) a)
+    (rw (← two) (more_pairs (i + length t.before) is.made_of.1 t.behind t.second)) (omega arith))

@@ -1,5 +1,5 @@
 -- Hackenbush without green edges: no cut is good for the player who makes it, so each position equals a number.
-use Rattle.std.proofs.Common.{◌≡◌, ◌≢◌, refl, ℕ, zero, suc, ◌<◌, ◌==◌, Bool, true, false, not, if◌then◌else◌, List, [], ◌∷◌, length, inl, inr, ap, sym, ◌∙◌, subst, arith}
+use Rattle.std.proofs.Common.{◌≡◌, ◌≢◌, refl, ℕ, zero, suc, ◌<◌, ◌==◌, Bool, true, false, not, List, [], ◌∷◌, length, inl, inr, ap, sym, ◌∙◌, arith}
 use Rattle.std.proofs.lemmas.Bool.{eqb-true}
 use Rattle.cg_dyadic.specs.Number.{Number}
 use Rattle.cg_form.specs.Game.{Among, Game, lefts, number, rights}
@@ -38,11 +38,10 @@ there-within (c ∷ cs) (suc k) there = let h = there-within cs k there in omega
 pub cut_is : (edges : List Edge) (player : Player) (cells : List ℕ) (k : ℕ) → may_cut player (colour cells k) ≡ true
     → In (cut edges cells k) (cuts_of edges player cells)
 cut_is edges player cells k may =
-    let P : Bool → Type 0 = λ b. In (cut edges cells k) (if b then cut edges cells k ∷ [] else []) in
     in-rising _ (cut edges cells k)
     (in_flat_mapped (cuts_at edges player cells) (cut edges cells k) k (counted 0 (length cells))
     (in_counted 0 (length cells) k (omega arith) (let w = there-within cells k (may-there player cells k may) in omega (arith, w)))
-    (subst P (sym may) (inl refl)))
+    (rw may (inl refl)))
 
 -- ---- whose edges
 
@@ -113,18 +112,15 @@ module _ (edges : List Edge) (p : Grid) where
   may-still : (s : Bool) (cells : List ℕ) (k l : ℕ) → May s cells k → IsThere (cut edges cells l) k
       → May s (cut edges cells l) k
   may-still s cells k l may there =
-      let P : ℕ → Type 0 = λ c. may_cut (player_of s) c ≡ true in
-      subst P (sym ((cut-part edges cells l).same k there)) may
+      rw ((cut-part edges cells l).same k there) may
 
   may-before : (s : Bool) (cells : List ℕ) (k l : ℕ) → May s (cut edges cells l) k → May s cells k
   may-before s cells k l may =
-      let P : ℕ → Type 0 = λ c. may_cut (player_of s) c ≡ true in
-      subst P ((cut-part edges cells l).same k (may-there (player_of s) (cut edges cells l) k may)) may
+      rw (← ((cut-part edges cells l).same k (may-there (player_of s) (cut edges cells l) k may))) may
 
   may-apart : (s : Bool) (cells : List ℕ) (k l : ℕ) → Fine cells → May s cells k → May (not s) cells l → k ≢ l
   may-apart s cells k l fine may other e =
-      let P : ℕ → Type 0 = λ z. may_cut (player_of (not s)) (colour cells z) ≡ true in
-      not_both s (colour cells k) (fine.no_green k) may (subst P (sym e) other)
+      not_both s (colour cells k) (fine.no_green k) may (rw e other)
 
   cutting : IsCutting tree count Fine May (cut edges)
   cutting = record {
@@ -172,12 +168,10 @@ pub moved-settled : (edges : List Edge) (player : Player) (p q : Grid) → In q 
     → IsSettled edges q.cells
 moved-settled edges player p q m =
     let (k, e) = after-is edges player p q m in
-    let P : Grid → Type 0 = λ z. IsSettled edges z.cells in
-    subst P (sym e) (settled-cut edges p.cells k)
+    rw e (settled-cut edges p.cells k)
 
 pub moved-red_blue : (edges : List Edge) (player : Player) (p q : Grid) → IsRedBlue edges p
     → In q (boards_after (hackenbush edges) player p) → IsRedBlue edges q
 moved-red_blue edges player p q fine m =
     let (k, e) = after-is edges player p q m in
-    let P : Grid → Type 0 = λ z. IsRedBlue edges z in
-    subst P (sym e) (after_cut edges p p.cells k fine)
+    rw e (after_cut edges p p.cells k fine)

@@ -1,5 +1,5 @@
 -- The cells of boards have the symbols of the games.
-use Rattle.std.proofs.Common.{◌≡◌, ◌⊎◌, refl, ℕ, zero, suc, ◌==◌, true, None, List, [], ◌∷◌, length, sym, ◌∙◌, subst, arith, inl, inr, append-nil}
+use Rattle.std.proofs.Common.{◌≡◌, ◌⊎◌, refl, ℕ, zero, suc, ◌==◌, true, None, List, [], ◌∷◌, length, sym, ◌∙◌, arith, inl, inr, append-nil}
 use Rattle.std.specs.Prelude.{All, Contains, codes, position}
 use Rattle.std.specs.Str.{bytes_eq}
 use Rattle.cg_dyadic.proofs.Truth.{and-split}
@@ -47,8 +47,7 @@ pub has-gone : (edges : List ColouredEdge) (p : Grid) → (drawing_rules edges).
 has-gone edges p has =
     let same = bytes_eq-back p.symbols (codes ".brg")
     (and-split (bytes_eq p.symbols (codes ".brg")) (length p.cells == length (graph_of edges)) has).0 in
-    let P : List ℕ → Type 0 = λ z. Contains z gone in
-    subst P (sym same) gone-contained
+    rw same gone-contained
 
 -- ---- Col and Snort
 
@@ -60,8 +59,7 @@ pub has-own : (chart : Chart) (player : Player) (p : Grid) → (chart_rules char
 has-own chart player p has =
     let same = bytes_eq-back p.symbols (codes ".xo")
     (and-split (bytes_eq p.symbols (codes ".xo")) (length p.cells == length chart.vertices) has).0 in
-    let P : List ℕ → Type 0 = λ z. Contains z (own player) in
-    subst P (sym same) (own-contained player)
+    rw same (own-contained player)
 
 pub vertices_cells : (vertices cells : List ℕ) → cells ≡ vertices → position (is_foreign true (codes ".xo")) vertices ≡ None
     → AreCells (codes ".xo") cells

@@ -1,6 +1,6 @@
 -- The rows and columns that bound a set of cells.
 use Rattle.std.proofs.lemmas.Bool.Decides.{nat_tests}
-use Rattle.std.proofs.Common.{◌≡◌, refl, ℕ, suc, ◌+◌, ◌-◌, ◌/◌, ◌<◌, ◌≤◌, inl, inr, Bool, true, false, cond, if◌then◌else◌, List, [], ◌∷◌, filter, length, map, ap, sym, ◌∙◌, subst, arith, mul_comm}
+use Rattle.std.proofs.Common.{◌≡◌, refl, ℕ, suc, ◌+◌, ◌-◌, ◌/◌, ◌<◌, ◌≤◌, inl, inr, Bool, true, false, if◌then◌else◌, List, [], ◌∷◌, filter, length, map, ap, sym, ◌∙◌, subst, arith, mul_comm}
 use Rattle.std.proofs.Math.Nat.{mod-eq_of_lt, mul-add-mod_self_left}
 use Rattle.std.proofs.lemmas.Bool.{leb-true}
 use Rattle.std.proofs.lemmas.Nat.{div-mul-add}
@@ -9,7 +9,7 @@ use Rattle.cg_moves.specs.Grid.{Grid}
 use Rattle.cg_moves.specs.Rising.{counted}
 use Rattle.cg_moves.specs.Rules.{In}
 use Rattle.cg_moves.proofs.Counted.{in_counted}
-use Rattle.cg_moves.proofs.Members.{in-map, in_mapped}
+use Rattle.cg_moves.proofs.Members.{carry, in-map, in_mapped}
 use Rattle.cg_pieces.specs.Boxes.{Box, box_of, cell_at, column_of, greatest_of, least_of, members, row_of, set_box}
 
 -- ---- rows and columns
@@ -33,28 +33,24 @@ pub in-filter : (test : ℕ → Bool) (k : ℕ) (ks : List ℕ) → In k (filter
 in-filter test k [] m = absurd m
 in-filter test k (l ∷ ks) m = elim (true-or-not (test l)) [
   | inl t ↦
-      let P : Bool → Type 0 = λ b. In k (cond b (l ∷ filter test ks) (filter test ks)) in
-      elim (subst P t m) [
+      elim (rw t at m) [
         | inl e ↦ (inl e, ap test e ∙ t)
         | inr i ↦ (let h = in-filter test k ks i in (inr h.0, h.1))
       ]
   | inr f ↦
-      let P : Bool → Type 0 = λ b. In k (cond b (l ∷ filter test ks) (filter test ks)) in
-      let h = in-filter test k ks (subst P (false-from (test l) f) m) in
+      let h = in-filter test k ks (rw (false-from (test l) f) at m) in
       (inr h.0, h.1)
 ]
 
 pub filter-in : (test : ℕ → Bool) (k : ℕ) (ks : List ℕ) → In k ks → test k ≡ true → In k (filter test ks)
 filter-in test k [] m t = absurd m
 filter-in test k (l ∷ ks) (inl e) t =
-    let P : Bool → Type 0 = λ b. In k (cond b (l ∷ filter test ks) (filter test ks)) in
-    subst P (sym (ap test (sym e) ∙ t)) (inl e)
+    rw (ap test (sym e) ∙ t) (inl e)
 filter-in test k (l ∷ ks) (inr m) t =
-    let P : Bool → Type 0 = λ b. In k (cond b (l ∷ filter test ks) (filter test ks)) in
     let h = filter-in test k ks m t in
     elim (true-or-not (test l)) [
-      | inl u ↦ subst P (sym u) (inr h)
-      | inr f ↦ subst P (sym (false-from (test l) f)) h
+      | inl u ↦ rw u (inr h)
+      | inr f ↦ rw (false-from (test l) f) h
     ]
 
 -- ---- the least and the greatest
@@ -109,12 +105,10 @@ bounds-by line in_set n l ls within e =
     let low = least-is l ls in
     let high = greatest-is l ls in
     let of : (k : ℕ) → in_set k ≡ true → In (line k) (l ∷ ls) = λ k t.
-    let P : List ℕ → Type 0 = λ z. In (line k) z in
-    subst P (sym e) (in_mapped line k (filter in_set (counted 0 n))
+    carry _ _ _ (sym e) (in_mapped line k (filter in_set (counted 0 n))
     (filter-in in_set k (counted 0 n) (in_counted 0 n k (omega arith) (let h = within k t in omega (arith, h))) t)) in
-    let P : ℕ → List ℕ → Type 0 = λ x z. In x z in
-    let (a, i, f) = in-map line (least_of (l ∷ ls)) (filter in_set (counted 0 n)) (subst (P (least_of (l ∷ ls))) e low.among) in
-    let (c, j, h) = in-map line (greatest_of (l ∷ ls)) (filter in_set (counted 0 n)) (subst (P (greatest_of (l ∷ ls))) e high.among) in
+    let (a, i, f) = in-map line (least_of (l ∷ ls)) (filter in_set (counted 0 n)) (carry _ _ _ e low.among) in
+    let (c, j, h) = in-map line (greatest_of (l ∷ ls)) (filter in_set (counted 0 n)) (carry _ _ _ e high.among) in
     let order = low.each (greatest_of (l ∷ ls)) high.among in record {
       low = λ k t. low.each (line k) (of k t);
       high = λ k t. let x = high.each (line k) (of k t) in omega (arith, x, order);
@@ -141,8 +135,7 @@ set-bounds p in_set k within some = go (members in_set p) refl
   where
     go : (ks : List ℕ) → ks ≡ members in_set p → Bounds p.columns in_set (box_of p.columns ks)
     go [] e =
-        let P : List ℕ → Type 0 = λ z. In k z in
         let h : k < 0 + length p.cells = let w = within k some in omega (arith, w) in
-        absurd (subst P (sym e) (filter-in in_set k (counted 0 (length p.cells))
+        absurd (rw (← e) at (filter-in in_set k (counted 0 (length p.cells))
         (in_counted 0 (length p.cells) k (omega arith) h) some))
     go (l ∷ ls) e = bounds-list p.columns in_set (length p.cells) l ls within e

@@ -3,7 +3,6 @@ use Rattle.std.proofs.Common.{◌≡◌, refl, ℕ, zero, suc, ◌<◌, ◌≤�
 use Rattle.cg_moves.specs.declared.player.Player.{Player}
 use Rattle.cg_moves.specs.CutByMoves.{IsCutByMoves, MoveInPiece, MoveOfBoard, IsSameMove}
 use Rattle.cg_moves.specs.Grid.{Grid, with_cells}
-use Rattle.cg_moves.specs.Reordered.{IsReordered}
 use Rattle.cg_moves.specs.Rules.{GameRules, In, followers, pieces, pieces_by}
 use Rattle.cg_form.proofs.Firsts.{in-append_left, in-append_right}
 use Rattle.cg_moves.proofs.Members.{in-map, in_mapped}
@@ -106,17 +105,13 @@ module _ (g : CellGame) (r : GameRules) (laws : IsCellGame g) (cuts : CutsByCell
       → IsSameMove r p (g.after player p one other) (map (g.piece p) before) (g.piece p s)
       (g.after player (g.piece p s) (g.place p s one) (g.place p s other)) (map (g.piece p) behind)
   same_move player p before s behind one other has cut legal j =
-      let P : List ℕ → Type 0 = λ z. In s z in
-      let among : In s (g.firsts p) = subst P (sym cut) (in-append_right s before (s ∷ behind) (inl refl)) in
+      let among : In s (g.firsts p) = rw cut (in-append_right s before (s ∷ behind) (inl refl)) in
       let after : Grid = with_cells p (g.after player p one other) in
       let small : Grid = with_cells (g.piece p s) (g.after player (g.piece p s) (g.place p s one) (g.place p s other)) in
       let o = cuts.shown_after player p s one other has among legal j in
-      let Q : List Grid → Type 0 = λ z. IsReordered z (map (g.piece p) before
-      ++ (pieces r small ++ map (g.piece p) behind)) in
-      let R : List Grid → Type 0 = λ z. IsReordered (pieces_of g after) (map (g.piece p) before
-      ++ (z ++ map (g.piece p) behind)) in record {
+      record {
         cut = pieces-are p ∙ ap (map (g.piece p)) cut ∙ map-append (g.piece p) before (s ∷ behind);
-        others = subst Q (sym (pieces-are after)) (subst R (sym (pieces-are small)) (pieces-after g laws p before s behind after small cut o));
+        others = rw (pieces-are after) (rw (pieces-are small) (pieces-after g laws p before s behind after small cut o));
       }
 
   piece-legal : (player : Player) (p : Grid) (s one other : ℕ) → r.has p ≡ true → In s (g.firsts p)
@@ -197,8 +192,7 @@ module _ (g : CellGame) (r : GameRules) (laws : IsCellGame g) (cuts : CutsByCell
       ((laws.first (g.piece p s) (g.place p s s)).1 (first-placed g laws p s p (g.piece p s) o s self first_s))
       (λ m i. let first_m = (laws.first (g.piece p s) m).0 i in
       let (k, j, e) = o.placed m first_m.is_open in
-      let P : ℕ → Type 0 = First g (g.piece p s) in
-      let first_k = placed-first g laws p s p (g.piece p s) o k j (subst P e first_m) in
+      let first_k = placed-first g laws p s p (g.piece p s) o k j (subst (First g (g.piece p s)) e first_m) in
       let a = first_s.least k j in
       let b = first_k.least s (joined-sym g laws p s k j) in
       let f : k ≡ s = omega arith in
@@ -219,8 +213,7 @@ module _ (g : CellGame) (r : GameRules) (laws : IsCellGame g) (cuts : CutsByCell
   -- what holds of the board of each first cell holds of each piece
   each-piece : (P : Grid → Type 0) (p q : Grid) → ((s : ℕ) → In s (g.firsts p) → P (g.piece p s)) → In q (pieces r p) → P q
   each-piece P p q each m =
-      let Q : List Grid → Type 0 = λ z. In q z in
-      let (s, i, e) = in-map (g.piece p) q (g.firsts p) (subst Q (pieces-are p) m) in
+      let (s, i, e) = in-map (g.piece p) q (g.firsts p) (rw (← (pieces-are p)) m) in
       subst P (sym e) (each s i)
 
   pub by-cells : IsCutByMoves r

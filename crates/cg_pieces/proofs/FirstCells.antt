@@ -1,6 +1,6 @@
 -- Joined sets in which some player has a move, and what is taken of their first cells.
 use Rattle.std.proofs.lemmas.Bool.Decides.{nat_tests}
-use Rattle.std.proofs.Common.{◌≡◌, refl, ℕ, suc, ◌+◌, ◌<◌, ◌&&◌, ◌||◌, ◌⊎◌, inl, inr, Bool, true, false, if◌then◌else◌, IsTrue, List, [], ◌∷◌, ◌++◌, filter, length, map, ap, sym, ◌∙◌, subst, arith}
+use Rattle.std.proofs.Common.{◌≡◌, refl, ℕ, suc, ◌+◌, ◌<◌, ◌&&◌, ◌||◌, ◌⊎◌, inl, inr, Bool, true, false, if◌then◌else◌, IsTrue, List, [], ◌∷◌, ◌++◌, filter, length, map, ap, sym, ◌∙◌, arith}
 use Rattle.std.specs.Int.{bit_at}
 use Rattle.std.proofs.lemmas.List.{append-nil, map-append}
 use Rattle.cg_dyadic.proofs.Truth.{and-both, and-split}
@@ -53,11 +53,9 @@ module _ (n : Neighbours) (laws : IsNeighbours n) (p : Grid) where
         };
     all = λ k l b t.
         let s = some-move k l t in
-        let P : ℕ → Type 0 = λ z. may_move n s.player p z s.other ≡ true in
-        let Q : ℕ → ℕ → Type 0 = λ x z. may_move n s.player p x z ≡ true in
         elim s.cells [
-          | inl same ↦ forth s.player k l b (subst (Q k) same.1 (subst P same.0 s.legal))
-          | inr same ↦ back s.player k l b (subst (Q l) same.1 (subst P same.0 s.legal))
+          | inl same ↦ forth s.player k l b (rw same.1 at (rw same.0 at s.legal))
+          | inr same ↦ back s.player k l b (rw same.1 at (rw same.0 at s.legal))
         ];
   }
 
@@ -113,10 +111,9 @@ module _ (n : Neighbours) (laws : IsNeighbours n) (p : Grid) where
     joined-move k to_k m =
         let s = some-move k m.other m.move in
         let parts = may-parts n laws s.player p s.one s.other s.legal in
-        let P : ℕ → Type 0 = λ z. Joined (cell_game n) p first z in
         let to_one : Joined (cell_game n) p first s.one = elim s.cells [
-          | inl same ↦ subst P (sym same.0) to_k
-          | inr same ↦ step s.other s.one (subst P (sym same.1) to_k) parts.1 parts.0 (next-sym p.columns s.one s.other parts.2)
+          | inl same ↦ rw same.0 to_k
+          | inr same ↦ step s.other s.one (rw same.1 to_k) parts.1 parts.0 (next-sym p.columns s.one s.other parts.2)
         ] in
         let at_one : IsTrue (has_move_at n p s.one) =
         one-any (λ l. may_move n Left p s.one l || may_move n Right p s.one l) s.other (counted 0 (length p.cells))
@@ -141,10 +138,9 @@ module _ (n : Neighbours) (laws : IsNeighbours n) (p : Grid) where
         go player one other to_one legal =
             let parts = may-parts n laws player p one other legal in
             let b = behind-of player one other legal in
-            let P : ℕ → Type 0 = λ z. Joined (cell_game n) p first z in
             elim b.cells [
-              | inl same ↦ none b.first b.second (subst P (sym same) to_one) b.behind b.moves
-              | inr same ↦ none b.first b.second (subst P (sym same) (step one other to_one parts.0 parts.1 parts.2))
+              | inl same ↦ none b.first b.second (rw same to_one) b.behind b.moves
+              | inr same ↦ none b.first b.second (rw same (step one other to_one parts.0 parts.1 parts.2))
                   b.behind b.moves
             ]
 

@@ -1,6 +1,6 @@
 -- The rows and columns that bound cells, and the cells inside.
 use Rattle.std.proofs.lemmas.Bool.Decides.{nat_tests}
-use Rattle.std.proofs.Common.{◌≡◌, ℕ, suc, ◌+◌, ◌-◌, ◌*◌, ◌<◌, ◌≤◌, inl, inr, Bool, true, if◌then◌else◌, List, length, slice_index, ap, sym, subst, arith}
+use Rattle.std.proofs.Common.{◌≡◌, ℕ, suc, ◌+◌, ◌-◌, ◌*◌, ◌<◌, ◌≤◌, inl, inr, Bool, true, if◌then◌else◌, List, length, slice_index, ap, arith}
 use Rattle.std.specs.Prelude.{Contains}
 use Rattle.std.proofs.Math.Nat.{mod-lt, mul-le-mul_left, mul-le-mul_right}
 use Rattle.std.proofs.lemmas.List.{length-map}
@@ -114,10 +114,9 @@ module _ (p : Grid) (set : ℕ → Bool) (within : (k : ℕ) → set k ≡ true 
         let z = cropped-size blank in
         let h : m < box.rows * box.columns = omega (arith, below, z) in
         let k : ℕ = unboxed box p.columns m in
-        let P : ℕ → Type 0 = λ c. Contains p.symbols c in
-        subst P (sym (crop-at blank p set within first some wide m h)) (elim (true-or-not (set k)) [
-          | inl t ↦ subst P (sym (ap (λ b. if b then slice_index p.cells k else blank) t)) (cells k (unboxed-below m h))
-          | inr f ↦ subst P (sym (ap (λ b. if b then slice_index p.cells k else blank) (false-from (set k) f))) has
+        rw (crop-at blank p set within first some wide m h) (elim (true-or-not (set k)) [
+          | inl t ↦ rw (ap (λ b. if b then slice_index p.cells k else blank) t) (cells k (unboxed-below m h))
+          | inr f ↦ rw (ap (λ b. if b then slice_index p.cells k else blank) (false-from (set k) f)) has
         ])
 
     -- ---- by a frame

@@ -1,5 +1,5 @@
 -- Sets of cells in words that grow by the cells adjacent to them.
-use Rattle.std.proofs.Common.{◌≡◌, ℕ, ◌+◌, ◌-◌, ◌*◌, ◌/◌, ◌%◌, ◌<◌, ◌≤◌, ◌^◌, ◌⊎◌, inl, inr, Bool, true, refl, ap, sym, ◌∙◌, subst, arith, bit_and, bit_or, w64}
+use Rattle.std.proofs.Common.{◌≡◌, ℕ, ◌+◌, ◌-◌, ◌*◌, ◌/◌, ◌%◌, ◌<◌, ◌≤◌, ◌^◌, ◌⊎◌, inl, inr, Bool, true, refl, ap, sym, ◌∙◌, arith, bit_and, bit_or, w64}
 use Rattle.std.specs.Int.{bit_at}
 use Rattle.std.proofs.Math.Nat.{mod-eq_of_lt}
 use Rattle.std.proofs.lemmas.Bool.{eq-eqb}
@@ -68,7 +68,7 @@ up-next w k l t = or-first _ _ (or-second _ _ t)
 pub forth-next : (w k l : ℕ) → is_beside w k l ≡ true → is_next w k l ≡ true
 forth-next w k l t = or-second _ _ (or-first _ _ t)
 
-back-next : (w k l : ℕ) → is_beside w l k ≡ true → is_next w k l ≡ true
+pub back-next : (w k l : ℕ) → is_beside w l k ≡ true → is_next w k l ≡ true
 back-next w k l t = or-second _ _ (or-second _ _ t)
 
 -- ---- the set and what is adjacent to it
@@ -101,11 +101,10 @@ module _ (f : Field) (set : ℕ) (is : IsField f) (within : IsWithin set f.cells
     next-down : (k : ℕ) → k < 64 → bit_at down k ≡ 1 → NextIn f set k
     next-down k few t = elim (leb_tells f.columns k) [
       | inl h ↦ (let e : (k - f.columns) + f.columns ≡ k = let x = h.1 in omega (arith, x) in
-          let P : ℕ → Type 0 = λ z. is_below f.columns (k - f.columns) z ≡ true in
           record {
             other = k - f.columns;
             in_set = sym (down_others k h.1 few) ∙ t;
-            next = down-next f.columns (k - f.columns) k (subst P e (is-below f.columns (k - f.columns) is.wide));
+            next = down-next f.columns (k - f.columns) k (rw e at (is-below f.columns (k - f.columns) is.wide));
           })
       | inr h ↦ let none = down_first k h.1 in absurd (omega (arith, none, t))
     ]
@@ -190,11 +189,10 @@ module _ (f : Field) (set : ℕ) (is : IsField f) (within : IsWithin set f.cells
         let some : ¬ (column_of f.columns (k + 1) ≡ 0) =
         λ z. not-zero f.first_column (k + 1) first_fits few both.1 (is.starts (k + 1) o z) in
         let e : (k + 1) - 1 ≡ k = omega arith in
-        let P : ℕ → Type 0 = λ z. is_beside f.columns z (k + 1) ≡ true in
         record {
           other = k + 1;
           in_set = both.0;
-          next = back-next f.columns (k + 1) k (subst P e (before-beside f.columns (k + 1) is.wide some));
+          next = back-next f.columns (k + 1) k (rw e at (before-beside f.columns (k + 1) is.wide some));
         }
 
     all-forth : (k l : ℕ) → bit_at set k ≡ 1 → bit_at f.cells l ≡ 1 → is_beside f.columns k l ≡ true → bit_at forth l ≡ 1

@@ -1,5 +1,5 @@
 -- Sets of cells in words that have grown to all joined cells.
-use Rattle.std.proofs.Common.{◌≡◌, ◌≢◌, ◌↔◌, refl, ℕ, ◌<◌, ◌-◌, ◌⊎◌, inl, inr, if◌then◌else◌, ap, sym, ◌∙◌, subst, arith}
+use Rattle.std.proofs.Common.{◌≡◌, ◌≢◌, ◌↔◌, refl, ℕ, ◌<◌, ◌-◌, ◌⊎◌, inl, inr, if◌then◌else◌, ap, sym, ◌∙◌, arith}
 use Rattle.std.specs.Int.{bit_at}
 use Rattle.std.proofs.lemmas.Bool.{eqb-true}
 use Rattle.std.proofs.lemmas.Bool.Decides.{eqb_tells, nat_tests}
@@ -22,7 +22,7 @@ growing-start f cell set is inside = record {
     | inl h ↦ is cell ∙ ap (λ b. if b then 1 else bit_at 0 cell) h.0
     | inr h ↦ absurd (h.1 refl)
   ];
-  within = λ k t. let P : ℕ → Type 0 = λ z. bit_at f.cells z ≡ 1 in subst P (sym (only k t)) inside;
+  within = λ k t. rw (only k t) inside;
   joined = λ k t. here k (sym (only k t));
 }
   where
@@ -45,5 +45,5 @@ grown f cell set more g next ends k = (all.joined k, go k)
     all = growing-more f cell set more g next
 
     go : (k : ℕ) → JoinedIn f cell k → bit_at more k ≡ 1
-    go k (here m e) = let P : ℕ → Type 0 = λ z. bit_at more z ≡ 1 in subst P e all.here
+    go k (here m e) = rw (← e) all.here
     go k (step m l r m_open l_open adjacent) = grind (arith, nat_tests, eqb-true, all, go m r)

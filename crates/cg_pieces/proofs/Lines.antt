@@ -1,6 +1,6 @@
 -- Cells directly below and beside each other.
 use Rattle.std.proofs.lemmas.Bool.Decides.{nat_tests}
-use Rattle.std.proofs.Common.{◌≡◌, ℕ, ◌+◌, ◌-◌, ◌<◌, ◌==◌, true, ap, sym, ◌∙◌, subst, arith}
+use Rattle.std.proofs.Common.{◌≡◌, ℕ, ◌+◌, ◌-◌, ◌<◌, ◌==◌, true, ap, sym, ◌∙◌, arith}
 use Rattle.std.proofs.Math.Nat.{mod-lt}
 use Rattle.std.proofs.lemmas.Bool.{eqb-true, eq-eqb}
 use Rattle.cg_dyadic.proofs.Truth.{and-both, and-split}
@@ -42,5 +42,4 @@ before-beside w k wide some =
     let c : column_of w (k - 1) ≡ column_of w k - 1 =
     ap (column_of w) e ∙ column-cell w (row_of w k) (column_of w k - 1) (omega (arith, b)) in
     let f : (k - 1) + 1 ≡ k = omega (arith, a, some) in
-    let P : ℕ → Type 0 = λ z. is_beside w (k - 1) z ≡ true in
-    subst P f (is-beside w (k - 1) (omega (arith, b, c, some)))
+    rw f at (is-beside w (k - 1) (omega (arith, b, c, some)))

@@ -1,5 +1,5 @@
 -- Games on adjacent cells cut boards into their joined sets.
-use Rattle.std.proofs.Common.{◌≡◌, refl, ℕ, ◌*◌, ◌<◌, ◌≤◌, Bool, true, filter, length, ap, sym, ◌∙◌, subst, arith, suc, ◌+◌, inl, inr, cond, if◌then◌else◌, List, [], ◌∷◌, slice_index}
+use Rattle.std.proofs.Common.{◌≡◌, refl, ℕ, ◌*◌, ◌<◌, ◌≤◌, Bool, true, filter, length, ap, sym, ◌∙◌, arith, suc, ◌+◌, inl, inr, cond, if◌then◌else◌, List, [], ◌∷◌, slice_index}
 use Rattle.std.specs.Prelude.{count_by}
 use Rattle.cg_moves.specs.CutByMoves.{IsCutByMoves}
 use Rattle.cg_moves.specs.Grid.{Grid}
@@ -96,8 +96,7 @@ module _ (n : Neighbours) (r : GameRules) (laws : IsNeighbours n) (cuts : CutsNe
       (λ m i.
       let (k, in_k, e) = found m i in
       let k_open = open-along (cell_game n) (neighbours-cell_game n laws) p s k (joined-so n laws p s k in_k) some in
-      let P : ℕ → Type 0 = λ z. In z (filter (is_piece_cell n p) (counted 0 (length p.cells))) in
-      subst P (sym (same m k in_k e)) (filter-in (is_piece_cell n p) k (counted 0 (length p.cells)) (at-cell n laws p k k_open)
+      rw (same m k in_k e) (filter-in (is_piece_cell n p) k (counted 0 (length p.cells)) (at-cell n laws p k k_open)
       k_open))
       (λ a b i j e.
       let (k, in_k, f) = found a i in

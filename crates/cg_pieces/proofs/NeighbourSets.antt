@@ -1,12 +1,12 @@
 -- Joined sets of adjacent cells: what is computed is what is so.
 use Rattle.std.proofs.lemmas.Bool.Decides.{nat_tests}
-use Rattle.std.proofs.Common.{◌≡◌, refl, ℕ, zero, suc, ◌<◌, ◌≤◌, ◌&&◌, ◌||◌, ◌⊎◌, inl, inr, Bool, true, cond, not, IsTrue, nat_le, List, [], ◌∷◌, filter, length, slice_index, sym, subst, arith}
+use Rattle.std.proofs.Common.{◌≡◌, refl, ℕ, zero, suc, ◌<◌, ◌≤◌, ◌&&◌, ◌||◌, ◌⊎◌, inl, inr, Bool, true, not, IsTrue, nat_le, List, [], ◌∷◌, filter, length, slice_index, arith}
 use Rattle.std.specs.List.{flat_map, list_all, list_any}
 use Rattle.std.proofs.lemmas.Bool.{le-leb, leb-true}
 use Rattle.cg_dyadic.proofs.Truth.{and-both, and-split, false-from, not_true, true-or-not, true_not}
 use Rattle.cg_moves.specs.declared.player.Player.{Player}
 use Rattle.cg_moves.specs.declared.player.Player.TheVariants.{Left, Right}
-use Rattle.cg_moves.specs.Connected.{Edge, connected}
+use Rattle.cg_moves.specs.Connected.{Edge}
 use Rattle.cg_moves.specs.Grid.{Grid}
 use Rattle.cg_moves.specs.Rising.{counted}
 use Rattle.cg_moves.specs.Rules.{In}
@@ -30,7 +30,7 @@ next-sym w k l h = grind (arith, nat_tests, or-cases, or-first, swap-or, or-seco
 pub all-each : (test : ℕ → Bool) (ks : List ℕ) → IsTrue (list_all test ks) → (k : ℕ) → In k ks → IsTrue (test k)
 all-each test [] h k m = absurd m
 all-each test (l ∷ ks) h k (inl e) =
-    let P : ℕ → Type 0 = λ z. IsTrue (test z) in subst P (sym e) (and-split (test l) (list_all test ks) h).0
+    rw e (and-split (test l) (list_all test ks) h).0
 all-each test (l ∷ ks) h k (inr m) = all-each test ks (and-split (test l) (list_all test ks) h).1 k m
 
 pub each-all : (test : ℕ → Bool) (ks : List ℕ) → ((k : ℕ) → In k ks → IsTrue (test k)) → IsTrue (list_all test ks)
@@ -47,7 +47,7 @@ any-one test (l ∷ ks) h = elim (or-cases (test l) (list_any test ks) h) [
 pub one-any : (test : ℕ → Bool) (k : ℕ) (ks : List ℕ) → In k ks → IsTrue (test k) → IsTrue (list_any test ks)
 one-any test k [] m t = absurd m
 one-any test k (l ∷ ks) (inl e) t =
-    let P : ℕ → Type 0 = λ z. IsTrue (test z) in or-first (test l) (list_any test ks) (subst P e t)
+    or-first (test l) (list_any test ks) (rw (← e) t)
 one-any test k (l ∷ ks) (inr m) t = or-second (test l) (list_any test ks) (one-any test k ks m t)
 
 distinct-counted : (g : CellGame) (i n : ℕ) → Distinct g (counted i n)
@@ -58,10 +58,9 @@ distinct-filter : (g : CellGame) (test : ℕ → Bool) (ks : List ℕ) → Disti
 distinct-filter g test [] d = tt
 distinct-filter g test (k ∷ ks) d =
     let rest = distinct-filter g test ks d.1 in
-    let P : Bool → Type 0 = λ b. Distinct g (cond b (k ∷ filter test ks) (filter test ks)) in
     elim (true-or-not (test k)) [
-      | inl t ↦ subst P (sym t) (λ m. d.0 (in-filter test k ks m).0, rest)
-      | inr f ↦ subst P (sym (false-from (test k) f)) rest
+      | inl t ↦ rw t (λ m. d.0 (in-filter test k ks m).0, rest)
+      | inr f ↦ rw (false-from (test k) f) rest
     ]
 
 module _ (n : Neighbours) (laws : IsNeighbours n) where
@@ -79,8 +78,7 @@ module _ (n : Neighbours) (laws : IsNeighbours n) where
       let (k, i, a) = in-flat_map (λ k. flat_map (link n p k) (counted 0 (length p.cells))) e (counted 0 (length p.cells)) m in
       let (l, j, b) = in-flat_map (link n p k) e (counted 0 (length p.cells)) a in
       let (t, same) = in-choice (are_linked n p k l) e (record { one = k; other = l }) b in
-      let P : Edge → Type 0 = λ z. are_linked n p z.one z.other ≡ true in
-      subst P (sym same) t
+      rw same t
 
   links-in : (p : Grid) (k l : ℕ) → are_linked n p k l ≡ true → In (record { one = k; other = l }) (links n p)
   links-in p k l t =
@@ -105,7 +103,7 @@ module _ (n : Neighbours) (laws : IsNeighbours n) where
   pub so-joined : (p : Grid) (k l : ℕ) → Joined (cell_game n) p k l → are_joined n p k l ≡ true
   unfolding are_joined
   so-joined p k l (here m e) =
-      let P : ℕ → Type 0 = λ z. IsTrue (connected (links n p) k z) in subst P e (connected-refl (links n p) k)
+      rw (← e) (connected-refl (links n p) k)
   so-joined p k l (step x m r x_open m_open next) =
       connected-trans (links n p) k x m (so-joined p k x r)
       (connected_along (record { one = x; other = m }) (links n p)
@@ -133,7 +131,7 @@ module _ (n : Neighbours) (laws : IsNeighbours n) where
   -- ---- first cells
 
   end-open : (p : Grid) (k l : ℕ) → Joined (cell_game n) p k l → is_piece_cell n p k ≡ true → is_piece_cell n p l ≡ true
-  end-open p k l (here m e) t = let P : ℕ → Type 0 = λ z. is_piece_cell n p z ≡ true in subst P e t
+  end-open p k l (here m e) t = rw (← e) t
   end-open p k l (step x m r x_open m_open next) t = m_open
 
   first-so : (p : Grid) (k : ℕ) → is_first n p k ≡ true → First (cell_game n) p k

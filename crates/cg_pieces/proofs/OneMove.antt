@@ -45,10 +45,10 @@ module _ (g : CellGame) (laws : IsCellGame g) (p : Grid) (before : List ℕ) (s 
   -- ---- the first cells
 
   all : Distinct g (before ++ (s ∷ behind))
-  all = let P : List ℕ → Type 0 = Distinct g in subst P cut (laws.distinct p)
+  all = subst (Distinct g) cut (laws.distinct p)
 
   is-first : (k : ℕ) → In k (before ++ (s ∷ behind)) → First g p k
-  is-first k i = let P : List ℕ → Type 0 = λ z. In k z in (laws.first p k).0 (subst P (sym cut) i)
+  is-first k i = (laws.first p k).0 (rw cut i)
 
   -- another first cell is in another set
   others-apart : (k : ℕ) → In k (before ++ behind) → ¬ Joined g p s k
@@ -58,8 +58,7 @@ module _ (g : CellGame) (laws : IsCellGame g) (p : Grid) (before : List ℕ) (s 
       let a = first_s.least k j in
       let b = first_k.least s (joined-sym g laws p s k j) in
       let e : k ≡ s = omega arith in
-      let P : ℕ → Type 0 = λ z. In z (before ++ behind) in
-      (distinct-middle g before behind s all).0 (subst P e i)
+      (distinct-middle g before behind s all).0 (rw (← e) i)
 
   abbrev inner : List ℕ
   inner = map back (g.firsts small)
@@ -70,8 +69,7 @@ module _ (g : CellGame) (laws : IsCellGame g) (p : Grid) (before : List ℕ) (s 
   inner-joined : (k : ℕ) → In k inner → Joined g p s k
   inner-joined k i =
       let (m, j, e) = in-map back k (g.firsts small) i in
-      let P : ℕ → Type 0 = Joined g p s in
-      subst P (sym e) (back-is m j).joined
+      subst (Joined g p s) (sym e) (back-is m j).joined
 
   whole-distinct : Distinct g whole
   whole-distinct =
@@ -95,13 +93,11 @@ module _ (g : CellGame) (laws : IsCellGame g) (p : Grid) (before : List ℕ) (s 
             (laws.first small (g.place p s k)).1 (first-placed g laws p s after small o k j f) in
             let w = back-is (g.place p s k) there in
             let e : back (g.place p s k) ≡ k = sym (place-same g laws p s after small o k _ j w.joined w.is) in
-            let P : ℕ → Type 0 = λ z. In z inner in
             in-append_right k before (inner ++ behind)
-            (in-append_left k inner behind (subst P e (in_mapped back (g.place p s k) (g.firsts small) there)))
+            (in-append_left k inner behind (rw (← e) (in_mapped back (g.place p s k) (g.firsts small) there)))
         | inr out ↦
-            let P : List ℕ → Type 0 = λ z. In k z in
             let there : In k (before ++ (s ∷ behind)) =
-            subst P cut ((laws.first p k).1 (first-apart g laws p s after small o k out f)) in
+            rw (← cut) ((laws.first p k).1 (first-apart g laws p s after small o k out f)) in
             elim (middle-in k s before behind there) [
               | inl e ↦ absurd (out (here k (sym e)))
               | inr h ↦ elim (in-append k before behind h) [
@@ -122,11 +118,9 @@ module _ (g : CellGame) (laws : IsCellGame g) (p : Grid) (before : List ℕ) (s 
       | inl b ↦
           let (m, j, e) = in-map back k (g.firsts small) b in
           let w = back-is m j in
-          let P : ℕ → Type 0 = First g small in
           let f : First g after (back m) =
-          placed-first g laws p s after small o (back m) w.joined (subst P w.is ((laws.first small m).0 j)) in
-          let Q : ℕ → Type 0 = First g after in
-          (laws.first after k).1 (subst Q (sym e) f)
+          placed-first g laws p s after small o (back m) w.joined (subst (First g small) w.is ((laws.first small m).0 j)) in
+          (laws.first after k).1 (subst (First g after) (sym e) f)
     ]
   ]
 
@@ -148,7 +142,6 @@ module _ (g : CellGame) (laws : IsCellGame g) (p : Grid) (before : List ℕ) (s 
 
   pub pieces-after : IsReordered (pieces_of g after) (map (g.piece p) before ++ (pieces_of g small ++ map (g.piece p) behind))
   pieces-after =
-      let P : List Grid → Type 0 = λ z. IsReordered (pieces_of g after) z in
-      subst P same-boards
+      rw (← same-boards)
       (reordered-map (g.piece after) (g.firsts after) whole
       (same-members g (g.firsts after) whole (laws.distinct after) whole-distinct forth back_to))

@@ -1,9 +1,9 @@
 -- Lists of cells without repetition: with the same members they are each other in another order.
-use Rattle.std.proofs.Common.{◌≡◌, refl, ℕ, inl, inr, ap, sym, ◌∙◌, subst, List, [], ◌∷◌, ◌++◌, map}
+use Rattle.std.proofs.Common.{◌≡◌, refl, ℕ, inl, inr, ap, sym, ◌∙◌, List, [], ◌∷◌, ◌++◌, map}
 use Rattle.cg_moves.specs.Reordered.{IsReordered}
 use Rattle.cg_moves.specs.Rules.{In}
 use Rattle.cg_form.proofs.Firsts.{in-append, in-append_left, in-append_right}
-use Rattle.cg_moves.proofs.Members.{in-map}
+use Rattle.cg_moves.proofs.Members.{carry, in-map, in_equal}
 use Rattle.cg_pieces.specs.Cells.{CellGame, Distinct}
 use Rattle.std.proofs.lemmas.List.{map-append}
 use Rattle.cg_moves.proofs.Middles.{in-middle, in_middle, middle-in}
@@ -14,8 +14,7 @@ module _ (g : CellGame) where
   distinct-middle (u ∷ us) vs k d =
       let h = distinct-middle us vs k d.1 in (
         λ m. elim m [
-          | inl e ↦ (let P : ℕ → Type 0 = λ z. In z (us ++ (k ∷ vs)) in
-              d.0 (subst P e (in-append_right k us (k ∷ vs) (inl refl))))
+          | inl e ↦ (d.0 (rw (← e) (in-append_right k us (k ∷ vs) (inl refl))))
           | inr i ↦ h.0 i
         ],
         (λ m. d.0 (in_middle u k us vs m), h.1),
@@ -39,14 +38,14 @@ module _ (g : CellGame) where
   pub distinct-apart : (us vs : List ℕ) → Distinct g (us ++ vs) → (k : ℕ) → In k us → In k vs → ⊥
   distinct-apart [] vs d k i j = i
   distinct-apart (u ∷ us) vs d k (inl e) j =
-      let P : ℕ → Type 0 = λ z. In z vs in d.0 (in-append_right u us vs (subst P e j))
+      d.0 (in-append_right u us vs (rw (← e) j))
   distinct-apart (u ∷ us) vs d k (inr i) j = distinct-apart us vs d.1 k i j
 
   pub distinct-map : (f : ℕ → ℕ) (ks : List ℕ) → Distinct g ks → ((k l : ℕ) → In k ks → In l ks → f k ≡ f l → k ≡ l) → Distinct g (map f ks)
   distinct-map f [] d h = tt
   distinct-map f (k ∷ ks) d h = (
     λ m. let (l, i, e) = in-map f (f k) ks m in
-        (let P : ℕ → Type 0 = λ z. In z ks in d.0 (subst P (sym (h k l (inl refl) (inr i) e)) i)),
+        (d.0 (rw (h k l (inl refl) (inr i) e) i)),
     distinct-map f ks d.1 (λ a b i j. h a b (inr i) (inr j)),
   )
 
@@ -56,29 +55,26 @@ module _ (g : CellGame) where
   same-members [] (y ∷ ys) d e forth back = absurd (back y (inl refl))
   same-members (x ∷ xs) ys d e forth back =
       let w = in-middle x ys (forth x (inl refl)) in
-      let P : List ℕ → Type 0 = λ z. Distinct g z in
-      let Q : ℕ → List ℕ → Type 0 = λ k z. In k z in
-      let there = distinct-middle w.before w.behind x (subst P w.cut e) in (
+      let there = distinct-middle w.before w.behind x (rw (← w.cut) e) in (
         w.before,
         w.behind,
         w.cut,
         same-members xs (w.before ++ w.behind) d.1 there.1
-            (λ k i. elim (middle-in k x w.before w.behind (subst (Q k) w.cut (forth k (inr i)))) [
-              | inl f ↦ (let R : ℕ → Type 0 = λ z. In z xs in absurd (d.0 (subst R f i)))
+            (λ k i. elim (middle-in k x w.before w.behind (carry k ys _ w.cut (forth k (inr i)))) [
+              | inl f ↦ absurd (d.0 (in_equal x k xs (sym f) i))
               | inr j ↦ j
             ])
-            (λ k i. elim (back k (subst (Q k) (sym w.cut) (in_middle k x w.before w.behind i))) [
-              | inl f ↦ (let R : ℕ → Type 0 = λ z. In z (w.before ++ w.behind) in absurd (there.0 (subst R f i)))
+            (λ k i. elim (back k (carry k _ ys (sym w.cut) (in_middle k x w.before w.behind i))) [
+              | inl f ↦ absurd (there.0 (in_equal x k (w.before ++ w.behind) (sym f) i))
               | inr j ↦ j
             ]),
       )
 
 pub reordered-map : {X Y : Type 0} (f : X → Y) (xs ys : List X) → IsReordered xs ys → IsReordered (map f xs) (map f ys)
 reordered-map {X} {Y} f [] ys e = ap (map f) e
-reordered-map {X} {Y} f (x ∷ xs) ys (us, vs, e, r) =
-    let P : List Y → Type 0 = λ z. IsReordered (map f xs) z in (
-      map f us,
-      map f vs,
-      ap (map f) e ∙ map-append f us (x ∷ vs),
-      subst P (map-append f us vs) (reordered-map f xs (us ++ vs) r),
-    )
+reordered-map {X} {Y} f (x ∷ xs) ys (us, vs, e, r) = (
+  map f us,
+  map f vs,
+  ap (map f) e ∙ map-append f us (x ∷ vs),
+  rw (← (map-append f us vs)) (reordered-map f xs (us ++ vs) r),
+)

@@ -1,6 +1,6 @@
 -- The board of a part of a set, made from the board of the set.
 use Rattle.std.proofs.lemmas.Bool.Decides.{nat_tests}
-use Rattle.std.proofs.Common.{◌≡◌, ℕ, ◌+◌, ◌*◌, ◌<◌, inl, inr, Bool, true, List, [], filter, length, map, slice_index, ap, sym, ◌∙◌, subst, arith}
+use Rattle.std.proofs.Common.{◌≡◌, ℕ, ◌+◌, ◌*◌, ◌<◌, inl, inr, Bool, true, List, [], filter, length, map, slice_index, ap, sym, ◌∙◌, arith}
 use Rattle.cg_dyadic.proofs.Truth.{false-from, true-or-not}
 use Rattle.cg_moves.specs.Grid.{Grid, with_cells}
 use Rattle.cg_moves.specs.Rising.{counted}
@@ -168,8 +168,7 @@ module _ (blank : ℕ) (p : Grid) (set : ℕ → Bool) (within : (k : ℕ) → s
       | inl t ↦ ap there (sym (placed-at m (o.inside (at_big m) t))) ∙ o.same (at_big m) (o.inside (at_big m) t)
       | inr f ↦ false-from (there (at_small m)) (λ t.
           let (k, in_part, e) = back-part (at_small m) t in
-          let P : ℕ → Type 0 = λ z. part z ≡ true in
-          f (subst P (at-placed m k (o.inside k in_part) e) in_part)) ∙ sym (false-from (part (at_big m)) f)
+          f (rw (← (at-placed m k (o.inside k in_part) e)) in_part)) ∙ sym (false-from (part (at_big m)) f)
     ]
 
     cell-same : (m : ℕ) → shown_cell blank there shown (at_small m) ≡ shown_cell blank part cells (at_big m)

@@ -1,6 +1,6 @@
 -- Sets of joined cells, before and after a move in one of them.
 use Rattle.std.proofs.lemmas.Bool.Decides.{nat_tests}
-use Rattle.std.proofs.Common.{◌≡◌, refl, ℕ, ◌≤◌, true, ap, sym, ◌∙◌, subst, arith, Bool}
+use Rattle.std.proofs.Common.{◌≡◌, refl, ℕ, true, ap, sym, ◌∙◌, subst, arith, Bool}
 use Rattle.cg_moves.specs.declared.player.Player.{Player}
 use Rattle.cg_moves.specs.Grid.{Grid}
 use Rattle.cg_pieces.specs.Cells.{CellGame, First, IsCellGame, Joined, OneSet, Linked}
@@ -29,7 +29,7 @@ module _ (g : CellGame) (laws : IsCellGame g) where
       joined-trans p n x k (step n x (here n refl) n_open x_open (laws.symmetric p x n next)) (joined-sym p k x b)
 
   pub open-along : (p : Grid) (k l : ℕ) → Joined g p k l → g.is_open p k ≡ true → g.is_open p l ≡ true
-  open-along p k l (here n e) k_open = let P : ℕ → Type 0 = λ z. g.is_open p z ≡ true in subst P e k_open
+  open-along p k l (here n e) k_open = rw (← e) k_open
   open-along p k l (step x n b x_open n_open next) k_open = n_open
 
   -- the two cells of a move are in one set
@@ -117,22 +117,19 @@ module _ (g : CellGame) (laws : IsCellGame g) where
     placed-joined k m j_k (step x n b x_open n_open next) =
         let w = placed-joined k x j_k b in
         let (l, j_l, e) = o.placed n n_open in
-        let Open : ℕ → Type 0 = λ z. g.is_open small z ≡ true in
-        let Left_next : ℕ → Type 0 = λ z. g.adjacent small z n ≡ true in
-        let Right_next : ℕ → Type 0 = λ z. g.adjacent small (put w.cell) z ≡ true in record {
+        record {
           cell = l;
           joined = j_l;
           is = e;
-          linked = step w.cell l w.linked (sym (o.place_open w.cell w.joined) ∙ subst Open w.is x_open)
-              (sym (o.place_open l j_l) ∙ subst Open e n_open)
-              (sym (o.place_adjacent w.cell l w.joined j_l) ∙ subst Right_next e (subst Left_next w.is next));
+          linked = step w.cell l w.linked (sym (o.place_open w.cell w.joined) ∙ (rw w.is at x_open))
+              (sym (o.place_open l j_l) ∙ (rw e at n_open))
+              (sym (o.place_adjacent w.cell l w.joined j_l) ∙ (rw e at (rw w.is at next)));
         }
 
     pub placed-linked : (k l : ℕ) → Joined g p s k → Joined g p s l → Joined g small (put k) (put l) → Joined g after k l
     placed-linked k l j_k j_l j =
         let w = placed-joined k (put l) j_k j in
-        let P : ℕ → Type 0 = Joined g after k in
-        subst P (sym (place-same l w.cell j_l w.joined w.is)) w.linked
+        subst (Joined g after k) (sym (place-same l w.cell j_l w.joined w.is)) w.linked
 
     pub first-placed : (k : ℕ) → Joined g p s k → First g after k → First g small (put k)
     first-placed k j_k f =
@@ -140,8 +137,7 @@ module _ (g : CellGame) (laws : IsCellGame g) where
         let j_other = in_set k f.other j_k (legal-joined f.player after k f.one f.other f.legal f.joined) in record {
           is_open = o.place_open k j_k ∙ f.is_open;
           least = λ m j. let w = placed-joined k m j_k j in
-              let P : ℕ → Type 0 = λ z. put k ≤ z in
-              subst P (sym w.is) ((o.place_order k w.cell j_k w.joined).0 (f.least w.cell w.linked));
+              rw w.is ((o.place_order k w.cell j_k w.joined).0 (f.least w.cell w.linked));
           player = f.player;
           one = put f.one;
           other = put f.other;
@@ -154,15 +150,14 @@ module _ (g : CellGame) (laws : IsCellGame g) where
         let w = placed-joined k f.one j_k f.joined in
         let (a, b, next) = laws.legal_open f.player small f.one f.other f.legal in
         let (l, j_l, e) = o.placed f.other b in
-        let First_legal : ℕ → Type 0 = λ z. g.legal f.player small z f.other ≡ true in
-        let Second_legal : ℕ → Type 0 = λ z. g.legal f.player small (put w.cell) z ≡ true in record {
+        record {
           is_open = sym (o.place_open k j_k) ∙ f.is_open;
           least = λ m j. let j_m = in_set k m j_k j in
               (o.place_order k m j_k j_m).1 (f.least (put m) (joined-placed k m j_k j));
           player = f.player;
           one = w.cell;
           other = l;
-          legal = sym (o.place_legal f.player w.cell l w.joined j_l) ∙ subst Second_legal e (subst First_legal w.is f.legal);
+          legal = sym (o.place_legal f.player w.cell l w.joined j_l) ∙ (rw e at (rw w.is at f.legal));
           joined = w.linked;
         }
 

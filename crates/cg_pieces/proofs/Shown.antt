@@ -1,5 +1,5 @@
 -- The board of a joined set shows the set, before and after a move in it.
-use Rattle.std.proofs.Common.{◌≡◌, refl, ℕ, ◌+◌, ◌-◌, ◌*◌, ◌<◌, ◌≤◌, ◌==◌, ◌&&◌, ◌||◌, ◌⊎◌, ◌↔◌, inl, inr, Bool, true, length, ap, sym, ◌∙◌, subst, arith}
+use Rattle.std.proofs.Common.{◌≡◌, refl, ℕ, ◌+◌, ◌-◌, ◌*◌, ◌<◌, ◌≤◌, ◌==◌, ◌&&◌, ◌||◌, ◌⊎◌, ◌↔◌, inl, inr, Bool, true, length, ap, ◌∙◌, arith}
 use Rattle.std.proofs.Math.Nat.{mod-lt, mul-le-mul_left}
 use Rattle.std.proofs.lemmas.Bool.{eqb-true, eq-eqb}
 use Rattle.cg_form.proofs.Cut.{same_when}
@@ -32,8 +32,7 @@ order-by-lines w a b c d hb hd h = elim (leb_tells c a) [
   | inr l ↦ inl l.1
   | inl k ↦ elim (same-or-not a c) [
     | inl e ↦
-        let P : ℕ → Type 0 = λ z. cell_at w a b ≤ cell_at w z d in
-        let l : cell_at w a b ≤ cell_at w a d = subst P (sym e) h in inr (e, omega arith)
+        let l : cell_at w a b ≤ cell_at w a d = rw (← e) at h in inr (e, omega arith)
     | inr other ↦
         let m : w * (c + 1) ≤ w * a = mul-le-mul_left w (omega (arith, k.1, other)) in
         let x : w * (c + 1) ≡ w * c + w = omega arith in
@@ -47,7 +46,7 @@ lines-order w a b c d hb (inl l) =
     let x : w * (a + 1) ≡ w * a + w = omega arith in
     omega (arith, m, x)
 lines-order w a b c d hb (inr (e, l)) =
-    let P : ℕ → Type 0 = λ z. cell_at w a b ≤ cell_at w z d in subst P e (omega arith)
+    rw (← e) (omega arith)
 
 module _ (n : Neighbours) (laws : IsNeighbours n) (p : Grid) (s : ℕ) (wide : 0 < p.columns)
     (some : is_piece_cell n p s ≡ true) where

@@ -1,5 +1,5 @@
 -- A move in a joined set, on the board and on the set's board: it changes two cells alike on both.
-use Rattle.std.proofs.Common.{◌≡◌, refl, ℕ, ◌<◌, ◌&&◌, ◌⊎◌, ◌↔◌, inl, inr, Bool, true, List, length, slice_index, ap, sym, ◌∙◌, arith, ◌≢◌, slice_set, subst, get_or-set_other, get_or-set_same, length-set}
+use Rattle.std.proofs.Common.{◌≡◌, refl, ℕ, ◌<◌, ◌&&◌, ◌⊎◌, ◌↔◌, inl, inr, Bool, true, List, length, slice_index, ap, sym, ◌∙◌, arith, ◌≢◌, slice_set, get_or-set_other, get_or-set_same, length-set}
 use Rattle.cg_dyadic.proofs.Truth.{differ}
 use Rattle.cg_form.proofs.Cut.{same_when}
 use Rattle.cg_moves.specs.declared.player.Player.{Player}
@@ -194,7 +194,7 @@ module _ (n : Neighbours) (laws : IsNeighbours n) (p : Grid) (s : ℕ) (wide : 0
         omega (arith, b, c)
 
     not-in : (m a : ℕ) → ¬ (set m ≡ true) → set a ≡ true → m ≢ a
-    not-in m a out t e = let P : ℕ → Type 0 = λ z. set z ≡ true in out (subst P (sym e) t)
+    not-in m a out t e = out (rw e t)
 
     fewer : (m : ℕ) → n.forms_pieces (slice_index cells m) ≡ true → is_piece_cell n p m ≡ true
     fewer m t = grind (arith, nat_tests, same-or-not, two-other)
@@ -202,14 +202,12 @@ module _ (n : Neighbours) (laws : IsNeighbours n) (p : Grid) (s : ℕ) (wide : 0
     same : (m : ℕ) → set m ≡ true → slice_index shown (place m) ≡ slice_index cells m
     same m t = elim (same-or-not m l) [
       | inl e ↦
-          let P : ℕ → Type 0 = λ z. slice_index shown (place z) ≡ slice_index cells z in
-          subst P (sym e) (two-second piece.cells (place k) x (place l) y (piece-below l in_l)
+          rw e (two-second piece.cells (place k) x (place l) y (piece-below l in_l)
           ∙ sym (two-second p.cells k x l y (piece-cell-below n laws p l open_l)))
       | inr a ↦ elim (same-or-not m k) [
         | inl e ↦
-            let P : ℕ → Type 0 = λ z. slice_index shown (place z) ≡ slice_index cells z in
             let apart : k ≢ l = λ f. a (e ∙ f) in
-            subst P (sym e) (two-first piece.cells (place k) x (place l) y (piece-below k in_k)
+            rw e (two-first piece.cells (place k) x (place l) y (piece-below k in_k)
             (place-apart k l in_k in_l apart)
             ∙ sym (two-first p.cells k x l y (piece-cell-below n laws p k open_k) apart))
         | inr b ↦

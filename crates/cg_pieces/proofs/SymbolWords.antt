@@ -1,5 +1,5 @@
 -- The cells with a symbol, in a word of the board, and boards on which two cells get other symbols.
-use Rattle.std.proofs.Common.{◌≡◌, ℕ, ◌==◌, inl, inr, if◌then◌else◌, List, length, slice_index, ap, sym, ◌∙◌, refl, ◌<◌, subst, arith, length-set, Bool, true, false, ◌≤◌, ◌^◌}
+use Rattle.std.proofs.Common.{◌≡◌, ℕ, ◌==◌, inl, inr, if◌then◌else◌, List, length, slice_index, ap, sym, ◌∙◌, refl, ◌<◌, arith, length-set, Bool, true, false, ◌≤◌, ◌^◌}
 use Rattle.std.specs.Prelude.{Contains, slice_set}
 use Rattle.std.specs.Int.{bit_at}
 use Rattle.std.proofs.lemmas.Bool.{eqb-true}
@@ -37,9 +37,7 @@ two_set rows columns p w one both i j s t high wide g are inside below has is pu
     let first = set_by p.rows p.columns p.symbols w one p i s (grid-is p p.symbols w refl g are)
     (is_grid-by p p.symbols w refl g are) inside has put in
     let long = length-set p.cells i s in
-    let R : ℕ → Type 0 = λ n. SetBy n columns p.symbols both (with_cells p (slice_set p.cells i s)) j t in
-    let C : ℕ → Type 0 = λ n. SetBy p.rows n p.symbols both (with_cells p (slice_set p.cells i s)) j t in
-    subst R (sym high) (subst C (sym wide)
+    rw high (rw wide
     (set_by p.rows p.columns p.symbols one both (with_cells p (slice_set p.cells i s)) j t first.view first.grid
     (omega (arith, below, long)) is next))
 

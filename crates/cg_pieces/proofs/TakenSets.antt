@@ -63,8 +63,7 @@ module _ (n : Neighbours) (laws : IsNeighbours n) (p : Grid) where
     apart = λ k t l h j.
         let both = and-parts left (other_bits set) k t in
         elim (same-or-not l cell) [
-          | inl same ↦ (let P : ℕ → Type 0 = λ z. are_joined n p z k ≡ true in
-              let to_k = subst P same j in
+          | inl same ↦ (let to_k = rw same at j in
               let some = open-too k cell (flipped cell k to_k) (old.only k both.0) in
               let least = least-of cell (λ m below t_m. old.apart k both.0 m below (over m cell k t_m to_k)) in
               not-zero set k set_fits (bit-below left k left_fits both.0) both.1 (taken.all k some least to_k))
@@ -82,8 +81,7 @@ module _ (n : Neighbours) (laws : IsNeighbours n) (p : Grid) where
   left-same cell left old other = record {
     only = old.only;
     apart = λ k t l h j. elim (same-or-not l cell) [
-      | inl same ↦ (let P : ℕ → Type 0 = λ z. are_joined n p z k ≡ true in
-          let to_k = subst P same j in
+      | inl same ↦ (let to_k = rw same at j in
           other (old.all cell (open-too k cell (flipped cell k to_k) (old.only k t))
           (λ m below to_cell. old.apart k t m below (over m cell k to_cell to_k))))
       | inr differs ↦ old.apart k t l (omega (arith, h, differs)) j

@@ -1,5 +1,5 @@
 -- The pieces of the sets that are taken already, from the first cell on.
-use Rattle.std.proofs.Common.{◌≡◌, ◌≢◌, ◌↔◌, refl, ℕ, zero, suc, ◌+◌, ◌-◌, ◌<◌, ◌≤◌, ◌^◌, inl, inr, List, ◌++◌, filter, length, map, ap, ◌∙◌, subst, arith, bit_and}
+use Rattle.std.proofs.Common.{◌≡◌, ◌≢◌, ◌↔◌, refl, ℕ, zero, suc, ◌+◌, ◌-◌, ◌<◌, ◌≤◌, ◌^◌, inl, inr, List, ◌++◌, filter, length, map, ap, ◌∙◌, arith, bit_and}
 use Rattle.std.specs.Int.{bit_at}
 use Rattle.std.specs.Int.Count.{count_trailing_zeros}
 use Rattle.std.proofs.lemmas.Bool.Decides.{leb_tells}
@@ -46,12 +46,11 @@ module _ (n : Neighbours) (laws : IsNeighbours n) (p : Grid) where
   passed-all : (boards : List Grid) (left end gap : ℕ) → IsTakenTo n p boards left end
       → ((k : ℕ) → k < end + gap → ¬ (bit_at left k ≡ 1)) → IsTakenTo n p boards left (end + gap)
   passed-all boards left end zero is none =
-      let e : end ≡ end + 0 = omega arith in let P : ℕ → Type 0 = λ z. IsTakenTo n p boards left z in subst P e is
+      let e : end ≡ end + 0 = omega arith in rw (← e) is
   passed-all boards left end (suc gap) is none =
       let e : (end + gap) + 1 ≡ end + suc gap = omega arith in
       let below : end + gap < end + suc gap = omega arith in
-      let P : ℕ → Type 0 = λ z. IsTakenTo n p boards left z in
-      subst P e (passed boards left (end + gap)
+      rw (← e) (passed boards left (end + gap)
       (passed-all boards left end gap is (λ k h. none k (omega (arith, h)))) (none (end + gap) below))
 
   -- the first cell that is left
@@ -70,8 +69,7 @@ module _ (n : Neighbours) (laws : IsNeighbours n) (p : Grid) where
       | inl h ↦
           let low = h.1 in
           let e : taken.end + (cell - taken.end) ≡ cell = omega (arith, low) in
-          let P : ℕ → Type 0 = λ z. IsTakenTo n p boards left z in
-          subst P e (passed-all boards left taken.end (cell - taken.end) taken.to
+          rw (← e) (passed-all boards left taken.end (cell - taken.end) taken.to
           (λ k below t. let first = first-first left some fits k t in omega (arith, first, below, low)))
       | inr h ↦
           absurd (taken.to.left_are.apart cell cell-left cell h.1 (so-joined n laws p cell cell (here cell refl)))

@@ -1,5 +1,5 @@
-use Rattle.std.proofs.Common.{◌≡◌, true, ap, subst, sym, ◌∙◌, rules}
-use Rattle.std.specs.Prelude.{Contains, slice_index, slice_set}
+use Rattle.std.proofs.Common.{◌≡◌, true, ap, sym, ◌∙◌, rules}
+use Rattle.std.specs.Prelude.{slice_index, slice_set}
 use Rattle.cg_moves.specs.Grid.{Grid, with_cells}
 use Rattle.cg_moves.proofs.Carried.{ok_is}
 use Rattle.cg_graph.specs.Drawings.{graph_of}
@@ -11,8 +11,7 @@ use Rattle.cg_graph.proofs.drawing_moves.put_cut.Goals as goal
 
 pub set-requires-clause-symbol : goal.set-requires-clause-symbol
 set-requires-clause-symbol c =
-    let P : Grid → Type 0 = λ q. Contains q.symbols gone in
-    subst P (sym (ok_is c.in_ok-cut.cut c.args.board.now c.in_ok-cut.ensures))
+    rw (ok_is c.in_ok-cut.cut c.args.board.now c.in_ok-cut.ensures)
     (has-gone c.args.edges.now c.args.board.now c.requires.has)
 
 pub returns : goal.returns

@@ -1,5 +1,5 @@
-use Rattle.std.proofs.Common.{◌≡◌, ℕ, List, ap, sym, ◌∙◌, subst, arith}
-use Rattle.std.specs.Prelude.{Contains, slice_set}
+use Rattle.std.proofs.Common.{◌≡◌, ℕ, List, ap, sym, ◌∙◌, arith}
+use Rattle.std.specs.Prelude.{slice_set}
 use Rattle.cg_moves.specs.Grid.{Grid, with_cells}
 use Rattle.cg_graph.specs.Drawings.{graph_of}
 use Rattle.cg_graph.specs.Paths.{gone, is_joined}
@@ -9,8 +9,7 @@ use Rattle.cg_graph.proofs.labels.settled.Goals.{then-not-is_joined, else-not-is
 
 pub set-requires-clause-symbol : goal.set-requires-clause-symbol
 set-requires-clause-symbol c =
-    let P : List ℕ → Type 0 = λ z. Contains z gone in
-    subst P (sym (ap (λ (q : Grid). q.symbols) c.loop-i.invariant.like)) c.requires.gone
+    rw (ap (λ (q : Grid). q.symbols) c.loop-i.invariant.like) c.requires.gone
 
 pub loop-i-preserved : goal.loop-i-preserved
 loop-i-preserved c =

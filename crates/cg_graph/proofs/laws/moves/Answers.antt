@@ -1,10 +1,9 @@
-use Rattle.std.proofs.Common.{ℕ, List, length, sym, subst}
+use Rattle.std.proofs.Common.{length}
 use Rattle.std.specs.List.{flat_map}
 use Rattle.cg_moves.specs.Rising.{counted}
-use Rattle.cg_moves.specs.Rules.{In}
 use Rattle.cg_moves.proofs.RisingLemmas.{rising-rises}
 use Rattle.cg_graph.specs.Colouring.{colourings_at}
-use Rattle.cg_graph.specs.Hackenbush.{cuts_at, cuts_of}
+use Rattle.cg_graph.specs.Hackenbush.{cuts_at}
 use Rattle.cg_graph.specs.HackenbushLaw.{is_cut}
 use Rattle.cg_graph.proofs.ColouringMoves.{colouring_is, is_colouring_so}
 use Rattle.cg_graph.proofs.RedBlue.{cut_is}
@@ -13,8 +12,7 @@ use Rattle.cg_graph.proofs.laws.moves.Goals as goal
 pub returns-clause-cuts : goal.returns-clause-cuts
 returns-clause-cuts c = λ edges player cells after. (
   λ m. let (k, may, e) = is_cut edges player cells after m in record { place = k; may = may; left = e },
-  λ a. (let P : List ℕ → Type 0 = λ z. In z (cuts_of edges player cells) in
-      subst P (sym a.left) (cut_is edges player cells a.place a.may)),
+  λ a. (rw a.left (cut_is edges player cells a.place a.may)),
 )
 
 pub returns-clause-colourings : goal.returns-clause-colourings

@@ -1,10 +1,7 @@
-use Rattle.std.proofs.Common.{◌≡◌, ◌∙◌, List, Ok, Err, None, inl, inr, ap, sym, subst, refl, arith}
-use Rattle.std.specs.Prelude.{All}
+use Rattle.std.proofs.Common.{◌≡◌, ◌∙◌, Ok, Err, None, inl, inr, ap, sym, refl, arith}
 use Rattle.cg_reading.specs.Readers.{whole_at}
 use Rattle.cg_graph.specs.Charts.{vertices_fault}
-use Rattle.cg_graph.specs.Items.{IsLettered}
 use Rattle.cg_graph.specs.Reading.{pairs_at}
-use Rattle.cg_graph.specs.declared.items.PairItem.{PairItem}
 use Rattle.cg_graph.proofs.ChartReadings.{cause_uncharted, err_uncharted, ok_charted, pairs_left, pairs_take, said_err, said_ok, stuck_cause, uncharted_is, vertices_cause}
 use Rattle.cg_graph.proofs.Places.{pairs_are}
 use Rattle.cg_graph.proofs.chart.Colouring.read.Goals as goal
@@ -20,8 +17,7 @@ returns-in-Some-clause-refused c =
 
 pub chart_of-requires-clause-items : goal.chart_of-requires-clause-items
 chart_of-requires-clause-items c =
-    let P : List PairItem → Type 0 = λ xs. All IsLettered xs in
-    subst P (sym c.deref.ensures.value)
+    rw c.deref.ensures.value
     ((pairs_are 1 c.in-Ok.items.items c.args.edges.now (pairs_take c.args.edges.now c.in-Ok.items.items c.in-Ok.ensures)).letters
     (omega arith))
 

@@ -1,16 +1,12 @@
-use Rattle.std.proofs.Common.{◌≡◌, true, List, ℕ, arith, sym, subst, ◌∙◌}
-use Rattle.std.specs.Prelude.{codes}
-use Rattle.cg_moves.specs.Grid.{AreCells, Grid}
+use Rattle.std.proofs.Common.{arith, ◌∙◌}
 use Rattle.cg_moves.proofs.Carried.{ok_is}
-use Rattle.cg_graph.specs.Drawings.{drawing_rules}
 use Rattle.cg_graph.proofs.Starts.{start-has, start-is}
 use Rattle.cg_graph.proofs.Symbols.{colours_cells}
 use Rattle.cg_graph.proofs.drawing.Hackenbush.board.Goals as goal
 
 pub make-requires-clause-cells : goal.make-requires-clause-cells
 make-requires-clause-cells c =
-    let P : List ℕ → Type 0 = λ z. AreCells (codes ".brg") z in
-    subst P (sym (c.deref.ensures.value ∙ c.in_ok-colours.ensures.value))
+    rw (c.deref.ensures.value ∙ c.in_ok-colours.ensures.value)
     (colours_cells c.args.self.now c.in_ok-colours.ensures.sound.edges)
 
 pub returns-clause-value : goal.returns-clause-value
@@ -22,5 +18,4 @@ returns-clause-value c =
 
 pub returns-clause-has : goal.returns-clause-has
 returns-clause-has c =
-    let P : Grid → Type 0 = λ z. (drawing_rules c.args.self.now).has z ≡ true in
-    subst P (sym (returns-clause-value c)) (start-has c.args.self.now)
+    rw (returns-clause-value c) (start-has c.args.self.now)
