@@ -340,7 +340,7 @@ pub record Given (g : Game) : Type 0 where
 """
     LINES = "| Files | Lines |\n|---|---|\n| cg_low specs/Games | {} |"
     BLOCK = "```rust crates/cg_low/src/sums.rt\npub enum Status {{\n    {}\n```"
-    EDIT = "| Edit |\n|---|\n| cg_low `{}` |"
+    EDIT = "## Ten wrong bodies\n\n- an answer is less (cg_low `one_less`, `{}`)"
     GOOD = (
         "`answer`: `least`", "`cg_low::sums::answer`: `least`", "`Store`: `claim`, `kept` and `stands`", "`Store::claim`: `stands`",
         "`Desk::meet`", "`Status::Full`", "`Given`: `made`", "cg_low", "cg_low specs/Games; src/sums.rt", "`specs/Games`", "`_low`",
