@@ -7,7 +7,7 @@
 >>> g > 0, (g + Game("^")).outcome
 (False, 'N')
 
-docs/LANGUAGE.md is the manual of the notation, and docs/TOOLS.md that of this package.
+docs/LANGUAGE.md is the manual of the notation, and python/README.md that of this package.
 """
 from cgcalc.board import Board
 from cgcalc.boards import (

@@ -276,7 +276,7 @@ class Pages(Tried):
         return top
 
     def test_nothing_to_check(self):
-        self.fails("0 of 11 pages with bounds are there", "check-pages", top=self.with_pages(page="[a link](page.md)\n"))
+        self.fails("0 of 13 pages with bounds are there", "check-pages", top=self.with_pages(page="[a link](page.md)\n"))
         code = "```\n[a link](README.md)\n```\n`[one](README.md)`\n"
         self.fails("0 links", "check-pages", top=self.with_pages(README=code))
 
@@ -286,6 +286,7 @@ class Pages(Tried):
             ("README.md: 901 words of at most 900", {"README": text + "word " * 899}),
             ("README.md: 151 lines of at most 150", {"README": text + "\n" * 150}),
             ("docs/ERRORS.md: 1001 words of at most 1000", {"README": text, "docs__ERRORS": "| a |\n" * 333 + "word word"}),
+            ("docs/: 16501 words of at most 16500", {"README": text, "docs__a": "word " * 16_000, "docs__b__c": "word " * 501}),
         ]:
             with self.subTest(told=told):
                 top = self.with_pages(**pages)
@@ -303,6 +304,102 @@ class Pages(Tried):
                 ended, written = self.run_tool("check-pages", top=top)
                 self.assertEqual(ended, int(link in bad), written)
                 self.assertIs(f"docs/page.md:2: the link to {link} leads nowhere" in written, link in bad)
+
+
+class Claims(Tried):
+    """check-claims."""
+
+    CODE = """/// The top call.
+pub fn answer() -> u8
+    ensures least { result ≡ 0 }
+{
+    0
+}
+
+pub trait Store {
+    ghost kept: { Self → ℕ };
+
+    fn claim(&mut self)
+        ensures stands { result ≡ 1 };
+}
+
+impl<S: Store> Desk<S> {
+    fn meet(&self) {}
+}
+
+pub enum Status {
+    Done,
+    Full(u8),
+}
+"""
+    SPEC = """-- A game.
+pub data Game : Type 0 where
+  node : Game
+pub record Given (g : Game) : Type 0 where
+  pub made : Unit {0}
+"""
+    LINES = "| Files | Lines |\n|---|---|\n| cg_low specs/Games | {} |"
+    BLOCK = "```rust crates/cg_low/src/sums.rt\npub enum Status {{\n    {}\n```"
+    EDIT = "## Ten wrong bodies\n\n- an answer is less (cg_low `one_less`, `{}`)"
+    GOOD = (
+        "`answer`: `least`", "`cg_low::sums::answer`: `least`", "`Store`: `claim`, `kept` and `stands`", "`Store::claim`: `stands`",
+        "`Desk::meet`", "`Status::Full`", "`Given`: `made`", "cg_low", "cg_low specs/Games; src/sums.rt", "`specs/Games`", "`_low`",
+        "`tools/command.py --help`", "`{3|1}`", "crates/cg_low/src/sums.rt", EDIT.format("one_less"), LINES.format(5),
+        BLOCK.format("Done,"), "```\ncg_low\n```",
+    )
+    BAD = (
+        ("`answer`: `most`", "`answer` has no clause most"),
+        ("`Store`: `made`", "`Store` has no clause made"),
+        ("`cg_low::other::answer`: `least`", "`cg_low::other::answer` has no clause least"),
+        ("`Status::meet`", "nothing is named Status::meet"),
+        ("`nothing_such`", "nothing is named nothing_such"),
+        ("cg_high", "there is no crate cg_high"),
+        ("cg_low specs/ Games, Sums", "there is no crates/cg_low/specs/Sums.antt"),
+        ("`tools/nothing --help`", "there is no tools/nothing"),
+        ("docs/NOTHING.md", "there is no docs/NOTHING.md"),
+        ("`_high`", "no crate's name ends in _high"),
+        (EDIT.format("one_more"), "cg_low has no edit one_more"),
+        (LINES.format(6), "the files have 5 lines, not 6"),
+        (BLOCK.format("Full(u8),"), "the block above doesn't stand in"),
+        ("```\ncg_high\n```", "there is no crate cg_high"),
+    )
+
+    def with_claims(self, text):
+        """A repository with one crate, and with a page that has the text beside three that name the crate."""
+        top = os.path.join(self.folder, "copy")
+        shutil.rmtree(top, ignore_errors=True)
+        self.copied()
+        pages = {f"docs/{name}.md": "cg_low\n" for name in ("PROOF", "DEVELOPING", "ADDING_A_GAME")}
+        edit = "crates/cg_low/must-fail/one_less.edit"
+        files = {"crates/cg_low/src/sums.rt": self.CODE, "crates/cg_low/specs/Games.antt": self.SPEC, edit: ""}
+        for name, content in {**pages, **files, "docs/CLAIMS.md": text}.items():
+            path = os.path.join(top, name)
+            os.makedirs(os.path.dirname(path), exist_ok=True)
+            with open(path, "w", encoding="utf-8") as file:
+                file.write(content)
+        return top
+
+    def test_what_is_there(self):
+        for text in self.GOOD:
+            with self.subTest(text=text):
+                ended, written = self.run_tool("check-claims", top=self.with_claims(f"cg_low\n\n{text}\n"))
+                self.assertEqual(ended, 0, written)
+
+    def test_what_is_not_there(self):
+        for text, told in self.BAD:
+            with self.subTest(text=text):
+                self.fails(told, "check-claims", top=self.with_claims(f"cg_low\n\n{text}\n"))
+
+    def test_nothing_named(self):
+        self.fails("docs/CLAIMS.md names nothing", "check-claims", top=self.with_claims("All is proved.\n"))
+
+    def test_no_page(self):
+        self.fails("there is no docs/PROOF.md", "check-claims", top=self.copied("crates/cg_dyadic"))
+
+    def test_lines_are_written(self):
+        top = self.with_claims(self.LINES.format(6) + "\n")
+        self.assertEqual(self.run_tool("check-claims", "--write", top=top)[0], 0)
+        self.assertEqual(self.run_tool("check-claims", top=top)[0], 0)
 
 
 class Manual(Tried):
@@ -353,15 +450,15 @@ class Style(Tried):
     """check-style."""
 
     def test_nothing_to_count(self):
-        top = self.copied("docs/GATE.md", "crates.txt")
+        top = self.copied("docs/DEVELOPING.md", "crates.txt")
         self.fails("no file .rt in src/ was found", "check-style", top=top)
 
     def test_a_count_that_the_page_does_not_state(self):
-        top = self.copied("docs/GATE.md", "crates.txt", "crates/cg_dyadic")
-        page = os.path.join(top, "docs", "GATE.md")
+        top = self.copied("docs/DEVELOPING.md", "crates.txt", "crates/cg_dyadic")
+        page = os.path.join(top, "docs", "DEVELOPING.md")
         with open(page, "w", encoding="utf-8"):
             pass
-        self.fails("counts above what docs/GATE.md states", "check-style", top=top)
+        self.fails("counts above what docs/DEVELOPING.md states", "check-style", top=top)
 
 
 class Lint(Tried):
@@ -427,8 +524,9 @@ class Gate(Tried):
     def test_each_step_fails_the_gate(self):
         ended, _, steps = self.gate()
         self.assertEqual(ended, 0)
-        for name in ("install-packages", "check-lint", "check-pages", "make-manual", "check-examples", "check-python",
-                     "check-tools", "compare-reference", "check-words", "compare-workers", "refuse-allocations", "check-style"):
+        for name in ("install-packages", "check-lint", "check-pages", "check-claims", "make-manual", "check-examples",
+                     "check-python", "check-tools", "compare-reference", "check-words", "compare-workers", "refuse-allocations",
+                     "check-style"):
             with self.subTest(name=name):
                 self.assertIn(name, steps)
                 ended, _, ran = self.gate(ends=[name])
