@@ -1,5 +1,5 @@
 -- The whole compared with the games of pages.
-use Rattle.std.proofs.Common.{◌≡◌, refl, ℕ, ◌+◌, ◌*◌, ◌<◌, ◌⊎◌, inl, inr, arith, ap, sym, ◌∙◌, subst, List, [], ◌∷◌, Bool, IsTrue, Some, true, false, not, ◌&&◌, cond}
+use Rattle.std.proofs.Common.{◌≡◌, refl, ℕ, ◌+◌, ◌*◌, ◌<◌, ◌⊎◌, inl, inr, arith, ap, sym, ◌∙◌, List, [], ◌∷◌, Bool, IsTrue, Some, true, false, not, ◌&&◌, cond}
 use Rattle.cg_dyadic.proofs.Truth.{and_swap, differ, false-from}
 use Rattle.cg_form.specs.Game.{Among, Game, lefts, node, rights}
 use Rattle.cg_form.specs.Order.{no_one}
@@ -28,9 +28,7 @@ known_more gs w answers v x left page answer h here o more = record {
     each = λ l c r e. elim (more l c r e) [
       | inl q ↦ h.verdicts.each l c r q
       | inr q ↦
-          let P : ℕ → Type 0 = λ z. IsPage gs z × (r ≡ at_most l (game_of gs z) (whole_game gs w)) in
-          let Q : Bool → Type 0 = λ z. IsPage gs page × (r ≡ at_most z (game_of gs page) (whole_game gs w)) in
-          subst P (sym q.1) (subst Q (sym q.0) (here, q.2 ∙ o))
+          rw q.1 (rw q.0 (here, q.2 ∙ o))
     ];
   };
   right = h.right;
@@ -44,8 +42,8 @@ swapped false ls rs = refl
 
 pub own_pages : (gs : List Game) (ls rs own : List ℕ) (left : Bool) → ArePages gs ls → ArePages gs rs → own ≡ cond left ls rs
     → ArePages gs own
-own_pages gs ls rs own true l r e = let P : List ℕ → Type 0 = λ z. ArePages gs z in subst P (sym e) l
-own_pages gs ls rs own false l r e = let P : List ℕ → Type 0 = λ z. ArePages gs z in subst P (sym e) r
+own_pages gs ls rs own true l r e = rw e l
+own_pages gs ls rs own false l r e = rw e r
 
 -- the options of a game on one side, as they were read
 pub record OneSide (gs : List Game) (h : Game) (hs : List Game) (own : List ℕ) : Type 0 where
@@ -63,9 +61,7 @@ pub near_side : (gs : List Game) (h : Game) (ls rs own : List ℕ) (left : Bool)
     → ArePages gs ls × ArePages gs rs × (h ≡ node (games_of gs ls) (games_of gs rs)) → own ≡ cond left ls rs
     → OneSide gs h (near left h) own
 near_side gs h ls rs own left r c =
-    let P : List ℕ → Type 0 = λ z. OneSide gs h (near left h) z in
-    let Q : List Game → Type 0 = λ z. OneSide gs h z (cond left ls rs) in
-    subst P (sym c) (subst Q (sym (ap (near left) r.2 ∙ near-node left (games_of gs ls) (games_of gs rs))) (one_side gs h ls rs left r))
+    rw c (rw (ap (near left) r.2 ∙ near-node left (games_of gs ls) (games_of gs rs)) (one_side gs h ls rs left r))
 
 swapped_lists : (left : Bool) (ls rs : List Game) → chosen (not left) ls rs ≡ chosen left rs ls
 swapped_lists true ls rs = refl
@@ -75,10 +71,8 @@ pub far_side : (gs : List Game) (h : Game) (ls rs own : List ℕ) (left : Bool)
     → ArePages gs ls × ArePages gs rs × (h ≡ node (games_of gs ls) (games_of gs rs)) → own ≡ cond left rs ls
     → OneSide gs h (far left h) own
 far_side gs h ls rs own left r c =
-    let P : List ℕ → Type 0 = λ z. OneSide gs h (far left h) z in
-    let Q : List Game → Type 0 = λ z. OneSide gs h z (cond (not left) ls rs) in
-    subst P (sym (c ∙ swapped left ls rs))
-    (subst Q (swapped_lists left (games_of gs ls) (games_of gs rs) ∙ sym (ap (far left) r.2 ∙ far-node left (games_of gs ls) (games_of gs rs)))
+    rw (c ∙ swapped left ls rs)
+    (rw (← (swapped_lists left (games_of gs ls) (games_of gs rs) ∙ sym (ap (far left) r.2 ∙ far-node left (games_of gs ls) (games_of gs rs))))
     (one_side gs h ls rs (not left) r))
 
 -- the other side's options of the whole

@@ -75,8 +75,7 @@ one_more gs firsts i ss l =
 
 still_are : (firsts own : List ℕ) (i : ℕ) → i < length firsts → All (Contains (take i firsts)) own → All (Contains (take (i + 1) firsts)) own
 still_are firsts own i l a =
-    let P : List ℕ → Type 0 = λ z. All (Contains z) own in
-    subst P (sym (take_more firsts i 0 l)) (All-weaker (Contains (take i firsts)) (Contains (take i firsts ++ get_or firsts i 0 ∷ []))
+    rw (take_more firsts i 0 l) (All-weaker (Contains (take i firsts)) (Contains (take i firsts ++ get_or firsts i 0 ∷ []))
     (λ x m. Contains-append_left (take i firsts) (get_or firsts i 0 ∷ []) x m) own a)
 
 -- one of the rest is as good as the next
@@ -84,10 +83,9 @@ pub so_far_same : (gs : List Game) (left : Bool) (firsts seconds rest own : List
     → i < length firsts → no_one (at_most left (game_of gs (get_or firsts i 0))) (games_of gs rest) ≡ false
     → SoFar gs left firsts seconds rest own (i + 1)
 so_far_same gs left firsts seconds rest own i h l some =
-    let P : List Game → Type 0 = λ z. Tops left z (games_of gs rest ++ games_of gs own) in
     record {
       own_are = still_are firsts own i l h.own_are;
-      tops = subst P (one_more gs firsts i (games_of gs seconds) l)
+      tops = rw (← (one_more gs firsts i (games_of gs seconds) l))
           (terms_same left (games_of gs seconds ++ games_of gs (take i firsts)) (games_of gs rest) (games_of gs own)
           (game_of gs (get_or firsts i 0)) h.tops some);
     }
@@ -102,15 +100,10 @@ so_far_more gs left firsts seconds rest own less more i none h l best kept e =
     let p = get_or firsts i 0 in
     let x = game_of gs p in
     let ss = games_of gs seconds in
-    let P : List Game → Type 0 = λ z. Tops left z (games_of gs less ++ games_of gs more) in
-    let Q : List Game → Type 0 = λ z. Tops left (ss ++ games_of gs (take i firsts) ++ x ∷ []) (games_of gs less ++ z) in
-    let R : List Game → Type 0 = λ z. Tops left (ss ++ games_of gs (take i firsts) ++ x ∷ []) (z ++ (games_of gs own ++ x ∷ [])) in
-    let S : List ℕ → Type 0 = λ z. All (Contains (take (i + 1) firsts)) z in
-    let T : List ℕ → Type 0 = λ z. Contains z p in
     record {
-      own_are = subst S (sym e) (All-push (Contains (take (i + 1) firsts)) own p (still_are firsts own i l h.own_are)
-          (subst T (sym (take_more firsts i 0 l)) (Contains-append_right (take i firsts) (p ∷ []) p (Contains-get_or (p ∷ []) 0 p (omega arith)))));
-      tops = subst P (one_more gs firsts i ss l) (subst Q (sym (games_pushed gs own more p e)) (subst R (sym kept)
+      own_are = rw e (All-push (Contains (take (i + 1) firsts)) own p (still_are firsts own i l h.own_are)
+          (rw (take_more firsts i 0 l) (Contains-append_right (take i firsts) (p ∷ []) p (Contains-get_or (p ∷ []) 0 p (omega arith)))));
+      tops = rw (← (one_more gs firsts i ss l)) (rw (games_pushed gs own more p e) (rw kept
           (terms_put left (ss ++ games_of gs (take i firsts)) (games_of gs rest) (games_of gs own) x h.tops best
           (next_apart gs left firsts own i none l h.own_are))));
     }
@@ -121,13 +114,10 @@ pub so_far_all : (gs : List Game) (left : Bool) (firsts seconds rest own all : L
 so_far_all gs left firsts seconds rest own all i h l e =
     let ss = games_of gs seconds in
     let fs = games_of gs firsts in
-    let P : List Game → Type 0 = λ z. Tops left (games_of gs (firsts ++ seconds)) z in
-    let Q : List ℕ → Type 0 = λ z. Tops left (ss ++ games_of gs z) (games_of gs rest ++ games_of gs own) in
-    let R : List Game → Type 0 = λ z. Tops left z (games_of gs rest ++ games_of gs own) in
-    subst P (sym (ap (games_of gs) e ∙ map-append (game_of gs) rest own))
-    (subst R (sym (map-append (game_of gs) firsts seconds))
+    rw (ap (games_of gs) e ∙ map-append (game_of gs) rest own)
+    (rw (map-append (game_of gs) firsts seconds)
     (tops_same_games left (ss ++ fs) (fs ++ ss) (games_of gs rest ++ games_of gs own) (λ x m. swap x ss fs m) (λ x m. swap x fs ss m)
-    (subst Q (take_all i firsts l) h.tops)))
+    (rw (← (take_all i firsts l)) h.tops)))
   where
     swap : (x : Game) (us vs : List Game) → Among x (us ++ vs) → Among x (vs ++ us)
     swap x us vs m = elim (among-append x us vs m) [
@@ -140,8 +130,7 @@ so_far_all gs left firsts seconds rest own all i h l e =
 pub second_apart : (gs : List Game) (n count : ℕ) (ps : List ℕ) → count ≡ min n (length ps) → NoneComparable (drop n (games_of gs ps))
     → NoneComparable (games_of gs (drop count ps))
 second_apart gs n count ps e h =
-    let P : List Game → Type 0 = λ z. NoneComparable z in
-    subst P (drop-map (game_of gs) n ps ∙ ap (games_of gs) (same n count ps e)) h
+    rw (← (drop-map (game_of gs) n ps ∙ ap (games_of gs) (same n count ps e))) h
   where
     same : (n count : ℕ) (ps : List ℕ) → count ≡ min n (length ps) → drop n ps ≡ drop count ps
     same n count ps e = elim (cases_lt n (length ps)) [

@@ -27,8 +27,7 @@ use Rattle.cg_book.proofs.Slices.{games_pushed, games_take_suc, pages_pushed}
 
 pub number_fine : (s : Bool) (g h : Game) (x : Number) → h ≡ number x → ¬ AtMost s g h → Fine s g h
 number_fine s g h x e n =
-    let P : Game → Type 0 = λ z. Canonical z in
-    record { canonical = subst P (sym e) tt; less = n; way = inl (x, e) }
+    record { canonical = rw e tt; less = n; way = inl (x, e) }
 
 pub stays_fine : (s : Bool) (g h : Game) → Canonical h → ¬ AtMost s g h
     → IsTrue (no_one (λ b. at_most s b g) (far s h)) → Fine s g h
@@ -41,9 +40,7 @@ stays_fine s g h c n never = record {
 -- a number through which an option is reversible
 pub through_fine : (s : Bool) (g h : Game) (x : Number) → h ≡ number x → NoNumber g → AtMost s h g → Fine s g h
 through_fine s g h x e never l =
-    let P : Game → Type 0 = λ z. AtMost s z g in
-    let Q : Game → Type 0 = λ z. ¬ AtMost s g z in
-    number_fine s g h x e (subst Q (sym e) (not_both s g x never (subst P e l)))
+    number_fine s g h x e (rw e (not_both s g x never (rw (← e) l)))
 
 pub through_number : (s : Bool) (g h : Game) (x : Number) (us : List Game) → h ≡ number x → AtMost s h g → Among h us
     → (a : Game) → Among h (far s a) → Covered s g us a
@@ -69,7 +66,7 @@ grown_last s g x gs f = record {
   fine = λ y m. elim (among-append y gs (x ∷ []) m) [
     | inl k ↦ inl k
     | inr k ↦ elim k [
-      | inl q ↦ (let Q : Game → Type 0 = λ z. Fine s g z in inr (subst Q (sym q) f))
+      | inl q ↦ (inr (rw q f))
       | inr j ↦ absurd j
     ]
   ];
@@ -90,10 +87,9 @@ pushed_one : (gs : List Game) (left : Bool) (g : Game) (os rs : List ℕ) (h : �
 pushed_one gs left g os rs h a b e f =
     let x = game_of gs h in
     let same = games_pushed gs os rs h e in
-    let Q : List Game → Type 0 = λ z. Grown left g (games_of gs os) z in
     record {
       pages = pages_pushed gs os rs h a b e;
-      grown = subst Q (sym same) (grown_last left g x (games_of gs os) f);
+      grown = rw same (grown_last left g x (games_of gs os) f);
       last = carry x (games_of gs os ++ x ∷ []) (games_of gs rs) (sym same)
           (among-append_right x (games_of gs os) (x ∷ []) (inl refl));
     }
@@ -103,8 +99,7 @@ pushed_one gs left g os rs h a b e f =
 pub no_substitutes : (gs : List Game) (left : Bool) (w : Whole) (o : Substitutes) → o.items.items ≡ []
     → ((page : ℕ) → ¬ WasPassed o page) → AreSubstitutes gs left w o
 no_substitutes gs left w o e none =
-    let P : List ℕ → Type 0 = λ z. ArePages gs z in
-    record { pages = subst P (sym e) (All-nil (IsPage gs)); passed = λ page p. absurd (none page p) }
+    record { pages = rw e (All-nil (IsPage gs)); passed = λ page p. absurd (none page p) }
 
 -- with one candidate more
 pub replaced_by_one : (gs : List Game) (left : Bool) (w : Whole) (o r : Substitutes) (x : ℕ) (P : Game → Type 0)
@@ -135,7 +130,7 @@ pub replaced_by_none : (gs : List Game) (left : Bool) (w : Whole) (o : Substitut
 replaced_by_none gs left w o x h c = record {
   out = h;
   grown = grown_same left (whole_game gs w) (games_of gs o.items.items);
-  covered = λ a e. let P : Game → Type 0 = λ z. Covered left (whole_game gs w) (games_of gs o.items.items) z in subst P (sym e) c;
+  covered = λ a e. rw e c;
 }
 
 -- which cover an option that is passed now
@@ -143,42 +138,36 @@ passing_substitutes : (gs : List Game) (left : Bool) (w : Whole) (o r : Substitu
     → IsPage gs x → Covered left (whole_game gs w) (games_of gs o.items.items) (game_of gs x) → r.items.items ≡ o.items.items
     → ((page : ℕ) → WasPassed r page → WasPassed o page ⊎ (page ≡ x)) → AreSubstitutes gs left w r
 passing_substitutes gs left w o r x h known c e updates =
-    let P : List ℕ → Type 0 = λ z. ArePages gs z in
-    record { pages = subst P (sym e) h.pages; passed = one }
+    record { pages = rw e h.pages; passed = one }
   where
     one : (page : ℕ) → WasPassed r page
         → IsPage gs page × Covered left (whole_game gs w) (games_of gs r.items.items) (game_of gs page)
     one page p =
-        let Q : List ℕ → Type 0 = λ z. Covered left (whole_game gs w) (games_of gs z) (game_of gs page) in
         elim (updates page p) [
           | inr same ↦ (
-              let V : ℕ → Type 0 = λ z. IsPage gs z in
-              let U : ℕ → Type 0 = λ z. Covered left (whole_game gs w) (games_of gs o.items.items) (game_of gs z) in
-              (subst V (sym same) known, subst Q (sym e) (subst U (sym same) c)))
+              (rw same known, rw e (rw same c)))
           | inl old ↦ (
               let before = h.passed page old in
-              (before.0, subst Q (sym e) before.1))
+              (before.0, rw e before.1))
         ]
 
 pub replaced_and_passed : (gs : List Game) (left : Bool) (w : Whole) (o m r : Substitutes) (x : ℕ)
     → Replaced gs left w o m (λ a. a ≡ game_of gs x) → IsPage gs x → r.items.items ≡ m.items.items
     → ((page : ℕ) → WasPassed r page → WasPassed m page ⊎ (page ≡ x)) → Replaced gs left w o r (λ a. a ≡ game_of gs x)
 replaced_and_passed gs left w o m r x d known e updates =
-    let P : List ℕ → Type 0 = λ z. Grown left (whole_game gs w) (games_of gs o.items.items) (games_of gs z) in
-    let Q : List ℕ → Type 0 = λ z. (a : Game) → a ≡ game_of gs x → Covered left (whole_game gs w) (games_of gs z) a in
     record {
       out = passing_substitutes gs left w m r x d.out known (d.covered (game_of gs x) refl) e updates;
-      grown = subst P (sym e) d.grown;
-      covered = subst Q (sym e) d.covered;
+      grown = rw e d.grown;
+      covered = rw e d.covered;
     }
 
 -- ---- a game by another name
 
 pub kept_there : (s : Bool) (g x : Game) (us : List Game) (a : Game) → Among x us → a ≡ x → Covered s g us a
-kept_there s g x us a m e = let P : Game → Type 0 = λ z. Covered s g us z in subst P (sym e) (kept m)
+kept_there s g x us a m e = rw e (kept m)
 
 pub far_of_same : (s : Bool) (x b a : Game) → a ≡ x → Among b (far s x) → Among b (far s a)
-far_of_same s x b a e m = let P : Game → Type 0 = λ z. Among b (far s z) in subst P (sym e) m
+far_of_same s x b a e m = rw e m
 
 -- ---- over a list of options
 
@@ -188,7 +177,7 @@ covered_last s g x us vs gs all grown c = record {
   each = λ y m. elim (among-append y gs (x ∷ []) m) [
     | inl k ↦ covered_more s g us vs y grown.keeps (all.each y k)
     | inr k ↦ elim k [
-      | inl e ↦ (let P : Game → Type 0 = λ z. Covered s g vs z in subst P (sym e) c)
+      | inl e ↦ (rw e c)
       | inr j ↦ absurd j
     ]
   ];
@@ -208,11 +197,10 @@ pub bypassed_more : (gs : List Game) (left : Bool) (g : Game) (options os us ws 
     → Bypassed gs left g (take (i + 1) options) os ws
 bypassed_more gs left g options os us ws i k h l e grown covered =
     let one : i + 1 ≡ suc i = omega arith in
-    let Q : List Game → Type 0 = λ z. AllCovered left g (games_of gs ws) z in
     record {
       grown = grown_trans left g (games_of gs os) (games_of gs us) (games_of gs ws) h.grown grown;
-      covered = subst Q (sym (ap (λ n. games_of gs (take n options)) one ∙ games_take_suc gs options i 0 l
-          ∙ ap (λ z. games_of gs (take i options) ++ game_of gs z ∷ []) (sym e)))
+      covered = rw (ap (λ n. games_of gs (take n options)) one ∙ games_take_suc gs options i 0 l
+          ∙ ap (λ z. games_of gs (take i options) ++ game_of gs z ∷ []) (sym e))
           (covered_last left g (game_of gs k) (games_of gs us) (games_of gs ws) (games_of gs (take i options)) h.covered grown covered);
     }
 
@@ -235,8 +223,8 @@ own_less gs w left own e = record {
 
 pub whole_pages : (gs : List Game) (w : Whole) (left : Bool) (own : List ℕ) → WholeHolds gs w → own ≡ cond left w.lefts.now w.rights.now
     → ArePages gs own
-whole_pages gs w true own h e = let P : List ℕ → Type 0 = λ z. ArePages gs z in subst P (sym e) h.lefts
-whole_pages gs w false own h e = let P : List ℕ → Type 0 = λ z. ArePages gs z in subst P (sym e) h.rights
+whole_pages gs w true own h e = rw e h.lefts
+whole_pages gs w false own h e = rw e h.rights
 
 -- ---- where nothing is bypassed
 
@@ -250,7 +238,7 @@ fine_more gs left g ps i k h l e f = λ x m.
     elim (among-append x (games_of gs (take i ps)) (game_of gs k ∷ []) (carry x (games_of gs (take (i + 1) ps)) (games_of gs (take i ps) ++ game_of gs k ∷ []) list m)) [
       | inl j ↦ h x j
       | inr j ↦ elim j [
-        | inl q ↦ (let P : Game → Type 0 = λ z. Fine left g z in subst P (sym q) f)
+        | inl q ↦ (rw q f)
         | inr n ↦ absurd n
       ]
     ]

@@ -22,7 +22,7 @@ pub le_same : (g h k l : Game) → g ≡ k → h ≡ l → le g h ≡ le k l
 le_same g h k l a b = cc
 
 pub canonical_at : (h k : Game) → h ≡ k → Canonical h → Canonical k
-canonical_at h k e c = let P : Game → Type 0 = λ z. Canonical z in subst P e c
+canonical_at h k e c = rw (← e) c
 
 -- a number is at most a game that equals no number exactly where no Right option is at most the number
 below_game : (x : Number) (ls rs : List Game) → Canonical (node ls rs)
@@ -79,9 +79,8 @@ games_case g h al ar bl br u a b q t =
 pub hindered : (g h : Game) (al ar : List Game) (u : Bool) → g ≡ node al ar → u ≡ no_one (at_most true h) al → u ≡ false
     → false ≡ le g h
 hindered g h al ar u a q t =
-    let P : Game → Type 0 = λ z. no_one (at_most true h) (lefts z) ≡ false in
     let n : no_one (at_most true h) (lefts (node al ar)) ≡ false = ap (no_one (at_most true h)) (lefts-node al ar) ∙ sym q ∙ t in
-    let m : no_one (at_most true h) (lefts g) ≡ false = subst P (sym a) n in
+    let m : no_one (at_most true h) (lefts g) ≡ false = rw a n in
     sym (false-from (le g h) (λ l. differ (no_one (at_most true h) (lefts g))
     (no_one-all (at_most true h) (lefts g) (λ b w. false-from (le h b) ((le-unfold g h l).on_left b w))) m))
 
@@ -96,6 +95,6 @@ ok_same (Err x) u v h e = h
 pub remembered : (gs : List Game) (old new : Recent) (answer : Answer) → AreRight gs old
     → ((x : Answer) → IsKept new x → (x ≡ answer) ⊎ IsKept old x) → IsRight gs answer → AreRight gs new
 remembered gs old new answer h k r = λ x m. elim (k x m) [
-  | inl e ↦ (let P : Answer → Type 0 = λ z. IsRight gs z in subst P (sym e) r)
+  | inl e ↦ (rw e r)
   | inr o ↦ h x o
 ]

@@ -1,5 +1,5 @@
 -- The games of a list of pages that are kept, and the best of them.
-use Rattle.std.proofs.Common.{◌≡◌, ℕ, suc, ◌+◌, ◌<◌, arith, ap, sym, ◌∙◌, subst, List, [], ◌∷◌, ◌++◌, take, get_or, length, Bool, true, false, cond}
+use Rattle.std.proofs.Common.{◌≡◌, ℕ, suc, ◌+◌, ◌<◌, arith, ap, sym, ◌∙◌, List, [], ◌∷◌, ◌++◌, take, get_or, length, Bool, true, false, cond}
 use Rattle.std.specs.List.{Contains}
 use Rattle.std.proofs.lemmas.List.Elements.{All-contains, All-contains_itself}
 use Rattle.std.specs.List.Sorted.{IsPermutation}
@@ -45,9 +45,7 @@ pub tops_next : (gs : List Game) (left : Bool) (ps : List ℕ) (us ws : List Gam
     → Tops left (games_of gs (take i ps)) us → i < length ps → k ≡ get_or ps i 0 → ws ≡ with_last left us (game_of gs k)
     → Tops left (games_of gs (take (i + 1) ps)) ws
 tops_next gs left ps us ws i k h l e q =
-    let P : List Game → Type 0 = λ z. Tops left z ws in
-    let Q : List Game → Type 0 = λ z. Tops left (games_of gs (take i ps) ++ game_of gs k ∷ []) z in
-    subst P (sym (games_take_more gs ps i k l e)) (subst Q (sym q) (tops_step left (games_of gs (take i ps)) us (game_of gs k) h))
+    rw (games_take_more gs ps i k l e) (rw q (tops_step left (games_of gs (take i ps)) us (game_of gs k) h))
 
 -- ---- the same pages in another order
 
@@ -57,8 +55,7 @@ pages_moved gs ps qs p a = All-permutation (IsPage gs) ps qs p a
 games_moved : (gs : List Game) (ps qs : List ℕ) → IsPermutation ps qs → (x : Game) → Among x (games_of gs qs) → Among x (games_of gs ps)
 games_moved gs ps qs p x m =
     let (k, there, e) = member_of gs qs x m in
-    let P : Game → Type 0 = λ z. Among z (games_of gs ps) in
-    subst P (sym e) (game_there gs ps k (All-contains (Contains ps) qs k (All-permutation (Contains ps) ps qs p (All-contains_itself ps)) there))
+    rw e (game_there gs ps k (All-contains (Contains ps) qs k (All-permutation (Contains ps) ps qs p (All-contains_itself ps)) there))
 
 pub tops_moved : (gs : List Game) (left : Bool) (ps qs : List ℕ) (us : List Game) → IsPermutation ps qs → Tops left (games_of gs qs) us
     → Tops left (games_of gs ps) us

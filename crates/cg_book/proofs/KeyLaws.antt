@@ -1,5 +1,5 @@
 -- What keys tell of two cuts, and of the order of two games.
-use Rattle.std.proofs.Common.{◌≡◌, refl, ap, sym, ◌∙◌, subst, arith, ◌^◌, ◌<◌, Bool, true, false, not, ◌||◌, IsTrue, ℤ, ◌≤ℤ◌, ◌<ℤ◌, unsigned_abs}
+use Rattle.std.proofs.Common.{◌≡◌, refl, ap, sym, ◌∙◌, arith, ◌^◌, ◌<◌, Bool, true, false, not, ◌||◌, IsTrue, ℤ, ◌≤ℤ◌, ◌<ℤ◌, unsigned_abs}
 use Rattle.std.proofs.Math.Bool.{or-true}
 use Rattle.std.proofs.lemmas.Int.{ints}
 use mir.Syntax.{w128}
@@ -78,11 +78,9 @@ meets_closed x y false r q h = ap not (not_le y x q r (omega (arith, ints)))
 pub meet : (high low : Cut) (c d : Bool) → high.closed ≡ c → low.closed ≡ d → InRange high.at → InRange low.at
     → key_of high.at (not c) <ℤ key_of low.at d → Meet high low
 meet high low true d e f r q h =
-    let P : Bool → Type 0 = λ z. IsTrue (within_cut true low.at z high.at) in
-    meet_high high low e (subst P (sym f) (meets_closed high.at low.at d r q h))
+    meet_high high low e (rw f (meets_closed high.at low.at d r q h))
 meet high low false true e f r q h =
-    let P : Bool → Type 0 = λ z. IsTrue (within_cut false high.at z low.at) in
-    meet_low high low f (subst P (sym e) (ap not (not_le low.at high.at q r (omega (arith, ints)))))
+    meet_low high low f (rw e (ap not (not_le low.at high.at q r (omega (arith, ints)))))
 meet high low false false e f r q h =
     meet_between high low (record { at = high.at; closed = true }) refl refl e f
     (ap not (not_le low.at high.at q r (omega (arith, ints))))
@@ -99,13 +97,11 @@ key_small x false r = let u = units-in_range x r in omega (arith, ints)
 
 pub low_small : (a : Keys) (g : Game) → HasKeys g a → unsigned_abs a.low < 2 ^ 126
 low_small a g p =
-    let P : ℤ → Type 0 = λ z. unsigned_abs z < 2 ^ 126 in
-    subst P (sym p.keys.low) (key_small p.profile.low.at p.profile.low.closed p.keys.low_in_range)
+    rw p.keys.low (key_small p.profile.low.at p.profile.low.closed p.keys.low_in_range)
 
 pub high_small : (a : Keys) (g : Game) → HasKeys g a → unsigned_abs a.high < 2 ^ 126
 high_small a g p =
-    let P : ℤ → Type 0 = λ z. unsigned_abs z < 2 ^ 126 in
-    subst P (sym p.keys.high) (key_small p.profile.high.at (not p.profile.high.closed) p.keys.high_in_range)
+    rw p.keys.high (key_small p.profile.high.at (not p.profile.high.closed) p.keys.high_in_range)
 
 compared_as_words : (m n : ℤ) → unsigned_abs m < 2 ^ 126 → unsigned_abs n < 2 ^ 126 → lt_z m n ≡ lt_z (as_word m) (as_word n)
 compared_as_words m n e f = ap (λ z. lt_z z n) (sym (wide_word m e)) ∙ ap (lt_z (as_word m)) (sym (wide_word n f))
@@ -127,9 +123,7 @@ is_at_least m n e f h = not_lt_z m n (compared_as_words m n e f ∙ h)
 
 at_keys : (m n k l : ℤ) → m ≡ k → n ≡ l → m <ℤ n → k <ℤ l
 at_keys m n k l e f h =
-    let P : ℤ → Type 0 = λ z. z <ℤ l in
-    let Q : ℤ → Type 0 = λ z. m <ℤ z in
-    subst P e (subst Q f h)
+    rw (← e) (rw (← f) h)
 
 -- ---- two games
 
@@ -181,15 +175,13 @@ no_further_low : (a b : Keys) (g h : Game) → HasKeys g a → HasKeys h b → a
 no_further_low a b g h p q l =
     no_further true p.profile.low q.profile.low g h p.cuts.low q.cuts.low
     (covers_low q.profile.low.at p.profile.low.at q.profile.low.closed p.profile.low.closed q.keys.low_in_range p.keys.low_in_range
-    (let P : ℤ → Type 0 = λ z. z ≤ℤ key_of q.profile.low.at q.profile.low.closed in
-    let Q : ℤ → Type 0 = λ z. a.low ≤ℤ z in subst P p.keys.low (subst Q q.keys.low l)))
+    (rw (← p.keys.low) (rw (← q.keys.low) l)))
 
 no_further_high : (a b : Keys) (g h : Game) → HasKeys g a → HasKeys h b → b.high ≤ℤ a.high → NoFurther false g h
 no_further_high a b g h p q l =
     no_further false p.profile.high q.profile.high g h p.cuts.high q.cuts.high
     (covers_high q.profile.high.at p.profile.high.at q.profile.high.closed p.profile.high.closed q.keys.high_in_range p.keys.high_in_range
-    (let P : ℤ → Type 0 = λ z. z ≤ℤ key_of p.profile.high.at (not p.profile.high.closed) in
-    let Q : ℤ → Type 0 = λ z. b.high ≤ℤ z in subst P q.keys.high (subst Q p.keys.high l)))
+    (rw (← q.keys.high) (rw (← p.keys.high) l)))
 
 pub less_low : (s : Bool) (a b : Keys) (g h : Game) → s ≡ true → HasKeys g a → HasKeys h b → IsLess a.low b.low
     → NoFurther s g h

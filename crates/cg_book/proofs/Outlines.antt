@@ -48,12 +48,11 @@ leads_next : (gs : List Game) (s : Bool) (ps : List ℕ) (i : ℕ) (g h : Game) 
     → Leads s (games_of gs ps) (games_of gs (take i ps)) g → Among h (games_of gs ps) → NoFurther s g h
     → NoFurther s (game_of gs (get_or ps i 0)) h → Leads s (games_of gs ps) (games_of gs (take (i + 1) ps)) h
 leads_next gs s ps i g h l so_far inside past own =
-    let P : List Game → Type 0 = λ z. Leads s (games_of gs ps) z h in
-    subst P (sym (next_games gs ps i l)) (record {
+    rw (next_games gs ps i l) (record {
       inside = inside;
       no_further = λ c m. elim (among_last c (game_of gs (get_or ps i 0)) (games_of gs (take i ps)) m) [
         | inl k ↦ (λ x t. past x (so_far.no_further c k x t))
-        | inr e ↦ (let Q : Game → Type 0 = λ z. NoFurther s z h in subst Q (sym e) own)
+        | inr e ↦ (rw e own)
       ];
     })
 
@@ -61,9 +60,8 @@ pub next_leads : (gs : List Game) (s : Bool) (ps : List ℕ) (i page next : ℕ)
     → IsLeader gs s ps i page → NoFurther s (game_of gs page) (game_of gs (get_or ps i 0)) → next ≡ get_or ps i 0
     → IsLeader gs s ps (i + 1) next
 next_leads gs s ps i page next l a h past e =
-    let P : ℕ → Type 0 = λ z. IsLeader gs s ps (i + 1) z in
     let own = get_or ps i 0 in
-    subst P (sym e) (
+    rw e (
       page_of_item gs ps i own a l refl,
       leads_next gs s ps i (game_of gs page) (game_of gs own) l h.1 (item_among gs ps i own l refl) past (λ x t. t),
     )
@@ -71,9 +69,8 @@ next_leads gs s ps i page next l a h past e =
 pub still_leads : (gs : List Game) (s : Bool) (ps : List ℕ) (i page next : ℕ) → i < length ps → IsLeader gs s ps i page
     → NoFurther s (game_of gs (get_or ps i 0)) (game_of gs page) → next ≡ page → IsLeader gs s ps (i + 1) next
 still_leads gs s ps i page next l h own e =
-    let P : ℕ → Type 0 = λ z. IsLeader gs s ps (i + 1) z in
     let g = game_of gs page in
-    subst P (sym e) (h.0, leads_next gs s ps i g g l h.1 h.1.inside (λ x t. t) own)
+    rw e (h.0, leads_next gs s ps i g g l h.1 h.1.inside (λ x t. t) own)
 
 furthest_cut : (s : Bool) (gs : List Game) (g : Game) (p : Profile) (c : Cut) → Leads s gs gs g → IsProfile g p
     → c ≡ chosen_cut s p.low p.high → CutOf AnyNumber s (Some c) gs
@@ -121,8 +118,7 @@ nothing_case ls rs o q l h k x e = gap_misses AnyNumber ls rs o q l h (λ y p. k
 pub cuts_at : (gs : List Game) (g : Game) (p : Profile) (us vs ls rs : List ℕ) → Equal (node (games_of gs ls) (games_of gs rs)) g
     → us ≡ ls → vs ≡ rs → HasCuts g p → HasCuts (node (games_of gs us) (games_of gs vs)) p
 cuts_at gs g p us vs ls rs equal e f h =
-    let P : Game → Type 0 = λ z. HasCuts z p in
-    subst P (sym (ap (λ z. node (games_of gs z) (games_of gs vs)) e ∙ ap (λ z. node (games_of gs ls) (games_of gs z)) f))
+    rw (ap (λ z. node (games_of gs z) (games_of gs vs)) e ∙ ap (λ z. node (games_of gs ls) (games_of gs z)) f)
     (equal_cuts g (node (games_of gs ls) (games_of gs rs)) p equal h)
 
 pub new_form : (gs : List Game) (g : Game) (new : NewForm) (us vs : List ℕ) → ArePages gs new.form.lefts.items
@@ -133,10 +129,9 @@ pub new_form : (gs : List Game) (g : Game) (new : NewForm) (us vs : List ℕ) �
 new_form gs g new us vs a b c e f h form k =
     let own : Game = node (games_of gs new.form.lefts.items) (games_of gs new.form.rights.items) in
     let is : form ≡ own = canonical_form-same g form own k c in
-    let P : Game → Type 0 = λ z. IsProfile z new.profile in
     record {
       lefts = a;
       rights = b;
       is = is;
-      profile = subst P (ap (λ z. node (games_of gs z) (games_of gs vs)) e ∙ ap (λ z. node (games_of gs new.form.lefts.items) (games_of gs z)) f ∙ sym is) h;
+      profile = rw (← (ap (λ z. node (games_of gs z) (games_of gs vs)) e ∙ ap (λ z. node (games_of gs new.form.lefts.items) (games_of gs z)) f ∙ sym is)) h;
     }

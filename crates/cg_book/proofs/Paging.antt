@@ -85,19 +85,15 @@ says_here opts gs all more p f w e =
     get_or-append_right gs (m ∷ more) (length gs) (length gs) (node [] []) refl (omega arith)
     ∙ ap (λ k. get_or (m ∷ more) k (node [] [])) none in
     let is : game_of all (length gs + 0) ≡ m = ap (game_of all) z ∙ ap (λ k. game_of k (length gs)) front ∙ own in
-    let P : List Game → Type 0 = λ k. ArePages k (left_pages opts p) in
-    let Q : List Game → Type 0 = λ k. ArePages k (right_pages opts p) in
-    let V : Game → Type 0 = λ k. Canonical k in
-    let U : Game → Type 0 = λ k. IsProfile k f in
     record {
       says = is ∙ sym (said_before opts gs (m ∷ more) p f w.lefts w.rights) ∙ ap (λ k. said opts k p f) (sym front);
-      lefts = subst P (sym front) (pages_before gs (m ∷ more) (left_pages opts p) w.lefts);
-      rights = subst Q (sym front) (pages_before gs (m ∷ more) (right_pages opts p) w.rights);
+      lefts = rw front (pages_before gs (m ∷ more) (left_pages opts p) w.lefts);
+      rights = rw front (pages_before gs (m ∷ more) (right_pages opts p) w.rights);
       first = w.first;
       second = w.second;
       end = w.end;
-      canonical = subst V (sym is) w.canonical;
-      is_profile = subst U (sym is) w.is_profile;
+      canonical = rw is w.canonical;
+      is_profile = rw is w.is_profile;
       keys = w.keys;
     }
 
@@ -201,19 +197,16 @@ written_longer_page opts more gs p f w =
     let e : said (opts ++ more) gs p f ≡ said opts gs p f =
     ap (λ z. cond p.is_number (number f.low.at) (node (games_of gs z) (games_of gs (right_pages (opts ++ more) p)))) l
     ∙ ap (λ z. cond p.is_number (number f.low.at) (node (games_of gs (left_pages opts p)) (games_of gs z))) r in
-    let P : List ℕ → Type 0 = λ z. ArePages gs z in
-    let V : Game → Type 0 = λ k. Canonical k in
-    let U : Game → Type 0 = λ k. IsProfile k f in
     let n = length-append opts more in (
       e,
       record {
-        lefts = subst P (sym l) w.lefts;
-        rights = subst P (sym r) w.rights;
+        lefts = rw l w.lefts;
+        rights = rw r w.rights;
         first = w.first;
         second = w.second;
         end = (let a = w.end in omega arith);
-        canonical = subst V (sym e) w.canonical;
-        is_profile = subst U (sym e) w.is_profile;
+        canonical = rw e w.canonical;
+        is_profile = rw e w.is_profile;
         keys = w.keys;
       },
     )
@@ -224,9 +217,8 @@ said_longer opts more gs [] w = (refl, w)
 said_longer opts more gs ((p, f) ∷ ps) w =
     let one = written_longer_page opts more gs p f w.0 in
     let rest = said_longer opts more (gs ++ (said opts gs p f ∷ [])) ps w.1 in
-    let P : List Game → Type 0 = λ z. AreWritten (opts ++ more) z ps in
     let e : gs ++ (said (opts ++ more) gs p f ∷ []) ≡ gs ++ (said opts gs p f ∷ []) = ap (λ z. gs ++ (z ∷ [])) one.0 in
-    (ap (λ z. said_by (opts ++ more) z ps) e ∙ rest.0, (one.1, subst P (sym e) rest.1))
+    (ap (λ z. said_by (opts ++ more) z ps) e ∙ rest.0, (one.1, rw e rest.1))
 
 -- ---- the pages of a book, from its first on
 
@@ -257,9 +249,8 @@ module _ (b : Inside) (gs : List Game) (h : IsBook b.options.items b.pages.items
       get_or-zip b.pages.items b.profiles.items i (p, f) (omega arith) (omega arith)
       ∙ ap (λ z. (z, get_or b.profiles.items i f)) (sym k) ∙ ap (λ z. (p, z)) (sym r) in
       let P : List Game → Type 0 = λ z. Says b.options.items z p f (game_of z i) in
-      let R : ℕ → Type 0 = λ k. Says b.options.items (said_by b.options.items [] all) p f (game_of (said_by b.options.items [] all) k) in
       let z : 0 + i ≡ i = omega arith in
-      subst P e (subst R z (says_at b.options.items [] all i p f h.written (omega arith) at))
+      subst P e (rw (← z) (says_at b.options.items [] all i p f h.written (omega arith) at))
 
   pub page_says : (i : ℕ) (p : Page) → i < length gs → p ≡ get_or b.pages.items i p → (f : Profile) × Says b.options.items gs p f (game_of gs i)
   page_says i p lt k =
@@ -292,9 +283,9 @@ pub says_game : (opts : List ℕ) (gs : List Game) (p : Page) (f : Profile) (g :
     → ls ≡ left_pages opts p → rs ≡ right_pages opts p
     → ArePages gs ls × ArePages gs rs × (g ≡ node (games_of gs ls) (games_of gs rs))
 says_game opts gs p f g ls rs s e l r =
-    let P : List ℕ → Type 0 = λ z. ArePages gs z in (
-      subst P (sym l) s.lefts,
-      subst P (sym r) s.rights,
+    (
+      rw l s.lefts,
+      rw r s.rights,
       s.says ∙ ap (λ z. cond z (number f.low.at) (node (games_of gs (left_pages opts p)) (games_of gs (right_pages opts p)))) e
           ∙ ap (λ z. node (games_of gs z) (games_of gs (right_pages opts p))) (sym l)
           ∙ ap (λ z. node (games_of gs ls) (games_of gs z)) (sym r),
@@ -322,18 +313,15 @@ adds_number opts gs p f x e at l r n profile keys =
     let says : said opts gs p f ≡ number x =
     ap (λ z. cond z (number f.low.at) (node (games_of gs (left_pages opts p)) (games_of gs (right_pages opts p)))) e
     ∙ ap number at in
-    let P : List ℕ → Type 0 = λ z. ArePages gs z in
-    let V : Game → Type 0 = λ k. Canonical k in
-    let U : Game → Type 0 = λ k. IsProfile k f in
     record {
       written = record {
-        lefts = subst P (sym (range_none opts p.lefts p.rights (l ∙ sym r))) (no_pages gs);
-        rights = subst P (sym (range_none opts p.rights p.end (r ∙ sym n))) (no_pages gs);
+        lefts = rw (range_none opts p.lefts p.rights (l ∙ sym r)) (no_pages gs);
+        rights = rw (range_none opts p.rights p.end (r ∙ sym n)) (no_pages gs);
         first = omega arith;
         second = omega arith;
         end = omega arith;
-        canonical = subst V (sym says) tt;
-        is_profile = subst U (sym says) profile;
+        canonical = rw says tt;
+        is_profile = rw says profile;
         keys = keys;
       };
       says = says;
@@ -356,18 +344,15 @@ adds_game opts ls rs gs p f e l r n al ar canonical profile keys =
     ap (λ z. cond z (number f.low.at) (node (games_of gs (left_pages all p)) (games_of gs (right_pages all p)))) e
     ∙ ap (λ z. node (games_of gs z) (games_of gs (right_pages all p))) left
     ∙ ap (λ z. node (games_of gs ls) (games_of gs z)) right in
-    let P : List ℕ → Type 0 = λ z. ArePages gs z in
-    let V : Game → Type 0 = λ k. Canonical k in
-    let U : Game → Type 0 = λ k. IsProfile k f in
     record {
       written = record {
-        lefts = subst P (sym left) al;
-        rights = subst P (sym right) ar;
+        lefts = rw left al;
+        rights = rw right ar;
         first = omega arith;
         second = omega arith;
         end = omega arith;
-        canonical = subst V (sym says) canonical;
-        is_profile = subst U (sym says) profile;
+        canonical = rw says canonical;
+        is_profile = rw says profile;
         keys = keys;
       };
       says = says;
@@ -386,9 +371,6 @@ pub one_page : (opts : List ℕ) (ps qs : List Page) (fs hs : List Profile) (gs 
 one_page opts ps qs fs hs gs p f g b e a q h n =
     let all = zip ps fs in
     let z : zip qs hs ≡ all ++ ((p, f) ∷ []) = ap (λ k. zip k hs) q ∙ ap (zip (ps ++ (p ∷ []))) h ∙ zip_one_more ps fs p f b.one_each in
-    let P : List Game → Type 0 = λ k. IsWritten opts k p f in
-    let Q : List (Page × Profile) → Type 0 = λ k. AreWritten opts [] k in
-    let R : List Game → Type 0 = λ k. length k < 2 ^ 32 in
     let u = ap length q in
     let v = ap length h in
     let x = length-append ps (p ∷ []) in
@@ -396,7 +378,7 @@ one_page opts ps qs fs hs gs p f g b e a q h n =
     let o = b.one_each in (
       record {
         one_each = omega arith;
-        written = subst Q (sym z) (written_one_more opts [] all p f b.written (subst P (sym e) a.written) (subst R (sym e) n));
+        written = rw z (written_one_more opts [] all p f b.written (rw e a.written) (rw e n));
       },
       ap (said_by opts []) z ∙ said_one_more opts [] all p f ∙ ap (λ k. k ++ (said opts k p f ∷ [])) e ∙ ap (λ k. gs ++ (k ∷ [])) a.says,
     )
@@ -406,5 +388,4 @@ pub same_pages : (opts more new : List ℕ) (ps : List Page) (fs : List Profile)
     → said_by opts [] (zip ps fs) ≡ gs → IsBook new ps fs × (said_by new [] (zip ps fs) ≡ gs)
 same_pages opts more new ps fs gs n b e =
     let l = said_longer opts more [] (zip ps fs) b.written in
-    let P : List ℕ → Type 0 = λ z. AreWritten z [] (zip ps fs) in
-    (record { one_each = b.one_each; written = subst P (sym n) l.1 }, ap (λ z. said_by z [] (zip ps fs)) n ∙ l.0 ∙ e)
+    (record { one_each = b.one_each; written = rw n l.1 }, ap (λ z. said_by z [] (zip ps fs)) n ∙ l.0 ∙ e)

@@ -1,5 +1,5 @@
 -- Profiles from those of the options.
-use Rattle.std.proofs.Common.{◌≡◌, refl, ℕ, ◌+◌, ◌<◌, ◌≤◌, ◌^◌, arith, ap, sym, ◌∙◌, subst, List, [], ◌∷◌, ◌++◌, length, Bool, true, false, not, ◌&&◌, max, rules, if◌then◌else◌}
+use Rattle.std.proofs.Common.{◌≡◌, refl, ℕ, ◌+◌, ◌<◌, ◌≤◌, ◌^◌, arith, ap, ◌∙◌, List, [], ◌∷◌, ◌++◌, length, Bool, true, false, not, ◌&&◌, max, rules, if◌then◌else◌}
 use Rattle.std.specs.Prelude.{Option, Some, IsSome}
 use Rattle.cg_dyadic.specs.declared.cut.Cut.{Cut}
 use Rattle.cg_dyadic.specs.Cut.{in_gap}
@@ -70,36 +70,30 @@ pub record TwoCuts (o q : Option Cut) : Type 0 where
   pub high : IsSome q
 
 some_is : (o : Option Cut) (c : Cut) → o ≡ Some c → IsSome o
-some_is o c e = let P : Option Cut → Type 0 = λ z. IsSome z in subst P (sym e) (search rules)
+some_is o c e = rw e (search rules)
 
 -- neither of its lists is empty
 pub two_cuts : (ls rs : List Game) (o q : Option Cut) → NoNumber (node ls rs) → CutOf AnyNumber true o ls
     → CutOf AnyNumber false q rs → TwoCuts o q
 two_cuts ls rs o q never l h =
-    let P : List Game → Type 0 = λ z. CutOf AnyNumber true o z in
-    let Q : List Game → Type 0 = λ z. CutOf AnyNumber false q z in
     let ends = gap_ends o q (λ x. false-from (in_gap o q x) (λ t. none_fits (node ls rs) never x
-    (gap-fits AnyNumber (node ls rs) o q (subst P (sym (lefts-node ls rs)) l) (subst Q (sym (rights-node ls rs)) h) x tt t))) in
+    (gap-fits AnyNumber (node ls rs) o q (rw (lefts-node ls rs) l) (rw (rights-node ls rs) h) x tt t))) in
     record { low = some_is o ends.first ends.low_is; high = some_is q ends.last ends.high_is }
 
 -- no number lies in its gap
 none_passes : (ls rs : List Game) (o q : Option Cut) → NoNumber (node ls rs) → CutOf AnyNumber true o ls
     → CutOf AnyNumber false q rs → (x : Number) → in_gap o q x ≡ false
 none_passes ls rs o q never l h x =
-    let P : List Game → Type 0 = λ z. CutOf AnyNumber true o z in
-    let Q : List Game → Type 0 = λ z. CutOf AnyNumber false q z in
     false-from (in_gap o q x) (λ t. none_fits (node ls rs) never x
-    (gap-fits AnyNumber (node ls rs) o q (subst P (sym (lefts-node ls rs)) l) (subst Q (sym (rights-node ls rs)) h) x tt t))
+    (gap-fits AnyNumber (node ls rs) o q (rw (lefts-node ls rs) l) (rw (rights-node ls rs) h) x tt t))
 
 -- the cuts that the game of two lists makes
 pub cuts_between : (ls rs : List Game) (o q : Option Cut) (low high c d : Cut) → o ≡ Some low → q ≡ Some high
     → Turned (other_cut true low high) c → Turned (other_cut false low high) d → NoNumber (node ls rs)
     → CutOf AnyNumber true o ls → CutOf AnyNumber false q rs → CutIs AnyNumber true c (node ls rs) × CutIs AnyNumber false d (node ls rs)
 cuts_between ls rs o q low high c d e f t u never l r =
-    let P : Option Cut → Type 0 = λ z. CutOf AnyNumber true z ls in
-    let Q : Option Cut → Type 0 = λ z. CutOf AnyNumber false z rs in
-    let kl : CutOf AnyNumber true (Some low) ls = subst P e l in
-    let kr : CutOf AnyNumber false (Some high) rs = subst Q f r in
+    let kl : CutOf AnyNumber true (Some low) ls = rw (← e) l in
+    let kr : CutOf AnyNumber false (Some high) rs = rw (← f) r in
     let none = none_passes ls rs (Some low) (Some high) never kl kr in (
       cut_of_none AnyNumber any-closed true ls rs low high c kl kr (λ x p. none x) t,
       cut_of_none AnyNumber any-closed false ls rs low high d kl kr (λ x p. none x) u,

@@ -1,5 +1,5 @@
 -- How far the games of a list go among the numbers.
-use Rattle.std.proofs.Common.{◌≡◌, refl, sym, ◌∙◌, ap, inl, inr, subst, arith, ◌^◌, ◌<◌, List, [], ◌∷◌, ◌++◌, Bool, true, false, not, cond, ℤ, unsigned_abs}
+use Rattle.std.proofs.Common.{◌≡◌, refl, sym, ◌∙◌, ap, inl, inr, arith, ◌^◌, ◌<◌, List, [], ◌∷◌, ◌++◌, Bool, true, false, not, cond, ℤ, unsigned_abs}
 use Rattle.std.proofs.lemmas.Int.{clamps, ints}
 use Rattle.std.specs.Int.{int_max, int_min}
 use Rattle.cg_dyadic.proofs.Truth.{differ, false-from}
@@ -51,7 +51,7 @@ bounds_more gs g b k x y z w least_low least_high greatest_low greatest_high h p
     } in
     record {
       each = λ u m. elim m [
-        | inl e ↦ (let P : Game → Type 0 = λ z. IsWithin c z in subst P (sym e) (record {
+        | inl e ↦ (rw e (record {
           keys = k;
           has = p;
           from_low = omega (arith, ints, clamps, le);

@@ -1,5 +1,5 @@
 -- Searches through lists of pages.
-use Rattle.std.proofs.Common.{◌≡◌, refl, ℕ, zero, suc, ◌+◌, ◌<◌, ◌≤◌, arith, ap, sym, ◌∙◌, subst, List, [], ◌∷◌, ◌++◌, take, get_or, length, Bool, true, false, not, ◌&&◌, inl, inr}
+use Rattle.std.proofs.Common.{◌≡◌, refl, ℕ, zero, suc, ◌+◌, ◌<◌, ◌≤◌, arith, ap, sym, ◌∙◌, List, [], ◌∷◌, ◌++◌, take, get_or, length, Bool, true, false, not, ◌&&◌, inl, inr}
 use Rattle.std.specs.List.{Contains}
 use Rattle.std.proofs.lemmas.List.{get_or_default, map-append}
 use Rattle.std.proofs.lemmas.List.Elements.{All-push, Contains-append_right, Contains-get_or}
@@ -10,7 +10,7 @@ use Rattle.cg_book.specs.Pages.{ArePages, IsPage, game_of, games_of}
 use Rattle.cg_book.proofs.Profiling.{no_one-last}
 
 pub page_of_item : (gs : List Game) (ps : List ℕ) (i k : ℕ) → ArePages gs ps → i < length ps → k ≡ get_or ps i 0 → IsPage gs k
-page_of_item gs ps i k a h e = let P : ℕ → Type 0 = λ z. IsPage gs z in subst P (sym e) (a i 0 h)
+page_of_item gs ps i k a h e = rw e (a i 0 h)
 
 pub games_take_suc : (gs : List Game) (ps : List ℕ) (i d : ℕ) → i < length ps
     → games_of gs (take (suc i) ps) ≡ games_of gs (take i ps) ++ game_of gs (get_or ps i d) ∷ []
@@ -67,8 +67,7 @@ games_pushed gs ps qs p e = ap (games_of gs) e ∙ map-append (game_of gs) ps (p
 
 pub pages_pushed : (gs : List Game) (ps qs : List ℕ) (p : ℕ) → ArePages gs ps → IsPage gs p → qs ≡ ps ++ p ∷ [] → ArePages gs qs
 pages_pushed gs ps qs p a l e =
-    let P : List ℕ → Type 0 = λ z. ArePages gs z in
-    subst P (sym e) (All-push (IsPage gs) ps p a l)
+    rw e (All-push (IsPage gs) ps p a l)
 
 -- ---- the games of pages
 

@@ -1,5 +1,5 @@
 -- The best games of a list, in no order: one game more at a time.
-use Rattle.std.proofs.Common.{◌≡◌, refl, ℕ, suc, ◌<◌, ◌⊎◌, inl, inr, arith, ap, sym, ◌∙◌, subst, List, [], ◌∷◌, ◌++◌, get_or, length, Bool, true, false, not, cond}
+use Rattle.std.proofs.Common.{◌≡◌, refl, ℕ, suc, ◌<◌, ◌⊎◌, inl, inr, arith, ap, sym, ◌∙◌, List, [], ◌∷◌, ◌++◌, get_or, length, Bool, true, false, not, cond}
 use Rattle.std.proofs.lemmas.List.{append_assoc}
 use Rattle.cg_dyadic.proofs.Truth.{differ, false-from, not_true, true-or-not}
 use Rattle.cg_form.specs.Best.{Best, keep}
@@ -51,7 +51,7 @@ apart-last [] x h n = (λ c m. absurd m, tt)
 apart-last (g ∷ gs) x h n = (
   λ c m. elim (among_last c x gs m) [
     | inl k ↦ h.0 c k
-    | inr e ↦ (let P : Game → Type 0 = λ z. (¬ Le g z) × (¬ Le z g) in subst P (sym e) (n g (inl refl)))
+    | inr e ↦ (rw e (n g (inl refl)))
   ],
   apart-last gs x h.1 (λ c m. n c (inr m)),
 )
@@ -70,13 +70,12 @@ apart-same s [] a b h m n l = absurd m
 apart-same s (g ∷ gs) a b h m n l = elim m [
   | inl e ↦ elim n [
     | inl f ↦ e ∙ sym f
-    | inr j ↦ (let P : Game → Type 0 = λ z. AtMost s z b in absurd (apart_sides s g b (h.0 b j) (subst P e l)))
+    | inr j ↦ (absurd (apart_sides s g b (h.0 b j) (rw (← e) l)))
   ]
   | inr k ↦ elim n [
     | inl f ↦
-        let P : Game → Type 0 = λ z. AtMost s a z in
         let q = h.0 a k in
-        absurd (apart_sides s a g (q.1, q.0) (subst P f l))
+        absurd (apart_sides s a g (q.1, q.0) (rw (← f) l))
     | inr j ↦ apart-same s gs a b h.1 k j l
   ]
 ]
@@ -87,8 +86,7 @@ apart_of [] h = tt
 apart_of (g ∷ gs) h = (
   λ c m.
       let (i, l, e) = place_in gs c m in
-      let P : Game → Type 0 = λ z. (¬ Le g z) × (¬ Le z g) in
-      subst P e (h.each 0 (suc i) c (omega arith) (omega arith) (omega arith), h.each (suc i) 0 c (omega arith) (omega arith) (omega arith)),
+      rw (← e) (h.each 0 (suc i) c (omega arith) (omega arith) (omega arith), h.each (suc i) 0 c (omega arith) (omega arith) (omega arith)),
   apart_of gs (record { each = λ i j d l n o. h.each (suc i) (suc j) d (omega arith) (omega arith) (λ e. o (suc_inj e)) }),
 )
   where
@@ -108,7 +106,7 @@ tops_same s all tops x c b m l = record {
   inside = λ y w. among-append_left y all (x ∷ []) (b.inside y w);
   top = λ y w. elim (among_last y x all w) [
     | inl k ↦ b.top y k
-    | inr e ↦ (let P : Game → Type 0 = λ z. AtMost s z c in (c, m, subst P (sym e) l))
+    | inr e ↦ ((c, m, rw e l))
   ];
   apart = b.apart;
 }
@@ -132,7 +130,7 @@ tops_more s all tops x b n =
             l,
           )
         ])
-        | inr e ↦ (let P : Game → Type 0 = λ z. AtMost s z x in (x, last, subst P (sym e) (side_refl s x)))
+        | inr e ↦ ((x, last, rw e (side_refl s x)))
       ];
       apart = apart-last (keep p tops) x (apart-keep p tops b.apart)
           (λ c m. sides_apart s c x (not_true (at_most s c x) ((keep-in p c tops m).1)) (n c ((keep-in p c tops m).0)));
@@ -140,12 +138,11 @@ tops_more s all tops x b n =
 
 pub tops_step : (s : Bool) (all tops : List Game) (x : Game) → Tops s all tops → Tops s (all ++ x ∷ []) (with_last s tops x)
 tops_step s all tops x b =
-    let P : Bool → Type 0 = λ t. Tops s (all ++ x ∷ []) (cond t (keep (λ c. not (at_most s c x)) tops ++ x ∷ []) tops) in
     elim (all-or-some (λ c. at_most s x c) tops) [
-      | inl each ↦ subst P (sym (no_one-all (at_most s x) tops each))
+      | inl each ↦ rw (no_one-all (at_most s x) tops each)
           (tops_more s all tops x b (λ c m k. differ (at_most s x c) k (each c m)))
-      | inr (c, m, t) ↦ subst P (sym (false-from (no_one (at_most s x) tops)
-          (λ k. differ (at_most s x c) t (no_one-each (at_most s x) tops k c m)))) (tops_same s all tops x c b m t)
+      | inr (c, m, t) ↦ rw (false-from (no_one (at_most s x) tops)
+          (λ k. differ (at_most s x c) t (no_one-each (at_most s x) tops k c m))) (tops_same s all tops x c b m t)
     ]
 
 -- ---- the list with one game more
@@ -179,9 +176,8 @@ pub terms_put : (s : Bool) (all us vs : List Game) (x : Game) → Tops s all (us
     → Tops s (all ++ x ∷ []) (keep (λ c. not (at_most s c x)) us ++ (vs ++ x ∷ []))
 terms_put s all us vs x b none other =
     let p : Game → Bool = λ c. not (at_most s c x) in
-    let P : List Game → Type 0 = λ z. Tops s (all ++ x ∷ []) z in
-    subst P (ap (λ z. z ++ x ∷ []) (keep-append p us vs (λ c m. ap not (false-from (at_most s c x) ((other c m).0))))
-    ∙ append_assoc (keep p us) vs (x ∷ []))
+    rw (← (ap (λ z. z ++ x ∷ []) (keep-append p us vs (λ c m. ap not (false-from (at_most s c x) ((other c m).0))))
+    ∙ append_assoc (keep p us) vs (x ∷ [])))
     (tops_more s all (us ++ vs) x b (λ c m k. elim (among-append c us vs m) [
       | inl i ↦ differ (at_most s x c) k (no_one-each (at_most s x) us none c i)
       | inr i ↦ (other c i).1 k

@@ -1,5 +1,5 @@
 -- The text of one answer: its letter, its digits, and the proof of what it leads to.
-use Rattle.std.proofs.Common.{◌≡◌, refl, ap, sym, ◌∙◌, subst, append_assoc, append-nil, ℕ, ◌+◌, ◌-◌, ◌<◌, ◌^◌, List, [], ◌∷◌, ◌++◌, Option, Some, None, Bool, true, false, arith, drop, length, take}
+use Rattle.std.proofs.Common.{◌≡◌, refl, ap, sym, ◌∙◌, append_assoc, append-nil, ℕ, ◌+◌, ◌-◌, ◌<◌, ◌^◌, List, [], ◌∷◌, ◌++◌, Option, Some, None, Bool, true, false, arith, drop, length, take}
 use Rattle.std.specs.Prelude.{decimal, take_while}
 use Rattle.std.specs.List.{prefix_len}
 use Rattle.std.proofs.Math.Seq.{drop-append_seam, take-length}
@@ -42,13 +42,12 @@ opened_by m input x rest (with_answer a c (with_answer b k others)) p d e = absu
 opened_by m input x rest (with_answer a c no_answers) p d e =
     let (n, l, q) = p.0 in
     let (b, i, f) = answer_as a in
-    let P : Answer → Type 0 = λ z. led z m ≡ Some n in
     record {
       letter = b;
       place = i;
       certificate = c;
       leads = n;
-      is_led = subst P f l;
+      is_led = rw (← f) l;
       proves = q;
       spelled = e ∙ ap (λ z. z ++ rest) d ∙ one_answer (answer_text a) (certificate_text c) rest
           ∙ ap (λ z. answer_text z ++ (certificate_text c ++ rest)) f
@@ -112,8 +111,7 @@ numbered m b input behind digits tail rest l small o =
     sym l.letter ∙ o.spelled in
     let first : letter_byte b ≡ letter_byte o.letter = cc in
     let others : behind ≡ decimal o.place ++ (certificate_text o.certificate ++ rest) = cc in
-    let P : Bool → Type 0 = λ z. led (answer_in z o.place) m ≡ Some o.leads in
-    let here = subst P (sym (same_letter b o.letter first)) o.is_led in
+    let here = rw (← (same_letter b o.letter first)) at o.is_led in
     record {
       place = o.place;
       certificate = o.certificate;
@@ -165,8 +163,7 @@ reads_answer m n b input behind digits tail r l k t = record {
       (k.small k.place n k.leads) (sym o.digits_are ∙ sym k.spelled) in
       let both : Some o.leads ≡ Some n = sym o.is_led ∙ ap (λ z. led (answer_in b z) m) same ∙ k.leads in
       let leads : o.leads ≡ n = cc in
-      let P : Pair → Type 0 = λ z. Proves o.certificate z in
-      t.complete (certificate_text o.certificate) rest (o.certificate, subst P leads o.proves, refl)
+      t.complete (certificate_text o.certificate) rest (o.certificate, rw (← leads) o.proves, refl)
       (l.tail_is ∙ ap (λ z. drop (length z) behind) o.digits_are
       ∙ ap (λ z. drop (length (decimal o.place)) z) o.spelled
       ∙ drop-append_seam (decimal o.place) (certificate_text o.certificate ++ rest));

@@ -1,5 +1,5 @@
 -- The first word of an answer, and what is put behind it.
-use Rattle.std.proofs.Common.{◌≡◌, refl, ap, sym, ◌∙◌, subst, ℕ, ◌+◌, ◌≤◌, arith, List, ◌++◌, length, length-append, Ok, true, false, if◌then◌else◌}
+use Rattle.std.proofs.Common.{◌≡◌, refl, ap, sym, ◌∙◌, ℕ, ◌+◌, ◌≤◌, arith, List, ◌++◌, length, length-append, Ok, true, false, if◌then◌else◌}
 use Rattle.std.specs.Prelude.{String, codes, string_bytes}
 use Rattle.cg_form.specs.Game.{Game}
 use Rattle.cg_form.specs.Order.{le}
@@ -31,11 +31,10 @@ pub proved_ok : {A : Type 0} (g h : Game) (word part : List ℕ) (n : ℕ) → I
     → Wrote (Ok tt) (65536 + n) word (string_bytes text) part → IsProved {A = A} g h (Ok text)
 unfolding proof_answer
 proved_ok g h word part n a text w =
-    let P : List ℕ → Type 0 = λ z. length z ≤ 65536 in
     let e = ap length w.0 in
     let f = length-append word part in
     let c = a.counted in
     let l : length part ≤ 65536 = omega arith in (
       w.0 ∙ ap (λ z. z ++ part) a.word_is ∙ ap (λ z. answer_word g h ++ z) a.part_is,
-      subst P a.part_is l,
+      rw (← a.part_is) l,
     )

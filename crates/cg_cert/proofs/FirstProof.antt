@@ -1,5 +1,5 @@
 -- The certificate of the first answers is a proof, and its rule.
-use Rattle.std.proofs.Common.{◌≡◌, refl, ap, sym, subst, ◌∙◌, ℕ, zero, suc, ◌<◌, arith, inl, inr, List, [], ◌∷◌, Option, Some, None, option_map, if◌then◌else◌}
+use Rattle.std.proofs.Common.{◌≡◌, refl, ap, ◌∙◌, ℕ, zero, suc, ◌<◌, arith, inl, inr, List, [], ◌∷◌, Option, Some, None, option_map, if◌then◌else◌}
 use Rattle.cg_dyadic.proofs.Truth.{differ, true_or_false}
 use Rattle.cg_form.specs.Game.{lefts, rights}
 use Rattle.cg_form.specs.Order.{le}
@@ -79,8 +79,7 @@ first_answers-prove n proof f (m ∷ ms) e =
     let rest = first_answers proof ms in
     let shape : with_first proof m (first_answer m) rest ≡ with_answer s.answer (proof s.leads) rest =
     ap (λ o. with_first proof m o rest) s.is_first ∙ ap (λ o. with_led proof s.answer o rest) s.is_led in
-    let P : Answers → Type 0 = λ z. ProvesAll z (m ∷ ms) in
-    subst P (sym shape) ((s.leads, s.is_led, f s.leads (omega arith) s.at_least), first_answers-prove n proof f ms e.1)
+    rw shape ((s.leads, s.is_led, f s.leads (omega arith) s.at_least), first_answers-prove n proof f ms e.1)
 
 pub first_within-proves : (n : ℕ) (m : Pair) → pair_size m < n → AtLeast m → Proves (first_within n m) m
 unfolding first_within

@@ -96,9 +96,8 @@ other_open b n o = ap (λ q. if q then suc n else if b == 125 then n - 1 else n)
 bare_open : (n : ℕ) (text rest : List ℕ) → IsBare text → most_open n rest ≤ most_open n (text ++ rest)
 bare_open n [] rest a = omega arith
 bare_open n (b ∷ text) rest a =
-    let P : ℕ → Type 0 = λ m. most_open n rest ≤ max n (most_open m (text ++ rest)) in
     let i = bare_open n text rest a.1 in
-    subst P (sym (other_open b n a.0)) (omega arith)
+    rw (other_open b n a.0) (omega arith)
 
 -- at least so many braces are open at once, and behind the text as many as before it
 unfoldable pub Counted : ℕ → List ℕ → Type 0
@@ -111,10 +110,9 @@ bare_counted text a n rest = let i = bare_open n text rest a in let j = at_least
 pub joined_counted : (a b : ℕ) (x y : List ℕ) → Counted a x → Counted b y → Counted (max a b) (x ++ y)
 unfolding Counted
 joined_counted a b x y f h n rest =
-    let P : List ℕ → Type 0 = λ z. max (n + max a b) (most_open n rest) ≤ most_open n z in
     let i = f n (y ++ rest) in
     let j = h n rest in
-    subst P (sym (append_assoc x y rest)) (omega arith)
+    rw (append_assoc x y rest) (omega arith)
 
 braces_text : (left right rest : List ℕ) → braces_name left right ++ rest ≡ 123 ∷ (left ++ (124 ∷ (right ++ (125 ∷ rest))))
 braces_text left right rest =
@@ -123,9 +121,8 @@ braces_text left right rest =
 
 closed_open : (n : ℕ) (rest : List ℕ) → most_open n rest ≤ most_open (suc n) (125 ∷ rest)
 closed_open n rest =
-    let P : ℕ → Type 0 = λ m. most_open n rest ≤ max (suc n) (most_open m rest) in
     let e : n ≡ suc n - 1 = omega arith in
-    subst P e (omega arith)
+    rw (← e) (omega arith)
 
 pub braces_counted : (a b : ℕ) (left right : List ℕ) → Counted a left → Counted b right
     → Counted (suc (max a b)) (braces_name left right)

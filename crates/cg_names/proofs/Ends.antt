@@ -1,5 +1,5 @@
 -- The games with a sign that have none with a nimber, by the lists of their options.
-use Rattle.std.proofs.Common.{◌≡◌, refl, ap, sym, ◌∙◌, subst, ℕ, zero, suc, arith, inl, inr, ◌⊎◌, List, [], ◌∷◌, Bool, true, false, not, Option, Some, None}
+use Rattle.std.proofs.Common.{◌≡◌, refl, ap, sym, ◌∙◌, ℕ, zero, suc, arith, inl, inr, ◌⊎◌, List, [], ◌∷◌, Bool, true, false, not, Option, Some, None}
 use Rattle.cg_dyadic.specs.Exact.{number_negative}
 use Rattle.cg_dyadic.specs.Number.{Number, NumberLe, number_le}
 use Rattle.cg_dyadic.proofs.Truth.{not_true, true_not}
@@ -152,10 +152,9 @@ switch-none x y i n = none_from (pair_form x y) i by
 
     by : ¬ Ends (pair_form x y)
     by (switch z p e) =
-        let P : Number → Type 0 = λ k. IsPositive k in
         let a : x ≡ z = one_value x z (one_same (number x) (number z)
         (pair-lefts (number x ∷ []) (number y ∷ []) z (number_negative z) e)) in
-        n (subst P (sym a) p) (one_value y (number_negative z) (one_same (number y) (number (number_negative z))
+        n (rw a p) (one_value y (number_negative z) (one_same (number y) (number (number_negative z))
         (pair-rights (number x ∷ []) (number y ∷ []) z (number_negative z) e)) ∙ ap number_negative (sym a))
     by (tiny d z p e) = one d (zero_form ∷ []) (tiny_part d z) tt e
     by (step d t z m j e) = one d (number z ∷ []) (shifted z (ups_of d (not t) m)) (step_node d t z m j) e

@@ -1,5 +1,5 @@
 -- The sign that a game has by its shape is the one whose form it is.
-use Rattle.std.proofs.Common.{◌≡◌, refl, ap, sym, ◌∙◌, subst, ℕ, zero, suc, arith, inl, inr, List, [], ◌∷◌, length, Bool, true, false, not, cond, ◌&&◌, nat_eq, eq-eqb, Option, Some, None}
+use Rattle.std.proofs.Common.{◌≡◌, refl, ap, sym, ◌∙◌, ℕ, zero, suc, arith, inl, inr, List, [], ◌∷◌, length, Bool, true, false, not, cond, ◌&&◌, nat_eq, eq-eqb, Option, Some, None}
 use Rattle.std.specs.Prelude.{nat_lt, if◌then◌else◌}
 use Rattle.std.proofs.lemmas.Bool.Decides.{nat_tests}
 use Rattle.cg_dyadic.specs.Exact.{number_negative}
@@ -41,12 +41,10 @@ numbers_apart x y n = false-from (is_same (number x) (number y))
 
 -- a number above 0 is neither 0 nor its own negative
 not_zero : (x : Number) → ¬ NumberLe x zero_number → ¬ (x ≡ zero_number)
-not_zero x p e = let P : Number → Type 0 = λ z. NumberLe z zero_number in
-    p (subst P (sym e) (number_le-refl zero_number))
+not_zero x p e = p (rw e (number_le-refl zero_number))
 
 not_negative : (x : Number) → ¬ NumberLe x zero_number → ¬ (x ≡ number_negative x)
-not_negative x p e = let P : Number → Type 0 = λ z. NumberLe z zero_number in
-    p (subst P (sym e) (negative_low x (less-le x zero_number p)))
+not_negative x p e = p (rw e (negative_low x (less-le x zero_number p)))
 
 not_zero_negative : (x : Number) → ¬ NumberLe x zero_number → ¬ (zero_number ≡ number_negative x)
 not_zero_negative x p e = not_zero x p (sym (double_negative x) ∙ sym (ap number_negative e))
@@ -114,7 +112,7 @@ flat : (turned starred : Bool) (x : Number) (n : ℕ) → IsStep starred n → I
 flat turned starred x n s = by starred n s
   where
     at : (g h : Game) → g ≡ h → IsFlat h → IsFlat g
-    at g h e i = let P : Game → Type 0 = λ z. IsFlat z in subst P (sym e) i
+    at g h e i = rw e i
 
     by : (t : Bool) (m : ℕ) → IsStep t m → IsFlat (shifted x (ups_of turned (not t) m))
     by true zero i = absurd i
@@ -217,12 +215,10 @@ above_zero (suc m) e = (m, refl)
 pub guess-form : (s : Sign) → is_proper s ≡ true → guess (sign_form s) ≡ s
 guess-form (Star x n) p =
     let (m, e) = above_zero n p in
-    let P : ℕ → Type 0 = λ k. guess (sign_form (Star x k)) ≡ Star x k in
-    subst P (sym e) (star-guess x m)
+    rw e (star-guess x m)
 guess-form (Arrows down starred x n) p =
     let (m, e) = above_zero n p in
-    let P : ℕ → Type 0 = λ k. guess (sign_form (Arrows down starred x k)) ≡ Arrows down starred x k in
-    subst P (sym e) (arrows-guess down starred x m)
+    rw e (arrows-guess down starred x m)
 guess-form (Switch x) p = switch-guess x (proper_number x p)
 guess-form (Tiny miny x) p = tiny-guess miny x (proper_number x p)
 
@@ -247,8 +243,7 @@ found-form g s e = elim (true_or_false (is_proper (guess g) && is_same g (sign_f
       let (p, q) = and-split (is_proper (guess g)) (is_same g (sign_form (guess g))) t in
       let f : Some s ≡ Some (guess g) = sym e ∙ ap (λ b. if b then Some (guess g) else None) t in
       let same : guess g ≡ s = cc in
-      let P : Sign → Type 0 = λ z. HasForm g z in
-      subst P same (record { proper = p; form = is_same-back g (sign_form (guess g)) q })
+      rw (← same) (record { proper = p; form = is_same-back g (sign_form (guess g)) q })
   | inr f ↦
       let n : Some s ≡ None = sym e ∙ ap (λ b. if b then Some (guess g) else None) f in
       absurd (cc)

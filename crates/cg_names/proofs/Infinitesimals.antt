@@ -1,5 +1,5 @@
 -- Which games lie between 0 and every number that is better than 0, as a side sees it.
-use Rattle.std.proofs.Common.{subst, Bool}
+use Rattle.std.proofs.Common.{Bool}
 use Rattle.cg_dyadic.specs.Number.{Number}
 use Rattle.cg_form.specs.Game.{Among, Game, number}
 use Rattle.cg_form.specs.Side.{AtMost, far, near}
@@ -23,7 +23,6 @@ slight-from s g r own m i = record {
         let q : Beyond s y = record {
           better = λ w. p.better (number_side-trans s x y zero_number (numbers-side s x y u) w);
         } in
-        let P : Game → Type 0 = λ z. AtMost s z g in
-        beyond_far s y g r q m i (subst P e l);
+        beyond_far s y g r q m i (rw (← e) l);
   });
 }

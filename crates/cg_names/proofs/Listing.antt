@@ -1,5 +1,5 @@
 -- A list in a store and a slice of handles, compared one by one.
-use Rattle.std.proofs.Common.{◌≡◌, refl, ap, sym, ◌∙◌, subst, ℕ, zero, suc, ◌+◌, ◌<◌, ◌≤◌, arith, add-one, Option, List, [], ◌∷◌, ◌++◌, append_assoc, append-nil, length, take, drop, get_or}
+use Rattle.std.proofs.Common.{◌≡◌, refl, ap, sym, ◌∙◌, ℕ, zero, suc, ◌+◌, ◌<◌, ◌≤◌, arith, add-one, Option, List, [], ◌∷◌, ◌++◌, append_assoc, append-nil, length, take, drop, get_or}
 use Rattle.std.proofs.lemmas.List.{append_cancel_left}
 use Rattle.cg_form.specs.Game.{Game}
 use Rattle.cg_cells.specs.Store.{Spends, State}
@@ -21,8 +21,7 @@ listed_none s list options l = record { spends = nothing_spent s; rest = l; fron
 -- a game of the slice, at once and later
 pub item_known : {R : Type 0} (s : State Meant R) (options : List ℕ) (i k : ℕ) → AreGames s options
     → i < length options → k ≡ get_or options i k → IsGame s k
-item_known s options i k a l e = let P : ℕ → Type 0 = λ z. IsGame s z in
-    subst P (sym e) (game_of_item s options i k a l)
+item_known s options i k a l e = rw e (game_of_item s options i k a l)
 
 pub games_split : {R : Type 0} (s : State Meant R) (hs : List ℕ) (i d : ℕ) → i < length hs
     → games_at s hs ≡ games_at s (take i hs) ++ (game_at s (get_or hs i d) ∷ games_at s (drop (suc i) hs))

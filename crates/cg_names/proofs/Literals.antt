@@ -95,8 +95,7 @@ kept_some (Some y) x e = elim (true_or_false (is_in_range y)) [
   | inl t ↦
       let s : Some x ≡ Some y = sym e ∙ ap (λ b. if b then Some y else None) t in
       let same : y ≡ x = cc in
-      let P : Number → Type 0 = λ z. InRange z in
-      (sym s, subst P same (in_range-from y t))
+      (sym s, rw (← same) (in_range-from y t))
   | inr f ↦
       let s : Some x ≡ None = sym e ∙ ap (λ b. if b then Some y else None) f in
       absurd (cc)

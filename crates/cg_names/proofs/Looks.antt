@@ -1,6 +1,6 @@
 -- What the shape of a game tells of its sign.
 use mathlib.Core.Bool.{beq}
-use Rattle.std.proofs.Common.{◌≡◌, refl, ap, sym, ◌∙◌, subst, ℕ, zero, suc, ◌+◌, arith, add-one, inl, inr, ◌⊎◌, List, [], ◌∷◌, Bool, true, false, not, cond, Option, Some, None}
+use Rattle.std.proofs.Common.{◌≡◌, refl, ap, sym, ◌∙◌, ℕ, zero, suc, ◌+◌, arith, add-one, inl, inr, ◌⊎◌, List, [], ◌∷◌, Bool, true, false, not, cond, Option, Some, None}
 use Rattle.cg_dyadic.proofs.Negatives.{double_negative}
 use Rattle.cg_dyadic.proofs.Truth.{not_not}
 use Rattle.cg_dyadic.specs.Number.{Number}
@@ -73,11 +73,9 @@ pub more-found : (x y : Number) → x ≡ y → (down s : Bool) (n m : ℕ) → 
     → mirrored_if down (number x ∷ []) (g ∷ []) ≡ shifted x (ups_of down (not s) m)
 more-found x y e down s n m c g i f =
     let same : g ≡ shifted x (ups_of down s n) = f ∙ ap (λ z. shifted z (ups_of down s n)) (sym e) in
-    let P : Game → Type 0 = λ z. IsNode z in
-    let Q : ℕ → Type 0 = λ k. mirrored_if down (number x ∷ []) (g ∷ []) ≡ shifted x (ups_of down (not s) k) in
-    subst Q (sym (add-one n) ∙ sym c) (ap (λ z. mirrored_if down (number x ∷ []) (z ∷ [])) same
+    rw (← (sym (add-one n) ∙ sym c)) (ap (λ z. mirrored_if down (number x ∷ []) (z ∷ [])) same
     ∙ ap (λ b. mirrored_if down (number x ∷ []) (shifted x (ups_of down b n) ∷ [])) (sym (not_not s))
-    ∙ sym (step_is down (not s) x n (goes_on s n (subst P same i))))
+    ∙ sym (step_is down (not s) x n (goes_on s n (rw (← same) i))))
   where
     goes_on : (b : Bool) (k : ℕ) → IsNode (shifted x (ups_of down b k)) → IsStep (not b) k
     goes_on false zero j = absurd (not_number _ x j (no_ups down x))
@@ -161,7 +159,7 @@ tiny-parts miny x l r size rest z s t e = by miny s t
     }
 
 pub is_node : (g : Game) (ls rs : List Game) → g ≡ node ls rs → IsNode g
-is_node g ls rs e = let P : Game → Type 0 = λ z. IsNode z in subst P (sym e) tt
+is_node g ls rs e = rw e tt
 
 -- ---- what a sign tells of arrows
 

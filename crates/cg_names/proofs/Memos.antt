@@ -66,9 +66,7 @@ recalls_more {R} s m n a o r i e grown few h p f = elim (true_or_false (nat_eq a
     here t =
         let same : a ≡ h = eqb-true a h t in
         let own : p ≡ o = some_same p o (sym f ∙ grown h ∙ ap (λ b. if b then Some o else recalled m h) t) in
-        let Q : ℕ → Type 0 = λ z. IsGame s z in
-        let N : Option Sign → Type 0 = λ z. arrow_count z ≤ kept n in
-        (subst Q same i, own ∙ e ∙ ap (λ z. sign_of (game_at s z)) same, subst N (sym own) few.0)
+        (rw (← same) i, own ∙ e ∙ ap (λ z. sign_of (game_at s z)) same, rw own few.0)
 
 -- what was found for a handle, by its id
 pub recalled_sign : {R : Type 0} (s : State Meant R) (m : Memo) (a h : ℕ) (o : Option Sign) → a ≡ h
@@ -101,7 +99,7 @@ one_list s a b e = ap (listed s) e
 
 pub other_lists : {R : Type 0} (s : State Meant R) (a b : Option ℕ) → IsInjective (thing_at s) → IsList s a → IsList s b
     → ¬ (a ≡ b) → ¬ (listed s a ≡ listed s b)
-other_lists {R} s a b apart l m n e = n (by a b (listed s b) (let P : List Game → Type 0 = λ z. ListsAs s a z in subst P e l) m)
+other_lists {R} s a b apart l m n e = n (by a b (listed s b) (rw (← e) l) m)
   where
     by : (a b : Option ℕ) (gs : List Game) → ListsAs s a gs → ListsAs s b gs → a ≡ b
     by None None gs l m = refl

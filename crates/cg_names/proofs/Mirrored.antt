@@ -1,5 +1,5 @@
 -- Downs are the negatives of ups.
-use Rattle.std.proofs.Common.{◌≡◌, refl, ap, sym, ◌∙◌, subst, ℕ, zero, suc, inl, inr, List, [], ◌∷◌, map, Bool, true, false, not}
+use Rattle.std.proofs.Common.{◌≡◌, refl, ap, sym, ◌∙◌, ℕ, zero, suc, inl, inr, List, [], ◌∷◌, map, Bool, true, false, not}
 use Rattle.cg_form.specs.Game.{Among, Game, lefts, node, rights}
 use Rattle.cg_form.specs.Order.{Equal, Le}
 use Rattle.cg_form.specs.Sum.{negative}
@@ -19,7 +19,7 @@ partner : (gs hs : List Game) (a : Game) → AllEqual gs hs → Among a gs → (
 unfolding AllEqual
 partner [] hs a e m = absurd m
 partner (g ∷ gs) [] a e m = absurd e
-partner (g ∷ gs) (h ∷ hs) a e (inl f) = let P : Game → Type 0 = λ z. Equal z h in (h, inl refl, subst P (sym f) e.0)
+partner (g ∷ gs) (h ∷ hs) a e (inl f) = (h, inl refl, rw f e.0)
 partner (g ∷ gs) (h ∷ hs) a e (inr m) = let (b, k, q) = partner gs hs a e.1 m in (b, inr k, q)
 
 all_turned : (gs hs : List Game) → AllEqual gs hs → AllEqual hs gs
@@ -49,8 +49,7 @@ negative-node ls rs = negative-options (node ls rs) ∙ ap (λ z. node (map nega
 mirrored : (ls rs cs ds : List Game) → AllEqual cs (map negative rs) → AllEqual ds (map negative ls)
     → Equal (node cs ds) (negative (node ls rs))
 mirrored ls rs cs ds p q =
-    let P : Game → Type 0 = λ z. Equal (node cs ds) z in
-    subst P (sym (negative-node ls rs)) (node-equal cs ds (map negative rs) (map negative ls) p q)
+    rw (negative-node ls rs) (node-equal cs ds (map negative rs) (map negative ls) p q)
 
 zero-negative : Equal zero_form (negative zero_form)
 zero-negative = (

@@ -1,5 +1,5 @@
 -- Which sign fits a game is told by its shape, and the name that is found by it is the one name by the rules.
-use Rattle.std.proofs.Common.{◌≡◌, refl, ap, sym, ◌∙◌, subst, ℕ, ◌≤◌, arith, inl, inr, List, ◌++◌, true, Option, Some, None}
+use Rattle.std.proofs.Common.{◌≡◌, refl, ap, sym, ◌∙◌, ℕ, ◌≤◌, arith, inl, inr, List, ◌++◌, true, Option, Some, None}
 use Rattle.std.specs.Prelude.{codes, nat_lt}
 use Rattle.std.proofs.lemmas.Bool.Decides.{nat_tests}
 use Rattle.cg_dyadic.specs.Number.{number_le}
@@ -41,11 +41,9 @@ fits-form (Tiny miny x) g f = record { proper = true_not (number_le x zero_numbe
 
 pub form-fits : (s : Sign) (g : Game) → HasForm g s → Fits s g
 form-fits (Star x n) g h =
-    let P : Game → Type 0 = λ z. IsCanonicalForm (sum (number x) (nimber_form n)) z in
-    (is_some n h.proper, subst P (sym h.form) (shifted-is_form x (nimber_form n) (nimber-canonical n)))
+    (is_some n h.proper, rw h.form (shifted-is_form x (nimber_form n) (nimber-canonical n)))
 form-fits (Arrows down starred x n) g h =
-    let P : Game → Type 0 = λ z. IsCanonicalForm (sum (number x) (ups_of down starred n)) z in
-    (is_some n h.proper, subst P (sym h.form) (shifted-is_form x (ups_of down starred n) (ups-canonical down starred n)))
+    (is_some n h.proper, rw h.form (shifted-is_form x (ups_of down starred n) (ups-canonical down starred n)))
 form-fits (Switch x) g h = (not_true (number_le x zero_number) h.proper, h.form)
 form-fits (Tiny miny x) g h = (not_true (number_le x zero_number) h.proper, h.form)
 
@@ -146,4 +144,4 @@ pub same_name : (g : Game) (s t : List ℕ) → IsName g s → IsName g t → s 
 same_name g s t n m = one_name g s n ∙ sym (one_name g t m)
 
 pub named-is : (g : Game) (t : List ℕ) → t ≡ name_of g → IsName g t
-named-is g t e = let P : List ℕ → Type 0 = λ z. IsName g z in subst P (sym e) (name-is g)
+named-is g t e = rw e (name-is g)

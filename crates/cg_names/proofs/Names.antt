@@ -1,5 +1,5 @@
 -- The names of a list in a store, one game after another.
-use Rattle.std.proofs.Common.{◌≡◌, refl, ap, sym, ◌∙◌, subst, ℕ, ◌+◌, ◌≤◌, arith, Option, Some, None, List, [], ◌∷◌, ◌++◌, append_assoc, Result, Ok, Err, OnOk}
+use Rattle.std.proofs.Common.{◌≡◌, refl, ap, sym, ◌∙◌, ℕ, ◌+◌, ◌≤◌, arith, Option, Some, None, List, [], ◌∷◌, ◌++◌, append_assoc, Result, Ok, Err, OnOk}
 use Rattle.std.specs.Prelude.{codes, is_ok, if◌then◌else◌}
 use Rattle.cg_dyadic.specs.Number.{InRange, Number}
 use Rattle.cg_form.specs.Game.{Game, node, number, of_list}
@@ -20,12 +20,12 @@ use Rattle.cg_names.proofs.NameRule.{found_fits, no_sign, one_sign}
 
 pub more_in_range : (gs : List Game) (g : Game) (hs : List Game) → gs ≡ g ∷ hs → IsNameInRange g → AreNamesInRange (of_list hs)
     → AreNamesInRange (of_list gs)
-more_in_range gs g hs e q r = let P : List Game → Type 0 = λ z. AreNamesInRange (of_list z) in subst P (sym e) (q, r)
+more_in_range gs g hs e q r = rw e (q, r)
 
 pub number-in_range : {A E : Type 0} (r : Result A E) (g : Game) (x : Number) → g ≡ number x → InRange x
     → OnOk r (IsNameInRange g)
 number-in_range (Err e) g x is q = tt
-number-in_range (Ok y) g x is q = let P : Game → Type 0 = λ z. IsNameInRange z in subst P (sym is) q
+number-in_range (Ok y) g x is q = rw is q
 
 -- of a game that has a sign, and of one that has none
 pub signed-in_range : {A E : Type 0} (r : Result A E) (g : Game) (ls rs : List Game) (o : Option Sign) (s : Sign)
@@ -34,9 +34,7 @@ signed-in_range (Err e) g ls rs o s is sign found q = tt
 signed-in_range (Ok x) g ls rs o s is sign found q =
     let k : Game = node ls rs in
     let f = found_fits k s (ap sign_of (sym is) ∙ sym sign ∙ found) in
-    let P : Sign → Type 0 = λ z. IsSignInRange z in
-    let Q : Game → Type 0 = λ z. IsNameInRange z in
-    subst Q (sym is) ((λ t h. subst P (one_sign k s t f h) q), (λ n. absurd (n s f)))
+    rw is ((λ t h. rw (← (one_sign k s t f h)) q), (λ n. absurd (n s f)))
 
 pub braced-in_range : {A E : Type 0} (r : Result A E) (g : Game) (ls rs : List Game) (o : Option Sign)
     → g ≡ node ls rs → o ≡ sign_of g → o ≡ None → OnOk r (AreNamesInRange (of_list ls))
@@ -44,8 +42,7 @@ pub braced-in_range : {A E : Type 0} (r : Result A E) (g : Game) (ls rs : List G
 braced-in_range (Err e) g ls rs o is sign found p q = tt
 braced-in_range (Ok x) g ls rs o is sign found p q =
     let k : Game = node ls rs in
-    let Q : Game → Type 0 = λ z. IsNameInRange z in
-    subst Q (sym is) ((λ t h. absurd (no_sign k (ap sign_of (sym is) ∙ sym sign ∙ found) t h)), (λ n. (p, q)))
+    rw is ((λ t h. absurd (no_sign k (ap sign_of (sym is) ∙ sym sign ∙ found) t h)), (λ n. (p, q)))
 
 -- ---- a list, name by name
 
@@ -90,7 +87,7 @@ written_more s t u v before now comma more all left rest first w a l e c b m q =
 pub written_all : {R : Type 0} (s t : State Meant R) (before now : List ℕ) (all left : Option ℕ)
     → Written s t before now all left → listed t left ≡ [] → AreNamesInRange (of_list (listed s all))
 written_all s t before now all left w e =
-    let P : List Game → Type 0 = λ z. AreNamesInRange (of_list z) in w.in_range (subst P (sym e) tt)
+    w.in_range (rw e tt)
 
 -- braces round the names of two lists, part by part
 pub braces-spelled : (left right : List ℕ) (t0 t1 t2 t3 t4 : List ℕ) → t1 ≡ t0 ++ codes "{" → t2 ≡ t1 ++ left

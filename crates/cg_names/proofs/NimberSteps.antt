@@ -32,17 +32,13 @@ module _ {R : Type 0} (w v : State Meant (WorkRest R)) where
       → Gives w v (plain_item zero_form ∷ []) zero_form r → NimbersMade w v lesser last 0
   unfolding nimber_form nimbers_below
   nimbers_start lesser last r e o m =
-      let P : List ℕ → Type 0 = λ z. NimbersMade w v z last 0 in
-      let Q : Result ℕ ValueFault → Type 0 = λ z. Gives w v (plain_item zero_form ∷ []) zero_form z in
-      subst P (sym e) (record { lesser_stand = (tt, refl); given = subst Q o m })
+      rw e (record { lesser_stand = (tt, refl); given = rw (← o) m })
 
   -- with the last one the options of the next, which is what is made of them
   pub nimber_options : (lesser more : List ℕ) (last i : ℕ) → NimbersMade w v lesser last i → more ≡ lesser ++ (last ∷ [])
       → StandFor v more (nimbers_below (suc i))
   nimber_options lesser more last i n e =
-      let P : List ℕ → Type 0 = λ z. StandFor v z (nimbers_below (suc i)) in
-      let Q : List Game → Type 0 = λ z. StandFor v (lesser ++ (last ∷ [])) z in
-      subst P (sym e) (subst Q (sym (nimbers_below-next i))
+      rw e (rw (nimbers_below-next i)
       (stand_more v lesser last (nimbers_below i) (nimber_form i) n.lesser_stand n.given.game))
 
   module _ (lesser ls rs : List ℕ) (last i : ℕ) (n : NimbersMade w v lesser last i) (e : ls ≡ lesser ++ (last ∷ []))
@@ -67,13 +63,10 @@ module _ {R : Type 0} (w v : State Meant (WorkRest R)) where
     pub nimbers_next : (more : List ℕ) (next j : ℕ) → more ≡ lesser ++ (last ∷ []) → r ≡ Ok next → j ≡ suc i
         → NimbersMade w u more next j
     nimbers_next more next j e o f =
-        let N : ℕ → Type 0 = λ k. NimbersMade w u more next k in
-        let Q : Result ℕ ValueFault → Type 0 = λ z. Gives w u (map plain_item (nimbers_below (suc (suc i))))
-        (nimber_form (suc i)) z in
-        subst N (sym f) (record {
+        rw f (record {
           lesser_stand = stand_later v u m.made.keeps.known more (nimbers_below (suc i))
               (nimber_options lesser more last i n e);
-          given = subst Q o one_more;
+          given = rw (← o) one_more;
         })
 
     pub nimbers_refused : (count : ℕ) (q : Result ℕ ValueFault) (fault : ValueFault) → r ≡ Err fault → q ≡ Err fault
@@ -94,8 +87,7 @@ module _ {R : Type 0} (w v : State Meant (WorkRest R)) where
   pub nimbers_all : (lesser : List ℕ) (last i count : ℕ) → NimbersMade w v lesser last i → i ≡ count
       → Gives w v (map plain_item (nimbers_below (suc count))) (nimber_form count) (Ok last)
   nimbers_all lesser last i count n e =
-      let P : ℕ → Type 0 = λ k. Gives w v (map plain_item (nimbers_below (suc k))) (nimber_form k) (Ok last) in
-      subst P e n.given
+      rw (← e) n.given
 
   pub nimbers_first_refused : (count : ℕ) (r q : Result ℕ ValueFault) (fault : ValueFault) → r ≡ Err fault
       → q ≡ Err fault → Gives w v (plain_item zero_form ∷ []) zero_form r

@@ -42,7 +42,7 @@ tiny_positions miny x a b e f =
 -- ---- two numbers
 
 pub switch_pair : (x y : Number) → y ≡ number_negative x → NumberLe zero_number x → Canonical (pair_form x y)
-switch_pair x y e l = let P : Number → Type 0 = λ z. Canonical (pair_form x z) in subst P (sym e) (switch-canonical x l)
+switch_pair x y e l = rw e (switch-canonical x l)
 
 pub tiny_pair-is : (miny : Bool) (x a b : Number) → a ≡ first_number miny x → b ≡ second_number miny x → pair_form a b
     ≡ tiny_part miny x
@@ -51,8 +51,7 @@ tiny_pair-is miny x a b e f = ap (λ z. pair_form z b) e ∙ ap (λ z. pair_form
 pub tiny_pair : (miny : Bool) (x a b : Number) → a ≡ first_number miny x → b ≡ second_number miny x → NumberLe
     zero_number x
     → Canonical (pair_form a b)
-tiny_pair miny x a b e f l = let P : Game → Type 0 = λ z. Canonical z in
-    subst P (sym (tiny_pair-is miny x a b e f)) (tiny_part-canonical miny x l)
+tiny_pair miny x a b e f l = rw (tiny_pair-is miny x a b e f) (tiny_part-canonical miny x l)
 
 module _ {R : Type 0} (v : State Meant R) where
   pub pair_made : (x y : Number) (a b : ℕ) → StandsFor v a (number x) → StandsFor v b (number y)
@@ -70,9 +69,7 @@ module _ {R : Type 0} (v : State Meant R) where
       let Q : Number → Type 0 = λ k. StandsFor v first (number k) in
       subst P (sym d) (subst Q e s)
   tiny_zero true x a b first second z s t e f d =
-      let P : ℕ → Type 0 = λ k. StandsFor v k zero_form in
-      let Q : Number → Type 0 = λ k. StandsFor v second (number k) in
-      subst P (sym d) (subst Q f t)
+      rw d (rw (← f) t)
 
   pub tiny_made : (miny : Bool) (x a b : Number) (z part : ℕ) → StandsFor v z zero_form
       → StandsFor v part (pair_form a b) → a ≡ first_number miny x → b ≡ second_number miny x

@@ -1,5 +1,5 @@
 -- The numbers and counts of a name are in range where the numbers of the game are, and its depth is.
-use Rattle.std.proofs.Common.{◌≡◌, refl, ap, sym, ◌∙◌, subst, ℕ, zero, suc, ◌^◌, ◌<◌, ◌≤◌, arith, inl, inr, List, [], ◌∷◌, Bool, true, false, unsigned_abs, neg_ℤ}
+use Rattle.std.proofs.Common.{◌≡◌, refl, ap, ◌∙◌, ℕ, zero, suc, ◌^◌, ◌<◌, ◌≤◌, arith, inl, inr, List, [], ◌∷◌, Bool, true, false, unsigned_abs, neg_ℤ}
 use Rattle.std.proofs.lemmas.Int.{ints}
 use Rattle.cg_dyadic.specs.Number.{InRange, Number, num_of}
 use Rattle.cg_form.specs.Depth.{deepest_of, depth_of}
@@ -58,7 +58,7 @@ turned_range x r =
     record { small = omega (arith, ints); short = omega arith }
 
 at : (g h : Game) → g ≡ h → AllInRange g → AllInRange h
-at g h e a = let P : Game → Type 0 = λ z. AllInRange z in subst P e a
+at g h e a = rw (← e) a
 
 star_range : (g : Game) (x : Number) (n : ℕ) → g ≡ shifted x (nimber_form (suc n)) → AllInRange g → InRange x
 star_range g x n e a =
@@ -80,15 +80,13 @@ tiny_range true x a = a.0.0.0.0
 sign_range : (g : Game) (s : Sign) → HasForm g s → AllInRange g → depth_of g < 10 ^ 30 → IsSignInRange s
 sign_range g (Star x n) h a d =
     let (m, e) = above_zero n h.proper in
-    let P : ℕ → Type 0 = λ k. g ≡ shifted x (nimber_form k) in
-    let f = subst P e h.form in
+    let f = rw e at h.form in
     let deep : depth_of g ≡ depth_of (nimber_form n) = ap depth_of h.form ∙ depth-shifted x (nimber_form n) in
     let l = nimber_deep n in
     (star_range g x m f a, omega arith)
 sign_range g (Arrows down starred x n) h a d =
     let (m, e) = above_zero n h.proper in
-    let P : ℕ → Type 0 = λ k. g ≡ shifted x (ups_of down starred k) in
-    let f = subst P e h.form in
+    let f = rw e at h.form in
     let deep : depth_of g ≡ suc (suc m) =
     ap depth_of f ∙ depth-shifted x (ups_of down starred (suc m)) ∙ depth-ups down starred m in
     (arrows_range g down starred x m f a, omega arith)

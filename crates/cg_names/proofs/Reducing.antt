@@ -1,5 +1,5 @@
 -- Canonical games with their sides exchanged or with one option, from what either side sees of them.
-use Rattle.std.proofs.Common.{◌≡◌, inl, inr, sym, ◌∙◌, subst, List, [], ◌∷◌, Bool, true, false, not}
+use Rattle.std.proofs.Common.{◌≡◌, inl, inr, sym, ◌∙◌, List, [], ◌∷◌, Bool, true, false, not}
 use Rattle.cg_form.specs.Canonical.{Canonical}
 use Rattle.cg_form.specs.Game.{Among, Game}
 use Rattle.cg_form.specs.Side.{AtMost, far, near}
@@ -42,9 +42,9 @@ one_reduced s g a e stays = record {
   ];
   stays = λ b c m k l. elim (carry b (near s g) (a ∷ []) e m) [
     | inr w ↦ w
-    | inl p ↦ let P : Game → Type 0 = λ z. Among c (far s z) in stays c (subst P p k) l
+    | inl p ↦ stays c (rw (← p) k) l
   ];
-  rises = let P : List Game → Type 0 = λ z. Rises z in subst P (sym e) ((λ h w. absurd w), tt);
+  rises = rw e ((λ h w. absurd w), tt);
 }
 
 -- 0 has no options

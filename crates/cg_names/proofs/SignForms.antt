@@ -168,7 +168,7 @@ pub step_node : (down starred : Bool) (x : Number) (n : ℕ) → IsStep starred 
 step_node down starred x n s = by starred n s
   where
     at : (g h : Game) → g ≡ h → IsNode h → IsNode g
-    at g h e i = let P : Game → Type 0 = λ z. IsNode z in subst P (sym e) i
+    at g h e i = rw e i
 
     by : (t : Bool) (m : ℕ) → IsStep t m → IsNode (shifted x (ups_of down (not t) m))
     by true zero i = absurd i

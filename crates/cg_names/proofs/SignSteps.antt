@@ -24,8 +24,7 @@ node_later s t ls rs b l r =
 
 pub sign_star : (g : Game) (o : Option StarFound) (a : StarFound) → o ≡ Some a → IsStar g o → Some (Star a.base a.count) ≡ sign_of g
 sign_star g o a e i =
-    let P : Option StarFound → Type 0 = λ z. IsStar g z in
-    let p = subst P e i in
+    let p = rw e at i in
     sym (sign-found g (Star a.base a.count) (record { proper = some_is a.count p.0; form = p.1 }))
 
 pub star_none : (g : Game) (o : Option StarFound) → o ≡ None → IsStar g o → IsStar g None
@@ -34,14 +33,13 @@ star_none g o e i = let P : Option StarFound → Type 0 = λ z. IsStar g z in su
 pub sign_tiny : (miny : Bool) (g : Game) (o : Option Number) (x : Number) → o ≡ Some x → IsTiny miny g o
     → Some (Tiny miny x) ≡ sign_of g
 sign_tiny miny g o x e i =
-    let P : Option Number → Type 0 = λ z. IsTiny miny g z in
-    let p = subst P e i in
+    let p = rw e at i in
     sym (sign-found g (Tiny miny x) (record { proper = true_not (number_le x zero_number) p.0; form = p.1 }))
 
 pub tiny_at : (miny : Bool) (x : Number) (g h : Game) (o : Option Number) → g ≡ h
     → IsTiny miny (mirrored_if miny (number x ∷ []) (h ∷ [])) o → IsTiny miny (mirrored_if miny (number x ∷ []) (g ∷ [])) o
 tiny_at miny x g h o e i =
-    let P : Game → Type 0 = λ z. IsTiny miny (mirrored_if miny (number x ∷ []) (z ∷ [])) o in subst P (sym e) i
+    rw e i
 
 -- ---- the lists of a game of which one has one option, later
 
@@ -70,4 +68,4 @@ module _ {R : Type 0} (s t u : State Meant R) (ls rs : Option ℕ) (first : Spen
       ∙ ap (λ z. node (listed s ls) z) (sym f ∙ listed_later s t first.known rs rights)
 
 pub star_at : (g h : Game) → g ≡ h → IsStar h None → IsStar g None
-star_at g h e i = let P : Game → Type 0 = λ z. IsStar z None in subst P (sym e) i
+star_at g h e i = rw e i

@@ -250,9 +250,7 @@ module _ (down : Bool) where
 
   plus_star : (n : ℕ) → Equal (sum (up n) star_form) (starred n)
   plus_star zero =
-      let P : Game → Type 0 = λ z. Equal (sum z star_form) (starred zero) in
-      let Q : Game → Type 0 = λ z. Equal (sum zero_form star_form) z in
-      subst P (sym no_up) (subst Q (sym star_is) (zero_sum star_form))
+      rw no_up (rw star_is (zero_sum star_form))
   plus_star (suc n) =
       let e = back n (plus_star n) in
       equal_side s (sum (up (suc n)) star_form) (starred (suc n)) (plus_star_low n e) (low_plus_star n e)

@@ -55,7 +55,7 @@ pub stars_some : (gs : List Game) (o : Option Number) (x : Number) → o ≡ Som
 stars_some gs o x e i = let P : Option Number → Type 0 = λ z. AreStars gs z in subst P e i
 
 pub stars_at : (gs hs : List Game) (o : Option Number) → gs ≡ hs → AreStars gs o → AreStars hs o
-stars_at gs hs o e i = let P : List Game → Type 0 = λ z. AreStars z o in subst P e i
+stars_at gs hs o e i = rw (← e) i
 
 -- x + *n over the list of its options
 pub star-is : (ls rs gs : List Game) (x : Number) (n : ℕ) → gs ≡ ls → ls ≡ rs → length gs ≡ n → AreStars gs (Some x)

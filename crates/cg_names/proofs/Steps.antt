@@ -54,8 +54,7 @@ module _ {R : Type 0} (s t : State Meant (WorkRest R)) where
   pub given_refused : (items : List Item) (f : Game) (q : Result ℕ ValueFault) (fault : ValueFault) → q ≡ Err fault
       → ItemsMade s t items q → s.spare ≤ t.spare → Gives s t items f q
   given_refused items f q fault e m l =
-      let P : Result ℕ ValueFault → Type 0 = λ z. IfOk z (λ k. StandsFor t k f) in
-      record { game = subst P (sym e) tt; made = m; more = l }
+      record { game = rw e tt; made = m; more = l }
 
   pub given_memory : (items : List Item) (f : Game) (q : Result ℕ ValueFault) → q ≡ Err Memory → Keeps s t
       → s.spare ≤ t.spare → Gives s t items f q
@@ -114,8 +113,7 @@ refused_positions : (share spent limit : ℕ) (f : Game) (forms : List Game) →
 refused_positions share spent limit f forms e l =
     let n : limit < length (positions_of f) = let s : length (positions_of f) ≡ length forms = ap length e in omega
     arith in
-    let P : List Item → Type 0 = λ z. IsStopped Positions share spent z spent in
-    subst P (sym (form_items-above limit f n)) (stopped-one Positions share spent too_many [] tt)
+    rw (form_items-above limit f n) (stopped-one Positions share spent too_many [] tt)
 
 pub given_positions : {R : Type 0} (s : State Meant (WorkRest R)) (f : Game) (forms : List Game) → positions_of f ≡ forms
     → s.rest.limit < length forms → Gives s s (form_items s.rest.limit f) f (Err Positions)
@@ -134,6 +132,4 @@ pub given_from : {R : Type 0} (s t : State Meant (WorkRest R)) (r : Result ℕ V
     → k ≡ f → positions_of f ≡ forms → length forms ≤ s.rest.limit → Gives s t (map plain_item forms) k r
     → Gives s t (form_items s.rest.limit f) f r
 given_from s t r k f forms e p l m =
-    let P : Game → Type 0 = λ z. Gives s t (map plain_item forms) z r in
-    let Q : List Item → Type 0 = λ z. Gives s t z f r in
-    subst Q (sym (form_items-within s.rest.limit f forms p l)) (subst P e m)
+    rw (form_items-within s.rest.limit f forms p l) (rw (← e) m)

@@ -28,9 +28,8 @@ number_reduced : (s : Bool) (g : Game) (x y : Number) → near s g ≡ number x 
     → AtMost s (number y) (number x) → SideReduced s g
 number_reduced s g x y e m u = one_reduced s g (number x) e (λ b k l.
     let (z, f, v) = far_number s x b k in
-    let P : Game → Type 0 = λ w. AtMost s w g in
     not_far s g (number y) m (side_trans s (number y) (number z) g (side_trans s (number y) (number x) (number z) u v)
-    (subst P f l)))
+    (rw (← f) l)))
 
 -- a game with a Left option that is at least a Right option, both numbers
 hot-no_number : (g : Game) (x y : Number) → Among (number x) (lefts g) → Among (number y) (rights g) → NumberLe y x →
@@ -42,7 +41,7 @@ hot-no_number g x y m n l z e = elim (true-or-not (number_le z x)) [
 ]
 
 number_canonical : (x : Number) (a : Game) → Among a (number x ∷ []) → Canonical a
-number_canonical x a (inl e) = let P : Game → Type 0 = λ z. Canonical z in subst P (sym e) tt
+number_canonical x a (inl e) = rw e tt
 number_canonical x a (inr m) = absurd m
 
 pub switch-canonical : (x : Number) → NumberLe zero_number x → Canonical (switch_form x)
@@ -74,7 +73,7 @@ part down y l =
     zero_number l in
     record {
       slight = slight-from s g (number y) (λ a m x p k. elim (carry a (near s g) (zero_form ∷ []) n m) [
-        | inl e ↦ let P : Game → Type 0 = λ v. AtMost s (number x) v in beyond_zero s x p (subst P e k)
+        | inl e ↦ beyond_zero s x p (rw (← e) k)
         | inr v ↦ v
       ]) w (slight-number s y l);
       zero_near = n;

@@ -1,5 +1,5 @@
 -- The positions of switches, tinies and minies.
-use Rattle.std.proofs.Common.{◌≡◌, refl, inl, inr, ap, sym, ◌∙◌, subst, List, [], ◌∷◌, ◌++◌, Bool, true, false}
+use Rattle.std.proofs.Common.{◌≡◌, refl, inl, inr, ap, ◌∙◌, subst, List, [], ◌∷◌, ◌++◌, Bool, true, false}
 use Rattle.std.specs.Prelude.{cond}
 use Rattle.cg_dyadic.specs.Number.{Number}
 use Rattle.cg_dyadic.proofs.Truth.{false-from}
@@ -35,7 +35,7 @@ tiny_new false x m = elim m [
   | inl e ↦ cc
   | inr (inl e) ↦ cc
   | inr (inr (inl e)) ↦ not_position-far true (tiny_form false x) (tiny_part false x) (inl refl)
-      (let P : Game → Type 0 = λ z. Among z (all_positions (tiny_part false x)) in subst P (sym e)
+      (rw e
       (inr (inr (inl refl))))
   | inr (inr (inr k)) ↦ k
 ]
@@ -43,7 +43,7 @@ tiny_new true x m = elim m [
   | inl e ↦ cc
   | inr (inl e) ↦ cc
   | inr (inr (inl e)) ↦ not_position-far false (tiny_form true x) (tiny_part true x) (inl refl)
-      (let P : Game → Type 0 = λ z. Among z (all_positions (tiny_part true x)) in subst P (sym e)
+      (rw e
       (inr (inr (inl refl))))
   | inr (inr (inr k)) ↦ k
 ]

@@ -39,15 +39,14 @@ pub star_canonical : Canonical star_form
 star_canonical = canonical_mirrored false (zero_form ∷ []) (zero_form ∷ []) (zero_reduced true star_form refl)
     (zero_reduced false star_form refl) (slight-no_number true star_form zero_form (inl refl) (inl refl)
     (zero_slight true))
-    (λ a m. elim m [ inl e ↦ let P : Game → Type 0 = λ z. Canonical z in subst P (sym e) tt | inr k ↦ absurd k ])
-    (λ a m. elim m [ inl e ↦ let P : Game → Type 0 = λ z. Canonical z in subst P (sym e) tt | inr k ↦ absurd k ])
+    (λ a m. elim m [ inl e ↦ rw e tt | inr k ↦ absurd k ])
+    (λ a m. elim m [ inl e ↦ rw e tt | inr k ↦ absurd k ])
 
 -- no number that is better than 0 is at most 0 or *
 beyond_both : (s : Bool) (a : Game) → (a ≡ zero_form) ⊎ (a ≡ star_form) → (x : Number) → Beyond s x → ¬ AtMost s
     (number x) a
-beyond_both s a (inl e) x p l = let P : Game → Type 0 = λ z. AtMost s (number x) z in beyond_zero s x p (subst P e l)
-beyond_both s a (inr e) x p l = let P : Game → Type 0 = λ z. AtMost s (number x) z in
-    beyond_far s x star_form zero_form p (star_far s) (zero_slight s) (subst P e l)
+beyond_both s a (inl e) x p l = beyond_zero s x p (rw (← e) l)
+beyond_both s a (inr e) x p l = beyond_far s x star_form zero_form p (star_far s) (zero_slight s) (rw (← e) l)
 
 star_like : (s : Bool) → UpLike s star_form
 star_like s = record {
@@ -68,7 +67,7 @@ far_is_near true g = refl
 far_is_near false g = refl
 
 pub zero_canonical : (a : Game) → Among a (zero_form ∷ []) → Canonical a
-zero_canonical a (inl e) = let P : Game → Type 0 = λ z. Canonical z in subst P (sym e) tt
+zero_canonical a (inl e) = rw e tt
 zero_canonical a (inr m) = absurd m
 
 -- {0|u} is at least 0, as the side sees it, where u is not at most 0
@@ -76,7 +75,7 @@ zero_under : (s : Bool) (g u : Game) → far s g ≡ u ∷ [] → Among zero_for
 zero_under s g u e z = side_fold s zero_form g (record {
   on_near = λ a m k. near-zero s a m;
   on_far = λ b m k. elim (carry b (far s g) (u ∷ []) e m) [
-    | inl p ↦ let P : Game → Type 0 = λ y. AtMost s y zero_form in not_near s u zero_form z (subst P p k)
+    | inl p ↦ not_near s u zero_form z (rw (← p) k)
     | inr n ↦ n
   ];
 })
@@ -85,13 +84,10 @@ zero_under s g u e z = side_fold s zero_form g (record {
 stays_over : (down : Bool) (g u b : Game) → near (not down) g ≡ zero_form ∷ [] → far (not down) g ≡ u ∷ []
     → Among zero_form (near (not down) u) → (b ≡ zero_form) ⊎ (b ≡ star_form) → ¬ AtMost down b g
 stays_over down g u b e f z (inl p) l =
-    let P : Game → Type 0 = λ y. AtMost down y g in
-    let N : List Game → Type 0 = λ y. Among zero_form y in
-    not_far down g zero_form (subst N (sym (far_is_near down g ∙ e)) (inl refl)) (subst P p l)
+    not_far down g zero_form (rw (far_is_near down g ∙ e) (inl refl)) (rw (← p) l)
 stays_over down g u b e f z (inr p) l =
-    let P : Game → Type 0 = λ y. AtMost down y g in
     let under : AtMost (not down) zero_form g = zero_under (not down) g u f z in
-    (side_unfold down star_form g (subst P p l)).on_near zero_form
+    (side_unfold down star_form g (rw (← p) l)).on_near zero_form
     (carry zero_form (zero_form ∷ []) (near down star_form) (sym (star_near down)) (inl refl))
     (sym (side_turned down zero_form g) ∙ under)
 
@@ -116,7 +112,7 @@ step down u i =
           (carry b (far down u) (near (not down) u) (far_is_near down u) m))))
           (slight-no_number (not down) g u z w i.slight) zero_canonical
           (λ a m. elim m [
-            | inl e ↦ let P : Game → Type 0 = λ y. Canonical y in subst P (sym e) i.canonical
+            | inl e ↦ rw e i.canonical
             | inr k ↦
                 absurd k
           ]);
@@ -146,12 +142,10 @@ both_apart s a b (inr e) (inr f) l = e ∙ sym f
 -- the far options of 0 and * lead no game back that has the far option 0
 both_stays : (s : Bool) (g a b : Game) → Among zero_form (far s g) → (a ≡ zero_form) ⊎ (a ≡ star_form)
     → Among b (far s a) → ¬ AtMost s b g
-both_stays s g a b z (inl e) m l = let P : Game → Type 0 = λ y. Among b (far s y) in far-zero s b (subst P e m)
+both_stays s g a b z (inl e) m l = far-zero s b (rw (← e) m)
 both_stays s g a b z (inr e) m l =
-    let P : Game → Type 0 = λ y. Among b (far s y) in
-    let Q : Game → Type 0 = λ y. AtMost s y g in
-    elim (carry b (far s star_form) (zero_form ∷ []) (star_far_is s) (subst P e m)) [
-      | inl f ↦ not_far s g zero_form z (subst Q f l)
+    elim (carry b (far s star_form) (zero_form ∷ []) (star_far_is s) (rw (← e) m)) [
+      | inl f ↦ not_far s g zero_form z (rw (← f) l)
       | inr k ↦ k
     ]
 
@@ -167,7 +161,7 @@ plus_star down =
     λ a m. in_both a (carry a (near s g) both n m) in
     let rises : Rises both = (
       (λ h m. elim m [
-        | inl e ↦ let P : Game → Type 0 = λ y. Before zero_form y in subst P (sym e) refl
+        | inl e ↦ rw e refl
         | inr k ↦ absurd k
       ]),
       ((λ h m. absurd m), tt),
@@ -179,12 +173,12 @@ plus_star down =
       canonical = canonical_mirrored down both (zero_form ∷ []) (record {
         apart = λ a b m k l. both_apart s a b (each a m) (each b k) l;
         stays = λ a b m k l. both_stays s g a b w (each a m) k l;
-        rises = let P : List Game → Type 0 = λ y. Rises y in subst P (sym n) rises;
+        rises = rw n rises;
       }) (zero_reduced down g (other-mirrored down both (zero_form ∷ [])))
           (slight-no_number s g zero_form z w (zero_slight s))
           (λ a m. elim (in_both a m) [
-            | inl e ↦ let P : Game → Type 0 = λ y. Canonical y in subst P (sym e) tt
-            | inr e ↦ let P : Game → Type 0 = λ y. Canonical y in subst P (sym e) star_canonical
+            | inl e ↦ rw e tt
+            | inr e ↦ rw e star_canonical
           ]) zero_canonical;
     }
 

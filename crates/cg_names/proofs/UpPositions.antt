@@ -1,5 +1,5 @@
 -- The positions of ups and downs.
-use Rattle.std.proofs.Common.{◌≡◌, refl, append_assoc, append-nil, ℕ, ◌+◌, ◌≤◌, arith, zero, suc, ◌⊎◌, inl, inr, ap, sym, ◌∙◌, subst, List, [], ◌∷◌, ◌++◌, length, length-append, Bool, true, false, not}
+use Rattle.std.proofs.Common.{◌≡◌, refl, append_assoc, append-nil, ℕ, ◌+◌, ◌≤◌, arith, zero, suc, ◌⊎◌, inl, inr, ap, sym, ◌∙◌, List, [], ◌∷◌, ◌++◌, length, length-append, Bool, true, false, not}
 use Rattle.cg_form.specs.Game.{Among, Game}
 use Rattle.cg_form.proofs.Among.{carry}
 use Rattle.cg_form.specs.Positions.{all_positions, once, positions_of}
@@ -53,8 +53,7 @@ over down u cs i = by down (not_position-far (not down) (mirrored_if down (zero_
           begins = whole ∙ ap (λ z. z ++ end) i.begins;
           once_each = ap once whole ∙ once-known_new (all_positions u) (zero_form ∷ []) g
               (λ h m. elim m [
-                | inl e ↦ let P : Game → Type 0 = λ z. Among z (all_positions u) in
-                    subst P (sym e) (carry zero_form (zero_form ∷ i.rest) (all_positions u) (sym i.begins) (inl refl))
+                | inl e ↦ rw e (carry zero_form (zero_form ∷ i.rest) (all_positions u) (sym i.begins) (inl refl))
                 | inr k ↦ absurd k
               ]) fresh ∙ ap (λ z. z ++ (g ∷ [])) i.once_each;
         }

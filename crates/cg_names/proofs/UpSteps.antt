@@ -112,7 +112,7 @@ next_odd count level starred p l =
 pub last_before : {R : Type 0} (v : State Meant R) (down starred : Bool) (last level : ℕ)
     → StandsFor v last (ups_last down starred level) → StandsFor v last (ups_last down (not (not starred)) level)
 last_before v down starred last level s =
-    let P : Bool → Type 0 = λ b. StandsFor v last (ups_last down b level) in subst P (sym (not_not starred)) s
+    rw (not_not starred) s
 
 -- 0 and *, with which each chain begins
 module _ {R : Type 0} (w v : State Meant (WorkRest R)) (down : Bool) (count : ℕ) where
@@ -150,8 +150,7 @@ module _ {R : Type 0} (w v : State Meant (WorkRest R)) (down : Bool) (count : �
       zero_stands = stands_later v u n.made.keeps.known z zero_form
           (given_game w v (plain_item zero_form ∷ []) zero_form r z ok m);
       given =
-          let P : Result ℕ ValueFault → Type 0 = λ x. Gives w u (map plain_item (zero_form ∷ (star_form ∷ []))) star_form x in
-          subst P o begun;
+          rw (← o) begun;
       parity = p ∙ ap odd (let e : count ≡ count - 0 = omega arith in e);
     }
 
@@ -169,12 +168,9 @@ module _ {R : Type 0} (w v u : State Meant (WorkRest R)) (down : Bool) (count z 
 
   pub ups_next : (next after : ℕ) → r ≡ Ok next → after ≡ suc level → UpsMade w u down count z next (not starred) after
   ups_next next after o e =
-      let N : ℕ → Type 0 = λ k. UpsMade w u down count z next (not starred) k in
-      let P : Result ℕ ValueFault → Type 0 = λ x. Gives w u (map plain_item (ups_chain down (not starred) (suc level)))
-      (ups_of down (not starred) (suc level)) x in
-      subst N (sym e) (record {
+      rw e (record {
         zero_stands = stands_later v u m.made.keeps.known z zero_form i.zero_stands;
-        given = subst P o one_more;
+        given = rw (← o) one_more;
         parity = next_odd count level starred i.parity within;
       })
 

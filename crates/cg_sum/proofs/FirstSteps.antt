@@ -61,11 +61,8 @@ pub first_more : {R : Type 0} (s : State Meant R) (hs ks : List ℕ) (h : ℕ) �
     → ks ≡ hs ++ (h ∷ []) → AreFirst s ks
 first_more s hs ks h are st e =
     let n : ℕ = length hs in
-    let P : List ℕ → Type 0 = λ z. AreFirst s z in
-    let Q : ℕ → Type 0 = λ z. StandFor s (hs ++ (h ∷ [])) (nimbers_below z) in
-    let V : List Game → Type 0 = λ z. StandFor s (hs ++ (h ∷ [])) z in
     let count : length (hs ++ (h ∷ [])) ≡ suc n = length-append hs (h ∷ []) ∙ (omega arith) in
-    subst P (sym e) (subst Q (sym count) (subst V (sym (nimbers_below-next n))
+    rw e (rw count (rw (nimbers_below-next n)
     (stand_more s hs h (nimbers_below n) (nimber_form n) are st)))
 
 pub first_later : {R Q : Type 0} (s : State Meant R) (t : State Meant Q) → Grows (thing_at s) (thing_at t) → (hs : List ℕ)
@@ -87,8 +84,7 @@ first_stands s hs n h are l e =
     let g : Game = game_at s h in
     let at : game_at s h ≡ nimber_form n =
     ap (game_at s) e ∙ sym (get_or-map (game_at s) hs n h g l) ∙ ap (λ z. get_or z n g) are.1 ∙ below_at (length hs) n g l in
-    let P : Game → Type 0 = λ z. StandsFor s h z in
-    subst P at (has_game s hs h are.0 (has_item hs n h l e))
+    rw (← at) (has_game s hs h are.0 (has_item hs n h l e))
 
 -- ---- the next one
 
@@ -114,27 +110,23 @@ nimber_made s t g n r e m = made_as s t (made g 1 ∷ []) (nimber_item n ∷ [])
 
 pub costs_none : (cs : List ℕ) → cs ≡ [] → HoldsCosts cs
 costs_none cs e =
-    let P : List ℕ → Type 0 = λ z. HoldsCosts z in
-    subst P (sym e) (record { each = λ n l. absurd (omega arith) })
+    rw e (record { each = λ n l. absurd (omega arith) })
 
 pub costs_more : (cs ds : List ℕ) (c n share before after : ℕ) → HoldsCosts cs → length cs ≡ n → ds ≡ cs ++ (c ∷ [])
     → c ≡ after - before → AllPass share before (nimber_item n ∷ []) after → HoldsCosts ds
 costs_more cs ds c n share before after holds e d k pass =
-    let P : List ℕ → Type 0 = λ z. HoldsCosts z in
-    subst P (sym d) (record {
+    rw d (record {
       each = λ i l.
           let count : length (cs ++ (c ∷ [])) ≡ length cs + 1 = length-append cs (c ∷ []) in
-          let Q : ℕ → Type 0 = λ z. AllPass z 0 (nimber_item i ∷ []) z in
           elim (le_or_gt (length cs) i) [
             | inl last ↦
                 let same : n ≡ i = omega arith in
                 let own : length cs ≡ i = omega arith in
                 let at : get_or (cs ++ (c ∷ [])) i 0 ≡ c =
                 ap (λ z. get_or (cs ++ (c ∷ [])) z 0) (sym own) ∙ get_or-append_seam cs c [] 0 in
-                let V : ℕ → Type 0 = λ z. AllPass (after - before) 0 (nimber_item z ∷ []) (after - before) in
-                subst Q (sym (at ∙ k)) (subst V same (pass_alone share before after (nimber_item n ∷ []) pass))
+                rw (at ∙ k) (rw (← same) (pass_alone share before after (nimber_item n ∷ []) pass))
             | inr before_last ↦
-                subst Q (sym (get_or_append_left cs (c ∷ []) 0 i before_last)) (holds.each i before_last)
+                rw (get_or_append_left cs (c ∷ []) 0 i before_last) (holds.each i before_last)
           ];
     })
 
@@ -174,19 +166,16 @@ pub pair_known : {R Q : Type 0} (s : State Meant R) (t : State Meant Q) → Grow
     → StandsFor s a (nimber_form i) → StandsFor s b (nimber_form j) → (hs : List ℕ) → AreFirst t hs → i < length hs → j < length hs
     → pair.first ≡ i → pair.second ≡ j → pair.nimbers.handles.items ≡ hs → pair.nimbers.costs.items ≡ [] → IsPair t a b pair
 pair_known s t grows a b i j pair st sb hs are wi wj fi sj handles costs =
-    let P : ℕ → Type 0 = λ z. StandsFor t a (nimber_form z) in
-    let Q : ℕ → Type 0 = λ z. StandsFor t b (nimber_form z) in
-    let V : List ℕ → Type 0 = λ z. AreFirst t z in
     let count = ap length handles in
     let none = ap length costs in
     record {
-      first = subst P (sym fi) (stands_later s t grows a (nimber_form i) st);
-      second = subst Q (sym sj) (stands_later s t grows b (nimber_form j) sb);
+      first = rw fi (stands_later s t grows a (nimber_form i) st);
+      second = rw sj (stands_later s t grows b (nimber_form j) sb);
       first_within = omega arith;
       second_within = omega arith;
       holds = record {
         some = omega arith;
-        first = subst V (sym handles) are;
+        first = rw handles are;
         fewer = omega arith;
         costs = costs_none pair.nimbers.costs.items costs;
       };

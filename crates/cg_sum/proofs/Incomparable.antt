@@ -1,5 +1,5 @@
 -- Lists of games of which no two are comparable: the options of a canonical form, and their sums and negatives.
-use Rattle.std.proofs.Common.{◌≡◌, ◌⊎◌, refl, ℕ, zero, suc, ◌<◌, arith, inl, inr, sym, ◌∙◌, subst, List, [], ◌∷◌, ◌++◌, get_or, length, map}
+use Rattle.std.proofs.Common.{◌≡◌, ◌⊎◌, refl, ℕ, zero, suc, ◌<◌, arith, inl, inr, sym, ◌∙◌, List, [], ◌∷◌, ◌++◌, get_or, length, map}
 use Rattle.std.proofs.lemmas.Bool.{cases_lt}
 use Rattle.std.proofs.lemmas.List.{get_or-map, length-map}
 use Rattle.std.proofs.Math.Seq.{drop-append_seam, take-append_seam}
@@ -81,9 +81,7 @@ none_mapped F gs tells h = record {
       let count = length-map gs F in
       let k : i < length gs = omega (arith, l) in
       let m : j < length gs = omega (arith, n) in
-      let P : Game → Type 0 = λ z. Le z (F (get_or gs j d)) in
-      let Q : Game → Type 0 = λ z. Le (get_or (map F gs) i d) z in
-      let made : Le (F (get_or gs i d)) (F (get_or gs j d)) = subst P (get_or-map F gs i d d k) (subst Q (get_or-map F gs j d d m) le) in
+      let made : Le (F (get_or gs i d)) (F (get_or gs j d)) = rw (← (get_or-map F gs i d d k)) (rw (← (get_or-map F gs j d d m)) le) in
       elim (tells (get_or gs i d) (get_or gs j d) made) [
         | inl up ↦ h.each i j d k m o up
         | inr down ↦ h.each j i d m k (λ e. o (sym e)) down
@@ -112,8 +110,7 @@ negatives_apart gs none =
 
 apart_by_seam : (xs ys : List Game) → NoneComparable xs → NoneComparable ys → NoneComparableByTerm (length xs) (xs ++ ys)
 apart_by_seam xs ys h k =
-    let P : List Game → Type 0 = λ z. NoneComparable z in
-    record { first = subst P (sym (take-append_seam xs ys)) h; second = subst P (sym (drop-append_seam xs ys)) k }
+    record { first = rw (take-append_seam xs ys) h; second = rw (drop-append_seam xs ys) k }
 
 -- the sums of the options of g and h, on one side
 pub sum_apart : (g h : Game) (gs hs : List Game) (n : ℕ) → n ≡ length gs → NoneComparable gs → NoneComparable hs
@@ -121,15 +118,12 @@ pub sum_apart : (g h : Game) (gs hs : List Game) (n : ℕ) → n ≡ length gs �
 sum_apart g h gs hs n e none others =
     let firsts = map (λ a. can (sum a h)) gs in
     let seconds = map (λ c. can (sum g c)) hs in
-    let P : ℕ → Type 0 = λ z. NoneComparableByTerm z (firsts ++ seconds) in
-    subst P (length-map gs (λ a. can (sum a h)) ∙ sym e)
+    rw (← (length-map gs (λ a. can (sum a h)) ∙ sym e))
     (apart_by_seam firsts seconds (firsts_apart h gs none) (seconds_apart g hs others))
 
 pub negative_apart : (gs : List Game) (n : ℕ) → n ≡ length gs → NoneComparable gs
     → NoneComparableByTerm n (map (λ a. can (negative a)) gs)
 negative_apart gs n e none =
     let made = map (λ a. can (negative a)) gs in
-    let P : ℕ → Type 0 = λ z. NoneComparableByTerm z (made ++ []) in
-    let Q : List Game → Type 0 = λ z. NoneComparableByTerm n z in
-    subst Q (append_nil made) (subst P (length-map gs (λ a. can (negative a)) ∙ sym e)
+    rw (← (append_nil made)) (rw (← (length-map gs (λ a. can (negative a)) ∙ sym e))
     (apart_by_seam made [] (negatives_apart gs none) none_of_none))

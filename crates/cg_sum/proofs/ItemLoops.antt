@@ -1,5 +1,5 @@
 -- A loop over games that makes the items of each, in order.
-use Rattle.std.proofs.Common.{◌≡◌, refl, ap, sym, ◌∙◌, subst, List, [], ◌∷◌, ◌++◌, append_assoc, append-nil, map, Result, Ok, Err}
+use Rattle.std.proofs.Common.{◌≡◌, refl, ap, sym, ◌∙◌, List, [], ◌∷◌, ◌++◌, append_assoc, append-nil, map, Result, Ok, Err}
 use Rattle.std.specs.List.{flat_map}
 use Rattle.std.proofs.lemmas.Grind.{flat_map-append}
 use Rattle.cg_canon.proofs.MadeSteps.{made_as, made_then, passed, stopped}
@@ -36,6 +36,5 @@ module _ {R T : Type 0} (w v x : State Meant (WorkRest R)) (f : Game → List It
   pub loop_passed : (all : List Game) → all ≡ front ++ (g ∷ []) → (t : T) → r ≡ Ok t
       → AllPass w.rest.share w.rest.spent (flat_map f all) x.rest.spent
   loop_passed all is t ok =
-      let P : List Item → Type 0 = λ z. AllPass w.rest.share w.rest.spent z x.rest.spent in
-      subst P (sym (ap (flat_map f) is ∙ flat_map-append f front (g ∷ []) ∙ ap (λ z. flat_map f front ++ z) (append-nil (f g))))
+      rw (ap (flat_map f) is ∙ flat_map-append f front (g ∷ []) ∙ ap (λ z. flat_map f front ++ z) (append-nil (f g)))
       (passed w x (flat_map f front ++ f g) r t ok with_it)

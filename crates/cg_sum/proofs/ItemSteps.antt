@@ -67,10 +67,7 @@ module _ {R : Type 0} (s t : State Meant (WorkRest R)) (gs hs : List Game) (leas
       → ((form : Game) → IsValue o form → ItemAt s t gs hs (number_made o 1) form 1 r)
       → FormMade s t gs hs least (sum_item g h) (can (sum g h)) r
   number_item room g h a b isg ish q o r e exact all =
-      let P : Option Number → Type 0 = λ z. (form : Game) → IsValue z form → ItemAt s t gs hs (number_made z 1) form 1 r in
-      let Q : Game → Type 0 = λ z. FormMade s t gs hs least (sum_item z h) (can (sum z h)) r in
-      let V : Game → Type 0 = λ z. FormMade s t gs hs least (sum_item (number a) z) (can (sum (number a) z)) r in
-      subst Q (sym isg) (subst V (sym ish) (exact_item room a b q r exact (subst P e all)))
+      rw isg (rw ish (exact_item room a b q r exact (rw (← e) all)))
 
 -- ---- before and after
 
@@ -88,10 +85,9 @@ module _ {R : Type 0} (w v x : State Meant (WorkRest R)) (fs gs hs : List Game) 
   -- and one that is noted
   pub form_noted : (i : ℕ) → FormMade w v fs gs least item form (Ok i) → Spends 0 v x → hs ≡ gs → FormMade w x fs hs least item form (Ok i)
   form_noted i given vx same =
-      let P : List Game → Type 0 = λ z. IsAt z i form in
-      let Q : List Game → Type 0 = λ z. Begins fs z in record {
-        at = subst P (sym same) given.at;
-        begins = subst Q (sym same) given.begins;
+      record {
+        at = rw same given.at;
+        begins = rw same given.begins;
         made = then_read 0 w v x (item ∷ []) (Ok i) given.made vx;
         spare = (let m = given.spare in let l = vx.spare in omega (arith, m, l));
       }
@@ -99,7 +95,7 @@ module _ {R : Type 0} (w v x : State Meant (WorkRest R)) (fs gs hs : List Game) 
 pub form_as : {R : Type 0} (w x : State Meant (WorkRest R)) (fs hs : List Game) (least : ℕ) (item : Item) (form : Game)
     (r q : Result ℕ ValueFault) → q ≡ r → FormMade w x fs hs least item form r → FormMade w x fs hs least item form q
 form_as w x fs hs least item form r q e given =
-    let P : Result ℕ ValueFault → Type 0 = λ z. FormMade w x fs hs least item form z in subst P (sym e) given
+    rw e given
 
 -- with less to spare
 pub form_least : {R : Type 0} (w x : State Meant (WorkRest R)) (fs hs : List Game) (least more : ℕ) (item : Item) (form : Game)
@@ -124,8 +120,7 @@ known_later : {R Q : Type 0} (s : State Meant R) (t : State Meant Q) → Grows (
     → (id : ℕ) → Known s id → Known t id
 known_later s t grows id known =
     let (y, is) = some_thing (thing_at s id) known in
-    let P : Option Meant → Type 0 = λ z. IsSome z in
-    subst P (sym (grows id y is)) refl
+    rw (grows id y is) refl
 
 -- the note of a cell stays so
 pub note_of_later : {R Q : Type 0} (m : Meaning Meant) (s : State Meant R) (t : State Meant Q)

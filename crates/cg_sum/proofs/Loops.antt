@@ -1,5 +1,5 @@
 -- The loops over the positions of a walk, each of which makes an item, and over rows of them.
-use Rattle.std.proofs.Common.{◌≡◌, ℕ, suc, ◌+◌, ◌*◌, ◌<◌, ◌≤◌, arith, refl, ap, sym, ◌∙◌, subst, List, [], ◌∷◌, ◌++◌, map, take, drop, length, Result, Ok, Err}
+use Rattle.std.proofs.Common.{◌≡◌, ℕ, suc, ◌+◌, ◌*◌, ◌<◌, ◌≤◌, arith, refl, ap, sym, ◌∙◌, List, [], ◌∷◌, ◌++◌, map, take, drop, length, Result, Ok, Err}
 use Rattle.std.proofs.Math.Nat.{suc-mul}
 use Rattle.std.proofs.lemmas.List.{take_all}
 use Rattle.cg_book.specs.Pages.{game_of}
@@ -14,7 +14,7 @@ use Rattle.cg_sum.specs.Progress.{FormMade, FormsMade, HoldsForms}
 use Rattle.cg_sum.proofs.Makings.{flat_next, flat_split, forms_as, forms_one, forms_stopped, forms_then, map_next, map_split}
 
 pub holds_as : (gs : List Game) (form : ℕ → Game) (n : ℕ) (xs ys : List ℕ) → xs ≡ ys → HoldsForms gs form n ys → HoldsForms gs form n xs
-holds_as gs form n xs ys e h = let P : List ℕ → Type 0 = λ z. HoldsForms gs form n z in subst P (sym e) h
+holds_as gs form n xs ys e h = rw e h
 
 -- ---- one position more
 
@@ -25,11 +25,10 @@ module _ {R : Type 0} (form : ℕ → Game) (least : ℕ) (item : Game → Item)
   pub list_more : g ≡ form n → (h : ℕ) → r ≡ Ok h → (more : List ℕ) → more ≡ table ++ (h ∷ []) → (k : ℕ) → n + 1 ≡ k
       → FormsMade {T = Unit {0}} w x ga gc least (map item (take (i + 1) gs)) form k more (Ok (tt {0}))
   list_more is h ok more put k next =
-      let P : Game → Type 0 = λ z. FormMade v x gb gc least (item (game_of gs i)) z r in
       let all = map item (take (i + 1) gs) in
       forms_as w x ga gc least all all form (n + 1) k more (Ok (tt {0})) refl next
       (forms_then form least w v x ga gb gc (map item (take i gs)) (item (game_of gs i) ∷ []) n table (tt {0}) before (n + 1) more (Ok (tt {0}))
-      (forms_one form least v x gb gc (item (game_of gs i)) r n h table more before.holds (subst P is one) ok put) all
+      (forms_one form least v x gb gc (item (game_of gs i)) r n h table more before.holds (rw (← is) one) ok put) all
       (map_next gs i inside item))
 
   pub list_stopped : {V : Type 0} (q : Result V ValueFault) (e : ValueFault) → r ≡ Err e → q ≡ Err e → (k : ℕ) (more : List ℕ)
@@ -54,11 +53,10 @@ module _ {R : Type 0} (form : ℕ → Game) (least : ℕ) (fs ks : List Game) (w
   pub rows_more : (u : Unit {0}) → r ≡ Ok u → (k : ℕ) → m ≡ k
       → FormsMade {T = Unit {0}} w x ga gc least (pair_items (take (i + 1) fs) ks) form k more (Ok (tt {0}))
   rows_more u ok k next =
-      let P : Result (Unit {0}) ValueFault → Type 0 = λ z. FormsMade v x gb gc least (row_items ks (game_of fs i)) form m more z in
       let all = pair_items (take (i + 1) fs) ks in
       forms_as w x ga gc least all all form m k more (Ok (tt {0})) refl next
       (forms_then form least w v x ga gb gc (pair_items (take i fs) ks) (row_items ks (game_of fs i)) n table (tt {0}) before m more (Ok (tt {0}))
-      (subst P ok row) all (flat_next fs i inside (row_items ks)))
+      (rw (← ok) row) all (flat_next fs i inside (row_items ks)))
 
   pub rows_stopped : {V : Type 0} (q : Result V ValueFault) (e : ValueFault) → r ≡ Err e → q ≡ Err e → (k : ℕ) (later : List ℕ)
       → FormsMade w x ga gc least (pair_items fs ks) form k later q

@@ -92,7 +92,7 @@ module _ {R : Type 0} (form : ℕ → Game) (least : ℕ) where
       made = made_as w x ((xs ++ ys) ++ back) all q (sym is)
           (stopped w x (xs ++ ys) back r q e a b (made_after w v x xs ys (Ok t) t r refl before.made after));
       spare = spare;
-      holds = (let P : Result V ValueFault → Type 0 = λ z. OnOk z (HoldsForms hs form k more) in subst P (sym b) tt);
+      holds = (rw b tt);
     }
 
     -- want of memory
@@ -102,7 +102,7 @@ module _ {R : Type 0} (form : ℕ → Game) (least : ℕ) where
       begins = begins_then fs gs hs before.begins begins;
       made = made_memory w x all q b (keeps_then w v x before.made.keeps keeps);
       spare = spare;
-      holds = (let P : Result V ValueFault → Type 0 = λ z. OnOk z (HoldsForms hs form k more) in subst P (sym b) tt);
+      holds = (rw b tt);
     }
 
 -- the same, by the count and the items that are meant
@@ -110,6 +110,4 @@ pub forms_as : {R T : Type 0} (w v : State Meant (WorkRest R)) (fs gs : List Gam
     (n k : ℕ) (table : List ℕ) (r : Result T ValueFault) → xs ≡ ys → n ≡ k → FormsMade w v fs gs least xs form n table r
     → FormsMade w v fs gs least ys form k table r
 forms_as w v fs gs least xs ys form n k table r a b made =
-    let P : List Item → Type 0 = λ z. FormsMade w v fs gs least z form n table r in
-    let Q : ℕ → Type 0 = λ z. FormsMade w v fs gs least ys form z table r in
-    subst Q b (subst P a made)
+    rw (← b) (rw (← a) made)

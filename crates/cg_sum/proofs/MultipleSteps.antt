@@ -74,12 +74,10 @@ module _ {R : Type 0} (w : State Meant (WorkRest R)) (a : ℕ) (ga : IsGame w a)
   pub steps_none : Canonical (game_at w a) → StepsMade w w a a 1
   steps_none c =
       let g : Game = game_at w a in
-      let L : List Item → Type 0 = λ z. AllPass w.rest.share w.rest.spent z w.rest.spent in
-      let P : Game → Type 0 = λ z. StandsFor w a z in
       record {
         keeps = keeps_all w;
-        passed = subst L (sym (one_step w.rest.limit g)) (all_pass-none w.rest.share w.rest.spent);
-        stands = subst P (sym (can-multiple_one g c)) ga;
+        passed = rw (one_step w.rest.limit g) (all_pass-none w.rest.share w.rest.spent);
+        stands = rw (can-multiple_one g c) ga;
         spare = omega arith;
       }
 
@@ -153,10 +151,7 @@ pub zero_given : {R : Type 0} (w x : State Meant (WorkRest R)) (a n : ℕ) (z : 
     → n ≡ 0 → Gives w x (form_item (number z) 0 ∷ []) (number z) r
     → Gives w x (multiple_items w.rest.limit n (game_at w a)) (can (multiple n (game_at w a))) r
 zero_given w x a n z r is none given =
-    let P : Number → Type 0 = λ k. Gives w x (form_item (number k) 0 ∷ []) (number k) r in
-    let Q : Game → Type 0 = λ k. Gives w x (form_item (number (whole (pos 0))) 0 ∷ []) k r in
-    let V : ℕ → Type 0 = λ k. Gives w x (multiple_items w.rest.limit k (game_at w a)) (can (multiple k (game_at w a))) r in
-    subst V (sym none) (subst Q (sym (can-multiple_zero (game_at w a))) (subst P is given))
+    rw none (rw (can-multiple_zero (game_at w a)) (rw (← is) given))
 
 -- ---- the end
 
@@ -166,9 +161,7 @@ same_count n count some l up = let u : n ≤ count = up some in omega arith
 pub steps_given : {R : Type 0} (w v : State Meant (WorkRest R)) (a total n count : ℕ) → n ≡ count → StepsMade w v a total n
     → Gives w v (multiple_items w.rest.limit count (game_at w a)) (can (multiple count (game_at w a))) (Ok total)
 steps_given w v a total n count e done =
-    let P : ℕ → Type 0 =
-    λ k. Gives w v (multiple_items w.rest.limit k (game_at w a)) (can (multiple k (game_at w a))) (Ok total) in
-    subst P e (record {
+    rw (← e) (record {
       game = done.stands;
       made = record { charged = done.passed; refused = tt; keeps = done.keeps };
       more = done.spare;

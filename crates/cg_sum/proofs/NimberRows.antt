@@ -1,5 +1,5 @@
 -- The sums of nimbers, row by row.
-use Rattle.std.proofs.Common.{◌≡◌, inl, inr, ap, sym, ◌∙◌, subst, ℕ, suc, ◌+◌, ◌<◌, ◌≤◌, arith, List, [], ◌∷◌, length, Result, Ok, Err}
+use Rattle.std.proofs.Common.{◌≡◌, inl, inr, ap, sym, ◌∙◌, ℕ, suc, ◌+◌, ◌<◌, ◌≤◌, arith, List, [], ◌∷◌, length, Result, Ok, Err}
 use Rattle.std.proofs.lemmas.Nat.{xor_comm}
 use Rattle.std.specs.List.{flat_map}
 use Rattle.std.specs.Prelude.{bit_xor}
@@ -89,9 +89,8 @@ module _ {R : Type 0} (w : State Meant (WorkRest R)) (i columns : ℕ) where
       pub row_next : (o : FirstNimbers) (t : T) → r ≡ Ok t → HoldsFirst x o → bit_xor i j < length o.handles.items
           → length n.handles.items ≤ length o.handles.items → v.spare ≤ x.spare → RowSoFar w x o i columns (j + 1)
       row_next o t ok holds known more spare =
-          let Q : ℕ → Type 0 = λ z. RowSoFar w x o i columns z in
           let next : suc j ≡ j + 1 = omega arith in
-          subst Q next (record {
+          rw (← next) (record {
             within = omega arith;
             keeps = keeps_then w v x so.keeps item.keeps;
             passed = loop_passed w v x (nimber_row i) (nimbers_below j) (nimber_form j) so.keeps so.passed r own _
@@ -101,8 +100,7 @@ module _ {R : Type 0} (w : State Meant (WorkRest R)) (i columns : ℕ) where
             row = λ b m. elim (le_or_gt j b) [
               | inl last ↦
                   let e : j ≡ b = omega arith in
-                  let V : ℕ → Type 0 = λ z. bit_xor i z < length o.handles.items in
-                  subst V e known
+                  rw (← e) known
               | inr before ↦ let earlier = so.row b before in omega arith
             ];
             spare = let before = so.spare in omega arith;
@@ -114,9 +112,8 @@ module _ {R : Type 0} (w : State Meant (WorkRest R)) (i columns : ℕ) where
   row_end v n j t so past =
       let within = so.within in
       let e : j ≡ columns = omega arith in
-      let P : ℕ → Type 0 = λ z. AllPass w.rest.share w.rest.spent (flat_map (nimber_row i) (nimbers_below z)) v.rest.spent in
       made_as w v _ _ (Ok t) (flat-map (sum_item (nimber_form i)) (nimbers_below columns))
-      (record { charged = subst P e so.passed; refused = tt; keeps = so.keeps })
+      (record { charged = rw (← e) so.passed; refused = tt; keeps = so.keeps })
 
   pub row_known : (v : State Meant (WorkRest R)) (n : FirstNimbers) (j : ℕ) → RowSoFar w v n i columns j → columns ≤ j
       → RowsKnown n (i + 1) columns
@@ -124,8 +121,7 @@ module _ {R : Type 0} (w : State Meant (WorkRest R)) (i columns : ℕ) where
     each = λ a b k m. elim (le_or_gt i a) [
       | inl last ↦
           let e : i ≡ a = omega arith in
-          let V : ℕ → Type 0 = λ z. bit_xor z b < length n.handles.items in
-          subst V e (so.row b (omega arith))
+          rw (← e) (so.row b (omega arith))
       | inr before ↦ so.known.each a b before m
     ];
   }
@@ -182,9 +178,7 @@ module _ {R : Type 0} (w : State Meant (WorkRest R)) (rows columns : ℕ) where
   rows_end v n i t so past =
       let within = so.within in
       let e : i ≡ rows = omega arith in
-      let P : ℕ → Type 0 = λ z. AllPass w.rest.share w.rest.spent (pair_items (nimbers_below z) (nimbers_below columns))
-      v.rest.spent in
-      record { charged = subst P e so.passed; refused = tt; keeps = so.keeps }
+      record { charged = rw (← e) so.passed; refused = tt; keeps = so.keeps }
 
   pub rows_known : (v : State Meant (WorkRest R)) (n : FirstNimbers) (i : ℕ) → RowsSoFar w v n rows columns i → rows ≤ i
       → RowsKnown n rows columns

@@ -31,9 +31,7 @@ stand_append gs ps qs fs ks a b = (
 
 stand_as : (gs : List Game) (ps qs : List ℕ) (fs ks : List Game) → ps ≡ qs → fs ≡ ks → StandFor gs qs fs → StandFor gs ps ks
 stand_as gs ps qs fs ks a b s =
-    let P : List ℕ → Type 0 = λ z. StandFor gs z ks in
-    let Q : List Game → Type 0 = λ z. StandFor gs qs z in
-    subst P (sym a) (subst Q b s)
+    rw a (rw (← b) s)
 
 length_of : (fs gs : List Game) (ps : List ℕ) → games_of fs ps ≡ gs → length ps ≡ length gs
 length_of fs gs ps e = sym (length-map ps (game_of fs)) ∙ ap length e
@@ -152,8 +150,7 @@ module _ (gs : List Game) (terms : Terms) (games : List Game × List Game) (row 
 
       pub rights_apart_by : (m : ℕ) → m ≡ length (rights_of terms.firsts.options.items f) → NoneComparableByTerm m (games_of gs right)
       rights_apart_by m e =
-          let P : List Game → Type 0 = λ z. NoneComparableByTerm m z in
-          subst P (sym rights_stand.1) (sum_apart g h _ _ m (e ∙ length_of games.0 _ _ first_rights) (rights_apart g canonical_first)
+          rw rights_stand.1 (sum_apart g h _ _ m (e ∙ length_of games.0 _ _ first_rights) (rights_apart g canonical_first)
           (rights_apart h canonical_second))
 
 -- ---- a negative
@@ -216,8 +213,7 @@ module _ (gs : List Game) (walk : Walk) (games : List Game) (is : IsWalk gs walk
 
     pub negated_right_apart : (m : ℕ) → m ≡ length (lefts_of walk.options.items f) → NoneComparableByTerm m (games_of gs right)
     negated_right_apart m e =
-        let P : List Game → Type 0 = λ z. NoneComparableByTerm m z in
-        subst P (sym right_stands.1) (negative_apart _ m (e ∙ length_of games _ _ own_lefts) (lefts_apart f_at own_canonical))
+        rw right_stands.1 (negative_apart _ m (e ∙ length_of games _ _ own_lefts) (lefts_apart f_at own_canonical))
 
 -- ---- as they were gathered
 

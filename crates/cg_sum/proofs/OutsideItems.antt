@@ -29,8 +29,7 @@ number_refused : (fault : ValueFault) (share before after : ℕ) (g : Game) (ext
 number_refused Memory share before after g extra n w = tt
 number_refused Range share before after g extra n w =
     let (r, e) = outside_refused Range share before after w in
-    let P : ℕ → Type 0 = λ z. WasRefused Range share before (made g extra ∷ []) z in
-    subst P (sym e) (refused-one Range share before (made g extra) [] n)
+    rw e (refused-one Range share before (made g extra) [] n)
 number_refused (Full t) share before after g extra n w = absurd ((outside_refused (Full t) share before after w).0)
 number_refused (Depth d) share before after g extra n w = absurd ((outside_refused (Depth d) share before after w).0)
 number_refused Positions share before after g extra n w = absurd ((outside_refused Positions share before after w).0)

@@ -81,11 +81,10 @@ module _ {R : Type 0} (w : State Meant (WorkRest R)) (a b : ℕ) (pair : NimberP
       → bit_xor pair.first pair.second < length m.handles.items → h ≡ get_or m.handles.items (bit_xor pair.first pair.second) h
       → StandsFor x h (can (sum (game_at w a) (game_at w b)))
   pair_game x m h holds within read =
-      let P : Game → Type 0 = λ z. StandsFor x h z in
       let i : ℕ = pair.first in
       let j : ℕ = pair.second in
-      subst P (sym (ap (λ z. can (sum z (game_at w b))) (stands_game w a (nimber_form i) is.first)
-      ∙ ap (λ z. can (sum (nimber_form i) z)) (stands_game w b (nimber_form j) is.second) ∙ can-nimber_sum i j))
+      rw (ap (λ z. can (sum z (game_at w b))) (stands_game w a (nimber_form i) is.first)
+      ∙ ap (λ z. can (sum (nimber_form i) z)) (stands_game w b (nimber_form j) is.second) ∙ can-nimber_sum i j)
       (first_stands x m.handles.items (bit_xor i j) h holds.first within read)
 
 -- ---- the games were read before

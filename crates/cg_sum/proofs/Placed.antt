@@ -31,13 +31,13 @@ ready_later gs hs b terms games row column table ready = record {
 }
 
 pub at_as : (gs : List Game) (i : ℕ) (g h : Game) → g ≡ h → IsAt gs i g → IsAt gs i h
-at_as gs i g h e a = let P : Game → Type 0 = λ z. IsAt gs i z in subst P e a
+at_as gs i g h e a = rw (← e) a
 
 pub some_at : (gs : List Game) (o : Option ℕ) (i : ℕ) (g : Game) → o ≡ Some i → IfSome o (λ k. IsAt gs k g) → IsAt gs i g
 some_at gs o i g e a = let P : Option ℕ → Type 0 = λ z. IfSome z (λ k. IsAt gs k g) in subst P e a
 
 pub begins_as : (fs gs hs : List Game) → gs ≡ fs → Begins gs hs → Begins fs hs
-begins_as fs gs hs e b = let P : List Game → Type 0 = λ z. Begins z hs in subst P e b
+begins_as fs gs hs e b = rw (← e) b
 
 module _ (gs : List Game) (terms : Terms) (games : List Game × List Game) (row column : ℕ)
     (placed : ArePlaced gs terms games row column) (f k : Position) (isf : f ≡ get_or terms.firsts.positions.items row f)
@@ -96,7 +96,7 @@ module _ (gs : List Game) (terms : Terms) (games : List Game × List Game) (row 
   second_is x e = sym second_at.is ∙ e
 
   is_number : (z : Game) (x : Number) → z ≡ number x → IsNumber z
-  is_number z x e = let P : Game → Type 0 = λ y. IsNumber y in subst P (sym e) tt
+  is_number z x e = rw e tt
 
   pub one_first : f.is_number ≡ true → IsNumber g ⊎ IsNumber h
   one_first e = let (x, is) = first_number e in inl (is_number g x (first_is x is))

@@ -48,37 +48,31 @@ pub limit_refused : (fault : ValueFault) (share spent after limit count : ℕ) (
     → (fault ≡ Memory) ⊎ ((fault ≡ Positions) × (limit < count))
     → WasRefused fault share spent (within_limit limit count items) after
 limit_refused fault share spent after limit count items e (inl memory) =
-    let P : ValueFault → Type 0 = λ z. WasRefused z share spent (within_limit limit count items) after in
-    subst P (sym memory) tt
+    rw memory tt
 limit_refused fault share spent after limit count items e (inr (positions, above)) =
-    let P : ValueFault → Type 0 = λ z. WasRefused z share spent (within_limit limit count items) after in
-    let Q : List Item → Type 0 = λ z. WasRefused Positions share spent z after in
-    let V : ℕ → Type 0 = λ n. WasRefused Positions share spent (too_many ∷ []) n in
-    subst P (sym positions) (subst Q (sym (too_long limit count items above))
-    (subst V (sym e) (refused-one Positions share spent too_many [] tt)))
+    rw positions (rw (too_long limit count items above)
+    (rw e (refused-one Positions share spent too_many [] tt)))
 
 pub err_refused : {T : Type 0} (q : Result T ValueFault) (fault : ValueFault) (share spent after : ℕ) (items : List Item)
     → q ≡ Err fault → WasRefused fault share spent items after → IfErr q (λ f. WasRefused f share spent items after)
 err_refused q fault share spent after items e r =
-    let P : Result _ ValueFault → Type 0 = λ z. IfErr z (λ f. WasRefused f share spent items after) in subst P (sym e) r
+    rw e r
 
 -- a refusal of the own list, before anything of it was made
 pub refused_items : {R T : Type 0} (w v : State Meant (WorkRest R)) (items : List Item) (q : Result T ValueFault)
     (fault : ValueFault) → q ≡ Err fault → WasRefused fault w.rest.share w.rest.spent items v.rest.spent → Keeps w v
     → ItemsMade w v items q
 refused_items w v items q fault e r k =
-    let P : Result _ ValueFault → Type 0 = λ z. ItemsMade w v items z in
-    subst P (sym e) (record { charged = tt; refused = r; keeps = k })
+    rw e (record { charged = tt; refused = r; keeps = k })
 
 pub gives_refused : {R : Type 0} (w v : State Meant (WorkRest R)) (items : List Item) (g : Game) (q : Result ℕ ValueFault)
     (fault : ValueFault) → q ≡ Err fault → ItemsMade w v items q → w.spare ≤ v.spare → Gives w v items g q
 gives_refused w v items g q fault e m more =
-    let P : Result ℕ ValueFault → Type 0 = λ z. IfOk z (λ h. StandsFor v h g) in
-    record { game = subst P (sym e) tt; made = m; more = more }
+    record { game = rw e tt; made = m; more = more }
 
 pub gives_as : {R : Type 0} (w v : State Meant (WorkRest R)) (items : List Item) (g : Game) (r q : Result ℕ ValueFault) → q ≡ r
     → Gives w v items g r → Gives w v items g q
-gives_as w v items g r q e given = let P : Result ℕ ValueFault → Type 0 = λ z. Gives w v items g z in subst P (sym e) given
+gives_as w v items g r q e given = rw e given
 
 -- the same refusal of the same items, as another result
 pub same_refusal : {R T U : Type 0} (w v : State Meant (WorkRest R)) (items : List Item) (r : Result T ValueFault)
@@ -144,7 +138,7 @@ module _ {R : Type 0} (w v x : State Meant (WorkRest R)) (a b : ℕ) (games : Li
   some_first = let P : List Game → Type 0 = λ z. 1 ≤ length z in subst P (sym firsts) (some_position (game_at w a))
 
   some_second : 1 ≤ length games.1
-  some_second = let P : List Game → Type 0 = λ z. 1 ≤ length z in subst P (sym seconds) (some_position (game_at w b))
+  some_second = rw seconds (some_position (game_at w b))
 
   last_place : length games.0 * length games.1 - 1 ≡ (length games.0 - 1) * length games.1 + (length games.1 - 1)
   last_place = below (length games.0) (length games.1) some_first some_second
@@ -176,12 +170,11 @@ pub last_at : (gs : List Game) (form : ℕ → Game) (n : ℕ) (table : List ℕ
     → form (n - 1) ≡ g → (k i : ℕ) → k + 1 ≡ length table → i ≡ get_or table k i → IsAt gs i g
 last_at gs form n table h some g e k i last read =
     let c = h.count in
-    let P : ℕ → Type 0 = λ z. IsAt gs z g in
-    subst P (sym (read ∙ get_or_default_zero table k i (omega (arith, last))))
+    rw (read ∙ get_or_default_zero table k i (omega (arith, last)))
     (at_place gs form n table h (n - 1) k g (omega (arith, c, last, some)) (omega (arith, some)) e)
 
 pub stands_as : {R : Type 0} (s : State Meant R) (h : ℕ) (g k : Game) → g ≡ k → StandsFor s h g → StandsFor s h k
-stands_as s h g k e st = let P : Game → Type 0 = λ z. StandsFor s h z in subst P e st
+stands_as s h g k e st = rw (← e) st
 
 -- ---- the end of a negative
 
@@ -196,7 +189,7 @@ module _ {R : Type 0} (w v x : State Meant (WorkRest R)) (a : ℕ) (games : List
       (ap minus_items is ∙ sym (all_within w.rest.limit (length fs) (minus_items fs) within)) m)
 
   pub some_negative : 1 ≤ length games
-  some_negative = let P : List Game → Type 0 = λ z. 1 ≤ length z in subst P (sym is) (some_position (game_at w a))
+  some_negative = rw is (some_position (game_at w a))
 
   -- the last place of the table is that of the negative of the game
   pub last_negative : negative_at_place games (length games - 1) ≡ can (negative (game_at w a))
@@ -207,10 +200,7 @@ module _ {R : Type 0} (w v x : State Meant (WorkRest R)) (a : ℕ) (games : List
 
 product_above : (a b c d l k : ℕ) → a ≡ c → b ≡ d → l ≡ k → l < a * b → k < c * d
 product_above a b c d l k e f h above =
-    let P : ℕ → Type 0 = λ z. l < z * b in
-    let Q : ℕ → Type 0 = λ z. l < c * z in
-    let V : ℕ → Type 0 = λ z. z < c * d in
-    subst V h (subst Q f (subst P e above))
+    rw (← h) (rw (← f) (rw (← e) above))
 
 product_within : (a b c d l k : ℕ) → a ≡ c → b ≡ d → l ≡ k → ¬ (l < a * b) → c * d ≤ k
 product_within a b c d l k e f h within =
@@ -234,9 +224,7 @@ module _ {R : Type 0} (w v : State Meant (WorkRest R)) (n : ℕ) (wv : Spends n 
       → (fault ≡ Memory) ⊎ ((fault ≡ Positions) × (w.rest.limit < length (positions_of (game_at w b))))
   refusal_before b fault g (inl e) = inl e
   refusal_before b fault g (inr (e, above)) =
-      let P : ℕ → Type 0 = λ z. z < length (positions_of (game_at v b)) in
-      let Q : List Game → Type 0 = λ z. w.rest.limit < length z in
-      inr (e, subst Q (positions_before b g) (subst P same_limit above))
+      inr (e, rw (← (positions_before b g)) (rw (← same_limit) above))
 
 -- ---- both games were walked
 

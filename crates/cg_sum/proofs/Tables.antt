@@ -1,5 +1,5 @@
 -- A table of forms, to which one is added after another.
-use Rattle.std.proofs.Common.{◌≡◌, ℕ, suc, ◌+◌, ◌*◌, ◌%◌, ◌<◌, ◌≤◌, arith, refl, ap, sym, ◌∙◌, subst, List, [], ◌∷◌, ◌++◌, length, map, inl, inr}
+use Rattle.std.proofs.Common.{◌≡◌, ℕ, suc, ◌+◌, ◌*◌, ◌%◌, ◌<◌, ◌≤◌, arith, refl, ap, sym, ◌∙◌, List, [], ◌∷◌, ◌++◌, length, map, inl, inr}
 use Rattle.std.specs.Prelude.{slice_index}
 use Rattle.std.proofs.Math.Nat.{mul-add-mod_self_right, mul-le-mul_right, mod-eq_of_lt}
 use Rattle.std.proofs.lemmas.Bool.{cases_lt}
@@ -25,19 +25,15 @@ module _ (form : ℕ → Game) where
   pub holds_more : (gs : List Game) (n i k : ℕ) (table more : List ℕ) → HoldsForms gs form n table → IsAt gs i (form n)
       → more ≡ table ++ (i ∷ []) → k ≡ n + 1 → HoldsForms gs form k more
   holds_more gs n i k table more h at e next =
-      let P : List ℕ → Type 0 = λ z. HoldsForms gs form k z in
-      subst P (sym e) (record {
+      rw e (record {
         count = length_push table i ∙ ap (λ z. z + 1) h.count ∙ sym next;
         each = λ m l. elim (cases_lt m n) [
           | inl before ↦
-              let Q : ℕ → Type 0 = λ z. IsAt gs z (form m) in
               let c = h.count in
-              subst Q (sym (get_or_append_left table (i ∷ []) 0 m (omega arith))) (h.each m before)
+              rw (get_or_append_left table (i ∷ []) 0 m (omega arith)) (h.each m before)
           | inr not_before ↦
               let same : n ≡ m = omega arith in
-              let Q : ℕ → Type 0 = λ z. IsAt gs z (form m) in
-              let V : ℕ → Type 0 = λ z. IsAt gs i (form z) in
-              subst Q (sym (get_or_push table i 0 m (h.count ∙ same))) (subst V same at)
+              rw (get_or_push table i 0 m (h.count ∙ same)) (rw (← same) at)
         ];
       })
 
@@ -73,6 +69,4 @@ sum_placed games p q l =
 pub at_place : (gs : List Game) (form : ℕ → Game) (n : ℕ) (table : List ℕ) → HoldsForms gs form n table → (m k : ℕ) (g : Game)
     → k ≡ m → m < n → form m ≡ g → IsAt gs (slice_index table k) g
 at_place gs form n table h m k g e l f =
-    let P : ℕ → Type 0 = λ z. IsAt gs (slice_index table z) g in
-    let Q : Game → Type 0 = λ z. IsAt gs (slice_index table m) z in
-    subst P (sym e) (subst Q f (h.each m l))
+    rw e (rw (← f) (h.each m l))

@@ -27,7 +27,7 @@ walk_later gs hs b w fs is = record {
 }
 
 pub walk_as : (gs : List Game) (w : Walk) (fs hs : List Game) → fs ≡ hs → IsWalk gs w fs → IsWalk gs w hs
-walk_as gs w fs hs e is = let P : List Game → Type 0 = λ z. IsWalk gs w z in subst P e is
+walk_as gs w fs hs e is = rw (← e) is
 
 -- ---- a game by its number or its lists
 
@@ -38,7 +38,7 @@ pub node_rights : (g : Game) (ls rs : List Game) → g ≡ node ls rs → rs ≡
 node_rights g ls rs e = sym (ap written_rights e ∙ rights-node ls rs)
 
 is_node : (g : Game) (ls rs : List Game) → g ≡ node ls rs → IsNode g
-is_node g ls rs e = let P : Game → Type 0 = λ z. IsNode z in subst P (sym e) tt
+is_node g ls rs e = rw e tt
 
 -- no places
 no_range : (xs : List ℕ) (a b : ℕ) → b ≤ a → slice_range xs a b ≡ []
@@ -72,8 +72,7 @@ module _ (gs : List Game) (w : Walk) (fs : List Game) (is : IsWalk gs w fs) wher
         let ps = indexes_of w.positions.items in
         let l : i < length ps = (let n = length-map w.positions.items (λ p. p.index) in let h = inside in omega arith) in
         let own : get_or ps i 0 ≡ p.index = get_or-map (λ p. p.index) w.positions.items i p 0 inside ∙ ap (λ z. z.index) (sym read) in
-        let P : ℕ → Type 0 = λ z. IsAt gs z (game_of fs i) in
-        subst P own (record {
+        rw (← own) (record {
           within = All-get_or (λ z. IsPage gs z) ps i 0 l is.at.0;
           is = sym (get_or-map (game_of gs) ps i 0 (node [] []) l) ∙ ap (λ z. game_of z i) is.at.1;
         })

@@ -56,7 +56,7 @@ some_positions g fs e =
 -- ---- a position that was walked
 
 pub node_of : (g : Game) (ls rs : List Game) → g ≡ node ls rs → IsNode g
-node_of g ls rs e = let P : Game → Type 0 = λ z. IsNode z in subst P (sym e) tt
+node_of g ls rs e = rw e tt
 
 module _ (gs : List Game) (w : Walk) (is : IsWalk gs w (walked gs w)) where
   abbrev fs : List Game
@@ -80,8 +80,7 @@ module _ (gs : List Game) (w : Walk) (is : IsWalk gs w (walked gs w)) where
         let ps = indexes_of w.positions.items in
         let l : i < length ps = (let n = length-map w.positions.items (λ p. p.index) in let h = inside in omega arith) in
         let own : get_or ps i 0 ≡ p.index = get_or-map (λ p. p.index) w.positions.items i p 0 inside ∙ ap (λ z. z.index) (sym read) in
-        let P : ℕ → Type 0 = λ z. IsAt gs z (game_of fs i) in
-        subst P own (record {
+        rw (← own) (record {
           within = All-get_or (λ z. IsPage gs z) ps i 0 l is.at.0;
           is = sym (get_or-map (game_of gs) ps i 0 (node [] []) l);
         })
@@ -114,14 +113,12 @@ charts_none fs cs e = record { each = λ i c l is. absurd (let n = ap length e i
 
 pub charts_more : (fs : List Game) (cs ds : List Chart) (c : Chart) → AreCharts fs cs → Charted (game_of fs (length cs)) c
     → ds ≡ cs ++ (c ∷ []) → AreCharts fs ds
-charts_more fs cs ds c h k e = let P : List Chart → Type 0 = λ z. AreCharts fs z in subst P (sym e) (record {
+charts_more fs cs ds c h k e = rw e (record {
   each = λ i d l is. elim (before i l) [
     | inl b ↦ h.each i d b (is ∙ get_or-append cs (c ∷ []) d i b)
     | inr n ↦
         let own : c ≡ d = sym (is ∙ ap (λ z. get_or (cs ++ (c ∷ [])) z d) n ∙ get_or-append_seam cs c [] d) in
-        let Q : Chart → Type 0 = λ z. Charted (game_of fs i) z in
-        let R : ℕ → Type 0 = λ z. Charted (game_of fs z) c in
-        subst Q own (subst R (sym n) k)
+        rw (← own) (rw n k)
   ];
 })
   where
@@ -134,7 +131,7 @@ charts_more fs cs ds c h k e = let P : List Chart → Type 0 = λ z. AreCharts f
 -- ---- the charts of all positions
 
 pub walk_is : (gs : List Game) (w : Walk) (ps : List Game) → IsWalk gs w ps → IsWalk gs w (walked gs w)
-walk_is gs w ps is = let P : List Game → Type 0 = λ z. IsWalk gs w z in subst P (sym is.at.1) is
+walk_is gs w ps is = rw is.at.1 is
 
 module _ (g : Game) (fs : List Game) (cs : List Chart) (is : fs ≡ positions_of g) (charts : AreCharts fs cs)
     (count : length cs ≡ length fs) where

@@ -37,29 +37,20 @@ line_from-on : (s : ℕ) (front : List Mark) (c : Corner) (ds : List Corner) (t 
     → OnLine (front ++ (mark_at s c ∷ marks_at s ds)) t (line_from s (units s c.value) (units s c.at) ds t)
 line_from-on s front c [] t h r = on-since front (mark_at s c) [] t h tt
 line_from-on s front c (d ∷ ds) t h r = elim (le_tells (units s d.at) t) [
-  | inl p ↦ (let P : List Mark → Type 0 = λ z. OnLine z t (line_from s (units s d.value) (units s d.at) ds t) in
-      let Q : Bool → Type 0 = λ b. OnLine (front ++ (mark_at s c ∷ marks_at s (d ∷ ds))) t (if b then line_from s (units s d.value) (units s d.at) ds t
-      else further (units s c.value) (units s d.value) (t -ℤ units s c.at)) in
-      subst Q (sym p.0) (subst P (append_assoc front (mark_at s c ∷ []) (mark_at s d ∷ marks_at s ds))
+  | inl p ↦ (rw p.0 (rw (← (append_assoc front (mark_at s c ∷ []) (mark_at s d ∷ marks_at s ds)))
       (line_from-on s (front ++ (mark_at s c ∷ [])) d ds t p.1 r.1)))
-  | inr p ↦ (let Q : Bool → Type 0 = λ b. OnLine (front ++ (mark_at s c ∷ marks_at s (d ∷ ds))) t (if b then line_from s (units s d.value) (units s d.at) ds t
-      else further (units s c.value) (units s d.value) (t -ℤ units s c.at)) in
-      let lt = p.1 in
+  | inr p ↦ (let lt = p.1 in
       let le : t ≤ℤ units s d.at = omega (arith, ints) in
-      subst Q (sym p.0) (on-since front (mark_at s c) (marks_at s (d ∷ ds)) t h (lt, after-rise t (units s d.at) (marks_at s ds) le r.1)))
+      rw p.0 (on-since front (mark_at s c) (marks_at s (d ∷ ds)) t h (lt, after-rise t (units s d.at) (marks_at s ds) le r.1)))
 ]
 
 line_at-on : (s : ℕ) (cs : List Corner) (t : ℤ) → ¬ (cs ≡ []) → TimesRise (marks_at s cs) → OnLine (marks_at s cs) t (line_at s cs t)
 line_at-on s [] t some r = absurd (some refl)
 line_at-on s (c ∷ cs) t some r = elim (le_tells (units s c.at) t) [
-  | inl p ↦ (let Q : Bool → Type 0 = λ b. OnLine (marks_at s (c ∷ cs)) t (if b then line_from s (units s c.value) (units s c.at) cs t
-      else further (units s c.value) (units s c.value) (t -ℤ units s c.at)) in
-      subst Q (sym p.0) (line_from-on s [] c cs t p.1 r))
-  | inr p ↦ (let Q : Bool → Type 0 = λ b. OnLine (marks_at s (c ∷ cs)) t (if b then line_from s (units s c.value) (units s c.at) cs t
-      else further (units s c.value) (units s c.value) (t -ℤ units s c.at)) in
-      let lt = p.1 in
+  | inl p ↦ (rw p.0 (line_from-on s [] c cs t p.1 r))
+  | inr p ↦ (let lt = p.1 in
       let le : t ≤ℤ units s c.at = omega (arith, ints) in
-      subst Q (sym p.0) (before_all (mark_at s c) (marks_at s cs) refl (lt, after-rise t (units s c.at) (marks_at s cs) le r)
+      rw p.0 (before_all (mark_at s c) (marks_at s cs) refl (lt, after-rise t (units s c.at) (marks_at s cs) le r)
       (further-none (units s c.value) (units s c.value) (t -ℤ units s c.at) refl)))
 ]
 
@@ -132,7 +123,7 @@ wall-last cs i v f t w h k = ap (λ z. line_from places v f z t) (sym (none cs i
     none (c ∷ cs) (suc i) h = none cs i (omega arith)
 
 pub small_along : (n m : ℤ) → n ≡ m → unsigned_abs m < 2 ^ 126 → unsigned_abs n < 2 ^ 126
-small_along n m e h = let P : ℤ → Type 0 = λ z. unsigned_abs z < 2 ^ 126 in subst P (sym e) h
+small_along n m e h = rw e h
 
 pub diff_word : (a b : ℤ) → unsigned_abs a < 2 ^ 126 → unsigned_abs b < 2 ^ 126 → to_z w128 (of_z w128 (a -ℤ b)) ≡ a -ℤ b
 diff_word a b h k = to_z-of_z w128 (a -ℤ b) (fits_signed_from_abs w128 (a -ℤ b) (let d = size a b in omega arith))
@@ -142,5 +133,4 @@ diff_word a b h k = to_z-of_z w128 (a -ℤ b) (fits_signed_from_abs w128 (a -ℤ
 
 pub wide_along : (x : Number) (m n : ℤ) → x ≡ ratio m places → m ≡ n → unsigned_abs n < 2 ^ 126 → InWide x
 wide_along x m n e f h =
-    let P : Number → Type 0 = λ z. InWide z in
-    subst P (sym (e ∙ ap (λ z. ratio z places) f)) (word-wide n h)
+    rw (e ∙ ap (λ z. ratio z places) f) (word-wide n h)

@@ -1,5 +1,5 @@
 -- Each game has one thermograph, and whether some position needs too many binary places is decided.
-use Rattle.std.proofs.Common.{◌≡◌, refl, ap, sym, ◌∙◌, subst, ℕ, ◌<◌, ◌≤◌, ◌⊎◌, inl, inr, arith, List, [], ◌∷◌}
+use Rattle.std.proofs.Common.{◌≡◌, refl, ap, sym, ◌∙◌, ℕ, ◌<◌, ◌≤◌, ◌⊎◌, inl, inr, arith, List, [], ◌∷◌}
 use Rattle.cg_dyadic.specs.Number.{Number, exp_of}
 use Rattle.cg_dyadic.specs.Wide.{places}
 use Rattle.cg_form.specs.Game.{Among, Game}
@@ -55,8 +55,7 @@ enough-more : (p : Game) (ps : List Game) (h : Thermal p) → exp_of h.mean ≤ 
     → Enough (p ∷ ps)
 enough-more p ps h a b all q m t (inr k) is more = all q m t k is more
 enough-more p ps h a b all q m t (inl e) is more =
-    let P : Game → Type 0 = λ z. IsThermal z m t in
-    let s = one-thermal p m t h.mean h.temp (subst P e is) h.is in
+    let s = one-thermal p m t h.mean h.temp (rw (← e) is) h.is in
     let c = ap exp_of s.means in let d = ap exp_of s.temps in
     elim more [ inl j ↦ omega (arith, j, c, a) | inr j ↦ omega (arith, j, d, b) ]
 

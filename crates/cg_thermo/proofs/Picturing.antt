@@ -1,5 +1,5 @@
 -- What is drawn of a chart is the thermograph.
-use Rattle.std.proofs.Common.{◌≡◌, refl, ℕ, ◌<◌, ◌≤◌, arith, zero, suc, ◌⊎◌, inl, inr, ap, sym, ◌∙◌, subst, Bool, true, false, cond, List, [], ◌∷◌, map, length, get_or, unsigned_abs, ◌^◌, ℤ, pos, negsuc, neg_ℤ, ◌-ℤ◌, ◌≤ℤ◌}
+use Rattle.std.proofs.Common.{◌≡◌, refl, ℕ, ◌<◌, ◌≤◌, arith, zero, suc, ◌⊎◌, inl, inr, ap, sym, ◌∙◌, Bool, true, false, cond, List, [], ◌∷◌, map, length, get_or, unsigned_abs, ◌^◌, ℤ, pos, negsuc, neg_ℤ, ◌-ℤ◌, ◌≤ℤ◌}
 use Rattle.std.proofs.lemmas.Int.{ints}
 use Rattle.std.proofs.lemmas.Bool.Decides.{Decides-int_eq, Decides-like, same_from_decides}
 use Rattle.std.specs.Ordering.{int_eq}
@@ -76,8 +76,7 @@ small_abs n h k = let s = size n h k in omega arith
 pub value_small : (r : Rise) (t : ℕ) (v : ℤ) → IsWall r → v ≡ value_at r t → unsigned_abs (to_z w128 (of_z w128 v)) < 2 ^ 126
 value_small r t v w e =
     let n = (near r t).above in let l = w.low in let h = w.high t in
-    let P : ℤ → Type 0 = λ z. unsigned_abs z < 2 ^ 126 in
-    subst P (sym (word v (omega (arith, ints)) (omega (arith, ints)))) (small_abs v (omega (arith, ints)) (omega (arith, ints)))
+    rw (word v (omega (arith, ints)) (omega (arith, ints))) (small_abs v (omega (arith, ints)) (omega (arith, ints)))
 
 pub value_plain : (r : Rise) (t : ℕ) (v : ℤ) → IsWall r → v ≡ value_at r t → to_z w128 (of_z w128 v) ≡ value_at r t
 value_plain r t v w e =
@@ -174,9 +173,7 @@ thermal_by (options ls rs) c mean temp d k can m t =
     let g : Game = options ls rs in
     let never = canonical-node (options ls rs) can tt in
     let i = thermal-none places (options ls rs) c.end never k.smooth ((k.draws.mast number-decide).other never) in
-    let P : Number → Type 0 = λ z. IsThermal (options ls rs) z temp in
-    let Q : Number → Type 0 = λ z. IsThermal (options ls rs) (ratio (scaffold_of number-decide places (options ls rs) c.end).left places) z in
-    subst P (sym (m ∙ ap (λ n. ratio n places) (end-value (options ls rs) c k.draws never))) (subst Q (sym (t.other tt)) i)
+    rw (m ∙ ap (λ n. ratio n places) (end-value (options ls rs) c k.draws never)) (rw (t.other tt) i)
 
 pub is_thermograph : (g : Game) (c : Chart) (w : drawn.Walls) (temp : Number) → Charted g c → Canonical g → Pictured c w → w.temp ≡ temp
     → ((x : Number) → g ≡ number x → temp ≡ ratio (negsuc 0) (exp_of x)) → (IsNode g → temp ≡ ratio (pos c.end) places) → IsThermograph g w

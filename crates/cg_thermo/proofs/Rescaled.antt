@@ -59,24 +59,18 @@ on_back s cs t x w h g o = record {
 }
 
 on_later : (k s : ℕ) (cs : List Corner) (t x : Number) → OnLineAt s cs t x → OnLineAt (k + s) cs t x
-on_later zero s cs t x o = let P : ℕ → Type 0 = λ n. OnLineAt n cs t x in
-    let e : s ≡ 0 + s = omega arith in subst P e o
-on_later (suc k) s cs t x o = let P : ℕ → Type 0 = λ n. OnLineAt n cs t x in
-    let e : suc (k + s) ≡ suc k + s = omega arith in subst P e (on_next (k + s) cs t x (on_later k s cs t x o))
+on_later zero s cs t x o = let e : s ≡ 0 + s = omega arith in rw (← e) o
+on_later (suc k) s cs t x o = let e : suc (k + s) ≡ suc k + s = omega arith in rw (← e) (on_next (k + s) cs t x (on_later k s cs t x o))
 
 whole_later : (k s : ℕ) (cs : List Corner) → AllWhole s cs → AllWhole (k + s) cs
-whole_later zero s cs w = let P : ℕ → Type 0 = λ n. AllWhole n cs in
-    let e : s ≡ 0 + s = omega arith in subst P e w
-whole_later (suc k) s cs w = let P : ℕ → Type 0 = λ n. AllWhole n cs in
-    let e : suc (k + s) ≡ suc k + s = omega arith in subst P e (all_whole-next (k + s) cs (whole_later k s cs w))
+whole_later zero s cs w = let e : s ≡ 0 + s = omega arith in rw (← e) w
+whole_later (suc k) s cs w = let e : suc (k + s) ≡ suc k + s = omega arith in rw (← e) (all_whole-next (k + s) cs (whole_later k s cs w))
 
 on_earlier : (k s : ℕ) (cs : List Corner) (t x : Number) → AllWhole s cs → exp_of t ≤ s → exp_of x ≤ s → OnLineAt (k + s) cs t x
     → OnLineAt s cs t x
-on_earlier zero s cs t x w h g o = let P : ℕ → Type 0 = λ n. OnLineAt n cs t x in
-    let e : 0 + s ≡ s = omega arith in subst P e o
-on_earlier (suc k) s cs t x w h g o = let P : ℕ → Type 0 = λ n. OnLineAt n cs t x in
-    let e : suc k + s ≡ suc (k + s) = omega arith in
-    on_earlier k s cs t x w h g (on_back (k + s) cs t x (whole_later k s cs w) (omega arith) (omega arith) (subst P e o))
+on_earlier zero s cs t x w h g o = let e : 0 + s ≡ s = omega arith in rw (← e) o
+on_earlier (suc k) s cs t x w h g o = let e : suc k + s ≡ suc (k + s) = omega arith in
+    on_earlier k s cs t x w h g (on_back (k + s) cs t x (whole_later k s cs w) (omega arith) (omega arith) (rw (← e) o))
 
 -- what is so at one scale is so at each
 pub on_line : (r : ℕ) (cs : List Corner) (t x : Number) → AllWhole r cs → exp_of t ≤ r → exp_of x ≤ r
@@ -84,9 +78,8 @@ pub on_line : (r : ℕ) (cs : List Corner) (t x : Number) → AllWhole r cs → 
 on_line r cs t x w h g e = record {
   value = λ s v i j.
       (let o = on_later s r cs t x (record { whole = w; time = h; place = g; value = e }) in
-      let P : ℕ → Type 0 = λ n. OnLineAt n cs t x in
       let k : s + r ≡ r + s = omega arith in
-      (on_earlier r s cs t x v i j (subst P k o)).value);
+      (on_earlier r s cs t x v i j (rw (← k) o)).value);
 }
 
 -- ---- wall values
@@ -150,7 +143,6 @@ spots-along s ps cs e = spots-marks s ps ∙ ap (marks_at s) (sym e)
 pub on_spots : (s : ℕ) (ps : List Point) (cs : List Corner) (t x : Number) (u : ℕ) (v : ℤ) → cs ≡ map (spot s) ps
     → exp_of t ≤ s → exp_of x ≤ s → units s t ≡ pos u → IsOnLine cs t x → OnLine (marks ps) (pos u) v → units s x ≡ v
 on_spots s ps cs t x u v e h g i o l =
-    let P : List Corner → Type 0 = λ z. AllWhole s z in
     one-on (marks ps) (pos u) (units s x) v
     (on-along (marks_at s cs) (marks ps) (units s t) (pos u) (units s x) (units s x) (sym (spots-along s ps cs e)) i refl
-    (o.value s (subst P (sym e) (whole_spots s ps)) h g)) l
+    (o.value s (rw e (whole_spots s ps)) h g)) l

@@ -1,5 +1,5 @@
 -- Scaffolds that pass each other between two whole units meet at a whole unit of the next finer scale.
-use Rattle.std.proofs.Common.{◌≡◌, refl, ℕ, ◌+◌, ◌-◌, ◌<◌, arith, suc, ap, sym, ◌∙◌, subst, Bool, true, false, Result, Ok, Err, ℤ, pos, neg_ℤ, ◌-ℤ◌, ◌≤ℤ◌, unsigned_abs}
+use Rattle.std.proofs.Common.{◌≡◌, refl, ℕ, ◌+◌, ◌-◌, ◌<◌, arith, suc, ap, sym, ◌∙◌, Bool, true, false, Result, Ok, Err, ℤ, pos, neg_ℤ, ◌-ℤ◌, ◌≤ℤ◌, unsigned_abs}
 use Rattle.std.proofs.lemmas.Int.{ints}
 use Rattle.std.specs.Prelude.{IfOk, if◌then◌else◌}
 use Rattle.cg_dyadic.specs.Number.{InRange, Number, between, exp_of, half, is_even, ratio}
@@ -63,8 +63,7 @@ module _ (s : ℕ) (g : Game) (p q : Rise) (k : Tops s g p q) (j : Jumps p q) wh
             let l = finer.even_left j.at in let r = finer.even_right j.at in
             let c = cool-next s g k.lefts_smooth k.rights_smooth start in
             let w : u + (twice j.at - u) ≡ twice j.at = omega arith in
-            let P : ℕ → Type 0 = λ v. Later (h u) (h v) in
-            let m = subst P w (later h c (twice j.at - u) u) in
+            let m = rw w at (later h c (twice j.at - u) u) in
             let ml = m.left in let mr = m.right in
             absurd (omega (arith, ints)));
       }

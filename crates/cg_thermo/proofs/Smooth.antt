@@ -1,5 +1,5 @@
 -- Scales at which the scaffolds of a game and of its positions meet at whole units.
-use Rattle.std.proofs.Common.{◌≡◌, ℕ, ◌+◌, ◌<◌, ◌≤◌, arith, zero, suc, inl, inr, ap, sym, ◌∙◌, subst, ◌+ℤ◌, ◌≤ℤ◌}
+use Rattle.std.proofs.Common.{◌≡◌, ℕ, ◌+◌, ◌<◌, ◌≤◌, arith, zero, suc, inl, inr, ap, sym, ◌∙◌, ◌+ℤ◌, ◌≤ℤ◌}
 use Rattle.std.proofs.lemmas.Int.{ints}
 use Rattle.cg_dyadic.specs.Units.{units}
 use Rattle.cg_dyadic.proofs.Scale.{units-suc}
@@ -89,11 +89,10 @@ start-down : (m s : ℕ) (g : Game) → ((a : Game) → Among a (lefts g) → Sm
     → (scaffold_of number-decide s g 0).right ≤ℤ (scaffold_of number-decide s g 0).left
 start-down zero s g l r h =
     let e : s + 0 ≡ s = omega arith in
-    let P : ℕ → Type 0 = λ z. (scaffold_of number-decide z g 0).right ≤ℤ (scaffold_of number-decide z g 0).left in subst P e h
+    rw (← e) h
 start-down (suc m) s g l r h =
     let e : s + suc m ≡ suc s + m = omega arith in
-    let P : ℕ → Type 0 = λ z. (scaffold_of number-decide z g 0).right ≤ℤ (scaffold_of number-decide z g 0).left in
-    let k = start-down m (suc s) g (λ a i. smooth-up s a (l a i)) (λ b i. smooth-up s b (r b i)) (subst P e h) in
+    let k = start-down m (suc s) g (λ a i. smooth-up s a (l a i)) (λ b i. smooth-up s b (r b i)) (rw (← e) h) in
     let n = scaffolds_finer s g (λ a i. smooth-finer s a (l a i)) (λ b i. smooth-finer s b (r b i)) in
     let a = n.even_left 0 in let b = n.even_right 0 in omega (arith, ints)
 

@@ -1,5 +1,5 @@
 -- The greatest of the sides of some games, one after the other.
-use Rattle.std.proofs.Common.{◌≡◌, refl, ℕ, zero, suc, ◌+◌, ◌<◌, ◌≤◌, arith, ap, sym, ◌∙◌, subst, Bool, true, false, All, if◌then◌else◌, List, [], ◌∷◌, ◌++◌, map, take, get_or, length, ℤ, neg_ℤ}
+use Rattle.std.proofs.Common.{◌≡◌, refl, ℕ, zero, suc, ◌+◌, ◌<◌, ◌≤◌, arith, ap, sym, ◌∙◌, Bool, true, false, All, if◌then◌else◌, List, [], ◌∷◌, ◌++◌, map, take, get_or, length, ℤ, neg_ℤ}
 use Rattle.std.proofs.lemmas.Int.{ints}
 use Rattle.std.proofs.lemmas.List.{get_or_default}
 use Rattle.std.specs.Int.{int_max}
@@ -40,7 +40,7 @@ greatest_more f (x ∷ (y ∷ ys)) g n =
 pub top-first : (fs : List Game) (right : Bool) (ps rest : List ℕ) (p : ℕ) (r : Rise) → ps ≡ p ∷ rest
     → ((d : Decides) (t : ℕ) → value_at r t ≡ side_value d right t (game_of fs p)) → IsTop right (games_of fs (take 1 ps)) r
 top-first fs right ps rest p r e v =
-    let P : List ℕ → Type 0 = λ z. IsTop right (games_of fs (take 1 z)) r in subst P (sym e) (λ _. v)
+    rw e (λ _. v)
 
 pub top-more : (fs : List Game) (right : Bool) (ps : List ℕ) (i p : ℕ) (r q : Rise) → 1 ≤ i → i < length ps → p ≡ get_or ps i p
     → ((d : Decides) (t : ℕ) → value_at q t ≡ int_max (value_at r t) (side_value d right t (game_of fs p)))
@@ -62,7 +62,7 @@ top-more fs right ps i p r q some lt e v top = λ _ d t.
 
 pub top-all : (fs : List Game) (right : Bool) (ps : List ℕ) (i : ℕ) (r : Rise) → length ps ≤ i → IsTop right (games_of fs (take i ps)) r
     → IsTop right (games_of fs ps) r
-top-all fs right ps i r h k = let P : List Game → Type 0 = λ z. IsTop right z r in subst P (games_take_all fs ps i h) k
+top-all fs right ps i r h k = rw (← (games_take_all fs ps i h)) k
 
 -- what stands behind the first
 pub read-behind : (xs ys : List ℕ) (x i h : ℕ) → xs ≡ x ∷ ys → h ≡ get_or ys i h → h ≡ get_or xs (i + 1) h
@@ -71,7 +71,7 @@ read-behind xs ys x i h e read =
     read ∙ sym (ap (λ z. get_or z (i + 1) h) e ∙ ap (λ k. get_or (x ∷ ys) k h) next)
 
 pub all_read : (xs : List ℕ) (i x n : ℕ) → All (λ p. p < n) xs → i < length xs → x ≡ get_or xs i x → x < n
-all_read xs i x n all l e = let P : ℕ → Type 0 = λ z. z < n in subst P (sym e) (all i x l)
+all_read xs i x n all l e = rw e (all i x l)
 
 -- ---- the sides of a chart
 
@@ -103,10 +103,9 @@ smooth_options : (fs : List Game) (cs : List Chart) (ps : List ℕ) → AreChart
     → (a : Game) → Among a (games_of fs ps) → Smooth places a
 smooth_options fs cs ps h within a m =
     let (p, k, e) = member_of fs ps a m in
-    let l : p < length cs = (let P : ℕ → Type 0 = λ z. z < length cs in subst P k.2 (within k.0 p k.1)) in
+    let l : p < length cs = (rw (← k.2) (within k.0 p k.1)) in
     let (c, is) = chart_there cs p l in
-    let P : Game → Type 0 = λ z. Smooth places z in
-    subst P (sym e) (h.each p c l is).smooth
+    rw e (h.each p c l is).smooth
 
 pub tops : (fs : List Game) (cs : List Chart) (g : Game) (ls rs : List ℕ) (p q : Rise) → Canonical g → IsNode g
     → lefts g ≡ games_of fs ls → rights g ≡ games_of fs rs → AreCharts fs cs

@@ -1,5 +1,5 @@
 -- What is said of a game at one scale holds at each finer one.
-use Rattle.std.proofs.Common.{◌≡◌, refl, ℕ, ◌+◌, ◌≤◌, arith, zero, suc, inl, inr, ap, sym, ◌∙◌, subst, List, pos, negsuc}
+use Rattle.std.proofs.Common.{◌≡◌, refl, ℕ, ◌+◌, ◌≤◌, arith, zero, suc, inl, inr, ap, sym, ◌∙◌, List, pos, negsuc}
 use Rattle.cg_dyadic.specs.Number.{Number, exp_of, ratio}
 use Rattle.cg_form.specs.Cooling.{Cool}
 use Rattle.cg_form.specs.Game.{Game, number}
@@ -82,13 +82,11 @@ corners-next s g end left right v = record {
 corners-up : (m s : ℕ) (g : Game) (end : ℕ) (left right : List Corner) → Seen s g end left right
     → (far : ℕ) × Seen (m + s) g far left right
 corners-up zero s g end left right v =
-    let P : ℕ → Type 0 = λ z. Seen z g end left right in
-    let e : s ≡ 0 + s = omega arith in (end, subst P e v)
+    let e : s ≡ 0 + s = omega arith in (end, rw (← e) v)
 corners-up (suc m) s g end left right v =
     let (far, w) = corners-up m s g end left right v in
-    let P : ℕ → Type 0 = λ z. Seen z g (twice far) left right in
     let e : suc (m + s) ≡ suc m + s = omega arith in
-    (twice far, subst P e (corners-next (m + s) g far left right w))
+    (twice far, rw (← e) (corners-next (m + s) g far left right w))
 
 -- at one scale, one end
 mast-one : (s : ℕ) (g : Game) (e f : ℕ) → Decided g → MastFrom number-decide s g e → MastFrom number-decide s g f → e ≡ f
@@ -102,9 +100,8 @@ pub corners-same : (s r : ℕ) (g : Game) (end t : ℕ) → Smooth s g → MastF
 corners-same s r g end t m k h j =
     let (x, a) = corners-up r s g end _ _ (record { smooth = m; mast = k; left_is = refl; right_is = refl }) in
     let (y, b) = corners-up s r g t _ _ (record { smooth = smooth-high r g h; mast = j; left_is = refl; right_is = refl }) in
-    let P : ℕ → Type 0 = λ z. Seen z g y (left_corners number-decide r g t) (right_corners number-decide r g t) in
     let e : s + r ≡ r + s = omega arith in
-    let c = subst P e b in
+    let c = rw e at b in
     let i = mast-one (r + s) g x y (number-decide g) a.mast c.mast in (
       sym a.left_is ∙ ap (left_corners number-decide (r + s) g) i ∙ c.left_is,
       sym a.right_is ∙ ap (right_corners number-decide (r + s) g) i ∙ c.right_is,

@@ -70,7 +70,7 @@ module _ {R : Type 0} (s : State Meant R) where
   game-other : (others : List ℕ) (i other : ℕ) → AreGames s others → i < length others → other ≡ get_or others i other
       → IsGame s other
   game-other [] i other all within read = absurd (omega arith)
-  game-other (k ∷ ks) zero other all within read = let P : ℕ → Type 0 = λ z. IsGame s z in subst P (sym read) all.0
+  game-other (k ∷ ks) zero other all within read = rw read all.0
   game-other (k ∷ ks) (suc i) other all within read = game-other ks i other all.1 (omega arith) read
 
 -- ---- while they are added
@@ -104,8 +104,7 @@ module _ {R : Type 0} (s : State Meant (WorkRest R)) (first : ℕ) (others : Lis
   adding_done t i sum_handle end so_far g hs st all =
       let n = stand-length s others (map can hs) all in
       let m = length-map hs can in
-      let P : List Game → Type 0 = λ z. AddedTo s t g z sum_handle in
-      let done = subst P (take_all i hs (omega (arith, n, m, end))) (so_far.adds g hs st all) in record {
+      let done = rw (take_all i hs (omega (arith, n, m, end))) at (so_far.adds g hs st all) in record {
         game = done.stands;
         made = record { charged = done.passed; refused = tt; keeps = so_far.keeps };
         more = so_far.more;
@@ -163,12 +162,9 @@ module _ {R : Type 0} (s : State Meant (WorkRest R)) (first : ℕ) (others : Lis
         added-more : (h : ℕ) → q ≡ Ok h → AddedTo s u g (take (i + 1) hs) h
         added-more h ok =
             let G : Result ℕ ValueFault → Type 0 = λ z. IfOk z (λ k. StandsFor u k (can (sum (game_at t sum_handle) (game_at t other)))) in
-            let F : Game → Type 0 = λ z. StandsFor u h z in
-            let L : List Item → Type 0 = λ z. AllPass s.rest.share s.rest.spent z u.rest.spent in
-            let T : List Game → Type 0 = λ z. AddedTo s u g z h in
-            subst T (sym (take_next hs i place.game place.within place.read)) (record {
-              stands = subst F (sum-is ∙ ap can (sym (added-append g (take i hs) (place.game ∷ [])))) (subst G ok gives.game);
-              passed = subst L (sym one_more) (passed s u both_items q h ok both_made);
+            rw (take_next hs i place.game place.within place.read) (record {
+              stands = rw (← (sum-is ∙ ap can (sym (added-append g (take i hs) (place.game ∷ []))))) (subst G ok gives.game);
+              passed = rw one_more (passed s u both_items q h ok both_made);
             })
 
         all_items : both_items ++ added_items s.rest.limit (sum before place.game) (drop (suc i) hs)
@@ -182,9 +178,8 @@ module _ {R : Type 0} (s : State Meant (WorkRest R)) (first : ℕ) (others : Lis
         pub adding_stopped : (v : Result ℕ ValueFault) (e : ValueFault) → q ≡ Err e → v ≡ Err e
             → Gives s u (added_items s.rest.limit g hs) (can (added g hs)) v
         adding_stopped v e a b =
-            let P : Result ℕ ValueFault → Type 0 = λ z. IfOk z (λ k. StandsFor u k (can (added g hs))) in
             let x = so_far.more in record {
-              game = subst P (sym b) tt;
+              game = rw b tt;
               made = made_as s u (both_items ++ added_items s.rest.limit (sum before place.game) (drop (suc i) hs))
                   (added_items s.rest.limit g hs) v all_items
                   (stopped s u both_items (added_items s.rest.limit (sum before place.game) (drop (suc i) hs)) q v e a b both_made);

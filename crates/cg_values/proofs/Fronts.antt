@@ -1,5 +1,5 @@
 -- Where an item is refused, each front of the parts all of whose items pass is noted.
-use Rattle.std.proofs.Common.{◌≡◌, ◌≢◌, ℕ, ◌+◌, ◌≤◌, ◌<◌, ◌⊎◌, inl, inr, List, [], ◌∷◌, ◌++◌, length, Result, Ok, Err, refl, ap, sym, subst, ◌∙◌, arith}
+use Rattle.std.proofs.Common.{◌≡◌, ◌≢◌, ℕ, ◌+◌, ◌≤◌, ◌<◌, ◌⊎◌, inl, inr, List, [], ◌∷◌, ◌++◌, length, Result, Ok, Err, refl, ap, sym, ◌∙◌, arith}
 use Rattle.std.specs.Prelude.{All, IfErr}
 use Rattle.std.proofs.lemmas.List.Elements.{All-cons, All-head, All-nil, All-tail}
 use Rattle.cg_cells.specs.Store.{State}
@@ -28,9 +28,8 @@ not_both Memory (made g extra) sum share p r = r
 pub verdict-apart : (fault : ValueFault) (share before : ℕ) (items : List Item) (a b : ℕ) → AllPass share before items a
     → IsStopped fault share before items b → ⊥
 verdict-apart fault share before items a b p s =
-    let Q : ℕ → Type 0 = λ n. IsRefusal fault s.item (n + item_cost s.item) share in
     not_both fault s.item (before + total s.front + item_cost s.item) share (p.each s.front s.item s.back s.split)
-    (subst Q s.passed.spent s.refused)
+    (rw (← s.passed.spent) s.refused)
 
 pub refused-apart : (fault : ValueFault) (share before : ℕ) (items : List Item) (a b : ℕ) → fault ≢ Memory → AllPass share before items a
     → WasRefused fault share before items b → ⊥
@@ -63,12 +62,12 @@ all-front P (x ∷ xs) ys all = All-cons P x xs (All-head P x (xs ++ ys) all) (a
 pub noted-front : {R : Type 0} (t : State Meant R) (r : GameRules) (ps front behind : List Grid) → ps ≡ front ++ behind
     → AreNoted t r ps → AreNoted t r front
 noted-front t r ps front behind e are = λ some.
-    let P : List Grid → Type 0 = λ z. All (IsNoted t r) z in all-front (IsNoted t r) front behind (subst P e (are some))
+    all-front (IsNoted t r) front behind (rw (← e) (are some))
 
 -- ---- what a call says of them
 
 pub if_err : {T : Type 0} (r : Result T ValueFault) (e : ValueFault) (P : ValueFault → Type 0) → r ≡ Err e → P e → IfErr r P
-if_err {T} r e P is p = let Q : Result T ValueFault → Type 0 = λ z. IfErr z P in subst Q (sym is) p
+if_err {T} r e P is p = rw is p
 
 pub if_err_any : {T : Type 0} (r : Result T ValueFault) (P : ValueFault → Type 0) → ((e : ValueFault) → P e) → IfErr r P
 if_err_any (Ok x) P p = tt

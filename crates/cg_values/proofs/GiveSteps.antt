@@ -40,8 +40,8 @@ module _ {R : Type 0} where
   pub gives_as : (s t : State Meant (WorkRest R)) (xs ys : List Item) (g h : Game) (r : Result ℕ ValueFault) → xs ≡ ys
       → can g ≡ can h → Gives s t xs (can g) r → Gives s t ys (can h) r
   gives_as s t xs ys g h r e f v =
-      let P : Game → Type 0 = λ z. IfOk r (λ k. StandsFor t k z) in record {
-        game = subst P f v.game;
+      record {
+        game = rw (← f) v.game;
         made = made_as s t xs ys r e v.made;
         more = v.more;
       }
@@ -62,8 +62,8 @@ module _ {R : Type 0} where
       (r : Result ℕ ValueFault) (e : ValueFault) → q ≡ Err e → r ≡ Err e → ItemsMade s t xs q → s.spare ≤ t.spare
       → Gives s t (xs ++ ys) (can g) r
   gives_stopped s t xs ys g q r e a b first more =
-      let P : Result ℕ ValueFault → Type 0 = λ z. IfOk z (λ k. StandsFor t k (can g)) in record {
-        game = subst P (sym b) tt;
+      record {
+        game = rw b tt;
         made = stopped s t xs ys q r e a b first;
         more = more;
       }
@@ -109,8 +109,7 @@ module _ {R : Type 0} where
       → Gives s t (sum_up_items s.rest.limit gs) (can (sum_up gs)) r
   up_some s t handles first others gs r is all add =
       let f = first-of s handles first others gs is all in
-      let P : List Game → Type 0 = λ z. Gives s t (sum_up_items s.rest.limit z) (can (sum_up z)) r in
-      subst P (sym f.split) (add f.game f.games f.stands f.others)
+      rw f.split (add f.game f.games f.stands f.others)
 
 -- ---- more parts than the limit, and want of memory
 
@@ -118,24 +117,20 @@ fault-refused : (fault : ValueFault) (share spent limit : ℕ) (r : GameRules) (
     → (fault ≡ Memory) ⊎ ((fault ≡ Positions) × (limit < length (parts_reach r p)))
     → WasRefused fault share spent (board_items limit r p) spent
 fault-refused fault share spent limit r p (inl memory) =
-    let P : ValueFault → Type 0 = λ z. WasRefused z share spent (board_items limit r p) spent in subst P (sym memory) tt
+    rw memory tt
 fault-refused fault share spent limit r p (inr (positions, above)) =
-    let P : ValueFault → Type 0 = λ z. WasRefused z share spent (board_items limit r p) spent in
-    let Q : List Item → Type 0 = λ z. WasRefused Positions share spent z spent in
-    subst P (sym positions) (subst Q (sym (items-many limit r p above)) (refused-one Positions share spent too_many [] tt))
+    rw positions (rw (items-many limit r p above) (refused-one Positions share spent too_many [] tt))
 
 pub board_refused : {R : Type 0} (s : State Meant (WorkRest R)) (r : GameRules) (p : Grid) (fault : ValueFault) (limit : ℕ)
     (result : Result ℕ ValueFault) → limit ≡ s.rest.limit → result ≡ Err fault
     → (fault ≡ Memory) ⊎ ((fault ≡ Positions) × (limit < length (parts_reach r p)))
     → Gives s s (board_items s.rest.limit r p) (can (raw r p)) result
 board_refused s r p fault limit result is e cause =
-    let P : Result ℕ ValueFault → Type 0 = λ z. Gives s s (board_items s.rest.limit r p) (can (raw r p)) z in
-    let Q : ℕ → Type 0 = λ z. (fault ≡ Memory) ⊎ ((fault ≡ Positions) × (z < length (parts_reach r p))) in
-    subst P (sym e) (record {
+    rw e (record {
       game = tt;
       made = record {
         charged = tt;
-        refused = fault-refused fault s.rest.share s.rest.spent s.rest.limit r p (subst Q is cause);
+        refused = fault-refused fault s.rest.share s.rest.spent s.rest.limit r p (rw (← is) cause);
         keeps = keeps_all s;
       };
       more = omega arith;
@@ -161,8 +156,7 @@ module _ {R X : Type 0} (s t : State Meant (WorkRest R)) (r : GameRules) (p : Gr
   pub board_gives : (u : State Meant (WorkRest R)) (x : X) → q ≡ Ok x → (v : Result ℕ ValueFault)
       → Gives t u (joins t.rest.limit r p) (can (raw r p)) v → Gives s u (board_items s.rest.limit r p) (can (raw r p)) v
   board_gives u x ok v last =
-      let N : ℕ → Type 0 = λ n. Gives t u (joins n r p) (can (raw r p)) v in
       gives_as s u (flat_map (part_items s.rest.limit r) ps ++ joins s.rest.limit r p) (board_items s.rest.limit r p)
       (raw r p) (raw r p) v items_are refl
       (gives_then s t u (flat_map (part_items s.rest.limit r) ps) (joins s.rest.limit r p) (raw r p) q x v ok first more
-      (subst N first.keeps.limit last))
+      (rw (← first.keeps.limit) last))

@@ -1,5 +1,5 @@
 -- Handles that stand for values, by places.
-use Rattle.std.proofs.Common.{◌≡◌, refl, ℕ, zero, suc, ◌≤◌, ◌<◌, arith, ap, sym, ◌∙◌, subst, List, [], ◌∷◌, ◌++◌, drop, get_or, length, take, Some}
+use Rattle.std.proofs.Common.{◌≡◌, refl, ℕ, zero, suc, ◌≤◌, ◌<◌, arith, ap, sym, ◌∙◌, List, [], ◌∷◌, ◌++◌, drop, get_or, length, take, Some}
 use Rattle.std.specs.Prelude.{slice_index}
 use Rattle.std.proofs.lemmas.List.{get_or_default, get_or-map, length-map}
 use Rattle.cg_cells.specs.Meaning.{Grows}
@@ -32,8 +32,7 @@ handle-read handles places i h below within read =
 pub handles-first : (handles places : List ℕ) (first h : ℕ) (others : List ℕ) → places ≡ first ∷ others
     → AreBelow (length handles) places → h ≡ get_or handles first h → handles_at handles places ≡ h ∷ handles_at handles others
 handles-first handles places first h others e below read =
-    let B : List ℕ → Type 0 = λ z. AreBelow (length handles) z in
-    let both = subst B e below in
+    let both = rw e at below in
     ap (handles_at handles) e
     ∙ ap (λ z. z ∷ handles_at handles others) (sym (read ∙ get_or_default handles first h 0 both.0))
 
@@ -98,8 +97,7 @@ module _ {R : Type 0} (s : State Meant R) (r : GameRules) where
   is-held [] handles n p at all = absurd at
   is-held (q ∷ before) [] n p at all = let e = all.1 in absurd (cc)
   is-held (q ∷ before) (h ∷ handles) zero p at all =
-      let P : Grid → Type 0 = λ z. StandsFor s h (can (raw r z)) in
-      (omega arith, subst P at (stand-first s h handles (can (raw r q)) (values_of r before) all))
+      (omega arith, rw (← at) (stand-first s h handles (can (raw r q)) (values_of r before) all))
   is-held (q ∷ before) (h ∷ handles) (suc n) p at all =
       let rest = is-held before handles n p at (stand-rest s h handles (can (raw r q)) (values_of r before) all) in
       let l = rest.0 in (omega (arith, l), rest.1)
@@ -119,8 +117,7 @@ module _ {R : Type 0} (s : State Meant R) (r : GameRules) where
 
   pub hold-as : (hs ks ns ms : List ℕ) (ps : List Grid) → hs ≡ ks → ns ≡ ms → HoldAt s r ks ms ps → HoldAt s r hs ns ps
   hold-as hs ks ns ms ps e f all =
-      let H : List ℕ → Type 0 = λ z. HoldAt s r z ms ps in
-      let N : List ℕ → Type 0 = λ z. HoldAt s r hs z ps in subst N (sym f) (subst H (sym e) all)
+      rw f (rw e all)
 
   -- the first places hold the first boards, and the others the others
   pub record HeldApart (handles places : List ℕ) (qs rest : List Grid) (n : ℕ) : Type 0 where

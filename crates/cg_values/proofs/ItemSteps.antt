@@ -1,5 +1,5 @@
 -- Values of boards, found one after another.
-use Rattle.std.proofs.Common.{◌≡◌, ℕ, ◌*◌, ◌≤◌, true, List, ◌++◌, drop, length, map, take, ap, sym, ◌∙◌, subst, arith}
+use Rattle.std.proofs.Common.{◌≡◌, ℕ, ◌*◌, ◌≤◌, true, List, ◌++◌, drop, length, map, take, ap, sym, ◌∙◌, arith}
 use Rattle.std.proofs.lemmas.List.{length-map, map-append}
 use Rattle.cg_cells.specs.Meaning.{Grows}
 use Rattle.cg_cells.specs.Store.{State, thing_at}
@@ -48,13 +48,9 @@ module _ {R : Type 0} (s : State Meant R) (r : GameRules) (p : Grid) (opts : Opt
   options-split hs ls ks is first others =
       let lefts = values_of r (boards_after r Left p) in
       let rights = values_of r (boards_after r Right p) in
-      let V : List Game → Type 0 = λ z. StandFor s opts.handles.items z in
-      let H : List ℕ → Type 0 = λ z. StandFor s z (lefts ++ rights) in
-      let L : List ℕ → Type 0 = λ z. StandFor s z lefts in
-      let K : List ℕ → Type 0 = λ z. StandFor s z rights in
       let both = stand-split s hs lefts rights opts.lefts (are.lefts ∙ sym values-many)
-      (subst H (sym is) (subst V values-both are.values)) in
-      (subst L (sym first) both.0, subst K (sym others) both.1)
+      (rw is (rw (← values-both) are.values)) in
+      (rw first both.0, rw others both.1)
 
 -- the value of a board is made of those of its options
 pub value-options : {R : Type 0} (s : State Meant R) (r : GameRules) (lawful : IsLawful r) (p : Grid) (ls rs : List ℕ)
@@ -73,13 +69,12 @@ pub contents-fit : (p : Grid) (n rows columns : ℕ) (contents : List ℕ) → I
     → rows ≡ p.rows → columns ≡ p.columns → AreWritten (places p.symbols p.cells) contents
     → are_of_board n rows columns contents ≡ true
 contents-fit p n rows columns contents g row e f w =
-    let P : ℕ → Type 0 = λ z. are_contents (symbols n) z contents ≡ true in
     let size : p.rows * p.columns ≡ rows * columns = ap (λ z. z * p.columns) (sym e) ∙ ap (λ z. rows * z) (sym f) in
     let few : length p.symbols ≤ symbols n = omega (arith, row) in
-    let some : 1 ≤ rows * columns = (let Q : ℕ → Type 0 = λ z. 1 ≤ z in subst Q (g.size ∙ size) g.some) in
-    let within : rows * columns ≤ 64 = (let Q : ℕ → Type 0 = λ z. z ≤ 64 in subst Q (g.size ∙ size) g.few) in
+    let some : 1 ≤ rows * columns = (rw (← (g.size ∙ size)) g.some) in
+    let within : rows * columns ≤ 64 = (rw (← (g.size ∙ size)) g.few) in
     is-of_board n rows columns contents some within
-    (subst P size ((contents-written (symbols n) (p.rows * p.columns) contents (symbols-few n)).1 (record {
+    (rw (← size) ((contents-written (symbols n) (p.rows * p.columns) contents (symbols-few n)).1 (record {
       cells = places p.symbols p.cells;
       as_many = length-map p.cells _ ∙ g.size;
       symbols_only = places-below (symbols n) p.symbols p.cells few g.cells;

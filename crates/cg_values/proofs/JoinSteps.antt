@@ -82,9 +82,8 @@ pub record Joining {R : Type 0} (s t : State Meant (WorkRest R)) (r : GameRules)
 pub joining_begun : {R : Type 0} (s : State Meant (WorkRest R)) (r : GameRules) (p : Grid) (handles places options : List ℕ)
     → options ≡ [] → HoldAt s r handles places (flat_map (parts_of r) (followers r p)) → Joining s s r p handles 0 places options
 joining_begun s r p handles places options e held =
-    let P : List ℕ → Type 0 = λ z. StandFor s z [] in
     record {
-      values = subst P (sym e) (tt, refl);
+      values = rw e (tt, refl);
       passed = all_pass-none s.rest.share s.rest.spent;
       keeps = keeps_all s;
       more = omega arith;
@@ -103,8 +102,7 @@ module _ {R : Type 0} (s : State Meant (WorkRest R)) (r : GameRules) (lawful : I
     pub counted : Counted (parts_of r) (followers r p) i count
     counted =
         let n = counts-many in
-        let P : ℕ → Type 0 = λ z. Counted (parts_of r) (followers r p) i z in
-        subst P (sym (read ∙ ap (λ z. slice_index z i) are)) (counted-at (parts_of r) (followers r p) i (omega (arith, within, n)))
+        rw (read ∙ ap (λ z. slice_index z i) are) (counted-at (parts_of r) (followers r p) i (omega (arith, within, n)))
 
     abbrev pub q : Grid
     q = counted.board
@@ -125,7 +123,7 @@ module _ {R : Type 0} (s : State Meant (WorkRest R)) (r : GameRules) (lawful : I
 
       module _ (own : List ℕ) (is_own : own ≡ take count left) where
         pub own_held : HoldAt t r handles own (parts_of r q)
-        own_held = let P : List ℕ → Type 0 = λ z. HoldAt t r handles z (parts_of r q) in subst P (sym is_own) parts_apart.own
+        own_held = rw is_own parts_apart.own
 
         module _ (u : State Meant (WorkRest R)) (result : Result ℕ ValueFault)
             (sums : (gs : List Game) → StandFor t (handles_at handles own) (map can gs)
@@ -186,10 +184,9 @@ module _ {R : Type 0} (s : State Meant (WorkRest R)) (r : GameRules) (lawful : I
     all-taken = let n = counts-many in take_all i (followers r p) (omega (arith, n, end))
 
     pub joining_values : StandFor t options (values_of r (followers r p))
-    joining_values = let P : List Grid → Type 0 = λ z. StandFor t options (values_of r z) in subst P all-taken done.values
+    joining_values = rw (← all-taken) done.values
 
     pub joining_made : {X : Type 0} (u : State Meant (WorkRest R)) (v : Result X ValueFault)
         → ItemsMade t u (value_item r p ∷ []) v → ItemsMade s u (part_items s.rest.limit r p) v
     joining_made {X} u v item =
-        let L : List Grid → Type 0 = λ z. AllPass s.rest.share s.rest.spent (joins_of z) t.rest.spent in
-        made_then s t u (joins_of (followers r p)) (value_item r p ∷ []) v (subst L all-taken done.passed) done.keeps item
+        made_then s t u (joins_of (followers r p)) (value_item r p ∷ []) v (rw (← all-taken) done.passed) done.keeps item

@@ -32,13 +32,10 @@ module _ (r : GameRules) (parts : Grid → List Grid) (counts places : List ℕ)
   next-at before [] ns i p next all within read next_read = absurd (omega arith)
   next-at before (q ∷ ps) [] i p next all within read next_read = absurd all
   next-at before (q ∷ ps) (n ∷ ns) zero p next all within read next_read =
-      let P : Grid → Type 0 = λ z. IsNext r parts counts places (before ++ []) z next in
-      let N : Adjacency → Type 0 = λ z. IsNext r parts counts places (before ++ []) q z in
       let B : List Grid → Type 0 = λ z. IsNext r parts counts places z q n in
-      subst P (sym read) (subst N (sym next_read) (subst B (sym (append-nil before)) all.0))
+      rw read (rw next_read (subst B (sym (append-nil before)) all.0))
   next-at before (q ∷ ps) (n ∷ ns) (suc i) p next all within read next_read =
-      let B : List Grid → Type 0 = λ z. IsNext r parts counts places z p next in
-      subst B (append_assoc before (q ∷ []) (take i ps))
+      rw (← (append_assoc before (q ∷ []) (take i ps)))
       (next-at (before ++ (q ∷ [])) ps ns i p next all.1 (omega arith) read next_read)
 
 -- ---- whether the rules cut

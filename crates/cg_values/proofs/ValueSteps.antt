@@ -67,7 +67,7 @@ module _ {R : Type 0} (s : State Meant (WorkRest R)) (r : GameRules) (spare : �
       }
 
   are : AreNext r (parts_of r) counts places [] ps ns
-  are = let P : List Grid → Type 0 = λ z. AreNext r (parts_of r) counts places [] z ns in subst P (sym is) next_are
+  are = rw is next_are
 
   pub next-within : (i : ℕ) → i < length ps → i < length ns
   next-within i l = let n = next-size r (parts_of r) counts places [] ps ns are in omega (arith, l, n)
@@ -77,8 +77,7 @@ module _ {R : Type 0} (s : State Meant (WorkRest R)) (r : GameRules) (spare : �
     pub part-has : All (λ q. r.has q ≡ true) boards → r.has p ≡ true
     part-has all =
         let P : Grid → Type 0 = λ q. r.has q ≡ true in
-        let A : List Grid → Type 0 = λ z. All P z in
-        subst P (sym read) (All-get_or P ps i p within (subst A (sym is) all))
+        subst P (sym read) (All-get_or P ps i p within (rw is all))
 
     module _ (next : Adjacency) (next_read : next ≡ get_or ns i next) where
       pub part-next : IsNext r (parts_of r) counts places (take i ps) p next
@@ -128,8 +127,7 @@ module _ {R : Type 0} (s : State Meant (WorkRest R)) (r : GameRules) (spare : �
               let all : items_of front ≡ upto ++ items_of m.0 =
               ap items_of m.1 ∙ flat_map-append (part_items s.rest.limit r) (take i ps) (p ∷ m.0)
               ∙ sym (append_assoc (items_of (take i ps)) (part_items s.rest.limit r p) (items_of m.0)) in
-              let P : List Item → Type 0 = λ z. AllPass s.rest.share s.rest.spent z cost in
-              absurd (refused-apart e s.rest.share s.rest.spent (upto ++ items_of m.0) cost u.rest.spent other (subst P all passes)
+              absurd (refused-apart e s.rest.share s.rest.spent (upto ++ items_of m.0) cost u.rest.spent other (rw (← all) passes)
               (refused-front e s.rest.share s.rest.spent u.rest.spent upto (items_of m.0) refused))
 
       pub parts_more : (ks : List ℕ) (h : ℕ) (x : T) → q ≡ Ok x → StandsFor u h (can (raw r p)) → spare ≤ u.spare

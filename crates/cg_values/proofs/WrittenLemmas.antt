@@ -1,5 +1,5 @@
 -- Cells written in contents.
-use Rattle.std.proofs.Common.{◌≡◌, refl, ℕ, zero, suc, ◌+◌, ◌-◌, ◌<◌, ◌≤◌, ◌⊎◌, inl, inr, List, [], ◌∷◌, ◌++◌, length, append_assoc, ap, sym, ◌∙◌, subst, arith}
+use Rattle.std.proofs.Common.{◌≡◌, refl, ℕ, zero, suc, ◌+◌, ◌-◌, ◌<◌, ◌≤◌, ◌⊎◌, inl, inr, List, [], ◌∷◌, ◌++◌, length, append_assoc, ap, ◌∙◌, arith}
 use Rattle.std.proofs.lemmas.List.FromFn.{length-map-range_with_len}
 use Rattle.cg_moves.specs.declared.planes.Planes.{Planes}
 use Rattle.cg_nodes.specs.Boards.{AreWritten, content_of}
@@ -54,7 +54,5 @@ pub more_written : (w : Planes) (all pushed : List ℕ) (content start end size 
     → (end ≡ start + 16) ⊎ ((end ≡ size) × (end < start + 16)) → (more : List ℕ)
     → AreWritten (places_at w end (size - end)) more → AreWritten (places_at w 0 size) (pushed ++ more)
 more_written w all pushed content start end size so_far e is s within which more rest =
-    let P : List ℕ → Type 0 = λ z. AreWritten (places_at w 0 size) z in
-    let Q : ℕ → Type 0 = λ z. AreWritten (places_at w start (size - start)) (z ∷ more) in
-    subst P (sym (ap (λ z. z ++ more) e ∙ append_assoc all (content ∷ []) more))
-    (so_far (content ∷ more) (subst Q (sym is) (written_next w more start end size s within which rest)))
+    rw (ap (λ z. z ++ more) e ∙ append_assoc all (content ∷ []) more)
+    (so_far (content ∷ more) (rw is (written_next w more start end size s within which rest)))
