@@ -10,13 +10,13 @@ use Rattle.cg_nodes.specs.Meant.{Meant}
 use Rattle.cg_nodes.proofs.Members.{length_games}
 use Rattle.cg_nodes.proofs.Later.{are_games_later, games_later, listed_as, lists_later, spends_then}
 use Rattle.cg_canon.specs.declared.fault.ValueFault.TheVariants.{Depth, Full, Range}
-use Rattle.cg_book.specs.declared.profile.Profile.{Profile}
-use Rattle.cg_book.specs.declared.settling.NewForm.{NewForm}
-use Rattle.cg_book.specs.Settled.{IsNewForm}
+use Rattle.cg_arena.specs.declared.profile.Profile.{Profile}
+use Rattle.cg_arena.specs.declared.canonicalizing.NewForm.{NewForm}
+use Rattle.cg_arena.specs.Canonicalized.{IsNewForm}
 use Rattle.cg_canon.specs.Paid.{written}
 use Rattle.cg_canon.specs.Items.{AllPass, IsStopped, made}
 use Rattle.cg_canon.specs.NumberItems.{number_made}
-use Rattle.cg_book.specs.Profiles.{IsProfile}
+use Rattle.cg_arena.specs.Profiles.{IsProfile}
 use Rattle.cg_canon.proofs.ItemLaws.{all_pass-after, stopped-one}
 
 -- ---- one form
@@ -52,7 +52,7 @@ pub record TwoLists {R : Type 0} (s u : State Meant R) (ls rs : List ℕ) (o q :
   pub first : listed u o ≡ games_at s ls
   pub second : listed u q ≡ games_at s rs
 
--- s before the store is told of them, e after, t with the first, and u with both
+-- s before they are prefetched, e after, t with the first, and u with both
 pub two_lists : {R : Type 0} (n m : ℕ) (s e t u : State Meant R) (ls rs : List ℕ) (o q : Option ℕ) → AreGames s ls → AreGames s rs
     → Spends 0 s e → Spends n e t → Spends m t u → ListsAs t o (games_at e ls) → ListsAs u q (games_at t rs) → TwoLists s u ls rs o q
 two_lists n m s e t u ls rs o q a b x k l i j = record {

@@ -4,8 +4,8 @@ use Rattle.std.proofs.Math.Seq.{take-suc}
 use Rattle.std.proofs.lemmas.List.{length_push, take_all}
 use Rattle.cg_cells.specs.Store.{State}
 use Rattle.cg_form.specs.Game.{Game}
-use Rattle.cg_book.specs.Pages.{game_of, games_of}
-use Rattle.cg_book.proofs.Slices as arena
+use Rattle.cg_arena.specs.Arena.{game_of, games_of}
+use Rattle.cg_arena.proofs.Slices as arena
 use Rattle.cg_nodes.proofs.Later.{stands_game, stands_is_game}
 use Rattle.cg_nodes.specs.Games.{AreGames, IsGame, StandFor, StandsFor, game_at, games_at}
 use Rattle.cg_nodes.specs.Meant.{Meant}

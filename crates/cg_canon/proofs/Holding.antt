@@ -14,17 +14,17 @@ use Rattle.cg_canon.specs.Items.{AllPass}
 use Rattle.cg_canon.specs.SumItems.{sum_items}
 use Rattle.cg_nodes.specs.Meant.{Meant}
 use Rattle.cg_nodes.proofs.Later.{game_later, is_game_later, stands_later}
-use Rattle.cg_canon.specs.declared.held.Held.{Held}
+use Rattle.cg_canon.specs.declared.cache.Cache.{Cache}
 use Rattle.cg_canon.specs.declared.made.MadeForms.{MadeForms}
 use Rattle.cg_canon.specs.declared.memo.AddedSum.{AddedSum}
 use Rattle.cg_canon.specs.declared.memo.KnownSum.{KnownSum}
 use Rattle.cg_canon.specs.declared.memo.Memo.{Memo}
 use Rattle.cg_canon.specs.Added.{IsKnownSum}
-use Rattle.cg_canon.specs.Books.{BookHolds}
-use Rattle.cg_canon.specs.Held.{IsHeld, SumHolds, SumsHold, knowing}
+use Rattle.cg_canon.specs.Interners.{InternerHolds}
+use Rattle.cg_canon.specs.Cache.{CacheHolds, SumHolds, SumsHold, knowing}
 use Rattle.cg_canon.specs.MadeForms.{FormsHold}
 use Rattle.cg_canon.specs.Memos.{IsAdded, added_sum}
-use Rattle.cg_canon.proofs.Booking.{book_later}
+use Rattle.cg_canon.proofs.InternerSteps.{interner_later}
 use Rattle.cg_canon.proofs.FormTables.{forms_later, forms_none}
 use Rattle.cg_canon.specs.Works.{MeterHolds}
 
@@ -46,37 +46,37 @@ known_sum_later s t grows m h =
 -- ---- when the store has grown
 
 -- what a work has found out holds of a store that knows at least as much
-pub held_later : {R Q : Type 0} (s : State Meant R) (t : State Meant Q) (h : Held) → Grows (thing_at s) (thing_at t)
-    → IsHeld s h → IsHeld t h
-held_later s t h grows k = record {
-  book = book_later s t h.memo.book grows k.book;
+pub cache_later : {R Q : Type 0} (s : State Meant R) (t : State Meant Q) (h : Cache) → Grows (thing_at s) (thing_at t)
+    → CacheHolds s h → CacheHolds t h
+cache_later s t h grows k = record {
+  interner = interner_later s t h.memo.interner grows k.interner;
   sums = All-weaker (SumHolds s) (SumHolds t) (known_sum_later s t grows) h.memo.sums.items k.sums;
   forms = forms_later s t grows h.made k.forms;
 }
 
 -- and nothing more was charged
-pub work_later : {R : Type 0} (n : ℕ) (s t : State Meant R) (spent share start : ℕ) (h : Held)
-    → MeterHolds s spent share start × IsHeld s h → Spends n s t → start + n ≤ s.spare + spent
-    → MeterHolds t spent share start × IsHeld t h
+pub work_later : {R : Type 0} (n : ℕ) (s t : State Meant R) (spent share start : ℕ) (h : Cache)
+    → MeterHolds s spent share start × CacheHolds s h → Spends n s t → start + n ≤ s.spare + spent
+    → MeterHolds t spent share start × CacheHolds t h
 work_later n s t spent share start h w k room =
     let e = k.spare in
     let f = w.0.fallen in (
       record { within = w.0.within; room = w.0.room; small = w.0.small; fallen = omega arith; enough = omega arith },
-      held_later s t h k.known w.1,
+      cache_later s t h k.known w.1,
     )
 
 -- ---- what a work has found out
 
 -- that holds whatever is known
-pub held_anyhow : {R : Type 0} (s : State Meant R) (h : Held) → ((known : map.FinMap nat_cmp Meant) → IsHeld (knowing known) h)
-    → IsHeld s h
-held_anyhow s h f = held_later (knowing s.known) s h (λ i x e. e) (f s.known)
+pub cache_anyhow : {R : Type 0} (s : State Meant R) (h : Cache) → ((known : map.FinMap nat_cmp Meant) → CacheHolds (knowing known) h)
+    → CacheHolds s h
+cache_anyhow s h f = cache_later (knowing s.known) s h (λ i x e. e) (f s.known)
 
 -- of nothing
-pub held_nothing : {R : Type 0} (s : State Meant R) (h : Held) → BookHolds s h.memo.book → h.memo.sums.items ≡ []
-    → h.made.forms.items ≡ [] → IsHeld s h
-held_nothing s h b none empty = record {
-  book = b;
+pub cache_nothing : {R : Type 0} (s : State Meant R) (h : Cache) → InternerHolds s h.memo.interner → h.memo.sums.items ≡ []
+    → h.made.forms.items ≡ [] → CacheHolds s h
+cache_nothing s h b none empty = record {
+  interner = b;
   sums = All-same (SumHolds s) h.memo.sums.items [] none (All-nil (SumHolds s));
   forms = forms_none s h.made empty;
 }
@@ -86,21 +86,21 @@ pub sum_found : {R : Type 0} (s : State Meant R) (m : Memo) (a b : ℕ) (known :
     → IsKnownSum s a b known
 sum_found s m a b known k at = All-contains (SumHolds s) m.sums.items (added_sum a b known) k at
 
--- with another book and other sums
-pub held_memo : {R : Type 0} (s : State Meant R) (h : Held) (n : Memo) → IsHeld s h → BookHolds s n.book → SumsHold s n
-    → IsHeld s (record h { memo = n })
-held_memo s h n k book sums = record { book = book; sums = sums; forms = k.forms }
+-- with another interner and other sums
+pub cache_memo : {R : Type 0} (s : State Meant R) (h : Cache) (n : Memo) → CacheHolds s h → InternerHolds s n.interner → SumsHold s n
+    → CacheHolds s (record h { memo = n })
+cache_memo s h n k interner sums = record { interner = interner; sums = sums; forms = k.forms }
 
-module _ {R : Type 0} (s : State Meant R) (h : Held) (n : Memo) (holds : IsHeld s h) where
+module _ {R : Type 0} (s : State Meant R) (h : Cache) (n : Memo) (holds : CacheHolds s h) where
   -- with the same sums
-  pub held_book : BookHolds s n.book → n.sums.items ≡ h.memo.sums.items → IsHeld s (record h { memo = n })
-  held_book b e = held_memo s h n holds b (All-same (SumHolds s) n.sums.items h.memo.sums.items e holds.sums)
+  pub cache_interner : InternerHolds s n.interner → n.sums.items ≡ h.memo.sums.items → CacheHolds s (record h { memo = n })
+  cache_interner b e = cache_memo s h n holds b (All-same (SumHolds s) n.sums.items h.memo.sums.items e holds.sums)
 
-  -- with the same book
-  pub held_sums : n.book ≡ h.memo.book → SumsHold s n → IsHeld s (record h { memo = n })
-  held_sums e = held_memo s h n holds (rw e holds.book)
+  -- with the same interner
+  pub cache_sums : n.interner ≡ h.memo.interner → SumsHold s n → CacheHolds s (record h { memo = n })
+  cache_sums e = cache_memo s h n holds (rw e holds.interner)
 
 -- with other forms
-pub held_forms : {R : Type 0} (s : State Meant R) (h : Held) (m : MadeForms) → IsHeld s h → FormsHold s m
-    → IsHeld s (record h { made = m })
-held_forms s h m k f = record { book = k.book; sums = k.sums; forms = f }
+pub cache_forms : {R : Type 0} (s : State Meant R) (h : Cache) (m : MadeForms) → CacheHolds s h → FormsHold s m
+    → CacheHolds s (record h { made = m })
+cache_forms s h m k f = record { interner = k.interner; sums = k.sums; forms = f }

@@ -2,7 +2,7 @@ pub mod ItemLaws
 pub mod AgainItems
 pub mod KnownGames
 pub mod Recognizing
-pub mod BookHandles
+pub mod InternerHandles
 pub mod Holding
 pub mod Same
 pub mod Charging
@@ -11,7 +11,7 @@ pub mod MadeSteps
 pub mod Translated
 pub mod FormTables
 pub mod DistinctSteps
-pub mod Booking
+pub mod InternerSteps
 pub mod Turning
 pub mod Valuing
 pub mod Paying

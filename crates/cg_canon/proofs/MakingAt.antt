@@ -7,22 +7,22 @@ use Rattle.cg_cells.specs.Store.{State}
 use Rattle.cg_nodes.specs.Meant.{Meant}
 use Rattle.cg_canon.specs.declared.fault.ValueFault.{ValueFault}
 use Rattle.cg_canon.specs.declared.fault.ValueFault.TheVariants.{Memory}
-use Rattle.cg_canon.specs.declared.held.Held.{Held}
+use Rattle.cg_canon.specs.declared.cache.Cache.{Cache}
 use Rattle.cg_canon.specs.declared.memo.Memo.{Memo}
 use Rattle.cg_canon.specs.declared.meter.Meter.{Meter}
 use Rattle.cg_canon.specs.Arena.{Begins, IsAt}
-use Rattle.cg_canon.specs.Books.{BookHolds}
-use Rattle.cg_canon.specs.Held.{IsHeld}
+use Rattle.cg_canon.specs.Interners.{InternerHolds}
+use Rattle.cg_canon.specs.Cache.{CacheHolds}
 use Rattle.cg_canon.specs.Items.{AllPass, WasRefused, made}
 use Rattle.cg_canon.specs.ItemsAt.{ItemAt, PaidAt}
 use Rattle.cg_canon.specs.Paid.{IsPaid, metered}
 use Rattle.cg_canon.specs.Works.{MeterHolds, work_state}
 use Rattle.cg_nodes.proofs.Later.{nothing_spent}
-use Rattle.cg_canon.proofs.Booking.{begins_none}
-use Rattle.cg_canon.proofs.Holding.{held_book, held_later}
+use Rattle.cg_canon.proofs.InternerSteps.{begins_none}
+use Rattle.cg_canon.proofs.Holding.{cache_interner, cache_later}
 use Rattle.cg_canon.proofs.MadeSteps.{made_memory, made_with}
 use Rattle.cg_canon.proofs.Paying.{none_paid}
-use Rattle.cg_book.proofs.Results.{on_ok}
+use Rattle.cg_arena.proofs.Results.{on_ok}
 
 -- ---- the handle of the form was given
 
@@ -109,11 +109,11 @@ paid_none s m gs form extra fault within refused =
 -- ---- a work
 
 -- what it keeps
-pub paid_at_holds : {R : Type 0} (s t : State Meant R) (a b : Meter) (start : ℕ) (h : Held) (n : Memo) (gs hs : List Game) (form : Game)
-    (extra : ℕ) (r : Result ℕ ValueFault) → MeterHolds s a.spent a.share start × IsHeld s h → PaidAt s t a b gs hs form extra r
-    → BookHolds t n.book → n.sums.items ≡ h.memo.sums.items
-    → MeterHolds t b.spent b.share start × IsHeld t (record h { memo = n })
-paid_at_holds s t a b start h n gs hs form extra r w p book same =
+pub paid_at_holds : {R : Type 0} (s t : State Meant R) (a b : Meter) (start : ℕ) (h : Cache) (n : Memo) (gs hs : List Game) (form : Game)
+    (extra : ℕ) (r : Result ℕ ValueFault) → MeterHolds s a.spent a.share start × CacheHolds s h → PaidAt s t a b gs hs form extra r
+    → InternerHolds t n.interner → n.sums.items ≡ h.memo.sums.items
+    → MeterHolds t b.spent b.share start × CacheHolds t (record h { memo = n })
+paid_at_holds s t a b start h n gs hs form extra r w p interner same =
     let keeps = p.item.made.keeps in
     let share : b.share ≡ a.share = keeps.share in
     let more : s.spare + a.spent ≤ t.spare + b.spent = p.item.more in
@@ -124,7 +124,7 @@ paid_at_holds s t a b start h n gs hs form extra r w p book same =
     let fallen = w.0.fallen in
     let enough = w.0.enough in (
       record { within = p.within; room = omega arith; small = omega arith; fallen = omega arith; enough = omega arith },
-      held_book t h n (held_later s t h keeps.known w.1) book same,
+      cache_interner t h n (cache_later s t h keeps.known w.1) interner same,
     )
 
 -- what is seen of it, before and after

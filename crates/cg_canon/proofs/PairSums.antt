@@ -6,11 +6,11 @@ use Rattle.cg_form.specs.Sum.{sum}
 use Rattle.cg_form.proofs.SumLaws.{sum_comm}
 use Rattle.cg_nodes.specs.Can.{can}
 use Rattle.cg_nodes.proofs.Forms.{can-same}
-use Rattle.cg_book.specs.Pages.{IsPage, game_of}
+use Rattle.cg_arena.specs.Arena.{IsIndex, game_of}
 use Rattle.cg_canon.specs.declared.kept_sums.KeptSums.{KeptSums}
 use Rattle.cg_canon.specs.Arena.{IsAt}
 use Rattle.cg_canon.specs.KeptSums.{IsKeptSum, SumStands, SumsStand, kept_of}
-use Rattle.cg_canon.proofs.Booking.{sum_stands}
+use Rattle.cg_canon.proofs.InternerSteps.{sum_stands}
 
 pub can-sum_comm : (g h : Game) → can (sum g h) ≡ can (sum h g)
 can-sum_comm g h = can-same (sum g h) (sum h g) (sum_comm g h, sum_comm h g)
@@ -28,7 +28,7 @@ module _ (gs : List Game) (a b low high : ℕ) (order : ((low ≡ a) × (high �
   pair_found t (Some i) all k = let P : Game → Type 0 = λ z. IsAt gs i z in subst P one_sum (sum_stands gs t low high i all k).is
   pair_found t None all k = tt
 
-  pub pair_kept : (i : ℕ) → IsPage gs a → IsPage gs b → IsAt gs i (can (sum (game_of gs a) (game_of gs b)))
+  pub pair_kept : (i : ℕ) → IsIndex gs a → IsIndex gs b → IsAt gs i (can (sum (game_of gs a) (game_of gs b)))
       → SumStands gs (kept_of low high i)
   pair_kept i p q h =
       record {

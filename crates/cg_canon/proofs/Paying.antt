@@ -1,4 +1,4 @@
--- Items that are made beside a book, and what they leave of a work.
+-- Items that are made beside an interner, and what they leave of a work.
 use Rattle.std.proofs.Common.{◌≡◌, refl, ℕ, ◌+◌, ◌≤◌, arith, ap, ◌∙◌, List, [], ◌∷◌, Result, Ok, Err}
 use Rattle.std.specs.Borrow.{MutBor}
 use Rattle.cg_form.specs.Game.{Game}
@@ -6,20 +6,20 @@ use Rattle.cg_cells.specs.Store.{Spends, State}
 use Rattle.cg_nodes.specs.Games.{StandsFor}
 use Rattle.cg_nodes.specs.Meant.{Meant}
 use Rattle.cg_canon.specs.declared.fault.ValueFault.{ValueFault}
-use Rattle.cg_canon.specs.declared.held.Held.{Held}
+use Rattle.cg_canon.specs.declared.cache.Cache.{Cache}
 use Rattle.cg_canon.specs.declared.memo.Memo.{Memo}
 use Rattle.cg_canon.specs.declared.meter.Meter.{Meter}
 use Rattle.cg_canon.specs.declared.rest.WorkRest.{WorkRest}
-use Rattle.cg_canon.specs.Books.{BookHolds}
-use Rattle.cg_canon.specs.Held.{IsHeld}
+use Rattle.cg_canon.specs.Interners.{InternerHolds}
+use Rattle.cg_canon.specs.Cache.{CacheHolds}
 use Rattle.cg_canon.specs.Items.{AllPass, WasRefused, made}
 use Rattle.cg_canon.specs.Made.{FormGiven}
 use Rattle.cg_canon.specs.Paid.{IsPaid, metered}
 use Rattle.cg_canon.specs.Works.{MeterHolds, work_state}
-use Rattle.cg_canon.proofs.Holding.{held_book, held_later}
+use Rattle.cg_canon.proofs.Holding.{cache_interner, cache_later}
 use Rattle.cg_canon.proofs.Keeping.{spends_keeps}
 use Rattle.cg_canon.proofs.MadeSteps.{read_then}
-use Rattle.cg_book.proofs.Results.{on_err, on_ok}
+use Rattle.cg_arena.proofs.Results.{on_err, on_ok}
 
 -- nothing was made, and then an item
 pub form_later : {R : Type 0} (s t u : State Meant (WorkRest R)) (form : Game) (extra : ℕ) (r : Result ℕ ValueFault) → Spends 0 s t
@@ -112,12 +112,12 @@ made_paid s t m n form extra h cells cost fewer k same within game charged =
 
 -- ---- a work
 
--- what it keeps: its memo has the new book and the same sums
-pub paid_holds : {R : Type 0} (s t : State Meant R) (a b : Meter) (start : ℕ) (h : Held) (n : Memo) (form : Game) (extra : ℕ)
-    (r : Result ℕ ValueFault) → MeterHolds s a.spent a.share start × IsHeld s h → IsPaid s t a b form extra r
-    → BookHolds t n.book → n.sums.items ≡ h.memo.sums.items
-    → MeterHolds t b.spent b.share start × IsHeld t (record h { memo = n })
-paid_holds s t a b start h n form extra r w p book same =
+-- what it keeps: its memo has the new interner and the same sums
+pub paid_holds : {R : Type 0} (s t : State Meant R) (a b : Meter) (start : ℕ) (h : Cache) (n : Memo) (form : Game) (extra : ℕ)
+    (r : Result ℕ ValueFault) → MeterHolds s a.spent a.share start × CacheHolds s h → IsPaid s t a b form extra r
+    → InternerHolds t n.interner → n.sums.items ≡ h.memo.sums.items
+    → MeterHolds t b.spent b.share start × CacheHolds t (record h { memo = n })
+paid_holds s t a b start h n form extra r w p interner same =
     let keeps = p.given.gives.made.keeps in
     let share : b.share ≡ a.share = keeps.share in
     let more : s.spare + a.spent ≤ t.spare + b.spent = p.given.gives.more in
@@ -128,7 +128,7 @@ paid_holds s t a b start h n form extra r w p book same =
     let fallen = w.0.fallen in
     let enough = w.0.enough in (
       record { within = p.within; room = omega arith; small = omega arith; fallen = omega arith; enough = omega arith },
-      held_book t h n (held_later s t h keeps.known w.1) book same,
+      cache_interner t h n (cache_later s t h keeps.known w.1) interner same,
     )
 
 -- what is seen of it, before and after

@@ -19,15 +19,15 @@ use Rattle.cg_nimbers.proofs.NumberUpStars.{number_up_star-nimber, number_up_sta
 use Rattle.cg_nodes.specs.Can.{can}
 use Rattle.cg_nodes.specs.CanForms.{can-equal, can-fixed}
 use Rattle.cg_nodes.proofs.Forms.{can-same}
-use Rattle.cg_book.specs.Pages as page
-use Rattle.cg_book.specs.Pages.{IsPage, games_of}
-use Rattle.cg_book.proofs.Slices.{games_take_suc}
+use Rattle.cg_arena.specs.Arena as arena
+use Rattle.cg_arena.specs.Arena.{IsIndex, games_of}
+use Rattle.cg_arena.proofs.Slices.{games_take_suc}
 use Rattle.cg_canon.specs.declared.number_up_star.NumberUpStar.{NumberUpStar}
 use Rattle.cg_canon.specs.declared.recognized.Recognized.{Recognized}
 use Rattle.cg_canon.specs.Arena.{Begins, IsAt}
 use Rattle.cg_canon.specs.NumberUpStars.{IsPlus, game_of}
 use Rattle.cg_canon.specs.Recognized.{AreNimbers, AreRecognized, HasParts, Holds, IsKnownAt, IsListed, known_at}
-use Rattle.cg_canon.proofs.Booking.{begins_one, game_begins, page_begins}
+use Rattle.cg_canon.proofs.InternerSteps.{begins_one, game_begins, index_begins}
 use Rattle.cg_canon.proofs.KnownGames.{parts_game, plus_equal}
 
 -- ---- games with parts
@@ -80,30 +80,30 @@ module _ (gs : List Game) where
 
   -- the sum of two known games, and each of the three by the other two
   pub sum_at : (a b i : ℕ) (v w u : NumberUpStar) → IsKnownAt gs a v → IsKnownAt gs b w → IsPlus v w u → IsKnownAt gs i u
-      → IsAt gs i (can (sum (page.game_of gs a) (page.game_of gs b)))
+      → IsAt gs i (can (sum (arena.game_of gs a) (arena.game_of gs b)))
   sum_at a b i v w u k l p m = record {
     within = m.within;
-    is = has_is (page.game_of gs i) (sum (page.game_of gs a) (page.game_of gs b)) u m.parts
-        (sum_parts (page.game_of gs a) (page.game_of gs b) v w u p k.parts l.parts);
+    is = has_is (arena.game_of gs i) (sum (arena.game_of gs a) (arena.game_of gs b)) u m.parts
+        (sum_parts (arena.game_of gs a) (arena.game_of gs b) v w u p k.parts l.parts);
   }
 
-  pub at_equal : (i : ℕ) (g h : Game) → IsAt gs i (can (sum g h)) → Equal (page.game_of gs i) (sum g h)
+  pub at_equal : (i : ℕ) (g h : Game) → IsAt gs i (can (sum g h)) → Equal (arena.game_of gs i) (sum g h)
   at_equal i g h at = let P : Game → Type 0 = λ z. Equal z (sum g h) in subst P (sym at.is) (can-equal (sum g h))
 
-  pub at_turned : (i : ℕ) (g h : Game) → IsAt gs i (can (sum g h)) → Equal (page.game_of gs i) (sum h g)
-  at_turned i g h at = equal_trans (page.game_of gs i) (sum g h) (sum h g) (at_equal i g h at) (equal_comm g h)
+  pub at_turned : (i : ℕ) (g h : Game) → IsAt gs i (can (sum g h)) → Equal (arena.game_of gs i) (sum h g)
+  at_turned i g h at = equal_trans (arena.game_of gs i) (sum g h) (sum h g) (at_equal i g h at) (equal_comm g h)
 
   pub third_equal : (a b i : ℕ) (v w u : NumberUpStar) → IsKnownAt gs a v → IsKnownAt gs b w → IsPlus v w u
-      → IsAt gs i (can (sum (page.game_of gs a) (page.game_of gs b))) → Equal (page.game_of gs i) (game_of u)
+      → IsAt gs i (can (sum (arena.game_of gs a) (arena.game_of gs b))) → Equal (arena.game_of gs i) (game_of u)
   third_equal a b i v w u k l p at =
-      let g = page.game_of gs a in
-      let h = page.game_of gs b in
-      equal_trans (page.game_of gs i) (sum g h) (game_of u) (at_equal i g h at) (sum_parts g h v w u p k.parts l.parts)
+      let g = arena.game_of gs a in
+      let h = arena.game_of gs b in
+      equal_trans (arena.game_of gs i) (sum g h) (game_of u) (at_equal i g h at) (sum_parts g h v w u p k.parts l.parts)
 
   pub other_equal : (a b i : ℕ) (v w u : NumberUpStar) → IsKnownAt gs b w → IsKnownAt gs i u → IsPlus v w u
-      → Equal (page.game_of gs i) (sum (page.game_of gs a) (page.game_of gs b)) → Equal (page.game_of gs a) (game_of v)
+      → Equal (arena.game_of gs i) (sum (arena.game_of gs a) (arena.game_of gs b)) → Equal (arena.game_of gs a) (game_of v)
   other_equal a b i v w u l k p e =
-      other_parts (page.game_of gs a) (page.game_of gs b) v w u p (page.game_of gs i) l.parts k.parts e
+      other_parts (arena.game_of gs a) (arena.game_of gs b) v w u p (arena.game_of gs i) l.parts k.parts e
 
   -- ---- nimbers in order
 
@@ -113,7 +113,7 @@ module _ (gs : List Game) where
   first_nimbers is zero h less = refl
   first_nimbers is (suc n) h less =
       games_take_suc gs is n 0 (omega arith)
-      ∙ ap (λ z. z ++ (page.game_of gs (get_or is n 0) ∷ [])) (first_nimbers is n h (omega arith))
+      ∙ ap (λ z. z ++ (arena.game_of gs (get_or is n 0) ∷ [])) (first_nimbers is n h (omega arith))
       ∙ ap (λ z. nimbers_below n ++ (z ∷ [])) (h n (omega arith)).is
 
   nimber_node : (is ls rs : List ℕ) → AreNimbers gs is → length ls ≤ length is → ls ≡ take (length ls) is → ¬ (length ls ≡ 0)
@@ -167,7 +167,7 @@ module _ (gs : List Game) where
     unfolding AreRecognized
     known_found i v r at = All-contains (Holds gs) t.games.items (known_at i v) r.games at
 
-    pub recognized_canonical : (i : ℕ) → AreRecognized gs t → IsPage gs i → Canonical (page.game_of gs i)
+    pub recognized_canonical : (i : ℕ) → AreRecognized gs t → IsIndex gs i → Canonical (arena.game_of gs i)
     unfolding AreRecognized
     recognized_canonical i r within = r.canonical i (node [] []) within
 
@@ -229,13 +229,13 @@ recognized_begins gs hs t b c r = record {
   canonical = c;
   games = All-weaker (Holds gs) (Holds hs) (λ k h.
       record {
-        within = page_begins gs hs k.index b h.within;
+        within = index_begins gs hs k.index b h.within;
         parts = rw (game_begins gs hs k.index b h.within) h.parts;
       }) t.games.items r.games;
   nimbers = λ n less.
       let h = r.nimbers n less in
       let i = get_or t.nimbers.items n 0 in
-      record { within = page_begins gs hs i b h.within; is = game_begins gs hs i b h.within ∙ h.is };
+      record { within = index_begins gs hs i b h.within; is = game_begins gs hs i b h.within ∙ h.is };
 }
 
 -- a game more, which is known as this or as nothing
@@ -244,7 +244,7 @@ new_known : (gs hs : List Game) (g : Game) (o : Option NumberUpStar) → hs ≡ 
 new_known gs hs g None e c k = tt
 new_known gs hs g (Some v) e c k =
     let more : length hs ≡ length gs + 1 = ap length e ∙ length_push gs g in
-    let is : page.game_of hs (length gs) ≡ g = ap (λ z. page.game_of z (length gs)) e ∙ get_or_push gs g (node [] []) (length gs) refl in
+    let is : arena.game_of hs (length gs) ≡ g = ap (λ z. arena.game_of z (length gs)) e ∙ get_or_push gs g (node [] []) (length gs) refl in
     record { within = omega arith; parts = rw is (record { canonical = c; equal = k }) }
 
 pub recognized_more : (gs hs : List Game) (t u : Recognized) (g : Game) (i : ℕ) (o : Option NumberUpStar) → hs ≡ gs ++ (g ∷ [])

@@ -1,4 +1,4 @@
--- Pages of the games of lists, one game after the other.
+-- Indexes of the games of lists, one game after the other.
 use Rattle.std.proofs.Common.{◌≡◌, refl, ℕ, suc, ◌+◌, ◌<◌, ◌≤◌, arith, ap, sym, ◌∙◌, Option, Some, List, [], ◌∷◌, ◌++◌, length, take, get_or}
 use Rattle.std.proofs.lemmas.List.Elements.{All-push}
 use Rattle.cg_form.specs.Canonical.{Canonical}
@@ -11,20 +11,20 @@ use Rattle.cg_nodes.specs.declared.reading.Split.{Split}
 use Rattle.cg_nodes.specs.Games.{AreGames, IsGame, IsHead, IsList, game_at, games_at, listed}
 use Rattle.cg_nodes.specs.Meant.{Meant}
 use Rattle.cg_nodes.proofs.Later.{game_later, is_game_later, is_list_later, listed_later, nothing_spent, spends_then}
-use Rattle.cg_book.specs.Pages.{IsPage, StandFor, game_of, games_of}
-use Rattle.cg_book.proofs.Slices.{games_pushed}
-use Rattle.cg_canon.specs.declared.book.Book.{Book}
+use Rattle.cg_arena.specs.Arena.{IsIndex, StandFor, game_of, games_of}
+use Rattle.cg_arena.proofs.Slices.{games_pushed}
+use Rattle.cg_canon.specs.declared.interner.Interner.{Interner}
 use Rattle.cg_canon.specs.Arena.{Begins}
-use Rattle.cg_canon.specs.Books.{BookHolds}
+use Rattle.cg_canon.specs.Interners.{InternerHolds}
 use Rattle.cg_canon.proofs.HandleLists.{game_of_item, games_take_suc}
-use Rattle.cg_canon.proofs.Booking.{begins_none, begins_then, stand_begins}
+use Rattle.cg_canon.proofs.InternerSteps.{begins_none, begins_then, stand_begins}
 
--- ---- a page more
+-- ---- an index more
 
-pub stand_pushed : (gs : List Game) (ps more : List ℕ) (p : ℕ) (hs : List Game) (g : Game) → StandFor gs ps hs → IsPage gs p
+pub stand_pushed : (gs : List Game) (ps more : List ℕ) (p : ℕ) (hs : List Game) (g : Game) → StandFor gs ps hs → IsIndex gs p
     → game_of gs p ≡ g → more ≡ ps ++ (p ∷ []) → StandFor gs more (hs ++ (g ∷ []))
 stand_pushed gs ps more p hs g h is e m = (
-  rw m (All-push (IsPage gs) ps p h.0 is),
+  rw m (All-push (IsIndex gs) ps p h.0 is),
   ap (games_of gs) m ∙ games_pushed gs ps _ p refl ∙ ap (λ z. z ++ (game_of gs p ∷ [])) h.1 ∙ ap (λ z. hs ++ (z ∷ [])) e,
 )
 
@@ -62,39 +62,39 @@ done_more s t u v list rest top h a i b =
           ∙ ap (λ z. h.games ++ z) (sym i.2) ∙ h.all;
     }
 
--- the pages of the games so far; the book was a before and is b
-pub record Paged {R : Type 0} (s t : State Meant R) (a b : Book) (list rest : Option ℕ) (ps : List ℕ) : Type 0 where
+-- the indexes of the games so far; the interner was a before and is b
+pub record Indexed {R : Type 0} (s t : State Meant R) (a b : Interner) (list rest : Option ℕ) (ps : List ℕ) : Type 0 where
   pub done : Done s t list rest
-  pub holds : BookHolds t b
-  pub begins : Begins a.pages b.pages
-  pub pages : StandFor b.pages ps done.games
+  pub holds : InternerHolds t b
+  pub begins : Begins a.arena b.arena
+  pub indexes : StandFor b.arena ps done.games
 
-pub paged_none : {R : Type 0} (s : State Meant R) (a : Book) (list : Option ℕ) (ps : List ℕ) → BookHolds s a → IsList s list → ps ≡ []
-    → Paged s s a a list list ps
+pub indexed_none : {R : Type 0} (s : State Meant R) (a : Interner) (list : Option ℕ) (ps : List ℕ) → InternerHolds s a → IsList s list → ps ≡ []
+    → Indexed s s a a list list ps
 unfolding done_none
-paged_none s a list ps h l e =
-    record { done = done_none s list l; holds = h; begins = begins_none a.pages; pages = rw e (stand_none a.pages) }
+indexed_none s a list ps h l e =
+    record { done = done_none s list l; holds = h; begins = begins_none a.arena; indexes = rw e (stand_none a.arena) }
 
-pub paged_more : {R : Type 0} (s t u v : State Meant R) (a b c : Book) (list rest : Option ℕ) (top : Split) (ps more : List ℕ) (page : ℕ)
-    → Paged s t a b list rest ps → Spends 0 t u → IsHead u (Some top) (listed t rest) → Spends 0 u v → BookHolds v c
-    → Begins b.pages c.pages → IsPage c.pages page × (game_of c.pages page ≡ game_at u top.first) → more ≡ ps ++ (page ∷ [])
-    → Paged s v a c list top.rest more
+pub indexed_more : {R : Type 0} (s t u v : State Meant R) (a b c : Interner) (list rest : Option ℕ) (top : Split) (ps more : List ℕ) (index : ℕ)
+    → Indexed s t a b list rest ps → Spends 0 t u → IsHead u (Some top) (listed t rest) → Spends 0 u v → InternerHolds v c
+    → Begins b.arena c.arena → IsIndex c.arena index × (game_of c.arena index ≡ game_at u top.first) → more ≡ ps ++ (index ∷ [])
+    → Indexed s v a c list top.rest more
 unfolding done_more
-paged_more s t u v a b c list rest top ps more page h x i y holds begins is e = record {
+indexed_more s t u v a b c list rest top ps more index h x i y holds begins is e = record {
   done = done_more s t u v list rest top h.done x i y;
   holds = holds;
-  begins = begins_then a.pages b.pages c.pages h.begins begins;
-  pages = stand_pushed c.pages ps more page h.done.games (game_at u top.first) (stand_begins b.pages c.pages ps h.done.games begins h.pages) is.0 is.1 e;
+  begins = begins_then a.arena b.arena c.arena h.begins begins;
+  indexes = stand_pushed c.arena ps more index h.done.games (game_at u top.first) (stand_begins b.arena c.arena ps h.done.games begins h.indexes) is.0 is.1 e;
 }
 
--- ---- a game with the pages of both its lists
+-- ---- a game with the indexes of both its lists
 
--- the handle's game has the options of these pages
+-- the handle's game has the options of these indexes
 pub record HasOptions {R : Type 0} (s : State Meant R) (handle : ℕ) (hs : List Game) (xs ys : List ℕ) : Type 0 where
   pub is : game_at s handle ≡ node (games_of hs xs) (games_of hs ys)
   pub no_number : NoNumber (node (games_of hs xs) (games_of hs ys))
 
--- s before the game is read, t after, u with the pages of its Left options, and v with those of its Right ones too
+-- s before the game is read, t after, u with the indexes of its Left options, and v with those of its Right ones too
 pub has_options : {R : Type 0} (s t u v : State Meant R) (handle : ℕ) (ls rs : Option ℕ) (gs hs : List Game) (ps qs xs ys : List ℕ)
     → IsGame s handle → Spends 0 s t → Spends 0 t u → Spends 0 u v → IsList t rs
     → game_at s handle ≡ node (listed t ls) (listed t rs) → Canonical (game_at s handle) → StandFor gs ps (listed t ls)
@@ -116,19 +116,19 @@ next_game s t hs i k a h e b =
     let known : IsGame s k = rw e (game_of_item s hs i k a h) in
     (is_game_later s t b.known k known, game_later s t b.known k known)
 
--- the pages of the handles up to this one; the book was b before its page was found, and is c
-pub paged_next : {R : Type 0} (s t : State Meant R) (b c : Book) (hs : List ℕ) (i k : ℕ) (ps more : List ℕ) (page : ℕ) → AreGames s hs
-    → i < length hs → k ≡ get_or hs i k → Spends 0 s t → StandFor b.pages ps (games_at s (take i hs)) → Begins b.pages c.pages
-    → IsPage c.pages page × (game_of c.pages page ≡ game_at t k) → more ≡ ps ++ (page ∷ [])
-    → StandFor c.pages more (games_at s (take (i + 1) hs))
-paged_next s t b c hs i k ps more page a less at spends so_far begins is e =
+-- the indexes of the handles up to this one; the interner was b before its index was found, and is c
+pub indexed_next : {R : Type 0} (s t : State Meant R) (b c : Interner) (hs : List ℕ) (i k : ℕ) (ps more : List ℕ) (index : ℕ) → AreGames s hs
+    → i < length hs → k ≡ get_or hs i k → Spends 0 s t → StandFor b.arena ps (games_at s (take i hs)) → Begins b.arena c.arena
+    → IsIndex c.arena index × (game_of c.arena index ≡ game_at t k) → more ≡ ps ++ (index ∷ [])
+    → StandFor c.arena more (games_at s (take (i + 1) hs))
+indexed_next s t b c hs i k ps more index a less at spends so_far begins is e =
     let one : i + 1 ≡ suc i = omega arith in
     let next = next_game s t hs i k a less at spends in
     rw (ap (λ z. games_at s (take z hs)) one ∙ games_take_suc s hs i k less
     ∙ ap (λ z. games_at s (take i hs) ++ (game_at s z ∷ [])) (sym at))
-    (stand_pushed c.pages ps more page (games_at s (take i hs)) (game_at s k)
-    (stand_begins b.pages c.pages ps (games_at s (take i hs)) begins so_far) is.0 (is.1 ∙ next.1) e)
+    (stand_pushed c.arena ps more index (games_at s (take i hs)) (game_at s k)
+    (stand_begins b.arena c.arena ps (games_at s (take i hs)) begins so_far) is.0 (is.1 ∙ next.1) e)
 
-pub paged_nothing : {R : Type 0} (s : State Meant R) (gs : List Game) (hs ps : List ℕ) → ps ≡ []
+pub indexed_nothing : {R : Type 0} (s : State Meant R) (gs : List Game) (hs ps : List ℕ) → ps ≡ []
     → StandFor gs ps (games_at s (take 0 hs))
-paged_nothing s gs hs ps e = rw e (stand_none gs)
+indexed_nothing s gs hs ps e = rw e (stand_none gs)

@@ -14,9 +14,9 @@ use Rattle.cg_form.proofs.AllPositions.{closed_more, closed_none, extended-last,
 use Rattle.cg_form.proofs.Among.{among-append_left, among-append_right, carry, to_list-of_list}
 use Rattle.cg_form.proofs.Firsts.{extended-among, extended-append, extended-has, extended-length}
 use Rattle.cg_form.proofs.Structure.{games}
-use Rattle.cg_book.specs.Pages.{IsPage, game_of, games_of}
-use Rattle.cg_book.proofs.Paging.{game_before, games_before}
-use Rattle.cg_book.proofs.Slices.{games_pushed, item_among}
+use Rattle.cg_arena.specs.Arena.{IsIndex, game_of, games_of}
+use Rattle.cg_arena.proofs.Interning.{game_before, games_before}
+use Rattle.cg_arena.proofs.Slices.{games_pushed, item_among}
 use Rattle.cg_canon.specs.declared.walk.Position.{Position}
 use Rattle.cg_canon.specs.declared.walk.Walk.{Walk}
 use Rattle.cg_canon.specs.Walk.{ArePlaces, IsPlace, IsWalk, indexes_of, lefts_of, rights_of}
@@ -50,12 +50,12 @@ found_pushed gs ps p index e =
 
 module _ (gs : List Game) (marks : List ℕ) (ps : List Position) (index : ℕ) (marked : AreMarked gs marks ps) where
   -- the mark of a game that was found is its place
-  pub marked_place : AreApart gs → IsPage gs index → Among (game_of gs index) (found_in gs ps) → HasPlace ps (get_or marks index 0) index
-  marked_place apart page m =
+  pub marked_place : AreApart gs → IsIndex gs index → Among (game_of gs index) (found_in gs ps) → HasPlace ps (get_or marks index 0) index
+  marked_place apart within m =
       let (i, l, e) = among_at gs (indexes_of ps) (game_of gs index) m in
       let n = indexes_length ps in
       let less : i < length ps = omega arith in
-      let own : get_or (indexes_of ps) i 0 ≡ index = apart.each _ index (marked.pages i 0 l) page e in
+      let own : get_or (indexes_of ps) i 0 ≡ index = apart.each _ index (marked.indexes i 0 l) within e in
       let mark : get_or marks index 0 ≡ i = ap (λ z. get_or marks z 0) (sym own) ∙ marked.marked i less in
       rw mark (record { within = less; is = own })
 
@@ -238,7 +238,7 @@ place_later opts more fs hs i p less h =
 
 -- where the game wasn't found, and all of its positions before it were, its position is the next
 module _ (gs : List Game) (marks m2 : List ℕ) (ps : List Position) (opts more : List ℕ) (p : Position) (index : ℕ)
-    (stands : WalkStands gs marks ps opts) (own : p.index ≡ index) (page : IsPage gs index) (canonical : Canonical (game_of gs index))
+    (stands : WalkStands gs marks ps opts) (own : p.index ≡ index) (within : IsIndex gs index) (canonical : Canonical (game_of gs index))
     (before : (k : Game) → Among k (positions_before (game_of gs index)) → Among k (found_in gs ps))
     (out : ¬ Among (game_of gs index) (found_in gs ps))
     (place : IsPlace (opts ++ more) (found_in gs ps ++ (game_of gs index ∷ [])) (length ps) p)
@@ -290,8 +290,8 @@ module _ (gs : List Game) (marks m2 : List ℕ) (ps : List Position) (opts more 
       let old = stands.marked.room in
       record {
         marked = record {
-          pages = All-same (IsPage gs) (indexes_of after) (indexes_of ps ++ (p.index ∷ [])) (indexes_pushed ps p)
-              (All-push (IsPage gs) (indexes_of ps) p.index stands.marked.pages (rw own page));
+          indexes = All-same (IsIndex gs) (indexes_of after) (indexes_of ps ++ (p.index ∷ [])) (indexes_pushed ps p)
+              (All-push (IsIndex gs) (indexes_of ps) p.index stands.marked.indexes (rw own within));
           room = omega arith;
           marked = next_marked;
         };
@@ -300,20 +300,20 @@ module _ (gs : List Game) (marks m2 : List ℕ) (ps : List Position) (opts more 
         places = next_places;
       }
 
--- the same, where the lists are told by equations
+-- the same, where the lists are given by equations
 module _ (gs : List Game) (marks m2 : List ℕ) (ps before after : List Position) (opts more opts2 opts3 : List ℕ) (p : Position) (index : ℕ)
     (e : before ≡ ps) (f : after ≡ before ++ (p ∷ [])) (own : p.index ≡ index) where
   after_is : after ≡ ps ++ (p ∷ [])
   after_is = f ∙ ap (λ z. z ++ (p ∷ [])) e
 
-  pub next_walk : WalkStands gs marks ps opts → IsPage gs index → Canonical (game_of gs index)
+  pub next_walk : WalkStands gs marks ps opts → IsIndex gs index → Canonical (game_of gs index)
       → ((k : Game) → Among k (positions_before (game_of gs index)) → Among k (found_in gs ps))
       → ¬ Among (game_of gs index) (found_in gs ps) → opts2 ≡ opts ++ more → opts3 ≡ opts2
       → IsPlace opts2 (found_in gs ps ++ (game_of gs index ∷ [])) (length ps) p
       → length m2 ≡ length marks → get_or m2 p.index 0 ≡ length before
       → ((i : ℕ) → ¬ (i ≡ p.index) → get_or m2 i 0 ≡ get_or marks i 0) → WalkStands gs m2 after opts3
-  next_walk stands page canonical there out k l place room mark others =
-      rw after_is (rw (l ∙ k) (next_stands gs marks m2 ps opts more p index stands own page canonical there out
+  next_walk stands within canonical there out k l place room mark others =
+      rw after_is (rw (l ∙ k) (next_stands gs marks m2 ps opts more p index stands own within canonical there out
       (rw (← k) place) room (mark ∙ ap length e) others))
 
   pub next_found : (seen : List Game) → ¬ Among (game_of gs index) seen → found_in gs ps ≡ extended seen (positions_before (game_of gs index))
@@ -397,7 +397,7 @@ pub walk_none : (gs : List Game) (marks : List ℕ) (ps : List Position) (opts :
     → WalkStands gs marks ps opts
 walk_none gs marks ps opts e room =
     rw e (record {
-      marked = record { pages = λ k d h. absurd (omega arith); room = room; marked = λ i l. absurd (omega arith) };
+      marked = record { indexes = λ k d h. absurd (omega arith); room = room; marked = λ i l. absurd (omega arith) };
       canonical = λ k d h. absurd (omega arith);
       closed = closed_none;
       places = λ i p l q. absurd (omega arith);
@@ -415,7 +415,7 @@ module _ (gs : List Game) (g : Game) (none : List Position) (e : none ≡ []) wh
     pub walk_all : IsWalk gs w (positions_of g)
     walk_all =
         record {
-          at = (stands.marked.pages, all ∙ all_is);
+          at = (stands.marked.indexes, all ∙ all_is);
           canonical = rw (← (all ∙ all_is)) stands.canonical;
           places = rw (← (all ∙ all_is)) stands.places;
         }

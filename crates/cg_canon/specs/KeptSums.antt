@@ -4,7 +4,7 @@ use Rattle.std.specs.List.{All, Contains}
 use Rattle.cg_form.specs.Game.{Game}
 use Rattle.cg_form.specs.Sum.{sum}
 use Rattle.cg_nodes.specs.Can.{can}
-use Rattle.cg_book.specs.Pages.{IsPage, game_of}
+use Rattle.cg_arena.specs.Arena.{IsIndex, game_of}
 use Rattle.cg_canon.specs.declared.kept_sums.KeptSum.{KeptSum}
 use Rattle.cg_canon.specs.declared.kept_sums.KeptSums.{KeptSums}
 use Rattle.cg_canon.specs.Arena.{IsAt}
@@ -18,8 +18,8 @@ IsKeptSum t low high sum = Contains t.sums.items (kept_of low high sum)
 
 -- it is the index of the form of the sum of its two games
 pub record SumStands (gs : List Game) (k : KeptSum) : Type 0 where
-  pub low : IsPage gs k.low
-  pub high : IsPage gs k.high
+  pub low : IsIndex gs k.low
+  pub high : IsIndex gs k.high
   pub is : IsAt gs k.sum (can (sum (game_of gs k.low) (game_of gs k.high)))
 
 unfoldable pub SumsStand : List Game → KeptSums → Type 0

@@ -5,7 +5,7 @@ pub mod Added
 pub mod MadeForms
 pub mod NumberUpStars
 pub mod Recognized
-pub mod Held
+pub mod Cache
 pub mod Works
 pub mod Arena
 pub mod Made
@@ -17,7 +17,7 @@ pub mod ItemsAt
 pub mod Notes
 -- what private contracts cite, and what proofs need here
 pub mod Distinct
-pub mod Books
+pub mod Interners
 pub mod Paid
 pub mod Ways
 pub mod Walking

@@ -3,14 +3,14 @@ use Rattle.std.specs.Prelude.{ℕ, ◌+◌, ◌≤◌, List, Result}
 use Rattle.cg_form.specs.Game.{Game, node}
 use Rattle.cg_cells.specs.Store.{State}
 use Rattle.cg_nodes.specs.Meant.{Meant}
-use Rattle.cg_book.specs.declared.settling.NewForm.{NewForm}
-use Rattle.cg_book.specs.Pages.{games_of}
+use Rattle.cg_arena.specs.declared.canonicalizing.NewForm.{NewForm}
+use Rattle.cg_arena.specs.Arena.{games_of}
 use Rattle.cg_canon.specs.declared.fault.ValueFault.{ValueFault}
 use Rattle.cg_canon.specs.declared.meter.Meter.{Meter}
 use Rattle.cg_canon.specs.declared.rest.WorkRest.{WorkRest}
 use Rattle.cg_canon.specs.Made.{FormGiven}
 
--- the game of the pages of the form
+-- the game of the indexes of the form
 abbrev pub written : List Game → NewForm → Game
 written gs new = node (games_of gs new.form.lefts.items) (games_of gs new.form.rights.items)
 

@@ -5,8 +5,8 @@ use Rattle.cg_form.specs.Canonical.{Canonical}
 use Rattle.cg_form.specs.Game.{Game}
 use Rattle.cg_form.specs.Order.{Equal}
 use Rattle.cg_nimbers.specs.Nimbers.{nimber_form}
-use Rattle.cg_book.specs.Pages as page
-use Rattle.cg_book.specs.Pages.{IsPage}
+use Rattle.cg_arena.specs.Arena as arena
+use Rattle.cg_arena.specs.Arena.{IsIndex}
 use Rattle.cg_canon.specs.declared.number_up_star.NumberUpStar.{NumberUpStar}
 use Rattle.cg_canon.specs.declared.recognized.KnownAt.{KnownAt}
 use Rattle.cg_canon.specs.declared.recognized.Recognized.{Recognized}
@@ -20,8 +20,8 @@ pub record HasParts (g : Game) (v : NumberUpStar) : Type 0 where
 
 -- so is the game at the index
 pub record IsKnownAt (gs : List Game) (index : ℕ) (v : NumberUpStar) : Type 0 where
-  pub within : IsPage gs index
-  pub parts : HasParts (page.game_of gs index) v
+  pub within : IsIndex gs index
+  pub parts : HasParts (arena.game_of gs index) v
 
 abbrev pub known_at : ℕ → NumberUpStar → KnownAt
 known_at index v = record { index = index; parts = v }

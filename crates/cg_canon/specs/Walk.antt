@@ -4,7 +4,7 @@ use Rattle.std.specs.List.{slice_range}
 use Rattle.cg_dyadic.specs.Number.{Number, whole}
 use Rattle.cg_form.specs.Canonical.{Canonical}
 use Rattle.cg_form.specs.Game.{Game, node, number}
-use Rattle.cg_book.specs.Pages.{StandFor, game_of, games_of}
+use Rattle.cg_arena.specs.Arena.{StandFor, game_of, games_of}
 use Rattle.cg_canon.specs.declared.walk.Position.{Position}
 use Rattle.cg_canon.specs.declared.walk.Walk.{Walk}
 

@@ -3,13 +3,13 @@ use Rattle.std.specs.Prelude.{◌≡◌, ℕ, ◌<◌, ◌≤◌, ◌++◌, List
 use Rattle.cg_form.specs.Canonical.{Canonical}
 use Rattle.cg_form.specs.Extended.{IsClosed}
 use Rattle.cg_form.specs.Game.{Game}
-use Rattle.cg_book.specs.Pages.{ArePages, IsPage, game_of, games_of}
+use Rattle.cg_arena.specs.Arena.{AreIndexes, IsIndex, game_of, games_of}
 use Rattle.cg_canon.specs.declared.walk.Position.{Position}
 use Rattle.cg_canon.specs.Walk.{ArePlaces, indexes_of}
 
 -- different indexes have different games
 pub record AreApart (gs : List Game) : Type 0 where
-  pub each : (p q : ℕ) → IsPage gs p → IsPage gs q → game_of gs p ≡ game_of gs q → p ≡ q
+  pub each : (p q : ℕ) → IsIndex gs p → IsIndex gs q → game_of gs p ≡ game_of gs q → p ≡ q
 
 -- the position of the index stands at the place
 pub record HasPlace (ps : List Position) (place index : ℕ) : Type 0 where
@@ -22,7 +22,7 @@ found_in gs ps = games_of gs (indexes_of ps)
 
 -- each position is marked with its place
 pub record AreMarked (gs : List Game) (marks : List ℕ) (ps : List Position) : Type 0 where
-  pub pages : ArePages gs (indexes_of ps)
+  pub indexes : AreIndexes gs (indexes_of ps)
   pub room : length gs ≤ length marks
   pub marked : (i : ℕ) → i < length ps → get_or marks (get_or (indexes_of ps) i 0) 0 ≡ i
 

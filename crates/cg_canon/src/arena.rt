@@ -6,14 +6,14 @@ ghost use Rattle.std.specs.Prelude.{IfOk};
 ghost use Rattle.cg_form.specs.Canonical.{Canonical};
 ghost use Rattle.cg_cells.specs.Store.{Spends};
 ghost use Rattle.cg_nodes.specs.Games.{IsGame, StandsFor, game_at};
-ghost use Rattle.cg_book.specs.Pages.{IsPage, IsRead, game_of};
-ghost use Rattle.cg_book.specs.Profiles.{IsProfile};
+ghost use Rattle.cg_arena.specs.Arena.{IsIndex, IsRead, game_of};
+ghost use Rattle.cg_arena.specs.Profiles.{IsProfile};
 ghost use Rattle.cg_canon.specs.Arena.{Begins, IsAt};
 ghost use Rattle.cg_canon.specs.Works.{work_state};
 
-use crate::paging::page_of;
+use crate::indexing::index_of_handle;
 use crate::work::Work;
-use cg_book::{Profile, Read};
+use cg_arena::{Profile, Read};
 use cg_cells::CellStore;
 use cg_nodes::{BoardForms, GameFacts, Handle};
 use std::alloc::{AllocError, Global};
@@ -26,34 +26,34 @@ impl<'a, B: BoardForms, S: CellStore<GameFacts<B>>> Work<'a, B, S> {
         ensures begins { Begins self.old.arena self.new.arena }
         ensures spends { Spends 0 (work_state S.state self.old) (work_state S.state self.new) }
     {
-        page_of(alloc, self.store, &mut self.held.memo.book, a)
+        index_of_handle(alloc, self.store, &mut self.cache.memo.interner, a)
     }
 
     /// The handle of the game at the index.
     #[inline(always)]
     pub fn handle_at(&self, index: u32) -> Handle
-        requires { IsPage self.now.arena index }
+        requires { IsIndex self.now.arena index }
         ensures { StandsFor (work_state S.state self.now) result (game_of self.now.arena index) }
     {
-        self.held.memo.book.handle(index)
+        self.cache.memo.interner.handle(index)
     }
 
     /// The game at the index: a number, or the indexes of the Left and of the Right options of another game.
     #[inline(always)]
     pub fn read_at(&self, index: u32) -> Read<'_>
-        requires { IsPage self.now.arena index }
+        requires { IsIndex self.now.arena index }
         ensures read { IsRead self.now.arena result (game_of self.now.arena index) }
         ensures canonical { Canonical (game_of self.now.arena index) }
     {
-        self.held.memo.book.pages.read(index)
+        self.cache.memo.interner.arena.read(index)
     }
 
     /// What is known of the game at the index besides its options.
     #[inline(always)]
     pub fn profile_at(&self, index: u32) -> &Profile
-        requires { IsPage self.now.arena index }
+        requires { IsIndex self.now.arena index }
         ensures { IsProfile (game_of self.now.arena index) result.now }
     {
-        self.held.memo.book.pages.profile(index)
+        self.cache.memo.interner.arena.profile(index)
     }
 }

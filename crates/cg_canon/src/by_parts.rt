@@ -4,7 +4,7 @@
 //! of the sum, and no option is looked at. Where two of the three games of a sum are known so, the third is, too: that is how
 //! the multiples of ^, with nimbers and numbers added to them, become known.
 ghost use Rattle.std.specs.Prelude.{◌≡◌, IfSome};
-ghost use Rattle.cg_book.specs.Pages.{IsPage, game_of};
+ghost use Rattle.cg_arena.specs.Arena.{IsIndex, game_of};
 ghost use Rattle.cg_canon.specs.Arena.{IsAt};
 ghost use Rattle.cg_canon.specs.NumberUpStars.{game_of as game_of_parts};
 ghost use Rattle.cg_canon.specs.Recognized.{IsKnownAt};
@@ -25,13 +25,13 @@ impl<'a, B: BoardForms, S: CellStore<GameFacts<B>>> Work<'a, B, S> {
     pub fn nimber_of(&self, a: Handle) -> Option<u64>
         ensures { IfSome result (λ n. StandsFor (work_state S.state self.now) a (nimber_form n)) }
     {
-        let index = self.held.memo.book.page(a)?;
+        let index = self.cache.memo.interner.index(a)?;
         self.nimber_at(index)
     }
 
     /// The number of the nimber that the game at the index is known as, if it is known as one.
     fn nimber_at(&self, index: u32) -> Option<u64>
-        requires { IsPage self.now.arena index }
+        requires { IsIndex self.now.arena index }
         ensures { IfSome result (λ n. game_of self.now.arena index ≡ nimber_form n) }
     {
         let parts = self.parts_at(index)?;
@@ -44,8 +44,8 @@ impl<'a, B: BoardForms, S: CellStore<GameFacts<B>>> Work<'a, B, S> {
 
     /// The index of the canonical form of a + b, where both are known as a number, ups and a nimber, and it is, too.
     pub fn sum_by_parts_at(&self, a: u32, b: u32) -> Option<u32>
-        requires a { IsPage self.now.arena a }
-        requires b { IsPage self.now.arena b }
+        requires a { IsIndex self.now.arena a }
+        requires b { IsIndex self.now.arena b }
         ensures { let A = self.now.arena in
             IfSome result (λ i. IsAt A i (can (sum_of (game_of A a) (game_of A b)))) }
     {
@@ -57,8 +57,8 @@ impl<'a, B: BoardForms, S: CellStore<GameFacts<B>>> Work<'a, B, S> {
 
     /// Keeps what one of a, b and their sum is known as, where that is known of the other two.
     pub fn learn_sum_at(&mut self, a: u32, b: u32, sum: u32)
-        requires a { IsPage self.old.arena a }
-        requires b { IsPage self.old.arena b }
+        requires a { IsIndex self.old.arena a }
+        requires b { IsIndex self.old.arena b }
         requires sum { let A = self.old.arena in IsAt A sum (can (sum_of (game_of A a) (game_of A b))) }
         ensures { self.new ≡ self.old }
     {
@@ -85,30 +85,30 @@ impl<'a, B: BoardForms, S: CellStore<GameFacts<B>>> Work<'a, B, S> {
     fn parts_at(&self, index: u32) -> Option<&NumberUpStar>
         ensures { IfSome result (λ parts. IsKnownAt self.now.arena index parts.now) }
     {
-        self.held.memo.book.recognized.parts_at(index)
+        self.cache.memo.interner.recognized.parts_at(index)
     }
 
     /// The index of a game that is known as these parts, if one is found.
     fn index_of(&self, parts: &NumberUpStar) -> Option<u32>
         ensures { IfSome result (λ index. IsKnownAt self.now.arena index parts.now) }
     {
-        self.held.memo.book.recognized.index_of(parts)
+        self.cache.memo.interner.recognized.index_of(parts)
     }
 
     /// Keeps what the game at the index is known as, unless that is known or there is no memory for it.
     fn learn_at(&mut self, index: u32, parts: NumberUpStar)
-        requires page { IsPage self.old.arena index }
+        requires index { IsIndex self.old.arena index }
         requires equal { Equal (game_of self.old.arena index) (game_of_parts parts) }
         ensures { self.new ≡ self.old }
     {
         if self.parts_at(index).is_none() {
-            self.held.memo.book.recognized.keep(index, parts);
+            self.cache.memo.interner.recognized.keep(index, parts);
         }
     }
 
     /// Keeps what the game at a is known as, where that at b is known as `one`, and their sum is known.
     fn learn_other_at(&mut self, a: u32, b: u32, sum: u32, one: NumberUpStar)
-        requires a { IsPage self.old.arena a }
+        requires a { IsIndex self.old.arena a }
         requires b { IsKnownAt self.old.arena b one }
         requires sum { let A = self.old.arena in Equal (game_of A sum) (sum_of (game_of A a) (game_of A b)) }
         ensures { self.new ≡ self.old }

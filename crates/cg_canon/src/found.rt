@@ -4,7 +4,7 @@ ghost use Rattle.cg_form.specs.Game.{node};
 ghost use Rattle.cg_cells.specs.Store.{Spends};
 ghost use Rattle.cg_nodes.specs.Can.{can};
 ghost use Rattle.cg_nodes.specs.Games.{AreGames, IsGame, game_at, games_at};
-ghost use Rattle.cg_book.specs.Profiles.{IsProfile};
+ghost use Rattle.cg_arena.specs.Profiles.{IsProfile};
 ghost use Rattle.cg_canon.specs.Added.{IsKnownSum};
 ghost use Rattle.cg_canon.specs.Made.{FormGiven};
 ghost use Rattle.cg_canon.specs.MadeForms.{IsFormOf};
@@ -16,7 +16,7 @@ use crate::making::make_canonical;
 use crate::memo::KnownSum;
 use crate::value::Way;
 use crate::work::Work;
-use cg_book::Profile;
+use cg_arena::Profile;
 use cg_cells::CellStore;
 use cg_nodes::{BoardForms, GameFacts, Handle};
 use std::alloc::{AllocError, Global};
@@ -54,7 +54,7 @@ impl<'a, B: BoardForms, S: CellStore<GameFacts<B>>> Work<'a, B, S> {
         make_canonical(
             alloc,
             self.store,
-            &mut self.held.memo.book,
+            &mut self.cache.memo.interner,
             &mut self.meter,
             lefts,
             rights,
@@ -67,7 +67,7 @@ impl<'a, B: BoardForms, S: CellStore<GameFacts<B>>> Work<'a, B, S> {
     pub(crate) fn added(&self, a: Handle, b: Handle) -> Option<KnownSum>
         ensures { IfSome result (IsKnownSum (S.state self.now.store.now) a b) }
     {
-        self.held.memo.added(a.id().number(), b.id().number())
+        self.cache.memo.added(a.id().number(), b.id().number())
     }
 
     /// Keeps the sum of the two.
@@ -80,7 +80,7 @@ impl<'a, B: BoardForms, S: CellStore<GameFacts<B>>> Work<'a, B, S> {
         requires { IsKnownSum (S.state self.old.store.now) a b known }
         ensures { self.new ≡ self.old }
     {
-        self.held
+        self.cache
             .memo
             .keep_added(a.id().number(), b.id().number(), known)?;
         Ok(())
@@ -90,7 +90,7 @@ impl<'a, B: BoardForms, S: CellStore<GameFacts<B>>> Work<'a, B, S> {
     pub(crate) fn made_from(&self, lefts: &[Handle], rights: &[Handle]) -> Option<Handle>
         ensures { IfSome result (IsFormOf (S.state self.now.store.now) lefts.now rights.now) }
     {
-        self.held.made.find(lefts, rights)
+        self.cache.made.find(lefts, rights)
     }
 
     /// Keeps the form that was made from these options.
@@ -103,7 +103,7 @@ impl<'a, B: BoardForms, S: CellStore<GameFacts<B>>> Work<'a, B, S> {
         requires { IsFormOf (S.state self.old.store.now) lefts.now rights.now form }
         ensures { self.new ≡ self.old }
     {
-        self.held.made.keep(lefts, rights, form)?;
+        self.cache.made.keep(lefts, rights, form)?;
         Ok(())
     }
 }

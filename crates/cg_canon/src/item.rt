@@ -7,7 +7,7 @@ ghost use Rattle.cg_canon.specs.Works.{IsUnspent, work_state};
 
 use crate::fault::ValueFault;
 use crate::work::Work;
-use cg_book::Profile;
+use cg_arena::Profile;
 use cg_cells::CellStore;
 use cg_dyadic::Dyadic;
 use cg_nodes::{BoardForms, GameFacts, Handle, number};

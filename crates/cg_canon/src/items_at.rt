@@ -3,8 +3,8 @@ ghost use Rattle.std.specs.Prelude.{◌≡◌, ◌≤◌, IfOk};
 ghost use Rattle.cg_form.specs.Canonical.{Canonical};
 ghost use Rattle.cg_form.specs.Game.{Game, node};
 ghost use Rattle.cg_nodes.specs.Can.{can};
-ghost use Rattle.cg_book.specs.Pages.{ArePages, IsPage, game_of, games_of};
-ghost use Rattle.cg_book.specs.Terms.{NoneComparableByTerm};
+ghost use Rattle.cg_arena.specs.Arena.{AreIndexes, IsIndex, game_of, games_of};
+ghost use Rattle.cg_arena.specs.Terms.{NoneComparableByTerm};
 ghost use Rattle.cg_canon.specs.Items.{made};
 ghost use Rattle.cg_canon.specs.ItemsAt.{IsValue, ItemAt};
 ghost use Rattle.cg_canon.specs.NumberItems.{number_made};
@@ -13,7 +13,7 @@ ghost use Rattle.cg_canon.specs.Works.{work_state};
 use crate::fault::ValueFault;
 use crate::making_at::{given_at, known_at, number_at, sum_at};
 use crate::work::Work;
-use cg_book::FirstTerm;
+use cg_arena::FirstTerm;
 use cg_cells::CellStore;
 use cg_dyadic::Dyadic;
 use cg_nodes::{BoardForms, GameFacts};
@@ -27,7 +27,7 @@ impl<'a, B: BoardForms, S: CellStore<GameFacts<B>>> Work<'a, B, S> {
     #[inline(always)]
     pub fn item_at(&mut self, index: u32, extra: u64) -> Result<u32, ValueFault>
         requires extra { extra ≤ 8 }
-        requires index { IsPage self.old.arena index }
+        requires index { IsIndex self.old.arena index }
         ensures item { let g = game_of self.old.arena index in ItemAt (work_state S.state self.old) (work_state S.state self.new)
             self.old.arena self.new.arena (made g extra) g extra result }
         ensures own { IfOk result (λ i. i ≡ index) }
@@ -35,7 +35,7 @@ impl<'a, B: BoardForms, S: CellStore<GameFacts<B>>> Work<'a, B, S> {
     {
         known_at(
             &*self.store,
-            &self.held.memo.book,
+            &self.cache.memo.interner,
             &mut self.meter,
             index,
             extra,
@@ -53,7 +53,7 @@ impl<'a, B: BoardForms, S: CellStore<GameFacts<B>>> Work<'a, B, S> {
         match x {
             Some(value) => number_at(
                 self.store,
-                &mut self.held.memo.book,
+                &mut self.cache.memo.interner,
                 &mut self.meter,
                 value,
                 extra,
@@ -72,8 +72,8 @@ impl<'a, B: BoardForms, S: CellStore<GameFacts<B>>> Work<'a, B, S> {
         extra: u64,
     ) -> Result<u32, ValueFault>
         requires extra { extra ≤ 8 }
-        requires lefts { ArePages self.old.arena lefts.now }
-        requires rights { ArePages self.old.arena rights.now }
+        requires lefts { AreIndexes self.old.arena lefts.now }
+        requires rights { AreIndexes self.old.arena rights.now }
         requires canonical { Canonical (node (games_of self.old.arena lefts.now) (games_of self.old.arena rights.now)) }
         ensures { let g = node (games_of self.old.arena lefts.now) (games_of self.old.arena rights.now) in
             ItemAt (work_state S.state self.old) (work_state S.state self.new) self.old.arena self.new.arena (made g extra) g extra result }
@@ -81,7 +81,7 @@ impl<'a, B: BoardForms, S: CellStore<GameFacts<B>>> Work<'a, B, S> {
         given_at(
             alloc,
             self.store,
-            &mut self.held.memo.book,
+            &mut self.cache.memo.interner,
             &mut self.meter,
             lefts,
             rights,
@@ -103,8 +103,8 @@ impl<'a, B: BoardForms, S: CellStore<GameFacts<B>>> Work<'a, B, S> {
         extra: u64,
     ) -> Result<u32, ValueFault>
         requires extra { extra ≤ 8 }
-        requires lefts { ArePages self.old.arena lefts.now }
-        requires rights { ArePages self.old.arena rights.now }
+        requires lefts { AreIndexes self.old.arena lefts.now }
+        requires rights { AreIndexes self.old.arena rights.now }
         requires lefts_apart { NoneComparableByTerm first_term.lefts (games_of self.old.arena lefts.now) }
         requires rights_apart { NoneComparableByTerm first_term.rights (games_of self.old.arena rights.now) }
         ensures { let g = can (node (games_of self.old.arena lefts.now) (games_of self.old.arena rights.now)) in
@@ -113,7 +113,7 @@ impl<'a, B: BoardForms, S: CellStore<GameFacts<B>>> Work<'a, B, S> {
         sum_at(
             alloc,
             self.store,
-            &mut self.held.memo.book,
+            &mut self.cache.memo.interner,
             &mut self.meter,
             lefts,
             rights,

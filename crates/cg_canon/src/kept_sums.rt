@@ -2,11 +2,11 @@
 ghost use Rattle.std.specs.Prelude.{◌≡◌, ◌⊎◌, ◌++◌, ◌∷◌, [], IfSome};
 ghost use Rattle.cg_form.specs.Sum.{sum as sum_of};
 ghost use Rattle.cg_nodes.specs.Can.{can};
-ghost use Rattle.cg_book.specs.Pages.{IsPage, game_of};
+ghost use Rattle.cg_arena.specs.Arena.{IsIndex, game_of};
 ghost use Rattle.cg_canon.specs.Arena.{IsAt};
 ghost use Rattle.cg_canon.specs.KeptSums.{IsKeptSum, kept_of};
 
-use crate::places::{Places, half_of, mixed};
+use crate::hint_index::{HintIndex, half_of, mixed};
 use crate::work::Work;
 use cg_cells::CellStore;
 use cg_nodes::{BoardForms, GameFacts};
@@ -24,7 +24,7 @@ pub(crate) struct KeptSum {
 #[derive(Drop)]
 pub(crate) struct KeptSums {
     sums: Vec<KeptSum>,
-    places: Places,
+    places: HintIndex,
 }
 
 /// A number for the pair.
@@ -47,7 +47,7 @@ impl KeptSums {
     {
         KeptSums {
             sums: Vec::new(alloc),
-            places: Places::new(alloc),
+            places: HintIndex::new(alloc),
         }
     }
 
@@ -93,24 +93,24 @@ impl<'a, B: BoardForms, S: CellStore<GameFacts<B>>> Work<'a, B, S> {
     /// The index of the form of the sum of the two games, if it was kept and is found.
     #[inline(always)]
     pub fn kept_sum(&self, a: u32, b: u32) -> Option<u32>
-        requires a { IsPage self.now.arena a }
-        requires b { IsPage self.now.arena b }
+        requires a { IsIndex self.now.arena a }
+        requires b { IsIndex self.now.arena b }
         ensures { IfSome result (λ i. IsAt self.now.arena i
             (can (sum_of (game_of self.now.arena a) (game_of self.now.arena b)))) }
     {
         let (low, high) = in_order(a, b);
-        self.held.memo.book.pairs.find(low, high)
+        self.cache.memo.interner.pairs.find(low, high)
     }
 
     /// Keeps the index of the form of the sum of the two games, in either order, unless there is no memory for it.
     #[inline(always)]
     pub fn keep_pair(&mut self, a: u32, b: u32, sum: u32)
-        requires a { IsPage self.old.arena a }
-        requires b { IsPage self.old.arena b }
+        requires a { IsIndex self.old.arena a }
+        requires b { IsIndex self.old.arena b }
         requires sum { IsAt self.old.arena sum (can (sum_of (game_of self.old.arena a) (game_of self.old.arena b))) }
         ensures { self.new ≡ self.old }
     {
         let (low, high) = in_order(a, b);
-        self.held.memo.book.pairs.keep(low, high, sum);
+        self.cache.memo.interner.pairs.keep(low, high, sum);
     }
 }

@@ -1,47 +1,47 @@
-//! Items of the games of lists of handles, made beside the book of their work.
+//! Items of the games of lists of handles, made beside the interner of their work.
 ghost use Rattle.std.specs.Prelude.{◌≡◌, ◌+◌, ◌≤◌, ℕ, length};
 ghost use Rattle.cg_form.specs.Canonical.{Canonical};
 ghost use Rattle.cg_form.specs.Game.{node, number};
 ghost use Rattle.cg_cells.specs.Store.{Spends};
 ghost use Rattle.cg_nodes.specs.Can.{can};
 ghost use Rattle.cg_nodes.specs.Games.{AreGames, IsGame, ListsAs, StandsFor, game_at, games_at};
-ghost use Rattle.cg_book.specs.Pages.{games_of};
-ghost use Rattle.cg_book.specs.Settled.{IsNewForm};
+ghost use Rattle.cg_arena.specs.Arena.{games_of};
+ghost use Rattle.cg_arena.specs.Canonicalized.{IsNewForm};
 ghost use Rattle.cg_canon.specs.Arena.{Begins};
-ghost use Rattle.cg_canon.specs.Books.{BookHolds};
+ghost use Rattle.cg_canon.specs.Interners.{InternerHolds};
 ghost use Rattle.cg_canon.specs.Paid.{IsPaid, MayPay, written};
 ghost use Rattle.cg_canon.specs.Ways.{IsWay};
 
-use crate::book::{Book, put_handles};
 use crate::entering::enter_game;
 use crate::fault::ValueFault;
+use crate::interner::{Interner, put_handles};
 use crate::made::are_same;
 use crate::meter::Meter;
 use crate::value::{Way, value_of_lists};
-use cg_book::{NewForm, Profile, Settled};
+use cg_arena::{Canonicalized, NewForm, Profile};
 use cg_cells::CellStore;
 use cg_dyadic::Dyadic;
-use cg_nodes::{BoardForms, GameFacts, Handle, ListId, expect_game, game, list, number};
+use cg_nodes::{BoardForms, GameFacts, Handle, ListId, game, list, number, prefetch_game};
 use smallvec::SmallVec;
 use std::alloc::Global;
 
 /// Enters the form that was made, with this handle, unless it is there or there is no memory for it.
 fn enter_form<B: BoardForms, S: CellStore<GameFacts<B>>>(
     store: &S,
-    book: &mut Book,
+    interner: &mut Interner,
     handle: Handle,
     new: &NewForm,
 )
-    requires holds { BookHolds (S.state store.now) book.old }
+    requires holds { InternerHolds (S.state store.now) interner.old }
     requires game { IsGame (S.state store.now) handle }
     requires canonical { Canonical (game_at (S.state store.now) handle) }
-    requires form { IsNewForm book.old.pages (game_at (S.state store.now) handle) new.now }
-    ensures holds { BookHolds (S.state store.now) book.new }
-    ensures begins { Begins book.old.pages book.new.pages }
+    requires form { IsNewForm interner.old.arena (game_at (S.state store.now) handle) new.now }
+    ensures holds { InternerHolds (S.state store.now) interner.new }
+    ensures begins { Begins interner.old.arena interner.new.arena }
 {
     let lefts = new.form.lefts.as_slice();
     let rights = new.form.rights.as_slice();
-    let _entered = enter_game(store, book, handle, lefts, rights, &new.profile);
+    let _entered = enter_game(store, interner, handle, lefts, rights, &new.profile);
 }
 
 /// The list of the Right options, where that of the Left options was made. The same options have the same list, as those of
@@ -64,7 +64,7 @@ fn second_list<B: BoardForms, S: CellStore<GameFacts<B>>>(
     list(store, rights)
 }
 
-/// The handle of the game whose options have these handles. The store is told of all its cells before the first is claimed, so
+/// The handle of the game whose options have these handles. All its cells are prefetched before the first is claimed, so
 /// that it needn't wait for one after another.
 fn claimed_game<B: BoardForms, S: CellStore<GameFacts<B>>>(
     store: &mut S,
@@ -79,63 +79,65 @@ fn claimed_game<B: BoardForms, S: CellStore<GameFacts<B>>>(
         (node (games_at (S.state store.old) lefts.now) (games_at (S.state store.old) rights.now)) }
     ensures spends { (n : ℕ) × (n ≤ 1 + length lefts.now + length rights.now) × Spends n (S.state store.old) (S.state store.new) }
 {
-    expect_game(store, lefts, rights);
+    prefetch_game(store, lefts, rights);
     let left_list = list(store, lefts);
     let right_list = second_list(store, lefts, rights, left_list);
     game(store, left_list, right_list)
 }
 
-/// The handle of the form, whose options have these handles. It is entered in the book.
+/// The handle of the form, whose options have these handles. It is entered in the interner.
 fn claimed<B: BoardForms, S: CellStore<GameFacts<B>>>(
     store: &mut S,
-    book: &mut Book,
+    interner: &mut Interner,
     lefts: &[Handle],
     rights: &[Handle],
     new: &NewForm,
 ) -> Handle
-    requires holds { BookHolds (S.state store.old) book.old }
-    requires form { IsNewForm book.old.pages (written book.old.pages new.now) new.now }
-    requires canonical { Canonical (written book.old.pages new.now) }
+    requires holds { InternerHolds (S.state store.old) interner.old }
+    requires form { IsNewForm interner.old.arena (written interner.old.arena new.now) new.now }
+    requires canonical { Canonical (written interner.old.arena new.now) }
     requires spare { new.now.profile.cost ≤ (S.state store.old).spare }
     requires lefts { AreGames (S.state store.old) lefts.now }
     requires rights { AreGames (S.state store.old) rights.now }
-    requires left_games { games_at (S.state store.old) lefts.now ≡ games_of book.old.pages new.now.form.lefts.items }
-    requires right_games { games_at (S.state store.old) rights.now ≡ games_of book.old.pages new.now.form.rights.items }
-    ensures holds { BookHolds (S.state store.new) book.new }
-    ensures begins { Begins book.old.pages book.new.pages }
-    ensures game { StandsFor (S.state store.new) result (written book.old.pages new.now) }
+    requires left_games { games_at (S.state store.old) lefts.now ≡ games_of interner.old.arena
+        new.now.form.lefts.items }
+    requires right_games { games_at (S.state store.old) rights.now ≡ games_of interner.old.arena
+        new.now.form.rights.items }
+    ensures holds { InternerHolds (S.state store.new) interner.new }
+    ensures begins { Begins interner.old.arena interner.new.arena }
+    ensures game { StandsFor (S.state store.new) result (written interner.old.arena new.now) }
     ensures spends { (n : ℕ) × (n ≤ new.now.profile.cost) × Spends n (S.state store.old) (S.state store.new) }
 {
     let handle = claimed_game(store, lefts, rights);
-    enter_form(&*store, book, handle, new);
+    enter_form(&*store, interner, handle, new);
     handle
 }
 
 /// Makes the item of the canonical form that was found, with a cost of `extra` more.
-#[tactic(auto, using(crate::proofs::Booking::begins_none))]
+#[tactic(auto, using(crate::proofs::InternerSteps::begins_none))]
 pub(crate) fn make_form<B: BoardForms, S: CellStore<GameFacts<B>>>(
     alloc: Global,
     store: &mut S,
-    book: &mut Book,
+    interner: &mut Interner,
     meter: &mut Meter,
     new: &NewForm,
     extra: u64,
 ) -> Result<Handle, ValueFault>
     requires extra { extra ≤ 8 }
-    requires holds { BookHolds (S.state store.old) book.old }
-    requires form { IsNewForm book.old.pages (written book.old.pages new.now) new.now }
-    requires canonical { Canonical (written book.old.pages new.now) }
+    requires holds { InternerHolds (S.state store.old) interner.old }
+    requires form { IsNewForm interner.old.arena (written interner.old.arena new.now) new.now }
+    requires canonical { Canonical (written interner.old.arena new.now) }
     requires meter { MayPay (S.state store.old) meter.old }
-    ensures holds { BookHolds (S.state store.new) book.new }
-    ensures begins { Begins book.old.pages book.new.pages }
-    ensures paid { IsPaid (S.state store.old) (S.state store.new) meter.old meter.new (written book.old.pages new.now) extra result }
+    ensures holds { InternerHolds (S.state store.new) interner.new }
+    ensures begins { Begins interner.old.arena interner.new.arena }
+    ensures paid { IsPaid (S.state store.old) (S.state store.new) meter.old meter.new (written interner.old.arena new.now) extra result }
 {
     let mut lefts = SmallVec::new(alloc);
-    put_handles(&*store, book, new.form.lefts.as_slice(), &mut lefts)?;
+    put_handles(&*store, interner, new.form.lefts.as_slice(), &mut lefts)?;
     let mut rights = SmallVec::new(alloc);
-    put_handles(&*store, book, new.form.rights.as_slice(), &mut rights)?;
+    put_handles(&*store, interner, new.form.rights.as_slice(), &mut rights)?;
     meter.charge_form(&new.profile, extra)?;
-    Ok(claimed(store, book, lefts.as_slice(), rights.as_slice(), new))
+    Ok(claimed(store, interner, lefts.as_slice(), rights.as_slice(), new))
 }
 
 /// Makes the item of a number in range, with a cost of `extra` more.
@@ -157,7 +159,7 @@ pub(crate) fn make_number<B: BoardForms, S: CellStore<GameFacts<B>>>(
 pub(crate) fn make_canonical<B: BoardForms, S: CellStore<GameFacts<B>>>(
     alloc: Global,
     store: &mut S,
-    book: &mut Book,
+    interner: &mut Interner,
     meter: &mut Meter,
     lefts: &[Handle],
     rights: &[Handle],
@@ -165,19 +167,19 @@ pub(crate) fn make_canonical<B: BoardForms, S: CellStore<GameFacts<B>>>(
     extra: u64,
 ) -> Result<Handle, ValueFault>
     requires extra { extra ≤ 8 }
-    requires holds { BookHolds (S.state store.old) book.old }
+    requires holds { InternerHolds (S.state store.old) interner.old }
     requires lefts { AreGames (S.state store.old) lefts.now }
     requires rights { AreGames (S.state store.old) rights.now }
     requires way { IsWay way (games_at (S.state store.old) lefts.now) (games_at (S.state store.old) rights.now) }
     requires meter { MayPay (S.state store.old) meter.old }
-    ensures holds { BookHolds (S.state store.new) book.new }
+    ensures holds { InternerHolds (S.state store.new) interner.new }
     ensures paid { IsPaid (S.state store.old) (S.state store.new) meter.old meter.new
         (can (node (games_at (S.state store.old) lefts.now) (games_at (S.state store.old) rights.now))) extra result }
 {
-    let settled = value_of_lists(alloc, store, book, lefts, rights, way)?;
-    match settled {
-        Settled::Number(x) => make_number(store, meter, x, extra),
-        Settled::Outside => Err(ValueFault::Range),
-        Settled::Game(new) => make_form(alloc, store, book, meter, &new, extra),
+    let canonicalized = value_of_lists(alloc, store, interner, lefts, rights, way)?;
+    match canonicalized {
+        Canonicalized::Number(x) => make_number(store, meter, x, extra),
+        Canonicalized::Outside => Err(ValueFault::Range),
+        Canonicalized::Game(new) => make_form(alloc, store, interner, meter, &new, extra),
     }
 }

@@ -1,13 +1,13 @@
 //! What was found out of the games of a work.
 ghost use Rattle.std.specs.Prelude.{◌≡◌, ◌++◌, ◌∷◌, [], IfOk, IfSome, OnErr};
-ghost use Rattle.cg_book.specs.declared.recent.Answer.{Answer as Known};
-ghost use Rattle.cg_book.specs.Recents.{IsKept};
-ghost use Rattle.cg_canon.specs.Books.{AreApart};
+ghost use Rattle.cg_arena.specs.declared.order_memo.Answer.{Answer as Known};
+ghost use Rattle.cg_arena.specs.OrderMemos.{IsKept};
+ghost use Rattle.cg_canon.specs.Interners.{AreApart};
 ghost use Rattle.cg_canon.specs.Recognized.{AreRecognized};
 ghost use Rattle.cg_canon.specs.Memos.{IsAdded, added_sum};
 
-use crate::book::Book;
-use crate::places::{Places, half_of, mixed};
+use crate::hint_index::{HintIndex, half_of, mixed};
+use crate::interner::Interner;
 use cg_nodes::Handle;
 use std::alloc::{AllocError, Global};
 
@@ -33,10 +33,10 @@ pub(crate) struct AddedSum {
 /// The games that were met, and sums, by pairs of ids.
 #[derive(Drop)]
 pub(crate) struct Memo {
-    pub(crate) book: Book,
+    pub(crate) interner: Interner,
     sums: Vec<AddedSum>,
     /// Where the sum of a pair is looked for.
-    places: Places,
+    places: HintIndex,
 }
 
 /// A number for a pair of ids.
@@ -47,18 +47,18 @@ fn number_of(a: u32, b: u32) -> u32 {
 impl Memo {
     /// Of nothing.
     pub fn new(alloc: Global) -> Memo
-        ensures pages { result.book.pages ≡ [] }
-        ensures handles { result.book.handles.items ≡ [] }
-        ensures answers { (x : Known) → IsKept result.book.answers x → ⊥ }
-        ensures pairs { result.book.pairs.sums.items ≡ [] }
-        ensures apart { AreApart result.book.handles.items result.book.links result.book.is_whole }
-        ensures recognized { AreRecognized [] result.book.recognized }
+        ensures arena { result.interner.arena ≡ [] }
+        ensures handles { result.interner.handles.items ≡ [] }
+        ensures answers { (x : Known) → IsKept result.interner.answers x → ⊥ }
+        ensures pairs { result.interner.pairs.sums.items ≡ [] }
+        ensures apart { AreApart result.interner.handles.items result.interner.by_id result.interner.is_complete }
+        ensures recognized { AreRecognized [] result.interner.recognized }
         ensures sums { result.sums.items ≡ [] }
     {
         Memo {
-            book: Book::new(alloc),
+            interner: Interner::new(alloc),
             sums: Vec::new(alloc),
-            places: Places::new(alloc),
+            places: HintIndex::new(alloc),
         }
     }
 
@@ -90,7 +90,7 @@ impl Memo {
     pub fn keep_added(&mut self, a: u32, b: u32, known: KnownSum) -> Result<(), AllocError>
         ensures ok { IfOk result (λ _. self.new.sums.items ≡ self.old.sums.items ++ (added_sum a b known ∷ [])) }
         ensures err { OnErr result (self.new.sums.items ≡ self.old.sums.items) }
-        ensures book { self.new.book ≡ self.old.book }
+        ensures interner { self.new.interner ≡ self.old.interner }
     {
         self.sums.push(AddedSum { a, b, known })?;
         self.places.add(number_of(a, b));

@@ -2,10 +2,10 @@
 ghost use Rattle.std.specs.Prelude.{◌≡◌, ◌+◌, ◌<◌, ◌≤◌, ◌^◌, IfOk, IfErr, OnOk, OnErr, [], ◌∷◌};
 ghost use Rattle.cg_form.specs.Game.{Game};
 ghost use Rattle.cg_canon.specs.Items.{AllPass, WasRefused, made};
-ghost use Rattle.cg_book.specs.Profiles.{IsProfile};
+ghost use Rattle.cg_arena.specs.Profiles.{IsProfile};
 
 use crate::fault::ValueFault;
-use cg_book::Profile;
+use cg_arena::Profile;
 
 /// What was spent, and what may be.
 #[derive(Clone, Copy)]

@@ -6,7 +6,7 @@ ghost use Rattle.cg_form.specs.Game.{number};
 ghost use Rattle.cg_form.specs.Order.{le};
 ghost use Rattle.cg_cells.specs.Store.{Spends};
 ghost use Rattle.cg_nodes.specs.Games.{IsGame, game_at};
-ghost use Rattle.cg_book.specs.Pages.{IsPage, game_of};
+ghost use Rattle.cg_arena.specs.Arena.{IsIndex, game_of};
 ghost use Rattle.cg_canon.specs.Works.{work_state};
 
 use crate::work::Work;
@@ -49,7 +49,7 @@ pub fn le_number<B: BoardForms, S: CellStore<GameFacts<B>>>(
 impl<'a, B: BoardForms, S: CellStore<GameFacts<B>>> Work<'a, B, S> {
     /// Whether x is at most the game at the index.
     pub fn number_le_at(&self, x: Dyadic, index: u32) -> bool
-        requires { IsPage self.now.arena index }
+        requires { IsIndex self.now.arena index }
         ensures { result ≡ le (number x) (game_of self.now.arena index) }
     {
         in_cut(true, &self.profile_at(index).low, x)
@@ -57,7 +57,7 @@ impl<'a, B: BoardForms, S: CellStore<GameFacts<B>>> Work<'a, B, S> {
 
     /// Whether the game at the index is at most x.
     pub fn le_number_at(&self, index: u32, x: Dyadic) -> bool
-        requires { IsPage self.now.arena index }
+        requires { IsIndex self.now.arena index }
         ensures { result ≡ le (game_of self.now.arena index) (number x) }
     {
         in_cut(false, &self.profile_at(index).high, x)

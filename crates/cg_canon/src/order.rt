@@ -3,11 +3,11 @@ ghost use Rattle.std.specs.Prelude.{◌≡◌, IfOk};
 ghost use Rattle.cg_form.specs.Order.{le};
 ghost use Rattle.cg_cells.specs.Store.{Spends};
 ghost use Rattle.cg_nodes.specs.Games.{IsGame, game_at};
-ghost use Rattle.cg_book.specs.Pages.{IsPage, game_of};
+ghost use Rattle.cg_arena.specs.Arena.{IsIndex, game_of};
 ghost use Rattle.cg_canon.specs.Works.{work_state};
 
 use crate::work::Work;
-use cg_book::at_most;
+use cg_arena::at_most;
 use cg_cells::CellStore;
 use cg_nodes::{BoardForms, GameFacts, Handle};
 use std::alloc::{AllocError, Global};
@@ -34,12 +34,12 @@ pub fn le<B: BoardForms, S: CellStore<GameFacts<B>>>(
 impl<'a, B: BoardForms, S: CellStore<GameFacts<B>>> Work<'a, B, S> {
     /// Whether a <= b, where the two stand at these indexes. The only error is want of memory.
     pub fn le_at(&mut self, a: u32, b: u32) -> Result<bool, AllocError>
-        requires a { IsPage self.old.arena a }
-        requires b { IsPage self.old.arena b }
+        requires a { IsIndex self.old.arena a }
+        requires b { IsIndex self.old.arena b }
         ensures order { IfOk result (λ answer. answer ≡ le (game_of self.old.arena a) (game_of self.old.arena b)) }
         ensures same { self.new ≡ self.old }
     {
-        let book = &mut self.held.memo.book;
-        at_most(&book.pages, &mut book.answers, true, a, b)
+        let interner = &mut self.cache.memo.interner;
+        at_most(&interner.arena, &mut interner.answers, true, a, b)
     }
 }

@@ -6,7 +6,7 @@ ghost use Rattle.cg_form.specs.Sum.{sum as sum_of};
 ghost use Rattle.cg_nodes.specs.Can.{can};
 ghost use Rattle.cg_nodes.specs.Games.{IsGame, game_at};
 ghost use Rattle.cg_nodes.specs.Spelled.{game_meaning};
-ghost use Rattle.cg_book.specs.Pages.{IsPage, game_of};
+ghost use Rattle.cg_arena.specs.Arena.{IsIndex, game_of};
 ghost use Rattle.cg_canon.specs.Arena.{Begins, IsAt};
 ghost use Rattle.cg_canon.specs.Notes.{IsNoteOf};
 ghost use Rattle.cg_canon.specs.Works.{work_state};
@@ -56,8 +56,8 @@ impl<'a, B: BoardForms, S: CellStore<GameFacts<B>>> Work<'a, B, S> {
     /// claim.
     pub fn pair_cell(&mut self, a: u32, b: u32) -> Id
         requires spare { 1 ≤ (work_state S.state self.old).spare }
-        requires a { IsPage self.old.arena a }
-        requires b { IsPage self.old.arena b }
+        requires a { IsIndex self.old.arena a }
+        requires b { IsIndex self.old.arena b }
         ensures note { IsNoteOf (game_meaning B.form) (work_state S.state self.new) result
             (sum_of (game_of self.old.arena a) (game_of self.old.arena b)) }
         ensures spends { Spends 1 (work_state S.state self.old) (work_state S.state self.new) }

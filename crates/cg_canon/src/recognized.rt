@@ -4,13 +4,13 @@
 ghost use Rattle.std.specs.Prelude.{◌≡◌, ◌≤◌, ◌∷◌, [], List, IfSome, IsTrue, length, take};
 ghost use Rattle.cg_form.specs.Game.{Game, node};
 ghost use Rattle.cg_form.specs.Order.{Equal};
-ghost use Rattle.cg_book.specs.Pages.{games_of};
+ghost use Rattle.cg_arena.specs.Arena.{games_of};
 ghost use Rattle.cg_canon.specs.NumberUpStars.{game_of as game_of_parts};
 ghost use Rattle.cg_canon.specs.Recognized.{AreNimbers, AreRecognized, IsKnownAt, IsListed};
 
-use crate::book::are_equal;
+use crate::hint_index::{HintIndex, half_of, mixed};
+use crate::interner::are_equal;
 use crate::number_up_star::NumberUpStar;
-use crate::places::{Places, half_of, mixed};
 use std::alloc::Global;
 
 /// A game with what it is known as.
@@ -27,7 +27,7 @@ pub(crate) struct Recognized {
     /// For each index where its game may stand among the games.
     marks: Vec<u32>,
     /// Where a game is looked for by its parts.
-    by_parts: Places,
+    by_parts: HintIndex,
     /// The indexes of 0, *1, *2 and so on, as far as they were met in this order.
     nimbers: Vec<u32>,
 }
@@ -91,7 +91,7 @@ impl Recognized {
         Recognized {
             games: Vec::new(alloc),
             marks: Vec::new(alloc),
-            by_parts: Places::new(alloc),
+            by_parts: HintIndex::new(alloc),
             nimbers: Vec::new(alloc),
         }
     }

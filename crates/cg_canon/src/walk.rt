@@ -6,12 +6,12 @@ ghost use Rattle.std.specs.Prelude.{◌≡◌, ℕ, ◌<◌, ◌≤◌, ◌^◌,
 ghost use Rattle.cg_form.specs.Canonical.{Canonical};
 ghost use Rattle.cg_form.specs.Extended.{positions_before};
 ghost use Rattle.cg_form.specs.Game.{Among, Game};
-ghost use Rattle.cg_book.specs.Pages.{ArePages, IsPage, game_of, games_of};
+ghost use Rattle.cg_arena.specs.Arena.{AreIndexes, IsIndex, game_of, games_of};
 ghost use Rattle.cg_canon.specs.Walk.{IsPlace};
 ghost use Rattle.cg_canon.specs.Walking.{Appended, AreApart, AreMarked, HasPlace, found_in};
 
 use crate::number_up_star::zero;
-use cg_book::{Pages, Read};
+use cg_arena::{Arena, Read};
 use cg_nodes::PositionsFault;
 use std::alloc::{AllocError, Global};
 
@@ -74,19 +74,19 @@ impl Walk {
     /// Puts the places of the games at these indexes, which were all found, behind the options.
     fn put_options(
         &mut self,
-        pages: &Pages,
+        arena: &Arena,
         marks: &[usize],
         indexes: &[u32],
     ) -> Result<(), AllocError>
-        requires apart { AreApart pages.now }
-        requires marked { AreMarked pages.now marks.now self.old.positions.items }
-        requires indexes { ArePages pages.now indexes.now }
-        requires found { (g : Game) → Among g (games_of pages.now indexes.now) → Among g (found_in pages.now self.old.positions.items) }
+        requires apart { AreApart arena.now }
+        requires marked { AreMarked arena.now marks.now self.old.positions.items }
+        requires indexes { AreIndexes arena.now indexes.now }
+        requires found { (g : Game) → Among g (games_of arena.now indexes.now) → Among g (found_in arena.now self.old.positions.items) }
         ensures positions { self.new.positions.items ≡ self.old.positions.items }
         ensures options { OnOk result (Appended self.old.positions.items self.old.options.items self.new.options.items indexes.now) }
     {
         // Read for the proof alone: the marks of these games are their places.
-        let _ = pages;
+        let _ = arena;
         for index in indexes {
             self.options.push(marks[*index as usize])?;
         }
@@ -96,23 +96,23 @@ impl Walk {
     /// The position of the game at the index, which is the next one. The places of its options are put behind the options.
     pub(crate) fn position(
         &mut self,
-        pages: &Pages,
+        arena: &Arena,
         marks: &[usize],
         index: u32,
     ) -> Result<Position, AllocError>
-        requires apart { AreApart pages.now }
-        requires marked { AreMarked pages.now marks.now self.old.positions.items }
-        requires index { IsPage pages.now index }
-        requires found { (g : Game) → Among g (positions_before (game_of pages.now index)) → Among g (found_in pages.now self.old.positions.items) }
+        requires apart { AreApart arena.now }
+        requires marked { AreMarked arena.now marks.now self.old.positions.items }
+        requires index { IsIndex arena.now index }
+        requires found { (g : Game) → Among g (positions_before (game_of arena.now index)) → Among g (found_in arena.now self.old.positions.items) }
         ensures positions { self.new.positions.items ≡ self.old.positions.items }
         ensures more { OnOk result ((more : List ℕ) × (self.new.options.items ≡ self.old.options.items ++ more)) }
-        ensures canonical { OnOk result (Canonical (game_of pages.now index)) }
+        ensures canonical { OnOk result (Canonical (game_of arena.now index)) }
         ensures index { IfOk result (λ p. p.index ≡ index) }
         ensures place { IfOk result (IsPlace self.new.options.items
-            (found_in pages.now self.old.positions.items ++ (game_of pages.now index ∷ [])) (length self.old.positions.items)) }
+            (found_in arena.now self.old.positions.items ++ (game_of arena.now index ∷ [])) (length self.old.positions.items)) }
     {
         let lefts = self.options.len();
-        match pages.read(index) {
+        match arena.read(index) {
             Read::Number(x) => Ok(Position {
                 index,
                 lefts,
@@ -122,9 +122,9 @@ impl Walk {
                 is_zero: x == zero(),
             }),
             Read::Game(left_options, right_options) => {
-                self.put_options(pages, marks, left_options)?;
+                self.put_options(arena, marks, left_options)?;
                 let rights = self.options.len();
-                self.put_options(pages, marks, right_options)?;
+                self.put_options(arena, marks, right_options)?;
                 Ok(Position {
                     index,
                     lefts,

@@ -1,7 +1,7 @@
 //! Walks of a work over its arena.
 ghost use Rattle.std.specs.Prelude.{◌≡◌, ◌⊎◌, ◌<◌, ◌≤◌, ◌^◌, IfErr, IfOk, OnOk, Err, length};
 ghost use Rattle.cg_form.specs.Positions.{positions_of};
-ghost use Rattle.cg_book.specs.Pages.{IsPage, game_of};
+ghost use Rattle.cg_arena.specs.Arena.{IsIndex, game_of};
 ghost use Rattle.cg_canon.specs.Walk.{IsWalk};
 
 use crate::fault::ValueFault;
@@ -31,19 +31,22 @@ impl<'a, B: BoardForms, S: CellStore<GameFacts<B>>> Work<'a, B, S> {
         index: u32,
         limit: u64,
     ) -> Result<Walk, PositionsFault>
-        requires { IsPage self.old.arena index }
+        requires { IsIndex self.old.arena index }
         ensures walk { IfOk result (λ w. IsWalk self.old.arena w (positions_of (game_of self.old.arena index))) }
         ensures within { OnOk result (length (positions_of (game_of self.old.arena index)) ≤ limit) }
         ensures refused { result ≡ Err PositionsFault.Positions
             → (limit < length (positions_of (game_of self.old.arena index))) × (limit < 2 ^ 63) }
         ensures same { self.new ≡ self.old }
     {
-        mark_all(&mut self.held.marks, self.held.memo.book.pages.count())?;
+        mark_all(
+            &mut self.cache.marks,
+            self.cache.memo.interner.arena.count(),
+        )?;
         let mut walk = Walk::new(alloc)?;
         self.store.apart();
         walk_index(
-            &self.held.memo.book.pages,
-            &mut self.held.marks,
+            &self.cache.memo.interner.arena,
+            &mut self.cache.marks,
             &mut walk,
             index,
             limit,
@@ -54,7 +57,7 @@ impl<'a, B: BoardForms, S: CellStore<GameFacts<B>>> Work<'a, B, S> {
     /// The positions of the game at the index. `Positions` comes exactly where there are more than the work's limit; the other error
     /// is want of memory.
     pub fn walk(&mut self, alloc: Global, index: u32) -> Result<Walk, ValueFault>
-        requires { IsPage self.old.arena index }
+        requires { IsIndex self.old.arena index }
         ensures walk { IfOk result (λ w. IsWalk self.old.arena w (positions_of (game_of self.old.arena index))) }
         ensures within { OnOk result (length (positions_of (game_of self.old.arena index)) ≤ self.old.limit) }
         ensures refused { IfErr result (λ fault. (fault ≡ ValueFault.Memory) ⊎ ((fault ≡ ValueFault.Positions)

@@ -1,16 +1,16 @@
 //! A store with a meter, and with a cache of what was found out of its games.
 ghost use Rattle.std.specs.Prelude.{◌≡◌, ◌+◌, ◌<◌, ◌-◌, ◌≤◌, ◌^◌, ◌↔◌, IfOk, IfErr, IsTrue, OnOk, OnErr, [], ◌∷◌, false};
 ghost use Rattle.cg_form.specs.Game.{Game};
-ghost use Rattle.cg_book.specs.Profiles.{IsProfile};
-ghost use Rattle.cg_canon.specs.Held.{IsHeld};
+ghost use Rattle.cg_arena.specs.Profiles.{IsProfile};
+ghost use Rattle.cg_canon.specs.Cache.{CacheHolds};
 ghost use Rattle.cg_canon.specs.Items.{AllPass, WasRefused, made};
 ghost use Rattle.cg_canon.specs.Works.{MeterHolds, WorkOf, work_code, work_state};
 
+use crate::cache::Cache;
 use crate::fault::ValueFault;
-use crate::held::Held;
 use crate::meter::Meter;
 use crate::rest::WorkRest;
-use cg_book::Profile;
+use cg_arena::Profile;
 use cg_cells::{CellStore, Id, Key};
 use cg_nodes::{BoardForms, GameFacts};
 use std::alloc::Global;
@@ -28,7 +28,7 @@ pub struct Work<'a, B: BoardForms, S: CellStore<GameFacts<B>>> {
     pub(crate) meter: Meter,
     start: u64,
     limit: u64,
-    pub(crate) held: Held,
+    pub(crate) cache: Cache,
     of: PhantomData<B>,
 }
 
@@ -43,10 +43,10 @@ impl<'a, B: BoardForms, S: CellStore<GameFacts<B>>> Model for Work<'a, B, S> {
       share = w.meter.share;
       start = w.start;
       limit = w.limit;
-      arena = w.held.memo.book.pages;
+      arena = w.cache.memo.interner.arena;
     } };
 
-    ghost invariant = { λ w. MeterHolds (S.state w.store.now) w.meter.spent w.meter.share w.start × IsHeld (S.state w.store.now) w.held };
+    ghost invariant = { λ w. MeterHolds (S.state w.store.now) w.meter.spent w.meter.share w.start × CacheHolds (S.state w.store.now) w.cache };
 }
 
 impl<'a, B: BoardForms, S: CellStore<GameFacts<B>>> Work<'a, B, S> {
@@ -61,14 +61,14 @@ impl<'a, B: BoardForms, S: CellStore<GameFacts<B>>> Work<'a, B, S> {
         ensures start { result.start ≡ (S.state store.old).spare }
         ensures limit { result.limit ≡ positions }
     {
-        Work::resume(store, share, positions, Held::new(alloc))
+        Work::resume(store, share, positions, Cache::new(alloc))
     }
 
     /// A work on the store, as [`Work::new`] begins it, that takes up the cache of an earlier work on this store, or on one that
     /// knew no more.
-    pub fn resume(store: &'a mut S, share: u64, positions: u64, held: Held) -> Work<'a, B, S>
+    pub fn resume(store: &'a mut S, share: u64, positions: u64, cache: Cache) -> Work<'a, B, S>
         requires spare { share ≤ (S.state store.old).spare }
-        requires held { IsHeld (S.state store.old) held }
+        requires cache { CacheHolds (S.state store.old) cache }
         ensures same_reference { result.store.ghost_name ≡ store.entry.ghost_name }
         ensures store { result.store.now ≡ store.old }
         ensures spent { result.spent ≡ 0 }
@@ -82,7 +82,7 @@ impl<'a, B: BoardForms, S: CellStore<GameFacts<B>>> Work<'a, B, S> {
             meter: Meter { spent: 0, share },
             start,
             limit: positions,
-            held,
+            cache,
             of: PhantomData,
         }
     }
@@ -115,7 +115,7 @@ impl<'a, B: BoardForms, S: CellStore<GameFacts<B>>> Work<'a, B, S> {
             meter: _,
             start: _,
             limit: _,
-            held: _,
+            cache: _,
             of: _,
         } = self;
         store
@@ -123,11 +123,11 @@ impl<'a, B: BoardForms, S: CellStore<GameFacts<B>>> Work<'a, B, S> {
 
     /// The cache, but for most answers to comparisons, for a later work on a store that knows at least as much. This work goes on
     /// with an empty one.
-    pub fn take_held(&mut self, alloc: Global) -> Held
-        ensures held { IsHeld (S.state self.old.store.now) result }
+    pub fn take_cache(&mut self, alloc: Global) -> Cache
+        ensures cache { CacheHolds (S.state self.old.store.now) result }
         ensures same { self.new ≡ record self.old { arena = [] } }
     {
-        replace(&mut self.held, Held::new(alloc)).for_later()
+        replace(&mut self.cache, Cache::new(alloc)).for_later()
     }
 
     /// Charges the cost, unless that would bring the total above the share, and says whether it did.
@@ -183,12 +183,12 @@ impl<'a, B: BoardForms, S: CellStore<GameFacts<B>>> CellStore<GameFacts<B>> for 
         self.store.noted(id)
     }
 
-    fn expect_claim(&mut self, key: Key) -> Id {
-        self.store.expect_claim(key)
+    fn prefetch_claim(&mut self, key: Key) -> Id {
+        self.store.prefetch_claim(key)
     }
 
-    fn expect_note(&mut self, id: Id) {
-        self.store.expect_note(id);
+    fn prefetch_note(&mut self, id: Id) {
+        self.store.prefetch_note(id);
     }
 
     fn spare(&self) -> u64 {

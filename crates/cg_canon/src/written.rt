@@ -3,13 +3,13 @@ ghost use Rattle.std.specs.Prelude.{IfOk, OnOk};
 ghost use Rattle.cg_form.specs.Canonical.{Canonical};
 ghost use Rattle.cg_cells.specs.Store.{Spends};
 ghost use Rattle.cg_nodes.specs.Games.{IsGame, StandFor, game_at};
-ghost use Rattle.cg_book.specs.Pages.{ArePages, games_of};
+ghost use Rattle.cg_arena.specs.Arena.{AreIndexes, games_of};
 ghost use Rattle.cg_canon.specs.Written.{IsWrittenAs};
 ghost use Rattle.cg_canon.specs.Works.{work_state};
 
-use crate::book::{HandleList, put_handles};
+use crate::interner::{HandleList, put_handles};
 use crate::work::Work;
-use cg_book::Read;
+use cg_arena::Read;
 use cg_cells::CellStore;
 use cg_dyadic::Dyadic;
 use cg_nodes::{BoardForms, GameFacts, Handle};
@@ -28,11 +28,11 @@ pub enum Written {
 impl<'a, B: BoardForms, S: CellStore<GameFacts<B>>> Work<'a, B, S> {
     /// The handles of the games at the indexes, in their order. The only error is want of memory.
     fn handles_at(&self, alloc: Global, indexes: &[u32]) -> Result<HandleList, AllocError>
-        requires { ArePages self.now.arena indexes.now }
+        requires { AreIndexes self.now.arena indexes.now }
         ensures { IfOk result (λ all. StandFor (work_state S.state self.now) all.items (games_of self.now.arena indexes.now)) }
     {
         let mut all = SmallVec::new(alloc);
-        put_handles(&*self.store, &self.held.memo.book, indexes, &mut all)?;
+        put_handles(&*self.store, &self.cache.memo.interner, indexes, &mut all)?;
         Ok(all)
     }
 

@@ -220,7 +220,7 @@ impl<F: Facts> CellStore<F> for PlainStore<F> {
     }
 
     /// Nothing is brought near, and the id is that of the first cell.
-    fn expect_claim(&mut self, key: Key) -> Id
+    fn prefetch_claim(&mut self, key: Key) -> Id
         ensures same { self.new ≡ self.old }
         ensures spends { Spends 0 (state_of F.meaning self.old) (state_of F.meaning self.new) }
     {
@@ -229,7 +229,7 @@ impl<F: Facts> CellStore<F> for PlainStore<F> {
     }
 
     /// Nothing is brought near.
-    fn expect_note(&mut self, id: Id)
+    fn prefetch_note(&mut self, id: Id)
         ensures same { self.new ≡ self.old }
         ensures spends { Spends 0 (state_of F.meaning self.old) (state_of F.meaning self.new) }
     {

@@ -82,11 +82,11 @@ pub trait CellStore<F: Facts> {
     /// Hint: this key may be claimed soon, so that the store may bring the words of its cell near.
     /// It answers the id that the claim would most likely give. A hint need not be right: nothing
     /// that contracts see changes, the key need not spell a thing, and the id need not be known.
-    fn expect_claim(&mut self, key: Key) -> Id
+    fn prefetch_claim(&mut self, key: Key) -> Id
         ensures { Spends 0 (state self.old) (state self.new) };
 
     /// Hint: a note may be looked for on this id soon. It need not be right, and the id need not be known.
-    fn expect_note(&mut self, id: Id)
+    fn prefetch_note(&mut self, id: Id)
         ensures { Spends 0 (state self.old) (state self.new) };
 
     /// Fact: different known ids are known to be different things. The call does nothing: where

@@ -5,7 +5,7 @@ use Rattle.cg_dyadic.specs.Number.{number_lefts, number_rights}
 use Rattle.cg_form.specs.Game.{Game, node, number}
 use Rattle.cg_form.specs.Side.{near}
 use Rattle.cg_form.proofs.Among.{lefts-node, rights-node}
-use Rattle.cg_book.specs.Pages.{ArePages, game_of, games_of}
+use Rattle.cg_arena.specs.Arena.{AreIndexes, game_of, games_of}
 use Rattle.cg_cert.specs.declared.position.Position.{Position}
 use Rattle.cg_cert.specs.declared.position.Position.TheVariants.{At, Number}
 use Rattle.cg_cert.specs.Positions.{ArePositions, ArePositionsOf, positions_at}
@@ -13,7 +13,7 @@ use Rattle.cg_cert.specs.Positions.{ArePositions, ArePositionsOf, positions_at}
 module _ (arena : List Game) where
   -- ---- the positions at indexes
 
-  are_at : (is : List ℕ) → ArePages arena is → ArePositions arena (map At is)
+  are_at : (is : List ℕ) → AreIndexes arena is → ArePositions arena (map At is)
   are_at [] a = tt
   are_at (i ∷ is) a = (a 0 i (omega arith), are_at is (λ k d l. a (suc k) d (omega arith)))
 
@@ -49,13 +49,13 @@ module _ (arena : List Game) where
   own_games true ls rs = sym (lefts-node (games_of arena ls) (games_of arena rs))
   own_games false ls rs = sym (rights-node (games_of arena ls) (games_of arena rs))
 
-  own_pages : (left : Bool) (ls rs : List ℕ) → ArePages arena ls → ArePages arena rs → ArePages arena (cond left ls rs)
-  own_pages true ls rs a b = a
-  own_pages false ls rs a b = b
+  own_indexes : (left : Bool) (ls rs : List ℕ) → AreIndexes arena ls → AreIndexes arena rs → AreIndexes arena (cond left ls rs)
+  own_indexes true ls rs a b = a
+  own_indexes false ls rs a b = b
 
   pub listed : {V E : Type 0} (left : Bool) (g : Game) (ls rs now : List ℕ) (f : V → List Position) (result : Result V E)
-      → ArePages arena ls × ArePages arena rs × (g ≡ node (games_of arena ls) (games_of arena rs))
+      → AreIndexes arena ls × AreIndexes arena rs × (g ≡ node (games_of arena ls) (games_of arena rs))
       → now ≡ cond left ls rs → IfOk result (λ v. f v ≡ map At now) → IfOk result (λ v. ArePositionsOf arena (f v) (near left g))
   listed left g ls rs now f (Ok v) (a, b, k) n e = let own = cond left ls rs in
-      rw (e, n) (rw k (are_at own (own_pages left ls rs a b), games_at own ∙ own_games left ls rs))
+      rw (e, n) (rw k (are_at own (own_indexes left ls rs a b), games_at own ∙ own_games left ls rs))
   listed left g ls rs now f (Err a) k n e = tt

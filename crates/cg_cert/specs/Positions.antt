@@ -2,7 +2,7 @@
 use Rattle.std.specs.Prelude.{◌≡◌, ℕ, Bool, true, false, not, Option, Some, None, List, [], ◌∷◌, map, slice_get}
 use Rattle.cg_form.specs.Game as tree
 use Rattle.cg_form.specs.Side.{at_most, near}
-use Rattle.cg_book.specs.Pages.{IsPage, game_of}
+use Rattle.cg_arena.specs.Arena.{IsIndex, game_of}
 use Rattle.cg_cert.specs.declared.position.Position.{Position}
 use Rattle.cg_cert.specs.declared.stage.Stage.{Stage}
 use Rattle.cg_cert.specs.declared.choice.Choice.{Choice}
@@ -19,7 +19,7 @@ position_at arena (At i) = game_of arena i
 -- a number stands for itself; an index is one of the arena
 abbrev pub IsPosition : List tree.Game → Position → Type 0
 IsPosition arena (Number x) = Unit {0}
-IsPosition arena (At i) = IsPage arena i
+IsPosition arena (At i) = IsIndex arena i
 
 abbrev pub ArePositions : List tree.Game → List Position → Type 0
 ArePositions arena [] = Unit {0}

@@ -3,7 +3,7 @@ ghost use Rattle.std.specs.Prelude.{◌≡◌, IfOk, cond, map};
 ghost use Rattle.cg_dyadic.specs.Number.{number_lefts, number_rights};
 ghost use Rattle.cg_form.specs.Order.{le};
 ghost use Rattle.cg_form.specs.Side.{at_most, near};
-ghost use Rattle.cg_book.specs.Pages.{IsRead};
+ghost use Rattle.cg_arena.specs.Arena.{IsRead};
 ghost use Rattle.cg_cert.specs.Pairs.{is_number};
 ghost use Rattle.cg_cert.specs.Positions.{IsPosition, ArePositionsOf, position_at};
 

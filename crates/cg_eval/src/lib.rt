@@ -29,4 +29,4 @@ pub use adder::SumAdder;
 pub use answered::Answered;
 pub use forms::{CgBoards, may_note};
 pub use line::answer;
-pub use reply::{answer_query, answer_query_held};
+pub use reply::{answer_query, answer_query_cached};

@@ -3,7 +3,7 @@ ghost use Rattle.std.specs.Prelude.{◌≡◌, ◌+◌, ◌≤◌, IfOk};
 ghost use Rattle.std.specs.FinMap as map;
 ghost use Rattle.std.specs.Ordering.{nat_cmp};
 ghost use Rattle.cg_nodes.specs.Meant.{Meant};
-ghost use Rattle.cg_canon.specs.Held.{IsHeld, knowing};
+ghost use Rattle.cg_canon.specs.Cache.{CacheHolds, knowing};
 ghost use Rattle.cg_canon.specs.Works.{Keeps, work_state};
 ghost use Rattle.cg_eval.specs.Faults.{question_fault};
 ghost use Rattle.cg_eval.specs.Refused.{IsRefusedOver};
@@ -17,7 +17,7 @@ use crate::faults::question_fault;
 use crate::forms::CgBoards;
 use crate::question::answer_question;
 use crate::refusals::{refuse_board, refuse_value};
-use cg_canon::{Held, ValueFault, Work};
+use cg_canon::{Cache, ValueFault, Work};
 use cg_cells::CellStore;
 use cg_nodes::GameFacts;
 use cg_syntax::Query;
@@ -45,42 +45,43 @@ pub fn answer_query<S: CellStore<GameFacts<CgBoards>>>(
     ensures keeps { KeepsStore (S.state store.old) (S.state store.new) }
     ensures spare { (S.state store.old).spare ≤ (S.state store.new).spare + share }
 {
-    let mut held = Held::new(alloc);
-    answer_query_held(alloc, store, &mut held, query, share, positions)
+    let mut cache = Cache::new(alloc);
+    answer_query_cached(alloc, store, &mut cache, query, share, positions)
 }
 
 /// The reply to a question, as [`answer_query`] gives it, with the help of what earlier questions on the same
 /// store found out. What this one finds out besides is there for later ones, unless it has become so much that they
 /// would rather begin anew.
-pub fn answer_query_held<S: CellStore<GameFacts<CgBoards>>>(
+pub fn answer_query_cached<S: CellStore<GameFacts<CgBoards>>>(
     alloc: Global,
     store: &mut S,
-    held: &mut Held,
+    cache: &mut Cache,
     query: &Query,
     share: u64,
     positions: u64,
 ) -> Result<Answered, AllocError>
     requires spare { share ≤ (S.state store.old).spare }
-    requires held { IsHeld (S.state store.old) held.old }
+    requires cache { CacheHolds (S.state store.old) cache.old }
     ensures reply { IfOk result (IsAnswered share positions (S.state store.new) (question_of query.now)) }
     ensures keeps { KeepsStore (S.state store.old) (S.state store.new) }
     ensures spare { (S.state store.old).spare ≤ (S.state store.new).spare + share }
-    ensures held { IsHeld (S.state store.new) held.new }
+    ensures cache { CacheHolds (S.state store.new) cache.new }
 {
-    let own = mem::replace(held, Held::new(alloc));
+    let own = mem::replace(cache, Cache::new(alloc));
     let mut work = Work::resume(store, share, positions, own);
     let replied = reply_on(alloc, &mut work, query);
-    *held = kept(alloc, work.take_held(alloc));
+    *cache = kept(alloc, work.take_cache(alloc));
     let _store = work.into_store();
     replied
 }
 
 /// What was found out, or nothing where it is so much that later questions would rather begin anew.
-fn kept(alloc: Global, found: Held) -> Held
-    ensures { (known : map.FinMap nat_cmp Meant) → IsHeld (knowing known) found → IsHeld (knowing known) result }
+fn kept(alloc: Global, found: Cache) -> Cache
+    ensures { (known : map.FinMap nat_cmp Meant) → CacheHolds (knowing known) found → CacheHolds (knowing known)
+        result }
 {
     if found.is_large() {
-        Held::new(alloc)
+        Cache::new(alloc)
     } else {
         found
     }

@@ -6,7 +6,7 @@ ghost use Rattle.cg_moves.specs.Graph.{IsAt};
 ghost use Rattle.cg_moves.specs.Rules.{In};
 
 use crate::{Board, BoardKey, ReachFault};
-use cg_links::Links;
+use cg_hash_index::HashIndex;
 use std::alloc::Global;
 use std::marker::Model;
 
@@ -26,7 +26,7 @@ fn has_key(boards: &[Board], number: usize, key: &BoardKey) -> bool
 pub(crate) struct Found {
     boards: Vec<Board>,
     /// Where boards are looked for, by the numbers of their keys.
-    links: Links,
+    by_number: HashIndex,
 }
 
 impl Model for Found {
@@ -43,7 +43,7 @@ impl Model for Found {
 
     ghost view = { λ s. s.boards.items };
 
-    ghost invariant = { λ s. AreNumbers s.links s.boards.items × AreGrids s.boards.items };
+    ghost invariant = { λ s. AreNumbers s.by_number s.boards.items × AreGrids s.boards.items };
 }
 
 impl Found {
@@ -53,7 +53,7 @@ impl Found {
     {
         Found {
             boards: Vec::new(alloc),
-            links: Links::new(alloc),
+            by_number: HashIndex::new(alloc),
         }
     }
 
@@ -81,7 +81,7 @@ impl Found {
     {
         let key = board.key();
         let boards = self.boards.as_slice();
-        self.links
+        self.by_number
             .find(key.number(), |number| has_key(boards, number, &key))
     }
 
@@ -102,7 +102,7 @@ impl Found {
             return Err(ReachFault::Positions);
         }
         self.boards.reserve(1)?;
-        self.links.add(board.key().number())?;
+        self.by_number.add(board.key().number())?;
         self.boards.push(board)?;
         Ok(number)
     }
@@ -129,7 +129,10 @@ impl Found {
     pub(crate) fn into_boards(self) -> Vec<Board>
         ensures { result.items ≡ self }
     {
-        let Found { boards, links: _ } = self;
+        let Found {
+            boards,
+            by_number: _,
+        } = self;
         boards
     }
 }

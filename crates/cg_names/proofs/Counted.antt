@@ -10,10 +10,10 @@ use Rattle.cg_form.specs.Game.{number}
 use Rattle.cg_form.specs.Structure.{is_same}
 use Rattle.cg_names.specs.Name.{braces_name}
 use Rattle.cg_names.specs.Named.{zero_form}
-use Rattle.cg_names.specs.Reading.{IsSignInRange, most_open, open_behind}
-use Rattle.cg_names.specs.Signs.{arrows_text, base_text, sign_text, star_text, tiny_word}
-use Rattle.cg_names.specs.declared.sign.Sign.{Sign}
-use Rattle.cg_names.specs.declared.sign.Sign.TheVariants.{Star, Arrows, Switch, Tiny}
+use Rattle.cg_names.specs.Reading.{IsNamedInRange, most_open, open_behind}
+use Rattle.cg_names.specs.NamedForms.{arrows_text, base_text, named_text, star_text, tiny_word}
+use Rattle.cg_names.specs.declared.named_form.NamedForm.{NamedForm}
+use Rattle.cg_names.specs.declared.named_form.NamedForm.TheVariants.{Star, Arrows, Switch, Tiny}
 use Rattle.cg_names.proofs.Terms.{few_below, few_digits}
 
 -- ---- texts without braces
@@ -74,14 +74,14 @@ word_bare : (miny : Bool) → IsBare (tiny_word miny)
 word_bare false = ((refl, refl), ((refl, refl), ((refl, refl), ((refl, refl), ((refl, refl), tt)))))
 word_bare true = ((refl, refl), ((refl, refl), ((refl, refl), ((refl, refl), ((refl, refl), tt)))))
 
-pub sign_bare : (s : Sign) → IsSignInRange s → IsBare (sign_text s)
-sign_bare (Star x n) r = bare_append (base_text x) (star_text n) (base_bare x r.0) (star_bare n r.1)
-sign_bare (Arrows down starred x n) r =
+pub named_bare : (s : NamedForm) → IsNamedInRange s → IsBare (named_text s)
+named_bare (Star x n) r = bare_append (base_text x) (star_text n) (base_bare x r.0) (star_bare n r.1)
+named_bare (Arrows down starred x n) r =
     bare_append (base_text x) (arrows_text (cond down 118 94) n ++ cond starred (42 ∷ []) []) (base_bare x r.0)
     (bare_append (arrows_text (cond down 118 94) n) (cond starred (42 ∷ []) [])
     (arrows_bare (cond down 118 94) n (arrow_other down) r.1) (star_behind starred))
-sign_bare (Switch x) r = ((refl, refl), ((refl, refl), number_bare x r))
-sign_bare (Tiny miny x) r = bare_append (tiny_word miny) (number_text x ++ codes ")") (word_bare miny)
+named_bare (Switch x) r = ((refl, refl), ((refl, refl), number_bare x r))
+named_bare (Tiny miny x) r = bare_append (tiny_word miny) (number_text x ++ codes ")") (word_bare miny)
     (bare_append (number_text x) (codes ")") (number_bare x r) ((refl, refl), tt))
 
 -- ---- what is open

@@ -1,4 +1,4 @@
--- The games with a sign that have none with a nimber, by the lists of their options.
+-- The games with a named form that have none with a nimber, by the lists of their options.
 use Rattle.std.proofs.Common.{◌≡◌, refl, ap, sym, ◌∙◌, ℕ, zero, suc, arith, inl, inr, ◌⊎◌, List, [], ◌∷◌, Bool, true, false, not, Option, Some, None}
 use Rattle.cg_dyadic.specs.Exact.{number_negative}
 use Rattle.cg_dyadic.specs.Number.{Number, NumberLe, number_le}
@@ -8,14 +8,14 @@ use Rattle.cg_form.specs.Shifted.{shifted}
 use Rattle.cg_nodes.specs.Games.{IsNode}
 use Rattle.cg_names.specs.Named.{mirrored_if, nimber_form, pair_form, switch_form, tiny_form, tiny_part, ups_of, zero_form, zero_number}
 use Rattle.cg_names.specs.Readings.{AreUpStar, IsArrows, IsMore, IsStar, IsTiny, stars_above}
-use Rattle.cg_names.specs.Shapes.{HasForm, sign_of}
-use Rattle.cg_names.specs.Signs.{IsPositive}
-use Rattle.cg_names.specs.declared.sign.Sign.{Sign}
-use Rattle.cg_names.specs.declared.sign.Sign.TheVariants.{Star, Arrows, Switch, Tiny}
-use Rattle.cg_names.proofs.Guessing.{above_zero, one_value, sign-found, sign-none}
+use Rattle.cg_names.specs.Shapes.{HasForm, named_form_of}
+use Rattle.cg_names.specs.NamedForms.{IsPositive}
+use Rattle.cg_names.specs.declared.named_form.NamedForm.{NamedForm}
+use Rattle.cg_names.specs.declared.named_form.NamedForm.TheVariants.{Star, Arrows, Switch, Tiny}
+use Rattle.cg_names.proofs.Guessing.{above_zero, one_value, named_form-found, named_form-none}
 use Rattle.cg_names.proofs.Looks.{one_not_two, one_same, pair-lefts, pair-rights}
 use Rattle.cg_names.proofs.NameRule.{some_is}
-use Rattle.cg_names.proofs.SignForms.{IsStep, both_is, mirrored-others, mirrored-own, not_number, star_above, star_over, step_is, step_node}
+use Rattle.cg_names.proofs.NamedFormLists.{IsStep, both_is, mirrored-others, mirrored-own, not_number, star_above, star_over, step_is, step_node}
 
 pub data Ends (g : Game) : Type 0 where
   switch : (x : Number) → IsPositive x → g ≡ switch_form x → Ends g
@@ -24,7 +24,7 @@ pub data Ends (g : Game) : Type 0 where
       → g ≡ mirrored_if down (number x ∷ []) (shifted x (ups_of down (not starred) n) ∷ []) → Ends g
   both : (down : Bool) (x : Number) → g ≡ mirrored_if down (number x ∷ (star_above x ∷ [])) (number x ∷ []) → Ends g
 
-ends : (g : Game) → IsStar g None → (s : Sign) → HasForm g s → Ends g
+ends : (g : Game) → IsStar g None → (s : NamedForm) → HasForm g s → Ends g
 ends g i (Star x n) h =
     let (m, e) = above_zero n h.proper in
     absurd (i x m (h.form ∙ ap (λ (k : ℕ). shifted x (nimber_form k)) e))
@@ -39,8 +39,8 @@ ends g i (Arrows down starred x n) h =
 ends g i (Switch x) h = switch x (not_true (number_le x zero_number) h.proper) h.form
 ends g i (Tiny down x) h = tiny down x (not_true (number_le x zero_number) h.proper) h.form
 
-none_from : (g : Game) → IsStar g None → ¬ Ends g → None ≡ sign_of g
-none_from g i n = sym (sign-none g (λ s h. n (ends g i s h)))
+none_from : (g : Game) → IsStar g None → ¬ Ends g → None ≡ named_form_of g
+none_from g i n = sym (named_form-none g (λ s h. n (ends g i s h)))
 
 -- the same lists, or exchanged
 sides : (d down : Bool) (xs ys ls rs : List Game) → mirrored_if d xs ys ≡ mirrored_if down ls rs
@@ -53,7 +53,7 @@ sides true false xs ys ls rs e = inr (mirrored-others false ys xs ls rs e, mirro
 -- ---- no list of one option
 
 pub no_ends : (ls rs : List Game) → IsStar (node ls rs) None → ((a : Game) → ¬ (ls ≡ a ∷ []))
-    → ((a : Game) → ¬ (rs ≡ a ∷ [])) → None ≡ sign_of (node ls rs)
+    → ((a : Game) → ¬ (rs ≡ a ∷ [])) → None ≡ named_form_of (node ls rs)
 no_ends ls rs i l r = none_from (node ls rs) i by
   where
     one : (d : Bool) (xs : List Game) (b : Game) → node ls rs ≡ mirrored_if d xs (b ∷ []) → ⊥
@@ -68,9 +68,9 @@ no_ends ls rs i l r = none_from (node ls rs) i by
 -- ---- one option on one side
 
 pub starred-found : (down : Bool) (own : List Game) (a b c k : Game) (x : Number) → own ≡ a ∷ (b ∷ []) → c ≡ k
-    → AreUpStar a b c x → Some (Arrows down true x 1) ≡ sign_of (mirrored_if down own (k ∷ []))
+    → AreUpStar a b c x → Some (Arrows down true x 1) ≡ named_form_of (mirrored_if down own (k ∷ []))
 starred-found down own a b c k x e d u =
-    sym (sign-found (mirrored_if down own (k ∷ [])) (Arrows down true x 1) (record {
+    sym (named_form-found (mirrored_if down own (k ∷ [])) (Arrows down true x 1) (record {
       proper = some_is 1 (omega arith);
       form = ap (λ z. mirrored_if down z (k ∷ [])) (e ∙ ap (λ z. z ∷ (b ∷ [])) u.first
           ∙ ap (λ z. number x ∷ (z ∷ [])) u.second)
@@ -81,7 +81,7 @@ starred-found down own a b c k x e d u =
 pub starred-none : (down : Bool) (own : List Game) (last : Game) → IsStar (mirrored_if down own (last ∷ [])) None
     → ((a : Game) → ¬ (own ≡ a ∷ []))
     → ((x : Number) → own ≡ number x ∷ (pair_form x x ∷ []) → ¬ (last ≡ number x))
-    → None ≡ sign_of (mirrored_if down own (last ∷ []))
+    → None ≡ named_form_of (mirrored_if down own (last ∷ []))
 starred-none down own last i l n = none_from (mirrored_if down own (last ∷ [])) i by
   where
     one : (d : Bool) (a b : Game) → mirrored_if down own (last ∷ []) ≡ mirrored_if d (a ∷ []) (b ∷ []) → ⊥
@@ -99,7 +99,7 @@ starred-none down own last i l n = none_from (mirrored_if down own (last ∷ [])
 -- another list than that of two options
 pub starred-other : (down : Bool) (own : List Game) (last : Game) → IsStar (mirrored_if down own (last ∷ [])) None
     → ((a : Game) → ¬ (own ≡ a ∷ [])) → ((a b : Game) → ¬ (own ≡ a ∷ (b ∷ [])))
-    → None ≡ sign_of (mirrored_if down own (last ∷ []))
+    → None ≡ named_form_of (mirrored_if down own (last ∷ []))
 starred-other down own last i l n = starred-none down own last i l (λ x e f. n (number x) (pair_form x x) e)
 
 two_same : (a b c d : Game) → a ∷ (b ∷ []) ≡ c ∷ (d ∷ []) → (a ≡ c) × (b ≡ d)
@@ -108,7 +108,7 @@ two_same a b c d e = (cc, cc)
 -- two options that aren't x and x + *
 pub starred-apart : (down : Bool) (own : List Game) (a b c last : Game) → IsStar (mirrored_if down own (last ∷ [])) None
     → ((a : Game) → ¬ (own ≡ a ∷ [])) → own ≡ a ∷ (b ∷ []) → c ≡ last → ((x : Number) → ¬ AreUpStar a b c x)
-    → None ≡ sign_of (mirrored_if down own (last ∷ []))
+    → None ≡ named_form_of (mirrored_if down own (last ∷ []))
 starred-apart down own a b c last i l e d n = starred-none down own last i l (λ x f g.
     let (p, q) = two_same a b (number x) (pair_form x x) (sym e ∙ f) in
     n x (record { first = p; second = q; last = d ∙ g }))
@@ -117,7 +117,7 @@ starred-apart down own a b c last i l e d n = starred-none down own last i l (λ
 
 -- none of them a number
 pub two-none : (a b : Game) → IsStar (node (a ∷ []) (b ∷ [])) None → ((x : Number) → ¬ (a ≡ number x))
-    → ((x : Number) → ¬ (b ≡ number x)) → None ≡ sign_of (node (a ∷ []) (b ∷ []))
+    → ((x : Number) → ¬ (b ≡ number x)) → None ≡ named_form_of (node (a ∷ []) (b ∷ []))
 two-none a b i l r = none_from (node (a ∷ []) (b ∷ [])) i by
   where
     one : (d : Bool) (x : Number) (ys : List Game) → node (a ∷ []) (b ∷ []) ≡ mirrored_if d (number x ∷ []) ys → ⊥
@@ -137,11 +137,11 @@ two-none a b i l r = none_from (node (a ∷ []) (b ∷ [])) i by
 
 -- both of them numbers
 pub switch-found : (x y : Number) → not (number_le x zero_number) ≡ true → y ≡ number_negative x
-    → Some (Switch x) ≡ sign_of (pair_form x y)
-switch-found x y p e = sym (sign-found (pair_form x y) (Switch x) (record { proper = p; form = ap (pair_form x) e }))
+    → Some (Switch x) ≡ named_form_of (pair_form x y)
+switch-found x y p e = sym (named_form-found (pair_form x y) (Switch x) (record { proper = p; form = ap (pair_form x) e }))
 
 pub switch-none : (x y : Number) → IsStar (pair_form x y) None → (IsPositive x → ¬ (y ≡ number_negative x))
-    → None ≡ sign_of (pair_form x y)
+    → None ≡ named_form_of (pair_form x y)
 switch-none x y i n = none_from (pair_form x y) i by
   where
     one : (d : Bool) (xs : List Game) (b : Game) → IsNode b → pair_form x y ≡ mirrored_if d xs (b ∷ []) → ⊥
@@ -177,7 +177,7 @@ module _ (down : Bool) (x : Number) (h : Game) (is : IsNode h) where
         | inr p ↦ p.1 ∙ sym p.0
       ]))
 
-  steep-none : IsArrows down steep None → IsTiny down steep None → None ≡ sign_of steep
+  steep-none : IsArrows down steep None → IsTiny down steep None → None ≡ named_form_of steep
   steep-none arrows none = none_from (mirrored_if down (number x ∷ []) (h ∷ [])) no_star by
     where
       by : ¬ Ends (mirrored_if down (number x ∷ []) (h ∷ []))
@@ -199,7 +199,7 @@ module _ (down : Bool) (x : Number) (h : Game) (is : IsNode h) where
         | inr q ↦ one_not_two h (number z) (star_above z) q.1
       ]
 
-  pub more-sign : (o : Option Sign) → IsMore down x h o → IsTiny down (mirrored_if down (number x ∷ []) (h ∷ [])) None
-      → o ≡ sign_of (mirrored_if down (number x ∷ []) (h ∷ []))
-  more-sign None m n = steep-none m n
-  more-sign (Some s) m n = sym (sign-found (mirrored_if down (number x ∷ []) (h ∷ [])) s m)
+  pub more-named_form : (o : Option NamedForm) → IsMore down x h o → IsTiny down (mirrored_if down (number x ∷ []) (h ∷ [])) None
+      → o ≡ named_form_of (mirrored_if down (number x ∷ []) (h ∷ []))
+  more-named_form None m n = steep-none m n
+  more-named_form (Some s) m n = sym (named_form-found (mirrored_if down (number x ∷ []) (h ∷ [])) s m)

@@ -1,4 +1,4 @@
--- The sign that a game has by its shape is the one whose form it is.
+-- The named form that a game has by its shape is the form that it is.
 use Rattle.std.proofs.Common.{◌≡◌, refl, ap, sym, ◌∙◌, ℕ, zero, suc, arith, inl, inr, List, [], ◌∷◌, length, Bool, true, false, not, cond, ◌&&◌, nat_eq, eq-eqb, Option, Some, None}
 use Rattle.std.specs.Prelude.{nat_lt, if◌then◌else◌}
 use Rattle.std.proofs.lemmas.Bool.Decides.{nat_tests}
@@ -17,12 +17,13 @@ use Rattle.cg_nodes.specs.Games.{IsNode}
 use Rattle.cg_names.specs.Named.{mirrored_if, pair_form, switch_form, tiny_form, tiny_part, ups_of, zero_form, zero_number}
 use Rattle.cg_names.specs.Readings.{stars_above}
 use Rattle.cg_dyadic.specs.Exact.{number_text}
-use Rattle.cg_names.specs.Signs.{base_text}
-use Rattle.cg_names.specs.Shapes.{HasForm, checked, first_game, guess, guess_by, guess_level, guess_steep, is_proper, is_starred, leading, sign_form, sign_of}
-use Rattle.cg_names.specs.declared.sign.Sign.{Sign}
-use Rattle.cg_names.specs.declared.sign.Sign.TheVariants.{Star, Arrows, Switch, Tiny}
+use Rattle.cg_names.specs.NamedForms.{base_text}
+use Rattle.cg_names.specs.Shapes.{HasForm, checked, first_game, guess, guess_by, guess_level}
+use Rattle.cg_names.specs.Shapes.{guess_steep, is_proper, is_starred, leading, named_game, named_form_of}
+use Rattle.cg_names.specs.declared.named_form.NamedForm.{NamedForm}
+use Rattle.cg_names.specs.declared.named_form.NamedForm.TheVariants.{Star, Arrows, Switch, Tiny}
 use Rattle.cg_names.proofs.Reducing.{far-mirrored, near-mirrored}
-use Rattle.cg_names.proofs.SignForms.{IsStep, both_is, depth_step, length-stars, level_is, star_above, star_over, stars_first, step_is, step_node}
+use Rattle.cg_names.proofs.NamedFormLists.{IsStep, both_is, depth_step, length-stars, level_is, star_above, star_over, stars_first, step_is, step_node}
 use Rattle.cg_dyadic.proofs.Negatives.{double_negative, negative_low}
 use Rattle.cg_dyadic.proofs.Truth.{not_not}
 
@@ -82,7 +83,7 @@ steep_guess true x (options ls rs) n = refl
 
 -- ---- x + *n
 
-star-guess : (x : Number) (n : ℕ) → guess (sign_form (Star x (suc n))) ≡ Star x (suc n)
+star-guess : (x : Number) (n : ℕ) → guess (named_game (Star x (suc n))) ≡ Star x (suc n)
 star-guess x n =
     let L : List Game = stars_above x (suc n) in
     let (gs, e) = stars_first x n in
@@ -175,7 +176,7 @@ both_guess false x = level_guess (number x ∷ (star_above x ∷ [])) (number x 
 both_guess true x = level_guess (number x ∷ []) (number x ∷ (star_above x ∷ [])) [] (star_above x ∷ []) x refl refl
 
 arrows-guess : (down starred : Bool) (x : Number) (n : ℕ)
-    → guess (sign_form (Arrows down starred x (suc n))) ≡ Arrows down starred x (suc n)
+    → guess (named_game (Arrows down starred x (suc n))) ≡ Arrows down starred x (suc n)
 arrows-guess down true x zero = ap guess (both_is down x) ∙ both_guess down x
 arrows-guess down false x zero = stepped down false x zero tt
 arrows-guess down starred x (suc n) = stepped down starred x (suc n) tt
@@ -206,13 +207,13 @@ tiny-guess true x p =
     ∙ ap (λ b. cond b (Arrows true (is_starred (depth_of h) true g) zero_number (depth_of h)) (Tiny true x))
     (numbers_apart x zero_number (not_zero x p))
 
--- ---- the sign of a game
+-- ---- the named form of a game
 
 pub above_zero : (n : ℕ) → nat_lt 0 n ≡ true → (m : ℕ) × (n ≡ suc m)
 above_zero zero e = absurd (grind (arith, nat_tests))
 above_zero (suc m) e = (m, refl)
 
-pub guess-form : (s : Sign) → is_proper s ≡ true → guess (sign_form s) ≡ s
+pub guess-form : (s : NamedForm) → is_proper s ≡ true → guess (named_game s) ≡ s
 guess-form (Star x n) p =
     let (m, e) = above_zero n p in
     rw e (star-guess x m)
@@ -222,37 +223,37 @@ guess-form (Arrows down starred x n) p =
 guess-form (Switch x) p = switch-guess x (proper_number x p)
 guess-form (Tiny miny x) p = tiny-guess miny x (proper_number x p)
 
-pub form_guess : (g : Game) (s : Sign) → HasForm g s → guess g ≡ s
+pub form_guess : (g : Game) (s : NamedForm) → HasForm g s → guess g ≡ s
 form_guess g s h = ap guess h.form ∙ guess-form s h.proper
 
--- a game has the form of one sign at most
-pub one_form : (g : Game) (s t : Sign) → HasForm g s → HasForm g t → s ≡ t
+-- a game has one named form at most
+pub one_form : (g : Game) (s t : NamedForm) → HasForm g s → HasForm g t → s ≡ t
 one_form g s t h k = sym (form_guess g s h) ∙ form_guess g t k
 
-pub sign-found : (g : Game) (s : Sign) → HasForm g s → sign_of g ≡ Some s
-unfolding sign_of
-sign-found g s h =
-    let same : is_same g (sign_form s) ≡ true = ap (λ z. is_same z (sign_form s)) h.form ∙ is_same-refl (sign_form s) in
+pub named_form-found : (g : Game) (s : NamedForm) → HasForm g s → named_form_of g ≡ Some s
+unfolding named_form_of
+named_form-found g s h =
+    let same : is_same g (named_game s) ≡ true = ap (λ z. is_same z (named_game s)) h.form ∙ is_same-refl (named_game s) in
     ap (checked g) (form_guess g s h)
-    ∙ ap (λ b. if b then Some s else None) (and-both (is_proper s) (is_same g (sign_form s)) h.proper same)
+    ∙ ap (λ b. if b then Some s else None) (and-both (is_proper s) (is_same g (named_game s)) h.proper same)
 
-pub found-form : (g : Game) (s : Sign) → sign_of g ≡ Some s → HasForm g s
-unfolding sign_of
-found-form g s e = elim (true_or_false (is_proper (guess g) && is_same g (sign_form (guess g)))) [
+pub found-form : (g : Game) (s : NamedForm) → named_form_of g ≡ Some s → HasForm g s
+unfolding named_form_of
+found-form g s e = elim (true_or_false (is_proper (guess g) && is_same g (named_game (guess g)))) [
   | inl t ↦
-      let (p, q) = and-split (is_proper (guess g)) (is_same g (sign_form (guess g))) t in
+      let (p, q) = and-split (is_proper (guess g)) (is_same g (named_game (guess g))) t in
       let f : Some s ≡ Some (guess g) = sym e ∙ ap (λ b. if b then Some (guess g) else None) t in
       let same : guess g ≡ s = cc in
-      rw (← same) (record { proper = p; form = is_same-back g (sign_form (guess g)) q })
+      rw (← same) (record { proper = p; form = is_same-back g (named_game (guess g)) q })
   | inr f ↦
       let n : Some s ≡ None = sym e ∙ ap (λ b. if b then Some (guess g) else None) f in
       absurd (cc)
 ]
 
-pub sign-none : (g : Game) → ((s : Sign) → ¬ HasForm g s) → sign_of g ≡ None
-sign-none g n = by (sign_of g) refl
+pub named_form-none : (g : Game) → ((s : NamedForm) → ¬ HasForm g s) → named_form_of g ≡ None
+named_form-none g n = by (named_form_of g) refl
   where
-    by : (o : Option Sign) → sign_of g ≡ o → sign_of g ≡ None
+    by : (o : Option NamedForm) → named_form_of g ≡ o → named_form_of g ≡ None
     by None e = e
     by (Some s) e = absurd (n s (found-form g s e))
 

@@ -11,7 +11,7 @@ pub mod UpSteps
 pub mod PairSteps
 pub mod Literals
 pub mod Mirrored
-pub mod SignForms
+pub mod NamedFormLists
 pub mod Guessing
 pub mod NameRule
 pub mod SumWords
@@ -21,11 +21,11 @@ pub mod Ends
 pub mod Listing
 pub mod Stars
 pub mod Memos
-pub mod SignSteps
+pub mod NamedFormSteps
 pub mod Tokens
 pub mod Terms
 pub mod StarTerms
-pub mod SignTerms
+pub mod NamedFormTerms
 pub mod Counted
 pub mod ReadBack
 pub mod Ranges

@@ -1,4 +1,4 @@
--- What the shape of a game tells of its sign.
+-- What the shape of a game tells of its named form.
 use mathlib.Core.Bool.{beq}
 use Rattle.std.proofs.Common.{◌≡◌, refl, ap, sym, ◌∙◌, ℕ, zero, suc, ◌+◌, arith, add-one, inl, inr, ◌⊎◌, List, [], ◌∷◌, Bool, true, false, not, cond, Option, Some, None}
 use Rattle.cg_dyadic.proofs.Negatives.{double_negative}
@@ -12,12 +12,12 @@ use Rattle.cg_dyadic.specs.Exact.{number_negative}
 use Rattle.cg_names.specs.Named.{mirrored_if, nimber_form, pair_form, tiny_form, tiny_part, ups_of, zero_form, zero_number}
 use Rattle.cg_names.specs.Readings.{IsArrows}
 use Rattle.cg_names.specs.declared.look_arrows.ArrowsFound.{ArrowsFound}
-use Rattle.cg_names.specs.Shapes.{leading, sign_of}
-use Rattle.cg_names.specs.declared.sign.Sign.{Sign}
-use Rattle.cg_names.specs.declared.sign.Sign.TheVariants.{Star, Arrows}
-use Rattle.cg_names.proofs.Guessing.{found-form, one_value, sign-found}
+use Rattle.cg_names.specs.Shapes.{leading, named_form_of}
+use Rattle.cg_names.specs.declared.named_form.NamedForm.{NamedForm}
+use Rattle.cg_names.specs.declared.named_form.NamedForm.TheVariants.{Star, Arrows}
+use Rattle.cg_names.proofs.Guessing.{found-form, one_value, named_form-found}
 use Rattle.cg_names.proofs.NameRule.{some_is}
-use Rattle.cg_names.proofs.SignForms.{ArrowsShape, IsStep, arrows_shape, both, both_is, level, level_is, mirrored-others, mirrored-own, no_ups, not_number, one_star_form, star_above, step, step_is}
+use Rattle.cg_names.proofs.NamedFormLists.{ArrowsShape, IsStep, arrows_shape, both, both_is, level, level_is, mirrored-others, mirrored-own, no_ups, not_number, one_star_form, star_above, step, step_is}
 
 -- ---- lists of one
 
@@ -161,15 +161,15 @@ tiny-parts miny x l r size rest z s t e = by miny s t
 pub is_node : (g : Game) (ls rs : List Game) → g ≡ node ls rs → IsNode g
 is_node g ls rs e = rw e tt
 
--- ---- what a sign tells of arrows
+-- ---- what a named form tells of arrows
 
 pub told : (down starred : Bool) (g : Game) (x : Number) (n : ℕ) → IsNode g → g ≡ shifted x (ups_of down starred n)
-    → (sign_of g ≡ Some (Star x 1)) ⊎ (sign_of g ≡ Some (Arrows down starred x n))
+    → (named_form_of g ≡ Some (Star x 1)) ⊎ (named_form_of g ≡ Some (Arrows down starred x n))
 told down false g x zero i e = absurd (not_number g x i (e ∙ no_ups down x))
 told down true g x zero i e =
-    inl (sign-found g (Star x 1) (record { proper = some_is 1 (omega arith); form = e ∙ one_star_form down x }))
+    inl (named_form-found g (Star x 1) (record { proper = some_is 1 (omega arith); form = e ∙ one_star_form down x }))
 told down starred g x (suc n) i e =
-    inr (sign-found g (Arrows down starred x (suc n)) (record { proper = some_is (suc n) (omega arith); form = e }))
+    inr (named_form-found g (Arrows down starred x (suc n)) (record { proper = some_is (suc n) (omega arith); form = e }))
 
 pub turned_same : (a b : Bool) → beq a b ≡ true → a ≡ b
 turned_same true true e = refl
@@ -189,7 +189,7 @@ star_count x y n m e = cc
 pub arrows_side : (a b s t : Bool) (x y : Number) (n m : ℕ) → Some (Arrows a s x n) ≡ Some (Arrows b t y m) → a ≡ b
 arrows_side a b s t x y n m e = cc
 
-module _ (down : Bool) (g : Game) (o : Option Sign) (i : IsNode g) (is : o ≡ sign_of g) where
+module _ (down : Bool) (g : Game) (o : Option NamedForm) (i : IsNode g) (is : o ≡ named_form_of g) where
   pub no_arrows_told : ((x : Number) → ¬ (o ≡ Some (Star x 1)))
       → ((starred : Bool) (x : Number) (n : ℕ) → ¬ (o ≡ Some (Arrows down starred x n))) → IsArrows down g None
   no_arrows_told a b starred x n e = elim (told down starred g x n i e) [

@@ -11,11 +11,11 @@ use Rattle.cg_nodes.specs.Games.{IsGame, IsList, ListsAs, game_at, listed}
 use Rattle.cg_nodes.specs.Meant.{Meant, list}
 use Rattle.cg_nodes.proofs.Later.{game_later, is_game_later}
 use Rattle.cg_names.specs.Memos.{HasFewArrows, IsShape, Recalls, arrow_count, kept, recalled}
-use Rattle.cg_names.specs.Shapes.{sign_of}
+use Rattle.cg_names.specs.Shapes.{named_form_of}
 use Rattle.cg_names.specs.declared.look.Shape.{Shape}
 use Rattle.cg_names.specs.declared.look.Shape.TheVariants as shape
 use Rattle.cg_names.specs.declared.memo.Memo.{Memo}
-use Rattle.cg_names.specs.declared.sign.Sign.{Sign}
+use Rattle.cg_names.specs.declared.named_form.NamedForm.{NamedForm}
 
 pub recalls_none : {R : Type 0} (s : State Meant R) (m : Memo) → ((a : ℕ) → recalled m a ≡ None) → Recalls s m
 recalls_none s m n h o e = absurd (let q : None ≡ Some o = sym (n h) ∙ e in cc)
@@ -23,7 +23,7 @@ recalls_none s m n h o e = absurd (let q : None ≡ Some o = sym (n h) ∙ e in 
 pub recalls_later : {R : Type 0} (s t : State Meant R) (m : Memo) → Spends 0 s t → Recalls s m → Recalls t m
 recalls_later s t m b r h o e =
     let p = r h o e in
-    (is_game_later s t b.known h p.0, p.1 ∙ ap sign_of (sym (game_later s t b.known h p.0)), p.2)
+    (is_game_later s t b.known h p.0, p.1 ∙ ap named_form_of (sym (game_later s t b.known h p.0)), p.2)
 
 -- whatever the result of a call that leaves both alone
 pub recalls_then : {A E R : Type 0} (r : Result A E) (s t : State Meant R) (m : Memo) → Spends 0 s t → Recalls s m
@@ -31,16 +31,16 @@ pub recalls_then : {A E R : Type 0} (r : Result A E) (s t : State Meant R) (m : 
 recalls_then (Ok x) s t m b n = recalls_later s t m b n
 recalls_then (Err e) s t m b n = tt
 
-some_same : (o p : Option Sign) → Some o ≡ Some p → o ≡ p
+some_same : (o p : Option NamedForm) → Some o ≡ Some p → o ≡ p
 some_same o p e = cc
 
--- with one sign more, or one that was there, there are no more ups than signs
-pub few_more : {R : Type 0} (s : State Meant R) (m n : Memo) (a : ℕ) (o : Option Sign) → Recalls s m → o ≡ sign_of (game_at s a)
+-- with one named form more, or one that was there, there are no more ups than named forms
+pub few_more : {R : Type 0} (s : State Meant R) (m n : Memo) (a : ℕ) (o : Option NamedForm) → Recalls s m → o ≡ named_form_of (game_at s a)
     → arrow_count o ≤ kept m + 1 → kept n ≡ kept m + (if is_some (recalled m a) then 0 else 1)
     → (arrow_count o ≤ kept n) × (kept m ≤ kept n)
 few_more s m n a o r e few count = by (recalled m a) refl count
   where
-    by : (v : Option (Option Sign)) → recalled m a ≡ v → kept n ≡ kept m + (if is_some v then 0 else 1)
+    by : (v : Option (Option NamedForm)) → recalled m a ≡ v → kept n ≡ kept m + (if is_some v then 0 else 1)
         → (arrow_count o ≤ kept n) × (kept m ≤ kept n)
     by None f k = (omega arith, omega arith)
     by (Some p) f k =
@@ -49,9 +49,9 @@ few_more s m n a o r e few count = by (recalled m a) refl count
         let own = old.2 in
         (omega arith, omega arith)
 
--- one sign more
-pub recalls_more : {R : Type 0} (s : State Meant R) (m n : Memo) (a : ℕ) (o : Option Sign) → Recalls s m → IsGame s a
-    → o ≡ sign_of (game_at s a) → ((b : ℕ) → recalled n b ≡ (if nat_eq a b then Some o else recalled m b))
+-- one named form more
+pub recalls_more : {R : Type 0} (s : State Meant R) (m n : Memo) (a : ℕ) (o : Option NamedForm) → Recalls s m → IsGame s a
+    → o ≡ named_form_of (game_at s a) → ((b : ℕ) → recalled n b ≡ (if nat_eq a b then Some o else recalled m b))
     → (arrow_count o ≤ kept n) × (kept m ≤ kept n) → Recalls s n
 recalls_more {R} s m n a o r i e grown few h p f = elim (true_or_false (nat_eq a h)) [
   | inl t ↦ here t
@@ -62,18 +62,18 @@ recalls_more {R} s m n a o r i e grown few h p f = elim (true_or_false (nat_eq a
       (old.0, old.1, omega arith)
 ]
   where
-    here : nat_eq a h ≡ true → IsGame s h × (p ≡ sign_of (game_at s h)) × (arrow_count p ≤ kept n)
+    here : nat_eq a h ≡ true → IsGame s h × (p ≡ named_form_of (game_at s h)) × (arrow_count p ≤ kept n)
     here t =
         let same : a ≡ h = eqb-true a h t in
         let own : p ≡ o = some_same p o (sym f ∙ grown h ∙ ap (λ b. if b then Some o else recalled m h) t) in
-        (rw (← same) i, own ∙ e ∙ ap (λ z. sign_of (game_at s z)) same, rw own few.0)
+        (rw (← same) i, own ∙ e ∙ ap (λ z. named_form_of (game_at s z)) same, rw own few.0)
 
 -- what was found for a handle, by its id
-pub recalled_sign : {R : Type 0} (s : State Meant R) (m : Memo) (a h : ℕ) (o : Option Sign) → a ≡ h
-    → recalled m a ≡ Some o → Recalls s m → o ≡ sign_of (game_at s h)
-recalled_sign s m a h o e p r = (r a o p).1 ∙ ap (λ (z : ℕ). sign_of (game_at s z)) e
+pub recalled_named : {R : Type 0} (s : State Meant R) (m : Memo) (a h : ℕ) (o : Option NamedForm) → a ≡ h
+    → recalled m a ≡ Some o → Recalls s m → o ≡ named_form_of (game_at s h)
+recalled_named s m a h o e p r = (r a o p).1 ∙ ap (λ (z : ℕ). named_form_of (game_at s z)) e
 
-pub recalled_few : {R : Type 0} (s : State Meant R) (m : Memo) (a : ℕ) (o : Option Sign) → recalled m a ≡ Some o → Recalls s m
+pub recalled_few : {R : Type 0} (s : State Meant R) (m : Memo) (a : ℕ) (o : Option NamedForm) → recalled m a ≡ Some o → Recalls s m
     → arrow_count o ≤ kept m
 recalled_few s m a o p r = (r a o p).2
 
@@ -83,12 +83,12 @@ pub told_number : {R : Type 0} (s : State Meant R) (l : Shape) (g : Game) (x : N
     → g ≡ number x
 told_number s l g x e i = let P : Shape → Type 0 = λ z. IsShape s z g in subst P e i
 
-pub told_game : {R : Type 0} (s : State Meant R) (l : Shape) (g : Game) (ls rs : Option ℕ) (o : Option Sign)
+pub told_game : {R : Type 0} (s : State Meant R) (l : Shape) (g : Game) (ls rs : Option ℕ) (o : Option NamedForm)
     → l ≡ shape.Game ls rs o → IsShape s l g
-    → IsList s ls × IsList s rs × (g ≡ node (listed s ls) (listed s rs)) × (o ≡ sign_of g)
+    → IsList s ls × IsList s rs × (g ≡ node (listed s ls) (listed s rs)) × (o ≡ named_form_of g)
 told_game s l g ls rs o e i = let P : Shape → Type 0 = λ z. IsShape s z g in subst P e i
 
-pub told_few : (m : Memo) (l : Shape) (ls rs : Option ℕ) (o : Option Sign) → l ≡ shape.Game ls rs o → HasFewArrows m l
+pub told_few : (m : Memo) (l : Shape) (ls rs : Option ℕ) (o : Option NamedForm) → l ≡ shape.Game ls rs o → HasFewArrows m l
     → arrow_count o ≤ kept m
 told_few m l ls rs o e i = let P : Shape → Type 0 = λ z. HasFewArrows m z in subst P e i
 

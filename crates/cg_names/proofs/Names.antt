@@ -9,12 +9,12 @@ use Rattle.cg_nodes.specs.Games.{IsList, game_at, listed}
 use Rattle.cg_nodes.specs.Meant.{Meant}
 use Rattle.cg_nodes.proofs.Later.{is_list_later, listed_later, nothing_spent, spends_then}
 use Rattle.cg_names.specs.Name.{braces_name}
-use Rattle.cg_names.specs.Reading.{AreNamesInRange, IsNameInRange, IsSignInRange}
-use Rattle.cg_names.specs.Shapes.{sign_of}
-use Rattle.cg_names.specs.Spelled.{further_names, name_of, names_of, sign_or}
-use Rattle.cg_names.specs.Signs.{sign_text}
-use Rattle.cg_names.specs.declared.sign.Sign.{Sign}
-use Rattle.cg_names.proofs.NameRule.{found_fits, no_sign, one_sign}
+use Rattle.cg_names.specs.Reading.{AreNamesInRange, IsNameInRange, IsNamedInRange}
+use Rattle.cg_names.specs.Shapes.{named_form_of}
+use Rattle.cg_names.specs.Spelled.{further_names, name_of, names_of, named_or}
+use Rattle.cg_names.specs.NamedForms.{named_text}
+use Rattle.cg_names.specs.declared.named_form.NamedForm.{NamedForm}
+use Rattle.cg_names.proofs.NameRule.{found_fits, no_named, one_named}
 
 -- ---- ranges
 
@@ -27,22 +27,22 @@ pub number-in_range : {A E : Type 0} (r : Result A E) (g : Game) (x : Number) �
 number-in_range (Err e) g x is q = tt
 number-in_range (Ok y) g x is q = rw is q
 
--- of a game that has a sign, and of one that has none
-pub signed-in_range : {A E : Type 0} (r : Result A E) (g : Game) (ls rs : List Game) (o : Option Sign) (s : Sign)
-    → g ≡ node ls rs → o ≡ sign_of g → o ≡ Some s → OnOk r (IsSignInRange s) → OnOk r (IsNameInRange g)
-signed-in_range (Err e) g ls rs o s is sign found q = tt
-signed-in_range (Ok x) g ls rs o s is sign found q =
+-- of a game that has a named form, and of one that has none
+pub signed-in_range : {A E : Type 0} (r : Result A E) (g : Game) (ls rs : List Game) (o : Option NamedForm) (s : NamedForm)
+    → g ≡ node ls rs → o ≡ named_form_of g → o ≡ Some s → OnOk r (IsNamedInRange s) → OnOk r (IsNameInRange g)
+signed-in_range (Err e) g ls rs o s is named_form found q = tt
+signed-in_range (Ok x) g ls rs o s is named_form found q =
     let k : Game = node ls rs in
-    let f = found_fits k s (ap sign_of (sym is) ∙ sym sign ∙ found) in
-    rw is ((λ t h. rw (← (one_sign k s t f h)) q), (λ n. absurd (n s f)))
+    let f = found_fits k s (ap named_form_of (sym is) ∙ sym named_form ∙ found) in
+    rw is ((λ t h. rw (← (one_named k s t f h)) q), (λ n. absurd (n s f)))
 
-pub braced-in_range : {A E : Type 0} (r : Result A E) (g : Game) (ls rs : List Game) (o : Option Sign)
-    → g ≡ node ls rs → o ≡ sign_of g → o ≡ None → OnOk r (AreNamesInRange (of_list ls))
+pub braced-in_range : {A E : Type 0} (r : Result A E) (g : Game) (ls rs : List Game) (o : Option NamedForm)
+    → g ≡ node ls rs → o ≡ named_form_of g → o ≡ None → OnOk r (AreNamesInRange (of_list ls))
     → OnOk r (AreNamesInRange (of_list rs)) → OnOk r (IsNameInRange g)
-braced-in_range (Err e) g ls rs o is sign found p q = tt
-braced-in_range (Ok x) g ls rs o is sign found p q =
+braced-in_range (Err e) g ls rs o is named_form found p q = tt
+braced-in_range (Ok x) g ls rs o is named_form found p q =
     let k : Game = node ls rs in
-    rw is ((λ t h. absurd (no_sign k (ap sign_of (sym is) ∙ sym sign ∙ found) t h)), (λ n. (p, q)))
+    rw is ((λ t h. absurd (no_named k (ap named_form_of (sym is) ∙ sym named_form ∙ found) t h)), (λ n. (p, q)))
 
 -- ---- a list, name by name
 
@@ -100,25 +100,25 @@ braces-spelled left right t0 t1 t2 t3 t4 a b c d =
     ∙ append_assoc (t0 ++ codes "{") left (codes "|" ++ (right ++ codes "}"))
     ∙ append_assoc t0 (codes "{") (left ++ (codes "|" ++ (right ++ codes "}")))
 
--- the name of a game that has no sign
-pub braced-name : {A E : Type 0} (r : Result A E) (g : Game) (ls rs : List Game) (o : Option Sign)
-    (before now : List ℕ) → g ≡ node ls rs → o ≡ sign_of g → o ≡ None
+-- the name of a game that has no named form
+pub braced-name : {A E : Type 0} (r : Result A E) (g : Game) (ls rs : List Game) (o : Option NamedForm)
+    (before now : List ℕ) → g ≡ node ls rs → o ≡ named_form_of g → o ≡ None
     → OnOk r (now ≡ before ++ braces_name (names_of (of_list ls)) (names_of (of_list rs)))
     → OnOk r (now ≡ before ++ name_of g)
 braced-name (Err e) g ls rs o before now p q n w = tt
 braced-name (Ok x) g ls rs o before now p q n w =
-    w ∙ ap (λ z. before ++ sign_or z (braces_name (names_of (of_list ls)) (names_of (of_list rs))))
-    (sym n ∙ q ∙ ap sign_of p)
+    w ∙ ap (λ z. before ++ named_or z (braces_name (names_of (of_list ls)) (names_of (of_list rs))))
+    (sym n ∙ q ∙ ap named_form_of p)
     ∙ ap (λ z. before ++ name_of z) (sym p)
 
--- and of one that has a sign
-pub signed-name : {A E : Type 0} (r : Result A E) (g : Game) (ls rs : List Game) (o : Option Sign) (s : Sign)
-    (before now : List ℕ) → g ≡ node ls rs → o ≡ sign_of g → o ≡ Some s
-    → OnOk r (now ≡ before ++ sign_text s) → OnOk r (now ≡ before ++ name_of g)
+-- and of one that has a named form
+pub signed-name : {A E : Type 0} (r : Result A E) (g : Game) (ls rs : List Game) (o : Option NamedForm) (s : NamedForm)
+    (before now : List ℕ) → g ≡ node ls rs → o ≡ named_form_of g → o ≡ Some s
+    → OnOk r (now ≡ before ++ named_text s) → OnOk r (now ≡ before ++ name_of g)
 signed-name (Err e) g ls rs o s before now p q n w = tt
 signed-name (Ok x) g ls rs o s before now p q n w =
-    w ∙ ap (λ z. before ++ sign_or z (braces_name (names_of (of_list ls)) (names_of (of_list rs))))
-    (sym n ∙ q ∙ ap sign_of p)
+    w ∙ ap (λ z. before ++ named_or z (braces_name (names_of (of_list ls)) (names_of (of_list rs))))
+    (sym n ∙ q ∙ ap named_form_of p)
     ∙ ap (λ z. before ++ name_of z) (sym p)
 
 -- what was written where the call succeeds

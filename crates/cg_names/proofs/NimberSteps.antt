@@ -15,7 +15,7 @@ use Rattle.cg_names.specs.Lists.{plain_item}
 use Rattle.cg_names.specs.Named.{mirrored_if, nimber_form, nimbers_below, zero_form}
 use Rattle.cg_nimbers.proofs.CanonicalNimbers.{nimber-canonical, nimbers_below-front}
 use Rattle.cg_nimbers.proofs.NimberLists.{nimbers_below-next}
-use Rattle.cg_names.proofs.SignForms.{nimber_next}
+use Rattle.cg_names.proofs.NamedFormLists.{nimber_next}
 use Rattle.cg_names.proofs.Steps.{given_after, given_memory, given_stopped}
 
 -- the handles of 0, *1, .., *(i - 1), and that of *i, which was made last

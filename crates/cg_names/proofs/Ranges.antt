@@ -7,16 +7,16 @@ use Rattle.cg_form.specs.Game.{Among, Game, Games, more, node, none, number, of_
 use Rattle.cg_form.specs.Shifted.{shifted}
 use Rattle.cg_dyadic.specs.Exact.{number_negative}
 use Rattle.cg_names.specs.Named.{mirrored_if, nimber_form, nimbers_below, switch_form, tiny_form, ups_of}
-use Rattle.cg_names.specs.Reading.{AreNamesInRange, IsNameInRange, IsSignInRange}
+use Rattle.cg_names.specs.Reading.{AreNamesInRange, IsNameInRange, IsNamedInRange}
 use Rattle.cg_nodes.specs.Ranges.{AllInRange, AreInRange}
 use Rattle.cg_names.specs.Readings.{stars_above}
 use Rattle.cg_names.specs.Shapes.{HasForm}
-use Rattle.cg_names.specs.declared.sign.Sign.{Sign}
-use Rattle.cg_names.specs.declared.sign.Sign.TheVariants.{Star, Arrows, Switch, Tiny}
+use Rattle.cg_names.specs.declared.named_form.NamedForm.{NamedForm}
+use Rattle.cg_names.specs.declared.named_form.NamedForm.TheVariants.{Star, Arrows, Switch, Tiny}
 use Rattle.cg_names.proofs.Guessing.{above_zero}
 use Rattle.cg_names.proofs.NameRule.{fits-form}
 use Rattle.cg_nimbers.proofs.NimberLists.{nimber_among}
-use Rattle.cg_names.proofs.SignForms.{both_is, depth-shifted, depth-ups, nimber_next, star_above, star_over, stars_first, step_is}
+use Rattle.cg_names.proofs.NamedFormLists.{both_is, depth-shifted, depth-ups, nimber_next, star_above, star_over, stars_first, step_is}
 use Rattle.cg_dyadic.proofs.Negatives.{negative-of}
 
 -- ---- counts
@@ -77,21 +77,21 @@ tiny_range : (miny : Bool) (x : Number) → AllInRange (tiny_form miny x) → In
 tiny_range false x a = turned_range x a.1.0.1.0
 tiny_range true x a = a.0.0.0.0
 
-sign_range : (g : Game) (s : Sign) → HasForm g s → AllInRange g → depth_of g < 10 ^ 30 → IsSignInRange s
-sign_range g (Star x n) h a d =
+named_range : (g : Game) (s : NamedForm) → HasForm g s → AllInRange g → depth_of g < 10 ^ 30 → IsNamedInRange s
+named_range g (Star x n) h a d =
     let (m, e) = above_zero n h.proper in
     let f = rw e at h.form in
     let deep : depth_of g ≡ depth_of (nimber_form n) = ap depth_of h.form ∙ depth-shifted x (nimber_form n) in
     let l = nimber_deep n in
     (star_range g x m f a, omega arith)
-sign_range g (Arrows down starred x n) h a d =
+named_range g (Arrows down starred x n) h a d =
     let (m, e) = above_zero n h.proper in
     let f = rw e at h.form in
     let deep : depth_of g ≡ suc (suc m) =
     ap depth_of f ∙ depth-shifted x (ups_of down starred (suc m)) ∙ depth-ups down starred m in
     (arrows_range g down starred x m f a, omega arith)
-sign_range g (Switch x) h a d = front_left x [] (number (number_negative x) ∷ []) (at g (switch_form x) h.form a)
-sign_range g (Tiny miny x) h a d = tiny_range miny x (at g (tiny_form miny x) h.form a)
+named_range g (Switch x) h a d = front_left x [] (number (number_negative x) ∷ []) (at g (switch_form x) h.form a)
+named_range g (Tiny miny x) h a d = tiny_range miny x (at g (tiny_form miny x) h.form a)
 
 -- ---- whole names
 
@@ -99,7 +99,7 @@ mutual
   pub name_range : (g : Game) → AllInRange g → depth_of g < 10 ^ 30 → IsNameInRange g
   name_range (number x) a d = a
   name_range (options ls rs) a d = (
-    (λ s f. sign_range (options ls rs) s (fits-form s (options ls rs) f) a d),
+    (λ s f. named_range (options ls rs) s (fits-form s (options ls rs) f) a d),
     (λ n. (names_range ls a.0 (omega arith), names_range rs a.1 (omega arith))),
   )
 

@@ -24,9 +24,9 @@ use Rattle.cg_grammar.proofs.WrittenTerms.{expr_is, special_is}
 use Rattle.cg_names.specs.Meaning.{PositionForms, meaning, meanings}
 use Rattle.cg_names.specs.Name.{AreFurther, AreNames, IsName, braces_name}
 use Rattle.cg_names.specs.Reading.{AreNamesInRange, IsNameInRange, ReadsAs, most_open}
-use Rattle.cg_names.specs.Signs.{sign_text}
-use Rattle.cg_names.proofs.Counted.{Counted, IsBare, bare_counted, braces_counted, fewer_counted, joined_counted, number_bare, sign_bare}
-use Rattle.cg_names.proofs.SignTerms.{sign-reads}
+use Rattle.cg_names.specs.NamedForms.{named_text}
+use Rattle.cg_names.proofs.Counted.{Counted, IsBare, bare_counted, braces_counted, fewer_counted, joined_counted, number_bare, named_bare}
+use Rattle.cg_names.proofs.NamedFormTerms.{named_form-reads}
 use Rattle.cg_names.proofs.Terms.{Reading, number-reads}
 use Rattle.cg_names.proofs.Tokens.{OtherThanBar, other_append, other_ends}
 
@@ -187,10 +187,10 @@ mutual
       rw n (bare_told (λ k. Reading k (tree.number x) (number_text x)) (number_text x) (number_bare x r)
       (λ k. number-reads k x r))
   name_told (options ls rs) text (inl n) r =
-      let q = r.0 n.sign n.fits in
+      let q = r.0 n.named_form n.fits in
       let g : Game = options ls rs in
-      rw n.spelled (bare_told (λ k. Reading k g (sign_text n.sign)) (sign_text n.sign) (sign_bare n.sign q)
-      (λ k. sign-reads k n.sign g n.fits q))
+      rw n.spelled (bare_told (λ k. Reading k g (named_text n.named_form)) (named_text n.named_form) (named_bare n.named_form q)
+      (λ k. named_form-reads k n.named_form g n.fits q))
   name_told (options ls rs) text (inr n) r =
       let q = r.1 n.unsigned in
       rw n.spelled (braces_told ls rs n.left n.right (side_told ls n.left n.lefts q.0) (side_told rs n.right n.rights q.1))

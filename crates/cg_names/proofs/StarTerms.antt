@@ -16,7 +16,7 @@ use Rattle.cg_grammar.proofs.WrittenTokens.{arrow_of}
 use Rattle.cg_grammar.specs.Values.{clean}
 use Rattle.cg_names.specs.Meaning.{PositionForms, meaning}
 use Rattle.cg_names.specs.Named.{nimber_form, nimbers_below, star_form, ups_form, ups_of}
-use Rattle.cg_names.specs.Signs.{arrows_text, base_text, star_text}
+use Rattle.cg_names.specs.NamedForms.{arrows_text, base_text, star_text}
 use Rattle.cg_names.proofs.StarredUps.{ups-plus_star}
 use Rattle.cg_form.proofs.EqualGames.{equal_assoc}
 use Rattle.cg_nimbers.proofs.IntegerMultiples.{sum_second}

@@ -10,12 +10,13 @@ use Rattle.cg_nodes.specs.Meant.{Meant}
 use Rattle.cg_canon.proofs.HandleLists.{games_take_all, games_take_suc}
 use Rattle.cg_names.specs.Named.{nimber_form, nimbers_below}
 use Rattle.cg_names.specs.Readings.{AreStars, stars_above}
-use Rattle.cg_names.specs.Shapes.{sign_of}
-use Rattle.cg_names.specs.declared.sign.Sign.{Sign}
-use Rattle.cg_names.specs.declared.sign.Sign.TheVariants.{Star}
-use Rattle.cg_names.proofs.Guessing.{above_zero, found-form, sign-found}
+use Rattle.cg_names.specs.Shapes.{named_form_of}
+use Rattle.cg_names.specs.declared.named_form.NamedForm.{NamedForm}
+use Rattle.cg_names.specs.declared.named_form.NamedForm.TheVariants.{Star}
+use Rattle.cg_names.proofs.Guessing.{above_zero, found-form, named_form-found}
 use Rattle.cg_names.proofs.NameRule.{some_is}
-use Rattle.cg_names.proofs.SignForms.{length-stars, mirrored-node, mirrored-others, mirrored-own, not_number, shifted-zero, star_over, stars_first, stars_next}
+use Rattle.cg_names.proofs.NamedFormLists.{length-stars, mirrored-node, mirrored-others, mirrored-own}
+use Rattle.cg_names.proofs.NamedFormLists.{not_number, shifted-zero, star_over, stars_first, stars_next}
 
 -- ---- handles in front
 
@@ -105,7 +106,7 @@ number_behind x gs n l some y m e =
         not_number (node L L) x (mirrored-node false L L) (sym (star_over y k) ∙ sym q)
 
 -- a game with the Left options ls at the end
-module _ (ls rs hs : List Game) (o : Option Sign) (is : o ≡ sign_of (node ls rs)) where
+module _ (ls rs hs : List Game) (o : Option NamedForm) (is : o ≡ named_form_of (node ls rs)) where
   pub star_behind : (x : Number) (n : ℕ) → o ≡ Some (Star x n) → ls ≡ hs → AreStars (hs ++ (node ls rs ∷ [])) (Some x)
   star_behind x n e f =
       let has = found-form (node ls rs) (Star x n) (sym is ∙ e) in
@@ -128,7 +129,7 @@ module _ (ls rs hs : List Game) (o : Option Sign) (is : o ≡ sign_of (node ls r
   pub no_star_behind : ((x : Number) (n : ℕ) → ¬ (o ≡ Some (Star x n))) → AreStars (hs ++ (node ls rs ∷ [])) None
   no_star_behind none y n e =
       let (m, p, q) = star_last y n e in
-      none y (suc m) (is ∙ sign-found (node ls rs) (Star y (suc m)) (record { proper = some_is (suc m) (omega arith); form = q }))
+      none y (suc m) (is ∙ named_form-found (node ls rs) (Star y (suc m)) (record { proper = some_is (suc m) (omega arith); form = q }))
 
   pub others_behind : ¬ (ls ≡ hs) → AreStars (hs ++ (node ls rs ∷ [])) None
   others_behind other y n e = let (m, p, q) = star_last y n e in other ((star-lists ls rs y m q).0 ∙ sym p)

@@ -27,7 +27,7 @@ use Rattle.cg_grammar.proofs.WrittenTokens.{arrow_of}
 use Rattle.cg_grammar.specs.Values.{Last, clean, some_term, together}
 use Rattle.cg_names.specs.Meaning.{PositionForms, fraction, meaning, or_zero}
 use Rattle.cg_names.specs.Named.{zero_form}
-use Rattle.cg_names.specs.Signs.{arrows_text, base_text, star_text}
+use Rattle.cg_names.specs.NamedForms.{arrows_text, base_text, star_text}
 use Rattle.cg_names.proofs.Literals.{quotient-fraction}
 use Rattle.cg_nimbers.proofs.IntegerMultiples.{zero_sum}
 use Rattle.cg_names.proofs.Tokens.{OtherThanBar, decimal_other, number_is, other_append, size_text, star_is, ups_are}
@@ -128,7 +128,7 @@ pub arrows_tail : (down starred : Bool) (n : ℕ) → 1 ≤ n → n < 10 ^ 30 �
 arrows_tail down starred n s l j = then_is (arrows_text (arrow_of down) n) (starred_text starred)
     (inl (made_is (ups down n) (ups_are j down n s l))) (optional_nim _ starred)
 
--- ---- names with signs
+-- ---- names of named forms
 
 pub plain_number : (special : Piece (Found × Last)) (i : ℕ) (x : Number) → InRange x
     → grammar.term special i (clean (number_tree x)) (number_text x)

@@ -14,7 +14,7 @@ use Rattle.cg_query.specs.Tree.{nimber, ups}
 use Rattle.cg_grammar.specs.Values.{ups_tree}
 use Rattle.cg_reading.proofs.Spelled.{byte_then, made_is, then_is}
 use Rattle.cg_grammar.proofs.WrittenTokens.{arrow_count, arrow_of, arrow_run, fraction_is, nim_is, one_arrow, ups_by}
-use Rattle.cg_names.specs.Signs.{arrows_text, star_text}
+use Rattle.cg_names.specs.NamedForms.{arrows_text, star_text}
 
 -- ---- what doesn't begin with a bar
 

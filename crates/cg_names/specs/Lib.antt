@@ -1,6 +1,6 @@
 -- what public contracts cite
 pub mod Named
-pub mod Signs
+pub mod NamedForms
 pub mod Name
 pub mod Lists
 pub mod Meaning

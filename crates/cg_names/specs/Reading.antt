@@ -8,24 +8,24 @@ use Rattle.cg_query.specs.Tree.{Tree}
 use Rattle.cg_grammar.specs.Values.{clean}
 use Rattle.cg_query.specs.declared.format.Format.TheVariants as formats
 use Rattle.cg_names.specs.Meaning.{PositionForms, meaning}
-use Rattle.cg_names.specs.Signs.{Fits}
-use Rattle.cg_names.specs.declared.sign.Sign.{Sign}
-use Rattle.cg_names.specs.declared.sign.Sign.TheVariants.{Star, Arrows, Switch, Tiny}
+use Rattle.cg_names.specs.NamedForms.{Fits}
+use Rattle.cg_names.specs.declared.named_form.NamedForm.{NamedForm}
+use Rattle.cg_names.specs.declared.named_form.NamedForm.TheVariants.{Star, Arrows, Switch, Tiny}
 
--- the number of the sign is in range, and its count has at most thirty digits, which are as many as a numeral of the grammar has
-abbrev pub IsSignInRange : Sign → Type 0
-IsSignInRange (Star x n) = InRange x × (n < 10 ^ 30)
-IsSignInRange (Arrows down starred x n) = InRange x × (n < 10 ^ 30)
-IsSignInRange (Switch x) = InRange x
-IsSignInRange (Tiny miny x) = InRange x
+-- the number of the named form is in range, and its count has at most thirty digits, which are as many as a numeral of the grammar has
+abbrev pub IsNamedInRange : NamedForm → Type 0
+IsNamedInRange (Star x n) = InRange x × (n < 10 ^ 30)
+IsNamedInRange (Arrows down starred x n) = InRange x × (n < 10 ^ 30)
+IsNamedInRange (Switch x) = InRange x
+IsNamedInRange (Tiny miny x) = InRange x
 
 abbrev mutual
   -- each number in the name of the game is in range, and each count has at most thirty digits
   pub IsNameInRange : Game → Type 0
   IsNameInRange (number x) = InRange x
   IsNameInRange (options ls rs) =
-      ((s : Sign) → Fits s (options ls rs) → IsSignInRange s)
-      × (((s : Sign) → ¬ Fits s (options ls rs)) → AreNamesInRange ls × AreNamesInRange rs)
+      ((s : NamedForm) → Fits s (options ls rs) → IsNamedInRange s)
+      × (((s : NamedForm) → ¬ Fits s (options ls rs)) → AreNamesInRange ls × AreNamesInRange rs)
 
   pub AreNamesInRange : Games → Type 0
   AreNamesInRange none = Unit {0}

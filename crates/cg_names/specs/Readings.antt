@@ -9,13 +9,13 @@ use Rattle.cg_nodes.specs.Games.{IsGame, IsList, game_at, listed}
 use Rattle.cg_nodes.specs.Meant.{Meant}
 use Rattle.cg_names.specs.Named.{mirrored_if, nimber_form, nimbers_below, pair_form, tiny_form, ups_of}
 use Rattle.cg_names.specs.Shapes.{HasForm}
-use Rattle.cg_names.specs.Signs.{IsPositive}
+use Rattle.cg_names.specs.NamedForms.{IsPositive}
 use Rattle.cg_names.specs.declared.shape.Numbers.{Numbers}
 use Rattle.cg_names.specs.declared.shape.Two.{Two}
 use Rattle.cg_names.specs.declared.look_star.StarFound.{StarFound}
 use Rattle.cg_names.specs.declared.look_arrows.ArrowsFound.{ArrowsFound}
-use Rattle.cg_names.specs.declared.sign.Sign.{Sign}
-use Rattle.cg_names.specs.declared.sign.Sign.TheVariants.{Star}
+use Rattle.cg_names.specs.declared.named_form.NamedForm.{NamedForm}
+use Rattle.cg_names.specs.declared.named_form.NamedForm.TheVariants.{Star}
 
 -- the one game of a list that has one
 abbrev pub IsOnly : {R : Type 0} → State Meant R → Option ℕ → List tree.Game → Type 0
@@ -47,8 +47,8 @@ abbrev pub AreStars : List tree.Game → Option Number → Type 0
 AreStars gs None = (x : Number) (n : ℕ) → ¬ (gs ≡ stars_above x (suc n))
 AreStars gs (Some x) = (1 ≤ length gs) × (gs ≡ stars_above x (length gs))
 
--- the number x of the sign of x + *n
-abbrev pub IsStarBase : Option Sign → Option Number → Type 0
+-- the number x of the named form of x + *n
+abbrev pub IsStarBase : Option NamedForm → Option Number → Type 0
 IsStarBase o None = (x : Number) (n : ℕ) → ¬ (o ≡ Some (Star x n))
 IsStarBase o (Some x) = (n : ℕ) × (o ≡ Some (Star x n))
 
@@ -62,8 +62,8 @@ abbrev pub IsArrows : Bool → tree.Game → Option ArrowsFound → Type 0
 IsArrows down g None = (starred : Bool) (x : Number) (n : ℕ) → ¬ (g ≡ shifted x (ups_of down starred n))
 IsArrows down g (Some a) = g ≡ shifted a.base (ups_of down a.starred a.count)
 
--- the sign of {x|g}, or of its mirror image, that is one up more than g
-abbrev pub IsMore : Bool → Number → tree.Game → Option Sign → Type 0
+-- the named form of {x|g}, or of its mirror image, that is one up more than g
+abbrev pub IsMore : Bool → Number → tree.Game → Option NamedForm → Type 0
 IsMore down x g None = IsArrows down (mirrored_if down (tree.number x ∷ []) (g ∷ [])) None
 IsMore down x g (Some s) = HasForm (mirrored_if down (tree.number x ∷ []) (g ∷ [])) s
 

@@ -14,8 +14,8 @@ ghost use Rattle.cg_nodes.specs.Ranges.{AllInRange};
 ghost use Rattle.cg_names.specs.Meaning.{fraction, literal};
 ghost use Rattle.cg_names.specs.Name.{IsName};
 ghost use Rattle.cg_names.specs.Reading.{IsNameInRange, ReadsAs, most_open};
-ghost use Rattle.cg_names.specs.Signs.{Fits};
-ghost use Rattle.cg_names.specs.declared.sign.Sign.{Sign};
+ghost use Rattle.cg_names.specs.NamedForms.{Fits};
+ghost use Rattle.cg_names.specs.declared.named_form.NamedForm.{NamedForm};
 ghost use Rattle.cg_names.specs.Named.{zero_number, star_form, nimber_form, nimbers_below, ups_of, ups_chain, pair_positions, switch_form, tiny_form, first_number, second_number};
 
 /// The named games are canonical: no position of one has a dominated or a reversible option, or equals a number and
@@ -56,13 +56,13 @@ pub fn literals()
         below num den }
 {}
 
-/// Names: every game has exactly one by the rules, and at most one rule with a sign fits, with one number and one count.
+/// Names: every game has exactly one by the rules, and at most one rule with a named form fits, with one number and one count.
 /// A canonical game with a number added throughout is the canonical form of the sum, so `x + *n` has the canonical form
 /// of `*n` with x in the place of 0; and `n.^*` is `n.^ + *`.
 pub fn names()
     ensures named { (g : Game) → (text : List ℕ) × IsName g text }
     ensures one_name { (g : Game) (text other : List ℕ) → IsName g text → IsName g other → text ≡ other }
-    ensures one_sign { (g : Game) (s t : Sign) → Fits s g → Fits t g → s ≡ t }
+    ensures one_named { (g : Game) (s t : NamedForm) → Fits s g → Fits t g → s ≡ t }
     ensures moved { (x : Number) (g : Game) → Canonical g → can (sum (number x) g) ≡ shifted x g }
     ensures starred { (down : Bool) (n : ℕ) → Equal (sum (ups_of down false n) star_form) (ups_of down true n) }
 {}

@@ -7,11 +7,11 @@ ghost use Rattle.cg_nodes.specs.Games.{IsGame, IsList, IsNode, game_at, listed};
 ghost use Rattle.cg_names.specs.Memos.{arrow_count};
 ghost use Rattle.cg_names.specs.Named.{mirrored_if, pair_form};
 ghost use Rattle.cg_names.specs.Readings.{IsArrows, IsMore, IsStar, IsUpStar};
-ghost use Rattle.cg_names.specs.Shapes.{sign_of};
+ghost use Rattle.cg_names.specs.Shapes.{named_form_of};
 
+use crate::named_form::NamedForm;
 use crate::numbers::is_same;
 use crate::shape::{numbers_at, numbers_of, two_of};
-use crate::sign::Sign;
 use cg_cells::CellStore;
 use cg_dyadic::Dyadic;
 use cg_nodes::{BoardForms, GameFacts, Handle, ListId, Reading, read};
@@ -24,26 +24,27 @@ struct ArrowsFound {
     count: u64,
 }
 
-/// The sign of `{x|g}`, or of `{g|x}` where it is `down`, where g has this sign: one up more than g, or one down.
-pub(crate) fn one_more(down: bool, x: Dyadic, sign: &Option<Sign>) -> Option<Sign>
-    requires { arrow_count sign.now < 2 ^ 63 }
-    ensures more { (g : Game) → IsNode g → sign.now ≡ sign_of g → IsMore down x g result }
-    ensures few { arrow_count result ≤ arrow_count sign.now + 1 }
+/// The named form of `{x|g}`, or of `{g|x}` where it is `down`, where g has this named form: one up more than g, or one
+/// down.
+pub(crate) fn one_more(down: bool, x: Dyadic, named_form: &Option<NamedForm>) -> Option<NamedForm>
+    requires { arrow_count named_form.now < 2 ^ 63 }
+    ensures more { (g : Game) → IsNode g → named_form.now ≡ named_form_of g → IsMore down x g result }
+    ensures few { arrow_count result ≤ arrow_count named_form.now + 1 }
 {
-    match arrows_in(down, sign) {
+    match arrows_in(down, named_form) {
         None => None,
         Some(found) => one_more_than(down, x, &found),
     }
 }
 
 /// One up more than these, or one down.
-fn one_more_than(down: bool, x: Dyadic, found: &ArrowsFound) -> Option<Sign>
+fn one_more_than(down: bool, x: Dyadic, found: &ArrowsFound) -> Option<NamedForm>
     requires { found.now.count < 2 ^ 63 }
     ensures more { (g : Game) → IsNode g → IsArrows down g (Some found.now) → IsMore down x g result }
     ensures few { arrow_count result ≤ found.now.count + 1 }
 {
     if is_same(x, found.base) {
-        Some(Sign::Arrows {
+        Some(NamedForm::Arrows {
             down,
             starred: !found.starred,
             base: x,
@@ -54,25 +55,25 @@ fn one_more_than(down: bool, x: Dyadic, found: &ArrowsFound) -> Option<Sign>
     }
 }
 
-/// The ups, or the downs, that a game with this sign is, if it has one; `x + *` is none of them, starred.
-fn arrows_in(down: bool, sign: &Option<Sign>) -> Option<ArrowsFound>
-    ensures arrows { (g : Game) → IsNode g → sign.now ≡ sign_of g → IsArrows down g result }
-    ensures few { IfSome result (λ a. a.count ≤ arrow_count sign.now) }
+/// The ups, or the downs, that a game with this named form is, if it has one; `x + *` is none of them, starred.
+fn arrows_in(down: bool, named_form: &Option<NamedForm>) -> Option<ArrowsFound>
+    ensures arrows { (g : Game) → IsNode g → named_form.now ≡ named_form_of g → IsArrows down g result }
+    ensures few { IfSome result (λ a. a.count ≤ arrow_count named_form.now) }
 {
-    match sign {
+    match named_form {
         None => None,
         Some(found) => arrows_of(down, found),
     }
 }
 
-/// The ups, or the downs, that a game with this sign is.
-fn arrows_of(down: bool, sign: &Sign) -> Option<ArrowsFound>
-    ensures arrows { (g : Game) → IsNode g → Some sign.now ≡ sign_of g → IsArrows down g result }
-    ensures few { IfSome result (λ a. a.count ≤ arrow_count (Some sign.now)) }
+/// The ups, or the downs, that a game with this named form is.
+fn arrows_of(down: bool, named_form: &NamedForm) -> Option<ArrowsFound>
+    ensures arrows { (g : Game) → IsNode g → Some named_form.now ≡ named_form_of g → IsArrows down g result }
+    ensures few { IfSome result (λ a. a.count ≤ arrow_count (Some named_form.now)) }
 {
-    match sign {
-        Sign::Star(base, count) => level_at(*base, *count),
-        Sign::Arrows {
+    match named_form {
+        NamedForm::Star(base, count) => level_at(*base, *count),
+        NamedForm::Arrows {
             down: turned,
             starred,
             base,
@@ -88,14 +89,14 @@ fn arrows_of(down: bool, sign: &Sign) -> Option<ArrowsFound>
                 None
             }
         }
-        Sign::Switch(_) => None,
-        Sign::Tiny(_, _) => None,
+        NamedForm::Switch(_) => None,
+        NamedForm::Tiny(_, _) => None,
     }
 }
 
 /// The `x + *` that `x + *n` is where n is 1.
 fn level_at(x: Dyadic, count: u64) -> Option<ArrowsFound>
-    ensures arrows { (down : Bool) (g : Game) → IsNode g → Some (Sign.Star x count) ≡ sign_of g → IsArrows down g result }
+    ensures arrows { (down : Bool) (g : Game) → IsNode g → Some (NamedForm.Star x count) ≡ named_form_of g → IsArrows down g result }
     ensures few { IfSome result (λ a. a.count ≡ 0) }
 {
     if count == 1 {
@@ -109,20 +110,20 @@ fn level_at(x: Dyadic, count: u64) -> Option<ArrowsFound>
     }
 }
 
-/// The sign of `{own|last}` where own has another number of options than one, or of its mirror image where it is `down`:
+/// The named form of `{own|last}` where own has another number of options than one, or of its mirror image where it is `down`:
 /// of these only `{x,x + *|x}` has one, which is `x + ^*`.
 pub(crate) fn starred_arrow<B: BoardForms, S: CellStore<GameFacts<B>>>(
     store: &mut S,
     down: bool,
     own: ListId,
     last: Handle,
-) -> Option<Sign>
+) -> Option<NamedForm>
     requires own { IsList (S.state store.old) own }
     requires last { IsGame (S.state store.old) last }
     requires more { (a : Game) → ¬ (listed (S.state store.old) own ≡ a ∷ []) }
     requires no_star { let W = S.state store.old in IsStar
         (mirrored_if down (listed W own) (game_at W last ∷ [])) None }
-    ensures sign { let W = S.state store.old in result ≡ sign_of
+    ensures named_form { let W = S.state store.old in result ≡ named_form_of
         (mirrored_if down (listed W own) (game_at W last ∷ [])) }
     ensures few { arrow_count result ≤ 1 }
     ensures spends { Spends 0 (S.state store.old) (S.state store.new) }
@@ -131,7 +132,7 @@ pub(crate) fn starred_arrow<B: BoardForms, S: CellStore<GameFacts<B>>>(
         None => None,
         Some(pair) => match up_star(store, pair.first, pair.second, last) {
             None => None,
-            Some(base) => Some(Sign::Arrows {
+            Some(base) => Some(NamedForm::Arrows {
                 down,
                 starred: true,
                 base,

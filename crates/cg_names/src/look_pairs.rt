@@ -7,24 +7,24 @@ ghost use Rattle.cg_dyadic.specs.Exact.{number_negative};
 ghost use Rattle.cg_names.specs.Memos.{arrow_count};
 ghost use Rattle.cg_names.specs.Named.{mirrored_if, pair_form, zero_number};
 ghost use Rattle.cg_names.specs.Readings.{IsStar, IsTiny};
-ghost use Rattle.cg_names.specs.Shapes.{sign_of};
-ghost use Rattle.cg_names.specs.Signs.{IsPositive};
+ghost use Rattle.cg_names.specs.Shapes.{named_form_of};
+ghost use Rattle.cg_names.specs.NamedForms.{IsPositive};
 
+use crate::named_form::NamedForm;
 use crate::numbers::{is_positive, is_same, opposite};
 use crate::shape::{Numbers, numbers_of};
-use crate::sign::Sign;
 use cg_canon::zero;
 use cg_cells::CellStore;
 use cg_dyadic::Dyadic;
 use cg_nodes::{BoardForms, GameFacts, ListId};
 
-/// The sign of `{x|y}`, which has none with a nimber.
-pub(crate) fn switch_sign(x: Dyadic, y: Dyadic) -> Option<Sign>
-    ensures sign { IsStar (pair_form x y) None → result ≡ sign_of (pair_form x y) }
+/// The named form of `{x|y}`, which has none with a nimber.
+pub(crate) fn named_switch(x: Dyadic, y: Dyadic) -> Option<NamedForm>
+    ensures named_form { IsStar (pair_form x y) None → result ≡ named_form_of (pair_form x y) }
     ensures few { arrow_count result ≡ 0 }
 {
     if is_positive(x) && is_same(y, opposite(x)) {
-        Some(Sign::Switch(x))
+        Some(NamedForm::Switch(x))
     } else {
         None
     }

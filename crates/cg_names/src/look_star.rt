@@ -4,10 +4,10 @@ ghost use Rattle.cg_form.specs.Game.{Game, node, number as number_form};
 ghost use Rattle.cg_cells.specs.Store.{Spends};
 ghost use Rattle.cg_nodes.specs.Games.{AreGames, IsList, games_at, listed};
 ghost use Rattle.cg_names.specs.Readings.{AreStars, IsStarBase};
-ghost use Rattle.cg_names.specs.Shapes.{sign_of};
+ghost use Rattle.cg_names.specs.Shapes.{named_form_of};
 
+use crate::named_form::NamedForm;
 use crate::shape::is_list;
-use crate::sign::Sign;
 use cg_cells::CellStore;
 use cg_dyadic::Dyadic;
 use cg_nodes::{BoardForms, GameFacts, Handle, ListId};
@@ -41,40 +41,41 @@ pub(crate) fn one_star(x: Dyadic, place: usize) -> Option<Dyadic>
     if place == 0 { Some(x) } else { None }
 }
 
-/// The number x of the sign of `x + *n`.
-fn star_base(sign: &Option<Sign>) -> Option<Dyadic>
-    ensures { IsStarBase sign.now result }
+/// The number x of the named form of `x + *n`.
+fn star_base(named_form: &Option<NamedForm>) -> Option<Dyadic>
+    ensures { IsStarBase named_form.now result }
 {
-    match sign {
+    match named_form {
         None => None,
-        Some(Sign::Star(base, _)) => Some(*base),
+        Some(NamedForm::Star(base, _)) => Some(*base),
         Some(
-            Sign::Arrows {
+            NamedForm::Arrows {
                 down: _,
                 starred: _,
                 base: _,
                 count: _,
             },
         ) => None,
-        Some(Sign::Switch(_)) => None,
-        Some(Sign::Tiny(_, _)) => None,
+        Some(NamedForm::Switch(_)) => None,
+        Some(NamedForm::Tiny(_, _)) => None,
     }
 }
 
-/// The number x where the games are x, x + *, x + *2 and so on, of which the last one has this sign and these Left options.
+/// The number x where the games are x, x + *, x + *2 and so on, of which the last one has this named form and these Left options.
 pub(crate) fn star_on<B: BoardForms, S: CellStore<GameFacts<B>>>(
     store: &mut S,
     lefts: ListId,
-    sign: &Option<Sign>,
+    named_form: &Option<NamedForm>,
     others: &[Handle],
 ) -> Option<Dyadic>
     requires lefts { IsList (S.state store.old) lefts }
     requires others { AreGames (S.state store.old) others.now }
-    ensures stars { let W = S.state store.old in (rs : List Game) → sign.now ≡ sign_of (node (listed W lefts) rs)
+    ensures stars { let W = S.state store.old in (rs : List Game) → named_form.now ≡ named_form_of
+        (node (listed W lefts) rs)
         → AreStars (games_at W others.now ++ (node (listed W lefts) rs ∷ [])) result }
     ensures spends { Spends 0 (S.state store.old) (S.state store.new) }
 {
-    match star_base(sign) {
+    match star_base(named_form) {
         None => None,
         Some(base) => {
             if is_list(store, lefts, others) {

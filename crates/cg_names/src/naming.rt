@@ -7,14 +7,14 @@ ghost use Rattle.cg_cells.specs.Store.{Spends};
 ghost use Rattle.cg_nodes.specs.Games.{IsGame, IsList, game_at, listed};
 ghost use Rattle.cg_names.specs.Memos.{Recalls};
 ghost use Rattle.cg_names.specs.Name.{IsName, braces_name};
-ghost use Rattle.cg_names.specs.Reading.{AreNamesInRange, IsNameInRange, IsSignInRange, ReadsAs, most_open};
-ghost use Rattle.cg_names.specs.Signs.{arrows_text, base_text, sign_text, star_text};
+ghost use Rattle.cg_names.specs.Reading.{AreNamesInRange, IsNameInRange, IsNamedInRange, ReadsAs, most_open};
+ghost use Rattle.cg_names.specs.NamedForms.{arrows_text, base_text, named_text, star_text};
 ghost use Rattle.cg_names.specs.Spelled.{further_names, name_of, names_of};
 
 use crate::look::{Shape, look};
 use crate::memo::Memo;
+use crate::named_form::NamedForm;
 use crate::numbers::is_same;
-use crate::sign::Sign;
 use cg_canon::zero;
 use cg_cells::CellStore;
 use cg_dyadic::Dyadic;
@@ -72,8 +72,8 @@ fn push_name<B: BoardForms, S: CellStore<GameFacts<B>>>(
 {
     match look(alloc, store, memo, handle)? {
         Shape::Number(number) => push_number(alloc, text, number),
-        Shape::Game(lefts, rights, sign) => match sign {
-            Some(sign) => push_sign(alloc, text, &sign),
+        Shape::Game(lefts, rights, named_form) => match named_form {
+            Some(named_form) => push_named(alloc, text, &named_form),
             None => push_braces(alloc, store, memo, text, lefts, rights),
         },
     }
@@ -135,17 +135,17 @@ fn push_base(alloc: Global, text: &mut String, number: Dyadic) -> Result<(), All
     push_number(alloc, text, number)
 }
 
-/// Puts the text of the sign at the end.
-fn push_sign(alloc: Global, text: &mut String, sign: &Sign) -> Result<(), AllocError>
-    ensures text { OnOk result (string_bytes text.new ≡ string_bytes text.old ++ sign_text sign.now) }
-    ensures in_range { OnOk result (IsSignInRange sign.now) }
+/// Puts the text of the named form at the end.
+fn push_named(alloc: Global, text: &mut String, named_form: &NamedForm) -> Result<(), AllocError>
+    ensures text { OnOk result (string_bytes text.new ≡ string_bytes text.old ++ named_text named_form.now) }
+    ensures in_range { OnOk result (IsNamedInRange named_form.now) }
 {
-    match sign {
-        Sign::Star(base, count) => {
+    match named_form {
+        NamedForm::Star(base, count) => {
             push_base(alloc, text, *base)?;
             push_star(alloc, text, *count)
         }
-        Sign::Arrows {
+        NamedForm::Arrows {
             down,
             starred,
             base,
@@ -155,11 +155,11 @@ fn push_sign(alloc: Global, text: &mut String, sign: &Sign) -> Result<(), AllocE
             push_arrows(alloc, text, arrow(*down), *count)?;
             text.push_str(if *starred { "*" } else { "" })
         }
-        Sign::Switch(number) => {
+        NamedForm::Switch(number) => {
             text.push_str("+-")?;
             push_number(alloc, text, *number)
         }
-        Sign::Tiny(miny, number) => {
+        NamedForm::Tiny(miny, number) => {
             text.push_str(if *miny { "Miny(" } else { "Tiny(" })?;
             push_number(alloc, text, *number)?;
             text.push_str(")")
@@ -167,7 +167,7 @@ fn push_sign(alloc: Global, text: &mut String, sign: &Sign) -> Result<(), AllocE
     }
 }
 
-/// The sign of an up, or of a down.
+/// The named form of an up, or of a down.
 fn arrow(down: bool) -> &'static str
     ensures { result.now ≡ cond down 118 94 ∷ [] }
 {

@@ -24,7 +24,7 @@ pub use facts::{BoardForms, GameFacts, NoBoards, Thing};
 pub use fault::PositionsFault;
 pub use found::Found;
 pub use handle::{Handle, Handles, Kind, ListId};
-pub use making::{expect_game, game, list, number};
+pub use making::{game, list, number, prefetch_game};
 pub use reading::{Reading, Sides, Split, handles, head, kind, known_game, options, read};
 pub use structure::compare_structure;
 pub use walk::positions;

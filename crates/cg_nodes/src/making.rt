@@ -74,7 +74,7 @@ pub fn list<B: BoardForms, S: CellStore<GameFacts<B>>>(store: &mut S, options: &
 }
 
 // Tells the store that the list of these games may be claimed soon. It answers the id that the list would most likely have.
-fn expect_list<B: BoardForms, S: CellStore<GameFacts<B>>>(
+fn prefetch_list<B: BoardForms, S: CellStore<GameFacts<B>>>(
     store: &mut S,
     options: &[Handle],
 ) -> Option<Id>
@@ -83,29 +83,29 @@ fn expect_list<B: BoardForms, S: CellStore<GameFacts<B>>>(
     let mut list = None;
     for option in options.iter().rev() {
         let key = Key::list(option.id(), list);
-        list = Some(store.expect_claim(key));
+        list = Some(store.prefetch_claim(key));
     }
     list
 }
 
 /// Tells the store that the game of the lists of these Left and Right options may be claimed soon, so that it may bring the cells
 /// of both lists and of the game near. Nothing that contracts see changes.
-pub fn expect_game<B: BoardForms, S: CellStore<GameFacts<B>>>(
+pub fn prefetch_game<B: BoardForms, S: CellStore<GameFacts<B>>>(
     store: &mut S,
     lefts: &[Handle],
     rights: &[Handle],
 )
     ensures { Spends 0 (S.state store.old) (S.state store.new) }
 {
-    let left_list = expect_list(store, lefts);
+    let left_list = prefetch_list(store, lefts);
     let right_list = if lefts == rights {
         left_list
     } else {
-        expect_list(store, rights)
+        prefetch_list(store, rights)
     };
     if left_list.is_some() || right_list.is_some() {
         let key = Key::game(left_list, right_list);
-        store.expect_claim(key);
+        store.prefetch_claim(key);
     }
 }
 

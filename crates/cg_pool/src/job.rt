@@ -12,13 +12,13 @@ use std::alloc::{AllocError, Global};
 
 /// Lines that can be answered in any order. Contracts see how many there are, the spare that an answer needs, which
 /// answers are good for a line under what is known, and when what a worker holds is right under what is known. An
-/// answer stays good when more is known, and what is held stays right.
+/// answer stays good when more is known, and what the cache has stays right.
 pub trait Job<F: Facts>: Sync {
     /// The answer to one line.
     type Answer: Send + Drop;
 
     /// What a worker holds from line to line.
-    type Held: Send + Drop;
+    type Cache: Send + Drop;
 
     ghost count: { Self → ℕ };
 
@@ -26,10 +26,10 @@ pub trait Job<F: Facts>: Sync {
 
     ghost good: { Self → ℕ → Self.Answer → map.FinMap nat_cmp F.Thing → Type 0 };
 
-    ghost holds: { Self.Held → map.FinMap nat_cmp F.Thing → Type 0 };
+    ghost holds: { Self.Cache → map.FinMap nat_cmp F.Thing → Type 0 };
 
     /// What a worker begins with. It is right whatever is known.
-    fn start(&self, alloc: Global) -> Self::Held
+    fn start(&self, alloc: Global) -> Self::Cache
         ensures { (f : map.FinMap nat_cmp F.Thing) → holds result f };
 
     /// Answers the line with this index over a desk. Whatever it answers, the desk holds the same pass of the same
@@ -39,21 +39,21 @@ pub trait Job<F: Facts>: Sync {
         &self,
         alloc: Global,
         desk: &mut Desk<'_, F>,
-        held: &mut Self::Held,
+        cache: &mut Self::Cache,
         index: u64,
     ) -> Result<Self::Answer, AllocError>
         requires index { index < count self.now }
         requires spare { needs self.now ≤ (pass_state desk.old).spare }
-        requires held { holds held.old (pass_state desk.old).known }
+        requires cache { holds cache.old (pass_state desk.old).known }
         ensures good { IfOk result
             (λ answer. good self.now index answer (pass_state desk.new).known) }
         ensures known { Grows (thing_at (pass_state desk.old)) (thing_at (pass_state desk.new)) }
         ensures rest { (pass_state desk.new).rest ≡ (pass_state desk.old).rest }
-        ensures held { IfOk result (λ _. holds held.new (pass_state desk.new).known) };
+        ensures cache { IfOk result (λ _. holds cache.new (pass_state desk.new).known) };
 
     ghost stays: { (job : Self) (n : ℕ) (answer : Self.Answer) (f g : map.FinMap nat_cmp F.Thing)
         → Grows (map.get f) (map.get g) → good job n answer f → good job n answer g };
 
-    ghost holding: { (held : Self.Held) (f g : map.FinMap nat_cmp F.Thing) → Grows (map.get f) (map.get g)
-        → holds held f → holds held g };
+    ghost holding: { (cache : Self.Cache) (f g : map.FinMap nat_cmp F.Thing) → Grows (map.get f) (map.get g)
+        → holds cache f → holds cache g };
 }

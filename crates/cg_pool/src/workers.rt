@@ -17,18 +17,18 @@ fn answer_line<F: Facts, J: Job<F>>(
     alloc: Global,
     job: &J,
     pass: Pass<F>,
-    held: &mut J::Held,
+    cache: &mut J::Cache,
     index: u64,
 ) -> Result<(J::Answer, Pass<F>), AllocError>
     requires own { IsPassOf cells.now pass }
     requires index { index < J.count job.now }
     requires spare { J.needs job.now ≤ pass.sees.spare }
-    requires held { J.holds held.old (pass_state pass).known }
+    requires cache { J.holds cache.old (pass_state pass).known }
     ensures answer { IfOk result (λ r. HasAnswered (J.good job.now) cells.now index pass r.0 r.1) }
-    ensures held { IfOk result (λ r. J.holds held.new (pass_state r.1).known) }
+    ensures cache { IfOk result (λ r. J.holds cache.new (pass_state r.1).known) }
 {
     let mut desk = Desk::new(cells, pass);
-    let answer = job.work(alloc, &mut desk, held, index)?;
+    let answer = job.work(alloc, &mut desk, cache, index)?;
     Ok((answer, desk.into_pass()))
 }
 
@@ -45,7 +45,7 @@ fn answer_lines<F: Facts, J: Job<F>, G: Gate>(
     ensures { IfOk result (λ r. BringsBack (J.good job.now) order.now cells.now pass r.0.items r.1) }
 {
     let mut answers = Vec::new(alloc);
-    let mut held = job.start(alloc);
+    let mut cache = job.start(alloc);
     loop {
         let Some(Ticket(ticket)) = cells.draw(&mut pass) else {
             return Ok((answers, pass));
@@ -53,7 +53,7 @@ fn answer_lines<F: Facts, J: Job<F>, G: Gate>(
         pass.each_ticket_once();
         let index = order[ticket as usize];
         gate.enter(index);
-        let done = answer_line::<F, J>(cells, alloc, job, pass, &mut held, index);
+        let done = answer_line::<F, J>(cells, alloc, job, pass, &mut cache, index);
         gate.leave(index);
         let (answer, after) = done?;
         pass = after;

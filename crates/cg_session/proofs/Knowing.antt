@@ -5,9 +5,9 @@ use Rattle.std.specs.Prelude.{slice_get}
 use Rattle.cg_cells.specs.Store.{State}
 use Rattle.cg_cells.proofs.Levels.{same_Some}
 use Rattle.cg_nodes.specs.Meant.{Meant}
-use Rattle.cg_canon.specs.declared.held.Held.{Held}
-use Rattle.cg_canon.specs.Held.{IsHeld, knowing}
-use Rattle.cg_canon.proofs.Holding.{held_later}
+use Rattle.cg_canon.specs.declared.cache.Cache.{Cache}
+use Rattle.cg_canon.specs.Cache.{CacheHolds, knowing}
+use Rattle.cg_canon.proofs.Holding.{cache_later}
 use Rattle.cg_query.specs.Tree.{Question}
 use Rattle.cg_syntax.specs.Session.{Resolved, Asked_of, Syntax_at, Too_large, Unknown_at}
 use Rattle.cg_eval.specs.declared.answered.Answered.{Answered}
@@ -63,13 +63,13 @@ good_line s share positions line (Err e) reply handle lines n at = tt
 
 -- ---- what a worker holds, under what is known and on a store that knows it
 
-module _ {R : Type 0} (s : State Meant R) (h : Held) where
-  pub held_on : IsHeld (knowing s.known) h → IsHeld s h
-  held_on k = held_later (knowing s.known) s h (λ i x e. e) k
+module _ {R : Type 0} (s : State Meant R) (h : Cache) where
+  pub cache_on : CacheHolds (knowing s.known) h → CacheHolds s h
+  cache_on k = cache_later (knowing s.known) s h (λ i x e. e) k
 
-  pub held_under : {A E : Type 0} (r : Result A E) → IsHeld s h → IfOk r (λ _. IsHeld (knowing s.known) h)
-  held_under (Ok a) k = held_later s (knowing s.known) h (λ i x e. e) k
-  held_under (Err e) k = tt
+  pub cache_under : {A E : Type 0} (r : Result A E) → CacheHolds s h → IfOk r (λ _. CacheHolds (knowing s.known) h)
+  cache_under (Ok a) k = cache_later s (knowing s.known) h (λ i x e. e) k
+  cache_under (Err e) k = tt
 
 -- ---- lines that ask something and lines that don't
 

@@ -4,7 +4,7 @@ use Rattle.std.specs.FinMap as map
 use Rattle.std.specs.Ordering.{nat_cmp}
 use Rattle.cg_cells.specs.Meaning.{Grows}
 use Rattle.cg_nodes.specs.Meant.{Meant}
-use Rattle.cg_canon.specs.Held.{knowing}
+use Rattle.cg_canon.specs.Cache.{knowing}
 use Rattle.cg_eval.specs.declared.answered.Answered.{Answered}
 use Rattle.cg_query.specs.Tree.{Question}
 use Rattle.cg_eval.specs.Shown.{shown, HandleIs}

@@ -1,7 +1,7 @@
 //! The lines of a session as the job of many workers.
 ghost use Rattle.std.specs.Prelude.{◌≡◌, ◌+◌, ◌≤◌, ℕ, List, Some, IfOk, slice_get, length, map};
-ghost use Rattle.cg_canon.specs.Held.{IsHeld, knowing};
-ghost use Rattle.cg_canon.proofs.Holding.{held_later};
+ghost use Rattle.cg_canon.specs.Cache.{CacheHolds, knowing};
+ghost use Rattle.cg_canon.proofs.Holding.{cache_later};
 ghost use Rattle.cg_cells.specs.Store.{State};
 ghost use Rattle.cg_eval.specs.Shown.{shown};
 ghost use Rattle.cg_eval.specs.Stores.{KeepsStore};
@@ -11,9 +11,9 @@ ghost use Rattle.cg_syntax.specs.Session.{Resolved};
 ghost use Rattle.cg_syntax.specs.SessionViews.{line_of, resolved_of};
 
 use crate::refusals::{refuse_name, refuse_parts, refuse_syntax};
-use cg_canon::Held;
+use cg_canon::Cache;
 use cg_cells::CellStore;
-use cg_eval::{Answered, CgBoards, answer_query_held};
+use cg_eval::{Answered, CgBoards, answer_query_cached};
 use cg_nodes::GameFacts;
 use cg_pool::Job;
 use cg_shared::Desk;
@@ -31,7 +31,7 @@ pub struct LineJob<'a> {
 impl<'a> Job<GameFacts<CgBoards>> for LineJob<'a> {
     type Answer = Answered;
 
-    type Held = Held;
+    type Cache = Cache;
 
     ghost count = { λ job. length job.lines.now };
 
@@ -40,26 +40,26 @@ impl<'a> Job<GameFacts<CgBoards>> for LineJob<'a> {
     ghost good = { λ job n a known. (line : ℕ × Resolved) → slice_get (map line_of job.lines.now) n ≡ Some line
         → IsGood job.share job.positions line.1 a known };
 
-    ghost holds = { λ held known. IsHeld (knowing known) held };
+    ghost holds = { λ cache known. CacheHolds (knowing known) cache };
 
-    fn start(&self, alloc: Global) -> Held {
-        Held::new(alloc)
+    fn start(&self, alloc: Global) -> Cache {
+        Cache::new(alloc)
     }
 
     fn work(
         &self,
         alloc: Global,
         desk: &mut Desk<'_, GameFacts<CgBoards>>,
-        held: &mut Held,
+        cache: &mut Cache,
         index: u64,
     ) -> Result<Answered, AllocError> {
         let asked = &self.lines[index as usize].asked;
-        answer_line(alloc, desk, held, asked, self.share, self.positions)
+        answer_line(alloc, desk, cache, asked, self.share, self.positions)
     }
 
     ghost stays = { λ job n a f g grows h line at. good_stays job.share job.positions line.1 a f g grows (h line at) };
 
-    ghost holding = { λ held f g grows h. held_later (knowing f) (knowing g) held grows h };
+    ghost holding = { λ cache f g grows h. cache_later (knowing f) (knowing g) cache grows h };
 }
 
 /// The answer to what a line asks, or its refusal, on a share of so much of the store's spare, with the help of what is
@@ -67,21 +67,21 @@ impl<'a> Job<GameFacts<CgBoards>> for LineJob<'a> {
 fn answer_line<S: CellStore<GameFacts<CgBoards>>>(
     alloc: Global,
     store: &mut S,
-    held: &mut Held,
+    cache: &mut Cache,
     asked: &Asked,
     share: u64,
     positions: u64,
 ) -> Result<Answered, AllocError>
     requires spare { share ≤ (S.state store.old).spare }
-    requires held { IsHeld (S.state store.old) held.old }
+    requires cache { CacheHolds (S.state store.old) cache.old }
     ensures reply { IfOk result (λ a. IsReplyFor share positions (resolved_of asked.now) (shown a)) }
     ensures handle { IfOk result (λ a. HandleFor (S.state store.new) (resolved_of asked.now) a.refused a.handle) }
     ensures keeps { KeepsStore (S.state store.old) (S.state store.new) }
     ensures spare { (S.state store.old).spare ≤ (S.state store.new).spare + share }
-    ensures held { IsHeld (S.state store.new) held.new }
+    ensures cache { CacheHolds (S.state store.new) cache.new }
 {
     match asked {
-        Asked::Query(query) => answer_query_held(alloc, store, held, query, share, positions),
+        Asked::Query(query) => answer_query_cached(alloc, store, cache, query, share, positions),
         Asked::Syntax(column) => refuse_syntax(alloc, *column),
         Asked::Unknown(column) => refuse_name(alloc, *column),
         Asked::Parts => refuse_parts(alloc),

@@ -4,7 +4,7 @@ use Rattle.std.specs.Prelude.{slice_get, MatchOption}
 use Rattle.cg_cells.specs.Store.{State, thing_at}
 use Rattle.cg_nodes.specs.Meant.{Meant, form}
 use Rattle.cg_nodes.specs.Games.{IsGame, game_in}
-use Rattle.cg_canon.specs.Held.{knowing}
+use Rattle.cg_canon.specs.Cache.{knowing}
 use Rattle.cg_syntax.specs.Session.{Resolved, Asked_of, Syntax_at, Too_large, Unknown_at, answered_lines}
 use Rattle.cg_query.specs.Tree.{Question}
 use Rattle.cg_eval.specs.declared.answered.Answered.{Answered}

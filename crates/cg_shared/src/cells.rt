@@ -127,7 +127,7 @@ impl<F: Facts> SharedCells<F> {
 
     /// Loads the word of the cell where the search for this key begins, so that it is near when the
     /// key is claimed, and answers the id of that cell. Nothing is learnt.
-    pub fn expect_claim(&self, pass: &mut Pass<F>, key: Key) -> Id
+    pub fn prefetch_claim(&self, pass: &mut Pass<F>, key: Key) -> Id
         requires own { IsPassOf self.now pass.old }
         ensures own { IsPassOf self.now pass.new }
         ensures view { pass.new.sees ≡ pass.old.sees }
@@ -141,7 +141,7 @@ impl<F: Facts> SharedCells<F> {
 
     /// Loads the value word of this id, if it is one of the table's, so that it is near when it is
     /// asked for. Nothing is learnt.
-    pub fn expect_note(&self, pass: &mut Pass<F>, id: Id)
+    pub fn prefetch_note(&self, pass: &mut Pass<F>, id: Id)
         requires own { IsPassOf self.now pass.old }
         ensures own { IsPassOf self.now pass.new }
         ensures view { pass.new.sees ≡ pass.old.sees }

@@ -102,12 +102,12 @@ impl<'a, F: Facts> CellStore<F> for Desk<'a, F> {
         self.cells.noted(&mut self.pass, id)
     }
 
-    fn expect_claim(&mut self, key: Key) -> Id {
-        self.cells.expect_claim(&mut self.pass, key)
+    fn prefetch_claim(&mut self, key: Key) -> Id {
+        self.cells.prefetch_claim(&mut self.pass, key)
     }
 
-    fn expect_note(&mut self, id: Id) {
-        self.cells.expect_note(&mut self.pass, id);
+    fn prefetch_note(&mut self, id: Id) {
+        self.cells.prefetch_note(&mut self.pass, id);
     }
 
     fn spare(&self) -> u64 {

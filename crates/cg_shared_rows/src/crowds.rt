@@ -14,7 +14,7 @@ struct Turns;
 impl Job<Spread> for Turns {
     type Answer = [Id; 4];
 
-    type Held = ();
+    type Cache = ();
 
     ghost count = { λ _. 64 };
 
@@ -22,7 +22,7 @@ impl Job<Spread> for Turns {
 
     ghost good = { λ _ n ids known. Unit {0} };
 
-    ghost holds = { λ held known. Unit {0} };
+    ghost holds = { λ cache known. Unit {0} };
 
     fn start(&self, _alloc: Global) {}
 
@@ -30,7 +30,7 @@ impl Job<Spread> for Turns {
         &self,
         _alloc: Global,
         desk: &mut Desk<'_, Spread>,
-        _held: &mut (),
+        _cache: &mut (),
         index: u64,
     ) -> Result<[Id; 4], AllocError> {
         let own = desk.claim(whole_key((index % 4) as u32));
@@ -42,7 +42,7 @@ impl Job<Spread> for Turns {
 
     ghost stays = { λ job n ids f g grows h. h };
 
-    ghost holding = { λ held f g grows h. h };
+    ghost holding = { λ cache f g grows h. h };
 }
 
 /// Whether the cells are four.

@@ -3,13 +3,13 @@
 #![tactic(auto)]
 
 #[cfg(test)]
+mod cache;
+#[cfg(test)]
 mod cells;
 #[cfg(test)]
 mod crowds;
 #[cfg(test)]
 mod gates;
-#[cfg(test)]
-mod held;
 #[cfg(test)]
 mod homes;
 #[cfg(test)]

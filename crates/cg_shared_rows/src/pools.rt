@@ -22,7 +22,7 @@ pub(crate) struct Numbers {
 impl Job<Spread> for Numbers {
     type Answer = Id;
 
-    type Held = ();
+    type Cache = ();
 
     ghost count = { λ _. 4096 };
 
@@ -30,7 +30,7 @@ impl Job<Spread> for Numbers {
 
     ghost good = { λ _ n id known. map.get known id ≡ Some (word_of (Number (pos n) 0)) };
 
-    ghost holds = { λ held known. Unit {0} };
+    ghost holds = { λ cache known. Unit {0} };
 
     fn start(&self, _alloc: Global) {}
 
@@ -38,7 +38,7 @@ impl Job<Spread> for Numbers {
         &self,
         _alloc: Global,
         desk: &mut Desk<'_, Spread>,
-        _held: &mut (),
+        _cache: &mut (),
         index: u64,
     ) -> Result<Id, AllocError> {
         if self.without_memory == Some(index) {
@@ -49,7 +49,7 @@ impl Job<Spread> for Numbers {
 
     ghost stays = { λ job n id f g grows h. grows id (word_of (Number (pos n) 0)) h };
 
-    ghost holding = { λ held f g grows h. h };
+    ghost holding = { λ cache f g grows h. h };
 }
 
 /// So many lines by so many workers.

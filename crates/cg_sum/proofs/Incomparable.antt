@@ -3,7 +3,7 @@ use Rattle.std.proofs.Common.{◌≡◌, ◌⊎◌, refl, ℕ, zero, suc, ◌<�
 use Rattle.std.proofs.lemmas.Bool.{cases_lt}
 use Rattle.std.proofs.lemmas.List.{get_or-map, length-map}
 use Rattle.std.proofs.Math.Seq.{drop-append_seam, take-append_seam}
-use Rattle.cg_book.specs.Terms.{NoneComparable, NoneComparableByTerm}
+use Rattle.cg_arena.specs.Terms.{NoneComparable, NoneComparableByTerm}
 use Rattle.cg_form.specs.Canonical.{Canonical}
 use Rattle.cg_form.specs.Game.{Among, Game, number, options, to_list}
 use Rattle.cg_form.specs.Order.{Le}

@@ -1,7 +1,7 @@
 -- The item of a sum, as it is found, made or noted.
 use Rattle.std.proofs.Common.{◌≡◌, ℕ, ◌+◌, ◌≤◌, arith, refl, ap, sym, ◌∙◌, subst, List, [], ◌∷◌, Option, Some, None, IsSome, Result, Ok, Err}
 use Rattle.std.specs.Result.{result_ok}
-use Rattle.cg_canon.proofs.Booking.{begins_then}
+use Rattle.cg_canon.proofs.InternerSteps.{begins_then}
 use Rattle.cg_canon.proofs.MadeSteps.{read_then, then_read}
 use Rattle.cg_canon.specs.Arena.{Begins, IsAt}
 use Rattle.cg_canon.specs.Items.{Item, made, outside}

@@ -2,7 +2,7 @@
 use Rattle.std.proofs.Common.{◌≡◌, ℕ, suc, ◌+◌, ◌*◌, ◌<◌, ◌≤◌, arith, refl, ap, sym, ◌∙◌, List, [], ◌∷◌, ◌++◌, map, take, drop, length, Result, Ok, Err}
 use Rattle.std.proofs.Math.Nat.{suc-mul}
 use Rattle.std.proofs.lemmas.List.{take_all}
-use Rattle.cg_book.specs.Pages.{game_of}
+use Rattle.cg_arena.specs.Arena.{game_of}
 use Rattle.cg_canon.specs.Items.{Item}
 use Rattle.cg_canon.specs.SumItems.{pair_items, row_items}
 use Rattle.cg_canon.specs.declared.fault.ValueFault.{ValueFault}

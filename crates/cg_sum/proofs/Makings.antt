@@ -5,8 +5,8 @@ use Rattle.std.specs.Prelude.{IfOk, OnOk}
 use Rattle.std.proofs.Math.Seq.{take-suc}
 use Rattle.std.proofs.lemmas.Grind.{flat_map-append}
 use Rattle.std.proofs.lemmas.List.{append-nil, map-append, take-append-drop}
-use Rattle.cg_book.specs.Pages.{game_of}
-use Rattle.cg_canon.proofs.Booking.{begins_none, begins_then}
+use Rattle.cg_arena.specs.Arena.{game_of}
+use Rattle.cg_canon.proofs.InternerSteps.{begins_none, begins_then}
 use Rattle.cg_canon.proofs.Keeping.{keeps_then}
 use Rattle.cg_canon.proofs.MadeSteps.{made_after, made_as, made_memory, made_none, made_with, stopped}
 use Rattle.cg_canon.specs.Arena.{Begins, IsAt}

@@ -5,8 +5,8 @@ use Rattle.std.proofs.lemmas.Simd.{map-map}
 use Rattle.std.proofs.lemmas.List.Elements.{All-append}
 use Rattle.std.specs.List.{All}
 use Rattle.std.specs.Prelude.{slice_index}
-use Rattle.cg_book.specs.Pages.{ArePages, IsPage, StandFor, game_of, games_of}
-use Rattle.cg_book.specs.Terms.{NoneComparableByTerm}
+use Rattle.cg_arena.specs.Arena.{AreIndexes, IsIndex, StandFor, game_of, games_of}
+use Rattle.cg_arena.specs.Terms.{NoneComparableByTerm}
 use Rattle.cg_canon.specs.Walk.{IsPlace, IsWalk, lefts_of, rights_of}
 use Rattle.cg_canon.specs.declared.walk.Position.{Position}
 use Rattle.cg_canon.specs.declared.walk.Walk.{Walk}
@@ -25,7 +25,7 @@ use Rattle.cg_sum.proofs.Walks as walks
 stand_append : (gs : List Game) (ps qs : List ℕ) (fs ks : List Game) → StandFor gs ps fs → StandFor gs qs ks
     → StandFor gs (ps ++ qs) (fs ++ ks)
 stand_append gs ps qs fs ks a b = (
-  All-append (λ z. IsPage gs z) ps qs a.0 b.0,
+  All-append (λ z. IsIndex gs z) ps qs a.0 b.0,
   map-append (game_of gs) ps qs ∙ ap (λ z. z ++ games_of gs qs) a.1 ∙ ap (λ z. fs ++ z) b.1,
 )
 
@@ -122,10 +122,10 @@ module _ (gs : List Game) (terms : Terms) (games : List Game × List Game) (row 
           (walks.rights_written gs terms.seconds games.1 ready.placed.seconds column k ready.placed.within_columns isk))
           (stand_append gs _ _ _ _ (firsts_stand _ first.rights_before) (seconds_stand _ second.rights_before))
 
-      pub lefts_are : ArePages gs left
+      pub lefts_are : AreIndexes gs left
       lefts_are = lefts_stand.0
 
-      pub rights_are : ArePages gs right
+      pub rights_are : AreIndexes gs right
       rights_are = rights_stand.0
 
       node_forms : node (games_of gs left) (games_of gs right)
@@ -194,10 +194,10 @@ module _ (gs : List Game) (walk : Walk) (games : List Game) (is : IsWalk gs walk
     right_stands : StandFor gs right (map (λ a. can (negative a)) (written_lefts f_at))
     right_stands = stand_as gs _ _ _ _ r (ap (map (λ a. can (negative a))) own_lefts) (negatives_stand _ own.lefts_before)
 
-    pub negated_left : ArePages gs left
+    pub negated_left : AreIndexes gs left
     negated_left = left_stands.0
 
-    pub negated_right : ArePages gs right
+    pub negated_right : AreIndexes gs right
     negated_right = right_stands.0
 
     pub negated_form : IsNode f_at → can (node (games_of gs left) (games_of gs right)) ≡ can (negative f_at)

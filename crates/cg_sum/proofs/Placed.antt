@@ -1,7 +1,7 @@
 -- Two positions whose sum is made, at their indexes.
 use Rattle.std.proofs.Common.{◌≡◌, ◌⊎◌, inl, inr, ℕ, ◌+◌, ◌*◌, ap, sym, ◌∙◌, subst, List, Option, Some, get_or, length, true, false}
 use Rattle.std.specs.Prelude.{IfSome}
-use Rattle.cg_book.specs.Pages.{game_of}
+use Rattle.cg_arena.specs.Arena.{game_of}
 use Rattle.cg_canon.specs.Arena.{Begins, IsAt}
 use Rattle.cg_canon.specs.declared.walk.Position.{Position}
 use Rattle.cg_dyadic.specs.Number.{Number}

@@ -5,7 +5,7 @@ use Rattle.std.proofs.lemmas.Bool.Decides.{nat_tests}
 use Rattle.std.proofs.Math.Nat.{mul-le-mul, mul-le-mul_left, suc-mul}
 use Rattle.std.proofs.lemmas.Grind.{get_or_default_zero}
 use Rattle.std.proofs.lemmas.List.{get_or_push, length_push}
-use Rattle.cg_book.specs.Pages.{game_of}
+use Rattle.cg_arena.specs.Arena.{game_of}
 use Rattle.cg_canon.specs.Arena.{IsAt}
 use Rattle.cg_form.proofs.AllPositions.{among-positions_of, positions-own, positions_of-last}
 use Rattle.cg_canon.proofs.ItemLaws.{refused-one}

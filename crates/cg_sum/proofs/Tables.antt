@@ -7,7 +7,7 @@ use Rattle.std.proofs.lemmas.List.{get_or_append_left, get_or_push, length_push}
 use Rattle.std.proofs.lemmas.List.Elements.{All-map}
 use Rattle.std.proofs.lemmas.Nat.{div-mul-add}
 use Rattle.std.specs.List.{All}
-use Rattle.cg_book.specs.Pages.{IsPage, StandFor, game_of, games_of}
+use Rattle.cg_arena.specs.Arena.{IsIndex, StandFor, game_of, games_of}
 use Rattle.cg_canon.specs.Arena.{Begins, IsAt}
 use Rattle.cg_form.specs.Game.{Game}
 use Rattle.cg_form.specs.Sum.{sum}
@@ -42,7 +42,7 @@ module _ (form : ℕ → Game) where
 -- indexes that stand for games made of those of places
 pub stand_mapped : (gs : List Game) (F : ℕ → ℕ) (G : ℕ → Game) (ps : List ℕ) → All (λ p. IsAt gs (F p) (G p)) ps
     → StandFor gs (map F ps) (map G ps)
-stand_mapped gs F G ps all = (All-map (λ z. IsPage gs z) F ps (λ k d l. (all k d l).within), games ps all)
+stand_mapped gs F G ps all = (All-map (λ z. IsIndex gs z) F ps (λ k d l. (all k d l).within), games ps all)
   where
     games : (qs : List ℕ) → All (λ p. IsAt gs (F p) (G p)) qs → games_of gs (map F qs) ≡ map G qs
     games [] a = refl

@@ -4,8 +4,8 @@ use Rattle.std.proofs.lemmas.Bool.{cases_Bool}
 use Rattle.std.proofs.lemmas.List.{get_or-map, length-map}
 use Rattle.std.proofs.lemmas.List.Elements.{All-get_or}
 use Rattle.std.specs.List.{slice_range}
-use Rattle.cg_book.specs.Pages.{IsPage, game_of, games_of}
-use Rattle.cg_canon.proofs.Booking.{game_begins, page_begins, stand_begins}
+use Rattle.cg_arena.specs.Arena.{IsIndex, game_of, games_of}
+use Rattle.cg_canon.proofs.InternerSteps.{game_begins, index_begins, stand_begins}
 use Rattle.cg_canon.specs.Arena.{Begins, IsAt}
 use Rattle.cg_canon.specs.Walk.{IsPlace, IsWalk, indexes_of, lefts_of, rights_of}
 use Rattle.cg_canon.specs.declared.walk.Position.{Position}
@@ -17,7 +17,7 @@ use Rattle.cg_form.specs.Game.{Game, IsNode, node, number}
 use Rattle.cg_sum.specs.Written.{written_lefts, written_rights}
 
 pub at_later : (gs hs : List Game) → Begins gs hs → (i : ℕ) (g : Game) → IsAt gs i g → IsAt hs i g
-at_later gs hs b i g a = record { within = page_begins gs hs i b a.within; is = game_begins gs hs i b a.within ∙ a.is }
+at_later gs hs b i g a = record { within = index_begins gs hs i b a.within; is = game_begins gs hs i b a.within ∙ a.is }
 
 pub walk_later : (gs hs : List Game) → Begins gs hs → (w : Walk) (fs : List Game) → IsWalk gs w fs → IsWalk hs w fs
 walk_later gs hs b w fs is = record {
@@ -73,7 +73,7 @@ module _ (gs : List Game) (w : Walk) (fs : List Game) (is : IsWalk gs w fs) wher
         let l : i < length ps = (let n = length-map w.positions.items (λ p. p.index) in let h = inside in omega arith) in
         let own : get_or ps i 0 ≡ p.index = get_or-map (λ p. p.index) w.positions.items i p 0 inside ∙ ap (λ z. z.index) (sym read) in
         rw (← own) (record {
-          within = All-get_or (λ z. IsPage gs z) ps i 0 l is.at.0;
+          within = All-get_or (λ z. IsIndex gs z) ps i 0 l is.at.0;
           is = sym (get_or-map (game_of gs) ps i 0 (node [] []) l) ∙ ap (λ z. game_of z i) is.at.1;
         })
 

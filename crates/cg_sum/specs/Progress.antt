@@ -1,6 +1,6 @@
 -- How far a sum or a negative has come.
 use Rattle.std.specs.Prelude.{◌≡◌, ℕ, ◌+◌, ◌*◌, ◌/◌, ◌%◌, ◌<◌, ◌≤◌, List, [], ◌∷◌, Result, IfOk, OnOk, length, map, slice_index}
-use Rattle.cg_book.specs.Pages.{game_of}
+use Rattle.cg_arena.specs.Arena.{game_of}
 use Rattle.cg_canon.specs.Arena.{Begins, IsAt}
 use Rattle.cg_canon.specs.Items.{Item}
 use Rattle.cg_canon.specs.Made.{ItemsMade}

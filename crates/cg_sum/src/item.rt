@@ -1,6 +1,6 @@
 //! The item of the sum of two positions.
 ghost use Rattle.std.specs.Prelude.{◌≡◌, ◌+◌, ◌*◌, ◌≤◌, ◌<◌, ◌++◌, ◌⊎◌, All, IfOk, IfSome, IsTrue, List, length, true};
-ghost use Rattle.cg_book.specs.Pages.{IsPage, game_of};
+ghost use Rattle.cg_arena.specs.Arena.{IsIndex, game_of};
 ghost use Rattle.cg_canon.specs.Arena.{IsAt};
 ghost use Rattle.cg_canon.specs.Works.{work_state};
 ghost use Rattle.cg_dyadic.specs.Number.{Number};
@@ -101,7 +101,7 @@ pub(crate) fn number_at<B: BoardForms, S: CellStore<GameFacts<B>>>(
     work: &Work<B, S>,
     index: u32,
 ) -> Dyadic
-    requires page { IsPage work.now.arena index }
+    requires index { IsIndex work.now.arena index }
     requires number { (x : Number) × (game_of work.now.arena index ≡ number x) }
     ensures { game_of work.now.arena index ≡ number result }
 {

@@ -1,6 +1,6 @@
 //! The negative of the game of a handle.
 ghost use Rattle.std.specs.Prelude.{◌≡◌, ◌+◌, ◌*◌, ◌<◌, All, IfOk, List, [], length};
-ghost use Rattle.cg_book.specs.Pages.{game_of};
+ghost use Rattle.cg_arena.specs.Arena.{game_of};
 ghost use Rattle.cg_canon.specs.Made.{Gives};
 ghost use Rattle.cg_canon.specs.Walk.{IsWalk};
 ghost use Rattle.cg_canon.specs.Works.{work_state};

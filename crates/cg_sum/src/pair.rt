@@ -1,6 +1,6 @@
 //! Two games that are nimbers, by the numbers of both.
 //!
-//! The options of a nimber are the lesser ones, in their order. They are read from the work's book.
+//! The options of a nimber are the lesser ones, in their order. They are read from the work's arena.
 ghost use Rattle.std.specs.Prelude.{◌≡◌, ◌<◌, IfOk, [], length};
 ghost use Rattle.std.specs.Option.{ForSome};
 ghost use Rattle.cg_canon.specs.Works.{work_state};

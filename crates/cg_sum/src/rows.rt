@@ -2,7 +2,7 @@
 //!
 //! They stand in one table, row by row, so that the sum of two positions is found by their places.
 ghost use Rattle.std.specs.Prelude.{◌≡◌, ◌+◌, ◌*◌, ◌<◌, ◌≤◌, List, [], length};
-ghost use Rattle.cg_book.specs.Pages.{game_of};
+ghost use Rattle.cg_arena.specs.Arena.{game_of};
 ghost use Rattle.cg_canon.specs.Walk.{IsWalk};
 ghost use Rattle.cg_canon.specs.SumItems.{pair_items, row_items};
 ghost use Rattle.cg_canon.specs.Works.{work_state};

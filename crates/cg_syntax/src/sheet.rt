@@ -10,7 +10,7 @@ ghost use Rattle.cg_query.specs.Trees.{tree_of};
 
 use crate::session::{Asked, SessionLine, SessionLines};
 use crate::sizes::Size;
-use cg_links::Links;
+use cg_hash_index::HashIndex;
 use cg_query::{Expr, Query, Text};
 use std::alloc::{AllocError, Global};
 
@@ -52,7 +52,7 @@ pub struct Sheet {
     lines: Vec<SessionLine>,
     bound: Vec<Bound>,
     /// Where bindings are looked for, by the numbers of their names.
-    places: Links,
+    places: HashIndex,
 }
 
 impl Sheet {
@@ -65,7 +65,7 @@ impl Sheet {
         Sheet {
             lines: Vec::new(alloc),
             bound: Vec::new(alloc),
-            places: Links::new(alloc),
+            places: HashIndex::new(alloc),
         }
     }
 

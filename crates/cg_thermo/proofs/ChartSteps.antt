@@ -5,7 +5,7 @@ use Rattle.std.proofs.Math.Seq.{get_or-append_seam}
 use Rattle.std.proofs.lemmas.Bool.{cases_Bool}
 use Rattle.std.proofs.lemmas.List.{get_or-map, length-append, length-map}
 use Rattle.std.proofs.lemmas.List.Elements.{All-get_or}
-use Rattle.cg_book.specs.Pages.{IsPage, game_of, games_of}
+use Rattle.cg_arena.specs.Arena.{IsIndex, game_of, games_of}
 use Rattle.cg_canon.specs.Arena.{IsAt}
 use Rattle.cg_canon.specs.Walk.{IsPlace, IsWalk, indexes_of, lefts_of, rights_of}
 use Rattle.cg_canon.specs.declared.walk.Position.{Position}
@@ -81,7 +81,7 @@ module _ (gs : List Game) (w : Walk) (is : IsWalk gs w (walked gs w)) where
         let l : i < length ps = (let n = length-map w.positions.items (λ p. p.index) in let h = inside in omega arith) in
         let own : get_or ps i 0 ≡ p.index = get_or-map (λ p. p.index) w.positions.items i p 0 inside ∙ ap (λ z. z.index) (sym read) in
         rw (← own) (record {
-          within = All-get_or (λ z. IsPage gs z) ps i 0 l is.at.0;
+          within = All-get_or (λ z. IsIndex gs z) ps i 0 l is.at.0;
           is = sym (get_or-map (game_of gs) ps i 0 (node [] []) l);
         })
 

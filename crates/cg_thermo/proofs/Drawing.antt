@@ -19,7 +19,7 @@ use Rattle.cg_thermo.specs.Smooths.{Smooth, smooth_other}
 use Rattle.cg_thermo.proofs.Smooth.{smooth-start}
 
 -- p is the greatest right wall of the Left options, and q the greatest negative of a left wall of the Right options
-pub record Tops (s : ℕ) (g : Game) (p q : Rise) : Type 0 where
+pub record HighestWalls (s : ℕ) (g : Game) (p q : Rise) : Type 0 where
   pub never : NoNumber g
   pub lefts_smooth : (a : Game) → Among a (lefts g) → Smooth s a
   pub rights_smooth : (b : Game) → Among b (rights g) → Smooth s b
@@ -28,11 +28,11 @@ pub record Tops (s : ℕ) (g : Game) (p q : Rise) : Type 0 where
   pub p_is : (t : ℕ) → value_at p t ≡ greatest (map (λ a. (walls number-decide s t a).right) (lefts g))
   pub q_is : (t : ℕ) → value_at q t ≡ neg_ℤ (least (map (λ b. (walls number-decide s t b).left) (rights g)))
 
-pub left-scaffold : (s : ℕ) (g : Game) (p q : Rise) → Tops s g p q → (t : ℕ)
+pub left-scaffold : (s : ℕ) (g : Game) (p q : Rise) → HighestWalls s g p q → (t : ℕ)
     → (scaffold_of number-decide s g t).left ≡ value_at p t -ℤ pos t
 left-scaffold s g p q k t = ap (λ z. z -ℤ pos t) (sym (k.p_is t))
 
-pub right-scaffold : (s : ℕ) (g : Game) (p q : Rise) → Tops s g p q → (t : ℕ)
+pub right-scaffold : (s : ℕ) (g : Game) (p q : Rise) → HighestWalls s g p q → (t : ℕ)
     → (scaffold_of number-decide s g t).right ≡ pos t -ℤ value_at q t
 right-scaffold s g p q k t = let e = k.q_is t in
     back (least (map (λ b. (walls number-decide s t b).left) (rights g))) (value_at q t) (pos t) e
@@ -41,11 +41,11 @@ right-scaffold s g p q k t = let e = k.q_is t in
     back x v t e = omega (arith, ints)
 
 -- the difference of the scaffolds
-pub gap-scaffold : (s : ℕ) (g : Game) (p q : Rise) → Tops s g p q → (t : ℕ)
+pub gap-scaffold : (s : ℕ) (g : Game) (p q : Rise) → HighestWalls s g p q → (t : ℕ)
     → gap p q t ≡ (scaffold_of number-decide s g t).left -ℤ (scaffold_of number-decide s g t).right
 gap-scaffold s g p q k t = let l = left-scaffold s g p q k t in let r = right-scaffold s g p q k t in omega (arith, ints)
 
-pub gap-start : (s : ℕ) (g : Game) (p q : Rise) → Tops s g p q → pos 0 ≤ℤ gap p q 0
+pub gap-start : (s : ℕ) (g : Game) (p q : Rise) → HighestWalls s g p q → pos 0 ≤ℤ gap p q 0
 gap-start s g p q k =
     let h = smooth-start s g k.never k.lefts_smooth k.rights_smooth in
     let e = gap-scaffold s g p q k 0 in omega (arith, ints)
@@ -54,7 +54,7 @@ steps_of : (s : ℕ) (g : Game) (t : ℕ) → Steps (scaffold_of number-decide s
 steps_of s g t = scaffold-steps (walls number-decide s) g (λ t a. walls-steps number-decide s t a) t
 
 -- the gap never grows
-gap-falls : (s : ℕ) (g : Game) (p q : Rise) → Tops s g p q → (m t : ℕ) → gap p q (t + m) ≤ℤ gap p q t
+gap-falls : (s : ℕ) (g : Game) (p q : Rise) → HighestWalls s g p q → (m t : ℕ) → gap p q (t + m) ≤ℤ gap p q t
 gap-falls s g p q k zero t = let e : t + 0 ≡ t = omega arith in let f = ap (gap p q) e in omega (arith, ints)
 gap-falls s g p q k (suc m) t =
     let e : t + suc m ≡ suc (t + m) = omega arith in
@@ -64,7 +64,7 @@ gap-falls s g p q k (suc m) t =
     let c = gap-scaffold s g p q k (t + m) in let d = gap-scaffold s g p q k (suc (t + m)) in
     omega (arith, ints)
 
-pub gap-later : (s : ℕ) (g : Game) (p q : Rise) → Tops s g p q → (t u : ℕ) → t ≤ u → gap p q u ≤ℤ gap p q t
+pub gap-later : (s : ℕ) (g : Game) (p q : Rise) → HighestWalls s g p q → (t u : ℕ) → t ≤ u → gap p q u ≤ℤ gap p q t
 gap-later s g p q k t u h =
     let e : t + (u - t) ≡ u = omega arith in
     let i = gap-falls s g p q k (u - t) t in let f = ap (gap p q) e in omega (arith, ints)
@@ -74,7 +74,7 @@ gap-later s g p q k t u h =
 pub le_or_lt_n : (a b : ℕ) → (a ≤ b) ⊎ (b < a)
 le_or_lt_n a b = grind arith
 
-pub meets-cool : (s : ℕ) (g : Game) (p q : Rise) (e : ℕ) → Tops s g p q → Meets p q e → Cool (scaffold_of number-decide s g)
+pub meets-cool : (s : ℕ) (g : Game) (p q : Rise) (e : ℕ) → HighestWalls s g p q → Meets p q e → Cool (scaffold_of number-decide s g)
 meets-cool s g p q e k m = record {
   steps = steps_of s g;
   start = smooth-start s g k.never k.lefts_smooth k.rights_smooth;
@@ -87,23 +87,23 @@ meets-cool s g p q e k m = record {
       ];
 }
 
-pub meets-temperature : (s : ℕ) (g : Game) (p q : Rise) (e : ℕ) → Tops s g p q → Meets p q e → TemperatureIs number-decide s g e
+pub meets-temperature : (s : ℕ) (g : Game) (p q : Rise) (e : ℕ) → HighestWalls s g p q → Meets p q e → TemperatureIs number-decide s g e
 meets-temperature s g p q e k m = record {
   agree = (let x = gap-scaffold s g p q k e in let z = m.met in omega (arith, ints));
   before = λ u h a. (let x = gap-scaffold s g p q k u in let z = m.first u h in absurd (omega (arith, ints)));
 }
 
-pub meets-smooth : (s : ℕ) (g : Game) (p q : Rise) (e : ℕ) → Tops s g p q → Meets p q e → Smooth s g
+pub meets-smooth : (s : ℕ) (g : Game) (p q : Rise) (e : ℕ) → HighestWalls s g p q → Meets p q e → Smooth s g
 meets-smooth s g p q e k m = smooth_other g k.never (λ d. cool-unique number-decide d s g (meets-cool s g p q e k m)) k.lefts_smooth k.rights_smooth
 
-pub meets-mast : (s : ℕ) (g : Game) (p q : Rise) (e : ℕ) → Tops s g p q → Meets p q e → MastFrom number-decide s g e
+pub meets-mast : (s : ℕ) (g : Game) (p q : Rise) (e : ℕ) → HighestWalls s g p q → Meets p q e → MastFrom number-decide s g e
 meets-mast s g p q e k m = record {
   number = λ x f. absurd (k.never x f);
   other = λ _. meets-temperature s g p q e k m;
 }
 
 -- the walls are the scaffolds up to where they meet, and stay from there on
-walls-kept : (s : ℕ) (g : Game) (p q : Rise) (e : ℕ) → Tops s g p q → Meets p q e → (t : ℕ)
+walls-kept : (s : ℕ) (g : Game) (p q : Rise) (e : ℕ) → HighestWalls s g p q → Meets p q e → (t : ℕ)
     → walls number-decide s t g ≡ scaffold_of number-decide s g (min t e)
 walls-kept s g p q e k m t = elim (le_or_lt_n t e) [
   | inl h ↦ (let i : min t e ≡ t = omega arith in
@@ -118,7 +118,7 @@ walls-kept s g p q e k m t = elim (le_or_lt_n t e) [
     open_at : (t : ℕ) → t ≤ e → (scaffold_of number-decide s g t).right ≤ℤ (scaffold_of number-decide s g t).left
     open_at t h = let x = gap-scaffold s g p q k t in let y = gap-later s g p q k t e h in let z = m.met in omega (arith, ints)
 
-pub meets-left : (s : ℕ) (g : Game) (p q r : Rise) (e : ℕ) → Tops s g p q → Meets p q e → ((t : ℕ) → value_at r t ≡ turned p e t)
+pub meets-left : (s : ℕ) (g : Game) (p q r : Rise) (e : ℕ) → HighestWalls s g p q → Meets p q e → ((t : ℕ) → value_at r t ≡ turned p e t)
     → (t : ℕ) → value_at r t ≡ neg_ℤ (walls number-decide s t g).left
 meets-left s g p q r e k m h t =
     let w = ap (λ (z : Walls). z.left) (walls-kept s g p q e k m t) in
@@ -129,7 +129,7 @@ meets-left s g p q r e k m h t =
     turn : (v w x t : ℤ) → v ≡ t -ℤ x → w ≡ x -ℤ t → v ≡ neg_ℤ w
     turn v w x t a b = omega (arith, ints)
 
-pub meets-right : (s : ℕ) (g : Game) (p q r : Rise) (e : ℕ) → Tops s g p q → Meets p q e → ((t : ℕ) → value_at r t ≡ turned q e t)
+pub meets-right : (s : ℕ) (g : Game) (p q r : Rise) (e : ℕ) → HighestWalls s g p q → Meets p q e → ((t : ℕ) → value_at r t ≡ turned q e t)
     → (t : ℕ) → value_at r t ≡ (walls number-decide s t g).right
 meets-right s g p q r e k m h t =
     let w = ap (λ (z : Walls). z.right) (walls-kept s g p q e k m t) in

@@ -4,7 +4,7 @@ pub mod Deciders
 pub mod Upward
 pub mod Drawing
 pub mod ChartSteps
-pub mod Topping
+pub mod HighestSteps
 pub mod Roughs
 pub mod Picturing
 pub mod WallLines

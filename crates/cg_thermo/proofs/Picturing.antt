@@ -44,7 +44,7 @@ use Rattle.cg_thermo.specs.Smooths.{Smooth, smooth_number, smooth_other}
 use Rattle.cg_thermo.specs.Thermal.{NeedsMore}
 use Rattle.cg_thermo.specs.Thermographs.{IsThermograph}
 use Rattle.cg_thermo.proofs.Deciders.{left-unique, mast-unique, right-unique}
-use Rattle.cg_thermo.proofs.Topping.{canonical-node}
+use Rattle.cg_thermo.proofs.HighestSteps.{canonical-node}
 use Rattle.cg_thermo.proofs.Upward.{corners-same, thermal-none, thermal-number}
 
 -- ---- small facts for the code

@@ -26,7 +26,7 @@ use Rattle.cg_thermo.specs.declared.fault.ThermoFault.{ThermoFault}
 use Rattle.cg_thermo.specs.Joins.{Joins, Jumps}
 use Rattle.cg_thermo.specs.Progress.{Charted, Rough}
 use Rattle.cg_thermo.specs.Smooths.{Smooth, smooth_number, smooth_other}
-use Rattle.cg_thermo.proofs.Drawing.{Tops, gap-scaffold, meets-left, meets-mast, meets-right, meets-smooth}
+use Rattle.cg_thermo.proofs.Drawing.{HighestWalls, gap-scaffold, meets-left, meets-mast, meets-right, meets-smooth}
 use Rattle.cg_thermo.proofs.Smooth.{cool-next, scaffolds_finer, smooth-finer, smooth-start, smooth-up}
 use Rattle.cg_thermo.proofs.Upward.{thermal-none}
 
@@ -38,7 +38,7 @@ exp-odd n k = by (is_even (pos (suc (twice n)))) refl
     by true e = absurd (let h = even_half (pos (suc (twice n))) e in let t = twice_pos n in omega (arith, ints))
     by false e = refl
 
-module _ (s : ℕ) (g : Game) (p q : Rise) (k : Tops s g p q) (j : Jumps p q) where
+module _ (s : ℕ) (g : Game) (p q : Rise) (k : HighestWalls s g p q) (j : Jumps p q) where
   finer : Finer (scaffold_of number-decide s g) (scaffold_of number-decide (suc s) g)
   finer = scaffolds_finer s g (λ a m. smooth-finer s a (k.lefts_smooth a m)) (λ b m. smooth-finer s b (k.rights_smooth b m))
 
@@ -68,7 +68,7 @@ module _ (s : ℕ) (g : Game) (p q : Rise) (k : Tops s g p q) (j : Jumps p q) wh
             absurd (omega (arith, ints)));
       }
 
-pub jump-rough : (g : Game) (p q : Rise) → Tops places g p q → Jumps p q → Rough g
+pub jump-rough : (g : Game) (p q : Rise) → HighestWalls places g p q → Jumps p q → Rough g
 unfolding places
 jump-rough g p q k j =
     let t : ℕ = suc (twice j.at) in record {
@@ -78,7 +78,7 @@ jump-rough g p q k j =
       more = (let x = exp-odd j.at places in omega arith);
     }
 
-pub joins-charted : (g : Game) (p q : Rise) (c : Chart) → Tops places g p q → Joins p q c → Charted g c
+pub joins-charted : (g : Game) (p q : Rise) (c : Chart) → HighestWalls places g p q → Joins p q c → Charted g c
 joins-charted g p q c k j = record {
   smooth = meets-smooth places g p q c.end k j.meets;
   draws = record {
@@ -91,7 +91,7 @@ joins-charted g p q c k j = record {
   };
 }
 
-pub joined-charted : (g : Game) (p q : Rise) (r : Result Chart ThermoFault) → Tops places g p q → IfOk r (Joins p q) → IfOk r (Charted g)
+pub joined-charted : (g : Game) (p q : Rise) (r : Result Chart ThermoFault) → HighestWalls places g p q → IfOk r (Joins p q) → IfOk r (Charted g)
 joined-charted g p q (Ok c) k j = joins-charted g p q c k j
 joined-charted g p q (Err e) k j = tt
 

@@ -1,7 +1,7 @@
 -- The stops of a game stand where its cuts of the numbers do.
 use Rattle.std.proofs.Common.{◌≡◌, ap, not, ◌∙◌, Bool, true, false}
-use Rattle.cg_book.specs.Profiles.{HasCuts}
-use Rattle.cg_book.specs.declared.profile.Profile.{Profile}
+use Rattle.cg_arena.specs.Profiles.{HasCuts}
+use Rattle.cg_arena.specs.declared.profile.Profile.{Profile}
 use Rattle.cg_dyadic.specs.declared.cut.Cut.{Cut}
 use Rattle.cg_dyadic.specs.Cut.{number_at_most, within_cut}
 use Rattle.cg_dyadic.specs.Number.{Number}

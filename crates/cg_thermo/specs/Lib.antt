@@ -8,7 +8,7 @@ pub mod Winners
 -- what private contracts cite
 pub mod Signed
 pub mod Draws
-pub mod Tops
+pub mod HighestWalls
 pub mod Joins
 pub mod Smooths
 pub mod Progress

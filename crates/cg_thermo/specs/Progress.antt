@@ -1,6 +1,6 @@
 -- How far the charts of the positions of a game have come.
 use Rattle.std.specs.Prelude.{◌≡◌, ℕ, ◌<◌, List, get_or, length}
-use Rattle.cg_book.specs.Pages.{game_of, games_of}
+use Rattle.cg_arena.specs.Arena.{game_of, games_of}
 use Rattle.cg_canon.specs.Walk.{indexes_of}
 use Rattle.cg_canon.specs.declared.walk.Walk.{Walk}
 use Rattle.cg_dyadic.specs.Number.{Number, exp_of}

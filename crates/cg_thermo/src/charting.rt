@@ -2,14 +2,14 @@
 ghost use Rattle.std.specs.Prelude.{◌≡◌, ◌<◌, IfOk, Err, length};
 ghost use Rattle.cg_dyadic.specs.Number.{InRange};
 ghost use Rattle.cg_form.specs.Game.{number};
-ghost use Rattle.cg_book.specs.Pages.{game_of};
+ghost use Rattle.cg_arena.specs.Arena.{game_of};
 ghost use Rattle.cg_canon.specs.Walk.{IsWalk};
 ghost use Rattle.cg_thermo.specs.Progress.{AreCharts, Charted, Rough, SomeRough, walked};
 
 use crate::chart::Chart;
 use crate::fault::ThermoFault;
+use crate::highest_walls::highest_wall;
 use crate::joining::joined;
-use crate::tops::top;
 use cg_canon::{Read, Walk, Work};
 use cg_cells::CellStore;
 use cg_dyadic::{Dyadic, Wide};
@@ -51,8 +51,8 @@ fn chart_at<B: BoardForms, S: CellStore<GameFacts<B>>>(
         Read::Game(_, _) => {
             let lefts = &walk.options[position.lefts..position.rights];
             let rights = &walk.options[position.rights..position.end];
-            let low = top(alloc, charts, lefts, true)?;
-            let high = top(alloc, charts, rights, false)?;
+            let low = highest_wall(alloc, charts, lefts, true)?;
+            let high = highest_wall(alloc, charts, rights, false)?;
             joined(alloc, &low, &high)
         }
     }

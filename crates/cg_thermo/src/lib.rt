@@ -10,12 +10,12 @@ mod corners;
 mod deciding;
 mod ending;
 mod fault;
+mod highest_walls;
 mod joining;
 pub mod laws;
 mod reading;
 mod stopping;
 mod thermo;
-mod tops;
 mod winner;
 
 pub use corners::{Corner, Corners};

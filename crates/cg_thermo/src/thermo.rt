@@ -7,7 +7,7 @@ ghost use Rattle.cg_dyadic.specs.Wide.{places};
 ghost use Rattle.cg_form.specs.Depth.{depth_of};
 ghost use Rattle.cg_form.specs.Game.{number};
 ghost use Rattle.cg_form.specs.Positions.{positions_of};
-ghost use Rattle.cg_book.specs.Pages.{IsPage, game_of};
+ghost use Rattle.cg_arena.specs.Arena.{IsIndex, game_of};
 ghost use Rattle.cg_canon.specs.Walk.{IsWalk};
 ghost use Rattle.cg_walls.specs.declared.TheConstants.{END};
 ghost use Rattle.cg_walls.specs.Rises.{IsWall};
@@ -56,7 +56,7 @@ fn temperature<B: BoardForms, S: CellStore<GameFacts<B>>>(
     index: u32,
     end: u128,
 ) -> Wide
-    requires index { IsPage work.now.arena index }
+    requires index { IsIndex work.now.arena index }
     requires end { end < END }
     ensures number { (x : Number) → game_of work.now.arena index ≡ number x → result ≡ ratio (negsuc 0) (exp_of x) }
     ensures other { IsNode (game_of work.now.arena index) → result ≡ ratio (pos end) places }
@@ -94,7 +94,7 @@ fn each_position<B: BoardForms, S: CellStore<GameFacts<B>>>(
     work: &mut Work<B, S>,
     index: u32,
 ) -> Result<Walk, AllocError>
-    requires { IsPage work.old.arena index }
+    requires { IsIndex work.old.arena index }
     ensures walk { IfOk result (λ w. IsWalk work.old.arena w (positions_of (game_of work.old.arena index))) }
     ensures same { work.new ≡ work.old }
 {

@@ -54,7 +54,7 @@ module _ {R : Type 0} (s : State Meant (WorkRest R)) (r : GameRules) (spare : �
   parts_done t handles i l made =
       let P : List Grid → Type 0 = λ z. PartsMade s t r z handles spare in subst P (take_all i ps l ∙ is) made
 
-  -- the store may be told between what will be asked for
+  -- the store may prefetch between
   pub parts_told : (t u : State Meant (WorkRest R)) (handles : List ℕ) (i : ℕ) → PartsMade s t r (take i ps) handles spare
       → Spends 0 t u → PartsMade s u r (take i ps) handles spare
   parts_told t u handles i made told =

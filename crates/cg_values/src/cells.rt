@@ -64,7 +64,7 @@ pub(crate) fn board_cell<B: BoardForms, S: CellStore<GameFacts<B>>>(
 }
 
 /// Tells the store that the chunks of the contents may be claimed soon, and answers the id that the first would most likely have.
-fn expect_chunks<B: BoardForms, S: CellStore<GameFacts<B>>>(
+fn prefetch_chunks<B: BoardForms, S: CellStore<GameFacts<B>>>(
     store: &mut S,
     contents: &[u32],
 ) -> Option<Id>
@@ -72,14 +72,14 @@ fn expect_chunks<B: BoardForms, S: CellStore<GameFacts<B>>>(
 {
     let mut first = None;
     for content in contents.iter().rev() {
-        first = Some(store.expect_claim(Key::chunk(*content, first)));
+        first = Some(store.prefetch_claim(Key::chunk(*content, first)));
     }
     first
 }
 
 /// Tells the store that the cell of the board, by the contents of its cells, and the value that is noted on it may be asked for
 /// soon.
-pub(crate) fn expect_board<B: BoardForms, S: CellStore<GameFacts<B>>>(
+pub(crate) fn prefetch_board<B: BoardForms, S: CellStore<GameFacts<B>>>(
     store: &mut S,
     number: u8,
     board: &Board,
@@ -88,9 +88,9 @@ pub(crate) fn expect_board<B: BoardForms, S: CellStore<GameFacts<B>>>(
     requires { (1 ≤ number) × (number ≤ 15) }
     ensures { Spends 0 (S.state store.old) (S.state store.new) }
 {
-    if let Some(first) = expect_chunks(store, contents) {
+    if let Some(first) = prefetch_chunks(store, contents) {
         let key = Key::board(number, board.rows(), board.columns(), first);
-        let cell = store.expect_claim(key);
-        store.expect_note(cell);
+        let cell = store.prefetch_claim(key);
+        store.prefetch_note(cell);
     }
 }

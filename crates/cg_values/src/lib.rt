@@ -4,11 +4,11 @@
 mod adder;
 mod cells;
 mod contents;
-mod expecting;
 mod item;
 mod joining;
 mod options;
 mod parts;
+mod prefetching;
 mod reached;
 mod values;
 

@@ -13,10 +13,10 @@ ghost use Rattle.cg_values.specs.Notes.{AreNoted, IsNoted, MayNote};
 ghost use Rattle.cg_values.specs.Parts.{FrontsNoted, HoldAt, part_items, parts_of, values_of};
 
 use crate::Adder;
-use crate::expecting::{boards_ahead, expect_boards};
 use crate::item::board_item;
 use crate::joining::joined;
 use crate::options::Options;
+use crate::prefetching::{boards_ahead, prefetch_boards};
 use cg_canon::{ValueFault, Work};
 use cg_cells::CellStore;
 use cg_moves::{Board, PositionGraph, Rules};
@@ -74,7 +74,7 @@ fn part_value<B: BoardForms, S: CellStore<GameFacts<B>>, R: Rules, A: Adder>(
     board_item(alloc, work, rules, part.board, &options, start)
 }
 
-/// Makes the items of the parts, in order, and gives the handles of their values. Of the boards ahead the store is told before.
+/// Makes the items of the parts, in order, and gives the handles of their values. The boards ahead are prefetched before.
 pub(crate) fn part_values<B: BoardForms, S: CellStore<GameFacts<B>>, R: Rules, A: Adder>(
     alloc: Global,
     work: &mut Work<B, S>,
@@ -99,7 +99,7 @@ pub(crate) fn part_values<B: BoardForms, S: CellStore<GameFacts<B>>, R: Rules, A
     let mut handles = Vec::with_capacity(alloc, graph.boards.len())?;
     for (place, board) in graph.boards.as_slice().iter().enumerate() {
         let ahead = boards_ahead(graph.boards.as_slice(), place);
-        expect_boards(alloc, work, rules.number(), ahead);
+        prefetch_boards(alloc, work, rules.number(), ahead);
         let next = graph.next[place];
         let part = Part {
             board,

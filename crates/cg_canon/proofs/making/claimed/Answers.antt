@@ -1,6 +1,6 @@
 use Rattle.std.proofs.Common.{arith, ◌∙◌}
 use Rattle.cg_nodes.proofs.Later.{stands_game, stands_is_game}
-use Rattle.cg_canon.proofs.Booking.{book_later}
+use Rattle.cg_canon.proofs.InternerSteps.{interner_later}
 use Rattle.cg_canon.proofs.Charging.{canonical_node, cost_of_options, same_node}
 use Rattle.cg_canon.proofs.making.claimed.Goals as goal
 
@@ -20,7 +20,7 @@ enter_form-requires g c =
     let own = stands_game t c.claimed_game-handle.result _ c.claimed_game-handle.ensures.game
     ∙ same_node _ _ _ _ c.requires.left_games c.requires.right_games in
     record {
-      holds = book_later s t c.args.book.now c.claimed_game-handle.ensures.spends.2.known c.requires.holds;
+      holds = interner_later s t c.args.interner.now c.claimed_game-handle.ensures.spends.2.known c.requires.holds;
       game = stands_is_game t c.claimed_game-handle.result _ c.claimed_game-handle.ensures.game;
       canonical = rw own c.requires.canonical;
       form = rw own c.requires.form;

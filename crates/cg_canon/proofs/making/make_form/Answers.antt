@@ -5,7 +5,7 @@ use Rattle.cg_canon.proofs.making.make_form.Goals as goal
 pub returns-clause-paid : goal.returns-clause-paid
 returns-clause-paid g c =
     let W = g.S.CellStore.state in
-    let form = written c.args.book.now.pages c.args.new.now in
+    let form = written c.args.interner.now.arena c.args.new.now in
     let spends = c.claimed.ensures.spends in
     made_paid (W c.args.store.now) (W c.claimed.new.store) c.args.meter.now c.charge_form.new.self form c.args.extra c.claimed.result
     spends.0 c.args.new.now.profile.cost spends.1 spends.2 c.in_ok-charge_form.ensures.ok c.in_ok-charge_form.ensures.fits

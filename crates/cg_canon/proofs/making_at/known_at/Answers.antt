@@ -1,11 +1,11 @@
 use Rattle.std.proofs.Common.{refl}
-use Rattle.cg_book.specs.Pages.{game_of}
+use Rattle.cg_arena.specs.Arena.{game_of}
 use Rattle.cg_canon.proofs.MakingAt.{paid_known}
 use Rattle.cg_canon.proofs.making_at.known_at.Goals as goal
 
 pub returns-clause-paid : goal.returns-clause-paid
 returns-clause-paid g c =
-    let gs = c.args.book.now.pages in
+    let gs = c.args.interner.now.arena in
     let form = game_of gs c.args.index in
     paid_known (g.S.CellStore.state c.args.store.now) c.args.meter.now c.charge_form.new.self gs c.args.index form c.args.extra
     c.profile.result.now.cost c.in_ok-charge_form.ensures.ok c.in_ok-charge_form.ensures.fits

@@ -1,41 +1,41 @@
 use Rattle.cg_form.specs.Game.{Game, node}
 use Rattle.cg_nodes.specs.Can.{can}
 use Rattle.cg_nodes.specs.CanForms.{can-canonical, can-is}
-use Rattle.cg_book.specs.Pages.{games_of}
+use Rattle.cg_arena.specs.Arena.{games_of}
 use Rattle.cg_canon.proofs.Charging.{new_written, outside_refused}
 use Rattle.cg_canon.proofs.MakingAt.{paid_none}
 use Rattle.cg_canon.proofs.making_at.sum_at.Goals as goal
 
 pub new_at-requires-clause-form : goal.new_at-requires-clause-form
 new_at-requires-clause-form g c =
-    let gs = c.args.book.now.pages in
-    let whole : Game = node (games_of gs c.args.lefts.now) (games_of gs c.args.rights.now) in
-    new_written gs (can whole) c.in-Game.new (rw c.in-Game.is at (c.in_ok-settled.ensures.settled (can whole) (can-is whole)))
+    let gs = c.args.interner.now.arena in
+    let unreduced : Game = node (games_of gs c.args.lefts.now) (games_of gs c.args.rights.now) in
+    new_written gs (can unreduced) c.in-Game.new (rw c.in-Game.is at (c.in_ok-canonicalized.ensures.canonicalized (can unreduced) (can-is unreduced)))
 
 pub new_at-requires-clause-canonical : goal.new_at-requires-clause-canonical
 new_at-requires-clause-canonical g c =
-    let gs = c.args.book.now.pages in
-    let whole : Game = node (games_of gs c.args.lefts.now) (games_of gs c.args.rights.now) in
-    rw (rw c.in-Game.is at (c.in_ok-settled.ensures.settled (can whole) (can-is whole))).is at (can-canonical whole)
+    let gs = c.args.interner.now.arena in
+    let unreduced : Game = node (games_of gs c.args.lefts.now) (games_of gs c.args.rights.now) in
+    rw (rw c.in-Game.is at (c.in_ok-canonicalized.ensures.canonicalized (can unreduced) (can-is unreduced))).is at (can-canonical unreduced)
 
 pub returns-in-Number-clause-paid : goal.returns-in-Number-clause-paid
 returns-in-Number-clause-paid g c =
     let W = g.S.CellStore.state in
-    let gs = c.args.book.now.pages in
-    let whole : Game = node (games_of gs c.args.lefts.now) (games_of gs c.args.rights.now) in
-    rw (rw c.in-Number.is at (c.in_ok-settled.ensures.settled (can whole) (can-is whole))) c.number_at.ensures.paid
+    let gs = c.args.interner.now.arena in
+    let unreduced : Game = node (games_of gs c.args.lefts.now) (games_of gs c.args.rights.now) in
+    rw (rw c.in-Number.is at (c.in_ok-canonicalized.ensures.canonicalized (can unreduced) (can-is unreduced))) c.number_at.ensures.paid
 
 pub returns-in-Outside-clause-paid : goal.returns-in-Outside-clause-paid
 returns-in-Outside-clause-paid g c =
-    let gs = c.args.book.now.pages in
-    let whole : Game = node (games_of gs c.args.lefts.now) (games_of gs c.args.rights.now) in
-    let out = rw c.in-Outside.is at (c.in_ok-settled.ensures.settled (can whole) (can-is whole)) in
-    paid_none (g.S.CellStore.state c.args.store.now) c.args.meter.now gs (can whole) c.args.extra _ c.requires.meter.within
-    (outside_refused c.args.meter.now.share c.args.meter.now.spent c.args.extra (can whole) out.x out.is out.outside)
+    let gs = c.args.interner.now.arena in
+    let unreduced : Game = node (games_of gs c.args.lefts.now) (games_of gs c.args.rights.now) in
+    let out = rw c.in-Outside.is at (c.in_ok-canonicalized.ensures.canonicalized (can unreduced) (can-is unreduced)) in
+    paid_none (g.S.CellStore.state c.args.store.now) c.args.meter.now gs (can unreduced) c.args.extra _ c.requires.meter.within
+    (outside_refused c.args.meter.now.share c.args.meter.now.spent c.args.extra (can unreduced) out.x out.is out.outside)
 
 pub returns-in-Game-clause-paid : goal.returns-in-Game-clause-paid
 returns-in-Game-clause-paid g c =
     let W = g.S.CellStore.state in
-    let gs = c.args.book.now.pages in
-    let whole : Game = node (games_of gs c.args.lefts.now) (games_of gs c.args.rights.now) in
-    rw (rw c.in-Game.is at (c.in_ok-settled.ensures.settled (can whole) (can-is whole))).is c.new_at.ensures.paid
+    let gs = c.args.interner.now.arena in
+    let unreduced : Game = node (games_of gs c.args.lefts.now) (games_of gs c.args.rights.now) in
+    rw (rw c.in-Game.is at (c.in_ok-canonicalized.ensures.canonicalized (can unreduced) (can-is unreduced))).is c.new_at.ensures.paid

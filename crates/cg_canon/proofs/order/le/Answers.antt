@@ -2,15 +2,15 @@ use Rattle.std.proofs.Common.{ap, ◌∙◌}
 use Rattle.cg_form.specs.Order.{le}
 use Rattle.cg_nodes.specs.Games.{game_at}
 use Rattle.cg_nodes.proofs.Later.{game_later}
-use Rattle.cg_book.proofs.Results.{if_ok}
-use Rattle.cg_book.specs.Pages.{game_of}
+use Rattle.cg_arena.proofs.Results.{if_ok}
+use Rattle.cg_arena.specs.Arena.{game_of}
 use Rattle.cg_canon.specs.Works.{work_state}
-use Rattle.cg_canon.proofs.Booking.{game_begins, page_begins}
+use Rattle.cg_canon.proofs.InternerSteps.{game_begins, index_begins}
 use Rattle.cg_canon.proofs.order.le.Goals as goal
 
 pub le_at-requires-clause-a : goal.le_at-requires-clause-a
 le_at-requires-clause-a g c =
-    page_begins c.index.new.self.arena c.index-2.new.self.arena c.in_ok-first.first c.index-2.ensures.begins c.in_ok-first.ensures.index.within
+    index_begins c.index.new.self.arena c.index-2.new.self.arena c.in_ok-first.first c.index-2.ensures.begins c.in_ok-first.ensures.index.within
 
 pub returns-clause-order : goal.returns-clause-order
 returns-clause-order g c =

@@ -1,5 +1,5 @@
 use Rattle.std.proofs.Common.{arith, is_ok, length}
-use Rattle.cg_book.specs.Pages.{game_of}
+use Rattle.cg_arena.specs.Arena.{game_of}
 use Rattle.cg_canon.proofs.Recognizing.{has_nimber, nimbers_pushed, pushed}
 use Rattle.cg_canon.proofs.recognized.keep_nimber.Goals as goal
 

@@ -6,8 +6,8 @@ use Rattle.cg_form.specs.Game.{Among}
 use Rattle.cg_form.proofs.AllPositions.{closed_there}
 use Rattle.cg_nodes.proofs.Outcomes.{ok_then, passed_on}
 use Rattle.cg_nodes.proofs.Walked.{before_length}
-use Rattle.cg_book.specs.Pages.{game_of}
-use Rattle.cg_book.proofs.Slices.{item_size, page_of_item}
+use Rattle.cg_arena.specs.Arena.{game_of}
+use Rattle.cg_arena.proofs.Slices.{item_size, index_of_item}
 use Rattle.cg_canon.specs.Walking.{found_in}
 use Rattle.cg_canon.proofs.WalkSteps.{before_there, found_length, left_longer, marked_place, next_found, next_longer, next_more, next_walk, not_yet, place_there, right_longer, sides_walked, walked_next}
 use Rattle.cg_canon.proofs.walking.+walk.Goals as goal
@@ -16,7 +16,7 @@ use Rattle.cg_canon.proofs.walking.+walk.Goals as goal
 
 pub walk_index-returns-then-has-clause-all : goal.walk_index-returns-then-has-clause-all
 walk_index-returns-then-has-clause-all t c =
-    let gs = c.args.pages.now in
+    let gs = c.args.arena.now in
     let ps = c.args.walk.now.positions.items in
     sym (closed_there (found_in gs ps) (game_of gs c.args.index) c.requires.stands.closed (place_there gs c.args.marks.now ps c.args.index
     c.requires.stands.marked _ (c.has.ensures.found c.if-has.true)))
@@ -26,20 +26,20 @@ walk_index-returns-in_err-walk_options-clause-refused t c =
     let p = err_from_is_err_and c.from_residual.result c.from_residual.ensures.1 in λ e.
     let r = c.in_err-walk_options.ensures.refused
     (ap Err (passed_on p.0 c.in_err-walk_options.field-0.0 c.from_residual.result p.1 p.2 e)) in (
-      before_length (found_in c.args.pages.now c.args.walk.now.positions.items) (game_of c.args.pages.now c.args.index) c.args.limit r.0,
+      before_length (found_in c.args.arena.now c.args.walk.now.positions.items) (game_of c.args.arena.now c.args.index) c.args.limit r.0,
       r.1,
     )
 
 pub walk_index-position-requires-clause-found : goal.walk_index-position-requires-clause-found
 walk_index-position-requires-clause-found t c =
-    let gs = c.args.pages.now in
+    let gs = c.args.arena.now in
     before_there (found_in gs c.args.walk.now.positions.items) (found_in gs c.walk_options.new.walk.positions.items) (game_of gs c.args.index)
     (λ m. c.has.ensures.none c.if-has.false (marked_place gs c.args.marks.now c.args.walk.now.positions.items c.args.index c.requires.stands.marked
     c.requires.apart c.requires.index m)) c.in_ok-walk_options.ensures.all
 
 pub walk_index-returns-clause-stands : goal.walk_index-returns-clause-stands
 walk_index-returns-clause-stands t c =
-    let gs = c.args.pages.now in
+    let gs = c.args.arena.now in
     let ps = c.args.walk.now.positions.items in
     let qs = c.walk_options.new.walk.positions.items in
     let g = game_of gs c.args.index in
@@ -56,7 +56,7 @@ walk_index-returns-clause-stands t c =
 
 pub walk_index-returns-clause-all : goal.walk_index-returns-clause-all
 walk_index-returns-clause-all t c =
-    let gs = c.args.pages.now in
+    let gs = c.args.arena.now in
     let ps = c.args.walk.now.positions.items in
     next_found gs c.walk_options.new.marks c.add.new.marks c.walk_options.new.walk.positions.items c.position.new.self.positions.items
     c.add.new.self.positions.items c.walk_options.new.walk.options.items c.in_ok-position.ensures.more.0 c.position.new.self.options.items
@@ -74,7 +74,7 @@ walk_index-returns-clause-within t c =
 
 pub walk_index-returns-in_err-add-clause-refused : goal.walk_index-returns-in_err-add-clause-refused
 walk_index-returns-in_err-add-clause-refused t c =
-    let gs = c.args.pages.now in
+    let gs = c.args.arena.now in
     let ps = c.args.walk.now.positions.items in
     let qs = c.walk_options.new.walk.positions.items in
     let p = err_from_is_err_and c.from_residual-in_err-add.result c.from_residual-in_err-add.ensures.1 in λ e.
@@ -93,14 +93,14 @@ walk_options-returns-in_err-walk_indexes-in-Game-clause-refused t c =
     let p = err_from_is_err_and c.from_residual.result c.from_residual.ensures.1 in λ e.
     let r = c.in_err-walk_indexes-in-Game.ensures.refused
     (ap Err (passed_on p.0 c.in_err-walk_indexes-in-Game.field-0.0 c.from_residual.result p.1 p.2 e)) in (
-      left_longer c.args.pages.now (found_in c.args.pages.now c.args.walk.now.positions.items) (game_of c.args.pages.now c.args.index)
+      left_longer c.args.arena.now (found_in c.args.arena.now c.args.walk.now.positions.items) (game_of c.args.arena.now c.args.index)
           c.in-Game.lefts.now c.in-Game.rights.now c.in-Game.ensures.read.2 c.args.limit r.0,
       r.1,
     )
 
 pub walk_options-returns-in_ok-walk_indexes-in-Game-clause-all : goal.walk_options-returns-in_ok-walk_indexes-in-Game-clause-all
 walk_options-returns-in_ok-walk_indexes-in-Game-clause-all t c =
-    let gs = c.args.pages.now in
+    let gs = c.args.arena.now in
     ok_then c.walk_indexes-in-Game.result
     (λ e. e ∙ sides_walked gs (found_in gs c.args.walk.now.positions.items) (game_of gs c.args.index) c.in-Game.lefts.now c.in-Game.rights.now
     c.in-Game.ensures.read.2 (found_in gs c.walk_indexes.new.walk.positions.items) c.in_ok-walk_indexes-in-Game.ensures.all)
@@ -108,7 +108,7 @@ walk_options-returns-in_ok-walk_indexes-in-Game-clause-all t c =
 
 pub walk_options-returns-in_ok-walk_indexes-in-Game-clause-refused : goal.walk_options-returns-in_ok-walk_indexes-in-Game-clause-refused
 walk_options-returns-in_ok-walk_indexes-in-Game-clause-refused t c = λ e.
-    let gs = c.args.pages.now in
+    let gs = c.args.arena.now in
     let r = c.walk_indexes-in-Game.ensures.refused e in (
       right_longer gs (found_in gs c.args.walk.now.positions.items) (game_of gs c.args.index) c.in-Game.lefts.now c.in-Game.rights.now
           c.in-Game.ensures.read.2 (found_in gs c.walk_indexes.new.walk.positions.items) c.in_ok-walk_indexes-in-Game.ensures.all c.args.limit r.0,
@@ -119,14 +119,14 @@ walk_options-returns-in_ok-walk_indexes-in-Game-clause-refused t c = λ e.
 
 pub walk_indexes-walk_index-requires : goal.walk_indexes-walk_index-requires
 walk_indexes-walk_index-requires t c =
-    let pages = c.args.pages.now in
-    let n = item_size pages c.args.indexes.now c.loop-index.index-index _ c.loop-index-test.true refl in
-    let p = page_of_item pages c.args.indexes.now c.loop-index.index-index _ c.requires.indexes c.loop-index-test.true refl in
+    let arena = c.args.arena.now in
+    let n = item_size arena c.args.indexes.now c.loop-index.index-index _ c.loop-index-test.true refl in
+    let p = index_of_item arena c.args.indexes.now c.loop-index.index-index _ c.requires.indexes c.loop-index-test.true refl in
     (search rules, (c.requires.apart, (p, (c.loop-index.invariant.stands, c.loop-index.invariant.within))))
 
 pub walk_indexes-returns-in_err-walk_index-clause-refused : goal.walk_indexes-returns-in_err-walk_index-clause-refused
 walk_indexes-returns-in_err-walk_index-clause-refused t c =
-    let gs = c.args.pages.now in
+    let gs = c.args.arena.now in
     let p = err_from_is_err_and c.from_residual.result c.from_residual.ensures.1 in λ e.
     let r = c.in_err-walk_index.ensures.refused
     (ap Err (passed_on p.0 c.in_err-walk_index.field-0.0 c.from_residual.result p.1 p.2 e)) in (
@@ -137,7 +137,7 @@ walk_indexes-returns-in_err-walk_index-clause-refused t c =
 
 pub walk_indexes-loop-index-preserved : goal.walk_indexes-loop-index-preserved
 walk_indexes-loop-index-preserved t c =
-    let gs = c.args.pages.now in record {
+    let gs = c.args.arena.now in record {
       stands = c.in_ok-walk_index.ensures.stands;
       walked = c.in_ok-walk_index.ensures.all ∙ walked_next gs (found_in gs c.args.walk.now.positions.items)
           (found_in gs c.loop-index.walk.positions.items) c.args.indexes.now c.loop-index.index-index _ c.loop-index-test.true refl

@@ -1,25 +1,25 @@
 use Rattle.std.proofs.Common.{◌≡◌, ◌+◌, ◌*◌, ◌≤◌, length, take}
 use Rattle.cg_form.specs.Extended.{extended}
 use Rattle.cg_form.specs.Size.{list_size, size}
-use Rattle.cg_book.specs.Pages.{game_of, games_of}
+use Rattle.cg_arena.specs.Arena.{game_of, games_of}
 use Rattle.cg_canon.specs.Walking.{WalkStands, found_in}
 use Rattle.cg_canon.proofs.WalkSteps.{walk_over}
 use Rattle.cg_canon.proofs.walking.+walk.Given as goal
 
 abbrev pub decreases-walk_options : goal.decreases-walk_options
-decreases-walk_options l = 3 * size (game_of l.pages.now l.index)
+decreases-walk_options l = 3 * size (game_of l.arena.now l.index)
 
 abbrev pub decreases-walk_index : goal.decreases-walk_index
-decreases-walk_index l = 3 * size (game_of l.pages.now l.index) + 1
+decreases-walk_index l = 3 * size (game_of l.arena.now l.index) + 1
 
 abbrev pub decreases-walk_indexes : goal.decreases-walk_indexes
-decreases-walk_indexes l = 3 * list_size (games_of l.pages.now l.indexes.now) + 2
+decreases-walk_indexes l = 3 * list_size (games_of l.arena.now l.indexes.now) + 2
 
 abbrev pub invariant-walk_indexes-loop-index : goal.invariant-walk_indexes-loop-index
 invariant-walk_indexes-loop-index l = record {
-  stands : WalkStands l.pages l.marks l.walk.positions.items l.walk.options.items;
-  walked : found_in l.pages l.walk.positions.items ≡ extended (found_in l.pages l.initial.walk.positions.items)
-      (walk_over l.pages (take l.index-index l.indexes));
+  stands : WalkStands l.arena l.marks l.walk.positions.items l.walk.options.items;
+  walked : found_in l.arena l.walk.positions.items ≡ extended (found_in l.arena l.initial.walk.positions.items)
+      (walk_over l.arena (take l.index-index l.indexes));
   room : length l.marks ≡ length l.initial.marks;
   within : length l.walk.positions.items ≤ l.limit;
 }

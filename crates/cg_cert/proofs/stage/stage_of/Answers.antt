@@ -1,9 +1,9 @@
 -- The arena goes on while the second index is found.
 use Rattle.std.proofs.Common.{ap, ◌∙◌}
 use Rattle.cg_nodes.proofs.Later.{game_later}
-use Rattle.cg_canon.proofs.Booking.{at_later}
+use Rattle.cg_canon.proofs.InternerSteps.{at_later}
 use Rattle.cg_canon.specs.Works.{work_state}
-use Rattle.cg_book.specs.Pages.{game_of}
+use Rattle.cg_arena.specs.Arena.{game_of}
 use Rattle.cg_cert.specs.Pairs.{pair}
 use Rattle.cg_nodes.specs.Games.{game_at}
 use Rattle.cg_cert.proofs.stage.stage_of.Goals as goal

@@ -5,18 +5,18 @@ use Rattle.cg_form.specs.Size.{list_size, size}
 use Rattle.cg_nodes.specs.Games.{game_at, games_at, listed}
 use Rattle.cg_nodes.proofs.Later.{are_games_later, game_later, games_later, is_game_later, listed_later, spends_then}
 use Rattle.cg_nodes.proofs.Members.{length_games}
-use Rattle.cg_names.specs.Shapes.{sign_of}
-use Rattle.cg_names.proofs.Ends.{more-sign, no_ends, two-none}
+use Rattle.cg_names.specs.Shapes.{named_form_of}
+use Rattle.cg_names.proofs.Ends.{more-named_form, no_ends, two-none}
 use Rattle.cg_names.proofs.Listing.{item_known}
 use Rattle.cg_names.proofs.Looks.{is_node}
 use Rattle.cg_names.proofs.Memos.{last_size, recalls_later, told_few, told_game, told_number}
-use Rattle.cg_names.proofs.SignSteps.{sign_star, sign_tiny, tiny_at}
+use Rattle.cg_names.proofs.NamedFormSteps.{named_star, named_tiny, tiny_at}
 use Rattle.cg_names.proofs.Stars.{games_front, games_last, no_stars, none_there, some_there, star-is, star-lists, stars_at, stars_none, stars_some}
 use Rattle.cg_names.proofs.look.+look.Goals as goal
 
-pub sign_by_shape-returns-in-Some-clause-sign : goal.sign_by_shape-returns-in-Some-clause-sign
-sign_by_shape-returns-in-Some-clause-sign g t c =
-    sign_star _ _ c.in-Some.found c.in-Some.is c.in_ok-found.ensures.star
+pub named_by_shape-returns-in-Some-clause-named_form : goal.named_by_shape-returns-in-Some-clause-named_form
+named_by_shape-returns-in-Some-clause-named_form g t c =
+    named_star _ _ c.in-Some.found c.in-Some.is c.in_ok-found.ensures.star
 
 -- ---- nimbers
 
@@ -106,19 +106,19 @@ stars-returns-in-Game-clause-stars g t c =
     let last : Game = node (listed u c.in-Game.lefts) (listed u c.in-Game.field-1) in
     stars_at _ (games_at s hs) c.star_on.result
     (ap (λ z. z ++ (last ∷ [])) front ∙ ap (λ z. games_at s (take place hs) ++ (z ∷ [])) (sym told.2) ∙ sym split)
-    (c.star_on.ensures.stars (listed u c.in-Game.field-1) (told.3 ∙ ap sign_of told.2))
+    (c.star_on.ensures.stars (listed u c.in-Game.field-1) (told.3 ∙ ap named_form_of told.2))
 
 -- ---- one option on a side
 
-pub sign_by_ends-returns-in-None-only-clause-sign : goal.sign_by_ends-returns-in-None-only-clause-sign
-sign_by_ends-returns-in-None-only-clause-sign g t c =
+pub named_by_ends-returns-in-None-only-clause-named_form : goal.named_by_ends-returns-in-None-only-clause-named_form
+named_by_ends-returns-in-None-only-clause-named_form g t c =
     let W = g.S.CellStore.state in
     let same = listed_later (W c.args.store.now) (W c.only.new.store) c.only.ensures.spends.known c.args.rights
     c.requires.rights in
     no_ends _ _ c.requires.no_star c.in-None.ensures.only (λ a e. c.in-None-only.ensures.only a (same ∙ e))
 
-pub sign_of_two-steep-requires : goal.sign_of_two-steep-requires
-sign_of_two-steep-requires g t c κs within =
+pub named_of_two-steep-requires : goal.named_of_two-steep-requires
+named_of_two-steep-requires g t c κs within =
     let W = g.S.CellStore.state in
     let s = W c.args.store.now in
     let u = W c.number_at-in-None.new.store in
@@ -144,8 +144,8 @@ sign_of_two-steep-requires g t c κs within =
       ),
     )
 
-pub sign_of_two-steep-requires-in-None-number_at-2 : goal.sign_of_two-steep-requires-in-None-number_at-2
-sign_of_two-steep-requires-in-None-number_at-2 g t c κs within =
+pub named_of_two-steep-requires-in-None-number_at-2 : goal.named_of_two-steep-requires-in-None-number_at-2
+named_of_two-steep-requires-in-None-number_at-2 g t c κs within =
     let W = g.S.CellStore.state in
     let s = W c.args.store.now in
     let v = W c.number_at.new.store in
@@ -173,35 +173,35 @@ sign_of_two-steep-requires-in-None-number_at-2 g t c κs within =
       ),
     )
 
-pub sign_of_two-returns-in-None-number_at-clause-sign : goal.sign_of_two-returns-in-None-number_at-clause-sign
-sign_of_two-returns-in-None-number_at-clause-sign g t c =
+pub named_of_two-returns-in-None-number_at-clause-named_form : goal.named_of_two-returns-in-None-number_at-clause-named_form
+named_of_two-returns-in-None-number_at-clause-named_form g t c =
     let W = g.S.CellStore.state in
     let before = game_later (W c.args.store.now) (W c.number_at.new.store) c.number_at.ensures.spends.known c.args.last
     c.requires.last in
     two-none _ _ c.requires.no_star c.in-None.ensures.number
     (λ x e. c.in-None-number_at.ensures.number x (before ∙ e))
 
-pub steep-returns-in-Number-clause-sign : goal.steep-returns-in-Number-clause-sign
-steep-returns-in-Number-clause-sign g t c =
+pub steep-returns-in-Number-clause-named_form : goal.steep-returns-in-Number-clause-named_form
+steep-returns-in-Number-clause-named_form g t c =
     let W = g.S.CellStore.state in
     absurd (c.requires.other c.in-Number.field-0 (told_number (W c.look.new.store) c.in_ok-look.field-0
     (game_at (W c.args.store.now) c.args.last) c.in-Number.field-0 c.in-Number.is c.in_ok-look.ensures.look))
 
-pub steep-returns-in-Some-clause-sign : goal.steep-returns-in-Some-clause-sign
-steep-returns-in-Some-clause-sign g t c =
+pub steep-returns-in-Some-clause-named_form : goal.steep-returns-in-Some-clause-named_form
+steep-returns-in-Some-clause-named_form g t c =
     let W = g.S.CellStore.state in
     let k = game_at (W c.args.store.now) c.args.last in
     let told = told_game (W c.look.new.store) c.in_ok-look.field-0 k _ _ _ c.in-Game.is c.in_ok-look.ensures.look in
-    sign_tiny c.args.down _ (Some c.in-Some.size) c.in-Some.size refl
+    named_tiny c.args.down _ (Some c.in-Some.size) c.in-Some.size refl
     (tiny_at c.args.down c.args.x k _ (Some c.in-Some.size) told.2 c.in-Some.ensures.tiny)
 
-pub steep-returns-in-None-clause-sign : goal.steep-returns-in-None-clause-sign
-steep-returns-in-None-clause-sign g t c =
+pub steep-returns-in-None-clause-named_form : goal.steep-returns-in-None-clause-named_form
+steep-returns-in-None-clause-named_form g t c =
     let W = g.S.CellStore.state in
     let k = game_at (W c.args.store.now) c.args.last in
     let told = told_game (W c.look.new.store) c.in_ok-look.field-0 k _ _ _ c.in-Game.is c.in_ok-look.ensures.look in
     let node = is_node k _ _ told.2 in
-    more-sign c.args.down c.args.x k node c.one_more.result (c.one_more.ensures.more k node told.3)
+    more-named_form c.args.down c.args.x k node c.one_more.result (c.one_more.ensures.more k node told.3)
     (tiny_at c.args.down c.args.x k _ None told.2 c.in-None.ensures.tiny)
 
 pub steep-returns-in-Some-clause-memo : goal.steep-returns-in-Some-clause-memo

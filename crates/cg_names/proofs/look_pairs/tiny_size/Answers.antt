@@ -1,7 +1,7 @@
 use Rattle.std.proofs.Common.{subst, sym}
 use Rattle.cg_dyadic.specs.Number.{Number}
 use Rattle.cg_dyadic.proofs.Truth.{differ}
-use Rattle.cg_names.specs.Signs.{IsPositive}
+use Rattle.cg_names.specs.NamedForms.{IsPositive}
 use Rattle.cg_names.proofs.Looks.{tiny-parts}
 use Rattle.cg_names.proofs.look_pairs.tiny_size.Goals as goal
 

@@ -44,7 +44,7 @@ push_name-returns-in-Some-clause-in_range g t c =
     let W = g.S.CellStore.state in
     let told = told_game (W c.look.new.store) c.in_ok-number.field-0 (game_at (W c.args.store.now) c.args.handle) _ _ _
     c.in-Game.is c.in_ok-number.ensures.look in
-    signed-in_range c.push_sign.result _ _ _ _ c.in-Some.sign told.2 told.3 c.in-Some.is c.push_sign.ensures.in_range
+    signed-in_range c.push_named.result _ _ _ _ c.in-Some.named_form told.2 told.3 c.in-Some.is c.push_named.ensures.in_range
 
 pub push_name-returns-in-None-clause-in_range : goal.push_name-returns-in-None-clause-in_range
 push_name-returns-in-None-clause-in_range g t c =

@@ -9,10 +9,10 @@ use Rattle.cg_session.proofs.job.answer_line.Goals as goal
 pub returns-in-Query-clause-reply : goal.returns-in-Query-clause-reply
 returns-in-Query-clause-reply g c =
     let q = question_of c.in-Query.query in
-    reply_as c.args.share c.args.positions (Asked_of q) (resolved_of c.args.asked.now) c.answer_query_held.result
+    reply_as c.args.share c.args.positions (Asked_of q) (resolved_of c.args.asked.now) c.answer_query_cached.result
     (ap (λ (x : Asked). resolved_of x) c.in-Query.is)
-    (asked_reply c.args.share c.args.positions (g.S.CellStore.state c.answer_query_held.new.store) q c.answer_query_held.result
-    c.answer_query_held.ensures.reply)
+    (asked_reply c.args.share c.args.positions (g.S.CellStore.state c.answer_query_cached.new.store) q c.answer_query_cached.result
+    c.answer_query_cached.ensures.reply)
 
 pub returns-in-Syntax-clause-reply : goal.returns-in-Syntax-clause-reply
 returns-in-Syntax-clause-reply g c =

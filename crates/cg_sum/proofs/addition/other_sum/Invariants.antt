@@ -1,4 +1,4 @@
-use Rattle.cg_book.specs.Pages.{games_of}
+use Rattle.cg_arena.specs.Arena.{games_of}
 use Rattle.cg_canon.specs.Walk.{indexes_of}
 use Rattle.cg_sum.proofs.addition.other_sum.Given as goal
 

@@ -5,15 +5,15 @@ use Rattle.cg_sum.proofs.ItemSteps.{given_form, number_item}
 use Rattle.cg_sum.proofs.Placed.{first_at, first_is, first_number, second_at, second_is, second_number, same_sum}
 use Rattle.cg_sum.proofs.item.new_item.Goals as goal
 
-pub number_at-requires-clause-page : goal.number_at-requires-clause-page
-number_at-requires-clause-page g c = (first_at _ _ _ _ _ c.requires.1.1.1.0.placed _ _ c.index-f.ensures c.index-k.ensures).within
+pub number_at-requires-clause-index : goal.number_at-requires-clause-index
+number_at-requires-clause-index g c = (first_at _ _ _ _ _ c.requires.1.1.1.0.placed _ _ c.index-f.ensures c.index-k.ensures).within
 
 pub number_at-requires-clause-number : goal.number_at-requires-clause-number
 number_at-requires-clause-number g c =
     first_number _ _ _ _ _ c.requires.1.1.1.0.placed _ _ c.index-f.ensures c.index-k.ensures c.if-f.true
 
-pub number_at-requires-then-k-clause-page : goal.number_at-requires-then-k-clause-page
-number_at-requires-then-k-clause-page g c =
+pub number_at-requires-then-k-clause-index : goal.number_at-requires-then-k-clause-index
+number_at-requires-then-k-clause-index g c =
     (second_at _ _ _ _ _ c.requires.1.1.1.0.placed _ _ c.index-f.ensures c.index-k.ensures).within
 
 pub number_at-requires-then-k-clause-number : goal.number_at-requires-then-k-clause-number

@@ -5,7 +5,7 @@ use Rattle.cg_nodes.specs.CanForms.{can-fixed}
 use Rattle.cg_sum.proofs.ItemSteps.{given_form}
 use Rattle.cg_sum.proofs.Options.{lefts_apart_by, lefts_are, rights_apart_by, rights_are, side_is, summed_canonical, summed_form}
 use Rattle.cg_sum.proofs.Placed.{one_first, one_second}
-use Rattle.cg_book.specs.Pages.{game_of}
+use Rattle.cg_arena.specs.Arena.{game_of}
 use Rattle.cg_sum.proofs.Sums.{IsNumber}
 use Rattle.cg_sum.proofs.Walks.{count}
 use Rattle.cg_sum.proofs.item.summed_item.Goals as goal

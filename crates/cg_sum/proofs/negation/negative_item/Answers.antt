@@ -10,8 +10,8 @@ use Rattle.cg_sum.proofs.Sums.{can-negative_number}
 use Rattle.cg_sum.proofs.Walks.{at, node_of_place, number_at_index}
 use Rattle.cg_sum.proofs.negation.negative_item.Goals as goal
 
-pub number_at-x-requires-clause-page : goal.number_at-x-requires-clause-page
-number_at-x-requires-clause-page g c = (at _ _ _ c.requires.1.1.1.0 _ _ c.requires.1.1.1.1.0 c.index-f.ensures).within
+pub number_at-x-requires-clause-index : goal.number_at-x-requires-clause-index
+number_at-x-requires-clause-index g c = (at _ _ _ c.requires.1.1.1.0 _ _ c.requires.1.1.1.1.0 c.index-f.ensures).within
 
 pub number_at-x-requires-clause-number : goal.number_at-x-requires-clause-number
 number_at-x-requires-clause-number g c = number_at_index _ _ _ c.requires.1.1.1.0 _ _ c.requires.1.1.1.1.0 c.index-f.ensures c.if-f.true

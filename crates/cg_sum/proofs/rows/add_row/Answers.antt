@@ -1,7 +1,7 @@
 -- The sums of one position with all of the other game.
 use Rattle.std.proofs.Common.{arith, ap, refl, sym, ◌∙◌, [], Err}
 use Rattle.std.proofs.lemmas.Result.{err_from_is_err_and}
-use Rattle.cg_book.specs.Pages.{game_of}
+use Rattle.cg_arena.specs.Arena.{game_of}
 use Rattle.cg_canon.specs.SumItems.{sum_item as item_of_sum}
 use Rattle.cg_canon.specs.Works.{work_state}
 use Rattle.cg_sum.specs.Progress.{sum_at_place}

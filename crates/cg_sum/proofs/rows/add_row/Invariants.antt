@@ -1,5 +1,5 @@
 use Rattle.std.proofs.Common.{◌+◌, ◌*◌, length, take, Ok}
-use Rattle.cg_book.specs.Pages.{game_of}
+use Rattle.cg_arena.specs.Arena.{game_of}
 use Rattle.cg_canon.specs.SumItems.{row_items}
 use Rattle.cg_canon.specs.Works.{work_state}
 use Rattle.cg_sum.specs.Progress.{FormsMade, sum_at_place}

@@ -1,16 +1,16 @@
 -- A number's chart, or that of a game from the charts of its options.
 use Rattle.std.proofs.Common.{sym, ◌∙◌, subst, ℕ, ◌<◌, All, List, length, true, false}
 use Rattle.std.specs.List.{slice_range}
-use Rattle.cg_book.specs.Pages.{game_of, games_of}
+use Rattle.cg_arena.specs.Arena.{game_of, games_of}
 use Rattle.cg_canon.specs.Walk.{lefts_of, rights_of}
 use Rattle.cg_dyadic.specs.Wide.{places}
 use Rattle.cg_form.specs.Game.{Game, IsNode}
 use Rattle.cg_thermo.specs.Progress.{Charted, walked}
-use Rattle.cg_thermo.specs.Tops.{IsTop}
+use Rattle.cg_thermo.specs.HighestWalls.{IsHighestWall}
 use Rattle.cg_thermo.proofs.ChartSteps.{at, canonical_here, lefts_here, node_of, place, rights_here}
-use Rattle.cg_thermo.proofs.Drawing.{Tops, gap-start}
+use Rattle.cg_thermo.proofs.Drawing.{HighestWalls, gap-start}
 use Rattle.cg_thermo.proofs.Roughs.{joined-charted, jump-rough}
-use Rattle.cg_thermo.proofs.Topping.{tops}
+use Rattle.cg_thermo.proofs.HighestSteps.{highest_of}
 use Rattle.cg_thermo.proofs.charting.chart_at.Given as given
 use Rattle.cg_thermo.proofs.charting.chart_at.Goals as goal
 use Rattle.cg_thermo.proofs.charting.chart_at.Goals.{In_ok-high-in-Game}
@@ -18,8 +18,8 @@ use Rattle.cg_thermo.proofs.charting.chart_at.Goals.{In_ok-high-in-Game}
 pub read_at-requires : goal.read_at-requires
 read_at-requires g c = (at _ _ c.requires.walk c.args.place _ c.requires.place c.index-position.ensures).within
 
-pub top-requires-in-Game-clause-places : goal.top-requires-in-Game-clause-places
-top-requires-in-Game-clause-places g c =
+pub highest_wall-requires-in-Game-clause-places : goal.highest_wall-requires-in-Game-clause-places
+highest_wall-requires-in-Game-clause-places g c =
     let b = (place _ _ c.requires.walk c.args.place _ c.requires.place c.index-position.ensures).rights_before in
     let P : ℕ → Type 0 = λ n. All (λ q. q < n) (rights_of c.args.walk.now.options.items c.index-position.result.now) in
     let D : List ℕ → Type 0 = λ z. All (λ q. q < length c.args.charts.now)
@@ -27,9 +27,9 @@ top-requires-in-Game-clause-places g c =
     subst D (sym c.deref-in-Game.ensures.value) (subst P (sym c.requires.before) b)
 
 -- the greatest of both sides
-the_tops : (g : given.Over) (c : In_ok-high-in-Game g)
-    → Tops places (game_of (walked c.args.work.now.arena c.args.walk.now) c.args.place) c.in_ok-low-in-Game.low c.in_ok-high-in-Game.high
-the_tops g c =
+the_highest : (g : given.Over) (c : In_ok-high-in-Game g)
+    → HighestWalls places (game_of (walked c.args.work.now.arena c.args.walk.now) c.args.place) c.in_ok-low-in-Game.low c.in_ok-high-in-Game.high
+the_highest g c =
     let fs = walked c.args.work.now.arena c.args.walk.now in
     let options = c.args.walk.now.options.items in
     let p = c.index-position.result.now in
@@ -39,20 +39,20 @@ the_tops g c =
     let here = place _ _ walk c.args.place p lt read in
     let n : IsNode (game_of fs c.args.place) = node_of _ _ _ (sym (at _ _ walk c.args.place p lt read).is ∙ c.in-Game.ensures.read.2) in
     let B : ℕ → List ℕ → Type 0 = λ k xs. All (λ q. q < k) xs in
-    let L : List ℕ → Type 0 = λ z. IsTop true (games_of fs (slice_range z p.lefts p.rights)) c.in_ok-low-in-Game.low in
-    let R : List ℕ → Type 0 = λ z. IsTop false (games_of fs (slice_range z p.rights p.end)) c.in_ok-high-in-Game.high in
+    let L : List ℕ → Type 0 = λ z. IsHighestWall true (games_of fs (slice_range z p.lefts p.rights)) c.in_ok-low-in-Game.low in
+    let R : List ℕ → Type 0 = λ z. IsHighestWall false (games_of fs (slice_range z p.rights p.end)) c.in_ok-high-in-Game.high in
     let P : ℕ → Type 0 = λ k. B k (lefts_of options p) in
     let Q : ℕ → Type 0 = λ k. B k (rights_of options p) in
-    tops fs c.args.charts.now (game_of fs c.args.place) (lefts_of options p) (rights_of options p) _ _
+    highest_of fs c.args.charts.now (game_of fs c.args.place) (lefts_of options p) (rights_of options p) _ _
     (canonical_here _ _ walk c.args.place p lt read) n (lefts_here _ _ walk c.args.place p lt read n)
     (rights_here _ _ walk c.args.place p lt read n) c.requires.charts
     (subst P (sym c.requires.before) here.lefts_before) (subst Q (sym c.requires.before) here.rights_before)
     c.in_ok-low-in-Game.ensures.wall c.in_ok-high-in-Game.ensures.wall
-    (subst L c.deref.ensures.value (c.in_ok-low-in-Game.ensures.top fs c.requires.charts))
-    (subst R c.deref-in-Game.ensures.value (c.in_ok-high-in-Game.ensures.top fs c.requires.charts))
+    (subst L c.deref.ensures.value (c.in_ok-low-in-Game.ensures.highest_wall fs c.requires.charts))
+    (subst R c.deref-in-Game.ensures.value (c.in_ok-high-in-Game.ensures.highest_wall fs c.requires.charts))
 
 pub joined-requires-clause-start : goal.joined-requires-clause-start
-joined-requires-clause-start g c = gap-start _ _ _ _ (the_tops g (goal.at.joined-requires-clause-start g c).In_ok-high-in-Game)
+joined-requires-clause-start g c = gap-start _ _ _ _ (the_highest g (goal.at.joined-requires-clause-start g c).In_ok-high-in-Game)
 
 pub returns-in-Number-clause-chart : goal.returns-in-Number-clause-chart
 returns-in-Number-clause-chart g c =
@@ -61,8 +61,8 @@ returns-in-Number-clause-chart g c =
 
 pub returns-in_ok-high-in-Game-clause-chart : goal.returns-in_ok-high-in-Game-clause-chart
 returns-in_ok-high-in-Game-clause-chart g c =
-    joined-charted _ _ _ c.joined.result (the_tops g (goal.at.returns-in_ok-high-in-Game-clause-chart g c).In_ok-high-in-Game) c.joined.ensures.joined
+    joined-charted _ _ _ c.joined.result (the_highest g (goal.at.returns-in_ok-high-in-Game-clause-chart g c).In_ok-high-in-Game) c.joined.ensures.joined
 
 pub returns-in_ok-high-in-Game-clause-range : goal.returns-in_ok-high-in-Game-clause-range
 returns-in_ok-high-in-Game-clause-range g c = λ e.
-    jump-rough _ _ _ (the_tops g (goal.at.returns-in_ok-high-in-Game-clause-range g c).In_ok-high-in-Game) (c.joined.ensures.range e)
+    jump-rough _ _ _ (the_highest g (goal.at.returns-in_ok-high-in-Game-clause-range g c).In_ok-high-in-Game) (c.joined.ensures.range e)

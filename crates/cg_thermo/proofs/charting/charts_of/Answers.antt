@@ -2,7 +2,7 @@
 use Rattle.std.proofs.Common.{◌+◌, arith, ap, sym, ◌∙◌, subst, ℕ, length}
 use Rattle.std.proofs.lemmas.List.{length-append}
 use Rattle.std.proofs.lemmas.Result.{err_from_is_err_and}
-use Rattle.cg_book.specs.Pages.{game_of}
+use Rattle.cg_arena.specs.Arena.{game_of}
 use Rattle.cg_thermo.specs.Progress.{Charted, walked}
 use Rattle.cg_thermo.proofs.ChartSteps.{charts_more, charts_none, err_range, rough_at, walked_count}
 use Rattle.cg_thermo.proofs.charting.charts_of.Goals as goal

@@ -1,7 +1,7 @@
 -- The last chart is that of the game.
 use Rattle.std.proofs.Common.{◌≡◌, ◌-◌, arith, ap, sym, ◌∙◌, subst}
 use Rattle.std.proofs.lemmas.Result.{err_from_is_err_and}
-use Rattle.cg_book.specs.Pages.{game_of}
+use Rattle.cg_arena.specs.Arena.{game_of}
 use Rattle.cg_canon.specs.Works.{work_state}
 use Rattle.cg_form.specs.Game.{Game, IsNode}
 use Rattle.cg_form.specs.Positions.{positions_of}

@@ -45,7 +45,7 @@ part_value-requires-clause-counts g c =
 pub part_value-requires-clause-values : goal.part_value-requires-clause-values
 part_value-requires-clause-values g c =
     let made = parts_told _ _ _ _ _ c.as_slice-board-items.ensures _ _ _ c.requires.next _ _ _ _ c.loop-place.invariant
-    c.expect_boards.ensures in
+    c.prefetch_boards.ensures in
     hold-as _ _ _ _ _ _ _ c.deref.ensures.value c.places_of.ensures
     (part-held _ _ _ _ _ c.as_slice-board-items.ensures _ _ _ c.requires.next _ _ c.loop-place-test.true c.board-item.is _ _
     made _ c.index-next.ensures)
@@ -53,7 +53,7 @@ part_value-requires-clause-values g c =
 pub returns-in_err-value-clause-made : goal.returns-in_err-value-clause-made
 returns-in_err-value-clause-made g c =
     let made = parts_told _ _ _ _ _ c.as_slice-board-items.ensures _ _ _ c.requires.next _ _ _ _ c.loop-place.invariant
-    c.expect_boards.ensures in
+    c.prefetch_boards.ensures in
     let p = err_from_is_err_and c.from_residual-in_err-value.result c.from_residual-in_err-value.ensures.1 in
     parts_stopped _ _ _ _ _ c.as_slice-board-items.ensures _ _ _ c.requires.next _ _ c.loop-place-test.true c.board-item.is _ _
     made _ _ c.part_value.ensures.made _ _ c.in_err-value.was (p.1 ∙ ap Err p.2)
@@ -61,7 +61,7 @@ returns-in_err-value-clause-made g c =
 pub returns-in_err-value-clause-fronts : goal.returns-in_err-value-clause-fronts
 returns-in_err-value-clause-fronts g c =
     let made = parts_told _ _ _ _ _ c.as_slice-board-items.ensures _ _ _ c.requires.next _ _ _ _ c.loop-place.invariant
-    c.expect_boards.ensures in
+    c.prefetch_boards.ensures in
     let p = err_from_is_err_and c.from_residual-in_err-value.result c.from_residual-in_err-value.ensures.1 in
     if_err c.from_residual-in_err-value.result _ _ (p.1 ∙ ap Err p.2)
     (parts_fronts _ _ _ _ _ c.as_slice-board-items.ensures _ _ _ c.requires.next _ _ c.loop-place-test.true c.board-item.is _ _
@@ -70,7 +70,7 @@ returns-in_err-value-clause-fronts g c =
 pub loop-place-preserved : goal.loop-place-preserved
 loop-place-preserved g c =
     let made = parts_told _ _ _ _ _ c.as_slice-board-items.ensures _ _ _ c.requires.next _ _ _ _ c.loop-place.invariant
-    c.expect_boards.ensures in
+    c.prefetch_boards.ensures in
     parts_more _ _ _ _ _ c.as_slice-board-items.ensures _ _ _ c.requires.next _ _ c.loop-place-test.true c.board-item.is _ _
     made _ _ c.part_value.ensures.made _ _ _ c.in_ok-value.was c.in_ok-value.ensures.game
     c.part_value.ensures.spare c.in_ok-push.ensures.items c.part_value.ensures.noted

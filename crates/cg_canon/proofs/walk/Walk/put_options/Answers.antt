@@ -1,12 +1,12 @@
 use Rattle.std.proofs.Common.{refl, get_or}
-use Rattle.cg_book.specs.Pages.{game_of}
-use Rattle.cg_book.proofs.Slices.{item_among}
+use Rattle.cg_arena.specs.Arena.{game_of}
+use Rattle.cg_arena.proofs.Slices.{item_among}
 use Rattle.cg_canon.proofs.WalkSteps.{appended_next, marked_place}
 use Rattle.cg_canon.proofs.walk.Walk.put_options.Goals as goal
 
 pub loop-index-preserved : goal.loop-index-preserved
 loop-index-preserved c =
-    let gs = c.args.pages.now in
+    let gs = c.args.arena.now in
     let ps = c.args.self.now.positions.items in
     let i = c.loop-index.index-index in
     let index = get_or c.args.indexes.now i 0 in

@@ -1,5 +1,5 @@
 use Rattle.cg_nodes.proofs.Later.{stand_later}
-use Rattle.cg_book.specs.Pages.{games_of}
+use Rattle.cg_arena.specs.Arena.{games_of}
 use Rattle.cg_canon.specs.Works.{work_state}
 use Rattle.cg_canon.proofs.work.Work.handles_at.Goals as goal
 

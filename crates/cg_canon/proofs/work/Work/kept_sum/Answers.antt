@@ -3,6 +3,6 @@ use Rattle.cg_canon.proofs.work.Work.kept_sum.Goals as goal
 
 pub returns : goal.returns
 returns g c =
-    let b = c.self.inside.held.memo.book in
-    rw (← c.self.view_is) (pair_found b.pages c.args.a c.args.b _ _ c.in_order-low.ensures b.pairs c.find.result c.self.invariant.1.book.pairs
+    let b = c.self.inside.cache.memo.interner in
+    rw (← c.self.view_is) (pair_found b.arena c.args.a c.args.b _ _ c.in_order-low.ensures b.pairs c.find.result c.self.invariant.1.interner.pairs
     c.find.ensures)

@@ -1,4 +1,4 @@
-use Rattle.cg_book.specs.Pages.{game_of}
+use Rattle.cg_arena.specs.Arena.{game_of}
 use Rattle.cg_canon.proofs.Recognizing.{at_equal, at_turned, third_equal}
 use Rattle.cg_canon.proofs.work.Work.learn_sum_at.Goals as goal
 

@@ -1,4 +1,4 @@
-use Rattle.cg_book.specs.Pages.{game_of}
+use Rattle.cg_arena.specs.Arena.{game_of}
 use Rattle.cg_canon.proofs.Recognizing.{has_nimber}
 use Rattle.cg_canon.proofs.work.Work.nimber_at.Goals as goal
 

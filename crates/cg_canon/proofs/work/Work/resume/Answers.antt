@@ -7,5 +7,5 @@ invariant_of-result g c =
     let same = c.spare-start.ensures.value in
     let spare = c.requires.spare in (
       record { within = omega arith; room = omega arith; small = omega arith; fallen = omega arith; enough = omega arith },
-      c.requires.held,
+      c.requires.cache,
     )

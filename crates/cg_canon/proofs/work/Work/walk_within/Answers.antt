@@ -2,18 +2,18 @@ use Rattle.std.proofs.Common.{ap}
 use Rattle.std.specs.Prelude.{Err}
 use Rattle.std.proofs.lemmas.Result.{err_from_is_err_and}
 use Rattle.cg_nodes.proofs.Outcomes.{passed_on}
-use Rattle.cg_book.specs.Pages.{game_of}
-use Rattle.cg_canon.proofs.BookHandles.{games_apart}
+use Rattle.cg_arena.specs.Arena.{game_of}
+use Rattle.cg_canon.proofs.InternerHandles.{games_apart}
 use Rattle.cg_canon.proofs.WalkSteps.{walk_all, walk_longer, walk_within}
 use Rattle.cg_canon.proofs.work.Work.walk_within.Goals as goal
 
 pub walk_index-requires-clause-apart : goal.walk_index-requires-clause-apart
 walk_index-requires-clause-apart g c =
-    games_apart (g.S.CellStore.state c.self.inside.store.now) c.self.inside.held.memo.book c.self.invariant.1.book c.apart.ensures
+    games_apart (g.S.CellStore.state c.self.inside.store.now) c.self.inside.cache.memo.interner c.self.invariant.1.interner c.apart.ensures
 
 pub returns-in_err-walk_index-clause-refused : goal.returns-in_err-walk_index-clause-refused
 returns-in_err-walk_index-clause-refused g c =
-    let gs = c.self.inside.held.memo.book.pages in
+    let gs = c.self.inside.cache.memo.interner.arena in
     let p = err_from_is_err_and c.from_residual-in_err-walk_index.result c.from_residual-in_err-walk_index.ensures.1 in λ e.
     let r = c.in_err-walk_index.ensures.refused
     (ap Err (passed_on p.0 c.in_err-walk_index.field-0.0 c.from_residual-in_err-walk_index.result p.1 p.2 e)) in (
@@ -24,13 +24,13 @@ returns-in_err-walk_index-clause-refused g c =
 
 pub returns-clause-walk : goal.returns-clause-walk
 returns-clause-walk g c =
-    let gs = c.self.inside.held.memo.book.pages in
+    let gs = c.self.inside.cache.memo.interner.arena in
     rw (← c.self.view_is) (walk_all gs (game_of gs c.args.index) c.in_ok-walk.walk.positions.items c.in_ok-walk.ensures.positions
     c.walk_index.new.marks c.walk_index.new.walk c.in_ok-walk_index.ensures.stands c.in_ok-walk_index.ensures.all)
 
 pub returns-clause-within : goal.returns-clause-within
 returns-clause-within g c =
-    let gs = c.self.inside.held.memo.book.pages in
+    let gs = c.self.inside.cache.memo.interner.arena in
     rw (← c.self.view_is) (walk_within gs (game_of gs c.args.index) c.in_ok-walk.walk.positions.items c.in_ok-walk.ensures.positions
     c.walk_index.new.marks c.walk_index.new.walk c.in_ok-walk_index.ensures.stands c.in_ok-walk_index.ensures.all c.args.limit
     c.in_ok-walk_index.ensures.within)

@@ -13,5 +13,5 @@ pub returns-clause-new : goal.returns-clause-new
 returns-clause-new c =
     let p = c.args.board.now in
     if_none_then _ _ c.find.result c.find.ensures.none (λ h. rw (← c.self.view_is)
-    (not-numbered c.self.inside.links c.self.inside.boards.items p c.self.invariant.0 (λ n low is k.
+    (not-numbered c.self.inside.by_number c.self.inside.boards.items p c.self.invariant.0 (λ n low is k.
     let f = h n low (is ∙ sym (c.number.ensures ∙ ap key_number c.key-key.ensures.value)) in search rules)))

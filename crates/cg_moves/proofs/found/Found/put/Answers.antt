@@ -11,7 +11,7 @@ invariant_of-self-2 c =
     let boards = c.self.inside.boards.items in
     let items = c.in_ok-push.ensures.items ∙ ap (λ z. z ++ (c.args.board ∷ [])) c.in_ok-reserve.ensures.items in
     rw items (
-      numbers-more c.self.inside.links c.add.new.self boards c.args.board c.number.result c.self.invariant.0
+      numbers-more c.self.inside.by_number c.add.new.self boards c.args.board c.number.result c.self.invariant.0
           (c.number.ensures ∙ ap key_number c.key.ensures.value) c.in_ok-add.ensures.more,
       grids-more boards c.args.board c.self.invariant.1 c.key.ensures.grid,
     )

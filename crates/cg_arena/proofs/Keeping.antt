@@ -1,0 +1,63 @@
+-- The games of a list of indexes that are kept, and the best of them.
+use Rattle.std.proofs.Common.{◌≡◌, ℕ, suc, ◌+◌, ◌<◌, arith, ap, sym, ◌∙◌, List, [], ◌∷◌, ◌++◌, take, get_or, length, Bool, true, false, cond}
+use Rattle.std.specs.List.{Contains}
+use Rattle.std.proofs.lemmas.List.Elements.{All-contains, All-contains_itself}
+use Rattle.std.specs.List.Sorted.{IsPermutation}
+use Rattle.std.proofs.lemmas.List.Sorted.{All-permutation, IsPermutation-sym}
+use Rattle.cg_form.specs.Best.{keep}
+use Rattle.cg_form.specs.Game.{Among, Game}
+use Rattle.cg_form.proofs.Best.{append_nil}
+use Rattle.cg_arena.specs.Arena.{AreIndexes, IsIndex, game_of, games_of}
+use Rattle.cg_arena.specs.Undominated.{Undominated, with_last}
+use Rattle.cg_arena.proofs.Slices.{game_there, games_take_suc, member_of}
+use Rattle.cg_arena.proofs.Undominating.{keep-last, undominated_same_games, undominated_step}
+
+pub games_take_more : (gs : List Game) (ps : List ℕ) (i k : ℕ) → i < length ps → k ≡ get_or ps i 0
+    → games_of gs (take (i + 1) ps) ≡ games_of gs (take i ps) ++ game_of gs k ∷ []
+games_take_more gs ps i k l e =
+    let one : i + 1 ≡ suc i = omega arith in
+    ap (λ n. games_of gs (take n ps)) one ∙ games_take_suc gs ps i 0 l ∙ ap (λ z. games_of gs (take i ps) ++ game_of gs z ∷ []) (sym e)
+
+-- ---- the games that are kept
+
+keep_more : (gs : List Game) (p : Game → Bool) (ps : List ℕ) (i k : ℕ) → i < length ps → k ≡ get_or ps i 0
+    → keep p (games_of gs (take (i + 1) ps)) ≡ keep p (games_of gs (take i ps)) ++ cond (p (game_of gs k)) (game_of gs k ∷ []) []
+keep_more gs p ps i k l e =
+    ap (keep p) (games_take_more gs ps i k l e) ∙ keep-last p (games_of gs (take i ps)) (game_of gs k)
+
+pub keep_left : (gs : List Game) (p : Game → Bool) (ps : List ℕ) (us : List Game) (i k : ℕ)
+    → us ≡ keep p (games_of gs (take i ps)) → i < length ps → k ≡ get_or ps i 0 → p (game_of gs k) ≡ false
+    → us ≡ keep p (games_of gs (take (i + 1) ps))
+keep_left gs p ps us i k h l e f =
+    h ∙ sym (keep_more gs p ps i k l e ∙ ap (λ z. keep p (games_of gs (take i ps)) ++ cond z (game_of gs k ∷ []) []) f
+    ∙ append_nil (keep p (games_of gs (take i ps))))
+
+pub keep_taken : (gs : List Game) (p : Game → Bool) (ps : List ℕ) (us ws : List Game) (i k : ℕ)
+    → us ≡ keep p (games_of gs (take i ps)) → i < length ps → k ≡ get_or ps i 0 → p (game_of gs k) ≡ true
+    → ws ≡ us ++ game_of gs k ∷ [] → ws ≡ keep p (games_of gs (take (i + 1) ps))
+keep_taken gs p ps us ws i k h l e f q =
+    q ∙ ap (λ z. z ++ game_of gs k ∷ []) h
+    ∙ sym (keep_more gs p ps i k l e ∙ ap (λ z. keep p (games_of gs (take i ps)) ++ cond z (game_of gs k ∷ []) []) f)
+
+-- ---- the best
+
+pub undominated_next : (gs : List Game) (left : Bool) (ps : List ℕ) (us ws : List Game) (i k : ℕ)
+    → Undominated left (games_of gs (take i ps)) us → i < length ps → k ≡ get_or ps i 0 → ws ≡ with_last left us (game_of gs k)
+    → Undominated left (games_of gs (take (i + 1) ps)) ws
+undominated_next gs left ps us ws i k h l e q =
+    rw (games_take_more gs ps i k l e) (rw q (undominated_step left (games_of gs (take i ps)) us (game_of gs k) h))
+
+-- ---- the same indexes in another order
+
+pub indexes_moved : (gs : List Game) (ps qs : List ℕ) → IsPermutation ps qs → AreIndexes gs ps → AreIndexes gs qs
+indexes_moved gs ps qs p a = All-permutation (IsIndex gs) ps qs p a
+
+games_moved : (gs : List Game) (ps qs : List ℕ) → IsPermutation ps qs → (x : Game) → Among x (games_of gs qs) → Among x (games_of gs ps)
+games_moved gs ps qs p x m =
+    let (k, there, e) = member_of gs qs x m in
+    rw e (game_there gs ps k (All-contains (Contains ps) qs k (All-permutation (Contains ps) ps qs p (All-contains_itself ps)) there))
+
+pub undominated_moved : (gs : List Game) (left : Bool) (ps qs : List ℕ) (us : List Game) → IsPermutation ps qs → Undominated left (games_of gs qs) us
+    → Undominated left (games_of gs ps) us
+undominated_moved gs left ps qs us p t =
+    undominated_same_games left (games_of gs qs) (games_of gs ps) us (games_moved gs ps qs p) (games_moved gs qs ps (IsPermutation-sym ps qs p)) t

@@ -1,0 +1,14 @@
+-- what contracts cite
+pub mod Costs
+pub mod Profiles
+pub mod Arena
+pub mod OrderMemos
+pub mod Decided
+pub mod Keys
+pub mod Terms
+pub mod Undominated
+pub mod Canonicalized
+pub mod Verdict
+pub mod UnreducedGames
+pub mod Passed
+pub mod Reach

@@ -1,0 +1,33 @@
+//! The arena: interned games in canonical form, each at an index, their order, and the canonical forms of games of two lists of indexes.
+#![tactic(auto)]
+
+mod arena;
+mod best;
+mod bypass;
+mod canonicalizing;
+mod decided;
+mod keys;
+mod order;
+mod order_memo;
+mod outlining;
+mod owning;
+mod placing;
+mod profile;
+mod ranked;
+mod reach;
+mod reduce;
+mod staying;
+mod structure;
+mod substitutes;
+mod terms;
+mod unreduced;
+mod verdicts;
+
+pub use arena::{Arena, Read};
+pub use canonicalizing::{Canonicalized, NewForm, canonicalize};
+pub use order::at_most;
+pub use order_memo::OrderMemo;
+pub use outlining::profile_of_lists;
+pub use profile::Profile;
+pub use reduce::Form;
+pub use terms::FirstTerm;

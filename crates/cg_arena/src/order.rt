@@ -1,0 +1,119 @@
+//! The order of the games at two indexes.
+//!
+//! Numbers that lie between two games, or beside one of them, tell most answers. Only the other pairs are compared by their
+//! options, as the definition says, and only their answers are kept, unless both games are light. A number is never counted
+//! down: it is at most a game that equals no number exactly where it is at least no Right option, and at least such a game
+//! exactly where it is at most no Left option.
+ghost use Rattle.std.specs.Prelude.{◌≡◌, IfOk};
+ghost use Rattle.cg_form.specs.Order.{le, no_one};
+ghost use Rattle.cg_form.specs.Side.{at_most as at_most_for};
+ghost use Rattle.cg_arena.specs.Arena.{AreIndexes, IsIndex, game_of, games_of};
+ghost use Rattle.cg_arena.specs.OrderMemos.{AreRight};
+
+use crate::arena::{Arena, Read};
+use crate::decided::decided_for;
+use crate::order_memo::OrderMemo;
+use std::alloc::AllocError;
+
+/// Whether the player has no option in the list that is as good as x; with `left` the player is Left, and else Right with
+/// the order turned.
+#[cycle(found)]
+pub(crate) fn none_as_good(
+    arena: &Arena,
+    answers: &mut OrderMemo,
+    left: bool,
+    x: u32,
+    list: &[u32],
+) -> Result<bool, AllocError>
+    requires x { IsIndex arena.now x }
+    requires list { AreIndexes arena.now list.now }
+    requires right { AreRight arena.now answers.old }
+    ensures order { IfOk result (λ answer. answer
+        ≡ no_one (at_most_for left (game_of arena.now x)) (games_of arena.now list.now)) }
+    ensures right { AreRight arena.now answers.new }
+{
+    for option in list {
+        if at_most(arena, answers, !left, *option, x)? {
+            return Ok(false);
+        }
+    }
+    Ok(true)
+}
+
+/// Whether a <= b, from their options.
+#[cycle(found)]
+#[inline(always)]
+fn compared(arena: &Arena, answers: &mut OrderMemo, a: u32, b: u32) -> Result<bool, AllocError>
+    requires a { IsIndex arena.now a }
+    requires b { IsIndex arena.now b }
+    requires right { AreRight arena.now answers.old }
+    ensures order { IfOk result (λ answer. answer ≡ le (game_of arena.now a) (game_of arena.now b)) }
+    ensures right { AreRight arena.now answers.new }
+{
+    let high = arena.read(b);
+    match arena.read(a) {
+        Read::Number(x) => match high {
+            Read::Number(y) => Ok(x.le(y)),
+            Read::Game(_, rights) => none_as_good(arena, answers, false, a, rights),
+        },
+        Read::Game(lefts, _) => {
+            if !none_as_good(arena, answers, true, b, lefts)? {
+                return Ok(false);
+            }
+            match high {
+                Read::Number(_) => Ok(true),
+                Read::Game(_, rights) => none_as_good(arena, answers, false, a, rights),
+            }
+        }
+    }
+}
+
+/// Whether a <= b, by an answer that is kept, or from their options. The answer is kept, unless both games are light: these are
+/// compared again.
+#[cycle(found)]
+fn found(arena: &Arena, answers: &mut OrderMemo, a: u32, b: u32) -> Result<bool, AllocError>
+    requires a { IsIndex arena.now a }
+    requires b { IsIndex arena.now b }
+    requires right { AreRight arena.now answers.old }
+    ensures order { IfOk result (λ answer. answer ≡ le (game_of arena.now a) (game_of arena.now b)) }
+    ensures right { AreRight arena.now answers.new }
+{
+    if arena.is_light(a) && arena.is_light(b) {
+        return compared(arena, answers, a, b);
+    }
+    if let Some(answer) = answers.recall(a, b) {
+        return Ok(answer);
+    }
+    let answer = compared(arena, answers, a, b)?;
+    answers.remember(a, b, answer)?;
+    Ok(answer)
+}
+
+/// Whether the game a is no better for the player than b; with `left` the player is Left, and else Right. The only error is want
+/// of memory. (Siegel, Combinatorial Game Theory (2013), I.1 and II.1.)
+#[cycle(found)]
+pub fn at_most(
+    arena: &Arena,
+    answers: &mut OrderMemo,
+    left: bool,
+    a: u32,
+    b: u32,
+) -> Result<bool, AllocError>
+    requires a { IsIndex arena.now a }
+    requires b { IsIndex arena.now b }
+    requires right { AreRight arena.now answers.old }
+    ensures order { IfOk result (λ answer. answer ≡ at_most_for left (game_of arena.now a) (game_of arena.now b)) }
+    ensures right { AreRight arena.now answers.new }
+{
+    if a == b {
+        return Ok(true);
+    }
+    if let Some(answer) = decided_for(left, arena.keys(a), arena.keys(b)) {
+        return Ok(answer);
+    }
+    if left {
+        found(arena, answers, a, b)
+    } else {
+        found(arena, answers, b, a)
+    }
+}

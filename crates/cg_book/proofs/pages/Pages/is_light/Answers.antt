@@ -1,9 +1,0 @@
-use Rattle.std.proofs.Common.{arith}
-use Rattle.cg_book.proofs.Paging.{counted}
-use Rattle.cg_book.proofs.pages.Pages.is_light.Goals as goal
-
-pub index-requires : goal.index-requires
-index-requires c =
-    let n = counted c.self.inside c.args.self.now c.self.invariant c.self.view_is in
-    let r = c.requires in
-    omega arith

@@ -1,7 +1,0 @@
-use Rattle.std.proofs.Common.{◌≡◌, take}
-use Rattle.std.specs.Prelude.{None}
-use Rattle.cg_book.specs.Verdict.{noted}
-use Rattle.cg_book.proofs.verdicts.find.Given as goal
-
-abbrev pub invariant-loop-entry : goal.invariant-loop-entry
-invariant-loop-entry l = noted (take l.entry-index l.entries) l.page ≡ None

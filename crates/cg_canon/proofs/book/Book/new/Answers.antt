@@ -1,5 +1,0 @@
-use Rattle.cg_canon.proofs.BookHandles.{apart_none}
-use Rattle.cg_canon.proofs.book.Book.new.Goals as goal
-
-pub returns-clause-apart : goal.returns-clause-apart
-returns-clause-apart c = apart_none _ _ _ c.new-3.ensures.items c.new-4.ensures

@@ -1,0 +1,20 @@
+use Rattle.std.proofs.Common.{◌+◌, ◌*◌, length}
+use Rattle.cg_form.specs.Size.{list_size, size}
+use Rattle.cg_nodes.specs.Games.{game_at, listed}
+use Rattle.cg_canon.proofs.Turning.{Indexed}
+use Rattle.cg_canon.proofs.indexing.+index.Given as goal
+
+abbrev pub decreases-new_index : goal.decreases-new_index
+decreases-new_index g l = 3 * size (game_at (g.S.CellStore.state l.store.now) l.handle)
+
+abbrev pub decreases-index_of_handle : goal.decreases-index_of_handle
+decreases-index_of_handle g l = 3 * size (game_at (g.S.CellStore.state l.store.now) l.handle) + 1
+
+abbrev pub decreases-indexes_of_list : goal.decreases-indexes_of_list
+decreases-indexes_of_list g l = 3 * list_size (listed (g.S.CellStore.state l.store.now) l.list) + 2
+
+abbrev pub invariant-indexes_of_list-loop-top : goal.invariant-indexes_of_list-loop-top
+invariant-indexes_of_list-loop-top g l = Indexed (g.S.CellStore.state l.initial.store) (g.S.CellStore.state l.store) l.initial.interner l.interner l.fn.list l.rest l.indexes.items
+
+abbrev pub decreases-indexes_of_list-loop-top : goal.decreases-indexes_of_list-loop-top
+decreases-indexes_of_list-loop-top g l = length (listed (g.S.CellStore.state l.store) l.rest)
