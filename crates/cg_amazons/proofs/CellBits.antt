@@ -211,12 +211,12 @@ twice f g (Some i) = refl
 -- a cell that is reached in two steps
 pub then_cell : (f g : ℕ → Option ℕ) (cell : Option ℕ) (word : ℕ) → IsCell word (option_and_then f (option_and_then g cell))
     → IsCell word (option_and_then (λ i. option_and_then f (g i)) cell)
-then_cell f g cell word is = let P : Option ℕ → Type 0 = IsCell word in subst P (twice f g cell) is
+then_cell f g cell word is = subst (IsCell word) (twice f g cell) is
 
 pub step_is : (columns n : ℕ) (way other : Way) (cell : Option ℕ) (word : ℕ) → way ≡ other
     → IsCell word (option_and_then (step columns n other) cell) → IsCell word (option_and_then (step columns n way) cell)
 step_is columns n way other cell word e is =
-    let P : Way → Type 0 = λ w. IsCell word (option_and_then (step columns n w) cell) in subst P (sym e) is
+    rw e is
 
 pub up_below : (columns n : ℕ) (cell : Option ℕ) → IsBelow n cell → IsBelow n (option_and_then (up columns) cell)
 up_below columns n cell below i e =

@@ -1,5 +1,5 @@
 -- Boards after arrows, by their words.
-use Rattle.std.proofs.Common.{◌≡◌, refl, ℕ, ◌<◌, ◌∷◌, [], true, length, ap, sym, subst}
+use Rattle.std.proofs.Common.{◌≡◌, refl, ℕ, ◌<◌, ◌∷◌, [], true, length, ap}
 use Rattle.std.specs.Cmp.Lexicographic.{bytes_decides}
 use Rattle.cg_moves.specs.declared.planes.Planes.{Planes}
 use Rattle.cg_moves.specs.declared.player.Player.TheVariants.{Left, Right}
@@ -18,9 +18,6 @@ pub shot_by : (rows columns : ℕ) (p : Grid) (w v : Planes) (i : ℕ) → rows 
     → amazons.has p ≡ true → i < length p.cells → IsGrid p → ArePlanes p.symbols p.cells w → IsWithIndex w v i 3
     → SetBy rows columns p.symbols v p i blocked
 shot_by rows columns p w v i high wide has inside g are put =
-    let R : ℕ → Type 0 = λ n. SetBy n columns p.symbols v p i blocked in
-    let C : ℕ → Type 0 = λ n. SetBy p.rows n p.symbols v p i blocked in
-    let P : ℕ → Type 0 = λ n. IsWithIndex w v i n in
-    subst R (sym high) (subst C (sym wide)
+    rw high (rw wide
     (set_by p.rows p.columns p.symbols w v p i blocked (grid-is p p.symbols w refl g are)
-    (is_grid-by p p.symbols w refl g are) inside (has-blocked p has) (subst P (sym (blocked-index p has)) put)))
+    (is_grid-by p p.symbols w refl g are) inside (has-blocked p has) (rw (blocked-index p has) put)))

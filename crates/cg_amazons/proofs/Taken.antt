@@ -89,11 +89,10 @@ takes_if p old new word Kind i one t = record {
 pub takes_one : (p b : Grid) (old new : List Grid) (x : List ℕ) → b ≡ with_cells p x → new ≡ old ++ (b ∷ [])
     → Takes p old new (λ z. z ≡ x)
 takes_one p b old new x made put =
-    let P : List Grid → Type 0 = λ z. Takes p old z (λ z. z ≡ x) in
-    subst P (sym (put ∙ ap (λ (q : Grid). old ++ (q ∷ [])) made)) (record {
+    rw (put ∙ ap (λ (q : Grid). old ++ (q ∷ [])) made) (record {
       like = λ all. all_from (IsLike p) (old ++ (with_cells p x ∷ [])) (λ q m. elim (in-append q old (with_cells p x ∷ []) m) [
         | inl n ↦ in_all (IsLike p) q old all n
-        | inr n ↦ (let Q : Grid → Type 0 = λ r. IsLike p r in subst Q (sym (in_one q (with_cells p x) n)) refl)
+        | inr n ↦ (rw (in_one q (with_cells p x) n) refl)
       ]);
       kept = λ z m. carry z (cells_of old ++ (x ∷ [])) (cells_of (old ++ (with_cells p x ∷ []))) (sym cells) (in-append_left z (cells_of old) (x ∷ []) m);
       taken = λ z k. carry z (cells_of old ++ (x ∷ [])) (cells_of (old ++ (with_cells p x ∷ []))) (sym cells) (in-append_right z (cells_of old) (x ∷ []) (inl k));
@@ -155,22 +154,21 @@ takes_next p old now new word Kind i t s = record {
 
     taken : (z : List ℕ) → AnyMarked word Kind (i + 1) z → In z (cells_of new)
     taken z k = elim (eqb_tells k.place i) [
-      | inl h ↦ s.taken z (let P : ℕ → Type 0 = λ n. IfMarked word Kind n z in subst P h.1 k.is)
+      | inl h ↦ s.taken z (rw (← h.1) k.is)
       | inr h ↦ s.kept z (t.taken z (record { place = k.place; below = (let l = k.below in let n = h.1 in omega arith); is = k.is }))
     ]
 
 pub takes_all : (p : Grid) (old new : List Grid) (word : ℕ) (Kind : ℕ → List ℕ → Type 0) (i n : ℕ) → i ≡ n
     → Takes p old new (AnyMarked word Kind i) → Takes p old new (AnyMarked word Kind n)
 takes_all p old new word Kind i n e t =
-    let P : ℕ → Type 0 = λ k. Takes p old new (AnyMarked word Kind k) in subst P e t
+    rw (← e) t
 
 -- ---- boards of the game
 
 has-symbol : (p : Grid) (q : ℕ) → amazons.has p ≡ true → Contains (empty ∷ queen Left ∷ queen Right ∷ blocked ∷ []) q
     → Contains p.symbols q
 has-symbol p q has is =
-    let P : List ℕ → Type 0 = λ z. Contains z q in
-    subst P (sym ((bytes_decides p.symbols (empty ∷ queen Left ∷ queen Right ∷ blocked ∷ [])).0 has)) is
+    rw ((bytes_decides p.symbols (empty ∷ queen Left ∷ queen Right ∷ blocked ∷ [])).0 has) is
 
 pub has-empty : (p : Grid) → amazons.has p ≡ true → Contains p.symbols empty
 has-empty p has = has-symbol p empty has (0, omega arith, refl)
@@ -213,5 +211,4 @@ listed player p boards some t =
 pub all_like : (player : Player) (p : Grid) (boards slice : List Grid) → slice ≡ boards
     → Takes p [] boards (IsMoveBelow p.columns (queen player) p.cells (length p.cells)) → All (IsLike p) slice
 all_like player p boards slice same t =
-    let P : List Grid → Type 0 = λ z. All (IsLike p) z in
-    subst P (sym same) (t.like (λ k d below. absurd (omega arith)))
+    rw same (t.like (λ k d below. absurd (omega arith)))

@@ -1,29 +1,23 @@
-use Rattle.std.proofs.Common.{◌≡◌, ◌*◌, subst, sym, true, ◌∙◌, length}
-use Rattle.std.specs.Prelude.{slice_set}
-use Rattle.cg_moves.specs.Grid.{Grid}
-use Rattle.cg_amazons.specs.Amazons.{amazons, blocked, with_queen}
+use Rattle.std.proofs.Common.{◌*◌, ◌∙◌}
+use Rattle.cg_amazons.specs.Amazons.{with_queen}
 use Rattle.cg_amazons.specs.AmazonsMoves.{queen_long}
-use Rattle.cg_amazons.specs.Taking.{AnyMarked, Takes}
 use Rattle.cg_amazons.proofs.QueenMoves.{free_moved, shots_taken}
 use Rattle.cg_amazons.proofs.Taken.{takes_like}
 use Rattle.cg_amazons.proofs.queens.move_and_shoot.Goals as goal
 
 pub shoot-requires : goal.shoot-requires
 shoot-requires c =
-    let P : Grid → Type 0 = λ q. amazons.has q ≡ true in
-    subst P (sym c.in_ok-moved.ensures) c.requires.words.has
+    rw c.in_ok-moved.ensures c.requires.words.has
 
 pub returns : goal.returns
 returns c =
     let w = c.args.words.now in
     let p = c.args.board.now in
     let after = with_queen p.cells c.args.from c.args.to w.queen in
-    let P : Grid → Type 0 = λ z. Takes z c.args.boards.now.items c.shoot.new.boards.items
-    (AnyMarked c.reached-targets.result (λ place after. after ≡ slice_set z.cells place blocked) (length z.cells)) in
     shots_taken p w.shape.columns after c.with_bit-free.result
     c.reached-targets.result (w.shape.rows * w.shape.columns) c.args.to c.args.boards.now.items c.shoot.new.boards.items
     (queen_long p.cells c.args.from c.args.to w.queen ∙ c.requires.words.words.size)
     (free_moved p.cells w.free c.with_bit-left.result c.with_bit-free.result c.args.from c.args.to w.queen c.requires.from
     c.requires.to c.requires.words.words.other c.requires.words.words.free c.with_bit-left.ensures c.with_bit-free.ensures)
     c.reached-targets.ensures
-    (takes_like p after c.args.boards.now.items c.shoot.new.boards.items _ (subst P c.in_ok-moved.ensures c.in_ok-shoot.ensures))
+    (takes_like p after c.args.boards.now.items c.shoot.new.boards.items _ (rw c.in_ok-moved.ensures at c.in_ok-shoot.ensures))
