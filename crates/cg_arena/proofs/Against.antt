@@ -40,11 +40,6 @@ swapped : (left : Bool) (ls rs : List ℕ) → cond left rs ls ≡ cond (not lef
 swapped true ls rs = refl
 swapped false ls rs = refl
 
-pub own_indexes : (gs : List Game) (ls rs own : List ℕ) (left : Bool) → AreIndexes gs ls → AreIndexes gs rs → own ≡ cond left ls rs
-    → AreIndexes gs own
-own_indexes gs ls rs own true l r e = rw e l
-own_indexes gs ls rs own false l r e = rw e r
-
 -- the options of a game on one side, as they were read
 pub record OneSide (gs : List Game) (h : Game) (hs : List Game) (own : List ℕ) : Type 0 where
   pub indexes : AreIndexes gs own

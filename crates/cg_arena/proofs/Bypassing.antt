@@ -188,9 +188,6 @@ pub record Bypassed (gs : List Game) (left : Bool) (g : Game) (options os us : L
   pub grown : Grown left g (games_of gs os) (games_of gs us)
   pub covered : AllCovered left g (games_of gs us) (games_of gs options)
 
-pub bypassed_none : (gs : List Game) (left : Bool) (g : Game) (os : List ℕ) → Bypassed gs left g [] os os
-bypassed_none gs left g os = record { grown = grown_same left g (games_of gs os); covered = record { each = λ c m. absurd m } }
-
 pub bypassed_more : (gs : List Game) (left : Bool) (g : Game) (options os us ws : List ℕ) (i k : ℕ)
     → Bypassed gs left g (take i options) os us → i < length options → k ≡ get_or options i 0
     → Grown left g (games_of gs us) (games_of gs ws) → Covered left g (games_of gs ws) (game_of gs k)

@@ -148,10 +148,6 @@ undominated_step s all undominated x b =
 
 -- ---- the list with one game more
 
-pub with_last_not : (s : Bool) (gs : List Game) (x : Game) (r : Bool) → r ≡ no_one (at_most s x) gs → r ≡ false
-    → gs ≡ with_last s gs x
-with_last_not s gs x r e f = sym (ap (λ z. cond z (keep (λ c. not (at_most s c x)) gs ++ x ∷ []) gs) (sym e ∙ f))
-
 pub with_last_put : (s : Bool) (gs : List Game) (x : Game) (r : Bool) → r ≡ no_one (at_most s x) gs → r ≡ true
     → keep (λ c. not (at_most s c x)) gs ++ x ∷ [] ≡ with_last s gs x
 with_last_put s gs x r e t = sym (ap (λ z. cond z (keep (λ c. not (at_most s c x)) gs ++ x ∷ []) gs) (sym e ∙ t))

@@ -1,5 +1,5 @@
 -- Where an answer leads: the option that stands in its place, beside the position that stays.
-use Rattle.std.proofs.Common.{◌≡◌, refl, ap, sym, ◌∙◌, ℕ, zero, suc, ◌<◌, ◌^◌, arith, Bool, true, false, Some, None, option_map, slice_get, get_or, List, [], ◌∷◌, length}
+use Rattle.std.proofs.Common.{◌≡◌, refl, ap, sym, ◌∙◌, ℕ, zero, suc, ◌<◌, ◌^◌, arith, Bool, true, false, Some, option_map, slice_get, get_or, List, [], ◌∷◌, length}
 use Rattle.std.proofs.lemmas.List.{length-map}
 use Rattle.cg_form.specs.Game.{Game, lefts, rights}
 use Rattle.cg_form.specs.Side.{near}
@@ -8,7 +8,7 @@ use Rattle.cg_cert.specs.declared.stage.Stage.{Stage}
 use Rattle.cg_cert.specs.Certificate.{answer_in}
 use Rattle.cg_cert.specs.Pairs.{Pair, led, pair}
 use Rattle.cg_cert.specs.Positions.{ArePositions, ArePositionsOf, IsPosition, IsStage, kept, moved, position_at, positions_at, stage_at, staged}
-use Rattle.cg_cert.specs.Reads.{IsPlace, LeadsNowhere, LeadsTo}
+use Rattle.cg_cert.specs.Reads.{IsPlace, LeadsTo}
 
 -- ---- on pairs of games
 
@@ -44,10 +44,6 @@ module _ (arena : List Game) (m : Stage) where
   own_is true = refl
   own_is false = refl
 
-  pub moved_stands : (b : Bool) → IsStage arena m → IsPosition arena (moved b m)
-  moved_stands true i = i.0
-  moved_stands false i = i.1
-
   staged_stands : (b : Bool) (p : Position) → IsStage arena m → IsPosition arena p → IsStage arena (staged b (kept b m) p)
   staged_stands true p i j = (j, i.1)
   staged_stands false p i j = (i.0, j)
@@ -75,9 +71,6 @@ module _ (arena : List Game) (b : Bool) (m : Stage) (all : List Position) (count
 
   below_limit : (i : ℕ) (k : Pair) → led (answer_in b i) (stage_at arena m) ≡ Some k → i < 2 ^ 64
   below_limit i k e = let l = below_count i k e in let c = o.small in omega arith
-
-  pub leads_nowhere : (digits : List ℕ) → IsPlace count digits None → LeadsNowhere (stage_at arena m) b digits
-  leads_nowhere digits n = record { small = below_limit; none = λ i k e. n i (below_count i k e) }
 
   pub leads_to : (digits : List ℕ) (i : ℕ) (p q : Position) (r : Stage) → IsPlace count digits (Some i)
       → p ≡ get_or all i p → q ≡ kept b m → r ≡ staged b q p

@@ -41,10 +41,6 @@ pub wrote_nothing : (limit : ℕ) (old new piece : List ℕ) → new ≡ old →
     → Wrote (Ok tt) limit old new piece
 wrote_nothing limit old new piece e n l = (e ∙ sym (append-nil old) ∙ ap (λ z. old ++ z) (sym n), rw e l)
 
-pub wrote_memory : (e : CertFault) (limit : ℕ) (old new piece : List ℕ) → e ≡ Memory → Wrote (Err e) limit old new piece
-wrote_memory Memory limit old new piece e = tt
-wrote_memory Long limit old new piece e = absurd (cc)
-
 -- the same limit, text and piece
 pub wrote_from : (r : Result (Unit {0}) CertFault) (limit bound : ℕ) (old word new p q : List ℕ) → limit ≡ bound
     → old ≡ word → p ≡ q → Wrote r limit old new p → Wrote r bound word new q
@@ -152,9 +148,3 @@ module _ (arena : List Game) (m : Pair) (limit : ℕ) (before now : List ℕ) wh
         → Wrote (Err f) limit before new (certificate_text (first_proof m))
     putting_fault f next new w = onward_by (Err f) new
         (wrote_fault f limit now next new reply (left_text (stages_at arena others)) w)
-
-  pub putting_end : (new : List ℕ) (rest : List Stage) (r : Result (Unit {0}) CertFault)
-      → Putting arena m limit before now rest → length rest ≡ 0 → Wrote r limit now new (codes ")")
-      → Wrote r limit before new (certificate_text (first_proof m))
-  putting_end new [] r h e w = h.onward r new w
-  putting_end new (p ∷ ps) r h e w = absurd (omega arith)

@@ -46,10 +46,6 @@ can-negative_form g =
     let e = can-equal g in
     can-same (minus (can g)) (minus g) (negative-le g (can g) e.1, negative-le (can g) g e.0)
 
-pub can-signed_form : (subtracted : Bool) (g : Game) → can (signed subtracted (can g)) ≡ can (signed subtracted g)
-can-signed_form true g = can-negative_form g
-can-signed_form false g = can-fixed (can g) (can-canonical g)
-
 -- one game for the other in each of n copies
 copies_le : (n : ℕ) (g h : Game) → Equal g h → Equal (many n g) (many n h)
 unfolding many

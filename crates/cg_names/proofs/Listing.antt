@@ -5,7 +5,7 @@ use Rattle.cg_form.specs.Game.{Game}
 use Rattle.cg_cells.specs.Store.{Spends, State}
 use Rattle.cg_nodes.specs.Games.{AreGames, IsGame, IsList, game_at, games_at, listed}
 use Rattle.cg_nodes.specs.Meant.{Meant}
-use Rattle.cg_nodes.proofs.Later.{game_later, nothing_spent, spends_then}
+use Rattle.cg_nodes.proofs.Later.{game_later, spends_then}
 use Rattle.cg_canon.proofs.HandleLists.{game_of_item, games_take_all, games_take_suc}
 
 -- the first so many of the handles stand in front of what is left of the list
@@ -13,10 +13,6 @@ pub record ListedTo {R : Type 0} (s t : State Meant R) (list left : Option ℕ) 
   pub spends : Spends 0 s t
   pub rest : IsList t left
   pub front : listed s list ≡ games_at s (take i options) ++ listed t left
-
-pub listed_none : {R : Type 0} (s : State Meant R) (list : Option ℕ) (options : List ℕ) → IsList s list
-    → ListedTo s s list list options 0
-listed_none s list options l = record { spends = nothing_spent s; rest = l; front = refl }
 
 -- a game of the slice, at once and later
 pub item_known : {R : Type 0} (s : State Meant R) (options : List ℕ) (i k : ℕ) → AreGames s options
@@ -59,11 +55,6 @@ listed_breaks s t list left options i k a l e w n f =
     games_split s options i k l ∙ ap (λ (z : ℕ). games_at s (take i options) ++ (game_at s z ∷ rest)) (sym e) in
     n rest (append_cancel_left (games_at s (take i options)) (listed t left) (game_at s k ∷ rest)
     (sym w.front ∙ f ∙ split) ∙ ap (λ z. z ∷ rest) (sym same))
-
-pub listed_all : {R : Type 0} (s t : State Meant R) (list left : Option ℕ) (options : List ℕ) (i : ℕ)
-    → length options ≤ i → ListedTo s t list left options i → listed t left ≡ [] → listed s list ≡ games_at s options
-listed_all s t list left options i l w e = w.front ∙ ap (λ z. z ++ listed t left) (games_take_all s options i l)
-    ∙ ap (λ z. games_at s options ++ z) e ∙ append-nil (games_at s options)
 
 some_more : (g : Game) (gs : List Game) → ¬ (g ∷ gs ≡ [])
 some_more g gs e = cc

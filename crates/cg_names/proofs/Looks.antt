@@ -11,7 +11,6 @@ use Rattle.cg_nodes.specs.Games.{IsNode}
 use Rattle.cg_dyadic.specs.Exact.{number_negative}
 use Rattle.cg_names.specs.Named.{mirrored_if, nimber_form, pair_form, tiny_form, tiny_part, ups_of, zero_form, zero_number}
 use Rattle.cg_names.specs.Readings.{IsArrows}
-use Rattle.cg_names.specs.declared.look_arrows.ArrowsFound.{ArrowsFound}
 use Rattle.cg_names.specs.Shapes.{leading, named_form_of}
 use Rattle.cg_names.specs.declared.named_form.NamedForm.{NamedForm}
 use Rattle.cg_names.specs.declared.named_form.NamedForm.TheVariants.{Star, Arrows}
@@ -34,12 +33,6 @@ pair-lefts ls rs x y e = mirrored-own false ls rs (number x ∷ []) (number y �
 
 pub pair-rights : (ls rs : List Game) (x y : Number) → node ls rs ≡ pair_form x y → rs ≡ number y ∷ []
 pair-rights ls rs x y e = mirrored-others false ls rs (number x ∷ []) (number y ∷ []) e
-
--- the lists of one number each
-pub pair-from : (ls rs : List Game) (g h : Game) (x y : Number) → ls ≡ g ∷ [] → rs ≡ h ∷ [] → g ≡ number x → h ≡ number y
-    → node ls rs ≡ pair_form x y
-pair-from ls rs g h x y e f p q =
-    ap (λ z. node z rs) (e ∙ ap (λ z. z ∷ []) p) ∙ ap (λ z. node (number x ∷ []) z) (f ∙ ap (λ z. z ∷ []) q)
 
 -- ---- ups
 
@@ -113,18 +106,6 @@ tiny-own miny x ls rs e = mirrored-own miny ls rs (zero_form ∷ []) (tiny_part 
 pub tiny-other : (miny : Bool) (x : Number) (ls rs : List Game) → mirrored_if miny ls rs ≡ tiny_form miny x
     → rs ≡ tiny_part miny x ∷ []
 tiny-other miny x ls rs e = mirrored-others miny ls rs (zero_form ∷ []) (tiny_part miny x ∷ []) e
-
-pub tiny-found : (miny : Bool) (x l r size rest : Number) → size ≡ cond miny l (number_negative r) → rest ≡ cond miny r l
-    → x ≡ zero_number → rest ≡ zero_number
-    → mirrored_if miny (number x ∷ []) (pair_form l r ∷ []) ≡ tiny_form miny size
-tiny-found false x l r size rest s t e f =
-    ap (λ z. node (number z ∷ []) (pair_form l r ∷ [])) e
-    ∙ ap (λ z. node (zero_form ∷ []) (pair_form z r ∷ [])) (sym t ∙ f)
-    ∙ ap (λ z. node (zero_form ∷ []) (pair_form zero_number z ∷ [])) (sym (double_negative r) ∙ sym (ap number_negative s))
-tiny-found true x l r size rest s t e f =
-    ap (λ z. node (pair_form l r ∷ []) (number z ∷ [])) e
-    ∙ ap (λ z. node (pair_form l z ∷ []) (zero_form ∷ [])) (sym t ∙ f)
-    ∙ ap (λ z. node (pair_form z zero_number ∷ []) (zero_form ∷ [])) (sym s)
 
 -- what a game that is tiny of z, or miny, is made of
 pub record IsTinyOf (x size rest z : Number) : Type 0 where

@@ -1,18 +1,16 @@
 -- The names of a list in a store, one game after another.
 use Rattle.std.proofs.Common.{◌≡◌, refl, ap, sym, ◌∙◌, ℕ, ◌+◌, ◌≤◌, arith, Option, Some, None, List, [], ◌∷◌, ◌++◌, append_assoc, Result, Ok, Err, OnOk}
 use Rattle.std.specs.Prelude.{codes, is_ok, if◌then◌else◌}
-use Rattle.cg_dyadic.specs.Number.{InRange, Number}
-use Rattle.cg_form.specs.Game.{Game, node, number, of_list}
+use Rattle.cg_form.specs.Game.{Game, node, of_list}
 use Rattle.cg_form.specs.Size.{list_size, size}
 use Rattle.cg_cells.specs.Store.{Spends, State}
 use Rattle.cg_nodes.specs.Games.{IsList, game_at, listed}
 use Rattle.cg_nodes.specs.Meant.{Meant}
-use Rattle.cg_nodes.proofs.Later.{is_list_later, listed_later, nothing_spent, spends_then}
+use Rattle.cg_nodes.proofs.Later.{is_list_later, listed_later, spends_then}
 use Rattle.cg_names.specs.Name.{braces_name}
 use Rattle.cg_names.specs.Reading.{AreNamesInRange, IsNameInRange, IsNamedInRange}
 use Rattle.cg_names.specs.Shapes.{named_form_of}
-use Rattle.cg_names.specs.Spelled.{further_names, name_of, names_of, named_or}
-use Rattle.cg_names.specs.NamedForms.{named_text}
+use Rattle.cg_names.specs.Spelled.{further_names, name_of}
 use Rattle.cg_names.specs.declared.named_form.NamedForm.{NamedForm}
 use Rattle.cg_names.proofs.NameRule.{found_fits, no_named, one_named}
 
@@ -21,11 +19,6 @@ use Rattle.cg_names.proofs.NameRule.{found_fits, no_named, one_named}
 pub more_in_range : (gs : List Game) (g : Game) (hs : List Game) → gs ≡ g ∷ hs → IsNameInRange g → AreNamesInRange (of_list hs)
     → AreNamesInRange (of_list gs)
 more_in_range gs g hs e q r = rw e (q, r)
-
-pub number-in_range : {A E : Type 0} (r : Result A E) (g : Game) (x : Number) → g ≡ number x → InRange x
-    → OnOk r (IsNameInRange g)
-number-in_range (Err e) g x is q = tt
-number-in_range (Ok y) g x is q = rw is q
 
 -- of a game that has a named form, and of one that has none
 pub signed-in_range : {A E : Type 0} (r : Result A E) (g : Game) (ls rs : List Game) (o : Option NamedForm) (s : NamedForm)
@@ -54,11 +47,6 @@ pub record Written {R : Type 0} (s t : State Meant R) (before now : List ℕ) (a
   pub smaller : list_size (listed t left) ≤ list_size (listed s all)
   pub in_range : AreNamesInRange (of_list (listed t left)) → AreNamesInRange (of_list (listed s all))
 
--- nothing is written yet
-pub written_none : {R : Type 0} (s : State Meant R) (text : List ℕ) (list : Option ℕ) → IsList s list → Written s s
-    text text list list
-written_none s text list l = record { is_list = l; spends = nothing_spent s; names = refl; smaller = omega arith; in_range = λ r. r }
-
 -- a comma and the name of the next game
 pub written_more : {R : Type 0} (s t u v : State Meant R) (before now comma more : List ℕ) (all left rest : Option ℕ)
     (first : ℕ)
@@ -83,12 +71,6 @@ written_more s t u v before now comma more all left rest first w a l e c b m q =
       in_range = λ r. w.in_range (more_in_range (listed t left) g (listed v rest) (e ∙ ap (λ z. g ∷ z) (sym later)) q r);
     }
 
--- all are written
-pub written_all : {R : Type 0} (s t : State Meant R) (before now : List ℕ) (all left : Option ℕ)
-    → Written s t before now all left → listed t left ≡ [] → AreNamesInRange (of_list (listed s all))
-written_all s t before now all left w e =
-    w.in_range (rw e tt)
-
 -- braces round the names of two lists, part by part
 pub braces-spelled : (left right : List ℕ) (t0 t1 t2 t3 t4 : List ℕ) → t1 ≡ t0 ++ codes "{" → t2 ≡ t1 ++ left
     → t3 ≡ t2 ++ codes "|" → t4 ≡ t3 ++ right → t4 ++ codes "}" ≡ t0 ++ braces_name left right
@@ -99,27 +81,6 @@ braces-spelled left right t0 t1 t2 t3 t4 a b c d =
     ∙ append_assoc ((t0 ++ codes "{") ++ left) (codes "|") (right ++ codes "}")
     ∙ append_assoc (t0 ++ codes "{") left (codes "|" ++ (right ++ codes "}"))
     ∙ append_assoc t0 (codes "{") (left ++ (codes "|" ++ (right ++ codes "}")))
-
--- the name of a game that has no named form
-pub braced-name : {A E : Type 0} (r : Result A E) (g : Game) (ls rs : List Game) (o : Option NamedForm)
-    (before now : List ℕ) → g ≡ node ls rs → o ≡ named_form_of g → o ≡ None
-    → OnOk r (now ≡ before ++ braces_name (names_of (of_list ls)) (names_of (of_list rs)))
-    → OnOk r (now ≡ before ++ name_of g)
-braced-name (Err e) g ls rs o before now p q n w = tt
-braced-name (Ok x) g ls rs o before now p q n w =
-    w ∙ ap (λ z. before ++ named_or z (braces_name (names_of (of_list ls)) (names_of (of_list rs))))
-    (sym n ∙ q ∙ ap named_form_of p)
-    ∙ ap (λ z. before ++ name_of z) (sym p)
-
--- and of one that has a named form
-pub signed-name : {A E : Type 0} (r : Result A E) (g : Game) (ls rs : List Game) (o : Option NamedForm) (s : NamedForm)
-    (before now : List ℕ) → g ≡ node ls rs → o ≡ named_form_of g → o ≡ Some s
-    → OnOk r (now ≡ before ++ named_text s) → OnOk r (now ≡ before ++ name_of g)
-signed-name (Err e) g ls rs o s before now p q n w = tt
-signed-name (Ok x) g ls rs o s before now p q n w =
-    w ∙ ap (λ z. before ++ named_or z (braces_name (names_of (of_list ls)) (names_of (of_list rs))))
-    (sym n ∙ q ∙ ap named_form_of p)
-    ∙ ap (λ z. before ++ name_of z) (sym p)
 
 -- what was written where the call succeeds
 pub on_ok_written : {A E : Type 0} (r : Result A E) (now old grown whole : List ℕ) → now ≡

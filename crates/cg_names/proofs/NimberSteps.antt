@@ -3,11 +3,10 @@ use Rattle.std.proofs.Common.{◌≡◌, refl, ap, sym, ◌∙◌, subst, ℕ, s
 use Rattle.cg_form.specs.Canonical.{Canonical}
 use Rattle.cg_form.specs.Game.{Game, node}
 use Rattle.cg_cells.specs.Store.{State}
-use Rattle.cg_nodes.specs.Games.{StandFor, StandsFor, game_at, games_at}
+use Rattle.cg_nodes.specs.Games.{StandFor, games_at}
 use Rattle.cg_nodes.specs.Meant.{Meant}
-use Rattle.cg_nodes.proofs.Later.{stand_later, stands_game, stands_is_game}
+use Rattle.cg_nodes.proofs.Later.{stand_later}
 use Rattle.cg_canon.specs.declared.fault.ValueFault.{ValueFault}
-use Rattle.cg_canon.specs.declared.fault.ValueFault.TheVariants.{Memory}
 use Rattle.cg_canon.specs.Made.{Gives}
 use Rattle.cg_canon.specs.declared.rest.WorkRest.{WorkRest}
 use Rattle.cg_canon.proofs.HandleLists.{stand_more}
@@ -16,7 +15,7 @@ use Rattle.cg_names.specs.Named.{mirrored_if, nimber_form, nimbers_below, zero_f
 use Rattle.cg_nimbers.proofs.CanonicalNimbers.{nimber-canonical, nimbers_below-front}
 use Rattle.cg_nimbers.proofs.NimberLists.{nimbers_below-next}
 use Rattle.cg_names.proofs.NamedFormLists.{nimber_next}
-use Rattle.cg_names.proofs.Steps.{given_after, given_memory, given_stopped}
+use Rattle.cg_names.proofs.Steps.{given_after, given_stopped}
 
 -- the handles of 0, *1, .., *(i - 1), and that of *i, which was made last
 pub record NimbersMade {R : Type 0} (w v : State Meant (WorkRest R)) (lesser : List ℕ) (last i : ℕ) : Type 0 where
@@ -77,12 +76,6 @@ module _ {R : Type 0} (w v : State Meant (WorkRest R)) where
         (nimber_form count) r q fault e f one_more
         (front ∙ sym (append_assoc (nimbers_below (suc i)) (nimber_form (suc i) ∷ []) back)
         ∙ ap (λ z. z ++ back) (sym (nimbers_below-next (suc i))))
-
-  -- no memory for the options
-  pub nimbers_memory : (lesser : List ℕ) (last i count : ℕ) (q : Result ℕ ValueFault) → NimbersMade w v lesser last i
-      → q ≡ Err Memory → Gives w v (map plain_item (nimbers_below (suc count))) (nimber_form count) q
-  nimbers_memory lesser last i count q n e =
-      given_memory w v (map plain_item (nimbers_below (suc count))) (nimber_form count) q e n.given.made.keeps n.given.more
 
   pub nimbers_all : (lesser : List ℕ) (last i count : ℕ) → NimbersMade w v lesser last i → i ≡ count
       → Gives w v (map plain_item (nimbers_below (suc count))) (nimber_form count) (Ok last)

@@ -44,10 +44,6 @@ front_own : (down : Bool) (x : Number) (ls rs : List Game) → AllInRange (mirro
 front_own false x ls rs a = a.0.0
 front_own true x ls rs a = a.1.0
 
-other_front : (down : Bool) (h : Game) (ls rs : List Game) → AllInRange (mirrored_if down ls (h ∷ rs)) → AllInRange h
-other_front false h ls rs a = a.1.0
-other_front true h ls rs a = a.0.0
-
 turned_range : (x : Number) → InRange (number_negative x) → InRange x
 turned_range x r =
     let n = negative-of x in

@@ -10,14 +10,13 @@ use Rattle.cg_nodes.specs.Games.{StandsFor}
 use Rattle.cg_nodes.specs.Meant.{Meant}
 use Rattle.cg_form.specs.Positions.{positions_of}
 use Rattle.cg_canon.specs.declared.fault.ValueFault.{ValueFault}
-use Rattle.cg_canon.specs.declared.fault.ValueFault.TheVariants.{Memory, Positions}
+use Rattle.cg_canon.specs.declared.fault.ValueFault.TheVariants.{Positions}
 use Rattle.cg_canon.specs.Items.{IsStopped, Item, too_many}
 use Rattle.cg_canon.specs.Made.{Gives, ItemsMade}
 use Rattle.cg_canon.specs.declared.rest.WorkRest.{WorkRest}
-use Rattle.cg_canon.specs.Works.{Keeps}
 use Rattle.cg_canon.proofs.ItemLaws.{stopped-one}
 use Rattle.cg_canon.proofs.Keeping.{keeps_all}
-use Rattle.cg_canon.proofs.MadeSteps.{made_after, made_as, made_memory, stopped}
+use Rattle.cg_canon.proofs.MadeSteps.{made_after, made_as, stopped}
 use Rattle.cg_names.specs.Lists.{form_items, plain_item}
 use Rattle.cg_names.specs.Named.{mirrored_if}
 
@@ -55,10 +54,6 @@ module _ {R : Type 0} (s t : State Meant (WorkRest R)) where
       → ItemsMade s t items q → s.spare ≤ t.spare → Gives s t items f q
   given_refused items f q fault e m l =
       record { game = rw e tt; made = m; more = l }
-
-  pub given_memory : (items : List Item) (f : Game) (q : Result ℕ ValueFault) → q ≡ Err Memory → Keeps s t
-      → s.spare ≤ t.spare → Gives s t items f q
-  given_memory items f q e k l = given_refused items f q Memory e (made_memory s t items q e k) l
 
   -- a refusal, where other forms would have followed
   pub given_stopped : (gs back all : List Game) (f g : Game) (r q : Result ℕ ValueFault) (fault : ValueFault)

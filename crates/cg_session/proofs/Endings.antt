@@ -1,16 +1,11 @@
 -- How a session ends.
-use Rattle.std.proofs.Common.{◌≡◌, inl, inr, ℕ, List, Option, None, Some, IfSome, subst}
+use Rattle.std.proofs.Common.{◌≡◌, inl, inr, ℕ, List, Option}
 use Rattle.std.specs.Io.KnownBytes.{Keeps}
 use Rattle.cg_words.proofs.Decided.{accepted_or_not}
 use Rattle.cg_session.specs.declared.status.Status.TheVariants as status
 use Rattle.cg_session.specs.Ends.{Writes}
 
 -- ---- what holds of the text holds of the session's text
-
-pub on_text : (P : List ℕ → Type 0) (told : Option (List ℕ)) (text : List ℕ) → IfSome told (λ all. text ≡ all) → P text
-    → IfSome told P
-on_text P None text same p = tt
-on_text P (Some all) text same p = subst P same p
 
 -- ---- words
 

@@ -1,8 +1,8 @@
 -- The first nimbers, and the items of sums that are nimbers.
-use Rattle.std.proofs.Common.{◌≡◌, inl, inr, refl, ap, sym, ◌∙◌, subst, ℕ, suc, ◌+◌, ◌-◌, ◌<◌, arith, List, [], ◌∷◌, ◌++◌, length, length-append, get_or, Result, Ok, Err}
+use Rattle.std.proofs.Common.{◌≡◌, inl, inr, refl, ap, sym, ◌∙◌, subst, ℕ, suc, ◌+◌, ◌-◌, ◌<◌, arith, List, [], ◌∷◌, ◌++◌, length, length-append, get_or, Result}
 use Rattle.std.proofs.Math.Seq.{get_or-append_seam}
 use Rattle.std.proofs.lemmas.List.{get_or-map, get_or_append_left}
-use Rattle.std.specs.Prelude.{bit_xor, OnOk}
+use Rattle.std.specs.Prelude.{bit_xor}
 use Rattle.cg_canon.proofs.AgainItems.{pass_alone}
 use Rattle.cg_canon.proofs.HandleLists.{stand_more}
 use Rattle.cg_canon.proofs.MadeSteps.{made_as}
@@ -28,7 +28,7 @@ use Rattle.cg_nodes.proofs.Forms.{can-same}
 use Rattle.cg_nodes.proofs.Later.{stand_later, stands_later}
 use Rattle.cg_nodes.proofs.Members.{has_game}
 use Rattle.cg_nodes.specs.CanForms.{can-fixed}
-use Rattle.cg_nodes.specs.Games.{StandFor, StandsFor, game_at, games_at}
+use Rattle.cg_nodes.specs.Games.{StandsFor, game_at, games_at}
 use Rattle.cg_nodes.specs.Meant.{Meant}
 use Rattle.cg_sum.specs.Firsts.{AreFirst, HoldsCosts, HoldsFirst, IsPair, nimber_item}
 use Rattle.cg_sum.specs.declared.firsts.FirstNimbers.{FirstNimbers}
@@ -140,11 +140,6 @@ holds_first_later s t grows m holds = record {
   fewer = holds.fewer;
   costs = holds.costs;
 }
-
--- what holds whatever the result is
-pub ok_anyway : {T : Type 0} (r : Result T ValueFault) (A : Type 0) → A → OnOk r A
-ok_anyway (Ok x) A a = a
-ok_anyway (Err e) A a = tt
 
 -- a cost that is kept: the first try left the work as it was, then the item was made
 pub first_costs : {S R : Type 0} (state : S → State Meant R) (w v x : WorkOf S) (m n : FirstNimbers) (i before after : ℕ)

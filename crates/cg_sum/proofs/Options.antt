@@ -52,22 +52,6 @@ module _ (gs : List Game) (terms : Terms) (games : List Game × List Game) (row 
   first_before : (p : ℕ) → p < row → p * n + column < row * n + column
   first_before p l = let e = before_row p row n column l ready.placed.within_columns in omega (arith, e)
 
-  -- the sums of the options stand in the table
-  pub firsts_within : (ps : List ℕ) → All (λ p. p < row) ps → All (λ p. p * n + column < length table) ps
-  firsts_within ps all k d l =
-      let c = ready.holds.count in
-      let e = first_before _ (all k d l) in
-      omega (arith, c, e)
-
-  pub seconds_within : (qs : List ℕ) → All (λ q. q < column) qs → All (λ q. q * 1 + row * n < length table) qs
-  seconds_within qs all k d l =
-      let c = ready.holds.count in
-      let e = all k d l in
-      omega (arith, c, e)
-
-  pub rows_within : row * n ≤ length table
-  rows_within = let c = ready.holds.count in omega (arith, c)
-
   firsts_stand : (ps : List ℕ) → All (λ p. p < row) ps
       → StandFor gs (indexes table n column ps) (map (λ a. can (sum a h)) (games_of games.0 ps))
   firsts_stand ps all =
@@ -157,13 +141,6 @@ module _ (gs : List Game) (terms : Terms) (games : List Game × List Game) (row 
 
 module _ (gs : List Game) (walk : Walk) (games : List Game) (is : IsWalk gs walk games) (place : ℕ) (within : place < length games)
     (table : List ℕ) (holds : HoldsForms gs (negative_at_place games) place table) where
-  -- the negatives of the options stand in the table
-  pub places_within : (ps : List ℕ) → All (λ p. p < place) ps → All (λ p. p * 1 + 0 < length table) ps
-  places_within ps all k d l =
-      let c = holds.count in
-      let e = all k d l in
-      omega (arith, c, e)
-
   negatives_stand : (ps : List ℕ) → All (λ p. p < place) ps
       → StandFor gs (indexes table 1 0 ps) (map (λ a. can (negative a)) (games_of games ps))
   negatives_stand ps all =

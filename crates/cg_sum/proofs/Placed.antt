@@ -1,11 +1,11 @@
 -- Two positions whose sum is made, at their indexes.
-use Rattle.std.proofs.Common.{◌≡◌, ◌⊎◌, inl, inr, ℕ, ◌+◌, ◌*◌, ap, sym, ◌∙◌, subst, List, Option, Some, get_or, length, true, false}
+use Rattle.std.proofs.Common.{◌≡◌, ◌⊎◌, inl, inr, ℕ, ◌+◌, ◌*◌, ap, sym, ◌∙◌, subst, List, Option, Some, get_or, length, true}
 use Rattle.std.specs.Prelude.{IfSome}
 use Rattle.cg_arena.specs.Arena.{game_of}
 use Rattle.cg_canon.specs.Arena.{Begins, IsAt}
 use Rattle.cg_canon.specs.declared.walk.Position.{Position}
 use Rattle.cg_dyadic.specs.Number.{Number}
-use Rattle.cg_form.specs.Game.{Game, IsNode, number}
+use Rattle.cg_form.specs.Game.{Game, number}
 use Rattle.cg_form.specs.Sum.{sum}
 use Rattle.cg_nodes.specs.Can.{can}
 use Rattle.cg_sum.specs.Progress.{ArePlaced, IsReady, sum_at_place}
@@ -103,9 +103,3 @@ module _ (gs : List Game) (terms : Terms) (games : List Game × List Game) (row 
 
   pub one_second : k.is_number ≡ true → IsNumber g ⊎ IsNumber h
   one_second e = let (x, is) = second_number e in inr (is_number h x (second_is x is))
-
-  pub node_first : f.is_number ≡ false → IsNode g ⊎ IsNode h
-  node_first e = inl (walks.node_of_place gs terms.firsts games.0 placed.firsts row f placed.within_rows isf e)
-
-  pub node_second : k.is_number ≡ false → IsNode g ⊎ IsNode h
-  node_second e = inr (walks.node_of_place gs terms.seconds games.1 placed.seconds column k placed.within_columns isk e)

@@ -130,9 +130,6 @@ charts_more fs cs ds c h k e = rw e (record {
 
 -- ---- the charts of all positions
 
-pub walk_is : (gs : List Game) (w : Walk) (ps : List Game) → IsWalk gs w ps → IsWalk gs w (walked gs w)
-walk_is gs w ps is = rw is.at.1 is
-
 module _ (g : Game) (fs : List Game) (cs : List Chart) (is : fs ≡ positions_of g) (charts : AreCharts fs cs)
     (count : length cs ≡ length fs) where
   -- the last is that of the game

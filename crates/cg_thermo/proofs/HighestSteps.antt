@@ -16,7 +16,7 @@ use Rattle.cg_form.specs.Walls.{greatest, least, walls}
 use Rattle.cg_walls.specs.declared.rise.Rise.{Rise}
 use Rattle.cg_walls.specs.Rises.{IsWall, value_at}
 use Rattle.cg_thermo.specs.declared.chart.Chart.{Chart}
-use Rattle.cg_thermo.specs.Progress.{AreCharts, Charted}
+use Rattle.cg_thermo.specs.Progress.{AreCharts}
 use Rattle.cg_thermo.specs.Smooths.{Smooth}
 use Rattle.cg_thermo.specs.HighestWalls.{IsHighestWall, side_value}
 use Rattle.cg_thermo.proofs.ChartSteps.{chart_there}
@@ -74,15 +74,6 @@ pub all_read : (xs : List ℕ) (i x n : ℕ) → All (λ p. p < n) xs → i < le
 all_read xs i x n all l e = rw e (all i x l)
 
 -- ---- the sides of a chart
-
-pub side-wall : (g : Game) (c : Chart) (right : Bool) → Charted g c → IsWall (if right then c.right else c.left)
-side-wall g c true k = k.draws.right_wall
-side-wall g c false k = k.draws.left_wall
-
-pub side-is : (g : Game) (c : Chart) (right : Bool) (d : Decides) (t : ℕ) → Charted g c
-    → value_at (if right then c.right else c.left) t ≡ side_value d right t g
-side-is g c true d t k = k.draws.right d t
-side-is g c false d t k = k.draws.left d t
 
 -- ---- both sides of a game whose options have charts
 

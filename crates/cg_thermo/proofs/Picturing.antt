@@ -78,11 +78,6 @@ value_small r t v w e =
     let n = (near r t).above in let l = w.low in let h = w.high t in
     rw (word v (omega (arith, ints)) (omega (arith, ints))) (small_abs v (omega (arith, ints)) (omega (arith, ints)))
 
-pub value_plain : (r : Rise) (t : ℕ) (v : ℤ) → IsWall r → v ≡ value_at r t → to_z w128 (of_z w128 v) ≡ value_at r t
-value_plain r t v w e =
-    let n = (near r t).above in let l = w.low in let h = w.high t in
-    word v (omega (arith, ints)) (omega (arith, ints)) ∙ e
-
 -- ---- corners of two functions that bend together
 
 map-turns : (F G : Point → Corner) (f h : ℕ → ℤ) → ((t : ℕ) → F (point f t) ≡ G (point h t)) → ((t : ℕ) → straight f t ≡ straight h t)

@@ -5,7 +5,7 @@ use Rattle.cg_nodes.proofs.Later.{listed_later}
 use Rattle.cg_form.specs.Game.{of_list}
 use Rattle.cg_names.specs.Spelled.{names_of}
 use Rattle.cg_names.proofs.Memos.{told_game}
-use Rattle.cg_names.proofs.Names.{braced-in_range, braces-spelled, more_in_range, number-in_range, on_ok_written, signed-in_range, written_all, written_more}
+use Rattle.cg_names.proofs.Names.{braced-in_range, braces-spelled, more_in_range, on_ok_written, signed-in_range, written_more}
 use Rattle.cg_names.proofs.naming.+push_name.Goals as goal
 
 pub push_further-loop-top-smaller : goal.push_further-loop-top-smaller
