@@ -29,8 +29,3 @@ pub tiny_at : (miny : Bool) (x : Number) (g h : Game) (o : Option Number) → g 
     → IsTiny miny (mirrored_if miny (number x ∷ []) (h ∷ [])) o → IsTiny miny (mirrored_if miny (number x ∷ []) (g ∷ [])) o
 tiny_at miny x g h o e i =
     rw e i
-
--- ---- the lists of a game of which one has one option, later
-
-module _ {R : Type 0} (s t u : State Meant R) (ls rs : Option ℕ) (first : Spends 0 s t) (second : Spends 0 t u)
-    (lefts : IsList s ls) (rights : IsList s rs) where
